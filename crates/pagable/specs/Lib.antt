@@ -28,5 +28,8 @@ pub use Rattle.pagable_model.specs.Tagged
 pub use Rattle.pagable_model.specs.Writing
 pub use Rattle.pagable_model.specs.declared.error.Error
 pub use Rattle.pagable_model.specs.declared.numbers.ArcRef
+pub use Rattle.pagable_traits.specs.Meanings
+pub use Rattle.pagable_traits.specs.OwnCauses
 pub use Rattle.pagable_traits.specs.ReadBack
+pub use Rattle.pagable_registries.specs.StaticValues
 pub use Rattle.pagable_registries.specs.declared.static_value.StaticValue

@@ -2,7 +2,7 @@
 use Rattle.std.{proofs.Common.{inl, inr, subst, sym}, specs.Prelude.{◌≡◌, ◌⊎◌, refl, Bool, true, false, ℕ, ◌*◌, ◌+◌, List, codes}}
 use Rattle.pagable_model.specs.{Canonical.{IsCanonical, IsReadable, LiesIn}, Causes.memory_is_own_reading, Keyed.throughout-alone, Meaning.Meaning, OneForm.HasOneFormThroughout}
 use Rattle.pagable_model.specs.{Refusals.is_own_reading, Shape.{Shape, reference}, declared.error.Error.Error, declared.numbers.ArcRef.ArcRef, declared.reason.Reason.Reason}
-use Rattle.pagable_traits.specs.ReadBack.{IsReadThroughout}
+use Rattle.pagable_traits.specs.{OwnCauses.ReadCauses, ReadBack.IsReadThroughout}
 use Rattle.pagable_arcs.specs.{declared.holding.HoldingArc.HoldingArc, declared.loose.PagableArc.PagableArc}
 use Rattle.pagable_model.specs.Meaning as meanings
 use Rattle.pagable_model.specs.declared.error.Error.TheVariants as errors
@@ -37,9 +37,12 @@ holding_name false = codes "Arc"
 abbrev pub unlent : Error → Type 0
 unlent e = (e ≡ errors.OutOfMemory) ⊎ ((reason : Reason) × (e ≡ errors.Custom reason))
 
-pub unlent_is_own : (e : Error) → unlent e → is_own_reading e ≡ true
-unlent_is_own e (inl h) = memory_is_own_reading e h
-unlent_is_own e (inr (text, h)) = let P : Error → Type 0 = λ x. is_own_reading x ≡ true in subst P (sym h) refl
+pub unlent_own : (e : Error) → unlent e → is_own_reading e ≡ true
+unlent_own e (inl h) = memory_is_own_reading e h
+unlent_own e (inr (text, h)) = let P : Error → Type 0 = λ x. is_own_reading x ≡ true in subst P (sym h) refl
+
+abbrev pub reads_unlent : ReadCauses
+reads_unlent = record { are = unlent; own = unlent_own }
 
 pub reference_is_read : (parts : ℕ → Shape) (kind : ℕ) → IsReadThroughout parts (reference kind)
 unfolding IsReadable LiesIn

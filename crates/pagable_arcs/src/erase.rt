@@ -126,7 +126,7 @@ pub fn deserialize_arc<
     A: ArcErase<E> + PagableDeserialize<'de, E>,
     D: PagableDeserializer<E>,
 >(alloc: Global, deserializer: &mut D) -> Result<A, Error>
-    ensures gives { GivesSome A.read_causes A.means (D.rest deserializer.new) result
+    ensures gives { GivesSome A.read_causes.are A.means.of (D.rest deserializer.new) result
         (read (handles_at (D.levels deserializer.old) (E.parts (D.environment deserializer.old))) (A.shape (D.environment deserializer.old)) (D.rest deserializer.old)) }
     ensures moves { MovesOn (D.standing deserializer.old) (D.standing deserializer.new) }
     ensures same_env { D.environment deserializer.new ≡ D.environment deserializer.old }

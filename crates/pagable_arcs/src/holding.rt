@@ -1,8 +1,9 @@
 //! References that hold their shared value.
 
-ghost use Rattle.std.{specs.Arc.arc_value, specs.Cmp.Rules.comparing, specs.Prelude.{◌≡◌, ◌≢◌, ⊤, refl, nat_eq, Some, option_and_then, IfOk, IfErr}, proofs.Common.rules};
-ghost use Rattle.pagable_model.specs.{Shape.reference as reference_shape, Causes.memory_may_refuse_writing, Gives.memory, Reading.read, Standing.{handles_at, GivesSome, Is, MovesOn}};
-ghost use Rattle.pagable_arcs.specs.References.{holding_kind, holding, holding_means, reference_has_one_form, reference_is_read, unlent, unlent_is_own};
+ghost use Rattle.std.{specs.Arc.arc_value, specs.Cmp.Rules.comparing, specs.Prelude.{◌≡◌, ◌≢◌, ⊤, nat_eq, Some, option_and_then, IfOk, IfErr}, proofs.Common.rules};
+ghost use Rattle.pagable_model.specs.{Shape.reference as reference_shape, Reading.read, Standing.{handles_at, GivesSome, Is, MovesOn}};
+ghost use Rattle.pagable_arcs.specs.References.{holding_kind, holding, holding_means, reference_has_one_form, reference_is_read, reads_unlent, unlent};
+ghost use Rattle.pagable_traits.specs.{Meanings.{exactly}, OwnCauses.{writes_memory}};
 
 use crate::plain::read_reference;
 use pagable_codec::{
@@ -167,16 +168,10 @@ impl<'a, T> Deref for PinnedPagableArcBorrow<'a, T> {
 impl<E: Env, T: OfNode<E>, const PINS: bool> Carried<E> for HoldingArc<T, PINS> {
     ghost shape = { λ e. reference_shape (holding_kind T.TYPE PINS) };
 
-    ghost means = { Is (holding_means T.TYPE PINS) };
-
-    ghost has_meaning = { λ a. (holding_means T.TYPE PINS a, refl) };
+    ghost means = { exactly (holding_means T.TYPE PINS) };
 }
 
 impl<E: Env, T: OfNode<E>, const PINS: bool> OneMeaning<E> for HoldingArc<T, PINS> {
-    ghost meaning = { holding_means T.TYPE PINS };
-
-    ghost is_meaning = { λ a. refl };
-
     ghost single = { λ a m is. is };
 }
 
@@ -189,9 +184,7 @@ impl<E: Env, T: OfNode<E>, const PINS: bool> ReadBack<E> for HoldingArc<T, PINS>
 }
 
 impl<E: Env, T: OfNode<E>, const PINS: bool> PagableSerialize<E> for HoldingArc<T, PINS> {
-    ghost write_causes = { memory };
-
-    ghost write_causes_may_refuse = { memory_may_refuse_writing };
+    ghost write_causes = { writes_memory };
 
     #[tactic(auto, using(pagable_codec::proofs::Writing::parts, pagable_codec::proofs::Writing::references))]
     fn pagable_serialize<S: PagableSerializer<E>>(&self, serializer: &mut S) -> Result<(), Error> {
@@ -232,9 +225,7 @@ fn read_holding<E: Env, T: OfNode<E> + Drop, const PINS: bool, D: PagableDeseria
 
 impl<'de, E: Env, T: OfNode<E> + Drop, const PINS: bool> PagableDeserialize<'de, E>
     for HoldingArc<T, PINS> {
-    ghost read_causes = { unlent };
-
-    ghost read_causes_are_own = { unlent_is_own };
+    ghost read_causes = { reads_unlent };
 
     fn pagable_deserialize<D: PagableDeserializer<E>>(
         alloc: Global,

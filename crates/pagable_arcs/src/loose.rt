@@ -1,8 +1,9 @@
 //! Loose references.
 
-ghost use Rattle.std.specs.Prelude.{◌≡◌, ◌≢◌, refl, IfSome, IfNone, nat_eq};
-ghost use Rattle.pagable_model.specs.{Shape.reference as reference_shape, Causes.{memory_may_refuse_writing, never_is_own_reading}, Gives.{memory, never}, Standing.Is};
+ghost use Rattle.std.specs.Prelude.{◌≡◌, ◌≢◌, IfSome, IfNone, nat_eq};
+ghost use Rattle.pagable_model.specs.Shape.{reference as reference_shape};
 ghost use Rattle.pagable_arcs.specs.References.{loose, loose_kind, loose_means, reference_is_read, reference_has_one_form};
+ghost use Rattle.pagable_traits.specs.{Meanings.{exactly}, OwnCauses.{reads_never, writes_memory}};
 
 use pagable_codec::{
     ArcRef, Env, HandleNumber, Kind, NodeNumber, OfNode, PagableDeserializer, PagableSerializer,
@@ -72,16 +73,10 @@ impl<T> PagableArc<T> {
 impl<E: Env, T: OfNode<E>> Carried<E> for PagableArc<T> {
     ghost shape = { λ e. reference_shape (loose_kind T.TYPE) };
 
-    ghost means = { Is (loose_means T.TYPE) };
-
-    ghost has_meaning = { λ a. (loose_means T.TYPE a, refl) };
+    ghost means = { exactly (loose_means T.TYPE) };
 }
 
 impl<E: Env, T: OfNode<E>> OneMeaning<E> for PagableArc<T> {
-    ghost meaning = { loose_means T.TYPE };
-
-    ghost is_meaning = { λ a. refl };
-
     ghost single = { λ a m is. is };
 }
 
@@ -94,9 +89,7 @@ impl<E: Env, T: OfNode<E>> ReadBack<E> for PagableArc<T> {
 }
 
 impl<E: Env, T: OfNode<E>> PagableSerialize<E> for PagableArc<T> {
-    ghost write_causes = { memory };
-
-    ghost write_causes_may_refuse = { memory_may_refuse_writing };
+    ghost write_causes = { writes_memory };
 
     #[tactic(auto, using(pagable_codec::proofs::Writing::parts, pagable_codec::proofs::Writing::references))]
     fn pagable_serialize<S: PagableSerializer<E>>(&self, serializer: &mut S) -> Result<(), Error> {
@@ -105,9 +98,7 @@ impl<E: Env, T: OfNode<E>> PagableSerialize<E> for PagableArc<T> {
 }
 
 impl<'de, E: Env, T: OfNode<E>> PagableDeserialize<'de, E> for PagableArc<T> {
-    ghost read_causes = { never };
-
-    ghost read_causes_are_own = { never_is_own_reading };
+    ghost read_causes = { reads_never };
 
     #[tactic(auto, unfolding(pagable_model::specs::Reading::read, pagable_model::specs::Reading::read_with), using(pagable_codec::proofs::Reading::parts))]
     fn pagable_deserialize<D: PagableDeserializer<E>>(

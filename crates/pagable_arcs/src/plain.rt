@@ -1,9 +1,10 @@
 //! Plain references: a reference by its kind alone, whatever the type of the value that it refers to is called.
 
-ghost use Rattle.std.specs.Prelude.{◌≡◌, ◌≢◌, refl, OnOk, IfOk, IfErr, IfSome, IfNone};
-ghost use Rattle.pagable_model.specs.{Meaning.reference as meaning_of, Shape.reference as reference_shape, Causes.{memory_may_refuse_writing, never_is_own_reading}, Gives.{memory, never}};
+ghost use Rattle.std.specs.Prelude.{◌≡◌, ◌≢◌, OnOk, IfOk, IfErr, IfSome, IfNone};
+ghost use Rattle.pagable_model.specs.{Meaning.reference as meaning_of, Shape.reference as reference_shape, Gives.{memory, never}};
 ghost use Rattle.pagable_model.specs.{Reading.read, Standing.{handles_at, GivesSome, Is, MovesOn}, Writing.{nesting, Grows, Refused, WritesSome}};
 ghost use Rattle.pagable_arcs.specs.{Plain.{plain, plain_means}, References.{reference_has_one_form, reference_is_read}};
+ghost use Rattle.pagable_traits.specs.{Meanings.{exactly}, OwnCauses.{reads_never, writes_memory}};
 
 use pagable_codec::{
     ArcRef, Env, HandleNumber, Kind, NodeNumber, PagableDeserializer, PagableSerializer,
@@ -85,16 +86,10 @@ impl<const KIND: u32> OfKind<KIND> {
 impl<E: Env, const KIND: u32> Carried<E> for OfKind<KIND> {
     ghost shape = { λ e. reference_shape KIND };
 
-    ghost means = { Is (plain_means KIND) };
-
-    ghost has_meaning = { λ a. (plain_means KIND a, refl) };
+    ghost means = { exactly (plain_means KIND) };
 }
 
 impl<E: Env, const KIND: u32> OneMeaning<E> for OfKind<KIND> {
-    ghost meaning = { plain_means KIND };
-
-    ghost is_meaning = { λ a. refl };
-
     ghost single = { λ a m is. is };
 }
 
@@ -107,9 +102,7 @@ impl<E: Env, const KIND: u32> ReadBack<E> for OfKind<KIND> {
 }
 
 impl<E: Env, const KIND: u32> PagableSerialize<E> for OfKind<KIND> {
-    ghost write_causes = { memory };
-
-    ghost write_causes_may_refuse = { memory_may_refuse_writing };
+    ghost write_causes = { writes_memory };
 
     fn pagable_serialize<S: PagableSerializer<E>>(&self, serializer: &mut S) -> Result<(), Error> {
         write_reference(self.reference(), serializer)
@@ -117,9 +110,7 @@ impl<E: Env, const KIND: u32> PagableSerialize<E> for OfKind<KIND> {
 }
 
 impl<'de, E: Env, const KIND: u32> PagableDeserialize<'de, E> for OfKind<KIND> {
-    ghost read_causes = { never };
-
-    ghost read_causes_are_own = { never_is_own_reading };
+    ghost read_causes = { reads_never };
 
     #[tactic(auto, using(crate::proofs::Meant::meant))]
     fn pagable_deserialize<D: PagableDeserializer<E>>(

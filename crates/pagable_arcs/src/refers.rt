@@ -18,7 +18,7 @@ pub trait Refers<E: Env>: OneMeaning<E> {
     /// Appends the references in the value, in the order in which they are written. Refused by want of memory alone; then
     /// some of them were appended.
     fn list_references(&self, list: &mut Vec<ArcRef>) -> Result<(), Error>
-        ensures ok { OnOk result (list.new.items ≡ list.old.items ++ references_in (Self.OneMeaning.meaning self.now)) }
+        ensures ok { OnOk result (list.new.items ≡ list.old.items ++ references_in (Self.Carried.means.meaning self.now)) }
         ensures only { IfErr result memory };
 
     // Each form lists them so.
@@ -96,7 +96,7 @@ impl<E: Env, A: Refers<E>, B: Refers<E>> Refers<E> for (A, B) {
 
 /// The references in a value, in the order in which they are written. Refused by want of memory alone.
 pub fn references_of<E: Env, T: Refers<E>>(alloc: Global, value: &T) -> Result<Vec<ArcRef>, Error>
-    ensures ok { IfOk result (λ list. list.items ≡ references_in (T.OneMeaning.meaning value.now)) }
+    ensures ok { IfOk result (λ list. list.items ≡ references_in (T.Carried.means.meaning value.now)) }
     ensures only { IfErr result memory }
 {
     let mut list = Vec::new(alloc);
@@ -106,7 +106,7 @@ pub fn references_of<E: Env, T: Refers<E>>(alloc: Global, value: &T) -> Result<V
 
 /// Appends the references of the items, one item after another.
 fn list_each<E: Env, T: Refers<E>>(items: &[T], list: &mut Vec<ArcRef>) -> Result<(), Error>
-    ensures ok { OnOk result (list.new.items ≡ list.old.items ++ references_in (sequence (map T.OneMeaning.meaning items.now))) }
+    ensures ok { OnOk result (list.new.items ≡ list.old.items ++ references_in (sequence (map T.Carried.means.meaning items.now))) }
     ensures only { IfErr result memory }
 {
     for item in items {

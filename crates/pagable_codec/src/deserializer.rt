@@ -9,9 +9,8 @@ ghost use Rattle.pagable_model.specs.{Standing.answer_at, Standing.IsWithin, Sta
 
 use crate::env::Env;
 use crate::of_node::OfNode;
-use crate::reader::Reader;
 use crate::session::SessionContext;
-use pagable_flavors::Error;
+use pagable_flavors::{Error, Reader};
 use pagable_model::{ArcRef, Kind, PagableCursor};
 use std::alloc::Global;
 use std::sync::Arc;

@@ -8,7 +8,6 @@ pub mod hash;
 pub mod nodes;
 pub mod of_node;
 pub mod parts;
-pub mod reader;
 pub mod serializer;
 pub mod session;
 
@@ -17,9 +16,9 @@ pub use env::Env;
 pub use hash::KeyHash;
 pub use nodes::NodeSet;
 pub use of_node::OfNode;
+pub use pagable_flavors::Reader;
 pub use pagable_model::{
     ArcRef, HandleNumber, Identity, Kind, LoadNumber, NodeNumber, PagableCursor, WorkerNumber,
 };
-pub use reader::Reader;
 pub use serializer::PagableSerializer;
 pub use session::{SessionContext, SessionMap, SessionValue};

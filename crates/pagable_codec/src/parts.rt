@@ -6,9 +6,8 @@ ghost use Rattle.pagable_model.specs.{Reading.bytes_of, Standing.MovesOn, Writin
 
 use crate::deserializer::PagableDeserializer;
 use crate::env::Env;
-use crate::reader::Reader;
 use crate::serializer::PagableSerializer;
-use pagable_flavors::Error;
+use pagable_flavors::{Error, Reader};
 
 /// Writes the flag that stands before a part that may be absent. Refused by want of memory alone.
 #[tactic(auto, using(crate::proofs::Writing::parts, crate::proofs::Adding::steps))]

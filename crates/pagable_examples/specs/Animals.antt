@@ -1,6 +1,6 @@
 -- The tags of animals, and what stands under each.
 use Rattle.std.specs.{Int.w8, Prelude.{refl, ℕ, List, [], ◌∷◌, cond}, Str.bytes_eq}
-use Rattle.pagable.specs.{ArcRef.ArcRef, Carried.of_tagged, Meaning.{Meaning, none, number}, Shape.{Shape, nothing, unsigned}, Standing.{Is, SomeMeaning}, Tagged.MeansTagged}
+use Rattle.pagable.specs.{ArcRef.ArcRef, Carried.of_tagged, Meaning.{Meaning, none, number}, Meanings.Meanings, Shape.{Shape, nothing, unsigned}, Standing.Is, Tagged.MeansTagged}
 use Rattle.pagable_examples.specs.{declared.animal.Animal.Animal, declared.animal.AnimalReader.AnimalReader}
 use Rattle.pagable_examples.specs.declared.animal.Animal.TheVariants as animals
 use Rattle.pagable_examples.specs.declared.animal.AnimalReader.TheVariants as readers
@@ -26,11 +26,8 @@ body_of animals.Cat = none
 body_of (animals.OldCat lives) = number lives
 body_of (animals.Dog age) = number age
 
-abbrev pub animal_means : Animal → Meaning ArcRef → Type 0
-animal_means x = MeansTagged (tag_of x) (Is body_of x)
-
-pub animal_has_meaning : (x : Animal) → SomeMeaning (animal_means x)
-animal_has_meaning x = (of_tagged (tag_of x) (body_of x), record { body = body_of x; is_body = refl; is = refl })
+abbrev pub animal_means : Meanings Animal
+animal_means = record { of = λ x. MeansTagged (tag_of x) (Is body_of x); meaning = λ x. of_tagged (tag_of x) (body_of x); is = λ x. record { body = body_of x; is_body = refl; is = refl } }
 
 abbrev pub tag_read : AnimalReader → List ℕ
 tag_read readers.Cat = cat

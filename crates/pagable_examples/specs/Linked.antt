@@ -1,14 +1,15 @@
 -- What links and bundles mean and refer to, and what the nodes that hold them do.
 use Rattle.std.{proofs.Common.arith, specs.Prelude.{◌≡◌, ◌≢◌, ◌<◌, ◌^◌, refl, true, false, ℕ, zero, suc, List, Option, Some, None}, specs.Arc.arc_value, specs.Global.Vec}
 use Rattle.pagable_examples.specs.{declared.linked.LinkedNode.LinkedNode, declared.linked.bundle.Bundle.Bundle, declared.linked.chain.Chain.Chain}
-use Rattle.pagable_arcs.specs.{References.{holding_means, loose_means, reference_has_one_form, reference_is_read, unlent, unlent_is_own}, Plain.plain_means}
+use Rattle.pagable_arcs.specs.{References.{holding_means, loose_means, reads_unlent, reference_has_one_form, reference_is_read}, Plain.plain_means}
 use Rattle.pagable_arcs.specs.Refers.{ListsInOrder, both_in_order, list_in_order, optional_in_order, reference_in_order}
-use Rattle.pagable_model.specs.Causes.{either_is_own_reading, either_may_refuse_writing, long_or_may_refuse_writing, memory_may_refuse_writing, memory_or_is_own_reading, memory_or_may_refuse_writing}
-use Rattle.pagable_model.specs.{Causes.never_is_own_reading, Lifted.{MeansList, MeansOption, MeansPair, list_is_meaning, list_single, option_is_meaning, option_single}, Carried.{of_list, of_option}}
-use Rattle.pagable_model.specs.{Gives.{either, long_or, memory, memory_or, never}, Meaning.{Meaning, pair}, OneForm.{HasOneFormThroughout, both_has_one_form, list_has_one_form}}
+use Rattle.pagable_model.specs.Causes.{memory_or_is_own_reading, never_is_own_reading}
+use Rattle.pagable.specs.OwnCauses.{ReadCauses, WriteCauses, reads_either, reads_memory_or, reads_never, writes_either, writes_long_or, writes_memory, writes_memory_or}
+use Rattle.pagable.specs.{Meanings.Meanings, OneForm.{over_has_one_form, two_has_one_form}, ReadBack.{IsReadThroughout, over_is_read, two_is_read}}
+use Rattle.pagable_model.specs.{Lifted.{MeansList, MeansOption, MeansPair, list_is_meaning, list_single, option_is_meaning, option_single}, Carried.{of_list, of_option}}
+use Rattle.pagable_model.specs.{Gives.{memory_or, never}, Meaning.{Meaning, pair}, OneForm.HasOneFormThroughout}
 use Rattle.pagable_model.specs.{References.{references_in, SameReferences}, Refusals.{is_own_reading, may_refuse_writing}, Shape.{Shape, both, list, nothing, optional, reference}}
 use Rattle.pagable_model.specs.{Standing.{Is, SomeMeaning}, declared.error.Error.Error, declared.numbers.ArcRef.ArcRef}
-use Rattle.pagable.specs.ReadBack.{IsReadThroughout, both_is_read, list_is_read}
 use Rattle.pagable_examples.specs.declared.linked.LinkedNode.TheVariants as nodes
 
 -- the environment has no part with a number
@@ -72,8 +73,8 @@ bundle_is_meaning b = record {
   is = refl;
 }
 
-pub bundle_has_meaning : (b : Bundle) → SomeMeaning (bundle_means b)
-bundle_has_meaning b = (bundle_meaning b, bundle_is_meaning b)
+abbrev pub bundle_meanings : Meanings Bundle
+bundle_meanings = record { of = bundle_means; meaning = bundle_meaning; is = bundle_is_meaning }
 
 pub bundle_single : (b : Bundle) (m : Meaning ArcRef) → bundle_means b m → m ≡ bundle_meaning b
 bundle_single b m h =
@@ -87,43 +88,23 @@ in-bundle : (P : Shape → Type 0) → ((s t : Shape) → P s → P t → P (bot
 in-bundle P pairs lists = pairs (list (reference 3)) (both (list (reference 1)) (list (reference 2))) (lists 3) (pairs (list (reference 1)) (list (reference 2)) (lists 1) (lists 2))
 
 pub bundle_has_one_form : HasOneFormThroughout no_parts bundle_shape
-bundle_has_one_form =
-    in-bundle (HasOneFormThroughout no_parts) (both_has_one_form no_parts) (λ kind. list_has_one_form no_parts (reference kind) (reference_has_one_form no_parts kind))
+bundle_has_one_form = in-bundle (HasOneFormThroughout no_parts) (λ s t. two_has_one_form (refl, refl)) (λ kind. over_has_one_form refl (reference_has_one_form no_parts kind))
 
 pub bundle_is_read : IsReadThroughout no_parts bundle_shape
-bundle_is_read = in-bundle (IsReadThroughout no_parts) (both_is_read no_parts) (λ kind. list_is_read no_parts (reference kind) (reference_is_read no_parts kind))
+bundle_is_read = in-bundle (IsReadThroughout no_parts) (λ s t. two_is_read (refl, refl)) (λ kind. over_is_read refl (reference_is_read no_parts kind))
 
 pub bundle_in_order : ListsInOrder no_parts bundle_shape
 bundle_in_order = in-bundle (ListsInOrder no_parts) (both_in_order no_parts) (λ kind. list_in_order no_parts (reference kind) (reference_in_order no_parts kind))
 
 -- all refusals of the writing of at most one reference, and of a list of them, of which a bundle has three; and of a bundle's reading, beside the faults of the input and of references
-abbrev pub one_causes : Error → Type 0
-one_causes = memory_or memory
+abbrev pub one_writes : WriteCauses
+one_writes = writes_memory_or writes_memory
 
-pub one_may_refuse : (e : Error) → one_causes e → may_refuse_writing e ≡ true
-one_may_refuse = memory_or_may_refuse_writing memory memory_may_refuse_writing
+abbrev pub bundle_writes : WriteCauses
+bundle_writes = writes_either (writes_long_or one_writes) (writes_either (writes_long_or one_writes) (writes_long_or one_writes))
 
-abbrev pub bundle_write_causes : Error → Type 0
-bundle_write_causes = either (long_or one_causes) (either (long_or one_causes) (long_or one_causes))
-
-list-may : (e : Error) → long_or one_causes e → may_refuse_writing e ≡ true
-list-may = long_or_may_refuse_writing one_causes one_may_refuse
-
-pub bundle_may_refuse : (e : Error) → bundle_write_causes e → may_refuse_writing e ≡ true
-bundle_may_refuse =
-    either_may_refuse_writing (long_or one_causes) (either (long_or one_causes) (long_or one_causes)) list-may
-    (either_may_refuse_writing (long_or one_causes) (long_or one_causes) list-may list-may)
-
-abbrev pub bundle_read_causes : Error → Type 0
-bundle_read_causes = either (memory_or unlent) (either (memory_or never) (memory_or unlent))
-
-held-own : (e : Error) → memory_or unlent e → is_own_reading e ≡ true
-held-own = memory_or_is_own_reading unlent unlent_is_own
-
-pub bundle_is_own : (e : Error) → bundle_read_causes e → is_own_reading e ≡ true
-bundle_is_own =
-    either_is_own_reading (memory_or unlent) (either (memory_or never) (memory_or unlent)) held-own
-    (either_is_own_reading (memory_or never) (memory_or unlent) (memory_or_is_own_reading never never_is_own_reading) held-own)
+abbrev pub bundle_reads : ReadCauses
+bundle_reads = reads_either (reads_memory_or reads_unlent) (reads_either (reads_memory_or reads_never) (reads_memory_or reads_unlent))
 
 -- ---- nodes
 
@@ -155,30 +136,30 @@ refs_of (nodes.Bundle b) = references_in (bundle_meaning (arc_value b))
 
 -- all refusals of the writing of a type's values
 abbrev pub write_causes : ℕ → Error → Type 0
-write_causes zero = one_causes
-write_causes (suc zero) = one_causes
-write_causes (suc (suc t)) = bundle_write_causes
+write_causes zero = one_writes.are
+write_causes (suc zero) = one_writes.are
+write_causes (suc (suc t)) = bundle_writes.are
 
 pub write_causes_may_refuse : (t : ℕ) (e : Error) → write_causes t e → may_refuse_writing e ≡ true
-write_causes_may_refuse zero e h = one_may_refuse e h
-write_causes_may_refuse (suc zero) e h = one_may_refuse e h
-write_causes_may_refuse (suc (suc t)) e h = bundle_may_refuse e h
+write_causes_may_refuse zero e h = one_writes.may e h
+write_causes_may_refuse (suc zero) e h = one_writes.may e h
+write_causes_may_refuse (suc (suc t)) e h = bundle_writes.may e h
 
 -- and of the reading, beside the faults of the input and of references
 abbrev pub read_causes : ℕ → Error → Type 0
 read_causes zero = memory_or never
 read_causes (suc zero) = memory_or never
-read_causes (suc (suc t)) = memory_or bundle_read_causes
+read_causes (suc (suc t)) = memory_or bundle_reads.are
 
 pub read_causes_are_own : (t : ℕ) (e : Error) → read_causes t e → is_own_reading e ≡ true
 read_causes_are_own zero e h = memory_or_is_own_reading never never_is_own_reading e h
 read_causes_are_own (suc zero) e h = memory_or_is_own_reading never never_is_own_reading e h
-read_causes_are_own (suc (suc t)) e h = memory_or_is_own_reading bundle_read_causes bundle_is_own e h
+read_causes_are_own (suc (suc t)) e h = memory_or_is_own_reading bundle_reads.are bundle_reads.own e h
 
 pub has_meaning : (n : LinkedNode) → SomeMeaning (means n)
 has_meaning (nodes.Link c) = (chain_meaning 1 (arc_value c), one-is (plain_means 1) (arc_value c).next)
 has_meaning (nodes.ArcLink c) = (chain_meaning 3 (arc_value c), one-is (plain_means 3) (arc_value c).next)
-has_meaning (nodes.Bundle b) = bundle_has_meaning (arc_value b)
+has_meaning (nodes.Bundle b) = (bundle_meaning (arc_value b), bundle_is_meaning (arc_value b))
 
 pub has_shape : (n : LinkedNode) → shape_of (type_of n) ≡ Some (own_shape n)
 has_shape (nodes.Link c) = refl

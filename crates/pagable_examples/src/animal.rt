@@ -1,9 +1,9 @@
 //! Animals, which are written as a tag and a body, and the readers of the bodies.
 
-ghost use Rattle.std.specs.Prelude.{◌≡◌, refl};
-ghost use Rattle.pagable.specs.Causes.{memory_or_is_own_reading, memory_or_may_refuse_writing, long_or_may_refuse_writing, never_is_own_reading};
-ghost use Rattle.pagable.specs.{Carried.tagged_by, Gives.memory_or, Gives.long_or, Gives.never, Standing.Is, Statics.unregistered, Statics.unregistered_may_refuse_writing, Tagged.grammars};
-ghost use Rattle.pagable_examples.specs.Animals.{animal_means, animal_has_meaning, tag_of, written, body_of, tag_read, grammar_of};
+ghost use Rattle.std.specs.Prelude.{◌≡◌};
+ghost use Rattle.pagable.specs.{Carried.tagged_by, Tagged.grammars};
+ghost use Rattle.pagable_examples.specs.Animals.{animal_means, tag_of, written, body_of, tag_read, grammar_of};
+ghost use Rattle.pagable.specs.{Meanings.exactly, StaticValues.writes_unregistered, OwnCauses.{reads_never, reads_memory_or, writes_memory_or, writes_long_or}};
 
 use crate::zoo::Zoo;
 use pagable::{
@@ -48,13 +48,9 @@ impl PagableTagged<Zoo> for Animal {
 
     ghost bodies = { λ e. written };
 
-    ghost body_means = { Is body_of };
+    ghost body_means = { exactly body_of };
 
-    ghost body_causes = { memory_or unregistered };
-
-    ghost body_has_meaning = { λ x. (body_of x, refl) };
-
-    ghost body_causes_may_refuse = { memory_or_may_refuse_writing unregistered unregistered_may_refuse_writing };
+    ghost body_causes = { writes_memory_or writes_unregistered };
 
     fn pagable_type_tag(&self) -> &'static str {
         match self {
@@ -85,9 +81,7 @@ impl ForTag for AnimalReader {
 impl TagReader<Zoo, Animal> for AnimalReader {
     ghost grammar = { λ r e. grammar_of r };
 
-    ghost read_causes = { never };
-
-    ghost read_causes_are_own = { never_is_own_reading };
+    ghost read_causes = { reads_never };
 
     fn read<D: PagableDeserializer<Zoo>>(
         &self,
@@ -115,14 +109,10 @@ impl Carried<Zoo> for Animal {
     ghost shape = { λ e. tagged_by written (grammars (λ r e. grammar_of r) e e.animals) };
 
     ghost means = { animal_means };
-
-    ghost has_meaning = { animal_has_meaning };
 }
 
 impl PagableSerialize<Zoo> for Animal {
-    ghost write_causes = { long_or (memory_or (memory_or unregistered)) };
-
-    ghost write_causes_may_refuse = { long_or_may_refuse_writing (memory_or (memory_or unregistered)) (memory_or_may_refuse_writing (memory_or unregistered) (memory_or_may_refuse_writing unregistered unregistered_may_refuse_writing)) };
+    ghost write_causes = { writes_long_or (writes_memory_or (writes_memory_or writes_unregistered)) };
 
     fn pagable_serialize<S: PagableSerializer<Zoo>>(
         &self,
@@ -133,9 +123,7 @@ impl PagableSerialize<Zoo> for Animal {
 }
 
 impl<'de> PagableDeserialize<'de, Zoo> for Animal {
-    ghost read_causes = { memory_or never };
-
-    ghost read_causes_are_own = { memory_or_is_own_reading never never_is_own_reading };
+    ghost read_causes = { reads_memory_or reads_never };
 
     fn pagable_deserialize<D: PagableDeserializer<Zoo>>(
         alloc: Global,

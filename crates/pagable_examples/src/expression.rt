@@ -118,25 +118,19 @@ fn read_node<D: PagableDeserializer<Sheet>>(
 }
 
 impl Carried<Sheet> for Expression {
-    ghost use Rattle.std.specs.Prelude.{refl};
+    ghost use Rattle.pagable.specs.Meanings.{exactly};
     ghost use Rattle.pagable.specs.Shape.{nested};
-    ghost use Rattle.pagable.specs.Standing.{Is};
     ghost use Rattle.pagable_examples.specs.Expressions.{of_expression};
 
     ghost shape = { λ e. nested 0 };
 
-    ghost means = { Is of_expression };
-
-    ghost has_meaning = { λ x. (of_expression x, refl) };
+    ghost means = { exactly of_expression };
 }
 
 impl PagableSerialize<Sheet> for Expression {
-    ghost use Rattle.pagable.specs.Gives.{memory, deep_or};
-    ghost use Rattle.pagable.specs.Causes.{memory_may_refuse_writing, deep_or_may_refuse_writing};
+    ghost use Rattle.pagable.specs.OwnCauses.{writes_deep_or, writes_memory};
 
-    ghost write_causes = { deep_or memory };
-
-    ghost write_causes_may_refuse = { deep_or_may_refuse_writing memory memory_may_refuse_writing };
+    ghost write_causes = { writes_deep_or writes_memory };
 
     fn pagable_serialize<S: PagableSerializer<Sheet>>(
         &self,
@@ -147,12 +141,9 @@ impl PagableSerialize<Sheet> for Expression {
 }
 
 impl<'de> PagableDeserialize<'de, Sheet> for Expression {
-    ghost use Rattle.pagable.specs.Gives.{memory};
-    ghost use Rattle.pagable.specs.Causes.{memory_is_own_reading};
+    ghost use Rattle.pagable.specs.OwnCauses.{reads_memory};
 
-    ghost read_causes = { memory };
-
-    ghost read_causes_are_own = { memory_is_own_reading };
+    ghost read_causes = { reads_memory };
 
     fn pagable_deserialize<D: PagableDeserializer<Sheet>>(
         alloc: Global,

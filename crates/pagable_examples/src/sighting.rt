@@ -1,7 +1,6 @@
 //! A struct that holds a tagged value and a static value beside a number: a third field is a pair in a pair.
 
-ghost use Rattle.pagable.specs.Causes.{either_may_refuse_writing, long_or_may_refuse_writing, memory_may_refuse_writing, memory_or_may_refuse_writing};
-ghost use Rattle.pagable.specs.{Gives.{either, long_or, memory, memory_or}, Statics.{unregistered, unregistered_may_refuse_writing}};
+ghost use Rattle.pagable.specs.{OwnCauses.{writes_either, writes_long_or, writes_memory, writes_memory_or}, StaticValues.writes_unregistered};
 
 use crate::animal::Animal;
 use crate::zoo::Zoo;
@@ -34,10 +33,7 @@ impl ReadAs for Sighting {
 }
 
 impl PagableSerialize<Zoo> for Sighting {
-    ghost write_causes = { either (long_or (memory_or (memory_or unregistered))) (either (memory_or unregistered) memory) };
-
-    ghost write_causes_may_refuse = { either_may_refuse_writing _ _ (long_or_may_refuse_writing _ (memory_or_may_refuse_writing _ (memory_or_may_refuse_writing _ unregistered_may_refuse_writing)))
-        (either_may_refuse_writing _ _ (memory_or_may_refuse_writing _ unregistered_may_refuse_writing) memory_may_refuse_writing) };
+    ghost write_causes = { writes_either (writes_long_or (writes_memory_or (writes_memory_or writes_unregistered))) (writes_either (writes_memory_or writes_unregistered) writes_memory) };
 
     fn pagable_serialize<S: PagableSerializer<Zoo>>(
         &self,

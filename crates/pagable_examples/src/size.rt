@@ -1,7 +1,6 @@
 //! An enum of two cases that is carried as an `Option`: the shortest way where one of them has no part.
 
 ghost use Rattle.std.specs.Prelude.{◌≡◌};
-ghost use Rattle.pagable.specs.{Causes.memory_may_refuse_writing, Causes.memory_or_may_refuse_writing, Gives.memory};
 ghost use Rattle.pagable_examples.specs.Sizes.{tenths_of};
 
 use pagable::{CarriedAs, Env, Error, PagableSerialize, PagableSerializer, ReadAs};
@@ -43,8 +42,6 @@ impl ReadAs for Size {
 
 impl<E: Env> PagableSerialize<E> for Size {
     ghost write_causes = { ⟦<Option<u8> as PagableSerialize<E>>⟧.write_causes };
-
-    ghost write_causes_may_refuse = { memory_or_may_refuse_writing memory memory_may_refuse_writing };
 
     fn pagable_serialize<S: PagableSerializer<E>>(&self, serializer: &mut S) -> Result<(), Error> {
         self.tenths().pagable_serialize(serializer)

@@ -1,7 +1,7 @@
 //! A type that is written and read eagerly: it holds no reference, and needs not be carried besides.
 
-ghost use Rattle.std.specs.{Int.w16, Prelude.refl};
-ghost use Rattle.pagable.specs.{Causes.memory_may_refuse_writing, Causes.never_is_own_reading, Gives.memory, Gives.never, Meaning.number, Shape.unsigned, Standing.Is};
+ghost use Rattle.std.specs.Int.{w16};
+ghost use Rattle.pagable.specs.{Meaning.number, Meanings.exactly, OwnCauses.{reads_never, writes_memory}, Shape.unsigned};
 
 use pagable::{
     EagerlyCarried, Env, Error, PagableDeserializer, PagableEagerDeserialize,
@@ -18,15 +18,11 @@ pub struct Ticket {
 impl<E: Env> EagerlyCarried<E> for Ticket {
     ghost eager_shape = { λ e. unsigned w16 };
 
-    ghost eager_means = { Is (λ t. number t.number) };
-
-    ghost has_eager_meaning = { λ t. (number t.number, refl) };
+    ghost eager_means = { exactly (λ t. number t.number) };
 }
 
 impl<E: Env> PagableEagerSerialize<E> for Ticket {
-    ghost eager_write_causes = { memory };
-
-    ghost eager_write_causes_may_refuse = { memory_may_refuse_writing };
+    ghost eager_write_causes = { writes_memory };
 
     #[tactic(auto, using(pagable::proofs::Carrying::writing))]
     fn eager_pagable_serialize<S: PagableSerializer<E>>(
@@ -38,9 +34,7 @@ impl<E: Env> PagableEagerSerialize<E> for Ticket {
 }
 
 impl<'de, E: Env> PagableEagerDeserialize<'de, E> for Ticket {
-    ghost eager_read_causes = { never };
-
-    ghost eager_read_causes_are_own = { never_is_own_reading };
+    ghost eager_read_causes = { reads_never };
 
     #[tactic(auto, unfolding(pagable_model::specs::Reading::read, pagable_model::specs::Reading::read_with), using(pagable::proofs::Carrying::reading))]
     fn eager_pagable_deserialize<D: PagableDeserializer<E>>(

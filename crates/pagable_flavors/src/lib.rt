@@ -6,10 +6,12 @@
 //! of the width that it reads.
 #![tactic(auto)]
 
+pub mod reader;
 pub mod slice;
 pub mod vec_flavor;
 mod zigzag;
 
 pub use pagable_model::{DataKey, Error, OptionalDataKey, Reason};
+pub use reader::Reader;
 pub use slice::PagableSlice;
 pub use vec_flavor::PagableVecFlavor;

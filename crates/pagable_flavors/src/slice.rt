@@ -4,7 +4,7 @@ ghost use Rattle.std.specs.Prelude.{◌≡◌, ◌≤◌, length, OnErr};
 ghost use Rattle.pagable_model.specs.{Basic.bytes_at, Gives.Gives, Gives.never, Numbers.byte_at, Track.Track, Track.left, Track.GoesOn};
 
 mod numbers;
-mod signed;
+mod reading;
 mod texts;
 mod wide;
 

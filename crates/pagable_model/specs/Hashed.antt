@@ -1,6 +1,6 @@
 -- Hash maps: what they mean, and what one more entry leaves. The order of their entries is open.
 use Rattle.std.specs.{Prelude.{◌≡◌, refl, Bool, List, [], ◌∷◌, map, MatchOption, IsPermutation}, List.IsDistinct, Map.{keys_of, lookup, set_value}}
-use Rattle.pagable_model.specs.{declared.numbers.ArcRef.ArcRef, Meaning.{Meaning, pair, entry}, Keys.Entry, Carried.of_hash_map, Standing.SomeMeaning, Lifted.{MeanAll, mean-none, mean-more}}
+use Rattle.pagable_model.specs.{declared.numbers.ArcRef.ArcRef, Meaning.{Meaning, pair, entry}, Keys.Entry, Carried.of_hash_map, Lifted.{MeanAll, mean-none, mean-more}}
 use Rattle.pagable_model.specs.Lifted.{MeansPair, pair_is_meaning}
 
 -- One more entry was put in, and no key is there twice. The value of a key that was there is replaced; a new key stands
@@ -22,10 +22,6 @@ entries_are_meanings M N f g is_first is_second (x ∷ xs) = mean-more x _ xs _ 
 pub hash_map_is_meaning : {K V : Type 0} (M : K → Meaning ArcRef → Type 0) (N : V → Meaning ArcRef → Type 0) (f : K → Meaning ArcRef) (g : V → Meaning ArcRef) → ((x : K) → M x (f x)) → ((y : V) → N y (g y)) → (xs : List (K × V))
     → MeansHashMap M N xs (of_hash_map (map (λ x. (f x.0, g x.1)) xs))
 hash_map_is_meaning M N f g is_first is_second xs = record { es = map (λ x. (f x.0, g x.1)) xs; each = entries_are_meanings M N f g is_first is_second xs; is = refl }
-
-pub hash_map_has_meaning : {K V : Type 0} (M : K → Meaning ArcRef → Type 0) (N : V → Meaning ArcRef → Type 0) → ((x : K) → SomeMeaning (M x)) → ((y : V) → SomeMeaning (N y)) → (xs : List (K × V)) → SomeMeaning (MeansHashMap M N xs)
-hash_map_has_meaning M N has_first has_second xs =
-    (of_hash_map (map (λ x. ((has_first x.0).0, (has_second x.1).0)) xs), hash_map_is_meaning M N (λ x. (has_first x).0) (λ y. (has_second y).0) (λ x. (has_first x).1) (λ y. (has_second y).1) xs)
 
 entries_single : {K V : Type 0} (M : K → Meaning ArcRef → Type 0) (N : V → Meaning ArcRef → Type 0) (f : K → Meaning ArcRef) (g : V → Meaning ArcRef) → ((x : K) (m : Meaning ArcRef) → M x m → m ≡ f x) → ((y : V) (m : Meaning ArcRef) → N y m → m ≡ g y)
     → {xs : List (K × V)} {ms : List (Meaning ArcRef)} (es : List (Entry ArcRef)) → MeanAll (MeansPair M N) xs ms → ms ≡ map entry es → es ≡ map (λ x. (f x.0, g x.1)) xs

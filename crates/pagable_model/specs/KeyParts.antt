@@ -119,33 +119,3 @@ list_is_ordered order cmp meaning is [] [] = refl
 list_is_ordered order cmp meaning is [] (y ∷ ys) = refl
 list_is_ordered order cmp meaning is (x ∷ xs) [] = refl
 list_is_ordered order cmp meaning is (x ∷ xs) (y ∷ ys) = λ i. ordering_then (is x y i) (list_is_ordered order cmp meaning is xs ys i)
-
--- ---- nothing in them is a reference if nothing in their parts is
-
-pub optional_refers_to_nothing : (parts : ℕ → Shape) (s : Shape) → RefersToNothing parts s → RefersToNothing parts (optional s)
-unfolding LiesIn
-optional_refers_to_nothing parts s t = throughout-over (LiesIn (λ node. ⊥) (λ part. Unit {0})) parts s (optional s) (λ h. h) (λ those h. h) t
-
-pub outcome_refers_to_nothing : (parts : ℕ → Shape) (s t : Shape) → RefersToNothing parts s → RefersToNothing parts t → RefersToNothing parts (outcome s t)
-unfolding LiesIn
-outcome_refers_to_nothing parts s t u v = throughout-two (LiesIn (λ node. ⊥) (λ part. Unit {0})) parts s t (outcome s t) (λ h k. (h, k)) (λ those h k. (h, k)) u v
-
-pub both_refers_to_nothing : (parts : ℕ → Shape) (s t : Shape) → RefersToNothing parts s → RefersToNothing parts t → RefersToNothing parts (both s t)
-unfolding LiesIn
-both_refers_to_nothing parts s t u v = throughout-two (LiesIn (λ node. ⊥) (λ part. Unit {0})) parts s t (both s t) (λ h k. (h, k)) (λ those h k. (h, k)) u v
-
-pub list_refers_to_nothing : (parts : ℕ → Shape) (s : Shape) → RefersToNothing parts s → RefersToNothing parts (list s)
-unfolding LiesIn
-list_refers_to_nothing parts s t = throughout-over (LiesIn (λ node. ⊥) (λ part. Unit {0})) parts s (list s) (λ h. h) (λ those h. h) t
-
-pub array_refers_to_nothing : (parts : ℕ → Shape) (n : ℕ) (s : Shape) → RefersToNothing parts s → RefersToNothing parts (array n s)
-unfolding LiesIn
-array_refers_to_nothing parts n s t = throughout-over (LiesIn (λ node. ⊥) (λ part. Unit {0})) parts s (array n s) (λ h. h) (λ those h. h) t
-
-pub sorted_set_refers_to_nothing : (parts : ℕ → Shape) (order : KeyOrder) (s : Shape) → RefersToNothing parts s → RefersToNothing parts (sorted_set order s)
-unfolding LiesIn
-sorted_set_refers_to_nothing parts order s t = throughout-over (LiesIn (λ node. ⊥) (λ part. Unit {0})) parts s (sorted_set order s) (λ h. h) (λ those h. h) t
-
-pub sorted_map_refers_to_nothing : (parts : ℕ → Shape) (order : KeyOrder) (s t : Shape) → RefersToNothing parts s → RefersToNothing parts t → RefersToNothing parts (sorted_map order s t)
-unfolding LiesIn
-sorted_map_refers_to_nothing parts order s t u v = throughout-two (LiesIn (λ node. ⊥) (λ part. Unit {0})) parts s t (sorted_map order s t) (λ h k. (h, k)) (λ those h k. (h, k)) u v

@@ -1,11 +1,10 @@
 -- What the key law asks of a type, and why it holds of the types that may be keys.
 use mathlib.Core.Bool.{beq}
 use Rattle.std.proofs.{Common.ap, lemmas.Bool.{eqb-true, eq-eqb}, lemmas.Bool.Decides.Decides-int_eq, lemmas.Slice.Eq.bytes_eq-Decides}
-use Rattle.std.specs.{Prelude.{◌≡◌, ℕ, ℤ, zero, suc, Bool, true, false, List, nat_eq, refl}, Cmp.both_ways, Int.Width, Str.bytes_eq, Ordering.{nat_cmp, int_cmp, int_eq, bool_cmp}}
+use Rattle.std.specs.{Prelude.{◌≡◌, ℕ, ℤ, zero, suc, Bool, true, false, List, nat_eq, refl}, Cmp.both_ways, Str.bytes_eq, Ordering.{nat_cmp, int_cmp, int_eq, bool_cmp}}
 use Rattle.std.specs.Cmp.Lexicographic.{slice_cmp}
 use Rattle.pagable_model.specs.{declared.numbers.ArcRef.ArcRef, Numbers.zigzag, Meaning.{Meaning, number, integer, text, none, flag, plain}, Keys.{code, same_key, ordered, number_order}}
-use Rattle.pagable_model.specs.{Keys.{integer_order, text_order, flag_order}, Codes.same-integer, Shape.{Shape, unsigned, signed}, Canonical.{LiesIn, Within, Throughout}}
-use Rattle.pagable_model.specs.Shape as shapes
+use Rattle.pagable_model.specs.{Keys.{integer_order, text_order, flag_order}, Codes.same-integer, Shape.Shape, Canonical.{LiesIn, Within, Throughout}}
 
 -- nowhere in a value of the shape, in none of its parts, is there a reference
 abbrev pub RefersToNothing : (ℕ → Shape) → Shape → Type 0
@@ -53,14 +52,6 @@ pub text_is_same : (s t : List ℕ) → bytes_eq s t ≡ same_key {A = ArcRef} (
 unfolding plain code
 text_is_same s t = same-by (bytes_eq s t) (text s) (text t) (λ e. ap text ((bytes_eq-Decides s t).0 e)) (λ e. let same : s ≡ t = cc in (bytes_eq-Decides s t).1 same)
 
-pub unsigned_refers_to_nothing : (parts : ℕ → Shape) (w : Width) → RefersToNothing parts (unsigned w)
-unfolding LiesIn
-unsigned_refers_to_nothing parts w = throughout-alone (LiesIn (λ node. ⊥) (λ part. Unit {0})) parts (unsigned w) tt (λ those. tt)
-
-pub text_refers_to_nothing : (parts : ℕ → Shape) → RefersToNothing parts shapes.text
-unfolding LiesIn
-text_refers_to_nothing parts = throughout-alone (LiesIn (λ node. ⊥) (λ part. Unit {0})) parts shapes.text tt (λ those. tt)
-
 pub number_is_ordered : (m n : ℕ) → nat_cmp m n ≡ ordered {A = ArcRef} number_order (number m) (number n)
 unfolding plain
 number_is_ordered m n = refl
@@ -69,10 +60,6 @@ pub text_is_ordered : (s t : List ℕ) → slice_cmp nat_cmp s t ≡ ordered {A 
 unfolding plain
 text_is_ordered s t = refl
 
-pub letter_refers_to_nothing : (parts : ℕ → Shape) → RefersToNothing parts shapes.letter
-unfolding LiesIn
-letter_refers_to_nothing parts = throughout-alone (LiesIn (λ node. ⊥) (λ part. Unit {0})) parts shapes.letter tt (λ those. tt)
-
 pub integer_is_same : (y z : ℤ) → int_eq y z ≡ same_key {A = ArcRef} (integer y) (integer z)
 unfolding plain code
 integer_is_same y z = same-by (int_eq y z) (integer y) (integer z) (λ e. ap integer ((Decides-int_eq y z).0 e)) (λ e. let codes : zigzag y ≡ zigzag z = cc in (Decides-int_eq y z).1 (same-integer y z codes))
@@ -80,10 +67,6 @@ integer_is_same y z = same-by (int_eq y z) (integer y) (integer z) (λ e. ap int
 pub integer_is_ordered : (y z : ℤ) → int_cmp y z ≡ ordered {A = ArcRef} integer_order (integer y) (integer z)
 unfolding plain
 integer_is_ordered y z = refl
-
-pub signed_refers_to_nothing : (parts : ℕ → Shape) (w : Width) → RefersToNothing parts (signed w)
-unfolding LiesIn
-signed_refers_to_nothing parts w = throughout-alone (LiesIn (λ node. ⊥) (λ part. Unit {0})) parts (signed w) tt (λ those. tt)
 
 pub flag_is_same : (x y : Bool) → beq x y ≡ same_key {A = ArcRef} (flag x) (flag y)
 unfolding plain code
@@ -99,14 +82,6 @@ flag_is_ordered false true = refl
 flag_is_ordered true false = refl
 flag_is_ordered true true = refl
 
-pub flag_refers_to_nothing : (parts : ℕ → Shape) → RefersToNothing parts shapes.flag
-unfolding LiesIn
-flag_refers_to_nothing parts = throughout-alone (LiesIn (λ node. ⊥) (λ part. Unit {0})) parts shapes.flag tt (λ those. tt)
-
 pub nothing_is_same : true ≡ same_key {A = ArcRef} none none
 unfolding plain code
 nothing_is_same = refl
-
-pub nothing_refers_to_nothing : (parts : ℕ → Shape) → RefersToNothing parts shapes.nothing
-unfolding LiesIn
-nothing_refers_to_nothing parts = throughout-alone (LiesIn (λ node. ⊥) (λ part. Unit {0})) parts shapes.nothing tt (λ those. tt)

@@ -33,20 +33,9 @@ pub record MeansPair {A B : Type 0} (M : A → Meaning ArcRef → Type 0) (N : B
 
 -- ---- a value has a meaning if its parts have
 
-pub option_has_meaning : {T : Type 0} (M : T → Meaning ArcRef → Type 0) → ((x : T) → SomeMeaning (M x)) → (o : Option T) → SomeMeaning (MeansOption M o)
-option_has_meaning M has None = (absent, means-none)
-option_has_meaning M has (Some x) = (present (has x).0, means-some x (has x).0 (has x).1)
-
-pub result_has_meaning : {T X : Type 0} (M : T → Meaning ArcRef → Type 0) (N : X → Meaning ArcRef → Type 0) → ((x : T) → SomeMeaning (M x)) → ((x : X) → SomeMeaning (N x)) → (r : Result T X) → SomeMeaning (MeansResult M N r)
-result_has_meaning M N has_ok has_err (Ok x) = (success (has_ok x).0, means-ok x (has_ok x).0 (has_ok x).1)
-result_has_meaning M N has_ok has_err (Err x) = (failure (has_err x).0, means-err x (has_err x).0 (has_err x).1)
-
 pub items_have_meanings : {T : Type 0} (M : T → Meaning ArcRef → Type 0) → ((x : T) → SomeMeaning (M x)) → (xs : List T) → (ms : List (Meaning ArcRef)) × MeanAll M xs ms
 items_have_meanings M has [] = ([], mean-none)
 items_have_meanings M has (x ∷ xs) = let rest = items_have_meanings M has xs in ((has x).0 ∷ rest.0, mean-more x (has x).0 xs rest.0 (has x).1 rest.1)
-
-pub list_has_meaning : {T : Type 0} (M : T → Meaning ArcRef → Type 0) → ((x : T) → SomeMeaning (M x)) → (xs : List T) → SomeMeaning (MeansList M xs)
-list_has_meaning M has xs = let all = items_have_meanings M has xs in (sequence all.0, record { ms = all.0; each = all.1; is = refl })
 
 pub pair_has_meaning : {A B : Type 0} (M : A → Meaning ArcRef → Type 0) (N : B → Meaning ArcRef → Type 0) → ((x : A) → SomeMeaning (M x)) → ((y : B) → SomeMeaning (N y)) → (p : A × B) → SomeMeaning (MeansPair M N p)
 pair_has_meaning M N has_first has_second p =

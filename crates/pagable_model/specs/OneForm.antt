@@ -1,85 +1,106 @@
--- Why no meaning of a carried type has two forms.
-use Rattle.std.specs.{Prelude.{ℕ, zero, suc}, Int.Width}
-use Rattle.pagable_model.specs.{Keys.KeyOrder, Shape.{Shape, unsigned, signed, duration, optional, outcome, list, run, array, both, sorted_map, placed_map, sorted_set, placed_set}}
-use Rattle.pagable_model.specs.{Canonical.{IsCanonical, LiesIn, Within, Throughout}, Keyed.{throughout-alone, throughout-over, throughout-two}}
-use Rattle.pagable_model.specs.Shape as shapes
+-- What holds throughout a shape where it holds throughout those that it is made of: no meaning of a carried type has two forms, and
+-- nothing in a key is a reference.
+use Rattle.std.specs.Prelude.{◌≡◌, ℕ}
+use Rattle.pagable_model.specs.Shape.{Shape, nothing, unsigned, signed, flag, text, letter, duration, pattern, json, optional, outcome, list, run, array, both, sorted_map, placed_map, sorted_set, placed_set}
+use Rattle.pagable_model.specs.{Canonical.{IsCanonical, IsReadable, LiesIn, Throughout}, Keyed.{RefersToNothing, throughout-alone, throughout-over, throughout-two}}
+
+-- made of no other shape, and no reference
+abbrev pub IsBasic : Shape → Type 0
+IsBasic nothing = Unit {0}
+IsBasic (unsigned w) = Unit {0}
+IsBasic (signed w) = Unit {0}
+IsBasic flag = Unit {0}
+IsBasic text = Unit {0}
+IsBasic letter = Unit {0}
+IsBasic duration = Unit {0}
+IsBasic pattern = Unit {0}
+IsBasic json = Unit {0}
+IsBasic _ = ⊥
+
+-- made of this one
+abbrev pub IsOver : Shape → Shape → Type 0
+IsOver s (optional t) = t ≡ s
+IsOver s (list t) = t ≡ s
+IsOver s (array n t) = t ≡ s
+IsOver s (sorted_set order t) = t ≡ s
+IsOver s (placed_set t) = t ≡ s
+IsOver s _ = ⊥
+
+-- made of these two
+abbrev pub IsOfTwo : Shape → Shape → Shape → Type 0
+IsOfTwo s t (outcome u v) = (u ≡ s) × (v ≡ t)
+IsOfTwo s t (both u v) = (u ≡ s) × (v ≡ t)
+IsOfTwo s t (sorted_map order u v) = (u ≡ s) × (v ≡ t)
+IsOfTwo s t (placed_map u v) = (u ≡ s) × (v ≡ t)
+IsOfTwo s t _ = ⊥
+
+-- what follows for a shape from those that it is made of: it has one form, it is read, and it lies in some sets
+pub record Follows (A : (Shape → Type 0) → Type 0) (nodes parts : ℕ → Type 0) : Type 0 where
+  pub canonical : A IsCanonical
+  pub readable : A IsReadable
+  pub lies : A (LiesIn nodes parts)
+
+module _ (nodes parts : ℕ → Type 0) where
+  pub basic-follows : (s : Shape) → IsBasic s → Follows (λ P. P s) nodes parts
+  unfolding IsCanonical IsReadable LiesIn
+  basic-follows nothing h = record { canonical = tt; readable = tt; lies = tt }
+  basic-follows (unsigned w) h = record { canonical = tt; readable = tt; lies = tt }
+  basic-follows (signed w) h = record { canonical = tt; readable = tt; lies = tt }
+  basic-follows flag h = record { canonical = tt; readable = tt; lies = tt }
+  basic-follows text h = record { canonical = tt; readable = tt; lies = tt }
+  basic-follows letter h = record { canonical = tt; readable = tt; lies = tt }
+  basic-follows duration h = record { canonical = tt; readable = tt; lies = tt }
+  basic-follows pattern h = record { canonical = tt; readable = tt; lies = tt }
+  basic-follows json h = record { canonical = tt; readable = tt; lies = tt }
+  basic-follows _ h = absurd h
+
+  pub over-follows : (s whole : Shape) → IsOver s whole → Follows (λ P. P s → P whole) nodes parts
+  unfolding IsCanonical IsReadable LiesIn
+  over-follows s (optional t) e = rw e (record { canonical = λ h. h; readable = λ h. h; lies = λ h. h })
+  over-follows s (list t) e = rw e (record { canonical = λ h. h; readable = λ h. h; lies = λ h. h })
+  over-follows s (array n t) e = rw e (record { canonical = λ h. h; readable = λ h. h; lies = λ h. h })
+  over-follows s (sorted_set order t) e = rw e (record { canonical = λ h. h; readable = λ h. h; lies = λ h. h })
+  over-follows s (placed_set t) e = rw e (record { canonical = λ h. h; readable = λ h. h; lies = λ h. h })
+  over-follows s _ e = absurd e
+
+  pub two-follows : (s t whole : Shape) → IsOfTwo s t whole → Follows (λ P. P s → P t → P whole) nodes parts
+  unfolding IsCanonical IsReadable LiesIn
+  two-follows s t (outcome u v) e = rw (e.0, e.1) (record { canonical = λ h k. (h, k); readable = λ h k. (h, k); lies = λ h k. (h, k) })
+  two-follows s t (both u v) e = rw (e.0, e.1) (record { canonical = λ h k. (h, k); readable = λ h k. (h, k); lies = λ h k. (h, k) })
+  two-follows s t (sorted_map order u v) e = rw (e.0, e.1) (record { canonical = λ h k. (h, k); readable = λ h k. (h, k); lies = λ h k. (h, k) })
+  two-follows s t (placed_map u v) e = rw (e.0, e.1) (record { canonical = λ h k. (h, k); readable = λ h k. (h, k); lies = λ h k. (h, k) })
+  two-follows s t _ e = absurd e
+
+-- a part may be any shape here
+abbrev pub any : ℕ → Type 0
+any n = Unit {0}
 
 -- no meaning of the shape, or of any part of its values in one blob, has two forms
 abbrev pub HasOneFormThroughout : (ℕ → Shape) → Shape → Type 0
 HasOneFormThroughout parts s = Throughout IsCanonical parts s
 
-pub nothing_has_one_form : (parts : ℕ → Shape) → HasOneFormThroughout parts shapes.nothing
+pub basic_has_one_form : {parts : ℕ → Shape} {s : Shape} → IsBasic s → HasOneFormThroughout parts s
+basic_has_one_form {parts} {s} h = throughout-alone IsCanonical parts s (basic-follows any any s h).canonical (λ those. (basic-follows any those s h).lies)
+
+pub over_has_one_form : {parts : ℕ → Shape} {s whole : Shape} → IsOver s whole → HasOneFormThroughout parts s → HasOneFormThroughout parts whole
+over_has_one_form {parts} {s} {whole} e h = throughout-over IsCanonical parts s whole (over-follows any any s whole e).canonical (λ those. (over-follows any those s whole e).lies) h
+
+pub two_has_one_form : {parts : ℕ → Shape} {s t whole : Shape} → IsOfTwo s t whole → HasOneFormThroughout parts s → HasOneFormThroughout parts t → HasOneFormThroughout parts whole
+two_has_one_form {parts} {s} {t} {whole} e h k = throughout-two IsCanonical parts s t whole (two-follows any any s t whole e).canonical (λ those. (two-follows any those s t whole e).lies) h k
+
+pub run_has_one_form : {parts : ℕ → Shape} {s : Shape} → HasOneFormThroughout parts s → HasOneFormThroughout parts (run s)
 unfolding IsCanonical LiesIn
-nothing_has_one_form parts = throughout-alone IsCanonical parts shapes.nothing tt (λ those. tt)
+run_has_one_form {parts} {s} h = throughout-over IsCanonical parts s (run s) (λ c. c) (λ those l. l) h
 
-pub unsigned_has_one_form : (parts : ℕ → Shape) (w : Width) → HasOneFormThroughout parts (unsigned w)
-unfolding IsCanonical LiesIn
-unsigned_has_one_form parts w = throughout-alone IsCanonical parts (unsigned w) tt (λ those. tt)
+-- nothing in it is a reference
+abbrev none : ℕ → Type 0
+none n = ⊥
 
-pub signed_has_one_form : (parts : ℕ → Shape) (w : Width) → HasOneFormThroughout parts (signed w)
-unfolding IsCanonical LiesIn
-signed_has_one_form parts w = throughout-alone IsCanonical parts (signed w) tt (λ those. tt)
+pub basic_refers_to_nothing : {parts : ℕ → Shape} {s : Shape} → IsBasic s → RefersToNothing parts s
+basic_refers_to_nothing {parts} {s} h = throughout-alone (LiesIn none any) parts s (basic-follows none any s h).lies (λ those. (basic-follows any those s h).lies)
 
-pub flag_has_one_form : (parts : ℕ → Shape) → HasOneFormThroughout parts shapes.flag
-unfolding IsCanonical LiesIn
-flag_has_one_form parts = throughout-alone IsCanonical parts shapes.flag tt (λ those. tt)
+pub over_refers_to_nothing : {parts : ℕ → Shape} {s whole : Shape} → IsOver s whole → RefersToNothing parts s → RefersToNothing parts whole
+over_refers_to_nothing {parts} {s} {whole} e h = throughout-over (LiesIn none any) parts s whole (over-follows none any s whole e).lies (λ those. (over-follows any those s whole e).lies) h
 
-pub text_has_one_form : (parts : ℕ → Shape) → HasOneFormThroughout parts shapes.text
-unfolding IsCanonical LiesIn
-text_has_one_form parts = throughout-alone IsCanonical parts shapes.text tt (λ those. tt)
-
-pub letter_has_one_form : (parts : ℕ → Shape) → HasOneFormThroughout parts shapes.letter
-unfolding IsCanonical LiesIn
-letter_has_one_form parts = throughout-alone IsCanonical parts shapes.letter tt (λ those. tt)
-
-pub duration_has_one_form : (parts : ℕ → Shape) → HasOneFormThroughout parts duration
-unfolding IsCanonical LiesIn
-duration_has_one_form parts = throughout-alone IsCanonical parts duration tt (λ those. tt)
-
-pub optional_has_one_form : (parts : ℕ → Shape) (s : Shape) → HasOneFormThroughout parts s → HasOneFormThroughout parts (optional s)
-unfolding IsCanonical LiesIn
-optional_has_one_form parts s t = throughout-over IsCanonical parts s (optional s) (λ h. h) (λ those h. h) t
-
-pub outcome_has_one_form : (parts : ℕ → Shape) (s t : Shape) → HasOneFormThroughout parts s → HasOneFormThroughout parts t → HasOneFormThroughout parts (outcome s t)
-unfolding IsCanonical LiesIn Within
-outcome_has_one_form parts s t u v = record { within = within }
-  where
-    within : (steps : ℕ) → Within IsCanonical parts steps (outcome s t)
-    within zero = (u.within zero, v.within zero)
-    within (suc steps) = (((u.within (suc steps)).0, (v.within (suc steps)).0), ((u.within (suc steps)).1, (v.within (suc steps)).1))
-
-pub list_has_one_form : (parts : ℕ → Shape) (s : Shape) → HasOneFormThroughout parts s → HasOneFormThroughout parts (list s)
-unfolding IsCanonical LiesIn
-list_has_one_form parts s t = throughout-over IsCanonical parts s (list s) (λ h. h) (λ those h. h) t
-
-pub run_has_one_form : (parts : ℕ → Shape) (s : Shape) → HasOneFormThroughout parts s → HasOneFormThroughout parts (run s)
-unfolding IsCanonical LiesIn
-run_has_one_form parts s t = throughout-over IsCanonical parts s (run s) (λ h. h) (λ those h. h) t
-
-pub array_has_one_form : (parts : ℕ → Shape) (n : ℕ) (s : Shape) → HasOneFormThroughout parts s → HasOneFormThroughout parts (array n s)
-unfolding IsCanonical LiesIn Within
-array_has_one_form parts n s t = record { within = within }
-  where
-    within : (steps : ℕ) → Within IsCanonical parts steps (array n s)
-    within zero = t.within zero
-    within (suc steps) = ((t.within (suc steps)).0, (t.within (suc steps)).1)
-
-pub sorted_set_has_one_form : (parts : ℕ → Shape) (order : KeyOrder) (s : Shape) → HasOneFormThroughout parts s → HasOneFormThroughout parts (sorted_set order s)
-unfolding IsCanonical LiesIn
-sorted_set_has_one_form parts order s t = throughout-over IsCanonical parts s (sorted_set order s) (λ h. h) (λ those h. h) t
-
-pub placed_set_has_one_form : (parts : ℕ → Shape) (s : Shape) → HasOneFormThroughout parts s → HasOneFormThroughout parts (placed_set s)
-unfolding IsCanonical LiesIn
-placed_set_has_one_form parts s t = throughout-over IsCanonical parts s (placed_set s) (λ h. h) (λ those h. h) t
-
-pub both_has_one_form : (parts : ℕ → Shape) (s t : Shape) → HasOneFormThroughout parts s → HasOneFormThroughout parts t → HasOneFormThroughout parts (both s t)
-unfolding IsCanonical LiesIn
-both_has_one_form parts s t u v = throughout-two IsCanonical parts s t (both s t) (λ h k. (h, k)) (λ those h k. (h, k)) u v
-
-pub sorted_map_has_one_form : (parts : ℕ → Shape) (order : KeyOrder) (s t : Shape) → HasOneFormThroughout parts s → HasOneFormThroughout parts t → HasOneFormThroughout parts (sorted_map order s t)
-unfolding IsCanonical LiesIn
-sorted_map_has_one_form parts order s t u v = throughout-two IsCanonical parts s t (sorted_map order s t) (λ h k. (h, k)) (λ those h k. (h, k)) u v
-
-pub placed_map_has_one_form : (parts : ℕ → Shape) (s t : Shape) → HasOneFormThroughout parts s → HasOneFormThroughout parts t → HasOneFormThroughout parts (placed_map s t)
-unfolding IsCanonical LiesIn
-placed_map_has_one_form parts s t u v = throughout-two IsCanonical parts s t (placed_map s t) (λ h k. (h, k)) (λ those h k. (h, k)) u v
+pub two_refers_to_nothing : {parts : ℕ → Shape} {s t whole : Shape} → IsOfTwo s t whole → RefersToNothing parts s → RefersToNothing parts t → RefersToNothing parts whole
+two_refers_to_nothing {parts} {s} {t} {whole} e h k = throughout-two (LiesIn none any) parts s t whole (two-follows none any s t whole e).lies (λ those. (two-follows any those s t whole e).lies) h k

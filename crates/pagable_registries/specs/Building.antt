@@ -1,5 +1,6 @@
 -- What `regex` builds of a text, and why it builds nothing.
 use Rattle.std.{specs.Prelude.{◌≡◌, ◌≢◌, ◌⊎◌, ℕ, List, true, refl, Result, Ok}, proofs.Common.{subst, sym, inl, inr}}
+use Rattle.pagable_traits.specs.OwnCauses.{ReadCauses}
 use Rattle.regex.specs.declared.string.regex.Regex.{Regex}
 use Rattle.pagable_model.specs.{declared.error.Error.Error, declared.numbers.ArcRef.ArcRef, Meaning.{Meaning, pattern}, Refusals.is_own_reading}
 use Rattle.regex.specs.{Failures.IsRightKind, Patterns.default_config, Sources.IsRefusal, Strings.regex_source, Strings.regex_config, Strings.IsReadFromSource, declared.error.Error.Error as Cause}
@@ -43,6 +44,9 @@ pub record ReadsNoPattern {R : Type 0} (read : Result (Meaning ArcRef × R) Erro
 abbrev pub pattern_causes : Error → Type 0
 pattern_causes e = (e ≡ errors.OutOfMemory) ⊎ (e ≡ errors.RegexRefused)
 
-pub pattern_causes_are_own : (e : Error) → pattern_causes e → is_own_reading e ≡ true
-pattern_causes_are_own e (inl h) = let P : Error → Type 0 = λ x. is_own_reading x ≡ true in subst P (sym h) refl
-pattern_causes_are_own e (inr h) = let P : Error → Type 0 = λ x. is_own_reading x ≡ true in subst P (sym h) refl
+pub pattern_own : (e : Error) → pattern_causes e → is_own_reading e ≡ true
+pattern_own e (inl h) = let P : Error → Type 0 = λ x. is_own_reading x ≡ true in subst P (sym h) refl
+pattern_own e (inr h) = let P : Error → Type 0 = λ x. is_own_reading x ≡ true in subst P (sym h) refl
+
+abbrev pub reads_pattern : ReadCauses
+reads_pattern = record { are = pattern_causes; own = pattern_own }

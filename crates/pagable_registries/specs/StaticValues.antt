@@ -3,8 +3,12 @@
 use Rattle.std.specs.{Prelude.◌≡◌, Prelude.ℕ, Prelude.List, Prelude.[], Prelude.◌∷◌, Prelude.Bool, Prelude.IsTrue, Prelude.refl, List.AllByRecursion}
 use Rattle.pagable_model.specs.Meaning.{Meaning, number, integer, text, pattern, none, pair, variant, reference, followed, plain, rename, lifted}
 use Rattle.pagable_model.specs.{declared.numbers.ArcRef.ArcRef, Canonical.HasNoReference, Canonical.IsReadable, Canonical.LiesIn, Codes.one-meaning, Keyed.RefersToNothing, Keyed.throughout-alone}
-use Rattle.pagable_model.specs.{Keyed.same-by, Keys.same_key, Shape.Shape, Shape.static_value, Statics.meanings_of}
-use Rattle.pagable_traits.specs.ReadBack.{IsReadThroughout}
+use Rattle.pagable_model.specs.{Keyed.same-by, Keys.same_key, Shape.Shape, Shape.static_value, Statics.{meanings_of, unregistered, unregistered_may_refuse_writing}}
+use Rattle.pagable_traits.specs.{OwnCauses.WriteCauses, ReadBack.IsReadThroughout}
+
+-- a value that isn't registered is refused
+abbrev pub writes_unregistered : WriteCauses
+writes_unregistered = record { are = unregistered; may = unregistered_may_refuse_writing }
 
 all-plain : {T : Type 0} (meaning : T → Meaning ⊥) → ((x : T) → HasNoReference (meaning x)) → (registry : List T) → AllByRecursion HasNoReference (meanings_of meaning registry)
 all-plain meaning holds_none [] = tt

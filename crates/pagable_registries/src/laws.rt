@@ -19,9 +19,9 @@ use pagable_traits::{Carried, PagableDeserialize, PagableSerialize};
 /// refused by want of memory or where it isn't registered; reading it is never refused for a cause of its own.
 pub fn static_value_is_carried<E: Env, T: HasStaticValueRegistry<E>>()
     ensures shape { (e : E) → ⟦<StaticValue<T> as Carried<E>>⟧.shape e ≡ static_value (meanings_of T.plain (T.known e)) }
-    ensures means { (v : Static T) (m : Meaning Reference) → ⟦<StaticValue<T> as Carried<E>>⟧.means v m ↔ (m ≡ lifted (T.plain v.0.value)) }
-    ensures writes { (e : Refusal) → ⟦<StaticValue<T> as PagableSerialize<E>>⟧.write_causes e ↔ memory_or unregistered e }
-    ensures reads { (e : Refusal) → ⟦<StaticValue<T> as PagableDeserialize<'static, E>>⟧.read_causes e ↔ never e }
+    ensures means { (v : Static T) (m : Meaning Reference) → ⟦<StaticValue<T> as Carried<E>>⟧.means.of v m ↔ (m ≡ lifted (T.plain v.0.value)) }
+    ensures writes { (e : Refusal) → ⟦<StaticValue<T> as PagableSerialize<E>>⟧.write_causes.are e ↔ memory_or unregistered e }
+    ensures reads { (e : Refusal) → ⟦<StaticValue<T> as PagableDeserialize<'static, E>>⟧.read_causes.are e ↔ never e }
 {}
 
 /// Each index of a registered value is read as that value.
@@ -31,14 +31,14 @@ pub fn static_values_are_read_again<E: Env, T: HasStaticValueRegistry<E>>()
 
 /// A tagged value means its tag with something that its body means: what its type owes as the law `has_meaning` of `Carried`.
 pub fn tagged_has_meaning<E: Env, T: PagableTagged<E>>()
-    ensures { (x : T) → SomeMeaning (MeansTagged (T.tag x) (T.body_means x)) }
+    ensures { (x : T) → SomeMeaning (MeansTagged (T.tag x) (T.body_means.of x)) }
 {}
 
 /// A regular expression is spelled as a pattern and means its text. Writing is refused as too long or by want of memory;
 /// reading may want memory, or the text is refused.
 pub fn saved_regex_is_carried<E: Env>()
     ensures shape { (e : E) → ⟦<SavedRegex as Carried<E>>⟧.shape e ≡ shapes.pattern }
-    ensures means { (t : List ℕ) (m : Meaning Reference) → ⟦<SavedRegex as Carried<E>>⟧.means t m ↔ (m ≡ meanings.pattern t) }
-    ensures writes { (e : Refusal) → ⟦<SavedRegex as PagableSerialize<E>>⟧.write_causes e ↔ long_or memory e }
-    ensures reads { (e : Refusal) → ⟦<SavedRegex as PagableDeserialize<'static, E>>⟧.read_causes e ↔ ((e ≡ refusals.OutOfMemory) ⊎ (e ≡ refusals.RegexRefused)) }
+    ensures means { (t : List ℕ) (m : Meaning Reference) → ⟦<SavedRegex as Carried<E>>⟧.means.of t m ↔ (m ≡ meanings.pattern t) }
+    ensures writes { (e : Refusal) → ⟦<SavedRegex as PagableSerialize<E>>⟧.write_causes.are e ↔ long_or memory e }
+    ensures reads { (e : Refusal) → ⟦<SavedRegex as PagableDeserialize<'static, E>>⟧.read_causes.are e ↔ ((e ≡ refusals.OutOfMemory) ⊎ (e ≡ refusals.RegexRefused)) }
 {}

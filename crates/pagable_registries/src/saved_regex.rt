@@ -1,12 +1,13 @@
 //! Regular expressions beside their texts.
 
-ghost use Rattle.std.{specs.Prelude.{◌≡◌, ◌≢◌, refl, ℕ, List, IfOk, IfErr, OnOk}, specs.String.string_bytes, specs.Str.bytes_eq, specs.Cmp.Rules.{comparing, hashing}, proofs.Common.rules};
-ghost use Rattle.pagable_model.specs.{Gives.{memory, long_or}, Causes.text_may_refuse_writing, Meaning.pattern, Patterns.{pattern_is_same, pattern_refers_to_nothing, pattern_has_one_form}};
+ghost use Rattle.std.{specs.Prelude.{◌≡◌, ◌≢◌, ℕ, List, IfOk, IfErr, OnOk}, specs.String.string_bytes, specs.Str.bytes_eq, specs.Cmp.Rules.{comparing, hashing}, proofs.Common.rules};
+ghost use Rattle.pagable_model.specs.{Gives.{memory, long_or}, Meaning.pattern, OneForm.{basic_has_one_form, basic_refers_to_nothing}, Patterns.pattern_is_same};
 ghost use Rattle.pagable_model.specs.{Reading.read, Standing.{handles_at, Is, MovesOn, GivesSome}, Writing.{nesting, WritesSome, Refused, Grows}, declared.error.Error.TheVariants.RegexRefused};
-ghost use Rattle.pagable_traits.specs.ReadBack.{pattern_is_read};
-ghost use Rattle.pagable_registries.specs.Building.{IsBuiltFrom, IsRefusedPattern, refusal_of, pattern_causes, pattern_causes_are_own, ReadsNoPattern};
+ghost use Rattle.pagable_traits.specs.ReadBack.{basic_is_read};
+ghost use Rattle.pagable_registries.specs.Building.{IsBuiltFrom, IsRefusedPattern, refusal_of, pattern_causes, reads_pattern, ReadsNoPattern};
 ghost use Rattle.std.specs.Hash as fed;
 ghost use Rattle.pagable_model.specs.Shape as shapes;
+ghost use Rattle.pagable_traits.specs.{Meanings.{exactly}, OwnCauses.{writes_memory, writes_long_or}};
 
 use pagable_codec::{Env, PagableDeserializer, PagableSerializer, Reader};
 use pagable_flavors::Error;
@@ -126,31 +127,25 @@ impl Hash for SavedRegex {
 impl<E: Env> Carried<E> for SavedRegex {
     ghost shape = { λ e. shapes.pattern };
 
-    ghost means = { Is pattern };
-
-    ghost has_meaning = { λ r. (pattern r, refl) };
+    ghost means = { exactly pattern };
 }
 
 impl<E: Env> ReadBack<E> for SavedRegex {
-    ghost is_read = { λ e. pattern_is_read (E.parts e) };
+    ghost is_read = { λ e. basic_is_read tt };
 }
 
 impl<E: Env> OneMeaning<E> for SavedRegex {
-    ghost meaning = { pattern };
-
-    ghost is_meaning = { λ r. refl };
-
     ghost single = { λ r m is. is };
 }
 
 impl<E: Env> Canonical<E> for SavedRegex {
-    ghost one_form = { λ e. pattern_has_one_form (E.parts e) };
+    ghost one_form = { λ e. basic_has_one_form tt };
 }
 
 impl<E: Env> PagableKey<E> for SavedRegex {
     ghost same = { pattern_is_same };
 
-    ghost refers_to_nothing = { λ e. pattern_refers_to_nothing (E.parts e) };
+    ghost refers_to_nothing = { λ e. basic_refers_to_nothing tt };
 }
 
 /// Writes the text of a pattern: its length in bytes, and its bytes. TooLong above 4,294,967,295 bytes; else refused by
@@ -168,9 +163,7 @@ fn write_text<E: Env, S: PagableSerializer<E>>(text: &str, serializer: &mut S) -
 }
 
 impl<E: Env> PagableSerialize<E> for SavedRegex {
-    ghost write_causes = { long_or memory };
-
-    ghost write_causes_may_refuse = { text_may_refuse_writing };
+    ghost write_causes = { writes_long_or writes_memory };
 
     /// Appends the text.
     fn pagable_serialize<S: PagableSerializer<E>>(&self, serializer: &mut S) -> Result<(), Error> {
@@ -194,9 +187,7 @@ fn read_text<E: Env, D: PagableDeserializer<E>>(
 }
 
 impl<'de, E: Env> PagableDeserialize<'de, E> for SavedRegex {
-    ghost read_causes = { pattern_causes };
-
-    ghost read_causes_are_own = { pattern_causes_are_own };
+    ghost read_causes = { reads_pattern };
 
     /// Reads a text, and builds it. RegexRefused only where there is a text that `regex` refuses for another cause than
     /// memory.

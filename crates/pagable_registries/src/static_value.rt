@@ -1,12 +1,13 @@
 //! Static values: they stand in a registry that the environment holds, and are written as their index there. `T` is the
 //! reference to what is static, as `&'static str`: nothing is proved yet of a `&'static T` with a type parameter `T`.
 
-ghost use Rattle.std.{specs.Prelude.{◌≡◌, ◌<◌, ◌≤◌, ◌↔◌, ⊤, refl, List, length, map, Option, Some, Err, OnOk, IfOk, IfErr, IfSome, IfNone, IsTrue, vec_len}, specs.List.slice_get};
+ghost use Rattle.std.{specs.Prelude.{◌≡◌, ◌<◌, ◌≤◌, ◌↔◌, ⊤, List, length, map, Option, Some, Err, OnOk, IfOk, IfErr, IfSome, IfNone, IsTrue, vec_len}, specs.{Int.w32, List.slice_get}};
 ghost use Rattle.std.{specs.List.Sorted.{IsPermutation, IsSorted, IsStable}, specs.Cmp.Rules.{comparing, hashing}, proofs.Common.rules};
-ghost use Rattle.pagable_model.specs.{Statics.{HasEqual, NoEqualBelow, StandsAt, meanings_of, unregistered, unregistered_may_refuse_writing}, Basic.longest, Canonical.HasNoReference, Gives.Gives};
-ghost use Rattle.pagable_model.specs.{Gives.{never, memory_or}, Meaning.{Meaning, lifted}, Reading.{read, registered}, Shape.static_value, Standing.{handles_at, GivesSome, Is, MovesOn}};
-ghost use Rattle.pagable_model.specs.{Writing.{nesting, WritesSome, Refused, Grows}, Lengths.long_or_memory, Causes.{never_is_own_reading, memory_or_may_refuse_writing}};
-ghost use Rattle.pagable_registries.specs.StaticValues.{static_is_read, static_is_same, static_refers_to_nothing};
+ghost use Rattle.pagable_model.specs.{Statics.{HasEqual, NoEqualBelow, StandsAt, meanings_of, unregistered}, Basic.longest, Canonical.HasNoReference, Gives.Gives};
+ghost use Rattle.pagable_model.specs.{Gives.{never, memory_or}, Numbers.unsigned_at, Meaning.{Meaning, lifted}, Reading.{bytes_of, read, registered}, Shape.static_value, Standing.{handles_at, GivesSome, Is, MovesOn}};
+ghost use Rattle.pagable_model.specs.{Writing.{nesting, WritesSome, Refused, Grows}, Lengths.long_or_memory};
+ghost use Rattle.pagable_registries.specs.StaticValues.{static_is_read, static_is_same, static_refers_to_nothing, writes_unregistered};
+ghost use Rattle.pagable_traits.specs.{Meanings.{exactly}, OwnCauses.{reads_never, writes_memory_or}};
 
 use pagable_codec::{Env, PagableDeserializer, PagableSerializer, Reader};
 use pagable_flavors::Error;
@@ -65,6 +66,7 @@ impl<T: Hash> Hash for StaticValueEntry<T> {
 }
 
 /// A value that is written as its index. Two are equal where their values are, whatever their indices.
+#[derive(PartialEq, Eq, Hash)]
 pub struct StaticValue<T>(pub StaticValueEntry<T>);
 
 impl<T: Copy> StaticValue<T> {
@@ -87,30 +89,6 @@ impl<T: Copy> Clone for StaticValue<T> {
 }
 
 impl<T: Copy> Copy for StaticValue<T> {}
-
-impl<T: PartialEq> PartialEq for StaticValue<T> {
-    ghost eq = { λ x y. T.eq x.0.value y.0.value };
-
-    ghost laws = { Prim.search (comparing, rules) };
-
-    fn eq(&self, other: &Self) -> bool {
-        self.0 == other.0
-    }
-}
-
-impl<T: Eq> Eq for StaticValue<T> {
-    ghost laws = { Prim.search (comparing, rules) };
-}
-
-impl<T: Hash> Hash for StaticValue<T> {
-    ghost hash_input = { λ x. T.hash_input x.0.value };
-
-    ghost respects_eq = { Prim.search (hashing, rules) };
-
-    fn hash<H: Hasher>(&self, state: &mut H) {
-        self.0.hash(state);
-    }
-}
 
 impl<T> Deref for StaticValue<T> {
     type Target = T;
@@ -303,16 +281,10 @@ pub fn is_registered<E: Env, T: HasStaticValueRegistry<E>>(value: &StaticValue<T
 impl<E: Env, T: HasStaticValueRegistry<E>> Carried<E> for StaticValue<T> {
     ghost shape = { λ e. static_value (meanings_of T.plain (T.known e)) };
 
-    ghost means = { Is (λ v. lifted (T.plain v.0.value)) };
-
-    ghost has_meaning = { λ v. (lifted (T.plain v.0.value), refl) };
+    ghost means = { exactly (λ v. lifted (T.plain v.0.value)) };
 }
 
 impl<E: Env, T: HasStaticValueRegistry<E>> OneMeaning<E> for StaticValue<T> {
-    ghost meaning = { λ v. lifted (T.plain v.0.value) };
-
-    ghost is_meaning = { λ v. refl };
-
     ghost single = { λ v m is. is };
 }
 
@@ -328,9 +300,7 @@ impl<E: Env, T: HasStaticValueRegistry<E>> ReadBack<E> for StaticValue<T> {
 }
 
 impl<E: Env, T: HasStaticValueRegistry<E>> PagableSerialize<E> for StaticValue<T> {
-    ghost write_causes = { memory_or unregistered };
-
-    ghost write_causes_may_refuse = { memory_or_may_refuse_writing unregistered unregistered_may_refuse_writing };
+    ghost write_causes = { writes_memory_or writes_unregistered };
 
     /// Appends the index. Unregistered exactly where the environment's registry has no equal value under it, and else
     /// refused by want of memory alone.
@@ -352,10 +322,18 @@ impl<E: Env, T: HasStaticValueRegistry<E>> PagableSerialize<E> for StaticValue<T
     }
 }
 
-impl<'de, E: Env, T: HasStaticValueRegistry<E>> PagableDeserialize<'de, E> for StaticValue<T> {
-    ghost read_causes = { never };
+/// Reads an index.
+fn read_index<E: Env, D: PagableDeserializer<E>>(deserializer: &mut D) -> Result<u32, Error>
+    ensures gives { Gives never (λ n. (n, D.rest deserializer.new)) result (bytes_of (unsigned_at w32) (λ n. n) (D.rest deserializer.old)) }
+    ensures moves { MovesOn (D.standing deserializer.old) (D.standing deserializer.new) }
+    ensures same_env { D.environment deserializer.new ≡ D.environment deserializer.old }
+    ensures same_levels { D.levels deserializer.new ≡ D.levels deserializer.old }
+{
+    deserializer.serde().read_u32()
+}
 
-    ghost read_causes_are_own = { never_is_own_reading };
+impl<'de, E: Env, T: HasStaticValueRegistry<E>> PagableDeserialize<'de, E> for StaticValue<T> {
+    ghost read_causes = { reads_never };
 
     /// Reads an index, and gives the value that the environment's registry has under it, with that index: so it can be
     /// written again. BadStaticIndex where there is none.
@@ -371,7 +349,7 @@ impl<'de, E: Env, T: HasStaticValueRegistry<E>> PagableDeserialize<'de, E> for S
         ensures same_levels { D.levels deserializer.new ≡ D.levels deserializer.old }
         ensures stands { IfOk result (λ v. StandsAt T.plain (T.known (D.environment deserializer.old)) v.0.value v.0.index) }
     {
-        let index = deserializer.serde().read_u32()?;
+        let index = read_index(deserializer)?;
         let value = registered_value::<E, T>(index, deserializer.env())?;
         Ok(value)
     }

@@ -1,12 +1,11 @@
 //! Tagged values: a value of one of several types is written as its type's tag and its body, and read by the reader
 //! that is registered for the tag. Registries are handed in; there are no globals.
 
-ghost use Rattle.std.{specs.Prelude.{◌≡◌, ◌≤◌, [], ℕ, List, length, map, Bool, Option, Some, None, IfOk, IfErr, IfSome, IfNone, OnOk, true}, specs.Str.IsUtf8, specs.String.string_bytes};
+ghost use Rattle.std.{specs.Prelude.{◌≡◌, ◌≤◌, [], ℕ, List, length, map, Bool, Option, Some, None, IfOk, IfErr, IfSome, IfNone, OnOk}, specs.Str.IsUtf8, specs.String.string_bytes};
 ghost use Rattle.pagable_model.specs.{Tagged.{MeansTagged, IsLastFor, NoneFor, grammars, HasDistinctTags, ReadsWhatIsWritten}, Basic.{text_form, text_at, longest}, Carried.tagged_by, Gives.Gives};
-ghost use Rattle.pagable_model.specs.{Gives.{memory, memory_or, long_or}, Meaning.Meaning, Reading.{read, bytes_of}, Refusals.{is_own_reading, may_refuse_writing}, Shape.{Shape, tagged}};
-ghost use Rattle.pagable_model.specs.{Standing.{handles_at, MovesOn, GivesSome, SomeMeaning}, Writing.{nesting, WritesSome, Refused, Grows, added}, declared.error.Error.Error as Refusal};
-ghost use Rattle.pagable_model.specs.{declared.numbers.ArcRef.ArcRef as Reference, Lengths.long_or_memory};
-ghost use Rattle.pagable_traits.specs.ReadBack.{IsReadThroughout};
+ghost use Rattle.pagable_model.specs.{Gives.{memory, memory_or, long_or}, Reading.{read, bytes_of}, Shape.{Shape, tagged}};
+ghost use Rattle.pagable_model.specs.{Standing.{handles_at, MovesOn, GivesSome}, Writing.{nesting, WritesSome, Refused, Grows, added}, Lengths.long_or_memory};
+ghost use Rattle.pagable_traits.specs.{ReadBack.IsReadThroughout, Meanings.Meanings, OwnCauses.{ReadCauses, WriteCauses}};
 
 use pagable_codec::{Env, PagableDeserializer, PagableSerializer, Reader};
 use pagable_flavors::Error;
@@ -22,10 +21,10 @@ pub trait PagableTagged<E: Env>: Sized {
     ghost bodies: { E → List ℕ → Shape };
 
     // What the body of a value may mean.
-    ghost body_means: { Self → Meaning Reference → Type 0 };
+    ghost body_means: { Meanings Self };
 
     // All refusals of a body's writing, those among them that say that it has no form.
-    ghost body_causes: { Refusal → Type 0 };
+    ghost body_causes: { WriteCauses };
 
     /// The tag of the value.
     fn pagable_type_tag(&self) -> &'static str
@@ -36,30 +35,27 @@ pub trait PagableTagged<E: Env>: Sized {
         &self,
         serializer: &mut S,
     ) -> Result<(), Error>
-        ensures ok { OnOk result (WritesSome (body_means self.now) (nesting (S.levels serializer.old) (E.parts (S.environment serializer.old))) (bodies (S.environment serializer.old) (tag self.now)) (S.out serializer.old) (S.out serializer.new)) }
-        ensures refused { IfErr result (Refused (body_means self.now) (nesting (S.levels serializer.old) (E.parts (S.environment serializer.old))) (bodies (S.environment serializer.old) (tag self.now))) }
-        ensures only { IfErr result body_causes }
+        ensures ok { OnOk result (WritesSome (body_means.of self.now) (nesting (S.levels serializer.old) (E.parts (S.environment serializer.old))) (bodies (S.environment serializer.old) (tag self.now)) (S.out serializer.old) (S.out serializer.new)) }
+        ensures refused { IfErr result (Refused (body_means.of self.now) (nesting (S.levels serializer.old) (E.parts (S.environment serializer.old))) (bodies (S.environment serializer.old) (tag self.now))) }
+        ensures only { IfErr result body_causes.are }
         ensures err { Grows (S.out serializer.old) (S.out serializer.new) }
         ensures same_env { S.environment serializer.new ≡ S.environment serializer.old }
         ensures same_levels { S.levels serializer.new ≡ S.levels serializer.old };
-
-    ghost body_has_meaning: { (x : Self) → SomeMeaning (body_means x) };
-
-    ghost body_causes_may_refuse: { (e : Refusal) → body_causes e → may_refuse_writing e ≡ true };
 
     /// Writes the tag and then the body, whichever tags are registered. TooLong for a tag above 4,294,967,295 bytes.
     final fn serialize_tagged<S: PagableSerializer<E>>(
         &self,
         serializer: &mut S,
     ) -> Result<(), Error>
-        ensures ok { (known : List ℕ → Bool) (read : List ℕ → Shape) → OnOk result (WritesSome (MeansTagged (tag self.now) (body_means self.now)) (nesting (S.levels serializer.old) (E.parts (S.environment serializer.old))) (tagged (bodies (S.environment serializer.old)) known read) (S.out serializer.old) (S.out serializer.new)) }
-        ensures refused { (known : List ℕ → Bool) (read : List ℕ → Shape) → IfErr result (Refused (MeansTagged (tag self.now) (body_means self.now)) (nesting (S.levels serializer.old) (E.parts (S.environment serializer.old))) (tagged (bodies (S.environment serializer.old)) known read)) }
-        ensures only { IfErr result (long_or (memory_or body_causes)) }
+        ensures ok { (known : List ℕ → Bool) (read : List ℕ → Shape) → OnOk result (WritesSome (MeansTagged (tag self.now) (body_means.of self.now)) (nesting (S.levels serializer.old) (E.parts (S.environment serializer.old))) (tagged (bodies (S.environment serializer.old)) known read) (S.out serializer.old) (S.out serializer.new)) }
+        ensures refused { (known : List ℕ → Bool) (read : List ℕ → Shape) → IfErr result (Refused (MeansTagged (tag self.now) (body_means.of self.now)) (nesting (S.levels serializer.old) (E.parts (S.environment serializer.old))) (tagged (bodies (S.environment serializer.old)) known read)) }
+        ensures only { IfErr result (long_or (memory_or body_causes.are)) }
         ensures err { Grows (S.out serializer.old) (S.out serializer.new) }
         ensures same_env { S.environment serializer.new ≡ S.environment serializer.old }
         ensures same_levels { S.levels serializer.new ≡ S.levels serializer.old }
     {
-        write_tagged(self, serializer)
+        write_tag(self.pagable_type_tag(), serializer)?;
+        self.pagable_serialize_body(serializer)
     }
 }
 
@@ -77,22 +73,6 @@ fn write_tag<E: Env, S: PagableSerializer<E>>(tag: &str, serializer: &mut S) -> 
     serializer.serde().write_str(tag)
 }
 
-/// Writes the value's tag and then its body.
-fn write_tagged<E: Env, T: PagableTagged<E>, S: PagableSerializer<E>>(
-    value: &T,
-    serializer: &mut S,
-) -> Result<(), Error>
-    ensures ok { (known : List ℕ → Bool) (read : List ℕ → Shape) → OnOk result (WritesSome (MeansTagged (T.tag value.now) (T.body_means value.now)) (nesting (S.levels serializer.old) (E.parts (S.environment serializer.old))) (tagged (T.bodies (S.environment serializer.old)) known read) (S.out serializer.old) (S.out serializer.new)) }
-    ensures refused { (known : List ℕ → Bool) (read : List ℕ → Shape) → IfErr result (Refused (MeansTagged (T.tag value.now) (T.body_means value.now)) (nesting (S.levels serializer.old) (E.parts (S.environment serializer.old))) (tagged (T.bodies (S.environment serializer.old)) known read)) }
-    ensures only { IfErr result (long_or (memory_or T.body_causes)) }
-    ensures err { Grows (S.out serializer.old) (S.out serializer.new) }
-    ensures same_env { S.environment serializer.new ≡ S.environment serializer.old }
-    ensures same_levels { S.levels serializer.new ≡ S.levels serializer.old }
-{
-    write_tag(value.pagable_type_tag(), serializer)?;
-    value.pagable_serialize_body(serializer)
-}
-
 /// Marks a type as registered as one of `T`'s types.
 pub trait PagableRegisteredFor<T> {}
 
@@ -107,7 +87,7 @@ pub trait TagReader<E: Env, T: PagableTagged<E>>: ForTag {
     ghost grammar: { Self → E → Shape };
 
     // The refusals beside the faults of the input and those of references.
-    ghost read_causes: { Refusal → Type 0 };
+    ghost read_causes: { ReadCauses };
 
     /// Reads a body, as `PagableDeserialize` reads a value. The value that it gives has the reader's tag.
     fn read<D: PagableDeserializer<E>>(
@@ -115,14 +95,12 @@ pub trait TagReader<E: Env, T: PagableTagged<E>>: ForTag {
         alloc: Global,
         deserializer: &mut D,
     ) -> Result<T, Error>
-        ensures gives { GivesSome read_causes T.body_means (D.rest deserializer.new) result
+        ensures gives { GivesSome read_causes.are T.body_means.of (D.rest deserializer.new) result
             (read (handles_at (D.levels deserializer.old) (E.parts (D.environment deserializer.old))) (grammar self.now (D.environment deserializer.old)) (D.rest deserializer.old)) }
         ensures of_tag { IfOk result (λ x. T.tag x ≡ Self.own_tag self.now) }
         ensures moves { MovesOn (D.standing deserializer.old) (D.standing deserializer.new) }
         ensures same_env { D.environment deserializer.new ≡ D.environment deserializer.old }
         ensures same_levels { D.levels deserializer.new ≡ D.levels deserializer.old };
-
-    ghost read_causes_are_own: { (e : Refusal) → read_causes e → is_own_reading e ≡ true };
 }
 
 /// A tag, and the reader of the bodies under it, which gives values of this tag.
@@ -189,7 +167,7 @@ impl<T, F: ForTag> TypetagRegistry<T, F> {
     where
         T: PagableTagged<E>,
         F: TagReader<E, T>,
-        ensures gives { (written : List ℕ → Shape) → GivesSome (memory_or F.read_causes) (λ x. MeansTagged (T.tag x) (T.body_means x)) (D.rest deserializer.new) result
+        ensures gives { (written : List ℕ → Shape) → GivesSome (memory_or F.read_causes.are) (λ x. MeansTagged (T.tag x) (T.body_means.of x)) (D.rest deserializer.new) result
             (read (handles_at (D.levels deserializer.old) (E.parts (D.environment deserializer.old))) (tagged_by written (grammars F.grammar (D.environment deserializer.old) self.now)) (D.rest deserializer.old)) }
         ensures moves { MovesOn (D.standing deserializer.old) (D.standing deserializer.new) }
         ensures same_env { D.environment deserializer.new ≡ D.environment deserializer.old }
@@ -270,7 +248,7 @@ pub fn deserialize_tagged<E: Env, T: HasTypetagRegistry<E>, D: PagableDeserializ
     alloc: Global,
     deserializer: &mut D,
 ) -> Result<T, Error>
-    ensures gives { (written : List ℕ → Shape) → GivesSome (memory_or T.Reader.read_causes) (λ x. MeansTagged (T.tag x) (T.body_means x)) (D.rest deserializer.new) result
+    ensures gives { (written : List ℕ → Shape) → GivesSome (memory_or T.Reader.read_causes.are) (λ x. MeansTagged (T.tag x) (T.body_means.of x)) (D.rest deserializer.new) result
         (read (handles_at (D.levels deserializer.old) (E.parts (D.environment deserializer.old))) (tagged_by written (grammars T.Reader.grammar (D.environment deserializer.old) (T.readers (D.environment deserializer.old)))) (D.rest deserializer.old)) }
     ensures moves { MovesOn (D.standing deserializer.old) (D.standing deserializer.new) }
     ensures same_env { D.environment deserializer.new ≡ D.environment deserializer.old }

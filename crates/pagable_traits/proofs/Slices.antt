@@ -1,6 +1,6 @@
 -- Items without their count.
 use Rattle.pagable_traits.proofs.Words.{◌≡◌, ℕ, ◌<◌, ◌≤◌, subst, List, length, arith, refl, Result, Ok, Err, inl, IfErr, Error, ArcRef, longest, long_or, Meaning, sequence, Shape, Out, Nesting}
-use Rattle.pagable_traits.proofs.Words.{FormAt, FormsAt, WritesSome, WritesSomeAll, NoForm, NoForms, NoFormOfSome, Refused, RefusedAll, SomeMeaning, MeanAll, MeansList, items_have_meanings}
+use Rattle.pagable_traits.proofs.Words.{FormAt, FormsAt, WritesSome, WritesSomeAll, NoForm, NoForms, NoFormOfSome, Refused, RefusedAll, Meanings, MeanAll, MeansList, items_have_meanings, some}
 use Rattle.pagable_model.specs.{Shape.run, Form.run-form}
 use Rattle.pagable_traits.proofs.{Items.mean-length, Items.sequence-same, Parts.only_long_or}
 use Rattle.pagable_model.specs.declared.error.Error.TheVariants as errors
@@ -29,9 +29,9 @@ refused_run (Ok x) M xs n s h = tt
 refused_run (Err e) M xs n s h = λ fault. let lacks = h fault in record { m = sequence lacks.ms; is = record { ms = lacks.ms; each = lacks.is; is = refl }; no_form = no-items n s lacks.ms lacks.no_forms }
 
 -- a run that is too long has no form
-pub no_long_run : {T : Type 0} (M : T → Meaning ArcRef → Type 0) (has : (x : T) → SomeMeaning (M x)) (xs : List T) (n : Nesting) (s : Shape) → longest < length xs → NoFormOfSome (MeansList M xs) n (run s)
-no_long_run M has xs n s lt =
-    let all = items_have_meanings M has xs in
+pub no_long_run : {T : Type 0} (M : Meanings T) (xs : List T) (n : Nesting) (s : Shape) → longest < length xs → NoFormOfSome (MeansList M.of xs) n (run s)
+no_long_run M xs n s lt =
+    let all = items_have_meanings M.of (some M) xs in
     let long : longest < length all.0 = rw (mean-length all.1) lt in
     record { m = sequence all.0; is = record { ms = all.0; each = all.1; is = refl }; no_form = λ b k f. omega (arith, (run-parts n all.0 f refl).0) }
 

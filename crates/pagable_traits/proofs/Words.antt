@@ -10,7 +10,7 @@ pub use Rattle.pagable_model.specs.{Reading.deepest, Shape.{Shape, signed, text,
 pub use Rattle.pagable_model.specs.{Standing.handles_at, Steps.◌>>=◌, Writing.{Out, Nesting, FormAt, WritesSome, Refused, Grows, FormsAt, kind_of_arc, added, WritesSomeAll, NoForm, NoForms}}
 pub use Rattle.pagable_model.specs.{Writing.{NoFormOfSome, NoFormsOfSome, RefusedAll, nesting}, declared.error.Error.Error, declared.numbers.ArcRef.ArcRef}
 pub use Rattle.pagable_traits.specs.{JsonSteps.{nested_in, context_in, Reads, Piece, bytes, Wrote, all}, JsonData.{of_data, of_value, of_key}, Walks.{WritesEach, WritesCounted, RefusedAmong}}
-pub use Rattle.pagable_traits.specs.Walks.{RefusedCounted}
+pub use Rattle.pagable_traits.specs.{Walks.RefusedCounted, Meanings.{Meanings, pairs, some}}
 pub use Rattle.serde_json.specs.{Find.as_i64, View.{view, number_view}, declared.value.Value.Value}
 pub use Rattle.std.proofs.Common.{◌≡◌, Bool, true, false, List, [], ◌∷◌, refl, sym, ap, subst, ◌∙◌, is_some, arith, ℕ, ◌++◌, Result, Ok, Err, inl, inr, Option, Some, None, length, append_assoc, zero}
 pub use Rattle.std.proofs.{Common.{suc, Vec, ◌≤◌, map, IsPermutation, ◌+◌, ◌-◌, ◌<◌, take, get_or, String, Global, ◌^◌, rules, ◌*◌}, lemmas.Int.to_z-of_z, lemmas.List.{append-nil, length-map}}

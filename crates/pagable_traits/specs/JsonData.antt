@@ -1,8 +1,8 @@
 -- What the JSON values of `serde_json` are in the words of the definitions, and how their parts are read.
 use Rattle.std.specs.{Prelude.{◌≡◌, ◌<◌, ◌⊎◌, ℕ, ◌-◌, pos, String}, String.string_bytes, declared.alloc.Global.Global}
 use Rattle.serde_json.specs.{Data.{Num, Data}, View.view, declared.value.Value.Value}
-use Rattle.pagable_model.specs.{Reading.{Gets, JsonCase, json_part, below, deepest}, declared.error.Error.Error, declared.numbers.ArcRef.ArcRef, Basic.longest, Canonical.{IsCanonical, LiesIn}}
-use Rattle.pagable_model.specs.{Gives.memory, Json.{Json, of_json}, Keyed.throughout-alone, Meaning.Meaning, OneForm.HasOneFormThroughout, Shape.{Shape, json}, Standing.{Answer, answer_at}}
+use Rattle.pagable_model.specs.{Reading.{Gets, JsonCase, json_part, below, deepest}, declared.error.Error.Error, declared.numbers.ArcRef.ArcRef, Basic.longest}
+use Rattle.pagable_model.specs.{Gives.memory, Json.{Json, of_json}, Meaning.Meaning, Shape.Shape, Standing.{Answer, answer_at}}
 use Rattle.serde_json.specs.Data as kit
 use Rattle.pagable_model.specs.declared.error.Error.TheVariants as errors
 use Rattle.pagable_model.specs.Json as own
@@ -49,8 +49,3 @@ part_at levels parts case = json_part (below answer_at parts (deepest - levels))
 -- TooLong only where the length is above the greatest, and else want of memory, which the case may meet before the length
 abbrev pub long_or_no_memory : ℕ → Error → Type 0
 long_or_no_memory len e = ((longest < len) × (e ≡ errors.TooLong)) ⊎ memory e
-
--- no meaning of a JSON value has two forms
-pub json_has_one_form : (parts : ℕ → Shape) → HasOneFormThroughout parts json
-unfolding IsCanonical LiesIn
-json_has_one_form parts = throughout-alone IsCanonical parts json tt (λ those. tt)

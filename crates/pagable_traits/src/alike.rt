@@ -1,6 +1,7 @@
 //! Values that are carried as those of another type: lent and boxed values as they are, and tuples as pairs.
 
 ghost use Rattle.std.specs.Prelude.{◌≡◌};
+ghost use Rattle.pagable_traits.specs.Meanings.{seen_by};
 
 use crate::one_form::Canonical;
 use crate::read_back::ReadBack;
@@ -27,16 +28,10 @@ pub trait ReadAs: CarriedAs + Sized {
 impl<E: Env, O: Carried<E>, X: CarriedAs<Other = O>> Carried<E> for X {
     ghost shape = { λ e. O.shape e };
 
-    ghost means = { λ x. O.means (X.other x) };
-
-    ghost has_meaning = { λ x. O.has_meaning (X.other x) };
+    ghost means = { seen_by X.other O.means };
 }
 
 impl<E: Env, O: OneMeaning<E>, X: CarriedAs<Other = O>> OneMeaning<E> for X {
-    ghost meaning = { λ x. O.meaning (X.other x) };
-
-    ghost is_meaning = { λ x. O.is_meaning (X.other x) };
-
     ghost single = { λ x. O.single (X.other x) };
 }
 
@@ -51,8 +46,6 @@ impl<E: Env, O: ReadBack<E>, X: CarriedAs<Other = O>> ReadBack<E> for X {
 impl<'de, E: Env, O: PagableDeserialize<'de, E>, X: ReadAs<Other = O>> PagableDeserialize<'de, E>
     for X {
     ghost read_causes = { O.read_causes };
-
-    ghost read_causes_are_own = { O.read_causes_are_own };
 
     fn pagable_deserialize<D: PagableDeserializer<E>>(
         alloc: Global,

@@ -1,9 +1,9 @@
 //! Values without references that are written and read eagerly: a caller's own types, beside the way that the same
 //! values are carried.
 
-ghost use Rattle.std.specs.Prelude.{◌≡◌, true, OnOk, IfErr};
-ghost use Rattle.pagable_model.specs.{Reading.read, Refusals.{is_own_reading, may_refuse_writing}, Shape.Shape, Meaning.Meaning, Standing.{handles_at, MovesOn, GivesSome, SomeMeaning}};
-ghost use Rattle.pagable_model.specs.{Writing.{nesting, WritesSome, Refused, Grows}, declared.error.Error.Error as Refusal, declared.numbers.ArcRef.ArcRef as Reference};
+ghost use Rattle.std.specs.Prelude.{◌≡◌, OnOk, IfErr};
+ghost use Rattle.pagable_model.specs.{Reading.read, Shape.Shape, Standing.{handles_at, MovesOn, GivesSome}, Writing.{nesting, WritesSome, Refused, Grows}};
+ghost use Rattle.pagable_traits.specs.{Meanings.{Meanings}, OwnCauses.{ReadCauses, WriteCauses}};
 
 use pagable_codec::{Env, PagableDeserializer, PagableSerializer};
 use pagable_flavors::Error;
@@ -14,15 +14,13 @@ pub trait EagerlyCarried<E: Env> {
     ghost eager_shape: { E → Shape };
 
     // What a value may mean.
-    ghost eager_means: { Self → Meaning Reference → Type 0 };
-
-    ghost has_eager_meaning: { (x : Self) → SomeMeaning (eager_means x) };
+    ghost eager_means: { Meanings Self };
 }
 
 /// A type whose values can be written eagerly.
 pub trait PagableEagerSerialize<E: Env>: EagerlyCarried<E> {
     // All refusals of a writing, those among them that say that a value has no form.
-    ghost eager_write_causes: { Refusal → Type 0 };
+    ghost eager_write_causes: { WriteCauses };
 
     /// Appends a form of the value, which has no reference. Refusals are those of `PagableSerialize`; what stood before
     /// still stands, and as many levels are entered as before.
@@ -30,21 +28,19 @@ pub trait PagableEagerSerialize<E: Env>: EagerlyCarried<E> {
         &self,
         serializer: &mut S,
     ) -> Result<(), Error>
-        ensures ok { OnOk result (WritesSome (Self.eager_means self.now) (nesting (S.levels serializer.old) (E.parts (S.environment serializer.old))) (Self.eager_shape (S.environment serializer.old)) (S.out serializer.old) (S.out serializer.new)) }
+        ensures ok { OnOk result (WritesSome (Self.eager_means.of self.now) (nesting (S.levels serializer.old) (E.parts (S.environment serializer.old))) (Self.eager_shape (S.environment serializer.old)) (S.out serializer.old) (S.out serializer.new)) }
         ensures no_references { (S.out serializer.new).refs ≡ (S.out serializer.old).refs }
-        ensures refused { IfErr result (Refused (Self.eager_means self.now) (nesting (S.levels serializer.old) (E.parts (S.environment serializer.old))) (Self.eager_shape (S.environment serializer.old))) }
-        ensures only { IfErr result eager_write_causes }
+        ensures refused { IfErr result (Refused (Self.eager_means.of self.now) (nesting (S.levels serializer.old) (E.parts (S.environment serializer.old))) (Self.eager_shape (S.environment serializer.old))) }
+        ensures only { IfErr result eager_write_causes.are }
         ensures err { Grows (S.out serializer.old) (S.out serializer.new) }
         ensures same_env { S.environment serializer.new ≡ S.environment serializer.old }
         ensures same_levels { S.levels serializer.new ≡ S.levels serializer.old };
-
-    ghost eager_write_causes_may_refuse: { (e : Refusal) → eager_write_causes e → may_refuse_writing e ≡ true };
 }
 
 /// A type whose values can be read eagerly.
 pub trait PagableEagerDeserialize<'de, E: Env>: EagerlyCarried<E> + Sized {
     // The refusals of a reading beside the faults of the input.
-    ghost eager_read_causes: { Refusal → Type 0 };
+    ghost eager_read_causes: { ReadCauses };
 
     /// Reads the value at the front of what is left, and leaves the rest, all references among it. Refusals are those of
     /// `PagableDeserialize`.
@@ -52,12 +48,10 @@ pub trait PagableEagerDeserialize<'de, E: Env>: EagerlyCarried<E> + Sized {
         alloc: Global,
         deserializer: &mut D,
     ) -> Result<Self, Error>
-        ensures gives { GivesSome eager_read_causes Self.eager_means (D.rest deserializer.new) result
+        ensures gives { GivesSome eager_read_causes.are Self.eager_means.of (D.rest deserializer.new) result
             (read (handles_at (D.levels deserializer.old) (E.parts (D.environment deserializer.old))) (Self.eager_shape (D.environment deserializer.old)) (D.rest deserializer.old)) }
         ensures no_references { (D.rest deserializer.new).refs ≡ (D.rest deserializer.old).refs }
         ensures moves { MovesOn (D.standing deserializer.old) (D.standing deserializer.new) }
         ensures same_env { D.environment deserializer.new ≡ D.environment deserializer.old }
         ensures same_levels { D.levels deserializer.new ≡ D.levels deserializer.old };
-
-    ghost eager_read_causes_are_own: { (e : Refusal) → eager_read_causes e → is_own_reading e ≡ true };
 }

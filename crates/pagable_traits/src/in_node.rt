@@ -22,12 +22,12 @@ where
 
     ghost shape_is: { (e : E) → E.Node.shape_of e Self.OfNode.TYPE ≡ Some (Self.Carried.shape e) };
 
-    ghost same_meaning: { (n : E.Node) (v : Self) (m : Meaning Reference) → Self.OfNode.held n ≡ Some v → E.Node.means n m → Self.Carried.means v m };
+    ghost same_meaning: { (n : E.Node) (v : Self) (m : Meaning Reference) → Self.OfNode.held n ≡ Some v → E.Node.means n m → Self.Carried.means.of v m };
 
     // A node of this type is refused by the type's own causes, and when it is read, for want of memory for its place.
-    ghost writes_as: { (e : Refusal) → E.Node.write_causes Self.OfNode.TYPE e → Self.PagableSerialize.write_causes e };
+    ghost writes_as: { (e : Refusal) → E.Node.write_causes Self.OfNode.TYPE e → Self.PagableSerialize.write_causes.are e };
 
-    ghost reads_as: { (e : Refusal) → E.Node.read_causes Self.OfNode.TYPE e → memory_or Self.PagableDeserialize.read_causes e };
+    ghost reads_as: { (e : Refusal) → E.Node.read_causes Self.OfNode.TYPE e → memory_or Self.PagableDeserialize.read_causes.are e };
 
-    ghost meaning_back: { (n : E.Node) (v : Self) (m : Meaning Reference) → Self.OfNode.held n ≡ Some v → Self.Carried.means v m → E.Node.means n m };
+    ghost meaning_back: { (n : E.Node) (v : Self) (m : Meaning Reference) → Self.OfNode.held n ≡ Some v → Self.Carried.means.of v m → E.Node.means n m };
 }

@@ -15,7 +15,7 @@ use pagable_codec::env::Env;
 /// no value refers to anything. Equal values hash alike by the law of `Hash`. So a map has one form, whatever values
 /// it was made of.
 pub trait PagableKey<E: Env>: OneMeaning<E> + Eq {
-    ghost same: { (x y : Self) → Self.eq x y ≡ same_key (Self.meaning x) (Self.meaning y) };
+    ghost same: { (x y : Self) → Self.eq x y ≡ same_key (Self.means.meaning x) (Self.means.meaning y) };
 
     ghost refers_to_nothing: { (e : E) → RefersToNothing (E.parts e) (Self.shape e) };
 }
@@ -25,5 +25,5 @@ pub trait PagableOrdKey<E: Env>: PagableKey<E> + Ord {
     // The order of the meanings, which the shape of a sorted map names.
     ghost order: { KeyOrder };
 
-    ghost is_order: { (x y : Self) → Self.cmp x y ≡ ordered order (Self.meaning x) (Self.meaning y) };
+    ghost is_order: { (x y : Self) → Self.cmp x y ≡ ordered order (Self.means.meaning x) (Self.means.meaning y) };
 }

@@ -20,7 +20,7 @@ use std::time::Duration;
 
 /// A value that is read into a box is refused as it is, or by want of memory.
 pub fn box_is_read<E: Env, T: PagableDeserialize<'static, E> + Drop>()
-    ensures reads { (e : Refusal) → ⟦<T as PagableBoxDeserialize<'static, E>>⟧.box_causes e ↔ memory_or T.read_causes e }
+    ensures reads { (e : Refusal) → ⟦<T as PagableBoxDeserialize<'static, E>>⟧.box_causes.are e ↔ memory_or T.read_causes.are e }
 {}
 
 /// A `HashMap` means its entries whatever their order: a map with the same entries in another order means the same.
@@ -29,13 +29,13 @@ pub fn hash_map_is_carried<
     K: PagableKey<E> + Hash + PagableSerialize<E> + PagableDeserialize<'static, E> + Drop,
     V: PagableSerialize<E> + PagableDeserialize<'static, E> + Drop,
 >()
-    ensures means { (x : _) (m : Meaning Reference) → ⟦<HashMap<K, V> as Carried<E>>⟧.means x m ↔ MeansHashMap K.Carried.means V.Carried.means x.entries m }
-    ensures any_order { (x y : _) (m : Meaning Reference) → IsUnique K.eq x → IsPermutation x.entries y.entries → ⟦<HashMap<K, V> as Carried<E>>⟧.means x m → ⟦<HashMap<K, V> as Carried<E>>⟧.means y m }
+    ensures means { (x : _) (m : Meaning Reference) → ⟦<HashMap<K, V> as Carried<E>>⟧.means.of x m ↔ MeansHashMap K.Carried.means.of V.Carried.means.of x.entries m }
+    ensures any_order { (x y : _) (m : Meaning Reference) → IsUnique K.eq x → IsPermutation x.entries y.entries → ⟦<HashMap<K, V> as Carried<E>>⟧.means.of x m → ⟦<HashMap<K, V> as Carried<E>>⟧.means.of y m }
 {}
 
 /// A `Duration` means its whole seconds and the nanoseconds beside them.
 pub fn duration_is_carried<E: Env>()
-    ensures means { (d : Span) (m : Meaning Reference) → ⟦<Duration as Carried<E>>⟧.means d m ↔ (m ≡ of_duration (as_nanos d / 1000000000) (as_nanos d % 1000000000)) }
+    ensures means { (d : Span) (m : Meaning Reference) → ⟦<Duration as Carried<E>>⟧.means.of d m ↔ (m ≡ of_duration (as_nanos d / 1000000000) (as_nanos d % 1000000000)) }
 {}
 
 /// None stands before some, and a success before a failure; what is held decides else. A `Box` and a lent key stand as

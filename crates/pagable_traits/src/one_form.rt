@@ -1,10 +1,7 @@
 //! The types whose content addresses are keys: a value has one meaning, and a meaning one form.
 
-ghost use Rattle.std.specs.Int.{w8, w16, w32, w64, w128};
-ghost use Rattle.pagable_model.specs.OneForm.{HasOneFormThroughout, nothing_has_one_form, unsigned_has_one_form, signed_has_one_form, flag_has_one_form, text_has_one_form, letter_has_one_form};
-ghost use Rattle.pagable_model.specs.OneForm.{optional_has_one_form, list_has_one_form, both_has_one_form, sorted_map_has_one_form, placed_map_has_one_form, sorted_set_has_one_form};
-ghost use Rattle.pagable_model.specs.{OneForm.{placed_set_has_one_form, run_has_one_form, duration_has_one_form, outcome_has_one_form, array_has_one_form}, Shape.list};
-ghost use Rattle.pagable_traits.specs.JsonData.{json_has_one_form};
+ghost use Rattle.std.specs.Prelude.{refl};
+ghost use Rattle.pagable_model.specs.OneForm.{HasOneFormThroughout, basic_has_one_form, over_has_one_form, run_has_one_form, two_has_one_form};
 
 use crate::impls::paths::PathText;
 use crate::impls::thin::Thin;
@@ -27,126 +24,126 @@ pub trait Canonical<E: Env>: OneMeaning<E> {
 }
 
 impl<E: Env> Canonical<E> for () {
-    ghost one_form = { λ e. nothing_has_one_form (E.parts e) };
+    ghost one_form = { λ e. basic_has_one_form tt };
 }
 
 impl<E: Env> Canonical<E> for bool {
-    ghost one_form = { λ e. flag_has_one_form (E.parts e) };
+    ghost one_form = { λ e. basic_has_one_form tt };
 }
 
 impl<E: Env> Canonical<E> for char {
-    ghost one_form = { λ e. letter_has_one_form (E.parts e) };
+    ghost one_form = { λ e. basic_has_one_form tt };
 }
 
 impl<E: Env> Canonical<E> for u8 {
-    ghost one_form = { λ e. unsigned_has_one_form (E.parts e) w8 };
+    ghost one_form = { λ e. basic_has_one_form tt };
 }
 
 impl<E: Env> Canonical<E> for u16 {
-    ghost one_form = { λ e. unsigned_has_one_form (E.parts e) w16 };
+    ghost one_form = { λ e. basic_has_one_form tt };
 }
 
 impl<E: Env> Canonical<E> for u32 {
-    ghost one_form = { λ e. unsigned_has_one_form (E.parts e) w32 };
+    ghost one_form = { λ e. basic_has_one_form tt };
 }
 
 impl<E: Env> Canonical<E> for u64 {
-    ghost one_form = { λ e. unsigned_has_one_form (E.parts e) w64 };
+    ghost one_form = { λ e. basic_has_one_form tt };
 }
 
 impl<E: Env> Canonical<E> for u128 {
-    ghost one_form = { λ e. unsigned_has_one_form (E.parts e) w128 };
+    ghost one_form = { λ e. basic_has_one_form tt };
 }
 
 impl<E: Env> Canonical<E> for i8 {
-    ghost one_form = { λ e. signed_has_one_form (E.parts e) w8 };
+    ghost one_form = { λ e. basic_has_one_form tt };
 }
 
 impl<E: Env> Canonical<E> for i16 {
-    ghost one_form = { λ e. signed_has_one_form (E.parts e) w16 };
+    ghost one_form = { λ e. basic_has_one_form tt };
 }
 
 impl<E: Env> Canonical<E> for i32 {
-    ghost one_form = { λ e. signed_has_one_form (E.parts e) w32 };
+    ghost one_form = { λ e. basic_has_one_form tt };
 }
 
 impl<E: Env> Canonical<E> for i64 {
-    ghost one_form = { λ e. signed_has_one_form (E.parts e) w64 };
+    ghost one_form = { λ e. basic_has_one_form tt };
 }
 
 impl<E: Env> Canonical<E> for i128 {
-    ghost one_form = { λ e. signed_has_one_form (E.parts e) w128 };
+    ghost one_form = { λ e. basic_has_one_form tt };
 }
 
 impl<E: Env> Canonical<E> for String {
-    ghost one_form = { λ e. text_has_one_form (E.parts e) };
+    ghost one_form = { λ e. basic_has_one_form tt };
 }
 
 impl<E: Env, T: Canonical<E>> Canonical<E> for Option<T> {
-    ghost one_form = { λ e. optional_has_one_form (E.parts e) (T.Carried.shape e) (T.one_form e) };
+    ghost one_form = { λ e. over_has_one_form refl (T.one_form e) };
 }
 
 impl<E: Env, A: Canonical<E>, B: Canonical<E>> Canonical<E> for (A, B) {
-    ghost one_form = { λ e. both_has_one_form (E.parts e) (A.Carried.shape e) (B.Carried.shape e) (A.one_form e) (B.one_form e) };
+    ghost one_form = { λ e. two_has_one_form (refl, refl) (A.one_form e) (B.one_form e) };
 }
 
 impl<E: Env, T: Canonical<E>> Canonical<E> for Vec<T> {
-    ghost one_form = { λ e. list_has_one_form (E.parts e) (T.Carried.shape e) (T.one_form e) };
+    ghost one_form = { λ e. over_has_one_form refl (T.one_form e) };
 }
 
 impl<E: Env, T: Canonical<E>, const N: usize> Canonical<E> for SmallVec<T, N> {
-    ghost one_form = { λ e. list_has_one_form (E.parts e) (T.Carried.shape e) (T.one_form e) };
+    ghost one_form = { λ e. over_has_one_form refl (T.one_form e) };
 }
 
 impl<'a, E: Env, T: Canonical<E>> Canonical<E> for &'a [T] {
-    ghost one_form = { λ e. run_has_one_form (E.parts e) (T.Carried.shape e) (T.one_form e) };
+    ghost one_form = { λ e. run_has_one_form (T.one_form e) };
 }
 
 impl<E: Env, K: PagableOrdKey<E> + Canonical<E>, V: Canonical<E>> Canonical<E> for BTreeMap<K, V> {
-    ghost one_form = { λ e. sorted_map_has_one_form (E.parts e) K.order (K.Carried.shape e) (V.Carried.shape e) (K.one_form e) (V.one_form e) };
+    ghost one_form = { λ e. two_has_one_form (refl, refl) (K.one_form e) (V.one_form e) };
 }
 
 impl<E: Env, K: PagableKey<E> + Hash + Canonical<E>, V: Canonical<E>> Canonical<E>
     for IndexMap<K, V> {
-    ghost one_form = { λ e. placed_map_has_one_form (E.parts e) (K.Carried.shape e) (V.Carried.shape e) (K.one_form e) (V.one_form e) };
+    ghost one_form = { λ e. two_has_one_form (refl, refl) (K.one_form e) (V.one_form e) };
 }
 
 impl<E: Env, T: PagableOrdKey<E> + Canonical<E>> Canonical<E> for BTreeSet<T> {
-    ghost one_form = { λ e. sorted_set_has_one_form (E.parts e) T.order (T.Carried.shape e) (T.one_form e) };
+    ghost one_form = { λ e. over_has_one_form refl (T.one_form e) };
 }
 
 impl<E: Env, T: PagableKey<E> + Hash + Canonical<E>> Canonical<E> for IndexSet<T> {
-    ghost one_form = { λ e. placed_set_has_one_form (E.parts e) (T.Carried.shape e) (T.one_form e) };
+    ghost one_form = { λ e. over_has_one_form refl (T.one_form e) };
 }
 
 impl<E: Env> Canonical<E> for Duration {
-    ghost one_form = { λ e. duration_has_one_form (E.parts e) };
+    ghost one_form = { λ e. basic_has_one_form tt };
 }
 
 impl<E: Env, T: Canonical<E>, X: Canonical<E>> Canonical<E> for Result<T, X> {
-    ghost one_form = { λ e. outcome_has_one_form (E.parts e) (T.Carried.shape e) (X.Carried.shape e) (T.one_form e) (X.one_form e) };
+    ghost one_form = { λ e. two_has_one_form (refl, refl) (T.one_form e) (X.one_form e) };
 }
 
 impl<E: Env, T: Canonical<E>, const N: usize> Canonical<E> for [T; N] {
-    ghost one_form = { λ e. array_has_one_form (E.parts e) N (T.Carried.shape e) (T.one_form e) };
+    ghost one_form = { λ e. over_has_one_form refl (T.one_form e) };
 }
 
 impl<E: Env> Canonical<E> for Value {
-    ghost one_form = { λ e. json_has_one_form (E.parts e) };
+    ghost one_form = { λ e. basic_has_one_form tt };
 }
 
 impl<E: Env, T: Canonical<E>> Canonical<E> for BoxedSlice<T> {
-    ghost one_form = { λ e. list_has_one_form (E.parts e) (T.Carried.shape e) (T.one_form e) };
+    ghost one_form = { λ e. over_has_one_form refl (T.one_form e) };
 }
 
 impl<E: Env> Canonical<E> for BoxedStr {
-    ghost one_form = { λ e. text_has_one_form (E.parts e) };
+    ghost one_form = { λ e. basic_has_one_form tt };
 }
 
 impl<E: Env> Canonical<E> for PathText {
-    ghost one_form = { λ e. text_has_one_form (E.parts e) };
+    ghost one_form = { λ e. basic_has_one_form tt };
 }
 
 impl<E: Env, H: Canonical<E>, T: Canonical<E>> Canonical<E> for Thin<H, T> {
-    ghost one_form = { λ e. both_has_one_form (E.parts e) (H.Carried.shape e) (list (T.Carried.shape e)) (H.one_form e) (list_has_one_form (E.parts e) (T.Carried.shape e) (T.one_form e)) };
+    ghost one_form = { λ e. two_has_one_form (refl, refl) (H.one_form e) (over_has_one_form refl (T.one_form e)) };
 }

@@ -1,10 +1,7 @@
 //! The types whose forms are read again.
 
-ghost use Rattle.std.specs.Int.{w8, w16, w32, w64, w128};
-ghost use Rattle.pagable_model.specs.Shape.{list};
-ghost use Rattle.pagable_traits.specs.ReadBack.{IsReadThroughout, nothing_is_read, unsigned_is_read, signed_is_read, flag_is_read, text_is_read, letter_is_read, duration_is_read, json_is_read};
-ghost use Rattle.pagable_traits.specs.ReadBack.{optional_is_read, outcome_is_read, list_is_read, array_is_read, both_is_read, sorted_map_is_read, placed_map_is_read, hash_map_is_read};
-ghost use Rattle.pagable_traits.specs.ReadBack.{sorted_set_is_read, placed_set_is_read};
+ghost use Rattle.std.specs.Prelude.{refl};
+ghost use Rattle.pagable_traits.specs.ReadBack.{IsReadThroughout, basic_is_read, hash_map_is_read, over_is_read, two_is_read};
 
 use crate::impls::paths::PathText;
 use crate::impls::thin::Thin;
@@ -29,133 +26,133 @@ pub trait ReadBack<E: Env>: Carried<E> {
 }
 
 impl<E: Env> ReadBack<E> for () {
-    ghost is_read = { λ e. nothing_is_read (E.parts e) };
+    ghost is_read = { λ e. basic_is_read tt };
 }
 
 impl<E: Env> ReadBack<E> for bool {
-    ghost is_read = { λ e. flag_is_read (E.parts e) };
+    ghost is_read = { λ e. basic_is_read tt };
 }
 
 impl<E: Env> ReadBack<E> for char {
-    ghost is_read = { λ e. letter_is_read (E.parts e) };
+    ghost is_read = { λ e. basic_is_read tt };
 }
 
 impl<E: Env> ReadBack<E> for u8 {
-    ghost is_read = { λ e. unsigned_is_read (E.parts e) w8 };
+    ghost is_read = { λ e. basic_is_read tt };
 }
 
 impl<E: Env> ReadBack<E> for u16 {
-    ghost is_read = { λ e. unsigned_is_read (E.parts e) w16 };
+    ghost is_read = { λ e. basic_is_read tt };
 }
 
 impl<E: Env> ReadBack<E> for u32 {
-    ghost is_read = { λ e. unsigned_is_read (E.parts e) w32 };
+    ghost is_read = { λ e. basic_is_read tt };
 }
 
 impl<E: Env> ReadBack<E> for u64 {
-    ghost is_read = { λ e. unsigned_is_read (E.parts e) w64 };
+    ghost is_read = { λ e. basic_is_read tt };
 }
 
 impl<E: Env> ReadBack<E> for u128 {
-    ghost is_read = { λ e. unsigned_is_read (E.parts e) w128 };
+    ghost is_read = { λ e. basic_is_read tt };
 }
 
 impl<E: Env> ReadBack<E> for i8 {
-    ghost is_read = { λ e. signed_is_read (E.parts e) w8 };
+    ghost is_read = { λ e. basic_is_read tt };
 }
 
 impl<E: Env> ReadBack<E> for i16 {
-    ghost is_read = { λ e. signed_is_read (E.parts e) w16 };
+    ghost is_read = { λ e. basic_is_read tt };
 }
 
 impl<E: Env> ReadBack<E> for i32 {
-    ghost is_read = { λ e. signed_is_read (E.parts e) w32 };
+    ghost is_read = { λ e. basic_is_read tt };
 }
 
 impl<E: Env> ReadBack<E> for i64 {
-    ghost is_read = { λ e. signed_is_read (E.parts e) w64 };
+    ghost is_read = { λ e. basic_is_read tt };
 }
 
 impl<E: Env> ReadBack<E> for i128 {
-    ghost is_read = { λ e. signed_is_read (E.parts e) w128 };
+    ghost is_read = { λ e. basic_is_read tt };
 }
 
 impl<E: Env> ReadBack<E> for AtomicI64 {
-    ghost is_read = { λ e. signed_is_read (E.parts e) w64 };
+    ghost is_read = { λ e. basic_is_read tt };
 }
 
 impl<E: Env> ReadBack<E> for String {
-    ghost is_read = { λ e. text_is_read (E.parts e) };
+    ghost is_read = { λ e. basic_is_read tt };
 }
 
 impl<E: Env> ReadBack<E> for Duration {
-    ghost is_read = { λ e. duration_is_read (E.parts e) };
+    ghost is_read = { λ e. basic_is_read tt };
 }
 
 impl<E: Env> ReadBack<E> for Value {
-    ghost is_read = { λ e. json_is_read (E.parts e) };
+    ghost is_read = { λ e. basic_is_read tt };
 }
 
 impl<E: Env, T: ReadBack<E>> ReadBack<E> for Option<T> {
-    ghost is_read = { λ e. optional_is_read (E.parts e) (T.Carried.shape e) (T.is_read e) };
+    ghost is_read = { λ e. over_is_read refl (T.is_read e) };
 }
 
 impl<E: Env, T: ReadBack<E>> ReadBack<E> for OnceLock<T> {
-    ghost is_read = { λ e. optional_is_read (E.parts e) (T.Carried.shape e) (T.is_read e) };
+    ghost is_read = { λ e. over_is_read refl (T.is_read e) };
 }
 
 impl<E: Env, T: ReadBack<E>> ReadBack<E> for Vec<T> {
-    ghost is_read = { λ e. list_is_read (E.parts e) (T.Carried.shape e) (T.is_read e) };
+    ghost is_read = { λ e. over_is_read refl (T.is_read e) };
 }
 
 impl<E: Env, T: ReadBack<E>, const N: usize> ReadBack<E> for SmallVec<T, N> {
-    ghost is_read = { λ e. list_is_read (E.parts e) (T.Carried.shape e) (T.is_read e) };
+    ghost is_read = { λ e. over_is_read refl (T.is_read e) };
 }
 
 impl<E: Env, T: ReadBack<E>, const N: usize> ReadBack<E> for [T; N] {
-    ghost is_read = { λ e. array_is_read (E.parts e) N (T.Carried.shape e) (T.is_read e) };
+    ghost is_read = { λ e. over_is_read refl (T.is_read e) };
 }
 
 impl<E: Env, T: PagableOrdKey<E> + ReadBack<E>> ReadBack<E> for BTreeSet<T> {
-    ghost is_read = { λ e. sorted_set_is_read (E.parts e) T.order (T.Carried.shape e) (T.is_read e) };
+    ghost is_read = { λ e. over_is_read refl (T.is_read e) };
 }
 
 impl<E: Env, T: PagableKey<E> + Hash + ReadBack<E>> ReadBack<E> for IndexSet<T> {
-    ghost is_read = { λ e. placed_set_is_read (E.parts e) (T.Carried.shape e) (T.is_read e) };
+    ghost is_read = { λ e. over_is_read refl (T.is_read e) };
 }
 
 impl<E: Env, T: ReadBack<E>, X: ReadBack<E>> ReadBack<E> for Result<T, X> {
-    ghost is_read = { λ e. outcome_is_read (E.parts e) (T.Carried.shape e) (X.Carried.shape e) (T.is_read e) (X.is_read e) };
+    ghost is_read = { λ e. two_is_read (refl, refl) (T.is_read e) (X.is_read e) };
 }
 
 impl<E: Env, K: PagableOrdKey<E> + ReadBack<E>, V: ReadBack<E>> ReadBack<E> for BTreeMap<K, V> {
-    ghost is_read = { λ e. sorted_map_is_read (E.parts e) K.order (K.Carried.shape e) (V.Carried.shape e) (K.is_read e) (V.is_read e) };
+    ghost is_read = { λ e. two_is_read (refl, refl) (K.is_read e) (V.is_read e) };
 }
 
 impl<E: Env, K: PagableKey<E> + Hash + ReadBack<E>, V: ReadBack<E>> ReadBack<E> for IndexMap<K, V> {
-    ghost is_read = { λ e. placed_map_is_read (E.parts e) (K.Carried.shape e) (V.Carried.shape e) (K.is_read e) (V.is_read e) };
+    ghost is_read = { λ e. two_is_read (refl, refl) (K.is_read e) (V.is_read e) };
 }
 
 impl<E: Env, K: PagableKey<E> + Hash + ReadBack<E>, V: ReadBack<E>> ReadBack<E> for HashMap<K, V> {
-    ghost is_read = { λ e. hash_map_is_read (E.parts e) (K.Carried.shape e) (V.Carried.shape e) (K.is_read e) (V.is_read e) };
+    ghost is_read = { λ e. hash_map_is_read (K.is_read e) (V.is_read e) };
 }
 
 impl<E: Env, A: ReadBack<E>, B: ReadBack<E>> ReadBack<E> for (A, B) {
-    ghost is_read = { λ e. both_is_read (E.parts e) (A.Carried.shape e) (B.Carried.shape e) (A.is_read e) (B.is_read e) };
+    ghost is_read = { λ e. two_is_read (refl, refl) (A.is_read e) (B.is_read e) };
 }
 
 impl<E: Env> ReadBack<E> for BoxedStr {
-    ghost is_read = { λ e. text_is_read (E.parts e) };
-}
-
-impl<E: Env> ReadBack<E> for PathText {
-    ghost is_read = { λ e. text_is_read (E.parts e) };
+    ghost is_read = { λ e. basic_is_read tt };
 }
 
 impl<E: Env, T: ReadBack<E>> ReadBack<E> for BoxedSlice<T> {
-    ghost is_read = { λ e. list_is_read (E.parts e) (T.Carried.shape e) (T.is_read e) };
+    ghost is_read = { λ e. over_is_read refl (T.is_read e) };
+}
+
+impl<E: Env> ReadBack<E> for PathText {
+    ghost is_read = { λ e. basic_is_read tt };
 }
 
 impl<E: Env, H: ReadBack<E>, T: ReadBack<E>> ReadBack<E> for Thin<H, T> {
-    ghost is_read = { λ e. both_is_read (E.parts e) (H.Carried.shape e) (list (T.Carried.shape e)) (H.is_read e) (list_is_read (E.parts e) (T.Carried.shape e) (T.is_read e)) };
+    ghost is_read = { λ e. two_is_read (refl, refl) (H.is_read e) (over_is_read refl (T.is_read e)) };
 }

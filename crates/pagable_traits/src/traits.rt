@@ -1,8 +1,8 @@
 //! The types that can be written and read.
 
-ghost use Rattle.std.specs.Prelude.{◌≡◌, true, OnOk, IfErr};
-ghost use Rattle.pagable_model.specs.{Refusals.{is_own_reading, may_refuse_writing}, Shape.Shape, Meaning.Meaning, Writing.{nesting, WritesSome, Refused, Grows}, Reading.read, Standing.handles_at};
-ghost use Rattle.pagable_model.specs.{Standing.{MovesOn, GivesSome, SomeMeaning}, declared.numbers.ArcRef.ArcRef as Reference, declared.error.Error.Error as Refusal};
+ghost use Rattle.std.specs.Prelude.{◌≡◌, OnOk, IfErr};
+ghost use Rattle.pagable_model.specs.{Shape.Shape, Writing.{nesting, WritesSome, Refused, Grows}, Reading.read, Standing.{handles_at, MovesOn, GivesSome}};
+ghost use Rattle.pagable_traits.specs.{Meanings.{Meanings, AreSingle}, OwnCauses.{ReadCauses, WriteCauses}};
 
 use pagable_codec::{Env, PagableDeserializer, PagableSerializer};
 use pagable_flavors::Error;
@@ -13,34 +13,30 @@ pub trait Carried<E: Env> {
     ghost shape: { E → Shape };
 
     // What a value may mean: one meaning, or more where its content isn't known.
-    ghost means: { Self → Meaning Reference → Type 0 };
-
-    ghost has_meaning: { (x : Self) → SomeMeaning (means x) };
+    ghost means: { Meanings Self };
 }
 
 /// A type whose values can be written.
 pub trait PagableSerialize<E: Env>: Carried<E> {
     // All refusals of a writing, those among them that say that a value has no form.
-    ghost write_causes: { Refusal → Type 0 };
+    ghost write_causes: { WriteCauses };
 
     /// Appends a form of the value, and its references in their order. It is refused by a cause of the type's alone, and
     /// with TooLong, TooDeep or JsonNumber only where the value has no form; then what stood before still stands, and as
     /// many levels are entered as before.
     fn pagable_serialize<S: PagableSerializer<E>>(&self, serializer: &mut S) -> Result<(), Error>
-        ensures ok { OnOk result (WritesSome (Self.means self.now) (nesting (S.levels serializer.old) (E.parts (S.environment serializer.old))) (Self.shape (S.environment serializer.old)) (S.out serializer.old) (S.out serializer.new)) }
-        ensures refused { IfErr result (Refused (Self.means self.now) (nesting (S.levels serializer.old) (E.parts (S.environment serializer.old))) (Self.shape (S.environment serializer.old))) }
-        ensures only { IfErr result write_causes }
+        ensures ok { OnOk result (WritesSome (Self.means.of self.now) (nesting (S.levels serializer.old) (E.parts (S.environment serializer.old))) (Self.shape (S.environment serializer.old)) (S.out serializer.old) (S.out serializer.new)) }
+        ensures refused { IfErr result (Refused (Self.means.of self.now) (nesting (S.levels serializer.old) (E.parts (S.environment serializer.old))) (Self.shape (S.environment serializer.old))) }
+        ensures only { IfErr result write_causes.are }
         ensures err { Grows (S.out serializer.old) (S.out serializer.new) }
         ensures same_env { S.environment serializer.new ≡ S.environment serializer.old }
         ensures same_levels { S.levels serializer.new ≡ S.levels serializer.old };
-
-    ghost write_causes_may_refuse: { (e : Refusal) → write_causes e → may_refuse_writing e ≡ true };
 }
 
 /// A type whose values can be read.
 pub trait PagableDeserialize<'de, E: Env>: Carried<E> + Sized {
     // The refusals of a reading beside the faults of the input and those of references.
-    ghost read_causes: { Refusal → Type 0 };
+    ghost read_causes: { ReadCauses };
 
     /// Reads the value at the front of what is left, and leaves the rest. A refusal is the first fault from the
     /// front, that of a reference included, or a cause of the type's own; then the place is between the old one and
@@ -49,20 +45,14 @@ pub trait PagableDeserialize<'de, E: Env>: Carried<E> + Sized {
         alloc: Global,
         deserializer: &mut D,
     ) -> Result<Self, Error>
-        ensures gives { GivesSome read_causes Self.means (D.rest deserializer.new) result
+        ensures gives { GivesSome read_causes.are Self.means.of (D.rest deserializer.new) result
             (read (handles_at (D.levels deserializer.old) (E.parts (D.environment deserializer.old))) (Self.shape (D.environment deserializer.old)) (D.rest deserializer.old)) }
         ensures moves { MovesOn (D.standing deserializer.old) (D.standing deserializer.new) }
         ensures same_env { D.environment deserializer.new ≡ D.environment deserializer.old }
         ensures same_levels { D.levels deserializer.new ≡ D.levels deserializer.old };
-
-    ghost read_causes_are_own: { (e : Refusal) → read_causes e → is_own_reading e ≡ true };
 }
 
 /// A type of which each value has exactly one meaning.
 pub trait OneMeaning<E: Env>: Carried<E> {
-    ghost meaning: { Self → Meaning Reference };
-
-    ghost is_meaning: { (x : Self) → Self.Carried.means x (meaning x) };
-
-    ghost single: { (x : Self) (m : Meaning Reference) → Self.Carried.means x m → m ≡ meaning x };
+    ghost single: { AreSingle Self.Carried.means };
 }

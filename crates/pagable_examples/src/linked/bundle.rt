@@ -1,7 +1,6 @@
 //! Bundles: references of each sort to values of other types.
 
-ghost use Rattle.pagable_examples.specs.Linked.{bundle_has_meaning, bundle_is_meaning, bundle_meaning, bundle_means, bundle_shape, bundle_single};
-ghost use Rattle.pagable_examples.specs.Linked.{bundle_has_one_form, bundle_in_order, bundle_is_own, bundle_is_read, bundle_may_refuse, bundle_read_causes, bundle_write_causes};
+ghost use Rattle.pagable_examples.specs.Linked.{bundle_has_one_form, bundle_in_order, bundle_is_read, bundle_meanings, bundle_reads, bundle_shape, bundle_single, bundle_writes};
 
 use crate::linked::Linked;
 use crate::linked::chain::{ArcLink, Link};
@@ -28,16 +27,10 @@ type Fields = (
 impl Carried<Linked> for Bundle {
     ghost shape = { λ e. bundle_shape };
 
-    ghost means = { bundle_means };
-
-    ghost has_meaning = { bundle_has_meaning };
+    ghost means = { bundle_meanings };
 }
 
 impl OneMeaning<Linked> for Bundle {
-    ghost meaning = { bundle_meaning };
-
-    ghost is_meaning = { bundle_is_meaning };
-
     ghost single = { bundle_single };
 }
 
@@ -59,9 +52,7 @@ impl Refers<Linked> for Bundle {
 }
 
 impl PagableSerialize<Linked> for Bundle {
-    ghost write_causes = { bundle_write_causes };
-
-    ghost write_causes_may_refuse = { bundle_may_refuse };
+    ghost write_causes = { bundle_writes };
 
     fn pagable_serialize<S: PagableSerializer<Linked>>(
         &self,
@@ -73,9 +64,7 @@ impl PagableSerialize<Linked> for Bundle {
 }
 
 impl<'de> PagableDeserialize<'de, Linked> for Bundle {
-    ghost read_causes = { bundle_read_causes };
-
-    ghost read_causes_are_own = { bundle_is_own };
+    ghost read_causes = { bundle_reads };
 
     fn pagable_deserialize<D: PagableDeserializer<Linked>>(
         alloc: Global,

@@ -1,6 +1,6 @@
 //! Links: a value that may refer to another one of its own type.
 
-ghost use Rattle.pagable_examples.specs.Linked.{one_causes, one_in_order, one_may_refuse};
+ghost use Rattle.pagable_examples.specs.Linked.{one_in_order, one_writes};
 
 use crate::linked::Linked;
 use pagable::{
@@ -40,9 +40,7 @@ impl<const KIND: u32> Refers<Linked> for Chain<KIND> {
 }
 
 impl<const KIND: u32> PagableSerialize<Linked> for Chain<KIND> {
-    ghost write_causes = { one_causes };
-
-    ghost write_causes_may_refuse = { one_may_refuse };
+    ghost write_causes = { one_writes };
 
     fn pagable_serialize<S: PagableSerializer<Linked>>(
         &self,

@@ -1,7 +1,7 @@
-//! Whole numbers are read.
+//! Numbers of several bytes, byte by byte.
 
-ghost use Rattle.std.specs.{Int.w8, Int.w16, Int.w32, Int.w64, Prelude.◌≡◌, Prelude.◌≤◌, Prelude.◌<◌, Prelude.◌^◌, Prelude.IfOk, Prelude.MatchOption, Prelude.drop, Prelude.length};
-ghost use Rattle.pagable_model.specs.{Gives.Gives, Gives.never, Numbers.byte_at, Numbers.varint_at, Numbers.varint_limit, Numbers.unsigned_at, Track.left, Track.GoesOn};
+ghost use Rattle.std.specs.{Prelude.◌≡◌, Prelude.◌≤◌, Prelude.◌<◌, Prelude.◌^◌, Prelude.IfOk, Prelude.MatchOption, Prelude.drop, Prelude.length};
+ghost use Rattle.pagable_model.specs.{Gives.Gives, Gives.never, Numbers.byte_at, Numbers.varint_at, Numbers.varint_limit, Track.left, Track.GoesOn};
 
 use super::PagableSlice;
 use pagable_model::Error;
@@ -49,8 +49,10 @@ impl<'de> PagableSlice<'de> {
         Some(byte)
     }
 
-    // The next number, of at most `more` bytes with the top bit set and one that is at most `last`.
-    fn varint(&mut self, more: usize, last: u8) -> Result<u64, Error>
+    // The next number, of at most `more` bytes with the top bit set and one that is at most `last`. It stays a call, so that a
+    // number of one byte is short wherever it is read.
+    #[inline(never)]
+    pub(super) fn varint(&mut self, more: usize, last: u8) -> Result<u64, Error>
         requires ends { (0 < last) × (last < 128) }
         requires fits { varint_limit more last ≤ 2 ^ 64 }
         ensures gives { Gives never (λ n. (n, left self.new)) result (varint_at more last (left self.old)) }
@@ -60,91 +62,5 @@ impl<'de> PagableSlice<'de> {
         let (number, count) = varint_of(&self.bytes[self.position..], more, last)?;
         self.position += count;
         Ok(number)
-    }
-
-    /// A number of 8 bits, which is one byte.
-    pub fn read_u8(&mut self) -> Result<u8, Error>
-        ensures gives { Gives never (λ n. (n, left self.new)) result (unsigned_at w8 (left self.old)) }
-        ensures goes { GoesOn self.old self.new }
-    {
-        self.pop()
-    }
-
-    /// A number of 16 bits. `BadVarint` where it has more than 3 bytes, or the third is above 3.
-    #[tactic(auto, using(crate::proofs::Varint::reader_steps))]
-    pub fn read_u16(&mut self) -> Result<u16, Error>
-        ensures gives { Gives never (λ n. (n, left self.new)) result (unsigned_at w16 (left self.old)) }
-        ensures goes { GoesOn self.old self.new }
-    {
-        if let Some(byte) = self.short() {
-            return Ok(u16::from(byte));
-        }
-        self.long_u16()
-    }
-
-    // The same, byte by byte. It stays a call, so that a number of one byte is short wherever it is read.
-    #[inline(never)]
-    #[tactic(auto, using(crate::proofs::Varint::limits))]
-    fn long_u16(&mut self) -> Result<u16, Error>
-        ensures gives { Gives never (λ n. (n, left self.new)) result (unsigned_at w16 (left self.old)) }
-        ensures goes { GoesOn self.old self.new }
-    {
-        let number = self.varint(2, 3)?;
-        Ok(number as u16)
-    }
-
-    /// A number of 32 bits. `BadVarint` where it has more than 5 bytes, or the fifth is above 15.
-    #[tactic(auto, using(crate::proofs::Varint::reader_steps))]
-    pub fn read_u32(&mut self) -> Result<u32, Error>
-        ensures gives { Gives never (λ n. (n, left self.new)) result (unsigned_at w32 (left self.old)) }
-        ensures goes { GoesOn self.old self.new }
-    {
-        if let Some(byte) = self.short() {
-            return Ok(u32::from(byte));
-        }
-        self.long_u32()
-    }
-
-    // The same, byte by byte. It stays a call, so that a number of one byte is short wherever it is read.
-    #[inline(never)]
-    #[tactic(auto, using(crate::proofs::Varint::limits))]
-    fn long_u32(&mut self) -> Result<u32, Error>
-        ensures gives { Gives never (λ n. (n, left self.new)) result (unsigned_at w32 (left self.old)) }
-        ensures goes { GoesOn self.old self.new }
-    {
-        let number = self.varint(4, 15)?;
-        Ok(number as u32)
-    }
-
-    /// A number of 64 bits. `BadVarint` where it has more than 10 bytes, or the tenth is above 1.
-    #[tactic(auto, using(crate::proofs::Varint::reader_steps))]
-    pub fn read_u64(&mut self) -> Result<u64, Error>
-        ensures gives { Gives never (λ n. (n, left self.new)) result (unsigned_at w64 (left self.old)) }
-        ensures goes { GoesOn self.old self.new }
-    {
-        if let Some(byte) = self.short() {
-            return Ok(u64::from(byte));
-        }
-        self.long_u64()
-    }
-
-    // The same, byte by byte. It stays a call, so that a number of one byte is short wherever it is read.
-    #[inline(never)]
-    #[tactic(auto, using(crate::proofs::Varint::limits))]
-    fn long_u64(&mut self) -> Result<u64, Error>
-        ensures gives { Gives never (λ n. (n, left self.new)) result (unsigned_at w64 (left self.old)) }
-        ensures goes { GoesOn self.old self.new }
-    {
-        let number = self.varint(9, 1)?;
-        Ok(number)
-    }
-
-    /// A number of 64 bits, as `read_u64` reads it.
-    pub fn read_usize(&mut self) -> Result<usize, Error>
-        ensures gives { Gives never (λ n. (n, left self.new)) result (unsigned_at w64 (left self.old)) }
-        ensures goes { GoesOn self.old self.new }
-    {
-        let number = self.read_u64()?;
-        Ok(number as usize)
     }
 }

@@ -1,9 +1,9 @@
 //! Texts that are lent or boxed.
 #![tactic(auto, using(pagable_codec::proofs::Writing::parts, crate::proofs::Joined::writes_str))]
 
-ghost use Rattle.std.specs.{Prelude.◌≡◌, Prelude.OnOk, Prelude.IfErr, Prelude.refl, Box.boxed_str_bytes};
-ghost use Rattle.pagable_model.specs.{Gives.memory, Gives.long_or, Shape.text as text_shape, Meaning.text as text_meaning, Standing.Is, Writing.nesting, Writing.WritesSome, Writing.Refused};
-ghost use Rattle.pagable_model.specs.{Writing.Grows, Causes.memory_is_own_reading, Causes.text_may_refuse_writing};
+ghost use Rattle.std.specs.{Prelude.◌≡◌, Prelude.OnOk, Prelude.IfErr, Box.boxed_str_bytes};
+ghost use Rattle.pagable_model.specs.{Gives.{memory, long_or}, Shape.{text as text_shape}, Meaning.{text as text_meaning}, Standing.Is, Writing.{nesting, WritesSome, Refused, Grows}};
+ghost use Rattle.pagable_traits.specs.{Meanings.{exactly}, OwnCauses.{reads_memory, writes_memory, writes_long_or}};
 
 use crate::traits::{Carried, OneMeaning, PagableDeserialize, PagableSerialize};
 use pagable_codec::{Env, PagableDeserializer, PagableSerializer};
@@ -30,23 +30,15 @@ pub fn serialize_str<E: Env, S: PagableSerializer<E>>(
 impl<E: Env> Carried<E> for BoxedStr {
     ghost shape = { λ e. text_shape };
 
-    ghost means = { Is (λ s. text_meaning (boxed_str_bytes s)) };
-
-    ghost has_meaning = { λ s. (text_meaning (boxed_str_bytes s), refl) };
+    ghost means = { exactly (λ s. text_meaning (boxed_str_bytes s)) };
 }
 
 impl<E: Env> OneMeaning<E> for BoxedStr {
-    ghost meaning = { λ s. text_meaning (boxed_str_bytes s) };
-
-    ghost is_meaning = { λ s. refl };
-
     ghost single = { λ s m is. is };
 }
 
 impl<E: Env> PagableSerialize<E> for BoxedStr {
-    ghost write_causes = { long_or memory };
-
-    ghost write_causes_may_refuse = { text_may_refuse_writing };
+    ghost write_causes = { writes_long_or writes_memory };
 
     fn pagable_serialize<S: PagableSerializer<E>>(&self, serializer: &mut S) -> Result<(), Error> {
         serialize_str(self.as_str(), serializer)
@@ -54,9 +46,7 @@ impl<E: Env> PagableSerialize<E> for BoxedStr {
 }
 
 impl<'de, E: Env> PagableDeserialize<'de, E> for BoxedStr {
-    ghost read_causes = { memory };
-
-    ghost read_causes_are_own = { memory_is_own_reading };
+    ghost read_causes = { reads_memory };
 
     fn pagable_deserialize<D: PagableDeserializer<E>>(
         alloc: Global,

@@ -1,8 +1,8 @@
 //! Cells: an atomic number, and a value that is written once. Another thread may write to a cell while it is looked at, so no
 //! contract knows what one holds, and each means whatever it may hold.
 
-ghost use Rattle.pagable_model.specs.{Carried.atomic_i64, Carried.once_lock, Cells.MeansAtomic, Cells.MeansOnce, Cells.atomic_has_meaning, Cells.once_has_meaning, Gives.never, Gives.memory};
-ghost use Rattle.pagable_model.specs.{Gives.memory_or, Causes.never_is_own_reading, Causes.memory_may_refuse_writing, Causes.memory_or_may_refuse_writing};
+ghost use Rattle.pagable_model.specs.{Carried.atomic_i64, Carried.once_lock, Cells.MeansAtomic, Cells.MeansOnce, Cells.atomic_has_meaning, Cells.once_has_meaning};
+ghost use Rattle.pagable_traits.specs.OwnCauses.{reads_never, writes_memory, writes_memory_or};
 
 use crate::traits::{Carried, PagableDeserialize, PagableSerialize};
 use pagable_codec::{Env, PagableDeserializer, PagableSerializer};
@@ -14,15 +14,11 @@ use std::sync::atomic::{AtomicI64, Ordering};
 impl<E: Env> Carried<E> for AtomicI64 {
     ghost shape = { λ e. atomic_i64 };
 
-    ghost means = { λ x. MeansAtomic };
-
-    ghost has_meaning = { λ x. atomic_has_meaning };
+    ghost means = { record { of = λ x. MeansAtomic; meaning = λ x. atomic_has_meaning.0; is = λ x. atomic_has_meaning.1 } };
 }
 
 impl<E: Env> PagableSerialize<E> for AtomicI64 {
-    ghost write_causes = { memory };
-
-    ghost write_causes_may_refuse = { memory_may_refuse_writing };
+    ghost write_causes = { writes_memory };
 
     /// Appends the number that it holds when it is looked at, as an `i64`.
     fn pagable_serialize<S: PagableSerializer<E>>(&self, serializer: &mut S) -> Result<(), Error> {
@@ -32,9 +28,7 @@ impl<E: Env> PagableSerialize<E> for AtomicI64 {
 }
 
 impl<'de, E: Env> PagableDeserialize<'de, E> for AtomicI64 {
-    ghost read_causes = { never };
-
-    ghost read_causes_are_own = { never_is_own_reading };
+    ghost read_causes = { reads_never };
 
     fn pagable_deserialize<D: PagableDeserializer<E>>(
         alloc: Global,
@@ -52,15 +46,11 @@ impl<'de, E: Env> PagableDeserialize<'de, E> for AtomicI64 {
 impl<E: Env, T: Carried<E>> Carried<E> for OnceLock<T> {
     ghost shape = { λ e. once_lock (T.shape e) };
 
-    ghost means = { λ x. MeansOnce T.means };
-
-    ghost has_meaning = { λ x. once_has_meaning T.means };
+    ghost means = { record { of = λ x. MeansOnce T.means.of; meaning = λ x. (once_has_meaning T.means.of).0; is = λ x. (once_has_meaning T.means.of).1 } };
 }
 
 impl<E: Env, T: PagableSerialize<E>> PagableSerialize<E> for OnceLock<T> {
-    ghost write_causes = { memory_or T.write_causes };
-
-    ghost write_causes_may_refuse = { memory_or_may_refuse_writing T.write_causes T.write_causes_may_refuse };
+    ghost write_causes = { writes_memory_or T.write_causes };
 
     /// Appends the value that it holds when it is looked at, or that it holds none, as an `Option`. It doesn't wait for a
     /// thread that is writing: until that is done the lock holds none.
@@ -80,8 +70,6 @@ fn lock_of<T: Drop>(held: Option<T>) -> OnceLock<T> {
 
 impl<'de, E: Env, T: PagableDeserialize<'de, E> + Drop> PagableDeserialize<'de, E> for OnceLock<T> {
     ghost read_causes = { T.read_causes };
-
-    ghost read_causes_are_own = { T.read_causes_are_own };
 
     /// Reads an `Option`. The lock is set exactly where there was a value, and no thread has seen it yet.
     fn pagable_deserialize<D: PagableDeserializer<E>>(

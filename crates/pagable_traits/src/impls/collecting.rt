@@ -60,7 +60,7 @@ pub fn collect_items<
     C: Collects<T> + Drop,
     D: PagableDeserializer<E>,
 >(alloc: Global, count: usize, deserializer: &mut D) -> Result<C, Error>
-    ensures gives { GivesSome (memory_or T.read_causes) (λ c. Collected T.means C.puts (C.held c)) (D.rest deserializer.new) result
+    ensures gives { GivesSome (memory_or T.read_causes.are) (λ c. Collected T.means.of C.puts (C.held c)) (D.rest deserializer.new) result
         (items (read (handles_at (D.levels deserializer.old) (E.parts (D.environment deserializer.old))) (T.shape (D.environment deserializer.old))) count (D.rest deserializer.old)) }
     ensures moves { MovesOn (D.standing deserializer.old) (D.standing deserializer.new) }
     ensures same_env { D.environment deserializer.new ≡ D.environment deserializer.old }
@@ -82,7 +82,7 @@ pub fn read_collected<
     C: Collects<T> + Drop,
     D: PagableDeserializer<E>,
 >(alloc: Global, deserializer: &mut D) -> Result<C, Error>
-    ensures gives { GivesSome (memory_or T.read_causes) (λ c. Collected T.means C.puts (C.held c)) (D.rest deserializer.new) result
+    ensures gives { GivesSome (memory_or T.read_causes.are) (λ c. Collected T.means.of C.puts (C.held c)) (D.rest deserializer.new) result
         (counted (read (handles_at (D.levels deserializer.old) (E.parts (D.environment deserializer.old))) (T.shape (D.environment deserializer.old))) (D.rest deserializer.old)) }
     ensures moves { MovesOn (D.standing deserializer.old) (D.standing deserializer.new) }
     ensures same_env { D.environment deserializer.new ≡ D.environment deserializer.old }

@@ -1,9 +1,9 @@
 //! Lists, and the items of a list in turn.
 
-ghost use Rattle.std.{specs.Prelude.{◌≡◌, ◌++◌, ◌∷◌, [], map, OnOk, IfOk, IfErr, vec_len}, specs.Vec.vec_capacity};
-ghost use Rattle.pagable_model.specs.{Writing.{nesting, WritesSome, WritesSomeAll, Refused, RefusedAll, Grows}, Gives.{memory_or, long_or}, Meaning.sequence, Shape.list, Reading.{items, read}};
-ghost use Rattle.pagable_model.specs.{Standing.{handles_at, MovesOn, GivesSome}, Causes.{memory_or_is_own_reading, memory_or_may_refuse_writing, long_or_may_refuse_writing}, Lifted.MeanAll};
-ghost use Rattle.pagable_model.specs.Lifted.{MeansList, list_has_meaning, list_is_meaning, list_single};
+ghost use Rattle.std.{specs.Prelude.{◌≡◌, ◌++◌, ◌∷◌, [], OnOk, IfOk, IfErr, vec_len}, specs.Vec.vec_capacity};
+ghost use Rattle.pagable_model.specs.{Writing.{nesting, WritesSome, WritesSomeAll, Refused, RefusedAll, Grows}, Gives.{memory_or, long_or}, Shape.list, Reading.{items, read}};
+ghost use Rattle.pagable_model.specs.{Standing.{handles_at, MovesOn, GivesSome}, Lifted.{MeanAll, MeansList}};
+ghost use Rattle.pagable_traits.specs.{Meanings.{seen_by, lists, lists_single}, OwnCauses.{reads_memory_or, writes_memory_or, writes_long_or}};
 
 use crate::impls::collecting::{Collects, collect_items, read_collected};
 use crate::impls::walks::{write_counted, write_each};
@@ -17,9 +17,9 @@ pub fn write_items<E: Env, T: PagableSerialize<E>, S: PagableSerializer<E>>(
     values: &[T],
     serializer: &mut S,
 ) -> Result<(), Error>
-    ensures ok { OnOk result (WritesSomeAll (MeanAll T.means values.now) (nesting (S.levels serializer.old) (E.parts (S.environment serializer.old))) (T.shape (S.environment serializer.old)) (S.out serializer.old) (S.out serializer.new)) }
-    ensures refused { IfErr result (RefusedAll (MeanAll T.means values.now) (nesting (S.levels serializer.old) (E.parts (S.environment serializer.old))) (T.shape (S.environment serializer.old))) }
-    ensures only { IfErr result T.write_causes }
+    ensures ok { OnOk result (WritesSomeAll (MeanAll T.means.of values.now) (nesting (S.levels serializer.old) (E.parts (S.environment serializer.old))) (T.shape (S.environment serializer.old)) (S.out serializer.old) (S.out serializer.new)) }
+    ensures refused { IfErr result (RefusedAll (MeanAll T.means.of values.now) (nesting (S.levels serializer.old) (E.parts (S.environment serializer.old))) (T.shape (S.environment serializer.old))) }
+    ensures only { IfErr result T.write_causes.are }
     ensures err { Grows (S.out serializer.old) (S.out serializer.new) }
     ensures same_env { S.environment serializer.new ≡ S.environment serializer.old }
     ensures same_levels { S.levels serializer.new ≡ S.levels serializer.old }
@@ -33,9 +33,9 @@ pub fn serialize_slice<E: Env, T: PagableSerialize<E>, S: PagableSerializer<E>>(
     values: &[T],
     serializer: &mut S,
 ) -> Result<(), Error>
-    ensures ok { OnOk result (WritesSome (MeansList T.means values.now) (nesting (S.levels serializer.old) (E.parts (S.environment serializer.old))) (list (T.shape (S.environment serializer.old))) (S.out serializer.old) (S.out serializer.new)) }
-    ensures refused { IfErr result (Refused (MeansList T.means values.now) (nesting (S.levels serializer.old) (E.parts (S.environment serializer.old))) (list (T.shape (S.environment serializer.old)))) }
-    ensures only { IfErr result (long_or (memory_or T.write_causes)) }
+    ensures ok { OnOk result (WritesSome (MeansList T.means.of values.now) (nesting (S.levels serializer.old) (E.parts (S.environment serializer.old))) (list (T.shape (S.environment serializer.old))) (S.out serializer.old) (S.out serializer.new)) }
+    ensures refused { IfErr result (Refused (MeansList T.means.of values.now) (nesting (S.levels serializer.old) (E.parts (S.environment serializer.old))) (list (T.shape (S.environment serializer.old)))) }
+    ensures only { IfErr result (long_or (memory_or T.write_causes.are)) }
     ensures err { Grows (S.out serializer.old) (S.out serializer.new) }
     ensures same_env { S.environment serializer.new ≡ S.environment serializer.old }
     ensures same_levels { S.levels serializer.new ≡ S.levels serializer.old }
@@ -50,7 +50,7 @@ pub fn read_items<'de, E: Env, T: PagableDeserialize<'de, E> + Drop, D: PagableD
     count: usize,
     deserializer: &mut D,
 ) -> Result<Vec<T>, Error>
-    ensures gives { GivesSome (memory_or T.read_causes) (λ v. MeanAll T.means v.items) (D.rest deserializer.new) result
+    ensures gives { GivesSome (memory_or T.read_causes.are) (λ v. MeanAll T.means.of v.items) (D.rest deserializer.new) result
         (items (read (handles_at (D.levels deserializer.old) (E.parts (D.environment deserializer.old))) (T.shape (D.environment deserializer.old))) count (D.rest deserializer.old)) }
     ensures count { IfOk result (λ v. vec_len v ≡ count) }
     ensures moves { MovesOn (D.standing deserializer.old) (D.standing deserializer.new) }
@@ -80,23 +80,15 @@ impl<T: Drop> Collects<T> for Vec<T> {
 impl<E: Env, T: Carried<E>> Carried<E> for Vec<T> {
     ghost shape = { λ e. list (T.shape e) };
 
-    ghost means = { λ v. MeansList T.means v.items };
-
-    ghost has_meaning = { λ v. list_has_meaning T.means T.has_meaning v.items };
+    ghost means = { seen_by (λ v. v.items) (lists T.means) };
 }
 
 impl<E: Env, T: OneMeaning<E>> OneMeaning<E> for Vec<T> {
-    ghost meaning = { λ v. sequence (map T.meaning v.items) };
-
-    ghost is_meaning = { λ v. list_is_meaning T.Carried.means T.meaning T.is_meaning v.items };
-
-    ghost single = { λ v. list_single T.Carried.means T.meaning T.single v.items };
+    ghost single = { λ v. lists_single T.Carried.means T.single v.items };
 }
 
 impl<E: Env, T: PagableSerialize<E>> PagableSerialize<E> for Vec<T> {
-    ghost write_causes = { long_or (memory_or T.write_causes) };
-
-    ghost write_causes_may_refuse = { long_or_may_refuse_writing (memory_or T.write_causes) (memory_or_may_refuse_writing T.write_causes T.write_causes_may_refuse) };
+    ghost write_causes = { writes_long_or (writes_memory_or T.write_causes) };
 
     fn pagable_serialize<S: PagableSerializer<E>>(&self, serializer: &mut S) -> Result<(), Error> {
         serialize_slice(self.as_slice(), serializer)
@@ -104,9 +96,7 @@ impl<E: Env, T: PagableSerialize<E>> PagableSerialize<E> for Vec<T> {
 }
 
 impl<'de, E: Env, T: PagableDeserialize<'de, E> + Drop> PagableDeserialize<'de, E> for Vec<T> {
-    ghost read_causes = { memory_or T.read_causes };
-
-    ghost read_causes_are_own = { memory_or_is_own_reading T.read_causes T.read_causes_are_own };
+    ghost read_causes = { reads_memory_or T.read_causes };
 
     fn pagable_deserialize<D: PagableDeserializer<E>>(
         alloc: Global,

@@ -1,8 +1,9 @@
 //! Whole numbers without a sign.
 #![tactic(auto, using(pagable_codec::proofs::Writing::parts, crate::proofs::Basics::read_steps, crate::proofs::Basics::write_steps))]
 
-ghost use Rattle.std.specs.{Prelude.refl, Int.w8, Int.w16, Int.w32, Int.w64, Int.w128};
-ghost use Rattle.pagable_model.specs.{Gives.never, Gives.memory, Meaning.number, Shape.unsigned, Standing.Is, Causes.never_is_own_reading, Causes.memory_may_refuse_writing};
+ghost use Rattle.std.specs.{Int.w8, Int.w16, Int.w32, Int.w64, Int.w128};
+ghost use Rattle.pagable_model.specs.{Meaning.number, Shape.unsigned};
+ghost use Rattle.pagable_traits.specs.{Meanings.{exactly}, OwnCauses.{reads_never, writes_memory}};
 
 use crate::alike::CarriedAs;
 use crate::traits::{Carried, OneMeaning, PagableDeserialize, PagableSerialize};
@@ -13,23 +14,15 @@ use std::alloc::Global;
 impl<E: Env> Carried<E> for u8 {
     ghost shape = { λ e. unsigned w8 };
 
-    ghost means = { Is number };
-
-    ghost has_meaning = { λ x. (number x, refl) };
+    ghost means = { exactly number };
 }
 
 impl<E: Env> OneMeaning<E> for u8 {
-    ghost meaning = { number };
-
-    ghost is_meaning = { λ x. refl };
-
     ghost single = { λ x m is. is };
 }
 
 impl<E: Env> PagableSerialize<E> for u8 {
-    ghost write_causes = { memory };
-
-    ghost write_causes_may_refuse = { memory_may_refuse_writing };
+    ghost write_causes = { writes_memory };
 
     fn pagable_serialize<S: PagableSerializer<E>>(&self, serializer: &mut S) -> Result<(), Error> {
         serializer.serde().write_u8(*self)
@@ -37,9 +30,7 @@ impl<E: Env> PagableSerialize<E> for u8 {
 }
 
 impl<'de, E: Env> PagableDeserialize<'de, E> for u8 {
-    ghost read_causes = { never };
-
-    ghost read_causes_are_own = { never_is_own_reading };
+    ghost read_causes = { reads_never };
 
     fn pagable_deserialize<D: PagableDeserializer<E>>(
         _alloc: Global,
@@ -52,23 +43,15 @@ impl<'de, E: Env> PagableDeserialize<'de, E> for u8 {
 impl<E: Env> Carried<E> for u16 {
     ghost shape = { λ e. unsigned w16 };
 
-    ghost means = { Is number };
-
-    ghost has_meaning = { λ x. (number x, refl) };
+    ghost means = { exactly number };
 }
 
 impl<E: Env> OneMeaning<E> for u16 {
-    ghost meaning = { number };
-
-    ghost is_meaning = { λ x. refl };
-
     ghost single = { λ x m is. is };
 }
 
 impl<E: Env> PagableSerialize<E> for u16 {
-    ghost write_causes = { memory };
-
-    ghost write_causes_may_refuse = { memory_may_refuse_writing };
+    ghost write_causes = { writes_memory };
 
     fn pagable_serialize<S: PagableSerializer<E>>(&self, serializer: &mut S) -> Result<(), Error> {
         serializer.serde().write_u16(*self)
@@ -76,9 +59,7 @@ impl<E: Env> PagableSerialize<E> for u16 {
 }
 
 impl<'de, E: Env> PagableDeserialize<'de, E> for u16 {
-    ghost read_causes = { never };
-
-    ghost read_causes_are_own = { never_is_own_reading };
+    ghost read_causes = { reads_never };
 
     fn pagable_deserialize<D: PagableDeserializer<E>>(
         _alloc: Global,
@@ -91,23 +72,15 @@ impl<'de, E: Env> PagableDeserialize<'de, E> for u16 {
 impl<E: Env> Carried<E> for u32 {
     ghost shape = { λ e. unsigned w32 };
 
-    ghost means = { Is number };
-
-    ghost has_meaning = { λ x. (number x, refl) };
+    ghost means = { exactly number };
 }
 
 impl<E: Env> OneMeaning<E> for u32 {
-    ghost meaning = { number };
-
-    ghost is_meaning = { λ x. refl };
-
     ghost single = { λ x m is. is };
 }
 
 impl<E: Env> PagableSerialize<E> for u32 {
-    ghost write_causes = { memory };
-
-    ghost write_causes_may_refuse = { memory_may_refuse_writing };
+    ghost write_causes = { writes_memory };
 
     fn pagable_serialize<S: PagableSerializer<E>>(&self, serializer: &mut S) -> Result<(), Error> {
         serializer.serde().write_u32(*self)
@@ -115,9 +88,7 @@ impl<E: Env> PagableSerialize<E> for u32 {
 }
 
 impl<'de, E: Env> PagableDeserialize<'de, E> for u32 {
-    ghost read_causes = { never };
-
-    ghost read_causes_are_own = { never_is_own_reading };
+    ghost read_causes = { reads_never };
 
     fn pagable_deserialize<D: PagableDeserializer<E>>(
         _alloc: Global,
@@ -130,23 +101,15 @@ impl<'de, E: Env> PagableDeserialize<'de, E> for u32 {
 impl<E: Env> Carried<E> for u64 {
     ghost shape = { λ e. unsigned w64 };
 
-    ghost means = { Is number };
-
-    ghost has_meaning = { λ x. (number x, refl) };
+    ghost means = { exactly number };
 }
 
 impl<E: Env> OneMeaning<E> for u64 {
-    ghost meaning = { number };
-
-    ghost is_meaning = { λ x. refl };
-
     ghost single = { λ x m is. is };
 }
 
 impl<E: Env> PagableSerialize<E> for u64 {
-    ghost write_causes = { memory };
-
-    ghost write_causes_may_refuse = { memory_may_refuse_writing };
+    ghost write_causes = { writes_memory };
 
     fn pagable_serialize<S: PagableSerializer<E>>(&self, serializer: &mut S) -> Result<(), Error> {
         serializer.serde().write_u64(*self)
@@ -154,9 +117,7 @@ impl<E: Env> PagableSerialize<E> for u64 {
 }
 
 impl<'de, E: Env> PagableDeserialize<'de, E> for u64 {
-    ghost read_causes = { never };
-
-    ghost read_causes_are_own = { never_is_own_reading };
+    ghost read_causes = { reads_never };
 
     fn pagable_deserialize<D: PagableDeserializer<E>>(
         _alloc: Global,
@@ -169,23 +130,15 @@ impl<'de, E: Env> PagableDeserialize<'de, E> for u64 {
 impl<E: Env> Carried<E> for u128 {
     ghost shape = { λ e. unsigned w128 };
 
-    ghost means = { Is number };
-
-    ghost has_meaning = { λ x. (number x, refl) };
+    ghost means = { exactly number };
 }
 
 impl<E: Env> OneMeaning<E> for u128 {
-    ghost meaning = { number };
-
-    ghost is_meaning = { λ x. refl };
-
     ghost single = { λ x m is. is };
 }
 
 impl<E: Env> PagableSerialize<E> for u128 {
-    ghost write_causes = { memory };
-
-    ghost write_causes_may_refuse = { memory_may_refuse_writing };
+    ghost write_causes = { writes_memory };
 
     fn pagable_serialize<S: PagableSerializer<E>>(&self, serializer: &mut S) -> Result<(), Error> {
         serializer.serde().write_u128(*self)
@@ -193,9 +146,7 @@ impl<E: Env> PagableSerialize<E> for u128 {
 }
 
 impl<'de, E: Env> PagableDeserialize<'de, E> for u128 {
-    ghost read_causes = { never };
-
-    ghost read_causes_are_own = { never_is_own_reading };
+    ghost read_causes = { reads_never };
 
     fn pagable_deserialize<D: PagableDeserializer<E>>(
         _alloc: Global,
@@ -212,9 +163,7 @@ impl CarriedAs for usize {
 }
 
 impl<E: Env> PagableSerialize<E> for usize {
-    ghost write_causes = { memory };
-
-    ghost write_causes_may_refuse = { memory_may_refuse_writing };
+    ghost write_causes = { writes_memory };
 
     fn pagable_serialize<S: PagableSerializer<E>>(&self, serializer: &mut S) -> Result<(), Error> {
         serializer.serde().write_usize(*self)
@@ -222,9 +171,7 @@ impl<E: Env> PagableSerialize<E> for usize {
 }
 
 impl<'de, E: Env> PagableDeserialize<'de, E> for usize {
-    ghost read_causes = { never };
-
-    ghost read_causes_are_own = { never_is_own_reading };
+    ghost read_causes = { reads_never };
 
     fn pagable_deserialize<D: PagableDeserializer<E>>(
         _alloc: Global,

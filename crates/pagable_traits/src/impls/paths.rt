@@ -1,7 +1,8 @@
 //! Paths, which are texts here.
 
-ghost use Rattle.std.specs.{Prelude.refl, String.string_bytes};
-ghost use Rattle.pagable_model.specs.{Carried.path_text, Gives.memory, Gives.long_or, Meaning.text, Standing.Is, Causes.memory_is_own_reading, Causes.text_may_refuse_writing};
+ghost use Rattle.std.specs.String.{string_bytes};
+ghost use Rattle.pagable_model.specs.{Carried.path_text, Meaning.text};
+ghost use Rattle.pagable_traits.specs.{Meanings.{exactly}, OwnCauses.{reads_memory, writes_memory, writes_long_or}};
 
 use crate::impls::boxed_texts::serialize_str;
 use crate::traits::{Carried, OneMeaning, PagableDeserialize, PagableSerialize};
@@ -18,23 +19,15 @@ pub struct PathText {
 impl<E: Env> Carried<E> for PathText {
     ghost shape = { λ e. path_text };
 
-    ghost means = { Is (λ p. text (string_bytes p.text)) };
-
-    ghost has_meaning = { λ p. (text (string_bytes p.text), refl) };
+    ghost means = { exactly (λ p. text (string_bytes p.text)) };
 }
 
 impl<E: Env> OneMeaning<E> for PathText {
-    ghost meaning = { λ p. text (string_bytes p.text) };
-
-    ghost is_meaning = { λ p. refl };
-
     ghost single = { λ p m is. is };
 }
 
 impl<E: Env> PagableSerialize<E> for PathText {
-    ghost write_causes = { long_or memory };
-
-    ghost write_causes_may_refuse = { text_may_refuse_writing };
+    ghost write_causes = { writes_long_or writes_memory };
 
     fn pagable_serialize<S: PagableSerializer<E>>(&self, serializer: &mut S) -> Result<(), Error> {
         serialize_str(self.text.as_str(), serializer)
@@ -42,9 +35,7 @@ impl<E: Env> PagableSerialize<E> for PathText {
 }
 
 impl<'de, E: Env> PagableDeserialize<'de, E> for PathText {
-    ghost read_causes = { memory };
-
-    ghost read_causes_are_own = { memory_is_own_reading };
+    ghost read_causes = { reads_memory };
 
     fn pagable_deserialize<D: PagableDeserializer<E>>(
         alloc: Global,

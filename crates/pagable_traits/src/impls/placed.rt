@@ -1,10 +1,9 @@
 //! Maps in order of arrival.
 
-ghost use Rattle.std.specs.Prelude.{◌≡◌, ◌≤◌, map};
+ghost use Rattle.std.specs.Prelude.{◌≡◌, ◌≤◌};
 ghost use Rattle.indexmap.specs.IndexMap.{insert_entry, spare};
-ghost use Rattle.pagable_model.specs.Lifted.{MeansList, MeansPair, list_has_meaning, pair_has_meaning, list_is_meaning, pair_is_meaning, list_single, pair_single};
-ghost use Rattle.pagable_model.specs.{Gives.memory_or, Gives.either, Gives.long_or, Meaning.pair, Meaning.sequence, Shape.placed_map, Causes.memory_or_is_own_reading};
-ghost use Rattle.pagable_model.specs.{Causes.memory_or_may_refuse_writing, Causes.long_or_may_refuse_writing, Causes.either_is_own_reading, Causes.either_may_refuse_writing};
+ghost use Rattle.pagable_model.specs.Shape.{placed_map};
+ghost use Rattle.pagable_traits.specs.{Meanings.{seen_by, lists, pairs, lists_single, pairs_single}, OwnCauses.{reads_memory_or, reads_either, writes_memory_or, writes_either, writes_long_or}};
 
 use crate::impls::collecting::{Collects, read_collected};
 use crate::impls::walks::write_counted;
@@ -38,17 +37,11 @@ impl<K: Eq + Hash + Drop, V: Drop> Collects<(K, V)> for IndexMap<K, V> {
 impl<E: Env, K: PagableKey<E> + Hash, V: Carried<E>> Carried<E> for IndexMap<K, V> {
     ghost shape = { λ e. placed_map (K.shape e) (V.shape e) };
 
-    ghost means = { λ m. MeansList (MeansPair K.means V.means) m.entries };
-
-    ghost has_meaning = { λ m. list_has_meaning (MeansPair K.means V.means) (pair_has_meaning K.means V.means K.has_meaning V.has_meaning) m.entries };
+    ghost means = { seen_by (λ m. m.entries) (lists (pairs K.means V.means)) };
 }
 
 impl<E: Env, K: PagableKey<E> + Hash, V: OneMeaning<E>> OneMeaning<E> for IndexMap<K, V> {
-    ghost meaning = { λ m. sequence (map (λ e. pair (K.meaning e.0) (V.meaning e.1)) m.entries) };
-
-    ghost is_meaning = { λ m. list_is_meaning (MeansPair K.Carried.means V.Carried.means) (λ e. pair (K.meaning e.0) (V.meaning e.1)) (pair_is_meaning K.Carried.means V.Carried.means K.meaning V.meaning K.is_meaning V.is_meaning) m.entries };
-
-    ghost single = { λ m. list_single (MeansPair K.Carried.means V.Carried.means) (λ e. pair (K.meaning e.0) (V.meaning e.1)) (pair_single K.Carried.means V.Carried.means K.meaning V.meaning K.single V.single) m.entries };
+    ghost single = { λ m. lists_single (pairs K.Carried.means V.Carried.means) (pairs_single K.Carried.means V.Carried.means K.single V.single) m.entries };
 }
 
 impl<
@@ -56,9 +49,7 @@ impl<
     K: PagableKey<E> + Hash + PagableSerialize<E>,
     V: PagableSerialize<E>,
 > PagableSerialize<E> for IndexMap<K, V> {
-    ghost write_causes = { long_or (memory_or (either K.write_causes V.write_causes)) };
-
-    ghost write_causes_may_refuse = { long_or_may_refuse_writing (memory_or (either K.write_causes V.write_causes)) (memory_or_may_refuse_writing (either K.write_causes V.write_causes) (either_may_refuse_writing K.write_causes V.write_causes K.write_causes_may_refuse V.write_causes_may_refuse)) };
+    ghost write_causes = { writes_long_or (writes_memory_or (writes_either K.write_causes V.write_causes)) };
 
     fn pagable_serialize<S: PagableSerializer<E>>(&self, serializer: &mut S) -> Result<(), Error> {
         write_counted(self.len(), self.iter(), serializer)
@@ -71,9 +62,7 @@ impl<
     K: PagableKey<E> + Hash + PagableDeserialize<'de, E> + Drop,
     V: PagableDeserialize<'de, E> + Drop,
 > PagableDeserialize<'de, E> for IndexMap<K, V> {
-    ghost read_causes = { memory_or (either K.read_causes V.read_causes) };
-
-    ghost read_causes_are_own = { memory_or_is_own_reading (either K.read_causes V.read_causes) (either_is_own_reading K.read_causes V.read_causes K.read_causes_are_own V.read_causes_are_own) };
+    ghost read_causes = { reads_memory_or (reads_either K.read_causes V.read_causes) };
 
     fn pagable_deserialize<D: PagableDeserializer<E>>(
         alloc: Global,

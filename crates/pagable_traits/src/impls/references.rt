@@ -1,6 +1,6 @@
 //! Values that are lent, and marks of a type, of which there is nothing to write.
 
-ghost use Rattle.pagable_model.specs.{Gives.never, Causes.never_may_refuse_writing};
+ghost use Rattle.pagable_traits.specs.OwnCauses.{writes_never};
 
 use crate::alike::{CarriedAs, ReadAs};
 use crate::traits::PagableSerialize;
@@ -17,8 +17,6 @@ impl<'a, T> CarriedAs for &'a T {
 
 impl<'a, E: Env, T: PagableSerialize<E>> PagableSerialize<E> for &'a T {
     ghost write_causes = { T.write_causes };
-
-    ghost write_causes_may_refuse = { T.write_causes_may_refuse };
 
     fn pagable_serialize<S: PagableSerializer<E>>(&self, serializer: &mut S) -> Result<(), Error> {
         T::pagable_serialize(*self, serializer)
@@ -38,9 +36,7 @@ impl<T> ReadAs for PhantomData<T> {
 }
 
 impl<E: Env, T> PagableSerialize<E> for PhantomData<T> {
-    ghost write_causes = { never };
-
-    ghost write_causes_may_refuse = { never_may_refuse_writing };
+    ghost write_causes = { writes_never };
 
     fn pagable_serialize<S: PagableSerializer<E>>(&self, serializer: &mut S) -> Result<(), Error> {
         PagableSerialize::<E>::pagable_serialize(&(), serializer)

@@ -1,9 +1,9 @@
 //! Sets.
 
-ghost use Rattle.std.specs.{Prelude.◌≡◌, Prelude.◌≤◌, Prelude.map, BTreeSet.insert_key};
-ghost use Rattle.pagable_model.specs.{Gives.memory_or, Gives.long_or, Meaning.sequence, Shape.sorted_set, Shape.placed_set, Causes.memory_or_is_own_reading, Causes.memory_or_may_refuse_writing};
-ghost use Rattle.pagable_model.specs.{Causes.long_or_may_refuse_writing, Lifted.MeansList, Lifted.list_has_meaning, Lifted.list_is_meaning, Lifted.list_single};
+ghost use Rattle.std.specs.{Prelude.◌≡◌, Prelude.◌≤◌, BTreeSet.insert_key};
+ghost use Rattle.pagable_model.specs.{Shape.sorted_set, Shape.placed_set};
 ghost use Rattle.indexmap.specs.IndexSet as placed;
+ghost use Rattle.pagable_traits.specs.{Meanings.{seen_by, lists, lists_single}, OwnCauses.{reads_memory_or, writes_memory_or, writes_long_or}};
 
 use crate::impls::collecting::{Collects, read_collected};
 use crate::impls::walks::write_counted;
@@ -37,23 +37,15 @@ impl<T: Ord + Drop> Collects<T> for BTreeSet<T> {
 impl<E: Env, T: PagableOrdKey<E>> Carried<E> for BTreeSet<T> {
     ghost shape = { λ e. sorted_set T.order (T.shape e) };
 
-    ghost means = { λ s. MeansList T.means s.keys };
-
-    ghost has_meaning = { λ s. list_has_meaning T.means T.has_meaning s.keys };
+    ghost means = { seen_by (λ s. s.keys) (lists T.means) };
 }
 
 impl<E: Env, T: PagableOrdKey<E>> OneMeaning<E> for BTreeSet<T> {
-    ghost meaning = { λ s. sequence (map T.meaning s.keys) };
-
-    ghost is_meaning = { λ s. list_is_meaning T.Carried.means T.meaning T.is_meaning s.keys };
-
-    ghost single = { λ s. list_single T.Carried.means T.meaning T.single s.keys };
+    ghost single = { λ s. lists_single T.Carried.means T.single s.keys };
 }
 
 impl<E: Env, T: PagableOrdKey<E> + PagableSerialize<E>> PagableSerialize<E> for BTreeSet<T> {
-    ghost write_causes = { long_or (memory_or T.write_causes) };
-
-    ghost write_causes_may_refuse = { long_or_may_refuse_writing (memory_or T.write_causes) (memory_or_may_refuse_writing T.write_causes T.write_causes_may_refuse) };
+    ghost write_causes = { writes_long_or (writes_memory_or T.write_causes) };
 
     fn pagable_serialize<S: PagableSerializer<E>>(&self, serializer: &mut S) -> Result<(), Error> {
         write_counted(self.len(), self.iter(), serializer)
@@ -64,9 +56,7 @@ impl<'de, E: Env, T: PagableOrdKey<E> + PagableDeserialize<'de, E> + Drop> Pagab
     'de,
     E,
 > for BTreeSet<T> {
-    ghost read_causes = { memory_or T.read_causes };
-
-    ghost read_causes_are_own = { memory_or_is_own_reading T.read_causes T.read_causes_are_own };
+    ghost read_causes = { reads_memory_or T.read_causes };
 
     fn pagable_deserialize<D: PagableDeserializer<E>>(
         alloc: Global,
@@ -97,23 +87,15 @@ impl<T: Eq + Hash + Drop> Collects<T> for IndexSet<T> {
 impl<E: Env, T: PagableKey<E> + Hash> Carried<E> for IndexSet<T> {
     ghost shape = { λ e. placed_set (T.shape e) };
 
-    ghost means = { λ s. MeansList T.means s.keys };
-
-    ghost has_meaning = { λ s. list_has_meaning T.means T.has_meaning s.keys };
+    ghost means = { seen_by (λ s. s.keys) (lists T.means) };
 }
 
 impl<E: Env, T: PagableKey<E> + Hash> OneMeaning<E> for IndexSet<T> {
-    ghost meaning = { λ s. sequence (map T.meaning s.keys) };
-
-    ghost is_meaning = { λ s. list_is_meaning T.Carried.means T.meaning T.is_meaning s.keys };
-
-    ghost single = { λ s. list_single T.Carried.means T.meaning T.single s.keys };
+    ghost single = { λ s. lists_single T.Carried.means T.single s.keys };
 }
 
 impl<E: Env, T: PagableKey<E> + Hash + PagableSerialize<E>> PagableSerialize<E> for IndexSet<T> {
-    ghost write_causes = { long_or (memory_or T.write_causes) };
-
-    ghost write_causes_may_refuse = { long_or_may_refuse_writing (memory_or T.write_causes) (memory_or_may_refuse_writing T.write_causes T.write_causes_may_refuse) };
+    ghost write_causes = { writes_long_or (writes_memory_or T.write_causes) };
 
     fn pagable_serialize<S: PagableSerializer<E>>(&self, serializer: &mut S) -> Result<(), Error> {
         write_counted(self.len(), self.iter(), serializer)
@@ -124,9 +106,7 @@ impl<'de, E: Env, T: PagableKey<E> + Hash + PagableDeserialize<'de, E> + Drop> P
     'de,
     E,
 > for IndexSet<T> {
-    ghost read_causes = { memory_or T.read_causes };
-
-    ghost read_causes_are_own = { memory_or_is_own_reading T.read_causes T.read_causes_are_own };
+    ghost read_causes = { reads_memory_or T.read_causes };
 
     fn pagable_deserialize<D: PagableDeserializer<E>>(
         alloc: Global,

@@ -1,8 +1,9 @@
 //! Whole numbers with a sign.
 #![tactic(auto, using(pagable_codec::proofs::Writing::parts, crate::proofs::Basics::read_steps, crate::proofs::Basics::write_steps))]
 
-ghost use Rattle.std.specs.{Prelude.refl, Int.w8, Int.w16, Int.w32, Int.w64, Int.w128};
-ghost use Rattle.pagable_model.specs.{Gives.never, Gives.memory, Meaning.integer, Shape.signed, Standing.Is, Causes.never_is_own_reading, Causes.memory_may_refuse_writing};
+ghost use Rattle.std.specs.{Int.w8, Int.w16, Int.w32, Int.w64, Int.w128};
+ghost use Rattle.pagable_model.specs.{Meaning.integer, Shape.signed};
+ghost use Rattle.pagable_traits.specs.{Meanings.{exactly}, OwnCauses.{reads_never, writes_memory}};
 
 use crate::traits::{Carried, OneMeaning, PagableDeserialize, PagableSerialize};
 use pagable_codec::{Env, PagableDeserializer, PagableSerializer, Reader};
@@ -12,23 +13,15 @@ use std::alloc::Global;
 impl<E: Env> Carried<E> for i8 {
     ghost shape = { λ e. signed w8 };
 
-    ghost means = { Is integer };
-
-    ghost has_meaning = { λ x. (integer x, refl) };
+    ghost means = { exactly integer };
 }
 
 impl<E: Env> OneMeaning<E> for i8 {
-    ghost meaning = { integer };
-
-    ghost is_meaning = { λ x. refl };
-
     ghost single = { λ x m is. is };
 }
 
 impl<E: Env> PagableSerialize<E> for i8 {
-    ghost write_causes = { memory };
-
-    ghost write_causes_may_refuse = { memory_may_refuse_writing };
+    ghost write_causes = { writes_memory };
 
     fn pagable_serialize<S: PagableSerializer<E>>(&self, serializer: &mut S) -> Result<(), Error> {
         serializer.serde().write_i8(*self)
@@ -36,9 +29,7 @@ impl<E: Env> PagableSerialize<E> for i8 {
 }
 
 impl<'de, E: Env> PagableDeserialize<'de, E> for i8 {
-    ghost read_causes = { never };
-
-    ghost read_causes_are_own = { never_is_own_reading };
+    ghost read_causes = { reads_never };
 
     fn pagable_deserialize<D: PagableDeserializer<E>>(
         _alloc: Global,
@@ -51,23 +42,15 @@ impl<'de, E: Env> PagableDeserialize<'de, E> for i8 {
 impl<E: Env> Carried<E> for i16 {
     ghost shape = { λ e. signed w16 };
 
-    ghost means = { Is integer };
-
-    ghost has_meaning = { λ x. (integer x, refl) };
+    ghost means = { exactly integer };
 }
 
 impl<E: Env> OneMeaning<E> for i16 {
-    ghost meaning = { integer };
-
-    ghost is_meaning = { λ x. refl };
-
     ghost single = { λ x m is. is };
 }
 
 impl<E: Env> PagableSerialize<E> for i16 {
-    ghost write_causes = { memory };
-
-    ghost write_causes_may_refuse = { memory_may_refuse_writing };
+    ghost write_causes = { writes_memory };
 
     fn pagable_serialize<S: PagableSerializer<E>>(&self, serializer: &mut S) -> Result<(), Error> {
         serializer.serde().write_i16(*self)
@@ -75,9 +58,7 @@ impl<E: Env> PagableSerialize<E> for i16 {
 }
 
 impl<'de, E: Env> PagableDeserialize<'de, E> for i16 {
-    ghost read_causes = { never };
-
-    ghost read_causes_are_own = { never_is_own_reading };
+    ghost read_causes = { reads_never };
 
     fn pagable_deserialize<D: PagableDeserializer<E>>(
         _alloc: Global,
@@ -90,23 +71,15 @@ impl<'de, E: Env> PagableDeserialize<'de, E> for i16 {
 impl<E: Env> Carried<E> for i32 {
     ghost shape = { λ e. signed w32 };
 
-    ghost means = { Is integer };
-
-    ghost has_meaning = { λ x. (integer x, refl) };
+    ghost means = { exactly integer };
 }
 
 impl<E: Env> OneMeaning<E> for i32 {
-    ghost meaning = { integer };
-
-    ghost is_meaning = { λ x. refl };
-
     ghost single = { λ x m is. is };
 }
 
 impl<E: Env> PagableSerialize<E> for i32 {
-    ghost write_causes = { memory };
-
-    ghost write_causes_may_refuse = { memory_may_refuse_writing };
+    ghost write_causes = { writes_memory };
 
     fn pagable_serialize<S: PagableSerializer<E>>(&self, serializer: &mut S) -> Result<(), Error> {
         serializer.serde().write_i32(*self)
@@ -114,9 +87,7 @@ impl<E: Env> PagableSerialize<E> for i32 {
 }
 
 impl<'de, E: Env> PagableDeserialize<'de, E> for i32 {
-    ghost read_causes = { never };
-
-    ghost read_causes_are_own = { never_is_own_reading };
+    ghost read_causes = { reads_never };
 
     fn pagable_deserialize<D: PagableDeserializer<E>>(
         _alloc: Global,
@@ -129,23 +100,15 @@ impl<'de, E: Env> PagableDeserialize<'de, E> for i32 {
 impl<E: Env> Carried<E> for i64 {
     ghost shape = { λ e. signed w64 };
 
-    ghost means = { Is integer };
-
-    ghost has_meaning = { λ x. (integer x, refl) };
+    ghost means = { exactly integer };
 }
 
 impl<E: Env> OneMeaning<E> for i64 {
-    ghost meaning = { integer };
-
-    ghost is_meaning = { λ x. refl };
-
     ghost single = { λ x m is. is };
 }
 
 impl<E: Env> PagableSerialize<E> for i64 {
-    ghost write_causes = { memory };
-
-    ghost write_causes_may_refuse = { memory_may_refuse_writing };
+    ghost write_causes = { writes_memory };
 
     fn pagable_serialize<S: PagableSerializer<E>>(&self, serializer: &mut S) -> Result<(), Error> {
         serializer.serde().write_i64(*self)
@@ -153,9 +116,7 @@ impl<E: Env> PagableSerialize<E> for i64 {
 }
 
 impl<'de, E: Env> PagableDeserialize<'de, E> for i64 {
-    ghost read_causes = { never };
-
-    ghost read_causes_are_own = { never_is_own_reading };
+    ghost read_causes = { reads_never };
 
     fn pagable_deserialize<D: PagableDeserializer<E>>(
         _alloc: Global,
@@ -168,23 +129,15 @@ impl<'de, E: Env> PagableDeserialize<'de, E> for i64 {
 impl<E: Env> Carried<E> for i128 {
     ghost shape = { λ e. signed w128 };
 
-    ghost means = { Is integer };
-
-    ghost has_meaning = { λ x. (integer x, refl) };
+    ghost means = { exactly integer };
 }
 
 impl<E: Env> OneMeaning<E> for i128 {
-    ghost meaning = { integer };
-
-    ghost is_meaning = { λ x. refl };
-
     ghost single = { λ x m is. is };
 }
 
 impl<E: Env> PagableSerialize<E> for i128 {
-    ghost write_causes = { memory };
-
-    ghost write_causes_may_refuse = { memory_may_refuse_writing };
+    ghost write_causes = { writes_memory };
 
     fn pagable_serialize<S: PagableSerializer<E>>(&self, serializer: &mut S) -> Result<(), Error> {
         serializer.serde().write_i128(*self)
@@ -192,9 +145,7 @@ impl<E: Env> PagableSerialize<E> for i128 {
 }
 
 impl<'de, E: Env> PagableDeserialize<'de, E> for i128 {
-    ghost read_causes = { never };
-
-    ghost read_causes_are_own = { never_is_own_reading };
+    ghost read_causes = { reads_never };
 
     fn pagable_deserialize<D: PagableDeserializer<E>>(
         _alloc: Global,

@@ -1,8 +1,8 @@
 //! Lists whose first items are kept in the value.
 
-ghost use Rattle.std.specs.Prelude.{◌≡◌, ◌++◌, ◌∷◌, [], map, max};
-ghost use Rattle.pagable_model.specs.{Gives.memory_or, Gives.long_or, Meaning.sequence, Shape.list, Causes.memory_or_is_own_reading, Causes.memory_or_may_refuse_writing};
-ghost use Rattle.pagable_model.specs.{Causes.long_or_may_refuse_writing, Lifted.MeansList, Lifted.list_has_meaning, Lifted.list_is_meaning, Lifted.list_single};
+ghost use Rattle.std.specs.Prelude.{◌≡◌, ◌++◌, ◌∷◌, [], max};
+ghost use Rattle.pagable_model.specs.Shape.{list};
+ghost use Rattle.pagable_traits.specs.{Meanings.{seen_by, lists, lists_single}, OwnCauses.{reads_memory_or, writes_memory_or, writes_long_or}};
 
 use crate::impls::collecting::{Collects, read_collected};
 use crate::impls::lists::serialize_slice;
@@ -33,23 +33,15 @@ impl<T: MadeWith<Global> + Drop, const N: usize> Collects<T> for SmallVec<T, N> 
 impl<E: Env, T: Carried<E>, const N: usize> Carried<E> for SmallVec<T, N> {
     ghost shape = { λ e. list (T.shape e) };
 
-    ghost means = { λ v. MeansList T.means v.items };
-
-    ghost has_meaning = { λ v. list_has_meaning T.means T.has_meaning v.items };
+    ghost means = { seen_by (λ v. v.items) (lists T.means) };
 }
 
 impl<E: Env, T: OneMeaning<E>, const N: usize> OneMeaning<E> for SmallVec<T, N> {
-    ghost meaning = { λ v. sequence (map T.meaning v.items) };
-
-    ghost is_meaning = { λ v. list_is_meaning T.Carried.means T.meaning T.is_meaning v.items };
-
-    ghost single = { λ v. list_single T.Carried.means T.meaning T.single v.items };
+    ghost single = { λ v. lists_single T.Carried.means T.single v.items };
 }
 
 impl<E: Env, T: PagableSerialize<E>, const N: usize> PagableSerialize<E> for SmallVec<T, N> {
-    ghost write_causes = { long_or (memory_or T.write_causes) };
-
-    ghost write_causes_may_refuse = { long_or_may_refuse_writing (memory_or T.write_causes) (memory_or_may_refuse_writing T.write_causes T.write_causes_may_refuse) };
+    ghost write_causes = { writes_long_or (writes_memory_or T.write_causes) };
 
     fn pagable_serialize<S: PagableSerializer<E>>(&self, serializer: &mut S) -> Result<(), Error> {
         serialize_slice(self.as_slice(), serializer)
@@ -62,9 +54,7 @@ impl<
     T: PagableDeserialize<'de, E> + MadeWith<Global> + Drop,
     const N: usize,
 > PagableDeserialize<'de, E> for SmallVec<T, N> {
-    ghost read_causes = { memory_or T.read_causes };
-
-    ghost read_causes_are_own = { memory_or_is_own_reading T.read_causes T.read_causes_are_own };
+    ghost read_causes = { reads_memory_or T.read_causes };
 
     fn pagable_deserialize<D: PagableDeserializer<E>>(
         alloc: Global,

@@ -1,9 +1,9 @@
 //! Spans of time.
 #![tactic(auto, using(pagable_codec::proofs::Writing::parts, crate::proofs::Times::writes_span))]
 
-ghost use Rattle.std.specs.Prelude.{◌≡◌, ◌++◌, ◌<◌, ◌^◌, OnOk, IfErr, refl};
-ghost use Rattle.pagable_model.specs.{Basic.duration_at, Basic.duration_form, Gives.Gives, Gives.never, Gives.memory, Gives.Extends, Shape.duration, Standing.Is, Track.left, Track.GoesOn};
-ghost use Rattle.pagable_model.specs.{Causes.never_is_own_reading, Causes.memory_may_refuse_writing, Spans.of_span, Spans.seconds_of, Spans.nanos_of};
+ghost use Rattle.std.specs.Prelude.{◌≡◌, ◌++◌, ◌<◌, ◌^◌, OnOk, IfErr};
+ghost use Rattle.pagable_model.specs.{Basic.{duration_at, duration_form}, Gives.{Gives, never, memory, Extends}, Shape.duration, Track.{left, GoesOn}, Spans.{of_span, seconds_of, nanos_of}};
+ghost use Rattle.pagable_traits.specs.{Meanings.{exactly}, OwnCauses.{reads_never, writes_memory}};
 
 use crate::traits::{Carried, OneMeaning, PagableDeserialize, PagableSerialize};
 use pagable_codec::{Env, PagableDeserializer, PagableSerializer, Reader};
@@ -40,23 +40,15 @@ fn read_span<R: Reader>(reader: &mut R) -> Result<Duration, Error>
 impl<E: Env> Carried<E> for Duration {
     ghost shape = { λ e. duration };
 
-    ghost means = { Is of_span };
-
-    ghost has_meaning = { λ d. (of_span d, refl) };
+    ghost means = { exactly of_span };
 }
 
 impl<E: Env> OneMeaning<E> for Duration {
-    ghost meaning = { of_span };
-
-    ghost is_meaning = { λ d. refl };
-
     ghost single = { λ d m is. is };
 }
 
 impl<E: Env> PagableSerialize<E> for Duration {
-    ghost write_causes = { memory };
-
-    ghost write_causes_may_refuse = { memory_may_refuse_writing };
+    ghost write_causes = { writes_memory };
 
     fn pagable_serialize<S: PagableSerializer<E>>(&self, serializer: &mut S) -> Result<(), Error> {
         write_span(*self, serializer.serde())
@@ -64,9 +56,7 @@ impl<E: Env> PagableSerialize<E> for Duration {
 }
 
 impl<'de, E: Env> PagableDeserialize<'de, E> for Duration {
-    ghost read_causes = { never };
-
-    ghost read_causes_are_own = { never_is_own_reading };
+    ghost read_causes = { reads_never };
 
     fn pagable_deserialize<D: PagableDeserializer<E>>(
         _alloc: Global,

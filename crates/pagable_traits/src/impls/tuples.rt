@@ -1,6 +1,6 @@
 //! Tuples of three to five values: each is written and read as its first value and the tuple of the others.
 
-ghost use Rattle.pagable_model.specs.{Gives.either, Causes.either_may_refuse_writing};
+ghost use Rattle.pagable_traits.specs.OwnCauses.{writes_either};
 
 use crate::alike::{CarriedAs, ReadAs};
 use crate::impls::maps::write_entry;
@@ -53,9 +53,7 @@ impl<
     B: PagableSerialize<E>,
     C: PagableSerialize<E>,
 > PagableSerialize<E> for (A, B, C) {
-    ghost write_causes = { either A.write_causes (either B.write_causes C.write_causes) };
-
-    ghost write_causes_may_refuse = { either_may_refuse_writing A.write_causes (either B.write_causes C.write_causes) A.write_causes_may_refuse (either_may_refuse_writing B.write_causes C.write_causes B.write_causes_may_refuse C.write_causes_may_refuse) };
+    ghost write_causes = { writes_either A.write_causes (writes_either B.write_causes C.write_causes) };
 
     fn pagable_serialize<S: PagableSerializer<E>>(&self, serializer: &mut S) -> Result<(), Error> {
         write_entry(&self.0, &(&self.1, &self.2), serializer)
@@ -69,9 +67,7 @@ impl<
     C: PagableSerialize<E>,
     D: PagableSerialize<E>,
 > PagableSerialize<E> for (A, B, C, D) {
-    ghost write_causes = { either A.write_causes (either B.write_causes (either C.write_causes D.write_causes)) };
-
-    ghost write_causes_may_refuse = { either_may_refuse_writing A.write_causes (either B.write_causes (either C.write_causes D.write_causes)) A.write_causes_may_refuse (either_may_refuse_writing B.write_causes (either C.write_causes D.write_causes) B.write_causes_may_refuse (either_may_refuse_writing C.write_causes D.write_causes C.write_causes_may_refuse D.write_causes_may_refuse)) };
+    ghost write_causes = { writes_either A.write_causes (writes_either B.write_causes (writes_either C.write_causes D.write_causes)) };
 
     fn pagable_serialize<S: PagableSerializer<E>>(&self, serializer: &mut S) -> Result<(), Error> {
         write_entry(&self.0, &(&self.1, &(&self.2, &self.3)), serializer)
@@ -86,9 +82,7 @@ impl<
     D: PagableSerialize<E>,
     F: PagableSerialize<E>,
 > PagableSerialize<E> for (A, B, C, D, F) {
-    ghost write_causes = { either A.write_causes (either B.write_causes (either C.write_causes (either D.write_causes F.write_causes))) };
-
-    ghost write_causes_may_refuse = { either_may_refuse_writing A.write_causes (either B.write_causes (either C.write_causes (either D.write_causes F.write_causes))) A.write_causes_may_refuse (either_may_refuse_writing B.write_causes (either C.write_causes (either D.write_causes F.write_causes)) B.write_causes_may_refuse (either_may_refuse_writing C.write_causes (either D.write_causes F.write_causes) C.write_causes_may_refuse (either_may_refuse_writing D.write_causes F.write_causes D.write_causes_may_refuse F.write_causes_may_refuse))) };
+    ghost write_causes = { writes_either A.write_causes (writes_either B.write_causes (writes_either C.write_causes (writes_either D.write_causes F.write_causes))) };
 
     fn pagable_serialize<S: PagableSerializer<E>>(&self, serializer: &mut S) -> Result<(), Error> {
         write_entry(

@@ -18,9 +18,9 @@ pub fn write_each<
 >(walk: W, serializer: &mut S) -> Result<(), Error>
     requires can { W.can_next walk }
     requires ends { IsFinite (W.remaining walk) }
-    ensures ok { OnOk result (WritesEach W.next_gives T.means walk (nesting (S.levels serializer.old) (E.parts (S.environment serializer.old))) (T.shape (S.environment serializer.old)) (S.out serializer.old) (S.out serializer.new)) }
-    ensures refused { IfErr result (RefusedAmong W.next_gives T.means walk (nesting (S.levels serializer.old) (E.parts (S.environment serializer.old))) (T.shape (S.environment serializer.old))) }
-    ensures only { IfErr result T.write_causes }
+    ensures ok { OnOk result (WritesEach W.next_gives T.means.of walk (nesting (S.levels serializer.old) (E.parts (S.environment serializer.old))) (T.shape (S.environment serializer.old)) (S.out serializer.old) (S.out serializer.new)) }
+    ensures refused { IfErr result (RefusedAmong W.next_gives T.means.of walk (nesting (S.levels serializer.old) (E.parts (S.environment serializer.old))) (T.shape (S.environment serializer.old))) }
+    ensures only { IfErr result T.write_causes.are }
     ensures err { Grows (S.out serializer.old) (S.out serializer.new) }
     ensures same_env { S.environment serializer.new ≡ S.environment serializer.old }
     ensures same_levels { S.levels serializer.new ≡ S.levels serializer.old }
@@ -41,9 +41,9 @@ pub fn write_counted<
 >(count: usize, walk: W, serializer: &mut S) -> Result<(), Error>
     requires can { W.can_next walk }
     requires ends { IsFinite (W.remaining walk) }
-    ensures ok { OnOk result (WritesCounted W.next_gives T.means walk count (nesting (S.levels serializer.old) (E.parts (S.environment serializer.old))) (T.shape (S.environment serializer.old)) (S.out serializer.old) (S.out serializer.new)) }
-    ensures refused { IfErr result (RefusedCounted W.next_gives T.means walk count (nesting (S.levels serializer.old) (E.parts (S.environment serializer.old))) (T.shape (S.environment serializer.old))) }
-    ensures only { IfErr result (long_or (memory_or T.write_causes)) }
+    ensures ok { OnOk result (WritesCounted W.next_gives T.means.of walk count (nesting (S.levels serializer.old) (E.parts (S.environment serializer.old))) (T.shape (S.environment serializer.old)) (S.out serializer.old) (S.out serializer.new)) }
+    ensures refused { IfErr result (RefusedCounted W.next_gives T.means.of walk count (nesting (S.levels serializer.old) (E.parts (S.environment serializer.old))) (T.shape (S.environment serializer.old))) }
+    ensures only { IfErr result (long_or (memory_or T.write_causes.are)) }
     ensures err { Grows (S.out serializer.old) (S.out serializer.new) }
     ensures same_env { S.environment serializer.new ≡ S.environment serializer.old }
     ensures same_levels { S.levels serializer.new ≡ S.levels serializer.old }

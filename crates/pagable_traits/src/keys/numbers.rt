@@ -1,9 +1,8 @@
 //! Numbers, characters, flags, `()` and marks of a type as keys.
 
-ghost use Rattle.std.specs.{Prelude.refl, Int.w8, Int.w16, Int.w32, Int.w64, Int.w128};
-ghost use Rattle.pagable_model.specs.Keyed.{unsigned_refers_to_nothing, signed_refers_to_nothing, letter_refers_to_nothing, flag_refers_to_nothing, nothing_refers_to_nothing, number_is_same};
-ghost use Rattle.pagable_model.specs.Keyed.{integer_is_same, flag_is_same, nothing_is_same, number_is_ordered, integer_is_ordered, flag_is_ordered};
-ghost use Rattle.pagable_model.specs.{Keys.number_order, Keys.integer_order, Keys.flag_order, Keys.nothing_order};
+ghost use Rattle.std.specs.Prelude.{refl};
+ghost use Rattle.pagable_model.specs.Keyed.{number_is_same, integer_is_same, flag_is_same, nothing_is_same, number_is_ordered, integer_is_ordered, flag_is_ordered};
+ghost use Rattle.pagable_model.specs.{Keys.number_order, Keys.integer_order, Keys.flag_order, Keys.nothing_order, OneForm.basic_refers_to_nothing};
 
 use crate::keys::{PagableKey, PagableOrdKey};
 use pagable_codec::env::Env;
@@ -12,7 +11,7 @@ use std::marker::PhantomData;
 impl<E: Env> PagableKey<E> for u8 {
     ghost same = { number_is_same };
 
-    ghost refers_to_nothing = { λ e. unsigned_refers_to_nothing (E.parts e) w8 };
+    ghost refers_to_nothing = { λ e. basic_refers_to_nothing tt };
 }
 
 impl<E: Env> PagableOrdKey<E> for u8 {
@@ -24,7 +23,7 @@ impl<E: Env> PagableOrdKey<E> for u8 {
 impl<E: Env> PagableKey<E> for u16 {
     ghost same = { number_is_same };
 
-    ghost refers_to_nothing = { λ e. unsigned_refers_to_nothing (E.parts e) w16 };
+    ghost refers_to_nothing = { λ e. basic_refers_to_nothing tt };
 }
 
 impl<E: Env> PagableOrdKey<E> for u16 {
@@ -36,7 +35,7 @@ impl<E: Env> PagableOrdKey<E> for u16 {
 impl<E: Env> PagableKey<E> for u32 {
     ghost same = { number_is_same };
 
-    ghost refers_to_nothing = { λ e. unsigned_refers_to_nothing (E.parts e) w32 };
+    ghost refers_to_nothing = { λ e. basic_refers_to_nothing tt };
 }
 
 impl<E: Env> PagableOrdKey<E> for u32 {
@@ -48,7 +47,7 @@ impl<E: Env> PagableOrdKey<E> for u32 {
 impl<E: Env> PagableKey<E> for u64 {
     ghost same = { number_is_same };
 
-    ghost refers_to_nothing = { λ e. unsigned_refers_to_nothing (E.parts e) w64 };
+    ghost refers_to_nothing = { λ e. basic_refers_to_nothing tt };
 }
 
 impl<E: Env> PagableOrdKey<E> for u64 {
@@ -60,7 +59,7 @@ impl<E: Env> PagableOrdKey<E> for u64 {
 impl<E: Env> PagableKey<E> for u128 {
     ghost same = { number_is_same };
 
-    ghost refers_to_nothing = { λ e. unsigned_refers_to_nothing (E.parts e) w128 };
+    ghost refers_to_nothing = { λ e. basic_refers_to_nothing tt };
 }
 
 impl<E: Env> PagableOrdKey<E> for u128 {
@@ -72,7 +71,7 @@ impl<E: Env> PagableOrdKey<E> for u128 {
 impl<E: Env> PagableKey<E> for usize {
     ghost same = { number_is_same };
 
-    ghost refers_to_nothing = { λ e. unsigned_refers_to_nothing (E.parts e) w64 };
+    ghost refers_to_nothing = { λ e. basic_refers_to_nothing tt };
 }
 
 impl<E: Env> PagableOrdKey<E> for usize {
@@ -84,7 +83,7 @@ impl<E: Env> PagableOrdKey<E> for usize {
 impl<E: Env> PagableKey<E> for i8 {
     ghost same = { integer_is_same };
 
-    ghost refers_to_nothing = { λ e. signed_refers_to_nothing (E.parts e) w8 };
+    ghost refers_to_nothing = { λ e. basic_refers_to_nothing tt };
 }
 
 impl<E: Env> PagableOrdKey<E> for i8 {
@@ -96,7 +95,7 @@ impl<E: Env> PagableOrdKey<E> for i8 {
 impl<E: Env> PagableKey<E> for i16 {
     ghost same = { integer_is_same };
 
-    ghost refers_to_nothing = { λ e. signed_refers_to_nothing (E.parts e) w16 };
+    ghost refers_to_nothing = { λ e. basic_refers_to_nothing tt };
 }
 
 impl<E: Env> PagableOrdKey<E> for i16 {
@@ -108,7 +107,7 @@ impl<E: Env> PagableOrdKey<E> for i16 {
 impl<E: Env> PagableKey<E> for i32 {
     ghost same = { integer_is_same };
 
-    ghost refers_to_nothing = { λ e. signed_refers_to_nothing (E.parts e) w32 };
+    ghost refers_to_nothing = { λ e. basic_refers_to_nothing tt };
 }
 
 impl<E: Env> PagableOrdKey<E> for i32 {
@@ -120,7 +119,7 @@ impl<E: Env> PagableOrdKey<E> for i32 {
 impl<E: Env> PagableKey<E> for i64 {
     ghost same = { integer_is_same };
 
-    ghost refers_to_nothing = { λ e. signed_refers_to_nothing (E.parts e) w64 };
+    ghost refers_to_nothing = { λ e. basic_refers_to_nothing tt };
 }
 
 impl<E: Env> PagableOrdKey<E> for i64 {
@@ -132,7 +131,7 @@ impl<E: Env> PagableOrdKey<E> for i64 {
 impl<E: Env> PagableKey<E> for i128 {
     ghost same = { integer_is_same };
 
-    ghost refers_to_nothing = { λ e. signed_refers_to_nothing (E.parts e) w128 };
+    ghost refers_to_nothing = { λ e. basic_refers_to_nothing tt };
 }
 
 impl<E: Env> PagableOrdKey<E> for i128 {
@@ -144,7 +143,7 @@ impl<E: Env> PagableOrdKey<E> for i128 {
 impl<E: Env> PagableKey<E> for char {
     ghost same = { number_is_same };
 
-    ghost refers_to_nothing = { λ e. letter_refers_to_nothing (E.parts e) };
+    ghost refers_to_nothing = { λ e. basic_refers_to_nothing tt };
 }
 
 impl<E: Env> PagableOrdKey<E> for char {
@@ -156,7 +155,7 @@ impl<E: Env> PagableOrdKey<E> for char {
 impl<E: Env> PagableKey<E> for bool {
     ghost same = { flag_is_same };
 
-    ghost refers_to_nothing = { λ e. flag_refers_to_nothing (E.parts e) };
+    ghost refers_to_nothing = { λ e. basic_refers_to_nothing tt };
 }
 
 /// `false` stands before `true`.
@@ -169,7 +168,7 @@ impl<E: Env> PagableOrdKey<E> for bool {
 impl<E: Env> PagableKey<E> for () {
     ghost same = { λ x y. nothing_is_same };
 
-    ghost refers_to_nothing = { λ e. nothing_refers_to_nothing (E.parts e) };
+    ghost refers_to_nothing = { λ e. basic_refers_to_nothing tt };
 }
 
 impl<E: Env> PagableOrdKey<E> for () {
@@ -181,7 +180,7 @@ impl<E: Env> PagableOrdKey<E> for () {
 impl<E: Env, T> PagableKey<E> for PhantomData<T> {
     ghost same = { λ x y. nothing_is_same };
 
-    ghost refers_to_nothing = { λ e. nothing_refers_to_nothing (E.parts e) };
+    ghost refers_to_nothing = { λ e. basic_refers_to_nothing tt };
 }
 
 impl<E: Env, T> PagableOrdKey<E> for PhantomData<T> {

@@ -5,5 +5,5 @@ use Rattle.pagable_arcs.proofs.refers.list_each.Given as goal
 -- the references so far and those of the items that are left are those of all
 abbrev pub invariant-loop-item : goal.invariant-loop-item
 invariant-loop-item g l =
-    let meaning = g.T.OneMeaning.meaning in
+    let meaning = g.T.Carried.means.meaning in
     l.list.items ++ references_in (sequence (map meaning (drop l.item-index l.items))) ≡ l.fn.list.items ++ references_in (sequence (map meaning l.items))

@@ -7,7 +7,7 @@ invariant-loop-index g l =
     let get = read (handles_at (g.D.PagableDeserializer.levels l.fn.deserializer) (g.E.Env.parts env)) (g.T.Carried.shape env) in
     record {
       gives :
-          (ms : List (Meaning ArcRef)) × Collected g.T.Carried.means g.C.Collects.puts (g.C.Collects.held l.collected) ms
+          (ms : List (Meaning ArcRef)) × Collected g.T.Carried.means.of g.C.Collects.puts (g.C.Collects.held l.collected) ms
           × (with_front ms (items get (l.count - l.index) (g.D.PagableDeserializer.rest l.deserializer)) ≡ items get l.count (g.D.PagableDeserializer.rest l.fn.deserializer));
       moves : MovesOn (g.D.PagableDeserializer.standing l.fn.deserializer) (g.D.PagableDeserializer.standing l.deserializer);
       same_env : g.D.PagableDeserializer.environment l.deserializer ≡ env;

@@ -1,7 +1,7 @@
-use Rattle.pagable_traits.proofs.{Words.{length, refl}, Walks.{shows_slice, wraps_list}, InTurn.owed-counted}
+use Rattle.pagable_traits.proofs.{Words.{length, refl, some}, Walks.{shows_slice, wraps_list}, InTurn.owed-counted}
 use Rattle.pagable_traits.proofs.impls.lists.serialize_slice.Goals as goal
 
 pub returns : goal.returns
 returns g c =
-    owed-counted g.E.Env g.S.PagableSerializer _ c.write_counted.result (length c.args.values.now) (shows_slice g.T.Carried.means c.args.values.now c.iter.ensures.rest)
-    (wraps_list g.T.Carried.means c.args.values.now _ _) g.T.Carried.has_meaning refl c.write_counted.ensures
+    owed-counted g.E.Env g.S.PagableSerializer _ c.write_counted.result (length c.args.values.now) (shows_slice g.T.Carried.means.of c.args.values.now c.iter.ensures.rest)
+    (wraps_list g.T.Carried.means.of c.args.values.now _ _) (some g.T.Carried.means) refl c.write_counted.ensures

@@ -1,4 +1,4 @@
-use Rattle.pagable_traits.proofs.{Words.{refl, ◌∙◌, err_from_is_err_and, nesting, grows_trans}, Items.{writes_no_items, grows_some_all}, Maps.writes-next}
+use Rattle.pagable_traits.proofs.{Words.{refl, ◌∙◌, err_from_is_err_and, grows_trans}, Items.{writes_no_items, grows_some_all}, Maps.writes-next}
 use Rattle.pagable_traits.proofs.impls.walks.write_each.Goals as goal
 
 pub loop-item-init : goal.loop-item-init
@@ -6,11 +6,10 @@ loop-item-init g c = record { ok = writes_no_items _ _ _ _; same_env = refl; sam
 
 pub loop-item-preserved : goal.loop-item-preserved
 loop-item-preserved g c =
-    let env = g.S.PagableSerializer.environment c.args.serializer.now in
-    let n = nesting (g.S.PagableSerializer.levels c.args.serializer.now) (g.E.Env.parts env) in
     let i = c.loop-item.invariant in
     let wrote = c.in_ok-pagable_serialize.ensures in
-    record { ok = writes-next g.T.Carried.means _ _ n (g.T.Carried.shape env) _ _ _ i.ok (rw (i.same_levels, i.same_env) at wrote.ok); same_env = wrote.same_env ∙ i.same_env; same_levels = wrote.same_levels ∙ i.same_levels }
+    let next = writes-next g.T.Carried.means.of _ _ _ _ _ _ _ i.ok (rw (i.same_levels, i.same_env) at wrote.ok) in
+    record { ok = next; same_env = wrote.same_env ∙ i.same_env; same_levels = wrote.same_levels ∙ i.same_levels }
 
 pub returns-in_err-pagable_serialize : goal.returns-in_err-pagable_serialize
 returns-in_err-pagable_serialize g c =

@@ -1,4 +1,4 @@
-use Rattle.pagable_traits.proofs.Words.{true, Some, None, inl, inr, err_from_is_err_and, some-form, present, nesting, optional, MeansOption, means-some, memory_refuses, refused_memory}
+use Rattle.pagable_traits.proofs.Words.{true, Some, None, inl, inr, err_from_is_err_and, some-form, present, MeansOption, means-some, memory_refuses, refused_memory}
 use Rattle.pagable_traits.proofs.{Joined.flagged, Parts.where_ok, Parts.writes_absent, Parts.no-some, Parts.only_memory_or}
 use Rattle.pagable_traits.proofs.impls.holders.OptionPagableSerialize.pagable_serialize.Goals as goal
 
@@ -10,14 +10,11 @@ returns-in_err-write_flag-in-Some g c =
 
 pub returns-in-None : goal.returns-in-None
 returns-in-None g c =
-    let env = g.S.PagableSerializer.environment c.args.serializer.now in
-    let n = nesting (g.S.PagableSerializer.levels c.args.serializer.now) (g.E.Env.parts env) in
-    let s = g.T.Carried.shape env in
     let told = c.write_flag.ensures in
     rw c.in-None.is (record {
-      ok = where_ok c.write_flag.result _ _ (writes_absent g.T.Carried.means n s _ _) told.ok;
-      refused = refused_memory c.write_flag.result (MeansOption g.T.Carried.means None) n (optional s) told.only;
-      only = only_memory_or c.write_flag.result g.T.PagableSerialize.write_causes told.only;
+      ok = where_ok c.write_flag.result _ _ (writes_absent g.T.Carried.means.of _ _ _ _) told.ok;
+      refused = refused_memory c.write_flag.result (MeansOption g.T.Carried.means.of None) _ _ told.only;
+      only = only_memory_or c.write_flag.result g.T.PagableSerialize.write_causes.are told.only;
       err = told.err;
       same_env = told.same_env;
       same_levels = told.same_levels;
@@ -25,9 +22,6 @@ returns-in-None g c =
 
 pub returns-in_ok-write_flag-in-Some : goal.returns-in_ok-write_flag-in-Some
 returns-in_ok-write_flag-in-Some g c =
-    let env = g.S.PagableSerializer.environment c.args.serializer.now in
-    let n = nesting (g.S.PagableSerializer.levels c.args.serializer.now) (g.E.Env.parts env) in
-    let s = g.T.Carried.shape env in
     let told = c.in_ok-write_flag-in-Some.ensures in
-    rw c.in-Some.is (flagged c.pagable_serialize.result (g.T.Carried.means _) (MeansOption g.T.Carried.means (Some _)) n s (optional s) true present _ _
-    (λ m is. means-some _ m is) (λ m b k form. some-form _ s m b k form) (no-some n s) (λ e h. inr h) told.ok (rw (told.same_levels, told.same_env) at c.pagable_serialize.ensures))
+    rw c.in-Some.is (flagged c.pagable_serialize.result (g.T.Carried.means.of _) (MeansOption g.T.Carried.means.of (Some _)) _ _ _ true present _ _
+    (λ m is. means-some _ m is) (λ m b k form. some-form _ _ m b k form) (no-some _ _) (λ e h. inr h) told.ok (rw (told.same_levels, told.same_env) at c.pagable_serialize.ensures))

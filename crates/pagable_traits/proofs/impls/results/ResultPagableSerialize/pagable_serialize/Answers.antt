@@ -1,4 +1,4 @@
-use Rattle.pagable_traits.proofs.Words.{◌≡◌, true, false, Ok, Err, inl, inr, rules, err_from_is_err_and, ok-form, err-form, MeansResult, means-ok, means-err, success, failure, outcome, nesting}
+use Rattle.pagable_traits.proofs.Words.{◌≡◌, true, false, Ok, Err, inl, inr, rules, err_from_is_err_and, ok-form, err-form, MeansResult, means-ok, means-err, success, failure}
 use Rattle.pagable_traits.proofs.{Joined.flagged, Joined.no-success, Joined.no-failure, Words.memory_refuses}
 use Rattle.pagable_traits.proofs.impls.results.ResultPagableSerialize.pagable_serialize.Goals as goal
 
@@ -10,22 +10,16 @@ returns-in_err-write_flag g c =
 
 pub returns-in-Ok : goal.returns-in-Ok
 returns-in-Ok g c =
-    let env = g.S.PagableSerializer.environment c.args.serializer.now in
-    let n = nesting (g.S.PagableSerializer.levels c.args.serializer.now) (g.E.Env.parts env) in
-    let s = g.T.Carried.shape env in
-    let t = g.X.Carried.shape env in
     let told = c.in_ok-write_flag.ensures in
     let good : c.is_ok.result ≡ true = search rules in
-    rw c.in-Ok.is (flagged c.pagable_serialize.result (g.T.Carried.means _) (MeansResult g.T.Carried.means g.X.Carried.means (Ok _)) n s (outcome s t) true success _ _
-    (λ m is. means-ok _ m is) (λ m b k form. ok-form _ s t m b k form) (no-success n s t) (λ e h. inr (inl h)) (rw good at told.ok) (rw (told.same_levels, told.same_env) at c.pagable_serialize.ensures))
+    rw c.in-Ok.is (flagged c.pagable_serialize.result (g.T.Carried.means.of _) (MeansResult g.T.Carried.means.of g.X.Carried.means.of (Ok _)) _ _ _ true success _ _
+    (λ m is. means-ok _ m is) (λ m b k form. ok-form _ _ _ m b k form) (no-success _ _ _) (λ e h. inr (inl h))
+    (rw good at told.ok) (rw (told.same_levels, told.same_env) at c.pagable_serialize.ensures))
 
 pub returns-in-Err : goal.returns-in-Err
 returns-in-Err g c =
-    let env = g.S.PagableSerializer.environment c.args.serializer.now in
-    let n = nesting (g.S.PagableSerializer.levels c.args.serializer.now) (g.E.Env.parts env) in
-    let s = g.T.Carried.shape env in
-    let t = g.X.Carried.shape env in
     let told = c.in_ok-write_flag.ensures in
     let bad : c.is_ok.result ≡ false = search rules in
-    rw c.in-Err.is (flagged c.pagable_serialize-in-Err.result (g.X.Carried.means _) (MeansResult g.T.Carried.means g.X.Carried.means (Err _)) n t (outcome s t) false failure _ _
-    (λ m is. means-err _ m is) (λ m b k form. err-form _ s t m b k form) (no-failure n s t) (λ e h. inr (inr h)) (rw bad at told.ok) (rw (told.same_levels, told.same_env) at c.pagable_serialize-in-Err.ensures))
+    rw c.in-Err.is (flagged c.pagable_serialize-in-Err.result (g.X.Carried.means.of _) (MeansResult g.T.Carried.means.of g.X.Carried.means.of (Err _)) _ _ _ false failure _ _
+    (λ m is. means-err _ m is) (λ m b k form. err-form _ _ _ m b k form) (no-failure _ _ _) (λ e h. inr (inr h))
+    (rw bad at told.ok) (rw (told.same_levels, told.same_env) at c.pagable_serialize-in-Err.ensures))

@@ -4,4 +4,4 @@ use Rattle.pagable_traits.proofs.impls.small.SmallVecPagableDeserialize.pagable_
 pub returns : goal.returns
 returns g c =
     tells g.E.Env g.D.PagableDeserializer c.read_collected.ensures
-    (reads_list _ g.T.Carried.means c.read_collected.result (λ x. x.items) _ _ _ _ c.read_collected.ensures.gives)
+    (reads_list _ g.T.Carried.means.of c.read_collected.result (λ x. x.items) _ _ _ _ c.read_collected.ensures.gives)

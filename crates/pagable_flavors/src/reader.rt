@@ -1,10 +1,10 @@
-//! What a deserializer lends to read basic types.
+//! What reads basic values: what a deserializer lends.
 
 ghost use Rattle.std.specs.{Int.w8, Int.w16, Int.w32, Int.w64, Int.w128, Prelude.◌≡◌, Prelude.◌≤◌, Prelude.length, String.string_bytes};
 ghost use Rattle.pagable_model.specs.{Basic.length_at, Basic.text_at, Basic.bool_at, Basic.char_at, Gives.Gives, Gives.never, Gives.memory, Numbers.unsigned_at, Numbers.signed_at, Track.Track};
 ghost use Rattle.pagable_model.specs.{Track.left, Track.GoesOn};
 
-use pagable_flavors::{Error, PagableSlice};
+use pagable_model::Error;
 use std::alloc::Global;
 
 /// A reader of basic types, as `PagableSlice` is. A refusal is the first fault of the wire format, and leaves the
@@ -27,6 +27,7 @@ pub trait Reader {
         requires { position ≤ length (track self.old).all }
         ensures { track self.new ≡ record (track self.old) { position = position } };
 
+    /// A flag: BadBool where the byte is neither 0 nor 1.
     fn read_bool(&mut self) -> Result<bool, Error>
         ensures gives { Gives never (λ b. (b, left (track self.new))) result (bool_at (left (track self.old))) }
         ensures goes { GoesOn (track self.old) (track self.new) };
@@ -35,18 +36,22 @@ pub trait Reader {
         ensures gives { Gives never (λ n. (n, left (track self.new))) result (unsigned_at w8 (left (track self.old))) }
         ensures goes { GoesOn (track self.old) (track self.new) };
 
+    /// BadVarint where the number has more than 3 bytes, or the third is above 3.
     fn read_u16(&mut self) -> Result<u16, Error>
         ensures gives { Gives never (λ n. (n, left (track self.new))) result (unsigned_at w16 (left (track self.old))) }
         ensures goes { GoesOn (track self.old) (track self.new) };
 
+    /// BadVarint where it has more than 5 bytes, or the fifth is above 15.
     fn read_u32(&mut self) -> Result<u32, Error>
         ensures gives { Gives never (λ n. (n, left (track self.new))) result (unsigned_at w32 (left (track self.old))) }
         ensures goes { GoesOn (track self.old) (track self.new) };
 
+    /// BadVarint where it has more than 10 bytes, or the tenth is above 1.
     fn read_u64(&mut self) -> Result<u64, Error>
         ensures gives { Gives never (λ n. (n, left (track self.new))) result (unsigned_at w64 (left (track self.old))) }
         ensures goes { GoesOn (track self.old) (track self.new) };
 
+    /// BadVarint where it has more than 19 bytes, or the nineteenth is above 3.
     fn read_u128(&mut self) -> Result<u128, Error>
         ensures gives { Gives never (λ n. (n, left (track self.new))) result (unsigned_at w128 (left (track self.old))) }
         ensures goes { GoesOn (track self.old) (track self.new) };
@@ -75,7 +80,7 @@ pub trait Reader {
         ensures gives { Gives never (λ n. (n, left (track self.new))) result (signed_at w128 (left (track self.old))) }
         ensures goes { GoesOn (track self.old) (track self.new) };
 
-    /// A text of one character: BadChar where it has none or more.
+    /// A text of one character: BadChar where it has none or more, after the refusals of a text.
     fn read_char(&mut self) -> Result<char, Error>
         ensures gives { Gives never (λ c. (c, left (track self.new))) result (char_at (left (track self.old))) }
         ensures goes { GoesOn (track self.old) (track self.new) };
@@ -85,84 +90,8 @@ pub trait Reader {
         ensures gives { Gives never (λ n. (n, left (track self.new))) result (length_at (left (track self.old))) }
         ensures goes { GoesOn (track self.old) (track self.new) };
 
+    /// A text: TooLong, then UnexpectedEnd, then BadUtf8.
     fn read_string(&mut self, alloc: Global) -> Result<String, Error>
         ensures gives { Gives memory (λ t. (string_bytes t, left (track self.new))) result (text_at (left (track self.old))) }
         ensures goes { GoesOn (track self.old) (track self.new) };
-}
-
-impl Reader for PagableSlice<'_> {
-    ghost track = { λ s. s };
-
-    fn position(&self) -> usize {
-        PagableSlice::position(self)
-    }
-
-    fn size_hint(&self) -> usize {
-        PagableSlice::size_hint(self)
-    }
-
-    fn set_position(&mut self, position: usize) {
-        PagableSlice::set_position(self, position);
-    }
-
-    fn read_bool(&mut self) -> Result<bool, Error> {
-        PagableSlice::read_bool(self)
-    }
-
-    fn read_u8(&mut self) -> Result<u8, Error> {
-        PagableSlice::read_u8(self)
-    }
-
-    fn read_u16(&mut self) -> Result<u16, Error> {
-        PagableSlice::read_u16(self)
-    }
-
-    fn read_u32(&mut self) -> Result<u32, Error> {
-        PagableSlice::read_u32(self)
-    }
-
-    fn read_u64(&mut self) -> Result<u64, Error> {
-        PagableSlice::read_u64(self)
-    }
-
-    fn read_u128(&mut self) -> Result<u128, Error> {
-        PagableSlice::read_u128(self)
-    }
-
-    fn read_usize(&mut self) -> Result<usize, Error> {
-        PagableSlice::read_usize(self)
-    }
-
-    fn read_i8(&mut self) -> Result<i8, Error> {
-        PagableSlice::read_i8(self)
-    }
-
-    fn read_i16(&mut self) -> Result<i16, Error> {
-        PagableSlice::read_i16(self)
-    }
-
-    fn read_i32(&mut self) -> Result<i32, Error> {
-        PagableSlice::read_i32(self)
-    }
-
-    fn read_i64(&mut self) -> Result<i64, Error> {
-        PagableSlice::read_i64(self)
-    }
-
-    fn read_i128(&mut self) -> Result<i128, Error> {
-        PagableSlice::read_i128(self)
-    }
-
-    fn read_char(&mut self) -> Result<char, Error> {
-        PagableSlice::read_char(self)
-    }
-
-    fn read_len(&mut self) -> Result<usize, Error> {
-        PagableSlice::read_len(self)
-    }
-
-    fn read_string(&mut self, alloc: Global) -> Result<String, Error> {
-        let text = PagableSlice::read_str(self)?;
-        Ok(String::from_str(alloc, text)?)
-    }
 }

@@ -1,5 +1,5 @@
 use Rattle.std.proofs.Common.{rules}
-use Rattle.pagable_codec.proofs.reader.PagableSliceReader.read_string.Goals as goal
+use Rattle.pagable_flavors.proofs.slice.reading.PagableSliceReader.read_string.Goals as goal
 
 pub returns-in_err-text-clause-gives : goal.returns-in_err-text-clause-gives
 returns-in_err-text-clause-gives c = search rules

@@ -1,0 +1,130 @@
+//! Basic values are read.
+
+use super::PagableSlice;
+use crate::reader::Reader;
+use crate::vec_flavor::LONGEST;
+use crate::zigzag;
+use pagable_model::Error;
+use std::alloc::Global;
+
+impl Reader for PagableSlice<'_> {
+    ghost track = { λ s. s };
+
+    fn position(&self) -> usize {
+        PagableSlice::position(self)
+    }
+
+    fn size_hint(&self) -> usize {
+        PagableSlice::size_hint(self)
+    }
+
+    fn set_position(&mut self, position: usize) {
+        PagableSlice::set_position(self, position);
+    }
+
+    #[tactic(auto, unfolding(pagable_model::specs::Basic::bool_at))]
+    fn read_bool(&mut self) -> Result<bool, Error> {
+        match self.pop()? {
+            0 => Ok(false),
+            1 => Ok(true),
+            _ => Err(Error::BadBool),
+        }
+    }
+
+    fn read_u8(&mut self) -> Result<u8, Error> {
+        self.pop()
+    }
+
+    #[tactic(auto, using(crate::proofs::Varint::reader_steps, crate::proofs::Varint::limits))]
+    fn read_u16(&mut self) -> Result<u16, Error> {
+        if let Some(byte) = self.short() {
+            return Ok(u16::from(byte));
+        }
+        let number = self.varint(2, 3)?;
+        Ok(number as u16)
+    }
+
+    #[tactic(auto, using(crate::proofs::Varint::reader_steps, crate::proofs::Varint::limits))]
+    fn read_u32(&mut self) -> Result<u32, Error> {
+        if let Some(byte) = self.short() {
+            return Ok(u32::from(byte));
+        }
+        let number = self.varint(4, 15)?;
+        Ok(number as u32)
+    }
+
+    #[tactic(auto, using(crate::proofs::Varint::reader_steps, crate::proofs::Varint::limits))]
+    fn read_u64(&mut self) -> Result<u64, Error> {
+        if let Some(byte) = self.short() {
+            return Ok(u64::from(byte));
+        }
+        let number = self.varint(9, 1)?;
+        Ok(number)
+    }
+
+    #[tactic(auto, using(crate::proofs::Varint::wide_reader_steps))]
+    fn read_u128(&mut self) -> Result<u128, Error> {
+        if let Some(byte) = self.short() {
+            return Ok(u128::from(byte));
+        }
+        let number = self.wide_varint()?;
+        Ok(number)
+    }
+
+    fn read_usize(&mut self) -> Result<usize, Error> {
+        let number = self.read_u64()?;
+        Ok(number as usize)
+    }
+
+    fn read_i8(&mut self) -> Result<i8, Error> {
+        let byte = self.pop()?;
+        Ok(byte.cast_signed())
+    }
+
+    fn read_i16(&mut self) -> Result<i16, Error> {
+        let number = self.read_u16()?;
+        Ok(zigzag::decode(u64::from(number)) as i16)
+    }
+
+    fn read_i32(&mut self) -> Result<i32, Error> {
+        let number = self.read_u32()?;
+        Ok(zigzag::decode(u64::from(number)) as i32)
+    }
+
+    fn read_i64(&mut self) -> Result<i64, Error> {
+        let number = self.read_u64()?;
+        Ok(zigzag::decode(number))
+    }
+
+    fn read_i128(&mut self) -> Result<i128, Error> {
+        let number = self.read_u128()?;
+        Ok(zigzag::decode_wide(number))
+    }
+
+    #[tactic(auto, using(crate::proofs::Text::char_steps), unfolding(pagable_model::specs::Basic::char_at))]
+    fn read_char(&mut self) -> Result<char, Error> {
+        let text = self.read_str()?;
+        let mut characters = text.chars();
+        let Some(character) = characters.next() else {
+            return Err(Error::BadChar);
+        };
+        if characters.next().is_some() {
+            return Err(Error::BadChar);
+        }
+        Ok(character)
+    }
+
+    #[tactic(auto, unfolding(pagable_model::specs::Basic::length_at))]
+    fn read_len(&mut self) -> Result<usize, Error> {
+        let number = self.read_usize()?;
+        if number > LONGEST {
+            return Err(Error::TooLong);
+        }
+        Ok(number)
+    }
+
+    fn read_string(&mut self, alloc: Global) -> Result<String, Error> {
+        let text = self.read_str()?;
+        Ok(String::from_str(alloc, text)?)
+    }
+}
