@@ -1,10 +1,9 @@
 -- Keys that are made of keys: when two are the same, in which order they stand, and that they refer to nothing.
-use Rattle.std.proofs.{Common.{◌≡◌, ℕ, Bool, true, false, ◌&&◌, List, [], ◌∷◌, Option, Some, None, Result, Ok, Err, refl, ap, ◌∙◌}, lemmas.Slice.Eq.bytes_eq-Decides}
+use Rattle.std.proofs.{Common.{◌≡◌, Bool, true, false, ◌&&◌, List, [], ◌∷◌, Option, Some, None, Result, Ok, Err, refl, ap, ◌∙◌}, lemmas.Slice.Eq.bytes_eq-Decides}
 use Rattle.std.specs.{Cmp.{first_so, second_so}, Cmp.Lexicographic.{slice_cmp, pointwise}, declared.cmp.Ordering.Ordering, Ordering.ordering_then, Option.{option_eq, option_cmp}, Result.result_eq}
 use Rattle.std.specs.{Result.result_cmp, Str.bytes_eq}
 use Rattle.pagable_model.specs.{Meaning.{Meaning, pair, plain}, Keys.{KeyOrder, code, same_key, ordered, optional_order, outcome_order, pair_order, list_order}, Codes.one-meaning, Carried.of_option}
-use Rattle.pagable_model.specs.{Carried.{of_result, of_list}, Shape.{Shape, optional, outcome, list, array, both, sorted_map, sorted_set}, Canonical.LiesIn, Keyed.{RefersToNothing, same-by}}
-use Rattle.pagable_model.specs.Keyed.{throughout-over, throughout-two}
+use Rattle.pagable_model.specs.{Carried.{of_result, of_list}, Keyed.{same-by}}
 use Rattle.std.specs.declared.cmp.Ordering.TheVariants as answers
 
 -- ---- two keys are the same if their parts are

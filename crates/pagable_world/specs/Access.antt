@@ -1,13 +1,12 @@
--- What running threads share: results with a finite tree of results below each. Whole operations over an access to a pager and a table, which may
--- tell its state: a pin, a reading, a page-out of an item and of the list. Each is a run of the steps of one load or of one worker, up to its answer.
-use Rattle.std.specs.Prelude.{◌≡◌, ℕ, ◌≤◌, List, [], ◌∷◌, ◌+◌, ◌==◌, ◌&&◌, Bool, true, false, if◌then◌else◌, length, Option, Some, None, Result, Ok, IfOk, IfErr, slice_get, ◌⊎◌, Err}
-use Rattle.pagable_model.specs.Merkle.{blob_of, KeyOf}
-use Rattle.pagable_world.specs.Plain.{ArcRef, Identity, Blob, type_of, Error, OptionalDataKey, HandleNumber, LoadNumber, Tree, ReadsTree, Owner, HandleRow, LoadAnswer, Took, WorkerAnswer}
-use Rattle.pagable_world.specs.{Kinds.{identity_of, HasKinds, HasNoKinds}, World.{Written, Frame, Outcome, is_identity, Values, digest, HasForm, Core, Shelf, Slot, Reading, Todo, of_item, row_at}}
-use Rattle.pagable_world.specs.{World.{key_at, Alike, SameShelf, Seen, IsLawful, IsSettled}, Calls.{PinCall, UnpinCall, ReleaseCall, TakeCall}, LoadCalls.{BeginCall, BeginKeyCall}, Loads.IsDecoded}
-use Rattle.pagable_world.specs.{Loads.{ReadingDoes, gone_on}, Workers.{is_open_outcome, Site, WalkDoes, IsPublished, is_open_slot, first_todo, fresh, answer_after}, Events.{Ends, IsEntry}}
+-- Whole operations over an access to a pager and a table, which may tell its state: a pin, a reading, a page-out of an item and of the list. Each is
+-- a run of the steps of one load or of one worker, up to its answer.
+use Rattle.std.specs.Prelude.{◌≡◌, ℕ, List, [], ◌∷◌, ◌+◌, false, Option, Some, None, Result, Ok, IfOk, IfErr, slice_get, ◌⊎◌, Err}
+use Rattle.pagable_world.specs.Plain.{Identity, Error, OptionalDataKey, HandleNumber, LoadNumber, Tree, Owner, HandleRow, LoadAnswer, Took, WorkerAnswer}
+use Rattle.pagable_world.specs.{Kinds.{HasKinds, HasNoKinds}, World.{Written, Frame, Values, Core, Shelf, Slot, Reading, Todo, of_item, row_at}}
+use Rattle.pagable_world.specs.{World.{key_at, Alike, SameShelf, Seen, IsLawful, IsSettled}, Calls.{PinCall, UnpinCall, ReleaseCall, TakeCall}, LoadCalls.{BeginCall, BeginKeyCall}}
+use Rattle.pagable_world.specs.{Loads.{ReadingDoes, gone_on}, Workers.{Site, WalkDoes, is_open_slot, first_todo, fresh, answer_after}, Events.{Ends, IsEntry}}
 use Rattle.pagable_world.specs.{Events.{entry_task, with_entry_taken, with_worker, reading_of_load, no_shelf}, Pager.{PagerState, WellFormed, Moves, ReadingBrings, TodoBrings, TookWrites}}
-use Rattle.pagable_world.specs.{Pager.{ValueStands, Represents, SameTrees}, Runs.{ReadsItsTypes, HoldsSettled, TakesWell, TodoTakesWell}, Headline.{ReadIsRight, IsKeyOfTask}}
+use Rattle.pagable_world.specs.{Pager.{ValueStands, Represents, SameTrees}, Runs.{ReadsItsTypes, HoldsSettled, TakesWell}, Headline.{ReadIsRight}}
 use Rattle.pagable_model.specs.declared.error.Error.TheVariants as errors
 use Rattle.pagable_model.specs.declared.data_key.OptionalDataKey.TheVariants as optional
 use Rattle.pagable_world.specs.declared.rows.Mode.TheVariants as modes
@@ -16,77 +15,6 @@ use Rattle.pagable_world.specs.declared.answers.Pinning.TheVariants as pinnings
 use Rattle.pagable_world.specs.declared.answers.Beginning.TheVariants as beginnings
 use Rattle.pagable_world.specs.declared.events.LoadAnswer.TheVariants as ends
 use Rattle.pagable_world.specs.declared.events.WorkerAnswer.TheVariants as finals
-
-mutual
-  -- Below the identity, with this value and key, stands a finite tree of results: the value is of the identity's type and has a form, and the key is
-  -- that of the form over the keys of one result for each of its references.
-  pub data ResultStands {N : Type 0} (v : Values N) : Identity → N → ℕ → Type 0 where
-    stands-over : (i : Identity) (x : N) (written : Written) (keys : List ℕ) → v.node_type x ≡ type_of i.kind.0 → HasForm v x written → ResultsStand v written.references keys → ResultStands v i x (digest v (blob_of written.bytes keys))
-
-  -- one such tree for each of these references, of its identity
-  pub data ResultsStand {N : Type 0} (v : Values N) : List ArcRef → List ℕ → Type 0 where
-    no-results : ResultsStand v [] []
-    more-results : (r : ArcRef) (x : N) (key : ℕ) (references : List ArcRef) (keys : List ℕ) → ResultStands v (identity_of r) x key → ResultsStand v references keys → ResultsStand v (r ∷ references) (key ∷ keys)
-
--- The key of an item is the digest of its bytes over the keys of such results, one for each reference.
--- To be carried by: `page_out_item` and `page_out_all`.
-pub record IsOverResults {N : Type 0} (v : Values N) (item : Written) (key : ℕ) : Type 0 where
-  pub keys : List ℕ
-  pub each : ResultsStand v item.references keys
-  pub is : key ≡ digest v (blob_of item.bytes keys)
-
--- What a future of a pin installs is what the blob that it fetched at its key reads as.
--- To be carried by: the step of `PinFuture` that ends its load.
-pub record IsReadAt {N : Type 0} (v : Values N) (key : ℕ) (blob : Blob) (x : N) : Type 0 where
-  pub frame : Frame
-  pub under : frame.key ≡ key
-  pub fetched : frame.blob ≡ blob
-  pub decoded : IsDecoded v frame x
-
--- which identities are claimed on a table, and how many claims its book counts
-pub record Claimed : Type 0 where
-  pub is_claimed : Identity → Bool
-  pub counted : ℕ
-
--- one more claim, of this identity
-pub record TakesClaim (old : Claimed) (share : ℕ) (i : Identity) (new : Claimed) (share' : ℕ) : Type 0 where
-  pub was_free : old.is_claimed i ≡ false
-  pub each : (j : Identity) → new.is_claimed j ≡ (if is_identity i j then true else old.is_claimed j)
-  pub counts : new.counted ≡ old.counted + 1
-  pub shares : share' ≡ share + 1
-
--- nothing was claimed
-pub record TakesNone (old : Claimed) (share : ℕ) (new : Claimed) (share' : ℕ) : Type 0 where
-  pub each : (j : Identity) → new.is_claimed j ≡ old.is_claimed j
-  pub counts : new.counted ≡ old.counted
-  pub shares : share' ≡ share
-
-abbrev pub Tries : Claimed → ℕ → Identity → Bool → Claimed → ℕ → Type 0
-Tries old share i true new share' = TakesClaim old share i new share'
-Tries old share i false new share' = (old.is_claimed i ≡ true) × TakesNone old share new share'
-
--- An identity goes from free to claimed by one call that answers true, which adds one to the caller's share and to the book, and nothing else does.
--- To be carried by: `try_claim`.
-pub record TryClaim (old : Claimed) (share : ℕ) (i : Identity) (r : Result Bool Error) (new : Claimed) (share' : ℕ) : Type 0 where
-  pub tries : IfOk r (λ taken. Tries old share i taken new share')
-  pub refused : IfErr r (λ e. (e ≡ errors.OutOfMemory) × TakesNone old share new share')
-
--- a share that is split or merged keeps its sum
--- To be carried by: `split_off` and `merge`.
-abbrev pub KeepsSum : ℕ → ℕ → ℕ → Type 0
-KeepsSum whole part other = whole ≡ part + other
-
--- A lent slot takes one result, which never changes.
--- To be carried by: `set_success` and `set_failed`.
-abbrev pub TakesResult : Outcome → Outcome → Outcome → Type 0
-TakesResult old outcome new = new ≡ (if is_open_outcome old then outcome else old)
-
--- What a page-out of all items reports: an answer for each in order, each key over results, and as many claims as the book counts.
--- To be carried by: `page_out_all`.
-pub record IsReport {N F : Type 0} (v : Values N) (items : List Written) (keys : List (Result ℕ F)) (claims counted : ℕ) : Type 0 where
-  pub each : length keys ≡ length items
-  pub over : (place key : ℕ) (item : Written) → slice_get items place ≡ Some item → slice_get keys place ≡ Some (Ok key) → IsOverResults v item key
-  pub claims_are : claims ≡ counted
 
 -- the pager and the one table of an access
 pub record AccessState (N E : Type 0) : Type 0 where
@@ -140,10 +68,6 @@ pub data WorkerRun {N E B W : Type 0} (m : Seen N B W) (n : ℕ) : List Todo →
 unfoldable pub LoadAsksWell : {N E : Type 0} {v : Values N} {me : Owner} {reading : Reading} {s s' : PagerState N E} {answer : LoadAnswer N} → LoadRun v me reading s answer s' → Type 0
 LoadAsksWell {v = v} (load-ends reading answer s s' step) = HoldsSettled v s' × TakesWell v s reading
 LoadAsksWell {v = v} (load-goes-on reading frames answer s mid s' step more) = HoldsSettled v mid × TakesWell v s reading × LoadAsksWell more
-
-unfoldable pub WorkerAsksWell : {N E B W : Type 0} {m : Seen N B W} {n : ℕ} {todo : List Todo} {s s' : AccessState N E} {steps : List (Took W)} {answer : WorkerAnswer} → WorkerRun m n todo s steps answer s' → Type 0
-WorkerAsksWell {m = m} (worker-ends todo next step answer s s' does is) = HoldsSettled m.values s'.pager × TodoTakesWell m.values s.pager todo
-WorkerAsksWell {m = m} (worker-goes-on todo next step steps answer s mid s' does is more) = HoldsSettled m.values mid.pager × TodoTakesWell m.values s.pager todo × WorkerAsksWell more
 
 -- a load of the handle's cell begins, and this is its reading
 pub record LoadStarts {N E : Type 0} (v : Values N) (s : PagerState N E) (h : HandleNumber) (reading : Reading) (s' : PagerState N E) : Type 0 where
@@ -259,16 +183,3 @@ abbrev pub ReadLaw : {N : Type 0} → (E : Type 0) → Values N → Type 0
 ReadLaw {N} E v =
     (s mid s' : PagerState N E) (key t : ℕ) (l : LoadNumber) (x : N) (run : LoadRun v owners.Caller (fresh l t) mid (ends.Read x) s')
     → WellFormed v s → KeyStarts v s key l mid → LoadAsksWell run → IsSettled v x → LeadsToTrees v s s' (λ trees trees'. ReadIsRight v s' key x)
-
--- the keys that are known on the table are those of their nodes' trees, and the store reads so
-pub record KeysAreRight {N E : Type 0} (v : Values N) (s : AccessState N E) (trees : ℕ → Tree) : Type 0 where
-  pub key_of : (i : Identity) (key height : ℕ) → IsPublished s.shelf i key height → KeyOf v.hash v.types (trees i.node.0) key
-  pub reads : (i : Identity) (key height : ℕ) → IsPublished s.shelf i key height → ReadsTree s.pager.core.stored v.types key (trees i.node.0)
-
--- The law of page-outs of items: where the keys known on the table were right they are, and a key that is answered is the item's.
-abbrev pub ItemLaw : {N B W : Type 0} → (E : Type 0) → Seen N B W → Type 0
-ItemLaw {N} {B} {W} E m =
-    (s s' : AccessState N E) (mid : PagerState N E) (n : ℕ) (item : Written) (steps : List (Took W)) (answer : WorkerAnswer)
-    (run : WorkerRun m n (first_todo (of_item item)) (record { pager = mid; shelf = s.shelf }) steps answer s')
-    → WellFormed m.values s.pager → WorkerStarts m.values s.pager.core s.pager n mid → WorkerAsksWell run
-    → LeadsToTrees m.values s.pager s'.pager (λ trees trees'. KeysAreRight m.values s trees → KeysAreRight m.values s' trees' × ((key : ℕ) → answer ≡ finals.Key key → IsKeyOfTask m.values trees' (of_item item) key))
