@@ -1,12 +1,12 @@
 -- What follows for keys: each that is published is its tree's, each that is answered is its task's, and what a worker met that answers one is left paged out.
-use Rattle.pagable_laws.proofs.Words.{arith, nat_tests, ◌≡◌, ℕ, true, List, [], ◌∷◌, Option, Some, Ok, Err, refl, sym, ap, subst, ◌∙◌, is_some, OptionalDataKey, blob_of, KeyOfItem}
+use Rattle.pagable_laws.proofs.Words.{longest_path, arith, nat_tests, ◌≡◌, ℕ, true, List, [], ◌∷◌, Option, Some, Ok, Err, refl, sym, ap, subst, ◌∙◌, is_some, OptionalDataKey, blob_of, KeyOfItem}
 use Rattle.pagable_laws.proofs.Words.{ArcRef, Identity, is_loose_kind, Tree, HandleNumber, ReadsTree, WorkerNumber, if_there, Event, EventReply, Took, WorkerAnswer, WorkerReply, identity_of}
 use Rattle.pagable_laws.proofs.Words.{has_key, Core, Cell, key_at, Shelf, Slot, Written, Todo, to_item, to_set, to_publish, to_release, to_fail, Task, of_item, of_entry, Walking, Values}
 use Rattle.pagable_laws.proofs.Words.{Seen, Site, Does, IsPublished, answer_after, WorkerSteps, Happens, PagerState, MachineState, world_of, kids_of, HandlesAreWhole, IsMachineWhole}
 use Rattle.pagable_laws.proofs.Words.{Represents, StandsFor, ReadsItsTypes, Meets, meets-of-item, meets-entry, meets-below, AreKeysOf, IsLeftPagedOut, HasKeyOf, LeavesAll, IsKeyOfTask}
 use Rattle.pagable_laws.proofs.{Words.{Ground, ground_of, IsOfEntry, Waits, Walks, WorkFits, IsDone, KeyIsSet, AllHold, HasHandle, KeysHeld, KeysAreRight}, Merkle.{one_key, one_item_key}}
 use Rattle.pagable_laws.proofs.{Merkle.tree_readable, Trees.{same_some, each-type}, Following.{IdentityStands, known-of, keys-of, tree-form, cell-of}, Taking.row-held, Coming.updated-at}
-use Rattle.pagable_laws.proofs.Stepping.{keys-on, all-known, stands-for}
+use Rattle.pagable_laws.proofs.Stepping.{done-on, keys-same, all-known, all-low, stands-for}
 
 -- ---- one step of a worker
 
@@ -22,11 +22,12 @@ module _ {N B W : Type 0} (m : Seen N B W) (n : ℕ) (g : Ground) (task : Task) 
       let to : k ≡ key = cc in
       let b = p.stored.stores in
       record {
-        done = subst (λ t. IsDone m.values s.shelf t key) (sym of_it) (ks, all-known s.shelf written.references ks p.all known, sym to ∙ b.0);
+        done = subst (λ t. IsDone m.values s.shelf t key) (sym of_it)
+            (ks, all-known s.shelf longest_path written.references ks p.all known, sym to ∙ b.0, all-low s.shelf longest_path written.references ks p.all known);
         same = let t = p.goes in t.table_stays.slots;
       }
   answered (to_item written ks ∷ below) (Took.Store i (Err f)) does walks key e = absurd (cc)
-  answered (to_release r k h ∷ []) (Took.Release i) (is, falls, t) (p, (expects, waits)) key e =
+  answered (to_release r k h ∷ []) (Took.Release i) (is, falls, t) (p, reach, (expects, waits)) key e =
       let to : k ≡ key = cc in record { done = of-entry task expects (subst (λ q. IsPublished s.shelf (identity_of r) q h) to p); same = t.table_stays.slots }
     where
       of-entry : (task : Task) → IsOfEntry task r → IsPublished s.shelf (identity_of r) key h → IsDone m.values s.shelf task key
@@ -45,7 +46,7 @@ module _ {N E : Type 0} (v : Values N) (s : MachineState N E) (trees : ℕ → T
   keys-stand = stands-for v (ground_of s trees) shelf (fit.slots t)
 
   is-key : (task : Task) (key : ℕ) → IsDone v shelf task key → IsKeyOfTask v trees task key
-  is-key (of_item written) key (keys, known, is) =
+  is-key (of_item written) key (keys, known, is, lows) =
       let k : KeyOfItem v.hash v.types written.bytes (kids_of trees written.references) key = record { keys = keys; each = keys-of keys-stand written.references keys known; is = is } in
       (k, λ canonical other o. one_item_key v.hash v.types written.bytes (kids_of trees written.references) other key canonical o k)
   is-key (of_entry h i) key (height, p) = let k = (keys-stand i key height p).right.is_key in (k, λ canonical other o. one_key v.hash v.types (trees i.node.0) other key canonical o k)
@@ -115,8 +116,8 @@ module _ {N B W E : Type 0} (m : Seen N B W) (s s' : MachineState N E) (trees tr
     done : (key : ℕ) → reply.answer ≡ Some (WorkerAnswer.Key key) → IsDone m.values (s'.work.shelves w.walking.table) w.walking.task key
     done key is =
         let a = answered m n.0 (ground_of s trees) w.walking.task site w.after w.walking.todo reply.took w.does.does (before.walks n.0 w.walking w.at) key (sym w.answers ∙ is) in
-        let table = w.work.same_shelves w.walking.table in
-        (grind (arith, nat_tests, keys-on))
+        done-on (keys-same (λ i. (w.work.same_shelves w.walking.table).slots i ∙ ap (λ (x : Shelf). x.slots i) (updated-at w.walking.table w.after.shelf s.work.shelves) ∙ a.same i))
+        m.values w.walking.task key a.done
 
     -- the worker as it is afterwards
     is-after : (P : Walking → Type 0) → P (record w.walking { todo = w.after.todo; steps = reply.steps; answer = reply.answer }) → (walking : Walking)

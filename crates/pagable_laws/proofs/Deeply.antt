@@ -1,32 +1,180 @@
--- No key is answered of what leads down too long a path, or to a value that has no form; and why a claim is too deep.
+-- Heights that are known are those of trees: so no key is answered of what leads down too long a path, or to a value that has no form; and why a claim is too deep.
 use Rattle.pagable_laws.proofs.Words.{nat_tests, ◌≡◌, ℕ, ◌<◌, ◌≤◌, List, refl, sym, subst, ◌∙◌, arith, max, Some, pair, variant, reference, followed, longest_path, above, height, deepest_path}
-use Rattle.pagable_laws.proofs.Words.{ArcRef, Identity, Meaning, Tree, Took, WorkerAnswer, identity_of, Shelf, Todo, Task, of_item, of_entry, Values, Seen, Site, Does, IsPublished, answer_after}
+use Rattle.pagable_laws.proofs.Words.{ArcRef, Identity, Meaning, Tree, Took, WorkerAnswer, identity_of, Shelf, Todo, Task, of_item, of_entry, Values, Seen, Site, Does, IsPublished}
 use Rattle.pagable_laws.proofs.Words.{MachineState, world_of, IsLongBelow, IsTooDeepTask, Ground, FollowsTo, pair-follows, variant-follows, reference-follows, Waits, Walks, WorkFits, Bool, true}
 use Rattle.pagable_laws.proofs.Words.{false, ap, inl, inr, TreeForm, tree, type_of, Among, Written, kids_of, Reaches, refers, refers-on, in-first, in-rest, in-part, HasNoForm, LeadsToNoForm}
 use Rattle.pagable_laws.proofs.Words.{IsFormlessTask, ground_of, WroteTree, IsDone, ◌⊎◌, [], ◌∷◌, Ok, Err, Event, EventReply, Error, to_start, Walking, IsLawful, Happens, IsMetFailure}
 use Rattle.pagable_laws.proofs.Words.{IsMachineWhole, IsIdle, StandsFor, ReadsItsTypes, HoldsSettled, Moment, AreMoments, Fact, TreesAlong, KeyIsShallow, ShallowLaw, MetDepthAlone, DepthIsTold}
-use Rattle.pagable_laws.proofs.{Words.{ToldDepthLaw, WaitsForAsker, ClaimIsDeep, DeepClaimLaw}, Heights.{IsLow, AllLow, WaitsLow, TodoLow, all-low, HeightsIn, heights-at-first}}
-use Rattle.pagable_laws.proofs.{Heights.heights-on, Trees.{same_some, tree_is}, Following.{known-of, tree-form}, Coming.{StandsIn, event-turns, updated-at}, Answering.answered}
-use Rattle.pagable_laws.proofs.{Chains.{headline_law, IsGoingOn, idle-goes, goes}, Standing.{AllStand, Covers}, Heights.claim-deep}
+use Rattle.pagable_laws.proofs.{Words.{ToldDepthLaw, WaitsForAsker, ClaimIsDeep, DeepClaimLaw}, Words.{IsLow, AllLow}}
+use Rattle.pagable_laws.proofs.{Trees.{same_some, tree_is}, Following.{known-of, tree-form}, Coming.{StandsIn, updated-at}, Answering.answered}
+use Rattle.pagable_laws.proofs.{Chains.{headline_law, IsGoingOn, idle-goes, goes}, Standing.{AllStand, Covers}}
+use Rattle.pagable_laws.proofs.Along.{Along, each-two, form-along}
+use Rattle.std.proofs.lemmas.Bool.{or_cases}
+use Rattle.pagable_laws.proofs.Along.{number-along, integer-along, text-along, pattern-along, none-along, pair-along, variant-along, reference-along}
+use Rattle.pagable_laws.proofs.Words.{if◌then◌else◌, suc, zero, ◌+◌, ◌⊎◌, Claims, Core, Expects, IsAttained, IsTooDeep, Types, is_eager, is_identity, kind_of_arc, place_over, to_finish, to_item}
+use Rattle.pagable_laws.proofs.Standing.{is-same, is_open_in}
+use Rattle.pagable_laws.proofs.Stepping.{next-among}
 
--- ---- where heights are low, no path from a tree whose key is known is too long
+-- ---- what a tree's references lead to is part of it
+
+-- how many references a meaning has, with all that they lead to
+size : Meaning ⊥ → ℕ
+size (pair a b) = size a + size b
+size (variant n a) = size a
+size (followed kind a) = suc (size a)
+size _ = 0
+
+height-within : (m : Meaning ⊥) → height m ≤ deepest_path m
+unfolding height deepest_path
+height-within (pair a b) = let p = height-within a in let q = height-within b in omega arith
+height-within (variant n a) = height-within a
+height-within x0 = grind (arith, nat_tests)
+
+-- what the reference leads to is part of what the meaning says
+record Part (trees : ℕ → Tree) (m : Meaning ⊥) (r : ArcRef) : Type 0 where
+  top : above r.kind.0 (height (trees r.node.0).meaning) ≤ height m
+  deep : deepest_path (trees r.node.0).meaning ≤ deepest_path m
+  small : suc (size (trees r.node.0).meaning) ≤ size m
+
+-- the same reference, which is a part
+record SamePart (trees : ℕ → Tree) (m : Meaning ⊥) (r other : ArcRef) : Type 0 where
+  same : other ≡ r
+  part : Part trees m r
+
+module _ (trees : ℕ → Tree) (rs : List ArcRef) (whole : Meaning ⊥) where
+  parts-along : {own : Meaning ArcRef} {n : Meaning ⊥} → FollowsTo trees rs own n → height n ≤ height whole → deepest_path n ≤ deepest_path whole → size n ≤ size whole
+      → Along ⊥ (SamePart trees whole) own own
+  unfolding height deepest_path size
+  parts-along (pair-follows x y a b f g) h d s = pair-along _ _ _ _ (parts-along f (omega arith) (omega arith) (omega arith)) (parts-along g (omega arith) (omega arith) (omega arith))
+  parts-along (variant-follows i x a f) h d s = variant-along _ _ _ (parts-along f h d s)
+  parts-along (reference-follows r a among is) h d s = grind (arith, reference-along, size)
+  parts-along x0 h d s = grind (arith, nat_tests, number-along, integer-along, text-along, pattern-along, none-along)
+
+part-of : {types : Types} {g : Ground} {n : ℕ} {written : Written} → WroteTree types g n written → (r : ArcRef) → Among written.references r → Part g.trees (g.trees n).meaning r
+part-of {g = g} {n} {written} w r among =
+    let p = form-along (λ x y h. ap kind_of_arc h.same) w.form (parts-along g.trees written.references (g.trees n).meaning w.follows (omega arith) (omega arith) (omega arith)) in
+    let a = each-two p.each r among in
+    let h = a.1 in
+    h.part
+
+-- ---- heights
+
+grows-by : (e : Bool) (a b c : ℕ) → a ≤ b → (if e then b + 1 else 0) ≤ c → (if e then a + 1 else 0) ≤ c
+grows-by x0 a b c le few = grind (arith, nat_tests)
+
+-- a height and a depth go up with the place
+climbs : (e : Bool) (place h d top deep : ℕ) → (if e then h + 1 else 0) ≤ top → d ≤ deep → h ≤ d → longest_path < max ((if e then place + 1 else 0) + h) d → longest_path < max (place + top) deep
+climbs x0 place h d top deep le few within long = grind (arith, nat_tests)
+
+climbs-item : (e : Bool) (h d : ℕ) → h ≤ d → longest_path < max ((if e then 0 + 1 else 0) + h) d → longest_path < max (if e then h + 1 else 0) d
+climbs-item x0 h d within long = grind (arith, nat_tests)
+
+less-still : {a b c : ℕ} → suc a ≤ b → c ≤ a → b ≡ c → ⊥
+less-still lt le e = absurd (omega arith)
 
 -- the height of the meaning is within this, and no path in it is too long
 record IsShallow (limit : ℕ) (m : Meaning ⊥) : Type 0 where
   top : height m ≤ limit
   deepest : deepest_path m ≤ longest_path
 
--- the task refers to nothing that isn't low, or its entry's key is known
-abbrev pub TaskLow : Shelf → Task → Type 0
-TaskLow shelf (of_item written) = AllLow shelf longest_path written.references
-TaskLow shelf (of_entry h i) = (key : ℕ) × ((height : ℕ) × IsPublished shelf i key height)
-
 above-grows : (kind a b : ℕ) → a ≤ b → above kind a ≤ above kind b
 above-grows kind a b le = grind (arith, nat_tests)
 
-module _ {N E : Type 0} (v : Values N) (s : MachineState N E) (trees : ℕ → Tree) (fit : WorkFits v s trees) (low : HeightsIn (world_of s)) (t : ℕ) where
+-- whether anything stands in the meaning that may refer
+abbrev holds_more : Meaning ⊥ → Bool
+holds_more (pair a b) = true
+holds_more (variant n a) = true
+holds_more (followed kind a) = true
+holds_more m = false
+
+more-held : {m n : Meaning ⊥} {u : Tree} → Reaches n u → n ≡ m → holds_more m ≡ false → ⊥
+more-held x0 e x2 = grind (arith, nat_tests)
+
+module _ {N E : Type 0} (v : Values N) (s : MachineState N E) (trees : ℕ → Tree) (fit : WorkFits v s trees) (t : ℕ) where
   abbrev shelf : Shelf
   shelf = s.work.shelves t
+
+  -- a height that references add is no more than that of the tree
+  attained-height : (n : ℕ) (i : Identity) (h : ℕ) → size (trees i.node.0).meaning ≤ n → (written : Written) → WroteTree v.types (ground_of s trees) i.node.0 written
+      → IsAttained shelf h written.references
+      → h ≤ height (trees i.node.0).meaning
+  attained-height n i h few written w (inl is) = omega arith
+  attained-height zero i h few written w (inr a) = let part = part-of w a.r a.among in let small = part.small in absurd (omega arith)
+  attained-height (suc n) i h few written w (inr a) =
+      let part = part-of w a.r a.among in
+      let small = part.small in
+      let f = fit.slots t (identity_of a.r) a.known.slot a.known.claimed in
+      let b = f.publishes a.key a.below a.known.known in
+      let below = attained-height n (identity_of a.r) a.below (omega arith) b.0 (f.writes b.0 b.1) b.2.attained in
+      let u = grows-by (is_eager a.r.kind.0) a.below (height (trees a.r.node.0).meaning) (height (trees i.node.0).meaning) below part.top in
+      let e = a.least in
+      omega arith
+
+  -- so is one that is known
+  at-most-height : (i : Identity) (key h : ℕ) → IsPublished shelf i key h → h ≤ height (trees i.node.0).meaning
+  at-most-height i key h p =
+      let f = fit.slots t i p.slot p.claimed in
+      let b = f.publishes key h p.known in
+      attained-height (size (trees i.node.0).meaning) i h (omega arith) b.0 (f.writes b.0 b.1) b.2.attained
+
+  -- a path that is too long from the reference's place is one of the task's
+  leads-down : (n : ℕ) (task : Task) (r : ArcRef) (below : List Todo) → Expects task r below → Waits shelf task below → AllStand shelf n task below
+      → longest_path < max (place_over r below + height (trees r.node.0).meaning) (deepest_path (trees r.node.0).meaning) → IsTooDeepTask trees task
+  unfolding Waits AllStand
+  leads-down n task r (to_finish o ∷ below) (more, e) (known, attained, place, reach, expects, waits) (stands, apart, all) long =
+      let claim = stands.1 in
+      let f = fit.slots t (identity_of o.reference) claim.slot claim.claimed in
+      let part = part-of (f.writes o.written claim.written_so) r (next-among shelf o.written.references o.keys r more e) in
+      let m = (trees r.node.0).meaning in
+      let above_it = (trees o.reference.node.0).meaning in
+      let up = climbs (is_eager r.kind.0) o.place (height m) (deepest_path m) (height above_it) (deepest_path above_it) part.top part.deep (height-within m) long in
+      leads-down n task o.reference below expects waits all (subst (λ q. longest_path < max (q + height above_it) (deepest_path above_it)) place up)
+  leads-down n task r (to_item written keys ∷ below) (more, e) (is, known) all long =
+      let m = (trees r.node.0).meaning in
+      subst (λ x. IsTooDeepTask trees x) (sym is) (r, next-among shelf written.references keys r more e, climbs-item (is_eager r.kind.0) (height m) (deepest_path m) (height-within m) long)
+  leads-down n x1 r x3 x4 x5 x6 long = grind (arith, nat_tests, height-within)
+
+  -- a worker comes upon no claim of its own that it is at: a tree is no part of itself
+  not-below : (n : ℕ) (task : Task) (q : Identity) (r : ArcRef) (below : List Todo) → size (trees q.node.0).meaning ≤ size (trees r.node.0).meaning → Expects task r below → Waits shelf task below
+      → AllStand shelf n task below → is_open_in q below ≡ true → ⊥
+  unfolding Waits AllStand is_open_in
+  not-below n task q r (to_finish o ∷ below) few (more, e) (known, attained, place, reach, expects, waits) (stands, apart, all) is =
+      let claim = stands.1 in
+      let f = fit.slots t (identity_of o.reference) claim.slot claim.claimed in
+      let part = part-of (f.writes o.written claim.written_so) r (next-among shelf o.written.references o.keys r more e) in
+      let small = part.small in
+      elim (or_cases (is_identity q (identity_of o.reference)) (is_open_in q below) is) [
+        | inl same ↦ less-still small few (ap (λ (j : Identity). size (trees j.node.0).meaning) (is-same q (identity_of o.reference) same))
+        | inr rest ↦ not-below n task q o.reference below (omega arith) expects waits all rest
+      ]
+  not-below n task q r x4 few x6 x7 x8 is = grind (arith, nat_tests)
+
+  -- a claim that is too deep is so by a path of the task's, or another is at it that waits for the asker
+  pub claim-deep : (n : ℕ) (task : Task) (core : Core) (todo : List Todo) (r : ArcRef) (place : ℕ) (below : List Todo) (s' : Site)
+      → Claims n (record { core = core; shelf = shelf; todo = todo }) r place below (Err Error.TooDeep) s'
+      → Expects task r below → Waits shelf task below → AllStand shelf n task below → Covers shelf n (to_start r place ∷ below) → place ≡ place_over r below
+      → IsTooDeepTask trees task ⊎ WaitsForAsker shelf n (identity_of r)
+  unfolding is_open_in
+  claim-deep n task core todo r place below s' c expects waits all covers at = elim c.refused.0 [
+    | inl fault ↦ absurd (grind arith)
+    | inr (inl (none_there, is, deep)) ↦ by deep
+    | inr (inr memory) ↦ absurd (cc)
+  ]
+    where
+      goes : (h : ℕ) → h ≤ height (trees r.node.0).meaning → longest_path < place + h → IsTooDeepTask trees task
+      goes h le long = grind (arith, nat_tests, leads-down, longest_path, height)
+
+      by : IsTooDeep shelf n (identity_of r) place → IsTooDeepTask trees task ⊎ WaitsForAsker shelf n (identity_of r)
+      by (inl long) = inl (goes 0 (omega arith) (omega arith))
+      by (inr (inl (key, h, p, long))) = inl (goes h (at-most-height (identity_of r) key h p) long)
+      by (inr (inr (slot, still, back))) = inr (record {
+        slot = slot;
+        still = still;
+        another = λ own. not-below n task (identity_of r) r below (omega arith) expects waits all (covers (identity_of r) slot still.claimed own still.no_result_yet);
+        back = back;
+      })
+
+  -- ---- where a key is known, no path from its tree is too long
 
   -- what a meaning's references lead to is low, so the meaning is
   shallow : (limit : ℕ) (rs : List ArcRef) → limit ≤ longest_path → AllLow shelf limit rs → {own : Meaning ArcRef} {n : Meaning ⊥} → FollowsTo trees rs own n → (m : Meaning ⊥) → n ≡ m
@@ -42,10 +190,9 @@ module _ {N E : Type 0} (v : Values N) (s : MachineState N E) (trees : ℕ → T
       let f = fit.slots t (identity_of r) l.known.slot l.known.claimed in
       let b = f.publishes l.key l.below l.known.known in
       let w = f.writes b.0 b.1 in
-      let h = low.slots t (identity_of r) l.known.slot l.known.claimed l.key l.below l.known.known in
       let kinds : kind ≡ r.kind.0 = cc in
       let meanings : a ≡ c = cc in
-      let p = shallow l.below b.0.references h.0 (h.1 b.0 b.1).0 w.follows c (is ∙ meanings) in
+      let p = shallow l.below b.0.references b.2.within b.2.low w.follows c (is ∙ meanings) in
       let one : above kind (height c) ≤ limit = subst (λ k. above k (height c) ≤ limit) (sym kinds) (less (above-grows r.kind.0 (height c) l.below p.top) l.within) in
       record { top = one; deepest = let u = p.deepest in omega arith }
     where
@@ -60,8 +207,7 @@ module _ {N E : Type 0} (v : Values N) (s : MachineState N E) (trees : ℕ → T
       let f = fit.slots t i p.slot p.claimed in
       let b = f.publishes key h p.known in
       let w = f.writes b.0 b.1 in
-      let a = low.slots t i p.slot p.claimed key h p.known in
-      shallow h b.0.references a.0 (a.1 b.0 b.1).0 w.follows (trees i.node.0).meaning refl
+      shallow h b.0.references b.2.within b.2.low w.follows (trees i.node.0).meaning refl
 
   less-than : {A : Type 0} {a b : ℕ} → a < b → b ≤ a → A
   less-than lt le = absurd (omega arith)
@@ -77,46 +223,24 @@ module _ {N E : Type 0} (v : Values N) (s : MachineState N E) (trees : ℕ → T
       let w = l.within in
       less-than long (within-both _ _ _ (omega arith) p.deepest)
 
-  pub task-not-deep : (task : Task) → TaskLow shelf task → IsTooDeepTask trees task → ⊥
-  task-not-deep (of_item written) lows (r, among, long) = not-long r (lows r among) long
-  task-not-deep (of_entry h i) (key, (h2, p)) long = let a = shallow-tree i key h2 p in less-than long a.deepest
+  pub task-not-deep : (task : Task) (key : ℕ) → IsDone v shelf task key → IsTooDeepTask trees task → ⊥
+  task-not-deep (of_item written) key (keys, known, is, lows) (r, among, long) = not-long r (lows r among) long
+  task-not-deep (of_entry h i) key (h2, p) long = let a = shallow-tree i key h2 p in less-than long a.deepest
 
--- ---- the answer of a key
-
-module _ {N B W : Type 0} (m : Seen N B W) (n : ℕ) (g : Ground) (task : Task) (s s' : Site) where
-  pub answered-low : (todo : List Todo) (step : Took W) → Does m n s todo step s' → Walks m.values g s.shelf task todo → TodoLow s.shelf todo → (key : ℕ)
-      → answer_after todo step ≡ Some (WorkerAnswer.Key key) → TaskLow s.shelf task
-  unfolding WaitsLow Waits
-  answered-low x0 x1 x2 x3 low key e = grind (arith, nat_tests, all-low, longest_path)
-
--- ---- where a key is known, the tree has a form, and so has each that it reaches
-
--- whether anything stands in the meaning that may refer
-abbrev holds_more : Meaning ⊥ → Bool
-holds_more (pair a b) = true
-holds_more (variant n a) = true
-holds_more (followed kind a) = true
-holds_more m = false
-
-more-held : {m n : Meaning ⊥} {u : Tree} → Reaches n u → n ≡ m → holds_more m ≡ false → ⊥
-more-held x0 e x2 = grind (arith, nat_tests)
-
-module _ {N E : Type 0} (v : Values N) (s : MachineState N E) (trees : ℕ → Tree) (fit : WorkFits v s trees) (t : ℕ) where
-  abbrev the_shelf : Shelf
-  the_shelf = s.work.shelves t
+  -- ---- and the tree has a form, and so has each that it reaches
 
   -- what was written of an identity whose key is known, and that the keys of its references are
   pub record Known (i : Identity) : Type 0 where
     pub written : Written
     pub wrote : WroteTree v.types (ground_of s trees) i.node.0 written
     pub typed : (trees i.node.0).type ≡ type_of i.kind.0
-    pub below : (r : ArcRef) → Among written.references r → (key : ℕ) × ((height : ℕ) × IsPublished the_shelf (identity_of r) key height)
+    pub below : (r : ArcRef) → Among written.references r → (key : ℕ) × ((height : ℕ) × IsPublished shelf (identity_of r) key height)
 
-  pub known : (i : Identity) (key height : ℕ) → IsPublished the_shelf i key height → Known i
+  pub known : (i : Identity) (key height : ℕ) → IsPublished shelf i key height → Known i
   known i key height p =
       let f = fit.slots t i p.slot p.claimed in
       let b = f.publishes key height p.known in
-      record { written = b.0; wrote = f.writes b.0 b.1; typed = f.typed; below = known-of the_shelf b.0.references b.2.keys b.2.known }
+      record { written = b.0; wrote = f.writes b.0 b.1; typed = f.typed; below = known-of shelf b.0.references b.2.keys b.2.known }
 
   -- its own value has a form
   has-form : (i : Identity) → Known i → HasNoForm v.types (trees i.node.0) → ⊥
@@ -126,7 +250,7 @@ module _ {N E : Type 0} (v : Values N) (s : MachineState N E) (trees : ℕ → T
       formless.none_within k.written.bytes kids (subst (λ x. TreeForm v.types x (trees i.node.0).meaning k.written.bytes kids) same (tree-form k.wrote))
 
   -- and so has each that it reaches
-  below-has-form : (rs : List ArcRef) → ((r : ArcRef) → Among rs r → (key : ℕ) × ((height : ℕ) × IsPublished the_shelf (identity_of r) key height))
+  below-has-form : (rs : List ArcRef) → ((r : ArcRef) → Among rs r → (key : ℕ) × ((height : ℕ) × IsPublished shelf (identity_of r) key height))
       → {own : Meaning ArcRef} {m n : Meaning ⊥} {u : Tree} → FollowsTo trees rs own m → Reaches n u → n ≡ m → HasNoForm v.types u → ⊥
   below-has-form rs each (reference-follows r a among is) (refers kind b) e formless =
       let p = each r among in
@@ -148,16 +272,16 @@ module _ {N E : Type 0} (v : Values N) (s : MachineState N E) (trees : ℕ → T
   below-has-form rs each (variant-follows i x a h) reach e formless = absurd (cc)
   below-has-form rs each follows reach e formless = more-held reach e refl
 
-  has-forms : (i : Identity) (key height : ℕ) → IsPublished the_shelf i key height → LeadsToNoForm v.types (trees i.node.0) → ⊥
+  has-forms : (i : Identity) (key height : ℕ) → IsPublished shelf i key height → LeadsToNoForm v.types (trees i.node.0) → ⊥
   has-forms i key height p (inl formless) = has-form i (known i key height p) formless
   has-forms i key height p (inr (u, reach, formless)) = let k = known i key height p in below-has-form k.written.references k.below k.wrote.follows reach refl formless
 
   -- a task that has come to a key is of no value that has no form
-  pub task-has-forms : (task : Task) (key : ℕ) → IsDone v the_shelf task key → IsFormlessTask v.types trees task → ⊥
-  task-has-forms (of_item written) key (keys, each, is) (r, among, formless) = let p = known-of the_shelf written.references keys each r among in has-forms (identity_of r) p.0 p.1.0 p.1.1 formless
+  pub task-has-forms : (task : Task) (key : ℕ) → IsDone v shelf task key → IsFormlessTask v.types trees task → ⊥
+  task-has-forms (of_item written) key (keys, each, is, lows) (r, among, formless) = let p = known-of shelf written.references keys each r among in has-forms (identity_of r) p.0 p.1.0 p.1.1 formless
   task-has-forms (of_entry h i) key (height, p) formless = has-forms i key height p formless
 
-module _ {N B W E : Type 0} (m : Seen N B W) (s s' : MachineState N E) (trees trees' : ℕ → Tree) (fit : WorkFits m.values s trees) (low : HeightsIn (world_of s)) where
+module _ {N B W E : Type 0} (m : Seen N B W) (s s' : MachineState N E) (trees trees' : ℕ → Tree) (fit : WorkFits m.values s trees) where
   key-is-shallow : (event : Event N B W) (reply : EventReply N B W) → Happens m (world_of s) event reply (world_of s') → KeyIsShallow m.values s trees event reply s' trees'
   key-is-shallow (Event.WorkerStep n) (EventReply.WorkerMoved (Ok reply)) is = λ walking key there e.
       let w = is.moves in
@@ -165,9 +289,8 @@ module _ {N B W E : Type 0} (m : Seen N B W) (s s' : MachineState N E) (trees tr
       let site : Site = record { core = s.pager.core; shelf = s.work.shelves w.walking.table; todo = w.walking.todo } in
       let walks = fit.walks n.0 w.walking w.at in
       let a = answered m n.0 (ground_of s trees) w.walking.task site w.after w.walking.todo reply.took w.does.does walks key (sym w.answers ∙ e) in
-      let l = answered-low m n.0 (ground_of s trees) w.walking.task site w.after w.walking.todo reply.took w.does.does walks (low.todos n.0 w.walking w.at) key (sym w.answers ∙ e) in
       subst (λ (x : Walking). (¬ IsTooDeepTask trees x.task) × (¬ IsFormlessTask m.values.types trees x.task)) same (
-        task-not-deep m.values s trees fit low w.walking.table w.walking.task l,
+        task-not-deep m.values s trees fit w.walking.table w.walking.task key a.done,
         task-has-forms m.values s trees fit w.walking.table w.walking.task key a.done,
       )
   key-is-shallow event reply is = tt
@@ -197,48 +320,44 @@ module _ {N B W E : Type 0} (m : Seen N B W) (s s' : MachineState N E) (trees tr
   depth-is-told event reply is shallow = tt
 
 -- a claim that is refused as too deep
-module _ {N B W E : Type 0} (m : Seen N B W) (s s' : MachineState N E) (trees trees' : ℕ → Tree) (fit : WorkFits m.values s trees) (low : HeightsIn (world_of s)) (work : StandsIn (world_of s)) where
+module _ {N B W E : Type 0} (m : Seen N B W) (s s' : MachineState N E) (trees trees' : ℕ → Tree) (fit : WorkFits m.values s trees) (work : StandsIn (world_of s)) where
   module _ (n : ℕ) (walking : Walking) (there : s.work.walkings n ≡ Some walking) where
     abbrev site : Site
     site = record { core = s.pager.core; shelf = s.work.shelves walking.table; todo = walking.todo }
 
     of-claim : (after : Site) (todo : List Todo) (i : Identity) → Does m n site todo (Took.Claim i (Err Error.TooDeep)) after → AllStand site.shelf n walking.task todo → Covers site.shelf n todo
-        → Walks m.values (ground_of s trees) site.shelf walking.task todo → TodoLow site.shelf todo → IsTooDeepTask trees walking.task ⊎ WaitsForAsker site.shelf n i
+        → Walks m.values (ground_of s trees) site.shelf walking.task todo → IsTooDeepTask trees walking.task ⊎ WaitsForAsker site.shelf n i
     unfolding AllStand
-    of-claim after (to_start r place ∷ below) i (is, c) (stands, apart, all) covers (expects, waits) (at, lows) =
+    of-claim after (to_start r place ∷ below) i (is, c) (stands, apart, all) covers (at, (expects, waits)) =
         subst (λ (j : Identity). IsTooDeepTask trees walking.task ⊎ WaitsForAsker site.shelf n j) (sym is)
-        (claim-deep m.values s trees fit low walking.table n walking.task s.pager.core walking.todo r place below after c expects waits all covers at lows)
-    of-claim after todo i does all covers walks lows = absurd does
+        (claim-deep m.values s trees fit walking.table n walking.task s.pager.core walking.todo r place below after c expects waits all covers at)
+    of-claim after todo i does all covers walks = absurd does
 
   claim-is-deep : (event : Event N B W) (reply : EventReply N B W) → Happens m (world_of s) event reply (world_of s') → ClaimIsDeep s trees event reply s' trees'
   claim-is-deep x0 x1 is = grind (arith, nat_tests, same_some, of-claim)
 
--- what follows of each moment where heights are low, and of what stays true of the machine and of the moments that are left, holds along each chain
+-- what follows of each moment, and of what stays true of the machine and of the moments that are left, holds along each chain
 pub along-with : {N B W E : Type 0} (m : Seen N B W) (P : Fact N E B W) (I : MachineState N E → List (Moment N E B W) → Type 0) → IsLawful m.values → ReadsItsTypes m.values.types
-    → ((s : MachineState N E) (trees trees' : ℕ → Tree) (x : Moment N E B W) (xs : List (Moment N E B W)) → IsGoingOn m.values s trees → HeightsIn (world_of s) → I s (x ∷ xs)
+    → ((s : MachineState N E) (trees trees' : ℕ → Tree) (x : Moment N E B W) (xs : List (Moment N E B W)) → IsGoingOn m.values s trees → I s (x ∷ xs)
     → IsMachineWhole m.values x.after → Happens m (world_of s) x.event x.reply (world_of x.after) → P s trees x.event x.reply x.after trees' × I x.after xs)
-    → (s : MachineState N E) (trees : ℕ → Tree) (moments : List (Moment N E B W)) → IsGoingOn m.values s trees → HeightsIn (world_of s) → I s moments → AreMoments m s moments
+    → (s : MachineState N E) (trees : ℕ → Tree) (moments : List (Moment N E B W)) → IsGoingOn m.values s trees → I s moments → AreMoments m s moments
     → TreesAlong m P s trees moments
-along-with m P I lawful readable follows s trees [] on low so does = tt
-along-with m P I lawful readable follows s trees (x ∷ xs) on low so (does, more) = λ premised.
+along-with m P I lawful readable follows s trees [] on so does = tt
+along-with m P I lawful readable follows s trees (x ∷ xs) on so (does, more) = λ premised.
     let g = goes m lawful readable s trees x on does premised in
-    let turns = event-turns m (world_of s) (world_of x.after) on.work (λ v w there. (on.whole.walkings v w there).table.1) x.event x.reply does.step.happens in
     let a = g.after in
-    let f = follows s trees g.trees' x xs on low so does.whole does.step.happens in (
-      g.trees',
-      record { keeps = a.keeps; stands = a.stands; so = f.0 },
-      along-with m P I lawful readable follows x.after g.trees' xs g.on (heights-on m s x.after trees on.fits low on.work x.event x.reply turns) f.1 more,
-    )
+    let f = follows s trees g.trees' x xs on so does.whole does.step.happens in
+    (g.trees', record { keeps = a.keeps; stands = a.stands; so = f.0 }, along-with m P I lawful readable follows x.after g.trees' xs g.on f.1 more)
 
 module _ {N B W E : Type 0} (m : Seen N B W) (lawful : IsLawful m.values) (readable : ReadsItsTypes m.values.types) (P : Fact N E B W) where
-  pub along-first : ((s s' : MachineState N E) (trees trees' : ℕ → Tree) (event : Event N B W) (reply : EventReply N B W) → IsGoingOn m.values s trees → HeightsIn (world_of s)
+  pub along-first : ((s s' : MachineState N E) (trees trees' : ℕ → Tree) (event : Event N B W) (reply : EventReply N B W) → IsGoingOn m.values s trees
       → Happens m (world_of s) event reply (world_of s') → P s trees event reply s' trees')
       → (s : MachineState N E) (moments : List (Moment N E B W)) (trees : ℕ → Tree) → IsMachineWhole m.values s → IsIdle s → AreMoments m s moments
       → StandsFor m.values s trees → HoldsSettled m.values s.pager
       → TreesAlong m P s trees moments
   along-first follows s moments trees whole idle chain stands settled =
-      along-with m P (λ s xs. Unit {0}) lawful readable (λ s trees trees' x xs on low so whole happens. (follows s x.after trees trees' x.event x.reply on low happens, tt))
-      s trees moments (idle-goes m lawful readable s trees whole idle settled stands) (heights-at-first s idle) tt chain
+      along-with m P (λ s xs. Unit {0}) lawful readable (λ s trees trees' x xs on so whole happens. (follows s x.after trees trees' x.event x.reply on happens, tt))
+      s trees moments (idle-goes m lawful readable s trees whole idle settled stands) tt chain
 
 pub shallow_law : {N B W : Type 0} (E : Type 0) (m : Seen N B W) → ShallowLaw E m
 shallow_law E m start moments trees whole idle chain stands lawful readable settled = grind (arith, along-first, key-is-shallow)

@@ -32,7 +32,6 @@ mod Answering
 mod KnownSteps
 pub mod Chains
 mod Level
-mod Heights
 mod Deeply
 pub mod SparingSteps
 mod Identities

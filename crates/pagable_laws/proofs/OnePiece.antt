@@ -6,7 +6,7 @@ use Rattle.pagable_laws.proofs.Words.{IsReference, references_fault, handle_faul
 use Rattle.pagable_laws.proofs.Words.{Happens, MachineState, world_of, IsMachineWhole, of_caller, FrameFits, FramesFit, ReadsItsTypes, Moment, Turn, of_load, of_nobody, turn_of, StandTogether}
 use Rattle.pagable_laws.proofs.{Words.{IsOfChance, IsLoadOfPagedOut, LoadIsSound, IsBeginOf, HasBegun, SoundLaw, FramesHeld}, Trees.same_some, Sums.{self-number, same-number}, Coming.updated-at}
 use Rattle.pagable_laws.proofs.{Chains.{IsGoingOn, idle-goes}, Taking.row-held, Fitting.first-fits, Decoding.decodes, Outlasting.{stands-whole, stands-alike}, ReadingSteps.reading-stands}
-use Rattle.pagable_laws.proofs.{ReadingStepsGive.got-typed, Heights.{HeightsIn, heights-at-first}, Sound.{by-chance, by-references, by-handle, IsForm, load-cause}, Apart.{fine, reads-once}}
+use Rattle.pagable_laws.proofs.{ReadingStepsGive.got-typed, Sound.{by-chance, by-references, by-handle, IsForm, load-cause}, Apart.{fine, reads-once}}
 use Rattle.pagable_laws.proofs.{LoadsReady.{times_got, LoadReady, once-none, apart-once, got-cons, goes-ready}, Effects.with-one, Deeply.along-with}
 use Rattle.pagable_world.specs.{Loads.Does}
 
@@ -221,14 +221,14 @@ module _ {N B W E : Type 0} (m : Seen N B W) (lawful : IsLawful m.values) (reada
       → load.root ≡ of_cell node t h → handle_fault core Owner.Caller h any_mode ≡ Some e → ⊥
   callers-handle l load frames node t h e ready root fault = grind (arith, nat_tests)
 
-  sound : (low : HeightsIn (world_of s)) (l : LoadNumber) (reply : LoadReply N) → LoadSteps m.values (world_of s) l reply (world_of s') → Ready s l → (load : OpenLoad) (e : Error)
+  sound : (l : LoadNumber) (reply : LoadReply N) → LoadSteps m.values (world_of s) l reply (world_of s') → Ready s l → (load : OpenLoad) (e : Error)
       → core.loads l.0 ≡ Some load → IsLoadOfPagedOut s load
       → reply.ended ≡ Some (LoadAnswer.Refused e)
       → IsOfChance e
-  sound low l reply x ready load e open_load paged ended =
+  sound l reply x ready load e open_load paged ended =
       let r = ready x.reading load x.at open_load in
       let a = is-at l x.reading load x.at open_load in
-      elim (load-cause m lawful readable s s' trees trees on low l reply x load e open_load paged ended) [
+      elim (load-cause m lawful readable s s' trees trees on l reply x load e open_load paged ended) [
         | by-chance chance ↦ chance
         | by-references frame below y frames decoded form fault ↦ absurd (let f = references-fine l x.reading load a r frame below y frames decoded form in cc)
         | by-handle node t h root fault ↦ absurd (callers-handle l load x.reading.frames node t h e r root fault)
@@ -297,23 +297,23 @@ module _ {N B W E : Type 0} (m : Seen N B W) where
       next-stage l (off none) = off (λ i a at turn. none (suc i) a at turn)
       next-stage l (ahead first) = next-ahead l first (begin-or l.0 x.event x.reply)
 
-      load-sound : (low : HeightsIn (world_of s)) → ((l : LoadNumber) → Stage s l (x ∷ xs)) → (trees' : ℕ → Tree) (event : Event N B W) (reply : EventReply N B W) → x.event ≡ event
+      load-sound : ((l : LoadNumber) → Stage s l (x ∷ xs)) → (trees' : ℕ → Tree) (event : Event N B W) (reply : EventReply N B W) → x.event ≡ event
           → Happens m (world_of s) event reply (world_of x.after) → LoadIsSound s trees event reply x.after trees'
-      load-sound low stage trees' (Event.LoadStep l) (EventReply.LoadMoved (Ok reply)) same h = λ load e open_load paged ended. by load e open_load paged ended (stage l)
+      load-sound stage trees' (Event.LoadStep l) (EventReply.LoadMoved (Ok reply)) same h = λ load e open_load paged ended. by load e open_load paged ended (stage l)
         where
           by : (load : OpenLoad) (e : Error) → s.pager.core.loads l.0 ≡ Some load → IsLoadOfPagedOut s load → reply.ended ≡ Some (LoadAnswer.Refused e) → Stage s l (x ∷ xs) → IsOfChance e
-          by load e open_load paged ended (going ready turns) = sound m lawful readable s x.after trees on whole' low l reply h.moves ready load e open_load paged ended
+          by load e open_load paged ended (going ready turns) = sound m lawful readable s x.after trees on whole' l reply h.moves ready load e open_load paged ended
           by load e open_load paged ended (off none) = absurd (none 0 x refl (ap (λ (v : Event N B W). turn_of v x.reply) same))
           by load e open_load paged ended (ahead first) = absurd (let b = first 0 x refl same in let lt = b.before in omega (arith, lt))
-      load-sound low stage trees' event reply same h = tt
+      load-sound stage trees' event reply same h = tt
 
 pub sound_law : {N B W : Type 0} (E : Type 0) (m : Seen N B W) → SoundLaw E m
 sound_law E m start moments trees whole idle chain together begun stands lawful readable settled =
-    along-with m LoadIsSound (λ s xs. StandTogether xs × ((l : LoadNumber) → Stage m s l xs)) lawful readable (λ s trees trees' x xs on low so whole' is. (
-      load-sound m lawful readable s trees on x xs whole' is so.0 low so.1 trees' x.event x.reply refl is,
+    along-with m LoadIsSound (λ s xs. StandTogether xs × ((l : LoadNumber) → Stage m s l xs)) lawful readable (λ s trees trees' x xs on so whole' is. (
+      load-sound m lawful readable s trees on x xs whole' is so.0 so.1 trees' x.event x.reply refl is,
       (
         (λ i j k p q r lt lt2 at there here. so.0 (suc i) (suc j) (suc k) p q r (omega (arith, lt)) (omega (arith, lt2)) at there here),
         λ l. next-stage m lawful readable s trees on x xs whole' is so.0 l (so.1 l),
       ),
     ))
-    start trees moments (idle-goes m lawful readable start trees whole idle settled stands) (heights-at-first start idle) (together, λ l. ahead (λ k c at step. begun k c l at step)) chain
+    start trees moments (idle-goes m lawful readable start trees whole idle settled stands) (together, λ l. ahead (λ k c at step. begun k c l at step)) chain

@@ -698,13 +698,13 @@ core-goes {w} {w'} c whole g =
 -- where what workers do fits trees, no load waits below
 waits-well : (shelf : Shelf) (task : Task) (below : List Todo) → Waits shelf task below → AllWait below
 unfolding Waits AllWait
-waits-well shelf task (to_finish o ∷ below) (known, expects, waits) = waits-well shelf task below waits
+waits-well shelf task (to_finish o ∷ below) (known, attained, place, reach, expects, waits) = waits-well shelf task below waits
 waits-well shelf task x2 waits = grind (arith, nat_tests)
 
 walks-well : {N : Type 0} (v : Values N) (g : Ground) (shelf : Shelf) (task : Task) (todo : List Todo) → Walks v g shelf task todo → WaitsWell todo
 unfolding Waits
 walks-well v g shelf task [] walks = tt
-walks-well v g shelf task (to_finish o ∷ below) (known, expects, waits) = waits-well shelf task below waits
+walks-well v g shelf task (to_finish o ∷ below) (known, attained, place, reach, expects, waits) = waits-well shelf task below waits
 walks-well v g shelf task (x ∷ below) walks = grind (arith, nat_tests, waits-well)
 
 -- each event of a whole machine is felt

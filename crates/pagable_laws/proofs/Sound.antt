@@ -10,12 +10,13 @@ use Rattle.pagable_laws.proofs.Words.{RefusesBlob, RefusesNested, RefusesNode, R
 use Rattle.pagable_laws.proofs.Words.{IsOfChance, IsPagedOutAs, IsLoadOfPagedOut, Ok, HandleRow, Mode, LoadAnswer, LoadReply, Event, EventReply, or_else, row_fault, reference_fault}
 use Rattle.pagable_laws.proofs.Words.{LoadSteps, Happens, IsOfHandles, LoadIsFaultless, FaultlessLaw, ◌<◌, Took, owner_worker, Todo, Walking, named_fault, cell_fault, handles_of}
 use Rattle.pagable_laws.proofs.Words.{after_kinds, LeadsDown, is-there, goes-down, ReadsTooDeep, IsReadingOf, of_worker, LoadIsDeep, DeepLoadLaw}
-use Rattle.pagable_laws.proofs.{Trees.same_some, Fitting.{asked, first-typed}, Heights.{AllLow, HeightsIn}}
+use Rattle.pagable_laws.proofs.{Trees.same_some, Fitting.{asked, first-typed}}
 use Rattle.pagable_laws.proofs.{Apart.{IsFormOf, GotAsked, FramesAsked, NextOf, asks-known, all-read, next-known, all-got}, ReadingStepsKinds.{kinds_of, asks-by-kinds, faulty-by-kinds}}
 use Rattle.pagable_laws.proofs.{Sums.self-number, Taking.adopted-over, KnownSteps.{ReadingsAsked, eager-nested}, Chains.IsGoingOn, Deeply.along-first, ReadingSteps.reading-stands}
 use Rattle.std.{proofs.Common.rules}
 use Rattle.pagable_world.specs.{Loads.Does}
 use Rattle.pagable_world.specs.Workers as workers
+use Rattle.pagable_laws.proofs.Words.{AllLow}
 
 -- ---- what a load reads of a key that a page-out has published: each blob is a form of a tree, asks for references whose keys are known, and lies within the path's limit
 
@@ -44,7 +45,7 @@ one-outcome shelf i k key h height p q = grind (arith, same_some)
 above-eager : (kind h limit : ℕ) → is_eager kind ≡ true → above kind h ≤ limit → h + 1 ≤ limit
 above-eager kind h limit is le = let e : (if is_eager kind then h + 1 else 0) ≡ h + 1 = ap (λ b. if b then h + 1 else 0) is in omega (arith, e, le)
 
-module _ {N E : Type 0} (v : Values N) (s : MachineState N E) (trees : ℕ → Tree) (fit : WorkFits v s trees) (low : HeightsIn (world_of s)) (readable : ReadsItsTypes v.types) (table : ℕ) where
+module _ {N E : Type 0} (v : Values N) (s : MachineState N E) (trees : ℕ → Tree) (fit : WorkFits v s trees) (readable : ReadsItsTypes v.types) (table : ℕ) where
   abbrev shelf : Shelf
   shelf = s.work.shelves table
 
@@ -66,7 +67,6 @@ module _ {N E : Type 0} (v : Values N) (s : MachineState N E) (trees : ℕ → T
       let b = f.publishes frame.key height p.known in
       let written : Written = b.0 in
       let w = f.writes written b.1 in
-      let l = low.slots table i p.slot p.claimed frame.key height p.known in
       let there : v.types.nodes frame.node_type ≡ Some w.shape = ap v.types.nodes typed ∙ w.is in
       let same : blob_of written.bytes b.2.keys ≡ frame.blob = same_some _ _ (sym b.2.is_stored ∙ is) in
       let form : IsFormOf v.types frame.node_type (blob_of written.bytes b.2.keys) written.references =
@@ -83,8 +83,8 @@ module _ {N E : Type 0} (v : Values N) (s : MachineState N E) (trees : ℕ → T
         refs = written.references;
         form = subst (λ (x : Blob). IsFormOf v.types frame.node_type x written.references) same form;
         keys = subst (λ (x : Blob). AreKeysOf shelf written.references x.keys) same b.2.known;
-        lows = (l.1 written b.1).0;
-        small = l.0;
+        lows = b.2.low;
+        small = b.2.within;
       }
 
   -- what is asked for has a key that is known
@@ -156,7 +156,7 @@ module _ {N E : Type 0} (v : Values N) (s : MachineState N E) (trees : ℕ → T
         let t = top-known frame below fits got in
         let a = asked-known frame t.height t.known (first-asked frame below got) kind key (asked below (next_in v.types frame) kind key needs) in
         let b = (fit.slots table (identity_of a.r) a.known.slot a.known.claimed).publishes key a.below a.known.known in
-        let small = (low.slots table i p.slot p.claimed root_key limit p.known).0 in
+        let small = ((fit.slots table i p.slot p.claimed).publishes root_key limit p.known).2.within in
         let left = t.left in
         record { blob = _; is = b.2.is_stored; short = λ eager. let le = above-eager kind.0 a.below t.height eager a.within in within a.below t.height (length (frame ∷ below)) limit le left small }
       where
@@ -233,7 +233,7 @@ pub data Cause {N : Type 0} (v : Values N) (w : Core) (load : OpenLoad) (reading
 
 module _ {N B W E : Type 0} (m : Seen N B W) (s : MachineState N E) (trees : ℕ → Tree) (whole : IsMachineWhole m.values s) (stands : StandsFor m.values s trees) (lawful : IsLawful m.values)
     (readable : ReadsItsTypes m.values.types)
-    (fit : WorkFits m.values s trees) (low : HeightsIn (world_of s)) (got : ReadingsAsked m.values.types (world_of s)) where
+    (fit : WorkFits m.values s trees) (got : ReadingsAsked m.values.types (world_of s)) where
   abbrev v : Values N
   v = m.values
 
@@ -284,7 +284,7 @@ module _ {N B W E : Type 0} (m : Seen N B W) (s : MachineState N E) (trees : ℕ
         ap (λ n. (trees n).type) out.of_node ∙ r.typed ∙ sym is-read.of_type
 
     found : (blob : Blob) × (w.stored load.key ≡ Some blob)
-    found = root-there v s trees fit low readable out.t load.key reading.node_type out.i out.height out.known typed
+    found = root-there v s trees fit readable out.t load.key reading.node_type out.i out.height out.known typed
 
     abbrev C : Error → Type 0
     C e = Cause v w load reading e
@@ -293,12 +293,12 @@ module _ {N B W E : Type 0} (m : Seen N B W) (s : MachineState N E) (trees : ℕ
     no-load-fault P e is = absurd (let f = ap (load_fault w Owner.Caller) is-read.number ∙ may in cc)
 
     not-faulty : (e : Error) → need_of v.types reading.frames ≡ is_broken e → ⊥
-    not-faulty = not-broken v s trees fit low readable out.t load.key reading.node_type out.i out.height out.known typed reading.frames is-read.fits is-read.asked
+    not-faulty = not-broken v s trees fit readable out.t load.key reading.node_type out.i out.height out.known typed reading.frames is-read.fits is-read.asked
 
     need-there : (kind : Kind) (key : ℕ) → (need_of v.types reading.frames ≡ needs_nested kind key) ⊎ (need_of v.types reading.frames ≡ needs_lazy kind key)
         → (blob : Blob) × (w.stored key ≡ Some blob) × (is_eager kind.0 ≡ true → length reading.frames ≤ longest_path)
     need-there kind key needs =
-        let n = needed v s trees fit low readable out.t load.key reading.node_type out.i out.height out.known typed reading.frames is-read.fits is-read.asked kind key needs in
+        let n = needed v s trees fit readable out.t load.key reading.node_type out.i out.height out.known typed reading.frames is-read.fits is-read.asked kind key needs in
         (n.blob, n.is, n.short)
 
     -- the front of what is needed
@@ -307,7 +307,7 @@ module _ {N B W E : Type 0} (m : Seen N B W) (s : MachineState N E) (trees : ℕ
 
     form-of : (frame : Frame) (below : List Frame) → reading.frames ≡ frame ∷ below → (x : N) → IsDecoded v frame x → IsForm v frame
     form-of frame below is x decoded =
-        formed v s trees fit low readable out.t load.key reading.node_type out.i out.height out.known typed frame below
+        formed v s trees fit readable out.t load.key reading.node_type out.i out.height out.known typed frame below
         (subst (λ fs. FramesFit v.types w.stored trees load.key reading.node_type fs) is is-read.fits) (subst (λ fs. FramesAsked v.types fs) is is-read.asked) decoded.own decoded.read
 
     -- ---- asking
@@ -407,13 +407,13 @@ by-handle-row w me h fits e is = grind (arith, nat_tests)
 -- ---- a load's step
 
 module _ {N B W E : Type 0} (m : Seen N B W) (lawful : IsLawful m.values) (readable : ReadsItsTypes m.values.types) (s s' : MachineState N E) (trees trees' : ℕ → Tree)
-    (on : IsGoingOn m.values s trees) (low : HeightsIn (world_of s)) where
+    (on : IsGoingOn m.values s trees) where
   pub load-cause : (l : LoadNumber) (reply : LoadReply N) (x : LoadSteps m.values (world_of s) l reply (world_of s')) (load : OpenLoad) (e : Error) → s.pager.core.loads l.0 ≡ Some load
       → IsLoadOfPagedOut s load → reply.ended ≡ Some (LoadAnswer.Refused e)
       → Cause m.values s.pager.core load x.reading e
   load-cause l reply x load e open_load paged is =
       let fails = subst (λ a. Does m.values s.pager.core Owner.Caller x.reading a x.frames s'.pager.core) is x.does.does in
-      cause m s trees on.whole on.stands lawful readable on.fits low on.asked l x.reading load x.at x.may open_load paged s'.pager.core e fails.0
+      cause m s trees on.whole on.stands lawful readable on.fits on.asked l x.reading load x.at x.may open_load paged s'.pager.core e fails.0
 
   load-faultless : (event : Event N B W) (reply : EventReply N B W) → Happens m (world_of s) event reply (world_of s') → LoadIsFaultless s trees event reply s' trees'
   load-faultless (Event.LoadStep l) (EventReply.LoadMoved (Ok reply)) is = λ load e open_load paged ended. elim (load-cause l reply is.moves load e open_load paged ended) [

@@ -10,6 +10,7 @@ use Rattle.pagable_laws.proofs.Words.{PagerState, MachineState, world_of, IsMach
 use Rattle.pagable_laws.proofs.{Standing.{ShelfGrows, some-same, published-stays, PutsSlot, put-cases, puts-slot, changes-slot, HasClaim, AllStand}, Following.{IdentityStands, key-stands, wrote}}
 use Rattle.pagable_laws.proofs.Coming.{StandsIn, EventTurns, same-grow, turns-grow, turns-keep}
 use Rattle.std.proofs.Common.{rules}
+use Rattle.pagable_laws.proofs.Words.{IsDone, AllLow, IsLow, IsAttained, Placed, HasRoom, is_eager, longest_path, max, above, suc, ◌+◌}
 
 -- ---- what is stored stays, and each node keeps its tree
 
@@ -40,11 +41,21 @@ module _ {shelf shelf' : Shelf} (keys : KeepsKeys shelf shelf') where
   keys-on (r ∷ rs) (k ∷ ks) ((h, p), known) = ((h, keys (identity_of r) k h p), keys-on rs ks known)
   keys-on x0 x1 x2 = grind (arith, nat_tests)
 
-  pub so-far-on : (rs : List ArcRef) (ks : List ℕ) → KeysSoFar shelf rs ks → KeysSoFar shelf' rs ks
+  pub so-far-on : (height : ℕ) (rs : List ArcRef) (ks : List ℕ) → KeysSoFar shelf height rs ks → KeysSoFar shelf' height rs ks
   unfolding KeysSoFar
-  so-far-on rs [] known = tt
-  so-far-on [] (k ∷ ks) known = absurd known
-  so-far-on (r ∷ rs) (k ∷ ks) ((h, p), known) = ((h, keys (identity_of r) k h p), so-far-on rs ks known)
+  so-far-on height rs [] known = tt
+  so-far-on height [] (k ∷ ks) known = absurd known
+  so-far-on height (r ∷ rs) (k ∷ ks) ((h, p, le), known) = ((h, keys (identity_of r) k h p, le), so-far-on height rs ks known)
+
+  low-on : {height : ℕ} {r : ArcRef} → IsLow shelf height r → IsLow shelf' height r
+  low-on {height} {r} low = record { key = low.key; below = low.below; known = keys (identity_of r) low.key low.below low.known; within = low.within }
+
+  attained-on : (height : ℕ) (rs : List ArcRef) → IsAttained shelf height rs → IsAttained shelf' height rs
+  attained-on x0 rs x2 = grind (arith, nat_tests)
+
+  pub done-on : {N : Type 0} (v : Values N) (task : Task) (key : ℕ) → IsDone v shelf task key → IsDone v shelf' task key
+  done-on v (of_item written) key (ks, known, is, low) = (ks, keys-on written.references ks known, is, λ r among. low-on (low r among))
+  done-on v (of_entry h i) key (height, p) = (height, keys i key height p)
 
 module _ {N : Type 0} (v : Values N) {g g' : Ground} (goes : GroundGoes g g') where
   stands-on : {t : Tree} {key : ℕ} → KeyStands v g.stored t key → KeyStands v g'.stored t key
@@ -64,8 +75,17 @@ module _ {N : Type 0} (v : Values N) {g g' : Ground} (goes : GroundGoes g g') wh
       }
 
   module _ {shelf shelf' : Shelf} (keys : KeepsKeys shelf shelf') where
-    pub blob-on : {n key : ℕ} {written : Written} → n ≤ g.last → BlobStands v g shelf n written key → BlobStands v g' shelf' n written key
-    blob-on {n} {key} {written} given b = grind (arith, nat_tests, keys-on, stands-on)
+    pub blob-on : {n key height : ℕ} {written : Written} → n ≤ g.last → BlobStands v g shelf n written key height → BlobStands v g' shelf' n written key height
+    blob-on {n} {key} {height} {written} given b =
+        record {
+          keys = b.keys;
+          known = keys-on keys written.references b.keys b.known;
+          is_stored = goes.kept key _ b.is_stored;
+          right = subst (λ t. KeyStands v g'.stored t key) (sym (goes.trees n given)) (stands-on b.right);
+          within = b.within;
+          low = λ r among. low-on keys (b.low r among);
+          attained = attained-on keys height written.references b.attained;
+        }
 
     pub slot-on : {i : Identity} {slot : Slot} → SlotFits v g shelf i slot → SlotFits v g' shelf' i slot
     slot-on {i} {slot} fits = search (rules, wrote-on, blob-on)
@@ -82,14 +102,15 @@ module _ {shelf shelf' : Shelf} (more : ShelfGrows shelf shelf') where
 module _ (shelf shelf' : Shelf) (more : ShelfGrows shelf shelf') where
   pub wait-on : (task : Task) (todo : List Todo) → Waits shelf task todo → Waits shelf' task todo
   unfolding Waits
-  wait-on task (to_finish o ∷ below) (known, expects, waits) = (so-far-on (keys-grow more) _ _ known, expects, wait-on task below waits)
-  wait-on task x1 x2 = grind (arith, nat_tests, so-far-on, keys-grow)
+  wait-on task (to_finish o ∷ below) (known, attained, place, reach, expects, waits) =
+      (so-far-on (keys-grow more) _ _ _ known, attained-on (keys-grow more) _ _ attained, place, reach, expects, wait-on task below waits)
+  wait-on task x1 x2 = grind (arith, nat_tests, so-far-on, keys-grow, longest_path)
 
   pub above-on : (task : Task) (r : ArcRef) (below : List Todo) → Above shelf task r below → Above shelf' task r below
   above-on task r below (expects, waits) = (expects, wait-on task below waits)
 
 module _ {N : Type 0} {v : Values N} {g g' : Ground} {shelf shelf' : Shelf} (goes : GroundGoes g g') (more : ShelfGrows shelf shelf') (fits : SlotsFit v g shelf) where
-  pub has-blob-on : {r : ArcRef} {key : ℕ} → HasBlob v g shelf r key → HasBlob v g' shelf' r key
+  pub has-blob-on : {r : ArcRef} {key height : ℕ} → HasBlob v g shelf r key height → HasBlob v g' shelf' r key height
   has-blob-on {r} b = search (rules, blob-on, keys-grow)
 
   -- ---- slots: all stay, one is put in, or the worker's claims without a result have failed
@@ -126,20 +147,43 @@ module _ {N : Type 0} {v : Values N} {g g' : Ground} {shelf : Shelf} (shelf' : S
 -- ---- lists
 
 module _ (shelf : Shelf) where
-  -- one more key is known
-  so-far-more : (rs : List ArcRef) (ks : List ℕ) (r : ArcRef) (more : List ArcRef) (key height : ℕ) → drop (length ks) rs ≡ r ∷ more → KeysSoFar shelf rs ks
-      → IsPublished shelf (identity_of r) key height → KeysSoFar shelf rs (ks ++ key ∷ [])
+  -- one more key is known, where the height grows
+  so-far-more : (h k : ℕ) (rs : List ArcRef) (ks : List ℕ) (r : ArcRef) (more : List ArcRef) (key below : ℕ) → h ≤ k → above r.kind.0 below ≤ k → drop (length ks) rs ≡ r ∷ more
+      → KeysSoFar shelf h rs ks → IsPublished shelf (identity_of r) key below → KeysSoFar shelf k rs (ks ++ key ∷ [])
   unfolding KeysSoFar
-  so-far-more [] [] r more key height e known p = absurd (cc)
-  so-far-more [] (k ∷ ks) r more key height e known p = absurd known
-  so-far-more (x ∷ rs) [] r more key height e known p = let same : r ≡ x = cc in ((height, subst (λ (z : ArcRef). IsPublished shelf (identity_of z) key height) same p), tt)
-  so-far-more (x ∷ rs) (k ∷ ks) r more key height e (q, known) p = (q, so-far-more rs ks r more key height e known p)
+  so-far-more h k [] [] r more key below le new e known p = absurd (cc)
+  so-far-more h k [] (x ∷ ks) r more key below le new e known p = absurd known
+  so-far-more h k (x ∷ rs) [] r more key below le new e known p =
+      let same : r ≡ x = cc in
+      ((below, subst (λ (z : ArcRef). IsPublished shelf (identity_of z) key below) same p, subst (λ (z : ArcRef). above z.kind.0 below ≤ k) same new), tt)
+  so-far-more h k (x ∷ rs) (y ∷ ks) r more key below le new e ((b, q, few), known) p = ((b, q, omega arith), so-far-more h k rs ks r more key below le new e known p)
 
   -- all keys are known
-  pub all-known : (rs : List ArcRef) (ks : List ℕ) → length ks ≡ length rs → KeysSoFar shelf rs ks → AreKeysOf shelf rs ks
+  pub all-known : (h : ℕ) (rs : List ArcRef) (ks : List ℕ) → length ks ≡ length rs → KeysSoFar shelf h rs ks → AreKeysOf shelf rs ks
   unfolding KeysSoFar
-  all-known (r ∷ rs) (k ∷ ks) e (q, known) = (q, all-known rs ks (omega arith) known)
-  all-known x0 x1 e x3 = grind (arith, nat_tests)
+  all-known h (r ∷ rs) (k ∷ ks) e ((b, q, few), known) = ((b, q), all-known h rs ks (omega arith) known)
+  all-known h x0 x1 e x3 = grind (arith, nat_tests)
+
+  -- and all are low
+  pub all-low : (h : ℕ) (rs : List ArcRef) (ks : List ℕ) → length ks ≡ length rs → KeysSoFar shelf h rs ks → AllLow shelf h rs
+  unfolding KeysSoFar
+  all-low h (y ∷ rs) (k ∷ ks) e (one, low) r (suc i, there) = all-low h rs ks (omega arith) low r (i, there)
+  all-low h x1 x2 e x4 r x6 = grind (arith, nat_tests)
+
+  -- the next is one of them
+  pub next-among : (rs : List ArcRef) (ks : List ℕ) (r : ArcRef) (more : List ArcRef) → drop (length ks) rs ≡ r ∷ more → Among rs r
+  next-among [] [] r more e = absurd (cc)
+  next-among [] (k ∷ ks) r more e = absurd (cc)
+  next-among (x ∷ rs) [] r more e = let same : x ≡ r = cc in (0, ap (λ (z : ArcRef). Some z) same)
+  next-among (x ∷ rs) (k ∷ ks) r more e = let a = next-among rs ks r more e in (suc a.0, a.1)
+
+  -- of two heights that are there the greater one is
+  more-attained : (a b : ℕ) (rs : List ArcRef) → IsAttained shelf a rs → IsAttained shelf b rs → IsAttained shelf (max a b) rs
+  more-attained a b rs first second = grind arith
+
+-- what a reference adds is within the place's reach
+adds : (b : Bool) (place height limit : ℕ) → (if b then place + 1 else 0) + height ≤ limit → place ≤ limit → place + (if b then height + 1 else 0) ≤ limit
+adds x0 place height limit le few = grind (arith, nat_tests)
 
 module _ {N : Type 0} (v : Values N) (g : Ground) (shelf : Shelf) (task : Task) where
   pub started-node : (o : Open) (below : List Todo) (rs : List ArcRef) → drop (length o.keys) o.written.references ≡ rs → Waits shelf task (to_finish o ∷ below)
@@ -151,18 +195,31 @@ module _ {N : Type 0} (v : Values N) (g : Ground) (shelf : Shelf) (task : Task) 
   started-item written ks below x3 e waits = grind (arith, nat_tests)
 
   -- a key goes to what waits for it
-  pub given : (r : ArcRef) (key height : ℕ) → IsPublished shelf (identity_of r) key height → (below : List Todo) → Expects task r below → Waits shelf task below
+  pub given : (r : ArcRef) (key height : ℕ) → IsPublished shelf (identity_of r) key height → (below : List Todo) → HasRoom r height below → Expects task r below → Waits shelf task below
       → Walks v g shelf task (give r key height below)
   unfolding Waits
-  given r key height p [] expects waits = tt
-  given r key height p (to_finish o ∷ below) (more, e) (known, expects, waits) = started-node _ below _ refl (so-far-more shelf _ _ r more key height e known p, expects, waits)
-  given r key height p (to_item written ks ∷ below) (more, e) (is, known) = started-item written _ below _ refl (is, so-far-more shelf _ _ r more key height e known p)
-  given r key height p (_ ∷ below) expects waits = absurd expects
+  given r key height p [] reach expects waits = tt
+  given r key height p (to_finish o ∷ below) reach (more, e) (known, attained, place, fits, expects, waits) =
+      let new : ℕ = max o.height (above r.kind.0 height) in
+      let a = adds (is_eager r.kind.0) o.place height longest_path reach (omega arith) in
+      started-node _ below _ refl (
+        so-far-more shelf o.height new _ _ r more key height (omega arith) (omega arith) e known p,
+        more-attained shelf o.height (above r.kind.0 height) o.written.references attained
+            (inr (record { r = r; among = next-among shelf o.written.references o.keys r more e; key = key; below = height; known = p; least = omega arith })),
+        place,
+        omega arith,
+        expects,
+        waits,
+      )
+  given r key height p (to_item written ks ∷ below) reach (more, e) (is, known) =
+      let a = adds (is_eager r.kind.0) 0 height longest_path reach (omega arith) in
+      started-item written _ below _ refl (is, so-far-more shelf longest_path longest_path _ _ r more key height (omega arith) (omega arith) e known p)
+  given r key height p (_ ∷ below) reach expects waits = absurd expects
 
-  pub given-known : (r : ArcRef) (key height : ℕ) → IsPublished shelf (identity_of r) key height → (below : List Todo) → Expects task r below → Waits shelf task below
+  pub given-known : (r : ArcRef) (key height : ℕ) → IsPublished shelf (identity_of r) key height → (below : List Todo) → HasRoom r height below → Expects task r below → Waits shelf task below
       → Walks v g shelf task (give_known r key height below)
-  given-known r key height p [] expects waits = (p, (expects, waits))
-  given-known r key height p (x ∷ below) expects waits = given r key height p (x ∷ below) expects waits
+  given-known r key height p [] reach expects waits = (p, reach, (expects, waits))
+  given-known r key height p (x ∷ below) reach expects waits = given r key height p (x ∷ below) reach expects waits
 
 -- a known key of a table that fits stands for its node's tree
 pub stands-for : {N : Type 0} (v : Values N) (g : Ground) (shelf : Shelf) → SlotsFit v g shelf → (i : Identity) (key height : ℕ) → IsPublished shelf i key height → IdentityStands v g i key
@@ -198,27 +255,37 @@ module _ {N B W : Type 0} (m : Seen N B W) (n : ℕ) {g g' : Ground} (task : Tas
         → key ≡ digest m.values (blob_of o.written.bytes o.keys) → g'.stored key ≡ Some (blob_of o.written.bytes o.keys)
         → Walks m.values g' s'.shelf task (to_set o.reference o.through key o.height ∷ below)
     unfolding Waits
-    finishes o below key claim (known, expects, waits) all is there =
+    finishes o below key claim (known, attained, place, reach, expects, waits) all is there =
         let a = more (identity_of o.reference) claim.slot claim.claimed in
         let wrote = a.2.written o.written claim.written_so in
         let fit = kept (identity_of o.reference) a.0 a.1 in
-        let known' = all-known s'.shelf o.written.references o.keys all (so-far-on (keys-grow more) o.written.references o.keys known) in (
+        let first = so-far-on (keys-grow more) o.height o.written.references o.keys known in
+        let known' = all-known s'.shelf o.height o.written.references o.keys all first in (
           record {
             slot = a.0;
             written = o.written;
             claimed = a.1;
             wrote = wrote;
-            stands = record { keys = o.keys; known = known'; is_stored = there; right = key-stands o.keys (stands-for m.values g' s'.shelf kept) (fit.writes o.written wrote) known' there is };
+            stands = record {
+              keys = o.keys;
+              known = known';
+              is_stored = there;
+              right = key-stands o.keys (stands-for m.values g' s'.shelf kept) (fit.writes o.written wrote) known' there is;
+              within = omega arith;
+              low = all-low s'.shelf o.height o.written.references o.keys all first;
+              attained = attained-on (keys-grow more) o.height o.written.references attained;
+            };
           },
+          reach,
           still o.reference below (expects, waits),
         )
 
   abbrev Puts : ArcRef → Slot → Type 0
   Puts r slot = PutsSlot s.shelf.slots s'.shelf.slots (identity_of r) slot
 
-  claimed : (r : ArcRef) (place : ℕ) (below : List Todo) → claim_fault s.core r ≡ None → Puts r (record { worker = n; written = None; outcome = no_result }) → Above s.shelf task r below
+  claimed : (r : ArcRef) (place : ℕ) (below : List Todo) → claim_fault s.core r ≡ None → Puts r (record { worker = n; written = None; outcome = no_result }) → Placed s.shelf task r place below
       → s'.todo ≡ to_pin r place ∷ below → Fits
-  claimed r place below may puts above e =
+  claimed r place below may puts (at, few, above) e =
       let ok = claimable r may in
       let fits_new : SlotFits m.values g' s'.shelf (identity_of r) (record { worker = n; written = None; outcome = no_result }) =
       record {
@@ -227,13 +294,13 @@ module _ {N B W : Type 0} (m : Seen N B W) (n : ℕ) {g g' : Ground} (task : Tas
         writes = λ w there. absurd (cc);
         publishes = λ key height known. absurd (cc);
       } in
-      did (slots-but goes more fits puts fits_new) e (still r below above)
+      did (slots-but goes more fits puts fits_new) e (at, few, still r below above)
 
   writes : (r : ArcRef) (place : ℕ) (through : HandleNumber) (below : List Todo) (written : Written) (claim : HasClaim s.shelf n (identity_of r) (λ w. w ≡ None))
       → WroteTree m.values.types g r.node.0 written
-      → Puts r (record claim.slot { written = Some written }) → Above s.shelf task r below → s'.todo ≡ open_node r place through written below → Fits
+      → Puts r (record claim.slot { written = Some written }) → Placed s.shelf task r place below → s'.todo ≡ open_node r place through written below → Fits
   unfolding Waits KeysSoFar
-  writes r place through below written claim w puts above e =
+  writes r place through below written claim w puts (at, few, above) e =
       let fit = fits (identity_of r) claim.slot claim.claimed in
       let on : SlotFits m.values g' s'.shelf (identity_of r) claim.slot = slot-on m.values goes (keys-grow more) fit in
       let fits_new : SlotFits m.values g' s'.shelf (identity_of r) (record claim.slot { written = Some written }) =
@@ -245,11 +312,12 @@ module _ {N B W : Type 0} (m : Seen N B W) (n : ℕ) {g g' : Ground} (task : Tas
       } in
       let a = still r below above in
       did (slots-but goes more fits puts fits_new) e
-      (started-node m.values g' s'.shelf task (record { reference = r; place = place; through = through; written = written; keys = []; height = 0 }) below _ refl (tt, a.0, a.1))
+      (started-node m.values g' s'.shelf task (record { reference = r; place = place; through = through; written = written; keys = []; height = 0 }) below _ refl
+      (tt, inl refl, at, omega arith, a.0, a.1))
 
-  publishes : (r : ArcRef) (key height : ℕ) (below : List Todo) (blob : HasBlob m.values g s.shelf r key) → Puts r (record blob.slot { outcome = published key height }) → Above s.shelf task r below
-      → s'.todo ≡ to_release r key height ∷ below → Fits
-  publishes r key height below blob puts above e =
+  publishes : (r : ArcRef) (key height : ℕ) (below : List Todo) (blob : HasBlob m.values g s.shelf r key height) → Puts r (record blob.slot { outcome = published key height })
+      → HasRoom r height below → Above s.shelf task r below → s'.todo ≡ to_release r key height ∷ below → Fits
+  publishes r key height below blob puts reach above e =
       let fit = fits (identity_of r) blob.slot blob.claimed in
       let on : SlotFits m.values g' s'.shelf (identity_of r) blob.slot = slot-on m.values goes (keys-grow more) fit in
       let fits_new : SlotFits m.values g' s'.shelf (identity_of r) (record blob.slot { outcome = published key height }) =
@@ -257,9 +325,14 @@ module _ {N B W : Type 0} (m : Seen N B W) (n : ℕ) {g g' : Ground} (task : Tas
         given = on.given;
         typed = on.typed;
         writes = on.writes;
-        publishes = λ k h known. let same : key ≡ k = cc in (blob.written, blob.wrote, subst (λ z. BlobStands m.values g' s'.shelf r.node.0 blob.written z) same (blob-on m.values goes (keys-grow more) fit.given blob.stands));
+        publishes = λ k h known. let same : key ≡ k = cc in let equal : height ≡ h = cc in (
+          blob.written,
+          blob.wrote,
+          subst (λ x. BlobStands m.values g' s'.shelf r.node.0 blob.written k x) equal
+              (subst (λ z. BlobStands m.values g' s'.shelf r.node.0 blob.written z height) same (blob-on m.values goes (keys-grow more) fit.given blob.stands)),
+        );
       } in
-      did (slots-but goes more fits puts fits_new) e (record { slot = record blob.slot { outcome = published key height }; claimed = puts.at; known = refl }, still r below above)
+      did (slots-but goes more fits puts fits_new) e (record { slot = record blob.slot { outcome = published key height }; claimed = puts.at; known = refl }, reach, still r below above)
 
   stored-so : (key : ℕ) (b : Blob) → Stores s.core key b s'.core → s'.core.stored key ≡ Some b
   stored-so key b h = let e : (key == key) ≡ true = grind (arith, nat_tests) in h.adds.each key ∙ ap (λ t. if t then Some b else s.core.stored key) e
@@ -268,27 +341,30 @@ module _ {N B W : Type 0} (m : Seen N B W) (n : ℕ) {g g' : Ground} (task : Tas
       (ends : answer_after s.todo step ≡ None → (key : ℕ) (b : Blob) → s'.core.stored key ≡ Some b → g'.stored key ≡ Some b) where
     stepped : (todo : List Todo) → s.todo ≡ todo → (took : Took W) → step ≡ took → Does m n s todo took s' → AllStand s.shelf n task todo → Walks m.values g s.shelf task todo → Fits
     unfolding AllStand
-    stepped (to_start r place ∷ below) e (Took.Claim i (Ok Claim.Claimed)) st (is, c) all above =
-        let t = c.finds.1.2 in claimed r place below c.finds.0 (puts-slot (with_wait s.shelf n None) s'.shelf (identity_of r) (record { worker = n; written = None; outcome = no_result }) t.table_is) above t.list_is
-    stepped (to_start r place ∷ below) e (Took.Claim i (Ok (Claim.Known key height))) st (is, c) all above =
+    stepped (to_start r place ∷ below) e (Took.Claim i (Ok Claim.Claimed)) st (is, c) all (at, above) =
+        let t = c.finds.1.2 in
+        claimed r place below c.finds.0 (puts-slot (with_wait s.shelf n None) s'.shelf (identity_of r) (record { worker = n; written = None; outcome = no_result }) t.table_is)
+        (at, c.finds.1.0, above) t.list_is
+    stepped (to_start r place ∷ below) e (Took.Claim i (Ok (Claim.Known key height))) st (is, c) all (at, above) =
         let t = c.finds.1.2 in let a = still r below above in
-        did (kept (λ j. t.table_is.slots j)) t.list_is (given-known m.values g' s'.shelf task r key height (keys-grow more _ _ _ c.finds.1.1) below a.0 a.1)
+        did (kept (λ j. t.table_is.slots j)) t.list_is
+        (given-known m.values g' s'.shelf task r key height (keys-grow more _ _ _ c.finds.1.1) below (subst (λ q. q + height ≤ longest_path) at c.finds.1.0) a.0 a.1)
     stepped (to_write r place through ∷ below) e (Took.Write i (Ok out)) st (is, p) (stands, apart, all) above =
         let t = p.writes in
         let w = subst (λ (j : Identity). WroteTree m.values.types g j.node.0 (m.written_of out)) is (wrote i out st) in
         let claim = stands.1 in
         writes r place through below (m.written_of out) claim w
         (changes-slot s.shelf s'.shelf (identity_of r) claim.slot (λ slot. record slot { written = Some (m.written_of out) }) claim.claimed t.table_is) above t.list_is
-    stepped (to_set r through key height ∷ below) e (Took.SetKey i (Ok u)) st (is, p) all (blob, above) =
-        let t = p.goes in did (kept t.table_stays.slots) t.list_is (has-blob-on goes more fits blob, still r below above)
-    stepped (to_publish r key height ∷ below) e (Took.Publish i k h) st (is, same_key, same_height, t) (stands, apart, all) (blob, above) =
+    stepped (to_set r through key height ∷ below) e (Took.SetKey i (Ok u)) st (is, p) all (blob, reach, above) =
+        let t = p.goes in did (kept t.table_stays.slots) t.list_is (has-blob-on goes more fits blob, reach, still r below above)
+    stepped (to_publish r key height ∷ below) e (Took.Publish i k h) st (is, same_key, same_height, t) (stands, apart, all) (blob, reach, above) =
         let claim = stands.1 in
         let still : blob.slot.outcome ≡ no_result = ap (λ (z : Slot). z.outcome) (some-same blob.claimed claim.claimed) ∙ claim.no_result_yet in
         let new : with_outcome (published key height) blob.slot ≡ record blob.slot { outcome = published key height } = rw still refl in
         let puts = changes-slot s.shelf s'.shelf (identity_of r) blob.slot (with_outcome (published key height)) blob.claimed t.table_is in
-        publishes r key height below blob (subst (λ z. Puts r z) new puts) above t.list_is
-    stepped (to_release r key height ∷ below) e (Took.Release i) st (is, falls, t) all (p, above) =
-        let a = still r below above in did (kept t.table_stays.slots) t.list_is (given m.values g' s'.shelf task r key height (keys-grow more _ _ _ p) below a.0 a.1)
+        publishes r key height below blob (subst (λ z. Puts r z) new puts) reach above t.list_is
+    stepped (to_release r key height ∷ below) e (Took.Release i) st (is, falls, t) all (p, reach, above) =
+        let a = still r below above in did (kept t.table_stays.slots) t.list_is (given m.values g' s'.shelf task r key height (keys-grow more _ _ _ p) below reach a.0 a.1)
     stepped (to_fail fault back ∷ below) e Took.Fail st (gives, same, list_is) all walks = did (slots-failed goes more fits n same.slots) list_is tt
     stepped _ e step st does all walks = grind (arith, nat_tests, fails, did, kept, still, finishes, stored-so, given-known, given, keys-grow, has-blob-on, slots-failed)
 
@@ -327,7 +403,7 @@ module _ {N B W E : Type 0} (m : Seen N B W) (s s' : MachineState N E) (trees tr
   starts-well : (shelf : Shelf) (task : Task) → Walks m.values g' shelf task (first_todo task)
   unfolding Waits KeysSoFar
   starts-well shelf (of_item written) = started-item m.values g' shelf (of_item written) written [] [] _ refl (refl, tt)
-  starts-well shelf (of_entry h i) = (refl, tt)
+  starts-well shelf (of_entry h i) = (refl, (refl, tt))
 
   -- each event keeps it
   pub fits-on : StandsIn (world_of s) → (event : Event N B W) (reply : EventReply N B W) → EventTurns m (world_of s) event reply (world_of s') → ReplyWrites m s.pager reply

@@ -71,6 +71,7 @@ pub use Rattle.pagable_laws.specs.{DeepLaws.DeepLoadLaw, FallLaws.{PinsAreAFilte
 pub use Rattle.pagable_laws.specs.FormLaws.{IsReadThrough, KeepsForms, with_more, IsLocal, IsUsed, IsLasting, IsReadAgain, LooksUp, no-references, more-references, CanonicalHasOneForm}
 pub use Rattle.pagable_laws.specs.{FormLaws.{HasOnePreimage, IsPrefixFree}, JsonLaws.{FloatHasNoForm, WholeIsBounded}, KeyLaws.{IsOneKeyMeaning, IsAnyOrder}, KeyRuns.{StandsAt, KeyIsSet}}
 pub use Rattle.pagable_laws.specs.{KeyRuns.{is_publishing, HasHandle, KeysHeld, Holds, KeysAreRight}, TwoLevels.{ArePremised, TwoLevelsMeetTheHeadline}, LoadLaws.{IsBeginOf, HasBegun, SoundLaw}}
+pub use Rattle.pagable_laws.specs.PageOutLaws.{IsLow, AllLow, IsAttained, place_over, HasRoom, Placed}
 pub use Rattle.pagable_laws.specs.PageOutLaws.{ground_of, Walks, WorkFits, Ground, WroteTree, BlobStands, SlotFits, Expects, Above, HasBlob, SlotsFit, FollowsTo, number-follows, integer-follows}
 pub use Rattle.pagable_laws.specs.{PageOutLaws.{text-follows, pattern-follows, none-follows, pair-follows, variant-follows, reference-follows, KeyStands, IsOfEntry, IsDone}, ReadLaws.Needs}
 pub use Rattle.pagable_laws.specs.ReadLaws.{KeepsStored, FramesGiven, ValueLeads, LeadsTo, number-leads, integer-leads, text-leads, pattern-leads, none-leads, pair-leads, variant-leads}
