@@ -14,7 +14,7 @@ use Rattle.pagable_laws.proofs.Called as calling
 
 -- ---- whatever a worker does, what stands of its list and of its table stands afterwards
 
-module _ {N B W : Type 0} (m : Seen N B W) (v : ℕ) (task : Task) (s s' : Site) (clean : HasNoFailed s.shelf v) where
+module _ {N B W : Type 0} (m : Seen N B W) (v : ℕ) (task : Task) (s s' : Site) where
   to-list : {answer : Option WorkerAnswer} {todo : List Todo} → s'.todo ≡ todo → Goes v task s.shelf answer s'.shelf todo → Goes v task s.shelf answer s'.shelf s'.todo
   to-list {answer = answer} e goes = subst (λ t. Goes v task s.shelf answer s'.shelf t) (sym e) goes
 
@@ -23,36 +23,36 @@ module _ {N B W : Type 0} (m : Seen N B W) (v : ℕ) (task : Task) (s s' : Site)
       → IsPublished s.shelf (identity_of r) key height
       → ((i : Identity) → s'.shelf.slots i ≡ s.shelf.slots i) → Goes v task s.shelf None s'.shelf (give_known r key height below)
   unfolding AllStand is_open_in
-  known r place key height [] (meets, apart, rest) covers is same = plain v task s.shelf s'.shelf same clean None (to_release r key height ∷ []) (λ a is. absurd (cc))
+  known r place key height [] (meets, apart, rest) covers is same = plain v task s.shelf s'.shelf same None (to_release r key height ∷ []) (λ a is. absurd (cc))
       ((meets, is), (λ i no. absurd (cc)), tt) covers
   known r place key height (x ∷ below) (meets, apart, rest) covers is same =
-      plain v task s.shelf s'.shelf same clean None (give r key height (x ∷ below)) (λ a is. absurd (cc)) (gives v task s.shelf r key height (x ∷ below) rest)
+      plain v task s.shelf s'.shelf same None (give r key height (x ∷ below)) (λ a is. absurd (cc)) (gives v task s.shelf r key height (x ∷ below) rest)
       (λ i slot there own still. given-open v task s.shelf i r key height (x ∷ below) ∙ covers i slot there own still)
 
   released : (r : ArcRef) (key height : ℕ) (below : List Todo) → AllStand s.shelf v task (to_release r key height ∷ below) → CoversBy v task s.shelf (to_release r key height ∷ below)
       → ((i : Identity) → s'.shelf.slots i ≡ s.shelf.slots i) → (step : Took W) → Goes v task s.shelf (answer_after (to_release r key height ∷ below) step) s'.shelf (give r key height below)
   unfolding AllStand is_open_in
-  released r key height [] (stands, apart, rest) covers same step = plain v task s.shelf s'.shelf same clean _ [] (λ a is. refl) tt covers
+  released r key height [] (stands, apart, rest) covers same step = plain v task s.shelf s'.shelf same _ [] (λ a is. refl) tt covers
   released r key height (x ∷ below) (stands, apart, rest) covers same step =
-      plain v task s.shelf s'.shelf same clean None (give r key height (x ∷ below)) (λ a is. absurd (cc)) (gives v task s.shelf r key height (x ∷ below) rest)
+      plain v task s.shelf s'.shelf same None (give r key height (x ∷ below)) (λ a is. absurd (cc)) (gives v task s.shelf r key height (x ∷ below) rest)
       (λ i slot there own still. given-open v task s.shelf i r key height (x ∷ below) ∙ covers i slot there own still)
 
   go : (todo : List Todo) → s.todo ≡ todo → AllStand s.shelf v task todo → Covers s.shelf v todo → (step : Took W) → Does m v s todo step s'
       → Goes v task s.shelf (answer_after todo step) s'.shelf s'.todo
   unfolding AllStand is_open_in
   go (to_start r place ∷ below) e all covers (Took.Claim i (Ok Claim.Claimed)) (is, c) =
-      to-list c.finds.1.2.list_is (claimed v task s.shelf s'.shelf clean r place below all covers c.finds.1.1 (puts-slot (with_wait s.shelf v None) s'.shelf (identity_of r) (record { worker = v; written = None; outcome = no_result }) c.finds.1.2.table_is))
+      to-list c.finds.1.2.list_is (claimed v task s.shelf s'.shelf r place below all covers c.finds.1.1 (puts-slot (with_wait s.shelf v None) s'.shelf (identity_of r) (record { worker = v; written = None; outcome = no_result }) c.finds.1.2.table_is))
   go (to_start r place ∷ below) e all covers (Took.Claim i (Ok (Claim.Known key height))) (is, c) = to-list c.finds.1.2.list_is
       (known r place key height below all covers c.finds.1.1 c.finds.1.2.table_is.slots)
   go (to_start r place ∷ below) e all covers (Took.Claim i (Ok Claim.Waiting)) (is, c) = to-list (c.finds.1.2.list_is ∙ e)
-      (plain v task s.shelf s'.shelf c.finds.1.2.table_is.slots clean None (to_start r place ∷ below) (λ a is. absurd (cc)) all covers)
+      (plain v task s.shelf s'.shelf c.finds.1.2.table_is.slots None (to_start r place ∷ below) (λ a is. absurd (cc)) all covers)
   go (to_write r place through ∷ below) e all covers (Took.Write i (Ok out)) (is, p) = to-list p.writes.list_is
-      (written-goes v task s.shelf s'.shelf clean r place through (m.written_of out) below all covers p.writes.table_is)
+      (written-goes v task s.shelf s'.shelf r place through (m.written_of out) below all covers p.writes.table_is)
   go (to_item written keys ∷ below) e ((is_of, last), apart, rest) covers (Took.Store i (Ok key)) (is, p) = grind (arith, nat_tests, to-list, plain)
   go (to_publish r key height ∷ below) e all covers (Took.Publish i k h) (is, same_key, same_height, t) = to-list t.list_is
-      (published-goes v task s.shelf s'.shelf clean r key height below all covers t.table_is)
+      (published-goes v task s.shelf s'.shelf r key height below all covers t.table_is)
   go (to_release r key height ∷ below) e all covers (Took.Release i) (is, falls, g) = to-list g.list_is (released r key height below all covers g.table_stays.slots (Took.Release i))
-  go (to_fail fault back ∷ below) e all covers Took.Fail (back_is, table_is, list_is) = to-list list_is (failed-goes v task s.shelf s'.shelf clean (answer_of_fault fault) table_is)
+  go (to_fail fault back ∷ below) e all covers Took.Fail (back_is, table_is, list_is) = to-list list_is (failed-goes v task s.shelf s'.shelf (answer_of_fault fault) table_is)
   go _ e all covers step does = grind (arith, nat_tests, to-list, fails, swaps, plain)
 
   pub stands-on : AllStand s.shelf v task s.todo → Covers s.shelf v s.todo → (step : Took W) → Does m v s s.todo step s' → Goes v task s.shelf (answer_after s.todo step) s'.shelf s'.todo
@@ -99,7 +99,7 @@ own-step : {X : Type 0} (x : X) (v n : ℕ) (b : Bool) → (v == n) ≡ b → (i
 own-step x v n b e = ap (λ t. if t then x ∷ [] else []) e
 
 -- the same slots do as well
-goes-same : (v : ℕ) (task : Task) (shelf mid shelf' : Shelf) (answer : Option WorkerAnswer) (todo : List Todo) → ((i : Identity) → shelf'.slots i ≡ mid.slots i)
+pub goes-same : (v : ℕ) (task : Task) (shelf mid shelf' : Shelf) (answer : Option WorkerAnswer) (todo : List Todo) → ((i : Identity) → shelf'.slots i ≡ mid.slots i)
     → Goes v task shelf answer mid todo → Goes v task shelf answer shelf' todo
 goes-same v task shelf mid shelf' answer todo same g =
     let more : ShelfGrows mid shelf' = grows v mid shelf' (same-slots v mid shelf' same) in
@@ -107,7 +107,7 @@ goes-same v task shelf mid shelf' answer todo same g =
       changes = λ i. subst (λ o. SlotChanges v (shelf.slots i) o) (sym (same i)) (g.changes i);
       all = all-stay v task mid shelf' more todo (λ i is slot there own. same i ∙ there) g.all;
       covers = λ i slot there own still. g.covers i slot (sym (same i) ∙ there) own still;
-      unfailed = λ none i slot there own. g.unfailed none i slot (sym (same i) ∙ there) own;
+      unfailed = λ none clean i slot there own. g.unfailed none clean i slot (sym (same i) ∙ there) own;
       done = g.done;
       met = λ i slot none there. meets-grow mid shelf' task i more (g.met i slot none (sym (same i) ∙ there));
     }
@@ -169,7 +169,7 @@ module _ {N B W : Type 0} (m : Seen N B W) (u u' : World) (work : StandsIn u) wh
       let now : Walking = record w { todo = s.after.todo; steps = reply.steps; answer = reply.answer } in
       let stands = work.workers v.0 w s.at in
       let goes : Goes v.0 w.task (u.work.shelves w.table) (answer_after w.todo reply.took) s.after.shelf s.after.todo =
-      stands-on m v.0 w.task (record { core = u.core; shelf = u.work.shelves w.table; todo = w.todo }) s.after (stands.unfailed s.at_work) stands.all stands.covers reply.took s.does.does
+      stands-on m v.0 w.task (record { core = u.core; shelf = u.work.shelves w.table; todo = w.todo }) s.after stands.all stands.covers reply.took s.does.does
       in
       let shelf_is : (i : Identity) → (u'.work.shelves w.table).slots i ≡ s.after.shelf.slots i =
       λ i. (s.work.same_shelves w.table).slots i ∙ ap (λ (x : Shelf). x.slots i) (updated-at w.table s.after.shelf u.work.shelves) in
@@ -181,6 +181,7 @@ module _ {N B W : Type 0} (m : Seen N B W) (u u' : World) (work : StandsIn u) wh
         turned = is-stepped v.0 u.work.shelves u'.work.shelves u.work.walkings u'.work.walkings w now s.at (s.work.same_walkings v.0 ∙ updated-at v.0 (Some now) u.work.walkings) refl refl
             (λ n other. s.work.same_walkings n ∙ updated-off v.0 (Some now) u.work.walkings n other)
             (λ t other i. (s.work.same_shelves t).slots i ∙ ap (λ (x : Shelf). x.slots i) (updated-off w.table s.after.shelf u.work.shelves t other))
+            (stands.unfailed s.at_work)
             (goes-same v.0 w.task (u.work.shelves w.table) s.after.shelf (u'.work.shelves w.table) reply.answer s.after.todo shelf_is
             (subst (λ a. Goes v.0 w.task (u.work.shelves w.table) a s.after.shelf s.after.todo) (sym s.answers) goes));
         last = omega arith;
@@ -455,7 +456,7 @@ counted : (n : ℕ) (b : Bool) → steps_after n b ≤ n + one b
 counted n x1 = grind (arith, nat_tests)
 
 -- where a claim finds one that has failed, it is another's
-failed-elsewhere : {N B W : Type 0} (m : Seen N B W) (v : ℕ) (s s' : Site) (todo : List Todo) (i : Identity) → Does m v s todo (Took.Claim i (Ok Claim.AlreadyFailed)) s'
+pub failed-elsewhere : {N B W : Type 0} (m : Seen N B W) (v : ℕ) (s s' : Site) (todo : List Todo) (i : Identity) → Does m v s todo (Took.Claim i (Ok Claim.AlreadyFailed)) s'
     → HasNoFailed s.shelf v → FailedElsewhere s.shelf v i
 failed-elsewhere m v s s' (to_start r place ∷ below) i (is, c) clean =
     let found = c.finds.1.1 in

@@ -21,6 +21,7 @@ pub mod ReadingSteps
 mod Once
 mod Standing
 mod Coming
+pub mod Answered
 mod Decoding
 mod Fitting
 mod Following

@@ -246,12 +246,12 @@ module _ (v : ℕ) (task : Task) where
     pub changes : Changes v shelf shelf'
     pub all : AllStand shelf' v task todo
     pub covers : Covers shelf' v todo
-    pub unfailed : answer ≡ None → HasNoFailed shelf' v
+    pub unfailed : answer ≡ None → HasNoFailed shelf v → HasNoFailed shelf' v
     pub done : (a : WorkerAnswer) → answer ≡ Some a → todo ≡ []
     pub met : (i : Identity) (slot : Slot) → shelf.slots i ≡ None → shelf'.slots i ≡ Some slot → Meets shelf' task i
 
   -- the same slots
-  module _ (shelf shelf' : Shelf) (same : (i : Identity) → shelf'.slots i ≡ shelf.slots i) (clean : HasNoFailed shelf v) where
+  module _ (shelf shelf' : Shelf) (same : (i : Identity) → shelf'.slots i ≡ shelf.slots i) where
     pub plain : (answer : Option WorkerAnswer) (todo : List Todo) → ((a : WorkerAnswer) → answer ≡ Some a → todo ≡ []) → AllStand shelf v task todo → CoversBy shelf todo
         → Goes shelf answer shelf' todo
     plain answer todo done all covers = grind (arith, nat_tests, same-slots, all-stay, grows, or_right, is_failing, is_open_in, some-none)
@@ -312,15 +312,15 @@ module _ (v : ℕ) (task : Task) where
 open-self : (i j : Identity) (rest : Bool) → j ≡ i → (is_identity j i || rest) ≡ true
 open-self i j rest is = subst (λ k. (is_identity k i || rest) ≡ true) (sym is) (or_left (is_identity i i) rest (is-self i))
 
-module _ (v : ℕ) (task : Task) (shelf shelf' : Shelf) (clean : HasNoFailed shelf v) where
+module _ (v : ℕ) (task : Task) (shelf shelf' : Shelf) where
   -- what is to be done below stands where the slot of another claim changes
   below-stays : (i : Identity) (slot : Slot) (below : List Todo) → PutsSlot shelf.slots shelf'.slots i slot → Changes v shelf shelf' → is_open_in i below ≡ false
       → AllStand shelf v task below → AllStand shelf' v task below
   below-stays i slot below puts changes apart all = grind (arith, nat_tests, all-stay, false_from_ne_true, true-false, is-same)
 
   -- an own slot changes, or comes, that hasn't failed
-  clean-still : (i : Identity) (new : Slot) → PutsSlot shelf.slots shelf'.slots i new → is_failed new.outcome ≡ false → HasNoFailed shelf' v
-  clean-still i new puts good j slot there own = elim (put-cases shelf.slots shelf'.slots i new puts j slot there) [ inl e ↦ ap (λ (s : Slot). is_failed s.outcome) e.1 ∙ good | inr e ↦ clean j slot e.1 own ]
+  clean-still : (i : Identity) (new : Slot) → PutsSlot shelf.slots shelf'.slots i new → is_failed new.outcome ≡ false → HasNoFailed shelf v → HasNoFailed shelf' v
+  clean-still i new puts good clean j slot there own = elim (put-cases shelf.slots shelf'.slots i new puts j slot there) [ inl e ↦ ap (λ (s : Slot). is_failed s.outcome) e.1 ∙ good | inr e ↦ clean j slot e.1 own ]
 
   abbrev new-slot : Slot
   new-slot = record { worker = v; written = None; outcome = no_result }
@@ -428,7 +428,7 @@ module _ (v : ℕ) (task : Task) (shelf shelf' : Shelf) (clean : HasNoFailed she
         changes = fails-own v shelf shelf' same;
         all = tt;
         covers = λ i slot there own still. let a = all-failed v shelf shelf' same i slot there own in absurd (closed slot a still);
-        unfailed = λ nothing. absurd (cc);
+        unfailed = λ nothing clean. absurd (cc);
         done = λ a is. refl;
         met = λ i slot none there. some-none there ((same.slots i ∙ ap (λ o. if_there (λ (slot : Slot). Some (if nat_eq slot.worker v then with_outcome failed slot else slot)) None o) none));
       }
@@ -484,6 +484,12 @@ module _ (v : ℕ) (shelves shelves' : ℕ → Shelf) (walkings walkings' : ℕ 
         numbered = grind (arith, nat_tests, cases_Bool, nat_eq, same-worker);
       }
 
+-- at first each stands
+pub first-stands : (shelf : Shelf) (v : ℕ) (task : Task) → AllStand shelf v task (first_todo task)
+unfolding AllStand is_open_in
+first-stands shelf v (of_item written) = item-settles v (of_item written) shelf written [] [] ((refl, refl), (λ i is. absurd (cc)), tt)
+first-stands shelf v (of_entry h i) = (meets-entry h i refl, (λ j is. absurd (cc)), tt)
+
 -- ---- the events
 
 -- the same claims on each table
@@ -511,11 +517,6 @@ module _ (shelves shelves' : ℕ → Shelf) (walkings walkings' : ℕ → Option
       let few = work.numbered slot.worker s.walking s.there in
       omega arith
 
-  first-stands : (shelf : Shelf) (v : ℕ) (task : Task) → AllStand shelf v task (first_todo task)
-  unfolding AllStand is_open_in
-  first-stands shelf v (of_item written) = item-settles v (of_item written) shelf written [] [] ((refl, refl), (λ i is. absurd (cc)), tt)
-  first-stands shelf v (of_entry h i) = (meets-entry h i refl, (λ j is. absurd (cc)), tt)
-
   -- a worker starts
   pub is-started : (v : ℕ) (new : Walking) → last < v → new.todo ≡ first_todo new.task → new.answer ≡ None → walkings' v ≡ Some new
       → ((u : ℕ) → nat_eq u v ≡ false → walkings' u ≡ walkings u) → Turned v shelves shelves' walkings walkings'
@@ -536,9 +537,9 @@ module _ (shelves shelves' : ℕ → Shelf) (walkings walkings' : ℕ → Option
 -- a worker makes a step
 pub is-stepped : (v : ℕ) (shelves shelves' : ℕ → Shelf) (walkings walkings' : ℕ → Option Walking) (w now : Walking) → walkings v ≡ Some w → walkings' v ≡ Some now → now.table ≡ w.table
     → now.task ≡ w.task
-    → ((u : ℕ) → nat_eq u v ≡ false → walkings' u ≡ walkings u) → ((t : ℕ) → nat_eq t w.table ≡ false → (i : Identity) → (shelves' t).slots i ≡ (shelves t).slots i)
+    → ((u : ℕ) → nat_eq u v ≡ false → walkings' u ≡ walkings u) → ((t : ℕ) → nat_eq t w.table ≡ false → (i : Identity) → (shelves' t).slots i ≡ (shelves t).slots i) → HasNoFailed (shelves w.table) v
     → Goes v w.task (shelves w.table) now.answer (shelves' w.table) now.todo → Turned v shelves shelves' walkings walkings'
-is-stepped v shelves shelves' walkings walkings' w now at at_now same_table same_task others elsewhere goes =
+is-stepped v shelves shelves' walkings walkings' w now at at_now same_table same_task others elsewhere clean goes =
     record {
       changes = λ t. change t (nat_eq t w.table) refl;
       others = others;

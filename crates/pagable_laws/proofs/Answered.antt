@@ -1,0 +1,81 @@
+-- A worker's steps up to its answer: none of its own claims waits any more, and what another claimed is as it was.
+use Rattle.pagable_laws.proofs.Words.{◌≡◌, ℕ, nat_eq, nat_tests, arith, Bool, true, false, List, [], ◌∷◌, ◌++◌, append_assoc, None, Some, Ok, refl, sym, subst, Identity, HandleNumber, Slot, Shelf, no_result}
+use Rattle.pagable_laws.proofs.Words.{Todo, Task, of_item, of_entry, Written, Took, Claim, WorkerAnswer, Seen, Site, Does, answer_after, first_todo, is_open_outcome, IsMetFailure, FailedElsewhere}
+use Rattle.pagable_laws.proofs.{Standing.{is_open_in, AllStand, Covers, HasNoFailed, Changes, first-stands, some-none, some-same}, Coming.{stands-on, goes-same, FailsMet, follows-met, fails-stay, first-met, failed-stays}}
+use Rattle.pagable_laws.proofs.{Coming.{failed-elsewhere, among-last, answered}, Standing.{Goes, grows}, Nexts.steps_follow}
+use Rattle.pagable_world.specs.Access.{AccessState, AllHaveResults, WorkerRun, WalkStep, worker-ends, worker-goes-on}
+
+-- what a worker leaves with its answer, whose steps these are; and what it failed with was met, where C
+record Answered {W : Type 0} (C : Type 0) (n : ℕ) (shelf : Shelf) (steps : List (Took W)) (answer : WorkerAnswer) (shelf' : Shelf) : Type 0 where
+  own : (i : Identity) (slot : Slot) → shelf'.slots i ≡ Some slot → slot.worker ≡ n → is_open_outcome slot.outcome ≡ false
+  others : (i : Identity) (slot : Slot) → shelf'.slots i ≡ Some slot → nat_eq slot.worker n ≡ false → shelf.slots i ≡ Some slot
+  met : C → IsMetFailure shelf' n steps answer
+
+others-were : (n : ℕ) (shelf shelf' : Shelf) → Changes n shelf shelf' → (i : Identity) (slot : Slot) → shelf'.slots i ≡ Some slot → nat_eq slot.worker n ≡ false → shelf.slots i ≡ Some slot
+others-were n shelf shelf' changes i slot there other = grind (arith, nat_tests, some-same)
+
+-- what the list fails with was met, and none of the worker's claims has failed
+abbrev Met : {W : Type 0} → ℕ → Shelf → List (Took W) → List Todo → Type 0
+Met n shelf past todo = HasNoFailed shelf n × FailsMet n shelf past todo
+
+module _ {N E B W : Type 0} (m : Seen N B W) (n : ℕ) (task : Task) (C : Type 0) where
+  went : {todo next : List Todo} {s s' : AccessState N E} {step : Took W} → WalkStep m n todo s step next s' → AllStand s.shelf n task todo → Covers s.shelf n todo
+      → Goes n task s.shelf (answer_after todo step) s'.shelf next
+  went {todo} {next} {s} {s'} {step} w all covers =
+      subst (λ t. Goes n task s.shelf (answer_after todo step) s'.shelf t) (sym w.goes_on)
+      (goes-same n task s.shelf w.after.shelf s'.shelf _ w.after.todo w.shelf_is.slots (stands-on m n task (record { core = s.pager.core; shelf = s.shelf; todo = todo }) w.after all covers step w.does.does))
+
+  at-answer : {todo : List Todo} {s s' : AccessState N E} {steps : List (Took W)} {answer : WorkerAnswer} → WorkerRun m n todo s steps answer s' → (past : List (Took W)) → AllStand s.shelf n task todo
+      → Covers s.shelf n todo → (C → Met n s.shelf past todo) → Answered C n s.shelf (past ++ steps) answer s'.shelf
+  unfolding is_open_in
+  at-answer (worker-ends todo next step answer s s' w is) past all covers met =
+      let g = went w all covers in
+      let grown = grows n s.shelf s'.shelf g.changes in
+      record {
+        own = λ i slot there own. closed slot.outcome (λ still. subst (λ t. Covers s'.shelf n t) (g.done answer is) g.covers i slot there own still);
+        others = others-were n s.shelf s'.shelf g.changes;
+        met = λ c. answered n s'.shelf (past ++ step ∷ []) todo step answer is (fails-stay n s.shelf s'.shelf past (step ∷ []) todo grown (met c).1);
+      }
+    where
+      closed : (o : _) → (o ≡ no_result → false ≡ true) → is_open_outcome o ≡ false
+      closed o none = grind (arith, nat_tests)
+  at-answer (worker-goes-on todo next step steps answer s mid s' w is more) past all covers met =
+      let g = went w all covers in
+      let grown = grows n s.shelf mid.shelf g.changes in
+      let site : Site = record { core = s.pager.core; shelf = s.shelf; todo = todo } in
+      let on : C → Met n mid.shelf (past ++ step ∷ []) next = λ c.
+      let (clean, fails) = met c in
+      let already : (i : Identity) → step ≡ Took.Claim i (Ok Claim.AlreadyFailed) → FailedElsewhere mid.shelf n i =
+      λ i is. failed-stays n s.shelf mid.shelf i grown (failed-elsewhere m n site w.after todo i (subst (λ (x : Took W). Does m n site todo x w.after) is w.does.does) clean) in (
+        g.unfailed is clean,
+        subst (λ t. FailsMet n mid.shelf (past ++ step ∷ []) t) (sym w.goes_on)
+            (follows-met n mid.shelf (past ++ step ∷ []) m.written_of todo step w.after.todo (steps_follow m n site w.after step w.does) (among-last past step) already
+            (fails-stay n s.shelf mid.shelf past (step ∷ []) todo grown fails)),
+      ) in
+      let a = at-answer more (past ++ step ∷ []) g.all g.covers on in
+      record {
+        own = a.own;
+        others = λ i slot there other. others-were n s.shelf mid.shelf g.changes i slot (a.others i slot there other) other;
+        met = λ c. subst (λ past. IsMetFailure s'.shelf n past answer) (append_assoc past (step ∷ []) steps) (a.met c);
+      }
+
+-- of an item: where each claim of its table had a result, each has one
+pub item-answered : {N E B W : Type 0} (m : Seen N B W) (n : ℕ) (item : Written) {s s' : AccessState N E} {steps : List (Took W)} {answer : WorkerAnswer}
+    → WorkerRun m n (first_todo (of_item item)) s steps answer s' → AllHaveResults s.shelf → AllHaveResults s'.shelf
+item-answered m n item {s} {s'} run all =
+    let a = at-answer m n (of_item item) ⊥ run [] (first-stands s.shelf n (of_item item)) (λ i slot there own still. absurd (let e = all i slot there in grind arith)) (λ c. absurd c) in
+    (λ i slot there. by i slot there (nat_eq slot.worker n) refl (a.own i slot there) (a.others i slot there))
+  where
+    by : (i : Identity) (slot : Slot) → s'.shelf.slots i ≡ Some slot → (b : Bool) → nat_eq slot.worker n ≡ b → (slot.worker ≡ n → is_open_outcome slot.outcome ≡ false)
+        → (nat_eq slot.worker n ≡ false → s.shelf.slots i ≡ Some slot) → is_open_outcome slot.outcome ≡ false
+    by i slot there true e own others = own (grind (arith, nat_tests))
+    by i slot there false e own others = all i slot (others e)
+
+-- of an entry, on a table of no claims: nobody had failed before
+pub entry-answered : {N E B W : Type 0} (m : Seen N B W) (n : ℕ) (h : HandleNumber) (j : Identity) {s s' : AccessState N E} {steps : List (Took W)} {answer : WorkerAnswer}
+    → WorkerRun m n (first_todo (of_entry h j)) s steps answer s' → ((i : Identity) → s.shelf.slots i ≡ None) → answer ≡ WorkerAnswer.AlreadyFailed → ⊥
+entry-answered m n h j {s} {s'} {steps} run none is =
+    let a = at-answer m n (of_entry h j) (Unit {0}) run [] (first-stands s.shelf n (of_entry h j)) (λ i slot there own still. some-none there (none i))
+    (λ c. (λ i slot there own. some-none there (none i), first-met n s.shelf [] (of_entry h j))) in
+    let (i, among, failed) = subst (λ x. IsMetFailure s'.shelf n steps x) is (a.met tt) in
+    some-none (a.others i failed.slot failed.claimed failed.of_another) (none i)
