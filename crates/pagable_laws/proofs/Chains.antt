@@ -2,15 +2,15 @@
 use Rattle.pagable_laws.proofs.Words.{◌≡◌, ℕ, List, [], inl, inr, sym, subst, ◌⊎◌, Event, EventReply, Tree, Among, Reading, Frame, Values, Seen, IsLawful, MachineState, world_of}
 use Rattle.pagable_laws.proofs.Words.{IsMachineWhole, StandsFor, FramesFit, ReadingFits, EventBrings, IsReadingOf, HoldsSettled, ReadsItsTypes, TakesWell, AsksWell, IsWellAsked}
 use Rattle.pagable_laws.proofs.Words.{FramesGiven, Change, CoreGoes, IsSteppedReading, EventFeels, by-call, by-reading, by-key, arith, nat_tests, by-nothing, KeysAreReady, IsFresh, ChangeFits}
-use Rattle.pagable_laws.proofs.Words.{ReadingsGiven, ◌+◌, ◌≤◌, Option, Some, None, refl, ◌∙◌, LoadAnswer, OpenLoad, gone_on, Moves, ReadingFeels, KeepsReadings, StepFeels, TreesAfterEvent, ◌∷◌}
+use Rattle.pagable_laws.proofs.Words.{ReadingsGiven, ◌+◌, ◌≤◌, Option, Some, None, refl, ◌∙◌, OpenLoad, gone_on, Moves, ReadingFeels, StepFeels, TreesAfterEvent, ◌∷◌}
 use Rattle.pagable_laws.proofs.Words.{HandleNumber, IsIdle, IsPremised, Moment, AreMoments, TreesAfter, TreesAlong, GivesTree, PinGives, IsRight, HasPin, PinHolds, WorkFits, KeysHeld, ReadingsHeld}
 use Rattle.pagable_laws.proofs.Words.{◌==◌, ◌&&◌, Bool, true, false, ap, Ok, is_some, sum_by-append, sum_by-cons, Identity, WorkerNumber, one, times, Took, WorkerReply, Shelf, Slot}
 use Rattle.pagable_laws.proofs.Words.{Todo, Walking, World, Site, Does, Happens, WorkerSteps, step_of, steps_of, is_claim_of, is_on_table, claims_made, ◌++◌, append_assoc, is_none, WorkerAnswer}
 use Rattle.pagable_laws.proofs.Words.{HandleRow, Owner, owner_worker, is_owned_by, is_owner, is_workers_load, state_after, events_of, replies_of, InOrder, TableMeets, HasLetGo}
-use Rattle.pagable_laws.proofs.{Words.{WorkerIsRight, LoadsHaveStepsLeft, WorkIsRight, HeadlineLaw}, Felt.reading-fits, Felt.{none-comes, fits-nothing, fits-key, call-fits}, Fitting.tree-stays}
-use Rattle.pagable_laws.proofs.{ReadingSteps.{is-reading-of, does-feels}, Trees.same_some, Answering.keys-right, Coming.{StandsIn, event-turns, turns-stand, idle-stands, updated-at, EventTurns, Went}}
+use Rattle.pagable_laws.proofs.{Words.{StepsAreWithin, WorkerIsRight, WorkIsRight, HeadlineLaw}, Felt.reading-fits, Felt.{none-comes, fits-nothing, fits-key, call-fits}, Fitting.tree-stays}
+use Rattle.pagable_laws.proofs.{ReadingSteps.{is-reading-of, does-feels, readings-on}, Trees.same_some, Answering.keys-right, Coming.{waits-well, StandsIn, event-turns, turns-stand, idle-stands, updated-at, EventTurns, Went}}
 use Rattle.pagable_laws.proofs.{Coming.{HasGone, goes-on}, Naming.{held-at-first, held-on, keys-ready}, KnownSteps.{ReadingsAsked, event-asked}, Outlasting.pins-hold, Stepping.fits-at-first}
-use Rattle.pagable_laws.proofs.{Stepping.fits-on, ReadingStepsGive.{reads-give, event-held, loads-bounded}, Taking.{AtStep, fit-still, fit-after, pin_stands}, Felt.trees-go-on}
+use Rattle.pagable_laws.proofs.{Stepping.fits-on, ReadingStepsGive.{reads-give, event-held, LoadsStand, event-on, step-within, idle-bounded, steps-left}, Taking.{AtStep, fit-still, fit-after, pin_stands}, Felt.trees-go-on}
 use Rattle.pagable_laws.proofs.{Standing.{ShelfGrows, is-same, puts-slot, grows, true-false, KeepsTask, Turned, keeps-task, WalkingStands, is_failing, is_open_in}, Once.{once_each, plus-none}}
 use Rattle.pagable_laws.proofs.Sums.{sum-zero}
 use Rattle.pagable_world.specs.Runs.{Does as DoesMoment}
@@ -106,13 +106,6 @@ module _ {N E B W : Type 0} (m : Seen N B W) (s s' : MachineState N E) (trees tr
       let b = goes.loads_last in
       (kept reading g.0 (stands.readings reading is) g.1, omega (arith, a, b), few-still reading.frames g.1)
 
-  either-goes : KeepsReadings (world_of s) (world_of s') → (reading : Reading) → IsReadingOf s'.work reading → GoesOn reading
-  either-goes keeps reading is = elim (keeps reading is) [
-    | inl was ↦ old-goes reading was
-    | inr new ↦
-        ((nothing-yet m s' trees' reading new.0, new.2, none-given m s' trees' s'.pager.core.last.node reading.frames new.0))
-  ]
-
   stepped-goes : (reading : Reading) (frames : List Frame) → IsReadingOf s.work reading ⊎ IsFresh s.pager.core reading → (load : OpenLoad) → s.pager.core.loads reading.load.0 ≡ Some load
       → ReadingFeels m.values s.pager.core reading None frames s'.pager.core c → GoesOn (gone_on reading frames)
   stepped-goes reading frames is load opened feels =
@@ -130,19 +123,9 @@ module _ {N E B W : Type 0} (m : Seen N B W) (s s' : MachineState N E) (trees tr
       within : IsReadingOf s.work reading ⊎ IsFresh s.pager.core reading → reading.load.0 ≤ s.pager.core.last.load
       within x0 = grind (arith, nat_tests)
 
-  readings-on : {d : Change} (event : Event N B W) (reply : EventReply N B W) → d ≡ c → EventFeels m.values (world_of s) event reply (world_of s') d → (reading : Reading)
-      → IsReadingOf s'.work reading → GoesOn reading
-  readings-on event reply e (by-call c2 call answer called replied feels keeps) reading is = either-goes keeps reading is
-  readings-on event reply e (by-key k key row happened sets keeps) reading is = either-goes keeps reading is
-  readings-on event reply e (by-nothing stays keeps) reading is = either-goes keeps reading is
-  readings-on event reply e (by-reading c2 was answer frames stepped opens feels steps) reading is = elim (steps reading is) [
-    | inl old ↦ old-goes reading old
-    | inr (none, gone) ↦
-        let load = opens none in
-        let felt = subst (λ (o : Option (LoadAnswer N)). ReadingFeels m.values s.pager.core was o frames s'.pager.core c) none
-        (subst (λ z. ReadingFeels m.values s.pager.core was answer frames s'.pager.core z) e feels) in
-        subst GoesOn (sym gone) (stepped-goes was frames (is-reading-of (world_of s) event was stepped) load.0 load.1 felt)
-  ]
+  all-go : {event : Event N B W} {reply : EventReply N B W} → EventFeels m.values (world_of s) event reply (world_of s') c → (reading : Reading) → IsReadingOf s'.work reading → GoesOn reading
+  all-go = readings-on GoesOn old-goes (λ reading new. (nothing-yet m s' trees' reading new.0, new.2, none-given m s' trees' s'.pager.core.last.node reading.frames new.0))
+      (λ reading frames load is at feels. stepped-goes reading frames is load at feels)
 
 -- a machine that stands for trees does so after each event, as trees feel it
 pub keeps-trees : {N B W E : Type 0} (m : Seen N B W) → IsLawful m.values → ReadsItsTypes m.values.types
@@ -153,7 +136,7 @@ pub keeps-trees : {N B W E : Type 0} (m : Seen N B W) → IsLawful m.values → 
 keeps-trees m lawful readable s s' trees event reply stands given settled whole whole' ready well moves feels =
     let f = event-fits m s trees stands given lawful readable s' settled whole whole' ready event reply feels.core well feels.feels in
     let pager = trees-go-on lawful settled whole.pager whole'.pager stands.pager moves feels.core f.1 in
-    let on = readings-on m s s' trees f.0 whole whole' stands given feels.core f.1 event reply refl feels.feels in
+    let on = all-go m s s' trees f.0 whole whole' stands given feels.core f.1 feels.feels in
     record { after = f.0; keeps = f.1.same; stands = record { pager = pager; readings = λ reading is. (on reading is).0 }; given = λ reading is. let g = on reading is in (g.1, g.2) }
 
 -- ---- together
@@ -190,7 +173,7 @@ module _ {N E B W : Type 0} (m : Seen N B W) (lawful : IsLawful m.values) (reada
   pub goes : (s : MachineState N E) (trees : ℕ → Tree) (x : Moment N E B W) → IsGoingOn m.values s trees → DoesMoment m s x.event x.reply x.after
       → IsPremised m.values s trees x.event x.reply x.after → Goes s trees x
   goes s trees x on does premised =
-      let feels = does-feels m s x.after trees x.event x.reply on.whole on.fits premised.stays_open does in
+      let feels = does-feels m s x.after x.event x.reply on.whole (waits-well (world_of s) on.work) premised.stays_open does in
       let ready = keys-ready m.values s trees readable on.fits on.held in
       let a = keeps-trees m lawful readable s x.after trees x.event x.reply on.stands on.given on.settled on.whole does.whole ready premised.well does.moves feels in
       let turns = event-turns m (world_of s) (world_of x.after) on.work (λ v w there. (on.whole.walkings v w there).table.1) x.event x.reply does.step.happens in
@@ -203,7 +186,7 @@ module _ {N E B W : Type 0} (m : Seen N B W) (lawful : IsLawful m.values) (reada
       record {
         trees' = a.after;
         after = record { keeps = a.keeps; stands = a.stands; so = so };
-        on = record { whole = does.whole; work = turns-stand m turns on.work; settled = premised.settled; stands = a.stands; given = a.given; fits = fits; held = held; reads = event-held m.values on.reads x.event x.reply feels.core feels.feels; asked = event-asked m.values on.asked x.event x.reply feels.feels };
+        on = record { whole = does.whole; work = turns-stand m turns on.work; settled = premised.settled; stands = a.stands; given = a.given; fits = fits; held = held; reads = event-held on.reads feels.core feels.feels; asked = event-asked m.values on.asked feels.feels };
       }
 
   stay : (s : MachineState N E) (trees : ℕ → Tree) (moments : List (Moment N E B W)) → IsGoingOn m.values s trees → AreMoments m s moments → TreesAlong m (IsRight m.values) s trees moments
@@ -302,41 +285,48 @@ module _ {N E B W : Type 0} (m : Seen N B W) where
   record Arrives (s s' : MachineState N E) (happened : List (Event N B W)) (replied : List (EventReply N B W)) : Type 0 where
     work : StandsIn (world_of s')
     whole : IsMachineWhole m.values s'
+    loads : LoadsStand m.values.types (world_of s')
     keeps : (v : ℕ) (w : Walking) → s.work.walkings v ≡ Some w → KeepsTask s'.work.walkings v w
     gone : (n : ℕ) (past : List (Took W)) → HasGone m.written_of n s.work.shelves (s.work.walkings n) past
         → HasGone m.written_of n s'.work.shelves (s'.work.walkings n) (past ++ steps_of n happened replied)
     claims : (t : ℕ) (i : Identity) → one (is_some ((s.work.shelves t).slots i)) + claims_made s'.work.walkings t i happened replied ≤ one (is_some ((s'.work.shelves t).slots i))
 
-  arrives : (s : MachineState N E) (moments : List (Moment N E B W)) → AreMoments m s moments → IsMachineWhole m.values s → StandsIn (world_of s)
-      → Arrives s (state_after s moments) (events_of moments) (replies_of moments)
+  arrives : (s : MachineState N E) (moments : List (Moment N E B W)) → AreMoments m s moments → IsMachineWhole m.values s → StandsIn (world_of s) → LoadsStand m.values.types (world_of s)
+      → Arrives s (state_after s moments) (events_of moments) (replies_of moments) × StepsAreWithin m.values s moments
   unfolding state_after steps_of claims_made
-  arrives s [] chain whole work =
-      record {
-        work = work;
-        whole = whole;
-        keeps = λ v w there. record { now = w; there = there; table = refl; task = refl };
-        gone = λ n past gone. subst (λ k. HasGone m.written_of n s.work.shelves (s.work.walkings n) k) (sym (append-nil past)) gone;
-        claims = λ t i. omega arith;
-      }
-  arrives s (x ∷ xs) (does, chain) whole work =
+  arrives s [] chain whole work loads = (
+    record {
+      work = work;
+      whole = whole;
+      loads = loads;
+      keeps = λ v w there. record { now = w; there = there; table = refl; task = refl };
+      gone = λ n past gone. subst (λ k. HasGone m.written_of n s.work.shelves (s.work.walkings n) k) (sym (append-nil past)) gone;
+      claims = λ t i. omega arith;
+    },
+    tt,
+  )
+  arrives s (x ∷ xs) (does, chain) whole work loads =
       let turns : EventTurns m (world_of s) x.event x.reply (world_of x.after) =
       event-turns m (world_of s) (world_of x.after) work (λ v w there. (whole.walkings v w there).table.1) x.event x.reply does.step.happens in
       let t = turns.turned in
-      let rest = arrives x.after xs chain does.whole (turns-stand m turns work) in
-      let last = (state_after x.after xs).work.walkings in
-      record {
-        work = rest.work;
-        whole = rest.whole;
-        keeps = λ v w there. after turns.who t rest.keeps v w there;
-        gone = λ n past gone.
-            subst (λ k. HasGone m.written_of n (state_after x.after xs).work.shelves ((state_after x.after xs).work.walkings n) k)
-            (append_assoc past (step_of n x.event x.reply) (steps_of n (events_of xs) (replies_of xs)))
-            (rest.gone n (past ++ step_of n x.event x.reply) (goes-on m (world_of s) (world_of x.after) x.event x.reply work turns n past gone));
-        claims = λ q i.
-            first-then _ _ _ _ _ _ (claims-cons last q i x.event x.reply (events_of xs) (replies_of xs))
-            (event-claims last q i m (world_of s) (world_of x.after) (λ p. grows turns.who (s.work.shelves p) (x.after.work.shelves p) (t.changes p))
-            (λ v w there. after turns.who t rest.keeps v w there) x.event x.reply does.step.happens) (rest.claims q i);
-      }
+      let (rest, within) = arrives x.after xs chain does.whole (turns-stand m turns work) (event-on m s x.after whole x.event x.reply does.step.happens (waits-well (world_of s) work) loads) in
+      let last = (state_after x.after xs).work.walkings in (
+        record {
+          work = rest.work;
+          whole = rest.whole;
+          loads = rest.loads;
+          keeps = λ v w there. after turns.who t rest.keeps v w there;
+          gone = λ n past gone.
+              subst (λ k. HasGone m.written_of n (state_after x.after xs).work.shelves ((state_after x.after xs).work.walkings n) k)
+              (append_assoc past (step_of n x.event x.reply) (steps_of n (events_of xs) (replies_of xs)))
+              (rest.gone n (past ++ step_of n x.event x.reply) (goes-on m (world_of s) (world_of x.after) x.event x.reply work turns n past gone));
+          claims = λ q i.
+              first-then _ _ _ _ _ _ (claims-cons last q i x.event x.reply (events_of xs) (replies_of xs))
+              (event-claims last q i m (world_of s) (world_of x.after) (λ p. grows turns.who (s.work.shelves p) (x.after.work.shelves p) (t.changes p))
+              (λ v w there. after turns.who t rest.keeps v w there) x.event x.reply does.step.happens) (rest.claims q i);
+        },
+        (step-within m s x.after whole loads x.event x.reply does.step.happens, within),
+      )
     where
       after : (who : ℕ) → Turned who s.work.shelves x.after.work.shelves s.work.walkings x.after.work.walkings
           → ((v : ℕ) (w : Walking) → x.after.work.walkings v ≡ Some w → KeepsTask (state_after x.after xs).work.walkings v w) → (v : ℕ) (w : Walking) → s.work.walkings v ≡ Some w
@@ -375,11 +365,12 @@ module _ {N E B W : Type 0} (m : Seen N B W) (s : MachineState N E) (work : Stan
       load : (l : ℕ) (o : Option OpenLoad) → s.pager.core.loads l ≡ o → is_workers_load n (s.pager.core.loads l) ≡ false
       load l x1 e = grind (arith, nat_tests, is_workers_load, false_from_ne_true, is_owner, owner_worker, true-false, owner-is, rests)
 
--- all that steps have come to, where open loads have a step left
+-- all that steps have come to, and that each step of a load was within its bound
 work-right : {N E B W : Type 0} (m : Seen N B W) (s : MachineState N E) (moments : List (Moment N E B W)) → IsMachineWhole m.values s → IsIdle s → AreMoments m s moments
-    → LoadsHaveStepsLeft m.values (world_of (state_after s moments))
-    → WorkIsRight m (state_after s moments) (events_of moments) (replies_of moments)
-work-right {N} {E} {B} {W} m s moments whole idle chain loads = record { claims_right = record { distinct = distinct; met = is-met m end all.work all.whole }; workers = worker; loads = loads }
+    → StepsAreWithin m.values s moments × WorkIsRight m (state_after s moments) (events_of moments) (replies_of moments)
+work-right {N} {E} {B} {W} m s moments whole idle chain =
+    let (all, within) = arrives m s moments chain whole (idle-stands s idle) (idle-bounded m.values.types s idle) in
+    (within, record { claims_right = record { distinct = distinct all; met = is-met m end all.work all.whole }; workers = worker all; loads = steps-left m.values end all.loads })
   where
     end : MachineState N E
     end = state_after s moments
@@ -390,14 +381,14 @@ work-right {N} {E} {B} {W} m s moments whole idle chain loads = record { claims_
     replied : List (EventReply N B W)
     replied = replies_of moments
 
-    all : Arrives m s end happened replied
-    all = arrives m s moments chain whole (idle-stands s idle)
+    All : Type 0
+    All = Arrives m s end happened replied
 
     one-at-most : (a c : ℕ) (b : Bool) → a + c ≤ one b → c ≤ 1
     one-at-most a c x2 few = grind (arith, nat_tests)
 
-    distinct : (t : ℕ) (i : Identity) → claims_made end.work.walkings t i happened replied ≤ 1
-    distinct t i = one-at-most _ _ _ (all.claims t i)
+    distinct : All → (t : ℕ) (i : Identity) → claims_made end.work.walkings t i happened replied ≤ 1
+    distinct all t i = one-at-most _ _ _ (all.claims t i)
 
     less-steps : (n d c : ℕ) → n + d ≤ c → n ≤ c
     less-steps n d c le = omega arith
@@ -405,8 +396,8 @@ work-right {N} {E} {B} {W} m s moments whole idle chain loads = record { claims_
     at-most : (a b : ℕ) → a ≤ b → b ≤ 1 → a ≤ 1
     at-most a b le few = omega arith
 
-    worker : (n : ℕ) (walking : Walking) → end.work.walkings n ≡ Some walking → WorkerIsRight m.written_of (world_of end) n walking (steps_of n happened replied)
-    worker n walking there =
+    worker : All → (n : ℕ) (walking : Walking) → end.work.walkings n ≡ Some walking → WorkerIsRight m.written_of (world_of end) n walking (steps_of n happened replied)
+    worker all n walking there =
         let nobody : HasGone m.written_of n s.work.shelves (s.work.walkings n) [] = subst (λ o. HasGone m.written_of n s.work.shelves o []) (sym (idle.walkings n)) refl in
         let went : Went m.written_of n (end.work.shelves walking.table) walking (steps_of n happened replied) =
         subst (λ o. HasGone m.written_of n end.work.shelves o (steps_of n happened replied)) there (all.gone n [] nobody) in
@@ -414,7 +405,7 @@ work-right {N} {E} {B} {W} m s moments whole idle chain loads = record { claims_
         record {
           order = order;
           once = once_each m.written_of walking.task (steps_of n happened replied) order
-              (λ i. at-most _ _ (own-claims end.work.walkings walking.table i n walking there refl happened replied) (distinct walking.table i));
+              (λ i. at-most _ _ (own-claims end.work.walkings walking.table i n walking there refl happened replied) (distinct all walking.table i));
           bounded = less-steps _ _ _ went.within;
           met = went.met;
           let_go = λ answer is. has-let-go m end all.work all.whole n walking answer there is;
@@ -422,5 +413,5 @@ work-right {N} {E} {B} {W} m s moments whole idle chain loads = record { claims_
 
 pub headline_law : {N B W : Type 0} (E : Type 0) (m : Seen N B W) → HeadlineLaw E m
 headline_law E m start moments whole idle chain =
-    let loads = loads-bounded m start moments whole idle chain in
-    grind (arith, nat_tests, loads-bounded, work-right, trees_stay)
+    let (within, work) = work-right m start moments whole idle chain in
+    record { chain = chain; work = work; loads = within; trees = λ trees stands lawful reads settled. trees_stay m lawful reads start trees moments whole idle settled stands chain }

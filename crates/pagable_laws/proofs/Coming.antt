@@ -11,6 +11,7 @@ use Rattle.pagable_laws.proofs.{Standing.{HasNoFailed, WorkStands, claimed, writ
 use Rattle.pagable_laws.proofs.{ReadingSteps.walk-goes, Nexts.steps_follow}
 use Rattle.std.{proofs.Common.{length-append, append-nil}, specs.List.sum_by, proofs.lemmas.Bool.{false_from_ne_true, cases_Bool}}
 use Rattle.pagable_laws.proofs.Called as calling
+use Rattle.pagable_laws.proofs.Standing.{WaitsWell, follows-waits}
 
 -- ---- whatever a worker does, what stands of its list and of its table stands afterwards
 
@@ -66,6 +67,10 @@ NoFewer w w' = w.last.worker ≤ w'.last.worker
 
 abbrev pub StandsIn : World → Type 0
 StandsIn u = WorkStands u.work.shelves u.work.walkings u.core.last.worker
+
+-- no load waits below what is done next
+pub waits-well : (u : World) → StandsIn u → (n : ℕ) (walking : Walking) → u.work.walkings n ≡ Some walking → WaitsWell walking.todo
+waits-well u work n walking is = (work.workers n walking is).waits
 
 -- no worker is of a table that isn't there
 abbrev pub KnowsTables : World → Type 0
@@ -181,7 +186,7 @@ module _ {N B W : Type 0} (m : Seen N B W) (u u' : World) (work : StandsIn u) wh
         turned = is-stepped v.0 u.work.shelves u'.work.shelves u.work.walkings u'.work.walkings w now s.at (s.work.same_walkings v.0 ∙ updated-at v.0 (Some now) u.work.walkings) refl refl
             (λ n other. s.work.same_walkings n ∙ updated-off v.0 (Some now) u.work.walkings n other)
             (λ t other i. (s.work.same_shelves t).slots i ∙ ap (λ (x : Shelf). x.slots i) (updated-off w.table s.after.shelf u.work.shelves t other))
-            (stands.unfailed s.at_work)
+            (stands.unfailed s.at_work) (follows-waits m.written_of w.todo reply.took s.after.todo (steps_follow m v.0 site s.after reply.took s.does) stands.waits)
             (goes-same v.0 w.task (u.work.shelves w.table) s.after.shelf (u'.work.shelves w.table) reply.answer s.after.todo shelf_is
             (subst (λ a. Goes v.0 w.task (u.work.shelves w.table) a s.after.shelf s.after.todo) (sym s.answers) goes));
         last = omega arith;

@@ -1,8 +1,8 @@
 -- What a load has got goes on to be what its blobs asked for, whatever happens.
-use Rattle.pagable_laws.proofs.Words.{nat_tests, ◌≡◌, ℕ, true, List, [], ◌∷◌, refl, sym, subst, inl, inr, Option, Some, None, Kind, Types, is_eager, HandleRow, Event, EventReply, LoadAnswer, Core}
-use Rattle.pagable_laws.proofs.Words.{Frame, Reading, World, Values, Next, asks, next_in, need_at, need_of, needs_nested, nested_frame, with_got, IsReadingOf, Change, KeepsReadings, ReadingFeels}
-use Rattle.pagable_laws.proofs.Words.{reads-root, reads-blob, gets-known, gets-lazy, makes-known, makes-node, reading-ends, EventFeels, by-call, arith, by-reading, by-key, by-nothing, Needs}
-use Rattle.pagable_laws.proofs.{Apart.{none-got, one-got, FramesAsked}, Fitting.asked, ReadingSteps.is-reading-of}
+use Rattle.pagable_laws.proofs.Words.{nat_tests, ◌≡◌, ℕ, true, List, [], ◌∷◌, refl, sym, subst, inl, inr, None, Kind, Types, is_eager, HandleRow, Event, EventReply, Core}
+use Rattle.pagable_laws.proofs.Words.{Frame, Reading, World, Values, Next, asks, next_in, need_at, need_of, needs_nested, nested_frame, with_got, IsReadingOf, Change, ReadingFeels}
+use Rattle.pagable_laws.proofs.Words.{reads-root, reads-blob, gets-known, gets-lazy, makes-known, makes-node, reading-ends, EventFeels, arith, Needs}
+use Rattle.pagable_laws.proofs.{Apart.{none-got, one-got, FramesAsked}, Fitting.asked, ReadingSteps.readings-on}
 
 -- what is read together with a value is asked for through a reference that isn't loose
 pub eager-nested : (below : List Frame) (next : Next) (kind : Kind) (key : ℕ) → need_at below next ≡ needs_nested kind key → is_eager kind.0 ≡ true
@@ -33,39 +33,25 @@ module _ (types : Types) where
   unfolding FramesAsked
   none-asked x0 is = grind (arith, nat_tests)
 
-no-end : {X : Type 0} {answer : Option X} {x : X} → answer ≡ None → answer ≡ Some x → ⊥
-no-end none is = cc
-
 -- what a load's step leaves
-pub asked-after : {N : Type 0} {v : Values N} {w w' : Core} (reading : Reading) (answer : Option (LoadAnswer N)) (frames : List Frame) {c : Change} → answer ≡ None
-    → FramesAsked v.types reading.frames
-    → ReadingFeels v w reading answer frames w' c → FramesAsked v.types frames
+asked-after : {N : Type 0} {v : Values N} {w w' : Core} (reading : Reading) (frames : List Frame) {c : Change} → FramesAsked v.types reading.frames
+    → ReadingFeels v w reading None frames w' c → FramesAsked v.types frames
 unfolding FramesAsked
-asked-after {v = v} reading answer frames none got (reads-root load blob none_read at stored a is) = subst (λ fs. FramesAsked v.types fs) (sym is) (none-got [] refl)
-asked-after {v = v} reading answer frames none got (reads-blob kind key blob needs stored a is) = grind (arith, nat_tests, nested-asked)
-asked-after {v = v} reading answer frames none got (gets-known kind key n row needs known gets a is) =
+asked-after {v = v} reading frames got (reads-root load blob none_read at stored a is) = subst (λ fs. FramesAsked v.types fs) (sym is) (none-got [] refl)
+asked-after {v = v} reading frames got (gets-known kind key n row needs known gets a is) =
     subst (λ fs. FramesAsked v.types fs) (sym is) (needed-asked v.types reading.frames kind key row got needs)
-asked-after {v = v} reading answer frames none got (gets-lazy kind key row needs gets a is) =
+asked-after {v = v} reading frames got (gets-lazy kind key row needs gets a is) =
     subst (λ fs. FramesAsked v.types fs) (sym is) (needed-asked v.types reading.frames kind key row got (inr needs))
-asked-after {v = v} reading answer frames none got (makes-known x r n row known gets a is) = grind (arith, nat_tests, made-asked)
-asked-after {v = v} reading answer frames none got (makes-node x r row gets a is) = grind (arith, nat_tests, made-asked)
-asked-after reading answer frames none got (reading-ends end a is) = absurd (no-end none a)
+asked-after {v = v} reading frames got (reads-blob kind key blob needs stored a is) = grind (arith, nat_tests, nested-asked)
+asked-after {v = v} reading frames got (makes-known x r n row known gets a is) = grind (arith, nat_tests, made-asked)
+asked-after {v = v} reading frames got (makes-node x r row gets a is) = grind (arith, nat_tests, made-asked)
+asked-after reading frames got (reading-ends end a is) = absurd (cc)
 
 -- so it is of all that is read
 abbrev pub ReadingsAsked : Types → World → Type 0
 ReadingsAsked types u = (reading : Reading) → IsReadingOf u.work reading → FramesAsked types reading.frames
 
-kept : (types : Types) (u u' : World) → ReadingsAsked types u → KeepsReadings u u' → ReadingsAsked types u'
-kept types u u' held keeps reading is = elim (keeps reading is) [ inl old ↦ held reading old | inr new ↦ none-asked types reading.frames new.0 ]
-
-module _ {N B W : Type 0} (v : Values N) {u u' : World} (held : ReadingsAsked v.types u) where
-  pub event-asked : (event : Event N B W) (reply : EventReply N B W) {c : Change} → EventFeels v u event reply u' c → ReadingsAsked v.types u'
-  event-asked event reply (by-call c call answer called replied feels keeps) = kept v.types u u' held keeps
-  event-asked event reply (by-key k key row is sets keeps) = kept v.types u u' held keeps
-  event-asked event reply (by-nothing stays keeps) = kept v.types u u' held keeps
-  event-asked event reply (by-reading c reading answer frames stepped opens feels steps) = λ after is. elim (steps after is) [
-    | inl old ↦ held after old
-    | inr (none, same) ↦
-        let before : FramesAsked v.types reading.frames = elim (is-reading-of u event reading stepped) [ inl there ↦ held reading there | inr begun ↦ none-asked v.types reading.frames begun.0 ] in
-        subst (λ (r : Reading). FramesAsked v.types r.frames) (sym same) (asked-after reading answer frames none before feels)
-  ]
+pub event-asked : {N B W : Type 0} (v : Values N) {u u' : World} → ReadingsAsked v.types u → {event : Event N B W} {reply : EventReply N B W} {c : Change} → EventFeels v u event reply u' c
+    → ReadingsAsked v.types u'
+event-asked v held = readings-on (λ r. FramesAsked v.types r.frames) held (λ r new. none-asked v.types r.frames new.0)
+    (λ r frames load stands at feels. asked-after r frames (elim stands [ inl there ↦ held r there | inr new ↦ none-asked v.types r.frames new.0 ]) feels)

@@ -63,7 +63,7 @@ module _ {N E : Type 0} {v : Values N} (lawful : IsLawful v) (readable : ReadsIt
           stands = went.stands;
           fits = fits_on;
           given = after.given;
-          got_held = held-after reading answer frames goes none u.got_held feels;
+          got_held = held-after reading frames goes u.got_held (subst (λ (o : Option (LoadAnswer N)). ReadingFeels v s.core reading o frames s'.core felt.change) none feels);
           within = let a = u.within in let b = goes.loads_last in omega (arith, a, b);
           keyed = λ other there. u.keyed other (was other there);
         }

@@ -6,12 +6,12 @@ use Rattle.pagable_laws.proofs.Words.{is_some, WorkerNumber, LoadAnswer, LoadRep
 use Rattle.pagable_laws.proofs.Words.{Values, ReadingDoes, gone_on, Site, ReadingsAre, reading_at, reading_after, LoadSteps, WorkerSteps, IsWhole, IsReadingOf, of_caller, of_worker, IsSteppedReading}
 use Rattle.pagable_laws.proofs.Words.{StepsReading, IsFresh, Error, OpenLoad, EndCall, HandOverCall, first_key, Fails, RefusesRoot, LoadIs, IsOfCell, IsOfKey, handles_of, GetsRoot, GetsCached}
 use Rattle.pagable_laws.proofs.Words.{GetsBlob, GetsLazy, MakesNode, Change, nothing_felt, bears_known, ReadingFeels, reads-root, reads-blob, gets-known, gets-lazy, makes-known, makes-node}
-use Rattle.pagable_laws.proofs.Words.{reading-ends, Want, AskCall, AsksInVain, Result, Pinning, Beginning, Claim, is_loose, to_start, to_pin, to_finish, to_item, to_set, to_release, to_fail}
-use Rattle.pagable_laws.proofs.Words.{SetKeyCall, Does, PinsAtOnce, PinsByLoad, PinRefused, GivesBack, next_start, give, give_known, fresh, TodoBrings, sets_key, false, if◌then◌else◌, Tree, updated}
-use Rattle.pagable_laws.proofs.Words.{if_there, EventReply, TableNumber, WorkerAnswer, only_handle, Cell, Shelf, Task, type_at, key_at, first_todo, without_worker, WorkerEnds, is_workers_load}
+use Rattle.pagable_laws.proofs.Words.{reading-ends, Want, AskCall, AsksInVain, Result, Pinning, Beginning, Claim, is_loose, to_start, to_pin, to_set, to_release, to_fail}
+use Rattle.pagable_laws.proofs.Words.{SetKeyCall, Does, PinsAtOnce, PinsByLoad, PinRefused, GivesBack, next_start, give, give_known, fresh, TodoBrings, sets_key, false, if◌then◌else◌, updated}
+use Rattle.pagable_laws.proofs.Words.{if_there, EventReply, TableNumber, WorkerAnswer, only_handle, Cell, Task, type_at, key_at, first_todo, without_worker, WorkerEnds, is_workers_load}
 use Rattle.pagable_laws.proofs.Words.{answer_after, BeginsKey, Stays, begun_readings, KeyStarted, Starts, new_walking, Ends, Happens, with_worker, MachineState, world_of, IsMachineWhole, IsNewNode}
 use Rattle.pagable_laws.proofs.Words.{EventBrings, KeepsOpen, LeavesCache, CoreGoes, SameNode, NewNode, StaysAway, KeepsReadings, EventFeels, by-call, by-reading, by-key, by-nothing, StepFeels}
-use Rattle.pagable_laws.proofs.Words.{Blob, StoreCall, digest, WorkFits, Waits, Walks, Ground, AreGood, OwnersAreThere, step_of, Among, ◌==◌, IsWhole, CloneCall}
+use Rattle.pagable_laws.proofs.Words.{Blob, StoreCall, digest, AreGood, OwnersAreThere, step_of, Among, ◌==◌, IsWhole, CloneCall}
 use Rattle.pagable_laws.proofs.Goes.{found-number, found-changed, found-left, none-in-new, at-updated, Quiet, Goes, NotLoads, quiet-then, goes-quiet, alike, fell-anyhow, KnowsNext, parts, le-self, Kept, rows-self}
 use Rattle.pagable_laws.proofs.Effects.{Effect, IsMine, IsApart, IsHeldFor, Lasts, Spares, none, moves, fell, with-key, stays, one-then, entry, no-one, none-named, released-free, ended-free, worker-apart}
 use Rattle.pagable_laws.proofs.Effects.{stays-alike, spares-then, then-alike, then-fell, by-alike, by-fell, then-down, held-fell}
@@ -20,6 +20,7 @@ use Rattle.pagable_laws.proofs.{Decoding.among-left, GoodReferences.{good, alike
 use Rattle.pagable_world.specs.{Loads.{Does as LoadDoes, Meets}, Runs.{Does as DoesMoment}}
 use Rattle.std.proofs.Common.{rules}
 use Rattle.pagable_world.specs.Workers as workers
+use Rattle.pagable_laws.proofs.Standing.{AllWait, WaitsWell}
 
 pub fits-kind : (kind : ℕ) → fits_mode kind (mode_of kind) ≡ true
 fits-kind kind = grind (arith, nat_tests)
@@ -156,6 +157,22 @@ pub is-reading-of : {N B W : Type 0} (u : World) (event : Event N B W) (reading 
 is-reading-of u (Event.LoadStep l) reading stepped = stepped.1
 is-reading-of u (Event.WorkerStep k) reading (walking, r, place, through, below, there, todo) = inl (of_worker k.0 place walking r through below there todo)
 is-reading-of u event reading stepped = absurd stepped
+
+-- what holds of each reading afterwards: of those that were there, of one that begins, and of one that goes on
+pub readings-on : {N B W : Type 0} {v : Values N} {u u' : World} {event : Event N B W} {reply : EventReply N B W} {c : Change} (P : Reading → Type 0)
+    → ((reading : Reading) → IsReadingOf u.work reading → P reading) → ((reading : Reading) → IsFresh u'.core reading → P reading)
+    → ((reading : Reading) (frames : List Frame) (load : OpenLoad) → IsReadingOf u.work reading ⊎ IsFresh u.core reading → u.core.loads reading.load.0 ≡ Some load
+    → ReadingFeels v u.core reading None frames u'.core c → P (gone_on reading frames))
+    → EventFeels v u event reply u' c → (reading : Reading) → IsReadingOf u'.work reading → P reading
+readings-on P old fresh gone (by-call c call answer called replied feels keeps) reading is = elim (keeps reading is) [ inl was ↦ old reading was | inr new ↦ fresh reading new ]
+readings-on P old fresh gone (by-key k key row happened sets keeps) reading is = elim (keeps reading is) [ inl was ↦ old reading was | inr new ↦ fresh reading new ]
+readings-on P old fresh gone (by-nothing stays keeps) reading is = elim (keeps reading is) [ inl was ↦ old reading was | inr new ↦ fresh reading new ]
+readings-on {v = v} {u} {u'} {event} P old fresh gone (by-reading c before answer frames stepped opens feels steps) reading is = elim (steps reading is) [
+  | inl was ↦ old reading was
+  | inr (none, same) ↦
+      let load = opens none in
+      subst P (sym same) (gone before frames load.0 (is-reading-of u event before stepped) load.1 (subst (λ a. ReadingFeels v u.core before a frames u'.core c) none feels))
+]
 
 -- A load's step, as trees feel it: one change, what it does to the plain world with it, and how the load's own blobs grow.
 
@@ -313,20 +330,6 @@ pub works-free : (v : ℕ) → NotLoads (owner_worker v)
 works-free v l is = absurd (cc)
 
 -- ---- what stands at the front afterwards
-
--- written nodes and an item wait, and nothing else
-unfoldable pub AllWait : List Todo → Type 0
-AllWait [] = Unit {0}
-AllWait (to_finish o ∷ below) = AllWait below
-AllWait (to_item written keys ∷ below) = Unit {0}
-AllWait (x ∷ below) = ⊥
-
--- below what is done next they do, so that no load comes to the front when that is done
-abbrev pub WaitsWell : List Todo → Type 0
-WaitsWell [] = Unit {0}
-WaitsWell (to_item written keys ∷ below) = Unit {0}
-WaitsWell (to_fail fault back ∷ below) = Unit {0}
-WaitsWell (x ∷ below) = AllWait below
 
 -- the reading of a load at the front
 abbrev pub front_reading : List Todo → Option Reading
@@ -695,22 +698,9 @@ core-goes {w} {w'} c whole g =
       | inr (next, bears) ↦ record { t = cell.node_type; own = cell.key; born = bears; next = next; typed = type-is w' n cell is; key = key-is w' n cell is }
     ]
 
--- where what workers do fits trees, no load waits below
-waits-well : (shelf : Shelf) (task : Task) (below : List Todo) → Waits shelf task below → AllWait below
-unfolding Waits AllWait
-waits-well shelf task (to_finish o ∷ below) (known, attained, place, reach, expects, waits) = waits-well shelf task below waits
-waits-well shelf task x2 waits = grind (arith, nat_tests)
-
-walks-well : {N : Type 0} (v : Values N) (g : Ground) (shelf : Shelf) (task : Task) (todo : List Todo) → Walks v g shelf task todo → WaitsWell todo
-unfolding Waits
-walks-well v g shelf task [] walks = tt
-walks-well v g shelf task (to_finish o ∷ below) (known, attained, place, reach, expects, waits) = waits-well shelf task below waits
-walks-well v g shelf task (x ∷ below) walks = grind (arith, nat_tests, waits-well)
-
 -- each event of a whole machine is felt
-pub does-feels : {N B W E : Type 0} (m : Seen N B W) (s s' : MachineState N E) (trees : ℕ → Tree) (event : Event N B W) (reply : EventReply N B W)
-    → IsMachineWhole m.values s → WorkFits m.values s trees → KeepsOpen event → DoesMoment m s event reply s' → StepFeels m.values (world_of s) event reply (world_of s')
-does-feels m s s' trees event reply whole fits open_still does =
+pub does-feels : {N B W E : Type 0} (m : Seen N B W) (s s' : MachineState N E) (event : Event N B W) (reply : EventReply N B W)
+    → IsMachineWhole m.values s → AllWaitWell (world_of s) → KeepsOpen event → DoesMoment m s event reply s' → StepFeels m.values (world_of s) event reply (world_of s')
+does-feels m s s' event reply whole well open_still does =
     let g = event-goes m (world_of s) (world_of s') event reply open_still does.step.happens in
-    let well : AllWaitWell (world_of s) = λ n walking is. walks-well m.values _ _ walking.task walking.todo (fits.walks n walking is) in
     record { change = g.change; core = core-goes g.change whole.pager.whole.handles g.goes; feels = g.feels whole.pager.whole well }

@@ -1,18 +1,18 @@
 -- What loads got goes on naming nodes as it should, whatever happens.
 use Rattle.pagable_laws.proofs.Words.{◌≡◌, ℕ, zero, suc, List, [], ◌∷◌, ◌++◌, refl, sym, subst, ◌∙◌, inl, inr, arith, Option, Some, None, slice_get, ArcRef, Kind, LoadNumber, Among, HandleRow, Event}
-use Rattle.pagable_laws.proofs.Words.{EventReply, LoadAnswer, Core, Frame, Reading, World, Values, with_got, nested_frame, Change, CoreGoes, GetsRow, KeepsReadings, ReadingFeels, reads-root}
-use Rattle.pagable_laws.proofs.Words.{reads-blob, gets-known, gets-lazy, makes-known, makes-node, reading-ends, EventFeels, by-call, by-reading, by-key, nat_tests, by-nothing, GotStands, FramesHeld}
+use Rattle.pagable_laws.proofs.Words.{EventReply, LoadAnswer, Core, Frame, Reading, World, Values, with_got, nested_frame, Change, CoreGoes, GetsRow, ReadingFeels, reads-root}
+use Rattle.pagable_laws.proofs.Words.{reads-blob, gets-known, gets-lazy, makes-known, makes-node, reading-ends, EventFeels, nat_tests, GotStands, FramesHeld}
 use Rattle.pagable_laws.proofs.Words.{ReadingsHeld, ◌&&◌, ◌||◌, Bool, true, false, map, Ok, ap, not, Error, HandleNumber, is_in, if_there, Owner, is_owner, row_at, Seen, earlier, refused_if}
 use Rattle.pagable_laws.proofs.Words.{named_fault, moved, numbers_of, HandOverCall, hand_over_fault, is_owned_in, EndsRead, handles_of, Happens, HandlesAreWhole, HandsOver, ReadHolds, ◌<◌}
 use Rattle.pagable_laws.proofs.Words.{slice_get-get_or, Blob, NodeNumber, Tree, Types, type_of, LoadReply, held, OpenLoad, type_at, IsLawful, IsReference, ReadsRoot, reading_at, LoadSteps}
 use Rattle.pagable_laws.proofs.Words.{MachineState, world_of, IsMachineWhole, IsReadingOf, of_caller, StandsFor, SameTrees, FrameFits, FramesFit, ReadsItsTypes, ReadIsRight, ReadGives, ReadingsGiven}
 use Rattle.pagable_laws.proofs.Words.{◌+◌, ◌*◌, ◌≤◌, ◌⊎◌, is_eager, asks, next_in, need_of, needs_nested, needs_lazy, to_adopt, root_frame, after_kinds, Unfolds, unfolds, UnfoldsFrom, KeepsStored}
-use Rattle.pagable_laws.proofs.Words.{updated, above, Took, Written, Todo, Task, of_item, Walking, next_start, settle, give, first_todo, entry_task, new_walking, Follows, IsSome}
-use Rattle.pagable_laws.proofs.Words.{Call, Reply, one_more, gone_on, CloseCall, IsIdle, KeepsOpen, Moment, AreMoments, state_after, HasStepLeft, IsWithinBound, StepIsWithin, StepsAreWithin}
-use Rattle.pagable_laws.proofs.{Words.{LoadsHaveStepsLeft, IsFresh}, Fitting.{pushed, inside, first-fits, frames-stay, asked}, ReadingSteps.{is-reading-of, caller-free, reading-feels, reading-stands}}
-use Rattle.pagable_laws.proofs.{ReadingSteps.{AllWait, WaitsWell, AllWaitWell, EventGoes, event-goes}, Goes.{found-number, IsShut, Goes}, Outlasting.{Stands, stands-whole, stands-changed}}
+use Rattle.pagable_laws.proofs.Words.{IsSome}
+use Rattle.pagable_laws.proofs.Words.{Call, Reply, one_more, gone_on, CloseCall, IsIdle, KeepsOpen, HasStepLeft, IsWithinBound, StepIsWithin}
+use Rattle.pagable_laws.proofs.{Words.{LoadsHaveStepsLeft, IsFresh}, Fitting.{pushed, inside, first-fits, frames-stay, asked}, ReadingSteps.{readings-on, caller-free, reading-feels, reading-stands}}
+use Rattle.pagable_laws.proofs.{ReadingSteps.{AllWaitWell, EventGoes, event-goes}, Goes.{found-number, IsShut, Goes}, Outlasting.{Stands, stands-whole, stands-changed}}
 use Rattle.pagable_laws.proofs.{Outlasting.stands-fell, Sums.self-number, Decoding.decodes, Taking.{row-held, root-right, adopted-over}, KnownSteps.eager-nested, ReadingStepsKinds.kinds_of}
-use Rattle.pagable_laws.proofs.{ReadingStepsKinds.{asks-by-kinds, kinds-pushed}, Trees.same_some, Nexts.steps_follow}
+use Rattle.pagable_laws.proofs.{ReadingStepsKinds.{asks-by-kinds, kinds-pushed}, Trees.same_some}
 use Rattle.pagable_world.specs.{Loads.{Does as LoadDoes}, Runs.Does}
 use Rattle.std.proofs.Common.{rules}
 
@@ -47,44 +47,26 @@ module _ {c : Change} {w w' : Core} (goes : CoreGoes c w w') (l : LoadNumber) wh
   under : (frames : List Frame) (top : Frame) (below : List Frame) → frames ≡ top ∷ below → FramesHeld w l frames → FramesHeld w l below
   under frames top below is held = let h = subst (λ fs. FramesHeld w l fs) is held in λ frame r among got. h frame r (suc among.0, among.1) got
 
-no-end : {X : Type 0} {answer : Option X} {x : X} → answer ≡ None → answer ≡ Some x → ⊥
-no-end none is = let e = sym none ∙ is in cc
-
 -- what a load's step leaves
-pub held-after : {N : Type 0} {v : Values N} {w w' : Core} (reading : Reading) (answer : Option (LoadAnswer N)) (frames : List Frame) {c : Change} → CoreGoes c w w' → answer ≡ None
-    → FramesHeld w reading.load reading.frames → ReadingFeels v w reading answer frames w' c → FramesHeld w' reading.load frames
-held-after {w' = w'} reading answer frames goes none held (reads-root load blob none_read at stored a is) = grind (arith, nat_tests, new-held, none-held)
-held-after {w' = w'} reading answer frames goes none held (reads-blob kind key blob needs stored a is) =
+pub held-after : {N : Type 0} {v : Values N} {w w' : Core} (reading : Reading) (frames : List Frame) {c : Change} → CoreGoes c w w' → FramesHeld w reading.load reading.frames
+    → ReadingFeels v w reading None frames w' c → FramesHeld w' reading.load frames
+held-after {w' = w'} reading frames goes held (reads-blob kind key blob needs stored a is) =
     subst (λ fs. FramesHeld w' reading.load fs) (sym is) (new-held (nested_frame kind key blob) reading.frames refl (frames-on goes reading.load reading.frames held))
-held-after {w' = w'} reading answer frames goes none held (gets-known kind key n row needs known got a is) =
+held-after {w' = w'} reading frames goes held (gets-known kind key n row needs known got a is) =
     subst (λ fs. FramesHeld w' reading.load fs) (sym is) (with-held goes reading.load reading.frames kind n row held got)
-held-after {w' = w'} reading answer frames goes none held (gets-lazy kind key row needs got a is) =
+held-after {w' = w'} reading frames goes held (gets-lazy kind key row needs got a is) =
     subst (λ fs. FramesHeld w' reading.load fs) (sym is) (with-held goes reading.load reading.frames kind _ row held got)
-held-after {w' = w'} reading answer frames goes none held (makes-known x r n row known got a is) =
+held-after {w' = w'} reading frames goes held (makes-known x r n row known got a is) =
     subst (λ fs. FramesHeld w' reading.load fs) (sym is) (with-held goes reading.load r.below r.top.kind n row (under goes reading.load reading.frames r.top r.below r.frames held) got)
-held-after {w' = w'} reading answer frames goes none held (makes-node x r row got a is) =
+held-after {w' = w'} reading frames goes held (makes-node x r row got a is) =
     subst (λ fs. FramesHeld w' reading.load fs) (sym is) (with-held goes reading.load r.below r.top.kind _ row (under goes reading.load reading.frames r.top r.below r.frames held) got)
-held-after reading answer frames goes none held (reading-ends end a is) = absurd (no-end none a)
+held-after {w' = w'} reading frames goes held (reads-root load blob none_read at stored a is) = grind (arith, nat_tests, new-held, none-held)
+held-after reading frames goes held (reading-ends end a is) = absurd (cc)
 
-module _ {u u' : World} (held : ReadingsHeld u) where
-  kept : {c : Change} → CoreGoes c u.core u'.core → KeepsReadings u u' → ReadingsHeld u'
-  kept goes keeps reading is = elim (keeps reading is) [
-    | inl old ↦ frames-on goes reading.load reading.frames (held reading old)
-    | inr new ↦ none-held u'.core reading.load reading.frames new.0
-  ]
-
-module _ {N B W : Type 0} (v : Values N) {u u' : World} (held : ReadingsHeld u) where
-  pub event-held : (event : Event N B W) (reply : EventReply N B W) {c : Change} → CoreGoes c u.core u'.core → EventFeels v u event reply u' c → ReadingsHeld u'
-  event-held event reply goes (by-call c call answer called replied feels keeps) = kept held goes keeps
-  event-held event reply goes (by-key k key row is sets keeps) = kept held goes keeps
-  event-held event reply goes (by-nothing stays keeps) = kept held goes keeps
-  event-held event reply goes (by-reading c reading answer frames stepped opens feels steps) = λ after is. elim (steps after is) [
-    | inl old ↦ frames-on goes after.load after.frames (held after old)
-    | inr (none, same) ↦
-        let before : FramesHeld u.core reading.load reading.frames = elim
-        (is-reading-of u event reading stepped) [ inl there ↦ held reading there | inr begun ↦ none-held u.core reading.load reading.frames begun.0 ] in
-        subst (λ (r : Reading). FramesHeld u'.core r.load r.frames) (sym same) (held-after reading answer frames goes none before feels)
-  ]
+pub event-held : {N B W : Type 0} {v : Values N} {u u' : World} → ReadingsHeld u → {event : Event N B W} {reply : EventReply N B W} {c : Change} → CoreGoes c u.core u'.core
+    → EventFeels v u event reply u' c → ReadingsHeld u'
+event-held {u = u} {u'} held goes = readings-on (λ r. FramesHeld u'.core r.load r.frames) (λ r was. frames-on goes r.load r.frames (held r was)) (λ r new. none-held u'.core r.load r.frames new.0)
+    (λ r frames load stands at feels. held-after r frames goes (elim stands [ inl there ↦ held r there | inr new ↦ none-held u.core r.load r.frames new.0 ]) feels)
 
 -- A load of a key that answers a value hands over the value's references: each was the load's, and is the caller's then.
 
@@ -317,51 +299,6 @@ owes-less {v = v} store kept reading load frames many longest owed open_load und
 owes-less {v = v} store kept reading load frames many longest owed open_load under o (makes-node x r row got answer is) = search (rules, makes-node, owes-made)
 owes-less store kept reading load frames many longest owed open_load under o (reading-ends end answer is) = absurd (cc)
 
--- Below what a worker does next only written nodes and an item wait: no load.
-
--- ---- a step of the list
-
-started-waits : (place : ℕ) (rs : List ArcRef) (x : Todo) (below : List Todo) → AllWait (x ∷ below) → WaitsWell (x ∷ below) → WaitsWell (next_start place rs ++ x ∷ below)
-started-waits place x1 x below whole rest = grind (arith, nat_tests)
-
-settle-waits : (todo : List Todo) → AllWait todo → WaitsWell (settle todo)
-unfolding AllWait
-settle-waits x0 waits = grind (arith, nat_tests, started-waits)
-
-give-waits : (r : ArcRef) (key height : ℕ) (todo : List Todo) → AllWait todo → WaitsWell (give r key height todo)
-unfolding AllWait
-give-waits r key height x3 waits = grind (arith, nat_tests, settle-waits, above)
-
-by-now : {next todo : List Todo} → next ≡ todo → WaitsWell todo → WaitsWell next
-by-now is waits = subst (λ t. WaitsWell t) (sym is) waits
-
-follows-waits : {W : Type 0} (f : W → Written) (todo : List Todo) (step : Took W) (next : List Todo) → Follows f todo step next → WaitsWell todo → WaitsWell next
-unfolding AllWait
-follows-waits f x1 x2 next x4 waits = grind (arith, nat_tests, by-now, give-waits, settle-waits)
-
-first-waits : (task : Task) → WaitsWell (first_todo task)
-unfolding AllWait
-first-waits x0 = grind (arith, nat_tests, settle-waits)
-
--- ---- all workers
-
-module _ {N B W : Type 0} (m : Seen N B W) (u u' : World) (waits : AllWaitWell u) where
-  same : ((n : ℕ) → u'.work.walkings n ≡ u.work.walkings n) → AllWaitWell u'
-  same stay n walking is = waits n walking (sym (stay n) ∙ is)
-
-  but : (k : ℕ) (changed : Walking) → ((n : ℕ) → u'.work.walkings n ≡ updated k (Some changed) u.work.walkings n) → WaitsWell changed.todo → AllWaitWell u'
-  but k changed are new n walking is = grind (arith, nat_tests)
-
-  pub event-waits : (event : Event N B W) (reply : EventReply N B W) → Happens m u event reply u' → AllWaitWell u'
-  event-waits (Event.WorkerItem t item) (EventReply.WorkerMade (Ok v)) h = but v.0 (new_walking t _) h.starts.work.same_walkings (first-waits (of_item (m.written_of item)))
-  event-waits (Event.WorkerListed t i) (EventReply.WorkerMade (Ok v)) h = but v.0 (new_walking t _) h.starts.5.work.same_walkings (first-waits (entry_task h.starts.0 h.starts.1 h.starts.2))
-  event-waits (Event.WorkerStep v) (EventReply.WorkerMoved (Ok reply)) h =
-      let s = h.moves in
-      but v.0 (record s.walking { todo = s.after.todo; steps = reply.steps; answer = reply.answer }) s.work.same_walkings
-      (follows-waits m.written_of s.walking.todo reply.took s.after.todo
-      (steps_follow m v.0 (record { core = u.core; shelf = u.work.shelves s.walking.table; todo = s.walking.todo }) s.after reply.took s.does) (waits v.0 s.walking s.at))
-  event-waits event reply h = grind (arith, nat_tests, same)
-
 -- Each step of a load of the caller's is within its bound, and one that is open has a step left, along every chain.
 
 -- ---- one load
@@ -401,13 +338,15 @@ nothing-unfolds : {types : Types} {store : ℕ → Option Blob} {t key many long
 nothing-unfolds none (unfolds t key many longest blob there from) = let e = none key in absurd (cc)
 
 -- each load, of the caller's or of a worker's, was given its number and is bounded
+abbrev IsBounded : Types → World → Reading → Type 0
+IsBounded types u reading = (reading.load.0 ≤ u.core.last.load) × ((load : OpenLoad) → u.core.loads reading.load.0 ≡ Some load → Bounded types u.core.stored load.key reading)
+
 abbrev AllBounded : Types → World → Type 0
-AllBounded types u = (reading : Reading) → IsReadingOf u.work reading
-    → (reading.load.0 ≤ u.core.last.load) × ((load : OpenLoad) → u.core.loads reading.load.0 ≡ Some load → Bounded types u.core.stored load.key reading)
+AllBounded types u = (reading : Reading) → IsReadingOf u.work reading → IsBounded types u reading
 
 -- so it is, or nothing is stored any more
-abbrev LoadsStand : Types → World → Type 0
-LoadsStand types u = AllWaitWell u × (IsShut u.core ⊎ AllBounded types u)
+abbrev pub LoadsStand : Types → World → Type 0
+LoadsStand types u = IsShut u.core ⊎ AllBounded types u
 
 closed-shut : {w w' : Core} {r : _} → CloseCall w r w' → IsShut w'
 closed-shut c = (c.falls.falls.leaves.closed, c.falls.falls.leaves.stored)
@@ -427,26 +366,17 @@ module _ {N E B W : Type 0} (m : Seen N B W) (s s' : MachineState N E) (whole : 
   were-open goes q load few is = elim (goes.loads q load is) [ inl same ↦ same | inr new ↦ absurd (let above = new.0 in omega (arith, few, above)) ]
 
   module _ {c : Change} (goes : Goes c u.core u'.core) (all : AllBounded m.values.types u) where
-    old-bounded : (reading : Reading) → IsReadingOf u.work reading
-        → (reading.load.0 ≤ u'.core.last.load) × ((load : OpenLoad) → u'.core.loads reading.load.0 ≡ Some load → Bounded m.values.types u'.core.stored load.key reading)
+    old-bounded : (reading : Reading) → IsReadingOf u.work reading → IsBounded m.values.types u' reading
     old-bounded reading is =
         let b = all reading is in
         let few = b.0 in
         let more = goes.loads_last in
         (omega (arith, few, more), λ load is_open. bounded-on reading goes.stored (b.1 load (were-open goes reading.load.0 load b.0 is_open)))
 
-    kept-bounded : KeepsReadings u u' → AllBounded m.values.types u'
-    kept-bounded keeps reading is = elim (keeps reading is) [
-      | inl old ↦ old-bounded reading old
-      | inr new ↦ (new.2, λ load is_open. bounded-new m.values.types u'.core.stored load.key reading new.0 new.1)
-    ]
-
     went-bounded : (reading : Reading) (frames : List Frame) → IsReadingOf u.work reading ⊎ IsFresh u.core reading → ReadingFeels m.values u.core reading None frames u'.core c
-        → (reading.load.0 ≤ u'.core.last.load) × ((load : OpenLoad) → u'.core.loads reading.load.0 ≡ Some load → Bounded m.values.types u'.core.stored load.key (gone_on reading frames))
+        → IsBounded m.values.types u' (gone_on reading frames)
     went-bounded reading frames stands feels =
-        let before : (reading.load.0 ≤ u.core.last.load) × ((load : OpenLoad) → u.core.loads reading.load.0 ≡ Some load → Bounded m.values.types u.core.stored load.key reading) =
-        elim stands [ inl there ↦ all reading there | inr new ↦ (new.2, λ load is_open. bounded-new m.values.types u.core.stored load.key reading new.0 new.1) ]
-        in
+        let before : IsBounded m.values.types u reading = elim stands [ inl there ↦ all reading there | inr new ↦ (new.2, λ load is_open. bounded-new m.values.types u.core.stored load.key reading new.0 new.1) ] in
         let few = before.0 in
         let more = goes.loads_last in (
           omega (arith, few, more),
@@ -456,17 +386,9 @@ module _ {N E B W : Type 0} (m : Seen N B W) (s s' : MachineState N E) (whole : 
         )
 
   -- all loads go on so
-  all-on : (event : Event N B W) (reply : EventReply N B W) {c : Change} → Goes c u.core u'.core → AllBounded m.values.types u → EventFeels m.values u event reply u' c → AllBounded m.values.types u'
-  all-on event reply goes all (by-call c call answer called replied feels keeps) = kept-bounded goes all keeps
-  all-on event reply goes all (by-key k key row is sets keeps) = kept-bounded goes all keeps
-  all-on event reply goes all (by-nothing stays keeps) = kept-bounded goes all keeps
-  all-on event reply goes all (by-reading c reading answer frames stepped opens feels steps) = λ after is. elim (steps after is) [
-    | inl old ↦ old-bounded goes all after old
-    | inr (none, same) ↦
-        let felt = subst (λ a. ReadingFeels m.values u.core reading a frames u'.core c) none feels in
-        subst (λ (r : Reading). (r.load.0 ≤ u'.core.last.load) × ((load : OpenLoad) → u'.core.loads r.load.0 ≡ Some load → Bounded m.values.types u'.core.stored load.key r)) (sym same)
-        (went-bounded goes all reading frames (is-reading-of u event reading stepped) felt)
-  ]
+  all-on : {event : Event N B W} {reply : EventReply N B W} {c : Change} → Goes c u.core u'.core → AllBounded m.values.types u → EventFeels m.values u event reply u' c → AllBounded m.values.types u'
+  all-on goes all = readings-on (λ r. IsBounded m.values.types u' r) (old-bounded goes all)
+      (λ r new. (new.2, λ load is_open. bounded-new m.values.types u'.core.stored load.key r new.0 new.1)) (λ r frames load stands at feels. went-bounded goes all r frames stands feels)
 
   -- a load that makes a step was bounded, and is where it goes on
   module _ (all : AllBounded m.values.types u) {l : LoadNumber} {reply : LoadReply N} (x : LoadSteps m.values u l reply u') (load : OpenLoad) (open_load : u.core.loads l.0 ≡ Some load) where
@@ -487,56 +409,32 @@ module _ {N E B W : Type 0} (m : Seen N B W) (s s' : MachineState N E) (whole : 
         let f = reading-feels m u.core Owner.Caller caller-free u'.core x.reading reply.ended x.frames x.does in
         bounded-step x.reading load x.frames (ap u.core.loads number-is ∙ open_load) was-bounded (subst (λ a. ReadingFeels m.values u.core x.reading a x.frames u'.core f.change) none (f.feels whole.pager.whole.handles))
 
-  event-on : (event : Event N B W) (reply : EventReply N B W) → Happens m u event reply u' → LoadsStand m.values.types u → LoadsStand m.values.types u'
-  event-on event reply h (waits, stands) = (
-    event-waits m u u' waits event reply h,
-    elim (keeps-open event) [
-      | inr closes ↦ inl (shut-by reply (subst (λ e. Happens m u e reply u') closes h))
-      | inl keeps ↦ on (event-goes m u u' event reply keeps h) stands
-    ],
-  )
+  pub event-on : (event : Event N B W) (reply : EventReply N B W) → Happens m u event reply u' → AllWaitWell u → LoadsStand m.values.types u → LoadsStand m.values.types u'
+  event-on event reply h waits stands = elim (keeps-open event) [
+    | inr closes ↦ inl (shut-by reply (subst (λ e. Happens m u e reply u') closes h))
+    | inl keeps ↦ on (event-goes m u u' event reply keeps h) stands
+  ]
     where
       shut-by : (r : EventReply N B W) → Happens m u (let e : Event N B W = Event.Call Call.Close in e) r u' → IsShut u'.core
       shut-by (EventReply.CallReply (Reply.Done r)) c = closed-shut c.step.does
       shut-by (EventReply.CallReply r) c = absurd c.step.does
       shut-by r c = absurd c
 
-      on : EventGoes m u event reply u' → IsShut u.core ⊎ AllBounded m.values.types u → IsShut u'.core ⊎ AllBounded m.values.types u'
+      on : EventGoes m u event reply u' → LoadsStand m.values.types u → LoadsStand m.values.types u'
       on g (inl shut) = inl (g.goes.shut shut)
-      on g (inr all) = inr (all-on event reply g.goes all (g.feels whole.pager.whole waits))
+      on g (inr all) = inr (all-on g.goes all (g.feels whole.pager.whole waits))
 
-  step-within : LoadsStand m.values.types u → (event : Event N B W) (reply : EventReply N B W) → Happens m u event reply u' → StepIsWithin m.values s event reply
-  step-within (waits, inl shut) (Event.LoadStep l) (EventReply.LoadMoved (Ok reply)) h = λ reading load at open_load many longest under. absurd (nothing-unfolds shut.1 under)
-  step-within (waits, inr all) (Event.LoadStep l) (EventReply.LoadMoved (Ok reply)) h = λ reading load at open_load.
+  pub step-within : LoadsStand m.values.types u → (event : Event N B W) (reply : EventReply N B W) → Happens m u event reply u' → StepIsWithin m.values s event reply
+  step-within (inl shut) (Event.LoadStep l) (EventReply.LoadMoved (Ok reply)) h = λ reading load at open_load many longest under. absurd (nothing-unfolds shut.1 under)
+  step-within (inr all) (Event.LoadStep l) (EventReply.LoadMoved (Ok reply)) h = λ reading load at open_load.
       let same : h.moves.reading ≡ reading = same_some _ _ (sym h.moves.at ∙ at) in
       subst (λ (r : Reading). IsWithinBound m.values.types u.core.stored r.node_type load.key reply) same
       (is-within h.moves.reading h.moves.frames reply (was-bounded all h.moves load open_load) (now-bounded all h.moves load open_load) h.moves.counts)
   step-within stands event reply h = tt
 
--- ---- chains
+pub idle-bounded : {N E : Type 0} (types : Types) (s : MachineState N E) → IsIdle s → LoadsStand types (world_of s)
+idle-bounded types s idle = grind (arith, nat_tests)
 
-module _ {N E B W : Type 0} (m : Seen N B W) where
-  -- what a chain ends at
-  record Ends (s : MachineState N E) : Type 0 where
-    whole : IsMachineWhole m.values s
-    stands : LoadsStand m.values.types (world_of s)
-
-  along : (s : MachineState N E) (moments : List (Moment N E B W)) → AreMoments m s moments → Ends s → StepsAreWithin m.values s moments × Ends (state_after s moments)
-  unfolding state_after
-  along s [] chain ends = (tt, ends)
-  along s (x ∷ xs) (does, chain) ends =
-      let rest = along x.after xs chain (record { whole = does.whole; stands = event-on m s x.after ends.whole x.event x.reply does.step.happens ends.stands }) in
-      ((step-within m s x.after ends.whole ends.stands x.event x.reply does.step.happens, rest.0), rest.1)
-
-  idle-stands : (s : MachineState N E) → IsIdle s → LoadsStand m.values.types (world_of s)
-  idle-stands s idle = grind (arith, nat_tests)
-
-  steps-left : (s : MachineState N E) → LoadsStand m.values.types (world_of s) → LoadsHaveStepsLeft m.values (world_of s)
-  steps-left s (waits, inl shut) reading load is is_open = λ many longest under. absurd (nothing-unfolds shut.1 under)
-  steps-left s (waits, inr all) reading load is is_open = has-left reading ((all reading is).1 load is_open)
-
--- of a chain from where nobody works: each step of a load is within its bound, and an open load has a step left
-pub loads-bounded : {N E B W : Type 0} (m : Seen N B W) (start : MachineState N E) (moments : List (Moment N E B W)) → IsMachineWhole m.values start → IsIdle start → AreMoments m start moments
-    → StepsAreWithin m.values start moments × LoadsHaveStepsLeft m.values (world_of (state_after start moments))
-loads-bounded m start moments whole idle chain = let a = along m start moments chain (record { whole = whole; stands = idle-stands m start idle }) in
-    (a.0, steps-left m (state_after start moments) a.1.stands)
+pub steps-left : {N E : Type 0} (v : Values N) (s : MachineState N E) → LoadsStand v.types (world_of s) → LoadsHaveStepsLeft v (world_of s)
+steps-left v s (inl shut) reading load is is_open = λ many longest under. absurd (nothing-unfolds shut.1 under)
+steps-left v s (inr all) reading load is is_open = has-left reading ((all reading is).1 load is_open)

@@ -4,6 +4,7 @@ use Rattle.pagable_laws.proofs.Words.{Shelf, Slot, Outcome, failed, Written, Tas
 use Rattle.pagable_laws.proofs.Words.{meets-of-item, meets-entry, meets-below, ◌≤◌, ◌||◌, List, [], ◌∷◌, is_some, WorkerAnswer, identity_of, no_result, Todo, to_start, to_pin, to_load, to_write}
 use Rattle.pagable_laws.proofs.Words.{to_finish, to_item, to_set, to_publish, to_release, to_fail, of_item, Walking, suc, ◌++◌, inl, inr, drop, length, max, ArcRef, HandleNumber, Among, above, Open}
 use Rattle.pagable_laws.proofs.{Words.{Fault, next_start, settle, give, published, open_node, ◌<◌, of_entry, first_todo}, Sums.same-number}
+use Rattle.pagable_laws.proofs.Words.{Follows, Took}
 use Rattle.std.proofs.lemmas.Bool.{or_cases, or_left, or_right, false_from_ne_true, cases_Bool}
 
 -- the slot has the same worker, and what was written and the result stay
@@ -127,6 +128,20 @@ unfoldable pub is_open_in : Identity → List Todo → Bool
 is_open_in i [] = false
 is_open_in i (x ∷ todo) = is_open_of i x || is_open_in i todo
 
+-- written nodes and an item wait, and nothing else
+unfoldable pub AllWait : List Todo → Type 0
+AllWait [] = Unit {0}
+AllWait (to_finish o ∷ below) = AllWait below
+AllWait (to_item written keys ∷ below) = Unit {0}
+AllWait (x ∷ below) = ⊥
+
+-- below what is done next they do, so that no load comes to the front when that is done
+abbrev pub WaitsWell : List Todo → Type 0
+WaitsWell [] = Unit {0}
+WaitsWell (to_item written keys ∷ below) = Unit {0}
+WaitsWell (to_fail fault back ∷ below) = Unit {0}
+WaitsWell (x ∷ below) = AllWait below
+
 -- whether the walk is about to fail
 abbrev pub is_failing : List Todo → Bool
 is_failing (to_fail fault back ∷ below) = true
@@ -180,6 +195,7 @@ pub record WalkingStands (shelf : Shelf) (v : ℕ) (walking : Walking) : Type 0 
   pub covers : Covers shelf v walking.todo
   pub unfailed : walking.answer ≡ None → HasNoFailed shelf v
   pub done : (answer : WorkerAnswer) → walking.answer ≡ Some answer → walking.todo ≡ []
+  pub waits : WaitsWell walking.todo
 
 -- the worker v is one of the table t, and its task meets the identity
 pub record IsMetBy (shelf : Shelf) (walkings : ℕ → Option Walking) (v t : ℕ) (i : Identity) : Type 0 where
@@ -193,6 +209,30 @@ pub record WorkStands (shelves : ℕ → Shelf) (walkings : ℕ → Option Walki
   pub slots : (t : ℕ) (i : Identity) (slot : Slot) → (shelves t).slots i ≡ Some slot → IsMetBy (shelves t) walkings slot.worker t i
   pub workers : (v : ℕ) (walking : Walking) → walkings v ≡ Some walking → WalkingStands (shelves walking.table) v walking
   pub numbered : (v : ℕ) (walking : Walking) → walkings v ≡ Some walking → v ≤ last
+
+-- below what is done next written nodes and an item wait again after a step
+
+started-waits : (place : ℕ) (rs : List ArcRef) (x : Todo) (below : List Todo) → AllWait (x ∷ below) → WaitsWell (x ∷ below) → WaitsWell (next_start place rs ++ x ∷ below)
+started-waits place x1 x below whole rest = grind (arith, nat_tests)
+
+settle-waits : (todo : List Todo) → AllWait todo → WaitsWell (settle todo)
+unfolding AllWait
+settle-waits x0 waits = grind (arith, nat_tests, started-waits)
+
+give-waits : (r : ArcRef) (key height : ℕ) (todo : List Todo) → AllWait todo → WaitsWell (give r key height todo)
+unfolding AllWait
+give-waits r key height x3 waits = grind (arith, nat_tests, settle-waits, above)
+
+by-now : {next todo : List Todo} → next ≡ todo → WaitsWell todo → WaitsWell next
+by-now is waits = subst (λ t. WaitsWell t) (sym is) waits
+
+pub follows-waits : {W : Type 0} (f : W → Written) (todo : List Todo) (step : Took W) (next : List Todo) → Follows f todo step next → WaitsWell todo → WaitsWell next
+unfolding AllWait
+follows-waits f x1 x2 next x4 waits = grind (arith, nat_tests, by-now, give-waits, settle-waits)
+
+pub first-waits : (task : Task) → WaitsWell (first_todo task)
+unfolding AllWait
+first-waits x0 = grind (arith, nat_tests, settle-waits)
 
 -- A worker's step keeps what stands of its to-do list and of its table.
 
@@ -531,15 +571,16 @@ module _ (shelves shelves' : ℕ → Shelf) (walkings walkings' : ℕ → Option
           covers = λ i slot is own still. absurd (unclaimed v new.table i slot above is own);
           unfailed = λ nothing i slot is own. absurd (unclaimed v new.table i slot above is own);
           done = λ answer is. some-none is none;
+          waits = subst (λ todo. WaitsWell todo) (sym first) (first-waits new.task);
         });
       }
 
 -- a worker makes a step
 pub is-stepped : (v : ℕ) (shelves shelves' : ℕ → Shelf) (walkings walkings' : ℕ → Option Walking) (w now : Walking) → walkings v ≡ Some w → walkings' v ≡ Some now → now.table ≡ w.table
     → now.task ≡ w.task
-    → ((u : ℕ) → nat_eq u v ≡ false → walkings' u ≡ walkings u) → ((t : ℕ) → nat_eq t w.table ≡ false → (i : Identity) → (shelves' t).slots i ≡ (shelves t).slots i) → HasNoFailed (shelves w.table) v
+    → ((u : ℕ) → nat_eq u v ≡ false → walkings' u ≡ walkings u) → ((t : ℕ) → nat_eq t w.table ≡ false → (i : Identity) → (shelves' t).slots i ≡ (shelves t).slots i) → HasNoFailed (shelves w.table) v → WaitsWell now.todo
     → Goes v w.task (shelves w.table) now.answer (shelves' w.table) now.todo → Turned v shelves shelves' walkings walkings'
-is-stepped v shelves shelves' walkings walkings' w now at at_now same_table same_task others elsewhere clean goes =
+is-stepped v shelves shelves' walkings walkings' w now at at_now same_table same_task others elsewhere clean waits goes =
     record {
       changes = λ t. change t (nat_eq t w.table) refl;
       others = others;
