@@ -1,19 +1,21 @@
 -- Each event keeps trees: what it brings fits some trees afterwards, for which the machine stands then, with all that its loads read.
-use Rattle.pagable_laws.proofs.Words.{◌≡◌, ℕ, List, [], inl, inr, sym, subst, ◌⊎◌, Event, EventReply, Tree, Among, Reading, Frame, Values, Seen, IsLawful, MachineState, world_of}
-use Rattle.pagable_laws.proofs.Words.{IsMachineWhole, StandsFor, FramesFit, ReadingFits, EventBrings, IsReadingOf, HoldsSettled, ReadsItsTypes, TakesWell, AsksWell, IsWellAsked}
-use Rattle.pagable_laws.proofs.Words.{FramesGiven, Change, CoreGoes, IsSteppedReading, EventFeels, by-call, by-reading, by-key, arith, nat_tests, by-nothing, KeysAreReady, IsFresh, ChangeFits}
-use Rattle.pagable_laws.proofs.Words.{ReadingsGiven, ◌+◌, ◌≤◌, Option, Some, None, refl, ◌∙◌, OpenLoad, gone_on, Moves, ReadingFeels, StepFeels, TreesAfterEvent, ◌∷◌}
-use Rattle.pagable_laws.proofs.Words.{HandleNumber, IsIdle, IsPremised, Moment, AreMoments, TreesAfter, TreesAlong, GivesTree, PinGives, IsRight, HasPin, PinHolds, WorkFits, KeysHeld, ReadingsHeld}
+use Rattle.pagable_laws.proofs.Words.{◌≡◌, ℕ, List, [], inl, inr, sym, subst, ◌⊎◌, Event, EventReply, Tree, Among, Reading, Values, Seen, IsLawful, MachineState, world_of}
+use Rattle.pagable_laws.proofs.Words.{IsMachineWhole, StandsFor, EventBrings, IsReadingOf, HoldsSettled, ReadsItsTypes, TakesWell, AsksWell, IsWellAsked}
+use Rattle.pagable_laws.proofs.Words.{Change, CoreGoes, IsSteppedReading, EventFeels, by-call, by-reading, by-key, arith, nat_tests, by-nothing, KeysAreReady, IsFresh, ChangeFits}
+use Rattle.pagable_laws.proofs.Words.{◌+◌, ◌≤◌, Option, Some, None, refl, ◌∙◌, OpenLoad, Moves, StepFeels, ◌∷◌}
+use Rattle.pagable_laws.proofs.Words.{HandleNumber, IsIdle, IsPremised, Moment, AreMoments, TreesAfter, TreesAlong, GivesTree, PinGives, IsRight, HasPin, PinHolds, WorkFits, KeysHeld}
 use Rattle.pagable_laws.proofs.Words.{◌==◌, ◌&&◌, Bool, true, false, ap, Ok, is_some, sum_by-append, sum_by-cons, Identity, WorkerNumber, one, times, Took, WorkerReply, Shelf, Slot}
 use Rattle.pagable_laws.proofs.Words.{Todo, Walking, World, Site, Does, Happens, WorkerSteps, step_of, steps_of, is_claim_of, is_on_table, claims_made, ◌++◌, append_assoc, is_none, WorkerAnswer}
 use Rattle.pagable_laws.proofs.Words.{HandleRow, Owner, owner_worker, is_owned_by, is_owner, is_workers_load, state_after, events_of, replies_of, InOrder, TableMeets, HasLetGo}
 use Rattle.pagable_laws.proofs.{Words.{StepsAreWithin, WorkerIsRight, WorkIsRight, HeadlineLaw}, Felt.reading-fits, Felt.{none-comes, fits-nothing, fits-key, call-fits}, Fitting.tree-stays}
 use Rattle.pagable_laws.proofs.{ReadingSteps.{is-reading-of, does-feels, readings-on}, Trees.same_some, Answering.keys-right, Coming.{waits-well, StandsIn, event-turns, turns-stand, idle-stands, updated-at, EventTurns, Went}}
-use Rattle.pagable_laws.proofs.{Coming.{HasGone, goes-on}, Naming.{held-at-first, held-on, keys-ready}, KnownSteps.{ReadingsAsked, event-asked}, Outlasting.pins-hold, Stepping.fits-at-first}
-use Rattle.pagable_laws.proofs.{Stepping.fits-on, ReadingStepsGive.{reads-give, event-held, LoadsStand, event-on, step-within, idle-bounded, steps-left}, Taking.{AtStep, fit-still, fit-after, pin_stands}, Felt.trees-go-on}
+use Rattle.pagable_laws.proofs.{Coming.{HasGone, goes-on}, Naming.{held-at-first, held-on, keys-ready}, Outlasting.pins-hold, Stepping.fits-at-first}
+use Rattle.pagable_laws.proofs.{Stepping.fits-on, ReadingStepsGive.{reads-give, LoadsStand, event-on, step-within, idle-bounded, steps-left}, Taking.pin_stands, Felt.trees-go-on}
 use Rattle.pagable_laws.proofs.{Standing.{ShelfGrows, is-same, puts-slot, grows, true-false, KeepsTask, Turned, keeps-task, WalkingStands, is_failing, is_open_in}, Once.{once_each, plus-none}}
 use Rattle.pagable_laws.proofs.Sums.{sum-zero}
 use Rattle.pagable_world.specs.Runs.{Does as DoesMoment}
+use Rattle.pagable_laws.proofs.Words.{SameTrees}
+use Rattle.pagable_laws.proofs.Taking.{Going, going-new, going-on, going-step, given-nodes}
 use Rattle.std.{proofs.Common.append-nil, proofs.lemmas.Bool.false_from_ne_true}
 
 module _ {N E B W : Type 0} (m : Seen N B W) (s : MachineState N E) (trees : ℕ → Tree) where
@@ -21,21 +23,10 @@ module _ {N E B W : Type 0} (m : Seen N B W) (s : MachineState N E) (trees : ℕ
       → TakesWell m.values s.pager reading
   reading-takes x0 reply reading x3 well = grind (arith, nat_tests)
 
-  pub nothing-yet : (reading : Reading) → reading.frames ≡ [] → ReadingFits m.values s.pager trees reading
-  unfolding FramesFit
-  nothing-yet reading none load is = subst (λ fs. FramesFit m.values.types s.pager.core.stored trees load.key reading.node_type fs) (sym none) tt
-
-  pub none-given : (last : ℕ) (frames : List Frame) → frames ≡ [] → FramesGiven last frames
-  none-given last frames none f r among got = let there = subst (λ fs. Among fs f) none among in absurd (let e = there.1 in cc)
-
-  module _ (stands : StandsFor m.values s trees) (given : ReadingsGiven s) where
-    pub fits-of : (reading : Reading) → IsReadingOf s.work reading ⊎ IsFresh s.pager.core reading → ReadingFits m.values s.pager trees reading
-    fits-of reading (inl is) = stands.readings reading is
-    fits-of reading (inr is) = nothing-yet reading is.0
-
-    pub given-of : (reading : Reading) → IsReadingOf s.work reading ⊎ IsFresh s.pager.core reading → FramesGiven s.pager.core.last.node reading.frames
-    given-of reading (inl is) = (given reading is).1
-    given-of reading (inr is) = none-given s.pager.core.last.node reading.frames is.0
+  module _ (stands : StandsFor m.values s trees) (readings : (reading : Reading) → IsReadingOf s.work reading → Going m.values s.pager trees reading) where
+    pub going-of : (reading : Reading) → IsReadingOf s.work reading ⊎ IsFresh s.pager.core reading → Going m.values s.pager trees reading
+    going-of reading (inl is) = readings reading is
+    going-of reading (inr new) = going-new s.pager trees reading new.0 new.2
 
     pub event-fits : (lawful : IsLawful m.values) (readable : ReadsItsTypes m.values.types) (s' : MachineState N E) → HoldsSettled m.values s.pager → IsMachineWhole m.values s
         → IsMachineWhole m.values s' → KeysAreReady m.values s trees
@@ -48,8 +39,8 @@ module _ {N E B W : Type 0} (m : Seen N B W) (s : MachineState N E) (trees : ℕ
         let f = call-fits lawful settled whole.pager whole'.pager stands.pager c call answer goes asked feels in
         (f.after, subst (λ e. ChangeFits m.values c (EventBrings m.values (world_of s) e) s.pager s'.pager trees f.after) (sym called) f.fits)
     event-fits lawful readable s' settled whole whole' ready event reply goes well (by-reading c reading answer frames stepped opens feels steps) =
-        let is = is-reading-of (world_of s) event reading stepped in
-        let f = reading-fits lawful readable settled whole.pager whole'.pager stands.pager reading (fits-of reading is) (given-of reading is) goes
+        let g = going-of reading (is-reading-of (world_of s) event reading stepped) in
+        let f = reading-fits lawful readable settled whole.pager whole'.pager stands.pager reading g.fits (given-nodes reading.frames g.held) goes
         (reading-takes event reply reading stepped well) opens feels in
         (f.0, (grind (arith, nat_tests)))
     event-fits lawful readable s' settled whole whole' ready event reply goes well (by-key k key row is sets keeps) = (
@@ -70,74 +61,27 @@ module _ {N E B W : Type 0} (m : Seen N B W) (s : MachineState N E) (trees : ℕ
 
 -- ---- a machine that stands for trees stands for them after each event, with all that its loads read
 
-module _ {N E B W : Type 0} (m : Seen N B W) (s s' : MachineState N E) (trees trees' : ℕ → Tree) (whole : IsMachineWhole m.values s) (whole' : IsMachineWhole m.values s')
-    (stands : StandsFor m.values s trees) (given : ReadingsGiven s)
-    {comes : ℕ → N → Type 0} {c : Change} (goes : CoreGoes c s.pager.core s'.pager.core) (fits : ChangeFits m.values c comes s.pager s'.pager trees trees') where
-  at-step : AtStep m.values c s.pager.core s'.pager.core trees trees'
-  at-step =
-      record {
-        goes = goes;
-        same = fits.same;
-        before = whole.pager.whole;
-        after = whole'.pager.whole;
-        cache = stands.pager.cache;
-        born = λ kind key own is. let f = subst (λ z. ChangeFits m.values z comes s.pager s'.pager trees trees') is fits in f.knows kind key (s.pager.core.last.node + 1) (refl, refl, refl);
-      }
-
-  -- a load that is open afterwards and was given was open before
-  was-open : (l : ℕ) (load : OpenLoad) → l ≤ s.pager.core.last.load → s'.pager.core.loads l ≡ Some load → s.pager.core.loads l ≡ Some load
-  was-open l load within is = elim (goes.loads l load is) [ inl was ↦ was | inr (above, begins) ↦ absurd (omega (arith, within, above)) ]
-
-  -- what a reading had read before fits still
-  kept : (reading : Reading) → reading.load.0 ≤ s.pager.core.last.load → ReadingFits m.values s.pager trees reading → FramesGiven s.pager.core.last.node reading.frames
-      → ReadingFits m.values s'.pager trees' reading
-  kept reading within fit few load is = (fit-still at-step (record { fit = fit load (was-open reading.load.0 load within is); given = few })).fit
-
-  few-still : (frames : List Frame) → FramesGiven s.pager.core.last.node frames → FramesGiven s'.pager.core.last.node frames
-  few-still frames few frame r among got = let a = few frame r among got in let b = goes.nodes in omega (arith, a, b)
-
-  abbrev GoesOn : Reading → Type 0
-  GoesOn reading = ReadingFits m.values s'.pager trees' reading × (reading.load.0 ≤ s'.pager.core.last.load) × FramesGiven s'.pager.core.last.node reading.frames
-
-  old-goes : (reading : Reading) → IsReadingOf s.work reading → GoesOn reading
-  old-goes reading is =
-      let g = given reading is in
-      let a = g.0 in
-      let b = goes.loads_last in
-      (kept reading g.0 (stands.readings reading is) g.1, omega (arith, a, b), few-still reading.frames g.1)
-
-  stepped-goes : (reading : Reading) (frames : List Frame) → IsReadingOf s.work reading ⊎ IsFresh s.pager.core reading → (load : OpenLoad) → s.pager.core.loads reading.load.0 ≡ Some load
-      → ReadingFeels m.values s.pager.core reading None frames s'.pager.core c → GoesOn (gone_on reading frames)
-  stepped-goes reading frames is load opened feels =
-      let fit = fits-of m s trees stands given reading is in
-      let few = given-of m s trees stands given reading is in
-      let after = fit-after reading load frames at-step opened (record { fit = fit load opened; given = few }) feels in
-      let a = within is in
-      let b = goes.loads_last in (
-        λ other at. let same : load ≡ other = same_some _ _ (sym opened ∙ was-open reading.load.0 other a at) in
-            subst (λ (z : OpenLoad). FramesFit m.values.types s'.pager.core.stored trees' z.key reading.node_type frames) same after.fit,
-        omega (arith, a, b),
-        after.given,
-      )
-    where
-      within : IsReadingOf s.work reading ⊎ IsFresh s.pager.core reading → reading.load.0 ≤ s.pager.core.last.load
-      within x0 = grind (arith, nat_tests)
-
-  all-go : {event : Event N B W} {reply : EventReply N B W} → EventFeels m.values (world_of s) event reply (world_of s') c → (reading : Reading) → IsReadingOf s'.work reading → GoesOn reading
-  all-go = readings-on GoesOn old-goes (λ reading new. (nothing-yet m s' trees' reading new.0, new.2, none-given m s' trees' s'.pager.core.last.node reading.frames new.0))
-      (λ reading frames load is at feels. stepped-goes reading frames is load at feels)
+-- trees after an event for which the machine stands, where each node that was made keeps its tree
+record Stays {N E : Type 0} (v : Values N) (s s' : MachineState N E) (trees : ℕ → Tree) : Type 0 where
+  after : ℕ → Tree
+  keeps : SameTrees s.pager.core.last.node trees after
+  stands : StandsFor v s' after
+  readings : (reading : Reading) → IsReadingOf s'.work reading → Going v s'.pager after reading
 
 -- a machine that stands for trees does so after each event, as trees feel it
-pub keeps-trees : {N B W E : Type 0} (m : Seen N B W) → IsLawful m.values → ReadsItsTypes m.values.types
-    → (s s' : MachineState N E) (trees : ℕ → Tree) (event : Event N B W) (reply : EventReply N B W) → StandsFor m.values s trees → ReadingsGiven s → HoldsSettled m.values s.pager
+keeps-trees : {N B W E : Type 0} (m : Seen N B W) → IsLawful m.values → ReadsItsTypes m.values.types
+    → (s s' : MachineState N E) (trees : ℕ → Tree) (event : Event N B W) (reply : EventReply N B W) → StandsFor m.values s trees
+    → ((reading : Reading) → IsReadingOf s.work reading → Going m.values s.pager trees reading) → HoldsSettled m.values s.pager
     → IsMachineWhole m.values s → IsMachineWhole m.values s' → KeysAreReady m.values s trees → IsWellAsked m.values s trees event reply
     → Moves (EventBrings m.values (world_of s) event) s.pager s'.pager
-    → StepFeels m.values (world_of s) event reply (world_of s') → TreesAfterEvent m.values s s' trees
-keeps-trees m lawful readable s s' trees event reply stands given settled whole whole' ready well moves feels =
-    let f = event-fits m s trees stands given lawful readable s' settled whole whole' ready event reply feels.core well feels.feels in
+    → StepFeels m.values (world_of s) event reply (world_of s') → Stays m.values s s' trees
+keeps-trees m lawful readable s s' trees event reply stands readings settled whole whole' ready well moves feels =
+    let f = event-fits m s trees stands readings lawful readable s' settled whole whole' ready event reply feels.core well feels.feels in
     let pager = trees-go-on lawful settled whole.pager whole'.pager stands.pager moves feels.core f.1 in
-    let on = all-go m s s' trees f.0 whole whole' stands given feels.core f.1 feels.feels in
-    record { after = f.0; keeps = f.1.same; stands = record { pager = pager; readings = λ reading is. (on reading is).0 }; given = λ reading is. let g = on reading is in (g.1, g.2) }
+    let on = readings-on (Going m.values s'.pager f.0) (λ reading is. going-on whole.pager whole'.pager stands.pager feels.core f.1 reading (readings reading is))
+    (λ reading new. going-new s'.pager f.0 reading new.0 new.2)
+    (λ reading frames load is at felt. going-step whole.pager whole'.pager stands.pager feels.core f.1 reading frames load at (going-of m s trees stands readings reading is) felt) feels.feels in
+    record { after = f.0; keeps = f.1.same; stands = record { pager = pager; readings = λ reading is. (on reading is).fits }; readings = on }
 
 -- ---- together
 
@@ -154,11 +98,9 @@ pub record IsGoingOn {N E : Type 0} (v : Values N) (s : MachineState N E) (trees
   pub work : StandsIn (world_of s)
   pub settled : HoldsSettled v s.pager
   pub stands : StandsFor v s trees
-  pub given : ReadingsGiven s
+  pub readings : (reading : Reading) → IsReadingOf s.work reading → Going v s.pager trees reading
   pub fits : WorkFits v s trees
   pub held : KeysHeld (world_of s)
-  pub reads : ReadingsHeld (world_of s)
-  pub asked : ReadingsAsked v.types (world_of s)
 
 module _ {N E B W : Type 0} (m : Seen N B W) (lawful : IsLawful m.values) (readable : ReadsItsTypes m.values.types) where
   pub idle-goes : (s : MachineState N E) (trees : ℕ → Tree) → IsMachineWhole m.values s → IsIdle s → HoldsSettled m.values s.pager → StandsFor m.values s trees → IsGoingOn m.values s trees
@@ -175,18 +117,18 @@ module _ {N E B W : Type 0} (m : Seen N B W) (lawful : IsLawful m.values) (reada
   goes s trees x on does premised =
       let feels = does-feels m s x.after x.event x.reply on.whole (waits-well (world_of s) on.work) premised.stays_open does in
       let ready = keys-ready m.values s trees readable on.fits on.held in
-      let a = keeps-trees m lawful readable s x.after trees x.event x.reply on.stands on.given on.settled on.whole does.whole ready premised.well does.moves feels in
+      let a = keeps-trees m lawful readable s x.after trees x.event x.reply on.stands on.readings on.settled on.whole does.whole ready premised.well does.moves feels in
       let turns = event-turns m (world_of s) (world_of x.after) on.work (λ v w there. (on.whole.walkings v w there).table.1) x.event x.reply does.step.happens in
       let fits = fits-on m s x.after trees a.after (record { kept = feels.core.stored; last = feels.core.nodes; trees = a.keeps }) on.fits on.whole on.stands.pager on.settled readable lawful on.work x.event x.reply turns does.writes in
       let held = held-on m s x.after x.event x.reply turns on.whole premised.stays_open does on.held in
       let pins = pins-hold m (world_of s) (world_of x.after) x.event x.reply on.whole.pager.whole.handles does.step.happens in
       let keys = keys-right m s x.after trees a.after on.fits fits on.whole does.whole a.stands on.held held x.event x.reply does.step.happens in
       let so : IsRight m.values s trees x.event x.reply x.after a.after =
-      record { pins_give = pin-gives m s x.after trees a.after does.whole a.stands x.event x.reply pins; reads_give = reads-give m lawful readable s x.after trees a.after on.whole does.whole on.stands on.given on.reads a.keeps a.stands x.event x.reply does; leaves = keys.leaves; publishes = keys.publishes; key = keys.key } in
+      record { pins_give = pin-gives m s x.after trees a.after does.whole a.stands x.event x.reply pins; reads_give = reads-give m lawful readable s x.after trees a.after on.whole does.whole on.readings a.keeps a.stands x.event x.reply does; leaves = keys.leaves; publishes = keys.publishes; key = keys.key } in
       record {
         trees' = a.after;
         after = record { keeps = a.keeps; stands = a.stands; so = so };
-        on = record { whole = does.whole; work = turns-stand m turns on.work; settled = premised.settled; stands = a.stands; given = a.given; fits = fits; held = held; reads = event-held on.reads feels.core feels.feels; asked = event-asked m.values on.asked feels.feels };
+        on = record { whole = does.whole; work = turns-stand m turns on.work; settled = premised.settled; stands = a.stands; readings = a.readings; fits = fits; held = held };
       }
 
   stay : (s : MachineState N E) (trees : ℕ → Tree) (moments : List (Moment N E B W)) → IsGoingOn m.values s trees → AreMoments m s moments → TreesAlong m (IsRight m.values) s trees moments

@@ -116,15 +116,3 @@ module _ (types : Types) (root_key root_type : ℕ) where
     pub first-typed : (top frame : Frame) (below : List Frame) → FramesFit types stored trees root_key root_type (top ∷ frame ∷ below) → top.node_type ≡ type_of top.kind.0
     unfolding FramesFit
     first-typed top frame below h = h.1
-
--- where the node of each handle that is got was given, all stay given
-pub got-given : (last last' : ℕ) (frames : List Frame) (kind : Kind) (row : HandleRow) → FramesGiven last frames → last ≤ last' → row.node.0 ≤ last' → FramesGiven last' (with_got kind row frames)
-got-given last last' [] kind row given le node frame r (i, is) among = absurd (cc)
-got-given last last' (top ∷ below) kind row given le node frame r (zero, is) (place, there) =
-    let got_is : frame.got ≡ top.got ++ record { kind = kind; node = row.node; handle = row.number } ∷ [] = cc in
-    of (pushed top.got _ place r (subst (λ (rs : List ArcRef). slice_get rs place ≡ Some r) got_is there))
-  where
-    of : (slice_get top.got place ≡ Some r) ⊎ ((place ≡ length top.got) × (record { kind = kind; node = row.node; handle = row.number } ≡ r)) → r.node.0 ≤ last'
-    of (inl old) = let a = given top r (zero, refl) (place, old) in omega (arith, a, le)
-    of (inr new) = subst (λ (z : ArcRef). z.node.0 ≤ last') new.1 node
-got-given last last' (top ∷ below) kind row given le node frame r (suc i, is) among = let a = given frame r (suc i, is) among in omega (arith, a, le)

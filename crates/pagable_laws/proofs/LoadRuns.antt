@@ -1,14 +1,14 @@
 -- A load from its begin to its end keeps trees: what it pins stands for its node's tree, and what it reads for the tree that its key reads as.
-use Rattle.pagable_laws.proofs.{Felt.reading-fits, Called.{begin-goes, key-goes}, Decoding.decodes, ReadingSteps.core-goes, Felt.fits-nothing, Fitting.{first-fits, frames-stay}, Goes.Goes}
-use Rattle.pagable_laws.proofs.{ReadingSteps.{ReadingFelt, caller-free, reading-feels}, ReadingStepsGive.{got-typed, hands, held-after}, Taking.AtStep}
-use Rattle.pagable_laws.proofs.{Taking.{FitAfter, fit-after, row-held, root-right, stands-here}, Trees.same_some, Felt.trees-go-on}
-use Rattle.std.proofs.{Common.{◌≡◌, ℕ, zero, ◌+◌, ◌<◌, ◌≤◌, ◌==◌, true, List, [], Option, Some, None, if◌then◌else◌, inl, inr, refl, sym, ap, subst, ◌∙◌, arith}, lemmas.Bool.Decides.nat_tests}
-use Rattle.pagable_world.specs.{World.{Core, Last, Alike, Root, of_cell, of_key, OpenLoad, Frame, Reading, Written, Values, Seen, IsLawful, type_at}, Pager.{PagerState, WellFormed, Moves}}
-use Rattle.pagable_world.specs.{Pager.{ReadingBrings, Represents, ReadingFits, FramesFit, SameTrees}, Access.{ReadingStep, LoadRun, load-ends, load-goes-on, LoadAsksWell, PinLaw, ReadLaw}}
-use Rattle.pagable_world.specs.{Calls.with_handle, Events.{reading_of_load}, Headline.ReadIsRight, Kinds.held, LoadCalls.with_load, Loads.{Does, EndsRead, ReadsRoot, gone_on}}
-use Rattle.pagable_world.specs.{Plain.{ArcRef, Blob, LoadNumber, NodeNumber, Tree, Among}, Refusals.IsReference, Runs.{ReadsItsTypes, HoldsSettled, TakesWell}, Workers.fresh}
-use Rattle.pagable_world.specs.{declared.events.LoadAnswer.LoadAnswer, declared.handles.HandleRow.HandleRow}
-use Rattle.pagable_laws.specs.{ReadLaws.FramesGiven, ReadRuns.FramesHeld, TreeRuns.ChangeFits, TreeSteps.{nothing_felt, CoreGoes, ReadingFeels, HandsOver}}
+use Rattle.pagable_laws.proofs.{Felt.reading-fits, Called.{begin-goes, key-goes}, ReadingSteps.core-goes, Felt.fits-nothing, Goes.Goes}
+use Rattle.pagable_laws.proofs.{ReadingSteps.{ReadingFelt, caller-free, reading-feels}, ReadingStepsGive.{hands, read-right}}
+use Rattle.pagable_laws.proofs.{Taking.{Going, going-new, going-step, given-nodes, was-open, row-held, stands-here}, Trees.same_some, Felt.trees-go-on}
+use Rattle.std.proofs.{Common.{◌≡◌, ℕ, ◌+◌, ◌≤◌, ◌==◌, true, List, [], Option, Some, None, if◌then◌else◌, inl, inr, refl, sym, ap, subst, ◌∙◌, arith}, lemmas.Bool.Decides.nat_tests}
+use Rattle.pagable_world.specs.{World.{Core, Last, Alike, Root, of_cell, of_key, OpenLoad, Frame, Reading, Written, Values, Seen, IsLawful}, Pager.{PagerState, WellFormed, Moves}}
+use Rattle.pagable_world.specs.{Pager.{ReadingBrings, Represents, FramesFit, SameTrees}, Access.{ReadingStep, LoadRun, load-ends, load-goes-on, LoadAsksWell, PinLaw, ReadLaw}}
+use Rattle.pagable_world.specs.{Calls.with_handle, Events.{reading_of_load}, Headline.ReadIsRight, Kinds.held, LoadCalls.with_load, Loads.{Does, EndsRead, gone_on}}
+use Rattle.pagable_world.specs.{Plain.{Blob, LoadNumber, Tree}, Runs.{ReadsItsTypes, HoldsSettled, TakesWell}, Workers.fresh}
+use Rattle.pagable_world.specs.{declared.events.LoadAnswer.LoadAnswer}
+use Rattle.pagable_laws.specs.{TreeRuns.ChangeFits, TreeSteps.{nothing_felt, CoreGoes, ReadingFeels}}
 use Rattle.pagable_world.specs.declared.events.LoadAnswer.TheVariants as ends
 use Rattle.pagable_world.specs.declared.handles.Owner.TheVariants as owners
 use Rattle.pagable_world.specs.declared.rows.Mode.TheVariants as modes
@@ -21,10 +21,7 @@ record Under {N E : Type 0} (v : Values N) (s : PagerState N E) (trees : ℕ →
   pub settled : HoldsSettled v s
   pub well : WellFormed v s
   pub stands : Represents v s trees
-  pub fits : ReadingFits v s trees reading
-  pub given : FramesGiven s.core.last.node reading.frames
-  pub got_held : FramesHeld s.core reading.load reading.frames
-  pub within : reading.load.0 ≤ s.core.last.load
+  pub going : Going v s trees reading
   pub keyed : (load : OpenLoad) → s.core.loads reading.load.0 ≡ Some load → load.key ≡ key
 
 -- each node keeps its tree
@@ -49,7 +46,7 @@ module _ {N E : Type 0} {v : Values N} (lawful : IsLawful v) (readable : ReadsIt
     feels = felt.feels u.well.whole.handles
 
     fit : (after : ℕ → Tree) × ChangeFits v felt.change (ReadingBrings v s.core reading) s s' trees after
-    fit = reading-fits lawful readable u.settled u.well step.whole u.stands reading u.fits u.given goes takes felt.opens feels
+    fit = reading-fits lawful readable u.settled u.well step.whole u.stands reading u.going.fits (given-nodes reading.frames u.going.held) goes takes felt.opens feels
 
     went : After v s trees s' fit.0
     went = record { same = fit.1.same; nodes = goes.nodes; stands = trees-go-on lawful u.settled u.well step.whole u.stands step.moves goes fit.1 }
@@ -61,71 +58,24 @@ module _ {N E : Type 0} {v : Values N} (lawful : IsLawful v) (readable : ReadsIt
           settled = settled';
           well = step.whole;
           stands = went.stands;
-          fits = fits_on;
-          given = after.given;
-          got_held = held-after reading frames goes u.got_held (subst (λ (o : Option (LoadAnswer N)). ReadingFeels v s.core reading o frames s'.core felt.change) none feels);
-          within = let a = u.within in let b = goes.loads_last in omega (arith, a, b);
-          keyed = λ other there. u.keyed other (was other there);
+          going = going-step u.well step.whole u.stands goes fit.1 reading frames load.0 load.1 u.going (subst (λ (o : Option (LoadAnswer N)). ReadingFeels v s.core reading o frames s'.core felt.change) none feels);
+          keyed = λ other there. u.keyed other (was-open u.well step.whole u.stands goes fit.1 reading.load.0 other u.going.within there);
         }
       where
         load : (x : OpenLoad) × (s.core.loads reading.load.0 ≡ Some x)
         load = felt.opens none
-
-        at : AtStep v felt.change s.core s'.core trees fit.0
-        at =
-            record {
-              goes = goes;
-              same = fit.1.same;
-              before = u.well.whole;
-              after = step.whole.whole;
-              cache = u.stands.cache;
-              born = λ kind key own is. let f = subst (λ z. ChangeFits v z (ReadingBrings v s.core reading) s s' trees fit.0) is fit.1 in f.knows kind key (s.core.last.node + 1) (refl, refl, refl);
-            }
-
-        after : FitAfter v s'.core fit.0 load.0.key reading.node_type frames
-        after = fit-after reading load.0 frames at load.1 (record { fit = u.fits load.0 load.1; given = u.given }) (subst (λ (o : Option (LoadAnswer N)). ReadingFeels v s.core reading o frames s'.core felt.change) none feels)
-
-        was : (other : OpenLoad) → s'.core.loads reading.load.0 ≡ Some other → s.core.loads reading.load.0 ≡ Some other
-        was other there = elim (goes.loads reading.load.0 other there) [ inl old ↦ old | inr (above, begun) ↦ absurd (let a = u.within in omega (arith, a, above)) ]
-
-        fits_on : ReadingFits v s' fit.0 (gone_on reading frames)
-        fits_on other there = subst (λ (z : OpenLoad). FramesFit v.types s'.core.stored fit.0 z.key reading.node_type frames) (same_some _ _ (sym load.1 ∙ was other there)) after.fit
 
     -- the value that it answers is that of its key
     module _ (x : N) (is : answer ≡ Some (ends.Read x)) where
       read : EndsRead v s.core owners.Caller reading x s'.core
       read = let d = subst (λ (o : Option (LoadAnswer N)). Does v s.core owners.Caller reading o frames s'.core) is step.does.does in d.0
 
-      abbrev load : OpenLoad
-      load = read.of_key_load.load
-
-      root : ReadsRoot v reading x
-      root = read.reads_root
-
-      handed : HandsOver s.core reading.load (v.references x) s'.core
-      handed = hands reading.load (v.references x) u.well.whole.handles read.handed
-
-      fits : FramesFit v.types s.core.stored trees load.key reading.node_type reading.frames
-      fits = u.fits load read.of_key_load.open_load
-
-      own : (r : ArcRef) → Among (v.references x) r → IsReference s'.core owners.Caller r
-      own r among =
-          let here = subst (λ fs. FramesFit v.types s.core.stored trees load.key reading.node_type fs) root.frames fits in
-          let first = first-fits v.types load.key reading.node_type s.core.stored trees root.root [] here in
-          let got = (decodes lawful readable root.root x first root.decoded).got r among in
-          let front : Among reading.frames root.root = subst (λ fs. Among fs root.root) (sym root.frames) (zero, refl) in
-          let moved = handed.each r among in
-          let row : HandleRow = moved.0 in
-          let stood = (u.got_held root.root r front got).is row moved.1 moved.2 in
-          let live = row-held s'.core r.handle (record row { owner = owners.Caller }) moved.3 in
-          let typed : type_at s'.core r.node.0 ≡ Some (fit.0 r.node.0).type = went.stands.typed r.node.0 (subst (λ (n : NodeNumber). 0 < held n.0 s'.core.rows) stood.0 live) in
-          let kept : fit.0 r.node.0 ≡ trees r.node.0 = fit.1.same r.node.0 (u.given root.root r front got) in
-          record { row = record row { owner = owners.Caller }; live = moved.3; at = stood.0; owned = refl; fits = stood.1; typed = typed ∙ ap (λ (t : Tree). Some t.type) kept ∙ ap (λ (t : ℕ). Some t) (got-typed root.root first r got) }
-
       right : ReadIsRight v s' key x
       right =
-          let stay = frames-stay v.types load.key reading.node_type s.core.stored s'.core.stored trees fit.0 s.core.last.node reading.frames goes.stored fit.1.same u.given fits in
-          subst (λ q. ReadIsRight v s' q x) (u.keyed load read.of_key_load.open_load) (root-right lawful readable s' fit.0 reading x load.key step.whole went.stands stay root own)
+          let handed = hands reading.load (v.references x) u.well.whole.handles read.handed in
+          let load = read.of_key_load in
+          subst (λ q. ReadIsRight v s' q x) (u.keyed load.load load.open_load)
+          (read-right lawful readable s s' trees fit.0 fit.1.same goes.stored step.whole went.stands reading u.going load.load load.open_load x read.reads_root handed)
 
   -- ---- all steps
 
@@ -168,10 +118,7 @@ module _ {N E : Type 0} {v : Values N} (lawful : IsLawful v) (readable : ReadsIt
           settled = λ n x has. elim (moves.each n x has) [ inl was ↦ settled n x was | inr came ↦ absurd came.1 ];
           well = whole;
           stands = begun.stands;
-          fits = λ load is. tt;
-          given = λ frame r among got. absurd (let e = among.1 in cc);
-          got_held = λ frame r among got. absurd (let e = among.1 in cc);
-          within = let e = ap (λ (x : Last). x.load) a.last in omega (arith, e, next);
+          going = going-new mid trees (fresh l t) refl (let e = ap (λ (x : Last). x.load) a.last in omega (arith, e, next));
           keyed = λ load is.
               let same : (l.0 == w.last.load + 1) ≡ true = grind (arith, nat_tests) in
               let there = a.loads l.0 ∙ ap (λ b. if b then Some (let x : OpenLoad = record { owner = owners.Caller; key = key; root = root } in x) else w.loads l.0) same in

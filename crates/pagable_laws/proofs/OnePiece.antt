@@ -128,7 +128,7 @@ module _ {N B W E : Type 0} (m : Seen N B W) (lawful : IsLawful m.values) (reada
           number = same-load reading.load l a.number;
           given = (on.whole.pager.whole.loads.numbered l.0 (ap is_some open_load)).1;
           fits = on.stands.readings reading is load (ap core.loads a.number ∙ open_load);
-          got = on.reads reading is;
+          got = (on.readings reading is).held;
         }
     | inr begun ↦ record {
       number = begun.2;

@@ -1,72 +1,21 @@
--- What loads got goes on naming nodes as it should, whatever happens.
-use Rattle.pagable_laws.proofs.Words.{◌≡◌, ℕ, zero, suc, List, [], ◌∷◌, ◌++◌, refl, sym, subst, ◌∙◌, inl, inr, arith, Option, Some, None, slice_get, ArcRef, Kind, LoadNumber, Among, HandleRow, Event}
-use Rattle.pagable_laws.proofs.Words.{EventReply, LoadAnswer, Core, Frame, Reading, World, Values, with_got, nested_frame, Change, CoreGoes, GetsRow, ReadingFeels, reads-root}
-use Rattle.pagable_laws.proofs.Words.{reads-blob, gets-known, gets-lazy, makes-known, makes-node, reading-ends, EventFeels, nat_tests, GotStands, FramesHeld}
-use Rattle.pagable_laws.proofs.Words.{ReadingsHeld, ◌&&◌, ◌||◌, Bool, true, false, map, Ok, ap, not, Error, HandleNumber, is_in, if_there, Owner, is_owner, row_at, Seen, earlier, refused_if}
+-- What a load of a key hands over, and that what it read is right; and how many steps an open load still needs.
+use Rattle.pagable_laws.proofs.Words.{◌≡◌, ℕ, zero, suc, List, [], ◌∷◌, ◌++◌, refl, sym, subst, ◌∙◌, inl, inr, arith, Option, Some, None, ArcRef, Kind, LoadNumber, Among, HandleRow, Event}
+use Rattle.pagable_laws.proofs.Words.{EventReply, LoadAnswer, Core, Frame, Reading, World, Values, with_got, nested_frame, Change, ReadingFeels, reads-root}
+use Rattle.pagable_laws.proofs.Words.{reads-blob, gets-known, gets-lazy, makes-known, makes-node, reading-ends, EventFeels, nat_tests}
+use Rattle.pagable_laws.proofs.Words.{◌&&◌, ◌||◌, Bool, true, false, map, Ok, ap, not, Error, HandleNumber, is_in, if_there, Owner, is_owner, row_at, Seen, earlier, refused_if}
 use Rattle.pagable_laws.proofs.Words.{named_fault, moved, numbers_of, HandOverCall, hand_over_fault, is_owned_in, EndsRead, handles_of, Happens, HandlesAreWhole, HandsOver, ReadHolds, ◌<◌}
 use Rattle.pagable_laws.proofs.Words.{slice_get-get_or, Blob, NodeNumber, Tree, Types, type_of, LoadReply, held, OpenLoad, type_at, IsLawful, IsReference, ReadsRoot, reading_at, LoadSteps}
-use Rattle.pagable_laws.proofs.Words.{MachineState, world_of, IsMachineWhole, IsReadingOf, of_caller, StandsFor, SameTrees, FrameFits, FramesFit, ReadsItsTypes, ReadIsRight, ReadGives, ReadingsGiven}
+use Rattle.pagable_laws.proofs.Words.{MachineState, world_of, IsMachineWhole, IsReadingOf, of_caller, StandsFor, SameTrees, FrameFits, FramesFit, ReadsItsTypes, ReadIsRight, ReadGives}
 use Rattle.pagable_laws.proofs.Words.{◌+◌, ◌*◌, ◌≤◌, ◌⊎◌, is_eager, asks, next_in, need_of, needs_nested, needs_lazy, to_adopt, root_frame, after_kinds, Unfolds, unfolds, UnfoldsFrom, KeepsStored}
 use Rattle.pagable_laws.proofs.Words.{IsSome}
 use Rattle.pagable_laws.proofs.Words.{Call, Reply, one_more, gone_on, CloseCall, IsIdle, KeepsOpen, HasStepLeft, IsWithinBound, StepIsWithin}
-use Rattle.pagable_laws.proofs.{Words.{LoadsHaveStepsLeft, IsFresh}, Fitting.{pushed, inside, first-fits, frames-stay, asked}, ReadingSteps.{readings-on, caller-free, reading-feels, reading-stands}}
+use Rattle.pagable_laws.proofs.{Words.{LoadsHaveStepsLeft, IsFresh}, Fitting.{inside, first-fits, frames-stay, asked}, ReadingSteps.{readings-on, caller-free, reading-feels, reading-stands}}
 use Rattle.pagable_laws.proofs.{ReadingSteps.{AllWaitWell, EventGoes, event-goes}, Goes.{found-number, IsShut, Goes}, Outlasting.{Stands, stands-whole, stands-changed}}
-use Rattle.pagable_laws.proofs.{Outlasting.stands-fell, Sums.self-number, Decoding.decodes, Taking.{row-held, root-right, adopted-over}, KnownSteps.eager-nested, ReadingStepsKinds.kinds_of}
+use Rattle.pagable_laws.proofs.{Outlasting.stands-fell, Sums.self-number, Decoding.decodes, Taking.{row-held, root-right, adopted-over, Going, given-nodes}, KnownSteps.eager-nested, ReadingStepsKinds.kinds_of}
 use Rattle.pagable_laws.proofs.{ReadingStepsKinds.{asks-by-kinds, kinds-pushed}, Trees.same_some}
 use Rattle.pagable_world.specs.{Loads.{Does as LoadDoes}, Runs.Does}
 use Rattle.std.proofs.Common.{rules}
-
-none-held : (w : Core) (l : LoadNumber) (frames : List Frame) → frames ≡ [] → FramesHeld w l frames
-none-held w l frames none frame r among got = let there = subst (λ fs. Among fs frame) none among in absurd (let e = there.1 in cc)
-
-new-held : {w : Core} {l : LoadNumber} (frame : Frame) (frames : List Frame) → frame.got ≡ [] → FramesHeld w l frames → FramesHeld w l (frame ∷ frames)
-new-held frame frames none held f r (zero, is) (place, there) = grind (arith, nat_tests)
-new-held frame frames none held f r (suc i, is) among = held f r (i, is) among
-
-module _ {c : Change} {w w' : Core} (goes : CoreGoes c w w') (l : LoadNumber) where
-  got-on : (r : ArcRef) → GotStands w l r → GotStands w' l r
-  got-on r g = record { given = let a = g.given in let b = goes.handles in omega (arith, a, b); is = λ row live own. g.is row (goes.load_rows r.handle row l live own g.given) own }
-
-  frames-on : (frames : List Frame) → FramesHeld w l frames → FramesHeld w' l frames
-  frames-on frames held frame r among got = got-on r (held frame r among got)
-
-  -- a reference that was got just now
-  got-new : (kind : Kind) (n : ℕ) (row : HandleRow) → GetsRow w w' kind n row → GotStands w' l (record { kind = kind; node = row.node; handle = row.number })
-  got-new kind n row g = grind (arith, nat_tests)
-
-  with-held : (frames : List Frame) (kind : Kind) (n : ℕ) (row : HandleRow) → FramesHeld w l frames → GetsRow w w' kind n row → FramesHeld w' l (with_got kind row frames)
-  with-held [] kind n row held g frame r (i, is) got = absurd (cc)
-  with-held (top ∷ below) kind n row held g frame r (zero, is) (place, there) =
-      let got_is : frame.got ≡ top.got ++ record { kind = kind; node = row.node; handle = row.number } ∷ [] = cc in
-      elim (pushed top.got _ place r (subst (λ (rs : List ArcRef). slice_get rs place ≡ Some r) got_is there)) [
-        | inl old ↦ got-on r (held top r (zero, refl) (place, old))
-        | inr new ↦ subst (λ (z : ArcRef). GotStands w' l z) new.1 (got-new kind n row g)
-      ]
-  with-held (top ∷ below) kind n row held g frame r (suc i, is) got = got-on r (held frame r (suc i, is) got)
-
-  under : (frames : List Frame) (top : Frame) (below : List Frame) → frames ≡ top ∷ below → FramesHeld w l frames → FramesHeld w l below
-  under frames top below is held = let h = subst (λ fs. FramesHeld w l fs) is held in λ frame r among got. h frame r (suc among.0, among.1) got
-
--- what a load's step leaves
-pub held-after : {N : Type 0} {v : Values N} {w w' : Core} (reading : Reading) (frames : List Frame) {c : Change} → CoreGoes c w w' → FramesHeld w reading.load reading.frames
-    → ReadingFeels v w reading None frames w' c → FramesHeld w' reading.load frames
-held-after {w' = w'} reading frames goes held (reads-blob kind key blob needs stored a is) =
-    subst (λ fs. FramesHeld w' reading.load fs) (sym is) (new-held (nested_frame kind key blob) reading.frames refl (frames-on goes reading.load reading.frames held))
-held-after {w' = w'} reading frames goes held (gets-known kind key n row needs known got a is) =
-    subst (λ fs. FramesHeld w' reading.load fs) (sym is) (with-held goes reading.load reading.frames kind n row held got)
-held-after {w' = w'} reading frames goes held (gets-lazy kind key row needs got a is) =
-    subst (λ fs. FramesHeld w' reading.load fs) (sym is) (with-held goes reading.load reading.frames kind _ row held got)
-held-after {w' = w'} reading frames goes held (makes-known x r n row known got a is) =
-    subst (λ fs. FramesHeld w' reading.load fs) (sym is) (with-held goes reading.load r.below r.top.kind n row (under goes reading.load reading.frames r.top r.below r.frames held) got)
-held-after {w' = w'} reading frames goes held (makes-node x r row got a is) =
-    subst (λ fs. FramesHeld w' reading.load fs) (sym is) (with-held goes reading.load r.below r.top.kind _ row (under goes reading.load reading.frames r.top r.below r.frames held) got)
-held-after {w' = w'} reading frames goes held (reads-root load blob none_read at stored a is) = grind (arith, nat_tests, new-held, none-held)
-held-after reading frames goes held (reading-ends end a is) = absurd (cc)
-
-pub event-held : {N B W : Type 0} {v : Values N} {u u' : World} → ReadingsHeld u → {event : Event N B W} {reply : EventReply N B W} {c : Change} → CoreGoes c u.core u'.core
-    → EventFeels v u event reply u' c → ReadingsHeld u'
-event-held {u = u} {u'} held goes = readings-on (λ r. FramesHeld u'.core r.load r.frames) (λ r was. frames-on goes r.load r.frames (held r was)) (λ r new. none-held u'.core r.load r.frames new.0)
-    (λ r frames load stands at feels. held-after r frames goes (elim stands [ inl there ↦ held r there | inr new ↦ none-held u.core r.load r.frames new.0 ]) feels)
+use Rattle.pagable_laws.proofs.Words.{PagerState, Represents, WellFormed}
 
 -- A load of a key that answers a value hands over the value's references: each was the load's, and is the caller's then.
 
@@ -145,39 +94,45 @@ got-typed frame fits r (place, is) =
     let most = fits.few in
     (fits.got place _ r is (slice_get-get_or frame.blob.keys place 0 (omega (arith, few, most)))).typed
 
-module _ {N E B W : Type 0} (m : Seen N B W) (lawful : IsLawful m.values) (readable : ReadsItsTypes m.values.types) (s s' : MachineState N E) (trees trees' : ℕ → Tree)
-    (whole : IsMachineWhole m.values s) (whole' : IsMachineWhole m.values s') (stands : StandsFor m.values s trees)
-    (given : ReadingsGiven s) (got_held : ReadingsHeld (world_of s)) (same : SameTrees s.pager.core.last.node trees trees') (stands' : StandsFor m.values s' trees') where
-  -- the caller has the references of what was read
-  owned : (reading : Reading) → IsReadingOf s.work reading → (key : ℕ) → FramesFit m.values.types s.pager.core.stored trees key reading.node_type reading.frames → (x : N)
-      → ReadsRoot m.values reading x → HandsOver s.pager.core reading.load (m.values.references x) s'.pager.core
-      → (r : ArcRef) → Among (m.values.references x) r → IsReference s'.pager.core Owner.Caller r
-  owned reading is key fit x root hands r among =
-      let here = subst (λ fs. FramesFit m.values.types s.pager.core.stored trees key reading.node_type fs) root.frames fit in
-      let fits = first-fits m.values.types key reading.node_type s.pager.core.stored trees root.root [] here in
-      let got = (decodes lawful readable root.root x fits root.decoded).got r among in
-      let front : Among reading.frames root.root = subst (λ fs. Among fs root.root) (sym root.frames) (zero, refl) in
-      let moved = hands.each r among in
-      let row : HandleRow = moved.0 in
-      let stood = (got_held reading is root.root r front got).is row moved.1 moved.2 in
-      let live = row-held s'.pager.core r.handle (record row { owner = Owner.Caller }) moved.3 in
-      let typed : type_at s'.pager.core r.node.0 ≡ Some (trees' r.node.0).type = stands'.pager.typed r.node.0 (subst (λ (n : NodeNumber). 0 < held n.0 s'.pager.core.rows) stood.0 live) in
-      let kept : trees' r.node.0 ≡ trees r.node.0 = same r.node.0 ((given reading is).1 root.root r front got) in
-      record { row = record row { owner = Owner.Caller }; live = moved.3; at = stood.0; owned = refl; fits = stood.1; typed = typed ∙ ap (λ (t : Tree). Some t.type) kept ∙ ap (λ (t : ℕ). Some t) (got-typed root.root fits r got) }
+module _ {N E : Type 0} {v : Values N} (lawful : IsLawful v) (readable : ReadsItsTypes v.types) (s s' : PagerState N E) (trees trees' : ℕ → Tree) (same : SameTrees s.core.last.node trees trees')
+    (stored : KeepsStored s.core.stored s'.core.stored) (whole' : WellFormed v s') (stands' : Represents v s' trees') where
+  -- what a load of a key answers is right, and the caller has its references
+  pub read-right : (reading : Reading) → Going v s trees reading → (load : OpenLoad) → s.core.loads reading.load.0 ≡ Some load → (x : N) → ReadsRoot v reading x
+      → HandsOver s.core reading.load (v.references x) s'.core → ReadIsRight v s' load.key x
+  read-right reading g load open_load x root hands =
+      let after = frames-stay v.types load.key reading.node_type s.core.stored s'.core.stored trees trees' s.core.last.node reading.frames stored same (given-nodes reading.frames g.held) fit in
+      root-right lawful readable s' trees' reading x load.key whole' stands' after root owned
+    where
+      fit : FramesFit v.types s.core.stored trees load.key reading.node_type reading.frames
+      fit = g.fits load open_load
 
+      owned : (r : ArcRef) → Among (v.references x) r → IsReference s'.core Owner.Caller r
+      owned r among =
+          let here = subst (λ fs. FramesFit v.types s.core.stored trees load.key reading.node_type fs) root.frames fit in
+          let fits = first-fits v.types load.key reading.node_type s.core.stored trees root.root [] here in
+          let got = (decodes lawful readable root.root x fits root.decoded).got r among in
+          let front : Among reading.frames root.root = subst (λ fs. Among fs root.root) (sym root.frames) (zero, refl) in
+          let moved = hands.each r among in
+          let row : HandleRow = moved.0 in
+          let there = g.held root.root r front got in
+          let stood = there.is row moved.1 moved.2 in
+          let live = row-held s'.core r.handle (record row { owner = Owner.Caller }) moved.3 in
+          let typed : type_at s'.core r.node.0 ≡ Some (trees' r.node.0).type = stands'.typed r.node.0 (subst (λ (n : NodeNumber). 0 < held n.0 s'.core.rows) stood.0 live) in
+          let kept : trees' r.node.0 ≡ trees r.node.0 = same r.node.0 there.node_given in
+          record { row = record row { owner = Owner.Caller }; live = moved.3; at = stood.0; owned = refl; fits = stood.1; typed = typed ∙ ap (λ (t : Tree). Some t.type) kept ∙ ap (λ (t : ℕ). Some t) (got-typed root.root fits r got) }
+
+module _ {N E B W : Type 0} (m : Seen N B W) (lawful : IsLawful m.values) (readable : ReadsItsTypes m.values.types) (s s' : MachineState N E) (trees trees' : ℕ → Tree)
+    (whole : IsMachineWhole m.values s) (whole' : IsMachineWhole m.values s') (readings : (reading : Reading) → IsReadingOf s.work reading → Going m.values s.pager trees reading)
+    (same : SameTrees s.pager.core.last.node trees trees') (stands' : StandsFor m.values s' trees') where
   reading-right : (l : LoadNumber) (reply : LoadReply N) → LoadSteps m.values (world_of s) l reply (world_of s') → (reading : Reading) → reading_at (world_of s) l ≡ Some reading
       → (x : N) → ReadsRoot m.values reading x → HandsOver s.pager.core reading.load (m.values.references x) s'.pager.core → (load : OpenLoad)
       → s.pager.core.loads l.0 ≡ Some load → ReadIsRight m.values s'.pager load.key x
   reading-right l reply h reading at x root hands load open_load = elim (reading-stands (world_of s) whole.pager.whole l reading at) [
     | inr begun ↦ absurd (let e = sym begun.0 ∙ root.frames in cc)
     | inl there ↦
-        let is = of_caller l.0 there in
         let number : reading.load.0 ≡ l.0 = (whole.readings l.0 reading there).number in
-        let fit = stands.readings reading is load (ap s.pager.core.loads number ∙ open_load) in
         let stored = (reading-feels m s.pager.core Owner.Caller caller-free s'.pager.core h.reading reply.ended h.frames h.does).does.goes.stored in
-        let after = frames-stay m.values.types load.key reading.node_type s.pager.core.stored s'.pager.core.stored trees trees' s.pager.core.last.node reading.frames stored same
-        (given reading is).1 fit in
-        root-right lawful readable s'.pager trees' reading x load.key whole'.pager stands'.pager after root (owned reading is load.key fit x root hands)
+        read-right lawful readable s.pager s'.pager trees trees' same stored whole'.pager stands'.pager reading (readings reading (of_caller l.0 there)) load (ap s.pager.core.loads number ∙ open_load) x root hands
   ]
 
   pub reads-give : (event : Event N B W) (reply : EventReply N B W) → Does m s event reply s' → ReadGives m.values s trees event reply s' trees'

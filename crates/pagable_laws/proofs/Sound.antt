@@ -12,7 +12,7 @@ use Rattle.pagable_laws.proofs.Words.{LoadSteps, Happens, IsOfHandles, LoadIsFau
 use Rattle.pagable_laws.proofs.Words.{after_kinds, LeadsDown, is-there, goes-down, ReadsTooDeep, IsReadingOf, of_worker, LoadIsDeep, DeepLoadLaw}
 use Rattle.pagable_laws.proofs.{Trees.same_some, Fitting.{asked, first-typed}}
 use Rattle.pagable_laws.proofs.{Apart.{IsFormOf, GotAsked, FramesAsked, NextOf, asks-known, all-read, next-known, all-got}, ReadingStepsKinds.{kinds_of, asks-by-kinds, faulty-by-kinds}}
-use Rattle.pagable_laws.proofs.{Sums.self-number, Taking.adopted-over, KnownSteps.{ReadingsAsked, eager-nested}, Chains.IsGoingOn, Deeply.along-first, ReadingSteps.reading-stands}
+use Rattle.pagable_laws.proofs.{Sums.self-number, Taking.adopted-over, KnownSteps.{eager-nested}, Chains.IsGoingOn, Deeply.along-first, ReadingSteps.reading-stands}
 use Rattle.std.{proofs.Common.rules}
 use Rattle.pagable_world.specs.{Loads.Does}
 use Rattle.pagable_world.specs.Workers as workers
@@ -233,7 +233,7 @@ pub data Cause {N : Type 0} (v : Values N) (w : Core) (load : OpenLoad) (reading
 
 module _ {N B W E : Type 0} (m : Seen N B W) (s : MachineState N E) (trees : ℕ → Tree) (whole : IsMachineWhole m.values s) (stands : StandsFor m.values s trees) (lawful : IsLawful m.values)
     (readable : ReadsItsTypes m.values.types)
-    (fit : WorkFits m.values s trees) (got : ReadingsAsked m.values.types (world_of s)) where
+    (fit : WorkFits m.values s trees) (got : (reading : Reading) → IsReadingOf s.work reading → FramesAsked m.values.types reading.frames) where
   abbrev v : Values N
   v = m.values
 
@@ -413,7 +413,7 @@ module _ {N B W E : Type 0} (m : Seen N B W) (lawful : IsLawful m.values) (reada
       → Cause m.values s.pager.core load x.reading e
   load-cause l reply x load e open_load paged is =
       let fails = subst (λ a. Does m.values s.pager.core Owner.Caller x.reading a x.frames s'.pager.core) is x.does.does in
-      cause m s trees on.whole on.stands lawful readable on.fits on.asked l x.reading load x.at x.may open_load paged s'.pager.core e fails.0
+      cause m s trees on.whole on.stands lawful readable on.fits (λ r is. (on.readings r is).asked) l x.reading load x.at x.may open_load paged s'.pager.core e fails.0
 
   load-faultless : (event : Event N B W) (reply : EventReply N B W) → Happens m (world_of s) event reply (world_of s') → LoadIsFaultless s trees event reply s' trees'
   load-faultless (Event.LoadStep l) (EventReply.LoadMoved (Ok reply)) is = λ load e open_load paged ended. elim (load-cause l reply is.moves load e open_load paged ended) [
@@ -538,7 +538,7 @@ module _ {N B W E : Type 0} (m : Seen N B W) (lawful : IsLawful m.values) (s s' 
       → Fails m.values s.pager.core me reading Error.TooDeep w'
       → ReadsTooDeep m.values.types s.pager.core.stored reading.node_type load.key
   by-reading me reading load is open_load w' fails =
-      fails-deep m lawful s.pager.core me reading trees load.key reading.node_type (on.stands.readings reading is load open_load) (on.asked reading is) w' fails
+      fails-deep m lawful s.pager.core me reading trees load.key reading.node_type (on.stands.readings reading is load open_load) (on.readings reading is).asked w' fails
 
   load-deep : (event : Event N B W) (reply : EventReply N B W) → Happens m (world_of s) event reply (world_of s') → LoadIsDeep m.values s trees event reply s' trees'
   unfolding FramesFit FramesAsked

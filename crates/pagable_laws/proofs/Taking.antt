@@ -4,7 +4,9 @@ use Rattle.pagable_laws.proofs.Words.{Owner, OptionalDataKey, ArcRef, Kind, Hand
 use Rattle.pagable_laws.proofs.Words.{Frame, Reading, row_at, Values, IsLawful, IsReference, Next, need_at, to_adopt, ReadsRoot, ReadsNode, root_frame, nested_frame, with_got, PagerState}
 use Rattle.pagable_laws.proofs.Words.{HandlesAreWhole, IsWhole, WellFormed, NodeStands, ValueStands, ReadsNodeTree, FramesFit, SameTrees, Represents, ReadsItsTypes, GivesTree, ReadIsRight, Change}
 use Rattle.pagable_laws.proofs.Words.{bears_known, CoreGoes, ReadingFeels, reads-root, reads-blob, gets-known, gets-lazy, makes-known, makes-node, reading-ends, Decoded, FramesGiven}
-use Rattle.pagable_laws.proofs.{Fitting.{node-stays, first-fits, first-typed, frames-stay, got-given, made-fits, needed-fits, nested-fits, root-fits}, Decoding.{decodes, read_stands}}
+use Rattle.pagable_laws.proofs.{Fitting.{node-stays, first-fits, first-typed, frames-stay, pushed, made-fits, needed-fits, nested-fits, root-fits}, Decoding.{decodes, read_stands}}
+use Rattle.pagable_laws.proofs.Words.{◌++◌, ap, inl, slice_get, gone_on, GetsRow, GotStands, FramesHeld, LoadNumber, ReadingFits, ChangeFits, Needs}
+use Rattle.pagable_laws.proofs.{Apart.FramesAsked, KnownSteps.{needed-asked, nested-asked, made-asked, none-asked, root-asked}}
 use Rattle.pagable_laws.proofs.{Following.{cell-of, given-of}, Outlasting.among-found, Sums.{at-most-sum, self-number}, Trees.same_some}
 
 -- ---- a live handle's node
@@ -56,20 +58,53 @@ pub record AtStep {N : Type 0} (v : Values N) (c : Change) (w w' : Core) (trees 
   pub cache : (kind key n : ℕ) → w.cache kind key ≡ Some n → ReadsNodeTree v.types w.stored trees key (type_of kind) n
   pub born : (kind key : ℕ) (own : OptionalDataKey) → c ≡ bears_known kind key own → ReadsNodeTree v.types w'.stored trees' key (type_of kind) (w.last.node + 1)
 
--- the frames fit, and what they got was given
-pub record FitAfter {N : Type 0} (v : Values N) (w : Core) (trees : ℕ → Tree) (root_key root_type : ℕ) (frames : List Frame) : Type 0 where
+-- ---- what a load got names nodes as it should
+
+none-held : (w : Core) (l : LoadNumber) (frames : List Frame) → frames ≡ [] → FramesHeld w l frames
+none-held w l frames none frame r among got = let there = subst (λ fs. Among fs frame) none among in absurd (let e = there.1 in cc)
+
+new-held : {w : Core} {l : LoadNumber} (frame : Frame) (frames : List Frame) → frame.got ≡ [] → FramesHeld w l frames → FramesHeld w l (frame ∷ frames)
+new-held frame frames none held f r (zero, is) (place, there) = grind (arith, nat_tests)
+new-held frame frames none held f r (suc i, is) among = held f r (i, is) among
+
+frames-on : {c : Change} {w w' : Core} → CoreGoes c w w' → (l : LoadNumber) (frames : List Frame) → FramesHeld w l frames → FramesHeld w' l frames
+frames-on goes l frames held frame r among got =
+    let g = held frame r among got in
+    record {
+      given = let a = g.given in let b = goes.handles in omega (arith, a, b);
+      node_given = let a = g.node_given in let b = goes.nodes in omega (arith, a, b);
+      is = λ row live own. g.is row (goes.load_rows r.handle row l live own g.given) own;
+    }
+
+-- a reference that was got just now
+got-new : {w w' : Core} (l : LoadNumber) (kind : Kind) (n : ℕ) (row : HandleRow) → HandlesAreWhole w' → GetsRow w w' kind n row
+    → GotStands w' l (record { kind = kind; node = row.node; handle = row.number })
+got-new l kind n row whole g = grind (arith, nat_tests, row-given)
+
+with-held : {w : Core} {l : LoadNumber} (frames : List Frame) (kind : Kind) (row : HandleRow) → GotStands w l (record { kind = kind; node = row.node; handle = row.number })
+    → FramesHeld w l frames → FramesHeld w l (with_got kind row frames)
+with-held [] kind row new held frame r (i, is) got = absurd (cc)
+with-held {w} {l} (top ∷ below) kind row new held frame r (zero, is) (place, there) =
+    let got_is : frame.got ≡ top.got ++ record { kind = kind; node = row.node; handle = row.number } ∷ [] = cc in
+    elim (pushed top.got _ place r (subst (λ (rs : List ArcRef). slice_get rs place ≡ Some r) got_is there)) [
+      | inl old ↦ held top r (zero, refl) (place, old)
+      | inr at ↦ subst (λ (z : ArcRef). GotStands w l z) at.1 new
+    ]
+with-held (top ∷ below) kind row new held frame r (suc i, is) got = held frame r (suc i, is) got
+
+-- ---- all of it
+
+-- what was read fits, what was got names nodes as it should, and was asked for
+pub record FitAfter {N : Type 0} (v : Values N) (w : Core) (trees : ℕ → Tree) (l : LoadNumber) (root_key root_type : ℕ) (frames : List Frame) : Type 0 where
   pub fit : FramesFit v.types w.stored trees root_key root_type frames
-  pub given : FramesGiven w.last.node frames
+  pub held : FramesHeld w l frames
+  pub asked : FramesAsked v.types frames
 
-new-given : (last : ℕ) (frame : Frame) (frames : List Frame) → frame.got ≡ [] → FramesGiven last frames → FramesGiven last (frame ∷ frames)
-new-given last frame frames none_got given f r (zero, is) (place, there) = grind (arith, nat_tests)
-new-given last frame frames none_got given f r (suc i, is) among = given f r (i, is) among
+abbrev pub FitOf : {N : Type 0} → Values N → Core → (ℕ → Tree) → Reading → OpenLoad → List Frame → Type 0
+FitOf v w trees reading load frames = FitAfter v w trees reading.load load.key reading.node_type frames
 
-module _ {N : Type 0} {v : Values N} {w' : Core} {trees' : ℕ → Tree} (k t : ℕ) where
-  fit-got : (frames : List Frame) (kind : Kind) (row : HandleRow) → HandlesAreWhole w' → row_at w' row.number ≡ Some row → FramesGiven w'.last.node frames
-      → FramesFit v.types w'.stored trees' k t (with_got kind row frames)
-      → FitAfter v w' trees' k t (with_got kind row frames)
-  fit-got frames kind row whole live given fit = record { fit = fit; given = got-given w'.last.node w'.last.node frames kind row given (omega arith) (row-given whole row.number row live) }
+pub given-nodes : {w : Core} {l : LoadNumber} (frames : List Frame) → FramesHeld w l frames → FramesGiven w.last.node frames
+given-nodes frames held frame r among got = (held frame r among got).node_given
 
 module _ {N : Type 0} {v : Values N} {w w' : Core} {trees trees' : ℕ → Tree} where
   known-reads : {c : Change} → AtStep v c w w' trees trees' → (kind : Kind) (key n : ℕ) (row : HandleRow) → w.cache kind.0 key ≡ Some n → row.node.0 ≡ n
@@ -82,46 +117,127 @@ module _ {N : Type 0} {v : Values N} {w w' : Core} {trees trees' : ℕ → Tree}
       → ReadsNodeTree v.types w'.stored trees' key (type_of kind.0) row.node.0
   born-reads h kind key own row is at = subst (λ m. ReadsNodeTree v.types w'.stored trees' key (type_of kind.0) m) (sym at) (h.born kind.0 key own is)
 
-  -- what it had read fits still
-  pub fit-still : {c : Change} {k t : ℕ} {frames : List Frame} → AtStep v c w w' trees trees' → FitAfter v w trees k t frames → FitAfter v w' trees' k t frames
-  fit-still {k = k} {t} {frames} h f =
-      record {
-        fit = frames-stay v.types k t w.stored w'.stored trees trees' w.last.node frames h.goes.stored h.same f.given f.fit;
-        given = λ frame r among got. let a = f.given frame r among got in let b = h.goes.nodes in omega (arith, a, b);
-      }
+  module _ (l : LoadNumber) (k t : ℕ) {c : Change} (h : AtStep v c w w' trees trees') where
+    abbrev Now : List Frame → Type 0
+    Now frames = FitAfter v w' trees' l k t frames
 
-  module _ (k t : ℕ) where
-    fit-made : {c : Change} → AtStep v c w w' trees trees' → (reading : Reading) (x : N) (made : ReadsNode v reading x) (row : HandleRow) → row_at w' row.number ≡ Some row
-        → ReadsNodeTree v.types w'.stored trees' made.top.key (type_of made.top.kind.0) row.node.0 → FitAfter v w' trees' k t reading.frames
-        → FitAfter v w' trees' k t (with_got made.top.kind row made.below)
-    fit-made h reading x made row live read f =
-        let g = subst (λ fs. FitAfter v w' trees' k t fs) made.frames f in
-        let under : FramesGiven w'.last.node made.below = λ frame r among got. g.given frame r (suc among.0, among.1) got in
-        fit-got k t made.below made.top.kind row h.after.handles live under (made-fits v.types k t w'.stored trees' made.top made.below row g.fit read)
+    -- what it had read fits still
+    pub fit-still : (frames : List Frame) → FitAfter v w trees l k t frames → Now frames
+    fit-still frames f =
+        record {
+          fit = frames-stay v.types k t w.stored w'.stored trees trees' w.last.node frames h.goes.stored h.same (given-nodes frames f.held) f.fit;
+          held = frames-on h.goes l frames f.held;
+          asked = f.asked;
+        }
+
+    fit-got : (frames : List Frame) (kind : Kind) (key n : ℕ) (row : HandleRow) → Needs v.types frames kind key → GetsRow w w' kind n row
+        → ReadsNodeTree v.types w'.stored trees' key (type_of kind.0) row.node.0 → Now frames → Now (with_got kind row frames)
+    fit-got frames kind key n row needs got read f =
+        record {
+          fit = needed-fits v.types k t w'.stored trees' frames kind key row f.fit needs read;
+          held = with-held frames kind row (got-new l kind n row h.after.handles got) f.held;
+          asked = needed-asked v.types frames kind key row f.asked needs;
+        }
+
+    fit-made : (reading : Reading) (x : N) (made : ReadsNode v reading x) (n : ℕ) (row : HandleRow) → GetsRow w w' made.top.kind n row
+        → ReadsNodeTree v.types w'.stored trees' made.top.key (type_of made.top.kind.0) row.node.0 → Now reading.frames → Now (with_got made.top.kind row made.below)
+    fit-made reading x made n row got read f =
+        let g = subst Now made.frames f in
+        record {
+          fit = made-fits v.types k t w'.stored trees' made.top made.below row g.fit read;
+          held = with-held made.below made.top.kind row (got-new l made.top.kind n row h.after.handles got) (λ frame r among there. g.held frame r (suc among.0, among.1) there);
+          asked = made-asked v.types made.top made.below row g.asked;
+        }
+
+  felt-after : (reading : Reading) (load : OpenLoad) (frames : List Frame) {c : Change} → AtStep v c w w' trees trees' → w.loads reading.load.0 ≡ Some load
+      → ReadingFeels v w reading None frames w' c → FitOf v w' trees' reading load reading.frames → FitOf v w' trees' reading load frames
+  felt-after reading load frames h open_load (reads-root l blob none_read at stored answer is) g =
+      let same : l ≡ load = same_some _ _ (sym at ∙ open_load) in
+      subst (FitOf v w' trees' reading load) (sym (is ∙ ap (λ (z : OpenLoad). root_frame z.key reading.node_type blob ∷ []) same)) (record {
+        fit = root-fits v.types load.key reading.node_type w'.stored trees' blob (h.goes.stored load.key blob (subst (λ (z : OpenLoad). w.stored z.key ≡ Some blob) same stored));
+        held = new-held (root_frame load.key reading.node_type blob) [] refl (none-held w' reading.load [] refl);
+        asked = root-asked v.types load.key reading.node_type blob;
+      })
+  felt-after reading load frames h open_load (reads-blob kind key blob needs stored answer is) g = subst (FitOf v w' trees' reading load) (sym is) (record {
+    fit = nested-fits v.types load.key reading.node_type w'.stored trees' reading.frames kind key blob g.fit needs (h.goes.stored key blob stored);
+    held = new-held (nested_frame kind key blob) reading.frames refl g.held;
+    asked = nested-asked v.types reading.frames kind key blob g.asked needs;
+  })
+  felt-after reading load frames h open_load (gets-known kind key n row needs known got answer is) g =
+      subst (FitOf v w' trees' reading load) (sym is) (fit-got reading.load load.key reading.node_type h reading.frames kind key n row needs got (known-reads h kind key n row known got.at) g)
+  felt-after reading load frames h open_load (gets-lazy kind key row needs got answer is) g =
+      subst (FitOf v w' trees' reading load) (sym is) (fit-got reading.load load.key reading.node_type h reading.frames kind key _ row (inr needs) got (born-reads h kind key _ row refl got.at) g)
+  felt-after reading load frames h open_load (makes-known x made n row known got answer is) g =
+      subst (FitOf v w' trees' reading load) (sym is) (fit-made reading.load load.key reading.node_type h reading x made n row got (known-reads h made.top.kind made.top.key n row known got.at) g)
+  felt-after reading load frames h open_load (makes-node x made row got answer is) g =
+      subst (FitOf v w' trees' reading load) (sym is) (fit-made reading.load load.key reading.node_type h reading x made _ row got (born-reads h made.top.kind made.top.key _ row refl got.at) g)
+  felt-after reading load frames h open_load (reading-ends end answer is) g = absurd (cc)
 
   -- After a load's step all that it reads fits.
   pub fit-after : (reading : Reading) (load : OpenLoad) (frames : List Frame) {c : Change} → AtStep v c w w' trees trees' → w.loads reading.load.0 ≡ Some load
-      → FitAfter v w trees load.key reading.node_type reading.frames → ReadingFeels v w reading None frames w' c → FitAfter v w' trees' load.key reading.node_type frames
-  fit-after reading load frames h open_load f (reads-root l blob none_read at stored answer is) = grind (arith, nat_tests, same_some, root_frame, root-fits, new-given)
-  fit-after reading load frames h open_load f (reads-blob kind key blob needs stored answer is) =
-      let g = fit-still h f in
-      let fit = nested-fits v.types load.key reading.node_type w'.stored trees' reading.frames kind key blob g.fit needs (h.goes.stored key blob stored) in
-      subst (λ fs. FitAfter v w' trees' load.key reading.node_type fs) (sym is) (record { fit = fit; given = new-given w'.last.node (nested_frame kind key blob) reading.frames refl g.given })
-  fit-after reading load frames h open_load f (gets-known kind key n row needs known got answer is) =
-      let g = fit-still h f in
-      let fit = needed-fits v.types load.key reading.node_type w'.stored trees' reading.frames kind key row g.fit needs (known-reads h kind key n row known got.at) in
-      subst (λ fs. FitAfter v w' trees' load.key reading.node_type fs) (sym is) (fit-got load.key reading.node_type reading.frames kind row h.after.handles got.live g.given fit)
-  fit-after reading load frames h open_load f (gets-lazy kind key row needs got answer is) =
-      let g = fit-still h f in
-      let fit = needed-fits v.types load.key reading.node_type w'.stored trees' reading.frames kind key row g.fit (inr needs) (born-reads h kind key _ row refl got.at) in
-      subst (λ fs. FitAfter v w' trees' load.key reading.node_type fs) (sym is) (fit-got load.key reading.node_type reading.frames kind row h.after.handles got.live g.given fit)
-  fit-after reading load frames h open_load f (makes-known x made n row known got answer is) =
-      let read = known-reads h made.top.kind made.top.key n row known got.at in
-      subst (λ fs. FitAfter v w' trees' load.key reading.node_type fs) (sym is) (fit-made load.key reading.node_type h reading x made row got.live read (fit-still h f))
-  fit-after reading load frames h open_load f (makes-node x made row got answer is) =
-      let read = born-reads h made.top.kind made.top.key _ row refl got.at in
-      subst (λ fs. FitAfter v w' trees' load.key reading.node_type fs) (sym is) (fit-made load.key reading.node_type h reading x made row got.live read (fit-still h f))
-  fit-after reading load frames h open_load f (reading-ends end answer is) = absurd (cc)
+      → FitAfter v w trees reading.load load.key reading.node_type reading.frames → ReadingFeels v w reading None frames w' c → FitOf v w' trees' reading load frames
+  fit-after reading load frames h open_load f feels = felt-after reading load frames h open_load feels (fit-still reading.load load.key reading.node_type h reading.frames f)
+
+-- ---- a reading, where the pager stands for trees
+
+pub record Going {N E : Type 0} (v : Values N) (s : PagerState N E) (trees : ℕ → Tree) (reading : Reading) : Type 0 where
+  pub within : reading.load.0 ≤ s.core.last.load
+  pub fits : ReadingFits v s trees reading
+  pub held : FramesHeld s.core reading.load reading.frames
+  pub asked : FramesAsked v.types reading.frames
+
+-- one that has just begun
+pub going-new : {N E : Type 0} {v : Values N} (s : PagerState N E) (trees : ℕ → Tree) (reading : Reading) → reading.frames ≡ [] → reading.load.0 ≤ s.core.last.load → Going v s trees reading
+unfolding FramesFit
+going-new {v = v} s trees reading none within =
+    record {
+      within = within;
+      fits = λ load is. subst (λ fs. FramesFit v.types s.core.stored trees load.key reading.node_type fs) (sym none) tt;
+      held = none-held s.core reading.load reading.frames none;
+      asked = none-asked v.types reading.frames none;
+    }
+
+module _ {N E : Type 0} {v : Values N} {s s' : PagerState N E} {trees trees' : ℕ → Tree} {comes : ℕ → N → Type 0} {c : Change} (whole : WellFormed v s) (whole' : WellFormed v s')
+    (stands : Represents v s trees) (goes : CoreGoes c s.core s'.core) (fits : ChangeFits v c comes s s' trees trees') where
+  at-step : AtStep v c s.core s'.core trees trees'
+  at-step =
+      record {
+        goes = goes;
+        same = fits.same;
+        before = whole.whole;
+        after = whole'.whole;
+        cache = stands.cache;
+        born = λ kind key own is. let f = subst (λ z. ChangeFits v z comes s s' trees trees') is fits in f.knows kind key (s.core.last.node + 1) (refl, refl, refl);
+      }
+
+  -- a load that is open afterwards and was given was open before
+  pub was-open : (l : ℕ) (load : OpenLoad) → l ≤ s.core.last.load → s'.core.loads l ≡ Some load → s.core.loads l ≡ Some load
+  was-open l load within is = elim (goes.loads l load is) [ inl was ↦ was | inr (above, begins) ↦ absurd (omega (arith, within, above)) ]
+
+  still-within : (l : ℕ) → l ≤ s.core.last.load → l ≤ s'.core.last.load
+  still-within l within = let a = goes.loads_last in omega (arith, a, within)
+
+  pub going-on : (reading : Reading) → Going v s trees reading → Going v s' trees' reading
+  going-on reading g =
+      record {
+        within = still-within reading.load.0 g.within;
+        fits = λ load is. let was = was-open reading.load.0 load g.within is in
+            (fit-still reading.load load.key reading.node_type at-step reading.frames (record { fit = g.fits load was; held = g.held; asked = g.asked })).fit;
+        held = frames-on goes reading.load reading.frames g.held;
+        asked = g.asked;
+      }
+
+  -- and where the load makes a step and goes on
+  pub going-step : (reading : Reading) (frames : List Frame) (load : OpenLoad) → s.core.loads reading.load.0 ≡ Some load → Going v s trees reading
+      → ReadingFeels v s.core reading None frames s'.core c → Going v s' trees' (gone_on reading frames)
+  going-step reading frames load opened g feels =
+      let after = fit-after reading load frames at-step opened (record { fit = g.fits load opened; held = g.held; asked = g.asked }) feels in
+      record {
+        within = still-within reading.load.0 g.within;
+        fits = λ other at. subst (λ (z : OpenLoad). FramesFit v.types s'.core.stored trees' z.key reading.node_type frames) (same_some _ _ (sym opened ∙ was-open reading.load.0 other g.within at)) after.fit;
+        held = after.held;
+        asked = after.asked;
+      }
 
 -- ---- what is read
 

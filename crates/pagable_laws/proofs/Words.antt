@@ -75,11 +75,11 @@ pub use Rattle.pagable_laws.specs.PageOutLaws.{IsLow, AllLow, IsAttained, place_
 pub use Rattle.pagable_laws.specs.PageOutLaws.{ground_of, Walks, WorkFits, Ground, WroteTree, BlobStands, SlotFits, Expects, Above, HasBlob, SlotsFit, FollowsTo, number-follows, integer-follows}
 pub use Rattle.pagable_laws.specs.{PageOutLaws.{text-follows, pattern-follows, none-follows, pair-follows, variant-follows, reference-follows, KeyStands, IsOfEntry, IsDone}, ReadLaws.Needs}
 pub use Rattle.pagable_laws.specs.ReadLaws.{KeepsStored, FramesGiven, ValueLeads, LeadsTo, number-leads, integer-leads, text-leads, pattern-leads, none-leads, pair-leads, variant-leads}
-pub use Rattle.pagable_laws.specs.{ReadLaws.{followed-leads, reference-leads, Decoded}, ReadRuns.{ReadingsHeld, FramesHeld, GotStands}, Rows.{NumbersAreSpelled, NumbersAreRead, CasesAreSpelled}}
+pub use Rattle.pagable_laws.specs.{ReadLaws.{followed-leads, reference-leads, Decoded}, ReadRuns.{FramesHeld, GotStands}, Rows.{NumbersAreSpelled, NumbersAreRead, CasesAreSpelled}}
 pub use Rattle.pagable_laws.specs.Rows.{ListsAreSpelled, MapsAreRead, JsonIsRead, KeysAreWeighed, TextsAreRead, DurationsAreRead, NamedTypesAreRead, RegistriesAreRead, ReferencesTakeKeys}
 pub use Rattle.pagable_laws.specs.{Rows.{UnknownTagsAreWritten, TreesHaveKeys, ShapesAreMet, only_cat, chain, no_parts, cats}, RunLaws.{ChainsJoin, NewIsWhole, NextIsOneOf}, SmallWorlds.no_work}
 pub use Rattle.pagable_laws.specs.{SmallWorlds.{two_rows, are_two, outer, first, first_node, lone, lone_listed, lone_unlisted, new_pager, new_machine}, TreeLaws.{IsOneKey, IsOneItemKey, IsStoredKey}}
-pub use Rattle.pagable_laws.specs.{TreeLaws.{IsTreeReadable, IsKeyOfOneTree, StaysInside, IsCanonicalInside, IsOneTree, IsLongestPath}, TreeRuns.{ChangeFits, ReadingsGiven, TreesAfterEvent}}
+pub use Rattle.pagable_laws.specs.{TreeLaws.{IsTreeReadable, IsKeyOfOneTree, StaysInside, IsCanonicalInside, IsOneTree, IsLongestPath}, TreeRuns.ChangeFits}
 pub use Rattle.pagable_laws.specs.TreeSteps.{Change, nothing_felt, bears_known, ReadingFeels, reads-root, reads-blob, gets-known, gets-lazy, makes-known, makes-node, reading-ends, sets_key, IsFresh}
 pub use Rattle.pagable_laws.specs.TreeSteps.{CoreGoes, EventFeels, by-call, by-reading, by-key, by-nothing, KeepsReadings, KeysAreReady, StepFeels, knows_node, bears_node, StaysAway, AreGood}
 pub use Rattle.pagable_laws.specs.TreeSteps.{CallFeels, feels-nothing, feels-birth, feels-away, feels-key, feels-known, feels-adopted, feels-lazy, feels-end, HandsOver, ReadHolds, IsSteppedReading}

@@ -1,7 +1,7 @@
 -- What a change brings to trees, and trees after an event.
-use Rattle.std.specs.Prelude.{◌≤◌, ℕ, ◌≡◌, ◌+◌, Some, None}
-use Rattle.pagable_world.specs.{Plain.{Tree, ReadsTree, OptionalDataKey, type_of}, World.{Values, Reading}, Pager.{MachineState, StandsFor, IsReadingOf, PagerState, SameTrees, ReadsNodeTree}}
-use Rattle.pagable_laws.specs.{ReadLaws.{ValueLeads, FramesGiven}, TreeSteps.{Change, Sets, Knows, Bears}}
+use Rattle.std.specs.Prelude.{ℕ, ◌≡◌, ◌+◌, Some, None}
+use Rattle.pagable_world.specs.{Plain.{Tree, ReadsTree, OptionalDataKey, type_of}, World.Values, Pager.{PagerState, SameTrees, ReadsNodeTree}}
+use Rattle.pagable_laws.specs.{ReadLaws.ValueLeads, TreeSteps.{Change, Sets, Knows, Bears}}
 
 -- What a change brings fits the trees afterwards: the key that is set, the key of a new node, what becomes known, and each value that comes.
 pub record ChangeFits {N E : Type 0} (v : Values N) (c : Change) (comes : ℕ → N → Type 0) (s s' : PagerState N E) (trees trees' : ℕ → Tree) : Type 0 where
@@ -11,14 +11,3 @@ pub record ChangeFits {N E : Type 0} (v : Values N) (c : Change) (comes : ℕ �
   pub keyed : (t key : ℕ) → Bears c t (OptionalDataKey.Some key) → ReadsTree s'.core.stored v.types key (trees' (s.core.last.node + 1))
   pub knows : (kind key n : ℕ) → Knows c s.core kind key n → ReadsNodeTree v.types s'.core.stored trees' key (type_of kind) n
   pub comes_well : (n : ℕ) (x : N) → comes n x → s.values n ≡ None → s'.values n ≡ Some x → ValueLeads v trees' x (trees' n)
-
--- The load of each reading was given, and so were the nodes of what it got.
-abbrev pub ReadingsGiven : {N E : Type 0} → MachineState N E → Type 0
-ReadingsGiven s = (reading : Reading) → IsReadingOf s.work reading → (reading.load.0 ≤ s.pager.core.last.load) × FramesGiven s.pager.core.last.node reading.frames
-
--- trees after an event for which the machine stands, where each node that was made keeps its tree
-pub record TreesAfterEvent {N E : Type 0} (v : Values N) (s s' : MachineState N E) (trees : ℕ → Tree) : Type 0 where
-  pub after : ℕ → Tree
-  pub keeps : SameTrees s.pager.core.last.node trees after
-  pub stands : StandsFor v s' after
-  pub given : ReadingsGiven s'
