@@ -116,3 +116,26 @@ module _ (types : Types) (root_key root_type : ℕ) where
     pub first-typed : (top frame : Frame) (below : List Frame) → FramesFit types stored trees root_key root_type (top ∷ frame ∷ below) → top.node_type ≡ type_of top.kind.0
     unfolding FramesFit
     first-typed top frame below h = h.1
+
+-- ---- what holds of each reference that was got
+
+abbrev pub AllGot : (ArcRef → Type 0) → List Frame → Type 0
+AllGot P frames = (frame : Frame) (r : ArcRef) → Among frames frame → Among frame.got r → P r
+
+module _ (P : ArcRef → Type 0) where
+  pub all-none : (frames : List Frame) → frames ≡ [] → AllGot P frames
+  all-none frames none frame r among got = let there = subst (λ fs. Among fs frame) none among in absurd (let e = there.1 in cc)
+
+  pub all-new : (frame : Frame) (frames : List Frame) → frame.got ≡ [] → AllGot P frames → AllGot P (frame ∷ frames)
+  all-new frame frames none all f r (zero, is) (place, there) = grind (arith, nat_tests)
+  all-new frame frames none all f r (suc i, is) among = all f r (i, is) among
+
+  pub all-more : (frames : List Frame) (kind : Kind) (row : HandleRow) → P (record { kind = kind; node = row.node; handle = row.number }) → AllGot P frames → AllGot P (with_got kind row frames)
+  all-more [] kind row new all frame r (i, is) got = absurd (cc)
+  all-more (top ∷ below) kind row new all frame r (zero, is) (place, there) =
+      let got_is : frame.got ≡ top.got ++ record { kind = kind; node = row.node; handle = row.number } ∷ [] = cc in
+      elim (pushed top.got _ place r (subst (λ (rs : List ArcRef). slice_get rs place ≡ Some r) got_is there)) [
+        | inl old ↦ all top r (zero, refl) (place, old)
+        | inr at ↦ subst P at.1 new
+      ]
+  all-more (top ∷ below) kind row new all frame r (suc i, is) got = all frame r (suc i, is) got

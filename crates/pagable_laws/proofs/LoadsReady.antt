@@ -1,12 +1,13 @@
 -- What a load has got stays live and the load's own, each handle once, as long as the load makes its own steps; and so does the handle that began it.
-use Rattle.pagable_laws.proofs.Words.{nat_tests, ◌≡◌, ℕ, zero, suc, ◌+◌, ◌<◌, ◌≤◌, ◌==◌, ◌||◌, Bool, true, false, List, [], ◌∷◌, ◌++◌, Some, inl, inr, refl, sym, ap, subst, ◌∙◌, if◌then◌else◌, arith}
-use Rattle.pagable_laws.proofs.Words.{slice_get, sum_by, sum_by-cons, sum_by_push, HandleRow, Owner, ArcRef, Kind, HandleNumber, LoadNumber, NodeNumber, OptionalDataKey, Among, type_of, one}
+use Rattle.pagable_laws.proofs.Words.{nat_tests, ◌≡◌, ℕ, zero, suc, ◌+◌, ◌<◌, ◌≤◌, ◌==◌, Bool, true, false, List, [], ◌∷◌, ◌++◌, Some, inl, inr, refl, sym, ap, subst, ◌∙◌, if◌then◌else◌, arith}
+use Rattle.pagable_laws.proofs.Words.{sum_by, sum_by-cons, sum_by_push, HandleRow, Owner, ArcRef, Kind, HandleNumber, LoadNumber, NodeNumber, OptionalDataKey, Among, type_of, one}
 use Rattle.pagable_laws.proofs.Words.{times, mode_of, Core, OpenLoad, of_cell, Frame, Alike, row_at, row_of, with_handle, with_node, next_node, is_named_by, Asked, adopted, GetsKnown, with_got}
 use Rattle.pagable_laws.proofs.{Words.{HandlesAreWhole, Tree, find_row, Reading, Values, IsLawful, nested_frame, GoesOn, GetsLazy, MakesNode, FramesFit, ReadsItsTypes, FramesHeld}, Outlasting.Stands}
-use Rattle.pagable_laws.proofs.{Outlasting.{AreUpTo, stands-alike, stands-changed, stands-new, among-changed, NotValues, stands-whole, stands-fell}, Apart.AreApart, Fitting.pushed}
+use Rattle.pagable_laws.proofs.{Outlasting.{AreUpTo, stands-alike, stands-new, among-changed, NotValues, stands-whole, stands-fell}, Apart.AreApart, Fitting.{AllGot, all-new, all-more}}
 use Rattle.pagable_laws.proofs.{Fitting.first-fits, Goes.{found-number}, ReadingSteps.cached-rows, Sums.{self-number, same-number, at-most-sum, sum-zero}}
-use Rattle.pagable_laws.proofs.{Effects.with-one, Outlasting.{new-handle, low-whole}, Decoding.decodes, GoodReferences.good, Trees.same_some}
-use Rattle.std.proofs.lemmas.Bool.{cases_Bool}
+use Rattle.pagable_laws.proofs.Words.{owner_value}
+use Rattle.pagable_laws.proofs.{Effects.{with-one, moved-free, named-among}, Outlasting.{new-handle, low-whole}, Decoding.decodes, GoodReferences.good, Trees.same_some}
+use Rattle.std.proofs.lemmas.Bool.{cases_Bool, false_from_ne_true}
 
 -- ---- each handle once
 
@@ -100,12 +101,7 @@ module _ (w w' : Core) where
 
     pub adopted-keeps : {q : ℕ} {row : HandleRow} → Alike known w' → is_named_by references q ≡ false → Stands w.last.handle w.rows q row → Stands w'.last.handle w'.rows q row
     adopted-keeps {q} {row} a free s =
-        let number = found-number q w.rows row s.live in
-        let turned = stands-changed (λ h. is_named_by references h.number.0) (λ h. record h { owner = Owner.Value (next_node w) }) (λ h. refl) s in
-        let off : is_named_by references row.number.0 ≡ false = ap (is_named_by references) number ∙ free in
-        let still : Stands w.last.handle born.rows q row =
-        subst (λ r. Stands w.last.handle born.rows q r) (ap (λ (b : Bool). if b then record row { owner = Owner.Value (next_node w) } else row) off) turned in
-        stands-alike a (to-known (with-one born (next_node w) (mode_of kind.0) (Owner.Load l) still))
+        stands-alike a (to-known (with-one born (next_node w) (mode_of kind.0) (Owner.Load l) (moved-free (Owner.Load l) (is_named_by references) (owner_value (w.last.node + 1)) free s)))
 
     pub adopted-new : HandlesAreWhole w → Alike known w' → Stands w'.last.handle w'.rows (w.last.handle + 1) (row_of (w.last.handle + 1) (next_node w) (mode_of kind.0) (Owner.Load l))
     adopted-new whole a =
@@ -123,40 +119,22 @@ module _ (w w' : Core) where
             number x false = refl
 
 pub not-named : (rs : List ArcRef) (q : ℕ) → ((g : ArcRef) → Among rs g → g.handle.0 ≡ q → ⊥) → is_named_by rs q ≡ false
-unfolding is_named_by
-not-named [] q none = refl
-not-named (r ∷ rs) q none = at (r.handle.0 == q) refl (not-named rs q (λ g among. none g (suc among.0, among.1)))
-  where
-    at : (b : Bool) → (r.handle.0 == q) ≡ b → is_named_by rs q ≡ false → ((r.handle.0 == q) || is_named_by rs q) ≡ false
-    at false e rest = rw (e, rest) refl
-    at true e rest = absurd (none r (0, refl) (same-number r.handle.0 q e))
+not-named rs q none = false_from_ne_true (is_named_by rs q) (λ e. let (r, among, same) = named-among rs q e in none r among same)
 
 -- ---- a step
 
 -- each handle that was got is live, and the load's
+abbrev pub IsLive : Core → LoadNumber → ArcRef → Type 0
+IsLive w l r = (row : HandleRow) × (row_at w r.handle ≡ Some row) × (row.owner ≡ Owner.Load l)
+
 abbrev pub Live : Core → LoadNumber → List Frame → Type 0
-Live w l frames = (frame : Frame) (r : ArcRef) → Among frames frame → Among frame.got r → (row : HandleRow) × (row_at w r.handle ≡ Some row) × (row.owner ≡ Owner.Load l)
+Live w l frames = AllGot (IsLive w l) frames
 
 -- The load's handles are its own, each got once; and the handle that began it is the caller's.
 pub record LoadReady (w : Core) (l : LoadNumber) (load : OpenLoad) (frames : List Frame) : Type 0 where
   pub begun : (node : NodeNumber) (t : ℕ) (h : HandleNumber) → load.root ≡ of_cell node t h → (row : HandleRow) × (row_at w h ≡ Some row) × (row.owner ≡ Owner.Caller)
   pub live : Live w l frames
   pub once : GotOnce frames
-
-pub live-new : (w : Core) (l : LoadNumber) (frame : Frame) (frames : List Frame) → frame.got ≡ [] → Live w l frames → Live w l (frame ∷ frames)
-live-new w l frame frames none live f r (zero, is) (place, there) = grind arith
-live-new w l frame frames none live f r (suc i, is) among = live f r (i, is) among
-
-pub live-got : (w : Core) (l : LoadNumber) (frames : List Frame) (kind : Kind) (row : HandleRow) → row_at w row.number ≡ Some row → row.owner ≡ Owner.Load l → Live w l frames
-    → Live w l (with_got kind row frames)
-live-got w l [] kind row there own live f r (i, is) among = absurd (cc)
-live-got w l (top ∷ below) kind row there own live f r (zero, is) (place, at) =
-    let got_is : f.got ≡ top.got ++ record { kind = kind; node = row.node; handle = row.number } ∷ [] = cc in
-    elim (pushed top.got _ place r (subst (λ (rs : List ArcRef). slice_get rs place ≡ Some r) got_is at)) [
-      | inl old ↦ live top r (zero, refl) (place, old)
-      | inr new ↦ (row, ap (λ (x : ArcRef). row_at w x.handle) (sym new.1) ∙ there, own)
-    ]
-live-got w l (top ∷ below) kind row there own live f r (suc i, is) among = live f r (suc i, is) among
 
 -- A load's own step leaves it ready: what it has got is its own, and the caller has the handle that began it.
 
@@ -205,7 +183,7 @@ module _ {N : Type 0} (v : Values N) (lawful : IsLawful v) (readable : ReadsItsT
       let owned : row.owner ≡ Owner.Load l = ap (λ (x : HandleRow). x.owner) same ∙ own in
       record {
         begun = begun-on callers;
-        live = live-got w' l fs kind row there owned (live-on fs kept live);
+        live = all-more (IsLive w' l) fs kind row (row, there, owned) (live-on fs kept live);
         once = once-got fs kind row (λ frame r among got. let lt = below frame r among got in omega (arith, lt, number, next)) once;
       }
 
@@ -297,13 +275,13 @@ module _ {N : Type 0} (v : Values N) (lawful : IsLawful v) (readable : ReadsItsT
   -- ---- all steps
 
   pub goes-ready : (frames : List Frame) → GoesOn v w Owner.Caller reading frames w' → LoadReady w' l load frames
-  goes-ready frames (inl root) = grind (arith, asked-keeps, begun-on, live-new, once-new, once-none)
+  goes-ready frames (inl root) = grind (arith, asked-keeps, begun-on, all-new (IsLive w' l), once-new, once-none)
   goes-ready frames (inr (inl g)) = subst (λ fs. LoadReady w' l load fs) (sym g.goes) (known-ready g.kind g.key g.k g.row g.asked.gives.2 g.made)
   goes-ready frames (inr (inr (inl g))) =
       let asked = g.asked.gives.2.1.asked in
       subst (λ fs. LoadReady w' l load fs) (sym g.goes) (record {
         begun = begun-on (λ h x there own y free s. asked-keeps w w' asked s);
-        live = live-new w' l (nested_frame g.kind g.key g.blob) reading.frames refl (live-on reading.frames (λ frame r among got x free s. asked-keeps w w' asked s) ready.live);
+        live = all-new (IsLive w' l) (nested_frame g.kind g.key g.blob) reading.frames refl (live-on reading.frames (λ frame r among got x free s. asked-keeps w w' asked s) ready.live);
         once = once-new (nested_frame g.kind g.key g.blob) reading.frames refl ready.once;
       })
   goes-ready frames (inr (inr (inr (inl g)))) = subst (λ fs. LoadReady w' l load fs) (sym g.goes) (lazy-ready frames g)

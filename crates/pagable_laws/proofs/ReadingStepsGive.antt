@@ -157,12 +157,6 @@ record Takes (types : Types) (store : ℕ → Option Blob) (t : ℕ) (blob : Blo
   fewer : rest + 1 ≤ many
   all : is_eager kind.0 ≡ true → (below deep : ℕ) × Unfolds types store (type_of kind.0) key below deep × (many ≡ 1 + below + rest)
 
-more-rest : (below rest : ℕ) → rest + 1 ≤ 1 + below + rest
-more-rest below rest = omega arith
-
-one-rest : (rest : ℕ) → rest + 1 ≤ 1 + rest
-one-rest rest = omega arith
-
 takes : {types : Types} {store : ℕ → Option Blob} {t many longest : ℕ} {blob : Blob} {kinds : List ℕ} → UnfoldsFrom types store t blob kinds many longest → (kind : Kind) (key : ℕ)
     → after_kinds types t blob kinds ≡ asks kind key → Takes types store t blob kinds many kind key
 takes x0 kind key asked_is = grind (arith, nat_tests)

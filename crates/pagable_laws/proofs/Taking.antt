@@ -1,11 +1,11 @@
 -- What a load has read fits after its step; and a node whose value is in memory gives its tree, as does what a load of a key answers.
-use Rattle.pagable_laws.proofs.Words.{◌≡◌, ℕ, zero, suc, ◌+◌, ◌<◌, ◌≤◌, true, List, [], ◌∷◌, Option, Some, None, inr, refl, sym, ◌∙◌, subst, arith, is_some, nat_lt, nat_tests, HandleRow}
+use Rattle.pagable_laws.proofs.Words.{◌≡◌, ℕ, suc, ◌+◌, ◌<◌, ◌≤◌, true, List, [], ◌∷◌, Option, Some, None, inr, refl, sym, ◌∙◌, subst, arith, is_some, nat_lt, nat_tests, HandleRow}
 use Rattle.pagable_laws.proofs.Words.{Owner, OptionalDataKey, ArcRef, Kind, HandleNumber, Blob, Types, Tree, ReadsTree, type_of, Among, one, is_at, is_pin, is_pinning, held, pins, Core, OpenLoad}
 use Rattle.pagable_laws.proofs.Words.{Frame, Reading, row_at, Values, IsLawful, IsReference, Next, need_at, to_adopt, ReadsRoot, ReadsNode, root_frame, nested_frame, with_got, PagerState}
 use Rattle.pagable_laws.proofs.Words.{HandlesAreWhole, IsWhole, WellFormed, NodeStands, ValueStands, ReadsNodeTree, FramesFit, SameTrees, Represents, ReadsItsTypes, GivesTree, ReadIsRight, Change}
 use Rattle.pagable_laws.proofs.Words.{bears_known, CoreGoes, ReadingFeels, reads-root, reads-blob, gets-known, gets-lazy, makes-known, makes-node, reading-ends, Decoded, FramesGiven}
-use Rattle.pagable_laws.proofs.{Fitting.{node-stays, first-fits, first-typed, frames-stay, pushed, made-fits, needed-fits, nested-fits, root-fits}, Decoding.{decodes, read_stands}}
-use Rattle.pagable_laws.proofs.Words.{◌++◌, ap, inl, slice_get, gone_on, GetsRow, GotStands, FramesHeld, LoadNumber, ReadingFits, ChangeFits, Needs}
+use Rattle.pagable_laws.proofs.{Fitting.{node-stays, first-fits, first-typed, frames-stay, all-none, all-new, all-more, made-fits, needed-fits, nested-fits, root-fits}, Decoding.{decodes, read_stands}}
+use Rattle.pagable_laws.proofs.Words.{ap, inl, gone_on, GetsRow, GotStands, FramesHeld, LoadNumber, ReadingFits, ChangeFits, Needs}
 use Rattle.pagable_laws.proofs.{Apart.FramesAsked, KnownSteps.{needed-asked, nested-asked, made-asked, none-asked, root-asked}}
 use Rattle.pagable_laws.proofs.{Following.{cell-of, given-of}, Outlasting.among-found, Sums.{at-most-sum, self-number}, Trees.same_some}
 
@@ -60,13 +60,6 @@ pub record AtStep {N : Type 0} (v : Values N) (c : Change) (w w' : Core) (trees 
 
 -- ---- what a load got names nodes as it should
 
-none-held : (w : Core) (l : LoadNumber) (frames : List Frame) → frames ≡ [] → FramesHeld w l frames
-none-held w l frames none frame r among got = let there = subst (λ fs. Among fs frame) none among in absurd (let e = there.1 in cc)
-
-new-held : {w : Core} {l : LoadNumber} (frame : Frame) (frames : List Frame) → frame.got ≡ [] → FramesHeld w l frames → FramesHeld w l (frame ∷ frames)
-new-held frame frames none held f r (zero, is) (place, there) = grind (arith, nat_tests)
-new-held frame frames none held f r (suc i, is) among = held f r (i, is) among
-
 frames-on : {c : Change} {w w' : Core} → CoreGoes c w w' → (l : LoadNumber) (frames : List Frame) → FramesHeld w l frames → FramesHeld w' l frames
 frames-on goes l frames held frame r among got =
     let g = held frame r among got in
@@ -80,17 +73,6 @@ frames-on goes l frames held frame r among got =
 got-new : {w w' : Core} (l : LoadNumber) (kind : Kind) (n : ℕ) (row : HandleRow) → HandlesAreWhole w' → GetsRow w w' kind n row
     → GotStands w' l (record { kind = kind; node = row.node; handle = row.number })
 got-new l kind n row whole g = grind (arith, nat_tests, row-given)
-
-with-held : {w : Core} {l : LoadNumber} (frames : List Frame) (kind : Kind) (row : HandleRow) → GotStands w l (record { kind = kind; node = row.node; handle = row.number })
-    → FramesHeld w l frames → FramesHeld w l (with_got kind row frames)
-with-held [] kind row new held frame r (i, is) got = absurd (cc)
-with-held {w} {l} (top ∷ below) kind row new held frame r (zero, is) (place, there) =
-    let got_is : frame.got ≡ top.got ++ record { kind = kind; node = row.node; handle = row.number } ∷ [] = cc in
-    elim (pushed top.got _ place r (subst (λ (rs : List ArcRef). slice_get rs place ≡ Some r) got_is there)) [
-      | inl old ↦ held top r (zero, refl) (place, old)
-      | inr at ↦ subst (λ (z : ArcRef). GotStands w l z) at.1 new
-    ]
-with-held (top ∷ below) kind row new held frame r (suc i, is) got = held frame r (suc i, is) got
 
 -- ---- all of it
 
@@ -135,7 +117,7 @@ module _ {N : Type 0} {v : Values N} {w w' : Core} {trees trees' : ℕ → Tree}
     fit-got frames kind key n row needs got read f =
         record {
           fit = needed-fits v.types k t w'.stored trees' frames kind key row f.fit needs read;
-          held = with-held frames kind row (got-new l kind n row h.after.handles got) f.held;
+          held = all-more (GotStands w' l) frames kind row (got-new l kind n row h.after.handles got) f.held;
           asked = needed-asked v.types frames kind key row f.asked needs;
         }
 
@@ -145,7 +127,7 @@ module _ {N : Type 0} {v : Values N} {w w' : Core} {trees trees' : ℕ → Tree}
         let g = subst Now made.frames f in
         record {
           fit = made-fits v.types k t w'.stored trees' made.top made.below row g.fit read;
-          held = with-held made.below made.top.kind row (got-new l made.top.kind n row h.after.handles got) (λ frame r among there. g.held frame r (suc among.0, among.1) there);
+          held = all-more (GotStands w' l) made.below made.top.kind row (got-new l made.top.kind n row h.after.handles got) (λ frame r among there. g.held frame r (suc among.0, among.1) there);
           asked = made-asked v.types made.top made.below row g.asked;
         }
 
@@ -155,12 +137,12 @@ module _ {N : Type 0} {v : Values N} {w w' : Core} {trees trees' : ℕ → Tree}
       let same : l ≡ load = same_some _ _ (sym at ∙ open_load) in
       subst (FitOf v w' trees' reading load) (sym (is ∙ ap (λ (z : OpenLoad). root_frame z.key reading.node_type blob ∷ []) same)) (record {
         fit = root-fits v.types load.key reading.node_type w'.stored trees' blob (h.goes.stored load.key blob (subst (λ (z : OpenLoad). w.stored z.key ≡ Some blob) same stored));
-        held = new-held (root_frame load.key reading.node_type blob) [] refl (none-held w' reading.load [] refl);
+        held = all-new (GotStands w' reading.load) (root_frame load.key reading.node_type blob) [] refl (all-none (GotStands w' reading.load) [] refl);
         asked = root-asked v.types load.key reading.node_type blob;
       })
   felt-after reading load frames h open_load (reads-blob kind key blob needs stored answer is) g = subst (FitOf v w' trees' reading load) (sym is) (record {
     fit = nested-fits v.types load.key reading.node_type w'.stored trees' reading.frames kind key blob g.fit needs (h.goes.stored key blob stored);
-    held = new-held (nested_frame kind key blob) reading.frames refl g.held;
+    held = all-new (GotStands w' reading.load) (nested_frame kind key blob) reading.frames refl g.held;
     asked = nested-asked v.types reading.frames kind key blob g.asked needs;
   })
   felt-after reading load frames h open_load (gets-known kind key n row needs known got answer is) g =
@@ -193,7 +175,7 @@ going-new {v = v} s trees reading none within =
     record {
       within = within;
       fits = λ load is. subst (λ fs. FramesFit v.types s.core.stored trees load.key reading.node_type fs) (sym none) tt;
-      held = none-held s.core reading.load reading.frames none;
+      held = all-none (GotStands s.core reading.load) reading.frames none;
       asked = none-asked v.types reading.frames none;
     }
 
