@@ -1,80 +1,76 @@
--- A node comes with a handle, and the handles that its value names move to it: what stays of other nodes.
-use Rattle.std.proofs.Common.{rules}
-use Rattle.pagable_steps.proofs.Words.{◌≡◌, ℕ, ◌+◌, ◌==◌, ◌&&◌, Bool, true, false, List, [], refl, ap, sym, ◌∙◌, if◌then◌else◌, arith, Some, None, nat_tests, sum_by_push}
-use Rattle.pagable_steps.proofs.Words.{OptionalDataKey, HandleRow, Owner, Mode, ArcRef, SameAt, Among, one, times, or_else, find_row, is_handle, is_owned_by, owner_value, is_pin}
-use Rattle.pagable_steps.proofs.Words.{is_pinning, pins, Core, type_at, is_here, references_fault, IsReference, row_of, is_named_by, with_node, next_node, with_handle}
-use Rattle.pagable_steps.proofs.{Words.{IsWhole, self-number, good, NotValues, not-owned, find-both, among-found, fits_mode, found-number}, Naming.{among-named, after, given}}
-use Rattle.pagable_steps.proofs.{Naming.{given-found, given-pins, unnamed, given-owned, given-bare, given-inside}, SparedParts.{owns, owns_any}, SparedParts.{push-none, and-false}}
+-- A value comes to a node that had none: the handles that it names move to it, and it owns each once.
+use Rattle.pagable_laws.proofs.Effects as effects
+use Rattle.pagable_steps.proofs.Words.{◌≡◌, ℕ, suc, ◌+◌, ◌≤◌, ◌==◌, ◌||◌, Bool, true, false, List, [], ◌∷◌, refl, ap, sym, subst, ◌∙◌, if◌then◌else◌, arith, Option, Some, None, not, nat_tests, sum_by-cons}
+use Rattle.pagable_steps.proofs.Words.{HandleRow, Owner, ArcRef, Among, is_in, one, times, owner_value, is_pin, pins, Core, Cell, OpenLoad, type_at, reference_fault, references_fault, moved, is_named_by}
+use Rattle.pagable_steps.proofs.Words.{IsWhole, Stands, AreGood, good, or-none, named-among, same-number, NotValues, stands-whole, stands-changed, found-number, among-changed}
+use Rattle.pagable_steps.proofs.{Owning.{IsNamed, Refers, among-named, same-value}, Parts.{OwnsAlike, sum-mapped}}
 
--- A node of this type and key came, with a handle of this mode, of the one who owns what its value names.
-pub record Comes (w w' : Core) (me : Owner) (t : ℕ) (own : OptionalDataKey) (references : List ArcRef) (mode : Mode) : Type 0 where
-  pub good : references_fault w me [] references ≡ None
-  pub rows : w'.rows ≡ (with_handle (with_node w t own references) (next_node w) mode me).rows
-  pub cells : SameAt (with_node w t own references).cells w'.cells
+unseen : (w : Core) (owner : Owner) (seen : List ℕ) (r : ArcRef) → reference_fault w owner seen r ≡ None → is_in seen r.handle.0 ≡ false
+unseen w owner seen r none = grind (arith, nat_tests)
 
-module _ {w w' : Core} {me : Owner} {t : ℕ} {own : OptionalDataKey} {references : List ArcRef} {mode : Mode} (whole : IsWhole w) (free : NotValues me) (c : Comes w w' me t own references mode) where
-  abbrev next : ℕ
-  next = w.last.node + 1
+-- references that nothing is to be said against name each handle once at most, and none that was seen
+named-once : (w : Core) (owner : Owner) (seen : List ℕ) (rs : List ArcRef) (q : ℕ) → references_fault w owner seen rs ≡ None → times (λ (r : ArcRef). r.handle.0 == q) rs ≤ one (not (is_in seen q))
+unfolding references_fault is_in
+named-once w owner seen [] q none = omega arith
+named-once w owner seen (r ∷ rs) q none =
+    let both = or-none _ _ none in
+    at (r.handle.0 == q) (is_in seen q) (λ e. ap (is_in seen) (sym (same-number _ _ e)) ∙ unseen w owner seen r both.0) (named-once w owner (r.handle.0 ∷ seen) rs q both.1)
+    (sum_by-cons (λ (x : ArcRef). one (x.handle.0 == q)) r rs)
+  where
+    at : (b c : Bool) → (b ≡ true → c ≡ false) → {k m : ℕ} → k ≤ one (not (b || c)) → m ≡ one b + k → m ≤ one (not c)
+    at b c new rest sum = grind (arith, nat_tests)
 
-  abbrev new : HandleRow
-  new = row_of (w.last.handle + 1) (next_node w) mode me
+module _ {w : Core} (whole : IsWhole w) {me : Owner} (free : NotValues me) (references : List ArcRef) (fine : references_fault w me [] references ≡ None) (p : ℕ)
+    (cells : ℕ → Option Cell) (loads : ℕ → Option OpenLoad) (node : ℕ) (typed : (n t : ℕ) → type_at w n ≡ Some t → type_at (record w { cells = cells }) n ≡ Some t)
+    (none : (h : HandleRow) → Among w.rows h → h.owner ≡ owner_value p → ⊥) where
+  abbrev pub given : Core
+  given = record w { rows = moved (is_named_by references) (owner_value p) w.rows; cells = cells; loads = loads; last = record w.last { node = node } }
 
-  -- ---- nodes
+  abbrev named : HandleRow → Bool
+  named h = is_named_by references h.number.0
 
-  pub no-cell : w.cells next ≡ None
-  no-cell = grind (arith, nat_tests)
+  abbrev to : HandleRow → HandleRow
+  to h = record h { owner = owner_value p }
 
-  pub new-cell : w'.cells next ≡ Some (record { node_type = t; key = own })
-  new-cell = c.cells next ∙ ap (λ b. if b then Some (record { node_type = t; key = own }) else w.cells next) (self-number next)
+  right : AreGood w me references
+  right = good w me [] references fine
 
-  pub other-cell : (n : ℕ) → (n == next) ≡ false → w'.cells n ≡ w.cells n
-  other-cell n is = c.cells n ∙ ap (λ b. if b then Some (record { node_type = t; key = own }) else w.cells n) is
+  pub given-pins : (n : ℕ) → pins n given.rows ≡ pins n w.rows
+  given-pins n = sum-mapped _ _ _ w.rows (λ h among. same h (named h))
+    where
+      same : (h : HandleRow) (b : Bool) → one (is_pin n (if b then to h else h)) ≡ one (is_pin n h)
+      same h b = grind (arith, nat_tests)
 
-  -- a node that was there has its type still
-  pub typed-on : (m u : ℕ) → type_at w m ≡ Some u → type_at w' m ≡ Some u
-  typed-on m u is = grind (arith, nat_tests)
+  -- other values own what they did
+  pub others : (n : ℕ) → (n == p) ≡ false → OwnsAlike n w given
+  others n other = record {
+    typed = typed;
+    spares = record {
+      each = λ q row own s.
+          effects.moved-free (owner_value n) (is_named_by references) (owner_value p) ((effects.named-free (owner_value n) w me references (free (record { 0 = n })) right).each q row own s) s;
+    };
+    owned = λ h among own. let a = among-changed (λ x. if named x then to x else x) w.rows h among in by a.0 a.1 h own (named a.0) a.2;
+  }
+    where
+      by : (x : HandleRow) → Among w.rows x → (h : HandleRow) → h.owner ≡ owner_value n → (b : Bool) → h ≡ (if b then to x else x) → Among w.rows h
+      by x among h own true is = absurd (let same : p ≡ n = same-value h.owner own (ap (λ (y : HandleRow). y.owner) is) in grind (arith, nat_tests))
+      by x among h own false is = subst (Among w.rows) (sym is) among
 
-  -- ---- pins
+  -- this one owns what it names
+  pub names : (r : ArcRef) → Among references r → Refers given p r
+  names r among =
+      let a = right r among in
+      let is : named a.row ≡ true = ap (is_named_by references) (found-number r.handle.0 w.rows a.row a.live) ∙ among-named references r among in
+      let s = stands-changed named to (λ h. refl) (stands-whole whole.handles r.handle.0 a.row a.live) in
+      record { row = to a.row; stands = subst (λ b. Stands w.last.handle given.rows r.handle.0 (if b then to a.row else a.row)) is s; at = a.at; owned = refl; fits = a.fits; typed = typed _ _ a.typed }
 
-  abbrev rows : List HandleRow
-  rows = given w references next
+  pub names-once : (q : ℕ) → times (λ (r : ArcRef). r.handle.0 == q) references ≤ 1
+  unfolding is_in
+  names-once q = named-once w me [] references q fine
 
-  pub pins-now : (n : ℕ) → pins n w'.rows ≡ pins n w.rows + one ((next == n) && is_pinning mode)
-  pins-now n = ap (pins n) c.rows ∙ (sum_by_push (λ h. one (is_pin n h)) rows new ∙ ap (λ p. p + one (is_pin n new)) (given-pins whole free references c.good next n))
-
-  turned-round : (n : ℕ) → (n == next) ≡ false → (next == n) ≡ false
-  turned-round n is = grind (arith, nat_tests)
-
-  pub other-here : (n : ℕ) → (n == next) ≡ false → is_here w' n ≡ is_here w n
-  other-here n is = search (rules, pins-now, turned-round, other-cell)
-
-  -- ---- what values own
-
-  -- what isn't so of the new handle is counted among those that there were
-  pub count-now : (test : HandleRow → Bool) → test new ≡ false → times test w'.rows ≡ times test rows
-  count-now test none = ap (times test) c.rows ∙ push-none test rows new none
-
-  new-owned : (n q : ℕ) → (is_handle q new && is_owned_by (owner_value n) new) ≡ false
-  new-owned n q = ap (λ b. is_handle q new && b) (not-owned n me free) ∙ and-false _
-
-  pub other-owned : (n : ℕ) → (n == next) ≡ false → (q : ℕ) → owns n q w'.rows ≡ owns n q w.rows
-  other-owned n is q = count-now (λ x. is_handle q x && is_owned_by (owner_value n) x) (new-owned n q) ∙ given-owned whole free references c.good next n (turned-round n is) q
-
-  pub other-bare : (n : ℕ) → (n == next) ≡ false → owns_any n w'.rows ≡ owns_any n w.rows
-  other-bare n is = count-now (is_owned_by (owner_value n)) (not-owned n me free) ∙ given-bare whole free references c.good next n (turned-round n is)
-
-  pub new-inside : owns_any next w.rows ≡ 0 → (q : ℕ) → times (λ (r : ArcRef). r.handle.0 == q) references ≡ owns next q w'.rows
-  new-inside bare q = given-inside whole free references c.good next bare q ∙ sym (count-now (λ x. is_handle q x && is_owned_by (owner_value next) x) (new-owned next q))
-
-  -- a reference by a handle that was there
-  refers-now : (n : ℕ) (r : ArcRef) {owner : Owner} (is : IsReference w owner r) (b : Bool) → is_named_by references is.row.number.0 ≡ b → (after next is.row b).owner ≡ owner_value n
-      → (after next is.row b).node ≡ r.node → fits_mode r.kind.0 (after next is.row b).mode ≡ true → IsReference w' (owner_value n) r
-  refers-now n r is b named own at fits = grind (arith, nat_tests, after, next, find_row, rows, find-both, new, or_else, given-found, good, typed-on)
-
-  pub other-refers : (n : ℕ) (r : ArcRef) → IsReference w (owner_value n) r → IsReference w' (owner_value n) r
-  other-refers n r is = refers-now n r is false (unnamed whole free references c.good next n is.row (among-found r.handle.0 w.rows is.row is.live) is.owned) is.owned is.at is.fits
-
-  -- each reference names a handle of the new value's
-  pub new-refers : (r : ArcRef) → Among references r → IsReference w' (owner_value next) r
-  new-refers r among = let is = good w me [] references c.good r among in
-      refers-now next r is true (ap (is_named_by references) (found-number r.handle.0 w.rows is.row is.live) ∙ among-named references r among) refl is.at is.fits
+  pub owned : (h : HandleRow) → Among given.rows h → h.owner ≡ owner_value p → IsNamed references h
+  owned h among own = let a = among-changed (λ x. if named x then to x else x) w.rows h among in by a.0 a.1 (named a.0) refl a.2
+    where
+      by : (x : HandleRow) → Among w.rows x → (b : Bool) → named x ≡ b → h ≡ (if b then to x else x) → IsNamed references h
+      by x there true e is = let c = named-among references x.number.0 e in record { r = c.0; among = c.1; is = c.2 ∙ ap (λ (y : HandleRow). y.number.0) (sym is) }
+      by x there false e is = absurd (none x there (ap (λ (y : HandleRow). y.owner) (sym is) ∙ own))
