@@ -1,10 +1,108 @@
--- A node comes, with its value or without one.
-use Rattle.pagable_steps.proofs.Words.{◌≡◌, ℕ, ◌+◌, ◌<◌, ◌≤◌, ◌==◌, ◌&&◌, Bool, true, false, List, [], Option, Some, None, Ok, Err, inl, inr, refl, ap, sym, subst, ◌∙◌, if◌then◌else◌, arith, Result}
-use Rattle.pagable_steps.proofs.Words.{is_some, nat_lt, nat_tests, sum_by_push, OptionalDataKey, HandleRow, Owner, Mode, Error, ArcRef, Kind, HandleNumber, LoadNumber, Among, one, times, if_there, Cell, type_of}
-use Rattle.pagable_steps.proofs.Words.{is_loose_kind, is_pinning, is_pin, is_at, is_in_memory, owner_value, held, mode_of, pins, Core, Alike, Values, type_at, key_at, is_here, usable, row_of, with_node, with_handle}
-use Rattle.pagable_steps.proofs.Words.{next_node, references_fault, is_named_by, BirthCall, AwayBirthCall, adopted, Adopts, LazyCall, PagerState, IsWhole, WellFormed, NotValues, self-number, same-number, sum-le}
-use Rattle.pagable_steps.proofs.{Coming.{others, names, names-once, owned, given-pins}, Owning.{At, IsNamed, holds_value, settled, sits}, Spared.{not-load, gets-known}}
-use Rattle.pagable_steps.proofs.Parts.{OwnsAlike, Spares, owns-then, owns-handle, pinned-here, sits-on, spared, spares-alike, spares-cached}
+-- A value comes to a node that had none: the handles that it names move to it, and it owns each once. And calls by which a node comes, with its value or without one.
+use Rattle.pagable_laws.proofs.Effects as effects
+use Rattle.pagable_steps.proofs.Words.{◌≡◌, ℕ, suc, ◌+◌, ◌<◌, ◌≤◌, ◌==◌, ◌&&◌, ◌||◌, Bool, true, false, List, [], ◌∷◌, Option, Some, None, Ok, Err, inl, inr, refl, ap, sym, subst, ◌∙◌, if◌then◌else◌, arith, Result}
+use Rattle.pagable_steps.proofs.Words.{is_some, not, nat_lt, nat_tests, sum_by-cons, sum_by_push, OptionalDataKey, HandleRow, Owner, Mode, Error, ArcRef, Kind, HandleNumber, LoadNumber, Among, is_in, one, times}
+use Rattle.pagable_steps.proofs.Words.{if_there, type_of, is_loose_kind, is_pinning, is_pin, is_at, is_in_memory, owner_value, held, mode_of, pins, Core, Cell, OpenLoad, Alike, Values, type_at, key_at, is_here, usable}
+use Rattle.pagable_steps.proofs.Words.{row_of, moved, with_node, with_handle, next_node, reference_fault, references_fault, is_named_by, BirthCall, AwayBirthCall, adopted, Adopts, LazyCall, PagerState, IsWhole}
+use Rattle.pagable_steps.proofs.Words.{WellFormed, Stands, AreGood, NotValues, good, or-none, named-among, stands-whole, stands-changed, found-number, among-changed, self-number, same-number, sum-le}
+use Rattle.pagable_steps.proofs.{Owning.{At, Has, among-named, same-value, holds_value, settled, sits}, Spared.{not-load, gets-known}}
+use Rattle.pagable_steps.proofs.Parts.{OwnsAlike, Spares, owns-then, owns-handle, pinned-here, sits-on, spared, spares-alike, spares-cached, sum-mapped}
+
+unseen : (w : Core) (owner : Owner) (seen : List ℕ) (r : ArcRef) → reference_fault w owner seen r ≡ None → is_in seen r.handle.0 ≡ false
+unseen w owner seen r none = grind (arith, nat_tests)
+
+-- references that nothing is to be said against name each handle once at most, and none that was seen
+named-once : (w : Core) (owner : Owner) (seen : List ℕ) (rs : List ArcRef) (q : ℕ) → references_fault w owner seen rs ≡ None → times (λ (r : ArcRef). r.handle.0 == q) rs ≤ one (not (is_in seen q))
+unfolding references_fault is_in
+named-once w owner seen [] q none = omega arith
+named-once w owner seen (r ∷ rs) q none =
+    let both = or-none _ _ none in
+    at (r.handle.0 == q) (is_in seen q) (λ e. ap (is_in seen) (sym (same-number _ _ e)) ∙ unseen w owner seen r both.0) (named-once w owner (r.handle.0 ∷ seen) rs q both.1)
+    (sum_by-cons (λ (x : ArcRef). one (x.handle.0 == q)) r rs)
+  where
+    at : (b c : Bool) → (b ≡ true → c ≡ false) → {k m : ℕ} → k ≤ one (not (b || c)) → m ≡ one b + k → m ≤ one (not c)
+    at b c new rest sum = grind (arith, nat_tests)
+
+-- What names handles may come as a value to the node p, to which they moved.
+pub record Receives {N : Type 0} (v : Values N) (w given : Core) (values : ℕ → Option N) (references : List ArcRef) (p : ℕ) : Type 0 where
+  -- what is so of each node, if that is so of this one
+  pub all : (o : Option N) → At v given p o → (n : ℕ) → At v given n (if n == p then o else values n)
+  pub value : (x : N) → v.references x ≡ references → type_at given p ≡ Some (v.node_type x) → At v given p (Some x)
+  pub pins : (n : ℕ) → pins n given.rows ≡ pins n w.rows
+  -- what it owns is named, and what another one owns was its own
+  pub named : (h : HandleRow) → Among given.rows h → h.owner ≡ owner_value p → is_named_by references h.number.0 ≡ true
+  pub before : (n : ℕ) → (n == p) ≡ false → OwnsAlike n w given
+
+module _ {N E : Type 0} {v : Values N} {s : PagerState N E} (is : WellFormed v s) {me : Owner} (free : NotValues me) (references : List ArcRef) (fine : references_fault s.core me [] references ≡ None)
+    (p : ℕ) (cells : ℕ → Option Cell) (loads : ℕ → Option OpenLoad) (node : ℕ) (typed : (n t : ℕ) → type_at s.core n ≡ Some t → type_at (record s.core { cells = cells }) n ≡ Some t)
+    (no_value : s.values p ≡ None) where
+  abbrev w : Core
+  w = s.core
+
+  abbrev given : Core
+  given = record w { rows = moved (is_named_by references) (owner_value p) w.rows; cells = cells; loads = loads; last = record w.last { node = node } }
+
+  abbrev named : HandleRow → Bool
+  named h = is_named_by references h.number.0
+
+  abbrev to : HandleRow → HandleRow
+  to h = record h { owner = owner_value p }
+
+  right : AreGood w me references
+  right = good w me [] references fine
+
+  same-pin : (n : ℕ) (h : HandleRow) (b : Bool) → one (is_pin n (if b then to h else h)) ≡ one (is_pin n h)
+  same-pin n h b = grind (arith, nat_tests)
+
+  others : (n : ℕ) → (n == p) ≡ false → OwnsAlike n w given
+  others n other = record {
+    typed = typed;
+    spares = record {
+      each = λ q row own s.
+          effects.moved-free (owner_value n) (is_named_by references) (owner_value p) ((effects.named-free (owner_value n) w me references (free (record { 0 = n })) right).each q row own s) s;
+    };
+    owned = λ h among own. let a = among-changed (λ x. if named x then to x else x) w.rows h among in by a.0 a.1 h own (named a.0) a.2;
+  }
+    where
+      by : (x : HandleRow) → Among w.rows x → (h : HandleRow) → h.owner ≡ owner_value n → (b : Bool) → h ≡ (if b then to x else x) → Among w.rows h
+      by x among h own true is = absurd (let same : p ≡ n = same-value h.owner own (ap (λ (y : HandleRow). y.owner) is) in grind (arith, nat_tests))
+      by x among h own false is = subst (Among w.rows) (sym is) among
+
+  owned : (h : HandleRow) → Among given.rows h → h.owner ≡ owner_value p → named h ≡ true
+  owned h among own = let a = among-changed (λ x. if named x then to x else x) w.rows h among in by a.0 a.1 (named a.0) refl a.2
+    where
+      by : (x : HandleRow) → Among w.rows x → (b : Bool) → named x ≡ b → h ≡ (if b then to x else x) → named h ≡ true
+      by x there true e same = ap named same ∙ e
+      by x there false e same = absurd (subst (At v w p) no_value (sits is p) x there (ap (λ (y : HandleRow). y.owner) (sym same) ∙ own))
+
+  new : (x : N) → v.references x ≡ references → type_at given p ≡ Some (v.node_type x) → Has v given p x
+  unfolding is_in
+  new x same its_type = record {
+    typed = its_type;
+    names = λ r among.
+        let a = right r (subst (λ rs. Among rs r) same among) in
+        let is : named a.row ≡ true = ap (is_named_by references) (found-number r.handle.0 w.rows a.row a.live) ∙ among-named references r (subst (λ rs. Among rs r) same among) in
+        let s = stands-changed named to (λ h. refl) (stands-whole whole.handles r.handle.0 a.row a.live) in
+        record { row = to a.row; stands = subst (λ b. Stands w.last.handle given.rows r.handle.0 (if b then to a.row else a.row)) is s; at = a.at; owned = refl; fits = a.fits; typed = typed _ _ a.typed };
+    once = λ q. subst (λ (rs : List ArcRef). times (λ (r : ArcRef). r.handle.0 == q) rs ≤ 1) (sym same) (named-once w me [] references q fine);
+    owned = λ h among own. let c = named-among (v.references x) h.number.0 (ap (λ rs. is_named_by rs h.number.0) same ∙ owned h among own) in record { r = c.0; among = c.1; is = c.2 };
+  }
+    where
+      whole : IsWhole w
+      whole = is.whole
+
+  pub receives : Receives v w given s.values references p
+  receives = record {
+    all = λ o here n. at o here n (n == p) refl;
+    value = new;
+    pins = λ n. sum-mapped _ _ _ w.rows (λ h among. same-pin n h (named h));
+    named = owned;
+    before = others;
+  }
+    where
+      at : (o : Option N) → At v given p o → (n : ℕ) (b : Bool) → (n == p) ≡ b → At v given n (if b then o else s.values n)
+      at o here n true e = subst (λ k. At v given k o) (sym (same-number n p e)) here
+      at o here n false e = sits-on v (others n e) (s.values n) (sits is n)
 
 -- the next node's number
 abbrev pub next_of : Core → ℕ
@@ -18,55 +116,45 @@ none-named w owner = refl
 
 module _ {N E : Type 0} {v : Values N} {s : PagerState N E} (s' : PagerState N E) (is : WellFormed v s) {me : Owner} (free : NotValues me) (t : ℕ) (own : OptionalDataKey) (references : List ArcRef) (mode : Mode)
     (fine : references_fault s.core me [] references ≡ None) (like : Spares (with_handle (with_node s.core t own references) (next_node s.core) mode me) s'.core) where
-  abbrev w : Core
-  w = s.core
-
   abbrev next : ℕ
   next = next_of s.core
 
-  abbrev given : Core
-  given = with_node s.core t own references
+  abbrev bearing : Core
+  bearing = with_node s.core t own references
 
   abbrev made : Core
-  made = with_handle given (next_node s.core) mode me
+  made = with_handle bearing (next_node s.core) mode me
 
-  no-cell : w.cells next ≡ None
+  no-cell : s.core.cells next ≡ None
   no-cell = grind (arith, nat_tests)
 
   no-value : s.values next ≡ None
   no-value = grind (arith, nat_tests)
 
-  typed : (n u : ℕ) → type_at w n ≡ Some u → type_at given n ≡ Some u
-  typed n u has = grind (arith, nat_tests)
+  receives-it : Receives v s.core bearing s.values references next
+  receives-it = receives is free references fine next bearing.cells s.core.loads next typed no-value
+    where
+      typed : (n u : ℕ) → type_at s.core n ≡ Some u → type_at bearing n ≡ Some u
+      typed n u has = grind (arith, nat_tests, no-cell)
 
-  bare : At v w next None
-  bare = subst (At v w next) no-value (sits is next)
+  pins-made : (n : ℕ) → pins n made.rows ≡ pins n s.core.rows + one ((next == n) && is_pinning mode)
+  pins-made n = sum_by_push (λ h. one (is_pin n h)) bearing.rows (row_of (s.core.last.handle + 1) (next_node s.core) mode me) ∙ ap (λ p. p + one ((next == n) && is_pinning mode)) (receives-it.pins n)
 
-  after : (n : ℕ) → OwnsAlike n given s'.core
-  after n = owns-then (owns-handle given (next_node w) mode me free n) (like.owns n)
-
-  pins-made : (n : ℕ) → pins n made.rows ≡ pins n w.rows + one ((next == n) && is_pinning mode)
-  pins-made n = sum_by_push (λ h. one (is_pin n h)) given.rows (row_of (w.last.handle + 1) (next_node w) mode me)
-      ∙ ap (λ p. p + one ((next == n) && is_pinning mode)) (given-pins is.whole free references fine next given.cells w.loads next typed bare n)
-
-  others-hold : (n : ℕ) → (n == next) ≡ false → holds_value made n ≡ holds_value w n
+  others-hold : (n : ℕ) → (n == next) ≡ false → holds_value made n ≡ holds_value s.core n
   others-hold n other = let p = pins-made n in grind (arith, nat_tests)
 
-  new-cell : given.cells next ≡ Some (record { node_type = t; key = own })
-  new-cell = ap (λ b. if b then Some (record { node_type = t; key = own }) else w.cells next) (self-number next)
+  new-cell : bearing.cells next ≡ Some (record { node_type = t; key = own })
+  new-cell = ap (λ b. if b then Some (record { node_type = t; key = own }) else s.core.cells next) (self-number next)
 
   holds-new : holds_value made next ≡ is_here made next
   holds-new = ap (λ c. is_some c && is_here made next) new-cell
 
-  comes : (o : Option N) → At v given next o → is_some o ≡ is_here made next → ((n : ℕ) → s'.values n ≡ (if n == next then o else s.values n)) → ((n : ℕ) → s'.counts n ≡ pins n s'.core.rows) → IsWhole s'.core
+  comes : (o : Option N) → At v bearing next o → is_some o ≡ is_here made next → ((n : ℕ) → s'.values n ≡ (if n == next then o else s.values n)) → ((n : ℕ) → s'.counts n ≡ pins n s'.core.rows) → IsWhole s'.core
       → WellFormed v s'
   comes o new here values =
-      settled s' (λ n. subst (At v s'.core n) (sym (values n)) (at n (n == next) refl)) (λ n. ap is_some (values n) ∙ (valued n (n == next) refl ∙ sym (like.holds n)))
+      settled s' (λ n. subst (At v s'.core n) (sym (values n)) (sits-on v (owns-then (owns-handle bearing (next_node s.core) mode me free n) (like.owns n)) _ (receives-it.all o new n)))
+      (λ n. ap is_some (values n) ∙ (valued n (n == next) refl ∙ sym (like.holds n)))
     where
-      at : (n : ℕ) (b : Bool) → (n == next) ≡ b → At v s'.core n (if b then o else s.values n)
-      at n true e = subst (λ k. At v s'.core k o) (sym (same-number n next e)) (sits-on v (after next) o new)
-      at n false e = sits-on v (owns-then (others is.whole free references fine next given.cells w.loads next typed bare n e) (after n)) (s.values n) (sits is n)
-
       valued : (n : ℕ) (b : Bool) → (n == next) ≡ b → is_some (if b then o else s.values n) ≡ holds_value made n
       valued n true e = here ∙ (sym holds-new ∙ ap (holds_value made) (sym (same-number n next e)))
       valued n false e = is.valued n ∙ sym (others-hold n e)
@@ -74,34 +162,25 @@ module _ {N E : Type 0} {v : Values N} {s : PagerState N E} (s' : PagerState N E
   -- with its value
   comes-with : (x : N) → v.node_type x ≡ t → v.references x ≡ references → is_pinning mode ≡ true → ((n : ℕ) → s'.values n ≡ (if n == next then Some x else s.values n))
       → ((n : ℕ) → s'.counts n ≡ pins n s'.core.rows) → IsWhole s'.core → WellFormed v s'
-  comes-with x is_typed named pinning = comes (Some x) new (sym (pinned-here made next pinned))
+  comes-with x is_typed named pinning =
+      comes (Some x) (receives-it.value x named (ap (λ c. if_there (λ (cell : Cell). Some cell.node_type) None c) new-cell ∙ ap (λ u. Some u) (sym is_typed))) (sym (pinned-here made next pinned))
     where
       pinned : 0 < pins next made.rows
       pinned = let p = pins-made next in let q = self-number next in grind (arith, nat_tests)
 
-      new : At v given next (Some x)
-      new = record {
-        typed = ap (λ c. if_there (λ (cell : Cell). Some cell.node_type) None c) new-cell ∙ ap (λ u. Some u) (sym is_typed);
-        names = λ r among. names is.whole free references fine next given.cells w.loads next typed bare r (subst (λ rs. Among rs r) named among);
-        once = λ q. subst (λ (rs : List ArcRef). times (λ (r : ArcRef). r.handle.0 == q) rs ≤ 1) (sym named) (names-once is.whole free references fine next given.cells w.loads next typed bare q);
-        owned = λ h among own. subst (λ rs. IsNamed rs h) (sym named) (owned is.whole free references fine next given.cells w.loads next typed bare h among own);
-      }
-
   -- and without
   comes-away : (key : ℕ) → own ≡ OptionalDataKey.Some key → references ≡ [] → is_pinning mode ≡ false → ((n : ℕ) → s'.values n ≡ s.values n)
       → ((n : ℕ) → s'.counts n ≡ pins n s'.core.rows) → IsWhole s'.core → WellFormed v s'
+  unfolding is_named_by
   comes-away key keyed nothing unpinned same = comes None none (sym away) (λ n. same n ∙ still n (n == next) refl)
     where
-      none : At v given next None
-      none h among mine =
-          let named = owned is.whole free references fine next given.cells w.loads next typed bare h among mine in
-          let a = subst (λ rs. Among rs named.r) nothing named.among in
-          absurd (cc)
+      none : At v bearing next None
+      none h among mine = let e = ap (λ rs. is_named_by rs h.number.0) (sym nothing) ∙ receives-it.named h among mine in absurd (cc)
 
-      no-pins : pins next w.rows ≡ 0
+      no-pins : pins next s.core.rows ≡ 0
       no-pins =
-          let le = sum-le (λ h. one (is_pin next h)) (λ h. one (is_at next h)) w.rows (λ h among. fewer (is_at next h) (is_pinning h.mode)) in
-          let live : is_some (w.cells next) ≡ nat_lt 0 (held next w.rows) = is.whole.handles.live next in
+          let le = sum-le (λ h. one (is_pin next h)) (λ h. one (is_at next h)) s.core.rows (λ h among. fewer (is_at next h) (is_pinning h.mode)) in
+          let live : is_some (s.core.cells next) ≡ nat_lt 0 (held next s.core.rows) = is.whole.handles.live next in
           grind (arith, nat_tests, no-cell)
         where
           fewer : (a b : Bool) → one (a && b) ≤ one a

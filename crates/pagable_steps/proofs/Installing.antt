@@ -5,7 +5,7 @@ use Rattle.pagable_steps.proofs.Words.{◌≡◌, ℕ, ◌+◌, ◌<◌, ◌==�
 use Rattle.pagable_steps.proofs.Words.{sum_by_push, Among, one, HandleRow, Owner, Mode, ArcRef, HandleNumber, LoadNumber, NodeNumber, if_there, updated, owner_value, is_owned_by, is_owner, is_pin, is_loose}
 use Rattle.pagable_steps.proofs.Words.{is_pinning, is_in_memory, pins, Core, Cell, Values, row_of, type_at, key_at, is_here, Owns, is_named_by, moved, with_mode, without_load, is_owned_in, with_pin, MayEnd, Installs}
 use Rattle.pagable_steps.proofs.Words.{PagerState, IsWhole, WellFormed, self-number, NotLoads, NotValues, Stands, good, row-held, stands-whole, same-number}
-use Rattle.pagable_steps.proofs.{Coming.{given-pins, others, names, names-once, owned}, Owning.{At, found-whole, among-named, holds_value, sits}, Falling.{fell, fell-from}, FallingCalls.load-free}
+use Rattle.pagable_steps.proofs.{Births.{Receives, receives}, Owning.{At, found-whole, holds_value, sits}, Falling.{fell, fell-from}, FallingCalls.load-free}
 use Rattle.pagable_steps.proofs.{Parts.{AreFree, Keeps, Leaves, OwnsAlike, Sweeps, owns-then, owns-handle, sits-on, spares-keeps, spares-then, spares-same, spares-handle, mode-owns, mode-others, mode-here}}
 use Rattle.pagable_steps.proofs.Spared.{not-load, turned}
 
@@ -43,9 +43,6 @@ module _ {N E : Type 0} {v : Values N} {s : PagerState N E} (is : WellFormed v s
     no-value : s.values node.0 ≡ None
     no-value = grind (arith, nat_tests)
 
-    bare : At v w node.0 None
-    bare = subst (At v w node.0) no-value (sits is node.0)
-
     -- the load is closed, and what the value names is its own
     abbrev given : Core
     given = record (without_load w l) { rows = moved (is_named_by (v.references x)) (owner_value node.0) w.rows }
@@ -65,28 +62,11 @@ module _ {N E : Type 0} {v : Values N} {s : PagerState N E} (is : WellFormed v s
     after : (n : ℕ) → OwnsAlike n given (with_pin given h node me)
     after n = owns-then (mode-owns given h Mode.LoosePinned row stands-still (subst NotValues (sym own.own) free.0) n) (owns-handle pinned node Mode.Pinned me free.0 n)
 
-    before : (n : ℕ) → (n == node.0) ≡ false → OwnsAlike n w given
-    before = others is.whole (not-load l) (v.references x) may.good node.0 w.cells given.loads w.last.node (λ n t e. e) bare
-
-    its : (q : HandleRow) → Among given.rows q → q.owner ≡ owner_value node.0 → is_named_by (v.references x) q.number.0 ≡ true
-    its q among mine =
-        let named = owned is.whole (not-load l) (v.references x) may.good node.0 w.cells given.loads w.last.node (λ n t e. e) bare q among mine in
-        ap (is_named_by (v.references x)) (sym named.is) ∙ among-named (v.references x) named.r named.among
+    receives-it : Receives v w given s.values (v.references x) node.0
+    receives-it = receives is (not-load l) (v.references x) may.good node.0 w.cells given.loads w.last.node (λ n t e. e) no-value
 
     sits-all : (n : ℕ) → At v (with_pin given h node me) n (values n)
-    sits-all n = at n (n == node.0) refl
-      where
-        new : At v given node.0 (Some x)
-        new = record {
-          typed = cell-typed;
-          names = names is.whole (not-load l) (v.references x) may.good node.0 w.cells given.loads w.last.node (λ n t e. e) bare;
-          once = names-once is.whole (not-load l) (v.references x) may.good node.0 w.cells given.loads w.last.node (λ n t e. e) bare;
-          owned = owned is.whole (not-load l) (v.references x) may.good node.0 w.cells given.loads w.last.node (λ n t e. e) bare;
-        }
-
-        at : (n : ℕ) (b : Bool) → (n == node.0) ≡ b → At v (with_pin given h node me) n (if b then Some x else s.values n)
-        at n true e = subst (λ k. At v (with_pin given h node me) k (Some x)) (sym (same-number n node.0 e)) (sits-on v (after node.0) (Some x) new)
-        at n false e = sits-on v (owns-then (before n e) (after n)) (s.values n) (sits is n)
+    sits-all n = sits-on v (after n) (values n) (receives-it.all (Some x) (receives-it.value x refl cell-typed) n)
 
     -- each node that is in memory has a value
     there : (n : ℕ) → holds_value (with_pin given h node me) n ≡ true → is_some (values n) ≡ true
@@ -97,7 +77,7 @@ module _ {N E : Type 0} {v : Values N} {s : PagerState N E} (is : WellFormed v s
             let apart : (node.0 == n) ≡ false = grind (arith, nat_tests) in
             let a = sum_by_push (λ r. one (is_pin n r)) pinned.rows (row_of (w.last.handle + 1) node Mode.Pinned me) in
             let b = mode-others given h Mode.LoosePinned row stands-still n (ap (λ (m : NodeNumber). m.0 == n) at_node ∙ apart) in
-            let c = given-pins is.whole (not-load l) (v.references x) may.good node.0 w.cells given.loads w.last.node (λ n t e. e) bare n in
+            let c = receives-it.pins n in
             let d : one (is_pin n (row_of (w.last.handle + 1) node Mode.Pinned me)) ≡ 0 = rw apart refl in
             omega (arith, a, b, c, d)
 
@@ -116,9 +96,9 @@ module _ {N E : Type 0} {v : Values N} {s : PagerState N E} (is : WellFormed v s
         both = and_parts (is_owned_in w (Owner.Load l) q.number.0) _ goes
 
         at : (b : Bool) → (n.0 == node.0) ≡ b → ⊥
-        at true e = let named = its q was (mine ∙ ap owner_value (same-number n.0 node.0 e)) in let f = both.1 in cc
+        at true e = let named = receives-it.named q was (mine ∙ ap owner_value (same-number n.0 node.0 e)) in let f = both.1 in cc
         at false e =
-            let found = found-whole is.whole.handles q ((before n.0 e).owned q was mine) in
+            let found = found-whole is.whole.handles q ((receives-it.before n.0 e).owned q was mine) in
             let other : is_owned_in w (Owner.Load l) q.number.0 ≡ is_owner (Owner.Load l) q.owner = ap (if_there (is_owned_by (Owner.Load l)) false) found in
             let f = ap (is_owner (Owner.Load l)) mine in
             let g = both.0 in

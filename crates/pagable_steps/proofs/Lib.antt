@@ -3,7 +3,6 @@ pub mod Owning
 pub mod Parts
 pub mod Spared
 pub mod Falling
-pub mod Coming
 pub mod Births
 pub mod FallingCalls
 pub mod Installing
