@@ -1,9 +1,9 @@
 -- A value comes to a node that had none: the handles that it names move to it, and it owns each once. And calls by which a node comes, with its value or without one.
 use Rattle.pagable_laws.proofs.Effects as effects
-use Rattle.pagable_steps.proofs.Words.{◌≡◌, ℕ, suc, ◌+◌, ◌<◌, ◌≤◌, ◌==◌, ◌&&◌, ◌||◌, Bool, true, false, List, [], ◌∷◌, Option, Some, None, Ok, Err, inl, inr, refl, ap, sym, subst, ◌∙◌, if◌then◌else◌, arith, Result}
+use Rattle.pagable_steps.proofs.Words.{◌≡◌, ℕ, ◌+◌, ◌<◌, ◌≤◌, ◌==◌, ◌&&◌, ◌||◌, Bool, true, false, List, [], ◌∷◌, Option, Some, None, Ok, Err, inl, inr, refl, ap, sym, subst, ◌∙◌, if◌then◌else◌, arith, Result}
 use Rattle.pagable_steps.proofs.Words.{is_some, not, nat_lt, nat_tests, sum_by-cons, sum_by_push, OptionalDataKey, HandleRow, Owner, Mode, Error, ArcRef, Kind, HandleNumber, LoadNumber, Among, is_in, one, times}
-use Rattle.pagable_steps.proofs.Words.{if_there, type_of, is_loose_kind, is_pinning, is_pin, is_at, is_in_memory, owner_value, held, mode_of, pins, Core, Cell, OpenLoad, Alike, Values, type_at, key_at, is_here, usable}
-use Rattle.pagable_steps.proofs.Words.{row_of, moved, with_node, with_handle, next_node, reference_fault, references_fault, is_named_by, BirthCall, AwayBirthCall, adopted, Adopts, LazyCall, PagerState, IsWhole}
+use Rattle.pagable_steps.proofs.Words.{if_there, type_of, is_loose_kind, is_pinning, is_pin, is_at, owner_value, held, mode_of, pins, Core, Cell, OpenLoad, Values, type_at, is_here, usable}
+use Rattle.pagable_steps.proofs.Words.{row_of, moved, with_node, with_handle, next_node, reference_fault, references_fault, is_named_by, BirthCall, AwayBirthCall, Adopts, LazyCall, PagerState, IsWhole}
 use Rattle.pagable_steps.proofs.Words.{WellFormed, Stands, AreGood, NotValues, good, or-none, named-among, stands-whole, stands-changed, found-number, among-changed, self-number, same-number, sum-le}
 use Rattle.pagable_steps.proofs.{Owning.{At, Has, among-named, same-value, holds_value, settled, sits}, Spared.{not-load, gets-known}}
 use Rattle.pagable_steps.proofs.Parts.{OwnsAlike, Spares, owns-then, owns-handle, pinned-here, sits-on, spared, spares-alike, spares-cached, sum-mapped}

@@ -1,10 +1,10 @@
 -- Values go with a cascade: where a call has done what it does directly, a value stays exactly where its node is in memory afterwards, and owns what it did.
 use Rattle.std.proofs.lemmas.Bool.{false_from_ne_true}
-use Rattle.pagable_steps.proofs.Words.{◌≡◌, ℕ, suc, zero, ◌+◌, ◌<◌, ◌≤◌, ◌==◌, ◌&&◌, Bool, true, false, List, [], ◌∷◌, ◌++◌, Option, Some, None, inl, inr, refl, ap, sym, subst, ◌∙◌, if◌then◌else◌, arith, is_some, not}
-use Rattle.pagable_steps.proofs.Words.{nat_lt, nat_eq, cond, and_parts, nat_tests, sum_by-cons, sum_by-append, OptionalDataKey, HandleRow, Owner, Mode, ArcRef, Among, one, times, if_there, filter}
-use Rattle.pagable_steps.proofs.Words.{is_at, is_pin, is_owner, is_owned_by, owner_value, held, has_key, is_in_memory, pins, Core, Cell, Values, type_at, is_here, is_outside, held_outside, pins_outside}
+use Rattle.pagable_steps.proofs.Words.{◌≡◌, ℕ, suc, zero, ◌+◌, ◌<◌, ◌≤◌, ◌&&◌, Bool, true, false, List, [], ◌∷◌, Option, Some, None, inl, inr, refl, ap, sym, subst, ◌∙◌, if◌then◌else◌, arith, is_some, not}
+use Rattle.pagable_steps.proofs.Words.{nat_lt, cond, and_parts, nat_tests, sum_by-cons, sum_by-append, HandleRow, Owner, ArcRef, Among, one, times, if_there, filter}
+use Rattle.pagable_steps.proofs.Words.{is_at, is_pin, is_owned_by, owner_value, held, pins, Core, Cell, Values, type_at, is_here, is_outside}
 use Rattle.pagable_steps.proofs.Words.{owned_outside, loses_value, AreNewEntries, is_keyed, left_rows, Falls, PagerState, WellFormed, is_named_by, Stands, stands-alike, stands-more, among-kept}
-use Rattle.pagable_steps.proofs.Words.{among-found, found-number, found-kept, none-in-new, le-more, same-owner, self-number, sum-le, at-most-sum, row-held, fell-away, outlast, fallen, named-among}
+use Rattle.pagable_steps.proofs.Words.{among-found, found-number, found-kept, none-in-new, le-more, same-owner, sum-le, at-most-sum, row-held, fell-away, outlast, fallen, named-among}
 use Rattle.pagable_steps.proofs.{Owning.{At, Has, settled, sits, holds_value, same-value, owned-test, among-named}, Parts.{AreFree, Keeps, Leaves, among-either, sits-on}}
 
 -- ---- what is left, and what comes
@@ -16,18 +16,15 @@ passes {X} test (y ∷ ys) x among = at (λ a. passes test ys x a) (test y) refl
   where
     at : (Among (filter test ys) x → test x ≡ true) → (b : Bool) → test y ≡ b → Among (cond b (y ∷ filter test ys) (filter test ys)) x → test x ≡ true
     at rest true e (suc i, is) = rest (i, is)
-    at rest true e (zero, is) = let same : y ≡ x = cc in subst (λ z. test z ≡ true) same e
-    at rest false e among = rest among
+    at rest b e among = grind (arith, nat_tests)
 
 times-left : (t : HandleRow → Bool) (gone : ℕ → Bool) (rows : List HandleRow) → times t (left_rows gone rows) ≡ times (λ h. t h && is_outside gone h) rows
 times-left t gone [] = refl
-times-left t gone (x ∷ xs) = at (gone x.number.0) refl (times-left t gone xs) (sym (sum_by-cons (λ h. one (t h && is_outside gone h)) x xs)) (sum_by-cons (λ h. one (t h)) x (left_rows gone xs))
-  where
-    at : (b : Bool) → gone x.number.0 ≡ b → times t (left_rows gone xs) ≡ times (λ h. t h && is_outside gone h) xs
-        → one (t x && is_outside gone x) + times (λ h. t h && is_outside gone h) xs ≡ times (λ h. t h && is_outside gone h) (x ∷ xs)
-        → times t (x ∷ left_rows gone xs) ≡ one (t x) + times t (left_rows gone xs)
-        → times t (cond (not b) (x ∷ left_rows gone xs) (left_rows gone xs)) ≡ times (λ h. t h && is_outside gone h) (x ∷ xs)
-    at b e same whole more = grind (arith, nat_tests)
+times-left t gone (x ∷ xs) =
+    let more = sum_by-cons (λ h. one (t h)) x (left_rows gone xs) in
+    let all = sum_by-cons (λ h. one (t h && is_outside gone h)) x xs in
+    let rest = times-left t gone xs in
+    grind (arith, nat_tests)
 
 -- new entries pin nothing, and the list owns them
 unpinned : (n last : ℕ) (entries : List HandleRow) → AreNewEntries last entries → pins n entries ≡ 0
@@ -46,26 +43,18 @@ module _ {before w w' : Core} {given : ℕ → Bool} {r : _} (f : Falls before w
   -- a node has lost its value exactly where it isn't in memory any more
   loses : (n : ℕ) (cell : Cell) → w.cells n ≡ Some cell → loses_value w.rows (is_keyed w) f.entries f.gone n ≡ not (holds_value w' n)
   loses n cell live =
-      let ho = held_outside w.rows f.gone n in
-      let po = pins_outside w.rows f.gone n in
-      let he = held n f.entries in
-      let c : held n w'.rows ≡ ho + he =
-      ap (held n) f.leaves.rows ∙ (sum_by-append (λ h. one (is_at n h)) (left_rows f.gone w.rows) f.entries ∙ ap (λ k. k + he) (times-left (is_at n) f.gone w.rows)) in
-      let p : pins n w'.rows ≡ po + pins n f.entries =
-      ap (pins n) f.leaves.rows ∙ (sum_by-append (λ h. one (is_pin n h)) (left_rows f.gone w.rows) f.entries ∙ ap (λ k. k + pins n f.entries) (times-left (is_pin n) f.gone w.rows)) in
-      let fewer : po ≤ ho = sum-le (λ h. one (is_pin n h && is_outside f.gone h)) (λ h. one (is_at n h && is_outside f.gone h)) w.rows (λ h among. pin-at (is_at n h) _ (is_outside f.gone h)) in
-      let cells : w'.cells n ≡ (if nat_lt 0 (ho + he) then Some cell else None) =
-      f.leaves.cells n ∙ (ap (λ k. if nat_lt 0 k then w.cells n else None) (sym (ap (held n) f.leaves.rows) ∙ c) ∙ ap (λ o. if nat_lt 0 (ho + he) then o else None) live) in
-      let keyed : is_keyed w n ≡ has_key cell.key = ap (λ o. has_key (if_there (λ (x : Cell). x.key) OptionalDataKey.None o)) live in
-      rw (keyed, cells, p, unpinned n w.last.handle f.entries f.new) (by-number ho po he fewer (nat_lt 0 (ho + he)) refl (has_key cell.key) refl)
+      let h = counts (is_at n) in
+      let p = counts (is_pin n) in
+      let none = unpinned n w.last.handle f.entries f.new in
+      let fewer = sum-le (λ h. one (is_pin n h && is_outside f.gone h)) (λ h. one (is_at n h && is_outside f.gone h)) w.rows (λ h among. pin-at (is_at n h) _ (is_outside f.gone h)) in
+      let cells : w'.cells n ≡ (if nat_lt 0 (held n w'.rows) then Some cell else None) = f.leaves.cells n ∙ rw (f.leaves.rows, live) refl in
+      grind (arith, nat_tests)
     where
+      counts : (t : HandleRow → Bool) → times t w'.rows ≡ times (λ h. t h && is_outside f.gone h) w.rows + times t f.entries
+      counts t = ap (times t) f.leaves.rows ∙ (sum_by-append (λ h. one (t h)) (left_rows f.gone w.rows) f.entries ∙ ap (λ k. k + times t f.entries) (times-left t f.gone w.rows))
+
       pin-at : (a b c : Bool) → one ((a && b) && c) ≤ one (a && c)
       pin-at a b c = grind (arith, nat_tests)
-
-      by-number : (ho po he : ℕ) → po ≤ ho → (b : Bool) → nat_lt 0 (ho + he) ≡ b → (k : Bool) → has_key cell.key ≡ k
-          → (if k then nat_eq po 0 else nat_eq he 0 && nat_eq ho 0)
-          ≡ not (is_some (if b then Some cell else None) && is_in_memory (po + 0) (if_there (λ (x : Cell). x.key) OptionalDataKey.None (if b then Some cell else None)))
-      by-number ho po he fewer x4 e x6 k = grind (arith, nat_tests)
 
   -- a row that a value owns was there, and isn't gone
   was : (n : ℕ) (h : HandleRow) → Among w'.rows h → h.owner ≡ owner_value n → Among w.rows h × (f.gone h.number.0 ≡ false)

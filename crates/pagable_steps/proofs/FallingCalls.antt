@@ -1,7 +1,7 @@
 -- Calls by which handles go, and values with them.
 use Rattle.pagable_laws.proofs.Effects as effects
 use Rattle.pagable_steps.proofs.Words.{◌≡◌, ℕ, ◌==◌, ◌&&◌, ◌||◌, Bool, true, false, List, [], ◌∷◌, Option, Some, None, Ok, Err, inl, inr, refl, ap, sym, subst, ◌∙◌, arith, Result, not, and_parts}
-use Rattle.pagable_steps.proofs.Words.{nat_tests, is_some, Error, HandleRow, Owner, Mode, ArcRef, Kind, HandleNumber, LoadNumber, NodeNumber, OptionalDataKey, is_in, if_there, find_row, is_owner, is_owned_by}
+use Rattle.pagable_steps.proofs.Words.{nat_tests, is_some, Error, HandleRow, Owner, Mode, ArcRef, Kind, HandleNumber, LoadNumber, NodeNumber, is_in, if_there, find_row, is_owner, is_owned_by}
 use Rattle.pagable_steps.proofs.Words.{owner_worker, is_at, is_in_memory, is_here, is_pinning, Core, Values, Alike, row_at, type_at, key_at, usable, FallsAnyhow, refused_if, named_fault, UnpinCall, ReleaseCall, SetKeyCall, ScheduleCall}
 use Rattle.pagable_steps.proofs.Words.{OfferCall, CloseCall, Owns, is_named_by, with_mode, with_key, is_owned_in, numbers_of, Adopts, EndCall, HandOverCall, DropCall, LoadCloses, is_workers_at, is_load_of, WorkerEnds}
 use Rattle.pagable_steps.proofs.Words.{PagerState, IsWhole, WellFormed, same-number, counted, same-owner, good, NotValues, neither, stands-whole, Stands}
@@ -30,13 +30,10 @@ module _ {w : Core} (whole : IsWhole w) where
   handed-free : (l : LoadNumber) (hs : List HandleNumber) (seen : List ℕ) → named_fault w (Owner.Load l) seen hs ≡ None → AreFree w (is_in (numbers_of hs))
   unfolding named_fault is_in
   handed-free l [] seen none h among is = absurd (cc)
-  handed-free l (x ∷ hs) seen none h among is = by (λ rest more. handed-free l hs (x.0 ∷ seen) rest h among more) (x.0 == h.number.0) refl (neither _ _ none) is
-    where
-      by : (named_fault w (Owner.Load l) (x.0 ∷ seen) hs ≡ None → is_in (numbers_of hs) h.number.0 ≡ true → NotValues h.owner) → (b : Bool) → (x.0 == h.number.0) ≡ b
-          → (if_there (λ (row : HandleRow). refused_if (not (is_owner (Owner.Load l) row.owner) || is_in seen x.0) Error.NotYours) (Some Error.NoSuchHandle) (row_at w x) ≡ None)
-          × (named_fault w (Owner.Load l) (x.0 ∷ seen) hs ≡ None)
-          → (b || is_in (numbers_of hs) h.number.0) ≡ true → NotValues h.owner
-      by more x1 e x3 is = grind (arith, nat_tests, row_at, find_row, same-number, found-whole, refused_if, not, is_owner, is_in, not-loads, same-owner)
+  handed-free l (x ∷ hs) seen none h among is =
+      let both = neither _ _ none in
+      let rest : is_in (numbers_of hs) h.number.0 ≡ true → NotValues h.owner = λ e. handed-free l hs (x.0 ∷ seen) both.1 h among e in
+      grind (arith, nat_tests, row_at, find_row, same-number, found-whole, refused_if, not, is_owner, not-loads, same-owner)
 
 -- ---- what is done directly
 

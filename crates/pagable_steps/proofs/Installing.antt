@@ -1,20 +1,12 @@
 -- A load of a cell ends with a pin: where the cell has no value, what was read comes into it; else it is dropped. What the load still owns goes.
-use Rattle.std.proofs.Common.{rules}
 use Rattle.pagable_laws.proofs.Effects as effects
-use Rattle.pagable_steps.proofs.Words.{◌≡◌, ℕ, ◌+◌, ◌<◌, ◌==◌, ◌&&◌, Bool, true, false, [], inl, inr, refl, ap, sym, subst, ◌∙◌, if◌then◌else◌, arith, Option, Some, None, is_some, not, and_parts, nat_tests}
-use Rattle.pagable_steps.proofs.Words.{sum_by_push, Among, one, HandleRow, Owner, Mode, ArcRef, HandleNumber, LoadNumber, NodeNumber, if_there, updated, owner_value, is_owned_by, is_owner, is_pin, is_loose}
-use Rattle.pagable_steps.proofs.Words.{is_pinning, is_in_memory, pins, Core, Cell, Values, row_of, type_at, key_at, is_here, Owns, is_named_by, moved, with_mode, without_load, is_owned_in, with_pin, MayEnd, Installs}
-use Rattle.pagable_steps.proofs.Words.{PagerState, IsWhole, WellFormed, self-number, NotLoads, NotValues, Stands, good, row-held, stands-whole, same-number}
-use Rattle.pagable_steps.proofs.{Births.{Receives, receives}, Owning.{At, found-whole, holds_value, sits}, Falling.{fell, fell-from}, FallingCalls.load-free}
-use Rattle.pagable_steps.proofs.{Parts.{AreFree, Keeps, Leaves, OwnsAlike, Sweeps, owns-then, owns-handle, sits-on, spares-keeps, spares-then, spares-same, spares-handle, mode-owns, mode-others, mode-here}}
+use Rattle.pagable_steps.proofs.Words.{◌≡◌, ℕ, ◌+◌, ◌==◌, ◌&&◌, Bool, true, false, [], inl, inr, refl, ap, sym, subst, ◌∙◌, if◌then◌else◌, arith, Option, Some, None, is_some, not, and_parts, nat_tests}
+use Rattle.pagable_steps.proofs.Words.{sum_by_push, Among, one, HandleRow, Owner, Mode, HandleNumber, LoadNumber, NodeNumber, if_there, updated, owner_value, is_owned_by, is_owner, is_pin, is_loose}
+use Rattle.pagable_steps.proofs.Words.{is_in_memory, pins, Core, Values, row_of, type_at, key_at, is_here, Owns, is_named_by, moved, with_mode, without_load, is_owned_in, with_pin, MayEnd, Installs}
+use Rattle.pagable_steps.proofs.Words.{PagerState, IsWhole, WellFormed, NotLoads, NotValues, Stands, good, row-held, stands-whole, same-number}
+use Rattle.pagable_steps.proofs.{Births.{Receives, receives}, Owning.{At, found-whole, holds_value}, Falling.{fell, fell-from}, FallingCalls.load-free}
+use Rattle.pagable_steps.proofs.{Parts.{AreFree, Keeps, OwnsAlike, Sweeps, owns-then, owns-handle, sits-on, spares-keeps, spares-then, spares-same, spares-handle, mode-owns, mode-others, mode-here}}
 use Rattle.pagable_steps.proofs.Spared.{not-load, turned}
-
-live-type : (w : Core) (n : ℕ) → is_some (w.cells n) ≡ true → (t : ℕ) × (type_at w n ≡ Some t)
-live-type w n is = at (w.cells n) is
-  where
-    at : (c : Option Cell) → is_some c ≡ true → (t : ℕ) × (if_there (λ (cell : Cell). Some cell.node_type) None c ≡ Some t)
-    at (Some cell) is = (cell.node_type, refl)
-    at None is = absurd (cc)
 
 module _ {N E : Type 0} {v : Values N} {s : PagerState N E} (is : WellFormed v s) {me : Owner} {l : LoadNumber} {node : NodeNumber} {h : HandleNumber} {x : N}
     (may : MayEnd s.core me l node h (v.node_type x) (v.references x)) (row : HandleRow) (own : Owns s.core me h is_loose row) (at_node : row.node ≡ node) where
@@ -38,7 +30,7 @@ module _ {N E : Type 0} {v : Values N} {s : PagerState N E} (is : WellFormed v s
   module _ (away : is_here w node.0 ≡ false) where
     -- the cell is there, of the value's type
     cell-typed : type_at w node.0 ≡ Some (v.node_type x)
-    cell-typed = search (rules, row-held, live-type)
+    cell-typed = let some = row-held w h row own.live in let live = is.whole.handles.live node.0 in let root = is.whole.loads.roots l.0 may.load node (v.node_type x) h may.owned.stands_open may.of_node in grind (arith, nat_tests)
 
     no-value : s.values node.0 ≡ None
     no-value = grind (arith, nat_tests)

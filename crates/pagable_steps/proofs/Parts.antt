@@ -1,10 +1,10 @@
 -- What is done before handles go, part by part: it leaves what values own as it is.
 use Rattle.std.specs.Prelude.{◌⊎◌}
 use Rattle.pagable_laws.proofs.Effects as effects
-use Rattle.pagable_steps.proofs.Words.{◌≡◌, ℕ, suc, ◌+◌, ◌<◌, ◌≤◌, ◌==◌, ◌&&◌, ◌||◌, Bool, true, false, List, [], ◌∷◌, ◌++◌, Option, Some, None, sum_by, map, refl, ap, sym, subst, ◌∙◌, inl, inr, if◌then◌else◌, arith}
-use Rattle.pagable_steps.proofs.Words.{is_some, nat_lt, and_parts, nat_tests, sum_by-cons, sum_by_push, HandleRow, Owner, Mode, OptionalDataKey, HandleNumber, NodeNumber, SameAt, Among, changed, one, if_there}
-use Rattle.pagable_steps.proofs.Words.{find_row, is_handle, is_owner, owner_value, is_pin, is_pinning, is_in_memory, pins, Core, Cell, Last, Alike, Values, row_at, type_at, key_at, is_here, row_of, Owns}
-use Rattle.pagable_steps.proofs.Words.{with_handle, with_mode, with_cached, moved, Kind, PagerState, IsWhole, WellFormed, Falls, Stands, stands-whole, stands-changed, among-found, among-changed, found-number}
+use Rattle.pagable_steps.proofs.Words.{◌≡◌, ℕ, suc, ◌+◌, ◌<◌, ◌==◌, ◌&&◌, Bool, true, false, List, [], ◌∷◌, ◌++◌, Option, Some, None, sum_by, map, refl, ap, sym, subst, ◌∙◌, inl, inr, if◌then◌else◌, arith}
+use Rattle.pagable_steps.proofs.Words.{is_some, nat_lt, nat_tests, sum_by-cons, sum_by_push, HandleRow, Owner, Mode, OptionalDataKey, HandleNumber, NodeNumber, SameAt, Among, changed, one, if_there}
+use Rattle.pagable_steps.proofs.Words.{is_handle, owner_value, is_pin, is_pinning, is_in_memory, pins, Core, Cell, Last, Alike, Values, row_at, type_at, key_at, is_here, row_of}
+use Rattle.pagable_steps.proofs.Words.{with_handle, with_mode, with_cached, moved, Kind, PagerState, IsWhole, WellFormed, Stands, stands-changed, among-found, among-changed, found-number}
 use Rattle.pagable_steps.proofs.Words.{NotValues, same-number, row-pins, self-number, found-after}
 use Rattle.pagable_steps.proofs.Owning.{At, settled, sits, holds_value}
 

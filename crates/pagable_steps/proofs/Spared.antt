@@ -1,7 +1,7 @@
 -- Calls by which no value comes or goes.
 use Rattle.pagable_laws.proofs.Effects as effects
-use Rattle.pagable_steps.proofs.Words.{◌≡◌, ℕ, ◌+◌, ◌<◌, ◌≤◌, ◌==◌, ◌&&◌, ◌||◌, ◌%◌, Bool, true, false, Option, Some, None, Ok, Err, inl, inr, refl, ap, sym, subst, ◌∙◌, if◌then◌else◌, arith, Result}
-use Rattle.pagable_steps.proofs.Words.{not, nat_lt, is_some, slice_get, nat_tests, Beginning, Pinning, Want, HandleRow, Owner, Mode, Error, Blob, Kind, HandleNumber, LoadNumber, NodeNumber, WorkerNumber, Among, one}
+use Rattle.pagable_steps.proofs.Words.{◌≡◌, ℕ, ◌+◌, ◌<◌, ◌≤◌, ◌==◌, Bool, true, false, Option, Some, None, Ok, Err, inl, inr, refl, ap, sym, subst, ◌∙◌, if◌then◌else◌, arith, Result}
+use Rattle.pagable_steps.proofs.Words.{not, nat_lt, is_some, slice_get, nat_tests, Beginning, Pinning, Want, HandleRow, Owner, Mode, Error, Blob, Kind, HandleNumber, LoadNumber, NodeNumber, WorkerNumber, one}
 use Rattle.pagable_steps.proofs.Words.{is_shared_kind, is_loose_kind, is_pinned_kind, is_at, is_pinning, is_pinned, is_shared, is_share, mode_of, held, pins, Core, Last, Alike, usable, is_here, only_handle}
 use Rattle.pagable_steps.proofs.Words.{Owns, with_mode, with_known, CloneCall, PinCall, LoosenCall, ScheduleCall, TakeCall, ReserveCall, RecallCall, OfferCall, ClearCall, Asked, StoreCall, with_worker}
 use Rattle.pagable_steps.proofs.Words.{with_entry_taken, BeginCall, BeginKeyCall, GetsKnown, Given, from_cache, AskCall, IsWhole, same-number, at-most-sum, counted, one-true, NotValues, stands-whole}
