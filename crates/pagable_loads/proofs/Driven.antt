@@ -2,7 +2,7 @@
 use Rattle.std.proofs.{Common.{arith, rules, ◌≡◌, ℕ, Bool, true, false, List, [], Option, Some, None, inl, inr, refl, ap, sym, subst, ◌∙◌, if◌then◌else◌}, lemmas.Bool.Decides.nat_tests}
 use Rattle.{std.proofs.lemmas.Grind.common_steps, pagable_model.specs.declared.numbers.{Kind.Kind, LoadNumber.LoadNumber, NodeNumber.NodeNumber}}
 use Rattle.pagable_world.specs.{declared.{events.LoadAnswer.LoadAnswer, handles.Owner.Owner}, World.{Core, Frame, Reading, Values, one_more}, Calls.with_cached, Loads.{GoesOn, Does, gone_on}}
-use Rattle.{pagable_world.specs.{Pager.PagerState, Access.{Told, LoadRun, load-ends, load-goes-on}}, pagable_loads.specs.{Frames.{IsLoadOf, frames_of, reading_of}, Stepping.Steps, Running.Runs}}
+use Rattle.{pagable_world.specs.{Pager.PagerState, Access.{Told, LoadRun, load-ends, load-goes-on}}, pagable_loads.specs.{Frames.{IsLoadOf, frames_of, reading_of}, Stepping.{IsSameLoad, Steps}, Running.Runs}}
 use Rattle.pagable_loads.specs.{Running.HasGone, declared.reading.Reading.Reading as Own}
 
 module _ {N : Type 0} (v : Values N) (me : Owner) where
@@ -22,12 +22,11 @@ module _ {N : Type 0} (v : Values N) (me : Owner) where
 
 module _ {N E : Type 0} (v : Values N) (me : Owner) where
   module _ (own now : Own) (s m t : PagerState N E) (gone : HasGone v me own now s m) where
-    pub went_on : (next : Own) (frames : List Frame) → next.load ≡ now.load → next.key ≡ now.key → next.node_type ≡ now.node_type → next.for_cell ≡ now.for_cell → next.steps ≡ one_more now.steps
-        → frames ≡ frames_of next.top next.below.items → Steps v me now m None frames t → HasGone v me own next s t
-    went_on next frames load key typed sort counted is step = record { open_still = still; then = λ o answer u run. gone.then o answer u (load-goes-on (reading_of now) frames answer m t u (step.does (gone.open_still o)) (subst (λ r. LoadRun v me r t answer u) same run)) }
+    pub went_on : (next : Own) (frames : List Frame) → IsSameLoad now next (one_more now.steps) → frames ≡ frames_of next.top next.below.items → Steps v me now m None frames t → HasGone v me own next s t
+    went_on next frames is_same is step = record { open_still = still; then = λ o answer u run. gone.then o answer u (load-goes-on (reading_of now) frames answer m t u (step.does (gone.open_still o)) (subst (λ r. LoadRun v me r t answer u) same run)) }
       where
         same : reading_of next ≡ gone_on (reading_of now) frames
-        same = rw (load, typed, counted, is) refl
+        same = rw (is_same.load, is_same.node_type, is_same.steps, is) refl
 
         still : IsLoadOf s.core me own → IsLoadOf t.core me next
         still o =
@@ -35,9 +34,9 @@ module _ {N E : Type 0} (v : Values N) (me : Owner) where
             let stays = goes_open v me m.core t.core (reading_of now) frames (step.does n).does.does in
             record {
               load = n.load;
-              owned = record { stands_open = ap (λ (l : LoadNumber). t.core.loads l.0) load ∙ stays ∙ n.owned.stands_open; own = n.owned.own };
-              key = n.key ∙ sym key;
-              sort = n.sort ∙ sym sort;
+              owned = record { stands_open = ap (λ (l : LoadNumber). t.core.loads l.0) is_same.load ∙ stays ∙ n.owned.stands_open; own = n.owned.own };
+              key = n.key ∙ sym is_same.key;
+              sort = n.sort ∙ sym is_same.for_cell;
             }
 
     pub ends_so : (answer : LoadAnswer N) (frames : List Frame) → Steps v me now m (Some answer) frames t → Runs v me own s answer t

@@ -117,5 +117,5 @@ module _ {N E : Type 0} (v : Values N) (h : HandleNumber) where
       let is = p.pinned.1 ∙ ap (if_there (λ (row : HandleRow). is_unpinned row.mode) false) l.1 in
       record { pins = tt; refused = inr (refl, record { k = k; mid = mid; low = b.low; told = b.told; pins = p.pinned.0; unpins = back s mid b.low was l.0 l.1 l.2 is (pin_whole p.pinned.0) b.unpins; releases = b.releases }) }
 
-  pub takes_back : (k : HandleNumber) (was : Bool) (s low t : PagerState N E) (told : Result (Unit {0}) Error) → Unpins v was h s low → Called v (λ w'. ReleaseCall low.core Owner.Caller k told w') low t → TakesBack v was h k s t
-  takes_back k was s low t told u c = record { low = low; unpins = u; told = told; releases = c }
+  pub takes_back : {me : Owner} → me ≡ Owner.Caller → (k : HandleNumber) (was : Bool) (s low t : PagerState N E) (told : Result (Unit {0}) Error) → Unpins v was h s low → Called v (λ w'. ReleaseCall low.core me k told w') low t → TakesBack v was h k s t
+  takes_back mine k was s low t told u c = record { low = low; unpins = u; told = told; releases = rw mine at c }

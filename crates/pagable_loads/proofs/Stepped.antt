@@ -5,7 +5,7 @@ use Rattle.{pagable_model.specs.Deep.longest_path, pagable_world.specs.{declared
 use Rattle.pagable_world.specs.{World.{Root, of_cell, of_key, OpenLoad, Frame, Reading, Values}, Refusals.{OwnsLoad, refused_if, load_fault}, LoadCalls.{from_store, AskCall, AdoptCall, EndCall}}
 use Rattle.pagable_world.specs.{LoadCalls.{HandOverCall, DropCall, LoadCloses}, Loads.{need_of, needs_nested, needs_lazy, root_frame, nested_frame, with_got, handles_of, MakesNode, ReadsNode}}
 use Rattle.pagable_world.specs.{Loads.{ReadsRoot, LoadIs, IsOfCell, IsOfKey, Meets, Does}, Pager.{PagerState, Moves, ReadingBrings, IsNewNode, IsCellOf}, Access.{Told, Called, ReadingStep}}
-use Rattle.pagable_loads.specs.{Telling.{Tells, Brings, IsMade, AsksFor, TakesLazily, AdoptsValue}, Frames.{frame_of, frames_of, onto, reading_of, is_cell, IsLoadOf}, Stepping.{Met, Tries, Steps, Drops}}
+use Rattle.pagable_loads.specs.{Telling.{Acting, Acts, ActsThen, Tells, Brings, IsMade, AsksFor, TakesLazily, AdoptsValue}, Frames.{frame_of, frames_of, onto, reading_of, is_cell, IsLoadOf}, Stepping.{Met, Tries, Steps, Drops}}
 use Rattle.{pagable_loads.{specs.declared.reading.{Frame.Frame as Held, Reading.Reading as Own}, proofs.Needed.length_onto}, either.specs.declared.Either.Either}
 
 -- ---- what is told
@@ -30,12 +30,34 @@ module _ {S : Type 0} where
   pub told_same : {o : Option S} {R : S → S → Type 0} → Tells o (λ s. R s s) → Told o o R
   told_same {o} {R} h = grind (arith, nat_tests, common_steps)
 
-  pub told_all : {o : Option S} {R : S → S → Type 0} → ((s : S) → R s s) → Told o o R
-  told_all f = told_same (tells_all f)
-
   -- beside the first of two states
   pub told_from : {o n : Option S} {P : S → Type 0} {R Q : S → S → Type 0} → ((s t : S) → P s → R s t → Q s t) → Tells o P → Told o n R → Told o n Q
   told_from {o} {n} {P} {R} {Q} f h k = grind (arith, nat_tests, common_steps)
+
+-- ---- what an access does
+
+module _ {A S E : Type 0} {told : A → Option S} {by : A → Acting E} where
+  pub acts_map : {o n : A} {after : Acting E → Acting E} {R Q : Acting E → S → S → Type 0} → ActsThen told by o n after R → ((s t : S) → R (by o) s t → Q (by o) s t) → ActsThen told by o n after Q
+  acts_map h f = record { step = told_map f h.step; acting = h.acting }
+
+  -- one thing after another
+  pub acts_on : {o m n : A} {first then after : Acting E → Acting E} {R T Q : Acting E → S → S → Type 0} → ActsThen told by o m first R → ActsThen told by m n then T
+      → ((s mid t : S) → R (by o) s mid → T (first (by o)) mid t → Q (by o) s t) → then (first (by o)) ≡ after (by o) → ActsThen told by o n after Q
+  acts_on {m = m} {n = n} {then = then} {T = T} h k f is = record { step = told_then f h.step (subst (λ a. Told (told m) (told n) (T a)) h.acting k.step); acting = k.acting ∙ ap then h.acting ∙ is }
+
+  pub acts_then : {o m n : A} {R T Q : Acting E → S → S → Type 0} → Acts told by o m R → Acts told by m n T → ((s mid t : S) → R (by o) s mid → T (by o) mid t → Q (by o) s t) → Acts told by o n Q
+  acts_then h k f = acts_on h k f refl
+
+  -- nothing is done
+  pub acts_same : {o : A} {R : Acting E → S → S → Type 0} → Tells (told o) (λ s. R (by o) s s) → Acts told by o o R
+  acts_same h = record { step = told_same h; acting = refl }
+
+  pub acts_all : {o : A} {R : Acting E → S → S → Type 0} → ((s : S) → R (by o) s s) → Acts told by o o R
+  acts_all f = acts_same (tells_all f)
+
+  -- beside what held before
+  pub acts_from : {o n : A} {P : S → Type 0} {R Q : Acting E → S → S → Type 0} → Tells (told o) P → Acts told by o n R → ((s t : S) → P s → R (by o) s t → Q (by o) s t) → Acts told by o n Q
+  acts_from h k f = record { step = told_from f h k.step; acting = k.acting }
 
 -- ---- which values come
 

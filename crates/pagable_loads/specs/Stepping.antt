@@ -1,5 +1,5 @@
 -- What a load's step does, up to its refusal and with it, in the words of the world.
-use Rattle.std.specs.Prelude.{◌≡◌, ◌<◌, ◌++◌, List, [], ◌∷◌, Option, Result, IfOk, IfErr, vec_len, vec_capacity}
+use Rattle.std.specs.Prelude.{◌≡◌, ℕ, ◌<◌, ◌++◌, List, [], ◌∷◌, Option, Result, IfOk, IfErr, vec_len, vec_capacity}
 use Rattle.pagable_model.specs.declared.{error.Error.Error, numbers.ArcRef.ArcRef}
 use Rattle.{pagable_model.specs.declared.numbers.LoadNumber.LoadNumber, pagable_world.specs.{declared.{events.LoadAnswer.LoadAnswer, handles.Owner.Owner}, World.{Frame, Reading, Values}}}
 use Rattle.{pagable_world.specs.{LoadCalls.DropCall, Loads.Meets, Pager.{PagerState, Moves, ReadingBrings}, Access.{Called, ReadingStep}}, pagable_loads.specs.declared.reading.Frame.Frame as Held}
@@ -24,13 +24,13 @@ pub record Drops {N E : Type 0} (v : Values N) (me : Owner) (l : LoadNumber) (s 
   pub told : Result (Unit {0}) Error
   pub call : Called v (λ w'. DropCall s.core me l told w') s t
 
--- it is the same load, after as many steps
-pub record IsSameLoad (old new : Own) : Type 0 where
+-- it is the same load, after so many steps
+pub record IsSameLoad (old new : Own) (count : ℕ) : Type 0 where
   pub load : new.load ≡ old.load
   pub key : new.key ≡ old.key
   pub node_type : new.node_type ≡ old.node_type
   pub for_cell : new.for_cell ≡ old.for_cell
-  pub steps : new.steps ≡ old.steps
+  pub steps : new.steps ≡ count
 
 -- the innermost blob was taken off, with a place for one more reference, and there is a place for it below
 pub record TakenOff (old new : Own) (top : Held) : Type 0 where

@@ -2,14 +2,31 @@
 use Rattle.std.specs.Prelude.{ℕ, ◌≡◌, List, Option, Some, None, Result, Ok, Err, IfOk}
 use Rattle.{either.specs.declared.Either.Either, pagable_codec.specs.declared.env.Env.Ghosts as Environments}
 use Rattle.{pagable_codec.specs.declared.{hash.KeyHash.Ghosts as Hashes, nodes.NodeSet.Ghosts as Nodes}, pagable_model.specs.declared.{error.Error.Error, numbers.ArcRef.ArcRef}}
-use Rattle.{pagable_model.specs.{declared.numbers.{HandleNumber.HandleNumber, Kind.Kind, LoadNumber.LoadNumber}, Blob.Blob}, pagable_world.specs.declared.answers.Beginning.Beginning}
+use Rattle.{pagable_model.specs.{declared.numbers.{HandleNumber.HandleNumber, Kind.Kind, LoadNumber.LoadNumber, WorkerNumber.WorkerNumber}, Blob.Blob}, pagable_world.specs.declared.answers.Beginning.Beginning}
 use Rattle.pagable_world.specs.{declared.{handles.{HandleRow.HandleRow, Owner.Owner}, calls.Want.Want}, World.{Core, Values, row_at}, LoadCalls.{Given, from_cache, from_store, AskCall, AdoptCall}}
-use Rattle.pagable_world.specs.{LoadCalls.LazyCall, Pager.{PagerState, WellFormed, Moves}}
+use Rattle.pagable_world.specs.{LoadCalls.LazyCall, Pager.{PagerState, WellFormed, Moves}, Access.Told}
 
--- whose calls they are, and the environment of the values
+-- whose calls they are, the environment of the values, and what was borrowed for changing
 pub record Acting (E : Type 0) : Type 0 where
   pub me : Owner
   pub environment : E
+  pub lender : ℕ
+
+-- What an access does, by whom and where it acts, to the state, if that is told; and as whom it acts afterwards.
+pub record ActsThen {A S E : Type 0} (told : A → Option S) (by : A → Acting E) (old new : A) (after : Acting E → Acting E) (does : Acting E → S → S → Type 0) : Type 0 where
+  pub step : Told (told old) (told new) (does (by old))
+  pub acting : by new ≡ after (by old)
+
+-- it acts as the same afterwards
+abbrev pub Acts : {A S E : Type 0} → (A → Option S) → (A → Acting E) → A → A → (Acting E → S → S → Type 0) → Type 0
+Acts told by old new does = ActsThen told by old new (λ a. a) does
+
+-- as a worker that has begun; and as the caller, once the worker has ended
+abbrev pub as_worker : {E : Type 0} → WorkerNumber → Acting E → Acting E
+as_worker n a = record a { me = Owner.Worker n }
+
+abbrev pub as_caller : {E : Type 0} → Acting E → Acting E
+as_caller a = record a { me = Owner.Caller }
 
 -- the values of an environment
 abbrev pub values_at : {N E H K V : Type 0} → Nodes N E N H K V → Environments E N H K V → Hashes H → E → Values N

@@ -4,7 +4,7 @@ use Rattle.pagable_model.specs.declared.{error.Error.Error, numbers.ArcRef.ArcRe
 use Rattle.{pagable_model.specs.declared.numbers.{HandleNumber.HandleNumber, LoadNumber.LoadNumber, WorkerNumber.WorkerNumber}, pagable_world.specs.Kinds.{loose_kind, HasKinds, HasNoKinds}}
 use Rattle.pagable_world.specs.{declared.handles.{HandleRow.HandleRow, Owner.Owner}, World.{Core, Values, Alike}, Workers.{RowIs, PinsAtOnce, PinRefused}, LoadCalls.BeginCall, Calls.CloneCall}
 use Rattle.pagable_world.specs.declared.answers.Beginning.{Beginning}
-use Rattle.{pagable_world.specs.{Events.{IsEntry, with_entry_taken}, Pager.PagerState, Access.{Called, WorkerStarts}}, pagable_loads.specs.{declared.working.Taken.Taken, Telling.Acting}}
+use Rattle.{pagable_world.specs.{Events.{IsEntry, with_entry_taken}, Pager.PagerState, Access.{Called, WorkerStarts}}, pagable_loads.specs.declared.working.Taken.Taken}
 
 -- why something was refused, if it was
 abbrev pub fault_in : {X : Type 0} → Result X Error → Option Error
@@ -44,11 +44,3 @@ EntryFault w place e =
 pub record RefusesEntry {N E : Type 0} (v : Values N) (s : PagerState N E) (place : ℕ) (e : Error) (t : PagerState N E) : Type 0 where
   pub why : EntryFault s.core place e
   pub stays : Called v (λ w'. Alike s.core w') s t
-
--- for whom it acts once a worker has begun; and once the worker has ended
-abbrev pub acting_after : {E X F : Type 0} → (X → WorkerNumber) → Result X F → Acting E → Acting E
-acting_after worker (Ok x) a = record a { me = Owner.Worker (worker x) }
-acting_after worker (Err e) a = a
-
-abbrev pub as_caller : {E : Type 0} → Acting E → Acting E
-as_caller a = record a { me = Owner.Caller }

@@ -1,8 +1,8 @@
 //! Whole operations over an access: a pin, with the load that it may need, and the reading of a key.
 
 ghost use Rattle.std.specs.{Prelude.{◌≡◌, Bool}, Arc.arc_value};
-ghost use Rattle.pagable_world.specs.{World.seen_as, Access.{Told, PinsOver, ReadsOver}, declared.handles.Owner.Owner};
-ghost use Rattle.pagable_loads.specs.{Starting.{PinsFirst, Unpins}, Telling.values_at};
+ghost use Rattle.pagable_world.specs.{World.seen_as, Access.{PinsOver, ReadsOver}, declared.handles.Owner.Owner};
+ghost use Rattle.pagable_loads.specs.{Starting.{PinsFirst, Unpins}, Telling.{Acts, values_at}};
 
 use crate::access::Access;
 use crate::reading::Reading;
@@ -23,9 +23,7 @@ fn pin_first<E: Env, A: Access<E>>(
 where
     E::Node: NodeSet<E>,
     requires caller { (A.acting access.old).me ≡ Owner.Caller }
-    ensures pins { Told (A.told access.old) (A.told access.new) (λ s t. PinsFirst (values_at E.Node.NodeSet E.Env E.Hash.KeyHash (A.acting access.old).environment) s handle result t) }
-    ensures acting { A.acting access.new ≡ A.acting access.old }
-    ensures lender { A.lender access.new ≡ A.lender access.old }
+    ensures { Acts A.told A.acting access.old access.new (λ a s t. PinsFirst (values_at E.Node.NodeSet E.Env E.Hash.KeyHash a.environment) s handle result t) }
 {
     let start = match access.begin_pin(handle) {
         Ok(start) => start,
@@ -49,9 +47,7 @@ fn unpin_again<E: Env, A: Access<E>>(access: &mut A, handle: HandleNumber, was_u
 where
     E::Node: NodeSet<E>,
     requires caller { (A.acting access.old).me ≡ Owner.Caller }
-    ensures unpins { Told (A.told access.old) (A.told access.new) (λ s t. Unpins (values_at E.Node.NodeSet E.Env E.Hash.KeyHash (A.acting access.old).environment) was_unpinned handle s t) }
-    ensures acting { A.acting access.new ≡ A.acting access.old }
-    ensures lender { A.lender access.new ≡ A.lender access.old }
+    ensures { Acts A.told A.acting access.old access.new (λ a s t. Unpins (values_at E.Node.NodeSet E.Env E.Hash.KeyHash a.environment) was_unpinned handle s t) }
 {
     if was_unpinned {
         let _told = access.unpin(handle);
@@ -68,9 +64,7 @@ pub fn pin_over<E: Env, A: Access<E>>(
 where
     E::Node: NodeSet<E>,
     requires caller { (A.acting access.old).me ≡ Owner.Caller }
-    ensures pins { Told (A.told access.old) (A.told access.new) (λ s t. PinsOver (values_at E.Node.NodeSet E.Env E.Hash.KeyHash (A.acting access.old).environment) s handle (seen_as (λ a. (a.0, arc_value a.1)) result) t) }
-    ensures acting { A.acting access.new ≡ A.acting access.old }
-    ensures lender { A.lender access.new ≡ A.lender access.old }
+    ensures { Acts A.told A.acting access.old access.new (λ a s t. PinsOver (values_at E.Node.NodeSet E.Env E.Hash.KeyHash a.environment) s handle (seen_as (λ a. (a.0, arc_value a.1)) result) t) }
 {
     let (pinned, was_unpinned) = match pin_first(access, alloc, handle) {
         Ok(first) => first,
@@ -95,9 +89,7 @@ pub fn read_over<E: Env, A: Access<E>>(
 where
     E::Node: NodeSet<E>,
     requires caller { (A.acting access.old).me ≡ Owner.Caller }
-    ensures reads { Told (A.told access.old) (A.told access.new) (λ s t. ReadsOver (values_at E.Node.NodeSet E.Env E.Hash.KeyHash (A.acting access.old).environment) s key node_type result t) }
-    ensures acting { A.acting access.new ≡ A.acting access.old }
-    ensures lender { A.lender access.new ≡ A.lender access.old }
+    ensures { Acts A.told A.acting access.old access.new (λ a s t. ReadsOver (values_at E.Node.NodeSet E.Env E.Hash.KeyHash a.environment) s key node_type result t) }
 {
     let load = match access.load_key(key) {
         Ok(load) => load,

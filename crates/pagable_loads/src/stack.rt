@@ -26,7 +26,7 @@ impl Reading {
         requires { IsSome self.old.top }
         ensures ok { IfOk result (λ top. TakenOff self.old self.new top) }
         ensures only { IfErr result (λ e. e ≡ Error.OutOfMemory) }
-        ensures same { IsSameLoad self.old self.new }
+        ensures same { IsSameLoad self.old self.new self.old.steps }
     {
         let Some(mut top) = self.top.take() else {
             unreachable!();
@@ -42,7 +42,7 @@ impl Reading {
         requires below { 0 < length self.old.below.items }
         ensures ok { IfOk result (λ two. TakenTwo self.old self.new two.0 two.1) }
         ensures only { IfErr result (λ e. e ≡ Error.OutOfMemory) }
-        ensures same { IsSameLoad self.old self.new }
+        ensures same { IsSameLoad self.old self.new self.old.steps }
     {
         let Some(top) = self.top.take() else {
             unreachable!();
@@ -58,7 +58,7 @@ impl Reading {
     pub(crate) fn put_got(&mut self, top: Frame, reference: ArcRef)
         requires { vec_len top.got < vec_capacity top.got }
         ensures gets { Gets self.old self.new top reference }
-        ensures same { IsSameLoad self.old self.new }
+        ensures same { IsSameLoad self.old self.new self.old.steps }
     {
         let mut top = top;
         top.got.push(reference).unwrap();
@@ -69,7 +69,7 @@ impl Reading {
     pub(crate) fn put_root(&mut self, alloc: Global, blob: Arc<PagableData>)
         ensures few { length (blob_of (arc_value blob)).keys < 2 ^ 63 }
         ensures root { frames_of self.new.top self.new.below.items ≡ root_frame self.old.key self.old.node_type (blob_of (arc_value blob)) ∷ [] }
-        ensures same { IsSameLoad self.old self.new }
+        ensures same { IsSameLoad self.old self.new self.old.steps }
     {
         keys_in(blob.as_ref());
         self.below = Vec::new(alloc);
@@ -97,7 +97,7 @@ impl Reading {
         ensures short { OnOk result (length self.old.below.items < longest_path) }
         ensures deep { IfErr result (λ e. e ≡ Error.TooDeep) }
         ensures long { IfErr result (λ e. longest_path ≤ length self.old.below.items) }
-        ensures same { IsSameLoad self.old self.new }
+        ensures same { IsSameLoad self.old self.new self.old.steps }
     {
         keys_in(blob.as_ref());
         if self.below.len() >= 128 {

@@ -2,8 +2,8 @@
 
 ghost use Rattle.std.specs.Prelude.{◌≡◌, ◌<◌, [], length, IsSome, IfOk, Some, Result, Ok, true, false};
 ghost use Rattle.pagable_world.specs.{World.one_more, Loads.{need_of, needs_nested, needs_lazy, ReadsNode}};
-ghost use Rattle.{pagable_world.specs.{Loads.ReadsRoot, Access.Told}, pagable_loads.specs.{Stepping.{IsSameLoad, Tries, Steps, Drops}, Ahead.{GotMore, goes_on_with, IsAhead, RowTells}}};
-ghost use Rattle.pagable_loads.specs.{Ending.{LeadsOn, EndsAs}, Frames.{reading_of, frames_of}, Needing.{Needs, HasFrames}, Telling.values_at, Running.Runs};
+ghost use Rattle.{pagable_world.specs.Loads.ReadsRoot, pagable_loads.specs.{Stepping.{IsSameLoad, Tries, Steps, Drops}, Ahead.{GotMore, goes_on_with, IsAhead, RowTells}}};
+ghost use Rattle.pagable_loads.specs.{Ending.{LeadsOn, EndsAs}, Frames.{reading_of, frames_of}, Needing.{Needs, HasFrames}, Telling.{Acts, values_at}, Running.Runs};
 
 use crate::access::Access;
 use crate::foreseeing::keep_if;
@@ -25,11 +25,9 @@ impl Reading {
     where
         E::Node: NodeSet<E>,
         requires first { frames_of self.old.top self.old.below.items ≡ [] }
-        ensures step { Told (A.told access.old) (A.told access.new) (λ s t. Tries (values_at E.Node.NodeSet E.Env E.Hash.KeyHash (A.acting access.old).environment) (A.acting access.old).me self.old s result (frames_of self.new.top self.new.below.items) t) }
+        ensures acts { Acts A.told A.acting access.old access.new (λ a s t. Tries (values_at E.Node.NodeSet E.Env E.Hash.KeyHash a.environment) a.me self.old s result (frames_of self.new.top self.new.below.items) t) }
         ensures leads { LeadsOn self.old.for_cell (frames_of self.old.top self.old.below.items) (frames_of self.new.top self.new.below.items) result }
-        ensures same { IsSameLoad self.old self.new }
-        ensures acting { A.acting access.new ≡ A.acting access.old }
-        ensures lender { A.lender access.new ≡ A.lender access.old }
+        ensures same { IsSameLoad self.old self.new self.old.steps }
     {
         match access.load_root(alloc, self.load) {
             Ok(blob) => {
@@ -52,11 +50,9 @@ impl Reading {
         E::Node: NodeSet<E>,
         requires top { IsSome self.old.top }
         requires need { need_of (values_at E.Node.NodeSet E.Env E.Hash.KeyHash (A.acting access.old).environment).types (frames_of self.old.top self.old.below.items) ≡ needs_nested kind key }
-        ensures step { Told (A.told access.old) (A.told access.new) (λ s t. Tries (values_at E.Node.NodeSet E.Env E.Hash.KeyHash (A.acting access.old).environment) (A.acting access.old).me self.old s result (frames_of self.new.top self.new.below.items) t) }
+        ensures acts { Acts A.told A.acting access.old access.new (λ a s t. Tries (values_at E.Node.NodeSet E.Env E.Hash.KeyHash a.environment) a.me self.old s result (frames_of self.new.top self.new.below.items) t) }
         ensures leads { LeadsOn self.old.for_cell (frames_of self.old.top self.old.below.items) (frames_of self.new.top self.new.below.items) result }
-        ensures same { IsSameLoad self.old self.new }
-        ensures acting { A.acting access.new ≡ A.acting access.old }
-        ensures lender { A.lender access.new ≡ A.lender access.old }
+        ensures same { IsSameLoad self.old self.new self.old.steps }
     {
         let load = self.load;
         let top = self.take_top()?;
@@ -85,12 +81,10 @@ impl Reading {
         E::Node: NodeSet<E>,
         requires top { IsSome self.old.top }
         requires need { need_of (values_at E.Node.NodeSet E.Env E.Hash.KeyHash (A.acting access.old).environment).types (frames_of self.old.top self.old.below.items) ≡ needs_lazy kind key }
-        ensures step { Told (A.told access.old) (A.told access.new) (λ s t. Tries (values_at E.Node.NodeSet E.Env E.Hash.KeyHash (A.acting access.old).environment) (A.acting access.old).me self.old s (goes_on_with result) (frames_of self.new.top self.new.below.items) t) }
+        ensures acts { Acts A.told A.acting access.old access.new (λ a s t. Tries (values_at E.Node.NodeSet E.Env E.Hash.KeyHash a.environment) a.me self.old s (goes_on_with result) (frames_of self.new.top self.new.below.items) t) }
         ensures leads { LeadsOn {N = E.Node} self.old.for_cell (frames_of self.old.top self.old.below.items) (frames_of self.new.top self.new.below.items) (goes_on_with result) }
         ensures got { IfOk result (λ r. GotMore (frames_of self.old.top self.old.below.items) (frames_of self.new.top self.new.below.items) r) }
-        ensures same { IsSameLoad self.old self.new }
-        ensures acting { A.acting access.new ≡ A.acting access.old }
-        ensures lender { A.lender access.new ≡ A.lender access.old }
+        ensures same { IsSameLoad self.old self.new self.old.steps }
     {
         let load = self.load;
         let top = self.take_top()?;
@@ -115,11 +109,9 @@ impl Reading {
         requires top { IsSome self.old.top }
         requires below { 0 < length self.old.below.items }
         requires node { ReadsNode (values_at E.Node.NodeSet E.Env E.Hash.KeyHash (A.acting access.old).environment) (reading_of self.old) value }
-        ensures step { Told (A.told access.old) (A.told access.new) (λ s t. Tries (values_at E.Node.NodeSet E.Env E.Hash.KeyHash (A.acting access.old).environment) (A.acting access.old).me self.old s result (frames_of self.new.top self.new.below.items) t) }
+        ensures acts { Acts A.told A.acting access.old access.new (λ a s t. Tries (values_at E.Node.NodeSet E.Env E.Hash.KeyHash a.environment) a.me self.old s result (frames_of self.new.top self.new.below.items) t) }
         ensures leads { LeadsOn self.old.for_cell (frames_of self.old.top self.old.below.items) (frames_of self.new.top self.new.below.items) result }
-        ensures same { IsSameLoad self.old self.new }
-        ensures acting { A.acting access.new ≡ A.acting access.old }
-        ensures lender { A.lender access.new ≡ A.lender access.old }
+        ensures same { IsSameLoad self.old self.new self.old.steps }
     {
         let load = self.load;
         let (top, under) = self.take_two()?;
@@ -143,11 +135,9 @@ impl Reading {
         E::Node: NodeSet<E>,
         requires root { ReadsRoot (values_at E.Node.NodeSet E.Env E.Hash.KeyHash (A.acting access.old).environment) (reading_of self.old) value }
         requires sort { self.old.for_cell ≡ true }
-        ensures step { Told (A.told access.old) (A.told access.new) (λ s t. Tries (values_at E.Node.NodeSet E.Env E.Hash.KeyHash (A.acting access.old).environment) (A.acting access.old).me self.old s result (frames_of self.new.top self.new.below.items) t) }
+        ensures acts { Acts A.told A.acting access.old access.new (λ a s t. Tries (values_at E.Node.NodeSet E.Env E.Hash.KeyHash a.environment) a.me self.old s result (frames_of self.new.top self.new.below.items) t) }
         ensures leads { LeadsOn self.old.for_cell (frames_of self.old.top self.old.below.items) (frames_of self.new.top self.new.below.items) result }
-        ensures same { IsSameLoad self.old self.new }
-        ensures acting { A.acting access.new ≡ A.acting access.old }
-        ensures lender { A.lender access.new ≡ A.lender access.old }
+        ensures same { IsSameLoad self.old self.new self.old.steps }
     {
         match access.load_end(alloc, self.load, value) {
             Ok(handle) => {
@@ -175,11 +165,9 @@ impl Reading {
         E::Node: NodeSet<E>,
         requires root { ReadsRoot (values_at E.Node.NodeSet E.Env E.Hash.KeyHash (A.acting access.old).environment) (reading_of self.old) value }
         requires sort { self.old.for_cell ≡ false }
-        ensures step { Told (A.told access.old) (A.told access.new) (λ s t. Tries (values_at E.Node.NodeSet E.Env E.Hash.KeyHash (A.acting access.old).environment) (A.acting access.old).me self.old s result (frames_of self.new.top self.new.below.items) t) }
+        ensures acts { Acts A.told A.acting access.old access.new (λ a s t. Tries (values_at E.Node.NodeSet E.Env E.Hash.KeyHash a.environment) a.me self.old s result (frames_of self.new.top self.new.below.items) t) }
         ensures leads { LeadsOn self.old.for_cell (frames_of self.old.top self.old.below.items) (frames_of self.new.top self.new.below.items) result }
-        ensures same { IsSameLoad self.old self.new }
-        ensures acting { A.acting access.new ≡ A.acting access.old }
-        ensures lender { A.lender access.new ≡ A.lender access.old }
+        ensures same { IsSameLoad self.old self.new self.old.steps }
     {
         let references = value.refs(alloc)?;
         let named = handles_of(alloc, references.as_slice())?;
@@ -203,11 +191,9 @@ impl Reading {
         E::Node: NodeSet<E>,
         requires need { Needs (values_at E.Node.NodeSet E.Env E.Hash.KeyHash (A.acting access.old).environment) (reading_of self.old) self.old.for_cell need }
         requires stack { HasFrames self.old.top self.old.below.items need }
-        ensures step { Told (A.told access.old) (A.told access.new) (λ s t. Tries (values_at E.Node.NodeSet E.Env E.Hash.KeyHash (A.acting access.old).environment) (A.acting access.old).me self.old s result (frames_of self.new.top self.new.below.items) t) }
+        ensures acts { Acts A.told A.acting access.old access.new (λ a s t. Tries (values_at E.Node.NodeSet E.Env E.Hash.KeyHash a.environment) a.me self.old s result (frames_of self.new.top self.new.below.items) t) }
         ensures leads { LeadsOn self.old.for_cell (frames_of self.old.top self.old.below.items) (frames_of self.new.top self.new.below.items) result }
-        ensures same { IsSameLoad self.old self.new }
-        ensures acting { A.acting access.new ≡ A.acting access.old }
-        ensures lender { A.lender access.new ≡ A.lender access.old }
+        ensures same { IsSameLoad self.old self.new self.old.steps }
     {
         match need {
             Need::Root => self.step_root(access, alloc),
@@ -227,11 +213,9 @@ impl Reading {
     pub(crate) fn give_up<E: Env, A: Access<E>>(&mut self, access: &mut A)
     where
         E::Node: NodeSet<E>,
-        ensures drops { Told (A.told access.old) (A.told access.new) (λ s t. Drops (values_at E.Node.NodeSet E.Env E.Hash.KeyHash (A.acting access.old).environment) (A.acting access.old).me self.old.load s t) }
+        ensures acts { Acts A.told A.acting access.old access.new (λ a s t. Drops (values_at E.Node.NodeSet E.Env E.Hash.KeyHash a.environment) a.me self.old.load s t) }
         ensures none { frames_of self.new.top self.new.below.items ≡ [] }
-        ensures same { IsSameLoad self.old self.new }
-        ensures acting { A.acting access.new ≡ A.acting access.old }
-        ensures lender { A.lender access.new ≡ A.lender access.old }
+        ensures same { IsSameLoad self.old self.new self.old.steps }
     {
         let _told = access.load_drop(self.load);
         self.top = None;
@@ -247,15 +231,9 @@ impl Reading {
     ) -> Option<LoadAnswer<E::Node>>
     where
         E::Node: NodeSet<E>,
-        ensures step { Told (A.told access.old) (A.told access.new) (λ s t. Steps (values_at E.Node.NodeSet E.Env E.Hash.KeyHash (A.acting access.old).environment) (A.acting access.old).me self.old s result (frames_of self.new.top self.new.below.items) t) }
+        ensures acts { Acts A.told A.acting access.old access.new (λ a s t. Steps (values_at E.Node.NodeSet E.Env E.Hash.KeyHash a.environment) a.me self.old s result (frames_of self.new.top self.new.below.items) t) }
         ensures leads { LeadsOn self.old.for_cell (frames_of self.old.top self.old.below.items) (frames_of self.new.top self.new.below.items) (Ok result) }
-        ensures steps { self.new.steps ≡ one_more self.old.steps }
-        ensures load { self.new.load ≡ self.old.load }
-        ensures key { self.new.key ≡ self.old.key }
-        ensures node_type { self.new.node_type ≡ self.old.node_type }
-        ensures for_cell { self.new.for_cell ≡ self.old.for_cell }
-        ensures acting { A.acting access.new ≡ A.acting access.old }
-        ensures lender { A.lender access.new ≡ A.lender access.old }
+        ensures same { IsSameLoad self.old self.new (one_more self.old.steps) }
     {
         let need = self.next_over::<E, A>(access, alloc);
         match self.meet(access, alloc, need) {
@@ -284,16 +262,10 @@ impl Reading {
         E::Node: NodeSet<E>,
         requires top { IsSome self.old.top }
         requires tells { RowTells (values_at E.Node.NodeSet E.Env E.Hash.KeyHash (A.acting access.old).environment).types (frames_of self.old.top self.old.below.items) row.old.items kind key }
-        ensures step { Told (A.told access.old) (A.told access.new) (λ s t. Steps (values_at E.Node.NodeSet E.Env E.Hash.KeyHash (A.acting access.old).environment) (A.acting access.old).me self.old s result (frames_of self.new.top self.new.below.items) t) }
+        ensures acts { Acts A.told A.acting access.old access.new (λ a s t. Steps (values_at E.Node.NodeSet E.Env E.Hash.KeyHash a.environment) a.me self.old s result (frames_of self.new.top self.new.below.items) t) }
         ensures leads { LeadsOn self.old.for_cell (frames_of self.old.top self.old.below.items) (frames_of self.new.top self.new.below.items) (Ok result) }
-        ensures steps { self.new.steps ≡ one_more self.old.steps }
-        ensures load { self.new.load ≡ self.old.load }
-        ensures key { self.new.key ≡ self.old.key }
-        ensures node_type { self.new.node_type ≡ self.old.node_type }
-        ensures for_cell { self.new.for_cell ≡ self.old.for_cell }
+        ensures same { IsSameLoad self.old self.new (one_more self.old.steps) }
         ensures ahead { IsAhead (values_at E.Node.NodeSet E.Env E.Hash.KeyHash (A.acting access.old).environment).types (frames_of self.new.top self.new.below.items) row.new.items }
-        ensures acting { A.acting access.new ≡ A.acting access.old }
-        ensures lender { A.lender access.new ≡ A.lender access.old }
     {
         match self.take_lazy(access, alloc, kind, key) {
             Ok(reference) => {
@@ -320,16 +292,10 @@ impl Reading {
     where
         E::Node: NodeSet<E>,
         requires ahead { IsAhead (values_at E.Node.NodeSet E.Env E.Hash.KeyHash (A.acting access.old).environment).types (frames_of self.old.top self.old.below.items) row.old.items }
-        ensures step { Told (A.told access.old) (A.told access.new) (λ s t. Steps (values_at E.Node.NodeSet E.Env E.Hash.KeyHash (A.acting access.old).environment) (A.acting access.old).me self.old s result (frames_of self.new.top self.new.below.items) t) }
+        ensures acts { Acts A.told A.acting access.old access.new (λ a s t. Steps (values_at E.Node.NodeSet E.Env E.Hash.KeyHash a.environment) a.me self.old s result (frames_of self.new.top self.new.below.items) t) }
         ensures leads { LeadsOn self.old.for_cell (frames_of self.old.top self.old.below.items) (frames_of self.new.top self.new.below.items) (Ok result) }
-        ensures steps { self.new.steps ≡ one_more self.old.steps }
-        ensures load { self.new.load ≡ self.old.load }
-        ensures key { self.new.key ≡ self.old.key }
-        ensures node_type { self.new.node_type ≡ self.old.node_type }
-        ensures for_cell { self.new.for_cell ≡ self.old.for_cell }
+        ensures same { IsSameLoad self.old self.new (one_more self.old.steps) }
         ensures ahead { IsAhead (values_at E.Node.NodeSet E.Env E.Hash.KeyHash (A.acting access.old).environment).types (frames_of self.new.top self.new.below.items) row.new.items }
-        ensures acting { A.acting access.new ≡ A.acting access.old }
-        ensures lender { A.lender access.new ≡ A.lender access.old }
     {
         self.look_ahead(access, alloc, row);
         match self.told(row.as_slice()) {
@@ -350,10 +316,8 @@ impl Reading {
     ) -> LoadAnswer<E::Node>
     where
         E::Node: NodeSet<E>,
-        ensures run { Told (A.told access.old) (A.told access.new) (λ s t. Runs (values_at E.Node.NodeSet E.Env E.Hash.KeyHash (A.acting access.old).environment) (A.acting access.old).me self.old s result t) }
+        ensures acts { Acts A.told A.acting access.old access.new (λ a s t. Runs (values_at E.Node.NodeSet E.Env E.Hash.KeyHash a.environment) a.me self.old s result t) }
         ensures ends { EndsAs self.old.for_cell result }
-        ensures acting { A.acting access.new ≡ A.acting access.old }
-        ensures lender { A.lender access.new ≡ A.lender access.old }
     {
         let mut row = Vec::new(alloc);
         loop {

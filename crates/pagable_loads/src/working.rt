@@ -2,8 +2,8 @@
 
 ghost use Rattle.std.specs.Prelude.{◌≡◌, ◌≤◌, length, IfOk, IfErr, IfSome, IfNone};
 ghost use Rattle.{pagable_model.specs.declared.numbers.HandleNumber.HandleNumber as Handle, pagable_world.specs.Workers.claim_fault};
-ghost use Rattle.pagable_world.specs.{Workers.{is_workers_at, WorkerEnds}, World.Alike, Cascade.FallsAnyhow, Calls.{ScheduleCall, TakeCall}, Access.{Called, Told, WorkerStarts, EntryHas}};
-ghost use Rattle.pagable_loads.specs.{Telling.{Tells, values_at}, Working.{fault_in, TakesReference, StartsEntry, RefusesEntry, acting_after, as_caller}};
+ghost use Rattle.pagable_world.specs.{Workers.{is_workers_at, WorkerEnds}, World.Alike, Cascade.FallsAnyhow, Calls.{ScheduleCall, TakeCall}, Access.{Called, WorkerStarts, EntryHas}};
+ghost use Rattle.pagable_loads.specs.{Telling.{Acts, ActsThen, Tells, as_caller, as_worker, values_at}, Working.{fault_in, TakesReference, StartsEntry, RefusesEntry}};
 
 use crate::access::Access;
 use pagable_codec::{Env, NodeSet};
@@ -33,43 +33,31 @@ where
 
     /// Clones a reference's handle for the worker and pins the clone, or begins a load by it. Refused as the clone, the pin and the load's begin are.
     fn take_reference(&mut self, reference: ArcRef) -> Result<Taken, Error>
-        ensures step { Told (Self.told self.old) (Self.told self.new) (λ s t. Called (values_at E.Node.NodeSet E.Env E.Hash.KeyHash (Self.acting self.old).environment) (λ w'. TakesReference s.core (Self.acting self.old).me reference result w') s t) }
-        ensures acting { Self.acting self.new ≡ Self.acting self.old }
-        ensures lender { Self.lender self.new ≡ Self.lender self.old };
+        ensures { Acts Self.told Self.acting self.old self.new (λ a s t. Called (values_at E.Node.NodeSet E.Env E.Hash.KeyHash a.environment) (λ w'. TakesReference s.core a.me reference result w') s t) };
 
     /// All handles of a worker at a node are given up.
     fn give_up(&mut self, worker: WorkerNumber, node: NodeNumber)
-        ensures step { Told (Self.told self.old) (Self.told self.new) (λ s t. Called (values_at E.Node.NodeSet E.Env E.Hash.KeyHash (Self.acting self.old).environment) (λ w'. FallsAnyhow s.core s.core (is_workers_at s.core worker.0 node.0) w') s t) }
-        ensures acting { Self.acting self.new ≡ Self.acting self.old }
-        ensures lender { Self.lender self.new ≡ Self.lender self.old };
+        ensures { Acts Self.told Self.acting self.old self.new (λ a s t. Called (values_at E.Node.NodeSet E.Env E.Hash.KeyHash a.environment) (λ w'. FallsAnyhow s.core s.core (is_workers_at s.core worker.0 node.0) w') s t) };
 
     /// A loose unpinned handle moves to the list's end. Refused with NoSuchHandle, NotYours, WrongMode and OutOfMemory.
     fn schedule_for_paging(&mut self, handle: HandleNumber) -> Result<(), Error>
-        ensures step { Told (Self.told self.old) (Self.told self.new) (λ s t. Called (values_at E.Node.NodeSet E.Env E.Hash.KeyHash (Self.acting self.old).environment) (λ w'. ScheduleCall s.core (Self.acting self.old).me handle result w') s t) }
-        ensures acting { Self.acting self.new ≡ Self.acting self.old }
-        ensures lender { Self.lender self.new ≡ Self.lender self.old };
+        ensures { Acts Self.told Self.acting self.old self.new (λ a s t. Called (values_at E.Node.NodeSet E.Env E.Hash.KeyHash a.environment) (λ w'. ScheduleCall s.core a.me handle result w') s t) };
 
     /// A worker begins, and the calls are its own from now on. Refused with OutOfMemory; then nothing changes.
     fn worker_begin(&mut self) -> Result<WorkerNumber, Error>
-        ensures begins { IfOk result (λ n. Told (Self.told self.old) (Self.told self.new) (λ s t. WorkerStarts (values_at E.Node.NodeSet E.Env E.Hash.KeyHash (Self.acting self.old).environment) s.core s n.0 t)) }
-        ensures refused { IfErr result (λ e. (e ≡ Error.OutOfMemory) × Told (Self.told self.old) (Self.told self.new) (λ s t. Called (values_at E.Node.NodeSet E.Env E.Hash.KeyHash (Self.acting self.old).environment) (λ w'. Alike s.core w') s t)) }
-        ensures acting { Self.acting self.new ≡ acting_after (λ n. n) result (Self.acting self.old) }
-        ensures lender { Self.lender self.new ≡ Self.lender self.old };
+        ensures begins { IfOk result (λ n. ActsThen Self.told Self.acting self.old self.new (as_worker n) (λ a s t. WorkerStarts (values_at E.Node.NodeSet E.Env E.Hash.KeyHash a.environment) s.core s n.0 t)) }
+        ensures refused { IfErr result (λ e. (e ≡ Error.OutOfMemory) × Acts Self.told Self.acting self.old self.new (λ a s t. Called (values_at E.Node.NodeSet E.Env E.Hash.KeyHash a.environment) (λ w'. Alike s.core w') s t)) };
 
     /// A worker begins for the entry at this place of the list, counted from 0, which moves to it; and the calls are its own from now on. Answers the reference that
     /// it pages out: the entry's handle, as a loose one of its cell. Refused with NoSuchHandle where there is no such place, with WrongKind where the cell's type is
     /// too great a number for its kinds, and with OutOfMemory; then nothing changes.
     fn worker_listed(&mut self, place: usize) -> Result<(WorkerNumber, ArcRef), Error>
-        ensures begins { IfOk result (λ b. Told (Self.told self.old) (Self.told self.new) (λ s t. StartsEntry (values_at E.Node.NodeSet E.Env E.Hash.KeyHash (Self.acting self.old).environment) s place b.0 b.1 t)) }
-        ensures refused { IfErr result (λ e. Told (Self.told self.old) (Self.told self.new) (λ s t. RefusesEntry (values_at E.Node.NodeSet E.Env E.Hash.KeyHash (Self.acting self.old).environment) s place e t)) }
-        ensures acting { Self.acting self.new ≡ acting_after (λ b. b.0) result (Self.acting self.old) }
-        ensures lender { Self.lender self.new ≡ Self.lender self.old };
+        ensures begins { IfOk result (λ b. ActsThen Self.told Self.acting self.old self.new (as_worker b.0) (λ a s t. StartsEntry (values_at E.Node.NodeSet E.Env E.Hash.KeyHash a.environment) s place b.0 b.1 t)) }
+        ensures refused { IfErr result (λ e. Acts Self.told Self.acting self.old self.new (λ a s t. RefusesEntry (values_at E.Node.NodeSet E.Env E.Hash.KeyHash a.environment) s place e t)) };
 
     /// A worker has answered: what it still has is given up, its loads are closed, and the calls are the caller's again.
     fn worker_end(&mut self, worker: WorkerNumber)
-        ensures step { Told (Self.told self.old) (Self.told self.new) (λ s t. Called (values_at E.Node.NodeSet E.Env E.Hash.KeyHash (Self.acting self.old).environment) (λ w'. WorkerEnds s.core worker.0 w') s t) }
-        ensures acting { Self.acting self.new ≡ as_caller (Self.acting self.old) }
-        ensures lender { Self.lender self.new ≡ Self.lender self.old };
+        ensures { ActsThen Self.told Self.acting self.old self.new as_caller (λ a s t. Called (values_at E.Node.NodeSet E.Env E.Hash.KeyHash a.environment) (λ w'. WorkerEnds s.core worker.0 w') s t) };
 
     /// How many entries the list has.
     fn pending(&self) -> usize
@@ -82,7 +70,5 @@ where
 
     /// The entry at this place of the list moves to the one who asks; or None past the list's end.
     fn take_pending(&mut self, place: usize) -> Option<HandleNumber>
-        ensures step { Told (Self.told self.old) (Self.told self.new) (λ s t. Called (values_at E.Node.NodeSet E.Env E.Hash.KeyHash (Self.acting self.old).environment) (λ w'. TakeCall s.core (Self.acting self.old).me place result w') s t) }
-        ensures acting { Self.acting self.new ≡ Self.acting self.old }
-        ensures lender { Self.lender self.new ≡ Self.lender self.old };
+        ensures { Acts Self.told Self.acting self.old self.new (λ a s t. Called (values_at E.Node.NodeSet E.Env E.Hash.KeyHash a.environment) (λ w'. TakeCall s.core a.me place result w') s t) };
 }

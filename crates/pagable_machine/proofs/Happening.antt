@@ -2,7 +2,7 @@
 use Rattle.pagable_machine.proofs.Words.{Does, CallBrings, OnlyLess, core_in, plain_call, plain_reply, arith, nat_tests, common_steps, rules, ◌≡◌, ℕ, true, false, Option, Some, None, Ok, Err, ◌⊎◌}
 use Rattle.pagable_machine.proofs.Words.{inl, inr, refl, sym, ap, subst, ◌∙◌, Result, is_some, Arc, Global, PagableData, Error, HandleNumber, LoadNumber, Beginning, Call, Reply, LoadReply, Blob, Core}
 use Rattle.pagable_machine.proofs.Words.{Seen, Values, Written, load_fault, DropCall, fresh, Moves, PagerState, WellFormed, same-number, same_some, reading_of, PagerView, Telling, state_in, ReadsAs}
-use Rattle.pagable_machine.proofs.Words.{Ghosts, plain, Held, Serves, BeginsNoKey, Forgets, Holding, IsPrepared, IsTaken, KeepsOne, Kept, Makes, Stepped, CountsStep, rest_after, Answer, Drives, Given}
+use Rattle.pagable_machine.proofs.Words.{Ghosts, plain, Held, Serves, BeginsNoKey, Forgets, Holding, IsPrepared, IsTaken, KeepsOne, Kept, Makes, KeptStep, rest_after, Answer, Drives, Given}
 use Rattle.pagable_machine.proofs.{Words.{IsInStep, Readings, holding, kept_at, over}, Keeping.{by-call, key-refused, key-starts, same-work}, Loading.{faulty, never-typed, no-place, own-steps}}
 use Rattle.{pagable_machine.proofs.Loading.refuses-step, pagable_world.specs.declared.{handles.Owner.Owner, events.{LoadAnswer.LoadAnswer, EventReply.EventReply, Event.Event}}}
 use Rattle.pagable_loads.specs.declared.reading.Reading.{Reading as Own}
@@ -118,17 +118,16 @@ module _ {X : Type 0} {g : Ghosts X} {N S E : Type 0} (v : E → Values N) (tell
   key-none-drives key t (Ok (Beginning.Load l k)) (inr is) serves formed as_was = absurd (cc)
 
   module _ (l : LoadNumber) (key : ℕ) (t : Option ℕ) (reads : ReadsAs s.core l key t) where
-    pub step-drives : (kept1 kept2 : Readings) (reply : LoadReply N) → IsPrepared (kept_at kept) l key t (kept_at kept1) → CountsStep (kept_at kept1) l.0 reply (kept_at kept2)
-        → ((own new : Own) → kept_at kept1 l.0 ≡ Some own → kept_at kept2 l.0 ≡ Some new → Stepped (v old.environment) Owner.Caller own reply new s s')
+    pub step-drives : (kept1 kept2 : Readings) (reply : LoadReply N) → IsPrepared (kept_at kept) l key t (kept_at kept1) → KeptStep (v old.environment) (kept_at kept1) l.0 reply (kept_at kept2) s s'
         → KeepsOne (kept_at kept2) l.0 (rest_after reply.ended (kept_at kept2 l.0)) (kept_at kept') → Happens (Event.LoadStep l) (EventReply.LoadMoved (Ok reply)) new kept'
-    step-drives kept1 kept2 reply ready step stepped ends =
+    step-drives kept1 kept2 reply ready step ends =
         let same : ready.own ≡ step.own = same_some _ _ (sym ready.keeps.here ∙ step.was) in
         let taken = subst (λ x. IsTaken (kept_at kept) l key t x) same ready.taken in
         let keeps : KeepsOne (kept_at kept) l.0 (rest_after reply.ended (Some step.new)) (kept_at kept') =
         record { here = ends.here ∙ ap (rest_after reply.ended) step.keeps.here; others = λ q other. ends.others q other ∙ step.keeps.others q other ∙ ready.keeps.others q other } in
         record {
           makes = own-steps m s s' h (kept_at kept') serving was l reads.load key t step.own step.new reply reads.owned reads.key_is reads.type_is taken
-              (stepped step.own step.new step.was step.keeps.here) step.again step.counts step.counted keeps;
+              step.stepped keeps;
         }
 
     pub no-place-drives : (type : ℕ) (reply : LoadReply N) → t ≡ Some type → kept_at kept l.0 ≡ None → reply ≡ record { ended = Some (LoadAnswer.Refused Error.OutOfMemory); steps = 1 }
@@ -145,10 +144,3 @@ module _ {X : Type 0} {g : Ghosts X} {N S E : Type 0} (v : E → Values N) (tell
 
   pub closed-drives : (l : LoadNumber) (e : Error) → load_fault s.core Owner.Caller l ≡ Some e → Happens (Event.LoadStep l) (EventReply.LoadMoved (Err e)) old kept
   closed-drives l e why = record { makes = refuses-step m s h serving was l e (λ q. refl) (faulty s h l e why) }
-
--- a step of what was kept, which is kept again
-pub step-of : {N E : Type 0} {v : Values N} {a b : Option Own} {x y own new : Own} {reply : LoadReply N} {s s' : PagerState N E} → a ≡ Some x → b ≡ Some y → Stepped v Owner.Caller x reply y s s'
-    → a ≡ Some own → b ≡ Some new
-    → Stepped v Owner.Caller own reply new s s'
-step-of {v = v} {y = y} {own = own} {reply = reply} {s = s} {s'} was here step is now =
-    subst (λ z. Stepped v Owner.Caller own reply z s s') (same_some _ _ (sym here ∙ now)) (subst (λ z. Stepped v Owner.Caller z reply y s s') (same_some _ _ (sym was ∙ is)) step)

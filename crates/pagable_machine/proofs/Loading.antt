@@ -3,10 +3,10 @@ use Rattle.pagable_machine.proofs.Words.{owner-owns, still, nat_tests, common_st
 use Rattle.pagable_machine.proofs.Words.{arith, Result, is_none, is_some, not, option_map, LoadAnswer, Error, LoadNumber, LoadReply, if_there, or_else, updated, is_owner, Frame, OpenLoad, Reading}
 use Rattle.pagable_machine.proofs.Words.{Root, of_cell, of_key, Seen, one_more, OwnsLoad, earlier, load_fault, refused_if, DropCall, LoadCloses, gone_on, fresh, reading_after, reading_at}
 use Rattle.pagable_machine.proofs.Words.{reading_of_root, step_fault, FitsRoot, Moves, PagerState, WellFormed, world_of, ReadingStep, same_some, IsLoadOf, is_cell, reading_of, type_of_root, Ghosts}
-use Rattle.pagable_machine.proofs.{Words.{Holding, IsKept, IsSameLoad, IsServing, IsTaken, KeepsOne, Kept, Makes, ReadsFor, Stepped, machine_of, readings_in, rest_after}, Keeping.KeepsAll}
+use Rattle.pagable_machine.proofs.{Words.{Holding, IsKept, IsServing, IsTaken, KeepsOne, Kept, Makes, ReadsFor, Stepped, machine_of, readings_in, rest_after}, Keeping.KeepsAll}
 use Rattle.pagable_machine.proofs.{Keeping.{are-these, as-before, at-one, kept-on, one-or-old, quiet, refuses, same-work, stays}, Leaving.leaves-so}
 use Rattle.pagable_laws.proofs.{Effects.{IsMine, owned-mine}, ReadingSteps.{caller-free, reading-feels}}
-use Rattle.{pagable_world.specs.declared.{events.{EventReply.EventReply, Event.Event}, handles.Owner.Owner}, pagable_loads.specs.declared.reading.Reading.Reading as Own}
+use Rattle.{pagable_world.specs.declared.{events.{EventReply.EventReply, Event.Event}, handles.Owner.Owner}, pagable_loads.specs.{Stepping.IsSameLoad, declared.reading.Reading.Reading as Own}}
 
 fits : (root : Root) (a b : Reading) → b.node_type ≡ a.node_type → FitsRoot root a → FitsRoot root b
 fits (of_cell node t h) a b same fit = same ∙ fit
@@ -30,7 +30,7 @@ module _ {X : Type 0} {g : Ghosts X} {N E : Type 0} (s : PagerState N E) (h : Ho
   never none root = first_of (grind (arith, common_steps, nat_tests), grind (arith, nat_tests, at-found), search (rules, at-found))
 
 -- the same load reads for the same
-still-reads : {load : OpenLoad} {own now : Own} → ReadsFor load own → IsSameLoad own now → ReadsFor load now
+still-reads : {load : OpenLoad} {own now : Own} {count : ℕ} → ReadsFor load own → IsSameLoad own now count → ReadsFor load now
 still-reads {load} {own} {now} reads e =
     record { owned = reads.owned; key = reads.key ∙ sym e.key; sort = reads.sort ∙ sym e.for_cell; typed = fits load.root (reading_of own) (reading_of now) e.node_type reads.typed }
 
@@ -110,24 +110,24 @@ module _ {X : Type 0} {g : Ghosts X} {N B W E : Type 0} (m : Seen N B W) (s s' :
   -- a load that is taken makes a step
   pub own-steps : (l : LoadNumber) (load : OpenLoad) (key : ℕ) (t : Option ℕ) (own new : Own) (reply : LoadReply N)
       → OwnsLoad s.core Owner.Caller l load → load.key ≡ key → type_of_root load.root ≡ t → IsTaken h.readings l key t own
-      → Stepped m.values Owner.Caller own reply new s s' → IsSameLoad own new → reply.steps ≡ one_more own.steps → new.steps ≡ one_more own.steps
+      → Stepped m.values Owner.Caller own reply new s s'
       → KeepsOne h.readings l.0 (rest_after reply.ended (Some new)) kept'
       → Makes m s h (Event.LoadStep l) (EventReply.LoadMoved (Ok reply)) s' left
-  own-steps l load key t own new reply o key_is root taken stepped again counts counted keeps =
+  own-steps l load key t own new reply o key_is root taken stepped keeps =
       let r = reads-taken s serving l load key t own o key_is root taken in
       let of : IsLoadOf s.core Owner.Caller own = record { load = load; owned = subst (λ n. OwnsLoad s.core Owner.Caller n load) (sym r.0) o; key = r.1.key; sort = r.1.sort } in
-      steps l load (reading_of own) (rest_after reply.ended (Some new)) reply (reading_of new).frames o r.2 (stepped.does of) counts (owned-mine of.owned) keeps (goes-on reply.ended) (λ now is.
+      steps l load (reading_of own) (rest_after reply.ended (Some new)) reply (reading_of new).frames o r.2 (stepped.does of) stepped.counts (owned-mine of.owned) keeps (goes-on reply.ended) (λ now is.
       let e = only reply.ended now is in
-      (ap (λ (x : Own). x.load) (sym e) ∙ again.load ∙ r.0, subst (λ x. ReadsFor load x) e (still-reads r.1 again)))
+      (ap (λ (x : Own). x.load) (sym e) ∙ stepped.same.load ∙ r.0, subst (λ x. ReadsFor load x) e (still-reads r.1 stepped.same)))
     where
       F : List Frame
       F = (reading_of new).frames
 
       goes : reading_of new ≡ gone_on (reading_of own) F
       goes =
-          ap (λ (n : LoadNumber). let x : Reading = record { load = n; node_type = new.node_type; frames = F; steps = new.steps } in x) again.load
-          ∙ ap (λ (n : ℕ). let x : Reading = record { load = own.load; node_type = n; frames = F; steps = new.steps } in x) again.node_type
-          ∙ ap (λ (n : ℕ). let x : Reading = record { load = own.load; node_type = own.node_type; frames = F; steps = n } in x) counted
+          ap (λ (n : LoadNumber). let x : Reading = record { load = n; node_type = new.node_type; frames = F; steps = new.steps } in x) stepped.same.load
+          ∙ ap (λ (n : ℕ). let x : Reading = record { load = own.load; node_type = n; frames = F; steps = new.steps } in x) stepped.same.node_type
+          ∙ ap (λ (n : ℕ). let x : Reading = record { load = own.load; node_type = own.node_type; frames = F; steps = n } in x) stepped.same.steps
 
       goes-on : (ended : Option (LoadAnswer N)) → option_map reading_of (rest_after ended (Some new)) ≡ reading_after ended (reading_of own) F
       goes-on None = ap Some goes

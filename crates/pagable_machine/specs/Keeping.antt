@@ -5,7 +5,7 @@ use Rattle.{pagable_model.specs.declared.numbers.LoadNumber.LoadNumber, pagable_
 use Rattle.pagable_world.specs.{declared.{events.{EventReply.EventReply, LoadAnswer.LoadAnswer, LoadReply.LoadReply}, handles.Owner.Owner}, Plain.if_there, Refusals.{Refused, spent}}
 use Rattle.{pagable_world.specs.{Access.ReadingStep, Workers.fresh, Pager.{FitsRoot, MachineState, PagerState}, Runs.Does}, pagable_walk.specs.declared.results.Trees.Ghosts}
 use Rattle.{pagable_walk.specs.declared.table.SlotTable.SlotTable, pagable_machine.specs.{declared.held.Walk.Walk, Walking.{IsWalkKept, shelf_at, walking_of}}}
-use Rattle.pagable_loads.specs.{declared.reading.Reading.Reading as Own, Frames.{IsLoadOf, is_cell, reading_of}}
+use Rattle.pagable_loads.specs.{declared.reading.Reading.Reading as Own, Frames.{IsLoadOf, is_cell, reading_of}, Stepping.IsSameLoad}
 
 -- what is kept of loads, by their numbers
 abbrev pub Kept : Type 0
@@ -69,31 +69,24 @@ pub record KeepsOne {Y : Type 0} (kept : ℕ → Option Y) (l : ℕ) (own : Opti
 pub record IsTaken (kept : Kept) (l : LoadNumber) (key : ℕ) (t : Option ℕ) (own : Own) : Type 0 where
   pub why : (kept l.0 ≡ Some own) ⊎ ((kept l.0 ≡ None) × ((type : ℕ) × (t ≡ Some type) × (reading_of own ≡ fresh l type)) × (own.key ≡ key) × (own.for_cell ≡ true))
 
--- it is the same load
-pub record IsSameLoad (own new : Own) : Type 0 where
-  pub load : new.load ≡ own.load
-  pub key : new.key ≡ own.key
-  pub node_type : new.node_type ≡ own.node_type
-  pub for_cell : new.for_cell ≡ own.for_cell
-
 -- A load's reading is kept: what was kept of it, or one that has just begun.
 pub record IsPrepared (kept : Kept) (l : LoadNumber) (key : ℕ) (t : Option ℕ) (kept' : Kept) : Type 0 where
   pub own : Own
   pub taken : IsTaken kept l key t own
   pub keeps : KeepsOne kept l.0 (Some own) kept'
 
--- A load's reading made a step.
+-- A load's reading made a step, which is counted.
 pub record Stepped {N E : Type 0} (v : Values N) (me : Owner) (own : Own) (reply : LoadReply N) (new : Own) (s s' : PagerState N E) : Type 0 where
   pub does : IsLoadOf s.core me own → ReadingStep v me (reading_of own) s reply.ended (reading_of new).frames s'
+  pub same : IsSameLoad own new (one_more own.steps)
+  pub counts : reply.steps ≡ one_more own.steps
 
--- The kept reading of the load was counted one step more, and is kept still.
-pub record CountsStep {N : Type 0} (kept : Kept) (l : ℕ) (reply : LoadReply N) (kept' : Kept) : Type 0 where
+-- The kept reading of the load made a step, and is kept still.
+pub record KeptStep {N E : Type 0} (v : Values N) (kept : Kept) (l : ℕ) (reply : LoadReply N) (kept' : Kept) (s s' : PagerState N E) : Type 0 where
   pub own : Own
   pub new : Own
   pub was : kept l ≡ Some own
-  pub again : IsSameLoad own new
-  pub counts : reply.steps ≡ one_more own.steps
-  pub counted : new.steps ≡ one_more own.steps
+  pub stepped : Stepped v Owner.Caller own reply new s s'
   pub keeps : KeepsOne kept l (Some new) kept'
 
 -- what is kept after a step that ended the load, or didn't

@@ -2,8 +2,8 @@
 
 ghost use Rattle.std.specs.{Prelude.{◌≡◌, ◌≢◌, ◌<◌, ℕ, Some, None, IsSome, IfErr, OnOk, OnErr, is_some, Result}, HashMap.spare};
 ghost use Rattle.pagable_machine.specs.Driving.{kept_at, Drives, IsInStep, over};
-ghost use Rattle.{pagable_machine.specs.{Keeping.{IsPrepared, KeepsOne, rest_after, IsSameLoad, Stepped}, Unread.IsUnread}, pagable_model.specs.declared.error.Error.Error};
-ghost use Rattle.pagable_world.specs.{World.one_more, LoadCalls.DropCall, Pager.Moves, Access.Told, declared.{handles.Owner.Owner, events.{EventReply.EventReply, Event.Event}}};
+ghost use Rattle.{pagable_machine.specs.{Keeping.{IsPrepared, KeepsOne, rest_after, Stepped}, Unread.IsUnread}, pagable_model.specs.declared.error.Error.Error};
+ghost use Rattle.pagable_world.specs.{LoadCalls.DropCall, Pager.Moves, Access.Told, declared.{handles.Owner.Owner, events.{EventReply.EventReply, Event.Event}}};
 ghost use Rattle.{pagable_loads.specs.Telling.values_at, pagable_pager.specs.View.{core_in, state_in, telling}};
 
 use crate::held::Held;
@@ -136,9 +136,6 @@ where
     requires { lent.old.me ≡ Owner.Caller }
     ensures step { Stepped (values_at E.Node.NodeSet E.Env E.Hash.KeyHash lent.old.pager.now.environment) Owner.Caller own result.0 result.1
         (state_in (telling S.stored S.is_closed S.failed) lent.old.pager.now) (state_in (telling S.stored S.is_closed S.failed) lent.new.pager.now) }
-    ensures again { IsSameLoad own result.1 }
-    ensures counts { result.0.steps ≡ one_more own.steps }
-    ensures counted { result.1.steps ≡ one_more own.steps }
     ensures lender { lent.new.pager.ghost_name ≡ lent.old.pager.ghost_name }
 {
     let mut own = own;
@@ -157,9 +154,6 @@ where
     E::Node: NodeSet<E>,
     ensures step { Stepped (values_at E.Node.NodeSet E.Env E.Hash.KeyHash pager.old.environment) Owner.Caller own result.0 result.1
         (state_in (telling S.stored S.is_closed S.failed) pager.old) (state_in (telling S.stored S.is_closed S.failed) pager.new) }
-    ensures again { IsSameLoad own result.1 }
-    ensures counts { result.0.steps ≡ one_more own.steps }
-    ensures counted { result.1.steps ≡ one_more own.steps }
 {
     let mut lent = Lent::new(pager);
     step_by(&mut lent, alloc, own)

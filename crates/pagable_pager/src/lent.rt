@@ -68,9 +68,7 @@ where
 
     ghost told = { λ l. Some (state_in (telling S.stored S.is_closed S.failed) l.pager.now) };
 
-    ghost acting = { λ l. record { me = l.me; environment = l.pager.now.environment } };
-
-    ghost lender = { λ l. l.pager.ghost_name };
+    ghost acting = { λ l. record { me = l.me; environment = l.pager.now.environment; lender = l.pager.ghost_name } };
 
     fn env(&self) -> &E {
         self.pager.env()

@@ -7,7 +7,7 @@ use Rattle.pagable_world.specs.{Access.{no-more, skips, pages, fails}, Calls.{Re
 use Rattle.pagable_world.specs.{Workers.first_todo, World.{Shelf, SameShelf, Todo, of_entry, of_item, Values, Written, Seen, Alike}, declared.events.{Took.Took, WorkerAnswer.WorkerAnswer}}
 use Rattle.{pagable_world.specs.declared.handles.Owner.Owner, pagable_laws.proofs.SparingSteps.{walk-spares-list, release-spares-list}}
 use Rattle.pagable_laws.proofs.SparingSteps.{none-shorter, Spares, spares-then}
-use Rattle.{pagable_loads.specs.{Telling.Acting, Working.{as_caller, StartsEntry, RefusesEntry}}, pagable_walk.proofs.{Pinning.same-shelf, Turning.{alike, plain-fits}, Unanswered.item-answered}}
+use Rattle.{pagable_loads.specs.{Telling.{Acting, as_caller}, Working.{StartsEntry, RefusesEntry}}, pagable_walk.proofs.{Pinning.same-shelf, Turning.{alike, plain-fits}, Unanswered.item-answered}}
 use Rattle.pagable_walk.{proofs.Unanswered.entry-answered, specs.{Over.{failure_of, PagesItem, PagesList, PagesEntry, Skipped, SkipsEntry, PagesAt, HasPaged}, Slots.no_claims, Tasks.IsPlain}}
 use Rattle.pagable_walk.specs.{Tasks.todo_of, Turns.{Fits, plain}, Walking.{RunsTo, Walked}, declared.{results.Trees.Ghosts, table.PageOutError.PageOutError, tasks.Task.Task}}
 
@@ -90,16 +90,16 @@ module _ {N E : Type 0} (v : Values N) where
 
   -- ---- a place of the list
 
-  pub took-none : (place : ℕ) (taken : Option HandleNumber) → ((h : HandleNumber) → taken ≡ Some h → ⊥) → (s t : PagerState N E) → Called v (λ w'. TakeCall s.core Owner.Caller place taken w') s t → SkipsEntry v place s t
-  took-none place (Some h) none s t call = absurd (none h refl)
-  took-none place None none s t call = record { skips = λ h listed. absurd (let within = slice_get_within s.core.list place h listed in omega (arith, within, call.step.0)) }
+  pub took-none : (place : ℕ) (taken : Option HandleNumber) → ((h : HandleNumber) → taken ≡ Some h → ⊥) → (me : Owner) (s t : PagerState N E) → Called v (λ w'. TakeCall s.core me place taken w') s t → SkipsEntry v place s t
+  took-none place (Some h) none me s t call = absurd (none h refl)
+  took-none place None none me s t call = record { skips = λ h listed. absurd (let within = slice_get_within s.core.list place h listed in omega (arith, within, call.step.0)) }
 
-  pub took-some : (place : ℕ) (h : HandleNumber) (told : Result (Unit {0}) Error) (s mid t : PagerState N E) → Called v (λ w'. TakeCall s.core Owner.Caller place (Some h) w') s mid
-      → Called v (λ w'. ReleaseCall mid.core Owner.Caller h told w') mid t → SkipsEntry v place s t
-  took-some place h told s mid t takes releases = record {
+  pub took-some : {me : Owner} → me ≡ Owner.Caller → (place : ℕ) (h : HandleNumber) (told : Result (Unit {0}) Error) (s mid t : PagerState N E) → Called v (λ w'. TakeCall s.core me place (Some h) w') s mid
+      → Called v (λ w'. ReleaseCall mid.core me h told w') mid t → SkipsEntry v place s t
+  took-some mine place h told s mid t takes releases = record {
     skips = λ k listed.
         let e : h ≡ k = cc-some takes.step.0 listed in
-        subst (λ x. Skipped v s place x t) e (record { mid = mid; told = told; takes = takes; releases = releases });
+        subst (λ x. Skipped v s place x t) e (record { mid = mid; told = told; takes = rw mine at takes; releases = rw mine at releases });
   }
     where
       cc-some : {X : Type 0} {x y : X} {a : Option X} → a ≡ Some x → a ≡ Some y → x ≡ y

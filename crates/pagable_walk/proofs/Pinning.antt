@@ -7,7 +7,7 @@ use Rattle.pagable_world.specs.{Calls.{with_handle, with_mode, moved, is_named_b
 use Rattle.pagable_world.specs.{LoadCalls.is_owned_in, Loads.{EndsPinned, IsOfKey, gone_on}, Pager.{PagerState, HandlesAreWhole, Moves, TodoBrings, TookWrites, WellFormed}, Workers.PinsAtOnce}
 use Rattle.pagable_world.specs.{Workers.{RowIs, answer_after, fresh, entry_left, Does}, declared.{events.{LoadAnswer.LoadAnswer, Took.Took, PinStep.PinStep}, handles.HandleRow.HandleRow}}
 use Rattle.{pagable_world.specs.declared.{handles.Owner.Owner, answers.Pinning.Pinning, rows.Mode.Mode}, pagable_loads.specs.declared.{reading.Reading.Reading as Own, working.Taken.Taken}}
-use Rattle.pagable_loads.{proofs.{Stepped.none_comes, Driven.goes_open}, specs.{Frames.{IsLoadOf, frames_of, reading_of}, Stepping.Steps, Working.{TakesReference, BeginsAt}}}
+use Rattle.pagable_loads.{proofs.{Stepped.none_comes, Driven.goes_open}, specs.{Frames.{IsLoadOf, frames_of, reading_of}, Stepping.{IsSameLoad, Steps}, Working.{TakesReference, BeginsAt}}}
 use Rattle.pagable_laws.{specs.{KeyRuns.StandsAt, TreeSteps.Change}, proofs.{Outlasting.{AreLow, low-whole, low-changed, low-handle, new-handle, NotValues, Stands}, Goes.Goes, Naming.clone-stands}}
 use Rattle.pagable_laws.proofs.{Outlasting.{stands-alike, stands-fell, clone-call, not-loose, owned-none}, Trees.same_some, ReadingSteps.walk-goes}
 use Rattle.pagable_walk.specs.{Failing.{back_of, fails}, Tasks.IsPlain, declared.{tasks.{Turn.Turn, Moved.Moved, Task.Task}, results.Trees.Ghosts}, Turns.{IsLoading, IsOfKind, HoldsPin, Fits}}
@@ -177,23 +177,22 @@ module _ {X : Type 0} {g : Ghosts X} {N E : Type 0} (v : Values N) (me : Owner) 
         → ReadingStep v (owner_worker n) (reading_of own) s answer frames t
     stepped {s} {t} {answer} {frames} f steps = subst (λ o. IsLoadOf s.core o own → ReadingStep v o (reading_of own) s answer frames t) f.me_is steps.does f.task_fits.1.is
 
-    pub load-goes : (new : Own) (frames : List Frame) → frames ≡ frames_of new.top new.below.items → new.load ≡ own.load → new.node_type ≡ own.node_type → new.steps ≡ one_more own.steps
-        → new.key ≡ own.key → new.for_cell ≡ own.for_cell → (s t : PagerState N E)
+    pub load-goes : (new : Own) (frames : List Frame) → frames ≡ frames_of new.top new.below.items → IsSameLoad own new (one_more own.steps) → (s t : PagerState N E)
         → Steps v me own s None frames t → TurnsTo {g = g} v me n shelf (Task.Load r place through own) below shelf (record { took = Took.Pin (identity_of r) (Ok PinStep.LoadWent); turn = Turn.Goes (Task.Load r place through new); counted = false }) (to_load r place through (reading_of new) ∷ below) s t
-    load-goes new frames at load node_type steps key cell s t call = record {
+    load-goes new frames at is_same s t call = record {
       counts = refl;
       turns = λ f.
           let step = stepped f call in
-          let same : reading_of new ≡ gone_on (reading_of own) frames = λ i. record { load = load i; node_type = node_type i; frames = sym at i; steps = steps i } in
+          let same : reading_of new ≡ gone_on (reading_of own) frames = λ i. record { load = is_same.load i; node_type = is_same.node_type i; frames = sym at i; steps = is_same.steps i } in
           let old = f.task_fits.1 in
-          let open_load : t.core.loads new.load.0 ≡ Some old.is.load = ap (λ (x : LoadNumber). t.core.loads x.0) load ∙ goes_open v (owner_worker n) s.core t.core (reading_of own) frames step.does.does ∙ old.is.owned.stands_open in
+          let open_load : t.core.loads new.load.0 ≡ Some old.is.load = ap (λ (x : LoadNumber). t.core.loads x.0) is_same.load ∙ goes_open v (owner_worker n) s.core t.core (reading_of own) frames step.does.does ∙ old.is.owned.stands_open in
           by-does v n shelf (to_load r place through (reading_of own) ∷ below) _ (to_load r place through (reading_of new) ∷ below) s t
           (refl, record { goes = (frames, step.does, record { table_stays = same-shelf shelf; list_is = ap (λ x. to_load r place through x ∷ below) same }); refused = tt }) refl step.moves tt step.whole
           (λ c goes. (
             kind-on goes f.task_fits.0,
             record {
-              is = record { load = old.is.load; owned = record { stands_open = open_load; own = old.is.owned.own }; key = old.is.key ∙ sym key; sort = old.is.sort ∙ sym cell };
-              for_cell = cell ∙ old.for_cell;
+              is = record { load = old.is.load; owned = record { stands_open = open_load; own = old.is.owned.own }; key = old.is.key ∙ sym is_same.key; sort = old.is.sort ∙ sym is_same.for_cell };
+              for_cell = is_same.for_cell ∙ old.for_cell;
               t = old.t;
               root = old.root;
             },

@@ -2,8 +2,8 @@
 
 ghost use Rattle.std.specs.{Arc.arc_value, Prelude.{◌≡◌, ◌∷◌, [], ℕ, List, IfOk, IfErr, length, ◌≤◌, map}};
 ghost use Rattle.{pagable_core.specs.Data.blob_of, pagable_model.specs.Merkle.blob_of as blob_over};
-ghost use Rattle.{pagable_model.specs.Blob.key_of, pagable_world.specs.{Access.Told, World.{Shelf, Todo, answer_of_fault, to_release, to_set}, Kinds.identity_of, Plain.longest_path}};
-ghost use Rattle.{pagable_loads.specs.Telling.{Tells, values_at}, pagable_walk.specs.{Tasks.{AwaitsLow, IsWay, fault_of, todos, waiting_todo}, Due.LeadsOn}};
+ghost use Rattle.{pagable_model.specs.Blob.key_of, pagable_world.specs.{World.{Shelf, Todo, answer_of_fault, to_release, to_set}, Kinds.identity_of, Plain.longest_path}};
+ghost use Rattle.{pagable_loads.specs.Telling.{Acts, Tells, values_at}, pagable_walk.specs.{Tasks.{AwaitsLow, IsWay, fault_of, todos, waiting_todo}, Due.LeadsOn}};
 ghost use Rattle.pagable_walk.specs.{Ending.{Stores, IsStored, named_by, GoesBack}, Found.{keys_of, ids_of}, Slots.written_of, Table.shelf_of, Turns.{TurnsTo, plan}, Results.HasFormOf};
 
 use crate::stack::{fail, give, refuse};
@@ -41,9 +41,7 @@ fn store<E: Env, A: WorkerAccess<E>>(
 where
     E::Node: NodeSet<E>,
     ensures key { IfOk result (λ key. key ≡ key_of E.Hash.digest (blob_over (written_of written.now).bytes (keys_of children.now))) }
-    ensures step { Told (A.told access.old) (A.told access.new) (λ s t. Stores (values_at E.Node.NodeSet E.Env E.Hash.KeyHash (A.acting access.old).environment) s (blob_over (written_of written.now).bytes (keys_of children.now)) result t) }
-    ensures acting { A.acting access.new ≡ A.acting access.old }
-    ensures lender { A.lender access.new ≡ A.lender access.old }
+    ensures acts { Acts A.told A.acting access.old access.new (λ a s t. Stores (values_at E.Node.NodeSet E.Env E.Hash.KeyHash a.environment) s (blob_over (written_of written.now).bytes (keys_of children.now)) result t) }
 {
     let blob = blob(alloc, written, children)?;
     access.store(alloc, blob)
@@ -93,9 +91,7 @@ where
     requires { IsWay (waiting_todo waiting ∷ todos path.old.items) }
     ensures way { IsWay (plan result.turn path.new.items) }
     ensures leads { LeadsOn (waiting_todo waiting ∷ todos path.old.items) result.turn (plan result.turn path.new.items) }
-    ensures step { (n : ℕ) (shelf : Shelf) → Told (A.told access.old) (A.told access.new) (TurnsTo (values_at E.Node.NodeSet E.Env E.Hash.KeyHash (A.acting access.old).environment) (A.acting access.old).me n shelf (Task.Finish waiting) (todos path.old.items) shelf result (plan result.turn path.new.items)) }
-    ensures acting { A.acting access.new ≡ A.acting access.old }
-    ensures lender { A.lender access.new ≡ A.lender access.old }
+    ensures acts { (n : ℕ) (shelf : Shelf) → Acts A.told A.acting access.old access.new (λ a. TurnsTo (values_at E.Node.NodeSet E.Env E.Hash.KeyHash a.environment) a.me n shelf (Task.Finish waiting) (todos path.old.items) shelf result (plan result.turn path.new.items)) }
 {
     let identity = named_by(&waiting.node);
     match store(
@@ -129,9 +125,7 @@ where
     requires { AwaitsLow (todos path.old.items) done.reference done.found.height }
     ensures way { IsWay (plan result.turn path.new.items) }
     ensures leads { LeadsOn (to_set done.reference through done.found.key done.found.height ∷ todos path.old.items) result.turn (plan result.turn path.new.items) }
-    ensures step { (n : ℕ) (shelf : Shelf) → Told (A.told access.old) (A.told access.new) (TurnsTo (values_at E.Node.NodeSet E.Env E.Hash.KeyHash (A.acting access.old).environment) (A.acting access.old).me n shelf (Task.SetKey done through) (todos path.old.items) shelf result (plan result.turn path.new.items)) }
-    ensures acting { A.acting access.new ≡ A.acting access.old }
-    ensures lender { A.lender access.new ≡ A.lender access.old }
+    ensures acts { (n : ℕ) (shelf : Shelf) → Acts A.told A.acting access.old access.new (λ a. TurnsTo (values_at E.Node.NodeSet E.Env E.Hash.KeyHash a.environment) a.me n shelf (Task.SetKey done through) (todos path.old.items) shelf result (plan result.turn path.new.items)) }
 {
     let identity = named(done.reference);
     match access.set_data_key(through, done.key()) {
@@ -179,9 +173,7 @@ where
     requires { AwaitsLow (todos path.old.items) done.reference done.found.height }
     ensures way { IsWay (plan result.turn path.new.items) }
     ensures leads { LeadsOn (to_release done.reference done.found.key done.found.height ∷ todos path.old.items) result.turn (plan result.turn path.new.items) }
-    ensures step { (shelf : Shelf) → Told (A.told access.old) (A.told access.new) (TurnsTo (values_at E.Node.NodeSet E.Env E.Hash.KeyHash (A.acting access.old).environment) (A.acting access.old).me worker.0 shelf (Task.Release done) (todos path.old.items) shelf result (plan result.turn path.new.items)) }
-    ensures acting { A.acting access.new ≡ A.acting access.old }
-    ensures lender { A.lender access.new ≡ A.lender access.old }
+    ensures acts { (shelf : Shelf) → Acts A.told A.acting access.old access.new (λ a. TurnsTo (values_at E.Node.NodeSet E.Env E.Hash.KeyHash a.environment) a.me worker.0 shelf (Task.Release done) (todos path.old.items) shelf result (plan result.turn path.new.items)) }
 {
     let identity = named(done.reference);
     access.give_up(worker, identity.node);
@@ -203,9 +195,7 @@ where
 fn give_back<E: Env, A: WorkerAccess<E>>(access: &mut A, back: Option<HandleNumber>)
 where
     E::Node: NodeSet<E>,
-    ensures step { Told (A.told access.old) (A.told access.new) (λ s t. GoesBack (values_at E.Node.NodeSet E.Env E.Hash.KeyHash (A.acting access.old).environment) (A.acting access.old).me back s t) }
-    ensures acting { A.acting access.new ≡ A.acting access.old }
-    ensures lender { A.lender access.new ≡ A.lender access.old }
+    ensures { Acts A.told A.acting access.old access.new (λ a s t. GoesBack (values_at E.Node.NodeSet E.Env E.Hash.KeyHash a.environment) a.me back s t) }
 {
     let Some(entry) = back else {
         return;
@@ -234,9 +224,7 @@ pub fn end<E: Env, A: WorkerAccess<E>>(
 where
     E::Node: NodeSet<E>,
     ensures is { result.turn ≡ Turn.Answers (answer_of_fault (fault_of why)) }
-    ensures step { (below : List Todo) → Told (A.told access.old) (A.told access.new) (TurnsTo (values_at E.Node.NodeSet E.Env E.Hash.KeyHash (A.acting access.old).environment) (A.acting access.old).me worker.0 (shelf_of table.old) (Task.Fail why back) below (shelf_of table.new) result []) }
-    ensures acting { A.acting access.new ≡ A.acting access.old }
-    ensures lender { A.lender access.new ≡ A.lender access.old }
+    ensures acts { (below : List Todo) → Acts A.told A.acting access.old access.new (λ a. TurnsTo (values_at E.Node.NodeSet E.Env E.Hash.KeyHash a.environment) a.me worker.0 (shelf_of table.old) (Task.Fail why back) below (shelf_of table.new) result []) }
 {
     give_back(access, back);
     table.fail(worker);

@@ -1,7 +1,7 @@
 //! Page-out of an item, and of the entries of the list, over an access, each by workers of its own.
 
 ghost use Rattle.std.specs.{Arc.arc_value, Prelude.◌≡◌};
-ghost use Rattle.{pagable_world.specs.{Access.Told, declared.handles.Owner.Owner}, pagable_loads.specs.Telling.values_at, pagable_walk.specs.Over.answer_of};
+ghost use Rattle.{pagable_world.specs.declared.handles.Owner.Owner, pagable_loads.specs.Telling.{Acts, values_at}, pagable_walk.specs.Over.answer_of};
 ghost use Rattle.pagable_walk.specs.{Over.{PagesAt, PagesEntry, PagesItem, PagesList, SkipsEntry}, Slots.written_of, Table.shelf_of};
 
 use crate::starting::{start_entry, start_item};
@@ -37,9 +37,7 @@ pub fn page_out_item_over<E: Env, A: WorkerAccess<E>>(
 where
     E::Node: NodeSet<E>,
     requires caller { (A.acting access.old).me ≡ Owner.Caller }
-    ensures over { Told (A.told access.old) (A.told access.new) (PagesItem (values_at E.Node.NodeSet E.Env E.Hash.KeyHash (A.acting access.old).environment) (shelf_of table.old) (written_of (arc_value item)) (shelf_of table.new) (answer_of result)) }
-    ensures acting { A.acting access.new ≡ A.acting access.old }
-    ensures lender { A.lender access.new ≡ A.lender access.old }
+    ensures { Acts A.told A.acting access.old access.new (λ a. PagesItem (values_at E.Node.NodeSet E.Env E.Hash.KeyHash a.environment) (shelf_of table.old) (written_of (arc_value item)) (shelf_of table.new) (answer_of result)) }
 {
     let (task, mut path) = match start_item(alloc, item) {
         Ok(first) => first,
@@ -60,9 +58,7 @@ fn page_out_entry<E: Env, A: WorkerAccess<E>>(
 where
     E::Node: NodeSet<E>,
     requires caller { (A.acting access.old).me ≡ Owner.Caller }
-    ensures pages { Told (A.told access.old) (A.told access.new) (PagesEntry (values_at E.Node.NodeSet E.Env E.Hash.KeyHash (A.acting access.old).environment) place result) }
-    ensures acting { A.acting access.new ≡ A.acting access.old }
-    ensures lender { A.lender access.new ≡ A.lender access.old }
+    ensures { Acts A.told A.acting access.old access.new (λ a. PagesEntry (values_at E.Node.NodeSet E.Env E.Hash.KeyHash a.environment) place result) }
 {
     let (worker, reference) = match access.worker_listed(place) {
         Ok(begun) => begun,
@@ -78,9 +74,7 @@ fn skip_entry<E: Env, A: WorkerAccess<E>>(access: &mut A, place: usize)
 where
     E::Node: NodeSet<E>,
     requires caller { (A.acting access.old).me ≡ Owner.Caller }
-    ensures skips { Told (A.told access.old) (A.told access.new) (SkipsEntry (values_at E.Node.NodeSet E.Env E.Hash.KeyHash (A.acting access.old).environment) place) }
-    ensures acting { A.acting access.new ≡ A.acting access.old }
-    ensures lender { A.lender access.new ≡ A.lender access.old }
+    ensures { Acts A.told A.acting access.old access.new (λ a. SkipsEntry (values_at E.Node.NodeSet E.Env E.Hash.KeyHash a.environment) place) }
 {
     let Some(entry) = access.take_pending(place) else {
         return;
@@ -97,9 +91,7 @@ fn page_out_at<E: Env, A: WorkerAccess<E>>(
 where
     E::Node: NodeSet<E>,
     requires caller { (A.acting access.old).me ≡ Owner.Caller }
-    ensures pages { Told (A.told access.old) (A.told access.new) (PagesAt (values_at E.Node.NodeSet E.Env E.Hash.KeyHash (A.acting access.old).environment) place result) }
-    ensures acting { A.acting access.new ≡ A.acting access.old }
-    ensures lender { A.lender access.new ≡ A.lender access.old }
+    ensures { Acts A.told A.acting access.old access.new (λ a. PagesAt (values_at E.Node.NodeSet E.Env E.Hash.KeyHash a.environment) place result) }
 {
     match access.entry_key(place) {
         None => Ok(()),
@@ -124,9 +116,7 @@ pub fn page_out_pending_over<E: Env, A: WorkerAccess<E>>(
 where
     E::Node: NodeSet<E>,
     requires caller { (A.acting access.old).me ≡ Owner.Caller }
-    ensures over { Told (A.told access.old) (A.told access.new) (PagesList (values_at E.Node.NodeSet E.Env E.Hash.KeyHash (A.acting access.old).environment) result) }
-    ensures acting { A.acting access.new ≡ A.acting access.old }
-    ensures lender { A.lender access.new ≡ A.lender access.old }
+    ensures { Acts A.told A.acting access.old access.new (λ a. PagesList (values_at E.Node.NodeSet E.Env E.Hash.KeyHash a.environment) result) }
 {
     let mut left = access.pending();
     while left > 0 {

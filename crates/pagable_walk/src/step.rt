@@ -1,7 +1,7 @@
 //! A worker's step: what is to be done next is done, and with its answer the worker ends. And its walk, from its first task to its answer.
 
 ghost use Rattle.std.specs.Prelude.{◌≡◌, ◌∷◌, ◌<◌, ◌≤◌, ◌+◌, ◌*◌};
-ghost use Rattle.{pagable_world.specs.Access.Told, pagable_loads.specs.{Telling.values_at, Working.as_caller}};
+ghost use Rattle.pagable_loads.specs.Telling.{Acts, ActsThen, as_caller, values_at};
 ghost use Rattle.pagable_walk.specs.{Due.{LeadsOn, IfGoes, due, far}, Table.shelf_of, Tasks.{IsWay, todo_of, todos}, Turns.{Closes, TurnsTo, StepsTo, acting_then, plan}, Walking.RunsTo};
 
 use crate::ending::{end, finish, publish, release, set_key};
@@ -31,9 +31,7 @@ where
     requires { IsWay (todo_of task ∷ todos path.old.items) }
     ensures way { IsWay (plan result.turn path.new.items) }
     ensures leads { LeadsOn (todo_of task ∷ todos path.old.items) result.turn (plan result.turn path.new.items) }
-    ensures step { Told (A.told access.old) (A.told access.new) (TurnsTo (values_at E.Node.NodeSet E.Env E.Hash.KeyHash (A.acting access.old).environment) (A.acting access.old).me worker.0 (shelf_of table.old) task (todos path.old.items) (shelf_of table.new) result (plan result.turn path.new.items)) }
-    ensures acting { A.acting access.new ≡ A.acting access.old }
-    ensures lender { A.lender access.new ≡ A.lender access.old }
+    ensures acts { Acts A.told A.acting access.old access.new (λ a. TurnsTo (values_at E.Node.NodeSet E.Env E.Hash.KeyHash a.environment) a.me worker.0 (shelf_of table.old) task (todos path.old.items) (shelf_of table.new) result (plan result.turn path.new.items)) }
 {
     match task {
         Task::Start(reference, place) => start(access, table, worker, path, reference, place),
@@ -56,9 +54,7 @@ where
 fn end_answered<E: Env, A: WorkerAccess<E>>(access: &mut A, worker: WorkerNumber, turn: &Turn<E>)
 where
     E::Node: NodeSet<E>,
-    ensures step { Told (A.told access.old) (A.told access.new) (Closes (values_at E.Node.NodeSet E.Env E.Hash.KeyHash (A.acting access.old).environment) worker.0 turn.now) }
-    ensures acting { A.acting access.new ≡ acting_then turn.now (A.acting access.old) }
-    ensures lender { A.lender access.new ≡ A.lender access.old }
+    ensures { ActsThen A.told A.acting access.old access.new (acting_then turn.now) (λ a. Closes (values_at E.Node.NodeSet E.Env E.Hash.KeyHash a.environment) worker.0 turn.now) }
 {
     let Turn::Answers(_) = turn else {
         return;
@@ -81,9 +77,7 @@ where
     requires { IsWay (todo_of task ∷ todos path.old.items) }
     ensures way { IsWay (plan result.turn path.new.items) }
     ensures leads { LeadsOn (todo_of task ∷ todos path.old.items) result.turn (plan result.turn path.new.items) }
-    ensures step { Told (A.told access.old) (A.told access.new) (StepsTo (values_at E.Node.NodeSet E.Env E.Hash.KeyHash (A.acting access.old).environment) (A.acting access.old).me worker.0 (shelf_of table.old) task (todos path.old.items) (shelf_of table.new) result (plan result.turn path.new.items)) }
-    ensures acting { A.acting access.new ≡ acting_then result.turn (A.acting access.old) }
-    ensures lender { A.lender access.new ≡ A.lender access.old }
+    ensures acts { ActsThen A.told A.acting access.old access.new (acting_then result.turn) (λ a. StepsTo (values_at E.Node.NodeSet E.Env E.Hash.KeyHash a.environment) a.me worker.0 (shelf_of table.old) task (todos path.old.items) (shelf_of table.new) result (plan result.turn path.new.items)) }
 {
     let moved = turn(access, alloc, table, worker, path, task);
     end_answered(access, worker, &moved.turn);
@@ -116,9 +110,7 @@ where
     requires { IsWay (todo_of task ∷ todos path.old.items) }
     ensures way { IsWay (plan result.turn path.new.items) }
     ensures falls { IfGoes result.turn (left.new * far + due (plan result.turn path.new.items) < left.old * far + due (todo_of task ∷ todos path.old.items)) }
-    ensures step { Told (A.told access.old) (A.told access.new) (StepsTo (values_at E.Node.NodeSet E.Env E.Hash.KeyHash (A.acting access.old).environment) (A.acting access.old).me worker.0 (shelf_of table.old) task (todos path.old.items) (shelf_of table.new) result (plan result.turn path.new.items)) }
-    ensures acting { A.acting access.new ≡ acting_then result.turn (A.acting access.old) }
-    ensures lender { A.lender access.new ≡ A.lender access.old }
+    ensures acts { ActsThen A.told A.acting access.old access.new (acting_then result.turn) (λ a. StepsTo (values_at E.Node.NodeSet E.Env E.Hash.KeyHash a.environment) a.me worker.0 (shelf_of table.old) task (todos path.old.items) (shelf_of table.new) result (plan result.turn path.new.items)) }
 {
     match task {
         Task::Start(reference, place) => {
@@ -158,9 +150,7 @@ pub fn run<E: Env, A: WorkerAccess<E>>(
 where
     E::Node: NodeSet<E>,
     requires { IsWay (todo_of first ∷ todos path.old.items) }
-    ensures run { Told (A.told access.old) (A.told access.new) (RunsTo (values_at E.Node.NodeSet E.Env E.Hash.KeyHash (A.acting access.old).environment) (A.acting access.old).me worker.0 (shelf_of table.old) first (todos path.old.items) (shelf_of table.new) result) }
-    ensures acting { A.acting access.new ≡ as_caller (A.acting access.old) }
-    ensures lender { A.lender access.new ≡ A.lender access.old }
+    ensures { ActsThen A.told A.acting access.old access.new as_caller (λ a. RunsTo (values_at E.Node.NodeSet E.Env E.Hash.KeyHash a.environment) a.me worker.0 (shelf_of table.old) first (todos path.old.items) (shelf_of table.new) result) }
 {
     let mut task = first;
     let mut left = u64::MAX;

@@ -1,9 +1,9 @@
 //! A worker's turns at a reference that it has come to: it claims what the reference names, pins it, by a load where it is needed, and writes its value.
 
 ghost use Rattle.std.specs.{Prelude.{◌≡◌, ◌≤◌, ◌+◌, ◌*◌, ◌∷◌, ℕ, List, length, ◌<◌, IfOk, IfErr, OnOk, vec_len, vec_capacity}, Arc.arc_value};
-ghost use Rattle.pagable_world.specs.{Access.Told, Plain.longest_path};
+ghost use Rattle.pagable_world.specs.Plain.{longest_path};
 ghost use Rattle.pagable_world.specs.{Plain.type_of, Workers.{claim_fault, is_counted_claim, Claims}, World.{Core, Shelf, Todo, to_start, to_pin, to_load, seen_as, to_write, to_finish}, Kinds.identity_of};
-ghost use Rattle.{pagable_loads.specs.{Frames.reading_of, Telling.{Tells, values_at}, Working.fault_in}, pagable_walk.specs.{Due.{due, most, LeadsOn}, Table.{shelf_of, found_as}, Tasks.Awaits}};
+ghost use Rattle.{pagable_loads.specs.{Frames.reading_of, Telling.{Acts, Tells, values_at}, Working.fault_in}, pagable_walk.specs.{Due.{due, most, LeadsOn}, Table.{shelf_of, found_as}, Tasks.Awaits}};
 ghost use Rattle.pagable_walk.specs.{Tasks.{IsWay, todo_of, todos, waiting_todo}, Turns.{site, claim_todo, ClaimFits, ClaimLeaves, TurnsTo, plan}, Results.HasFormOf, Slots.written_of, Writing.IsForm};
 ghost use Rattle.pagable_walk.specs.Writing.{WriteRefused, Finds, Forms, just_open};
 
@@ -127,9 +127,7 @@ where
     requires near { place ≤ longest_path }
     ensures way { IsWay (plan result.turn path.new.items) }
     ensures leads { LeadsOn (to_pin reference place ∷ todos path.old.items) result.turn (plan result.turn path.new.items) }
-    ensures step { (n : ℕ) (shelf : Shelf) → Told (A.told access.old) (A.told access.new) (TurnsTo (values_at E.Node.NodeSet E.Env E.Hash.KeyHash (A.acting access.old).environment) (A.acting access.old).me n shelf (Task.Pin reference place) (todos path.old.items) shelf result (plan result.turn path.new.items)) }
-    ensures acting { A.acting access.new ≡ A.acting access.old }
-    ensures lender { A.lender access.new ≡ A.lender access.old }
+    ensures acts { (n : ℕ) (shelf : Shelf) → Acts A.told A.acting access.old access.new (λ a. TurnsTo (values_at E.Node.NodeSet E.Env E.Hash.KeyHash a.environment) a.me n shelf (Task.Pin reference place) (todos path.old.items) shelf result (plan result.turn path.new.items)) }
 {
     let identity = named(reference);
     let taken = match access.take_reference(reference) {
@@ -175,9 +173,7 @@ where
     requires near { place ≤ longest_path }
     ensures way { IsWay (plan result.turn path.new.items) }
     ensures leads { LeadsOn (to_load reference place through (reading_of reading) ∷ todos path.old.items) result.turn (plan result.turn path.new.items) }
-    ensures step { (n : ℕ) (shelf : Shelf) → Told (A.told access.old) (A.told access.new) (TurnsTo (values_at E.Node.NodeSet E.Env E.Hash.KeyHash (A.acting access.old).environment) (A.acting access.old).me n shelf (Task.Load reference place through reading) (todos path.old.items) shelf result (plan result.turn path.new.items)) }
-    ensures acting { A.acting access.new ≡ A.acting access.old }
-    ensures lender { A.lender access.new ≡ A.lender access.old }
+    ensures acts { (n : ℕ) (shelf : Shelf) → Acts A.told A.acting access.old access.new (λ a. TurnsTo (values_at E.Node.NodeSet E.Env E.Hash.KeyHash a.environment) a.me n shelf (Task.Load reference place through reading) (todos path.old.items) shelf result (plan result.turn path.new.items)) }
 {
     let identity = named(reference);
     match reading.step(access, alloc) {

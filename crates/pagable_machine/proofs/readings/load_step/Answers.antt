@@ -1,4 +1,4 @@
-use Rattle.pagable_machine.proofs.{Happening.closed-drives, Happening.no-place-drives, Happening.step-drives, Happening.step-of, Happening.untyped-drives, Words.values_at, Words.◌∙◌}
+use Rattle.pagable_machine.proofs.{Happening.closed-drives, Happening.no-place-drives, Happening.step-drives, Happening.untyped-drives, Words.values_at, Words.◌∙◌}
 use Rattle.pagable_machine.proofs.readings.load_step.Goals as goal
 
 pub returns-in-Err : goal.returns-in-Err
@@ -6,19 +6,15 @@ returns-in-Err g c = closed-drives (values_at g.E.Node.NodeSet g.E.Env g.E.Hash.
 
 pub returns-in-Ok-prepare : goal.returns-in-Ok-prepare
 returns-in-Ok-prepare g c =
-    let moved = c.step_lent-reply.ensures in
     step-drives (values_at g.E.Node.NodeSet g.E.Env g.E.Hash.KeyHash) _ _ _ _ _ c.requires c.is_whole.ensures _ _ _ c.in-Ok.ensures.reads c.prepare.new.readings c.put_in.new.readings _
     c.in-Ok-prepare.ensures.ready
     (record {
       own = c.take_out-own.result;
       new = c.step_lent-reply.result.1;
       was = c.take_out-own.ensures.was;
-      again = moved.again;
-      counts = moved.counts;
-      counted = moved.counted;
+      stepped = c.step_lent-reply.ensures;
       keeps = record { here = c.put_in.ensures.here; others = λ q other. c.put_in.ensures.others q other ∙ c.take_out-own.ensures.others q other };
-    })
-    (λ own new was here. step-of c.take_out-own.ensures.was c.put_in.ensures.here moved.step was here) c.end.ensures
+    }) c.end.ensures
 
 pub returns-in-Err-NoPlace : goal.returns-in-Err-NoPlace
 returns-in-Err-NoPlace g c =

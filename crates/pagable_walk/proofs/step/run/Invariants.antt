@@ -1,16 +1,13 @@
-use Rattle.{std.proofs.Common.{◌≡◌, ◌∷◌, ◌+◌, ◌*◌}, pagable_world.specs.Access.Told, pagable_loads.specs.Telling.values_at, pagable_walk.specs.{Due.{due, far}, Table.shelf_of, Tasks.{IsWay, todo_of}}}
+use Rattle.{std.proofs.Common.{◌∷◌, ◌+◌, ◌*◌}, pagable_loads.specs.Telling.{Acts, values_at}, pagable_walk.specs.{Due.{due, far}, Table.shelf_of, Tasks.{IsWay, todo_of}}}
 use Rattle.pagable_walk.specs.{Tasks.todos, Walking.HasWalked}
 use Rattle.pagable_walk.proofs.step.run.Given as goal
 
 -- the path leads to the task, and a run from here is one from the beginning
 abbrev pub invariant-loop-next : goal.invariant-loop-next
 invariant-loop-next g l =
-    let a = g.A.Access.acting l.fn.access in
     record {
       way : IsWay (todo_of l.task ∷ todos l.path.items);
-      acting : g.A.Access.acting l.access ≡ g.A.Access.acting l.fn.access;
-      lender : g.A.Access.lender l.access ≡ g.A.Access.lender l.fn.access;
-      walked : Told (g.A.Access.told l.fn.access) (g.A.Access.told l.access) (HasWalked (values_at g.E.Node.NodeSet g.E.Env g.E.Hash.KeyHash a.environment) a.me l.worker.0 (shelf_of l.fn.table) l.fn.first (todos l.fn.path.items) (shelf_of l.table) l.task (todos l.path.items));
+      walked : Acts g.A.Access.told g.A.Access.acting l.fn.access l.access (λ a. HasWalked (values_at g.E.Node.NodeSet g.E.Env g.E.Hash.KeyHash a.environment) a.me l.worker.0 (shelf_of l.fn.table) l.fn.first (todos l.fn.path.items) (shelf_of l.table) l.task (todos l.path.items));
     }
 
 abbrev pub decreases-loop-next : goal.decreases-loop-next

@@ -1,4 +1,4 @@
-use Rattle.{std.proofs.Common.{arith, rules}, pagable_walk.specs.{Table.shelf_of, Tasks.todos}, pagable_loads.proofs.Stepped.told_same}
+use Rattle.{std.proofs.Common.arith, pagable_walk.specs.{Table.shelf_of, Tasks.todos}, pagable_loads.proofs.Stepped.acts_same}
 use Rattle.pagable_walk.proofs.step.turn.Goals as goal
 
 pub start-requires : goal.start-requires
@@ -23,22 +23,22 @@ pub release-requires : goal.release-requires
 release-requires g c = rw c.in-Release.is at c.requires
 
 pub returns-in-Start : goal.returns-in-Start
-returns-in-Start g c = let h = c.start.ensures in rw c.in-Start.is (record { way = h.way; leads = h.leads; step = told_same h.step; acting = search rules; lender = search rules })
+returns-in-Start g c = let h = c.start.ensures in rw c.in-Start.is (record { way = h.way; leads = h.leads; acts = acts_same h.step })
 
 pub returns-in-Pin : goal.returns-in-Pin
-returns-in-Pin g c = let h = c.pin.ensures in rw c.in-Pin.is (record { way = h.way; leads = h.leads; step = h.step c.args.worker.0 (shelf_of c.args.table.now); acting = h.acting; lender = h.lender })
+returns-in-Pin g c = let h = c.pin.ensures in rw c.in-Pin.is (record { way = h.way; leads = h.leads; acts = h.acts c.args.worker.0 (shelf_of c.args.table.now) })
 
 pub returns-in-Load : goal.returns-in-Load
-returns-in-Load g c = let h = c.load.ensures in rw c.in-Load.is (record { way = h.way; leads = h.leads; step = h.step c.args.worker.0 (shelf_of c.args.table.now); acting = h.acting; lender = h.lender })
+returns-in-Load g c = let h = c.load.ensures in rw c.in-Load.is (record { way = h.way; leads = h.leads; acts = h.acts c.args.worker.0 (shelf_of c.args.table.now) })
 
 pub returns-in-Write : goal.returns-in-Write
-returns-in-Write g c = let h = c.write.ensures in rw c.in-Write.is (record { way = h.way; leads = h.leads; step = told_same (h.step c.args.worker.0); acting = search rules; lender = search rules })
+returns-in-Write g c = let h = c.write.ensures in rw c.in-Write.is (record { way = h.way; leads = h.leads; acts = acts_same (h.step c.args.worker.0) })
 
 pub returns-in-Finish : goal.returns-in-Finish
-returns-in-Finish g c = let h = c.finish.ensures in rw c.in-Finish.is (record { way = h.way; leads = h.leads; step = h.step c.args.worker.0 (shelf_of c.args.table.now); acting = h.acting; lender = h.lender })
+returns-in-Finish g c = let h = c.finish.ensures in rw c.in-Finish.is (record { way = h.way; leads = h.leads; acts = h.acts c.args.worker.0 (shelf_of c.args.table.now) })
 
 pub returns-in-SetKey : goal.returns-in-SetKey
-returns-in-SetKey g c = let h = c.set_key.ensures in rw c.in-SetKey.is (record { way = h.way; leads = h.leads; step = h.step c.args.worker.0 (shelf_of c.args.table.now); acting = h.acting; lender = h.lender })
+returns-in-SetKey g c = let h = c.set_key.ensures in rw c.in-SetKey.is (record { way = h.way; leads = h.leads; acts = h.acts c.args.worker.0 (shelf_of c.args.table.now) })
 
 pub returns-in-Publish-clause-way : goal.returns-in-Publish-clause-way
 returns-in-Publish-clause-way g c = rw c.publish.ensures.is (rw c.in-Publish.is at c.requires)
@@ -46,11 +46,11 @@ returns-in-Publish-clause-way g c = rw c.publish.ensures.is (rw c.in-Publish.is 
 pub returns-in-Publish-clause-leads : goal.returns-in-Publish-clause-leads
 returns-in-Publish-clause-leads g c = rw (c.in-Publish.is, c.publish.ensures.is) (omega arith)
 
-pub returns-in-Publish-clause-step : goal.returns-in-Publish-clause-step
-returns-in-Publish-clause-step g c = rw (c.in-Publish.is, c.publish.ensures.is) (told_same (rw c.publish.ensures.is at (c.publish.ensures.step c.args.worker.0 (todos c.args.path.now.items))))
+pub returns-in-Publish-clause-acts : goal.returns-in-Publish-clause-acts
+returns-in-Publish-clause-acts g c = rw (c.in-Publish.is, c.publish.ensures.is) (acts_same (rw c.publish.ensures.is at (c.publish.ensures.step c.args.worker.0 (todos c.args.path.now.items))))
 
 pub returns-in-Release : goal.returns-in-Release
-returns-in-Release g c = let h = c.release.ensures in rw c.in-Release.is (record { way = h.way; leads = h.leads; step = h.step (shelf_of c.args.table.now); acting = h.acting; lender = h.lender })
+returns-in-Release g c = let h = c.release.ensures in rw c.in-Release.is (record { way = h.way; leads = h.leads; acts = h.acts (shelf_of c.args.table.now) })
 
 pub returns-in-Fail-clause-way : goal.returns-in-Fail-clause-way
 returns-in-Fail-clause-way g c = rw c.end.ensures.is tt
@@ -58,5 +58,5 @@ returns-in-Fail-clause-way g c = rw c.end.ensures.is tt
 pub returns-in-Fail-clause-leads : goal.returns-in-Fail-clause-leads
 returns-in-Fail-clause-leads g c = rw c.end.ensures.is tt
 
-pub returns-in-Fail-clause-step : goal.returns-in-Fail-clause-step
-returns-in-Fail-clause-step g c = rw (c.in-Fail.is, c.end.ensures.is) (rw c.end.ensures.is at (c.end.ensures.step (todos c.args.path.now.items)))
+pub returns-in-Fail-clause-acts : goal.returns-in-Fail-clause-acts
+returns-in-Fail-clause-acts g c = rw (c.in-Fail.is, c.end.ensures.is) (rw c.end.ensures.is at (c.end.ensures.acts (todos c.args.path.now.items)))

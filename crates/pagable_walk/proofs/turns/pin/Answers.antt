@@ -1,19 +1,19 @@
-use Rattle.{std.proofs.Common.{ap, arith}, pagable_world.specs.World.Reading, pagable_loads.{specs.Ending.to_do, proofs.Stepped.told_map}, pagable_walk.{specs.Tasks.todos, proofs.Pinning.pin-holds}}
+use Rattle.{std.proofs.Common.{ap, arith}, pagable_world.specs.World.Reading, pagable_loads.{specs.Ending.to_do, proofs.Stepped.acts_map}, pagable_walk.{specs.Tasks.todos, proofs.Pinning.pin-holds}}
 use Rattle.pagable_walk.proofs.Pinning.{pin-begins, pin-fails}
 use Rattle.pagable_walk.proofs.turns.pin.Goals as goal
 
-pub returns-in-Held-clause-step : goal.returns-in-Held-clause-step
-returns-in-Held-clause-step g c n shelf =
-    rw c.named-identity.ensures (told_map (pin-holds _ _ n shelf c.args.reference c.args.place (todos c.args.path.now.items) c.in-Held.through c.in-Held.pin) (rw c.in-Held.is at c.in-Ok.ensures.step))
+pub returns-in-Held-clause-acts : goal.returns-in-Held-clause-acts
+returns-in-Held-clause-acts g c n shelf =
+    rw c.named-identity.ensures (acts_map (rw c.in-Held.is at c.in-Ok.ensures) (pin-holds _ _ n shelf c.args.reference c.args.place (todos c.args.path.now.items) c.in-Held.through c.in-Held.pin))
 
-pub returns-in-Begun-clause-step : goal.returns-in-Begun-clause-step
-returns-in-Begun-clause-step g c n shelf =
+pub returns-in-Begun-clause-acts : goal.returns-in-Begun-clause-acts
+returns-in-Begun-clause-acts g c n shelf =
     let says = c.new-reading.ensures in
-    rw c.named-identity.ensures (told_map (pin-begins _ _ n shelf c.args.reference c.args.place (todos c.args.path.now.items) c.in-Begun.through c.in-Begun.load c.in-Begun.key c.new-reading.result says.reading says.key says.for_cell) (rw c.in-Begun.is at c.in-Ok.ensures.step))
+    rw c.named-identity.ensures (acts_map (rw c.in-Begun.is at c.in-Ok.ensures) (pin-begins _ _ n shelf c.args.reference c.args.place (todos c.args.path.now.items) c.in-Begun.through c.in-Begun.load c.in-Begun.key c.new-reading.result says.reading says.key says.for_cell))
 
-pub returns-in-Err-clause-step : goal.returns-in-Err-clause-step
-returns-in-Err-clause-step g c n shelf =
-    rw c.named-identity.ensures (told_map (pin-fails _ _ n shelf c.args.reference c.args.place (todos c.args.path.now.items) c.in-Err.e c.refuse.result _ c.refuse.ensures.plain c.refuse.ensures.todo) c.in-Err.ensures.step)
+pub returns-in-Err-clause-acts : goal.returns-in-Err-clause-acts
+returns-in-Err-clause-acts g c n shelf =
+    rw c.named-identity.ensures (acts_map c.in-Err.ensures (pin-fails _ _ n shelf c.args.reference c.args.place (todos c.args.path.now.items) c.in-Err.e c.refuse.result _ c.refuse.ensures.plain c.refuse.ensures.todo))
 
 pub returns-in-Begun-clause-leads : goal.returns-in-Begun-clause-leads
 returns-in-Begun-clause-leads g c = let e = ap (λ (x : Reading). to_do x.frames) c.new-reading.ensures.reading in omega (arith, e)

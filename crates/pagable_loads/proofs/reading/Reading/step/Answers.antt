@@ -1,7 +1,5 @@
-use Rattle.pagable_loads.proofs.Stepped.{told_then, gives_up}
+use Rattle.pagable_loads.proofs.Stepped.{acts_then, gives_up}
 use Rattle.pagable_loads.proofs.reading.Reading.step.Goals as goal
 
-pub returns-in-Err-clause-step : goal.returns-in-Err-clause-step
-returns-in-Err-clause-step g c =
-    let drops = rw (c.meet.ensures.acting, c.meet.ensures.same.load) at c.give_up.ensures.drops in
-    told_then (gives_up _ _ _ c.args.self.now c.in-Err.e _ _ c.give_up.ensures.none) c.in-Err.ensures.step drops
+pub returns-in-Err-clause-acts : goal.returns-in-Err-clause-acts
+returns-in-Err-clause-acts g c = acts_then c.in-Err.ensures.acts (rw c.meet.ensures.same.load at c.give_up.ensures.acts) (gives_up _ _ _ c.args.self.now c.in-Err.e _ _ c.give_up.ensures.none)

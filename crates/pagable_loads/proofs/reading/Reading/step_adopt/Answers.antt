@@ -1,13 +1,13 @@
-use Rattle.{std.proofs.Common.[], pagable_loads.{specs.Frames.{frame_of, onto}, proofs.{Stepped.{told_map, adopt_comes, adopt_refused}, Lowering.node_leads}}}
+use Rattle.{std.proofs.Common.[], pagable_loads.{specs.Frames.{frame_of, onto}, proofs.{Stepped.{acts_map, adopt_comes, adopt_refused}, Lowering.node_leads}}}
 use Rattle.pagable_loads.proofs.reading.Reading.step_adopt.Goals as goal
 
-pub returns-in-Ok-clause-step : goal.returns-in-Ok-clause-step
-returns-in-Ok-clause-step g c =
-    told_map (adopt_comes _ _ _ c.args.self.now c.args.value c.requires.node c.in_ok-top.top c.in_ok-top.under _ c.in_ok-top.ensures.ok.frames c.in-Ok.reference _ c.put_got.ensures.gets.frames) c.in-Ok.ensures.step
+pub returns-in-Ok-clause-acts : goal.returns-in-Ok-clause-acts
+returns-in-Ok-clause-acts g c =
+    acts_map c.in-Ok.ensures (adopt_comes _ _ _ c.args.self.now c.args.value c.requires.node c.in_ok-top.top c.in_ok-top.under _ c.in_ok-top.ensures.ok.frames c.in-Ok.reference _ c.put_got.ensures.gets.frames)
 
-pub returns-clause-step : goal.returns-clause-step
-returns-clause-step g c =
-    told_map (adopt_refused _ _ _ c.args.self.now c.args.value c.requires.node c.in_ok-top.top c.in_ok-top.under _ c.in_ok-top.ensures.ok.frames (c.in-Err.e, c.in-Err._value) _) c.in-Err.ensures.step
+pub returns-clause-acts : goal.returns-clause-acts
+returns-clause-acts g c =
+    acts_map c.in-Err.ensures (adopt_refused _ _ _ c.args.self.now c.args.value c.requires.node c.in_ok-top.top c.in_ok-top.under _ c.in_ok-top.ensures.ok.frames (c.in-Err.e, c.in-Err._value) _)
 
 pub returns-in-Ok-clause-leads : goal.returns-in-Ok-clause-leads
 returns-in-Ok-clause-leads g c = node_leads (frame_of c.in_ok-top.top) (frame_of c.in_ok-top.under) (onto [] c.take_two.new.self.below.items) c.in-Ok.reference c.in_ok-top.ensures.ok.frames c.put_got.ensures.gets.frames
