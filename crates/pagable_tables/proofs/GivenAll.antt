@@ -2,7 +2,7 @@
 use Rattle.pagable_tables.proofs.Words.{nat_lt, ◌≡◌, ℕ, ◌<◌, ◌≤◌, ◌-◌, ◌==◌, ◌&&◌, ◌||◌, Bool, true, false, not, [], Option, Some, None, refl, ap, sym, ◌∙◌, arith, nat_tests, NodeNumber, HandleRow}
 use Rattle.pagable_tables.proofs.Words.{Owner, if_there, is_owner, find_row, Core, OpenLoad, nobody, Giving, Holdings, live, is_valued, SoFar, gives_row, passes_in, ◌+◌, if◌then◌else◌, List, ◌∷◌, suc}
 use Rattle.pagable_tables.proofs.Words.{length, get_or, slice_get, ◌⊎◌, AllPairs, slice_get-get_or, is_handle, Place, alive, IsBefore, ◌++◌, take, add-one, take-suc, ArcRef, LoadNumber, is_named_by}
-use Rattle.pagable_tables.proofs.{Words.is_owned_in, Regiven.{regiven, passes-so-far, passes-here, passes-none, and_owned}, Alive.{row-live, smaller-up, greater-from}, Named.named-push, Bits.had}
+use Rattle.pagable_tables.proofs.{Words.is_owned_in, Regiven.{regiven, passes-so-far, passes-here, passes-none, and_owned}, Alive.{row-live, smaller-up, greater-from}, Named.named-take, Bits.had}
 use Rattle.pagable_tables.{proofs.{Bits.and-left, Words.{InReach, Reach}}, specs.Giving.gives}
 
 -- a world of these loads alone
@@ -137,11 +137,6 @@ module _ (ss : List Place) (m : ℕ) (p : Place) (within : m < length ss) (is : 
 abbrev pub named_owned : Core → LoadNumber → List ArcRef → ℕ → ℕ → Bool
 named_owned w l rs i q = is_named_by (take i rs) q && is_owned_in w (Owner.Load l) q
 
-named-more : (rs : List ArcRef) (i : ℕ) (d : ArcRef) (q : ℕ) → i < length rs → is_named_by (take (i + 1) rs) q ≡ ((get_or rs i d).handle.0 == q || is_named_by (take i rs) q)
-named-more rs i d q lt =
-    let a : take i rs ++ get_or rs i d ∷ [] ≡ take (i + 1) rs = sym (take-suc rs i d lt) ∙ ap (λ n. take n rs) (sym (add-one i)) in
-    sym (ap (λ l. is_named_by l q) a) ∙ named-push (take i rs) (get_or rs i d) q
-
 named-nothing : (rs : List ArcRef) (q : ℕ) → is_named_by (take 0 rs) q ≡ false
 unfolding is_named_by
 named-nothing [] q = refl
@@ -154,8 +149,8 @@ module _ (before w : Core) (lists : Bool) (t : Holdings) (l : LoadNumber) (rs : 
   pub one-given : (i : ℕ) (d : ArcRef) → i < length rs → SoFar before w (and_owned w l (named_owned w l rs i) (get_or rs i d).handle.0) lists t → SoFar before w (named_owned w l rs (i + 1)) lists t
   one-given i d lt f =
       regiven before w (and_owned w l (named_owned w l rs i) (get_or rs i d).handle.0) (named_owned w l rs (i + 1)) lists t f
-      (λ r e. let p = named-more rs i d r lt in let s : ((get_or rs i d).handle.0 == r) ≡ (r == (get_or rs i d).handle.0) = grind (arith, nat_tests) in grind (arith, nat_tests))
-      (λ r e. let p = named-more rs i d r lt in let s : ((get_or rs i d).handle.0 == r) ≡ (r == (get_or rs i d).handle.0) = grind (arith, nat_tests) in grind (arith, nat_tests))
+      (λ r e. let p = named-take rs i d r lt in let s : ((get_or rs i d).handle.0 == r) ≡ (r == (get_or rs i d).handle.0) = grind (arith, nat_tests) in grind (arith, nat_tests))
+      (λ r e. let p = named-take rs i d r lt in let s : ((get_or rs i d).handle.0 == r) ≡ (r == (get_or rs i d).handle.0) = grind (arith, nat_tests) in grind (arith, nat_tests))
 
   pub all-given : (i : ℕ) → take i rs ≡ rs → ((q : ℕ) → is_named_by rs q ≡ true → is_owned_in w (Owner.Load l) q ≡ true) → SoFar before w (named_owned w l rs i) lists t → SoFar before w (is_named_by rs) lists t
   all-given i all owned f = grind (arith, nat_tests, and-left)

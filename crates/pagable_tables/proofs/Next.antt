@@ -1,34 +1,20 @@
 -- What has gone so far, after one step of a cascade, and after a handle that is given.
-use Rattle.pagable_tables.proofs.Words.{◌≡◌, ℕ, ◌+◌, ◌&&◌, Bool, List, ◌++◌, ap, ◌∙◌, append_assoc, filter-append, HandleRow, times, is_handle, Core, left_rows, only_handle, Holdings, live}
-use Rattle.pagable_tables.proofs.Words.{entries_of, is_listing, Leaves, GivesUp, SoFar, arith, nat_tests, ◌<◌, ◌≤◌, ◌==◌, true, false, not, if◌then◌else◌, [], ◌∷◌, length, filter, map, sum_by, refl}
-use Rattle.pagable_tables.proofs.Words.{sym, subst, is_some, vec_capacity, append-nil, map-append, length-append, sum_by-cons, sum_by-append, sum_by-le-sum_by, Error, HandleNumber, NodeNumber, Owner}
-use Rattle.pagable_tables.proofs.Words.{one, is_pin, is_owned_by, held, pins, greatest, IsWithin, IsClosed, AreNewEntries, TellsListing, IsListRefusal, is_keyed, counts_at, pins_in, entry, cell_in}
-use Rattle.pagable_tables.proofs.Words.{first_cause, IsUnlisted, HasPlaces, with_tables, told_by, IsApart, ◌≢◌, Result, MustList, CellsStay, is_at, is_owner, owner_value, is_outside, HasFallen}
-use Rattle.pagable_tables.proofs.{Words.{FallsBy, ◌||◌, inl, inr, Option, IsFalling, Steps, owns_nothing, ◌⊎◌}, Left.{and_one, left-more, left-none, kept-more, times-left, entries-more, ones}}
-use Rattle.pagable_tables.proofs.{Left.{leaves-sums, of_list, none-listed, none-entered}, Telling.{entry-pins, only-more, tells-more, refusal-now, forced}, Bits.one-le}
+use Rattle.pagable_tables.proofs.Words.{◌&&◌, ◌++◌, ◌+◌, ◌<◌, ◌==◌, ◌||◌, ◌∙◌, ◌∷◌, ◌≡◌, ◌≢◌, ◌≤◌, ◌⊎◌, AreNewEntries, Begins, Bool, CellsStay, Core, Counts, Err, Error, FallsBy, GivesUp}
+use Rattle.pagable_tables.proofs.Words.{HandleNumber, HandleRow, HasFallen, HasPlaces, Holdings, IsApart, IsClosed, IsFalling, IsListRefusal, IsUnlisted, IsWithin, Leaves, List, MayList, MustList}
+use Rattle.pagable_tables.proofs.Words.{NodeNumber, Ok, Option, Owner, Result, SoFar, Some, Steps, TellsListing, [], ap, append-nil, append_assoc, arith, cell_in, counts_at, entries_of, entry}
+use Rattle.pagable_tables.proofs.Words.{false, filter, filter-append, first_cause, greatest, held, if◌then◌else◌, inl, inr, is_at, is_handle, is_keyed, is_listing, is_outside, is_owned_by, is_owner}
+use Rattle.pagable_tables.proofs.Words.{is_pin, is_some, left_rows, length, length-append, live, map, map-append, nat_tests, not, one, only_handle, owner_value, owns_nothing, pins, pins_in, refl}
+use Rattle.pagable_tables.proofs.{Words.{subst, sum_by, sum_by-append, sum_by-cons, sum_by-le-sum_by, sym, times, told_by, true, vec_capacity, with_tables, ℕ}, Bits.one-le, Left.and_one}
+use Rattle.pagable_tables.proofs.{Left.{entries-more, kept-more, leaves-sums, left-more, left-none, none-entered, none-listed, of_list, ones, times-left}, Telling.{entry-pins, forced, only-more}}
+use Rattle.pagable_tables.proofs.{Telling.{refusal-now, tells-more}, keeps.HandleCalls.lists}
 
-rows-leaves : (rows entries : List HandleRow) (gone : ℕ → Bool) (old new : Holdings) (x : HandleRow) (wanted listed : Bool) → Leaves old x wanted listed new
+rows-leaves : (rows entries : List HandleRow) (gone : ℕ → Bool) (old new : Holdings) (x : HandleRow) (wanted listed : Bool) (leaves : Leaves old x wanted listed new)
     → live old.handles.places.items ≡ left_rows gone rows ++ entries → times (is_handle x.number.0) entries ≡ 0
-    → live new.handles.places.items ≡ left_rows (and_one gone x.number.0) rows ++ (entries ++ entries_of listed (old.last_handle + 1) x.node)
+    → live leaves.between.handles.places.items ≡ left_rows (and_one gone x.number.0) rows ++ entries
 rows-leaves rows entries gone old new x wanted listed leaves is none =
-    let last : leaves.between.last_handle ≡ old.last_handle = ap (λ (t : Holdings). t.last_handle) leaves.same in
     let split : left_rows (only_handle x.number) (left_rows gone rows ++ entries) ≡ left_rows (only_handle x.number) (left_rows gone rows) ++ left_rows (only_handle x.number) entries = grind (arith, nat_tests, filter-append) in
-    let left : live leaves.between.handles.places.items ≡ left_rows (and_one gone x.number.0) rows ++ entries =
     leaves.rows ∙ ap (left_rows (only_handle x.number)) is ∙ split ∙ ap (λ r. r ++ left_rows (only_handle x.number) entries) (left-more gone x.number.0 rows)
-    ∙ ap (λ r. left_rows (and_one gone x.number.0) rows ++ r) (left-none x.number.0 entries none) in
-    leaves.lists.comes.rows ∙ ap (λ r. r ++ entries_of listed (leaves.between.last_handle + 1) x.node) left
-    ∙ ap (λ k. (left_rows (and_one gone x.number.0) rows ++ entries) ++ entries_of listed (k + 1) x.node) last
-    ∙ append_assoc (left_rows (and_one gone x.number.0) rows) entries (entries_of listed (old.last_handle + 1) x.node)
-
-pub rows-more : (before w : Core) (given : ℕ → Bool) (lists : Bool) (t popped new : Holdings) (stack : List ℕ) (x : HandleRow) (f : SoFar before w given lists t)
-    (g : GivesUp popped stack x lists new) → popped ≡ record t { nodes = popped.nodes } → times (is_handle x.number.0) f.entries ≡ 0
-    → live new.handles.places.items ≡ left_rows (and_one f.gone x.number.0) w.rows ++ (f.entries ++ entries_of g.listed (t.last_handle + 1) x.node)
-rows-more before w given lists t popped new stack x f g same none =
-    let last : popped.last_handle ≡ t.last_handle = ap (λ (h : Holdings). h.last_handle) same in
-    let handles : live popped.handles.places.items ≡ live t.handles.places.items = ap (λ (h : Holdings). live h.handles.places.items) same in
-    let kept : live new.handles.places.items ≡ live g.between.handles.places.items = ap (λ (h : Holdings). live h.handles.places.items) g.same in
-    kept ∙ rows-leaves w.rows f.entries f.gone popped g.between x (lists && is_listing g.counts x.mode) g.listed g.leaves (handles ∙ f.rows) none
-    ∙ ap (λ k. left_rows (and_one f.gone x.number.0) w.rows ++ (f.entries ++ entries_of g.listed (k + 1) x.node)) last
+    ∙ ap (λ r. left_rows (and_one gone x.number.0) rows ++ r) (left-none x.number.0 entries none)
 
 -- a handle of which the list has none may go, whether it had gone or not
 kept-gone : (gone : ℕ → Bool) (q : ℕ) (list : List HandleNumber) → gone q ≡ true → filter (λ (h : HandleNumber). not (and_one gone q h.0)) list ≡ filter (λ (h : HandleNumber). not (gone h.0)) list
@@ -39,17 +25,17 @@ list-kept : (gone : ℕ → Bool) (q : ℕ) (rows : List HandleRow) (list : List
     → filter (λ (h : HandleNumber). not (and_one gone q h.0)) list ≡ filter (λ (h : HandleNumber). not (gone h.0)) list
 list-kept gone q rows list listed none = grind (arith, nat_tests, kept-gone, sum_by-le-sum_by, kept-more)
 
-pub entry-number : (listed : Bool) (k : ℕ) (node : NodeNumber) → map (λ (h : HandleRow). h.number) (entries_of listed k node) ≡ (if listed then record { 0 = k } ∷ [] else [])
+entry-number : (listed : Bool) (k : ℕ) (node : NodeNumber) → map (λ (h : HandleRow). h.number) (entries_of listed k node) ≡ (if listed then record { 0 = k } ∷ [] else [])
 entry-number x0 k node = grind (arith, nat_tests)
 
-pub new-more : (last : ℕ) (entries : List HandleRow) (listed : Bool) (k : ℕ) (node : NodeNumber) → AreNewEntries last entries → k ≡ last + length entries + 1
+new-more : (last : ℕ) (entries : List HandleRow) (listed : Bool) (k : ℕ) (node : NodeNumber) → AreNewEntries last entries → k ≡ last + length entries + 1
     → AreNewEntries last (entries ++ entries_of listed k node)
 new-more last entries x2 k node new is = grind (arith, nat_tests, entries-more, append-nil)
 
-pub long-one : (listed : Bool) (k : ℕ) (node : NodeNumber) → length (entries_of listed k node) ≡ one listed
+long-one : (listed : Bool) (k : ℕ) (node : NodeNumber) → length (entries_of listed k node) ≡ one listed
 long-one x0 k node = grind (arith, nat_tests)
 
-pub within-more : (listed : Bool) (last : ℕ) → last ≤ greatest → (listed ≡ true → last < greatest) → last + one listed ≤ greatest
+within-more : (listed : Bool) (last : ℕ) → last ≤ greatest → (listed ≡ true → last < greatest) → last + one listed ≤ greatest
 within-more x0 last within left = grind (arith, nat_tests)
 
 one-more : (listed : Bool) → (if listed then 1 else 0) ≤ 1
@@ -70,6 +56,100 @@ unlisted-apart before w given lists t popped new stack x f g same owner =
       kept = list-kept f.gone q w.rows w.list (f.begins.listed q) (omega arith);
     }
 
+-- A handle has gone or lost its pin, which leaves the holdings gap and the world these rows; then an entry may have come.
+module _ (before w : Core) (given : ℕ → Bool) (lists : Bool) (t : Holdings) (f : SoFar before w given lists t) (rows : List HandleRow) (long : length rows ≡ length w.rows) (x : HandleRow)
+    (c : Counts) (is : counts_at t.nodes x.node.0 ≡ Some c) (pinned : pins_in (counts_at t.nodes x.node.0) ≡ pins x.node.0 (live t.handles.places.items))
+    (here : (p : HandleRow → Bool) → one (p x) ≤ times p (live t.handles.places.items)) (gap full new : Holdings) (listed : Bool)
+    (comes : MayList gap x.node (lists && is_listing c x.mode) listed full) (same : new ≡ record full { nodes = new.nodes; top = new.top })
+    (gapped : gap ≡ record t { nodes = gap.nodes; handles = gap.handles }) (places : HasPlaces t gap) (few : length (live gap.handles.places.items) ≤ length w.rows)
+    (left : (n : ℕ) → pins n (live new.handles.places.items) + one (is_pin n x) ≡ pins n (live t.handles.places.items)) where
+  abbrev now : Core
+  now = record w { rows = rows }
+
+  abbrev came : List HandleNumber
+  came = if listed then record { 0 = t.last_handle + 1 } ∷ [] else []
+
+  abbrev entries : List HandleRow
+  entries = f.entries ++ entries_of listed (t.last_handle + 1) x.node
+
+  since : gap.last_handle ≡ t.last_handle
+  since = ap (λ (h : Holdings). h.last_handle) gapped
+
+  last : new.last_handle ≡ t.last_handle + one listed
+  last = let a = ap (λ (h : Holdings). h.last_handle) same in let b = comes.comes.last in let d = since in omega arith
+
+  added : new.list.items ≡ t.list.items ++ came
+  added = ap (λ (h : Holdings). h.list.items) same ∙ comes.comes.list ∙ ap (λ (h : Holdings). h.list.items ++ (if listed then record { 0 = h.last_handle + 1 } ∷ [] else [])) gapped
+
+  list-more : (gone : ℕ → Bool) → filter (λ (q : HandleNumber). not (gone q.0)) w.list ≡ filter (λ (q : HandleNumber). not (f.gone q.0)) w.list
+      → new.list.items ≡ filter (λ (q : HandleNumber). not (gone q.0)) w.list ++ map (λ (h : HandleRow). h.number) entries
+  list-more gone kept = grind (arith, nat_tests, map-append, entry-number, added, append_assoc)
+
+  room : HasPlaces t new
+  room = grind (arith, nat_tests)
+
+  -- why none came
+  wanting : (e : Error) → listed ≡ false → IsUnlisted gap e → IsListRefusal w (with_tables w new) e
+  wanting e none why =
+      let listed = ap one none in
+      let k = last in
+      let s = since in
+      let entries = ap (λ (h : Holdings). vec_capacity h.list) gapped in
+      let list : length gap.list.items ≡ length t.list.items = ap (λ (h : Holdings). length h.list.items) gapped in
+      let more = ap length added in
+      let long = length-append t.list.items came in
+      refusal-now w gap new e why (omega arith) (omega arith) (omega arith) (omega arith) (omega arith) few
+
+  told : TellsListing before w entries (told_by new.unlisted) (with_tables w new)
+  told =
+      let unlisted : gap.unlisted ≡ t.unlisted = ap (λ (h : Holdings). h.unlisted) gapped in
+      let kept : new.unlisted ≡ full.unlisted = ap (λ (h : Holdings). h.unlisted) same in
+      tells-more before w given lists t f x c is pinned here new left listed (t.last_handle + 1) comes.only t.unlisted new.unlisted gap f.tells
+      (λ s. kept ∙ comes.told s ∙ unlisted)
+      (λ none wanted. let y = comes.why none wanted in (y.0, y.1, kept ∙ y.2 ∙ ap (λ u. first_cause u y.0) unlisted))
+      wanting
+      (let a = last in omega arith)
+      (let a = ap length added in let b = length-append t.list.items came in omega arith)
+
+  -- the same is asked and told of the world with these rows
+  must-to : (n : ℕ) → MustList before w (with_tables w new) n → MustList before now (with_tables now new) n
+  must-to n m = record { pinned = m.pinned; unpinned = m.unpinned; unkeyed = m.unkeyed; unshared = m.unshared; stands_open = m.stands_open }
+
+  must-from : (n : ℕ) → MustList before now (with_tables now new) n → MustList before w (with_tables w new) n
+  must-from n m = record { pinned = m.pinned; unpinned = m.unpinned; unkeyed = m.unkeyed; unshared = m.unshared; stands_open = m.stands_open }
+
+  refusal-to : (e : Error) → IsListRefusal w (with_tables w new) e → IsListRefusal now (with_tables now new) e
+  refusal-to x0 r = grind (arith, nat_tests)
+
+  tells-to : (r : Result (Unit {0}) Error) → TellsListing before w entries r (with_tables w new) → TellsListing before now entries r (with_tables now new)
+  tells-to (Ok u) tells = record { all = λ n m. tells.all n (must-from n m); not_all = tt }
+  tells-to (Err e) tells = record { all = tt; not_all = let a = tells.not_all in (a.0, must-to a.0 a.1, a.2, refusal-to e a.3) }
+
+  pub entered-on : (given' gone : ℕ → Bool) → Begins before now lists → live gap.handles.places.items ≡ left_rows gone rows ++ f.entries
+      → filter (λ (q : HandleNumber). not (gone q.0)) w.list ≡ filter (λ (q : HandleNumber). not (f.gone q.0)) w.list
+      → ((n : ℕ) → is_some (counts_at new.nodes n) ≡ true → cell_in (counts_at new.nodes n) ≡ w.cells n) → IsWithin rows given' gone
+      → ((s : ℕ → Bool) (final : List HandleRow) → ((n : ℕ) → held n (live new.handles.places.items) ≡ 0 → held n final ≡ 0) → IsWithin rows given' s → IsClosed rows (is_keyed w) final s → IsWithin rows gone s)
+      → (new.top ≢ 0 → length (live new.handles.places.items) ≤ length rows) → SoFar before now given' lists new
+  entered-on given' gone begins rest kept cells holds least fewer =
+      record {
+        begins = begins;
+        gone = gone;
+        entries = entries;
+        rows = ap (λ (h : Holdings). live h.handles.places.items) same ∙ comes.comes.rows ∙ ap (λ r. r ++ entries_of listed (gap.last_handle + 1) x.node) rest
+            ∙ ap (λ k. (left_rows gone rows ++ f.entries) ++ entries_of listed (k + 1) x.node) since ∙ append_assoc (left_rows gone rows) f.entries (entries_of listed (t.last_handle + 1) x.node);
+        list = list-more gone kept;
+        last = grind (arith, nat_tests, last, length-append, long-one);
+        within = subst (λ k. k ≤ greatest) (sym last) (within-more listed t.last_handle f.within (λ l. subst (λ k. k < greatest) since (comes.comes.left l)));
+        places = grind (arith, nat_tests, room);
+        cells = cells;
+        holds = holds;
+        least = least;
+        new = new-more w.last.handle f.entries listed (t.last_handle + 1) x.node f.new (let a = f.last in omega arith);
+        only = λ n some. let o = only-more before w given lists t f x c is pinned here new left listed (t.last_handle + 1) comes.only n some in (must-to n o.0, o.1);
+        tells = tells-to (told_by new.unlisted) told;
+        few = fewer;
+      }
+
 module _ (before w : Core) (given given' : ℕ → Bool) (lists : Bool) (t popped new : Holdings) (stack : List ℕ) (x : HandleRow) (f : SoFar before w given lists t)
     (g : GivesUp popped stack x lists new) (same : popped ≡ record t { nodes = popped.nodes })
     (counts : (n : ℕ) → counts_at popped.nodes n ≡ counts_at t.nodes n) (pinned : (n : ℕ) → pins_in (counts_at t.nodes n) ≡ pins n (live t.handles.places.items))
@@ -77,14 +157,11 @@ module _ (before w : Core) (given given' : ℕ → Bool) (lists : Bool) (t poppe
   before-rows : live popped.handles.places.items ≡ live t.handles.places.items
   before-rows = ap (λ (h : Holdings). live h.handles.places.items) same
 
-  after-rows : live new.handles.places.items ≡ live g.between.handles.places.items
-  after-rows = ap (λ (h : Holdings). live h.handles.places.items) g.same
-
   sums : (s : HandleRow → ℕ) → sum_by s (live new.handles.places.items) + s x ≡ sum_by s (live t.handles.places.items) + (if g.listed then s (entry (t.last_handle + 1) x.node) else 0)
   sums s =
       let a = leaves-sums popped g.between x (lists && is_listing g.counts x.mode) g.listed g.leaves s in
       let b = ap (sum_by s) before-rows in
-      let d = ap (sum_by s) after-rows in
+      let d = ap (λ (h : Holdings). sum_by s (live h.handles.places.items)) g.same in
       let e = ap (λ (h : Holdings). if g.listed then s (entry (h.last_handle + 1) x.node) else 0) same in
       omega arith
 
@@ -94,76 +171,24 @@ module _ (before w : Core) (given given' : ℕ → Bool) (lists : Bool) (t poppe
   here : (p : HandleRow → Bool) → one (p x) ≤ times p (live t.handles.places.items)
   here p = let a = g.leaves.sums (λ h. one (p h)) in let b = ap (times p) before-rows in omega arith
 
-  since : g.leaves.between.last_handle ≡ t.last_handle
-  since = ap (λ (h : Holdings). h.last_handle) g.leaves.same ∙ ap (λ (h : Holdings). h.last_handle) same
+  gapped : g.leaves.between ≡ record t { nodes = g.leaves.between.nodes; handles = g.leaves.between.handles }
+  gapped = grind (arith, nat_tests)
 
-  last : new.last_handle ≡ t.last_handle + one g.listed
-  last = grind (arith, nat_tests)
+  room-left : HasPlaces t g.leaves.between
+  room-left = grind (arith, nat_tests)
 
-  abbrev came : List HandleNumber
-  came = if g.listed then record { 0 = t.last_handle + 1 } ∷ [] else []
-
-  added : new.list.items ≡ t.list.items ++ came
-  added = grind (arith, nat_tests)
-
-  list-more : new.list.items ≡ filter (λ (q : HandleNumber). not (and_one f.gone x.number.0 q.0)) w.list ++ map (λ (h : HandleRow). h.number)
-      (f.entries ++ entries_of g.listed (t.last_handle + 1) x.node)
-  list-more = grind (arith, nat_tests, map-append, entry-number, added, append_assoc)
-
-  room : HasPlaces popped new
-  room = grind (arith, nat_tests)
-
-  -- why none came
-  wanting : (e : Error) → g.listed ≡ false → IsUnlisted g.leaves.between e → IsListRefusal w (with_tables w new) e
-  wanting e none why =
-      let b = g.leaves.between in
-      let listed = ap one none in
-      let k = last in
-      let s = since in
-      let handles = ap (λ (h : Holdings). vec_capacity h.handles.places) same in
-      let entries = ap (λ (h : Holdings). vec_capacity h.list) same in
-      let list : length b.list.items ≡ length t.list.items = ap (λ (h : Holdings). length h.list.items) g.leaves.same ∙ ap (λ (h : Holdings). length h.list.items) same in
-      let more = ap length added in
-      let long = length-append t.list.items came in
-      let fewer = ones (live b.handles.places.items) in
-      let all = ones (live popped.handles.places.items) in
-      let rows = ap length before-rows in
-      refusal-now w b new e why (omega arith) (omega arith) (omega arith) (omega arith) (omega arith) (omega arith)
-
-  told : TellsListing before w (f.entries ++ entries_of g.listed (t.last_handle + 1) x.node) (told_by new.unlisted) (with_tables w new)
-  told =
-      let b = g.leaves.between in
-      let l = g.leaves.lists in
-      let unlisted : b.unlisted ≡ t.unlisted = ap (λ (h : Holdings). h.unlisted) g.leaves.same ∙ ap (λ (h : Holdings). h.unlisted) same in
-      let kept : new.unlisted ≡ g.between.unlisted = ap (λ (h : Holdings). h.unlisted) g.same in
-      tells-more before w given lists t f x g.counts (sym (counts x.node.0) ∙ g.is) (pinned x.node.0) here new left g.listed (t.last_handle + 1) l.only t.unlisted new.unlisted b f.tells
-      (λ s. kept ∙ l.told s ∙ unlisted)
-      (λ none wanted. let y = l.why none wanted in (y.0, y.1, kept ∙ y.2 ∙ ap (λ u. first_cause u y.0) unlisted))
-      wanting
-      (let a = last in omega arith)
-      (let a = ap length added in let b = length-append t.list.items came in omega arith)
+  fewer : length (live g.leaves.between.handles.places.items) ≤ length w.rows
+  fewer = let a = g.leaves.sums (λ h. 1) in let b = ones (live g.leaves.between.handles.places.items) in let d = ones (live popped.handles.places.items) in let e = ap length before-rows in omega arith
 
   pub one-goes : IsWithin w.rows given' (and_one f.gone x.number.0) → ((s : ℕ → Bool) (final : List HandleRow)
       → ((n : ℕ) → held n (live new.handles.places.items) ≡ 0 → held n final ≡ 0) → IsWithin w.rows given' s → IsClosed w.rows (is_keyed w) final s
       → IsWithin w.rows (and_one f.gone x.number.0) s) → SoFar before w given' lists new
   one-goes holds least =
-      record {
-        begins = f.begins;
-        gone = and_one f.gone x.number.0;
-        entries = f.entries ++ entries_of g.listed (t.last_handle + 1) x.node;
-        rows = rows-more before w given lists t popped new stack x f g same apart.unentered;
-        list = list-more;
-        last = grind (arith, nat_tests, last, length-append, long-one);
-        within = subst (λ k. k ≤ greatest) (sym last) (within-more g.listed t.last_handle f.within (λ l. subst (λ k. k < greatest) since (g.leaves.lists.comes.left l)));
-        places = grind (arith, nat_tests, room);
-        cells = λ n there. let s = g.cells n there in s.1 ∙ ap cell_in (counts n) ∙ f.cells n (sym (ap is_some (counts n)) ∙ s.0);
-        holds = holds;
-        least = least;
-        new = new-more w.last.handle f.entries g.listed (t.last_handle + 1) x.node f.new (let a = f.last in omega arith);
-        only = only-more before w given lists t f x g.counts (sym (counts x.node.0) ∙ g.is) (pinned x.node.0) here new left g.listed (t.last_handle + 1) g.leaves.lists.only;
-        tells = told;
-        few = λ falls. let a = sums (λ h. 1) in let b = ones (live new.handles.places.items) in let d = ones (live t.handles.places.items) in let e = one-more g.listed in omega arith;
-      }
+      entered-on before w given lists t f w.rows refl x g.counts (sym (counts x.node.0) ∙ g.is) (pinned x.node.0) here g.leaves.between g.between new g.listed g.leaves.lists g.same gapped room-left
+      fewer left given' (and_one f.gone x.number.0) f.begins
+      (rows-leaves w.rows f.entries f.gone popped g.between x (lists && is_listing g.counts x.mode) g.listed g.leaves (before-rows ∙ f.rows) apart.unentered) apart.kept
+      (λ n there. let s = g.cells n there in s.1 ∙ ap cell_in (counts n) ∙ f.cells n (sym (ap is_some (counts n)) ∙ s.0)) holds least
+      (λ falls. let a = sums (λ h. 1) in let b = ones (live new.handles.places.items) in let d = ones (live t.handles.places.items) in let e = one-more g.listed in omega arith)
 
 -- what is asked of handles and list, where only nodes differ
 must-same : (before w : Core) (t new : Holdings) (n : ℕ) → MustList before w (with_tables w t) n → MustList before w (with_tables w (record t { nodes = new.nodes; top = new.top })) n

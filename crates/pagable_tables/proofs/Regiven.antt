@@ -50,26 +50,17 @@ module _ (test : HandleRow → Bool) (q : ℕ) where
   no-entry none last [] new = passes-none
   no-entry none last (x ∷ xs) new = grind (arith, nat_tests, passes-none, passes-here, no-entry none (last + 1) xs new.3)
 
-  module _ (gone : ℕ → Bool) (entries : List HandleRow) where
-    module _ (x : HandleRow) (xs : List HandleRow) (rest : passes_in test (left_rows gone xs ++ entries) q ≡ (not (gone q) && passes_in test xs q)) where
-      same : is_handle q x ≡ true → gone q ≡ gone x.number.0
-      same e = let n : q ≡ x.number.0 = grind (arith, nat_tests) in ap gone n
+  -- what has gone isn't found, and all else is
+  found-left : (gone : ℕ → Bool) (rows : List HandleRow) → passes_in test (left_rows gone rows) q ≡ (not (gone q) && passes_in test rows q)
+  found-left gone [] = passes-none ∙ sym (ap (λ b. not (gone q) && b) passes-none ∙ and-false (not (gone q)))
+  found-left gone (x ∷ xs) = grind (arith, nat_tests, passes-here, found-left gone xs)
 
-      there : (b : Bool) → is_handle q x ≡ b → passes_in test (x ∷ xs) q ≡ (if b then test x else passes_in test xs q)
-      there b e = passes-here x xs ∙ ap (λ b. if b then test x else passes_in test xs q) e
+  found-first : (rows more : List HandleRow) → passes_in test more q ≡ false → passes_in test (rows ++ more) q ≡ passes_in test rows q
+  found-first [] more none = none ∙ sym passes-none
+  found-first (x ∷ xs) more none = grind (arith, nat_tests, passes-here, found-first xs more none)
 
-      kept : gone x.number.0 ≡ false → passes_in test (left_rows gone (x ∷ xs) ++ entries) q ≡ (if is_handle q x then test x else passes_in test (left_rows gone xs ++ entries) q)
-      kept e = ap (λ b. passes_in test ((if not b then x ∷ left_rows gone xs else left_rows gone xs) ++ entries) q) e ∙ passes-here x (left_rows gone xs ++ entries)
-
-      left : gone x.number.0 ≡ true → passes_in test (left_rows gone (x ∷ xs) ++ entries) q ≡ passes_in test (left_rows gone xs ++ entries) q
-      left e = ap (λ b. passes_in test ((if not b then x ∷ left_rows gone xs else left_rows gone xs) ++ entries) q) e
-
-      split-left : (a b : Bool) → gone x.number.0 ≡ a → is_handle q x ≡ b → passes_in test (left_rows gone (x ∷ xs) ++ entries) q ≡ (not (gone q) && passes_in test (x ∷ xs) q)
-      split-left x0 x1 e f = grind (arith, nat_tests, kept, same, there, left)
-
-    pub passes-left : (rows : List HandleRow) → passes_in test entries q ≡ false → passes_in test (left_rows gone rows ++ entries) q ≡ (not (gone q) && passes_in test rows q)
-    passes-left [] none = none ∙ sym (ap (λ b. not (gone q) && b) passes-none ∙ and-false (not (gone q)))
-    passes-left (x ∷ xs) none = split-left x xs (passes-left xs none) (gone x.number.0) (is_handle q x) refl refl
+  pub passes-left : (gone : ℕ → Bool) (entries rows : List HandleRow) → passes_in test entries q ≡ false → passes_in test (left_rows gone rows ++ entries) q ≡ (not (gone q) && passes_in test rows q)
+  passes-left gone entries rows none = found-first (left_rows gone rows) entries none ∙ found-left gone rows
 
 -- of what passes and isn't an entry, what hasn't gone is there
 pub passes-so-far : (before w : Core) (given : ℕ → Bool) (lists : Bool) (t : Holdings) (f : SoFar before w given lists t) (test : HandleRow → Bool) → ((h : HandleRow) → h.owner ≡ Owner.List → test h ≡ false) → (q : ℕ)

@@ -1,29 +1,10 @@
 -- A handle lets its pin go and stays: handles and nodes fit again, and what has gone and come so far.
-use Rattle.pagable_tables.proofs.Words.{◌≡◌, ℕ, ◌+◌, ◌<◌, ◌≤◌, ◌&&◌, Bool, true, false, not, if◌then◌else◌, List, [], ◌∷◌, ◌++◌, length, filter, ap, sym, ◌∙◌, subst, arith, inl, inr, Option, Some}
-use Rattle.pagable_tables.proofs.Words.{None, slice_get, ◌≢◌, Result, Ok, Err, nat_tests, append-nil, length-append, length-map, Error, HandleNumber, HandleRow, Owner, Mode, Blob, one, times, is_pin}
-use Rattle.pagable_tables.proofs.Words.{is_share, is_handle, is_owned_by, pins, sharing, Core, greatest, with_mode, left_rows, MustList, TellsListing, IsListRefusal, nobody, Tables, Holdings, live}
-use Rattle.pagable_tables.proofs.Words.{alive, entries_of, first_cause, IsUnlisted, unpinned, Lowers, with_tables, told_by, Begins, SoFar, core_of, ◌-◌, ◌==◌, sum_by, refl, nat_lt, sum_by_push}
-use Rattle.pagable_tables.proofs.{Words.{ArcRef, updated, is_pinning, Counts, Fits, entry, after, is_fallen_by, owns_nothing, is_valued, CellsStay}, Alive.row-le-live, Begun.begun-whole}
-use Rattle.pagable_tables.proofs.{Begun.{none-within, fits-unowned}, Next.{entry-number, new-more, long-one, within-more}, Left.{ones, all-kept, with-entry}, Telling.{listing-is, entry-pins}}
-use Rattle.pagable_tables.{proofs.{Telling.{only-more, tells-more, refusal-now}, Coming.come-fits, Fitting.given-fits}, specs.Core.IsWhole}
-
--- what must be listed and what is told of it, where only a mode differs
-must-moded : (before w : Core) (h : HandleNumber) (new : Holdings) (n : ℕ) → MustList before w (with_tables w new) n
-    → MustList before (with_mode w h Mode.LooseUnpinned) (with_tables (with_mode w h Mode.LooseUnpinned) new) n
-must-moded before w h new n m = record { pinned = m.pinned; unpinned = m.unpinned; unkeyed = m.unkeyed; unshared = m.unshared; stands_open = m.stands_open }
-
-must-plain : (before w : Core) (h : HandleNumber) (new : Holdings) (n : ℕ) → MustList before (with_mode w h Mode.LooseUnpinned)
-    (with_tables (with_mode w h Mode.LooseUnpinned) new) n → MustList before w (with_tables w new) n
-must-plain before w h new n m = record { pinned = m.pinned; unpinned = m.unpinned; unkeyed = m.unkeyed; unshared = m.unshared; stands_open = m.stands_open }
-
-refusal-moded : (w : Core) (h : HandleNumber) (new : Holdings) (e : Error) → IsListRefusal w (with_tables w new) e
-    → IsListRefusal (with_mode w h Mode.LooseUnpinned) (with_tables (with_mode w h Mode.LooseUnpinned) new) e
-refusal-moded w h new x3 r = grind (arith, nat_tests, length-map)
-
-tells-moded : (before w : Core) (h : HandleNumber) (entries : List HandleRow) (new : Holdings) (r : Result (Unit {0}) Error) → TellsListing before w entries r (with_tables w new)
-    → TellsListing before (with_mode w h Mode.LooseUnpinned) entries r (with_tables (with_mode w h Mode.LooseUnpinned) new)
-tells-moded before w h entries new (Ok u) tells = record { all = λ n m. tells.all n (must-plain before w h new n m); not_all = tells.not_all }
-tells-moded before w h entries new (Err e) tells = record { all = tells.all; not_all = let a = tells.not_all in (a.0, must-moded before w h new a.0 a.1, a.2, refusal-moded w h new e a.3) }
+use Rattle.pagable_tables.proofs.Words.{◌&&◌, ◌++◌, ◌+◌, ◌-◌, ◌==◌, ◌∙◌, ◌∷◌, ◌≡◌, ◌≢◌, ◌≤◌, ArcRef, Begins, Blob, Bool, CellsStay, Core, Counts, Fits, HandleRow, Holdings, List, Lowers, Mode, None}
+use Rattle.pagable_tables.proofs.Words.{Option, Owner, SoFar, Some, Tables, [], after, alive, ap, append-nil, arith, core_of, entry, false, if◌then◌else◌, inl, inr, is_fallen_by, is_handle}
+use Rattle.pagable_tables.proofs.Words.{is_owned_by, is_pin, is_pinning, is_share, is_valued, length, length-map, live, nat_lt, nat_tests, nobody, not, one, owns_nothing, pins, refl, sharing}
+use Rattle.pagable_tables.proofs.{Words.{slice_get, subst, sum_by, sum_by_push, sym, times, true, unpinned, updated, with_mode, ℕ}, Alive.row-le-live, Begun.{begun-whole, fits-unowned, none-within}}
+use Rattle.pagable_tables.proofs.{Coming.come-fits, Fitting.given-fits, Left.{all-kept, ones, with-entry}, Next.entered-on, Telling.{entry-pins, listing-is}}
+use Rattle.pagable_tables.specs.Core.{IsWhole}
 
 module _ (T : Tables) (stored : ℕ → Option Blob) (closed lists : Bool) (failures : ℕ) (whole : IsWhole T) (opened : lists ≡ not closed) (x : HandleRow) (place : ℕ)
     (at : slice_get T.holdings.handles.places.items place ≡ Some (alive x)) (new : Holdings) (l : Lowers (record T.holdings { unlisted = None }) x lists new) where
@@ -56,20 +37,8 @@ module _ (T : Tables) (stored : ℕ → Option Blob) (closed lists : Bool) (fail
   after-rows : live new.handles.places.items ≡ live l.between.handles.places.items
   after-rows = ap (λ (h : Holdings). live h.handles.places.items) l.same
 
-  since : l.lowered.last_handle ≡ t.last_handle
-  since = ap (λ (h : Holdings). h.last_handle) l.handles
-
-  last : new.last_handle ≡ t.last_handle + one l.listed
-  last = let a : new.last_handle ≡ l.between.last_handle = ap (λ (h : Holdings). h.last_handle) l.same in let b = l.comes.comes.last in let d = since in omega arith
-
-  rows : live new.handles.places.items ≡ left_rows nobody now.rows ++ entries_of l.listed (t.last_handle + 1) x.node
-  rows = let a : left_rows nobody now.rows ≡ now.rows = all-kept now.rows in grind (arith, nat_tests, after-rows, since)
-
-  abbrev came : List HandleNumber
-  came = if l.listed then record { 0 = t.last_handle + 1 } ∷ [] else []
-
-  added : new.list.items ≡ t.list.items ++ came
-  added = ap (λ (h : Holdings). h.list.items) l.same ∙ l.comes.comes.list ∙ ap (λ (h : Holdings). h.list.items ++ (if l.listed then record { 0 = h.last_handle + 1 } ∷ [] else [])) l.handles
+  gapped : l.lowered ≡ record t { nodes = l.lowered.nodes; handles = l.lowered.handles }
+  gapped = grind (arith, nat_tests)
 
   here : (p : HandleRow → Bool) → one (p x) ≤ times p (live t.handles.places.items)
   here p = row-le-live (λ h. one (p h)) t.handles.places.items place x at
@@ -80,44 +49,14 @@ module _ (T : Tables) (stored : ℕ → Option Blob) (closed lists : Bool) (fail
   long : length (live l.lowered.handles.places.items) ≡ length old.rows
   long = let a = l.sums (λ h. 1) in let b = ones (live l.lowered.handles.places.items) in let d = ones (live t.handles.places.items) in omega arith
 
-  wanting : (e : Error) → l.listed ≡ false → IsUnlisted l.lowered e → IsListRefusal old (with_tables old new) e
-  wanting e none why = grind (arith, nat_tests, last, since, added, length-append, long, refusal-now)
-
-  told : TellsListing old old (entries_of l.listed (t.last_handle + 1) x.node) (told_by new.unlisted) (with_tables old new)
-  told =
-      let unlisted : l.lowered.unlisted ≡ None = ap (λ (h : Holdings). h.unlisted) l.handles in
-      let kept : new.unlisted ≡ l.between.unlisted = ap (λ (h : Holdings). h.unlisted) l.same in
-      tells-more old old nobody lists t f x l.counts l.is (whole.steady.fits.pinned x.node.0) here new left l.listed (t.last_handle + 1) l.comes.only None new.unlisted l.lowered f.tells
-      (λ s. kept ∙ l.comes.told s ∙ unlisted)
-      (λ none wanted. let y = l.comes.why none wanted in (y.0, y.1, kept ∙ y.2 ∙ ap (λ u. first_cause u y.0) unlisted))
-      wanting
-      (let a = last in omega arith)
-      (let a = ap length added in let b = length-append t.list.items came in omega arith)
-
   few : new.top ≢ 0 → length (live new.handles.places.items) ≤ length now.rows
   few falls = grind (arith, nat_tests, listing-is, after-rows, append-nil)
 
   pub lowered-on : SoFar old now nobody lists new
   lowered-on =
-      record {
-        begins = begins;
-        gone = nobody;
-        entries = entries_of l.listed (t.last_handle + 1) x.node;
-        rows = rows;
-        list = added ∙ ap (λ r. r ++ came) (sym (all-kept T.holdings.list.items)) ∙ ap (λ r. filter (λ (q : HandleNumber). true) T.holdings.list.items ++ r)
-            (sym (entry-number l.listed (t.last_handle + 1) x.node));
-        last = last ∙ ap (λ k. t.last_handle + k) (sym (long-one l.listed (t.last_handle + 1) x.node));
-        within = subst (λ k. k ≤ greatest) (sym last) (within-more l.listed t.last_handle whole.core.handles.within.0 (λ y. subst (λ k. k < greatest) since (l.comes.comes.left y)));
-        places = grind (arith, nat_tests);
-        cells = λ n there. (l.cells n there).1;
-        holds = none-within nobody now.rows;
-        least = λ s final bare has closed. none-within s now.rows;
-        new = new-more t.last_handle [] l.listed (t.last_handle + 1) x.node tt (omega arith);
-        only = λ n some. let o = only-more old old nobody lists t f x l.counts l.is (whole.steady.fits.pinned x.node.0) here new left l.listed
-            (t.last_handle + 1) l.comes.only n some in (must-moded old old x.number new n o.0, o.1);
-        tells = tells-moded old old x.number (entries_of l.listed (t.last_handle + 1) x.node) new (told_by new.unlisted) told;
-        few = few;
-      }
+      entered-on old old nobody lists t f now.rows (length-map old.rows (λ y. if is_handle x.number.0 y then unpinned y else y)) x l.counts l.is (whole.steady.fits.pinned x.node.0) here l.lowered l.between
+      new l.listed l.comes l.same gapped l.places (omega (arith, long)) left nobody nobody begins
+      (l.rows ∙ sym (append-nil _ ∙ all-kept now.rows)) refl (λ n there. (l.cells n there).1) (none-within nobody now.rows) (λ s final bare has closed. none-within s now.rows) few
 
 pub updated-here : {X : Type 0} (n : ℕ) (x : X) (f : ℕ → X) → updated n x f n ≡ x
 updated-here n x f = let e : (n == n) ≡ true = grind (arith, nat_tests) in ap (λ b. if b then x else f n) e

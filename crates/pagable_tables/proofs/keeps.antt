@@ -1,5 +1,6 @@
 -- Each call of the plain world keeps it whole.
 pub mod Rows
+pub mod Kept
 pub mod Told
 pub mod Placed
 pub mod Comes

@@ -1,9 +1,9 @@
 -- Calls on the cache and on room keep the world whole.
-use Rattle.pagable_tables.proofs.Words.{◌≡◌, ℕ, ◌<◌, ◌==◌, ◌&&◌, Bool, true, false, if◌then◌else◌, Ok, Err, Option, Some, None, inl, inr, refl, ap, sym, ◌∙◌, arith, Result, is_some, nat_tests, Error}
-use Rattle.pagable_tables.proofs.Words.{HandleNumber, Kind, NodeNumber, HandleRow, Owner, Mode, one, Among, is_shared_kind, sharing, is_share, is_shared, fits_mode, mode_of, Core, Cell, greatest}
-use Rattle.pagable_tables.proofs.Words.{usable, only_handle, ClearCall, ReserveCall, RecallCall, OfferCall, with_cached, with_known, IsWhole, IsEntryWhole, ArePlaced, MayHold, Suits}
-use Rattle.pagable_tables.proofs.{keeps.Rows.{at-most-sum, counted, found-among}, keeps.Told.{roomy, roomy-whole, settles, told-whole, alike-whole, may-own, type_in}, keeps.Comes.{beside, handle-on}}
-use Rattle.pagable_tables.proofs.{keeps.Comes.unshared-node, keeps.Fallen.{may-fall, falls-whole}}
+use Rattle.pagable_tables.proofs.Words.{◌&&◌, ◌<◌, ◌==◌, ◌∙◌, ◌≡◌, ArePlaced, Bool, Cell, ClearCall, Core, Err, Error, HandleNumber, IsEntryWhole, IsWhole, Kind, MayHold, Mode, NodeNumber, None}
+use Rattle.pagable_tables.proofs.Words.{OfferCall, Ok, Option, Owner, RecallCall, ReserveCall, Result, Some, Suits, arith, false, fits_mode, greatest, if◌then◌else◌, inl, inr, is_shared}
+use Rattle.pagable_tables.proofs.{Words.{is_shared_kind, is_some, mode_of, nat_tests, refl, sym, true, usable, with_cached, with_known, ℕ}, keeps.Comes.{beside, handle-on, suits-like}}
+use Rattle.pagable_tables.proofs.{keeps.Fallen.falls-whole, keeps.Kept.{alike-rows, is-in, keeps-whole, same-rows, type_in}, keeps.Placed.placed, keeps.Rows.{counted, found-among}}
+use Rattle.pagable_tables.proofs.keeps.Told.{alike-whole, load-stays, roomy, roomy-whole, settles, told-whole}
 
 pub clear-whole : {w w' : Core} (r : Result (Unit {0}) Error) → IsWhole w → ClearCall w r w' → ArePlaced w' → IsWhole w'
 clear-whole {w} {w'} r whole call placed = let a = call.leaves in
@@ -30,7 +30,7 @@ known-suits {w} whole kind key n is = grind (arith, nat_tests, usable-is, counte
 
 pub known-whole : {w : Core} (kind : Kind) (key n : ℕ) (owner : Owner) → IsWhole w → usable w kind.0 key ≡ Some n → MayHold w owner → w.last.handle < greatest
     → IsWhole (roomy (with_known w kind n owner))
-known-whole kind key n owner whole is holder left = beside whole (record { 0 = n }) (mode_of kind.0) (known-suits whole kind.0 key n is) owner holder left
+known-whole kind key n owner whole is holder left = beside whole (record { 0 = n }) (mode_of kind.0) owner (suits-like (record { 0 = n }) (mode_of kind.0) (known-suits whole kind.0 key n is)) holder left
 
 pub recall-whole : {w w' : Core} (me : Owner) (kind : Kind) (key : ℕ) (r : Result (Option HandleNumber) Error) → IsWhole w → MayHold w me → RecallCall w me kind key r w' → ArePlaced w' → IsWhole w'
 recall-whole me kind key x3 whole holder call placed = grind (arith, nat_tests, settles, known-whole, alike-whole)
@@ -39,37 +39,20 @@ recall-whole me kind key x3 whole holder call placed = grind (arith, nat_tests, 
 
 pub cached-whole : {w : Core} (kind : Kind) (key : ℕ) (n : NodeNumber) → IsWhole w → w.closed ≡ false → IsEntryWhole w kind.0 n.0 → IsWhole (with_cached w kind key n)
 cached-whole {w} kind key n whole stands_open entry =
-    let h = whole.handles in
-    let o = whole.owners_there in
-    record {
-      handles = record { ordered = h.ordered; numbered = h.numbered; nodes_numbered = h.nodes_numbered; within = h.within; live = h.live; uniform = h.uniform; unkeyed = h.unkeyed; places = h.places };
-      owners_there = record { listed = o.listed; waiting = o.waiting; loads = o.loads; workers = o.workers };
-      loads = record {
-        numbered = whole.loads.numbered;
-        owned = λ l load is. may-own w (with_cached w kind key n) (λ v at. at) load.owner (whole.loads.owned l load is);
-        roots = λ l load m t k is root. let r = whole.loads.roots l load m t k is root in record { typed = r.typed; begun = r.begun; given = r.given };
-      };
-      cache = λ k q m is. let e = at k q m (k == kind.0) (q == key) refl is in record { given = e.given; typed = e.typed; shares = e.shares };
-      workers_numbered = whole.workers_numbered;
+    keeps-whole whole (record {
+      on = same-rows whole refl (λ n. refl) refl refl;
+      within = whole.handles.within;
+      places = whole.handles.places;
+      listed = whole.owners_there.listed;
+      owners = is-in whole;
+      loads = load-stays whole (omega arith) (λ v at. at);
+      cache = λ k q m is. at k q m (k == kind.0) (q == key) refl is;
+      workers = whole.workers_numbered;
       shut = λ closed. let f : true ≡ false = sym closed ∙ stands_open in absurd (cc);
-    }
+    })
   where
     at : (k q m : ℕ) (a b : Bool) → (k == kind.0) ≡ a → (if a && b then Some n.0 else w.cache k q) ≡ Some m → IsEntryWhole w k m
     at k q m b3 b4 e is = grind (arith, nat_tests)
-
--- handles of one node are all Shared, or none is
-pub shared-alike : {w : Core} → IsWhole w → (x y : HandleRow) → Among w.rows x → Among w.rows y → x.node.0 ≡ y.node.0 → is_shared x.mode ≡ is_shared y.mode
-shared-alike {w} whole x y there here same = at (is_shared x.mode) (is_shared y.mode) refl refl
-  where
-    counts : (z : HandleRow) → Among w.rows z → is_shared z.mode ≡ true → 0 < sharing z.node.0 w.rows
-    counts z among is =
-        let a = at-most-sum (λ h. one (is_share z.node.0 h)) w.rows z among in
-        let b : (z.node.0 == z.node.0) ≡ true = grind (arith, nat_tests) in
-        let c : one (is_share z.node.0 z) ≡ 1 = ap (λ i. one (i && is_shared z.mode)) b ∙ ap (λ i. one (true && i)) is in
-        omega arith
-
-    at : (a b : Bool) → is_shared x.mode ≡ a → is_shared y.mode ≡ b → is_shared x.mode ≡ is_shared y.mode
-    at b0 b1 e f = grind (arith, nat_tests, unshared-node, counts)
 
 pub offer-whole : {w w' : Core} (me : Owner) (kind : Kind) (key : ℕ) (h : HandleNumber) (r : Result (Option HandleNumber) Error) → IsWhole w → MayHold w me → OfferCall w me kind key h r w'
     → ArePlaced w' → IsWhole w'
@@ -77,7 +60,7 @@ offer-whole {w} me kind key h (Ok None) whole holder call placed =
     let (row, owns, typed, offers) = call.answers in
     let (stands_open, none, leaves) = offers in
     let there = (found-among h.0 w.rows row owns.live).0 in
-    let entry : IsEntryWhole w kind.0 row.node.0 = grind (arith, nat_tests, some-typed, shared-alike, fits-shared) in
+    let entry : IsEntryWhole w kind.0 row.node.0 = grind (arith, nat_tests, some-typed, alike-rows whole, fits-shared) in
     settles (roomy-whole (cached-whole kind key row.node whole stands_open entry)) leaves placed
   where
     some-typed : {t : ℕ} (cell : Option Cell) → type_in cell ≡ Some t → is_some cell ≡ true
@@ -85,7 +68,6 @@ offer-whole {w} me kind key h (Ok None) whole holder call placed =
     some-typed None is = absurd (cc)
 offer-whole {w} me kind key h (Ok (Some k)) whole holder call placed = elim call.answers.3 [
   | inl (closed, same, stays) ↦ alike-whole whole stays placed
-  | inr (stands_open, (n, is, next, falls)) ↦ falls-whole (may-fall (only_handle h) whole (known-whole kind key n me whole is holder next.is_left)
-      (handle-on w (record { 0 = n }) (mode_of kind.0) me)) falls.falls placed
+  | inr (stands_open, (n, is, next, falls)) ↦ falls-whole (known-whole kind key n me whole is holder next.is_left) (handle-on w (record { 0 = n }) (mode_of kind.0) me) falls.falls placed
 ]
 offer-whole me kind key h (Err e) whole holder call placed = alike-whole whole call.refused.stays placed

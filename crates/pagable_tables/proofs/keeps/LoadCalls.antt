@@ -1,8 +1,9 @@
 -- Calls on loads keep the world whole.
-use Rattle.pagable_tables.proofs.Words.{◌≡◌, ℕ, ◌<◌, ◌+◌, ◌==◌, true, Ok, Err, Option, Some, None, inl, inr, refl, ap, sym, subst, ◌∙◌, arith, ◌⊎◌, Result, is_some, nat_tests, Error, HandleNumber}
-use Rattle.pagable_tables.proofs.Words.{NodeNumber, Beginning, Owner, updated, HandleRow, Mode, is_loose, Core, Cell, OpenLoad, Root, of_cell, of_key, greatest, type_at, Owns, with_handle, with_load}
-use Rattle.pagable_tables.proofs.{Words.{IsNextLoad, BeginCall, BeginKeyCall, IsWhole, MayOwnLoad, IsRootWhole, ArePlaced, MayHold}, keeps.Rows.found-among, keeps.Comes.beside}
-use Rattle.pagable_tables.proofs.{keeps.HandleCalls.loose-unshared, keeps.Told.{roomy, roomy-whole, settles, alike-whole, may-own, type_in}}
+use Rattle.pagable_tables.proofs.Words.{◌+◌, ◌<◌, ◌==◌, ◌∙◌, ◌≡◌, ◌⊎◌, ArePlaced, BeginCall, BeginKeyCall, Beginning, Cell, Core, Err, Error, HandleNumber, HandleRow, IsNextLoad, IsRootWhole}
+use Rattle.pagable_tables.proofs.Words.{IsWhole, MayHold, MayOwnLoad, Mode, NodeNumber, None, Ok, OpenLoad, Option, Owner, Owns, Result, Root, Some, ap, arith, greatest, inl, inr, is_loose, is_some}
+use Rattle.pagable_tables.proofs.{Words.{nat_tests, of_cell, of_key, refl, subst, sym, true, type_at, updated, with_handle, with_load, ℕ}, keeps.Comes.beside, keeps.HandleCalls.loose-unshared}
+use Rattle.pagable_tables.proofs.{keeps.Kept.{IsLoadIn, in-still, is-in, keeps-whole, same-rows, type_in}, keeps.Placed.placed, keeps.Rows.found-among, keeps.Told.{alike-whole, load-stays, may-own}}
+use Rattle.pagable_tables.proofs.keeps.Told.{roomy, roomy-whole, settles}
 
 -- ---- one load more
 
@@ -22,43 +23,22 @@ some-value x0 is = grind (arith, nat_tests)
 pub loaded-whole : {w : Core} (key : ℕ) (root : Root) (me : Owner) → IsWhole w → MayOwnLoad w me → w.last.load < greatest
     → ((node : NodeNumber) (t : ℕ) (h : HandleNumber) → root ≡ of_cell node t h → IsRootWhole w node t h) → IsWhole (with_load w key root me)
 loaded-whole {w} key root me whole may left good =
-    let h = whole.handles in
-    let o = whole.owners_there in
     let new : OpenLoad = record { owner = me; key = key; root = root } in
     let after = with_load w key root me in
-    record {
-      handles = record {
-        ordered = h.ordered;
-        numbered = h.numbered;
-        nodes_numbered = h.nodes_numbered;
-        within = let (a, b, c) = h.within in (a, b, omega arith);
-        live = h.live;
-        uniform = h.uniform;
-        unkeyed = h.unkeyed;
-        places = h.places;
-      };
-      owners_there = record { listed = o.listed; waiting = o.waiting; loads = λ x l among is. some-updated (w.last.load + 1) new w.loads l.0 (o.loads x l among is); workers = o.workers };
-      loads = record {
-        numbered = λ l some. let found = some-value (updated (w.last.load + 1) (Some new) w.loads l) some in elim (at-updated (w.last.load + 1) new w.loads l found.0 found.1) [
-          | inl e ↦ let a = e.0 in (omega arith, omega arith)
-          | inr was ↦ let a = whole.loads.numbered l (ap is_some was) in (a.0, omega arith)
-        ];
-        owned = λ l load is. elim (at-updated (w.last.load + 1) new w.loads l load is) [
-          | inl e ↦ subst (λ (x : OpenLoad). MayOwnLoad after x.owner) e.1 (may-own w after (λ v at. at) me may)
-          | inr was ↦ may-own w after (λ v at. at) load.owner (whole.loads.owned l load was)
-        ];
-        roots = λ l load node t k is named. same-root node t k (elim (at-updated (w.last.load + 1) new w.loads l load is) [
-          | inl e ↦ good node t k (ap (λ (x : OpenLoad). x.root) e.1 ∙ named)
-          | inr was ↦ whole.loads.roots l load node t k was named
-        ]);
-      };
-      cache = λ kind q n is. let e = whole.cache kind q n is in record { given = e.given; typed = e.typed; shares = e.shares };
-      workers_numbered = whole.workers_numbered;
+    keeps-whole whole (record {
+      on = same-rows whole refl (λ n. refl) refl refl;
+      within = let (a, b, c) = whole.handles.within in (a, b, omega arith);
+      places = whole.handles.places;
+      listed = whole.owners_there.listed;
+      owners = λ h among. in-still w after (some-updated (w.last.load + 1) new w.loads) (λ v is. is) h.mode h.owner (is-in whole h among);
+      loads = λ l load is. elim (at-updated (w.last.load + 1) new w.loads l load is) [
+        | inl e ↦ subst (IsLoadIn w after l) e.1 (let a = e.0 in record { numbered = (omega arith, omega arith); owned = may-own w after (λ v at. at) me may; roots = good })
+        | inr was ↦ load-stays whole (omega arith) (λ v at. at) l load was
+      ];
+      cache = whole.cache;
+      workers = whole.workers_numbered;
       shut = whole.shut;
-    }
-  where
-    same-root : (node : NodeNumber) (t : ℕ) (k : HandleNumber) → IsRootWhole w node t k → IsRootWhole (with_load w key root me) node t k
-    same-root node t k r = record { typed = r.typed; begun = r.begun; given = r.given }
+    })
 
 pub begin-key-whole : {w w' : Core} (me : Owner) (key : ℕ) (r : Result Beginning Error) → IsWhole w → MayOwnLoad w me → BeginKeyCall w me key r w' → ArePlaced w' → IsWhole w'
 begin-key-whole {w} me key (Ok (Beginning.Load l k)) whole may call placed =
@@ -89,8 +69,8 @@ begin-whole {w} {w'} me h (Ok (Beginning.Load l key)) whole may call placed =
           given = let a = (whole.handles.numbered row found.0).1 in let b = found.1 in (omega arith, (whole.handles.nodes_numbered row.node.0 (some-typed (w.cells row.node.0) typed)).1);
         } in
         beside (loaded-whole {w = roomy w} key (of_cell row.node t h) me (roomy-whole whole) (may-own w (roomy w) (λ v at. at) me may) next.is_left
-        (λ node t2 k is. named row t root node t2 k is)) row.node Mode.LooseUnpinned
-        (record { row = row; there = found.0; at = refl; shared = loose-unshared row.mode owns.as_asked }) (Owner.Load l)
+        (λ node t2 k is. named row t root node t2 k is)) row.node Mode.LooseUnpinned (Owner.Load l)
+        (record { row = row; there = found.0; at = refl; same = loose-unshared row.mode owns.as_asked })
         (ap (λ n. is_some (updated (w.last.load + 1) (Some (record { owner = me; key = key; root = of_cell row.node t h })) w.loads n)) next.above
         ∙ ap is_some (is-updated (w.last.load + 1) (Some (record { owner = me; key = key; root = of_cell row.node t h })) w.loads)) left
       where

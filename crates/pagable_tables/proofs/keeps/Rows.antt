@@ -18,6 +18,11 @@ pub among-last : {X : Type 0} (xs : List X) (x : X) → Among (xs ++ x ∷ []) x
 among-last [] x = (zero, refl)
 among-last (y ∷ ys) x = let a = among-last ys x in (suc a.0, a.1)
 
+pub among-more : {X : Type 0} (xs ys : List X) (x : X) → Among xs x → Among (xs ++ ys) x
+among-more [] ys x a = let b = a.1 in absurd (cc)
+among-more (z ∷ zs) ys x (zero, is) = (zero, is)
+among-more (z ∷ zs) ys x (suc i, is) = let r = among-more zs ys x (i, is) in (suc r.0, r.1)
+
 -- the element of a changed list was one before
 pub among-map : {X : Type 0} (f : X → X) (xs : List X) (x : X) → Among (map f xs) x → (y : X) × Among xs y × (x ≡ f y)
 among-map f [] x a = absurd (cc)
@@ -40,6 +45,14 @@ pub among-to : {X : Type 0} (f : X → X) (xs : List X) (x : X) → Among xs x �
 among-to f [] x a = let b = a.1 in absurd (cc)
 among-to f (y ∷ ys) x (zero, is) = let e : y ≡ x = cc in (zero, ap (λ z. Some (f z)) e)
 among-to f (y ∷ ys) x (suc i, is) = let r = among-to f ys x (i, is) in (suc r.0, r.1)
+
+-- what both cases give of a row to which f may be done
+pub each-changed : {X : Type 0} (test : X → Bool) (f : X → X) (P : X → Type 0) (x : X) → (test x ≡ true → P (f x)) → (test x ≡ false → P x) → P (if test x then f x else x)
+each-changed test f P x does not-so = at (test x) refl
+  where
+    at : (b : Bool) → test x ≡ b → P (if b then f x else x)
+    at true e = does e
+    at false e = not-so e
 
 -- ---- counted
 
@@ -105,17 +118,40 @@ ordered-map to rows same ordered j k d less lt =
 pub ordered-push : (rows : List HandleRow) (row : HandleRow) → ((h : HandleRow) → Among rows h → h.number.0 < row.number.0) → AllPairs IsHandleBefore rows → AllPairs IsHandleBefore (rows ++ row ∷ [])
 ordered-push rows row above ordered = all_pairs_push IsHandleBefore rows row ordered (λ k d lt. above (get_or rows k d) (k, slice_get-get_or rows k d lt))
 
--- what is found of changed rows, and of rows with one more
-pub found-map : (to : HandleRow → HandleRow) → ((h : HandleRow) → (to h).number.0 ≡ h.number.0) → (q : ℕ) (rows : List HandleRow) (row : HandleRow) → find_row q (map to rows) ≡ Some row
-    → (y : HandleRow) × (find_row q rows ≡ Some y) × (row ≡ to y)
-unfolding find_row
-found-map to same q [] row found = absurd (cc)
-found-map to same q (h ∷ hs) row found = grind (arith, nat_tests, found-map to same q hs row)
-
+-- what is found of rows with one more
 pub found-push : (q : ℕ) (rows : List HandleRow) (x row : HandleRow) → find_row q (rows ++ x ∷ []) ≡ Some row → (find_row q rows ≡ Some row) ⊎ (row ≡ x)
 unfolding find_row
 found-push q [] x row found = grind (arith, nat_tests)
 found-push q (h ∷ hs) x row found = grind (arith, nat_tests, found-push q hs x row)
+
+-- the first has the smallest number
+first-less : (x : HandleRow) (xs : List HandleRow) → AllPairs IsHandleBefore (x ∷ xs) → (y : HandleRow) → Among xs y → x.number.0 < y.number.0
+first-less x xs ordered y (j, at) =
+    let lt = slice_get_within xs j y at in
+    let k : (get_or xs j x).number.0 ≡ y.number.0 = ap (λ (h : HandleRow). h.number.0) (get_or_from_slice_get xs j y x at) in
+    let less : x.number.0 < (get_or xs j x).number.0 = ordered 0 (suc j) x (omega arith) (omega arith) in
+    omega arith
+
+-- what changes one row changes the sum by what it changes there
+pub changed-sum : (f : HandleRow → ℕ) (to : HandleRow → HandleRow) (rows : List HandleRow) (row : HandleRow) → AllPairs IsHandleBefore rows → Among rows row
+    → ((x : HandleRow) → (x.number.0 == row.number.0) ≡ false → f (to x) ≡ f x) → sum_by f (map to rows) + f row ≡ sum_by f rows + f (to row)
+changed-sum f to [] row ordered among same = let a = among.1 in absurd (cc)
+changed-sum f to (x ∷ xs) row ordered (zero, is) same =
+    let e : x ≡ row = cc in
+    let n = ap (λ (y : HandleRow). y.number.0) e in
+    let a = sum_by-cons f x xs in
+    let b = sum_by-cons f (to x) (map to xs) in
+    let c = sum-map f f to xs (λ y among. same y (let less = first-less x xs ordered y among in grind (arith, nat_tests))) in
+    let d : f x ≡ f row = ap f e in
+    let g : f (to x) ≡ f (to row) = ap (λ (y : HandleRow). f (to y)) e in
+    omega arith
+changed-sum f to (x ∷ xs) row ordered (suc i, is) same =
+    let less = first-less x xs ordered row (i, is) in
+    let a = sum_by-cons f x xs in
+    let b = sum_by-cons f (to x) (map to xs) in
+    let c = same x (grind (arith, nat_tests)) in
+    let d = changed-sum f to xs row (λ j k d less lt. ordered (suc j) (suc k) d (omega arith) (omega arith)) (i, is) same in
+    omega arith
 
 -- what is counted of one number is counted of its row
 pub only-row : (f : HandleRow → ℕ) (rows : List HandleRow) (row : HandleRow) → AllPairs IsHandleBefore rows → Among rows row → ((x : HandleRow) → (x.number.0 == row.number.0) ≡ false → f x ≡ 0)
@@ -126,20 +162,10 @@ only-row f (x ∷ xs) row ordered (zero, is) none =
     let n = ap (λ (y : HandleRow). y.number.0) e in
     let a = sum_by-cons f x xs in
     let b : f x ≡ f row = ap f e in
-    let c = sum-none f xs (λ y among. none y (above y among n)) in
+    let c = sum-none f xs (λ y among. none y (let less = first-less x xs ordered y among in grind (arith, nat_tests))) in
     omega arith
-  where
-    above : (y : HandleRow) → Among xs y → x.number.0 ≡ row.number.0 → (y.number.0 == row.number.0) ≡ false
-    above y (j, at) n =
-        let lt = slice_get_within xs j y at in
-        let o = ordered 0 (suc j) x (omega arith) (omega arith) in
-        let k : (get_or xs j x).number.0 ≡ y.number.0 = ap (λ (h : HandleRow). h.number.0) (get_or_from_slice_get xs j y x at) in
-        let less : x.number.0 < (get_or xs j x).number.0 = o in
-        grind (arith, nat_tests)
 only-row f (x ∷ xs) row ordered (suc i, is) none =
-    let lt = slice_get_within xs i row is in
-    let less : x.number.0 < (get_or xs i x).number.0 = ordered 0 (suc i) x (omega arith) (omega arith) in
-    let k : (get_or xs i x).number.0 ≡ row.number.0 = ap (λ (h : HandleRow). h.number.0) (get_or_from_slice_get xs i row x is) in
+    let less = first-less x xs ordered row (i, is) in
     let a = sum_by-cons f x xs in
     let b = none x (grind (arith, nat_tests)) in
     let c = only-row f xs row (λ j k d less lt. ordered (suc j) (suc k) d (omega arith) (omega arith)) (i, is) none in
@@ -158,20 +184,6 @@ found-so q rows row ordered among number = at (find_row q rows) refl
 
 -- ---- what is left
 
--- what is counted is counted of the left and of what goes
-pub left-both : {X : Type 0} (f keep : X → Bool) (xs : List X) → times f xs ≡ times f (filter keep xs) + times f (filter (λ x. not (keep x)) xs)
-left-both f keep [] = refl
-left-both {X} f keep (x ∷ xs) = at (keep x) (left-both f keep xs)
-  where
-    at : (b : Bool) → times f xs ≡ times f (filter keep xs) + times f (filter (λ x. not (keep x)) xs)
-        → times f (x ∷ xs) ≡ times f (if b then x ∷ filter keep xs else filter keep xs) + times f (if not b then x ∷ filter (λ x. not (keep x)) xs else filter (λ x. not (keep x)) xs)
-    at true rest = let a = sum_by-cons (λ y. one (f y)) x xs in let b = sum_by-cons (λ y. one (f y)) x (filter keep xs) in omega arith
-    at false rest = let a = sum_by-cons (λ y. one (f y)) x xs in let b = sum_by-cons (λ y. one (f y)) x (filter (λ x. not (keep x)) xs) in omega arith
-
--- where two tests count the same of all, and the one is narrower, they count the same of the left
-pub same-left : {X : Type 0} (f g keep : X → Bool) (xs : List X) → ((x : X) → one (f x) ≤ one (g x)) → times f xs ≡ times g xs → times f (filter keep xs) ≡ times g (filter keep xs)
-same-left f g keep xs narrow same = grind (arith, nat_tests, left-both, sum_by-le-sum_by)
-
 -- What is counted of one number: all of it is left, or nothing.
 module _ {X : Type 0} (number : X → ℕ) (f : X → Bool) (q : ℕ) (only : (x : X) → f x ≡ true → number x ≡ q) (gone : ℕ → Bool) where
   pub one-left : (b : Bool) → gone q ≡ b → (xs : List X) → times f (filter (λ x. not (gone (number x))) xs) ≡ (if b then 0 else times f xs)
@@ -184,14 +196,7 @@ module _ {X : Type 0} (number : X → ℕ) (f : X → Bool) (q : ℕ) (only : (x
 
       at : (b : Bool) → gone q ≡ b → (c : Bool) → f x ≡ c → (d : Bool) → gone (number x) ≡ d → times f (filter (λ x. not (gone (number x))) xs) ≡ (if b then 0 else times f xs)
           → times f (if not d then x ∷ filter (λ x. not (gone (number x))) xs else filter (λ x. not (gone (number x))) xs) ≡ (if b then 0 else times f (x ∷ xs))
-      at true e true g true h rest = rest
-      at true e true g false h rest = let i : false ≡ true = sym h ∙ goes g ∙ e in absurd (cc)
-      at true e false g true h rest = rest
-      at true e false g false h rest = let a = sum_by-cons (λ y. one (f y)) x (filter (λ x. not (gone (number x))) xs) in let b = ap one g in omega arith
-      at false e true g true h rest = let i : true ≡ false = sym h ∙ goes g ∙ e in absurd (cc)
-      at false e true g false h rest = let a = sum_by-cons (λ y. one (f y)) x (filter (λ x. not (gone (number x))) xs) in let b = sum_by-cons (λ y. one (f y)) x xs in omega arith
-      at false e false g true h rest = let b = sum_by-cons (λ y. one (f y)) x xs in let c = ap one g in omega arith
-      at false e false g false h rest = let a = sum_by-cons (λ y. one (f y)) x (filter (λ x. not (gone (number x))) xs) in let b = sum_by-cons (λ y. one (f y)) x xs in omega arith
+      at b0 e b2 g b4 h rest = grind (arith, nat_tests, goes, sum_by-cons (λ y. one (f y)) x xs, sum_by-cons (λ y. one (f y)) x (filter (λ x. not (gone (number x))) xs))
 
 -- a row of the given ones goes
 pub within-goes : (rows : List HandleRow) (given gone : ℕ → Bool) (h : HandleRow) → IsWithin rows given gone → Among rows h → given h.number.0 ≡ true → gone h.number.0 ≡ true

@@ -1,27 +1,25 @@
 -- A worker that begins or ends keeps the world whole.
-use Rattle.pagable_tables.proofs.Words.{◌≡◌, ℕ, ◌+◌, ◌≤◌, ◌==◌, ◌||◌, Bool, true, false, if◌then◌else◌, Option, Some, None, inl, inr, refl, ap, ◌∙◌, arith, ◌⊎◌, is_some, nat_tests, LoadNumber}
-use Rattle.pagable_tables.proofs.Words.{HandleRow, Owner, Among, if_there, is_owner, owner_worker, Core, OpenLoad, is_workers, is_workers_load, without_worker, with_worker, IsWhole, MayOwnLoad}
-use Rattle.pagable_tables.proofs.{Words.ArePlaced, keeps.Rows.found-so, keeps.Told.{roomy-whole, may-own, stays-on, on-listing}, keeps.Fallen.{MayFall, opened, falls-opened}}
-use Rattle.pagable_world.specs.Workers.{is_load_of, WorkerEnds}
+use Rattle.pagable_tables.proofs.Words.{◌+◌, ◌==◌, ◌||◌, ◌∙◌, ◌≡◌, ◌≤◌, ◌⊎◌, Among, ArePlaced, Bool, Core, HandleRow, IsWhole, List, LoadNumber, MayOwnLoad, None, OpenLoad, Option, Owner, Some, ap}
+use Rattle.pagable_tables.proofs.Words.{arith, false, if_there, if◌then◌else◌, inl, inr, is_owner, is_some, is_workers, is_workers_load, nat_tests, owner_worker, refl, true, with_worker}
+use Rattle.pagable_tables.proofs.{Words.{without_worker, ℕ}, keeps.Fallen.{falls-lost, opened}, keeps.Kept.{IsIn, in-still, is-in, keeps-whole, same-rows}, keeps.Placed.placed, keeps.Rows.found-so}
+use Rattle.pagable_tables.proofs.keeps.Told.{load-stays, roomy-whole, stays-on}
+use Rattle.pagable_world.specs.Workers.{WorkerEnds, is_load_of}
 
 -- ---- one worker more
 
 pub worker-whole : {w : Core} → IsWhole w → IsWhole (with_worker w)
 worker-whole {w} whole =
-    let o = whole.owners_there in
-    let h = whole.handles in
-    record {
-      handles = record { ordered = h.ordered; numbered = h.numbered; nodes_numbered = h.nodes_numbered; within = h.within; live = h.live; uniform = h.uniform; unkeyed = h.unkeyed; places = h.places };
-      owners_there = record { listed = o.listed; waiting = o.waiting; loads = o.loads; workers = λ x v among is. still v (o.workers x v among is) };
-      loads = record {
-        numbered = whole.loads.numbered;
-        owned = λ l load is. may-own w (with_worker w) still load.owner (whole.loads.owned l load is);
-        roots = λ l load node t q is root. let r = whole.loads.roots l load node t q is root in record { typed = r.typed; begun = r.begun; given = r.given };
-      };
-      cache = λ kind key n is. let e = whole.cache kind key n is in record { given = e.given; typed = e.typed; shares = e.shares };
-      workers_numbered = λ v is. numbered v (v == w.last.worker + 1) refl is;
+    keeps-whole whole (record {
+      on = same-rows whole refl (λ n. refl) refl refl;
+      within = whole.handles.within;
+      places = whole.handles.places;
+      listed = whole.owners_there.listed;
+      owners = λ h among. in-still w (with_worker w) (λ l is. is) still h.mode h.owner (is-in whole h among);
+      loads = load-stays whole (omega arith) still;
+      cache = whole.cache;
+      workers = λ v is. numbered v (v == w.last.worker + 1) refl is;
       shut = whole.shut;
-    }
+    })
   where
     still : (v : ℕ) → w.workers v ≡ true → (with_worker w).workers v ≡ true
     still v is = grind (arith, nat_tests)
@@ -37,48 +35,16 @@ left-open v load x is = grind (arith, nat_tests)
 may-still : (w : Core) (v : ℕ) (o : Owner) → is_owner (owner_worker v) o ≡ false → MayOwnLoad w o → MayOwnLoad (without_worker w v) o
 may-still w v o other may = grind (arith, nat_tests)
 
-module _ {w : Core} (whole : IsWhole w) (v : ℕ) (given : ℕ → Bool)
-    (own : (h : HandleRow) → Among w.rows h → h.owner ≡ Owner.Worker (record { 0 = v }) → given h.number.0 ≡ true)
-    (loaded : (h : HandleRow) (l : LoadNumber) → Among w.rows h → h.owner ≡ Owner.Load l → is_workers_load v (w.loads l.0) ≡ true → given h.number.0 ≡ true) where
-  worker-may-fall : MayFall w (without_worker w v) given
-  worker-may-fall =
-      let r = roomy-whole whole in
-      let h = r.handles in
-      let o = whole.owners_there in
-      record {
-        handles = record { ordered = h.ordered; numbered = h.numbered; nodes_numbered = h.nodes_numbered; within = h.within; live = h.live; uniform = h.uniform; unkeyed = h.unkeyed; places = h.places };
-        listed = λ q. inl (o.listed q);
-        waiting = o.waiting;
-        loads_there = λ x l among is. loads-there x l among is (is_workers_load v (w.loads l.0)) refl;
-        workers_there = λ x u among is. workers-there x u among is (u == v) refl;
-        loads = record {
-          numbered = λ l some. whole.loads.numbered l (was l some);
-          owned = λ l load is. let a = left-open v (w.loads l) load is in may-still w v load.owner a.1 (whole.loads.owned l load a.0);
-          roots = λ l load node t q is root. let r = whole.loads.roots l load node t q (left-open v (w.loads l) load is).0 root in record { typed = r.typed; begun = r.begun; given = r.given };
-        };
-        cache = λ kind key n is. let e = whole.cache kind key n is in record { given = e.given; typed = e.typed; shares = e.shares };
-        workers_numbered = λ u is. whole.workers_numbered u (worked u is);
-        shut = whole.shut;
-        listing = on-listing whole h (stays-on w);
-      }
-    where
-      was : (l : ℕ) → is_some (if is_workers_load v (w.loads l) then None else w.loads l) ≡ true → is_some (w.loads l) ≡ true
-      was l some = grind (arith, nat_tests)
-
-      worked : (u : ℕ) → (if u == v then false else w.workers u) ≡ true → w.workers u ≡ true
-      worked u is = grind (arith, nat_tests)
-
-      loads-there : (x : HandleRow) (l : LoadNumber) → Among w.rows x → x.owner ≡ Owner.Load l → (b : Bool) → is_workers_load v (w.loads l.0) ≡ b
-          → (is_some (if b then None else w.loads l.0) ≡ true) ⊎ (given x.number.0 ≡ true)
-      loads-there x l among is true e = inr (loaded x l among is e)
-      loads-there x l among is false e = inl (whole.owners_there.loads x l among is)
-
-      workers-there : (x : HandleRow) (u : ℕ) → Among w.rows x → x.owner ≡ Owner.Worker (record { 0 = u }) → (b : Bool) → (u == v) ≡ b → ((if b then false else w.workers u) ≡ true) ⊎ (given x.number.0 ≡ true)
-      workers-there x u among is true e = let same : u ≡ v = grind (arith, nat_tests) in inr (own x among (is ∙ ap (λ n. Owner.Worker (record { 0 = n })) same))
-      workers-there x u among is false e = inl (whole.owners_there.workers x u among is)
-
 pub worker-end-whole : {w w' : Core} (v : ℕ) → IsWhole (opened w) → WorkerEnds w v w' → ArePlaced (opened w') → IsWhole (opened w')
-worker-end-whole {w} {w'} v whole ends placed = falls-opened {before = w} {u = without_worker w v} (worker-may-fall {w = opened w} whole v (is_workers w v) own loaded) ends.falls placed
+worker-end-whole {w} {w'} v whole ends placed =
+    falls-lost w {u = without_worker w v} (roomy-whole whole) (stays-on w) refl (record {
+      listed = λ q. inl (whole.owners_there.listed q);
+      owners = λ h among. there h among h.owner refl (is-in whole h among);
+      loads = λ l load is. let a = left-open v (w.loads l) load is in (a.0, may-still w v load.owner a.1 (whole.loads.owned l load a.0));
+      cache = λ kind key n is. is;
+      workers = worked;
+      shut = λ closed. absurd (cc);
+    }) ends.falls placed
   where
     found : (h : HandleRow) → Among w.rows h → is_workers w v h.number.0 ≡ (is_owner (owner_worker v) h.owner || is_load_of w v h.owner)
     found h among = ap (if_there (λ (row : HandleRow). is_owner (owner_worker v) row.owner || is_load_of w v row.owner) false) (found-so h.number.0 w.rows h whole.handles.ordered among refl)
@@ -88,3 +54,20 @@ worker-end-whole {w} {w'} v whole ends placed = falls-opened {before = w} {u = w
 
     loaded : (h : HandleRow) (l : LoadNumber) → Among w.rows h → h.owner ≡ Owner.Load l → is_workers_load v (w.loads l.0) ≡ true → is_workers w v h.number.0 ≡ true
     loaded h l among is mine = found h among ∙ ap (λ o. is_owner (owner_worker v) o || is_load_of w v o) is ∙ mine
+
+    worked : (u : ℕ) → (if u == v then false else w.workers u) ≡ true → w.workers u ≡ true
+    worked u is = grind (arith, nat_tests)
+
+    there : (h : HandleRow) → Among w.rows h → (o : Owner) → h.owner ≡ o → IsIn w h.mode o → IsIn (without_worker w v) h.mode o ⊎ (is_workers w v h.number.0 ≡ true)
+    there h among (Owner.Load l) is i = at (is_workers_load v (w.loads l.0)) refl
+      where
+        at : (b : Bool) → is_workers_load v (w.loads l.0) ≡ b → (is_some (if b then None else w.loads l.0) ≡ true) ⊎ (is_workers w v h.number.0 ≡ true)
+        at true e = inr (loaded h l among is e)
+        at false e = inl i
+    there h among (Owner.Worker u) is i = at (u.0 == v) refl
+      where
+        at : (b : Bool) → (u.0 == v) ≡ b → ((if b then false else w.workers u.0) ≡ true) ⊎ (is_workers w v h.number.0 ≡ true)
+        at true e = let same : u.0 ≡ v = grind (arith, nat_tests) in inr (own h among (is ∙ ap (λ n. Owner.Worker (record { 0 = n })) same))
+        at false e = inl i
+    there h among Owner.List is i = inl i
+    there h among _ is i = inl tt

@@ -1,5 +1,5 @@
 use Rattle.pagable_tables.proofs.Words.{◌∙◌, ap, refl, subst, false, inl, inr, arith, rules, Ok, None, not, is_unpinned, only_handle, Falls, is_valued, plain_of, core_of, nat_tests}
-use Rattle.pagable_tables.proofs.{keeps.Comes.not-a-value, keeps.Fallen.{may-fall, falls-opened}, keeps.Told.{stays-on, roomy-whole, alike-whole}, keeps.ListCalls.schedule-whole}
+use Rattle.pagable_tables.proofs.{keeps.Comes.not-a-value, keeps.Fallen.falls-opened, keeps.Told.{stays-on, roomy-whole, alike-whole}, keeps.ListCalls.schedule-whole}
 use Rattle.pagable_tables.proofs.{keeps.Placed.whole-so, Begun.{begun-whole, not-closed, shut-then, open-then}, Named.alike-listed, Worlds.{still, owner-same}, Newer.{later-on, schedule-newer}}
 use Rattle.pagable_tables.proofs.listing.schedule_for_paging.Goals as goal
 
@@ -26,7 +26,7 @@ returns-then-not-lists-clause-whole g c =
     let w = core_of c.args.t.now (λ key. None) (not c.args.lists) 0 in
     let is = c.requires.whole.core in
     let falls = c.give_back.ensures.falls w w (begun-whole c.args.t.now (λ key. None) (not c.args.lists) c.args.lists 0 c.requires.whole (not-closed c.args.lists)) (omega arith) in
-    whole-so c.give_back.ensures.steady (falls-opened (may-fall (only_handle c.in-Ok.at.row.number) is (roomy-whole is) (stays-on (plain_of c.args.t.now))) falls)
+    whole-so c.give_back.ensures.steady (falls-opened (roomy-whole is) (stays-on (plain_of c.args.t.now)) falls)
 
 pub returns-clause-scheduled : goal.returns-clause-scheduled
 returns-clause-scheduled g c stored closed failures e =

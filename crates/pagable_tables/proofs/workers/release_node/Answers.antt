@@ -1,5 +1,5 @@
 use Rattle.pagable_tables.proofs.{Words.{not, refl, sym, subst, InReach, None, arith, core_of, plain_of, gives_row, Giving}, Begun.{begun-whole, not-closed}, Taken.{passes-given, at-node}, Newer.{newer-falls, later-on}}
-use Rattle.pagable_tables.proofs.{keeps.Fallen.{may-fall, falls-opened}, keeps.Told.{stays-on, roomy-whole}, keeps.Placed.whole-so}
+use Rattle.pagable_tables.proofs.{keeps.Fallen.falls-opened, keeps.Told.{stays-on, roomy-whole}, keeps.Placed.whole-so}
 use Rattle.pagable_world.specs.Workers.{is_workers_at}
 use Rattle.pagable_tables.proofs.workers.release_node.Goals as goal
 
@@ -19,7 +19,7 @@ returns-clause-whole g c =
     let is = c.requires.whole.core in
     let w = core_of c.args.t.now (λ key. None) (not c.args.lists) 0 in
     let falls = (returns-clause-released g c (λ key. None) (not c.args.lists) 0 (not-closed c.args.lists)).falls in
-    whole-so c.give_all.ensures.steady (falls-opened (may-fall (is_workers_at w c.args.worker.0 c.args.node.0) is (roomy-whole is) (stays-on (plain_of c.args.t.now))) falls)
+    whole-so c.give_all.ensures.steady (falls-opened (roomy-whole is) (stays-on (plain_of c.args.t.now)) falls)
 
 pub returns-clause-later : goal.returns-clause-later
 returns-clause-later g c =

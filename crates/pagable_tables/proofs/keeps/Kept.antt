@@ -1,0 +1,306 @@
+-- A change of a whole world, as small as a row, an entry or a load: what has to be shown of it, and that the world is whole then.
+use Rattle.pagable_tables.proofs.Words.{◌≡◌, ℕ, suc, zero, ◌<◌, ◌≤◌, ◌==◌, ◌&&◌, Bool, true, false, List, [], ◌∷◌, length, Option, Some, None, inl, inr, refl, ap, sym, subst, ◌∙◌, arith, ◌⊎◌}
+use Rattle.pagable_tables.proofs.Words.{is_some, nat_lt, nat_tests, sum_by, sum_by-cons, AllPairs, HandleNumber, NodeNumber, HandleRow, Owner, Mode, OptionalDataKey, one, times}
+use Rattle.pagable_tables.proofs.Words.{if_there, Among, SameAt, held, sharing, is_at, is_share, is_shared, is_loose, has_key, is_handle, is_owned_by, Core, Cell, OpenLoad}
+use Rattle.pagable_tables.proofs.{Words.{of_cell, greatest, IsHandleBefore, HandlesAreWhole, MayOwnLoad, IsRootWhole, IsEntryWhole, IsWhole, MayHold}, keeps.Rows.at-most-sum}
+use Rattle.pagable_tables.proofs.keeps.Rows.{counted, found-among, found-so, sum-less}
+
+abbrev pub type_in : Option Cell → Option ℕ
+type_in cell = if_there (λ (cell : Cell). Some cell.node_type) None cell
+
+abbrev pub keyed_in : Option Cell → Bool
+keyed_in cell = has_key (if_there (λ (cell : Cell). cell.key) OptionalDataKey.None cell)
+
+-- ---- rows
+
+-- a row of the node, Shared or not
+pub record HasLike (rows : List HandleRow) (n : ℕ) (shared : Bool) : Type 0 where
+  pub row : HandleRow
+  pub there : Among rows row
+  pub at : row.node.0 ≡ n
+  pub same : is_shared row.mode ≡ shared
+
+-- a row that was there, perhaps another's now, or in another mode that is Shared or not as before, and loose if it was
+pub record IsOld (rows : List HandleRow) (h : HandleRow) : Type 0 where
+  pub row : HandleRow
+  pub there : Among rows row
+  pub number : row.number.0 ≡ h.number.0
+  pub node : row.node ≡ h.node
+  pub shared : is_shared row.mode ≡ is_shared h.mode
+  pub loose : is_loose row.mode ≡ true → is_loose h.mode ≡ true
+
+pub stays-old : {rows : List HandleRow} {h : HandleRow} → Among rows h → IsOld rows h
+stays-old {rows} {h} among = record { row = h; there = among; number = refl; node = refl; shared = refl; loose = λ is. is }
+
+-- a row that comes beside others of its node, that are Shared or not as it is, or with its node
+pub record IsNew (w u : Core) (fresh : Bool) (h : HandleRow) : Type 0 where
+  pub above : w.last.handle < h.number.0
+  pub few : h.number.0 ≤ u.last.handle
+  pub like : HasLike w.rows h.node.0 (is_shared h.mode)
+      ⊎ ((w.last.node < h.node.0) × (h.node.0 ≤ u.last.node) × (is_shared h.mode ≡ fresh) × (fresh ≡ true → keyed_in (u.cells h.node.0) ≡ false))
+
+-- rows and nodes as they go on
+pub record GoOn (w u : Core) : Type 0 where
+  pub last : (w.last.handle ≤ u.last.handle) × (w.last.node ≤ u.last.node)
+  pub ordered : AllPairs IsHandleBefore u.rows
+  pub fresh : Bool
+  pub rows : (h : HandleRow) → Among u.rows h → IsOld w.rows h ⊎ IsNew w u fresh h
+  pub live : (n : ℕ) → is_some (u.cells n) ≡ nat_lt 0 (held n u.rows)
+  pub typed : (n t : ℕ) → n ≤ w.last.node → type_in (u.cells n) ≡ Some t → type_in (w.cells n) ≡ Some t
+  pub keyed : (n : ℕ) → HasLike w.rows n true → n ≤ w.last.node → keyed_in (w.cells n) ≡ false → keyed_in (u.cells n) ≡ false
+
+-- no row changes
+pub same-rows : {w u : Core} → IsWhole w → u.rows ≡ w.rows → SameAt w.cells u.cells → u.last.node ≡ w.last.node → u.last.handle ≡ w.last.handle → GoOn w u
+same-rows {w} {u} whole rows cells node handle =
+    record {
+      last = (omega arith, omega arith);
+      ordered = subst (λ r. AllPairs IsHandleBefore r) (sym rows) whole.handles.ordered;
+      fresh = false;
+      rows = λ h among. inl (stays-old (subst (λ r. Among r h) rows among));
+      live = λ n. ap is_some (cells n) ∙ whole.handles.live n ∙ ap (λ r. nat_lt 0 (held n r)) (sym rows);
+      typed = λ n t few is. sym (ap type_in (cells n)) ∙ is;
+      keyed = λ n like few none. ap keyed_in (cells n) ∙ none;
+    }
+
+-- ---- owners and loads
+
+-- who owns a handle is there; the list's handles wait
+abbrev pub IsIn : Core → Mode → Owner → Type 0
+IsIn w mode Owner.List = mode ≡ Mode.LooseUnpinned
+IsIn w mode (Owner.Load l) = is_some (w.loads l.0) ≡ true
+IsIn w mode (Owner.Worker v) = w.workers v.0 ≡ true
+IsIn w mode _ = Unit {0}
+
+pub is-in : {w : Core} → IsWhole w → (h : HandleRow) → Among w.rows h → IsIn w h.mode h.owner
+is-in {w} whole h among = of h.owner refl
+  where
+    of : (o : Owner) → h.owner ≡ o → IsIn w h.mode o
+    of Owner.List is = whole.owners_there.waiting h among is
+    of (Owner.Load l) is = whole.owners_there.loads h l among is
+    of (Owner.Worker v) is = whole.owners_there.workers h v.0 among is
+    of _ is = tt
+
+-- where loads stay open and workers at work
+pub in-still : (w u : Core) → ((l : ℕ) → is_some (w.loads l) ≡ true → is_some (u.loads l) ≡ true) → ((v : ℕ) → w.workers v ≡ true → u.workers v ≡ true) → (mode : Mode) (o : Owner) → IsIn w mode o → IsIn u mode o
+in-still w u loads workers mode Owner.List i = i
+in-still w u loads workers mode (Owner.Load l) i = loads l.0 i
+in-still w u loads workers mode (Owner.Worker v) i = workers v.0 i
+in-still w u loads workers mode _ i = tt
+
+-- in another mode, as that of the list's handles is known
+pub other-mode : (w : Core) (a b : Mode) (o : Owner) → IsIn w a o → (o ≡ Owner.List → b ≡ Mode.LooseUnpinned) → IsIn w b o
+other-mode w a b Owner.List i waits = waits refl
+other-mode w a b (Owner.Load l) i waits = i
+other-mode w a b (Owner.Worker v) i waits = i
+other-mode w a b _ i waits = tt
+
+pub holder-in : (w : Core) (mode : Mode) (o : Owner) → MayHold w o → IsIn w mode o
+holder-in w mode Owner.List may = absurd may
+holder-in w mode (Owner.Load l) may = may
+holder-in w mode (Owner.Worker v) may = may
+holder-in w mode _ may = tt
+
+-- an open load, of what w tells
+pub record IsLoadIn (w u : Core) (l : ℕ) (load : OpenLoad) : Type 0 where
+  pub numbered : (0 < l) × (l ≤ u.last.load)
+  pub owned : MayOwnLoad u load.owner
+  pub roots : (node : NodeNumber) (t : ℕ) (h : HandleNumber) → load.root ≡ of_cell node t h → IsRootWhole w node t h
+
+pub load-in : {w u : Core} → IsWhole w → w.last.load ≤ u.last.load → (l : ℕ) (load : OpenLoad) → w.loads l ≡ Some load → MayOwnLoad u load.owner → IsLoadIn w u l load
+load-in {w} {u} whole more l load is may =
+    record {
+      numbered = let a = whole.loads.numbered l (ap is_some is) in (a.0, omega arith);
+      owned = may;
+      roots = λ node t h root. whole.loads.roots l load node t h is root;
+    }
+
+-- ---- the whole
+
+pub record Keeps (w u : Core) : Type 0 where
+  pub on : GoOn w u
+  pub within : (u.last.handle ≤ greatest) × (u.last.node ≤ greatest) × (u.last.load ≤ greatest)
+  pub places : (length u.rows ≤ u.places.handles) × (length u.list ≤ u.places.entries)
+  pub listed : (q : ℕ) → times (λ (h : HandleNumber). h.0 == q) u.list ≡ times (λ h. is_handle q h && is_owned_by Owner.List h) u.rows
+  pub owners : (h : HandleRow) → Among u.rows h → IsIn u h.mode h.owner
+  pub loads : (l : ℕ) (load : OpenLoad) → u.loads l ≡ Some load → IsLoadIn w u l load
+  pub cache : (kind key n : ℕ) → u.cache kind key ≡ Some n → IsEntryWhole w kind n
+  pub workers : (v : ℕ) → u.workers v ≡ true → v ≤ u.last.worker
+  pub shut : u.closed ≡ true → (u.list ≡ []) × ((kind key : ℕ) → u.cache kind key ≡ None)
+
+same-sum : {X : Type 0} (f g : X → ℕ) (xs : List X) → ((x : X) → Among xs x → f x ≡ g x) → sum_by f xs ≡ sum_by g xs
+same-sum f g [] h = refl
+same-sum f g (x ∷ xs) h = grind (arith, nat_tests, sum_by-cons, same-sum f g xs (λ y among. h y (suc among.0, among.1)))
+
+at-one : (n : ℕ) (h : HandleRow) → h.node.0 ≡ n → (h.node.0 == n) ≡ true
+at-one n h e = grind (arith, nat_tests)
+
+pub at-then : (n : ℕ) (h : HandleRow) → 0 < one (is_at n h) → h.node.0 ≡ n
+at-then n h some = grind (arith, nat_tests)
+
+share-le : (a b : Bool) → one (a && b) ≤ one a
+share-le a b = grind (arith, nat_tests)
+
+share-then : (n : ℕ) (h : HandleRow) → 0 < one (is_share n h) → (h.node.0 ≡ n) × (is_shared h.mode ≡ true)
+share-then n h some = grind (arith, nat_tests)
+
+-- a row counts among those of its node
+pub held-some : (n : ℕ) (rows : List HandleRow) (h : HandleRow) → Among rows h → h.node.0 ≡ n → 0 < held n rows
+held-some n rows h among e = let a = at-most-sum (λ x. one (is_at n x)) rows h among in let b : one (is_at n h) ≡ 1 = ap one (at-one n h e) in omega arith
+
+pub there-then : {w : Core} → IsWhole w → (h : HandleRow) → Among w.rows h → is_some (w.cells h.node.0) ≡ true
+there-then {w} whole h among = let a = held-some h.node.0 w.rows h among refl in let b : nat_lt 0 (held h.node.0 w.rows) ≡ true = grind (arith, nat_tests) in whole.handles.live h.node.0 ∙ b
+
+-- a node that is there has a row
+pub row-then : (n : ℕ) (rows : List HandleRow) (cell : Option Cell) → is_some cell ≡ nat_lt 0 (held n rows) → is_some cell ≡ true → (h : HandleRow) × Among rows h × (h.node.0 ≡ n)
+row-then n rows cell live some =
+    let b : nat_lt 0 (held n rows) ≡ true = sym live ∙ some in
+    let c : 0 < held n rows = grind (arith, nat_tests) in
+    let r = counted (λ x. one (is_at n x)) rows c in (r.0, r.1, at-then n r.0 r.2)
+
+-- rows of one node are all Shared, or none is
+pub record AreAlike (rows : List HandleRow) : Type 0 where
+  pub same : (x y : HandleRow) → Among rows x → Among rows y → x.node.0 ≡ y.node.0 → is_shared x.mode ≡ is_shared y.mode
+
+shared-count : (n : ℕ) (rows : List HandleRow) (x : HandleRow) (b : Bool) → Among rows x → x.node.0 ≡ n → is_shared x.mode ≡ b → one (is_share n x) ≡ one b
+shared-count n rows x b among e is = ap (λ a. one (a && is_shared x.mode)) (at-one n x e) ∙ ap one is
+
+pub alike-rows : {w : Core} → IsWhole w → AreAlike w.rows
+alike-rows {w} whole = record { same = λ x y there here same. at x y there here same (is_shared x.mode) (is_shared y.mode) refl refl }
+  where
+    unshared : (x : HandleRow) → Among w.rows x → is_shared x.mode ≡ false → (n : ℕ) → x.node.0 ≡ n → sharing n w.rows ≡ 0
+    unshared x among is n e = elim (whole.handles.uniform n) [
+      | inl none ↦ none
+      | inr all ↦
+          let a = shared-count n w.rows x false among e is in
+          let b : one (is_at n x) ≡ 1 = ap one (at-one n x e) in
+          let c = sum-less (λ h. one (is_share n h)) (λ h. one (is_at n h)) w.rows x (λ h. share-le (is_at n h) (is_shared h.mode)) among (omega arith) in
+          absurd (omega arith)
+    ]
+
+    counts : (x : HandleRow) → Among w.rows x → is_shared x.mode ≡ true → (n : ℕ) → x.node.0 ≡ n → 0 < sharing n w.rows
+    counts x among is n e = let a = shared-count n w.rows x true among e is in let b = at-most-sum (λ h. one (is_share n h)) w.rows x among in omega arith
+
+    at : (x y : HandleRow) → Among w.rows x → Among w.rows y → x.node.0 ≡ y.node.0 → (a b : Bool) → is_shared x.mode ≡ a → is_shared y.mode ≡ b → is_shared x.mode ≡ is_shared y.mode
+    at x y there here same true true e f = e ∙ sym f
+    at x y there here same false false e f = e ∙ sym f
+    at x y there here same true false e f = absurd (omega (arith, counts x there e y.node.0 same, unshared y here f y.node.0 refl))
+    at x y there here same false true e f = absurd (omega (arith, unshared x there e y.node.0 same, counts y here f y.node.0 refl))
+
+uniform-rows : (n : ℕ) (rows : List HandleRow) → AreAlike rows → (k : ℕ) → sharing n rows ≡ k → (sharing n rows ≡ 0) ⊎ (sharing n rows ≡ held n rows)
+uniform-rows n rows alike zero is = inl is
+uniform-rows n rows alike (suc k) is =
+    let found = counted (λ h. one (is_share n h)) rows (omega arith) in
+    let x = share-then n found.0 found.2 in
+    inr (same-sum (λ h. one (is_share n h)) (λ h. one (is_at n h)) rows (λ y among. at y (y.node.0 == n) refl (λ e. alike.same y found.0 among found.1 (e ∙ sym x.0) ∙ x.1)))
+  where
+    and-true : (b : Bool) → one (b && true) ≡ one b
+    and-true b = grind (arith, nat_tests)
+
+    at : (y : HandleRow) (b : Bool) → (y.node.0 == n) ≡ b → (y.node.0 ≡ n → is_shared y.mode ≡ true) → one (is_share n y) ≡ one (is_at n y)
+    at y true e same = let f : y.node.0 ≡ n = grind (arith, nat_tests) in ap (λ b. one (is_at n y && b)) (same f) ∙ and-true (is_at n y)
+    at y false e same = ap (λ b. one (b && is_shared y.mode)) e ∙ ap one (sym e)
+
+module _ {w u : Core} (whole : IsWhole w) (k : Keeps w u) where
+  given : (n : ℕ) (shared : Bool) → HasLike w.rows n shared → (0 < n) × (n ≤ w.last.node)
+  given n shared like = subst (λ m. (0 < m) × (m ≤ w.last.node)) like.at (whole.handles.nodes_numbered like.row.node.0 (there-then whole like.row like.there))
+
+  like : (h : HandleRow) → Among u.rows h → HasLike w.rows h.node.0 (is_shared h.mode)
+      ⊎ ((w.last.node < h.node.0) × (h.node.0 ≤ u.last.node) × (is_shared h.mode ≡ k.on.fresh) × (k.on.fresh ≡ true → keyed_in (u.cells h.node.0) ≡ false))
+  like h among = elim (k.on.rows h among) [
+    | inl old ↦ inl (record { row = old.row; there = old.there; at = ap (λ (n : NodeNumber). n.0) old.node; same = old.shared })
+    | inr new ↦ new.like
+  ]
+
+  alike : AreAlike u.rows
+  alike = record {
+    same = λ x y there here same. elim (like x there) [
+      | inl a ↦ elim (like y here) [
+        | inl b ↦ sym a.same ∙ (alike-rows whole).same a.row b.row a.there b.there (a.at ∙ same ∙ sym b.at) ∙ b.same
+        | inr b ↦ absurd (let c = given x.node.0 (is_shared x.mode) a in let d = b.0 in omega arith)
+      ]
+      | inr a ↦ elim (like y here) [
+        | inl b ↦ absurd (let c = given y.node.0 (is_shared y.mode) b in let d = a.0 in omega arith)
+        | inr b ↦ a.2 ∙ sym b.2
+      ]
+    ];
+  }
+
+  handles : HandlesAreWhole u
+  handles =
+      let h = whole.handles in
+      record {
+        ordered = k.on.ordered;
+        numbered = λ x among. elim (k.on.rows x among) [
+          | inl old ↦ let a = h.numbered old.row old.there in let b = old.number in let c = k.on.last in (omega arith, omega arith)
+          | inr new ↦ let a = new.above in let b = new.few in (omega arith, omega arith)
+        ];
+        nodes_numbered = λ n some. let (x, among, at) = row-then n u.rows (u.cells n) (k.on.live n) some in elim (like x among) [
+          | inl old ↦ let a = given x.node.0 (is_shared x.mode) old in let c = k.on.last in (omega arith, omega arith)
+          | inr new ↦ let a = new.0 in let b = new.1 in (omega arith, omega arith)
+        ];
+        within = k.within;
+        live = k.on.live;
+        uniform = λ n. uniform-rows n u.rows alike (sharing n u.rows) refl;
+        unkeyed = λ n some. keyless n (counted (λ h. one (is_share n h)) u.rows some);
+        places = k.places;
+      }
+    where
+      keyless : (n : ℕ) → (h : HandleRow) × Among u.rows h × (0 < one (is_share n h)) → keyed_in (u.cells n) ≡ false
+      keyless n found =
+          let x = share-then n found.0 found.2 in
+          subst (λ m. keyed_in (u.cells m) ≡ false) x.0 (elim (like found.0 found.1) [
+            | inl old ↦
+                let b : HasLike w.rows found.0.node.0 true = record { row = old.row; there = old.there; at = old.at; same = old.same ∙ x.1 } in
+                let c = at-most-sum (λ h. one (is_share found.0.node.0 h)) w.rows old.row old.there in
+                let d = shared-count found.0.node.0 w.rows old.row true old.there old.at (old.same ∙ x.1) in
+                k.on.keyed found.0.node.0 b (given found.0.node.0 true b).1 (whole.handles.unkeyed found.0.node.0 (omega arith))
+            | inr new ↦ new.3 (sym new.2 ∙ x.1)
+          ])
+
+  root : (node : NodeNumber) (t : ℕ) (h : HandleNumber) → IsRootWhole w node t h → IsRootWhole u node t h
+  root node t h r =
+      record {
+        typed = λ type is. r.typed type (k.on.typed node.0 type r.given.1 is);
+        begun = λ row is. let found = found-among h.0 u.rows row is in elim (k.on.rows row found.0) [
+          | inl old ↦
+              let a = r.begun old.row (found-so h.0 w.rows old.row whole.handles.ordered old.there (old.number ∙ found.1)) in
+              (sym old.node ∙ a.0, old.loose a.1)
+          | inr new ↦ absurd (let a = new.above in let b = r.given.0 in let c = found.1 in omega arith)
+        ];
+        given = let a = r.given in let b = k.on.last in (omega arith, omega arith);
+      }
+
+  entry : (kind n : ℕ) → IsEntryWhole w kind n → IsEntryWhole u kind n
+  entry kind n e =
+      record {
+        given = let a = e.given in let b = k.on.last in omega arith;
+        typed = λ t is. e.typed t (k.on.typed n t e.given is);
+        shares = λ h among at. elim (like h among) [
+          | inl old ↦ sym old.same ∙ e.shares old.row old.there (old.at ∙ at)
+          | inr new ↦ absurd (let a = e.given in let b = new.0 in omega arith)
+        ];
+      }
+
+  pub keeps-whole : IsWhole u
+  keeps-whole =
+      record {
+        handles = handles;
+        owners_there = record {
+          listed = k.listed;
+          waiting = λ h among is. subst (IsIn u h.mode) is (k.owners h among);
+          loads = λ h l among is. subst (IsIn u h.mode) is (k.owners h among);
+          workers = λ h v among is. subst (IsIn u h.mode) is (k.owners h among);
+        };
+        loads = record {
+          numbered = λ l some. let (load, is) = some-value (u.loads l) some in (k.loads l load is).numbered;
+          owned = λ l load is. (k.loads l load is).owned;
+          roots = λ l load node t h is of. root node t h ((k.loads l load is).roots node t h of);
+        };
+        cache = λ kind key n is. entry kind n (k.cache kind key n is);
+        workers_numbered = k.workers;
+        shut = k.shut;
+      }
+    where
+      some-value : {X : Type 0} (o : Option X) → is_some o ≡ true → (x : X) × (o ≡ Some x)
+      some-value (Some x) is = (x, refl)
+      some-value None is = absurd (cc)
