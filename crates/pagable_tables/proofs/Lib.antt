@@ -28,3 +28,4 @@ pub mod Adoptions
 mod Joined
 pub mod Installed
 mod GivenAll
+mod Doing

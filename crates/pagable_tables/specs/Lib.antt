@@ -11,3 +11,4 @@ pub mod Offering
 pub mod Bearing
 pub mod Ready
 pub mod Giving
+pub mod Doing

@@ -2,10 +2,9 @@
 
 ghost use Rattle.std.specs.Prelude.{nat_eq, ◌≡◌, ℕ, ◌⊎◌, ◌<◌, ◌≤◌, length, [], Bool, Option, IfOk, IfErr, IfSome, IfNone, OnOk, Some, None, not, true, false};
 ghost use Rattle.pagable_world.specs.{Plain.{Blob, is_loose_kind}, Kinds.{is_pinning, mode_of}, Cascade.{FallsAnyhow, nobody}, World.{Core, Alike, usable}, Refusals.{load_fault, references_fault}};
-ghost use Rattle.pagable_world.specs.{Refusals.{spent, Refused, AreHandlesFull}, Calls.{IsNext, is_named_by, birth_fault, with_handle}, LoadCalls.{adopt_fault, adopted, first_key, is_owned_in}};
-ghost use Rattle.pagable_world.specs.LoadCalls.{Adopts, LazyCall};
+ghost use Rattle.pagable_world.specs.{Refusals.Refused, Calls.{IsNext, is_named_by, birth_fault}, LoadCalls.{adopt_fault, adopted, first_key, is_owned_in, Adopts, LazyCall}};
 ghost use Rattle.pagable_tables.specs.{Live.live, Onward.{with_tables, SoFar}, Falling.{has_value, IsFalling, owns_nothing, key_in, Sheds}, Bearing.{IsReady, OnlyRoom}, ByNumber.counts_at};
-ghost use Rattle.pagable_tables.specs.{Core.{core_of, plain_of, IsWhole, MayHold, Suits}, Later.AreLater, Asking.early_fault};
+ghost use Rattle.pagable_tables.specs.{Core.{core_of, plain_of, IsWhole, MayHold}, Later.AreLater, Asking.early_fault, Doing.Does};
 ghost use Rattle.indexmap.specs.IndexMap.{get, spare};
 ghost use Rattle.pagable_world.specs.declared.handles.Owner.TheVariants as owners;
 
@@ -31,9 +30,8 @@ pub fn make_ready_to_learn(t: &mut Tables) -> Result<(), Error>
     requires { IsWhole t.old }
     ensures ready { OnOk result (IsReady t.new) }
     ensures learns { OnOk result (0 < spare t.new.cache) }
-    ensures room { (stored : ℕ → Option Blob) (closed : Bool) (failures : ℕ) → OnlyRoom (core_of t.old stored closed failures) (core_of t.new stored closed failures) }
+    ensures does { Does t.old OnlyRoom t.new }
     ensures refused { (stored : ℕ → Option Blob) (closed : Bool) (failures : ℕ) → IfErr result (λ e. Refused (birth_fault (core_of t.old stored closed failures)) (birth_fault (core_of t.old stored closed failures)) (Unit {0}) (core_of t.old stored closed failures) e (core_of t.new stored closed failures)) }
-    ensures whole { IsWhole t.new }
     ensures loads { t.new.loads ≡ t.old.loads }
     ensures workers { t.new.workers ≡ t.old.workers }
 {
@@ -88,9 +86,7 @@ pub fn load_lazy(
 ) -> Result<HandleNumber, Error>
     requires whole { IsWhole t.old }
     requires later { AreLater t.old }
-    ensures lazily { (stored : ℕ → Option Blob) (closed : Bool) (failures : ℕ) → lists ≡ not closed → LazyCall (core_of t.old stored closed failures) me load kind key result (core_of t.new stored closed failures) }
-    ensures whole { IsWhole t.new }
-    ensures later { AreLater t.new }
+    ensures { Does t.old (λ w w'. lists ≡ not w.closed → LazyCall w me load kind key result w') t.new }
 {
     let _row = match load_row(t, me, load) {
         Ok(row) => row,

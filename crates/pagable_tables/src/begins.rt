@@ -1,8 +1,7 @@
 //! Loads that begin.
 
-ghost use Rattle.std.specs.Prelude.{ℕ, Bool, Option, ◌≡◌};
-ghost use Rattle.pagable_world.specs.{Plain.Blob, LoadCalls.BeginKeyCall, Pager.MayOwnLoad};
-ghost use Rattle.pagable_tables.specs.{Core.{core_of, plain_of, IsWhole}, Later.AreLater};
+ghost use Rattle.pagable_world.specs.{LoadCalls.BeginKeyCall, Pager.MayOwnLoad};
+ghost use Rattle.pagable_tables.specs.{Core.{plain_of, IsWhole}, Later.AreLater, Doing.Does};
 
 use crate::loads;
 use crate::rows::{LoadRoot, LoadRow};
@@ -16,9 +15,7 @@ pub fn load_key(t: &mut Tables, me: Owner, key: DataKey) -> Result<Beginning, Er
     requires whole { IsWhole t.old }
     requires later { AreLater t.old }
     requires owner { MayOwnLoad (plain_of t.old) me }
-    ensures begun { (stored : ℕ → Option Blob) (closed : Bool) (failures : ℕ) → BeginKeyCall (core_of t.old stored closed failures) me key result (core_of t.new stored closed failures) }
-    ensures whole { IsWhole t.new }
-    ensures later { AreLater t.new }
+    ensures { Does t.old (λ w w'. BeginKeyCall w me key result w') t.new }
 {
     if t.last_load == u64::MAX {
         return Err(Error::NumbersSpent);

@@ -2,7 +2,7 @@
 
 ghost use Rattle.std.specs.Prelude.{true, ◌≡◌, ℕ, ◌⊎◌, [], Bool, Option, None, false, IfErr, OnOk};
 ghost use Rattle.pagable_world.specs.{Plain.{Blob, one}, Kinds.is_pinning, Refusals.{earlier, references_fault, Refused}, Calls.{AwayBirthCall, birth_fault}};
-ghost use Rattle.pagable_tables.specs.{Falling.{IsFalling, owns_nothing}, Bearing.{Bears, BearsValue, IsReady, OnlyRoom}, Core.{core_of, plain_of, IsWhole, MayHold}, Later.AreLater};
+ghost use Rattle.pagable_tables.specs.{Falling.{IsFalling, owns_nothing}, Bearing.{Bears, BearsValue, IsReady, OnlyRoom}, Core.{core_of, plain_of, IsWhole, MayHold}, Doing.Does};
 
 use crate::holdings::pins;
 use crate::moving::hand_over_all;
@@ -34,9 +34,8 @@ pub fn first_counts(node_type: u32, key: u128, mode: Mode) -> Counts
 pub fn make_ready(t: &mut Tables) -> Result<(), Error>
     requires { IsWhole t.old }
     ensures ready { OnOk result (IsReady t.new) }
-    ensures room { (stored : ℕ → Option Blob) (closed : Bool) (failures : ℕ) → OnlyRoom (core_of t.old stored closed failures) (core_of t.new stored closed failures) }
+    ensures does { Does t.old OnlyRoom t.new }
     ensures refused { (stored : ℕ → Option Blob) (closed : Bool) (failures : ℕ) → IfErr result (λ e. Refused (birth_fault (core_of t.old stored closed failures)) (birth_fault (core_of t.old stored closed failures)) (Unit {0}) (core_of t.old stored closed failures) e (core_of t.new stored closed failures)) }
-    ensures whole { IsWhole t.new }
     ensures same { t.new ≡ record t.old { holdings = t.new.holdings } }
 {
     if t.last_node == u64::MAX || t.holdings.last_handle == u64::MAX {
@@ -57,10 +56,8 @@ pub fn prepare(t: &mut Tables, me: Owner, references: &[ArcRef]) -> Result<(), E
     requires { IsWhole t.old }
     ensures ready { OnOk result (IsReady t.new) }
     ensures fit { OnOk result (references_fault (plain_of t.new) me [] references.now ≡ None) }
-    ensures room { (stored : ℕ → Option Blob) (closed : Bool) (failures : ℕ) → OnlyRoom (core_of t.old stored closed failures) (core_of t.new stored closed failures) }
+    ensures does { Does t.old OnlyRoom t.new }
     ensures refused { (stored : ℕ → Option Blob) (closed : Bool) (failures : ℕ) → IfErr result (λ e. Refused (earlier (references_fault (core_of t.old stored closed failures) me [] references.now) (birth_fault (core_of t.old stored closed failures))) None (Unit {0}) (core_of t.old stored closed failures) e (core_of t.new stored closed failures)) }
-    ensures whole { IsWhole t.new }
-    ensures later { AreLater t.old → AreLater t.new }
 {
     if let Err(e) = check_references(t, me, references) {
         return Err(e);
@@ -125,9 +122,7 @@ pub fn bear_value(
     requires ready { IsReady t.old }
     requires holder { MayHold (plain_of t.old) me }
     requires fit { references_fault (plain_of t.old) me [] references.items ≡ None }
-    ensures born { (stored : ℕ → Option Blob) (closed : Bool) (failures : ℕ) → BearsValue (core_of t.old stored closed failures) me node_type references.items mode result (core_of t.new stored closed failures) }
-    ensures whole { IsWhole t.new }
-    ensures later { AreLater t.old → AreLater t.new }
+    ensures { Does t.old (λ w w'. BearsValue w me node_type references.items mode result w') t.new }
 {
     bear(t, me, first_counts(node_type, 0, mode), references, mode)
 }
@@ -142,9 +137,7 @@ pub fn new_away(
 ) -> Result<HandleNumber, Error>
     requires whole { IsWhole t.old }
     requires holder { MayHold (plain_of t.old) me }
-    ensures born { (stored : ℕ → Option Blob) (closed : Bool) (failures : ℕ) → AwayBirthCall (core_of t.old stored closed failures) me node_type key result (core_of t.new stored closed failures) }
-    ensures whole { IsWhole t.new }
-    ensures later { AreLater t.old → AreLater t.new }
+    ensures { Does t.old (λ w w'. AwayBirthCall w me node_type key result w') t.new }
 {
     match make_ready(t) {
         Ok(()) => {

@@ -1,8 +1,8 @@
 //! Loads that end: what they still own is given up.
 
-ghost use Rattle.std.specs.Prelude.{◌≡◌, ℕ, ◌<◌, ◌≤◌, ◌==◌, ◌||◌, [], length, Bool, true, None, Option, not, nat_eq, ◌&&◌};
+ghost use Rattle.std.specs.Prelude.{◌≡◌, ℕ, ◌<◌, ◌≤◌, ◌==◌, ◌||◌, [], length, Bool, true, None, Option, nat_eq, ◌&&◌};
 ghost use Rattle.pagable_world.specs.{Plain.Blob, World.Core, Cascade.{Falls, nobody}, LoadCalls.{is_owned_in, hand_over_fault, DropCall, HandOverCall}};
-ghost use Rattle.pagable_tables.specs.{Live.live, ByNumber.counts_at, Falling.{IsFalling, owns_nothing, Sheds}, Onward.{with_tables, SoFar}, Core.{core_of, IsWhole}, Later.AreLater};
+ghost use Rattle.pagable_tables.specs.{Live.live, ByNumber.counts_at, Falling.{IsFalling, owns_nothing, Sheds}, Onward.{with_tables, SoFar}, Core.{core_of, IsWhole}, Later.AreLater, Doing.DoesShed};
 ghost use Rattle.indexmap.specs.IndexMap.{get};
 ghost use Rattle.pagable_world.specs.declared.handles.Owner.TheVariants as owners;
 
@@ -73,10 +73,7 @@ pub fn load_drop<N: Drop>(
 ) -> Result<(), Error>
     requires whole { IsWhole t.old }
     requires later { AreLater t.old }
-    ensures dropped { (stored : ℕ → Option Blob) (closed : Bool) (failures : ℕ) → lists ≡ not closed → DropCall (core_of t.old stored closed failures) me load result (core_of t.new stored closed failures) }
-    ensures whole { IsWhole t.new }
-    ensures later { AreLater t.new }
-    ensures sheds { Sheds (counts_at t.old.holdings.nodes) (get nat_eq values.old) (counts_at t.new.holdings.nodes) (get nat_eq values.new) }
+    ensures { DoesShed lists t.old values.old (λ w w'. DropCall w me load result w') t.new values.new }
 {
     let row = match load_row(t, me, load) {
         Ok(row) => row,
@@ -110,10 +107,7 @@ pub fn load_take<N: Drop>(
 ) -> Result<(), Error>
     requires whole { IsWhole t.old }
     requires later { AreLater t.old }
-    ensures taken { (stored : ℕ → Option Blob) (closed : Bool) (failures : ℕ) → lists ≡ not closed → HandOverCall (core_of t.old stored closed failures) me load named.now result (core_of t.new stored closed failures) }
-    ensures whole { IsWhole t.new }
-    ensures later { AreLater t.new }
-    ensures sheds { Sheds (counts_at t.old.holdings.nodes) (get nat_eq values.old) (counts_at t.new.holdings.nodes) (get nat_eq values.new) }
+    ensures { DoesShed lists t.old values.old (λ w w'. HandOverCall w me load named.now result w') t.new values.new }
 {
     if let Some(e) = hand_over_fault(t, me, load, named) {
         return Err(e);

@@ -1,9 +1,8 @@
 //! Cells that get keys.
 
-ghost use Rattle.std.specs.Prelude.{◌≡◌, ℕ, ◌<◌, ◌≤◌, Bool, not, [], List, length, Option, IsSome, nat_eq};
-ghost use Rattle.pagable_world.specs.{Plain.Blob, Calls.{SetKeyCall, with_key}, Cascade.{Falls, nobody}};
-ghost use Rattle.pagable_tables.specs.{Core.{core_of, IsWhole}, ByNumber.counts_at, Falling.{IsFalling, owns_nothing, ValueStays, Sheds}, Lowering.{keyed, GetsKey}, Later.AreLater};
-ghost use Rattle.indexmap.specs.IndexMap.{get};
+ghost use Rattle.std.specs.Prelude.{◌≡◌, ℕ, ◌<◌, ◌≤◌, [], List, length, IsSome};
+ghost use Rattle.pagable_world.specs.Calls.{SetKeyCall};
+ghost use Rattle.pagable_tables.specs.{Core.IsWhole, ByNumber.counts_at, Falling.{IsFalling, owns_nothing, ValueStays}, Lowering.{keyed, GetsKey}, Doing.DoesShed};
 
 use crate::cascade::fall;
 use crate::holdings::{Holdings, top_after};
@@ -65,11 +64,7 @@ pub fn set_data_key<N: Drop>(
     lists: bool,
 ) -> Result<(), Error>
     requires whole { IsWhole t.old }
-    ensures set { (stored : ℕ → Option Blob) (closed : Bool) (failures : ℕ) → lists ≡ not closed
-        → SetKeyCall (core_of t.old stored closed failures) me handle key result (core_of t.new stored closed failures) }
-    ensures whole { IsWhole t.new }
-    ensures later { AreLater t.old → AreLater t.new }
-    ensures sheds { Sheds (counts_at t.old.holdings.nodes) (get nat_eq values.old) (counts_at t.new.holdings.nodes) (get nat_eq values.new) }
+    ensures { DoesShed lists t.old values.old (λ w w'. SetKeyCall w me handle key result w') t.new values.new }
 {
     let at = match own(t, me, handle) {
         Ok(at) => at,

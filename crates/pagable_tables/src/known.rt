@@ -1,9 +1,9 @@
 //! What the cache gives and learns.
 
-ghost use Rattle.std.specs.{Prelude.{◌≡◌, ℕ, Bool, Option, Some, IfSome, IfNone, IfOk, IfErr, false, []}, Option.option_map};
+ghost use Rattle.std.specs.{Prelude.{◌≡◌, ℕ, Bool, Option, Some, IfSome, IfNone, IfOk, IfErr, false}, Option.option_map};
 ghost use Rattle.pagable_model.specs.declared.numbers.NodeNumber.{NodeNumber};
 ghost use Rattle.pagable_world.specs.{Plain.{Blob, type_of}, Kinds.fits_mode, World.{usable, type_at}, Refusals.Owns, Calls.{RecallCall, offer_fault}};
-ghost use Rattle.pagable_tables.specs.{Offering.Offered, Core.{core_of, plain_of, IsWhole, MayHold}, Later.AreLater};
+ghost use Rattle.pagable_tables.specs.{Offering.Offered, Core.{core_of, plain_of, IsWhole, MayHold}, Doing.Does};
 
 use crate::kinds::{fits_mode, is_of, is_pinned_kind, mode_of};
 use crate::lookups::is_here;
@@ -39,10 +39,8 @@ pub fn cache_get(
 ) -> Result<Option<HandleNumber>, Error>
     requires whole { IsWhole t.old }
     requires holder { MayHold (plain_of t.old) me }
-    ensures recalled { (stored : ℕ → Option Blob) (closed : Bool) (failures : ℕ) → RecallCall (core_of t.old stored closed failures) me kind key result (core_of t.new stored closed failures) }
-    ensures whole { IsWhole t.new }
+    ensures does { Does t.old (λ w w'. RecallCall w me kind key result w') t.new }
     ensures none { IfOk result (λ found. IfNone found (t.new ≡ t.old)) }
-    ensures later { AreLater t.old → AreLater t.new }
 {
     let Some(node) = usable_of(t, kind, key) else {
         return Ok(None);

@@ -1,9 +1,10 @@
 //! Loads of cells that begin, and whose an open load is.
 
 ghost use Rattle.std.specs.Prelude.{◌≡◌, ◌<◌, ℕ, Bool, Option, Some, [], IfOk, IfErr, IfNone, IfSome, slice_get, true, false};
-ghost use Rattle.pagable_world.specs.{Plain.Blob, Kinds.{is_in_memory, is_loose}, World.{greatest, of_cell, Alike}, Pager.MayOwnLoad, Refusals.{load_fault, OwnsLoad}, Calls.with_handle};
-ghost use Rattle.pagable_world.specs.LoadCalls.{BeginCall, IsNextLoad, with_load};
+ghost use Rattle.pagable_world.specs.{Plain.Blob, Kinds.is_in_memory, World.{greatest, of_cell, Alike}, Pager.MayOwnLoad, Refusals.{load_fault, OwnsLoad}, Calls.with_handle, LoadCalls.BeginCall};
+ghost use Rattle.pagable_world.specs.LoadCalls.{IsNextLoad, with_load};
 ghost use Rattle.pagable_tables.specs.{Live.alive, ByNumber.load_at, Falling.{key_in, IsFalling, owns_nothing}, Core.{core_of, plain_of, IsWhole, load_in}, Asking.AsksKnown, Later.AreLater};
+ghost use Rattle.pagable_tables.specs.Doing.{Does};
 ghost use Rattle.pagable_model.specs.declared.data_key.OptionalDataKey.TheVariants as optional;
 ghost use Rattle.pagable_world.specs.declared.handles.Owner.TheVariants as owners;
 ghost use Rattle.pagable_world.specs.declared.rows.Mode.TheVariants as modes;
@@ -100,9 +101,7 @@ pub fn load_begin(t: &mut Tables, me: Owner, handle: HandleNumber) -> Result<Beg
     requires whole { IsWhole t.old }
     requires later { AreLater t.old }
     requires owner { MayOwnLoad (plain_of t.old) me }
-    ensures begun { (stored : ℕ → Option Blob) (closed : Bool) (failures : ℕ) → BeginCall (core_of t.old stored closed failures) me handle result (core_of t.new stored closed failures) }
-    ensures whole { IsWhole t.new }
-    ensures later { AreLater t.new }
+    ensures { Does t.old (λ w w'. BeginCall w me handle result w') t.new }
 {
     let at = match own(t, me, handle) {
         Ok(at) => at,
@@ -137,10 +136,8 @@ pub fn load_known(
 ) -> Result<Option<HandleNumber>, Error>
     requires whole { IsWhole t.old }
     requires later { AreLater t.old }
-    ensures asked { (stored : ℕ → Option Blob) (closed : Bool) (failures : ℕ) → AsksKnown (core_of t.old stored closed failures) me load kind key result (core_of t.new stored closed failures) }
-    ensures whole { IsWhole t.new }
+    ensures does { Does t.old (λ w w'. AsksKnown w me load kind key result w') t.new }
     ensures none { IfOk result (λ found. IfNone found (t.new ≡ t.old)) }
-    ensures later { AreLater t.new }
 {
     let _row = match load_row(t, me, load) {
         Ok(row) => row,

@@ -1,9 +1,9 @@
 //! Handles that come to live nodes.
 
-ghost use Rattle.std.specs.Prelude.{◌≡◌, ℕ, ◌<◌, ◌^◌, ◌+◌, [], Bool, Option, IsSome, true, false, length};
-ghost use Rattle.pagable_world.specs.{Plain.{Blob, one}, World.Core, Calls.CloneCall};
-ghost use Rattle.pagable_tables.specs.{ByNumber.counts_at, Falling.{is_valued, has_value, IsFalling, ValueStays, owns_nothing}, Onward.with_tables, Core.{core_of, plain_of, IsWhole, MayHold, Suits}};
-ghost use Rattle.pagable_tables.specs.{Core.Makes, Later.AreLater};
+ghost use Rattle.std.specs.Prelude.{◌≡◌, ℕ, ◌<◌, ◌^◌, ◌+◌, [], IsSome, true, false, length};
+ghost use Rattle.pagable_world.specs.{Plain.one, World.Core, Calls.CloneCall};
+ghost use Rattle.pagable_tables.specs.{ByNumber.counts_at, Falling.{is_valued, has_value, IsFalling, ValueStays, owns_nothing}, Onward.with_tables, Core.{plain_of, IsWhole, MayHold, Suits, Makes}};
+ghost use Rattle.pagable_tables.specs.Doing.{Does};
 
 use crate::holdings::{Holdings, pins};
 use crate::rows::{Counts, Place};
@@ -86,10 +86,8 @@ pub fn make(
     requires whole { IsWhole t.old }
     requires suits { Suits (plain_of t.old) node mode }
     requires holder { MayHold (plain_of t.old) owner }
-    ensures made { (stored : ℕ → Option Blob) (closed : Bool) (failures : ℕ) → Makes (core_of t.old stored closed failures) node mode owner result (core_of t.new stored closed failures) }
+    ensures does { Does t.old (λ w w'. Makes w node mode owner result w') t.new }
     ensures values { (n : ℕ) → (n ≡ node.0 → has_value (counts_at t.old.holdings.nodes n) ≡ true) → ValueStays (counts_at t.old.holdings.nodes n) (counts_at t.new.holdings.nodes n) }
-    ensures whole { IsWhole t.new }
-    ensures later { AreLater t.old → AreLater t.new }
     ensures same { t.new ≡ record t.old { holdings = t.new.holdings } }
 {
     come(&mut t.holdings, node, mode, owner)
@@ -99,9 +97,7 @@ pub fn make(
 pub fn clone(t: &mut Tables, me: Owner, handle: HandleNumber) -> Result<HandleNumber, Error>
     requires whole { IsWhole t.old }
     requires holder { MayHold (plain_of t.old) me }
-    ensures cloned { (stored : ℕ → Option Blob) (closed : Bool) (failures : ℕ) → CloneCall (core_of t.old stored closed failures) me handle result (core_of t.new stored closed failures) }
-    ensures whole { IsWhole t.new }
-    ensures later { AreLater t.old → AreLater t.new }
+    ensures { Does t.old (λ w w'. CloneCall w me handle result w') t.new }
 {
     let Some(at) = handles::look(&t.holdings.handles, handle) else {
         return Err(Error::NoSuchHandle);

@@ -1,8 +1,8 @@
 //! Pins of loose handles.
 
-ghost use Rattle.std.specs.Prelude.{◌≡◌, ℕ, Bool, Option};
-ghost use Rattle.pagable_world.specs.{Plain.Blob, Kinds.is_loose, Refusals.Owns, Calls.PinCall};
-ghost use Rattle.pagable_tables.specs.{Owning.PinsHere, Core.{core_of, plain_of, IsWhole, MayHold}, Later.AreLater};
+ghost use Rattle.std.specs.Prelude.{◌≡◌};
+ghost use Rattle.pagable_world.specs.{Kinds.is_loose, Refusals.Owns, Calls.PinCall};
+ghost use Rattle.pagable_tables.specs.{Owning.PinsHere, Core.{plain_of, IsWhole, MayHold}, Doing.Does};
 
 use crate::kinds::is_loose;
 use crate::lookups::{is_here, key_in};
@@ -19,8 +19,7 @@ pub fn pin_here(t: &mut Tables, me: Owner, row: HandleRow) -> Result<HandleNumbe
     requires whole { IsWhole t.old }
     requires holder { MayHold (plain_of t.old) me }
     requires owns { Owns (plain_of t.old) me row.number is_loose row }
-    ensures pinned { (stored : ℕ → Option Blob) (closed : Bool) (failures : ℕ) → PinsHere (core_of t.old stored closed failures) me row result (core_of t.new stored closed failures) }
-    ensures whole { IsWhole t.new }
+    ensures does { Does t.old (λ w w'. PinsHere w me row result w') t.new }
     ensures same { t.new ≡ record t.old { holdings = t.new.holdings } }
 {
     let handle = match make(t, row.node, Mode::Pinned, me) {
@@ -38,9 +37,7 @@ pub fn pin_here(t: &mut Tables, me: Owner, row: HandleRow) -> Result<HandleNumbe
 pub fn pin(t: &mut Tables, me: Owner, handle: HandleNumber) -> Result<Pinning, Error>
     requires whole { IsWhole t.old }
     requires holder { MayHold (plain_of t.old) me }
-    ensures pinned { (stored : ℕ → Option Blob) (closed : Bool) (failures : ℕ) → PinCall (core_of t.old stored closed failures) me handle result (core_of t.new stored closed failures) }
-    ensures whole { IsWhole t.new }
-    ensures later { AreLater t.old → AreLater t.new }
+    ensures { Does t.old (λ w w'. PinCall w me handle result w') t.new }
 {
     let at = match own(t, me, handle) {
         Ok(at) => at,

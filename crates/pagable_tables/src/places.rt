@@ -2,7 +2,7 @@
 
 ghost use Rattle.std.specs.Prelude.{◌≡◌, ℕ, ◌≤◌, Bool, Option, vec_capacity};
 ghost use Rattle.pagable_world.specs.{Plain.Blob, World.Alike, Calls.{ReserveCall, ClearCall, room_of}};
-ghost use Rattle.pagable_tables.specs.{Core.{core_of, IsWhole}, Later.AreLater};
+ghost use Rattle.pagable_tables.specs.{Core.{core_of, IsWhole}, Doing.Does};
 
 use crate::tables::Tables;
 use crate::{cache, handles};
@@ -28,10 +28,7 @@ fn grow_list(list: &mut Vec<HandleNumber>, more: usize)
 /// Room for so many more handles and entries, or as much as can be had.
 fn grow(t: &mut Tables, more: usize)
     requires { IsWhole t.old }
-    ensures grown { (stored : ℕ → Option Blob) (closed : Bool) (failures : ℕ) → Alike (core_of t.old stored closed failures) (core_of t.new stored closed failures) }
-    ensures whole { IsWhole t.new }
-    ensures loads { t.new.loads ≡ t.old.loads }
-    ensures workers { t.new.workers ≡ t.old.workers }
+    ensures { Does t.old Alike t.new }
 {
     let _ = handles::reserve(&mut t.holdings.handles, more);
     grow_list(&mut t.holdings.list, more);
@@ -40,9 +37,7 @@ fn grow(t: &mut Tables, more: usize)
 /// Makes places ready for so many more handles and entries, if it can.
 pub fn reserve(t: &mut Tables, more: usize) -> Result<(), Error>
     requires { IsWhole t.old }
-    ensures reserved { (stored : ℕ → Option Blob) (closed : Bool) (failures : ℕ) → ReserveCall (core_of t.old stored closed failures) more result (core_of t.new stored closed failures) }
-    ensures whole { IsWhole t.new }
-    ensures later { AreLater t.old → AreLater t.new }
+    ensures { Does t.old (λ w w'. ReserveCall w more result w') t.new }
 {
     grow(t, more);
     if room(t) < more {
@@ -54,9 +49,7 @@ pub fn reserve(t: &mut Tables, more: usize) -> Result<(), Error>
 /// The cache forgets all.
 pub fn cache_clear(t: &mut Tables) -> Result<(), Error>
     requires { IsWhole t.old }
-    ensures cleared { (stored : ℕ → Option Blob) (closed : Bool) (failures : ℕ) → ClearCall (core_of t.old stored closed failures) result (core_of t.new stored closed failures) }
-    ensures whole { IsWhole t.new }
-    ensures later { AreLater t.old → AreLater t.new }
+    ensures { Does t.old (λ w w'. ClearCall w result w') t.new }
 {
     cache::forget(&mut t.cache);
     Ok(())

@@ -1,9 +1,8 @@
 //! Handles that are given up.
 
-ghost use Rattle.std.specs.Prelude.{◌≡◌, ℕ, ◌≤◌, [], length, Bool, Option, None, not, false, slice_get, Some, nat_eq};
-ghost use Rattle.pagable_world.specs.{Plain.Blob, Kinds.is_owner, World.Core, Calls.ReleaseCall, Cascade.{Falls, nobody, only_handle}};
-ghost use Rattle.pagable_tables.specs.{Live.{live, alive}, ByNumber.counts_at, Falling.{IsFalling, is_valued, owns_nothing, Sheds}, Onward.{with_tables, SoFar}, Core.{core_of, IsWhole}};
-ghost use Rattle.pagable_tables.specs.Later.{AreLater};
+ghost use Rattle.std.specs.Prelude.{◌≡◌, ◌≤◌, [], length, None, false, slice_get, Some, nat_eq};
+ghost use Rattle.pagable_world.specs.{Kinds.is_owner, World.Core, Calls.ReleaseCall, Cascade.{Falls, nobody, only_handle}};
+ghost use Rattle.pagable_tables.specs.{Live.{live, alive}, ByNumber.counts_at, Falling.{IsFalling, is_valued, owns_nothing, Sheds}, Onward.{with_tables, SoFar}, Core.IsWhole, Doing.DoesShed};
 ghost use Rattle.indexmap.specs.IndexMap.{get};
 ghost use Rattle.pagable_world.specs.declared.handles.Owner.TheVariants as owners;
 
@@ -49,11 +48,7 @@ pub fn release<N: Drop>(
     requires whole { IsWhole t.old }
     requires plain { is_valued me ≡ false }
     requires free { is_owner owners.List me ≡ false }
-    ensures released { (stored : ℕ → Option Blob) (closed : Bool) (failures : ℕ) → lists ≡ not closed
-        → ReleaseCall (core_of t.old stored closed failures) me handle result (core_of t.new stored closed failures) }
-    ensures whole { IsWhole t.new }
-    ensures later { AreLater t.old → AreLater t.new }
-    ensures sheds { Sheds (counts_at t.old.holdings.nodes) (get nat_eq values.old) (counts_at t.new.holdings.nodes) (get nat_eq values.new) }
+    ensures { DoesShed lists t.old values.old (λ w w'. ReleaseCall w me handle result w') t.new values.new }
 {
     let at = match own(t, me, handle) {
         Ok(at) => at,

@@ -3,7 +3,7 @@
 ghost use Rattle.std.specs.Prelude.{◌≡◌, ℕ, ◌<◌, ◌^◌, ◌+◌, Bool, Option, not, slice_get, Some, IfOk, IfErr, true, false};
 ghost use Rattle.pagable_world.specs.{declared.rows.Mode.Mode, Plain.{Blob, one}, Kinds.{is_owner, is_owned_by, is_pinned, is_shared, find_row}, World.Alike, Refusals.handle_fault, Calls.LoosenCall};
 ghost use Rattle.pagable_world.specs.Calls.{with_mode};
-ghost use Rattle.pagable_tables.specs.{Live.{live, alive}, Core.{core_of, IsWhole}, Later.AreLater};
+ghost use Rattle.pagable_tables.specs.{Live.{live, alive}, Core.{core_of, IsWhole}, Doing.Does};
 ghost use Rattle.pagable_world.specs.declared.rows.Mode.TheVariants as modes;
 ghost use Rattle.pagable_world.specs.declared.handles.Owner.TheVariants as owners;
 
@@ -77,8 +77,7 @@ pub fn turn(t: &mut Tables, at: HandleAt)
     requires place { slice_get t.old.holdings.handles.places.items at.place ≡ Some (alive at.row) }
     requires unshared { is_shared at.row.mode ≡ false }
     requires unlisted { is_owned_by owners.List at.row ≡ false }
-    ensures turned { (stored : ℕ → Option Blob) (closed : Bool) (failures : ℕ) → Alike (with_mode (core_of t.old stored closed failures) at.row.number modes.LoosePinned) (core_of t.new stored closed failures) }
-    ensures whole { IsWhole t.new }
+    ensures does { Does t.old (λ w w'. Alike (with_mode w at.row.number modes.LoosePinned) w') t.new }
     ensures same { t.new ≡ record t.old { holdings = t.new.holdings } }
 {
     let Some(counts) = nodes::counts_of(&t.holdings.nodes, at.row.node.0) else {
@@ -97,9 +96,7 @@ pub fn turn(t: &mut Tables, at: HandleAt)
 /// A Pinned handle becomes a loose pinned one, under its own number.
 pub fn into_pagable(t: &mut Tables, me: Owner, handle: HandleNumber) -> Result<HandleNumber, Error>
     requires { IsWhole t.old }
-    ensures loosened { (stored : ℕ → Option Blob) (closed : Bool) (failures : ℕ) → LoosenCall (core_of t.old stored closed failures) me handle result (core_of t.new stored closed failures) }
-    ensures whole { IsWhole t.new }
-    ensures later { AreLater t.old → AreLater t.new }
+    ensures { Does t.old (λ w w'. LoosenCall w me handle result w') t.new }
 {
     let at = match own(t, me, handle) {
         Ok(at) => at,

@@ -1,9 +1,8 @@
 //! Loose handles that let their pins go.
 
-ghost use Rattle.std.specs.Prelude.{◌≡◌, ℕ, [], Bool, false, not, Option, slice_get, Some, nat_eq};
-ghost use Rattle.pagable_world.specs.{Plain.Blob, Calls.{UnpinCall, with_mode}, Cascade.{Falls, nobody}};
-ghost use Rattle.pagable_tables.specs.{Core.{core_of, IsWhole}, Live.alive, ByNumber.counts_at, Falling.{IsFalling, is_valued, owns_nothing, Sheds}, Lowering.Lowers, Later.AreLater};
-ghost use Rattle.indexmap.specs.IndexMap.{get};
+ghost use Rattle.std.specs.Prelude.{◌≡◌, [], false, slice_get, Some};
+ghost use Rattle.pagable_world.specs.Calls.{UnpinCall};
+ghost use Rattle.pagable_tables.specs.{Core.IsWhole, Live.alive, Falling.{IsFalling, is_valued, owns_nothing}, Lowering.Lowers, Doing.DoesShed};
 ghost use Rattle.pagable_world.specs.declared.rows.Mode.TheVariants as modes;
 
 use crate::cascade::fall;
@@ -59,11 +58,7 @@ pub fn unpin<N: Drop>(
 ) -> Result<(), Error>
     requires whole { IsWhole t.old }
     requires plain { is_valued me ≡ false }
-    ensures unpinned { (stored : ℕ → Option Blob) (closed : Bool) (failures : ℕ) → lists ≡ not closed
-        → UnpinCall (core_of t.old stored closed failures) me handle result (core_of t.new stored closed failures) }
-    ensures whole { IsWhole t.new }
-    ensures later { AreLater t.old → AreLater t.new }
-    ensures sheds { Sheds (counts_at t.old.holdings.nodes) (get nat_eq values.old) (counts_at t.new.holdings.nodes) (get nat_eq values.new) }
+    ensures { DoesShed lists t.old values.old (λ w w'. UnpinCall w me handle result w') t.new values.new }
 {
     let at = match own(t, me, handle) {
         Ok(at) => at,

@@ -1,9 +1,8 @@
 //! Page-out workers: they begin, give up what they have at a node, and end.
 
-ghost use Rattle.std.specs.Prelude.{◌≡◌, ◌==◌, ◌<◌, ◌+◌, ℕ, length, Bool, Option, IfOk, is_some, not, nat_eq, true, false};
-ghost use Rattle.pagable_world.specs.{Plain.{Blob, updated}, Kinds.{is_owner, owner_worker}, Cascade.FallsAnyhow, Workers.{WorkerEnds, is_workers_at}};
-ghost use Rattle.indexmap.specs.IndexMap.{get};
-ghost use Rattle.pagable_tables.specs.{ByNumber.{counts_at, load_at, reach_at, worker_at}, Falling.Sheds, Core.{core_of, IsWhole}, Giving.{BeginsWorker, TakesWorker, LeavesOthers}, Later.AreLater};
+ghost use Rattle.std.specs.Prelude.{◌≡◌, ◌<◌, ◌+◌, ℕ, length, IfOk, is_some, not, true};
+ghost use Rattle.pagable_world.specs.{Plain.updated, Kinds.{is_owner, owner_worker}, Cascade.FallsAnyhow, Workers.{WorkerEnds, is_workers_at}};
+ghost use Rattle.pagable_tables.specs.{ByNumber.{load_at, reach_at, worker_at}, Core.IsWhole, Giving.{BeginsWorker, TakesWorker, LeavesOthers}, Later.AreLater, Doing.{DoesShed, Does}};
 
 use crate::giving::{Giving, give_all};
 use crate::listing::take_pending;
@@ -19,12 +18,10 @@ use std::sync::Arc;
 /// One worker more is at work. OutOfMemory where it has no place, or no number is left for it.
 pub fn worker_begin(t: &mut Tables) -> Result<WorkerNumber, Error>
     requires { IsWhole t.old }
-    ensures begun { (stored : ℕ → Option Blob) (closed : Bool) (failures : ℕ) → BeginsWorker (core_of t.old stored closed failures) result (core_of t.new stored closed failures) }
+    ensures does { Does t.old (λ w w'. BeginsWorker w result w') t.new }
     ensures number { IfOk result (λ v. (v.0 ≡ t.old.last_worker + 1) × (t.new.last_worker ≡ t.old.last_worker + 1)) }
     ensures more { IfOk result (λ v. (q : ℕ) → is_some (worker_at t.new.workers q) ≡ updated (t.old.last_worker + 1) true (λ u. is_some (worker_at t.old.workers u)) q) }
     ensures same { t.new ≡ record t.old { workers = t.new.workers; last_worker = t.new.last_worker } }
-    ensures whole { IsWhole t.new }
-    ensures later { AreLater t.old → AreLater t.new }
 {
     if t.last_worker == u64::MAX {
         return Err(Error::OutOfMemory);
@@ -45,9 +42,7 @@ pub fn worker_begin(t: &mut Tables) -> Result<WorkerNumber, Error>
 pub fn worker_take(t: &mut Tables, place: usize) -> Result<WorkerNumber, Error>
     requires whole { IsWhole t.old }
     requires within { place < length t.old.holdings.list.items }
-    ensures taken { (stored : ℕ → Option Blob) (closed : Bool) (failures : ℕ) → TakesWorker (core_of t.old stored closed failures) place result (core_of t.new stored closed failures) }
-    ensures whole { IsWhole t.new }
-    ensures later { AreLater t.old → AreLater t.new }
+    ensures { Does t.old (λ w w'. TakesWorker w place result w') t.new }
 {
     let worker = match worker_begin(t) {
         Ok(worker) => worker,
@@ -80,11 +75,7 @@ pub fn release_node<N: Drop>(
 )
     requires whole { IsWhole t.old }
     requires later { AreLater t.old }
-    ensures released { (stored : ℕ → Option Blob) (closed : Bool) (failures : ℕ) → lists ≡ not closed
-        → FallsAnyhow (core_of t.old stored closed failures) (core_of t.old stored closed failures) (is_workers_at (core_of t.old stored closed failures) worker.0 node.0) (core_of t.new stored closed failures) }
-    ensures whole { IsWhole t.new }
-    ensures later { AreLater t.new }
-    ensures sheds { Sheds (counts_at t.old.holdings.nodes) (get nat_eq values.old) (counts_at t.new.holdings.nodes) (get nat_eq values.new) }
+    ensures { DoesShed lists t.old values.old (λ w w'. FallsAnyhow w w (is_workers_at w worker.0 node.0) w') t.new values.new }
 {
     let giving = Giving::AtNode(worker, node);
     let reach = reach_of(&t.workers, worker);
@@ -112,10 +103,7 @@ pub fn worker_end<N: Drop>(
 )
     requires whole { IsWhole t.old }
     requires later { AreLater t.old }
-    ensures ended { (stored : ℕ → Option Blob) (closed : Bool) (failures : ℕ) → lists ≡ not closed → WorkerEnds (core_of t.old stored closed failures) worker.0 (core_of t.new stored closed failures) }
-    ensures whole { IsWhole t.new }
-    ensures later { AreLater t.new }
-    ensures sheds { Sheds (counts_at t.old.holdings.nodes) (get nat_eq values.old) (counts_at t.new.holdings.nodes) (get nat_eq values.new) }
+    ensures { DoesShed lists t.old values.old (λ w w'. WorkerEnds w worker.0 w') t.new values.new }
 {
     let giving = Giving::Worker(worker);
     let reach = reach_of(&t.workers, worker);

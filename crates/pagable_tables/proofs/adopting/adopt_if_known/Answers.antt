@@ -30,13 +30,13 @@ returns-in-Ok-clause-known g c stored closed failures e =
     let t1 = c.make.new.t in
     let u = with_handle w node mode owner in
     let good = sym (c.adopt_fault.ensures stored closed failures) ∙ c.in_default.is in
-    let m = (c.in-Ok.ensures.made stored closed failures).made in
+    let m = (c.in-Ok.ensures.does.does stored closed failures).made in
     let a : Alike u (core_of t1 stored closed failures) = subst (λ (mode : Mode). Alike (with_handle w node mode owner) (core_of t1 stored closed failures)) c.mode_of.ensures m.1 in
-    let some = c.give_named.ensures.falls u u (begun-made t t1 stored closed failures node mode owner c.in-Ok.ensures.whole a c.args.lists e) (let b = ap length a.rows in omega arith)
+    let some = c.give_named.ensures.falls u u (begun-made t t1 stored closed failures node mode owner c.in-Ok.ensures.does.whole a c.args.lists e) (let b = ap length a.rows in omega arith)
     (λ q named. loaded-append l q w.rows _ (named-loaded w l rs (fitting w c.args.me l kind c.args.key c.args.node_type rs good) q named)) in
     let kept = not-named (plain_of t) l rs c.requires.whole.core.handles
     (fitting (plain_of t) c.args.me l kind c.args.key c.args.node_type rs (sym (c.adopt_fault.ensures (λ key. None) false 0) ∙ c.in_default.is)) (t.holdings.last_handle + 1) (omega arith) in
-    let falls = swapped w node mode owner (subst (AllPairs IsHandleBefore) a.rows c.in-Ok.ensures.whole.core.handles.ordered) refl some.falls kept in
+    let falls = swapped w node mode owner (subst (AllPairs IsHandleBefore) a.rows c.in-Ok.ensures.does.whole.core.handles.ordered) refl some.falls kept in
     let anew : Falls w u (is_named_by rs) some.told (core_of (record t1 { holdings = c.give_named.new.t }) stored closed failures) =
     subst (λ (z : Tables). Falls w u (is_named_by rs) some.told (core_of (record z { holdings = c.give_named.new.t }) stored closed failures)) (sym c.in-Ok.ensures.same) falls in
     adopts-known w c.args.me l kind c.args.key c.args.node_type rs good node c.in-Ok.handle (sym (c.in-Some-usable_of.ensures stored closed failures)) m.0 (record { told = some.told; falls = anew })
@@ -54,7 +54,7 @@ returns-in-Ok-clause-later g c =
 pub returns-in-Err-clause-refused : goal.returns-in-Err-clause-refused
 returns-in-Err-clause-refused g c stored closed failures =
     refused-known (core_of c.args.t.now stored closed failures) c.args.me c.args.load c.args.kind c.args.key c.args.node_type c.args.references.now (sym (c.adopt_fault.ensures stored closed failures) ∙ c.in_default.is)
-    c.in-Some-usable_of.node.0 (sym (c.in-Some-usable_of.ensures stored closed failures)) (c.in-Err.ensures.made stored closed failures).refused
+    c.in-Some-usable_of.node.0 (sym (c.in-Some-usable_of.ensures stored closed failures)) (c.in-Err.ensures.does.does stored closed failures).refused
 
 pub returns-in-Ok-clause-sheds : goal.returns-in-Ok-clause-sheds
 returns-in-Ok-clause-sheds g c =
@@ -66,4 +66,4 @@ pub returns-in-Err-clause-sheds : goal.returns-in-Err-clause-sheds
 returns-in-Err-clause-sheds g c =
     let valued = c.requires.valued c.in-Some-usable_of.node.0 (sym (c.in-Some-usable_of.ensures (λ key. None) false 0))
     (eager (plain_of c.args.t.now) c.args.me c.args.load c.args.kind c.args.key c.args.node_type c.args.references.now (sym (c.adopt_fault.ensures (λ key. None) false 0) ∙ c.in_default.is)) in
-    stays-first (λ n. c.in-Err.ensures.values n (λ eq. ap (λ k. has_value (counts_at c.args.t.now.holdings.nodes k)) eq ∙ valued)) (sheds-still c.make.new.t.holdings _ c.in-Err.ensures.whole.steady)
+    stays-first (λ n. c.in-Err.ensures.values n (λ eq. ap (λ k. has_value (counts_at c.args.t.now.holdings.nodes k)) eq ∙ valued)) (sheds-still c.make.new.t.holdings _ c.in-Err.ensures.does.whole.steady)

@@ -1,7 +1,7 @@
 use Rattle.pagable_tables.proofs.Words.{◌≡◌, ℕ, ◌&&◌, false, not, length, arith, ap, sym, ◌∙◌, subst, Some, None, Error, Owner, is_in, if_there, is_owner, OpenLoad, Falls, refused_if, is_owned_in}
-use Rattle.pagable_tables.proofs.{Words.{refl, numbers_of, is_owned_by, [], load_at, core_of, plain_of, load_in, with_tables, Holdings, option_map}, Taken.{moved-less, begun-moved, owned-moved, no-load, may-hand}}
-use Rattle.pagable_tables.proofs.{Taken.{named-there, still-listed, yours, MayHand, load-closed, owned-given, loads-anew}, Bits.and-left, keeps.Comes.not-a-value, keeps.LoadCalls.may-hold, Begun.not-closed}
-use Rattle.pagable_tables.proofs.{keeps.EndCalls.hand-over-whole, keeps.Placed.whole-so, Newer.{newer-falls, later-handed, closed-still}, keeps.EndCalls.handed-mine, Opened.owner-self}
+use Rattle.pagable_tables.proofs.{Words.{refl, numbers_of, is_owned_by, [], load_at, core_of, plain_of, load_in, with_tables, Holdings, Sheds, counts_at, get, nat_eq, option_map}, Taken.{moved-less, begun-moved, owned-moved, no-load, may-hand}}
+use Rattle.pagable_tables.proofs.{Taken.{named-there, still-listed, yours, MayHand, load-closed, owned-given, loads-anew}, Bits.and-left, keeps.Comes.not-a-value, keeps.LoadCalls.may-hold, Doing.sheds-by}
+use Rattle.pagable_tables.proofs.{keeps.EndCalls.hand-over-whole, Newer.{newer-falls, later-handed, closed-still}, keeps.EndCalls.handed-mine, Opened.owner-self}
 use Rattle.pagable_tables.proofs.ending.load_take.Goals as goal
 
 pub unreachable-requires : goal.unreachable-requires
@@ -23,24 +23,25 @@ hand_each-requires-clause-there g c =
     let can : MayHand w c.args.me c.args.load c.args.named.now = may-hand c.requires.whole.core c.args.me c.args.load c.args.named.now (sym (c.hand_over_fault.ensures (λ key. None) false 0) ∙ c.in_default.is) in
     named-there w c.args.load c.args.named.now can.named
 
-pub returns-clause-taken : goal.returns-clause-taken
-returns-clause-taken g c stored closed failures e =
+pub returns : goal.returns
+returns g c =
     let t = c.args.t.now in
     let me = c.args.me in
     let l = c.args.load in
     let hs = c.args.named.now in
     let s = is_in (numbers_of hs) in
     let p = plain_of t in
+    let can : MayHand p me l hs = may-hand c.requires.whole.core me l hs (sym (c.hand_over_fault.ensures (λ key. None) false 0) ∙ c.in_default.is) in
+    let row : load_at t.loads l.0 ≡ Some c.in-Some-load_of.row = sym c.load_of.ensures ∙ c.in-Some-load_of.is in
+    sheds-by
+    (λ stored closed failures e.
     let w = core_of t stored closed failures in
     let w' = core_of (record t { holdings = c.give_up_load.new.t; loads = c.close.new.rows }) stored closed failures in
     let u = moved-less w l s me in
-    let h = c.hand_each.new.t in
-    let can : MayHand p me l hs = may-hand c.requires.whole.core me l hs (sym (c.hand_over_fault.ensures (λ key. None) false 0) ∙ c.in_default.is) in
     let left : (q : ℕ) → is_owned_in u (Owner.Load l) q ≡ (is_owned_in w (Owner.Load l) q && not (s q)) = λ q. owned-moved s me (Owner.Load l) q w.rows (no-load p me l can.may) in
-    let so-far = begun-moved t h l s me stored closed c.args.lists failures c.requires.whole e c.hand_each.ensures.same c.hand_each.ensures.rows
+    let so-far = begun-moved t c.hand_each.new.t l s me stored closed c.args.lists failures c.requires.whole e c.hand_each.ensures.same c.hand_each.ensures.rows
     (record { handles = (let a = c.hand_each.ensures.capacity in omega arith); entries = (let a = ap (λ (k : Holdings). (with_tables w k).places.entries) c.hand_each.ensures.same in omega arith) })
     (still-listed c.requires.whole.core me l hs can) in
-    let row : load_at t.loads l.0 ≡ Some c.in-Some-load_of.row = sym c.load_of.ensures ∙ c.in-Some-load_of.is in
     let falls = c.give_up_load.ensures.falls w u so-far (let a = ap length c.hand_each.ensures.rows in omega arith)
     (λ q own. let mine = and-left (is_owned_in w (Owner.Load l) q) (not (s q)) (sym (left q) ∙ own) in let g = owned-given p (Owner.Load l) q c.requires.whole.core.handles mine in
     (c.requires.later.since l.0 c.in-Some-load_of.row q row mine, omega arith)) in
@@ -55,20 +56,9 @@ returns-clause-taken g c stored closed failures e =
         },
       );
       refused = tt;
-    }
-
-pub returns-clause-whole : goal.returns-clause-whole
-returns-clause-whole g c = whole-so c.give_up_load.ensures.steady (hand-over-whole c.args.me c.args.load c.args.named.now _ c.requires.whole.core (returns-clause-taken g c (λ key. None) (not c.args.lists) 0 (not-closed c.args.lists)))
-
-pub returns-clause-later : goal.returns-clause-later
-returns-clause-later g c =
-    let t = c.args.t.now in
-    let p = plain_of t in
-    let l = c.args.load in
-    let o : Owner = Owner.Load l in
-    let can : MayHand p c.args.me l c.args.named.now = may-hand c.requires.whole.core c.args.me l c.args.named.now (sym (c.hand_over_fault.ensures (λ key. None) false 0) ∙ c.in_default.is) in
-    let row : load_at t.loads l.0 ≡ Some c.in-Some-load_of.row = sym c.load_of.ensures ∙ c.in-Some-load_of.is in
-    let falls = (returns-clause-taken g c (λ key. None) (not c.args.lists) 0 (not-closed c.args.lists)).hands.1.falls in
-    later-handed t c.requires.later (is_in (numbers_of c.args.named.now)) c.args.me (λ m. no-load p c.args.me m can.may) _ refl l c.in-Some-load_of.row row (yours (load_at t.loads l.0) c.args.me _ row can.own)
-    (λ q is. let m = handed-mine p o [] c.args.named.now can.named q is in ap (if_there (is_owned_by o) false) m.live ∙ ap (is_owner o) m.own ∙ owner-self o) (newer-falls falls)
-    (closed-still (load_at t.loads) (load_at c.close.new.rows) l.0 c.close.ensures.gone c.close.ensures.others) refl
+    })
+    c.give_up_load.ensures.steady (hand-over-whole me l hs _ c.requires.whole.core)
+    (λ hands later. later-handed t later s me (λ m. no-load p me m can.may) _ refl l c.in-Some-load_of.row row (yours (load_at t.loads l.0) me _ row can.own)
+    (λ q is. let o : Owner = Owner.Load l in let m = handed-mine p o [] hs can.named q is in ap (if_there (is_owned_by o) false) m.live ∙ ap (is_owner o) m.own ∙ owner-self o) (newer-falls hands.hands.1.falls)
+    (closed-still (load_at t.loads) (load_at c.close.new.rows) l.0 c.close.ensures.gone c.close.ensures.others) refl)
+    (subst (λ (h : Holdings). Sheds (counts_at h.nodes) (get nat_eq c.args.values.now) (counts_at c.give_up_load.new.t.nodes) (get nat_eq c.give_up_load.new.values)) c.hand_each.ensures.same c.give_up_load.ensures.sheds)

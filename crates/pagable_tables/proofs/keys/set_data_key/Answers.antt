@@ -1,18 +1,19 @@
-use Rattle.pagable_tables.proofs.{Words.{not, None, refl, sym, ◌∙◌, arith, inl, inr, any_mode, nat_tests, subst, GetsKey, counts_at, nobody, core_of}, Alive.row-le-live, Begun.not-closed}
-use Rattle.pagable_tables.proofs.{Ended.stays-first, KeyPut.keyed-on}
-use Rattle.pagable_tables.proofs.{Coming.some-held, Fitting.held-here, Worlds.{still, owner-same}, keeps.ListCalls.set-key-whole, keeps.Placed.whole-so, Newer.{set-key-newer, later-on}}
+use Rattle.pagable_tables.proofs.{Words.{refl, sym, ◌∙◌, arith, inl, inr, any_mode, nat_tests, subst, GetsKey, counts_at, nobody, core_of}, Alive.row-le-live, Doing.{nothing-shed, sheds-so}}
+use Rattle.pagable_tables.proofs.{Ended.stays-first, KeyPut.keyed-on, Coming.some-held, Fitting.held-here, Worlds.{still, owner-same}, keeps.ListCalls.set-key-whole, Newer.set-key-newer}
 use Rattle.pagable_tables.proofs.keys.set_data_key.Goals as goal
 
 pub put_key-requires-clause-live : goal.put_key-requires-clause-live
 put_key-requires-clause-live g c = grind (arith, nat_tests, row-le-live, held-here, some-held, c.in-Ok.ensures.place, c.requires.whole.steady.fits.holding)
 
-pub returns-in-Err-clause-set : goal.returns-in-Err-clause-set
-returns-in-Err-clause-set g c stored closed failures e = record { does = inl (record { e = c.in-Err.e; why = c.in-Err.ensures.fault stored closed failures any_mode; told = refl; stays = still _ }) }
+pub returns-in-Err : goal.returns-in-Err
+returns-in-Err g c =
+    nothing-shed c.requires.whole (λ stored closed failures e. record { does = inl (record { e = c.in-Err.e; why = c.in-Err.ensures.fault stored closed failures any_mode; told = refl; stays = still _ }) })
 
-pub returns-clause-set : goal.returns-clause-set
-returns-clause-set g c stored closed failures e =
+pub returns : goal.returns
+returns g c =
     let row = c.in-Ok.at.row in
-    record {
+    sheds-so
+    (λ stored closed failures e. record {
       does = inr (
         row,
         record { live = c.in-Ok.ensures.found; own = owner-same c.args.me row.owner c.in-Ok.ensures.owner; as_asked = refl },
@@ -23,15 +24,6 @@ returns-clause-set g c stored closed failures e =
               (subst (GetsKey (counts_at c.args.t.now.holdings.nodes) (counts_at c.put_key.new.t.nodes) row.node.0) c.get.ensures.value c.put_key.ensures.cells)),
         ),
       );
-    }
-
-pub returns-clause-whole : goal.returns-clause-whole
-returns-clause-whole g c = whole-so c.fall.ensures.steady (set-key-whole c.args.me c.args.handle c.args.key c.fall.result c.requires.whole.core
-    (returns-clause-set g c (λ key. None) (not c.args.lists) 0 (not-closed c.args.lists)))
-
-pub returns-clause-later : goal.returns-clause-later
-returns-clause-later g c later =
-    later-on later (set-key-newer c.args.me c.args.handle c.args.key c.fall.result (returns-clause-set g c (λ key. None) (not c.args.lists) 0 (not-closed c.args.lists))) refl refl
-
-pub returns-clause-sheds : goal.returns-clause-sheds
-returns-clause-sheds g c = stays-first c.put_key.ensures.values c.fall.ensures.sheds
+    })
+    c.fall.ensures.steady (set-key-whole c.args.me c.args.handle c.args.key c.fall.result c.requires.whole.core) (set-key-newer c.args.me c.args.handle c.args.key c.fall.result) refl refl
+    (stays-first c.put_key.ensures.values c.fall.ensures.sheds)

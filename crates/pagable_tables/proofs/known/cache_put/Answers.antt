@@ -14,7 +14,7 @@ returns-in-Ok-make-clause-offered c stored failures =
     let o = c.in-Ok.ensures.owns in
     let owns : Owns w c.args.me c.args.handle (fits_mode c.args.kind.0) c.in-Ok.row = record { live = o.live; own = o.own; as_asked = o.as_asked } in
     let is = sym (c.in-Some.ensures stored false failures) in
-    let call = recalls w c.args.me c.args.kind c.args.key c.in-Some.node c.mode_of.result _ is c.mode_of.ensures c.in-Ok-make.known (c.in-Ok-make.ensures.made stored false failures) in
+    let call = recalls w c.args.me c.args.kind c.args.key c.in-Some.node c.mode_of.result _ is c.mode_of.ensures c.in-Ok-make.known (c.in-Ok-make.ensures.does.does stored false failures) in
     record { answers = (c.in-Ok.row, owns, c.in-Ok.ensures.typed, call.answers); refused = tt }
 
 pub returns-in-Err-make-clause-offered : goal.returns-in-Err-make-clause-offered
@@ -23,7 +23,7 @@ returns-in-Err-make-clause-offered c stored failures =
     let o = c.in-Ok.ensures.owns in
     let owns : Owns w c.args.me c.args.handle (fits_mode c.args.kind.0) c.in-Ok.row = record { live = o.live; own = o.own; as_asked = o.as_asked } in
     let is = sym (c.in-Some.ensures stored false failures) in
-    let call = not-recalled w c.args.me c.args.kind c.args.key c.in-Some.node c.mode_of.result _ is c.mode_of.ensures c.in-Err-make.e (c.in-Err-make.ensures.made stored false failures) in
+    let call = not-recalled w c.args.me c.args.kind c.args.key c.in-Some.node c.mode_of.result _ is c.mode_of.ensures c.in-Err-make.e (c.in-Err-make.ensures.does.does stored false failures) in
     let cause : offer_fault w c.args.me c.args.kind c.args.key c.args.handle ≡ recall_fault w c.args.kind c.args.key = grind (arith, nat_tests, offer-last, c.in-Ok.ensures.typed) in
     record { answers = tt; refused = record { why = elim call.refused.why [ inl a ↦ inl (cause ∙ a) | inr b ↦ inr (b.0, cause ∙ b.1, (refl, inr b.2.1)) ]; stays = call.refused.stays } }
 

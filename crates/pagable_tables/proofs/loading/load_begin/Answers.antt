@@ -1,47 +1,49 @@
 use Rattle.pagable_tables.proofs.Words.{◌≡◌, arith, ap, sym, ◌∙◌, subst, None, Some, inl, inr, false, rules, not, OptionalDataKey, HandleRow, Owner, Mode, if_there, is_loose, is_in_memory, nat_tests}
 use Rattle.pagable_tables.proofs.{Words.{is_here, Cell, Alike, of_cell, Owns, is_handle_here, with_handle, with_load, live, counts_at, cell_in, key_in, core_of}, Alive.row-le-live, Fitting.held-here}
-use Rattle.pagable_tables.proofs.{Worlds.{still, owner-same}, Opened.{begin-first, no-fault, no-begin-fault, here-told}, keeps.LoadCalls.begin-whole, keeps.Placed.whole-so}
+use Rattle.pagable_tables.proofs.{Worlds.{still, owner-same}, Opened.{begin-first, no-fault, no-begin-fault, here-told}, Doing.{does-by, nothing-does}, keeps.LoadCalls.begin-whole}
 use Rattle.pagable_tables.proofs.loading.load_begin.Goals as goal
 
-pub returns-in-Err-clause-begun : goal.returns-in-Err-clause-begun
-returns-in-Err-clause-begun c stored closed failures =
+pub returns-in-Err : goal.returns-in-Err
+returns-in-Err c =
     let t = c.args.t.now in
+    nothing-does c.requires.whole
+    (λ stored closed failures.
     let w = core_of t stored closed failures in
-    record { begins = tt; refused = record { why = inl (begin-first w c.args.me c.args.handle is_loose c.in-Err.e (not (is_handle_here w c.args.handle)) t.last_load t.holdings.last_handle (c.in-Err.ensures.fault stored closed failures is_loose)); stays = still w } }
+    record { begins = tt; refused = record { why = inl (begin-first w c.args.me c.args.handle is_loose c.in-Err.e (not (is_handle_here w c.args.handle)) t.last_load t.holdings.last_handle (c.in-Err.ensures.fault stored closed failures is_loose)); stays = still w } })
 
 pub unreachable-requires : goal.unreachable-requires
 unreachable-requires c = grind (arith, nat_tests, row-le-live, held-here, c.requires.whole.steady.fits.holding, c.counts_of.ensures, c.in_default.is, c.in-Ok.ensures.place)
 
-pub returns-in-Ok-open_cell-clause-begun : goal.returns-in-Ok-open_cell-clause-begun
-returns-in-Ok-open_cell-clause-begun c stored closed failures =
+pub returns-in-Ok-open_cell : goal.returns-in-Ok-open_cell
+returns-in-Ok-open_cell c =
     let t = c.args.t.now in
-    let w = core_of t stored closed failures in
     let row = c.in-Ok.at.row in
     let y = c.in-Some.counts in
     let is : counts_at t.holdings.nodes row.node.0 ≡ Some y = sym c.counts_of.ensures ∙ c.in-Some.is in
-    let own : Owns w c.args.me c.args.handle is_loose row = record { live = c.in-Ok.ensures.found; own = owner-same c.args.me row.owner c.in-Ok.ensures.owner; as_asked = search rules } in
-    let told : is_here w row.node.0 ≡ is_in_memory y.pins (key_in y.key) = here-told (counts_at t.holdings.nodes) (live t.holdings.handles.places.items) row.node.0 y (c.requires.whole.steady.fits.pinned row.node.0) is in
     let key = ap (λ o. if_there (λ (cell : Cell). cell.key) OptionalDataKey.None (cell_in o)) is ∙ c.in-Some-key_away.ensures.key in
     let typed = ap (λ o. if_there (λ (cell : Cell). Some cell.node_type) None (cell_in o)) is in
+    does-by
+    (λ stored closed failures.
+    let w = core_of t stored closed failures in
+    let own : Owns w c.args.me c.args.handle is_loose row = record { live = c.in-Ok.ensures.found; own = owner-same c.args.me row.owner c.in-Ok.ensures.owner; as_asked = search rules } in
+    let told : is_here w row.node.0 ≡ is_in_memory y.pins (key_in y.key) = here-told (counts_at t.holdings.nodes) (live t.holdings.handles.places.items) row.node.0 y (c.requires.whole.steady.fits.pinned row.node.0) is in
     let opened = subst (λ q. Alike (with_load (with_handle w row.node Mode.LooseUnpinned (Owner.Load c.in-Ok-open_cell.load)) c.in-Some-key_away.key (of_cell row.node y.node_type q) c.args.me) (core_of c.open_cell.new.t stored closed failures))
     c.in-Ok.ensures.number (c.in-Ok-open_cell.ensures.opened stored closed failures) in
-    record { begins = (row, own, (told ∙ c.in-Some-key_away.ensures.away, key, c.in-Ok-open_cell.ensures.next stored closed failures, omega arith, (y.node_type, typed, opened))); refused = tt }
+    record { begins = (row, own, (told ∙ c.in-Some-key_away.ensures.away, key, c.in-Ok-open_cell.ensures.next stored closed failures, omega arith, (y.node_type, typed, opened))); refused = tt })
+    c.open_cell.ensures.steady (begin-whole c.args.me c.args.handle _ c.requires.whole.core c.requires.owner) (λ begins later. c.open_cell.ensures.later)
 
-pub returns-in-Err-open_cell-clause-begun : goal.returns-in-Err-open_cell-clause-begun
-returns-in-Err-open_cell-clause-begun c stored closed failures =
+pub returns-in-Err-open_cell : goal.returns-in-Err-open_cell
+returns-in-Err-open_cell c =
     let t = c.args.t.now in
-    let w = core_of t stored closed failures in
     let row = c.in-Ok.at.row in
     let y = c.in-Some.counts in
     let is : counts_at t.holdings.nodes row.node.0 ≡ Some y = sym c.counts_of.ensures ∙ c.in-Some.is in
+    does-by
+    (λ stored closed failures.
+    let w = core_of t stored closed failures in
     let told : is_here w row.node.0 ≡ is_in_memory y.pins (key_in y.key) = here-told (counts_at t.holdings.nodes) (live t.holdings.handles.places.items) row.node.0 y (c.requires.whole.steady.fits.pinned row.node.0) is in
     let away = ap (if_there (λ (r : HandleRow). is_here w r.node.0) false) c.in-Ok.ensures.found ∙ told ∙ c.in-Some-key_away.ensures.away in
     let none = no-fault w c.args.me c.args.handle is_loose row c.in-Ok.ensures.found c.in-Ok.ensures.owner (search rules) in
     let before = no-begin-fault w c.args.me c.args.handle (not (is_handle_here w c.args.handle)) none (search rules) (search rules) in
-    record { begins = tt; refused = record { why = inr (c.in-Err-open_cell.ensures.refused, before, away); stays = c.in-Err-open_cell.ensures.stays stored closed failures } }
-
-pub returns-in-Ok-open_cell-clause-whole : goal.returns-in-Ok-open_cell-clause-whole
-returns-in-Ok-open_cell-clause-whole c = whole-so c.open_cell.ensures.steady (begin-whole c.args.me c.args.handle _ c.requires.whole.core c.requires.owner (returns-in-Ok-open_cell-clause-begun c (λ key. None) false 0))
-
-pub returns-in-Err-open_cell-clause-whole : goal.returns-in-Err-open_cell-clause-whole
-returns-in-Err-open_cell-clause-whole c = whole-so c.open_cell.ensures.steady (begin-whole c.args.me c.args.handle _ c.requires.whole.core c.requires.owner (returns-in-Err-open_cell-clause-begun c (λ key. None) false 0))
+    record { begins = tt; refused = record { why = inr (c.in-Err-open_cell.ensures.refused, before, away); stays = c.in-Err-open_cell.ensures.stays stored closed failures } })
+    c.open_cell.ensures.steady (begin-whole c.args.me c.args.handle _ c.requires.whole.core c.requires.owner) (λ begins later. c.open_cell.ensures.later)

@@ -1,6 +1,4 @@
-use Rattle.pagable_tables.proofs.Words.{refl}
-use Rattle.pagable_tables.proofs.{Words.{arith, counts_at, core_of, plain_of}, Coming.some-held, Newer.{makes-newer, later-on}, keeps.Comes.suits-held, keeps.HandleCalls.makes-whole}
-use Rattle.pagable_tables.proofs.keeps.Placed.{whole-so}
+use Rattle.pagable_tables.proofs.{Words.{refl, arith, counts_at, core_of}, Coming.some-held, Doing.does-so, Newer.makes-newer, keeps.Comes.suits-held, keeps.HandleCalls.makes-whole}
 use Rattle.pagable_tables.proofs.making.make.Goals as goal
 
 pub come-requires-clause-live : goal.come-requires-clause-live
@@ -11,12 +9,7 @@ come-requires-clause-live c =
     let e = suits-held c.requires.whole.core c.args.node c.args.mode c.requires.suits in
     some-held (counts_at t.holdings.nodes n) (omega arith)
 
-pub returns-clause-made : goal.returns-clause-made
-returns-clause-made c stored closed failures = c.come.ensures.made (core_of c.args.t.now stored closed failures)
-
-pub returns-clause-whole : goal.returns-clause-whole
-returns-clause-whole c =
-    whole-so c.come.ensures.steady (makes-whole c.args.node c.args.mode c.args.owner c.come.result c.requires.whole.core c.requires.suits c.requires.holder (c.come.ensures.made (plain_of c.args.t.now)))
-
-pub returns-clause-later : goal.returns-clause-later
-returns-clause-later c later = later-on later (makes-newer c.args.node c.args.mode c.args.owner c.come.result (c.come.ensures.made (plain_of c.args.t.now))) refl refl
+pub returns-clause-does : goal.returns-clause-does
+returns-clause-does c =
+    does-so (λ stored closed failures. c.come.ensures.made (core_of c.args.t.now stored closed failures)) c.come.ensures.steady
+    (makes-whole c.args.node c.args.mode c.args.owner c.come.result c.requires.whole.core c.requires.suits c.requires.holder) (makes-newer c.args.node c.args.mode c.args.owner c.come.result) refl refl

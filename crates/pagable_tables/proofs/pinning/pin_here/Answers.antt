@@ -5,36 +5,41 @@ use Rattle.pagable_tables.proofs.pinning.pin_here.Goals as goal
 pub make-requires-clause-suits : goal.make-requires-clause-suits
 make-requires-clause-suits c = grind (arith, nat_tests, found-among, loose-unshared, c.requires.owns.live, c.requires.owns.as_asked)
 
-pub returns-in-Err-clause-pinned : goal.returns-in-Err-clause-pinned
-returns-in-Err-clause-pinned c stored closed failures = let m = c.in-Err.ensures.made stored closed failures in record { pinned = tt; refused = m.refused }
+pub returns-in-Err-clause-does : goal.returns-in-Err-clause-does
+returns-in-Err-clause-does c = let made = c.in-Err.ensures.does in record { does = λ stored closed failures. record { pinned = tt; refused = (made.does stored closed failures).refused }; whole = made.whole; later = made.later }
 
 pub unreachable-requires : goal.unreachable-requires
 unreachable-requires c =
-    let again = found-again c.args.row.number.0 _ _ _ c.args.row None c.requires.owns.live ((c.in-Ok.ensures.made (λ key. None) false 0).made.1.rows) c.in_default.ensures.none in
+    let again = found-again c.args.row.number.0 _ _ _ c.args.row None c.requires.owns.live ((c.in-Ok.ensures.does.does (λ key. None) false 0).made.1.rows) c.in_default.ensures.none in
     absurd (cc)
 
 pub turn-requires-clause-unshared : goal.turn-requires-clause-unshared
 turn-requires-clause-unshared c =
-    let again = found-again c.args.row.number.0 _ _ _ c.args.row (Some c.in-Some.at.row) c.requires.owns.live ((c.in-Ok.ensures.made (λ key. None) false 0).made.1.rows) c.in-Some.ensures.found in
+    let again = found-again c.args.row.number.0 _ _ _ c.args.row (Some c.in-Some.at.row) c.requires.owns.live ((c.in-Ok.ensures.does.does (λ key. None) false 0).made.1.rows) c.in-Some.ensures.found in
     let same : c.in-Some.at.row ≡ c.args.row = cc in
     ap (λ (row : HandleRow). is_shared row.mode) same ∙ loose-unshared c.args.row.mode c.requires.owns.as_asked
 
 pub turn-requires-clause-unlisted : goal.turn-requires-clause-unlisted
 turn-requires-clause-unlisted c =
-    let again = found-again c.args.row.number.0 _ _ _ c.args.row (Some c.in-Some.at.row) c.requires.owns.live ((c.in-Ok.ensures.made (λ key. None) false 0).made.1.rows) c.in-Some.ensures.found in
+    let again = found-again c.args.row.number.0 _ _ _ c.args.row (Some c.in-Some.at.row) c.requires.owns.live ((c.in-Ok.ensures.does.does (λ key. None) false 0).made.1.rows) c.in-Some.ensures.found in
     let same : c.in-Some.at.row ≡ c.args.row = cc in
     ap (is_owned_by Owner.List) same ∙ ap (is_owner Owner.List) c.requires.owns.own ∙ not-list (plain_of c.args.t.now) c.args.me c.requires.holder
 
-pub returns-clause-pinned : goal.returns-clause-pinned
-returns-clause-pinned c stored closed failures =
-    let t = c.args.t.now in
+pub returns-clause-does : goal.returns-clause-does
+returns-clause-does c =
     let row = c.args.row in
-    let m = c.in-Ok.ensures.made stored closed failures in
-    let cache = λ (u : Tables). (core_of u stored closed failures).cache in
-    let w = core_of t stored closed failures in
-    let u = core_of c.make.new.t stored closed failures in
-    let w' = core_of c.turn.new.t stored closed failures in
-    let turned = subst (λ q. Alike (with_mode u q Mode.LoosePinned) w') c.in-Some.ensures.number (c.turn.ensures.turned stored closed failures) in
-    let numbered = c.requires.whole.core.handles.numbered row (found-among row.number.0 w.rows row c.requires.owns.live).0 in
-    let same = λ (kind key : ℕ). ap (λ (u : Tables). cache u kind key) c.turn.ensures.same ∙ ap (λ (u : Tables). cache u kind key) c.in-Ok.ensures.same in
-    record { pinned = (record { above = m.made.0.above; is_left = m.made.0.is_left }, pinned-alike w u w' row.number row.node c.args.me numbered.1 same m.made.1 turned); refused = tt }
+    let made = c.in-Ok.ensures.does in
+    let turns = c.turn.ensures.does in
+    let numbered = c.requires.whole.core.handles.numbered row (found-among row.number.0 (plain_of c.args.t.now).rows row c.requires.owns.live).0 in
+    record {
+      does = λ stored closed failures.
+          (let m = made.does stored closed failures in
+          let cache = λ (u : Tables). (core_of u stored closed failures).cache in
+          let u = core_of c.make.new.t stored closed failures in
+          let w' = core_of c.turn.new.t stored closed failures in
+          let turned = subst (λ q. Alike (with_mode u q Mode.LoosePinned) w') c.in-Some.ensures.number (turns.does stored closed failures) in
+          let same = λ (kind key : ℕ). ap (λ (u : Tables). cache u kind key) c.turn.ensures.same ∙ ap (λ (u : Tables). cache u kind key) c.in-Ok.ensures.same in
+          record { pinned = (record { above = m.made.0.above; is_left = m.made.0.is_left }, pinned-alike (core_of c.args.t.now stored closed failures) u w' row.number row.node c.args.me numbered.1 same m.made.1 turned); refused = tt });
+      whole = turns.whole;
+      later = λ later. turns.later (made.later later);
+    }

@@ -1,13 +1,15 @@
-use Rattle.pagable_tables.proofs.{Words.{not, None, refl, inl, is_loose, core_of, with_mode, Mode, nobody, Owns, ap, inr, subst, Falls}, Begun.not-closed, Worlds.{still, owner-same}}
-use Rattle.pagable_tables.proofs.{keeps.ListCalls.unpin-whole, keeps.Placed.whole-so, Newer.{unpin-newer, later-on}, Unpinning.lowered-on, Ended.stays-first}
+use Rattle.pagable_tables.proofs.{Words.{refl, inl, is_loose, core_of, with_mode, Mode, nobody, Owns, ap, inr, subst, Falls}, Doing.{nothing-shed, sheds-so}, Worlds.{still, owner-same}}
+use Rattle.pagable_tables.proofs.{keeps.ListCalls.unpin-whole, Newer.unpin-newer, Unpinning.lowered-on, Ended.stays-first}
 use Rattle.pagable_tables.proofs.unpins.unpin.Goals as goal
 
-pub returns-in-Err-clause-unpinned : goal.returns-in-Err-clause-unpinned
-returns-in-Err-clause-unpinned g c stored closed failures e =
-    record { does = inl (record { e = c.in-Err.e; why = c.in-Err.ensures.fault stored closed failures is_loose; told = refl; stays = still _ }) }
+pub returns-in-Err : goal.returns-in-Err
+returns-in-Err g c =
+    nothing-shed c.requires.whole (λ stored closed failures e. record { does = inl (record { e = c.in-Err.e; why = c.in-Err.ensures.fault stored closed failures is_loose; told = refl; stays = still _ }) })
 
-pub returns-in-LoosePinned-clause-unpinned : goal.returns-in-LoosePinned-clause-unpinned
-returns-in-LoosePinned-clause-unpinned g c stored closed failures e =
+pub returns-in-LoosePinned : goal.returns-in-LoosePinned
+returns-in-LoosePinned g c =
+    sheds-so
+    (λ stored closed failures e.
     let w = core_of c.args.t.now stored closed failures in
     let at = c.in-Ok.at in
     let falls = c.fall.ensures.falls w (with_mode w at.row.number Mode.LooseUnpinned) nobody
@@ -15,16 +17,6 @@ returns-in-LoosePinned-clause-unpinned g c stored closed failures e =
     let w' = core_of (record c.args.t.now { holdings = c.fall.new.t }) stored closed failures in
     let own : Owns w c.args.me c.args.handle is_loose at.row =
     record { live = c.in-Ok.ensures.found; own = owner-same c.args.me at.row.owner c.in-Ok.ensures.owner; as_asked = ap is_loose c.in-LoosePinned.is } in
-    record { does = inr (at.row, own, inr (c.in-LoosePinned.is, subst (λ q. Falls w (with_mode w q Mode.LooseUnpinned) nobody c.fall.result w') c.in-Ok.ensures.number falls)) }
-
-pub returns-in-LoosePinned-clause-whole : goal.returns-in-LoosePinned-clause-whole
-returns-in-LoosePinned-clause-whole g c =
-    whole-so c.fall.ensures.steady (unpin-whole c.args.me c.args.handle c.fall.result c.requires.whole.core
-    (returns-in-LoosePinned-clause-unpinned g c (λ key. None) (not c.args.lists) 0 (not-closed c.args.lists)))
-
-pub returns-in-LoosePinned-clause-later : goal.returns-in-LoosePinned-clause-later
-returns-in-LoosePinned-clause-later g c later =
-    later-on later (unpin-newer c.args.me c.args.handle c.fall.result (returns-in-LoosePinned-clause-unpinned g c (λ key. None) (not c.args.lists) 0 (not-closed c.args.lists))) refl refl
-
-pub returns-in-LoosePinned-clause-sheds : goal.returns-in-LoosePinned-clause-sheds
-returns-in-LoosePinned-clause-sheds g c = stays-first c.lower.ensures.values c.fall.ensures.sheds
+    record { does = inr (at.row, own, inr (c.in-LoosePinned.is, subst (λ q. Falls w (with_mode w q Mode.LooseUnpinned) nobody c.fall.result w') c.in-Ok.ensures.number falls)) })
+    c.fall.ensures.steady (unpin-whole c.args.me c.args.handle c.fall.result c.requires.whole.core) (unpin-newer c.args.me c.args.handle c.fall.result) refl refl
+    (stays-first c.lower.ensures.values c.fall.ensures.sheds)

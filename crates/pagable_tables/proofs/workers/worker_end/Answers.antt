@@ -1,12 +1,14 @@
-use Rattle.pagable_tables.proofs.Words.{◌∙◌, ap, sym, subst, not, refl, InReach, worker_at, None, arith, option_map, without_worker, is_workers, load_at, core_of, plain_of, load_in, with_tables, gives_row, Giving}
-use Rattle.pagable_tables.proofs.{Begun.not-closed, Taken.{begun-less, passes-given, in-reach, loads-anew, worker-gone, workers-anew, load-leaves, left-was}, Newer.{newer-falls, later-less, less-one}, keeps.Placed.whole-so}
+use Rattle.pagable_tables.proofs.Words.{◌∙◌, ap, sym, subst, refl, InReach, worker_at, arith, option_map, without_worker, is_workers, load_at, core_of, plain_of, load_in, with_tables, gives_row, Giving}
+use Rattle.pagable_tables.proofs.{Doing.sheds-by, Taken.{begun-less, passes-given, in-reach, loads-anew, worker-gone, workers-anew, load-leaves, left-was}, Newer.{newer-falls, later-less, less-one}}
 use Rattle.pagable_tables.proofs.keeps.WorkerCalls.{worker-end-whole}
 use Rattle.pagable_tables.proofs.workers.worker_end.Goals as goal
 
-pub returns-clause-ended : goal.returns-clause-ended
-returns-clause-ended g c stored closed failures e =
+pub returns : goal.returns
+returns g c =
     let t = c.args.t.now in
     let v = c.args.worker.0 in
+    sheds-by
+    (λ stored closed failures e.
     let w = core_of t stored closed failures in
     let u = without_worker w v in
     let h = c.give_all.new.t in
@@ -15,12 +17,7 @@ returns-clause-ended g c stored closed failures e =
     let falls = c.give_all.ensures.falls w u w (λ l. refl) (begun-less t u.loads u.workers stored closed c.args.lists failures c.requires.whole e) (omega arith)
     (λ q is. (subst (λ r. InReach r q) (sym c.reach_of-reach.ensures) (in-reach t c.requires.whole c.requires.later c.args.worker q is), (passes-given (gives_row w (Giving.Worker c.args.worker)) (plain_of t) q c.requires.whole.core.handles is).1)) in
     let loads = loads-anew w u (with_tables u h) (is_workers w v) r w'.loads (λ l. load-leaves v (load_at t.loads l) ∙ ap (option_map load_in) (sym (c.close_loads.ensures l))) falls in
-    record { told = r; falls = workers-anew w u (record (with_tables u h) { loads = w'.loads }) (is_workers w v) r w'.workers (worker-gone (worker_at t.workers) (worker_at c.close.new.rows) v c.close.ensures.gone c.close.ensures.others) loads }
-
-pub returns-clause-whole : goal.returns-clause-whole
-returns-clause-whole g c = whole-so c.give_all.ensures.steady (worker-end-whole c.args.worker.0 c.requires.whole.core (returns-clause-ended g c (λ key. None) (not c.args.lists) 0 (not-closed c.args.lists)))
-
-pub returns-clause-later : goal.returns-clause-later
-returns-clause-later g c =
-    later-less c.requires.later (newer-falls (returns-clause-ended g c (λ key. None) (not c.args.lists) 0 (not-closed c.args.lists)).falls)
-    (λ l load is. left-was c.args.worker.0 (load_at c.args.t.now.loads l) load (sym (c.close_loads.ensures l) ∙ is)) (less-one c.args.t.now.workers c.close.new.rows c.args.worker.0 c.close.ensures.gone c.close.ensures.others)
+    record { told = r; falls = workers-anew w u (record (with_tables u h) { loads = w'.loads }) (is_workers w v) r w'.workers (worker-gone (worker_at t.workers) (worker_at c.close.new.rows) v c.close.ensures.gone c.close.ensures.others) loads })
+    c.give_all.ensures.steady (worker-end-whole v c.requires.whole.core)
+    (λ ends later. later-less later (newer-falls ends.falls) (λ l load is. left-was v (load_at t.loads l) load (sym (c.close_loads.ensures l) ∙ is)) (less-one t.workers c.close.new.rows v c.close.ensures.gone c.close.ensures.others))
+    c.give_all.ensures.sheds

@@ -1,16 +1,24 @@
-use Rattle.pagable_tables.{proofs.{Words.{subst, core_of}, Taken.{begun-core, takes-worker}}, specs.Giving.BeginsWorker}
+use Rattle.pagable_tables.{proofs.{Words.{subst, core_of, refl}, Taken.{begun-core, takes-worker}}, specs.Giving.BeginsWorker}
 use Rattle.pagable_tables.proofs.workers.worker_take.Goals as goal
 
-pub returns-clause-taken : goal.returns-clause-taken
-returns-clause-taken c stored closed failures =
+pub returns : goal.returns
+returns c =
     let t = c.args.t.now in
     let t1 = c.worker_begin.new.t in
     let e = c.in-Ok.ensures in
-    takes-worker (core_of t stored closed failures) (core_of t1 stored closed failures) _ c.args.place c.in-Ok.worker c.take_pending.result (begun-core t t1 stored closed failures c.worker_begin.ensures.same e.number.1 e.more) e.number.0 c.requires.within
-    (c.take_pending.ensures.taken stored closed failures)
+    let taken = c.take_pending.ensures in
+    record {
+      does = λ stored closed failures. takes-worker (core_of t stored closed failures) (core_of t1 stored closed failures) _ c.args.place c.in-Ok.worker c.take_pending.result
+          (begun-core t t1 stored closed failures c.worker_begin.ensures.same e.number.1 e.more) e.number.0 c.requires.within (taken.taken stored closed failures);
+      whole = taken.whole;
+      later = λ later. taken.later (λ m. refl) (c.worker_begin.ensures.does.later later);
+    }
 
-pub returns-in-Err-clause-taken : goal.returns-in-Err-clause-taken
-returns-in-Err-clause-taken c stored closed failures =
-    let w = core_of c.args.t.now stored closed failures in
-    let w1 = core_of c.worker_begin.new.t stored closed failures in
-    record { taken = tt; refused = (subst (λ r. BeginsWorker w r w1) c.in-Err.is (c.worker_begin.ensures.begun stored closed failures)).refused }
+pub returns-in-Err : goal.returns-in-Err
+returns-in-Err c =
+    let begun = c.worker_begin.ensures.does in
+    record {
+      does = λ stored closed failures. record { taken = tt; refused = (subst (λ r. BeginsWorker (core_of c.args.t.now stored closed failures) r (core_of c.worker_begin.new.t stored closed failures)) c.in-Err.is (begun.does stored closed failures)).refused };
+      whole = begun.whole;
+      later = begun.later;
+    }

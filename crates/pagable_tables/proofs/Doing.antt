@@ -1,0 +1,70 @@
+-- Calls that leave the tables whole, as their steps leave the plain world.
+use Rattle.pagable_tables.proofs.Words.{◌≡◌, ◌≤◌, ◌+◌, ℕ, Bool, not, None, [], Option, ap, sym, subst, vec_capacity, IndexMap, get, nat_eq, Blob, Core, Tables, Sheds, IsFalling, owns_nothing, AreSound, IsNext}
+use Rattle.pagable_tables.proofs.{Words.{OnlyRoom, AreLater, live, counts_at, refs_at, known_at, core_of, plain_of, ArePlaced, false}, Begun.not-closed, Ended.sheds-still, Newer.{OnlyNewer, later-on}, keeps.Placed.whole-so}
+use Rattle.pagable_tables.{proofs.Readied.{more-room, room-whole, room-newer}, specs.{Core.IsWhole, Doing.{Does, DoesShed}}}
+use Rattle.pagable_world.specs.Pager as pager
+
+module _ {old new : Tables} {step : Core → Core → Type 0} where
+  pub does-by : ((stored : ℕ → Option Blob) (closed : Bool) (failures : ℕ) → step (core_of old stored closed failures) (core_of new stored closed failures)) → IsFalling new.holdings [] owns_nothing
+      → (step (plain_of old) (plain_of new) → ArePlaced (plain_of new) → pager.IsWhole (plain_of new)) → (step (plain_of old) (plain_of new) → AreLater old → AreLater new) → Does old step new
+  does-by does steady whole later = let plain = does (λ key. None) false 0 in record { does = does; whole = whole-so steady (whole plain); later = later plain }
+
+  -- loads and workers are those that were
+  pub does-so : ((stored : ℕ → Option Blob) (closed : Bool) (failures : ℕ) → step (core_of old stored closed failures) (core_of new stored closed failures)) → IsFalling new.holdings [] owns_nothing
+      → (step (plain_of old) (plain_of new) → ArePlaced (plain_of new) → pager.IsWhole (plain_of new)) → (step (plain_of old) (plain_of new) → OnlyNewer (plain_of old) (plain_of new))
+      → new.loads ≡ old.loads → new.workers ≡ old.workers → Does old step new
+  does-so does steady whole newer loads workers = does-by does steady whole (λ plain later. later-on later (newer plain) loads workers)
+
+-- nothing changes
+pub nothing-does : {t : Tables} {step : Core → Core → Type 0} → IsWhole t → ((stored : ℕ → Option Blob) (closed : Bool) (failures : ℕ) → step (core_of t stored closed failures) (core_of t stored closed failures)) → Does t step t
+nothing-does whole does = record { does = does; whole = whole; later = λ later. later }
+
+pub does-then : {a b c : Tables} {one two both : Core → Core → Type 0} → Does a one b → Does b two c → ((u v w : Core) → one u v → two v w → both u w) → Does a both c
+does-then p q both = record { does = λ stored closed failures. both _ _ _ (p.does stored closed failures) (q.does stored closed failures); whole = q.whole; later = λ later. q.later (p.later later) }
+
+-- with more room the tables tell the same rows, counts and known nodes
+pub room-does : (t t' : Tables) → IsWhole t → AreSound t'.holdings.handles → IsNext (t.holdings.last_handle + 1) t'.holdings.handles.places.items
+    → live t'.holdings.handles.places.items ≡ live t.holdings.handles.places.items → ((n : ℕ) → counts_at t'.holdings.nodes n ≡ counts_at t.holdings.nodes n)
+    → ((n : ℕ) → refs_at t'.holdings.nodes n ≡ refs_at t.holdings.nodes n) → ((kind key : ℕ) → known_at t'.cache kind key ≡ known_at t.cache kind key)
+    → t' ≡ record t { holdings = record t.holdings { handles = t'.holdings.handles; nodes = t'.holdings.nodes }; cache = t'.cache }
+    → vec_capacity t.holdings.handles.places ≤ vec_capacity t'.holdings.handles.places → Does t OnlyRoom t'
+room-does t t' whole sound next rows counts refs known same capacity =
+    let room = more-room t t' rows counts known same capacity in
+    let last = ap (λ (u : Tables). u.holdings.last_handle) same in
+    record {
+      does = room;
+      whole = room-whole t t' whole sound (subst (λ q. IsNext (q + 1) t'.holdings.handles.places.items) (sym last) next) rows counts refs (ap (λ (u : Tables). u.holdings.top) same) (room (λ key. None) false 0);
+      later = room-newer (room (λ key. None) false 0) (ap (λ (u : Tables). u.loads) same) (ap (λ (u : Tables). u.workers) same);
+    }
+
+-- the plain world where cells are listed or not
+abbrev pub listing : Bool → Tables → Core
+listing lists t = core_of t (λ key. None) (not lists) 0
+
+module _ {X S : Type 0} {lists : Bool} {old new : Tables} {values values' : IndexMap ℕ X S} {step : Core → Core → Type 0} where
+  pub sheds-by : ((stored : ℕ → Option Blob) (closed : Bool) (failures : ℕ) → lists ≡ not closed → step (core_of old stored closed failures) (core_of new stored closed failures))
+      → IsFalling new.holdings [] owns_nothing → (step (listing lists old) (listing lists new) → ArePlaced (plain_of new) → pager.IsWhole (plain_of new))
+      → (step (listing lists old) (listing lists new) → AreLater old → AreLater new) → Sheds (counts_at old.holdings.nodes) (get nat_eq values) (counts_at new.holdings.nodes) (get nat_eq values')
+      → DoesShed lists old values step new values'
+  sheds-by does steady whole later sheds =
+      let plain = does (λ key. None) (not lists) 0 (not-closed lists) in
+      record { does = does; whole = whole-so steady (whole plain); later = later plain; sheds = sheds }
+
+  pub sheds-so : ((stored : ℕ → Option Blob) (closed : Bool) (failures : ℕ) → lists ≡ not closed → step (core_of old stored closed failures) (core_of new stored closed failures))
+      → IsFalling new.holdings [] owns_nothing → (step (listing lists old) (listing lists new) → ArePlaced (plain_of new) → pager.IsWhole (plain_of new))
+      → (step (listing lists old) (listing lists new) → OnlyNewer (plain_of old) (plain_of new)) → new.loads ≡ old.loads → new.workers ≡ old.workers
+      → Sheds (counts_at old.holdings.nodes) (get nat_eq values) (counts_at new.holdings.nodes) (get nat_eq values') → DoesShed lists old values step new values'
+  sheds-so does steady whole newer loads workers = sheds-by does steady whole (λ plain later. later-on later (newer plain) loads workers)
+
+-- the same, of a step that is made as cells are listed, while no value goes
+pub lazily-so : {lists : Bool} {old new : Tables} {step : Core → Core → Type 0}
+    → ((stored : ℕ → Option Blob) (closed : Bool) (failures : ℕ) → lists ≡ not closed → step (core_of old stored closed failures) (core_of new stored closed failures))
+    → IsFalling new.holdings [] owns_nothing → (step (listing lists old) (listing lists new) → ArePlaced (plain_of new) → pager.IsWhole (plain_of new))
+    → (step (listing lists old) (listing lists new) → OnlyNewer (plain_of old) (plain_of new)) → new.loads ≡ old.loads → new.workers ≡ old.workers → Does old (λ w w'. lists ≡ not w.closed → step w w') new
+lazily-so {lists} does steady whole newer loads workers =
+    let plain = does (λ key. None) (not lists) 0 (not-closed lists) in
+    record { does = does; whole = whole-so steady (whole plain); later = λ later. later-on later (newer plain) loads workers }
+
+pub nothing-shed : {X S : Type 0} {lists : Bool} {t : Tables} {values : IndexMap ℕ X S} {step : Core → Core → Type 0} → IsWhole t
+    → ((stored : ℕ → Option Blob) (closed : Bool) (failures : ℕ) → lists ≡ not closed → step (core_of t stored closed failures) (core_of t stored closed failures)) → DoesShed lists t values step t values
+nothing-shed {t = t} whole does = record { does = does; whole = whole; later = λ later. later; sheds = sheds-still t.holdings _ whole.steady }
