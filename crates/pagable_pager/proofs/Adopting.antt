@@ -4,7 +4,7 @@ use Rattle.pagable_pager.proofs.Words.{OptionalDataKey, ArcRef, Kind, LoadNumber
 use Rattle.pagable_pager.proofs.Words.{refused_if, adopted, adopt_fault, AdoptCall, Adopts, IsNewNode, Moves, adopted_known, stayed, spares-alike, Tables, counts_at, IsWhole, Sheds, AreLater}
 use Rattle.pagable_pager.proofs.Words.{OnlyRoom, earlier-first, told-later, still, PagerView, Telling, Spelling, ValuesByNode, IsPager, OnlyLess, core_in, state_in, value_in, values_of, nat_tests}
 use Rattle.pagable_pager.proofs.{Words.{Blob, Bool, core_of}, Shed.{shed, whole-over}, Births.{told, roomier, moved-in, unmoved}, Shut.{adopts-bare, bare-alike}}
-use Rattle.pagable_steps.proofs.BirthCalls.{adopts-new}
+use Rattle.pagable_steps.proofs.Births.{adopts-new}
 
 -- the new node has the next number
 pub adopted-node : (w : Core) {w' : Core} (l : LoadNumber) (kind : Kind) (key : ℕ) (own : OptionalDataKey) (rs : List ArcRef) → Alike (adopted w l kind key own rs) w' → w'.last.node ≡ w.last.node + 1

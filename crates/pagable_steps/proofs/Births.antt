@@ -1,124 +1,231 @@
--- A node that comes, with its value or without one, leaves a pager in step.
-use Rattle.std.proofs.Common.{rules}
-use Rattle.pagable_steps.proofs.Words.{◌≡◌, ℕ, ◌+◌, ◌<◌, ◌≤◌, ◌==◌, ◌&&◌, Bool, true, false, List, [], Some, None, ap, sym, subst, ◌∙◌, if◌then◌else◌, arith, nat_lt, is_some}
-use Rattle.pagable_steps.proofs.Words.{nat_tests, OptionalDataKey, Owner, Mode, ArcRef, Among, one, times, if_there, is_owned_by, is_pinning, is_pin, is_at, owner_value, pins, is_in_memory, Core}
-use Rattle.pagable_steps.proofs.Words.{Values, key_at, is_here, type_at, IsReference, is_named_by, PagerState, IsWhole, WellFormed, self-number, sum-le, same_some, NotValues}
-use Rattle.pagable_steps.proofs.Coming.{Comes, no-cell, new-cell, other-cell, typed-on, pins-now, other-here, count-now, other-owned, other-bare, other-refers, new-refers, new-inside}
-use Rattle.pagable_steps.proofs.{SparedParts.owns, SparedParts.owns_any, SparedHandles.pinned-here, SparedParts.and-false, SparedParts.sum-mapped, Words.not-owned}
+-- A value comes to a node that had none: the handles that it names move to it, and it owns each once. And calls by which a node comes, with its value or without one.
+use Rattle.pagable_laws.proofs.Effects as effects
+use Rattle.pagable_steps.proofs.Words.{◌≡◌, ℕ, ◌+◌, ◌<◌, ◌≤◌, ◌==◌, ◌&&◌, ◌||◌, Bool, true, false, List, [], ◌∷◌, Option, Some, None, Ok, Err, inl, inr, refl, ap, sym, subst, ◌∙◌, if◌then◌else◌, arith, Result}
+use Rattle.pagable_steps.proofs.Words.{is_some, not, nat_lt, nat_tests, sum_by-cons, sum_by_push, OptionalDataKey, HandleRow, Owner, Mode, Error, ArcRef, Kind, HandleNumber, LoadNumber, Among, is_in, one, times}
+use Rattle.pagable_steps.proofs.Words.{if_there, type_of, is_loose_kind, is_pinning, is_pin, is_at, owner_value, held, mode_of, pins, Core, Cell, OpenLoad, Values, type_at, is_here, usable}
+use Rattle.pagable_steps.proofs.Words.{row_of, moved, with_node, with_handle, next_node, reference_fault, references_fault, is_named_by, BirthCall, AwayBirthCall, Adopts, LazyCall, PagerState, IsWhole}
+use Rattle.pagable_steps.proofs.Words.{WellFormed, Stands, AreGood, NotValues, good, or-none, named-among, stands-whole, stands-changed, found-number, among-changed, self-number, same-number, sum-le}
+use Rattle.pagable_steps.proofs.{Owning.{At, Has, among-named, same-value, holds_value, settled, sits}, Spared.{not-load, gets-known}}
+use Rattle.pagable_steps.proofs.Parts.{OwnsAlike, Spares, owns-then, owns-handle, pinned-here, sits-on, spared, spares-alike, spares-cached, sum-mapped}
 
--- what is so of the new node and of each other one
-by-node : {next : ℕ} (P : ℕ → Type 0) → P next → ((n : ℕ) → (n == next) ≡ false → P n) → (n : ℕ) → P n
-by-node {next} P new other n = grind (arith, nat_tests)
+unseen : (w : Core) (owner : Owner) (seen : List ℕ) (r : ArcRef) → reference_fault w owner seen r ≡ None → is_in seen r.handle.0 ≡ false
+unseen w owner seen r none = grind (arith, nat_tests)
 
--- what is so of a node in a pager that is whole
-pub record IsInStep {N E : Type 0} (v : Values N) (s : PagerState N E) (n : ℕ) : Type 0 where
-  pub valued : is_some (s.values n) ≡ (is_some (s.core.cells n) && is_here s.core n)
-  pub typed : (x : N) → s.values n ≡ Some x → type_at s.core n ≡ Some (v.node_type x)
-  pub inside : (x : N) (q : ℕ) → s.values n ≡ Some x → times (λ (r : ArcRef). r.handle.0 == q) (v.references x) ≡ owns n q s.core.rows
-  pub bare : s.values n ≡ None → owns_any n s.core.rows ≡ 0
-  pub refers : (x : N) (r : ArcRef) → s.values n ≡ Some x → Among (v.references x) r → IsReference s.core (owner_value n) r
+-- references that nothing is to be said against name each handle once at most, and none that was seen
+named-once : (w : Core) (owner : Owner) (seen : List ℕ) (rs : List ArcRef) (q : ℕ) → references_fault w owner seen rs ≡ None → times (λ (r : ArcRef). r.handle.0 == q) rs ≤ one (not (is_in seen q))
+unfolding references_fault is_in
+named-once w owner seen [] q none = omega arith
+named-once w owner seen (r ∷ rs) q none =
+    let both = or-none _ _ none in
+    at (r.handle.0 == q) (is_in seen q) (λ e. ap (is_in seen) (sym (same-number _ _ e)) ∙ unseen w owner seen r both.0) (named-once w owner (r.handle.0 ∷ seen) rs q both.1)
+    (sum_by-cons (λ (x : ArcRef). one (x.handle.0 == q)) r rs)
+  where
+    at : (b c : Bool) → (b ≡ true → c ≡ false) → {k m : ℕ} → k ≤ one (not (b || c)) → m ≡ one b + k → m ≤ one (not c)
+    at b c new rest sum = grind (arith, nat_tests)
 
-pub by-each : {N E : Type 0} {v : Values N} {s : PagerState N E} → ((n : ℕ) → IsInStep v s n) → ((n : ℕ) → s.counts n ≡ pins n s.core.rows) → IsWhole s.core → WellFormed v s
-by-each all counted whole =
-    record {
-      whole = whole;
-      counted = counted;
-      valued = λ n. (all n).valued;
-      typed = λ n. (all n).typed;
-      inside = λ n. (all n).inside;
-      bare = λ n. (all n).bare;
-      references = λ n. (all n).refers;
-    }
+-- What names handles may come as a value to the node p, to which they moved.
+pub record Receives {N : Type 0} (v : Values N) (w given : Core) (values : ℕ → Option N) (references : List ArcRef) (p : ℕ) : Type 0 where
+  -- what is so of each node, if that is so of this one
+  pub all : (o : Option N) → At v given p o → (n : ℕ) → At v given n (if n == p then o else values n)
+  pub value : (x : N) → v.references x ≡ references → type_at given p ≡ Some (v.node_type x) → At v given p (Some x)
+  pub pins : (n : ℕ) → pins n given.rows ≡ pins n w.rows
+  -- what it owns is named, and what another one owns was its own
+  pub named : (h : HandleRow) → Among given.rows h → h.owner ≡ owner_value p → is_named_by references h.number.0 ≡ true
+  pub before : (n : ℕ) → (n == p) ≡ false → OwnsAlike n w given
+
+module _ {N E : Type 0} {v : Values N} {s : PagerState N E} (is : WellFormed v s) {me : Owner} (free : NotValues me) (references : List ArcRef) (fine : references_fault s.core me [] references ≡ None)
+    (p : ℕ) (cells : ℕ → Option Cell) (loads : ℕ → Option OpenLoad) (node : ℕ) (typed : (n t : ℕ) → type_at s.core n ≡ Some t → type_at (record s.core { cells = cells }) n ≡ Some t)
+    (no_value : s.values p ≡ None) where
+  abbrev w : Core
+  w = s.core
+
+  abbrev given : Core
+  given = record w { rows = moved (is_named_by references) (owner_value p) w.rows; cells = cells; loads = loads; last = record w.last { node = node } }
+
+  abbrev named : HandleRow → Bool
+  named h = is_named_by references h.number.0
+
+  abbrev to : HandleRow → HandleRow
+  to h = record h { owner = owner_value p }
+
+  right : AreGood w me references
+  right = good w me [] references fine
+
+  same-pin : (n : ℕ) (h : HandleRow) (b : Bool) → one (is_pin n (if b then to h else h)) ≡ one (is_pin n h)
+  same-pin n h b = grind (arith, nat_tests)
+
+  others : (n : ℕ) → (n == p) ≡ false → OwnsAlike n w given
+  others n other = record {
+    typed = typed;
+    spares = record {
+      each = λ q row own s.
+          effects.moved-free (owner_value n) (is_named_by references) (owner_value p) ((effects.named-free (owner_value n) w me references (free (record { 0 = n })) right).each q row own s) s;
+    };
+    owned = λ h among own. let a = among-changed (λ x. if named x then to x else x) w.rows h among in by a.0 a.1 h own (named a.0) a.2;
+  }
+    where
+      by : (x : HandleRow) → Among w.rows x → (h : HandleRow) → h.owner ≡ owner_value n → (b : Bool) → h ≡ (if b then to x else x) → Among w.rows h
+      by x among h own true is = absurd (let same : p ≡ n = same-value h.owner own (ap (λ (y : HandleRow). y.owner) is) in grind (arith, nat_tests))
+      by x among h own false is = subst (Among w.rows) (sym is) among
+
+  owned : (h : HandleRow) → Among given.rows h → h.owner ≡ owner_value p → named h ≡ true
+  owned h among own = let a = among-changed (λ x. if named x then to x else x) w.rows h among in by a.0 a.1 (named a.0) refl a.2
+    where
+      by : (x : HandleRow) → Among w.rows x → (b : Bool) → named x ≡ b → h ≡ (if b then to x else x) → named h ≡ true
+      by x there true e same = ap named same ∙ e
+      by x there false e same = absurd (subst (At v w p) no_value (sits is p) x there (ap (λ (y : HandleRow). y.owner) (sym same) ∙ own))
+
+  new : (x : N) → v.references x ≡ references → type_at given p ≡ Some (v.node_type x) → Has v given p x
+  unfolding is_in
+  new x same its_type = record {
+    typed = its_type;
+    names = λ r among.
+        let a = right r (subst (λ rs. Among rs r) same among) in
+        let is : named a.row ≡ true = ap (is_named_by references) (found-number r.handle.0 w.rows a.row a.live) ∙ among-named references r (subst (λ rs. Among rs r) same among) in
+        let s = stands-changed named to (λ h. refl) (stands-whole whole.handles r.handle.0 a.row a.live) in
+        record { row = to a.row; stands = subst (λ b. Stands w.last.handle given.rows r.handle.0 (if b then to a.row else a.row)) is s; at = a.at; owned = refl; fits = a.fits; typed = typed _ _ a.typed };
+    once = λ q. subst (λ (rs : List ArcRef). times (λ (r : ArcRef). r.handle.0 == q) rs ≤ 1) (sym same) (named-once w me [] references q fine);
+    owned = λ h among own. let c = named-among (v.references x) h.number.0 (ap (λ rs. is_named_by rs h.number.0) same ∙ owned h among own) in record { r = c.0; among = c.1; is = c.2 };
+  }
+    where
+      whole : IsWhole w
+      whole = is.whole
+
+  pub receives : Receives v w given s.values references p
+  receives = record {
+    all = λ o here n. at o here n (n == p) refl;
+    value = new;
+    pins = λ n. sum-mapped _ _ _ w.rows (λ h among. same-pin n h (named h));
+    named = owned;
+    before = others;
+  }
+    where
+      at : (o : Option N) → At v given p o → (n : ℕ) (b : Bool) → (n == p) ≡ b → At v given n (if b then o else s.values n)
+      at o here n true e = subst (λ k. At v given k o) (sym (same-number n p e)) here
+      at o here n false e = sits-on v (others n e) (s.values n) (sits is n)
 
 -- the next node's number
 abbrev pub next_of : Core → ℕ
 next_of w = w.last.node + 1
 
-module _ {N E : Type 0} {v : Values N} {s : PagerState N E} (s' : PagerState N E) (is : WellFormed v s) {me : Owner} {t : ℕ} {own : OptionalDataKey} {references : List ArcRef} {mode : Mode}
-    (free : NotValues me) (c : Comes s.core s'.core me t own references mode) where
-  no-value : s.values (next_of s.core) ≡ None
+none-named : (w : Core) (owner : Owner) → references_fault w owner [] [] ≡ None
+unfolding references_fault
+none-named w owner = refl
+
+-- ---- what is made
+
+module _ {N E : Type 0} {v : Values N} {s : PagerState N E} (s' : PagerState N E) (is : WellFormed v s) {me : Owner} (free : NotValues me) (t : ℕ) (own : OptionalDataKey) (references : List ArcRef) (mode : Mode)
+    (fine : references_fault s.core me [] references ≡ None) (like : Spares (with_handle (with_node s.core t own references) (next_node s.core) mode me) s'.core) where
+  abbrev next : ℕ
+  next = next_of s.core
+
+  abbrev bearing : Core
+  bearing = with_node s.core t own references
+
+  abbrev made : Core
+  made = with_handle bearing (next_node s.core) mode me
+
+  no-cell : s.core.cells next ≡ None
+  no-cell = grind (arith, nat_tests)
+
+  no-value : s.values next ≡ None
   no-value = grind (arith, nat_tests)
 
-  as-before : (n : ℕ) → (n == next_of s.core) ≡ false → s'.values n ≡ s.values n → IsInStep v s' n
-  as-before n other same =
-      record {
-        valued =
-            ap is_some same
-            ∙ (is.valued n ∙ sym (ap (λ o. is_some o && is_here s'.core n) (other-cell is.whole free c n other) ∙ ap (λ b. is_some (s.core.cells n) && b) (other-here is.whole free c n other)));
-        typed = λ y has. typed-on is.whole free c n (v.node_type y) (is.typed n y (sym same ∙ has));
-        inside = λ y q has. is.inside n y q (sym same ∙ has) ∙ sym (other-owned is.whole free c n other q);
-        bare = λ none. other-bare is.whole free c n other ∙ is.bare n (sym same ∙ none);
-        refers = λ y r has among. other-refers is.whole free c n r (is.references n y r (sym same ∙ has) among);
-      }
+  receives-it : Receives v s.core bearing s.values references next
+  receives-it = receives is free references fine next bearing.cells s.core.loads next typed no-value
+    where
+      typed : (n u : ℕ) → type_at s.core n ≡ Some u → type_at bearing n ≡ Some u
+      typed n u has = grind (arith, nat_tests, no-cell)
 
-  module _ (x : N) (typed : v.node_type x ≡ t) (named : v.references x ≡ references) (pinning : is_pinning mode ≡ true)
-      (values : (n : ℕ) → s'.values n ≡ (if n == next_of s.core then Some x else s.values n)) where
-    at-new : s'.values (next_of s.core) ≡ Some x
-    at-new = values (next_of s.core) ∙ ap (λ b. if b then Some x else s.values (next_of s.core)) (self-number (next_of s.core))
+  pins-made : (n : ℕ) → pins n made.rows ≡ pins n s.core.rows + one ((next == n) && is_pinning mode)
+  pins-made n = sum_by_push (λ h. one (is_pin n h)) bearing.rows (row_of (s.core.last.handle + 1) (next_node s.core) mode me) ∙ ap (λ p. p + one ((next == n) && is_pinning mode)) (receives-it.pins n)
 
-    here-new : is_here s'.core (next_of s.core) ≡ true
-    here-new = pinned-here s'.core (next_of s.core) (above _ _ _ (pins-now is.whole free c (next_of s.core)) (ap one (ap (λ b. b && is_pinning mode) (self-number (next_of s.core)) ∙ pinning)))
-      where
-        above : (r p q : ℕ) → r ≡ p + q → q ≡ 1 → 0 < r
-        above r p q e f = omega arith
+  others-hold : (n : ℕ) → (n == next) ≡ false → holds_value made n ≡ holds_value s.core n
+  others-hold n other = let p = pins-made n in grind (arith, nat_tests)
 
-    is-new : (y : N) → s'.values (next_of s.core) ≡ Some y → x ≡ y
-    is-new y has = same_some _ _ (sym at-new ∙ has)
+  new-cell : bearing.cells next ≡ Some (record { node_type = t; key = own })
+  new-cell = ap (λ b. if b then Some (record { node_type = t; key = own }) else s.core.cells next) (self-number next)
 
-    new-with : IsInStep v s' (next_of s.core)
-    new-with =
-        record {
-          valued = ap is_some at-new ∙ sym (ap (λ o. is_some o && is_here s'.core (next_of s.core)) (new-cell is.whole free c) ∙ here-new);
-          typed = grind (arith, nat_tests, if_there, new-cell, is-new);
-          inside = λ y q has.
-              ap (λ rs. times (λ (r : ArcRef). r.handle.0 == q) rs) (ap (λ z. v.references z) (sym (is-new y has)) ∙ named) ∙ new-inside is.whole free c (is.bare (next_of s.core) no-value) q;
-          bare = λ none. absurd (let f : Some x ≡ None = sym at-new ∙ none in cc);
-          refers = λ y r has among. new-refers is.whole free c r (subst (λ rs. Among rs r) (ap (λ z. v.references z) (sym (is-new y has)) ∙ named) among);
-        }
+  holds-new : holds_value made next ≡ is_here made next
+  holds-new = ap (λ c. is_some c && is_here made next) new-cell
 
-    -- a node that comes with its value
-    pub comes-with : ((n : ℕ) → s'.counts n ≡ pins n s'.core.rows) → IsWhole s'.core → WellFormed v s'
-    comes-with = by-each (by-node (λ n. IsInStep v s' n) new-with (λ n other. as-before n other (values n ∙ ap (λ b. if b then Some x else s.values n) other)))
+  comes : (o : Option N) → At v bearing next o → is_some o ≡ is_here made next → ((n : ℕ) → s'.values n ≡ (if n == next then o else s.values n)) → ((n : ℕ) → s'.counts n ≡ pins n s'.core.rows) → IsWhole s'.core
+      → WellFormed v s'
+  comes o new here values =
+      settled s' (λ n. subst (At v s'.core n) (sym (values n)) (sits-on v (owns-then (owns-handle bearing (next_node s.core) mode me free n) (like.owns n)) _ (receives-it.all o new n)))
+      (λ n. ap is_some (values n) ∙ (valued n (n == next) refl ∙ sym (like.holds n)))
+    where
+      valued : (n : ℕ) (b : Bool) → (n == next) ≡ b → is_some (if b then o else s.values n) ≡ holds_value made n
+      valued n true e = here ∙ (sym holds-new ∙ ap (holds_value made) (sym (same-number n next e)))
+      valued n false e = is.valued n ∙ sym (others-hold n e)
 
-  module _ (key : ℕ) (keyed : own ≡ OptionalDataKey.Some key) (nothing : references ≡ []) (unpinned : is_pinning mode ≡ false) (values : (n : ℕ) → s'.values n ≡ s.values n) where
-    still-none : s'.values (next_of s.core) ≡ None
-    still-none = values (next_of s.core) ∙ no-value
+  -- with its value
+  comes-with : (x : N) → v.node_type x ≡ t → v.references x ≡ references → is_pinning mode ≡ true → ((n : ℕ) → s'.values n ≡ (if n == next then Some x else s.values n))
+      → ((n : ℕ) → s'.counts n ≡ pins n s'.core.rows) → IsWhole s'.core → WellFormed v s'
+  comes-with x is_typed named pinning =
+      comes (Some x) (receives-it.value x named (ap (λ c. if_there (λ (cell : Cell). Some cell.node_type) None c) new-cell ∙ ap (λ u. Some u) (sym is_typed))) (sym (pinned-here made next pinned))
+    where
+      pinned : 0 < pins next made.rows
+      pinned = let p = pins-made next in let q = self-number next in grind (arith, nat_tests)
 
-    no-pins : pins (next_of s.core) s.core.rows ≡ 0
-    no-pins =
-        none _ _ (sum-le (λ h. one (is_pin (next_of s.core) h)) (λ h. one (is_at (next_of s.core) h)) s.core.rows (λ h among. fewer (is_at (next_of s.core) h) (is_pinning h.mode)))
-        (sym (is.whole.handles.live (next_of s.core)) ∙ ap is_some (no-cell is.whole free c))
-      where
-        fewer : (a b : Bool) → one (a && b) ≤ one a
-        fewer a b = grind (arith, nat_tests)
+  -- and without
+  comes-away : (key : ℕ) → own ≡ OptionalDataKey.Some key → references ≡ [] → is_pinning mode ≡ false → ((n : ℕ) → s'.values n ≡ s.values n)
+      → ((n : ℕ) → s'.counts n ≡ pins n s'.core.rows) → IsWhole s'.core → WellFormed v s'
+  unfolding is_named_by
+  comes-away key keyed nothing unpinned same = comes None none (sym away) (λ n. same n ∙ still n (n == next) refl)
+    where
+      none : At v bearing next None
+      none h among mine = let e = ap (λ rs. is_named_by rs h.number.0) (sym nothing) ∙ receives-it.named h among mine in absurd (cc)
 
-        none : (p h : ℕ) → p ≤ h → nat_lt 0 h ≡ false → p ≡ 0
-        none p h le e = grind (arith, nat_tests)
+      no-pins : pins next s.core.rows ≡ 0
+      no-pins =
+          let le = sum-le (λ h. one (is_pin next h)) (λ h. one (is_at next h)) s.core.rows (λ h among. fewer (is_at next h) (is_pinning h.mode)) in
+          let live : is_some (s.core.cells next) ≡ nat_lt 0 (held next s.core.rows) = is.whole.handles.live next in
+          grind (arith, nat_tests, no-cell)
+        where
+          fewer : (a b : Bool) → one (a && b) ≤ one a
+          fewer a b = grind (arith, nat_tests)
 
-    away-new : is_here s'.core (next_of s.core) ≡ false
-    away-new =
-        grind (arith, nat_tests, is_in_memory, key_at, next_of, none, if_there, new-cell)
-      where
-        its : Bool
-        its = next_of s.core == next_of s.core
+      away : is_here made next ≡ false
+      away = let p = pins-made next in let q = self-number next in grind (arith, nat_tests, no-pins)
 
-        none : pins (next_of s.core) s'.core.rows ≡ 0
-        none = pins-now is.whole free c (next_of s.core) ∙ (ap (λ p. p + one (its && is_pinning mode)) no-pins ∙ ap (λ b. 0 + one b) (ap (λ b. its && b) unpinned ∙ and-false its))
+      still : (n : ℕ) (b : Bool) → (n == next) ≡ b → s.values n ≡ (if b then None else s.values n)
+      still n true e = ap s.values (same-number n next e) ∙ no-value
+      still n false e = refl
 
-    owns-none : owns_any (next_of s.core) s'.core.rows ≡ 0
-    unfolding is_named_by
-    owns-none =
-        count-now is.whole free c (is_owned_by (owner_value (next_of s.core))) (not-owned (next_of s.core) me free)
-        ∙ (sum-mapped _ _ (λ h. one (is_owned_by (owner_value (next_of s.core)) h)) s.core.rows
-        (λ h among. ap (λ rs. one (is_owned_by (owner_value (next_of s.core)) (if is_named_by rs h.number.0 then record h { owner = owner_value (next_of s.core) } else h))) nothing)
-        ∙ is.bare (next_of s.core) no-value)
+-- ---- the calls
 
-    has-none : {P : Type 0} (y : N) → s'.values (next_of s.core) ≡ Some y → P
-    has-none y has = absurd (let f : None ≡ Some y = sym still-none ∙ has in cc)
+-- a handle of a reference pins unless its kind is loose
+mode-pins : (kind : ℕ) (b : Bool) → is_loose_kind kind ≡ b → is_pinning (mode_of kind) ≡ (if b then false else true)
+mode-pins kind b loose = grind (arith, nat_tests)
 
-    new-without : IsInStep v s' (next_of s.core)
-    new-without = search (rules, still-none, new-cell, away-new, has-none, owns-none)
+module _ {N E : Type 0} {v : Values N} {s s' : PagerState N E} (is : WellFormed v s) where
+  pub born : {me : Owner} {x : N} {mode : Mode} {k : HandleNumber} → NotValues me → is_pinning mode ≡ true → BirthCall s.core me x (v.node_type x) (v.references x) mode (Ok k) s'.core
+      → ((n : ℕ) → s'.values n ≡ (if n == next_of s.core then Some x else s.values n)) → ((n : ℕ) → s'.counts n ≡ pins n s'.core.rows) → IsWhole s'.core → WellFormed v s'
+  born {x = x} {mode} free pinning b = comes-with s' is free (v.node_type x) OptionalDataKey.None (v.references x) mode b.made.0 (spares-alike b.made.3) x refl refl pinning
 
-    -- a node that comes without one
-    pub comes-away : ((n : ℕ) → s'.counts n ≡ pins n s'.core.rows) → IsWhole s'.core → WellFormed v s'
-    comes-away = by-each (by-node (λ n. IsInStep v s' n) new-without (λ n other. as-before n other (values n)))
+  -- what a load read becomes a node, where the cache gives none
+  pub adopts-new : {me : Owner} {l : LoadNumber} {kind : Kind} {key : ℕ} {x : N} {k : HandleNumber} → Adopts s.core me l kind key (v.node_type x) (v.references x) k s'.core
+      → usable s.core kind.0 key ≡ None → ((n : ℕ) → s'.values n ≡ (if n == next_of s.core then Some x else s.values n))
+      → ((n : ℕ) → s'.counts n ≡ pins n s'.core.rows) → IsWhole s'.core → WellFormed v s'
+  adopts-new {l = l} {kind} {key} {x} a unknown = elim a.makes [
+    | inl (n, known, f) ↦ absurd (let e : None ≡ Some n = sym unknown ∙ known in cc)
+    | inr (none, few, alike) ↦ comes-with s' is (not-load l) (type_of kind.0) _ (v.references x) (mode_of kind.0) a.good (spares-cached kind key (next_node s.core) s.core.closed alike) x a.typed refl
+        (mode-pins kind.0 false a.eager)
+  ]
+
+  pub born-away : {me : Owner} {t key : ℕ} (r : Result HandleNumber Error) → NotValues me → AwayBirthCall s.core me t key r s'.core
+      → ((n : ℕ) → s'.values n ≡ s.values n) → ((n : ℕ) → s'.counts n ≡ pins n s'.core.rows) → IsWhole s'.core → WellFormed v s'
+  born-away {me} {t} {key} (Ok k) free b =
+      comes-away s' is free t (OptionalDataKey.Some key) [] Mode.LooseUnpinned (none-named s.core me) (spares-alike b.made.2) key refl refl refl
+  born-away (Err e) free b = spared v s s' is (spares-alike b.refused.stays)
+
+  pub lazily : {me : Owner} {l : LoadNumber} {kind : Kind} {key : ℕ} (r : Result HandleNumber Error) → LazyCall s.core me l kind key r s'.core
+      → ((n : ℕ) → s'.values n ≡ s.values n) → ((n : ℕ) → s'.counts n ≡ pins n s'.core.rows) → IsWhole s'.core → WellFormed v s'
+  lazily {l = l} {kind} {key} (Ok k) c = elim c.makes.3 [
+    | inl g ↦ spared v s s' is (gets-known is.whole g)
+    | inr (none, few, is_next, a) ↦
+        comes-away s' is (not-load l) (type_of kind.0) (OptionalDataKey.Some key) [] (mode_of kind.0) (none-named s.core (Owner.Load l)) (spares-cached kind key (next_node s.core) s.core.closed a) key refl refl
+        (mode-pins kind.0 true c.makes.2)
+  ]
+  lazily (Err e) c = spared v s s' is (spares-alike c.refused.stays)

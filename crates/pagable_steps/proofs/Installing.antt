@@ -1,20 +1,12 @@
 -- A load of a cell ends with a pin: where the cell has no value, what was read comes into it; else it is dropped. What the load still owns goes.
-use Rattle.std.proofs.{Common.rules, lemmas.Bool.false_from_ne_true}
-use Rattle.pagable_steps.proofs.Words.{◌≡◌, ℕ, ◌<◌, ◌==◌, ◌&&◌, Bool, true, false, refl, ap, sym, subst, ◌∙◌, inl, inr, if◌then◌else◌, arith, Option, Some, None, is_some, not, nat_tests}
-use Rattle.pagable_steps.proofs.Words.{HandleRow, Owner, Mode, HandleNumber, LoadNumber, NodeNumber, if_there, updated, find_row, is_handle, owner_value, is_loose}
-use Rattle.pagable_steps.proofs.Words.{is_in_memory, pins, Core, Cell, Values, row_at, type_at, key_at, is_here, Owns, is_named_by, with_mode, without_load, is_owned_in, with_pin, MayEnd}
-use Rattle.pagable_steps.proofs.Words.{Installs, PagerState, IsWhole, WellFormed, self-number, NotLoads, found-number, row-held, row-pins, NotValues, Stands, among-found, found-after}
-use Rattle.pagable_steps.proofs.Keeping.{OwnsAlike, Keeps, owns-then, spares-owned, sits-on, fell, spares-keeps, mode-owned, mode-others}
-use Rattle.pagable_steps.proofs.{Falling.Sits, Falling.Sweeps, Falling.fell-from, FallingCalls.load-free, SparedParts.owns, SparedParts.Spares, SparedHandles.pinned-here, SparedHandles.turned}
-use Rattle.pagable_steps.proofs.{SparedParts.and-false, SparedParts.spares-then, SparedParts.spares-same, SparedParts.spares-handle, Words.stands-whole, Words.stands-changed}
-use Rattle.pagable_steps.proofs.Moving as moving
-
-live-type : (w : Core) (n : ℕ) → is_some (w.cells n) ≡ true → (t : ℕ) × (type_at w n ≡ Some t)
-live-type w n is = at (w.cells n) is
-  where
-    at : (c : Option Cell) → is_some c ≡ true → (t : ℕ) × (if_there (λ (cell : Cell). Some cell.node_type) None c ≡ Some t)
-    at (Some cell) is = (cell.node_type, refl)
-    at None is = absurd (cc)
+use Rattle.pagable_laws.proofs.Effects as effects
+use Rattle.pagable_steps.proofs.Words.{◌≡◌, ℕ, ◌+◌, ◌==◌, ◌&&◌, Bool, true, false, [], inl, inr, refl, ap, sym, subst, ◌∙◌, if◌then◌else◌, arith, Option, Some, None, is_some, not, and_parts, nat_tests}
+use Rattle.pagable_steps.proofs.Words.{sum_by_push, Among, one, HandleRow, Owner, Mode, HandleNumber, LoadNumber, NodeNumber, if_there, updated, owner_value, is_owned_by, is_owner, is_pin, is_loose}
+use Rattle.pagable_steps.proofs.Words.{is_in_memory, pins, Core, Values, row_of, type_at, key_at, is_here, Owns, is_named_by, moved, with_mode, without_load, is_owned_in, with_pin, MayEnd, Installs}
+use Rattle.pagable_steps.proofs.Words.{PagerState, IsWhole, WellFormed, NotLoads, NotValues, Stands, good, row-held, stands-whole, same-number}
+use Rattle.pagable_steps.proofs.{Births.{Receives, receives}, Owning.{At, found-whole, holds_value}, Falling.{fell, fell-from}, FallingCalls.load-free}
+use Rattle.pagable_steps.proofs.{Parts.{AreFree, Keeps, OwnsAlike, Sweeps, owns-then, owns-handle, sits-on, spares-keeps, spares-then, spares-same, spares-handle, mode-owns, mode-others, mode-here}}
+use Rattle.pagable_steps.proofs.Spared.{not-load, turned}
 
 module _ {N E : Type 0} {v : Values N} {s : PagerState N E} (is : WellFormed v s) {me : Owner} {l : LoadNumber} {node : NodeNumber} {h : HandleNumber} {x : N}
     (may : MayEnd s.core me l node h (v.node_type x) (v.references x)) (row : HandleRow) (own : Owns s.core me h is_loose row) (at_node : row.node ≡ node) where
@@ -24,79 +16,85 @@ module _ {N E : Type 0} {v : Values N} {s : PagerState N E} (is : WellFormed v s
   free : NotValues me × NotLoads me
   free = (grind (arith, nat_tests))
 
-  -- the cell is there, of the value's type
-  cell-typed : type_at w node.0 ≡ Some (v.node_type x)
-  cell-typed = search (rules, row-held, live-type)
+  stands : Stands w.last.handle w.rows h.0 row
+  stands = stands-whole is.whole.handles h.0 row own.live
 
   there-keeps : is_here w node.0 ≡ true → Keeps w (with_pin (without_load w l) h node me)
   there-keeps there =
       let first = turned is.whole free.0 h row own (subst (λ (m : NodeNumber). is_here w m.0 ≡ true) (sym at_node) there) in
-      let more = spares-handle (with_mode w h Mode.LoosePinned) node Mode.Pinned me free.0 (λ e. first.here node.0 ∙ there) in
-      spares-keeps (spares-then first (spares-then more (spares-same refl (λ n. refl))))
+      let here = subst (λ (m : NodeNumber). is_here (with_mode w h Mode.LoosePinned) m.0 ≡ true) at_node (mode-here w h Mode.LoosePinned row stands refl) in
+      spares-keeps (spares-then first (spares-then (spares-handle (with_mode w h Mode.LoosePinned) node Mode.Pinned me free.0 (λ e. here)) (spares-same refl (λ n. refl) refl)))
 
   -- ---- the cell has no value
 
   module _ (away : is_here w node.0 ≡ false) where
-    abbrev given_to : Core
-    given_to = moving.given_to is l node x may.good cell-typed away
+    -- the cell is there, of the value's type
+    cell-typed : type_at w node.0 ≡ Some (v.node_type x)
+    cell-typed = let some = row-held w h row own.live in let live = is.whole.handles.live node.0 in let root = is.whole.loads.roots l.0 may.load node (v.node_type x) h may.owned.stands_open may.of_node in grind (arith, nat_tests)
 
-    abbrev named : HandleRow → Bool
-    named r = is_named_by (v.references x) r.number.0
+    no-value : s.values node.0 ≡ None
+    no-value = grind (arith, nat_tests)
+
+    -- the load is closed, and what the value names is its own
+    abbrev given : Core
+    given = record (without_load w l) { rows = moved (is_named_by (v.references x)) (owner_value node.0) w.rows }
 
     abbrev pinned : Core
-    pinned = with_mode given_to h Mode.LoosePinned
+    pinned = with_mode given h Mode.LoosePinned
 
-    unnamed : named row ≡ false
-    unnamed = false_from_ne_true (named row) (λ e. free.1 l (sym own.own ∙ moving.was-load is l node x may.good cell-typed away row (among-found h.0 w.rows row own.live) e))
+    abbrev values : ℕ → Option N
+    values = updated node.0 (Some x) s.values
 
     -- the handle has its row still
-    stands : Stands given_to.last.handle given_to.rows h.0 row
-    stands =
-        subst (λ r. Stands w.last.handle given_to.rows h.0 r) (ap (λ b. if b then record row { owner = owner_value node.0 } else row) unnamed)
-        (stands-changed named (λ r. record r { owner = owner_value node.0 }) (λ r. refl) (stands-whole is.whole.handles h.0 row own.live))
+    stands-still : Stands given.last.handle given.rows h.0 row
+    stands-still =
+        let right = good w (Owner.Load l) [] (v.references x) may.good in
+        effects.moved-free me (is_named_by (v.references x)) (owner_value node.0) ((effects.named-free me w (Owner.Load l) (v.references x) (λ e. free.1 l (sym e)) right).each h.0 row own.own stands) stands
 
-    -- it pins its cell
-    pins-cell : is_here pinned node.0 ≡ true
-    pins-cell =
-        let number : is_handle h.0 row ≡ true = ap (λ n. n == h.0) (found-number h.0 w.rows row own.live) ∙ self-number h.0 in
-        let live : row_at pinned h ≡ Some (record row { mode = Mode.LoosePinned }) =
-        found-after (is_handle h.0) (λ r. record r { mode = Mode.LoosePinned }) (λ r. refl) h.0 given_to.rows row stands.live
-        ∙ ap (λ b. Some (if b then record row { mode = Mode.LoosePinned } else row)) number in
-        subst (λ (m : NodeNumber). is_here pinned m.0 ≡ true) at_node (pinned-here pinned row.node.0 (row-pins pinned h (record row { mode = Mode.LoosePinned }) live refl))
+    after : (n : ℕ) → OwnsAlike n given (with_pin given h node me)
+    after n = owns-then (mode-owns given h Mode.LoosePinned row stands-still (subst NotValues (sym own.own) free.0) n) (owns-handle pinned node Mode.Pinned me free.0 n)
 
-    more : Spares pinned (with_pin given_to h node me)
-    more = spares-handle pinned node Mode.Pinned me free.0 (λ e. pins-cell)
+    receives-it : Receives v w given s.values (v.references x) node.0
+    receives-it = receives is (not-load l) (v.references x) may.good node.0 w.cells given.loads w.last.node (λ n t e. e) no-value
 
-    owned : OwnsAlike given_to (with_pin given_to h node me)
-    owned = owns-then (mode-owned given_to h Mode.LoosePinned row stands (subst NotValues (sym own.own) free.0)) (spares-owned more)
+    sits-all : (n : ℕ) → At v (with_pin given h node me) n (values n)
+    sits-all n = sits-on v (after n) (values n) (receives-it.all (Some x) (receives-it.value x refl cell-typed) n)
 
-    -- other nodes that are in memory were so
-    was-here : (n : ℕ) → is_here (with_pin given_to h node me) n ≡ true → (n == node.0) ≡ false → is_here w n ≡ true
-    was-here n here other =
-        let away_from : (row.node.0 == n) ≡ false = ap (λ (m : NodeNumber). m.0 == n) at_node ∙ turned-round n other in
-        let same = mode-others given_to h Mode.LoosePinned row stands n away_from ∙ moving.same-pins is l node x may.good cell-typed away n in
-        sym (ap (λ p. is_in_memory p (key_at w n)) same) ∙ (sym (more.here n) ∙ here)
+    -- each node that is in memory has a value
+    there : (n : ℕ) → holds_value (with_pin given h node me) n ≡ true → is_some (values n) ≡ true
+    there n holds = at (n == node.0) refl
       where
-        turned-round : (n : ℕ) → (n == node.0) ≡ false → (node.0 == n) ≡ false
-        turned-round n e = grind (arith, nat_tests)
+        same-pins : (n == node.0) ≡ false → pins n (with_pin given h node me).rows ≡ pins n w.rows
+        same-pins e =
+            let apart : (node.0 == n) ≡ false = grind (arith, nat_tests) in
+            let a = sum_by_push (λ r. one (is_pin n r)) pinned.rows (row_of (w.last.handle + 1) node Mode.Pinned me) in
+            let b = mode-others given h Mode.LoosePinned row stands-still n (ap (λ (m : NodeNumber). m.0 == n) at_node ∙ apart) in
+            let c = receives-it.pins n in
+            let d : one (is_pin n (row_of (w.last.handle + 1) node Mode.Pinned me)) ≡ 0 = rw apart refl in
+            omega (arith, a, b, c, d)
 
-    all-sit : Sits v (with_pin given_to h node me) (updated node.0 (Some x) s.values)
-    all-sit =
-        sits-on (moving.moved-sits is l node x may.good cell-typed away) owned (λ n. refl)
-        (λ n live here. moving.there-at is l node x may.good cell-typed away n live (was-here n here))
+        at : (b : Bool) → (n == node.0) ≡ b → is_some (if b then Some x else s.values n) ≡ true
+        at true e = refl
+        at false e = is.valued n ∙ (ap (λ p. is_some (w.cells n) && is_in_memory p (key_at w n)) (sym (same-pins e)) ∙ holds)
 
     -- what goes is no value's
-    none-goes : (n q : ℕ) → 0 < owns n q (with_pin given_to h node me).rows → (is_owned_in w (Owner.Load l) q && not (is_named_by (v.references x) q)) ≡ false
-    none-goes n q some =
-        let was = moving.owned-was is l node x may.good cell-typed away n q (subst (λ j. 0 < j) (owned.owned n q) some) in
-        at was.row was.live was.own (named was.row) refl
+    none-goes : AreFree (with_pin given h node me) (λ q. is_owned_in w (Owner.Load l) q && not (is_named_by (v.references x) q))
+    none-goes q among goes n mine = at (n.0 == node.0) refl
       where
-        at : (row : HandleRow) → find_row q w.rows ≡ Some row → (if named row then record row { owner = owner_value node.0 } else row).owner ≡ owner_value n → (b : Bool) → named row ≡ b
-            → (is_owned_in w (Owner.Load l) q && not (is_named_by (v.references x) q)) ≡ false
-        at row live own true e =
-            let f : is_named_by (v.references x) q ≡ true = sym (ap (is_named_by (v.references x)) (found-number q w.rows row live)) ∙ e in
-            ap (λ b. is_owned_in w (Owner.Load l) q && not b) f ∙ and-false (is_owned_in w (Owner.Load l) q)
-        at row live own false e = grind (arith, nat_tests)
+        was : Among given.rows q
+        was = (after n.0).owned q among mine
+
+        both : (is_owned_in w (Owner.Load l) q.number.0 ≡ true) × (not (is_named_by (v.references x) q.number.0) ≡ true)
+        both = and_parts (is_owned_in w (Owner.Load l) q.number.0) _ goes
+
+        at : (b : Bool) → (n.0 == node.0) ≡ b → ⊥
+        at true e = let named = receives-it.named q was (mine ∙ ap owner_value (same-number n.0 node.0 e)) in let f = both.1 in cc
+        at false e =
+            let found = found-whole is.whole.handles q ((receives-it.before n.0 e).owned q was mine) in
+            let other : is_owned_in w (Owner.Load l) q.number.0 ≡ is_owner (Owner.Load l) q.owner = ap (if_there (is_owned_by (Owner.Load l)) false) found in
+            let f = ap (is_owner (Owner.Load l)) mine in
+            let g = both.0 in
+            cc
 
 -- ---- the law
 
@@ -113,6 +111,7 @@ module _ {N E : Type 0} {v : Values N} {s s' : PagerState N E} (is : WellFormed 
   pub installed_away : is_here s.core node.0 ≡ false → Sweeps (updated node.0 (Some x) s.values) s'.core s'.values → ((n : ℕ) → s'.counts n ≡ pins n s'.core.rows) → IsWhole s'.core
       → WellFormed v s'
   installed_away away swept counts whole = elim i.falls [
-    | inl (none, f) ↦ fell-from (all-sit is may i.row i.owned i.at away) s' f.falls (none-goes is may i.row i.owned i.at away) swept counts whole
+    | inl (none, f) ↦ fell-from (sits-all is may i.row i.owned i.at away) (there is may i.row i.owned i.at away) s' f.falls (none-goes is may i.row i.owned i.at away)
+        (record { swept = swept; counted = counts; whole = whole })
     | inr (there, f) ↦ absurd (let e : true ≡ false = sym there ∙ away in cc)
   ]

@@ -1,4 +1,4 @@
-use Rattle.{pagable_pager.proofs.{Words.{arc_value, blob_of}, Spared.told, Stored.{asked, fetch-call, whole-told}}, pagable_steps.proofs.SparedLists.asked as spares-asked}
+use Rattle.{pagable_pager.proofs.{Words.{arc_value, blob_of}, Spared.told, Stored.{asked, fetch-call, whole-told}}, pagable_steps.proofs.Spared.asked as spares-asked}
 use Rattle.pagable_pager.proofs.pager.Pager.fetch.Goals as goal
 
 pub invariant_of-self : goal.invariant_of-self

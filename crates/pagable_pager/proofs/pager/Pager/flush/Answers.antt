@@ -1,4 +1,4 @@
-use Rattle.{pagable_steps.proofs.SparedLists.asked as spares-asked, pagable_pager.proofs.{Spared.told, Stored.{asked, whole-told}}}
+use Rattle.{pagable_steps.proofs.Spared.asked as spares-asked, pagable_pager.proofs.{Spared.told, Stored.{asked, whole-told}}}
 use Rattle.pagable_pager.proofs.pager.Pager.flush.Goals as goal
 
 pub invariant_of-self : goal.invariant_of-self
