@@ -1,10 +1,11 @@
 -- A value comes to a node that had none: the handles that it names move to it, and it owns each once. And calls by which a node comes, with its value or without one.
 use Rattle.pagable_laws.proofs.Effects as effects
-use Rattle.pagable_steps.proofs.Words.{◌≡◌, ℕ, ◌+◌, ◌<◌, ◌≤◌, ◌==◌, ◌&&◌, ◌||◌, Bool, true, false, List, [], ◌∷◌, Option, Some, None, Ok, Err, inl, inr, refl, ap, sym, subst, ◌∙◌, if◌then◌else◌, arith, Result}
-use Rattle.pagable_steps.proofs.Words.{is_some, not, nat_lt, nat_tests, sum_by-cons, sum_by_push, OptionalDataKey, HandleRow, Owner, Mode, Error, ArcRef, Kind, HandleNumber, LoadNumber, Among, is_in, one, times}
-use Rattle.pagable_steps.proofs.Words.{if_there, type_of, is_loose_kind, is_pinning, is_pin, is_at, owner_value, held, mode_of, pins, Core, Cell, OpenLoad, Values, type_at, is_here, usable}
-use Rattle.pagable_steps.proofs.Words.{row_of, moved, with_node, with_handle, next_node, reference_fault, references_fault, is_named_by, BirthCall, AwayBirthCall, Adopts, LazyCall, PagerState, IsWhole}
-use Rattle.pagable_steps.proofs.Words.{WellFormed, Stands, AreGood, NotValues, good, or-none, named-among, stands-whole, stands-changed, found-number, among-changed, self-number, same-number, sum-le}
+use Rattle.pagable_steps.proofs.Words.{◌≡◌, ℕ, ◌+◌, ◌<◌, ◌≤◌, ◌==◌, ◌&&◌, ◌||◌, Bool, true, false, List, [], ◌∷◌, Option, Some, None, Ok, Err, inl, inr, refl, ap, sym, subst, ◌∙◌, if◌then◌else◌}
+use Rattle.pagable_steps.proofs.Words.{arith, Result, is_some, not, nat_lt, nat_tests, sum_by-cons, sum_by_push, OptionalDataKey, HandleRow, Owner, Mode, Error, ArcRef, Kind, HandleNumber, LoadNumber}
+use Rattle.pagable_steps.proofs.Words.{Among, is_in, one, times, if_there, type_of, is_loose_kind, is_pinning, is_pin, is_at, owner_value, held, mode_of, pins, Core, Cell, OpenLoad, Values, type_at}
+use Rattle.pagable_steps.proofs.Words.{is_here, usable, row_of, moved, with_node, with_handle, next_node, reference_fault, references_fault, is_named_by, BirthCall, AwayBirthCall, Adopts, LazyCall}
+use Rattle.pagable_steps.proofs.Words.{PagerState, IsWhole, WellFormed, Stands, AreGood, NotValues, good, or-none, named-among, stands-whole, stands-changed, found-number, among-changed, self-number}
+use Rattle.pagable_steps.proofs.Words.{same-number, sum-le}
 use Rattle.pagable_steps.proofs.{Owning.{At, Has, among-named, same-value, holds_value, settled, sits}, Spared.{not-load, gets-known}}
 use Rattle.pagable_steps.proofs.Parts.{OwnsAlike, Spares, owns-then, owns-handle, pinned-here, sits-on, spared, spares-alike, spares-cached, sum-mapped}
 
@@ -83,7 +84,8 @@ module _ {N E : Type 0} {v : Values N} {s : PagerState N E} (is : WellFormed v s
         let a = right r (subst (λ rs. Among rs r) same among) in
         let is : named a.row ≡ true = ap (is_named_by references) (found-number r.handle.0 w.rows a.row a.live) ∙ among-named references r (subst (λ rs. Among rs r) same among) in
         let s = stands-changed named to (λ h. refl) (stands-whole whole.handles r.handle.0 a.row a.live) in
-        record { row = to a.row; stands = subst (λ b. Stands w.last.handle given.rows r.handle.0 (if b then to a.row else a.row)) is s; at = a.at; owned = refl; fits = a.fits; typed = typed _ _ a.typed };
+        let stands = subst (λ b. Stands w.last.handle given.rows r.handle.0 (if b then to a.row else a.row)) is s in
+        record { row = to a.row; stands = stands; at = a.at; owned = refl; fits = a.fits; typed = typed _ _ a.typed };
     once = λ q. subst (λ (rs : List ArcRef). times (λ (r : ArcRef). r.handle.0 == q) rs ≤ 1) (sym same) (named-once w me [] references q fine);
     owned = λ h among own. let c = named-among (v.references x) h.number.0 (ap (λ rs. is_named_by rs h.number.0) same ∙ owned h among own) in record { r = c.0; among = c.1; is = c.2 };
   }
@@ -114,8 +116,8 @@ none-named w owner = refl
 
 -- ---- what is made
 
-module _ {N E : Type 0} {v : Values N} {s : PagerState N E} (s' : PagerState N E) (is : WellFormed v s) {me : Owner} (free : NotValues me) (t : ℕ) (own : OptionalDataKey) (references : List ArcRef) (mode : Mode)
-    (fine : references_fault s.core me [] references ≡ None) (like : Spares (with_handle (with_node s.core t own references) (next_node s.core) mode me) s'.core) where
+module _ {N E : Type 0} {v : Values N} {s : PagerState N E} (s' : PagerState N E) (is : WellFormed v s) {me : Owner} (free : NotValues me) (t : ℕ) (own : OptionalDataKey)
+    (references : List ArcRef) (mode : Mode) (fine : references_fault s.core me [] references ≡ None) (like : Spares (with_handle (with_node s.core t own references) (next_node s.core) mode me) s'.core) where
   abbrev next : ℕ
   next = next_of s.core
 
@@ -149,8 +151,8 @@ module _ {N E : Type 0} {v : Values N} {s : PagerState N E} (s' : PagerState N E
   holds-new : holds_value made next ≡ is_here made next
   holds-new = ap (λ c. is_some c && is_here made next) new-cell
 
-  comes : (o : Option N) → At v bearing next o → is_some o ≡ is_here made next → ((n : ℕ) → s'.values n ≡ (if n == next then o else s.values n)) → ((n : ℕ) → s'.counts n ≡ pins n s'.core.rows) → IsWhole s'.core
-      → WellFormed v s'
+  comes : (o : Option N) → At v bearing next o → is_some o ≡ is_here made next → ((n : ℕ) → s'.values n ≡ (if n == next then o else s.values n))
+      → ((n : ℕ) → s'.counts n ≡ pins n s'.core.rows) → IsWhole s'.core → WellFormed v s'
   comes o new here values =
       settled s' (λ n. subst (At v s'.core n) (sym (values n)) (sits-on v (owns-then (owns-handle bearing (next_node s.core) mode me free n) (like.owns n)) _ (receives-it.all o new n)))
       (λ n. ap is_some (values n) ∙ (valued n (n == next) refl ∙ sym (like.holds n)))
@@ -172,7 +174,7 @@ module _ {N E : Type 0} {v : Values N} {s : PagerState N E} (s' : PagerState N E
   comes-away : (key : ℕ) → own ≡ OptionalDataKey.Some key → references ≡ [] → is_pinning mode ≡ false → ((n : ℕ) → s'.values n ≡ s.values n)
       → ((n : ℕ) → s'.counts n ≡ pins n s'.core.rows) → IsWhole s'.core → WellFormed v s'
   unfolding is_named_by
-  comes-away key keyed nothing unpinned same = comes None none (sym away) (λ n. same n ∙ still n (n == next) refl)
+  comes-away key keyed nothing unpinned same = comes None none (sym away) (λ n. let a = same n in grind (arith, nat_tests, no-value))
     where
       none : At v bearing next None
       none h among mine = let e = ap (λ rs. is_named_by rs h.number.0) (sym nothing) ∙ receives-it.named h among mine in absurd (cc)
@@ -188,10 +190,6 @@ module _ {N E : Type 0} {v : Values N} {s : PagerState N E} (s' : PagerState N E
 
       away : is_here made next ≡ false
       away = let p = pins-made next in let q = self-number next in grind (arith, nat_tests, no-pins)
-
-      still : (n : ℕ) (b : Bool) → (n == next) ≡ b → s.values n ≡ (if b then None else s.values n)
-      still n true e = ap s.values (same-number n next e) ∙ no-value
-      still n false e = refl
 
 -- ---- the calls
 
@@ -225,7 +223,7 @@ module _ {N E : Type 0} {v : Values N} {s s' : PagerState N E} (is : WellFormed 
   lazily {l = l} {kind} {key} (Ok k) c = elim c.makes.3 [
     | inl g ↦ spared v s s' is (gets-known is.whole g)
     | inr (none, few, is_next, a) ↦
-        comes-away s' is (not-load l) (type_of kind.0) (OptionalDataKey.Some key) [] (mode_of kind.0) (none-named s.core (Owner.Load l)) (spares-cached kind key (next_node s.core) s.core.closed a) key refl refl
-        (mode-pins kind.0 true c.makes.2)
+        comes-away s' is (not-load l) (type_of kind.0) (OptionalDataKey.Some key) [] (mode_of kind.0) (none-named s.core (Owner.Load l))
+        (spares-cached kind key (next_node s.core) s.core.closed a) key refl refl (mode-pins kind.0 true c.makes.2)
   ]
   lazily (Err e) c = spared v s s' is (spares-alike c.refused.stays)

@@ -1,10 +1,10 @@
 -- Values go with a cascade: where a call has done what it does directly, a value stays exactly where its node is in memory afterwards, and owns what it did.
 use Rattle.std.proofs.lemmas.Bool.{false_from_ne_true}
-use Rattle.pagable_steps.proofs.Words.{◌≡◌, ℕ, suc, zero, ◌+◌, ◌<◌, ◌≤◌, ◌&&◌, Bool, true, false, List, [], ◌∷◌, Option, Some, None, inl, inr, refl, ap, sym, subst, ◌∙◌, if◌then◌else◌, arith, is_some, not}
-use Rattle.pagable_steps.proofs.Words.{nat_lt, cond, and_parts, nat_tests, sum_by-cons, sum_by-append, HandleRow, Owner, ArcRef, Among, one, times, if_there, filter}
-use Rattle.pagable_steps.proofs.Words.{is_at, is_pin, is_owned_by, owner_value, held, pins, Core, Cell, Values, type_at, is_here, is_outside}
-use Rattle.pagable_steps.proofs.Words.{owned_outside, loses_value, AreNewEntries, is_keyed, left_rows, Falls, PagerState, WellFormed, is_named_by, Stands, stands-alike, stands-more, among-kept}
-use Rattle.pagable_steps.proofs.Words.{among-found, found-number, found-kept, none-in-new, le-more, same-owner, sum-le, at-most-sum, row-held, fell-away, outlast, fallen, named-among}
+use Rattle.pagable_steps.proofs.Words.{◌≡◌, ℕ, suc, zero, ◌+◌, ◌<◌, ◌≤◌, ◌&&◌, Bool, true, false, List, [], ◌∷◌, Option, Some, None, inl, inr, refl, ap, sym, subst, ◌∙◌, if◌then◌else◌, arith, is_some}
+use Rattle.pagable_steps.proofs.Words.{not, nat_lt, cond, and_parts, nat_tests, sum_by-cons, sum_by-append, HandleRow, Owner, ArcRef, Among, one, times, if_there, filter, is_at, is_pin, is_owned_by}
+use Rattle.pagable_steps.proofs.Words.{owner_value, held, pins, Core, Cell, Values, type_at, is_here, is_outside, owned_outside, loses_value, AreNewEntries, is_keyed, left_rows, Falls, PagerState}
+use Rattle.pagable_steps.proofs.Words.{WellFormed, is_named_by, Stands, stands-alike, stands-more, among-kept, among-found, found-number, found-kept, none-in-new, le-more, same-owner, sum-le}
+use Rattle.pagable_steps.proofs.Words.{at-most-sum, row-held, fell-away, outlast, fallen, named-among}
 use Rattle.pagable_steps.proofs.{Owning.{At, Has, settled, sits, holds_value, same-value, owned-test, among-named}, Parts.{AreFree, Keeps, Leaves, among-either, sits-on}}
 
 -- ---- what is left, and what comes
@@ -140,7 +140,8 @@ module _ {before w w' : Core} {given : ℕ → Bool} {r : _} (f : Falls before w
 -- Where values stand in the world between, and each node in memory there has one, a pager is in step after the cascade.
 pub fell-from : {N E : Type 0} {v : Values N} {m : Core} {values : ℕ → Option N} → ((n : ℕ) → At v m n (values n)) → ((n : ℕ) → holds_value m n ≡ true → is_some (values n) ≡ true)
     → {before : Core} {given : ℕ → Bool} {r : _} (s' : PagerState N E) → Falls before m given r s'.core → AreFree m given → Leaves values s' → WellFormed v s'
-fell-from {N} {v = v} {m} {values} at there s' f free l = settled s' (λ n. subst (At v s'.core n) (sym (l.swept n)) (at-left f v values at free n)) (λ n. ap is_some (l.swept n) ∙ by n (holds_value s'.core n) refl) l.counted l.whole
+fell-from {N} {v = v} {m} {values} at there s' f free l =
+    settled s' (λ n. subst (At v s'.core n) (sym (l.swept n)) (at-left f v values at free n)) (λ n. ap is_some (l.swept n) ∙ by n (holds_value s'.core n) refl) l.counted l.whole
   where
     was-there : (n : ℕ) → holds_value s'.core n ≡ true → holds_value m n ≡ true
     was-there n is = let c = same-cell f n (and_parts (is_some (s'.core.cells n)) (is_here s'.core n) is).0 in let g = fell-away f n in grind (arith, nat_tests)
@@ -152,4 +153,5 @@ fell-from {N} {v = v} {m} {values} at there s' f free l = settled s' (λ n. subs
 -- The handles go from a world where values stand as they stood, and none of them is a value's.
 pub fell : {N E : Type 0} {v : Values N} {s s' : PagerState N E} {before m : Core} {given : ℕ → Bool} {r : _} → WellFormed v s → Keeps s.core m → Falls before m given r s'.core → AreFree s.core given
     → Leaves s.values s' → WellFormed v s'
-fell {v = v} {s} {s'} is k f free = fell-from (λ n. sits-on v (k.owns n) (s.values n) (sits is n)) (λ n held. is.valued n ∙ k.held n held) s' f (λ h among given n own. free h ((k.owns n.0).owned h among own) given n own)
+fell {v = v} {s} {s'} is k f free =
+    fell-from (λ n. sits-on v (k.owns n) (s.values n) (sits is n)) (λ n held. is.valued n ∙ k.held n held) s' f (λ h among given n own. free h ((k.owns n.0).owned h among own) given n own)

@@ -2,9 +2,10 @@
 use Rattle.pagable_laws.proofs.Effects as effects
 use Rattle.pagable_steps.proofs.Words.{◌≡◌, ℕ, ◌==◌, ◌&&◌, ◌||◌, Bool, true, false, List, [], ◌∷◌, Option, Some, None, Ok, Err, inl, inr, refl, ap, sym, subst, ◌∙◌, arith, Result, not, and_parts}
 use Rattle.pagable_steps.proofs.Words.{nat_tests, is_some, Error, HandleRow, Owner, Mode, ArcRef, Kind, HandleNumber, LoadNumber, NodeNumber, is_in, if_there, find_row, is_owner, is_owned_by}
-use Rattle.pagable_steps.proofs.Words.{owner_worker, is_at, is_in_memory, is_here, is_pinning, Core, Values, Alike, row_at, type_at, key_at, usable, FallsAnyhow, refused_if, named_fault, UnpinCall, ReleaseCall, SetKeyCall, ScheduleCall}
-use Rattle.pagable_steps.proofs.Words.{OfferCall, CloseCall, Owns, is_named_by, with_mode, with_key, is_owned_in, numbers_of, Adopts, EndCall, HandOverCall, DropCall, LoadCloses, is_workers_at, is_load_of, WorkerEnds}
-use Rattle.pagable_steps.proofs.Words.{PagerState, IsWhole, WellFormed, same-number, counted, same-owner, good, NotValues, neither, stands-whole, Stands}
+use Rattle.pagable_steps.proofs.Words.{owner_worker, is_at, is_in_memory, is_here, is_pinning, Core, Values, Alike, row_at, type_at, key_at, usable, FallsAnyhow, refused_if, named_fault, UnpinCall}
+use Rattle.pagable_steps.proofs.Words.{ReleaseCall, SetKeyCall, ScheduleCall, OfferCall, CloseCall, Owns, is_named_by, with_mode, with_key, is_owned_in, numbers_of, Adopts, EndCall, HandOverCall}
+use Rattle.pagable_steps.proofs.Words.{DropCall, LoadCloses, is_workers_at, is_load_of, WorkerEnds, PagerState, IsWhole, WellFormed, same-number, counted, same-owner, good, NotValues, neither}
+use Rattle.pagable_steps.proofs.Words.{stands-whole, Stands}
 use Rattle.pagable_steps.proofs.{Owning.{found-whole, holds_value}, Falling.fell, Spared.{rowed, own-free, listed-free, schedules, offers, spares-known, not-load}}
 use Rattle.pagable_steps.proofs.Parts.{AreFree, Keeps, Leaves, Spares, spares-keeps, spares-then, spares-same, spares-alike, spares-moved, owns-same, mode-owns, mode-others, row-here, stayed}
 

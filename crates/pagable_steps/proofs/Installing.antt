@@ -1,9 +1,9 @@
 -- A load of a cell ends with a pin: where the cell has no value, what was read comes into it; else it is dropped. What the load still owns goes.
 use Rattle.pagable_laws.proofs.Effects as effects
-use Rattle.pagable_steps.proofs.Words.{◌≡◌, ℕ, ◌+◌, ◌==◌, ◌&&◌, Bool, true, false, [], inl, inr, refl, ap, sym, subst, ◌∙◌, if◌then◌else◌, arith, Option, Some, None, is_some, not, and_parts, nat_tests}
-use Rattle.pagable_steps.proofs.Words.{sum_by_push, Among, one, HandleRow, Owner, Mode, HandleNumber, LoadNumber, NodeNumber, if_there, updated, owner_value, is_owned_by, is_owner, is_pin, is_loose}
-use Rattle.pagable_steps.proofs.Words.{is_in_memory, pins, Core, Values, row_of, type_at, key_at, is_here, Owns, is_named_by, moved, with_mode, without_load, is_owned_in, with_pin, MayEnd, Installs}
-use Rattle.pagable_steps.proofs.Words.{PagerState, IsWhole, WellFormed, NotLoads, NotValues, Stands, good, row-held, stands-whole, same-number}
+use Rattle.pagable_steps.proofs.Words.{◌≡◌, ℕ, ◌+◌, ◌==◌, ◌&&◌, Bool, true, false, [], inl, inr, refl, ap, sym, subst, ◌∙◌, if◌then◌else◌, arith, Option, Some, None, is_some, not, and_parts}
+use Rattle.pagable_steps.proofs.Words.{nat_tests, sum_by_push, Among, one, HandleRow, Owner, Mode, HandleNumber, LoadNumber, NodeNumber, if_there, updated, owner_value, is_owned_by, is_owner, is_pin}
+use Rattle.pagable_steps.proofs.Words.{is_loose, is_in_memory, pins, Core, Values, row_of, type_at, key_at, is_here, Owns, is_named_by, moved, with_mode, without_load, is_owned_in, with_pin, MayEnd}
+use Rattle.pagable_steps.proofs.Words.{Installs, PagerState, IsWhole, WellFormed, NotLoads, NotValues, Stands, good, row-held, stands-whole, same-number}
 use Rattle.pagable_steps.proofs.{Births.{Receives, receives}, Owning.{At, found-whole, holds_value}, Falling.{fell, fell-from}, FallingCalls.load-free}
 use Rattle.pagable_steps.proofs.{Parts.{AreFree, Keeps, OwnsAlike, Sweeps, owns-then, owns-handle, sits-on, spares-keeps, spares-then, spares-same, spares-handle, mode-owns, mode-others, mode-here}}
 use Rattle.pagable_steps.proofs.Spared.{not-load, turned}
@@ -30,7 +30,11 @@ module _ {N E : Type 0} {v : Values N} {s : PagerState N E} (is : WellFormed v s
   module _ (away : is_here w node.0 ≡ false) where
     -- the cell is there, of the value's type
     cell-typed : type_at w node.0 ≡ Some (v.node_type x)
-    cell-typed = let some = row-held w h row own.live in let live = is.whole.handles.live node.0 in let root = is.whole.loads.roots l.0 may.load node (v.node_type x) h may.owned.stands_open may.of_node in grind (arith, nat_tests)
+    cell-typed =
+        let some = row-held w h row own.live in
+        let live = is.whole.handles.live node.0 in
+        let root = is.whole.loads.roots l.0 may.load node (v.node_type x) h may.owned.stands_open may.of_node in
+        grind (arith, nat_tests)
 
     no-value : s.values node.0 ≡ None
     no-value = grind (arith, nat_tests)
@@ -49,7 +53,8 @@ module _ {N E : Type 0} {v : Values N} {s : PagerState N E} (is : WellFormed v s
     stands-still : Stands given.last.handle given.rows h.0 row
     stands-still =
         let right = good w (Owner.Load l) [] (v.references x) may.good in
-        effects.moved-free me (is_named_by (v.references x)) (owner_value node.0) ((effects.named-free me w (Owner.Load l) (v.references x) (λ e. free.1 l (sym e)) right).each h.0 row own.own stands) stands
+        let unnamed = (effects.named-free me w (Owner.Load l) (v.references x) (λ e. free.1 l (sym e)) right).each h.0 row own.own stands in
+        effects.moved-free me (is_named_by (v.references x)) (owner_value node.0) unnamed stands
 
     after : (n : ℕ) → OwnsAlike n given (with_pin given h node me)
     after n = owns-then (mode-owns given h Mode.LoosePinned row stands-still (subst NotValues (sym own.own) free.0) n) (owns-handle pinned node Mode.Pinned me free.0 n)

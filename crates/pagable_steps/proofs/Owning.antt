@@ -1,9 +1,9 @@
 -- What a pager's type says of values, row by row: a value owns the one row of each handle that it refers to, and no other; a node without a value owns nothing.
 use Rattle.std.{specs.List.AllPairs, proofs.lemmas.Bool.false_from_ne_true}
-use Rattle.pagable_steps.proofs.Words.{◌≡◌, ℕ, suc, ◌<◌, ◌≤◌, ◌==◌, ◌&&◌, Bool, true, List, [], ◌∷◌, Option, Some, None, refl, ap, sym, subst, ◌∙◌, arith, is_some, and_parts, nat_tests}
-use Rattle.pagable_steps.proofs.Words.{HandleRow, Owner, ArcRef, Among, one, times, find_row, is_handle, is_owner, is_owned_by, owner_value, fits_mode, type_of, pins, Core, Values, type_at, is_here}
-use Rattle.pagable_steps.proofs.Words.{PagerState, IsWhole, WellFormed, HandlesAreWhole, Stands, stands-whole, among-found, found-number, none-found, once, same-owner, same-number}
-use Rattle.pagable_steps.proofs.Words.{IsHandleBefore, sum_by-cons, slice_get_within, get_or_from_slice_get, is_named_by, self-number, at-most-sum, sum-le, sum-zero, counted, one-true}
+use Rattle.pagable_steps.proofs.Words.{◌≡◌, ℕ, suc, ◌<◌, ◌≤◌, ◌==◌, ◌&&◌, Bool, true, List, [], ◌∷◌, Option, Some, None, refl, ap, sym, subst, ◌∙◌, arith, is_some, and_parts, nat_tests, HandleRow}
+use Rattle.pagable_steps.proofs.Words.{Owner, ArcRef, Among, one, times, find_row, is_handle, is_owner, is_owned_by, owner_value, fits_mode, type_of, pins, Core, Values, type_at, is_here, PagerState}
+use Rattle.pagable_steps.proofs.Words.{IsWhole, WellFormed, HandlesAreWhole, Stands, stands-whole, among-found, found-number, none-found, once, same-owner, same-number, IsHandleBefore, sum_by-cons}
+use Rattle.pagable_steps.proofs.Words.{slice_get_within, get_or_from_slice_get, is_named_by, self-number, at-most-sum, sum-le, sum-zero, counted, one-true}
 
 -- the reference names the one row of a handle that the node's value owns
 pub record Refers (w : Core) (n : ℕ) (r : ArcRef) : Type 0 where

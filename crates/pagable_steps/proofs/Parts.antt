@@ -1,11 +1,11 @@
 -- What is done before handles go, part by part: it leaves what values own as it is.
 use Rattle.std.specs.Prelude.{◌⊎◌}
 use Rattle.pagable_laws.proofs.Effects as effects
-use Rattle.pagable_steps.proofs.Words.{◌≡◌, ℕ, suc, ◌+◌, ◌<◌, ◌==◌, ◌&&◌, Bool, true, false, List, [], ◌∷◌, ◌++◌, Option, Some, None, sum_by, map, refl, ap, sym, subst, ◌∙◌, inl, inr, if◌then◌else◌, arith}
-use Rattle.pagable_steps.proofs.Words.{is_some, nat_lt, nat_tests, sum_by-cons, sum_by_push, HandleRow, Owner, Mode, OptionalDataKey, HandleNumber, NodeNumber, SameAt, Among, changed, one, if_there}
-use Rattle.pagable_steps.proofs.Words.{is_handle, owner_value, is_pin, is_pinning, is_in_memory, pins, Core, Cell, Last, Alike, Values, row_at, type_at, key_at, is_here, row_of}
-use Rattle.pagable_steps.proofs.Words.{with_handle, with_mode, with_cached, moved, Kind, PagerState, IsWhole, WellFormed, Stands, stands-changed, among-found, among-changed, found-number}
-use Rattle.pagable_steps.proofs.Words.{NotValues, same-number, row-pins, self-number, found-after}
+use Rattle.pagable_steps.proofs.Words.{◌≡◌, ℕ, suc, ◌+◌, ◌<◌, ◌==◌, ◌&&◌, Bool, true, false, List, [], ◌∷◌, ◌++◌, Option, Some, None, sum_by, map, refl, ap, sym, subst, ◌∙◌, inl, inr, if◌then◌else◌}
+use Rattle.pagable_steps.proofs.Words.{arith, is_some, nat_lt, nat_tests, sum_by-cons, sum_by_push, HandleRow, Owner, Mode, OptionalDataKey, HandleNumber, NodeNumber, SameAt, Among, changed, one}
+use Rattle.pagable_steps.proofs.Words.{if_there, is_handle, owner_value, is_pin, is_pinning, is_in_memory, pins, Core, Cell, Last, Alike, Values, row_at, type_at, key_at, is_here, row_of, with_handle}
+use Rattle.pagable_steps.proofs.Words.{with_mode, with_cached, moved, Kind, PagerState, IsWhole, WellFormed, Stands, stands-changed, among-found, among-changed, found-number, NotValues, same-number}
+use Rattle.pagable_steps.proofs.Words.{row-pins, self-number, found-after}
 use Rattle.pagable_steps.proofs.Owning.{At, settled, sits, holds_value}
 
 -- what the value of the node owns stays as it is, and nodes their types
@@ -94,7 +94,8 @@ spares-cached kind key n false a = spares-same a.rows a.cells (ap (λ (l : Last)
 
 pub spared : {N E : Type 0} (v : Values N) (s s' : PagerState N E) → WellFormed v s → Spares s.core s'.core → ((n : ℕ) → s'.values n ≡ s.values n)
     → ((n : ℕ) → s'.counts n ≡ pins n s'.core.rows) → IsWhole s'.core → WellFormed v s'
-spared v s s' is spares same = settled s' (λ n. subst (At v s'.core n) (sym (same n)) (sits-on v (spares.owns n) (s.values n) (sits is n))) (λ n. ap is_some (same n) ∙ is.valued n ∙ sym (spares.holds n))
+spared v s s' is spares same =
+    settled s' (λ n. subst (At v s'.core n) (sym (same n)) (sits-on v (spares.owns n) (s.values n) (sits is n))) (λ n. ap is_some (same n) ∙ is.valued n ∙ sym (spares.holds n))
 
 pub stayed : {N E : Type 0} {v : Values N} {s s' : PagerState N E} → WellFormed v s → Spares s.core s'.core → Leaves s.values s' → WellFormed v s'
 stayed {N} {v = v} {s} {s'} is spares left = spared v s s' is spares (λ n. left.swept n ∙ at (s.values n) _ (is.valued n ∙ sym (spares.holds n))) left.counted left.whole

@@ -1,10 +1,11 @@
 -- Calls by which no value comes or goes.
 use Rattle.pagable_laws.proofs.Effects as effects
-use Rattle.pagable_steps.proofs.Words.{◌≡◌, ℕ, ◌+◌, ◌<◌, ◌≤◌, ◌==◌, Bool, true, false, Option, Some, None, Ok, Err, inl, inr, refl, ap, sym, subst, ◌∙◌, if◌then◌else◌, arith, Result}
-use Rattle.pagable_steps.proofs.Words.{not, nat_lt, is_some, slice_get, nat_tests, Beginning, Pinning, Want, HandleRow, Owner, Mode, Error, Blob, Kind, HandleNumber, LoadNumber, NodeNumber, WorkerNumber, one}
-use Rattle.pagable_steps.proofs.Words.{is_shared_kind, is_loose_kind, is_pinned_kind, is_at, is_pinning, is_pinned, is_shared, is_share, mode_of, held, pins, Core, Last, Alike, usable, is_here, only_handle}
-use Rattle.pagable_steps.proofs.Words.{Owns, with_mode, with_known, CloneCall, PinCall, LoosenCall, ScheduleCall, TakeCall, ReserveCall, RecallCall, OfferCall, ClearCall, Asked, StoreCall, with_worker}
-use Rattle.pagable_steps.proofs.Words.{with_entry_taken, BeginCall, BeginKeyCall, GetsKnown, Given, from_cache, AskCall, IsWhole, same-number, at-most-sum, counted, one-true, NotValues, stands-whole}
+use Rattle.pagable_steps.proofs.Words.{◌≡◌, ℕ, ◌+◌, ◌<◌, ◌≤◌, ◌==◌, Bool, true, false, Option, Some, None, Ok, Err, inl, inr, refl, ap, sym, subst, ◌∙◌, if◌then◌else◌, arith, Result, not, nat_lt}
+use Rattle.pagable_steps.proofs.Words.{is_some, slice_get, nat_tests, Beginning, Pinning, Want, HandleRow, Owner, Mode, Error, Blob, Kind, HandleNumber, LoadNumber, NodeNumber, WorkerNumber, one}
+use Rattle.pagable_steps.proofs.Words.{is_shared_kind, is_loose_kind, is_pinned_kind, is_at, is_pinning, is_pinned, is_shared, is_share, mode_of, held, pins, Core, Last, Alike, usable, is_here}
+use Rattle.pagable_steps.proofs.Words.{only_handle, Owns, with_mode, with_known, CloneCall, PinCall, LoosenCall, ScheduleCall, TakeCall, ReserveCall, RecallCall, OfferCall, ClearCall, Asked}
+use Rattle.pagable_steps.proofs.Words.{StoreCall, with_worker, with_entry_taken, BeginCall, BeginKeyCall, GetsKnown, Given, from_cache, AskCall, IsWhole, same-number, at-most-sum, counted, one-true}
+use Rattle.pagable_steps.proofs.Words.{NotValues, stands-whole}
 use Rattle.pagable_steps.proofs.{Words.{IsEntered, entered-of}, Owning.found-whole, Parts.{AreFree, Spares, row-here, spares-then, spares-same, spares-alike, spares-handle, spares-made, spares-moved}}
 use Rattle.pagable_steps.proofs.Parts.{spares-mode, mode-here}
 
@@ -34,7 +35,8 @@ begins (Ok Beginning.InMemory) c = spares-alike c.begins.2.1
 begins {w} (Ok (Beginning.Load l key)) c =
     let row : HandleRow = c.begins.0 in
     let a = c.begins.2.4.2 in
-    spares-then (spares-handle w row.node Mode.LooseUnpinned (Owner.Load l) (not-load l) (λ is. absurd (let e : false ≡ true = is in cc))) (spares-same a.rows a.cells (ap (λ (l : Last). l.handle) a.last))
+    spares-then
+    (spares-handle w row.node Mode.LooseUnpinned (Owner.Load l) (not-load l) (λ is. absurd (let e : false ≡ true = is in cc))) (spares-same a.rows a.cells (ap (λ (l : Last). l.handle) a.last))
 begins (Err e) c = spares-alike c.refused.stays
 
 pub begins-key : {w w' : Core} {me : Owner} {key : ℕ} (r : Result Beginning Error) → BeginKeyCall w me key r w' → Spares w w'
