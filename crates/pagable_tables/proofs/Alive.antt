@@ -1,6 +1,6 @@
 -- The live rows after a place changes, and how halving finds one.
 use Rattle.pagable_tables.proofs.Words.{◌≡◌, ℕ, ◌+◌, ◌<◌, ◌≤◌, ◌==◌, Bool, true, false, if◌then◌else◌, List, [], ◌∷◌, ◌++◌, length, get_or, set, suc, zero, sum_by, All, filter, refl, ap, sym, subst}
-use Rattle.pagable_tables.proofs.Words.{◌∙◌, arith, Some, None, slice_get, nat_tests, sum_by-cons, All-tail, All-set, ◌≢◌, ◌⊎◌, cases_eq, get_or_default, get_or_from_slice_get, slice_get_within}
+use Rattle.pagable_tables.proofs.Words.{◌∙◌, arith, Some, None, slice_get, nat_tests, sum_by-cons, All-tail, All-set, ◌⊎◌, cases_eq, get_or_default, get_or_from_slice_get, slice_get_within}
 use Rattle.pagable_tables.proofs.Words.{sum_by-set, get_or-le-sum_by, sum_by-le-sum_by, HandleRow, one, changed, find_row, is_handle, left_rows, IsNext, live, alive, is_live_place, IsBefore, Place}
 use Rattle.pagable_tables.proofs.{Words.{AllPairs, times, take, get_or-set_other, length-set, get_or-set_at}, Left.{left-none, ones}}
 use Rattle.std.proofs.lemmas.List.{get_or-take, length-take-le}
@@ -176,16 +176,13 @@ none-live q (s ∷ ss) h = by s.is_live refl (none-live q ss (λ k d lt e. h (su
 pub row-got : (ss : List Place) (i : ℕ) (p : Place) (q : ℕ) → AllPairs IsBefore ss → slice_get ss i ≡ Some p → p.is_live ≡ true → p.row.number.0 ≡ q → find_row q (live ss) ≡ Some p.row
 row-got ss i p q ordered at is number = subst (λ n. find_row n (live ss) ≡ Some p.row) number (row-live ss i p.row ordered (at ∙ ap (λ b. Some (record { row = p.row; is_live = b })) is))
 
-apart : (k m : ℕ) → k ≢ m → (k < m) ⊎ (m < k)
-apart k m h = grind arith
-
 -- the number at a dead place is no other's
 pub dead-only : (q : ℕ) (ss : List Place) (m : ℕ) (s : Place) → AllPairs IsBefore ss → m < length ss → s ≡ get_or ss m s → s.row.number.0 ≡ q → s.is_live ≡ false
     → (k : ℕ) (d : Place) → k < length ss → (get_or ss k d).row.number.0 ≡ q → (get_or ss k d).is_live ≡ false
 dead-only q ss m s ordered lt is number dead k d klt e =
     let at : get_or ss m d ≡ s = get_or_default ss m d s lt ∙ sym is in
     let number' : (get_or ss m d).row.number.0 ≡ q = ap (λ (x : Place). x.row.number.0) at ∙ number in
-    grind (arith, nat_tests, cases_eq, apart)
+    grind (arith, nat_tests, cases_eq)
 
 -- each place's number is below q still, after a place of it changes
 pub next-set : (q : ℕ) (ss : List Place) (i : ℕ) (row : HandleRow) (new : Place) → slice_get ss i ≡ Some (alive row) → new.row.number.0 ≡ row.number.0 → IsNext q ss → IsNext q (set ss i new)
@@ -216,26 +213,20 @@ only-row f ss i row ordered at less =
     let z = sum-without row.number.0 (live ss) in
     omega arith
 
-split_less : (k m : ℕ) → k < m + 1 → (k < m) ⊎ (k ≡ m)
-split_less k m h = grind arith
-
 -- all rows up to a smaller one are smaller
 pub smaller-up : {A : Type 0} (f : A → ℕ) (xs : List A) (m q : ℕ) (e : A) → AllPairs (λ a b. f a < f b) xs → m < length xs → f (get_or xs m e) < q → (k : ℕ) (d : A) → k < m + 1 → f (get_or xs k d) < q
 smaller-up f xs m q e ordered lt less k d h =
     let at : f (get_or xs m e) ≡ f (get_or xs m d) = ap f (get_or_default xs m e d lt) in
-    grind (arith, nat_tests, split_less)
-
-split_more : (k m : ℕ) → m ≤ k → (m < k) ⊎ (k ≡ m)
-split_more k m h = grind arith
+    grind (arith, nat_tests, cases_eq)
 
 -- all rows from a greater one on are greater
 pub greater-from : {A : Type 0} (f : A → ℕ) (xs : List A) (m q : ℕ) (e : A) → AllPairs (λ a b. f a < f b) xs → m < length xs → q ≤ f (get_or xs m e) → (f (get_or xs m e) ≡ q → ⊥)
     → (k : ℕ) (d : A) → m ≤ k → k < length xs → q < f (get_or xs k d)
 greater-from f xs m q e ordered lt more other k d h within =
     let at : f (get_or xs m e) ≡ f (get_or xs m d) = ap f (get_or_default xs m e d lt) in
-    grind (arith, nat_tests, split_more)
+    grind (arith, nat_tests, cases_eq)
 
-le_or_lt : (a b : ℕ) → (a ≤ b) ⊎ (b < a)
+pub le_or_lt : (a b : ℕ) → (a ≤ b) ⊎ (b < a)
 le_or_lt a b = grind arith
 
 -- what is smaller below a place and greater from one that isn't above it on has the number nowhere

@@ -3,7 +3,7 @@ use Rattle.pagable_tables.proofs.Words.{sum_by, ◌≡◌, ℕ, ◌+◌, ◌<◌
 use Rattle.pagable_tables.proofs.Words.{cases_eq, sum_by_push, sum_by-cons, ArcRef, HandleRow, Owner, Mode, one, SameAt, held, is_pinning, is_owner, owner_value, Counts, holds_in, falls_in, Right}
 use Rattle.pagable_tables.proofs.Words.{Fits, owns_nothing, named, is_valued, cell_in, ◌==◌, ◌&&◌, true, get_or, slice_get, get_or-le-sum_by, sum_by-le-sum_by, HandleNumber, times, find_row}
 use Rattle.pagable_tables.proofs.{Words.{is_handle, is_owned_by, Place, live, alive, IsBefore, AllPairs}, Fitting.{pin_of, handle_of, is_owned, pin-here, held-here, pin-other, held-other}}
-use Rattle.pagable_tables.proofs.Alive.{none-found, only-row}
+use Rattle.pagable_tables.proofs.{Words.is_at, Alive.{none-found, only-row}, Bits.one-le, Left.ones}
 
 pub no-value : (n : ℕ) (o : Owner) → is_valued o ≡ false → is_owner (owner_value n) o ≡ false
 no-value n x1 e = grind (arith, nat_tests)
@@ -54,8 +54,7 @@ rows-told at refs rows rows' top e f = subst (λ r. Fits at refs r top [] owns_n
 
 -- a node has no more handles than there are
 pub held-few : (n : ℕ) (rows : List HandleRow) → held n rows ≤ length rows
-held-few n [] = omega arith
-held-few n (x ∷ xs) = let a = held-few n xs in let l = sum_by-cons (handle_of n) x xs in let b : handle_of n x ≤ 1 = grind (arith, nat_tests) in omega arith
+held-few n rows = omega (arith, ones rows, sum_by-le-sum_by (handle_of n) (λ h. 1) rows (λ h. one-le (is_at n h)))
 
 -- The handle of the row x is loose and pins its node from now on.
 abbrev pub turned : HandleRow → HandleRow

@@ -4,7 +4,7 @@ use Rattle.pagable_tables.proofs.Words.{is_some, nat_lt, nat_eq, Result, nat_tes
 use Rattle.pagable_tables.proofs.Words.{is_pin, is_owned_by, owner_value, held, pins, has_key, is_in_memory, Core, Cell, greatest, Alike, left_rows, IsClosed, is_keyed, MustList, TellsListing}
 use Rattle.pagable_tables.proofs.Words.{CannotList, IsListRefusal, Falls, fallen, pins_outside, held_outside, Counts, Holdings, live, counts_at, refs_at, Fits, IsFalling, Right, holds_in, falls_in}
 use Rattle.pagable_tables.proofs.{Words.{keyed_in, cell_in, HasFallen, owns, owns_nothing, with_tables, told_by, SoFar, length, is_valued, valued, ValueStays, Sheds, has_value}, Left.times-left}
-use Rattle.pagable_tables.proofs.{Left.entries-none, Telling.keyed-cell, Fitting.first-waits, Bits.one-le}
+use Rattle.pagable_tables.proofs.{Words.sum_by-le-sum_by, Left.{entries-none, ones}, Telling.keyed-cell, Fitting.first-waits, Bits.one-le}
 
 stands : (at : ℕ → Option Counts) (refs : ℕ → List ArcRef) (rows : List HandleRow) (top : ℕ) → Fits at refs rows top [] owns_nothing → (n : ℕ) → falls_in (at n) ≡ false
 stands at refs rows top fits n = let a = fits.marked n in grind (arith, nat_tests)
@@ -88,8 +88,7 @@ module _ (before w : Core) (given : ℕ → Bool) (lists : Bool) (t : Holdings) 
       }
 
 pub valued-le : (rows : List HandleRow) → valued rows ≤ length rows
-valued-le [] = omega arith
-valued-le (x ∷ xs) = let a = valued-le xs in let b = sum_by-cons (λ (h : HandleRow). one (is_valued h.owner)) x xs in let d = one-le (is_valued x.owner) in omega arith
+valued-le rows = omega (arith, ones rows, sum_by-le-sum_by (λ (h : HandleRow). one (is_valued h.owner)) (λ h. 1) rows (λ h. one-le (is_valued h.owner)))
 
 -- where no node is first, none falls
 pub none-falls : (t : Holdings) (stack : List ℕ) → IsFalling t stack owns_nothing → t.top ≡ 0 → IsFalling t [] owns_nothing

@@ -3,6 +3,11 @@ use Rattle.pagable_tables.proofs.Words.{◌≡◌, ℕ, ◌+◌, ◌≤◌, ◌=
 use Rattle.pagable_tables.proofs.Words.{sum_by-le-sum_by, HandleNumber, HandleRow, Owner, Mode, one, times, is_handle, left_rows, AreNewEntries, sum_by, append-nil, sum_by_push, NodeNumber, Holdings}
 use Rattle.pagable_tables.proofs.{Words.{live, entry, entries_of, Leaves, sum_by-append, is_owned_by, is_owner, only_handle}, Bits.{and-zero, and-all}}
 
+-- a sum is at most two others where each of its parts is
+pub sum-most : {X : Type 0} (f g h : X → ℕ) (xs : List X) → ((x : X) → f x ≤ g x + h x) → sum_by f xs ≤ sum_by g xs + sum_by h xs
+sum-most f g h [] le = omega arith
+sum-most f g h (x ∷ xs) le = omega (arith, le x, sum_by-cons f x xs, sum_by-cons g x xs, sum_by-cons h x xs, sum-most f g h xs le)
+
 -- one handle more is in the set
 abbrev pub and_one : (ℕ → Bool) → ℕ → ℕ → Bool
 and_one gone q r = gone r || r == q
@@ -88,16 +93,6 @@ of_list q h = is_handle q h && is_owned_by Owner.List h
 abbrev of_other : ℕ → HandleRow → Bool
 of_other q h = is_handle q h && not (is_owned_by Owner.List h)
 
-parts : (q : ℕ) (rows : List HandleRow) → times (is_handle q) rows ≡ times (of_list q) rows + times (of_other q) rows
-parts q [] = refl
-parts q (x ∷ xs) =
-    let a = sum_by-cons (λ h. one (is_handle q h)) x xs in
-    let b = sum_by-cons (λ h. one (of_list q h)) x xs in
-    omega (arith, sum_by-cons (λ h. one (of_other q h)) x xs, parts q xs, bits (is_handle q x) (is_owned_by Owner.List x))
-  where
-    bits : (a b : Bool) → one a ≡ one (a && b) + one (a && not b)
-    bits a b = grind (arith, nat_tests)
-
 none-of : (p : HandleRow → Bool) (q : ℕ) (rows : List HandleRow) → times (λ h. (is_handle q h && p h) && not (h.number.0 == q)) rows ≡ 0
 none-of p q [] = refl
 none-of p q (x ∷ xs) = grind (arith, nat_tests, none-of p q xs)
@@ -115,6 +110,9 @@ pub none-entered : (q last : ℕ) (rows left entries : List HandleRow) → rows 
 none-entered q last rows left entries is new none =
     let a = ap (times (of_list q)) is in
     let b = sum_by-append (λ h. one (of_list q h)) left entries in
-    let d = parts q entries in
+    let d = sum-most (λ h. one (is_handle q h)) (λ h. one (of_list q h)) (λ h. one (of_other q h)) entries (λ h. bits (is_handle q h) (is_owned_by Owner.List h)) in
     let e = entries-none (of_other q) (λ h mode owner. let l : is_owned_by Owner.List h ≡ true = ap (is_owner Owner.List) owner in grind (arith, nat_tests)) last entries new in
     omega arith
+  where
+    bits : (a b : Bool) → one a ≤ one (a && b) + one (a && not b)
+    bits a b = grind (arith, nat_tests)

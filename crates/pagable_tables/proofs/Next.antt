@@ -5,7 +5,7 @@ use Rattle.pagable_tables.proofs.Words.{NodeNumber, Ok, Option, Owner, Result, S
 use Rattle.pagable_tables.proofs.Words.{false, filter, filter-append, first_cause, greatest, held, if◌then◌else◌, inl, inr, is_at, is_handle, is_keyed, is_listing, is_outside, is_owned_by, is_owner}
 use Rattle.pagable_tables.proofs.Words.{is_pin, is_some, left_rows, length, length-append, live, map, map-append, nat_tests, not, one, only_handle, owner_value, owns_nothing, pins, pins_in, refl}
 use Rattle.pagable_tables.proofs.{Words.{subst, sum_by, sum_by-append, sum_by-cons, sum_by-le-sum_by, sym, times, told_by, true, vec_capacity, with_tables, ℕ}, Bits.one-le, Left.and_one}
-use Rattle.pagable_tables.proofs.{Left.{entries-more, kept-more, leaves-sums, left-more, left-none, none-entered, none-listed, of_list, ones, times-left}, Telling.{entry-pins, forced, only-more}}
+use Rattle.pagable_tables.proofs.{Left.{sum-most, entries-more, kept-more, leaves-sums, left-more, left-none, none-entered, none-listed, of_list, ones, times-left}, Telling.{entry-pins, forced, only-more}}
 use Rattle.pagable_tables.proofs.{Telling.{refusal-now, tells-more}, keeps.HandleCalls.lists}
 
 rows-leaves : (rows entries : List HandleRow) (gone : ℕ → Bool) (old new : Holdings) (x : HandleRow) (wanted listed : Bool) (leaves : Leaves old x wanted listed new)
@@ -254,13 +254,9 @@ pub within-less : (a b c d : ℕ → Bool) (rows : List HandleRow) → ((r : ℕ
 within-less a b c d rows less is = grind (arith, nat_tests, sum_by-le-sum_by)
 
 within-both : (gone given s : ℕ → Bool) (q : ℕ) (rows : List HandleRow) → IsWithin rows gone s → IsWithin rows (and_one given q) s → IsWithin rows (and_one gone q) s
-within-both gone given s q [] a b = refl
-within-both gone given s q (x ∷ xs) a b =
-    let d = sum_by-cons (λ h. one (gone h.number.0 && not (s h.number.0))) x xs in
-    let e = sum_by-cons (λ h. one (and_one given q h.number.0 && not (s h.number.0))) x xs in
-    let g = sum_by-cons (λ h. one (and_one gone q h.number.0 && not (s h.number.0))) x xs in
-    let rest = within-both gone given s q xs (omega arith) (omega arith) in
-    let here = bits (gone x.number.0) (given x.number.0) (x.number.0 == q) (s x.number.0) in
+within-both gone given s q rows a b =
+    let c = sum-most (λ h. one (and_one gone q h.number.0 && not (s h.number.0))) (λ h. one (gone h.number.0 && not (s h.number.0))) (λ h. one (and_one given q h.number.0 && not (s h.number.0))) rows
+    (λ h. bits (gone h.number.0) (given h.number.0) (h.number.0 == q) (s h.number.0)) in
     omega arith
   where
     bits : (g v r s : Bool) → one ((g || r) && not s) ≤ one (g && not s) + one ((v || r) && not s)

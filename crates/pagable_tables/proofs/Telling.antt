@@ -4,19 +4,12 @@ use Rattle.pagable_tables.proofs.Words.{nat_tests, sum_by-cons, sum_by-append, O
 use Rattle.pagable_tables.proofs.Words.{Cell, IsWithin, IsClosed, is_keyed, is_outside, left_rows, held_outside, pins_outside, Counts, Holdings, live, counts_at, keyed_in, key_in, cell_in, HasFallen}
 use Rattle.pagable_tables.proofs.Words.{SoFar, ◌⊎◌, cases_Bool, and_parts, NodeNumber, Owner, Mode, is_share, is_shared, is_pinning, MustList, pins_in, entry, is_listing, with_tables, is_plain_pin}
 use Rattle.pagable_tables.proofs.{Words.{◌<◌, ◌++◌, length, subst, vec_capacity, Error, TellsListing, IsListRefusal, entries_of, IsUnlisted, first_cause, told_by}, Left.{times-left, entries-none}}
-use Rattle.pagable_tables.proofs.{Left.{left-le, with-entry, times-le}, Begun.open-then}
+use Rattle.pagable_tables.proofs.{Left.{left-le, with-entry, times-le, sum-most}, Begun.open-then}
 
 -- what is outside the one set is outside the other, or between them
 cut : (f : HandleRow → Bool) (gone s : ℕ → Bool) (rows : List HandleRow) → times (λ h. f h && not (s h.number.0)) rows
     ≤ times (λ h. f h && not (gone h.number.0)) rows + times (λ h. gone h.number.0 && not (s h.number.0)) rows
-cut f gone s [] = omega arith
-cut f gone s (x ∷ xs) =
-    let a = sum_by-cons (λ h. one (f h && not (s h.number.0))) x xs in
-    let b = sum_by-cons (λ h. one (f h && not (gone h.number.0))) x xs in
-    let d = sum_by-cons (λ h. one (gone h.number.0 && not (s h.number.0))) x xs in
-    let rest = cut f gone s xs in
-    let here = bits (f x) (gone x.number.0) (s x.number.0) in
-    omega arith
+cut f gone s rows = sum-most _ _ _ rows (λ h. bits (f h) (gone h.number.0) (s h.number.0))
   where
     bits : (p g s : Bool) → one (p && not s) ≤ one (p && not g) + one (g && not s)
     bits p g s = grind (arith, nat_tests)

@@ -1,8 +1,8 @@
 -- Calls on the cache and on room keep the world whole.
-use Rattle.pagable_tables.proofs.Words.{◌&&◌, ◌<◌, ◌==◌, ◌∙◌, ◌≡◌, ArePlaced, Bool, Cell, ClearCall, Core, Err, Error, HandleNumber, IsEntryWhole, IsWhole, Kind, MayHold, Mode, NodeNumber, None}
+use Rattle.pagable_tables.proofs.Words.{type_of, ◌&&◌, ◌<◌, ◌==◌, ◌∙◌, ◌≡◌, ArePlaced, Bool, ClearCall, Core, Err, Error, HandleNumber, IsEntryWhole, IsWhole, Kind, MayHold, Mode, NodeNumber, None}
 use Rattle.pagable_tables.proofs.Words.{OfferCall, Ok, Option, Owner, RecallCall, ReserveCall, Result, Some, Suits, arith, false, fits_mode, greatest, if◌then◌else◌, inl, inr, is_shared}
 use Rattle.pagable_tables.proofs.{Words.{is_shared_kind, is_some, mode_of, nat_tests, refl, sym, true, usable, with_cached, with_known, ℕ}, keeps.Comes.{beside, handle-on, suits-like}}
-use Rattle.pagable_tables.proofs.{keeps.Fallen.falls-whole, keeps.Kept.{alike-rows, is-in, keeps-whole, same-rows, type_in}, keeps.Placed.placed, keeps.Rows.{counted, found-among}}
+use Rattle.pagable_tables.proofs.{keeps.Fallen.falls-whole, keeps.Kept.{alike-rows, is-in, keeps-whole, same-rows, there-then}, keeps.Rows.{counted, found-among}}
 use Rattle.pagable_tables.proofs.keeps.Told.{alike-whole, load-stays, roomy, roomy-whole, settles, told-whole}
 
 pub clear-whole : {w w' : Core} (r : Result (Unit {0}) Error) → IsWhole w → ClearCall w r w' → ArePlaced w' → IsWhole w'
@@ -60,12 +60,12 @@ offer-whole {w} me kind key h (Ok None) whole holder call placed =
     let (row, owns, typed, offers) = call.answers in
     let (stands_open, none, leaves) = offers in
     let there = (found-among h.0 w.rows row owns.live).0 in
-    let entry : IsEntryWhole w kind.0 row.node.0 = grind (arith, nat_tests, some-typed, alike-rows whole, fits-shared) in
+    let entry : IsEntryWhole w kind.0 row.node.0 = record {
+      given = (whole.handles.nodes_numbered row.node.0 (there-then whole row there)).1;
+      typed = λ t is. let e : Some t ≡ Some (type_of kind.0) = sym is ∙ typed in cc;
+      shares = λ x among at. (alike-rows whole).same x row among there at ∙ fits-shared kind.0 row.mode owns.as_asked;
+    } in
     settles (roomy-whole (cached-whole kind key row.node whole stands_open entry)) leaves placed
-  where
-    some-typed : {t : ℕ} (cell : Option Cell) → type_in cell ≡ Some t → is_some cell ≡ true
-    some-typed (Some cell) is = refl
-    some-typed None is = absurd (cc)
 offer-whole {w} me kind key h (Ok (Some k)) whole holder call placed = elim call.answers.3 [
   | inl (closed, same, stays) ↦ alike-whole whole stays placed
   | inr (stands_open, (n, is, next, falls)) ↦ falls-whole (known-whole kind key n me whole is holder next.is_left) (handle-on w (record { 0 = n }) (mode_of kind.0) me) falls.falls placed

@@ -1,15 +1,15 @@
 -- Calls by which a load goes on or ends, and the close of the storage, keep the world whole.
-use Rattle.pagable_tables.proofs.Words.{◌&&◌, ◌+◌, ◌<◌, ◌==◌, ◌||◌, ◌∙◌, ◌∷◌, ◌≡◌, ◌⊎◌, AdoptCall, AllPairs, Among, ArcRef, ArePlaced, Bool, CloseCall, Core, DropCall, EndCall, Err, Error, Falls}
+use Rattle.pagable_tables.proofs.Words.{◌&&◌, ◌+◌, ◌<◌, ◌==◌, ◌∙◌, ◌∷◌, ◌≡◌, ◌⊎◌, AdoptCall, AllPairs, Among, ArcRef, ArePlaced, Bool, CloseCall, Core, DropCall, EndCall, Err, Error, Falls}
 use Rattle.pagable_tables.proofs.Words.{GetsKnown, HandOverCall, HandleNumber, HandleRow, IsEntryWhole, IsHandleBefore, IsWhole, Kind, LazyCall, List, LoadCloses, LoadNumber, MayHold, MayOwnLoad}
 use Rattle.pagable_tables.proofs.Words.{Mode, NodeNumber, None, Ok, OpenLoad, Option, OptionalDataKey, Owner, Owns, OwnsLoad, Result, Some, [], adopted, ap, arith, cell_fault, earlier, false}
 use Rattle.pagable_tables.proofs.Words.{first_key, greatest, has_key, if_there, if◌then◌else◌, inl, inr, is_handle, is_in, is_listed, is_loose, is_loose_kind, is_named_by, is_owned_by, is_owned_in}
-use Rattle.pagable_tables.proofs.Words.{is_owner, is_shared, is_some, load_fault, mode_of, moved, named_fault, nat_tests, next_node, not, numbers_of, owner_value, references_fault, refl, refused_if}
-use Rattle.pagable_tables.proofs.Words.{row_at, row_of, shut, subst, suc, sym, times, true, type_of, updated, with_cached, with_handle, with_mode, with_node, with_pin, without_load, zero, ℕ}
-use Rattle.pagable_tables.proofs.{Handed.found-there, Worlds.owner-same, keeps.CacheCalls.{cached-whole, known-whole, mode-shared}, keeps.Comes.{handle-on, not-list}, keeps.Fallen.alike-opened}
-use Rattle.pagable_tables.proofs.{keeps.Fallen.{falls-lost, falls-opened, opened, references-opened}, keeps.HandleCalls.{IsMine, born-whole, moved-number, moved-on, moved-to-holder, moved-to-value}}
-use Rattle.pagable_tables.proofs.{keeps.HandleCalls.{named-own, named-unlisted, no-references, pin-comes, pin-on}, keeps.Kept.{IsIn, alike-rows, is-in}, keeps.LoadCalls.may-hold}
-use Rattle.pagable_tables.proofs.{keeps.Placed.placed, keeps.Rows.{among-both, among-last, among-map, among-one, each-changed, found-among, found-so, once}, keeps.Told.{GoesOn, alike-whole}}
-use Rattle.pagable_tables.proofs.keeps.Told.{may-own, roomy, roomy-whole, settles, stays-on, then-on}
+use Rattle.pagable_tables.proofs.Words.{is_owner, is_shared, is_some, load_fault, mode_of, moved, named_fault, nat_tests, next_node, not, numbers_of, owner_value, references_fault, refl, row_of}
+use Rattle.pagable_tables.proofs.{Words.{shut, subst, suc, sym, times, true, type_of, updated, with_cached, with_handle, with_mode, with_node, with_pin, without_load, zero, ℕ}, Handed.found-there}
+use Rattle.pagable_tables.proofs.{Handed.one-fault, Worlds.owner-same, keeps.CacheCalls.{cached-whole, known-whole, mode-shared}, keeps.Comes.{handle-on, not-list}, keeps.Fallen.alike-opened}
+use Rattle.pagable_tables.proofs.{keeps.Fallen.{falls-lost, falls-opened, opened, references-opened}, keeps.HandleCalls.{IsMine, born-whole, mine-of, moved-number, moved-on, moved-to-holder}}
+use Rattle.pagable_tables.proofs.{keeps.HandleCalls.{moved-to-value, named-own, named-unlisted, no-references, pin-comes, pin-on}, keeps.Kept.{IsIn, alike-rows, is-in}, keeps.LoadCalls.may-hold}
+use Rattle.pagable_tables.proofs.{keeps.Rows.{among-both, among-changed, among-last, among-one, found-among, found-so, once}, keeps.Told.{GoesOn, alike-whole, may-own, roomy}}
+use Rattle.pagable_tables.proofs.keeps.Told.{roomy-whole, settles, stays-on, then-on}
 
 -- ---- a load closes
 
@@ -63,12 +63,10 @@ module _ (before m : Core) (whole : IsWhole (roomy (opened m))) (on : GoesOn bef
     (gives : (x : HandleRow) → Among m.rows x → x.owner ≡ Owner.Load l → given x.number.0 ≡ true) where
   pinned-gives : (x : HandleRow) → Among (with_pin m h row.node me).rows x → x.owner ≡ Owner.Load l → given x.number.0 ≡ true
   pinned-gives x among own = elim (among-both (with_mode m h Mode.LoosePinned).rows _ x among) [
-    | inl old ↦ let y = among-map (λ (z : HandleRow). if is_handle h.0 z then record z { mode = Mode.LoosePinned } else z) m.rows x old in of y.0 y.1 (is_handle h.0 y.0) y.2
+    | inl old ↦
+        among-changed (is_handle h.0) (λ z. record z { mode = Mode.LoosePinned }) (λ z. z.owner ≡ Owner.Load l → given z.number.0 ≡ true) m.rows x old (λ z there e. gives z there) (λ z there e. gives z there) own
     | inr new ↦ absurd (not-load m me l may (ap (λ (z : HandleRow). z.owner) (sym (among-one _ x new)) ∙ own))
   ]
-    where
-      of : (y : HandleRow) → Among m.rows y → (b : Bool) → x ≡ (if b then record y { mode = Mode.LoosePinned } else y) → given x.number.0 ≡ true
-      of y there b2 e = grind (arith, nat_tests)
 
   pub ends-whole : {w' : Core} {r : Result (Unit {0}) Error} (node : NodeNumber) → row.node ≡ node → Falls before (without_load (with_pin m h node me) l) given r w' → ArePlaced (opened w')
       → IsWhole (opened w')
@@ -84,11 +82,8 @@ both-true a b e f = rw (e, f) refl
 left-given : {w : Core} → IsWhole w → (l : LoadNumber) (s : ℕ → Bool) (o : Owner) → (o ≡ Owner.Load l → ⊥) → (y : HandleRow) → Among (moved s o w.rows) y → y.owner ≡ Owner.Load l
     → (is_owned_in w (Owner.Load l) y.number.0 && not (s y.number.0)) ≡ true
 left-given {w} whole l s o other y among =
-    let moves = λ (z : HandleRow). s z.number.0 in
-    let to = λ (z : HandleRow). record z { owner = o } in
-    let given = λ (z : HandleRow). z.owner ≡ Owner.Load l → (is_owned_in w (Owner.Load l) z.number.0 && not (s z.number.0)) ≡ true in
-    let (z, there, is) = among-map (λ z. if moves z then to z else z) w.rows y among in
-    subst given (sym is) (each-changed moves to given z (λ e own. absurd (other own)) (λ e own. both-true _ _ (owned-in whole l z there own) e))
+    among-changed (λ z. s z.number.0) (λ z. record z { owner = o }) (λ z. z.owner ≡ Owner.Load l → (is_owned_in w (Owner.Load l) z.number.0 && not (s z.number.0)) ≡ true) w.rows y among
+    (λ z there e own. absurd (other own)) (λ z there e own. both-true _ _ (owned-in whole l z there own) e)
 
 pub end-whole : {N : Type 0} {w w' : Core} (me : Owner) (l : LoadNumber) (x : N) (node_type : ℕ) (refs : List ArcRef) (r : Result HandleNumber (Error × Option N)) → IsWhole (opened w)
     → EndCall w me l x node_type refs r w' → ArePlaced (opened w') → IsWhole (opened w')
@@ -133,24 +128,15 @@ end-whole me l x node_type refs (Err (e, None)) whole call placed = let v = call
 pub both-none : (a b : Option Error) → earlier a b ≡ None → (a ≡ None) × (b ≡ None)
 both-none a b e = grind (arith, nat_tests)
 
+handed-one : (w : Core) (owner : Owner) (seen : List ℕ) (h : HandleNumber) → one-fault w owner seen h ≡ None → IsMine w owner h.0
+handed-one w owner seen h good = grind (arith, nat_tests, owner-same)
+
 pub handed-mine : (w : Core) (owner : Owner) (seen : List ℕ) (hs : List HandleNumber) → named_fault w owner seen hs ≡ None → (q : ℕ) → is_in (numbers_of hs) q ≡ true → IsMine w owner q
 unfolding named_fault is_in
 handed-mine w owner seen [] good q named = absurd (cc)
 handed-mine w owner seen (h ∷ hs) good q named =
-    let parts = both-none (if_there (λ (row : HandleRow). refused_if (not (is_owner owner row.owner) || is_in seen h.0) Error.NotYours) (Some Error.NoSuchHandle) (row_at w h))
-    (named_fault w owner (h.0 ∷ seen) hs) good in
-    at (h.0 == q) refl named (of (row_at w h) refl parts.0) (λ n. handed-mine w owner (h.0 ∷ seen) hs parts.1 q n)
-  where
-    own : (b c : Bool) → refused_if (not b || c) Error.NotYours ≡ None → b ≡ true
-    own b0 c e = grind (arith, nat_tests)
-
-    of : (found : Option HandleRow) → row_at w h ≡ found → if_there (λ (row : HandleRow). refused_if (not (is_owner owner row.owner) || is_in seen h.0) Error.NotYours)
-        (Some Error.NoSuchHandle) found ≡ None → IsMine w owner h.0
-    of None e good = absurd (cc)
-    of (Some row) e good = record { row = row; live = e; own = owner-same owner row.owner (own (is_owner owner row.owner) (is_in seen h.0) good) }
-
-    at : (b : Bool) → (h.0 == q) ≡ b → (b || is_in (numbers_of hs) q) ≡ true → IsMine w owner h.0 → (is_in (numbers_of hs) q ≡ true → IsMine w owner q) → IsMine w owner q
-    at b0 e named mine rest = grind (arith, nat_tests)
+    let parts = both-none (one-fault w owner seen h) (named_fault w owner (h.0 ∷ seen) hs) good in
+    mine-of w owner h.0 q (h.0 == q) (is_in (numbers_of hs) q) refl named (handed-one w owner seen h parts.0) (λ n. handed-mine w owner (h.0 ∷ seen) hs parts.1 q n)
 
 -- what is handed over isn't the list's
 pub handed-unlisted : (w : Core) → AllPairs IsHandleBefore w.rows → (l : LoadNumber) (hs : List HandleNumber) → named_fault w (Owner.Load l) [] hs ≡ None → (x : HandleRow) → Among w.rows x

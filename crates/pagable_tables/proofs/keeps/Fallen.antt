@@ -3,7 +3,7 @@ use Rattle.pagable_tables.proofs.Words.{◌&&◌, ◌+◌, ◌<◌, ◌==◌, �
 use Rattle.pagable_tables.proofs.Words.{HandleRow, IsHandleBefore, IsWhole, IsWithin, List, MayOwnLoad, None, OpenLoad, Option, Owner, Result, Some, [], ap, arith, fallen, false, filter, greatest}
 use Rattle.pagable_tables.proofs.Words.{held, if◌then◌else◌, inl, inr, is_at, is_handle, is_owned_by, is_pin, is_pinning, is_share, is_shared, is_some, left_rows, length, map, nat_lt, nat_tests}
 use Rattle.pagable_tables.proofs.{Words.{not, one, or_else, pins, reference_fault, references_fault, refl, sharing, subst, suc, sum_by-append, sym, times, true, zero, ℕ}, Bits.{not-so, one-true}}
-use Rattle.pagable_tables.proofs.{keeps.Kept.{GoOn, HasLike, IsIn, IsNew, IsOld, at-then, held-some, is-in, keeps-whole, keyed_in, load-in, stays-old, there-then, type_in}, keeps.Placed.placed}
+use Rattle.pagable_tables.proofs.{keeps.Kept.{GoOn, HasLike, IsIn, IsNew, IsOld, at-then, held-some, is-in, keeps-whole, keyed_in, load-in, stays-old, there-then, type_in}}
 use Rattle.pagable_tables.proofs.{keeps.Rows.{IsEntry, among-both, among-left, at-most-sum, counted, entries-listed, entry-is, one-left, ordered-entries, within-goes}, keeps.Told.{GoesOn, roomy}}
 use Rattle.pagable_tables.proofs.keeps.Told.{settles, told-whole}
 

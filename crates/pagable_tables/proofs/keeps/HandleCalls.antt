@@ -4,7 +4,7 @@ use Rattle.pagable_tables.proofs.Words.{HandleNumber, HandleRow, IsWhole, List, 
 use Rattle.pagable_tables.proofs.Words.{Result, Some, Suits, [], ap, arith, false, find_row, greatest, has_key, if◌then◌else◌, inr, is_handle, is_loose, is_named_by, is_owned_by, is_owner}
 use Rattle.pagable_tables.proofs.Words.{is_pinned, is_shared, is_some, moved, nat_tests, next_node, one, or_else, owner_value, reference_fault, references_fault, refl, row_at, row_of, subst, sym}
 use Rattle.pagable_tables.proofs.{Words.{times, true, updated, with_handle, with_mode, with_node, with_pin, ℕ}, keeps.Comes.{beside, grown-whole, handle-on, not-list, not-the-list, suits-like}}
-use Rattle.pagable_tables.proofs.{keeps.Kept.{HasLike, IsIn, holder-in, keyed_in}, keeps.Placed.placed, keeps.Rows.{each-changed, found-among, once, sum-map}, keeps.Told.{GoesOn, alike-whole}}
+use Rattle.pagable_tables.proofs.{keeps.Kept.{HasLike, IsIn, holder-in, keyed_in}, keeps.Rows.{each-changed, found-among, once, sum-map}, keeps.Told.{GoesOn, alike-whole}}
 use Rattle.pagable_tables.proofs.keeps.Told.{moded-on, moded-whole, roomy, settles, then-on, turned-on, turned-whole}
 
 -- the list's handles of one number
@@ -117,6 +117,10 @@ pub record IsMine (w : Core) (owner : Owner) (q : ℕ) : Type 0 where
 good-one : (w : Core) (owner : Owner) (seen : List ℕ) (r : ArcRef) → reference_fault w owner seen r ≡ None → IsMine w owner r.handle.0
 good-one w owner seen r good = grind (arith, nat_tests)
 
+-- one that is named first, or later
+pub mine-of : (w : Core) (owner : Owner) (k q : ℕ) (b rest : Bool) → (k == q) ≡ b → (b || rest) ≡ true → IsMine w owner k → (rest ≡ true → IsMine w owner q) → IsMine w owner q
+mine-of w owner k q b0 rest e named mine others = grind (arith, nat_tests)
+
 pub or-none : {X : Type 0} (a b : Option X) → or_else a b ≡ None → (a ≡ None) × (b ≡ None)
 or-none x0 b e = grind (arith, nat_tests)
 
@@ -125,10 +129,7 @@ unfolding references_fault is_named_by
 named-mine w owner seen [] good q named = absurd (cc)
 named-mine w owner seen (r ∷ rs) good q named =
     let parts = or-none (reference_fault w owner seen r) (references_fault w owner (r.handle.0 ∷ seen) rs) good in
-    at (r.handle.0 == q) refl named (good-one w owner seen r parts.0) (λ n. named-mine w owner (r.handle.0 ∷ seen) rs parts.1 q n)
-  where
-    at : (b : Bool) → (r.handle.0 == q) ≡ b → (b || is_named_by rs q) ≡ true → IsMine w owner r.handle.0 → (is_named_by rs q ≡ true → IsMine w owner q) → IsMine w owner q
-    at b0 e named mine rest = grind (arith, nat_tests)
+    mine-of w owner r.handle.0 q (r.handle.0 == q) (is_named_by rs q) refl named (good-one w owner seen r parts.0) (λ n. named-mine w owner (r.handle.0 ∷ seen) rs parts.1 q n)
 
 -- what is named is the owner's, so it isn't the list's
 pub named-own : {w : Core} → IsWhole w → (owner : Owner) (refs : List ArcRef) → references_fault w owner [] refs ≡ None → (x : HandleRow) → Among w.rows x → is_named_by refs x.number.0 ≡ true

@@ -4,7 +4,7 @@ use Rattle.pagable_tables.proofs.Words.{Option, OptionalDataKey, Owner, ReleaseC
 use Rattle.pagable_tables.proofs.Words.{if_there, if◌then◌else◌, inl, inr, is_owned_by, is_owner, is_shared, is_some, is_unpinned, moved, nat_tests, one, only_handle, refl, slice_get}
 use Rattle.pagable_tables.proofs.{Words.{slice_get_within, sum_by-remove, sum_by_push, sym, times, true, with_key, ℕ}, Bits.{and-all, and-zero}, keeps.Comes.not-list, keeps.Fallen.alike-opened}
 use Rattle.pagable_tables.proofs.{keeps.Fallen.{falls-opened, falls-whole, opened}, keeps.HandleCalls.{lists, loose-unshared, moved-so}, keeps.Kept.{HasLike, alike-rows, holder-in, is-in}}
-use Rattle.pagable_tables.proofs.{keeps.Kept.{keeps-whole, keyed_in, stays-old, type_in}, keeps.Placed.placed, keeps.Rows.{changed-sum, counted, found-among, once}, keeps.Told.alike-whole}
+use Rattle.pagable_tables.proofs.{keeps.Kept.{keeps-whole, keyed_in, stays-old, type_in}, keeps.Rows.{changed-sum, counted, found-among, once}, keeps.Told.alike-whole}
 use Rattle.pagable_tables.proofs.keeps.Told.{load-stays, moded-on, moded-whole, roomy, roomy-whole, settles, stays-on}
 use Rattle.std.specs.List.{remove}
 

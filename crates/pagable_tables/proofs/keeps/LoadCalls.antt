@@ -1,9 +1,9 @@
 -- Calls on loads keep the world whole.
-use Rattle.pagable_tables.proofs.Words.{◌+◌, ◌<◌, ◌==◌, ◌∙◌, ◌≡◌, ◌⊎◌, ArePlaced, BeginCall, BeginKeyCall, Beginning, Cell, Core, Err, Error, HandleNumber, HandleRow, IsNextLoad, IsRootWhole}
-use Rattle.pagable_tables.proofs.Words.{IsWhole, MayHold, MayOwnLoad, Mode, NodeNumber, None, Ok, OpenLoad, Option, Owner, Owns, Result, Root, Some, ap, arith, greatest, inl, inr, is_loose, is_some}
-use Rattle.pagable_tables.proofs.{Words.{nat_tests, of_cell, of_key, refl, subst, sym, true, type_at, updated, with_handle, with_load, ℕ}, keeps.Comes.beside, keeps.HandleCalls.loose-unshared}
-use Rattle.pagable_tables.proofs.{keeps.Kept.{IsLoadIn, in-still, is-in, keeps-whole, same-rows, type_in}, keeps.Placed.placed, keeps.Rows.found-among, keeps.Told.{alike-whole, load-stays, may-own}}
-use Rattle.pagable_tables.proofs.keeps.Told.{roomy, roomy-whole, settles}
+use Rattle.pagable_tables.proofs.Words.{◌+◌, ◌<◌, ◌==◌, ◌∙◌, ◌≡◌, ◌⊎◌, ArePlaced, BeginCall, BeginKeyCall, Beginning, Core, Err, Error, HandleNumber, HandleRow, IsNextLoad, IsRootWhole, IsWhole}
+use Rattle.pagable_tables.proofs.Words.{MayHold, MayOwnLoad, Mode, NodeNumber, Ok, OpenLoad, Option, Owner, Owns, Result, Root, Some, ap, arith, greatest, inl, inr, is_loose, is_some, nat_tests}
+use Rattle.pagable_tables.proofs.{Words.{of_cell, of_key, refl, subst, sym, true, type_at, updated, with_handle, with_load, ℕ}, keeps.Comes.beside, keeps.HandleCalls.loose-unshared}
+use Rattle.pagable_tables.proofs.{keeps.Kept.{IsLoadIn, in-still, is-in, keeps-whole, same-rows, there-then}, keeps.Rows.found-among, keeps.Told.{alike-whole, load-stays}}
+use Rattle.pagable_tables.proofs.keeps.Told.{may-own, roomy, roomy-whole, settles}
 
 -- ---- one load more
 
@@ -16,9 +16,6 @@ some-updated {X} l new f q is = grind (arith, nat_tests)
 
 is-updated : {X : Type 0} (l : ℕ) (new : Option X) (f : ℕ → Option X) → updated l new f l ≡ new
 is-updated l new f = let e : (l == l) ≡ true = grind (arith, nat_tests) in rw e refl
-
-some-value : {X : Type 0} (o : Option X) → is_some o ≡ true → (x : X) × (o ≡ Some x)
-some-value x0 is = grind (arith, nat_tests)
 
 pub loaded-whole : {w : Core} (key : ℕ) (root : Root) (me : Owner) → IsWhole w → MayOwnLoad w me → w.last.load < greatest
     → ((node : NodeNumber) (t : ℕ) (h : HandleNumber) → root ≡ of_cell node t h → IsRootWhole w node t h) → IsWhole (with_load w key root me)
@@ -43,7 +40,7 @@ loaded-whole {w} key root me whole may left good =
 pub begin-key-whole : {w w' : Core} (me : Owner) (key : ℕ) (r : Result Beginning Error) → IsWhole w → MayOwnLoad w me → BeginKeyCall w me key r w' → ArePlaced w' → IsWhole w'
 begin-key-whole {w} me key (Ok (Beginning.Load l k)) whole may call placed =
     let (same, next, leaves) = call.begins in
-    settles (loaded-whole {w = roomy w} key of_key me (roomy-whole whole) (may-own w (roomy w) (λ v at. at) me may) next.is_left (λ node t h is. absurd (cc))) leaves placed
+    settles (roomy-whole (loaded-whole key of_key me whole may next.is_left (λ node t h is. absurd (cc)))) leaves placed
 begin-key-whole me key (Ok Beginning.InMemory) whole may call placed = absurd call.begins
 begin-key-whole me key (Err e) whole may call placed = alike-whole whole call.refused.stays placed
 
@@ -62,24 +59,18 @@ begin-whole {w} {w'} me h (Ok (Beginning.Load l key)) whole may call placed =
         → IsWhole (roomy (with_load (with_handle w row.node Mode.LooseUnpinned (Owner.Load l)) key (of_cell row.node t h) me))
     begun row owns next left t typed key =
         let found = found-among h.0 w.rows row owns.live in
-        let root : IsRootWhole (roomy w) row.node t h = record {
+        let root : IsRootWhole w row.node t h = record {
           typed = λ type is. let e : Some type ≡ Some t = sym is ∙ typed in cc;
           begun = λ x is. let e : Some row ≡ Some x = sym owns.live ∙ is in let same : row ≡ x = cc in
               (ap (λ (y : HandleRow). y.node) (sym same), ap (λ (y : HandleRow). is_loose y.mode) (sym same) ∙ owns.as_asked);
-          given = let a = (whole.handles.numbered row found.0).1 in let b = found.1 in (omega arith, (whole.handles.nodes_numbered row.node.0 (some-typed (w.cells row.node.0) typed)).1);
+          given = let a = (whole.handles.numbered row found.0).1 in let b = found.1 in (omega arith, (whole.handles.nodes_numbered row.node.0 (there-then whole row found.0)).1);
         } in
-        beside (loaded-whole {w = roomy w} key (of_cell row.node t h) me (roomy-whole whole) (may-own w (roomy w) (λ v at. at) me may) next.is_left
-        (λ node t2 k is. named row t root node t2 k is)) row.node Mode.LooseUnpinned (Owner.Load l)
+        let new : OpenLoad = record { owner = me; key = key; root = of_cell row.node t h } in
+        beside (loaded-whole key new.root me whole may next.is_left (λ node t2 k is. named row t root node t2 k is)) row.node Mode.LooseUnpinned (Owner.Load l)
         (record { row = row; there = found.0; at = refl; same = loose-unshared row.mode owns.as_asked })
-        (ap (λ n. is_some (updated (w.last.load + 1) (Some (record { owner = me; key = key; root = of_cell row.node t h })) w.loads n)) next.above
-        ∙ ap is_some (is-updated (w.last.load + 1) (Some (record { owner = me; key = key; root = of_cell row.node t h })) w.loads)) left
+        (ap (λ n. is_some (updated (w.last.load + 1) (Some new) w.loads n)) next.above ∙ ap is_some (is-updated (w.last.load + 1) (Some new) w.loads)) left
       where
-        some-typed : {t : ℕ} (cell : Option Cell) → type_in cell ≡ Some t → is_some cell ≡ true
-        some-typed (Some cell) is = refl
-        some-typed None is = absurd (cc)
-
-        named : (row : HandleRow) (t : ℕ) → IsRootWhole (roomy w) row.node t h → (node : NodeNumber) (t2 : ℕ) (k : HandleNumber) → of_cell row.node t h ≡ of_cell node t2 k
-            → IsRootWhole (roomy w) node t2 k
+        named : (row : HandleRow) (t : ℕ) → IsRootWhole w row.node t h → (node : NodeNumber) (t2 : ℕ) (k : HandleNumber) → of_cell row.node t h ≡ of_cell node t2 k → IsRootWhole w node t2 k
         named row t root node t2 k is = grind (arith, nat_tests)
 begin-whole me h (Ok Beginning.InMemory) whole may call placed = let (row, owns, begins) = call.begins in alike-whole whole begins.1 placed
 begin-whole me h (Err e) whole may call placed = alike-whole whole call.refused.stays placed

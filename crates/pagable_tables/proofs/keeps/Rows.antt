@@ -1,8 +1,8 @@
 -- Rows, one by one and counted, as they come and change, and what is left as handles go.
-use Rattle.pagable_tables.proofs.Words.{◌≡◌, ℕ, suc, zero, ◌<◌, ◌≤◌, ◌==◌, Bool, true, false, List, [], ◌∷◌, ◌++◌, sum_by, filter, if◌then◌else◌, Some, get_or, inl, inr, refl, ap, sym, ◌∙◌, arith}
-use Rattle.pagable_tables.proofs.Words.{◌⊎◌, map, cases_order, nat_tests, get_or-map, length-map, sum_by-cons, sum_by-le-sum_by, all_pairs_push, get_or_from_slice_get, slice_get_within}
-use Rattle.pagable_tables.proofs.Words.{slice_get-get_or, HandleRow, Among, find_row, is_handle, IsHandleBefore, AllPairs, ◌+◌, ◌&&◌, not, length, Option, None, subst, append_assoc, append-nil}
-use Rattle.pagable_tables.proofs.{Words.{HandleNumber, Owner, Mode, one, times, is_owned_by, AreNewEntries, IsWithin}, Alive.none-found, Bits.and-all}
+use Rattle.pagable_tables.proofs.Words.{◌&&◌, ◌++◌, ◌+◌, ◌<◌, ◌==◌, ◌∙◌, ◌∷◌, ◌≡◌, ◌≤◌, ◌⊎◌, AllPairs, Among, AreNewEntries, Bool, HandleNumber, HandleRow, IsHandleBefore, IsWithin, List, Mode}
+use Rattle.pagable_tables.proofs.Words.{None, Option, Owner, Some, [], all_pairs_push, ap, append-nil, append_assoc, arith, cases_order, changed, false, filter, find_row, get_or, get_or-map}
+use Rattle.pagable_tables.proofs.Words.{get_or_from_slice_get, if◌then◌else◌, inl, inr, is_handle, is_owned_by, length, length-map, map, nat_tests, not, one, refl, slice_get-get_or}
+use Rattle.pagable_tables.proofs.{Words.{slice_get_within, subst, suc, sum_by, sum_by-cons, sum_by-le-sum_by, sym, times, true, zero, ℕ}, Alive.none-found, Bits.and-all}
 
 -- ---- one by one
 
@@ -53,6 +53,13 @@ each-changed test f P x does not-so = at (test x) refl
     at : (b : Bool) → test x ≡ b → P (if b then f x else x)
     at true e = does e
     at false e = not-so e
+
+-- a row of changed ones, of which the row before is known
+pub among-changed : {X : Type 0} (test : X → Bool) (f : X → X) (P : X → Type 0) (xs : List X) (x : X) → Among (changed test f xs) x → ((y : X) → Among xs y → test y ≡ true → P (f y))
+    → ((y : X) → Among xs y → test y ≡ false → P y) → P x
+among-changed test f P xs x among does stays =
+    let old = among-map (λ z. if test z then f z else z) xs x among in
+    subst P (sym old.2) (each-changed test f P old.0 (does old.0 old.1) (stays old.0 old.1))
 
 -- ---- counted
 

@@ -1,9 +1,8 @@
 -- A world that is told alike, or whose rows are changed one by one, stays whole, while rows and list are in their places.
-use Rattle.pagable_tables.proofs.Words.{◌≡◌, ℕ, ◌==◌, ◌&&◌, ◌≤◌, Bool, true, false, List, [], length, Option, Some, None, inl, refl, ap, sym, subst, ◌∙◌, arith, nat_tests, is_some, nat_lt}
-use Rattle.pagable_tables.proofs.Words.{HandleNumber, NodeNumber, HandleRow, Owner, Mode, Among, SameAt, times, one, changed, is_at, is_shared, is_loose, is_handle, is_owned_by}
-use Rattle.pagable_tables.proofs.{Words.{Core, Last, Alike, if◌then◌else◌, OpenLoad, MayOwnLoad, IsWhole, ArePlaced, row_at, with_mode}, keeps.Rows.{among-map, among-to, sum-map, found-among, once}}
-use Rattle.pagable_tables.proofs.{keeps.Rows.{ordered-map, each-changed}, keeps.Kept.{HasLike, IsOld, stays-old, same-rows, IsIn, is-in, in-still, other-mode, IsLoadIn, load-in}}
-use Rattle.pagable_tables.proofs.keeps.Kept.{keeps-whole}
+use Rattle.pagable_tables.proofs.Words.{◌&&◌, ◌==◌, ◌∙◌, ◌≡◌, ◌≤◌, Alike, Among, ArePlaced, Bool, Core, HandleNumber, HandleRow, IsWhole, Last, List, MayOwnLoad, Mode, NodeNumber, None, OpenLoad}
+use Rattle.pagable_tables.proofs.Words.{Option, Owner, SameAt, Some, [], ap, arith, changed, false, if◌then◌else◌, inl, is_at, is_handle, is_loose, is_owned_by, is_shared, is_some, length, nat_lt}
+use Rattle.pagable_tables.proofs.{Words.{nat_tests, one, refl, row_at, subst, sym, times, true, with_mode, ℕ}, keeps.Kept.{HasLike, IsIn, IsLoadIn, IsOld, in-still, is-in, keeps-whole, load-in}}
+use Rattle.pagable_tables.proofs.{keeps.Kept.{other-mode, same-rows, stays-old}, keeps.Rows.{among-changed, among-to, each-changed, found-among, once, ordered-map, sum-map}}
 
 -- the world with room for just what is there
 abbrev pub roomy : Core → Core
@@ -81,11 +80,6 @@ module _ {w : Core} (whole : IsWhole w) (test : HandleRow → Bool) (f : HandleR
   to-node : (x : HandleRow) → (to x).node ≡ x.node
   to-node x = each-changed test f (λ y. y.node ≡ x.node) x (λ e. node x) (λ e. refl)
 
-  to-old : (x : HandleRow) → Among w.rows x → IsOld w.rows (to x)
-  to-old x among =
-      each-changed test f (IsOld w.rows) x
-      (λ e. record { row = x; there = among; number = sym (number x); node = sym (node x); shared = sym (shared x among e); loose = loose x among e }) (λ e. stays-old among)
-
   pub turned-on : GoesOn w turned
   turned-on = record {
     like = λ x among. record {
@@ -104,7 +98,8 @@ module _ {w : Core} (whole : IsWhole w) (test : HandleRow → Bool) (f : HandleR
           last = (omega arith, omega arith);
           ordered = ordered-map to w.rows to-number whole.handles.ordered;
           fresh = false;
-          rows = λ h among. let (x, there, e) = among-map to w.rows h among in inl (subst (IsOld w.rows) (sym e) (to-old x there));
+          rows = λ h among. inl (among-changed test f (IsOld w.rows) w.rows h among
+              (λ x there e. record { row = x; there = there; number = sym (number x); node = sym (node x); shared = sym (shared x there e); loose = loose x there e }) (λ x there e. stays-old there));
           live = λ n. whole.handles.live n ∙ ap (nat_lt 0) (sym (sum-map (λ h. one (is_at n h)) (λ h. one (is_at n h)) to w.rows (λ h among. ap (λ (k : NodeNumber). one (k.0 == n)) (to-node h))));
           typed = λ n t few is. is;
           keyed = λ n like few none. none;
@@ -112,8 +107,7 @@ module _ {w : Core} (whole : IsWhole w) (test : HandleRow → Bool) (f : HandleR
         within = whole.handles.within;
         places = (omega arith, omega arith);
         listed = listed;
-        owners = λ h among. let (x, there, e) = among-map to w.rows h among in
-            subst (λ (y : HandleRow). IsIn w y.mode y.owner) (sym e) (each-changed test f (λ y. IsIn w y.mode y.owner) x (owners x there) (λ other. is-in whole x there));
+        owners = λ h among. among-changed test f (λ y. IsIn w y.mode y.owner) w.rows h among owners (λ x there e. is-in whole x there);
         loads = load-stays whole (omega arith) (λ v at. at);
         cache = whole.cache;
         workers = whole.workers_numbered;
