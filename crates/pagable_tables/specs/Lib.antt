@@ -12,3 +12,4 @@ pub mod Bearing
 pub mod Ready
 pub mod Giving
 pub mod Doing
+pub mod Joining
