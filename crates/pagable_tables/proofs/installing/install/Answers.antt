@@ -71,12 +71,12 @@ give_up_load-requires g c =
           (refs_at k.nodes) t1.holdings.top fits pinned (j.here comes) j.others in
           let told = fits-same (counts_at t1.holdings.nodes) (counts_at k.nodes) (refs_at k.nodes) (refs_at k.nodes)
           (moved (is_named_by rs) (owner_value n) before) t1.holdings.top [] joined j.counts (λ m. refl) in
-          let rows = j.rows ∙ ap (λ b. moved (is_named_by (coming b rs)) (owner_value n) (live t1.holdings.handles.places.items)) comes ∙ ap (moved (is_named_by rs) (owner_value n)) a.rows in
+          let rows = j.handles.rows ∙ ap (λ b. moved (is_named_by (coming b rs)) (owner_value n) (live t1.holdings.handles.places.items)) comes ∙ ap (moved (is_named_by rs) (owner_value n)) a.rows in
           let top = ap (λ (h : Holdings). h.top) j.same in
           let last = ap (λ (h : Holdings). h.last_handle) j.same in
           record {
-            sound = j.sound;
-            next = j.next (k.last_handle + 1) (grind (arith, whole.steady.next));
+            sound = j.handles.sound;
+            next = j.handles.next (k.last_handle + 1) (grind (arith, whole.steady.next));
             fits = rows-told (counts_at k.nodes) (refs_at k.nodes) (moved (is_named_by rs) (owner_value n) before) (live k.handles.places.items) k.top rows (grind (arith, told));
           })
     ]
@@ -105,8 +105,8 @@ returns-clause-does g c =
       next = record { above = next.above; is_left = next.is_left };
       falls = falls-so b w me l row rs c.give_up_load.result _ r.away
           (ended t t1 stored closed c.args.lists failures c.requires.whole c.pin_ready-handle.ensures.whole e row p.owned.live me (ready-owner t me l c.args.node_type rs c.args.ending c.requires.whole p) l (coming b rs)
-          (good-so b (plain_of t) (Owner.Load l) rs p.may.good) (c.pin_ready-handle.ensures.pinned stored closed failures) same c.join.new.t j.rows (ap (λ (h : Holdings). h.list) j.same) (ap (λ (h : Holdings). h.last_handle) j.same)
-          j.capacity (λ m. ap cell_in (j.counts m)) c.args.ending.load.since c.give_up_load.new.t (load_at c.close.new.rows)
+          (good-so b (plain_of t) (Owner.Load l) rs p.may.good) (c.pin_ready-handle.ensures.pinned stored closed failures) same c.join.new.t j.handles.rows (ap (λ (h : Holdings). h.list) j.same) (ap (λ (h : Holdings). h.last_handle) j.same)
+          j.handles.capacity (λ m. ap cell_in (j.counts m)) c.args.ending.load.since c.give_up_load.new.t (load_at c.close.new.rows)
           c.give_up_load.result c.give_up_load.ensures.falls (λ q own. c.requires.later.since l.0 c.args.ending.load q c.requires.place.load own) c.close.ensures.gone c.close.ensures.others);
     })
     c.give_up_load.ensures.steady

@@ -10,10 +10,7 @@ returns-then-comes c =
     let named = ap (λ (rs : List ArcRef). moved (is_named_by rs) o rows) c.deref.ensures.value in
     let comes = ap (λ b. moved (is_named_by (coming b c.args.references.items)) o rows) (sym c.if-comes.true) in
     record {
-      sound = moves.sound;
-      next = moves.next;
-      rows = moves.rows ∙ named ∙ comes;
-      capacity = moves.capacity;
+      handles = record { sound = moves.sound; rows = moves.rows ∙ named ∙ comes; capacity = moves.capacity; next = moves.next };
       counts = c.set_references.ensures.counts;
       here = λ is. c.set_references.ensures.here;
       others = c.set_references.ensures.others;
@@ -26,10 +23,7 @@ returns-else-comes c =
     let rows = live c.args.t.now.handles.places.items in
     let o = owner_value c.args.node.0 in
     record {
-      sound = c.requires.sound;
-      next = λ q next. next;
-      rows = sym (moved-nobody o rows) ∙ ap (λ b. moved (is_named_by (coming b c.args.references.items)) o rows) (sym c.if-comes.false);
-      capacity = refl;
+      handles = record { sound = c.requires.sound; rows = sym (moved-nobody o rows) ∙ ap (λ b. moved (is_named_by (coming b c.args.references.items)) o rows) (sym c.if-comes.false); capacity = refl; next = λ q next. next };
       counts = λ n. refl;
       here = λ is. absurd (let a = sym c.if-comes.false ∙ is in cc);
       others = λ n other. refl;
