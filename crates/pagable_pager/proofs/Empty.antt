@@ -1,5 +1,5 @@
 -- A pager of nothing is a new one.
-use Rattle.pagable_pager.proofs.Words.{◌≡◌, ℕ, false, [], refl, ap, ◌∙◌, None, nat_eq, option_map, arc_value, get, NodeNumber, IsNew, live, counts_at, load_at, known_at, cell_in, pins_in}
+use Rattle.pagable_pager.proofs.Words.{◌≡◌, ℕ, [], refl, ap, None, nat_eq, option_map, arc_value, get, NodeNumber, IsNew, live, counts_at, load_at, known_at, cell_in, pins_in}
 use Rattle.pagable_pager.proofs.Words.{load_in, PagerView, Telling, state_in, value_in, is_some}
 use Rattle.pagable_tables.specs.ByNumber.{worker_at}
 

@@ -2,7 +2,8 @@
 use Rattle.pagable_pager.proofs.Words.{◌≡◌, ℕ, ◌&&◌, ◌||◌, Bool, true, false, [], refl, ap, sym, ◌∙◌, Some, None, Option, if◌then◌else◌, inl, inr, nat_eq, suc, zero, arith, ◌⊎◌, is_some, nat_lt}
 use Rattle.pagable_pager.proofs.Words.{not, nat_tests, option_map, arc_value, get, has_key, is_pinning, mode_of, pins, Blob, Core, is_here, usable, WellFormed, entered-of, Leaves, known-here}
 use Rattle.pagable_pager.proofs.Words.{Counts, Tables, counts_at, AreKept, Sheds, has_value, pins_in, cell_in, key_in, AreLater, IsWhole, core_of, plain_of, PagerView, Telling, Spelling}
-use Rattle.pagable_pager.proofs.Words.{ValuesByNode, IsPager, core_in, state_in, value_in, values_of}
+use Rattle.pagable_tables.specs.Doing.{DoesShed}
+use Rattle.pagable_pager.proofs.Words.{ValuesByNode, OnlyLess, IsPager, core_in, state_in, value_in, values_of}
 use Rattle.pagable_world.specs.Pager as pager
 
 -- the plain world is whole, whatever is stored, if nothing is listed or known once the storage is closed
@@ -70,6 +71,18 @@ module _ {N S E : Type 0} (tells : Telling S) (g : Spelling N E) (p : PagerView 
   -- no value came
   pub less : (t : Tables) (values : ValuesByNode N) → Sheds (counts_at p.tables.holdings.nodes) (get nat_eq p.values) (counts_at t.holdings.nodes) (get nat_eq values) → (n : ℕ) (x : N) → value_in values n ≡ Some x → value_in p.values n ≡ Some x
   less t values sheds n x some = grind (arith, nat_tests, kept-in)
+
+  -- a call of the tables by which values go
+  pub shed-by : {lists : Bool} {step : Core → Core → Type 0} (t : Tables) (values : ValuesByNode N) → DoesShed lists p.tables p.values step t values → lists ≡ not (tells.closed p.storage)
+      → (step (core_in tells p) (core_in tells (record p { tables = t; values = values })) → (core_in tells p).closed ≡ true → (t.holdings.list.items ≡ []) × ((kind key : ℕ) → (plain_of t).cache kind key ≡ None))
+      → (step (core_in tells p) (core_in tells (record p { tables = t; values = values })) → Leaves (value_in p.values) (state_in tells (record p { tables = t; values = values }))
+      → WellFormed (values_of g p.environment) (state_in tells (record p { tables = t; values = values }))) → IsPager tells g (record p { tables = t; values = values })
+  shed-by t values call opens bare state =
+      let step = call.does (tells.stored p.storage) (tells.closed p.storage) (tells.failed p.storage) opens in
+      shed t values call.whole (call.later is.later) call.sheds (bare step) (state step)
+
+  pub only-less : (t : Tables) (values : ValuesByNode N) → Sheds (counts_at p.tables.holdings.nodes) (get nat_eq p.values) (counts_at t.holdings.nodes) (get nat_eq values) → OnlyLess p (record p { tables = t; values = values })
+  only-less t values sheds = record { values = less t values sheds; storage = refl; environment = refl }
 
 -- cells are listed while the storage isn't closed
 pub told-open : {b closed : Bool} → b ≡ closed → not b ≡ not closed

@@ -1,7 +1,7 @@
 -- A step by which no value comes or goes leaves the pager in step.
 use Rattle.pagable_pager.proofs.Words.{◌≡◌, true, false, refl, subst, sym, LoadNumber, is_owner, MayOwnLoad, Owner, NotValues, Spares, spared, Tables, IsWhole, ArePlaced, MayHold, plain_of}
 use Rattle.pagable_pager.proofs.Words.{AreLater, is_valued, not-a-value, not-list, may-hold, placed, may-own, PagerView, Telling, Spelling, IsPager, core_in, state_in, values_of, is_at_work}
-use Rattle.pagable_pager.proofs.{AtWork.may-begin, Words.arith, Words.nat_tests}
+use Rattle.{pagable_pager.proofs.{AtWork.may-begin, Words.{arith, nat_tests, Core}}, pagable_tables.specs.Doing.Does}
 use Rattle.pagable_world.specs.Pager as pager
 
 -- the caller is no value
@@ -39,6 +39,11 @@ module _ {N S E : Type 0} (tells : Telling S) (g : Spelling N E) (p : PagerView 
   pub held : (t : Tables) → IsWhole t → AreLater t → Spares (core_in tells p) (core_in tells (record p { tables = t })) → (ArePlaced (core_in tells (record p { tables = t })) → pager.IsWhole (core_in tells (record p { tables = t }))) → IsPager tells g (record p { tables = t })
   held t steady later spares whole =
       record { tables = steady; later = later; state = spared (values_of g p.environment) (state_in tells p) (state_in tells (record p { tables = t })) is.state spares (λ n. refl) steady.steady.fits.pinned (whole (let a = placed t in record { rows = a.rows; list = a.list })) }
+
+  -- a call of the tables
+  pub called : {step : Core → Core → Type 0} (t : Tables) → Does p.tables step t → (step (core_in tells p) (core_in tells (record p { tables = t })) → Spares (core_in tells p) (core_in tells (record p { tables = t })))
+      → (step (core_in tells p) (core_in tells (record p { tables = t })) → ArePlaced (core_in tells (record p { tables = t })) → pager.IsWhole (core_in tells (record p { tables = t }))) → IsPager tells g (record p { tables = t })
+  called t call spares whole = let step = call.does (tells.stored p.storage) (tells.closed p.storage) (tells.failed p.storage) in held t call.whole (call.later is.later) (spares step) (whole step)
 
   -- another storage
   pub told : (s : S) → Spares (core_in tells p) (core_in tells (record p { storage = s })) → pager.IsWhole (core_in tells (record p { storage = s })) → IsPager tells g (record p { storage = s })

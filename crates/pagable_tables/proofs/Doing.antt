@@ -57,13 +57,11 @@ module _ {X S : Type 0} {lists : Bool} {old new : Tables} {values values' : Inde
   sheds-so does steady whole newer loads workers = sheds-by does steady whole (λ plain later. later-on later (newer plain) loads workers)
 
 -- the same, of a step that is made as cells are listed, while no value goes
-pub lazily-so : {lists : Bool} {old new : Tables} {step : Core → Core → Type 0}
-    → ((stored : ℕ → Option Blob) (closed : Bool) (failures : ℕ) → lists ≡ not closed → step (core_of old stored closed failures) (core_of new stored closed failures))
-    → IsFalling new.holdings [] owns_nothing → (step (listing lists old) (listing lists new) → ArePlaced (plain_of new) → pager.IsWhole (plain_of new))
-    → (step (listing lists old) (listing lists new) → OnlyNewer (plain_of old) (plain_of new)) → new.loads ≡ old.loads → new.workers ≡ old.workers → Does old (λ w w'. lists ≡ not w.closed → step w w') new
-lazily-so {lists} does steady whole newer loads workers =
-    let plain = does (λ key. None) (not lists) 0 (not-closed lists) in
-    record { does = does; whole = whole-so steady (whole plain); later = λ later. later-on later (newer plain) loads workers }
+module _ {lists : Bool} {old new : Tables} {step : Core → Core → Type 0} where
+  pub lazily-by : ((stored : ℕ → Option Blob) (closed : Bool) (failures : ℕ) → lists ≡ not closed → step (core_of old stored closed failures) (core_of new stored closed failures))
+      → IsFalling new.holdings [] owns_nothing → (step (listing lists old) (listing lists new) → ArePlaced (plain_of new) → pager.IsWhole (plain_of new))
+      → (step (listing lists old) (listing lists new) → AreLater old → AreLater new) → Does old (λ w w'. lists ≡ not w.closed → step w w') new
+  lazily-by does steady whole later = let plain = does (λ key. None) (not lists) 0 (not-closed lists) in record { does = does; whole = whole-so steady (whole plain); later = later plain }
 
 pub nothing-shed : {X S : Type 0} {lists : Bool} {t : Tables} {values : IndexMap ℕ X S} {step : Core → Core → Type 0} → IsWhole t
     → ((stored : ℕ → Option Blob) (closed : Bool) (failures : ℕ) → lists ≡ not closed → step (core_of t stored closed failures) (core_of t stored closed failures)) → DoesShed lists t values step t values

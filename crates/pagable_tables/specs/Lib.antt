@@ -12,3 +12,5 @@ pub mod Bearing
 pub mod Ready
 pub mod Giving
 pub mod Doing
+pub mod Becoming
+pub mod Joining

@@ -1,9 +1,8 @@
 //! Live handles in the order of their numbers, found by halving. A dead row stays in its place until none behind it lives, or more than half are dead.
 
-ghost use Rattle.std.specs.Prelude.{vec_len, vec_capacity, ◌≡◌, ℕ, ◌+◌, ◌-◌, ◌<◌, ◌≤◌, ◌++◌, ◌∷◌, [], length, sum_by, slice_get, Some, None, IfNone, IfSome, OnOk, OnErr, true, false, ◌*◌, Option, take};
-ghost use Rattle.std.specs.{Prelude.IsOk, List.AllPairs};
+ghost use Rattle.std.specs.{Prelude.{vec_len, vec_capacity, ◌≡◌, ℕ, ◌+◌, ◌<◌, ◌≤◌, ◌++◌, ◌∷◌, [], length, sum_by, slice_get, Some, None, IfNone, IfSome, OnOk, OnErr, take}, List.AllPairs};
 ghost use Rattle.pagable_world.specs.{Plain.changed, Kinds.{find_row, is_handle}, Cascade.{left_rows, only_handle}, declared.handles.HandleRow.HandleRow};
-ghost use Rattle.pagable_tables.specs.Live.{IsBefore, AreSound, live, alive, room, IsNext};
+ghost use Rattle.pagable_tables.specs.{Live.{IsBefore, AreSound, live, alive, room, IsNext}, Becoming.{Becomes, Widens}};
 
 use crate::rows::{HandleAt, Place};
 use pagable_model::HandleNumber;
@@ -125,11 +124,8 @@ pub fn room_of(handles: &Handles) -> usize
 /// Clears the dead rows away, in place.
 fn compact(handles: &mut Handles)
     requires { AreSound handles.old }
-    ensures sound { AreSound handles.new }
-    ensures rows { live handles.new.places.items ≡ live handles.old.places.items }
+    ensures becomes { Becomes handles.old (live handles.old.places.items) handles.new }
     ensures none_dead { handles.new.dead ≡ 0 }
-    ensures capacity { vec_capacity handles.new.places ≡ vec_capacity handles.old.places }
-    ensures next { (q : ℕ) → IsNext q handles.old.places.items → IsNext q handles.new.places.items }
 {
     handles.places.retain(
         |place: &Place| -> bool
@@ -158,10 +154,7 @@ fn live_end(places: &[Place]) -> usize
 /// Clears dead rows away: those at the end, so that who looks from there meets few of them, and all where more than half are dead.
 fn clear(handles: &mut Handles)
     requires { AreSound handles.old }
-    ensures sound { AreSound handles.new }
-    ensures rows { live handles.new.places.items ≡ live handles.old.places.items }
-    ensures capacity { vec_capacity handles.new.places ≡ vec_capacity handles.old.places }
-    ensures next { (q : ℕ) → IsNext q handles.old.places.items → IsNext q handles.new.places.items }
+    ensures { Becomes handles.old (live handles.old.places.items) handles.new }
 {
     let end = live_end(&handles.places);
     handles.dead -= handles.places.len() - end;
@@ -175,11 +168,8 @@ fn clear(handles: &mut Handles)
 pub fn kill(handles: &mut Handles, at: HandleAt)
     requires sound { AreSound handles.old }
     requires place { slice_get handles.old.places.items at.place ≡ Some (alive at.row) }
-    ensures sound { AreSound handles.new }
-    ensures rows { live handles.new.places.items ≡ left_rows (only_handle at.row.number) (live handles.old.places.items) }
+    ensures becomes { Becomes handles.old (left_rows (only_handle at.row.number) (live handles.old.places.items)) handles.new }
     ensures sums { (f : HandleRow → ℕ) → sum_by f (live handles.new.places.items) + f at.row ≡ sum_by f (live handles.old.places.items) }
-    ensures capacity { vec_capacity handles.new.places ≡ vec_capacity handles.old.places }
-    ensures next { (q : ℕ) → IsNext q handles.old.places.items → IsNext q handles.new.places.items }
 {
     handles.places[at.place] = Place {
         row: at.row,
@@ -194,11 +184,8 @@ pub fn set(handles: &mut Handles, at: HandleAt, row: HandleRow)
     requires sound { AreSound handles.old }
     requires place { slice_get handles.old.places.items at.place ≡ Some (alive at.row) }
     requires number { row.number ≡ at.row.number }
-    ensures sound { AreSound handles.new }
-    ensures rows { live handles.new.places.items ≡ changed (is_handle at.row.number.0) (λ _. row) (live handles.old.places.items) }
+    ensures becomes { Becomes handles.old (changed (is_handle at.row.number.0) (λ _. row) (live handles.old.places.items)) handles.new }
     ensures sums { (f : HandleRow → ℕ) → sum_by f (live handles.new.places.items) + f at.row ≡ sum_by f (live handles.old.places.items) + f row }
-    ensures capacity { vec_capacity handles.new.places ≡ vec_capacity handles.old.places }
-    ensures next { (q : ℕ) → IsNext q handles.old.places.items → IsNext q handles.new.places.items }
 {
     handles.places[at.place] = Place { row, is_live: true };
 }
@@ -206,12 +193,9 @@ pub fn set(handles: &mut Handles, at: HandleAt, row: HandleRow)
 /// Makes a place free for one more row, if it can.
 fn make_room(handles: &mut Handles) -> Result<(), AllocError>
     requires { AreSound handles.old }
-    ensures sound { AreSound handles.new }
-    ensures rows { live handles.new.places.items ≡ live handles.old.places.items }
+    ensures widens { Widens handles.old handles.new }
     ensures ok { OnOk result (vec_len handles.new.places < vec_capacity handles.new.places) }
-    ensures capacity { vec_capacity handles.old.places ≤ vec_capacity handles.new.places }
     ensures full { OnErr result (vec_capacity handles.old.places ≤ length (live handles.old.places.items)) }
-    ensures next { (q : ℕ) → IsNext q handles.old.places.items → IsNext q handles.new.places.items }
 {
     if handles.places.len() < handles.places.capacity() {
         return Ok(());
@@ -245,12 +229,9 @@ pub fn push(handles: &mut Handles, row: HandleRow) -> Result<(), AllocError>
 /// Makes places ready for so many more handles, if it can.
 pub fn reserve(handles: &mut Handles, more: usize) -> Result<(), AllocError>
     requires { AreSound handles.old }
-    ensures sound { AreSound handles.new }
-    ensures rows { live handles.new.places.items ≡ live handles.old.places.items }
+    ensures widens { Widens handles.old handles.new }
     ensures ok { OnOk result (more ≤ room handles.new) }
     ensures err { OnErr result (room handles.old < more) }
-    ensures capacity { vec_capacity handles.old.places ≤ vec_capacity handles.new.places }
-    ensures next { (q : ℕ) → IsNext q handles.old.places.items → IsNext q handles.new.places.items }
 {
     if room_of(handles) < more {
         compact(handles);

@@ -1,13 +1,15 @@
 //! Loads of cells that end with a value.
 
-ghost use Rattle.std.specs.Prelude.{◌≡◌, ◌≤◌, ◌<◌, ℕ, Bool, Option, None, IfOk, IfErr, not, true, false, nat_eq, []};
+ghost use Rattle.std.specs.Prelude.{◌≡◌, ◌≤◌, ◌<◌, ℕ, Bool, Option, None, IfOk, IfErr, not, nat_eq, IsSome};
 ghost use Rattle.indexmap.specs.IndexMap.{get};
-ghost use Rattle.pagable_world.specs.{Plain.{Blob, if_there}, Kinds.is_loose, World.{Alike, OpenLoad, greatest, Core}, Calls.{IsNext, with_handle, with_mode}, LoadCalls.{root_fault, end_fault}};
+ghost use Rattle.pagable_world.specs.{Plain.{Blob, if_there}, Kinds.is_loose, World.{Alike, OpenLoad, greatest}, Calls.{IsNext, with_handle, with_mode}, LoadCalls.{root_fault, end_fault}};
 ghost use Rattle.pagable_world.specs.{LoadCalls.{is_owned_in, Installs}, Refusals.{where_so, spent, Owns}};
-ghost use Rattle.pagable_tables.specs.{ByNumber.{counts_at, load_at}, Live.room, Core.{core_of, plain_of, IsWhole, MayHold}, Later.AreLater, Ready.{IsWider, IsReady, HasPlace, Unends, ShedsBeside}};
+ghost use Rattle.pagable_tables.specs.{ByNumber.{counts_at, load_at}, Live.{room, AreSound}, Core.{core_of, plain_of, IsWhole, MayHold}, Later.AreLater, Ready.{IsWider, IsReady, HasPlace, Unends}};
+ghost use Rattle.pagable_tables.specs.{Ready.ShedsBeside, Doing.Does, Joining.Joins};
 ghost use Rattle.pagable_world.specs.declared.rows.Mode.TheVariants as modes;
 
 use crate::ending::give_up_load;
+use crate::holdings::Holdings;
 use crate::lookups::is_here;
 use crate::moving::hand_over_all;
 use crate::pinning::pin_here;
@@ -17,7 +19,7 @@ use crate::tables::Tables;
 use crate::turning::{is_owner, own};
 use crate::{handles, loads, nodes};
 use indexmap::IndexMap;
-use pagable_model::{ArcRef, Error, HandleNumber, LoadNumber};
+use pagable_model::{ArcRef, Error, HandleNumber, LoadNumber, NodeNumber};
 use pagable_world::handles::{HandleRow, Owner};
 use std::sync::Arc;
 
@@ -180,8 +182,20 @@ fn pin_ready(t: &mut Tables, me: Owner, row: HandleRow) -> HandleNumber
     }
 }
 
-/// A load of a cell that has no value ends: the handle by which it was begun is pinned, a Pinned one is made, the value's references come to the cell with their handles, and the load
-/// gives up what it still owns. The value itself stands among the values already.
+/// What a value refers to comes to its node with its handles, if it is to. Else nothing changes.
+fn join(t: &mut Holdings, node: NodeNumber, references: Vec<ArcRef>, comes: bool)
+    requires sound { AreSound t.old.handles }
+    requires live { IsSome (counts_at t.old.nodes node.0) }
+    ensures { Joins t.old node comes references.items t.new }
+{
+    if comes {
+        hand_over_all(&mut t.handles, &references, Owner::Value(node));
+        nodes::set_references(&mut t.nodes, node.0, references);
+    }
+}
+
+/// A load of a cell ends: the handle by which it was begun is pinned, a Pinned one is made, and the load gives up what it still owns. Where the cell has no value, the value's references
+/// come to it with their handles before; the value itself stands among the values already.
 pub fn install<N: Drop>(
     t: &mut Tables,
     values: &mut IndexMap<u64, Arc<N>>,
@@ -196,47 +210,12 @@ pub fn install<N: Drop>(
     requires later { AreLater t.old }
     requires ready { (stored : ℕ → Option Blob) (closed : Bool) (failures : ℕ) → IsReady (core_of t.old stored closed failures) me load node_type references.items ending }
     requires place { HasPlace t.old load ending }
-    requires away { ending.is_away ≡ true }
-    ensures installs { (stored : ℕ → Option Blob) (closed : Bool) (failures : ℕ) → lists ≡ not closed
-        → Installs (core_of t.old stored closed failures) me load ending.row.node ending.row.number result references.items (core_of t.new stored closed failures) }
-    ensures whole { IsWhole t.new }
-    ensures later { AreLater t.new }
+    ensures does { Does t.old (λ w w'. lists ≡ not w.closed → Installs w me load ending.row.node ending.row.number result references.items w') t.new }
     ensures sheds { ShedsBeside ending.row.node (counts_at t.old.holdings.nodes) (get nat_eq values.old) (counts_at t.new.holdings.nodes) (get nat_eq values.new) }
 {
+    let handle = pin_ready(t, me, ending.row);
     let node = ending.row.node;
-    let handle = pin_ready(t, me, ending.row);
-    hand_over_all(&mut t.holdings.handles, &references, Owner::Value(node));
-    nodes::set_references(&mut t.holdings.nodes, node.0, references);
-    loads::close(&mut t.loads, load.0);
-    let since = ending.load.since;
-    let loads = &t.loads;
-    let _ = give_up_load(&mut t.holdings, values, loads, load, since, lists);
-    handle
-}
-
-/// A load of a cell that has its value already ends: the handle by which it was begun is pinned, a Pinned one is made, and the load gives up what it still owns.
-pub fn end_beside<N: Drop>(
-    t: &mut Tables,
-    values: &mut IndexMap<u64, Arc<N>>,
-    me: Owner,
-    load: LoadNumber,
-    node_type: u32,
-    references: &[ArcRef],
-    ending: Ending,
-    lists: bool,
-) -> HandleNumber
-    requires whole { IsWhole t.old }
-    requires later { AreLater t.old }
-    requires ready { (stored : ℕ → Option Blob) (closed : Bool) (failures : ℕ) → IsReady (core_of t.old stored closed failures) me load node_type references.now ending }
-    requires place { HasPlace t.old load ending }
-    requires here { ending.is_away ≡ false }
-    ensures installs { (stored : ℕ → Option Blob) (closed : Bool) (failures : ℕ) → lists ≡ not closed
-        → Installs (core_of t.old stored closed failures) me load ending.row.node ending.row.number result references.now (core_of t.new stored closed failures) }
-    ensures whole { IsWhole t.new }
-    ensures later { AreLater t.new }
-    ensures sheds { ShedsBeside ending.row.node (counts_at t.old.holdings.nodes) (get nat_eq values.old) (counts_at t.new.holdings.nodes) (get nat_eq values.new) }
-{
-    let handle = pin_ready(t, me, ending.row);
+    join(&mut t.holdings, node, references, ending.is_away);
     loads::close(&mut t.loads, load.0);
     let since = ending.load.since;
     let loads = &t.loads;

@@ -3,8 +3,8 @@
 ghost use Rattle.std.specs.Prelude.{◌≡◌, ℕ, slice_get, Some, vec_capacity, false, ◌<◌, ◌≤◌, ◌||◌, [], length, not};
 ghost use Rattle.pagable_world.specs.{Cascade.only_handle, Calls.{moved, is_named_by}, Plain.{is_in, if_there}, Kinds.{is_owner, find_row}, Refusals.{named_fault, refused_if}, LoadCalls.numbers_of};
 ghost use Rattle.pagable_world.specs.{declared.handles.HandleRow.HandleRow, World.Core};
-ghost use Rattle.pagable_tables.specs.{Falling.{is_valued, IsFalling, owns_nothing}, Owning.{StandsWith, seen}, Live.{live, alive, AreSound, IsNext}, declared.holdings.Holdings.Holdings};
-ghost use Rattle.pagable_tables.specs.Owning.{named_at, IsNamed};
+ghost use Rattle.pagable_tables.specs.{Falling.{is_valued, IsFalling, owns_nothing}, Owning.{StandsWith, seen, named_at, IsNamed}, Live.{live, alive, AreSound}, declared.holdings.Holdings.Holdings};
+ghost use Rattle.pagable_tables.specs.Becoming.{Becomes};
 ghost use Rattle.pagable_model.specs.declared.error.Error.TheVariants as errors;
 
 use crate::handles;
@@ -20,10 +20,7 @@ use pagable_world::handles::{HandleRow, Owner};
 pub fn hand_over(handles: &mut Handles, at: HandleAt, owner: Owner)
     requires sound { AreSound handles.old }
     requires place { slice_get handles.old.places.items at.place ≡ Some (alive at.row) }
-    ensures sound { AreSound handles.new }
-    ensures rows { live handles.new.places.items ≡ moved (only_handle at.row.number) owner (live handles.old.places.items) }
-    ensures capacity { vec_capacity handles.new.places ≡ vec_capacity handles.old.places }
-    ensures next { (q : ℕ) → IsNext q handles.old.places.items → IsNext q handles.new.places.items }
+    ensures becomes { Becomes handles.old (moved (only_handle at.row.number) owner (live handles.old.places.items)) handles.new }
     ensures stands { (t : Holdings) → is_valued at.row.owner ≡ false → is_valued owner ≡ false → StandsWith t handles.old → StandsWith t handles.new }
 {
     let row = HandleRow { owner, ..at.row };
@@ -33,10 +30,7 @@ pub fn hand_over(handles: &mut Handles, at: HandleAt, owner: Owner)
 /// The handle of this number, if it is live, has this owner from now on.
 fn hand_over_live(handles: &mut Handles, handle: HandleNumber, owner: Owner)
     requires { AreSound handles.old }
-    ensures sound { AreSound handles.new }
-    ensures rows { live handles.new.places.items ≡ moved (only_handle handle) owner (live handles.old.places.items) }
-    ensures capacity { vec_capacity handles.new.places ≡ vec_capacity handles.old.places }
-    ensures next { (q : ℕ) → IsNext q handles.old.places.items → IsNext q handles.new.places.items }
+    ensures { Becomes handles.old (moved (only_handle handle) owner (live handles.old.places.items)) handles.new }
 {
     match handles::look(handles, handle) {
         Some(at) => hand_over(handles, at, owner),
@@ -47,10 +41,7 @@ fn hand_over_live(handles: &mut Handles, handle: HandleNumber, owner: Owner)
 /// The live handles that these references name have this owner from now on.
 pub fn hand_over_all(handles: &mut Handles, references: &[ArcRef], owner: Owner)
     requires { AreSound handles.old }
-    ensures sound { AreSound handles.new }
-    ensures rows { live handles.new.places.items ≡ moved (is_named_by references.now) owner (live handles.old.places.items) }
-    ensures capacity { vec_capacity handles.new.places ≡ vec_capacity handles.old.places }
-    ensures next { (q : ℕ) → IsNext q handles.old.places.items → IsNext q handles.new.places.items }
+    ensures { Becomes handles.old (moved (is_named_by references.now) owner (live handles.old.places.items)) handles.new }
 {
     for reference in references {
         hand_over_live(handles, reference.handle, owner);

@@ -54,15 +54,8 @@ fn finish<N: Drop>(
             tables, values, me, load, node_type, references, ending, lists,
         ));
     }
-    Ok(installing::end_beside(
-        tables,
-        values,
-        me,
-        load,
-        node_type,
-        &references,
-        ending,
-        lists,
+    Ok(installing::install(
+        tables, values, me, load, node_type, references, ending, lists,
     ))
 }
 

@@ -1,6 +1,6 @@
 use Rattle.pagable_tables.proofs.Words.{◌<◌, [], arith, ap, sym, ◌∙◌, subst, false, Ok, None, OptionalDataKey, Core, Alike, greatest, Owner, adopted, core_of, plain_of, load_in, Suits}
 use Rattle.pagable_tables.proofs.{Words.key_in, Adoptions.{lazy-not-own, lazy-not-loose, lazy-known, lazy-not-new, lazy-new, key-there}, NewNodes.none-named, Readied.{adopted-past, next-past}}
-use Rattle.pagable_tables.proofs.{keeps.CacheCalls.known-suits, Doing.{nothing-does, lazily-so}, Newer.lazy-newer, keeps.EndCalls.lazy-whole}
+use Rattle.pagable_tables.proofs.{keeps.CacheCalls.known-suits, Doing.{nothing-does, lazily-by}, Newer.{lazy-newer, later-on}, keeps.EndCalls.lazy-whole}
 use Rattle.pagable_tables.proofs.adopting.load_lazy.Goals as goal
 
 pub returns-in-Err : goal.returns-in-Err
@@ -33,7 +33,7 @@ returns-in-Ok-make_ready_to_learn c =
     let l = c.args.load in
     let made = c.make_ready_to_learn.ensures in
     let new = c.learn_new.ensures in
-    lazily-so
+    lazily-by
     (λ stored closed failures e.
     let w1 = core_of c.make_ready_to_learn.new.t stored closed failures in
     let w' = core_of c.learn_new.new.t stored closed failures in
@@ -43,8 +43,8 @@ returns-in-Ok-make_ready_to_learn c =
     lazy-new (core_of c.args.t.now stored closed failures) c.args.me l (load_in c.in-Ok.row) c.args.kind c.args.key (c.in-Ok.ensures.own stored closed failures) (sym c.if-not-is_loose_kind.ensures) (sym (c.in_default.ensures stored closed failures))
     c.learn_new.result (subst (λ (u : Core). u.last.node < greatest) room.same c.in-Ok-make_ready_to_learn.ensures.ready.node_left) (next-past room (new.next stored closed failures))
     (adopted-past l c.args.kind c.args.key (OptionalDataKey.Some c.args.key) [] room two))
-    new.steady (lazy-whole c.args.me l c.args.kind c.args.key (Ok c.learn_new.result) c.requires.whole.core) (lazy-newer c.args.me l c.args.kind c.args.key (Ok c.learn_new.result))
-    (new.loads ∙ made.loads) (new.workers ∙ made.workers)
+    new.steady (lazy-whole c.args.me l c.args.kind c.args.key (Ok c.learn_new.result) c.requires.whole.core) (λ call later. later-on later (lazy-newer c.args.me l c.args.kind c.args.key (Ok c.learn_new.result) call)
+    (new.loads ∙ made.loads) (new.workers ∙ made.workers))
 
 pub returns-in-Err-make_ready_to_learn : goal.returns-in-Err-make_ready_to_learn
 returns-in-Err-make_ready_to_learn c =

@@ -11,12 +11,16 @@ clear-requires c =
       counted = omega arith;
     }
 
-pub returns-clause-rows : goal.returns-clause-rows
-returns-clause-rows c = c.clear.ensures.rows ∙ live-kill c.args.handles.now.places.items c.args.at.place c.args.at.row c.requires.sound.ordered c.requires.place
+pub returns-clause-becomes : goal.returns-clause-becomes
+returns-clause-becomes c =
+    let e = c.clear.ensures in
+    let places = c.args.handles.now.places.items in
+    record {
+      sound = e.sound;
+      rows = e.rows ∙ live-kill places c.args.at.place c.args.at.row c.requires.sound.ordered c.requires.place;
+      capacity = e.capacity;
+      next = λ q next. e.next q (next-set q places c.args.at.place c.args.at.row (record { row = c.args.at.row; is_live = false }) c.requires.place refl next);
+    }
 
 pub returns-clause-sums : goal.returns-clause-sums
 returns-clause-sums c f = grind (arith, nat_tests, sum-live-set, c.requires.place, c.clear.ensures.rows)
-
-pub returns-clause-next : goal.returns-clause-next
-returns-clause-next c q next =
-    c.clear.ensures.next q (next-set q c.args.handles.now.places.items c.args.at.place c.args.at.row (record { row = c.args.at.row; is_live = false }) c.requires.place refl next)

@@ -5,7 +5,7 @@ pub returns : goal.returns
 returns c =
     record {
       between = record c.args.t.now { handles = c.kill.new.handles };
-      rows = c.kill.ensures.rows;
+      rows = c.kill.ensures.becomes.rows;
       sums = c.kill.ensures.sums;
       places = record { handles = omega arith; entries = omega arith };
       same = refl;

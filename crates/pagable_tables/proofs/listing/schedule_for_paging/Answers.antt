@@ -30,7 +30,7 @@ returns-then-not-lists-clause-whole g c =
 
 pub returns-clause-scheduled : goal.returns-clause-scheduled
 returns-clause-scheduled g c stored closed failures e =
-    grind (arith, nat_tests, owner-same, open-then, alike-listed, c.in-Ok.ensures.found, c.in-Ok.ensures.owner, c.if-not-lists.false, c.hand_over.ensures.rows, c.in-Ok.ensures.number)
+    grind (arith, nat_tests, owner-same, open-then, alike-listed, c.in-Ok.ensures.found, c.in-Ok.ensures.owner, c.if-not-lists.false, c.hand_over.ensures.becomes.rows, c.in-Ok.ensures.number)
 
 pub returns-clause-whole : goal.returns-clause-whole
 returns-clause-whole g c =

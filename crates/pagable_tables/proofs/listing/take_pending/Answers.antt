@@ -13,7 +13,7 @@ returns-clause-taken c stored closed failures =
     let t = c.args.t.now in
     let list = t.holdings.list.items in
     let rows = live t.holdings.handles.places.items in
-    let given = c.hand_over.ensures.rows ∙ ap (λ q. moved (only_handle q) c.args.me rows) c.in-Some.ensures.number in
+    let given = c.hand_over.ensures.becomes.rows ∙ ap (λ q. moved (only_handle q) c.args.me rows) c.in-Some.ensures.number in
     let w' = core_of (record t { holdings = record t.holdings { handles = c.hand_over.new.handles; list = c.remove-handle.new.self } }) stored closed failures in (
       slice_get_read list _ c.args.place c.remove-handle.result refl (omega arith) c.remove-handle.ensures.value,
       at-work-still (alike-listed _ w' given c.remove-handle.ensures.items (record { handles = omega arith; entries = omega arith }) refl) c.reach_to.ensures.at_work,
@@ -36,7 +36,7 @@ pub returns-clause-later : goal.returns-clause-later
 returns-clause-later c other later =
     let t = c.args.t.now in
     let h = c.remove-handle.result in
-    let given = c.hand_over.ensures.rows ∙ ap (λ q. moved (only_handle q) c.args.me (live t.holdings.handles.places.items)) c.in-Some.ensures.number in
+    let given = c.hand_over.ensures.becomes.rows ∙ ap (λ q. moved (only_handle q) c.args.me (live t.holdings.handles.places.items)) c.in-Some.ensures.number in
     let row = found-among h.0 (live t.holdings.handles.places.items) c.in-Some.at.row c.in-Some.ensures.found in
     let numbered : 0 < h.0 = (let n = c.requires.whole.core.handles.numbered c.in-Some.at.row row.0 in let a = n.0 in let is = row.1 in omega arith) in
     later-by later (omega arith) (λ l load is. is) c.reach_to.ensures.less (λ l q own. inl (load-kept t later (only_handle h) c.args.me other _ given l q own))

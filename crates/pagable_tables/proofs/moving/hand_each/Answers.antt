@@ -25,9 +25,9 @@ loop-place-preserved c =
     let plain : is_valued row.owner ≡ false = ap (λ r. is_valued r.owner) (sym same) ∙ n.plain in (
       omega arith,
       c.hand_over.ensures.stands t plain c.requires.plain i.1,
-      one-moved hs p c.args.owner (live c.args.t.now.handles.places.items) (live t.handles.places.items) (live c.hand_over.new.handles.places.items) row.number (ap (λ (h : HandleNumber). h.0) c.in-Some.ensures.number) i.2 c.hand_over.ensures.rows,
+      one-moved hs p c.args.owner (live c.args.t.now.handles.places.items) (live t.handles.places.items) (live c.hand_over.new.handles.places.items) row.number (ap (λ (h : HandleNumber). h.0) c.in-Some.ensures.number) i.2 c.hand_over.ensures.becomes.rows,
       ap (λ (u : Holdings). record u { handles = c.hand_over.new.handles }) i.3,
-      c.hand_over.ensures.capacity ∙ i.4,
+      c.hand_over.ensures.becomes.capacity ∙ i.4,
     )
 
 pub returns-clause-rows : goal.returns-clause-rows

@@ -15,6 +15,8 @@ loop-reference-preserved c =
       next = λ q next. e.next q (i.invariant.next q next);
     }
 
-pub returns-clause-rows : goal.returns-clause-rows
-returns-clause-rows c =
-    c.loop-reference.invariant.rows ∙ ap (λ l. moved (is_named_by l) c.args.owner (live c.args.handles.now.places.items)) (take_all c.loop-reference.reference-index c.args.references.now (omega arith))
+pub returns : goal.returns
+returns c =
+    let i = c.loop-reference.invariant in
+    let all = ap (λ l. moved (is_named_by l) c.args.owner (live c.args.handles.now.places.items)) (take_all c.loop-reference.reference-index c.args.references.now (omega arith)) in
+    record { sound = i.sound; rows = i.rows ∙ all; capacity = i.capacity; next = i.next }

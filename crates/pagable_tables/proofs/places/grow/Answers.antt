@@ -6,10 +6,10 @@ returns c =
     let t = c.args.t.now.holdings in
     let w = c.requires in
     does-so
-    (λ stored closed failures. grind (arith, nat_tests, same-cache, c.reserve.ensures.rows, c.grow_list.ensures.items, c.reserve.ensures.capacity, c.grow_list.ensures.capacity))
+    (λ stored closed failures. grind (arith, nat_tests, same-cache, c.reserve.ensures.widens.rows, c.grow_list.ensures.items, c.reserve.ensures.widens.capacity, c.grow_list.ensures.capacity))
     (record {
-      sound = c.reserve.ensures.sound;
-      next = c.reserve.ensures.next (t.last_handle + 1) w.steady.next;
-      fits = rows-told (counts_at t.nodes) (refs_at t.nodes) (live t.handles.places.items) (live c.reserve.new.handles.places.items) t.top c.reserve.ensures.rows w.steady.fits;
+      sound = c.reserve.ensures.widens.sound;
+      next = c.reserve.ensures.widens.next (t.last_handle + 1) w.steady.next;
+      fits = rows-told (counts_at t.nodes) (refs_at t.nodes) (live t.handles.places.items) (live c.reserve.new.handles.places.items) t.top c.reserve.ensures.widens.rows w.steady.fits;
     })
     (alike-whole w.core) newer-alike refl refl

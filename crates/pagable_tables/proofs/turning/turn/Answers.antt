@@ -28,11 +28,11 @@ returns-clause-does c =
     let rows' = live c.set.new.handles.places.items in
     let w = c.requires.whole in
     does-so
-    (λ stored closed failures. alike _ _ (c.set.ensures.rows ∙ changed-known t.handles.places.items c.args.at.place x w.steady.sound.ordered c.requires.place turned)
+    (λ stored closed failures. alike _ _ (c.set.ensures.becomes.rows ∙ changed-known t.handles.places.items c.args.at.place x w.steady.sound.ordered c.requires.place turned)
     (turn-cells at at' refs refs' rows rows' t.top x y w.steady.fits is c.set.ensures.sums (e.here ∙ ap Some made) e.others e.refs) (record { handles = omega arith; entries = omega arith }) refl)
     (record {
-      sound = c.set.ensures.sound;
-      next = c.set.ensures.next (t.last_handle + 1) w.steady.next;
+      sound = c.set.ensures.becomes.sound;
+      next = c.set.ensures.becomes.next (t.last_handle + 1) w.steady.next;
       fits = turn-fits at at' refs refs' rows rows' t.top x y w.steady.fits is c.set.ensures.sums (e.here ∙ ap Some made) e.others e.refs;
     })
     (settles (pins-whole x.number x w.core (row-live t.handles.places.items c.args.at.place x w.steady.sound.ordered c.requires.place) c.requires.unshared c.requires.unlisted))

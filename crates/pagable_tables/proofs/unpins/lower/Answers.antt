@@ -55,7 +55,7 @@ returns c =
       is = is;
       listed = listed;
       lowered = record old { handles = c.set.new.handles };
-      rows = c.set.ensures.rows ∙ changed-known old.handles.places.items c.args.at.place x w.sound.ordered c.requires.place unpinned;
+      rows = c.set.ensures.becomes.rows ∙ changed-known old.handles.places.items c.args.at.place x w.sound.ordered c.requires.place unpinned;
       sums = c.set.ensures.sums;
       places = record { handles = omega arith; entries = omega arith };
       handles = refl;

@@ -1,4 +1,4 @@
-use Rattle.pagable_pager.proofs.{Words.{refl, load_fault, adopt_fault, core_of, eager-pins}, Adopting.found-so, Shed.{told-open, less, known-valued}}
+use Rattle.pagable_pager.proofs.{Words.{load_fault, adopt_fault, core_of, eager-pins}, Adopting.found-so, Shed.{told-open, only-less, known-valued}}
 use Rattle.pagable_pager.proofs.pager.Pager.adopt_known.Goals as goal
 
 pub adopt_if_known-requires-clause-valued : goal.adopt_if_known-requires-clause-valued
@@ -16,7 +16,7 @@ pub returns-clause-known : goal.returns-clause-known
 returns-clause-known g c = rw (← c.self.view_is) (c.adopt_if_known.ensures.known _ _ _ (told-open c.has_closed-lists.ensures))
 
 pub returns-clause-only : goal.returns-clause-only
-returns-clause-only g c = rw (← c.self.view_is) (record { values = less _ _ _ c.self.invariant c.adopt_if_known.new.t c.adopt_if_known.new.values c.adopt_if_known.ensures.sheds; storage = refl; environment = refl })
+returns-clause-only g c = rw (← c.self.view_is) (only-less _ _ _ c.self.invariant _ _ c.adopt_if_known.ensures.sheds)
 
 pub returns-clause-fresh : goal.returns-clause-fresh
 returns-clause-fresh g c = rw (← c.self.view_is) c.adopt_if_known.ensures.fresh

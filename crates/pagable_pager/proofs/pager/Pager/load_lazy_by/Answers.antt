@@ -4,9 +4,9 @@ use Rattle.pagable_pager.proofs.pager.Pager.load_lazy_by.Goals as goal
 pub invariant_of-self : goal.invariant_of-self
 invariant_of-self g c =
     let e = c.load_lazy.ensures in
-    let step = e.lazily _ _ _ (told-open c.has_closed-lists.ensures) in
+    let step = e.does _ _ _ (told-open c.has_closed-lists.ensures) in
     let whole = whole-over c.load_lazy.new.t _ _ _ e.whole (λ shut. lazy-bare shut (c.self.invariant.state.whole.shut shut) c.load_lazy.result step) in
-    record { tables = e.whole; later = e.later; state = lazily c.self.invariant.state c.load_lazy.result step (λ n. refl) e.whole.steady.fits.pinned whole }
+    record { tables = e.whole; later = e.later c.self.invariant.later; state = lazily c.self.invariant.state c.load_lazy.result step (λ n. refl) e.whole.steady.fits.pinned whole }
 
 pub returns-clause-step : goal.returns-clause-step
-returns-clause-step g c = rw (← c.self.view_is) (c.load_lazy.ensures.lazily _ _ _ (told-open c.has_closed-lists.ensures))
+returns-clause-step g c = rw (← c.self.view_is) (c.load_lazy.ensures.does _ _ _ (told-open c.has_closed-lists.ensures))

@@ -1,4 +1,4 @@
-use Rattle.pagable_pager.proofs.{Words.{refl, scheduled, telling}, Shed.{shed, told-open, less}, Shut.scheduled-bare, Spared.{owner-free, owner-holds}}
+use Rattle.pagable_pager.proofs.{Words.{scheduled, telling}, Shed.{shed, told-open, only-less}, Shut.scheduled-bare, Spared.{owner-free, owner-holds}}
 use Rattle.pagable_pager.proofs.pager.Pager.schedule_for_paging_by.Goals as goal
 
 pub invariant_of-self : goal.invariant_of-self
@@ -11,7 +11,7 @@ pub returns-clause-step : goal.returns-clause-step
 returns-clause-step g c = rw (← c.self.view_is) (c.schedule_for_paging.ensures.scheduled _ _ _ (told-open c.has_closed-lists.ensures))
 
 pub returns-clause-only : goal.returns-clause-only
-returns-clause-only g c = rw (← c.self.view_is) (record { values = less _ _ _ c.self.invariant c.schedule_for_paging.new.t c.schedule_for_paging.new.values c.schedule_for_paging.ensures.sheds; storage = refl; environment = refl })
+returns-clause-only g c = rw (← c.self.view_is) (only-less _ _ _ c.self.invariant _ _ c.schedule_for_paging.ensures.sheds)
 
 pub schedule_for_paging-requires-clause-holder : goal.schedule_for_paging-requires-clause-holder
 schedule_for_paging-requires-clause-holder g c = owner-holds (telling g.S.PagableStorage.stored g.S.PagableStorage.is_closed g.S.PagableStorage.failed) _ _ c.args.me c.self.view_is c.requires

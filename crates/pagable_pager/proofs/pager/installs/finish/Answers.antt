@@ -1,9 +1,5 @@
-use Rattle.pagable_pager.proofs.{Words.{sym, subst, ap, ◌∙◌, Some, None, false, core_of, IsReady, PutsIn}, Putting.{puts, drops, beside-there}}
+use Rattle.pagable_pager.proofs.{Words.{sym, subst, ap, ◌∙◌, Some, None, false, PutsIn}, Putting.{puts, drops, beside-there}}
 use Rattle.pagable_pager.proofs.pager.installs.finish.Goals as goal
-
-pub end_beside-requires-clause-ready : goal.end_beside-requires-clause-ready
-end_beside-requires-clause-ready g c stored closed failures =
-    subst (λ l. IsReady (core_of c.args.tables.now stored closed failures) c.args.me c.args.load c.args.node_type l c.args.ending) (sym c.deref.ensures.value) (c.requires.ready stored closed failures)
 
 pub returns-then-ending-clause-puts : goal.returns-then-ending-clause-puts
 returns-then-ending-clause-puts g c =
@@ -13,6 +9,6 @@ returns-then-ending-clause-puts g c =
 
 pub returns-clause-puts : goal.returns-clause-puts
 returns-clause-puts g c =
-    subst (λ b. PutsIn b c.args.ending.row.node.0 c.args.value c.args.tables.now c.args.values.now c.end_beside.new.t c.end_beside.new.values) (sym c.if-ending.false)
-    (drops c.args.tables.now c.end_beside.new.t c.args.values.now c.end_beside.new.values c.args.ending.row.node c.args.value
-    (beside-there c.args.tables.now c.args.me c.args.load c.args.node_type c.args.references.items c.args.ending c.requires.whole (c.requires.ready (λ key. None) false 0) c.if-ending.false) c.end_beside.ensures.sheds)
+    subst (λ b. PutsIn b c.args.ending.row.node.0 c.args.value c.args.tables.now c.args.values.now c.install-2.new.t c.install-2.new.values) (sym c.if-ending.false)
+    (drops c.args.tables.now c.install-2.new.t c.args.values.now c.install-2.new.values c.args.ending.row.node c.args.value
+    (beside-there c.args.tables.now c.args.me c.args.load c.args.node_type c.args.references.items c.args.ending c.requires.whole (c.requires.ready (λ key. None) false 0) c.if-ending.false) c.install-2.ensures.sheds)

@@ -4,7 +4,7 @@ use Rattle.pagable_pager.proofs.pager.installs.give_back.Goals as goal
 pub returns-in-InVain-clause-refused : goal.returns-in-InVain-clause-refused
 returns-in-InVain-clause-refused g c w node_type references stored closed failures e u =
     vain c.args.value c.load_drop.result (subst (λ v. Unends w c.args.me c.args.load node_type references v (core_of c.args.tables.now stored closed failures)) c.in-InVain.is u)
-    (c.load_drop.ensures.dropped stored closed failures e)
+    (c.load_drop.ensures.does stored closed failures e)
 
 pub returns-in-Refused-clause-refused : goal.returns-in-Refused-clause-refused
 returns-in-Refused-clause-refused g c w node_type references stored closed failures e u =
