@@ -11,7 +11,7 @@ use Rattle.pagable_laws.proofs.Outlasting.{among-kept, NotValues, Stands, stands
 use Rattle.pagable_laws.proofs.Goes.{found-number, le-more, none-in-next, Goes, Quiet, IsShut, NotLoads, rows-self, rows-mode, rows-moved, alike, parts, quiet-self, only-rows, a-handle, quiet-goes, goes-quiet, born, keyed}
 use Rattle.pagable_laws.proofs.Goes.{goes-then, goes-known, le-self, fell as quiet-fell}
 use Rattle.pagable_world.specs.Refusals.{OwnsLoad}
-use Rattle.std.proofs.lemmas.Bool.{false_from_ne_true}
+use Rattle.std.proofs.{Common.{rules}, lemmas.Bool.{false_from_ne_true}}
 
 module _ (kind key n : ℕ) where
   -- the cache has the node under kind and key, and it is there
@@ -340,16 +340,14 @@ module _ {me : Owner} {lists : Bool} {Asks Leaves : Type 0} where
   none {c} w = record { goes = quiet-goes c (quiet-self w); spares = λ mine o. itself mine; lasts = λ k kind key n e h still. e; workers = λ v. refl; others = λ own l load is few other. is }
 
   module _ {c : Change} {w m : Core} (d : Effect me lists Asks Leaves true c w m) where
+    -- the entry is there in the middle
+    directly : Leaves → (kind key n : ℕ) → IsEntered kind key n w.cache w.cells → IsHeldFor kind key n w.rows → IsEntered kind key n m.cache m.cells
+    directly leaves kind key n e h = d.lasts leaves kind key n e h (λ f. absurd (cc))
+
     -- handles alone
     rowed : {rows : List HandleRow} {list : List HandleNumber} {last : ℕ} → let x = record m { rows = rows; list = list; last = record m.last { handle = last } } in
         Quiet m x → ((mine : Owner) → IsOther me lists w mine → Spares mine w x) → Effect me lists Asks Leaves true c w x
-    rowed q spares = record {
-      goes = goes-quiet d.goes q;
-      spares = spares;
-      lasts = λ k kind key n e h still. d.lasts k kind key n e h (λ f. absurd (cc));
-      workers = d.workers;
-      others = d.others;
-    }
+    rowed q spares = search (rules, goes-quiet, spares, directly, d.workers, d.others)
 
     pub handle : (node : NodeNumber) (mode : Mode) (owner : Owner) → Effect me lists Asks Leaves true c w (with_handle m node mode owner)
     handle node mode owner = rowed (a-handle m node mode owner) (λ mine o. spares-then mine (d.spares mine o) (spares-handle mine m node mode owner))
@@ -408,76 +406,39 @@ module _ {me : Owner} {lists : Bool} {Asks Leaves : Type 0} where
     -- ---- the end of a step
 
     pub like : {w' : Core} → Alike m w' → Effect me lists Asks Leaves false c w w'
-    like a = record {
-      goes = goes-quiet d.goes (alike a);
-      spares = λ mine o. then-alike mine a (d.spares mine o);
-      lasts = λ k kind key n e h still. stays-alike kind key n a (d.lasts k kind key n e h (λ f. absurd (cc))) (still refl);
-      workers = λ v. a.workers v ∙ d.workers v;
-      others = λ own l load is few other. a.loads l ∙ d.others own l load is few other;
-    }
+    like a = search (rules, goes-quiet, alike, then-alike, stays-alike, directly, a.workers, a.loads, d.workers, d.others, d.spares)
 
     pub fell : {before w' : Core} {given : ℕ → Bool} {r : Result (Unit {0}) Error} → Falls before m given r w' → Ours me lists w given → Effect me lists Asks Leaves false c w w'
-    fell f free = record {
-      goes = goes-quiet d.goes (quiet-fell f);
-      spares = λ mine o. then-fell mine o.apart f (d.spares mine o) (free mine o);
-      lasts = λ k kind key n e h still. stays-fell kind key n f (d.lasts k kind key n e h (λ f. absurd (cc))) (still refl);
-      workers = λ v. f.leaves.workers v ∙ d.workers v;
-      others = λ own l load is few other. f.leaves.loads l ∙ d.others own l load is few other;
-    }
+    fell {w' = w'} f free =
+        let spares : (mine : Owner) → IsOther me lists w mine → Spares mine w w' = λ mine o. then-fell mine o.apart f (d.spares mine o) (free mine o) in
+        search (rules, goes-quiet, quiet-fell, spares, stays-fell, directly, f.leaves.workers, f.leaves.loads, d.workers, d.others)
 
   pub own-mode : NotLoads me → {c : Change} (w : Core) {fits : Mode → Bool} (h : HandleNumber) (row : HandleRow) → Owns w me h fits row → (mode : Mode) → is_loose mode ≡ true → Effect me lists Asks Leaves true c w (with_mode w h mode)
   own-mode free w h row owns mode is = turned (none w) h mode is (own-handle h row owns)
       (λ r found. subst NotLoads (sym (ap (λ (x : HandleRow). x.owner) (same_some _ _ (sym found ∙ owns.live)) ∙ owns.own)) free)
 
   pub node : {c : Change} (w : Core) (t : ℕ) (own : OptionalDataKey) (references : List ArcRef) → Bears c t own → Ours me lists w (is_named_by references) → Effect me lists Asks Leaves true c w (with_node w t own references)
-  node {c} w t own references bears free = record {
-    goes = born c w t own references bears;
-    spares = λ mine o. record { each = λ q row mine_is s. moved-free mine (is_named_by references) (owner_value (w.last.node + 1)) ((free mine o).each q row mine_is s) s };
-    lasts = λ k kind key n e h still. entered-born kind key n _ _ e;
-    workers = λ v. refl;
-    others = λ own l load is few other. is;
-  }
+  node {c} w t own references bears free =
+      let spares : (mine : Owner) → IsOther me lists w mine → Spares mine w (with_node w t own references) =
+      λ mine o. record { each = λ q row mine_is s. moved-free mine (is_named_by references) (owner_value (w.last.node + 1)) ((free mine o).each q row mine_is s) s } in
+      search (rules, born, spares, entered-born)
 
   pub with-key : (w : Core) (n : NodeNumber) (key : ℕ) → Effect me lists Asks Leaves true (sets_key n.0 key) w (with_key w n key)
-  with-key w n key = record {
-    goes = keyed w n key;
-    spares = λ mine o. record { each = λ q row own s. s };
-    lasts = λ k kind q p e h still. entered-keyed kind q p n.0 key e;
-    workers = λ v. refl;
-    others = λ own l load is few other. is;
-  }
+  with-key w n key = search (rules, keyed, entered-keyed)
 
   -- what is stored may grow, and the storage may fail
   pub beside : {c : Change} (w : Core) (stored : ℕ → Option Blob) (failures : ℕ) → ((q : ℕ) (b : Blob) → w.stored q ≡ Some b → stored q ≡ Some b) → (IsShut w → (q : ℕ) → stored q ≡ None)
       → Effect me lists Asks Leaves true c w (record w { stored = stored; failures = failures })
-  beside {c} w stored failures keeps shut = let q = quiet-self w in record {
-    goes = quiet-goes c (record {
-      nodes = q.nodes;
-      handles = q.handles;
-      loads_last = q.loads_last;
-      workers_last = q.workers_last;
-      cells = q.cells;
-      stored = keeps;
-      loads = q.loads;
-      cache = q.cache;
-      rows = q.rows;
-      shut = λ is. (is.0, shut is);
-    });
-    spares = λ mine o. record { each = λ q row own s. s };
-    lasts = λ k kind key n e h still. e;
-    workers = λ v. refl;
-    others = λ own l load is few other. is;
-  }
+  beside {c} w stored failures keeps shut =
+      let q = quiet-self w in
+      let quiet : Quiet w (record w { stored = stored; failures = failures }) = search (rules, q.cells, q.loads, q.cache, q.rows, keeps, shut) in
+      search (rules, quiet-goes, quiet)
 
   -- the cache forgets all
   pub forgets : {c : Change} (w : Core) → (Leaves → ⊥) → Effect me lists Asks Leaves true c w (record w { cache = λ kind key. None })
-  forgets {c} w none = record {
-    goes = quiet-goes c (parts (le-self _) (le-self _) (λ n cell is. is) (λ l load is. is) (λ kind key n is. absurd (cc)) (rows-self w.last.handle w.rows w.rows refl));
-    spares = λ mine o. record { each = λ q row own s. s };
-    lasts = λ k. absurd (none k);
-    workers = λ v. refl;
-    others = λ own l load is few other. is;
-  }
+  forgets {c} w none =
+      let quiet : Quiet w (record w { cache = λ kind key. None }) = parts (le-self _) (le-self _) (λ n cell is. is) (λ l load is. is) (λ kind key n is. absurd (cc)) (rows-self w.last.handle w.rows w.rows refl) in
+      search (rules, quiet-goes, quiet, none)
 
   pub stays : {c : Change} {w w' : Core} → Alike w w' → Effect me lists Asks Leaves false c w w'
   stays {w = w} a = like (none w) a

@@ -3,6 +3,7 @@ use Rattle.pagable_laws.proofs.Words.{◌≡◌, ℕ, ◌+◌, ◌<◌, ◌≤�
 use Rattle.pagable_laws.proofs.Words.{if◌then◌else◌, nat_tests, Blob, ArcRef, Kind, type_of, HandleNumber, LoadNumber, NodeNumber, OptionalDataKey, changed, updated, if_there, HandleRow, Owner}
 use Rattle.pagable_laws.proofs.Words.{Mode, find_row, is_handle, mode_of, is_loose, Core, Cell, OpenLoad, Root, Alike, type_at, key_at, AreNewEntries, Falls, FallsAnyhow, fallen, left_rows}
 use Rattle.pagable_laws.proofs.Words.{row_of, with_handle, with_node, with_key, with_cached, next_node, moved, with_load, adopted, Change, nothing_felt, sets_key, bears_known, Sets, Knows, Bears}
+use Rattle.std.proofs.Common.{rules}
 use Rattle.pagable_laws.proofs.{Sums.same-number, Words.BeginsWell}
 
 -- the row of a handle before: at the same node, and the same if it is a load's now; a loose handle stays loose
@@ -62,6 +63,9 @@ le-self n = omega arith
 
 pub le-more : (a b : ℕ) → a ≤ a + b
 le-more a b = omega arith
+
+le-then : {a b c : ℕ} → a ≤ b → b ≤ c → a ≤ c
+le-then le more = omega arith
 
 -- ---- rows
 
@@ -185,19 +189,7 @@ rows-left last rows gone q row found few = record { was = row; live = (found-lef
 -- ---- quiet steps
 
 pub quiet-then : {w m w' : Core} → Quiet w m → Quiet m w' → Quiet w w'
-quiet-then {w} {m} {w'} a b =
-    record {
-      nodes = let c = a.nodes in let d = b.nodes in omega arith;
-      handles = let c = a.handles in let d = b.handles in omega arith;
-      loads_last = let c = a.loads_last in let d = b.loads_last in omega arith;
-      workers_last = let c = a.workers_last in let d = b.workers_last in omega arith;
-      cells = λ n cell is. a.cells n cell (b.cells n cell is);
-      stored = λ q blob is. b.stored q blob (a.stored q blob is);
-      loads = λ l load is. a.loads l load (b.loads l load is);
-      cache = λ kind key n is. a.cache kind key n (b.cache kind key n is);
-      rows = rows-then w.last.handle m.last.handle w.rows m.rows w'.rows a.handles a.rows b.rows;
-      shut = λ is. b.shut (a.shut is);
-    }
+quiet-then {w} {m} {w'} a b = search (rules, rows-then, le-then, a.cells, b.cells, a.stored, b.stored, a.loads, b.loads, a.cache, b.cache, a.shut, b.shut)
 
 le-of : (a b : ℕ) → b ≡ a → a ≤ b
 le-of a b is = omega arith
@@ -243,19 +235,7 @@ pub quiet-goes : (c : Change) {w w' : Core} → Quiet w w' → Goes c w w'
 quiet-goes c q = grind arith
 
 pub goes-quiet : {c : Change} {w m w' : Core} → Goes c w m → Quiet m w' → Goes c w w'
-goes-quiet {c} {w} {m} {w'} a b =
-    record {
-      nodes = let c = a.nodes in let d = b.nodes in omega arith;
-      handles = let c = a.handles in let d = b.handles in omega arith;
-      loads_last = let c = a.loads_last in let d = b.loads_last in omega arith;
-      workers_last = let c = a.workers_last in let d = b.workers_last in omega arith;
-      cells = λ n cell is. a.cells n cell (b.cells n cell is);
-      stored = λ q blob is. b.stored q blob (a.stored q blob is);
-      loads = λ l load is. a.loads l load (b.loads l load is);
-      cache = λ kind key n is. a.cache kind key n (b.cache kind key n is);
-      rows = rows-then w.last.handle m.last.handle w.rows m.rows w'.rows a.handles a.rows b.rows;
-      shut = λ is. b.shut (a.shut is);
-    }
+goes-quiet {c} {w} {m} {w'} a b = search (rules, rows-then, le-then, a.cells, b.cells, a.stored, b.stored, a.loads, b.loads, a.cache, b.cache, a.shut, b.shut)
 
 -- at a number, or elsewhere
 pub at-updated : {X : Type 0} (m : ℕ) (x : Option X) (f : ℕ → Option X) (n : ℕ) (y : X) → updated m x f n ≡ Some y → ((n ≡ m) × (x ≡ Some y)) ⊎ (f n ≡ Some y)

@@ -13,5 +13,4 @@ pub mod Closing
 pub mod Stepping
 pub mod Joined
 pub mod Dues
-pub mod Unanswered
 pub mod Pages

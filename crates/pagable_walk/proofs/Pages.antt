@@ -7,8 +7,8 @@ use Rattle.pagable_world.specs.{Access.{no-more, skips, pages, fails}, Calls.{Re
 use Rattle.pagable_world.specs.{Workers.first_todo, World.{Shelf, SameShelf, Todo, of_entry, of_item, Values, Written, Seen, Alike}, declared.events.{Took.Took, WorkerAnswer.WorkerAnswer}}
 use Rattle.{pagable_world.specs.declared.handles.Owner.Owner, pagable_laws.proofs.SparingSteps.{walk-spares-list, release-spares-list}}
 use Rattle.pagable_laws.proofs.SparingSteps.{none-shorter, Spares, spares-then}
-use Rattle.{pagable_loads.specs.{Telling.{Acting, as_caller}, Working.{StartsEntry, RefusesEntry}}, pagable_walk.proofs.{Pinning.same-shelf, Turning.{alike, plain-fits}, Unanswered.item-answered}}
-use Rattle.pagable_walk.{proofs.Unanswered.entry-answered, specs.{Over.{failure_of, PagesItem, PagesList, PagesEntry, Skipped, SkipsEntry, PagesAt, HasPaged}, Slots.no_claims, Tasks.IsPlain}}
+use Rattle.{pagable_loads.specs.{Telling.{Acting, as_caller}, Working.{StartsEntry, RefusesEntry}}, pagable_walk.proofs.{Pinning.same-shelf, Turning.{alike, plain-fits}}}
+use Rattle.{pagable_laws.proofs.Answered.{item-answered, entry-answered}, pagable_walk.specs.{Over.{failure_of, PagesItem, PagesList, PagesEntry, Skipped, SkipsEntry, PagesAt, HasPaged}, Slots.no_claims, Tasks.IsPlain}}
 use Rattle.pagable_walk.specs.{Tasks.todo_of, Turns.{Fits, plain}, Walking.{RunsTo, Walked}, declared.{results.Trees.Ghosts, table.PageOutError.PageOutError, tasks.Task.Task}}
 
 -- whoever acts for the caller does so again after a worker
