@@ -20,10 +20,6 @@ module _ {N S E : Type 0} {v : Values N} {tells : Telling S} {old new : PagerVie
 pub forgets-none : (w : Core) {kept kept' : Kept} → ((q : ℕ) → kept' q ≡ kept q) → Forgets w kept kept'
 forgets-none w as_was = record { still = λ l load is. as_was l; only = λ l own is. sym (as_was l) ∙ is }
 
--- a load that nothing has the number of isn't open
-closed : (w : Core) (l : LoadNumber) → load_fault w Owner.Caller l ≡ Some Error.NoSuchHandle → w.loads l.0 ≡ None
-closed w l why = first_of (grind (arith, common_steps, nat_tests), search (rules))
-
 -- what is kept anew after what was kept stayed
 pub keeps-after : {Y : Type 0} {k mid kept' : ℕ → Option Y} {l : ℕ} {own : Option Y} → ((q : ℕ) → mid q ≡ k q) → KeepsOne mid l own kept' → KeepsOne k l own kept'
 keeps-after as_was keeps = record { here = keeps.here; others = λ q other. keeps.others q other ∙ as_was q }
@@ -44,10 +40,6 @@ begins-prepared {kept} l key t type own none typed is key_is sort keeps = record
     unkept : (found : Option Own) → is_some found ≡ false → found ≡ None
     unkept None e = refl
     unkept (Some x) e = absurd (cc)
-
--- what was kept of a closed load goes
-pub forgets-closed : (w : Core) (l : LoadNumber) {kept kept' : Kept} → load_fault w Owner.Caller l ≡ Some Error.NoSuchHandle → KeepsOne kept l.0 None kept' → Forgets w kept kept'
-forgets-closed w l {kept} {kept'} why keeps = first_of (grind (arith, common_steps, nat_tests), grind (arith, nat_tests, same-number), search (rules, same-number))
 
 module _ {X : Type 0} {g : Ghosts X} {N S E : Type 0} (v : E → Values N) (tells : Telling S) (old new : PagerView N S E) (held : Held X g) (kept' : Readings) (serving : IsInStep tells (over old held))
     (was : WellFormed (v old.environment) (state_in tells old)) where

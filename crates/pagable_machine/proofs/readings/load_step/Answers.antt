@@ -12,7 +12,7 @@ returns-in-Ok-prepare g c =
       own = c.take_out-own.result;
       new = c.step_lent-reply.result.1;
       was = c.take_out-own.ensures.was;
-      stepped = c.step_lent-reply.ensures;
+      stepped = c.step_lent-reply.ensures.step;
       keeps = record { here = c.put_in.ensures.here; others = λ q other. c.put_in.ensures.others q other ∙ c.take_out-own.ensures.others q other };
     }) c.end.ensures
 
