@@ -5,7 +5,7 @@ use Rattle.pagable_tables.proofs.Words.{where_so, spent, load_fault, reference_f
 use Rattle.pagable_tables.proofs.Words.{IsNext, counts_at, refs_at, plain_of, Ending, IsReady, ◌&&◌, Bool, true, false, ◌++◌, length, inl, inr, if◌then◌else◌, ◌≢◌, Result, option_map, AllPairs}
 use Rattle.pagable_tables.proofs.Words.{sum_by_push, Mode, Blob, Among, one, times, changed, find_row, pins, sharing, is_handle, is_owner, is_owned_by, is_pin, is_share, owner_value, IsHandleBefore}
 use Rattle.pagable_tables.proofs.Words.{Last, Alike, Falls, nobody, moved, row_of, is_named_by, with_handle, with_mode, without_load, with_pin, Installs, Holdings, Counts, LoadRow, load_at, cell_in}
-use Rattle.pagable_tables.proofs.{Words.{has_value, is_valued, pins_in, with_tables, is_plain_pin, SoFar, core_of, load_in, MayHold, IsWider, has_come}, Coming.{rows-told, turned}, Worlds.alike}
+use Rattle.pagable_tables.proofs.{Words.{has_value, is_valued, pins_in, with_tables, is_plain_pin, SoFar, core_of, load_in, MayHold, IsWider, has_come}, Coming.{rows-told, turned}, Worlds.{alike, fault-by}}
 use Rattle.pagable_tables.proofs.{keeps.Told.alike-whole, keeps.Placed.whole-so, keeps.EndCalls.both-none, Newer.{OnlyNewer, owned-mode, newer-then, newer-moved, newer-mode, newer-handle}}
 use Rattle.pagable_tables.proofs.{Newer.newer-falls, Begun.{begins, begun}, Taken.{load-closed, owned-given, moved-times, owned-moved, no-load}, Joined.{moved-turned, turned-sum}, Named.moved-nobody}
 use Rattle.pagable_tables.proofs.{Named.named-none, Regiven.{owned, passes-here, passes-none}, Stays.{seen-before, stays-pinned, not-named, same-value}, keeps.HandleCalls.named-unlisted}
@@ -46,9 +46,7 @@ module _ (w : Core) (me : Owner) (l : LoadNumber) (node_type : ℕ) (refs : List
 
 -- references are as good where there are other places
 pub references-placed : (w : Core) (places : Places) (owner : Owner) (seen : List ℕ) (refs : List ArcRef) → references_fault (record w { places = places }) owner seen refs ≡ references_fault w owner seen refs
-unfolding references_fault
-references-placed w places owner seen [] = refl
-references-placed w places owner seen (r ∷ rs) = ap (or_else (reference_fault w owner seen r)) (references-placed w places owner (r.handle.0 ∷ seen) rs)
+references-placed w places = fault-by w (record w { places = places })
 
 -- more places, and all as it was
 pub placed-whole : (t : Tables) (h : Handles) → IsWhole t → AreSound h → ((q : ℕ) → IsNext q t.holdings.handles.places.items → IsNext q h.places.items)

@@ -4,8 +4,8 @@ use Rattle.pagable_tables.proofs.Words.{HandleNumber, HandleRow, IsWhole, List, 
 use Rattle.pagable_tables.proofs.Words.{Result, Some, Suits, [], ap, arith, false, find_row, greatest, has_key, if◌then◌else◌, inr, is_handle, is_loose, is_named_by, is_owned_by, is_owner}
 use Rattle.pagable_tables.proofs.Words.{is_pinned, is_shared, is_some, moved, nat_tests, next_node, one, or_else, owner_value, reference_fault, references_fault, refl, row_at, row_of, subst, sym}
 use Rattle.pagable_tables.proofs.{Words.{times, true, updated, with_handle, with_mode, with_node, with_pin, ℕ}, keeps.Comes.{beside, grown-whole, handle-on, not-list, not-the-list, suits-like}}
-use Rattle.pagable_tables.proofs.{keeps.Kept.{HasLike, IsIn, holder-in, keyed_in}, keeps.Rows.{each-changed, found-among, once, sum-map}, keeps.Told.{GoesOn, alike-whole}}
-use Rattle.pagable_tables.proofs.keeps.Told.{moded-on, moded-whole, roomy, settles, then-on, turned-on, turned-whole}
+use Rattle.pagable_tables.proofs.{keeps.Kept.{HasLike, IsIn, holder-in, keyed_in}, keeps.Rows.{each-changed, found-among, once, sum-map}, keeps.Told.{GoesOn, alike-whole, moded-on, moded-whole}}
+use Rattle.pagable_tables.proofs.keeps.Told.{roomy, settles, then-on, turned-on, turned-whole}
 
 -- the list's handles of one number
 abbrev pub lists : ℕ → HandleRow → Bool
