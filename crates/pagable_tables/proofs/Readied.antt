@@ -1,7 +1,7 @@
 -- A world with more room, and a node that is born in it.
-use Rattle.pagable_tables.proofs.Words.{◌≡◌, ℕ, ◌+◌, ◌<◌, ◌≤◌, true, false, if◌then◌else◌, List, [], ◌∷◌, refl, ap, ◌∙◌, subst, arith, Option, None, inl, inr, Bool, vec_capacity, nat_tests}
-use Rattle.pagable_tables.proofs.Words.{OptionalDataKey, Error, ArcRef, HandleNumber, Kind, LoadNumber, Owner, Mode, Blob, or_else, type_of, mode_of, Core, Places, Alike, HasRoom, greatest}
-use Rattle.pagable_tables.proofs.Words.{earlier, spent, reference_fault, references_fault, Refused, with_handle, with_node, with_cached, next_node, adopted, Holdings, Tables, OnlyRoom}
+use Rattle.pagable_tables.proofs.Words.{◌≡◌, ℕ, ◌+◌, ◌<◌, ◌≤◌, true, false, if◌then◌else◌, List, [], refl, ap, ◌∙◌, subst, arith, Option, None, inl, inr, Bool, vec_capacity, nat_tests}
+use Rattle.pagable_tables.proofs.Words.{OptionalDataKey, Error, ArcRef, HandleNumber, Kind, LoadNumber, Owner, Mode, Blob, type_of, mode_of, Core, Places, Alike, HasRoom, greatest}
+use Rattle.pagable_tables.proofs.Words.{earlier, spent, references_fault, Refused, with_handle, with_node, with_cached, next_node, adopted, Holdings, Tables, OnlyRoom}
 use Rattle.pagable_tables.proofs.{Words.{counts_at, refs_at, known_at, Fits, owns_nothing, live, AreSound, core_of, plain_of, AreLater}, Newer.{newer-alike, later-on}, keeps.Told.alike-whole}
 use Rattle.pagable_tables.{proofs.keeps.Placed.whole-so, specs.Core.IsWhole}
 pub use Rattle.pagable_tables.proofs.Worlds.{fault-by}

@@ -1,5 +1,5 @@
 -- Calls by which handles go to the list, come from it or fall keep the world whole.
-use Rattle.pagable_tables.proofs.Words.{◌&&◌, ◌++◌, ◌+◌, ◌<◌, ◌==◌, ◌∙◌, ◌∷◌, ◌≡◌, Among, ArePlaced, Bool, Cell, Core, Err, Error, HandleNumber, HandleRow, IsWhole, List, MayHold, Mode, None, Ok}
+use Rattle.pagable_tables.proofs.Words.{◌&&◌, ◌++◌, ◌+◌, ◌<◌, ◌==◌, ◌∙◌, ◌∷◌, ◌≡◌, Among, ArePlaced, Bool, Cell, Core, Err, Error, HandleNumber, HandleRow, IsWhole, MayHold, Mode, None, Ok}
 use Rattle.pagable_tables.proofs.Words.{Option, OptionalDataKey, Owner, ReleaseCall, Result, ScheduleCall, SetKeyCall, Some, TakeCall, UnpinCall, [], ap, arith, false, get_or, get_or_from_slice_get}
 use Rattle.pagable_tables.proofs.Words.{if_there, if◌then◌else◌, inl, inr, is_owned_by, is_owner, is_shared, is_some, is_unpinned, moved, nat_tests, one, only_handle, refl, slice_get}
 use Rattle.pagable_tables.proofs.{Words.{slice_get_within, sum_by-remove, sum_by_push, sym, times, true, with_key, ℕ}, Bits.{and-all, and-zero}, keeps.Comes.not-list, keeps.Fallen.alike-opened}

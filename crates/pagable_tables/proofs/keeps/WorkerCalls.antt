@@ -1,5 +1,5 @@
 -- A worker that begins or ends keeps the world whole.
-use Rattle.pagable_tables.proofs.Words.{◌+◌, ◌==◌, ◌||◌, ◌∙◌, ◌≡◌, ◌≤◌, ◌⊎◌, Among, ArePlaced, Bool, Core, HandleRow, IsWhole, List, LoadNumber, MayOwnLoad, None, OpenLoad, Option, Owner, Some, ap}
+use Rattle.pagable_tables.proofs.Words.{◌+◌, ◌==◌, ◌||◌, ◌∙◌, ◌≡◌, ◌≤◌, ◌⊎◌, Among, ArePlaced, Bool, Core, HandleRow, IsWhole, LoadNumber, MayOwnLoad, None, OpenLoad, Option, Owner, Some, ap}
 use Rattle.pagable_tables.proofs.Words.{arith, false, if_there, if◌then◌else◌, inl, inr, is_owner, is_some, is_workers, is_workers_load, nat_tests, owner_worker, refl, true, with_worker}
 use Rattle.pagable_tables.proofs.{Words.{without_worker, ℕ}, keeps.Fallen.{falls-lost, opened}, keeps.Kept.{IsIn, in-still, is-in, keeps-whole, loads-stay, same-rows}, keeps.Rows.found-so}
 use Rattle.pagable_tables.proofs.keeps.Told.{roomy-whole, stays-on}

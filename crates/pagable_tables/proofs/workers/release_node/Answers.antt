@@ -1,6 +1,5 @@
 use Rattle.pagable_tables.proofs.{Words.{not, refl, sym, subst, InReach, None, arith, core_of, plain_of, gives_row, Giving}, Begun.{begun-whole, not-closed}, Taken.{passes-given, at-node}, Newer.{newer-falls, later-on}}
 use Rattle.pagable_tables.proofs.{keeps.Fallen.falls-opened, keeps.Told.{stays-on, roomy-whole}, keeps.Placed.whole-so}
-use Rattle.pagable_world.specs.Workers.{is_workers_at}
 use Rattle.pagable_tables.proofs.workers.release_node.Goals as goal
 
 pub returns-clause-released : goal.returns-clause-released
