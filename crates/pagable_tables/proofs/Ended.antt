@@ -1,10 +1,10 @@
 -- Where no node falls any more, all has gone that had to go, and no more. Values that go as nodes fall.
-use Rattle.pagable_tables.proofs.Words.{◌≡◌, ℕ, ◌+◌, ◌≤◌, ◌&&◌, Bool, true, false, not, if◌then◌else◌, List, [], ◌∷◌, sum_by, refl, ap, sym, ◌∙◌, subst, arith, inl, inr, Option, Some, None, ◌⊎◌}
-use Rattle.pagable_tables.proofs.Words.{is_some, nat_lt, nat_eq, Result, nat_tests, sum_by-cons, sum_by-append, Error, OptionalDataKey, ArcRef, HandleRow, one, times, if_there, is_pinned_kind, is_at}
-use Rattle.pagable_tables.proofs.Words.{is_pin, is_owned_by, owner_value, held, pins, has_key, is_in_memory, Core, Cell, greatest, Alike, left_rows, IsClosed, is_keyed, MustList, TellsListing}
+use Rattle.pagable_tables.proofs.Words.{◌≡◌, ℕ, ◌+◌, ◌≤◌, ◌&&◌, Bool, true, false, not, if◌then◌else◌, List, [], ◌∷◌, sum_by, refl, ap, sym, ◌∙◌, subst, arith, inl, inr, Option, None, ◌⊎◌}
+use Rattle.pagable_tables.proofs.Words.{is_some, nat_lt, nat_eq, Result, nat_tests, sum_by-cons, sum_by-append, Error, OptionalDataKey, ArcRef, HandleRow, one, times, if_there, is_at}
+use Rattle.pagable_tables.proofs.Words.{is_pin, is_owned_by, owner_value, held, pins, has_key, Core, Cell, greatest, Alike, left_rows, IsClosed, is_keyed, MustList, TellsListing}
 use Rattle.pagable_tables.proofs.Words.{CannotList, IsListRefusal, Falls, fallen, pins_outside, held_outside, Counts, Holdings, live, counts_at, refs_at, Fits, IsFalling, Right, holds_in, falls_in}
 use Rattle.pagable_tables.proofs.{Words.{keyed_in, cell_in, HasFallen, owns, owns_nothing, with_tables, told_by, SoFar, length, is_valued, valued, ValueStays, Sheds, has_value}, Left.times-left}
-use Rattle.pagable_tables.proofs.{Words.sum_by-le-sum_by, Left.{entries-none, ones}, Telling.keyed-cell, Fitting.first-waits, Bits.one-le}
+use Rattle.pagable_tables.proofs.{Words.sum_by-le-sum_by, Left.{entries-none, ones}, Telling.keyed-cell, Fitting.first-waits, Bits.one-le, Worlds.same-cache}
 
 stands : (at : ℕ → Option Counts) (refs : ℕ → List ArcRef) (rows : List HandleRow) (top : ℕ) → Fits at refs rows top [] owns_nothing → (n : ℕ) → falls_in (at n) ≡ false
 stands at refs rows top fits n = let a = fits.marked n in grind (arith, nat_tests)
@@ -30,11 +30,6 @@ down-keyed x0 cell same e = grind (arith, nat_tests, keyed-cell)
 cell-kept : (o : Option Counts) (refs : List ArcRef) (h : ℕ) (cell : Option Cell) → falls_in o ≡ false → Right o refs → holds_in o ≡ h → (is_some o ≡ true → cell_in o ≡ cell)
     → cell_in o ≡ (if nat_lt 0 h then cell else None)
 cell-kept o refs h cell free right e same = grind (arith, nat_tests)
-
-same-usable : (kind : ℕ) (o : Option ℕ) (rows rows' : List HandleRow) (cells cells' : ℕ → Option Cell) → rows' ≡ rows → ((n : ℕ) → cells' n ≡ cells n)
-    → if_there (λ n. if_there (λ (cell : Cell). if is_pinned_kind kind && not (is_in_memory (pins n rows') cell.key) then None else Some n) None (cells' n)) None o
-    ≡ if_there (λ n. if_there (λ (cell : Cell). if is_pinned_kind kind && not (is_in_memory (pins n rows) cell.key) then None else Some n) None (cells n)) None o
-same-usable kind o rows rows' cells cells' e same = grind (arith, nat_tests)
 
 refusal : (w w' : Core) (e : Error) → IsListRefusal w w' e → CannotList w w'
 refusal w w' e r = grind (arith, nat_tests)
@@ -70,7 +65,7 @@ module _ (before w : Core) (given : ℕ → Bool) (lists : Bool) (t : Holdings) 
   cells-same n = grind (arith, nat_tests, cell-kept, stands, live)
 
   leaves : Alike (fallen w f.gone f.entries) (with_tables w t)
-  leaves = grind (arith, nat_tests, cells-same, same-usable, live, fallen)
+  leaves = grind (arith, nat_tests, cells-same, same-cache, live, fallen)
 
   -- what the world says of a cascade
   pub ended : Falls before w given (told_by t.unlisted) (with_tables w t)

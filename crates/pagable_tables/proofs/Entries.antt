@@ -1,21 +1,15 @@
 -- The entries of the list are given up one after the other, while no cell is listed.
 use Rattle.pagable_tables.proofs.Words.{◌≡◌, ℕ, ◌+◌, ◌<◌, ◌≤◌, ◌==◌, ◌&&◌, ◌||◌, Bool, true, false, not, if◌then◌else◌, List, [], ◌∷◌, ◌++◌, suc, zero, filter, length, map, None, refl, ap, sym, ◌∙◌}
 use Rattle.pagable_tables.proofs.Words.{subst, arith, Option, Result, nat_lt, vec_capacity, nat_tests, append-nil, sum_by-cons, sum_by-append, sum_by_push, Error, HandleNumber, HandleRow, Owner}
-use Rattle.pagable_tables.proofs.Words.{Blob, Among, one, times, if_there, is_at, is_handle, is_owned_by, find_row, held, Core, FallsAnyhow, left_rows, nobody, TellsListing, is_owned_in, Holdings}
+use Rattle.pagable_tables.proofs.Words.{Blob, Among, one, times, if_there, is_at, is_handle, is_owned_by, find_row, held, Core, FallsAnyhow, nobody, TellsListing, is_owned_in, Holdings}
 use Rattle.pagable_tables.proofs.{Words.{Tables, core_of, live, told_by, SoFar, entered, with_list, AreEntries, IsApart}, keeps.Rows.{found-so, counted, only-row}, Begun.{begins, begun, shut-then}}
-use Rattle.pagable_tables.{proofs.{Left.{and_one, kept-more}, Regiven.regiven, Bits.one-le}, specs.Core.IsWhole}
+use Rattle.pagable_tables.{proofs.{Left.{and_one, kept-more}, Regiven.{found-left, regiven}, Bits.one-le}, specs.Core.IsWhole}
 use Rattle.pagable_world.specs.Calls.{shut as shut_world}
 use Rattle.pagable_world.specs.Pager as pager
 
 pub no-entries : (es : List HandleRow) → ((n : ℕ) → 0 < held n es → ⊥) → es ≡ []
 no-entries [] none = refl
 no-entries (h ∷ hs) none = absurd (none h.node.0 (let a = sum_by-cons (λ x. one (is_at h.node.0 x)) h hs in grind (arith, nat_tests)))
-
--- what is found of a number that hasn't gone
-find-kept : (gone : ℕ → Bool) (q : ℕ) (rows : List HandleRow) → gone q ≡ false → find_row q (left_rows gone rows) ≡ find_row q rows
-unfolding find_row
-find-kept gone q [] kept = refl
-find-kept gone q (x ∷ xs) kept = grind (arith, nat_tests, find-kept gone q xs kept)
 
 filter-le : (p : HandleNumber → Bool) (xs : List HandleNumber) → length (filter p xs) ≤ length xs
 filter-le p [] = omega arith
@@ -42,7 +36,7 @@ module _ {before w : Core} {given : ℕ → Bool} {t : Holdings} (f : SoFar befo
   went q owned none = regiven before w given (and_one given q) false t f less (λ r e. grind (arith, nat_tests))
     where
       gone : f.gone q ≡ true
-      gone = grind (arith, nat_tests, none-came, append-nil, find-kept)
+      gone = grind (arith, nat_tests, none-came, append-nil, found-left (is_owned_by Owner.List) q)
 
       less : (r : ℕ) → and_one given q r ≡ true → (given r || f.gone r) ≡ true
       less r e = at (r == q) refl

@@ -1,8 +1,8 @@
 -- Handles are given up together, those that pass a test or that references name.
 use Rattle.pagable_tables.proofs.Words.{nat_lt, ◌≡◌, ℕ, ◌<◌, ◌≤◌, ◌-◌, ◌==◌, ◌&&◌, ◌||◌, Bool, true, false, not, [], Option, Some, None, refl, ap, sym, ◌∙◌, arith, nat_tests, NodeNumber, HandleRow}
 use Rattle.pagable_tables.proofs.Words.{Owner, if_there, is_owner, find_row, Core, OpenLoad, nobody, Giving, Holdings, live, is_valued, SoFar, gives_row, passes_in, ◌+◌, if◌then◌else◌, List, ◌∷◌, suc}
-use Rattle.pagable_tables.proofs.Words.{length, get_or, slice_get, ◌⊎◌, AllPairs, slice_get-get_or, is_handle, Place, alive, IsBefore, ◌++◌, take, add-one, take-suc, ArcRef, LoadNumber, is_named_by}
-use Rattle.pagable_tables.proofs.{Words.is_owned_in, Regiven.{regiven, passes-so-far, passes-here, passes-none, and_owned}, Alive.{row-live, smaller-up, greater-from}, Named.named-take, Bits.had}
+use Rattle.pagable_tables.proofs.Words.{length, get_or, slice_get, AllPairs, slice_get-get_or, is_handle, Place, alive, IsBefore, take, ArcRef, LoadNumber, is_named_by}
+use Rattle.pagable_tables.proofs.{Words.is_owned_in, Regiven.{regiven, passes-so-far, passes-here, passes-none, and_owned}, Alive.{le_or_lt, row-live, smaller-up, greater-from}, Named.named-take, Bits.had}
 use Rattle.pagable_tables.{proofs.{Bits.and-left, Words.{InReach, Reach}}, specs.Giving.gives}
 
 -- a world of these loads alone
@@ -105,13 +105,10 @@ none-passes test q (s ∷ ss) h = by s.is_live refl (none-passes test q ss (λ k
     by true e rest = passes-here test q s.row (live ss) ∙ here e (is_handle q s.row) refl rest
     by false e rest = rest
 
-before-or-not : (k p : ℕ) → (k < p) ⊎ (p ≤ k)
-before-or-not k p = grind arith
-
 -- below a place numbers are smaller, and from there on those that pass are too great
 pub none-from : (test : HandleRow → Bool) (ss : List Place) (p q left : ℕ) → ((k : ℕ) (d : Place) → k < p → (get_or ss k d).row.number.0 < q) → q ≤ left
     → ((k : ℕ) (d : Place) → p ≤ k → k < length ss → (get_or ss k d).is_live ≡ true → test (get_or ss k d).row ≡ true → left < (get_or ss k d).row.number.0) → passes_in test (live ss) q ≡ false
-none-from test ss p q left below within above = grind (arith, nat_tests, none-passes, before-or-not)
+none-from test ss p q left below within above = grind (arith, nat_tests, none-passes, le_or_lt p)
 
 module _ (ss : List Place) (m : ℕ) (p : Place) (within : m < length ss) (is : p ≡ get_or ss m p) where
   number : p.row.number.0 ≡ (get_or ss m p).row.number.0

@@ -1,14 +1,14 @@
 -- A load of a cell ends with a pin, and gives up what it still owns. The pin stays, so that cells are listed as of the world before.
 use Rattle.pagable_tables.proofs.Words.{◌≡◌, ℕ, ◌<◌, ◌==◌, List, [], ◌∷◌, refl, ap, sym, ◌∙◌, subst, arith, Option, Some, None, ◌⊎◌, ◌≤◌, ◌+◌, not, vec_capacity, nat_tests, Error, ArcRef}
-use Rattle.pagable_tables.proofs.Words.{HandleNumber, LoadNumber, NodeNumber, HandleRow, Owner, if_there, or_else, Core, OpenLoad, Places, of_cell, of_key, greatest, AreHandlesFull, refused_if}
-use Rattle.pagable_tables.proofs.Words.{where_so, spent, load_fault, reference_fault, references_fault, MayOwnLoad, root_fault, end_fault, is_owned_in, MayEnd, Handles, Tables, live, room, AreSound}
+use Rattle.pagable_tables.proofs.Words.{HandleNumber, LoadNumber, NodeNumber, HandleRow, Owner, if_there, Core, OpenLoad, Places, of_cell, of_key, greatest, AreHandlesFull, refused_if}
+use Rattle.pagable_tables.proofs.Words.{where_so, spent, load_fault, references_fault, MayOwnLoad, root_fault, end_fault, is_owned_in, MayEnd, Handles, Tables, live, room, AreSound}
 use Rattle.pagable_tables.proofs.Words.{IsNext, counts_at, refs_at, plain_of, Ending, IsReady, ◌&&◌, Bool, true, false, ◌++◌, length, inl, inr, if◌then◌else◌, ◌≢◌, Result, option_map, AllPairs}
 use Rattle.pagable_tables.proofs.Words.{sum_by_push, Mode, Blob, Among, one, times, changed, find_row, pins, sharing, is_handle, is_owner, is_owned_by, is_pin, is_share, owner_value, IsHandleBefore}
 use Rattle.pagable_tables.proofs.Words.{Last, Alike, Falls, nobody, moved, row_of, is_named_by, with_handle, with_mode, without_load, with_pin, Installs, Holdings, Counts, LoadRow, load_at, cell_in}
-use Rattle.pagable_tables.proofs.{Words.{has_value, is_valued, pins_in, with_tables, is_plain_pin, SoFar, core_of, load_in, MayHold, IsWider, has_come}, Coming.{rows-told, turned}, Worlds.alike}
+use Rattle.pagable_tables.proofs.{Words.{has_value, is_valued, pins_in, with_tables, is_plain_pin, SoFar, core_of, load_in, MayHold, IsWider, has_come}, Coming.{rows-told, turned}, Worlds.{alike, fault-by}}
 use Rattle.pagable_tables.proofs.{keeps.Told.alike-whole, keeps.Placed.whole-so, keeps.EndCalls.both-none, Newer.{OnlyNewer, owned-mode, newer-then, newer-moved, newer-mode, newer-handle}}
 use Rattle.pagable_tables.proofs.{Newer.newer-falls, Begun.{begins, begun}, Taken.{load-closed, owned-given, moved-times, owned-moved, no-load}, Joined.{moved-turned, turned-sum}, Named.moved-nobody}
-use Rattle.pagable_tables.proofs.{Named.named-none, Regiven.{owned, passes-here, passes-none}, Stays.{seen-before, stays-pinned, not-named, same-value}, keeps.HandleCalls.named-unlisted}
+use Rattle.pagable_tables.proofs.{Named.named-none, Regiven.{found-first, owned, passes-here, passes-none}, Stays.{seen-before, stays-pinned, not-named, same-value}, keeps.HandleCalls.named-unlisted}
 use Rattle.pagable_tables.proofs.{keeps.HandleCalls.moved-to-value, keeps.Comes.{not-list, not-a-value}, keeps.LoadCalls.may-hold, keeps.Rows.{among-map, found-among, once, ordered-map, sum-map}}
 use Rattle.pagable_tables.{proofs.Bits.{and-zero, and-left, and-all}, specs.Core.IsWhole}
 
@@ -46,9 +46,7 @@ module _ (w : Core) (me : Owner) (l : LoadNumber) (node_type : ℕ) (refs : List
 
 -- references are as good where there are other places
 pub references-placed : (w : Core) (places : Places) (owner : Owner) (seen : List ℕ) (refs : List ArcRef) → references_fault (record w { places = places }) owner seen refs ≡ references_fault w owner seen refs
-unfolding references_fault
-references-placed w places owner seen [] = refl
-references-placed w places owner seen (r ∷ rs) = ap (or_else (reference_fault w owner seen r)) (references-placed w places owner (r.handle.0 ∷ seen) rs)
+references-placed w places = fault-by w (record w { places = places })
 
 -- more places, and all as it was
 pub placed-whole : (t : Tables) (h : Handles) → IsWhole t → AreSound h → ((q : ℕ) → IsNext q t.holdings.handles.places.items → IsNext q h.places.items)
@@ -82,8 +80,7 @@ module _ (h : HandleNumber) (node : NodeNumber) (rows : List HandleRow) (of : (y
   other-shares = grind (arith, nat_tests, sum-map, of)
 
 loaded-beside : (l : LoadNumber) (q : ℕ) (rows : List HandleRow) (x : HandleRow) → is_owner (Owner.Load l) x.owner ≡ false → owned (Owner.Load l) q (rows ++ x ∷ []) ≡ owned (Owner.Load l) q rows
-loaded-beside l q [] x other = grind (arith, nat_tests, passes-here, passes-none)
-loaded-beside l q (y ∷ ys) x other = grind (arith, nat_tests, passes-here, loaded-beside l q ys x other)
+loaded-beside l q rows x other = found-first (is_owned_by (Owner.Load l)) q rows (x ∷ []) (grind (arith, nat_tests, passes-here, passes-none))
 
 row-of : (rows : List HandleRow) → AllPairs IsHandleBefore rows → (row : HandleRow) → find_row row.number.0 rows ≡ Some row → (z : HandleRow) → Among rows z → is_handle row.number.0 z ≡ true
     → z.node ≡ row.node

@@ -89,17 +89,4 @@ pub alike-listed : (w w' : Core) → w'.rows ≡ w.rows → w'.list ≡ w.list �
 alike-listed w w' rows list places same = grind (arith, nat_tests, same-cache)
 
 pub at-work-still : {w w' : Core} {workers : ℕ → Bool} → Alike w w' → SameAt w'.workers workers → Alike w (record w' { workers = workers })
-at-work-still {w} {w'} {workers} a still =
-    record {
-      rows = a.rows;
-      cells = a.cells;
-      list = a.list;
-      cache = record { gives = a.cache.gives; only = a.cache.only };
-      stored = a.stored;
-      closed = a.closed;
-      failures = a.failures;
-      loads = a.loads;
-      workers = λ v. still v ∙ a.workers v;
-      last = a.last;
-      places = a.places;
-    }
+at-work-still {w} {w'} {workers} a still = grind (arith, nat_tests)

@@ -4,7 +4,7 @@ use Rattle.pagable_tables.proofs.Words.{HandleNumber, HandleRow, HasFallen, HasP
 use Rattle.pagable_tables.proofs.Words.{NodeNumber, Ok, Option, Owner, Result, SoFar, Some, Steps, TellsListing, [], ap, append-nil, append_assoc, arith, cell_in, counts_at, entries_of, entry}
 use Rattle.pagable_tables.proofs.Words.{false, filter, filter-append, first_cause, greatest, held, if◌then◌else◌, inl, inr, is_at, is_handle, is_keyed, is_listing, is_outside, is_owned_by, is_owner}
 use Rattle.pagable_tables.proofs.Words.{is_pin, is_some, left_rows, length, length-append, live, map, map-append, nat_tests, not, one, only_handle, owner_value, owns_nothing, pins, pins_in, refl}
-use Rattle.pagable_tables.proofs.{Words.{subst, sum_by, sum_by-append, sum_by-cons, sum_by-le-sum_by, sym, times, told_by, true, vec_capacity, with_tables, ℕ}, Bits.one-le, Left.and_one}
+use Rattle.pagable_tables.proofs.{Words.{subst, sum_by, sum_by-append, sum_by-le-sum_by, sym, times, told_by, true, vec_capacity, with_tables, ℕ}, Bits.one-le, Left.and_one}
 use Rattle.pagable_tables.proofs.{Left.{sum-most, entries-more, kept-more, leaves-sums, left-more, left-none, none-entered, none-listed, of_list, ones, times-left}, Telling.{entry-pins, forced, only-more}}
 use Rattle.pagable_tables.proofs.{Telling.{refusal-now, tells-more}, keeps.HandleCalls.lists}
 

@@ -1,9 +1,10 @@
 -- A world with more room, and a node that is born in it.
-use Rattle.pagable_tables.proofs.Words.{◌≡◌, ℕ, ◌+◌, ◌<◌, ◌≤◌, true, false, if◌then◌else◌, List, [], ◌∷◌, refl, ap, ◌∙◌, subst, arith, Option, None, inl, inr, Bool, vec_capacity, nat_tests}
-use Rattle.pagable_tables.proofs.Words.{OptionalDataKey, Error, ArcRef, HandleNumber, Kind, LoadNumber, Owner, Mode, Blob, or_else, type_of, mode_of, Core, Places, Alike, HasRoom, greatest}
-use Rattle.pagable_tables.proofs.Words.{earlier, spent, reference_fault, references_fault, Refused, with_handle, with_node, with_cached, next_node, adopted, Holdings, Tables, OnlyRoom}
+use Rattle.pagable_tables.proofs.Words.{◌≡◌, ℕ, ◌+◌, ◌<◌, ◌≤◌, true, false, if◌then◌else◌, List, [], refl, ap, ◌∙◌, subst, arith, Option, None, inl, inr, Bool, vec_capacity, nat_tests}
+use Rattle.pagable_tables.proofs.Words.{OptionalDataKey, Error, ArcRef, HandleNumber, Kind, LoadNumber, Owner, Mode, Blob, type_of, mode_of, Core, Places, Alike, HasRoom, greatest}
+use Rattle.pagable_tables.proofs.Words.{earlier, spent, references_fault, Refused, with_handle, with_node, with_cached, next_node, adopted, Holdings, Tables, OnlyRoom}
 use Rattle.pagable_tables.proofs.{Words.{counts_at, refs_at, known_at, Fits, owns_nothing, live, AreSound, core_of, plain_of, AreLater}, Newer.{newer-alike, later-on}, keeps.Told.alike-whole}
 use Rattle.pagable_tables.{proofs.keeps.Placed.whole-so, specs.Core.IsWhole}
+pub use Rattle.pagable_tables.proofs.Worlds.{fault-by}
 use Rattle.pagable_world.specs.Calls.{IsNext}
 use Rattle.pagable_tables.specs.Live as places
 
@@ -23,12 +24,6 @@ next-past {w} {w'} {k} o next = let n = subst (λ (u : Core). IsNext k u) o.same
 pub born-past : {w w1 w' : Core} (node_type : ℕ) (key : OptionalDataKey) (rs : List ArcRef) (mode : Mode) (me : Owner) → OnlyRoom w w1
     → Alike (with_handle (with_node w1 node_type key rs) (next_node w1) mode me) w' → Alike (with_handle (with_node w node_type key rs) (next_node w) mode me) w'
 born-past {w} {w1} {w'} node_type key rs mode me o a = grind (arith, nat_tests, alike-past)
-
--- why references are refused depends on rows and cells alone
-pub fault-by : (w u : Core) (me : Owner) (seen : List ℕ) (rs : List ArcRef) → references_fault (record u { rows = w.rows; cells = w.cells }) me seen rs ≡ references_fault w me seen rs
-unfolding references_fault
-fault-by w u me seen [] = refl
-fault-by w u me seen (r ∷ rs) = ap (or_else (reference_fault w me seen r)) (fault-by w u me (r.handle.0 ∷ seen) rs)
 
 pub room-fault : {w w' : Core} (me : Owner) (rs : List ArcRef) → OnlyRoom w w' → references_fault w' me [] rs ≡ references_fault w me [] rs
 room-fault {w} {w'} me rs o = ap (λ (u : Core). references_fault u me [] rs) o.same ∙ fault-by w (record w { places = w'.places }) me [] rs

@@ -51,11 +51,11 @@ module _ (test : HandleRow → Bool) (q : ℕ) where
   no-entry none last (x ∷ xs) new = grind (arith, nat_tests, passes-none, passes-here, no-entry none (last + 1) xs new.3)
 
   -- what has gone isn't found, and all else is
-  found-left : (gone : ℕ → Bool) (rows : List HandleRow) → passes_in test (left_rows gone rows) q ≡ (not (gone q) && passes_in test rows q)
+  pub found-left : (gone : ℕ → Bool) (rows : List HandleRow) → passes_in test (left_rows gone rows) q ≡ (not (gone q) && passes_in test rows q)
   found-left gone [] = passes-none ∙ sym (ap (λ b. not (gone q) && b) passes-none ∙ and-false (not (gone q)))
   found-left gone (x ∷ xs) = grind (arith, nat_tests, passes-here, found-left gone xs)
 
-  found-first : (rows more : List HandleRow) → passes_in test more q ≡ false → passes_in test (rows ++ more) q ≡ passes_in test rows q
+  pub found-first : (rows more : List HandleRow) → passes_in test more q ≡ false → passes_in test (rows ++ more) q ≡ passes_in test rows q
   found-first [] more none = none ∙ sym passes-none
   found-first (x ∷ xs) more none = grind (arith, nat_tests, passes-here, found-first xs more none)
 

@@ -1,6 +1,6 @@
 -- A handle has gone and an entry may have come: which cells must be listed then, and what is told of it.
-use Rattle.pagable_tables.proofs.Words.{◌≡◌, ℕ, ◌+◌, ◌≤◌, ◌&&◌, Bool, true, false, not, if◌then◌else◌, List, [], ◌∷◌, refl, ap, sym, ◌∙◌, arith, Option, Some, None, inl, inr, is_some, nat_lt, nat_eq}
-use Rattle.pagable_tables.proofs.Words.{nat_tests, sum_by-cons, sum_by-append, OptionalDataKey, HandleRow, one, times, if_there, is_at, is_pin, is_owned_by, owner_value, held, pins, has_key, Core}
+use Rattle.pagable_tables.proofs.Words.{◌≡◌, ℕ, ◌+◌, ◌≤◌, ◌&&◌, Bool, true, false, not, if◌then◌else◌, List, refl, ap, sym, ◌∙◌, arith, Option, Some, None, inl, inr, is_some, nat_lt, nat_eq}
+use Rattle.pagable_tables.proofs.Words.{nat_tests, sum_by-append, OptionalDataKey, HandleRow, one, times, if_there, is_at, is_pin, is_owned_by, owner_value, held, pins, has_key, Core}
 use Rattle.pagable_tables.proofs.Words.{Cell, IsWithin, IsClosed, is_keyed, is_outside, left_rows, held_outside, pins_outside, Counts, Holdings, live, counts_at, keyed_in, key_in, cell_in, HasFallen}
 use Rattle.pagable_tables.proofs.Words.{SoFar, ◌⊎◌, cases_Bool, and_parts, NodeNumber, Owner, Mode, is_share, is_shared, is_pinning, MustList, pins_in, entry, is_listing, with_tables, is_plain_pin}
 use Rattle.pagable_tables.proofs.{Words.{◌<◌, ◌++◌, length, subst, vec_capacity, Error, TellsListing, IsListRefusal, entries_of, IsUnlisted, first_cause, told_by}, Left.{times-left, entries-none}}

@@ -1,4 +1,5 @@
 -- Two worlds that are told alike.
+use Rattle.pagable_tables.proofs.Words.{ap, refl, [], ◌∷◌, ArcRef, or_else, reference_fault, references_fault}
 use Rattle.pagable_tables.proofs.Words.{true, ◌≡◌, ℕ, ◌&&◌, List, arith, Option, Some, None, if◌then◌else◌, not, Result, Error, HandleNumber, Owner, nat_tests, CloneCall}
 use Rattle.pagable_tables.proofs.Words.{Makes, is_pinned_kind, if_there, SameAt, pins, is_in_memory, is_owner, Core, Cell, SameCache, Alike, HasRoom, row_at, HandleRow}
 
@@ -29,3 +30,9 @@ clones w me h row r w' is m = grind (arith, nat_tests)
 -- who passes the test is the same owner
 pub owner-same : (a b : Owner) → is_owner a b ≡ true → b ≡ a
 owner-same a b h = grind (arith, nat_tests)
+
+-- why references are refused depends on rows and cells alone
+pub fault-by : (w u : Core) (me : Owner) (seen : List ℕ) (rs : List ArcRef) → references_fault (record u { rows = w.rows; cells = w.cells }) me seen rs ≡ references_fault w me seen rs
+unfolding references_fault
+fault-by w u me seen [] = refl
+fault-by w u me seen (r ∷ rs) = ap (or_else (reference_fault w me seen r)) (fault-by w u me (r.handle.0 ∷ seen) rs)

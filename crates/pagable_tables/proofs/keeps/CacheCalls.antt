@@ -1,9 +1,9 @@
 -- Calls on the cache and on room keep the world whole.
-use Rattle.pagable_tables.proofs.Words.{type_of, ◌&&◌, ◌<◌, ◌==◌, ◌∙◌, ◌≡◌, ArePlaced, Bool, ClearCall, Core, Err, Error, HandleNumber, IsEntryWhole, IsWhole, Kind, MayHold, Mode, NodeNumber, None}
+use Rattle.pagable_tables.proofs.Words.{◌&&◌, ◌<◌, ◌==◌, ◌∙◌, ◌≡◌, ArePlaced, Bool, ClearCall, Core, Err, Error, HandleNumber, IsEntryWhole, IsWhole, Kind, MayHold, Mode, NodeNumber, None}
 use Rattle.pagable_tables.proofs.Words.{OfferCall, Ok, Option, Owner, RecallCall, ReserveCall, Result, Some, Suits, arith, false, fits_mode, greatest, if◌then◌else◌, inl, inr, is_shared}
-use Rattle.pagable_tables.proofs.{Words.{is_shared_kind, is_some, mode_of, nat_tests, refl, sym, true, usable, with_cached, with_known, ℕ}, keeps.Comes.{beside, handle-on, suits-like}}
-use Rattle.pagable_tables.proofs.{keeps.Fallen.falls-whole, keeps.Kept.{alike-rows, is-in, keeps-whole, same-rows, there-then}, keeps.Rows.{counted, found-among}}
-use Rattle.pagable_tables.proofs.keeps.Told.{alike-whole, load-stays, roomy, roomy-whole, settles, told-whole}
+use Rattle.pagable_tables.proofs.{Words.{is_shared_kind, is_some, mode_of, nat_tests, refl, sym, true, type_of, usable, with_cached, with_known, ℕ}, keeps.Comes.{beside, handle-on, suits-like}}
+use Rattle.pagable_tables.proofs.{keeps.Fallen.falls-whole, keeps.Kept.{alike-rows, is-in, keeps-whole, loads-stay, same-rows, there-then}, keeps.Rows.{counted, found-among}, keeps.Told.alike-whole}
+use Rattle.pagable_tables.proofs.keeps.Told.{roomy, roomy-whole, settles, told-whole}
 
 pub clear-whole : {w w' : Core} (r : Result (Unit {0}) Error) → IsWhole w → ClearCall w r w' → ArePlaced w' → IsWhole w'
 clear-whole {w} {w'} r whole call placed = let a = call.leaves in
@@ -40,12 +40,12 @@ recall-whole me kind key x3 whole holder call placed = grind (arith, nat_tests, 
 pub cached-whole : {w : Core} (kind : Kind) (key : ℕ) (n : NodeNumber) → IsWhole w → w.closed ≡ false → IsEntryWhole w kind.0 n.0 → IsWhole (with_cached w kind key n)
 cached-whole {w} kind key n whole stands_open entry =
     keeps-whole whole (record {
-      on = same-rows whole refl (λ n. refl) refl refl;
+      on = same-rows whole refl (λ n. refl) refl refl (omega arith);
       within = whole.handles.within;
       places = whole.handles.places;
       listed = whole.owners_there.listed;
       owners = is-in whole;
-      loads = load-stays whole (omega arith) (λ v at. at);
+      loads = loads-stay whole (λ v at. at);
       cache = λ k q m is. at k q m (k == kind.0) (q == key) refl is;
       workers = whole.workers_numbered;
       shut = λ closed. let f : true ≡ false = sym closed ∙ stands_open in absurd (cc);

@@ -2,7 +2,7 @@
 use Rattle.pagable_tables.proofs.Words.{◌&&◌, ◌++◌, ◌+◌, ◌<◌, ◌==◌, ◌∙◌, ◌∷◌, ◌≡◌, ◌≢◌, ◌≤◌, ◌⊎◌, Cell, Core, HandleRow, IsWhole, MayHold, Mode, NodeNumber, Option, Owner, Suits, [], ap}
 use Rattle.pagable_tables.proofs.Words.{arith, false, greatest, held, inl, inr, is_at, is_handle, is_owned_by, is_owner, is_shared, is_some, is_valued, nat_lt, nat_tests, one, refl, row_of, subst}
 use Rattle.pagable_tables.proofs.{Words.{sum_by_push, sym, true, with_handle, ℕ}, Bits.and-zero, keeps.Kept.{GoOn, HasLike, IsIn, IsNew, held-some, holder-in, is-in, keeps-whole, keyed_in}}
-use Rattle.pagable_tables.proofs.{keeps.Kept.{stays-old, there-then, type_in}, keeps.Rows.{among-both, among-more, among-one, ordered-push}, keeps.Told.{GoesOn, load-stays, roomy}}
+use Rattle.pagable_tables.proofs.{keeps.Kept.{loads-stay, stays-old, there-then, type_in}, keeps.Rows.{among-both, among-more, among-one, ordered-push}, keeps.Told.{GoesOn, roomy}}
 
 -- who may hold is neither the list nor a value
 pub not-list : (w : Core) (o : Owner) → MayHold w o → is_owner Owner.List o ≡ false
@@ -43,7 +43,7 @@ module _ {w : Core} (whole : IsWhole w) (x : HandleRow) (cells : ℕ → Option 
   grown-on : GoOn w grown
   grown-on =
       record {
-        last = (omega arith, more);
+        last = (omega arith, more, omega arith);
         ordered = ordered-push w.rows x (λ y among. let a = whole.handles.numbered y among in omega arith) whole.handles.ordered;
         fresh = is_shared x.mode;
         rows = λ h among. elim (among-both w.rows (x ∷ []) h among) [ inl old ↦ inl (stays-old old) | inr new ↦ inr (subst (IsNew w grown (is_shared x.mode)) (sym (among-one x h new)) come) ];
@@ -68,7 +68,7 @@ module _ {w : Core} (whole : IsWhole w) (x : HandleRow) (cells : ℕ → Option 
           | inl old ↦ is-in whole h old
           | inr new ↦ subst (λ (y : HandleRow). IsIn w y.mode y.owner) (sym (among-one x h new)) (holder-in w x.mode x.owner holder)
         ];
-        loads = load-stays whole (omega arith) (λ v at. at);
+        loads = loads-stay whole (λ v at. at);
         cache = whole.cache;
         workers = whole.workers_numbered;
         shut = whole.shut;

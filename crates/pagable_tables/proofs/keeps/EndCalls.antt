@@ -1,15 +1,15 @@
 -- Calls by which a load goes on or ends, and the close of the storage, keep the world whole.
 use Rattle.pagable_tables.proofs.Words.{◌&&◌, ◌+◌, ◌<◌, ◌==◌, ◌∙◌, ◌∷◌, ◌≡◌, ◌⊎◌, AdoptCall, AllPairs, Among, ArcRef, ArePlaced, Bool, CloseCall, Core, DropCall, EndCall, Err, Error, Falls}
-use Rattle.pagable_tables.proofs.Words.{GetsKnown, HandOverCall, HandleNumber, HandleRow, IsEntryWhole, IsHandleBefore, IsWhole, Kind, LazyCall, List, LoadCloses, LoadNumber, MayHold, MayOwnLoad}
-use Rattle.pagable_tables.proofs.Words.{Mode, NodeNumber, None, Ok, OpenLoad, Option, OptionalDataKey, Owner, Owns, OwnsLoad, Result, Some, [], adopted, ap, arith, cell_fault, earlier, false}
-use Rattle.pagable_tables.proofs.Words.{first_key, greatest, has_key, if_there, if◌then◌else◌, inl, inr, is_handle, is_in, is_listed, is_loose, is_loose_kind, is_named_by, is_owned_by, is_owned_in}
-use Rattle.pagable_tables.proofs.Words.{is_owner, is_shared, is_some, load_fault, mode_of, moved, named_fault, nat_tests, next_node, not, numbers_of, owner_value, references_fault, refl, row_of}
-use Rattle.pagable_tables.proofs.{Words.{shut, subst, suc, sym, times, true, type_of, updated, with_cached, with_handle, with_mode, with_node, with_pin, without_load, zero, ℕ}, Handed.found-there}
-use Rattle.pagable_tables.proofs.{Handed.one-fault, Worlds.owner-same, keeps.CacheCalls.{cached-whole, known-whole, mode-shared}, keeps.Comes.{handle-on, not-list}, keeps.Fallen.alike-opened}
-use Rattle.pagable_tables.proofs.{keeps.Fallen.{falls-lost, falls-opened, opened, references-opened}, keeps.HandleCalls.{IsMine, born-whole, mine-of, moved-number, moved-on, moved-to-holder}}
-use Rattle.pagable_tables.proofs.{keeps.HandleCalls.{moved-to-value, named-own, named-unlisted, no-references, pin-comes, pin-on}, keeps.Kept.{IsIn, alike-rows, is-in}, keeps.LoadCalls.may-hold}
-use Rattle.pagable_tables.proofs.{keeps.Rows.{among-both, among-changed, among-last, among-one, found-among, found-so, once}, keeps.Told.{GoesOn, alike-whole, may-own, roomy}}
-use Rattle.pagable_tables.proofs.keeps.Told.{roomy-whole, settles, stays-on, then-on}
+use Rattle.pagable_tables.proofs.Words.{HandOverCall, HandleNumber, HandleRow, IsEntryWhole, IsHandleBefore, IsWhole, Kind, LazyCall, List, LoadCloses, LoadNumber, MayHold, MayOwnLoad, Mode}
+use Rattle.pagable_tables.proofs.Words.{NodeNumber, None, Ok, OpenLoad, Option, OptionalDataKey, Owner, Owns, OwnsLoad, Result, Some, [], adopted, ap, arith, cell_fault, earlier, false, first_key}
+use Rattle.pagable_tables.proofs.Words.{greatest, has_key, if_there, if◌then◌else◌, inl, inr, is_handle, is_in, is_listed, is_loose, is_loose_kind, is_named_by, is_owned_by, is_owned_in, is_owner}
+use Rattle.pagable_tables.proofs.Words.{is_shared, is_some, load_fault, mode_of, moved, named_fault, nat_tests, next_node, not, numbers_of, owner_value, references_fault, refl, row_of, shut, subst}
+use Rattle.pagable_tables.proofs.{Words.{suc, sym, times, true, type_of, updated, with_cached, with_handle, with_mode, with_node, with_pin, without_load, zero, ℕ}, Handed.{found-there, one-fault}}
+use Rattle.pagable_tables.proofs.{Worlds.{fault-by, owner-same}, keeps.CacheCalls.{cached-whole, known-whole, mode-shared}, keeps.Comes.{handle-on, not-list}, keeps.Fallen.alike-opened}
+use Rattle.pagable_tables.proofs.{keeps.Fallen.{falls-lost, falls-opened, opened}, keeps.HandleCalls.{IsMine, born-whole, mine-of, moved-number, moved-on, moved-to-holder, moved-to-value}}
+use Rattle.pagable_tables.proofs.{keeps.HandleCalls.{named-own, named-unlisted, no-references, pin-comes, pin-on}, keeps.Kept.{IsIn, alike-rows, is-in, may-own}, keeps.LoadCalls.may-hold}
+use Rattle.pagable_tables.proofs.{keeps.Rows.{among-both, among-changed, among-last, among-one, found-among, found-so, once}, keeps.Told.{GoesOn, alike-whole, roomy, roomy-whole, settles, stays-on}}
+use Rattle.pagable_tables.proofs.keeps.Told.{then-on}
 
 -- ---- a load closes
 
@@ -94,7 +94,7 @@ end-whole {N} {w} {w'} me l x node_type refs (Ok k) whole call placed =
       | inl (away, falls) ↦
           let s = is_named_by refs in
           let m : Core = record w { rows = moved s (owner_value node.0) w.rows } in
-          ends-whole w m (moved-to-value whole s (named-unlisted whole (Owner.Load l) refs refl (references-opened w (Owner.Load l) [] refs ∙ ends.good)) node.0)
+          ends-whole w m (moved-to-value whole s (named-unlisted whole (Owner.Load l) refs refl (fault-by w (opened w) (Owner.Load l) [] refs ∙ ends.good)) node.0)
           (moved-on whole s (owner_value node.0)) me (may-own w m (λ v at. at) me may) l h i.row (kept-own node h i.row i.owned may ends.good) i.next.is_left
           (λ q. is_owned_in w (Owner.Load l) q && not (is_named_by refs q)) (left-given whole l s (owner_value node.0) (λ own. absurd (cc))) node i.at falls.falls placed
       | inr (here, falls) ↦
@@ -112,7 +112,7 @@ end-whole {N} {w} {w'} me l x node_type refs (Ok k) whole call placed =
 
         at : (b : Bool) → s row.number.0 ≡ b → Owns (roomy (record (opened w) { rows = moved s (owner_value node.0) w.rows })) me h is_loose row
         at true e =
-            absurd (not-load w me l may (sym owns.own ∙ named-own whole (Owner.Load l) refs (references-opened w (Owner.Load l) [] refs ∙ good) row (found-among h.0 w.rows row owns.live).0 e))
+            absurd (not-load w me l may (sym owns.own ∙ named-own whole (Owner.Load l) refs (fault-by w (opened w) (Owner.Load l) [] refs ∙ good) row (found-among h.0 w.rows row owns.live).0 e))
         at false e =
             record {
               live = found-there (λ y. if s y.number.0 then record y { owner = owner_value node.0 } else y) (moved-number whole s (owner_value node.0)) h.0 w.rows row owns.live
@@ -185,10 +185,6 @@ close-whole {w} {w'} r whole call placed =
 load-holds : {w : Core} {me : Owner} {l : LoadNumber} (load : _) → OwnsLoad w me l load → MayHold w (Owner.Load l)
 load-holds load owns = ap is_some owns.stands_open
 
-gets-whole : {w w' : Core} (l : LoadNumber) (kind : Kind) (key : ℕ) (k : HandleNumber) → IsWhole (opened w) → MayHold w (Owner.Load l) → GetsKnown w l kind key k w' → ArePlaced (opened w')
-    → IsWhole (opened w')
-gets-whole l kind key k whole holder gets placed = settles (known-whole kind key gets.n (Owner.Load l) whole gets.known holder gets.next.is_left) (alike-opened gets.leaves) placed
-
 -- ---- a node that was read
 
 module _ (w : Core) (whole : IsWhole (opened w)) (l : LoadNumber) (kind : Kind) (key : ℕ) (own : OptionalDataKey) (refs : List ArcRef) (holder : MayHold w (Owner.Load l))
@@ -227,7 +223,7 @@ loose-plain kind loose shared = grind (arith, nat_tests, mode-shared)
 pub lazy-whole : {w w' : Core} (me : Owner) (l : LoadNumber) (kind : Kind) (key : ℕ) (r : Result HandleNumber Error) → IsWhole (opened w) → LazyCall w me l kind key r w' → ArePlaced (opened w')
     → IsWhole (opened w')
 lazy-whole {w} me l kind key (Ok k) whole call placed = let (load, owns, loose, makes) = call.makes in elim makes [
-  | inl gets ↦ gets-whole l kind key k whole (load-holds load owns) gets placed
+  | inl gets ↦ settles (known-whole kind key gets.n (Owner.Load l) whole gets.known (load-holds load owns) gets.next.is_left) (alike-opened gets.leaves) placed
   | inr (none, node_left, next, leaves) ↦ settles (adopted-whole w whole l kind key (OptionalDataKey.Some key) [] (load-holds load owns) (no-references (opened w) (Owner.Load l)) node_left next.is_left
       (λ shared. absurd (loose-plain kind.0 loose shared))) (alike-opened leaves) placed
 ]
@@ -245,7 +241,7 @@ adopt-whole {N} {w} me l kind key x node_type refs (Ok k) whole call placed =
       | inl (n, is, falls) ↦
           falls-opened (known-whole kind key n (Owner.Load l) whole is (load-holds a.load a.owned) a.next.is_left) (handle-on w (record { 0 = n }) (mode_of kind.0) (Owner.Load l)) falls.falls placed
       | inr (none, node_left, leaves) ↦
-          settles (adopted-whole w whole l kind key (first_key kind.0 key) refs (load-holds a.load a.owned) (references-opened w (Owner.Load l) [] refs ∙ a.good) node_left a.next.is_left
+          settles (adopted-whole w whole l kind key (first_key kind.0 key) refs (load-holds a.load a.owned) (fault-by w (opened w) (Owner.Load l) [] refs ∙ a.good) node_left a.next.is_left
           (shared-keyless kind.0 key)) (alike-opened leaves) placed
     ]
 adopt-whole me l kind key x node_type refs (Err e) whole call placed = alike-whole whole (alike-opened call.refused.1.stays) placed

@@ -1,11 +1,10 @@
 -- The world is whole once handles have fallen, whether the storage was closed or not.
-use Rattle.pagable_tables.proofs.Words.{◌&&◌, ◌+◌, ◌<◌, ◌==◌, ◌∙◌, ◌∷◌, ◌≡◌, ◌≤◌, ◌⊎◌, Alike, AllPairs-filter, Among, ArcRef, AreNewEntries, ArePlaced, Bool, Cell, Core, Error, Falls, HandleNumber}
+use Rattle.pagable_tables.proofs.Words.{◌&&◌, ◌+◌, ◌<◌, ◌==◌, ◌∙◌, ◌∷◌, ◌≡◌, ◌≤◌, ◌⊎◌, Alike, AllPairs-filter, Among, AreNewEntries, ArePlaced, Bool, Cell, Core, Error, Falls, HandleNumber}
 use Rattle.pagable_tables.proofs.Words.{HandleRow, IsHandleBefore, IsWhole, IsWithin, List, MayOwnLoad, None, OpenLoad, Option, Owner, Result, Some, [], ap, arith, fallen, false, filter, greatest}
 use Rattle.pagable_tables.proofs.Words.{held, if◌then◌else◌, inl, inr, is_at, is_handle, is_owned_by, is_pin, is_pinning, is_share, is_shared, is_some, left_rows, length, map, nat_lt, nat_tests}
-use Rattle.pagable_tables.proofs.{Words.{not, one, or_else, pins, reference_fault, references_fault, refl, sharing, subst, suc, sum_by-append, sym, times, true, zero, ℕ}, Bits.{not-so, one-true}}
-use Rattle.pagable_tables.proofs.{keeps.Kept.{GoOn, HasLike, IsIn, IsNew, IsOld, at-then, held-some, is-in, keeps-whole, keyed_in, load-in, stays-old, there-then, type_in}}
-use Rattle.pagable_tables.proofs.{keeps.Rows.{IsEntry, among-both, among-left, at-most-sum, counted, entries-listed, entry-is, one-left, ordered-entries, within-goes}, keeps.Told.{GoesOn, roomy}}
-use Rattle.pagable_tables.proofs.keeps.Told.{settles, told-whole}
+use Rattle.pagable_tables.proofs.{Words.{not, one, pins, refl, sharing, subst, suc, sum_by-append, sym, times, true, zero, ℕ}, Bits.{not-so, one-true}, keeps.Kept.{GoOn, HasLike, IsIn, IsNew}}
+use Rattle.pagable_tables.proofs.{keeps.Kept.{IsOld, at-then, held-some, is-in, keeps-whole, keyed_in, stays-old, there-then, type_in}, keeps.Rows.{IsEntry, among-both, among-left, at-most-sum}}
+use Rattle.pagable_tables.proofs.{keeps.Rows.{counted, entries-listed, entry-is, one-left, ordered-entries, within-goes}, keeps.Told.{GoesOn, roomy, settles, told-whole}}
 
 -- What a whole world has lost besides before handles fall: owners of the given handles, entries of the list that are given, and what the cache knew.
 pub record Loses (m : Core) (list : List HandleNumber) (known : ℕ → ℕ → Option ℕ) (reads : ℕ → Option OpenLoad) (works given : ℕ → Bool) : Type 0 where
@@ -80,7 +79,7 @@ module _ (before : Core) {m : Core} (whole : IsWhole m) (on : GoesOn before m) (
   after-on : GoOn m after
   after-on =
       record {
-        last = (omega arith, omega arith);
+        last = (omega arith, omega arith, omega arith);
         ordered = ordered-entries m.last.handle left entries (λ x among. (whole.handles.numbered x (was x among).0).1) new
             (AllPairs-filter IsHandleBefore (λ (x : HandleRow). not (gone x.number.0)) m.rows whole.handles.ordered);
         fresh = false;
@@ -144,7 +143,7 @@ module _ (before : Core) {m : Core} (whole : IsWhole m) (on : GoesOn before m) (
         owners = each-row (λ h. IsIn after h.mode h.owner)
             (λ h old kept. elim (lost.owners h old) [ inl there ↦ there | inr gives ↦ let f : true ≡ false = sym (within-goes m.rows given gone h within old gives) ∙ kept in absurd (cc) ])
             (λ h like e. subst (IsIn after h.mode) (sym e.owner) e.mode);
-        loads = λ l load is. let a = lost.loads l load is in load-in whole (omega arith) l load a.0 a.1;
+        loads = λ l load is. let a = lost.loads l load is in (a.1, inl a.0);
         cache = λ kind key n is. whole.cache kind key n (lost.cache kind key n is);
         workers = λ v is. whole.workers_numbered v (lost.workers v is);
         shut = λ closed. let s = lost.shut closed in (none-left (no-entry entries refl closed) s.0, s.1);
@@ -178,9 +177,3 @@ falls-lost m {before} {u} {w'} {given} {r} whole on same lost falls placed =
 pub falls-opened : {before u w' : Core} {given : ℕ → Bool} {r : Result (Unit {0}) Error} → IsWhole (roomy (opened u)) → GoesOn before u → Falls before u given r w' → ArePlaced (opened w')
     → IsWhole (opened w')
 falls-opened {before} {u} {w'} {given} whole on falls placed = falls-lost u whole on refl (loses-nothing given whole) falls placed
-
--- references are as good as they are
-pub references-opened : (w : Core) (owner : Owner) (seen : List ℕ) (refs : List ArcRef) → references_fault (opened w) owner seen refs ≡ references_fault w owner seen refs
-unfolding references_fault
-references-opened w owner seen [] = refl
-references-opened w owner seen (r ∷ rs) = ap (or_else (reference_fault w owner seen r)) (references-opened w owner (r.handle.0 ∷ seen) rs)

@@ -4,8 +4,8 @@ use Rattle.pagable_tables.proofs.Words.{HandleNumber, HandleRow, IsWhole, List, 
 use Rattle.pagable_tables.proofs.Words.{Result, Some, Suits, [], ap, arith, false, find_row, greatest, has_key, if◌then◌else◌, inr, is_handle, is_loose, is_named_by, is_owned_by, is_owner}
 use Rattle.pagable_tables.proofs.Words.{is_pinned, is_shared, is_some, moved, nat_tests, next_node, one, or_else, owner_value, reference_fault, references_fault, refl, row_at, row_of, subst, sym}
 use Rattle.pagable_tables.proofs.{Words.{times, true, updated, with_handle, with_mode, with_node, with_pin, ℕ}, keeps.Comes.{beside, grown-whole, handle-on, not-list, not-the-list, suits-like}}
-use Rattle.pagable_tables.proofs.{keeps.Kept.{HasLike, IsIn, holder-in, keyed_in}, keeps.Rows.{each-changed, found-among, once, sum-map}, keeps.Told.{GoesOn, alike-whole}}
-use Rattle.pagable_tables.proofs.keeps.Told.{moded-on, moded-whole, roomy, settles, then-on, turned-on, turned-whole}
+use Rattle.pagable_tables.proofs.{keeps.Kept.{HasLike, IsIn, holder-in, keyed_in}, keeps.Rows.{each-changed, found-among, once, sum-map}, keeps.Told.{GoesOn, alike-whole, moded-on, moded-whole}}
+use Rattle.pagable_tables.proofs.keeps.Told.{roomy, settles, then-on, turned-on, turned-whole}
 
 -- the list's handles of one number
 abbrev pub lists : ℕ → HandleRow → Bool
@@ -148,28 +148,19 @@ named-unlisted whole owner refs other good x among named = ap (is_owner Owner.Li
 module _ {w : Core} (whole : IsWhole w) (node_type : ℕ) (key : OptionalDataKey) (refs : List ArcRef) (mode : Mode) (from me : Owner) (other : is_owner Owner.List from ≡ false)
     (good : references_fault w from [] refs ≡ None)
     (holder : MayHold w me) (node_left : w.last.node < greatest) (left : w.last.handle < greatest) (unkeyed : is_shared mode ≡ true → has_key key ≡ false) where
-  abbrev pub moved-world : Core
-  moved-world = record w { rows = moved (is_named_by refs) (owner_value (w.last.node + 1)) w.rows }
-
-  abbrev pub born : Core
-  born = with_handle (with_node w node_type key refs) (next_node w) mode me
-
-  moved-whole : IsWhole (roomy moved-world)
-  moved-whole = moved-to-value whole (is_named_by refs) (named-unlisted whole from refs other good) (w.last.node + 1)
-
   abbrev cells : ℕ → Option Cell
   cells = updated (w.last.node + 1) (Some (record { node_type = node_type; key = key })) w.cells
 
-  pub cell-new : cells (w.last.node + 1) ≡ Some (record { node_type = node_type; key = key })
+  cell-new : cells (w.last.node + 1) ≡ Some (record { node_type = node_type; key = key })
   cell-new = let e : (w.last.node + 1 == w.last.node + 1) ≡ true = grind (arith, nat_tests) in rw e refl
 
   cell-old : (n : ℕ) → (n ≢ w.last.node + 1) ⊎ (n ≤ w.last.node) → cells n ≡ w.cells n
   cell-old n old = let e : (n == w.last.node + 1) ≡ false = grind (arith, nat_tests) in rw e refl
 
-  pub born-whole : IsWhole (roomy born)
+  pub born-whole : IsWhole (roomy (with_handle (with_node w node_type key refs) (next_node w) mode me))
   born-whole =
-      grown-whole moved-whole (row_of (w.last.handle + 1) (next_node w) mode me) cells (w.last.node + 1) refl left (omega arith) (omega arith) (ap is_some cell-new) cell-old
-      (inr (omega arith, omega arith, λ is. ap keyed_in cell-new ∙ unkeyed is)) holder
+      grown-whole (moved-to-value whole (is_named_by refs) (named-unlisted whole from refs other good) (w.last.node + 1)) (row_of (w.last.handle + 1) (next_node w) mode me) cells (w.last.node + 1)
+      refl left (omega arith) (omega arith) (ap is_some cell-new) cell-old (inr (omega arith, omega arith, λ is. ap keyed_in cell-new ∙ unkeyed is)) holder
 
 pub birth-whole : {N : Type 0} {w w' : Core} (me : Owner) (x : N) (node_type : ℕ) (refs : List ArcRef) (mode : Mode) (r : Result HandleNumber (Error × N)) → IsWhole w → MayHold w me
     → BirthCall w me x node_type refs mode r w' → ArePlaced w' → IsWhole w'

@@ -1,9 +1,8 @@
 -- A change of a whole world, as small as a row, an entry or a load: what has to be shown of it, and that the world is whole then.
-use Rattle.pagable_tables.proofs.Words.{◌≡◌, ℕ, suc, zero, ◌<◌, ◌≤◌, ◌==◌, ◌&&◌, Bool, true, false, List, [], ◌∷◌, length, Option, Some, None, inl, inr, refl, ap, sym, subst, ◌∙◌, arith, ◌⊎◌}
-use Rattle.pagable_tables.proofs.Words.{is_some, nat_lt, nat_tests, sum_by, sum_by-cons, AllPairs, HandleNumber, NodeNumber, HandleRow, Owner, Mode, OptionalDataKey, one, times}
-use Rattle.pagable_tables.proofs.Words.{if_there, Among, SameAt, held, sharing, is_at, is_share, is_shared, is_loose, has_key, is_handle, is_owned_by, Core, Cell, OpenLoad}
-use Rattle.pagable_tables.proofs.{Words.{of_cell, greatest, IsHandleBefore, HandlesAreWhole, MayOwnLoad, IsRootWhole, IsEntryWhole, IsWhole, MayHold}, keeps.Rows.at-most-sum}
-use Rattle.pagable_tables.proofs.keeps.Rows.{counted, found-among, found-so, sum-less}
+use Rattle.pagable_tables.proofs.Words.{◌&&◌, ◌<◌, ◌==◌, ◌∙◌, ◌∷◌, ◌≡◌, ◌≤◌, ◌⊎◌, AllPairs, Among, Bool, Cell, Core, HandleNumber, HandleRow, HandlesAreWhole, IsEntryWhole, IsHandleBefore}
+use Rattle.pagable_tables.proofs.Words.{IsRootWhole, IsWhole, List, MayHold, MayOwnLoad, Mode, NodeNumber, None, OpenLoad, Option, OptionalDataKey, Owner, SameAt, Some, [], ap, arith, false}
+use Rattle.pagable_tables.proofs.Words.{greatest, has_key, held, if_there, inl, inr, is_at, is_handle, is_loose, is_owned_by, is_share, is_shared, is_some, length, nat_lt, nat_tests}
+use Rattle.pagable_tables.proofs.{Words.{of_cell, one, refl, sharing, subst, suc, sum_by, sum_by-cons, sym, times, true, zero, ℕ}, keeps.Rows.{at-most-sum, counted, found-among, found-so, sum-less}}
 
 abbrev pub type_in : Option Cell → Option ℕ
 type_in cell = if_there (λ (cell : Cell). Some cell.node_type) None cell
@@ -41,7 +40,7 @@ pub record IsNew (w u : Core) (fresh : Bool) (h : HandleRow) : Type 0 where
 
 -- rows and nodes as they go on
 pub record GoOn (w u : Core) : Type 0 where
-  pub last : (w.last.handle ≤ u.last.handle) × (w.last.node ≤ u.last.node)
+  pub last : (w.last.handle ≤ u.last.handle) × (w.last.node ≤ u.last.node) × (w.last.load ≤ u.last.load)
   pub ordered : AllPairs IsHandleBefore u.rows
   pub fresh : Bool
   pub rows : (h : HandleRow) → Among u.rows h → IsOld w.rows h ⊎ IsNew w u fresh h
@@ -50,10 +49,10 @@ pub record GoOn (w u : Core) : Type 0 where
   pub keyed : (n : ℕ) → HasLike w.rows n true → n ≤ w.last.node → keyed_in (w.cells n) ≡ false → keyed_in (u.cells n) ≡ false
 
 -- no row changes
-pub same-rows : {w u : Core} → IsWhole w → u.rows ≡ w.rows → SameAt w.cells u.cells → u.last.node ≡ w.last.node → u.last.handle ≡ w.last.handle → GoOn w u
-same-rows {w} {u} whole rows cells node handle =
+pub same-rows : {w u : Core} → IsWhole w → u.rows ≡ w.rows → SameAt w.cells u.cells → u.last.node ≡ w.last.node → u.last.handle ≡ w.last.handle → w.last.load ≤ u.last.load → GoOn w u
+same-rows {w} {u} whole rows cells node handle load =
     record {
-      last = (omega arith, omega arith);
+      last = (omega arith, omega arith, load);
       ordered = subst (λ r. AllPairs IsHandleBefore r) (sym rows) whole.handles.ordered;
       fresh = false;
       rows = λ h among. inl (stays-old (subst (λ r. Among r h) rows among));
@@ -100,19 +99,19 @@ holder-in w mode (Owner.Load l) may = may
 holder-in w mode (Owner.Worker v) may = may
 holder-in w mode _ may = tt
 
--- an open load, of what w tells
-pub record IsLoadIn (w u : Core) (l : ℕ) (load : OpenLoad) : Type 0 where
+-- a load that opens, of a root that w tells
+pub record IsNewLoad (w u : Core) (l : ℕ) (load : OpenLoad) : Type 0 where
   pub numbered : (0 < l) × (l ≤ u.last.load)
-  pub owned : MayOwnLoad u load.owner
-  pub roots : (node : NodeNumber) (t : ℕ) (h : HandleNumber) → load.root ≡ of_cell node t h → IsRootWhole w node t h
+  pub root : (node : NodeNumber) (t : ℕ) (h : HandleNumber) → load.root ≡ of_cell node t h → IsRootWhole w node t h
 
-pub load-in : {w u : Core} → IsWhole w → w.last.load ≤ u.last.load → (l : ℕ) (load : OpenLoad) → w.loads l ≡ Some load → MayOwnLoad u load.owner → IsLoadIn w u l load
-load-in {w} {u} whole more l load is may =
-    record {
-      numbered = let a = whole.loads.numbered l (ap is_some is) in (a.0, omega arith);
-      owned = may;
-      roots = λ node t h root. whole.loads.roots l load node t h is root;
-    }
+-- who may own a load still may, while workers stay at work
+pub may-own : (w w' : Core) → ((v : ℕ) → w.workers v ≡ true → w'.workers v ≡ true) → (o : Owner) → MayOwnLoad w o → MayOwnLoad w' o
+may-own w w' stay h may = grind (arith, nat_tests)
+
+-- a load that is open then, and was: who owns it still may
+pub loads-stay : {w u : Core} → IsWhole w → ((v : ℕ) → w.workers v ≡ true → u.workers v ≡ true) → (l : ℕ) (load : OpenLoad) → w.loads l ≡ Some load
+    → MayOwnLoad u load.owner × ((w.loads l ≡ Some load) ⊎ IsNewLoad w u l load)
+loads-stay {w} {u} whole stay l load is = (may-own w u stay load.owner (whole.loads.owned l load is), inl is)
 
 -- ---- the whole
 
@@ -122,7 +121,7 @@ pub record Keeps (w u : Core) : Type 0 where
   pub places : (length u.rows ≤ u.places.handles) × (length u.list ≤ u.places.entries)
   pub listed : (q : ℕ) → times (λ (h : HandleNumber). h.0 == q) u.list ≡ times (λ h. is_handle q h && is_owned_by Owner.List h) u.rows
   pub owners : (h : HandleRow) → Among u.rows h → IsIn u h.mode h.owner
-  pub loads : (l : ℕ) (load : OpenLoad) → u.loads l ≡ Some load → IsLoadIn w u l load
+  pub loads : (l : ℕ) (load : OpenLoad) → u.loads l ≡ Some load → MayOwnLoad u load.owner × ((w.loads l ≡ Some load) ⊎ IsNewLoad w u l load)
   pub cache : (kind key n : ℕ) → u.cache kind key ≡ Some n → IsEntryWhole w kind n
   pub workers : (v : ℕ) → u.workers v ≡ true → v ≤ u.last.worker
   pub shut : u.closed ≡ true → (u.list ≡ []) × ((kind key : ℕ) → u.cache kind key ≡ None)
@@ -165,26 +164,24 @@ shared-count : (n : ℕ) (rows : List HandleRow) (x : HandleRow) (b : Bool) → 
 shared-count n rows x b among e is = ap (λ a. one (a && is_shared x.mode)) (at-one n x e) ∙ ap one is
 
 pub alike-rows : {w : Core} → IsWhole w → AreAlike w.rows
-alike-rows {w} whole = record { same = λ x y there here same. at x y there here same (is_shared x.mode) (is_shared y.mode) refl refl }
+alike-rows {w} whole = record {
+  same = λ x y there here same. elim (whole.handles.uniform y.node.0) [
+    | inl none ↦ unshared y.node.0 none x there same (is_shared x.mode) refl ∙ sym (unshared y.node.0 none y here refl (is_shared y.mode) refl)
+    | inr all ↦ shared y.node.0 all x there same (is_shared x.mode) refl ∙ sym (shared y.node.0 all y here refl (is_shared y.mode) refl)
+  ];
+}
   where
-    unshared : (x : HandleRow) → Among w.rows x → is_shared x.mode ≡ false → (n : ℕ) → x.node.0 ≡ n → sharing n w.rows ≡ 0
-    unshared x among is n e = elim (whole.handles.uniform n) [
-      | inl none ↦ none
-      | inr all ↦
-          let a = shared-count n w.rows x false among e is in
-          let b : one (is_at n x) ≡ 1 = ap one (at-one n x e) in
-          let c = sum-less (λ h. one (is_share n h)) (λ h. one (is_at n h)) w.rows x (λ h. share-le (is_at n h) (is_shared h.mode)) among (omega arith) in
-          absurd (omega arith)
-    ]
+    unshared : (n : ℕ) → sharing n w.rows ≡ 0 → (x : HandleRow) → Among w.rows x → x.node.0 ≡ n → (b : Bool) → is_shared x.mode ≡ b → is_shared x.mode ≡ false
+    unshared n none x among e false is = is
+    unshared n none x among e true is = absurd (omega (arith, shared-count n w.rows x true among e is, at-most-sum (λ h. one (is_share n h)) w.rows x among))
 
-    counts : (x : HandleRow) → Among w.rows x → is_shared x.mode ≡ true → (n : ℕ) → x.node.0 ≡ n → 0 < sharing n w.rows
-    counts x among is n e = let a = shared-count n w.rows x true among e is in let b = at-most-sum (λ h. one (is_share n h)) w.rows x among in omega arith
-
-    at : (x y : HandleRow) → Among w.rows x → Among w.rows y → x.node.0 ≡ y.node.0 → (a b : Bool) → is_shared x.mode ≡ a → is_shared y.mode ≡ b → is_shared x.mode ≡ is_shared y.mode
-    at x y there here same true true e f = e ∙ sym f
-    at x y there here same false false e f = e ∙ sym f
-    at x y there here same true false e f = absurd (omega (arith, counts x there e y.node.0 same, unshared y here f y.node.0 refl))
-    at x y there here same false true e f = absurd (omega (arith, unshared x there e y.node.0 same, counts y here f y.node.0 refl))
+    shared : (n : ℕ) → sharing n w.rows ≡ held n w.rows → (x : HandleRow) → Among w.rows x → x.node.0 ≡ n → (b : Bool) → is_shared x.mode ≡ b → is_shared x.mode ≡ true
+    shared n all x among e true is = is
+    shared n all x among e false is =
+        let a = shared-count n w.rows x false among e is in
+        let b : one (is_at n x) ≡ 1 = ap one (at-one n x e) in
+        let c = sum-less (λ h. one (is_share n h)) (λ h. one (is_at n h)) w.rows x (λ h. share-le (is_at n h) (is_shared h.mode)) among (omega arith) in
+        absurd (omega arith)
 
 uniform-rows : (n : ℕ) (rows : List HandleRow) → AreAlike rows → (k : ℕ) → sharing n rows ≡ k → (sharing n rows ≡ 0) ⊎ (sharing n rows ≡ held n rows)
 uniform-rows n rows alike zero is = inl is
@@ -292,9 +289,12 @@ module _ {w u : Core} (whole : IsWhole w) (k : Keeps w u) where
           workers = λ h v among is. subst (IsIn u h.mode) is (k.owners h among);
         };
         loads = record {
-          numbered = λ l some. let (load, is) = some-value (u.loads l) some in (k.loads l load is).numbered;
-          owned = λ l load is. (k.loads l load is).owned;
-          roots = λ l load node t h is of. root node t h ((k.loads l load is).roots node t h of);
+          numbered = λ l some. let (load, is) = some-value (u.loads l) some in elim (k.loads l load is).1 [
+            | inl was ↦ let a = whole.loads.numbered l (ap is_some was) in let b = k.on.last in (a.0, omega arith)
+            | inr new ↦ new.numbered
+          ];
+          owned = λ l load is. (k.loads l load is).0;
+          roots = λ l load node t h is of. root node t h (elim (k.loads l load is).1 [ inl was ↦ whole.loads.roots l load node t h was of | inr new ↦ new.root node t h of ]);
         };
         cache = λ kind key n is. entry kind n (k.cache kind key n is);
         workers_numbered = k.workers;

@@ -2,8 +2,8 @@
 use Rattle.pagable_tables.proofs.Words.{◌+◌, ◌<◌, ◌==◌, ◌∙◌, ◌≡◌, ◌⊎◌, ArePlaced, BeginCall, BeginKeyCall, Beginning, Core, Err, Error, HandleNumber, HandleRow, IsNextLoad, IsRootWhole, IsWhole}
 use Rattle.pagable_tables.proofs.Words.{MayHold, MayOwnLoad, Mode, NodeNumber, Ok, OpenLoad, Option, Owner, Owns, Result, Root, Some, ap, arith, greatest, inl, inr, is_loose, is_some, nat_tests}
 use Rattle.pagable_tables.proofs.{Words.{of_cell, of_key, refl, subst, sym, true, type_at, updated, with_handle, with_load, ℕ}, keeps.Comes.beside, keeps.HandleCalls.loose-unshared}
-use Rattle.pagable_tables.proofs.{keeps.Kept.{IsLoadIn, in-still, is-in, keeps-whole, same-rows, there-then}, keeps.Rows.found-among, keeps.Told.{alike-whole, load-stays}}
-use Rattle.pagable_tables.proofs.keeps.Told.{may-own, roomy, roomy-whole, settles}
+use Rattle.pagable_tables.proofs.{keeps.Kept.{IsNewLoad, in-still, is-in, keeps-whole, loads-stay, may-own, same-rows, there-then}, keeps.Rows.found-among, keeps.Told.{alike-whole, roomy}}
+use Rattle.pagable_tables.proofs.keeps.Told.{roomy-whole, settles}
 
 -- ---- one load more
 
@@ -23,14 +23,15 @@ loaded-whole {w} key root me whole may left good =
     let new : OpenLoad = record { owner = me; key = key; root = root } in
     let after = with_load w key root me in
     keeps-whole whole (record {
-      on = same-rows whole refl (λ n. refl) refl refl;
+      on = same-rows whole refl (λ n. refl) refl refl (omega arith);
       within = let (a, b, c) = whole.handles.within in (a, b, omega arith);
       places = whole.handles.places;
       listed = whole.owners_there.listed;
       owners = λ h among. in-still w after (some-updated (w.last.load + 1) new w.loads) (λ v is. is) h.mode h.owner (is-in whole h among);
       loads = λ l load is. elim (at-updated (w.last.load + 1) new w.loads l load is) [
-        | inl e ↦ subst (IsLoadIn w after l) e.1 (let a = e.0 in record { numbered = (omega arith, omega arith); owned = may-own w after (λ v at. at) me may; roots = good })
-        | inr was ↦ load-stays whole (omega arith) (λ v at. at) l load was
+        | inl e ↦ subst (λ (x : OpenLoad). MayOwnLoad after x.owner × ((w.loads l ≡ Some x) ⊎ IsNewLoad w after l x)) e.1
+            (may-own w after (λ v at. at) me may, inr (let a = e.0 in record { numbered = (omega arith, omega arith); root = good }))
+        | inr was ↦ loads-stay whole (λ v at. at) l load was
       ];
       cache = whole.cache;
       workers = whole.workers_numbered;

@@ -1,20 +1,13 @@
 -- A world that is told alike, or whose rows are changed one by one, stays whole, while rows and list are in their places.
-use Rattle.pagable_tables.proofs.Words.{◌&&◌, ◌==◌, ◌∙◌, ◌≡◌, ◌≤◌, Alike, Among, ArePlaced, Bool, Core, HandleNumber, HandleRow, IsWhole, Last, List, MayOwnLoad, Mode, NodeNumber, None, OpenLoad}
-use Rattle.pagable_tables.proofs.Words.{Option, Owner, SameAt, Some, [], ap, arith, changed, false, if◌then◌else◌, inl, is_at, is_handle, is_loose, is_owned_by, is_shared, is_some, length, nat_lt}
-use Rattle.pagable_tables.proofs.{Words.{nat_tests, one, refl, row_at, subst, sym, times, true, with_mode, ℕ}, keeps.Kept.{HasLike, IsIn, IsLoadIn, IsOld, in-still, is-in, keeps-whole, load-in}}
-use Rattle.pagable_tables.proofs.{keeps.Kept.{other-mode, same-rows, stays-old}, keeps.Rows.{among-changed, among-to, each-changed, found-among, once, ordered-map, sum-map}}
+use Rattle.pagable_tables.proofs.Words.{◌&&◌, ◌==◌, ◌∙◌, ◌≡◌, Alike, Among, ArePlaced, Bool, Core, HandleNumber, HandleRow, IsWhole, Last, List, Mode, NodeNumber, None, Option, Owner, SameAt, Some}
+use Rattle.pagable_tables.proofs.Words.{[], ap, arith, changed, false, if◌then◌else◌, inl, is_at, is_handle, is_loose, is_owned_by, is_shared, is_some, length, nat_lt, nat_tests, one, refl, row_at}
+use Rattle.pagable_tables.proofs.{Words.{subst, sym, times, true, with_mode, ℕ}, keeps.Kept.{HasLike, IsIn, IsOld, in-still, is-in, keeps-whole, loads-stay, may-own, other-mode, same-rows}}
+use Rattle.pagable_tables.proofs.{keeps.Kept.stays-old, keeps.Rows.{among-changed, among-to, each-changed, found-among, once, ordered-map, sum-map}}
+pub use Rattle.pagable_tables.proofs.keeps.Kept.{may-own}
 
 -- the world with room for just what is there
 abbrev pub roomy : Core → Core
 roomy w = record w { places = record { handles = length w.rows; entries = length w.list } }
-
--- who may own a load still may, while workers stay at work
-pub may-own : (w w' : Core) → ((v : ℕ) → w.workers v ≡ true → w'.workers v ≡ true) → (o : Owner) → MayOwnLoad w o → MayOwnLoad w' o
-may-own w w' stay h may = grind (arith, nat_tests)
-
--- and a load stays as whole
-pub load-stays : {w u : Core} → IsWhole w → w.last.load ≤ u.last.load → ((v : ℕ) → w.workers v ≡ true → u.workers v ≡ true) → (l : ℕ) (load : OpenLoad) → w.loads l ≡ Some load → IsLoadIn w u l load
-load-stays {w} {u} whole more stay l load is = load-in whole more l load is (may-own w u stay load.owner (whole.loads.owned l load is))
 
 none-then : {X : Type 0} (o o' : Option X) → ((x : X) → o' ≡ Some x → o ≡ Some x) → o ≡ None → o' ≡ None
 none-then o None only none = refl
@@ -30,12 +23,12 @@ module _ {m w' : Core} (whole : IsWhole m) (rows : w'.rows ≡ m.rows) (cells : 
       let load = ap (λ (l : Last). l.load) last in
       let worker = ap (λ (l : Last). l.worker) last in
       keeps-whole whole (record {
-        on = same-rows whole rows cells node handle;
+        on = same-rows whole rows cells node handle (omega arith);
         within = let (a, b, c) = whole.handles.within in (omega arith, omega arith, omega arith);
         places = (placed.rows, placed.list);
         listed = λ q. ap (times (λ (h : HandleNumber). h.0 == q)) list ∙ whole.owners_there.listed q ∙ ap (times (λ h. is_handle q h && is_owned_by Owner.List h)) (sym rows);
         owners = λ h among. in-still m w' (λ l is. ap is_some (loads l) ∙ is) (λ v is. workers v ∙ is) h.mode h.owner (is-in whole h (subst (λ r. Among r h) rows among));
-        loads = λ l open-load is. load-stays whole (omega arith) (λ v at. workers v ∙ at) l open-load (sym (loads l) ∙ is);
+        loads = λ l open-load is. let was = sym (loads l) ∙ is in (may-own m w' (λ v at. workers v ∙ at) open-load.owner (whole.loads.owned l open-load was), inl was);
         cache = λ kind key n is. whole.cache kind key n (cache kind key n is);
         workers = λ v is. let a = whole.workers_numbered v (sym (workers v) ∙ is) in omega arith;
         shut = λ so. let s = whole.shut (sym closed ∙ so) in (list ∙ s.0, λ kind key. none-then (m.cache kind key) (w'.cache kind key) (cache kind key) (s.1 kind key));
@@ -95,7 +88,7 @@ module _ {w : Core} (whole : IsWhole w) (test : HandleRow → Bool) (f : HandleR
   turned-whole listed owners none =
       keeps-whole whole (record {
         on = record {
-          last = (omega arith, omega arith);
+          last = (omega arith, omega arith, omega arith);
           ordered = ordered-map to w.rows to-number whole.handles.ordered;
           fresh = false;
           rows = λ h among. inl (among-changed test f (IsOld w.rows) w.rows h among
@@ -108,7 +101,7 @@ module _ {w : Core} (whole : IsWhole w) (test : HandleRow → Bool) (f : HandleR
         places = (omega arith, omega arith);
         listed = listed;
         owners = λ h among. among-changed test f (λ y. IsIn w y.mode y.owner) w.rows h among owners (λ x there e. is-in whole x there);
-        loads = load-stays whole (omega arith) (λ v at. at);
+        loads = loads-stay whole (λ v at. at);
         cache = whole.cache;
         workers = whole.workers_numbered;
         shut = λ so. (none so, (whole.shut so).1);
