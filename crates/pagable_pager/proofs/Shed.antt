@@ -2,7 +2,7 @@
 use Rattle.pagable_pager.proofs.Words.{◌≡◌, ℕ, ◌&&◌, ◌||◌, Bool, true, false, [], refl, ap, sym, ◌∙◌, Some, None, Option, if◌then◌else◌, inl, inr, nat_eq, suc, zero, arith, ◌⊎◌, is_some, nat_lt}
 use Rattle.pagable_pager.proofs.Words.{not, nat_tests, option_map, arc_value, get, has_key, is_pinning, mode_of, pins, Blob, Core, is_here, usable, WellFormed, entered-of, Leaves, known-here}
 use Rattle.pagable_pager.proofs.Words.{Counts, Tables, counts_at, AreKept, Sheds, has_value, pins_in, cell_in, key_in, AreLater, IsWhole, core_of, plain_of, PagerView, Telling, Spelling}
-use Rattle.pagable_tables.specs.Doing.{DoesShed}
+use Rattle.{pagable_tables.specs.Doing.DoesShed, pagable_pager.specs.Calling.CallsLess}
 use Rattle.pagable_pager.proofs.Words.{ValuesByNode, OnlyLess, IsPager, core_in, state_in, value_in, values_of}
 use Rattle.pagable_world.specs.Pager as pager
 
@@ -83,6 +83,10 @@ module _ {N S E : Type 0} (tells : Telling S) (g : Spelling N E) (p : PagerView 
 
   pub only-less : (t : Tables) (values : ValuesByNode N) → Sheds (counts_at p.tables.holdings.nodes) (get nat_eq p.values) (counts_at t.holdings.nodes) (get nat_eq values) → OnlyLess p (record p { tables = t; values = values })
   only-less t values sheds = record { values = less t values sheds; storage = refl; environment = refl }
+
+  pub less-called : {lists : Bool} {step : Core → Core → Type 0} (t : Tables) (values : ValuesByNode N) → DoesShed lists p.tables p.values step t values → lists ≡ not (tells.closed p.storage)
+      → CallsLess tells p step (record p { tables = t; values = values })
+  less-called t values call opens = record { step = call.does (tells.stored p.storage) (tells.closed p.storage) (tells.failed p.storage) opens; only = only-less t values call.sheds }
 
 -- cells are listed while the storage isn't closed
 pub told-open : {b closed : Bool} → b ≡ closed → not b ≡ not closed

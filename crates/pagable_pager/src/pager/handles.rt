@@ -1,9 +1,10 @@
 //! Handles that come to live nodes, what is asked of them, and pins that begin, at once or by a load.
 
 ghost use Rattle.std.specs.{Prelude.{◌≡◌, IsSome, true, Some, false}, Option.option_map};
-ghost use Rattle.pagable_world.specs.{World.{row_at, Reading, is_here}, Calls.{CloneCall, PinCall, LoosenCall, CountCall}};
-ghost use Rattle.{pagable_world.specs.{Calls.{KeyCall, AwayCall, NodeCall, TypeCall}, declared.handles.HandleRow.HandleRow, Events.reading_of_load}, pagable_loads.specs.Telling.IsMade};
-ghost use Rattle.{pagable_loads.specs.Starting.{StartsPin, is_unpinned_at}, pagable_pager.specs.{View.{core_in, telling, OnlyTables, is_at_work}, Made.Refers}};
+ghost use Rattle.pagable_world.specs.{World.{row_at, Reading, is_here}, Calls.{CloneCall, PinCall, LoosenCall, CountCall, KeyCall, AwayCall, NodeCall, TypeCall}, declared.handles.HandleRow.HandleRow};
+ghost use Rattle.pagable_world.specs.Events.{reading_of_load};
+ghost use Rattle.pagable_loads.specs.{Telling.IsMade, Starting.{StartsPin, is_unpinned_at}};
+ghost use Rattle.pagable_pager.specs.{View.{core_in, telling, OnlyTables, is_at_work}, Made.Refers, Calling.Calls};
 
 use crate::pager::Pager;
 use pagable_codec::{Env, NodeSet};
@@ -34,8 +35,7 @@ where
         handle: HandleNumber,
     ) -> Result<HandleNumber, Error>
         requires { is_at_work (core_in (telling S.stored S.is_closed S.failed) self.old) me ≡ true }
-        ensures step { CloneCall (core_in (telling S.stored S.is_closed S.failed) self.old) me handle result (core_in (telling S.stored S.is_closed S.failed) self.new) }
-        ensures only { OnlyTables self.old self.new }
+        ensures { Calls (telling S.stored S.is_closed S.failed) self.old (λ w w'. CloneCall w me handle result w') self.new }
     {
         making::clone(&mut self.tables, me, handle)
     }
@@ -60,8 +60,7 @@ where
     /// The same for this owner.
     pub(crate) fn pin_by(&mut self, me: Owner, handle: HandleNumber) -> Result<Pinning, Error>
         requires { is_at_work (core_in (telling S.stored S.is_closed S.failed) self.old) me ≡ true }
-        ensures step { PinCall (core_in (telling S.stored S.is_closed S.failed) self.old) me handle result (core_in (telling S.stored S.is_closed S.failed) self.new) }
-        ensures only { OnlyTables self.old self.new }
+        ensures { Calls (telling S.stored S.is_closed S.failed) self.old (λ w w'. PinCall w me handle result w') self.new }
     {
         pinning::pin(&mut self.tables, me, handle)
     }

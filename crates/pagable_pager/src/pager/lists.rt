@@ -1,8 +1,8 @@
 //! The list of cells that wait for page-out, the cache of nodes by the kind and key under which they were read, and room for what comes.
 
 ghost use Rattle.std.specs.Prelude.{◌≡◌, true, length};
-ghost use Rattle.{pagable_world.specs.Calls.{ScheduleCall, TakeCall, OfferCall, RecallCall, ClearCall, ReserveCall, room_of}, pagable_pager.specs.View.core_in};
-ghost use Rattle.pagable_pager.specs.View.{telling, OnlyTables, OnlyLess, is_at_work};
+ghost use Rattle.pagable_world.specs.Calls.{ScheduleCall, TakeCall, OfferCall, RecallCall, ClearCall, ReserveCall, room_of};
+ghost use Rattle.pagable_pager.specs.{View.{core_in, telling, OnlyTables, OnlyLess, is_at_work}, Calling.{Calls, CallsLess}};
 
 use crate::pager::Pager;
 use pagable_codec::{Env, NodeSet};
@@ -26,8 +26,7 @@ where
     /// The same for this owner.
     pub(crate) fn take_pending_by(&mut self, me: Owner, place: usize) -> Option<HandleNumber>
         requires { is_at_work (core_in (telling S.stored S.is_closed S.failed) self.old) me ≡ true }
-        ensures step { TakeCall (core_in (telling S.stored S.is_closed S.failed) self.old) me place result (core_in (telling S.stored S.is_closed S.failed) self.new) }
-        ensures only { OnlyTables self.old self.new }
+        ensures { Calls (telling S.stored S.is_closed S.failed) self.old (λ w w'. TakeCall w me place result w') self.new }
     {
         listing::take_pending(&mut self.tables, me, place)
     }
@@ -48,8 +47,7 @@ where
         handle: HandleNumber,
     ) -> Result<(), Error>
         requires { is_at_work (core_in (telling S.stored S.is_closed S.failed) self.old) me ≡ true }
-        ensures step { ScheduleCall (core_in (telling S.stored S.is_closed S.failed) self.old) me handle result (core_in (telling S.stored S.is_closed S.failed) self.new) }
-        ensures only { OnlyLess self.old self.new }
+        ensures { CallsLess (telling S.stored S.is_closed S.failed) self.old (λ w w'. ScheduleCall w me handle result w') self.new }
     {
         let lists = !self.storage.has_closed();
         listing::schedule_for_paging(&mut self.tables, &mut self.values, me, handle, lists)

@@ -1,9 +1,10 @@
 //! Loads, by steps, and what is asked of them before they begin or go on.
 
 ghost use Rattle.std.specs.{Prelude.{◌≡◌, IfOk, IfNone, true, IfErr, Some, nat_lt}, Arc.arc_value};
-ghost use Rattle.{pagable_core.specs.Data.blob_of, pagable_world.specs.World.{seen_as, greatest}};
-ghost use Rattle.{pagable_world.specs.{LoadCalls.{AskCall, BeginCall, BeginKeyCall, LazyCall}, Refusals.load_fault}, pagable_tables.specs.{Asking.AsksKnown, Core.root_in}};
-ghost use Rattle.pagable_pager.specs.{View.{core_in, telling, given_as, OnlyTables, OnlyStorage, SameValues, is_at_work}, Opened.{ReadsAs, type_of_root}};
+ghost use Rattle.pagable_core.specs.Data.{blob_of};
+ghost use Rattle.pagable_world.specs.{World.{seen_as, greatest}, LoadCalls.{AskCall, BeginCall, BeginKeyCall, LazyCall}, Refusals.load_fault};
+ghost use Rattle.pagable_tables.specs.{Asking.AsksKnown, Core.root_in};
+ghost use Rattle.pagable_pager.specs.{View.{core_in, telling, given_as, OnlyTables, OnlyStorage, SameValues, is_at_work}, Opened.{ReadsAs, type_of_root}, Calling.Calls};
 
 use crate::pager::Pager;
 use either::Either;
@@ -42,8 +43,7 @@ where
     /// The same for this owner.
     pub(crate) fn load_key_by(&mut self, me: Owner, key: DataKey) -> Result<Beginning, Error>
         requires { is_at_work (core_in (telling S.stored S.is_closed S.failed) self.old) me ≡ true }
-        ensures step { BeginKeyCall (core_in (telling S.stored S.is_closed S.failed) self.old) me key result (core_in (telling S.stored S.is_closed S.failed) self.new) }
-        ensures only { OnlyTables self.old self.new }
+        ensures { Calls (telling S.stored S.is_closed S.failed) self.old (λ w w'. BeginKeyCall w me key result w') self.new }
     {
         begins::load_key(&mut self.tables, me, key)
     }
@@ -64,8 +64,7 @@ where
         handle: HandleNumber,
     ) -> Result<Beginning, Error>
         requires { is_at_work (core_in (telling S.stored S.is_closed S.failed) self.old) me ≡ true }
-        ensures step { BeginCall (core_in (telling S.stored S.is_closed S.failed) self.old) me handle result (core_in (telling S.stored S.is_closed S.failed) self.new) }
-        ensures only { OnlyTables self.old self.new }
+        ensures { Calls (telling S.stored S.is_closed S.failed) self.old (λ w w'. BeginCall w me handle result w') self.new }
     {
         loading::load_begin(&mut self.tables, me, handle)
     }
@@ -187,8 +186,7 @@ where
         key: DataKey,
     ) -> Result<HandleNumber, Error>
         requires { is_at_work (core_in (telling S.stored S.is_closed S.failed) self.old) me ≡ true }
-        ensures step { LazyCall (core_in (telling S.stored S.is_closed S.failed) self.old) me load kind key result (core_in (telling S.stored S.is_closed S.failed) self.new) }
-        ensures only { OnlyTables self.old self.new }
+        ensures { Calls (telling S.stored S.is_closed S.failed) self.old (λ w w'. LazyCall w me load kind key result w') self.new }
     {
         let lists = !self.storage.has_closed();
         adopting::load_lazy(&mut self.tables, me, load, kind, key, lists, alloc)

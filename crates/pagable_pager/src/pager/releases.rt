@@ -1,8 +1,8 @@
 //! Handles that let go and loads that end, with all that goes with them.
 
 ghost use Rattle.std.specs.Prelude.{◌≡◌, true};
-ghost use Rattle.{pagable_world.specs.{Calls.{ReleaseCall, UnpinCall, SetKeyCall}, LoadCalls.{DropCall, HandOverCall}}, pagable_pager.specs.View.{core_in, telling}};
-ghost use Rattle.pagable_pager.specs.View.{OnlyLess, is_at_work};
+ghost use Rattle.pagable_world.specs.{Calls.{ReleaseCall, UnpinCall, SetKeyCall}, LoadCalls.{DropCall, HandOverCall}};
+ghost use Rattle.pagable_pager.specs.{View.{core_in, telling, OnlyLess, is_at_work}, Calling.CallsLess};
 
 use crate::pager::Pager;
 use pagable_codec::{Env, NodeSet};
@@ -27,8 +27,7 @@ where
     /// The same for this owner.
     pub(crate) fn unpin_by(&mut self, me: Owner, handle: HandleNumber) -> Result<(), Error>
         requires { is_at_work (core_in (telling S.stored S.is_closed S.failed) self.old) me ≡ true }
-        ensures step { UnpinCall (core_in (telling S.stored S.is_closed S.failed) self.old) me handle result (core_in (telling S.stored S.is_closed S.failed) self.new) }
-        ensures only { OnlyLess self.old self.new }
+        ensures { CallsLess (telling S.stored S.is_closed S.failed) self.old (λ w w'. UnpinCall w me handle result w') self.new }
     {
         let lists = !self.storage.has_closed();
         unpins::unpin(&mut self.tables, &mut self.values, me, handle, lists)
@@ -46,8 +45,7 @@ where
     /// The same for this owner.
     pub(crate) fn release_by(&mut self, me: Owner, handle: HandleNumber) -> Result<(), Error>
         requires { is_at_work (core_in (telling S.stored S.is_closed S.failed) self.old) me ≡ true }
-        ensures step { ReleaseCall (core_in (telling S.stored S.is_closed S.failed) self.old) me handle result (core_in (telling S.stored S.is_closed S.failed) self.new) }
-        ensures only { OnlyLess self.old self.new }
+        ensures { CallsLess (telling S.stored S.is_closed S.failed) self.old (λ w w'. ReleaseCall w me handle result w') self.new }
     {
         let lists = !self.storage.has_closed();
         releases::release(&mut self.tables, &mut self.values, me, handle, lists)
@@ -70,8 +68,7 @@ where
         key: DataKey,
     ) -> Result<(), Error>
         requires { is_at_work (core_in (telling S.stored S.is_closed S.failed) self.old) me ≡ true }
-        ensures step { SetKeyCall (core_in (telling S.stored S.is_closed S.failed) self.old) me handle key result (core_in (telling S.stored S.is_closed S.failed) self.new) }
-        ensures only { OnlyLess self.old self.new }
+        ensures { CallsLess (telling S.stored S.is_closed S.failed) self.old (λ w w'. SetKeyCall w me handle key result w') self.new }
     {
         let lists = !self.storage.has_closed();
         keys::set_data_key(&mut self.tables, &mut self.values, me, handle, key, lists)
@@ -89,8 +86,7 @@ where
     /// The same for this owner.
     pub(crate) fn load_drop_by(&mut self, me: Owner, load: LoadNumber) -> Result<(), Error>
         requires { is_at_work (core_in (telling S.stored S.is_closed S.failed) self.old) me ≡ true }
-        ensures step { DropCall (core_in (telling S.stored S.is_closed S.failed) self.old) me load result (core_in (telling S.stored S.is_closed S.failed) self.new) }
-        ensures only { OnlyLess self.old self.new }
+        ensures { CallsLess (telling S.stored S.is_closed S.failed) self.old (λ w w'. DropCall w me load result w') self.new }
     {
         let lists = !self.storage.has_closed();
         ending::load_drop(&mut self.tables, &mut self.values, me, load, lists)
@@ -113,8 +109,7 @@ where
         named: &[HandleNumber],
     ) -> Result<(), Error>
         requires { is_at_work (core_in (telling S.stored S.is_closed S.failed) self.old) me ≡ true }
-        ensures step { HandOverCall (core_in (telling S.stored S.is_closed S.failed) self.old) me load named.now result (core_in (telling S.stored S.is_closed S.failed) self.new) }
-        ensures only { OnlyLess self.old self.new }
+        ensures { CallsLess (telling S.stored S.is_closed S.failed) self.old (λ w w'. HandOverCall w me load named.now result w') self.new }
     {
         let lists = !self.storage.has_closed();
         ending::load_take(&mut self.tables, &mut self.values, me, load, named, lists)

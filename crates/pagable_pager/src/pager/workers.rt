@@ -1,9 +1,11 @@
 //! What page-out workers ask of the pager.
 
 ghost use Rattle.std.specs.Prelude.{◌≡◌, true, ◌<◌, ◌≤◌, length, IfSome, IfNone, IfOk, IfErr};
-ghost use Rattle.pagable_world.specs.{Kinds.{is_loose, loose_kind, HasKinds, HasNoKinds}, World.key_at};
-ghost use Rattle.{pagable_world.specs.{Cascade.FallsAnyhow, Calls.Looks, Workers.{claim_fault, is_workers_at, WorkerEnds}, Events.IsEntry}, pagable_tables.specs.Giving.{BeginsWorker, TakesWorker}};
-ghost use Rattle.{pagable_loads.specs.Working.TakesReference, pagable_pager.specs.{Clones.PinsClone, Made.{TakesEntry, LeavesEntry}, View.{core_in, telling, OnlyTables, OnlyLess, is_at_work}}};
+ghost use Rattle.pagable_world.specs.{Kinds.{is_loose, loose_kind, HasKinds, HasNoKinds}, World.key_at, Cascade.FallsAnyhow, Calls.Looks, Workers.{claim_fault, is_workers_at, WorkerEnds}};
+ghost use Rattle.pagable_world.specs.Events.{IsEntry};
+ghost use Rattle.pagable_tables.specs.Giving.{BeginsWorker, TakesWorker};
+ghost use Rattle.pagable_loads.specs.Working.{TakesReference};
+ghost use Rattle.pagable_pager.specs.{Clones.PinsClone, Made.{TakesEntry, LeavesEntry}, View.{core_in, telling, OnlyTables, is_at_work}, Calling.{Calls, CallsLess}};
 
 use crate::pager::Pager;
 use pagable_codec::{Env, NodeSet};
@@ -56,8 +58,7 @@ where
 
     /// One worker more is at work. Refused with OutOfMemory.
     pub(crate) fn worker_begin(&mut self) -> Result<WorkerNumber, Error>
-        ensures step { BeginsWorker (core_in (telling S.stored S.is_closed S.failed) self.old) result (core_in (telling S.stored S.is_closed S.failed) self.new) }
-        ensures only { OnlyTables self.old self.new }
+        ensures { Calls (telling S.stored S.is_closed S.failed) self.old (λ w w'. BeginsWorker w result w') self.new }
     {
         workers::worker_begin(&mut self.tables)
     }
@@ -65,8 +66,7 @@ where
     /// The same, for the entry at this place of the list, which moves to the worker. Refused with OutOfMemory.
     pub(crate) fn worker_take(&mut self, place: usize) -> Result<WorkerNumber, Error>
         requires { place < length (core_in (telling S.stored S.is_closed S.failed) self.old).list }
-        ensures step { TakesWorker (core_in (telling S.stored S.is_closed S.failed) self.old) place result (core_in (telling S.stored S.is_closed S.failed) self.new) }
-        ensures only { OnlyTables self.old self.new }
+        ensures { Calls (telling S.stored S.is_closed S.failed) self.old (λ w w'. TakesWorker w place result w') self.new }
     {
         workers::worker_take(&mut self.tables, place)
     }
@@ -95,9 +95,7 @@ where
 
     /// A worker gives up all handles that it has at a node, with all that goes with them.
     pub(crate) fn release_node(&mut self, worker: WorkerNumber, node: NodeNumber)
-        ensures step { FallsAnyhow (core_in (telling S.stored S.is_closed S.failed) self.old) (core_in (telling S.stored S.is_closed S.failed) self.old)
-            (is_workers_at (core_in (telling S.stored S.is_closed S.failed) self.old) worker.0 node.0) (core_in (telling S.stored S.is_closed S.failed) self.new) }
-        ensures only { OnlyLess self.old self.new }
+        ensures { CallsLess (telling S.stored S.is_closed S.failed) self.old (λ w w'. FallsAnyhow w w (is_workers_at w worker.0 node.0) w') self.new }
     {
         let lists = !self.storage.has_closed();
         workers::release_node(&mut self.tables, &mut self.values, worker, node, lists);
@@ -105,8 +103,7 @@ where
 
     /// A worker ends: its loads are closed, and it gives up whatever it and they still have, with all that goes with it.
     pub(crate) fn worker_end(&mut self, worker: WorkerNumber)
-        ensures step { WorkerEnds (core_in (telling S.stored S.is_closed S.failed) self.old) worker.0 (core_in (telling S.stored S.is_closed S.failed) self.new) }
-        ensures only { OnlyLess self.old self.new }
+        ensures { CallsLess (telling S.stored S.is_closed S.failed) self.old (λ w w'. WorkerEnds w worker.0 w') self.new }
     {
         let lists = !self.storage.has_closed();
         workers::worker_end(&mut self.tables, &mut self.values, worker, lists);

@@ -8,5 +8,5 @@ invariant_of-self g c =
     let whole = whole-over c.load_lazy.new.t _ _ _ e.whole (λ shut. lazy-bare shut (c.self.invariant.state.whole.shut shut) c.load_lazy.result step) in
     record { tables = e.whole; later = e.later c.self.invariant.later; state = lazily c.self.invariant.state c.load_lazy.result step (λ n. refl) e.whole.steady.fits.pinned whole }
 
-pub returns-clause-step : goal.returns-clause-step
-returns-clause-step g c = rw (← c.self.view_is) (c.load_lazy.ensures.does _ _ _ (told-open c.has_closed-lists.ensures))
+pub returns : goal.returns
+returns g c = rw (← c.self.view_is) (record { step = c.load_lazy.ensures.does _ _ _ (told-open c.has_closed-lists.ensures); only = record { values = refl; storage = refl; environment = refl } })

@@ -1,15 +1,12 @@
-use Rattle.pagable_pager.proofs.{Words.{released, telling}, Shed.{shed-by, told-open, only-less}, Shut.released-bare, Spared.{owner-free, owner-plain, owner-unlisted}}
+use Rattle.pagable_pager.proofs.{Words.{released, telling}, Shed.{shed-by, told-open, less-called}, Shut.released-bare, Spared.{owner-free, owner-plain, owner-unlisted}}
 use Rattle.pagable_pager.proofs.pager.Pager.release_by.Goals as goal
 
 pub invariant_of-self : goal.invariant_of-self
 invariant_of-self g c =
     shed-by _ _ _ c.self.invariant c.release.new.t c.release.new.values c.release.ensures (told-open c.has_closed-lists.ensures) (λ step shut. released-bare shut (c.self.invariant.state.whole.shut shut) step) (λ step left. released c.self.invariant.state left (owner-free (telling g.S.PagableStorage.stored g.S.PagableStorage.is_closed g.S.PagableStorage.failed) _ _ c.args.me c.self.view_is c.requires) step)
 
-pub returns-clause-step : goal.returns-clause-step
-returns-clause-step g c = rw (← c.self.view_is) (c.release.ensures.does _ _ _ (told-open c.has_closed-lists.ensures))
-
-pub returns-clause-only : goal.returns-clause-only
-returns-clause-only g c = rw (← c.self.view_is) (only-less _ _ _ c.self.invariant _ _ c.release.ensures.sheds)
+pub returns : goal.returns
+returns g c = rw (← c.self.view_is) (less-called _ _ _ c.self.invariant _ _ c.release.ensures (told-open c.has_closed-lists.ensures))
 
 pub release-requires-clause-plain : goal.release-requires-clause-plain
 release-requires-clause-plain g c = owner-plain (telling g.S.PagableStorage.stored g.S.PagableStorage.is_closed g.S.PagableStorage.failed) _ _ c.args.me c.self.view_is c.requires

@@ -7,11 +7,10 @@ invariant_of-self g c =
     let step = e.scheduled _ _ _ (told-open c.has_closed-lists.ensures) in
     shed _ _ _ c.self.invariant c.schedule_for_paging.new.t c.schedule_for_paging.new.values e.whole (e.later c.self.invariant.later) e.sheds (λ shut. scheduled-bare shut (c.self.invariant.state.whole.shut shut) c.schedule_for_paging.result step) (λ left. scheduled c.self.invariant.state left (owner-free (telling g.S.PagableStorage.stored g.S.PagableStorage.is_closed g.S.PagableStorage.failed) _ _ c.args.me c.self.view_is c.requires) c.schedule_for_paging.result step)
 
-pub returns-clause-step : goal.returns-clause-step
-returns-clause-step g c = rw (← c.self.view_is) (c.schedule_for_paging.ensures.scheduled _ _ _ (told-open c.has_closed-lists.ensures))
-
-pub returns-clause-only : goal.returns-clause-only
-returns-clause-only g c = rw (← c.self.view_is) (only-less _ _ _ c.self.invariant _ _ c.schedule_for_paging.ensures.sheds)
+pub returns : goal.returns
+returns g c =
+    let e = c.schedule_for_paging.ensures in
+    rw (← c.self.view_is) (record { step = e.scheduled _ _ _ (told-open c.has_closed-lists.ensures); only = only-less _ _ _ c.self.invariant _ _ e.sheds })
 
 pub schedule_for_paging-requires-clause-holder : goal.schedule_for_paging-requires-clause-holder
 schedule_for_paging-requires-clause-holder g c = owner-holds (telling g.S.PagableStorage.stored g.S.PagableStorage.is_closed g.S.PagableStorage.failed) _ _ c.args.me c.self.view_is c.requires

@@ -1,12 +1,9 @@
-use Rattle.pagable_pager.proofs.{Words.{worker_ended}, Shed.{shed-by, told-open, only-less}, Shut.bare-fell}
+use Rattle.pagable_pager.proofs.{Words.{worker_ended}, Shed.{shed-by, told-open, less-called}, Shut.bare-fell}
 use Rattle.pagable_pager.proofs.pager.Pager.worker_end.Goals as goal
 
 pub invariant_of-self : goal.invariant_of-self
 invariant_of-self g c =
     shed-by _ _ _ c.self.invariant c.worker_end.new.t c.worker_end.new.values c.worker_end.ensures (told-open c.has_closed-lists.ensures) (λ step shut. bare-fell step.falls shut (c.self.invariant.state.whole.shut shut)) (λ step left. worker_ended c.self.invariant.state left c.args.worker.0 step)
 
-pub returns-clause-step : goal.returns-clause-step
-returns-clause-step g c = rw (← c.self.view_is) (c.worker_end.ensures.does _ _ _ (told-open c.has_closed-lists.ensures))
-
-pub returns-clause-only : goal.returns-clause-only
-returns-clause-only g c = rw (← c.self.view_is) (only-less _ _ _ c.self.invariant _ _ c.worker_end.ensures.sheds)
+pub returns : goal.returns
+returns g c = rw (← c.self.view_is) (less-called _ _ _ c.self.invariant _ _ c.worker_end.ensures (told-open c.has_closed-lists.ensures))
