@@ -1,10 +1,10 @@
 //! Handles that are given up together: all that a load owns, or a worker.
 
-ghost use Rattle.std.specs.Prelude.{◌≡◌, ℕ, ◌<◌, ◌≤◌, [], length, get_or, slice_get, Some, None, IfSome, IfNone, true, false, nat_eq};
+ghost use Rattle.std.specs.Prelude.{◌≡◌, ℕ, ◌<◌, ◌≤◌, [], length, slice_get, Some, None, IfSome, IfNone, true, false, nat_eq};
 ghost use Rattle.indexmap.specs.IndexMap.{get};
 ghost use Rattle.pagable_world.specs.{Kinds.find_row, World.Core, Cascade.{Falls, nobody}, Workers.is_load_of};
-ghost use Rattle.pagable_tables.specs.{declared.rows.Place.Place, Live.{live, alive, AreSound}, ByNumber.counts_at, Falling.{IsFalling, owns_nothing, Sheds}, Onward.{with_tables, SoFar}};
-ghost use Rattle.pagable_tables.specs.Giving.{gives_row, passes_in, InReach, LoadsAre};
+ghost use Rattle.pagable_tables.specs.{Live.{live, alive, AreSound}, ByNumber.counts_at, Falling.{IsFalling, owns_nothing, Sheds}, Onward.{with_tables, SoFar}, Giving.{gives_row, passes_in, InReach}};
+ghost use Rattle.pagable_tables.specs.Giving.{LoadsAre};
 
 use crate::cascade::{fall, shed};
 use crate::handles::Handles;
@@ -56,26 +56,6 @@ fn gives(loads: &IndexMap<u64, LoadRow>, giving: Giving, row: HandleRow) -> bool
     }
 }
 
-/// How many places there are up to this number, found by halving.
-fn up_to(handles: &Handles, number: u64) -> usize
-    requires { AreSound handles.now }
-    ensures within { result ≤ length handles.now.places.items }
-    ensures above { (k : ℕ) (d : Place) → result ≤ k → k < length handles.now.places.items → number < (get_or handles.now.places.items k d).row.number.0 }
-{
-    let mut low = 0;
-    let mut high = handles.places.len();
-    while low < high {
-        let middle = low + (high - low) / 2;
-        let place = handles.places[middle];
-        if place.row.number.0 <= number {
-            low = middle + 1;
-        } else {
-            high = middle;
-        }
-    }
-    high
-}
-
 /// Whether the row of this place is live, of a number not above `left`, and given up.
 fn is_given(loads: &IndexMap<u64, LoadRow>, giving: Giving, place: Place, left: u64) -> bool
     ensures yes { result ≡ true → (place.is_live ≡ true) × (place.row.number.0 ≤ left) × ((w : Core) → LoadsAre loads.now w → gives_row w giving place.row ≡ true) }
@@ -106,7 +86,7 @@ fn last_above(
     ensures last { IfSome result (λ at. (w : Core) (q : ℕ) → LoadsAre loads.now w → at.row.number.0 < q → q ≤ left → passes_in (gives_row w giving) (live handles.now.places.items) q ≡ false) }
     ensures none { IfNone result ((w : Core) (q : ℕ) → LoadsAre loads.now w → since < q → q ≤ left → passes_in (gives_row w giving) (live handles.now.places.items) q ≡ false) }
 {
-    let mut place = up_to(handles, left);
+    let mut place = handles::up_to(&handles.places, left);
     while place > 0 {
         place -= 1;
         let found = handles.places[place];

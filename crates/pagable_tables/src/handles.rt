@@ -1,8 +1,8 @@
 //! Live handles in the order of their numbers, found by halving. A dead row stays in its place until none behind it lives, or more than half are dead.
 
-ghost use Rattle.std.specs.{Prelude.{vec_len, vec_capacity, ◌≡◌, ℕ, ◌+◌, ◌<◌, ◌≤◌, ◌++◌, ◌∷◌, [], length, sum_by, slice_get, Some, None, IfNone, IfSome, OnOk, OnErr, take}, List.AllPairs};
-ghost use Rattle.pagable_world.specs.{Plain.changed, Kinds.{find_row, is_handle}, Cascade.{left_rows, only_handle}, declared.handles.HandleRow.HandleRow};
-ghost use Rattle.pagable_tables.specs.{Live.{IsBefore, AreSound, live, alive, room, IsNext}, Becoming.{Becomes, Widens}};
+ghost use Rattle.std.specs.{Prelude.{vec_len, vec_capacity, ◌≡◌, ℕ, ◌+◌, ◌<◌, ◌≤◌, ◌++◌, ◌∷◌, [], length, sum_by, slice_get, Some, None, IfNone, IfSome, OnOk, OnErr, take, false}, List.AllPairs};
+ghost use Rattle.{std.specs.List.Sorted.IsPartitionPoint, pagable_world.specs.{Plain.changed, Kinds.{find_row, is_handle}, Cascade.{left_rows, only_handle}, declared.handles.HandleRow.HandleRow}};
+ghost use Rattle.pagable_tables.specs.{Live.{IsBefore, AreSound, live, alive, room, IsNext}, Becoming.{Becomes, Widens}, declared.rows.Place.Place};
 
 use crate::rows::{HandleAt, Place};
 use pagable_model::HandleNumber;
@@ -28,40 +28,19 @@ pub fn empty(alloc: Global) -> Handles
     }
 }
 
-/// The live handle of this number, with its place.
-fn find(places: &[Place], number: u64) -> Option<HandleAt>
+/// How many places there are up to this number, found by halving.
+pub fn up_to(places: &[Place], number: u64) -> usize
     requires { AllPairs IsBefore places.now }
-    ensures none { IfNone result (find_row number (live places.now) ≡ None) }
-    ensures place { IfSome result (λ at. slice_get places.now at.place ≡ Some (alive at.row)) }
-    ensures found { IfSome result (λ at. find_row number (live places.now) ≡ Some at.row) }
-    ensures number { IfSome result (λ at. at.row.number.0 ≡ number) }
+    ensures within { result ≤ length places.now }
+    ensures point { IsPartitionPoint (λ (p : Place). p.row.number.0 ≤ number) (λ (p : Place). number < p.row.number.0) places.now result }
 {
-    let mut low = 0;
-    let mut high = places.len();
-    while low < high {
-        let middle = low + (high - low) / 2;
-        let place = places[middle];
-        if place.row.number.0 == number {
-            if place.is_live {
-                return Some(HandleAt {
-                    place: middle,
-                    row: place.row,
-                });
-            }
-            return None;
-        }
-        if place.row.number.0 < number {
-            low = middle + 1;
-        } else {
-            high = middle;
-        }
-    }
-    None
+    places.partition_point(|place| place.row.number.0 <= number)
 }
 
-/// The same, if it stands at this place.
+/// The live handle of this number, with its place, if it stands at this one.
 fn at(places: &[Place], place: usize, number: u64) -> Option<HandleAt>
     requires { AllPairs IsBefore places.now }
+    ensures none { IfNone result ((p : Place) → slice_get places.now place ≡ Some p → p.row.number.0 ≡ number → p.is_live ≡ false) }
     ensures place { IfSome result (λ at. slice_get places.now at.place ≡ Some (alive at.row)) }
     ensures found { IfSome result (λ at. find_row number (live places.now) ≡ Some at.row) }
     ensures number { IfSome result (λ at. at.row.number.0 ≡ number) }
@@ -77,6 +56,21 @@ fn at(places: &[Place], place: usize, number: u64) -> Option<HandleAt>
         });
     }
     None
+}
+
+/// The live handle of this number, with its place.
+fn find(places: &[Place], number: u64) -> Option<HandleAt>
+    requires { AllPairs IsBefore places.now }
+    ensures none { IfNone result (find_row number (live places.now) ≡ None) }
+    ensures place { IfSome result (λ at. slice_get places.now at.place ≡ Some (alive at.row)) }
+    ensures found { IfSome result (λ at. find_row number (live places.now) ≡ Some at.row) }
+    ensures number { IfSome result (λ at. at.row.number.0 ≡ number) }
+{
+    let end = up_to(places, number);
+    if end == 0 {
+        return None;
+    }
+    at(places, end - 1, number)
 }
 
 /// The same, if it stands where it would stand were no number missing from the first one to it, or from it to the last one.

@@ -1,10 +1,8 @@
 //! Handles that come to live nodes, what is asked of them, and pins that begin, at once or by a load.
 
-ghost use Rattle.std.specs.{Prelude.{◌≡◌, IsSome, true, Some, false}, Option.option_map};
-ghost use Rattle.pagable_world.specs.{World.{row_at, Reading, is_here}, Calls.{CloneCall, PinCall, LoosenCall, CountCall, KeyCall, AwayCall, NodeCall, TypeCall}, declared.handles.HandleRow.HandleRow};
-ghost use Rattle.pagable_world.specs.Events.{reading_of_load};
-ghost use Rattle.pagable_loads.specs.{Telling.IsMade, Starting.{StartsPin, is_unpinned_at}};
-ghost use Rattle.pagable_pager.specs.{View.{core_in, telling, OnlyTables, is_at_work}, Made.Refers, Calling.Calls};
+ghost use Rattle.{std.specs.{Prelude.{◌≡◌, IsSome, true, Some, false}, Option.option_map}, pagable_world.specs.{World.{row_at, Reading, is_here}, Calls.{CloneCall, PinCall, LoosenCall, CountCall}}};
+ghost use Rattle.{pagable_world.specs.{Calls.{KeyCall, AwayCall, NodeCall, TypeCall}, declared.handles.HandleRow.HandleRow, Events.reading_of_load}, pagable_loads.specs.Telling.IsMade};
+ghost use Rattle.{pagable_loads.specs.Starting.{StartsPin, is_unpinned_at}, pagable_pager.specs.{View.{core_in, telling, OnlyTables, is_at_work}, Made.Refers, Calling.Calls}};
 
 use crate::pager::Pager;
 use pagable_codec::{Env, NodeSet};

@@ -1,5 +1,11 @@
-use Rattle.pagable_tables.proofs.{Words.{◌-◌, arith, gives_row}, GivenAll.{none-from, below-to, place-got, row-there}}
+use Rattle.std.specs.List.Sorted.{IsPartitionPoint}
+use Rattle.pagable_tables.proofs.{Words.{◌-◌, ◌<◌, ◌≤◌, arith, length, subst, Place, gives_row}, GivenAll.{none-from, below-to, place-got, row-there}}
 use Rattle.pagable_tables.proofs.giving.last_above.Goals as goal
+
+pub loop-place-init : goal.loop-place-init
+loop-place-init c =
+    let point = subst (λ ps. IsPartitionPoint (λ (p : Place). p.row.number.0 ≤ c.args.left) (λ (p : Place). c.args.left < p.row.number.0) ps c.up_to-place.result) c.deref.ensures.value c.up_to-place.ensures.point in
+    record { within = subst (λ ps. c.up_to-place.result ≤ length ps) c.deref.ensures.value c.up_to-place.ensures.within; passed = λ w k d loads from lt lives gives. point.1 k d from lt }
 
 pub returns-then-found-since-clause-none : goal.returns-then-found-since-clause-none
 returns-then-found-since-clause-none c w q loads above below =

@@ -1,4 +1,4 @@
-use Rattle.pagable_tables.proofs.Words.{◌≡◌, ◌<◌, ◌+◌, ◌++◌, ◌∷◌, [], ℕ, Bool, List, Option, Blob, true, sum_by, refl, ap, sym, ◌∙◌, subst, arith, false, not, inl, inr, None, Ok, Owner, Mode, changed, one, is_handle, is_pin}
+use Rattle.pagable_tables.proofs.Words.{◌≡◌, ◌<◌, ◌+◌, ◌++◌, ◌∷◌, [], Bool, List, true, sum_by, refl, ap, sym, ◌∙◌, subst, arith, false, not, inl, inr, None, Ok, Owner, Mode, changed, one, is_handle, is_pin}
 use Rattle.pagable_tables.proofs.Words.{owner_value, is_here, cases_Bool, ArcRef, Falls, Holdings, IsFalling, owns_nothing, Tables, moved, is_named_by, row_of, live, counts_at, refs_at, load_at, has_value, cell_in}
 use Rattle.pagable_tables.proofs.{Words.{core_of, plain_of, nat_tests, references_fault, without_load, with_pin, is_owned_in, FallsAnyhow, ◌&&◌, ◌⊎◌, Core, LoadNumber, HandleRow, Result, Error}, Coming.rows-told}
 use Rattle.pagable_tables.proofs.{Coming.{some-held, turned}, Doing.lazily-by, Fitting.{fits-same, pins-le-held}, Installed.{ended, has-come, install-newer, pins-here, none-moves, not-so, so-then, ready-owner}, Joined.joined-fits}

@@ -1,4 +1,4 @@
-use Rattle.pagable_tables.proofs.{Words.{ap, sym, ◌∙◌, refl, true, live, moved, is_named_by, owner_value, List, ArcRef}, Named.moved-nobody}
+use Rattle.pagable_tables.proofs.{Words.{ap, sym, ◌∙◌, refl, live, moved, is_named_by, owner_value, List, ArcRef}, Named.moved-nobody}
 use Rattle.pagable_tables.specs.Joining.{coming}
 use Rattle.pagable_tables.proofs.installing.join.Goals as goal
 
