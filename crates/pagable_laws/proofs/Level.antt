@@ -12,6 +12,7 @@ use Rattle.pagable_laws.proofs.Words.{◌⊎◌, LoadAnswer, Frame, BeginCall, R
 use Rattle.pagable_laws.proofs.Words.{EventReply, one_more, load_fault, reading_at, reading_after, ReadingsAre, ReadingBrings, world_of, WorkStays, OnlyCore, Beginning, MachineState, fresh}
 use Rattle.pagable_laws.proofs.Words.{references_in, SameReferences, IsReadable, LiesIn, Throughout, throughout-in, none-followed, rest_of, Tree, tree, IsLawful, ReadsItsTypes, KeepsOpen}
 use Rattle.pagable_laws.proofs.{Words.{ReadsAsType, IsWellAsked, IsPremised, state_after, TwoLevelsMeetTheHeadline}, Sums.sum-zero, GoodReferences.good, Two.and-false, Joining.new_whole}
+use Rattle.pagable_laws.proofs.Words.{SetKeyCall, PinsAtOnce}
 use Rattle.pagable_laws.proofs.Chains.{headline_law}
 use Rattle.std.specs.List.{AllPairs}
 use Rattle.pagable_world.specs.{Workers.Site, World.HasForm}
@@ -441,37 +442,18 @@ does-so w s (to_pin r place ∷ below) (live, clone_live, here, few) =
     let row = row_of r.handle.0 r.node Mode.LoosePinned (owner_at w r.handle) in
     let cloned : CloneCall w (owner_worker 1) r.handle (Ok (two.handle (w.last.handle + 1))) (two.cloned w r.node) =
     record { made = (row, live, record { above = refl; is_left = omega arith }, alike-self (two.cloned w r.node)); refused = tt } in
-    record {
-      does = (
-        refl,
-        record {
-          pins = (
-            two.handle (w.last.handle + 1),
-            inr (record { row = row; live = live; sort = refl }, (two.cloned w r.node, cloned, pinned-again w r.node clone_live here few)),
-            record { table_stays = same-shelf s; list_is = refl },
-          );
-          refused = tt;
-        },
-      );
-    }
+    let pins : PinsAtOnce w (owner_worker 1) r (two.handle (w.last.handle + 1)) (two.handle (w.last.handle + 1 + 1)) (two.pinned_at w r.node) =
+    inr (record { row = row; live = live; sort = refl }, (two.cloned w r.node, cloned, pinned-again w r.node clone_live here few)) in
+    search (same-shelf, pins)
 does-so w s (to_write r place through ∷ below) ok = search (alike-self w, same-shelf)
 does-so w s (to_finish o ∷ below) (all, is_open, free) = search (stored-so w (blob_of o.written.bytes o.keys), same-shelf)
 does-so w s (to_set r through key height ∷ below) (live, alone) =
-    record {
-      does = (
-        refl,
-        record {
-          sets = record {
-            does = inr (row_of through.0 r.node Mode.LoosePinned (owner_worker 1), record { live = live; own = refl; as_asked = refl }, inr (refl, falls-alone w (with_key w r.node key) nobody alone));
-          };
-          goes = record { table_stays = same-shelf s; list_is = refl };
-          refused = tt;
-        },
-      );
-    }
+    let row = row_of through.0 r.node Mode.LoosePinned (owner_worker 1) in
+    let sets : SetKeyCall w (owner_worker 1) through key (Ok tt) (fallen (with_key w r.node key) nobody []) =
+    record { does = inr (row, record { live = live; own = refl; as_asked = refl }, inr (refl, falls-alone w (with_key w r.node key) nobody alone)) } in
+    search (same-shelf, sets)
 does-so w s (to_publish r key height ∷ below) ok = search (alike-self w, same-shelf)
-does-so w s (to_release r key height ∷ below) alone =
-    record { does = (refl, record { told = Ok tt; falls = falls-alone w w (is_workers_at w 1 r.node.0) alone }, record { table_stays = same-shelf s; list_is = refl }) }
+does-so w s (to_release r key height ∷ below) alone = search (same-shelf, falls-alone w w (is_workers_at w 1 r.node.0) alone)
 does-so w s (to_item written keys ∷ below) (all, is_open, free) = search (stored-so w (blob_of written.bytes keys), same-shelf)
 does-so w s todo ok = absurd ok
 
