@@ -1,7 +1,8 @@
 -- A worker's steps up to its answer: none of its own claims waits any more, and what another claimed is as it was.
-use Rattle.pagable_laws.proofs.Words.{◌≡◌, ℕ, nat_eq, nat_tests, arith, Bool, true, false, List, [], ◌∷◌, ◌++◌, append_assoc, None, Some, Ok, refl, sym, subst, Identity, HandleNumber, Slot, Shelf, no_result}
-use Rattle.pagable_laws.proofs.Words.{Todo, Task, of_item, of_entry, Written, Took, Claim, WorkerAnswer, Seen, Site, Does, answer_after, first_todo, is_open_outcome, IsMetFailure, FailedElsewhere}
-use Rattle.pagable_laws.proofs.{Standing.{is_open_in, AllStand, Covers, HasNoFailed, Changes, first-stands, some-none, some-same}, Coming.{stands-on, goes-same, FailsMet, follows-met, fails-stay, first-met, failed-stays}}
+use Rattle.pagable_laws.proofs.Words.{◌≡◌, ℕ, nat_eq, nat_tests, arith, Bool, true, false, List, [], ◌∷◌, ◌++◌, append_assoc, None, Some, Ok, refl, sym, subst}
+use Rattle.pagable_laws.proofs.Words.{Identity, HandleNumber, Slot, Shelf, no_result, Todo, Task, of_item, of_entry, Written, Took, Claim, WorkerAnswer, Seen, Site, Does, answer_after, first_todo, is_open_outcome, IsMetFailure, FailedElsewhere}
+use Rattle.pagable_laws.proofs.{Standing.{is_open_in, AllStand, Covers, HasNoFailed, Changes, first-stands, some-none, some-same}}
+use Rattle.pagable_laws.proofs.{Coming.{stands-on, goes-same, FailsMet, follows-met, fails-stay, first-met, failed-stays}}
 use Rattle.pagable_laws.proofs.{Coming.{failed-elsewhere, among-last, answered}, Standing.{Goes, grows}, Nexts.steps_follow}
 use Rattle.pagable_world.specs.Access.{AccessState, AllHaveResults, WorkerRun, WalkStep, worker-ends, worker-goes-on}
 
@@ -23,7 +24,8 @@ module _ {N E B W : Type 0} (m : Seen N B W) (n : ℕ) (task : Task) (C : Type 0
       → Goes n task s.shelf (answer_after todo step) s'.shelf next
   went {todo} {next} {s} {s'} {step} w all covers =
       subst (λ t. Goes n task s.shelf (answer_after todo step) s'.shelf t) (sym w.goes_on)
-      (goes-same n task s.shelf w.after.shelf s'.shelf _ w.after.todo w.shelf_is.slots (stands-on m n task (record { core = s.pager.core; shelf = s.shelf; todo = todo }) w.after all covers step w.does.does))
+      (goes-same n task s.shelf w.after.shelf s'.shelf _ w.after.todo w.shelf_is.slots
+      (stands-on m n task (record { core = s.pager.core; shelf = s.shelf; todo = todo }) w.after all covers step w.does.does))
 
   at-answer : {todo : List Todo} {s s' : AccessState N E} {steps : List (Took W)} {answer : WorkerAnswer} → WorkerRun m n todo s steps answer s' → (past : List (Took W)) → AllStand s.shelf n task todo
       → Covers s.shelf n todo → (C → Met n s.shelf past todo) → Answered C n s.shelf (past ++ steps) answer s'.shelf

@@ -8,7 +8,8 @@ use Rattle.pagable_laws.proofs.Words.{◌==◌, ◌&&◌, Bool, true, false, ap,
 use Rattle.pagable_laws.proofs.Words.{Todo, Walking, World, Site, Does, Happens, WorkerSteps, step_of, steps_of, is_claim_of, is_on_table, claims_made, ◌++◌, append_assoc, is_none, WorkerAnswer}
 use Rattle.pagable_laws.proofs.Words.{HandleRow, Owner, owner_worker, is_owned_by, is_owner, is_workers_load, state_after, events_of, replies_of, InOrder, TableMeets, HasLetGo}
 use Rattle.pagable_laws.proofs.{Words.{StepsAreWithin, WorkerIsRight, WorkIsRight, HeadlineLaw}, Felt.reading-fits, Felt.{none-comes, fits-nothing, fits-key, call-fits}, Fitting.tree-stays}
-use Rattle.pagable_laws.proofs.{ReadingSteps.{is-reading-of, does-feels, readings-on}, Trees.same_some, Answering.keys-right, Coming.{waits-well, StandsIn, event-turns, turns-stand, idle-stands, updated-at, EventTurns, Went}}
+use Rattle.pagable_laws.proofs.{ReadingSteps.{is-reading-of, does-feels, readings-on}, Trees.same_some, Answering.keys-right}
+use Rattle.pagable_laws.proofs.{Coming.{waits-well, StandsIn, event-turns, turns-stand, idle-stands, updated-at, EventTurns, Went}}
 use Rattle.pagable_laws.proofs.{Coming.{HasGone, goes-on}, Naming.{held-at-first, held-on, keys-ready}, Outlasting.pins-hold, Stepping.fits-at-first}
 use Rattle.pagable_laws.proofs.{Stepping.fits-on, ReadingStepsGive.{reads-give, LoadsStand, event-on, step-within, idle-bounded, steps-left}, Taking.pin_stands, Felt.trees-go-on}
 use Rattle.pagable_laws.proofs.{Standing.{ShelfGrows, is-same, puts-slot, grows, true-false, KeepsTask, Turned, keeps-task, WalkingStands, is_failing, is_open_in}, Once.{once_each, plus-none}}
@@ -124,7 +125,13 @@ module _ {N E B W : Type 0} (m : Seen N B W) (lawful : IsLawful m.values) (reada
       let pins = pins-hold m (world_of s) (world_of x.after) x.event x.reply on.whole.pager.whole.handles does.step.happens in
       let keys = keys-right m s x.after trees a.after on.fits fits on.whole does.whole a.stands on.held held x.event x.reply does.step.happens in
       let so : IsRight m.values s trees x.event x.reply x.after a.after =
-      record { pins_give = pin-gives m s x.after trees a.after does.whole a.stands x.event x.reply pins; reads_give = reads-give m lawful readable s x.after trees a.after on.whole does.whole on.readings a.keeps a.stands x.event x.reply does; leaves = keys.leaves; publishes = keys.publishes; key = keys.key } in
+      record {
+        pins_give = pin-gives m s x.after trees a.after does.whole a.stands x.event x.reply pins;
+        reads_give = reads-give m lawful readable s x.after trees a.after on.whole does.whole on.readings a.keeps a.stands x.event x.reply does;
+        leaves = keys.leaves;
+        publishes = keys.publishes;
+        key = keys.key;
+      } in
       record {
         trees' = a.after;
         after = record { keeps = a.keeps; stands = a.stands; so = so };

@@ -42,7 +42,8 @@ module _ {N B W : Type 0} (m : Seen N B W) (v : ℕ) (task : Task) (s s' : Site)
       → Goes v task s.shelf (answer_after todo step) s'.shelf s'.todo
   unfolding AllStand is_open_in
   go (to_start r place ∷ below) e all covers (Took.Claim i (Ok Claim.Claimed)) (is, c) =
-      to-list c.finds.1.2.list_is (claimed v task s.shelf s'.shelf r place below all covers c.finds.1.1 (puts-slot (with_wait s.shelf v None) s'.shelf (identity_of r) (record { worker = v; written = None; outcome = no_result }) c.finds.1.2.table_is))
+      to-list c.finds.1.2.list_is (claimed v task s.shelf s'.shelf r place below all covers c.finds.1.1
+      (puts-slot (with_wait s.shelf v None) s'.shelf (identity_of r) (record { worker = v; written = None; outcome = no_result }) c.finds.1.2.table_is))
   go (to_start r place ∷ below) e all covers (Took.Claim i (Ok (Claim.Known key height))) (is, c) = to-list c.finds.1.2.list_is
       (known r place key height below all covers c.finds.1.1 c.finds.1.2.table_is.slots)
   go (to_start r place ∷ below) e all covers (Took.Claim i (Ok Claim.Waiting)) (is, c) = to-list (c.finds.1.2.list_is ∙ e)

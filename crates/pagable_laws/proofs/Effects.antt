@@ -437,7 +437,8 @@ module _ {me : Owner} {lists : Bool} {Asks Leaves : Type 0} where
   -- the cache forgets all
   pub forgets : {c : Change} (w : Core) → (Leaves → ⊥) → Effect me lists Asks Leaves true c w (record w { cache = λ kind key. None })
   forgets {c} w none =
-      let quiet : Quiet w (record w { cache = λ kind key. None }) = parts (le-self _) (le-self _) (λ n cell is. is) (λ l load is. is) (λ kind key n is. absurd (cc)) (rows-self w.last.handle w.rows w.rows refl) in
+      let quiet : Quiet w (record w { cache = λ kind key. None }) =
+      parts (le-self _) (le-self _) (λ n cell is. is) (λ l load is. is) (λ kind key n is. absurd (cc)) (rows-self w.last.handle w.rows w.rows refl) in
       search (rules, quiet-goes, quiet, none)
 
   pub stays : {c : Change} {w w' : Core} → Alike w w' → Effect me lists Asks Leaves false c w w'

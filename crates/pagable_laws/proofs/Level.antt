@@ -12,6 +12,8 @@ use Rattle.pagable_laws.proofs.Words.{◌⊎◌, LoadAnswer, Frame, BeginCall, R
 use Rattle.pagable_laws.proofs.Words.{EventReply, one_more, load_fault, reading_at, reading_after, ReadingsAre, ReadingBrings, world_of, WorkStays, OnlyCore, Beginning, MachineState, fresh}
 use Rattle.pagable_laws.proofs.Words.{references_in, SameReferences, IsReadable, LiesIn, Throughout, throughout-in, none-followed, rest_of, Tree, tree, IsLawful, ReadsItsTypes, KeepsOpen}
 use Rattle.pagable_laws.proofs.{Words.{ReadsAsType, IsWellAsked, IsPremised, state_after, TwoLevelsMeetTheHeadline}, Sums.sum-zero, GoodReferences.good, Two.and-false, Joining.new_whole}
+use Rattle.pagable_laws.proofs.Words.{FallsAnyhow, HandOverCall, LazyCall, EndCall, SetKeyCall, PinsAtOnce}
+use Rattle.pagable_world.specs.Refusals.{OwnsLoad}
 use Rattle.pagable_laws.proofs.Chains.{headline_law}
 use Rattle.std.specs.List.{AllPairs}
 use Rattle.pagable_world.specs.{Workers.Site, World.HasForm}
@@ -441,37 +443,18 @@ does-so w s (to_pin r place ∷ below) (live, clone_live, here, few) =
     let row = row_of r.handle.0 r.node Mode.LoosePinned (owner_at w r.handle) in
     let cloned : CloneCall w (owner_worker 1) r.handle (Ok (two.handle (w.last.handle + 1))) (two.cloned w r.node) =
     record { made = (row, live, record { above = refl; is_left = omega arith }, alike-self (two.cloned w r.node)); refused = tt } in
-    record {
-      does = (
-        refl,
-        record {
-          pins = (
-            two.handle (w.last.handle + 1),
-            inr (record { row = row; live = live; sort = refl }, (two.cloned w r.node, cloned, pinned-again w r.node clone_live here few)),
-            record { table_stays = same-shelf s; list_is = refl },
-          );
-          refused = tt;
-        },
-      );
-    }
+    let pins : PinsAtOnce w (owner_worker 1) r (two.handle (w.last.handle + 1)) (two.handle (w.last.handle + 1 + 1)) (two.pinned_at w r.node) =
+    inr (record { row = row; live = live; sort = refl }, (two.cloned w r.node, cloned, pinned-again w r.node clone_live here few)) in
+    search (same-shelf, pins)
 does-so w s (to_write r place through ∷ below) ok = search (alike-self w, same-shelf)
 does-so w s (to_finish o ∷ below) (all, is_open, free) = search (stored-so w (blob_of o.written.bytes o.keys), same-shelf)
 does-so w s (to_set r through key height ∷ below) (live, alone) =
-    record {
-      does = (
-        refl,
-        record {
-          sets = record {
-            does = inr (row_of through.0 r.node Mode.LoosePinned (owner_worker 1), record { live = live; own = refl; as_asked = refl }, inr (refl, falls-alone w (with_key w r.node key) nobody alone));
-          };
-          goes = record { table_stays = same-shelf s; list_is = refl };
-          refused = tt;
-        },
-      );
-    }
+    let row = row_of through.0 r.node Mode.LoosePinned (owner_worker 1) in
+    let sets : SetKeyCall w (owner_worker 1) through key (Ok tt) (fallen (with_key w r.node key) nobody []) =
+    record { does = inr (row, record { live = live; own = refl; as_asked = refl }, inr (refl, falls-alone w (with_key w r.node key) nobody alone)) } in
+    search (same-shelf, sets)
 does-so w s (to_publish r key height ∷ below) ok = search (alike-self w, same-shelf)
-does-so w s (to_release r key height ∷ below) alone =
-    record { does = (refl, record { told = Ok tt; falls = falls-alone w w (is_workers_at w 1 r.node.0) alone }, record { table_stays = same-shelf s; list_is = refl }) }
+does-so w s (to_release r key height ∷ below) alone = search (same-shelf, falls-alone w w (is_workers_at w 1 r.node.0) alone)
 does-so w s (to_item written keys ∷ below) (all, is_open, free) = search (stored-so w (blob_of written.bytes keys), same-shelf)
 does-so w s todo ok = absurd ok
 
@@ -526,34 +509,39 @@ unfolding two.walked
 few-walked zero x few = few
 few-walked (suc n) x few = let a = two.next_step x.core x.shelf x.todo in let y = two.next x in few-walked n y (few-ended y.answer a.1 (few-next x.core x.shelf x.todo few))
 
+-- what happens, what values come, and that the machine is good afterwards
+does : (s : MachineState two.Sample (Unit {0})) (event : Event two.Sample Blob Written) (reply : EventReply two.Sample Blob Written) (w : Core) (vs : List (Option two.Sample)) (shelf : Shelf)
+    (walking : Option Walking) (reading : Option Reading) → let s' = two.machine w vs (two.work_of shelf walking reading) in Happens two.sample_seen (world_of s) event reply (world_of s')
+    → ((n : ℕ) (x : two.Sample) → value_at vs n ≡ Some x → (s.pager.values n ≡ Some x) ⊎ ((s.pager.values n ≡ None) × EventBrings two.sample (world_of s) event n x))
+    → ReplyWrites two.sample_seen s.pager reply → Good w vs → FitsWalking w walking → FitsReading w reading → Does two.sample_seen s event reply s'
+does s event reply w vs shelf walking reading happens come writes good walks reads = record {
+  step = record { happens = happens };
+  moves = record { each = come; environment = refl };
+  writes = writes;
+  whole = whole-at w vs shelf walking reading good walks reads;
+}
+
 pub pages-out : (n : ℕ) (x : two.Working) (xs : List two.Happening) → Few x.core → AllAsk n x → AreMoments two.sample_seen (two.at_work (two.walked n x)) xs
     → AreMoments two.sample_seen (two.at_work x) (two.page_out n x ++ xs)
 unfolding two.page_out two.walked AllAsk
 pages-out zero x xs few ok rest = rest
 pages-out (suc n) x xs few (works, asks, counts, ends, passes, at_work, ok) rest =
     let a = two.next_step x.core x.shelf x.todo in let y = two.next x in let few_then = few-ended y.answer a.1 (few-next x.core x.shelf x.todo few) in (
-      record {
-        step = record {
-          happens = record {
-            moves = record {
-              walking = (two.walking x);
-              after = site a.1 a.2 a.3;
-              at = refl;
-              at_work = works;
-              does = does-so x.core x.shelf x.todo asks;
-              answers = refl;
-              counts = counts;
-              ends = ends-so y.answer a.1 ends;
-              readings = λ l. none-there (y.core.loads l) None refl;
-              work = record { same_shelves = λ t. shelf-again x.shelf y.shelf t; last_is = refl; same_walkings = again 1 (Some (two.walking x)) (Some (two.walking y)) (λ q. None) };
-            };
-            refused = tt;
-          };
+      does _ _ _ y.core two.two_values y.shelf (Some (two.walking y)) None (record {
+        moves = record {
+          walking = two.walking x;
+          after = site a.1 a.2 a.3;
+          at = refl;
+          at_work = works;
+          does = does-so x.core x.shelf x.todo asks;
+          answers = refl;
+          counts = counts;
+          ends = ends-so y.answer a.1 ends;
+          readings = λ l. none-there (y.core.loads l) None refl;
+          work = record { same_shelves = λ t. shelf-again x.shelf y.shelf t; last_is = refl; same_walkings = again 1 (Some (two.walking x)) (Some (two.walking y)) (λ q. None) };
         };
-        moves = record { each = λ n x is. inl is; environment = refl };
-        writes = writes-so x.core x.shelf (two.work_after x None) x.todo asks;
-        whole = whole-at y.core two.two_values y.shelf (Some (two.walking y)) None (few_then, passes) (refl, at_work) tt;
-      },
+        refused = tt;
+      }) (λ n x is. inl is) (writes-so x.core x.shelf (two.work_after x None) x.todo asks) (few_then, passes) (refl, at_work) tt,
       pages-out n y xs few_then ok rest,
     )
   where
@@ -616,18 +604,6 @@ infixr 3 ◌⨾◌
 -- one moment, and those after it
 ◌⨾◌ : {A B : Type 0} → A → B → A × B
 a ⨾ b = (a, b)
-
--- what happens, what values come, and that the machine is good afterwards
-does : (s : MachineState two.Sample (Unit {0})) (event : Event two.Sample Blob Written) (reply : EventReply two.Sample Blob Written) (w : Core) (vs : List (Option two.Sample)) (shelf : Shelf)
-    (walking : Option Walking) (reading : Option Reading) → let s' = two.machine w vs (two.work_of shelf walking reading) in Happens two.sample_seen (world_of s) event reply (world_of s')
-    → ((n : ℕ) (x : two.Sample) → value_at vs n ≡ Some x → (s.pager.values n ≡ Some x) ⊎ ((s.pager.values n ≡ None) × EventBrings two.sample (world_of s) event n x))
-    → ReplyWrites two.sample_seen s.pager reply → Good w vs → FitsWalking w walking → FitsReading w reading → Does two.sample_seen s event reply s'
-does s event reply w vs shelf walking reading happens come writes good walks reads = record {
-  step = record { happens = happens };
-  moves = record { each = come; environment = refl };
-  writes = writes;
-  whole = whole-at w vs shelf walking reading good walks reads;
-}
 
 same-work : (shelf : Shelf) (walking : Option Walking) (reading reading' : Option Reading) → WorkStays (two.work_of shelf walking reading) (two.work_of shelf walking reading')
 same-work shelf walking reading reading' = record { shelves = λ t. same-shelf _; last_table = refl; walkings = λ v. refl }
@@ -727,21 +703,10 @@ key_load = record { owner = Owner.Caller; key = 8; root = of_key }
 gets-child : ReadingDoes two.sample two.loading Owner.Caller two.parent_fetched None two.parent_read.frames two.child_got
 unfolding two.walked value_at is_named_by find_row preimage grammar.read grammar.read_with answers_from cell_load
 gets-child =
-    record {
-      does = inr (inr (inr (inl (record {
-        kind = record { 0 = 4 };
-        key = 8;
-        k = two.handle 8;
-        row = row_of 8 (two.node 3) Mode.LooseUnpinned (Owner.Load (two.load_number 1));
-        needs = refl;
-        asked = record {
-          makes = (cell_load, record { stands_open = refl; own = refl }, refl, inr (refl, omega arith, record { above = refl; is_left = omega arith }, alike-self two.child_got));
-          refused = tt;
-        };
-        made = refl;
-        goes = refl;
-      }))));
-    }
+    let row = row_of 8 (two.node 3) Mode.LooseUnpinned (Owner.Load (two.load_number 1)) in
+    let asked : LazyCall two.loading Owner.Caller (two.load_number 1) (record { 0 = 4 }) 8 (Ok (two.handle 8)) two.child_got =
+    record { makes = (cell_load, record { stands_open = refl; own = refl }, refl, inr (refl, omega arith, record { above = refl; is_left = omega arith }, alike-self two.child_got)); refused = tt } in
+    record { does = inr (inr (inr (inl (record { kind = record { 0 = 4 }; key = 8; k = two.handle 8; row = row; needs = refl; asked = asked; made = refl; goes = refl })))) }
 
 -- it ends with a pin, by the value that was read of its one blob
 reads-parent : ReadsRoot two.sample two.parent_read (two.parent (two.to_leaf 3 8))
@@ -750,45 +715,32 @@ reads-parent = grind (arith, nat_tests)
 
 ends-pinned : ReadingDoes two.sample two.child_got Owner.Caller two.parent_read (Some (LoadAnswer.Pinned (two.handle 9))) [] two.loaded
 unfolding two.walked value_at is_named_by find_row preimage references_fault is_in cell_load
-ends-pinned = record {
-  does = (
-    record {
-      x = two.parent (two.to_leaf 3 8);
-      reads_root = reads-parent;
-      of_cell_load = record { load = cell_load; open_load = refl; sort = tt };
-      ended = record {
-        installs = (
-          two.node 2,
-          two.handle 2,
-          record { load = cell_load; owned = record { stands_open = refl; own = refl }; of_node = refl; good = refl },
-          record {
-            row = row_of 2 (two.node 2) Mode.LooseUnpinned Owner.Caller;
-            owned = record { live = refl; own = refl; as_asked = refl };
-            at = refl;
-            next = record { above = refl; is_left = omega arith };
-            falls = inl (refl, record { told = Ok tt; falls = falls-alone two.child_got (two.installed two.child_got) (two.given_up two.child_got) (search arith) });
-          },
-        );
-        refused = tt;
-      };
-    },
-    refl,
-  );
-}
+ends-pinned =
+    let row = row_of 2 (two.node 2) Mode.LooseUnpinned Owner.Caller in
+    let x = two.parent (two.to_leaf 3 8) in
+    let falls = falls-alone two.child_got (two.installed two.child_got) (two.given_up two.child_got) (search arith) in
+    let ended_so : FallsAnyhow two.child_got (two.installed two.child_got) (two.given_up two.child_got) two.loaded = record { told = Ok tt; falls = falls } in
+    let owned : OwnsLoad two.child_got Owner.Caller (two.load_number 1) cell_load = record { stands_open = refl; own = refl } in
+    let ended : EndCall two.child_got Owner.Caller (two.load_number 1) x 0 (two.sample_references x) (Ok (two.handle 9)) two.loaded = record {
+      installs = (
+        two.node 2,
+        two.handle 2,
+        record { load = cell_load; owned = owned; of_node = refl; good = refl },
+        record { row = row; owned = record { live = refl; own = refl; as_asked = refl }; at = refl; next = record { above = refl; is_left = omega arith }; falls = inl (refl, ended_so) },
+      );
+      refused = tt;
+    } in
+    record { does = (record { x = x; reads_root = reads-parent; of_cell_load = record { load = cell_load; open_load = refl; sort = tt }; ended = ended }, refl) }
 
 -- the caller gets the child's value
 reads-out : ReadingDoes two.sample two.key_loading Owner.Caller two.child_fetched (Some (LoadAnswer.Read two.leaf)) [] two.read_back
 unfolding two.walked value_at is_named_by find_row preimage is_in named_fault grammar.read grammar.read_with answers_from key_load
-reads-out = record {
-  does = (
-    record {
-      reads_root = record { root = root_frame 8 1 two.leaf_blob; frames = refl; decoded = record { own = two.sample_meaning two.leaf; read = refl; typed = refl; means = refl } };
-      of_key_load = record { load = key_load; open_load = refl; sort = tt };
-      handed = record { hands = (refl, record { told = Ok tt; falls = falls-alone two.key_loading (two.handed two.key_loading) (two.not_handed two.key_loading) (search arith) }); refused = tt };
-    },
-    refl,
-  );
-}
+reads-out =
+    let falls = falls-alone two.key_loading (two.handed two.key_loading) (two.not_handed two.key_loading) (search arith) in
+    let handed : HandOverCall two.key_loading Owner.Caller (two.load_number 2) [] (Ok tt) two.read_back = record { hands = (refl, record { told = Ok tt; falls = falls }); refused = tt } in
+    let root : ReadsRoot two.sample two.child_fetched two.leaf =
+    record { root = root_frame 8 1 two.leaf_blob; frames = refl; decoded = record { own = two.sample_meaning two.leaf; read = refl; typed = refl; means = refl } } in
+    record { does = (record { reads_root = root; of_key_load = record { load = key_load; open_load = refl; sort = tt }; handed = handed }, refl) }
 
 -- a step of the caller's load, while the worker has answered
 reads-step : (w w' : Core) (vs vs' : List (Option two.Sample)) (before after : Option Reading) (l steps : ℕ) (reading : Reading) (frames : List Frame) (ended : Option (LoadAnswer two.Sample))

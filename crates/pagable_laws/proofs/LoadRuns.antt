@@ -58,7 +58,8 @@ module _ {N E : Type 0} {v : Values N} (lawful : IsLawful v) (readable : ReadsIt
           settled = settled';
           well = step.whole;
           stands = went.stands;
-          going = going-step u.well step.whole u.stands goes fit.1 reading frames load.0 load.1 u.going (subst (λ (o : Option (LoadAnswer N)). ReadingFeels v s.core reading o frames s'.core felt.change) none feels);
+          going = going-step u.well step.whole u.stands goes fit.1 reading frames load.0 load.1 u.going
+              (subst (λ (o : Option (LoadAnswer N)). ReadingFeels v s.core reading o frames s'.core felt.change) none feels);
           keyed = λ other there. u.keyed other (was-open u.well step.whole u.stands goes fit.1 reading.load.0 other u.going.within there);
         }
       where

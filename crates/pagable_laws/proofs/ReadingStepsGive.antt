@@ -11,7 +11,8 @@ use Rattle.pagable_laws.proofs.Words.{IsSome}
 use Rattle.pagable_laws.proofs.Words.{Call, Reply, one_more, gone_on, CloseCall, IsIdle, KeepsOpen, HasStepLeft, IsWithinBound, StepIsWithin}
 use Rattle.pagable_laws.proofs.{Words.{LoadsHaveStepsLeft, IsFresh}, Fitting.{inside, first-fits, frames-stay, asked}, ReadingSteps.{readings-on, caller-free, reading-feels, reading-stands}}
 use Rattle.pagable_laws.proofs.{ReadingSteps.{AllWaitWell, EventGoes, event-goes}, Goes.{found-number, IsShut, Goes}, Outlasting.{Stands, stands-whole, stands-changed}}
-use Rattle.pagable_laws.proofs.{Outlasting.stands-fell, Sums.self-number, Decoding.decodes, Taking.{row-held, root-right, adopted-over, Going, given-nodes}, KnownSteps.eager-nested, ReadingStepsKinds.kinds_of}
+use Rattle.pagable_laws.proofs.{Outlasting.stands-fell, Sums.self-number, Decoding.decodes, Taking.{row-held, root-right, adopted-over, Going, given-nodes}}
+use Rattle.pagable_laws.proofs.{KnownSteps.eager-nested, ReadingStepsKinds.kinds_of}
 use Rattle.pagable_laws.proofs.{ReadingStepsKinds.{asks-by-kinds, kinds-pushed}, Trees.same_some}
 use Rattle.pagable_world.specs.{Loads.{Does as LoadDoes}, Runs.Does}
 use Rattle.std.proofs.Common.{rules}
@@ -119,7 +120,8 @@ module _ {N E : Type 0} {v : Values N} (lawful : IsLawful v) (readable : ReadsIt
           let live = row-held s'.core r.handle (record row { owner = Owner.Caller }) moved.3 in
           let typed : type_at s'.core r.node.0 ≡ Some (trees' r.node.0).type = stands'.typed r.node.0 (subst (λ (n : NodeNumber). 0 < held n.0 s'.core.rows) stood.0 live) in
           let kept : trees' r.node.0 ≡ trees r.node.0 = same r.node.0 there.node_given in
-          record { row = record row { owner = Owner.Caller }; live = moved.3; at = stood.0; owned = refl; fits = stood.1; typed = typed ∙ ap (λ (t : Tree). Some t.type) kept ∙ ap (λ (t : ℕ). Some t) (got-typed root.root fits r got) }
+          let of_kind : type_at s'.core r.node.0 ≡ Some (type_of r.kind.0) = typed ∙ ap (λ (t : Tree). Some t.type) kept ∙ ap (λ (t : ℕ). Some t) (got-typed root.root fits r got) in
+          record { row = record row { owner = Owner.Caller }; live = moved.3; at = stood.0; owned = refl; fits = stood.1; typed = of_kind }
 
 module _ {N E B W : Type 0} (m : Seen N B W) (lawful : IsLawful m.values) (readable : ReadsItsTypes m.values.types) (s s' : MachineState N E) (trees trees' : ℕ → Tree)
     (whole : IsMachineWhole m.values s) (whole' : IsMachineWhole m.values s') (readings : (reading : Reading) → IsReadingOf s.work reading → Going m.values s.pager trees reading)
@@ -132,7 +134,8 @@ module _ {N E B W : Type 0} (m : Seen N B W) (lawful : IsLawful m.values) (reada
     | inl there ↦
         let number : reading.load.0 ≡ l.0 = (whole.readings l.0 reading there).number in
         let stored = (reading-feels m s.pager.core Owner.Caller caller-free s'.pager.core h.reading reply.ended h.frames h.does).does.goes.stored in
-        read-right lawful readable s.pager s'.pager trees trees' same stored whole'.pager stands'.pager reading (readings reading (of_caller l.0 there)) load (ap s.pager.core.loads number ∙ open_load) x root hands
+        read-right lawful readable s.pager s'.pager trees trees' same stored whole'.pager stands'.pager reading
+        (readings reading (of_caller l.0 there)) load (ap s.pager.core.loads number ∙ open_load) x root hands
   ]
 
   pub reads-give : (event : Event N B W) (reply : EventReply N B W) → Does m s event reply s' → ReadGives m.values s trees event reply s' trees'
@@ -325,7 +328,8 @@ module _ {N E B W : Type 0} (m : Seen N B W) (s s' : MachineState N E) (whole : 
     went-bounded : (reading : Reading) (frames : List Frame) → IsReadingOf u.work reading ⊎ IsFresh u.core reading → ReadingFeels m.values u.core reading None frames u'.core c
         → IsBounded m.values.types u' (gone_on reading frames)
     went-bounded reading frames stands feels =
-        let before : IsBounded m.values.types u reading = elim stands [ inl there ↦ all reading there | inr new ↦ (new.2, λ load is_open. bounded-new m.values.types u.core.stored load.key reading new.0 new.1) ] in
+        let before : IsBounded m.values.types u reading =
+        elim stands [ inl there ↦ all reading there | inr new ↦ (new.2, λ load is_open. bounded-new m.values.types u.core.stored load.key reading new.0 new.1) ] in
         let few = before.0 in
         let more = goes.loads_last in (
           omega (arith, few, more),

@@ -360,7 +360,8 @@ module _ (v : ℕ) (task : Task) (shelf shelf' : Shelf) where
 
   -- an own slot changes, or comes, that hasn't failed
   clean-still : (i : Identity) (new : Slot) → PutsSlot shelf.slots shelf'.slots i new → is_failed new.outcome ≡ false → HasNoFailed shelf v → HasNoFailed shelf' v
-  clean-still i new puts good clean j slot there own = elim (put-cases shelf.slots shelf'.slots i new puts j slot there) [ inl e ↦ ap (λ (s : Slot). is_failed s.outcome) e.1 ∙ good | inr e ↦ clean j slot e.1 own ]
+  clean-still i new puts good clean j slot there own =
+      elim (put-cases shelf.slots shelf'.slots i new puts j slot there) [ inl e ↦ ap (λ (s : Slot). is_failed s.outcome) e.1 ∙ good | inr e ↦ clean j slot e.1 own ]
 
   abbrev new-slot : Slot
   new-slot = record { worker = v; written = None; outcome = no_result }
@@ -578,7 +579,8 @@ module _ (shelves shelves' : ℕ → Shelf) (walkings walkings' : ℕ → Option
 -- a worker makes a step
 pub is-stepped : (v : ℕ) (shelves shelves' : ℕ → Shelf) (walkings walkings' : ℕ → Option Walking) (w now : Walking) → walkings v ≡ Some w → walkings' v ≡ Some now → now.table ≡ w.table
     → now.task ≡ w.task
-    → ((u : ℕ) → nat_eq u v ≡ false → walkings' u ≡ walkings u) → ((t : ℕ) → nat_eq t w.table ≡ false → (i : Identity) → (shelves' t).slots i ≡ (shelves t).slots i) → HasNoFailed (shelves w.table) v → WaitsWell now.todo
+    → ((u : ℕ) → nat_eq u v ≡ false → walkings' u ≡ walkings u) → ((t : ℕ) → nat_eq t w.table ≡ false → (i : Identity) → (shelves' t).slots i ≡ (shelves t).slots i)
+    → HasNoFailed (shelves w.table) v → WaitsWell now.todo
     → Goes v w.task (shelves w.table) now.answer (shelves' w.table) now.todo → Turned v shelves shelves' walkings walkings'
 is-stepped v shelves shelves' walkings walkings' w now at at_now same_table same_task others elsewhere clean waits goes =
     record {

@@ -4,7 +4,8 @@ use Rattle.pagable_laws.proofs.Words.{Owner, OptionalDataKey, ArcRef, Kind, Hand
 use Rattle.pagable_laws.proofs.Words.{Frame, Reading, row_at, Values, IsLawful, IsReference, Next, need_at, to_adopt, ReadsRoot, ReadsNode, root_frame, nested_frame, with_got, PagerState}
 use Rattle.pagable_laws.proofs.Words.{HandlesAreWhole, IsWhole, WellFormed, NodeStands, ValueStands, ReadsNodeTree, FramesFit, SameTrees, Represents, ReadsItsTypes, GivesTree, ReadIsRight, Change}
 use Rattle.pagable_laws.proofs.Words.{bears_known, CoreGoes, ReadingFeels, reads-root, reads-blob, gets-known, gets-lazy, makes-known, makes-node, reading-ends, Decoded, FramesGiven}
-use Rattle.pagable_laws.proofs.{Fitting.{node-stays, first-fits, first-typed, frames-stay, all-none, all-new, all-more, made-fits, needed-fits, nested-fits, root-fits}, Decoding.{decodes, read_stands}}
+use Rattle.pagable_laws.proofs.{Fitting.{node-stays, first-fits, first-typed, frames-stay, all-none, all-new, all-more, made-fits, needed-fits, nested-fits, root-fits}}
+use Rattle.pagable_laws.proofs.Decoding.{decodes, read_stands}
 use Rattle.pagable_laws.proofs.Words.{ap, inl, gone_on, GetsRow, GotStands, FramesHeld, LoadNumber, ReadingFits, ChangeFits, Needs}
 use Rattle.pagable_laws.proofs.{Apart.FramesAsked, KnownSteps.{needed-asked, nested-asked, made-asked, none-asked, root-asked}}
 use Rattle.pagable_laws.proofs.{Following.{cell-of, given-of}, Outlasting.among-found, Sums.{at-most-sum, self-number}, Trees.same_some}
@@ -216,7 +217,8 @@ module _ {N E : Type 0} {v : Values N} {s s' : PagerState N E} {trees trees' : �
       let after = fit-after reading load frames at-step opened (record { fit = g.fits load opened; held = g.held; asked = g.asked }) feels in
       record {
         within = still-within reading.load.0 g.within;
-        fits = λ other at. subst (λ (z : OpenLoad). FramesFit v.types s'.core.stored trees' z.key reading.node_type frames) (same_some _ _ (sym opened ∙ was-open reading.load.0 other g.within at)) after.fit;
+        fits = λ other at. subst (λ (z : OpenLoad). FramesFit v.types s'.core.stored trees' z.key reading.node_type frames)
+            (same_some _ _ (sym opened ∙ was-open reading.load.0 other g.within at)) after.fit;
         held = after.held;
         asked = after.asked;
       }

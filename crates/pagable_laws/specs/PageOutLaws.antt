@@ -2,7 +2,8 @@
 use Rattle.std.specs.Prelude.{ℕ, ℤ, ◌≡◌, ◌≤◌, ◌==◌, ◌+◌, ◌⊎◌, List, [], ◌∷◌, drop, length, Option, Some}
 use Rattle.pagable_model.specs.{Meaning.{number, integer, text, pattern, none, pair, variant, reference, followed}, Reading.deepest, References.references_in, Form.Form, Writing.kind_of_arc}
 use Rattle.pagable_model.specs.{Merkle.{blob_of, KeyOf, StoredTree}, Shape.Shape}
-use Rattle.pagable_world.specs.{Plain.{ArcRef, Identity, Blob, Meaning, Tree, Types, type_of, Among, times, above, longest_path}, Kinds.identity_of, World.{Shelf, Slot, published, Written, Todo, to_start, to_pin}}
+use Rattle.pagable_world.specs.{Plain.{ArcRef, Identity, Blob, Meaning, Tree, Types, type_of, Among, times, above, longest_path}, Kinds.identity_of}
+use Rattle.pagable_world.specs.World.{Shelf, Slot, published, Written, Todo, to_start, to_pin}
 use Rattle.pagable_world.specs.{World.{to_load, to_write, to_finish, to_item, to_set, to_publish, to_release, to_fail, Task, of_item, of_entry, Walking, Values, digest}, Workers.{IsPublished, place_below}}
 use Rattle.pagable_world.specs.{Pager.MachineState, Headline.AreKeysOf}
 
