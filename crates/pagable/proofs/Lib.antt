@@ -1,5 +1,4 @@
 pub mod Carrying
-pub mod Lent
 pub use Rattle.pagable_codec.proofs.Adding
 pub use Rattle.pagable_codec.proofs.Reading
 pub use Rattle.pagable_codec.proofs.Writing

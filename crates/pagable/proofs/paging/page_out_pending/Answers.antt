@@ -1,5 +1,4 @@
 use Rattle.std.proofs.Common.{rules, ◌≡◌}
-use Rattle.pagable.proofs.Lent.{list-out}
 use Rattle.pagable.proofs.paging.page_out_pending.Goals as goal
 
 pub returns : goal.returns
@@ -7,4 +6,4 @@ returns g c =
     let ends : c.page_out_pending_by.new.lent.pager.now ≡ c.pager-1.given.0 = search rules in
     let pages = rw c.new-lent.ensures.same at c.page_out_pending_by.ensures.pages in
     let pages = rw ends at pages in
-    record { pages = list-out _ _ c.is_whole.ensures c.page_out_pending_by.result _ pages }
+    record { pages = record { run = pages.over c.is_whole.ensures } }
