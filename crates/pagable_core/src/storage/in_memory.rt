@@ -42,28 +42,11 @@ impl<E: Env> InMemoryBlobs<E> {
     }
 }
 
-/// Whether two texts of bytes are one.
-fn are_same_bytes(left: &[u8], right: &[u8]) -> bool
-    ensures { IsTrue result ↔ (left.now ≡ right.now) }
-{
-    left == right
-}
-
-/// Whether two lists of keys are one.
-fn are_same_keys(left: &[DataKey], right: &[DataKey]) -> bool
-    ensures { IsTrue result ↔ (left.now ≡ right.now) }
-{
-    left == right
-}
-
 /// Whether two blobs are one.
 fn is_same(left: &PagableData, right: &PagableData) -> bool
     ensures { IsTrue result ↔ (blob_of left.now ≡ blob_of right.now) }
 {
-    if !are_same_bytes(left.bytes.as_slice(), right.bytes.as_slice()) {
-        return false;
-    }
-    are_same_keys(left.arcs.as_slice(), right.arcs.as_slice())
+    left == right
 }
 
 /// What stands under a blob's key.
