@@ -1,5 +1,5 @@
 -- Adding a blob to what is stored.
-use Rattle.std.proofs.{Common.{◌≡◌, ℕ, Bool, true, false, cond, Option, Some, None, refl, sym, ap, ◌∙◌, inl, inr, arith}, lemmas.Bool.{eqb-true, Decides.nat_tests}}
+use Rattle.std.proofs.{Common.{◌≡◌, ℕ, Bool, true, false, cond, Option, Some, None, refl, ap, ◌∙◌, inl, inr, arith}, lemmas.Bool.{eqb-true, Decides.nat_tests}}
 use Rattle.std.specs.{Arc.arc_value, Global.Global, HashMap.{HashMap, get}, Prelude.{◌==◌, nat_eq, option_map, if◌then◌else◌}, declared.hash.BuildHasherDefault.BuildHasherDefault}
 use Rattle.std.specs.{declared.hash.FoldHasher.FoldHasher, declared.sync.Arc.Arc}
 use Rattle.pagable_model.specs.{Blob.Blob, Stored.Adds}

@@ -116,6 +116,7 @@ impl<'de, E: Env, B: Reader, R: References<E>> PagableDeserializer<E>
         }
     }
 
+    #[tactic(auto, using(crate::proofs::Taking::within_answers))]
     fn position(&self) -> PagableCursor {
         PagableCursor {
             byte_pos: self.reader.position(),
@@ -123,6 +124,7 @@ impl<'de, E: Env, B: Reader, R: References<E>> PagableDeserializer<E>
         }
     }
 
+    #[tactic(auto, using(crate::proofs::Taking::answers_within))]
     fn seek(&mut self, cursor: PagableCursor) {
         self.reader.set_position(cursor.byte_pos);
         self.keys.set_position(cursor.arc_index);

@@ -35,6 +35,7 @@ impl<E: Env> InMemoryBlobs<E> {
     }
 
     /// How many blobs are stored, each under a key of its own.
+    #[tactic(auto, using(crate::proofs::Counting::counts))]
     pub fn len(&self) -> usize
         ensures { IsCount (⟦<InMemoryBlobs<E> as PagableStorage<E>>⟧.stored self.now) result }
     {
