@@ -77,3 +77,5 @@ within_answers answer keys reader bytes at h l = record { bytes = h; refs = omeg
 
 pub answers_within : (answer : ℕ → ℕ → ℕ → Result ArcRef Error) (keys : List ℕ) (at : ℕ) → at ≤ length (answers_from answer 0 keys) → at ≤ length keys
 answers_within answer keys at h = omega (arith, length-answers answer 0 keys)
+
+pub ruleset taking = (none_left, used_of_none, took_one, took_moves)
