@@ -1,5 +1,5 @@
 -- Taking the next answer of a list of references.
-use Rattle.std.{proofs.Common.{◌≡◌, ℕ, zero, suc, ◌+◌, ◌<◌, ◌≤◌, List, [], ◌∷◌, length, drop, Result, Ok, Err, Some, arith, refl, ap, inl}, specs.Prelude.slice_get}
+use Rattle.std.{proofs.Common.{◌≡◌, ℕ, zero, suc, ◌+◌, ◌<◌, ◌≤◌, List, [], ◌∷◌, length, drop, Result, Ok, Err, Some, arith, refl, ap, inl}, proofs.lemmas.List.drop_all, specs.Prelude.slice_get}
 use Rattle.pagable_model.specs.{Gives.{Gives, never}, Meaning.Meaning, Reading.{Rest, reference_at}, Standing.{Answer, answer_at, rest_at, MovesOn, IsWithin}, Steps.◌>>=◌, Track.Track}
 use Rattle.pagable_model.specs.{declared.error.Error.Error, declared.numbers.ArcRef.ArcRef}
 use Rattle.pagable_core.specs.Context.{answers_from, standing_of}
@@ -12,10 +12,7 @@ module _ (answer : ℕ → ℕ → ℕ → Result ArcRef Error) where
   length-answers place (key ∷ keys) = ap (λ (n : ℕ). suc n) (length-answers (place + 1) keys)
 
   none_from : (place at : ℕ) (keys : List ℕ) → length keys ≤ at → drop at (answers_from answer place keys) ≡ []
-  none_from place zero [] h = refl
-  none_from place (suc at) [] h = refl
-  none_from place zero (key ∷ keys) h = absurd (omega arith)
-  none_from place (suc at) (key ∷ keys) h = none_from (place + 1) at keys (omega arith)
+  none_from place at keys h = drop_all at (answers_from answer place keys) (omega (arith, h, length-answers place keys))
 
   some_from : (place at key : ℕ) (keys : List ℕ) → slice_get keys at ≡ Some key
       → drop at (answers_from answer place keys) ≡ (λ kind. answer (place + at) key kind) ∷ drop (at + 1) (answers_from answer place keys)
@@ -42,13 +39,9 @@ module _ (answer : ℕ → ℕ → ℕ → Result ArcRef Error) where
       rw e refl
 
 -- of no key, none is used; of a key that was taken, that one, whatever was answered
-used_none : (answer : ℕ → ℕ → ℕ → Result ArcRef Error) (keys reader : Track) → length keys.all ≤ keys.position
-    → rest_at (standing_of answer keys reader) ≡ record (rest_at (standing_of answer keys reader)) { refs = drop 1 (rest_at (standing_of answer keys reader)).refs }
-used_none answer keys reader h = rw (none_from answer 0 keys.position keys.all h) refl
-
 pub used_of_none : (answer : ℕ → ℕ → ℕ → Result ArcRef Error) (old new reader : Track) → new ≡ old → length old.all ≤ old.position
     → rest_at (standing_of answer new reader) ≡ record (rest_at (standing_of answer old reader)) { refs = drop 1 (rest_at (standing_of answer old reader)).refs }
-used_of_none answer old new reader same h = rw same (used_none answer old reader h)
+used_of_none answer old new reader same h = rw (same, none_from answer 0 old.position old.all h) refl
 
 -- what was answered is what reading gives
 pub gives_answer : (r : Result ArcRef Error) (read : Result (Meaning ArcRef × Rest Answer) Error) (after : Rest Answer) → read ≡ (r >>= λ b. Ok (meanings.reference b, after)) → Gives never (λ b. (meanings.reference b, after)) r read
@@ -84,3 +77,5 @@ within_answers answer keys reader bytes at h l = record { bytes = h; refs = omeg
 
 pub answers_within : (answer : ℕ → ℕ → ℕ → Result ArcRef Error) (keys : List ℕ) (at : ℕ) → at ≤ length (answers_from answer 0 keys) → at ≤ length keys
 answers_within answer keys at h = omega (arith, length-answers answer 0 keys)
+
+pub ruleset taking = (none_left, used_of_none, took_one, took_moves)

@@ -15,9 +15,6 @@ mod-mul-mod m a b =
 pub mod-step : (m w p b : ℕ) → (w % m + (p % m * b) % m) % m ≡ (w + p * b) % m
 mod-step m w p b = rw (mod-mul-mod m p b) (mod-add-mod w m ((p * b) % m) ∙ add-mod-mod w (p * b) m)
 
-pub mod-next : (m p : ℕ) → (p % m + 1) % m ≡ (p + 1) % m
-mod-next m p = mod-add-mod p m 1
-
 pub weight-more : (i b : ℕ) (bs : List ℕ) → weight i (bs ++ b ∷ []) ≡ weight i bs + (i + length bs) * b
 unfolding weight
 weight-more i b [] = let e : i + 0 ≡ i = omega arith in rw e (omega arith)
@@ -32,7 +29,7 @@ is_weighed_none = record { place = refl; sum = refl }
 -- one more byte
 pub is_weighed_more : (old new : WeighHash) (came : List ℕ) (b : ℕ) → IsWeighed old came → new.sum ≡ (old.sum + (old.place * b) % 2 ^ 128) % 2 ^ 128 → new.place ≡ (old.place + 1) % 2 ^ 128 → IsWeighed new (came ++ b ∷ [])
 is_weighed_more old new came b h sum place = record {
-  place = place ∙ ap (λ (p : ℕ). (p + 1) % 2 ^ 128) h.place ∙ mod-next (2 ^ 128) (length came + 1) ∙ ap (λ (n : ℕ). (n + 1) % 2 ^ 128) (longer came);
+  place = place ∙ ap (λ (p : ℕ). (p + 1) % 2 ^ 128) h.place ∙ mod-add-mod (length came + 1) (2 ^ 128) 1 ∙ ap (λ (n : ℕ). (n + 1) % 2 ^ 128) (longer came);
   sum = sum ∙ ap (λ (p : ℕ). (old.sum + (p * b) % 2 ^ 128) % 2 ^ 128) h.place ∙ ap (λ (s : ℕ). (s + ((length came + 1) % 2 ^ 128 * b) % 2 ^ 128) % 2 ^ 128) h.sum
       ∙ mod-step (2 ^ 128) (weight 1 came) (length came + 1) b ∙ ap (λ (w : ℕ). w % 2 ^ 128) (sym (weight-more 1 b came ∙ ap (λ (n : ℕ). weight 1 came + n * b) (one_more came)));
 }

@@ -9,10 +9,10 @@ pub use Rattle.pagable_loads.specs.{Telling.{TakesLazily, AdoptsValue, IsMade, v
 pub use Rattle.{pagable_loads.specs.declared.working.Taken.Taken, pagable_model.specs.{Stored.{Adds, RefusesFetch, RefusesStore}, Blob.key_of, declared.data_key.OptionalDataKey.OptionalDataKey}}
 pub use Rattle.pagable_model.specs.declared.numbers.{ArcRef.ArcRef, HandleNumber.HandleNumber, Kind.Kind, LoadNumber.LoadNumber, NodeNumber.NodeNumber, WorkerNumber.WorkerNumber}
 pub use Rattle.pagable_pager.specs.{Made.{Refers, TakesEntry, LeavesEntry}, Clones.PinsClone, Puts.{PutsIn, with_value}, View.{PagerView, Telling, Spelling, ValuesByNode, IsPager, OnlyLess, core_in}}
-pub use Rattle.{pagable_pager.specs.View.{state_in, value_in, values_of, is_at_work, FewerValues, OnlyTables, SameValues, telling}, pagable_steps.proofs.FallingCalls.{adopted_known, closed}}
-pub use Rattle.pagable_steps.proofs.{FallingCalls.{end_refused, dropped, handed_over, offered, released, worker_released, scheduled, key_set, unpinned, worker_ended}, Parts.pinned-here}
+pub use Rattle.{pagable_pager.specs.View.{state_in, value_in, values_of, is_at_work, FewerValues, OnlyTables, SameValues, telling}, pagable_steps.proofs.Falling.{adopted_known, closed}}
+pub use Rattle.pagable_steps.proofs.{Falling.{end_refused, dropped, handed_over, offered, released, worker_released, scheduled, key_set, unpinned, worker_ended}, Owning.pinned-here}
 pub use Rattle.pagable_steps.proofs.{Spared.{clones, loosens, pins-it, known-here, with-worker, starts-listed, clears, recalls, reserves, stores, takes, asks, begins, begins-key}, Births.born}
-pub use Rattle.pagable_steps.proofs.{Births.{lazily, born-away}, Installing.{installed_away, installed_there}, Parts.{stayed, Leaves, Spares, spared, spares-alike}}
+pub use Rattle.pagable_steps.proofs.{Births.{lazily, born-away}, Installing.{installed_away, installed_there}, Owning.{stayed, Leaves, Spares, spared, spares-alike}}
 pub use Rattle.pagable_tables.proofs.{Adoptions.{adopts-new, early-past, refused-memory, refused-new}, Readied.room-alike}
 pub use Rattle.pagable_tables.proofs.{Readied.{room-fault, fault-by, next-past, born-past, adopted-past, room-newer}, Begun.not-closed, Entries.no-entries, Installed.{installs-wider, may-wider}}
 pub use Rattle.pagable_tables.proofs.{Installed.{not-so, so-then}, Opened.{earlier-first, told-later}, Stays.eager-pins, Worlds.still, keeps.CacheCalls.{clear-whole, recall-whole, reserve-whole}}

@@ -7,7 +7,7 @@ use Rattle.pagable_steps.proofs.Words.{is_here, usable, row_of, moved, with_node
 use Rattle.pagable_steps.proofs.Words.{PagerState, IsWhole, WellFormed, Stands, AreGood, NotValues, good, or-none, named-among, stands-whole, stands-changed, found-number, among-changed, self-number}
 use Rattle.pagable_steps.proofs.Words.{same-number, sum-le}
 use Rattle.pagable_steps.proofs.{Owning.{At, Has, among-named, same-value, holds_value, settled, sits}, Spared.{not-load, gets-known}}
-use Rattle.pagable_steps.proofs.Parts.{OwnsAlike, Spares, owns-then, owns-handle, pinned-here, sits-on, spared, spares-alike, spares-cached, sum-mapped}
+use Rattle.pagable_steps.proofs.Owning.{OwnsAlike, Spares, owns-then, owns-handle, pinned-here, sits-on, spared, spares-alike, spares-cached, sum-mapped}
 
 unseen : (w : Core) (owner : Owner) (seen : List ℕ) (r : ArcRef) → reference_fault w owner seen r ≡ None → is_in seen r.handle.0 ≡ false
 unseen w owner seen r none = grind (arith, nat_tests)
@@ -117,7 +117,8 @@ none-named w owner = refl
 -- ---- what is made
 
 module _ {N E : Type 0} {v : Values N} {s : PagerState N E} (s' : PagerState N E) (is : WellFormed v s) {me : Owner} (free : NotValues me) (t : ℕ) (own : OptionalDataKey)
-    (references : List ArcRef) (mode : Mode) (fine : references_fault s.core me [] references ≡ None) (like : Spares (with_handle (with_node s.core t own references) (next_node s.core) mode me) s'.core) where
+    (references : List ArcRef) (mode : Mode) (fine : references_fault s.core me [] references ≡ None)
+    (like : Spares (with_handle (with_node s.core t own references) (next_node s.core) mode me) s'.core) where
   abbrev next : ℕ
   next = next_of s.core
 

@@ -1,11 +1,17 @@
--- Values go with a cascade: where a call has done what it does directly, a value stays exactly where its node is in memory afterwards, and owns what it did.
+-- Values go with a cascade: where a call has done what it does directly, a value stays exactly where its node is in memory afterwards, and owns what it did. And the calls by which handles go.
 use Rattle.std.proofs.lemmas.Bool.{false_from_ne_true}
+use Rattle.pagable_laws.proofs.Effects as effects
+use Rattle.pagable_steps.proofs.{Owning.{At, Has, AreFree, Keeps, Leaves, Spares, settled, sits, holds_value, same-value, owned-test, found-whole, among-named, among-either, sits-on, stayed}}
+use Rattle.pagable_steps.proofs.Owning.{spares-keeps, spares-then, spares-same, spares-alike, spares-moved, owns-same, mode-owns, mode-others, row-here}
+use Rattle.pagable_steps.proofs.Spared.{rowed, own-free, listed-free, schedules, offers, spares-known, not-load}
 use Rattle.pagable_steps.proofs.Words.{◌≡◌, ℕ, suc, zero, ◌+◌, ◌<◌, ◌≤◌, ◌&&◌, Bool, true, false, List, [], ◌∷◌, Option, Some, None, inl, inr, refl, ap, sym, subst, ◌∙◌, if◌then◌else◌, arith, is_some}
 use Rattle.pagable_steps.proofs.Words.{not, nat_lt, cond, and_parts, nat_tests, sum_by-cons, sum_by-append, HandleRow, Owner, ArcRef, Among, one, times, if_there, filter, is_at, is_pin, is_owned_by}
 use Rattle.pagable_steps.proofs.Words.{owner_value, held, pins, Core, Cell, Values, type_at, is_here, is_outside, owned_outside, loses_value, AreNewEntries, is_keyed, left_rows, Falls, PagerState}
 use Rattle.pagable_steps.proofs.Words.{WellFormed, is_named_by, Stands, stands-alike, stands-more, among-kept, among-found, found-number, found-kept, none-in-new, le-more, same-owner, sum-le}
-use Rattle.pagable_steps.proofs.Words.{at-most-sum, row-held, fell-away, outlast, fallen, named-among}
-use Rattle.pagable_steps.proofs.{Owning.{At, Has, settled, sits, holds_value, same-value, owned-test, among-named}, Parts.{AreFree, Keeps, Leaves, among-either, sits-on}}
+use Rattle.pagable_steps.proofs.Words.{at-most-sum, row-held, fell-away, outlast, fallen, named-among, ◌==◌, ◌||◌, Ok, Err, Result, Error, Mode, Kind, HandleNumber, LoadNumber, NodeNumber, is_in}
+use Rattle.pagable_steps.proofs.Words.{find_row, is_owner, owner_worker, is_in_memory, is_pinning, Alike, row_at, key_at, usable, FallsAnyhow, refused_if, named_fault, UnpinCall, ReleaseCall}
+use Rattle.pagable_steps.proofs.Words.{SetKeyCall, ScheduleCall, OfferCall, CloseCall, Owns, with_mode, with_key, is_owned_in, numbers_of, Adopts, EndCall, HandOverCall, DropCall, LoadCloses}
+use Rattle.pagable_steps.proofs.Words.{is_workers_at, is_load_of, WorkerEnds, IsWhole, same-number, counted, good, NotValues, neither, stands-whole}
 
 -- ---- what is left, and what comes
 
@@ -27,9 +33,9 @@ times-left t gone (x ∷ xs) =
     grind (arith, nat_tests)
 
 -- new entries pin nothing, and the list owns them
-unpinned : (n last : ℕ) (entries : List HandleRow) → AreNewEntries last entries → pins n entries ≡ 0
-unpinned n last [] new = refl
-unpinned n last (x ∷ xs) (number, mode, owner, new) = grind (arith, nat_tests, unpinned n (last + 1) xs new)
+pinless : (n last : ℕ) (entries : List HandleRow) → AreNewEntries last entries → pins n entries ≡ 0
+pinless n last [] new = refl
+pinless n last (x ∷ xs) (number, mode, owner, new) = grind (arith, nat_tests, pinless n (last + 1) xs new)
 
 listed : (last : ℕ) (entries : List HandleRow) → AreNewEntries last entries → (h : HandleRow) → Among entries h → h.owner ≡ Owner.List
 listed last [] new h among = absurd (cc)
@@ -45,7 +51,7 @@ module _ {before w w' : Core} {given : ℕ → Bool} {r : _} (f : Falls before w
   loses n cell live =
       let h = counts (is_at n) in
       let p = counts (is_pin n) in
-      let none = unpinned n w.last.handle f.entries f.new in
+      let none = pinless n w.last.handle f.entries f.new in
       let fewer = sum-le (λ h. one (is_pin n h && is_outside f.gone h)) (λ h. one (is_at n h && is_outside f.gone h)) w.rows (λ h among. pin-at (is_at n h) _ (is_outside f.gone h)) in
       let cells : w'.cells n ≡ (if nat_lt 0 (held n w'.rows) then Some cell else None) = f.leaves.cells n ∙ rw (f.leaves.rows, live) refl in
       grind (arith, nat_tests)
@@ -155,3 +161,143 @@ pub fell : {N E : Type 0} {v : Values N} {s s' : PagerState N E} {before m : Cor
     → Leaves s.values s' → WellFormed v s'
 fell {v = v} {s} {s'} is k f free =
     fell-from (λ n. sits-on v (k.owns n) (s.values n) (sits is n)) (λ n held. is.valued n ∙ k.held n held) s' f (λ h among given n own. free h ((k.owns n.0).owned h among own) given n own)
+
+-- ---- what no value owns
+
+module _ {w : Core} (whole : IsWhole w) where
+  not-loads : (l : LoadNumber) (o : Owner) → o ≡ Owner.Load l → NotValues o
+  not-loads l o is n own = not-load l n (sym is ∙ own)
+
+  -- handles whose rows pass a test that no value's passes
+  by-row : (test : HandleRow → Bool) → ((h : HandleRow) (n : NodeNumber) → h.owner ≡ Owner.Value n → test h ≡ false) → AreFree w (λ q. if_there test false (find_row q w.rows))
+  by-row test none = rowed whole _ (λ n. record { each = λ q row own s. ap (if_there test false) s.live ∙ none row n own })
+
+  -- what a load owns
+  pub load-free : (l : LoadNumber) → AreFree w (is_owned_in w (Owner.Load l))
+  load-free l = by-row (is_owned_by (Owner.Load l)) (λ h n own. ap (is_owner (Owner.Load l)) own)
+
+  -- what else is asked of it
+  both-free : (f g : ℕ → Bool) → AreFree w f → AreFree w (λ q. f q && g q)
+  both-free f g free h among is = free h among (and_parts (f h.number.0) (g h.number.0) is).0
+
+  -- what a load hands over
+  handed-free : (l : LoadNumber) (hs : List HandleNumber) (seen : List ℕ) → named_fault w (Owner.Load l) seen hs ≡ None → AreFree w (is_in (numbers_of hs))
+  unfolding named_fault is_in
+  handed-free l [] seen none h among is = absurd (cc)
+  handed-free l (x ∷ hs) seen none h among is =
+      let both = neither _ _ none in
+      let rest : is_in (numbers_of hs) h.number.0 ≡ true → NotValues h.owner = λ e. handed-free l hs (x.0 ∷ seen) both.1 h among e in
+      grind (arith, nat_tests, row_at, find_row, same-number, found-whole, refused_if, not, is_owner, not-loads, same-owner)
+
+-- ---- what is done directly
+
+-- an own handle pins no more
+unpin-keeps : {w : Core} {me : Owner} {fits : Mode → Bool} → IsWhole w → (h : HandleNumber) (row : HandleRow) → NotValues me → Owns w me h fits row → row.mode ≡ Mode.LoosePinned
+    → Keeps w (with_mode w h Mode.LooseUnpinned)
+unpin-keeps {w} whole h row none owns pinned = record { owns = mode-owns w h Mode.LooseUnpinned row stands (subst NotValues (sym owns.own) none); held = λ n is. at n (row.node.0 == n) refl is }
+  where
+    stands : Stands w.last.handle w.rows h.0 row
+    stands = stands-whole whole.handles h.0 row owns.live
+
+    at : (n : ℕ) (b : Bool) → (row.node.0 == n) ≡ b → holds_value (with_mode w h Mode.LooseUnpinned) n ≡ true → holds_value w n ≡ true
+    at n true e is =
+        let here = subst (λ k. is_here w k ≡ true) (same-number _ _ e) (row-here w h row owns.live (ap is_pinning pinned)) in
+        rw ((and_parts (is_some (w.cells n)) _ is).0, here) refl
+    at n false e is = ap (λ p. is_some (w.cells n) && is_in_memory p (key_at w n)) (sym (mode-others w h Mode.LooseUnpinned row stands n e)) ∙ is
+
+-- a node gets a key
+keyed-keeps : (w : Core) (node : NodeNumber) (key : ℕ) → Keeps w (with_key w node key)
+keyed-keeps w node key = record { owns = λ n. owns-same refl refl typed; held = held }
+  where
+    typed : (p t : ℕ) → type_at w p ≡ Some t → type_at (with_key w node key) p ≡ Some t
+    typed p t is = grind (arith, nat_tests)
+
+    held : (n : ℕ) → holds_value (with_key w node key) n ≡ true → holds_value w n ≡ true
+    held n is = grind (arith, nat_tests)
+
+-- ---- the calls
+
+still : {w : Core} → Spares w w
+still = spares-same refl (λ n. refl) refl
+
+module _ {N E : Type 0} {v : Values N} {s s' : PagerState N E} (is : WellFormed v s) (left : Leaves s.values s') where
+  stays : Alike s.core s'.core → WellFormed v s'
+  stays a = stayed is (spares-alike a) left
+
+  pub load_closed : (l : LoadNumber) {r : Result (Unit {0}) Error} → LoadCloses s.core l r s'.core → WellFormed v s'
+  load_closed l f = fell is (spares-keeps (spares-same refl (λ n. refl) refl)) f (load-free is.whole l) left
+
+  pub dropped : {me : Owner} {l : LoadNumber} {r : Result (Unit {0}) Error} → DropCall s.core me l r s'.core → WellFormed v s'
+  dropped {l = l} c = elim c.does [ inl refused ↦ stays refused.stays | inr (load, owned, f) ↦ load_closed l f ]
+
+  -- the end of a load that is refused, or was in vain
+  pub end_refused : {me : Owner} {l : LoadNumber} {x : N} {t : ℕ} {references : List ArcRef} (e : Error) (back : Option N) → EndCall s.core me l x t references (Err (e, back)) s'.core
+      → WellFormed v s'
+  end_refused e (Some y) c = stays c.refused.1.stays
+  end_refused {l = l} e None c = load_closed l c.refused.closes
+
+  -- what was read is dropped, since the cache gives a node
+  pub adopted_known : {me : Owner} {l : LoadNumber} {kind : Kind} {key t n : ℕ} {references : List ArcRef} {k : HandleNumber} → Adopts s.core me l kind key t references k s'.core
+      → usable s.core kind.0 key ≡ Some n → WellFormed v s'
+  adopted_known {l = l} {kind} {key} {references = references} a known = elim a.makes [
+    | inl (n, usable, f) ↦
+        let right = good s.core (Owner.Load l) [] references a.good in
+        let free = rowed is.whole (is_named_by references) (λ m. effects.named-free (Owner.Value m) s.core (Owner.Load l) references (not-load l m) right) in
+        fell is (spares-keeps (spares-known is.whole kind key n (not-load l) usable)) f.falls free left
+    | inr (none, few, alike) ↦ absurd (let e : None ≡ Some _ = sym none ∙ known in cc)
+  ]
+
+  pub closed : {r : Result (Unit {0}) Error} → CloseCall s.core r s'.core → WellFormed v s'
+  closed c = fell is (spares-keeps (spares-same refl (λ n. refl) refl)) c.falls.falls (grind (arith, nat_tests, counted, listed-free)) left
+
+  -- a worker releases the node that it has walked
+  pub worker_released : (u n : ℕ) → FallsAnyhow s.core s.core (is_workers_at s.core u n) s'.core → WellFormed v s'
+  worker_released u n f =
+      fell is (spares-keeps still) f.falls (by-row is.whole (λ row. is_owned_by (owner_worker u) row && is_at n row) (λ h m own. ap (λ o. is_owner (owner_worker u) o && is_at n h) own)) left
+
+  -- a worker ends, and so do its loads
+  pub worker_ended : (u : ℕ) → WorkerEnds s.core u s'.core → WellFormed v s'
+  worker_ended u f =
+      let free = by-row is.whole (λ row. is_owner (owner_worker u) row.owner || is_load_of s.core u row.owner) (λ h m own. ap (λ o. is_owner (owner_worker u) o || is_load_of s.core u o) own) in
+      fell is (spares-keeps (spares-same refl (λ n. refl) refl)) f.falls free left
+
+  module _ {me : Owner} (none : NotValues me) where
+    pub released : {h : HandleNumber} {r : Result (Unit {0}) Error} → ReleaseCall s.core me h r s'.core → WellFormed v s'
+    released {h} c = elim c.does [ inl refused ↦ stays refused.stays | inr (row, owns, f) ↦ fell is (spares-keeps still) f (own-free is.whole h row none owns) left ]
+
+    pub unpinned : {h : HandleNumber} {r : Result (Unit {0}) Error} → UnpinCall s.core me h r s'.core → WellFormed v s'
+    unpinned {h} c = elim c.does [
+      | inl refused ↦ stays refused.stays
+      | inr (row, owns, inl (mode, told, a)) ↦ stays a
+      | inr (row, owns, inr (mode, f)) ↦ fell is (unpin-keeps is.whole h row none owns mode) f (λ x among e. absurd (cc)) left
+    ]
+
+    pub key_set : {h : HandleNumber} {key : ℕ} {r : Result (Unit {0}) Error} → SetKeyCall s.core me h key r s'.core → WellFormed v s'
+    key_set {key = key} c = elim c.does [
+      | inl refused ↦ stays refused.stays
+      | inr (row, owns, inl (mode, told, a)) ↦ stays a
+      | inr (row, owns, inr (loose, f)) ↦ fell is (keyed-keeps s.core row.node key) f (λ x among e. absurd (cc)) left
+    ]
+
+    pub scheduled : {h : HandleNumber} (r : Result (Unit {0}) Error) → ScheduleCall s.core me h r s'.core → WellFormed v s'
+    scheduled {h} (Ok u) c = elim c.moves.2 [
+      | inl (open_still, a) ↦ stayed is (schedules is.whole none open_still (Ok u) c) left
+      | inr (shut, f) ↦ fell is (spares-keeps still) f.falls (own-free is.whole h c.moves.0 none c.moves.1) left
+    ]
+    scheduled (Err e) c = stays c.refused.stays
+
+    pub offered : {kind : Kind} {key : ℕ} {h : HandleNumber} (r : Result (Option HandleNumber) Error) → OfferCall s.core me kind key h r s'.core → WellFormed v s'
+    offered (Ok None) c = stayed is (offers is.whole (Ok None) (λ k e. absurd (cc)) c) left
+    offered {kind} {key} {h} (Ok (Some k)) c = elim c.answers.3 [
+      | inl (shut, same, a) ↦ stays a
+      | inr (open_still, (n, usable, next, f)) ↦ fell is (spares-keeps (spares-known is.whole kind key n none usable)) f.falls (own-free is.whole h c.answers.0 none c.answers.1) left
+    ]
+    offered (Err e) c = stays c.refused.stays
+
+    pub handed_over : {l : LoadNumber} {hs : List HandleNumber} (r : Result (Unit {0}) Error) → HandOverCall s.core me l hs r s'.core → WellFormed v s'
+    handed_over {l} {hs} (Ok u) c =
+        let named = (neither _ _ (neither _ _ c.hands.0).1).1 in
+        let moves = spares-moved s.core (is_in (numbers_of hs)) me {list = s.core.list} none (handed-free is.whole l hs [] named) in
+        fell is (spares-keeps (spares-then moves (spares-same refl (λ n. refl) refl))) c.hands.1.falls
+        (both-free is.whole (is_owned_in s.core (Owner.Load l)) (λ q. not (is_in (numbers_of hs) q)) (load-free is.whole l)) left
+    handed_over (Err e) c = stays c.refused.1

@@ -4,8 +4,8 @@ use Rattle.pagable_steps.proofs.Words.{◌≡◌, ℕ, ◌+◌, ◌==◌, ◌&&�
 use Rattle.pagable_steps.proofs.Words.{nat_tests, sum_by_push, Among, one, HandleRow, Owner, Mode, HandleNumber, LoadNumber, NodeNumber, if_there, updated, owner_value, is_owned_by, is_owner, is_pin}
 use Rattle.pagable_steps.proofs.Words.{is_loose, is_in_memory, pins, Core, Values, row_of, type_at, key_at, is_here, Owns, is_named_by, moved, with_mode, without_load, is_owned_in, with_pin, MayEnd}
 use Rattle.pagable_steps.proofs.Words.{Installs, PagerState, IsWhole, WellFormed, NotLoads, NotValues, Stands, good, row-held, stands-whole, same-number}
-use Rattle.pagable_steps.proofs.{Births.{Receives, receives}, Owning.{At, found-whole, holds_value}, Falling.{fell, fell-from}, FallingCalls.load-free}
-use Rattle.pagable_steps.proofs.{Parts.{AreFree, Keeps, OwnsAlike, Sweeps, owns-then, owns-handle, sits-on, spares-keeps, spares-then, spares-same, spares-handle, mode-owns, mode-others, mode-here}}
+use Rattle.pagable_steps.proofs.{Births.{Receives, receives}, Owning.{At, found-whole, holds_value}, Falling.{fell, fell-from, load-free}}
+use Rattle.pagable_steps.proofs.{Owning.{AreFree, Keeps, OwnsAlike, Sweeps, owns-then, owns-handle, sits-on, spares-keeps, spares-then, spares-same, spares-handle, mode-owns, mode-others, mode-here}}
 use Rattle.pagable_steps.proofs.Spared.{not-load, turned}
 
 module _ {N E : Type 0} {v : Values N} {s : PagerState N E} (is : WellFormed v s) {me : Owner} {l : LoadNumber} {node : NodeNumber} {h : HandleNumber} {x : N}

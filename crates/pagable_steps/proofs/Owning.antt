@@ -1,9 +1,13 @@
--- What a pager's type says of values, row by row: a value owns the one row of each handle that it refers to, and no other; a node without a value owns nothing.
-use Rattle.std.{specs.List.AllPairs, proofs.lemmas.Bool.false_from_ne_true}
+-- What a pager's type says of values, row by row: a value owns the one row of each handle that it refers to, and no other; a node without a value owns nothing. And what is done before
+-- handles go, part by part: it leaves what values own as it is.
+use Rattle.std.{specs.{List.AllPairs, Prelude.◌⊎◌}, proofs.lemmas.Bool.false_from_ne_true}
+use Rattle.pagable_laws.proofs.Effects as effects
 use Rattle.pagable_steps.proofs.Words.{◌≡◌, ℕ, suc, ◌<◌, ◌≤◌, ◌==◌, ◌&&◌, Bool, true, List, [], ◌∷◌, Option, Some, None, refl, ap, sym, subst, ◌∙◌, arith, is_some, and_parts, nat_tests, HandleRow}
 use Rattle.pagable_steps.proofs.Words.{Owner, ArcRef, Among, one, times, find_row, is_handle, is_owner, is_owned_by, owner_value, fits_mode, type_of, pins, Core, Values, type_at, is_here, PagerState}
 use Rattle.pagable_steps.proofs.Words.{IsWhole, WellFormed, HandlesAreWhole, Stands, stands-whole, among-found, found-number, none-found, once, same-owner, same-number, IsHandleBefore, sum_by-cons}
-use Rattle.pagable_steps.proofs.Words.{slice_get_within, get_or_from_slice_get, is_named_by, self-number, at-most-sum, sum-le, sum-zero, counted, one-true}
+use Rattle.pagable_steps.proofs.Words.{slice_get_within, get_or_from_slice_get, is_named_by, self-number, at-most-sum, sum-le, sum-zero, counted, one-true, ◌+◌, false, ◌++◌, sum_by, map, inl, inr}
+use Rattle.pagable_steps.proofs.Words.{if◌then◌else◌, nat_lt, sum_by_push, Mode, OptionalDataKey, HandleNumber, NodeNumber, SameAt, changed, if_there, is_pin, is_pinning, is_in_memory, Cell, Last}
+use Rattle.pagable_steps.proofs.Words.{Alike, row_at, key_at, row_of, with_handle, with_mode, with_cached, moved, Kind, stands-changed, among-changed, NotValues, row-pins, found-after}
 
 -- the reference names the one row of a handle that the node's value owns
 pub record Refers (w : Core) (n : ℕ) (r : ArcRef) : Type 0 where
@@ -156,3 +160,213 @@ settled {N} {v = v} s all valued counts whole = record {
             let both = and_parts (is_handle q c.0) (is_owned_by (owner_value n) c.0) c.2 in
             let named = a.owned c.0 c.1 (same-owner (owner_value n) c.0.owner both.1) in
             some-there (λ (r : ArcRef). r.handle.0 == q) (v.references x) named.r named.among (ap (λ m. m == q) named.is ∙ both.0)
+
+-- what the value of the node owns stays as it is, and nodes their types
+pub record OwnsAlike (n : ℕ) (w m : Core) : Type 0 where
+  pub typed : (p t : ℕ) → type_at w p ≡ Some t → type_at m p ≡ Some t
+  pub spares : effects.Spares (owner_value n) w m
+  pub owned : (h : HandleRow) → Among m.rows h → h.owner ≡ owner_value n → Among w.rows h
+
+-- no value comes or goes
+pub record Spares (w w' : Core) : Type 0 where
+  pub owns : (n : ℕ) → OwnsAlike n w w'
+  pub holds : (n : ℕ) → holds_value w' n ≡ holds_value w n
+
+-- no value comes
+pub record Keeps (w m : Core) : Type 0 where
+  pub owns : (n : ℕ) → OwnsAlike n w m
+  pub held : (n : ℕ) → holds_value m n ≡ true → holds_value w n ≡ true
+
+-- no value owns such a handle
+abbrev pub AreFree : Core → (ℕ → Bool) → Type 0
+AreFree w given = (h : HandleRow) → Among w.rows h → given h.number.0 ≡ true → NotValues h.owner
+
+-- a value stays exactly where its node is still in memory
+abbrev pub Sweeps : {N : Type 0} → (ℕ → Option N) → Core → (ℕ → Option N) → Type 0
+Sweeps values w' values' = (n : ℕ) → values' n ≡ (if holds_value w' n then values n else None)
+
+-- what a call leaves: the values whose nodes are in memory, right counts and a whole world
+pub record Leaves {N E : Type 0} (values : ℕ → Option N) (s' : PagerState N E) : Type 0 where
+  pub swept : Sweeps values s'.core s'.values
+  pub counted : (n : ℕ) → s'.counts n ≡ pins n s'.core.rows
+  pub whole : IsWhole s'.core
+
+pub spares-keeps : {w m : Core} → Spares w m → Keeps w m
+spares-keeps s = record { owns = s.owns; held = λ n is. sym (s.holds n) ∙ is }
+
+-- ---- one after another
+
+module _ {n : ℕ} where
+  pub owns-then : {w m w' : Core} → OwnsAlike n w m → OwnsAlike n m w' → OwnsAlike n w w'
+  owns-then a b = record {
+    typed = λ p t is. b.typed p t (a.typed p t is);
+    spares = effects.spares-then (owner_value n) a.spares b.spares;
+    owned = λ h among own. a.owned h (b.owned h among own) own;
+  }
+
+  -- rows are the same
+  pub owns-same : {w m : Core} → m.rows ≡ w.rows → m.last.handle ≡ w.last.handle → ((p t : ℕ) → type_at w p ≡ Some t → type_at m p ≡ Some t) → OwnsAlike n w m
+  owns-same {w} {m} rows last typed = record {
+    typed = typed;
+    spares = record { each = λ q row own s. subst (λ l. Stands l m.rows q row) (sym last) (subst (λ rs. Stands w.last.handle rs q row) (sym rows) s) };
+    owned = λ h among own. subst (λ rs. Among rs h) rows among;
+  }
+
+  -- and so does what is so of the node
+  pub sits-on : {N : Type 0} (v : Values N) {w m : Core} → OwnsAlike n w m → (o : Option N) → At v w n o → At v m n o
+  sits-on v k None a = λ h among own. a h (k.owned h among own) own
+  sits-on v k (Some x) a = record {
+    typed = k.typed n _ a.typed;
+    names = λ r among.
+        let b = a.names r among in
+        record { row = b.row; stands = k.spares.each r.handle.0 b.row b.owned b.stands; at = b.at; owned = b.owned; fits = b.fits; typed = k.typed _ _ b.typed };
+    once = a.once;
+    owned = λ h among own. a.owned h (k.owned h among own) own;
+  }
+
+pub spares-then : {w m w' : Core} → Spares w m → Spares m w' → Spares w w'
+spares-then a b = record { owns = λ n. owns-then (a.owns n) (b.owns n); holds = λ n. b.holds n ∙ a.holds n }
+
+-- whatever else changes
+pub spares-same : {w w' : Core} → w'.rows ≡ w.rows → SameAt w.cells w'.cells → w'.last.handle ≡ w.last.handle → Spares w w'
+spares-same {w} {w'} rows cells last = record {
+  owns = λ n. owns-same rows last (λ p t is. ap (λ o. if_there (λ (cell : Cell). Some cell.node_type) None o) (cells p) ∙ is);
+  holds = λ n. ap (λ rs. is_some (w'.cells n) && is_in_memory (pins n rs) (key_at w' n)) rows
+      ∙ ap (λ c. is_some c && is_in_memory (pins n w.rows) (if_there (λ (x : Cell). x.key) OptionalDataKey.None c)) (cells n);
+}
+
+pub spares-alike : {w w' : Core} → Alike w w' → Spares w w'
+spares-alike a = spares-same a.rows a.cells (ap (λ (l : Last). l.handle) a.last)
+
+-- the cache may learn a node
+pub spares-cached : {m w' : Core} (kind : Kind) (key : ℕ) (n : NodeNumber) (b : Bool) → Alike (if b then m else with_cached m kind key n) w' → Spares m w'
+spares-cached kind key n true a = spares-alike a
+spares-cached kind key n false a = spares-same a.rows a.cells (ap (λ (l : Last). l.handle) a.last)
+
+-- ---- the pager afterwards
+
+pub spared : {N E : Type 0} (v : Values N) (s s' : PagerState N E) → WellFormed v s → Spares s.core s'.core → ((n : ℕ) → s'.values n ≡ s.values n)
+    → ((n : ℕ) → s'.counts n ≡ pins n s'.core.rows) → IsWhole s'.core → WellFormed v s'
+spared v s s' is spares same =
+    settled s' (λ n. subst (At v s'.core n) (sym (same n)) (sits-on v (spares.owns n) (s.values n) (sits is n))) (λ n. ap is_some (same n) ∙ is.valued n ∙ sym (spares.holds n))
+
+pub stayed : {N E : Type 0} {v : Values N} {s s' : PagerState N E} → WellFormed v s → Spares s.core s'.core → Leaves s.values s' → WellFormed v s'
+stayed {N} {v = v} {s} {s'} is spares left = spared v s s' is spares (λ n. left.swept n ∙ at (s.values n) _ (is.valued n ∙ sym (spares.holds n))) left.counted left.whole
+  where
+    at : (o : Option N) (b : Bool) → is_some o ≡ b → (if b then o else None) ≡ o
+    at x0 x1 e = grind (arith, nat_tests)
+
+-- ---- one more handle
+
+pub sum-mapped : {X : Type 0} (f : X → X) (g h : X → ℕ) (xs : List X) → ((x : X) → Among xs x → g (f x) ≡ h x) → sum_by g (map f xs) ≡ sum_by h xs
+sum-mapped f g h [] each = refl
+sum-mapped f g h (x ∷ xs) each = grind (arith, nat_tests, sum_by-cons, map, sum-mapped f g h xs (λ y among. each y (suc among.0, among.1)))
+
+-- a node that is pinned has its value in memory
+pub pinned-here : (w : Core) (n : ℕ) → 0 < pins n w.rows → is_here w n ≡ true
+pinned-here w n pinned = let some : nat_lt 0 (pins n w.rows) ≡ true = grind (arith, nat_tests) in rw some refl
+
+pub row-here : (w : Core) (h : HandleNumber) (row : HandleRow) → row_at w h ≡ Some row → is_pinning row.mode ≡ true → is_here w row.node.0 ≡ true
+row-here w h row live pinning = pinned-here w row.node.0 (row-pins w h row live pinning)
+
+pub among-either : {X : Type 0} (xs ys : List X) (x : X) → Among (xs ++ ys) x → Among xs x ⊎ Among ys x
+among-either (x ∷ xs) ys r (suc i, is) = elim (among-either xs ys r (i, is)) [ inl a ↦ inl (suc a.0, a.1) | inr b ↦ inr b ]
+among-either x0 ys r x3 = grind (arith, nat_tests)
+
+only-new : (x h : HandleRow) → Among (x ∷ []) h → x ≡ h
+only-new x h (suc i, is) = absurd (cc)
+only-new x h x2 = grind (arith, nat_tests)
+
+module _ (w : Core) (node : NodeNumber) (mode : Mode) (me : Owner) (free : NotValues me) where
+  abbrev new : HandleRow
+  new = row_of (w.last.handle + 1) node mode me
+
+  pub owns-handle : (n : ℕ) → OwnsAlike n w (with_handle w node mode me)
+  owns-handle n = record {
+    typed = λ p t is. is;
+    spares = effects.spares-handle (owner_value n) w node mode me;
+    owned = λ h among own. elim (among-either w.rows (new ∷ []) h among) [
+      | inl old ↦ old
+      | inr is ↦ absurd (free (record { 0 = n }) (ap (λ (x : HandleRow). x.owner) (only-new new h is) ∙ own))
+    ];
+  }
+
+  -- if it pins, its node's value is in memory
+  pub spares-handle : (is_pinning mode ≡ true → is_here w node.0 ≡ true) → Spares w (with_handle w node mode me)
+  spares-handle may = record {
+    owns = owns-handle;
+    holds = λ n. ap (λ p. is_some (w.cells n) && is_in_memory p (key_at w n)) (sum_by_push (λ h. one (is_pin n h)) w.rows new) ∙ (grind (arith, nat_tests, here-at));
+  }
+    where
+      here-at : (n : ℕ) → (node.0 == n) ≡ true → is_pinning mode ≡ true → is_here w n ≡ true
+      here-at n same pinning = subst (λ m. is_here w m ≡ true) (same-number _ _ same) (may pinning)
+
+  pub spares-made : {w' : Core} → (is_pinning mode ≡ true → is_here w node.0 ≡ true) → Alike (with_handle w node mode me) w' → Spares w w'
+  spares-made may a = spares-then (spares-handle may) (spares-alike a)
+
+-- ---- rows that change
+
+-- those that change are no value's, before and afterwards
+module _ (w : Core) (test : HandleRow → Bool) (f : HandleRow → HandleRow) (numbers : (h : HandleRow) → (f h).number ≡ h.number)
+    (free : (h : HandleRow) → Among w.rows h → test h ≡ true → NotValues h.owner × NotValues (f h).owner) where
+  pub owns-changed : {list : List HandleNumber} (n : ℕ) → OwnsAlike n w (record w { rows = changed test f w.rows; list = list })
+  owns-changed n = record {
+    typed = λ p t is. is;
+    spares = record {
+      each = λ q row own s. subst (λ x. Stands w.last.handle (changed test f w.rows) q x) (kept row (among-found q w.rows row s.live) own (test row) refl) (stands-changed test f numbers s);
+    };
+    owned = λ h among own. let a = among-changed (λ x. if test x then f x else x) w.rows h among in back a.0 a.1 h own (test a.0) refl a.2;
+  }
+    where
+      kept : (row : HandleRow) → Among w.rows row → row.owner ≡ owner_value n → (b : Bool) → test row ≡ b → (if b then f row else row) ≡ row
+      kept row among own true is = absurd ((free row among is).0 (record { 0 = n }) own)
+      kept row among own false is = refl
+
+      back : (x : HandleRow) → Among w.rows x → (h : HandleRow) → h.owner ≡ owner_value n → (b : Bool) → test x ≡ b → h ≡ (if b then f x else x) → Among w.rows h
+      back x among h own true is e = absurd ((free x among is).1 (record { 0 = n }) (ap (λ (y : HandleRow). y.owner) (sym e) ∙ own))
+      back x among h own false is e = subst (Among w.rows) (sym e) among
+
+-- handles that aren't values' move to another who is none
+pub spares-moved : (w : Core) (set : ℕ → Bool) (owner : Owner) {list : List HandleNumber} → NotValues owner → AreFree w set → Spares w (record w { rows = moved set owner w.rows; list = list })
+spares-moved w set owner free before = record {
+  owns = owns-changed w (λ h. set h.number.0) to (λ h. refl) (λ h among is. (before h among is, free));
+  holds = λ n. ap (λ p. is_some (w.cells n) && is_in_memory p (key_at w n)) (sum-mapped _ _ _ w.rows (λ h among. same-pin n h (set h.number.0)));
+}
+  where
+    to : HandleRow → HandleRow
+    to h = record h { owner = owner }
+
+    same-pin : (n : ℕ) (h : HandleRow) (b : Bool) → one (is_pin n (if b then to h else h)) ≡ one (is_pin n h)
+    same-pin n h b = grind (arith, nat_tests)
+
+-- the one row of a handle that isn't a value's takes another mode
+module _ (w : Core) (h : HandleNumber) (mode : Mode) (row : HandleRow) (stands : Stands w.last.handle w.rows h.0 row) where
+  abbrev to : HandleRow → HandleRow
+  to x = record x { mode = mode }
+
+  is-row : (x : HandleRow) → Among w.rows x → is_handle h.0 x ≡ true → x ≡ row
+  is-row x among is = stands.only x among (same-number _ _ is)
+
+  pub mode-owns : NotValues row.owner → (n : ℕ) → OwnsAlike n w (with_mode w h mode)
+  mode-owns free = owns-changed w (is_handle h.0) to (λ x. refl) (λ x among is. let f = subst (λ (y : HandleRow). NotValues y.owner) (sym (is-row x among is)) free in (f, f))
+
+  -- other nodes are pinned as often
+  pub mode-others : (n : ℕ) → (row.node.0 == n) ≡ false → pins n (with_mode w h mode).rows ≡ pins n w.rows
+  mode-others n other = sum-mapped _ _ _ w.rows (λ x among. at x among (is_handle h.0 x) refl)
+    where
+      at : (x : HandleRow) → Among w.rows x → (b : Bool) → is_handle h.0 x ≡ b → one (is_pin n (if b then to x else x)) ≡ one (is_pin n x)
+      at x among false e = refl
+      at x among true e = let f : (x.node.0 == n) ≡ false = ap (λ (y : HandleRow). y.node.0 == n) (is-row x among e) ∙ other in rw f refl
+
+  -- its own is pinned, if the mode is one that pins
+  pub mode-here : is_pinning mode ≡ true → is_here (with_mode w h mode) row.node.0 ≡ true
+  mode-here pinning =
+      let number : is_handle h.0 row ≡ true = ap (λ n. n == h.0) (found-number h.0 w.rows row stands.live) ∙ self-number h.0 in
+      row-here (with_mode w h mode) h (to row) (found-after (is_handle h.0) to (λ x. refl) h.0 w.rows row stands.live ∙ ap (λ b. Some (if b then to row else row)) number) pinning
+
+  pub spares-mode : NotValues row.owner → is_pinning mode ≡ true → is_here w row.node.0 ≡ true → Spares w (with_mode w h mode)
+  spares-mode free pinning here = record { owns = mode-owns free; holds = λ n. at n (row.node.0 == n) refl }
+    where
+      at : (n : ℕ) (b : Bool) → (row.node.0 == n) ≡ b → holds_value (with_mode w h mode) n ≡ holds_value w n
+      at n true is = ap (λ b. is_some (w.cells n) && b) (subst (λ k. is_here (with_mode w h mode) k ≡ is_here w k) (same-number _ _ is) (mode-here pinning ∙ sym here))
+      at n false is = ap (λ p. is_some (w.cells n) && is_in_memory p (key_at w n)) (mode-others n is)

@@ -6,8 +6,8 @@ use Rattle.pagable_steps.proofs.Words.{is_shared_kind, is_loose_kind, is_pinned_
 use Rattle.pagable_steps.proofs.Words.{only_handle, Owns, with_mode, with_known, CloneCall, PinCall, LoosenCall, ScheduleCall, TakeCall, ReserveCall, RecallCall, OfferCall, ClearCall, Asked}
 use Rattle.pagable_steps.proofs.Words.{StoreCall, with_worker, with_entry_taken, BeginCall, BeginKeyCall, GetsKnown, Given, from_cache, AskCall, IsWhole, same-number, at-most-sum, counted, one-true}
 use Rattle.pagable_steps.proofs.Words.{NotValues, stands-whole}
-use Rattle.pagable_steps.proofs.{Words.{IsEntered, entered-of}, Owning.found-whole, Parts.{AreFree, Spares, row-here, spares-then, spares-same, spares-alike, spares-handle, spares-made, spares-moved}}
-use Rattle.pagable_steps.proofs.Parts.{spares-mode, mode-here}
+use Rattle.pagable_steps.proofs.{Words.{IsEntered, entered-of}, Owning.{found-whole, AreFree, Spares, row-here, spares-then, spares-same, spares-alike, spares-handle, spares-made, spares-moved}}
+use Rattle.pagable_steps.proofs.Owning.{spares-mode, mode-here}
 
 pub not-load : (l : LoadNumber) → NotValues (Owner.Load l)
 not-load l n e = cc

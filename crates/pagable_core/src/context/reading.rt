@@ -97,6 +97,7 @@ impl<'de, E: Env, B: Reader, R: References<E>> PagableDeserializer<E>
         &mut self.reader
     }
 
+    #[tactic(auto, using(crate::proofs::Taking::taking))]
     fn deserialize_arc(&mut self, kind: Kind) -> Result<ArcRef, Error> {
         let place = self.keys.position();
         match self.keys.next_key() {
@@ -116,6 +117,7 @@ impl<'de, E: Env, B: Reader, R: References<E>> PagableDeserializer<E>
         }
     }
 
+    #[tactic(auto, using(crate::proofs::Taking::within_answers))]
     fn position(&self) -> PagableCursor {
         PagableCursor {
             byte_pos: self.reader.position(),
@@ -123,6 +125,7 @@ impl<'de, E: Env, B: Reader, R: References<E>> PagableDeserializer<E>
         }
     }
 
+    #[tactic(auto, using(crate::proofs::Taking::answers_within))]
     fn seek(&mut self, cursor: PagableCursor) {
         self.reader.set_position(cursor.byte_pos);
         self.keys.set_position(cursor.arc_index);

@@ -35,6 +35,7 @@ impl<E: Env> InMemoryBlobs<E> {
     }
 
     /// How many blobs are stored, each under a key of its own.
+    #[tactic(auto, using(crate::proofs::Counting::counts))]
     pub fn len(&self) -> usize
         ensures { IsCount (⟦<InMemoryBlobs<E> as PagableStorage<E>>⟧.stored self.now) result }
     {
@@ -42,28 +43,11 @@ impl<E: Env> InMemoryBlobs<E> {
     }
 }
 
-/// Whether two texts of bytes are one.
-fn are_same_bytes(left: &[u8], right: &[u8]) -> bool
-    ensures { IsTrue result ↔ (left.now ≡ right.now) }
-{
-    left == right
-}
-
-/// Whether two lists of keys are one.
-fn are_same_keys(left: &[DataKey], right: &[DataKey]) -> bool
-    ensures { IsTrue result ↔ (left.now ≡ right.now) }
-{
-    left == right
-}
-
 /// Whether two blobs are one.
 fn is_same(left: &PagableData, right: &PagableData) -> bool
     ensures { IsTrue result ↔ (blob_of left.now ≡ blob_of right.now) }
 {
-    if !are_same_bytes(left.bytes.as_slice(), right.bytes.as_slice()) {
-        return false;
-    }
-    are_same_keys(left.arcs.as_slice(), right.arcs.as_slice())
+    left == right
 }
 
 /// What stands under a blob's key.

@@ -19,6 +19,7 @@ impl KeyHash for WeighHash {
 
     ghost digest = { weigh_hash };
 
+    #[tactic(auto, using(crate::proofs::Weighing::is_weighed_none))]
     fn new() -> WeighHash {
         WeighHash { place: 1, sum: 0 }
     }

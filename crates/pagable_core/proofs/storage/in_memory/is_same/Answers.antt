@@ -1,0 +1,11 @@
+use Rattle.std.proofs.{Common.{ap, sym, ◌∙◌, refl}, lemmas.Bool.and_parts, lemmas.Bool.Decides.Decides-eqb, lemmas.Slice.Eq.slice_eq-Decides}
+use Rattle.pagable_model.specs.Blob.{Blob}
+use Rattle.pagable_core.proofs.storage.in_memory.is_same.Goals as goal
+
+pub returns : goal.returns
+returns c =
+    let bytes = slice_eq-Decides Decides-eqb c.args.left.now.bytes.items c.args.right.now.bytes.items _ refl in
+    let keys = slice_eq-Decides Decides-eqb c.args.left.now.arcs.items c.args.right.now.arcs.items _ refl in (
+      λ is. let both = and_parts _ _ (sym c.eq.ensures ∙ is) in rw (bytes.0 both.0, keys.0 both.1) refl,
+      λ same. c.eq.ensures ∙ rw (bytes.1 (ap (λ (b : Blob). b.bytes) same), keys.1 (ap (λ (b : Blob). b.keys) same)) refl,
+    )
