@@ -1,5 +1,5 @@
 -- Where no node falls any more, all has gone that had to go, and no more. Values that go as nodes fall.
-use Rattle.pagable_tables.proofs.Words.{◌≡◌, ℕ, ◌+◌, ◌≤◌, ◌&&◌, Bool, true, false, not, if◌then◌else◌, List, [], ◌∷◌, sum_by, refl, ap, sym, ◌∙◌, subst, arith, inl, inr, Option, None, ◌⊎◌}
+use Rattle.pagable_tables.proofs.Words.{IsLeast, ◌≡◌, ℕ, ◌+◌, ◌≤◌, ◌&&◌, Bool, true, false, not, if◌then◌else◌, List, [], ◌∷◌, sum_by, refl, ap, sym, ◌∙◌, subst, arith, inl, inr, Option, None, ◌⊎◌}
 use Rattle.pagable_tables.proofs.Words.{is_some, nat_lt, nat_eq, Result, nat_tests, sum_by-cons, sum_by-append, Error, OptionalDataKey, ArcRef, HandleRow, one, times, if_there, is_at}
 use Rattle.pagable_tables.proofs.Words.{is_pin, is_owned_by, owner_value, held, pins, has_key, Core, Cell, greatest, Alike, left_rows, IsClosed, is_keyed, MustList, TellsListing}
 use Rattle.pagable_tables.proofs.Words.{CannotList, IsListRefusal, Falls, fallen, pins_outside, held_outside, Counts, Holdings, live, counts_at, refs_at, Fits, IsFalling, Right, holds_in, falls_in}
@@ -70,17 +70,9 @@ module _ (before w : Core) (given : ℕ → Bool) (lists : Bool) (t : Holdings) 
   -- what the world says of a cascade
   pub ended : Falls before w given (told_by t.unlisted) (with_tables w t)
   ended =
-      record {
-        gone = f.gone;
-        entries = f.entries;
-        set = record { holds = f.holds; closed = closed; least = λ s has is. f.least s f.entries (λ n none. let a = counted (is_at n) in omega arith) has is };
-        new = f.new;
-        only = f.only;
-        each = each-listed before w (with_tables w t) f.entries (told_by t.unlisted) f.tells;
-        tells = f.tells;
-        within = subst (λ k. k ≤ greatest) f.last f.within;
-        leaves = leaves;
-      }
+      let set : IsLeast w.rows (is_keyed w) f.entries given f.gone = record { holds = f.holds; closed = closed; least = λ s has is. f.least s f.entries (λ n none. let a = counted (is_at n) in omega arith) has is } in
+      let within : w.last.handle + length f.entries ≤ greatest = subst (λ k. k ≤ greatest) f.last f.within in
+      grind (arith, nat_tests, each-listed, leaves)
 
 pub valued-le : (rows : List HandleRow) → valued rows ≤ length rows
 valued-le rows = omega (arith, ones rows, sum_by-le-sum_by (λ (h : HandleRow). one (is_valued h.owner)) (λ h. 1) rows (λ h. one-le (is_valued h.owner)))

@@ -2,7 +2,7 @@
 use Rattle.pagable_tables.proofs.Words.{◌≡◌, ℕ, ◌+◌, ◌<◌, ◌≤◌, ◌==◌, ◌&&◌, ◌||◌, Bool, true, false, not, if◌then◌else◌, List, [], ◌∷◌, ◌++◌, suc, zero, filter, length, map, None, refl, ap, sym, ◌∙◌}
 use Rattle.pagable_tables.proofs.Words.{subst, arith, Option, Result, nat_lt, vec_capacity, nat_tests, append-nil, sum_by-cons, sum_by-append, sum_by_push, Error, HandleNumber, HandleRow, Owner}
 use Rattle.pagable_tables.proofs.Words.{Blob, Among, one, times, if_there, is_at, is_handle, is_owned_by, find_row, held, Core, FallsAnyhow, nobody, TellsListing, is_owned_in, Holdings}
-use Rattle.pagable_tables.proofs.{Words.{Tables, core_of, live, told_by, SoFar, entered, with_list, AreEntries, IsApart}, keeps.Rows.{found-so, counted, only-row}, Begun.{begins, begun, shut-then}}
+use Rattle.pagable_tables.proofs.{Words.{Tables, core_of, live, SoFar, entered, with_list, AreEntries, IsApart}, keeps.Rows.{found-so, counted, only-row}, Begun.{begins, begun, shut-then}}
 use Rattle.pagable_tables.{proofs.{Left.{and_one, kept-more}, Regiven.{found-left, regiven}, Bits.one-le}, specs.Core.IsWhole}
 use Rattle.pagable_world.specs.Calls.{shut as shut_world}
 use Rattle.pagable_world.specs.Pager as pager
@@ -53,35 +53,20 @@ module _ {before w : Core} {given : ℕ → Bool} {t : Holdings} (f : SoFar befo
 tells-shut : (before w w' u u' : Core) (entries : List HandleRow) (r : Result (Unit {0}) Error) → w.closed ≡ true → u.closed ≡ true → TellsListing before w entries r w' → TellsListing before u entries r u'
 tells-shut before w w' u u' entries x6 a b tells = grind (arith, nat_tests)
 
+-- the list's handles of one number
+abbrev lists : ℕ → HandleRow → Bool
+lists q h = is_handle q h && is_owned_by Owner.List h
+
 -- the last entries leave the list
 pub unlist : (before w : Core) (given : ℕ → Bool) (t t' : Holdings) (last : List HandleNumber) → SoFar before (with_list w t.list.items) given false t → t' ≡ record t { list = t'.list }
     → t.list.items ≡ t'.list.items ++ last → vec_capacity t'.list ≡ vec_capacity t.list → SoFar before (with_list w t'.list.items) given false t'
 unlist before w given t t' last f same items capacity =
-    subst (SoFar before (with_list w t'.list.items) given false) (sym same)
-    (record {
-      begins = record {
-        open_storage = f.begins.open_storage;
-        fewer = f.begins.fewer;
-        shared = f.begins.shared;
-        uniform = f.begins.uniform;
-        listed = λ q. let a = f.begins.listed q in let b = ap (entered q) items in let c = sum_by-append (λ (h : HandleNumber). one (h.0 == q)) t'.list.items last in omega arith;
-      };
-      gone = f.gone;
-      entries = f.entries;
-      rows = f.rows;
-      list = front-kept (λ (q : HandleNumber). not (f.gone q.0)) t'.list.items last (subst (λ l. l ≡ filter (λ (q : HandleNumber). not (f.gone q.0)) l) items all)
-          ∙ sym (append-nil _) ∙ ap (λ es. filter (λ (q : HandleNumber). not (f.gone q.0)) t'.list.items ++ map (λ (h : HandleRow). h.number) es) (sym (none-came f));
-      last = f.last;
-      within = f.within;
-      places = record { handles = f.places.handles; entries = let a = f.places.entries in omega arith };
-      cells = f.cells;
-      holds = f.holds;
-      least = f.least;
-      new = f.new;
-      only = λ n some. let e : true ≡ false = sym (shut f) ∙ (f.only n some).0.stands_open in absurd (cc);
-      tells = tells-shut before (with_list w t.list.items) _ _ _ f.entries (told_by t.unlisted) (shut f) (shut f) f.tells;
-      few = f.few;
-    })
+    let listed : (q : ℕ) → entered q t'.list.items ≤ times (lists q) w.rows = λ q.
+    let a = f.begins.listed q in let b = ap (entered q) items in let c = sum_by-append (λ (h : HandleNumber). one (h.0 == q)) t'.list.items last in omega arith in
+    let list : t'.list.items ≡ filter (λ (q : HandleNumber). not (f.gone q.0)) t'.list.items ++ map (λ (h : HandleRow). h.number) f.entries =
+    front-kept (λ (q : HandleNumber). not (f.gone q.0)) t'.list.items last (subst (λ l. l ≡ filter (λ (q : HandleNumber). not (f.gone q.0)) l) items all)
+    ∙ sym (append-nil _) ∙ ap (λ es. filter (λ (q : HandleNumber). not (f.gone q.0)) t'.list.items ++ map (λ (h : HandleRow). h.number) es) (sym (none-came f)) in
+    subst (SoFar before (with_list w t'.list.items) given false) (sym same) (grind (arith, nat_tests, shut f, none-came f, tells-shut))
   where
     all : t.list.items ≡ filter (λ (q : HandleNumber). not (f.gone q.0)) t.list.items
     all = f.list ∙ ap (λ es. filter (λ (q : HandleNumber). not (f.gone q.0)) t.list.items ++ map (λ (h : HandleRow). h.number) es) (none-came f) ∙ append-nil _
@@ -113,10 +98,6 @@ one-given-up before w t list left x le f = regiven before w (λ q. given_up list
 
     more : (r : ℕ) → (given_up list (left ++ x ∷ []) r || r == x.0) ≡ true → given_up list left r ≡ true
     more r e = sym (same r) ∙ e
-
--- the list's handles of one number
-abbrev lists : ℕ → HandleRow → Bool
-lists q h = is_handle q h && is_owned_by Owner.List h
 
 -- the list of a whole world has each of its entries once, and owns it
 pub are-entries : {w : Core} → pager.IsWhole w → AreEntries w

@@ -61,12 +61,12 @@ all-named w o hs p x zero' is = is ∙ ap (λ p. named_fault w o (seen hs p) (dr
 pub moved-same : (s s' : ℕ → Bool) (o : Owner) (rows : List HandleRow) → ((q : ℕ) → s q ≡ s' q) → moved s o rows ≡ moved s' o rows
 moved-same s s' o rows same = ap (λ (s : ℕ → Bool). moved s o rows) (λ i q. same q i)
 
-moved-none : (s : ℕ → Bool) (o : Owner) (rows : List HandleRow) → ((q : ℕ) → s q ≡ false) → rows ≡ moved s o rows
-moved-none s o [] none = refl
-moved-none s o (x ∷ xs) none = ap (λ r. x ∷ r) (moved-none s o xs none) ∙ sym (ap (λ b. (if b then record x { owner = o } else x) ∷ moved s o xs) (none x.number.0))
+pub moved-unless : (s : ℕ → Bool) (o : Owner) (rows : List HandleRow) → ((q : ℕ) → s q ≡ false) → rows ≡ moved s o rows
+moved-unless s o [] none = refl
+moved-unless s o (x ∷ xs) none = ap (λ r. x ∷ r) (moved-unless s o xs none) ∙ sym (ap (λ b. (if b then record x { owner = o } else x) ∷ moved s o xs) (none x.number.0))
 
 pub none-moved : (hs : List HandleNumber) (o : Owner) (rows : List HandleRow) → rows ≡ moved (is_in (seen hs 0)) o rows
-none-moved hs o rows = moved-none (is_in (seen hs 0)) o rows (in-none hs)
+none-moved hs o rows = moved-unless (is_in (seen hs 0)) o rows (in-none hs)
 
 abbrev to : (ℕ → Bool) → Owner → HandleRow → HandleRow
 to s o row = if s row.number.0 then record row { owner = o } else row

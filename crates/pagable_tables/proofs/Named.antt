@@ -1,4 +1,5 @@
 -- Handles that references name come to another owner.
+use Rattle.pagable_tables.proofs.Handed.{moved-unless}
 use Rattle.pagable_tables.proofs.Words.{Bool, SameAt}
 use Rattle.pagable_tables.proofs.Words.{◌≡◌, ℕ, ◌+◌, ◌<◌, ◌≤◌, ◌==◌, ◌||◌, true, false, List, [], ◌∷◌, ◌++◌, take, drop, drop-cons, get_or, length, add-one, refl, ap, sym, ◌∙◌, arith, Some, None}
 use Rattle.pagable_tables.proofs.Words.{nat_tests, ◌≢◌, drop_all, take-suc, Error, ArcRef, HandleNumber, HandleRow, Owner, is_in, or_else, find_row, Core, reference_fault, references_fault}
@@ -10,10 +11,12 @@ unfolding find_row
 moved-none h owner [] is = refl
 moved-none h owner (x ∷ xs) is = grind (arith, nat_tests, moved-none h owner xs)
 
-pub moved-nobody : (owner : Owner) (rows : List HandleRow) → moved (is_named_by []) owner rows ≡ rows
+pub named-none : (q : ℕ) → is_named_by [] q ≡ false
 unfolding is_named_by
-moved-nobody owner [] = refl
-moved-nobody owner (x ∷ xs) = ap (λ l. x ∷ l) (moved-nobody owner xs)
+named-none q = refl
+
+pub moved-nobody : (owner : Owner) (rows : List HandleRow) → moved (is_named_by []) owner rows ≡ rows
+moved-nobody owner rows = sym (moved-unless (is_named_by []) owner rows named-none)
 
 pub named-push : (rs : List ArcRef) (r : ArcRef) (q : ℕ) → is_named_by (rs ++ r ∷ []) q ≡ (r.handle.0 == q) || is_named_by rs q
 unfolding is_named_by
@@ -57,10 +60,6 @@ pub above-named : (rs : List ArcRef) (i : ℕ) (d : ArcRef) (q : ℕ) → (get_o
 above-named rs i d q less lt before =
     let a : ((get_or rs i d).handle.0 == q) ≡ false = grind (arith, nat_tests) in
     named-take rs i d q lt ∙ ap (λ b. b || is_named_by (take i rs) q) a ∙ before
-
-pub named-none : (q : ℕ) → is_named_by [] q ≡ false
-unfolding is_named_by
-named-none q = refl
 
 pub seen-more : (seen : List ℕ) (rs : List ArcRef) (i : ℕ) (d : ArcRef) → i < length rs → ((q : ℕ) → is_in seen q ≡ is_named_by (take i rs) q) → (q : ℕ) → is_in ((get_or rs i d).handle.0 ∷ seen) q ≡ is_named_by (take (i + 1) rs) q
 unfolding is_in

@@ -1,4 +1,5 @@
 -- What was given is told by another set. Handles of a load that are left are those that it had and that haven't gone.
+use Rattle.pagable_tables.proofs.Words.{IsWithin, IsClosed, is_keyed, held}
 use Rattle.pagable_tables.proofs.Words.{◌≡◌, ℕ, ◌≤◌, ◌==◌, ◌&&◌, ◌||◌, Bool, true, false, not, if◌then◌else◌, List, [], ◌∷◌, ◌++◌, refl, ap, sym, ◌∙◌, arith, ◌+◌, nat_tests, LoadNumber, HandleRow}
 use Rattle.pagable_tables.proofs.{Words.{Owner, one, is_handle, is_owner, is_owned_by, find_row, Core, left_rows, AreNewEntries, is_owned_in, Holdings, live, SoFar, passes_in}, Left.and_one}
 use Rattle.pagable_tables.proofs.{Next.within-less, Bits.{and-false, had}}
@@ -12,23 +13,10 @@ less-where a b s h = grind (arith, nat_tests)
 -- a set that has what was given, and no more but what has gone
 pub regiven : (before w : Core) (given given' : ℕ → Bool) (lists : Bool) (t : Holdings) (f : SoFar before w given lists t) → ((r : ℕ) → given' r ≡ true → (given r || f.gone r) ≡ true) → ((r : ℕ) → given r ≡ true → given' r ≡ true) → SoFar before w given' lists t
 regiven before w given given' lists t f less more =
-    record {
-      begins = f.begins;
-      gone = f.gone;
-      entries = f.entries;
-      rows = f.rows;
-      list = f.list;
-      last = f.last;
-      within = f.within;
-      places = f.places;
-      cells = f.cells;
-      holds = within-less given' f.gone given f.gone w.rows (λ r. less-unless (given' r) (f.gone r) (given r) (less r)) f.holds;
-      least = λ s final bare has closed. f.least s final bare (within-less given s given' s w.rows (λ r. less-where (given r) (given' r) (s r) (more r)) has) closed;
-      new = f.new;
-      only = f.only;
-      tells = f.tells;
-      few = f.few;
-    }
+    let holds : IsWithin w.rows given' f.gone = within-less given' f.gone given f.gone w.rows (λ r. less-unless (given' r) (f.gone r) (given r) (less r)) f.holds in
+    let least : (s : ℕ → Bool) (final : List HandleRow) → ((n : ℕ) → held n (live t.handles.places.items) ≡ 0 → held n final ≡ 0) → IsWithin w.rows given' s → IsClosed w.rows (is_keyed w) final s → IsWithin w.rows f.gone s =
+    λ s final bare has closed. f.least s final bare (within-less given s given' s w.rows (λ r. less-where (given r) (given' r) (s r) (more r)) has) closed in
+    grind (arith, nat_tests)
 
 -- whether this one owns the handle of this number
 abbrev pub owned : Owner → ℕ → List HandleRow → Bool

@@ -1,4 +1,5 @@
 -- Calls on the cache and on room keep the world whole.
+use Rattle.pagable_tables.proofs.keeps.Kept.{GoOn}
 use Rattle.pagable_tables.proofs.Words.{◌&&◌, ◌<◌, ◌==◌, ◌∙◌, ◌≡◌, ArePlaced, Bool, ClearCall, Core, Err, Error, HandleNumber, IsEntryWhole, IsWhole, Kind, MayHold, Mode, NodeNumber, None}
 use Rattle.pagable_tables.proofs.Words.{OfferCall, Ok, Option, Owner, RecallCall, ReserveCall, Result, Some, Suits, arith, false, fits_mode, greatest, if◌then◌else◌, inl, inr, is_shared}
 use Rattle.pagable_tables.proofs.{Words.{is_shared_kind, is_some, mode_of, nat_tests, refl, sym, true, type_of, usable, with_cached, with_known, ℕ}, keeps.Comes.{beside, handle-on, suits-like}}
@@ -39,17 +40,9 @@ recall-whole me kind key x3 whole holder call placed = grind (arith, nat_tests, 
 
 pub cached-whole : {w : Core} (kind : Kind) (key : ℕ) (n : NodeNumber) → IsWhole w → w.closed ≡ false → IsEntryWhole w kind.0 n.0 → IsWhole (with_cached w kind key n)
 cached-whole {w} kind key n whole stands_open entry =
-    keeps-whole whole (record {
-      on = same-rows whole refl (λ n. refl) refl refl (omega arith);
-      within = whole.handles.within;
-      places = whole.handles.places;
-      listed = whole.owners_there.listed;
-      owners = is-in whole;
-      loads = loads-stay whole (λ v at. at);
-      cache = λ k q m is. at k q m (k == kind.0) (q == key) refl is;
-      workers = whole.workers_numbered;
-      shut = λ closed. let f : true ≡ false = sym closed ∙ stands_open in absurd (cc);
-    })
+    let on : GoOn w (with_cached w kind key n) = same-rows whole refl (λ m. refl) refl refl (omega arith) in
+    let known : (k q m : ℕ) → (with_cached w kind key n).cache k q ≡ Some m → IsEntryWhole w k m = λ k q m is. at k q m (k == kind.0) (q == key) refl is in
+    keeps-whole whole (grind (arith, nat_tests, is-in whole, loads-stay))
   where
     at : (k q m : ℕ) (a b : Bool) → (k == kind.0) ≡ a → (if a && b then Some n.0 else w.cache k q) ≡ Some m → IsEntryWhole w k m
     at k q m b3 b4 e is = grind (arith, nat_tests)

@@ -1,5 +1,6 @@
 -- Calls on loads keep the world whole.
-use Rattle.pagable_tables.proofs.Words.{◌+◌, ◌<◌, ◌==◌, ◌∙◌, ◌≡◌, ◌⊎◌, ArePlaced, BeginCall, BeginKeyCall, Beginning, Core, Err, Error, HandleNumber, HandleRow, IsNextLoad, IsRootWhole, IsWhole}
+use Rattle.pagable_tables.proofs.Unpinning.{updated-here}
+use Rattle.pagable_tables.proofs.Words.{◌+◌, ◌<◌, ◌∙◌, ◌≡◌, ◌⊎◌, ArePlaced, BeginCall, BeginKeyCall, Beginning, Core, Err, Error, HandleNumber, HandleRow, IsNextLoad, IsRootWhole, IsWhole}
 use Rattle.pagable_tables.proofs.Words.{MayHold, MayOwnLoad, Mode, NodeNumber, Ok, OpenLoad, Option, Owner, Owns, Result, Root, Some, ap, arith, greatest, inl, inr, is_loose, is_some, nat_tests}
 use Rattle.pagable_tables.proofs.{Words.{of_cell, of_key, refl, subst, sym, true, type_at, updated, with_handle, with_load, ℕ}, keeps.Comes.beside, keeps.HandleCalls.loose-unshared}
 use Rattle.pagable_tables.proofs.{keeps.Kept.{IsNewLoad, in-still, is-in, keeps-whole, loads-stay, may-own, same-rows, there-then}, keeps.Rows.found-among, keeps.Told.{alike-whole, roomy}}
@@ -13,9 +14,6 @@ at-updated {X} l new f q x is = grind (arith, nat_tests)
 
 some-updated : {X : Type 0} (l : ℕ) (new : X) (f : ℕ → Option X) (q : ℕ) → is_some (f q) ≡ true → is_some (updated l (Some new) f q) ≡ true
 some-updated {X} l new f q is = grind (arith, nat_tests)
-
-is-updated : {X : Type 0} (l : ℕ) (new : Option X) (f : ℕ → Option X) → updated l new f l ≡ new
-is-updated l new f = let e : (l == l) ≡ true = grind (arith, nat_tests) in rw e refl
 
 pub loaded-whole : {w : Core} (key : ℕ) (root : Root) (me : Owner) → IsWhole w → MayOwnLoad w me → w.last.load < greatest
     → ((node : NodeNumber) (t : ℕ) (h : HandleNumber) → root ≡ of_cell node t h → IsRootWhole w node t h) → IsWhole (with_load w key root me)
@@ -69,7 +67,7 @@ begin-whole {w} {w'} me h (Ok (Beginning.Load l key)) whole may call placed =
         let new : OpenLoad = record { owner = me; key = key; root = of_cell row.node t h } in
         beside (loaded-whole key new.root me whole may next.is_left (λ node t2 k is. named row t root node t2 k is)) row.node Mode.LooseUnpinned (Owner.Load l)
         (record { row = row; there = found.0; at = refl; same = loose-unshared row.mode owns.as_asked })
-        (ap (λ n. is_some (updated (w.last.load + 1) (Some new) w.loads n)) next.above ∙ ap is_some (is-updated (w.last.load + 1) (Some new) w.loads)) left
+        (ap (λ n. is_some (updated (w.last.load + 1) (Some new) w.loads n)) next.above ∙ ap is_some (updated-here (w.last.load + 1) (Some new) w.loads)) left
       where
         named : (row : HandleRow) (t : ℕ) → IsRootWhole w row.node t h → (node : NodeNumber) (t2 : ℕ) (k : HandleNumber) → of_cell row.node t h ≡ of_cell node t2 k → IsRootWhole w node t2 k
         named row t root node t2 k is = grind (arith, nat_tests)

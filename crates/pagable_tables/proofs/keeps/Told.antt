@@ -1,4 +1,5 @@
 -- A world that is told alike, or whose rows are changed one by one, stays whole, while rows and list are in their places.
+use Rattle.pagable_tables.proofs.keeps.Kept.{GoOn}
 use Rattle.pagable_tables.proofs.Words.{◌&&◌, ◌==◌, ◌∙◌, ◌≡◌, Alike, Among, ArePlaced, Bool, Core, HandleNumber, HandleRow, IsWhole, Last, List, Mode, NodeNumber, None, Option, Owner, SameAt, Some}
 use Rattle.pagable_tables.proofs.Words.{[], ap, arith, changed, false, if◌then◌else◌, inl, is_at, is_handle, is_loose, is_owned_by, is_shared, is_some, length, nat_lt, nat_tests, one, refl, row_at}
 use Rattle.pagable_tables.proofs.{Words.{subst, sym, times, true, with_mode, ℕ}, keeps.Kept.{HasLike, IsIn, IsOld, in-still, is-in, keeps-whole, loads-stay, may-own, other-mode, same-rows}}
@@ -86,26 +87,18 @@ module _ {w : Core} (whole : IsWhole w) (test : HandleRow → Bool) (f : HandleR
   pub turned-whole : ((q : ℕ) → times (λ (h : HandleNumber). h.0 == q) list ≡ times (λ h. is_handle q h && is_owned_by Owner.List h) (changed test f w.rows))
       → ((x : HandleRow) → Among w.rows x → test x ≡ true → IsIn w (f x).mode (f x).owner) → (w.closed ≡ true → list ≡ []) → IsWhole turned
   turned-whole listed owners none =
-      keeps-whole whole (record {
-        on = record {
-          last = (omega arith, omega arith, omega arith);
-          ordered = ordered-map to w.rows to-number whole.handles.ordered;
-          fresh = false;
-          rows = λ h among. inl (among-changed test f (IsOld w.rows) w.rows h among
-              (λ x there e. record { row = x; there = there; number = sym (number x); node = sym (node x); shared = sym (shared x there e); loose = loose x there e }) (λ x there e. stays-old there));
-          live = λ n. whole.handles.live n ∙ ap (nat_lt 0) (sym (sum-map (λ h. one (is_at n h)) (λ h. one (is_at n h)) to w.rows (λ h among. ap (λ (k : NodeNumber). one (k.0 == n)) (to-node h))));
-          typed = λ n t few is. is;
-          keyed = λ n like few none. none;
-        };
-        within = whole.handles.within;
-        places = (omega arith, omega arith);
-        listed = listed;
-        owners = λ h among. among-changed test f (λ y. IsIn w y.mode y.owner) w.rows h among owners (λ x there e. is-in whole x there);
-        loads = loads-stay whole (λ v at. at);
-        cache = whole.cache;
-        workers = whole.workers_numbered;
-        shut = λ so. (none so, (whole.shut so).1);
-      })
+      let on : GoOn w turned = record {
+        last = (omega arith, omega arith, omega arith);
+        ordered = ordered-map to w.rows to-number whole.handles.ordered;
+        fresh = false;
+        rows = λ h among. inl (among-changed test f (IsOld w.rows) w.rows h among
+            (λ x there e. record { row = x; there = there; number = sym (number x); node = sym (node x); shared = sym (shared x there e); loose = loose x there e }) (λ x there e. stays-old there));
+        live = λ n. whole.handles.live n ∙ ap (nat_lt 0) (sym (sum-map (λ h. one (is_at n h)) (λ h. one (is_at n h)) to w.rows (λ h among. ap (λ (k : NodeNumber). one (k.0 == n)) (to-node h))));
+        typed = λ n t few is. is;
+        keyed = λ n like few none. none;
+      } in
+      let there : (h : HandleRow) → Among turned.rows h → IsIn w h.mode h.owner = λ h among. among-changed test f (λ y. IsIn w y.mode y.owner) w.rows h among owners (λ x there e. is-in whole x there) in
+      keeps-whole whole (grind (arith, nat_tests, listed, loads-stay))
 
 -- ---- another mode
 

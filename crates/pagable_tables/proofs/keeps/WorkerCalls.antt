@@ -1,4 +1,5 @@
 -- A worker that begins or ends keeps the world whole.
+use Rattle.pagable_tables.proofs.keeps.Kept.{GoOn}
 use Rattle.pagable_tables.proofs.Words.{◌+◌, ◌==◌, ◌||◌, ◌∙◌, ◌≡◌, ◌≤◌, ◌⊎◌, Among, ArePlaced, Bool, Core, HandleRow, IsWhole, LoadNumber, MayOwnLoad, None, OpenLoad, Option, Owner, Some, ap}
 use Rattle.pagable_tables.proofs.Words.{arith, false, if_there, if◌then◌else◌, inl, inr, is_owner, is_some, is_workers, is_workers_load, nat_tests, owner_worker, refl, true, with_worker}
 use Rattle.pagable_tables.proofs.{Words.{without_worker, ℕ}, keeps.Fallen.{falls-lost, opened}, keeps.Kept.{IsIn, in-still, is-in, keeps-whole, loads-stay, same-rows}, keeps.Rows.found-so}
@@ -9,17 +10,9 @@ use Rattle.pagable_world.specs.Workers.{WorkerEnds, is_load_of}
 
 pub worker-whole : {w : Core} → IsWhole w → IsWhole (with_worker w)
 worker-whole {w} whole =
-    keeps-whole whole (record {
-      on = same-rows whole refl (λ n. refl) refl refl (omega arith);
-      within = whole.handles.within;
-      places = whole.handles.places;
-      listed = whole.owners_there.listed;
-      owners = λ h among. in-still w (with_worker w) (λ l is. is) still h.mode h.owner (is-in whole h among);
-      loads = loads-stay whole still;
-      cache = whole.cache;
-      workers = λ v is. numbered v (v == w.last.worker + 1) refl is;
-      shut = whole.shut;
-    })
+    let on : GoOn w (with_worker w) = same-rows whole refl (λ n. refl) refl refl (omega arith) in
+    let owners : (h : HandleRow) → Among w.rows h → IsIn (with_worker w) h.mode h.owner = λ h among. in-still w (with_worker w) (λ l is. is) still h.mode h.owner (is-in whole h among) in
+    keeps-whole whole (grind (arith, nat_tests, loads-stay, still, numbered))
   where
     still : (v : ℕ) → w.workers v ≡ true → (with_worker w).workers v ≡ true
     still v is = grind (arith, nat_tests)
