@@ -28,6 +28,8 @@ pub use Rattle.pagable_model.specs.Tagged
 pub use Rattle.pagable_model.specs.Writing
 pub use Rattle.pagable_model.specs.declared.error.Error
 pub use Rattle.pagable_model.specs.declared.numbers.ArcRef
+pub use Rattle.pagable_traits.specs.InNodes
+pub use Rattle.pagable_traits.specs.KeyLaws
 pub use Rattle.pagable_traits.specs.Meanings
 pub use Rattle.pagable_traits.specs.OwnCauses
 pub use Rattle.pagable_traits.specs.ReadBack

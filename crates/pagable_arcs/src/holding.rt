@@ -3,7 +3,7 @@
 ghost use Rattle.std.{specs.Arc.arc_value, specs.Cmp.Rules.comparing, specs.Prelude.{◌≡◌, ◌≢◌, ⊤, nat_eq, Some, option_and_then, IfOk, IfErr}, proofs.Common.rules};
 ghost use Rattle.pagable_model.specs.{Shape.reference as reference_shape, Reading.read, Standing.{handles_at, GivesSome, Is, MovesOn}};
 ghost use Rattle.pagable_arcs.specs.References.{holding_kind, holding, holding_means, reference_has_one_form, reference_is_read, reads_unlent, unlent};
-ghost use Rattle.pagable_traits.specs.{Meanings.{exactly}, OwnCauses.{writes_memory}};
+ghost use Rattle.pagable_traits.specs.Meanings.{exactly};
 
 use crate::plain::read_reference;
 use pagable_codec::{
@@ -184,8 +184,6 @@ impl<E: Env, T: OfNode<E>, const PINS: bool> ReadBack<E> for HoldingArc<T, PINS>
 }
 
 impl<E: Env, T: OfNode<E>, const PINS: bool> PagableSerialize<E> for HoldingArc<T, PINS> {
-    ghost write_causes = { writes_memory };
-
     #[tactic(auto, using(pagable_codec::proofs::Writing::parts, pagable_codec::proofs::Writing::references))]
     fn pagable_serialize<S: PagableSerializer<E>>(&self, serializer: &mut S) -> Result<(), Error> {
         serializer.serialize_arc(self.reference::<E>())

@@ -3,7 +3,7 @@
 ghost use Rattle.std.specs.Prelude.{◌≡◌, ◌≢◌, IfSome, IfNone, nat_eq};
 ghost use Rattle.pagable_model.specs.Shape.{reference as reference_shape};
 ghost use Rattle.pagable_arcs.specs.References.{loose, loose_kind, loose_means, reference_is_read, reference_has_one_form};
-ghost use Rattle.pagable_traits.specs.{Meanings.{exactly}, OwnCauses.{reads_never, writes_memory}};
+ghost use Rattle.pagable_traits.specs.Meanings.{exactly};
 
 use pagable_codec::{
     ArcRef, Env, HandleNumber, Kind, NodeNumber, OfNode, PagableDeserializer, PagableSerializer,
@@ -89,8 +89,6 @@ impl<E: Env, T: OfNode<E>> ReadBack<E> for PagableArc<T> {
 }
 
 impl<E: Env, T: OfNode<E>> PagableSerialize<E> for PagableArc<T> {
-    ghost write_causes = { writes_memory };
-
     #[tactic(auto, using(pagable_codec::proofs::Writing::parts, pagable_codec::proofs::Writing::references))]
     fn pagable_serialize<S: PagableSerializer<E>>(&self, serializer: &mut S) -> Result<(), Error> {
         serializer.serialize_arc(self.reference::<E>())
@@ -98,8 +96,6 @@ impl<E: Env, T: OfNode<E>> PagableSerialize<E> for PagableArc<T> {
 }
 
 impl<'de, E: Env, T: OfNode<E>> PagableDeserialize<'de, E> for PagableArc<T> {
-    ghost read_causes = { reads_never };
-
     #[tactic(auto, unfolding(pagable_model::specs::Reading::read, pagable_model::specs::Reading::read_with), using(pagable_codec::proofs::Reading::parts))]
     fn pagable_deserialize<D: PagableDeserializer<E>>(
         _alloc: Global,

@@ -4,7 +4,7 @@ ghost use Rattle.std.specs.Prelude.{◌≡◌, ◌≢◌, OnOk, IfOk, IfErr, IfS
 ghost use Rattle.pagable_model.specs.{Meaning.reference as meaning_of, Shape.reference as reference_shape, Gives.{memory, never}};
 ghost use Rattle.pagable_model.specs.{Reading.read, Standing.{handles_at, GivesSome, Is, MovesOn}, Writing.{nesting, Grows, Refused, WritesSome}};
 ghost use Rattle.pagable_arcs.specs.{Plain.{plain, plain_means}, References.{reference_has_one_form, reference_is_read}};
-ghost use Rattle.pagable_traits.specs.{Meanings.{exactly}, OwnCauses.{reads_never, writes_memory}};
+ghost use Rattle.pagable_traits.specs.Meanings.{exactly};
 
 use pagable_codec::{
     ArcRef, Env, HandleNumber, Kind, NodeNumber, PagableDeserializer, PagableSerializer,
@@ -102,16 +102,12 @@ impl<E: Env, const KIND: u32> ReadBack<E> for OfKind<KIND> {
 }
 
 impl<E: Env, const KIND: u32> PagableSerialize<E> for OfKind<KIND> {
-    ghost write_causes = { writes_memory };
-
     fn pagable_serialize<S: PagableSerializer<E>>(&self, serializer: &mut S) -> Result<(), Error> {
         write_reference(self.reference(), serializer)
     }
 }
 
 impl<'de, E: Env, const KIND: u32> PagableDeserialize<'de, E> for OfKind<KIND> {
-    ghost read_causes = { reads_never };
-
     #[tactic(auto, using(crate::proofs::Meant::meant))]
     fn pagable_deserialize<D: PagableDeserializer<E>>(
         _alloc: Global,

@@ -1,10 +1,10 @@
 -- Expressions: a number, or two expressions one level further down.
 use Rattle.std.{proofs.Common.{◌≡◌, ℕ, ◌+◌, ◌-◌, ◌<◌, ◌≤◌, Bool, true, false, [], ◌∷◌, ◌++◌, ◌∙◌, arith, refl, Result, Ok, Err, inl, inr}, specs.Int.w64, specs.Prelude.{List, OnOk, IfErr, ◌⊎◌}}
-use Rattle.pagable.proofs.{Parts.{refused_second, refuses_first, where_ok, writes_pair}, Reading.{moves_trans, moves_refl}, Writing.{grows_trans, grows_same, then}}
+use Rattle.pagable.proofs.{Joined.{flagged, no-failure, no-success}, Parts.{refused_second, refuses_first, where_ok, writes_pair}, Reading.{moves_trans, moves_refl}, Writing.{grows_trans, grows_same}}
 use Rattle.pagable.specs.{ArcRef.ArcRef, Basic.{bool_at, bool_form}, Error.Error, Form.{ok-form, err-form}, Gives.{never, memory, deep_or}, Lifted.MeansPair, Meaning.{Meaning, number, pair, success}}
 use Rattle.pagable.specs.{Meaning.failure, Reading.{Rest, deepest, read, read_with, bytes_of}, Shape.{Shape, both, unsigned, nested}}
 use Rattle.pagable.specs.Standing.{Answer, Standing, MovesOn, GivesSome, Gave, Is, SomeMeaning, handles_at}
-use Rattle.pagable.specs.Writing.{FormAt, Out, Nesting, nesting, Writes, WritesSome, Grows, added, NoForm, Refused}
+use Rattle.pagable.specs.Writing.{Out, nesting, WritesSome, Grows, added, Refused}
 use Rattle.pagable_examples.proofs.Levels.{writes-down, refused-down, refused-deep, only-deep, reads-deep, reads-down}
 use Rattle.pagable_examples.specs.{declared.expression.Expression.{Expression, Number}, Expressions.{node, nodes, of_expression, IsWritten, IsRead, IsSum}}
 use Rattle.pagable.specs.Error.TheVariants as errors
@@ -63,52 +63,10 @@ read_down r levels inner after last rest rest_a rest_b rest_new old a b new env 
 
 -- ---- writing a node
 
--- the shape of a node's part, by the flag before it, and what the node means by what the part means
-abbrev pub part : Bool → Shape
-part true = unsigned w64
-part false = both (nested 0) (nested 0)
-
-abbrev pub whole : Bool → Meaning ArcRef → Meaning ArcRef
-whole true = success
-whole false = failure
-
-node-form : (flag : Bool) (n : Nesting) (m : Meaning ArcRef) (b : List ℕ) (k : List ArcRef) → FormAt n (part flag) m b k → FormAt n node (whole flag m) (bool_form flag ++ b) k
-node-form true n m b k f = ok-form _ _ _ m b k f
-node-form false n m b k f = err-form _ _ _ m b k f
-
-no-node : (flag : Bool) (n : Nesting) (m : Meaning ArcRef) → NoForm n (part flag) m → NoForm n node (whole flag m)
-no-node true n m none b k (ok-form l s t m' b' k' f) = none b' k' f
-no-node false n m none b k (err-form l s t m' b' k' f) = none b' k' f
-
--- what the writer of the part owes, the writer of the node owes
-flagged : {X E : Type 0} (r : Result X Error) (P Q : Meaning ArcRef → Type 0) (flag : Bool) {levels between after : ℕ} {old mid new : Out} {env env_mid env_after : E}
-    → ((m : Meaning ArcRef) → P m → Q (whole flag m))
-    → record { ok : mid ≡ added old (bool_form flag) []; only : Unit {0}; err : Grows old mid; same_env : env_mid ≡ env; same_levels : between ≡ levels }
-    → IsWritten P (part flag) r between after mid new env_mid env_after → IsWritten Q node r levels after old new env env_after
-flagged (Ok y) P Q flag {levels = levels} {old = old} {mid = mid} {new = new} means f w =
-    let v : WritesSome P (nesting levels nodes) (part flag) mid new = rw f.same_levels at w.ok in
-    let wrote : Writes (nesting levels nodes) node (whole flag v.m) old new = record {
-      bytes = bool_form flag ++ v.wrote.bytes;
-      refs = v.wrote.refs;
-      form = node-form flag _ v.m _ _ v.wrote.form;
-      grown = then old mid new _ _ _ _ f.ok v.wrote.grown;
-    } in
-    record {
-      ok = record { m = whole flag v.m; is = means v.m v.is; wrote = wrote };
-      refused = tt;
-      only = tt;
-      err = grows_trans _ _ _ f.err w.err;
-      same_env = w.same_env ∙ f.same_env;
-      same_levels = w.same_levels ∙ f.same_levels;
-    }
-flagged (Err e) P Q flag {levels = levels} means f w =
-    let lacks : Refused P (nesting levels nodes) (part flag) e = rw f.same_levels at w.refused in
-    let refused : Refused Q (nesting levels nodes) node e = λ fault. let no = lacks fault in record { m = whole flag no.m; is = means no.m no.is; no_form = no-node flag _ no.m no.no_form } in
-    record { ok = tt; refused = refused; only = w.only; err = grows_trans _ _ _ f.err w.err; same_env = w.same_env ∙ f.same_env; same_levels = w.same_levels ∙ f.same_levels }
-
-only-shallow : {X : Type 0} (r : Result X Error) → IfErr r memory → IfErr r (deep_or memory)
-only-shallow (Ok x) h = tt
-only-shallow (Err e) h = inr h
+as-written : {X E : Type 0} {M : Meaning ArcRef → Type 0} {s : Shape} {r : Result X Error} {levels after : ℕ} {old new : Out} {env env_after : E}
+    → record { ok : OnOk r (WritesSome M (nesting levels nodes) s old new); refused : IfErr r (Refused M (nesting levels nodes) s); only : IfErr r (deep_or memory); err : Grows old new; same_env : env_after ≡ env; same_levels : after ≡ levels }
+    → IsWritten M s r levels after old new env env_after
+as-written w = record { ok = w.ok; refused = w.refused; only = w.only; err = w.err; same_env = w.same_env; same_levels = w.same_levels }
 
 pub number_written : {X E : Type 0} (x : ℕ) (value : Expression) (r : Result X Error) {levels between after : ℕ} {old mid new : Out} {env env_mid env_after : E} → value ≡ Number x
     → record { ok : mid ≡ added old (bool_form true) []; only : Unit {0}; err : Grows old mid; same_env : env_mid ≡ env; same_levels : between ≡ levels }
@@ -122,8 +80,8 @@ pub number_written : {X E : Type 0} (x : ℕ) (value : Expression) (r : Result X
     }
     → IsWritten (Is of_expression value) node r levels after old new env env_after
 number_written x value r is f w =
-    flagged r (Is number x) (Is of_expression value) true (λ m h. rw (h, is) refl) f
-    (record { ok = w.ok; refused = w.refused; only = only-shallow r w.only; err = w.err; same_env = w.same_env; same_levels = w.same_levels })
+    as-written (flagged r (Is number x) (Is of_expression value) _ (unsigned w64) node true success memory (deep_or memory)
+    (λ m h. rw (h, is) refl) (λ m b k form. ok-form _ _ _ m b k form) (no-success _ _ _) (λ e h. inr h) f.ok (rw (f.same_levels, f.same_env) at w))
 
 module _ (x y value : Expression) (is : of_expression value ≡ failure (pair (of_expression x) (of_expression y))) where
   sum-means : (m : Meaning ArcRef) → MeansPair (Is of_expression) (Is of_expression) (x, y) m → failure m ≡ of_expression value
@@ -135,24 +93,27 @@ module _ (x y value : Expression) (is : of_expression value ≡ failure (pair (o
   pub left_unwritten : {X E : Type 0} (e : Error) {levels between after : ℕ} {old mid new : Out} {env env_mid env_after : E}
       → record { ok : mid ≡ added old (bool_form false) []; only : Unit {0}; err : Grows old mid; same_env : env_mid ≡ env; same_levels : between ≡ levels }
       → IsWritten {X = X} (Is of_expression x) (nested 0) (Err e) between after mid new env_mid env_after → IsWritten {X = X} (Is of_expression value) node (Err e) levels after old new env env_after
-  left_unwritten e f w =
-      flagged (Err e) _ (Is of_expression value) false sum-means f
-      (record { ok = tt; refused = refuses_first (Is of_expression) (Is of_expression) has (x, y) _ _ _ e w.refused; only = w.only; err = w.err; same_env = w.same_env; same_levels = w.same_levels })
+  left_unwritten {X = X} e f w =
+      as-written (flagged {Y = X} (Err e) (MeansPair (Is of_expression) (Is of_expression) (x, y)) (Is of_expression value) _ (both (nested 0) (nested 0)) node false failure (deep_or memory) (deep_or memory)
+      sum-means (λ m b k form. err-form _ _ _ m b k form) (no-failure _ _ _) (λ e h. h) f.ok
+      (record { ok = tt; refused = refuses_first (Is of_expression) (Is of_expression) has (x, y) _ _ _ e (rw f.same_levels at w.refused); only = w.only; err = w.err; same_env = w.same_env ∙ f.same_env; same_levels = w.same_levels ∙ f.same_levels }))
 
   pub sum_written : {X Y E : Type 0} (d : Y) (r : Result X Error) {levels between midway after : ℕ} {old mid half new : Out} {env env_mid env_half env_after : E}
       → record { ok : mid ≡ added old (bool_form false) []; only : Unit {0}; err : Grows old mid; same_env : env_mid ≡ env; same_levels : between ≡ levels }
       → IsWritten {X = Y} (Is of_expression x) (nested 0) (Ok d) between midway mid half env_mid env_half → IsWritten (Is of_expression y) (nested 0) r midway after half new env_half env_after
       → IsWritten (Is of_expression value) node r levels after old new env env_after
   sum_written d r f v w =
-      flagged r _ (Is of_expression value) false sum-means f
+      let levels = v.same_levels ∙ f.same_levels in
+      as-written (flagged r (MeansPair (Is of_expression) (Is of_expression) (x, y)) (Is of_expression value) _ (both (nested 0) (nested 0)) node false failure (deep_or memory) (deep_or memory)
+      sum-means (λ m b k form. err-form _ _ _ m b k form) (no-failure _ _ _) (λ e h. h) f.ok
       (record {
-        ok = where_ok r _ _ (writes_pair (Is of_expression) (Is of_expression) (x, y) _ _ _ _ _ _ v.ok) (rw v.same_levels at w.ok);
-        refused = refused_second r (Is of_expression) (Is of_expression) has (x, y) _ _ _ (rw v.same_levels at w.refused);
+        ok = where_ok r _ _ (writes_pair (Is of_expression) (Is of_expression) (x, y) _ _ _ _ _ _ (rw f.same_levels at v.ok)) (rw levels at w.ok);
+        refused = refused_second r (Is of_expression) (Is of_expression) has (x, y) _ _ _ (rw levels at w.refused);
         only = w.only;
         err = grows_trans _ _ _ v.err w.err;
-        same_env = w.same_env ∙ v.same_env;
-        same_levels = w.same_levels ∙ v.same_levels;
-      })
+        same_env = w.same_env ∙ v.same_env ∙ f.same_env;
+        same_levels = w.same_levels ∙ levels;
+      }))
 
 -- ---- reading a node
 

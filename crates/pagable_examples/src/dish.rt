@@ -1,10 +1,9 @@
 //! A struct of named fields: they are written one after the other, and nothing else.
 
-ghost use Rattle.std.specs.{Int.w16, Prelude.refl};
-ghost use Rattle.pagable.specs.OneForm.{basic_has_one_form, basic_refers_to_nothing, two_has_one_form, two_refers_to_nothing};
+ghost use Rattle.std.specs.{Int.w16, Prelude.refl, String.string_bytes};
 ghost use Rattle.pagable.specs.OwnCauses.{reads_either, reads_memory, reads_never, writes_either, writes_long_or, writes_memory};
-ghost use Rattle.pagable.specs.{ReadBack.{basic_is_read, two_is_read}, Shape.both, Shape.text, Shape.unsigned};
-ghost use Rattle.pagable_examples.specs.Dishes.{dish_means, dish_single, dish_is_same};
+ghost use Rattle.pagable.specs.{KeyLaws.{key_seen, number_key, pair_key, text_key}, OneForm.{basic_has_one_form, two_has_one_form}, ReadBack.{basic_is_read, two_is_read}, Shape.{both, text, unsigned}};
+ghost use Rattle.pagable_examples.specs.Dishes.{dish_means, dish_single};
 
 use pagable::impls::write_entry;
 use pagable::{
@@ -44,9 +43,7 @@ impl<E: Env> ReadBack<E> for Dish {
 
 /// and a dish may be a key of maps and an item of sets.
 impl<E: Env> PagableKey<E> for Dish {
-    ghost same = { dish_is_same };
-
-    ghost refers_to_nothing = { λ e. two_refers_to_nothing (refl, refl) (basic_refers_to_nothing tt) (basic_refers_to_nothing tt) };
+    ghost key = { key_seen (λ d. (d.name, d.grams)) (pair_key (key_seen string_bytes text_key) number_key) };
 }
 
 impl<E: Env> PagableSerialize<E> for Dish {

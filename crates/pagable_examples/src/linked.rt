@@ -40,8 +40,7 @@ pub enum LinkedNode {
 }
 
 impl NodeSet<Linked> for LinkedNode {
-    ghost use Rattle.pagable_examples.specs.Linked.{has_meaning, has_shape, means, own_shape, read_causes, read_causes_are_own, refers, refs_of, shape_of, type_of};
-    ghost use Rattle.pagable_examples.specs.Linked.{write_causes, write_causes_may_refuse};
+    ghost use Rattle.pagable_examples.specs.Linked.{has_meaning, has_shape, means, own_shape, reads, refers, refs_of, shape_of, type_of, writes};
 
     ghost type_of = { type_of };
 
@@ -53,13 +52,13 @@ impl NodeSet<Linked> for LinkedNode {
 
     ghost refs_of = { refs_of };
 
-    ghost write_causes = { write_causes };
+    ghost write_causes = { λ t. (writes t).are };
 
-    ghost read_causes = { read_causes };
+    ghost read_causes = { λ t. (reads t).are };
 
-    ghost write_causes_may_refuse = { write_causes_may_refuse };
+    ghost write_causes_may_refuse = { λ t. (writes t).may };
 
-    ghost read_causes_are_own = { read_causes_are_own };
+    ghost read_causes_are_own = { λ t. (reads t).own };
 
     ghost has_meaning = { has_meaning };
 
@@ -144,21 +143,15 @@ impl OfNode<Linked> for Link {
 
 impl InNode<Linked> for Link {
     ghost use Rattle.std.specs.Prelude.{refl};
-    ghost use Rattle.pagable_examples.specs.Linked.{held_means, held_type, holds_link, means_held, other_type};
+    ghost use Rattle.pagable_examples.specs.Linked.{holds_link};
 
-    ghost in_type = { λ n. held_type n (holds_link n) };
-
-    ghost other_type = { λ n. other_type n (holds_link n) };
+    ghost holds = { holds_link };
 
     ghost shape_is = { λ e. refl };
-
-    ghost same_meaning = { λ n. held_means n (holds_link n) };
 
     ghost writes_as = { λ e h. h };
 
     ghost reads_as = { λ e h. h };
-
-    ghost meaning_back = { λ n. means_held n (holds_link n) };
 }
 
 impl OfNode<Linked> for ArcLink {
@@ -190,21 +183,15 @@ impl OfNode<Linked> for ArcLink {
 
 impl InNode<Linked> for ArcLink {
     ghost use Rattle.std.specs.Prelude.{refl};
-    ghost use Rattle.pagable_examples.specs.Linked.{held_means, held_type, holds_arc_link, means_held, other_type};
+    ghost use Rattle.pagable_examples.specs.Linked.{holds_arc_link};
 
-    ghost in_type = { λ n. held_type n (holds_arc_link n) };
-
-    ghost other_type = { λ n. other_type n (holds_arc_link n) };
+    ghost holds = { holds_arc_link };
 
     ghost shape_is = { λ e. refl };
-
-    ghost same_meaning = { λ n. held_means n (holds_arc_link n) };
 
     ghost writes_as = { λ e h. h };
 
     ghost reads_as = { λ e h. h };
-
-    ghost meaning_back = { λ n. means_held n (holds_arc_link n) };
 }
 
 impl OfNode<Linked> for Bundle {
@@ -236,19 +223,13 @@ impl OfNode<Linked> for Bundle {
 
 impl InNode<Linked> for Bundle {
     ghost use Rattle.std.specs.Prelude.{refl};
-    ghost use Rattle.pagable_examples.specs.Linked.{held_means, held_type, holds_bundle, means_held, other_type};
+    ghost use Rattle.pagable_examples.specs.Linked.{holds_bundle};
 
-    ghost in_type = { λ n. held_type n (holds_bundle n) };
-
-    ghost other_type = { λ n. other_type n (holds_bundle n) };
+    ghost holds = { holds_bundle };
 
     ghost shape_is = { λ e. refl };
-
-    ghost same_meaning = { λ n. held_means n (holds_bundle n) };
 
     ghost writes_as = { λ e h. h };
 
     ghost reads_as = { λ e h. h };
-
-    ghost meaning_back = { λ n. means_held n (holds_bundle n) };
 }

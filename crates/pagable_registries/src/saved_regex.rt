@@ -143,9 +143,7 @@ impl<E: Env> Canonical<E> for SavedRegex {
 }
 
 impl<E: Env> PagableKey<E> for SavedRegex {
-    ghost same = { pattern_is_same };
-
-    ghost refers_to_nothing = { λ e. basic_refers_to_nothing tt };
+    ghost key = { record { same = pattern_is_same; refers_to_nothing = λ e. basic_refers_to_nothing tt } };
 }
 
 /// Writes the text of a pattern: its length in bytes, and its bytes. TooLong above 4,294,967,295 bytes; else refused by

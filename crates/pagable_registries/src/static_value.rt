@@ -7,7 +7,7 @@ ghost use Rattle.pagable_model.specs.{Statics.{HasEqual, NoEqualBelow, StandsAt,
 ghost use Rattle.pagable_model.specs.{Gives.{never, memory_or}, Numbers.unsigned_at, Meaning.{Meaning, lifted}, Reading.{bytes_of, read, registered}, Shape.static_value, Standing.{handles_at, GivesSome, Is, MovesOn}};
 ghost use Rattle.pagable_model.specs.{Writing.{nesting, WritesSome, Refused, Grows}, Lengths.long_or_memory};
 ghost use Rattle.pagable_registries.specs.StaticValues.{static_is_read, static_is_same, static_refers_to_nothing, writes_unregistered};
-ghost use Rattle.pagable_traits.specs.{Meanings.{exactly}, OwnCauses.{reads_never, writes_memory_or}};
+ghost use Rattle.pagable_traits.specs.{Meanings.{exactly}, OwnCauses.{writes_memory_or}};
 
 use pagable_codec::{Env, PagableDeserializer, PagableSerializer, Reader};
 use pagable_flavors::Error;
@@ -290,9 +290,7 @@ impl<E: Env, T: HasStaticValueRegistry<E>> OneMeaning<E> for StaticValue<T> {
 
 /// By the value alone, as equality and the hash are.
 impl<E: Env, T: HasStaticValueRegistry<E>> PagableKey<E> for StaticValue<T> {
-    ghost same = { λ x y. static_is_same T.eq T.plain T.same_meaning T.same_value x.0.value y.0.value };
-
-    ghost refers_to_nothing = { λ e. static_refers_to_nothing (E.parts e) (meanings_of T.plain (T.known e)) };
+    ghost key = { record { same = λ x y. static_is_same T.eq T.plain T.same_meaning T.same_value x.0.value y.0.value; refers_to_nothing = λ e. static_refers_to_nothing (E.parts e) (meanings_of T.plain (T.known e)) } };
 }
 
 impl<E: Env, T: HasStaticValueRegistry<E>> ReadBack<E> for StaticValue<T> {
@@ -333,8 +331,6 @@ fn read_index<E: Env, D: PagableDeserializer<E>>(deserializer: &mut D) -> Result
 }
 
 impl<'de, E: Env, T: HasStaticValueRegistry<E>> PagableDeserialize<'de, E> for StaticValue<T> {
-    ghost read_causes = { reads_never };
-
     /// Reads an index, and gives the value that the environment's registry has under it, with that index: so it can be
     /// written again. BadStaticIndex where there is none.
     #[tactic(auto, using(pagable_codec::proofs::Reading::parts))]

@@ -2,7 +2,8 @@
 use Rattle.pagable_traits.proofs.Words.{Answer, Rest, ◌≡◌, ◌≤◌, ℕ, [], ◌∙◌, Option, Result, Ok, Err, inl, inr, err_from_is_err_and, OnOk, IfErr, ◌⊎◌, IsErrAnd, Error, ArcRef, longest, length_form}
 use Rattle.pagable_traits.proofs.Words.{either, memory_or, long_or, MeansPair, Meaning, Shape, both, read, SomeMeaning, Gave, GivesSome, MovesOn, WritesSome, Refused, Grows, added, moves_trans, List}
 use Rattle.pagable_traits.proofs.{Words.{length, Nesting, grows_trans, nested_in, context_in, WritesEach, WritesCounted, RefusedAmong, RefusedCounted}, Held.{pair_first_refused, pair_second_refused}}
-use Rattle.pagable_traits.proofs.{Held.pair_gave, Joined.gave_along, Parts.{only-part, writes_pair, refuses_first, refuses_second}, Walks.{Shows, Wraps, written_counted, refused_counted}}
+use Rattle.pagable_traits.proofs.Collecting.{gives_counted, uncounted}
+use Rattle.pagable_traits.proofs.{Held.pair_gave, Joined.gave_along, Parts.{only-count, only-part, writes_pair, refuses_first, refuses_second}, Walks.{Shows, Wraps, written_counted, refused_counted}}
 use Rattle.pagable_codec.specs.{declared.env.Env.Ghosts as Environments, declared.serializer.PagableSerializer.Ghosts as Serializers}
 use Rattle.pagable_codec.specs.{declared.deserializer.PagableDeserializer.Ghosts as Deserializers}
 
@@ -107,3 +108,7 @@ module _ {D E R N H K V : Type 0} (env : Environments E N H K V) (d : Deserializ
   pub both-read : {X Y : Type 0} (x : X) (y : Y) (M : X → Meaning ArcRef → Type 0) (N : Y → Meaning ArcRef → Type 0) {W : Meaning ArcRef → Type 0} (t u : E → Shape) {a b c : D} → Given (M x) t a b → Given (N y) u b c → ((m : Meaning ArcRef) → MeansPair M N (x, y) m → W m) → Given W (λ k. both (t k) (u k)) a c
   both-read x y M N t u {a} {b} {c} gave told same =
       then-tells gave.moves gave.same_env gave.same_levels told (λ h. gave_along _ _ _ _ (pair_gave M N (context_in env d a) _ _ x y (d.rest a) (d.rest b) (d.rest c) gave.gives (rw (gave.same_levels, gave.same_env) at h)) same)
+
+pub ruleset writes = (each-after, only-count)
+
+pub ruleset reads = (boxed-unread, then-tells, uncounted, gives_counted)

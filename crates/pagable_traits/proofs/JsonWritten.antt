@@ -271,3 +271,7 @@ module _ {S E N H K V : Type 0} (env : Environments E N H K V) (s : Serializers 
       → s.environment z ≡ s.environment y → s.levels z ≡ s.levels y → Wrote env s (front case count) (long_or_no_memory count) x z r
   count-wrote case count (Ok v) p ok within only err same_env same_levels = record { ok = (within, rw p.ok at ok); refused = tt; only = tt; err = grows_trans _ _ _ p.err err; same_env = same_env ∙ p.same_env; same_levels = same_levels ∙ p.same_levels }
   count-wrote case count (Err e) p ok within only err same_env same_levels = record { ok = tt; refused = tt; only = counts count e only; err = grows_trans _ _ _ p.err err; same_env = same_env ∙ p.same_env; same_levels = same_levels ∙ p.same_levels }
+
+pub ruleset cases = (null-value, as-value, seen-flag, seen-number, seen-text, seen-array, seen-object)
+
+pub ruleset fronts = (count-wrote, wrote-err)

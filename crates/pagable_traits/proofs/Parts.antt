@@ -20,15 +20,6 @@ only_along (Err e) P Q f h = f e h
 pub only_memory_or : {X : Type 0} (r : Result X Error) (part : Error → Type 0) → IfErr r memory → IfErr r (memory_or part)
 only_memory_or r part = only_along r memory (memory_or part) (λ e h. inl h)
 
-pub only_part : {X : Type 0} (r : Result X Error) (part : Error → Type 0) → IfErr r part → IfErr r (memory_or part)
-only_part r part = only_along r part (memory_or part) (λ e h. inr h)
-
-pub only_first : {X : Type 0} (r : Result X Error) (first second : Error → Type 0) → IfErr r first → IfErr r (either first second)
-only_first r first second = only_along r first (either first second) (λ e h. inl h)
-
-pub only_second : {X : Type 0} (r : Result X Error) (first second : Error → Type 0) → IfErr r second → IfErr r (either first second)
-only_second r first second = only_along r second (either first second) (λ e h. inr h)
-
 pub only_long_or : {X : Type 0} (r : Result X Error) (part : Error → Type 0) → IfErr r part → IfErr r (long_or part)
 only_long_or r part = only_along r part (long_or part) (λ e h. inr h)
 
@@ -42,11 +33,6 @@ only_parts r part = only_along r part (long_or (memory_or part)) (only-part part
 pub only-count : (len : ℕ) (part : Error → Type 0) (e : Error) → long_or_memory len e → long_or (memory_or part) e
 only-count len part e (inl h) = inl h.1
 only-count len part e (inr h) = inr (inl h.1)
-
-pub only_count : {X : Type 0} (r : Result X Error) (len : ℕ) (part : Error → Type 0) → IfErr r (long_or_memory len) → IfErr r (long_or (memory_or part))
-only_count r len part = only_along r (long_or_memory len) (long_or (memory_or part)) (only-count len part)
-
-pub ruleset causes = (only_memory_or, only_part, only_first, only_second, only_parts, only_count)
 
 -- ---- a value that may be absent
 
@@ -82,10 +68,6 @@ refuses_first M N has p n s t e h = λ fault.
     let other = has p.1 in
     record { m = pair no.m other.0; is = record { first = no.m; second = other.0; is_first = no.is; is_second = other.1; is = refl }; no_form = no-first n s t no.m other.0 no.no_form }
 
-pub refused_first : {X A B : Type 0} (r : Result X Error) (M : A → Meaning ArcRef → Type 0) (N : B → Meaning ArcRef → Type 0) (has : (y : B) → SomeMeaning (N y)) (p : A × B) (n : Nesting) (s t : Shape) → IfErr r (Refused (M p.0) n s) → IfErr r (Refused (MeansPair M N p) n (both s t))
-refused_first (Ok x) M N has p n s t h = tt
-refused_first (Err e) M N has p n s t h = refuses_first M N has p n s t e h
-
 pub refuses_second : {A B : Type 0} (M : A → Meaning ArcRef → Type 0) (N : B → Meaning ArcRef → Type 0) (has : (x : A) → SomeMeaning (M x)) (p : A × B) (n : Nesting) (s t : Shape) (e : Error) → Refused (N p.1) n t e → Refused (MeansPair M N p) n (both s t) e
 refuses_second M N has p n s t e h = λ fault.
     let no = h fault in
@@ -95,9 +77,3 @@ refuses_second M N has p n s t e h = λ fault.
 pub refused_second : {X A B : Type 0} (r : Result X Error) (M : A → Meaning ArcRef → Type 0) (N : B → Meaning ArcRef → Type 0) (has : (x : A) → SomeMeaning (M x)) (p : A × B) (n : Nesting) (s t : Shape) → IfErr r (Refused (N p.1) n t) → IfErr r (Refused (MeansPair M N p) n (both s t))
 refused_second (Ok x) M N has p n s t h = tt
 refused_second (Err e) M N has p n s t h = refuses_second M N has p n s t e h
-
-pub gave_pair : {A B R : Type 0} (M : A → Meaning ArcRef → Type 0) (N : B → Meaning ArcRef → Type 0) (p : A × B) (mid after : R) (read first : Result (Meaning ArcRef × R) Error) (second : R → Result (Meaning ArcRef × R) Error)
-    → Gave (M p.0) mid first → Gave (N p.1) after (second mid) → read ≡ (first >>= λ x. second x.1 >>= λ y. Ok (pair x.0 y.0, y.1)) → Gave (MeansPair M N p) after read
-gave_pair M N p mid after read first second g h e = grind arith
-
-pub ruleset pairs = (writes_pair, refused_first, refused_second, gave_pair)

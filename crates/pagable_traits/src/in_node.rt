@@ -1,7 +1,8 @@
 //! The value types that a node may hold.
 
-ghost use Rattle.std.specs.Prelude.{◌≡◌, ◌≢◌, Some, None};
-ghost use Rattle.pagable_model.specs.{Gives.memory_or, Meaning.Meaning, declared.numbers.ArcRef.ArcRef as Reference, declared.error.Error.Error as Refusal};
+ghost use Rattle.std.specs.Prelude.{◌≡◌, Some};
+ghost use Rattle.pagable_model.specs.{Gives.memory_or, declared.error.Error.Error as Refusal};
+ghost use Rattle.pagable_traits.specs.InNodes.{Holds};
 
 use crate::traits::{Carried, PagableDeserialize, PagableSerialize};
 use pagable_codec::{Env, NodeSet, OfNode};
@@ -15,19 +16,13 @@ pub trait InNode<E: Env>: OfNode<E>
 where
     E::Node: NodeSet<E>,
 {
-    // The node of a value is of this type, and a node without one isn't.
-    ghost in_type: { (n : E.Node) (v : Self) → Self.OfNode.held n ≡ Some v → E.Node.type_of n ≡ Self.OfNode.TYPE };
-
-    ghost other_type: { (n : E.Node) → Self.OfNode.held n ≡ None → E.Node.type_of n ≢ Self.OfNode.TYPE };
+    // The node of a value is of this type and means what the value means, and a node without one is of another type.
+    ghost holds: { (n : E.Node) → Holds Self.Carried.means.of Self.OfNode.TYPE (E.Node.type_of n) (E.Node.means n) (Self.OfNode.held n) };
 
     ghost shape_is: { (e : E) → E.Node.shape_of e Self.OfNode.TYPE ≡ Some (Self.Carried.shape e) };
-
-    ghost same_meaning: { (n : E.Node) (v : Self) (m : Meaning Reference) → Self.OfNode.held n ≡ Some v → E.Node.means n m → Self.Carried.means.of v m };
 
     // A node of this type is refused by the type's own causes, and when it is read, for want of memory for its place.
     ghost writes_as: { (e : Refusal) → E.Node.write_causes Self.OfNode.TYPE e → Self.PagableSerialize.write_causes.are e };
 
     ghost reads_as: { (e : Refusal) → E.Node.read_causes Self.OfNode.TYPE e → memory_or Self.PagableDeserialize.read_causes.are e };
-
-    ghost meaning_back: { (n : E.Node) (v : Self) (m : Meaning Reference) → Self.OfNode.held n ≡ Some v → Self.Carried.means.of v m → E.Node.means n m };
 }

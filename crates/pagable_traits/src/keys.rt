@@ -1,7 +1,8 @@
 //! The types that may be keys of maps and items of sets.
 
 ghost use Rattle.std.specs.Prelude.{◌≡◌};
-ghost use Rattle.pagable_model.specs.{Keys.KeyOrder, Keys.same_key, Keys.ordered, Keyed.RefersToNothing};
+ghost use Rattle.pagable_model.specs.Keys.{KeyOrder, ordered};
+ghost use Rattle.pagable_traits.specs.KeyLaws.{IsKey};
 
 pub mod lists;
 pub mod numbers;
@@ -15,9 +16,7 @@ use pagable_codec::env::Env;
 /// no value refers to anything. Equal values hash alike by the law of `Hash`. So a map has one form, whatever values
 /// it was made of.
 pub trait PagableKey<E: Env>: OneMeaning<E> + Eq {
-    ghost same: { (x y : Self) → Self.eq x y ≡ same_key (Self.means.meaning x) (Self.means.meaning y) };
-
-    ghost refers_to_nothing: { (e : E) → RefersToNothing (E.parts e) (Self.shape e) };
+    ghost key: { IsKey Self.means Self.eq E.parts Self.shape };
 }
 
 /// A key whose order depends on meanings alone.

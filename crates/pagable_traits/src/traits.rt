@@ -2,7 +2,7 @@
 
 ghost use Rattle.std.specs.Prelude.{◌≡◌, OnOk, IfErr};
 ghost use Rattle.pagable_model.specs.{Shape.Shape, Writing.{nesting, WritesSome, Refused, Grows}, Reading.read, Standing.{handles_at, MovesOn, GivesSome}};
-ghost use Rattle.pagable_traits.specs.{Meanings.{Meanings, AreSingle}, OwnCauses.{ReadCauses, WriteCauses}};
+ghost use Rattle.pagable_traits.specs.{Meanings.{Meanings, AreSingle}, OwnCauses.{ReadCauses, WriteCauses, reads_never, writes_memory}};
 
 use pagable_codec::{Env, PagableDeserializer, PagableSerializer};
 use pagable_flavors::Error;
@@ -18,8 +18,8 @@ pub trait Carried<E: Env> {
 
 /// A type whose values can be written.
 pub trait PagableSerialize<E: Env>: Carried<E> {
-    // All refusals of a writing, those among them that say that a value has no form.
-    ghost write_causes: { WriteCauses };
+    // All refusals of a writing, those among them that say that a value has no form: want of memory, where a type doesn't say more.
+    ghost write_causes: { WriteCauses } = { writes_memory };
 
     /// Appends a form of the value, and its references in their order. It is refused by a cause of the type's alone, and
     /// with TooLong, TooDeep or JsonNumber only where the value has no form; then what stood before still stands, and as
@@ -35,8 +35,8 @@ pub trait PagableSerialize<E: Env>: Carried<E> {
 
 /// A type whose values can be read.
 pub trait PagableDeserialize<'de, E: Env>: Carried<E> + Sized {
-    // The refusals of a reading beside the faults of the input and those of references.
-    ghost read_causes: { ReadCauses };
+    // The refusals of a reading beside the faults of the input and those of references: none, where a type doesn't say more.
+    ghost read_causes: { ReadCauses } = { reads_never };
 
     /// Reads the value at the front of what is left, and leaves the rest. A refusal is the first fault from the
     /// front, that of a reference included, or a cause of the type's own; then the place is between the old one and

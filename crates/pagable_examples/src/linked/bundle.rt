@@ -1,6 +1,6 @@
 //! Bundles: references of each sort to values of other types.
 
-ghost use Rattle.pagable_examples.specs.Linked.{bundle_has_one_form, bundle_in_order, bundle_is_read, bundle_meanings, bundle_reads, bundle_shape, bundle_single, bundle_writes};
+ghost use Rattle.pagable_examples.specs.Linked.{bundle_has_one_form, bundle_in_order, bundle_is_read, bundle_means, bundle_reads, bundle_shape, bundle_single, bundle_writes};
 
 use crate::linked::Linked;
 use crate::linked::chain::{ArcLink, Link};
@@ -27,7 +27,7 @@ type Fields = (
 impl Carried<Linked> for Bundle {
     ghost shape = { λ e. bundle_shape };
 
-    ghost means = { bundle_meanings };
+    ghost means = { bundle_means };
 }
 
 impl OneMeaning<Linked> for Bundle {

@@ -2,7 +2,7 @@
 #![tactic(auto, using(pagable_codec::proofs::Writing::parts, crate::proofs::Basics::read_steps, crate::proofs::Basics::write_steps))]
 
 ghost use Rattle.pagable_model.specs.{Meaning.number, Meaning.none, Meaning.flag as flag_meaning, Shape.flag, Shape.letter, Shape.nothing};
-ghost use Rattle.pagable_traits.specs.{Meanings.{exactly}, OwnCauses.{reads_never, writes_never, writes_memory}};
+ghost use Rattle.pagable_traits.specs.{Meanings.{exactly}, OwnCauses.{writes_never}};
 
 use crate::traits::{Carried, OneMeaning, PagableDeserialize, PagableSerialize};
 use pagable_codec::{Env, PagableDeserializer, PagableSerializer, Reader};
@@ -20,16 +20,12 @@ impl<E: Env> OneMeaning<E> for bool {
 }
 
 impl<E: Env> PagableSerialize<E> for bool {
-    ghost write_causes = { writes_memory };
-
     fn pagable_serialize<S: PagableSerializer<E>>(&self, serializer: &mut S) -> Result<(), Error> {
         serializer.serde().write_bool(*self)
     }
 }
 
 impl<'de, E: Env> PagableDeserialize<'de, E> for bool {
-    ghost read_causes = { reads_never };
-
     fn pagable_deserialize<D: PagableDeserializer<E>>(
         _alloc: Global,
         deserializer: &mut D,
@@ -49,16 +45,12 @@ impl<E: Env> OneMeaning<E> for char {
 }
 
 impl<E: Env> PagableSerialize<E> for char {
-    ghost write_causes = { writes_memory };
-
     fn pagable_serialize<S: PagableSerializer<E>>(&self, serializer: &mut S) -> Result<(), Error> {
         serializer.serde().write_char(*self)
     }
 }
 
 impl<'de, E: Env> PagableDeserialize<'de, E> for char {
-    ghost read_causes = { reads_never };
-
     fn pagable_deserialize<D: PagableDeserializer<E>>(
         _alloc: Global,
         deserializer: &mut D,
@@ -87,8 +79,6 @@ impl<E: Env> PagableSerialize<E> for () {
 }
 
 impl<'de, E: Env> PagableDeserialize<'de, E> for () {
-    ghost read_causes = { reads_never };
-
     #[tactic(auto, unfolding(pagable_model::specs::Reading::read, pagable_model::specs::Reading::read_with), using(pagable_codec::proofs::Reading::parts))]
     fn pagable_deserialize<D: PagableDeserializer<E>>(
         _alloc: Global,

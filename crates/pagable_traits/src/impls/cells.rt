@@ -2,7 +2,7 @@
 //! contract knows what one holds, and each means whatever it may hold.
 
 ghost use Rattle.pagable_model.specs.{Carried.atomic_i64, Carried.once_lock, Cells.MeansAtomic, Cells.MeansOnce, Cells.atomic_has_meaning, Cells.once_has_meaning};
-ghost use Rattle.pagable_traits.specs.OwnCauses.{reads_never, writes_memory, writes_memory_or};
+ghost use Rattle.pagable_traits.specs.OwnCauses.{writes_memory_or};
 
 use crate::traits::{Carried, PagableDeserialize, PagableSerialize};
 use pagable_codec::{Env, PagableDeserializer, PagableSerializer};
@@ -18,8 +18,6 @@ impl<E: Env> Carried<E> for AtomicI64 {
 }
 
 impl<E: Env> PagableSerialize<E> for AtomicI64 {
-    ghost write_causes = { writes_memory };
-
     /// Appends the number that it holds when it is looked at, as an `i64`.
     fn pagable_serialize<S: PagableSerializer<E>>(&self, serializer: &mut S) -> Result<(), Error> {
         let held = self.load(Ordering::SeqCst);
@@ -28,8 +26,6 @@ impl<E: Env> PagableSerialize<E> for AtomicI64 {
 }
 
 impl<'de, E: Env> PagableDeserialize<'de, E> for AtomicI64 {
-    ghost read_causes = { reads_never };
-
     fn pagable_deserialize<D: PagableDeserializer<E>>(
         alloc: Global,
         deserializer: &mut D,

@@ -67,6 +67,7 @@ impl<E: Env, T: PagableSerialize<E>> PagableSerialize<E> for Box<T> {
 impl<'de, E: Env, T: PagableDeserialize<'de, E> + Drop> PagableDeserialize<'de, E> for Box<T> {
     ghost read_causes = { reads_memory_or T.read_causes };
 
+    #[tactic(auto, using(crate::proofs::InTurn::reads))]
     fn pagable_deserialize<D: PagableDeserializer<E>>(
         alloc: Global,
         deserializer: &mut D,

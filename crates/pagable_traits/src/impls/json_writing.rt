@@ -20,6 +20,7 @@ fn write_case<E: Env, S: PagableSerializer<E>>(case: usize, serializer: &mut S) 
 }
 
 // Writes the case of an array or an object and its length. TooLong above 4,294,967,295 items or members.
+#[tactic(auto, using(crate::proofs::JsonWritten::fronts))]
 fn write_front<E: Env, S: PagableSerializer<E>>(
     case: usize,
     count: usize,
@@ -68,6 +69,7 @@ fn write_text<E: Env, S: PagableSerializer<E>>(
 /// Writes a JSON value. TooLong above 4,294,967,295 bytes, items or members, JsonNumber for a float or a whole number
 /// that 64 bits with a sign don't hold, and TooDeep for an array or an object where 128 levels were entered.
 #[cycle(writing_json)]
+#[tactic(auto, using(crate::proofs::JsonWritten::cases))]
 pub fn write_value<E: Env, S: PagableSerializer<E>>(
     value: &Value,
     serializer: &mut S,

@@ -3,7 +3,7 @@
 
 ghost use Rattle.std.specs.{Int.w8, Int.w16, Int.w32, Int.w64, Int.w128};
 ghost use Rattle.pagable_model.specs.{Meaning.number, Shape.unsigned};
-ghost use Rattle.pagable_traits.specs.{Meanings.{exactly}, OwnCauses.{reads_never, writes_memory}};
+ghost use Rattle.pagable_traits.specs.Meanings.{exactly};
 
 use crate::alike::CarriedAs;
 use crate::traits::{Carried, OneMeaning, PagableDeserialize, PagableSerialize};
@@ -22,16 +22,12 @@ impl<E: Env> OneMeaning<E> for u8 {
 }
 
 impl<E: Env> PagableSerialize<E> for u8 {
-    ghost write_causes = { writes_memory };
-
     fn pagable_serialize<S: PagableSerializer<E>>(&self, serializer: &mut S) -> Result<(), Error> {
         serializer.serde().write_u8(*self)
     }
 }
 
 impl<'de, E: Env> PagableDeserialize<'de, E> for u8 {
-    ghost read_causes = { reads_never };
-
     fn pagable_deserialize<D: PagableDeserializer<E>>(
         _alloc: Global,
         deserializer: &mut D,
@@ -51,16 +47,12 @@ impl<E: Env> OneMeaning<E> for u16 {
 }
 
 impl<E: Env> PagableSerialize<E> for u16 {
-    ghost write_causes = { writes_memory };
-
     fn pagable_serialize<S: PagableSerializer<E>>(&self, serializer: &mut S) -> Result<(), Error> {
         serializer.serde().write_u16(*self)
     }
 }
 
 impl<'de, E: Env> PagableDeserialize<'de, E> for u16 {
-    ghost read_causes = { reads_never };
-
     fn pagable_deserialize<D: PagableDeserializer<E>>(
         _alloc: Global,
         deserializer: &mut D,
@@ -80,16 +72,12 @@ impl<E: Env> OneMeaning<E> for u32 {
 }
 
 impl<E: Env> PagableSerialize<E> for u32 {
-    ghost write_causes = { writes_memory };
-
     fn pagable_serialize<S: PagableSerializer<E>>(&self, serializer: &mut S) -> Result<(), Error> {
         serializer.serde().write_u32(*self)
     }
 }
 
 impl<'de, E: Env> PagableDeserialize<'de, E> for u32 {
-    ghost read_causes = { reads_never };
-
     fn pagable_deserialize<D: PagableDeserializer<E>>(
         _alloc: Global,
         deserializer: &mut D,
@@ -109,16 +97,12 @@ impl<E: Env> OneMeaning<E> for u64 {
 }
 
 impl<E: Env> PagableSerialize<E> for u64 {
-    ghost write_causes = { writes_memory };
-
     fn pagable_serialize<S: PagableSerializer<E>>(&self, serializer: &mut S) -> Result<(), Error> {
         serializer.serde().write_u64(*self)
     }
 }
 
 impl<'de, E: Env> PagableDeserialize<'de, E> for u64 {
-    ghost read_causes = { reads_never };
-
     fn pagable_deserialize<D: PagableDeserializer<E>>(
         _alloc: Global,
         deserializer: &mut D,
@@ -138,16 +122,12 @@ impl<E: Env> OneMeaning<E> for u128 {
 }
 
 impl<E: Env> PagableSerialize<E> for u128 {
-    ghost write_causes = { writes_memory };
-
     fn pagable_serialize<S: PagableSerializer<E>>(&self, serializer: &mut S) -> Result<(), Error> {
         serializer.serde().write_u128(*self)
     }
 }
 
 impl<'de, E: Env> PagableDeserialize<'de, E> for u128 {
-    ghost read_causes = { reads_never };
-
     fn pagable_deserialize<D: PagableDeserializer<E>>(
         _alloc: Global,
         deserializer: &mut D,
@@ -163,16 +143,12 @@ impl CarriedAs for usize {
 }
 
 impl<E: Env> PagableSerialize<E> for usize {
-    ghost write_causes = { writes_memory };
-
     fn pagable_serialize<S: PagableSerializer<E>>(&self, serializer: &mut S) -> Result<(), Error> {
         serializer.serde().write_usize(*self)
     }
 }
 
 impl<'de, E: Env> PagableDeserialize<'de, E> for usize {
-    ghost read_causes = { reads_never };
-
     fn pagable_deserialize<D: PagableDeserializer<E>>(
         _alloc: Global,
         deserializer: &mut D,

@@ -3,7 +3,7 @@
 
 ghost use Rattle.std.specs.{Int.w8, Int.w16, Int.w32, Int.w64, Int.w128};
 ghost use Rattle.pagable_model.specs.{Meaning.integer, Shape.signed};
-ghost use Rattle.pagable_traits.specs.{Meanings.{exactly}, OwnCauses.{reads_never, writes_memory}};
+ghost use Rattle.pagable_traits.specs.Meanings.{exactly};
 
 use crate::traits::{Carried, OneMeaning, PagableDeserialize, PagableSerialize};
 use pagable_codec::{Env, PagableDeserializer, PagableSerializer, Reader};
@@ -21,16 +21,12 @@ impl<E: Env> OneMeaning<E> for i8 {
 }
 
 impl<E: Env> PagableSerialize<E> for i8 {
-    ghost write_causes = { writes_memory };
-
     fn pagable_serialize<S: PagableSerializer<E>>(&self, serializer: &mut S) -> Result<(), Error> {
         serializer.serde().write_i8(*self)
     }
 }
 
 impl<'de, E: Env> PagableDeserialize<'de, E> for i8 {
-    ghost read_causes = { reads_never };
-
     fn pagable_deserialize<D: PagableDeserializer<E>>(
         _alloc: Global,
         deserializer: &mut D,
@@ -50,16 +46,12 @@ impl<E: Env> OneMeaning<E> for i16 {
 }
 
 impl<E: Env> PagableSerialize<E> for i16 {
-    ghost write_causes = { writes_memory };
-
     fn pagable_serialize<S: PagableSerializer<E>>(&self, serializer: &mut S) -> Result<(), Error> {
         serializer.serde().write_i16(*self)
     }
 }
 
 impl<'de, E: Env> PagableDeserialize<'de, E> for i16 {
-    ghost read_causes = { reads_never };
-
     fn pagable_deserialize<D: PagableDeserializer<E>>(
         _alloc: Global,
         deserializer: &mut D,
@@ -79,16 +71,12 @@ impl<E: Env> OneMeaning<E> for i32 {
 }
 
 impl<E: Env> PagableSerialize<E> for i32 {
-    ghost write_causes = { writes_memory };
-
     fn pagable_serialize<S: PagableSerializer<E>>(&self, serializer: &mut S) -> Result<(), Error> {
         serializer.serde().write_i32(*self)
     }
 }
 
 impl<'de, E: Env> PagableDeserialize<'de, E> for i32 {
-    ghost read_causes = { reads_never };
-
     fn pagable_deserialize<D: PagableDeserializer<E>>(
         _alloc: Global,
         deserializer: &mut D,
@@ -108,16 +96,12 @@ impl<E: Env> OneMeaning<E> for i64 {
 }
 
 impl<E: Env> PagableSerialize<E> for i64 {
-    ghost write_causes = { writes_memory };
-
     fn pagable_serialize<S: PagableSerializer<E>>(&self, serializer: &mut S) -> Result<(), Error> {
         serializer.serde().write_i64(*self)
     }
 }
 
 impl<'de, E: Env> PagableDeserialize<'de, E> for i64 {
-    ghost read_causes = { reads_never };
-
     fn pagable_deserialize<D: PagableDeserializer<E>>(
         _alloc: Global,
         deserializer: &mut D,
@@ -137,16 +121,12 @@ impl<E: Env> OneMeaning<E> for i128 {
 }
 
 impl<E: Env> PagableSerialize<E> for i128 {
-    ghost write_causes = { writes_memory };
-
     fn pagable_serialize<S: PagableSerializer<E>>(&self, serializer: &mut S) -> Result<(), Error> {
         serializer.serde().write_i128(*self)
     }
 }
 
 impl<'de, E: Env> PagableDeserialize<'de, E> for i128 {
-    ghost read_causes = { reads_never };
-
     fn pagable_deserialize<D: PagableDeserializer<E>>(
         _alloc: Global,
         deserializer: &mut D,

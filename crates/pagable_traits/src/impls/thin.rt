@@ -19,11 +19,11 @@ pub struct Thin<H, T> {
 impl<E: Env, H: Carried<E>, T: Carried<E>> Carried<E> for Thin<H, T> {
     ghost shape = { λ e. thin (H.shape e) (T.shape e) };
 
-    ghost means = { seen_by (λ t. (t.header, t.items.items)) (pairs H.means (lists T.means)) };
+    ghost means = { seen_by (λ t. (t.header, t.items)) (pairs H.means (seen_by (λ v. v.items) (lists T.means))) };
 }
 
 impl<E: Env, H: OneMeaning<E>, T: OneMeaning<E>> OneMeaning<E> for Thin<H, T> {
-    ghost single = { λ t. pairs_single H.Carried.means (lists T.Carried.means) H.single (lists_single T.Carried.means T.single) (t.header, t.items.items) };
+    ghost single = { λ t. pairs_single H.Carried.means (seen_by (λ v. v.items) (lists T.Carried.means)) H.single (λ v. lists_single T.Carried.means T.single v.items) (t.header, t.items) };
 }
 
 impl<E: Env, H: PagableSerialize<E>, T: PagableSerialize<E>> PagableSerialize<E> for Thin<H, T> {

@@ -3,7 +3,7 @@
 
 ghost use Rattle.std.specs.Prelude.{◌≡◌, ◌++◌, ◌<◌, ◌^◌, OnOk, IfErr};
 ghost use Rattle.pagable_model.specs.{Basic.{duration_at, duration_form}, Gives.{Gives, never, memory, Extends}, Shape.duration, Track.{left, GoesOn}, Spans.{of_span, seconds_of, nanos_of}};
-ghost use Rattle.pagable_traits.specs.{Meanings.{exactly}, OwnCauses.{reads_never, writes_memory}};
+ghost use Rattle.pagable_traits.specs.Meanings.{exactly};
 
 use crate::traits::{Carried, OneMeaning, PagableDeserialize, PagableSerialize};
 use pagable_codec::{Env, PagableDeserializer, PagableSerializer, Reader};
@@ -48,16 +48,12 @@ impl<E: Env> OneMeaning<E> for Duration {
 }
 
 impl<E: Env> PagableSerialize<E> for Duration {
-    ghost write_causes = { writes_memory };
-
     fn pagable_serialize<S: PagableSerializer<E>>(&self, serializer: &mut S) -> Result<(), Error> {
         write_span(*self, serializer.serde())
     }
 }
 
 impl<'de, E: Env> PagableDeserialize<'de, E> for Duration {
-    ghost read_causes = { reads_never };
-
     fn pagable_deserialize<D: PagableDeserializer<E>>(
         _alloc: Global,
         deserializer: &mut D,

@@ -1,9 +1,9 @@
 //! Lists, and maps and sets in the order of their keys, as keys: they stand in the order of the first items that differ,
 //! and a list stands before one that goes on. Maps and sets in order of arrival are none, since these are equal in any order.
 
-ghost use Rattle.std.{specs.Prelude.{◌&&◌, map, refl}, specs.Cmp.Lexicographic.{pointwise, slice_cmp}, specs.Ordering.ordering_then, specs.Box.boxed_slice_items};
-ghost use Rattle.pagable_model.specs.KeyParts.{list_is_same, list_is_ordered, pair_is_same, pair_is_ordered};
-ghost use Rattle.pagable_model.specs.{Meaning.{pair, sequence}, Keys.{list_order, pair_order}, OneForm.{over_refers_to_nothing, two_refers_to_nothing}};
+ghost use Rattle.std.{specs.Prelude.{map, refl}, specs.Cmp.Lexicographic.slice_cmp, specs.Ordering.ordering_then, specs.Box.boxed_slice_items};
+ghost use Rattle.pagable_model.specs.{KeyParts.{list_is_ordered, pair_is_ordered}, Keys.{list_order, pair_order}, Meaning.{pair, sequence}};
+ghost use Rattle.pagable_traits.specs.KeyLaws.{entries_key, key_seen, list_key, pair_key};
 
 use crate::impls::thin::Thin;
 use crate::keys::{PagableKey, PagableOrdKey};
@@ -13,9 +13,7 @@ use std::boxed::BoxedSlice;
 use std::collections::{BTreeMap, BTreeSet};
 
 impl<E: Env, K: PagableKey<E>> PagableKey<E> for Vec<K> {
-    ghost same = { λ x y. list_is_same K.eq K.means.meaning K.same x.items y.items };
-
-    ghost refers_to_nothing = { λ e. over_refers_to_nothing refl (K.refers_to_nothing e) };
+    ghost key = { key_seen (λ v. v.items) (list_key (λ e. refl) K.key) };
 }
 
 impl<E: Env, K: PagableOrdKey<E>> PagableOrdKey<E> for Vec<K> {
@@ -25,9 +23,7 @@ impl<E: Env, K: PagableOrdKey<E>> PagableOrdKey<E> for Vec<K> {
 }
 
 impl<E: Env, K: PagableKey<E>> PagableKey<E> for BoxedSlice<K> {
-    ghost same = { λ x y. list_is_same K.eq K.means.meaning K.same (boxed_slice_items x) (boxed_slice_items y) };
-
-    ghost refers_to_nothing = { λ e. over_refers_to_nothing refl (K.refers_to_nothing e) };
+    ghost key = { key_seen boxed_slice_items (list_key (λ e. refl) K.key) };
 }
 
 impl<E: Env, K: PagableOrdKey<E>> PagableOrdKey<E> for BoxedSlice<K> {
@@ -37,9 +33,7 @@ impl<E: Env, K: PagableOrdKey<E>> PagableOrdKey<E> for BoxedSlice<K> {
 }
 
 impl<E: Env, K: PagableKey<E>, const N: usize> PagableKey<E> for [K; N] {
-    ghost same = { λ x y. list_is_same K.eq K.means.meaning K.same x y };
-
-    ghost refers_to_nothing = { λ e. over_refers_to_nothing refl (K.refers_to_nothing e) };
+    ghost key = { list_key (λ e. refl) K.key };
 }
 
 impl<E: Env, K: PagableOrdKey<E>, const N: usize> PagableOrdKey<E> for [K; N] {
@@ -49,9 +43,7 @@ impl<E: Env, K: PagableOrdKey<E>, const N: usize> PagableOrdKey<E> for [K; N] {
 }
 
 impl<E: Env, K: PagableKey<E>, const N: usize> PagableKey<E> for SmallVec<K, N> {
-    ghost same = { λ x y. list_is_same K.eq K.means.meaning K.same x.items y.items };
-
-    ghost refers_to_nothing = { λ e. over_refers_to_nothing refl (K.refers_to_nothing e) };
+    ghost key = { key_seen (λ v. v.items) (list_key (λ e. refl) K.key) };
 }
 
 impl<E: Env, K: PagableOrdKey<E>, const N: usize> PagableOrdKey<E> for SmallVec<K, N> {
@@ -61,9 +53,7 @@ impl<E: Env, K: PagableOrdKey<E>, const N: usize> PagableOrdKey<E> for SmallVec<
 }
 
 impl<E: Env, K: PagableOrdKey<E>> PagableKey<E> for BTreeSet<K> {
-    ghost same = { λ x y. list_is_same K.eq K.means.meaning K.same x.keys y.keys };
-
-    ghost refers_to_nothing = { λ e. over_refers_to_nothing refl (K.refers_to_nothing e) };
+    ghost key = { key_seen (λ s. s.keys) (list_key (λ e. refl) K.key) };
 }
 
 impl<E: Env, K: PagableOrdKey<E>> PagableOrdKey<E> for BTreeSet<K> {
@@ -73,9 +63,7 @@ impl<E: Env, K: PagableOrdKey<E>> PagableOrdKey<E> for BTreeSet<K> {
 }
 
 impl<E: Env, K: PagableOrdKey<E>, V: PagableKey<E>> PagableKey<E> for BTreeMap<K, V> {
-    ghost same = { λ x y. list_is_same (λ e f. K.eq e.0 f.0 && V.eq e.1 f.1) (λ e. pair (K.means.meaning e.0) (V.means.meaning e.1)) (λ e f. pair_is_same (K.eq e.0 f.0) (V.eq e.1 f.1) (K.means.meaning e.0) (V.means.meaning e.1) (K.means.meaning f.0) (V.means.meaning f.1) (K.same e.0 f.0) (V.same e.1 f.1)) x.entries y.entries };
-
-    ghost refers_to_nothing = { λ e. two_refers_to_nothing (refl, refl) (K.refers_to_nothing e) (V.refers_to_nothing e) };
+    ghost key = { key_seen (λ m. m.entries) (entries_key (λ e. (refl, refl)) K.key V.key) };
 }
 
 impl<E: Env, K: PagableOrdKey<E>, V: PagableOrdKey<E>> PagableOrdKey<E> for BTreeMap<K, V> {
@@ -85,9 +73,7 @@ impl<E: Env, K: PagableOrdKey<E>, V: PagableOrdKey<E>> PagableOrdKey<E> for BTre
 }
 
 impl<E: Env, H: PagableKey<E>, T: PagableKey<E>> PagableKey<E> for Thin<H, T> {
-    ghost same = { λ x y. pair_is_same (H.eq x.header y.header) (pointwise T.eq x.items.items y.items.items) (H.means.meaning x.header) (sequence (map T.means.meaning x.items.items)) (H.means.meaning y.header) (sequence (map T.means.meaning y.items.items)) (H.same x.header y.header) (list_is_same T.eq T.means.meaning T.same x.items.items y.items.items) };
-
-    ghost refers_to_nothing = { λ e. two_refers_to_nothing (refl, refl) (H.refers_to_nothing e) (over_refers_to_nothing refl (T.refers_to_nothing e)) };
+    ghost key = { key_seen (λ t. (t.header, t.items)) (pair_key H.key (key_seen (λ v. v.items) (list_key (λ e. refl) T.key))) };
 }
 
 /// A header decides before the list behind it.

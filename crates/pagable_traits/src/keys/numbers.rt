@@ -3,15 +3,14 @@
 ghost use Rattle.std.specs.Prelude.{refl};
 ghost use Rattle.pagable_model.specs.Keyed.{number_is_same, integer_is_same, flag_is_same, nothing_is_same, number_is_ordered, integer_is_ordered, flag_is_ordered};
 ghost use Rattle.pagable_model.specs.{Keys.number_order, Keys.integer_order, Keys.flag_order, Keys.nothing_order, OneForm.basic_refers_to_nothing};
+ghost use Rattle.pagable_traits.specs.KeyLaws.{number_key};
 
 use crate::keys::{PagableKey, PagableOrdKey};
 use pagable_codec::env::Env;
 use std::marker::PhantomData;
 
 impl<E: Env> PagableKey<E> for u8 {
-    ghost same = { number_is_same };
-
-    ghost refers_to_nothing = { λ e. basic_refers_to_nothing tt };
+    ghost key = { number_key };
 }
 
 impl<E: Env> PagableOrdKey<E> for u8 {
@@ -21,9 +20,7 @@ impl<E: Env> PagableOrdKey<E> for u8 {
 }
 
 impl<E: Env> PagableKey<E> for u16 {
-    ghost same = { number_is_same };
-
-    ghost refers_to_nothing = { λ e. basic_refers_to_nothing tt };
+    ghost key = { number_key };
 }
 
 impl<E: Env> PagableOrdKey<E> for u16 {
@@ -33,9 +30,7 @@ impl<E: Env> PagableOrdKey<E> for u16 {
 }
 
 impl<E: Env> PagableKey<E> for u32 {
-    ghost same = { number_is_same };
-
-    ghost refers_to_nothing = { λ e. basic_refers_to_nothing tt };
+    ghost key = { number_key };
 }
 
 impl<E: Env> PagableOrdKey<E> for u32 {
@@ -45,9 +40,7 @@ impl<E: Env> PagableOrdKey<E> for u32 {
 }
 
 impl<E: Env> PagableKey<E> for u64 {
-    ghost same = { number_is_same };
-
-    ghost refers_to_nothing = { λ e. basic_refers_to_nothing tt };
+    ghost key = { number_key };
 }
 
 impl<E: Env> PagableOrdKey<E> for u64 {
@@ -57,9 +50,7 @@ impl<E: Env> PagableOrdKey<E> for u64 {
 }
 
 impl<E: Env> PagableKey<E> for u128 {
-    ghost same = { number_is_same };
-
-    ghost refers_to_nothing = { λ e. basic_refers_to_nothing tt };
+    ghost key = { number_key };
 }
 
 impl<E: Env> PagableOrdKey<E> for u128 {
@@ -69,9 +60,7 @@ impl<E: Env> PagableOrdKey<E> for u128 {
 }
 
 impl<E: Env> PagableKey<E> for usize {
-    ghost same = { number_is_same };
-
-    ghost refers_to_nothing = { λ e. basic_refers_to_nothing tt };
+    ghost key = { number_key };
 }
 
 impl<E: Env> PagableOrdKey<E> for usize {
@@ -81,9 +70,7 @@ impl<E: Env> PagableOrdKey<E> for usize {
 }
 
 impl<E: Env> PagableKey<E> for i8 {
-    ghost same = { integer_is_same };
-
-    ghost refers_to_nothing = { λ e. basic_refers_to_nothing tt };
+    ghost key = { record { same = integer_is_same; refers_to_nothing = λ e. basic_refers_to_nothing tt } };
 }
 
 impl<E: Env> PagableOrdKey<E> for i8 {
@@ -93,9 +80,7 @@ impl<E: Env> PagableOrdKey<E> for i8 {
 }
 
 impl<E: Env> PagableKey<E> for i16 {
-    ghost same = { integer_is_same };
-
-    ghost refers_to_nothing = { λ e. basic_refers_to_nothing tt };
+    ghost key = { record { same = integer_is_same; refers_to_nothing = λ e. basic_refers_to_nothing tt } };
 }
 
 impl<E: Env> PagableOrdKey<E> for i16 {
@@ -105,9 +90,7 @@ impl<E: Env> PagableOrdKey<E> for i16 {
 }
 
 impl<E: Env> PagableKey<E> for i32 {
-    ghost same = { integer_is_same };
-
-    ghost refers_to_nothing = { λ e. basic_refers_to_nothing tt };
+    ghost key = { record { same = integer_is_same; refers_to_nothing = λ e. basic_refers_to_nothing tt } };
 }
 
 impl<E: Env> PagableOrdKey<E> for i32 {
@@ -117,9 +100,7 @@ impl<E: Env> PagableOrdKey<E> for i32 {
 }
 
 impl<E: Env> PagableKey<E> for i64 {
-    ghost same = { integer_is_same };
-
-    ghost refers_to_nothing = { λ e. basic_refers_to_nothing tt };
+    ghost key = { record { same = integer_is_same; refers_to_nothing = λ e. basic_refers_to_nothing tt } };
 }
 
 impl<E: Env> PagableOrdKey<E> for i64 {
@@ -129,9 +110,7 @@ impl<E: Env> PagableOrdKey<E> for i64 {
 }
 
 impl<E: Env> PagableKey<E> for i128 {
-    ghost same = { integer_is_same };
-
-    ghost refers_to_nothing = { λ e. basic_refers_to_nothing tt };
+    ghost key = { record { same = integer_is_same; refers_to_nothing = λ e. basic_refers_to_nothing tt } };
 }
 
 impl<E: Env> PagableOrdKey<E> for i128 {
@@ -141,9 +120,7 @@ impl<E: Env> PagableOrdKey<E> for i128 {
 }
 
 impl<E: Env> PagableKey<E> for char {
-    ghost same = { number_is_same };
-
-    ghost refers_to_nothing = { λ e. basic_refers_to_nothing tt };
+    ghost key = { record { same = number_is_same; refers_to_nothing = λ e. basic_refers_to_nothing tt } };
 }
 
 impl<E: Env> PagableOrdKey<E> for char {
@@ -153,9 +130,7 @@ impl<E: Env> PagableOrdKey<E> for char {
 }
 
 impl<E: Env> PagableKey<E> for bool {
-    ghost same = { flag_is_same };
-
-    ghost refers_to_nothing = { λ e. basic_refers_to_nothing tt };
+    ghost key = { record { same = flag_is_same; refers_to_nothing = λ e. basic_refers_to_nothing tt } };
 }
 
 /// `false` stands before `true`.
@@ -166,9 +141,7 @@ impl<E: Env> PagableOrdKey<E> for bool {
 }
 
 impl<E: Env> PagableKey<E> for () {
-    ghost same = { λ x y. nothing_is_same };
-
-    ghost refers_to_nothing = { λ e. basic_refers_to_nothing tt };
+    ghost key = { record { same = λ x y. nothing_is_same; refers_to_nothing = λ e. basic_refers_to_nothing tt } };
 }
 
 impl<E: Env> PagableOrdKey<E> for () {
@@ -178,9 +151,7 @@ impl<E: Env> PagableOrdKey<E> for () {
 }
 
 impl<E: Env, T> PagableKey<E> for PhantomData<T> {
-    ghost same = { λ x y. nothing_is_same };
-
-    ghost refers_to_nothing = { λ e. basic_refers_to_nothing tt };
+    ghost key = { record { same = λ x y. nothing_is_same; refers_to_nothing = λ e. basic_refers_to_nothing tt } };
 }
 
 impl<E: Env, T> PagableOrdKey<E> for PhantomData<T> {

@@ -1,17 +1,14 @@
 //! Keys that hold one or more others: each is equal exactly if its parts are, and refers to nothing since they don't.
 
-ghost use Rattle.pagable_model.specs.KeyParts.{option_is_same, option_is_ordered, result_is_same, result_is_ordered, pair_is_same};
-ghost use Rattle.pagable_model.specs.KeyParts.{triple_is_same, quadruple_is_same, quintuple_is_same, pair_is_ordered, triple_is_ordered, quadruple_is_ordered, quintuple_is_ordered};
-ghost use Rattle.pagable_model.specs.{Keys.{optional_order, outcome_order, pair_order}, OneForm.{over_refers_to_nothing, two_refers_to_nothing}};
-ghost use Rattle.std.specs.Prelude.{refl};
+ghost use Rattle.std.{proofs.Common.◌∙◌, proofs.Math.Bool.and_assoc, specs.Prelude.◌&&◌};
+ghost use Rattle.pagable_model.specs.{KeyParts.{option_is_ordered, result_is_ordered, pair_is_ordered, triple_is_ordered, quadruple_is_ordered, quintuple_is_ordered}, Keys.{optional_order, outcome_order, pair_order}};
+ghost use Rattle.pagable_traits.specs.KeyLaws.{key_alike, key_seen, option_key, pair_key, result_key};
 
 use crate::keys::{PagableKey, PagableOrdKey};
 use pagable_codec::env::Env;
 
 impl<E: Env, K: PagableKey<E>> PagableKey<E> for Option<K> {
-    ghost same = { option_is_same K.eq K.means.meaning K.same };
-
-    ghost refers_to_nothing = { λ e. over_refers_to_nothing refl (K.refers_to_nothing e) };
+    ghost key = { option_key K.key };
 }
 
 /// None stands before each key.
@@ -22,9 +19,7 @@ impl<E: Env, K: PagableOrdKey<E>> PagableOrdKey<E> for Option<K> {
 }
 
 impl<'a, E: Env, K: PagableKey<E>> PagableKey<E> for &'a K {
-    ghost same = { λ x y. K.same x.now y.now };
-
-    ghost refers_to_nothing = { λ e. K.refers_to_nothing e };
+    ghost key = { key_seen (λ r. r.now) K.key };
 }
 
 impl<'a, E: Env, K: PagableOrdKey<E>> PagableOrdKey<E> for &'a K {
@@ -34,9 +29,7 @@ impl<'a, E: Env, K: PagableOrdKey<E>> PagableOrdKey<E> for &'a K {
 }
 
 impl<E: Env, K: PagableKey<E>> PagableKey<E> for Box<K> {
-    ghost same = { λ x y. K.same x.value y.value };
-
-    ghost refers_to_nothing = { λ e. K.refers_to_nothing e };
+    ghost key = { key_seen (λ b. b.value) K.key };
 }
 
 impl<E: Env, K: PagableOrdKey<E>> PagableOrdKey<E> for Box<K> {
@@ -46,9 +39,7 @@ impl<E: Env, K: PagableOrdKey<E>> PagableOrdKey<E> for Box<K> {
 }
 
 impl<E: Env, K: PagableKey<E>, L: PagableKey<E>> PagableKey<E> for Result<K, L> {
-    ghost same = { result_is_same K.eq L.eq K.means.meaning L.means.meaning K.same L.same };
-
-    ghost refers_to_nothing = { λ e. two_refers_to_nothing (refl, refl) (K.refers_to_nothing e) (L.refers_to_nothing e) };
+    ghost key = { result_key K.key L.key };
 }
 
 /// A success stands before each failure.
@@ -59,9 +50,7 @@ impl<E: Env, K: PagableOrdKey<E>, L: PagableOrdKey<E>> PagableOrdKey<E> for Resu
 }
 
 impl<E: Env, A: PagableKey<E>, B: PagableKey<E>> PagableKey<E> for (A, B) {
-    ghost same = { λ x y. pair_is_same (A.eq x.0 y.0) (B.eq x.1 y.1) (A.means.meaning x.0) (B.means.meaning x.1) (A.means.meaning y.0) (B.means.meaning y.1) (A.same x.0 y.0) (B.same x.1 y.1) };
-
-    ghost refers_to_nothing = { λ e. two_refers_to_nothing (refl, refl) (A.refers_to_nothing e) (B.refers_to_nothing e) };
+    ghost key = { pair_key A.key B.key };
 }
 
 /// Pairs stand in the order of their first parts, and where these are equal of their second ones.
@@ -72,9 +61,7 @@ impl<E: Env, A: PagableOrdKey<E>, B: PagableOrdKey<E>> PagableOrdKey<E> for (A, 
 }
 
 impl<E: Env, A: PagableKey<E>, B: PagableKey<E>, C: PagableKey<E>> PagableKey<E> for (A, B, C) {
-    ghost same = { λ x y. triple_is_same (A.eq x.0 y.0) (B.eq x.1 y.1) (C.eq x.2 y.2) (A.means.meaning x.0) (B.means.meaning x.1) (C.means.meaning x.2) (A.means.meaning y.0) (B.means.meaning y.1) (C.means.meaning y.2) (A.same x.0 y.0) (B.same x.1 y.1) (C.same x.2 y.2) };
-
-    ghost refers_to_nothing = { λ e. two_refers_to_nothing (refl, refl) (A.refers_to_nothing e) (two_refers_to_nothing (refl, refl) (B.refers_to_nothing e) (C.refers_to_nothing e)) };
+    ghost key = { key_alike (λ x y. and_assoc (A.eq x.0 y.0) (B.eq x.1 y.1) (C.eq x.2 y.2)) (key_seen (λ p. (p.0, (p.1, p.2))) (pair_key A.key (pair_key B.key C.key))) };
 }
 
 /// A tuple stands as the pair of its first part and the tuple of the others does.
@@ -87,9 +74,7 @@ impl<E: Env, A: PagableOrdKey<E>, B: PagableOrdKey<E>, C: PagableOrdKey<E>> Paga
 
 impl<E: Env, A: PagableKey<E>, B: PagableKey<E>, C: PagableKey<E>, D: PagableKey<E>> PagableKey<E>
     for (A, B, C, D) {
-    ghost same = { λ x y. quadruple_is_same (A.eq x.0 y.0) (B.eq x.1 y.1) (C.eq x.2 y.2) (D.eq x.3 y.3) (A.means.meaning x.0) (B.means.meaning x.1) (C.means.meaning x.2) (D.means.meaning x.3) (A.means.meaning y.0) (B.means.meaning y.1) (C.means.meaning y.2) (D.means.meaning y.3) (A.same x.0 y.0) (B.same x.1 y.1) (C.same x.2 y.2) (D.same x.3 y.3) };
-
-    ghost refers_to_nothing = { λ e. two_refers_to_nothing (refl, refl) (A.refers_to_nothing e) (two_refers_to_nothing (refl, refl) (B.refers_to_nothing e) (two_refers_to_nothing (refl, refl) (C.refers_to_nothing e) (D.refers_to_nothing e))) };
+    ghost key = { key_alike (λ x y. and_assoc ((A.eq x.0 y.0) && (B.eq x.1 y.1)) (C.eq x.2 y.2) (D.eq x.3 y.3) ∙ and_assoc (A.eq x.0 y.0) (B.eq x.1 y.1) ((C.eq x.2 y.2) && (D.eq x.3 y.3))) (key_seen (λ p. (p.0, (p.1, (p.2, p.3)))) (pair_key A.key (pair_key B.key (pair_key C.key D.key)))) };
 }
 
 impl<
@@ -112,9 +97,7 @@ impl<
     D: PagableKey<E>,
     F: PagableKey<E>,
 > PagableKey<E> for (A, B, C, D, F) {
-    ghost same = { λ x y. quintuple_is_same (A.eq x.0 y.0) (B.eq x.1 y.1) (C.eq x.2 y.2) (D.eq x.3 y.3) (F.eq x.4 y.4) (A.means.meaning x.0) (B.means.meaning x.1) (C.means.meaning x.2) (D.means.meaning x.3) (F.means.meaning x.4) (A.means.meaning y.0) (B.means.meaning y.1) (C.means.meaning y.2) (D.means.meaning y.3) (F.means.meaning y.4) (A.same x.0 y.0) (B.same x.1 y.1) (C.same x.2 y.2) (D.same x.3 y.3) (F.same x.4 y.4) };
-
-    ghost refers_to_nothing = { λ e. two_refers_to_nothing (refl, refl) (A.refers_to_nothing e) (two_refers_to_nothing (refl, refl) (B.refers_to_nothing e) (two_refers_to_nothing (refl, refl) (C.refers_to_nothing e) (two_refers_to_nothing (refl, refl) (D.refers_to_nothing e) (F.refers_to_nothing e)))) };
+    ghost key = { key_alike (λ x y. and_assoc (((A.eq x.0 y.0) && (B.eq x.1 y.1)) && (C.eq x.2 y.2)) (D.eq x.3 y.3) (F.eq x.4 y.4) ∙ and_assoc ((A.eq x.0 y.0) && (B.eq x.1 y.1)) (C.eq x.2 y.2) ((D.eq x.3 y.3) && (F.eq x.4 y.4)) ∙ and_assoc (A.eq x.0 y.0) (B.eq x.1 y.1) ((C.eq x.2 y.2) && ((D.eq x.3 y.3) && (F.eq x.4 y.4)))) (key_seen (λ p. (p.0, (p.1, (p.2, (p.3, p.4))))) (pair_key A.key (pair_key B.key (pair_key C.key (pair_key D.key F.key))))) };
 }
 
 impl<

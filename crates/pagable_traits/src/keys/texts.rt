@@ -1,7 +1,8 @@
 //! Texts as keys, in the order of their bytes.
 
 ghost use Rattle.std.specs.{Box.boxed_str_bytes, String.string_bytes};
-ghost use Rattle.pagable_model.specs.{Keys.text_order, Keyed.text_is_same, Keyed.text_is_ordered, OneForm.basic_refers_to_nothing};
+ghost use Rattle.pagable_model.specs.{Keyed.text_is_ordered, Keys.text_order};
+ghost use Rattle.pagable_traits.specs.KeyLaws.{key_seen, text_key};
 
 use crate::impls::paths::PathText;
 use crate::keys::{PagableKey, PagableOrdKey};
@@ -9,9 +10,7 @@ use pagable_codec::env::Env;
 use std::boxed::BoxedStr;
 
 impl<E: Env> PagableKey<E> for String {
-    ghost same = { λ x y. text_is_same (string_bytes x) (string_bytes y) };
-
-    ghost refers_to_nothing = { λ e. basic_refers_to_nothing tt };
+    ghost key = { key_seen string_bytes text_key };
 }
 
 impl<E: Env> PagableOrdKey<E> for String {
@@ -21,9 +20,7 @@ impl<E: Env> PagableOrdKey<E> for String {
 }
 
 impl<E: Env> PagableKey<E> for BoxedStr {
-    ghost same = { λ x y. text_is_same (boxed_str_bytes x) (boxed_str_bytes y) };
-
-    ghost refers_to_nothing = { λ e. basic_refers_to_nothing tt };
+    ghost key = { key_seen boxed_str_bytes text_key };
 }
 
 impl<E: Env> PagableOrdKey<E> for BoxedStr {
@@ -33,9 +30,7 @@ impl<E: Env> PagableOrdKey<E> for BoxedStr {
 }
 
 impl<E: Env> PagableKey<E> for PathText {
-    ghost same = { λ x y. text_is_same (string_bytes x.text) (string_bytes y.text) };
-
-    ghost refers_to_nothing = { λ e. basic_refers_to_nothing tt };
+    ghost key = { key_seen (λ p. string_bytes p.text) text_key };
 }
 
 impl<E: Env> PagableOrdKey<E> for PathText {

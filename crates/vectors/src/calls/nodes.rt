@@ -154,7 +154,8 @@ fn referring(alloc: Global, node_type: &str, references: &[ArcRef]) -> anyhow::R
 }
 
 impl<H: KeyHash> NodeSet<CellEnv<H>> for CellNode {
-    ghost use Rattle.vectors.specs.Cells.{has_meaning, has_shape, means, own_shape, read_causes, read_causes_are_own, refers, refs_of, shape_of, type_of, write_causes, write_causes_may_refuse};
+    ghost use Rattle.pagable.specs.OwnCauses.{reads_memory};
+    ghost use Rattle.vectors.specs.Cells.{has_meaning, has_shape, means, own_shape, refers, refs_of, shape_of, type_of, writes};
 
     ghost type_of = { type_of };
 
@@ -166,13 +167,13 @@ impl<H: KeyHash> NodeSet<CellEnv<H>> for CellNode {
 
     ghost refs_of = { refs_of };
 
-    ghost write_causes = { write_causes };
+    ghost write_causes = { λ t. (writes t).are };
 
-    ghost read_causes = { read_causes };
+    ghost read_causes = { λ t. reads_memory.are };
 
-    ghost write_causes_may_refuse = { write_causes_may_refuse };
+    ghost write_causes_may_refuse = { λ t. (writes t).may };
 
-    ghost read_causes_are_own = { read_causes_are_own };
+    ghost read_causes_are_own = { λ t. reads_memory.own };
 
     ghost has_meaning = { has_meaning };
 

@@ -1,24 +1,9 @@
 use Rattle.pagable_traits.proofs.{Words.{◌≡◌, length, refl, sym, rules, ◌∙◌, Result, Ok, Err, Error, memory, long_or, MeansPair, both, json, text, Is, of_key, of_value}, Maps.writes_entry}
 use Rattle.pagable_traits.proofs.{Maps.{written-fewer, written-none, written-more, written-all, written-refused}, JsonSteps.{as-form, wrote-then, wrote-err, wrote-nothing, wrote-more, wrote-is}}
-use Rattle.pagable_traits.proofs.{JsonSteps.{wrote-then-err, wrote-below, wrote-deep}, JsonWritten.{null-value, as-value, seen-flag, seen-number, seen-text, seen-array, seen-object, value-has}}
+use Rattle.pagable_traits.proofs.{JsonSteps.{wrote-then-err, wrote-below, wrote-deep}, JsonWritten.{as-value, seen-object, value-has}}
 use Rattle.pagable_traits.proofs.JsonWritten.{member-has, array-joins, array-lacks, array-long, array-deep, object-joins, object-lacks, object-long, object-deep, json-text, json-long, json-deep}
 use Rattle.pagable_traits.proofs.{Items.{writes_no_items, writes_item, refuses_item}, Parts.{refuses_first, refuses_second}}
 use Rattle.pagable_traits.proofs.impls.json_writing.+writing_json.Goals as goal
-
-pub write_value-returns-in-Null : goal.write_value-returns-in-Null
-write_value-returns-in-Null g t c = null-value g.E.Env g.S.PagableSerializer c.args.value.now c.write_case.result c.in-Null.is c.write_case.ensures
-
-pub write_value-returns-in-Bool : goal.write_value-returns-in-Bool
-write_value-returns-in-Bool g t c = as-value g.E.Env g.S.PagableSerializer c.args.value.now _ c.write_flag.result (seen-flag c.args.value.now c.in-Bool.flag c.in-Bool.is) c.write_flag.ensures
-
-pub write_value-returns-in-Number : goal.write_value-returns-in-Number
-write_value-returns-in-Number g t c = as-value g.E.Env g.S.PagableSerializer c.args.value.now _ c.write_number.result (seen-number c.args.value.now c.in-Number.number c.in-Number.is) c.write_number.ensures
-
-pub write_value-returns-in-String : goal.write_value-returns-in-String
-write_value-returns-in-String g t c = as-value g.E.Env g.S.PagableSerializer c.args.value.now _ c.write_text.result (seen-text c.args.value.now c.in-String.text _ c.in-String.is refl) c.write_text.ensures
-
-pub write_value-returns-in-Array : goal.write_value-returns-in-Array
-write_value-returns-in-Array g t c = as-value g.E.Env g.S.PagableSerializer c.args.value.now _ c.write_array.result (seen-array c.args.value.now c.in-Array.items c.in-Array.is) c.write_array.ensures
 
 pub write_value-returns-in-Object : goal.write_value-returns-in-Object
 write_value-returns-in-Object g t c = as-value g.E.Env g.S.PagableSerializer c.args.value.now _ c.write_object.result (seen-object c.args.value.now c.in-Object.members c.in-Object.is) c.write_object.ensures

@@ -3,6 +3,6 @@ use Rattle.pagable_traits.proofs.impls.hashed.HashMapPagableDeserialize.pagable_
 
 pub returns : goal.returns
 returns g c =
-    let same = key-same g.K.Carried.means.of g.K.Carried.means.meaning g.met.K.OneMeaning.single g.K.PartialEq.eq g.met.K.PagableKey.same g.met.K.Eq.laws in
+    let same = key-same g.K.Carried.means.of g.K.Carried.means.meaning g.met.K.OneMeaning.single g.K.PartialEq.eq g.met.K.PagableKey.key.same g.met.K.Eq.laws in
     tells g.E.Env g.D.PagableDeserializer c.read_collected.ensures
     (reads_hash_map _ g.K.Carried.means.of g.V.Carried.means.of g.K.PartialEq.eq same c.read_collected.result (λ x. x.entries) _ _ _ _ _ c.read_collected.ensures.gives)

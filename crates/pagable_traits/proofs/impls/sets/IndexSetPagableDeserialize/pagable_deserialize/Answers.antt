@@ -3,6 +3,6 @@ use Rattle.pagable_traits.proofs.impls.sets.IndexSetPagableDeserialize.pagable_d
 
 pub returns : goal.returns
 returns g c =
-    let same = key-same g.T.Carried.means.of g.T.Carried.means.meaning g.met.T.OneMeaning.single g.T.PartialEq.eq g.met.T.PagableKey.same g.met.T.Eq.laws in
+    let same = key-same g.T.Carried.means.of g.T.Carried.means.meaning g.met.T.OneMeaning.single g.T.PartialEq.eq g.met.T.PagableKey.key.same g.met.T.Eq.laws in
     tells g.E.Env g.D.PagableDeserializer c.read_collected.ensures
     (reads_placed_set _ g.T.Carried.means.of g.T.PartialEq.eq same c.read_collected.result (λ x. x.keys) _ _ _ _ c.read_collected.ensures.gives)
