@@ -93,8 +93,8 @@ module _ (x y value : Expression) (is : of_expression value ≡ failure (pair (o
   pub left_unwritten : {X E : Type 0} (e : Error) {levels between after : ℕ} {old mid new : Out} {env env_mid env_after : E}
       → record { ok : mid ≡ added old (bool_form false) []; only : Unit {0}; err : Grows old mid; same_env : env_mid ≡ env; same_levels : between ≡ levels }
       → IsWritten {X = X} (Is of_expression x) (nested 0) (Err e) between after mid new env_mid env_after → IsWritten {X = X} (Is of_expression value) node (Err e) levels after old new env env_after
-  left_unwritten e f w =
-      as-written (flagged (Err e) (MeansPair (Is of_expression) (Is of_expression) (x, y)) (Is of_expression value) _ (both (nested 0) (nested 0)) node false failure (deep_or memory) (deep_or memory)
+  left_unwritten {X = X} e f w =
+      as-written (flagged {Y = X} (Err e) (MeansPair (Is of_expression) (Is of_expression) (x, y)) (Is of_expression value) _ (both (nested 0) (nested 0)) node false failure (deep_or memory) (deep_or memory)
       sum-means (λ m b k form. err-form _ _ _ m b k form) (no-failure _ _ _) (λ e h. h) f.ok
       (record { ok = tt; refused = refuses_first (Is of_expression) (Is of_expression) has (x, y) _ _ _ e (rw f.same_levels at w.refused); only = w.only; err = w.err; same_env = w.same_env ∙ f.same_env; same_levels = w.same_levels ∙ f.same_levels }))
 

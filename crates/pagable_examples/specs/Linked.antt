@@ -72,31 +72,25 @@ bundle_reads = reads_either (reads_memory_or reads_unlent) (reads_either (reads_
 
 -- ---- nodes
 
--- a node's value, with its type's number, how its type is spelled, and what it means
-pub record Told : Type 1 where
-  pub number : ℕ
-  pub shape : Shape
-  pub Value : Type 0
-  pub sense : Meanings Value
-  pub single : AreSingle sense
-  pub value : Value
-
-abbrev pub told : LinkedNode → Told
-told (nodes.Link c) = record { number = 0; shape = optional (reference 1); Value = Chain 1; sense = chain_means 1; single = chain_single 1; value = arc_value c }
-told (nodes.ArcLink c) = record { number = 1; shape = optional (reference 3); Value = Chain 3; sense = chain_means 3; single = chain_single 3; value = arc_value c }
-told (nodes.Bundle b) = record { number = 2; shape = bundle_shape; Value = Bundle; sense = bundle_means; single = bundle_single; value = arc_value b }
-
 abbrev pub type_of : LinkedNode → ℕ
-type_of n = (told n).number
+type_of (nodes.Link c) = 0
+type_of (nodes.ArcLink c) = 1
+type_of (nodes.Bundle b) = 2
 
 abbrev pub own_shape : LinkedNode → Shape
-own_shape n = (told n).shape
+own_shape (nodes.Link c) = optional (reference 1)
+own_shape (nodes.ArcLink c) = optional (reference 3)
+own_shape (nodes.Bundle b) = bundle_shape
 
 abbrev pub means : LinkedNode → Meaning ArcRef → Type 0
-means n = (told n).sense.of (told n).value
+means (nodes.Link c) = (chain_means 1).of (arc_value c)
+means (nodes.ArcLink c) = (chain_means 3).of (arc_value c)
+means (nodes.Bundle b) = bundle_means.of (arc_value b)
 
 abbrev pub refs_of : LinkedNode → List ArcRef
-refs_of n = references_in ((told n).sense.meaning (told n).value)
+refs_of (nodes.Link c) = references_in ((chain_means 1).meaning (arc_value c))
+refs_of (nodes.ArcLink c) = references_in ((chain_means 3).meaning (arc_value c))
+refs_of (nodes.Bundle b) = references_in (bundle_means.meaning (arc_value b))
 
 abbrev pub shape_of : ℕ → Option Shape
 shape_of zero = Some (optional (reference 1))
@@ -122,11 +116,15 @@ has_shape (nodes.ArcLink c) = refl
 has_shape (nodes.Bundle b) = refl
 
 pub has_meaning : (n : LinkedNode) → SomeMeaning (means n)
-has_meaning n = some (told n).sense (told n).value
+has_meaning (nodes.Link c) = some (chain_means 1) (arc_value c)
+has_meaning (nodes.ArcLink c) = some (chain_means 3) (arc_value c)
+has_meaning (nodes.Bundle b) = some bundle_means (arc_value b)
 
 -- a value refers to what its one meaning refers to
 pub refers : (n : LinkedNode) (m : Meaning ArcRef) → means n m → SameReferences (refs_of n) (references_in m)
-refers n m h is = rw ((told n).single (told n).value m h) refl
+refers (nodes.Link c) m h is = rw (chain_single 1 (arc_value c) m h) refl
+refers (nodes.ArcLink c) m h is = rw (chain_single 3 (arc_value c) m h) refl
+refers (nodes.Bundle b) m h is = rw (bundle_single (arc_value b) m h) refl
 
 -- ---- what a node holds
 

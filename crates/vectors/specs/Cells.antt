@@ -5,7 +5,6 @@ use Rattle.pagable.specs.Meanings.{AreSingle, Meanings, exactly, lists, lists_si
 use Rattle.pagable.specs.OwnCauses.{WriteCauses, writes_either, writes_long_or, writes_memory, writes_memory_or}
 use Rattle.pagable_model.specs.{Meaning.{Meaning, number, pair}, References.{references_in, SameReferences}, Refusals.may_refuse_writing, Shape.{Shape, both, list, optional, reference, text, unsigned}}
 use Rattle.pagable_model.specs.{Standing.SomeMeaning, declared.error.Error.Error, declared.numbers.ArcRef.ArcRef}
-use Rattle.pagable_examples.specs.Linked.{Told}
 use Rattle.std.specs.Prelude.{String}
 use Rattle.std.specs.declared.alloc.Global.{Global}
 use Rattle.vectors.specs.declared.calls.nodes.CellNode.{CellNode}
@@ -50,7 +49,7 @@ pub mixed_refers : (p : ℕ × FiveLists) → references_in (mixed_means.meaning
 unfolding references_in
 mixed_refers p = refl
 
--- ---- the values of each other type of nodes
+-- ---- other values
 
 abbrev pub text_means : Meanings (String Global)
 text_means = exactly (λ t. meanings.text (string_bytes t))
@@ -67,28 +66,47 @@ bytes_mean = pairs (exactly number) (exactly number)
 pub one_bytes : AreSingle bytes_mean
 one_bytes = pairs_single (exactly number) (exactly number) (λ x m is. is) (λ x m is. is)
 
--- a node's value, with its type's number, how its type is spelled, and what it means
-abbrev pub told : CellNode → Told
-told (nodes.Name t) = record { number = 0; shape = text; Value = String Global; sense = text_means; single = λ t m is. is; value = arc_value t }
-told (nodes.Note t) = record { number = 1; shape = text; Value = String Global; sense = text_means; single = λ t m is. is; value = arc_value t }
-told (nodes.Mixed mixed) = record { number = 2; shape = mixed_shape; Value = ℕ × FiveLists; sense = mixed_means; single = one_mixed; value = arc_value mixed }
-told (nodes.Link next) = record { number = 3; shape = optional (reference 10); Value = Option (OfKind 10); sense = link_means 10; single = one_link 10; value = next }
-told (nodes.ArcLink next) = record { number = 4; shape = optional (reference 12); Value = Option (OfKind 12); sense = link_means 12; single = one_link 12; value = next }
-told (nodes.Names names) = record { number = 5; shape = list (reference 0); Value = Vec (OfKind 0); sense = names_mean 0; single = one_list 0; value = arc_value names }
-told (nodes.Holder name) = record { number = 6; shape = reference 0; Value = OfKind 0; sense = exactly (plain_means 0); single = λ a m is. is; value = name }
-told (nodes.Bytes first second) = record { number = 7; shape = both (unsigned w8) (unsigned w8); Value = ℕ × ℕ; sense = bytes_mean; single = one_bytes; value = (first, second) }
+-- ---- nodes
 
 abbrev pub type_of : CellNode → ℕ
-type_of n = (told n).number
+type_of (nodes.Name t) = 0
+type_of (nodes.Note t) = 1
+type_of (nodes.Mixed mixed) = 2
+type_of (nodes.Link next) = 3
+type_of (nodes.ArcLink next) = 4
+type_of (nodes.Names names) = 5
+type_of (nodes.Holder name) = 6
+type_of (nodes.Bytes first second) = 7
 
 abbrev pub own_shape : CellNode → Shape
-own_shape n = (told n).shape
+own_shape (nodes.Name t) = text
+own_shape (nodes.Note t) = text
+own_shape (nodes.Mixed mixed) = mixed_shape
+own_shape (nodes.Link next) = optional (reference 10)
+own_shape (nodes.ArcLink next) = optional (reference 12)
+own_shape (nodes.Names names) = list (reference 0)
+own_shape (nodes.Holder name) = reference 0
+own_shape (nodes.Bytes first second) = both (unsigned w8) (unsigned w8)
 
 abbrev pub means : CellNode → Meaning ArcRef → Type 0
-means n = (told n).sense.of (told n).value
+means (nodes.Name t) = text_means.of (arc_value t)
+means (nodes.Note t) = text_means.of (arc_value t)
+means (nodes.Mixed mixed) = mixed_means.of (arc_value mixed)
+means (nodes.Link next) = (link_means 10).of next
+means (nodes.ArcLink next) = (link_means 12).of next
+means (nodes.Names names) = (names_mean 0).of (arc_value names)
+means (nodes.Holder name) = (exactly (plain_means 0)).of name
+means (nodes.Bytes first second) = bytes_mean.of (first, second)
 
 abbrev pub refs_of : CellNode → List ArcRef
-refs_of n = references_in ((told n).sense.meaning (told n).value)
+refs_of (nodes.Name t) = []
+refs_of (nodes.Note t) = []
+refs_of (nodes.Mixed mixed) = references_in (five_mean.meaning (arc_value mixed).1)
+refs_of (nodes.Link next) = references_in ((link_means 10).meaning next)
+refs_of (nodes.ArcLink next) = references_in ((link_means 12).meaning next)
+refs_of (nodes.Names names) = references_in ((names_mean 0).meaning (arc_value names))
+refs_of (nodes.Holder name) = references_in (plain_means 0 name)
+refs_of (nodes.Bytes first second) = []
 
 abbrev pub shape_of : ℕ → Option Shape
 shape_of zero = Some text
@@ -127,8 +145,30 @@ has_shape (nodes.Holder name) = refl
 has_shape (nodes.Bytes first second) = refl
 
 pub has_meaning : (n : CellNode) → SomeMeaning (means n)
-has_meaning n = some (told n).sense (told n).value
+has_meaning (nodes.Name t) = some text_means (arc_value t)
+has_meaning (nodes.Note t) = some text_means (arc_value t)
+has_meaning (nodes.Mixed mixed) = some mixed_means (arc_value mixed)
+has_meaning (nodes.Link next) = some (link_means 10) next
+has_meaning (nodes.ArcLink next) = some (link_means 12) next
+has_meaning (nodes.Names names) = some (names_mean 0) (arc_value names)
+has_meaning (nodes.Holder name) = some (exactly (plain_means 0)) name
+has_meaning (nodes.Bytes first second) = some bytes_mean (first, second)
+
+text-refers : (t : List ℕ) → references_in {A = ArcRef} (meanings.text t) ≡ []
+unfolding references_in
+text-refers t = refl
+
+pub bytes_refer : (p : ℕ × ℕ) → references_in (bytes_mean.meaning p) ≡ []
+unfolding references_in
+bytes_refer p = refl
 
 -- a value refers to what its one meaning refers to
 pub refers : (n : CellNode) (m : Meaning ArcRef) → means n m → SameReferences (refs_of n) (references_in m)
-refers n m h test = rw ((told n).single (told n).value m h) refl
+refers (nodes.Name t) m h = rw (h, text-refers (string_bytes (arc_value t))) (λ test. refl)
+refers (nodes.Note t) m h = rw (h, text-refers (string_bytes (arc_value t))) (λ test. refl)
+refers (nodes.Mixed mixed) m h = rw (one_mixed (arc_value mixed) m h, mixed_refers (arc_value mixed)) (λ test. refl)
+refers (nodes.Link next) m h = rw (one_link 10 next m h) (λ test. refl)
+refers (nodes.ArcLink next) m h = rw (one_link 12 next m h) (λ test. refl)
+refers (nodes.Names names) m h = rw (one_list 0 (arc_value names) m h) (λ test. refl)
+refers (nodes.Holder name) m h = rw h (λ test. refl)
+refers (nodes.Bytes first second) m h = rw (one_bytes (first, second) m h, bytes_refer (first, second)) (λ test. refl)
