@@ -194,7 +194,6 @@ impl<H: KeyHash> NodeSet<CellEnv<H>> for CellNode {
         }
     }
 
-    #[tactic(auto, using(crate::proofs::Listed::nothing))]
     fn refs(&self, alloc: Global) -> Result<Vec<ArcRef>, Error> {
         match self {
             CellNode::Mixed(mixed) => references_of::<CellEnv<H>, Lists>(alloc, &mixed.as_ref().1),
