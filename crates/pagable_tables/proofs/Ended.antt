@@ -70,7 +70,8 @@ module _ (before w : Core) (given : ℕ → Bool) (lists : Bool) (t : Holdings) 
   -- what the world says of a cascade
   pub ended : Falls before w given (told_by t.unlisted) (with_tables w t)
   ended =
-      let set : IsLeast w.rows (is_keyed w) f.entries given f.gone = record { holds = f.holds; closed = closed; least = λ s has is. f.least s f.entries (λ n none. let a = counted (is_at n) in omega arith) has is } in
+      let set : IsLeast w.rows (is_keyed w) f.entries given f.gone =
+      record { holds = f.holds; closed = closed; least = λ s has is. f.least s f.entries (λ n none. let a = counted (is_at n) in omega arith) has is } in
       let within : w.last.handle + length f.entries ≤ greatest = subst (λ k. k ≤ greatest) f.last f.within in
       grind (arith, nat_tests, each-listed, leaves)
 

@@ -2,7 +2,8 @@
 use Rattle.pagable_tables.proofs.Words.{nat_lt, ◌≡◌, ℕ, ◌<◌, ◌≤◌, ◌-◌, ◌==◌, ◌&&◌, ◌||◌, Bool, true, false, not, [], Option, Some, None, refl, ap, sym, ◌∙◌, arith, nat_tests, NodeNumber, HandleRow}
 use Rattle.pagable_tables.proofs.Words.{Owner, if_there, is_owner, find_row, Core, OpenLoad, nobody, Giving, Holdings, live, is_valued, SoFar, gives_row, passes_in, ◌+◌, if◌then◌else◌, List, ◌∷◌, suc}
 use Rattle.pagable_tables.proofs.Words.{length, get_or, slice_get, AllPairs, slice_get-get_or, is_handle, Place, alive, IsBefore, take, ArcRef, LoadNumber, is_named_by}
-use Rattle.pagable_tables.proofs.{Words.is_owned_in, Regiven.{regiven, passes-so-far, passes-here, passes-none, and_owned}, Alive.{le_or_lt, row-live, smaller-up, greater-from}, Named.named-take, Bits.had}
+use Rattle.pagable_tables.proofs.{Words.is_owned_in, Regiven.{regiven, passes-so-far, passes-here, passes-none, and_owned}, Alive.{le_or_lt, row-live, smaller-up, greater-from}}
+use Rattle.pagable_tables.proofs.{Named.named-take, Bits.had}
 use Rattle.pagable_tables.{proofs.{Bits.and-left, Words.{InReach, Reach}}, specs.Giving.gives}
 
 -- a world of these loads alone

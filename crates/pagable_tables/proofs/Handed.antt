@@ -88,7 +88,8 @@ one-moved hs p o rows rows' rows'' h same is next =
     ∙ moved-same (λ q. h.0 == q || is_in (seen hs p) q) (is_in (seen hs (p + 1))) o rows (λ q. ap (λ m. m == q || is_in (seen hs p) q) same ∙ sym (in-more hs p q))
 
 -- what is found of moved rows
-pub found-there : (f : HandleRow → HandleRow) → ((h : HandleRow) → (f h).number.0 ≡ h.number.0) → (q : ℕ) (rows : List HandleRow) (row : HandleRow) → find_row q rows ≡ Some row → find_row q (map f rows) ≡ Some (f row)
+pub found-there : (f : HandleRow → HandleRow) → ((h : HandleRow) → (f h).number.0 ≡ h.number.0) → (q : ℕ) (rows : List HandleRow) (row : HandleRow) → find_row q rows ≡ Some row
+    → find_row q (map f rows) ≡ Some (f row)
 unfolding find_row
 found-there f same q [] row is = absurd (cc)
 found-there f same q (x ∷ xs) row is = grind (arith, nat_tests, found-there f same q xs row)

@@ -5,7 +5,8 @@ use Rattle.pagable_tables.proofs.Words.{NodeNumber, Ok, Option, Owner, Result, S
 use Rattle.pagable_tables.proofs.Words.{false, filter, filter-append, first_cause, greatest, held, if◌then◌else◌, inl, inr, is_at, is_handle, is_keyed, is_listing, is_outside, is_owned_by, is_owner}
 use Rattle.pagable_tables.proofs.Words.{is_pin, is_some, left_rows, length, length-append, live, map, map-append, nat_tests, not, one, only_handle, owner_value, owns_nothing, pins, pins_in, refl}
 use Rattle.pagable_tables.proofs.{Words.{subst, sum_by, sum_by-append, sum_by-le-sum_by, sym, times, told_by, true, vec_capacity, with_tables, ℕ}, Bits.one-le, Left.and_one}
-use Rattle.pagable_tables.proofs.{Left.{sum-most, entries-more, kept-more, leaves-sums, left-more, left-none, none-entered, none-listed, of_list, ones, times-left}, Telling.{entry-pins, forced, only-more}}
+use Rattle.pagable_tables.proofs.Left.{sum-most, entries-more, kept-more, leaves-sums, left-more, left-none, none-entered, none-listed, of_list, ones, times-left}
+use Rattle.pagable_tables.proofs.Telling.{entry-pins, forced, only-more}
 use Rattle.pagable_tables.proofs.{Telling.{refusal-now, tells-more}, keeps.HandleCalls.lists}
 
 rows-leaves : (rows entries : List HandleRow) (gone : ℕ → Bool) (old new : Holdings) (x : HandleRow) (wanted listed : Bool) (leaves : Leaves old x wanted listed new)
@@ -128,7 +129,8 @@ module _ (before w : Core) (given : ℕ → Bool) (lists : Bool) (t : Holdings) 
   pub entered-on : (given' gone : ℕ → Bool) → Begins before now lists → live gap.handles.places.items ≡ left_rows gone rows ++ f.entries
       → filter (λ (q : HandleNumber). not (gone q.0)) w.list ≡ filter (λ (q : HandleNumber). not (f.gone q.0)) w.list
       → ((n : ℕ) → is_some (counts_at new.nodes n) ≡ true → cell_in (counts_at new.nodes n) ≡ w.cells n) → IsWithin rows given' gone
-      → ((s : ℕ → Bool) (final : List HandleRow) → ((n : ℕ) → held n (live new.handles.places.items) ≡ 0 → held n final ≡ 0) → IsWithin rows given' s → IsClosed rows (is_keyed w) final s → IsWithin rows gone s)
+      → ((s : ℕ → Bool) (final : List HandleRow) → ((n : ℕ) → held n (live new.handles.places.items) ≡ 0 → held n final ≡ 0) → IsWithin rows given' s
+      → IsClosed rows (is_keyed w) final s → IsWithin rows gone s)
       → (new.top ≢ 0 → length (live new.handles.places.items) ≤ length rows) → SoFar before now given' lists new
   entered-on given' gone begins rest kept cells holds least fewer =
       record {

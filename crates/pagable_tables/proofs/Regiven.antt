@@ -14,7 +14,8 @@ less-where a b s h = grind (arith, nat_tests)
 pub regiven : (before w : Core) (given given' : ℕ → Bool) (lists : Bool) (t : Holdings) (f : SoFar before w given lists t) → ((r : ℕ) → given' r ≡ true → (given r || f.gone r) ≡ true) → ((r : ℕ) → given r ≡ true → given' r ≡ true) → SoFar before w given' lists t
 regiven before w given given' lists t f less more =
     let holds : IsWithin w.rows given' f.gone = within-less given' f.gone given f.gone w.rows (λ r. less-unless (given' r) (f.gone r) (given r) (less r)) f.holds in
-    let least : (s : ℕ → Bool) (final : List HandleRow) → ((n : ℕ) → held n (live t.handles.places.items) ≡ 0 → held n final ≡ 0) → IsWithin w.rows given' s → IsClosed w.rows (is_keyed w) final s → IsWithin w.rows f.gone s =
+    let least : (s : ℕ → Bool) (final : List HandleRow) → ((n : ℕ) → held n (live t.handles.places.items) ≡ 0 → held n final ≡ 0) → IsWithin w.rows given' s
+    → IsClosed w.rows (is_keyed w) final s → IsWithin w.rows f.gone s =
     λ s final bare has closed. f.least s final bare (within-less given s given' s w.rows (λ r. less-where (given r) (given' r) (s r) (more r)) has) closed in
     grind (arith, nat_tests)
 

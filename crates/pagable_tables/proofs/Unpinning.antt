@@ -54,7 +54,8 @@ module _ (T : Tables) (stored : ℕ → Option Blob) (closed lists : Bool) (fail
 
   pub lowered-on : SoFar old now nobody lists new
   lowered-on =
-      entered-on old old nobody lists t f now.rows (length-map old.rows (λ y. if is_handle x.number.0 y then unpinned y else y)) x l.counts l.is (whole.steady.fits.pinned x.node.0) here l.lowered l.between
+      entered-on old old nobody lists t f now.rows (length-map old.rows (λ y. if is_handle x.number.0 y then unpinned y else y)) x l.counts l.is
+      (whole.steady.fits.pinned x.node.0) here l.lowered l.between
       new l.listed l.comes l.same gapped l.places (omega (arith, long)) left nobody nobody begins
       (l.rows ∙ sym (append-nil _ ∙ all-kept now.rows)) refl (λ n there. (l.cells n there).1) (none-within nobody now.rows) (λ s final bare has closed. none-within s now.rows) few
 

@@ -31,7 +31,8 @@ known-suits {w} whole kind key n is = grind (arith, nat_tests, usable-is, counte
 
 pub known-whole : {w : Core} (kind : Kind) (key n : ℕ) (owner : Owner) → IsWhole w → usable w kind.0 key ≡ Some n → MayHold w owner → w.last.handle < greatest
     → IsWhole (roomy (with_known w kind n owner))
-known-whole kind key n owner whole is holder left = beside whole (record { 0 = n }) (mode_of kind.0) owner (suits-like (record { 0 = n }) (mode_of kind.0) (known-suits whole kind.0 key n is)) holder left
+known-whole kind key n owner whole is holder left =
+    beside whole (record { 0 = n }) (mode_of kind.0) owner (suits-like (record { 0 = n }) (mode_of kind.0) (known-suits whole kind.0 key n is)) holder left
 
 pub recall-whole : {w w' : Core} (me : Owner) (kind : Kind) (key : ℕ) (r : Result (Option HandleNumber) Error) → IsWhole w → MayHold w me → RecallCall w me kind key r w' → ArePlaced w' → IsWhole w'
 recall-whole me kind key x3 whole holder call placed = grind (arith, nat_tests, settles, known-whole, alike-whole)

@@ -64,7 +64,8 @@ module _ (before m : Core) (whole : IsWhole (roomy (opened m))) (on : GoesOn bef
   pinned-gives : (x : HandleRow) → Among (with_pin m h row.node me).rows x → x.owner ≡ Owner.Load l → given x.number.0 ≡ true
   pinned-gives x among own = elim (among-both (with_mode m h Mode.LoosePinned).rows _ x among) [
     | inl old ↦
-        among-changed (is_handle h.0) (λ z. record z { mode = Mode.LoosePinned }) (λ z. z.owner ≡ Owner.Load l → given z.number.0 ≡ true) m.rows x old (λ z there e. gives z there) (λ z there e. gives z there) own
+        among-changed (is_handle h.0) (λ z. record z { mode = Mode.LoosePinned }) (λ z. z.owner ≡ Owner.Load l → given z.number.0 ≡ true) m.rows x old (λ z there e. gives z there)
+        (λ z there e. gives z there) own
     | inr new ↦ absurd (not-load m me l may (ap (λ (z : HandleRow). z.owner) (sym (among-one _ x new)) ∙ own))
   ]
 

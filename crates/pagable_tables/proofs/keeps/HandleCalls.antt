@@ -54,7 +54,9 @@ pub row-suits : {w : Core} (h : HandleNumber) (row : HandleRow) → row_at w h �
 row-suits {w} h row live = record { row = row; there = (found-among h.0 w.rows row live).0; at = refl; shared = refl }
 
 pub clone-whole : {w w' : Core} (me : Owner) (h : HandleNumber) (r : Result HandleNumber Error) → IsWhole w → MayHold w me → CloneCall w me h r w' → ArePlaced w' → IsWhole w'
-clone-whole {w} me h (Ok k) whole holder call placed = let row = call.made.0 in settles (beside whole row.node row.mode me (suits-like row.node row.mode (row-suits {w = w} h row call.made.1)) holder call.made.2.is_left) call.made.3 placed
+clone-whole {w} me h (Ok k) whole holder call placed =
+    let row = call.made.0 in
+    settles (beside whole row.node row.mode me (suits-like row.node row.mode (row-suits {w = w} h row call.made.1)) holder call.made.2.is_left) call.made.3 placed
 clone-whole me h (Err e) whole holder call placed = alike-whole whole call.refused.stays placed
 
 -- the list's handles are owned by the list

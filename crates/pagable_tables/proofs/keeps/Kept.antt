@@ -80,7 +80,8 @@ is-in {w} whole h among = of h.owner refl
     of _ is = tt
 
 -- where loads stay open and workers at work
-pub in-still : (w u : Core) → ((l : ℕ) → is_some (w.loads l) ≡ true → is_some (u.loads l) ≡ true) → ((v : ℕ) → w.workers v ≡ true → u.workers v ≡ true) → (mode : Mode) (o : Owner) → IsIn w mode o → IsIn u mode o
+pub in-still : (w u : Core) → ((l : ℕ) → is_some (w.loads l) ≡ true → is_some (u.loads l) ≡ true) → ((v : ℕ) → w.workers v ≡ true → u.workers v ≡ true) → (mode : Mode) (o : Owner)
+    → IsIn w mode o → IsIn u mode o
 in-still w u loads workers mode Owner.List i = i
 in-still w u loads workers mode (Owner.Load l) i = loads l.0 i
 in-still w u loads workers mode (Owner.Worker v) i = workers v.0 i

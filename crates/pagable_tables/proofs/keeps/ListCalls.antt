@@ -29,7 +29,8 @@ same-number a b is = grind (arith, nat_tests)
 
 pub schedule-whole : {w w' : Core} (me : Owner) (h : HandleNumber) (r : Result (Unit {0}) Error) → IsWhole w → MayHold w me → ScheduleCall w me h r w' → ArePlaced w' → IsWhole w'
 schedule-whole {w} {w'} me h (Ok u) whole holder call placed = let (row, owns, does) = call.moves in elim does [
-  | inl (stands_open, alike) ↦ settles (listed row (found-among h.0 w.rows row owns.live) (ap (is_owner Owner.List) owns.own ∙ not-list w me holder) (is-unpinned row.mode owns.as_asked) stands_open) alike placed
+  | inl (stands_open, alike) ↦
+      settles (listed row (found-among h.0 w.rows row owns.live) (ap (is_owner Owner.List) owns.own ∙ not-list w me holder) (is-unpinned row.mode owns.as_asked) stands_open) alike placed
   | inr (closed, falls) ↦ falls-whole (roomy-whole whole) (stays-on w) falls.falls placed
 ]
   where

@@ -97,7 +97,8 @@ module _ {w : Core} (whole : IsWhole w) (test : HandleRow → Bool) (f : HandleR
         typed = λ n t few is. is;
         keyed = λ n like few none. none;
       } in
-      let there : (h : HandleRow) → Among turned.rows h → IsIn w h.mode h.owner = λ h among. among-changed test f (λ y. IsIn w y.mode y.owner) w.rows h among owners (λ x there e. is-in whole x there) in
+      let there : (h : HandleRow) → Among turned.rows h → IsIn w h.mode h.owner =
+      λ h among. among-changed test f (λ y. IsIn w y.mode y.owner) w.rows h among owners (λ x there e. is-in whole x there) in
       keeps-whole whole (grind (arith, nat_tests, listed, loads-stay))
 
 -- ---- another mode
