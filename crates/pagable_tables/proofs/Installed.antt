@@ -7,7 +7,8 @@ use Rattle.pagable_tables.proofs.Words.{sum_by_push, Mode, Blob, Among, one, tim
 use Rattle.pagable_tables.proofs.Words.{Last, Alike, Falls, nobody, moved, row_of, is_named_by, with_handle, with_mode, without_load, with_pin, Installs, Holdings, Counts, LoadRow, load_at, cell_in}
 use Rattle.pagable_tables.proofs.{Words.{has_value, is_valued, pins_in, with_tables, is_plain_pin, SoFar, core_of, load_in, MayHold, IsWider, has_come}, Coming.{rows-told, turned}}
 use Rattle.pagable_tables.proofs.{keeps.Told.alike-whole, keeps.Placed.whole-so, keeps.EndCalls.both-none, Newer.{OnlyNewer, owned-mode, newer-then, newer-moved, newer-mode, newer-handle}}
-use Rattle.pagable_tables.proofs.{Worlds.{alike, fault-by}, Newer.newer-falls, Begun.{begins, begun}, Taken.{load-closed, owned-given, moved-times, owned-moved, no-load}, Joined.{moved-turned, turned-sum}, Named.moved-nobody}
+use Rattle.pagable_tables.proofs.Worlds.{alike, fault-by}
+use Rattle.pagable_tables.proofs.{Newer.newer-falls, Begun.{begins, begun}, Taken.{load-closed, owned-given, moved-times, owned-moved, no-load}, Joined.{moved-turned, turned-sum}, Named.moved-nobody}
 use Rattle.pagable_tables.proofs.{Named.named-none, Regiven.{found-first, owned, passes-here, passes-none}, Stays.{seen-before, stays-pinned, not-named, same-value}, keeps.HandleCalls.named-unlisted}
 use Rattle.pagable_tables.proofs.{keeps.HandleCalls.moved-to-value, keeps.Comes.{not-list, not-a-value}, keeps.LoadCalls.may-hold, keeps.Rows.{among-map, found-among, once, ordered-map, sum-map}}
 use Rattle.pagable_tables.{proofs.Bits.{and-zero, and-left, and-all}, specs.Core.IsWhole}
