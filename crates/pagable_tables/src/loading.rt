@@ -1,6 +1,7 @@
 //! Loads of cells that begin, and whose an open load is.
 
-ghost use Rattle.{std.specs.Prelude.{◌≡◌, ◌<◌, ℕ, Bool, Option, Some, [], IfOk, IfErr, IfNone, IfSome, slice_get, true, false}, pagable_world.specs.{Plain.Blob, Kinds.is_in_memory, World.greatest}};
+ghost use Rattle.std.specs.Prelude.{◌≡◌, ◌<◌, ℕ, Bool, Option, Some, [], IfOk, IfErr, IfNone, IfSome, slice_get, true, false};
+ghost use Rattle.pagable_world.specs.{Plain.Blob, Kinds.is_in_memory, World.greatest};
 ghost use Rattle.pagable_world.specs.{World.{of_cell, Alike}, Pager.MayOwnLoad, Refusals.{load_fault, OwnsLoad}, Calls.with_handle, LoadCalls.{BeginCall, IsNextLoad, with_load}};
 ghost use Rattle.pagable_tables.specs.{Live.alive, ByNumber.load_at, Falling.{key_in, IsFalling, owns_nothing}, Core.{core_of, plain_of, IsWhole, load_in}, Asking.AsksKnown, Later.AreLater};
 ghost use Rattle.pagable_tables.specs.Doing.{Does};

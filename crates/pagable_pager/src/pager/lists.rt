@@ -1,6 +1,7 @@
 //! The list of cells that wait for page-out, the cache of nodes by the kind and key under which they were read, and room for what comes.
 
-ghost use Rattle.{std.specs.Prelude.{◌≡◌, true, length}, pagable_world.specs.Calls.{ScheduleCall, TakeCall, OfferCall, RecallCall, ClearCall, ReserveCall, room_of}, pagable_pager.specs.View.core_in};
+ghost use Rattle.std.specs.Prelude.{◌≡◌, true, length};
+ghost use Rattle.{pagable_world.specs.Calls.{ScheduleCall, TakeCall, OfferCall, RecallCall, ClearCall, ReserveCall, room_of}, pagable_pager.specs.View.core_in};
 ghost use Rattle.pagable_pager.specs.{View.{telling, OnlyTables, OnlyLess, is_at_work}, Calling.{Calls, CallsLess}};
 
 use crate::pager::Pager;

@@ -1,6 +1,7 @@
 //! Loads, by steps, and what is asked of them before they begin or go on.
 
-ghost use Rattle.{std.specs.{Prelude.{◌≡◌, IfOk, IfNone, true, IfErr, Some, nat_lt}, Arc.arc_value}, pagable_core.specs.Data.blob_of, pagable_world.specs.World.{seen_as, greatest}};
+ghost use Rattle.std.specs.{Prelude.{◌≡◌, IfOk, IfNone, true, IfErr, Some, nat_lt}, Arc.arc_value};
+ghost use Rattle.{pagable_core.specs.Data.blob_of, pagable_world.specs.World.{seen_as, greatest}};
 ghost use Rattle.{pagable_world.specs.{LoadCalls.{AskCall, BeginCall, BeginKeyCall, LazyCall}, Refusals.load_fault}, pagable_tables.specs.{Asking.AsksKnown, Core.root_in}};
 ghost use Rattle.pagable_pager.specs.{View.{core_in, telling, given_as, OnlyTables, OnlyStorage, SameValues, is_at_work}, Opened.{ReadsAs, type_of_root}, Calling.Calls};
 

@@ -1,6 +1,7 @@
 //! Handles that let go and loads that end, with all that goes with them.
 
-ghost use Rattle.{std.specs.Prelude.{◌≡◌, true}, pagable_world.specs.{Calls.{ReleaseCall, UnpinCall, SetKeyCall}, LoadCalls.{DropCall, HandOverCall}}, pagable_pager.specs.View.{core_in, telling}};
+ghost use Rattle.std.specs.Prelude.{◌≡◌, true};
+ghost use Rattle.{pagable_world.specs.{Calls.{ReleaseCall, UnpinCall, SetKeyCall}, LoadCalls.{DropCall, HandOverCall}}, pagable_pager.specs.View.{core_in, telling}};
 ghost use Rattle.pagable_pager.specs.{View.{OnlyLess, is_at_work}, Calling.CallsLess};
 
 use crate::pager::Pager;
