@@ -48,18 +48,12 @@ module _ {X : Type 0} {g : Ghosts X} {N E : Type 0} (v : Values N) (me : Owner) 
     pub finish-stores : (key : ℕ) (turn : Turn X g) (path : List (Waiting X g)) → todos path ≡ below → IsStored w.node key turn → (s t : PagerState N E)
         → Stores v s (blob_of (written_of (arc_value w.written)).bytes (keys_of w.children.items)) (Ok key) t
         → TurnsTo v me n shelf (Task.Finish w) below shelf (record { took = Took.Store (named_by w.node) (Ok key); turn = turn; counted = true }) (plan turn path) s t
-    finish-stores key turn path at is s t call = record {
-      turns = λ f. stores f.me_is (written_of (arc_value w.written)) (keys_of w.children.items) s t f.whole w.node way key turn path at is call;
-      counts = counted w.node (written_of (arc_value w.written)) (keys_of w.children.items) below (named_by w.node) (Ok key);
-    }
+    finish-stores key turn path at is s t call = grind (arith, nat_tests, common_steps, stores, counted)
 
     pub finish-fails : (e : Error) (task : Task X g) (after : List Todo) → IsPlain task → after ≡ fails (was_refused e) (back_of None below) → (s t : PagerState N E)
         → Stores v s (blob_of (written_of (arc_value w.written)).bytes (keys_of w.children.items)) (Err e) t
         → TurnsTo v me n shelf (Task.Finish w) below shelf (record { took = Took.Store (named_by w.node) (Err e); turn = Turn.Goes task; counted = true }) after s t
-    finish-fails e task after plain is s t call = record {
-      turns = λ f. fails-so f.me_is (written_of (arc_value w.written)) (keys_of w.children.items) s t f.whole w.node way e task after plain is call;
-      counts = counted w.node (written_of (arc_value w.written)) (keys_of w.children.items) below (named_by w.node) (Err e);
-    }
+    finish-fails e task after plain is s t call = grind (arith, nat_tests, common_steps, fails-so, counted)
 
   module _ (d : Done X g) where
     pub set-goes : (through : HandleNumber) (s t : PagerState N E) → Called v (λ w'. SetKeyCall s.core me through d.found.key (Ok tt) w') s t
@@ -103,3 +97,5 @@ module _ {N E : Type 0} (v : Values N) (me : Owner) where
   pub back-some : (back : Option HandleNumber) (h : HandleNumber) (r : Result (Unit {0}) Error) → back ≡ Some h → (s t : PagerState N E) → Called v (λ w'. ScheduleCall s.core me h r w') s t
       → GoesBack v me back s t
   back-some back h r is s t call = subst (λ b. GoesBack v me b s t) (sym is) (record { goes = (r, call.step); moves = call.moves; whole = λ w. call.whole })
+
+pub ruleset finishing = (nat_tests, common_steps, all-done, stored-way, stored-leads, failed-leads)

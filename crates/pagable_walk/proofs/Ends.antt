@@ -1,7 +1,7 @@
 -- Waits come to an end after each change of a table.
-use Rattle.std.proofs.{Common.{ℕ, ◌≡◌, Bool, true, false, if◌then◌else◌, Option, Some, None, ◌⊎◌, inl, inr, refl, sym, ap, ◌∙◌, subst, nat_eq}, lemmas.{Grind.merely, Option.none-some}}
+use Rattle.std.proofs.{Common.{ℕ, ◌≡◌, Bool, true, false, if◌then◌else◌, Option, Some, None, ◌⊎◌, inl, inr, refl, sym, ap, ◌∙◌, subst, nat_eq}, lemmas.Option.none-some}
 use Rattle.pagable_world.specs.{Workers.{is_open_outcome, with_outcome, IsOpenSlot, ComesToEnd, works, may-go-on, waits-on, with_slot, with_wait}, Plain.{Identity, SameAt, if_there}, World.Outcome}
-use Rattle.{pagable_world.specs.World.{Slot, Shelf, SameShelf, is_identity}, pagable_walk.specs.Slots.Changes}
+use Rattle.{std.proofs.lemmas.{Bool.Decides.nat_tests, Grind.{common_steps, merely}}, pagable_world.specs.World.{Slot, Shelf, SameShelf, is_identity}, pagable_walk.specs.Slots.Changes}
 use Rattle.pagable_walk.{proofs.{Held.{same-as, same-identity}, Waits.{some-same, open-is, closed}}, specs.Slots.{open_worker, WaitsFor, Ends, ends-at, EachEnds, claimed_by, SlotIs, SameSlots}}
 use mathlib.Core.Logic.{∥∥₁_map}
 
@@ -96,3 +96,5 @@ outcome-by o h x true w e = absurd (none-some w (sym (ap (λ b. if b then Some x
 -- a slot that gets an outcome
 pub outcome-less : (o : Outcome) → is_open_outcome o ≡ false → (x : Slot) (w : ℕ) → open_worker (Some (with_outcome o x)) ≡ Some w → open_worker (Some x) ≡ Some w
 outcome-less o h x w e = outcome-by o h x (is_open_outcome x.outcome) w e
+
+pub ruleset empty = (nat_tests, common_steps, no-waits, none-some)

@@ -59,3 +59,5 @@ less-by v s false w e = e
 pub failure-less : (v : ℕ) (o : Option Slot) (w : ℕ) → open_worker (after_failure v o) ≡ Some w → open_worker o ≡ Some w
 failure-less v None w e = e
 failure-less v (Some s) w e = less-by v s (nat_eq s.worker v) w e
+
+pub ruleset failing = (no-row, all-failed)

@@ -24,9 +24,6 @@ same-numbers i j k n = λ p. record { kind = record { 0 = k p }; node = record {
 pub same-identity : (i j : Identity) → is_same (i.kind.0, i.node.0) (j.kind.0, j.node.0) ≡ true → i ≡ j
 same-identity i j h = grind (arith, nat_tests, common_steps, and-true, nat_tests, same-numbers)
 
-pub same-key : (i : Identity) → is_identity i i ≡ true
-same-key i = grind (arith, nat_tests)
-
 -- what waits at one number, and at the others
 pub wait-is : {T : Type 0} (old new : IndexMap ℕ Identity T) (v : ℕ) (w : Option Identity) → ((q : ℕ) → get nat_eq new q ≡ cond (nat_eq v q) w (get nat_eq old q)) → SameAt (updated v w (λ q. get nat_eq old q)) (λ q. get nat_eq new q)
 wait-is old new v w h q = h q ∙ ap (λ b. cond b w (get nat_eq old q)) (eq-sym v q)

@@ -21,7 +21,7 @@ module _ {N E : Type 0} (v : Values N) where
 
   module _ (shelf : Shelf) (item : Written) where
     pub item-unbegun : (e : Error) → e ≡ Error.OutOfMemory → (s t : PagerState N E) → Called v (λ w'. Alike s.core w') s t → PagesItem v shelf item shelf (WorkerAnswer.Failed e) s t
-    item-unbegun e is s t call = subst (λ x. PagesItem v shelf item shelf (WorkerAnswer.Failed x) s t) (sym is) (record { over = λ whole all. record { run = no-worker _ call (same-shelf shelf); all_have_results = all } })
+    item-unbegun e is s t call = grind (arith, nat_tests, common_steps, same-shelf, no-worker)
 
     pub item-unstarted : (e : Error) → e ≡ Error.OutOfMemory → (s : PagerState N E) → PagesItem v shelf item shelf (WorkerAnswer.Failed e) s s
     item-unstarted e is s = subst (λ x. PagesItem v shelf item shelf (WorkerAnswer.Failed x) s s) (sym is) (record { over = λ whole all. record { run = no-worker _ (stays-called s whole) (same-shelf shelf); all_have_results = all } })

@@ -1,9 +1,10 @@
 -- What a worker has to do, after a reference was done.
 use Rattle.std.proofs.{Common.{ℕ, ◌≡◌, ◌≤◌, ◌<◌, ◌+◌, List, [], ◌∷◌, ◌++◌, length, drop, take, map, get_or, refl, sym, ap, subst, ◌∙◌, arith, Some, slice_get}, lemmas.Bool.Decides.nat_tests}
-use Rattle.std.{proofs.lemmas.{Grind.common_steps, List.{at_drop_more, at_drop_all, take_more, length-append, map-append}, Option.{get_or_from_slice_get, slice_get_within}}, specs.Prelude.Option}
+use Rattle.std.proofs.lemmas.{Grind.common_steps, List.{at_drop_more, at_drop_all, take_more, length-append, length-map, map-append}, Option.{get_or_from_slice_get, slice_get_within}}
 use Rattle.{std.specs.Prelude.{None, max}, pagable_model.specs.declared.numbers.{ArcRef.ArcRef, HandleNumber.HandleNumber}, pagable_world.specs.{Kinds.identity_of, Plain.{above, longest_path}}}
 use Rattle.{pagable_world.specs.{Workers.{place_below, next_start, settle, give}, World.{Todo, Written, to_start}}, pagable_walk.specs.{Due.rank, Failing.back_of, Found.ids_of}, std.proofs.lemmas.Option.none-some}
-use Rattle.pagable_walk.{specs.{Tasks.{place_of, raised, waiting_todo, waits_as, todos_onto, todos}, declared.{results.{SlotResult.SlotResult, Trees.Ghosts}, tasks.{Node.Node, Waiting.Waiting}}}, proofs.Waits.some-same}
+use Rattle.pagable_walk.specs.{Tasks.{place_of, raised, waiting_todo, waits_as, todos_onto, todos}, declared.{results.{SlotResult.SlotResult, Trees.Ghosts}, tasks.{Node.Node, Waiting.Waiting}}}
+use Rattle.{std.specs.Prelude.Option, pagable_walk.proofs.{Waits.some-same, Ways.item-way}}
 
 module _ {E : Type 0} {g : Ghosts E} where
   onto-more : (ws : List (Waiting E g)) (w : Waiting E g) (below : List Todo) → todos_onto (ws ++ w ∷ []) below ≡ waiting_todo w ∷ todos_onto ws below
@@ -89,3 +90,10 @@ module _ (node : Option Node) (written : Written) (keys : List ℕ) (below : Lis
       next-starts : (place m n p : ℕ) (rs : List ArcRef) (r : ArcRef) (todo : List Todo) → m ≡ n → n < length rs → r ≡ get_or rs n r → p ≡ place_below place r.kind.0
           → to_start r p ∷ todo ≡ next_start place (drop m rs) ++ todo
       next-starts place m n p rs r todo e more is at = grind (arith, nat_tests, common_steps, at_drop_more)
+
+-- what a path with nothing on it, and one with one more, is as plain data
+pub ruleset paths = (nat_tests, todos-none, todos-more, back-none, item-way)
+
+pub ruleset settling = (nat_tests, common_steps, todos-more, settled-all, settled-next, rank-waits, place-low, length-map)
+
+pub ruleset giving = (nat_tests, common_steps, todos-more, todos-none, raised-has, length-map, map-append, slice_get_within)

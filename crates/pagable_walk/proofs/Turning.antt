@@ -72,3 +72,5 @@ module _ {X : Type 0} {g : Ghosts X} where
       → IsPlain task → SameShelf (with_wait shelf n None) shelf' → (s : PagerState N E)
       → TurnsTo v me n shelf (Task.Start r place) below shelf' (record { took = Took.Claim (identity_of r) (Err Error.OutOfMemory); turn = Turn.Goes task; counted = true }) after s s
   start-refused v me n shelf shelf' r place below after task is plain same s = grind (arith, nat_tests, common_steps, start-turns, start-back, finds, alike)
+
+pub ruleset claiming = (nat_tests, common_steps, claims-there, refuses, claim-fits)

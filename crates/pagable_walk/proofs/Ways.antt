@@ -1,8 +1,8 @@
 -- A path that leads to what is done next goes on so.
-use Rattle.std.proofs.Common.{ℕ, zero, suc, ◌≡◌, ◌≤◌, ◌+◌, Bool, true, false, List, [], ◌∷◌, ◌++◌, length, drop, refl, sym, ap, subst, arith, Some, slice_get, if◌then◌else◌}
-use Rattle.{std.{proofs.lemmas.{List.length-append, Option.{none-some, slice_get_within}}, specs.Prelude.{max, None, Option}}, pagable_model.specs.declared.numbers.ArcRef.ArcRef, pagable_world.specs.World.{Open, Todo, to_start}}
+use Rattle.std.proofs.Common.{ℕ, zero, suc, ◌≡◌, ◌≤◌, ◌+◌, Bool, true, false, List, [], ◌∷◌, ◌++◌, length, drop, refl, sym, ap, ◌∙◌, subst, arith, Some, slice_get, if◌then◌else◌}
+use Rattle.{std.{proofs.lemmas.{List.length-append, Option.{none-some, slice_get_within}}, specs.Prelude.{max, None, Option}}, pagable_model.specs.declared.numbers.ArcRef.ArcRef}
 use Rattle.{pagable_world.specs.{World.{to_finish, to_item, Written}, Plain.{above, is_eager, longest_path}, Workers.{give, give_known, next_start, settle}}, pagable_walk.specs.Tasks.Awaits}
-use Rattle.pagable_walk.{specs.{Tasks.{AwaitsLow, IsWay, TakesNext, waits_as}, declared.tasks.Node.Node}, proofs.Waits.some-same}
+use Rattle.{pagable_world.specs.World.{Open, Todo}, pagable_walk.{specs.{Tasks.{AwaitsLow, Gives, IsWay, TakesNext, waits_as}, declared.tasks.Node.Node}, proofs.Waits.some-same}}
 
 -- what is left of references after so many, in both cases
 left-by : (Q : List ArcRef → Type 0) (n : ℕ) (refs : List ArcRef) → n ≤ length refs → (n ≡ length refs → Q []) → ((r : ArcRef) (rest : List ArcRef) → slice_get refs n ≡ Some r → Q (r ∷ rest))
@@ -17,11 +17,6 @@ pub settle-way : (o : Open) (below : List Todo) → length o.keys ≤ length o.w
 unfolding Awaits
 settle-way o below few up near =
     left-by (λ rest. IsWay (next_start o.place rest ++ to_finish o ∷ below)) (length o.keys) o.written.references few (λ all. (all, up, near)) (λ r rest at. (at, refl, near, up))
-
--- a path begins
-pub start-way : (r : ArcRef) → IsWay (to_start r 0 ∷ [])
-unfolding Awaits
-start-way r = refl
 
 pub item-way : (written : Written) (keys : List ℕ) → length keys ≤ length written.references → IsWay (settle (to_item written keys ∷ []))
 unfolding Awaits
@@ -72,3 +67,9 @@ give-way (x ∷ below) r key h up = absurd up.1
 pub known-way : (below : List Todo) (r : ArcRef) (key h : ℕ) → AwaitsLow below r h → IsWay (give_known r key h below)
 known-way [] r key h up = up
 known-way (x ∷ below) r key h up = give-way (x ∷ below) r key h up
+
+-- a result that goes to what waits
+pub gives-way : (below todo : List Todo) (r : ArcRef) (key h : ℕ) → Gives r key h below todo → AwaitsLow below r h → IsWay todo
+gives-way below todo r key h gives up = subst IsWay (ap (give r key h) gives.was ∙ sym gives.is) (give-way below r key h up)
+
+pub ruleset ways = (known-way, gives-way)

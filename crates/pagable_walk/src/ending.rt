@@ -80,6 +80,7 @@ where
 }
 
 /// Stores the blob of a node or an item whose references are all done.
+#[tactic(auto, using(crate::proofs::Closing::finishing))]
 pub fn finish<E: Env, A: WorkerAccess<E>>(
     access: &mut A,
     alloc: Global,
@@ -162,6 +163,7 @@ where
 }
 
 /// Gives up the worker's handles of a node that is done. Its result goes to what waits for it; where nothing does, its key is answered.
+#[tactic(auto, using(crate::proofs::Ways::ways))]
 pub fn release<E: Env, A: WorkerAccess<E>>(
     access: &mut A,
     worker: WorkerNumber,

@@ -159,6 +159,7 @@ pub fn publish<E: Trees>(slots: &mut IndexMap<(u32, u64), ArcSerSlot<E>>, found:
 }
 
 // The claim of this place is failed, if it is this worker's and has no result yet.
+#[tactic(auto, using(crate::proofs::Failing::failing))]
 fn fail_at<E: Trees>(slots: &mut IndexMap<(u32, u64), ArcSerSlot<E>>, place: usize, worker: u64)
     ensures { FailsAt worker place slots.old.entries slots.new.entries }
 {
@@ -169,6 +170,7 @@ fn fail_at<E: Trees>(slots: &mut IndexMap<(u32, u64), ArcSerSlot<E>>, place: usi
 }
 
 /// A worker's claims without a result are failed. It takes no memory.
+#[tactic(auto, using(crate::proofs::Failing::failing))]
 pub fn fail_all<E: Trees>(slots: &mut IndexMap<(u32, u64), ArcSerSlot<E>>, worker: u64)
     requires { AreNamed slots.old }
     ensures slots { (j : Named) → slots_in slots.new j ≡ after_failure worker (slots_in slots.old j) }
@@ -264,6 +266,7 @@ impl<E: Trees> SlotTable<E> {
     }
 
     /// A table of no claims. It takes no memory.
+    #[tactic(auto, using(crate::proofs::Ends::empty))]
     pub fn new(alloc: Global) -> SlotTable<E>
         ensures { SameShelf no_claims (shelf_of result) }
     {

@@ -28,6 +28,7 @@ fn place_of(node: &Option<Node>) -> u64
 }
 
 /// What waits goes on: its next reference is started, for which it waits on a path that has room; or it is finished.
+#[tactic(auto, using(crate::proofs::Stacks::settling))]
 pub fn settle<E: Trees>(path: &mut Vec<Waiting<E>>, waiting: Waiting<E>) -> Task<E>
     requires { vec_len path.old < vec_capacity path.old }
     ensures todo { todo_of result ∷ todos path.new.items ≡ settle (waiting_todo waiting ∷ todos path.old.items) }
@@ -70,6 +71,7 @@ fn raised(node: Option<Node>, kind: Kind, below: u64) -> Option<Node>
 }
 
 // What waits, with the result of its next reference.
+#[tactic(auto, using(crate::proofs::Stacks::giving))]
 fn with_result<E: Trees>(waiting: Waiting<E>, done: Done<E>) -> Waiting<E>
     requires { TakesNext waiting.node (written_of (arc_value waiting.written)) (keys_of waiting.children.items) done.reference done.found.height }
     ensures { waiting_todo result ≡ waits_as (raised done.reference.kind.0 done.found.height waiting.node) (written_of (arc_value waiting.written)) (keys_of waiting.children.items ++ done.found.key ∷ []) }
@@ -89,6 +91,7 @@ fn with_result<E: Trees>(waiting: Waiting<E>, done: Done<E>) -> Waiting<E>
 }
 
 /// A result goes to what waits for it, and that goes on. Where nothing waits, it comes back.
+#[tactic(auto, using(crate::proofs::Stacks::giving))]
 pub fn give<E: Trees>(path: &mut Vec<Waiting<E>>, done: Done<E>) -> Result<Task<E>, Done<E>>
     requires { AwaitsLow (todos path.old.items) done.reference done.found.height }
     ensures gives { IfOk result (λ task. Gives done.reference done.found.key done.found.height (todos path.old.items) (todo_of task ∷ todos path.new.items)) }
@@ -104,6 +107,7 @@ pub fn give<E: Trees>(path: &mut Vec<Waiting<E>>, done: Done<E>) -> Result<Task<
 }
 
 /// A result that was known already goes to what waits for it; where nothing does, the handle of the listed cell is released.
+#[tactic(auto, using(crate::proofs::Stacks::paths))]
 pub fn give_known<E: Trees>(path: &mut Vec<Waiting<E>>, done: Done<E>) -> Task<E>
     requires { AwaitsLow (todos path.old.items) done.reference done.found.height }
     ensures todo { todo_of result ∷ todos path.new.items ≡ give_known done.reference done.found.key done.found.height (todos path.old.items) }
@@ -117,6 +121,7 @@ pub fn give_known<E: Trees>(path: &mut Vec<Waiting<E>>, done: Done<E>) -> Task<E
 }
 
 /// The walk fails: all that waits goes. Where nothing waits, this entry goes back to the list.
+#[tactic(auto, using(crate::proofs::Stacks::paths))]
 pub fn fail<E: Trees>(
     path: &mut Vec<Waiting<E>>,
     why: PageOutError,

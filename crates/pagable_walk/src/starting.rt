@@ -13,6 +13,7 @@ use std::alloc::Global;
 use std::sync::Arc;
 
 /// The first task for an item, and a path with places for it. Refused by want of memory alone.
+#[tactic(auto, using(crate::proofs::Stacks::paths))]
 pub fn start_item<E: Trees>(
     alloc: Global,
     written: Arc<SerializedData>,
@@ -33,6 +34,7 @@ pub fn start_item<E: Trees>(
 }
 
 /// The first task for an entry of the list, which this reference names, and an empty path. It takes no memory.
+#[tactic(auto, using(crate::proofs::Stacks::paths), unfolding(crate::specs::Tasks::Awaits))]
 pub fn start_entry<E: Trees>(alloc: Global, reference: ArcRef) -> (Task<E>, Vec<Waiting<E>>)
     ensures todo { todo_of result.0 ∷ todos result.1.items ≡ first_todo (of_entry reference.handle (identity_of reference)) }
     ensures way { IsWay (todo_of result.0 ∷ todos result.1.items) }

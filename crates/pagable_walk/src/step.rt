@@ -96,6 +96,7 @@ fn left_after(left: u64, took: &Took<Arc<SerializedData>>) -> u64
 }
 
 // A step of a walk to which so many claims are left. Where none is, a claim is refused as one for which memory is wanting.
+#[tactic(auto, using(crate::proofs::Dues::dues))]
 fn step_within<E: Env, A: WorkerAccess<E>>(
     access: &mut A,
     alloc: Global,

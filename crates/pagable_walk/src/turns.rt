@@ -20,6 +20,7 @@ use std::sync::Arc;
 
 // A claim of what a reference names, at this place on the path. `checked` is why the reference itself can't be claimed. It is refused so first, and then as `try_claim`.
 // A claim that is refused leaves the claims as they were, and the worker waits for nothing.
+#[tactic(auto, using(crate::proofs::Turning::claiming))]
 fn claim<E: Trees>(
     table: &mut SlotTable<E>,
     worker: WorkerNumber,
@@ -65,6 +66,7 @@ fn counts(found: &Result<Claim, Error>) -> bool
 }
 
 // What is done after a claim.
+#[tactic(auto, using(crate::proofs::Ways::ways))]
 fn after_claim<E: Trees>(
     path: &mut Vec<Waiting<E>>,
     reference: ArcRef,

@@ -1,8 +1,5 @@
-use Rattle.{std.proofs.Common.sym, pagable_walk.proofs.Failing.{row-fails, no-row}}
+use Rattle.{std.proofs.Common.sym, pagable_walk.proofs.Failing.row-fails}
 use Rattle.pagable_walk.proofs.slots.fail_at.Goals as goal
 
 pub returns-in-Some : goal.returns-in-Some
 returns-in-Some g c = record { more = λ first h. row-fails c.args.worker c.args.place first c.args.slots.now.entries c.in-Some.slot.now c.fail_of.new.self (sym c.in-Some.ensures.value) c.fail_of.ensures.slot c.fail_of.ensures.own h }
-
-pub returns-in-None : goal.returns-in-None
-returns-in-None g c = record { more = λ first h. no-row c.args.worker c.args.place first c.args.slots.now.entries (sym c.in-None.ensures.value) h }

@@ -1,4 +1,4 @@
-use Rattle.{std.proofs.Common.{refl, arith}, pagable_loads.proofs.Stepped.acts_map, pagable_walk.{specs.Tasks.todos, proofs.Pinning.{load-goes, load-pins, load-fails, load-reads-none}}}
+use Rattle.{std.proofs.Common.{refl}, pagable_loads.proofs.Stepped.acts_map, pagable_walk.{specs.Tasks.todos, proofs.Pinning.{load-goes, load-pins, load-fails, load-reads-none}}}
 use Rattle.pagable_walk.proofs.turns.load.Goals as goal
 
 pub returns-in-None-clause-acts : goal.returns-in-None-clause-acts
@@ -17,6 +17,3 @@ returns-in-Some-Refused-clause-acts g c n shelf =
 pub returns-clause-acts : goal.returns-clause-acts
 returns-clause-acts g c n shelf =
     acts_map (rw c.in-Some-Read.field-0-is at c.in-Some-Read.ensures.acts) (load-reads-none _ _ n shelf c.args.reference c.args.place (todos c.args.path.now.items) c.args.through c.args.reading c.in-Some-Read._value _ _ _ refl)
-
-pub returns-in-None-clause-leads : goal.returns-in-None-clause-leads
-returns-in-None-clause-leads g c = let l = c.in-None.ensures.leads.leads in omega (arith, l)

@@ -1,4 +1,4 @@
-use Rattle.{std.proofs.Common.{ap, arith}, pagable_world.specs.World.Reading, pagable_loads.{specs.Ending.to_do, proofs.Stepped.acts_map}, pagable_walk.{specs.Tasks.todos, proofs.Pinning.pin-holds}}
+use Rattle.{pagable_loads.{proofs.Stepped.acts_map}, pagable_walk.{specs.Tasks.todos, proofs.Pinning.pin-holds}}
 use Rattle.pagable_walk.proofs.Pinning.{pin-begins, pin-fails}
 use Rattle.pagable_walk.proofs.turns.pin.Goals as goal
 
@@ -14,6 +14,3 @@ returns-in-Begun-clause-acts g c n shelf =
 pub returns-in-Err-clause-acts : goal.returns-in-Err-clause-acts
 returns-in-Err-clause-acts g c n shelf =
     rw c.named-identity.ensures (acts_map c.in-Err.ensures (pin-fails _ _ n shelf c.args.reference c.args.place (todos c.args.path.now.items) c.in-Err.e c.refuse.result _ c.refuse.ensures.plain c.refuse.ensures.todo))
-
-pub returns-in-Begun-clause-leads : goal.returns-in-Begun-clause-leads
-returns-in-Begun-clause-leads g c = let e = ap (λ (x : Reading). to_do x.frames) c.new-reading.ensures.reading in omega (arith, e)

@@ -1,5 +1,5 @@
-use Rattle.{std.{proofs.Common.{◌≤◌, ◌+◌, ◌∷◌, None, length, ap, ◌∙◌, subst, sym, arith}, specs.Arc.arc_value}, pagable_walk.specs.Writing.just_open, pagable_loads.proofs.Stepped.tells_map}
-use Rattle.pagable_world.specs.{Plain.longest_path, Workers.settle, World.{to_finish, was_refused}}
+use Rattle.{std.{proofs.Common.{◌∷◌, None, length, ap, ◌∙◌, subst, sym, arith}, specs.Arc.arc_value}, pagable_walk.specs.Writing.just_open, pagable_loads.proofs.Stepped.tells_map}
+use Rattle.pagable_world.specs.{Workers.settle, World.{to_finish, was_refused}}
 use Rattle.pagable_walk.{proofs.{Forming.{write-turns, write-fails}, Pinning.same-shelf, Ways.settle-way}, specs.{Failing.{back_of, fails}, Slots.written_of, Table.shelf_of, Tasks.{IsWay, todos}}}
 use Rattle.pagable_walk.proofs.turns.write.Goals as goal
 
@@ -7,10 +7,7 @@ pub returns-in-Ok-clause-way : goal.returns-in-Ok-clause-way
 returns-in-Ok-clause-way g c =
     let node = just_open c.args.reference c.args.place c.args.through (written_of (arc_value c.in-Ok.told)) in
     let e = c.settle.ensures.todo ∙ ap (λ t. settle (t ∷ todos c.prepare.new.path.items)) c.in-Ok.ensures.open ∙ ap (λ ps. settle (to_finish node ∷ todos ps)) c.in-Ok.ensures.path in
-    let near = c.requires.near in
-    let low : c.args.place + 0 ≤ longest_path = omega (arith, near) in
-    let few : 0 ≤ length (written_of (arc_value c.in-Ok.told)).references = omega arith in
-    subst IsWay (sym e) (settle-way node (todos c.args.path.now.items) few c.requires.way low)
+    subst IsWay (sym e) (settle-way node (todos c.args.path.now.items) (omega arith) c.requires.way (omega (arith, c.requires.near)))
 
 pub returns-in-Ok-clause-step : goal.returns-in-Ok-clause-step
 returns-in-Ok-clause-step g c n =

@@ -1,11 +1,8 @@
 use Rattle.{std.proofs.Common.{refl, sym, ap, ◌∙◌}, pagable_walk.{specs.{Slots.{shelf_in, slots_in, open_worker}, Table.shelf_of}, proofs.{Ends.less-open, Failing.failure-less}}}
 use Rattle.pagable_walk.proofs.table.SlotTable.fail.Goals as goal
 
-pub invariant_of-self : goal.invariant_of-self
-invariant_of-self g c =
+pub invariant_of-self-clause-ends : goal.invariant_of-self-clause-ends
+invariant_of-self-clause-ends g c =
     let old = c.args.self.now in
-    let new = c.fail_all.new.slots in
-    record {
-      own = c.fail_all.ensures.own;
-      ends = less-open (shelf_of old) (shelf_in new old.waits) (λ j w e. failure-less c.args.worker.0 (slots_in old.slots j) w (sym (ap open_worker (c.fail_all.ensures.slots j)) ∙ e)) (λ v. refl) old.ends;
-    }
+    less-open (shelf_of old) (shelf_in c.fail_all.new.slots old.waits)
+    (λ j w e. failure-less c.args.worker.0 (slots_in old.slots j) w (sym (ap open_worker (c.fail_all.ensures.slots j)) ∙ e)) (λ v. refl) old.ends

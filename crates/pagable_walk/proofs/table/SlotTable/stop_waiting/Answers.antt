@@ -1,10 +1,8 @@
 use Rattle.{std.proofs.Common.{None, refl}, pagable_walk.{specs.{Slots.shelf_in, Table.shelf_of}, proofs.{Ends.stopped, Held.wait-is}}}
 use Rattle.pagable_walk.proofs.table.SlotTable.stop_waiting.Goals as goal
 
-pub invariant_of-self : goal.invariant_of-self
-invariant_of-self g c =
+pub invariant_of-self-clause-ends : goal.invariant_of-self-clause-ends
+invariant_of-self-clause-ends g c =
     let old = c.args.self.now in
-    record {
-      own = old.own;
-      ends = stopped (shelf_of old) (shelf_in old.slots c.swap_remove.new.self) c.args.worker.0 (record { slots = λ i. refl; waits = wait-is old.waits c.swap_remove.new.self c.args.worker.0 None c.swap_remove.ensures.updates.0 }) old.ends;
-    }
+    stopped (shelf_of old) (shelf_in old.slots c.swap_remove.new.self) c.args.worker.0
+    (record { slots = λ i. refl; waits = wait-is old.waits c.swap_remove.new.self c.args.worker.0 None c.swap_remove.ensures.updates.0 }) old.ends
