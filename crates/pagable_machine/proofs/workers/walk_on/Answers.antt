@@ -15,12 +15,6 @@ returns g c =
       sets = set-at c.args.tables.now.items _ (c.args.walk.now.table - 1) c.step_lent-moved.new.table (omega (arith, c.requires.table)) refl;
       steps = rw c.settle.ensures.path c.step_lent-moved.ensures.step;
       way = rw c.settle.ensures.path c.step_lent-moved.ensures.way;
-      after = record {
-        table = c.settle.ensures.after.table;
-        begun = c.settle.ensures.after.begun;
-        steps = c.settle.ensures.after.steps;
-        task = c.settle.ensures.after.task;
-        answer = c.settle.ensures.after.answer;
-      };
+      after = search rules;
       replies = c.settle.ensures.reply;
     }
