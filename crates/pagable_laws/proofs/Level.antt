@@ -1,18 +1,15 @@
 -- The chain of two levels is one of the machine, and meets the headline with all that it asks: its pagers are whole by closed facts, and so is each step.
-use Rattle.pagable_laws.proofs.Words.{◌≡◌, ℕ, zero, suc, ◌<◌, ◌≤◌, ◌==◌, Bool, true, false, List, [], ◌∷◌, refl, sym, subst, arith, Ok, None, is_some, nat_le}
-use Rattle.pagable_laws.proofs.Words.{nat_tests, updated, Owner, HandleRow}
-use Rattle.pagable_laws.proofs.Words.{held, pins, Core, OpenLoad, of_cell, of_key, row_at}
-use Rattle.pagable_laws.proofs.Words.{owned_outside, is_keyed, fallen, length, ◌∙◌, inl, Option, Some, sample_references, value_at}
-use Rattle.pagable_laws.proofs.Words.{is_here, references_fault, Sample, sample, machine, ◌++◌, ◌+◌, inr}
-use Rattle.pagable_laws.proofs.Words.{is_none, if_there, blob_of, HandleNumber, NodeNumber, Blob, Took, Mode, Pinning, WorkerAnswer, PagerState, TodoTakesWell, ArePremised, find_row, is_named_by}
-use Rattle.pagable_laws.proofs.Words.{preimage, IsSettled, is_in, identity_of, Shelf, Written, Todo, Reading, to_start, to_pin, to_load, to_write, to_set, to_publish, to_release, to_finish}
-use Rattle.pagable_laws.proofs.Words.{to_item, digest, nobody, row_of, with_key, CloneCall, PinCall, StoreCall, WalkDoes, claim_fault, is_workers_at, nothing-form, reference-form, without_worker}
-use Rattle.pagable_laws.proofs.Words.{is_workers, AreMoments, Walking, Ends, is_counted, steps_after, TookWrites, SameShelf, no_shelf, IsMachineWhole, IsReadingWhole, IsWalkingWhole, owner_worker}
-use Rattle.pagable_laws.proofs.Words.{◌⊎◌, LoadAnswer, Frame, BeginCall, ReadingDoes, root_frame, IsClosed, IsWithin, with_mode, UnpinCall, named_fault, answers_from, ReadsRoot, IsCellOf, Event}
-use Rattle.pagable_laws.proofs.Words.{EventReply, one_more, load_fault, reading_at, reading_after, ReadingsAre, ReadingBrings, world_of, WorkStays, OnlyCore, Beginning, MachineState, fresh}
-use Rattle.pagable_laws.proofs.Words.{references_in, SameReferences, IsReadable, LiesIn, Throughout, throughout-in, none-followed, rest_of, Tree, tree, IsLawful, ReadsItsTypes, KeepsOpen}
+use Rattle.pagable_laws.proofs.Words.{◌≡◌, ℕ, zero, suc, ◌<◌, ◌≤◌, ◌==◌, Bool, true, false, List, [], ◌∷◌, refl, sym, subst, arith, Ok, None, is_some, nat_le, nat_tests, updated, Owner, HandleRow}
+use Rattle.pagable_laws.proofs.Words.{held, pins, Core, OpenLoad, of_cell, of_key, row_at, owned_outside, is_keyed, fallen, length, ◌∙◌, inl, Option, Some, sample_references, value_at, is_here}
+use Rattle.pagable_laws.proofs.Words.{references_fault, Sample, sample, machine, ◌++◌, ◌+◌, inr, is_none, if_there, blob_of, HandleNumber, NodeNumber, Blob, Took, Mode, Pinning, WorkerAnswer}
+use Rattle.pagable_laws.proofs.Words.{PagerState, TodoTakesWell, ArePremised, find_row, is_named_by, preimage, IsSettled, is_in, identity_of, Shelf, Written, Todo, Reading, to_start, to_pin}
+use Rattle.pagable_laws.proofs.Words.{to_load, to_write, to_set, to_publish, to_release, to_finish, to_item, digest, nobody, row_of, with_key, CloneCall, PinCall, StoreCall, WalkDoes, claim_fault}
+use Rattle.pagable_laws.proofs.Words.{is_workers_at, nothing-form, reference-form, without_worker, is_workers, AreMoments, Walking, Ends, is_counted, steps_after, TookWrites, SameShelf, no_shelf}
+use Rattle.pagable_laws.proofs.Words.{IsMachineWhole, IsReadingWhole, IsWalkingWhole, owner_worker, ◌⊎◌, LoadAnswer, Frame, BeginCall, ReadingDoes, root_frame, IsClosed, IsWithin, with_mode}
+use Rattle.pagable_laws.proofs.Words.{UnpinCall, named_fault, answers_from, ReadsRoot, IsCellOf, Event, EventReply, one_more, load_fault, reading_at, reading_after, ReadingsAre, ReadingBrings}
+use Rattle.pagable_laws.proofs.Words.{world_of, WorkStays, OnlyCore, Beginning, MachineState, fresh, references_in, SameReferences, IsReadable, LiesIn, Throughout, throughout-in, none-followed}
+use Rattle.pagable_laws.proofs.Words.{rest_of, Tree, tree, IsLawful, ReadsItsTypes, KeepsOpen, FallsAnyhow, HandOverCall, LazyCall, EndCall, SetKeyCall, PinsAtOnce}
 use Rattle.pagable_laws.proofs.{Words.{ReadsAsType, IsWellAsked, IsPremised, state_after, TwoLevelsMeetTheHeadline}, GoodReferences.good, Two.and-false, Joining.new_whole}
-use Rattle.pagable_laws.proofs.Words.{FallsAnyhow, HandOverCall, LazyCall, EndCall, SetKeyCall, PinsAtOnce}
 use Rattle.pagable_world.specs.Refusals.{OwnsLoad}
 use Rattle.pagable_laws.proofs.Chains.{headline_law}
 use Rattle.pagable_world.specs.{Workers.Site, World.HasForm}

@@ -1,11 +1,10 @@
 -- What a load has got stays live and the load's own, each handle once, as long as the load makes its own steps; and so does the handle that began it.
 use Rattle.pagable_laws.proofs.Words.{nat_tests, ◌≡◌, ℕ, zero, suc, ◌+◌, ◌<◌, ◌≤◌, ◌==◌, Bool, true, false, List, [], ◌∷◌, ◌++◌, Some, inl, inr, refl, sym, ap, subst, ◌∙◌, if◌then◌else◌, arith}
-use Rattle.pagable_laws.proofs.Words.{sum_by, sum_by-cons, sum_by_push, HandleRow, Owner, ArcRef, Kind, HandleNumber, LoadNumber, NodeNumber, OptionalDataKey, Among, type_of, one}
-use Rattle.pagable_laws.proofs.Words.{times, mode_of, Core, OpenLoad, of_cell, Frame, Alike, row_at, row_of, with_handle, with_node, next_node, is_named_by, Asked, adopted, GetsKnown, with_got}
+use Rattle.pagable_laws.proofs.Words.{sum_by, sum_by-cons, sum_by_push, HandleRow, Owner, ArcRef, Kind, HandleNumber, LoadNumber, NodeNumber, OptionalDataKey, Among, type_of, one, times, mode_of}
+use Rattle.pagable_laws.proofs.Words.{Core, OpenLoad, of_cell, Frame, Alike, row_at, row_of, with_handle, with_node, next_node, is_named_by, Asked, adopted, GetsKnown, with_got, owner_value}
 use Rattle.pagable_laws.proofs.{Words.{HandlesAreWhole, Tree, find_row, Reading, Values, IsLawful, GoesOn, GetsLazy, MakesNode, FramesFit, ReadsItsTypes, FramesHeld}, Outlasting.Stands}
 use Rattle.pagable_laws.proofs.{Outlasting.{AreUpTo, stands-alike, stands-new, among-changed, NotValues, stands-whole, stands-fell}, Apart.AreApart, Fitting.{AllGot, all-new, all-more}}
 use Rattle.pagable_laws.proofs.{Fitting.first-fits, Goes.{found-number}, ReadingSteps.cached-rows, Sums.{self-number, same-number, at-most-sum, sum-zero}}
-use Rattle.pagable_laws.proofs.Words.{owner_value}
 use Rattle.pagable_laws.proofs.{Effects.{with-one, moved-free, named-among}, Outlasting.{new-handle, low-whole}, Decoding.decodes, GoodReferences.good, Trees.same_some}
 use Rattle.std.proofs.lemmas.Bool.{cases_Bool, false_from_ne_true}
 
