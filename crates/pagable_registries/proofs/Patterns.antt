@@ -1,8 +1,8 @@
 -- Patterns: how the text of one is written and read, and why it is refused.
-use Rattle.std.proofs.Common.{◌≡◌, ℕ, zero, suc, ◌<◌, ◌≤◌, List, [], ◌∷◌, ◌++◌, length, Bool, true, false, arith, refl, sym, ap, subst, ◌∙◌, Result, Ok, Err, inl, inr}
-use Rattle.std.specs.{Prelude.{◌≢◌, OnOk, IfErr, nat_le, nat_lt, if◌then◌else◌}, Str.{IsUtf8, is_utf8}}
+use Rattle.std.proofs.Common.{String, ◌≡◌, ℕ, zero, suc, ◌<◌, ◌≤◌, List, [], ◌∷◌, ◌++◌, length, Bool, true, false, arith, refl, sym, ap, subst, ◌∙◌, Result, Ok, Err, inl, inr}
+use Rattle.std.specs.{Prelude.{◌≢◌, OnOk, IfErr, nat_le, nat_lt, if◌then◌else◌}, Str.{IsUtf8, is_utf8}, String.string_bytes}
 use Rattle.pagable_model.specs.{declared.error.Error.Error, declared.numbers.ArcRef.ArcRef, Basic.{longest, text_form, length_at, bytes_at, checked_text, text_at}, Form.pattern-form, Gives.Gives}
-use Rattle.pagable_model.specs.{Gives.memory, Lengths.long_or_memory, Meaning.{Meaning, pattern}, Numbers.varint_at, Reading.{Rest, Context, read, read_with}, Refusals.is_reading_fault, Shape.Shape}
+use Rattle.pagable_model.specs.{Gives.memory, Lengths.long_or_memory, Meaning.{Meaning, pattern}, Numbers.varint_at, Reading.{Rest, read, read_with}, Refusals.is_reading_fault, Shape.Shape}
 use Rattle.pagable_model.specs.{Standing.{Answer, GivesSome, Is, handles_at}, Steps.◌>>=◌, Writing.{Out, Nesting, FormAt, WritesSome, NoForm, Refused}}
 use Rattle.pagable_codec.proofs.Writing.{writes_is, writes_bytes, memory_refuses}
 use Rattle.pagable_traits.proofs.Basics.{gives_bytes}
@@ -33,10 +33,10 @@ refused_pattern (Err e) t n h = refuses-pattern n t e h
 
 -- ---- reading
 
-pub gives_pattern : {X : Type 0} (bytes_in : X → List ℕ) (levels : ℕ) (parts : ℕ → Shape) (r : Result X Error) (rest last : Rest Answer) (bytes after : List ℕ) → rest.bytes ≡ bytes → last ≡ record rest { bytes = after } → Gives memory (λ t. (bytes_in t, after)) r (text_at bytes)
-    → GivesSome memory (Is (λ t. pattern (bytes_in t))) last r (read (handles_at levels parts) shapes.pattern rest)
+pub gives_pattern : {Z : Type 0} (levels : ℕ) (parts : ℕ → Shape) (r : Result (String Z) Error) (rest last : Rest Answer) (bytes after : List ℕ) → rest.bytes ≡ bytes → last ≡ record rest { bytes = after } → Gives memory (λ t. (string_bytes t, after)) r (text_at bytes)
+    → GivesSome memory (Is (λ t. pattern (string_bytes t))) last r (read (handles_at levels parts) shapes.pattern rest)
 unfolding read read_with
-gives_pattern bytes_in levels parts r rest last bytes after e f h = rw f (gives_bytes memory bytes_in pattern text_at r rest after (rw e h))
+gives_pattern levels parts r rest last bytes after e f h = rw f (gives_bytes memory string_bytes pattern text_at r rest after (rw e h))
 
 -- ---- the faults of a text are faults of the input
 
@@ -62,15 +62,11 @@ faults-text bytes =
     (faults-after (varint_at 9 1 bytes) _ (faults-varint 9 1 bytes) (λ n. faults-if (nat_le n.0 longest) _ _ tt refl))
     (λ n. faults-after (bytes_at n.0 n.1) checked_text (faults-if (nat_lt (length n.1) n.0) _ _ refl tt) (λ t. faults-if (is_utf8 t.0) _ _ tt refl))
 
-faults-read : {A : Type 0} (context : Context A ArcRef) (rest : Rest A) → IfErr (read context shapes.pattern rest) (λ e. is_reading_fault e ≡ true)
-unfolding read read_with
-faults-read context rest = faults-after (text_at rest.bytes) _ (faults-text rest.bytes) (λ x. tt)
-
 fault-is-not : (e : Error) → is_reading_fault e ≡ true → e ≢ errors.RegexRefused
 fault-is-not e fault is = let none : is_reading_fault e ≡ false = (let P : Error → Type 0 = λ x. is_reading_fault x ≡ false in subst P (sym is) refl) in absurd cc
 
 -- want of memory, or a fault of the input: a text is never refused as a pattern is
-pub text_not_refused : {A X : Type 0} (context : Context A ArcRef) (rest after : Rest A) (M : X → Meaning ArcRef → Type 0) (r : Result X Error) → GivesSome memory M after r (read context shapes.pattern rest) → IfErr r (λ e. e ≢ errors.RegexRefused)
-text_not_refused context rest after M (Ok x) h = tt
-text_not_refused context rest after M (Err e) (inl h) = let fault = faults-read context rest in fault-is-not e (rw h at fault)
-text_not_refused context rest after M (Err e) (inr h) = λ is. let same : errors.OutOfMemory ≡ errors.RegexRefused = sym h ∙ is in absurd cc
+pub text_not_refused : {X : Type 0} (view : X → List ℕ × List ℕ) (r : Result X Error) (bytes : List ℕ) → Gives memory view r (text_at bytes) → IfErr r (λ e. e ≢ errors.RegexRefused)
+text_not_refused view (Ok x) bytes h = tt
+text_not_refused view (Err e) bytes (inl h) = let fault = faults-text bytes in fault-is-not e (rw h at fault)
+text_not_refused view (Err e) bytes (inr h) = λ is. let same : errors.OutOfMemory ≡ errors.RegexRefused = sym h ∙ is in absurd cc

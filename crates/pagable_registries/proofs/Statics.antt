@@ -1,6 +1,6 @@
 -- Values in a registry, by their index.
 use Rattle.std.proofs.Common.{◌≡◌, ℕ, zero, suc, ◌+◌, ◌<◌, ◌≤◌, Bool, false, List, [], ◌∷◌, ◌++◌, length, get_or, map, Some, Ok, Err, refl, sym, subst, ◌∙◌, arith, inl, inr}
-use Rattle.std.proofs.{lemmas.List.take_more, lemmas.List.map-append, lemmas.Bool.cases_lt, lemmas.Option.slice_get_read, lemmas.Option.get_or_from_slice_get}
+use Rattle.std.proofs.{lemmas.List.take_more, lemmas.List.map-append, lemmas.List.length-map, lemmas.Bool.cases_lt, lemmas.Option.slice_get_read, lemmas.Option.get_or_from_slice_get}
 use Rattle.std.specs.{Prelude.IsTrue, Prelude.◌⊎◌, Prelude.take, Int.w32, List.slice_get}
 use Rattle.pagable_model.specs.Reading.{Rest, Context, bytes_of, registered, read, read_with}
 use Rattle.pagable_model.specs.{declared.error.Error.Error, Gives.never, declared.numbers.ArcRef.ArcRef, Numbers.bound, Numbers.unsigned_form, Numbers.unsigned_at, Meaning.Meaning, Meaning.lifted}
@@ -16,6 +16,8 @@ values_more f vs xs i x lt e so_far =
     rw (last, map-append f (take i xs) (x ∷ []), so_far) refl
 
 pub ruleset values = (values_more)
+
+pub ruleset lengths = (length-map)
 
 -- ---- the least index of an equal value
 

@@ -1,12 +1,14 @@
 -- Tagged values: what writing a tag and a body adds, and what reading by the registered reader gives.
 use Rattle.std.proofs.Common.{◌≡◌, ℕ, zero, suc, ◌+◌, ◌<◌, ◌≤◌, Bool, true, false, List, [], ◌∷◌, ◌++◌, length, get_or, map, Result, Some, None, Ok, Err, refl, sym, ap, subst, ◌∙◌, arith, inl, inr}
-use Rattle.std.proofs.{lemmas.Bool.cases_lt, lemmas.Option.{slice_get_read, slice_get-map}, lemmas.Slice.Eq.bytes_eq-Decides}
-use Rattle.std.specs.{Prelude.{IfErr, ◌⊎◌}, Str.{IsUtf8, bytes_eq}, List.slice_get}
+use Rattle.std.proofs.{lemmas.Bool.cases_lt, lemmas.List.length-map, lemmas.Option.{slice_get_read, slice_get-map, slice_get_within}, lemmas.Slice.Eq.bytes_eq-Decides, lemmas.Result.err_from_is_err_and}
+use Rattle.std.specs.{Prelude.{IfErr, IsErrAnd, ◌⊎◌}, Str.{IsUtf8, bytes_eq}, List.slice_get}
 use Rattle.pagable_model.specs.{declared.error.Error.Error, declared.numbers.ArcRef.ArcRef, Steps.◌>>=◌, Basic.{longest, text_form, text_at}, Canonical.{HasNoCase, IsReadable, LiesIn, Within}}
 use Rattle.pagable_model.specs.{Canonical.Throughout, Gives.{Gives, memory, memory_or}, Reading.{Rest, Context, read, read_with, bytes_of}, Carried.{of_tagged, is_registered, body_of, tagged_by}}
-use Rattle.pagable_model.specs.{Meaning.Meaning, Shape.{Shape, tagged, cases}, Form.tagged-form, Standing.{Answer, SomeMeaning, Gave}, Writing.{Out, Nesting, FormAt, WritesSome, NoForm, Refused}}
+use Rattle.pagable_model.specs.{Meaning.Meaning, Shape.{Shape, tagged, cases}, Form.tagged-form, Standing.{Answer, SomeMeaning, Gave, GivesSome, MovesOn}, Writing.{Out, Nesting, FormAt, WritesSome, NoForm, Refused}}
 use Rattle.pagable_model.specs.{Writing.added, Lengths.long_or_memory, Tagged.{MeansTagged, IsLastFor, NoneFor, grammars, HasDistinctTags, ReadsWhatIsWritten}}
 use Rattle.pagable_codec.proofs.Writing.{then, memory_refuses}
+use Rattle.pagable_codec.specs.{declared.env.Env.Ghosts as Environments, declared.deserializer.PagableDeserializer.Ghosts as Deserializers}
+use Rattle.pagable_traits.{proofs.InTurn.{Tells, tells, then-tells}, specs.JsonSteps.context_in}
 use Rattle.pagable_model.specs.declared.error.Error.TheVariants as errors
 
 -- ---- writing
@@ -69,10 +71,7 @@ some-same : {X : Type 0} {x y : X} → Some x ≡ Some y → x ≡ y
 some-same e = cc
 
 pub none_past : {R F : Type 0} (view : R → List ℕ × F) (tag : List ℕ) (xs : List R) (i : ℕ) → length xs ≤ i → NoneFrom tag (map view xs) i
-none_past view tag [] i le j r past stands = absurd (some-none (sym stands))
-none_past view tag (x ∷ xs) zero le j r past stands = absurd (omega (arith, le))
-none_past view tag (x ∷ xs) (suc i) le zero r past stands = absurd (omega (arith, past))
-none_past view tag (x ∷ xs) (suc i) le (suc j) r past stands = none_past view tag xs i (omega (arith, le)) j r (omega (arith, past)) stands
+none_past view tag xs i le j r past stands = absurd (omega (arith, le, past, slice_get_within (map view xs) j r stands, length-map xs view))
 
 pub none_from_less : {R F : Type 0} (view : R → List ℕ × F) (tag : List ℕ) (xs : List R) (i k : ℕ) (x : R) → k + 1 ≡ i → k < length xs → x ≡ get_or xs k x → bytes_eq tag (view x).0 ≡ false → NoneFrom tag (map view xs) i → NoneFrom tag (map view xs) k
 none_from_less {R} {F} view tag xs i k x s lt e differs from j r le stands = go (cases_lt k j)
@@ -131,14 +130,15 @@ known_tag {F} grammar e readers tag f l =
 
 -- ---- reading
 
-read-known : {A B : Type 0} (context : Context A B) (written : List ℕ → Shape) (rs : List (List ℕ × Shape)) (tag : List ℕ) (s : Shape) (rest mid : Rest A) → bytes_of text_at (λ t. t) rest ≡ Ok (tag, mid) → is_registered rs tag ≡ true → body_of rs tag ≡ s
-    → read context (tagged_by written rs) rest ≡ (read context s mid >>= λ y. Ok (of_tagged tag y.0, y.1))
+read-known : {A B F V : Type 0} (context : Context A B) (written : List ℕ → Shape) (grammar : F → V → Shape) (env : V) (readers : List (List ℕ × F)) (tag : List ℕ) (f : F) (rest mid : Rest A) → bytes_of text_at (λ t. t) rest ≡ Ok (tag, mid) → IsLastFor tag readers f
+    → read context (tagged_by written (grammars grammar env readers)) rest ≡ (read context (grammar f env) mid >>= λ y. Ok (of_tagged tag y.0, y.1))
 unfolding read read_with
-read-known context written rs tag s rest mid e known body = rw (e, known, body) refl
+read-known context written grammar env readers tag f rest mid e last = let p = known_tag grammar env readers tag f last in rw (e, p.0, p.1) refl
 
-read-unknown : {A B : Type 0} (context : Context A B) (written : List ℕ → Shape) (rs : List (List ℕ × Shape)) (tag : List ℕ) (rest mid : Rest A) → bytes_of text_at (λ t. t) rest ≡ Ok (tag, mid) → is_registered rs tag ≡ false → read context (tagged_by written rs) rest ≡ Err errors.UnknownTag
+read-unknown : {A B F V : Type 0} (context : Context A B) (written : List ℕ → Shape) (grammar : F → V → Shape) (env : V) (readers : List (List ℕ × F)) (tag : List ℕ) (rest mid : Rest A) → bytes_of text_at (λ t. t) rest ≡ Ok (tag, mid) → NoneFor tag readers
+    → read context (tagged_by written (grammars grammar env readers)) rest ≡ Err errors.UnknownTag
 unfolding read read_with
-read-unknown context written rs tag rest mid e known = rw (e, known) refl
+read-unknown context written grammar env readers tag rest mid e none = rw (e, unknown_tag grammar env readers tag none) refl
 
 -- a tag as bytes give it
 pub text_is_read : {X : Type 0} (bytes_in : X → List ℕ) (r : Result X Error) (rest last : Rest Answer) (bytes after : List ℕ) → rest.bytes ≡ bytes → last ≡ record rest { bytes = after } → Gives memory (λ t. (bytes_in t, after)) r (text_at bytes)
@@ -147,36 +147,52 @@ text_is_read bytes_in (Ok x) rest last bytes after e f h = rw (f, e, h) refl
 text_is_read bytes_in (Err x) rest last bytes after e f (inl h) = inl (rw (e, h) refl)
 text_is_read bytes_in (Err x) rest last bytes after e f (inr h) = inr h
 
--- the tag is refused
-pub no_tag_read : {A B : Type 0} (own : Error → Type 0) (context : Context A B) (written : List ℕ → Shape) (rs : List (List ℕ × Shape)) (e : Error) (rest : Rest A) → (bytes_of text_at (λ t. t) rest ≡ Err e) ⊎ memory e → (read context (tagged_by written rs) rest ≡ Err e) ⊎ memory_or own e
-unfolding read read_with
-no_tag_read own context written rs e rest (inl h) = inl (rw h refl)
-no_tag_read own context written rs e rest (inr h) = inr (inl h)
+module _ {D E R N H K V T F : Type 0} (env : Environments E N H K V) (d : Deserializers D E R N H K V) (own : Error → Type 0) (tag_of : T → List ℕ) (M : T → Meaning ArcRef → Type 0) (grammar : F → E → Shape) where
+  -- what a reader of a tagged value owes
+  abbrev pub TellsTagged : List (List ℕ × F) → D → D → Result T Error → Type 0
+  TellsTagged readers a b r = Tells env d ((written : List ℕ → Shape) → GivesSome (memory_or own) (λ x. MeansTagged (tag_of x) (M x)) (d.rest b) r (read (context_in env d a) (tagged_by written (grammars grammar (d.environment a) readers)) (d.rest a))) a b
 
--- no reader is registered
-pub unknown_read : {A B F V : Type 0} (own : Error → Type 0) (context : Context A B) (written : List ℕ → Shape) (grammar : F → V → Shape) (env : V) (readers : List (List ℕ × F)) (tag : List ℕ) (rest mid : Rest A) → bytes_of text_at (λ t. t) rest ≡ Ok (tag, mid) → NoneFor tag readers
-    → (read context (tagged_by written (grammars grammar env readers)) rest ≡ Err errors.UnknownTag) ⊎ memory_or own errors.UnknownTag
-unknown_read own context written grammar env readers tag rest mid e none = inl (read-unknown context written (grammars grammar env readers) tag rest mid e (unknown_tag grammar env readers tag none))
+  -- the tag is refused
+  pub no_tag_read : {a b : D} {e : Error} (readers : List (List ℕ × F)) (r : Result T Error) → IsErrAnd r (λ f. f ≡ e) → Tells env d ((bytes_of text_at (λ t. t) (d.rest a) ≡ Err e) ⊎ memory e) a b → TellsTagged readers a b r
+  unfolding read read_with
+  no_tag_read readers r is told = let q = err_from_is_err_and r is in rw (q.1, q.2) (tells env d told (λ written. elim told.gives [ inl h ↦ inl (rw h refl) | inr h ↦ inr (inl h) ]))
 
--- the body is refused
-pub no_body_read : {A B F V : Type 0} (own : Error → Type 0) (context : Context A B) (written : List ℕ → Shape) (grammar : F → V → Shape) (env : V) (readers : List (List ℕ × F)) (tag : List ℕ) (f : F) (e : Error) (rest mid : Rest A) → bytes_of text_at (λ t. t) rest ≡ Ok (tag, mid) → IsLastFor tag readers f
-    → (read context (grammar f env) mid ≡ Err e) ⊎ own e → (read context (tagged_by written (grammars grammar env readers)) rest ≡ Err e) ⊎ memory_or own e
-no_body_read own context written grammar env readers tag f e rest mid h last (inl b) =
-    let p = known_tag grammar env readers tag f last in
-    inl (read-known context written (grammars grammar env readers) tag (grammar f env) rest mid h p.0 p.1 ∙ rw b refl)
-no_body_read own context written grammar env readers tag f e rest mid h last (inr b) = inr (inr b)
+  -- no reader is registered
+  pub unknown_read : {a b : D} {tag : List ℕ} (readers known : List (List ℕ × F)) (named : List ℕ) → Tells env d (bytes_of text_at (λ t. t) (d.rest a) ≡ Ok (tag, d.rest b)) a b → named ≡ tag → known ≡ readers → NoneFor named known → TellsTagged readers a b (Err errors.UnknownTag)
+  unknown_read {a} {b} {tag} readers known named told same all none =
+      tells env d told (λ written. inl (read-unknown _ written grammar (d.environment a) readers tag _ _ told.gives (rw (same, all) at none)))
 
--- the body is read
-pub tagged_read : {T A F V : Type 0} (M : T → Meaning ArcRef → Type 0) (tag_of : T → List ℕ) (context : Context A ArcRef) (written : List ℕ → Shape) (grammar : F → V → Shape) (env : V) (readers : List (List ℕ × F)) (tag own : List ℕ) (f : F) (x : T) (rest mid after : Rest A)
-    → bytes_of text_at (λ t. t) rest ≡ Ok (tag, mid) → IsLastFor tag readers f → tag_of x ≡ own → own ≡ tag → Gave (M x) after (read context (grammar f env) mid)
-    → Gave (MeansTagged (tag_of x) (M x)) after (read context (tagged_by written (grammars grammar env readers)) rest)
-tagged_read M tag_of context written grammar env readers tag own f x rest mid after h last same known g =
-    let p = known_tag grammar env readers tag f last in
-    record {
-      m = of_tagged tag g.m;
-      is = record { body = g.m; is_body = g.is; is = ap (λ (t : List ℕ). of_tagged t g.m) (sym (same ∙ known)) };
-      gave = read-known context written (grammars grammar env readers) tag (grammar f env) rest mid h p.0 p.1 ∙ rw g.gave refl;
-    }
+  -- what the reader of a body tells, after the tag
+  abbrev pub TellsBody : (gives of_tag : Type 0) → D → D → Type 0
+  TellsBody gives of_tag old new = record { gives : gives; of_tag : of_tag; moves : MovesOn (d.standing old) (d.standing new); same_env : d.environment new ≡ d.environment old; same_levels : d.levels new ≡ d.levels old }
+
+  after-tag : {P Q X Y : Type 0} {a b c : D} → Tells env d P a b → TellsBody X Y b c → (X → Q) → Tells env d Q a c
+  after-tag first told f = then-tells env d first.moves first.same_env first.same_levels (record { gives = told.gives; moves = told.moves; same_env = told.same_env; same_levels = told.same_levels }) f
+
+  -- the body is refused
+  pub no_body_read : {Y : Type 0} {a b c : D} {tag : List ℕ} {e : Error} (readers known : List (List ℕ × F)) (named : List ℕ) (f : F) (r : Result T Error) → IsErrAnd r (λ x. x ≡ e) → Tells env d (bytes_of text_at (λ t. t) (d.rest a) ≡ Ok (tag, d.rest b)) a b → named ≡ tag → known ≡ readers → IsLastFor named known f
+      → TellsBody ((read (context_in env d b) (grammar f (d.environment b)) (d.rest b) ≡ Err e) ⊎ own e) Y b c → TellsTagged readers a c r
+  no_body_read {a = a} {tag = tag} readers known named f r is first same all last told =
+      let q = err_from_is_err_and r is in
+      let known_last = rw (same, all) at last in
+      rw (q.1, q.2)
+      (after-tag first told
+      (λ h written. elim (rw (first.same_levels, first.same_env) at h) [
+        | inl none ↦ inl (read-known _ written grammar (d.environment a) readers tag f _ _ first.gives known_last ∙ rw none refl)
+        | inr why ↦ inr (inr why)
+      ]))
+
+  -- the body is read
+  pub tagged_read : {a b c : D} {tag : List ℕ} (readers known : List (List ℕ × F)) (named its : List ℕ) (f : F) (x : T) → Tells env d (bytes_of text_at (λ t. t) (d.rest a) ≡ Ok (tag, d.rest b)) a b → named ≡ tag → known ≡ readers → IsLastFor named known f → its ≡ named
+      → TellsBody (Gave (M x) (d.rest c) (read (context_in env d b) (grammar f (d.environment b)) (d.rest b))) (tag_of x ≡ its) b c → TellsTagged readers a c (Ok x)
+  tagged_read {a} {b} {c} {tag} readers known named its f x first same all last its_own told =
+      let known_last = rw (same, all) at last in
+      after-tag first told
+      (λ h written. let g = rw (first.same_levels, first.same_env) at h in record {
+        m = of_tagged tag g.m;
+        is = record { body = g.m; is_body = g.is; is = ap (λ (t : List ℕ). of_tagged t g.m) (sym (told.of_tag ∙ its_own ∙ same)) };
+        gave = read-known _ written grammar (d.environment a) readers tag f _ _ first.gives known_last ∙ rw g.gave refl;
+      })
 
 -- ---- distinct tags
 

@@ -25,11 +25,13 @@ pub fn static_value_is_carried<E: Env, T: HasStaticValueRegistry<E>>()
 {}
 
 /// Each index of a registered value is read as that value.
+#[tactic(auto, using(crate::proofs::Statics::registered_at))]
 pub fn static_values_are_read_again<E: Env, T: HasStaticValueRegistry<E>>()
     ensures { (e : E) (i : ℕ) (known : T) → slice_get (T.known e) i ≡ Some known → registered (meanings_of T.plain (T.known e)) i ≡ Ok (T.plain known) }
 {}
 
 /// A tagged value means its tag with something that its body means: what its type owes as the law `has_meaning` of `Carried`.
+#[tactic(auto, using(crate::proofs::Tagged::tagged_means, pagable_traits::specs::Meanings::some))]
 pub fn tagged_has_meaning<E: Env, T: PagableTagged<E>>()
     ensures { (x : T) → SomeMeaning (MeansTagged (T.tag x) (T.body_means.of x)) }
 {}

@@ -170,6 +170,7 @@ impl<E: Env> PagableSerialize<E> for SavedRegex {
 }
 
 /// Reads the text of a pattern, and builds nothing.
+#[tactic(auto, using(crate::proofs::Patterns::text_not_refused))]
 fn read_text<E: Env, D: PagableDeserializer<E>>(
     alloc: Global,
     deserializer: &mut D,

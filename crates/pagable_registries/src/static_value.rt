@@ -172,6 +172,7 @@ impl<T: Copy> StaticValueRegistry<T> {
     /// The registry of these values in ascending order, equal ones in the order in which they were given; each value's
     /// index is its place there, from 0 on, whatever index its entry brought. TooLong above 4,294,967,295 entries, else
     /// refused by want of memory alone.
+    #[tactic(auto, using(std::proofs::lemmas::List::Sorted::length_permutation, crate::proofs::Statics::lengths))]
     pub fn from_entries(alloc: Global, entries: Vec<StaticValueEntry<T>>) -> Result<Self, Error>
     where
         T: Ord,
@@ -321,6 +322,7 @@ impl<E: Env, T: HasStaticValueRegistry<E>> PagableSerialize<E> for StaticValue<T
 }
 
 /// Reads an index.
+#[tactic(auto, using(pagable_codec::proofs::Reading::part_read))]
 fn read_index<E: Env, D: PagableDeserializer<E>>(deserializer: &mut D) -> Result<u32, Error>
     ensures gives { Gives never (λ n. (n, D.rest deserializer.new)) result (bytes_of (unsigned_at w32) (λ n. n) (D.rest deserializer.old)) }
     ensures moves { MovesOn (D.standing deserializer.old) (D.standing deserializer.new) }

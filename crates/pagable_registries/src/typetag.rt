@@ -43,6 +43,7 @@ pub trait PagableTagged<E: Env>: Sized {
         ensures same_levels { S.levels serializer.new ≡ S.levels serializer.old };
 
     /// Writes the tag and then the body, whichever tags are registered. TooLong for a tag above 4,294,967,295 bytes.
+    #[tactic(auto, using(pagable_traits::proofs::InTurn::writes, pagable_traits::proofs::Parts::only_parts, pagable_codec::proofs::Writing::grows_trans))]
     final fn serialize_tagged<S: PagableSerializer<E>>(
         &self,
         serializer: &mut S,
@@ -184,6 +185,7 @@ impl<T, F: ForTag> TypetagRegistry<T, F> {
 }
 
 /// The reader of the last registration of this tag, or None where there is none.
+#[tactic(auto, using(crate::proofs::Tagged::none_past))]
 fn last_reader<'r, T, F: ForTag>(
     registrations: &'r [TypetagRegistration<T, F>],
     tag: &str,
@@ -203,6 +205,7 @@ fn last_reader<'r, T, F: ForTag>(
 }
 
 /// Reads a tag.
+#[tactic(auto, using(crate::proofs::Tagged::text_is_read))]
 fn read_tag<E: Env, D: PagableDeserializer<E>>(
     alloc: Global,
     deserializer: &mut D,
@@ -227,18 +230,15 @@ pub trait HasTypetagRegistry<E: Env>: PagableTagged<E> {
         ensures { result.now ≡ readers env.now };
 }
 
-/// The reader that was registered last for this tag in the environment: UnknownTag where none was.
-fn registered_reader<E: Env, T: HasTypetagRegistry<E>>(
-    tag: &str,
-    env: &E,
-) -> Result<T::Reader, Error>
-    ensures found { IfOk result (IsLastFor tag.now (T.readers env.now)) }
-    ensures own { IfOk result (λ f. T.Reader.own_tag f ≡ tag.now) }
-    ensures unknown { IfErr result (λ e. (e ≡ Error.UnknownTag) × NoneFor tag.now (T.readers env.now)) }
+/// The reader that was registered last for this tag in the environment, or None where none was.
+fn registered_reader<E: Env, T: HasTypetagRegistry<E>>(tag: &str, env: &E) -> Option<T::Reader>
+    ensures found { IfSome result (IsLastFor tag.now (T.readers env.now)) }
+    ensures own { IfSome result (λ f. T.Reader.own_tag f ≡ tag.now) }
+    ensures missing { IfNone result (NoneFor tag.now (T.readers env.now)) }
 {
     match T::typetag_registry(env).reader_of(tag) {
-        None => Err(Error::UnknownTag),
-        Some(reader) => Ok(*reader),
+        None => None,
+        Some(reader) => Some(*reader),
     }
 }
 
@@ -255,13 +255,17 @@ pub fn deserialize_tagged<E: Env, T: HasTypetagRegistry<E>, D: PagableDeserializ
     ensures same_levels { D.levels deserializer.new ≡ D.levels deserializer.old }
 {
     let tag = read_tag(alloc, deserializer)?;
-    let reader = registered_reader::<E, T>(tag.as_str(), deserializer.env())?;
+    let found = registered_reader::<E, T>(tag.as_str(), deserializer.env());
+    let Some(reader) = found else {
+        return Err(Error::UnknownTag);
+    };
     let value = reader.read(alloc, deserializer)?;
     Ok(value)
 }
 
 /// With distinct tags, each under which a body has a form being registered with a reader of what is written under it,
 /// the forms of tagged values are read again: what a tagged type needs to be `ReadBack`.
+#[tactic(auto, using(crate::proofs::Tagged::distinct_is_read))]
 pub fn distinct_tags_are_read_again()
     ensures { (parts : ℕ → Shape) (written : List ℕ → Shape) (registrations : List (List ℕ × Shape)) → HasDistinctTags registrations → ReadsWhatIsWritten parts written registrations → IsReadThroughout parts (tagged_by written registrations) }
 {}

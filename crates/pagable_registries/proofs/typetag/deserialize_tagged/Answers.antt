@@ -1,49 +1,24 @@
-use Rattle.std.proofs.{Common.◌∙◌, lemmas.Result.err_from_is_err_and}
-use Rattle.pagable_codec.proofs.Reading.{moves_trans}
-use Rattle.pagable_model.specs.Tagged.{grammars}
+use Rattle.std.proofs.Common.{ap, ◌∙◌}
 use Rattle.pagable_registries.proofs.Tagged.{no_tag_read, unknown_read, no_body_read, tagged_read}
 use Rattle.pagable_registries.proofs.typetag.deserialize_tagged.Goals as goal
 
 pub returns-in_err-tag : goal.returns-in_err-tag
 returns-in_err-tag g c =
-    let p = err_from_is_err_and c.from_residual.result c.from_residual.ensures.1 in
-    let told = c.in_err-tag.ensures in
-    let env = g.D.PagableDeserializer.environment c.args.deserializer.now in
-    let readers = grammars g.T.Reader.TagReader.grammar env (g.T.HasTypetagRegistry.readers env) in
-    rw (p.1, p.2)
-    (record { gives = λ written. no_tag_read g.T.Reader.TagReader.read_causes.are _ written readers _ _ told.gives; moves = told.moves; same_env = told.same_env; same_levels = told.same_levels })
+    no_tag_read g.E.Env g.D.PagableDeserializer g.T.Reader.TagReader.read_causes.are g.T.PagableTagged.tag g.T.PagableTagged.body_means.of g.T.Reader.TagReader.grammar (g.T.HasTypetagRegistry.readers (g.D.PagableDeserializer.environment c.args.deserializer.now))
+    c.from_residual.result c.from_residual.ensures.1 c.in_err-tag.ensures
 
-pub returns-in_err-reader : goal.returns-in_err-reader
-returns-in_err-reader g c =
-    let p = err_from_is_err_and c.from_residual-in_err-reader.result c.from_residual-in_err-reader.ensures.1 in
-    let first = c.in_ok-tag.ensures in
-    let u = c.in_err-reader.ensures.unknown in
-    let none = rw (c.as_str.ensures.value, c.env.ensures, first.same_env) at u.1 in
-    rw (p.1, p.2, u.0)
-    (record { gives = λ written. unknown_read g.T.Reader.TagReader.read_causes.are _ written g.T.Reader.TagReader.grammar _ _ _ _ _ first.gives none; moves = first.moves; same_env = first.same_env; same_levels = first.same_levels })
+pub returns-in_default : goal.returns-in_default
+returns-in_default g c =
+    unknown_read g.E.Env g.D.PagableDeserializer g.T.Reader.TagReader.read_causes.are g.T.PagableTagged.tag g.T.PagableTagged.body_means.of g.T.Reader.TagReader.grammar _ _ _
+    c.in_ok-tag.ensures c.as_str.ensures.value (ap g.T.HasTypetagRegistry.readers (c.env.ensures ∙ c.in_ok-tag.ensures.same_env)) c.in_default.ensures.missing
 
 pub returns-in_err-value : goal.returns-in_err-value
 returns-in_err-value g c =
-    let p = err_from_is_err_and c.from_residual-in_err-value.result c.from_residual-in_err-value.ensures.1 in
-    let first = c.in_ok-tag.ensures in
-    let told = c.in_err-value.ensures in
-    let found = rw (c.as_str.ensures.value, c.env.ensures, first.same_env) at c.in_ok-reader.ensures.found in
-    rw (p.1, p.2) (record {
-      gives = λ written. no_body_read g.T.Reader.TagReader.read_causes.are _ written g.T.Reader.TagReader.grammar _ _ _ _ _ _ _ first.gives found (rw (first.same_levels, first.same_env) at told.gives);
-      moves = moves_trans _ _ _ first.moves told.moves;
-      same_env = told.same_env ∙ first.same_env;
-      same_levels = told.same_levels ∙ first.same_levels;
-    })
+    no_body_read g.E.Env g.D.PagableDeserializer g.T.Reader.TagReader.read_causes.are g.T.PagableTagged.tag g.T.PagableTagged.body_means.of g.T.Reader.TagReader.grammar _ _ _ _
+    c.from_residual-in_err-value.result c.from_residual-in_err-value.ensures.1
+    c.in_ok-tag.ensures c.as_str.ensures.value (ap g.T.HasTypetagRegistry.readers (c.env.ensures ∙ c.in_ok-tag.ensures.same_env)) c.in-Some.ensures.found c.in_err-value.ensures
 
 pub returns : goal.returns
 returns g c =
-    let first = c.in_ok-tag.ensures in
-    let told = c.in_ok-value.ensures in
-    let found = rw (c.as_str.ensures.value, c.env.ensures, first.same_env) at c.in_ok-reader.ensures.found in
-    let own = rw c.as_str.ensures.value at c.in_ok-reader.ensures.own in
-    record {
-      gives = λ written. tagged_read g.T.PagableTagged.body_means.of g.T.PagableTagged.tag _ written g.T.Reader.TagReader.grammar _ _ _ _ _ c.in_ok-value.value _ _ _ first.gives found told.of_tag own (rw (first.same_levels, first.same_env) at told.gives);
-      moves = moves_trans _ _ _ first.moves told.moves;
-      same_env = told.same_env ∙ first.same_env;
-      same_levels = told.same_levels ∙ first.same_levels;
-    }
+    tagged_read g.E.Env g.D.PagableDeserializer g.T.Reader.TagReader.read_causes.are g.T.PagableTagged.tag g.T.PagableTagged.body_means.of g.T.Reader.TagReader.grammar _ _ _ _ _ c.in_ok-value.value
+    c.in_ok-tag.ensures c.as_str.ensures.value (ap g.T.HasTypetagRegistry.readers (c.env.ensures ∙ c.in_ok-tag.ensures.same_env)) c.in-Some.ensures.found c.in-Some.ensures.own c.in_ok-value.ensures

@@ -1,5 +1,5 @@
 use Rattle.std.{proofs.Common.{◌≡◌, ◌+◌, ◌-◌, length, true, false, arith, rules}, specs.Str.bytes_eq, specs.String.string_bytes}
-use Rattle.pagable_registries.proofs.Tagged.{is_last, none_from_less, none_past}
+use Rattle.pagable_registries.proofs.Tagged.{is_last, none_from_less}
 use Rattle.pagable_registries.proofs.typetag.last_reader.Goals as goal
 
 pub returns-then-eq-clause-found : goal.returns-then-eq-clause-found
@@ -19,6 +19,3 @@ loop-passed-preserved g c =
     let next : count - 1 - passed ≡ count - (passed + 1) = omega arith in
     rw (← next)
     (none_from_less (λ x. (string_bytes x.tag, x.deserialize)) c.args.tag.now c.args.registrations.now (count - passed) (count - 1 - passed) known (omega (arith, c.loop-passed-test.true)) (omega (arith, c.loop-passed-test.true)) c.index-registrations-count.is differs c.loop-passed.invariant)
-
-pub loop-passed-init : goal.loop-passed-init
-loop-passed-init g c = none_past (λ x. (string_bytes x.tag, x.deserialize)) c.args.tag.now c.args.registrations.now (length c.args.registrations.now - 0) (omega arith)

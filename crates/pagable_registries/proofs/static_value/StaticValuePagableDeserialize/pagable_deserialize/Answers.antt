@@ -1,5 +1,5 @@
 use Rattle.std.proofs.{Common.refl, lemmas.Result.err_from_is_err_and}
-use Rattle.pagable_model.specs.{Meaning.lifted, Standing.handles_at}
+use Rattle.pagable_model.specs.{Meaning.lifted}
 use Rattle.pagable_registries.proofs.Statics.{static_unread, static_refused, static_read}
 use Rattle.pagable_registries.proofs.static_value.StaticValuePagableDeserialize.pagable_deserialize.Goals as goal
 
