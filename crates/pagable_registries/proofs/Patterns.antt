@@ -2,8 +2,8 @@
 use Rattle.std.proofs.Common.{String, ◌≡◌, ℕ, zero, suc, ◌<◌, ◌≤◌, List, [], ◌∷◌, ◌++◌, length, Bool, true, false, arith, refl, sym, ap, subst, ◌∙◌, Result, Ok, Err, inl, inr}
 use Rattle.std.specs.{Prelude.{◌≢◌, OnOk, IfErr, nat_le, nat_lt, if◌then◌else◌}, Str.{IsUtf8, is_utf8}, String.string_bytes}
 use Rattle.pagable_model.specs.{declared.error.Error.Error, declared.numbers.ArcRef.ArcRef, Basic.{longest, text_form, length_at, bytes_at, checked_text, text_at}, Form.pattern-form, Gives.Gives}
-use Rattle.pagable_model.specs.{Gives.memory, Lengths.long_or_memory, Meaning.{Meaning, pattern}, Numbers.varint_at, Reading.{Rest, read, read_with}, Refusals.is_reading_fault, Shape.Shape}
-use Rattle.pagable_model.specs.{Standing.{Answer, GivesSome, Is, handles_at}, Steps.◌>>=◌, Writing.{Out, Nesting, FormAt, WritesSome, NoForm, Refused}}
+use Rattle.pagable_model.specs.{Gives.memory, Lengths.long_or_memory, Meaning.{Meaning, pattern}, Numbers.varint_at, Reading.{Rest, bytes_of}, Refusals.is_reading_fault, Shape.Shape}
+use Rattle.pagable_model.specs.{Standing.{Answer, GivesSome, Is}, Steps.◌>>=◌, Writing.{Out, Nesting, FormAt, WritesSome, NoForm, Refused}}
 use Rattle.pagable_codec.proofs.Writing.{writes_is, writes_bytes, memory_refuses}
 use Rattle.pagable_traits.proofs.Basics.{gives_bytes}
 use Rattle.pagable_model.specs.declared.error.Error.TheVariants as errors
@@ -33,10 +33,9 @@ refused_pattern (Err e) t n h = refuses-pattern n t e h
 
 -- ---- reading
 
-pub gives_pattern : {Z : Type 0} (levels : ℕ) (parts : ℕ → Shape) (r : Result (String Z) Error) (rest last : Rest Answer) (bytes after : List ℕ) → rest.bytes ≡ bytes → last ≡ record rest { bytes = after } → Gives memory (λ t. (string_bytes t, after)) r (text_at bytes)
-    → GivesSome memory (Is (λ t. pattern (string_bytes t))) last r (read (handles_at levels parts) shapes.pattern rest)
-unfolding read read_with
-gives_pattern levels parts r rest last bytes after e f h = rw f (gives_bytes memory string_bytes pattern text_at r rest after (rw e h))
+pub gives_text : {Z : Type 0} (r : Result (String Z) Error) (rest last : Rest Answer) (bytes after : List ℕ) → rest.bytes ≡ bytes → last ≡ record rest { bytes = after } → Gives memory (λ t. (string_bytes t, after)) r (text_at bytes)
+    → GivesSome memory (Is (λ t. pattern (string_bytes t))) last r (bytes_of text_at pattern rest)
+gives_text r rest last bytes after e f h = rw f (gives_bytes memory string_bytes pattern text_at r rest after (rw e h))
 
 -- ---- the faults of a text are faults of the input
 

@@ -2,9 +2,9 @@
 use Rattle.std.proofs.Common.{◌≡◌, ℕ, zero, suc, ◌+◌, ◌<◌, ◌≤◌, Bool, false, List, [], ◌∷◌, ◌++◌, length, get_or, map, Some, Ok, Err, refl, sym, subst, ◌∙◌, arith, inl, inr}
 use Rattle.std.proofs.{lemmas.List.take_more, lemmas.List.map-append, lemmas.List.length-map, lemmas.Bool.cases_lt, lemmas.Option.slice_get_read, lemmas.Option.get_or_from_slice_get}
 use Rattle.std.specs.{Prelude.IsTrue, Prelude.◌⊎◌, Prelude.take, Int.w32, List.slice_get}
-use Rattle.pagable_model.specs.Reading.{Rest, Context, bytes_of, registered, read, read_with}
-use Rattle.pagable_model.specs.{declared.error.Error.Error, Gives.never, declared.numbers.ArcRef.ArcRef, Numbers.bound, Numbers.unsigned_form, Numbers.unsigned_at, Meaning.Meaning, Meaning.lifted}
-use Rattle.pagable_model.specs.{Shape.static_value, Form.static-form, Standing.Is, Standing.Gave, Writing.Out, Writing.Nesting, Writing.WritesSome, Statics.HasEqual, Statics.NoEqualBelow}
+use Rattle.pagable_model.specs.Reading.{registered}
+use Rattle.pagable_model.specs.{declared.numbers.ArcRef.ArcRef, Numbers.bound, Numbers.unsigned_form, Meaning.Meaning, Meaning.lifted}
+use Rattle.pagable_model.specs.{Shape.static_value, Form.static-form, Standing.Is, Writing.Out, Writing.Nesting, Writing.WritesSome, Statics.HasEqual, Statics.NoEqualBelow}
 use Rattle.pagable_codec.proofs.Writing.{writes_bytes}
 use Rattle.pagable_model.specs.declared.error.Error.TheVariants as errors
 
@@ -65,20 +65,3 @@ writes_static meaning x registry i m n old w is e lt grown =
     record { m = meaning x; is = refl; wrote = rw is (writes_bytes n (static_value registry) (lifted m) old w (unsigned_form w32 i) grown (static-form _ registry i m lt e)) }
 
 pub ruleset writing = (writes_static)
-
--- ---- reading
-
-pub static_unread : {A B : Type 0} (context : Context A B) (registry : List (Meaning ⊥)) (e : Error) (rest : Rest A) → (bytes_of (unsigned_at w32) (λ n. n) rest ≡ Err e) ⊎ never e → (read context (static_value registry) rest ≡ Err e) ⊎ never e
-unfolding read read_with
-static_unread context registry e rest (inl h) = inl (rw h refl)
-static_unread context registry e rest (inr h) = absurd h
-
-pub static_refused : {A B : Type 0} (context : Context A B) (registry : List (Meaning ⊥)) (e : Error) (rest mid : Rest A) (i : ℕ) → bytes_of (unsigned_at w32) (λ n. n) rest ≡ Ok (i, mid) → (registered registry i ≡ Err e) ⊎ never e → (read context (static_value registry) rest ≡ Err e) ⊎ never e
-unfolding read read_with
-static_refused context registry e rest mid i h (inl g) = inl (rw (h, g) refl)
-static_refused context registry e rest mid i h (inr g) = absurd g
-
-pub static_read : {X A : Type 0} (meaning : X → Meaning ArcRef) (context : Context A ArcRef) (registry : List (Meaning ⊥)) (x : X) (m : Meaning ⊥) (rest mid : Rest A) (i : ℕ) → bytes_of (unsigned_at w32) (λ n. n) rest ≡ Ok (i, mid) → registered registry i ≡ Ok m → meaning x ≡ lifted m
-    → Gave (Is meaning x) mid (read context (static_value registry) rest)
-unfolding read read_with
-static_read meaning context registry x m rest mid i h g is = record { m = meaning x; is = refl; gave = rw (is, h, g) refl }

@@ -170,7 +170,7 @@ impl<E: Env> PagableSerialize<E> for SavedRegex {
 }
 
 /// Reads the text of a pattern, and builds nothing.
-#[tactic(auto, using(crate::proofs::Patterns::text_not_refused))]
+#[tactic(auto, unfolding(pagable_model::specs::Reading::read, pagable_model::specs::Reading::read_with), using(crate::proofs::Patterns::text_not_refused, crate::proofs::Patterns::gives_text))]
 fn read_text<E: Env, D: PagableDeserializer<E>>(
     alloc: Global,
     deserializer: &mut D,
