@@ -2,7 +2,7 @@
 use Rattle.pagable_tables.proofs.Words.{◌≡◌, ℕ, ◌+◌, ◌<◌, ◌≤◌, ◌==◌, Bool, true, false, if◌then◌else◌, List, [], ◌∷◌, ◌++◌, length, get_or, set, suc, zero, sum_by, All, filter, refl, ap, sym, subst}
 use Rattle.pagable_tables.proofs.Words.{◌∙◌, arith, Some, None, slice_get, nat_tests, sum_by-cons, All-tail, All-set, ◌⊎◌, cases_eq, get_or_default, get_or_from_slice_get, slice_get_within}
 use Rattle.pagable_tables.proofs.Words.{sum_by-set, get_or-le-sum_by, sum_by-le-sum_by, HandleRow, one, changed, find_row, is_handle, left_rows, IsNext, live, alive, is_live_place, IsBefore, Place}
-use Rattle.pagable_tables.proofs.{Words.{AllPairs, times, take, get_or-set_other, length-set, get_or-set_at}, Left.{left-none, ones}}
+use Rattle.pagable_tables.proofs.{Words.{AllPairs, times, take, slice_get-get_or, get_or-set_other, length-set, get_or-set_at}, Left.{left-none, ones}}
 use Rattle.std.proofs.lemmas.List.{get_or-take, length-take-le}
 
 -- the rows but for one number
@@ -243,3 +243,7 @@ pub rises-set : {A : Type 0} (f : A → ℕ) (xs : List A) (i : ℕ) (x y : A) �
 rises-set f xs i x y ordered at same j k d less within =
     let lt : k < length xs = let n = length-set xs i y in omega arith in
     omega (arith, number-set f xs i x y j d at same (omega arith), number-set f xs i x y k d at same lt, ordered j k d less lt)
+
+pub ruleset ends = (nat_tests, length-live-le, length-take-le, pairs-take)
+
+pub ruleset looks = (nat_tests, cases_eq, le_or_lt, none-live, row-got, slice_get-get_or)
