@@ -163,6 +163,7 @@ fn clear(handles: &mut Handles)
 }
 
 /// The handle at this place dies.
+#[tactic(auto, using(crate::proofs::Alive::places))]
 pub fn kill(handles: &mut Handles, at: HandleAt)
     requires sound { AreSound handles.old }
     requires place { slice_get handles.old.places.items at.place ≡ Some (alive at.row) }
@@ -178,6 +179,7 @@ pub fn kill(handles: &mut Handles, at: HandleAt)
 }
 
 /// The handle at this place has another row from now on, of the same number.
+#[tactic(auto, using(crate::proofs::Alive::places))]
 pub fn set(handles: &mut Handles, at: HandleAt, row: HandleRow)
     requires sound { AreSound handles.old }
     requires place { slice_get handles.old.places.items at.place ≡ Some (alive at.row) }
@@ -208,6 +210,7 @@ fn make_room(handles: &mut Handles) -> Result<(), AllocError>
 }
 
 /// A handle comes, with a number above all that are there. It is refused only where no place is left.
+#[tactic(auto, using(crate::proofs::Alive::pushes))]
 pub fn push(handles: &mut Handles, row: HandleRow) -> Result<(), AllocError>
     requires sound { AreSound handles.old }
     requires next { IsNext row.number.0 handles.old.places.items }
