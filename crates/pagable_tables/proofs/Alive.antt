@@ -2,7 +2,8 @@
 use Rattle.pagable_tables.proofs.Words.{◌≡◌, ℕ, ◌+◌, ◌<◌, ◌≤◌, ◌==◌, Bool, true, false, if◌then◌else◌, List, [], ◌∷◌, ◌++◌, length, get_or, set, suc, zero, sum_by, All, filter, refl, ap, sym, subst}
 use Rattle.pagable_tables.proofs.Words.{◌∙◌, arith, Some, None, slice_get, nat_tests, sum_by-cons, All-tail, All-set, ◌⊎◌, cases_eq, get_or_default, get_or_from_slice_get, slice_get_within}
 use Rattle.pagable_tables.proofs.Words.{sum_by-set, get_or-le-sum_by, sum_by-le-sum_by, HandleRow, one, changed, find_row, is_handle, left_rows, IsNext, live, alive, is_live_place, IsBefore, Place}
-use Rattle.pagable_tables.proofs.{Words.{AreSound, Handles, AllPairs, All-push, all_pairs_push, length-append, times, take, slice_get-get_or, get_or-set_other, length-set, get_or-set_at}, Left.{left-none, ones}}
+use Rattle.pagable_tables.proofs.Words.{AreSound, Handles, All-push, all_pairs_push, length-append, slice_get-get_or}
+use Rattle.pagable_tables.proofs.{Words.{AllPairs, times, take, get_or-set_other, length-set, get_or-set_at}, Left.{left-none, ones}}
 use Rattle.std.proofs.lemmas.List.{get_or-take, length-take-le}
 
 -- the rows but for one number
@@ -249,7 +250,11 @@ pub sound-set : (old new : Handles) (i : ℕ) (row : HandleRow) (p : Place) → 
     → new.places.items ≡ set old.places.items i p → new.dead + one p.is_live ≡ old.dead + 1 → AreSound new
 sound-set old new i row p sound at same is dead =
     let ordered = rises-set (λ (s : Place). s.row.number.0) old.places.items i (alive row) p sound.ordered at same in
-    record { ordered = subst (AllPairs IsBefore) (sym is) ordered; counted = omega (arith, sound.counted, dead, ap length is, ap (λ ss. length (live ss)) is, length-set old.places.items i p, length-live-set old.places.items i row p at) }
+    let live-length = ap (λ ss. length (live ss)) is in
+    record {
+      ordered = subst (AllPairs IsBefore) (sym is) ordered;
+      counted = omega (arith, sound.counted, dead, ap length is, live-length, length-set old.places.items i p, length-live-set old.places.items i row p at);
+    }
 
 -- a row more, above all that are there
 pub ordered-push : (ss : List Place) (row : HandleRow) → AllPairs IsBefore ss → IsNext row.number.0 ss → AllPairs IsBefore (ss ++ alive row ∷ [])

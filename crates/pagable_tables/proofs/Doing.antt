@@ -1,6 +1,7 @@
 -- Calls that leave the tables whole, as their steps leave the plain world.
 use Rattle.pagable_tables.proofs.Words.{◌≡◌, ◌≤◌, ◌+◌, ℕ, Bool, not, None, [], Option, ap, sym, subst, vec_capacity, IndexMap, get, nat_eq, Blob, Core, Tables, Sheds, IsFalling, owns_nothing, AreSound, IsNext}
-use Rattle.pagable_tables.proofs.{Words.{Handles, NodeRow, NodeNumber, OnlyRoom, AreLater, live, refl, arith, counts_at, refs_at, known_at, core_of, plain_of, ArePlaced, false}, Begun.not-closed, Ended.sheds-still, Newer.{OnlyNewer, later-on}, keeps.Placed.whole-so}
+use Rattle.pagable_tables.proofs.{Words.{OnlyRoom, AreLater, live, counts_at, refs_at, known_at, core_of, plain_of, ArePlaced, false}, Begun.not-closed, Ended.sheds-still, Newer.{OnlyNewer, later-on}, keeps.Placed.whole-so}
+use Rattle.pagable_tables.proofs.Words.{Handles, NodeRow, NodeNumber, refl, arith}
 use Rattle.pagable_tables.{proofs.Readied.{more-room, room-whole, room-newer, room-then}, specs.{Becoming.Widens, Core.IsWhole, Doing.{Does, DoesShed}}}
 use Rattle.pagable_world.specs.Pager as pager
 
@@ -71,8 +72,12 @@ nothing-shed {t = t} whole does = record { does = does; whole = whole; later = �
 pub widens-does : (t : Tables) (h : Handles) (nodes : IndexMap ℕ NodeRow _) → IsWhole t → Widens t.holdings.handles h → ((n : ℕ) → counts_at nodes n ≡ counts_at t.holdings.nodes n)
     → ((n : ℕ) → refs_at nodes n ≡ refs_at t.holdings.nodes n) → Does t OnlyRoom (record t { holdings = record t.holdings { handles = h; nodes = nodes } })
 widens-does t h nodes whole e counts refs =
-    room-does t (record t { holdings = record t.holdings { handles = h; nodes = nodes } }) whole e.sound (e.next (t.holdings.last_handle + 1) whole.steady.next) e.rows counts refs (λ kind key. refl) refl e.capacity
+    let next = e.next (t.holdings.last_handle + 1) whole.steady.next in
+    room-does t (record t { holdings = record t.holdings { handles = h; nodes = nodes } }) whole e.sound next e.rows counts refs (λ kind key. refl) refl e.capacity
 
-pub learns-does : (t u : Tables) (cache : IndexMap (ℕ × ℕ) NodeNumber _) → Does t OnlyRoom u → ((kind key : ℕ) → known_at cache kind key ≡ known_at u.cache kind key) → Does t OnlyRoom (record u { cache = cache })
+-- and then the cache
+pub learns-does : (t u : Tables) (cache : IndexMap (ℕ × ℕ) NodeNumber _) → Does t OnlyRoom u → ((kind key : ℕ) → known_at cache kind key ≡ known_at u.cache kind key)
+    → Does t OnlyRoom (record u { cache = cache })
 learns-does t u cache made known =
-    does-then made (room-does u (record u { cache = cache }) made.whole made.whole.steady.sound made.whole.steady.next refl (λ n. refl) (λ n. refl) known refl (omega arith)) (λ u v w one two. room-then one two)
+    let w = made.whole in
+    does-then made (room-does u (record u { cache = cache }) w w.steady.sound w.steady.next refl (λ n. refl) (λ n. refl) known refl (omega arith)) (λ u v w one two. room-then one two)

@@ -14,8 +14,9 @@ unreachable-requires g c =
 pub hand_each-requires : goal.hand_each-requires
 hand_each-requires g c =
     let w = plain_of c.args.t.now in
-    let can : MayHand w c.args.me c.args.load c.args.named.now = may-hand c.requires.whole.core c.args.me c.args.load c.args.named.now (sym (c.hand_over_fault.ensures (λ key. None) false 0) ∙ c.in_default.is) in
-    record { steady = c.requires.whole.steady; plain = not-a-value w c.args.me (may-hold w c.args.me can.may); there = named-there w c.args.load c.args.named.now can.named }
+    let hs = c.args.named.now in
+    let can : MayHand w c.args.me c.args.load hs = may-hand c.requires.whole.core c.args.me c.args.load hs (sym (c.hand_over_fault.ensures (λ key. None) false 0) ∙ c.in_default.is) in
+    record { steady = c.requires.whole.steady; plain = not-a-value w c.args.me (may-hold w c.args.me can.may); there = named-there w c.args.load hs can.named }
 
 pub returns : goal.returns
 returns g c =

@@ -46,9 +46,10 @@ returns-then-counts-eq0 c (n ∷ ns) w =
     let gone : counts_at c.remove.new.nodes t.top ≡ None = e.gone in
     let is : counts_at t.nodes t.top ≡ Some c.in-Some.counts = sym c.counts_of.ensures ∙ c.in-Some.is in
     let zero = c.if-counts-eq0.true in
-    let none : c.in-Some.counts.pins ≡ 0 = (let a = w.fits.pinned t.top in let b = w.fits.holding t.top in let d = ap pins_in is in let f = ap holds_in is in let l = pins-le-held t.top (live t.handles.places.items) in omega arith) in
+    let none : c.in-Some.counts.pins ≡ 0 = omega (arith, zero, w.fits.pinned t.top, w.fits.holding t.top, ap pins_in is, ap holds_in is, pins-le-held t.top (live t.handles.places.items)) in
     settled t (record t { nodes = c.remove.new.nodes }) n ns c.in-Some.counts w c.requires.some is (ap pins_in gone ∙ sym none) (ap holds_in gone ∙ sym zero) (ap falls_in gone) (ap has_value gone)
-    (subst (λ o. Right o (refs_at c.remove.new.nodes t.top)) (sym gone) e.no_refs) e.others (λ m. grind (arith, nat_tests, cases_eq, e.refs, e.no_refs, c.requires.none)) (λ m some. grind (arith, nat_tests, cases_eq))
+    (subst (λ o. Right o (refs_at c.remove.new.nodes t.top)) (sym gone) e.no_refs) e.others
+    (λ m. grind (arith, nat_tests, cases_eq, e.refs, e.no_refs, c.requires.none)) (λ m some. grind (arith, nat_tests, cases_eq))
 
 pub returns-else-counts-eq0 : goal.returns-else-counts-eq0
 returns-else-counts-eq0 c [] w = absurd (c.requires.some w.fits.chain)

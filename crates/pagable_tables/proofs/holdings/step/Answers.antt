@@ -1,6 +1,6 @@
 use Rattle.pagable_tables.proofs.Words.{◌≡◌, ◌+◌, ℕ, Bool, true, false, arith, refl, ap, sym, ◌∙◌, subst, Some, Option, List, [], ◌∷◌, ◌++◌, length, slice_get, if◌then◌else◌, inl, inr, ◌≢◌, is_some}
-use Rattle.pagable_tables.proofs.Words.{cases_eq, nat_tests, append-nil, ArcRef, HandleNumber, NodeNumber, HandleRow, one, live, alive, AreSound, IsNext, counts_at, refs_at, IsFalling, Fits, Settles}
-use Rattle.pagable_tables.proofs.{Words.{GivesUp, owner_value, CellsStay, cell_in, ValueStays, owns, owns_nothing, entry, is_valued, valued, Counts, Holdings}, Alive.{only-row, none-found}, Left.leaves-sums}
+use Rattle.pagable_tables.proofs.Words.{cases_eq, nat_tests, append-nil, ArcRef, HandleNumber, NodeNumber, HandleRow, owner_value, one, live, alive, counts_at, refs_at, IsFalling, Settles}
+use Rattle.pagable_tables.proofs.{Words.{GivesUp, CellsStay, cell_in, ValueStays, owns, owns_nothing, entry, is_valued, valued, Counts, Holdings}, Alive.{only-row, none-found}, Left.leaves-sums}
 use Rattle.pagable_tables.proofs.Fitting.{is_owned, taken-fits, taken-owned, taken-there, owner-is, fits-same, fallen}
 use Rattle.pagable_tables.proofs.holdings.step.Goals as goal
 
@@ -37,7 +37,9 @@ give_up-requires-clause-falling c =
     let s = top-stands t c.requires.falling.0 c.requires.some c.requires.falling.1 in
     let e = c.in-Some.ensures in
     let f = c.in-Some-look.ensures in
-    (t.top ∷ s.0, (taken t (record t { nodes = c.pop_reference.new.nodes }) s.0 c.in-Some.reference c.in-Some-look.at.place c.in-Some-look.at.row s.3 e.here e.others e.counts f.place (ap (λ (n : HandleNumber). n.0) f.number)).1)
+    let number = ap (λ (n : HandleNumber). n.0) f.number in
+    let k = taken t (record t { nodes = c.pop_reference.new.nodes }) s.0 c.in-Some.reference c.in-Some-look.at.place c.in-Some-look.at.row s.3 e.here e.others e.counts f.place number in
+    (t.top ∷ s.0, k.1)
 
 pub unreachable-requires : goal.unreachable-requires
 unreachable-requires c =
@@ -49,11 +51,11 @@ unreachable-requires c =
     absurd (omega (arith, none-found c.in-Some.reference.handle.0 (live t.handles.places.items) c.in-None-look.ensures.none))
 
 -- nothing was taken
-untouched : (t mid : Holdings) (stack : List ℕ) → IsFalling t stack owns_nothing → refs_at t.nodes t.top ≡ refs_at mid.nodes t.top ++ [] → ((m : ℕ) → m ≢ t.top → refs_at mid.nodes m ≡ refs_at t.nodes m)
-    → ((m : ℕ) → counts_at mid.nodes m ≡ counts_at t.nodes m) → IsFalling (record t { nodes = mid.nodes }) stack owns_nothing
+untouched : (t mid : Holdings) (stack : List ℕ) → IsFalling t stack owns_nothing → refs_at t.nodes t.top ≡ refs_at mid.nodes t.top ++ []
+    → ((m : ℕ) → m ≢ t.top → refs_at mid.nodes m ≡ refs_at t.nodes m) → ((m : ℕ) → counts_at mid.nodes m ≡ counts_at t.nodes m) → IsFalling (record t { nodes = mid.nodes }) stack owns_nothing
 untouched t mid stack w here others same =
     let refs : (m : ℕ) → refs_at mid.nodes m ≡ refs_at t.nodes m = λ m. grind (arith, nat_tests, cases_eq, append-nil) in
-    record { sound = w.sound; next = w.next; fits = fits-same (counts_at t.nodes) (counts_at mid.nodes) (refs_at t.nodes) (refs_at mid.nodes) (live t.handles.places.items) t.top stack w.fits same refs }
+    record { sound = w.sound; next = w.next; fits = fits-same _ (counts_at mid.nodes) _ (refs_at mid.nodes) _ t.top stack w.fits same refs }
 
 pub settle-requires-clause-falling : goal.settle-requires-clause-falling
 settle-requires-clause-falling c =
