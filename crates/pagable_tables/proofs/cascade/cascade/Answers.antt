@@ -2,17 +2,11 @@ use Rattle.pagable_tables.proofs.Words.{◌≡◌, ℕ, Bool, true, false, Optio
 use Rattle.pagable_tables.proofs.{Ended.{lasts-on, none-falls, ended}, Next.{steps-fewer, steps-unlisted, steps-on}}
 use Rattle.pagable_tables.proofs.cascade.cascade.Goals as goal
 
-abbrev number-in : Option NodeNumber → ℕ
-number-in None = 0
-number-in (Some m) = m.0
-
 not-node : (r : Option NodeNumber) (n : ℕ) → is_node r n ≡ false → r ≢ Some (record { 0 = n })
-not-node None n other eq = absurd (cc)
-not-node (Some m) n other eq = let same : m.0 ≡ n = ap number-in eq in absurd (grind (arith, nat_tests))
+not-node x0 n other eq = absurd (grind (arith, nat_tests))
 
 gone-node : (at : ℕ → Bool) (r : Option NodeNumber) (n : ℕ) → IfSome r (λ m. at m.0 ≡ false) → is_node r n ≡ true → at n ≡ false
-gone-node at None n gone is = absurd (cc)
-gone-node at (Some m) n gone is = let same : m.0 ≡ n = grind (arith, nat_tests) in sym (ap at same) ∙ gone
+gone-node at x1 n gone is = grind (arith, nat_tests)
 
 pub fall-preserved : goal.fall-preserved
 fall-preserved g c =

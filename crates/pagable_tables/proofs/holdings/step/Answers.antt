@@ -8,8 +8,7 @@ abbrev of_value : HandleRow → ℕ
 of_value h = one (is_valued h.owner)
 
 no-value : (listed : Bool) (k : ℕ) (m : NodeNumber) → (if listed then of_value (entry k m) else 0) ≡ 0
-no-value true k m = refl
-no-value false k m = refl
+no-value x0 k m = grind (arith, nat_tests)
 
 -- the first node that falls has this reference, which was taken
 module _ (t mid : Holdings) (ns : List ℕ) (p : ArcRef) (i : ℕ) (x : HandleRow) (w : IsFalling t (t.top ∷ ns) owns_nothing) (popped : refs_at t.nodes t.top ≡ refs_at mid.nodes t.top ++ p ∷ [])
