@@ -66,3 +66,9 @@ module _ {lists : Bool} {old new : Tables} {step : Core → Core → Type 0} whe
 pub nothing-shed : {X S : Type 0} {lists : Bool} {t : Tables} {values : IndexMap ℕ X S} {step : Core → Core → Type 0} → IsWhole t
     → ((stored : ℕ → Option Blob) (closed : Bool) (failures : ℕ) → lists ≡ not closed → step (core_of t stored closed failures) (core_of t stored closed failures)) → DoesShed lists t values step t values
 nothing-shed {t = t} whole does = record { does = does; whole = whole; later = λ later. later; sheds = sheds-still t.holdings _ whole.steady }
+
+-- the same, of a step that follows from it
+pub does-as : {old new : Tables} {one two : Core → Core → Type 0} → Does old one new
+    → ((stored : ℕ → Option Blob) (closed : Bool) (failures : ℕ) → one (core_of old stored closed failures) (core_of new stored closed failures) → two (core_of old stored closed failures) (core_of new stored closed failures))
+    → Does old two new
+does-as step so = record { does = λ stored closed failures. so stored closed failures (step.does stored closed failures); whole = step.whole; later = step.later }

@@ -1,8 +1,5 @@
-use Rattle.pagable_tables.proofs.{Words.{ap, ◌∙◌, arith, take_all, moved, is_named_by, only_handle, live, nat_tests}, Named.{moved-nobody, moved-take}}
+use Rattle.pagable_tables.proofs.{Words.{ap, ◌∙◌, arith, take_all, moved, is_named_by, only_handle, live}, Named.{moved-take}}
 use Rattle.pagable_tables.proofs.moving.hand_over_all.Goals as goal
-
-pub loop-reference-init : goal.loop-reference-init
-loop-reference-init c = grind (arith, nat_tests, moved-nobody, c.requires)
 
 pub loop-reference-preserved : goal.loop-reference-preserved
 loop-reference-preserved c =
