@@ -1,9 +1,9 @@
 -- A handle comes to a live node or to another owner, and nothing falls.
 use Rattle.pagable_tables.proofs.Words.{sum_by, ◌≡◌, ℕ, ◌+◌, ◌<◌, ◌≤◌, false, List, [], ◌∷◌, ◌++◌, length, ap, sym, ◌∙◌, subst, arith, Option, Some, None, inl, inr, ◌≢◌, not, IsSome, nat_tests}
 use Rattle.pagable_tables.proofs.Words.{cases_eq, sum_by_push, ArcRef, HandleRow, Owner, Mode, one, SameAt, held, is_pinning, is_owner, owner_value, Counts, holds_in, falls_in, Right}
-use Rattle.pagable_tables.proofs.Words.{Fits, owns_nothing, named, is_valued, cell_in, ◌==◌, ◌&&◌, true, get_or, slice_get, get_or-le-sum_by, sum_by-le-sum_by, HandleNumber, times, find_row, slice_get-get_or}
-use Rattle.pagable_tables.proofs.{Words.{is_handle, is_owned_by, Place, live, alive, IsBefore, AllPairs}, Fitting.{pin_of, handle_of, is_owned, pin-here, held-here, pin-other, held-other, pins-le-held}}
-use Rattle.pagable_tables.proofs.{Words.is_at, Alive.{length-live-le, none-found, only-row, row-le-live}, Bits.one-le, Left.ones}
+use Rattle.pagable_tables.proofs.Words.{Fits, owns_nothing, named, is_valued, cell_in, ◌==◌, ◌&&◌, true, get_or, slice_get, get_or-le-sum_by, sum_by-le-sum_by, HandleNumber, times, find_row}
+use Rattle.pagable_tables.proofs.{Words.{is_handle, is_owned_by, Place, live, alive, IsBefore, AllPairs}, Fitting.{pin_of, handle_of, is_owned, pin-here, held-here, pin-other, held-other}}
+use Rattle.pagable_tables.proofs.{Words.{is_at, slice_get-get_or}, Alive.{length-live-le, none-found, only-row, row-le-live}, Bits.one-le, Fitting.pins-le-held, Left.ones}
 
 pub no-value : (n : ℕ) (o : Owner) → is_valued o ≡ false → is_owner (owner_value n) o ≡ false
 no-value n x1 e = grind (arith, nat_tests)

@@ -69,6 +69,6 @@ nothing-shed {t = t} whole does = record { does = does; whole = whole; later = �
 
 -- the same, of a step that follows from it
 pub does-as : {old new : Tables} {one two : Core → Core → Type 0} → Does old one new
-    → ((stored : ℕ → Option Blob) (closed : Bool) (failures : ℕ) → one (core_of old stored closed failures) (core_of new stored closed failures) → two (core_of old stored closed failures) (core_of new stored closed failures))
-    → Does old two new
+    → ((stored : ℕ → Option Blob) (closed : Bool) (failures : ℕ) → one (core_of old stored closed failures) (core_of new stored closed failures)
+    → two (core_of old stored closed failures) (core_of new stored closed failures)) → Does old two new
 does-as step so = record { does = λ stored closed failures. so stored closed failures (step.does stored closed failures); whole = step.whole; later = step.later }

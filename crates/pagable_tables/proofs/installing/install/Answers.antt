@@ -20,16 +20,11 @@ falls-so : (b : Bool) (w : Core) (me : Owner) (l : LoadNumber) (row : HandleRow)
 falls-so true w me l row rs r w' away falls = inl (not-so _ (sym away), record { told = r; falls = falls })
 falls-so false w me l row rs r w' away falls = inr (so-then _ (sym away), record { told = r; falls = none-moves w l row me r w' falls })
 
-pub pin_ready-handle-requires-clause-holder : goal.pin_ready-handle-requires-clause-holder
-pin_ready-handle-requires-clause-holder g c =
+pub pin_ready-handle-requires : goal.pin_ready-handle-requires
+pin_ready-handle-requires g c =
     let r = c.requires.ready (λ key. None) false 0 in
-    may-hold (plain_of c.args.t.now) c.args.me (ready-owner c.args.t.now c.args.me c.args.load c.args.node_type c.args.references.items c.args.ending c.requires.whole r)
-
-pub pin_ready-handle-requires-clause-owns : goal.pin_ready-handle-requires-clause-owns
-pin_ready-handle-requires-clause-owns g c = (c.requires.ready (λ key. None) false 0).owned
-
-pub pin_ready-handle-requires-clause-left : goal.pin_ready-handle-requires-clause-left
-pin_ready-handle-requires-clause-left g c = (c.requires.ready (λ key. None) false 0).left
+    let holder = may-hold (plain_of c.args.t.now) c.args.me (ready-owner c.args.t.now c.args.me c.args.load c.args.node_type c.args.references.items c.args.ending c.requires.whole r) in
+    record { whole = c.requires.whole; holder = holder; owns = r.owned; left = r.left; place = c.requires.place.place }
 
 pub join-requires-clause-live : goal.join-requires-clause-live
 join-requires-clause-live g c =

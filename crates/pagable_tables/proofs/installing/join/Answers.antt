@@ -3,9 +3,8 @@ use Rattle.pagable_tables.proofs.installing.join.Goals as goal
 
 pub returns-then-comes : goal.returns-then-comes
 returns-then-comes c =
-    let moves = c.hand_over_all.ensures in
     rw c.if-comes.true (record {
-      handles = record { sound = moves.sound; rows = rw (← c.deref.ensures.value) moves.rows; capacity = moves.capacity; next = moves.next };
+      handles = rw (← c.deref.ensures.value) c.hand_over_all.ensures;
       counts = c.set_references.ensures.counts;
       here = λ is. c.set_references.ensures.here;
       others = c.set_references.ensures.others;

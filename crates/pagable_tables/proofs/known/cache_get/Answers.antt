@@ -8,7 +8,8 @@ make-requires-clause-suits c =
 
 pub returns-in-Ok-clause-does : goal.returns-in-Ok-clause-does
 returns-in-Ok-clause-does c =
-    does-as c.in-Ok.ensures.does (λ stored closed failures. recalls _ c.args.me c.args.kind c.args.key c.in-Some.node c.mode_of.result _ (sym (c.in-Some.ensures stored closed failures)) c.mode_of.ensures c.in-Ok.handle)
+    does-as c.in-Ok.ensures.does
+    (λ stored closed failures. recalls _ c.args.me c.args.kind c.args.key c.in-Some.node c.mode_of.result _ (sym (c.in-Some.ensures stored closed failures)) c.mode_of.ensures c.in-Ok.handle)
 
 pub returns-in-Err-clause-does : goal.returns-in-Err-clause-does
 returns-in-Err-clause-does c =

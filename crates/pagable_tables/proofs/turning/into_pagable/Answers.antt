@@ -1,5 +1,4 @@
-use Rattle.pagable_tables.proofs.{Words.{rules, is_pinned}, Doing.nothing-does, Worlds.{still, owner-same}, keeps.HandleCalls.pinned-unlisted}
-use Rattle.pagable_tables.proofs.Doing.{does-as}
+use Rattle.pagable_tables.proofs.{Words.{rules, is_pinned}, Doing.{does-as, nothing-does}, Worlds.{still, owner-same}, keeps.HandleCalls.pinned-unlisted}
 use Rattle.pagable_tables.proofs.turning.into_pagable.Goals as goal
 
 pub returns-in-Err : goal.returns-in-Err

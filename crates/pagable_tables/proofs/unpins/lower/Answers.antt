@@ -37,7 +37,8 @@ returns c =
     let h = pin-here x in let p = ap (λ m. one (is_pinning m)) c.requires.pinned in omega arith) in
     let held : 1 ≤ counts.holds = grind (arith, nat_tests, row-le-live, held-here, c.requires.place) in
     let top : c.top_after-t.result ≡ (if b then n else old.top) = grind (arith, nat_tests, new-top, c.top_after-t.ensures) in
-    let sums : (f : HandleRow → ℕ) → sum_by f (live mid.handles.places.items) + f x ≡ sum_by f (live old.handles.places.items) + f (unpinned x) + (if listed then f (entry (old.last_handle + 1) x.node) else 0) =
+    let rows' = live mid.handles.places.items in
+    let sums : (f : HandleRow → ℕ) → sum_by f rows' + f x ≡ sum_by f (live old.handles.places.items) + f (unpinned x) + (if listed then f (entry (old.last_handle + 1) x.node) else 0) =
     λ f. let a = c.set.ensures.sums f in let d = ap (sum_by f) e.rows in let g = with-entry f (live c.set.new.handles.places.items) listed (old.last_handle + 1) x.node in omega arith in
     record {
       counts = counts;
@@ -51,14 +52,14 @@ returns c =
       between = mid;
       comes = subst (λ k. MayList (record old { handles = c.set.new.handles }) x.node k listed mid) c.wants_entry-wanted.ensures c.enlist_if-listed.ensures;
       same = refl;
-      cells = lower-cells _ _ _ _ _ (live mid.handles.places.items) old.top x counts listed (old.last_handle + 1) w.fits is c.requires.pinned c.requires.plain sums here others same some;
+      cells = lower-cells _ _ _ _ _ rows' old.top x counts listed (old.last_handle + 1) w.fits is c.requires.pinned c.requires.plain sums here others same some;
       values = λ m. grind (arith, nat_tests, cases_eq, lowered-value);
       keyed = λ falls. keyed-then counts listed held (top-falls b n old.top w.fits.chain (λ z. falls (top ∙ z)));
       more = if b then n ∷ [] else [];
       falling = record {
         sound = e.sound;
         next = e.next;
-        fits = subst (λ t. Fits at' (refs_at c.set_counts.new.nodes) (live mid.handles.places.items) t (if b then n ∷ [] else []) owns_nothing) (sym top)
+        fits = subst (λ t. Fits at' (refs_at c.set_counts.new.nodes) rows' t (if b then n ∷ [] else []) owns_nothing) (sym top)
             (lower-fits _ _ _ _ _ _ old.top x counts listed (old.last_handle + 1) w.fits is c.requires.pinned c.requires.plain sums here others same some b refl);
       };
       long = long-if b n [];
