@@ -81,3 +81,9 @@ pub learns-does : (t u : Tables) (cache : IndexMap (ℕ × ℕ) NodeNumber _) �
 learns-does t u cache made known =
     let w = made.whole in
     does-then made (room-does u (record u { cache = cache }) w w.steady.sound w.steady.next refl (λ n. refl) (λ n. refl) known refl (omega arith)) (λ u v w one two. room-then one two)
+
+-- the same, of a step that follows from it
+pub does-as : {old new : Tables} {one two : Core → Core → Type 0} → Does old one new
+    → ((stored : ℕ → Option Blob) (closed : Bool) (failures : ℕ) → one (core_of old stored closed failures) (core_of new stored closed failures)
+    → two (core_of old stored closed failures) (core_of new stored closed failures)) → Does old two new
+does-as step so = record { does = λ stored closed failures. so stored closed failures (step.does stored closed failures); whole = step.whole; later = step.later }

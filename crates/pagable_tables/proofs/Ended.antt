@@ -114,3 +114,5 @@ module _ {X : Type 0} where
   stays-first stays b = record { left = λ kept. b.left (λ k falls. let s = stays k falls in kept k s.0 ∙ sym s.1) }
 
 pub ruleset falls = (nat_tests, valued-le, none-falls-in, none-falls)
+
+pub ruleset shedding = (nat_tests, sheds-then)
