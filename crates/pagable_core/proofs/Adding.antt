@@ -1,6 +1,6 @@
 -- Adding a blob to what is stored.
-use Rattle.std.proofs.{Common.{◌≡◌, ℕ, Bool, true, false, cond, Option, Some, None, refl, ap, ◌∙◌, inl, inr, arith}, lemmas.Bool.{eqb-true, Decides.nat_tests}}
-use Rattle.std.specs.{Arc.arc_value, Global.Global, HashMap.{HashMap, get}, Prelude.{◌==◌, nat_eq, option_map, if◌then◌else◌}, declared.hash.BuildHasherDefault.BuildHasherDefault}
+use Rattle.std.proofs.{Common.{◌≡◌, ℕ, Bool, true, false, cond, Option, Some, None, refl, sym, ap, ◌∙◌, inl, inr, arith}, lemmas.Bool.{eqb-true, Decides.nat_tests}}
+use Rattle.std.specs.{Arc.arc_value, Global.Global, HashMap.{HashMap, get}, Prelude.{◌==◌, ◌↔◌, ◌≢◌, IsTrue, nat_eq, option_map, if◌then◌else◌}, declared.hash.BuildHasherDefault.BuildHasherDefault}
 use Rattle.std.specs.{declared.hash.FoldHasher.FoldHasher, declared.sync.Arc.Arc}
 use Rattle.pagable_model.specs.{Blob.Blob, Stored.Adds}
 use Rattle.pagable_core.specs.{Blobs.stored_in, Data.blob_of, declared.storage.data.PagableData.PagableData}
@@ -16,6 +16,10 @@ adds_nothing stored key blob h = record { each = λ q. go q (q == key) refl; fre
 pub adds_one : (old new : ℕ → Option Blob) (key : ℕ) (blob : Blob) → old key ≡ None → ((q : ℕ) → new q ≡ (if q == key then Some blob else old q)) → Adds key blob old new
 adds_one old new key blob h each = record { each = each; free = inl h }
 
+-- another blob stands there
+pub taken : (stored : ℕ → Option Blob) (key : ℕ) (other blob : Blob) (same : Bool) → Some other ≡ stored key → (IsTrue same ↔ (other ≡ blob)) → same ≡ false → (o : Blob) × (stored key ≡ Some o) × (o ≢ blob)
+taken stored key other blob same e means differs = (other, sym e, λ is. let yes = means.1 is in absurd cc)
+
 abbrev pub Blobs : Type 0
 Blobs = HashMap ℕ (Arc PagableData Global) (BuildHasherDefault FoldHasher)
 
@@ -28,4 +32,4 @@ stored_more m n key v blob each is q = ap (option_map (λ (d : Arc PagableData G
     go true e = let same : (q == key) ≡ true = grind (arith, nat_tests) in rw same (ap (λ (x : Blob). Some x) is)
     go false e = let other : (q == key) ≡ false = grind (arith, nat_tests) in rw other refl
 
-pub ruleset adding = (adds_nothing, adds_one)
+pub ruleset adding = (adds_nothing, adds_one, taken)

@@ -1,6 +1,6 @@
 -- Weighing one more byte, and what the preimage of a blob is made of.
-use Rattle.std.proofs.Common.{◌≡◌, ℕ, suc, subst, ◌+◌, ◌*◌, ◌/◌, ◌%◌, ◌^◌, ◌<◌, List, [], ◌∷◌, ◌++◌, length, take, get_or, arith, refl, sym, ap, ◌∙◌, add_assoc, append_assoc, length-append}
-use Rattle.std.proofs.{Math.Nat.add-mod-mod, Math.Nat.mod-add-mod, Math.Nat.add-mul-mod_self_left, Math.Nat.mod-add-div, lemmas.Grind.flat_map-append, lemmas.List.take_more, lemmas.List.append-nil}
+use Rattle.std.proofs.Common.{◌≡◌, ℕ, suc, ◌+◌, ◌*◌, ◌/◌, ◌%◌, ◌^◌, ◌<◌, List, [], ◌∷◌, ◌++◌, length, take, get_or, arith, refl, sym, ap, ◌∙◌, add_assoc, append_assoc, length-append}
+use Rattle.std.proofs.{Math.Nat.add-mod-mod, Math.Nat.mod-add-mod, Math.Nat.add-mul-mod_self_left, Math.Nat.mod-add-div, lemmas.Grind.flat_map-append, lemmas.List.take_more, lemmas.List.append-nil, lemmas.List.take_all}
 use Rattle.std.specs.{Int.w64, Int.w128, Int.to_le_bytes, List.flat_map}
 use Rattle.pagable_model.specs.Blob.{weight, preimage}
 use Rattle.pagable_core.specs.{Data.IsWeighed, declared.storage.weigh.WeighHash.WeighHash}
@@ -54,10 +54,6 @@ pub preimage_is : (bytes keys : List ℕ) → (to_le_bytes w64 (length keys) ++ 
 unfolding preimage
 preimage_is bytes keys = append_assoc (to_le_bytes w64 (length keys)) bytes (flat_map (to_le_bytes w128) keys)
 
--- what a hash holds, by another name
-pub holds_as : {H : Type 0} (holds : H → List ℕ → Type 0) (h : H) (a b : List ℕ) → holds h a → a ≡ b → holds h b
-holds_as holds h a b p e = subst (holds h) e p
-
 -- before the first key
 pub begins : (count counted bytes written : List ℕ) (f : ℕ → List ℕ) → counted ≡ count → written ≡ bytes → counted ++ written ≡ (count ++ bytes) ++ flat_map f []
 begins count counted bytes written f e h = rw (e, h) (sym (append-nil (count ++ bytes)))
@@ -65,3 +61,5 @@ begins count counted bytes written f e h = rw (e, h) (sym (append-nil (count ++ 
 -- one key more
 pub continues : (f : ℕ → List ℕ) (keys : List ℕ) (i key : ℕ) (front more : List ℕ) → i < length keys → key ≡ get_or keys i key → more ≡ f key → (front ++ flat_map f (take i keys)) ++ more ≡ front ++ flat_map f (take (i + 1) keys)
 continues f keys i key front more h is e = rw e (sym (flat_map-next f keys i key front h is))
+
+pub ruleset keying = (begins, continues, preimage_is, take_all)

@@ -2,4 +2,3 @@ pub mod Data
 pub mod Context
 pub mod Fields
 pub mod Blobs
-pub mod Found

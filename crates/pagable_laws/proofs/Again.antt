@@ -1,15 +1,14 @@
 -- A form is read again, whatever follows it, and is refused where one of its references is.
 use Rattle.pagable_laws.proofs.Words.{arith, nat_tests, ℕ, zero, suc, Shape, json, nested, LiesIn, Within, Throughout, ◌≡◌, ◌^◌, ◌<◌, refl, Ok, List, ◌++◌, ℤ, le-leb, varint, varint_at}
-use Rattle.pagable_laws.proofs.Words.{varint_limit, bound, unsigned_form, unsigned_at, unsigned_of, signed_from, IsSigned, signed_form, signed_at, ◌+◌, ◌/◌, ◌%◌, ◌≤◌, Bool, false, [], ◌∷◌}
-use Rattle.pagable_laws.proofs.Words.{length, append_assoc, ltb, le-ltb, lt-ltb, take_at, drop_at, length-append, append-nil, is_utf8-from_IsUtf8, IsUtf8-encode, chars-encodes}
-use Rattle.pagable_laws.proofs.Words.{length-encode, bool_form, bool_at, longest, length_form, length_at, text_form, text_at, char_form, char_at, nanos_of_second, duration_form}
-use Rattle.pagable_laws.proofs.Words.{duration_at, sym, ap, ◌∙◌, Ordering, Meaning, KeyOrder, Entry, ordered, same_key, put_all, put_sorted, put_placed, put_sorted_item, put_placed_item}
-use Rattle.pagable_laws.proofs.Words.{AllAfter, Apart, Ascends, ItemsAscend, Differ, ItemsDiffer, inl, inr, text_order, Look, Gets, items, two, subst, read_with, below, read, Form, Forms}
-use Rattle.pagable_laws.proofs.Words.{Entries, unsigned-form, signed-form, flag-form, text-form, letter-form, duration-form, pattern-form, some-form, err-form, ok-form, list-form}
-use Rattle.pagable_laws.proofs.Words.{run-form, array-form, both-form, sorted-map-form, placed-map-form, hash-map-form, sorted-set-form, placed-set-form, static-form, tagged-form}
-use Rattle.pagable_laws.proofs.Words.{case-form, reference-form, nested-form, json-flag-form, json-number-form, json-text-form, json-array-form, json-object-form, no-forms, more-forms}
-use Rattle.pagable_laws.proofs.Words.{no-entries, more-entries, IsReadable, HasNoCase, IsReadAgain, rest, LooksUp, no-references, more-references, Err, Error, Result, append_cancel_right}
-use Rattle.pagable_laws.proofs.Words.{Rest, IsPrefixFree, ◌>>=◌}
+use Rattle.pagable_laws.proofs.Words.{varint_limit, bound, unsigned_form, unsigned_at, unsigned_of, signed_from, IsSigned, signed_form, signed_at, ◌+◌, ◌/◌, ◌%◌, ◌≤◌, Bool, false, [], ◌∷◌, length}
+use Rattle.pagable_laws.proofs.Words.{append_assoc, ltb, le-ltb, lt-ltb, take_at, drop_at, length-append, append-nil, is_utf8-from_IsUtf8, IsUtf8-encode, chars-encodes, length-encode, bool_form}
+use Rattle.pagable_laws.proofs.Words.{bool_at, longest, length_form, length_at, text_form, text_at, char_form, char_at, nanos_of_second, duration_form, duration_at, sym, ap, ◌∙◌, Ordering}
+use Rattle.pagable_laws.proofs.Words.{Meaning, KeyOrder, Entry, ordered, same_key, put_all, put_sorted, put_placed, put_sorted_item, put_placed_item, AllAfter, Apart, Ascends, ItemsAscend, Differ}
+use Rattle.pagable_laws.proofs.Words.{ItemsDiffer, inl, inr, text_order, Look, Gets, items, two, subst, read_with, below, read, Form, Forms, Entries, unsigned-form, signed-form, flag-form}
+use Rattle.pagable_laws.proofs.Words.{text-form, letter-form, duration-form, pattern-form, some-form, err-form, ok-form, list-form, run-form, array-form, both-form, sorted-map-form}
+use Rattle.pagable_laws.proofs.Words.{placed-map-form, hash-map-form, sorted-set-form, placed-set-form, static-form, tagged-form, case-form, reference-form, nested-form, json-flag-form}
+use Rattle.pagable_laws.proofs.Words.{json-number-form, json-text-form, json-array-form, json-object-form, no-forms, more-forms, no-entries, more-entries, IsReadable, HasNoCase, IsReadAgain, rest}
+use Rattle.pagable_laws.proofs.Words.{LooksUp, no-references, more-references, Err, Error, Result, append_cancel_right, Rest, IsPrefixFree, ◌>>=◌}
 use Rattle.pagable_model.specs.{Shape.text}
 use Rattle.std.{specs.Int.{Width, w32, w64}, specs.Char.{IsScalar, encode_utf8, len_utf8}, specs.Str.{IsUtf8, chars}}
 

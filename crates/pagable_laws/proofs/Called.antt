@@ -1,12 +1,11 @@
 -- What trees feel of each call, by the call and its reply.
-use Rattle.pagable_laws.proofs.Words.{◌≡◌, ℕ, Bool, true, false, List, refl, Option, Some, Result, Ok, Err, Adds, Error, Kind, Blob, HandleNumber, LoadNumber, NodeNumber, Owner, HandleRow, Mode, Want}
-use Rattle.pagable_laws.proofs.Words.{Pinning, Beginning, OptionalDataKey, Core, of_cell, type_at, key_at, Alike, with_handle, moved, CloneCall, PinCall, Asked, StoreCall}
-use Rattle.pagable_laws.proofs.Words.{without_load, BeginCall, BeginKeyCall, Given, arith, nat_tests, AskCall, GetsKnown, LoadCloses, nothing_felt, BeginsWell, [], inl, inr, None, ◌⊎◌, ArcRef, Call}
-use Rattle.pagable_laws.proofs.Words.{Reply, Event, find_row, owner_value, Seen, Values, only_handle, next_node, is_named_by, BirthCall, UnpinCall, ReleaseCall, SetKeyCall, ScheduleCall}
-use Rattle.pagable_laws.proofs.Words.{TakeCall, RecallCall, OfferCall, AdoptCall, LazyCall, EndCall, Installs, HandOverCall, DropCall, first_key, CallBrings, IsNewNode}
-use Rattle.pagable_laws.proofs.Words.{KeepsOpen, LeavesCache, Change, sets_key, knows_node, bears_node, bears_known, CallFeels, feels-nothing, feels-birth, feels-away, feels-key, feels-known}
-use Rattle.pagable_laws.proofs.Words.{feels-adopted, feels-lazy, feels-end, StaysAway, with_known, usable, adopted, AreGood, FallsAnyhow, type_of, mode_of, of_key, moved}
-use Rattle.pagable_laws.proofs.Words.{is_owned_in, is_in, numbers_of, subst, sym, ap, ◌∙◌}
+use Rattle.pagable_laws.proofs.Words.{◌≡◌, ℕ, Bool, true, false, List, refl, Option, Some, Result, Ok, Err, Adds, Error, Kind, Blob, HandleNumber, LoadNumber, NodeNumber, Owner, HandleRow, Mode}
+use Rattle.pagable_laws.proofs.Words.{Want, Pinning, Beginning, OptionalDataKey, Core, of_cell, type_at, key_at, Alike, with_handle, moved, CloneCall, PinCall, Asked, StoreCall, without_load}
+use Rattle.pagable_laws.proofs.Words.{BeginCall, BeginKeyCall, Given, arith, nat_tests, AskCall, GetsKnown, LoadCloses, nothing_felt, BeginsWell, [], inl, inr, None, ◌⊎◌, ArcRef, Call, Reply}
+use Rattle.pagable_laws.proofs.Words.{Event, find_row, owner_value, Seen, Values, only_handle, next_node, is_named_by, BirthCall, UnpinCall, ReleaseCall, SetKeyCall, ScheduleCall, TakeCall}
+use Rattle.pagable_laws.proofs.Words.{RecallCall, OfferCall, AdoptCall, LazyCall, EndCall, Installs, HandOverCall, DropCall, first_key, CallBrings, IsNewNode, KeepsOpen, LeavesCache, Change}
+use Rattle.pagable_laws.proofs.Words.{sets_key, knows_node, bears_node, bears_known, CallFeels, feels-nothing, feels-birth, feels-away, feels-key, feels-known, feels-adopted, feels-lazy}
+use Rattle.pagable_laws.proofs.Words.{feels-end, StaysAway, with_known, usable, adopted, AreGood, FallsAnyhow, type_of, mode_of, of_key, moved, is_owned_in, is_in, numbers_of, subst, sym, ap, ◌∙◌}
 use Rattle.pagable_laws.proofs.Goes.{Goes, NotLoads, a-handle, quiet-goes, goes-then, begun, found-changed, KnowsNext}
 use Rattle.pagable_laws.proofs.Effects.{Effect, Ours, IsMine, none, handle, turned, moves, cached, cached-if, opens, shuts, like, fell, own-mode, node, with-key, beside, forgets, stays}
 use Rattle.pagable_laws.proofs.Effects.{own-handle, own-named, load-named, none-named, load-owns, but, no-one, entry, handed, owned-mine, unfaulty-mine, both-none}

@@ -1,12 +1,11 @@
 -- Each event keeps trees: what it brings fits some trees afterwards, for which the machine stands then, with all that its loads read.
-use Rattle.pagable_laws.proofs.Words.{◌≡◌, ℕ, List, [], inl, inr, sym, subst, ◌⊎◌, Event, EventReply, Tree, Among, Reading, Values, Seen, IsLawful, MachineState, world_of}
-use Rattle.pagable_laws.proofs.Words.{IsMachineWhole, StandsFor, EventBrings, IsReadingOf, HoldsSettled, ReadsItsTypes, TakesWell, AsksWell, IsWellAsked}
-use Rattle.pagable_laws.proofs.Words.{Change, CoreGoes, IsSteppedReading, EventFeels, by-call, by-reading, by-key, arith, nat_tests, by-nothing, KeysAreReady, IsFresh, ChangeFits}
-use Rattle.pagable_laws.proofs.Words.{◌+◌, ◌≤◌, Option, Some, None, refl, ◌∙◌, OpenLoad, Moves, StepFeels, ◌∷◌}
-use Rattle.pagable_laws.proofs.Words.{HandleNumber, IsIdle, IsPremised, Moment, AreMoments, TreesAfter, TreesAlong, GivesTree, PinGives, IsRight, HasPin, PinHolds, WorkFits, KeysHeld}
-use Rattle.pagable_laws.proofs.Words.{◌==◌, ◌&&◌, Bool, true, false, ap, Ok, is_some, sum_by-append, sum_by-cons, Identity, WorkerNumber, one, times, Took, WorkerReply, Shelf, Slot}
-use Rattle.pagable_laws.proofs.Words.{Todo, Walking, World, Site, Does, Happens, WorkerSteps, step_of, steps_of, is_claim_of, is_on_table, claims_made, ◌++◌, append_assoc, is_none, WorkerAnswer}
-use Rattle.pagable_laws.proofs.Words.{HandleRow, Owner, owner_worker, is_owned_by, is_owner, is_workers_load, state_after, events_of, replies_of, InOrder, TableMeets, HasLetGo}
+use Rattle.pagable_laws.proofs.Words.{◌≡◌, ℕ, List, [], inl, inr, sym, subst, ◌⊎◌, Event, EventReply, Tree, Among, Reading, Values, Seen, IsLawful, MachineState, world_of, IsMachineWhole}
+use Rattle.pagable_laws.proofs.Words.{StandsFor, EventBrings, IsReadingOf, HoldsSettled, ReadsItsTypes, TakesWell, AsksWell, IsWellAsked, Change, CoreGoes, IsSteppedReading, EventFeels, by-call}
+use Rattle.pagable_laws.proofs.Words.{by-reading, by-key, arith, nat_tests, by-nothing, KeysAreReady, IsFresh, ChangeFits, ◌+◌, ◌≤◌, Option, Some, None, refl, ◌∙◌, OpenLoad, Moves, StepFeels, ◌∷◌}
+use Rattle.pagable_laws.proofs.Words.{HandleNumber, IsIdle, IsPremised, Moment, AreMoments, TreesAfter, TreesAlong, GivesTree, PinGives, IsRight, HasPin, PinHolds, WorkFits, KeysHeld, ◌==◌, ◌&&◌}
+use Rattle.pagable_laws.proofs.Words.{Bool, true, false, ap, Ok, is_some, sum_by-append, sum_by-cons, Identity, WorkerNumber, one, times, Took, WorkerReply, Shelf, Slot, Todo, Walking, World}
+use Rattle.pagable_laws.proofs.Words.{Site, Does, Happens, WorkerSteps, step_of, steps_of, is_claim_of, is_on_table, claims_made, ◌++◌, append_assoc, is_none, WorkerAnswer, HandleRow, Owner}
+use Rattle.pagable_laws.proofs.Words.{owner_worker, is_owned_by, is_owner, is_workers_load, state_after, events_of, replies_of, InOrder, TableMeets, HasLetGo, SameTrees}
 use Rattle.pagable_laws.proofs.{Words.{StepsAreWithin, WorkerIsRight, WorkIsRight, HeadlineLaw}, Felt.reading-fits, Felt.{none-comes, fits-nothing, fits-key, call-fits}, Fitting.tree-stays}
 use Rattle.pagable_laws.proofs.{ReadingSteps.{is-reading-of, does-feels, readings-on}, Trees.same_some, Answering.keys-right}
 use Rattle.pagable_laws.proofs.{Coming.{waits-well, StandsIn, event-turns, turns-stand, idle-stands, updated-at, EventTurns, Went}}
@@ -15,7 +14,6 @@ use Rattle.pagable_laws.proofs.{Stepping.fits-on, ReadingStepsGive.{reads-give, 
 use Rattle.pagable_laws.proofs.{Standing.{ShelfGrows, is-same, puts-slot, grows, true-false, KeepsTask, Turned, keeps-task, WalkingStands, is_failing, is_open_in}, Once.{once_each, plus-none}}
 use Rattle.pagable_laws.proofs.Sums.{sum-zero}
 use Rattle.pagable_world.specs.Runs.{Does as DoesMoment}
-use Rattle.pagable_laws.proofs.Words.{SameTrees}
 use Rattle.pagable_laws.proofs.Taking.{Going, going-new, going-on, going-step, given-nodes}
 use Rattle.std.{proofs.Common.append-nil, proofs.lemmas.Bool.false_from_ne_true}
 

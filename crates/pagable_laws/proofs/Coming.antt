@@ -342,21 +342,10 @@ module _ {W : Type 0} (f : W → Written) where
 
   pub pays : (todo : List Todo) (step : Took W) (next : List Todo) → Follows f todo step next → Pays todo step next
   unfolding all-due
-  pays (to_start r place ∷ []) (Took.Claim j (Ok Claim.Claimed)) next (is, e) = rw e (omega arith)
-  pays (to_start r place ∷ []) (Took.Claim j (Ok (Claim.Known key height))) next (is, e) = rw e (omega arith)
-  pays (to_start r place ∷ []) (Took.Claim j (Ok Claim.Waiting)) next (is, e) = rw e (omega arith)
-  pays (to_start r place ∷ []) (Took.Claim j (Ok Claim.AlreadyFailed)) next (is, e) = rw e (omega arith)
-  pays (to_start r place ∷ []) (Took.Claim j (Err fault)) next (is, e) = rw e (omega arith)
-  pays (to_start r place ∷ x ∷ xs) (Took.Claim j (Ok Claim.Claimed)) next (is, e) = rw e (omega arith)
   pays (to_start r place ∷ x ∷ xs) (Took.Claim j (Ok (Claim.Known key height))) next (is, e) = rw e (pays-known 0 _ _ (given-due r key height (x ∷ xs)))
-  pays (to_start r place ∷ x ∷ xs) (Took.Claim j (Ok Claim.Waiting)) next (is, e) = rw e (omega arith)
-  pays (to_start r place ∷ x ∷ xs) (Took.Claim j (Ok Claim.AlreadyFailed)) next (is, e) = rw e (ends _ (some-due x xs))
-  pays (to_start r place ∷ x ∷ xs) (Took.Claim j (Err fault)) next (is, e) = rw e (ends _ (some-due x xs))
   pays (to_write r place through ∷ below) (Took.Write j (Ok out)) next (is, e) = grind (arith, settled-node)
-  pays (to_item written keys ∷ below) (Took.Store None (Ok key)) next e = rw e (omega arith)
-  pays (to_item written keys ∷ below) (Took.Store None (Err fault)) next e = rw e (omega arith)
   pays (to_release r key height ∷ below) (Took.Release j) next (is, e) = rw e (pays-known 0 _ _ (given-due r key height below))
-  pays _ step next follows = grind (arith, nat_tests, due-cons, some-due, pays-known, given-due)
+  pays _ step next follows = grind (arith, nat_tests, due-cons, some-due, pays-known, given-due, ends)
 
   -- the steps that were counted, with those that are due, are within the bound
   abbrev pub IsWithin : Task → List Todo → ℕ → List (Took W) → Type 0

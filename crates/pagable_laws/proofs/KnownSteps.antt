@@ -1,8 +1,6 @@
 -- What a load has got is what its blobs asked for, and goes on to be so.
-use Rattle.pagable_laws.proofs.Words.{nat_tests, ◌≡◌, ℕ, true, List, [], ◌∷◌, refl, Kind, Types, is_eager, HandleRow}
-use Rattle.pagable_laws.proofs.Words.{Frame, Next, asks, next_in, need_at, need_of, needs_nested, nested_frame, with_got}
-use Rattle.pagable_laws.proofs.Words.{arith, Needs}
-use Rattle.pagable_laws.proofs.Words.{root_frame}
+use Rattle.pagable_laws.proofs.Words.{nat_tests, ◌≡◌, ℕ, true, List, [], ◌∷◌, refl, Kind, Types, is_eager, HandleRow, Frame, Next, asks, next_in, need_at, need_of, needs_nested, nested_frame}
+use Rattle.pagable_laws.proofs.Words.{with_got, arith, Needs, root_frame}
 use Rattle.pagable_laws.proofs.{Apart.{none-got, one-got, FramesAsked}, Fitting.asked}
 
 -- what is read together with a value is asked for through a reference that isn't loose

@@ -32,6 +32,7 @@ pub mod Taking
 mod Answering
 mod KnownSteps
 pub mod Chains
+mod Few
 mod Level
 mod Deeply
 pub mod SparingSteps

@@ -1,11 +1,10 @@
 -- What a load has got stays live and the load's own, each handle once, as long as the load makes its own steps; and so does the handle that began it.
 use Rattle.pagable_laws.proofs.Words.{nat_tests, ◌≡◌, ℕ, zero, suc, ◌+◌, ◌<◌, ◌≤◌, ◌==◌, Bool, true, false, List, [], ◌∷◌, ◌++◌, Some, inl, inr, refl, sym, ap, subst, ◌∙◌, if◌then◌else◌, arith}
-use Rattle.pagable_laws.proofs.Words.{sum_by, sum_by-cons, sum_by_push, HandleRow, Owner, ArcRef, Kind, HandleNumber, LoadNumber, NodeNumber, OptionalDataKey, Among, type_of, one}
-use Rattle.pagable_laws.proofs.Words.{times, mode_of, Core, OpenLoad, of_cell, Frame, Alike, row_at, row_of, with_handle, with_node, next_node, is_named_by, Asked, adopted, GetsKnown, with_got}
-use Rattle.pagable_laws.proofs.{Words.{HandlesAreWhole, Tree, find_row, Reading, Values, IsLawful, nested_frame, GoesOn, GetsLazy, MakesNode, FramesFit, ReadsItsTypes, FramesHeld}, Outlasting.Stands}
+use Rattle.pagable_laws.proofs.Words.{sum_by, sum_by-cons, sum_by_push, HandleRow, Owner, ArcRef, Kind, HandleNumber, LoadNumber, NodeNumber, OptionalDataKey, Among, type_of, one, times, mode_of}
+use Rattle.pagable_laws.proofs.Words.{Core, OpenLoad, of_cell, Frame, Alike, row_at, row_of, with_handle, with_node, next_node, is_named_by, Asked, adopted, GetsKnown, with_got, owner_value}
+use Rattle.pagable_laws.proofs.{Words.{HandlesAreWhole, Tree, find_row, Reading, Values, IsLawful, GoesOn, GetsLazy, MakesNode, FramesFit, ReadsItsTypes, FramesHeld}, Outlasting.Stands}
 use Rattle.pagable_laws.proofs.{Outlasting.{AreUpTo, stands-alike, stands-new, among-changed, NotValues, stands-whole, stands-fell}, Apart.AreApart, Fitting.{AllGot, all-new, all-more}}
 use Rattle.pagable_laws.proofs.{Fitting.first-fits, Goes.{found-number}, ReadingSteps.cached-rows, Sums.{self-number, same-number, at-most-sum, sum-zero}}
-use Rattle.pagable_laws.proofs.Words.{owner_value}
 use Rattle.pagable_laws.proofs.{Effects.{with-one, moved-free, named-among}, Outlasting.{new-handle, low-whole}, Decoding.decodes, GoodReferences.good, Trees.same_some}
 use Rattle.std.proofs.lemmas.Bool.{cases_Bool, false_from_ne_true}
 
@@ -277,12 +276,6 @@ module _ {N : Type 0} (v : Values N) (lawful : IsLawful v) (readable : ReadsItsT
   pub goes-ready : (frames : List Frame) → GoesOn v w Owner.Caller reading frames w' → LoadReady w' l load frames
   goes-ready frames (inl root) = grind (arith, asked-keeps, begun-on, all-new (IsLive w' l), once-new, once-none)
   goes-ready frames (inr (inl g)) = subst (λ fs. LoadReady w' l load fs) (sym g.goes) (known-ready g.kind g.key g.k g.row g.asked.gives.2 g.made)
-  goes-ready frames (inr (inr (inl g))) =
-      let asked = g.asked.gives.2.1.asked in
-      subst (λ fs. LoadReady w' l load fs) (sym g.goes) (record {
-        begun = begun-on (λ h x there own y free s. asked-keeps w w' asked s);
-        live = all-new (IsLive w' l) (nested_frame g.kind g.key g.blob) reading.frames refl (live-on reading.frames (λ frame r among got x free s. asked-keeps w w' asked s) ready.live);
-        once = once-new (nested_frame g.kind g.key g.blob) reading.frames refl ready.once;
-      })
+  goes-ready frames (inr (inr (inl g))) = search (g.goes, g.asked.gives.2.1.asked, begun-on, asked-keeps, live-on, all-new, ready.live, once-new, ready.once)
   goes-ready frames (inr (inr (inr (inl g)))) = subst (λ fs. LoadReady w' l load fs) (sym g.goes) (lazy-ready frames g)
   goes-ready frames (inr (inr (inr (inr g)))) = subst (λ fs. LoadReady w' l load fs) (sym g.goes) (node-ready frames g)

@@ -563,14 +563,7 @@ module _ {N B W : Type 0} (m : Seen N B W) (u u' : World) where
   -- a step of the caller's, as it is felt
   felt : {event : Event N B W} {reply : EventReply N B W} {lists : Bool} {Asks Leaves : Type 0} {c : Change} → Effect Owner.Caller lists Asks Leaves false c u.core u'.core → (LeavesCache event → Leaves)
       → (IsWhole u.core → AllWaitWell u → EventFeels m.values u event reply u' c) → (IsWhole u.core → LeavesCache event → KnowsNext c u.core) → EG event reply
-  felt {c = c} e leaves feels knows = record {
-    change = c;
-    goes = e.goes;
-    spares = λ v there others. e.spares (owner_worker v) (record { apart = worker-apart v; other = callers v; unlisted = λ yes. (refl, there) });
-    lasts = λ left kind key n. record { lasts = λ i h h'. e.lasts (leaves left) kind key n i h (λ f. h') };
-    feels = feels;
-    knows = knows;
-  }
+  felt {c = c} e leaves feels knows = search (e.goes, e.spares, worker-apart, callers, e.lasts, leaves)
 
   event-rests : {event : Event N B W} {reply : EventReply N B W} → ((n : ℕ) (x : N) → EventBrings m.values u event n x → IsNewNode u.core n ⊎ StaysAway u.core u'.core n)
       → KeepsReadings u u' → Effect Owner.Caller true (Unit {0}) (Unit {0}) false nothing_felt u.core u'.core → EG event reply

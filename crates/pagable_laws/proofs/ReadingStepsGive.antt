@@ -1,14 +1,13 @@
 -- What a load of a key hands over, and that what it read is right; and how many steps an open load still needs.
 use Rattle.pagable_laws.proofs.Words.{◌≡◌, ℕ, zero, suc, List, [], ◌∷◌, ◌++◌, refl, sym, subst, ◌∙◌, inl, inr, arith, Option, Some, None, ArcRef, Kind, LoadNumber, Among, HandleRow, Event}
-use Rattle.pagable_laws.proofs.Words.{EventReply, LoadAnswer, Core, Frame, Reading, World, Values, with_got, nested_frame, Change, ReadingFeels, reads-root}
-use Rattle.pagable_laws.proofs.Words.{reads-blob, gets-known, gets-lazy, makes-known, makes-node, reading-ends, EventFeels, nat_tests}
-use Rattle.pagable_laws.proofs.Words.{◌&&◌, ◌||◌, Bool, true, false, map, Ok, ap, not, Error, HandleNumber, is_in, if_there, Owner, is_owner, row_at, Seen, earlier, refused_if}
-use Rattle.pagable_laws.proofs.Words.{named_fault, moved, numbers_of, HandOverCall, hand_over_fault, is_owned_in, EndsRead, handles_of, Happens, HandlesAreWhole, HandsOver, ReadHolds, ◌<◌}
-use Rattle.pagable_laws.proofs.Words.{slice_get-get_or, Blob, NodeNumber, Tree, Types, type_of, LoadReply, held, OpenLoad, type_at, IsLawful, IsReference, ReadsRoot, reading_at, LoadSteps}
-use Rattle.pagable_laws.proofs.Words.{MachineState, world_of, IsMachineWhole, IsReadingOf, of_caller, StandsFor, SameTrees, FrameFits, FramesFit, ReadsItsTypes, ReadIsRight, ReadGives}
-use Rattle.pagable_laws.proofs.Words.{◌+◌, ◌*◌, ◌≤◌, ◌⊎◌, is_eager, asks, next_in, need_of, needs_nested, needs_lazy, to_adopt, root_frame, after_kinds, Unfolds, unfolds, UnfoldsFrom, KeepsStored}
-use Rattle.pagable_laws.proofs.Words.{IsSome}
-use Rattle.pagable_laws.proofs.Words.{Call, Reply, one_more, gone_on, CloseCall, IsIdle, KeepsOpen, HasStepLeft, IsWithinBound, StepIsWithin}
+use Rattle.pagable_laws.proofs.Words.{EventReply, LoadAnswer, Core, Frame, Reading, World, Values, with_got, nested_frame, Change, ReadingFeels, reads-root, reads-blob, gets-known, gets-lazy}
+use Rattle.pagable_laws.proofs.Words.{makes-known, makes-node, reading-ends, EventFeels, nat_tests, ◌&&◌, ◌||◌, Bool, true, false, map, Ok, ap, not, Error, HandleNumber, is_in, if_there, Owner}
+use Rattle.pagable_laws.proofs.Words.{is_owner, row_at, Seen, earlier, refused_if, named_fault, moved, numbers_of, HandOverCall, hand_over_fault, is_owned_in, EndsRead, handles_of, Happens}
+use Rattle.pagable_laws.proofs.Words.{HandlesAreWhole, HandsOver, ReadHolds, ◌<◌, slice_get-get_or, Blob, NodeNumber, Tree, Types, type_of, LoadReply, held, OpenLoad, type_at, IsLawful}
+use Rattle.pagable_laws.proofs.Words.{IsReference, ReadsRoot, reading_at, LoadSteps, MachineState, world_of, IsMachineWhole, IsReadingOf, of_caller, StandsFor, SameTrees, FrameFits, FramesFit}
+use Rattle.pagable_laws.proofs.Words.{ReadsItsTypes, ReadIsRight, ReadGives, ◌+◌, ◌*◌, ◌≤◌, ◌⊎◌, is_eager, asks, next_in, need_of, needs_nested, needs_lazy, to_adopt, root_frame, after_kinds}
+use Rattle.pagable_laws.proofs.Words.{Unfolds, unfolds, UnfoldsFrom, KeepsStored, IsSome, Call, Reply, one_more, gone_on, CloseCall, IsIdle, KeepsOpen, HasStepLeft, IsWithinBound, StepIsWithin}
+use Rattle.pagable_laws.proofs.Words.{PagerState, Represents, WellFormed}
 use Rattle.pagable_laws.proofs.{Words.{LoadsHaveStepsLeft, IsFresh}, Fitting.{inside, first-fits, frames-stay, asked}, ReadingSteps.{readings-on, caller-free, reading-feels, reading-stands}}
 use Rattle.pagable_laws.proofs.{ReadingSteps.{AllWaitWell, EventGoes, event-goes}, Goes.{found-number, IsShut, Goes}, Outlasting.{Stands, stands-whole, stands-changed}}
 use Rattle.pagable_laws.proofs.{Outlasting.stands-fell, Sums.self-number, Decoding.decodes, Taking.{row-held, root-right, adopted-over, Going, given-nodes}}
@@ -16,7 +15,6 @@ use Rattle.pagable_laws.proofs.{KnownSteps.eager-nested, ReadingStepsKinds.kinds
 use Rattle.pagable_laws.proofs.{ReadingStepsKinds.{asks-by-kinds, kinds-pushed}, Trees.same_some}
 use Rattle.pagable_world.specs.{Loads.{Does as LoadDoes}, Runs.Does}
 use Rattle.std.proofs.Common.{rules}
-use Rattle.pagable_laws.proofs.Words.{PagerState, Represents, WellFormed}
 
 -- A load of a key that answers a value hands over the value's references: each was the load's, and is the caller's then.
 

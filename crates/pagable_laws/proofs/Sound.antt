@@ -1,22 +1,21 @@
 -- Why a load is refused whose key a page-out has published: by chance, or by a handle. And as too deep one is refused only where the reading of its key comes to a
 -- blob that lies too deep, or to one that enters a level too many.
-use Rattle.pagable_laws.proofs.Words.{nat_tests, ◌≡◌, ℕ, suc, ◌+◌, ◌≤◌, true, List, [], ◌∷◌, length, Option, Some, sym, ap, subst, ◌∙◌, inl, inr, if◌then◌else◌, arith, slice_get, blob_of}
-use Rattle.pagable_laws.proofs.Words.{Error, ArcRef, Kind, Identity, Blob, Meaning, Tree, type_of, is_eager, above, longest_path, identity_of, Shelf, Written, Frame, Values, Next, reads}
-use Rattle.pagable_laws.proofs.Words.{asks, is_faulty, next_in, need_at, need_of, is_broken, IsPublished, MachineState, world_of, FramesFit, ReadsItsTypes, AreKeysOf, WorkFits, Needs}
-use Rattle.pagable_laws.proofs.Words.{◌==◌, Bool, false, ◌⊎◌, None, Err, refl, Result, not, Want, Owner, HandleNumber, LoadNumber, NodeNumber, Types, is_loose_kind, if_there, any_mode}
-use Rattle.pagable_laws.proofs.Words.{Core, OpenLoad, of_cell, Reading, Seen, IsLawful, earlier, where_so, refused_if, spent, handle_fault, references_fault, load_fault, AreHandlesFull}
-use Rattle.pagable_laws.proofs.Words.{Refused, FetchCall, birth_fault, AskCall, LazyCall, ask_fault, is_known, node_fault, root_fault, needs_nested, needs_lazy, to_adopt, IsDecoded}
-use Rattle.pagable_laws.proofs.Words.{RefusesBlob, RefusesNested, RefusesNode, RefusesRoot, IsOfKey, EndsClosed, Fails, reading_at, IsMachineWhole, StandsFor, FitsRoot, of_caller}
-use Rattle.pagable_laws.proofs.Words.{IsOfChance, IsPagedOutAs, IsLoadOfPagedOut, Ok, HandleRow, Mode, LoadAnswer, LoadReply, Event, EventReply, or_else, row_fault, reference_fault}
-use Rattle.pagable_laws.proofs.Words.{LoadSteps, Happens, IsOfHandles, LoadIsFaultless, FaultlessLaw, ◌<◌, Took, owner_worker, Todo, Walking, named_fault, cell_fault, handles_of}
-use Rattle.pagable_laws.proofs.Words.{after_kinds, LeadsDown, is-there, goes-down, ReadsTooDeep, IsReadingOf, of_worker, LoadIsDeep, DeepLoadLaw}
+use Rattle.pagable_laws.proofs.Words.{nat_tests, ◌≡◌, ℕ, suc, ◌+◌, ◌≤◌, true, List, [], ◌∷◌, length, Option, Some, sym, ap, subst, ◌∙◌, inl, inr, if◌then◌else◌, arith, slice_get, blob_of, Error}
+use Rattle.pagable_laws.proofs.Words.{ArcRef, Kind, Identity, Blob, Meaning, Tree, type_of, is_eager, above, longest_path, identity_of, Shelf, Written, Frame, Values, Next, reads, asks, is_faulty}
+use Rattle.pagable_laws.proofs.Words.{next_in, need_at, need_of, is_broken, IsPublished, MachineState, world_of, FramesFit, ReadsItsTypes, AreKeysOf, WorkFits, Needs, ◌==◌, Bool, false, ◌⊎◌, None}
+use Rattle.pagable_laws.proofs.Words.{Err, refl, Result, not, Want, Owner, HandleNumber, LoadNumber, NodeNumber, Types, is_loose_kind, if_there, any_mode, Core, OpenLoad, of_cell, Reading, Seen}
+use Rattle.pagable_laws.proofs.Words.{IsLawful, earlier, where_so, refused_if, spent, handle_fault, references_fault, load_fault, AreHandlesFull, Refused, FetchCall, birth_fault, AskCall}
+use Rattle.pagable_laws.proofs.Words.{LazyCall, ask_fault, is_known, node_fault, root_fault, needs_nested, needs_lazy, to_adopt, IsDecoded, RefusesBlob, RefusesNested, RefusesNode, RefusesRoot}
+use Rattle.pagable_laws.proofs.Words.{IsOfKey, EndsClosed, Fails, reading_at, IsMachineWhole, StandsFor, FitsRoot, of_caller, IsOfChance, IsPagedOutAs, IsLoadOfPagedOut, Ok, HandleRow, Mode}
+use Rattle.pagable_laws.proofs.Words.{LoadAnswer, LoadReply, Event, EventReply, or_else, row_fault, reference_fault, LoadSteps, Happens, IsOfHandles, LoadIsFaultless, FaultlessLaw, ◌<◌, Took}
+use Rattle.pagable_laws.proofs.Words.{owner_worker, Todo, Walking, named_fault, cell_fault, handles_of, after_kinds, LeadsDown, is-there, goes-down, ReadsTooDeep, IsReadingOf, of_worker}
+use Rattle.pagable_laws.proofs.Words.{LoadIsDeep, DeepLoadLaw, AllLow}
 use Rattle.pagable_laws.proofs.{Trees.same_some, Fitting.{asked, first-typed}}
 use Rattle.pagable_laws.proofs.{Apart.{IsFormOf, GotAsked, FramesAsked, NextOf, asks-known, all-read, next-known, all-got}, ReadingStepsKinds.{kinds_of, asks-by-kinds, faulty-by-kinds}}
 use Rattle.pagable_laws.proofs.{Sums.self-number, Taking.adopted-over, KnownSteps.{eager-nested}, Chains.IsGoingOn, Deeply.along-first, ReadingSteps.reading-stands}
 use Rattle.std.{proofs.Common.rules}
 use Rattle.pagable_world.specs.{Loads.Does}
 use Rattle.pagable_world.specs.Workers as workers
-use Rattle.pagable_laws.proofs.Words.{AllLow}
 
 -- ---- what a load reads of a key that a page-out has published: each blob is a form of a tree, asks for references whose keys are known, and lies within the path's limit
 

@@ -106,12 +106,7 @@ module _ {N : Type 0} {v : Values N} {w w' : Core} {trees trees' : ℕ → Tree}
 
     -- what it had read fits still
     pub fit-still : (frames : List Frame) → FitAfter v w trees l k t frames → Now frames
-    fit-still frames f =
-        record {
-          fit = frames-stay v.types k t w.stored w'.stored trees trees' w.last.node frames h.goes.stored h.same (given-nodes frames f.held) f.fit;
-          held = frames-on h.goes l frames f.held;
-          asked = f.asked;
-        }
+    fit-still frames f = search (frames-stay, h.goes.stored, h.same, given-nodes, f.held, f.fit, frames-on, h.goes, f.asked)
 
     fit-got : (frames : List Frame) (kind : Kind) (key n : ℕ) (row : HandleRow) → Needs v.types frames kind key → GetsRow w w' kind n row
         → ReadsNodeTree v.types w'.stored trees' key (type_of kind.0) row.node.0 → Now frames → Now (with_got kind row frames)
@@ -172,13 +167,7 @@ pub record Going {N E : Type 0} (v : Values N) (s : PagerState N E) (trees : ℕ
 -- one that has just begun
 pub going-new : {N E : Type 0} {v : Values N} (s : PagerState N E) (trees : ℕ → Tree) (reading : Reading) → reading.frames ≡ [] → reading.load.0 ≤ s.core.last.load → Going v s trees reading
 unfolding FramesFit
-going-new {v = v} s trees reading none within =
-    record {
-      within = within;
-      fits = λ load is. subst (λ fs. FramesFit v.types s.core.stored trees load.key reading.node_type fs) (sym none) tt;
-      held = all-none (GotStands s.core reading.load) reading.frames none;
-      asked = none-asked v.types reading.frames none;
-    }
+going-new {v = v} s trees reading none within = search (none, all-none, none-asked)
 
 module _ {N E : Type 0} {v : Values N} {s s' : PagerState N E} {trees trees' : ℕ → Tree} {comes : ℕ → N → Type 0} {c : Change} (whole : WellFormed v s) (whole' : WellFormed v s')
     (stands : Represents v s trees) (goes : CoreGoes c s.core s'.core) (fits : ChangeFits v c comes s s' trees trees') where

@@ -2,6 +2,7 @@
 use Rattle.pagable_tables.proofs.Words.{◌≡◌, ℕ, ◌+◌, ◌<◌, ◌≤◌, ◌==◌, Bool, true, false, if◌then◌else◌, List, [], ◌∷◌, ◌++◌, length, get_or, set, suc, zero, sum_by, All, filter, refl, ap, sym, subst}
 use Rattle.pagable_tables.proofs.Words.{◌∙◌, arith, Some, None, slice_get, nat_tests, sum_by-cons, All-tail, All-set, ◌⊎◌, cases_eq, get_or_default, get_or_from_slice_get, slice_get_within}
 use Rattle.pagable_tables.proofs.Words.{sum_by-set, get_or-le-sum_by, sum_by-le-sum_by, HandleRow, one, changed, find_row, is_handle, left_rows, IsNext, live, alive, is_live_place, IsBefore, Place}
+use Rattle.pagable_tables.proofs.Words.{AreSound, Handles, All-push, all_pairs_push, length-append, slice_get-get_or}
 use Rattle.pagable_tables.proofs.{Words.{AllPairs, times, take, get_or-set_other, length-set, get_or-set_at}, Left.{left-none, ones}}
 use Rattle.std.proofs.lemmas.List.{get_or-take, length-take-le}
 
@@ -243,3 +244,29 @@ pub rises-set : {A : Type 0} (f : A → ℕ) (xs : List A) (i : ℕ) (x y : A) �
 rises-set f xs i x y ordered at same j k d less within =
     let lt : k < length xs = let n = length-set xs i y in omega arith in
     omega (arith, number-set f xs i x y j d at same (omega arith), number-set f xs i x y k d at same lt, ordered j k d less lt)
+
+-- places are in order and counted after one of them changes
+pub sound-set : (old new : Handles) (i : ℕ) (row : HandleRow) (p : Place) → AreSound old → slice_get old.places.items i ≡ Some (alive row) → p.row.number.0 ≡ row.number.0
+    → new.places.items ≡ set old.places.items i p → new.dead + one p.is_live ≡ old.dead + 1 → AreSound new
+sound-set old new i row p sound at same is dead =
+    let ordered = rises-set (λ (s : Place). s.row.number.0) old.places.items i (alive row) p sound.ordered at same in
+    let live-length = ap (λ ss. length (live ss)) is in
+    record {
+      ordered = subst (AllPairs IsBefore) (sym is) ordered;
+      counted = omega (arith, sound.counted, dead, ap length is, live-length, length-set old.places.items i p, length-live-set old.places.items i row p at);
+    }
+
+-- a row more, above all that are there
+pub ordered-push : (ss : List Place) (row : HandleRow) → AllPairs IsBefore ss → IsNext row.number.0 ss → AllPairs IsBefore (ss ++ alive row ∷ [])
+ordered-push ss row ordered next = all_pairs_push IsBefore ss (alive row) ordered next
+
+pub next-push : (ss : List Place) (row : HandleRow) → IsNext row.number.0 ss → IsNext (row.number.0 + 1) (ss ++ alive row ∷ [])
+next-push ss row next = All-push (λ (s : Place). s.row.number.0 < row.number.0 + 1) ss (alive row) (λ k d lt. let a = next k d lt in omega arith) (omega arith)
+
+pub ruleset ends = (nat_tests, length-live-le, length-take-le, pairs-take)
+
+pub ruleset looks = (nat_tests, cases_eq, le_or_lt, none-live, row-got, slice_get-get_or)
+
+pub ruleset places = (nat_tests, sum-live-set)
+
+pub ruleset pushes = (nat_tests, ordered-push, next-push, live-push, length-append)

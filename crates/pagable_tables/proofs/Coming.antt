@@ -3,7 +3,7 @@ use Rattle.pagable_tables.proofs.Words.{sum_by, ◌≡◌, ℕ, ◌+◌, ◌<◌
 use Rattle.pagable_tables.proofs.Words.{cases_eq, sum_by_push, ArcRef, HandleRow, Owner, Mode, one, SameAt, held, is_pinning, is_owner, owner_value, Counts, holds_in, falls_in, Right}
 use Rattle.pagable_tables.proofs.Words.{Fits, owns_nothing, named, is_valued, cell_in, ◌==◌, ◌&&◌, true, get_or, slice_get, get_or-le-sum_by, sum_by-le-sum_by, HandleNumber, times, find_row}
 use Rattle.pagable_tables.proofs.{Words.{is_handle, is_owned_by, Place, live, alive, IsBefore, AllPairs}, Fitting.{pin_of, handle_of, is_owned, pin-here, held-here, pin-other, held-other}}
-use Rattle.pagable_tables.proofs.{Words.is_at, Alive.{none-found, only-row}, Bits.one-le, Left.ones}
+use Rattle.pagable_tables.proofs.{Words.{is_at, slice_get-get_or}, Alive.{length-live-le, none-found, only-row, row-le-live}, Bits.one-le, Fitting.pins-le-held, Left.ones}
 
 pub no-value : (n : ℕ) (o : Owner) → is_valued o ≡ false → is_owner (owner_value n) o ≡ false
 no-value n x1 e = grind (arith, nat_tests)
@@ -107,3 +107,6 @@ module _ (list : List HandleNumber) (ss : List Place) (i : ℕ) (h : HandleNumbe
 
   pub entry-unvalued : (place : ℕ) (row : HandleRow) → AllPairs IsBefore ss → slice_get ss place ≡ Some (alive row) → row.number ≡ h → is_valued row.owner ≡ false
   entry-unvalued place row ordered at number = grind (arith, nat_tests, entry-less, only-row, some-entry, list-owner)
+
+-- what is counted at a node whose handle is there
+pub ruleset counting = (nat_tests, row-le-live, held-here, pins-le-held, held-few, length-live-le, some-held, slice_get-get_or)

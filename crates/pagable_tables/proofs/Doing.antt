@@ -1,7 +1,8 @@
 -- Calls that leave the tables whole, as their steps leave the plain world.
 use Rattle.pagable_tables.proofs.Words.{◌≡◌, ◌≤◌, ◌+◌, ℕ, Bool, not, None, [], Option, ap, sym, subst, vec_capacity, IndexMap, get, nat_eq, Blob, Core, Tables, Sheds, IsFalling, owns_nothing, AreSound, IsNext}
 use Rattle.pagable_tables.proofs.{Words.{OnlyRoom, AreLater, live, counts_at, refs_at, known_at, core_of, plain_of, ArePlaced, false}, Begun.not-closed, Ended.sheds-still, Newer.{OnlyNewer, later-on}, keeps.Placed.whole-so}
-use Rattle.pagable_tables.{proofs.Readied.{more-room, room-whole, room-newer}, specs.{Core.IsWhole, Doing.{Does, DoesShed}}}
+use Rattle.pagable_tables.proofs.Words.{Handles, NodeRow, NodeNumber, refl, arith}
+use Rattle.pagable_tables.{proofs.Readied.{more-room, room-whole, room-newer, room-then}, specs.{Becoming.Widens, Core.IsWhole, Doing.{Does, DoesShed}}}
 use Rattle.pagable_world.specs.Pager as pager
 
 module _ {old new : Tables} {step : Core → Core → Type 0} where
@@ -66,3 +67,23 @@ module _ {lists : Bool} {old new : Tables} {step : Core → Core → Type 0} whe
 pub nothing-shed : {X S : Type 0} {lists : Bool} {t : Tables} {values : IndexMap ℕ X S} {step : Core → Core → Type 0} → IsWhole t
     → ((stored : ℕ → Option Blob) (closed : Bool) (failures : ℕ) → lists ≡ not closed → step (core_of t stored closed failures) (core_of t stored closed failures)) → DoesShed lists t values step t values
 nothing-shed {t = t} whole does = record { does = does; whole = whole; later = λ later. later; sheds = sheds-still t.holdings _ whole.steady }
+
+-- handles widen, and nodes are told as they were
+pub widens-does : (t : Tables) (h : Handles) (nodes : IndexMap ℕ NodeRow _) → IsWhole t → Widens t.holdings.handles h → ((n : ℕ) → counts_at nodes n ≡ counts_at t.holdings.nodes n)
+    → ((n : ℕ) → refs_at nodes n ≡ refs_at t.holdings.nodes n) → Does t OnlyRoom (record t { holdings = record t.holdings { handles = h; nodes = nodes } })
+widens-does t h nodes whole e counts refs =
+    let next = e.next (t.holdings.last_handle + 1) whole.steady.next in
+    room-does t (record t { holdings = record t.holdings { handles = h; nodes = nodes } }) whole e.sound next e.rows counts refs (λ kind key. refl) refl e.capacity
+
+-- and then the cache
+pub learns-does : (t u : Tables) (cache : IndexMap (ℕ × ℕ) NodeNumber _) → Does t OnlyRoom u → ((kind key : ℕ) → known_at cache kind key ≡ known_at u.cache kind key)
+    → Does t OnlyRoom (record u { cache = cache })
+learns-does t u cache made known =
+    let w = made.whole in
+    does-then made (room-does u (record u { cache = cache }) w w.steady.sound w.steady.next refl (λ n. refl) (λ n. refl) known refl (omega arith)) (λ u v w one two. room-then one two)
+
+-- the same, of a step that follows from it
+pub does-as : {old new : Tables} {one two : Core → Core → Type 0} → Does old one new
+    → ((stored : ℕ → Option Blob) (closed : Bool) (failures : ℕ) → one (core_of old stored closed failures) (core_of new stored closed failures)
+    → two (core_of old stored closed failures) (core_of new stored closed failures)) → Does old two new
+does-as step so = record { does = λ stored closed failures. so stored closed failures (step.does stored closed failures); whole = step.whole; later = step.later }

@@ -112,3 +112,7 @@ module _ {X : Type 0} where
   -- what takes no value comes first
   pub stays-first : {at at1 at2 : ℕ → Option Counts} {old new : ℕ → Option X} → ((n : ℕ) → ValueStays (at n) (at1 n)) → Sheds at1 old at2 new → Sheds at old at2 new
   stays-first stays b = record { left = λ kept. b.left (λ k falls. let s = stays k falls in kept k s.0 ∙ sym s.1) }
+
+pub ruleset falls = (nat_tests, valued-le, none-falls-in, none-falls)
+
+pub ruleset shedding = (nat_tests, sheds-then)

@@ -152,3 +152,5 @@ module _ (before w : Core) (lists : Bool) (t : Holdings) (l : LoadNumber) (rs : 
 
   pub all-given : (i : ℕ) → take i rs ≡ rs → ((q : ℕ) → is_named_by rs q ≡ true → is_owned_in w (Owner.Load l) q ≡ true) → SoFar before w (named_owned w l rs i) lists t → SoFar before w (is_named_by rs) lists t
   all-given i all owned f = grind (arith, nat_tests, and-left)
+
+pub ruleset places = (nat_tests, place-got, row-there)

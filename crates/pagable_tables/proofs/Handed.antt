@@ -139,3 +139,5 @@ seen-all hs q =
 
 pub all-moved : (hs : List HandleNumber) (p : ℕ) (o : Owner) (rows rows' : List HandleRow) → p ≡ length hs → rows' ≡ moved (is_in (seen hs p)) o rows → rows' ≡ moved (is_in (numbers_of hs)) o rows
 all-moved hs p o rows rows' end is = is ∙ ap (λ p. moved (is_in (seen hs p)) o rows) end ∙ moved-same (is_in (seen hs (length hs))) (is_in (numbers_of hs)) o rows (seen-all hs)
+
+pub ruleset handing = (nat_tests, in-none, in-more, in-there, last-named, all-named, none-moved)

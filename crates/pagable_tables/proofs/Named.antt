@@ -89,3 +89,5 @@ alike-listed w w' rows list places same = grind (arith, nat_tests, same-cache)
 
 pub at-work-still : {w w' : Core} {workers : ℕ → Bool} → Alike w w' → SameAt w'.workers workers → Alike w (record w' { workers = workers })
 at-work-still {w} {w'} {workers} a still = grind (arith, nat_tests)
+
+pub ruleset naming = (nat_tests, named-here, named-past, named-end, named-none, moved-nobody, seen-none, fault-end)

@@ -171,3 +171,5 @@ takes-worker w w1 w' place v (Some h) is next within call =
     let (listed, leaves) = subst (λ u. TakeCall u (Owner.Worker v) place (Some h) w') is call in
     record { taken = (h, listed, next, leaves); refused = tt }
 takes-worker w w1 w' place v None is next within call = let (past, leaves) = subst (λ u. TakeCall u (Owner.Worker v) place None w') is call in absurd (omega arith)
+
+pub ruleset working = (nat_tests, one-more-works)

@@ -71,6 +71,7 @@ fn is_given(loads: &IndexMap<u64, LoadRow>, giving: Giving, place: Place, left: 
 }
 
 /// The last handle that is given up, of a number above `since` and not above `left`.
+#[tactic(auto, using(crate::proofs::GivenAll::places))]
 fn last_above(
     handles: &Handles,
     loads: &IndexMap<u64, LoadRow>,

@@ -39,6 +39,7 @@ pub fn up_to(places: &[Place], number: u64) -> usize
 }
 
 /// The live handle of this number, with its place, if it stands at this one.
+#[tactic(auto, using(crate::proofs::Alive::looks))]
 fn at(places: &[Place], place: usize, number: u64) -> Option<HandleAt>
     requires { AllPairs IsBefore places.now }
     ensures none { IfNone result ((p : Place) → slice_get places.now place ≡ Some p → p.row.number.0 ≡ number → p.is_live ≡ false) }
@@ -60,6 +61,7 @@ fn at(places: &[Place], place: usize, number: u64) -> Option<HandleAt>
 }
 
 /// The live handle of this number, with its place.
+#[tactic(auto, using(crate::proofs::Alive::looks))]
 fn find(places: &[Place], number: u64) -> Option<HandleAt>
     requires { AllPairs IsBefore places.now }
     ensures none { IfNone result (find_row number (live places.now) ≡ None) }
@@ -147,6 +149,7 @@ fn live_end(places: &[Place]) -> usize
 }
 
 /// Clears dead rows away: those at the end, so that who looks from there meets few of them, and all where more than half are dead.
+#[tactic(auto, using(crate::proofs::Alive::ends))]
 fn clear(handles: &mut Handles)
     requires { AreSound handles.old }
     ensures { Becomes handles.old (live handles.old.places.items) handles.new }
@@ -160,6 +163,7 @@ fn clear(handles: &mut Handles)
 }
 
 /// The handle at this place dies.
+#[tactic(auto, using(crate::proofs::Alive::places))]
 pub fn kill(handles: &mut Handles, at: HandleAt)
     requires sound { AreSound handles.old }
     requires place { slice_get handles.old.places.items at.place ≡ Some (alive at.row) }
@@ -175,6 +179,7 @@ pub fn kill(handles: &mut Handles, at: HandleAt)
 }
 
 /// The handle at this place has another row from now on, of the same number.
+#[tactic(auto, using(crate::proofs::Alive::places))]
 pub fn set(handles: &mut Handles, at: HandleAt, row: HandleRow)
     requires sound { AreSound handles.old }
     requires place { slice_get handles.old.places.items at.place ≡ Some (alive at.row) }
@@ -205,6 +210,7 @@ fn make_room(handles: &mut Handles) -> Result<(), AllocError>
 }
 
 /// A handle comes, with a number above all that are there. It is refused only where no place is left.
+#[tactic(auto, using(crate::proofs::Alive::pushes))]
 pub fn push(handles: &mut Handles, row: HandleRow) -> Result<(), AllocError>
     requires sound { AreSound handles.old }
     requires next { IsNext row.number.0 handles.old.places.items }

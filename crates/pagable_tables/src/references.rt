@@ -15,6 +15,7 @@ use pagable_model::{ArcRef, Error, HandleNumber};
 use pagable_world::handles::{HandleRow, Owner};
 
 /// Whether one of these references names the handle.
+#[tactic(auto, using(crate::proofs::Named::naming))]
 fn is_named(references: &[ArcRef], handle: HandleNumber) -> bool
     ensures { result ≡ is_named_by references.now handle.0 }
 {
@@ -87,6 +88,7 @@ pub fn claim_fault(t: &Tables, reference: ArcRef) -> Option<Error>
 }
 
 /// Refuses the references of a value that is handed in by the cause of the first that has one.
+#[tactic(auto, using(crate::proofs::Named::naming))]
 pub fn check_references(t: &Tables, me: Owner, references: &[ArcRef]) -> Result<(), Error>
     requires { IsWhole t.now }
     ensures fit { OnOk result ((stored : ℕ → Option Blob) (closed : Bool) (failures : ℕ) → references_fault (core_of t.now stored closed failures) me [] references.now ≡ None) }

@@ -72,6 +72,7 @@ fn counts_pinned(counts: Counts, was_pinning: bool) -> Counts
 }
 
 /// The handle at this place is loose and pins its node from now on.
+#[tactic(auto, using(crate::proofs::Coming::counting))]
 pub fn turn(t: &mut Tables, at: HandleAt)
     requires whole { IsWhole t.old }
     requires place { slice_get t.old.holdings.handles.places.items at.place ≡ Some (alive at.row) }

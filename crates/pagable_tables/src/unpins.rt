@@ -19,6 +19,7 @@ use pagable_world::handles::{HandleRow, Owner};
 use std::sync::Arc;
 
 /// The loose handle at this place lets its pin go. Where cells are listed, one without a key is, if that was its last pin.
+#[tactic(auto, using(crate::proofs::Coming::counting))]
 fn lower(t: &mut Holdings, at: HandleAt, lists: bool)
     requires steady { IsFalling t.old [] owns_nothing }
     requires place { slice_get t.old.handles.places.items at.place ≡ Some (alive at.row) }

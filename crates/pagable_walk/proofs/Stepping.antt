@@ -1,8 +1,8 @@
 -- A turn with the worker's end is its step.
-use Rattle.{std.proofs.Common.{ℕ, ◌≡◌, List, Option, inl, refl, sym, subst}, pagable_world.specs.declared.events.WorkerAnswer.WorkerAnswer}
-use Rattle.pagable_loads.{specs.Telling.{Acting, ActsThen, as_caller}, proofs.Stepped.{acts_all, acts_map, moves_then}}
-use Rattle.pagable_world.specs.{declared.handles.Owner.Owner, Access.Called, Events.Ends, Pager.{PagerState, WellFormed, Moves}, Workers.WorkerEnds, World.{Shelf, Todo, Values}}
-use Rattle.pagable_walk.{proofs.{Pinning.same-shelf, Turning.alike}, specs.{Turns.{Closes, LeavesFit, StepsTo, TurnsTo, acting_then, answer_in, site}, declared.results.Trees.Ghosts}}
+use Rattle.std.proofs.Common.{ℕ, List, inl, refl, sym, subst}
+use Rattle.pagable_loads.proofs.Stepped.{moves_then}
+use Rattle.pagable_world.specs.{declared.handles.Owner.Owner, Events.Ends, Pager.{PagerState, WellFormed, Moves}, World.{Shelf, Todo, Values}}
+use Rattle.pagable_walk.{proofs.{Pinning.same-shelf, Turning.alike}, specs.{Turns.{Closes, LeavesFit, StepsTo, TurnsTo, answer_in, site}, declared.results.Trees.Ghosts}}
 use Rattle.pagable_walk.specs.declared.tasks.{Moved.Moved, Task.Task, Turn.Turn}
 
 -- what the end after a turn does
@@ -45,12 +45,3 @@ module _ {X : Type 0} {g : Ghosts X} {N E : Type 0} (v : Values N) (n : ℕ) whe
         };
     counts = turns.counts;
   }
-
--- a turn that has answered ends the worker, and another doesn't
-module _ {A N E X : Type 0} {g : Ghosts X} {told : A → Option (PagerState N E)} {by : A → Acting E} (v : Acting E → Values N) (n : ℕ) where
-  pub closes-none : {o : A} (turn : Turn X g) → ((a : WorkerAnswer) → turn ≡ Turn.Answers a → ⊥) → ActsThen told by o o (acting_then turn) (λ a. Closes (v a) n turn)
-  closes-none (Turn.Goes t) none = acts_all (λ s. record { closes = refl })
-  closes-none (Turn.Answers a) none = absurd (none a refl)
-
-  pub closes-ends : {o p : A} (turn : Turn X g) (a : WorkerAnswer) → turn ≡ Turn.Answers a → ActsThen told by o p as_caller (λ a s t. Called (v a) (λ w'. WorkerEnds s.core n w') s t) → ActsThen told by o p (acting_then turn) (λ a. Closes (v a) n turn)
-  closes-ends {o} {p} turn a is call = subst (λ x. ActsThen told by o p (acting_then x) (λ a. Closes (v a) n x)) (sym is) (acts_map call (λ s t c. record { closes = c }))

@@ -194,6 +194,7 @@ where
 }
 
 // An entry goes back to the list, as far as the list can take it.
+#[tactic(auto, using(crate::proofs::Closing::backs))]
 fn give_back<E: Env, A: WorkerAccess<E>>(access: &mut A, back: Option<HandleNumber>)
 where
     E::Node: NodeSet<E>,

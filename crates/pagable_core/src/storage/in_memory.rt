@@ -1,8 +1,8 @@
 //! Blobs in memory: a storage for tests, and for stores that one run fills and forgets.
 
-ghost use Rattle.std.specs.Prelude.{◌≡◌, ◌↔◌, ◌==◌, if◌then◌else◌, ℕ, IsTrue, OnOk, OnErr, IfErr, None, Some, false, true};
+ghost use Rattle.std.specs.Prelude.{◌≡◌, ◌↔◌, ◌==◌, if◌then◌else◌, ℕ, IsTrue, OnOk, OnErr, IfErr, None, Some, false, true, option_map};
 ghost use Rattle.pagable_model.specs.{Gives.memory, Stored.IsCount};
-ghost use Rattle.pagable_core.specs.{Blobs.stored_in, Data.blob_of, Found.IsFound};
+ghost use Rattle.pagable_core.specs.{Blobs.stored_in, Data.blob_of};
 
 use crate::storage::data::PagableData;
 use crate::storage::traits::PagableStorage;
@@ -50,30 +50,13 @@ fn is_same(left: &PagableData, right: &PagableData) -> bool
     left == right
 }
 
-/// What stands under a blob's key.
-enum Found {
-    Nothing,
-    TheBlob,
-    Another,
-}
-
-/// What stands under the key of the blob.
-fn found_under(
-    blobs: &HashMap<DataKey, Arc<PagableData>>,
-    key: DataKey,
-    blob: &PagableData,
-) -> Found
-    ensures { IsFound (stored_in blobs.now key) (blob_of blob.now) result }
+/// The blob under a key, or None where nothing stands.
+fn stored_under(blobs: &HashMap<DataKey, Arc<PagableData>>, key: DataKey) -> Option<&PagableData>
+    ensures { option_map (λ found. blob_of found.now) result ≡ stored_in blobs.now key }
 {
     match blobs.get(&key) {
-        None => Found::Nothing,
-        Some(found) => {
-            if is_same(found.as_ref(), blob) {
-                Found::TheBlob
-            } else {
-                Found::Another
-            }
-        }
+        None => None,
+        Some(found) => Some(found.as_ref()),
     }
 }
 
@@ -119,14 +102,14 @@ impl<E: Env> PagableStorage<E> for InMemoryBlobs<E> {
             return Err(Error::Closed);
         }
         let key = blob.compute_key::<E::Hash>();
-        match found_under(&self.blobs, key, &blob) {
-            Found::TheBlob => Ok(key),
-            Found::Another => Err(Error::KeyTaken),
-            Found::Nothing => {
-                put(alloc, &mut self.blobs, key, blob)?;
-                Ok(key)
+        if let Some(found) = stored_under(&self.blobs, key) {
+            if is_same(found, &blob) {
+                return Ok(key);
             }
+            return Err(Error::KeyTaken);
         }
+        put(alloc, &mut self.blobs, key, blob)?;
+        Ok(key)
     }
 
     fn flush(&mut self) -> Result<(), Error> {

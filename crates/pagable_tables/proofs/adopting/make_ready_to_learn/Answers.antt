@@ -1,11 +1,8 @@
-use Rattle.pagable_tables.proofs.{Words.{◌<◌, refl, ap, subst, inr, arith, Core, greatest, Tables}, Doing.{does-then, room-does}, Readied.{room-then, room-alike, not-spent}}
+use Rattle.pagable_tables.proofs.{Words.{◌<◌, refl, ap, subst, inr, arith, Core, greatest, Tables}, Doing.learns-does, Readied.{room-alike, not-spent}}
 use Rattle.pagable_tables.proofs.adopting.make_ready_to_learn.Goals as goal
 
 pub returns-in_default-reserve-clause-does : goal.returns-in_default-reserve-clause-does
-returns-in_default-reserve-clause-does c =
-    let t = c.make_ready.new.t in
-    let made = c.make_ready.ensures.does in
-    does-then made (room-does t (record t { cache = c.reserve.new.cache }) made.whole made.whole.steady.sound made.whole.steady.next refl (λ n. refl) (λ n. refl) c.reserve.ensures.known refl (omega arith)) (λ u v w one two. room-then one two)
+returns-in_default-reserve-clause-does c = learns-does c.args.t.now c.make_ready.new.t c.reserve.new.cache c.make_ready.ensures.does c.reserve.ensures.known
 
 pub returns-in_default-reserve-clause-refused : goal.returns-in_default-reserve-clause-refused
 returns-in_default-reserve-clause-refused c stored closed failures =
@@ -18,7 +15,4 @@ returns-in_default-reserve-clause-refused c stored closed failures =
     }
 
 pub returns-clause-does : goal.returns-clause-does
-returns-clause-does c =
-    let t = c.make_ready.new.t in
-    let made = c.make_ready.ensures.does in
-    does-then made (room-does t (record t { cache = c.reserve.new.cache }) made.whole made.whole.steady.sound made.whole.steady.next refl (λ n. refl) (λ n. refl) c.reserve.ensures.known refl (omega arith)) (λ u v w one two. room-then one two)
+returns-clause-does c = learns-does c.args.t.now c.make_ready.new.t c.reserve.new.cache c.make_ready.ensures.does c.reserve.ensures.known

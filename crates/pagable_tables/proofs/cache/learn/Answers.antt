@@ -1,13 +1,8 @@
 use Rattle.pagable_tables.proofs.Words.{◌≡◌, ℕ, ◌⊎◌, ◌&&◌, false, true, Bool, nat_eq, inl, inr, arith, refl, ◌≢◌, nat_tests, is_same}
 use Rattle.pagable_tables.proofs.cache.learn.Goals as goal
 
-neither : (a b : Bool) → b ≡ false → (a && b) ≡ false
-neither true b h = h
-neither false b h = refl
-
 other : (a b k q : ℕ) → (k ≢ a) ⊎ (q ≢ b) → is_same (a, b) (k, q) ≡ false
-other a b k q (inl differs) = let here : nat_eq a k ≡ false = grind (arith, nat_tests) in rw here refl
-other a b k q (inr differs) = neither (nat_eq a k) (nat_eq b q) (grind (arith, nat_tests))
+other a b k q x4 = grind (arith, nat_tests)
 
 pub returns-clause-others : goal.returns-clause-others
 returns-clause-others c k q differs = c.in_ok-insert.ensures.updates.2 (k, q) (other c.args.kind.0 c.args.key k q differs)

@@ -1,21 +1,12 @@
-use Rattle.pagable_tables.proofs.Words.{◌≡◌, ℕ, Bool, true, false, Option, Some, None, arith, ap, sym, ◌∙◌, ◌≢◌, IfSome, nat_tests, NodeNumber, live, Steps, has_value, is_node, counts_at}
-use Rattle.pagable_tables.proofs.{Ended.{lasts-on, none-falls-in, valued-le, none-falls, ended}, Next.{steps-fewer, steps-unlisted, steps-on}}
+use Rattle.pagable_tables.proofs.Words.{◌≡◌, ℕ, Bool, true, false, Option, Some, None, arith, ap, sym, ◌∙◌, ◌≢◌, IfSome, nat_tests, NodeNumber, Steps, has_value, is_node, counts_at}
+use Rattle.pagable_tables.proofs.{Ended.{lasts-on, none-falls, ended}, Next.{steps-fewer, steps-unlisted, steps-on}}
 use Rattle.pagable_tables.proofs.cascade.cascade.Goals as goal
 
-abbrev number-in : Option NodeNumber → ℕ
-number-in None = 0
-number-in (Some m) = m.0
-
 not-node : (r : Option NodeNumber) (n : ℕ) → is_node r n ≡ false → r ≢ Some (record { 0 = n })
-not-node None n other eq = absurd (cc)
-not-node (Some m) n other eq = let same : m.0 ≡ n = ap number-in eq in absurd (grind (arith, nat_tests))
+not-node x0 n other eq = absurd (grind (arith, nat_tests))
 
 gone-node : (at : ℕ → Bool) (r : Option NodeNumber) (n : ℕ) → IfSome r (λ m. at m.0 ≡ false) → is_node r n ≡ true → at n ≡ false
-gone-node at None n gone is = absurd (cc)
-gone-node at (Some m) n gone is = let same : m.0 ≡ n = grind (arith, nat_tests) in sym (ap at same) ∙ gone
-
-pub fall-init : goal.fall-init
-fall-init g c = grind (arith, nat_tests, valued-le, live, c.requires.falling, c.budget-left.ensures)
+gone-node at x1 n gone is = grind (arith, nat_tests)
 
 pub fall-preserved : goal.fall-preserved
 fall-preserved g c =
@@ -35,13 +26,7 @@ fall-preserved g c =
       λ none. steps-unlisted c.fall.t c.step-done.new.t i.0 c.args.lists c.step-done.result none s ∙ c.fall.invariant.4 none,
     )
 
-pub returns-clause-whole : goal.returns-clause-whole
-returns-clause-whole g c = let w = c.fall.invariant.0 in none-falls c.fall.t w.0 w.1 (omega arith)
-
 pub returns-clause-falls : goal.returns-clause-falls
 returns-clause-falls g c before w given so-far =
     let i = c.fall.invariant.0 in
     ended before w given c.args.lists c.fall.t (c.fall.invariant.1 before w given so-far) (none-falls c.fall.t i.0 i.1 (omega arith))
-
-pub returns-clause-sheds : goal.returns-clause-sheds
-returns-clause-sheds g c = grind (arith, nat_tests, none-falls-in, none-falls)

@@ -11,17 +11,12 @@ unreachable-requires g c =
     let gone = ap (λ o. if_there (λ (load : OpenLoad). refused_if (not (is_owner c.args.me load.owner)) Error.NotYours) (Some Error.NoSuchHandle) (option_map load_in o)) (sym c.load_of.ensures ∙ c.in_default-load_of.is) in
     absurd (let a = sym gone ∙ can.own in cc)
 
-pub hand_each-requires-clause-plain : goal.hand_each-requires-clause-plain
-hand_each-requires-clause-plain g c =
+pub hand_each-requires : goal.hand_each-requires
+hand_each-requires g c =
     let w = plain_of c.args.t.now in
-    let can : MayHand w c.args.me c.args.load c.args.named.now = may-hand c.requires.whole.core c.args.me c.args.load c.args.named.now (sym (c.hand_over_fault.ensures (λ key. None) false 0) ∙ c.in_default.is) in
-    not-a-value w c.args.me (may-hold w c.args.me can.may)
-
-pub hand_each-requires-clause-there : goal.hand_each-requires-clause-there
-hand_each-requires-clause-there g c =
-    let w = plain_of c.args.t.now in
-    let can : MayHand w c.args.me c.args.load c.args.named.now = may-hand c.requires.whole.core c.args.me c.args.load c.args.named.now (sym (c.hand_over_fault.ensures (λ key. None) false 0) ∙ c.in_default.is) in
-    named-there w c.args.load c.args.named.now can.named
+    let hs = c.args.named.now in
+    let can : MayHand w c.args.me c.args.load hs = may-hand c.requires.whole.core c.args.me c.args.load hs (sym (c.hand_over_fault.ensures (λ key. None) false 0) ∙ c.in_default.is) in
+    record { steady = c.requires.whole.steady; plain = not-a-value w c.args.me (may-hold w c.args.me can.may); there = named-there w c.args.load hs can.named }
 
 pub returns : goal.returns
 returns g c =

@@ -6,12 +6,11 @@ pub returns-clause-becomes : goal.returns-clause-becomes
 returns-clause-becomes c =
     let old = c.args.handles.now.places.items in
     let e : c.retain.new.self.items ≡ filter is_live_place old = filter_from_retain _ is_live_place (λ p x b q called. search rules) _ old c.retain.new.self.items c.retain.ensures.filtered in
-    let b = length-live-filter old in
-    let n = ap length e in
-    let m = ap (λ l. length (live l)) e in
-    let k = ap length (live-filter old) in
     record {
-      sound = record { ordered = subst (AllPairs IsBefore) (sym e) (AllPairs-filter IsBefore is_live_place old c.requires.ordered); counted = omega arith };
+      sound = record {
+        ordered = subst (AllPairs IsBefore) (sym e) (AllPairs-filter IsBefore is_live_place old c.requires.ordered);
+        counted = omega (arith, c.requires.counted, length-live-filter old, ap length e, ap (λ l. length (live l)) e, ap length (live-filter old));
+      };
       rows = ap live e ∙ live-filter old;
       capacity = search rules;
       next = λ q next. subst (IsNext q) (sym e) (All-filter is_live_place (λ (s : Place). s.row.number.0 < q) old next);

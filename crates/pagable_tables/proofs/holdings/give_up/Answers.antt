@@ -27,15 +27,11 @@ returns c stack w =
     let here : counts_at c.set_counts.new.nodes n ≡ Some (after counts (is_pinning x.mode) listed old.top) = c.set_counts.ensures.here ∙ ap Some left in
     let others : (m : ℕ) → m ≢ n → counts_at c.set_counts.new.nodes m ≡ counts_at old.nodes m = λ m ne. c.set_counts.ensures.others m ne ∙ ap (λ s. counts_at s m) nodes in
     let same : (m : ℕ) → refs_at c.set_counts.new.nodes m ≡ refs_at old.nodes m = λ m. c.set_counts.ensures.refs m ∙ ap (λ s. refs_at s m) nodes in
-    let some : one (is_pinning x.mode) ≤ counts.pins = (let a = w.fits.pinned n in let d = ap pins_in is in
-    let l = row-le-live (pin_of n) old.handles.places.items c.args.at.place x c.requires.place in let h = pin-here x in omega arith) in
+    let some : one (is_pinning x.mode) ≤ counts.pins = omega (arith, w.fits.pinned n, ap pins_in is, row-le-live (pin_of n) old.handles.places.items c.args.at.place x c.requires.place, pin-here x) in
     let live' : 1 ≤ counts.holds = grind (arith, nat_tests, row-le-live, held-here, c.requires.place) in
     let top : c.top_after-t.result ≡ (if b then n else old.top) = grind (arith, nat_tests, new-top, c.top_after-t.ensures) in
-    let at = counts_at old.nodes in
     let at' = counts_at c.set_counts.new.nodes in
-    let refs = refs_at old.nodes in
     let refs' = refs_at c.set_counts.new.nodes in
-    let rows = live old.handles.places.items in
     let rows' = live mid.handles.places.items in
     let sums = leaves-sums old mid x _ listed leaves in
     record {
@@ -45,14 +41,14 @@ returns c stack w =
       between = mid;
       leaves = subst (λ w. Leaves old x w listed mid) c.wants_entry-wanted.ensures leaves;
       same = refl;
-      cells = given-cells at at' refs refs' rows rows' old.top stack x counts listed (old.last_handle + 1) w.fits is sums here others same some live';
+      cells = given-cells _ at' _ refs' _ rows' old.top stack x counts listed (old.last_handle + 1) w.fits is sums here others same some live';
       values = λ m. grind (arith, nat_tests, cases_eq, after-value);
       more = if b then n ∷ stack else stack;
       falling = record {
         sound = e.sound;
         next = e.next;
         fits = subst (λ t. Fits at' refs' rows' t (if b then n ∷ stack else stack) owns_nothing) (sym top)
-            (given-fits at at' refs refs' rows rows' old.top stack x counts listed (old.last_handle + 1) w.fits is sums here others same some live' b refl);
+            (given-fits _ at' _ refs' _ rows' old.top stack x counts listed (old.last_handle + 1) w.fits is sums here others same some live' b refl);
       };
       long = long-if b n stack;
     }

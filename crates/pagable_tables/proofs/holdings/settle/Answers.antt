@@ -1,4 +1,4 @@
-use Rattle.pagable_tables.proofs.Words.{nat_tests, ◌≡◌, ℕ, Bool, true, false, arith, refl, ap, sym, ◌∙◌, subst, Some, None, List, [], ◌∷◌, ◌≢◌, cases_eq, inl, inr, live, counts_at, refs_at}
+use Rattle.pagable_tables.proofs.Words.{nat_tests, ◌≡◌, ℕ, Bool, true, false, arith, refl, ap, sym, ◌∙◌, subst, Some, None, List, [], ◌∷◌, ◌≢◌, cases_eq, live, counts_at, refs_at, CellsStay, Settles}
 use Rattle.pagable_tables.proofs.{Words.{IsFalling, Fits, pins_in, holds_in, falls_in, has_value, is_right, is_bare, Right, owns_nothing, Counts, Holdings}, Fitting.{done-fits, first-waits}}
 use Rattle.pagable_tables.proofs.Fitting.{pins-le-held, settled-right}
 use Rattle.pagable_tables.proofs.holdings.settle.Goals as goal
@@ -19,72 +19,50 @@ settled-value : (y : Counts) (bare : Bool) → y.is_falling ≡ true → is_righ
 settled-value y bare falls right held = grind (arith, nat_tests)
 
 -- the top stands first in the stack
-first : (t : Holdings) (n : ℕ) (ns : List ℕ) → IsFalling t (n ∷ ns) owns_nothing → IsFalling t (t.top ∷ ns) owns_nothing
-first t n ns w = subst (λ m. IsFalling t (m ∷ ns) owns_nothing) (sym w.fits.chain.0) w
+first : (t : Holdings) (n : ℕ) (ns : List ℕ) → IsFalling t (n ∷ ns) owns_nothing → Fits (counts_at t.nodes) (refs_at t.nodes) (live t.handles.places.items) t.top (t.top ∷ ns) owns_nothing
+first t n ns w = subst (λ m. Fits (counts_at t.nodes) (refs_at t.nodes) (live t.handles.places.items) t.top (m ∷ ns) owns_nothing) (sym w.fits.chain.0) w.fits
+
+-- the first node that falls is done, by what is told of it from then on
+settled : (t new : Holdings) (n : ℕ) (ns : List ℕ) (y : Counts) → IsFalling t (n ∷ ns) owns_nothing → t.top ≢ 0 → counts_at t.nodes t.top ≡ Some y
+    → pins_in (counts_at new.nodes t.top) ≡ y.pins → holds_in (counts_at new.nodes t.top) ≡ y.holds → falls_in (counts_at new.nodes t.top) ≡ false → has_value (counts_at new.nodes t.top) ≡ false
+    → Right (counts_at new.nodes t.top) (refs_at new.nodes t.top) → ((m : ℕ) → m ≢ t.top → counts_at new.nodes m ≡ counts_at t.nodes m) → ((m : ℕ) → refs_at new.nodes m ≡ refs_at t.nodes m)
+    → CellsStay (counts_at t.nodes) (counts_at new.nodes) → Settles t (n ∷ ns) (record t { nodes = new.nodes; top = y.next })
+settled t new n ns y w some is pins holds free gone right others same cells =
+    record {
+      rest = ns;
+      falling = record { sound = w.sound; next = w.next; fits = done-fits _ (counts_at new.nodes) _ (refs_at new.nodes) _ t.top ns y (first t n ns w) is pins holds free right others same some };
+      shorter = omega arith;
+      same = refl;
+      values = λ m ne falls. (ap falls_in (sym (others m ne)) ∙ falls, ap has_value (others m ne));
+      gone = gone;
+      cells = cells;
+    }
 
 pub returns-then-counts-eq0 : goal.returns-then-counts-eq0
 returns-then-counts-eq0 c [] w = absurd (c.requires.some w.fits.chain)
 returns-then-counts-eq0 c (n ∷ ns) w =
-    let old = c.args.t.now in
-    let top = old.top in
-    let counts = c.in-Some.counts in
-    let v = first old n ns w in
-    let at = counts_at old.nodes in
-    let at' = counts_at c.remove.new.nodes in
-    let refs = refs_at old.nodes in
-    let refs' = refs_at c.remove.new.nodes in
-    let rows = live old.handles.places.items in
+    let t = c.args.t.now in
     let e = c.remove.ensures in
-    let is : at top ≡ Some counts = sym c.counts_of.ensures ∙ c.in-Some.is in
-    let zero : counts.holds ≡ 0 = c.if-counts-eq0.true in
-    let gone : at' top ≡ None = e.gone in
-    let holds' : holds_in (at' top) ≡ counts.holds = ap holds_in gone ∙ sym zero in
-    let none : counts.pins ≡ 0 = (let a = v.fits.pinned top in let b = v.fits.holding top in let d = ap pins_in is in let f = ap holds_in is in let l = pins-le-held top rows in omega arith) in
-    let same : (m : ℕ) → refs' m ≡ refs m = λ m. elim (cases_eq m top) [ inl eq ↦ ap refs' eq ∙ e.no_refs ∙ sym c.requires.none ∙ sym (ap refs eq) | inr ne ↦ e.refs m ne ] in
-    record {
-      rest = ns;
-      falling = record {
-        sound = w.sound;
-        next = w.next;
-        fits = done-fits at at' refs refs' rows top ns counts v.fits is (ap pins_in gone ∙ sym none) holds' (ap falls_in gone)
-            (subst (λ o. Right o (refs' top)) (sym gone) e.no_refs) e.others same c.requires.some;
-      };
-      shorter = omega arith;
-      same = refl;
-      values = λ m ne falls. (ap falls_in (sym (e.others m ne)) ∙ falls, ap has_value (e.others m ne));
-      gone = ap has_value gone;
-      cells = λ m some. grind (arith, nat_tests, cases_eq);
-    }
+    let gone : counts_at c.remove.new.nodes t.top ≡ None = e.gone in
+    let is : counts_at t.nodes t.top ≡ Some c.in-Some.counts = sym c.counts_of.ensures ∙ c.in-Some.is in
+    let zero = c.if-counts-eq0.true in
+    let none : c.in-Some.counts.pins ≡ 0 = omega (arith, zero, w.fits.pinned t.top, w.fits.holding t.top, ap pins_in is, ap holds_in is, pins-le-held t.top (live t.handles.places.items)) in
+    settled t (record t { nodes = c.remove.new.nodes }) n ns c.in-Some.counts w c.requires.some is (ap pins_in gone ∙ sym none) (ap holds_in gone ∙ sym zero) (ap falls_in gone) (ap has_value gone)
+    (subst (λ o. Right o (refs_at c.remove.new.nodes t.top)) (sym gone) e.no_refs) e.others
+    (λ m. grind (arith, nat_tests, cases_eq, e.refs, e.no_refs, c.requires.none)) (λ m some. grind (arith, nat_tests, cases_eq))
 
 pub returns-else-counts-eq0 : goal.returns-else-counts-eq0
 returns-else-counts-eq0 c [] w = absurd (c.requires.some w.fits.chain)
 returns-else-counts-eq0 c (n ∷ ns) w =
-    let old = c.args.t.now in
-    let top = old.top in
-    let counts = c.in-Some.counts in
-    let v = first old n ns w in
-    let at = counts_at old.nodes in
-    let at' = counts_at c.set_counts.new.nodes in
-    let refs = refs_at old.nodes in
-    let refs' = refs_at c.set_counts.new.nodes in
+    let t = c.args.t.now in
+    let y = c.in-Some.counts in
     let e = c.set_counts.ensures in
-    let is : at top ≡ Some counts = sym c.counts_of.ensures ∙ c.in-Some.is in
-    let now : Counts = record counts { is_falling = false; next = 0 } in
-    let here : at' top ≡ Some now = e.here in
-    let falls : counts.is_falling ≡ true = sym (ap falls_in is) ∙ first-waits _ _ _ _ _ _ v.fits in
-    let bare : refs' top ≡ [] = e.refs top ∙ c.requires.none in
+    let is : counts_at t.nodes t.top ≡ Some y = sym c.counts_of.ensures ∙ c.in-Some.is in
+    let now : Counts = record y { is_falling = false; next = 0 } in
+    let here : counts_at c.set_counts.new.nodes t.top ≡ Some now = e.here in
+    let falls : y.is_falling ≡ true = sym (ap falls_in is) ∙ first-waits _ _ _ _ _ _ (first t n ns w) in
+    let bare : refs_at c.set_counts.new.nodes t.top ≡ [] = e.refs t.top ∙ c.requires.none in
     let right : Right (Some now) [] = settled-right now refl (let z = c.if-counts-eq0.false in omega arith) in
-    record {
-      rest = ns;
-      falling = record {
-        sound = w.sound;
-        next = w.next;
-        fits = done-fits at at' refs refs' (live old.handles.places.items) top ns counts v.fits is (ap pins_in here) (ap holds_in here) (ap falls_in here)
-            (subst (λ o. Right o (refs' top)) (sym here) (subst (λ r. Right (Some now) r) (sym bare) right)) e.others e.refs c.requires.some;
-      };
-      shorter = omega arith;
-      same = refl;
-      values = λ m ne falls. (ap falls_in (sym (e.others m ne)) ∙ falls, ap has_value (e.others m ne));
-      gone = ap has_value here ∙ settled-value counts (is_bare (refs top)) falls (subst (λ o. Right o (refs top)) is (v.fits.right top)) c.if-counts-eq0.false;
-      cells = λ m some. grind (arith, nat_tests, cases_eq);
-    }
+    settled t (record t { nodes = c.set_counts.new.nodes }) n ns y w c.requires.some is (ap pins_in here) (ap holds_in here) (ap falls_in here)
+    (ap has_value here ∙ settled-value y (is_bare (refs_at t.nodes t.top)) falls (subst (λ o. Right o (refs_at t.nodes t.top)) is (w.fits.right t.top)) c.if-counts-eq0.false)
+    (subst (λ o. Right o (refs_at c.set_counts.new.nodes t.top)) (sym here) (subst (λ r. Right (Some now) r) (sym bare) right)) e.others e.refs (λ m some. grind (arith, nat_tests, cases_eq))

@@ -1,5 +1,5 @@
 use Rattle.pagable_tables.proofs.Words.{◌≡◌, ◌+◌, ℕ, Bool, true, false, arith, refl, ap, sym, ◌∙◌, subst, Some, Option, List, [], ◌∷◌, ◌++◌, length, slice_get, if◌then◌else◌, inl, inr, ◌≢◌, is_some}
-use Rattle.pagable_tables.proofs.Words.{cases_eq, nat_tests, append-nil, ArcRef, HandleNumber, NodeNumber, HandleRow, one, live, alive, AreSound, IsNext, counts_at, refs_at, IsFalling, Fits, Settles}
+use Rattle.pagable_tables.proofs.Words.{cases_eq, nat_tests, append-nil, ArcRef, HandleNumber, NodeNumber, HandleRow, owner_value, one, live, alive, counts_at, refs_at, IsFalling, Settles}
 use Rattle.pagable_tables.proofs.{Words.{GivesUp, CellsStay, cell_in, ValueStays, owns, owns_nothing, entry, is_valued, valued, Counts, Holdings}, Alive.{only-row, none-found}, Left.leaves-sums}
 use Rattle.pagable_tables.proofs.Fitting.{is_owned, taken-fits, taken-owned, taken-there, owner-is, fits-same, fallen}
 use Rattle.pagable_tables.proofs.holdings.step.Goals as goal
@@ -8,8 +8,7 @@ abbrev of_value : HandleRow → ℕ
 of_value h = one (is_valued h.owner)
 
 no-value : (listed : Bool) (k : ℕ) (m : NodeNumber) → (if listed then of_value (entry k m) else 0) ≡ 0
-no-value true k m = refl
-no-value false k m = refl
+no-value x0 k m = grind (arith, nat_tests)
 
 -- the first node that falls has this reference, which was taken
 module _ (t mid : Holdings) (ns : List ℕ) (p : ArcRef) (i : ℕ) (x : HandleRow) (w : IsFalling t (t.top ∷ ns) owns_nothing) (popped : refs_at t.nodes t.top ≡ refs_at mid.nodes t.top ++ p ∷ [])
@@ -21,34 +20,25 @@ module _ (t mid : Holdings) (ns : List ℕ) (p : ArcRef) (i : ℕ) (x : HandleRo
       let o = only-row (is_owned t.top p.handle.0) t.handles.places.items i x w.sound.ordered at (λ h. grind (arith, nat_tests)) in
       grind (arith, nat_tests)
 
-  taken : mid.handles ≡ t.handles → mid.top ≡ t.top → mid.last_handle ≡ t.last_handle → IsFalling mid (t.top ∷ ns) (owns x)
-  taken handles top last =
+  taken : (x.owner ≡ owner_value t.top) × IsFalling (record t { nodes = mid.nodes }) (t.top ∷ ns) (owns x)
+  taken =
       let o = owner-is t.top p.handle.0 x its-owner in
-      let f : Fits (counts_at mid.nodes) (refs_at mid.nodes) (live t.handles.places.items) t.top (t.top ∷ ns) (owns x) =
-      taken-fits (counts_at t.nodes) (counts_at mid.nodes) (refs_at t.nodes) (refs_at mid.nodes) (live t.handles.places.items) t.top ns p w.fits popped others same x o.1 in
-      record {
-        sound = subst AreSound (sym handles) w.sound;
-        next = subst (λ h. IsNext (mid.last_handle + 1) h.places.items) (sym handles) (subst (λ k. IsNext (k + 1) t.handles.places.items) (sym last) w.next);
-        fits = grind (arith, nat_tests);
-      }
-
-first : (t : Holdings) (n : ℕ) (ns : List ℕ) → IsFalling t (n ∷ ns) owns_nothing → IsFalling t (t.top ∷ ns) owns_nothing
-first t n ns w = subst (λ m. IsFalling t (m ∷ ns) owns_nothing) (sym w.fits.chain.0) w
+      let fits = taken-fits (counts_at t.nodes) (counts_at mid.nodes) (refs_at t.nodes) (refs_at mid.nodes) (live t.handles.places.items) t.top ns p w.fits popped others same x o.1 in
+      (o.0, record { sound = w.sound; next = w.next; fits = fits })
 
 top-stands : (t : Holdings) (stack : List ℕ) → t.top ≢ 0 → IsFalling t stack owns_nothing → (ns : List ℕ) × (n : ℕ) × (stack ≡ n ∷ ns) × IsFalling t (t.top ∷ ns) owns_nothing
 top-stands t [] some w = absurd (some w.fits.chain)
-top-stands t (n ∷ ns) some w = (ns, n, refl, first t n ns w)
+top-stands t (n ∷ ns) some w = (ns, n, refl, subst (λ m. IsFalling t (m ∷ ns) owns_nothing) (sym w.fits.chain.0) w)
 
 pub give_up-requires-clause-falling : goal.give_up-requires-clause-falling
 give_up-requires-clause-falling c =
     let t = c.args.t.now in
     let s = top-stands t c.requires.falling.0 c.requires.some c.requires.falling.1 in
     let e = c.in-Some.ensures in
-    let f = c.in-Some-look.ensures in (
-      t.top ∷ s.0,
-      taken t (record t { nodes = c.pop_reference.new.nodes }) s.0 c.in-Some.reference c.in-Some-look.at.place c.in-Some-look.at.row s.3 e.here e.others e.counts
-          f.place (ap (λ (n : HandleNumber). n.0) f.number) refl refl refl,
-    )
+    let f = c.in-Some-look.ensures in
+    let number = ap (λ (n : HandleNumber). n.0) f.number in
+    let k = taken t (record t { nodes = c.pop_reference.new.nodes }) s.0 c.in-Some.reference c.in-Some-look.at.place c.in-Some-look.at.row s.3 e.here e.others e.counts f.place number in
+    (t.top ∷ s.0, k.1)
 
 pub unreachable-requires : goal.unreachable-requires
 unreachable-requires c =
@@ -59,25 +49,17 @@ unreachable-requires c =
     (live t.handles.places.items) t.top s.0 c.in-Some.reference s.3.fits e.here e.others e.counts in
     absurd (omega (arith, none-found c.in-Some.reference.handle.0 (live t.handles.places.items) c.in-None-look.ensures.none))
 
-untouched : (t mid : Holdings) (stack : List ℕ) → IsFalling t stack owns_nothing → mid.handles ≡ t.handles → mid.top ≡ t.top → mid.last_handle ≡ t.last_handle
-    → ((m : ℕ) → counts_at mid.nodes m ≡ counts_at t.nodes m) → ((m : ℕ) → refs_at mid.nodes m ≡ refs_at t.nodes m) → IsFalling mid stack owns_nothing
-untouched t mid stack w handles top last same refs =
-    let f : Fits (counts_at mid.nodes) (refs_at mid.nodes) (live t.handles.places.items) t.top stack owns_nothing =
-    fits-same (counts_at t.nodes) (counts_at mid.nodes) (refs_at t.nodes) (refs_at mid.nodes) (live t.handles.places.items) t.top stack w.fits same refs in
-    record {
-      sound = subst AreSound (sym handles) w.sound;
-      next = subst (λ h. IsNext (mid.last_handle + 1) h.places.items) (sym handles) (subst (λ k. IsNext (k + 1) t.handles.places.items) (sym last) w.next);
-      fits = grind (arith, nat_tests);
-    }
+-- nothing was taken
+untouched : (t mid : Holdings) (stack : List ℕ) → IsFalling t stack owns_nothing → refs_at t.nodes t.top ≡ refs_at mid.nodes t.top ++ []
+    → ((m : ℕ) → m ≢ t.top → refs_at mid.nodes m ≡ refs_at t.nodes m) → ((m : ℕ) → counts_at mid.nodes m ≡ counts_at t.nodes m) → IsFalling (record t { nodes = mid.nodes }) stack owns_nothing
+untouched t mid stack w here others same =
+    let refs : (m : ℕ) → refs_at mid.nodes m ≡ refs_at t.nodes m = λ m. grind (arith, nat_tests, cases_eq, append-nil) in
+    record { sound = w.sound; next = w.next; fits = fits-same _ (counts_at mid.nodes) _ (refs_at mid.nodes) _ t.top stack w.fits same refs }
 
 pub settle-requires-clause-falling : goal.settle-requires-clause-falling
 settle-requires-clause-falling c =
-    let t = c.args.t.now in
-    let e = c.in-None.ensures in (
-      c.requires.falling.0,
-      untouched t (record t { nodes = c.pop_reference.new.nodes }) c.requires.falling.0 c.requires.falling.1 refl refl refl e.counts
-          (λ m. elim (cases_eq m t.top) [ inl eq ↦ ap (refs_at c.pop_reference.new.nodes) eq ∙ sym (e.here ∙ append-nil _) ∙ sym (ap (refs_at t.nodes) eq) | inr ne ↦ e.others m ne ]),
-    )
+    let e = c.in-None.ensures in
+    (c.requires.falling.0, untouched c.args.t.now (record c.args.t.now { nodes = c.pop_reference.new.nodes }) c.requires.falling.0 c.requires.falling.1 e.here e.others e.counts)
 
 cells-through : (a b d : ℕ → Option Counts) → ((m : ℕ) → b m ≡ a m) → CellsStay b d → CellsStay a d
 cells-through a b d same stay m some = let s = stay m some in (sym (ap is_some (same m)) ∙ s.0, s.1 ∙ ap cell_in (same m))
@@ -88,18 +70,14 @@ returns-in-Some-look c stack w =
     let s = top-stands t stack c.requires.some w in
     let e = c.in-Some.ensures in
     let f = c.in-Some-look.ensures in
-    let p = c.in-Some.reference in
     let x = c.in-Some-look.at.row in
-    let i = c.in-Some-look.at.place in
     let mid : Holdings = record t { nodes = c.pop_reference.new.nodes } in
-    let number : x.number.0 ≡ p.handle.0 = ap (λ (n : HandleNumber). n.0) f.number in
-    let g : GivesUp mid (t.top ∷ s.0) x c.args.lists c.give_up.new.t = c.give_up.ensures (t.top ∷ s.0) (taken t mid s.0 p i x s.3 e.here e.others e.counts f.place number refl refl refl) in
-    let o = owner-is t.top p.handle.0 x (its-owner t mid s.0 p i x s.3 e.here e.others e.counts f.place number) in
+    let o = taken t mid s.0 c.in-Some.reference c.in-Some-look.at.place x s.3 e.here e.others e.counts f.place (ap (λ (n : HandleNumber). n.0) f.number) in
+    let g : GivesUp mid (t.top ∷ s.0) x c.args.lists c.give_up.new.t = c.give_up.ensures (t.top ∷ s.0) o.1 in
     let v : of_value x ≡ 1 = ap (λ k. one (is_valued k)) o.0 in
-    let kept : live c.give_up.new.t.handles.places.items ≡ live g.between.handles.places.items = ap (λ (h : Holdings). live h.handles.places.items) g.same in
+    let m : valued (live c.give_up.new.t.handles.places.items) ≡ valued (live g.between.handles.places.items) = ap (λ (h : Holdings). valued (live h.handles.places.items)) g.same in
     let l : valued (live g.between.handles.places.items) + of_value x ≡ valued (live t.handles.places.items) + 0 = leaves-sums mid g.between x _ g.listed g.leaves of_value
     ∙ ap (λ k. valued (live t.handles.places.items) + k) (no-value g.listed (t.last_handle + 1) x.node) in
-    let m = ap valued kept in
     let n = ap length s.2 in
     record {
       rest = g.more;
@@ -108,20 +86,7 @@ returns-in-Some-look c stack w =
       cells = cells-through (counts_at t.nodes) (counts_at mid.nodes) (counts_at c.give_up.new.t.nodes) e.counts g.cells;
       values = λ m _. subst (λ o. ValueStays o (counts_at c.give_up.new.t.nodes m)) (e.counts m) (g.values m);
       gone = tt;
-      what = inr (
-        x,
-        t.top,
-        refl,
-        record {
-          owner = o.0;
-          fallen = fallen (counts_at t.nodes) (refs_at t.nodes) (live t.handles.places.items) t.top s.0 s.3.fits;
-          popped = mid;
-          same = refl;
-          counts = e.counts;
-          stack = t.top ∷ s.0;
-          gives = g;
-        },
-      );
+      what = inr (x, t.top, refl, record { owner = o.0; fallen = fallen _ (refs_at t.nodes) _ t.top s.0 s.3.fits; popped = mid; same = refl; counts = e.counts; stack = t.top ∷ s.0; gives = g });
     }
 
 pub returns-in-None : goal.returns-in-None
@@ -129,8 +94,7 @@ returns-in-None c stack w =
     let t = c.args.t.now in
     let e = c.in-None.ensures in
     let mid : Holdings = record t { nodes = c.pop_reference.new.nodes } in
-    let g : Settles mid stack c.settle.new.t = c.settle.ensures stack (untouched t mid stack w refl refl refl e.counts
-    (λ m. elim (cases_eq m t.top) [ inl eq ↦ ap (refs_at c.pop_reference.new.nodes) eq ∙ sym (e.here ∙ append-nil _) ∙ sym (ap (refs_at t.nodes) eq) | inr ne ↦ e.others m ne ])) in
+    let g : Settles mid stack c.settle.new.t = c.settle.ensures stack (untouched t mid stack w e.here e.others e.counts) in
     let v = ap valued (ap (λ (h : Holdings). live h.handles.places.items) g.same) in
     record {
       rest = g.rest;

@@ -20,16 +20,11 @@ falls-so : (b : Bool) (w : Core) (me : Owner) (l : LoadNumber) (row : HandleRow)
 falls-so true w me l row rs r w' away falls = inl (not-so _ (sym away), record { told = r; falls = falls })
 falls-so false w me l row rs r w' away falls = inr (so-then _ (sym away), record { told = r; falls = none-moves w l row me r w' falls })
 
-pub pin_ready-handle-requires-clause-holder : goal.pin_ready-handle-requires-clause-holder
-pin_ready-handle-requires-clause-holder g c =
+pub pin_ready-handle-requires : goal.pin_ready-handle-requires
+pin_ready-handle-requires g c =
     let r = c.requires.ready (λ key. None) false 0 in
-    may-hold (plain_of c.args.t.now) c.args.me (ready-owner c.args.t.now c.args.me c.args.load c.args.node_type c.args.references.items c.args.ending c.requires.whole r)
-
-pub pin_ready-handle-requires-clause-owns : goal.pin_ready-handle-requires-clause-owns
-pin_ready-handle-requires-clause-owns g c = (c.requires.ready (λ key. None) false 0).owned
-
-pub pin_ready-handle-requires-clause-left : goal.pin_ready-handle-requires-clause-left
-pin_ready-handle-requires-clause-left g c = (c.requires.ready (λ key. None) false 0).left
+    let holder = may-hold (plain_of c.args.t.now) c.args.me (ready-owner c.args.t.now c.args.me c.args.load c.args.node_type c.args.references.items c.args.ending c.requires.whole r) in
+    record { whole = c.requires.whole; holder = holder; owns = r.owned; left = r.left; place = c.requires.place.place }
 
 pub join-requires-clause-live : goal.join-requires-clause-live
 join-requires-clause-live g c =
@@ -67,10 +62,8 @@ give_up_load-requires g c =
           let before = changed (is_handle row.number.0) turned (live t.holdings.handles.places.items) ++ x ∷ [] in
           let fits = rows-told (counts_at t1.holdings.nodes) (refs_at t1.holdings.nodes) (live t1.holdings.handles.places.items) before t1.holdings.top (sym a.rows) whole.steady.fits in
           let pinned : 0 < sum_by (λ y. one (is_pin n y)) before = grind (arith, nat_tests, pins-here) in
-          let joined = joined-fits p (Owner.Load l) n rs was.core.handles.ordered r.may.good refl none row.number.0 x unvalued spared (counts_at t1.holdings.nodes) (refs_at t1.holdings.nodes)
-          (refs_at k.nodes) t1.holdings.top fits pinned (j.here comes) j.others in
-          let told = fits-same (counts_at t1.holdings.nodes) (counts_at k.nodes) (refs_at k.nodes) (refs_at k.nodes)
-          (moved (is_named_by rs) (owner_value n) before) t1.holdings.top [] joined j.counts (λ m. refl) in
+          let joined = joined-fits p (Owner.Load l) n rs was.core.handles.ordered r.may.good refl none row.number.0 x unvalued spared _ _ _ _ fits pinned (j.here comes) j.others in
+          let told = fits-same _ _ _ _ _ _ [] joined j.counts (λ m. refl) in
           let rows = j.handles.rows ∙ ap (λ b. moved (is_named_by (coming b rs)) (owner_value n) (live t1.holdings.handles.places.items)) comes ∙ ap (moved (is_named_by rs) (owner_value n)) a.rows in
           let top = ap (λ (h : Holdings). h.top) j.same in
           let last = ap (λ (h : Holdings). h.last_handle) j.same in

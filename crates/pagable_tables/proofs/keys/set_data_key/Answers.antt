@@ -1,9 +1,6 @@
-use Rattle.pagable_tables.proofs.{Words.{refl, sym, ◌∙◌, arith, inl, inr, any_mode, nat_tests, subst, GetsKey, counts_at, nobody, core_of}, Alive.row-le-live, Doing.{nothing-shed, sheds-so}}
-use Rattle.pagable_tables.proofs.{Ended.stays-first, KeyPut.keyed-on, Coming.some-held, Fitting.held-here, Worlds.{still, owner-same}, keeps.ListCalls.set-key-whole, Newer.set-key-newer}
+use Rattle.pagable_tables.proofs.{Words.{refl, sym, ◌∙◌, inl, inr, any_mode, subst, GetsKey, counts_at, nobody, core_of}, Doing.{nothing-shed, sheds-so}}
+use Rattle.pagable_tables.proofs.{Ended.stays-first, KeyPut.keyed-on, Worlds.{still, owner-same}, keeps.ListCalls.set-key-whole, Newer.set-key-newer}
 use Rattle.pagable_tables.proofs.keys.set_data_key.Goals as goal
-
-pub put_key-requires-clause-live : goal.put_key-requires-clause-live
-put_key-requires-clause-live g c = grind (arith, nat_tests, row-le-live, held-here, some-held, c.in-Ok.ensures.place, c.requires.whole.steady.fits.holding)
 
 pub returns-in-Err : goal.returns-in-Err
 returns-in-Err g c =

@@ -1,25 +1,17 @@
-use Rattle.pagable_tables.proofs.{Words.{sym, subst, false, None, plain_of, Suits}, Opened.{recalls, not-recalled}, keeps.CacheCalls.known-suits}
+use Rattle.pagable_tables.proofs.{Words.{sym, false, None}, Opened.{recalls, not-recalled}, keeps.CacheCalls.known-suits}
+use Rattle.pagable_tables.proofs.Doing.{does-as}
 use Rattle.pagable_tables.proofs.known.cache_get.Goals as goal
 
 pub make-requires-clause-suits : goal.make-requires-clause-suits
 make-requires-clause-suits c =
-    let is = sym (c.in-Some.ensures (λ key. None) false 0) in
-    subst (Suits (plain_of c.args.t.now) c.in-Some.node) (sym c.mode_of.ensures) (known-suits c.requires.whole.core c.args.kind.0 c.args.key c.in-Some.node.0 is)
+    rw c.mode_of.ensures (known-suits c.requires.whole.core c.args.kind.0 c.args.key c.in-Some.node.0 (sym (c.in-Some.ensures (λ key. None) false 0)))
 
 pub returns-in-Ok-clause-does : goal.returns-in-Ok-clause-does
 returns-in-Ok-clause-does c =
-    let made = c.in-Ok.ensures.does in
-    record {
-      does = λ stored closed failures. recalls _ c.args.me c.args.kind c.args.key c.in-Some.node c.mode_of.result _ (sym (c.in-Some.ensures stored closed failures)) c.mode_of.ensures c.in-Ok.handle (made.does stored closed failures);
-      whole = made.whole;
-      later = made.later;
-    }
+    does-as c.in-Ok.ensures.does
+    (λ stored closed failures. recalls _ c.args.me c.args.kind c.args.key c.in-Some.node c.mode_of.result _ (sym (c.in-Some.ensures stored closed failures)) c.mode_of.ensures c.in-Ok.handle)
 
 pub returns-in-Err-clause-does : goal.returns-in-Err-clause-does
 returns-in-Err-clause-does c =
-    let made = c.in-Err.ensures.does in
-    record {
-      does = λ stored closed failures. not-recalled _ c.args.me c.args.kind c.args.key c.in-Some.node c.mode_of.result _ (sym (c.in-Some.ensures stored closed failures)) c.mode_of.ensures c.in-Err.e (made.does stored closed failures);
-      whole = made.whole;
-      later = made.later;
-    }
+    does-as c.in-Err.ensures.does
+    (λ stored closed failures. not-recalled _ c.args.me c.args.kind c.args.key c.in-Some.node c.mode_of.result _ (sym (c.in-Some.ensures stored closed failures)) c.mode_of.ensures c.in-Err.e)

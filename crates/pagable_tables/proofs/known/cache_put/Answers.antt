@@ -1,12 +1,11 @@
-use Rattle.pagable_tables.proofs.Words.{◌≡◌, ◌∙◌, ℕ, ap, sym, subst, refl, false, None, Ok, inl, inr, arith, NodeNumber, fits_mode, Owns, offer_fault, recall_fault, nat_tests, OfferCall, core_of}
-use Rattle.pagable_tables.proofs.{Words.{plain_of, Suits, option_map}, Opened.{offer-last, learned, recalls, not-recalled}, Worlds.same-cache, keeps.Placed.whole-so, keeps.Told.told-whole}
+use Rattle.pagable_tables.proofs.Words.{◌≡◌, ◌∙◌, ℕ, ap, sym, refl, false, None, Ok, inl, inr, arith, NodeNumber, fits_mode, Owns, offer_fault, recall_fault, nat_tests, OfferCall, core_of}
+use Rattle.pagable_tables.proofs.{Words.{plain_of, option_map}, Opened.{offer-last, learned, recalls, not-recalled}, Worlds.same-cache, keeps.Placed.whole-so, keeps.Told.told-whole}
 use Rattle.pagable_tables.proofs.keeps.CacheCalls.{known-suits, offer-whole}
 use Rattle.pagable_tables.proofs.known.cache_put.Goals as goal
 
 pub make-requires-clause-suits : goal.make-requires-clause-suits
 make-requires-clause-suits c =
-    let is = sym (c.in-Some.ensures (λ key. None) false 0) in
-    subst (Suits (plain_of c.args.t.now) c.in-Some.node) (sym c.mode_of.ensures) (known-suits c.requires.whole.core c.args.kind.0 c.args.key c.in-Some.node.0 is)
+    rw c.mode_of.ensures (known-suits c.requires.whole.core c.args.kind.0 c.args.key c.in-Some.node.0 (sym (c.in-Some.ensures (λ key. None) false 0)))
 
 pub returns-in-Ok-make-clause-offered : goal.returns-in-Ok-make-clause-offered
 returns-in-Ok-make-clause-offered c stored failures =

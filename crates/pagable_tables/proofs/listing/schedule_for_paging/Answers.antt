@@ -1,4 +1,4 @@
-use Rattle.pagable_tables.proofs.Words.{◌∙◌, ap, refl, subst, false, inl, inr, arith, rules, Ok, None, not, is_unpinned, only_handle, Falls, is_valued, plain_of, core_of, nat_tests}
+use Rattle.pagable_tables.proofs.Words.{◌∙◌, ap, refl, false, inl, inr, arith, rules, Ok, None, not, is_unpinned, is_valued, plain_of, core_of, nat_tests}
 use Rattle.pagable_tables.proofs.{keeps.Comes.not-a-value, keeps.Fallen.falls-opened, keeps.Told.{stays-on, roomy-whole, alike-whole}, keeps.ListCalls.schedule-whole}
 use Rattle.pagable_tables.proofs.{keeps.Placed.whole-so, Begun.{begun-whole, not-closed, shut-then, open-then}, Named.alike-listed, Worlds.{still, owner-same}, Newer.{later-on, schedule-newer}}
 use Rattle.pagable_tables.proofs.listing.schedule_for_paging.Goals as goal
@@ -10,8 +10,7 @@ pub returns-then-not-lists-clause-scheduled : goal.returns-then-not-lists-clause
 returns-then-not-lists-clause-scheduled g c stored closed failures e =
     let row = c.in-Ok.at.row in
     let w = core_of c.args.t.now stored closed failures in
-    let w' = core_of (record c.args.t.now { holdings = c.give_back.new.t }) stored closed failures in
-    let falls : Falls w w (only_handle c.args.handle) c.give_back.result w' = subst (λ q. Falls w w (only_handle q) c.give_back.result w') c.in-Ok.ensures.number (c.give_back.ensures.falls w w (begun-whole c.args.t.now stored closed c.args.lists failures c.requires.whole e) (omega arith)) in
+    let falls = rw c.in-Ok.ensures.number at (c.give_back.ensures.falls w w (begun-whole c.args.t.now stored closed c.args.lists failures c.requires.whole e) (omega arith)) in
     record {
       moves = (
         row,

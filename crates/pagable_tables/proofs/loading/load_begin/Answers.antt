@@ -1,5 +1,5 @@
-use Rattle.pagable_tables.proofs.Words.{◌≡◌, arith, ap, sym, ◌∙◌, subst, None, Some, inl, inr, false, rules, not, OptionalDataKey, HandleRow, Owner, Mode, if_there, is_loose, is_in_memory, nat_tests}
-use Rattle.pagable_tables.proofs.{Words.{is_here, Cell, Alike, of_cell, Owns, is_handle_here, with_handle, with_load, live, counts_at, cell_in, key_in, core_of}, Alive.row-le-live, Fitting.held-here}
+use Rattle.pagable_tables.proofs.Words.{◌≡◌, arith, ap, sym, ◌∙◌, None, Some, inl, inr, false, rules, not, OptionalDataKey, HandleRow, if_there, is_loose, is_in_memory}
+use Rattle.pagable_tables.proofs.{Words.{is_here, Cell, Owns, is_handle_here, live, counts_at, cell_in, key_in, core_of}}
 use Rattle.pagable_tables.proofs.{Worlds.{still, owner-same}, Opened.{begin-first, no-fault, no-begin-fault, here-told}, Doing.{does-by, nothing-does}, keeps.LoadCalls.begin-whole}
 use Rattle.pagable_tables.proofs.loading.load_begin.Goals as goal
 
@@ -10,9 +10,6 @@ returns-in-Err c =
     (λ stored closed failures.
     let w = core_of t stored closed failures in
     record { begins = tt; refused = record { why = inl (begin-first w c.args.me c.args.handle is_loose c.in-Err.e (not (is_handle_here w c.args.handle)) t.last_load t.holdings.last_handle (c.in-Err.ensures.fault stored closed failures is_loose)); stays = still w } })
-
-pub unreachable-requires : goal.unreachable-requires
-unreachable-requires c = grind (arith, nat_tests, row-le-live, held-here, c.requires.whole.steady.fits.holding, c.counts_of.ensures, c.in_default.is, c.in-Ok.ensures.place)
 
 pub returns-in-Ok-open_cell : goal.returns-in-Ok-open_cell
 returns-in-Ok-open_cell c =
@@ -27,8 +24,7 @@ returns-in-Ok-open_cell c =
     let w = core_of t stored closed failures in
     let own : Owns w c.args.me c.args.handle is_loose row = record { live = c.in-Ok.ensures.found; own = owner-same c.args.me row.owner c.in-Ok.ensures.owner; as_asked = search rules } in
     let told : is_here w row.node.0 ≡ is_in_memory y.pins (key_in y.key) = here-told (counts_at t.holdings.nodes) (live t.holdings.handles.places.items) row.node.0 y (c.requires.whole.steady.fits.pinned row.node.0) is in
-    let opened = subst (λ q. Alike (with_load (with_handle w row.node Mode.LooseUnpinned (Owner.Load c.in-Ok-open_cell.load)) c.in-Some-key_away.key (of_cell row.node y.node_type q) c.args.me) (core_of c.open_cell.new.t stored closed failures))
-    c.in-Ok.ensures.number (c.in-Ok-open_cell.ensures.opened stored closed failures) in
+    let opened = rw c.in-Ok.ensures.number at (c.in-Ok-open_cell.ensures.opened stored closed failures) in
     record { begins = (row, own, (told ∙ c.in-Some-key_away.ensures.away, key, c.in-Ok-open_cell.ensures.next stored closed failures, omega arith, (y.node_type, typed, opened))); refused = tt })
     c.open_cell.ensures.steady (begin-whole c.args.me c.args.handle _ c.requires.whole.core c.requires.owner) (λ begins later. c.open_cell.ensures.later)
 

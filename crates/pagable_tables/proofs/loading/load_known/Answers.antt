@@ -1,4 +1,4 @@
-use Rattle.pagable_tables.proofs.{Words.load_in, Adoptions.{recalls-asked, not-asked}, Doing.nothing-does}
+use Rattle.pagable_tables.proofs.{Words.load_in, Adoptions.{recalls-asked, not-asked}, Doing.{does-as, nothing-does}}
 use Rattle.pagable_tables.proofs.loading.load_known.Goals as goal
 
 pub returns-in-Err-clause-does : goal.returns-in-Err-clause-does
@@ -6,9 +6,5 @@ returns-in-Err-clause-does c = nothing-does c.requires.whole (λ stored closed f
 
 pub returns-clause-does : goal.returns-clause-does
 returns-clause-does c =
-    let got = c.cache_get.ensures.does in
-    record {
-      does = λ stored closed failures. recalls-asked _ c.args.me c.args.load (load_in c.in-Ok.row) c.args.kind c.args.key c.cache_get.result _ (c.in-Ok.ensures.own stored closed failures) (got.does stored closed failures);
-      whole = got.whole;
-      later = got.later;
-    }
+    does-as c.cache_get.ensures.does
+    (λ stored closed failures. recalls-asked _ c.args.me c.args.load (load_in c.in-Ok.row) c.args.kind c.args.key c.cache_get.result _ (c.in-Ok.ensures.own stored closed failures))

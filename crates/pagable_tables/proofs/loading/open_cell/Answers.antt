@@ -1,9 +1,6 @@
-use Rattle.pagable_tables.proofs.{Words.{◌+◌, ◌∙◌, refl, arith, None, false, load_at, Owner, Mode, core_of, plain_of, nat_tests}, Alive.row-le-live, Opened.{load-comes, none-yet, load-goes}}
-use Rattle.pagable_tables.proofs.{Opened.only-memory, Coming.some-held, Fitting.held-here, Newer.{newer-alike, newer-handle, newer-then, later-so, later-opened, closed-still}}
+use Rattle.pagable_tables.proofs.{Words.{◌+◌, ◌∙◌, refl, arith, None, false, load_at, Owner, Mode, core_of, plain_of, nat_tests}, Opened.{load-comes, none-yet, load-goes}}
+use Rattle.pagable_tables.proofs.{Opened.only-memory, Newer.{newer-alike, newer-handle, newer-then, later-so, later-opened, closed-still}}
 use Rattle.pagable_tables.proofs.loading.open_cell.Goals as goal
-
-pub come-requires-clause-live : goal.come-requires-clause-live
-come-requires-clause-live c = grind (arith, nat_tests, row-le-live, held-here, some-held, c.requires.whole.steady.fits.holding, c.requires.place)
 
 pub returns-in-Ok-come-clause-opened : goal.returns-in-Ok-come-clause-opened
 returns-in-Ok-come-clause-opened c stored closed failures =

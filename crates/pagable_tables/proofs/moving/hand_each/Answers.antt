@@ -1,9 +1,6 @@
-use Rattle.pagable_tables.proofs.{Words.{◌≡◌, ◌∙◌, sym, ap, refl, arith, Some, false, HandleNumber, live, is_valued, named_at, IsNamed, Holdings}, Handed.{none-moved, one-moved, named-still}}
+use Rattle.pagable_tables.proofs.{Words.{◌≡◌, ◌∙◌, sym, ap, arith, Some, false, HandleNumber, live, is_valued, named_at, IsNamed, Holdings}, Handed.{one-moved, named-still}}
 use Rattle.pagable_tables.proofs.Handed.{all-moved}
 use Rattle.pagable_tables.proofs.moving.hand_each.Goals as goal
-
-pub loop-place-init : goal.loop-place-init
-loop-place-init c = (omega arith, c.requires.steady, none-moved c.args.named.now c.args.owner (live c.args.t.now.handles.places.items), refl, refl)
 
 pub unreachable-requires : goal.unreachable-requires
 unreachable-requires c =

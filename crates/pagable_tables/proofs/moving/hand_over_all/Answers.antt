@@ -1,8 +1,5 @@
-use Rattle.pagable_tables.proofs.{Words.{ap, ◌∙◌, arith, take_all, moved, is_named_by, only_handle, live, nat_tests}, Named.{moved-nobody, moved-take}}
+use Rattle.pagable_tables.proofs.{Words.{ap, ◌∙◌, arith, take_all, moved, only_handle, live}, Named.{moved-take}}
 use Rattle.pagable_tables.proofs.moving.hand_over_all.Goals as goal
-
-pub loop-reference-init : goal.loop-reference-init
-loop-reference-init c = grind (arith, nat_tests, moved-nobody, c.requires)
 
 pub loop-reference-preserved : goal.loop-reference-preserved
 loop-reference-preserved c =
@@ -16,7 +13,4 @@ loop-reference-preserved c =
     }
 
 pub returns : goal.returns
-returns c =
-    let i = c.loop-reference.invariant in
-    let all = ap (λ l. moved (is_named_by l) c.args.owner (live c.args.handles.now.places.items)) (take_all c.loop-reference.reference-index c.args.references.now (omega arith)) in
-    record { sound = i.sound; rows = i.rows ∙ all; capacity = i.capacity; next = i.next }
+returns c = rw (take_all c.loop-reference.reference-index c.args.references.now (omega arith)) at c.loop-reference.invariant

@@ -1,12 +1,13 @@
 use Rattle.pagable_tables.proofs.Words.{◌≡◌, ◌∙◌, ℕ, ap, subst, false, Some, None, is_owner, is_shared, is_owned_by, Alike, with_mode, HandleRow, Owner, Mode, Tables, core_of, plain_of, arith}
 use Rattle.pagable_tables.proofs.{Words.nat_tests, Stays.{pinned-alike, found-again}, keeps.Comes.not-list, keeps.HandleCalls.loose-unshared, keeps.Rows.found-among}
+use Rattle.pagable_tables.proofs.Doing.{does-as}
 use Rattle.pagable_tables.proofs.pinning.pin_here.Goals as goal
 
 pub make-requires-clause-suits : goal.make-requires-clause-suits
 make-requires-clause-suits c = grind (arith, nat_tests, found-among, loose-unshared, c.requires.owns.live, c.requires.owns.as_asked)
 
 pub returns-in-Err-clause-does : goal.returns-in-Err-clause-does
-returns-in-Err-clause-does c = let made = c.in-Err.ensures.does in record { does = λ stored closed failures. record { pinned = tt; refused = (made.does stored closed failures).refused }; whole = made.whole; later = made.later }
+returns-in-Err-clause-does c = does-as c.in-Err.ensures.does (λ stored closed failures made. record { pinned = tt; refused = made.refused })
 
 pub unreachable-requires : goal.unreachable-requires
 unreachable-requires c =

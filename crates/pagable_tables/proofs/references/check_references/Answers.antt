@@ -1,18 +1,9 @@
-use Rattle.pagable_tables.proofs.{Words.{ℕ, Bool, Option, get_or, sym, ◌∙◌, refl, arith, [], ◌∷◌, ArcRef, Blob, core_of, nat_tests}, Named.{seen-more, seen-none, named-none, above-named, fault-some}}
-use Rattle.pagable_tables.proofs.Named.{fault-none, fault-end}
+use Rattle.pagable_tables.proofs.{Words.{ℕ, Bool, Option, get_or, sym, ◌∙◌, arith, ◌∷◌, ArcRef, Blob, core_of}, Named.{seen-more, above-named, fault-some}}
+use Rattle.pagable_tables.proofs.Named.{fault-none}
 use Rattle.pagable_tables.proofs.references.check_references.Goals as goal
 
 abbrev blank : ArcRef
 blank = record { kind = record { 0 = 0 }; node = record { 0 = 0 }; handle = record { 0 = 0 } }
-
-pub loop-i-init : goal.loop-i-init
-loop-i-init c = record { seen = []; same = seen-none; highest = λ q above. named-none q; rest = λ stored closed failures. refl }
-
-pub returns-in-Some-clause-fault : goal.returns-in-Some-clause-fault
-returns-in-Some-clause-fault c stored closed failures =
-    let l = c.loop-i in
-    let fault = sym (c.fault_of.ensures stored closed failures l.invariant.seen (l.invariant.same _ ∙ sym c.is_seen-is_seen.ensures)) ∙ c.in-Some.is in
-    l.invariant.rest stored closed failures ∙ fault-some (core_of c.args.t.now stored closed failures) c.args.me l.invariant.seen c.args.references.now l.i _ c.in-Some.e (omega arith) fault
 
 pub loop-i-preserved : goal.loop-i-preserved
 loop-i-preserved c =
@@ -27,5 +18,8 @@ loop-i-preserved c =
       rest = λ stored closed failures. l.invariant.rest stored closed failures ∙ fault-none (core_of c.args.t.now stored closed failures) c.args.me l.invariant.seen rs l.i blank (omega arith) (none stored closed failures);
     }
 
-pub returns-clause-fit : goal.returns-clause-fit
-returns-clause-fit c stored closed failures = grind (arith, nat_tests, fault-end)
+pub returns-in-Some-clause-fault : goal.returns-in-Some-clause-fault
+returns-in-Some-clause-fault c stored closed failures =
+    let l = c.loop-i in
+    let fault = sym (c.fault_of.ensures stored closed failures l.invariant.seen (l.invariant.same _ ∙ sym c.is_seen-is_seen.ensures)) ∙ c.in-Some.is in
+    l.invariant.rest stored closed failures ∙ fault-some (core_of c.args.t.now stored closed failures) c.args.me l.invariant.seen c.args.references.now l.i _ c.in-Some.e (omega arith) fault

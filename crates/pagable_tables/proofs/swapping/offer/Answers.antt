@@ -1,19 +1,17 @@
-use Rattle.pagable_tables.proofs.Words.{not, ◌≡◌, ◌+◌, false, None, Ok, Err, Some, inr, refl, ap, sym, subst, arith, IfSome, length, nat_tests, mode_of, OfferCall, with_known, Falls, only_handle}
-use Rattle.pagable_tables.proofs.{Words.{Tables, core_of, plain_of, Offered, AllPairs, IsHandleBefore, true}, Begun.{open-then, not-closed}, Stays.{found-again, begun-made, swapped}}
+use Rattle.pagable_tables.proofs.Words.{not, ◌≡◌, ◌+◌, false, None, Ok, Some, inr, refl, ap, sym, subst, arith, IfSome, length, nat_tests, mode_of, with_known, Falls, only_handle}
+use Rattle.pagable_tables.proofs.{Words.{Tables, core_of, plain_of, AllPairs, IsHandleBefore, true}, Begun.{open-then, not-closed}, Stays.{found-again, begun-made, swapped}}
 use Rattle.pagable_tables.proofs.{Stays.{values-made, values-still}, Ended.{stays-first, sheds-still}, keeps.CacheCalls.offer-whole, keeps.Comes.{not-a-value, not-list}, keeps.Placed.whole-so}
 use Rattle.pagable_tables.proofs.{keeps.Rows.found-among, Newer.{later-on, offer-newer}}
 use Rattle.pagable_tables.proofs.swapping.offer.Goals as goal
 
 pub give_number-requires-clause-there : goal.give_number-requires-clause-there
 give_number-requires-clause-there g c =
-    let (row, owns, typed, (n, known, next, alike)) =
-    (subst (λ f. Offered (core_of c.args.t.now (λ key. None) false 0) c.args.me c.args.kind c.args.key c.args.handle (Ok f) (core_of c.cache_put.new.t (λ key. None) false 0))
-    c.in-Ok-Some.field-0-is (c.in-Ok-Some.ensures.offered (λ key. None) 0)).answers in
+    let (row, owns, typed, (n, known, next, alike)) = (rw c.in-Ok-Some.field-0-is at (c.in-Ok-Some.ensures.offered (λ key. None) 0)).answers in
     grind (arith, nat_tests, found-again, not-a-value, not-list, c.requires.holder)
 
 pub returns-in-Ok-Some-clause-offered : goal.returns-in-Ok-Some-clause-offered
 returns-in-Ok-Some-clause-offered g c stored closed failures e =
-    let (row, owns, typed, (n, known, next, alike)) = (subst (λ f. Offered (core_of c.args.t.now stored false failures) c.args.me c.args.kind c.args.key c.args.handle (Ok f) (core_of c.cache_put.new.t stored false failures)) c.in-Ok-Some.field-0-is (c.in-Ok-Some.ensures.offered stored failures)).answers in
+    let (row, owns, typed, (n, known, next, alike)) = (rw c.in-Ok-Some.field-0-is at (c.in-Ok-Some.ensures.offered stored failures)).answers in
     let t = c.args.t.now in
     let t1 = c.cache_put.new.t in
     let w = core_of t stored false failures in
@@ -26,9 +24,7 @@ returns-in-Ok-Some-clause-offered g c stored closed failures e =
     (not-a-value (plain_of t) c.args.me c.requires.holder) fell.falls spared in
     let anew : Falls w u (only_handle c.args.handle) fell.told (core_of (record t1 { holdings = c.give_number.new.t }) stored false failures) =
     subst (λ (z : Tables). Falls w u (only_handle c.args.handle) fell.told (core_of (record z { holdings = c.give_number.new.t }) stored false failures)) (sym (subst (λ f. IfSome f (λ k. t1 ≡ record t { holdings = t1.holdings })) c.in-Ok-Some.field-0-is c.in-Ok-Some.ensures.known)) falls in
-    subst (λ b. OfferCall (core_of t stored b failures) c.args.me c.args.kind c.args.key c.args.handle (Ok (Some c.in-Ok-Some.known)) (core_of (record t1 { holdings = c.give_number.new.t }) stored b failures))
-    (sym (open-then c.args.lists closed c.if-not-lists.false e))
-    (record { answers = (row, owns, typed, inr (refl, (n, known, next, record { told = fell.told; falls = anew }))); refused = tt })
+    rw (open-then c.args.lists closed c.if-not-lists.false e) (record { answers = (row, owns, typed, inr (refl, (n, known, next, record { told = fell.told; falls = anew }))); refused = tt })
 
 pub returns-in-Ok-Some-clause-whole : goal.returns-in-Ok-Some-clause-whole
 returns-in-Ok-Some-clause-whole g c =
@@ -36,25 +32,23 @@ returns-in-Ok-Some-clause-whole g c =
 
 pub returns-in-Ok-Some-clause-sheds : goal.returns-in-Ok-Some-clause-sheds
 returns-in-Ok-Some-clause-sheds g c there =
-    let (row, owns, typed, (n, known, next, alike)) = (subst (λ f. Offered (core_of c.args.t.now (λ key. None) false 0) c.args.me c.args.kind c.args.key c.args.handle (Ok f) (core_of c.cache_put.new.t (λ key. None) false 0)) c.in-Ok-Some.field-0-is (c.in-Ok-Some.ensures.offered (λ key. None) 0)).answers in
+    let (row, owns, typed, (n, known, next, alike)) = (rw c.in-Ok-Some.field-0-is at (c.in-Ok-Some.ensures.offered (λ key. None) 0)).answers in
     stays-first (values-made c.args.t.now c.cache_put.new.t (λ key. None) false 0 (record { 0 = n })
     (mode_of c.args.kind.0) c.args.me c.cache_put.ensures.whole alike c.requires.whole (there n known)) c.give_number.ensures.sheds
 
 pub returns-in-Ok-None-clause-offered : goal.returns-in-Ok-None-clause-offered
 returns-in-Ok-None-clause-offered g c stored closed failures e =
-    let (row, owns, typed, learned) = (subst (λ f. Offered (core_of c.args.t.now stored false failures) c.args.me c.args.kind c.args.key c.args.handle (Ok f) (core_of c.cache_put.new.t stored false failures)) c.in-Ok-None.field-0-is (c.in-Ok-None.ensures.offered stored failures)).answers in
-    subst (λ b. OfferCall (core_of c.args.t.now stored b failures) c.args.me c.args.kind c.args.key c.args.handle (Ok None) (core_of c.cache_put.new.t stored b failures))
-    (sym (open-then c.args.lists closed c.if-not-lists.false e)) (record { answers = (row, owns, typed, (refl, learned.0, learned.1)); refused = tt })
+    let (row, owns, typed, learned) = (rw c.in-Ok-None.field-0-is at (c.in-Ok-None.ensures.offered stored failures)).answers in
+    rw (open-then c.args.lists closed c.if-not-lists.false e) (record { answers = (row, owns, typed, (refl, learned.0, learned.1)); refused = tt })
 
 pub returns-in-Ok-None-clause-sheds : goal.returns-in-Ok-None-clause-sheds
 returns-in-Ok-None-clause-sheds g c there =
-    let learned = (subst (λ f. Offered (core_of c.args.t.now (λ key. None) false 0) c.args.me c.args.kind c.args.key c.args.handle (Ok f) (core_of c.cache_put.new.t (λ key. None) false 0)) c.in-Ok-None.field-0-is (c.in-Ok-None.ensures.offered (λ key. None) 0)).answers.3.1 in
+    let learned = (rw c.in-Ok-None.field-0-is at (c.in-Ok-None.ensures.offered (λ key. None) 0)).answers.3.1 in
     stays-first (values-still c.args.t.now c.cache_put.new.t c.requires.whole c.cache_put.ensures.whole learned.rows learned.cells) (sheds-still c.cache_put.new.t.holdings _ c.cache_put.ensures.whole.steady)
 
 pub returns-in-Err-cache_put-clause-offered : goal.returns-in-Err-cache_put-clause-offered
 returns-in-Err-cache_put-clause-offered g c stored closed failures e =
-    subst (λ b. OfferCall (core_of c.args.t.now stored b failures) c.args.me c.args.kind c.args.key c.args.handle (Err c.in-Err-cache_put.e) (core_of c.cache_put.new.t stored b failures))
-    (sym (open-then c.args.lists closed c.if-not-lists.false e)) (record { answers = tt; refused = (c.in-Err-cache_put.ensures.offered stored failures).refused })
+    rw (open-then c.args.lists closed c.if-not-lists.false e) (record { answers = tt; refused = (c.in-Err-cache_put.ensures.offered stored failures).refused })
 
 pub returns-in-Ok-Some-clause-later : goal.returns-in-Ok-Some-clause-later
 returns-in-Ok-Some-clause-later g c later =

@@ -1,4 +1,4 @@
-use Rattle.pagable_tables.proofs.{Words.{refl, sym, subst, InReach, arith, core_of, plain_of, gives_row, Giving}, Begun.begun-whole, Doing.{listing, sheds-so}, Taken.{passes-given, at-node}, Newer.newer-falls}
+use Rattle.pagable_tables.proofs.{Words.{refl, sym, subst, InReach, arith, core_of, plain_of, gives_row, Giving}, Begun.begun-whole, Doing.{sheds-so}, Taken.{passes-given, at-node}, Newer.newer-falls}
 use Rattle.pagable_tables.proofs.{keeps.Fallen.falls-opened, keeps.Told.{stays-on, roomy-whole}}
 use Rattle.pagable_tables.proofs.workers.release_node.Goals as goal
 

@@ -2,12 +2,6 @@ use Rattle.pagable_tables.proofs.{Words.{◌+◌, arith, refl, nat_tests}, World
 use Rattle.pagable_tables.proofs.{Doing.does-by, keeps.WorkerCalls.worker-whole, Newer.{later-begun, later-less, newer-alike}}
 use Rattle.pagable_tables.proofs.workers.worker_begin.Goals as goal
 
-pub open-requires : goal.open-requires
-open-requires c = grind (arith, nat_tests, c.requires.core.workers_numbered)
-
-pub returns-clause-more : goal.returns-clause-more
-returns-clause-more c = one-more-works _ _ _ _ c.in-Ok.ensures.here c.in-Ok.ensures.others
-
 pub returns-in_default-clause-does : goal.returns-in_default-clause-does
 returns-in_default-clause-does c =
     does-by (λ stored closed failures. grind (arith, nat_tests, same-cache, c.in_default.ensures.err)) c.requires.steady (λ begun. alike-whole c.requires.core begun.refused.1)

@@ -1,4 +1,5 @@
-use Rattle.pagable_tables.{proofs.{Words.{subst, core_of, refl}, Taken.{begun-core, takes-worker}}, specs.Giving.BeginsWorker}
+use Rattle.pagable_tables.{proofs.{Words.{core_of, refl}, Taken.{begun-core, takes-worker}}}
+use Rattle.pagable_tables.proofs.Doing.{does-as}
 use Rattle.pagable_tables.proofs.workers.worker_take.Goals as goal
 
 pub returns : goal.returns
@@ -15,10 +16,4 @@ returns c =
     }
 
 pub returns-in-Err : goal.returns-in-Err
-returns-in-Err c =
-    let begun = c.worker_begin.ensures.does in
-    record {
-      does = λ stored closed failures. record { taken = tt; refused = (subst (λ r. BeginsWorker (core_of c.args.t.now stored closed failures) r (core_of c.worker_begin.new.t stored closed failures)) c.in-Err.is (begun.does stored closed failures)).refused };
-      whole = begun.whole;
-      later = begun.later;
-    }
+returns-in-Err c = does-as c.worker_begin.ensures.does (λ stored closed failures begun. record { taken = tt; refused = (rw c.in-Err.is at begun).refused })

@@ -1,14 +1,8 @@
-use Rattle.std.proofs.{Common.refl, Common.◌≡◌, Common.◌++◌, Common.take, lemmas.List.append-nil, lemmas.List.take_all}
+use Rattle.std.proofs.Common.{refl, ◌++◌, take}
 use Rattle.pagable_core.proofs.Weighing.{is_weighed_more, take_next}
 use Rattle.pagable_core.proofs.storage.weigh.WeighHashKeyHash.update.Goals as goal
-
-pub loop-byte-init : goal.loop-byte-init
-loop-byte-init c = λ front h. rw append-nil h
 
 pub loop-byte-preserved : goal.loop-byte-preserved
 loop-byte-preserved c = λ front h.
     rw (take_next c.args.bytes.now c.loop-byte.byte-index c.from.result front c.loop-byte-test.true c.from.ensures)
     (is_weighed_more c.loop-byte.self _ (front ++ take c.loop-byte.byte-index c.args.bytes.now) c.from.result (c.loop-byte.invariant front h) refl refl)
-
-pub returns : goal.returns
-returns c = λ front h. let all : take c.loop-byte.byte-index c.args.bytes.now ≡ c.args.bytes.now = take_all c.loop-byte.byte-index c.args.bytes.now c.loop-byte-test.false in rw all at (c.loop-byte.invariant front h)

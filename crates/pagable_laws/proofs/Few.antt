@@ -1,0 +1,325 @@
+-- A pager with few of each is whole, by facts about its first numbers that compute.
+use Rattle.pagable_laws.proofs.Words.{◌≡◌, ℕ, zero, suc, ◌<◌, ◌≤◌, ◌==◌, ◌&&◌, Bool, true, false, List, [], ◌∷◌, refl, ap, sym, subst, arith, All, not, Ok, None, is_some, nat_lt, nat_le, nat_eq}
+use Rattle.pagable_laws.proofs.Words.{and_parts, agree_below, agree_below_at, nat_tests, AllPairs-cons, Among, times, one, updated, Owner, HandleRow, is_shared, is_loose, is_owner, type_of}
+use Rattle.pagable_laws.proofs.Words.{is_owned_by, owner_value, is_at, is_pin, is_share, held, pins, sharing, Core, OpenLoad, Root, of_cell, of_key, row_at, type_at, Alike, loses_value}
+use Rattle.pagable_laws.proofs.Words.{owned_outside, is_outside, is_keyed, IsLeast, MustList, Falls, fallen, IsHandleBefore, length, ◌∙◌, inl, Option, Some, ArcRef, sample_references, value_at}
+use Rattle.pagable_laws.proofs.Words.{is_shared_kind, is_handle, is_here, references_fault, WellFormed, MayOwnLoad, IsRootWhole, no_work, Sample, sample, sample_type, machine}
+use Rattle.pagable_laws.proofs.{Sums.sum-zero, GoodReferences.good}
+use Rattle.std.specs.List.{AllPairs}
+
+-- ---- lists, options and numbers
+
+-- P of each; and of what there is
+abbrev pub Each : {X : Type 0} → (X → Type 0) → List X → Type 0
+Each P [] = Unit {0}
+Each P (x ∷ xs) = P x × Each P xs
+
+abbrev pub OfSome : {X : Type 0} → (X → Type 0) → Option X → Type 0
+OfSome P None = Unit {0}
+OfSome P (Some x) = P x
+
+of-some : {X : Type 0} (P : X → Type 0) {x : Option X} {y : X} → OfSome P x → x ≡ Some y → P y
+of-some P {x} {y} h is = subst (λ o. OfSome P o) is h
+
+each-among : {X : Type 0} (P : X → Type 0) (xs : List X) (x : X) → Each P xs → Among xs x → P x
+each-among P [] x h (i, is) = absurd (cc)
+each-among P (y ∷ ys) x h (zero, is) = of-some P {x = Some y} h.0 is
+each-among P (y ∷ ys) x h (suc i, is) = each-among P ys x h.1 (i, is)
+
+none-pass : {X : Type 0} (P : X → Type 0) (q : X → Bool) (xs : List X) → Each P xs → ((x : X) → P x → q x ≡ false) → times q xs ≡ 0
+none-pass P q xs all h = sum-zero (λ x. one (q x)) xs (λ x among. ap one (h x (each-among P xs x all among)))
+
+-- what holds of the first numbers and past them holds of all
+by-four : (P : ℕ → Type 0) → P 0 × P 1 × P 2 × P 3 → ((n : ℕ) → 3 < n → P n) → (n : ℕ) → P n
+by-four P h past zero = h.0
+by-four P h past (suc zero) = h.1
+by-four P h past (suc (suc zero)) = h.2
+by-four P h past (suc (suc (suc zero))) = h.3
+by-four P h past (suc (suc (suc (suc n)))) = past (suc (suc (suc (suc n)))) (omega arith)
+
+by-number : (k : ℕ) (f g : ℕ → Bool) → agree_below f g (suc k) ≡ true → ((n : ℕ) → k < n → f n ≡ g n) → (n : ℕ) → f n ≡ g n
+by-number k f g ok past n = part (nat_le n k) refl
+  where
+    part : (b : Bool) → nat_le n k ≡ b → f n ≡ g n
+    part true e = agree_below_at f g (suc k) n ok (grind (arith, nat_tests))
+    part false e = past n (grind (arith, nat_tests))
+
+pub updated-past : {X : Type 0} (k m : ℕ) (x d : X) (f : ℕ → X) → m ≤ k → ((n : ℕ) → k < n → f n ≡ d) → (n : ℕ) → k < n → updated m x f n ≡ d
+updated-past k m x d f le past n lt = let a : (n == m) ≡ false = grind (arith, nat_tests) in rw a (past n lt)
+
+-- ---- rows
+
+-- of the nodes up to 3, not shared, and owned by the values of these or by one who isn't the list
+abbrev pub OwnerLow : Owner → Type 0
+OwnerLow (Owner.Value n) = nat_le n.0 3 ≡ true
+OwnerLow Owner.List = ⊥
+OwnerLow owner = Unit {0}
+
+abbrev pub RowLow : HandleRow → Type 0
+RowLow h = (nat_le h.node.0 3 ≡ true) × (is_shared h.mode ≡ false) × OwnerLow h.owner
+
+abbrev pub IsLow : Core → Type 0
+IsLow w = Each RowLow w.rows
+
+module _ (rows : List HandleRow) (low : Each RowLow rows) where
+  node-low : (n : ℕ) → 3 < n → (h : HandleRow) → RowLow h → is_at n h ≡ false
+  node-low n lt h ok = let a = ok.0 in grind (arith, nat_tests)
+
+  held-past : (n : ℕ) → 3 < n → held n rows ≡ 0
+  held-past n lt = none-pass RowLow (is_at n) rows low (node-low n lt)
+
+  pins-past : (n : ℕ) → 3 < n → pins n rows ≡ 0
+  pins-past n lt = none-pass RowLow (is_pin n) rows low (λ h ok. let a = node-low n lt h ok in rw a refl)
+
+  unshared : (n : ℕ) → sharing n rows ≡ 0
+  unshared n = none-pass RowLow (is_share n) rows low (λ h ok. and-false (is_at n h) (is_shared h.mode) ok.1)
+    where
+      and-false : (a b : Bool) → b ≡ false → (a && b) ≡ false
+      and-false a b is = grind (arith, nat_tests)
+
+  owner-past : (n : ℕ) → 3 < n → (o : Owner) → OwnerLow o → is_owner (owner_value n) o ≡ false
+  owner-past n lt x2 ok = grind (arith, nat_tests)
+
+  owned-past : (n : ℕ) → 3 < n → (more : HandleRow → Bool) → times (λ h. is_owned_by (owner_value n) h && more h) rows ≡ 0
+  owned-past n lt more = none-pass RowLow (λ h. is_owned_by (owner_value n) h && more h) rows low (λ h ok. let a = owner-past n lt h.owner ok.2 in rw a refl)
+
+  owns-past : (n : ℕ) → 3 < n → times (is_owned_by (owner_value n)) rows ≡ 0
+  owns-past n lt = none-pass RowLow (is_owned_by (owner_value n)) rows low (λ h ok. owner-past n lt h.owner ok.2)
+
+-- ---- what falls
+
+pub alike-self : (w : Core) → Alike w w
+alike-self w = grind (arith, nat_tests, and_parts)
+
+-- no cell without a key loses its last pin
+abbrev pub lists_none : Core → Core → (ℕ → Bool) → ℕ → Bool
+lists_none before w gone n = nat_lt 0 (pins n before.rows) && (nat_eq (pins n (fallen w gone []).rows) 0 && not (is_keyed w n))
+
+-- a value that goes owns a handle that isn't given
+abbrev pub takes_more : Core → (ℕ → Bool) → ℕ → Bool
+takes_more w given n = loses_value w.rows (is_keyed w) [] given n && nat_lt 0 (owned_outside w.rows given n)
+
+abbrev pub never : ℕ → Bool
+never n = false
+
+pub falls-so : (before w : Core) (given gone : ℕ → Bool) → IsLow before → nat_le w.last.handle 9 ≡ true → agree_below (lists_none before w gone) never 4 ≡ true
+    → IsLeast w.rows (is_keyed w) [] given gone → Falls before w given (Ok tt) (fallen w gone [])
+falls-so before w given gone low few none least =
+    record {
+      gone = gone;
+      entries = [];
+      set = least;
+      new = tt;
+      only = λ n some. absurd (omega arith);
+      each = λ n must. absurd (no-must n must);
+      tells = record { all = λ n must. absurd (no-must n must); not_all = tt };
+      within = let b : w.last.handle ≤ 9 = grind (arith, nat_tests) in omega arith;
+      leaves = alike-self (fallen w gone []);
+    }
+  where
+    no-must : (n : ℕ) → MustList before w (fallen w gone []) n → ⊥
+    no-must n must =
+        let is_none = by-number 3 (lists_none before w gone) never none (λ n lt. let a = pins-past before.rows low n lt in rw a refl) n in
+        let a = must.pinned in let b = must.unpinned in let c = must.unkeyed in grind (arith, nat_tests)
+
+-- the given handles fall alone, if no value that goes owns another
+abbrev pub AreAlone : Core → Core → (ℕ → Bool) → Type 0
+AreAlone before w given =
+    IsLow before × IsLow w × (nat_le w.last.handle 9 ≡ true) × (agree_below (lists_none before w given) never 4 ≡ true) × (agree_below (takes_more w given) never 4 ≡ true)
+
+pub falls-alone : (before w : Core) (given : ℕ → Bool) → AreAlone before w given → Falls before w given (Ok tt) (fallen w given [])
+falls-alone before w given (low_before, low, few, none, ok) =
+    falls-so before w given given low_before few none (record {
+      holds = sum-zero (λ h. one (given h.number.0 && not (given h.number.0))) w.rows (λ h among. self (given h.number.0));
+      closed = λ n goes. let a = by-number 3 (takes_more w given) never ok (λ n lt. past (loses_value w.rows (is_keyed w) [] given n) (owned-past w.rows low n lt (is_outside given))) n in
+          grind (arith, nat_tests);
+      least = λ t holds closed. holds;
+    })
+  where
+    self : (b : Bool) → one (b && not b) ≡ 0
+    self true = refl
+    self false = refl
+
+    past : {k : ℕ} (b : Bool) → k ≡ 0 → (b && nat_lt 0 k) ≡ false
+    past true e = rw e refl
+    past false e = refl
+
+-- ---- what is whole
+
+-- no cell past the node 3, no load past 3, no worker past 1; and the cache knows the node 3 at most, by the kind 4 and the key 8
+abbrev pub Few : Core → Type 0
+Few w =
+    ((n : ℕ) → 3 < n → w.cells n ≡ None) × ((l : ℕ) → 3 < l → w.loads l ≡ None) × ((v : ℕ) → 1 < v → w.workers v ≡ false)
+    × ((kind key n : ℕ) → w.cache kind key ≡ Some n → (kind ≡ 4) × (key ≡ 8) × (n ≡ 3))
+
+-- the handles stand in the order of their numbers, which are above this one
+abbrev pub Rises : ℕ → List HandleRow → Type 0
+Rises low [] = Unit {0}
+Rises low (h ∷ hs) = (nat_lt low h.number.0 ≡ true) × Rises h.number.0 hs
+
+ordered : (low : ℕ) (rows : List HandleRow) → Rises low rows → AllPairs IsHandleBefore rows × All (λ (h : HandleRow). low < h.number.0) rows
+ordered low [] ok = (λ i j d lt within. absurd (omega arith), λ j d within. absurd (omega arith))
+ordered low (h ∷ hs) (first, more) =
+    let rest = ordered h.number.0 hs more in (AllPairs-cons IsHandleBefore h hs rest.1 rest.0, at (grind (arith, nat_tests)) rest.1)
+  where
+    at : low < h.number.0 → All (λ (x : HandleRow). h.number.0 < x.number.0) hs → All (λ (x : HandleRow). low < x.number.0) (h ∷ hs)
+    at first others zero d within = first
+    at first others (suc j) d within = let a = others j d (omega arith) in omega arith
+
+-- a handle's number was given, and its owner is there
+abbrev pub OwnerThere : Core → Owner → Type 0
+OwnerThere w (Owner.Load l) = is_some (w.loads l.0) ≡ true
+OwnerThere w (Owner.Worker v) = w.workers v.0 ≡ true
+OwnerThere w owner = Unit {0}
+
+abbrev pub RowThere : Core → HandleRow → Type 0
+RowThere w h = (nat_lt 0 h.number.0 ≡ true) × (nat_le h.number.0 w.last.handle ≡ true) × OwnerThere w h.owner
+
+abbrev pub RootFits : Core → Root → Type 0
+RootFits w (of_cell node t h) =
+    OfSome (λ u. u ≡ t) (type_at w node.0) × OfSome (λ (row : HandleRow). (row.node ≡ node) × (is_loose row.mode ≡ true)) (row_at w h)
+    × (nat_le h.0 w.last.handle ≡ true) × (nat_le node.0 w.last.node ≡ true)
+RootFits w of_key = Unit {0}
+
+abbrev pub LoadFits : Core → ℕ → OpenLoad → Type 0
+LoadFits w l load = (nat_lt 0 l ≡ true) × (nat_le l w.last.load ≡ true) × (load.owner ≡ Owner.Caller) × RootFits w load.root
+
+-- how often a value refers to a handle, and the value of the node owns it; which is the same
+abbrev pub refers : Sample → ℕ → ℕ
+refers x q = times (λ (r : ArcRef). r.handle.0 == q) (sample_references x)
+
+abbrev pub owns : Core → ℕ → ℕ → ℕ
+owns w n q = times (λ h. is_handle q h && is_owned_by (owner_value n) h) w.rows
+
+abbrev pub ValueFits : Core → ℕ → Option Sample → Type 0
+ValueFits w n None = times (is_owned_by (owner_value n)) w.rows ≡ 0
+ValueFits w n (Some x) =
+    (type_at w n ≡ Some (sample_type x)) × (agree_below (λ q. nat_eq (refers x q) (owns w n q)) (λ q. true) 10 ≡ true)
+    × Each (λ (r : ArcRef). nat_le r.handle.0 9 ≡ true) (sample_references x) × (references_fault w (owner_value n) [] (sample_references x) ≡ None)
+
+-- what is asked of the node and of the load of this number
+abbrev pub NumberFits : Core → List (Option Sample) → ℕ → Type 0
+NumberFits w vs n =
+    ((is_some (w.cells n) && not (nat_lt 0 n && nat_le n w.last.node)) ≡ false) × (is_some (w.cells n) ≡ nat_lt 0 (held n w.rows))
+    × (is_some (value_at vs n) ≡ (is_some (w.cells n) && is_here w n)) × ValueFits w n (value_at vs n) × OfSome (LoadFits w n) (w.loads n)
+
+-- all that is asked of a pager with few of each: of its handles, of it as a whole, and of each number
+pub record HandlesFit (w : Core) : Type 0 where
+  pub low : IsLow w
+  pub rise : Rises 0 w.rows
+  pub there : Each (RowThere w) w.rows
+
+pub record Stands (w : Core) (vs : List (Option Sample)) : Type 0 where
+  pub short : nat_le (length vs) 4 ≡ true
+  pub list : w.list ≡ []
+  pub stands_open : w.closed ≡ false
+  pub room : (nat_le w.last.handle 9 ≡ true) × (nat_le w.last.node 3 ≡ true) × (nat_le w.last.load 3 ≡ true) × (nat_le (length w.rows) w.places.handles ≡ true)
+  pub workers : (w.workers 0 ≡ false) × ((w.workers 1 && not (nat_le 1 w.last.worker)) ≡ false)
+  pub third : OfSome (λ t. t ≡ 1) (type_at w 3) × OfSome (λ n. nat_le n w.last.node ≡ true) (w.cache 4 8)
+
+pub record Passes (w : Core) (vs : List (Option Sample)) : Type 0 where
+  pub handles : HandlesFit w
+  pub stands : Stands w vs
+  pub numbers : NumberFits w vs 0 × NumberFits w vs 1 × NumberFits w vs 2 × NumberFits w vs 3
+
+past-end : (vs : List (Option Sample)) (n : ℕ) → length vs ≤ n → value_at vs n ≡ None
+unfolding value_at
+past-end (x ∷ xs) (suc n) few = past-end xs n (omega arith)
+past-end x0 x1 few = grind (arith, nat_tests)
+
+module _ (w : Core) (vs : List (Option Sample)) (few : Few w) (p : Passes w vs) where
+  number : (n : ℕ) → NumberFits w vs n
+  number = by-four (NumberFits w vs) p.numbers past
+    where
+      past : (n : ℕ) → 3 < n → NumberFits w vs n
+      past n lt =
+          let short = p.stands.short in let none : value_at vs n ≡ None = past-end vs n (grind (arith, nat_tests)) in
+          let a = few.0 n lt in let b = few.1 n lt in let c = held-past w.rows p.handles.low n lt in rw (a, b, c, none) (refl, refl, refl, owns-past w.rows p.handles.low n lt, tt)
+
+  row : (h : HandleRow) → Among w.rows h → RowThere w h
+  row h among = each-among (RowThere w) w.rows h p.handles.there among
+
+  low : (h : HandleRow) → Among w.rows h → RowLow h
+  low h among = each-among RowLow w.rows h p.handles.low among
+
+  load : (l : ℕ) (load : OpenLoad) → w.loads l ≡ Some load → LoadFits w l load
+  load l x is = of-some (LoadFits w l) (number l).4 is
+
+  load-numbered : (l : ℕ) (found : Option OpenLoad) → OfSome (LoadFits w l) found → is_some found ≡ true → (0 < l) × (l ≤ w.last.load)
+  load-numbered l x1 fits some = grind (arith, nat_tests)
+
+  node-numbered : (n : ℕ) → is_some (w.cells n) ≡ true → (0 < n) × (n ≤ w.last.node)
+  node-numbered n some = let a = (number n).0 in grind (arith, nat_tests, and_parts)
+
+  root-whole : (node : _) (t : ℕ) (h : _) → RootFits w (of_cell node t h) → IsRootWhole w node t h
+  root-whole node t h (typed, begun, given, node_given) =
+      record { typed = λ type at. of-some (λ u. u ≡ t) typed at; begun = λ r at. of-some _ begun at; given = (grind (arith, nat_tests), grind (arith, nat_tests)) }
+
+  value : (n : ℕ) (x : Sample) → value_at vs n ≡ Some x → ValueFits w n (Some x)
+  value n x is = subst (λ o. ValueFits w n o) is (number n).3
+
+  inside : (n : ℕ) (x : Sample) (q : ℕ) → value_at vs n ≡ Some x → refers x q ≡ owns w n q
+  inside n x q is = let a = by-number 9 (λ q. nat_eq (refers x q) (owns w n q)) (λ q. true) (value n x is).1 past q in grind (arith, nat_tests)
+    where
+      past : (q : ℕ) → 9 < q → nat_eq (refers x q) (owns w n q) ≡ true
+      past q lt =
+          let few = p.stands.room.0 in
+          let a : refers x q ≡ 0 = none-pass (λ (r : ArcRef). nat_le r.handle.0 9 ≡ true) (λ r. r.handle.0 == q) (sample_references x) (value n x is).2 (λ r ok. grind (arith, nat_tests)) in
+          let b : owns w n q ≡ 0 = none-pass (RowThere w) (λ h. is_handle q h && is_owned_by (owner_value n) h) w.rows p.handles.there
+          (λ h ok. let c = ok.1 in let d : is_handle q h ≡ false = grind (arith, nat_tests) in rw d refl) in
+          rw (a, b) refl
+
+  list-owns-none : (q : ℕ) → times (λ h. is_handle q h && is_owned_by Owner.List h) w.rows ≡ 0
+  list-owns-none q = none-pass RowLow (λ h. is_handle q h && is_owned_by Owner.List h) w.rows p.handles.low (λ h ok. not-list (is_handle q h) h.owner ok.2)
+    where
+      not-list : (b : Bool) (o : Owner) → OwnerLow o → (b && is_owner Owner.List o) ≡ false
+      not-list x0 x1 ok = grind (arith, nat_tests)
+
+  worker-numbered : (v : ℕ) → w.workers v ≡ true → v ≤ w.last.worker
+  worker-numbered zero is = omega arith
+  worker-numbered (suc zero) is = let a = p.stands.workers.1 in grind (arith, nat_tests)
+  worker-numbered (suc (suc v)) is = let e = few.2 (suc (suc v)) (omega arith) in absurd (cc)
+
+  pub whole-so : WellFormed sample (machine w vs no_work).pager
+  whole-so =
+      let (few_handles, few_nodes, few_loads, enough) = p.stands.room in
+      record {
+        whole = record {
+          handles = record {
+            ordered = (ordered 0 w.rows p.handles.rise).0;
+            numbered = λ h among. let (a, b, c) = row h among in (grind (arith, nat_tests), grind (arith, nat_tests));
+            nodes_numbered = node-numbered;
+            within = let a : w.last.handle ≤ 9 = grind (arith, nat_tests) in let b : w.last.node ≤ 3 = grind (arith, nat_tests) in let c : w.last.load ≤ 3 = grind (arith, nat_tests) in
+                (omega arith, omega arith, omega arith);
+            live = λ n. (number n).1;
+            uniform = λ n. inl (unshared w.rows p.handles.low n);
+            unkeyed = λ n some. let a = unshared w.rows p.handles.low n in absurd (omega arith);
+            places = (grind (arith, nat_tests), let e : length w.list ≡ 0 = ap length p.stands.list in omega arith);
+          };
+          owners_there = record {
+            listed = λ q. subst (λ hs. times (λ h. h.0 == q) hs ≡ times (λ h. is_handle q h && is_owned_by Owner.List h) w.rows) (sym p.stands.list) (sym (list-owns-none q));
+            waiting = λ h among is. absurd (subst (λ o. OwnerLow o) is (low h among).2);
+            loads = λ h l among is. subst (λ o. OwnerThere w o) is (row h among).2;
+            workers = λ h v among is. subst (λ o. OwnerThere w o) is (row h among).2;
+          };
+          loads = record {
+            numbered = λ l some. load-numbered l (w.loads l) (number l).4 some;
+            owned = λ l x is. subst (λ o. MayOwnLoad w o) (sym (load l x is).2) tt;
+            roots = λ l x node t h is root. root-whole node t h (subst (λ r. RootFits w r) root (load l x is).3);
+          };
+          cache = λ kind key n is. let (four, eight, three) = few.3 kind key n is in
+              record {
+                given = let a : w.cache 4 8 ≡ Some n = cc in let b = of-some (λ n. nat_le n w.last.node ≡ true) p.stands.third.1 a in grind (arith, nat_tests);
+                typed = λ t at. of-some (λ t. t ≡ 1) p.stands.third.0 (subst (λ k. type_at w k ≡ Some t) three at) ∙ ap type_of (sym four);
+                shares = λ h among at. (low h among).1 ∙ ap is_shared_kind (sym four);
+              };
+          workers_numbered = worker-numbered;
+          shut = λ closed. let e = p.stands.stands_open in absurd (cc);
+        };
+        counted = λ n. refl;
+        valued = λ n. (number n).2;
+        typed = λ n x is. (value n x is).0;
+        inside = λ n x q is. inside n x q is;
+        bare = λ n is. subst (λ o. ValueFits w n o) is (number n).3;
+        references = λ n x r is among. good w (owner_value n) [] (sample_references x) (value n x is).3 r among;
+      }
