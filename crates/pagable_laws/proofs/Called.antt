@@ -10,7 +10,7 @@ use Rattle.pagable_laws.proofs.Goes.{Goes, NotLoads, a-handle, quiet-goes, goes-
 use Rattle.pagable_laws.proofs.Effects.{Effect, Ours, IsMine, none, handle, turned, moves, cached, cached-if, opens, shuts, like, fell, own-mode, node, with-key, beside, forgets, stays}
 use Rattle.pagable_laws.proofs.Effects.{own-handle, own-named, load-named, none-named, load-owns, but, no-one, entry, handed, owned-mine, unfaulty-mine, both-none}
 use Rattle.pagable_laws.proofs.{Sums.same-number, Trees.same_some, GoodReferences.{good, alike-away, fell-away}}
-use Rattle.pagable_world.specs.Events.{Does}
+use Rattle.pagable_world.specs.{Events.Does, LoadCalls.MayEnd}
 
 -- ---- each call, and what loads do, by whoever asks
 
@@ -19,13 +19,7 @@ stored-still adds q b is = grind (arith, same-number)
 
 begun-well : (w : Core) (me : Owner) (node : NodeNumber) (t : ℕ) (h : HandleNumber) (key : ℕ) → type_at w node.0 ≡ Some t → key_at w node.0 ≡ OptionalDataKey.Some key
     → BeginsWell w (record { owner = me; key = key; root = of_cell node t h })
-begun-well w me node t h key typed own a u k root = grind (arith, node-is, type-is)
-  where
-    node-is : {a b : NodeNumber} {t u : ℕ} {h k : HandleNumber} → of_cell a t h ≡ of_cell b u k → a ≡ b
-    node-is is = cc
-
-    type-is : {a b : NodeNumber} {t u : ℕ} {h k : HandleNumber} → of_cell a t h ≡ of_cell b u k → t ≡ u
-    type-is is = cc
+begun-well w me node t h key typed own a u k root = grind (arith, nat_tests)
 
 module _ {me : Owner} {lists : Bool} {Asks Leaves : Type 0} {c : Change} where
   -- nothing changes: what search knows of any asker, it applies here of this one
@@ -100,40 +94,29 @@ module _ {me : Owner} {lists : Bool} {Asks Leaves : Type 0} {c : Change} where
         (but (is_owned_in w (Owner.Load l)) (is_in (numbers_of hs)) (load-owns w l))
     hands-over l hs (Err e) x = stays x.refused.1
 
-    pub ends-load : {N : Type 0} {w w' : Core} {x : N} {t : ℕ} {references : List ArcRef} (l : LoadNumber) (r : Result HandleNumber (Error × Option N)) → EndCall w me l x t references r w'
-        → Effect me lists Asks Leaves false c w w'
-    ends-load {w = w} {w'} {references = references} l (Ok k) e = elim i.falls [
-      | inl (away, f) ↦ fell (handle (turned (moves closed (is_named_by references) (owner_value p.0) w.list (λ l is. absurd (cc)) named) h Mode.LoosePinned refl ours pinned-free) p Mode.Pinned me) f.falls
-          (but (is_owned_in w (Owner.Load l)) (is_named_by references) (load-owns w l))
-      | inr (there, f) ↦ fell (handle (turned closed h Mode.LoosePinned refl ours own-free) p Mode.Pinned me) f.falls (load-owns w l)
+    -- the caller's handle was not a load's, and isn't one's after references have moved to the value
+    installed : {w w' : Core} {t : ℕ} {references : List ArcRef} {k : HandleNumber} (l : LoadNumber) (p : NodeNumber) (h : HandleNumber) → MayEnd w me l p h t references
+        → Installs w me l p h k references w' → Effect me lists Asks Leaves false c w w'
+    installed {w} {w'} {references = references} l p h may i = elim i.falls [
+      | inl (away, f) ↦ fell (handle (turned (moves closed (is_named_by references) (owner_value p.0) w.list (λ l is. absurd (cc)) (load-named w l references (good w (Owner.Load l) [] references may.good)))
+          h Mode.LoosePinned refl (own-handle h i.row i.owned) pinned-free) p Mode.Pinned me) f.falls (but (is_owned_in w (Owner.Load l)) (is_named_by references) (load-owns w l))
+      | inr (there, f) ↦ fell (handle (turned closed h Mode.LoosePinned refl (own-handle h i.row i.owned) own-free) p Mode.Pinned me) f.falls (load-owns w l)
     ]
       where
-        p : NodeNumber
-        p = e.installs.0
-
-        h : HandleNumber
-        h = e.installs.1
-
-        i : Installs w me l p h k references w'
-        i = e.installs.3
-
         closed : Effect me lists Asks Leaves true c w (without_load w l)
-        closed = shuts (none w) l (λ own. owned-mine e.installs.2.owned)
-
-        ours : Ours me lists w (only_handle h)
-        ours = own-handle h i.row i.owned
-
-        named : Ours me lists w (is_named_by references)
-        named = load-named w l references (good w (Owner.Load l) [] references e.installs.2.good)
+        closed = shuts (none w) l (λ own. owned-mine may.owned)
 
         own-free : (r : HandleRow) → find_row h.0 w.rows ≡ Some r → NotLoads r.owner
         own-free r found = subst NotLoads (sym (ap (λ (x : HandleRow). x.owner) (same_some _ _ (sym found ∙ i.owned.live)) ∙ i.owned.own)) free
 
-        -- the caller's handle was not a load's, and isn't one's after references have moved to the value
         pinned-free : (r : HandleRow) → find_row h.0 (moved (is_named_by references) (owner_value p.0) w.rows) ≡ Some r → NotLoads r.owner
         pinned-free r found l is =
             let c = found-changed (λ (r : HandleRow). is_named_by references r.number.0) (λ row. record row { owner = owner_value p.0 }) (λ r. refl) h.0 w.rows r found in
             grind (arith, nat_tests, found-changed, same_some, own-free)
+
+    pub ends-load : {N : Type 0} {w w' : Core} {x : N} {t : ℕ} {references : List ArcRef} (l : LoadNumber) (r : Result HandleNumber (Error × Option N)) → EndCall w me l x t references r w'
+        → Effect me lists Asks Leaves false c w w'
+    ends-load l (Ok k) e = let (p, h, may, i) = e.installs in installed l p h may i
     ends-load l (Err (e, Some y)) x = stays x.refused.1.stays
     ends-load l (Err (e, None)) x = closes l (λ own. owned-mine x.refused.may.owned) x.refused.closes
 

@@ -8,7 +8,7 @@ use Rattle.pagable_laws.proofs.Words.{to_set, Written, next_start, first_todo, i
 use Rattle.pagable_laws.proofs.{Words.{IsMetFailure, steps_after, Leads}, Standing.{same-worker, puts-slot, SlotChanges, ShelfGrows, some-none, some-same, grows, same-slots, meets-grow, CoversBy}}
 use Rattle.pagable_laws.proofs.Standing.{Goes, plain, fails, swaps, gives, given-open, all-stay, SameSlots, Turned, work-stands, is-quiet, is-started, is-stepped, is_open_in, AllStand, Covers}
 use Rattle.pagable_laws.proofs.{Standing.{HasNoFailed, WorkStands, claimed, written-goes, published-goes, failed-goes, is_failed}, Called.calls-go, ReadingSteps.{caller-free, reading-feels}}
-use Rattle.pagable_laws.proofs.{ReadingSteps.walk-goes, Nexts.steps_follow}
+use Rattle.pagable_laws.proofs.{ReadingSteps.walk-goes, Joining.steps_follow, Decoding.{among-left, among-right}, Goes.le-of}
 use Rattle.std.{proofs.Common.{length-append, append-nil}, specs.List.sum_by, proofs.lemmas.Bool.{false_from_ne_true, cases_Bool}}
 use Rattle.pagable_laws.proofs.Called as calling
 use Rattle.pagable_laws.proofs.Standing.{WaitsWell, follows-waits}
@@ -91,9 +91,6 @@ pub record EventTurns {N B W : Type 0} (m : Seen N B W) (u : World) (event : Eve
   pub others : (n : ℕ) → nat_eq n who ≡ false → step_of n event reply ≡ []
   pub own : OwnTurn m u who (step_of who event reply) u'
 
-le-of : {a b : ℕ} → b ≡ a → a ≤ b
-le-of e = omega arith
-
 pub updated-at : {X : Type 0} (n : ℕ) (x : X) (f : ℕ → X) → updated n x f n ≡ x
 updated-at n x f = let a : (n == n) ≡ true = grind (arith, nat_tests) in ap (λ b. if b then x else f n) a
 
@@ -129,7 +126,7 @@ module _ {N B W : Type 0} (m : Seen N B W) (u u' : World) (work : StandsIn u) wh
     by-work no_step last w = quiet no_step last (λ t i. (w.shelves t).slots i) w.walkings
 
     unchanged : ((n : ℕ) → step_of n event reply ≡ []) → Stays u u' → EventTurns m u event reply u'
-    unchanged no_step s = by-work no_step (le-of (ap (λ l. l.worker) s.core.last)) s.work
+    unchanged no_step s = by-work no_step (le-of _ _ (ap (λ l. l.worker) s.core.last)) s.work
 
     starts : ((n : ℕ) → step_of n event reply ≡ []) → (t : TableNumber) (task : Task) (core : Core) (v : WorkerNumber) → core.last.worker ≡ u.core.last.worker → Starts u t task core v u'
         → EventTurns m u event reply u'
@@ -153,7 +150,7 @@ module _ {N B W : Type 0} (m : Seen N B W) (u u' : World) (work : StandsIn u) wh
 
     tabled : ((n : ℕ) → step_of n event reply ≡ []) → KnowsTables u → (t : TableNumber) → t.0 ≡ u.work.last_table + 1 → Alike u.core u'.core
         → WorkIs (updated t.0 no_shelf u.work.shelves) t.0 u.work.walkings u'.work → EventTurns m u event reply u'
-    tabled no_step tables t is a w = quiet no_step (le-of (ap (λ l. l.worker) a.last)) (λ q i. same q i (nat_eq q t.0) refl) w.same_walkings
+    tabled no_step tables t is a w = quiet no_step (le-of _ _ (ap (λ l. l.worker) a.last)) (λ q i. same q i (nat_eq q t.0) refl) w.same_walkings
       where
         nothing : (i : Identity) (o : Option Slot) → (u.work.shelves t.0).slots i ≡ o → None ≡ o
         nothing i None there = refl
@@ -357,21 +354,13 @@ module _ {W : Type 0} (f : W → Written) where
 
 -- ---- what a worker fails with: a refusal that a step of its own met, or that another's claim has failed where its walk came
 
-among-left : {X : Type 0} (xs ys : List X) (x : X) → Among xs x → Among (xs ++ ys) x
-among-left (y ∷ xs) ys x (suc i, is) = let a = among-left xs ys x (i, is) in (suc a.0, a.1)
-among-left x0 ys x x3 = grind (arith, nat_tests)
-
-pub among-last : {X : Type 0} (xs : List X) (x : X) → Among (xs ++ x ∷ []) x
-among-last [] x = (zero, refl)
-among-last (y ∷ xs) x = let a = among-last xs x in (suc a.0, a.1)
-
 -- another's claim that has failed stays so
 pub failed-stays : (n : ℕ) (shelf shelf' : Shelf) (i : Identity) → ShelfGrows shelf shelf' → FailedElsewhere shelf n i → FailedElsewhere shelf' n i
 failed-stays n shelf shelf' i more was = grind arith
 
 module _ {W : Type 0} (n : ℕ) where
   pub met-stays : (shelf shelf' : Shelf) (past more : List (Took W)) (answer : WorkerAnswer) → ShelfGrows shelf shelf' → IsMetFailure shelf n past answer → IsMetFailure shelf' n (past ++ more) answer
-  met-stays shelf shelf' past more x4 grown x6 = grind (arith, nat_tests, among-left, failed-stays)
+  met-stays shelf shelf' past more x4 grown x6 = grind (arith, nat_tests, λ (x : Took W) (a : Among past x). among-left past more a.0 x a.1, failed-stays)
 
   -- ---- what is to be done
 
@@ -496,41 +485,25 @@ module _ {N B W : Type 0} (m : Seen N B W) (u u' : World) (grow : (t : ℕ) → 
   went-on : StandsIn u → (k : WorkerNumber) (reply : WorkerReply W) (past : List (Took W)) → WorkerSteps m u k reply u' → HasGone f k.0 u.work.shelves (u.work.walkings k.0) past
       → HasGone f k.0 u'.work.shelves (u'.work.walkings k.0) (past ++ reply.took ∷ [])
   went-on work k reply past s gone =
-      let w = s.walking in
+      let w : Walking = s.walking in
+      let shelf : Shelf = u.work.shelves w.table in
+      let shelf' : Shelf = u'.work.shelves w.table in
+      let site : Site = record { core = u.core; shelf = shelf; todo = w.todo } in
       let now : Walking = record w { todo = s.after.todo; steps = reply.steps; answer = reply.answer } in
       let new : u'.work.walkings k.0 ≡ Some now = s.work.same_walkings k.0 ∙ updated-at k.0 (Some now) u.work.walkings in
-      subst (λ o. HasGone f k.0 u'.work.shelves o (past ++ reply.took ∷ [])) (sym new) (more (subst (λ o. HasGone f k.0 u.work.shelves o past) s.at gone))
-    where
-      w : Walking
-      w = s.walking
-
-      shelf : Shelf
-      shelf = u.work.shelves w.table
-
-      shelf' : Shelf
-      shelf' = u'.work.shelves w.table
-
-      site : Site
-      site = record { core = u.core; shelf = shelf; todo = w.todo }
-
-      follows : Follows f w.todo reply.took s.after.todo
-      follows = steps_follow m k.0 site s.after reply.took s.does
-
-      already : (i : Identity) → reply.took ≡ Took.Claim i (Ok Claim.AlreadyFailed) → FailedElsewhere shelf' k.0 i
-      already i is =
-          failed-stays k.0 shelf shelf' i (grow w.table)
-          (failed-elsewhere m k.0 site s.after w.todo i (subst (λ step. Does m k.0 site w.todo step s.after) is s.does.does) ((work.workers k.0 w s.at).unfailed s.at_work))
-
-      more : Went f k.0 shelf w past → Went f k.0 shelf' (record w { todo = s.after.todo; steps = reply.steps; answer = reply.answer }) (past ++ reply.took ∷ [])
-      more was =
-          let fails = fails-stay k.0 shelf shelf' past (reply.took ∷ []) w.todo (grow w.table) was.fails in
-          record {
-            leads = leads-more f (first_todo w.task) past w.todo reply.took s.after.todo was.leads follows;
-            fails = follows-met k.0 shelf' (past ++ reply.took ∷ []) f w.todo reply.took s.after.todo follows (among-last past reply.took) already fails;
-            met = λ answer is. answered k.0 shelf' (past ++ reply.took ∷ []) w.todo reply.took answer (sym s.answers ∙ is) fails;
-            within = within-after f w.task w.todo s.after.todo w.steps reply.steps past reply.took
-                (subst (λ n. n ≤ w.steps + one (is_counted w.todo reply.took)) (sym s.counts) (counted w.steps (is_counted w.todo reply.took))) follows was.within;
-          }
+      let was : Went f k.0 shelf w past = subst (λ o. HasGone f k.0 u.work.shelves o past) s.at gone in
+      let follows = steps_follow m k.0 site s.after reply.took s.does in
+      let fails = fails-stay k.0 shelf shelf' past (reply.took ∷ []) w.todo (grow w.table) was.fails in
+      let already : (i : Identity) → reply.took ≡ Took.Claim i (Ok Claim.AlreadyFailed) → FailedElsewhere shelf' k.0 i = λ i is. failed-stays k.0 shelf shelf' i (grow w.table)
+      (failed-elsewhere m k.0 site s.after w.todo i (subst (λ step. Does m k.0 site w.todo step s.after) is s.does.does) ((work.workers k.0 w s.at).unfailed s.at_work)) in
+      let on : Went f k.0 shelf' now (past ++ reply.took ∷ []) = record {
+        leads = leads-more f (first_todo w.task) past w.todo reply.took s.after.todo was.leads follows;
+        fails = follows-met k.0 shelf' (past ++ reply.took ∷ []) f w.todo reply.took s.after.todo follows (among-right past (reply.took ∷ []) 0 reply.took refl) already fails;
+        met = λ answer is. answered k.0 shelf' (past ++ reply.took ∷ []) w.todo reply.took answer (sym s.answers ∙ is) fails;
+        within = within-after f w.task w.todo s.after.todo w.steps reply.steps past reply.took
+            (subst (λ n. n ≤ w.steps + one (is_counted w.todo reply.took)) (sym s.counts) (counted w.steps (is_counted w.todo reply.took))) follows was.within;
+      } in
+      subst (λ o. HasGone f k.0 u'.work.shelves o (past ++ reply.took ∷ [])) (sym new) on
 
 -- whatever an event does, its steps are added
 pub goes-on : {N B W : Type 0} (m : Seen N B W) (u u' : World) (event : Event N B W) (reply : EventReply N B W) → StandsIn u → EventTurns m u event reply u' → (n : ℕ) (past : List (Took W))

@@ -207,16 +207,6 @@ module _ (mine : Owner) where
         other (sym is.owned ∙ (sym (same-row is.row s is.live (sym a.2)) ∙ own)));
   }
 
-  -- what a load owns isn't the owner's
-  pub load-free : IsApart mine → (w : Core) (l : LoadNumber) → Free w (is_owned_in w (Owner.Load l))
-  load-free apart w l = record { each = λ q row own s. ap (λ (f : Option HandleRow). if_there (is_owned_by (Owner.Load l)) false f) s.live ∙ (ap (is_owner (Owner.Load l)) own ∙ apart.no_load l) }
-
-  pub both-free : {w : Core} (f g : ℕ → Bool) → Free w f → Free w (λ q. f q && not (g q))
-  both-free f g free = record { each = λ q row own s. ap (λ b. b && not (g q)) (free.each q row own s) }
-
-  pub nobody-free : {w : Core} → Free w nobody
-  nobody-free = record { each = λ q row own s. refl }
-
   -- an entry of the list isn't the owner's
   pub listed-free : is_owner Owner.List mine ≡ false → {w : Core} → OwnersAreThere w → (i : ℕ) (h : HandleNumber) → slice_get w.list i ≡ Some h → Free w (only_handle h)
   listed-free unlisted {w} there i h at = record {
@@ -318,13 +308,15 @@ module _ {me : Owner} {lists : Bool} where
   own-named w references right mine o = named-free mine w me references o.other right
 
   pub load-owns : (w : Core) (l : LoadNumber) → Ours me lists w (is_owned_in w (Owner.Load l))
-  load-owns w l mine o = load-free mine o.apart w l
+  load-owns w l mine o = record {
+    each = λ q row own s. ap (λ (f : Option HandleRow). if_there (is_owned_by (Owner.Load l)) false f) s.live ∙ (ap (is_owner (Owner.Load l)) own ∙ o.apart.no_load l);
+  }
 
   pub but : {w : Core} (f g : ℕ → Bool) → Ours me lists w f → Ours me lists w (λ q. f q && not (g q))
-  but f g free mine o = both-free mine f g (free mine o)
+  but f g free mine o = record { each = λ q row own s. ap (λ b. b && not (g q)) ((free mine o).each q row own s) }
 
   pub no-one : {w : Core} → Ours me lists w nobody
-  no-one mine o = nobody-free mine
+  no-one mine o = record { each = λ q row own s. refl }
 
   pub entry : lists ≡ true → {w : Core} (i : ℕ) (h : HandleNumber) → slice_get w.list i ≡ Some h → Ours me lists w (only_handle h)
   entry taken i h at mine o = listed-free mine (o.unlisted taken).0 (o.unlisted taken).1 i h at
@@ -381,8 +373,7 @@ module _ {me : Owner} {lists : Bool} {Asks Leaves : Type 0} where
         other k q p e h was false b x y = was
 
     pub cached-if : (b : Bool) (kind : Kind) (key : ℕ) (n : NodeNumber) → Knows c w kind.0 key n.0 → usable w kind.0 key ≡ None → Effect me lists Asks Leaves true c w (if b then m else with_cached m kind key n)
-    cached-if true kind key n knows unknown = d
-    cached-if false kind key n knows unknown = cached kind key n knows unknown
+    cached-if x0 kind key n knows unknown = grind (arith, nat_tests, cached)
 
     -- a load comes, or goes
     pub opens : (key : ℕ) (root : Root) → Goes c w (with_load m key root me) → Effect me lists Asks Leaves true c w (with_load m key root me)
@@ -429,17 +420,11 @@ module _ {me : Owner} {lists : Bool} {Asks Leaves : Type 0} where
   -- what is stored may grow, and the storage may fail
   pub beside : {c : Change} (w : Core) (stored : ℕ → Option Blob) (failures : ℕ) → ((q : ℕ) (b : Blob) → w.stored q ≡ Some b → stored q ≡ Some b) → (IsShut w → (q : ℕ) → stored q ≡ None)
       → Effect me lists Asks Leaves true c w (record w { stored = stored; failures = failures })
-  beside {c} w stored failures keeps shut =
-      let q = quiet-self w in
-      let quiet : Quiet w (record w { stored = stored; failures = failures }) = search (rules, q.cells, q.loads, q.cache, q.rows, keeps, shut) in
-      search (rules, quiet-goes, quiet)
+  beside {c} w stored failures keeps shut = grind (arith, nat_tests, quiet-self, quiet-goes)
 
   -- the cache forgets all
   pub forgets : {c : Change} (w : Core) → (Leaves → ⊥) → Effect me lists Asks Leaves true c w (record w { cache = λ kind key. None })
-  forgets {c} w none =
-      let quiet : Quiet w (record w { cache = λ kind key. None }) =
-      parts (le-self _) (le-self _) (λ n cell is. is) (λ l load is. is) (λ kind key n is. absurd (cc)) (rows-self w.last.handle w.rows w.rows refl) in
-      search (rules, quiet-goes, quiet, none)
+  forgets {c} w none = grind (arith, nat_tests, parts, le-self, rows-self, quiet-goes)
 
   pub stays : {c : Change} {w w' : Core} → Alike w w' → Effect me lists Asks Leaves false c w w'
   stays {w = w} a = like (none w) a

@@ -11,7 +11,7 @@ use Rattle.pagable_laws.proofs.Words.{sets_key, knows_node, bears_node, bears_kn
 use Rattle.pagable_laws.proofs.Words.{feels-adopted, feels-lazy, feels-end, List, [], ◌∷◌, LoadAnswer, Reading, Frame, ReadsRoot, ReadingBrings, IsCellOf}
 use Rattle.pagable_laws.proofs.Words.{FramesFit, ReadingFits, ReadsItsTypes, TakesWell, FramesGiven, ReadingFeels, gets-lazy, makes-node}
 use Rattle.pagable_laws.proofs.{Trees.{same_some, tree_is, one_tree}, Decoding.{among-left, among-right, meant-refs, decodes}, Following.{one-node, given-of, cell-of, held-of}}
-use Rattle.pagable_laws.proofs.{Fitting.{tree-stays, first-fits}, Coming.updated-at, Taking.{root-key, node-decoded}}
+use Rattle.pagable_laws.proofs.{Fitting.{tree-stays, first-fits}, Coming.updated-at, ReadingSteps.{old-node, new-node}, Taking.{root-key, node-decoded}}
 use Rattle.std.{proofs.Common.rules}
 
 -- ---- other trees, the same at the nodes that are referred to
@@ -172,10 +172,10 @@ module _ {N E : Type 0} {v : Values N} {c : Change} {comes : ℕ → N → Type 
   ]
 
   leads-again : (n : ℕ) → 0 < held n s'.core.rows → NodeLeads v s' trees' n
-  leads-again n live = search (rules, cell-of, either-side, keyed-old, arith, nat_tests, moved-value)
+  leads-again n live = search (rules, cell-of, either-side, keyed-old, old-node goes, new-node goes well.whole.handles, arith, nat_tests, moved-value)
 
   typed-again : (n : ℕ) → 0 < held n s'.core.rows → type_at s'.core n ≡ Some (trees' n).type
-  typed-again n live = grind (arith, nat_tests)
+  typed-again n live = grind (arith, nat_tests, old-node goes, new-node goes well.whole.handles)
 
   loads-again : (l : ℕ) (load : OpenLoad) (node : NodeNumber) (t : ℕ) (h : HandleNumber) → s'.core.loads l ≡ Some load → load.root ≡ of_cell node t h
       → ReadsNodeTree v.types s'.core.stored trees' load.key t node.0
@@ -225,7 +225,7 @@ module _ {N E : Type 0} {v : Values N} {s s' : PagerState N E} {trees : ℕ → 
 
   -- where nothing is born and no value can come to an old node, none comes
   pub none-comes : (n : ℕ) (x : N) → CoreGoes nothing_felt s.core s'.core → s.values n ≡ None → s'.values n ≡ Some x → IsNewNode s.core n ⊎ StaysAway s.core s'.core n → ⊥
-  none-comes n x goes x3 is x5 = grind (arith, nat_tests, live-after, either-side, came)
+  none-comes n x goes x3 is x5 = grind (arith, nat_tests, live-after, either-side, came, old-node goes, new-node goes well.whole.handles)
 
   -- nothing is felt, and what comes to an old node fits
   pub fits-nothing : (comes : ℕ → N → Type 0) → ((n : ℕ) (x : N) → comes n x → s.values n ≡ None → s'.values n ≡ Some x → ValueLeads v trees x (trees n))
@@ -247,9 +247,9 @@ module _ {N E : Type 0} {v : Values N} {s s' : PagerState N E} {trees : ℕ → 
     more-at = updated-at (last + 1) t0 trees
 
     -- a node is born of this type and key, of a tree as which the key reads if it has one
-    pub fits-born : (comes : ℕ → N → Type 0) (own : OptionalDataKey) → ((key : ℕ) → own ≡ OptionalDataKey.Some key → ReadsTree s'.core.stored v.types key t0)
-        → ((n : ℕ) (x : N) → comes n x → s.values n ≡ None → s'.values n ≡ Some x → ValueLeads v more x (more n)) → ChangeFits v (bears_node t0.type own) comes s s' trees more
-    fits-born comes own reads fit = grind (arith, nat_tests, with-below, more-at)
+    pub fits-born : (comes : ℕ → N → Type 0) (t : ℕ) (own : OptionalDataKey) → t0.type ≡ t → ((key : ℕ) → own ≡ OptionalDataKey.Some key → ReadsTree s'.core.stored v.types key t0)
+        → ((n : ℕ) (x : N) → comes n x → s.values n ≡ None → s'.values n ≡ Some x → ValueLeads v more x (more n)) → ChangeFits v (bears_node t own) comes s s' trees more
+    fits-born comes t own typed reads fit = grind (arith, nat_tests, with-below, more-at)
 
     pub fits-born-known : (comes : ℕ → N → Type 0) (k q : ℕ) (own : OptionalDataKey) → t0.type ≡ type_of k → ((key : ℕ) → own ≡ OptionalDataKey.Some key → key ≡ q)
         → ReadsTree s'.core.stored v.types q t0
@@ -260,7 +260,7 @@ module _ {N E : Type 0} {v : Values N} {s s' : PagerState N E} {trees : ℕ → 
     pub value-born : (c : Change) (n : ℕ) (x y : N) → CoreGoes c s.core s'.core → s'.values n ≡ Some x → x ≡ y → IsNewNode s.core n
         → ((r : ArcRef) → Among (v.references y) r → r.node.0 ≤ last) → ValueLeads v trees y t0 → ValueLeads v more x (more n)
     value-born c n x y goes is same new few l =
-        let next : n ≡ last + 1 = (goes.new n new (live-after n x is)).next in
+        let next : n ≡ last + 1 = (new-node goes well.whole.handles n new (live-after n x is)).next in
         let led_to : ValueLeads v more y t0 = value-on (with-below last t0 trees) few l in
         subst (λ z. ValueLeads v more z (more n)) (sym same) (subst (λ z. ValueLeads v more y z) (sym (ap more next ∙ more-at)) led_to)
 
@@ -283,52 +283,33 @@ module _ {N E : Type 0} {v : Values N} {s s' : PagerState N E} {trees : ℕ → 
           let live = given-of well.whole.handles r.node.0 is in
           same_some _ _ (sym (stands.typed r.node.0 live.0) ∙ is)
 
+  so : {c : Change} {comes : ℕ → N → Type 0} {after : ℕ → Tree} → ChangeFits v c comes s s' trees after → Fits c comes
+  so {after = after} f = record { after = after; fits = f }
+
   pub call-fits : {B : Type 0} (c : Change) (call : Call N B) (reply : Reply N B) → CoreGoes c s.core s'.core → AsksWell v s trees call reply
       → CallFeels v s.core Owner.Caller call reply s'.core c → Fits c (CallBrings s.core call)
-  call-fits c call reply goes asked (feels-nothing stays) = record { after = trees; fits = fits-nothing _ (λ n x brings unset is. absurd (none-comes n x goes unset is (stays n x brings))) }
+  call-fits c call reply goes asked (feels-nothing stays) = so (fits-nothing _ (λ n x brings unset is. absurd (none-comes n x goes unset is (stays n x brings))))
   call-fits c call reply goes asked (feels-birth x brought good) =
       let born = birth-tree x Owner.Caller good in
-      record {
-        after = updated (last + 1) born.0 trees;
-        fits =
-            subst (λ t. ChangeFits v (bears_node t OptionalDataKey.None) (CallBrings s.core call) s s' trees (updated (last + 1) born.0 trees)) born.1
-            (fits-born born.0 _ OptionalDataKey.None (λ key is. absurd (cc))
-            (λ n y brings unset is. value-born born.0 _ n y x goes is (brought n y brings).0 (brought n y brings).1 (good-given Owner.Caller x good) born.2));
-      }
-  call-fits c call reply goes asked (feels-away t key k) =
-      record {
-        after = updated (last + 1) asked.read trees;
-        fits =
-            subst (λ z. ChangeFits v (bears_node z (OptionalDataKey.Some key)) (λ n y. ⊥) s s' trees (updated (last + 1) asked.read trees)) asked.typed
-            (fits-born asked.read _ (OptionalDataKey.Some key)
-            (λ q is. let e : key ≡ q = cc in subst (λ z. ReadsTree s'.core.stored v.types z asked.read) e (tree-stays goes.stored asked.reads)) (λ n y brings unset is. absurd brings));
-      }
-  call-fits c call reply goes asked (feels-key h key row owns) = record { after = trees; fits = fits-key _ row.node.0 key (λ n y brings. brings) (tree-stays goes.stored (asked row owns)) }
+      so (fits-born born.0 _ _ OptionalDataKey.None born.1 (λ key is. absurd (cc))
+      (λ n y brings unset is. value-born born.0 _ n y x goes is (brought n y brings).0 (brought n y brings).1 (good-given Owner.Caller x good) born.2))
+  call-fits c call reply goes asked (feels-away t key k) = so (fits-born asked.read _ _ (OptionalDataKey.Some key) asked.typed
+      (λ q is. let e : key ≡ q = cc in subst (λ z. ReadsTree s'.core.stored v.types z asked.read) e (tree-stays goes.stored asked.reads)) (λ n y brings unset is. absurd brings))
+  call-fits c call reply goes asked (feels-key h key row owns) = so (fits-key _ row.node.0 key (λ n y brings. brings) (tree-stays goes.stored (asked row owns)))
   call-fits c call reply goes asked (feels-known kind key h row owns typed) =
       let live = given-of well.whole.handles row.node.0 typed in
       let is_typed : (trees row.node.0).type ≡ type_of kind.0 = same_some _ _ (sym (stands.typed row.node.0 live.0) ∙ typed) in
-      record { after = trees; fits = fits-known _ kind.0 key row.node.0 (λ n y brings. brings) (record { typed = is_typed; reads = tree-stays goes.stored (asked row owns) }) }
+      so (fits-known _ kind.0 key row.node.0 (λ n y brings. brings) (record { typed = is_typed; reads = tree-stays goes.stored (asked row owns) }))
   call-fits c call reply goes asked (feels-adopted l kind key x k typed good) =
       let leads = value-leads lawful settled well stands x asked.stands.own asked.read (Owner.Load l) asked.stands.typed asked.stands.means asked.stands.stands good in
-      record {
-        after = updated (last + 1) asked.read trees;
-        fits =
-            fits-born-known asked.read _ kind.0 key (first_key kind.0 key) (sym asked.stands.typed ∙ typed) (λ q is. first-of (is_pinned_kind kind.0) key q is) (tree-stays goes.stored asked.reads)
-            (λ n y brings unset is. value-born asked.read _ n y x goes is brings.0 brings.1 (good-given (Owner.Load l) x good) leads);
-      }
+      so (fits-born-known asked.read _ kind.0 key (first_key kind.0 key) (sym asked.stands.typed ∙ typed) (λ q is. first-of (is_pinned_kind kind.0) key q is) (tree-stays goes.stored asked.reads)
+      (λ n y brings unset is. value-born asked.read _ n y x goes is brings.0 brings.1 (good-given (Owner.Load l) x good) leads))
   call-fits c call reply goes asked (feels-lazy l kind key k) =
-      record {
-        after = updated (last + 1) asked.read trees;
-        fits = fits-born-known asked.read _ kind.0 key (OptionalDataKey.Some key) asked.typed (λ q is. cc) (tree-stays goes.stored asked.reads) (λ n y brings unset is. absurd brings);
-      }
-  call-fits c call reply goes asked (feels-end l x k good) =
-      record {
-        after = trees;
-        fits = fits-nothing _ (λ n y brings unset is.
-            let meant = asked n brings.1 in
-            let leads = value-leads lawful settled well stands x meant.own (trees n) (Owner.Load l) meant.typed meant.means meant.stands good in
-            subst (λ z. ValueLeads v trees z (trees n)) (sym brings.0) leads);
-      }
+      so (fits-born-known asked.read _ kind.0 key (OptionalDataKey.Some key) asked.typed (λ q is. cc) (tree-stays goes.stored asked.reads) (λ n y brings unset is. absurd brings))
+  call-fits c call reply goes asked (feels-end l x k good) = so (fits-nothing _ (λ n y brings unset is.
+      let meant = asked n brings.1 in
+      let leads = value-leads lawful settled well stands x meant.own (trees n) (Owner.Load l) meant.typed meant.means meant.stands good in
+      subst (λ z. ValueLeads v trees z (trees n)) (sym brings.0) leads))
 
 at-front : (frames : List Frame) (a : Frame) (xs : List Frame) → frames ≡ a ∷ xs → Among frames a
 at-front frames a xs e = subst (λ fs. Among fs a) (sym e) (zero, refl)
@@ -350,7 +331,7 @@ module _ {N E : Type 0} {v : Values N} {s s' : PagerState N E} {trees : ℕ → 
         let d = decodes lawful readable root.root x (first-fits v.types cell.load.key reading.node_type s.core.stored trees root.root [] here) root.decoded in
         let under = subst (λ q. ReadsTree s.core.stored v.types q d.t) (root-key v.types s.core.stored trees cell.load.key reading.node_type root.root here) d.reads in
         let within : n ≤ s.core.last.node = subst (λ m. m ≤ s.core.last.node) cell.is (well.whole.loads.roots reading.load.0 cell.load cell.node cell.t cell.h cell.open_load cell.root).given.1 in
-        let old = goes.old n within (live-after lawful settled well well' stands n x is) in
+        let old = old-node goes n within (live-after lawful settled well well' stands n x is) in
         let typed : (trees n).type ≡ v.node_type x = same_some _ _ (sym (stands.typed n (held-of well.whole.handles n old.was)) ∙ sym old.typed ∙ well'.typed n x is) in
         let cells : ReadsTree s.core.stored v.types cell.load.key (trees n) = subst (λ m. ReadsTree s.core.stored v.types cell.load.key (trees m)) cell.is
         (stands.loads reading.load.0 cell.load cell.node cell.t cell.h cell.open_load cell.root).reads in
@@ -359,7 +340,7 @@ module _ {N E : Type 0} {v : Values N} {s s' : PagerState N E} {trees : ℕ → 
 
     -- nothing is felt
     quiet : (n : ℕ) (x : N) → c ≡ nothing_felt → ReadingBrings v s.core reading n x → s'.values n ≡ Some x → ValueLeads v trees x (trees n)
-    quiet n x nothing x3 is = grind (arith, nat_tests, live-after, root-leads)
+    quiet n x nothing x3 is = grind (arith, nat_tests, live-after, root-leads, new-node goes well.whole.handles)
 
     -- a node is born, and the root's value comes to an old one
     root-on : (t0 : Tree) (n : ℕ) (x : N) → s'.values n ≡ Some x → ReadsRoot v reading x → IsCellOf s.core reading.load n
@@ -373,14 +354,8 @@ module _ {N E : Type 0} {v : Values N} {s s' : PagerState N E} {trees : ℕ → 
       → (answer ≡ None → (load : OpenLoad) × (s.core.loads reading.load.0 ≡ Some load))
       → ReadingFeels v s.core reading answer frames s'.core c → (after : ℕ → Tree) × ChangeFits v c (ReadingBrings v s.core reading) s s' trees after
   reading-fits goes takes opens (gets-lazy kind key row needs got answer is) =
-      let asked = takes kind key needs in (
-        updated (s.core.last.node + 1) asked.read trees,
-        fits-born-known lawful settled well well' stands asked.read _ kind.0 key (OptionalDataKey.Some key) asked.typed (λ q e. cc) (tree-stays goes.stored asked.reads)
-            (λ n x brings unset at. elim brings [
-              | inl (reads, new) ↦ (absurd (cc))
-              | inr (root, cell) ↦ root-on goes asked.read n x at root cell
-            ]),
-      )
+      let asked = takes kind key needs in (_, fits-born-known lawful settled well well' stands asked.read _ kind.0 key (OptionalDataKey.Some key) asked.typed (λ q e. cc) (tree-stays goes.stored asked.reads)
+      (λ n x brings unset at. elim brings [ inl (reads, new) ↦ absurd (cc) | inr (root, cell) ↦ root-on goes asked.read n x at root cell ]))
   reading-fits goes takes opens (makes-node x reads row got answer is) =
       let load = opens answer in
       let fit = fits load.0 load.1 in

@@ -104,7 +104,7 @@ handles-once {w} whole q = rows-once q w.rows (λ i j a b lt at there.
     less : (x y : ℕ) {m n : ℕ} → x ≡ m → y ≡ n → x < y → m < n
     less x y a b lt = omega (arith, a, b, lt)
 
-one-less : (a b : Bool) → one (a && b) ≤ one a
+pub one-less : (a b : Bool) → one (a && b) ≤ one a
 one-less x0 x1 = grind (arith, nat_tests)
 
 module _ {N E : Type 0} {v : Values N} {s : PagerState N E} {trees : ℕ → Tree} (rs : List ArcRef)

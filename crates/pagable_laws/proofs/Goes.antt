@@ -4,23 +4,8 @@ use Rattle.pagable_laws.proofs.Words.{if◌then◌else◌, nat_tests, Blob, ArcR
 use Rattle.pagable_laws.proofs.Words.{Mode, find_row, is_handle, mode_of, is_loose, Core, Cell, OpenLoad, Root, Alike, type_at, key_at, AreNewEntries, Falls, FallsAnyhow, fallen, left_rows}
 use Rattle.pagable_laws.proofs.Words.{row_of, with_handle, with_node, with_key, with_cached, next_node, moved, with_load, adopted, Change, nothing_felt, sets_key, bears_known, Sets, Knows, Bears}
 use Rattle.std.proofs.Common.{rules}
+pub use Rattle.pagable_laws.specs.TreeSteps.{Was, RowsGo, IsShut, Kept, CoreGoes as Goes}
 use Rattle.pagable_laws.proofs.{Sums.same-number, Words.BeginsWell}
-
--- the row of a handle before: at the same node, and the same if it is a load's now; a loose handle stays loose
-pub record Was (rows : List HandleRow) (q : ℕ) (row : HandleRow) : Type 0 where
-  pub was : HandleRow
-  pub live : find_row q rows ≡ Some was
-  pub at : was.node ≡ row.node
-  pub mine : (l : LoadNumber) → row.owner ≡ Owner.Load l → was ≡ row
-  pub loose : is_loose was.mode ≡ true → is_loose row.mode ≡ true
-
--- each handle up to this number was there
-abbrev pub RowsGo : ℕ → List HandleRow → List HandleRow → Type 0
-RowsGo last rows rows' = (q : ℕ) (row : HandleRow) → find_row q rows' ≡ Some row → q ≤ last → Was rows q row
-
--- the storage is closed, and nothing is stored in it
-abbrev pub IsShut : Core → Type 0
-IsShut w = (w.closed ≡ true) × ((q : ℕ) → w.stored q ≡ None)
 
 -- a step that sets no key, bears no node, begins no load and lets the cache know nothing
 pub record Quiet (w w' : Core) : Type 0 where
@@ -35,25 +20,6 @@ pub record Quiet (w w' : Core) : Type 0 where
   pub rows : RowsGo w.last.handle w.rows w'.rows
   pub shut : IsShut w → IsShut w'
 
--- a cell that was there, but for a key that it may get
-pub record Kept (c : Change) (w : Core) (n : ℕ) (cell : Cell) : Type 0 where
-  pub was : Cell
-  pub live : w.cells n ≡ Some was
-  pub typed : cell.node_type ≡ was.node_type
-  pub key : (cell.key ≡ was.key) ⊎ ((key : ℕ) × Sets c n key × (cell.key ≡ OptionalDataKey.Some key))
-
-pub record Goes (c : Change) (w w' : Core) : Type 0 where
-  pub nodes : w.last.node ≤ w'.last.node
-  pub handles : w.last.handle ≤ w'.last.handle
-  pub loads_last : w.last.load ≤ w'.last.load
-  pub workers_last : w.last.worker ≤ w'.last.worker
-  pub cells : (n : ℕ) (cell : Cell) → w'.cells n ≡ Some cell → Kept c w n cell ⊎ ((n ≡ w.last.node + 1) × Bears c cell.node_type cell.key)
-  pub stored : (q : ℕ) (b : Blob) → w.stored q ≡ Some b → w'.stored q ≡ Some b
-  pub loads : (l : ℕ) (load : OpenLoad) → w'.loads l ≡ Some load → (w.loads l ≡ Some load) ⊎ ((w.last.load < l) × BeginsWell w load)
-  pub cache : (kind key n : ℕ) → w'.cache kind key ≡ Some n → (w.cache kind key ≡ Some n) ⊎ Knows c w kind key n
-  pub rows : RowsGo w.last.handle w.rows w'.rows
-  pub shut : IsShut w → IsShut w'
-
 -- the cache gets to know no node by the change but the next one
 abbrev pub KnowsNext : Change → Core → Type 0
 KnowsNext c w = (kind key n : ℕ) → Knows c w kind key n → n ≡ w.last.node + 1
@@ -63,6 +29,9 @@ le-self n = omega arith
 
 pub le-more : (a b : ℕ) → a ≤ a + b
 le-more a b = omega arith
+
+pub next-above : (q last : ℕ) → q ≡ last + 1 → last < q
+next-above q last next = omega arith
 
 le-then : {a b c : ℕ} → a ≤ b → b ≤ c → a ≤ c
 le-then le more = omega arith
@@ -191,7 +160,7 @@ rows-left last rows gone q row found few = record { was = row; live = (found-lef
 pub quiet-then : {w m w' : Core} → Quiet w m → Quiet m w' → Quiet w w'
 quiet-then {w} {m} {w'} a b = search (rules, rows-then, le-then, a.cells, b.cells, a.stored, b.stored, a.loads, b.loads, a.cache, b.cache, a.shut, b.shut)
 
-le-of : (a b : ℕ) → b ≡ a → a ≤ b
+pub le-of : (a b : ℕ) → b ≡ a → a ≤ b
 le-of a b is = omega arith
 
 pub alike : {w w' : Core} → Alike w w' → Quiet w w'
@@ -246,9 +215,7 @@ born c w t key references bears = grind (arith, le-more, le-self, at-updated, ro
 
 keyed-cell : (w : Core) (m : ℕ) (key : ℕ) (cell : Cell) (found : Option Cell) → w.cells m ≡ found
     → if_there (λ (x : Cell). Some (record x { key = OptionalDataKey.Some key })) None found ≡ Some cell → Kept (sets_key m key) w m cell
-keyed-cell w m key cell None there is = absurd (cc)
-keyed-cell w m key cell (Some was) there is = let e : record was { key = OptionalDataKey.Some key } ≡ cell = cc in
-    record { was = was; live = there; typed = sym (ap (λ (x : Cell). x.node_type) e); key = inr (key, (refl, refl), sym (ap (λ (x : Cell). x.key) e)) }
+keyed-cell w m key cell x4 there is = grind (arith, nat_tests)
 
 pub keyed : (w : Core) (node : NodeNumber) (key : ℕ) → Goes (sets_key node.0 key) w (with_key w node key)
 keyed w node key = grind (arith, le-self, at-updated, keyed-cell, rows-self)
@@ -270,9 +237,6 @@ begun c w key root me well =
       rows = rows-self w.last.handle w.rows w.rows refl;
       shut = λ is. is;
     }
-  where
-    next-above : (l last : ℕ) → l ≡ last + 1 → last < l
-    next-above l last is = omega arith
 
 -- two steps of which nothing is felt: the cells that the first leaves are those that a load that the second begins is of
 pub goes-then : {w m w' : Core} → Goes nothing_felt w m → Goes nothing_felt m w' → Goes nothing_felt w w'

@@ -3,7 +3,7 @@ use Rattle.pagable_laws.proofs.Words.{nat_tests, ◌≡◌, ℕ, zero, suc, ◌+
 use Rattle.pagable_laws.proofs.Words.{sum_by, sum_by-cons, sum_by_push, HandleRow, Owner, ArcRef, Kind, HandleNumber, LoadNumber, NodeNumber, OptionalDataKey, Among, type_of, one, times, mode_of}
 use Rattle.pagable_laws.proofs.Words.{Core, OpenLoad, of_cell, Frame, Alike, row_at, row_of, with_handle, with_node, next_node, is_named_by, Asked, adopted, GetsKnown, with_got, owner_value}
 use Rattle.pagable_laws.proofs.{Words.{HandlesAreWhole, Tree, find_row, Reading, Values, IsLawful, GoesOn, GetsLazy, MakesNode, FramesFit, ReadsItsTypes, FramesHeld}, Outlasting.Stands}
-use Rattle.pagable_laws.proofs.{Outlasting.{AreUpTo, stands-alike, stands-new, among-changed, NotValues, stands-whole, stands-fell}, Apart.AreApart, Fitting.{AllGot, all-new, all-more}}
+use Rattle.pagable_laws.proofs.{Outlasting.{low-changed, stands-alike, NotValues, stands-whole, stands-fell}, Apart.AreApart, Fitting.{AllGot, all-new, all-more}}
 use Rattle.pagable_laws.proofs.{Fitting.first-fits, Goes.{found-number}, ReadingSteps.cached-rows, Sums.{self-number, same-number, at-most-sum, sum-zero}}
 use Rattle.pagable_laws.proofs.{Effects.{with-one, moved-free, named-among}, Outlasting.{new-handle, low-whole}, Decoding.decodes, GoodReferences.good, Trees.same_some}
 use Rattle.std.proofs.lemmas.Bool.{cases_Bool, false_from_ne_true}
@@ -103,19 +103,8 @@ module _ (w w' : Core) where
         stands-alike a (to-known (with-one born (next_node w) (mode_of kind.0) (Owner.Load l) (moved-free (Owner.Load l) (is_named_by references) (owner_value (w.last.node + 1)) free s)))
 
     pub adopted-new : HandlesAreWhole w → Alike known w' → Stands w'.last.handle w'.rows (w.last.handle + 1) (row_of (w.last.handle + 1) (next_node w) (mode_of kind.0) (Owner.Load l))
-    adopted-new whole a =
-        stands-alike a (to-known (stands-new w.last.handle born.rows (row_of (w.last.handle + 1) (next_node w) (mode_of kind.0) (Owner.Load l)) few refl))
-      where
-        few : AreUpTo w.last.handle born.rows
-        few h among =
-            let a = among-changed (λ (x : HandleRow). if is_named_by references x.number.0 then record x { owner = Owner.Value (next_node w) } else x) w.rows h among in
-            let n : h.number.0 ≡ a.0.number.0 = ap (λ (x : HandleRow). x.number.0) a.2 ∙ number a.0 (is_named_by references a.0.number.0) in
-            let le = (whole.numbered a.0 a.1).1 in
-            omega (arith, n, le)
-          where
-            number : (x : HandleRow) (b : Bool) → (if b then record x { owner = Owner.Value (next_node w) } else x).number.0 ≡ x.number.0
-            number x true = refl
-            number x false = refl
+    adopted-new whole a = stands-alike a (to-known (new-handle born (next_node w) (mode_of kind.0) (Owner.Load l)
+        (low-changed w.last.handle w.rows (λ h. is_named_by references h.number.0) (λ h. record h { owner = owner_value (w.last.node + 1) }) (λ h. refl) (low-whole whole))))
 
 pub not-named : (rs : List ArcRef) (q : ℕ) → ((g : ArcRef) → Among rs g → g.handle.0 ≡ q → ⊥) → is_named_by rs q ≡ false
 not-named rs q none = false_from_ne_true (is_named_by rs q) (λ e. let (r, among, same) = named-among rs q e in none r among same)
@@ -208,45 +197,31 @@ module _ {N : Type 0} (v : Values N) (lawful : IsLawful v) (readable : ReadsItsT
   -- what was read became a node: its references go, and what was got for the blobs below stays
   node-ready : (frames : List Frame) (g : MakesNode v w Owner.Caller reading frames w') → LoadReady w' l load (with_got g.reads_node.top.kind g.row g.reads_node.below)
   node-ready frames g = elim c.makes [
-    | inl (n, usable, f) ↦
-        got-ready below top.kind g.row g.k _ g.made c.next.above (stands-fell f.falls (λ m e. cc) new-free (new-handle w (record { 0 = n }) (mode_of top.kind.0) (Owner.Load l) (low-whole whole))) refl
-        (λ frame r among got x free s. stands-fell f.falls free (below-free frame r among got) (with-one w (record { 0 = n }) (mode_of top.kind.0) (Owner.Load l) s))
-        (λ h x there own y free s. stands-fell f.falls free (caller-free h x there own) (with-one w (record { 0 = n }) (mode_of top.kind.0) (Owner.Load l) s)) live_below once_below small_below
-    | inr (none, few, a) ↦
-        got-ready below top.kind g.row g.k _ g.made c.next.above (adopted-new w w' l top.kind top.key _ (v.references g.x) whole a) refl
-        (λ frame r among got x free s. adopted-keeps w w' l top.kind top.key _ (v.references g.x) a (below-free frame r among got) s)
-        (λ h x there own y free s. adopted-keeps w w' l top.kind top.key _ (v.references g.x) a (caller-free h x there own) s) live_below once_below small_below
+    | inl (n, usable, f) ↦ by _ (stands-fell f.falls (λ m e. cc) new-free (new-handle w (record { 0 = n }) (mode_of top.kind.0) (Owner.Load l) (low-whole whole))) refl
+        (λ q free x no s. stands-fell f.falls no free (with-one w (record { 0 = n }) (mode_of top.kind.0) (Owner.Load l) s))
+    | inr (none, few, a) ↦ by _ (adopted-new w w' l top.kind top.key _ (v.references g.x) whole a) refl
+        (λ q free x no s. adopted-keeps w w' l top.kind top.key _ (v.references g.x) a free s)
   ]
     where
       open g use {reads_node as reads}
       open reads use {top, below, frames as is}
       open g.adopted use {adopts as c}
 
-      here : FramesFit v.types w.stored trees root_key root_type (top ∷ below)
-      here = subst (λ fs. FramesFit v.types w.stored trees root_key root_type fs) is fit
-
       was_got : (r : ArcRef) → Among (v.references g.x) r → Among top.got r
-      was_got = (decodes lawful readable top g.x (first-fits v.types root_key root_type w.stored trees top below here) reads.decoded).got
+      was_got =
+          let here = subst (λ fs. FramesFit v.types w.stored trees root_key root_type fs) is fit in
+          (decodes lawful readable top g.x (first-fits v.types root_key root_type w.stored trees top below here) reads.decoded).got
 
-      once_all : GotOnce (top ∷ below)
-      once_all = subst GotOnce is ready.once
+      now : LoadReady w l load (top ∷ below)
+      now = subst (λ fs. LoadReady w l load fs) is ready
 
-      once_below : GotOnce below
-      once_below = once-below top below once_all
-
-      deeper : (frame : Frame) → Among below frame → Among reading.frames frame
-      deeper frame among = subst (λ fs. Among fs frame) (sym is) (suc among.0, among.1)
-
-      live_below : Live w l below
-      live_below frame r among got = ready.live frame r (deeper frame among) got
-
-      small_below : AllBelow (w.last.handle + 1) below
-      small_below frame r among got = small frame r (deeper frame among) got
+      small_all : AllBelow (w.last.handle + 1) (top ∷ below)
+      small_all = subst (λ fs. AllBelow (w.last.handle + 1) fs) is small
 
       got-twice : (frame : Frame) (r g : ArcRef) → Among below frame → Among frame.got r → Among top.got g → g.handle.0 ≡ r.handle.0 → ⊥
       got-twice frame r g among got top_got same =
           let q = r.handle.0 in
-          let a = once_all q in
+          let a = now.once q in
           let b = got-cons q top below in
           let c = at-most-sum (λ (x : ArcRef). one (x.handle.0 == q)) top.got g top_got in
           let d : one (g.handle.0 == q) ≡ 1 = ap (λ n. one (n == q)) same ∙ ap one (self-number q) in
@@ -266,10 +241,13 @@ module _ {N : Type 0} (v : Values N) (lawful : IsLawful v) (readable : ReadsItsT
 
       -- no reference names the handle that comes
       new-free : is_named_by (v.references g.x) (w.last.handle + 1) ≡ false
-      new-free = not-named (v.references g.x) (w.last.handle + 1) (λ x named same.
-          let front : Among reading.frames top = subst (λ fs. Among fs top) (sym is) (zero, refl) in
-          let lt = small top x front (was_got x named) in
-          omega (arith, lt, same))
+      new-free = not-named (v.references g.x) (w.last.handle + 1) (λ x named same. let lt = small_all top x (zero, refl) (was_got x named) in omega (arith, lt, same))
+
+      by : (new : HandleRow) → Stands w'.last.handle w'.rows (w.last.handle + 1) new → new.owner ≡ Owner.Load l → ((q : ℕ) → is_named_by (v.references g.x) q ≡ false → Keeps q)
+          → LoadReady w' l load (with_got top.kind g.row below)
+      by new s own keeps = got-ready below top.kind g.row g.k new g.made c.next.above s own (λ frame r among got. keeps r.handle.0 (below-free frame r among got))
+          (λ h x there own. keeps h.0 (caller-free h x there own)) (λ frame r (i, e) got. now.live frame r (suc i, e) got) (once-below top below now.once)
+          (λ frame r (i, e) got. small_all frame r (suc i, e) got)
 
   -- ---- all steps
 

@@ -11,17 +11,14 @@ use Rattle.pagable_laws.proofs.Words.{PagerState, Represents, WellFormed}
 use Rattle.pagable_laws.proofs.{Words.{LoadsHaveStepsLeft, IsFresh}, Fitting.{inside, first-fits, frames-stay, asked}, ReadingSteps.{readings-on, caller-free, reading-feels, reading-stands}}
 use Rattle.pagable_laws.proofs.{ReadingSteps.{AllWaitWell, EventGoes, event-goes}, Goes.{found-number, IsShut, Goes}, Outlasting.{Stands, stands-whole, stands-changed}}
 use Rattle.pagable_laws.proofs.{Outlasting.stands-fell, Sums.self-number, Decoding.decodes, Taking.{row-held, root-right, adopted-over, Going, given-nodes}}
-use Rattle.pagable_laws.proofs.{KnownSteps.eager-nested, ReadingStepsKinds.kinds_of}
-use Rattle.pagable_laws.proofs.{ReadingStepsKinds.{asks-by-kinds, kinds-pushed}, Trees.same_some}
+use Rattle.pagable_laws.proofs.{Taking.eager-nested, ReadingStepsKinds.{kinds_of, asks-by-kinds, kinds-pushed}, Trees.same_some}
 use Rattle.pagable_world.specs.{Loads.{Does as LoadDoes}, Runs.Does}
 use Rattle.std.proofs.Common.{rules}
+pub use Rattle.pagable_laws.proofs.Effects.{both-none as neither}
 
 -- A load of a key that answers a value hands over the value's references: each was the load's, and is the caller's then.
 
 -- ---- nothing is said against the handles
-
-pub neither : (a b : Option Error) → earlier a b ≡ None → (a ≡ None) × (b ≡ None)
-neither x0 x1 is = grind (arith, nat_tests)
 
 -- the handle is live, and the owner's
 record IsNamed (w : Core) (owner : Owner) (h : HandleNumber) : Type 0 where

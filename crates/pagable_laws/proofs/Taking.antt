@@ -7,7 +7,7 @@ use Rattle.pagable_laws.proofs.Words.{bears_known, CoreGoes, ReadingFeels, reads
 use Rattle.pagable_laws.proofs.{Fitting.{node-stays, first-fits, first-typed, frames-stay, all-none, all-new, all-more, made-fits, needed-fits, nested-fits, root-fits}}
 use Rattle.pagable_laws.proofs.Decoding.{decodes, read_stands}
 use Rattle.pagable_laws.proofs.Words.{ap, inl, gone_on, GetsRow, GotStands, FramesHeld, LoadNumber, ReadingFits, ChangeFits, Needs}
-use Rattle.pagable_laws.proofs.{Apart.FramesAsked, KnownSteps.{needed-asked, nested-asked, made-asked, none-asked, root-asked}}
+use Rattle.pagable_laws.proofs.{Apart.{none-got, one-got, FramesAsked}, Fitting.asked, Words.{is_eager, asks, next_in, need_of, needs_nested}}
 use Rattle.pagable_laws.proofs.{Following.{cell-of, given-of}, Outlasting.among-found, Sums.{at-most-sum, self-number}, Trees.same_some}
 
 -- ---- a live handle's node
@@ -48,6 +48,41 @@ pin_stands s trees k row whole represents live pinning =
     let x = some-value (s.values row.node.0) there in
     record { row = row; x = x.0; live = live; held = x.1; stands = stands-here (represents.stands row.node.0 held_there) x.1 }
 
+-- ---- what a load has got is what its blobs asked for, and goes on to be so
+
+-- what is read together with a value is asked for through a reference that isn't loose
+pub eager-nested : (below : List Frame) (next : Next) (kind : Kind) (key : ℕ) → need_at below next ≡ needs_nested kind key → is_eager kind.0 ≡ true
+eager-nested x0 x1 kind key is = grind (arith, nat_tests)
+
+module _ (types : Types) where
+  -- one more reference was got that the innermost blob asked for
+  with-asked : (frame : Frame) (below : List Frame) (kind : Kind) (key : ℕ) (row : HandleRow) → FramesAsked types (frame ∷ below) → next_in types frame ≡ asks kind key
+      → FramesAsked types (with_got kind row (frame ∷ below))
+  unfolding FramesAsked
+  with-asked frame [] kind key row got next = one-got frame.got _ _ key got next refl
+  with-asked frame (under ∷ rest) kind key row (got, eager, asked_below, more) next = (one-got frame.got _ _ key got next refl, eager, asked_below, more)
+
+  pub needed-asked : (frames : List Frame) (kind : Kind) (key : ℕ) (row : HandleRow) → FramesAsked types frames → Needs types frames kind key → FramesAsked types (with_got kind row frames)
+  unfolding FramesAsked
+  needed-asked x0 kind key row got needs = grind (arith, nat_tests, with-asked, asked)
+
+  pub nested-asked : (frames : List Frame) (kind : Kind) (key : ℕ) (blob : _) → FramesAsked types frames → need_of types frames ≡ needs_nested kind key
+      → FramesAsked types (nested_frame kind key blob ∷ frames)
+  unfolding FramesAsked
+  nested-asked x0 kind key blob got needs = grind (arith, nat_tests, none-got, eager-nested, asked)
+
+  pub made-asked : (top : Frame) (below : List Frame) (row : HandleRow) → FramesAsked types (top ∷ below) → FramesAsked types (with_got top.kind row below)
+  unfolding FramesAsked
+  made-asked top x1 row x3 = grind (arith, nat_tests, with-asked)
+
+  pub none-asked : (frames : List Frame) → frames ≡ [] → FramesAsked types frames
+  unfolding FramesAsked
+  none-asked x0 is = grind (arith, nat_tests)
+
+  pub root-asked : (key t : ℕ) (blob : _) → FramesAsked types (root_frame key t blob ∷ [])
+  unfolding FramesAsked
+  root-asked key t blob = none-got [] refl
+
 -- ---- a load's step
 
 -- What holds about a step of a load: its nodes keep their trees, what the cache knew is read as the nodes' trees, and a node that is born is of a tree as which its key reads.
@@ -67,7 +102,7 @@ frames-on goes l frames held frame r among got =
     record {
       given = let a = g.given in let b = goes.handles in omega (arith, a, b);
       node_given = let a = g.node_given in let b = goes.nodes in omega (arith, a, b);
-      is = λ row live own. g.is row (goes.load_rows r.handle row l live own g.given) own;
+      is = λ row live own. g.is row (let a = goes.rows r.handle.0 row live g.given in a.live ∙ ap Some (a.mine l own)) own;
     }
 
 -- a reference that was got just now
