@@ -1,9 +1,8 @@
 -- A worker's steps up to its answer: none of its own claims waits any more, and what another claimed is as it was.
-use Rattle.pagable_laws.proofs.Words.{◌≡◌, ℕ, nat_eq, nat_tests, arith, Bool, true, false, List, [], ◌∷◌, ◌++◌, append_assoc, None, Some, Ok, refl, sym, subst}
-use Rattle.pagable_laws.proofs.Words.{Identity, HandleNumber, Slot, Shelf, no_result, Todo, Task, of_item, of_entry, Written, Took, Claim, WorkerAnswer, Seen, Site, Does, answer_after, first_todo, is_open_outcome, IsMetFailure, FailedElsewhere}
-use Rattle.pagable_laws.proofs.{Standing.{is_open_in, AllStand, Covers, HasNoFailed, Changes, first-stands, some-none, some-same}}
-use Rattle.pagable_laws.proofs.{Coming.{stands-on, goes-same, FailsMet, follows-met, fails-stay, first-met, failed-stays}}
-use Rattle.pagable_laws.proofs.{Coming.{failed-elsewhere, answered}, Standing.{Goes, grows}, Joining.steps_follow, Decoding.among-right}
+use Rattle.pagable_laws.proofs.Words.{◌≡◌, ℕ, nat_eq, nat_tests, arith, Bool, true, false, List, [], ◌∷◌, ◌++◌, append_assoc, None, Some, Ok, refl, sym, subst, Identity, HandleNumber, Slot, Shelf}
+use Rattle.pagable_laws.proofs.Words.{no_result, Todo, Task, of_item, of_entry, Written, Took, Claim, WorkerAnswer, Seen, Site, Does, answer_after, first_todo, is_open_outcome, IsMetFailure}
+use Rattle.pagable_laws.proofs.{Words.FailedElsewhere, Standing.{is_open_in, AllStand, Covers, HasNoFailed, Changes, first-stands, some-none, some-same, Goes, grows}, Coming.{stands-on, goes-same}}
+use Rattle.pagable_laws.proofs.{Coming.{FailsMet, follows-met, fails-stay, first-met, failed-stays, failed-elsewhere, answered}, Joining.steps_follow, Decoding.among-right}
 use Rattle.pagable_world.specs.Access.{AccessState, AllHaveResults, WorkerRun, WalkStep, worker-ends, worker-goes-on}
 
 -- what a worker leaves with its answer, whose steps these are; and what it failed with was met, where C

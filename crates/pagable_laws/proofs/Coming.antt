@@ -2,16 +2,15 @@
 use Rattle.pagable_laws.proofs.Words.{◌≡◌, ℕ, inl, inr, true, List, [], ◌∷◌, refl, ap, sym, subst, ◌∙◌, Ok, Option, Some, None, ArcRef, Identity, WorkerAnswer, Claim, Took, identity_of, no_result}
 use Rattle.pagable_laws.proofs.Words.{answer_of_fault, Todo, to_start, to_write, to_item, to_publish, to_release, to_fail, arith, Task, Seen, Site, Does, give, give_known, with_wait, answer_after}
 use Rattle.pagable_laws.proofs.Words.{IsPublished, ◌+◌, ◌<◌, ◌≤◌, ◌==◌, Bool, false, nat_eq, if◌then◌else◌, nat_tests, WorkerNumber, updated, Call, Reply, Event, EventReply, TableNumber, WorkerReply}
-use Rattle.pagable_laws.proofs.Words.{Owner, Core, Alike, Shelf, Slot, Walking, World, CallStep, Happens, Stays, WorkStays, WorkIs, Starts, no_shelf, new_walking, WorkerSteps, MachineState}
-use Rattle.pagable_laws.proofs.Words.{world_of, IsIdle, step_of, ◌*◌, ◌-◌, ◌++◌, Err, drop, length, max, length-drop, sum_by-cons, sum_by-append, one, times, above, Open, to_pin, to_load, to_finish}
-use Rattle.pagable_laws.proofs.Words.{to_set, Written, next_start, first_todo, is_counted, Follows, is_claim, references_written, own_references, zero, suc, Error, Among, MetError, FailedElsewhere}
-use Rattle.pagable_laws.proofs.{Words.{IsMetFailure, steps_after, Leads}, Standing.{same-worker, puts-slot, SlotChanges, ShelfGrows, some-none, some-same, grows, same-slots, meets-grow, CoversBy}}
-use Rattle.pagable_laws.proofs.Standing.{Goes, plain, fails, swaps, gives, given-open, all-stay, SameSlots, Turned, work-stands, is-quiet, is-started, is-stepped, is_open_in, AllStand, Covers}
-use Rattle.pagable_laws.proofs.{Standing.{HasNoFailed, WorkStands, claimed, written-goes, published-goes, failed-goes, is_failed}, Called.calls-go, ReadingSteps.{caller-free, reading-feels}}
-use Rattle.pagable_laws.proofs.{ReadingSteps.walk-goes, Joining.steps_follow, Decoding.{among-left, among-right}, Goes.le-of}
-use Rattle.std.{proofs.Common.{length-append, append-nil}, specs.List.sum_by, proofs.lemmas.Bool.{false_from_ne_true, cases_Bool}}
+use Rattle.pagable_laws.proofs.Words.{Owner, Core, Alike, Shelf, Slot, Walking, World, CallStep, Happens, Stays, WorkStays, WorkIs, Starts, no_shelf, new_walking, WorkerSteps, MachineState, world_of}
+use Rattle.pagable_laws.proofs.Words.{IsIdle, step_of, ◌*◌, ◌-◌, ◌++◌, Err, drop, length, max, length-drop, sum_by-cons, sum_by-append, one, times, above, Open, to_pin, to_load, to_finish, to_set}
+use Rattle.pagable_laws.proofs.Words.{Written, next_start, first_todo, is_counted, Follows, is_claim, references_written, own_references, Error, Among, MetError, FailedElsewhere, IsMetFailure}
+use Rattle.pagable_laws.proofs.{Words.{steps_after, Leads}, Standing.{same-worker, puts-slot, SlotChanges, ShelfGrows, some-none, some-same, grows, same-slots, meets-grow, CoversBy, Goes, plain}}
+use Rattle.pagable_laws.proofs.Standing.{fails, swaps, gives, given-open, all-stay, SameSlots, Turned, work-stands, is-quiet, is-started, is-stepped, is_open_in, AllStand, Covers, HasNoFailed}
+use Rattle.pagable_laws.proofs.{Standing.{WorkStands, claimed, written-goes, published-goes, failed-goes, is_failed, WaitsWell, follows-waits}, Called.calls-go, ReadingSteps.caller-free}
+use Rattle.{pagable_laws.proofs.{ReadingSteps.{reading-feels, walk-goes}, Joining.steps_follow, Decoding.{among-left, among-right}, Goes.le-of}, std.proofs.Common.{length-append, append-nil}}
+use Rattle.std.{proofs.lemmas.Bool.{false_from_ne_true, cases_Bool}, specs.List.sum_by}
 use Rattle.pagable_laws.proofs.Called as calling
-use Rattle.pagable_laws.proofs.Standing.{WaitsWell, follows-waits}
 
 -- ---- whatever a worker does, what stands of its list and of its table stands afterwards
 

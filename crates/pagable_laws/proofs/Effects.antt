@@ -6,12 +6,10 @@ use Rattle.pagable_laws.proofs.Words.{Cell, Alike, usable, Falls, left_rows, fal
 use Rattle.pagable_laws.proofs.Words.{changed, find_row, is_handle, is_owner, is_owned_by, owner_worker, nobody, only_handle, Owns, with_handle, with_mode, moved, is_named_by, is_owned_in}
 use Rattle.pagable_laws.proofs.Words.{OwnersAreThere, AreGood, Blob, Kind, is_in, named_fault, numbers_of, owner_value, refused_if, row_at, with_cached, with_node, without_load, ◌+◌, row_of}
 use Rattle.pagable_laws.proofs.Words.{is_load_of, is_workers, is_workers_at, OpenLoad, load_fault, earlier, Change, nothing_felt, sets_key, Knows, Bears, Root, with_load, with_key, is_loose}
-use Rattle.pagable_laws.proofs.{Sums.{same-number, self-number, at-most-sum, counted, one-true}, Decoding.{among-either}, Trees.same_some, GoodReferences.same-owner}
-use Rattle.pagable_laws.proofs.Outlasting.{among-kept, NotValues, Stands, stands-alike, stands-changed, stands-fell, stands-more}
-use Rattle.pagable_laws.proofs.Goes.{found-number, le-more, none-in-next, Goes, Quiet, IsShut, NotLoads, rows-self, rows-mode, rows-moved, alike, parts, quiet-self, only-rows, a-handle, quiet-goes, goes-quiet, born, keyed}
-use Rattle.pagable_laws.proofs.Goes.{goes-then, goes-known, le-self, fell as quiet-fell}
-use Rattle.pagable_world.specs.Refusals.{OwnsLoad}
-use Rattle.std.proofs.{Common.{rules}, lemmas.Bool.{false_from_ne_true}}
+use Rattle.pagable_laws.proofs.{Sums.{same-number, self-number, at-most-sum, counted, one-true}, Decoding.among-either, Trees.same_some, GoodReferences.same-owner, Outlasting.{among-kept, NotValues}}
+use Rattle.pagable_laws.proofs.{Outlasting.{Stands, stands-alike, stands-changed, stands-fell, stands-more}, Goes.{found-number, le-more, none-in-next, Goes, Quiet, IsShut, NotLoads, rows-self}}
+use Rattle.pagable_laws.proofs.Goes.{rows-mode, rows-moved, alike, parts, quiet-self, only-rows, a-handle, quiet-goes, goes-quiet, born, keyed, goes-then, goes-known, le-self, fell as quiet-fell}
+use Rattle.{pagable_world.specs.Refusals.OwnsLoad, std.proofs.{Common.rules, lemmas.Bool.false_from_ne_true}}
 
 module _ (kind key n : ℕ) where
   -- the cache has the node under kind and key, and it is there
@@ -77,16 +75,6 @@ module _ (kind key n : ℕ) where
   -- the entry stays where the node is held before and after
   pub record Lasts (w w' : Core) : Type 0 where
     pub lasts : IsEntered w.cache w.cells → IsHeldFor w.rows → IsHeldFor w'.rows → IsEntered w'.cache w'.cells
-
-  pub by-alike : {w m w' : Core} → Alike m w' → (IsEntered w.cache w.cells → IsEntered m.cache m.cells) → Lasts w w'
-  by-alike a direct = record { lasts = λ e h h'. stays-alike a (direct e) h' }
-
-  pub by-fell : {before w m w' : Core} {given : ℕ → Bool} {r : Result (Unit {0}) Error} → Falls before m given r w' → (IsEntered w.cache w.cells → IsEntered m.cache m.cells) → Lasts w w'
-  by-fell f direct = record { lasts = λ e h h'. stays-fell f (direct e) h' }
-
-  -- the node is held in the middle since it is afterwards
-  pub then-down : {w m w' : Core} → (IsHeldFor w'.rows → IsHeldFor m.rows) → Lasts w m → Lasts m w' → Lasts w w'
-  then-down down a b = record { lasts = λ e h h'. b.lasts (a.lasts e h (down h')) (down h') h' }
 
   -- what is held after handles were given up was held before: an entry of the list comes for a node that was pinned
   pub held-fell : {w m w' : Core} {given : ℕ → Bool} {r : Result (Unit {0}) Error} → m.rows ≡ w.rows → Falls w m given r w' → IsHeldFor w'.rows → IsHeldFor w.rows

@@ -1,18 +1,16 @@
 -- What each step brings fits some trees afterwards: where a pager stands for trees, each value and key leads to its node's tree by its own references alone, and from
 -- this it stands for them again, so that what is asked of a node is shown at each node by itself.
-use Rattle.pagable_laws.proofs.Words.{nat_tests, ◌≡◌, ℕ, zero, ◌<◌, ◌&&◌, Bool, true, false, Option, Some, None, refl, sym, ap, ◌∙◌, subst, is_some, OptionalDataKey, number, integer, text}
-use Rattle.pagable_laws.proofs.Words.{pattern, none, pair, variant, reference, followed, references_in, ArcRef, Meaning, Tree, tree, type_of, ReadsTree, Among, held, is_in_memory, Core}
-use Rattle.pagable_laws.proofs.Words.{Values, IsLawful, key_at, IsReference, PagerState, WellFormed, NodeStands, here, away, MeaningStands, number-stands, integer-stands, text-stands}
-use Rattle.pagable_laws.proofs.Words.{pattern-stands, none-stands, pair-stands, variant-stands, followed-stands, reference-stands, Represents, HoldsSettled, LeadsTo, number-leads}
-use Rattle.pagable_laws.proofs.Words.{integer-leads, text-leads, arith, pattern-leads, none-leads, pair-leads, variant-leads, followed-leads, reference-leads, ValueLeads, NodeLeads, ◌≤◌}
-use Rattle.pagable_laws.proofs.Words.{◌⊎◌, inl, inr, NodeNumber, HandleNumber, OpenLoad, of_cell, type_at, Moves, ReadsNodeTree, KeyFits, Change, CoreGoes, SameNode, ChangeFits}
-use Rattle.pagable_laws.proofs.Words.{◌+◌, ◌==◌, if◌then◌else◌, Owner, Call, Reply, updated, is_pinned_kind, is_here, first_key, SameTrees, CallBrings, IsNewNode, AsksWell, nothing_felt}
-use Rattle.pagable_laws.proofs.Words.{sets_key, knows_node, bears_node, bears_known, StaysAway, AreGood, CallFeels, feels-nothing, feels-birth, feels-away, feels-key, feels-known}
-use Rattle.pagable_laws.proofs.Words.{feels-adopted, feels-lazy, feels-end, List, [], ◌∷◌, LoadAnswer, Reading, Frame, ReadsRoot, ReadingBrings, IsCellOf}
-use Rattle.pagable_laws.proofs.Words.{FramesFit, ReadingFits, ReadsItsTypes, TakesWell, FramesGiven, ReadingFeels, gets-lazy, makes-node}
-use Rattle.pagable_laws.proofs.{Trees.{same_some, tree_is, one_tree}, Decoding.{among-left, among-right, meant-refs, decodes}, Following.{one-node, given-of, cell-of, held-of}}
-use Rattle.pagable_laws.proofs.{Fitting.{tree-stays, first-fits}, Coming.updated-at, ReadingSteps.{old-node, new-node}, Taking.{root-key, node-decoded}}
-use Rattle.std.{proofs.Common.rules}
+use Rattle.pagable_laws.proofs.Words.{nat_tests, ◌≡◌, ℕ, zero, ◌<◌, ◌&&◌, Bool, true, false, Option, Some, None, refl, sym, ap, ◌∙◌, subst, is_some, OptionalDataKey, number, integer, text, pattern}
+use Rattle.pagable_laws.proofs.Words.{none, pair, variant, reference, followed, references_in, ArcRef, Meaning, Tree, tree, type_of, ReadsTree, Among, held, is_in_memory, Core, Values, IsLawful}
+use Rattle.pagable_laws.proofs.Words.{key_at, IsReference, PagerState, WellFormed, NodeStands, here, away, MeaningStands, number-stands, integer-stands, text-stands, pattern-stands, none-stands}
+use Rattle.pagable_laws.proofs.Words.{pair-stands, variant-stands, followed-stands, reference-stands, Represents, HoldsSettled, LeadsTo, number-leads, integer-leads, text-leads, arith, pattern-leads}
+use Rattle.pagable_laws.proofs.Words.{none-leads, pair-leads, variant-leads, followed-leads, reference-leads, ValueLeads, NodeLeads, ◌≤◌, ◌⊎◌, inl, inr, NodeNumber, HandleNumber, OpenLoad, of_cell}
+use Rattle.pagable_laws.proofs.Words.{type_at, Moves, ReadsNodeTree, KeyFits, Change, CoreGoes, SameNode, ChangeFits, ◌+◌, ◌==◌, if◌then◌else◌, Owner, Call, Reply, updated, is_pinned_kind, is_here}
+use Rattle.pagable_laws.proofs.Words.{first_key, SameTrees, CallBrings, IsNewNode, AsksWell, nothing_felt, sets_key, knows_node, bears_node, bears_known, StaysAway, AreGood, CallFeels, feels-nothing}
+use Rattle.pagable_laws.proofs.Words.{feels-birth, feels-away, feels-key, feels-known, feels-adopted, feels-lazy, feels-end, List, [], ◌∷◌, LoadAnswer, Reading, Frame, ReadsRoot, ReadingBrings}
+use Rattle.pagable_laws.proofs.{Words.{IsCellOf, FramesFit, ReadingFits, ReadsItsTypes, TakesWell, FramesGiven, ReadingFeels, gets-lazy, makes-node}, Trees.{same_some, tree_is, one_tree}}
+use Rattle.pagable_laws.proofs.{Decoding.{among-left, among-right, meant-refs, decodes}, Following.{one-node, given-of, cell-of, held-of}, Fitting.{tree-stays, node-stays, first-fits}}
+use Rattle.{pagable_laws.proofs.{Coming.updated-at, ReadingSteps.{old-node, new-node}, Taking.{root-key, node-decoded}}, std.proofs.Common.rules}
 
 -- ---- other trees, the same at the nodes that are referred to
 
@@ -49,6 +47,12 @@ led (followed kind x) h = let l = led x h in (followed kind l.0, followed-leads 
 -- the references of a value's meaning are its own
 pub own-refs : {N : Type 0} {v : Values N} → IsLawful v → (x : N) (own : Meaning ArcRef) → v.means x own → (r : ArcRef) → Among (references_in own) r → Among (v.references x) r
 own-refs lawful x own means r among = meant-refs _ _ (λ is. sym (lawful.refers x own means is)) r among
+
+-- a value whose references were given leads to its tree where those nodes keep their trees
+pub value-on : {N : Type 0} {v : Values N} → IsLawful v → (last : ℕ) {trees trees' : ℕ → Tree} {x : N} {t : Tree} → SameTrees last trees trees'
+    → ((r : ArcRef) → Among (v.references x) r → r.node.0 ≤ last) → ValueLeads v trees x t → ValueLeads v trees' x t
+value-on lawful last {x = x} same few l =
+    record { own = l.own; typed = l.typed; means = l.means; leads = leads-on l.leads (λ r among. same r.node.0 (few r (own-refs lawful x l.own l.means r among))) }
 
 module _ {N E : Type 0} {v : Values N} {s : PagerState N E} {trees : ℕ → Tree} (lawful : IsLawful v) where
   module _ (settled : HoldsSettled v s) (well : WellFormed v s) (stands : Represents v s trees) where
@@ -134,40 +138,24 @@ module _ {N E : Type 0} {v : Values N} {s : PagerState N E} {trees : ℕ → Tre
   stand m none-leads e h = none-stands
   stand m l e h = absurd (cc)
 
-  pub stands-again : (n : ℕ) → 0 < held n s.core.rows → NodeStands v s n (trees n)
-  stands-again n live = node-by n live (λ z l k. stand (trees n).meaning l refl k)
-
 pub either-side : (n last : ℕ) → (n ≤ last) ⊎ (last < n)
 either-side n last = grind (arith, nat_tests)
 
 module _ {N E : Type 0} {v : Values N} {c : Change} {comes : ℕ → N → Type 0} {s s' : PagerState N E} {trees trees' : ℕ → Tree} (lawful : IsLawful v)
     (settled : HoldsSettled v s) (well : WellFormed v s) (well' : WellFormed v s') (stands : Represents v s trees) (moves : Moves comes s s') (goes : CoreGoes c s.core s'.core)
     (fits : ChangeFits v c comes s s' trees trees') where
-  was : (n : ℕ) → 0 < held n s.core.rows → NodeLeads v s trees n
-  was n live = leads-all lawful settled well stands n live
-
   moved-tree : (n : ℕ) {key : ℕ} → n ≤ s.core.last.node → ReadsTree s'.core.stored v.types key (trees n) → ReadsTree s'.core.stored v.types key (trees' n)
   moved-tree n {key} within reads = subst (λ t. ReadsTree s'.core.stored v.types key t) (sym (fits.same n within)) reads
-
-  moved-node : (n t : ℕ) {key : ℕ} → n ≤ s.core.last.node → ReadsNodeTree v.types s.core.stored trees key t n → ReadsNodeTree v.types s'.core.stored trees' key t n
-  moved-node n t within reads = record { typed = ap (λ (z : Tree). z.type) (fits.same n within) ∙ reads.typed; reads = moved-tree n within (tree-stays goes.stored reads.reads) }
 
   moved-value : (n : ℕ) (x : N) → s.values n ≡ Some x → ValueLeads v trees' x (trees' n)
   moved-value n x is =
       let live = given-of well.whole.handles n (well.typed n x is) in
-      let l = (was n live.0).valued x is in
-      let same = sym (fits.same n live.1) in
-      record {
-        own = l.own;
-        typed = l.typed ∙ ap (λ (z : Tree). z.type) same;
-        means = l.means;
-        leads = subst (λ (z : Tree). LeadsTo trees' l.own z.meaning) same
-            (leads-on l.leads (λ r among. fits.same r.node.0 (given-of well.whole.handles r.node.0 (well.references n x r is (own-refs lawful x l.own l.means r among)).typed).1));
-      }
+      subst (λ z. ValueLeads v trees' x z) (sym (fits.same n live.1)) (value-on lawful s.core.last.node fits.same
+      (λ r among. (given-of well.whole.handles r.node.0 (well.references n x r is among).typed).1) ((leads-all lawful settled well stands n live.0).valued x is))
 
   keyed-old : (n : ℕ) → n ≤ s.core.last.node → SameNode c s.core s'.core n → KeyFits v s' n (trees' n)
   keyed-old n within same key is = elim same.key [
-    | inl stays ↦ moved-tree n within (tree-stays goes.stored ((was n (held-of well.whole.handles n same.was)).keyed key (sym stays ∙ is)))
+    | inl stays ↦ moved-tree n within (tree-stays goes.stored ((leads-all lawful settled well stands n (held-of well.whole.handles n same.was)).keyed key (sym stays ∙ is)))
     | inr (k, sets, set) ↦ let e : k ≡ key = (cc) in subst (λ q. ReadsTree s'.core.stored v.types q (trees' n)) e (moved-tree n within (fits.sets n k sets))
   ]
 
@@ -180,20 +168,21 @@ module _ {N E : Type 0} {v : Values N} {c : Change} {comes : ℕ → N → Type 
   loads-again : (l : ℕ) (load : OpenLoad) (node : NodeNumber) (t : ℕ) (h : HandleNumber) → s'.core.loads l ≡ Some load → load.root ≡ of_cell node t h
       → ReadsNodeTree v.types s'.core.stored trees' load.key t node.0
   loads-again l load node t h is root = elim (goes.loads l load is) [
-    | inl stays ↦ moved-node node.0 t (well.whole.loads.roots l load node t h stays root).given.1 (stands.loads l load node t h stays root)
+    | inl stays ↦ node-stays goes.stored (fits.same node.0 (well.whole.loads.roots l load node t h stays root).given.1) (stands.loads l load node t h stays root)
     | inr (above, begins) ↦
         let b = begins node t h root in
         let live = given-of well.whole.handles node.0 b.0 in
         let typed : (trees node.0).type ≡ t = same_some _ _ (sym (stands.typed node.0 live.0) ∙ b.0) in
-        moved-node node.0 t live.1 (record { typed = typed; reads = (was node.0 live.0).keyed load.key b.1 })
+        node-stays goes.stored {trees = trees} (fits.same node.0 live.1) (record { typed = typed; reads = (leads-all lawful settled well stands node.0 live.0).keyed load.key b.1 })
   ]
 
   cache-again : (kind key n : ℕ) → s'.core.cache kind key ≡ Some n → ReadsNodeTree v.types s'.core.stored trees' key (type_of kind) n
   cache-again kind key n is = elim (goes.cache kind key n is)
-      [ inl stays ↦ moved-node n (type_of kind) (well.whole.cache kind key n stays).given (stands.cache kind key n stays) | inr knows ↦ fits.knows kind key n knows ]
+      [ inl stays ↦ node-stays goes.stored (fits.same n (well.whole.cache kind key n stays).given) (stands.cache kind key n stays) | inr knows ↦ fits.knows kind key n knows ]
 
   pub trees-go-on : Represents v s' trees'
-  trees-go-on = record { stands = stands-again lawful well' leads-again; typed = typed-again; loads = loads-again; cache = cache-again }
+  trees-go-on = record { stands = λ n live. node-by lawful well' leads-again n live (λ z l k. stand lawful well' leads-again (trees' n).meaning l refl k);
+      typed = typed-again; loads = loads-again; cache = cache-again }
 
 -- ---- trees with one more
 
@@ -207,11 +196,6 @@ module _ {N E : Type 0} {v : Values N} {s s' : PagerState N E} {trees : ℕ → 
     (stands : Represents v s trees) where
   abbrev last : ℕ
   last = s.core.last.node
-
-  -- a value whose references were given leads to its tree where more nodes have trees
-  pub value-on : {trees' : ℕ → Tree} {x : N} {t : Tree} → SameTrees last trees trees' → ((r : ArcRef) → Among (v.references x) r → r.node.0 ≤ last) → ValueLeads v trees x t → ValueLeads v trees' x t
-  value-on {trees'} {x} {t} same few l =
-      record { own = l.own; typed = l.typed; means = l.means; leads = leads-on l.leads (λ r among. same r.node.0 (few r (own-refs lawful x l.own l.means r among))) }
 
   good-given : (owner : Owner) (x : N) → AreGood s.core owner (v.references x) → (r : ArcRef) → Among (v.references x) r → r.node.0 ≤ last
   good-given owner x good r among = (given-of well.whole.handles r.node.0 (good r among).typed).1
@@ -261,7 +245,7 @@ module _ {N E : Type 0} {v : Values N} {s s' : PagerState N E} {trees : ℕ → 
         → ((r : ArcRef) → Among (v.references y) r → r.node.0 ≤ last) → ValueLeads v trees y t0 → ValueLeads v more x (more n)
     value-born c n x y goes is same new few l =
         let next : n ≡ last + 1 = (new-node goes well.whole.handles n new (live-after n x is)).next in
-        let led_to : ValueLeads v more y t0 = value-on (with-below last t0 trees) few l in
+        let led_to : ValueLeads v more y t0 = value-on lawful last (with-below last t0 trees) few l in
         subst (λ z. ValueLeads v more z (more n)) (sym same) (subst (λ z. ValueLeads v more y z) (sym (ap more next ∙ more-at)) led_to)
 
   -- ---- calls
@@ -345,7 +329,10 @@ module _ {N E : Type 0} {v : Values N} {s s' : PagerState N E} {trees : ℕ → 
     -- a node is born, and the root's value comes to an old one
     root-on : (t0 : Tree) (n : ℕ) (x : N) → s'.values n ≡ Some x → ReadsRoot v reading x → IsCellOf s.core reading.load n
         → ValueLeads v (updated (s.core.last.node + 1) t0 trees) x (updated (s.core.last.node + 1) t0 trees n)
-    root-on t0 n x is root cell = grind (arith, nat_tests, root-leads, value-on, with-below)
+    root-on t0 n x is root cell =
+        let r = root-leads n x is root cell in
+        let same = with-below s.core.last.node t0 trees in
+        subst (λ z. ValueLeads v (updated (s.core.last.node + 1) t0 trees) x z) (sym (same n r.within)) (value-on lawful s.core.last.node same r.few r.leads)
 
   still : CoreGoes nothing_felt s.core s'.core → (after : ℕ → Tree) × ChangeFits v nothing_felt (ReadingBrings v s.core reading) s s' trees after
   still goes = (trees, fits-nothing lawful settled well well' stands _ (λ n x brings unset is. quiet goes n x refl brings is))

@@ -1,11 +1,10 @@
 -- What a step does to the plain world as far as trees feel it, with no premise: the parts of which the summary of each call is made.
-use Rattle.pagable_laws.proofs.Words.{◌≡◌, ℕ, ◌+◌, ◌<◌, ◌≤◌, ◌==◌, ◌&&◌, Bool, true, false, List, [], ◌∷◌, ◌++◌, refl, ap, sym, subst, ◌∙◌, inl, inr, arith, Option, Some, None, ◌⊎◌}
-use Rattle.pagable_laws.proofs.Words.{if◌then◌else◌, nat_tests, Blob, ArcRef, Kind, type_of, HandleNumber, LoadNumber, NodeNumber, OptionalDataKey, changed, updated, if_there, HandleRow, Owner}
-use Rattle.pagable_laws.proofs.Words.{Mode, find_row, is_handle, mode_of, is_loose, Core, Cell, OpenLoad, Root, Alike, type_at, key_at, AreNewEntries, Falls, FallsAnyhow, fallen, left_rows}
-use Rattle.pagable_laws.proofs.Words.{row_of, with_handle, with_node, with_key, with_cached, next_node, moved, with_load, adopted, Change, nothing_felt, sets_key, bears_known, Sets, Knows, Bears}
+use Rattle.pagable_laws.proofs.Words.{◌≡◌, ℕ, ◌+◌, ◌<◌, ◌≤◌, ◌==◌, ◌&&◌, Bool, true, false, List, [], ◌∷◌, ◌++◌, refl, ap, sym, subst, ◌∙◌, inl, inr, arith, Option, Some, None, ◌⊎◌, if◌then◌else◌}
+use Rattle.pagable_laws.proofs.Words.{nat_tests, Blob, ArcRef, Kind, type_of, HandleNumber, LoadNumber, NodeNumber, OptionalDataKey, changed, updated, if_there, HandleRow, Owner, Mode, find_row}
+use Rattle.pagable_laws.proofs.Words.{is_handle, mode_of, is_loose, Core, Cell, OpenLoad, Root, Alike, type_at, key_at, AreNewEntries, Falls, FallsAnyhow, fallen, left_rows, row_of, with_handle}
+use Rattle.pagable_laws.proofs.{Words.{with_node, with_key, with_cached, next_node, moved, with_load, adopted, Change, nothing_felt, sets_key, bears_known, Knows, Bears, BeginsWell}, Sums.same-number}
 use Rattle.std.proofs.Common.{rules}
 pub use Rattle.pagable_laws.specs.TreeSteps.{Was, RowsGo, IsShut, Kept, CoreGoes as Goes}
-use Rattle.pagable_laws.proofs.{Sums.same-number, Words.BeginsWell}
 
 -- a step that sets no key, bears no node, begins no load and lets the cache know nothing
 pub record Quiet (w w' : Core) : Type 0 where
@@ -91,25 +90,15 @@ NotLoads o = (l : LoadNumber) → o ≡ Owner.Load l → ⊥
 
 pub rows-mode : (last : ℕ) (rows : List HandleRow) (h : HandleNumber) (mode : Mode) → is_loose mode ≡ true → ((r : HandleRow) → find_row h.0 rows ≡ Some r → NotLoads r.owner)
     → RowsGo last rows (changed (is_handle h.0) (λ row. record row { mode = mode }) rows)
-rows-mode last rows h mode is_so free q row found few = let c = found-changed (is_handle h.0) (λ row. record row { mode = mode }) (λ r. refl) q rows row found in at c (is_handle h.0 c.was) refl
-  where
-    at : (c : Changed (is_handle h.0) (λ row. record row { mode = mode }) rows q row) → (b : Bool) → is_handle h.0 c.was ≡ b → Was rows q row
-    at c true is =
-        let e : row ≡ record c.was { mode = mode } = rw is at c.is in
-        let n : q ≡ h.0 = sym (found-number q rows c.was c.live) ∙ same-number _ _ is in
-        let o : row.owner ≡ c.was.owner = ap (λ (r : HandleRow). r.owner) e in
-        record { was = c.was; live = c.live; at = sym (ap (λ (r : HandleRow). r.node) e); mine = λ l mine. absurd (free c.was (subst (λ k. find_row k rows ≡ Some c.was) n c.live) l (sym o ∙ mine)); loose = λ was. ap is_loose (ap (λ (r : HandleRow). r.mode) e) ∙ is_so }
-    at c false is = let e : row ≡ c.was = rw is at c.is in record { was = c.was; live = c.live; at = sym (ap (λ (r : HandleRow). r.node) e); mine = λ l mine. sym e; loose = λ was. ap is_loose (ap (λ (r : HandleRow). r.mode) e) ∙ was }
+rows-mode last rows h mode is_so free q row found few =
+    let c = found-changed (is_handle h.0) (λ row. record row { mode = mode }) (λ r. refl) q rows row found in
+    let number = found-number q rows c.was c.live in
+    record { was = c.was; live = c.live; at = grind (arith, nat_tests); mine = λ l mine. grind (arith, nat_tests, same-number, free c.was); loose = λ was. grind (arith, nat_tests) }
 
 pub rows-moved : (last : ℕ) (rows : List HandleRow) (s : ℕ → Bool) (owner : Owner) → NotLoads owner → RowsGo last rows (moved s owner rows)
-rows-moved last rows s owner free q row found few = let c = found-changed (λ (r : HandleRow). s r.number.0) (λ row. record row { owner = owner }) (λ r. refl) q rows row found in
-    at c (s c.was.number.0) refl
-  where
-    at : (c : Changed (λ (r : HandleRow). s r.number.0) (λ row. record row { owner = owner }) rows q row) → (b : Bool) → s c.was.number.0 ≡ b → Was rows q row
-    at c true is =
-        let e : row ≡ record c.was { owner = owner } = rw is at c.is in
-        record { was = c.was; live = c.live; at = sym (ap (λ (r : HandleRow). r.node) e); mine = λ l mine. absurd (free l (sym (ap (λ (r : HandleRow). r.owner) e) ∙ mine)); loose = λ was. ap is_loose (ap (λ (r : HandleRow). r.mode) e) ∙ was }
-    at c false is = let e : row ≡ c.was = rw is at c.is in record { was = c.was; live = c.live; at = sym (ap (λ (r : HandleRow). r.node) e); mine = λ l mine. sym e; loose = λ was. ap is_loose (ap (λ (r : HandleRow). r.mode) e) ∙ was }
+rows-moved last rows s owner free q row found few =
+    let c = found-changed (λ (r : HandleRow). s r.number.0) (λ row. record row { owner = owner }) (λ r. refl) q rows row found in
+    record { was = c.was; live = c.live; at = grind (arith, nat_tests); mine = λ l mine. grind (arith, nat_tests, free); loose = λ was. grind (arith, nat_tests) }
 
 other-number : (q n last : ℕ) → q ≤ last → n ≡ last + 1 → (n == q) ≡ false
 other-number q n last few next = grind (arith, nat_tests)

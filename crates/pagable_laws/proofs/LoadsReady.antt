@@ -1,12 +1,11 @@
 -- What a load has got stays live and the load's own, each handle once, as long as the load makes its own steps; and so does the handle that began it.
-use Rattle.pagable_laws.proofs.Words.{nat_tests, ◌≡◌, ℕ, zero, suc, ◌+◌, ◌<◌, ◌≤◌, ◌==◌, Bool, true, false, List, [], ◌∷◌, ◌++◌, Some, inl, inr, refl, sym, ap, subst, ◌∙◌, if◌then◌else◌, arith}
-use Rattle.pagable_laws.proofs.Words.{sum_by, sum_by-cons, sum_by_push, HandleRow, Owner, ArcRef, Kind, HandleNumber, LoadNumber, NodeNumber, OptionalDataKey, Among, type_of, one, times, mode_of}
-use Rattle.pagable_laws.proofs.Words.{Core, OpenLoad, of_cell, Frame, Alike, row_at, row_of, with_handle, with_node, next_node, is_named_by, Asked, adopted, GetsKnown, with_got, owner_value}
-use Rattle.pagable_laws.proofs.{Words.{HandlesAreWhole, Tree, find_row, Reading, Values, IsLawful, GoesOn, GetsLazy, MakesNode, FramesFit, ReadsItsTypes, FramesHeld}, Outlasting.Stands}
-use Rattle.pagable_laws.proofs.{Outlasting.{low-changed, stands-alike, NotValues, stands-whole, stands-fell}, Apart.AreApart, Fitting.{AllGot, all-new, all-more}}
-use Rattle.pagable_laws.proofs.{Fitting.first-fits, Goes.{found-number}, ReadingSteps.cached-rows, Sums.{self-number, same-number, at-most-sum, sum-zero}}
-use Rattle.pagable_laws.proofs.{Effects.{with-one, moved-free, named-among}, Outlasting.{new-handle, low-whole}, Decoding.decodes, GoodReferences.good, Trees.same_some}
-use Rattle.std.proofs.lemmas.Bool.{cases_Bool, false_from_ne_true}
+use Rattle.pagable_laws.proofs.Words.{nat_tests, ◌≡◌, ℕ, zero, suc, ◌+◌, ◌<◌, ◌≤◌, ◌==◌, Bool, true, false, List, [], ◌∷◌, ◌++◌, Some, inl, inr, refl, sym, ap, subst, ◌∙◌, arith, sum_by, sum_by-cons}
+use Rattle.pagable_laws.proofs.Words.{sum_by_push, HandleRow, Owner, ArcRef, Kind, HandleNumber, LoadNumber, NodeNumber, OptionalDataKey, Among, type_of, one, times, mode_of, Core, OpenLoad, of_cell}
+use Rattle.pagable_laws.proofs.Words.{Frame, Alike, row_at, row_of, with_handle, with_node, next_node, is_named_by, Asked, adopted, GetsKnown, with_got, owner_value, HandlesAreWhole, Tree, find_row}
+use Rattle.pagable_laws.proofs.{Words.{Reading, Values, IsLawful, GoesOn, GetsLazy, MakesNode, FramesFit, ReadsItsTypes, FramesHeld}, Outlasting.{Stands, low-changed, stands-alike, NotValues}}
+use Rattle.pagable_laws.proofs.{Outlasting.{stands-whole, stands-fell, new-handle, low-whole}, Apart.AreApart, Fitting.{AllGot, all-new, all-more, first-fits}, Goes.found-number}
+use Rattle.pagable_laws.proofs.{ReadingSteps.cached-rows, Sums.{self-number, same-number, at-most-sum, sum-zero}, Effects.{with-one, moved-free, named-among}, Decoding.decodes, GoodReferences.good}
+use Rattle.{pagable_laws.proofs.Trees.same_some, std.proofs.lemmas.Bool.{cases_Bool, false_from_ne_true}}
 
 -- ---- each handle once
 
@@ -25,9 +24,6 @@ got-cons q frame frames = sum_by-cons (λ (f : Frame). times (λ (r : ArcRef). r
 
 pub once-new : (frame : Frame) (frames : List Frame) → frame.got ≡ [] → GotOnce frames → GotOnce (frame ∷ frames)
 once-new frame frames none once q = grind (arith, got-cons)
-
-pub once-below : (frame : Frame) (frames : List Frame) → GotOnce (frame ∷ frames) → GotOnce frames
-once-below frame frames once q = let a = got-cons q frame frames in let c = once q in omega (arith, a, c)
 
 pub once-none : (frames : List Frame) → frames ≡ [] → GotOnce frames
 once-none frames none q = let a : times_got q frames ≡ 0 = ap (times_got q) none in omega (arith, a)
@@ -145,16 +141,13 @@ module _ {N : Type 0} (v : Values N) (lawful : IsLawful v) (readable : ReadsItsT
   no-value-caller : (row : HandleRow) → row.owner ≡ Owner.Caller → NotValues row.owner
   no-value-caller row own n is = let e : Owner.Caller ≡ Owner.Value n = sym own ∙ is in absurd (cc)
 
-  no-value-load : (row : HandleRow) → row.owner ≡ Owner.Load l → NotValues row.owner
-  no-value-load row own n is = let e : Owner.Load l ≡ Owner.Value n = sym own ∙ is in absurd (cc)
-
   begun-on : CallersKept → (node : NodeNumber) (t : ℕ) (h : HandleNumber) → load.root ≡ of_cell node t h → (row : HandleRow) × (row_at w' h ≡ Some row) × (row.owner ≡ Owner.Caller)
   begun-on kept node t h root = grind (arith, no-value-caller, stands-whole)
 
   live-on : (fs : List Frame) → LivesKept fs → Live w l fs → Live w' l fs
   live-on fs kept live frame r among got =
       let b = live frame r among got in
-      let s = kept frame r among got b.0 (no-value-load b.0 b.2) (stands-whole whole r.handle.0 b.0 b.1) in
+      let s = kept frame r among got b.0 (λ n is. let e : Owner.Load l ≡ Owner.Value n = sym b.2 ∙ is in absurd (cc)) (stands-whole whole r.handle.0 b.0 b.1) in
       (b.0, s.live, b.2)
 
   small : AllBelow (w.last.handle + 1) reading.frames
@@ -230,9 +223,6 @@ module _ {N : Type 0} (v : Values N) (lawful : IsLawful v) (readable : ReadsItsT
           let z : one (r.handle.0 == q) ≡ 1 = ap one (self-number q) in
           omega (arith, a, b, c, d, e, f, z)
 
-      below-free : (frame : Frame) (r : ArcRef) → Among below frame → Among frame.got r → is_named_by (v.references g.x) r.handle.0 ≡ false
-      below-free frame r among got = not-named (v.references g.x) r.handle.0 (λ x named same. got-twice frame r x among got (was_got x named) same)
-
       caller-free : (h : HandleNumber) (row : HandleRow) → row_at w h ≡ Some row → row.owner ≡ Owner.Caller → is_named_by (v.references g.x) h.0 ≡ false
       caller-free h row there own = not-named (v.references g.x) h.0 (λ x named same.
           let a = good w (Owner.Load l) [] (v.references g.x) c.good x named in
@@ -245,9 +235,10 @@ module _ {N : Type 0} (v : Values N) (lawful : IsLawful v) (readable : ReadsItsT
 
       by : (new : HandleRow) → Stands w'.last.handle w'.rows (w.last.handle + 1) new → new.owner ≡ Owner.Load l → ((q : ℕ) → is_named_by (v.references g.x) q ≡ false → Keeps q)
           → LoadReady w' l load (with_got top.kind g.row below)
-      by new s own keeps = got-ready below top.kind g.row g.k new g.made c.next.above s own (λ frame r among got. keeps r.handle.0 (below-free frame r among got))
-          (λ h x there own. keeps h.0 (caller-free h x there own)) (λ frame r (i, e) got. now.live frame r (suc i, e) got) (once-below top below now.once)
-          (λ frame r (i, e) got. small_all frame r (suc i, e) got)
+      by new s own keeps = got-ready below top.kind g.row g.k new g.made c.next.above s own (λ frame r among got. keeps r.handle.0
+          (not-named (v.references g.x) r.handle.0 (λ x named same. got-twice frame r x among got (was_got x named) same)))
+          (λ h x there own. keeps h.0 (caller-free h x there own)) (λ frame r (i, e) got. now.live frame r (suc i, e) got)
+          (λ q. let a = got-cons q top below in let c = now.once q in omega (arith, a, c)) (λ frame r (i, e) got. small_all frame r (suc i, e) got)
 
   -- ---- all steps
 

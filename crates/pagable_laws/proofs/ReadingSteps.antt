@@ -4,23 +4,20 @@ use Rattle.pagable_laws.proofs.Words.{NodeNumber, OptionalDataKey, type_of, Hand
 use Rattle.pagable_laws.proofs.Words.{with_handle, with_node, with_cached_if_open, with_known, next_node, is_named_by, moved, adopted, HandlesAreWhole, GetsRow, sym, inl, Option, None, Ok, Err}
 use Rattle.pagable_laws.proofs.Words.{is_some, WorkerNumber, LoadAnswer, LoadReply, WorkerReply, PinStep, Took, Event, owner_worker, Frame, Reading, Todo, to_load, to_write, Walking, World, Seen}
 use Rattle.pagable_laws.proofs.Words.{Values, ReadingDoes, gone_on, Site, ReadingsAre, reading_at, reading_after, LoadSteps, WorkerSteps, IsWhole, IsReadingOf, of_caller, of_worker, IsSteppedReading}
-use Rattle.pagable_laws.proofs.Words.{StepsReading, IsFresh, Error, OpenLoad, EndCall, HandOverCall, first_key, Fails, RefusesRoot, LoadIs, IsOfCell, IsOfKey, handles_of, GetsRoot, GetsCached}
-use Rattle.pagable_laws.proofs.Words.{GetsBlob, GetsLazy, MakesNode, Change, nothing_felt, bears_known, ReadingFeels, reads-root, reads-blob, gets-known, gets-lazy, makes-known, makes-node}
-use Rattle.pagable_laws.proofs.Words.{reading-ends, Want, AskCall, AsksInVain, Result, Pinning, Beginning, Claim, is_loose, to_start, to_pin, to_set, to_release, to_fail}
-use Rattle.pagable_laws.proofs.Words.{SetKeyCall, Does, PinsAtOnce, PinsByLoad, PinRefused, GivesBack, next_start, give, give_known, fresh, TodoBrings, sets_key, false, if◌then◌else◌, updated}
-use Rattle.pagable_laws.proofs.Words.{if_there, EventReply, TableNumber, WorkerAnswer, only_handle, Cell, Task, type_at, key_at, first_todo, without_worker, WorkerEnds, is_workers_load}
-use Rattle.pagable_laws.proofs.Words.{answer_after, BeginsKey, Stays, begun_readings, KeyStarted, Starts, new_walking, Ends, Happens, with_worker, MachineState, world_of, IsMachineWhole, IsNewNode}
-use Rattle.pagable_laws.proofs.Words.{EventBrings, KeepsOpen, LeavesCache, CoreGoes, SameNode, NewNode, StaysAway, KeepsReadings, EventFeels, by-call, by-reading, by-key, by-nothing, StepFeels}
-use Rattle.pagable_laws.proofs.Words.{Blob, StoreCall, digest, AreGood, OwnersAreThere, step_of, Among, ◌==◌, IsWhole, CloneCall}
-use Rattle.pagable_laws.proofs.Goes.{found-number, found-changed, found-left, none-in-new, at-updated, Quiet, Goes, NotLoads, quiet-then, goes-quiet, alike, fell-anyhow, KnowsNext, parts, le-self, rows-self, next-above}
-use Rattle.pagable_laws.proofs.Effects.{Effect, IsMine, IsApart, IsHeldFor, Lasts, Spares, none, moves, fell, with-key, stays, one-then, entry, no-one, none-named, released-free, ended-free, worker-apart}
-use Rattle.pagable_laws.proofs.Effects.{stays-alike, spares-then, then-alike, then-fell, by-alike, by-fell, then-down, held-fell}
-use Rattle.pagable_laws.proofs.Called.{hands-over, ends-load, noted, asks, closes, gets-known as was-known, adopts, adopts-known, schedules, clones, pins, begins, begins-key, stores, calls-go, call-knows}
-use Rattle.pagable_laws.proofs.{Decoding.among-left, GoodReferences.{good, alike-away}, Outlasting.{AreUpTo, low-changed, low-whole, stands-new}, Sums.self-number, Trees.same_some}
-use Rattle.pagable_world.specs.{Loads.{Does as LoadDoes, Meets}, Runs.{Does as DoesMoment}}
-use Rattle.std.proofs.Common.{rules}
+use Rattle.pagable_laws.proofs.Words.{StepsReading, IsFresh, Error, OpenLoad, EndCall, HandOverCall, first_key, Fails, RefusesRoot, LoadIs, IsOfCell, IsOfKey, handles_of, GetsRoot, GetsLazy}
+use Rattle.pagable_laws.proofs.Words.{MakesNode, Change, nothing_felt, bears_known, ReadingFeels, reads-root, reads-blob, gets-known, gets-lazy, makes-known, makes-node, reading-ends, Want, AskCall}
+use Rattle.pagable_laws.proofs.Words.{AsksInVain, Result, Pinning, Beginning, Claim, is_loose, to_start, to_pin, to_set, to_release, to_fail, SetKeyCall, Does, PinsAtOnce, PinsByLoad, PinRefused}
+use Rattle.pagable_laws.proofs.Words.{GivesBack, next_start, give, give_known, fresh, TodoBrings, sets_key, false, if◌then◌else◌, updated, if_there, EventReply, TableNumber, WorkerAnswer, only_handle}
+use Rattle.pagable_laws.proofs.Words.{Cell, Task, type_at, key_at, first_todo, without_worker, WorkerEnds, is_workers_load, answer_after, BeginsKey, Stays, begun_readings, KeyStarted, Starts}
+use Rattle.pagable_laws.proofs.Words.{new_walking, Ends, Happens, with_worker, MachineState, world_of, IsMachineWhole, IsNewNode, EventBrings, KeepsOpen, LeavesCache, SameNode, NewNode, StaysAway}
+use Rattle.pagable_laws.proofs.Words.{KeepsReadings, EventFeels, by-call, by-reading, by-key, by-nothing, StepFeels, Blob, StoreCall, digest, AreGood, OwnersAreThere, step_of, Among, ◌==◌, CloneCall}
+use Rattle.pagable_laws.proofs.{Words.{Needs, GetsKnown, with_got}, Goes.{found-left, none-in-new, at-updated, Quiet, Goes, NotLoads, quiet-then, goes-quiet, alike, fell-anyhow, KnowsNext, parts}}
+use Rattle.pagable_laws.proofs.{Goes.{le-self, rows-self, next-above}, Effects.{Effect, IsMine, IsApart, IsHeldFor, Lasts, Spares, none, moves, fell, with-key, stays, one-then, entry, no-one}}
+use Rattle.pagable_laws.proofs.{Effects.{none-named, released-free, ended-free, worker-apart, stays-alike, spares-then, stays-fell, then-alike, then-fell, held-fell}, Called.{hands-over, ends-load}}
+use Rattle.pagable_laws.proofs.Called.{noted, asks, closes, gets-known as was-known, adopts, adopts-known, schedules, clones, pins, begins, begins-key, stores, calls-go, call-knows}
+use Rattle.pagable_laws.proofs.{Decoding.among-left, GoodReferences.{good, alike-away}, Outlasting.{AreUpTo, low-changed, low-whole, stands-new}, Sums.self-number, Trees.same_some, Standing.AllWait}
+use Rattle.{pagable_laws.proofs.Standing.WaitsWell, pagable_world.specs.{Loads.{Does as LoadDoes, Meets}, Runs.Does as DoesMoment}, std.proofs.Common.rules}
 use Rattle.pagable_world.specs.Workers as workers
-use Rattle.pagable_laws.proofs.{Standing.{AllWait, WaitsWell}, Words.{Needs, GetsKnown, with_got}}
 
 pub fits-kind : (kind : ℕ) → fits_mode kind (mode_of kind) ≡ true
 fits-kind kind = grind (arith, nat_tests)
@@ -97,11 +94,11 @@ module _ {N : Type 0} {v : Values N} {u u' : World} {l : LoadNumber} {reply : Lo
   steps-load after (of_caller q is) = elim (caller-was q after is) [ inl old ↦ inl (of_caller q old) | inr new ↦ inr (new.1, new.2) ]
   steps-load after (of_worker n place walking r through below there todo) = inl (of_worker n place walking r through below (sym (s.work.walkings n) ∙ there) todo)
 
-  pub stepped-load : {B W : Type 0} → IsWhole u.core → (event : Event N B W) → event ≡ Event.LoadStep l → IsSteppedReading u event s.reading
-  stepped-load {B} {W} whole event is =
-      let P : Event N B W → Type 0 = λ e. IsSteppedReading u e s.reading in
-      let stands = reading-stands u whole l s.reading s.at in
-      subst P (sym is) (s.at, elim stands [ inl there ↦ inl (of_caller l.0 there) | inr begun ↦ inr (begun.0, begun.1, subst (λ (z : LoadNumber). z.0 ≤ u.core.last.load) (sym begun.2) begun.3) ])
+  pub stepped-load : (B W : Type 0) → IsWhole u.core → IsSteppedReading u (let e : Event N B W = Event.LoadStep l in e) s.reading
+  stepped-load B W whole = (s.at, elim (reading-stands u whole l s.reading s.at) [
+    | inl there ↦ inl (of_caller l.0 there)
+    | inr begun ↦ inr (begun.0, begun.1, subst (λ (z : LoadNumber). z.0 ≤ u.core.last.load) (sym begun.2) begun.3)
+  ])
 
 -- ---- a load of a worker's
 
@@ -116,13 +113,9 @@ pub record LoadsTodo {N : Type 0} (v : Values N) (me : Owner) (s s' : Site) (rea
 module _ {N B W : Type 0} (m : Seen N B W) (v : ℕ) (s s' : Site) where
   pub loads-todo : (r : ArcRef) (place : ℕ) (through : HandleNumber) (reading : Reading) (below : List Todo) (step : Took W)
       → workers.Does m v s (to_load r place through reading ∷ below) step s' → LoadsTodo m.values (owner_worker v) s s' reading
-  loads-todo r place through reading below (Took.Pin i (Ok (PinStep.Held k))) (is, p) =
-      record { answer = Some (LoadAnswer.Pinned k); frames = []; does = p.goes.0; next = λ q at h after rest e. let f : to_write r place through ∷ below ≡ to_load q at h after ∷ rest = sym p.goes.1.list_is ∙ e in absurd (cc) }
-  loads-todo r place through reading below (Took.Pin i (Ok (PinStep.LoadBegun l))) (is, p) = absurd p.goes
-  loads-todo r place through reading below (Took.Pin i (Ok PinStep.LoadWent)) (is, p) = grind (arith, nat_tests)
   loads-todo r place through reading below (Took.Pin i (Err e)) (is, p) =
       record { answer = Some (LoadAnswer.Refused e); frames = []; does = p.refused.0; next = λ q at h after rest f. let g : workers.failing_by e s.todo ≡ to_load q at h after ∷ rest = sym p.refused.1.list_is ∙ f in absurd (cc) }
-  loads-todo r place through reading below step does = absurd does
+  loads-todo r place through reading below step does = grind (arith, nat_tests)
 
 module _ {N B W : Type 0} {m : Seen N B W} {u u' : World} {k : WorkerNumber} {reply : WorkerReply W} (s : WorkerSteps m u k reply u') where
   abbrev before : Site
@@ -214,13 +207,6 @@ module _ {N B W : Type 0} (m : Seen N B W) (w : Core) (me : Owner) (free : NotLo
   knew kind key k row load opened needs c made goes = on nothing_felt load opened (was-known c) (λ whole. gets-known kind key c.n row needs (is-cached w kind.0 key c.n c.known)
       (got-known whole kind k row made c.next.above c.n (Owner.Load reading.load) c.leaves) refl goes)
 
-  gets-cached : (frames : List Frame) → GetsCached m.values.types w me reading frames w' → RF None frames
-  gets-cached frames g = knew g.kind g.key g.k g.row g.asked.gives.0 g.asked.gives.1.stands_open (inl g.needs) g.asked.gives.2 g.made g.goes
-
-  gets-blob : (frames : List Frame) → GetsBlob m.values.types w me reading frames w' → RF None frames
-  gets-blob frames g =
-      on nothing_felt g.asked.gives.0 g.asked.gives.1.stands_open (asks _ g.asked) (λ whole. reads-blob g.kind g.key g.blob g.needs g.asked.gives.2.1.found refl g.goes)
-
   gets-unread : (frames : List Frame) → GetsLazy m.values.types w me reading frames w' → RF None frames
   gets-unread frames g = elim g.asked.makes.3 [
     | inl k ↦ knew g.kind g.key g.k g.row g.asked.makes.0 g.asked.makes.1.stands_open (inr g.needs) k g.made g.goes
@@ -262,8 +248,8 @@ module _ {N B W : Type 0} (m : Seen N B W) (w : Core) (me : Owner) (free : NotLo
   by-does : (answer : Option (LoadAnswer N)) (frames : List Frame) → LoadDoes m.values w me reading answer frames w' → RF answer frames
   by-does None frames does = elim does [
     | inl root ↦ gets-root frames root
-    | inr (inl cached) ↦ gets-cached frames cached
-    | inr (inr (inl blob)) ↦ gets-blob frames blob
+    | inr (inl g) ↦ knew g.kind g.key g.k g.row g.asked.gives.0 g.asked.gives.1.stands_open (inl g.needs) g.asked.gives.2 g.made g.goes
+    | inr (inr (inl g)) ↦ on nothing_felt g.asked.gives.0 g.asked.gives.1.stands_open (asks _ g.asked) (λ whole. reads-blob g.kind g.key g.blob g.needs g.asked.gives.2.1.found refl g.goes)
     | inr (inr (inr (inl lazy))) ↦ gets-unread frames lazy
     | inr (inr (inr (inr made))) ↦ makes frames made
   ]
@@ -422,19 +408,16 @@ module _ {N B W : Type 0} (m : Seen N B W) (v : ℕ) (s s' : Site) where
       subst (λ x. IsFresh s'.core x) same (refl, refl, begun-number v r through l does)) (by-load v r through l does)
 
   pub walk-goes : (todo : List Todo) (step : Took W) → Does m v s todo step s' → WF todo
-  walk-goes (to_start r place ∷ below) (Took.Claim i (Ok (Claim.Known key height))) (is, c) = grind (arith, nat_tests, rests, given-known, unmoved)
   walk-goes (to_start r place ∷ below) (Took.Claim i (Ok Claim.Waiting)) (is, c) = let t = c.finds.1.2 in
       quiet (λ n x b. b) (λ front well. no-load s' _ (t.list_is ∙ front) refl) (stays t.pager_stays)
   walk-goes (to_pin r place ∷ below) (Took.Pin i (Ok (PinStep.Held k))) (is, p) = rests _ (λ n x b. b) p.pins.2.list_is (λ well. refl) (at-once v r p.pins.0 k p.pins.1)
   walk-goes (to_pin r place ∷ below) (Took.Pin i (Ok (PinStep.LoadBegun l))) (is, p) = load-begins r place _ below p.pins.0 l p.pins.1 p.pins.2.list_is
   walk-goes (to_pin r place ∷ below) (Took.Pin i (Err f)) (is, p) = rests _ (λ n x b. b) p.refused.1.list_is (λ well. refl) (pin-refused v r f p.refused.0)
-  walk-goes (to_load r place through reading ∷ below) step does = loads-on r place through reading below step does
-  walk-goes (to_write r place through ∷ below) (Took.Write i (Ok out)) (is, p) = rests _ (λ n x b. b) p.writes.list_is (λ well. started place _ _ below refl) (stays p.writes.pager_stays)
   walk-goes (to_set r through key height ∷ below) (Took.SetKey i (Ok u)) (is, p) = sets r through key height below _ (Ok u) p.sets p.goes.list_is refl
   walk-goes (to_set r through key height ∷ below) (Took.SetKey i (Err f)) (is, p) = sets r through key height below _ (Err f) p.sets p.refused.list_is refl
   walk-goes (to_release r key height ∷ below) (Took.Release i) (is, falls, g) = rests _ (λ n x b. b) g.list_is (given r key height below) (fell (none s.core) falls.falls (λ mine o. released-free mine o.apart v o.other s.core r.node.0))
   walk-goes (to_fail fault back ∷ below) Took.Fail (gives, shelf, list_is) = rests _ (λ n x b. b) list_is (λ well. refl) (gives-back v back gives)
-  walk-goes _ step does = grind (arith, nat_tests, rests, unmoved, stored)
+  walk-goes _ step does = grind (arith, nat_tests, rests, unmoved, stored, given-known, loads-on, started)
 
 -- What trees feel of each event that doesn't close the storage.
 
@@ -461,8 +444,8 @@ ends-spare mine apart v other None e a = then-alike mine e a
 ends-spare mine apart v other (Some answer) {m = m} f a = spares-then mine a (then-fell mine apart f.falls (record { each = λ q row own s. s }) (ended-free mine apart v other m))
 
 ends-last : (kind key n : ℕ) (answer : Option WorkerAnswer) (v : ℕ) {w m w' : Core} → Ends answer v m w' → Lasts kind key n w m → Lasts kind key n w w'
-ends-last kind key n None v e a = then-down kind key n (λ h. subst (IsHeldFor kind key n) e.rows h) a (by-alike kind key n e (λ i. i))
-ends-last kind key n (Some answer) v f a = then-down kind key n (held-fell kind key n refl f.falls) a (by-fell kind key n f.falls (λ i. i))
+ends-last kind key n None v e a = record { lasts = λ i h h'. stays-alike kind key n e (a.lasts i h (subst (IsHeldFor kind key n) e.rows h')) h' }
+ends-last kind key n (Some answer) v f a = record { lasts = λ i h h'. stays-fell kind key n f.falls (a.lasts i h (held-fell kind key n refl f.falls h')) h' }
 
 -- ---- readings
 
@@ -560,7 +543,7 @@ module _ {N B W : Type 0} (m : Seen N B W) (u u' : World) where
       let x = is.moves in
       let f = reading-feels m u.core Owner.Caller caller-free u'.core x.reading reply.ended x.frames x.does in
       felt f.does (λ left. tt)
-      (λ whole well. by-reading f.change x.reading reply.ended x.frames (stepped-load x {B = B} {W = W} whole (Event.LoadStep l) refl) f.opens (f.feels whole.handles) (steps-load x))
+      (λ whole well. by-reading f.change x.reading reply.ended x.frames (stepped-load x B W whole) f.opens (f.feels whole.handles) (steps-load x))
       (λ whole leaves. reading-knows (f.feels whole.handles))
 
   module _ (k : WorkerNumber) (reply : WorkerReply W) (s : WorkerSteps m u k reply u') where

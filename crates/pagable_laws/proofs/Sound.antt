@@ -3,18 +3,15 @@
 use Rattle.pagable_laws.proofs.Words.{nat_tests, ◌≡◌, ℕ, suc, ◌+◌, ◌≤◌, true, List, [], ◌∷◌, length, Option, Some, sym, ap, subst, ◌∙◌, inl, inr, if◌then◌else◌, arith, slice_get, blob_of, Error}
 use Rattle.pagable_laws.proofs.Words.{ArcRef, Kind, Identity, Blob, Meaning, Tree, type_of, is_eager, above, longest_path, identity_of, Shelf, Written, Frame, Values, Next, reads, asks, is_faulty}
 use Rattle.pagable_laws.proofs.Words.{next_in, need_at, need_of, is_broken, IsPublished, MachineState, world_of, FramesFit, ReadsItsTypes, AreKeysOf, WorkFits, Needs, ◌==◌, Bool, false, ◌⊎◌, None}
-use Rattle.pagable_laws.proofs.Words.{Err, refl, Result, not, Want, Owner, HandleNumber, LoadNumber, NodeNumber, Types, is_loose_kind, if_there, any_mode, Core, OpenLoad, of_cell, Reading, Seen}
-use Rattle.pagable_laws.proofs.Words.{IsLawful, earlier, where_so, refused_if, spent, handle_fault, references_fault, load_fault, AreHandlesFull, Refused, FetchCall, birth_fault, AskCall}
-use Rattle.pagable_laws.proofs.Words.{LazyCall, ask_fault, is_known, node_fault, root_fault, needs_nested, needs_lazy, to_adopt, IsDecoded, RefusesBlob, RefusesNested, RefusesNode, RefusesRoot}
-use Rattle.pagable_laws.proofs.Words.{IsOfKey, EndsClosed, Fails, reading_at, IsMachineWhole, StandsFor, FitsRoot, of_caller, IsOfChance, IsPagedOutAs, IsLoadOfPagedOut, Ok, HandleRow, Mode}
-use Rattle.pagable_laws.proofs.Words.{LoadAnswer, LoadReply, Event, EventReply, or_else, row_fault, reference_fault, LoadSteps, Happens, IsOfHandles, LoadIsFaultless, FaultlessLaw, ◌<◌, Took}
-use Rattle.pagable_laws.proofs.Words.{owner_worker, Todo, Walking, named_fault, cell_fault, handles_of, after_kinds, LeadsDown, is-there, goes-down, ReadsTooDeep, IsReadingOf, of_worker}
-use Rattle.pagable_laws.proofs.Words.{LoadIsDeep, DeepLoadLaw, AllLow}
-use Rattle.pagable_laws.proofs.{Trees.same_some, Fitting.{asked, first-typed}}
-use Rattle.pagable_laws.proofs.{Apart.{IsFormOf, GotAsked, FramesAsked, NextOf, asks-known, all-read, next-known, all-got}, ReadingStepsKinds.{kinds_of, asks-by-kinds, faulty-by-kinds}}
-use Rattle.pagable_laws.proofs.{Sums.self-number, Taking.{adopted-over, eager-nested}, Chains.IsGoingOn, Deeply.along-first, ReadingSteps.reading-stands}
-use Rattle.std.{proofs.Common.rules}
-use Rattle.pagable_world.specs.{Loads.Does}
+use Rattle.pagable_laws.proofs.Words.{Err, refl, Result, not, Want, Owner, HandleNumber, LoadNumber, NodeNumber, Types, if_there, any_mode, Core, OpenLoad, of_cell, Reading, Seen, IsLawful, earlier}
+use Rattle.pagable_laws.proofs.Words.{where_so, refused_if, spent, handle_fault, references_fault, load_fault, AreHandlesFull, Refused, FetchCall, AskCall, LazyCall, ask_fault, is_known, node_fault}
+use Rattle.pagable_laws.proofs.Words.{root_fault, needs_nested, needs_lazy, to_adopt, IsDecoded, RefusesBlob, RefusesNested, RefusesNode, RefusesRoot, IsOfKey, EndsClosed, Fails, reading_at}
+use Rattle.pagable_laws.proofs.Words.{IsMachineWhole, StandsFor, FitsRoot, of_caller, IsOfChance, IsPagedOutAs, IsLoadOfPagedOut, Ok, HandleRow, Mode, LoadAnswer, LoadReply, Event, EventReply}
+use Rattle.pagable_laws.proofs.Words.{or_else, row_fault, reference_fault, LoadSteps, Happens, IsOfHandles, LoadIsFaultless, FaultlessLaw, ◌<◌, Took, owner_worker, Todo, Walking, named_fault}
+use Rattle.pagable_laws.proofs.{Words.{cell_fault, handles_of, after_kinds, LeadsDown, is-there, goes-down, ReadsTooDeep, IsReadingOf, of_worker, LoadIsDeep, DeepLoadLaw, AllLow}, Trees.same_some}
+use Rattle.pagable_laws.proofs.{Fitting.{asked, first-typed}, Apart.{IsFormOf, GotAsked, FramesAsked, NextOf, asks-known, all-read, next-known, all-got}, ReadingStepsKinds.{kinds_of, asks-by-kinds}}
+use Rattle.pagable_laws.proofs.{ReadingStepsKinds.faulty-by-kinds, Sums.self-number, Taking.{adopted-over, eager-nested}, Chains.IsGoingOn, Deeply.along-first, ReadingSteps.reading-stands}
+use Rattle.{std.proofs.Common.rules, pagable_world.specs.Loads.Does}
 use Rattle.pagable_world.specs.Workers as workers
 
 -- ---- what a load reads of a key that a page-out has published: each blob is a form of a tree, asks for references whose keys are known, and lies within the path's limit
@@ -142,9 +139,6 @@ module _ {N E : Type 0} (v : Values N) (s : MachineState N E) (trees : ℕ → T
       pub blob : Blob
       pub is : stored key ≡ Some blob
       pub short : is_eager kind.0 ≡ true → length frames ≤ longest_path
-
-    pub root-there : (blob : Blob) × (stored root_key ≡ Some blob)
-    root-there = let b = (fit.slots table i p.slot p.claimed).publishes root_key limit p.known in (_, b.2.is_stored)
 
     pub needed : (frames : List Frame) → FramesFit v.types stored trees root_key root_type frames → FramesAsked v.types frames → (kind : Kind) (key : ℕ) → Needs v.types frames kind key
         → Needed frames kind key
@@ -274,16 +268,13 @@ module _ {N B W E : Type 0} (m : Seen N B W) (s : MachineState N E) (trees : ℕ
         ap (λ n. (trees n).type) out.of_node ∙ r.typed ∙ sym is-read.of_type
 
     found : (blob : Blob) × (w.stored load.key ≡ Some blob)
-    found = root-there v s trees fit readable out.t load.key reading.node_type out.i out.height out.known typed
+    found = let b = (fit.slots out.t out.i out.known.slot out.known.claimed).publishes load.key out.height out.known.known in (_, b.2.is_stored)
 
     abbrev C : Error → Type 0
     C e = Cause v w load reading e
 
     no-load-fault : (P : Error → Type 0) → Only P (load_fault w Owner.Caller reading.load)
     no-load-fault P e is = absurd (let f = ap (load_fault w Owner.Caller) is-read.number ∙ may in cc)
-
-    not-faulty : (e : Error) → need_of v.types reading.frames ≡ is_broken e → ⊥
-    not-faulty = not-broken v s trees fit readable out.t load.key reading.node_type out.i out.height out.known typed reading.frames is-read.fits is-read.asked
 
     need-there : (kind : Kind) (key : ℕ) → (need_of v.types reading.frames ≡ needs_nested kind key) ⊎ (need_of v.types reading.frames ≡ needs_lazy kind key)
         → (blob : Blob) × (w.stored key ≡ Some blob) × (is_eager kind.0 ≡ true → length reading.frames ≤ longest_path)
@@ -318,7 +309,7 @@ module _ {N B W E : Type 0} (m : Seen N B W) (s : MachineState N E) (trees : ℕ
     -- ---- the causes
 
     of-blob : (e : Error) → RefusesBlob v reading e → IsOfChance e
-    of-blob e (inl is) = absurd (not-faulty e is)
+    of-blob e (inl is) = absurd (not-broken v s trees fit readable out.t load.key reading.node_type out.i out.height out.known typed reading.frames is-read.fits is-read.asked e is)
     of-blob e (inr (inl (top, below, is, causes))) = (grind (arith, nat_tests))
     of-blob e (inr (inr memory)) = (subst IsOfChance (sym memory) tt)
 

@@ -6,11 +6,10 @@ use Rattle.pagable_laws.proofs.Words.{AreKeysOf, Ground, FollowsTo, number-follo
 use Rattle.pagable_laws.proofs.Words.{WroteTree, KeyStands, BlobStands, SlotFits, KeysSoFar, Waits, Above, HasBlob, Walks, SlotsFit, ◌==◌, true, ◌++◌, length, Ok, drop, blob_of, HandleNumber, type_of}
 use Rattle.pagable_laws.proofs.Words.{Claim, Took, no_result, published, Open, Fault, to_start, to_pin, to_write, to_item, to_set, to_publish, to_release, to_fail, Seen, digest, Stores, Site, Does}
 use Rattle.pagable_laws.proofs.Words.{claim_fault, next_start, give, give_known, open_node, with_wait, answer_after, Expects, Event, EventReply, of_item, of_entry, IsLawful, first_todo, Ends, step_of}
-use Rattle.pagable_laws.proofs.Words.{PagerState, MachineState, world_of, IsMachineWhole, IsIdle, Represents, TookWrites, ReplyWrites, HoldsSettled, ReadsItsTypes, ground_of, WorkFits}
-use Rattle.pagable_laws.proofs.{Standing.{ShelfGrows, some-same, published-stays, PutsSlot, put-cases, puts-slot, changes-slot, HasClaim, AllStand}, Following.{IdentityStands, key-stands, wrote}}
-use Rattle.pagable_laws.proofs.Coming.{StandsIn, EventTurns, same-grow, turns-grow, turns-keep}
+use Rattle.pagable_laws.proofs.Words.{PagerState, MachineState, world_of, IsMachineWhole, IsIdle, Represents, TookWrites, ReplyWrites, HoldsSettled, ReadsItsTypes, ground_of, WorkFits, IsDone, AllLow}
+use Rattle.pagable_laws.proofs.{Words.{IsLow, IsAttained, Placed, HasRoom, is_eager, longest_path, max, above, suc, ◌+◌}, Standing.{ShelfGrows, some-same, published-stays, PutsSlot, put-cases}}
+use Rattle.pagable_laws.proofs.{Standing.{puts-slot, changes-slot, HasClaim, AllStand}, Following.{IdentityStands, key-stands, wrote}, Coming.{StandsIn, EventTurns, same-grow, turns-grow, turns-keep}}
 use Rattle.std.proofs.Common.{rules}
-use Rattle.pagable_laws.proofs.Words.{IsDone, AllLow, IsLow, IsAttained, Placed, HasRoom, is_eager, longest_path, max, above, suc, ◌+◌}
 
 -- ---- what is stored stays, and each node keeps its tree
 
@@ -368,11 +367,6 @@ module _ {N B W : Type 0} (m : Seen N B W) (n : ℕ) {g g' : Ground} (task : Tas
     stepped (to_fail fault back ∷ below) e Took.Fail st (gives, same, list_is) all walks = did (slots-failed goes more fits n same.slots) list_is tt
     stepped _ e step st does all walks = grind (arith, nat_tests, fails, did, kept, still, finishes, stored-so, given-known, given, keys-grow, has-blob-on, slots-failed)
 
-  -- a step leaves what fits
-  pub walk-steps : (step : Took W) → Does m n s s.todo step s' → ((i : Identity) (out : W) → step ≡ Took.Write i (Ok out) → WroteTree m.values.types g i.node.0 (m.written_of out))
-      → (answer_after s.todo step ≡ None → (key : ℕ) (b : Blob) → s'.core.stored key ≡ Some b → g'.stored key ≡ Some b) → AllStand s.shelf n task s.todo → Walks m.values g s.shelf task s.todo → Fits
-  walk-steps step does wrote ends all walks = stepped step wrote ends s.todo refl step refl does all walks
-
 -- Page-outs by trees: what tables and workers hold fits at first and after each event.
 
 -- it fits where nobody works yet
@@ -396,10 +390,6 @@ module _ {N B W E : Type 0} (m : Seen N B W) (s s' : MachineState N E) (trees tr
   claimable : (r : ArcRef) → claim_fault s.pager.core r ≡ None → (r.node.0 ≤ s.pager.core.last.node) × ((trees r.node.0).type ≡ type_of r.kind.0)
   claimable r may = grind (arith, nat_tests)
 
-  wrote-it : (taken : Took W) → TookWrites m.values m.written_of s.pager taken → (i : Identity) (out : W) → taken ≡ Took.Write i (Ok out)
-      → WroteTree m.values.types (ground_of s trees) i.node.0 (m.written_of out)
-  wrote-it taken writes i out is = wrote represents whole.pager settled reads lawful i.node.0 (m.written_of out) (subst (λ (t : Took W). TookWrites m.values m.written_of s.pager t) is writes)
-
   starts-well : (shelf : Shelf) (task : Task) → Walks m.values g' shelf task (first_todo task)
   unfolding Waits KeysSoFar
   starts-well shelf (of_item written) = started-item m.values g' shelf (of_item written) written [] [] _ refl (refl, tt)
@@ -416,7 +406,9 @@ module _ {N B W E : Type 0} (m : Seen N B W) (s s' : MachineState N E) (trees tr
       (λ k r w one more.
       let ends : answer_after w.walking.todo r.took ≡ None → (key : ℕ) (b : Blob) → w.after.core.stored key ≡ Some b → s'.pager.core.stored key ≡ Some b =
       λ none key b is. (let e = subst (λ a. Ends a k.0 w.after.core s'.pager.core) (w.answers ∙ none) w.ends in e.stored key ∙ is) in
-      let d = walk-steps m k.0 w.walking.task (record { core = s.pager.core; shelf = s.work.shelves w.walking.table; todo = w.walking.todo }) w.after goes more (fit.slots w.walking.table) claimable
-      r.took w.does.does (wrote-it r.took (took-writes m s.pager turns.who event reply r.took one writes)) ends (work.workers k.0 w.walking w.at).all (fit.walks k.0 w.walking w.at) in
+      let d = stepped m k.0 w.walking.task (record { core = s.pager.core; shelf = s.work.shelves w.walking.table; todo = w.walking.todo }) w.after goes more (fit.slots w.walking.table) claimable
+      r.took (λ i out is. wrote represents whole.pager settled reads lawful i.node.0 (m.written_of out)
+      (subst (λ (t : Took W). TookWrites m.values m.written_of s.pager t) is (took-writes m s.pager turns.who event reply r.took one writes)))
+      ends w.walking.todo refl r.took refl w.does.does (work.workers k.0 w.walking w.at).all (fit.walks k.0 w.walking w.at) in
       (d.slots, d.walks)) in
       record { slots = h.slots; walks = h.walks }

@@ -1,14 +1,12 @@
 -- What a load has read fits after its step; and a node whose value is in memory gives its tree, as does what a load of a key answers.
-use Rattle.pagable_laws.proofs.Words.{◌≡◌, ℕ, suc, ◌+◌, ◌<◌, ◌≤◌, true, List, [], ◌∷◌, Option, Some, None, inr, refl, sym, ◌∙◌, subst, arith, is_some, nat_lt, nat_tests, HandleRow}
-use Rattle.pagable_laws.proofs.Words.{Owner, OptionalDataKey, ArcRef, Kind, HandleNumber, Blob, Types, Tree, ReadsTree, type_of, Among, one, is_at, is_pin, is_pinning, held, pins, Core, OpenLoad}
-use Rattle.pagable_laws.proofs.Words.{Frame, Reading, row_at, Values, IsLawful, IsReference, Next, need_at, to_adopt, ReadsRoot, ReadsNode, root_frame, nested_frame, with_got, PagerState}
-use Rattle.pagable_laws.proofs.Words.{HandlesAreWhole, IsWhole, WellFormed, NodeStands, ValueStands, ReadsNodeTree, FramesFit, SameTrees, Represents, ReadsItsTypes, GivesTree, ReadIsRight, Change}
-use Rattle.pagable_laws.proofs.Words.{bears_known, CoreGoes, ReadingFeels, reads-root, reads-blob, gets-known, gets-lazy, makes-known, makes-node, reading-ends, Decoded, FramesGiven}
-use Rattle.pagable_laws.proofs.{Fitting.{node-stays, first-fits, first-typed, frames-stay, all-none, all-new, all-more, made-fits, needed-fits, nested-fits, root-fits}}
-use Rattle.pagable_laws.proofs.Decoding.{decodes, read_stands}
-use Rattle.pagable_laws.proofs.Words.{ap, inl, gone_on, GetsRow, GotStands, FramesHeld, LoadNumber, ReadingFits, ChangeFits, Needs}
-use Rattle.pagable_laws.proofs.{Apart.{none-got, one-got, FramesAsked}, Fitting.asked, Words.{is_eager, asks, next_in, need_of, needs_nested}}
-use Rattle.pagable_laws.proofs.{Following.{cell-of, given-of}, Outlasting.among-found, Sums.{at-most-sum, self-number}, Trees.same_some}
+use Rattle.pagable_laws.proofs.Words.{◌≡◌, ℕ, suc, ◌+◌, ◌<◌, ◌≤◌, true, List, [], ◌∷◌, Option, Some, None, inr, refl, sym, ◌∙◌, subst, arith, is_some, nat_lt, nat_tests, HandleRow, Owner}
+use Rattle.pagable_laws.proofs.Words.{OptionalDataKey, ArcRef, Kind, HandleNumber, Blob, Types, Tree, ReadsTree, type_of, Among, one, is_at, is_pin, is_pinning, held, pins, Core, OpenLoad, Frame}
+use Rattle.pagable_laws.proofs.Words.{Reading, row_at, Values, IsLawful, IsReference, Next, need_at, to_adopt, ReadsRoot, ReadsNode, root_frame, nested_frame, with_got, PagerState, HandlesAreWhole}
+use Rattle.pagable_laws.proofs.Words.{IsWhole, WellFormed, NodeStands, ValueStands, ReadsNodeTree, FramesFit, SameTrees, Represents, ReadsItsTypes, GivesTree, ReadIsRight, Change, bears_known}
+use Rattle.pagable_laws.proofs.Words.{CoreGoes, ReadingFeels, reads-root, reads-blob, gets-known, gets-lazy, makes-known, makes-node, reading-ends, Decoded, FramesGiven, ap, inl, gone_on, GetsRow}
+use Rattle.pagable_laws.proofs.{Words.{GotStands, FramesHeld, LoadNumber, ReadingFits, ChangeFits, Needs, is_eager, asks, next_in, need_of, needs_nested}, Fitting.{node-stays, first-fits}}
+use Rattle.pagable_laws.proofs.{Fitting.{first-typed, frames-stay, all-none, all-new, all-more, made-fits, needed-fits, nested-fits, root-fits, asked}, Decoding.{decodes, read_stands}, Apart.none-got}
+use Rattle.pagable_laws.proofs.{Apart.{one-got, FramesAsked}, Following.{cell-of, given-of}, Outlasting.among-found, Sums.{at-most-sum, self-number}, Trees.same_some}
 
 -- ---- a live handle's node
 
@@ -186,11 +184,6 @@ module _ {N : Type 0} {v : Values N} {w w' : Core} {trees trees' : ℕ → Tree}
       subst (FitOf v w' trees' reading load) (sym is) (fit-made reading.load load.key reading.node_type h reading x made _ row got (born-reads h made.top.kind made.top.key _ row refl got.at) g)
   felt-after reading load frames h open_load (reading-ends end answer is) g = absurd (cc)
 
-  -- After a load's step all that it reads fits.
-  pub fit-after : (reading : Reading) (load : OpenLoad) (frames : List Frame) {c : Change} → AtStep v c w w' trees trees' → w.loads reading.load.0 ≡ Some load
-      → FitAfter v w trees reading.load load.key reading.node_type reading.frames → ReadingFeels v w reading None frames w' c → FitOf v w' trees' reading load frames
-  fit-after reading load frames h open_load f feels = felt-after reading load frames h open_load feels (fit-still reading.load load.key reading.node_type h reading.frames f)
-
 -- ---- a reading, where the pager stands for trees
 
 pub record Going {N E : Type 0} (v : Values N) (s : PagerState N E) (trees : ℕ → Tree) (reading : Reading) : Type 0 where
@@ -238,7 +231,8 @@ module _ {N E : Type 0} {v : Values N} {s s' : PagerState N E} {trees trees' : �
   pub going-step : (reading : Reading) (frames : List Frame) (load : OpenLoad) → s.core.loads reading.load.0 ≡ Some load → Going v s trees reading
       → ReadingFeels v s.core reading None frames s'.core c → Going v s' trees' (gone_on reading frames)
   going-step reading frames load opened g feels =
-      let after = fit-after reading load frames at-step opened (record { fit = g.fits load opened; held = g.held; asked = g.asked }) feels in
+      let before = fit-still reading.load load.key reading.node_type at-step reading.frames (record { fit = g.fits load opened; held = g.held; asked = g.asked }) in
+      let after = felt-after reading load frames at-step opened feels before in
       record {
         within = still-within reading.load.0 g.within;
         fits = λ other at. subst (λ (z : OpenLoad). FramesFit v.types s'.core.stored trees' z.key reading.node_type frames)
