@@ -8,7 +8,7 @@ use Rattle.pagable_laws.proofs.Words.{Written, next_start, first_todo, is_counte
 use Rattle.pagable_laws.proofs.{Words.{steps_after, Leads}, Standing.{same-worker, puts-slot, SlotChanges, ShelfGrows, some-none, some-same, grows, same-slots, meets-grow, CoversBy, Goes, plain}}
 use Rattle.pagable_laws.proofs.Standing.{fails, swaps, gives, given-open, all-stay, SameSlots, Turned, work-stands, is-quiet, is-started, is-stepped, is_open_in, AllStand, Covers, HasNoFailed}
 use Rattle.pagable_laws.proofs.{Standing.{WorkStands, claimed, written-goes, published-goes, failed-goes, is_failed, WaitsWell, follows-waits}, Called.calls-go, ReadingSteps.caller-free}
-use Rattle.{pagable_laws.proofs.{ReadingSteps.{reading-feels, walk-goes}, Joining.steps_follow, Decoding.{among-left, among-right}, Goes.le-of}, std.proofs.Common.{length-append, append-nil}}
+use Rattle.{pagable_laws.proofs.{ReadingSteps.{reading-feels, walk-goes}, Joining.steps_follow, Decoding.{among-left, among-right}, Goes.le-of}, std.proofs.Common.{length-append, append-nil, rules}}
 use Rattle.std.{proofs.lemmas.Bool.{false_from_ne_true, cases_Bool}, specs.List.sum_by}
 use Rattle.pagable_laws.proofs.Called as calling
 
@@ -49,12 +49,10 @@ module _ {N B W : Type 0} (m : Seen N B W) (v : ℕ) (task : Task) (s s' : Site)
       (plain v task s.shelf s'.shelf c.finds.1.2.table_is.slots None (to_start r place ∷ below) (λ a is. absurd (cc)) all covers)
   go (to_write r place through ∷ below) e all covers (Took.Write i (Ok out)) (is, p) = to-list p.writes.list_is
       (written-goes v task s.shelf s'.shelf r place through (m.written_of out) below all covers p.writes.table_is)
-  go (to_item written keys ∷ below) e ((is_of, last), apart, rest) covers (Took.Store i (Ok key)) (is, p) = grind (arith, nat_tests, to-list, plain)
   go (to_publish r key height ∷ below) e all covers (Took.Publish i k h) (is, same_key, same_height, t) = to-list t.list_is
       (published-goes v task s.shelf s'.shelf r key height below all covers t.table_is)
-  go (to_release r key height ∷ below) e all covers (Took.Release i) (is, falls, g) = to-list g.list_is (released r key height below all covers g.table_stays.slots (Took.Release i))
   go (to_fail fault back ∷ below) e all covers Took.Fail (back_is, table_is, list_is) = to-list list_is (failed-goes v task s.shelf s'.shelf (answer_of_fault fault) table_is)
-  go _ e all covers step does = grind (arith, nat_tests, to-list, fails, swaps, plain)
+  go _ e all covers step does = grind (arith, nat_tests, to-list, fails, swaps, plain, released)
 
   pub stands-on : AllStand s.shelf v task s.todo → Covers s.shelf v s.todo → (step : Took W) → Does m v s s.todo step s' → Goes v task s.shelf (answer_after s.todo step) s'.shelf s'.todo
   stands-on all covers step does = go s.todo refl all covers step does
@@ -243,11 +241,7 @@ module _ {N B W : Type 0} (m : Seen N B W) {u u' : World} {event : Event N B W} 
     stays-so t same = stay t (u'.work.shelves t) (turns-grow t) same
 
     all-hold : ((t : ℕ) → Slots (u'.work.shelves t)) → ((w : Walking) → u'.work.walkings turns.who ≡ Some w → Of turns.who w) → HoldsOfAll u' Slots Walk
-    all-hold slots own = record { slots = slots; walks = λ n w there. of n w there (nat_eq n turns.who) refl }
-      where
-        of : (n : ℕ) (w : Walking) → u'.work.walkings n ≡ Some w → (b : Bool) → nat_eq n turns.who ≡ b → Of n w
-        of n w there true e = let f : n ≡ turns.who = grind (arith, nat_tests) in subst (λ k. Of k w) (sym f) (own w (sym (ap u'.work.walkings f) ∙ there))
-        of n w there false e = let turned = turns.turned in rest n w (turns.others n e) (sym (turned.others n e) ∙ there)
+    all-hold slots own = search (rules, nat_eq, true, false)
 
     pub turns-keep : HoldsOfAll u' Slots Walk
     turns-keep = by turns.own
@@ -399,17 +393,15 @@ module _ {W : Type 0} (n : ℕ) where
     pub follows-met : (f : W → Written) (todo : List Todo) (step : Took W) (next : List Todo) → Follows f todo step next → Among past step
         → ((i : Identity) → step ≡ Took.Claim i (Ok Claim.AlreadyFailed) → FailedElsewhere shelf n i) → FailsMet shelf past todo → FailsMet shelf past next
     unfolding FailsMet
-    follows-met f (to_start r place ∷ x ∷ below) (Took.Claim j (Ok (Claim.Known key height))) next (is, e) among already met = rw e (given r key height (x ∷ below) met)
     follows-met f (to_start r place ∷ below) (Took.Claim j (Ok Claim.AlreadyFailed)) next (is, e) among already met = rw e ((j, among, already j refl), tt)
     follows-met f (to_start r place ∷ below) (Took.Claim j (Err fault)) next (is, e) among already met = rw e (refused _ fault among refl)
     follows-met f (to_pin r place ∷ below) (Took.Pin j (Err fault)) next (is, e) among already met = rw e (refused _ fault among refl)
     follows-met f (to_load r place through reading ∷ below) (Took.Pin j (Err fault)) next (is, e) among already met = rw e (refused _ fault among refl)
-    follows-met f (to_write r place through ∷ below) (Took.Write j (Ok out)) next (is, e) among already met = rw e (started place (drop 0 (f out).references) _ met)
     follows-met f (to_write r place through ∷ below) (Took.Write j (Err fault)) next (is, e) among already met = rw e (refused _ fault among refl)
     follows-met f (to_finish o ∷ below) (Took.Store (Some j) (Err fault)) next (is, e) among already met = rw e (refused _ fault among refl)
     follows-met f (to_item written keys ∷ below) (Took.Store None (Err fault)) next e among already met = rw e (refused _ fault among refl)
     follows-met f (to_set r through key height ∷ below) (Took.SetKey j (Err fault)) next (is, e) among already met = rw e (refused _ fault among refl)
-    follows-met f _ step next follows among already met = grind (arith, nat_tests, on, given)
+    follows-met f _ step next follows among already met = grind (arith, nat_tests, on, given, started, drop)
 
     -- the answer is what the list was about to fail with, or a key
     pub answered : (todo : List Todo) (step : Took W) (answer : WorkerAnswer) → answer_after todo step ≡ Some answer → FailsMet shelf past todo → IsMetFailure shelf n past answer
@@ -474,12 +466,7 @@ module _ {N B W : Type 0} (m : Seen N B W) (u u' : World) (grow : (t : ℕ) → 
       → HasGone f n u.work.shelves (u.work.walkings n) past
       → HasGone f n u'.work.shelves (u'.work.walkings n) (past ++ taken)
   unfolding all-due
-  begun n t task past taken none nobody new gone =
-      let first : Went f n (u'.work.shelves t.0) (new_walking t task) [] =
-      record { leads = refl; fails = first-met n (u'.work.shelves t.0) [] task; met = λ answer is. absurd (cc); within = (grind (arith, nat_tests, settled-item)) } in
-      let no_past : past ≡ [] = subst (λ o. HasGone f n u.work.shelves o past) nobody gone in
-      let none_now : past ++ taken ≡ [] = ap (λ k. past ++ k) none ∙ (append-nil past ∙ no_past) in
-      subst (λ o. HasGone f n u'.work.shelves o (past ++ taken)) (sym new) (subst (λ k. Went f n (u'.work.shelves t.0) (new_walking t task) k) (sym none_now) first)
+  begun n t task past taken none nobody new gone = search (rules, f, new_walking, fails, first-met, settled-item, append-nil)
 
   went-on : StandsIn u → (k : WorkerNumber) (reply : WorkerReply W) (past : List (Took W)) → WorkerSteps m u k reply u' → HasGone f k.0 u.work.shelves (u.work.walkings k.0) past
       → HasGone f k.0 u'.work.shelves (u'.work.walkings k.0) (past ++ reply.took ∷ [])

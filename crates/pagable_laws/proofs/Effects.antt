@@ -80,19 +80,16 @@ module _ (kind key n : ℕ) where
   pub held-fell : {w m w' : Core} {given : ℕ → Bool} {r : Result (Unit {0}) Error} → m.rows ≡ w.rows → Falls w m given r w' → IsHeldFor w'.rows → IsHeldFor w.rows
   held-fell {w} {m} {w'} same f h = elim (among-either (left_rows f.gone m.rows) f.entries g.live.0 g.row g.live.1) [
     | inl left ↦ record { row = g.row; live = subst (λ rows. Among rows g.row) same (among-kept _ m.rows g.row left); at = g.at; pins_it = g.pins_it }
-    | inr new ↦ was-pinned new
+    | inr new ↦
+        let le = at-most-sum (λ x. one (is_at n x)) f.entries g.row new in
+        let some : 0 < held n f.entries = let e : one (is_at n g.row) ≡ 1 = ap one (at-row g.row g.at) in omega (arith, e, le) in
+        let p = counted (λ x. one (is_pin n x)) w.rows (f.only n some).0.pinned in
+        let both = and_parts (p.0.node.0 == n) (is_pinning p.0.mode) (one-true _ p.2) in
+        record { row = p.0; live = p.1; at = same-number _ _ both.0; pins_it = λ is. both.1 }
   ]
     where
       g : IsHeldFor (left_rows f.gone m.rows ++ f.entries)
       g = subst IsHeldFor f.leaves.rows h
-
-      was-pinned : Among f.entries g.row → IsHeldFor w.rows
-      was-pinned new =
-          let le = at-most-sum (λ x. one (is_at n x)) f.entries g.row new in
-          let some : 0 < held n f.entries = let e : one (is_at n g.row) ≡ 1 = ap one (at-row g.row g.at) in omega (arith, e, le) in
-          let p = counted (λ x. one (is_pin n x)) w.rows (f.only n some).0.pinned in
-          let both = and_parts (p.0.node.0 == n) (is_pinning p.0.mode) (one-true _ p.2) in
-          record { row = p.0; live = p.1; at = same-number _ _ both.0; pins_it = λ is. both.1 }
 
   -- ---- cells
 

@@ -258,14 +258,9 @@ module _ {N E : Type 0} {v : Values N} {s s' : PagerState N E} {trees : ℕ → 
   birth-tree : (x : N) (owner : Owner) → AreGood s.core owner (v.references x) → (t : Tree) × (t.type ≡ v.node_type x) × ValueLeads v trees x t
   birth-tree x owner good =
       let some = lawful.some x in
-      let l = led {trees = trees} some.0 (λ r among. typed-as r (own-refs lawful x some.0 some.1 r among)) in
+      let l = led {trees = trees} some.0 (λ r among. let is = (good r (own-refs lawful x some.0 some.1 r among)).typed in
+      same_some _ _ (sym (stands.typed r.node.0 (given-of well.whole.handles r.node.0 is).0) ∙ is)) in
       (tree (v.node_type x) l.0, refl, record { own = some.0; typed = refl; means = some.1; leads = l.1 })
-    where
-      typed-as : (r : ArcRef) → Among (v.references x) r → (trees r.node.0).type ≡ type_of r.kind.0
-      typed-as r among =
-          let is = (good r among).typed in
-          let live = given-of well.whole.handles r.node.0 is in
-          same_some _ _ (sym (stands.typed r.node.0 live.0) ∙ is)
 
   so : {c : Change} {comes : ℕ → N → Type 0} {after : ℕ → Tree} → ChangeFits v c comes s s' trees after → Fits c comes
   so {after = after} f = record { after = after; fits = f }
@@ -341,7 +336,8 @@ module _ {N E : Type 0} {v : Values N} {s s' : PagerState N E} {trees : ℕ → 
       → (answer ≡ None → (load : OpenLoad) × (s.core.loads reading.load.0 ≡ Some load))
       → ReadingFeels v s.core reading answer frames s'.core c → (after : ℕ → Tree) × ChangeFits v c (ReadingBrings v s.core reading) s s' trees after
   reading-fits goes takes opens (gets-lazy kind key row needs got answer is) =
-      let asked = takes kind key needs in (_, fits-born-known lawful settled well well' stands asked.read _ kind.0 key (OptionalDataKey.Some key) asked.typed (λ q e. cc) (tree-stays goes.stored asked.reads)
+      let asked = takes kind key needs in
+      (_, fits-born-known lawful settled well well' stands asked.read _ kind.0 key (OptionalDataKey.Some key) asked.typed (λ q e. cc) (tree-stays goes.stored asked.reads)
       (λ n x brings unset at. elim brings [ inl (reads, new) ↦ absurd (cc) | inr (root, cell) ↦ root-on goes asked.read n x at root cell ]))
   reading-fits goes takes opens (makes-node x reads row got answer is) =
       let load = opens answer in

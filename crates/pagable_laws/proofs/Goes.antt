@@ -50,11 +50,7 @@ rows-then last more rows mid rows' le first second q row found few =
 pub found-number : (q : ℕ) (rows : List HandleRow) (row : HandleRow) → find_row q rows ≡ Some row → row.number.0 ≡ q
 unfolding find_row
 found-number q [] row found = absurd (cc)
-found-number q (h ∷ hs) row found = at (λ f. found-number q hs row f) (is_handle q h) refl found
-  where
-    at : (find_row q hs ≡ Some row → row.number.0 ≡ q) → (b : Bool) → is_handle q h ≡ b → (if b then Some h else find_row q hs) ≡ Some row → row.number.0 ≡ q
-    at rest true is found = let e : h ≡ row = cc in sym (ap (λ (r : HandleRow). r.number.0) e) ∙ same-number _ _ is
-    at rest false is found = rest found
+found-number q (h ∷ hs) row found = grind (arith, nat_tests, is_handle, find_row, true, same-number, false, found-number q hs row)
 
 -- a handle that is found in a changed row was found before
 pub record Changed (test : HandleRow → Bool) (f : HandleRow → HandleRow) (rows : List HandleRow) (q : ℕ) (row : HandleRow) : Type 0 where
@@ -66,24 +62,7 @@ pub found-changed : (test : HandleRow → Bool) (f : HandleRow → HandleRow) �
     → find_row q (changed test f rows) ≡ Some row → Changed test f rows q row
 unfolding find_row
 found-changed test f same q [] row found = absurd (cc)
-found-changed test f same q (h ∷ hs) row found = at (λ e. found-changed test f same q hs row e) (is_handle q h) refl
-  where
-    rest : Changed test f hs q row → is_handle q h ≡ false → Changed test f (h ∷ hs) q row
-    rest c other = record { was = c.was; live = rw other c.live; is = c.is }
-
-    number : (b : Bool) → (if b then f h else h).number ≡ h.number
-    number true = same h
-    number false = refl
-
-    at : (find_row q (changed test f hs) ≡ Some row → Changed test f hs q row) → (d : Bool) → is_handle q h ≡ d → Changed test f (h ∷ hs) q row
-    at back true is =
-        let there : is_handle q (if test h then f h else h) ≡ true = ap (λ (k : HandleNumber). k.0 == q) (number (test h)) ∙ is in
-        let found' : Some (if test h then f h else h) ≡ Some row = rw there at found in
-        record { was = h; live = rw is refl; is = cc }
-    at back false is =
-        let there : is_handle q (if test h then f h else h) ≡ false = ap (λ (k : HandleNumber). k.0 == q) (number (test h)) ∙ is in
-        let found' : find_row q (changed test f hs) ≡ Some row = rw there at found in
-        rest (back found') is
+found-changed test f same q (h ∷ hs) row found = grind (arith, nat_tests, is_handle, false, true, find_row, changed, found-changed test f same q hs row)
 
 abbrev pub NotLoads : Owner → Type 0
 NotLoads o = (l : LoadNumber) → o ≡ Owner.Load l → ⊥
@@ -126,20 +105,7 @@ none-in-next last q h next few = let a : is_handle q h ≡ false = other-number 
 pub found-left : (gone : ℕ → Bool) (q : ℕ) (rows : List HandleRow) (row : HandleRow) → find_row q (left_rows gone rows) ≡ Some row → (find_row q rows ≡ Some row) × (gone q ≡ false)
 unfolding find_row
 found-left gone q [] row found = absurd (cc)
-found-left gone q (h ∷ hs) row found = at (λ f. found-left gone q hs row f) (gone h.number.0) refl (is_handle q h) refl
-  where
-    at : (find_row q (left_rows gone hs) ≡ Some row → (find_row q hs ≡ Some row) × (gone q ≡ false)) → (b : Bool) → gone h.number.0 ≡ b → (d : Bool) → is_handle q h ≡ d
-        → (find_row q (h ∷ hs) ≡ Some row) × (gone q ≡ false)
-    at back true goes true is =
-        let f : find_row q (left_rows gone hs) ≡ Some row = rw goes at found in
-        let b = back f in
-        let e : gone q ≡ true = sym (ap gone (same-number _ _ is)) ∙ goes in
-        absurd (cc)
-    at back true goes false is = let f : find_row q (left_rows gone hs) ≡ Some row = rw goes at found in let b = back f in (rw is b.0, b.1)
-    at back false goes true is = let f : find_row q (h ∷ left_rows gone hs) ≡ Some row = rw goes at found in let g : Some h ≡ Some row = rw is at f in
-        (rw is g, sym (ap gone (same-number _ _ is)) ∙ goes)
-    at back false goes false is = let f : find_row q (h ∷ left_rows gone hs) ≡ Some row = rw goes at found in let g : find_row q (left_rows gone hs) ≡ Some row = rw is at f in let b = back g in
-        (rw is b.0, b.1)
+found-left gone q (h ∷ hs) row found = grind (arith, nat_tests, is_handle, find_row, left_rows, false, true, same-number, found-left gone q hs row)
 
 pub rows-left : (last : ℕ) (rows : List HandleRow) (gone : ℕ → Bool) → RowsGo last rows (left_rows gone rows)
 rows-left last rows gone q row found few = record { was = row; live = (found-left gone q rows row found).0; at = refl; mine = λ l is. refl; loose = λ is. is }

@@ -227,14 +227,12 @@ module _ {N B W : Type 0} (m : Seen N B W) (v : ℕ) (s s' : Site) (whole : Hand
       (settled s'.core (record { reference = r; place = place; through = through; written = m.written_of out; keys = []; height = 0 }) below (stands-on f h, quiet, all-on f below all))
       (changed-reveals s.shelf s'.shelf KeyThere (identity_of r) (λ slot. record slot { written = Some (m.written_of out) }) t.table_is (λ old key height is. inl is))
   stepped (to_finish o ∷ below) (Took.Store i (Ok key)) e (is, p) f (h, quiet, all) = let t = p.goes in stays t.table_stays.slots t.list_is refl (stands-on f h, quiet, all-on f below all)
-  stepped (to_item written ks ∷ below) (Took.Store i (Ok key)) e (is, p) f all = let t = p.goes in stays t.table_stays.slots t.list_is refl tt
   stepped (to_set r through key height ∷ below) (Took.SetKey i (Ok u)) e (is, p) f (h, quiet, all) = sets i u r through key height below e h p.sets p.goes quiet (all-on f below all)
   stepped (to_publish r key height ∷ below) (Took.Publish i k q) e (is, same_key, same_height, t) f (h, quiet, all) =
       leaves t.list_is refl (tt, quiet, all-on f below all) (changed-reveals s.shelf s'.shelf KeyThere (identity_of r) (with_outcome (published key height)) t.table_is (λ old k2 h2 known. inr (λ kind. key-on f (h kind))))
   stepped (to_release r key height ∷ below) (Took.Release i) e (is, falls, t) f (h, quiet, all) = stays t.table_stays.slots t.list_is (given-quiet r key height below quiet)
       (given s'.core r key height below (all-on f below all))
-  stepped (to_fail fault back ∷ below) Took.Fail e (gives, same, list_is) f all = leaves list_is refl tt (grind (arith, of-some, known))
-  stepped _ step e does f all = grind (arith, nat_tests, stays)
+  stepped _ step e does f all = grind (arith, nat_tests, stays, leaves, of-some, known)
 
 -- ---- together
 

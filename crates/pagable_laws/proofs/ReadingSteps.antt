@@ -2,21 +2,21 @@
 use Rattle.pagable_laws.proofs.Words.{◌≡◌, ℕ, ◌+◌, ◌<◌, ◌≤◌, Bool, true, List, [], ◌∷◌, ◌++◌, refl, ap, subst, ◌∙◌, inr, arith, Some, ◌⊎◌, nat_tests, ArcRef, Kind, HandleNumber, LoadNumber}
 use Rattle.pagable_laws.proofs.Words.{NodeNumber, OptionalDataKey, type_of, HandleRow, Owner, find_row, mode_of, fits_mode, owner_value, Core, Last, Alike, row_at, usable, FallsAnyhow, row_of}
 use Rattle.pagable_laws.proofs.Words.{with_handle, with_node, with_cached_if_open, with_known, next_node, is_named_by, moved, adopted, HandlesAreWhole, GetsRow, sym, inl, Option, None, Ok, Err}
-use Rattle.pagable_laws.proofs.Words.{is_some, WorkerNumber, LoadAnswer, LoadReply, WorkerReply, PinStep, Took, Event, owner_worker, Frame, Reading, Todo, to_load, to_write, Walking, World, Seen}
-use Rattle.pagable_laws.proofs.Words.{Values, ReadingDoes, gone_on, Site, ReadingsAre, reading_at, reading_after, LoadSteps, WorkerSteps, IsWhole, IsReadingOf, of_caller, of_worker, IsSteppedReading}
-use Rattle.pagable_laws.proofs.Words.{StepsReading, IsFresh, Error, OpenLoad, EndCall, HandOverCall, first_key, Fails, RefusesRoot, LoadIs, IsOfCell, IsOfKey, handles_of, GetsRoot, GetsLazy}
-use Rattle.pagable_laws.proofs.Words.{MakesNode, Change, nothing_felt, bears_known, ReadingFeels, reads-root, reads-blob, gets-known, gets-lazy, makes-known, makes-node, reading-ends, Want, AskCall}
-use Rattle.pagable_laws.proofs.Words.{AsksInVain, Result, Pinning, Beginning, Claim, is_loose, to_start, to_pin, to_set, to_release, to_fail, SetKeyCall, Does, PinsAtOnce, PinsByLoad, PinRefused}
-use Rattle.pagable_laws.proofs.Words.{GivesBack, next_start, give, give_known, fresh, TodoBrings, sets_key, false, if◌then◌else◌, updated, if_there, EventReply, TableNumber, WorkerAnswer, only_handle}
-use Rattle.pagable_laws.proofs.Words.{Cell, Task, type_at, key_at, first_todo, without_worker, WorkerEnds, is_workers_load, answer_after, BeginsKey, Stays, begun_readings, KeyStarted, Starts}
-use Rattle.pagable_laws.proofs.Words.{new_walking, Ends, Happens, with_worker, MachineState, world_of, IsMachineWhole, IsNewNode, EventBrings, KeepsOpen, LeavesCache, SameNode, NewNode, StaysAway}
-use Rattle.pagable_laws.proofs.Words.{KeepsReadings, EventFeels, by-call, by-reading, by-key, by-nothing, StepFeels, Blob, StoreCall, digest, AreGood, OwnersAreThere, step_of, Among, ◌==◌, CloneCall}
-use Rattle.pagable_laws.proofs.{Words.{Needs, GetsKnown, with_got}, Goes.{found-left, none-in-new, at-updated, Quiet, Goes, NotLoads, quiet-then, goes-quiet, alike, fell-anyhow, KnowsNext, parts}}
-use Rattle.pagable_laws.proofs.{Goes.{le-self, rows-self, next-above}, Effects.{Effect, IsMine, IsApart, IsHeldFor, Lasts, Spares, none, moves, fell, with-key, stays, one-then, entry, no-one}}
-use Rattle.pagable_laws.proofs.{Effects.{none-named, released-free, ended-free, worker-apart, stays-alike, spares-then, stays-fell, then-alike, then-fell, held-fell}, Called.{hands-over, ends-load}}
-use Rattle.pagable_laws.proofs.Called.{noted, asks, closes, gets-known as was-known, adopts, adopts-known, schedules, clones, pins, begins, begins-key, stores, calls-go, call-knows}
-use Rattle.pagable_laws.proofs.{Decoding.among-left, GoodReferences.{good, alike-away}, Outlasting.{AreUpTo, low-changed, low-whole, stands-new}, Sums.self-number, Trees.same_some, Standing.AllWait}
-use Rattle.{pagable_laws.proofs.Standing.WaitsWell, pagable_world.specs.{Loads.{Does as LoadDoes, Meets}, Runs.Does as DoesMoment}, std.proofs.Common.rules}
+use Rattle.pagable_laws.proofs.Words.{is_some, WorkerNumber, LoadAnswer, LoadReply, WorkerReply, PinStep, Took, Event, owner_worker, Frame, Reading, Todo, to_load, Walking, World, Seen, Values}
+use Rattle.pagable_laws.proofs.Words.{ReadingDoes, gone_on, Site, ReadingsAre, reading_at, reading_after, LoadSteps, WorkerSteps, IsWhole, IsReadingOf, of_caller, of_worker, IsSteppedReading}
+use Rattle.pagable_laws.proofs.Words.{StepsReading, IsFresh, Error, OpenLoad, EndCall, HandOverCall, first_key, Fails, RefusesRoot, LoadIs, IsOfCell, IsOfKey, handles_of, GetsLazy, MakesNode, Change}
+use Rattle.pagable_laws.proofs.Words.{nothing_felt, bears_known, ReadingFeels, reads-root, reads-blob, gets-known, gets-lazy, makes-known, makes-node, reading-ends, Want, AskCall, AsksInVain, Result}
+use Rattle.pagable_laws.proofs.Words.{Pinning, Beginning, Claim, is_loose, to_start, to_pin, to_set, to_release, to_fail, SetKeyCall, Does, PinsAtOnce, PinsByLoad, PinRefused, GivesBack, next_start}
+use Rattle.pagable_laws.proofs.Words.{give, give_known, fresh, TodoBrings, sets_key, false, if◌then◌else◌, updated, if_there, EventReply, TableNumber, WorkerAnswer, only_handle, Cell, Task, type_at}
+use Rattle.pagable_laws.proofs.Words.{key_at, first_todo, without_worker, WorkerEnds, is_workers_load, answer_after, BeginsKey, Stays, begun_readings, KeyStarted, Starts, new_walking, Ends, Happens}
+use Rattle.pagable_laws.proofs.Words.{with_worker, MachineState, world_of, IsMachineWhole, IsNewNode, EventBrings, KeepsOpen, LeavesCache, SameNode, NewNode, StaysAway, KeepsReadings, EventFeels}
+use Rattle.pagable_laws.proofs.Words.{by-call, by-reading, by-key, by-nothing, StepFeels, Blob, StoreCall, digest, AreGood, OwnersAreThere, step_of, Among, ◌==◌, CloneCall, Needs, GetsKnown, with_got}
+use Rattle.pagable_laws.proofs.Goes.{found-left, none-in-new, at-updated, Quiet, Goes, NotLoads, quiet-then, goes-quiet, alike, fell-anyhow, KnowsNext, parts, le-self, rows-self, next-above}
+use Rattle.pagable_laws.proofs.Effects.{Effect, IsMine, IsApart, IsHeldFor, Lasts, Spares, none, moves, fell, with-key, stays, one-then, entry, no-one, none-named, released-free, ended-free}
+use Rattle.pagable_laws.proofs.{Effects.{worker-apart, stays-alike, spares-then, stays-fell, then-alike, then-fell, held-fell}, Called.{hands-over, ends-load, noted, asks, closes}}
+use Rattle.pagable_laws.proofs.{Called.{gets-known as was-known, adopts, adopts-known, schedules, clones, pins, begins, begins-key, stores, calls-go, call-knows}, Decoding.among-left}
+use Rattle.pagable_laws.proofs.{GoodReferences.{good, alike-away}, Outlasting.{AreUpTo, low-changed, low-whole, stands-new}, Sums.self-number, Trees.same_some, Standing.{AllWait, WaitsWell}}
+use Rattle.{pagable_world.specs.{Loads.{Does as LoadDoes, Meets}, Runs.Does as DoesMoment}, std.proofs.Common.rules}
 use Rattle.pagable_world.specs.Workers as workers
 
 pub fits-kind : (kind : ℕ) → fits_mode kind (mode_of kind) ≡ true
@@ -195,12 +195,6 @@ module _ {N B W : Type 0} (m : Seen N B W) (w : Core) (me : Owner) (free : NotLo
       → (HandlesAreWhole w → ReadingFeels m.values w reading None frames w' c) → RF None frames
   on c load opened does feels = record { change = c; does = does; opens = λ none. (load, opened); feels = feels }
 
-  gets-root : (frames : List Frame) → GetsRoot w me reading frames w' → RF None frames
-  gets-root frames g =
-      let same : g.asked.gives.0 ≡ g.load = same_some _ _ (sym g.asked.gives.1.stands_open ∙ g.open_load) in
-      on nothing_felt g.load g.open_load (asks _ g.asked)
-      (λ whole. reads-root g.load g.blob g.first g.open_load (subst (λ (x : OpenLoad). w.stored x.key ≡ Some g.blob) same g.asked.gives.2.found) refl g.goes)
-
   -- the handle of a node that the cache knew
   knew : {frames : List Frame} (kind : Kind) (key : ℕ) (k : HandleNumber) (row : HandleRow) (load : OpenLoad) → w.loads reading.load.0 ≡ Some load → Needs m.values.types reading.frames kind key
       → GetsKnown w reading.load kind key k w' → row_at w' k ≡ Some row → frames ≡ with_got kind row reading.frames → RF None frames
@@ -247,7 +241,10 @@ module _ {N B W : Type 0} (m : Seen N B W) (w : Core) (me : Owner) (free : NotLo
 
   by-does : (answer : Option (LoadAnswer N)) (frames : List Frame) → LoadDoes m.values w me reading answer frames w' → RF answer frames
   by-does None frames does = elim does [
-    | inl root ↦ gets-root frames root
+    | inl g ↦
+        let same : g.asked.gives.0 ≡ g.load = same_some _ _ (sym g.asked.gives.1.stands_open ∙ g.open_load) in
+        on nothing_felt g.load g.open_load (asks _ g.asked)
+        (λ whole. reads-root g.load g.blob g.first g.open_load (subst (λ (x : OpenLoad). w.stored x.key ≡ Some g.blob) same g.asked.gives.2.found) refl g.goes)
     | inr (inl g) ↦ knew g.kind g.key g.k g.row g.asked.gives.0 g.asked.gives.1.stands_open (inl g.needs) g.asked.gives.2 g.made g.goes
     | inr (inr (inl g)) ↦ on nothing_felt g.asked.gives.0 g.asked.gives.1.stands_open (asks _ g.asked) (λ whole. reads-blob g.kind g.key g.blob g.needs g.asked.gives.2.1.found refl g.goes)
     | inr (inr (inr (inl lazy))) ↦ gets-unread frames lazy

@@ -3,10 +3,10 @@ use Rattle.pagable_laws.proofs.Words.{◌≡◌, ℕ, zero, suc, List, [], ◌�
 use Rattle.pagable_laws.proofs.Words.{LoadAnswer, Core, Frame, Reading, World, Values, with_got, nested_frame, Change, ReadingFeels, reads-root, reads-blob, gets-known, gets-lazy, makes-known}
 use Rattle.pagable_laws.proofs.Words.{makes-node, reading-ends, EventFeels, nat_tests, ◌&&◌, ◌||◌, Bool, true, false, map, Ok, ap, not, Error, HandleNumber, is_in, if_there, Owner, is_owner, row_at}
 use Rattle.pagable_laws.proofs.Words.{Seen, refused_if, named_fault, moved, numbers_of, HandOverCall, hand_over_fault, is_owned_in, EndsRead, handles_of, Happens, HandlesAreWhole, HandsOver}
-use Rattle.pagable_laws.proofs.Words.{ReadHolds, ◌<◌, slice_get-get_or, Blob, NodeNumber, Tree, Types, type_of, LoadReply, held, OpenLoad, type_at, IsLawful, IsReference, ReadsRoot, reading_at}
-use Rattle.pagable_laws.proofs.Words.{LoadSteps, MachineState, world_of, IsMachineWhole, IsReadingOf, of_caller, StandsFor, SameTrees, FrameFits, FramesFit, ReadsItsTypes, ReadIsRight, ReadGives, ◌+◌}
-use Rattle.pagable_laws.proofs.Words.{◌*◌, ◌≤◌, ◌⊎◌, is_eager, asks, next_in, need_of, needs_nested, needs_lazy, to_adopt, root_frame, after_kinds, Unfolds, unfolds, UnfoldsFrom, KeepsStored, IsSome}
-use Rattle.pagable_laws.proofs.Words.{Call, Reply, one_more, gone_on, IsIdle, KeepsOpen, HasStepLeft, IsWithinBound, StepIsWithin, PagerState, Represents, WellFormed, LoadsHaveStepsLeft, IsFresh}
+use Rattle.pagable_laws.proofs.Words.{ReadHolds, ◌<◌, slice_get-get_or, Blob, NodeNumber, Tree, Types, type_of, LoadReply, held, OpenLoad, type_at, IsLawful, IsReference, ReadsRoot, LoadSteps}
+use Rattle.pagable_laws.proofs.Words.{MachineState, world_of, IsMachineWhole, IsReadingOf, of_caller, StandsFor, SameTrees, FrameFits, FramesFit, ReadsItsTypes, ReadIsRight, ReadGives, ◌+◌, ◌*◌, ◌≤◌}
+use Rattle.pagable_laws.proofs.Words.{◌⊎◌, is_eager, asks, next_in, need_of, needs_nested, needs_lazy, to_adopt, root_frame, after_kinds, Unfolds, unfolds, UnfoldsFrom, KeepsStored, IsSome, Call}
+use Rattle.pagable_laws.proofs.Words.{Reply, one_more, gone_on, IsIdle, KeepsOpen, HasStepLeft, IsWithinBound, StepIsWithin, PagerState, Represents, WellFormed, LoadsHaveStepsLeft, IsFresh}
 use Rattle.pagable_laws.proofs.{Fitting.{inside, first-fits, frames-stay, asked}, ReadingSteps.{readings-on, caller-free, reading-feels, reading-stands, AllWaitWell, EventGoes, event-goes}}
 use Rattle.pagable_laws.proofs.{Goes.{found-number, IsShut, Goes}, Outlasting.{Stands, stands-whole, stands-changed, stands-fell}, Sums.self-number, Decoding.decodes, Taking.{row-held, root-right}}
 use Rattle.pagable_laws.proofs.{Taking.{adopted-over, Going, given-nodes, eager-nested}, ReadingStepsKinds.{kinds_of, asks-by-kinds, kinds-pushed}, Trees.same_some}
@@ -115,22 +115,18 @@ module _ {N E : Type 0} {v : Values N} (lawful : IsLawful v) (readable : ReadsIt
 module _ {N E B W : Type 0} (m : Seen N B W) (lawful : IsLawful m.values) (readable : ReadsItsTypes m.values.types) (s s' : MachineState N E) (trees trees' : ℕ → Tree)
     (whole : IsMachineWhole m.values s) (whole' : IsMachineWhole m.values s') (readings : (reading : Reading) → IsReadingOf s.work reading → Going m.values s.pager trees reading)
     (same : SameTrees s.pager.core.last.node trees trees') (stands' : StandsFor m.values s' trees') where
-  reading-right : (l : LoadNumber) (reply : LoadReply N) → LoadSteps m.values (world_of s) l reply (world_of s') → (reading : Reading) → reading_at (world_of s) l ≡ Some reading
-      → (x : N) → ReadsRoot m.values reading x → HandsOver s.pager.core reading.load (m.values.references x) s'.pager.core → (load : OpenLoad)
-      → s.pager.core.loads l.0 ≡ Some load → ReadIsRight m.values s'.pager load.key x
-  reading-right l reply h reading at x root hands load open_load = elim (reading-stands (world_of s) whole.pager.whole l reading at) [
-    | inr begun ↦ absurd (let e = sym begun.0 ∙ root.frames in cc)
-    | inl there ↦
-        let number : reading.load.0 ≡ l.0 = (whole.readings l.0 reading there).number in
-        let stored = (reading-feels m s.pager.core Owner.Caller caller-free s'.pager.core h.reading reply.ended h.frames h.does).does.goes.stored in
-        read-right lawful readable s.pager s'.pager trees trees' same stored whole'.pager stands'.pager reading
-        (readings reading (of_caller l.0 there)) load (ap s.pager.core.loads number ∙ open_load) x root hands
-  ]
-
   pub reads-give : (event : Event N B W) (reply : EventReply N B W) → Does m s event reply s' → ReadGives m.values s trees event reply s' trees'
   reads-give (Event.LoadStep l) (EventReply.LoadMoved (Ok reply)) does = λ load x open_load ended.
-      let h = reads-hold m (world_of s) (world_of s') whole.pager.whole.handles (Event.LoadStep l) (EventReply.LoadMoved (Ok reply)) does.step.happens x ended in
-      reading-right l reply does.step.happens.moves h.0 h.1 x h.2 h.3 load open_load
+      let h = does.step.happens.moves in
+      let (reading, at, root, hands) = reads-hold m (world_of s) (world_of s') whole.pager.whole.handles (Event.LoadStep l) (EventReply.LoadMoved (Ok reply)) does.step.happens x ended in
+      elim (reading-stands (world_of s) whole.pager.whole l reading at) [
+        | inr begun ↦ absurd (let e = sym begun.0 ∙ root.frames in cc)
+        | inl there ↦
+            let number : reading.load.0 ≡ l.0 = (whole.readings l.0 reading there).number in
+            let stored = (reading-feels m s.pager.core Owner.Caller caller-free s'.pager.core h.reading reply.ended h.frames h.does).does.goes.stored in
+            read-right lawful readable s.pager s'.pager trees trees' same stored whole'.pager stands'.pager reading
+            (readings reading (of_caller l.0 there)) load (ap s.pager.core.loads number ∙ open_load) x root hands
+      ]
   reads-give event reply does = tt
 
 -- How many steps an open load still needs: at most two for each reference that its blobs still take, with all that it leads to, and one for each of its blobs.

@@ -5,11 +5,11 @@ use Rattle.pagable_laws.proofs.Words.{ArcRef, Kind, Identity, Blob, Meaning, Tre
 use Rattle.pagable_laws.proofs.Words.{next_in, need_at, need_of, is_broken, IsPublished, MachineState, world_of, FramesFit, ReadsItsTypes, AreKeysOf, WorkFits, Needs, ◌==◌, Bool, false, ◌⊎◌, None}
 use Rattle.pagable_laws.proofs.Words.{Err, refl, Result, not, Want, Owner, HandleNumber, LoadNumber, NodeNumber, Types, if_there, any_mode, Core, OpenLoad, of_cell, Reading, Seen, IsLawful, earlier}
 use Rattle.pagable_laws.proofs.Words.{where_so, refused_if, spent, handle_fault, references_fault, load_fault, AreHandlesFull, Refused, FetchCall, AskCall, LazyCall, ask_fault, is_known, node_fault}
-use Rattle.pagable_laws.proofs.Words.{root_fault, needs_nested, needs_lazy, to_adopt, IsDecoded, RefusesBlob, RefusesNested, RefusesNode, RefusesRoot, IsOfKey, EndsClosed, Fails, reading_at}
-use Rattle.pagable_laws.proofs.Words.{IsMachineWhole, StandsFor, FitsRoot, of_caller, IsOfChance, IsPagedOutAs, IsLoadOfPagedOut, Ok, HandleRow, Mode, LoadAnswer, LoadReply, Event, EventReply}
-use Rattle.pagable_laws.proofs.Words.{or_else, row_fault, reference_fault, LoadSteps, Happens, IsOfHandles, LoadIsFaultless, FaultlessLaw, ◌<◌, Took, owner_worker, Todo, Walking, named_fault}
-use Rattle.pagable_laws.proofs.{Words.{cell_fault, handles_of, after_kinds, LeadsDown, is-there, goes-down, ReadsTooDeep, IsReadingOf, of_worker, LoadIsDeep, DeepLoadLaw, AllLow}, Trees.same_some}
-use Rattle.pagable_laws.proofs.{Fitting.{asked, first-typed}, Apart.{IsFormOf, GotAsked, FramesAsked, NextOf, asks-known, all-read, next-known, all-got}, ReadingStepsKinds.{kinds_of, asks-by-kinds}}
+use Rattle.pagable_laws.proofs.Words.{root_fault, needs_nested, needs_lazy, to_adopt, IsDecoded, RefusesBlob, RefusesNested, RefusesNode, RefusesRoot, IsOfKey, Fails, reading_at, IsMachineWhole}
+use Rattle.pagable_laws.proofs.Words.{StandsFor, FitsRoot, of_caller, IsOfChance, IsPagedOutAs, IsLoadOfPagedOut, Ok, HandleRow, Mode, LoadAnswer, LoadReply, Event, EventReply, or_else, row_fault}
+use Rattle.pagable_laws.proofs.Words.{reference_fault, LoadSteps, Happens, IsOfHandles, LoadIsFaultless, FaultlessLaw, ◌<◌, Took, owner_worker, Todo, Walking, named_fault, cell_fault, handles_of}
+use Rattle.pagable_laws.proofs.{Words.{after_kinds, LeadsDown, is-there, goes-down, ReadsTooDeep, IsReadingOf, of_worker, LoadIsDeep, DeepLoadLaw, AllLow}, Trees.same_some, Fitting.asked}
+use Rattle.pagable_laws.proofs.{Fitting.first-typed, Apart.{IsFormOf, GotAsked, FramesAsked, NextOf, asks-known, all-read, next-known, all-got}, ReadingStepsKinds.{kinds_of, asks-by-kinds}}
 use Rattle.pagable_laws.proofs.{ReadingStepsKinds.faulty-by-kinds, Sums.self-number, Taking.{adopted-over, eager-nested}, Chains.IsGoingOn, Deeply.along-first, ReadingSteps.reading-stands}
 use Rattle.{std.proofs.Common.rules, pagable_world.specs.Loads.Does}
 use Rattle.pagable_world.specs.Workers as workers
@@ -347,14 +347,11 @@ module _ {N B W E : Type 0} (m : Seen N B W) (s : MachineState N E) (trees : ℕ
         root-chance : (r : RefusesRoot v w Owner.Caller reading e mid) → Only IsOfChance (if_there (λ (x : OpenLoad). root_fault w Owner.Caller (v.node_type r.x) x.root) None (w.loads reading.load.0))
         root-chance r f is = grind (arith, nat_tests, is-read, either, never, same-type, last-type, where-chance)
 
-    of-end : (w' : Core) (e : Error) → EndsClosed v w Owner.Caller reading e w' → C e
-    of-end w' e r =
+    pub cause : (w' : Core) (e : Error) → Fails v w Owner.Caller reading e w' → C e
+    cause w' e (inr r) =
         let c = r.ended.refused in
         let same : c.may.load ≡ load = same_some _ _ (sym c.may.owned.stands_open ∙ (ap (λ (x : LoadNumber). w.loads x.0) is-read.number ∙ open_load)) in
         by-handle c.node (v.node_type r.x) c.h (ap (λ (x : OpenLoad). x.root) (sym same) ∙ c.may.of_node) c.why
-
-    pub cause : (w' : Core) (e : Error) → Fails v w Owner.Caller reading e w' → C e
-    cause w' e (inr ended) = of-end w' e ended
     cause w' e (inl gives) = elim gives.meets [
       | inl (refuses, a) ↦ by-chance (of-blob e refuses)
       | inr (inl (first, asked)) ↦ by-chance (grind (arith, nat_tests, ask-chance, same_some, is-read, vain-chance, found))
@@ -482,7 +479,8 @@ module _ {N B W : Type 0} (m : Seen N B W) (lawful : IsLawful m.values) (w : Cor
 
   root-not : (u : Core) → RefusesRoot m.values w me reading Error.TooDeep u → ⊥
   root-not u r = elim r.refuses [
-    | inl (is, ended) ↦ not-refused ended.refused.1 (only-earlier _ _ (only-load w me reading.load) (only-earlier _ _ (λ e is deep. grind (arith, nat_tests, only-earlier {P = NotDeep}, only-if NotDeep)) (by-references-not r.x)))
+    | inl (is, ended) ↦ not-refused ended.refused.1 (only-earlier _ _ (only-load w me reading.load)
+        (only-earlier _ _ (λ e is deep. grind (arith, nat_tests, only-earlier {P = NotDeep}, only-if NotDeep)) (by-references-not r.x)))
     | inr (is, handed) ↦ only-earlier {P = NotDeep} _ _ (only-load w me reading.load) (only-earlier _ _ (only-cell (w.loads reading.load.0)) (only-named w (Owner.Load reading.load) [] (handles_of
         (m.values.references r.x)))) Error.TooDeep handed.refused.0 refl
   ]
@@ -496,7 +494,8 @@ module _ {N B W : Type 0} (m : Seen N B W) (lawful : IsLawful m.values) (w : Cor
     | inr (inr (inr (inl (kind, key, needs, c)))) ↦
         absurd (not-refused c.refused (only-earlier _ _ (only-load w me reading.load) (only-earlier _ _ (only-if NotDeep _ Error.WrongKind (λ e. cc)) (only-node NotDeep w kind key (λ e. cc)))))
     | inr (inr (inr (inr (inl node)))) ↦
-        absurd (not-refused node.adopted.refused.1 (only-earlier _ _ (only-load w me reading.load) (only-earlier _ _ (only-if NotDeep _ Error.WrongMode (λ e. cc)) (only-earlier _ _ (only-if NotDeep _ Error.WrongKind (λ e. cc))
+        absurd (not-refused node.adopted.refused.1 (only-earlier _ _ (only-load w me reading.load) (only-earlier _ _ (only-if NotDeep _ Error.WrongMode (λ e. cc))
+        (only-earlier _ _ (only-if NotDeep _ Error.WrongKind (λ e. cc))
         (only-earlier _ _ (by-references-not node.x) (only-node NotDeep w node.reads_node.top.kind node.reads_node.top.key (λ e. cc)))))))
     | inr (inr (inr (inr (inr root)))) ↦ absurd (root-not gives.mid root)
   ]

@@ -163,12 +163,7 @@ module _ {N : Type 0} {v : Values N} {w w' : Core} {trees trees' : ℕ → Tree}
   felt-after : (reading : Reading) (load : OpenLoad) (frames : List Frame) {c : Change} → AtStep v c w w' trees trees' → w.loads reading.load.0 ≡ Some load
       → ReadingFeels v w reading None frames w' c → FitOf v w' trees' reading load reading.frames → FitOf v w' trees' reading load frames
   felt-after reading load frames h open_load (reads-root l blob none_read at stored answer is) g =
-      let same : l ≡ load = same_some _ _ (sym at ∙ open_load) in
-      subst (FitOf v w' trees' reading load) (sym (is ∙ ap (λ (z : OpenLoad). root_frame z.key reading.node_type blob ∷ []) same)) (record {
-        fit = root-fits v.types load.key reading.node_type w'.stored trees' blob (h.goes.stored load.key blob (subst (λ (z : OpenLoad). w.stored z.key ≡ Some blob) same stored));
-        held = all-new (GotStands w' reading.load) (root_frame load.key reading.node_type blob) [] refl (all-none (GotStands w' reading.load) [] refl);
-        asked = root-asked v.types load.key reading.node_type blob;
-      })
+      grind (arith, nat_tests, same_some, root_frame, root-fits, held, all-new, all-none, asked, root-asked)
   felt-after reading load frames h open_load (reads-blob kind key blob needs stored answer is) g = subst (FitOf v w' trees' reading load) (sym is) (record {
     fit = nested-fits v.types load.key reading.node_type w'.stored trees' reading.frames kind key blob g.fit needs (h.goes.stored key blob stored);
     held = all-new (GotStands w' reading.load) (nested_frame kind key blob) reading.frames refl g.held;

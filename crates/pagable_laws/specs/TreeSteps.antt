@@ -1,13 +1,11 @@
 -- What trees feel of a step: which node gets a key, becomes known or is born, which values come, and how blobs that loads read grow.
-use Rattle.std.specs.Prelude.{ℕ, ◌≡◌, ◌<◌, ◌≤◌, ◌+◌, ◌⊎◌, true, false, List, [], ◌∷◌, Option, Some, None, is_some, Ok}
-use Rattle.pagable_world.specs.Plain.{OptionalDataKey, ArcRef, Kind, HandleNumber, LoadNumber, NodeNumber, WorkerNumber, Identity, Blob, Tree, ReadsTree, type_of, Among}
-use Rattle.pagable_world.specs.{declared.answers.Pinning.Pinning, declared.events.PinStep.PinStep, declared.events.Took.Took, declared.handles.Owner.Owner, declared.handles.HandleRow.HandleRow}
-use Rattle.pagable_world.specs.{declared.calls.Call.Call, declared.calls.Reply.Reply, declared.events.LoadAnswer.LoadAnswer, declared.events.Event.Event, declared.events.EventReply.EventReply}
-use Rattle.pagable_world.specs.{Kinds.{is_pinning, is_loose, any_mode, fits_mode, owner_worker, find_row}, World.{Core, Cell, OpenLoad, of_cell, Frame, Reading, Todo, to_load, to_set, Walking, World, row_at}}
-use Rattle.pagable_world.specs.{World.{type_at, key_at, is_here, Values}, Refusals.{Owns, IsReference}, LoadCalls.first_key, Loads.{ReadsNode, ReadsRoot, need_of, needs_nested, needs_lazy}}
+use Rattle.{std.specs.Prelude.{ℕ, ◌≡◌, ◌<◌, ◌≤◌, ◌+◌, ◌⊎◌, true, false, List, [], ◌∷◌, Option, Some, None, is_some, Ok}, pagable_world.specs.Plain.{OptionalDataKey, ArcRef, Kind, HandleNumber}}
+use Rattle.pagable_world.specs.{Plain.{LoadNumber, NodeNumber, WorkerNumber, Identity, Blob, Tree, ReadsTree, type_of, Among}, declared.{answers.Pinning.Pinning, events.{PinStep.PinStep, Took.Took}}}
+use Rattle.pagable_world.specs.declared.{handles.{Owner.Owner, HandleRow.HandleRow}, calls.{Call.Call, Reply.Reply}, events.{LoadAnswer.LoadAnswer, Event.Event, EventReply.EventReply}}
+use Rattle.pagable_world.specs.{Kinds.{is_pinning, is_loose, any_mode, fits_mode, owner_worker, find_row}, World.{Core, Cell, OpenLoad, of_cell, Frame, Reading, Todo, to_load, to_set, Walking, World}}
+use Rattle.pagable_world.specs.{World.{row_at, type_at, key_at, is_here, Values}, Refusals.{Owns, IsReference}, LoadCalls.first_key, Loads.{ReadsNode, ReadsRoot, need_of, needs_nested, needs_lazy}}
 use Rattle.pagable_world.specs.{Loads.{root_frame, nested_frame, with_got, gone_on}, Events.reading_at, Pager.{PagerState, MachineState, world_of, KeyFits, IsNewNode, CallBrings, EventBrings}}
-use Rattle.pagable_world.specs.Pager.{IsReadingOf}
-use Rattle.pagable_laws.specs.ReadLaws.{ValueLeads}
+use Rattle.{pagable_world.specs.Pager.IsReadingOf, pagable_laws.specs.ReadLaws.ValueLeads}
 
 -- a node leads to its tree: its key reads as that, and its value leads there
 pub record NodeLeads {N E : Type 0} (v : Values N) (s : PagerState N E) (trees : ℕ → Tree) (n : ℕ) : Type 0 where
