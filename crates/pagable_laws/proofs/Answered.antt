@@ -1,9 +1,8 @@
 -- A worker's steps up to its answer: none of its own claims waits any more, and what another claimed is as it was.
-use Rattle.pagable_laws.proofs.Words.{◌≡◌, ℕ, nat_eq, nat_tests, arith, Bool, true, false, List, [], ◌∷◌, ◌++◌, append_assoc, None, Some, Ok, refl, sym, subst}
-use Rattle.pagable_laws.proofs.Words.{Identity, HandleNumber, Slot, Shelf, no_result, Todo, Task, of_item, of_entry, Written, Took, Claim, WorkerAnswer, Seen, Site, Does, answer_after, first_todo, is_open_outcome, IsMetFailure, FailedElsewhere}
-use Rattle.pagable_laws.proofs.{Standing.{is_open_in, AllStand, Covers, HasNoFailed, Changes, first-stands, some-none, some-same}}
-use Rattle.pagable_laws.proofs.{Coming.{stands-on, goes-same, FailsMet, follows-met, fails-stay, first-met, failed-stays}}
-use Rattle.pagable_laws.proofs.{Coming.{failed-elsewhere, among-last, answered}, Standing.{Goes, grows}, Nexts.steps_follow}
+use Rattle.pagable_laws.proofs.Words.{◌≡◌, ℕ, nat_eq, nat_tests, arith, Bool, true, false, List, [], ◌∷◌, ◌++◌, append_assoc, None, Some, Ok, refl, sym, subst, Identity, HandleNumber, Slot, Shelf}
+use Rattle.pagable_laws.proofs.Words.{no_result, Todo, Task, of_item, of_entry, Written, Took, Claim, WorkerAnswer, Seen, Site, Does, answer_after, first_todo, is_open_outcome, IsMetFailure}
+use Rattle.pagable_laws.proofs.{Words.FailedElsewhere, Standing.{is_open_in, AllStand, Covers, HasNoFailed, Changes, first-stands, some-none, some-same, Goes, grows}, Coming.{stands-on, goes-same}}
+use Rattle.pagable_laws.proofs.{Coming.{FailsMet, follows-met, fails-stay, first-met, failed-stays, failed-elsewhere, answered}, Joining.steps_follow, Decoding.among-right}
 use Rattle.pagable_world.specs.Access.{AccessState, AllHaveResults, WorkerRun, WalkStep, worker-ends, worker-goes-on}
 
 -- what a worker leaves with its answer, whose steps these are; and what it failed with was met, where C
@@ -51,7 +50,7 @@ module _ {N E B W : Type 0} (m : Seen N B W) (n : ℕ) (task : Task) (C : Type 0
       λ i is. failed-stays n s.shelf mid.shelf i grown (failed-elsewhere m n site w.after todo i (subst (λ (x : Took W). Does m n site todo x w.after) is w.does.does) clean) in (
         g.unfailed is clean,
         subst (λ t. FailsMet n mid.shelf (past ++ step ∷ []) t) (sym w.goes_on)
-            (follows-met n mid.shelf (past ++ step ∷ []) m.written_of todo step w.after.todo (steps_follow m n site w.after step w.does) (among-last past step) already
+            (follows-met n mid.shelf (past ++ step ∷ []) m.written_of todo step w.after.todo (steps_follow m n site w.after step w.does) (among-right past (step ∷ []) 0 step refl) already
             (fails-stay n s.shelf mid.shelf past (step ∷ []) todo grown fails)),
       ) in
       let a = at-answer more (past ++ step ∷ []) g.all g.covers on in

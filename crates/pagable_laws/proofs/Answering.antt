@@ -1,12 +1,11 @@
 -- What follows for keys: each that is published is its tree's, each that is answered is its task's, and what a worker met that answers one is left paged out.
 use Rattle.pagable_laws.proofs.Words.{longest_path, arith, nat_tests, ◌≡◌, ℕ, true, List, [], ◌∷◌, Option, Some, Ok, Err, refl, sym, ap, subst, ◌∙◌, is_some, OptionalDataKey, blob_of, KeyOfItem}
-use Rattle.pagable_laws.proofs.Words.{ArcRef, Identity, is_loose_kind, Tree, HandleNumber, ReadsTree, WorkerNumber, if_there, Event, EventReply, Took, WorkerAnswer, WorkerReply, identity_of}
-use Rattle.pagable_laws.proofs.Words.{has_key, Core, Cell, key_at, Shelf, Slot, Written, Todo, to_item, to_set, to_publish, to_release, to_fail, Task, of_item, of_entry, Walking, Values}
-use Rattle.pagable_laws.proofs.Words.{Seen, Site, Does, IsPublished, answer_after, WorkerSteps, Happens, PagerState, MachineState, world_of, kids_of, HandlesAreWhole, IsMachineWhole}
-use Rattle.pagable_laws.proofs.Words.{Represents, StandsFor, ReadsItsTypes, Meets, meets-of-item, meets-entry, meets-below, AreKeysOf, IsLeftPagedOut, HasKeyOf, LeavesAll, IsKeyOfTask}
-use Rattle.pagable_laws.proofs.{Words.{Ground, ground_of, IsOfEntry, Waits, Walks, WorkFits, IsDone, KeyIsSet, AllHold, HasHandle, KeysHeld, KeysAreRight}, Merkle.{one_key, one_item_key}}
-use Rattle.pagable_laws.proofs.{Merkle.tree_readable, Trees.{same_some, each-type}, Following.{IdentityStands, known-of, keys-of, tree-form, cell-of}, Taking.row-held, Coming.updated-at}
-use Rattle.pagable_laws.proofs.Stepping.{done-on, keys-same, all-known, all-low, stands-for}
+use Rattle.pagable_laws.proofs.Words.{ArcRef, Identity, is_loose_kind, Tree, HandleNumber, ReadsTree, WorkerNumber, if_there, Event, EventReply, Took, WorkerAnswer, WorkerReply, identity_of, has_key}
+use Rattle.pagable_laws.proofs.Words.{Core, Cell, key_at, Shelf, Slot, Written, Todo, to_item, to_set, to_publish, to_release, to_fail, Task, of_item, of_entry, Walking, Values, Seen, Site, Does}
+use Rattle.pagable_laws.proofs.Words.{IsPublished, answer_after, WorkerSteps, Happens, PagerState, MachineState, world_of, kids_of, HandlesAreWhole, IsMachineWhole, Represents, StandsFor}
+use Rattle.pagable_laws.proofs.Words.{ReadsItsTypes, Meets, meets-of-item, meets-entry, meets-below, AreKeysOf, IsLeftPagedOut, HasKeyOf, LeavesAll, IsKeyOfTask, Ground, ground_of, IsOfEntry, Waits}
+use Rattle.pagable_laws.proofs.{Words.{Walks, WorkFits, IsDone, KeyIsSet, AllHold, HasHandle, KeysHeld, KeysAreRight}, Merkle.{one_key, one_item_key, tree_readable}, Trees.{same_some, each-type}}
+use Rattle.pagable_laws.proofs.{Following.{IdentityStands, known-of, keys-of, tree-form, cell-of}, Taking.row-held, Coming.updated-at, Stepping.{done-on, keys-same, all-known, all-low, stands-for}}
 
 -- ---- one step of a worker
 

@@ -1,16 +1,15 @@
 -- What trees feel of each call, by the call and its reply.
-use Rattle.pagable_laws.proofs.Words.{◌≡◌, ℕ, Bool, true, false, List, refl, Option, Some, Result, Ok, Err, Adds, Error, Kind, Blob, HandleNumber, LoadNumber, NodeNumber, Owner, HandleRow, Mode}
-use Rattle.pagable_laws.proofs.Words.{Want, Pinning, Beginning, OptionalDataKey, Core, of_cell, type_at, key_at, Alike, with_handle, moved, CloneCall, PinCall, Asked, StoreCall, without_load}
-use Rattle.pagable_laws.proofs.Words.{BeginCall, BeginKeyCall, Given, arith, nat_tests, AskCall, GetsKnown, LoadCloses, nothing_felt, BeginsWell, [], inl, inr, None, ◌⊎◌, ArcRef, Call, Reply}
-use Rattle.pagable_laws.proofs.Words.{Event, find_row, owner_value, Seen, Values, only_handle, next_node, is_named_by, BirthCall, UnpinCall, ReleaseCall, SetKeyCall, ScheduleCall, TakeCall}
-use Rattle.pagable_laws.proofs.Words.{RecallCall, OfferCall, AdoptCall, LazyCall, EndCall, Installs, HandOverCall, DropCall, first_key, CallBrings, IsNewNode, KeepsOpen, LeavesCache, Change}
-use Rattle.pagable_laws.proofs.Words.{sets_key, knows_node, bears_node, bears_known, CallFeels, feels-nothing, feels-birth, feels-away, feels-key, feels-known, feels-adopted, feels-lazy}
-use Rattle.pagable_laws.proofs.Words.{feels-end, StaysAway, with_known, usable, adopted, AreGood, FallsAnyhow, type_of, mode_of, of_key, moved, is_owned_in, is_in, numbers_of, subst, sym, ap, ◌∙◌}
-use Rattle.pagable_laws.proofs.Goes.{Goes, NotLoads, a-handle, quiet-goes, goes-then, begun, found-changed, KnowsNext}
-use Rattle.pagable_laws.proofs.Effects.{Effect, Ours, IsMine, none, handle, turned, moves, cached, cached-if, opens, shuts, like, fell, own-mode, node, with-key, beside, forgets, stays}
-use Rattle.pagable_laws.proofs.Effects.{own-handle, own-named, load-named, none-named, load-owns, but, no-one, entry, handed, owned-mine, unfaulty-mine, both-none}
-use Rattle.pagable_laws.proofs.{Sums.same-number, Trees.same_some, GoodReferences.{good, alike-away, fell-away}}
-use Rattle.pagable_world.specs.Events.{Does}
+use Rattle.pagable_laws.proofs.Words.{◌≡◌, ℕ, Bool, true, false, List, refl, Option, Some, Result, Ok, Err, Adds, Error, Kind, Blob, HandleNumber, LoadNumber, NodeNumber, Owner, HandleRow, Mode, Want}
+use Rattle.pagable_laws.proofs.Words.{Pinning, Beginning, OptionalDataKey, Core, of_cell, type_at, key_at, Alike, with_handle, moved, CloneCall, PinCall, Asked, StoreCall, without_load, BeginCall}
+use Rattle.pagable_laws.proofs.Words.{BeginKeyCall, Given, arith, nat_tests, AskCall, GetsKnown, LoadCloses, nothing_felt, BeginsWell, [], inl, inr, None, ◌⊎◌, ArcRef, Call, Reply, Event, find_row}
+use Rattle.pagable_laws.proofs.Words.{owner_value, Seen, Values, only_handle, next_node, is_named_by, BirthCall, UnpinCall, ReleaseCall, SetKeyCall, ScheduleCall, TakeCall, RecallCall, OfferCall}
+use Rattle.pagable_laws.proofs.Words.{AdoptCall, LazyCall, EndCall, Installs, HandOverCall, DropCall, first_key, CallBrings, IsNewNode, KeepsOpen, LeavesCache, Change, sets_key, knows_node}
+use Rattle.pagable_laws.proofs.Words.{bears_node, bears_known, CallFeels, feels-nothing, feels-birth, feels-away, feels-key, feels-known, feels-adopted, feels-lazy, feels-end, StaysAway, with_known}
+use Rattle.pagable_laws.proofs.{Words.{usable, adopted, AreGood, FallsAnyhow, type_of, mode_of, of_key, is_owned_in, is_in, numbers_of, subst, sym, ap, ◌∙◌}, Goes.{Goes, NotLoads, a-handle}}
+use Rattle.pagable_laws.proofs.{Goes.{quiet-goes, goes-then, begun, found-changed, KnowsNext}, Effects.{Effect, IsMine, none, handle, turned, moves, cached, cached-if, opens, shuts, like, fell}}
+use Rattle.pagable_laws.proofs.Effects.{own-mode, node, with-key, beside, forgets, stays, own-handle, own-named, load-named, none-named, load-owns, but, no-one, entry, handed, owned-mine}
+use Rattle.{pagable_laws.proofs.{Effects.{unfaulty-mine, both-none}, Sums.same-number, Trees.same_some, GoodReferences.{good, alike-away, fell-away}}, pagable_world.specs.Events.Does}
+use Rattle.pagable_world.specs.LoadCalls.{MayEnd}
 
 -- ---- each call, and what loads do, by whoever asks
 
@@ -19,13 +18,7 @@ stored-still adds q b is = grind (arith, same-number)
 
 begun-well : (w : Core) (me : Owner) (node : NodeNumber) (t : ℕ) (h : HandleNumber) (key : ℕ) → type_at w node.0 ≡ Some t → key_at w node.0 ≡ OptionalDataKey.Some key
     → BeginsWell w (record { owner = me; key = key; root = of_cell node t h })
-begun-well w me node t h key typed own a u k root = grind (arith, node-is, type-is)
-  where
-    node-is : {a b : NodeNumber} {t u : ℕ} {h k : HandleNumber} → of_cell a t h ≡ of_cell b u k → a ≡ b
-    node-is is = cc
-
-    type-is : {a b : NodeNumber} {t u : ℕ} {h k : HandleNumber} → of_cell a t h ≡ of_cell b u k → t ≡ u
-    type-is is = cc
+begun-well w me node t h key typed own a u k root = grind (arith, nat_tests)
 
 module _ {me : Owner} {lists : Bool} {Asks Leaves : Type 0} {c : Change} where
   -- nothing changes: what search knows of any asker, it applies here of this one
@@ -100,40 +93,30 @@ module _ {me : Owner} {lists : Bool} {Asks Leaves : Type 0} {c : Change} where
         (but (is_owned_in w (Owner.Load l)) (is_in (numbers_of hs)) (load-owns w l))
     hands-over l hs (Err e) x = stays x.refused.1
 
-    pub ends-load : {N : Type 0} {w w' : Core} {x : N} {t : ℕ} {references : List ArcRef} (l : LoadNumber) (r : Result HandleNumber (Error × Option N)) → EndCall w me l x t references r w'
-        → Effect me lists Asks Leaves false c w w'
-    ends-load {w = w} {w'} {references = references} l (Ok k) e = elim i.falls [
-      | inl (away, f) ↦ fell (handle (turned (moves closed (is_named_by references) (owner_value p.0) w.list (λ l is. absurd (cc)) named) h Mode.LoosePinned refl ours pinned-free) p Mode.Pinned me) f.falls
-          (but (is_owned_in w (Owner.Load l)) (is_named_by references) (load-owns w l))
-      | inr (there, f) ↦ fell (handle (turned closed h Mode.LoosePinned refl ours own-free) p Mode.Pinned me) f.falls (load-owns w l)
+    -- the caller's handle was not a load's, and isn't one's after references have moved to the value
+    installed : {w w' : Core} {t : ℕ} {references : List ArcRef} {k : HandleNumber} (l : LoadNumber) (p : NodeNumber) (h : HandleNumber) → MayEnd w me l p h t references
+        → Installs w me l p h k references w' → Effect me lists Asks Leaves false c w w'
+    installed {w} {w'} {references = references} l p h may i = elim i.falls [
+      | inl (away, f) ↦ fell
+          (handle (turned (moves closed (is_named_by references) (owner_value p.0) w.list (λ l is. absurd (cc)) (load-named w l references (good w (Owner.Load l) [] references may.good)))
+          h Mode.LoosePinned refl (own-handle h i.row i.owned) pinned-free) p Mode.Pinned me) f.falls (but (is_owned_in w (Owner.Load l)) (is_named_by references) (load-owns w l))
+      | inr (there, f) ↦ fell (handle (turned closed h Mode.LoosePinned refl (own-handle h i.row i.owned) own-free) p Mode.Pinned me) f.falls (load-owns w l)
     ]
       where
-        p : NodeNumber
-        p = e.installs.0
-
-        h : HandleNumber
-        h = e.installs.1
-
-        i : Installs w me l p h k references w'
-        i = e.installs.3
-
         closed : Effect me lists Asks Leaves true c w (without_load w l)
-        closed = shuts (none w) l (λ own. owned-mine e.installs.2.owned)
-
-        ours : Ours me lists w (only_handle h)
-        ours = own-handle h i.row i.owned
-
-        named : Ours me lists w (is_named_by references)
-        named = load-named w l references (good w (Owner.Load l) [] references e.installs.2.good)
+        closed = shuts (none w) l (λ own. owned-mine may.owned)
 
         own-free : (r : HandleRow) → find_row h.0 w.rows ≡ Some r → NotLoads r.owner
         own-free r found = subst NotLoads (sym (ap (λ (x : HandleRow). x.owner) (same_some _ _ (sym found ∙ i.owned.live)) ∙ i.owned.own)) free
 
-        -- the caller's handle was not a load's, and isn't one's after references have moved to the value
         pinned-free : (r : HandleRow) → find_row h.0 (moved (is_named_by references) (owner_value p.0) w.rows) ≡ Some r → NotLoads r.owner
         pinned-free r found l is =
             let c = found-changed (λ (r : HandleRow). is_named_by references r.number.0) (λ row. record row { owner = owner_value p.0 }) (λ r. refl) h.0 w.rows r found in
             grind (arith, nat_tests, found-changed, same_some, own-free)
+
+    pub ends-load : {N : Type 0} {w w' : Core} {x : N} {t : ℕ} {references : List ArcRef} (l : LoadNumber) (r : Result HandleNumber (Error × Option N)) → EndCall w me l x t references r w'
+        → Effect me lists Asks Leaves false c w w'
+    ends-load l (Ok k) e = let (p, h, may, i) = e.installs in installed l p h may i
     ends-load l (Err (e, Some y)) x = stays x.refused.1.stays
     ends-load l (Err (e, None)) x = closes l (λ own. owned-mine x.refused.may.owned) x.refused.closes
 
@@ -187,9 +170,12 @@ module _ {N B W : Type 0} (m : Seen N B W) (w : Core) (me : Owner) (free : NotLo
   abbrev Does-so : Call N B → Change → Type 0
   Does-so call c = Effect me true (Unit {0}) (LeavesCache {N = N} {B = B} {W = W} (Event.Call call)) false c w w'
 
+  so : {call : Call N B} {reply : Reply N B} (c : Change) → Does-so call c → CallFeels m.values w me call reply w' c → CG call reply
+  so c does feels = record { change = c; does = does; feels = feels }
+
   -- nothing is felt, and the call brings no value
   quiet : {call : Call N B} {reply : Reply N B} → ((n : ℕ) (x : N) → CallBrings w call n x → IsNewNode w n ⊎ StaysAway w w' n) → Does-so call nothing_felt → CG call reply
-  quiet brings s = record { change = nothing_felt; does = s; feels = feels-nothing brings }
+  quiet brings s = so nothing_felt s (feels-nothing brings)
 
   unmoved : Alike w w' → Effect me true (Unit {0}) (Unit {0}) false nothing_felt w w'
   unmoved a = stays a
@@ -203,33 +189,23 @@ module _ {N B W : Type 0} (m : Seen N B W) (w : Core) (me : Owner) (free : NotLo
       let references = m.values.references x in
       let t = m.values.node_type x in
       let right = good w me [] references c.made.0 in
-      record {
-        change = bears_node t OptionalDataKey.None;
-        does = like (handle (node w t OptionalDataKey.None references (refl, refl) (own-named w references right)) (next_node w) mode me) c.made.3;
-        feels = feels-birth x brings right;
-      }
+      so (bears_node t OptionalDataKey.None) (like (handle (node w t OptionalDataKey.None references (refl, refl) (own-named w references right)) (next_node w) mode me) c.made.3)
+      (feels-birth x brings right)
   births call x mode brings (Err e) c = quiet (λ n y b. inl (brings n y b).1) (stays c.refused.1.stays)
 
   sets : (h : HandleNumber) (key : ℕ) (r : Result (Unit {0}) Error) → SetKeyCall w me h key r w' → CG (Call.SetDataKey h key) (Reply.Done r)
   sets h key r c = elim c.does [
     | inl refused ↦ quiet (λ n x b. absurd b) (stays refused.stays)
     | inr (row, owns, inl (mode, told, a)) ↦ quiet (λ n x b. absurd b) (stays a)
-    | inr (row, owns, inr (loose, f)) ↦ record {
-      change = sets_key row.node.0 key;
-      does = fell (with-key w row.node key) f no-one;
-      feels = feels-key h key row (record { live = owns.live; own = owns.own; as_asked = loose });
-    }
+    | inr (row, owns, inr (loose, f)) ↦ so (sets_key row.node.0 key) (fell (with-key w row.node key) f no-one) (feels-key h key row (record { live = owns.live; own = owns.own; as_asked = loose }))
   ]
 
   offers : (kind : Kind) (key : ℕ) (h : HandleNumber) (r : Result (Option HandleNumber) Error) → OfferCall w me kind key h r w' → CG (Call.OnArcDeserialized kind key h) (Reply.FromCache r)
   offers kind key h (Ok None) c =
       let row : HandleRow = c.answers.0 in
       let owns = c.answers.1 in
-      record {
-        change = knows_node kind.0 key row.node.0;
-        does = like (cached (none w) kind key row.node (refl, refl, refl) c.answers.3.1) c.answers.3.2;
-        feels = feels-known kind key h row (record { live = owns.live; own = owns.own; as_asked = refl }) c.answers.2;
-      }
+      so (knows_node kind.0 key row.node.0) (like (cached (none w) kind key row.node (refl, refl, refl) c.answers.3.1) c.answers.3.2)
+      (feels-known kind key h row (record { live = owns.live; own = owns.own; as_asked = refl }) c.answers.2)
   offers kind key h (Ok (Some k)) c = elim c.answers.3 [
     | inl (closed, same, a) ↦ quiet (λ n x b. absurd b) (stays a)
     | inr (open_still, (n, usable, next, f)) ↦ quiet (λ n x b. absurd b) (fell (handle (none w) _ _ me) f.falls (own-handle h c.answers.0 c.answers.1))
@@ -242,62 +218,44 @@ module _ {N B W : Type 0} (m : Seen N B W) (w : Core) (me : Owner) (free : NotLo
       let right = good w (Owner.Load l) [] (m.values.references x) c.adopts.good in
       elim c.adopts.makes [
         | inl (n, usable, f) ↦ quiet (λ n y b. inl b.1) (adopts-known l kind n (m.values.references x) right f)
-        | inr (unknown, few, a) ↦ record {
-          change = bears_known kind.0 key (first_key kind.0 key);
-          does = adopts l kind key (first_key kind.0 key) (m.values.references x) unknown right a;
-          feels = feels-adopted l kind key x k c.adopts.typed right;
-        }
+        | inr (unknown, few, a) ↦ so (bears_known kind.0 key (first_key kind.0 key)) (adopts l kind key (first_key kind.0 key) (m.values.references x) unknown right a)
+            (feels-adopted l kind key x k c.adopts.typed right)
       ]
   adopting l kind key x (Err e) c = quiet (λ n y b. inl b.1) (stays c.refused.1.stays)
 
   lazily : (l : LoadNumber) (kind : Kind) (key : ℕ) (r : Result HandleNumber Error) → LazyCall w me l kind key r w' → CG (Call.LoadLazy l kind key) (Reply.Handle r)
   lazily l kind key (Ok k) c = elim c.makes.3 [
     | inl known ↦ quiet (λ n x b. absurd b) (gets-known known)
-    | inr (unknown, few, next, a) ↦ record {
-      change = bears_known kind.0 key (OptionalDataKey.Some key);
-      does = adopts l kind key (OptionalDataKey.Some key) [] unknown (none-named w (Owner.Load l)) a;
-      feels = feels-lazy l kind key k;
-    }
+    | inr (unknown, few, next, a) ↦ so (bears_known kind.0 key (OptionalDataKey.Some key)) (adopts l kind key (OptionalDataKey.Some key) [] unknown (none-named w (Owner.Load l)) a)
+        (feels-lazy l kind key k)
   ]
   lazily l kind key (Err e) c = quiet (λ n x b. absurd b) (stays c.refused.stays)
 
   load-ends : (l : LoadNumber) (x : N) (r : Result HandleNumber (Error × Option N)) → EndCall w me l x (m.values.node_type x) (m.values.references x) r w' → CG (Call.LoadEnd l x) (Reply.LoadEnded r)
-  load-ends l x (Ok k) c = record { change = nothing_felt; does = ends-load free l (Ok k) c; feels = feels-end l x k (good w (Owner.Load l) [] (m.values.references x) c.installs.2.good) }
+  load-ends l x (Ok k) c = so nothing_felt (ends-load free l (Ok k) c) (feels-end l x k (good w (Owner.Load l) [] (m.values.references x) c.installs.2.good))
   load-ends l x (Err (e, Some y)) c = quiet (λ n z b. inr (alike-away c.refused.1.stays n)) (ends-load free l (Err (e, Some y)) c)
   load-ends l x (Err (e, None)) c = quiet (λ n z b. inr (fell-away c.refused.closes n)) (ends-load free l (Err (e, None)) c)
 
   pub calls-go : (call : Call N B) (reply : Reply N B) → KeepsOpen {N = N} {B = B} {W = W} (Event.Call call) → Does m w me call reply w' → CG call reply
-  calls-go (Call.NewPinned x) (Reply.Made r) still c = births (Call.NewPinned x) x Mode.Pinned (λ n y b. b) r c
-  calls-go (Call.NewLoose x) (Reply.Made r) still c = births (Call.NewLoose x) x Mode.LoosePinned (λ n y b. b) r c
-  calls-go (Call.NewShared x) (Reply.Made r) still c = births (Call.NewShared x) x Mode.Shared (λ n y b. b) r c
   calls-go (Call.NewPagedOut t key) (Reply.Handle (Ok k)) still c =
-      record {
-        change = bears_node t (OptionalDataKey.Some key);
-        does = like (handle (node w t (OptionalDataKey.Some key) [] (refl, refl) (own-named w [] (none-named w me))) (next_node w) Mode.LooseUnpinned me) c.made.2;
-        feels = feels-away t key k;
-      }
+      so (bears_node t (OptionalDataKey.Some key))
+      (like (handle (node w t (OptionalDataKey.Some key) [] (refl, refl) (own-named w [] (none-named w me))) (next_node w) Mode.LooseUnpinned me) c.made.2) (feels-away t key k)
   calls-go (Call.Clone h) (Reply.Handle r) still c = quiet (λ n x b. absurd b) (clones r c)
   calls-go (Call.Pin h) (Reply.Pin r) still c = quiet (λ n x b. absurd b) (pins free r c)
   calls-go (Call.Unpin h) (Reply.Done r) still c = quiet (λ n x b. absurd b) (unpins free h r c)
   calls-go (Call.Release h) (Reply.Done r) still c = quiet (λ n x b. absurd b) (releases h r c)
   calls-go (Call.IntoPagable h) (Reply.Handle (Ok k)) still c = quiet (λ n x b. absurd b) (like (own-mode free w h c.turned.0 c.turned.1 Mode.LoosePinned refl) c.turned.3)
-  calls-go (Call.SetDataKey h key) (Reply.Done r) still c = sets h key r c
   calls-go (Call.ScheduleForPaging h) (Reply.Done r) still c = quiet (λ n x b. absurd b) (schedules free h r c)
   calls-go (Call.TakePending i) (Reply.Taken h) still c = quiet (λ n x b. absurd b) (takes free refl i h c)
   calls-go (Call.CacheGet kind key) (Reply.FromCache r) still c = quiet (λ n x b. absurd b) (recalls r c)
-  calls-go (Call.OnArcDeserialized kind key h) (Reply.FromCache r) still c = offers kind key h r c
   calls-go Call.CacheClear (Reply.Done r) still c = quiet (λ n x b. absurd b) (like (forgets w (λ leaves. leaves)) c.leaves)
   calls-go (Call.Store b) (Reply.Stored r) still c = quiet (λ n x b. absurd b) (stores r c)
   calls-go (Call.LoadBegin h) (Reply.Begun r) still c = quiet (λ n x b. absurd b) (begins r c)
   calls-go (Call.LoadKey key) (Reply.Begun r) still c = quiet (λ n x b. absurd b) (begins-key r c)
   calls-go (Call.LoadFetch l want) (Reply.LoadFound r) still c = quiet (λ n x b. absurd b) (asks _ c)
-  calls-go (Call.LoadAdopt l kind key x) (Reply.Made r) still c = adopting l kind key x r c
-  calls-go (Call.LoadLazy l kind key) (Reply.Handle r) still c = lazily l kind key r c
-  calls-go (Call.LoadEnd l x) (Reply.LoadEnded r) still c = load-ends l x r c
   calls-go (Call.LoadTake l hs) (Reply.Done r) still c = quiet (λ n x b. absurd b) (hands-over free l hs.items r c)
   calls-go (Call.LoadDrop l) (Reply.Done r) still c = quiet (λ n x b. absurd b) (drops l r c)
-  calls-go Call.Close reply still c = absurd still
-  calls-go _ reply still c = grind (arith, nat_tests, quiet, unmoved, asked)
+  calls-go _ reply still c = grind (arith, nat_tests, quiet, unmoved, asked, births, sets, offers, adopting, lazily, load-ends)
 
 -- the cache gets to know an old node only where the caller puts it there
 pub call-knows : (W : Type 0) {N B : Type 0} {v : Values N} {w w' : Core} {me : Owner} {call : Call N B} {reply : Reply N B} {c : Change} → CallFeels v w me call reply w' c

@@ -2,16 +2,15 @@
 use Rattle.pagable_laws.proofs.Words.{◌≡◌, ℕ, inl, inr, true, List, [], ◌∷◌, refl, ap, sym, subst, ◌∙◌, Ok, Option, Some, None, ArcRef, Identity, WorkerAnswer, Claim, Took, identity_of, no_result}
 use Rattle.pagable_laws.proofs.Words.{answer_of_fault, Todo, to_start, to_write, to_item, to_publish, to_release, to_fail, arith, Task, Seen, Site, Does, give, give_known, with_wait, answer_after}
 use Rattle.pagable_laws.proofs.Words.{IsPublished, ◌+◌, ◌<◌, ◌≤◌, ◌==◌, Bool, false, nat_eq, if◌then◌else◌, nat_tests, WorkerNumber, updated, Call, Reply, Event, EventReply, TableNumber, WorkerReply}
-use Rattle.pagable_laws.proofs.Words.{Owner, Core, Alike, Shelf, Slot, Walking, World, CallStep, Happens, Stays, WorkStays, WorkIs, Starts, no_shelf, new_walking, WorkerSteps, MachineState}
-use Rattle.pagable_laws.proofs.Words.{world_of, IsIdle, step_of, ◌*◌, ◌-◌, ◌++◌, Err, drop, length, max, length-drop, sum_by-cons, sum_by-append, one, times, above, Open, to_pin, to_load, to_finish}
-use Rattle.pagable_laws.proofs.Words.{to_set, Written, next_start, first_todo, is_counted, Follows, is_claim, references_written, own_references, zero, suc, Error, Among, MetError, FailedElsewhere}
-use Rattle.pagable_laws.proofs.{Words.{IsMetFailure, steps_after, Leads}, Standing.{same-worker, puts-slot, SlotChanges, ShelfGrows, some-none, some-same, grows, same-slots, meets-grow, CoversBy}}
-use Rattle.pagable_laws.proofs.Standing.{Goes, plain, fails, swaps, gives, given-open, all-stay, SameSlots, Turned, work-stands, is-quiet, is-started, is-stepped, is_open_in, AllStand, Covers}
-use Rattle.pagable_laws.proofs.{Standing.{HasNoFailed, WorkStands, claimed, written-goes, published-goes, failed-goes, is_failed}, Called.calls-go, ReadingSteps.{caller-free, reading-feels}}
-use Rattle.pagable_laws.proofs.{ReadingSteps.walk-goes, Nexts.steps_follow}
-use Rattle.std.{proofs.Common.{length-append, append-nil}, specs.List.sum_by, proofs.lemmas.Bool.{false_from_ne_true, cases_Bool}}
+use Rattle.pagable_laws.proofs.Words.{Owner, Core, Alike, Shelf, Slot, Walking, World, CallStep, Happens, Stays, WorkStays, WorkIs, Starts, no_shelf, new_walking, WorkerSteps, MachineState, world_of}
+use Rattle.pagable_laws.proofs.Words.{IsIdle, step_of, ◌*◌, ◌-◌, ◌++◌, Err, drop, length, max, length-drop, sum_by-cons, sum_by-append, one, times, above, Open, to_pin, to_load, to_finish, to_set}
+use Rattle.pagable_laws.proofs.Words.{Written, next_start, first_todo, is_counted, Follows, is_claim, references_written, own_references, Error, Among, MetError, FailedElsewhere, IsMetFailure}
+use Rattle.pagable_laws.proofs.{Words.{steps_after, Leads}, Standing.{same-worker, puts-slot, SlotChanges, ShelfGrows, some-none, some-same, grows, same-slots, meets-grow, CoversBy, Goes, plain}}
+use Rattle.pagable_laws.proofs.Standing.{fails, swaps, gives, given-open, all-stay, SameSlots, Turned, work-stands, is-quiet, is-started, is-stepped, is_open_in, AllStand, Covers, HasNoFailed}
+use Rattle.pagable_laws.proofs.{Standing.{WorkStands, claimed, written-goes, published-goes, failed-goes, is_failed, WaitsWell, follows-waits}, Called.calls-go, ReadingSteps.caller-free}
+use Rattle.{pagable_laws.proofs.{ReadingSteps.{reading-feels, walk-goes}, Joining.steps_follow, Decoding.{among-left, among-right}, Goes.le-of}, std.proofs.Common.{length-append, append-nil, rules}}
+use Rattle.std.{proofs.lemmas.Bool.{false_from_ne_true, cases_Bool}, specs.List.sum_by}
 use Rattle.pagable_laws.proofs.Called as calling
-use Rattle.pagable_laws.proofs.Standing.{WaitsWell, follows-waits}
 
 -- ---- whatever a worker does, what stands of its list and of its table stands afterwards
 
@@ -50,12 +49,10 @@ module _ {N B W : Type 0} (m : Seen N B W) (v : ℕ) (task : Task) (s s' : Site)
       (plain v task s.shelf s'.shelf c.finds.1.2.table_is.slots None (to_start r place ∷ below) (λ a is. absurd (cc)) all covers)
   go (to_write r place through ∷ below) e all covers (Took.Write i (Ok out)) (is, p) = to-list p.writes.list_is
       (written-goes v task s.shelf s'.shelf r place through (m.written_of out) below all covers p.writes.table_is)
-  go (to_item written keys ∷ below) e ((is_of, last), apart, rest) covers (Took.Store i (Ok key)) (is, p) = grind (arith, nat_tests, to-list, plain)
   go (to_publish r key height ∷ below) e all covers (Took.Publish i k h) (is, same_key, same_height, t) = to-list t.list_is
       (published-goes v task s.shelf s'.shelf r key height below all covers t.table_is)
-  go (to_release r key height ∷ below) e all covers (Took.Release i) (is, falls, g) = to-list g.list_is (released r key height below all covers g.table_stays.slots (Took.Release i))
   go (to_fail fault back ∷ below) e all covers Took.Fail (back_is, table_is, list_is) = to-list list_is (failed-goes v task s.shelf s'.shelf (answer_of_fault fault) table_is)
-  go _ e all covers step does = grind (arith, nat_tests, to-list, fails, swaps, plain)
+  go _ e all covers step does = grind (arith, nat_tests, to-list, fails, swaps, plain, released)
 
   pub stands-on : AllStand s.shelf v task s.todo → Covers s.shelf v s.todo → (step : Took W) → Does m v s s.todo step s' → Goes v task s.shelf (answer_after s.todo step) s'.shelf s'.todo
   stands-on all covers step does = go s.todo refl all covers step does
@@ -90,9 +87,6 @@ pub record EventTurns {N B W : Type 0} (m : Seen N B W) (u : World) (event : Eve
   pub small : who ≤ u'.core.last.worker
   pub others : (n : ℕ) → nat_eq n who ≡ false → step_of n event reply ≡ []
   pub own : OwnTurn m u who (step_of who event reply) u'
-
-le-of : {a b : ℕ} → b ≡ a → a ≤ b
-le-of e = omega arith
 
 pub updated-at : {X : Type 0} (n : ℕ) (x : X) (f : ℕ → X) → updated n x f n ≡ x
 updated-at n x f = let a : (n == n) ≡ true = grind (arith, nat_tests) in ap (λ b. if b then x else f n) a
@@ -129,7 +123,7 @@ module _ {N B W : Type 0} (m : Seen N B W) (u u' : World) (work : StandsIn u) wh
     by-work no_step last w = quiet no_step last (λ t i. (w.shelves t).slots i) w.walkings
 
     unchanged : ((n : ℕ) → step_of n event reply ≡ []) → Stays u u' → EventTurns m u event reply u'
-    unchanged no_step s = by-work no_step (le-of (ap (λ l. l.worker) s.core.last)) s.work
+    unchanged no_step s = by-work no_step (le-of _ _ (ap (λ l. l.worker) s.core.last)) s.work
 
     starts : ((n : ℕ) → step_of n event reply ≡ []) → (t : TableNumber) (task : Task) (core : Core) (v : WorkerNumber) → core.last.worker ≡ u.core.last.worker → Starts u t task core v u'
         → EventTurns m u event reply u'
@@ -153,7 +147,7 @@ module _ {N B W : Type 0} (m : Seen N B W) (u u' : World) (work : StandsIn u) wh
 
     tabled : ((n : ℕ) → step_of n event reply ≡ []) → KnowsTables u → (t : TableNumber) → t.0 ≡ u.work.last_table + 1 → Alike u.core u'.core
         → WorkIs (updated t.0 no_shelf u.work.shelves) t.0 u.work.walkings u'.work → EventTurns m u event reply u'
-    tabled no_step tables t is a w = quiet no_step (le-of (ap (λ l. l.worker) a.last)) (λ q i. same q i (nat_eq q t.0) refl) w.same_walkings
+    tabled no_step tables t is a w = quiet no_step (le-of _ _ (ap (λ l. l.worker) a.last)) (λ q i. same q i (nat_eq q t.0) refl) w.same_walkings
       where
         nothing : (i : Identity) (o : Option Slot) → (u.work.shelves t.0).slots i ≡ o → None ≡ o
         nothing i None there = refl
@@ -247,11 +241,7 @@ module _ {N B W : Type 0} (m : Seen N B W) {u u' : World} {event : Event N B W} 
     stays-so t same = stay t (u'.work.shelves t) (turns-grow t) same
 
     all-hold : ((t : ℕ) → Slots (u'.work.shelves t)) → ((w : Walking) → u'.work.walkings turns.who ≡ Some w → Of turns.who w) → HoldsOfAll u' Slots Walk
-    all-hold slots own = record { slots = slots; walks = λ n w there. of n w there (nat_eq n turns.who) refl }
-      where
-        of : (n : ℕ) (w : Walking) → u'.work.walkings n ≡ Some w → (b : Bool) → nat_eq n turns.who ≡ b → Of n w
-        of n w there true e = let f : n ≡ turns.who = grind (arith, nat_tests) in subst (λ k. Of k w) (sym f) (own w (sym (ap u'.work.walkings f) ∙ there))
-        of n w there false e = let turned = turns.turned in rest n w (turns.others n e) (sym (turned.others n e) ∙ there)
+    all-hold slots own = search (rules, nat_eq, true, false)
 
     pub turns-keep : HoldsOfAll u' Slots Walk
     turns-keep = by turns.own
@@ -357,21 +347,13 @@ module _ {W : Type 0} (f : W → Written) where
 
 -- ---- what a worker fails with: a refusal that a step of its own met, or that another's claim has failed where its walk came
 
-among-left : {X : Type 0} (xs ys : List X) (x : X) → Among xs x → Among (xs ++ ys) x
-among-left (y ∷ xs) ys x (suc i, is) = let a = among-left xs ys x (i, is) in (suc a.0, a.1)
-among-left x0 ys x x3 = grind (arith, nat_tests)
-
-pub among-last : {X : Type 0} (xs : List X) (x : X) → Among (xs ++ x ∷ []) x
-among-last [] x = (zero, refl)
-among-last (y ∷ xs) x = let a = among-last xs x in (suc a.0, a.1)
-
 -- another's claim that has failed stays so
 pub failed-stays : (n : ℕ) (shelf shelf' : Shelf) (i : Identity) → ShelfGrows shelf shelf' → FailedElsewhere shelf n i → FailedElsewhere shelf' n i
 failed-stays n shelf shelf' i more was = grind arith
 
 module _ {W : Type 0} (n : ℕ) where
   pub met-stays : (shelf shelf' : Shelf) (past more : List (Took W)) (answer : WorkerAnswer) → ShelfGrows shelf shelf' → IsMetFailure shelf n past answer → IsMetFailure shelf' n (past ++ more) answer
-  met-stays shelf shelf' past more x4 grown x6 = grind (arith, nat_tests, among-left, failed-stays)
+  met-stays shelf shelf' past more x4 grown x6 = grind (arith, nat_tests, λ (x : Took W) (a : Among past x). among-left past more a.0 x a.1, failed-stays)
 
   -- ---- what is to be done
 
@@ -411,17 +393,15 @@ module _ {W : Type 0} (n : ℕ) where
     pub follows-met : (f : W → Written) (todo : List Todo) (step : Took W) (next : List Todo) → Follows f todo step next → Among past step
         → ((i : Identity) → step ≡ Took.Claim i (Ok Claim.AlreadyFailed) → FailedElsewhere shelf n i) → FailsMet shelf past todo → FailsMet shelf past next
     unfolding FailsMet
-    follows-met f (to_start r place ∷ x ∷ below) (Took.Claim j (Ok (Claim.Known key height))) next (is, e) among already met = rw e (given r key height (x ∷ below) met)
     follows-met f (to_start r place ∷ below) (Took.Claim j (Ok Claim.AlreadyFailed)) next (is, e) among already met = rw e ((j, among, already j refl), tt)
     follows-met f (to_start r place ∷ below) (Took.Claim j (Err fault)) next (is, e) among already met = rw e (refused _ fault among refl)
     follows-met f (to_pin r place ∷ below) (Took.Pin j (Err fault)) next (is, e) among already met = rw e (refused _ fault among refl)
     follows-met f (to_load r place through reading ∷ below) (Took.Pin j (Err fault)) next (is, e) among already met = rw e (refused _ fault among refl)
-    follows-met f (to_write r place through ∷ below) (Took.Write j (Ok out)) next (is, e) among already met = rw e (started place (drop 0 (f out).references) _ met)
     follows-met f (to_write r place through ∷ below) (Took.Write j (Err fault)) next (is, e) among already met = rw e (refused _ fault among refl)
     follows-met f (to_finish o ∷ below) (Took.Store (Some j) (Err fault)) next (is, e) among already met = rw e (refused _ fault among refl)
     follows-met f (to_item written keys ∷ below) (Took.Store None (Err fault)) next e among already met = rw e (refused _ fault among refl)
     follows-met f (to_set r through key height ∷ below) (Took.SetKey j (Err fault)) next (is, e) among already met = rw e (refused _ fault among refl)
-    follows-met f _ step next follows among already met = grind (arith, nat_tests, on, given)
+    follows-met f _ step next follows among already met = grind (arith, nat_tests, on, given, started, drop)
 
     -- the answer is what the list was about to fail with, or a key
     pub answered : (todo : List Todo) (step : Took W) (answer : WorkerAnswer) → answer_after todo step ≡ Some answer → FailsMet shelf past todo → IsMetFailure shelf n past answer
@@ -486,51 +466,30 @@ module _ {N B W : Type 0} (m : Seen N B W) (u u' : World) (grow : (t : ℕ) → 
       → HasGone f n u.work.shelves (u.work.walkings n) past
       → HasGone f n u'.work.shelves (u'.work.walkings n) (past ++ taken)
   unfolding all-due
-  begun n t task past taken none nobody new gone =
-      let first : Went f n (u'.work.shelves t.0) (new_walking t task) [] =
-      record { leads = refl; fails = first-met n (u'.work.shelves t.0) [] task; met = λ answer is. absurd (cc); within = (grind (arith, nat_tests, settled-item)) } in
-      let no_past : past ≡ [] = subst (λ o. HasGone f n u.work.shelves o past) nobody gone in
-      let none_now : past ++ taken ≡ [] = ap (λ k. past ++ k) none ∙ (append-nil past ∙ no_past) in
-      subst (λ o. HasGone f n u'.work.shelves o (past ++ taken)) (sym new) (subst (λ k. Went f n (u'.work.shelves t.0) (new_walking t task) k) (sym none_now) first)
+  begun n t task past taken none nobody new gone = search (rules, f, new_walking, fails, first-met, settled-item, append-nil)
 
   went-on : StandsIn u → (k : WorkerNumber) (reply : WorkerReply W) (past : List (Took W)) → WorkerSteps m u k reply u' → HasGone f k.0 u.work.shelves (u.work.walkings k.0) past
       → HasGone f k.0 u'.work.shelves (u'.work.walkings k.0) (past ++ reply.took ∷ [])
   went-on work k reply past s gone =
-      let w = s.walking in
+      let w : Walking = s.walking in
+      let shelf : Shelf = u.work.shelves w.table in
+      let shelf' : Shelf = u'.work.shelves w.table in
+      let site : Site = record { core = u.core; shelf = shelf; todo = w.todo } in
       let now : Walking = record w { todo = s.after.todo; steps = reply.steps; answer = reply.answer } in
       let new : u'.work.walkings k.0 ≡ Some now = s.work.same_walkings k.0 ∙ updated-at k.0 (Some now) u.work.walkings in
-      subst (λ o. HasGone f k.0 u'.work.shelves o (past ++ reply.took ∷ [])) (sym new) (more (subst (λ o. HasGone f k.0 u.work.shelves o past) s.at gone))
-    where
-      w : Walking
-      w = s.walking
-
-      shelf : Shelf
-      shelf = u.work.shelves w.table
-
-      shelf' : Shelf
-      shelf' = u'.work.shelves w.table
-
-      site : Site
-      site = record { core = u.core; shelf = shelf; todo = w.todo }
-
-      follows : Follows f w.todo reply.took s.after.todo
-      follows = steps_follow m k.0 site s.after reply.took s.does
-
-      already : (i : Identity) → reply.took ≡ Took.Claim i (Ok Claim.AlreadyFailed) → FailedElsewhere shelf' k.0 i
-      already i is =
-          failed-stays k.0 shelf shelf' i (grow w.table)
-          (failed-elsewhere m k.0 site s.after w.todo i (subst (λ step. Does m k.0 site w.todo step s.after) is s.does.does) ((work.workers k.0 w s.at).unfailed s.at_work))
-
-      more : Went f k.0 shelf w past → Went f k.0 shelf' (record w { todo = s.after.todo; steps = reply.steps; answer = reply.answer }) (past ++ reply.took ∷ [])
-      more was =
-          let fails = fails-stay k.0 shelf shelf' past (reply.took ∷ []) w.todo (grow w.table) was.fails in
-          record {
-            leads = leads-more f (first_todo w.task) past w.todo reply.took s.after.todo was.leads follows;
-            fails = follows-met k.0 shelf' (past ++ reply.took ∷ []) f w.todo reply.took s.after.todo follows (among-last past reply.took) already fails;
-            met = λ answer is. answered k.0 shelf' (past ++ reply.took ∷ []) w.todo reply.took answer (sym s.answers ∙ is) fails;
-            within = within-after f w.task w.todo s.after.todo w.steps reply.steps past reply.took
-                (subst (λ n. n ≤ w.steps + one (is_counted w.todo reply.took)) (sym s.counts) (counted w.steps (is_counted w.todo reply.took))) follows was.within;
-          }
+      let was : Went f k.0 shelf w past = subst (λ o. HasGone f k.0 u.work.shelves o past) s.at gone in
+      let follows = steps_follow m k.0 site s.after reply.took s.does in
+      let fails = fails-stay k.0 shelf shelf' past (reply.took ∷ []) w.todo (grow w.table) was.fails in
+      let already : (i : Identity) → reply.took ≡ Took.Claim i (Ok Claim.AlreadyFailed) → FailedElsewhere shelf' k.0 i = λ i is. failed-stays k.0 shelf shelf' i (grow w.table)
+      (failed-elsewhere m k.0 site s.after w.todo i (subst (λ step. Does m k.0 site w.todo step s.after) is s.does.does) ((work.workers k.0 w s.at).unfailed s.at_work)) in
+      let on : Went f k.0 shelf' now (past ++ reply.took ∷ []) = record {
+        leads = leads-more f (first_todo w.task) past w.todo reply.took s.after.todo was.leads follows;
+        fails = follows-met k.0 shelf' (past ++ reply.took ∷ []) f w.todo reply.took s.after.todo follows (among-right past (reply.took ∷ []) 0 reply.took refl) already fails;
+        met = λ answer is. answered k.0 shelf' (past ++ reply.took ∷ []) w.todo reply.took answer (sym s.answers ∙ is) fails;
+        within = within-after f w.task w.todo s.after.todo w.steps reply.steps past reply.took
+            (subst (λ n. n ≤ w.steps + one (is_counted w.todo reply.took)) (sym s.counts) (counted w.steps (is_counted w.todo reply.took))) follows was.within;
+      } in
+      subst (λ o. HasGone f k.0 u'.work.shelves o (past ++ reply.took ∷ [])) (sym new) on
 
 -- whatever an event does, its steps are added
 pub goes-on : {N B W : Type 0} (m : Seen N B W) (u u' : World) (event : Event N B W) (reply : EventReply N B W) → StandsIn u → EventTurns m u event reply u' → (n : ℕ) (past : List (Took W))

@@ -6,12 +6,10 @@ use Rattle.pagable_laws.proofs.Words.{Cell, Alike, usable, Falls, left_rows, fal
 use Rattle.pagable_laws.proofs.Words.{changed, find_row, is_handle, is_owner, is_owned_by, owner_worker, nobody, only_handle, Owns, with_handle, with_mode, moved, is_named_by, is_owned_in}
 use Rattle.pagable_laws.proofs.Words.{OwnersAreThere, AreGood, Blob, Kind, is_in, named_fault, numbers_of, owner_value, refused_if, row_at, with_cached, with_node, without_load, ◌+◌, row_of}
 use Rattle.pagable_laws.proofs.Words.{is_load_of, is_workers, is_workers_at, OpenLoad, load_fault, earlier, Change, nothing_felt, sets_key, Knows, Bears, Root, with_load, with_key, is_loose}
-use Rattle.pagable_laws.proofs.{Sums.{same-number, self-number, at-most-sum, counted, one-true}, Decoding.{among-either}, Trees.same_some, GoodReferences.same-owner}
-use Rattle.pagable_laws.proofs.Outlasting.{among-kept, NotValues, Stands, stands-alike, stands-changed, stands-fell, stands-more}
-use Rattle.pagable_laws.proofs.Goes.{found-number, le-more, none-in-next, Goes, Quiet, IsShut, NotLoads, rows-self, rows-mode, rows-moved, alike, parts, quiet-self, only-rows, a-handle, quiet-goes, goes-quiet, born, keyed}
-use Rattle.pagable_laws.proofs.Goes.{goes-then, goes-known, le-self, fell as quiet-fell}
-use Rattle.pagable_world.specs.Refusals.{OwnsLoad}
-use Rattle.std.proofs.{Common.{rules}, lemmas.Bool.{false_from_ne_true}}
+use Rattle.pagable_laws.proofs.{Sums.{same-number, self-number, at-most-sum, counted, one-true}, Decoding.among-either, Trees.same_some, GoodReferences.same-owner, Outlasting.{among-kept, NotValues}}
+use Rattle.pagable_laws.proofs.{Outlasting.{Stands, stands-alike, stands-changed, stands-fell, stands-more}, Goes.{found-number, le-more, none-in-next, Goes, Quiet, IsShut, NotLoads, rows-self}}
+use Rattle.pagable_laws.proofs.Goes.{rows-mode, rows-moved, alike, parts, quiet-self, only-rows, a-handle, quiet-goes, goes-quiet, born, keyed, goes-then, goes-known, le-self, fell as quiet-fell}
+use Rattle.{pagable_world.specs.Refusals.OwnsLoad, std.proofs.{Common.rules, lemmas.Bool.false_from_ne_true}}
 
 module _ (kind key n : ℕ) where
   -- the cache has the node under kind and key, and it is there
@@ -78,33 +76,20 @@ module _ (kind key n : ℕ) where
   pub record Lasts (w w' : Core) : Type 0 where
     pub lasts : IsEntered w.cache w.cells → IsHeldFor w.rows → IsHeldFor w'.rows → IsEntered w'.cache w'.cells
 
-  pub by-alike : {w m w' : Core} → Alike m w' → (IsEntered w.cache w.cells → IsEntered m.cache m.cells) → Lasts w w'
-  by-alike a direct = record { lasts = λ e h h'. stays-alike a (direct e) h' }
-
-  pub by-fell : {before w m w' : Core} {given : ℕ → Bool} {r : Result (Unit {0}) Error} → Falls before m given r w' → (IsEntered w.cache w.cells → IsEntered m.cache m.cells) → Lasts w w'
-  by-fell f direct = record { lasts = λ e h h'. stays-fell f (direct e) h' }
-
-  -- the node is held in the middle since it is afterwards
-  pub then-down : {w m w' : Core} → (IsHeldFor w'.rows → IsHeldFor m.rows) → Lasts w m → Lasts m w' → Lasts w w'
-  then-down down a b = record { lasts = λ e h h'. b.lasts (a.lasts e h (down h')) (down h') h' }
-
   -- what is held after handles were given up was held before: an entry of the list comes for a node that was pinned
   pub held-fell : {w m w' : Core} {given : ℕ → Bool} {r : Result (Unit {0}) Error} → m.rows ≡ w.rows → Falls w m given r w' → IsHeldFor w'.rows → IsHeldFor w.rows
   held-fell {w} {m} {w'} same f h = elim (among-either (left_rows f.gone m.rows) f.entries g.live.0 g.row g.live.1) [
     | inl left ↦ record { row = g.row; live = subst (λ rows. Among rows g.row) same (among-kept _ m.rows g.row left); at = g.at; pins_it = g.pins_it }
-    | inr new ↦ was-pinned new
+    | inr new ↦
+        let le = at-most-sum (λ x. one (is_at n x)) f.entries g.row new in
+        let some : 0 < held n f.entries = let e : one (is_at n g.row) ≡ 1 = ap one (at-row g.row g.at) in omega (arith, e, le) in
+        let p = counted (λ x. one (is_pin n x)) w.rows (f.only n some).0.pinned in
+        let both = and_parts (p.0.node.0 == n) (is_pinning p.0.mode) (one-true _ p.2) in
+        record { row = p.0; live = p.1; at = same-number _ _ both.0; pins_it = λ is. both.1 }
   ]
     where
       g : IsHeldFor (left_rows f.gone m.rows ++ f.entries)
       g = subst IsHeldFor f.leaves.rows h
-
-      was-pinned : Among f.entries g.row → IsHeldFor w.rows
-      was-pinned new =
-          let le = at-most-sum (λ x. one (is_at n x)) f.entries g.row new in
-          let some : 0 < held n f.entries = let e : one (is_at n g.row) ≡ 1 = ap one (at-row g.row g.at) in omega (arith, e, le) in
-          let p = counted (λ x. one (is_pin n x)) w.rows (f.only n some).0.pinned in
-          let both = and_parts (p.0.node.0 == n) (is_pinning p.0.mode) (one-true _ p.2) in
-          record { row = p.0; live = p.1; at = same-number _ _ both.0; pins_it = λ is. both.1 }
 
   -- ---- cells
 
@@ -207,16 +192,6 @@ module _ (mine : Owner) where
         other (sym is.owned ∙ (sym (same-row is.row s is.live (sym a.2)) ∙ own)));
   }
 
-  -- what a load owns isn't the owner's
-  pub load-free : IsApart mine → (w : Core) (l : LoadNumber) → Free w (is_owned_in w (Owner.Load l))
-  load-free apart w l = record { each = λ q row own s. ap (λ (f : Option HandleRow). if_there (is_owned_by (Owner.Load l)) false f) s.live ∙ (ap (is_owner (Owner.Load l)) own ∙ apart.no_load l) }
-
-  pub both-free : {w : Core} (f g : ℕ → Bool) → Free w f → Free w (λ q. f q && not (g q))
-  both-free f g free = record { each = λ q row own s. ap (λ b. b && not (g q)) (free.each q row own s) }
-
-  pub nobody-free : {w : Core} → Free w nobody
-  nobody-free = record { each = λ q row own s. refl }
-
   -- an entry of the list isn't the owner's
   pub listed-free : is_owner Owner.List mine ≡ false → {w : Core} → OwnersAreThere w → (i : ℕ) (h : HandleNumber) → slice_get w.list i ≡ Some h → Free w (only_handle h)
   listed-free unlisted {w} there i h at = record {
@@ -318,13 +293,15 @@ module _ {me : Owner} {lists : Bool} where
   own-named w references right mine o = named-free mine w me references o.other right
 
   pub load-owns : (w : Core) (l : LoadNumber) → Ours me lists w (is_owned_in w (Owner.Load l))
-  load-owns w l mine o = load-free mine o.apart w l
+  load-owns w l mine o = record {
+    each = λ q row own s. ap (λ (f : Option HandleRow). if_there (is_owned_by (Owner.Load l)) false f) s.live ∙ (ap (is_owner (Owner.Load l)) own ∙ o.apart.no_load l);
+  }
 
   pub but : {w : Core} (f g : ℕ → Bool) → Ours me lists w f → Ours me lists w (λ q. f q && not (g q))
-  but f g free mine o = both-free mine f g (free mine o)
+  but f g free mine o = record { each = λ q row own s. ap (λ b. b && not (g q)) ((free mine o).each q row own s) }
 
   pub no-one : {w : Core} → Ours me lists w nobody
-  no-one mine o = nobody-free mine
+  no-one mine o = record { each = λ q row own s. refl }
 
   pub entry : lists ≡ true → {w : Core} (i : ℕ) (h : HandleNumber) → slice_get w.list i ≡ Some h → Ours me lists w (only_handle h)
   entry taken i h at mine o = listed-free mine (o.unlisted taken).0 (o.unlisted taken).1 i h at
@@ -381,8 +358,7 @@ module _ {me : Owner} {lists : Bool} {Asks Leaves : Type 0} where
         other k q p e h was false b x y = was
 
     pub cached-if : (b : Bool) (kind : Kind) (key : ℕ) (n : NodeNumber) → Knows c w kind.0 key n.0 → usable w kind.0 key ≡ None → Effect me lists Asks Leaves true c w (if b then m else with_cached m kind key n)
-    cached-if true kind key n knows unknown = d
-    cached-if false kind key n knows unknown = cached kind key n knows unknown
+    cached-if x0 kind key n knows unknown = grind (arith, nat_tests, cached)
 
     -- a load comes, or goes
     pub opens : (key : ℕ) (root : Root) → Goes c w (with_load m key root me) → Effect me lists Asks Leaves true c w (with_load m key root me)
@@ -429,17 +405,11 @@ module _ {me : Owner} {lists : Bool} {Asks Leaves : Type 0} where
   -- what is stored may grow, and the storage may fail
   pub beside : {c : Change} (w : Core) (stored : ℕ → Option Blob) (failures : ℕ) → ((q : ℕ) (b : Blob) → w.stored q ≡ Some b → stored q ≡ Some b) → (IsShut w → (q : ℕ) → stored q ≡ None)
       → Effect me lists Asks Leaves true c w (record w { stored = stored; failures = failures })
-  beside {c} w stored failures keeps shut =
-      let q = quiet-self w in
-      let quiet : Quiet w (record w { stored = stored; failures = failures }) = search (rules, q.cells, q.loads, q.cache, q.rows, keeps, shut) in
-      search (rules, quiet-goes, quiet)
+  beside {c} w stored failures keeps shut = grind (arith, nat_tests, quiet-self, quiet-goes)
 
   -- the cache forgets all
   pub forgets : {c : Change} (w : Core) → (Leaves → ⊥) → Effect me lists Asks Leaves true c w (record w { cache = λ kind key. None })
-  forgets {c} w none =
-      let quiet : Quiet w (record w { cache = λ kind key. None }) =
-      parts (le-self _) (le-self _) (λ n cell is. is) (λ l load is. is) (λ kind key n is. absurd (cc)) (rows-self w.last.handle w.rows w.rows refl) in
-      search (rules, quiet-goes, quiet, none)
+  forgets {c} w none = grind (arith, nat_tests, parts, le-self, rows-self, quiet-goes)
 
   pub stays : {c : Change} {w w' : Core} → Alike w w' → Effect me lists Asks Leaves false c w w'
   stays {w = w} a = like (none w) a

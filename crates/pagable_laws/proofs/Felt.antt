@@ -1,18 +1,16 @@
 -- What each step brings fits some trees afterwards: where a pager stands for trees, each value and key leads to its node's tree by its own references alone, and from
 -- this it stands for them again, so that what is asked of a node is shown at each node by itself.
-use Rattle.pagable_laws.proofs.Words.{nat_tests, ◌≡◌, ℕ, zero, ◌<◌, ◌&&◌, Bool, true, false, Option, Some, None, refl, sym, ap, ◌∙◌, subst, is_some, OptionalDataKey, number, integer, text}
-use Rattle.pagable_laws.proofs.Words.{pattern, none, pair, variant, reference, followed, references_in, ArcRef, Meaning, Tree, tree, type_of, ReadsTree, Among, held, is_in_memory, Core}
-use Rattle.pagable_laws.proofs.Words.{Values, IsLawful, key_at, IsReference, PagerState, WellFormed, NodeStands, here, away, MeaningStands, number-stands, integer-stands, text-stands}
-use Rattle.pagable_laws.proofs.Words.{pattern-stands, none-stands, pair-stands, variant-stands, followed-stands, reference-stands, Represents, HoldsSettled, LeadsTo, number-leads}
-use Rattle.pagable_laws.proofs.Words.{integer-leads, text-leads, arith, pattern-leads, none-leads, pair-leads, variant-leads, followed-leads, reference-leads, ValueLeads, NodeLeads, ◌≤◌}
-use Rattle.pagable_laws.proofs.Words.{◌⊎◌, inl, inr, NodeNumber, HandleNumber, OpenLoad, of_cell, type_at, Moves, ReadsNodeTree, KeyFits, Change, CoreGoes, SameNode, ChangeFits}
-use Rattle.pagable_laws.proofs.Words.{◌+◌, ◌==◌, if◌then◌else◌, Owner, Call, Reply, updated, is_pinned_kind, is_here, first_key, SameTrees, CallBrings, IsNewNode, AsksWell, nothing_felt}
-use Rattle.pagable_laws.proofs.Words.{sets_key, knows_node, bears_node, bears_known, StaysAway, AreGood, CallFeels, feels-nothing, feels-birth, feels-away, feels-key, feels-known}
-use Rattle.pagable_laws.proofs.Words.{feels-adopted, feels-lazy, feels-end, List, [], ◌∷◌, LoadAnswer, Reading, Frame, ReadsRoot, ReadingBrings, IsCellOf}
-use Rattle.pagable_laws.proofs.Words.{FramesFit, ReadingFits, ReadsItsTypes, TakesWell, FramesGiven, ReadingFeels, gets-lazy, makes-node}
-use Rattle.pagable_laws.proofs.{Trees.{same_some, tree_is, one_tree}, Decoding.{among-left, among-right, meant-refs, decodes}, Following.{one-node, given-of, cell-of, held-of}}
-use Rattle.pagable_laws.proofs.{Fitting.{tree-stays, first-fits}, Coming.updated-at, Taking.{root-key, node-decoded}}
-use Rattle.std.{proofs.Common.rules}
+use Rattle.pagable_laws.proofs.Words.{nat_tests, ◌≡◌, ℕ, zero, ◌<◌, ◌&&◌, Bool, true, false, Option, Some, None, refl, sym, ap, ◌∙◌, subst, is_some, OptionalDataKey, number, integer, text, pattern}
+use Rattle.pagable_laws.proofs.Words.{none, pair, variant, reference, followed, references_in, ArcRef, Meaning, Tree, tree, type_of, ReadsTree, Among, held, is_in_memory, Core, Values, IsLawful}
+use Rattle.pagable_laws.proofs.Words.{key_at, IsReference, PagerState, WellFormed, NodeStands, here, away, MeaningStands, number-stands, integer-stands, text-stands, pattern-stands, none-stands}
+use Rattle.pagable_laws.proofs.Words.{pair-stands, variant-stands, followed-stands, reference-stands, Represents, HoldsSettled, LeadsTo, number-leads, integer-leads, text-leads, arith, pattern-leads}
+use Rattle.pagable_laws.proofs.Words.{none-leads, pair-leads, variant-leads, followed-leads, reference-leads, ValueLeads, NodeLeads, ◌≤◌, ◌⊎◌, inl, inr, NodeNumber, HandleNumber, OpenLoad, of_cell}
+use Rattle.pagable_laws.proofs.Words.{type_at, Moves, ReadsNodeTree, KeyFits, Change, CoreGoes, SameNode, ChangeFits, ◌+◌, ◌==◌, if◌then◌else◌, Owner, Call, Reply, updated, is_pinned_kind, is_here}
+use Rattle.pagable_laws.proofs.Words.{first_key, SameTrees, CallBrings, IsNewNode, AsksWell, nothing_felt, sets_key, knows_node, bears_node, bears_known, StaysAway, AreGood, CallFeels, feels-nothing}
+use Rattle.pagable_laws.proofs.Words.{feels-birth, feels-away, feels-key, feels-known, feels-adopted, feels-lazy, feels-end, List, [], ◌∷◌, LoadAnswer, Reading, Frame, ReadsRoot, ReadingBrings}
+use Rattle.pagable_laws.proofs.{Words.{IsCellOf, FramesFit, ReadingFits, ReadsItsTypes, TakesWell, FramesGiven, ReadingFeels, gets-lazy, makes-node}, Trees.{same_some, tree_is, one_tree}}
+use Rattle.pagable_laws.proofs.{Decoding.{among-left, among-right, meant-refs, decodes}, Following.{one-node, given-of, cell-of, held-of}, Fitting.{tree-stays, node-stays, first-fits}}
+use Rattle.{pagable_laws.proofs.{Coming.updated-at, ReadingSteps.{old-node, new-node}, Taking.{root-key, node-decoded}}, std.proofs.Common.rules}
 
 -- ---- other trees, the same at the nodes that are referred to
 
@@ -49,6 +47,12 @@ led (followed kind x) h = let l = led x h in (followed kind l.0, followed-leads 
 -- the references of a value's meaning are its own
 pub own-refs : {N : Type 0} {v : Values N} → IsLawful v → (x : N) (own : Meaning ArcRef) → v.means x own → (r : ArcRef) → Among (references_in own) r → Among (v.references x) r
 own-refs lawful x own means r among = meant-refs _ _ (λ is. sym (lawful.refers x own means is)) r among
+
+-- a value whose references were given leads to its tree where those nodes keep their trees
+pub value-on : {N : Type 0} {v : Values N} → IsLawful v → (last : ℕ) {trees trees' : ℕ → Tree} {x : N} {t : Tree} → SameTrees last trees trees'
+    → ((r : ArcRef) → Among (v.references x) r → r.node.0 ≤ last) → ValueLeads v trees x t → ValueLeads v trees' x t
+value-on lawful last {x = x} same few l =
+    record { own = l.own; typed = l.typed; means = l.means; leads = leads-on l.leads (λ r among. same r.node.0 (few r (own-refs lawful x l.own l.means r among))) }
 
 module _ {N E : Type 0} {v : Values N} {s : PagerState N E} {trees : ℕ → Tree} (lawful : IsLawful v) where
   module _ (settled : HoldsSettled v s) (well : WellFormed v s) (stands : Represents v s trees) where
@@ -134,66 +138,51 @@ module _ {N E : Type 0} {v : Values N} {s : PagerState N E} {trees : ℕ → Tre
   stand m none-leads e h = none-stands
   stand m l e h = absurd (cc)
 
-  pub stands-again : (n : ℕ) → 0 < held n s.core.rows → NodeStands v s n (trees n)
-  stands-again n live = node-by n live (λ z l k. stand (trees n).meaning l refl k)
-
 pub either-side : (n last : ℕ) → (n ≤ last) ⊎ (last < n)
 either-side n last = grind (arith, nat_tests)
 
 module _ {N E : Type 0} {v : Values N} {c : Change} {comes : ℕ → N → Type 0} {s s' : PagerState N E} {trees trees' : ℕ → Tree} (lawful : IsLawful v)
     (settled : HoldsSettled v s) (well : WellFormed v s) (well' : WellFormed v s') (stands : Represents v s trees) (moves : Moves comes s s') (goes : CoreGoes c s.core s'.core)
     (fits : ChangeFits v c comes s s' trees trees') where
-  was : (n : ℕ) → 0 < held n s.core.rows → NodeLeads v s trees n
-  was n live = leads-all lawful settled well stands n live
-
   moved-tree : (n : ℕ) {key : ℕ} → n ≤ s.core.last.node → ReadsTree s'.core.stored v.types key (trees n) → ReadsTree s'.core.stored v.types key (trees' n)
   moved-tree n {key} within reads = subst (λ t. ReadsTree s'.core.stored v.types key t) (sym (fits.same n within)) reads
-
-  moved-node : (n t : ℕ) {key : ℕ} → n ≤ s.core.last.node → ReadsNodeTree v.types s.core.stored trees key t n → ReadsNodeTree v.types s'.core.stored trees' key t n
-  moved-node n t within reads = record { typed = ap (λ (z : Tree). z.type) (fits.same n within) ∙ reads.typed; reads = moved-tree n within (tree-stays goes.stored reads.reads) }
 
   moved-value : (n : ℕ) (x : N) → s.values n ≡ Some x → ValueLeads v trees' x (trees' n)
   moved-value n x is =
       let live = given-of well.whole.handles n (well.typed n x is) in
-      let l = (was n live.0).valued x is in
-      let same = sym (fits.same n live.1) in
-      record {
-        own = l.own;
-        typed = l.typed ∙ ap (λ (z : Tree). z.type) same;
-        means = l.means;
-        leads = subst (λ (z : Tree). LeadsTo trees' l.own z.meaning) same
-            (leads-on l.leads (λ r among. fits.same r.node.0 (given-of well.whole.handles r.node.0 (well.references n x r is (own-refs lawful x l.own l.means r among)).typed).1));
-      }
+      subst (λ z. ValueLeads v trees' x z) (sym (fits.same n live.1)) (value-on lawful s.core.last.node fits.same
+      (λ r among. (given-of well.whole.handles r.node.0 (well.references n x r is among).typed).1) ((leads-all lawful settled well stands n live.0).valued x is))
 
   keyed-old : (n : ℕ) → n ≤ s.core.last.node → SameNode c s.core s'.core n → KeyFits v s' n (trees' n)
   keyed-old n within same key is = elim same.key [
-    | inl stays ↦ moved-tree n within (tree-stays goes.stored ((was n (held-of well.whole.handles n same.was)).keyed key (sym stays ∙ is)))
+    | inl stays ↦ moved-tree n within (tree-stays goes.stored ((leads-all lawful settled well stands n (held-of well.whole.handles n same.was)).keyed key (sym stays ∙ is)))
     | inr (k, sets, set) ↦ let e : k ≡ key = (cc) in subst (λ q. ReadsTree s'.core.stored v.types q (trees' n)) e (moved-tree n within (fits.sets n k sets))
   ]
 
   leads-again : (n : ℕ) → 0 < held n s'.core.rows → NodeLeads v s' trees' n
-  leads-again n live = search (rules, cell-of, either-side, keyed-old, arith, nat_tests, moved-value)
+  leads-again n live = search (rules, cell-of, either-side, keyed-old, old-node goes, new-node goes well.whole.handles, arith, nat_tests, moved-value)
 
   typed-again : (n : ℕ) → 0 < held n s'.core.rows → type_at s'.core n ≡ Some (trees' n).type
-  typed-again n live = grind (arith, nat_tests)
+  typed-again n live = grind (arith, nat_tests, old-node goes, new-node goes well.whole.handles)
 
   loads-again : (l : ℕ) (load : OpenLoad) (node : NodeNumber) (t : ℕ) (h : HandleNumber) → s'.core.loads l ≡ Some load → load.root ≡ of_cell node t h
       → ReadsNodeTree v.types s'.core.stored trees' load.key t node.0
   loads-again l load node t h is root = elim (goes.loads l load is) [
-    | inl stays ↦ moved-node node.0 t (well.whole.loads.roots l load node t h stays root).given.1 (stands.loads l load node t h stays root)
+    | inl stays ↦ node-stays goes.stored (fits.same node.0 (well.whole.loads.roots l load node t h stays root).given.1) (stands.loads l load node t h stays root)
     | inr (above, begins) ↦
         let b = begins node t h root in
         let live = given-of well.whole.handles node.0 b.0 in
         let typed : (trees node.0).type ≡ t = same_some _ _ (sym (stands.typed node.0 live.0) ∙ b.0) in
-        moved-node node.0 t live.1 (record { typed = typed; reads = (was node.0 live.0).keyed load.key b.1 })
+        node-stays goes.stored {trees = trees} (fits.same node.0 live.1) (record { typed = typed; reads = (leads-all lawful settled well stands node.0 live.0).keyed load.key b.1 })
   ]
 
   cache-again : (kind key n : ℕ) → s'.core.cache kind key ≡ Some n → ReadsNodeTree v.types s'.core.stored trees' key (type_of kind) n
   cache-again kind key n is = elim (goes.cache kind key n is)
-      [ inl stays ↦ moved-node n (type_of kind) (well.whole.cache kind key n stays).given (stands.cache kind key n stays) | inr knows ↦ fits.knows kind key n knows ]
+      [ inl stays ↦ node-stays goes.stored (fits.same n (well.whole.cache kind key n stays).given) (stands.cache kind key n stays) | inr knows ↦ fits.knows kind key n knows ]
 
   pub trees-go-on : Represents v s' trees'
-  trees-go-on = record { stands = stands-again lawful well' leads-again; typed = typed-again; loads = loads-again; cache = cache-again }
+  trees-go-on = record { stands = λ n live. node-by lawful well' leads-again n live (λ z l k. stand lawful well' leads-again (trees' n).meaning l refl k);
+      typed = typed-again; loads = loads-again; cache = cache-again }
 
 -- ---- trees with one more
 
@@ -208,11 +197,6 @@ module _ {N E : Type 0} {v : Values N} {s s' : PagerState N E} {trees : ℕ → 
   abbrev last : ℕ
   last = s.core.last.node
 
-  -- a value whose references were given leads to its tree where more nodes have trees
-  pub value-on : {trees' : ℕ → Tree} {x : N} {t : Tree} → SameTrees last trees trees' → ((r : ArcRef) → Among (v.references x) r → r.node.0 ≤ last) → ValueLeads v trees x t → ValueLeads v trees' x t
-  value-on {trees'} {x} {t} same few l =
-      record { own = l.own; typed = l.typed; means = l.means; leads = leads-on l.leads (λ r among. same r.node.0 (few r (own-refs lawful x l.own l.means r among))) }
-
   good-given : (owner : Owner) (x : N) → AreGood s.core owner (v.references x) → (r : ArcRef) → Among (v.references x) r → r.node.0 ≤ last
   good-given owner x good r among = (given-of well.whole.handles r.node.0 (good r among).typed).1
 
@@ -225,7 +209,7 @@ module _ {N E : Type 0} {v : Values N} {s s' : PagerState N E} {trees : ℕ → 
 
   -- where nothing is born and no value can come to an old node, none comes
   pub none-comes : (n : ℕ) (x : N) → CoreGoes nothing_felt s.core s'.core → s.values n ≡ None → s'.values n ≡ Some x → IsNewNode s.core n ⊎ StaysAway s.core s'.core n → ⊥
-  none-comes n x goes x3 is x5 = grind (arith, nat_tests, live-after, either-side, came)
+  none-comes n x goes x3 is x5 = grind (arith, nat_tests, live-after, either-side, came, old-node goes, new-node goes well.whole.handles)
 
   -- nothing is felt, and what comes to an old node fits
   pub fits-nothing : (comes : ℕ → N → Type 0) → ((n : ℕ) (x : N) → comes n x → s.values n ≡ None → s'.values n ≡ Some x → ValueLeads v trees x (trees n))
@@ -247,9 +231,9 @@ module _ {N E : Type 0} {v : Values N} {s s' : PagerState N E} {trees : ℕ → 
     more-at = updated-at (last + 1) t0 trees
 
     -- a node is born of this type and key, of a tree as which the key reads if it has one
-    pub fits-born : (comes : ℕ → N → Type 0) (own : OptionalDataKey) → ((key : ℕ) → own ≡ OptionalDataKey.Some key → ReadsTree s'.core.stored v.types key t0)
-        → ((n : ℕ) (x : N) → comes n x → s.values n ≡ None → s'.values n ≡ Some x → ValueLeads v more x (more n)) → ChangeFits v (bears_node t0.type own) comes s s' trees more
-    fits-born comes own reads fit = grind (arith, nat_tests, with-below, more-at)
+    pub fits-born : (comes : ℕ → N → Type 0) (t : ℕ) (own : OptionalDataKey) → t0.type ≡ t → ((key : ℕ) → own ≡ OptionalDataKey.Some key → ReadsTree s'.core.stored v.types key t0)
+        → ((n : ℕ) (x : N) → comes n x → s.values n ≡ None → s'.values n ≡ Some x → ValueLeads v more x (more n)) → ChangeFits v (bears_node t own) comes s s' trees more
+    fits-born comes t own typed reads fit = grind (arith, nat_tests, with-below, more-at)
 
     pub fits-born-known : (comes : ℕ → N → Type 0) (k q : ℕ) (own : OptionalDataKey) → t0.type ≡ type_of k → ((key : ℕ) → own ≡ OptionalDataKey.Some key → key ≡ q)
         → ReadsTree s'.core.stored v.types q t0
@@ -260,8 +244,8 @@ module _ {N E : Type 0} {v : Values N} {s s' : PagerState N E} {trees : ℕ → 
     pub value-born : (c : Change) (n : ℕ) (x y : N) → CoreGoes c s.core s'.core → s'.values n ≡ Some x → x ≡ y → IsNewNode s.core n
         → ((r : ArcRef) → Among (v.references y) r → r.node.0 ≤ last) → ValueLeads v trees y t0 → ValueLeads v more x (more n)
     value-born c n x y goes is same new few l =
-        let next : n ≡ last + 1 = (goes.new n new (live-after n x is)).next in
-        let led_to : ValueLeads v more y t0 = value-on (with-below last t0 trees) few l in
+        let next : n ≡ last + 1 = (new-node goes well.whole.handles n new (live-after n x is)).next in
+        let led_to : ValueLeads v more y t0 = value-on lawful last (with-below last t0 trees) few l in
         subst (λ z. ValueLeads v more z (more n)) (sym same) (subst (λ z. ValueLeads v more y z) (sym (ap more next ∙ more-at)) led_to)
 
   -- ---- calls
@@ -274,61 +258,37 @@ module _ {N E : Type 0} {v : Values N} {s s' : PagerState N E} {trees : ℕ → 
   birth-tree : (x : N) (owner : Owner) → AreGood s.core owner (v.references x) → (t : Tree) × (t.type ≡ v.node_type x) × ValueLeads v trees x t
   birth-tree x owner good =
       let some = lawful.some x in
-      let l = led {trees = trees} some.0 (λ r among. typed-as r (own-refs lawful x some.0 some.1 r among)) in
+      let l = led {trees = trees} some.0 (λ r among. let is = (good r (own-refs lawful x some.0 some.1 r among)).typed in
+      same_some _ _ (sym (stands.typed r.node.0 (given-of well.whole.handles r.node.0 is).0) ∙ is)) in
       (tree (v.node_type x) l.0, refl, record { own = some.0; typed = refl; means = some.1; leads = l.1 })
-    where
-      typed-as : (r : ArcRef) → Among (v.references x) r → (trees r.node.0).type ≡ type_of r.kind.0
-      typed-as r among =
-          let is = (good r among).typed in
-          let live = given-of well.whole.handles r.node.0 is in
-          same_some _ _ (sym (stands.typed r.node.0 live.0) ∙ is)
+
+  so : {c : Change} {comes : ℕ → N → Type 0} {after : ℕ → Tree} → ChangeFits v c comes s s' trees after → Fits c comes
+  so {after = after} f = record { after = after; fits = f }
 
   pub call-fits : {B : Type 0} (c : Change) (call : Call N B) (reply : Reply N B) → CoreGoes c s.core s'.core → AsksWell v s trees call reply
       → CallFeels v s.core Owner.Caller call reply s'.core c → Fits c (CallBrings s.core call)
-  call-fits c call reply goes asked (feels-nothing stays) = record { after = trees; fits = fits-nothing _ (λ n x brings unset is. absurd (none-comes n x goes unset is (stays n x brings))) }
+  call-fits c call reply goes asked (feels-nothing stays) = so (fits-nothing _ (λ n x brings unset is. absurd (none-comes n x goes unset is (stays n x brings))))
   call-fits c call reply goes asked (feels-birth x brought good) =
       let born = birth-tree x Owner.Caller good in
-      record {
-        after = updated (last + 1) born.0 trees;
-        fits =
-            subst (λ t. ChangeFits v (bears_node t OptionalDataKey.None) (CallBrings s.core call) s s' trees (updated (last + 1) born.0 trees)) born.1
-            (fits-born born.0 _ OptionalDataKey.None (λ key is. absurd (cc))
-            (λ n y brings unset is. value-born born.0 _ n y x goes is (brought n y brings).0 (brought n y brings).1 (good-given Owner.Caller x good) born.2));
-      }
-  call-fits c call reply goes asked (feels-away t key k) =
-      record {
-        after = updated (last + 1) asked.read trees;
-        fits =
-            subst (λ z. ChangeFits v (bears_node z (OptionalDataKey.Some key)) (λ n y. ⊥) s s' trees (updated (last + 1) asked.read trees)) asked.typed
-            (fits-born asked.read _ (OptionalDataKey.Some key)
-            (λ q is. let e : key ≡ q = cc in subst (λ z. ReadsTree s'.core.stored v.types z asked.read) e (tree-stays goes.stored asked.reads)) (λ n y brings unset is. absurd brings));
-      }
-  call-fits c call reply goes asked (feels-key h key row owns) = record { after = trees; fits = fits-key _ row.node.0 key (λ n y brings. brings) (tree-stays goes.stored (asked row owns)) }
+      so (fits-born born.0 _ _ OptionalDataKey.None born.1 (λ key is. absurd (cc))
+      (λ n y brings unset is. value-born born.0 _ n y x goes is (brought n y brings).0 (brought n y brings).1 (good-given Owner.Caller x good) born.2))
+  call-fits c call reply goes asked (feels-away t key k) = so (fits-born asked.read _ _ (OptionalDataKey.Some key) asked.typed
+      (λ q is. let e : key ≡ q = cc in subst (λ z. ReadsTree s'.core.stored v.types z asked.read) e (tree-stays goes.stored asked.reads)) (λ n y brings unset is. absurd brings))
+  call-fits c call reply goes asked (feels-key h key row owns) = so (fits-key _ row.node.0 key (λ n y brings. brings) (tree-stays goes.stored (asked row owns)))
   call-fits c call reply goes asked (feels-known kind key h row owns typed) =
       let live = given-of well.whole.handles row.node.0 typed in
       let is_typed : (trees row.node.0).type ≡ type_of kind.0 = same_some _ _ (sym (stands.typed row.node.0 live.0) ∙ typed) in
-      record { after = trees; fits = fits-known _ kind.0 key row.node.0 (λ n y brings. brings) (record { typed = is_typed; reads = tree-stays goes.stored (asked row owns) }) }
+      so (fits-known _ kind.0 key row.node.0 (λ n y brings. brings) (record { typed = is_typed; reads = tree-stays goes.stored (asked row owns) }))
   call-fits c call reply goes asked (feels-adopted l kind key x k typed good) =
       let leads = value-leads lawful settled well stands x asked.stands.own asked.read (Owner.Load l) asked.stands.typed asked.stands.means asked.stands.stands good in
-      record {
-        after = updated (last + 1) asked.read trees;
-        fits =
-            fits-born-known asked.read _ kind.0 key (first_key kind.0 key) (sym asked.stands.typed ∙ typed) (λ q is. first-of (is_pinned_kind kind.0) key q is) (tree-stays goes.stored asked.reads)
-            (λ n y brings unset is. value-born asked.read _ n y x goes is brings.0 brings.1 (good-given (Owner.Load l) x good) leads);
-      }
+      so (fits-born-known asked.read _ kind.0 key (first_key kind.0 key) (sym asked.stands.typed ∙ typed) (λ q is. first-of (is_pinned_kind kind.0) key q is) (tree-stays goes.stored asked.reads)
+      (λ n y brings unset is. value-born asked.read _ n y x goes is brings.0 brings.1 (good-given (Owner.Load l) x good) leads))
   call-fits c call reply goes asked (feels-lazy l kind key k) =
-      record {
-        after = updated (last + 1) asked.read trees;
-        fits = fits-born-known asked.read _ kind.0 key (OptionalDataKey.Some key) asked.typed (λ q is. cc) (tree-stays goes.stored asked.reads) (λ n y brings unset is. absurd brings);
-      }
-  call-fits c call reply goes asked (feels-end l x k good) =
-      record {
-        after = trees;
-        fits = fits-nothing _ (λ n y brings unset is.
-            let meant = asked n brings.1 in
-            let leads = value-leads lawful settled well stands x meant.own (trees n) (Owner.Load l) meant.typed meant.means meant.stands good in
-            subst (λ z. ValueLeads v trees z (trees n)) (sym brings.0) leads);
-      }
+      so (fits-born-known asked.read _ kind.0 key (OptionalDataKey.Some key) asked.typed (λ q is. cc) (tree-stays goes.stored asked.reads) (λ n y brings unset is. absurd brings))
+  call-fits c call reply goes asked (feels-end l x k good) = so (fits-nothing _ (λ n y brings unset is.
+      let meant = asked n brings.1 in
+      let leads = value-leads lawful settled well stands x meant.own (trees n) (Owner.Load l) meant.typed meant.means meant.stands good in
+      subst (λ z. ValueLeads v trees z (trees n)) (sym brings.0) leads))
 
 at-front : (frames : List Frame) (a : Frame) (xs : List Frame) → frames ≡ a ∷ xs → Among frames a
 at-front frames a xs e = subst (λ fs. Among fs a) (sym e) (zero, refl)
@@ -350,7 +310,7 @@ module _ {N E : Type 0} {v : Values N} {s s' : PagerState N E} {trees : ℕ → 
         let d = decodes lawful readable root.root x (first-fits v.types cell.load.key reading.node_type s.core.stored trees root.root [] here) root.decoded in
         let under = subst (λ q. ReadsTree s.core.stored v.types q d.t) (root-key v.types s.core.stored trees cell.load.key reading.node_type root.root here) d.reads in
         let within : n ≤ s.core.last.node = subst (λ m. m ≤ s.core.last.node) cell.is (well.whole.loads.roots reading.load.0 cell.load cell.node cell.t cell.h cell.open_load cell.root).given.1 in
-        let old = goes.old n within (live-after lawful settled well well' stands n x is) in
+        let old = old-node goes n within (live-after lawful settled well well' stands n x is) in
         let typed : (trees n).type ≡ v.node_type x = same_some _ _ (sym (stands.typed n (held-of well.whole.handles n old.was)) ∙ sym old.typed ∙ well'.typed n x is) in
         let cells : ReadsTree s.core.stored v.types cell.load.key (trees n) = subst (λ m. ReadsTree s.core.stored v.types cell.load.key (trees m)) cell.is
         (stands.loads reading.load.0 cell.load cell.node cell.t cell.h cell.open_load cell.root).reads in
@@ -359,12 +319,15 @@ module _ {N E : Type 0} {v : Values N} {s s' : PagerState N E} {trees : ℕ → 
 
     -- nothing is felt
     quiet : (n : ℕ) (x : N) → c ≡ nothing_felt → ReadingBrings v s.core reading n x → s'.values n ≡ Some x → ValueLeads v trees x (trees n)
-    quiet n x nothing x3 is = grind (arith, nat_tests, live-after, root-leads)
+    quiet n x nothing x3 is = grind (arith, nat_tests, live-after, root-leads, new-node goes well.whole.handles)
 
     -- a node is born, and the root's value comes to an old one
     root-on : (t0 : Tree) (n : ℕ) (x : N) → s'.values n ≡ Some x → ReadsRoot v reading x → IsCellOf s.core reading.load n
         → ValueLeads v (updated (s.core.last.node + 1) t0 trees) x (updated (s.core.last.node + 1) t0 trees n)
-    root-on t0 n x is root cell = grind (arith, nat_tests, root-leads, value-on, with-below)
+    root-on t0 n x is root cell =
+        let r = root-leads n x is root cell in
+        let same = with-below s.core.last.node t0 trees in
+        subst (λ z. ValueLeads v (updated (s.core.last.node + 1) t0 trees) x z) (sym (same n r.within)) (value-on lawful s.core.last.node same r.few r.leads)
 
   still : CoreGoes nothing_felt s.core s'.core → (after : ℕ → Tree) × ChangeFits v nothing_felt (ReadingBrings v s.core reading) s s' trees after
   still goes = (trees, fits-nothing lawful settled well well' stands _ (λ n x brings unset is. quiet goes n x refl brings is))
@@ -373,14 +336,9 @@ module _ {N E : Type 0} {v : Values N} {s s' : PagerState N E} {trees : ℕ → 
       → (answer ≡ None → (load : OpenLoad) × (s.core.loads reading.load.0 ≡ Some load))
       → ReadingFeels v s.core reading answer frames s'.core c → (after : ℕ → Tree) × ChangeFits v c (ReadingBrings v s.core reading) s s' trees after
   reading-fits goes takes opens (gets-lazy kind key row needs got answer is) =
-      let asked = takes kind key needs in (
-        updated (s.core.last.node + 1) asked.read trees,
-        fits-born-known lawful settled well well' stands asked.read _ kind.0 key (OptionalDataKey.Some key) asked.typed (λ q e. cc) (tree-stays goes.stored asked.reads)
-            (λ n x brings unset at. elim brings [
-              | inl (reads, new) ↦ (absurd (cc))
-              | inr (root, cell) ↦ root-on goes asked.read n x at root cell
-            ]),
-      )
+      let asked = takes kind key needs in
+      (_, fits-born-known lawful settled well well' stands asked.read _ kind.0 key (OptionalDataKey.Some key) asked.typed (λ q e. cc) (tree-stays goes.stored asked.reads)
+      (λ n x brings unset at. elim brings [ inl (reads, new) ↦ absurd (cc) | inr (root, cell) ↦ root-on goes asked.read n x at root cell ]))
   reading-fits goes takes opens (makes-node x reads row got answer is) =
       let load = opens answer in
       let fit = fits load.0 load.1 in

@@ -62,9 +62,6 @@ module _ {N E : Type 0} {v : Values N} {s : PagerState N E} (settled : HoldsSett
 
 -- ---- what is live
 
-nothing-typed : (w : Core) (n t : ℕ) → type_at w n ≡ Some t → is_some (w.cells n) ≡ true
-nothing-typed w n t is = grind arith
-
 module _ {w : Core} (whole : HandlesAreWhole w) (n : ℕ) where
   pub held-of : is_some (w.cells n) ≡ true → 0 < held n w.rows
   held-of is = let f : nat_lt 0 (held n w.rows) ≡ true = sym (whole.live n) ∙ is in grind (arith, nat_tests)
@@ -73,7 +70,7 @@ module _ {w : Core} (whole : HandlesAreWhole w) (n : ℕ) where
   cell-of some = let f : nat_lt 0 (held n w.rows) ≡ true = grind (arith, nat_tests) in whole.live n ∙ f
 
   pub given-of : {t : ℕ} → type_at w n ≡ Some t → (0 < held n w.rows) × (n ≤ w.last.node)
-  given-of is = let there = nothing-typed w n _ is in (held-of there, (whole.nodes_numbered n there).1)
+  given-of {t} is = let there : is_some (w.cells n) ≡ true = grind arith in (held-of there, (whole.nodes_numbered n there).1)
 
 first-true : (a b : Bool) → (a && b) ≡ true → a ≡ true
 first-true x0 b is = grind (arith, nat_tests)
@@ -104,7 +101,7 @@ handles-once {w} whole q = rows-once q w.rows (λ i j a b lt at there.
     less : (x y : ℕ) {m n : ℕ} → x ≡ m → y ≡ n → x < y → m < n
     less x y a b lt = omega (arith, a, b, lt)
 
-one-less : (a b : Bool) → one (a && b) ≤ one a
+pub one-less : (a b : Bool) → one (a && b) ≤ one a
 one-less x0 x1 = grind (arith, nat_tests)
 
 module _ {N E : Type 0} {v : Values N} {s : PagerState N E} {trees : ℕ → Tree} (rs : List ArcRef)

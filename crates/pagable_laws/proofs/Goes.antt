@@ -1,26 +1,10 @@
 -- What a step does to the plain world as far as trees feel it, with no premise: the parts of which the summary of each call is made.
-use Rattle.pagable_laws.proofs.Words.{◌≡◌, ℕ, ◌+◌, ◌<◌, ◌≤◌, ◌==◌, ◌&&◌, Bool, true, false, List, [], ◌∷◌, ◌++◌, refl, ap, sym, subst, ◌∙◌, inl, inr, arith, Option, Some, None, ◌⊎◌}
-use Rattle.pagable_laws.proofs.Words.{if◌then◌else◌, nat_tests, Blob, ArcRef, Kind, type_of, HandleNumber, LoadNumber, NodeNumber, OptionalDataKey, changed, updated, if_there, HandleRow, Owner}
-use Rattle.pagable_laws.proofs.Words.{Mode, find_row, is_handle, mode_of, is_loose, Core, Cell, OpenLoad, Root, Alike, type_at, key_at, AreNewEntries, Falls, FallsAnyhow, fallen, left_rows}
-use Rattle.pagable_laws.proofs.Words.{row_of, with_handle, with_node, with_key, with_cached, next_node, moved, with_load, adopted, Change, nothing_felt, sets_key, bears_known, Sets, Knows, Bears}
+use Rattle.pagable_laws.proofs.Words.{◌≡◌, ℕ, ◌+◌, ◌<◌, ◌≤◌, ◌==◌, ◌&&◌, Bool, true, false, List, [], ◌∷◌, ◌++◌, refl, ap, sym, subst, ◌∙◌, inl, inr, arith, Option, Some, None, ◌⊎◌, if◌then◌else◌}
+use Rattle.pagable_laws.proofs.Words.{nat_tests, Blob, ArcRef, Kind, type_of, HandleNumber, LoadNumber, NodeNumber, OptionalDataKey, changed, updated, if_there, HandleRow, Owner, Mode, find_row}
+use Rattle.pagable_laws.proofs.Words.{is_handle, mode_of, is_loose, Core, Cell, OpenLoad, Root, Alike, type_at, key_at, AreNewEntries, Falls, FallsAnyhow, fallen, left_rows, row_of, with_handle}
+use Rattle.pagable_laws.proofs.{Words.{with_node, with_key, with_cached, next_node, moved, with_load, adopted, Change, nothing_felt, sets_key, bears_known, Knows, Bears, BeginsWell}, Sums.same-number}
 use Rattle.std.proofs.Common.{rules}
-use Rattle.pagable_laws.proofs.{Sums.same-number, Words.BeginsWell}
-
--- the row of a handle before: at the same node, and the same if it is a load's now; a loose handle stays loose
-pub record Was (rows : List HandleRow) (q : ℕ) (row : HandleRow) : Type 0 where
-  pub was : HandleRow
-  pub live : find_row q rows ≡ Some was
-  pub at : was.node ≡ row.node
-  pub mine : (l : LoadNumber) → row.owner ≡ Owner.Load l → was ≡ row
-  pub loose : is_loose was.mode ≡ true → is_loose row.mode ≡ true
-
--- each handle up to this number was there
-abbrev pub RowsGo : ℕ → List HandleRow → List HandleRow → Type 0
-RowsGo last rows rows' = (q : ℕ) (row : HandleRow) → find_row q rows' ≡ Some row → q ≤ last → Was rows q row
-
--- the storage is closed, and nothing is stored in it
-abbrev pub IsShut : Core → Type 0
-IsShut w = (w.closed ≡ true) × ((q : ℕ) → w.stored q ≡ None)
+pub use Rattle.pagable_laws.specs.TreeSteps.{Was, RowsGo, IsShut, Kept, CoreGoes as Goes}
 
 -- a step that sets no key, bears no node, begins no load and lets the cache know nothing
 pub record Quiet (w w' : Core) : Type 0 where
@@ -35,25 +19,6 @@ pub record Quiet (w w' : Core) : Type 0 where
   pub rows : RowsGo w.last.handle w.rows w'.rows
   pub shut : IsShut w → IsShut w'
 
--- a cell that was there, but for a key that it may get
-pub record Kept (c : Change) (w : Core) (n : ℕ) (cell : Cell) : Type 0 where
-  pub was : Cell
-  pub live : w.cells n ≡ Some was
-  pub typed : cell.node_type ≡ was.node_type
-  pub key : (cell.key ≡ was.key) ⊎ ((key : ℕ) × Sets c n key × (cell.key ≡ OptionalDataKey.Some key))
-
-pub record Goes (c : Change) (w w' : Core) : Type 0 where
-  pub nodes : w.last.node ≤ w'.last.node
-  pub handles : w.last.handle ≤ w'.last.handle
-  pub loads_last : w.last.load ≤ w'.last.load
-  pub workers_last : w.last.worker ≤ w'.last.worker
-  pub cells : (n : ℕ) (cell : Cell) → w'.cells n ≡ Some cell → Kept c w n cell ⊎ ((n ≡ w.last.node + 1) × Bears c cell.node_type cell.key)
-  pub stored : (q : ℕ) (b : Blob) → w.stored q ≡ Some b → w'.stored q ≡ Some b
-  pub loads : (l : ℕ) (load : OpenLoad) → w'.loads l ≡ Some load → (w.loads l ≡ Some load) ⊎ ((w.last.load < l) × BeginsWell w load)
-  pub cache : (kind key n : ℕ) → w'.cache kind key ≡ Some n → (w.cache kind key ≡ Some n) ⊎ Knows c w kind key n
-  pub rows : RowsGo w.last.handle w.rows w'.rows
-  pub shut : IsShut w → IsShut w'
-
 -- the cache gets to know no node by the change but the next one
 abbrev pub KnowsNext : Change → Core → Type 0
 KnowsNext c w = (kind key n : ℕ) → Knows c w kind key n → n ≡ w.last.node + 1
@@ -63,6 +28,9 @@ le-self n = omega arith
 
 pub le-more : (a b : ℕ) → a ≤ a + b
 le-more a b = omega arith
+
+pub next-above : (q last : ℕ) → q ≡ last + 1 → last < q
+next-above q last next = omega arith
 
 le-then : {a b c : ℕ} → a ≤ b → b ≤ c → a ≤ c
 le-then le more = omega arith
@@ -82,11 +50,7 @@ rows-then last more rows mid rows' le first second q row found few =
 pub found-number : (q : ℕ) (rows : List HandleRow) (row : HandleRow) → find_row q rows ≡ Some row → row.number.0 ≡ q
 unfolding find_row
 found-number q [] row found = absurd (cc)
-found-number q (h ∷ hs) row found = at (λ f. found-number q hs row f) (is_handle q h) refl found
-  where
-    at : (find_row q hs ≡ Some row → row.number.0 ≡ q) → (b : Bool) → is_handle q h ≡ b → (if b then Some h else find_row q hs) ≡ Some row → row.number.0 ≡ q
-    at rest true is found = let e : h ≡ row = cc in sym (ap (λ (r : HandleRow). r.number.0) e) ∙ same-number _ _ is
-    at rest false is found = rest found
+found-number q (h ∷ hs) row found = grind (arith, nat_tests, is_handle, find_row, true, same-number, false, found-number q hs row)
 
 -- a handle that is found in a changed row was found before
 pub record Changed (test : HandleRow → Bool) (f : HandleRow → HandleRow) (rows : List HandleRow) (q : ℕ) (row : HandleRow) : Type 0 where
@@ -98,49 +62,22 @@ pub found-changed : (test : HandleRow → Bool) (f : HandleRow → HandleRow) �
     → find_row q (changed test f rows) ≡ Some row → Changed test f rows q row
 unfolding find_row
 found-changed test f same q [] row found = absurd (cc)
-found-changed test f same q (h ∷ hs) row found = at (λ e. found-changed test f same q hs row e) (is_handle q h) refl
-  where
-    rest : Changed test f hs q row → is_handle q h ≡ false → Changed test f (h ∷ hs) q row
-    rest c other = record { was = c.was; live = rw other c.live; is = c.is }
-
-    number : (b : Bool) → (if b then f h else h).number ≡ h.number
-    number true = same h
-    number false = refl
-
-    at : (find_row q (changed test f hs) ≡ Some row → Changed test f hs q row) → (d : Bool) → is_handle q h ≡ d → Changed test f (h ∷ hs) q row
-    at back true is =
-        let there : is_handle q (if test h then f h else h) ≡ true = ap (λ (k : HandleNumber). k.0 == q) (number (test h)) ∙ is in
-        let found' : Some (if test h then f h else h) ≡ Some row = rw there at found in
-        record { was = h; live = rw is refl; is = cc }
-    at back false is =
-        let there : is_handle q (if test h then f h else h) ≡ false = ap (λ (k : HandleNumber). k.0 == q) (number (test h)) ∙ is in
-        let found' : find_row q (changed test f hs) ≡ Some row = rw there at found in
-        rest (back found') is
+found-changed test f same q (h ∷ hs) row found = grind (arith, nat_tests, is_handle, false, true, find_row, changed, found-changed test f same q hs row)
 
 abbrev pub NotLoads : Owner → Type 0
 NotLoads o = (l : LoadNumber) → o ≡ Owner.Load l → ⊥
 
 pub rows-mode : (last : ℕ) (rows : List HandleRow) (h : HandleNumber) (mode : Mode) → is_loose mode ≡ true → ((r : HandleRow) → find_row h.0 rows ≡ Some r → NotLoads r.owner)
     → RowsGo last rows (changed (is_handle h.0) (λ row. record row { mode = mode }) rows)
-rows-mode last rows h mode is_so free q row found few = let c = found-changed (is_handle h.0) (λ row. record row { mode = mode }) (λ r. refl) q rows row found in at c (is_handle h.0 c.was) refl
-  where
-    at : (c : Changed (is_handle h.0) (λ row. record row { mode = mode }) rows q row) → (b : Bool) → is_handle h.0 c.was ≡ b → Was rows q row
-    at c true is =
-        let e : row ≡ record c.was { mode = mode } = rw is at c.is in
-        let n : q ≡ h.0 = sym (found-number q rows c.was c.live) ∙ same-number _ _ is in
-        let o : row.owner ≡ c.was.owner = ap (λ (r : HandleRow). r.owner) e in
-        record { was = c.was; live = c.live; at = sym (ap (λ (r : HandleRow). r.node) e); mine = λ l mine. absurd (free c.was (subst (λ k. find_row k rows ≡ Some c.was) n c.live) l (sym o ∙ mine)); loose = λ was. ap is_loose (ap (λ (r : HandleRow). r.mode) e) ∙ is_so }
-    at c false is = let e : row ≡ c.was = rw is at c.is in record { was = c.was; live = c.live; at = sym (ap (λ (r : HandleRow). r.node) e); mine = λ l mine. sym e; loose = λ was. ap is_loose (ap (λ (r : HandleRow). r.mode) e) ∙ was }
+rows-mode last rows h mode is_so free q row found few =
+    let c = found-changed (is_handle h.0) (λ row. record row { mode = mode }) (λ r. refl) q rows row found in
+    let number = found-number q rows c.was c.live in
+    record { was = c.was; live = c.live; at = grind (arith, nat_tests); mine = λ l mine. grind (arith, nat_tests, same-number, free c.was); loose = λ was. grind (arith, nat_tests) }
 
 pub rows-moved : (last : ℕ) (rows : List HandleRow) (s : ℕ → Bool) (owner : Owner) → NotLoads owner → RowsGo last rows (moved s owner rows)
-rows-moved last rows s owner free q row found few = let c = found-changed (λ (r : HandleRow). s r.number.0) (λ row. record row { owner = owner }) (λ r. refl) q rows row found in
-    at c (s c.was.number.0) refl
-  where
-    at : (c : Changed (λ (r : HandleRow). s r.number.0) (λ row. record row { owner = owner }) rows q row) → (b : Bool) → s c.was.number.0 ≡ b → Was rows q row
-    at c true is =
-        let e : row ≡ record c.was { owner = owner } = rw is at c.is in
-        record { was = c.was; live = c.live; at = sym (ap (λ (r : HandleRow). r.node) e); mine = λ l mine. absurd (free l (sym (ap (λ (r : HandleRow). r.owner) e) ∙ mine)); loose = λ was. ap is_loose (ap (λ (r : HandleRow). r.mode) e) ∙ was }
-    at c false is = let e : row ≡ c.was = rw is at c.is in record { was = c.was; live = c.live; at = sym (ap (λ (r : HandleRow). r.node) e); mine = λ l mine. sym e; loose = λ was. ap is_loose (ap (λ (r : HandleRow). r.mode) e) ∙ was }
+rows-moved last rows s owner free q row found few =
+    let c = found-changed (λ (r : HandleRow). s r.number.0) (λ row. record row { owner = owner }) (λ r. refl) q rows row found in
+    record { was = c.was; live = c.live; at = grind (arith, nat_tests); mine = λ l mine. grind (arith, nat_tests, free); loose = λ was. grind (arith, nat_tests) }
 
 other-number : (q n last : ℕ) → q ≤ last → n ≡ last + 1 → (n == q) ≡ false
 other-number q n last few next = grind (arith, nat_tests)
@@ -168,20 +105,7 @@ none-in-next last q h next few = let a : is_handle q h ≡ false = other-number 
 pub found-left : (gone : ℕ → Bool) (q : ℕ) (rows : List HandleRow) (row : HandleRow) → find_row q (left_rows gone rows) ≡ Some row → (find_row q rows ≡ Some row) × (gone q ≡ false)
 unfolding find_row
 found-left gone q [] row found = absurd (cc)
-found-left gone q (h ∷ hs) row found = at (λ f. found-left gone q hs row f) (gone h.number.0) refl (is_handle q h) refl
-  where
-    at : (find_row q (left_rows gone hs) ≡ Some row → (find_row q hs ≡ Some row) × (gone q ≡ false)) → (b : Bool) → gone h.number.0 ≡ b → (d : Bool) → is_handle q h ≡ d
-        → (find_row q (h ∷ hs) ≡ Some row) × (gone q ≡ false)
-    at back true goes true is =
-        let f : find_row q (left_rows gone hs) ≡ Some row = rw goes at found in
-        let b = back f in
-        let e : gone q ≡ true = sym (ap gone (same-number _ _ is)) ∙ goes in
-        absurd (cc)
-    at back true goes false is = let f : find_row q (left_rows gone hs) ≡ Some row = rw goes at found in let b = back f in (rw is b.0, b.1)
-    at back false goes true is = let f : find_row q (h ∷ left_rows gone hs) ≡ Some row = rw goes at found in let g : Some h ≡ Some row = rw is at f in
-        (rw is g, sym (ap gone (same-number _ _ is)) ∙ goes)
-    at back false goes false is = let f : find_row q (h ∷ left_rows gone hs) ≡ Some row = rw goes at found in let g : find_row q (left_rows gone hs) ≡ Some row = rw is at f in let b = back g in
-        (rw is b.0, b.1)
+found-left gone q (h ∷ hs) row found = grind (arith, nat_tests, is_handle, find_row, left_rows, false, true, same-number, found-left gone q hs row)
 
 pub rows-left : (last : ℕ) (rows : List HandleRow) (gone : ℕ → Bool) → RowsGo last rows (left_rows gone rows)
 rows-left last rows gone q row found few = record { was = row; live = (found-left gone q rows row found).0; at = refl; mine = λ l is. refl; loose = λ is. is }
@@ -191,7 +115,7 @@ rows-left last rows gone q row found few = record { was = row; live = (found-lef
 pub quiet-then : {w m w' : Core} → Quiet w m → Quiet m w' → Quiet w w'
 quiet-then {w} {m} {w'} a b = search (rules, rows-then, le-then, a.cells, b.cells, a.stored, b.stored, a.loads, b.loads, a.cache, b.cache, a.shut, b.shut)
 
-le-of : (a b : ℕ) → b ≡ a → a ≤ b
+pub le-of : (a b : ℕ) → b ≡ a → a ≤ b
 le-of a b is = omega arith
 
 pub alike : {w w' : Core} → Alike w w' → Quiet w w'
@@ -246,9 +170,7 @@ born c w t key references bears = grind (arith, le-more, le-self, at-updated, ro
 
 keyed-cell : (w : Core) (m : ℕ) (key : ℕ) (cell : Cell) (found : Option Cell) → w.cells m ≡ found
     → if_there (λ (x : Cell). Some (record x { key = OptionalDataKey.Some key })) None found ≡ Some cell → Kept (sets_key m key) w m cell
-keyed-cell w m key cell None there is = absurd (cc)
-keyed-cell w m key cell (Some was) there is = let e : record was { key = OptionalDataKey.Some key } ≡ cell = cc in
-    record { was = was; live = there; typed = sym (ap (λ (x : Cell). x.node_type) e); key = inr (key, (refl, refl), sym (ap (λ (x : Cell). x.key) e)) }
+keyed-cell w m key cell x4 there is = grind (arith, nat_tests)
 
 pub keyed : (w : Core) (node : NodeNumber) (key : ℕ) → Goes (sets_key node.0 key) w (with_key w node key)
 keyed w node key = grind (arith, le-self, at-updated, keyed-cell, rows-self)
@@ -270,9 +192,6 @@ begun c w key root me well =
       rows = rows-self w.last.handle w.rows w.rows refl;
       shut = λ is. is;
     }
-  where
-    next-above : (l last : ℕ) → l ≡ last + 1 → last < l
-    next-above l last is = omega arith
 
 -- two steps of which nothing is felt: the cells that the first leaves are those that a load that the second begins is of
 pub goes-then : {w m w' : Core} → Goes nothing_felt w m → Goes nothing_felt m w' → Goes nothing_felt w w'

@@ -9,7 +9,6 @@ pub mod Sums
 pub mod Existing
 mod Two
 mod Joining
-mod Nexts
 pub mod Goes
 pub mod Outlasting
 pub mod GoodReferences
@@ -30,7 +29,6 @@ mod Stepping
 mod Felt
 pub mod Taking
 mod Answering
-mod KnownSteps
 pub mod Chains
 mod Few
 mod Level

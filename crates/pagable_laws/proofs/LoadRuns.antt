@@ -1,14 +1,12 @@
 -- A load from its begin to its end keeps trees: what it pins stands for its node's tree, and what it reads for the tree that its key reads as.
-use Rattle.pagable_laws.proofs.{Felt.reading-fits, Called.{begin-goes, key-goes}, ReadingSteps.core-goes, Felt.fits-nothing, Goes.Goes}
-use Rattle.pagable_laws.proofs.{ReadingSteps.{ReadingFelt, caller-free, reading-feels}, ReadingStepsGive.{hands, read-right}}
-use Rattle.pagable_laws.proofs.{Taking.{Going, going-new, going-step, given-nodes, was-open, row-held, stands-here}, Trees.same_some, Felt.trees-go-on}
-use Rattle.std.proofs.{Common.{◌≡◌, ℕ, ◌+◌, ◌≤◌, ◌==◌, true, List, [], Option, Some, None, if◌then◌else◌, inl, inr, refl, sym, ap, subst, ◌∙◌, arith}, lemmas.Bool.Decides.nat_tests}
-use Rattle.pagable_world.specs.{World.{Core, Last, Alike, Root, of_cell, of_key, OpenLoad, Frame, Reading, Written, Values, Seen, IsLawful}, Pager.{PagerState, WellFormed, Moves}}
-use Rattle.pagable_world.specs.{Pager.{ReadingBrings, Represents, FramesFit, SameTrees}, Access.{ReadingStep, LoadRun, load-ends, load-goes-on, LoadAsksWell, PinLaw, ReadLaw}}
-use Rattle.pagable_world.specs.{Calls.with_handle, Events.{reading_of_load}, Headline.ReadIsRight, Kinds.held, LoadCalls.with_load, Loads.{Does, EndsRead, gone_on}}
-use Rattle.pagable_world.specs.{Plain.{Blob, LoadNumber, Tree}, Runs.{ReadsItsTypes, HoldsSettled, TakesWell}, Workers.fresh}
-use Rattle.pagable_world.specs.{declared.events.LoadAnswer.LoadAnswer}
-use Rattle.pagable_laws.specs.{TreeRuns.ChangeFits, TreeSteps.{nothing_felt, CoreGoes, ReadingFeels}}
+use Rattle.pagable_laws.proofs.{Felt.{reading-fits, fits-nothing, trees-go-on}, Called.{begin-goes, key-goes}, Goes.Goes, ReadingSteps.{ReadingFelt, caller-free, reading-feels}}
+use Rattle.{pagable_laws.proofs.{ReadingStepsGive.{hands, read-right}, Taking.{Going, going-new, going-step, given-nodes, was-open, row-held, stands-here}, Trees.same_some}, std.proofs.Common.{◌≡◌}}
+use Rattle.std.proofs.{Common.{ℕ, ◌+◌, ◌≤◌, ◌==◌, true, List, [], Option, Some, None, if◌then◌else◌, inl, inr, refl, sym, ap, subst, ◌∙◌, arith}, lemmas.Bool.Decides.nat_tests}
+use Rattle.pagable_world.specs.{World.{Core, Last, Alike, Root, of_cell, of_key, OpenLoad, Frame, Reading, Written, Values, Seen, IsLawful}, Pager.{PagerState, WellFormed, Moves, ReadingBrings}}
+use Rattle.pagable_world.specs.{Pager.{Represents, FramesFit, SameTrees}, Access.{ReadingStep, LoadRun, load-ends, load-goes-on, LoadAsksWell, PinLaw, ReadLaw}, Calls.with_handle}
+use Rattle.pagable_world.specs.{Events.reading_of_load, Headline.ReadIsRight, Kinds.held, LoadCalls.with_load, Loads.{Does, EndsRead, gone_on}, Plain.{Blob, LoadNumber, Tree}, Runs.ReadsItsTypes}
+use Rattle.{pagable_world.specs.{Runs.{HoldsSettled, TakesWell}, Workers.fresh, declared.events.LoadAnswer.LoadAnswer}, pagable_laws.specs.{TreeRuns.ChangeFits, TreeSteps.nothing_felt}}
+use Rattle.pagable_laws.specs.TreeSteps.{ReadingFeels}
 use Rattle.pagable_world.specs.declared.events.LoadAnswer.TheVariants as ends
 use Rattle.pagable_world.specs.declared.handles.Owner.TheVariants as owners
 use Rattle.pagable_world.specs.declared.rows.Mode.TheVariants as modes
@@ -39,17 +37,14 @@ module _ {N E : Type 0} {v : Values N} (lawful : IsLawful v) (readable : ReadsIt
     felt : ReadingFelt v s.core owners.Caller reading answer frames s'.core
     felt = reading-feels (seen v) s.core owners.Caller caller-free s'.core reading answer frames step.does
 
-    goes : CoreGoes felt.change s.core s'.core
-    goes = core-goes felt.change u.well.whole.handles felt.does.goes
-
     feels : ReadingFeels v s.core reading answer frames s'.core felt.change
     feels = felt.feels u.well.whole.handles
 
     fit : (after : ℕ → Tree) × ChangeFits v felt.change (ReadingBrings v s.core reading) s s' trees after
-    fit = reading-fits lawful readable u.settled u.well step.whole u.stands reading u.going.fits (given-nodes reading.frames u.going.held) goes takes felt.opens feels
+    fit = reading-fits lawful readable u.settled u.well step.whole u.stands reading u.going.fits (given-nodes reading.frames u.going.held) felt.does.goes takes felt.opens feels
 
     went : After v s trees s' fit.0
-    went = record { same = fit.1.same; nodes = goes.nodes; stands = trees-go-on lawful u.settled u.well step.whole u.stands step.moves goes fit.1 }
+    went = record { same = fit.1.same; nodes = felt.does.goes.nodes; stands = trees-go-on lawful u.settled u.well step.whole u.stands step.moves felt.does.goes fit.1 }
 
     -- the load goes on
     still : answer ≡ None → Under v s' fit.0 key (gone_on reading frames)
@@ -58,9 +53,9 @@ module _ {N E : Type 0} {v : Values N} (lawful : IsLawful v) (readable : ReadsIt
           settled = settled';
           well = step.whole;
           stands = went.stands;
-          going = going-step u.well step.whole u.stands goes fit.1 reading frames load.0 load.1 u.going
+          going = going-step u.well step.whole u.stands felt.does.goes fit.1 reading frames load.0 load.1 u.going
               (subst (λ (o : Option (LoadAnswer N)). ReadingFeels v s.core reading o frames s'.core felt.change) none feels);
-          keyed = λ other there. u.keyed other (was-open u.well step.whole u.stands goes fit.1 reading.load.0 other u.going.within there);
+          keyed = λ other there. u.keyed other (was-open u.well step.whole u.stands felt.does.goes fit.1 reading.load.0 other u.going.within there);
         }
       where
         load : (x : OpenLoad) × (s.core.loads reading.load.0 ≡ Some x)
@@ -76,7 +71,7 @@ module _ {N E : Type 0} {v : Values N} (lawful : IsLawful v) (readable : ReadsIt
           let handed = hands reading.load (v.references x) u.well.whole.handles read.handed in
           let load = read.of_key_load in
           subst (λ q. ReadIsRight v s' q x) (u.keyed load.load load.open_load)
-          (read-right lawful readable s s' trees fit.0 fit.1.same goes.stored step.whole went.stands reading u.going load.load load.open_load x read.reads_root handed)
+          (read-right lawful readable s s' trees fit.0 fit.1.same felt.does.goes.stored step.whole went.stands reading u.going load.load load.open_load x read.reads_root handed)
 
   -- ---- all steps
 
@@ -101,15 +96,12 @@ module _ {N E : Type 0} {v : Values N} (lawful : IsLawful v) (readable : ReadsIt
   -- ---- its begin
 
   module _ (s mid : PagerState N E) (trees : ℕ → Tree) (well : WellFormed v s) (settled : HoldsSettled v s) (stands : Represents v s trees) (does : Goes nothing_felt s.core mid.core) (moves : Moves (λ n x. ⊥) s mid) (whole : WellFormed v mid) where
-    begun_goes : CoreGoes nothing_felt s.core mid.core
-    begun_goes = core-goes nothing_felt well.whole.handles does
-
     begun : After v s trees mid trees
     begun =
         record {
           same = λ n within. refl;
-          nodes = begun_goes.nodes;
-          stands = trees-go-on lawful settled well whole stands moves begun_goes (fits-nothing lawful settled well whole stands (λ n x. ⊥) (λ n x comes none is. absurd comes));
+          nodes = does.nodes;
+          stands = trees-go-on lawful settled well whole stands moves does (fits-nothing lawful settled well whole stands (λ n x. ⊥) (λ n x comes none is. absurd comes));
         }
 
     under : (w : Core) (l : LoadNumber) (t key : ℕ) (root : Root) → l.0 ≡ w.last.load + 1 → Alike (with_load w key root owners.Caller) mid.core → Under v mid trees key (fresh l t)

@@ -1,12 +1,11 @@
 -- What a load has got stays live and the load's own, each handle once, as long as the load makes its own steps; and so does the handle that began it.
-use Rattle.pagable_laws.proofs.Words.{nat_tests, ◌≡◌, ℕ, zero, suc, ◌+◌, ◌<◌, ◌≤◌, ◌==◌, Bool, true, false, List, [], ◌∷◌, ◌++◌, Some, inl, inr, refl, sym, ap, subst, ◌∙◌, if◌then◌else◌, arith}
-use Rattle.pagable_laws.proofs.Words.{sum_by, sum_by-cons, sum_by_push, HandleRow, Owner, ArcRef, Kind, HandleNumber, LoadNumber, NodeNumber, OptionalDataKey, Among, type_of, one, times, mode_of}
-use Rattle.pagable_laws.proofs.Words.{Core, OpenLoad, of_cell, Frame, Alike, row_at, row_of, with_handle, with_node, next_node, is_named_by, Asked, adopted, GetsKnown, with_got, owner_value}
-use Rattle.pagable_laws.proofs.{Words.{HandlesAreWhole, Tree, find_row, Reading, Values, IsLawful, GoesOn, GetsLazy, MakesNode, FramesFit, ReadsItsTypes, FramesHeld}, Outlasting.Stands}
-use Rattle.pagable_laws.proofs.{Outlasting.{AreUpTo, stands-alike, stands-new, among-changed, NotValues, stands-whole, stands-fell}, Apart.AreApart, Fitting.{AllGot, all-new, all-more}}
-use Rattle.pagable_laws.proofs.{Fitting.first-fits, Goes.{found-number}, ReadingSteps.cached-rows, Sums.{self-number, same-number, at-most-sum, sum-zero}}
-use Rattle.pagable_laws.proofs.{Effects.{with-one, moved-free, named-among}, Outlasting.{new-handle, low-whole}, Decoding.decodes, GoodReferences.good, Trees.same_some}
-use Rattle.std.proofs.lemmas.Bool.{cases_Bool, false_from_ne_true}
+use Rattle.pagable_laws.proofs.Words.{nat_tests, ◌≡◌, ℕ, zero, suc, ◌+◌, ◌<◌, ◌≤◌, ◌==◌, Bool, true, false, List, [], ◌∷◌, ◌++◌, Some, inl, inr, refl, sym, ap, subst, ◌∙◌, arith, sum_by, sum_by-cons}
+use Rattle.pagable_laws.proofs.Words.{sum_by_push, HandleRow, Owner, ArcRef, Kind, HandleNumber, LoadNumber, NodeNumber, OptionalDataKey, Among, type_of, one, times, mode_of, Core, OpenLoad, of_cell}
+use Rattle.pagable_laws.proofs.Words.{Frame, Alike, row_at, row_of, with_handle, with_node, next_node, is_named_by, Asked, adopted, GetsKnown, with_got, owner_value, HandlesAreWhole, Tree, find_row}
+use Rattle.pagable_laws.proofs.{Words.{Reading, Values, IsLawful, GoesOn, GetsLazy, MakesNode, FramesFit, ReadsItsTypes, FramesHeld}, Outlasting.{Stands, low-changed, stands-alike, NotValues}}
+use Rattle.pagable_laws.proofs.{Outlasting.{stands-whole, stands-fell, new-handle, low-whole}, Apart.AreApart, Fitting.{AllGot, all-new, all-more, first-fits}, Goes.found-number}
+use Rattle.pagable_laws.proofs.{ReadingSteps.cached-rows, Sums.{self-number, same-number, at-most-sum, sum-zero}, Effects.{with-one, moved-free, named-among}, Decoding.decodes, GoodReferences.good}
+use Rattle.{pagable_laws.proofs.Trees.same_some, std.proofs.lemmas.Bool.{cases_Bool, false_from_ne_true}}
 
 -- ---- each handle once
 
@@ -25,9 +24,6 @@ got-cons q frame frames = sum_by-cons (λ (f : Frame). times (λ (r : ArcRef). r
 
 pub once-new : (frame : Frame) (frames : List Frame) → frame.got ≡ [] → GotOnce frames → GotOnce (frame ∷ frames)
 once-new frame frames none once q = grind (arith, got-cons)
-
-pub once-below : (frame : Frame) (frames : List Frame) → GotOnce (frame ∷ frames) → GotOnce frames
-once-below frame frames once q = let a = got-cons q frame frames in let c = once q in omega (arith, a, c)
 
 pub once-none : (frames : List Frame) → frames ≡ [] → GotOnce frames
 once-none frames none q = let a : times_got q frames ≡ 0 = ap (times_got q) none in omega (arith, a)
@@ -103,19 +99,8 @@ module _ (w w' : Core) where
         stands-alike a (to-known (with-one born (next_node w) (mode_of kind.0) (Owner.Load l) (moved-free (Owner.Load l) (is_named_by references) (owner_value (w.last.node + 1)) free s)))
 
     pub adopted-new : HandlesAreWhole w → Alike known w' → Stands w'.last.handle w'.rows (w.last.handle + 1) (row_of (w.last.handle + 1) (next_node w) (mode_of kind.0) (Owner.Load l))
-    adopted-new whole a =
-        stands-alike a (to-known (stands-new w.last.handle born.rows (row_of (w.last.handle + 1) (next_node w) (mode_of kind.0) (Owner.Load l)) few refl))
-      where
-        few : AreUpTo w.last.handle born.rows
-        few h among =
-            let a = among-changed (λ (x : HandleRow). if is_named_by references x.number.0 then record x { owner = Owner.Value (next_node w) } else x) w.rows h among in
-            let n : h.number.0 ≡ a.0.number.0 = ap (λ (x : HandleRow). x.number.0) a.2 ∙ number a.0 (is_named_by references a.0.number.0) in
-            let le = (whole.numbered a.0 a.1).1 in
-            omega (arith, n, le)
-          where
-            number : (x : HandleRow) (b : Bool) → (if b then record x { owner = Owner.Value (next_node w) } else x).number.0 ≡ x.number.0
-            number x true = refl
-            number x false = refl
+    adopted-new whole a = stands-alike a (to-known (new-handle born (next_node w) (mode_of kind.0) (Owner.Load l)
+        (low-changed w.last.handle w.rows (λ h. is_named_by references h.number.0) (λ h. record h { owner = owner_value (w.last.node + 1) }) (λ h. refl) (low-whole whole))))
 
 pub not-named : (rs : List ArcRef) (q : ℕ) → ((g : ArcRef) → Among rs g → g.handle.0 ≡ q → ⊥) → is_named_by rs q ≡ false
 not-named rs q none = false_from_ne_true (is_named_by rs q) (λ e. let (r, among, same) = named-among rs q e in none r among same)
@@ -156,16 +141,13 @@ module _ {N : Type 0} (v : Values N) (lawful : IsLawful v) (readable : ReadsItsT
   no-value-caller : (row : HandleRow) → row.owner ≡ Owner.Caller → NotValues row.owner
   no-value-caller row own n is = let e : Owner.Caller ≡ Owner.Value n = sym own ∙ is in absurd (cc)
 
-  no-value-load : (row : HandleRow) → row.owner ≡ Owner.Load l → NotValues row.owner
-  no-value-load row own n is = let e : Owner.Load l ≡ Owner.Value n = sym own ∙ is in absurd (cc)
-
   begun-on : CallersKept → (node : NodeNumber) (t : ℕ) (h : HandleNumber) → load.root ≡ of_cell node t h → (row : HandleRow) × (row_at w' h ≡ Some row) × (row.owner ≡ Owner.Caller)
   begun-on kept node t h root = grind (arith, no-value-caller, stands-whole)
 
   live-on : (fs : List Frame) → LivesKept fs → Live w l fs → Live w' l fs
   live-on fs kept live frame r among got =
       let b = live frame r among got in
-      let s = kept frame r among got b.0 (no-value-load b.0 b.2) (stands-whole whole r.handle.0 b.0 b.1) in
+      let s = kept frame r among got b.0 (λ n is. let e : Owner.Load l ≡ Owner.Value n = sym b.2 ∙ is in absurd (cc)) (stands-whole whole r.handle.0 b.0 b.1) in
       (b.0, s.live, b.2)
 
   small : AllBelow (w.last.handle + 1) reading.frames
@@ -208,45 +190,31 @@ module _ {N : Type 0} (v : Values N) (lawful : IsLawful v) (readable : ReadsItsT
   -- what was read became a node: its references go, and what was got for the blobs below stays
   node-ready : (frames : List Frame) (g : MakesNode v w Owner.Caller reading frames w') → LoadReady w' l load (with_got g.reads_node.top.kind g.row g.reads_node.below)
   node-ready frames g = elim c.makes [
-    | inl (n, usable, f) ↦
-        got-ready below top.kind g.row g.k _ g.made c.next.above (stands-fell f.falls (λ m e. cc) new-free (new-handle w (record { 0 = n }) (mode_of top.kind.0) (Owner.Load l) (low-whole whole))) refl
-        (λ frame r among got x free s. stands-fell f.falls free (below-free frame r among got) (with-one w (record { 0 = n }) (mode_of top.kind.0) (Owner.Load l) s))
-        (λ h x there own y free s. stands-fell f.falls free (caller-free h x there own) (with-one w (record { 0 = n }) (mode_of top.kind.0) (Owner.Load l) s)) live_below once_below small_below
-    | inr (none, few, a) ↦
-        got-ready below top.kind g.row g.k _ g.made c.next.above (adopted-new w w' l top.kind top.key _ (v.references g.x) whole a) refl
-        (λ frame r among got x free s. adopted-keeps w w' l top.kind top.key _ (v.references g.x) a (below-free frame r among got) s)
-        (λ h x there own y free s. adopted-keeps w w' l top.kind top.key _ (v.references g.x) a (caller-free h x there own) s) live_below once_below small_below
+    | inl (n, usable, f) ↦ by _ (stands-fell f.falls (λ m e. cc) new-free (new-handle w (record { 0 = n }) (mode_of top.kind.0) (Owner.Load l) (low-whole whole))) refl
+        (λ q free x no s. stands-fell f.falls no free (with-one w (record { 0 = n }) (mode_of top.kind.0) (Owner.Load l) s))
+    | inr (none, few, a) ↦ by _ (adopted-new w w' l top.kind top.key _ (v.references g.x) whole a) refl
+        (λ q free x no s. adopted-keeps w w' l top.kind top.key _ (v.references g.x) a free s)
   ]
     where
       open g use {reads_node as reads}
       open reads use {top, below, frames as is}
       open g.adopted use {adopts as c}
 
-      here : FramesFit v.types w.stored trees root_key root_type (top ∷ below)
-      here = subst (λ fs. FramesFit v.types w.stored trees root_key root_type fs) is fit
-
       was_got : (r : ArcRef) → Among (v.references g.x) r → Among top.got r
-      was_got = (decodes lawful readable top g.x (first-fits v.types root_key root_type w.stored trees top below here) reads.decoded).got
+      was_got =
+          let here = subst (λ fs. FramesFit v.types w.stored trees root_key root_type fs) is fit in
+          (decodes lawful readable top g.x (first-fits v.types root_key root_type w.stored trees top below here) reads.decoded).got
 
-      once_all : GotOnce (top ∷ below)
-      once_all = subst GotOnce is ready.once
+      now : LoadReady w l load (top ∷ below)
+      now = subst (λ fs. LoadReady w l load fs) is ready
 
-      once_below : GotOnce below
-      once_below = once-below top below once_all
-
-      deeper : (frame : Frame) → Among below frame → Among reading.frames frame
-      deeper frame among = subst (λ fs. Among fs frame) (sym is) (suc among.0, among.1)
-
-      live_below : Live w l below
-      live_below frame r among got = ready.live frame r (deeper frame among) got
-
-      small_below : AllBelow (w.last.handle + 1) below
-      small_below frame r among got = small frame r (deeper frame among) got
+      small_all : AllBelow (w.last.handle + 1) (top ∷ below)
+      small_all = subst (λ fs. AllBelow (w.last.handle + 1) fs) is small
 
       got-twice : (frame : Frame) (r g : ArcRef) → Among below frame → Among frame.got r → Among top.got g → g.handle.0 ≡ r.handle.0 → ⊥
       got-twice frame r g among got top_got same =
           let q = r.handle.0 in
-          let a = once_all q in
+          let a = now.once q in
           let b = got-cons q top below in
           let c = at-most-sum (λ (x : ArcRef). one (x.handle.0 == q)) top.got g top_got in
           let d : one (g.handle.0 == q) ≡ 1 = ap (λ n. one (n == q)) same ∙ ap one (self-number q) in
@@ -254,9 +222,6 @@ module _ {N : Type 0} (v : Values N) (lawful : IsLawful v) (readable : ReadsItsT
           let f = at-most-sum (λ (x : ArcRef). one (x.handle.0 == q)) frame.got r got in
           let z : one (r.handle.0 == q) ≡ 1 = ap one (self-number q) in
           omega (arith, a, b, c, d, e, f, z)
-
-      below-free : (frame : Frame) (r : ArcRef) → Among below frame → Among frame.got r → is_named_by (v.references g.x) r.handle.0 ≡ false
-      below-free frame r among got = not-named (v.references g.x) r.handle.0 (λ x named same. got-twice frame r x among got (was_got x named) same)
 
       caller-free : (h : HandleNumber) (row : HandleRow) → row_at w h ≡ Some row → row.owner ≡ Owner.Caller → is_named_by (v.references g.x) h.0 ≡ false
       caller-free h row there own = not-named (v.references g.x) h.0 (λ x named same.
@@ -266,10 +231,14 @@ module _ {N : Type 0} (v : Values N) (lawful : IsLawful v) (readable : ReadsItsT
 
       -- no reference names the handle that comes
       new-free : is_named_by (v.references g.x) (w.last.handle + 1) ≡ false
-      new-free = not-named (v.references g.x) (w.last.handle + 1) (λ x named same.
-          let front : Among reading.frames top = subst (λ fs. Among fs top) (sym is) (zero, refl) in
-          let lt = small top x front (was_got x named) in
-          omega (arith, lt, same))
+      new-free = not-named (v.references g.x) (w.last.handle + 1) (λ x named same. let lt = small_all top x (zero, refl) (was_got x named) in omega (arith, lt, same))
+
+      by : (new : HandleRow) → Stands w'.last.handle w'.rows (w.last.handle + 1) new → new.owner ≡ Owner.Load l → ((q : ℕ) → is_named_by (v.references g.x) q ≡ false → Keeps q)
+          → LoadReady w' l load (with_got top.kind g.row below)
+      by new s own keeps = got-ready below top.kind g.row g.k new g.made c.next.above s own (λ frame r among got. keeps r.handle.0
+          (not-named (v.references g.x) r.handle.0 (λ x named same. got-twice frame r x among got (was_got x named) same)))
+          (λ h x there own. keeps h.0 (caller-free h x there own)) (λ frame r (i, e) got. now.live frame r (suc i, e) got)
+          (λ q. let a = got-cons q top below in let c = now.once q in omega (arith, a, c)) (λ frame r (i, e) got. small_all frame r (suc i, e) got)
 
   -- ---- all steps
 

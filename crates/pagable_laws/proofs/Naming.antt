@@ -2,16 +2,14 @@
 use Rattle.pagable_laws.proofs.Words.{◌≡◌, ℕ, ◌+◌, ◌≤◌, true, List, [], ◌∷◌, ◌++◌, inl, inr, Some, None, Ok, refl, sym, ap, subst, ◌∙◌, arith, nat_tests, ArcRef, HandleNumber, type_of, is_loose_kind}
 use Rattle.pagable_laws.proofs.Words.{HandleRow, Owner, find_row, is_loose, fits_mode, has_key, Core, Cell, Todo, to_start, to_item, to_publish, to_release, to_fail, row_at, type_at, row_of}
 use Rattle.pagable_laws.proofs.Words.{CloneCall, claim_fault, HandlesAreWhole, Change, StandsAt, KeyIsSet, Holds, AllHold, false, ◌⊎◌, Option, drop, length, OptionalDataKey, Pinning, Beginning, Claim}
-use Rattle.pagable_laws.proofs.Words.{PinStep, Took, Identity, NodeNumber, LoadNumber, above, if_there, any_mode, identity_of, owner_worker, Shelf, Slot, no_result, published, Written, Open, to_pin}
-use Rattle.pagable_laws.proofs.Words.{to_load, to_write, to_finish, to_set, Task, SameShelf, Seen, with_key, SetKeyCall, Site, GoesTo, first_todo, answer_after, Does, PinsAtOnce, PinsByLoad}
-use Rattle.pagable_laws.proofs.Words.{IsPublished, next_start, settle, give, give_known, with_changed_slot, with_outcome, Owns, WorkerAnswer, is_publishing, HasHandle}
-use Rattle.pagable_laws.proofs.Words.{nothing_felt, WorkerNumber, Tree, Event, EventReply, WorkerReply, Walking, World, Values, WorkerSteps, MachineState, world_of, IsMachineWhole}
-use Rattle.pagable_laws.proofs.{Words.{IsIdle, ReadsItsTypes, KeepsOpen, KeysAreReady, KeysHeld, WorkFits, new_walking, step_of, TableNumber}, Goes.{Goes, Kept, found-number, fell, goes-quiet}}
-use Rattle.pagable_laws.proofs.{Goes.quiet-goes, Outlasting.{stands-new, among-found, NotValues, Stands, stands-whole, stands-alike, stands-fell}, Following.given-of, Answering.sets-key, Called.pins}
-use Rattle.pagable_laws.proofs.{Called.begin-goes, Standing.{put-cases, is-same}, ReadingSteps.{ends-quiet, event-goes}, Stepping.keys-same, SparingSteps.{Spares, event-spares}}
-use Rattle.pagable_laws.proofs.{Trees.same_some, ReadingSteps.{works-free, walk-goes}, Coming.{updated-at, EventTurns, turns-keep}}
-use Rattle.pagable_world.specs.Runs.{Does as DoesMoment}
-use Rattle.std.proofs.Common.{rules}
+use Rattle.pagable_laws.proofs.Words.{PinStep, Took, Identity, NodeNumber, above, if_there, any_mode, identity_of, owner_worker, Shelf, Slot, no_result, published, Written, Open, to_pin, to_load}
+use Rattle.pagable_laws.proofs.Words.{to_write, to_finish, to_set, Task, SameShelf, Seen, with_key, SetKeyCall, Site, GoesTo, first_todo, answer_after, Does, PinsAtOnce, IsPublished, next_start}
+use Rattle.pagable_laws.proofs.Words.{settle, give, give_known, with_changed_slot, with_outcome, Owns, WorkerAnswer, is_publishing, HasHandle, nothing_felt, WorkerNumber, Tree, Event, EventReply}
+use Rattle.pagable_laws.proofs.Words.{WorkerReply, Walking, World, Values, WorkerSteps, MachineState, world_of, IsMachineWhole, IsIdle, ReadsItsTypes, KeepsOpen, KeysAreReady, KeysHeld, WorkFits}
+use Rattle.pagable_laws.proofs.{Words.{new_walking, step_of, TableNumber}, Goes.{Goes, Kept, found-number, fell, goes-quiet, quiet-goes}, Outlasting.{stands-new, among-found, Stands, stands-whole}}
+use Rattle.pagable_laws.proofs.{Outlasting.{stands-alike, stands-fell}, Following.given-of, Answering.sets-key, Called.{pins, begin-goes}, Standing.{put-cases, is-same}, ReadingSteps.ends-quiet}
+use Rattle.pagable_laws.proofs.{ReadingSteps.{event-goes, works-free, walk-goes}, Stepping.keys-same, SparingSteps.{Spares, event-spares}, Trees.same_some, Coming.{updated-at, EventTurns, turns-keep}}
+use Rattle.{pagable_world.specs.Runs.Does as DoesMoment, std.proofs.Common.rules}
 
 -- ---- what stays
 
@@ -141,12 +139,9 @@ still-held {w} {w'} v r through key u whole s call = elim call.does [
   | inl refused ↦ let f = refused.told in absurd (cc)
   | inr (row, owns, inl (other, told, a)) ↦ held row owns (stands-alike a (stands-whole whole through.0 row owns.live))
   | inr (row, owns, inr (loose, f)) ↦ let s : Stands (with_key w row.node key).last.handle (with_key w row.node key).rows through.0 row = stands-whole whole through.0 row owns.live in
-      held row owns (stands-fell f (no-value row owns.own) refl s)
+      held row owns (stands-fell f (λ n is. let f : owner_worker v ≡ Owner.Value n = sym owns.own ∙ is in absurd (cc)) refl s)
 ]
   where
-    no-value : (row : HandleRow) → row.owner ≡ owner_worker v → NotValues row.owner
-    no-value row own n is = let f : owner_worker v ≡ Owner.Value n = sym own ∙ is in absurd (cc)
-
     held : (row : HandleRow) → Owns w (owner_worker v) through any_mode row → Stands w'.last.handle w'.rows through.0 row → HasHandle w' v r.node.0
     held row owns stands = record { h = through; row = row; live = stands.live; own = owns.own; at = ap (λ (n : NodeNumber). n.0) (s.is row owns.live).0 }
 
@@ -196,23 +191,17 @@ module _ {N B W : Type 0} (m : Seen N B W) (v : ℕ) (s s' : Site) (whole : Hand
       record {
         all = subst (λ x. AllHold s'.core x) (sym t.list_is) (key-set v r through key u stands call, quiet, all);
         front = λ r2 k2 h2 b2 is. (
-          subst (λ n. HasHandle s'.core v n) (same-front (sym t.list_is ∙ is)) (still-held v r through key u whole stands call),
+          (let e = sym t.list_is ∙ is in let f : r ≡ r2 = cc in subst (λ (x : ArcRef). HasHandle s'.core v x.node.0) f (still-held v r through key u whole stands call)),
           ap (λ x. let P : Took W → Option WorkerAnswer = answer_after x in P (Took.SetKey i (Ok u))) e,
         );
         reveals = same-reveals s.shelf s'.shelf KeyThere t.table_stays.slots;
       }
-    where
-      same-front : {r2 : ArcRef} {k2 h2 : ℕ} {b2 : List Todo} → to_publish r key height ∷ below ≡ to_publish r2 k2 h2 ∷ b2 → r.node.0 ≡ r2.node.0
-      same-front {r2} is = let f : r ≡ r2 = cc in ap (λ (x : ArcRef). x.node.0) f
 
   pinned-stands : (r : ArcRef) (through k : HandleNumber) → StandsAt s.core r r.handle → PinsAtOnce s.core (owner_worker v) r through k s'.core → StandsAt s'.core r through
   pinned-stands r through k stands does = elim does [
     | inl (row, same, clone) ↦ subst (λ h. StandsAt s'.core r h) (sym same) (clone-stands whole r k stands clone)
     | inr (row, (mid, clone, pin)) ↦ stands-on (pins {lists = false} {Asks = Unit {0}} {Leaves = Unit {0}} {c = nothing_felt} (works-free v) (Ok (Pinning.Pinned k)) pin).goes (clone-stands whole r through stands clone)
   ]
-
-  begun-stands : (r : ArcRef) (through : HandleNumber) (l : LoadNumber) → StandsAt s.core r r.handle → PinsByLoad s.core (owner_worker v) r through l s'.core → StandsAt s'.core r through
-  begun-stands r through l stands (row, (mid, key, clone, begin)) = stands-on (begin-goes (Ok (Beginning.Load l key)) begin) (clone-stands whole r through stands clone)
 
   stepped : {c : Change} (todo : List Todo) (step : Took W) → s.todo ≡ todo → Does m v s todo step s' → Goes c s.core s'.core → AllHold s.core todo → Leaves step
   unfolding AllHold
@@ -227,7 +216,7 @@ module _ {N B W : Type 0} (m : Seen N B W) (v : ℕ) (s s' : Site) (whole : Hand
   stepped (to_pin r place ∷ below) (Took.Pin i (Ok (PinStep.Held k))) e (is, p) f (h, quiet, all) = let t = p.pins.2 in
       stays t.table_stays.slots t.list_is refl (pinned-stands r p.pins.0 k h p.pins.1, quiet, all-on f below all)
   stepped (to_pin r place ∷ below) (Took.Pin i (Ok (PinStep.LoadBegun l))) e (is, p) f (h, quiet, all) = let t = p.pins.2 in
-      stays t.table_stays.slots t.list_is refl (begun-stands r p.pins.0 l h p.pins.1, quiet, all-on f below all)
+      stays t.table_stays.slots t.list_is refl (stands-on (begin-goes (Ok (Beginning.Load l p.pins.1.1.1)) p.pins.1.1.3) (clone-stands whole r p.pins.0 h p.pins.1.1.2), quiet, all-on f below all)
   stepped (to_load r place through reading ∷ below) (Took.Pin i (Ok (PinStep.Held k))) e (is, p) f (h, quiet, all) = let t = p.goes.1 in
       stays t.table_stays.slots t.list_is refl (stands-on f h, quiet, all-on f below all)
   stepped (to_load r place through reading ∷ below) (Took.Pin i (Ok PinStep.LoadWent)) e (is, p) f (h, quiet, all) = let t = p.goes.2 in
@@ -238,17 +227,12 @@ module _ {N B W : Type 0} (m : Seen N B W) (v : ℕ) (s s' : Site) (whole : Hand
       (settled s'.core (record { reference = r; place = place; through = through; written = m.written_of out; keys = []; height = 0 }) below (stands-on f h, quiet, all-on f below all))
       (changed-reveals s.shelf s'.shelf KeyThere (identity_of r) (λ slot. record slot { written = Some (m.written_of out) }) t.table_is (λ old key height is. inl is))
   stepped (to_finish o ∷ below) (Took.Store i (Ok key)) e (is, p) f (h, quiet, all) = let t = p.goes in stays t.table_stays.slots t.list_is refl (stands-on f h, quiet, all-on f below all)
-  stepped (to_item written ks ∷ below) (Took.Store i (Ok key)) e (is, p) f all = let t = p.goes in stays t.table_stays.slots t.list_is refl tt
   stepped (to_set r through key height ∷ below) (Took.SetKey i (Ok u)) e (is, p) f (h, quiet, all) = sets i u r through key height below e h p.sets p.goes quiet (all-on f below all)
   stepped (to_publish r key height ∷ below) (Took.Publish i k q) e (is, same_key, same_height, t) f (h, quiet, all) =
       leaves t.list_is refl (tt, quiet, all-on f below all) (changed-reveals s.shelf s'.shelf KeyThere (identity_of r) (with_outcome (published key height)) t.table_is (λ old k2 h2 known. inr (λ kind. key-on f (h kind))))
   stepped (to_release r key height ∷ below) (Took.Release i) e (is, falls, t) f (h, quiet, all) = stays t.table_stays.slots t.list_is (given-quiet r key height below quiet)
       (given s'.core r key height below (all-on f below all))
-  stepped (to_fail fault back ∷ below) Took.Fail e (gives, same, list_is) f all = leaves list_is refl tt (grind (arith, of-some, known))
-  stepped _ step e does f all = grind (arith, nat_tests, stays)
-
-  pub walk-leaves : (step : Took W) → Does m v s s.todo step s' → AllHold s.core s.todo → Leaves step
-  walk-leaves step does all = stepped s.todo step refl does (walk-goes m v s s' s.todo step does).goes all
+  stepped _ step e does f all = grind (arith, nat_tests, stays, leaves, of-some, known)
 
 -- ---- together
 
@@ -280,7 +264,7 @@ module _ {N B W : Type 0} (m : Seen N B W) (u u' : World) {c : Change} (goes : G
   a-step k r s =
       let w : Walking = s.walking in
       let site : Site = record { core = u.core; shelf = u.work.shelves w.table; todo = w.todo } in
-      let l = walk-leaves m k.0 site s.after whole r.took s.does.does (held.walks k.0 w s.at) in
+      let l = stepped m k.0 site s.after whole w.todo r.took refl s.does.does (walk-goes m k.0 site s.after w.todo r.took s.does.does).goes (held.walks k.0 w s.at) in
       let ends = quiet-goes nothing_felt (ends-quiet r.answer k.0 s.ends) in (
         λ i key height p kind. elim (l.reveals i key height p) [
           | inl was ↦ key-on goes (held.slots w.table i key height was kind)

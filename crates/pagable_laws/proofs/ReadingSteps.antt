@@ -2,25 +2,22 @@
 use Rattle.pagable_laws.proofs.Words.{◌≡◌, ℕ, ◌+◌, ◌<◌, ◌≤◌, Bool, true, List, [], ◌∷◌, ◌++◌, refl, ap, subst, ◌∙◌, inr, arith, Some, ◌⊎◌, nat_tests, ArcRef, Kind, HandleNumber, LoadNumber}
 use Rattle.pagable_laws.proofs.Words.{NodeNumber, OptionalDataKey, type_of, HandleRow, Owner, find_row, mode_of, fits_mode, owner_value, Core, Last, Alike, row_at, usable, FallsAnyhow, row_of}
 use Rattle.pagable_laws.proofs.Words.{with_handle, with_node, with_cached_if_open, with_known, next_node, is_named_by, moved, adopted, HandlesAreWhole, GetsRow, sym, inl, Option, None, Ok, Err}
-use Rattle.pagable_laws.proofs.Words.{is_some, WorkerNumber, LoadAnswer, LoadReply, WorkerReply, PinStep, Took, Event, owner_worker, Frame, Reading, Todo, to_load, to_write, Walking, World, Seen}
-use Rattle.pagable_laws.proofs.Words.{Values, ReadingDoes, gone_on, Site, ReadingsAre, reading_at, reading_after, LoadSteps, WorkerSteps, IsWhole, IsReadingOf, of_caller, of_worker, IsSteppedReading}
-use Rattle.pagable_laws.proofs.Words.{StepsReading, IsFresh, Error, OpenLoad, EndCall, HandOverCall, first_key, Fails, RefusesRoot, LoadIs, IsOfCell, IsOfKey, handles_of, GetsRoot, GetsCached}
-use Rattle.pagable_laws.proofs.Words.{GetsBlob, GetsLazy, MakesNode, Change, nothing_felt, bears_known, ReadingFeels, reads-root, reads-blob, gets-known, gets-lazy, makes-known, makes-node}
-use Rattle.pagable_laws.proofs.Words.{reading-ends, Want, AskCall, AsksInVain, Result, Pinning, Beginning, Claim, is_loose, to_start, to_pin, to_set, to_release, to_fail}
-use Rattle.pagable_laws.proofs.Words.{SetKeyCall, Does, PinsAtOnce, PinsByLoad, PinRefused, GivesBack, next_start, give, give_known, fresh, TodoBrings, sets_key, false, if◌then◌else◌, updated}
-use Rattle.pagable_laws.proofs.Words.{if_there, EventReply, TableNumber, WorkerAnswer, only_handle, Cell, Task, type_at, key_at, first_todo, without_worker, WorkerEnds, is_workers_load}
-use Rattle.pagable_laws.proofs.Words.{answer_after, BeginsKey, Stays, begun_readings, KeyStarted, Starts, new_walking, Ends, Happens, with_worker, MachineState, world_of, IsMachineWhole, IsNewNode}
-use Rattle.pagable_laws.proofs.Words.{EventBrings, KeepsOpen, LeavesCache, CoreGoes, SameNode, NewNode, StaysAway, KeepsReadings, EventFeels, by-call, by-reading, by-key, by-nothing, StepFeels}
-use Rattle.pagable_laws.proofs.Words.{Blob, StoreCall, digest, AreGood, OwnersAreThere, step_of, Among, ◌==◌, IsWhole, CloneCall}
-use Rattle.pagable_laws.proofs.Goes.{found-number, found-changed, found-left, none-in-new, at-updated, Quiet, Goes, NotLoads, quiet-then, goes-quiet, alike, fell-anyhow, KnowsNext, parts, le-self, Kept, rows-self}
-use Rattle.pagable_laws.proofs.Effects.{Effect, IsMine, IsApart, IsHeldFor, Lasts, Spares, none, moves, fell, with-key, stays, one-then, entry, no-one, none-named, released-free, ended-free, worker-apart}
-use Rattle.pagable_laws.proofs.Effects.{stays-alike, spares-then, then-alike, then-fell, by-alike, by-fell, then-down, held-fell}
-use Rattle.pagable_laws.proofs.Called.{hands-over, ends-load, noted, asks, closes, gets-known as was-known, adopts, adopts-known, schedules, clones, pins, begins, begins-key, stores, calls-go, call-knows}
-use Rattle.pagable_laws.proofs.{Decoding.among-left, GoodReferences.{good, alike-away}, Outlasting.among-found, Sums.self-number, Trees.same_some}
-use Rattle.pagable_world.specs.{Loads.{Does as LoadDoes, Meets}, Runs.{Does as DoesMoment}}
-use Rattle.std.proofs.Common.{rules}
+use Rattle.pagable_laws.proofs.Words.{is_some, WorkerNumber, LoadAnswer, LoadReply, WorkerReply, PinStep, Took, Event, owner_worker, Frame, Reading, Todo, to_load, Walking, World, Seen, Values}
+use Rattle.pagable_laws.proofs.Words.{ReadingDoes, gone_on, Site, ReadingsAre, reading_at, reading_after, LoadSteps, WorkerSteps, IsWhole, IsReadingOf, of_caller, of_worker, IsSteppedReading}
+use Rattle.pagable_laws.proofs.Words.{StepsReading, IsFresh, Error, OpenLoad, EndCall, HandOverCall, first_key, Fails, RefusesRoot, LoadIs, IsOfCell, IsOfKey, handles_of, GetsLazy, MakesNode, Change}
+use Rattle.pagable_laws.proofs.Words.{nothing_felt, bears_known, ReadingFeels, reads-root, reads-blob, gets-known, gets-lazy, makes-known, makes-node, reading-ends, Want, AskCall, AsksInVain, Result}
+use Rattle.pagable_laws.proofs.Words.{Pinning, Beginning, Claim, is_loose, to_start, to_pin, to_set, to_release, to_fail, SetKeyCall, Does, PinsAtOnce, PinsByLoad, PinRefused, GivesBack, next_start}
+use Rattle.pagable_laws.proofs.Words.{give, give_known, fresh, TodoBrings, sets_key, false, if◌then◌else◌, updated, if_there, EventReply, TableNumber, WorkerAnswer, only_handle, Cell, Task, type_at}
+use Rattle.pagable_laws.proofs.Words.{key_at, first_todo, without_worker, WorkerEnds, is_workers_load, answer_after, BeginsKey, Stays, begun_readings, KeyStarted, Starts, new_walking, Ends, Happens}
+use Rattle.pagable_laws.proofs.Words.{with_worker, MachineState, world_of, IsMachineWhole, IsNewNode, EventBrings, KeepsOpen, LeavesCache, SameNode, NewNode, StaysAway, KeepsReadings, EventFeels}
+use Rattle.pagable_laws.proofs.Words.{by-call, by-reading, by-key, by-nothing, StepFeels, Blob, StoreCall, digest, AreGood, OwnersAreThere, step_of, Among, ◌==◌, CloneCall, Needs, GetsKnown, with_got}
+use Rattle.pagable_laws.proofs.Goes.{found-left, none-in-new, at-updated, Quiet, Goes, NotLoads, quiet-then, goes-quiet, alike, fell-anyhow, KnowsNext, parts, le-self, rows-self, next-above}
+use Rattle.pagable_laws.proofs.Effects.{Effect, IsMine, IsApart, IsHeldFor, Lasts, Spares, none, moves, fell, with-key, stays, one-then, entry, no-one, none-named, released-free, ended-free}
+use Rattle.pagable_laws.proofs.{Effects.{worker-apart, stays-alike, spares-then, stays-fell, then-alike, then-fell, held-fell}, Called.{hands-over, ends-load, noted, asks, closes}}
+use Rattle.pagable_laws.proofs.{Called.{gets-known as was-known, adopts, adopts-known, schedules, clones, pins, begins, begins-key, stores, calls-go, call-knows}, Decoding.among-left}
+use Rattle.pagable_laws.proofs.{GoodReferences.{good, alike-away}, Outlasting.{AreUpTo, low-changed, low-whole, stands-new}, Sums.self-number, Trees.same_some, Standing.{AllWait, WaitsWell}}
+use Rattle.{pagable_world.specs.{Loads.{Does as LoadDoes, Meets}, Runs.Does as DoesMoment}, std.proofs.Common.rules}
 use Rattle.pagable_world.specs.Workers as workers
-use Rattle.pagable_laws.proofs.Standing.{AllWait, WaitsWell}
 
 pub fits-kind : (kind : ℕ) → fits_mode kind (mode_of kind) ≡ true
 fits-kind kind = grind (arith, nat_tests)
@@ -32,47 +29,35 @@ unfolding find_row
 found-append q [] ys row found = inr found
 found-append q (h ∷ hs) ys row found = grind (arith, nat_tests, found-append q hs ys row)
 
-found-alone : (q : ℕ) (h row : HandleRow) → find_row q (h ∷ []) ≡ Some row → h ≡ row
-unfolding find_row
-found-alone q h row found = grind (arith, nat_tests)
-
--- no handle has a number above the last one given
-pub none-above : {w : Core} → HandlesAreWhole w → (q : ℕ) (row : HandleRow) → w.last.handle < q → find_row q w.rows ≡ Some row → ⊥
-none-above {w} whole q row above found =
-    let few = (whole.numbered row (among-found q w.rows row found)).1 in
-    let same = found-number q w.rows row found in
-    absurd (omega (arith, few, same, above))
-
 pub cached-rows : (w : Core) (kind : Kind) (key : ℕ) (n : NodeNumber) → ((with_cached_if_open w kind key n).rows ≡ w.rows) × ((with_cached_if_open w kind key n).last ≡ w.last)
 cached-rows w kind key n = grind (arith, nat_tests)
 
 -- ---- the row that was made
 
-next-above : (q last : ℕ) → q ≡ last + 1 → last < q
-next-above q last next = omega arith
-
 module _ {w w' : Core} (whole : HandlesAreWhole w) (kind : Kind) (k : HandleNumber) (row : HandleRow) (made : row_at w' k ≡ Some row) (next : k.0 ≡ w.last.handle + 1) where
-  gets : (rows : List HandleRow) (node : NodeNumber) (owner : Owner) → w.last.handle + 1 ≤ w'.last.handle → ((r : HandleRow) → find_row k.0 rows ≡ Some r → ⊥)
+  gets : (rows : List HandleRow) (node : NodeNumber) (owner : Owner) → AreUpTo w.last.handle rows → w.last.handle + 1 ≤ w'.last.handle
       → find_row k.0 (rows ++ row_of (w.last.handle + 1) node (mode_of kind.0) owner ∷ []) ≡ Some row → GetsRow w w' kind node.0 row
-  gets rows node owner few unseen found = search (rules, found-append, found-alone, fits-kind)
+  gets rows node owner low few found =
+      let new = row_of (w.last.handle + 1) node (mode_of kind.0) owner in
+      let s = stands-new w.last.handle rows new low refl in
+      let e : new ≡ row = same_some _ _ (sym s.live ∙ sym (ap (λ n. find_row n (rows ++ new ∷ [])) next) ∙ found) in
+      grind (arith, nat_tests, fits-kind)
 
   -- of a node that there was
   pub got-known : (n : ℕ) (owner : Owner) → Alike (with_known w kind n owner) w' → GetsRow w w' kind n row
-  got-known n owner a = grind (arith, nat_tests, gets, none-above, next-above)
+  got-known n owner a = grind (arith, nat_tests, gets w.rows (record { 0 = n }) owner (low-whole whole))
 
   -- of such a one, where others were given up then
   pub got-fallen : (n : ℕ) (owner : Owner) {before : Core} {given : ℕ → Bool} → FallsAnyhow before (with_known w kind n owner) given w' → GetsRow w w' kind n row
-  got-fallen n owner f = grind (arith, nat_tests, found-append, gets, none-above, next-above, found-left, none-in-new)
+  got-fallen n owner f = grind (arith, nat_tests, found-append, gets w.rows (record { 0 = n }) owner (low-whole whole), next-above, found-left, none-in-new)
 
   -- of the next node
   pub got-born : (l : LoadNumber) (key : ℕ) (own : OptionalDataKey) (references : List ArcRef) → Alike (adopted w l kind key own references) w' → GetsRow w w' kind (w.last.node + 1) row
   got-born l key own references a =
-      let born = with_handle (with_node w (type_of kind.0) own references) (next_node w) (mode_of kind.0) (Owner.Load l) in
-      let rows = cached-rows born kind key (next_node w) in
+      let rows = cached-rows (with_handle (with_node w (type_of kind.0) own references) (next_node w) (mode_of kind.0) (Owner.Load l)) kind key (next_node w) in
       let few = ap (λ (l : Last). l.handle) (a.last ∙ rows.1) in
-      gets (moved (is_named_by references) (owner_value (w.last.node + 1)) w.rows) (next_node w) (Owner.Load l) (omega (arith, few))
-      (λ r found. let c = found-changed (λ (h : HandleRow). is_named_by references h.number.0) (λ h. record h { owner = owner_value (w.last.node + 1) }) (λ h. refl) k.0 w.rows r found in
-      none-above whole k.0 c.was (next-above k.0 w.last.handle next) c.live)
+      gets (moved (is_named_by references) (owner_value (w.last.node + 1)) w.rows) (next_node w) (Owner.Load l)
+      (low-changed w.last.handle w.rows (λ h. is_named_by references h.number.0) (λ h. record h { owner = owner_value (w.last.node + 1) }) (λ h. refl) (low-whole whole)) (omega (arith, few))
       (subst (λ rows. find_row k.0 rows ≡ Some row) (a.rows ∙ rows.0) made)
 
 -- it is so in a world that is alike
@@ -109,11 +94,11 @@ module _ {N : Type 0} {v : Values N} {u u' : World} {l : LoadNumber} {reply : Lo
   steps-load after (of_caller q is) = elim (caller-was q after is) [ inl old ↦ inl (of_caller q old) | inr new ↦ inr (new.1, new.2) ]
   steps-load after (of_worker n place walking r through below there todo) = inl (of_worker n place walking r through below (sym (s.work.walkings n) ∙ there) todo)
 
-  pub stepped-load : {B W : Type 0} → IsWhole u.core → (event : Event N B W) → event ≡ Event.LoadStep l → IsSteppedReading u event s.reading
-  stepped-load {B} {W} whole event is =
-      let P : Event N B W → Type 0 = λ e. IsSteppedReading u e s.reading in
-      let stands = reading-stands u whole l s.reading s.at in
-      subst P (sym is) (s.at, elim stands [ inl there ↦ inl (of_caller l.0 there) | inr begun ↦ inr (begun.0, begun.1, subst (λ (z : LoadNumber). z.0 ≤ u.core.last.load) (sym begun.2) begun.3) ])
+  pub stepped-load : (B W : Type 0) → IsWhole u.core → IsSteppedReading u (let e : Event N B W = Event.LoadStep l in e) s.reading
+  stepped-load B W whole = (s.at, elim (reading-stands u whole l s.reading s.at) [
+    | inl there ↦ inl (of_caller l.0 there)
+    | inr begun ↦ inr (begun.0, begun.1, subst (λ (z : LoadNumber). z.0 ≤ u.core.last.load) (sym begun.2) begun.3)
+  ])
 
 -- ---- a load of a worker's
 
@@ -128,13 +113,9 @@ pub record LoadsTodo {N : Type 0} (v : Values N) (me : Owner) (s s' : Site) (rea
 module _ {N B W : Type 0} (m : Seen N B W) (v : ℕ) (s s' : Site) where
   pub loads-todo : (r : ArcRef) (place : ℕ) (through : HandleNumber) (reading : Reading) (below : List Todo) (step : Took W)
       → workers.Does m v s (to_load r place through reading ∷ below) step s' → LoadsTodo m.values (owner_worker v) s s' reading
-  loads-todo r place through reading below (Took.Pin i (Ok (PinStep.Held k))) (is, p) =
-      record { answer = Some (LoadAnswer.Pinned k); frames = []; does = p.goes.0; next = λ q at h after rest e. let f : to_write r place through ∷ below ≡ to_load q at h after ∷ rest = sym p.goes.1.list_is ∙ e in absurd (cc) }
-  loads-todo r place through reading below (Took.Pin i (Ok (PinStep.LoadBegun l))) (is, p) = absurd p.goes
-  loads-todo r place through reading below (Took.Pin i (Ok PinStep.LoadWent)) (is, p) = grind (arith, nat_tests)
   loads-todo r place through reading below (Took.Pin i (Err e)) (is, p) =
       record { answer = Some (LoadAnswer.Refused e); frames = []; does = p.refused.0; next = λ q at h after rest f. let g : workers.failing_by e s.todo ≡ to_load q at h after ∷ rest = sym p.refused.1.list_is ∙ f in absurd (cc) }
-  loads-todo r place through reading below step does = absurd does
+  loads-todo r place through reading below step does = grind (arith, nat_tests)
 
 module _ {N B W : Type 0} {m : Seen N B W} {u u' : World} {k : WorkerNumber} {reply : WorkerReply W} (s : WorkerSteps m u k reply u') where
   abbrev before : Site
@@ -209,68 +190,32 @@ module _ {N B W : Type 0} (m : Seen N B W) (w : Core) (me : Owner) (free : NotLo
   abbrev RF : Option (LoadAnswer N) → List Frame → Type 0
   RF answer frames = ReadingFelt m.values w me reading answer frames w'
 
-  gets-root : (frames : List Frame) → GetsRoot w me reading frames w' → RF None frames
-  gets-root frames g =
-      let load : OpenLoad = g.asked.gives.0 in
-      let same : load ≡ g.load = same_some _ _ (sym g.asked.gives.1.stands_open ∙ g.open_load) in
-      record {
-        change = nothing_felt;
-        does = asks _ g.asked;
-        opens = λ none. (g.load, g.open_load);
-        feels = λ whole. reads-root g.load g.blob g.first g.open_load (subst (λ (x : OpenLoad). w.stored x.key ≡ Some g.blob) same g.asked.gives.2.found) refl g.goes;
-      }
+  -- a load that is open goes on
+  on : {frames : List Frame} (c : Change) (load : OpenLoad) → w.loads reading.load.0 ≡ Some load → Effect me false (IsMine w me reading.load) (Unit {0}) false c w w'
+      → (HandlesAreWhole w → ReadingFeels m.values w reading None frames w' c) → RF None frames
+  on c load opened does feels = record { change = c; does = does; opens = λ none. (load, opened); feels = feels }
 
-  gets-cached : (frames : List Frame) → GetsCached m.values.types w me reading frames w' → RF None frames
-  gets-cached frames g =
-      let k = g.asked.gives.2 in
-      record {
-        change = nothing_felt;
-        does = asks _ g.asked;
-        opens = λ none. (g.asked.gives.0, g.asked.gives.1.stands_open);
-        feels = λ whole. gets-known g.kind g.key k.n g.row (inl g.needs) (is-cached w g.kind.0 g.key k.n k.known)
-            (got-known whole g.kind g.k g.row g.made k.next.above k.n (Owner.Load reading.load) k.leaves) refl g.goes;
-      }
-
-  gets-blob : (frames : List Frame) → GetsBlob m.values.types w me reading frames w' → RF None frames
-  gets-blob frames g =
-      record {
-        change = nothing_felt;
-        does = asks _ g.asked;
-        opens = λ none. (g.asked.gives.0, g.asked.gives.1.stands_open);
-        feels = λ whole. reads-blob g.kind g.key g.blob g.needs g.asked.gives.2.1.found refl g.goes;
-      }
+  -- the handle of a node that the cache knew
+  knew : {frames : List Frame} (kind : Kind) (key : ℕ) (k : HandleNumber) (row : HandleRow) (load : OpenLoad) → w.loads reading.load.0 ≡ Some load → Needs m.values.types reading.frames kind key
+      → GetsKnown w reading.load kind key k w' → row_at w' k ≡ Some row → frames ≡ with_got kind row reading.frames → RF None frames
+  knew kind key k row load opened needs c made goes = on nothing_felt load opened (was-known c) (λ whole. gets-known kind key c.n row needs (is-cached w kind.0 key c.n c.known)
+      (got-known whole kind k row made c.next.above c.n (Owner.Load reading.load) c.leaves) refl goes)
 
   gets-unread : (frames : List Frame) → GetsLazy m.values.types w me reading frames w' → RF None frames
   gets-unread frames g = elim g.asked.makes.3 [
-    | inl k ↦ record {
-      change = nothing_felt;
-      does = was-known k;
-      opens = λ none. (g.asked.makes.0, g.asked.makes.1.stands_open);
-      feels = λ whole. gets-known g.kind g.key k.n g.row (inr g.needs) (is-cached w g.kind.0 g.key k.n k.known)
-          (got-known whole g.kind g.k g.row g.made k.next.above k.n (Owner.Load reading.load) k.leaves) refl g.goes;
-    }
-    | inr (unknown, few, next, a) ↦ record {
-      change = bears_known g.kind.0 g.key (OptionalDataKey.Some g.key);
-      does = adopts reading.load g.kind g.key (OptionalDataKey.Some g.key) [] unknown (none-named w (Owner.Load reading.load)) a;
-      opens = λ none. (g.asked.makes.0, g.asked.makes.1.stands_open);
-      feels = λ whole. gets-lazy g.kind g.key g.row g.needs (got-born whole g.kind g.k g.row g.made next.above reading.load g.key (OptionalDataKey.Some g.key) [] a) refl g.goes;
-    }
+    | inl k ↦ knew g.kind g.key g.k g.row g.asked.makes.0 g.asked.makes.1.stands_open (inr g.needs) k g.made g.goes
+    | inr (unknown, few, next, a) ↦ on (bears_known g.kind.0 g.key (OptionalDataKey.Some g.key)) g.asked.makes.0 g.asked.makes.1.stands_open
+        (adopts reading.load g.kind g.key (OptionalDataKey.Some g.key) [] unknown (none-named w (Owner.Load reading.load)) a)
+        (λ whole. gets-lazy g.kind g.key g.row g.needs (got-born whole g.kind g.k g.row g.made next.above reading.load g.key (OptionalDataKey.Some g.key) [] a) refl g.goes)
   ]
 
   makes : (frames : List Frame) → MakesNode m.values w me reading frames w' → RF None frames
   makes frames g = elim c.makes [
-    | inl (n, usable, f) ↦ record {
-      change = nothing_felt;
-      does = adopts-known reading.load r.top.kind n (m.values.references g.x) right f;
-      opens = λ none. (c.load, c.owned.stands_open);
-      feels = λ whole. makes-known g.x r n g.row (is-cached w r.top.kind.0 r.top.key n usable) (got-fallen whole r.top.kind g.k g.row g.made c.next.above n (Owner.Load reading.load) f) refl g.goes;
-    }
-    | inr (unknown, few, a) ↦ record {
-      change = bears_known r.top.kind.0 r.top.key (first_key r.top.kind.0 r.top.key);
-      does = adopts reading.load r.top.kind r.top.key (first_key r.top.kind.0 r.top.key) (m.values.references g.x) unknown right a;
-      opens = λ none. (c.load, c.owned.stands_open);
-      feels = λ whole. makes-node g.x r g.row (got-born whole r.top.kind g.k g.row g.made c.next.above reading.load r.top.key (first_key r.top.kind.0 r.top.key) (m.values.references g.x) a) refl g.goes;
-    }
+    | inl (n, usable, f) ↦ on nothing_felt c.load c.owned.stands_open (adopts-known reading.load r.top.kind n (m.values.references g.x) right f)
+        (λ whole. makes-known g.x r n g.row (is-cached w r.top.kind.0 r.top.key n usable) (got-fallen whole r.top.kind g.k g.row g.made c.next.above n (Owner.Load reading.load) f) refl g.goes)
+    | inr (unknown, few, a) ↦ on (bears_known r.top.kind.0 r.top.key (first_key r.top.kind.0 r.top.key)) c.load c.owned.stands_open
+        (adopts reading.load r.top.kind r.top.key (first_key r.top.kind.0 r.top.key) (m.values.references g.x) unknown right a)
+        (λ whole. makes-node g.x r g.row (got-born whole r.top.kind g.k g.row g.made c.next.above reading.load r.top.key (first_key r.top.kind.0 r.top.key) (m.values.references g.x) a) refl g.goes)
   ]
     where
       open g use {reads_node as r}
@@ -296,9 +241,12 @@ module _ {N B W : Type 0} (m : Seen N B W) (w : Core) (me : Owner) (free : NotLo
 
   by-does : (answer : Option (LoadAnswer N)) (frames : List Frame) → LoadDoes m.values w me reading answer frames w' → RF answer frames
   by-does None frames does = elim does [
-    | inl root ↦ gets-root frames root
-    | inr (inl cached) ↦ gets-cached frames cached
-    | inr (inr (inl blob)) ↦ gets-blob frames blob
+    | inl g ↦
+        let same : g.asked.gives.0 ≡ g.load = same_some _ _ (sym g.asked.gives.1.stands_open ∙ g.open_load) in
+        on nothing_felt g.load g.open_load (asks _ g.asked)
+        (λ whole. reads-root g.load g.blob g.first g.open_load (subst (λ (x : OpenLoad). w.stored x.key ≡ Some g.blob) same g.asked.gives.2.found) refl g.goes)
+    | inr (inl g) ↦ knew g.kind g.key g.k g.row g.asked.gives.0 g.asked.gives.1.stands_open (inl g.needs) g.asked.gives.2 g.made g.goes
+    | inr (inr (inl g)) ↦ on nothing_felt g.asked.gives.0 g.asked.gives.1.stands_open (asks _ g.asked) (λ whole. reads-blob g.kind g.key g.blob g.needs g.asked.gives.2.1.found refl g.goes)
     | inr (inr (inr (inl lazy))) ↦ gets-unread frames lazy
     | inr (inr (inr (inr made))) ↦ makes frames made
   ]
@@ -419,10 +367,14 @@ module _ {N B W : Type 0} (m : Seen N B W) (v : ℕ) (s s' : Site) where
   stored : {blob : Blob} (r : Result ℕ Error) → StoreCall (digest m.values) s.core blob r s'.core → Effect (owner_worker v) false (Unit {0}) (Unit {0}) false nothing_felt s.core s'.core
   stored r c = stores r c
 
-  -- nothing is felt, and this stands at the front afterwards
+  -- nothing is felt
+  quiet : {todo : List Todo} → ((n : ℕ) (x : N) → TodoBrings m.values s.core todo n x → ⊥) → (s.todo ≡ todo → WaitsWell todo → LoadsAnew s') → WE todo nothing_felt → WF todo
+  quiet none anew e = record { change = nothing_felt; does = e; goes = e.goes; feels = λ front well. walk-rests none (anew front well); knows = λ whole k q n known. absurd known }
+
+  -- and this stands at the front afterwards
   rests : {todo : List Todo} (next : List Todo) → ((n : ℕ) (x : N) → TodoBrings m.values s.core todo n x → ⊥)
       → s'.todo ≡ next → (WaitsWell todo → front_reading next ≡ None) → WE todo nothing_felt → WF todo
-  rests next none is other e = record { change = nothing_felt; does = e; goes = e.goes; feels = λ front well. walk-rests none (no-load s' next is (other well)); knows = λ whole k q n known. absurd known }
+  rests next none is other e = quiet none (λ front well. no-load s' next is (other well)) e
 
   -- the load at the front makes its step
   loads-on : (r : ArcRef) (place : ℕ) (through : HandleNumber) (reading : Reading) (below : List Todo) (step : Took W)
@@ -448,34 +400,21 @@ module _ {N B W : Type 0} (m : Seen N B W) (v : ℕ) (s s' : Site) where
 
   load-begins : (r : ArcRef) (place t : ℕ) (below : List Todo) (through : HandleNumber) (l : LoadNumber) → PinsByLoad s.core (owner_worker v) r through l s'.core
       → s'.todo ≡ to_load r place through (fresh l t) ∷ below → WF (to_pin r place ∷ below)
-  load-begins r place t below through l does is =
-      let e : WE (to_pin r place ∷ below) nothing_felt = by-load v r through l does in
-      record {
-        change = nothing_felt;
-        does = e;
-        goes = e.goes;
-        feels = λ front well. walk-rests (λ n x b. b) (λ reading e.
-            let same : fresh l t ≡ reading = same_some _ _ (ap front_reading (sym is) ∙ e) in
-            subst (λ x. IsFresh s'.core x) same (refl, refl, begun-number v r through l does));
-        knows = λ whole k q n known. absurd known;
-      }
+  load-begins r place t below through l does is = quiet (λ n x b. b) (λ front well reading e.
+      let same : fresh l t ≡ reading = same_some _ _ (ap front_reading (sym is) ∙ e) in
+      subst (λ x. IsFresh s'.core x) same (refl, refl, begun-number v r through l does)) (by-load v r through l does)
 
   pub walk-goes : (todo : List Todo) (step : Took W) → Does m v s todo step s' → WF todo
-  walk-goes (to_start r place ∷ below) (Took.Claim i (Ok (Claim.Known key height))) (is, c) = grind (arith, nat_tests, rests, given-known, unmoved)
-  walk-goes (to_start r place ∷ below) (Took.Claim i (Ok Claim.Waiting)) (is, c) =
-      let t = c.finds.1.2 in
-      let e : WE (to_start r place ∷ below) nothing_felt = stays t.pager_stays in
-      record { change = nothing_felt; does = e; goes = e.goes; feels = λ front well. walk-rests (λ n x b. b) (no-load s' _ (t.list_is ∙ front) refl); knows = λ whole k q n known. absurd known }
+  walk-goes (to_start r place ∷ below) (Took.Claim i (Ok Claim.Waiting)) (is, c) = let t = c.finds.1.2 in
+      quiet (λ n x b. b) (λ front well. no-load s' _ (t.list_is ∙ front) refl) (stays t.pager_stays)
   walk-goes (to_pin r place ∷ below) (Took.Pin i (Ok (PinStep.Held k))) (is, p) = rests _ (λ n x b. b) p.pins.2.list_is (λ well. refl) (at-once v r p.pins.0 k p.pins.1)
   walk-goes (to_pin r place ∷ below) (Took.Pin i (Ok (PinStep.LoadBegun l))) (is, p) = load-begins r place _ below p.pins.0 l p.pins.1 p.pins.2.list_is
   walk-goes (to_pin r place ∷ below) (Took.Pin i (Err f)) (is, p) = rests _ (λ n x b. b) p.refused.1.list_is (λ well. refl) (pin-refused v r f p.refused.0)
-  walk-goes (to_load r place through reading ∷ below) step does = loads-on r place through reading below step does
-  walk-goes (to_write r place through ∷ below) (Took.Write i (Ok out)) (is, p) = rests _ (λ n x b. b) p.writes.list_is (λ well. started place _ _ below refl) (stays p.writes.pager_stays)
   walk-goes (to_set r through key height ∷ below) (Took.SetKey i (Ok u)) (is, p) = sets r through key height below _ (Ok u) p.sets p.goes.list_is refl
   walk-goes (to_set r through key height ∷ below) (Took.SetKey i (Err f)) (is, p) = sets r through key height below _ (Err f) p.sets p.refused.list_is refl
   walk-goes (to_release r key height ∷ below) (Took.Release i) (is, falls, g) = rests _ (λ n x b. b) g.list_is (given r key height below) (fell (none s.core) falls.falls (λ mine o. released-free mine o.apart v o.other s.core r.node.0))
   walk-goes (to_fail fault back ∷ below) Took.Fail (gives, shelf, list_is) = rests _ (λ n x b. b) list_is (λ well. refl) (gives-back v back gives)
-  walk-goes _ step does = grind (arith, nat_tests, rests, unmoved, stored)
+  walk-goes _ step does = grind (arith, nat_tests, rests, unmoved, stored, given-known, loads-on, started)
 
 -- What trees feel of each event that doesn't close the storage.
 
@@ -502,8 +441,8 @@ ends-spare mine apart v other None e a = then-alike mine e a
 ends-spare mine apart v other (Some answer) {m = m} f a = spares-then mine a (then-fell mine apart f.falls (record { each = λ q row own s. s }) (ended-free mine apart v other m))
 
 ends-last : (kind key n : ℕ) (answer : Option WorkerAnswer) (v : ℕ) {w m w' : Core} → Ends answer v m w' → Lasts kind key n w m → Lasts kind key n w w'
-ends-last kind key n None v e a = then-down kind key n (λ h. subst (IsHeldFor kind key n) e.rows h) a (by-alike kind key n e (λ i. i))
-ends-last kind key n (Some answer) v f a = then-down kind key n (held-fell kind key n refl f.falls) a (by-fell kind key n f.falls (λ i. i))
+ends-last kind key n None v e a = record { lasts = λ i h h'. stays-alike kind key n e (a.lasts i h (subst (IsHeldFor kind key n) e.rows h')) h' }
+ends-last kind key n (Some answer) v f a = record { lasts = λ i h h'. stays-fell kind key n f.falls (a.lasts i h (held-fell kind key n refl f.falls h')) h' }
 
 -- ---- readings
 
@@ -601,7 +540,7 @@ module _ {N B W : Type 0} (m : Seen N B W) (u u' : World) where
       let x = is.moves in
       let f = reading-feels m u.core Owner.Caller caller-free u'.core x.reading reply.ended x.frames x.does in
       felt f.does (λ left. tt)
-      (λ whole well. by-reading f.change x.reading reply.ended x.frames (stepped-load x {B = B} {W = W} whole (Event.LoadStep l) refl) f.opens (f.feels whole.handles) (steps-load x))
+      (λ whole well. by-reading f.change x.reading reply.ended x.frames (stepped-load x B W whole) f.opens (f.feels whole.handles) (steps-load x))
       (λ whole leaves. reading-knows (f.feels whole.handles))
 
   module _ (k : WorkerNumber) (reply : WorkerReply W) (s : WorkerSteps m u k reply u') where
@@ -656,44 +595,28 @@ module _ {N B W : Type 0} (m : Seen N B W) (u u' : World) where
 
 -- ---- the plain world, as trees feel it
 
-pub core-goes : {w w' : Core} (c : Change) → HandlesAreWhole w → Goes c w w' → CoreGoes c w w'
-core-goes {w} {w'} c whole g =
-    record {
-      nodes = g.nodes;
-      handles = g.handles;
-      loads_last = g.loads_last;
-      old = λ n few there. was-there n (w'.cells n) refl there few;
-      new = λ n above there. comes n (w'.cells n) refl there above;
-      stored = g.stored;
-      loads = g.loads;
-      cache = g.cache;
-      rows = λ h row live few. let a = g.rows h.0 row live few in (a.was, a.live, a.at);
-      load_rows = λ h row l live mine few. let a = g.rows h.0 row live few in a.live ∙ ap Some (a.mine l mine);
-    }
-  where
-    type-is : (x : Core) (n : ℕ) (cell : Cell) → x.cells n ≡ Some cell → type_at x n ≡ Some cell.node_type
-    type-is x n cell is = ap (λ (y : Option Cell). if_there (λ (z : Cell). Some z.node_type) None y) is
+module _ {c : Change} {w w' : Core} (g : Goes c w w') where
+  type-is : (n : ℕ) (x : Core) (cell : Cell) → x.cells n ≡ Some cell → type_at x n ≡ Some cell.node_type
+  type-is n x cell is = ap (λ (y : Option Cell). if_there (λ (z : Cell). Some z.node_type) None y) is
 
-    key-is : (x : Core) (n : ℕ) (cell : Cell) → x.cells n ≡ Some cell → key_at x n ≡ cell.key
-    key-is x n cell is = ap (λ (y : Option Cell). if_there (λ (z : Cell). z.key) OptionalDataKey.None y) is
+  key-is : (n : ℕ) (x : Core) (cell : Cell) → x.cells n ≡ Some cell → key_at x n ≡ cell.key
+  key-is n x cell is = ap (λ (y : Option Cell). if_there (λ (z : Cell). z.key) OptionalDataKey.None y) is
 
-    same : (n : ℕ) (cell : Cell) → w'.cells n ≡ Some cell → Kept c w n cell → SameNode c w w' n
-    same n cell is k = grind (arith, nat_tests, type-is, key-is, now)
+  there-is : (n : ℕ) → is_some (w'.cells n) ≡ true → (cell : Cell) × (w'.cells n ≡ Some cell)
+  there-is n there = grind (arith, nat_tests)
 
-    was-there : (n : ℕ) (found : Option Cell) → w'.cells n ≡ found → is_some (w'.cells n) ≡ true → n ≤ w.last.node → SameNode c w w' n
-    was-there n None is there few = let e : is_some (w'.cells n) ≡ false = ap is_some is in absurd (cc)
-    was-there n (Some cell) is there few = elim (g.cells n cell is) [ inl kept ↦ same n cell is kept | inr (next, bears) ↦ absurd (omega (arith, next, few)) ]
+  pub old-node : (n : ℕ) → n ≤ w.last.node → is_some (w'.cells n) ≡ true → SameNode c w w' n
+  old-node n few there = let (cell, is) = there-is n there in let k = g.cells n cell is in grind (arith, nat_tests, type-is, key-is, now)
 
-    comes : (n : ℕ) (found : Option Cell) → w'.cells n ≡ found → is_some (w'.cells n) ≡ true → w.last.node < n → NewNode c w w' n
-    comes n None is there above = let e : is_some (w'.cells n) ≡ false = ap is_some is in absurd (cc)
-    comes n (Some cell) is there above = elim (g.cells n cell is) [
-      | inl kept ↦ absurd (let few = (whole.nodes_numbered n (ap is_some kept.live)).1 in omega (arith, few, above))
-      | inr (next, bears) ↦ record { t = cell.node_type; own = cell.key; born = bears; next = next; typed = type-is w' n cell is; key = key-is w' n cell is }
-    ]
+  pub new-node : HandlesAreWhole w → (n : ℕ) → w.last.node < n → is_some (w'.cells n) ≡ true → NewNode c w w' n
+  new-node whole n above there = let (cell, is) = there-is n there in elim (g.cells n cell is) [
+    | inl kept ↦ absurd (let few = (whole.nodes_numbered n (ap is_some kept.live)).1 in omega (arith, few, above))
+    | inr (next, bears) ↦ record { t = cell.node_type; own = cell.key; born = bears; next = next; typed = type-is n w' cell is; key = key-is n w' cell is }
+  ]
 
 -- each event of a whole machine is felt
 pub does-feels : {N B W E : Type 0} (m : Seen N B W) (s s' : MachineState N E) (event : Event N B W) (reply : EventReply N B W)
     → IsMachineWhole m.values s → AllWaitWell (world_of s) → KeepsOpen event → DoesMoment m s event reply s' → StepFeels m.values (world_of s) event reply (world_of s')
 does-feels m s s' event reply whole well open_still does =
     let g = event-goes m (world_of s) (world_of s') event reply open_still does.step.happens in
-    record { change = g.change; core = core-goes g.change whole.pager.whole.handles g.goes; feels = g.feels whole.pager.whole well }
+    record { change = g.change; core = g.goes; feels = g.feels whole.pager.whole well }

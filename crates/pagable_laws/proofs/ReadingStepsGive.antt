@@ -1,27 +1,21 @@
 -- What a load of a key hands over, and that what it read is right; and how many steps an open load still needs.
-use Rattle.pagable_laws.proofs.Words.{◌≡◌, ℕ, zero, suc, List, [], ◌∷◌, ◌++◌, refl, sym, subst, ◌∙◌, inl, inr, arith, Option, Some, None, ArcRef, Kind, LoadNumber, Among, HandleRow, Event}
-use Rattle.pagable_laws.proofs.Words.{EventReply, LoadAnswer, Core, Frame, Reading, World, Values, with_got, nested_frame, Change, ReadingFeels, reads-root, reads-blob, gets-known, gets-lazy}
-use Rattle.pagable_laws.proofs.Words.{makes-known, makes-node, reading-ends, EventFeels, nat_tests, ◌&&◌, ◌||◌, Bool, true, false, map, Ok, ap, not, Error, HandleNumber, is_in, if_there, Owner}
-use Rattle.pagable_laws.proofs.Words.{is_owner, row_at, Seen, earlier, refused_if, named_fault, moved, numbers_of, HandOverCall, hand_over_fault, is_owned_in, EndsRead, handles_of, Happens}
-use Rattle.pagable_laws.proofs.Words.{HandlesAreWhole, HandsOver, ReadHolds, ◌<◌, slice_get-get_or, Blob, NodeNumber, Tree, Types, type_of, LoadReply, held, OpenLoad, type_at, IsLawful}
-use Rattle.pagable_laws.proofs.Words.{IsReference, ReadsRoot, reading_at, LoadSteps, MachineState, world_of, IsMachineWhole, IsReadingOf, of_caller, StandsFor, SameTrees, FrameFits, FramesFit}
-use Rattle.pagable_laws.proofs.Words.{ReadsItsTypes, ReadIsRight, ReadGives, ◌+◌, ◌*◌, ◌≤◌, ◌⊎◌, is_eager, asks, next_in, need_of, needs_nested, needs_lazy, to_adopt, root_frame, after_kinds}
-use Rattle.pagable_laws.proofs.Words.{Unfolds, unfolds, UnfoldsFrom, KeepsStored, IsSome, Call, Reply, one_more, gone_on, CloseCall, IsIdle, KeepsOpen, HasStepLeft, IsWithinBound, StepIsWithin}
-use Rattle.pagable_laws.proofs.Words.{PagerState, Represents, WellFormed}
-use Rattle.pagable_laws.proofs.{Words.{LoadsHaveStepsLeft, IsFresh}, Fitting.{inside, first-fits, frames-stay, asked}, ReadingSteps.{readings-on, caller-free, reading-feels, reading-stands}}
-use Rattle.pagable_laws.proofs.{ReadingSteps.{AllWaitWell, EventGoes, event-goes}, Goes.{found-number, IsShut, Goes}, Outlasting.{Stands, stands-whole, stands-changed}}
-use Rattle.pagable_laws.proofs.{Outlasting.stands-fell, Sums.self-number, Decoding.decodes, Taking.{row-held, root-right, adopted-over, Going, given-nodes}}
-use Rattle.pagable_laws.proofs.{KnownSteps.eager-nested, ReadingStepsKinds.kinds_of}
-use Rattle.pagable_laws.proofs.{ReadingStepsKinds.{asks-by-kinds, kinds-pushed}, Trees.same_some}
-use Rattle.pagable_world.specs.{Loads.{Does as LoadDoes}, Runs.Does}
-use Rattle.std.proofs.Common.{rules}
+use Rattle.pagable_laws.proofs.Words.{◌≡◌, ℕ, zero, suc, List, [], ◌∷◌, ◌++◌, refl, sym, subst, ◌∙◌, inl, inr, arith, Option, Some, None, ArcRef, Kind, LoadNumber, Among, HandleRow, Event, EventReply}
+use Rattle.pagable_laws.proofs.Words.{LoadAnswer, Core, Frame, Reading, World, Values, with_got, nested_frame, Change, ReadingFeels, reads-root, reads-blob, gets-known, gets-lazy, makes-known}
+use Rattle.pagable_laws.proofs.Words.{makes-node, reading-ends, EventFeels, nat_tests, ◌&&◌, ◌||◌, Bool, true, false, map, Ok, ap, not, Error, HandleNumber, is_in, if_there, Owner, is_owner, row_at}
+use Rattle.pagable_laws.proofs.Words.{Seen, refused_if, named_fault, moved, numbers_of, HandOverCall, hand_over_fault, is_owned_in, EndsRead, handles_of, Happens, HandlesAreWhole, HandsOver}
+use Rattle.pagable_laws.proofs.Words.{ReadHolds, ◌<◌, slice_get-get_or, Blob, NodeNumber, Tree, Types, type_of, LoadReply, held, OpenLoad, type_at, IsLawful, IsReference, ReadsRoot, LoadSteps}
+use Rattle.pagable_laws.proofs.Words.{MachineState, world_of, IsMachineWhole, IsReadingOf, of_caller, StandsFor, SameTrees, FrameFits, FramesFit, ReadsItsTypes, ReadIsRight, ReadGives, ◌+◌, ◌*◌, ◌≤◌}
+use Rattle.pagable_laws.proofs.Words.{◌⊎◌, is_eager, asks, next_in, need_of, needs_nested, needs_lazy, to_adopt, root_frame, after_kinds, Unfolds, unfolds, UnfoldsFrom, KeepsStored, IsSome, Call}
+use Rattle.pagable_laws.proofs.Words.{Reply, one_more, gone_on, IsIdle, KeepsOpen, HasStepLeft, IsWithinBound, StepIsWithin, PagerState, Represents, WellFormed, LoadsHaveStepsLeft, IsFresh}
+use Rattle.pagable_laws.proofs.{Fitting.{inside, first-fits, frames-stay, asked}, ReadingSteps.{readings-on, caller-free, reading-feels, reading-stands, AllWaitWell, EventGoes, event-goes}}
+use Rattle.pagable_laws.proofs.{Goes.{found-number, IsShut, Goes}, Outlasting.{Stands, stands-whole, stands-changed, stands-fell}, Sums.self-number, Decoding.decodes, Taking.{row-held, root-right}}
+use Rattle.pagable_laws.proofs.{Taking.{adopted-over, Going, given-nodes, eager-nested}, ReadingStepsKinds.{kinds_of, asks-by-kinds, kinds-pushed}, Trees.same_some}
+use Rattle.{pagable_world.specs.{Loads.Does as LoadDoes, Runs.Does}, std.proofs.Common.rules}
+pub use Rattle.pagable_laws.proofs.Effects.{both-none as neither}
 
 -- A load of a key that answers a value hands over the value's references: each was the load's, and is the caller's then.
 
 -- ---- nothing is said against the handles
-
-pub neither : (a b : Option Error) → earlier a b ≡ None → (a ≡ None) × (b ≡ None)
-neither x0 x1 is = grind (arith, nat_tests)
 
 -- the handle is live, and the owner's
 record IsNamed (w : Core) (owner : Owner) (h : HandleNumber) : Type 0 where
@@ -55,9 +49,6 @@ in-numbers x0 h x2 = grind (arith, nat_tests, self-number)
 not-given : (a b : Bool) → b ≡ true → (a && not b) ≡ false
 not-given x0 b is = grind (arith, nat_tests)
 
-no-value-of-caller : (n : _) → Owner.Caller ≡ Owner.Value n → ⊥
-no-value-of-caller n is = cc
-
 -- ---- what is handed over
 
 pub hands : {w w' : Core} (l : LoadNumber) (references : List ArcRef) → HandlesAreWhole w → HandOverCall w Owner.Caller l (handles_of references) (Ok tt) w' → HandsOver w l references w'
@@ -71,7 +62,7 @@ hands {w} {w'} l references whole c =
           let stood = stands-changed (λ (row : HandleRow). is_in (numbers_of hs) row.number.0) (λ row. record row { owner = Owner.Caller }) (λ h. refl) (stands-whole whole r.handle.0 n.row n.live) in
           let moves : is_in (numbers_of hs) n.row.number.0 ≡ true = ap (is_in (numbers_of hs)) (found-number r.handle.0 w.rows n.row n.live) ∙ numbered in
           let now : Stands w.last.handle (moved (is_in (numbers_of hs)) Owner.Caller w.rows) r.handle.0 (record n.row { owner = Owner.Caller }) = rw moves at stood in
-          let after = stands-fell c.hands.1.falls no-value-of-caller (not-given (is_owned_in w (Owner.Load l) r.handle.0) (is_in (numbers_of hs) r.handle.0) numbered) now in
+          let after = stands-fell c.hands.1.falls (λ n e. cc) (not-given (is_owned_in w (Owner.Load l) r.handle.0) (is_in (numbers_of hs) r.handle.0) numbered) now in
           (n.row, n.live, n.own, after.live);
     }
 
@@ -124,22 +115,18 @@ module _ {N E : Type 0} {v : Values N} (lawful : IsLawful v) (readable : ReadsIt
 module _ {N E B W : Type 0} (m : Seen N B W) (lawful : IsLawful m.values) (readable : ReadsItsTypes m.values.types) (s s' : MachineState N E) (trees trees' : ℕ → Tree)
     (whole : IsMachineWhole m.values s) (whole' : IsMachineWhole m.values s') (readings : (reading : Reading) → IsReadingOf s.work reading → Going m.values s.pager trees reading)
     (same : SameTrees s.pager.core.last.node trees trees') (stands' : StandsFor m.values s' trees') where
-  reading-right : (l : LoadNumber) (reply : LoadReply N) → LoadSteps m.values (world_of s) l reply (world_of s') → (reading : Reading) → reading_at (world_of s) l ≡ Some reading
-      → (x : N) → ReadsRoot m.values reading x → HandsOver s.pager.core reading.load (m.values.references x) s'.pager.core → (load : OpenLoad)
-      → s.pager.core.loads l.0 ≡ Some load → ReadIsRight m.values s'.pager load.key x
-  reading-right l reply h reading at x root hands load open_load = elim (reading-stands (world_of s) whole.pager.whole l reading at) [
-    | inr begun ↦ absurd (let e = sym begun.0 ∙ root.frames in cc)
-    | inl there ↦
-        let number : reading.load.0 ≡ l.0 = (whole.readings l.0 reading there).number in
-        let stored = (reading-feels m s.pager.core Owner.Caller caller-free s'.pager.core h.reading reply.ended h.frames h.does).does.goes.stored in
-        read-right lawful readable s.pager s'.pager trees trees' same stored whole'.pager stands'.pager reading
-        (readings reading (of_caller l.0 there)) load (ap s.pager.core.loads number ∙ open_load) x root hands
-  ]
-
   pub reads-give : (event : Event N B W) (reply : EventReply N B W) → Does m s event reply s' → ReadGives m.values s trees event reply s' trees'
   reads-give (Event.LoadStep l) (EventReply.LoadMoved (Ok reply)) does = λ load x open_load ended.
-      let h = reads-hold m (world_of s) (world_of s') whole.pager.whole.handles (Event.LoadStep l) (EventReply.LoadMoved (Ok reply)) does.step.happens x ended in
-      reading-right l reply does.step.happens.moves h.0 h.1 x h.2 h.3 load open_load
+      let h = does.step.happens.moves in
+      let (reading, at, root, hands) = reads-hold m (world_of s) (world_of s') whole.pager.whole.handles (Event.LoadStep l) (EventReply.LoadMoved (Ok reply)) does.step.happens x ended in
+      elim (reading-stands (world_of s) whole.pager.whole l reading at) [
+        | inr begun ↦ absurd (let e = sym begun.0 ∙ root.frames in cc)
+        | inl there ↦
+            let number : reading.load.0 ≡ l.0 = (whole.readings l.0 reading there).number in
+            let stored = (reading-feels m s.pager.core Owner.Caller caller-free s'.pager.core h.reading reply.ended h.frames h.does).does.goes.stored in
+            read-right lawful readable s.pager s'.pager trees trees' same stored whole'.pager stands'.pager reading
+            (readings reading (of_caller l.0 there)) load (ap s.pager.core.loads number ∙ open_load) x root hands
+      ]
   reads-give event reply does = tt
 
 -- How many steps an open load still needs: at most two for each reference that its blobs still take, with all that it leads to, and one for each of its blobs.
@@ -298,9 +285,6 @@ AllBounded types u = (reading : Reading) → IsReadingOf u.work reading → IsBo
 abbrev pub LoadsStand : Types → World → Type 0
 LoadsStand types u = IsShut u.core ⊎ AllBounded types u
 
-closed-shut : {w w' : Core} {r : _} → CloseCall w r w' → IsShut w'
-closed-shut c = (c.falls.falls.leaves.closed, c.falls.falls.leaves.stored)
-
 keeps-open : {N B W : Type 0} (event : Event N B W) → KeepsOpen event ⊎ (event ≡ Event.Call Call.Close)
 keeps-open x0 = grind (arith, nat_tests)
 
@@ -367,7 +351,7 @@ module _ {N E B W : Type 0} (m : Seen N B W) (s s' : MachineState N E) (whole : 
   ]
     where
       shut-by : (r : EventReply N B W) → Happens m u (let e : Event N B W = Event.Call Call.Close in e) r u' → IsShut u'.core
-      shut-by (EventReply.CallReply (Reply.Done r)) c = closed-shut c.step.does
+      shut-by (EventReply.CallReply (Reply.Done r)) c = let l = c.step.does.falls.falls.leaves in (l.closed, l.stored)
       shut-by (EventReply.CallReply r) c = absurd c.step.does
       shut-by r c = absurd c
 

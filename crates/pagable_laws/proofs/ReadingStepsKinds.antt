@@ -1,8 +1,7 @@
 -- What a blob asks for next depends on no more of the references that were got than their kinds.
-use Rattle.pagable_laws.proofs.Words.{nat_tests, ◌≡◌, ℕ, suc, ◌+◌, List, [], ◌∷◌, ◌++◌, map, length, Result, refl, ap, inl, arith, Option, Some}
-use Rattle.pagable_laws.proofs.Words.{None, slice_get, Error, Rest, read_typed, Answer, answer_at, handles_at, ArcRef, Kind, Blob, Shape, Types, Meaning, answer_of, answers_from, Next, reads, asks}
-use Rattle.pagable_laws.proofs.{Words.{is_faulty, next_by, next_of, some_of, after_kinds}, Related.{Out, both-given, both-refused, first-refused, OutLook, both-looked-up, both-not, read_par}}
-use Rattle.pagable_laws.proofs.Along.{Along, AllTwo, no-two, more-two}
+use Rattle.pagable_laws.proofs.Words.{nat_tests, ◌≡◌, ℕ, suc, ◌+◌, List, [], ◌∷◌, ◌++◌, map, length, Result, refl, ap, inl, arith, Option, Some, None, slice_get, Error, Rest, read_typed, Answer}
+use Rattle.pagable_laws.proofs.Words.{answer_at, handles_at, ArcRef, Kind, Blob, Shape, Types, Meaning, answer_of, answers_from, Next, reads, asks, is_faulty, next_by, next_of, some_of, after_kinds}
+use Rattle.pagable_laws.proofs.{Related.{no_cause, Out, both-given, both-refused, first-refused, OutLook, both-looked-up, both-not, read_par}, Along.{Along, AllTwo, no-two, more-two}}
 use Rattle.std.proofs.Common.{rules}
 
 abbrev pub kinds_of : List ArcRef → List ℕ
@@ -19,10 +18,7 @@ itself (reads a) = both-read a a
 itself (asks kind key) = both-ask kind key
 itself (is_faulty e) = both-faulty e
 
--- no cause; any two references
-abbrev no_cause : Error → Type 0
-no_cause e = ⊥
-
+-- any two references
 abbrev AnyTwo : ArcRef → ArcRef → Type 0
 AnyTwo r q = Unit {0}
 

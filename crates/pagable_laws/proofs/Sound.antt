@@ -3,18 +3,15 @@
 use Rattle.pagable_laws.proofs.Words.{nat_tests, ◌≡◌, ℕ, suc, ◌+◌, ◌≤◌, true, List, [], ◌∷◌, length, Option, Some, sym, ap, subst, ◌∙◌, inl, inr, if◌then◌else◌, arith, slice_get, blob_of, Error}
 use Rattle.pagable_laws.proofs.Words.{ArcRef, Kind, Identity, Blob, Meaning, Tree, type_of, is_eager, above, longest_path, identity_of, Shelf, Written, Frame, Values, Next, reads, asks, is_faulty}
 use Rattle.pagable_laws.proofs.Words.{next_in, need_at, need_of, is_broken, IsPublished, MachineState, world_of, FramesFit, ReadsItsTypes, AreKeysOf, WorkFits, Needs, ◌==◌, Bool, false, ◌⊎◌, None}
-use Rattle.pagable_laws.proofs.Words.{Err, refl, Result, not, Want, Owner, HandleNumber, LoadNumber, NodeNumber, Types, is_loose_kind, if_there, any_mode, Core, OpenLoad, of_cell, Reading, Seen}
-use Rattle.pagable_laws.proofs.Words.{IsLawful, earlier, where_so, refused_if, spent, handle_fault, references_fault, load_fault, AreHandlesFull, Refused, FetchCall, birth_fault, AskCall}
-use Rattle.pagable_laws.proofs.Words.{LazyCall, ask_fault, is_known, node_fault, root_fault, needs_nested, needs_lazy, to_adopt, IsDecoded, RefusesBlob, RefusesNested, RefusesNode, RefusesRoot}
-use Rattle.pagable_laws.proofs.Words.{IsOfKey, EndsClosed, Fails, reading_at, IsMachineWhole, StandsFor, FitsRoot, of_caller, IsOfChance, IsPagedOutAs, IsLoadOfPagedOut, Ok, HandleRow, Mode}
-use Rattle.pagable_laws.proofs.Words.{LoadAnswer, LoadReply, Event, EventReply, or_else, row_fault, reference_fault, LoadSteps, Happens, IsOfHandles, LoadIsFaultless, FaultlessLaw, ◌<◌, Took}
-use Rattle.pagable_laws.proofs.Words.{owner_worker, Todo, Walking, named_fault, cell_fault, handles_of, after_kinds, LeadsDown, is-there, goes-down, ReadsTooDeep, IsReadingOf, of_worker}
-use Rattle.pagable_laws.proofs.Words.{LoadIsDeep, DeepLoadLaw, AllLow}
-use Rattle.pagable_laws.proofs.{Trees.same_some, Fitting.{asked, first-typed}}
-use Rattle.pagable_laws.proofs.{Apart.{IsFormOf, GotAsked, FramesAsked, NextOf, asks-known, all-read, next-known, all-got}, ReadingStepsKinds.{kinds_of, asks-by-kinds, faulty-by-kinds}}
-use Rattle.pagable_laws.proofs.{Sums.self-number, Taking.adopted-over, KnownSteps.{eager-nested}, Chains.IsGoingOn, Deeply.along-first, ReadingSteps.reading-stands}
-use Rattle.std.{proofs.Common.rules}
-use Rattle.pagable_world.specs.{Loads.Does}
+use Rattle.pagable_laws.proofs.Words.{Err, refl, Result, not, Want, Owner, HandleNumber, LoadNumber, NodeNumber, Types, if_there, any_mode, Core, OpenLoad, of_cell, Reading, Seen, IsLawful, earlier}
+use Rattle.pagable_laws.proofs.Words.{where_so, refused_if, spent, handle_fault, references_fault, load_fault, AreHandlesFull, Refused, FetchCall, AskCall, LazyCall, ask_fault, is_known, node_fault}
+use Rattle.pagable_laws.proofs.Words.{root_fault, needs_nested, needs_lazy, to_adopt, IsDecoded, RefusesBlob, RefusesNested, RefusesNode, RefusesRoot, IsOfKey, Fails, reading_at, IsMachineWhole}
+use Rattle.pagable_laws.proofs.Words.{StandsFor, FitsRoot, of_caller, IsOfChance, IsPagedOutAs, IsLoadOfPagedOut, Ok, HandleRow, Mode, LoadAnswer, LoadReply, Event, EventReply, or_else, row_fault}
+use Rattle.pagable_laws.proofs.Words.{reference_fault, LoadSteps, Happens, IsOfHandles, LoadIsFaultless, FaultlessLaw, ◌<◌, Took, owner_worker, Todo, Walking, named_fault, cell_fault, handles_of}
+use Rattle.pagable_laws.proofs.{Words.{after_kinds, LeadsDown, is-there, goes-down, ReadsTooDeep, IsReadingOf, of_worker, LoadIsDeep, DeepLoadLaw, AllLow}, Trees.same_some, Fitting.asked}
+use Rattle.pagable_laws.proofs.{Fitting.first-typed, Apart.{IsFormOf, GotAsked, FramesAsked, NextOf, asks-known, all-read, next-known, all-got}, ReadingStepsKinds.{kinds_of, asks-by-kinds}}
+use Rattle.pagable_laws.proofs.{ReadingStepsKinds.faulty-by-kinds, Sums.self-number, Taking.{adopted-over, eager-nested}, Chains.IsGoingOn, Deeply.along-first, ReadingSteps.reading-stands}
+use Rattle.{std.proofs.Common.rules, pagable_world.specs.Loads.Does}
 use Rattle.pagable_world.specs.Workers as workers
 
 -- ---- what a load reads of a key that a page-out has published: each blob is a form of a tree, asks for references whose keys are known, and lies within the path's limit
@@ -135,19 +132,13 @@ module _ {N E : Type 0} (v : Values N) (s : MachineState N E) (trees : ℕ → T
         let k = known-frame frame (identity_of a.r) a.below a.known right fits.is in
         let le = above-eager frame.kind.0 a.below u.height eager a.within in
         let le2 = u.left in
-        record { height = a.below; known = k; left = shorter a.below u.height (length rest) limit le le2 }
-      where
-        shorter : (b h n limit : ℕ) → b + 1 ≤ h → h + suc n ≤ limit + 1 → b + suc (suc n) ≤ limit + 1
-        shorter b h n limit le more = omega arith
+        record { height = a.below; known = k; left = omega (arith, le, le2) }
 
     -- what a load needs that reads it
     pub record Needed (frames : List Frame) (kind : Kind) (key : ℕ) : Type 0 where
       pub blob : Blob
       pub is : stored key ≡ Some blob
       pub short : is_eager kind.0 ≡ true → length frames ≤ longest_path
-
-    pub root-there : (blob : Blob) × (stored root_key ≡ Some blob)
-    root-there = let b = (fit.slots table i p.slot p.claimed).publishes root_key limit p.known in (_, b.2.is_stored)
 
     pub needed : (frames : List Frame) → FramesFit v.types stored trees root_key root_type frames → FramesAsked v.types frames → (kind : Kind) (key : ℕ) → Needs v.types frames kind key
         → Needed frames kind key
@@ -157,10 +148,7 @@ module _ {N E : Type 0} (v : Values N) (s : MachineState N E) (trees : ℕ → T
         let b = (fit.slots table (identity_of a.r) a.known.slot a.known.claimed).publishes key a.below a.known.known in
         let small = ((fit.slots table i p.slot p.claimed).publishes root_key limit p.known).2.within in
         let left = t.left in
-        record { blob = _; is = b.2.is_stored; short = λ eager. let le = above-eager kind.0 a.below t.height eager a.within in within a.below t.height (length (frame ∷ below)) limit le left small }
-      where
-        within : (b h n limit : ℕ) → b + 1 ≤ h → h + n ≤ limit + 1 → limit ≤ longest_path → n ≤ longest_path
-        within b h n limit le few small = omega arith
+        record { blob = _; is = b.2.is_stored; short = λ eager. let le = above-eager kind.0 a.below t.height eager a.within in omega (arith, le, left, small) }
     needed x0 fits got kind key x5 = grind (arith, nat_tests)
 
     -- the innermost blob is so, where it is read
@@ -192,20 +180,17 @@ Only P told = (e : Error) → told ≡ Some e → P e
 only-earlier : {P : Error → Type 0} (a b : Option Error) → Only P a → Only P b → Only P (earlier a b)
 only-earlier a b first second e is = elim (either a b e is) [ inl p ↦ first e p | inr q ↦ second e q ]
 
+only-if : (P : Error → Type 0) (b : Bool) (f : Error) → P f → Only P (refused_if b f)
+only-if P x0 f p e is = grind (arith, nat_tests)
+
+only-node : (P : Error → Type 0) (w : Core) (kind : Kind) (key : ℕ) → P Error.NumbersSpent → Only P (node_fault w kind key)
+only-node P w kind key p e is = grind (arith, nat_tests, only-if P, only-earlier {P = P})
+
 only-refused : {P : Error → Type 0} {cause before : Option Error} {full : Type 0} {w w' : Core} (e : Error) → Refused cause before full w e w' → Only P cause → P Error.OutOfMemory → P e
 only-refused {P} e r by memory = elim r.why [ inl is ↦ by e is | inr wanting ↦ subst P (sym wanting.0) memory ]
 
-chance-if : (b : Bool) (e : Error) → refused_if b Error.NumbersSpent ≡ Some e → IsOfChance e
-chance-if x0 e is = grind (arith, nat_tests)
-
-where-chance : (b : Bool) (n : ℕ) (e : Error) → where_so b (spent n) ≡ Some e → IsOfChance e
-where-chance x0 n e is = grind (arith, nat_tests, chance-if)
-
-birth-chance : (w : Core) (e : Error) → birth_fault w ≡ Some e → IsOfChance e
-birth-chance w = only-earlier (spent w.last.node) (spent w.last.handle) (chance-if _) (chance-if _)
-
-node-chance : (w : Core) (kind : Kind) (key : ℕ) (e : Error) → node_fault w kind key ≡ Some e → IsOfChance e
-node-chance w kind key e is = search (rules, chance-if, birth-chance)
+where-chance : (b : Bool) (n : ℕ) → Only IsOfChance (where_so b (spent n))
+where-chance x0 n e is = grind (arith, nat_tests, only-if IsOfChance)
 
 never : (b : Bool) (f e : Error) → b ≡ false → refused_if b f ≡ Some e → ⊥
 never _ f e is so = cc
@@ -283,16 +268,13 @@ module _ {N B W E : Type 0} (m : Seen N B W) (s : MachineState N E) (trees : ℕ
         ap (λ n. (trees n).type) out.of_node ∙ r.typed ∙ sym is-read.of_type
 
     found : (blob : Blob) × (w.stored load.key ≡ Some blob)
-    found = root-there v s trees fit readable out.t load.key reading.node_type out.i out.height out.known typed
+    found = let b = (fit.slots out.t out.i out.known.slot out.known.claimed).publishes load.key out.height out.known.known in (_, b.2.is_stored)
 
     abbrev C : Error → Type 0
     C e = Cause v w load reading e
 
     no-load-fault : (P : Error → Type 0) → Only P (load_fault w Owner.Caller reading.load)
     no-load-fault P e is = absurd (let f = ap (load_fault w Owner.Caller) is-read.number ∙ may in cc)
-
-    not-faulty : (e : Error) → need_of v.types reading.frames ≡ is_broken e → ⊥
-    not-faulty = not-broken v s trees fit readable out.t load.key reading.node_type out.i out.height out.known typed reading.frames is-read.fits is-read.asked
 
     need-there : (kind : Kind) (key : ℕ) → (need_of v.types reading.frames ≡ needs_nested kind key) ⊎ (need_of v.types reading.frames ≡ needs_lazy kind key)
         → (blob : Blob) × (w.stored key ≡ Some blob) × (is_eager kind.0 ≡ true → length reading.frames ≤ longest_path)
@@ -327,7 +309,7 @@ module _ {N B W E : Type 0} (m : Seen N B W) (s : MachineState N E) (trees : ℕ
     -- ---- the causes
 
     of-blob : (e : Error) → RefusesBlob v reading e → IsOfChance e
-    of-blob e (inl is) = absurd (not-faulty e is)
+    of-blob e (inl is) = absurd (not-broken v s trees fit readable out.t load.key reading.node_type out.i out.height out.known typed reading.frames is-read.fits is-read.asked e is)
     of-blob e (inr (inl (top, below, is, causes))) = (grind (arith, nat_tests))
     of-blob e (inr (inr memory)) = (subst IsOfChance (sym memory) tt)
 
@@ -337,7 +319,7 @@ module _ {N B W E : Type 0} (m : Seen N B W) (s : MachineState N E) (trees : ℕ
 
     of-lazy : (mid : Core) (e : Error) (kind : Kind) (key : ℕ) → need_of v.types reading.frames ≡ needs_lazy kind key → LazyCall w Owner.Caller reading.load kind key (Err e) mid → IsOfChance e
     of-lazy mid e kind key needs c = only-refused {P = IsOfChance} e c.refused
-        (only-earlier _ _ (no-load-fault _) (only-earlier _ _ (λ f so. absurd (never _ Error.WrongKind f (grind (arith, nat_tests)) so)) (node-chance w kind key))) tt
+        (only-earlier _ _ (no-load-fault _) (only-earlier _ _ (λ f so. absurd (never _ Error.WrongKind f (grind (arith, nat_tests)) so)) (only-node IsOfChance w kind key tt))) tt
 
     -- the blob that becomes a node is read through a reference that isn't loose, and is of its kind's type
     node-right : (top : Frame) (below : List Frame) → reading.frames ≡ top ∷ below → need_of v.types reading.frames ≡ to_adopt → (is_eager top.kind.0 ≡ true) × (top.node_type ≡ type_of top.kind.0)
@@ -350,7 +332,7 @@ module _ {N B W E : Type 0} (m : Seen N B W) (s : MachineState N E) (trees : ℕ
         only-refused {P = C} e r.adopted.refused.1 (only-earlier _ _ (no-load-fault _) (only-earlier _ _ (λ f so. absurd (never _ Error.WrongMode f (grind (arith, nat_tests)) so))
         (only-earlier _ _ (λ f so. absurd (never _ Error.WrongKind f (same-type (v.node_type r.x) (type_of n.top.kind.0) (n.decoded.typed ∙ right.1)) so))
         (only-earlier _ _ (λ f a. by-references n.top n.below r.x n.frames n.decoded (form-of n.top n.below n.frames r.x n.decoded) a)
-        (λ f a. by-chance (node-chance w n.top.kind n.top.key f a)))))) (by-chance tt)
+        (λ f a. by-chance (only-node IsOfChance w n.top.kind n.top.key tt f a)))))) (by-chance tt)
 
     of-root : (mid : Core) (e : Error) → RefusesRoot v w Owner.Caller reading e mid → C e
     of-root mid e r = elim r.refuses [
@@ -365,14 +347,11 @@ module _ {N B W E : Type 0} (m : Seen N B W) (s : MachineState N E) (trees : ℕ
         root-chance : (r : RefusesRoot v w Owner.Caller reading e mid) → Only IsOfChance (if_there (λ (x : OpenLoad). root_fault w Owner.Caller (v.node_type r.x) x.root) None (w.loads reading.load.0))
         root-chance r f is = grind (arith, nat_tests, is-read, either, never, same-type, last-type, where-chance)
 
-    of-end : (w' : Core) (e : Error) → EndsClosed v w Owner.Caller reading e w' → C e
-    of-end w' e r =
+    pub cause : (w' : Core) (e : Error) → Fails v w Owner.Caller reading e w' → C e
+    cause w' e (inr r) =
         let c = r.ended.refused in
         let same : c.may.load ≡ load = same_some _ _ (sym c.may.owned.stands_open ∙ (ap (λ (x : LoadNumber). w.loads x.0) is-read.number ∙ open_load)) in
         by-handle c.node (v.node_type r.x) c.h (ap (λ (x : OpenLoad). x.root) (sym same) ∙ c.may.of_node) c.why
-
-    pub cause : (w' : Core) (e : Error) → Fails v w Owner.Caller reading e w' → C e
-    cause w' e (inr ended) = of-end w' e ended
     cause w' e (inl gives) = elim gives.meets [
       | inl (refuses, a) ↦ by-chance (of-blob e refuses)
       | inr (inl (first, asked)) ↦ by-chance (grind (arith, nat_tests, ask-chance, same_some, is-read, vain-chance, found))
@@ -427,34 +406,22 @@ faultless_law E m start moments trees whole idle chain stands lawful readable se
 
 -- ---- what isn't refused as too deep
 
-abbrev No : Option Error → Type 0
-No c = c ≡ Some Error.TooDeep → ⊥
+abbrev NotDeep : Error → Type 0
+NotDeep e = e ≡ Error.TooDeep → ⊥
 
-no-earlier : (a b : Option Error) → No a → No b → No (earlier a b)
-no-earlier a b x y is = elim (either a b Error.TooDeep is) [ inl p ↦ x p | inr q ↦ y q ]
+only-load : (w : Core) (me : Owner) (l : LoadNumber) → Only NotDeep (load_fault w me l)
+only-load w me l e is deep = grind (arith, nat_tests)
 
-no-test : (b : Bool) (f : Error) → (Some f ≡ Some Error.TooDeep → ⊥) → No (refused_if b f)
-no-test x0 f x is = grind (arith, nat_tests)
-
-no-spent : (n : ℕ) → No (spent n)
-no-spent n = no-test _ Error.NumbersSpent (λ e. cc)
-
-no-load : (w : Core) (me : Owner) (l : LoadNumber) → No (load_fault w me l)
-no-load w me l is = grind (arith, no-test)
-
-no-node : (w : Core) (kind : Kind) (key : ℕ) → No (node_fault w kind key)
-no-node w kind key is = grind (arith, no-spent, no-earlier)
-
-no-named : (w : Core) (owner : Owner) (seen : List ℕ) (hs : List HandleNumber) → No (named_fault w owner seen hs)
+only-named : (w : Core) (owner : Owner) (seen : List ℕ) (hs : List HandleNumber) → Only NotDeep (named_fault w owner seen hs)
 unfolding named_fault
-no-named w owner seen [] is = cc
-no-named w owner seen (h ∷ hs) is = grind (arith, nat_tests, no-earlier, no-test, no-named w owner (h.0 ∷ seen) hs)
+only-named v owner seen [] e is deep = cc
+only-named v owner seen (h ∷ hs) e is deep = only-earlier {P = NotDeep} _ _ (λ f so deep. grind (arith, nat_tests)) (only-named v owner (h.0 ∷ seen) hs) e is deep
 
-no-cell : (found : Option OpenLoad) → No (if_there (λ (load : OpenLoad). cell_fault load.root) None found)
-no-cell x0 is = grind (arith, nat_tests)
+only-cell : (found : Option OpenLoad) → Only NotDeep (if_there (λ (load : OpenLoad). cell_fault load.root) None found)
+only-cell x0 e is deep = grind (arith, nat_tests)
 
-not-refused : {cause before : Option Error} {full : Type 0} {w w' : Core} → Refused cause before full w Error.TooDeep w' → No cause → ⊥
-not-refused r none = elim r.why [ inl is ↦ none is | inr memory ↦ absurd (let e = memory.0 in cc) ]
+not-refused : {cause before : Option Error} {full : Type 0} {w w' : Core} → Refused cause before full w Error.TooDeep w' → Only NotDeep cause → ⊥
+not-refused r none = only-refused {P = NotDeep} Error.TooDeep r none (λ e. absurd (cc)) refl
 
 -- ---- a path down
 
@@ -502,17 +469,20 @@ module _ {N B W : Type 0} (m : Seen N B W) (lawful : IsLawful m.values) (w : Cor
   Deep = ReadsTooDeep m.values.types w.stored root_type root_key
 
   not-asked : (want : Want) (u : Core) → AskCall w me reading.load want (Err Error.TooDeep) u → ⊥
-  not-asked want u c = grind (arith, not-refused, no-earlier, no-load, no-spent)
+  not-asked want u c = grind (arith, not-refused, only-earlier {P = NotDeep}, only-load, only-if NotDeep)
 
   nested-deep : (u : Core) → RefusesNested m.values.types w me reading Error.TooDeep u → Deep
   nested-deep u x1 = grind (arith, nat_tests, not-asked, of-path)
 
+  by-references-not : (x : N) → Only NotDeep (references_fault w (Owner.Load reading.load) [] (m.values.references x))
+  by-references-not x e is deep = subst IsOfHandles deep (by-all w (Owner.Load reading.load) [] (m.values.references x) e is)
+
   root-not : (u : Core) → RefusesRoot m.values w me reading Error.TooDeep u → ⊥
   root-not u r = elim r.refuses [
-    | inl (is, ended) ↦ not-refused ended.refused.1 (no-earlier _ _ (no-load w me reading.load) (no-earlier _ _ (grind (arith, nat_tests, no-earlier, no-test, no-spent)) (λ f. by-all w
-        (Owner.Load reading.load) [] (m.values.references r.x) Error.TooDeep f)))
-    | inr (is, handed) ↦ no-earlier _ _ (no-load w me reading.load) (no-earlier _ _ (no-cell (w.loads reading.load.0)) (no-named w (Owner.Load reading.load) [] (handles_of
-        (m.values.references r.x)))) handed.refused.0
+    | inl (is, ended) ↦ not-refused ended.refused.1 (only-earlier _ _ (only-load w me reading.load)
+        (only-earlier _ _ (λ e is deep. grind (arith, nat_tests, only-earlier {P = NotDeep}, only-if NotDeep)) (by-references-not r.x)))
+    | inr (is, handed) ↦ only-earlier {P = NotDeep} _ _ (only-load w me reading.load) (only-earlier _ _ (only-cell (w.loads reading.load.0)) (only-named w (Owner.Load reading.load) [] (handles_of
+        (m.values.references r.x)))) Error.TooDeep handed.refused.0 refl
   ]
 
   pub fails-deep : (w' : Core) → Fails m.values w me reading Error.TooDeep w' → Deep
@@ -522,11 +492,11 @@ module _ {N B W : Type 0} (m : Seen N B W) (lawful : IsLawful m.values) (w : Cor
     | inr (inl (first, c)) ↦ absurd (not-asked Want.Root gives.mid c)
     | inr (inr (inl nested)) ↦ nested-deep gives.mid nested
     | inr (inr (inr (inl (kind, key, needs, c)))) ↦
-        absurd (not-refused c.refused (no-earlier _ _ (no-load w me reading.load) (no-earlier _ _ (no-test (not (is_loose_kind kind.0)) Error.WrongKind (λ e. cc)) (no-node w kind key))))
+        absurd (not-refused c.refused (only-earlier _ _ (only-load w me reading.load) (only-earlier _ _ (only-if NotDeep _ Error.WrongKind (λ e. cc)) (only-node NotDeep w kind key (λ e. cc)))))
     | inr (inr (inr (inr (inl node)))) ↦
-        absurd (not-refused node.adopted.refused.1 (no-earlier _ _ (no-load w me reading.load) (no-earlier _ _ (no-test _ Error.WrongMode (λ e. cc))
-        (no-earlier _ _ (no-test _ Error.WrongKind (λ e. cc)) (no-earlier _ _ (λ f. by-all w (Owner.Load reading.load) [] (m.values.references node.x) Error.TooDeep f)
-        (no-node w node.reads_node.top.kind node.reads_node.top.key))))))
+        absurd (not-refused node.adopted.refused.1 (only-earlier _ _ (only-load w me reading.load) (only-earlier _ _ (only-if NotDeep _ Error.WrongMode (λ e. cc))
+        (only-earlier _ _ (only-if NotDeep _ Error.WrongKind (λ e. cc))
+        (only-earlier _ _ (by-references-not node.x) (only-node NotDeep w node.reads_node.top.kind node.reads_node.top.key (λ e. cc)))))))
     | inr (inr (inr (inr (inr root)))) ↦ absurd (root-not gives.mid root)
   ]
 

@@ -5,7 +5,7 @@ use Rattle.pagable_laws.proofs.Words.{◌≡◌, ℕ, ◌<◌, ◌≤◌, ◌==�
 use Rattle.pagable_laws.proofs.Words.{Error, Among, one, zero, suc, ◌+◌, Owner, HandleNumber, HandleRow, Core, find_row, is_handle, is_owned_by, owner_worker, OwnersAreThere, Event, EventReply, Happens}
 use Rattle.pagable_laws.proofs.Words.{KeepsOpen, LeavesCache, nothing_felt, ReleaseCall, Seen, Site, Took, WorkerAnswer, World, step_of, HandlesAreWhole, IsWhole, Ends}
 use Rattle.pagable_laws.proofs.{Effects.{Effect, IsOther, list-apart, Lasts}, ReadingSteps.{event-goes, walk-goes, ends-spare}, Called.releases, GoodReferences.same-owner, Goes.found-number}
-use Rattle.pagable_laws.proofs.{Outlasting.{stands-whole, among-found, none-found, once}, Following.handles-once, Sums.{same-number, self-number, at-most-sum, counted, one-true, sum-le}}
+use Rattle.pagable_laws.proofs.{Outlasting.{stands-whole, among-found, none-found, once}, Following.{handles-once, one-less}, Sums.{same-number, self-number, at-most-sum, counted, one-true, sum-le}}
 use Rattle.pagable_world.specs.Workers as workers
 
 pub event-spares : {N B W : Type 0} (m : Seen N B W) (v : ℕ) (u u' : World) → OwnersAreThere u.core → (event : Event N B W) (reply : EventReply N B W) → step_of v event reply ≡ [] → KeepsOpen event
@@ -87,10 +87,6 @@ none-shorter {w} {w'} whole whole' spares = fewer w.list w'.list (λ q. each q (
     own : ℕ → HandleRow → Bool
     own q h = is_handle q h && is_owned_by Owner.List h
 
-    less : (a b : Bool) → one (a && b) ≤ one a
-    less true b = grind (arith, nat_tests)
-    less false b = omega arith
-
     each : (q n : ℕ) → times (own q) w.rows ≡ n → times (has q) w.list ≤ times (has q) w'.list
     each q zero e = let a = whole.owners_there.listed q in omega (arith, a, e)
     each q (suc n) e =
@@ -100,7 +96,7 @@ none-shorter {w} {w'} whole whole' spares = fewer w.list w'.list (λ q. each q (
         let s = spares.each q x.0 mine (stands-whole whole.handles q x.0 (found whole.handles q x.0 x.1 (same-number _ _ both.0))) in
         let there = at-most-sum (λ h. one (own q h)) w'.rows x.0 (among-found q w'.rows x.0 s.live) in
         let few = handles-once whole.handles q in
-        let le = sum-le (λ h. one (own q h)) (λ h. one (is_handle q h)) w.rows (λ h among. less (is_handle q h) (is_owned_by Owner.List h)) in
+        let le = sum-le (λ h. one (own q h)) (λ h. one (is_handle q h)) w.rows (λ h among. one-less (is_handle q h) (is_owned_by Owner.List h)) in
         let a = whole.owners_there.listed q in
         let b = whole'.owners_there.listed q in
         let c = x.2 in

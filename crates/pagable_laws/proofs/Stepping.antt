@@ -4,13 +4,12 @@ use Rattle.pagable_laws.proofs.Words.{number-followed, integer-followed, text-fo
 use Rattle.pagable_laws.proofs.Words.{Meaning, Tree, Among, if_there, identity_of, Shelf, Slot, failed, Written, Todo, to_finish, Task, Values, IsPublished, is_open_outcome, with_outcome, with_failed}
 use Rattle.pagable_laws.proofs.Words.{AreKeysOf, Ground, FollowsTo, number-follows, integer-follows, text-follows, pattern-follows, none-follows, pair-follows, variant-follows, reference-follows}
 use Rattle.pagable_laws.proofs.Words.{WroteTree, KeyStands, BlobStands, SlotFits, KeysSoFar, Waits, Above, HasBlob, Walks, SlotsFit, ◌==◌, true, ◌++◌, length, Ok, drop, blob_of, HandleNumber, type_of}
-use Rattle.pagable_laws.proofs.Words.{Claim, Took, no_result, published, Open, Fault, to_start, to_pin, to_write, to_item, to_set, to_publish, to_release, to_fail, Seen, digest, Stores, Site, Does}
+use Rattle.pagable_laws.proofs.Words.{Claim, Took, no_result, published, Open, Fault, to_start, to_write, to_item, to_set, to_publish, to_release, to_fail, Seen, digest, Stores, Site, Does}
 use Rattle.pagable_laws.proofs.Words.{claim_fault, next_start, give, give_known, open_node, with_wait, answer_after, Expects, Event, EventReply, of_item, of_entry, IsLawful, first_todo, Ends, step_of}
-use Rattle.pagable_laws.proofs.Words.{PagerState, MachineState, world_of, IsMachineWhole, IsIdle, Represents, TookWrites, ReplyWrites, HoldsSettled, ReadsItsTypes, ground_of, WorkFits}
-use Rattle.pagable_laws.proofs.{Standing.{ShelfGrows, some-same, published-stays, PutsSlot, put-cases, puts-slot, changes-slot, HasClaim, AllStand}, Following.{IdentityStands, key-stands, wrote}}
-use Rattle.pagable_laws.proofs.Coming.{StandsIn, EventTurns, same-grow, turns-grow, turns-keep}
+use Rattle.pagable_laws.proofs.Words.{PagerState, MachineState, world_of, IsMachineWhole, IsIdle, Represents, TookWrites, ReplyWrites, HoldsSettled, ReadsItsTypes, ground_of, WorkFits, IsDone, AllLow}
+use Rattle.pagable_laws.proofs.{Words.{IsLow, IsAttained, Placed, HasRoom, is_eager, longest_path, max, above, suc, ◌+◌}, Standing.{ShelfGrows, some-same, published-stays, PutsSlot, put-cases}}
+use Rattle.pagable_laws.proofs.{Standing.{puts-slot, changes-slot, HasClaim, AllStand}, Following.{IdentityStands, key-stands, wrote}, Coming.{StandsIn, EventTurns, same-grow, turns-grow, turns-keep}}
 use Rattle.std.proofs.Common.{rules}
-use Rattle.pagable_laws.proofs.Words.{IsDone, AllLow, IsLow, IsAttained, Placed, HasRoom, is_eager, longest_path, max, above, suc, ◌+◌}
 
 -- ---- what is stored stays, and each node keeps its tree
 
@@ -102,8 +101,7 @@ module _ {shelf shelf' : Shelf} (more : ShelfGrows shelf shelf') where
 module _ (shelf shelf' : Shelf) (more : ShelfGrows shelf shelf') where
   pub wait-on : (task : Task) (todo : List Todo) → Waits shelf task todo → Waits shelf' task todo
   unfolding Waits
-  wait-on task (to_finish o ∷ below) (known, attained, place, reach, expects, waits) =
-      (so-far-on (keys-grow more) _ _ _ known, attained-on (keys-grow more) _ _ attained, place, reach, expects, wait-on task below waits)
+  wait-on task (to_finish o ∷ below) (known, attained, place, reach, expects, waits) = grind (arith, nat_tests, so-far-on, keys-grow, attained-on, wait-on task below waits)
   wait-on task x1 x2 = grind (arith, nat_tests, so-far-on, keys-grow, longest_path)
 
   pub above-on : (task : Task) (r : ArcRef) (below : List Todo) → Above shelf task r below → Above shelf' task r below
@@ -153,9 +151,7 @@ module _ (shelf : Shelf) where
   unfolding KeysSoFar
   so-far-more h k [] [] r more key below le new e known p = absurd (cc)
   so-far-more h k [] (x ∷ ks) r more key below le new e known p = absurd known
-  so-far-more h k (x ∷ rs) [] r more key below le new e known p =
-      let same : r ≡ x = cc in
-      ((below, subst (λ (z : ArcRef). IsPublished shelf (identity_of z) key below) same p, subst (λ (z : ArcRef). above z.kind.0 below ≤ k) same new), tt)
+  so-far-more h k (x ∷ rs) [] r more key below le new e known p = grind (arith, nat_tests, identity_of, above)
   so-far-more h k (x ∷ rs) (y ∷ ks) r more key below le new e ((b, q, few), known) p = ((b, q, omega arith), so-far-more h k rs ks r more key below le new e known p)
 
   -- all keys are known
@@ -283,19 +279,6 @@ module _ {N B W : Type 0} (m : Seen N B W) (n : ℕ) {g g' : Ground} (task : Tas
   abbrev Puts : ArcRef → Slot → Type 0
   Puts r slot = PutsSlot s.shelf.slots s'.shelf.slots (identity_of r) slot
 
-  claimed : (r : ArcRef) (place : ℕ) (below : List Todo) → claim_fault s.core r ≡ None → Puts r (record { worker = n; written = None; outcome = no_result }) → Placed s.shelf task r place below
-      → s'.todo ≡ to_pin r place ∷ below → Fits
-  claimed r place below may puts (at, few, above) e =
-      let ok = claimable r may in
-      let fits_new : SlotFits m.values g' s'.shelf (identity_of r) (record { worker = n; written = None; outcome = no_result }) =
-      record {
-        given = let le = ok.0 in let more = goes.last in omega arith;
-        typed = ap (λ (t : Tree). t.type) (goes.trees r.node.0 ok.0) ∙ ok.1;
-        writes = λ w there. absurd (cc);
-        publishes = λ key height known. absurd (cc);
-      } in
-      did (slots-but goes more fits puts fits_new) e (at, few, still r below above)
-
   writes : (r : ArcRef) (place : ℕ) (through : HandleNumber) (below : List Todo) (written : Written) (claim : HasClaim s.shelf n (identity_of r) (λ w. w ≡ None))
       → WroteTree m.values.types g r.node.0 written
       → Puts r (record claim.slot { written = Some written }) → Placed s.shelf task r place below → s'.todo ≡ open_node r place through written below → Fits
@@ -315,25 +298,6 @@ module _ {N B W : Type 0} (m : Seen N B W) (n : ℕ) {g g' : Ground} (task : Tas
       (started-node m.values g' s'.shelf task (record { reference = r; place = place; through = through; written = written; keys = []; height = 0 }) below _ refl
       (tt, inl refl, at, omega arith, a.0, a.1))
 
-  publishes : (r : ArcRef) (key height : ℕ) (below : List Todo) (blob : HasBlob m.values g s.shelf r key height) → Puts r (record blob.slot { outcome = published key height })
-      → HasRoom r height below → Above s.shelf task r below → s'.todo ≡ to_release r key height ∷ below → Fits
-  publishes r key height below blob puts reach above e =
-      let fit = fits (identity_of r) blob.slot blob.claimed in
-      let on : SlotFits m.values g' s'.shelf (identity_of r) blob.slot = slot-on m.values goes (keys-grow more) fit in
-      let fits_new : SlotFits m.values g' s'.shelf (identity_of r) (record blob.slot { outcome = published key height }) =
-      record {
-        given = on.given;
-        typed = on.typed;
-        writes = on.writes;
-        publishes = λ k h known. let same : key ≡ k = cc in let equal : height ≡ h = cc in (
-          blob.written,
-          blob.wrote,
-          subst (λ x. BlobStands m.values g' s'.shelf r.node.0 blob.written k x) equal
-              (subst (λ z. BlobStands m.values g' s'.shelf r.node.0 blob.written z height) same (blob-on m.values goes (keys-grow more) fit.given blob.stands)),
-        );
-      } in
-      did (slots-but goes more fits puts fits_new) e (record { slot = record blob.slot { outcome = published key height }; claimed = puts.at; known = refl }, reach, still r below above)
-
   stored-so : (key : ℕ) (b : Blob) → Stores s.core key b s'.core → s'.core.stored key ≡ Some b
   stored-so key b h = let e : (key == key) ≡ true = grind (arith, nat_tests) in h.adds.each key ∙ ap (λ t. if t then Some b else s.core.stored key) e
 
@@ -343,8 +307,15 @@ module _ {N B W : Type 0} (m : Seen N B W) (n : ℕ) {g g' : Ground} (task : Tas
     unfolding AllStand
     stepped (to_start r place ∷ below) e (Took.Claim i (Ok Claim.Claimed)) st (is, c) all (at, above) =
         let t = c.finds.1.2 in
-        claimed r place below c.finds.0 (puts-slot (with_wait s.shelf n None) s'.shelf (identity_of r) (record { worker = n; written = None; outcome = no_result }) t.table_is)
-        (at, c.finds.1.0, above) t.list_is
+        let ok = claimable r c.finds.0 in
+        let new : Slot = record { worker = n; written = None; outcome = no_result } in
+        let fits_new : SlotFits m.values g' s'.shelf (identity_of r) new = record {
+          given = let le = ok.0 in let more = goes.last in omega arith;
+          typed = ap (λ (t : Tree). t.type) (goes.trees r.node.0 ok.0) ∙ ok.1;
+          writes = λ w there. absurd (cc);
+          publishes = λ key height known. absurd (cc);
+        } in
+        did (slots-but goes more fits (puts-slot (with_wait s.shelf n None) s'.shelf (identity_of r) new t.table_is) fits_new) t.list_is (at, c.finds.1.0, still r below above)
     stepped (to_start r place ∷ below) e (Took.Claim i (Ok (Claim.Known key height))) st (is, c) all (at, above) =
         let t = c.finds.1.2 in let a = still r below above in
         did (kept (λ j. t.table_is.slots j)) t.list_is
@@ -359,19 +330,28 @@ module _ {N B W : Type 0} (m : Seen N B W) (n : ℕ) {g g' : Ground} (task : Tas
         let t = p.goes in did (kept t.table_stays.slots) t.list_is (has-blob-on goes more fits blob, reach, still r below above)
     stepped (to_publish r key height ∷ below) e (Took.Publish i k h) st (is, same_key, same_height, t) (stands, apart, all) (blob, reach, above) =
         let claim = stands.1 in
-        let still : blob.slot.outcome ≡ no_result = ap (λ (z : Slot). z.outcome) (some-same blob.claimed claim.claimed) ∙ claim.no_result_yet in
-        let new : with_outcome (published key height) blob.slot ≡ record blob.slot { outcome = published key height } = rw still refl in
-        let puts = changes-slot s.shelf s'.shelf (identity_of r) blob.slot (with_outcome (published key height)) blob.claimed t.table_is in
-        publishes r key height below blob (subst (λ z. Puts r z) new puts) reach above t.list_is
+        let no_result_yet : blob.slot.outcome ≡ no_result = ap (λ (z : Slot). z.outcome) (some-same blob.claimed claim.claimed) ∙ claim.no_result_yet in
+        let new : with_outcome (published key height) blob.slot ≡ record blob.slot { outcome = published key height } = rw no_result_yet refl in
+        let puts : Puts r (record blob.slot { outcome = published key height }) =
+        subst (λ z. Puts r z) new (changes-slot s.shelf s'.shelf (identity_of r) blob.slot (with_outcome (published key height)) blob.claimed t.table_is) in
+        let fit = fits (identity_of r) blob.slot blob.claimed in
+        let on : SlotFits m.values g' s'.shelf (identity_of r) blob.slot = slot-on m.values goes (keys-grow more) fit in
+        let fits_new : SlotFits m.values g' s'.shelf (identity_of r) (record blob.slot { outcome = published key height }) = record {
+          given = on.given;
+          typed = on.typed;
+          writes = on.writes;
+          publishes = λ k h known. let same : key ≡ k = cc in let equal : height ≡ h = cc in (
+            blob.written,
+            blob.wrote,
+            subst (λ x. BlobStands m.values g' s'.shelf r.node.0 blob.written k x) equal
+                (subst (λ z. BlobStands m.values g' s'.shelf r.node.0 blob.written z height) same (blob-on m.values goes (keys-grow more) fit.given blob.stands)),
+          );
+        } in
+        did (slots-but goes more fits puts fits_new) t.list_is (record { slot = record blob.slot { outcome = published key height }; claimed = puts.at; known = refl }, reach, still r below above)
     stepped (to_release r key height ∷ below) e (Took.Release i) st (is, falls, t) all (p, reach, above) =
         let a = still r below above in did (kept t.table_stays.slots) t.list_is (given m.values g' s'.shelf task r key height (keys-grow more _ _ _ p) below reach a.0 a.1)
     stepped (to_fail fault back ∷ below) e Took.Fail st (gives, same, list_is) all walks = did (slots-failed goes more fits n same.slots) list_is tt
     stepped _ e step st does all walks = grind (arith, nat_tests, fails, did, kept, still, finishes, stored-so, given-known, given, keys-grow, has-blob-on, slots-failed)
-
-  -- a step leaves what fits
-  pub walk-steps : (step : Took W) → Does m n s s.todo step s' → ((i : Identity) (out : W) → step ≡ Took.Write i (Ok out) → WroteTree m.values.types g i.node.0 (m.written_of out))
-      → (answer_after s.todo step ≡ None → (key : ℕ) (b : Blob) → s'.core.stored key ≡ Some b → g'.stored key ≡ Some b) → AllStand s.shelf n task s.todo → Walks m.values g s.shelf task s.todo → Fits
-  walk-steps step does wrote ends all walks = stepped step wrote ends s.todo refl step refl does all walks
 
 -- Page-outs by trees: what tables and workers hold fits at first and after each event.
 
@@ -396,10 +376,6 @@ module _ {N B W E : Type 0} (m : Seen N B W) (s s' : MachineState N E) (trees tr
   claimable : (r : ArcRef) → claim_fault s.pager.core r ≡ None → (r.node.0 ≤ s.pager.core.last.node) × ((trees r.node.0).type ≡ type_of r.kind.0)
   claimable r may = grind (arith, nat_tests)
 
-  wrote-it : (taken : Took W) → TookWrites m.values m.written_of s.pager taken → (i : Identity) (out : W) → taken ≡ Took.Write i (Ok out)
-      → WroteTree m.values.types (ground_of s trees) i.node.0 (m.written_of out)
-  wrote-it taken writes i out is = wrote represents whole.pager settled reads lawful i.node.0 (m.written_of out) (subst (λ (t : Took W). TookWrites m.values m.written_of s.pager t) is writes)
-
   starts-well : (shelf : Shelf) (task : Task) → Walks m.values g' shelf task (first_todo task)
   unfolding Waits KeysSoFar
   starts-well shelf (of_item written) = started-item m.values g' shelf (of_item written) written [] [] _ refl (refl, tt)
@@ -416,7 +392,9 @@ module _ {N B W E : Type 0} (m : Seen N B W) (s s' : MachineState N E) (trees tr
       (λ k r w one more.
       let ends : answer_after w.walking.todo r.took ≡ None → (key : ℕ) (b : Blob) → w.after.core.stored key ≡ Some b → s'.pager.core.stored key ≡ Some b =
       λ none key b is. (let e = subst (λ a. Ends a k.0 w.after.core s'.pager.core) (w.answers ∙ none) w.ends in e.stored key ∙ is) in
-      let d = walk-steps m k.0 w.walking.task (record { core = s.pager.core; shelf = s.work.shelves w.walking.table; todo = w.walking.todo }) w.after goes more (fit.slots w.walking.table) claimable
-      r.took w.does.does (wrote-it r.took (took-writes m s.pager turns.who event reply r.took one writes)) ends (work.workers k.0 w.walking w.at).all (fit.walks k.0 w.walking w.at) in
+      let d = stepped m k.0 w.walking.task (record { core = s.pager.core; shelf = s.work.shelves w.walking.table; todo = w.walking.todo }) w.after goes more (fit.slots w.walking.table) claimable
+      r.took (λ i out is. wrote represents whole.pager settled reads lawful i.node.0 (m.written_of out)
+      (subst (λ (t : Took W). TookWrites m.values m.written_of s.pager t) is (took-writes m s.pager turns.who event reply r.took one writes)))
+      ends w.walking.todo refl r.took refl w.does.does (work.workers k.0 w.walking w.at).all (fit.walks k.0 w.walking w.at) in
       (d.slots, d.walks)) in
       record { slots = h.slots; walks = h.walks }

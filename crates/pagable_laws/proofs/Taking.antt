@@ -1,14 +1,12 @@
 -- What a load has read fits after its step; and a node whose value is in memory gives its tree, as does what a load of a key answers.
-use Rattle.pagable_laws.proofs.Words.{◌≡◌, ℕ, suc, ◌+◌, ◌<◌, ◌≤◌, true, List, [], ◌∷◌, Option, Some, None, inr, refl, sym, ◌∙◌, subst, arith, is_some, nat_lt, nat_tests, HandleRow}
-use Rattle.pagable_laws.proofs.Words.{Owner, OptionalDataKey, ArcRef, Kind, HandleNumber, Blob, Types, Tree, ReadsTree, type_of, Among, one, is_at, is_pin, is_pinning, held, pins, Core, OpenLoad}
-use Rattle.pagable_laws.proofs.Words.{Frame, Reading, row_at, Values, IsLawful, IsReference, Next, need_at, to_adopt, ReadsRoot, ReadsNode, root_frame, nested_frame, with_got, PagerState}
-use Rattle.pagable_laws.proofs.Words.{HandlesAreWhole, IsWhole, WellFormed, NodeStands, ValueStands, ReadsNodeTree, FramesFit, SameTrees, Represents, ReadsItsTypes, GivesTree, ReadIsRight, Change}
-use Rattle.pagable_laws.proofs.Words.{bears_known, CoreGoes, ReadingFeels, reads-root, reads-blob, gets-known, gets-lazy, makes-known, makes-node, reading-ends, Decoded, FramesGiven}
-use Rattle.pagable_laws.proofs.{Fitting.{node-stays, first-fits, first-typed, frames-stay, all-none, all-new, all-more, made-fits, needed-fits, nested-fits, root-fits}}
-use Rattle.pagable_laws.proofs.Decoding.{decodes, read_stands}
-use Rattle.pagable_laws.proofs.Words.{ap, inl, gone_on, GetsRow, GotStands, FramesHeld, LoadNumber, ReadingFits, ChangeFits, Needs}
-use Rattle.pagable_laws.proofs.{Apart.FramesAsked, KnownSteps.{needed-asked, nested-asked, made-asked, none-asked, root-asked}}
-use Rattle.pagable_laws.proofs.{Following.{cell-of, given-of}, Outlasting.among-found, Sums.{at-most-sum, self-number}, Trees.same_some}
+use Rattle.pagable_laws.proofs.Words.{◌≡◌, ℕ, suc, ◌+◌, ◌<◌, ◌≤◌, true, List, [], ◌∷◌, Option, Some, None, inr, refl, sym, ◌∙◌, subst, arith, is_some, nat_lt, nat_tests, HandleRow, Owner}
+use Rattle.pagable_laws.proofs.Words.{OptionalDataKey, ArcRef, Kind, HandleNumber, Blob, Types, Tree, ReadsTree, type_of, Among, one, is_at, is_pin, is_pinning, held, pins, Core, OpenLoad, Frame}
+use Rattle.pagable_laws.proofs.Words.{Reading, row_at, Values, IsLawful, IsReference, Next, need_at, to_adopt, ReadsRoot, ReadsNode, root_frame, nested_frame, with_got, PagerState, HandlesAreWhole}
+use Rattle.pagable_laws.proofs.Words.{IsWhole, WellFormed, NodeStands, ValueStands, ReadsNodeTree, FramesFit, SameTrees, Represents, ReadsItsTypes, GivesTree, ReadIsRight, Change, bears_known}
+use Rattle.pagable_laws.proofs.Words.{CoreGoes, ReadingFeels, reads-root, reads-blob, gets-known, gets-lazy, makes-known, makes-node, reading-ends, Decoded, FramesGiven, ap, inl, gone_on, GetsRow}
+use Rattle.pagable_laws.proofs.{Words.{GotStands, FramesHeld, LoadNumber, ReadingFits, ChangeFits, Needs, is_eager, asks, next_in, need_of, needs_nested}, Fitting.{node-stays, first-fits}}
+use Rattle.pagable_laws.proofs.{Fitting.{first-typed, frames-stay, all-none, all-new, all-more, made-fits, needed-fits, nested-fits, root-fits, asked}, Decoding.{decodes, read_stands}, Apart.none-got}
+use Rattle.pagable_laws.proofs.{Apart.{one-got, FramesAsked}, Following.{cell-of, given-of}, Outlasting.among-found, Sums.{at-most-sum, self-number}, Trees.same_some}
 
 -- ---- a live handle's node
 
@@ -48,6 +46,41 @@ pin_stands s trees k row whole represents live pinning =
     let x = some-value (s.values row.node.0) there in
     record { row = row; x = x.0; live = live; held = x.1; stands = stands-here (represents.stands row.node.0 held_there) x.1 }
 
+-- ---- what a load has got is what its blobs asked for, and goes on to be so
+
+-- what is read together with a value is asked for through a reference that isn't loose
+pub eager-nested : (below : List Frame) (next : Next) (kind : Kind) (key : ℕ) → need_at below next ≡ needs_nested kind key → is_eager kind.0 ≡ true
+eager-nested x0 x1 kind key is = grind (arith, nat_tests)
+
+module _ (types : Types) where
+  -- one more reference was got that the innermost blob asked for
+  with-asked : (frame : Frame) (below : List Frame) (kind : Kind) (key : ℕ) (row : HandleRow) → FramesAsked types (frame ∷ below) → next_in types frame ≡ asks kind key
+      → FramesAsked types (with_got kind row (frame ∷ below))
+  unfolding FramesAsked
+  with-asked frame [] kind key row got next = one-got frame.got _ _ key got next refl
+  with-asked frame (under ∷ rest) kind key row (got, eager, asked_below, more) next = (one-got frame.got _ _ key got next refl, eager, asked_below, more)
+
+  pub needed-asked : (frames : List Frame) (kind : Kind) (key : ℕ) (row : HandleRow) → FramesAsked types frames → Needs types frames kind key → FramesAsked types (with_got kind row frames)
+  unfolding FramesAsked
+  needed-asked x0 kind key row got needs = grind (arith, nat_tests, with-asked, asked)
+
+  pub nested-asked : (frames : List Frame) (kind : Kind) (key : ℕ) (blob : _) → FramesAsked types frames → need_of types frames ≡ needs_nested kind key
+      → FramesAsked types (nested_frame kind key blob ∷ frames)
+  unfolding FramesAsked
+  nested-asked x0 kind key blob got needs = grind (arith, nat_tests, none-got, eager-nested, asked)
+
+  pub made-asked : (top : Frame) (below : List Frame) (row : HandleRow) → FramesAsked types (top ∷ below) → FramesAsked types (with_got top.kind row below)
+  unfolding FramesAsked
+  made-asked top x1 row x3 = grind (arith, nat_tests, with-asked)
+
+  pub none-asked : (frames : List Frame) → frames ≡ [] → FramesAsked types frames
+  unfolding FramesAsked
+  none-asked x0 is = grind (arith, nat_tests)
+
+  pub root-asked : (key t : ℕ) (blob : _) → FramesAsked types (root_frame key t blob ∷ [])
+  unfolding FramesAsked
+  root-asked key t blob = none-got [] refl
+
 -- ---- a load's step
 
 -- What holds about a step of a load: its nodes keep their trees, what the cache knew is read as the nodes' trees, and a node that is born is of a tree as which its key reads.
@@ -67,7 +100,7 @@ frames-on goes l frames held frame r among got =
     record {
       given = let a = g.given in let b = goes.handles in omega (arith, a, b);
       node_given = let a = g.node_given in let b = goes.nodes in omega (arith, a, b);
-      is = λ row live own. g.is row (goes.load_rows r.handle row l live own g.given) own;
+      is = λ row live own. g.is row (let a = goes.rows r.handle.0 row live g.given in a.live ∙ ap Some (a.mine l own)) own;
     }
 
 -- a reference that was got just now
@@ -130,12 +163,7 @@ module _ {N : Type 0} {v : Values N} {w w' : Core} {trees trees' : ℕ → Tree}
   felt-after : (reading : Reading) (load : OpenLoad) (frames : List Frame) {c : Change} → AtStep v c w w' trees trees' → w.loads reading.load.0 ≡ Some load
       → ReadingFeels v w reading None frames w' c → FitOf v w' trees' reading load reading.frames → FitOf v w' trees' reading load frames
   felt-after reading load frames h open_load (reads-root l blob none_read at stored answer is) g =
-      let same : l ≡ load = same_some _ _ (sym at ∙ open_load) in
-      subst (FitOf v w' trees' reading load) (sym (is ∙ ap (λ (z : OpenLoad). root_frame z.key reading.node_type blob ∷ []) same)) (record {
-        fit = root-fits v.types load.key reading.node_type w'.stored trees' blob (h.goes.stored load.key blob (subst (λ (z : OpenLoad). w.stored z.key ≡ Some blob) same stored));
-        held = all-new (GotStands w' reading.load) (root_frame load.key reading.node_type blob) [] refl (all-none (GotStands w' reading.load) [] refl);
-        asked = root-asked v.types load.key reading.node_type blob;
-      })
+      grind (arith, nat_tests, same_some, root_frame, root-fits, held, all-new, all-none, asked, root-asked)
   felt-after reading load frames h open_load (reads-blob kind key blob needs stored answer is) g = subst (FitOf v w' trees' reading load) (sym is) (record {
     fit = nested-fits v.types load.key reading.node_type w'.stored trees' reading.frames kind key blob g.fit needs (h.goes.stored key blob stored);
     held = all-new (GotStands w' reading.load) (nested_frame kind key blob) reading.frames refl g.held;
@@ -150,11 +178,6 @@ module _ {N : Type 0} {v : Values N} {w w' : Core} {trees trees' : ℕ → Tree}
   felt-after reading load frames h open_load (makes-node x made row got answer is) g =
       subst (FitOf v w' trees' reading load) (sym is) (fit-made reading.load load.key reading.node_type h reading x made _ row got (born-reads h made.top.kind made.top.key _ row refl got.at) g)
   felt-after reading load frames h open_load (reading-ends end answer is) g = absurd (cc)
-
-  -- After a load's step all that it reads fits.
-  pub fit-after : (reading : Reading) (load : OpenLoad) (frames : List Frame) {c : Change} → AtStep v c w w' trees trees' → w.loads reading.load.0 ≡ Some load
-      → FitAfter v w trees reading.load load.key reading.node_type reading.frames → ReadingFeels v w reading None frames w' c → FitOf v w' trees' reading load frames
-  fit-after reading load frames h open_load f feels = felt-after reading load frames h open_load feels (fit-still reading.load load.key reading.node_type h reading.frames f)
 
 -- ---- a reading, where the pager stands for trees
 
@@ -203,7 +226,8 @@ module _ {N E : Type 0} {v : Values N} {s s' : PagerState N E} {trees trees' : �
   pub going-step : (reading : Reading) (frames : List Frame) (load : OpenLoad) → s.core.loads reading.load.0 ≡ Some load → Going v s trees reading
       → ReadingFeels v s.core reading None frames s'.core c → Going v s' trees' (gone_on reading frames)
   going-step reading frames load opened g feels =
-      let after = fit-after reading load frames at-step opened (record { fit = g.fits load opened; held = g.held; asked = g.asked }) feels in
+      let before = fit-still reading.load load.key reading.node_type at-step reading.frames (record { fit = g.fits load opened; held = g.held; asked = g.asked }) in
+      let after = felt-after reading load frames at-step opened feels before in
       record {
         within = still-within reading.load.0 g.within;
         fits = λ other at. subst (λ (z : OpenLoad). FramesFit v.types s'.core.stored trees' z.key reading.node_type frames)

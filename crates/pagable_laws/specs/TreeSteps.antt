@@ -1,13 +1,11 @@
 -- What trees feel of a step: which node gets a key, becomes known or is born, which values come, and how blobs that loads read grow.
-use Rattle.std.specs.Prelude.{ℕ, ◌≡◌, ◌<◌, ◌≤◌, ◌+◌, ◌⊎◌, true, false, List, [], ◌∷◌, Option, Some, None, is_some, Ok}
-use Rattle.pagable_world.specs.Plain.{OptionalDataKey, ArcRef, Kind, HandleNumber, LoadNumber, NodeNumber, WorkerNumber, Identity, Blob, Tree, ReadsTree, type_of, Among}
-use Rattle.pagable_world.specs.{declared.answers.Pinning.Pinning, declared.events.PinStep.PinStep, declared.events.Took.Took, declared.handles.Owner.Owner, declared.handles.HandleRow.HandleRow}
-use Rattle.pagable_world.specs.{declared.calls.Call.Call, declared.calls.Reply.Reply, declared.events.LoadAnswer.LoadAnswer, declared.events.Event.Event, declared.events.EventReply.EventReply}
-use Rattle.pagable_world.specs.{Kinds.{is_pinning, is_loose, any_mode, fits_mode, owner_worker}, World.{Core, OpenLoad, of_cell, Frame, Reading, Todo, to_load, to_set, Walking, World, row_at}}
-use Rattle.pagable_world.specs.{World.{type_at, key_at, is_here, Values}, Refusals.{Owns, IsReference}, LoadCalls.first_key, Loads.{ReadsNode, ReadsRoot, need_of, needs_nested, needs_lazy}}
+use Rattle.{std.specs.Prelude.{ℕ, ◌≡◌, ◌<◌, ◌≤◌, ◌+◌, ◌⊎◌, true, false, List, [], ◌∷◌, Option, Some, None, is_some, Ok}, pagable_world.specs.Plain.{OptionalDataKey, ArcRef, Kind, HandleNumber}}
+use Rattle.pagable_world.specs.{Plain.{LoadNumber, NodeNumber, WorkerNumber, Identity, Blob, Tree, ReadsTree, type_of, Among}, declared.{answers.Pinning.Pinning, events.{PinStep.PinStep, Took.Took}}}
+use Rattle.pagable_world.specs.declared.{handles.{Owner.Owner, HandleRow.HandleRow}, calls.{Call.Call, Reply.Reply}, events.{LoadAnswer.LoadAnswer, Event.Event, EventReply.EventReply}}
+use Rattle.pagable_world.specs.{Kinds.{is_pinning, is_loose, any_mode, fits_mode, owner_worker, find_row}, World.{Core, Cell, OpenLoad, of_cell, Frame, Reading, Todo, to_load, to_set, Walking, World}}
+use Rattle.pagable_world.specs.{World.{row_at, type_at, key_at, is_here, Values}, Refusals.{Owns, IsReference}, LoadCalls.first_key, Loads.{ReadsNode, ReadsRoot, need_of, needs_nested, needs_lazy}}
 use Rattle.pagable_world.specs.{Loads.{root_frame, nested_frame, with_got, gone_on}, Events.reading_at, Pager.{PagerState, MachineState, world_of, KeyFits, IsNewNode, CallBrings, EventBrings}}
-use Rattle.pagable_world.specs.Pager.{IsReadingOf}
-use Rattle.pagable_laws.specs.ReadLaws.{ValueLeads}
+use Rattle.{pagable_world.specs.Pager.IsReadingOf, pagable_laws.specs.ReadLaws.ValueLeads}
 
 -- a node leads to its tree: its key reads as that, and its value leads there
 pub record NodeLeads {N E : Type 0} (v : Values N) (s : PagerState N E) (trees : ℕ → Tree) (n : ℕ) : Type 0 where
@@ -59,19 +57,41 @@ pub record NewNode (c : Change) (w w' : Core) (n : ℕ) : Type 0 where
   pub typed : type_at w' n ≡ Some t
   pub key : key_at w' n ≡ own
 
--- What trees feel of what a step does to the plain world. The storage isn't closed by it.
+-- the row of a handle before: at the same node, and the same if it is a load's now; a loose handle stays loose
+pub record Was (rows : List HandleRow) (q : ℕ) (row : HandleRow) : Type 0 where
+  pub was : HandleRow
+  pub live : find_row q rows ≡ Some was
+  pub at : was.node ≡ row.node
+  pub mine : (l : LoadNumber) → row.owner ≡ Owner.Load l → was ≡ row
+  pub loose : is_loose was.mode ≡ true → is_loose row.mode ≡ true
+
+-- each handle up to this number was there
+abbrev pub RowsGo : ℕ → List HandleRow → List HandleRow → Type 0
+RowsGo last rows rows' = (q : ℕ) (row : HandleRow) → find_row q rows' ≡ Some row → q ≤ last → Was rows q row
+
+-- the storage is closed, and nothing is stored in it
+abbrev pub IsShut : Core → Type 0
+IsShut w = (w.closed ≡ true) × ((q : ℕ) → w.stored q ≡ None)
+
+-- a cell that was there, but for a key that it may get
+pub record Kept (c : Change) (w : Core) (n : ℕ) (cell : Cell) : Type 0 where
+  pub was : Cell
+  pub live : w.cells n ≡ Some was
+  pub typed : cell.node_type ≡ was.node_type
+  pub key : (cell.key ≡ was.key) ⊎ ((key : ℕ) × Sets c n key × (cell.key ≡ OptionalDataKey.Some key))
+
+-- what trees feel of what a step does to the plain world
 pub record CoreGoes (c : Change) (w w' : Core) : Type 0 where
   pub nodes : w.last.node ≤ w'.last.node
   pub handles : w.last.handle ≤ w'.last.handle
   pub loads_last : w.last.load ≤ w'.last.load
-  pub old : (n : ℕ) → n ≤ w.last.node → is_some (w'.cells n) ≡ true → SameNode c w w' n
-  pub new : (n : ℕ) → w.last.node < n → is_some (w'.cells n) ≡ true → NewNode c w w' n
+  pub workers_last : w.last.worker ≤ w'.last.worker
+  pub cells : (n : ℕ) (cell : Cell) → w'.cells n ≡ Some cell → Kept c w n cell ⊎ ((n ≡ w.last.node + 1) × Bears c cell.node_type cell.key)
   pub stored : (q : ℕ) (b : Blob) → w.stored q ≡ Some b → w'.stored q ≡ Some b
   pub loads : (l : ℕ) (load : OpenLoad) → w'.loads l ≡ Some load → (w.loads l ≡ Some load) ⊎ ((w.last.load < l) × BeginsWell w load)
   pub cache : (kind key n : ℕ) → w'.cache kind key ≡ Some n → (w.cache kind key ≡ Some n) ⊎ Knows c w kind key n
-  -- a handle stays at its node, and one that a load owns is as it was
-  pub rows : (h : HandleNumber) (row : HandleRow) → row_at w' h ≡ Some row → h.0 ≤ w.last.handle → (was : HandleRow) × (row_at w h ≡ Some was) × (was.node ≡ row.node)
-  pub load_rows : (h : HandleNumber) (row : HandleRow) (l : LoadNumber) → row_at w' h ≡ Some row → row.owner ≡ Owner.Load l → h.0 ≤ w.last.handle → row_at w h ≡ Some row
+  pub rows : RowsGo w.last.handle w.rows w'.rows
+  pub shut : IsShut w → IsShut w'
 
 -- each of these references names a handle of the owner's, as it should
 abbrev pub AreGood : Core → Owner → List ArcRef → Type 0

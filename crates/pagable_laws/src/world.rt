@@ -58,7 +58,7 @@ pub fn new_is_whole<N: SeenAs<B, W>, B, W, E>()
 {}
 
 /// A blob is read, asks for one reference or is refused: at most one of these.
-#[tactic(auto, using(crate::proofs::Nexts::next_is_one))]
+#[tactic(auto, using(crate::proofs::Joining::next_is_one))]
 pub fn next_is_one()
     ensures { NextIsOneOf }
 {}
