@@ -1,12 +1,13 @@
 -- What a blob asks for that is a form of some value; and that what was read of it names no handle twice, where the handles that were got are apart.
-use Rattle.pagable_laws.proofs.Words.{nat_tests, ◌≡◌, ℕ, ◌<◌, ◌≤◌, ◌==◌, true, List, [], ◌∷◌, ◌++◌, map, length, Option, Some, None, Result, Ok, Err, refl, sym, ap, subst, ◌∙◌, arith}
-use Rattle.pagable_laws.proofs.Words.{append_assoc, slice_get, slice_get-get_or, append-nil, Error, ◌>>=◌, Meaning, rename, Rest, read, deepest, references_in, Form, kind_of_arc, Answer}
-use Rattle.pagable_laws.proofs.Words.{answer_at, handles_at, IsReadable, Throughout, ArcRef, Kind, Blob, Shape, Types, is_eager, times, Frame, answer_of, answers_from, Next, reads, asks, next_by}
-use Rattle.pagable_laws.proofs.Words.{next_of, next_in, rest, at, zero, suc, ◌+◌, ◌||◌, Bool, false, inr, if◌then◌else◌, sum_by-cons, Owner, Among, is_in}
-use Rattle.pagable_laws.proofs.{Words.{one, Core, reference_fault, references_fault, IsReference}, Again.{form-again, Looked, all-looked, one-looked, not-looked}, Related.renamed}
-use Rattle.pagable_laws.proofs.{Related.{keeps_forms, Out, no_cause, OutLook, both-looked-up, both-not, read_par}, Sums.{self-number, same-number, at-most-sum, counted, one-true}}
-use Rattle.pagable_laws.proofs.{ReadingStepsKinds.{kinds_of, kinds-pushed}, Fitting.longer, Along.{Along, AllTwo, no-two, more-two, refs-two, each-two}, Decoding.read-gives}
+use Rattle.pagable_laws.proofs.Words.{nat_tests, ◌≡◌, ℕ, ◌<◌, ◌≤◌, ◌==◌, true, List, [], ◌∷◌, ◌++◌, map, length, Option, Some, None, Result, Ok, Err, refl, sym, ap, subst, ◌∙◌, arith, length-append}
+use Rattle.pagable_laws.proofs.Words.{append_assoc, slice_get, slice_get-get_or, append-nil, Error, ◌>>=◌, Meaning, rename, Rest, read, deepest, references_in, Form, kind_of_arc, Answer, answer_at}
+use Rattle.pagable_laws.proofs.Words.{handles_at, IsReadable, Throughout, ArcRef, Kind, Blob, Shape, Types, is_eager, times, Frame, answer_of, answers_from, Next, reads, asks, next_by, next_of}
+use Rattle.pagable_laws.proofs.Words.{next_in, rest, at, zero, suc, ◌+◌, ◌||◌, Bool, false, inr, if◌then◌else◌, sum_by-cons, Owner, Among, is_in, one, Core, reference_fault, references_fault}
+use Rattle.pagable_laws.proofs.{Words.IsReference, Again.{form-again, Looked, all-looked, one-looked, not-looked}, Related.{renamed, keeps_forms, Out, no_cause, OutLook, both-looked-up, both-not}}
+use Rattle.pagable_laws.proofs.{Related.read_par, Sums.{self-number, same-number, at-most-sum, counted, one-true}, ReadingStepsKinds.{kinds_of, kinds-pushed}, Along.{Along, AllTwo, no-two, more-two}}
+use Rattle.pagable_laws.proofs.{Along.{refs-two, each-two}, Decoding.read-gives}
 use Rattle.pagable_world.specs.Loads.{read_with}
+use Rattle.std.proofs.lemmas.Option.{slice_get_past}
 
 -- ---- what is answered
 
@@ -17,10 +18,6 @@ look_kind kind a = answer_at kind a >>= λ r. Ok (kind_of_arc r)
 -- a kind stands for itself
 abbrev own_kind : ℕ → ℕ
 own_kind kind = kind
-
-behind-end : (front : List ArcRef) → slice_get (front ++ []) (length front) ≡ None
-behind-end [] = refl
-behind-end (x ∷ xs) = behind-end xs
 
 at-place : (front : List ArcRef) (g : ArcRef) (back : List ArcRef) → slice_get (front ++ g ∷ back) (length front) ≡ Some g
 at-place [] g back = refl
@@ -47,13 +44,13 @@ looked : (front back done left : List ArcRef) (keys : List ℕ) → kinds_of bac
     → Looked look_kind own_kind (answers_from (front ++ back) (length front) keys) (map kind_of_arc (done ++ left)) (found-of left)
 unfolding answers_from
 looked front [] [] [] [] same few = all-looked []
-looked front [] [] (q ∷ more) (key ∷ keys) same few = not-looked _ _ _ _ _ (unanswered (slice_get (front ++ []) (length front)) q.kind.0 (behind-end front))
+looked front [] [] (q ∷ more) (key ∷ keys) same few = not-looked _ _ _ _ _ (unanswered _ q.kind.0 (slice_get_past (front ++ []) (length front) (omega (arith, length-append front []))))
 looked front (g ∷ back) (d ∷ done) left (key ∷ keys) same few =
     let both = first-kind g d back done same in
     let tail = looked (front ++ g ∷ []) back done left keys both.1 (omega arith) in
     let moved = subst (λ gs. Looked look_kind own_kind (answers_from gs (length (front ++ g ∷ [])) keys) (map kind_of_arc (done ++ left)) (found-of left)) (append_assoc front (g ∷ []) back) tail in
     one-looked _ _ _ _ _ (answered g (slice_get (front ++ g ∷ back) (length front)) d.kind.0 (at-place front g back) both.0)
-    (subst (λ n. Looked look_kind own_kind (answers_from (front ++ g ∷ back) n keys) (map kind_of_arc (done ++ left)) (found-of left)) (longer front g) moved)
+    (subst (λ n. Looked look_kind own_kind (answers_from (front ++ g ∷ back) n keys) (map kind_of_arc (done ++ left)) (found-of left)) (length-append front (g ∷ [])) moved)
 looked front x1 x2 x3 x4 same few = grind (arith, nat_tests)
 
 -- ---- what comes next

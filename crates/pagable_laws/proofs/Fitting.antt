@@ -1,8 +1,8 @@
 -- What a load reads goes on fitting, whatever it gets.
-use Rattle.pagable_laws.proofs.Words.{nat_tests, ◌≡◌, ℕ, zero, suc, ◌+◌, ◌<◌, ◌≤◌, List, [], ◌∷◌, ◌++◌, Option, Some, ◌⊎◌, inl, inr, refl, sym, ap, ◌∙◌, subst, arith, slice_get, length, KeyRef}
-use Rattle.pagable_laws.proofs.Words.{ReadsAs, IsFollowed, number-followed, integer-followed, text-followed, pattern-followed, none-followed, pair-followed, variant-followed, reference-followed}
-use Rattle.pagable_laws.proofs.Words.{HandleRow, ArcRef, Kind, Blob, Types, Tree, type_of, ReadsTree, Meaning, Among, Frame, Next, asks, next_in, need_at, need_of, needs_nested, needs_lazy}
-use Rattle.pagable_laws.proofs.{Words.{root_frame, nested_frame, with_got, ReadsNodeTree, FrameFits, FramesFit, SameTrees, Needs, KeepsStored, FramesGiven}, Decoding.asks_next}
+use Rattle.pagable_laws.proofs.Words.{nat_tests, ◌≡◌, ℕ, zero, suc, ◌<◌, ◌≤◌, List, [], ◌∷◌, ◌++◌, Option, Some, ◌⊎◌, inl, inr, refl, sym, ap, ◌∙◌, subst, arith, slice_get, length, KeyRef}
+use Rattle.pagable_laws.proofs.Words.{length-append, ReadsAs, IsFollowed, number-followed, integer-followed, text-followed, pattern-followed, none-followed, pair-followed, variant-followed}
+use Rattle.pagable_laws.proofs.Words.{reference-followed, HandleRow, ArcRef, Kind, Blob, Types, Tree, type_of, ReadsTree, Meaning, Among, Frame, Next, asks, next_in, need_at, need_of, needs_nested}
+use Rattle.pagable_laws.proofs.{Words.{needs_lazy, root_frame, nested_frame, with_got, ReadsNodeTree, FrameFits, FramesFit, SameTrees, Needs, KeepsStored, FramesGiven}, Decoding.asks_next}
 
 -- ---- what is asked
 
@@ -14,10 +14,6 @@ asked x0 x1 kind key x4 = grind (arith, nat_tests)
 pub pushed : {X : Type 0} (xs : List X) (y : X) (i : ℕ) (x : X) → slice_get (xs ++ y ∷ []) i ≡ Some x → (slice_get xs i ≡ Some x) ⊎ ((i ≡ length xs) × (y ≡ x))
 pushed (z ∷ xs) y (suc i) x is = elim (pushed xs y i x is) [ inl old ↦ inl old | inr new ↦ inr (let n = new.0 in omega (arith, n), new.1) ]
 pushed x0 y x2 x is = grind (arith, nat_tests)
-
-pub longer : {X : Type 0} (xs : List X) (y : X) → length (xs ++ y ∷ []) ≡ length xs + 1
-longer [] y = omega arith
-longer (x ∷ xs) y = let a = longer xs y in omega (arith, a)
 
 pub inside : {X : Type 0} (xs : List X) (i : ℕ) (x : X) → slice_get xs i ≡ Some x → i < length xs
 inside (y ∷ xs) (suc i) x is = let a = inside xs i x is in omega (arith, a)
@@ -55,7 +51,7 @@ module _ {types : Types} {stored : ℕ → Option Blob} {trees : ℕ → Tree} w
   got-fits frame q key next read h =
       record {
         is = h.is;
-        few = let a = longer frame.got q in let b = inside frame.blob.keys (length frame.got) key next in omega (arith, a, b);
+        few = let a = length-append frame.got (q ∷ []) in let b = inside frame.blob.keys (length frame.got) key next in omega (arith, a, b);
         got = λ place k r is at. at-place place k r at (pushed frame.got q place r is);
       }
     where

@@ -2,23 +2,22 @@
 use Rattle.pagable_laws.proofs.Words.{◌≡◌, ℕ, zero, suc, ◌<◌, ◌≤◌, ◌==◌, Bool, true, false, List, [], ◌∷◌, refl, sym, subst, arith, Ok, None, is_some, nat_le, nat_tests, updated, Owner, HandleRow}
 use Rattle.pagable_laws.proofs.Words.{held, pins, Core, OpenLoad, of_cell, of_key, row_at, owned_outside, is_keyed, fallen, length, ◌∙◌, inl, Option, Some, sample_references, value_at, is_here}
 use Rattle.pagable_laws.proofs.Words.{references_fault, Sample, sample, machine, ◌++◌, ◌+◌, inr, is_none, if_there, blob_of, HandleNumber, NodeNumber, Blob, Took, Mode, Pinning, WorkerAnswer}
-use Rattle.pagable_laws.proofs.Words.{PagerState, TodoTakesWell, ArePremised, find_row, is_named_by, preimage, IsSettled, is_in, identity_of, Shelf, Written, Todo, Reading, to_start, to_pin}
-use Rattle.pagable_laws.proofs.Words.{to_load, to_write, to_set, to_publish, to_release, to_finish, to_item, digest, nobody, row_of, with_key, CloneCall, PinCall, StoreCall, WalkDoes, claim_fault}
+use Rattle.pagable_laws.proofs.Words.{PagerState, TodoTakesWell, ArePremised, find_row, is_named_by, preimage, IsSettled, is_in, identity_of, Shelf, Written, Todo, Reading, to_start, to_pin, to_load}
+use Rattle.pagable_laws.proofs.Words.{to_write, to_set, to_publish, to_release, to_finish, to_item, digest, nobody, row_of, with_key, CloneCall, PinCall, StoreCall, WalkDoes, claim_fault}
 use Rattle.pagable_laws.proofs.Words.{is_workers_at, nothing-form, reference-form, without_worker, is_workers, AreMoments, Walking, Ends, is_counted, steps_after, TookWrites, SameShelf, no_shelf}
 use Rattle.pagable_laws.proofs.Words.{IsMachineWhole, IsReadingWhole, IsWalkingWhole, owner_worker, ◌⊎◌, LoadAnswer, Frame, BeginCall, ReadingDoes, root_frame, IsClosed, IsWithin, with_mode}
 use Rattle.pagable_laws.proofs.Words.{UnpinCall, named_fault, answers_from, ReadsRoot, IsCellOf, Event, EventReply, one_more, load_fault, reading_at, reading_after, ReadingsAre, ReadingBrings}
 use Rattle.pagable_laws.proofs.Words.{world_of, WorkStays, OnlyCore, Beginning, MachineState, fresh, references_in, SameReferences, IsReadable, LiesIn, Throughout, throughout-in, none-followed}
-use Rattle.pagable_laws.proofs.Words.{rest_of, Tree, tree, IsLawful, ReadsItsTypes, KeepsOpen, FallsAnyhow, HandOverCall, LazyCall, EndCall, SetKeyCall, PinsAtOnce}
-use Rattle.pagable_laws.proofs.{Words.{ReadsAsType, IsWellAsked, IsPremised, state_after, TwoLevelsMeetTheHeadline}, GoodReferences.good, Two.and-false, Joining.new_whole}
+use Rattle.pagable_laws.proofs.Words.{rest_of, Tree, tree, IsLawful, ReadsItsTypes, KeepsOpen, FallsAnyhow, HandOverCall, LazyCall, EndCall, SetKeyCall, PinsAtOnce, ReadsAsType, IsWellAsked}
+use Rattle.pagable_laws.proofs.{Words.{IsPremised, state_after, TwoLevelsMeetTheHeadline}, GoodReferences.good, Trees.same_some, Two.and-false, Joining.new_whole, Chains.headline_law}
+use Rattle.pagable_laws.proofs.Few.{updated-past, alike-self, falls-so, AreAlone, falls-alone, Few, Passes, whole-so}
 use Rattle.pagable_world.specs.Refusals.{OwnsLoad}
-use Rattle.pagable_laws.proofs.Chains.{headline_law}
 use Rattle.pagable_world.specs.{Workers.Site, World.HasForm}
 use Rattle.pagable_laws.specs.TwoLevels as two
 use Rattle.pagable_world.specs.{Runs.Does, Events.Happens, LoadCalls.IsNextLoad, Pager.EventBrings, Pager.ReplyWrites}
 use Rattle.pagable_model.specs.Reading as grammar
 use Rattle.pagable_model.specs.Shape as shapes
 use Rattle.pagable_model.specs.Meaning as meanings
-use Rattle.pagable_laws.proofs.Few.{updated-past, alike-self, falls-so, AreAlone, falls-alone, Few, Passes, whole-so}
 
 -- ---- the machine over a pager that passes
 
@@ -223,9 +222,6 @@ pages-out (suc n) x xs few (works, asks, counts, ends, passes, at_work, ok) rest
     shelf-again : (x y : Shelf) (t : ℕ) → SameShelf (updated 1 y (updated 1 x (λ q. no_shelf)) t) (updated 1 y (λ q. no_shelf) t)
     shelf-again x y t = grind (arith, nat_tests, same-shelf)
 
-some-is : {X : Type 0} (P : X → Type 0) (x y : X) → Some x ≡ Some y → P x → P y
-some-is P x y is holds = grind arith
-
 pub pages-asked : (n : ℕ) (x : two.Working) (xs : List two.Happening) → AllAsk n x → ArePremised (two.at_work (two.walked n x)) xs → ArePremised (two.at_work x) (two.page_out n x ++ xs)
 unfolding two.page_out two.walked AllAsk
 pages-asked zero x xs ok rest = rest
@@ -235,7 +231,7 @@ pages-asked (suc n) x xs (works, asks, counts, ends, passes, at_work, ok) rest =
         settled = λ n x is. two-settled x;
         reads_settled = λ x is. two-settled x;
         stays_open = tt;
-        well = λ w is. some-is (λ (w : Walking). TodoTakesWell two.sample (two.at_work x).pager w.todo) (two.walking x) w is (takes-so x.core x.shelf (two.at_work x).pager x.todo asks);
+        well = λ w is. subst (λ (w : Walking). TodoTakesWell two.sample (two.at_work x).pager w.todo) (same_some _ _ is) (takes-so x.core x.shelf (two.at_work x).pager x.todo asks);
       },
       pages-asked n y xs ok rest,
     )
@@ -275,11 +271,6 @@ loads-good =
 
 -- ---- a moment of the machine
 
-infixr 3 ◌⨾◌
--- one moment, and those after it
-◌⨾◌ : {A B : Type 0} → A → B → A × B
-a ⨾ b = (a, b)
-
 same-work : (shelf : Shelf) (walking : Option Walking) (reading reading' : Option Reading) → WorkStays (two.work_of shelf walking reading) (two.work_of shelf walking reading')
 same-work shelf walking reading reading' = record { shelves = λ t. same-shelf _; last_table = refl; walkings = λ v. refl }
 
@@ -301,18 +292,18 @@ reads-over w r l = grind (arith, nat_tests, none-there)
 
 pub births-do : (xs : List two.Happening) → AreMoments two.sample_seen (two.at_work two.begun) xs → AreMoments two.sample_seen two.new_one (two.births ++ xs)
 unfolding find_row is_named_by is_in references_fault value_at
-births-do xs rest =
+births-do xs rest = (
     does _ _ _ two.new_core [] no_shelf None None (record {
       made = (refl, alike-self two.new_core, λ l. refl, record { same_shelves = λ t. same-shelf _; last_is = refl; same_walkings = none-walk });
       refused = tt;
-    }) (λ n x is. inl is) tt births-good.0 refl tt
-    ⨾ does _ _ _ two.child_born _ no_shelf None None
+    }) (λ n x is. inl is) tt births-good.0 refl tt,
+    (does _ _ _ two.child_born _ no_shelf None None
     (only-core _ two.child_born _ None _ (record { does = record { made = (refl, omega arith, record { above = refl; is_left = omega arith }, alike-self two.child_born); refused = tt } }))
-    leaf-comes tt births-good.1 refl tt
-    ⨾ does _ _ _ two.both_born _ no_shelf None None
+    leaf-comes tt births-good.1 refl tt,
+    (does _ _ _ two.both_born _ no_shelf None None
     (only-core _ two.both_born _ None _ (record { does = record { made = (refl, omega arith, record { above = refl; is_left = omega arith }, alike-self two.both_born); refused = tt } }))
-    parent-comes tt births-good.2 refl tt
-    ⨾ does _ _ _ two.begun.core _ no_shelf (Some (two.walking two.begun)) None (record {
+    parent-comes tt births-good.2 refl tt,
+    (does _ _ _ two.begun.core _ no_shelf (Some (two.walking two.begun)) None (record {
       starts = record {
         table = (omega arith, omega arith);
         next = refl;
@@ -321,8 +312,8 @@ births-do xs rest =
         work = record { same_shelves = λ t. same-shelf _; last_is = refl; same_walkings = again 1 None (Some (two.walking two.begun)) (λ v. None) };
       };
       refused = tt;
-    }) (λ n x is. inl is) tt births-good.3 (refl, refl) tt
-    ⨾ rest
+    }) (λ n x is. inl is) tt births-good.3 (refl, refl) tt, rest))),
+  )
   where
     none-walk : (v : ℕ) → let none : Option Walking = None in updated 1 none (λ q. none) v ≡ none
     none-walk v = grind (arith, nat_tests)
@@ -434,33 +425,33 @@ reads-step w w' vs vs' before after l steps reading frames ended may at read cou
 pub loads-do : AreMoments two.sample_seen (two.at_work two.answered) (two.loads ++ two.counts 2)
 unfolding two.walked value_at is_named_by find_row preimage is_in references_fault grammar.read grammar.read_with answers_from cell_load key_load
 loads-do =
-    let done = Some (two.walking two.answered) in
-    does _ _ _ two.evicted [] _ done None (only-core two.answered.core two.evicted _ done _ (record { does = evicts })) (λ n x is. absurd (cc)) tt loads-good.0 (refl, refl) tt
-    ⨾ does _ _ _ two.loading [] _ done None (only-core two.evicted two.loading _ done _ begins) (λ n x is. inl is) tt loads-good.1 (refl, refl) tt
-    ⨾ reads-step two.loading two.loading [] [] None (Some two.parent_fetched) 1 1 (fresh (two.load_number 1) 0) two.parent_fetched.frames None refl refl
+    let done = Some (two.walking two.answered) in (
+    does _ _ _ two.evicted [] _ done None (only-core two.answered.core two.evicted _ done _ (record { does = evicts })) (λ n x is. absurd (cc)) tt loads-good.0 (refl, refl) tt,
+    (does _ _ _ two.loading [] _ done None (only-core two.evicted two.loading _ done _ begins) (λ n x is. inl is) tt loads-good.1 (refl, refl) tt,
+    (reads-step two.loading two.loading [] [] None (Some two.parent_fetched) 1 1 (fresh (two.load_number 1) 0) two.parent_fetched.frames None refl refl
     (fetches two.loading 1 0 cell_load two.parent_blob refl refl refl) refl (reads-on two.loading two.parent_fetched (λ l. None) refl (λ l e. refl)) (λ n x is. inl is) loads-good.1 (refl, refl)
-    (record { number = refl; load = cell_load; open_load = refl; owned = refl; typed = refl })
-    ⨾ reads-step two.loading two.child_got [] [] (Some two.parent_fetched) (Some two.parent_read) 1 2 two.parent_fetched two.parent_read.frames None refl refl gets-child refl
+    (record { number = refl; load = cell_load; open_load = refl; owned = refl; typed = refl }),
+    (reads-step two.loading two.child_got [] [] (Some two.parent_fetched) (Some two.parent_read) 1 2 two.parent_fetched two.parent_read.frames None refl refl gets-child refl
     (reads-on two.child_got two.parent_read (two.reads (Some two.parent_fetched)) refl (λ l e. rw e refl)) (λ n x is. inl is) loads-good.2 (refl, refl)
-    (record { number = refl; load = cell_load; open_load = refl; owned = refl; typed = refl })
-    ⨾ reads-step two.child_got two.loaded [] two.last_values (Some two.parent_read) None 1 3 two.parent_read [] (Some (LoadAnswer.Pinned (two.handle 9))) refl refl ends-pinned refl
-    (reads-over two.loaded two.parent_read) parent-comes loads-good.3 (refl, refl) tt
-    ⨾ does _ _ _ two.key_loading _ _ done (Some (fresh (two.load_number 2) 1)) (record {
+    (record { number = refl; load = cell_load; open_load = refl; owned = refl; typed = refl }),
+    (reads-step two.child_got two.loaded [] two.last_values (Some two.parent_read) None 1 3 two.parent_read [] (Some (LoadAnswer.Pinned (two.handle 9))) refl refl ends-pinned refl
+    (reads-over two.loaded two.parent_read) parent-comes loads-good.3 (refl, refl) tt,
+    (does _ _ _ two.key_loading _ _ done (Some (fresh (two.load_number 2) 1)) (record {
       step = record { begins = (refl, record { above = refl; is_left = omega arith }, alike-self two.key_loading); refused = tt };
       begun = reads-on two.key_loading (fresh (two.load_number 2) 1) (λ l. None) refl (λ l e. refl);
       refused = tt;
       work = same-work _ _ None (Some (fresh (two.load_number 2) 1));
-    }) (λ n x is. inl is) tt loads-good.4 (refl, refl) (record { number = refl; load = key_load; open_load = refl; owned = refl; typed = tt })
-    ⨾ reads-step two.key_loading two.key_loading two.last_values two.last_values (Some (fresh (two.load_number 2) 1)) (Some two.child_fetched) 2 1 (fresh (two.load_number 2) 1)
+    }) (λ n x is. inl is) tt loads-good.4 (refl, refl) (record { number = refl; load = key_load; open_load = refl; owned = refl; typed = tt }),
+    (reads-step two.key_loading two.key_loading two.last_values two.last_values (Some (fresh (two.load_number 2) 1)) (Some two.child_fetched) 2 1 (fresh (two.load_number 2) 1)
     two.child_fetched.frames None refl refl
     (fetches two.key_loading 2 1 key_load two.leaf_blob refl refl refl) refl (reads-on two.key_loading two.child_fetched (two.reads (Some (fresh (two.load_number 2) 1))) refl (λ l e. rw e refl))
-    (λ n x is. inl is) loads-good.4 (refl, refl) (record { number = refl; load = key_load; open_load = refl; owned = refl; typed = tt })
-    ⨾ reads-step two.key_loading two.read_back two.last_values two.last_values (Some two.child_fetched) None 2 2 two.child_fetched [] (Some (LoadAnswer.Read two.leaf)) refl refl reads-out refl
-    (reads-over two.read_back two.child_fetched) (λ n x is. inl is) loads-good.5 (refl, refl) tt
-    ⨾ does _ _ _ two.read_back _ _ done None (only-core two.read_back two.read_back _ done _
+    (λ n x is. inl is) loads-good.4 (refl, refl) (record { number = refl; load = key_load; open_load = refl; owned = refl; typed = tt }),
+    (reads-step two.key_loading two.read_back two.last_values two.last_values (Some two.child_fetched) None 2 2 two.child_fetched [] (Some (LoadAnswer.Read two.leaf)) refl refl reads-out refl
+    (reads-over two.read_back two.child_fetched) (λ n x is. inl is) loads-good.5 (refl, refl) tt,
+    (does _ _ _ two.read_back _ _ done None (only-core two.read_back two.read_back _ done _
     (record { does = (record { found = (row_of 2 (two.node 2) Mode.LoosePinned Owner.Caller, refl, refl); refused = tt }, alike-self two.read_back) }))
-    (λ n x is. inl is) tt loads-good.5 (refl, refl) tt
-    ⨾ tt
+    (λ n x is. inl is) tt loads-good.5 (refl, refl) tt, tt)))))))),
+  )
   where
     back : (n : ℕ) (x : two.Sample) → value_at two.last_values n ≡ Some x → (n ≡ 2) × (x ≡ two.parent (two.to_leaf 3 8))
     back x0 x is = grind (arith, nat_tests)
@@ -484,17 +475,12 @@ shaped (two.parent r) = (shapes.reference 4, refl)
 pub lawful : IsLawful two.sample
 lawful = grind (arith, nat_tests, refers_same, shaped)
 
-nothing-readable : (s : shapes.Shape) → s ≡ shapes.nothing → Throughout IsReadable two.sample_types.parts s
-unfolding IsReadable LiesIn
-nothing-readable s is = subst (λ x. Throughout IsReadable two.sample_types.parts x) (sym is) (throughout-in IsReadable two.sample_types.parts (λ n. Unit {0}) (λ n it. (tt, tt)) shapes.nothing tt tt)
-
-reference-readable : (s : shapes.Shape) → s ≡ shapes.reference 4 → Throughout IsReadable two.sample_types.parts s
-unfolding IsReadable LiesIn
-reference-readable s is =
-    subst (λ x. Throughout IsReadable two.sample_types.parts x) (sym is) (throughout-in IsReadable two.sample_types.parts (λ n. Unit {0}) (λ n it. (tt, tt)) (shapes.reference 4) tt tt)
-
 pub reads-types : ReadsItsTypes two.sample_types
-reads-types x0 s is = grind (arith, nat_tests, reference-readable, nothing-readable)
+unfolding IsReadable LiesIn
+reads-types zero s is =
+    subst (λ x. Throughout IsReadable two.sample_types.parts x) (same_some _ _ is) (throughout-in _ two.sample_types.parts (λ n. Unit {0}) (λ n it. (tt, tt)) (shapes.reference 4) tt tt)
+reads-types (suc n) s is =
+    subst (λ x. Throughout IsReadable two.sample_types.parts x) (same_some _ _ is) (throughout-in _ two.sample_types.parts (λ n. Unit {0}) (λ n it. (tt, tt)) shapes.nothing tt tt)
 
 -- ---- moments
 

@@ -1,11 +1,11 @@
 -- A handle that is live, that no value owns and that isn't given up outlasts a cascade, with its row.
 use Rattle.pagable_laws.proofs.Words.{◌≡◌, ℕ, zero, suc, ◌+◌, ◌<◌, ◌≤◌, ◌==◌, ◌&&◌, Bool, true, false, List, [], ◌∷◌, ◌++◌, cond, refl, ap, sym, subst, ◌∙◌, inl, inr, arith, Option, Some, None, not}
-use Rattle.pagable_laws.proofs.Words.{if◌then◌else◌, filter, map, slice_get, cases_order, nat_tests, get_or_from_slice_get, slice_get_within, HandleNumber, NodeNumber, Among, changed, one, or_else}
-use Rattle.pagable_laws.proofs.Words.{Owner, HandleRow, find_row, is_handle, is_owner, is_owned_by, owner_value, Core, Last, Alike, IsWithin, IsClosed, IsLeast, is_keyed, Falls, left_rows, fallen}
-use Rattle.pagable_laws.proofs.Words.{owned_outside, IsHandleBefore, HandlesAreWhole, Ok, ArcRef, Identity, LoadNumber, Mode, Event, EventReply, LoadAnswer, WorkerAnswer, Took, Call, Reply, Pinning}
-use Rattle.pagable_laws.proofs.Words.{PinStep, is_pinning, is_loose, owner_worker, World, Seen, Todo, to_pin, is_named_by, CloneCall, PinCall, with_pin, without_load, is_owned_in, EndCall, Site}
-use Rattle.pagable_laws.proofs.{Words.{PinsAtOnce, answer_after, Ends, Happens, HasPin, to_load, row_at, FallsAnyhow, row_of, with_handle, with_mode, moved, PinHolds}, Decoding.among-either}
-use Rattle.pagable_laws.proofs.{Existing.{inside, wider}, Goes.{le-more, found-number, none-in-new}, Sums.{same-number, self-number, sum-zero, at-most-sum}, Trees.same_some}
+use Rattle.pagable_laws.proofs.Words.{if◌then◌else◌, filter, map, slice_get, cases_order, nat_tests, get_or_from_slice_get, slice_get_within, HandleNumber, NodeNumber, Among, changed, or_else, Owner}
+use Rattle.pagable_laws.proofs.Words.{HandleRow, find_row, is_handle, is_owner, owner_value, Core, Last, Alike, IsLeast, is_keyed, Falls, left_rows, fallen, IsHandleBefore, HandlesAreWhole, Ok}
+use Rattle.pagable_laws.proofs.Words.{ArcRef, Identity, LoadNumber, Mode, Event, EventReply, LoadAnswer, WorkerAnswer, Took, Call, Reply, Pinning, PinStep, is_pinning, is_loose, owner_worker, World}
+use Rattle.pagable_laws.proofs.Words.{Seen, Todo, to_pin, is_named_by, CloneCall, PinCall, with_pin, without_load, is_owned_in, EndCall, Site, PinsAtOnce, answer_after, Ends, Happens, HasPin, to_load}
+use Rattle.pagable_laws.proofs.{Words.{row_at, FallsAnyhow, row_of, with_handle, with_mode, moved, PinHolds}, Decoding.among-either, Existing.outlast, Goes.{le-more, found-number, none-in-new}}
+use Rattle.pagable_laws.proofs.{Sums.{same-number, self-number}, Trees.same_some}
 use Rattle.pagable_world.specs.Loads.{Does}
 use Rattle.std.{specs.List.AllPairs, proofs.lemmas.Bool.false_from_ne_true, proofs.Common.rules}
 use Rattle.pagable_world.specs.Workers as workers
@@ -19,34 +19,13 @@ not-owned n x1 free = grind (arith, nat_tests)
 
 -- ---- what doesn't fall
 
-module _ (rows : List HandleRow) (keyed : ℕ → Bool) (entries : List HandleRow) (given gone : ℕ → Bool) (least : IsLeast rows keyed entries given gone)
-    (q : ℕ) (free : (h : HandleRow) → Among rows h → h.number.0 ≡ q → NotValues h.owner) (kept : given q ≡ false) where
-  -- what falls but for this handle is closed too
-  abbrev less : ℕ → Bool
-  less p = gone p && not (p == q)
-
-  less-within : IsWithin rows less gone
-  less-within = sum-zero (λ h. one (less h.number.0 && not (gone h.number.0))) rows (λ h among. grind (arith, nat_tests))
-
-  less-holds : IsWithin rows given less
-  less-holds = grind (arith, nat_tests)
-
-  less-closed : IsClosed rows keyed entries less
-  less-closed n goes =
-      let none = least.closed n (wider rows keyed entries less gone n less-within goes) in
-      sum-zero (λ h. one (is_owned_by (owner_value n) h && not (less h.number.0))) rows (λ h among. part h among none (h.number.0 == q) refl)
-    where
-      part : (h : HandleRow) → Among rows h → owned_outside rows gone n ≡ 0 → (d : Bool) → (h.number.0 == q) ≡ d → one (is_owned_by (owner_value n) h && not (less h.number.0)) ≡ 0
-      part h among none true f = let g = not-owned n h.owner (free h among (same-number _ _ f)) in rw g refl
-      part h among none false f = let g = at-most-sum (λ h. one (is_owned_by (owner_value n) h && not (gone h.number.0))) rows h among in grind (arith, nat_tests)
-
-  pub outlasts : (h : HandleRow) → Among rows h → h.number.0 ≡ q → gone q ≡ false
-  outlasts h among is = false_from_ne_true (gone q) (λ e.
-      let goes : less h.number.0 ≡ true = inside rows keyed entries gone less h (least.least less less-holds less-closed) among (ap gone is ∙ e) in
-      let same = self-number q in
-      let stays : less q ≡ false = rw (same, e) refl in
-      let f : less q ≡ true = sym (ap less is) ∙ goes in
-      cc)
+outlasts : (rows : List HandleRow) (keyed : ℕ → Bool) (entries : List HandleRow) (given gone : ℕ → Bool) → IsLeast rows keyed entries given gone → (q : ℕ)
+    → ((h : HandleRow) → Among rows h → h.number.0 ≡ q → NotValues h.owner) → given q ≡ false → (h : HandleRow) → Among rows h → h.number.0 ≡ q → gone h.number.0 ≡ false
+outlasts rows keyed entries given gone least q free kept h among is =
+    outlast rows keyed entries given gone (λ p. p == q) least
+    (λ x there goes. false_from_ne_true (x.number.0 == q) (λ e. let s = same-number x.number.0 q e in cc))
+    (λ n x there own lost. false_from_ne_true (x.number.0 == q) (λ e. let o = not-owned n x.owner (free x there (same-number x.number.0 q e)) in cc))
+    h among (ap (λ p. p == q) is ∙ self-number q)
 
 -- ---- the one row of a number
 
@@ -207,7 +186,8 @@ pub stands-fell : {before w w' : Core} {given : ℕ → Bool} {r : _} {q : ℕ} 
 stands-fell {before} {w} {w'} {given} {r} {q} {row} f free kept s =
     let among = among-found q w.rows row s.live in
     let no_value = λ (h : HandleRow) (a : Among w.rows h) (is : h.number.0 ≡ q). subst (λ (x : HandleRow). NotValues x.owner) (sym (s.only h a is)) free in
-    let stays = outlasts w.rows (is_keyed w) f.entries given f.gone f.set q no_value kept row among (found-number q w.rows row s.live) in
+    let number = found-number q w.rows row s.live in
+    let stays = ap f.gone (sym number) ∙ outlasts w.rows (is_keyed w) f.entries given f.gone f.set q no_value kept row among number in
     let live = found-kept f.gone q w.rows row stays s.live in
     let left : Stands w.last.handle (left_rows f.gone w.rows) q row = record { live = live; only = λ h a is. s.only h (among-kept _ w.rows h a) is; given = s.given } in
     stands-alike {w = fallen w f.gone f.entries} f.leaves (stands-more f.entries (le-more _ _) (none-in-new w.last.handle q f.entries f.new s.given) left)

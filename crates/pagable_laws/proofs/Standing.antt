@@ -358,13 +358,23 @@ module _ (v : ℕ) (task : Task) (shelf shelf' : Shelf) where
       → AllStand shelf v task below → AllStand shelf' v task below
   below-stays i slot below puts changes apart all = grind (arith, nat_tests, all-stay, false_from_ne_true, true-false, is-same)
 
-  -- an own slot changes, or comes, that hasn't failed
-  clean-still : (i : Identity) (new : Slot) → PutsSlot shelf.slots shelf'.slots i new → is_failed new.outcome ≡ false → HasNoFailed shelf v → HasNoFailed shelf' v
-  clean-still i new puts good clean j slot there own =
-      elim (put-cases shelf.slots shelf'.slots i new puts j slot there) [ inl e ↦ ap (λ (s : Slot). is_failed s.outcome) e.1 ∙ good | inr e ↦ clean j slot e.1 own ]
-
   abbrev new-slot : Slot
   new-slot = record { worker = v; written = None; outcome = no_result }
+
+  -- an own slot changes, or comes, that hasn't failed and that the task meets
+  own-goes : (i : Identity) (new : Slot) (todo : List Todo) → PutsSlot shelf.slots shelf'.slots i new → Changes v shelf shelf' → Meets shelf' task i → is_failed new.outcome ≡ false
+      → AllStand shelf' v task todo → Covers shelf' v todo → Goes v task shelf None shelf' todo
+  own-goes i new todo puts changes meets good all covers = record {
+    changes = changes;
+    all = all;
+    covers = covers;
+    unfailed = λ nothing clean j slot there own. elim (put-cases shelf.slots shelf'.slots i new puts j slot there) [
+      | inl e ↦ ap (λ (s : Slot). is_failed s.outcome) e.1 ∙ good
+      | inr e ↦ clean j slot e.1 own
+    ];
+    done = λ a is. absurd (cc);
+    met = λ j slot none there. elim (put-cases shelf.slots shelf'.slots i new puts j slot there) [ inl e ↦ subst (λ k. Meets shelf' task k) (sym e.0) meets | inr e ↦ some-none e.1 none ];
+  }
 
   -- the identity is claimed
   pub claimed : (r : ArcRef) (place : ℕ) (below : List Todo) → AllStand shelf v task (to_start r place ∷ below) → CoversBy v task shelf (to_start r place ∷ below) → shelf.slots (identity_of r) ≡ None
@@ -372,27 +382,14 @@ module _ (v : ℕ) (task : Task) (shelf shelf' : Shelf) where
   unfolding AllStand is_open_in
   claimed r place below (meets, apart, rest) covers none puts =
       let changes : Changes v shelf shelf' = (put-by v shelf shelf' (identity_of r) new-slot puts (is-new new-slot none refl refl)) in
-      let more : ShelfGrows shelf shelf' = grows v shelf shelf' changes in
-      let meets_now : Meets shelf' task (identity_of r) = meets-grow shelf shelf' task (identity_of r) more meets in
+      let meets_now : Meets shelf' task (identity_of r) = meets-grow shelf shelf' task (identity_of r) (grows v shelf shelf' changes) meets in
       let free : is_open_in (identity_of r) below ≡ false =
       false_from_ne_true (is_open_in (identity_of r) below) (λ is. let a = open-slot v task shelf (identity_of r) below rest is in some-none a.1 none) in
-      record {
-        changes = changes;
-        all = (
-          (meets_now, record { slot = new-slot; claimed = puts.at; own = refl; no_result_yet = refl; written_so = refl }),
-          (λ i is. subst (λ k. is_open_in k below ≡ false) (is-same i (identity_of r) is) free),
-          below-stays (identity_of r) new-slot below puts changes free rest,
-        );
-        covers = grind (arith, nat_tests, put-cases, identity_of, new-slot, open-self, is_open_in, or_right, is_identity);
-        unfailed = λ nothing. clean-still (identity_of r) new-slot puts refl;
-        done = λ a is. absurd (cc);
-        met = grind (arith, nat_tests, put-cases, identity_of, new-slot, some-none);
-      }
-
-  -- an own slot changes: nothing comes that isn't met
-  none-comes : (i : Identity) (old new : Slot) → PutsSlot shelf.slots shelf'.slots i new → shelf.slots i ≡ Some old → (j : Identity) (slot : Slot) → shelf.slots j ≡ None
-      → shelf'.slots j ≡ Some slot → Meets shelf' task j
-  none-comes i old new puts was j slot none there = grind (arith, nat_tests)
+      own-goes (identity_of r) new-slot _ puts changes meets_now refl (
+        (meets_now, record { slot = new-slot; claimed = puts.at; own = refl; no_result_yet = refl; written_so = refl }),
+        (λ i is. subst (λ k. is_open_in k below ≡ false) (is-same i (identity_of r) is) free),
+        below-stays (identity_of r) new-slot below puts changes free rest,
+      ) (grind (arith, nat_tests, put-cases, identity_of, new-slot, open-self, is_open_in, or_right, is_identity))
 
   -- a worker's own open slot
   abbrev wrote : Slot → Written → Slot
@@ -410,21 +407,14 @@ module _ (v : ℕ) (task : Task) (shelf shelf' : Shelf) where
       let new : Slot = wrote c.slot written in
       let puts : PutsSlot shelf.slots shelf'.slots (identity_of r) new = changes-slot shelf shelf' (identity_of r) c.slot (λ slot. record slot { written = Some written }) c.claimed same in
       let changes : Changes v shelf shelf' = puts-own v shelf shelf' (identity_of r) c.slot new puts c.claimed c.own (wrote-grows c.slot written c.written_so) in
-      let more : ShelfGrows shelf shelf' = grows v shelf shelf' changes in
+      let meets_now : Meets shelf' task (identity_of r) = meets-grow shelf shelf' task (identity_of r) (grows v shelf shelf' changes) meets in
       let free : is_open_in (identity_of r) below ≡ false = apart (identity_of r) (is-self (identity_of r)) in
       let o : Open = record { reference = r; place = place; through = through; written = written; keys = []; height = 0 } in
-      record {
-        changes = changes;
-        all = settles v task shelf' o below (
-          (meets-grow shelf shelf' task (identity_of r) more meets, record { slot = new; claimed = puts.at; own = c.own; no_result_yet = c.no_result_yet; written_so = refl }),
-          apart,
-          below-stays (identity_of r) new below puts changes free rest,
-        );
-        covers = grind (arith, nat_tests, or_right, is_failing, open_node, is_open_in, started-open, drop, to_finish, covered);
-        unfailed = λ nothing. clean-still (identity_of r) new puts (ap is_failed c.no_result_yet);
-        done = λ a is. absurd (cc);
-        met = none-comes (identity_of r) c.slot new puts c.claimed;
-      }
+      own-goes (identity_of r) new _ puts changes meets_now (ap is_failed c.no_result_yet) (settles v task shelf' o below (
+        (meets_now, record { slot = new; claimed = puts.at; own = c.own; no_result_yet = c.no_result_yet; written_so = refl }),
+        apart,
+        below-stays (identity_of r) new below puts changes free rest,
+      )) (grind (arith, nat_tests, or_right, is_failing, open_node, is_open_in, started-open, drop, to_finish, covered))
     where
       covered : {new : Slot} → PutsSlot shelf.slots shelf'.slots (identity_of r) new → CoversBy v task shelf (to_write r place through ∷ below) → (i : Identity) (slot : Slot)
           → shelf'.slots i ≡ Some slot → slot.worker ≡ v → slot.outcome ≡ no_result
@@ -439,21 +429,14 @@ module _ (v : ℕ) (task : Task) (shelf shelf' : Shelf) where
       let new : Slot = with_outcome (published key height) c.slot in
       let puts : PutsSlot shelf.slots shelf'.slots (identity_of r) new = changes-slot shelf shelf' (identity_of r) c.slot (with_outcome (published key height)) c.claimed same in
       let changes : Changes v shelf shelf' = puts-own v shelf shelf' (identity_of r) c.slot new puts c.claimed c.own (outcome-grows (published key height) c.slot) in
-      let more : ShelfGrows shelf shelf' = grows v shelf shelf' changes in
+      let meets_now : Meets shelf' task (identity_of r) = meets-grow shelf shelf' task (identity_of r) (grows v shelf shelf' changes) meets in
       let free : is_open_in (identity_of r) below ≡ false = apart (identity_of r) (is-self (identity_of r)) in
       let known : new.outcome ≡ published key height = is-known c.slot c.no_result_yet in
-      record {
-        changes = changes;
-        all = (
-          (meets-grow shelf shelf' task (identity_of r) more meets, record { slot = new; claimed = puts.at; known = known }),
-          (λ i is. absurd (cc)),
-          below-stays (identity_of r) new below puts changes free rest,
-        );
-        covers = grind (arith, nat_tests, put-cases, identity_of, published, no_result, not-here);
-        unfailed = λ nothing. clean-still (identity_of r) new puts (ap is_failed known);
-        done = λ a is. absurd (cc);
-        met = none-comes (identity_of r) c.slot new puts c.claimed;
-      }
+      own-goes (identity_of r) new _ puts changes meets_now (ap is_failed known) (
+        (meets_now, record { slot = new; claimed = puts.at; known = known }),
+        (λ i is. absurd (cc)),
+        below-stays (identity_of r) new below puts changes free rest,
+      ) (grind (arith, nat_tests, put-cases, identity_of, published, no_result, not-here))
     where
       is-known : (slot : Slot) → slot.outcome ≡ no_result → (with_outcome (published key height) slot).outcome ≡ published key height
       is-known slot still = rw still refl
