@@ -164,8 +164,7 @@ module _ {A : Type 0} where
 
 -- nothing that is written has a shape without cases
 pub no_case-form : {A : Type 0} {kind_of : A → ℕ} {parts : ℕ → Shape} {left : ℕ} {s : Shape} {m : Meaning A} {b : List ℕ} {k : List A} → Form A kind_of parts left s m b k → HasNoCase s → ⊥
-no_case-form (case-form left w known part n m b k lt is f) h = let isnt = h n in cc
-no_case-form f h = h
+no_case-form x0 h = grind (arith, nat_tests, case-form)
 
 -- What is left where what stands for references is looked up, one after another, as far as there are references; or why one is refused.
 pub data Looked {A B : Type 0} (look : Look A B) (kind_of : B → ℕ) : List A → List B → Result (List A) Error → Type 0 where
@@ -227,13 +226,8 @@ module _ {A B : Type 0} {look : Look A B} {kind_of : B → ℕ} {parts : ℕ →
       | not-first e f is ↦ rw (append_assoc, form-again (c ++ x) h f (narrowed t (λ p. p.0) (λ n d l. l.0)), is) refl
     ]
     form-again x (sorted-map-form left order s s2 es b k le up h) u t =
-        rw (
-          append_assoc,
-          length-again (length es) (b ++ x) le,
-          entries-again x h u (narrowed t (λ p. p.0) (λ n d l. l.0)) (narrowed t (λ p. p.1) (λ n d l. l.1)),
-          bind-then,
-          ascending-kept order es up,
-        ) refl
+        rw (append_assoc, length-again (length es) (b ++ x) le, entries-again x h u (narrowed t (λ p. p.0) (λ n d l. l.0)) (narrowed t (λ p. p.1) (λ n d l. l.1)), bind-then,
+            ascending-kept order es up) refl
     form-again x (placed-map-form left s s2 es b k le up h) u t =
         rw (append_assoc, length-again (length es) (b ++ x) le, entries-again x h u (narrowed t (λ p. p.0) (λ n d l. l.0)) (narrowed t (λ p. p.1) (λ n d l. l.1)), bind-then, differing-kept es up) refl
     form-again x (hash-map-form left s s2 es b k le up h) u t =

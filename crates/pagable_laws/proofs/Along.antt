@@ -175,15 +175,11 @@ module _ {A B : Type 0} {F : Type 0} {R : A → B → Type 0} where
         put = ap (λ (z : List (Entry B)). put_all (put_sorted code_order) z rest.entries) one.put ∙ rest.put;
       }
 
-from_none : {A B : Type 0} {F : Type 0} {R : A → B → Type 0} {fs : List (Entry B)} (gs hs : List (Entry B)) → AllTwo (EntryAlong F R) [] fs → put_all (put_sorted code_order) fs gs ≡ hs
-    → put_all (put_sorted code_order) [] gs ≡ hs
-from_none gs hs no-two p = p
-
 pub hash_map-along : {A B : Type 0} {F : Type 0} {R : A → B → Type 0} (es : List (Entry A)) {n : Meaning B} → Differ es → Along F R (of_hash_map es) n → Made (EntryAlong F R) of_hash_map es n
 hash_map-along es d a =
     let sorted = entries-along _ a in
     let back = unput_all es [] (after_none apart es) d sorted.each in
-    record { items = back.entries; each = back.each; whole = sorted.whole ∙ ap of_entries (sym (from_none back.entries sorted.items back.first back.put)) }
+    record { items = back.entries; each = back.each; whole = sorted.whole ∙ ap of_entries (sym (grind (arith, nat_tests))) }
 
 -- ---- forms
 

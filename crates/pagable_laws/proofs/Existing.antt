@@ -1,8 +1,8 @@
 -- The least set of handles that fall.
+use Rattle.pagable_laws.proofs.Words.{◌≡◌, ℕ, suc, zero, ◌+◌, ◌<◌, ◌≤◌, ◌==◌, ◌&&◌, ◌||◌, Bool, true, false, List, sum_by, refl, ap, sym, ◌∙◌, arith, nat_lt, not, nat_tests, cases_lt, inl, inr}
+use Rattle.pagable_laws.proofs.Words.{and_parts, one, Among, Owner, HandleRow, is_owner, is_owned_by, owner_value, is_at, is_pin, is_outside, loses_value, IsClosed, IsWithin, IsLeast, OwnsNothing}
+use Rattle.pagable_laws.proofs.{Words.IsGivenAlone, Sums.{same-number, self-number, one-true, sum-le, at-most-sum, sum-plus, sum-zero, counted}}
 use Rattle.std.proofs.lemmas.Bool.{false_from_ne_true}
-use Rattle.pagable_laws.proofs.Words.{◌≡◌, ℕ, suc, zero, ◌+◌, ◌<◌, ◌≤◌, ◌==◌, ◌&&◌, ◌||◌, Bool, true, false, List, sum_by, refl, ap, sym, ◌∙◌, arith, nat_lt, not, nat_tests}
-use Rattle.pagable_laws.proofs.Words.{and_parts, one, Among, Owner, HandleRow, is_owner, is_owned_by, owner_value, is_at, is_pin, is_outside, loses_value}
-use Rattle.pagable_laws.proofs.{Words.{IsClosed, IsWithin, IsLeast, OwnsNothing, IsGivenAlone}, Sums.{same-number, self-number, one-true, sum-le, at-most-sum, sum-plus, sum-zero, counted}}
 
 -- 1 for a handle outside the set; one of the node, one that pins it, one that its value owns; and one of the one set and not of the other
 abbrev outside : (ℕ → Bool) → HandleRow → ℕ
@@ -78,7 +78,7 @@ module _ (rows : List HandleRow) (keyed : ℕ → Bool) (entries : List HandleRo
   wider s t n within goes =
       let pins = sum-le (pin_out t n) (pin_out s n) rows (λ h among. let a = at-most-sum (only_in s t) rows h among in grind (arith, nat_tests)) in
       let handles = sum-le (held_out t n) (held_out s n) rows (λ h among. let a = at-most-sum (only_in s t) rows h among in grind (arith, nat_tests)) in
-      (grind (arith, nat_tests))
+      grind (arith, nat_tests)
 
   -- what isn't given, and is owned by no value that goes, doesn't fall
   module _ (given gone stay : ℕ → Bool) (least : IsLeast rows keyed entries given gone) (free : (h : HandleRow) → Among rows h → given h.number.0 ≡ true → stay h.number.0 ≡ false)
@@ -110,7 +110,7 @@ module _ (rows : List HandleRow) (keyed : ℕ → Bool) (entries : List HandleRo
   stays s t within closed = sum-zero (only_in (more s) t) rows (λ h among. part h among (s h.number.0) refl (nat_lt 0 (sum_by (follows (lost s) h.number.0) rows)) refl)
     where
       owned : (h : HandleRow) → Among rows h → 0 < sum_by (follows (lost s) h.number.0) rows → t h.number.0 ≡ true
-      owned h among some = of-row h (counted (follows (lost s) h.number.0) rows some)
+      owned h among some = (grind (arith, nat_tests, one-true, of-value, same-number, owner-of, counted (follows (lost s) h.number.0) rows some))
         where
           of-value : (h x : HandleRow) → Among rows x → x.number.0 ≡ h.number.0 → (n : ℕ) × (is_owner (owner_value n) x.owner ≡ true) × (lost s n ≡ true) → t h.number.0 ≡ true
           of-value h x among number (n, is, goes) =
@@ -118,9 +118,6 @@ module _ (rows : List HandleRow) (keyed : ℕ → Bool) (entries : List HandleRo
               let at : owned_out t n x ≤ sum_by (owned_out t n) rows = at-most-sum (owned_out t n) rows x among in
               let it : t x.number.0 ≡ true = grind (arith, nat_tests) in
               sym (ap t number) ∙ it
-
-          of-row : (h : HandleRow) → (x : HandleRow) × Among rows x × (0 < follows (lost s) h.number.0 x) → t h.number.0 ≡ true
-          of-row h (x, among, some) = grind (arith, nat_tests, one-true, of-value, same-number, owner-of)
 
       part : (h : HandleRow) → Among rows h → (a : Bool) → s h.number.0 ≡ a → (b : Bool) → nat_lt 0 (sum_by (follows (lost s) h.number.0) rows) ≡ b → only_in (more s) t h ≡ 0
       part h among true e b f = let c = inside s t h within among e in grind (arith, nat_tests)
@@ -131,22 +128,15 @@ module _ (rows : List HandleRow) (keyed : ℕ → Bool) (entries : List HandleRo
   less s = sum-le (outside (more s)) (outside s) rows (λ h among. shrinks s h)
 
   -- a set that is in each closed one is the least once it is closed itself; until then it grows
-  decide : (given s : ℕ → Bool) → IsWithin rows given s
-      → ((t : ℕ → Bool) → IsWithin rows given t → IsClosed rows keyed entries t → IsWithin rows s t)
-      → (sum_by (outside (more s)) rows < sum_by (outside s) rows → (s : ℕ → Bool) × IsLeast rows keyed entries given s)
-      → (b : Bool) → nat_lt (sum_by (outside (more s)) rows) (sum_by (outside s) rows) ≡ b
-      → (s : ℕ → Bool) × IsLeast rows keyed entries given s
-  decide given s holds least rest false e = let l = less s in (s, record { holds = holds; closed = closed-if s (grind (arith, nat_tests)); least = least })
-  decide given s holds least rest true e = rest (grind (arith, nat_tests))
-
   grows : (given : ℕ → Bool) (k : ℕ) (s : ℕ → Bool) → sum_by (outside s) rows ≤ k → IsWithin rows given s
       → ((t : ℕ → Bool) → IsWithin rows given t → IsClosed rows keyed entries t → IsWithin rows s t)
       → (s : ℕ → Bool) × IsLeast rows keyed entries given s
-  grows given zero s few holds least = decide given s holds least (λ fewer. absurd (omega arith)) (nat_lt (sum_by (outside (more s)) rows) (sum_by (outside s) rows)) refl
-  grows given (suc k) s few holds least =
-      decide given s holds least (λ fewer. grows given k (more s) (omega arith)
-      ((sum-zero (only_in given (more s)) rows (λ h among. let a = at-most-sum (only_in given s) rows h among in grind (arith, nat_tests)))) (λ t h c. stays s t (least t h c) c))
-      (nat_lt (sum_by (outside (more s)) rows) (sum_by (outside s) rows)) refl
+  grows given zero s few holds least = (s, record { holds = holds; closed = closed-if s (let l = less s in omega arith); least = least })
+  grows given (suc k) s few holds least = elim (cases_lt (sum_by (outside (more s)) rows) (sum_by (outside s) rows)) [
+    | inl fewer ↦ grows given k (more s) (omega arith)
+        (sum-zero (only_in given (more s)) rows (λ h among. let a = at-most-sum (only_in given s) rows h among in grind (arith, nat_tests))) (λ t h c. stays s t (least t h c) c)
+    | inr enough ↦ (s, record { holds = holds; closed = closed-if s (let l = less s in omega arith); least = least })
+  ]
 
   within-self : (given : ℕ → Bool) → IsWithin rows given given
   within-self given = sum-zero (only_in given given) rows (λ h among. grind (arith, nat_tests))

@@ -1,41 +1,27 @@
 -- A pager with few of each is whole, by facts about its first numbers that compute.
-use Rattle.pagable_laws.proofs.Words.{◌≡◌, ℕ, zero, suc, ◌<◌, ◌≤◌, ◌==◌, ◌&&◌, Bool, true, false, List, [], ◌∷◌, refl, ap, sym, subst, arith, All, not, Ok, None, is_some, nat_lt, nat_le, nat_eq}
-use Rattle.pagable_laws.proofs.Words.{and_parts, agree_below, agree_below_at, nat_tests, AllPairs-cons, Among, times, one, updated, Owner, HandleRow, is_shared, is_loose, is_owner, type_of}
-use Rattle.pagable_laws.proofs.Words.{is_owned_by, owner_value, is_at, is_pin, is_share, held, pins, sharing, Core, OpenLoad, Root, of_cell, of_key, row_at, type_at, Alike, loses_value}
-use Rattle.pagable_laws.proofs.Words.{owned_outside, is_outside, is_keyed, IsLeast, MustList, Falls, fallen, IsHandleBefore, length, ◌∙◌, inl, Option, Some, ArcRef, sample_references, value_at}
-use Rattle.pagable_laws.proofs.Words.{is_shared_kind, is_handle, is_here, references_fault, WellFormed, MayOwnLoad, IsRootWhole, no_work, Sample, sample, sample_type, machine}
-use Rattle.pagable_laws.proofs.{Sums.sum-zero, GoodReferences.good}
-use Rattle.std.specs.List.{AllPairs}
+use Rattle.pagable_laws.proofs.Words.{◌≡◌, ℕ, suc, ◌<◌, ◌≤◌, ◌==◌, ◌&&◌, Bool, true, false, List, [], ◌∷◌, refl, ap, sym, subst, arith, All, not, Ok, None, is_some, nat_lt, nat_le, nat_eq, and_parts}
+use Rattle.pagable_laws.proofs.Words.{agree_below, agree_below_at, nat_tests, AllPairs-cons, Among, times, one, updated, Owner, HandleRow, is_shared, is_loose, is_owner, type_of, is_owned_by}
+use Rattle.pagable_laws.proofs.Words.{owner_value, is_at, is_pin, is_share, held, pins, sharing, Core, OpenLoad, Root, of_cell, of_key, row_at, type_at, Alike, loses_value, owned_outside, is_outside}
+use Rattle.pagable_laws.proofs.Words.{is_keyed, IsLeast, MustList, Falls, fallen, IsHandleBefore, length, ◌∙◌, inl, Option, Some, ArcRef, sample_references, value_at, is_shared_kind, is_handle}
+use Rattle.pagable_laws.proofs.{Words.{is_here, references_fault, WellFormed, MayOwnLoad, IsRootWhole, no_work, Sample, sample, sample_type, machine}, Sums.sum-zero, GoodReferences.good}
+use Rattle.std.specs.{Prelude.IfSome, List.{AllPairs, AllByRecursion as Each}}
 
 -- ---- lists, options and numbers
 
--- P of each; and of what there is
-abbrev pub Each : {X : Type 0} → (X → Type 0) → List X → Type 0
-Each P [] = Unit {0}
-Each P (x ∷ xs) = P x × Each P xs
-
-abbrev pub OfSome : {X : Type 0} → (X → Type 0) → Option X → Type 0
-OfSome P None = Unit {0}
-OfSome P (Some x) = P x
-
-of-some : {X : Type 0} (P : X → Type 0) {x : Option X} {y : X} → OfSome P x → x ≡ Some y → P y
-of-some P {x} {y} h is = subst (λ o. OfSome P o) is h
+-- what holds of what there is
+of-some : {X : Type 0} (P : X → Type 0) {x : Option X} {y : X} → IfSome x P → x ≡ Some y → P y
+of-some P {x} {y} h is = subst (λ o. IfSome o P) is h
 
 each-among : {X : Type 0} (P : X → Type 0) (xs : List X) (x : X) → Each P xs → Among xs x → P x
-each-among P [] x h (i, is) = absurd (cc)
-each-among P (y ∷ ys) x h (zero, is) = of-some P {x = Some y} h.0 is
 each-among P (y ∷ ys) x h (suc i, is) = each-among P ys x h.1 (i, is)
+each-among x0 x1 x2 x3 x4 = grind (arith, nat_tests, of-some)
 
 none-pass : {X : Type 0} (P : X → Type 0) (q : X → Bool) (xs : List X) → Each P xs → ((x : X) → P x → q x ≡ false) → times q xs ≡ 0
 none-pass P q xs all h = sum-zero (λ x. one (q x)) xs (λ x among. ap one (h x (each-among P xs x all among)))
 
 -- what holds of the first numbers and past them holds of all
 by-four : (P : ℕ → Type 0) → P 0 × P 1 × P 2 × P 3 → ((n : ℕ) → 3 < n → P n) → (n : ℕ) → P n
-by-four P h past zero = h.0
-by-four P h past (suc zero) = h.1
-by-four P h past (suc (suc zero)) = h.2
-by-four P h past (suc (suc (suc zero))) = h.3
-by-four P h past (suc (suc (suc (suc n)))) = past (suc (suc (suc (suc n)))) (omega arith)
+by-four x0 h past x3 = grind (arith, nat_tests)
 
 by-number : (k : ℕ) (f g : ℕ → Bool) → agree_below f g (suc k) ≡ true → ((n : ℕ) → k < n → f n ≡ g n) → (n : ℕ) → f n ≡ g n
 by-number k f g ok past n = part (nat_le n k) refl
@@ -141,8 +127,7 @@ falls-alone before w given (low_before, low, few, none, ok) =
     self false = refl
 
     past : {k : ℕ} (b : Bool) → k ≡ 0 → (b && nat_lt 0 k) ≡ false
-    past true e = rw e refl
-    past false e = refl
+    past x0 e = grind (arith, nat_tests)
 
 -- ---- what is whole
 
@@ -163,8 +148,7 @@ ordered low (h ∷ hs) (first, more) =
     let rest = ordered h.number.0 hs more in (AllPairs-cons IsHandleBefore h hs rest.1 rest.0, at (grind (arith, nat_tests)) rest.1)
   where
     at : low < h.number.0 → All (λ (x : HandleRow). h.number.0 < x.number.0) hs → All (λ (x : HandleRow). low < x.number.0) (h ∷ hs)
-    at first others zero d within = first
-    at first others (suc j) d within = let a = others j d (omega arith) in omega arith
+    at first others x2 d within = grind (arith, nat_tests)
 
 -- a handle's number was given, and its owner is there
 abbrev pub OwnerThere : Core → Owner → Type 0
@@ -177,7 +161,7 @@ RowThere w h = (nat_lt 0 h.number.0 ≡ true) × (nat_le h.number.0 w.last.handl
 
 abbrev pub RootFits : Core → Root → Type 0
 RootFits w (of_cell node t h) =
-    OfSome (λ u. u ≡ t) (type_at w node.0) × OfSome (λ (row : HandleRow). (row.node ≡ node) × (is_loose row.mode ≡ true)) (row_at w h)
+    IfSome (type_at w node.0) (λ u. u ≡ t) × IfSome (row_at w h) (λ (row : HandleRow). (row.node ≡ node) × (is_loose row.mode ≡ true))
     × (nat_le h.0 w.last.handle ≡ true) × (nat_le node.0 w.last.node ≡ true)
 RootFits w of_key = Unit {0}
 
@@ -201,7 +185,7 @@ ValueFits w n (Some x) =
 abbrev pub NumberFits : Core → List (Option Sample) → ℕ → Type 0
 NumberFits w vs n =
     ((is_some (w.cells n) && not (nat_lt 0 n && nat_le n w.last.node)) ≡ false) × (is_some (w.cells n) ≡ nat_lt 0 (held n w.rows))
-    × (is_some (value_at vs n) ≡ (is_some (w.cells n) && is_here w n)) × ValueFits w n (value_at vs n) × OfSome (LoadFits w n) (w.loads n)
+    × (is_some (value_at vs n) ≡ (is_some (w.cells n) && is_here w n)) × ValueFits w n (value_at vs n) × IfSome (w.loads n) (LoadFits w n)
 
 -- all that is asked of a pager with few of each: of its handles, of it as a whole, and of each number
 pub record HandlesFit (w : Core) : Type 0 where
@@ -215,7 +199,7 @@ pub record Stands (w : Core) (vs : List (Option Sample)) : Type 0 where
   pub stands_open : w.closed ≡ false
   pub room : (nat_le w.last.handle 9 ≡ true) × (nat_le w.last.node 3 ≡ true) × (nat_le w.last.load 3 ≡ true) × (nat_le (length w.rows) w.places.handles ≡ true)
   pub workers : (w.workers 0 ≡ false) × ((w.workers 1 && not (nat_le 1 w.last.worker)) ≡ false)
-  pub third : OfSome (λ t. t ≡ 1) (type_at w 3) × OfSome (λ n. nat_le n w.last.node ≡ true) (w.cache 4 8)
+  pub third : IfSome (type_at w 3) (λ t. t ≡ 1) × IfSome (w.cache 4 8) (λ n. nat_le n w.last.node ≡ true)
 
 pub record Passes (w : Core) (vs : List (Option Sample)) : Type 0 where
   pub handles : HandlesFit w
@@ -245,15 +229,14 @@ module _ (w : Core) (vs : List (Option Sample)) (few : Few w) (p : Passes w vs) 
   load : (l : ℕ) (load : OpenLoad) → w.loads l ≡ Some load → LoadFits w l load
   load l x is = of-some (LoadFits w l) (number l).4 is
 
-  load-numbered : (l : ℕ) (found : Option OpenLoad) → OfSome (LoadFits w l) found → is_some found ≡ true → (0 < l) × (l ≤ w.last.load)
+  load-numbered : (l : ℕ) (found : Option OpenLoad) → IfSome found (LoadFits w l) → is_some found ≡ true → (0 < l) × (l ≤ w.last.load)
   load-numbered l x1 fits some = grind (arith, nat_tests)
 
   node-numbered : (n : ℕ) → is_some (w.cells n) ≡ true → (0 < n) × (n ≤ w.last.node)
   node-numbered n some = let a = (number n).0 in grind (arith, nat_tests, and_parts)
 
   root-whole : (node : _) (t : ℕ) (h : _) → RootFits w (of_cell node t h) → IsRootWhole w node t h
-  root-whole node t h (typed, begun, given, node_given) =
-      record { typed = λ type at. of-some (λ u. u ≡ t) typed at; begun = λ r at. of-some _ begun at; given = (grind (arith, nat_tests), grind (arith, nat_tests)) }
+  root-whole node t h x3 = grind (arith, nat_tests, of-some)
 
   value : (n : ℕ) (x : Sample) → value_at vs n ≡ Some x → ValueFits w n (Some x)
   value n x is = subst (λ o. ValueFits w n o) is (number n).3
@@ -270,15 +253,10 @@ module _ (w : Core) (vs : List (Option Sample)) (few : Few w) (p : Passes w vs) 
           rw (a, b) refl
 
   list-owns-none : (q : ℕ) → times (λ h. is_handle q h && is_owned_by Owner.List h) w.rows ≡ 0
-  list-owns-none q = none-pass RowLow (λ h. is_handle q h && is_owned_by Owner.List h) w.rows p.handles.low (λ h ok. not-list (is_handle q h) h.owner ok.2)
-    where
-      not-list : (b : Bool) (o : Owner) → OwnerLow o → (b && is_owner Owner.List o) ≡ false
-      not-list x0 x1 ok = grind (arith, nat_tests)
+  list-owns-none q = grind (arith, nat_tests, none-pass, low)
 
   worker-numbered : (v : ℕ) → w.workers v ≡ true → v ≤ w.last.worker
-  worker-numbered zero is = omega arith
-  worker-numbered (suc zero) is = let a = p.stands.workers.1 in grind (arith, nat_tests)
-  worker-numbered (suc (suc v)) is = let e = few.2 (suc (suc v)) (omega arith) in absurd (cc)
+  worker-numbered x0 is = grind (arith, nat_tests)
 
   pub whole-so : WellFormed sample (machine w vs no_work).pager
   whole-so =

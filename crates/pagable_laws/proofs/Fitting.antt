@@ -1,8 +1,8 @@
 -- What a load reads goes on fitting, whatever it gets.
 use Rattle.pagable_laws.proofs.Words.{nat_tests, ◌≡◌, ℕ, zero, suc, ◌<◌, ◌≤◌, List, [], ◌∷◌, ◌++◌, Option, Some, ◌⊎◌, inl, inr, refl, sym, ap, ◌∙◌, subst, arith, slice_get, length, KeyRef}
-use Rattle.pagable_laws.proofs.Words.{length-append, ReadsAs, IsFollowed, number-followed, integer-followed, text-followed, pattern-followed, none-followed, pair-followed, variant-followed}
-use Rattle.pagable_laws.proofs.Words.{reference-followed, HandleRow, ArcRef, Kind, Blob, Types, Tree, type_of, ReadsTree, Meaning, Among, Frame, Next, asks, next_in, need_at, need_of, needs_nested}
-use Rattle.pagable_laws.proofs.{Words.{needs_lazy, root_frame, nested_frame, with_got, ReadsNodeTree, FrameFits, FramesFit, SameTrees, Needs, KeepsStored, FramesGiven}, Decoding.asks_next}
+use Rattle.pagable_laws.proofs.Words.{length-append, ReadsAs, HandleRow, ArcRef, Kind, Blob, Types, Tree, type_of, ReadsTree, Meaning, Among, Frame, Next, asks, next_in, need_at, need_of}
+use Rattle.pagable_laws.proofs.Words.{needs_nested, needs_lazy, root_frame, nested_frame, with_got, ReadsNodeTree, FrameFits, FramesFit, SameTrees, Needs, KeepsStored, FramesGiven}
+use Rattle.pagable_laws.proofs.{Decoding.asks_next, Trees.{each-type, followed-on}}
 
 -- ---- what is asked
 
@@ -23,15 +23,10 @@ module _ {stored stored' : ℕ → Option Blob} {types : Types} (kept : KeepsSto
   read-stays : {t key : ℕ} {m : Meaning KeyRef} → ReadsAs stored types t key m → ReadsAs stored' types t key m
   read-stays {t} {key} h = record { blob = h.blob; stored = kept key h.blob h.stored; rest = h.rest; reads = h.reads }
 
-  follows-stays : {m : Meaning KeyRef} {a : Meaning ⊥} → IsFollowed (ReadsAs stored types) m a → IsFollowed (ReadsAs stored' types) m a
-  follows-stays (pair-followed x y a b f g) = pair-followed x y a b (follows-stays f) (follows-stays g)
-  follows-stays (variant-followed n x a f) = variant-followed n x a (follows-stays f)
-  follows-stays (reference-followed r x a o f) = reference-followed r x a (read-stays o) (follows-stays f)
-  follows-stays h = search (number-followed, integer-followed, text-followed, pattern-followed, none-followed)
-
   -- what a key reads as stays
   pub tree-stays : {key : ℕ} {t : Tree} → ReadsTree stored types key t → ReadsTree stored' types key t
-  tree-stays h = record { own = h.own; reads = read-stays h.reads; follows = follows-stays h.follows }
+  tree-stays {t = t} h =
+      record { own = h.own; reads = read-stays h.reads; follows = followed-on (λ n. Unit {0}) (λ n key m all r. read-stays r) (each-type (λ n. tt) t.meaning) h.follows }
 
   pub node-stays : {trees trees' : ℕ → Tree} {key t n : ℕ} → trees' n ≡ trees n → ReadsNodeTree types stored trees key t n → ReadsNodeTree types stored' trees' key t n
   node-stays {key = key} same h = record { typed = ap (λ (z : Tree). z.type) same ∙ h.typed; reads = subst (λ (z : Tree). ReadsTree stored' types key z) (sym same) (tree-stays h.reads) }

@@ -65,9 +65,8 @@ record IsKnownOnce (kind key n : ℕ) (w : Core) : Type 0 where
 once-goes : (kind key n : ℕ) {c : Change} {w w' : Core} → Goes c w w' → KnowsNext c w → IsKnownOnce kind key n w → IsKnownOnce kind key n w'
 once-goes kind key n {w = w} g next once =
     let few = once.given in
-    let more = g.nodes in
     record {
-      given = omega (arith, few, more);
+      given = omega (arith, few, g.nodes);
       only = λ k q is. elim (g.cache k q n is) [
         | inl there ↦ once.only k q there
         | inr knows ↦ absurd (let e = next k q n knows in omega (arith, e, few))

@@ -2,15 +2,15 @@
 use Rattle.pagable_laws.proofs.Words.{◌≡◌, ℕ, zero, suc, ◌<◌, ◌≤◌, ◌==◌, Bool, true, false, List, [], ◌∷◌, refl, sym, subst, arith, Ok, None, is_some, nat_le, nat_tests, updated, Owner, HandleRow}
 use Rattle.pagable_laws.proofs.Words.{held, pins, Core, OpenLoad, of_cell, of_key, row_at, owned_outside, is_keyed, fallen, length, ◌∙◌, inl, Option, Some, sample_references, value_at, is_here}
 use Rattle.pagable_laws.proofs.Words.{references_fault, Sample, sample, machine, ◌++◌, ◌+◌, inr, is_none, if_there, blob_of, HandleNumber, NodeNumber, Blob, Took, Mode, Pinning, WorkerAnswer}
-use Rattle.pagable_laws.proofs.Words.{PagerState, TodoTakesWell, ArePremised, find_row, is_named_by, preimage, IsSettled, is_in, identity_of, Shelf, Written, Todo, Reading, to_start, to_pin, to_load}
-use Rattle.pagable_laws.proofs.Words.{to_write, to_set, to_publish, to_release, to_finish, to_item, digest, nobody, row_of, with_key, CloneCall, PinCall, StoreCall, WalkDoes, claim_fault}
-use Rattle.pagable_laws.proofs.Words.{is_workers_at, nothing-form, reference-form, without_worker, is_workers, AreMoments, Walking, Ends, is_counted, steps_after, TookWrites, SameShelf, no_shelf}
-use Rattle.pagable_laws.proofs.Words.{IsMachineWhole, IsReadingWhole, IsWalkingWhole, owner_worker, ◌⊎◌, LoadAnswer, Frame, BeginCall, ReadingDoes, root_frame, IsClosed, IsWithin, with_mode}
-use Rattle.pagable_laws.proofs.Words.{UnpinCall, named_fault, answers_from, ReadsRoot, IsCellOf, Event, EventReply, one_more, load_fault, reading_at, reading_after, ReadingsAre, ReadingBrings}
-use Rattle.pagable_laws.proofs.Words.{world_of, WorkStays, OnlyCore, Beginning, MachineState, fresh, references_in, SameReferences, IsReadable, LiesIn, Throughout, throughout-in, none-followed}
-use Rattle.pagable_laws.proofs.Words.{rest_of, Tree, tree, IsLawful, ReadsItsTypes, KeepsOpen, FallsAnyhow, HandOverCall, LazyCall, EndCall, SetKeyCall, PinsAtOnce, ReadsAsType, IsWellAsked}
-use Rattle.pagable_laws.proofs.{Words.{IsPremised, state_after, TwoLevelsMeetTheHeadline}, GoodReferences.good, Trees.same_some, Two.and-false, Joining.new_whole, Chains.headline_law}
-use Rattle.pagable_laws.proofs.Few.{updated-past, alike-self, falls-so, AreAlone, falls-alone, Few, Passes, whole-so}
+use Rattle.pagable_laws.proofs.Words.{PagerState, TodoTakesWell, ArePremised, find_row, is_named_by, preimage, IsSettled, is_in, identity_of, Shelf, Written, Todo, Reading, to_start, to_pin, to_write}
+use Rattle.pagable_laws.proofs.Words.{to_set, to_publish, to_release, to_finish, to_item, digest, nobody, row_of, with_key, CloneCall, PinCall, StoreCall, WalkDoes, claim_fault, is_workers_at}
+use Rattle.pagable_laws.proofs.Words.{nothing-form, reference-form, without_worker, is_workers, AreMoments, Walking, Ends, is_counted, steps_after, TookWrites, SameShelf, no_shelf, IsMachineWhole}
+use Rattle.pagable_laws.proofs.Words.{IsReadingWhole, IsWalkingWhole, owner_worker, ◌⊎◌, LoadAnswer, Frame, BeginCall, ReadingDoes, root_frame, IsClosed, IsWithin, with_mode, UnpinCall, named_fault}
+use Rattle.pagable_laws.proofs.Words.{answers_from, ReadsRoot, IsCellOf, Event, EventReply, one_more, load_fault, reading_at, reading_after, ReadingsAre, ReadingBrings, world_of, WorkStays, OnlyCore}
+use Rattle.pagable_laws.proofs.Words.{Beginning, MachineState, fresh, references_in, SameReferences, IsReadable, LiesIn, Throughout, throughout-in, none-followed, rest_of, Tree, tree, IsLawful}
+use Rattle.pagable_laws.proofs.Words.{ReadsItsTypes, KeepsOpen, FallsAnyhow, HandOverCall, LazyCall, EndCall, SetKeyCall, PinsAtOnce, ReadsAsType, IsWellAsked, IsPremised, state_after}
+use Rattle.pagable_laws.proofs.{Words.TwoLevelsMeetTheHeadline, GoodReferences.good, Trees.same_some, Two.and-false, Joining.new_whole, Chains.headline_law, Few.{updated-past, alike-self, falls-so}}
+use Rattle.pagable_laws.proofs.Few.{AreAlone, falls-alone, Few, Passes, whole-so}
 use Rattle.pagable_world.specs.Refusals.{OwnsLoad}
 use Rattle.pagable_world.specs.{Workers.Site, World.HasForm}
 use Rattle.pagable_laws.specs.TwoLevels as two
@@ -45,25 +45,17 @@ whole-at w vs shelf walking reading (few, p) walks reads = record { pager = whol
     walk-so walking fits n x is = grind (arith, nat_tests)
 
     there : (walking : Option Walking) → FitsWalking w walking → (n : ℕ) → w.workers n ≡ true → is_some (updated 1 walking (λ v. None) n) ≡ true
-    there walking fits zero is = let e = p.stands.workers.0 in absurd (cc)
-    there None fits (suc zero) is = absurd (cc)
-    there (Some x) fits (suc zero) is = refl
-    there walking fits (suc (suc n)) is = let e = few.2 (suc (suc n)) (omega arith) in absurd (cc)
+    there x0 fits x2 is = grind (arith, nat_tests)
 
 -- what is few stays few
 pub few-key : (w : Core) (n : NodeNumber) (key : ℕ) → Few w → Few (with_key w n key)
-few-key w n key few = (keyed, few.1, few.2, few.3)
-  where
-    keyed : (m : ℕ) → 3 < m → (with_key w n key).cells m ≡ None
-    keyed m lt = let e = few.0 m lt in grind (arith, nat_tests)
+few-key w n key few = grind (arith, nat_tests)
 
 pub few-fallen : (w : Core) (gone : ℕ → Bool) → Few w → Few (fallen w gone [])
 few-fallen w gone few = (λ n lt. let e = few.0 n lt in grind (arith, nat_tests), few.1, few.2, few.3)
 
 few-ended : (answer : Option WorkerAnswer) (w : Core) → Few w → Few (two.ended answer w)
-few-ended None w few = few
-few-ended (Some answer) w few =
-    few-fallen (without_worker w 1) (is_workers w 1) (few.0, λ l lt. let e = few.1 l lt in grind (arith, nat_tests), updated-past 1 1 false false w.workers (omega arith) few.2, few.3)
+few-ended x0 w few = grind (arith, nat_tests, few-fallen, updated-past)
 
 -- ---- each step
 
@@ -138,9 +130,7 @@ does-so w s (to_item written keys ∷ below) (all, is_open, free) = search (stor
 does-so w s todo ok = absurd ok
 
 few-next : (w : Core) (s : Shelf) (todo : List Todo) → Few w → let a = two.next_step w s todo in Few a.1
-few-next w s (to_set r through key height ∷ below) few = few-fallen (with_key w r.node key) nobody (few-key w r.node key few)
-few-next w s (to_release r key height ∷ below) few = few-fallen w (is_workers_at w 1 r.node.0) few
-few-next w s todo few = few
+few-next w s x2 few = grind (arith, nat_tests, few-fallen, few-key)
 
 -- what is written is a form of the value
 writes-so : (w : Core) (s : Shelf) (work : _) (todo : List Todo) → Asks w s todo → let a = two.next_step w s todo in TookWrites two.sample (λ w. w) (two.machine w two.two_values work).pager a.0
@@ -161,8 +151,7 @@ ends-so None w ok = alike-self w
 ends-so (Some answer) w alone = record { told = Ok tt; falls = falls-alone w (without_worker w 1) (is_workers w 1) alone }
 
 takes-so : (s : Core) (shelf : Shelf) (pager : PagerState two.Sample (Unit {0})) (todo : List Todo) → Asks s shelf todo → TodoTakesWell two.sample pager todo
-takes-so w s pager (to_load r place through reading ∷ below) ok = absurd ok
-takes-so w s pager todo ok = tt
+takes-so w s pager x3 ok = grind (arith, nat_tests)
 
 -- ---- the page-out, step by step
 
@@ -282,10 +271,7 @@ only-core w w' shelf walking P step = record { step = step; readings = λ l. non
 -- the one reading goes on, or is over
 reads-on : (w : Core) (r : Reading) (before : ℕ → Option Reading) → is_some (w.loads r.load.0) ≡ true → ((l : ℕ) → (l == r.load.0) ≡ false → before l ≡ None) → (l : ℕ)
     → two.reads (Some r) l ≡ if_there (λ (load : OpenLoad). updated r.load.0 (Some r) before l) None (w.loads l)
-reads-on w r before there other l = grind (arith, nat_tests, some-there, none-there)
-  where
-    some-there : {X Y : Type 0} (found : Option Y) (x : Option X) → is_some found ≡ true → x ≡ if_there (λ (y : Y). x) None found
-    some-there x0 x is = grind (arith, nat_tests)
+reads-on w r before there other l = grind (arith, nat_tests, none-there)
 
 reads-over : (w : Core) (r : Reading) (l : ℕ) → None ≡ if_there (λ (load : OpenLoad). updated r.load.0 None (two.reads (Some r)) l) None (w.loads l)
 reads-over w r l = grind (arith, nat_tests, none-there)

@@ -66,9 +66,7 @@ none-found q [] h none among is = absurd (cc)
 none-found q (x ∷ xs) h none among is = at (λ none a. none-found q xs h none a is) (is_handle q x) refl none among
   where
     at : (find_row q xs ≡ None → Among xs h → ⊥) → (b : Bool) → is_handle q x ≡ b → (if b then Some x else find_row q xs) ≡ None → Among (x ∷ xs) h → ⊥
-    at rest true e none among = absurd (cc)
-    at rest false e none (suc i, a) = rest none (i, a)
-    at rest false e none (zero, a) = grind (arith, nat_tests, self-number)
+    at rest x1 e none x4 = grind (arith, nat_tests, self-number)
 
 -- no number of a row is above this one
 abbrev pub AreUpTo : ℕ → List HandleRow → Type 0
@@ -89,12 +87,9 @@ once rows ordered a b (i, at) (j, there) same =
     let lt' = slice_get_within rows j b there in
     elim (cases_order i j) [
       | inl equal ↦ same_some _ _ (sym at ∙ (ap (slice_get rows) equal ∙ there))
-      | inr (inl before) ↦ absurd (let o = ordered i j a before lt' in before-self _ _ (ap (λ (h : HandleRow). h.number.0) n) (ap (λ (h : HandleRow). h.number.0) k) same o)
-      | inr (inr after) ↦ absurd (let o = ordered j i a after lt in before-self _ _ (ap (λ (h : HandleRow). h.number.0) k) (ap (λ (h : HandleRow). h.number.0) n) (sym same) o)
+      | inr (inl before) ↦ absurd (let o = rw (n, k) at (ordered i j a before lt') in omega arith)
+      | inr (inr after) ↦ absurd (let o = rw (k, n) at (ordered j i a after lt) in omega arith)
     ]
-  where
-    before-self : (x y : ℕ) {m n : ℕ} → x ≡ m → y ≡ n → m ≡ n → x < y → ⊥
-    before-self x y a b c lt = absurd (omega arith)
 
 pub stands-whole : {w : Core} → HandlesAreWhole w → (q : ℕ) (row : HandleRow) → find_row q w.rows ≡ Some row → Stands w.last.handle w.rows q row
 stands-whole {w} whole q row found =
@@ -146,18 +141,17 @@ stands-more {last} {more_last} {rows} {q} {row} more le none s =
       given = let g = s.given in omega arith;
     }
 
+only-one : (row h : HandleRow) → Among (row ∷ []) h → h ≡ row
+only-one row h x2 = grind (arith, nat_tests)
+
 pub stands-new : (last : ℕ) (rows : List HandleRow) (row : HandleRow) → AreUpTo last rows → row.number.0 ≡ last + 1 → Stands (last + 1) (rows ++ row ∷ []) row.number.0 row
 stands-new last rows row few next =
     let none = none-above last row.number.0 rows few (omega arith) in
     record {
       live = find-both row.number.0 rows (row ∷ []) ∙ (ap (λ x. or_else x (find_row row.number.0 (row ∷ []))) none ∙ find-front row.number.0 row [] (self-number row.number.0));
-      only = λ h (i, at) is. elim (among-either rows (row ∷ []) i h at) [ inl a ↦ absurd (none-found row.number.0 rows h none a is) | inr b ↦ only-one h b ];
+      only = λ h (i, at) is. elim (among-either rows (row ∷ []) i h at) [ inl a ↦ absurd (none-found row.number.0 rows h none a is) | inr b ↦ only-one row h b ];
       given = omega arith;
     }
-  where
-    only-one : (h : HandleRow) → Among (row ∷ []) h → h ≡ row
-    only-one h (zero, is) = cc
-    only-one h (suc i, is) = absurd (cc)
 
 -- ---- a cascade
 
@@ -169,8 +163,7 @@ found-kept gone q rows row kept found = found-by q row (λ xs. find_row q (left_
 
     later : (h : HandleRow) (hs : List HandleRow) → is_handle q h ≡ false → find_row q (left_rows gone hs) ≡ Some row → (b : Bool) → gone h.number.0 ≡ b
         → find_row q (left_rows gone (h ∷ hs)) ≡ Some row
-    later h hs is a true goes = rw goes a
-    later h hs is a false goes = rw goes (find-later q h _ is ∙ a)
+    later h hs is a x4 goes = grind (arith, nat_tests, find-later)
 
 pub among-kept : {X : Type 0} (test : X → Bool) (xs : List X) (x : X) → Among (filter test xs) x → Among xs x
 among-kept test [] x among = among
@@ -214,9 +207,6 @@ new-handle w node mode owner low = stands-new w.last.handle w.rows (row_of (w.la
 
 pins-by : {last : ℕ} (w : Core) {row : HandleRow} (k : HandleNumber) (q : ℕ) → k.0 ≡ q → Stands last w.rows q row → is_pinning row.mode ≡ true → HasPin w k
 pins-by w {row = row} k q is s pins = record { row = row; live = subst (λ n. find_row n w.rows ≡ Some row) (sym is) s.live; is = pins }
-
-has-pin-alike : {w w' : Core} (k : HandleNumber) → Alike w w' → HasPin w k → HasPin w' k
-has-pin-alike k a h = record { row = h.row; live = subst (λ rows. find_row k.0 rows ≡ Some h.row) (sym a.rows) h.live; is = h.is }
 
 module _ (w w' : Core) (low : AreLow w) where
   pin-call : (me : Owner) (h k : HandleNumber) → PinCall w me h (Ok (Pinning.Pinned k)) w' → HasPin w' k
@@ -264,12 +254,8 @@ low-handle w m node mode owner low a h among =
     let there : Among (w.rows ++ row_of (w.last.handle + 1) node mode owner ∷ []) h = subst (λ rows. Among rows h) a.rows among in
     elim (among-either w.rows (row_of (w.last.handle + 1) node mode owner ∷ []) there.0 h there.1) [
       | inl old ↦ let le = low h old in omega (arith, last, le)
-      | inr new ↦ let e = only-one h new in omega (arith, last, e)
+      | inr new ↦ let e = ap (λ (r : HandleRow). r.number.0) (only-one _ h new) in omega (arith, last, e)
     ]
-  where
-    only-one : (h : HandleRow) → Among (row_of (w.last.handle + 1) node mode owner ∷ []) h → h.number.0 ≡ w.last.handle + 1
-    only-one h (zero, is) = let e : row_of (w.last.handle + 1) node mode owner ≡ h = cc in sym (ap (λ (r : HandleRow). r.number.0) e)
-    only-one h (suc i, is) = absurd (cc)
 
 module _ {N B W : Type 0} (m : Seen N B W) (v : ℕ) (s s' : Site) (low : AreLow s.core) where
   at-once : (r : ArcRef) (through k : HandleNumber) → PinsAtOnce s.core (owner_worker v) r through k s'.core → HasPin s'.core k
@@ -304,5 +290,5 @@ pins-hold {W = W} m u u' (Event.WorkerStep n) (EventReply.WorkerMoved (Ok reply)
     let steps = happens.moves in
     let site : Site = record { core = u.core; shelf = u.work.shelves steps.walking.table; todo = steps.walking.todo } in
     let h = held m n.0 site steps.after (low-whole whole) steps.walking.todo i k (subst (λ (t : Took W). workers.Does m n.0 site steps.walking.todo t steps.after) is steps.does.does) in
-    has-pin-alike k (ends-alike n.0 steps.after.core u'.core reply.answer (steps.answers ∙ (ap (λ (t : Took W). answer_after steps.walking.todo t) is ∙ h.1)) steps.ends) h.0
+    grind (arith, nat_tests, find_row)
 pins-hold m u u' event reply whole happens = tt

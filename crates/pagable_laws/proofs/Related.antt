@@ -91,15 +91,11 @@ pub byte_tame : TameBytes byte_at
 unfolding Comes
 byte_tame = record { comes = elim [ [] ↦ inl (inl refl) | b ∷ bs ↦ record { used = b ∷ []; whole = refl; reads = λ y. refl } ] }
 
--- so many bytes
-bytes_front : (n : ℕ) (u y : List ℕ) → length u ≡ n → bytes_at n (u ++ y) ≡ Ok (u, y)
-bytes_front n u y is = rw (← is, le-ltb (length (u ++ y)) (length u) (omega (arith, length-append u y)), take_at u y, drop_at u y) refl
-
 pub bytes_tame : (n : ℕ) → TameBytes (bytes_at n)
 unfolding Comes
 bytes_tame n = record { comes = λ bs. elim (cases_lt (length bs) n) [
   | inl lt ↦ rw (lt-ltb (length bs) n lt) (inl (inl refl))
-  | inr le ↦ rw (le-ltb (length bs) n le) (record { used = take n bs; whole = sym (take-append-drop n bs); reads = λ y. bytes_front n (take n bs) y (length-take-le n bs le) })
+  | inr le ↦ rw (le-ltb (length bs) n le) (record { used = take n bs; whole = sym (take-append-drop n bs); reads = λ y. (grind (arith, nat_tests, le-ltb, length-append, take_at, drop_at, length-take-le n bs le)) })
 ] }
 
 last_is : (last : ℕ) (bs : List ℕ) → varint_at zero last bs ≡ (byte_at bs >>= λ p. if nat_le p.0 last then Ok p else Err Error.BadVarint)
@@ -352,9 +348,6 @@ Covers F parts s = F ⊎ Throughout IsReadable parts s
 over : {F : Type 0} {parts : ℕ → Shape} {s t : Shape} → (IsReadable s → IsReadable t) → Under s t → Covers F parts s → Covers F parts t
 over h u x2 = grind (arith, nat_tests, narrowed)
 
-covers-part : {F : Type 0} {parts : ℕ → Shape} {n : ℕ} → Covers F parts (nested n) → Covers F parts (parts n)
-covers-part x0 = grind (arith, nat_tests, part_of)
-
 -- what stands for a reference is looked up alike
 pub data OutLook {A B : Type 0} (E : Error → Type 0) (R : A → B → Type 0) : Result A Error → Result B Error → Type 0 where
   both-looked-up : (a : A) (b : B) → R a b → OutLook E R (Ok a) (Ok b)
@@ -421,12 +414,12 @@ module _ {A B C D : Type 0} {E : Error → Type 0} {F : Type 0} {S : A → B →
         (λ float. bytes_par (signed_at w64) (signed_tame w64) _ _ (λ z. variant-along _ _ _ (integer-along z)))
     json_par h text_case = likewise_par (bytes_par text_at text_tame _ _ (λ t. variant-along _ _ _ (text-along t))) (λ i. refl) (λ i. refl)
     json_par {d} {d2} h array_case =
-        then_same {f = λ count. enter d (λ get. seen (λ ms. variant 4 (sequence ms)) (items (get json) count))}
-        {g = λ count. enter d2 (λ get. seen (λ ms. variant 4 (sequence ms)) (items (get json) count))} (λ i. refl) (λ i. refl) (bytes_same length_at length_tame)
+        then_same {f = λ count. enter d (λ get. seen (λ ms. variant 4 (sequence ms)) (items (get json) count)) }
+        {g = λ count. enter d2 (λ get. seen (λ ms. variant 4 (sequence ms)) (items (get json) count)) } (λ i. refl) (λ i. refl) (bytes_same length_at length_tame)
         (λ count. enter_par _ _ h (λ get get2 g. seen_par _ _ (λ ms ns r. variant-along _ _ _ (sequence-two r)) (items_par (g json (inr (of_json tt))) count)))
     json_par {d} {d2} h object_case =
-        then_same {f = λ count. enter d (λ get. seen (λ es. variant 5 (of_entries (put_all (put_sorted text_order) [] es))) (items (two (get shapes.text) (get json)) count))}
-        {g = λ count. enter d2 (λ get. seen (λ es. variant 5 (of_entries (put_all (put_sorted text_order) [] es))) (items (two (get shapes.text) (get json)) count))} (λ i. refl)
+        then_same {f = λ count. enter d (λ get. seen (λ es. variant 5 (of_entries (put_all (put_sorted text_order) [] es))) (items (two (get shapes.text) (get json)) count)) }
+        {g = λ count. enter d2 (λ get. seen (λ es. variant 5 (of_entries (put_all (put_sorted text_order) [] es))) (items (two (get shapes.text) (get json)) count)) } (λ i. refl)
         (λ i. refl) (bytes_same length_at length_tame)
         (λ count. enter_par _ _ h
         (λ get get2 g. seen_par _ _ (λ es fs r. variant-along _ _ _ (sorted-two text_order r)) (items_par (entry_par (g shapes.text (inr (of_text tt))) (g json (inr (of_json tt)))) count)))
@@ -484,7 +477,7 @@ module _ {A B C D : Type 0} {E : Error → Type 0} {F : Type 0} {S : A → B →
           known_par (unsigned_at w) (unsigned_tame w) known (λ i. refl) (λ i. refl)
           (λ n e. seen_par (variant n) (variant n) (λ x y r. variant-along _ _ _ r) (with_par h (part n) (over (λ p. p n e) (λ nodes d l. l n e) t))) (λ n. refuses_par (Along F R) Error.UnknownTag)
       with_par h (shapes.reference kind) t = likewise_par (reference_par look look2 alike kind) (λ i. refl) (λ i. refl)
-      with_par h (nested n) t = likewise_par (enter_par _ _ h (λ get get2 g. g (parts n) (covers-part t))) (λ i. refl) (λ i. refl)
+      with_par h (nested n) t = likewise_par (enter_par _ _ h (λ get get2 g. g (parts n) (grind (arith, nat_tests, part_of)))) (λ i. refl) (λ i. refl)
 
       below_par : (left : ℕ) → DeeperPar E F S R parts (below look parts left) (below look2 parts left)
       unfolding below
