@@ -1,5 +1,5 @@
 -- What a blob asks for that is a form of some value; and that what was read of it names no handle twice, where the handles that were got are apart.
-use Rattle.pagable_laws.proofs.Words.{nat_tests, ◌≡◌, ℕ, ◌<◌, ◌≤◌, ◌==◌, true, List, [], ◌∷◌, ◌++◌, map, length, Option, Some, None, Result, Ok, Err, refl, sym, ap, subst, ◌∙◌, arith, length-append}
+use Rattle.pagable_laws.proofs.Words.{nat_tests, ◌≡◌, ℕ, ◌≤◌, ◌==◌, true, List, [], ◌∷◌, ◌++◌, map, length, Option, Some, None, Result, Ok, Err, refl, sym, ap, subst, ◌∙◌, arith, length-append}
 use Rattle.pagable_laws.proofs.Words.{append_assoc, slice_get, slice_get-get_or, append-nil, Error, ◌>>=◌, Meaning, rename, Rest, read, deepest, references_in, Form, kind_of_arc, Answer, answer_at}
 use Rattle.pagable_laws.proofs.Words.{handles_at, IsReadable, Throughout, ArcRef, Kind, Blob, Shape, Types, is_eager, times, Frame, answer_of, answers_from, Next, reads, asks, next_by, next_of}
 use Rattle.pagable_laws.proofs.Words.{next_in, rest, at, zero, suc, ◌+◌, ◌||◌, Bool, false, inr, if◌then◌else◌, sum_by-cons, Owner, Among, is_in, one, Core, reference_fault, references_fault}
@@ -147,7 +147,6 @@ module _ (types : Types) (t : ℕ) (blob : Blob) (refs : List ArcRef) (f : IsFor
       by : Ahead types t blob refs got → Ahead types t blob refs (got ++ r ∷ [])
       by (all-done own read all) = absurd (let e : reads own ≡ asks r.kind key = sym read ∙ next in cc)
       by (one-left done left q k split same there asked) =
-          let e : asks q.kind k ≡ asks r.kind key = sym asked ∙ next in
           let kinds : q.kind ≡ r.kind = cc in
           ahead (got ++ r ∷ []) (done ++ q ∷ []) left (split ∙ sym (append_assoc done (q ∷ []) left))
           (kinds-pushed got r ∙ ap (λ ks. ks ++ r.kind.0 ∷ []) same ∙ ap (λ (k : Kind). kinds_of done ++ k.0 ∷ []) (sym kinds) ∙ sym (kinds-pushed done q))
@@ -210,14 +209,11 @@ module _ (types : Types) (t : ℕ) (blob : Blob) (refs got : List ArcRef) (f : I
   in-place own is =
       let given = read-gives _ _ own is in
       let par = read_par {E = no_cause} {F = ⊥} {S = Answers} {R = InPlace got refs} answer_at own_look (λ kind a r h. h kind) 0 f.shape (inr f.can) in
-      let again = form-again [] f.form (looks-own refs) f.can in
-      let whole : read (record { levels = 0; look = own_look; parts = types.parts }) f.shape (rest blob.bytes refs) ≡ Ok (f.own, rest [] []) = rw append-nil at again in
+      let whole : read (record { levels = 0; look = own_look; parts = types.parts }) f.shape (rest blob.bytes refs) ≡ Ok (f.own, rest [] []) =
+      rw append-nil at (form-again [] f.form (looks-own refs) f.can) in
       let shaped : read_with types t blob got ≡ read (handles_at 0 types.parts) f.shape (rest blob.bytes (answers_from got 0 blob.keys)) = rw f.is refl in
-      let first : read (handles_at 0 types.parts) f.shape (rest blob.bytes (answers_from got 0 blob.keys)) ≡ Ok (own, given.0) = sym shaped ∙ given.1 in
-      (grind (arith, nat_tests, par.out (rest blob.bytes (answers_from got 0 blob.keys)) (rest blob.bytes refs) (record {
-        bytes = refl;
-        refs = grind (arith, nat_tests, all-answer, slice_get);
-      })))
+      grind (arith, nat_tests, par.out (rest blob.bytes (answers_from got 0 blob.keys)) (rest blob.bytes refs)
+          (record { bytes = refl; refs = grind (arith, nat_tests, all-answer, slice_get) }))
 
   -- ---- references, one by one
 

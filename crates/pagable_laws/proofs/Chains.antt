@@ -1,18 +1,18 @@
 -- Each event keeps trees: what it brings fits some trees afterwards, for which the machine stands then, with all that its loads read.
 use Rattle.pagable_laws.proofs.Words.{◌≡◌, ℕ, List, [], inl, inr, sym, subst, ◌⊎◌, Event, EventReply, Tree, Among, Reading, Values, Seen, IsLawful, MachineState, world_of, IsMachineWhole, StandsFor}
 use Rattle.pagable_laws.proofs.Words.{EventBrings, IsReadingOf, HoldsSettled, ReadsItsTypes, TakesWell, AsksWell, IsWellAsked, Change, CoreGoes, IsSteppedReading, EventFeels, by-call, by-reading}
-use Rattle.pagable_laws.proofs.Words.{by-key, arith, nat_tests, by-nothing, KeysAreReady, IsFresh, ChangeFits, ◌+◌, ◌≤◌, Option, Some, None, refl, ◌∙◌, OpenLoad, ◌∷◌, HandleNumber, IsIdle, IsPremised}
-use Rattle.pagable_laws.proofs.Words.{Moment, AreMoments, TreesAfter, TreesAlong, GivesTree, PinGives, IsRight, HasPin, PinHolds, WorkFits, KeysHeld, ◌==◌, ◌&&◌, Bool, true, false, ap, Ok, is_some}
+use Rattle.pagable_laws.proofs.Words.{by-key, arith, nat_tests, by-nothing, KeysAreReady, IsFresh, ChangeFits, ◌+◌, ◌≤◌, Option, Some, None, refl, ◌∙◌, ◌∷◌, HandleNumber, IsIdle, IsPremised, Moment}
+use Rattle.pagable_laws.proofs.Words.{AreMoments, TreesAfter, TreesAlong, GivesTree, PinGives, IsRight, HasPin, PinHolds, WorkFits, KeysHeld, ◌==◌, ◌&&◌, Bool, true, false, ap, Ok, is_some}
 use Rattle.pagable_laws.proofs.Words.{sum_by-append, sum_by-cons, Identity, WorkerNumber, one, times, Took, WorkerReply, Shelf, Slot, Walking, World, Happens, WorkerSteps, step_of, steps_of}
-use Rattle.pagable_laws.proofs.Words.{is_claim_of, is_on_table, claims_made, ◌++◌, append_assoc, is_none, WorkerAnswer, HandleRow, Owner, owner_worker, is_owned_by, is_owner, is_workers_load}
-use Rattle.pagable_laws.proofs.{Words.{state_after, events_of, replies_of, InOrder, TableMeets, HasLetGo, StepsAreWithin, WorkerIsRight, WorkIsRight, HeadlineLaw}, Felt.{reading-fits, none-comes}}
-use Rattle.pagable_laws.proofs.{Felt.{fits-nothing, fits-key, call-fits, trees-go-on}, Fitting.tree-stays, ReadingSteps.{is-reading-of, does-feels, readings-on}, Trees.same_some, Answering.keys-right}
-use Rattle.pagable_laws.proofs.{Coming.{waits-well, StandsIn, event-turns, turns-stand, idle-stands, updated-at, EventTurns, Went, HasGone, goes-on}, Naming.{held-at-first, held-on, keys-ready}}
-use Rattle.pagable_laws.proofs.{Outlasting.pins-hold, Stepping.{fits-at-first, fits-on}, ReadingStepsGive.{reads-give, LoadsStand, event-on, step-within, idle-bounded, steps-left}, Taking.pin_stands}
-use Rattle.pagable_laws.proofs.{Taking.{Going, going-new, going-on, going-step, given-nodes}, Standing.{ShelfGrows, is-same, puts-slot, grows, true-false, KeepsTask, Turned, keeps-task}}
-use Rattle.pagable_laws.proofs.{Standing.{WalkingStands, is_failing, is_open_in}, Once.{once_each, plus-none}, Sums.{sum-zero, one-small}}
+use Rattle.pagable_laws.proofs.Words.{is_claim_of, is_on_table, claims_made, ◌++◌, append_assoc, is_none, WorkerAnswer, HandleRow, Owner, owner_worker, is_owner, state_after, events_of, replies_of}
+use Rattle.pagable_laws.proofs.{Words.{InOrder, TableMeets, HasLetGo, StepsAreWithin, WorkerIsRight, WorkIsRight, HeadlineLaw}, Felt.{reading-fits, none-comes, fits-nothing, fits-key, call-fits}}
+use Rattle.pagable_laws.proofs.{Felt.trees-go-on, Fitting.tree-stays, ReadingSteps.{is-reading-of, does-feels, readings-on}, Trees.same_some, Answering.keys-right, Coming.{waits-well, StandsIn}}
+use Rattle.pagable_laws.proofs.{Coming.{event-turns, turns-stand, idle-stands, updated-at, EventTurns, Went, HasGone, goes-on}, Naming.{held-at-first, held-on, keys-ready}, Outlasting.pins-hold}
+use Rattle.pagable_laws.proofs.{Stepping.{fits-at-first, fits-on}, ReadingStepsGive.{reads-give, LoadsStand, event-on, step-within, idle-bounded, steps-left}, Taking.{pin_stands, Going, going-new}}
+use Rattle.pagable_laws.proofs.{Taking.{going-on, going-step, given-nodes}, Standing.{ShelfGrows, is-same, puts-slot, grows, true-false, KeepsTask, Turned, keeps-task, WalkingStands, is_open_in}}
+use Rattle.pagable_laws.proofs.{Once.{once_each, plus-none}, Sums.{sum-zero, one-small}}
 use Rattle.pagable_world.specs.Runs.{Does as DoesMoment}
-use Rattle.std.{proofs.Common.{append-nil, le_trans}, proofs.lemmas.Bool.false_from_ne_true}
+use Rattle.std.{proofs.Common.{append-nil, le_trans, rules}, proofs.lemmas.Bool.false_from_ne_true}
 
 module _ {N E B W : Type 0} (m : Seen N B W) (s : MachineState N E) (trees : ℕ → Tree) where
   reading-takes : (event : Event N B W) (reply : EventReply N B W) (reading : Reading) → IsSteppedReading (world_of s) event reading → IsWellAsked m.values s trees event reply
@@ -41,12 +41,9 @@ module _ {N E B W : Type 0} (m : Seen N B W) (s : MachineState N E) (trees : ℕ
         (f.0, (grind (arith, nat_tests)))
     event-fits lawful readable s' settled whole whole' ready event reply goes well (by-key k key row is sets keeps) = (
       trees,
-      fits-key lawful settled whole.pager whole'.pager stands.pager _ row.node.0 key (λ n x brings. no-value n x (subst (λ e. EventBrings m.values (world_of s) e n x) is brings))
+      fits-key lawful settled whole.pager whole'.pager stands.pager _ row.node.0 key (λ n x brings. (grind (arith, nat_tests, same_some)))
           (tree-stays goes.stored (ready k key row sets)),
     )
-      where
-        no-value : (n : ℕ) (x : N) → EventBrings m.values (world_of s) (let e : Event N B W = Event.WorkerStep k in e) n x → ⊥
-        no-value n x (other, at, brings) = grind (arith, nat_tests, same_some)
     event-fits lawful readable s' settled whole whole' ready event reply goes well (by-nothing stays keeps) = (
       trees,
       fits-nothing lawful settled whole.pager whole'.pager stands.pager _
@@ -96,18 +93,12 @@ module _ {N E B W : Type 0} (m : Seen N B W) (lawful : IsLawful m.values) (reada
       going-step on.whole.pager does.whole.pager on.stands.pager feels.core f.1 reading frames load at (going-of m s trees on.stands on.readings reading is) felt) feels.feels in
       let stands : StandsFor m.values x.after f.0 = record { pager = pager; readings = λ reading is. (readings reading is).fits } in
       let turns = event-turns m (world_of s) (world_of x.after) on.work (λ v w there. (on.whole.walkings v w there).table.1) x.event x.reply does.step.happens in
-      let fits = fits-on m s x.after trees f.0 (record { kept = feels.core.stored; last = feels.core.nodes; trees = f.1.same }) on.fits on.whole on.stands.pager on.settled readable lawful on.work x.event x.reply turns does.writes in
+      let fits = fits-on m s x.after trees f.0 (record { kept = feels.core.stored; last = feels.core.nodes; trees = f.1.same }) on.fits on.whole on.stands.pager
+      on.settled readable lawful on.work x.event x.reply turns does.writes in
       let held = held-on m s x.after x.event x.reply turns on.whole premised.stays_open does on.held in
       let pins = pins-hold m (world_of s) (world_of x.after) x.event x.reply on.whole.pager.whole.handles does.step.happens in
       let keys = keys-right m s x.after trees f.0 on.fits fits on.whole does.whole stands on.held held x.event x.reply does.step.happens in
-      let so : IsRight m.values s trees x.event x.reply x.after f.0 =
-      record {
-        pins_give = pin-gives m s x.after trees f.0 does.whole stands x.event x.reply pins;
-        reads_give = reads-give m lawful readable s x.after trees f.0 on.whole does.whole on.readings f.1.same stands x.event x.reply does;
-        leaves = keys.leaves;
-        publishes = keys.publishes;
-        key = keys.key;
-      } in
+      let so : IsRight m.values s trees x.event x.reply x.after f.0 = search (rules, pin-gives, reads-give) in
       record {
         trees' = f.0;
         after = record { keeps = f.1.same; stands = stands; so = so };
@@ -156,7 +147,7 @@ module _ {N B W : Type 0} (walkings : ℕ → Option Walking) (t : ℕ) (i : Ide
 
     step-claims : {v : WorkerNumber} (reply : WorkerReply W) → WorkerSteps m u v reply u'
         → one (is_some ((u.work.shelves t).slots i)) + one (is_on_table t (walkings v.0) && is_claim_of i reply.took) ≤ one (is_some ((u'.work.shelves t).slots i))
-    step-claims {v = v} reply s = by (s.walking.table == t) refl
+    step-claims {v = v} reply s = grind (arith, nat_tests, on, none-more, is-still, after, slots-stay, puts-slot, is-same)
       where
         w : Walking
         w = s.walking
@@ -166,10 +157,6 @@ module _ {N B W : Type 0} (walkings : ℕ → Option Walking) (t : ℕ) (i : Ide
 
         after : (u'.work.shelves w.table).slots i ≡ s.after.shelf.slots i
         after = (s.work.same_shelves w.table).slots i ∙ ap (λ (x : Shelf). x.slots i) (updated-at w.table s.after.shelf u.work.shelves)
-
-        by : (b : Bool) → (w.table == t) ≡ b
-            → one (is_some ((u.work.shelves t).slots i)) + one (is_on_table t (walkings v.0) && is_claim_of i reply.took) ≤ one (is_some ((u'.work.shelves t).slots i))
-        by x0 e = grind (arith, nat_tests, on, none-more, is-still, after, slots-stay, puts-slot, is-same)
 
     pub event-claims : (event : Event N B W) (reply : EventReply N B W) → Happens m u event reply u'
         → one (is_some ((u.work.shelves t).slots i)) + claim_made walkings t i event reply ≤ one (is_some ((u'.work.shelves t).slots i))
@@ -250,7 +237,7 @@ module _ {N E B W : Type 0} (m : Seen N B W) (s : MachineState N E) (work : Stan
   has-let-go : (n : ℕ) (walking : Walking) (answer : WorkerAnswer) → s.work.walkings n ≡ Some walking → walking.answer ≡ Some answer → HasLetGo (world_of s) n (s.work.shelves walking.table)
   unfolding is_open_in
   has-let-go n walking answer there is =
-      grind (arith, nat_tests, own, stands, is_failing, is_open_in, sum-zero, one, is_owned_by, owner_worker, is_owner, load)
+      grind (arith, nat_tests, own, stands, sum-zero, false_from_ne_true, true-false, owner-is, rests)
     where
       stands : WalkingStands (s.work.shelves walking.table) n walking
       stands = work.workers n walking there
@@ -262,15 +249,13 @@ module _ {N E B W : Type 0} (m : Seen N B W) (s : MachineState N E) (work : Stan
       own h among true e = true-false (whole.pager.whole.owners_there.workers h n among (owner-is n h.owner e)) rests
       own h among false e = ap one e
 
-      load : (l : ℕ) (o : Option OpenLoad) → s.pager.core.loads l ≡ o → is_workers_load n (s.pager.core.loads l) ≡ false
-      load l x1 e = grind (arith, nat_tests, is_workers_load, false_from_ne_true, is_owner, owner_worker, true-false, owner-is, rests)
-
 -- all that steps have come to, and that each step of a load was within its bound
 work-right : {N E B W : Type 0} (m : Seen N B W) (s : MachineState N E) (moments : List (Moment N E B W)) → IsMachineWhole m.values s → IsIdle s → AreMoments m s moments
     → StepsAreWithin m.values s moments × WorkIsRight m (state_after s moments) (events_of moments) (replies_of moments)
 work-right {N} {E} {B} {W} m s moments whole idle chain =
     let (all, within) = arrives m s moments chain whole (idle-stands s idle) (idle-bounded m.values.types s idle) in
-    (within, record { claims_right = record { distinct = distinct all; met = is-met m end all.work all.whole }; workers = worker all; loads = steps-left m.values end all.loads })
+    (within,
+      record { claims_right = record { distinct = grind (arith, nat_tests, one-small); met = is-met m end all.work all.whole }; workers = worker all; loads = steps-left m.values end all.loads })
   where
     end : MachineState N E
     end = state_after s moments
@@ -284,8 +269,6 @@ work-right {N} {E} {B} {W} m s moments whole idle chain =
     All : Type 0
     All = Arrives m s end happened replied
 
-    distinct : All → (t : ℕ) (i : Identity) → claims_made end.work.walkings t i happened replied ≤ 1
-    distinct all t i = let few = all.claims t i in let one_at_most = one-small (is_some ((end.work.shelves t).slots i)) in omega arith
 
     worker : All → (n : ℕ) (walking : Walking) → end.work.walkings n ≡ Some walking → WorkerIsRight m.written_of (world_of end) n walking (steps_of n happened replied)
     worker all n walking there =
@@ -296,7 +279,7 @@ work-right {N} {E} {B} {W} m s moments whole idle chain =
         record {
           order = order;
           once = once_each m.written_of walking.task (steps_of n happened replied) order
-              (λ i. le_trans (own-claims end.work.walkings walking.table i n walking there refl happened replied) (distinct all walking.table i));
+              (λ i. le_trans (own-claims end.work.walkings walking.table i n walking there refl happened replied) (grind (arith, nat_tests, one-small)));
           bounded = let within = went.within in omega arith;
           met = went.met;
           let_go = λ answer is. has-let-go m end all.work all.whole n walking answer there is;

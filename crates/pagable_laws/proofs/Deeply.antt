@@ -153,12 +153,10 @@ module _ {N E : Type 0} (v : Values N) (s : MachineState N E) (trees : ℕ → T
     | inr (inr memory) ↦ absurd (cc)
   ]
     where
-      goes : (h : ℕ) → h ≤ height (trees r.node.0).meaning → longest_path < place + h → IsTooDeepTask trees task
-      goes h le long = grind (arith, nat_tests, leads-down, longest_path, height)
 
       by : IsTooDeep shelf n (identity_of r) place → IsTooDeepTask trees task ⊎ WaitsForAsker shelf n (identity_of r)
-      by (inl long) = inl (goes 0 (omega arith) (omega arith))
-      by (inr (inl (key, h, p, long))) = inl (goes h (at-most-height (identity_of r) key h p) long)
+      by (inl long) = inl (grind (arith, nat_tests, leads-down))
+      by (inr (inl (key, h, p, long))) = inl (grind (arith, nat_tests, leads-down, at-most-height (identity_of r) key h p))
       by (inr (inr (slot, still, back))) = inr (record {
         slot = slot;
         still = still;
@@ -197,7 +195,6 @@ module _ {N E : Type 0} (v : Values N) (s : MachineState N E) (trees : ℕ → T
   not-long r l long =
       let p = shallow-tree (identity_of r) l.key l.below l.known in
       let u = above-grows r.kind.0 (height (trees r.node.0).meaning) l.below p.top in
-      let w = l.within in
       let d = p.deepest in
       absurd (omega arith)
 

@@ -1,10 +1,10 @@
 -- A pager with few of each is whole, by facts about its first numbers that compute.
 use Rattle.pagable_laws.proofs.Words.{◌≡◌, ℕ, suc, ◌<◌, ◌≤◌, ◌==◌, ◌&&◌, Bool, true, false, List, [], ◌∷◌, refl, ap, sym, subst, arith, All, not, Ok, None, is_some, nat_lt, nat_le, nat_eq, and_parts}
 use Rattle.pagable_laws.proofs.Words.{agree_below, agree_below_at, nat_tests, AllPairs-cons, Among, times, one, updated, Owner, HandleRow, is_shared, is_loose, is_owner, type_of, is_owned_by}
-use Rattle.pagable_laws.proofs.Words.{owner_value, is_at, is_pin, is_share, held, pins, sharing, Core, OpenLoad, Root, of_cell, of_key, row_at, type_at, Alike, loses_value, owned_outside, is_outside}
-use Rattle.pagable_laws.proofs.Words.{is_keyed, IsLeast, MustList, Falls, fallen, IsHandleBefore, length, ◌∙◌, inl, Option, Some, ArcRef, sample_references, value_at, is_shared_kind, is_handle}
-use Rattle.pagable_laws.proofs.{Words.{is_here, references_fault, WellFormed, MayOwnLoad, IsRootWhole, no_work, Sample, sample, sample_type, machine}, Sums.sum-zero, GoodReferences.good}
-use Rattle.std.specs.{Prelude.IfSome, List.{AllPairs, AllByRecursion as Each}}
+use Rattle.pagable_laws.proofs.Words.{owner_value, is_at, is_pin, is_share, held, pins, sharing, Core, OpenLoad, Root, of_cell, of_key, row_at, type_at, Alike, loses_value, owned_outside, is_keyed}
+use Rattle.pagable_laws.proofs.Words.{IsLeast, MustList, Falls, fallen, IsHandleBefore, length, ◌∙◌, inl, Option, Some, ArcRef, sample_references, value_at, is_shared_kind, is_handle, is_here}
+use Rattle.pagable_laws.proofs.{Words.{references_fault, WellFormed, MayOwnLoad, no_work, Sample, sample, sample_type, machine}, Sums.sum-zero, GoodReferences.good}
+use Rattle.std.{proofs.Common.rules, specs.{Prelude.IfSome, List.{AllPairs, AllByRecursion as Each}}}
 
 -- ---- lists, options and numbers
 
@@ -66,12 +66,6 @@ module _ (rows : List HandleRow) (low : Each RowLow rows) where
   owner-past : (n : ℕ) → 3 < n → (o : Owner) → OwnerLow o → is_owner (owner_value n) o ≡ false
   owner-past n lt x2 ok = grind (arith, nat_tests)
 
-  owned-past : (n : ℕ) → 3 < n → (more : HandleRow → Bool) → times (λ h. is_owned_by (owner_value n) h && more h) rows ≡ 0
-  owned-past n lt more = none-pass RowLow (λ h. is_owned_by (owner_value n) h && more h) rows low (λ h ok. let a = owner-past n lt h.owner ok.2 in rw a refl)
-
-  owns-past : (n : ℕ) → 3 < n → times (is_owned_by (owner_value n)) rows ≡ 0
-  owns-past n lt = none-pass RowLow (is_owned_by (owner_value n)) rows low (λ h ok. owner-past n lt h.owner ok.2)
-
 -- ---- what falls
 
 pub alike-self : (w : Core) → Alike w w
@@ -117,7 +111,7 @@ pub falls-alone : (before w : Core) (given : ℕ → Bool) → AreAlone before w
 falls-alone before w given (low_before, low, few, none, ok) =
     falls-so before w given given low_before few none (record {
       holds = sum-zero (λ h. one (given h.number.0 && not (given h.number.0))) w.rows (λ h among. self (given h.number.0));
-      closed = λ n goes. let a = by-number 3 (takes_more w given) never ok (λ n lt. past (loses_value w.rows (is_keyed w) [] given n) (owned-past w.rows low n lt (is_outside given))) n in
+      closed = λ n goes. let a = by-number 3 (takes_more w given) never ok (λ n lt. past (loses_value w.rows (is_keyed w) [] given n) (search (rules, none-pass, owner-past))) n in
           grind (arith, nat_tests);
       least = λ t holds closed. holds;
     })
@@ -218,7 +212,7 @@ module _ (w : Core) (vs : List (Option Sample)) (few : Few w) (p : Passes w vs) 
       past : (n : ℕ) → 3 < n → NumberFits w vs n
       past n lt =
           let short = p.stands.short in let none : value_at vs n ≡ None = past-end vs n (grind (arith, nat_tests)) in
-          let a = few.0 n lt in let b = few.1 n lt in let c = held-past w.rows p.handles.low n lt in rw (a, b, c, none) (refl, refl, refl, owns-past w.rows p.handles.low n lt, tt)
+          let a = few.0 n lt in let b = few.1 n lt in let c = held-past w.rows p.handles.low n lt in rw (a, b, c, none) (refl, refl, refl, grind (arith, nat_tests, none-pass, owner-past), tt)
 
   row : (h : HandleRow) → Among w.rows h → RowThere w h
   row h among = each-among (RowThere w) w.rows h p.handles.there among
@@ -229,15 +223,6 @@ module _ (w : Core) (vs : List (Option Sample)) (few : Few w) (p : Passes w vs) 
   load : (l : ℕ) (load : OpenLoad) → w.loads l ≡ Some load → LoadFits w l load
   load l x is = of-some (LoadFits w l) (number l).4 is
 
-  load-numbered : (l : ℕ) (found : Option OpenLoad) → IfSome found (LoadFits w l) → is_some found ≡ true → (0 < l) × (l ≤ w.last.load)
-  load-numbered l x1 fits some = grind (arith, nat_tests)
-
-  node-numbered : (n : ℕ) → is_some (w.cells n) ≡ true → (0 < n) × (n ≤ w.last.node)
-  node-numbered n some = let a = (number n).0 in grind (arith, nat_tests, and_parts)
-
-  root-whole : (node : _) (t : ℕ) (h : _) → RootFits w (of_cell node t h) → IsRootWhole w node t h
-  root-whole node t h x3 = grind (arith, nat_tests, of-some)
-
   value : (n : ℕ) (x : Sample) → value_at vs n ≡ Some x → ValueFits w n (Some x)
   value n x is = subst (λ o. ValueFits w n o) is (number n).3
 
@@ -246,17 +231,10 @@ module _ (w : Core) (vs : List (Option Sample)) (few : Few w) (p : Passes w vs) 
     where
       past : (q : ℕ) → 9 < q → nat_eq (refers x q) (owns w n q) ≡ true
       past q lt =
-          let few = p.stands.room.0 in
           let a : refers x q ≡ 0 = none-pass (λ (r : ArcRef). nat_le r.handle.0 9 ≡ true) (λ r. r.handle.0 == q) (sample_references x) (value n x is).2 (λ r ok. grind (arith, nat_tests)) in
           let b : owns w n q ≡ 0 = none-pass (RowThere w) (λ h. is_handle q h && is_owned_by (owner_value n) h) w.rows p.handles.there
           (λ h ok. let c = ok.1 in let d : is_handle q h ≡ false = grind (arith, nat_tests) in rw d refl) in
           rw (a, b) refl
-
-  list-owns-none : (q : ℕ) → times (λ h. is_handle q h && is_owned_by Owner.List h) w.rows ≡ 0
-  list-owns-none q = grind (arith, nat_tests, none-pass, low)
-
-  worker-numbered : (v : ℕ) → w.workers v ≡ true → v ≤ w.last.worker
-  worker-numbered x0 is = grind (arith, nat_tests)
 
   pub whole-so : WellFormed sample (machine w vs no_work).pager
   whole-so =
@@ -266,7 +244,7 @@ module _ (w : Core) (vs : List (Option Sample)) (few : Few w) (p : Passes w vs) 
           handles = record {
             ordered = (ordered 0 w.rows p.handles.rise).0;
             numbered = λ h among. let (a, b, c) = row h among in (grind (arith, nat_tests), grind (arith, nat_tests));
-            nodes_numbered = node-numbered;
+            nodes_numbered = grind (arith, nat_tests, number, and_parts);
             within = let a : w.last.handle ≤ 9 = grind (arith, nat_tests) in let b : w.last.node ≤ 3 = grind (arith, nat_tests) in let c : w.last.load ≤ 3 = grind (arith, nat_tests) in
                 (omega arith, omega arith, omega arith);
             live = λ n. (number n).1;
@@ -275,15 +253,15 @@ module _ (w : Core) (vs : List (Option Sample)) (few : Few w) (p : Passes w vs) 
             places = (grind (arith, nat_tests), let e : length w.list ≡ 0 = ap length p.stands.list in omega arith);
           };
           owners_there = record {
-            listed = λ q. subst (λ hs. times (λ h. h.0 == q) hs ≡ times (λ h. is_handle q h && is_owned_by Owner.List h) w.rows) (sym p.stands.list) (sym (list-owns-none q));
+            listed = λ q. subst (λ hs. times (λ h. h.0 == q) hs ≡ times (λ h. is_handle q h && is_owned_by Owner.List h) w.rows) (sym p.stands.list) (sym (grind (arith, nat_tests, none-pass, low)));
             waiting = λ h among is. absurd (subst (λ o. OwnerLow o) is (low h among).2);
             loads = λ h l among is. subst (λ o. OwnerThere w o) is (row h among).2;
             workers = λ h v among is. subst (λ o. OwnerThere w o) is (row h among).2;
           };
           loads = record {
-            numbered = λ l some. load-numbered l (w.loads l) (number l).4 some;
+            numbered = λ l some. grind (arith, nat_tests);
             owned = λ l x is. subst (λ o. MayOwnLoad w o) (sym (load l x is).2) tt;
-            roots = λ l x node t h is root. root-whole node t h (subst (λ r. RootFits w r) root (load l x is).3);
+            roots = λ l x node t h is root. grind (arith, nat_tests, of-some, subst (λ r. RootFits w r) root (load l x is).3);
           };
           cache = λ kind key n is. let (four, eight, three) = few.3 kind key n is in
               record {
@@ -291,7 +269,7 @@ module _ (w : Core) (vs : List (Option Sample)) (few : Few w) (p : Passes w vs) 
                 typed = λ t at. of-some (λ t. t ≡ 1) p.stands.third.0 (subst (λ k. type_at w k ≡ Some t) three at) ∙ ap type_of (sym four);
                 shares = λ h among at. (low h among).1 ∙ ap is_shared_kind (sym four);
               };
-          workers_numbered = worker-numbered;
+          workers_numbered = grind (arith, nat_tests);
           shut = λ closed. let e = p.stands.stands_open in absurd (cc);
         };
         counted = λ n. refl;

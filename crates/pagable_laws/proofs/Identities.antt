@@ -1,10 +1,10 @@
 -- Two kinds or keys never get one identity through one cache, and one kind and key gets the same for as long as its node is held.
-use Rattle.pagable_laws.proofs.Words.{◌≡◌, ℕ, zero, suc, ◌+◌, ◌≤◌, Bool, true, false, List, [], ◌∷◌, Some, None, inl, inr, refl, sym, ap, subst, ◌∙◌, if◌then◌else◌, arith, nat_tests, OptionalDataKey}
-use Rattle.pagable_laws.proofs.Words.{Owner, Mode, Kind, ArcRef, LoadNumber, type_of, Among, is_pinned_kind, mode_of, fits_mode, is_pinning, Core, Last, Alike, Seen, usable, with_handle}
-use Rattle.pagable_laws.proofs.Words.{with_node, with_cached, next_node, GetsKnown, adopted, first_key, MachineState, world_of, IsWhole, IsMachineWhole, Moment, AreMoments, state_after}
-use Rattle.pagable_laws.proofs.{Words.{GetsReference, IsFilledByReading, LeavesCache, StaysAlive, OneIdentityLaw, Change, nothing_felt, GetsRow}, Goes.{Goes, KnowsNext, quiet-then, quiet-goes, goes-quiet}}
-use Rattle.pagable_laws.proofs.{Goes.{alike, a-handle, fell-anyhow, adopts}, Called.gets-known, Outlasting.among-found, ReadingSteps.{cached-rows, got-known, got-fallen, got-born, is-cached}}
-use Rattle.pagable_laws.proofs.{ReadingSteps.event-goes, Sums.self-number, Effects.{IsEntered, IsHeldFor, can-use, entered-of, stays-alike, stays-fell}, SparingSteps.{keeps-open, event-lasts}}
+use Rattle.pagable_laws.proofs.Words.{◌≡◌, ℕ, zero, suc, ◌+◌, ◌≤◌, true, false, List, [], ◌∷◌, Some, None, inl, inr, refl, sym, ap, subst, ◌∙◌, arith, nat_tests, OptionalDataKey, Owner, Mode, Kind}
+use Rattle.pagable_laws.proofs.Words.{ArcRef, LoadNumber, type_of, Among, is_pinned_kind, mode_of, fits_mode, is_pinning, Core, Last, Alike, Seen, usable, with_handle, with_node, next_node, GetsKnown}
+use Rattle.pagable_laws.proofs.Words.{adopted, first_key, MachineState, world_of, IsWhole, IsMachineWhole, Moment, AreMoments, state_after, GetsReference, IsFilledByReading, LeavesCache, StaysAlive}
+use Rattle.pagable_laws.proofs.{Words.{OneIdentityLaw, Change, nothing_felt, GetsRow}, Goes.{Goes, KnowsNext, quiet-then, quiet-goes, goes-quiet, alike, a-handle, fell-anyhow, adopts}}
+use Rattle.pagable_laws.proofs.{Called.gets-known, Outlasting.among-found, ReadingSteps.{cached-rows, got-known, got-fallen, got-born, is-cached, event-goes}, Sums.self-number, Effects.IsEntered}
+use Rattle.pagable_laws.proofs.{Effects.{IsHeldFor, can-use, entered-of, stays-alike, stays-fell}, SparingSteps.{keeps-open, event-lasts}}
 
 -- ---- what is got
 
@@ -35,7 +35,8 @@ module _ {w w' : Core} (whole : IsWhole w) (kind : Kind) (key n : ℕ) (g : Gets
   old m is gets q enters = subst (λ x. Gotten w kind key x w') (sym gets.at ∙ g.at) (record { held = held-by kind key gets; from = got-old is q (enters (entered-of kind.0 key m w is)) })
 
   known : GetsKnown w g.l kind key g.k w' → Gotten w kind key n w'
-  known c = old c.n c.known (got-known whole.handles kind g.k g.row g.made c.next.above c.n (Owner.Load g.l) c.leaves) (gets-known {me = Owner.Caller} {lists = false} {Asks = Unit {0}} {Leaves = Unit {0}} c).goes (λ e h. stays-alike kind.0 key c.n c.leaves e h)
+  known c = old c.n c.known (got-known whole.handles kind g.k g.row g.made c.next.above c.n (Owner.Load g.l) c.leaves)
+      (gets-known {me = Owner.Caller} {lists = false} {Asks = Unit {0}} {Leaves = Unit {0}} c).goes (λ e h. stays-alike kind.0 key c.n c.leaves e h)
 
   new : (own : OptionalDataKey) (references : List ArcRef) → g.k.0 ≡ w.last.handle + 1 → usable w kind.0 key ≡ None → Alike (adopted w g.l kind key own references) w' → Gotten w kind key n w'
   new own references above none a =
@@ -91,13 +92,7 @@ once-got {w} {w'} kind key n whole filled (got-new none next l own references a)
 
 entered-got : {w w' : Core} (kind : Kind) (key n : ℕ) → w.closed ≡ false → Got w kind key n w' → HeldEnters w' kind key n
 entered-got kind key n opened (got-old is q enters) h = enters h
-entered-got {w} {w'} kind key n opened (got-new none next l own references a) h = stays-alike kind.0 key n a (entered w.closed opened) h
-  where
-    made : Core
-    made = with_handle (with_node w (type_of kind.0) own references) (next_node w) (mode_of kind.0) (Owner.Load l)
-
-    entered : (b : Bool) → b ≡ false → let d = if b then made else with_cached made kind key (next_node w) in IsEntered kind.0 key n d.cache d.cells
-    entered x0 is = grind (arith, nat_tests, self-number)
+entered-got kind key n opened (got-new none next l own references a) h = stays-alike kind.0 key n a (grind (arith, nat_tests, self-number)) h
 
 -- ---- along a chain
 

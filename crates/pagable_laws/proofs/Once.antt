@@ -9,9 +9,6 @@ use Rattle.pagable_laws.proofs.Words.{HandleNumber, false, Task, Written, is_ide
 abbrev from : ℕ → ℕ → Bool → ℕ
 from k p b = one (nat_le p k && b)
 
-at-most : (x b : Bool) → one (x && b) ≤ one b
-at-most x0 x1 = grind (arith, nat_tests)
-
 pub plus-none : (n : ℕ) → 0 + n ≡ n
 plus-none n = omega arith
 
@@ -94,7 +91,8 @@ module _ (k : ℕ) (i : Identity) where
     unfolding OnlyWaits all-left
     goes (to_start r place ∷ []) step next way follows = absurd way
     goes (to_start r place ∷ x ∷ xs) (Took.Claim j (Ok Claim.Claimed)) next way (is, e) = rw (is, e) (record { less = claims-it r (all-left (x ∷ xs)); way = way })
-    goes (to_start r place ∷ x ∷ xs) (Took.Claim j (Ok (Claim.Known key height))) next way (is, e) = let g = given r key height (x ∷ xs) way in rw e (record { less = let same = g.same in omega arith; way = g.way })
+    goes (to_start r place ∷ x ∷ xs) (Took.Claim j (Ok (Claim.Known key height))) next way (is, e) =
+        let g = given r key height (x ∷ xs) way in rw e (record { less = let same = g.same in omega arith; way = g.way })
     goes (to_start r place ∷ x ∷ xs) (Took.Claim j (Ok Claim.Waiting)) next way (is, e) = rw e (record { less = omega arith; way = way })
     goes (to_pin r place ∷ below) (Took.Pin j (Ok (PinStep.Held h))) next way (is, (through, e)) = rw (is, e) (record { less = skips r (all-left below); way = way })
     goes (to_pin r place ∷ below) (Took.Pin j (Ok (PinStep.LoadBegun l))) next way (is, (through, e)) = rw (is, e) (record { less = goes-up 0 r _ (all-left below) refl; way = way })
@@ -117,7 +115,6 @@ module _ (k : ℕ) (i : Identity) where
     along todo [] last way is = subst (λ t. 0 + all-left t ≤ 0 + all-left todo) (sym is) (omega arith)
     along todo (step ∷ steps) last way (mid, follows, leads) =
         let a = goes todo step mid way follows in
-        let less = a.less in
         let later = sum_by-cons (λ s. one (is_later_of k i s)) step steps in
         let claim = claim-cons step steps in
         let more = along mid steps last a.way leads in
@@ -149,10 +146,7 @@ module _ (k : ℕ) (i : Identity) where
     entry r place (Took.Claim j (Ok Claim.Claimed) ∷ steps) last (mid, (is, e), leads) few =
         let few_left : one (at r) + times (is_claim_of i) steps ≤ 1 = subst (λ j. one (is_identity i j) + times (is_claim_of i) steps ≤ 1) is
         (few-claims (Took.Claim j (Ok Claim.Claimed)) steps few) in
-        grind (arith, nat_tests, once-more, bounded, along, to_pin, least, at-most, nat_le)
-      where
-        least : {a b : ℕ} → a ≤ b → a + 0 ≤ b
-        least le = omega arith
+        grind (arith, nat_tests, once-more, bounded, along)
     entry r place (Took.Claim j (Ok (Claim.Known key height)) ∷ steps) last (mid, (is, e), leads) few = grind (arith, nat_tests, once-more, after-release)
     entry r place (Took.Claim j (Ok Claim.Waiting) ∷ steps) last (mid, (is, e), leads) few =
         grind (arith, nat_tests, once-more, fewer, few-claims, entry r place steps last (subst (λ m. Leads f m steps last) e leads) (fewer _ (few-claims (Took.Claim j (Ok Claim.Waiting)) steps few)))

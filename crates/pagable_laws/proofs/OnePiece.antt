@@ -142,14 +142,12 @@ module _ {N B W E : Type 0} (m : Seen N B W) (lawful : IsLawful m.values) (reada
   step-ready : (l : LoadNumber) (reply : LoadReply N) → LoadSteps m.values (world_of s) l reply (world_of s') → Ready s l → Ready s' l
   step-ready l reply x ready reading load at open_load = by reply.ended refl
     where
-      was : core.loads l.0 ≡ Some load
-      was = was-open l reply x load open_load
 
       a : IsAt l x.reading load
-      a = is-at l x.reading load x.at was
+      a = is-at l x.reading load x.at (grind (arith, nat_tests, was-open))
 
       before : LoadReady core x.reading.load load x.reading.frames
-      before = subst (λ k. LoadReady core k load x.reading.frames) (sym a.number) (ready x.reading load x.at was)
+      before = subst (λ k. LoadReady core k load x.reading.frames) (sym a.number) (ready x.reading load x.at (grind (arith, nat_tests, was-open)))
 
       by : (answer : Option (LoadAnswer N)) → reply.ended ≡ answer → LoadReady s'.pager.core l load reading.frames
       by (Some end) e = grind (arith, nat_tests, closes, a)
@@ -184,11 +182,9 @@ module _ {N B W E : Type 0} (m : Seen N B W) (lawful : IsLawful m.values) (reada
   references-fine l reading load a ready frame below x is decoded form =
       fine core (Owner.Load reading.load) [] (m.values.references x) good-one (λ r among. refl) once
     where
-      here : FramesFit m.values.types core.stored trees load.key reading.node_type (frame ∷ below)
-      here = subst (λ fs. FramesFit m.values.types core.stored trees load.key reading.node_type fs) is a.fits
 
       fits : FrameFits m.values.types core.stored trees frame
-      fits = first-fits m.values.types load.key reading.node_type core.stored trees frame below here
+      fits = first-fits m.values.types load.key reading.node_type core.stored trees frame below (grind (arith, nat_tests, core, a))
 
       front : Among reading.frames frame
       front = subst (λ fs. Among fs frame) (sym is) (zero, refl)

@@ -2,9 +2,9 @@
 use Rattle.pagable_laws.proofs.Words.{◌≡◌, ℕ, zero, suc, ◌+◌, ◌<◌, ◌≤◌, ◌==◌, ◌&&◌, Bool, true, false, List, [], ◌∷◌, ◌++◌, cond, refl, ap, sym, subst, ◌∙◌, inl, inr, arith, Option, Some, None, not}
 use Rattle.pagable_laws.proofs.Words.{if◌then◌else◌, filter, map, slice_get, cases_order, nat_tests, get_or_from_slice_get, slice_get_within, HandleNumber, NodeNumber, Among, changed, or_else, Owner}
 use Rattle.pagable_laws.proofs.Words.{HandleRow, find_row, is_handle, is_owner, owner_value, Core, Last, Alike, IsLeast, is_keyed, Falls, left_rows, fallen, IsHandleBefore, HandlesAreWhole, Ok}
-use Rattle.pagable_laws.proofs.Words.{ArcRef, Identity, LoadNumber, Mode, Event, EventReply, LoadAnswer, WorkerAnswer, Took, Call, Reply, Pinning, PinStep, is_pinning, is_loose, owner_worker, World}
-use Rattle.pagable_laws.proofs.Words.{Seen, Todo, to_pin, is_named_by, CloneCall, PinCall, with_pin, without_load, is_owned_in, EndCall, Site, PinsAtOnce, answer_after, Ends, Happens, HasPin, to_load}
-use Rattle.pagable_laws.proofs.{Words.{row_at, FallsAnyhow, row_of, with_handle, with_mode, moved, PinHolds}, Decoding.among-either, Existing.outlast, Goes.{le-more, found-number, none-in-new}}
+use Rattle.pagable_laws.proofs.Words.{ArcRef, Identity, LoadNumber, Mode, Event, EventReply, LoadAnswer, Took, Call, Reply, Pinning, PinStep, is_pinning, is_loose, owner_worker, World, Seen, Todo}
+use Rattle.pagable_laws.proofs.Words.{to_pin, is_named_by, CloneCall, PinCall, with_pin, without_load, is_owned_in, EndCall, Site, PinsAtOnce, answer_after, Happens, HasPin, to_load, row_at}
+use Rattle.pagable_laws.proofs.{Words.{FallsAnyhow, row_of, with_handle, with_mode, moved, PinHolds}, Decoding.among-either, Existing.outlast, Goes.{le-more, found-number, none-in-new}}
 use Rattle.pagable_laws.proofs.{Sums.{same-number, self-number}, Trees.same_some}
 use Rattle.pagable_world.specs.Loads.{Does}
 use Rattle.std.{specs.List.AllPairs, proofs.lemmas.Bool.false_from_ne_true, proofs.Common.rules}
@@ -114,11 +114,9 @@ module _ (test : HandleRow → Bool) (f : HandleRow → HandleRow) (same : (h : 
 
   pub found-after : (q : ℕ) (rows : List HandleRow) (row : HandleRow) → find_row q rows ≡ Some row → find_row q (changed test f rows) ≡ Some (after row)
   found-after q rows row found =
-      found-by q row (λ xs. find_row q (changed test f xs) ≡ Some (after row)) (λ h hs is e. find-front q (after h) _ (still h is) ∙ ap (λ (x : HandleRow). Some (after x)) e)
-      (λ h hs is a. find-later q (after h) _ (still h is) ∙ a) rows found
-    where
-      still : {b : Bool} (h : HandleRow) → is_handle q h ≡ b → is_handle q (after h) ≡ b
-      still h is = ap (λ (k : HandleNumber). k.0 == q) (after-number h) ∙ is
+      found-by q row (λ xs. find_row q (changed test f xs) ≡ Some (after row))
+      (λ h hs is e. find-front q (after h) _ (grind (arith, nat_tests, after-number)) ∙ ap (λ (x : HandleRow). Some (after x)) e)
+      (λ h hs is a. find-later q (after h) _ (grind (arith, nat_tests, after-number)) ∙ a) rows found
 
   pub stands-changed : {last : ℕ} {rows : List HandleRow} {q : ℕ} {row : HandleRow} → Stands last rows q row → Stands last (changed test f rows) q (after row)
   stands-changed {last} {rows} {q} {row} s =
@@ -156,14 +154,10 @@ stands-new last rows row few next =
 -- ---- a cascade
 
 pub found-kept : (gone : ℕ → Bool) (q : ℕ) (rows : List HandleRow) (row : HandleRow) → gone q ≡ false → find_row q rows ≡ Some row → find_row q (left_rows gone rows) ≡ Some row
-found-kept gone q rows row kept found = found-by q row (λ xs. find_row q (left_rows gone xs) ≡ Some row) front (λ h hs is a. later h hs is a (gone h.number.0) refl) rows found
+found-kept gone q rows row kept found = found-by q row (λ xs. find_row q (left_rows gone xs) ≡ Some row) front (λ h hs is a. grind (arith, nat_tests, find-later)) rows found
   where
     front : (h : HandleRow) (hs : List HandleRow) → is_handle q h ≡ true → h ≡ row → find_row q (left_rows gone (h ∷ hs)) ≡ Some row
     front h hs is e = let stays : gone h.number.0 ≡ false = ap gone (same-number _ _ is) ∙ kept in rw stays (find-front q h _ is ∙ ap (λ (x : HandleRow). Some x) e)
-
-    later : (h : HandleRow) (hs : List HandleRow) → is_handle q h ≡ false → find_row q (left_rows gone hs) ≡ Some row → (b : Bool) → gone h.number.0 ≡ b
-        → find_row q (left_rows gone (h ∷ hs)) ≡ Some row
-    later h hs is a x4 goes = grind (arith, nat_tests, find-later)
 
 pub among-kept : {X : Type 0} (test : X → Bool) (xs : List X) (x : X) → Among (filter test xs) x → Among xs x
 among-kept test [] x among = among
@@ -273,9 +267,6 @@ module _ {N B W : Type 0} (m : Seen N B W) (v : ℕ) (s s' : Site) (low : AreLow
   held (to_pin r place ∷ below) i k (is, p) = (at-once r p.pins.0 k p.pins.1, refl)
   held (to_load r place through reading ∷ below) i k (is, p) = let e = p.goes.0.does.0 in (end-call s.core s'.core low (owner_worker v) reading.load e.x _ _ k (λ n is. absurd (cc)) e.ended, refl)
   held _ i k does = absurd does
-
-ends-alike : (v : ℕ) (w w' : Core) (answer : Option WorkerAnswer) → answer ≡ None → Ends answer v w w' → Alike w w'
-ends-alike v w w' answer is e = subst (λ a. Ends a v w w') is e
 
 -- each pin of an event that answers one
 pub pins-hold : {N B W : Type 0} (m : Seen N B W) (u u' : World) (event : Event N B W) (reply : EventReply N B W) → HandlesAreWhole u.core → Happens m u event reply u' → PinHolds event reply u'.core

@@ -11,7 +11,7 @@ use Rattle.pagable_laws.proofs.Words.{read_with, below, LiesIn, deepest, read, I
 use Rattle.pagable_laws.proofs.{Words.{followed, rename, Form, at, IsNatural, IsReadOver, IsRenamed, IsReadThrough, KeepsForms, take_at, drop_at, append-nil}, Along.{Along, number-along}}
 use Rattle.pagable_laws.proofs.Along.{integer-along, text-along, pattern-along, none-along, pair-along, variant-along, reference-along, lifted-along, plain-along, AllTwo, no-two, more-two, EntryAlong}
 use Rattle.pagable_laws.proofs.{Along.{followed-along, form-along}, Again.{Under, here, narrowed, part_of, of_json, of_text}}
-use Rattle.std.{proofs.Common.rules, specs.Int.{Width, w8, w16, w32, w64, w128}, specs.Str.{is_utf8, chars}, specs.List.AllByRecursion}
+use Rattle.std.{proofs.Common.rules, proofs.lemmas.List.map-id, specs.Int.{Width, w8, w16, w32, w64, w128}, specs.Str.{is_utf8, chars}, specs.List.AllByRecursion}
 use mathlib.Core.Path.{fun_ext}
 use Rattle.pagable_model.specs.Meaning as meanings
 use Rattle.pagable_model.specs.Shape as shapes
@@ -95,7 +95,11 @@ pub bytes_tame : (n : ℕ) → TameBytes (bytes_at n)
 unfolding Comes
 bytes_tame n = record { comes = λ bs. elim (cases_lt (length bs) n) [
   | inl lt ↦ rw (lt-ltb (length bs) n lt) (inl (inl refl))
-  | inr le ↦ rw (le-ltb (length bs) n le) (record { used = take n bs; whole = sym (take-append-drop n bs); reads = λ y. (grind (arith, nat_tests, le-ltb, length-append, take_at, drop_at, length-take-le n bs le)) })
+  | inr le ↦ rw (le-ltb (length bs) n le) (record {
+    used = take n bs;
+    whole = sym (take-append-drop n bs);
+    reads = λ y. grind (arith, nat_tests, le-ltb, length-append, take_at, drop_at, length-take-le n bs le);
+  })
 ] }
 
 last_is : (last : ℕ) (bs : List ℕ) → varint_at zero last bs ≡ (byte_at bs >>= λ p. if nat_le p.0 last then Ok p else Err Error.BadVarint)
@@ -121,23 +125,15 @@ unsigned_tame w128 = varint_tame 18 3
 pub signed_tame : (w : Width) → TameBytes (signed_at w)
 signed_tame w = and_then bytes_join (λ n bs. Ok (signed_from w n, bs)) _ (λ bs. refl) (unsigned_tame w) (λ n. gives bytes_join (signed_from w n))
 
-flag_of : ℕ → List ℕ → Read Bool
-flag_of zero bs = Ok (false, bs)
-flag_of (suc zero) bs = Ok (true, bs)
-flag_of (suc (suc n)) bs = Err Error.BadBool
-
-bool_is : (bs : List ℕ) → bool_at bs ≡ (byte_at bs >>= λ p. flag_of p.0 p.1)
-unfolding bool_at flag_of
-bool_is x0 = grind (arith, nat_tests)
-
-flag_tame : (n : ℕ) → TameBytes (flag_of n)
-unfolding flag_of
-flag_tame zero = gives bytes_join false
-flag_tame (suc zero) = gives bytes_join true
-flag_tame (suc (suc n)) = refuses bytes_join Bool Error.BadBool
+bool_comes : (bs : List ℕ) → Comes more_bytes bool_at bs (bool_at bs)
+unfolding Comes bool_at
+bool_comes [] = inl (inl refl)
+bool_comes (zero ∷ bs) = record { used = 0 ∷ []; whole = refl; reads = λ y. refl }
+bool_comes (suc zero ∷ bs) = record { used = 1 ∷ []; whole = refl; reads = λ y. refl }
+bool_comes (suc (suc n) ∷ bs) = inr (λ x. refl)
 
 pub bool_tame : TameBytes bool_at
-bool_tame = and_then bytes_join flag_of _ bool_is byte_tame flag_tame
+bool_tame = record { comes = bool_comes }
 
 pub length_tame : TameBytes length_at
 unfolding length_at
@@ -168,15 +164,6 @@ duration_tame =
 
 -- ---- what is put into maps and sets
 
-module _ {A B : Type 0} {F : Type 0} {R : A → B → Type 0} where
-  pub sequence-two : {ms : List (Meaning A)} {ns : List (Meaning B)} → AllTwo (Along F R) ms ns → Along F R (sequence ms) (sequence ns)
-  sequence-two no-two = none-along
-  sequence-two (more-two m n ms ns h g) = pair-along _ _ _ _ h (sequence-two g)
-
-  pub entries-two : {es : List (Entry A)} {fs : List (Entry B)} → AllTwo (EntryAlong F R) es fs → Along F R (of_entries es) (of_entries fs)
-  entries-two no-two = none-along
-  entries-two (more-two e f es fs h g) = pair-along _ _ _ _ (pair-along _ _ _ _ h.key h.value) (entries-two g)
-
 one-two : {X Y : Type 0} {V : X → Y → Type 0} (x : X) (y : Y) → V x y → AllTwo V (x ∷ []) (y ∷ [])
 one-two x y v = more-two x y [] [] v no-two
 
@@ -193,6 +180,14 @@ module _ {X Y : Type 0} {V : X → Y → Type 0} (put : List X → X → List X)
   put_all-two (more-two x y xs ys v g) h = put_all-two g (put-two x y v h)
 
 module _ {A B : Type 0} {F : Type 0} {R : A → B → Type 0} where
+  pub sequence-two : {ms : List (Meaning A)} {ns : List (Meaning B)} → AllTwo (Along F R) ms ns → Along F R (sequence ms) (sequence ns)
+  sequence-two no-two = none-along
+  sequence-two (more-two m n ms ns h g) = pair-along _ _ _ _ h (sequence-two g)
+
+  pub entries-two : {es : List (Entry A)} {fs : List (Entry B)} → AllTwo (EntryAlong F R) es fs → Along F R (of_entries es) (of_entries fs)
+  entries-two no-two = none-along
+  entries-two (more-two e f es fs h g) = pair-along _ _ _ _ (pair-along _ _ _ _ h.key h.value) (entries-two g)
+
   sorted-two : (order : KeyOrder) {es : List (Entry A)} {fs : List (Entry B)} → AllTwo (EntryAlong F R) es fs
       → Along F R (of_entries (put_all (put_sorted order) [] es)) (of_entries (put_all (put_sorted order) [] fs))
   sorted-two order h = entries-two (put_all-two _ _ one-two (λ x u y w acc acc2 v g k l. search (rules, more-two, plain-along)) h no-two)
@@ -568,35 +563,25 @@ natural {A} {B} {C} {D} f g look other levels parts s input h =
     let par = read_par look other alike levels s (inl tt) in
     natural-out f g (par.out input (rest input.bytes (map f input.refs)) (record { bytes = refl; refs = all-map f input.refs }))
 
-same : {B : Type 0} → B → B
-same b = b
-
-rename_same : {B : Type 0} (m : Meaning B) → rename same m ≡ m
-unfolding rename same
+rename_same : {B : Type 0} (m : Meaning B) → rename (λ b. b) m ≡ m
+unfolding rename
 rename_same (pair a b) = rw (rename_same a, rename_same b) refl
 rename_same (variant n a) = rw (rename_same a) refl
 rename_same (followed kind a) = rw (rename_same a) refl
 rename_same _ = refl
 
-map_same : {A : Type 0} (k : List A) → map same k ≡ k
-unfolding same
-map_same [] = refl
-map_same (a ∷ k) = rw (map_same k) refl
-
-found : {B : Type 0} (r : Result B Error) → r ≡ (r >>= λ b. Ok (same b))
-unfolding same
+found : {B : Type 0} (r : Result B Error) → r ≡ (r >>= λ b. Ok b)
 found x0 = grind (arith, nat_tests)
 
 pub read_over : {A B C : Type 0} → IsReadOver A B C
 read_over f look levels parts s input =
-    natural f same (λ kind a. look kind (f a)) look levels parts s input (λ kind a. found (look kind (f a)))
+    natural f (λ b. b) (λ kind a. look kind (f a)) look levels parts s input (λ kind a. found (look kind (f a)))
     ∙ (grind (arith, nat_tests, rename_same))
 
 pub renamed : {A B D : Type 0} → IsRenamed A B D
-unfolding same
 renamed {A} {B} {D} g look levels parts s input =
-    let all = natural same g look (λ kind a. look kind a >>= λ b. Ok (g b)) levels parts s input (λ kind a. refl) in
-    ap (λ (k : List A). read (at levels (λ kind a. look kind a >>= λ b. Ok (g b)) parts) s (rest input.bytes k)) (sym (map_same input.refs)) ∙ all ∙ (grind (arith, nat_tests, map_same))
+    let all = natural (λ a. a) g look (λ kind a. look kind a >>= λ b. Ok (g b)) levels parts s input (λ kind a. refl) in
+    ap (λ (k : List A). read (at levels (λ kind a. look kind a >>= λ b. Ok (g b)) parts) s (rest input.bytes k)) (sym (map-id input.refs)) ∙ all ∙ (grind (arith, nat_tests, map-id))
 
 pub keeps_forms : {A B : Type 0} → KeepsForms A B
 keeps_forms {A} {B} f kind_of kind_of2 parts left s m b k kinds h =

@@ -347,10 +347,7 @@ module _ (v : ℕ) (task : Task) (shelf shelf' : Shelf) where
     changes = changes;
     all = all;
     covers = covers;
-    unfailed = λ nothing clean j slot there own. elim (put-cases shelf.slots shelf'.slots i new puts j slot there) [
-      | inl e ↦ ap (λ (s : Slot). is_failed s.outcome) e.1 ∙ good
-      | inr e ↦ clean j slot e.1 own
-    ];
+    unfailed = grind (arith, nat_tests, put-cases);
     done = λ a is. absurd (cc);
     met = λ j slot none there. elim (put-cases shelf.slots shelf'.slots i new puts j slot there) [ inl e ↦ subst (λ k. Meets shelf' task k) (sym e.0) meets | inr e ↦ some-none e.1 none ];
   }
@@ -535,13 +532,10 @@ is-stepped v shelves shelves' walkings walkings' w now at at_now same_table same
       changes = λ t. change t (nat_eq t w.table) refl;
       others = others;
       own = λ x there. let e = some-same at there in record { now = now; there = at_now; table = same_table ∙ ap (λ (y : Walking). y.table) e; task = same_task ∙ ap (λ (y : Walking). y.task) e };
-      met = λ t i slot none there. meet t i slot none there (nat_eq t w.table) refl;
+      met = λ t i slot none there. grind (arith, nat_tests, same-worker, some-none);
       stands = grind (arith, nat_tests, some-same);
     }
   where
     change : (t : ℕ) (b : Bool) → nat_eq t w.table ≡ b → Changes v (shelves t) (shelves' t)
     change t true e = subst (λ n. Changes v (shelves n) (shelves' n)) (sym (same-worker t w.table e)) goes.changes
     change t false e = same-slots v (shelves t) (shelves' t) (elsewhere t e)
-
-    meet : (t : ℕ) (i : Identity) (slot : Slot) → (shelves t).slots i ≡ None → (shelves' t).slots i ≡ Some slot → (b : Bool) → nat_eq t w.table ≡ b → IsMetBy (shelves' t) walkings' v t i
-    meet t i slot none there x5 e = grind (arith, nat_tests, same-worker, some-none)

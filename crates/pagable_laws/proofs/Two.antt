@@ -1,5 +1,5 @@
 -- What falls of a value of two levels; and a lone cell that is unpinned.
-use Rattle.pagable_laws.proofs.Words.{◌≡◌, ℕ, ◌+◌, ◌≤◌, ◌&&◌, Bool, true, false, List, [], ◌∷◌, length, refl, ap, inl, inr, arith, not, Option, Ok, sum_by-cons, nat_tests, Blob, one, Owner, Mode}
+use Rattle.pagable_laws.proofs.Words.{◌≡◌, ℕ, ◌+◌, ◌≤◌, ◌&&◌, Bool, true, false, List, [], ◌∷◌, length, refl, ap, inl, inr, arith, Option, Ok, sum_by-cons, nat_tests, Blob, one, Owner, Mode}
 use Rattle.pagable_laws.proofs.Words.{HandleRow, pins, held, find_row, Last, owned_outside, loses_value, IsClosed, IsWithin, IsLeast, Falls, fallen, nobody, row_of, with_mode, UnpinCall, two_rows}
 use Rattle.pagable_laws.proofs.Words.{are_two, outer, first, first_node, lone, lone_listed, lone_unlisted, TwoLevelsFall, LoneIsListed}
 use Rattle.pagable_laws.{specs.SmallWorlds.both, proofs.Existing.given-least, proofs.Sums.one-small}
@@ -8,14 +8,12 @@ pub and-false : (b : Bool) → one (b && false) ≡ 0
 and-false x0 = grind (arith, nat_tests)
 
 both-least : IsLeast two_rows are_two [] outer both
-both-least = record { holds = refl; closed = (grind (arith, nat_tests, and-false)); least = least }
+both-least = record { holds = refl; closed = grind (arith, nat_tests, and-false); least = least }
   where
     least : (t : ℕ → Bool) → IsWithin two_rows outer t → IsClosed two_rows are_two [] t → IsWithin two_rows both t
     least t holds closed =
-        let first_in : one (not (t 1)) ≡ 0 = omega arith in
         let goes : loses_value two_rows are_two [] t 1 ≡ true = grind (arith, nat_tests) in
         let fallen : owned_outside two_rows t 1 ≡ 0 = closed 1 goes in
-        let second_in : one (not (t 2)) ≡ 0 = omega arith in
         omega arith
 
 outer-not : ¬ IsLeast two_rows are_two [] outer outer
@@ -39,7 +37,7 @@ fell stored =
       new = (refl, refl, refl, tt);
       only = λ n some. ((grind (arith, nat_tests, first)), (grind (arith, nat_tests)));
       each = λ n must. inl (grind (arith, nat_tests));
-      tells = record { all = λ n must. (grind (arith, nat_tests)); not_all = tt };
+      tells = record { all = λ n must. grind (arith, nat_tests); not_all = tt };
       within = omega arith;
       leaves = grind (arith, nat_tests);
     }
@@ -57,10 +55,8 @@ not-unlisted stored call = elim call.does [
   where
     unlisted : Falls (lone stored) (with_mode (lone stored) first Mode.LooseUnpinned) nobody (Ok tt) (lone_unlisted stored) → ⊥
     unlisted falls =
-        let listed : held 1 falls.entries ≡ 1 = falls.tells.all 1 (grind (arith, nat_tests)) in
         let last : 1 ≡ 1 + length falls.entries = ap (λ (l : Last). l.handle) falls.leaves.last in
-        let none : length falls.entries ≡ 0 = omega arith in
-        let few : held 1 falls.entries ≤ length falls.entries = (grind (arith, nat_tests, sum_by-cons, one-small)) in
+        let few : held 1 falls.entries ≤ length falls.entries = grind (arith, nat_tests, sum_by-cons, one-small) in
         omega arith
 
 pub is_listed : LoneIsListed

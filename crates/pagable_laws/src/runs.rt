@@ -9,6 +9,7 @@ ghost use Rattle.pagable_laws.specs.LoadLaws.{SoundLaw};
 use crate::world::SeenAs;
 
 /// The headline holds of every chain that begins at a whole machine for which nobody works yet.
+#[tactic(auto, using(crate::proofs::Chains::headline_law))]
 pub fn headline<N: SeenAs<B, W>, B, W, E>()
     ensures { HeadlineLaw E N.seen }
 {}
