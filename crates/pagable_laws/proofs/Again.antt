@@ -226,8 +226,13 @@ module _ {A B : Type 0} {look : Look A B} {kind_of : B → ℕ} {parts : ℕ →
       | not-first e f is ↦ rw (append_assoc, form-again (c ++ x) h f (narrowed t (λ p. p.0) (λ n d l. l.0)), is) refl
     ]
     form-again x (sorted-map-form left order s s2 es b k le up h) u t =
-        rw (append_assoc, length-again (length es) (b ++ x) le, entries-again x h u (narrowed t (λ p. p.0) (λ n d l. l.0)) (narrowed t (λ p. p.1) (λ n d l. l.1)), bind-then,
-            ascending-kept order es up) refl
+        rw (
+          append_assoc,
+          length-again (length es) (b ++ x) le,
+          entries-again x h u (narrowed t (λ p. p.0) (λ n d l. l.0)) (narrowed t (λ p. p.1) (λ n d l. l.1)),
+          bind-then,
+          ascending-kept order es up,
+        ) refl
     form-again x (placed-map-form left s s2 es b k le up h) u t =
         rw (append_assoc, length-again (length es) (b ++ x) le, entries-again x h u (narrowed t (λ p. p.0) (λ n d l. l.0)) (narrowed t (λ p. p.1) (λ n d l. l.1)), bind-then, differing-kept es up) refl
     form-again x (hash-map-form left s s2 es b k le up h) u t =

@@ -212,8 +212,8 @@ module _ (types : Types) (t : ℕ) (blob : Blob) (refs got : List ArcRef) (f : I
       let whole : read (record { levels = 0; look = own_look; parts = types.parts }) f.shape (rest blob.bytes refs) ≡ Ok (f.own, rest [] []) =
       rw append-nil at (form-again [] f.form (looks-own refs) f.can) in
       let shaped : read_with types t blob got ≡ read (handles_at 0 types.parts) f.shape (rest blob.bytes (answers_from got 0 blob.keys)) = rw f.is refl in
-      grind (arith, nat_tests, par.out (rest blob.bytes (answers_from got 0 blob.keys)) (rest blob.bytes refs)
-          (record { bytes = refl; refs = grind (arith, nat_tests, all-answer, slice_get) }))
+      let out = par.out (rest blob.bytes (answers_from got 0 blob.keys)) (rest blob.bytes refs) (record { bytes = refl; refs = grind (arith, nat_tests, all-answer, slice_get) }) in
+      grind (arith, nat_tests, out)
 
   -- ---- references, one by one
 

@@ -253,9 +253,10 @@ module _ {N E B W : Type 0} (m : Seen N B W) (s : MachineState N E) (work : Stan
 work-right : {N E B W : Type 0} (m : Seen N B W) (s : MachineState N E) (moments : List (Moment N E B W)) → IsMachineWhole m.values s → IsIdle s → AreMoments m s moments
     → StepsAreWithin m.values s moments × WorkIsRight m (state_after s moments) (events_of moments) (replies_of moments)
 work-right {N} {E} {B} {W} m s moments whole idle chain =
-    let (all, within) = arrives m s moments chain whole (idle-stands s idle) (idle-bounded m.values.types s idle) in
-    (within,
-      record { claims_right = record { distinct = grind (arith, nat_tests, one-small); met = is-met m end all.work all.whole }; workers = worker all; loads = steps-left m.values end all.loads })
+    let (all, within) = arrives m s moments chain whole (idle-stands s idle) (idle-bounded m.values.types s idle) in (
+      within,
+      record { claims_right = record { distinct = grind (arith, nat_tests, one-small); met = is-met m end all.work all.whole }; workers = worker all; loads = steps-left m.values end all.loads },
+    )
   where
     end : MachineState N E
     end = state_after s moments
@@ -268,7 +269,6 @@ work-right {N} {E} {B} {W} m s moments whole idle chain =
 
     All : Type 0
     All = Arrives m s end happened replied
-
 
     worker : All → (n : ℕ) (walking : Walking) → end.work.walkings n ≡ Some walking → WorkerIsRight m.written_of (world_of end) n walking (steps_of n happened replied)
     worker all n walking there =

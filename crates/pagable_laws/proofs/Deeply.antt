@@ -91,15 +91,13 @@ module _ {N E : Type 0} (v : Values N) (s : MachineState N E) (trees : ℕ → T
       → IsAttained shelf h written.references
       → h ≤ height (trees i.node.0).meaning
   attained-height n i h few written w (inl is) = omega arith
-  attained-height zero i h few written w (inr a) = let part = part-of w a.r a.among in let small = part.small in absurd (omega arith)
+  attained-height zero i h few written w (inr a) = let part = part-of w a.r a.among in absurd (omega arith)
   attained-height (suc n) i h few written w (inr a) =
       let part = part-of w a.r a.among in
-      let small = part.small in
       let f = fit.slots t (identity_of a.r) a.known.slot a.known.claimed in
       let b = f.publishes a.key a.below a.known.known in
       let below = attained-height n (identity_of a.r) a.below (omega arith) b.0 (f.writes b.0 b.1) b.2.attained in
       let u = grows-by (is_eager a.r.kind.0) a.below (height (trees a.r.node.0).meaning) (height (trees i.node.0).meaning) below part.top in
-      let e = a.least in
       omega arith
 
   -- so is one that is known
@@ -134,7 +132,6 @@ module _ {N E : Type 0} (v : Values N) (s : MachineState N E) (trees : ℕ → T
       let claim = stands.1 in
       let f = fit.slots t (identity_of o.reference) claim.slot claim.claimed in
       let part = part-of (f.writes o.written claim.written_so) r (next-among shelf o.written.references o.keys r more e) in
-      let small = part.small in
       elim (or_cases (is_identity q (identity_of o.reference)) (is_open_in q below) is) [
         | inl same ↦ let e = ap (λ (j : Identity). size (trees j.node.0).meaning) (is-same q (identity_of o.reference) same) in absurd (omega arith)
         | inr rest ↦ not-below n task q o.reference below (omega arith) expects waits all rest
@@ -153,7 +150,6 @@ module _ {N E : Type 0} (v : Values N) (s : MachineState N E) (trees : ℕ → T
     | inr (inr memory) ↦ absurd (cc)
   ]
     where
-
       by : IsTooDeep shelf n (identity_of r) place → IsTooDeepTask trees task ⊎ WaitsForAsker shelf n (identity_of r)
       by (inl long) = inl (grind (arith, nat_tests, leads-down))
       by (inr (inl (key, h, p, long))) = inl (grind (arith, nat_tests, leads-down, at-most-height (identity_of r) key h p))

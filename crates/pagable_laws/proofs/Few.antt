@@ -117,8 +117,7 @@ falls-alone before w given (low_before, low, few, none, ok) =
     })
   where
     self : (b : Bool) → one (b && not b) ≡ 0
-    self true = refl
-    self false = refl
+    self x0 = grind (arith, nat_tests)
 
     past : {k : ℕ} (b : Bool) → k ≡ 0 → (b && nat_lt 0 k) ≡ false
     past x0 e = grind (arith, nat_tests)
@@ -210,9 +209,7 @@ module _ (w : Core) (vs : List (Option Sample)) (few : Few w) (p : Passes w vs) 
   number = by-four (NumberFits w vs) p.numbers past
     where
       past : (n : ℕ) → 3 < n → NumberFits w vs n
-      past n lt =
-          let short = p.stands.short in let none : value_at vs n ≡ None = past-end vs n (grind (arith, nat_tests)) in
-          let a = few.0 n lt in let b = few.1 n lt in let c = held-past w.rows p.handles.low n lt in rw (a, b, c, none) (refl, refl, refl, grind (arith, nat_tests, none-pass, owner-past), tt)
+      past n lt = grind (arith, nat_tests, past-end, held-past, none-pass, owner-past)
 
   row : (h : HandleRow) → Among w.rows h → RowThere w h
   row h among = each-among (RowThere w) w.rows h p.handles.there among

@@ -1,8 +1,7 @@
 -- What a load reads goes on fitting, whatever it gets.
-use Rattle.pagable_laws.proofs.Words.{nat_tests, ◌≡◌, ℕ, zero, suc, ◌<◌, ◌≤◌, List, [], ◌∷◌, ◌++◌, Option, Some, ◌⊎◌, inl, inr, refl, sym, ap, ◌∙◌, subst, arith, slice_get, length, KeyRef}
-use Rattle.pagable_laws.proofs.Words.{length-append, ReadsAs, HandleRow, ArcRef, Kind, Blob, Types, Tree, type_of, ReadsTree, Meaning, Among, Frame, Next, asks, next_in, need_at, need_of}
-use Rattle.pagable_laws.proofs.Words.{needs_nested, needs_lazy, root_frame, nested_frame, with_got, ReadsNodeTree, FrameFits, FramesFit, SameTrees, Needs, KeepsStored, FramesGiven}
-use Rattle.pagable_laws.proofs.{Decoding.asks_next, Trees.{each-type, followed-on}}
+use Rattle.pagable_laws.proofs.Words.{nat_tests, ◌≡◌, ℕ, zero, suc, ◌<◌, ◌≤◌, List, [], ◌∷◌, ◌++◌, Option, Some, ◌⊎◌, inl, inr, refl, sym, ap, ◌∙◌, subst, arith, slice_get, length, length-append}
+use Rattle.pagable_laws.proofs.Words.{HandleRow, ArcRef, Kind, Blob, Types, Tree, type_of, ReadsTree, Among, Frame, Next, asks, next_in, need_at, need_of, needs_nested, needs_lazy, root_frame}
+use Rattle.pagable_laws.proofs.{Words.{nested_frame, with_got, ReadsNodeTree, FrameFits, FramesFit, SameTrees, Needs, KeepsStored, FramesGiven}, Decoding.asks_next, Trees.{each-type, followed-on}}
 
 -- ---- what is asked
 
@@ -20,13 +19,10 @@ inside (y ∷ xs) (suc i) x is = let a = inside xs i x is in omega (arith, a)
 inside x0 x1 x is = grind (arith, nat_tests)
 
 module _ {stored stored' : ℕ → Option Blob} {types : Types} (kept : KeepsStored stored stored') where
-  read-stays : {t key : ℕ} {m : Meaning KeyRef} → ReadsAs stored types t key m → ReadsAs stored' types t key m
-  read-stays {t} {key} h = record { blob = h.blob; stored = kept key h.blob h.stored; rest = h.rest; reads = h.reads }
-
   -- what a key reads as stays
   pub tree-stays : {key : ℕ} {t : Tree} → ReadsTree stored types key t → ReadsTree stored' types key t
   tree-stays {t = t} h =
-      record { own = h.own; reads = read-stays h.reads; follows = followed-on (λ n. Unit {0}) (λ n key m all r. read-stays r) (each-type (λ n. tt) t.meaning) h.follows }
+      record { own = h.own; reads = grind (arith, nat_tests); follows = followed-on (λ n. Unit {0}) (λ n key m all r. grind (arith, nat_tests)) (each-type (λ n. tt) t.meaning) h.follows }
 
   pub node-stays : {trees trees' : ℕ → Tree} {key t n : ℕ} → trees' n ≡ trees n → ReadsNodeTree types stored trees key t n → ReadsNodeTree types stored' trees' key t n
   node-stays {key = key} same h = record { typed = ap (λ (z : Tree). z.type) same ∙ h.typed; reads = subst (λ (z : Tree). ReadsTree stored' types key z) (sym same) (tree-stays h.reads) }

@@ -88,12 +88,6 @@ once-got {w} {w'} kind key n whole filled (got-new none next l own references a)
       ];
     }
 
--- ---- what is got is known
-
-entered-got : {w w' : Core} (kind : Kind) (key n : ℕ) → w.closed ≡ false → Got w kind key n w' → HeldEnters w' kind key n
-entered-got kind key n opened (got-old is q enters) h = enters h
-entered-got kind key n opened (got-new none next l own references a) h = stays-alike kind.0 key n a (grind (arith, nat_tests, self-number)) h
-
 -- ---- along a chain
 
 module _ {N B W E : Type 0} (m : Seen N B W) (kind : Kind) (key n : ℕ) where
@@ -135,5 +129,5 @@ one_identity_law E m w first between last kind other_kind key other_key n other_
     record {
       differ = λ same_kind same_node. differ kind other_kind key other_key n other_n s.1 b.from same_node;
       same = λ same_kind same_key alive.
-          same kind other_kind key other_key n other_n (used-along m kind key n first between chain leaves alive (entered-got kind key n opened a.from a.held) a.held) b.from same_kind same_key;
+          same kind other_kind key other_key n other_n (used-along m kind key n first between chain leaves alive (grind (arith, nat_tests, stays-alike, self-number)) a.held) b.from same_kind same_key;
     }

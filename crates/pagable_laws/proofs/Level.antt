@@ -167,6 +167,11 @@ asked : (s : MachineState two.Sample (Unit {0})) (x : two.Happening) → KeepsOp
     → IsPremised two.sample s trees x.event x.reply x.after
 asked s x open_still well trees = record { settled = λ n x is. two-settled x; reads_settled = λ x is. two-settled x; stays_open = open_still; well = well trees }
 
+infixr 3 ◌⨾◌
+-- one moment, and those after it
+◌⨾◌ : {A B : Type 0} → A → B → A × B
+a ⨾ b = (a, b)
+
 pages : (n : ℕ) (x : two.Working) (xs : List two.Happening) → Few x.core → AllAsk n x → AreMoments two.sample_seen (two.at_work (two.walked n x)) xs × ArePremised (two.at_work (two.walked n x)) xs
     → AreMoments two.sample_seen (two.at_work x) (two.page_out n x ++ xs) × ArePremised (two.at_work x) (two.page_out n x ++ xs)
 unfolding two.page_out two.walked AllAsk
@@ -174,7 +179,7 @@ pages zero x xs few ok rest = rest
 pages (suc n) x xs few (works, asks, counts, ends, passes, at_work, ok) rest =
     let a = two.next_step x.core x.shelf x.todo in let y = two.next x in let few_then = few-ended y.answer a.1 (few-next x.core x.shelf x.todo few) in
     let (moments, premised) = pages n y xs few_then ok rest in (
-      (does _ _ _ y.core two.two_values y.shelf (Some (two.walking y)) None (record {
+      does _ _ _ y.core two.two_values y.shelf (Some (two.walking y)) None (record {
         moves = record {
           walking = two.walking x;
           after = site a.1 a.2 a.3;
@@ -188,8 +193,8 @@ pages (suc n) x xs few (works, asks, counts, ends, passes, at_work, ok) rest =
           work = record { same_shelves = λ t. grind (arith, nat_tests, same-shelf); last_is = refl; same_walkings = again 1 (Some (two.walking x)) (Some (two.walking y)) (λ q. None) };
         };
         refused = tt;
-      }) (λ n x is. inl is) (writes-so x.core x.shelf (two.work_after x None) x.todo asks) (few_then, passes) (refl, at_work) tt, moments),
-      (asked _ _ tt (λ trees w is. subst (λ (w : Walking). TodoTakesWell two.sample (two.at_work x).pager w.todo) (same_some _ _ is) (grind (arith, nat_tests))), premised),
+      }) (λ n x is. inl is) (writes-so x.core x.shelf (two.work_after x None) x.todo asks) (few_then, passes) (refl, at_work) tt ⨾ moments,
+      asked _ _ tt (λ trees w is. subst (λ (w : Walking). TodoTakesWell two.sample (two.at_work x).pager w.todo) (same_some _ _ is) (grind (arith, nat_tests))) ⨾ premised,
     )
 
 pub begun-asks : AllAsk 15 two.begun
@@ -242,18 +247,18 @@ reads-on w r before there other l = grind (arith, nat_tests, none-there)
 
 pub births-do : (xs : List two.Happening) → AreMoments two.sample_seen (two.at_work two.begun) xs → AreMoments two.sample_seen two.new_one (two.births ++ xs)
 unfolding find_row is_named_by is_in references_fault value_at
-births-do xs rest = (
+births-do xs rest =
     does _ _ _ two.new_core [] no_shelf None None (record {
       made = (refl, alike-self two.new_core, λ l. refl, record { same_shelves = λ t. same-shelf _; last_is = refl; same_walkings = grind (arith, nat_tests) });
       refused = tt;
-    }) (λ n x is. inl is) tt births-good.0 refl tt,
-    (does _ _ _ two.child_born _ no_shelf None None
+    }) (λ n x is. inl is) tt births-good.0 refl tt
+    ⨾ does _ _ _ two.child_born _ no_shelf None None
     (only-core _ two.child_born _ None _ (record { does = record { made = (refl, omega arith, record { above = refl; is_left = omega arith }, alike-self two.child_born); refused = tt } }))
-    leaf-comes tt births-good.1 refl tt,
-    (does _ _ _ two.both_born _ no_shelf None None
+    leaf-comes tt births-good.1 refl tt
+    ⨾ does _ _ _ two.both_born _ no_shelf None None
     (only-core _ two.both_born _ None _ (record { does = record { made = (refl, omega arith, record { above = refl; is_left = omega arith }, alike-self two.both_born); refused = tt } }))
-    parent-comes tt births-good.2 refl tt,
-    (does _ _ _ two.begun.core _ no_shelf (Some (two.walking two.begun)) None (record {
+    parent-comes tt births-good.2 refl tt
+    ⨾ does _ _ _ two.begun.core _ no_shelf (Some (two.walking two.begun)) None (record {
       starts = record {
         table = (omega arith, omega arith);
         next = refl;
@@ -262,8 +267,8 @@ births-do xs rest = (
         work = record { same_shelves = λ t. same-shelf _; last_is = refl; same_walkings = again 1 None (Some (two.walking two.begun)) (λ v. None) };
       };
       refused = tt;
-    }) (λ n x is. inl is) tt births-good.3 (refl, refl) tt, rest))),
-  )
+    }) (λ n x is. inl is) tt births-good.3 (refl, refl) tt
+    ⨾ rest
   where
     leaf-comes : (n : ℕ) (x : two.Sample) → value_at (None ∷ Some two.leaf ∷ []) n ≡ Some x → (value_at [] n ≡ Some x) ⊎ ((value_at [] n ≡ None) × ((x ≡ two.leaf) × (0 < n)))
     leaf-comes x0 x is = grind (arith, nat_tests)
@@ -372,33 +377,33 @@ reads-step w w' vs vs' before after l steps reading frames ended may at read cou
 pub loads-do : AreMoments two.sample_seen (two.at_work two.answered) (two.loads ++ two.counts 2)
 unfolding two.walked value_at is_named_by find_row preimage is_in references_fault grammar.read grammar.read_with answers_from cell_load key_load
 loads-do =
-    let done = Some (two.walking two.answered) in (
-    does _ _ _ two.evicted [] _ done None (only-core two.answered.core two.evicted _ done _ (record { does = evicts })) (λ n x is. absurd (cc)) tt loads-good.0 (refl, refl) tt,
-    (does _ _ _ two.loading [] _ done None (only-core two.evicted two.loading _ done _ begins) (λ n x is. inl is) tt loads-good.1 (refl, refl) tt,
-    (reads-step two.loading two.loading [] [] None (Some two.parent_fetched) 1 1 (fresh (two.load_number 1) 0) two.parent_fetched.frames None refl refl
+    let done = Some (two.walking two.answered) in
+    does _ _ _ two.evicted [] _ done None (only-core two.answered.core two.evicted _ done _ (record { does = evicts })) (λ n x is. absurd (cc)) tt loads-good.0 (refl, refl) tt
+    ⨾ does _ _ _ two.loading [] _ done None (only-core two.evicted two.loading _ done _ begins) (λ n x is. inl is) tt loads-good.1 (refl, refl) tt
+    ⨾ reads-step two.loading two.loading [] [] None (Some two.parent_fetched) 1 1 (fresh (two.load_number 1) 0) two.parent_fetched.frames None refl refl
     (fetches two.loading 1 0 cell_load two.parent_blob refl refl refl) refl (reads-on two.loading two.parent_fetched (λ l. None) refl (λ l e. refl)) (λ n x is. inl is) loads-good.1 (refl, refl)
-    (record { number = refl; load = cell_load; open_load = refl; owned = refl; typed = refl }),
-    (reads-step two.loading two.child_got [] [] (Some two.parent_fetched) (Some two.parent_read) 1 2 two.parent_fetched two.parent_read.frames None refl refl gets-child refl
+    (record { number = refl; load = cell_load; open_load = refl; owned = refl; typed = refl })
+    ⨾ reads-step two.loading two.child_got [] [] (Some two.parent_fetched) (Some two.parent_read) 1 2 two.parent_fetched two.parent_read.frames None refl refl gets-child refl
     (reads-on two.child_got two.parent_read (two.reads (Some two.parent_fetched)) refl (λ l e. rw e refl)) (λ n x is. inl is) loads-good.2 (refl, refl)
-    (record { number = refl; load = cell_load; open_load = refl; owned = refl; typed = refl }),
-    (reads-step two.child_got two.loaded [] two.last_values (Some two.parent_read) None 1 3 two.parent_read [] (Some (LoadAnswer.Pinned (two.handle 9))) refl refl ends-pinned refl
-    (grind (arith, nat_tests, none-there)) parent-comes loads-good.3 (refl, refl) tt,
-    (does _ _ _ two.key_loading _ _ done (Some (fresh (two.load_number 2) 1)) (record {
+    (record { number = refl; load = cell_load; open_load = refl; owned = refl; typed = refl })
+    ⨾ reads-step two.child_got two.loaded [] two.last_values (Some two.parent_read) None 1 3 two.parent_read [] (Some (LoadAnswer.Pinned (two.handle 9))) refl refl ends-pinned refl
+    (grind (arith, nat_tests, none-there)) parent-comes loads-good.3 (refl, refl) tt
+    ⨾ does _ _ _ two.key_loading _ _ done (Some (fresh (two.load_number 2) 1)) (record {
       step = record { begins = (refl, record { above = refl; is_left = omega arith }, alike-self two.key_loading); refused = tt };
       begun = reads-on two.key_loading (fresh (two.load_number 2) 1) (λ l. None) refl (λ l e. refl);
       refused = tt;
       work = same-work _ _ None (Some (fresh (two.load_number 2) 1));
-    }) (λ n x is. inl is) tt loads-good.4 (refl, refl) (record { number = refl; load = key_load; open_load = refl; owned = refl; typed = tt }),
-    (reads-step two.key_loading two.key_loading two.last_values two.last_values (Some (fresh (two.load_number 2) 1)) (Some two.child_fetched) 2 1 (fresh (two.load_number 2) 1)
+    }) (λ n x is. inl is) tt loads-good.4 (refl, refl) (record { number = refl; load = key_load; open_load = refl; owned = refl; typed = tt })
+    ⨾ reads-step two.key_loading two.key_loading two.last_values two.last_values (Some (fresh (two.load_number 2) 1)) (Some two.child_fetched) 2 1 (fresh (two.load_number 2) 1)
     two.child_fetched.frames None refl refl
     (fetches two.key_loading 2 1 key_load two.leaf_blob refl refl refl) refl (reads-on two.key_loading two.child_fetched (two.reads (Some (fresh (two.load_number 2) 1))) refl (λ l e. rw e refl))
-    (λ n x is. inl is) loads-good.4 (refl, refl) (record { number = refl; load = key_load; open_load = refl; owned = refl; typed = tt }),
-    (reads-step two.key_loading two.read_back two.last_values two.last_values (Some two.child_fetched) None 2 2 two.child_fetched [] (Some (LoadAnswer.Read two.leaf)) refl refl reads-out refl
-    (grind (arith, nat_tests, none-there)) (λ n x is. inl is) loads-good.5 (refl, refl) tt,
-    (does _ _ _ two.read_back _ _ done None (only-core two.read_back two.read_back _ done _
+    (λ n x is. inl is) loads-good.4 (refl, refl) (record { number = refl; load = key_load; open_load = refl; owned = refl; typed = tt })
+    ⨾ reads-step two.key_loading two.read_back two.last_values two.last_values (Some two.child_fetched) None 2 2 two.child_fetched [] (Some (LoadAnswer.Read two.leaf)) refl refl reads-out refl
+    (grind (arith, nat_tests, none-there)) (λ n x is. inl is) loads-good.5 (refl, refl) tt
+    ⨾ does _ _ _ two.read_back _ _ done None (only-core two.read_back two.read_back _ done _
     (record { does = (record { found = (row_of 2 (two.node 2) Mode.LoosePinned Owner.Caller, refl, refl); refused = tt }, alike-self two.read_back) }))
-    (λ n x is. inl is) tt loads-good.5 (refl, refl) tt, tt)))))))),
-  )
+    (λ n x is. inl is) tt loads-good.5 (refl, refl) tt
+    ⨾ tt
   where
     back : (n : ℕ) (x : two.Sample) → value_at two.last_values n ≡ Some x → (n ≡ 2) × (x ≡ two.parent (two.to_leaf 3 8))
     back x0 x is = grind (arith, nat_tests)

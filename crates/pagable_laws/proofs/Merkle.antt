@@ -382,11 +382,7 @@ stored-reads store types type key m can h =
     record { blob = blob_of h.bytes (map key_of_ref h.refs); stored = h.stored; rest = rest [] []; reads = rw h.is whole }
 
 pub tree_readable : IsTreeReadable
-tree_readable store types t key can h = record {
-  own = h.own;
-  reads = stored-reads store types t.type key h.own can.0 h.stands;
-  follows = followed-on (IsReadableType types) (stored-reads store types) can.1 h.follows;
-}
+tree_readable store types t key can h = grind (arith, nat_tests, stored-reads, followed-on)
 
 -- ---- the key of what is stored
 

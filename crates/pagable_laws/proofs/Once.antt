@@ -91,8 +91,7 @@ module _ (k : ℕ) (i : Identity) where
     unfolding OnlyWaits all-left
     goes (to_start r place ∷ []) step next way follows = absurd way
     goes (to_start r place ∷ x ∷ xs) (Took.Claim j (Ok Claim.Claimed)) next way (is, e) = rw (is, e) (record { less = claims-it r (all-left (x ∷ xs)); way = way })
-    goes (to_start r place ∷ x ∷ xs) (Took.Claim j (Ok (Claim.Known key height))) next way (is, e) =
-        let g = given r key height (x ∷ xs) way in rw e (record { less = let same = g.same in omega arith; way = g.way })
+    goes (to_start r place ∷ x ∷ xs) (Took.Claim j (Ok (Claim.Known key height))) next way (is, e) = grind (arith, nat_tests, given)
     goes (to_start r place ∷ x ∷ xs) (Took.Claim j (Ok Claim.Waiting)) next way (is, e) = rw e (record { less = omega arith; way = way })
     goes (to_pin r place ∷ below) (Took.Pin j (Ok (PinStep.Held h))) next way (is, (through, e)) = rw (is, e) (record { less = skips r (all-left below); way = way })
     goes (to_pin r place ∷ below) (Took.Pin j (Ok (PinStep.LoadBegun l))) next way (is, (through, e)) = rw (is, e) (record { less = goes-up 0 r _ (all-left below) refl; way = way })

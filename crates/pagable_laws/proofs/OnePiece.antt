@@ -1,5 +1,5 @@
 -- Where each load is done in one piece, one of a cell whose key a page-out set is refused by chance alone.
-use Rattle.pagable_laws.proofs.Words.{nat_tests, ◌≡◌, ℕ, zero, suc, ◌+◌, ◌<◌, ◌≤◌, ◌==◌, Bool, true, false, List, [], ◌∷◌, Option, Some, None, Ok, Err, ◌⊎◌, inl, inr, refl, sym, ap, subst, ◌∙◌, arith}
+use Rattle.pagable_laws.proofs.Words.{nat_tests, ◌≡◌, ℕ, zero, suc, ◌<◌, ◌≤◌, ◌==◌, Bool, true, false, List, [], ◌∷◌, Option, Some, None, Ok, Err, ◌⊎◌, inl, inr, refl, sym, ap, subst, ◌∙◌, arith}
 use Rattle.pagable_laws.proofs.Words.{slice_get, is_some, Error, HandleRow, Owner, Mode, Beginning, Call, Reply, LoadAnswer, LoadReply, Event, EventReply, ArcRef, HandleNumber, LoadNumber, NodeNumber}
 use Rattle.pagable_laws.proofs.Words.{Tree, Among, if_there, is_in, times, updated, held, find_row, Core, OpenLoad, of_cell, Frame, Reading, Seen, IsLawful, row_at, IsReference, references_fault}
 use Rattle.pagable_laws.proofs.Words.{BeginCall, BeginKeyCall, IsDecoded, gone_on, fresh, ReadingsAre, reading_at, reading_after, LoadSteps, Stays, Happens, MachineState, world_of, IsMachineWhole}
@@ -76,13 +76,11 @@ module _ {N B W E : Type 0} (m : Seen N B W) (s s' : MachineState N E) (whole : 
       let row : HandleRow = g.0 in
       let next = g.2.2.above in
       let a = g.2.4.2 in
-      let there : w'.loads l.0 ≡ Some (record { owner = Owner.Caller; key = key; root = of_cell row.node g.2.4.0 h }) =
-      ap w'.loads (sym same ∙ next) ∙ a.loads (w.last.load + 1) ∙ updated-at (w.last.load + 1) _ w.loads in
+      let there : w'.loads l.0 ≡ Some (record { owner = Owner.Caller; key = key; root = of_cell row.node g.2.4.0 h }) = grind (arith, nat_tests, updated-at) in
       let is : record { owner = Owner.Caller; key = key; root = of_cell row.node g.2.4.0 h } ≡ load = same_some _ _ (sym there ∙ open_load) in
       let st = stands-alike a (with-one w row.node Mode.LooseUnpinned (Owner.Load k) (stands-whole whole.pager.whole.handles h.0 row g.1.live)) in
       nothing-ready l load reading.frames (begun-empty l reading s.work.readings are (λ r e. absurd (unread l r (omega (arith, same, next)) e)) at)
       (λ node t q root.
-      let e : of_cell row.node g.2.4.0 h ≡ of_cell node t q = ap (λ (x : OpenLoad). x.root) is ∙ root in
       let hs : h ≡ q = cc in
       (row, subst (λ (x : HandleNumber). row_at w' x ≡ Some row) hs st.live, g.1.own))
 
@@ -142,7 +140,6 @@ module _ {N B W E : Type 0} (m : Seen N B W) (lawful : IsLawful m.values) (reada
   step-ready : (l : LoadNumber) (reply : LoadReply N) → LoadSteps m.values (world_of s) l reply (world_of s') → Ready s l → Ready s' l
   step-ready l reply x ready reading load at open_load = by reply.ended refl
     where
-
       a : IsAt l x.reading load
       a = is-at l x.reading load x.at (grind (arith, nat_tests, was-open))
 
@@ -182,7 +179,6 @@ module _ {N B W E : Type 0} (m : Seen N B W) (lawful : IsLawful m.values) (reada
   references-fine l reading load a ready frame below x is decoded form =
       fine core (Owner.Load reading.load) [] (m.values.references x) good-one (λ r among. refl) once
     where
-
       fits : FrameFits m.values.types core.stored trees frame
       fits = first-fits m.values.types load.key reading.node_type core.stored trees frame below (grind (arith, nat_tests, core, a))
 

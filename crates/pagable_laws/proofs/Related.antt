@@ -1,7 +1,7 @@
 -- Reading does the same whatever stands for references: two readers over related inputs give related meanings. And readers of which a fault stays whatever follows, what is
 -- read of a front is read of the whole, and what was used reads alone.
-use Rattle.pagable_laws.proofs.Words.{nat_tests, ◌≡◌, ℕ, zero, suc, ◌+◌, ◌-◌, ◌*◌, ◌/◌, ◌%◌, ◌^◌, Bool, true, false, List, [], ◌∷◌, ◌++◌, length, take, Result, Ok, Err, ◌⊎◌, if◌then◌else◌, inl, inr}
-use Rattle.pagable_laws.proofs.Words.{refl, sym, arith, append_assoc, cases_lt, le-ltb, lt-ltb, length-append, take-append-drop, length-take-le, nat_le, nat_lt, Error, ◌>>=◌, Read, byte_at, varint_at}
+use Rattle.pagable_laws.proofs.Words.{nat_tests, ◌≡◌, ℕ, zero, suc, ◌+◌, ◌-◌, ◌*◌, ◌/◌, ◌%◌, ◌^◌, Bool, true, List, [], ◌∷◌, ◌++◌, length, take, Result, Ok, Err, ◌⊎◌, if◌then◌else◌, inl, inr, refl}
+use Rattle.pagable_laws.proofs.Words.{sym, arith, append_assoc, cases_lt, le-ltb, lt-ltb, length-append, take-append-drop, length-take-le, nat_le, nat_lt, Error, ◌>>=◌, Read, byte_at, varint_at}
 use Rattle.pagable_laws.proofs.Words.{unsigned_at, signed_from, signed_at, longest, length_at, bytes_at, text_at, bool_at, one_char, char_at, carried, duration_at, nanos_of_second, Some, None, subst}
 use Rattle.pagable_laws.proofs.Words.{Meaning, none, variant, sequence, entry, absent, present, success, failure, lifted, Entry, KeyOrder, code_order, text_order, put_all, put_sorted, put_placed}
 use Rattle.pagable_laws.proofs.Words.{put_sorted_item, put_placed_item, of_entries, of_tagged, of_hash_map, Shape, nothing, unsigned, signed, flag, letter, duration, json, optional, outcome, list}
@@ -51,27 +51,18 @@ module _ {I : Type 0} {plus : I → I → I} {end : I} (joins : Joins plus end) 
 
   -- one of two
   pub either : {A : Type 0} (t : Bool) {get other : I → Result (A × I) Error} → Tame plus get → Tame plus other → Tame plus (λ i. if t then get i else other i)
-  either true h g = record { comes = h.comes }
-  either false h g = record { comes = g.comes }
+  either x0 h g = grind (arith, nat_tests)
 
   -- one after the other
   module _ {A B : Type 0} {get : I → Result (A × I) Error} (f : A → I → Result (B × I) Error) (whole : I → Result (B × I) Error) (is : (i : I) → whole i ≡ (get i >>= λ p. f p.0 p.1))
       (h : Tame plus get) (g : (v : A) → Tame plus (f v)) where
     after : (i : I) (p : A × I) → Front plus get i p.0 p.1 → (r : Result (B × I) Error) → Comes plus (f p.0) p.1 r → Comes plus whole i r
     unfolding Comes
-    after i p a (Ok q) b = record {
-      used = plus a.used b.used;
-      whole = a.whole ∙ ap (plus a.used) b.whole ∙ sym (joins.assoc a.used b.used q.1);
-      reads = λ y. rw (is, joins.assoc, a.reads) (b.reads y);
-    }
-    after i p a (Err e) (inl ends) = inl ends
-    after i p a (Err e) (inr stays) = inr (λ x. rw (is, a.whole, joins.assoc, a.reads) (stays x))
+    after i p a x3 x4 = grind (arith, nat_tests)
 
     then_comes : (i : I) (first : Result (A × I) Error) → Comes plus get i first → Comes plus whole i (first >>= λ p. f p.0 p.1)
     unfolding Comes
-    then_comes i (Ok p) a = after i p a (f p.0 p.1) ((g p.0).comes p.1)
-    then_comes i (Err e) (inl ends) = inl ends
-    then_comes i (Err e) (inr stays) = inr (λ x. rw (is, stays x) refl)
+    then_comes i x1 x2 = grind (arith, nat_tests, after)
 
     pub and_then : Tame plus whole
     and_then = record { comes = λ i. rw (is i) (then_comes i (get i) (h.comes i)) }
@@ -93,14 +84,16 @@ byte_tame = record { comes = elim [ [] ↦ inl (inl refl) | b ∷ bs ↦ record 
 
 pub bytes_tame : (n : ℕ) → TameBytes (bytes_at n)
 unfolding Comes
-bytes_tame n = record { comes = λ bs. elim (cases_lt (length bs) n) [
-  | inl lt ↦ rw (lt-ltb (length bs) n lt) (inl (inl refl))
-  | inr le ↦ rw (le-ltb (length bs) n le) (record {
-    used = take n bs;
-    whole = sym (take-append-drop n bs);
-    reads = λ y. grind (arith, nat_tests, le-ltb, length-append, take_at, drop_at, length-take-le n bs le);
-  })
-] }
+bytes_tame n = record {
+  comes = λ bs. elim (cases_lt (length bs) n) [
+    | inl lt ↦ rw (lt-ltb (length bs) n lt) (inl (inl refl))
+    | inr le ↦ rw (le-ltb (length bs) n le) (record {
+      used = take n bs;
+      whole = sym (take-append-drop n bs);
+      reads = λ y. grind (arith, nat_tests, le-ltb, length-append, take_at, drop_at, length-take-le n bs le);
+    })
+  ];
+}
 
 last_is : (last : ℕ) (bs : List ℕ) → varint_at zero last bs ≡ (byte_at bs >>= λ p. if nat_le p.0 last then Ok p else Err Error.BadVarint)
 unfolding varint_at
@@ -409,12 +402,12 @@ module _ {A B C D : Type 0} {E : Error → Type 0} {F : Type 0} {S : A → B →
         (λ float. bytes_par (signed_at w64) (signed_tame w64) _ _ (λ z. variant-along _ _ _ (integer-along z)))
     json_par h text_case = likewise_par (bytes_par text_at text_tame _ _ (λ t. variant-along _ _ _ (text-along t))) (λ i. refl) (λ i. refl)
     json_par {d} {d2} h array_case =
-        then_same {f = λ count. enter d (λ get. seen (λ ms. variant 4 (sequence ms)) (items (get json) count)) }
-        {g = λ count. enter d2 (λ get. seen (λ ms. variant 4 (sequence ms)) (items (get json) count)) } (λ i. refl) (λ i. refl) (bytes_same length_at length_tame)
+        then_same {f = λ count. enter d (λ get. seen (λ ms. variant 4 (sequence ms)) (items (get json) count))}
+        {g = λ count. enter d2 (λ get. seen (λ ms. variant 4 (sequence ms)) (items (get json) count))} (λ i. refl) (λ i. refl) (bytes_same length_at length_tame)
         (λ count. enter_par _ _ h (λ get get2 g. seen_par _ _ (λ ms ns r. variant-along _ _ _ (sequence-two r)) (items_par (g json (inr (of_json tt))) count)))
     json_par {d} {d2} h object_case =
-        then_same {f = λ count. enter d (λ get. seen (λ es. variant 5 (of_entries (put_all (put_sorted text_order) [] es))) (items (two (get shapes.text) (get json)) count)) }
-        {g = λ count. enter d2 (λ get. seen (λ es. variant 5 (of_entries (put_all (put_sorted text_order) [] es))) (items (two (get shapes.text) (get json)) count)) } (λ i. refl)
+        then_same {f = λ count. enter d (λ get. seen (λ es. variant 5 (of_entries (put_all (put_sorted text_order) [] es))) (items (two (get shapes.text) (get json)) count))}
+        {g = λ count. enter d2 (λ get. seen (λ es. variant 5 (of_entries (put_all (put_sorted text_order) [] es))) (items (two (get shapes.text) (get json)) count))} (λ i. refl)
         (λ i. refl) (bytes_same length_at length_tame)
         (λ count. enter_par _ _ h
         (λ get get2 g. seen_par _ _ (λ es fs r. variant-along _ _ _ (sorted-two text_order r)) (items_par (entry_par (g shapes.text (inr (of_text tt))) (g json (inr (of_json tt)))) count)))

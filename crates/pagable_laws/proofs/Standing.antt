@@ -343,14 +343,7 @@ module _ (v : ℕ) (task : Task) (shelf shelf' : Shelf) where
   -- an own slot changes, or comes, that hasn't failed and that the task meets
   own-goes : (i : Identity) (new : Slot) (todo : List Todo) → PutsSlot shelf.slots shelf'.slots i new → Changes v shelf shelf' → Meets shelf' task i → is_failed new.outcome ≡ false
       → AllStand shelf' v task todo → Covers shelf' v todo → Goes v task shelf None shelf' todo
-  own-goes i new todo puts changes meets good all covers = record {
-    changes = changes;
-    all = all;
-    covers = covers;
-    unfailed = grind (arith, nat_tests, put-cases);
-    done = λ a is. absurd (cc);
-    met = λ j slot none there. elim (put-cases shelf.slots shelf'.slots i new puts j slot there) [ inl e ↦ subst (λ k. Meets shelf' task k) (sym e.0) meets | inr e ↦ some-none e.1 none ];
-  }
+  own-goes i new todo puts changes meets good all covers = grind (arith, nat_tests, put-cases, some-none)
 
   -- the identity is claimed
   pub claimed : (r : ArcRef) (place : ℕ) (below : List Todo) → AllStand shelf v task (to_start r place ∷ below) → CoversBy v task shelf (to_start r place ∷ below) → shelf.slots (identity_of r) ≡ None

@@ -4,7 +4,6 @@ pub mod KeyLaws
 pub mod Rows
 pub mod SmallWorlds
 pub mod FallLaws
-pub mod RunLaws
 pub mod TreeSteps
 pub mod TreeRuns
 pub mod ReadLaws
@@ -12,4 +11,3 @@ pub mod PageOutLaws
 pub mod KeyRuns
 pub mod TwoLevels
 pub mod DeepLaws
-pub mod LoadLaws

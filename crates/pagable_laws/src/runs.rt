@@ -3,8 +3,7 @@
 ghost use Rattle.pagable_world.specs.Access.{PinLaw, ReadLaw};
 ghost use Rattle.pagable_world.specs.Headline.{HeadlineLaw};
 ghost use Rattle.pagable_world.specs.OneWorker.{OneIdentityLaw};
-ghost use Rattle.pagable_laws.specs.DeepLaws.{ShallowLaw, ToldDepthLaw, DeepClaimLaw, DeepLoadLaw, FaultlessLaw};
-ghost use Rattle.pagable_laws.specs.LoadLaws.{SoundLaw};
+ghost use Rattle.pagable_laws.specs.DeepLaws.{ShallowLaw, ToldDepthLaw, DeepClaimLaw, DeepLoadLaw, FaultlessLaw, SoundLaw};
 
 use crate::world::SeenAs;
 
