@@ -164,8 +164,7 @@ module _ {A : Type 0} where
 
 -- nothing that is written has a shape without cases
 pub no_case-form : {A : Type 0} {kind_of : A → ℕ} {parts : ℕ → Shape} {left : ℕ} {s : Shape} {m : Meaning A} {b : List ℕ} {k : List A} → Form A kind_of parts left s m b k → HasNoCase s → ⊥
-no_case-form (case-form left w known part n m b k lt is f) h = let isnt = h n in cc
-no_case-form f h = h
+no_case-form x0 h = grind (arith, nat_tests, case-form)
 
 -- What is left where what stands for references is looked up, one after another, as far as there are references; or why one is refused.
 pub data Looked {A B : Type 0} (look : Look A B) (kind_of : B → ℕ) : List A → List B → Result (List A) Error → Type 0 where

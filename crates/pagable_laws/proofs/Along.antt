@@ -60,25 +60,6 @@ apart-two {X} {Y} {V} R S k (more-two x y xs ys v h) a = (each h a.0, apart-two 
     each no-two b = tt
     each (more-two u w us vs p g) b = (k u x w y p v b.0, each g b.1)
 
-module _ {A B : Type 0} {F : Type 0} {R : A → B → Type 0} where
-  pub plain-along : {m : Meaning A} {n : Meaning B} → Along F R m n → plain m ≡ plain n
-  unfolding plain
-  plain-along (pair-along x y a b h g) = rw (plain-along h, plain-along g) refl
-  plain-along (variant-along n x a h) = rw (plain-along h) refl
-  plain-along (followed-along kind x a f h) = rw (plain-along h) refl
-  plain-along _ = refl
-
-  pub lifted-along : (m : Meaning ⊥) → F ⊎ HasNoReference m → Along F R (lifted m) (lifted m)
-  unfolding rename HasNoReference
-  lifted-along (pair a b) (inl f) = pair-along _ _ _ _ (lifted-along a (inl f)) (lifted-along b (inl f))
-  lifted-along (pair a b) (inr h) = pair-along _ _ _ _ (lifted-along a (inr h.0)) (lifted-along b (inr h.1))
-  lifted-along (variant n a) (inl f) = variant-along _ _ _ (lifted-along a (inl f))
-  lifted-along (variant n a) (inr h) = variant-along _ _ _ (lifted-along a (inr h))
-  lifted-along (reference a) h = absurd a
-  lifted-along (followed kind a) (inl f) = followed-along _ _ _ f (lifted-along a (inl f))
-  lifted-along (followed kind a) (inr h) = absurd h
-  lifted-along m h = search (number-along, integer-along, text-along, pattern-along, none-along)
-
 -- entries whose keys and values are along
 pub record EntryAlong {A B : Type 0} (F : Type 0) (R : A → B → Type 0) (e : Entry A) (f : Entry B) : Type 0 where
   pub key : Along F R e.0 f.0
@@ -89,21 +70,6 @@ pub record Made {X Y B : Type 0} (V : X → Y → Type 0) (make : List Y → Mea
   pub items : List Y
   pub each : AllTwo V xs items
   pub whole : n ≡ make items
-
-module _ {A B : Type 0} {F : Type 0} {R : A → B → Type 0} where
-  pub sequence-along : (ms : List (Meaning A)) {n : Meaning B} → Along F R (sequence ms) n → Made (Along F R) sequence ms n
-  sequence-along [] none-along = record { items = []; each = no-two; whole = refl }
-  sequence-along (m ∷ ms) (pair-along x y a b h g) =
-      let rest = sequence-along ms g in
-      record { items = a ∷ rest.items; each = more-two m a ms rest.items h rest.each; whole = ap (λ (z : Meaning B). pair a z) rest.whole }
-
-  pub entries-along : (es : List (Entry A)) {n : Meaning B} → Along F R (of_entries es) n → Made (EntryAlong F R) of_entries es n
-  entries-along [] none-along = record { items = []; each = no-two; whole = refl }
-  entries-along (e ∷ es) (pair-along x y a b (pair-along u v c d h k) g) =
-      let rest = entries-along es g in
-      record { items = (c, d) ∷ rest.items; each = more-two e (c, d) es rest.items (record { key = h; value = k }) rest.each; whole = ap (λ (z : Meaning B). pair (pair c d) z) rest.whole }
-
--- ---- a hash map's entries, put in order
 
 abbrev pub apart : {A : Type 0} → Entry A → Entry A → Type 0
 apart e f = same_key e.0 f.0 ≡ false
@@ -135,7 +101,51 @@ record UnputAll {A B : Type 0} (F : Type 0) (R : A → B → Type 0) (acc es : L
   each : AllTwo (EntryAlong F R) es entries
   put : put_all (put_sorted code_order) before entries ≡ fs
 
+-- references that k goes along with, over which G is so
+pub record To {A B : Type 0} (R : A → B → Type 0) (k : List A) (G : List B → Type 0) : Type 0 where
+  pub refs : List B
+  pub each : AllTwo R k refs
+  pub form : G refs
+
+to_nothing : {A B : Type 0} {R : A → B → Type 0} {G : List B → Type 0} → G [] → To R [] G
+to_nothing f = record { refs = []; each = no-two; form = f }
+
+then_to : {A B : Type 0} {R : A → B → Type 0} {k : List A} {G H : List B → Type 0} → To R k G → ((refs : List B) → G refs → H refs) → To R k H
+then_to p f = record { refs = p.refs; each = p.each; form = f p.refs p.form }
+
 module _ {A B : Type 0} {F : Type 0} {R : A → B → Type 0} where
+  pub plain-along : {m : Meaning A} {n : Meaning B} → Along F R m n → plain m ≡ plain n
+  unfolding plain
+  plain-along (pair-along x y a b h g) = rw (plain-along h, plain-along g) refl
+  plain-along (variant-along n x a h) = rw (plain-along h) refl
+  plain-along (followed-along kind x a f h) = rw (plain-along h) refl
+  plain-along _ = refl
+
+  pub lifted-along : (m : Meaning ⊥) → F ⊎ HasNoReference m → Along F R (lifted m) (lifted m)
+  unfolding rename HasNoReference
+  lifted-along (pair a b) (inl f) = pair-along _ _ _ _ (lifted-along a (inl f)) (lifted-along b (inl f))
+  lifted-along (pair a b) (inr h) = pair-along _ _ _ _ (lifted-along a (inr h.0)) (lifted-along b (inr h.1))
+  lifted-along (variant n a) (inl f) = variant-along _ _ _ (lifted-along a (inl f))
+  lifted-along (variant n a) (inr h) = variant-along _ _ _ (lifted-along a (inr h))
+  lifted-along (reference a) h = absurd a
+  lifted-along (followed kind a) (inl f) = followed-along _ _ _ f (lifted-along a (inl f))
+  lifted-along (followed kind a) (inr h) = absurd h
+  lifted-along m h = search (number-along, integer-along, text-along, pattern-along, none-along)
+
+  pub sequence-along : (ms : List (Meaning A)) {n : Meaning B} → Along F R (sequence ms) n → Made (Along F R) sequence ms n
+  sequence-along [] none-along = record { items = []; each = no-two; whole = refl }
+  sequence-along (m ∷ ms) (pair-along x y a b h g) =
+      let rest = sequence-along ms g in
+      record { items = a ∷ rest.items; each = more-two m a ms rest.items h rest.each; whole = ap (λ (z : Meaning B). pair a z) rest.whole }
+
+  pub entries-along : (es : List (Entry A)) {n : Meaning B} → Along F R (of_entries es) n → Made (EntryAlong F R) of_entries es n
+  entries-along [] none-along = record { items = []; each = no-two; whole = refl }
+  entries-along (e ∷ es) (pair-along x y a b (pair-along u v c d h k) g) =
+      let rest = entries-along es g in
+      record { items = (c, d) ∷ rest.items; each = more-two e (c, d) es rest.items (record { key = h; value = k }) rest.each; whole = ap (λ (z : Meaning B). pair (pair c d) z) rest.whole }
+
+  -- ---- a hash map's entries, put in order
+
   same_order : {e x : Entry A} {f y : Entry B} {o : Ordering} → EntryAlong F R e f → EntryAlong F R x y → ordered code_order e.0 x.0 ≡ o → ordered code_order f.0 y.0 ≡ o
   same_order r s q = rw (← plain-along r.key, ← plain-along s.key) q
 
@@ -175,31 +185,12 @@ module _ {A B : Type 0} {F : Type 0} {R : A → B → Type 0} where
         put = ap (λ (z : List (Entry B)). put_all (put_sorted code_order) z rest.entries) one.put ∙ rest.put;
       }
 
-from_none : {A B : Type 0} {F : Type 0} {R : A → B → Type 0} {fs : List (Entry B)} (gs hs : List (Entry B)) → AllTwo (EntryAlong F R) [] fs → put_all (put_sorted code_order) fs gs ≡ hs
-    → put_all (put_sorted code_order) [] gs ≡ hs
-from_none gs hs no-two p = p
+  pub hash_map-along : (es : List (Entry A)) {n : Meaning B} → Differ es → Along F R (of_hash_map es) n → Made (EntryAlong F R) of_hash_map es n
+  hash_map-along es d a =
+      let sorted = entries-along _ a in
+      let back = unput_all es [] (after_none apart es) d sorted.each in
+      record { items = back.entries; each = back.each; whole = sorted.whole ∙ ap of_entries (sym (grind (arith, nat_tests))) }
 
-pub hash_map-along : {A B : Type 0} {F : Type 0} {R : A → B → Type 0} (es : List (Entry A)) {n : Meaning B} → Differ es → Along F R (of_hash_map es) n → Made (EntryAlong F R) of_hash_map es n
-hash_map-along es d a =
-    let sorted = entries-along _ a in
-    let back = unput_all es [] (after_none apart es) d sorted.each in
-    record { items = back.entries; each = back.each; whole = sorted.whole ∙ ap of_entries (sym (from_none back.entries sorted.items back.first back.put)) }
-
--- ---- forms
-
--- references that k goes along with, over which G is so
-pub record To {A B : Type 0} (R : A → B → Type 0) (k : List A) (G : List B → Type 0) : Type 0 where
-  pub refs : List B
-  pub each : AllTwo R k refs
-  pub form : G refs
-
-to_nothing : {A B : Type 0} {R : A → B → Type 0} {G : List B → Type 0} → G [] → To R [] G
-to_nothing f = record { refs = []; each = no-two; form = f }
-
-then_to : {A B : Type 0} {R : A → B → Type 0} {k : List A} {G H : List B → Type 0} → To R k G → ((refs : List B) → G refs → H refs) → To R k H
-then_to p f = record { refs = p.refs; each = p.each; form = f p.refs p.form }
-
-module _ {A B : Type 0} {F : Type 0} {R : A → B → Type 0} where
   pub ascend-two : (order : KeyOrder) {es : List (Entry A)} {fs : List (Entry B)} → AllTwo (EntryAlong F R) es fs → Ascends order es → Ascends order fs
   ascend-two order h a = apart-two _ _ (λ x x2 y y2 v w r. rw (← plain-along v.key, ← plain-along w.key) r) h a
 
@@ -220,6 +211,8 @@ module _ {A B : Type 0} {F : Type 0} {R : A → B → Type 0} where
   lifted-same (text t) (text-along x) = refl
   lifted-same (pattern t) (pattern-along x) = refl
   lifted-same none none-along = refl
+
+-- ---- forms
 
 module _ {A B : Type 0} {F : Type 0} {R : A → B → Type 0} {kind_of : A → ℕ} {kind_of2 : B → ℕ} {parts : ℕ → Shape} (kinds : (a : A) (b : B) → R a b → kind_of2 b ≡ kind_of a) where
   mutual

@@ -41,22 +41,8 @@ module _ {X : Type 0} where
   all_found : (q : Meaning ⊥) (acc es : List (Meaning ⊥ × X)) → find code_order q (put_all put_in acc es) ≡ option_or (last_value q es) (find code_order q acc)
   unfolding put_all put_in last_value
   all_found q acc [] = refl
-  all_found q acc (e ∷ es) = grind (
-    arith,
-    nat_tests,
-    put,
-    code_order,
-    option_or,
-    last_value,
-    find-put,
-    order_total,
-    find,
-    eq_by_cmp,
-    cond,
-    is_eq-slice_cmp,
-    code,
-    all_found q (put code_order e.0 e.1 acc) es,
-  )
+  all_found q acc (e ∷ es) =
+      grind (arith, nat_tests, put, code_order, option_or, last_value, find-put, order_total, find, eq_by_cmp, cond, is_eq-slice_cmp, code, all_found q (put code_order e.0 e.1 acc) es)
 
   same_put : (es fs : List (Meaning ⊥ × X)) → ((q : Meaning ⊥) → last_value q es ≡ last_value q fs) → put_all put_in [] es ≡ put_all put_in [] fs
   same_put es fs h = same_entries code_order order_total order_exact _ _ (all_sorted [] es tt) (all_sorted [] fs tt)

@@ -1,12 +1,13 @@
 -- What a blob asks for that is a form of some value; and that what was read of it names no handle twice, where the handles that were got are apart.
-use Rattle.pagable_laws.proofs.Words.{nat_tests, ◌≡◌, ℕ, ◌<◌, ◌≤◌, ◌==◌, true, List, [], ◌∷◌, ◌++◌, map, length, Option, Some, None, Result, Ok, Err, refl, sym, ap, subst, ◌∙◌, arith}
-use Rattle.pagable_laws.proofs.Words.{append_assoc, slice_get, slice_get-get_or, append-nil, Error, ◌>>=◌, Meaning, rename, Rest, read, deepest, references_in, Form, kind_of_arc, Answer}
-use Rattle.pagable_laws.proofs.Words.{answer_at, handles_at, IsReadable, Throughout, ArcRef, Kind, Blob, Shape, Types, is_eager, times, Frame, answer_of, answers_from, Next, reads, asks, next_by}
-use Rattle.pagable_laws.proofs.Words.{next_of, next_in, rest, at, zero, suc, ◌+◌, ◌||◌, Bool, false, inr, if◌then◌else◌, sum_by-cons, Owner, Among, is_in}
-use Rattle.pagable_laws.proofs.{Words.{one, Core, reference_fault, references_fault, IsReference}, Again.{form-again, Looked, all-looked, one-looked, not-looked}, Related.renamed}
-use Rattle.pagable_laws.proofs.{Related.{keeps_forms, Out, no_cause, OutLook, both-looked-up, both-not, read_par}, Sums.{self-number, same-number, at-most-sum, counted, one-true}}
-use Rattle.pagable_laws.proofs.{ReadingStepsKinds.{kinds_of, kinds-pushed}, Fitting.longer, Along.{Along, AllTwo, no-two, more-two, refs-two, each-two}, Decoding.read-gives}
+use Rattle.pagable_laws.proofs.Words.{nat_tests, ◌≡◌, ℕ, ◌≤◌, ◌==◌, true, List, [], ◌∷◌, ◌++◌, map, length, Option, Some, None, Result, Ok, Err, refl, sym, ap, subst, ◌∙◌, arith, length-append}
+use Rattle.pagable_laws.proofs.Words.{append_assoc, slice_get, slice_get-get_or, append-nil, Error, ◌>>=◌, Meaning, rename, Rest, read, deepest, references_in, Form, kind_of_arc, Answer, answer_at}
+use Rattle.pagable_laws.proofs.Words.{handles_at, IsReadable, Throughout, ArcRef, Kind, Blob, Shape, Types, is_eager, times, Frame, answer_of, answers_from, Next, reads, asks, next_by, next_of}
+use Rattle.pagable_laws.proofs.Words.{next_in, rest, at, zero, suc, ◌+◌, ◌||◌, Bool, false, inr, if◌then◌else◌, sum_by-cons, Owner, Among, is_in, one, Core, reference_fault, references_fault}
+use Rattle.pagable_laws.proofs.{Words.IsReference, Again.{form-again, Looked, all-looked, one-looked, not-looked}, Related.{renamed, keeps_forms, no_cause, OutLook, both-looked-up, both-not}}
+use Rattle.pagable_laws.proofs.{Related.read_par, Sums.{self-number, same-number, at-most-sum, counted, one-true}, ReadingStepsKinds.{kinds_of, kinds-pushed}, Along.{Along, AllTwo, no-two, more-two}}
+use Rattle.pagable_laws.proofs.{Along.{refs-two, each-two}, Decoding.read-gives}
 use Rattle.pagable_world.specs.Loads.{read_with}
+use Rattle.std.proofs.lemmas.{Option.slice_get_past, List.length-map}
 
 -- ---- what is answered
 
@@ -17,10 +18,6 @@ look_kind kind a = answer_at kind a >>= λ r. Ok (kind_of_arc r)
 -- a kind stands for itself
 abbrev own_kind : ℕ → ℕ
 own_kind kind = kind
-
-behind-end : (front : List ArcRef) → slice_get (front ++ []) (length front) ≡ None
-behind-end [] = refl
-behind-end (x ∷ xs) = behind-end xs
 
 at-place : (front : List ArcRef) (g : ArcRef) (back : List ArcRef) → slice_get (front ++ g ∷ back) (length front) ≡ Some g
 at-place [] g back = refl
@@ -47,13 +44,13 @@ looked : (front back done left : List ArcRef) (keys : List ℕ) → kinds_of bac
     → Looked look_kind own_kind (answers_from (front ++ back) (length front) keys) (map kind_of_arc (done ++ left)) (found-of left)
 unfolding answers_from
 looked front [] [] [] [] same few = all-looked []
-looked front [] [] (q ∷ more) (key ∷ keys) same few = not-looked _ _ _ _ _ (unanswered (slice_get (front ++ []) (length front)) q.kind.0 (behind-end front))
+looked front [] [] (q ∷ more) (key ∷ keys) same few = not-looked _ _ _ _ _ (unanswered _ q.kind.0 (slice_get_past (front ++ []) (length front) (omega (arith, length-append front []))))
 looked front (g ∷ back) (d ∷ done) left (key ∷ keys) same few =
     let both = first-kind g d back done same in
     let tail = looked (front ++ g ∷ []) back done left keys both.1 (omega arith) in
     let moved = subst (λ gs. Looked look_kind own_kind (answers_from gs (length (front ++ g ∷ [])) keys) (map kind_of_arc (done ++ left)) (found-of left)) (append_assoc front (g ∷ []) back) tail in
     one-looked _ _ _ _ _ (answered g (slice_get (front ++ g ∷ back) (length front)) d.kind.0 (at-place front g back) both.0)
-    (subst (λ n. Looked look_kind own_kind (answers_from (front ++ g ∷ back) n keys) (map kind_of_arc (done ++ left)) (found-of left)) (longer front g) moved)
+    (subst (λ n. Looked look_kind own_kind (answers_from (front ++ g ∷ back) n keys) (map kind_of_arc (done ++ left)) (found-of left)) (length-append front (g ∷ [])) moved)
 looked front x1 x2 x3 x4 same few = grind (arith, nat_tests)
 
 -- ---- what comes next
@@ -96,19 +93,10 @@ module _ (types : Types) (t : ℕ) (blob : Blob) (refs : List ArcRef) (f : IsFor
       let stopped = form-again [] kinds-form stops f.can in
       let refused : read (at 0 look_kind types.parts) f.shape (input got) ≡ Err (Error.Storage q.kind.0) = rw append-nil at stopped in
       let first = err-of _ (read (handles_at 0 types.parts) f.shape (input got)) (Error.Storage q.kind.0) (sym (renamed kind_of_arc answer_at 0 types.parts f.shape (input got)) ∙ refused) in
-      let n = length done in
-      let there = slice_get-get_or blob.keys n 0 (shorter done q more few) in
-      let gotten : length got ≡ n = as-long got done same in
+      let there = slice_get-get_or blob.keys (length done) 0 (let long = length-append done (q ∷ more) in omega arith) in
+      let kind = λ (r : ArcRef). r.kind.0 in
+      let gotten : length got ≡ length done = sym (length-map got kind) ∙ ap length same ∙ length-map done kind in
       (_, there, ap (λ r. next_by (slice_get blob.keys (length got)) r) (by-shape got ∙ first) ∙ ap (λ o. next_by o (Err (Error.Storage q.kind.0))) (ap (slice_get blob.keys) gotten ∙ there))
-    where
-      as-long : (xs ys : List ArcRef) → kinds_of xs ≡ kinds_of ys → length xs ≡ length ys
-      as-long [] [] e = refl
-      as-long (x ∷ xs) (y ∷ ys) e = let a = as-long xs ys (first-kind x y xs ys e).1 in omega (arith, a)
-      as-long _ _ e = absurd (cc)
-
-      shorter : (xs : List ArcRef) (q : ArcRef) (more : List ArcRef) {n : ℕ} → n ≡ length (xs ++ q ∷ more) → length xs < n
-      shorter [] q more is = omega arith
-      shorter (x ∷ xs) q more {n} is = let a = shorter xs q more refl in omega (arith, a)
 
   -- with all of them it is read
   reads-all : (got : List ArcRef) → kinds_of got ≡ kinds_of refs → (own : Meaning ArcRef) × (next_of types t blob got ≡ reads own)
@@ -159,7 +147,6 @@ module _ (types : Types) (t : ℕ) (blob : Blob) (refs : List ArcRef) (f : IsFor
       by : Ahead types t blob refs got → Ahead types t blob refs (got ++ r ∷ [])
       by (all-done own read all) = absurd (let e : reads own ≡ asks r.kind key = sym read ∙ next in cc)
       by (one-left done left q k split same there asked) =
-          let e : asks q.kind k ≡ asks r.kind key = sym asked ∙ next in
           let kinds : q.kind ≡ r.kind = cc in
           ahead (got ++ r ∷ []) (done ++ q ∷ []) left (split ∙ sym (append_assoc done (q ∷ []) left))
           (kinds-pushed got r ∙ ap (λ ks. ks ++ r.kind.0 ∷ []) same ∙ ap (λ (k : Kind). kinds_of done ++ k.0 ∷ []) (sym kinds) ∙ sym (kinds-pushed done q))
@@ -172,10 +159,7 @@ module _ (types : Types) (t : ℕ) (blob : Blob) (refs : List ArcRef) (f : IsFor
 
   -- where it is read, all were got
   pub all-got : {got : List ArcRef} → GotAsked types t blob got → (own : Meaning ArcRef) → next_of types t blob got ≡ reads own → kinds_of got ≡ kinds_of refs
-  all-got {got} h own is = elim (comes-to h) [
-    | all-done own2 read all ↦ all
-    | one-left done left q key split same there asked ↦ absurd (let e : asks q.kind key ≡ reads own = sym asked ∙ is in cc)
-  ]
+  all-got h own is = grind (arith, nat_tests, comes-to)
 
 -- ---- a value that was read of a form names no handle twice, where the handles that were got are apart. So nothing is to be said against its references, where each is good
 
@@ -219,25 +203,17 @@ module _ (types : Types) (t : ℕ) (blob : Blob) (refs got : List ArcRef) (f : I
       more-two _ r _ rs here (all-answer (place + 1) rs ks (λ i. let next : place + suc i ≡ place + 1 + i = omega arith in at (suc i) ∙ ap (slice_get refs) next) (omega arith))
   all-answer place _ _ at few = absurd (omega arith)
 
-  both-own : {own : Meaning ArcRef} {after : Rest Answer} {n : Meaning ArcRef} {left : Rest ArcRef} {first : Result (Meaning ArcRef × Rest Answer) Error} {second : Result
-      (Meaning ArcRef × Rest ArcRef) Error}
-      → Out no_cause Answers (Along ⊥ (InPlace got refs)) first second → first ≡ Ok (own, after) → second ≡ Ok (n, left) → Along ⊥ (InPlace got refs) own n
-  both-own x0 e d = grind (arith, nat_tests)
-
   -- what is read refers in each place to what was got there
   in-place : (own : Meaning ArcRef) → next_of types t blob got ≡ reads own → Along ⊥ (InPlace got refs) own f.own
   unfolding read
   in-place own is =
       let given = read-gives _ _ own is in
       let par = read_par {E = no_cause} {F = ⊥} {S = Answers} {R = InPlace got refs} answer_at own_look (λ kind a r h. h kind) 0 f.shape (inr f.can) in
-      let again = form-again [] f.form (looks-own refs) f.can in
-      let whole : read (record { levels = 0; look = own_look; parts = types.parts }) f.shape (rest blob.bytes refs) ≡ Ok (f.own, rest [] []) = rw append-nil at again in
+      let whole : read (record { levels = 0; look = own_look; parts = types.parts }) f.shape (rest blob.bytes refs) ≡ Ok (f.own, rest [] []) =
+      rw append-nil at (form-again [] f.form (looks-own refs) f.can) in
       let shaped : read_with types t blob got ≡ read (handles_at 0 types.parts) f.shape (rest blob.bytes (answers_from got 0 blob.keys)) = rw f.is refl in
-      let first : read (handles_at 0 types.parts) f.shape (rest blob.bytes (answers_from got 0 blob.keys)) ≡ Ok (own, given.0) = sym shaped ∙ given.1 in
-      both-own (par.out (rest blob.bytes (answers_from got 0 blob.keys)) (rest blob.bytes refs) (record {
-        bytes = refl;
-        refs = grind (arith, nat_tests, all-answer, slice_get);
-      })) first whole
+      let out = par.out (rest blob.bytes (answers_from got 0 blob.keys)) (rest blob.bytes refs) (record { bytes = refl; refs = grind (arith, nat_tests, all-answer, slice_get) }) in
+      grind (arith, nat_tests, out)
 
   -- ---- references, one by one
 
@@ -254,8 +230,7 @@ module _ (types : Types) (t : ℕ) (blob : Blob) (refs got : List ArcRef) (f : I
             → times (λ (x : ArcRef). x.handle.0 == q) (a ∷ xs) ≡ one (a.handle.0 == q) + times (λ (x : ArcRef). x.handle.0 == q) xs
             → times (λ (y : ArcRef). y.handle.0 == r.handle.0) (b ∷ ys) ≡ one (b.handle.0 == r.handle.0) + times (λ (y : ArcRef). y.handle.0 == r.handle.0) ys
             → times (λ (x : ArcRef). x.handle.0 == q) (a ∷ xs) ≤ times (λ (y : ArcRef). y.handle.0 == r.handle.0) (b ∷ ys)
-        at false e tail left right = let z : one (a.handle.0 == q) ≡ 0 = ap one e in omega (arith, z, tail, left, right)
-        at true e tail left right = grind (arith, nat_tests, same-number, one, self-number)
+        at x0 e tail left right = grind (arith, nat_tests, one, same-number, self-number)
 
     -- what is read names no handle twice
     pub reads-once : (own : Meaning ArcRef) → next_of types t blob got ≡ reads own → (q : ℕ) → times (λ (r : ArcRef). r.handle.0 == q) (references_in own) ≤ 1
@@ -268,8 +243,7 @@ module _ (types : Types) (t : ℕ) (blob : Blob) (refs got : List ArcRef) (f : I
             let some = counted (λ (r : ArcRef). one (r.handle.0 == q)) (references_in own) (omega (arith, e)) in
             let r = each-two two some.0 some.1 in
             let le = no-more q r.0 some.0 r.1 (same-number some.0.handle.0 q (one-true _ some.2)) two in
-            let few = f.once r.0.handle.0 in
-            omega (arith, le, few)
+            omega (arith, le, f.once r.0.handle.0)
 
 -- ---- nothing is said against references that are good and apart
 
@@ -282,10 +256,9 @@ module _ (w : Core) (owner : Owner) where
   unfolding references_fault is_in
   fine seen [] good new once = refl
   fine seen (r ∷ rs) good new once =
-      let first = fine-one seen r (good r (zero, refl)) (new r (zero, refl)) in
       let rest = fine (r.handle.0 ∷ seen) rs (λ q among. good q (suc among.0, among.1)) (λ q among. by q among (r.handle.0 == q.handle.0) refl)
       (λ q. let a = once q in let b = sum_by-cons (λ (x : ArcRef). one (x.handle.0 == q)) r rs in omega (arith, a, b)) in
-      rw first rest
+      rw (fine-one seen r (good r (zero, refl)) (new r (zero, refl))) rest
     where
       by : (q : ArcRef) → Among rs q → (b : Bool) → (r.handle.0 == q.handle.0) ≡ b → (r.handle.0 == q.handle.0) || is_in seen q.handle.0 ≡ false
       by q among false e = let n = new q (suc among.0, among.1) in rw (e, n) refl

@@ -1,21 +1,18 @@
 -- Each event keeps trees: what it brings fits some trees afterwards, for which the machine stands then, with all that its loads read.
-use Rattle.pagable_laws.proofs.Words.{◌≡◌, ℕ, List, [], inl, inr, sym, subst, ◌⊎◌, Event, EventReply, Tree, Among, Reading, Values, Seen, IsLawful, MachineState, world_of, IsMachineWhole}
-use Rattle.pagable_laws.proofs.Words.{StandsFor, EventBrings, IsReadingOf, HoldsSettled, ReadsItsTypes, TakesWell, AsksWell, IsWellAsked, Change, CoreGoes, IsSteppedReading, EventFeels, by-call}
-use Rattle.pagable_laws.proofs.Words.{by-reading, by-key, arith, nat_tests, by-nothing, KeysAreReady, IsFresh, ChangeFits, ◌+◌, ◌≤◌, Option, Some, None, refl, ◌∙◌, OpenLoad, Moves, StepFeels, ◌∷◌}
-use Rattle.pagable_laws.proofs.Words.{HandleNumber, IsIdle, IsPremised, Moment, AreMoments, TreesAfter, TreesAlong, GivesTree, PinGives, IsRight, HasPin, PinHolds, WorkFits, KeysHeld, ◌==◌, ◌&&◌}
-use Rattle.pagable_laws.proofs.Words.{Bool, true, false, ap, Ok, is_some, sum_by-append, sum_by-cons, Identity, WorkerNumber, one, times, Took, WorkerReply, Shelf, Slot, Todo, Walking, World}
-use Rattle.pagable_laws.proofs.Words.{Site, Does, Happens, WorkerSteps, step_of, steps_of, is_claim_of, is_on_table, claims_made, ◌++◌, append_assoc, is_none, WorkerAnswer, HandleRow, Owner}
-use Rattle.pagable_laws.proofs.Words.{owner_worker, is_owned_by, is_owner, is_workers_load, state_after, events_of, replies_of, InOrder, TableMeets, HasLetGo, SameTrees}
-use Rattle.pagable_laws.proofs.{Words.{StepsAreWithin, WorkerIsRight, WorkIsRight, HeadlineLaw}, Felt.reading-fits, Felt.{none-comes, fits-nothing, fits-key, call-fits}, Fitting.tree-stays}
-use Rattle.pagable_laws.proofs.{ReadingSteps.{is-reading-of, does-feels, readings-on}, Trees.same_some, Answering.keys-right}
-use Rattle.pagable_laws.proofs.{Coming.{waits-well, StandsIn, event-turns, turns-stand, idle-stands, updated-at, EventTurns, Went}}
-use Rattle.pagable_laws.proofs.{Coming.{HasGone, goes-on}, Naming.{held-at-first, held-on, keys-ready}, Outlasting.pins-hold, Stepping.fits-at-first}
-use Rattle.pagable_laws.proofs.{Stepping.fits-on, ReadingStepsGive.{reads-give, LoadsStand, event-on, step-within, idle-bounded, steps-left}, Taking.pin_stands, Felt.trees-go-on}
-use Rattle.pagable_laws.proofs.{Standing.{ShelfGrows, is-same, puts-slot, grows, true-false, KeepsTask, Turned, keeps-task, WalkingStands, is_failing, is_open_in}, Once.{once_each, plus-none}}
-use Rattle.pagable_laws.proofs.Sums.{sum-zero}
+use Rattle.pagable_laws.proofs.Words.{◌≡◌, ℕ, List, [], inl, inr, sym, subst, ◌⊎◌, Event, EventReply, Tree, Among, Reading, Values, Seen, IsLawful, MachineState, world_of, IsMachineWhole, StandsFor}
+use Rattle.pagable_laws.proofs.Words.{EventBrings, IsReadingOf, HoldsSettled, ReadsItsTypes, TakesWell, AsksWell, IsWellAsked, Change, CoreGoes, IsSteppedReading, EventFeels, by-call, by-reading}
+use Rattle.pagable_laws.proofs.Words.{by-key, arith, nat_tests, by-nothing, KeysAreReady, IsFresh, ChangeFits, ◌+◌, ◌≤◌, Option, Some, None, refl, ◌∙◌, ◌∷◌, HandleNumber, IsIdle, IsPremised, Moment}
+use Rattle.pagable_laws.proofs.Words.{AreMoments, TreesAfter, TreesAlong, GivesTree, PinGives, IsRight, HasPin, PinHolds, WorkFits, KeysHeld, ◌==◌, ◌&&◌, Bool, true, false, ap, Ok, is_some}
+use Rattle.pagable_laws.proofs.Words.{sum_by-append, sum_by-cons, Identity, WorkerNumber, one, times, Took, WorkerReply, Shelf, Slot, Walking, World, Happens, WorkerSteps, step_of, steps_of}
+use Rattle.pagable_laws.proofs.Words.{is_claim_of, is_on_table, claims_made, ◌++◌, append_assoc, is_none, WorkerAnswer, HandleRow, Owner, owner_worker, is_owner, state_after, events_of, replies_of}
+use Rattle.pagable_laws.proofs.{Words.{InOrder, TableMeets, HasLetGo, StepsAreWithin, WorkerIsRight, WorkIsRight, HeadlineLaw}, Felt.{reading-fits, none-comes, fits-nothing, fits-key, call-fits}}
+use Rattle.pagable_laws.proofs.{Felt.trees-go-on, Fitting.tree-stays, ReadingSteps.{is-reading-of, does-feels, readings-on}, Trees.same_some, Answering.keys-right, Coming.{waits-well, StandsIn}}
+use Rattle.pagable_laws.proofs.{Coming.{event-turns, turns-stand, idle-stands, updated-at, EventTurns, Went, HasGone, goes-on}, Naming.{held-at-first, held-on, keys-ready}, Outlasting.pins-hold}
+use Rattle.pagable_laws.proofs.{Stepping.{fits-at-first, fits-on}, ReadingStepsGive.{reads-give, LoadsStand, event-on, step-within, idle-bounded, steps-left}, Taking.{pin_stands, Going, going-new}}
+use Rattle.pagable_laws.proofs.{Taking.{going-on, going-step, given-nodes}, Standing.{ShelfGrows, is-same, puts-slot, grows, true-false, KeepsTask, Turned, keeps-task, WalkingStands, is_open_in}}
+use Rattle.pagable_laws.proofs.{Once.{once_each, plus-none}, Sums.{sum-zero, one-small}}
 use Rattle.pagable_world.specs.Runs.{Does as DoesMoment}
-use Rattle.pagable_laws.proofs.Taking.{Going, going-new, going-on, going-step, given-nodes}
-use Rattle.std.{proofs.Common.append-nil, proofs.lemmas.Bool.false_from_ne_true}
+use Rattle.std.{proofs.Common.{append-nil, le_trans, rules}, proofs.lemmas.Bool.false_from_ne_true}
 
 module _ {N E B W : Type 0} (m : Seen N B W) (s : MachineState N E) (trees : ℕ → Tree) where
   reading-takes : (event : Event N B W) (reply : EventReply N B W) (reading : Reading) → IsSteppedReading (world_of s) event reading → IsWellAsked m.values s trees event reply
@@ -44,12 +41,9 @@ module _ {N E B W : Type 0} (m : Seen N B W) (s : MachineState N E) (trees : ℕ
         (f.0, (grind (arith, nat_tests)))
     event-fits lawful readable s' settled whole whole' ready event reply goes well (by-key k key row is sets keeps) = (
       trees,
-      fits-key lawful settled whole.pager whole'.pager stands.pager _ row.node.0 key (λ n x brings. no-value n x (subst (λ e. EventBrings m.values (world_of s) e n x) is brings))
+      fits-key lawful settled whole.pager whole'.pager stands.pager _ row.node.0 key (λ n x brings. (grind (arith, nat_tests, same_some)))
           (tree-stays goes.stored (ready k key row sets)),
     )
-      where
-        no-value : (n : ℕ) (x : N) → EventBrings m.values (world_of s) (let e : Event N B W = Event.WorkerStep k in e) n x → ⊥
-        no-value n x (other, at, brings) = grind (arith, nat_tests, same_some)
     event-fits lawful readable s' settled whole whole' ready event reply goes well (by-nothing stays keeps) = (
       trees,
       fits-nothing lawful settled whole.pager whole'.pager stands.pager _
@@ -59,30 +53,6 @@ module _ {N E B W : Type 0} (m : Seen N B W) (s : MachineState N E) (trees : ℕ
 -- Trees stay along chains, pins and reads give them, and keys are right.
 
 -- ---- a machine that stands for trees stands for them after each event, with all that its loads read
-
--- trees after an event for which the machine stands, where each node that was made keeps its tree
-record Stays {N E : Type 0} (v : Values N) (s s' : MachineState N E) (trees : ℕ → Tree) : Type 0 where
-  after : ℕ → Tree
-  keeps : SameTrees s.pager.core.last.node trees after
-  stands : StandsFor v s' after
-  readings : (reading : Reading) → IsReadingOf s'.work reading → Going v s'.pager after reading
-
--- a machine that stands for trees does so after each event, as trees feel it
-keeps-trees : {N B W E : Type 0} (m : Seen N B W) → IsLawful m.values → ReadsItsTypes m.values.types
-    → (s s' : MachineState N E) (trees : ℕ → Tree) (event : Event N B W) (reply : EventReply N B W) → StandsFor m.values s trees
-    → ((reading : Reading) → IsReadingOf s.work reading → Going m.values s.pager trees reading) → HoldsSettled m.values s.pager
-    → IsMachineWhole m.values s → IsMachineWhole m.values s' → KeysAreReady m.values s trees → IsWellAsked m.values s trees event reply
-    → Moves (EventBrings m.values (world_of s) event) s.pager s'.pager
-    → StepFeels m.values (world_of s) event reply (world_of s') → Stays m.values s s' trees
-keeps-trees m lawful readable s s' trees event reply stands readings settled whole whole' ready well moves feels =
-    let f = event-fits m s trees stands readings lawful readable s' settled whole whole' ready event reply feels.core well feels.feels in
-    let pager = trees-go-on lawful settled whole.pager whole'.pager stands.pager moves feels.core f.1 in
-    let on = readings-on (Going m.values s'.pager f.0) (λ reading is. going-on whole.pager whole'.pager stands.pager feels.core f.1 reading (readings reading is))
-    (λ reading new. going-new s'.pager f.0 reading new.0 new.2)
-    (λ reading frames load is at felt. going-step whole.pager whole'.pager stands.pager feels.core f.1 reading frames load at (going-of m s trees stands readings reading is) felt) feels.feels in
-    record { after = f.0; keeps = f.1.same; stands = record { pager = pager; readings = λ reading is. (on reading is).fits }; readings = on }
-
--- ---- together
 
 module _ {N E B W : Type 0} (m : Seen N B W) (s s' : MachineState N E) (trees trees' : ℕ → Tree) (whole : IsMachineWhole m.values s') (stands : StandsFor m.values s' trees') where
   given-tree : (k : HandleNumber) → HasPin s'.pager.core k → GivesTree m.values s'.pager trees' k
@@ -116,52 +86,39 @@ module _ {N E B W : Type 0} (m : Seen N B W) (lawful : IsLawful m.values) (reada
   goes s trees x on does premised =
       let feels = does-feels m s x.after x.event x.reply on.whole (waits-well (world_of s) on.work) premised.stays_open does in
       let ready = keys-ready m.values s trees readable on.fits on.held in
-      let a = keeps-trees m lawful readable s x.after trees x.event x.reply on.stands on.readings on.settled on.whole does.whole ready premised.well does.moves feels in
+      let f = event-fits m s trees on.stands on.readings lawful readable x.after on.settled on.whole does.whole ready x.event x.reply feels.core premised.well feels.feels in
+      let pager = trees-go-on lawful on.settled on.whole.pager does.whole.pager on.stands.pager does.moves feels.core f.1 in
+      let readings = readings-on (Going m.values x.after.pager f.0) (λ reading is. going-on on.whole.pager does.whole.pager on.stands.pager feels.core f.1 reading (on.readings reading is))
+      (λ reading new. going-new x.after.pager f.0 reading new.0 new.2) (λ reading frames load is at felt.
+      going-step on.whole.pager does.whole.pager on.stands.pager feels.core f.1 reading frames load at (going-of m s trees on.stands on.readings reading is) felt) feels.feels in
+      let stands : StandsFor m.values x.after f.0 = record { pager = pager; readings = λ reading is. (readings reading is).fits } in
       let turns = event-turns m (world_of s) (world_of x.after) on.work (λ v w there. (on.whole.walkings v w there).table.1) x.event x.reply does.step.happens in
-      let fits = fits-on m s x.after trees a.after (record { kept = feels.core.stored; last = feels.core.nodes; trees = a.keeps }) on.fits on.whole on.stands.pager on.settled readable lawful on.work x.event x.reply turns does.writes in
+      let fits = fits-on m s x.after trees f.0 (record { kept = feels.core.stored; last = feels.core.nodes; trees = f.1.same }) on.fits on.whole on.stands.pager
+      on.settled readable lawful on.work x.event x.reply turns does.writes in
       let held = held-on m s x.after x.event x.reply turns on.whole premised.stays_open does on.held in
       let pins = pins-hold m (world_of s) (world_of x.after) x.event x.reply on.whole.pager.whole.handles does.step.happens in
-      let keys = keys-right m s x.after trees a.after on.fits fits on.whole does.whole a.stands on.held held x.event x.reply does.step.happens in
-      let so : IsRight m.values s trees x.event x.reply x.after a.after =
+      let keys = keys-right m s x.after trees f.0 on.fits fits on.whole does.whole stands on.held held x.event x.reply does.step.happens in
+      let so : IsRight m.values s trees x.event x.reply x.after f.0 = search (rules, pin-gives, reads-give) in
       record {
-        pins_give = pin-gives m s x.after trees a.after does.whole a.stands x.event x.reply pins;
-        reads_give = reads-give m lawful readable s x.after trees a.after on.whole does.whole on.readings a.keeps a.stands x.event x.reply does;
-        leaves = keys.leaves;
-        publishes = keys.publishes;
-        key = keys.key;
-      } in
-      record {
-        trees' = a.after;
-        after = record { keeps = a.keeps; stands = a.stands; so = so };
-        on = record { whole = does.whole; work = turns-stand m turns on.work; settled = premised.settled; stands = a.stands; readings = a.readings; fits = fits; held = held };
+        trees' = f.0;
+        after = record { keeps = f.1.same; stands = stands; so = so };
+        on = record { whole = does.whole; work = turns-stand m turns on.work; settled = premised.settled; stands = stands; readings = readings; fits = fits; held = held };
       }
 
   stay : (s : MachineState N E) (trees : ℕ → Tree) (moments : List (Moment N E B W)) → IsGoingOn m.values s trees → AreMoments m s moments → TreesAlong m (IsRight m.values) s trees moments
   stay s trees [] on does = tt
   stay s trees (x ∷ xs) on (does, more) = λ premised. let g = goes s trees x on does premised in (g.trees', g.after, stay x.after g.trees' xs g.on more)
 
--- Along each chain that begins where nobody works yet, each node keeps its tree, each pin that succeeds gives the tree that its handle's node was made with, each reading that of its key, and keys are right.
-pub trees_stay : {N B W E : Type 0} (m : Seen N B W) → IsLawful m.values → ReadsItsTypes m.values.types → (s : MachineState N E) (trees : ℕ → Tree) (moments : List (Moment N E B W))
-    → IsMachineWhole m.values s → IsIdle s
-    → HoldsSettled m.values s.pager → StandsFor m.values s trees → AreMoments m s moments → TreesAlong m (IsRight m.values) s trees moments
-trees_stay m lawful readable s trees moments whole idle settled stands does = stay m lawful readable s trees moments (idle-goes m lawful readable s trees whole idle settled stands) does
-
 -- What each chain comes to: claims, workers and loads; and with trees, the headline.
 
 -- ---- claims: each event claims on a table only what wasn't claimed there, and what one worker claimed is among its table's claims
 
 slots-stay : (shelf shelf' : Shelf) → ShelfGrows shelf shelf' → (i : Identity) → one (is_some (shelf.slots i)) ≤ one (is_some (shelf'.slots i))
-slots-stay shelf shelf' more i = (grind (arith, nat_tests))
+slots-stay shelf shelf' more i = grind (arith, nat_tests)
 
 -- none more than there was
 none-more : (a b : ℕ) → a ≤ b → a + 0 ≤ b
 none-more a b le = omega arith
-
--- a claim is made only where none was, and is there afterwards
-claim-comes : {N B W : Type 0} (m : Seen N B W) (v : ℕ) (s s' : Site) (i : Identity) (todo : List Todo) (step : Took W) → Does m v s todo step s'
-    → one (is_some (s.shelf.slots i)) ≤ one (is_some (s'.shelf.slots i))
-    → one (is_some (s.shelf.slots i)) + one (is_claim_of i step) ≤ one (is_some (s'.shelf.slots i))
-claim-comes m v s s' i x5 x6 x7 more = grind (arith, nat_tests, puts-slot, none-more, is-same)
 
 -- the claims of one event
 abbrev pub claim_made : {N B W : Type 0} → (ℕ → Option Walking) → ℕ → Identity → Event N B W → EventReply N B W → ℕ
@@ -178,21 +135,8 @@ module _ {N B W : Type 0} (walkings : ℕ → Option Walking) (t : ℕ) (i : Ide
   pub own-claims : (n : ℕ) (w : Walking) → walkings n ≡ Some w → w.table ≡ t → (happened : List (Event N B W)) (replied : List (EventReply N B W))
       → times (is_claim_of {W = W} i) (steps_of n happened replied) ≤ claims_made walkings t i happened replied
   unfolding steps_of claims_made
-  own-claims n w there on (event ∷ more) (reply ∷ rest) = grind (
-    arith,
-    nat_tests,
-    sum_by-append,
-    one,
-    is_claim_of,
-    step_of,
-    steps_of,
-    claims-cons,
-    times,
-    is_on_table,
-    sum_by-cons,
-    claim_made,
-    own-claims n w there on more rest,
-  )
+  own-claims n w there on (event ∷ more) (reply ∷ rest) =
+      grind (arith, nat_tests, sum_by-append, one, is_claim_of, step_of, steps_of, claims-cons, times, is_on_table, sum_by-cons, claim_made, own-claims n w there on more rest)
   own-claims n w there on x4 x5 = grind (arith, nat_tests)
 
   -- each event claims what wasn't claimed, where workers keep their tables
@@ -203,7 +147,7 @@ module _ {N B W : Type 0} (walkings : ℕ → Option Walking) (t : ℕ) (i : Ide
 
     step-claims : {v : WorkerNumber} (reply : WorkerReply W) → WorkerSteps m u v reply u'
         → one (is_some ((u.work.shelves t).slots i)) + one (is_on_table t (walkings v.0) && is_claim_of i reply.took) ≤ one (is_some ((u'.work.shelves t).slots i))
-    step-claims {v = v} reply s = by (s.walking.table == t) refl
+    step-claims {v = v} reply s = grind (arith, nat_tests, on, none-more, is-still, after, slots-stay, puts-slot, is-same)
       where
         w : Walking
         w = s.walking
@@ -213,10 +157,6 @@ module _ {N B W : Type 0} (walkings : ℕ → Option Walking) (t : ℕ) (i : Ide
 
         after : (u'.work.shelves w.table).slots i ≡ s.after.shelf.slots i
         after = (s.work.same_shelves w.table).slots i ∙ ap (λ (x : Shelf). x.slots i) (updated-at w.table s.after.shelf u.work.shelves)
-
-        by : (b : Bool) → (w.table == t) ≡ b
-            → one (is_some ((u.work.shelves t).slots i)) + one (is_on_table t (walkings v.0) && is_claim_of i reply.took) ≤ one (is_some ((u'.work.shelves t).slots i))
-        by x0 e = grind (arith, nat_tests, on, none-more, is-still, w, one, is_some, after, slots-stay, is_claim_of, claim-comes)
 
     pub event-claims : (event : Event N B W) (reply : EventReply N B W) → Happens m u event reply u'
         → one (is_some ((u.work.shelves t).slots i)) + claim_made walkings t i event reply ≤ one (is_some ((u'.work.shelves t).slots i))
@@ -297,7 +237,7 @@ module _ {N E B W : Type 0} (m : Seen N B W) (s : MachineState N E) (work : Stan
   has-let-go : (n : ℕ) (walking : Walking) (answer : WorkerAnswer) → s.work.walkings n ≡ Some walking → walking.answer ≡ Some answer → HasLetGo (world_of s) n (s.work.shelves walking.table)
   unfolding is_open_in
   has-let-go n walking answer there is =
-      grind (arith, nat_tests, own, stands, is_failing, is_open_in, sum-zero, one, is_owned_by, owner_worker, is_owner, load)
+      grind (arith, nat_tests, own, stands, sum-zero, false_from_ne_true, true-false, owner-is, rests)
     where
       stands : WalkingStands (s.work.shelves walking.table) n walking
       stands = work.workers n walking there
@@ -309,15 +249,14 @@ module _ {N E B W : Type 0} (m : Seen N B W) (s : MachineState N E) (work : Stan
       own h among true e = true-false (whole.pager.whole.owners_there.workers h n among (owner-is n h.owner e)) rests
       own h among false e = ap one e
 
-      load : (l : ℕ) (o : Option OpenLoad) → s.pager.core.loads l ≡ o → is_workers_load n (s.pager.core.loads l) ≡ false
-      load l x1 e = grind (arith, nat_tests, is_workers_load, false_from_ne_true, is_owner, owner_worker, true-false, owner-is, rests)
-
 -- all that steps have come to, and that each step of a load was within its bound
 work-right : {N E B W : Type 0} (m : Seen N B W) (s : MachineState N E) (moments : List (Moment N E B W)) → IsMachineWhole m.values s → IsIdle s → AreMoments m s moments
     → StepsAreWithin m.values s moments × WorkIsRight m (state_after s moments) (events_of moments) (replies_of moments)
 work-right {N} {E} {B} {W} m s moments whole idle chain =
-    let (all, within) = arrives m s moments chain whole (idle-stands s idle) (idle-bounded m.values.types s idle) in
-    (within, record { claims_right = record { distinct = distinct all; met = is-met m end all.work all.whole }; workers = worker all; loads = steps-left m.values end all.loads })
+    let (all, within) = arrives m s moments chain whole (idle-stands s idle) (idle-bounded m.values.types s idle) in (
+      within,
+      record { claims_right = record { distinct = grind (arith, nat_tests, one-small); met = is-met m end all.work all.whole }; workers = worker all; loads = steps-left m.values end all.loads },
+    )
   where
     end : MachineState N E
     end = state_after s moments
@@ -331,18 +270,6 @@ work-right {N} {E} {B} {W} m s moments whole idle chain =
     All : Type 0
     All = Arrives m s end happened replied
 
-    one-at-most : (a c : ℕ) (b : Bool) → a + c ≤ one b → c ≤ 1
-    one-at-most a c x2 few = grind (arith, nat_tests)
-
-    distinct : All → (t : ℕ) (i : Identity) → claims_made end.work.walkings t i happened replied ≤ 1
-    distinct all t i = one-at-most _ _ _ (all.claims t i)
-
-    less-steps : (n d c : ℕ) → n + d ≤ c → n ≤ c
-    less-steps n d c le = omega arith
-
-    at-most : (a b : ℕ) → a ≤ b → b ≤ 1 → a ≤ 1
-    at-most a b le few = omega arith
-
     worker : All → (n : ℕ) (walking : Walking) → end.work.walkings n ≡ Some walking → WorkerIsRight m.written_of (world_of end) n walking (steps_of n happened replied)
     worker all n walking there =
         let nobody : HasGone m.written_of n s.work.shelves (s.work.walkings n) [] = subst (λ o. HasGone m.written_of n s.work.shelves o []) (sym (idle.walkings n)) refl in
@@ -352,8 +279,8 @@ work-right {N} {E} {B} {W} m s moments whole idle chain =
         record {
           order = order;
           once = once_each m.written_of walking.task (steps_of n happened replied) order
-              (λ i. at-most _ _ (own-claims end.work.walkings walking.table i n walking there refl happened replied) (distinct all walking.table i));
-          bounded = less-steps _ _ _ went.within;
+              (λ i. le_trans (own-claims end.work.walkings walking.table i n walking there refl happened replied) (grind (arith, nat_tests, one-small)));
+          bounded = let within = went.within in omega arith;
           met = went.met;
           let_go = λ answer is. has-let-go m end all.work all.whole n walking answer there is;
         }
@@ -361,4 +288,4 @@ work-right {N} {E} {B} {W} m s moments whole idle chain =
 pub headline_law : {N B W : Type 0} (E : Type 0) (m : Seen N B W) → HeadlineLaw E m
 headline_law E m start moments whole idle chain =
     let (within, work) = work-right m start moments whole idle chain in
-    record { chain = chain; work = work; loads = within; trees = λ trees stands lawful reads settled. trees_stay m lawful reads start trees moments whole idle settled stands chain }
+    record { chain = chain; work = work; loads = within; trees = λ trees stands lawful reads settled. (grind (arith, nat_tests, stay, idle-goes)) }

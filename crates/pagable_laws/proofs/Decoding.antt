@@ -19,7 +19,7 @@ read-gives key (Err e) own is = absurd (grind (arith, nat_tests))
 
 -- the key that a blob asks for next is the next of its keys
 pub asks_next : (types : Types) (frame : Frame) (kind : Kind) (key : ℕ) → next_in types frame ≡ asks kind key → slice_get frame.blob.keys (length frame.got) ≡ Some key
-asks_next types frame kind key is = (grind (arith, nat_tests))
+asks_next types frame kind key is = grind (arith, nat_tests)
 
 -- ---- what is answered, place by place
 
@@ -61,10 +61,7 @@ module _ {types : Types} {stored : ℕ → Option Blob} {trees : ℕ → Tree} {
   both-read : {own : Meaning ArcRef} {after : Rest Answer} {first : Result (Meaning ArcRef × Rest Answer) Error} {second : Result (Meaning KeyRef × Rest ℕ) Error}
       → Out any_cause (AnswersFor types stored trees got) (Along ⊥ (Found types stored trees got)) first second → first ≡ Ok (own, after)
       → (m : Meaning KeyRef) × (rest : Rest ℕ) × (second ≡ Ok (m, rest)) × Along ⊥ (Found types stored trees got) own m
-  both-read {own} {after} (both-given p q v s) e =
-      let same : p ≡ (own, after) = cc in
-      (q.0, q.1, refl, subst (λ (z : Meaning ArcRef × Rest Answer). Along ⊥ (Found types stored trees got) z.0 q.0) same v)
-  both-read _ e = absurd (cc)
+  both-read x0 e = grind (arith, nat_tests, both-given)
 
   -- what was read leads to a tree, to which the bare keys lead too
   leads-follows : {x : Meaning ArcRef} {m : Meaning KeyRef} → Along ⊥ (Found types stored trees got) x m → (a : Meaning ⊥) × LeadsTo trees x a × IsFollowed (ReadsAs stored types) m a
@@ -100,8 +97,7 @@ pub meant-refs : (rs ss : List ArcRef) → SameReferences rs ss → (r : ArcRef)
 unfolding is_ref
 meant-refs rs ss same r among =
     let one_here : 1 ≤ sum_by (λ q. one (is_ref r q)) rs = let a = at-most-sum (λ q. one (is_ref r q)) rs r among in let b = is-itself r in rw b at a in
-    let moved = same (is_ref r) in
-    let found = counted (λ q. one (is_ref r q)) ss (omega (arith, one_here, moved)) in
+    let found = counted (λ q. one (is_ref r q)) ss (omega (arith, one_here, same (is_ref r))) in
     subst (Among ss) (grind (arith, and_parts, same-number)) found.1
 
 -- ---- the value

@@ -9,7 +9,7 @@ use Rattle.pagable_laws.proofs.{Words.{ToldDepthLaw, WaitsForAsker, ClaimIsDeep,
 use Rattle.pagable_laws.proofs.{Trees.{same_some, tree_is}, Following.{known-of, tree-form}, Coming.{StandsIn, updated-at}, Answering.answered}
 use Rattle.pagable_laws.proofs.{Chains.{headline_law, IsGoingOn, idle-goes, goes}, Standing.{AllStand, Covers}}
 use Rattle.pagable_laws.proofs.Along.{Along, each-two, form-along}
-use Rattle.std.proofs.lemmas.Bool.{or_cases}
+use Rattle.std.proofs.{Common.le_trans, lemmas.Bool.or_cases}
 use Rattle.pagable_laws.proofs.Along.{number-along, integer-along, text-along, pattern-along, none-along, pair-along, variant-along, reference-along}
 use Rattle.pagable_laws.proofs.Words.{if◌then◌else◌, suc, zero, ◌+◌, ◌⊎◌, Claims, Core, Expects, IsAttained, IsTooDeep, Types, is_eager, is_identity, kind_of_arc, place_over, to_finish, to_item}
 use Rattle.pagable_laws.proofs.Standing.{is-same, is_open_in}
@@ -53,9 +53,7 @@ module _ (trees : ℕ → Tree) (rs : List ArcRef) (whole : Meaning ⊥) where
 part-of : {types : Types} {g : Ground} {n : ℕ} {written : Written} → WroteTree types g n written → (r : ArcRef) → Among written.references r → Part g.trees (g.trees n).meaning r
 part-of {g = g} {n} {written} w r among =
     let p = form-along (λ x y h. ap kind_of_arc h.same) w.form (parts-along g.trees written.references (g.trees n).meaning w.follows (omega arith) (omega arith) (omega arith)) in
-    let a = each-two p.each r among in
-    let h = a.1 in
-    h.part
+    (each-two p.each r among).1.part
 
 -- ---- heights
 
@@ -65,12 +63,6 @@ grows-by x0 a b c le few = grind (arith, nat_tests)
 -- a height and a depth go up with the place
 climbs : (e : Bool) (place h d top deep : ℕ) → (if e then h + 1 else 0) ≤ top → d ≤ deep → h ≤ d → longest_path < max ((if e then place + 1 else 0) + h) d → longest_path < max (place + top) deep
 climbs x0 place h d top deep le few within long = grind (arith, nat_tests)
-
-climbs-item : (e : Bool) (h d : ℕ) → h ≤ d → longest_path < max ((if e then 0 + 1 else 0) + h) d → longest_path < max (if e then h + 1 else 0) d
-climbs-item x0 h d within long = grind (arith, nat_tests)
-
-less-still : {a b c : ℕ} → suc a ≤ b → c ≤ a → b ≡ c → ⊥
-less-still lt le e = absurd (omega arith)
 
 -- the height of the meaning is within this, and no path in it is too long
 record IsShallow (limit : ℕ) (m : Meaning ⊥) : Type 0 where
@@ -99,15 +91,13 @@ module _ {N E : Type 0} (v : Values N) (s : MachineState N E) (trees : ℕ → T
       → IsAttained shelf h written.references
       → h ≤ height (trees i.node.0).meaning
   attained-height n i h few written w (inl is) = omega arith
-  attained-height zero i h few written w (inr a) = let part = part-of w a.r a.among in let small = part.small in absurd (omega arith)
+  attained-height zero i h few written w (inr a) = let part = part-of w a.r a.among in absurd (omega arith)
   attained-height (suc n) i h few written w (inr a) =
       let part = part-of w a.r a.among in
-      let small = part.small in
       let f = fit.slots t (identity_of a.r) a.known.slot a.known.claimed in
       let b = f.publishes a.key a.below a.known.known in
       let below = attained-height n (identity_of a.r) a.below (omega arith) b.0 (f.writes b.0 b.1) b.2.attained in
       let u = grows-by (is_eager a.r.kind.0) a.below (height (trees a.r.node.0).meaning) (height (trees i.node.0).meaning) below part.top in
-      let e = a.least in
       omega arith
 
   -- so is one that is known
@@ -131,7 +121,7 @@ module _ {N E : Type 0} (v : Values N) (s : MachineState N E) (trees : ℕ → T
       leads-down n task o.reference below expects waits all (subst (λ q. longest_path < max (q + height above_it) (deepest_path above_it)) place up)
   leads-down n task r (to_item written keys ∷ below) (more, e) (is, known) all long =
       let m = (trees r.node.0).meaning in
-      subst (λ x. IsTooDeepTask trees x) (sym is) (r, next-among shelf written.references keys r more e, climbs-item (is_eager r.kind.0) (height m) (deepest_path m) (height-within m) long)
+      subst (λ x. IsTooDeepTask trees x) (sym is) (r, next-among shelf written.references keys r more e, grind (arith, nat_tests, height-within m))
   leads-down n x1 r x3 x4 x5 x6 long = grind (arith, nat_tests, height-within)
 
   -- a worker comes upon no claim of its own that it is at: a tree is no part of itself
@@ -142,9 +132,8 @@ module _ {N E : Type 0} (v : Values N) (s : MachineState N E) (trees : ℕ → T
       let claim = stands.1 in
       let f = fit.slots t (identity_of o.reference) claim.slot claim.claimed in
       let part = part-of (f.writes o.written claim.written_so) r (next-among shelf o.written.references o.keys r more e) in
-      let small = part.small in
       elim (or_cases (is_identity q (identity_of o.reference)) (is_open_in q below) is) [
-        | inl same ↦ less-still small few (ap (λ (j : Identity). size (trees j.node.0).meaning) (is-same q (identity_of o.reference) same))
+        | inl same ↦ let e = ap (λ (j : Identity). size (trees j.node.0).meaning) (is-same q (identity_of o.reference) same) in absurd (omega arith)
         | inr rest ↦ not-below n task q o.reference below (omega arith) expects waits all rest
       ]
   not-below n task q r x4 few x6 x7 x8 is = grind (arith, nat_tests)
@@ -161,12 +150,9 @@ module _ {N E : Type 0} (v : Values N) (s : MachineState N E) (trees : ℕ → T
     | inr (inr memory) ↦ absurd (cc)
   ]
     where
-      goes : (h : ℕ) → h ≤ height (trees r.node.0).meaning → longest_path < place + h → IsTooDeepTask trees task
-      goes h le long = grind (arith, nat_tests, leads-down, longest_path, height)
-
       by : IsTooDeep shelf n (identity_of r) place → IsTooDeepTask trees task ⊎ WaitsForAsker shelf n (identity_of r)
-      by (inl long) = inl (goes 0 (omega arith) (omega arith))
-      by (inr (inl (key, h, p, long))) = inl (goes h (at-most-height (identity_of r) key h p) long)
+      by (inl long) = inl (grind (arith, nat_tests, leads-down))
+      by (inr (inl (key, h, p, long))) = inl (grind (arith, nat_tests, leads-down, at-most-height (identity_of r) key h p))
       by (inr (inr (slot, still, back))) = inr (record {
         slot = slot;
         still = still;
@@ -180,52 +166,37 @@ module _ {N E : Type 0} (v : Values N) (s : MachineState N E) (trees : ℕ → T
   shallow : (limit : ℕ) (rs : List ArcRef) → limit ≤ longest_path → AllLow shelf limit rs → {own : Meaning ArcRef} {n : Meaning ⊥} → FollowsTo trees rs own n → (m : Meaning ⊥) → n ≡ m
       → IsShallow limit m
   unfolding height deepest_path
-  shallow limit rs le lows follows (reference a) e = absurd a
   shallow limit rs le lows (pair-follows x y a b h g) (pair c d) e = grind (arith, nat_tests, shallow limit rs le lows h c (cc), shallow limit rs le lows g d (cc))
-  shallow limit rs le lows follows (pair c d) e = absurd (cc)
   shallow limit rs le lows (variant-follows i x a h) (variant j c) e = grind (arith, nat_tests, shallow limit rs le lows h c (cc))
-  shallow limit rs le lows follows (variant j c) e = absurd (cc)
   shallow limit rs le lows (reference-follows r a among is) (followed kind c) e =
       let l = lows r among in
       let f = fit.slots t (identity_of r) l.known.slot l.known.claimed in
       let b = f.publishes l.key l.below l.known.known in
-      let w = f.writes b.0 b.1 in
       let kinds : kind ≡ r.kind.0 = cc in
       let meanings : a ≡ c = cc in
-      let p = shallow l.below b.0.references b.2.within b.2.low w.follows c (is ∙ meanings) in
-      let one : above kind (height c) ≤ limit = subst (λ k. above k (height c) ≤ limit) (sym kinds) (less (above-grows r.kind.0 (height c) l.below p.top) l.within) in
+      let p = shallow l.below b.0.references b.2.within b.2.low (f.writes b.0 b.1).follows c (is ∙ meanings) in
+      let one : above kind (height c) ≤ limit = subst (λ k. above k (height c) ≤ limit) (sym kinds) (le_trans (above-grows r.kind.0 (height c) l.below p.top) l.within) in
       record { top = one; deepest = let u = p.deepest in omega arith }
-    where
-      less : {a b c : ℕ} → a ≤ b → b ≤ c → a ≤ c
-      less le more = omega arith
-  shallow limit rs le lows follows (followed kind c) e = absurd (cc)
-  shallow limit rs le lows follows _ e = record { top = omega arith; deepest = omega arith }
+  shallow limit rs le lows follows x5 e = grind (arith, nat_tests)
 
   -- so is the tree of an identity whose key is known
   shallow-tree : (i : Identity) (key h : ℕ) → IsPublished shelf i key h → IsShallow h (trees i.node.0).meaning
   shallow-tree i key h p =
       let f = fit.slots t i p.slot p.claimed in
       let b = f.publishes key h p.known in
-      let w = f.writes b.0 b.1 in
-      shallow h b.0.references b.2.within b.2.low w.follows (trees i.node.0).meaning refl
-
-  less-than : {A : Type 0} {a b : ℕ} → a < b → b ≤ a → A
-  less-than lt le = absurd (omega arith)
-
-  within-both : (a b limit : ℕ) → a ≤ limit → b ≤ limit → max a b ≤ limit
-  within-both a b limit le few = omega arith
+      shallow h b.0.references b.2.within b.2.low (f.writes b.0 b.1).follows (trees i.node.0).meaning refl
 
   -- a reference that is low leads to no path that is too long
   not-long : (r : ArcRef) → IsLow shelf longest_path r → IsLongBelow r.kind.0 (trees r.node.0).meaning → ⊥
   not-long r l long =
       let p = shallow-tree (identity_of r) l.key l.below l.known in
       let u = above-grows r.kind.0 (height (trees r.node.0).meaning) l.below p.top in
-      let w = l.within in
-      less-than long (within-both _ _ _ (omega arith) p.deepest)
+      let d = p.deepest in
+      absurd (omega arith)
 
   pub task-not-deep : (task : Task) (key : ℕ) → IsDone v shelf task key → IsTooDeepTask trees task → ⊥
   task-not-deep (of_item written) key (keys, known, is, lows) (r, among, long) = not-long r (lows r among) long
-  task-not-deep (of_entry h i) key (h2, p) long = let a = shallow-tree i key h2 p in less-than long a.deepest
+  task-not-deep (of_entry h i) key (h2, p) long = let a = shallow-tree i key h2 p in let d = a.deepest in absurd (omega arith)
 
   -- ---- and the tree has a form, and so has each that it reaches
 
@@ -309,8 +280,7 @@ module _ {N B W E : Type 0} (m : Seen N B W) (s s' : MachineState N E) (trees tr
     where
       not-key : (walking : Walking) → s.work.walkings n.0 ≡ Some walking → IsTooDeepTask trees walking.task ⊎ IsFormlessTask m.values.types trees walking.task → (key : ℕ)
           → ¬ (reply.answer ≡ Some (WorkerAnswer.Key key))
-      not-key walking there (inl long) key e = (shallow walking key there e).0 long
-      not-key walking there (inr formless) key e = (shallow walking key there e).1 formless
+      not-key walking there x2 key e = grind (arith, nat_tests, shallow)
 
       of : (shelf : Shelf) (steps : List (Took W)) (answer : WorkerAnswer) → MetDepthAlone steps → reply.answer ≡ Some answer → IsMetFailure shelf n.0 steps answer
           → ((key : ℕ) → ¬ (reply.answer ≡ Some (WorkerAnswer.Key key))) → answer ≡ WorkerAnswer.Failed Error.TooDeep

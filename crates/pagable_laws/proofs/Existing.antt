@@ -1,8 +1,8 @@
 -- The least set of handles that fall.
-use Rattle.std.proofs.lemmas.Bool.{false_from_ne_true}
-use Rattle.pagable_laws.proofs.Words.{◌≡◌, ℕ, suc, zero, ◌+◌, ◌<◌, ◌≤◌, ◌==◌, ◌&&◌, ◌||◌, Bool, true, false, List, sum_by, refl, ap, sym, ◌∙◌, arith, nat_lt, not, nat_tests}
-use Rattle.pagable_laws.proofs.Words.{and_parts, one, Among, Owner, HandleRow, is_owner, is_owned_by, owner_value, is_at, is_pin, is_outside, loses_value}
-use Rattle.pagable_laws.proofs.{Words.{IsClosed, IsWithin, IsLeast, OwnsNothing, IsGivenAlone}, Sums.{same-number, self-number, one-true, sum-le, at-most-sum, sum-plus, sum-zero, counted}}
+use Rattle.pagable_laws.proofs.Words.{◌≡◌, ℕ, suc, zero, ◌+◌, ◌<◌, ◌≤◌, ◌==◌, ◌&&◌, ◌||◌, Bool, true, false, List, sum_by, refl, ap, sym, ◌∙◌, arith, nat_lt, not, nat_tests, cases_lt, inl, inr}
+use Rattle.pagable_laws.proofs.Words.{and_parts, one, Among, Owner, HandleRow, is_owner, is_owned_by, owner_value, is_at, is_pin, is_outside, loses_value, IsClosed, IsWithin, IsLeast, OwnsNothing}
+use Rattle.pagable_laws.proofs.{Words.IsGivenAlone, Sums.{same-number, one-true, sum-le, at-most-sum, sum-plus, sum-zero, counted}}
+use Rattle.std.proofs.lemmas.Bool.{false_from_ne_true, cases_Bool}
 
 -- 1 for a handle outside the set; one of the node, one that pins it, one that its value owns; and one of the one set and not of the other
 abbrev outside : (ℕ → Bool) → HandleRow → ℕ
@@ -50,7 +50,6 @@ module _ (rows : List HandleRow) (keyed : ℕ → Bool) (entries : List HandleRo
   comes : (s : ℕ → Bool) (h : HandleRow) (n : ℕ) → Among rows h → is_owner (owner_value n) h.owner ≡ true → lost s n ≡ true → more s h.number.0 ≡ true
   comes s h n among is goes =
       let a = owned-by (lost s) n h.owner is goes in
-      let b = self-number h.number.0 in
       let c = at-most-sum (follows (lost s) h.number.0) rows h among in
       grind (arith, nat_tests)
 
@@ -61,13 +60,10 @@ module _ (rows : List HandleRow) (keyed : ℕ → Bool) (entries : List HandleRo
   closed-if : (s : ℕ → Bool) → sum_by (outside (more s)) rows ≡ sum_by (outside s) rows → IsClosed rows keyed entries s
   closed-if s same n goes =
       let each : (h : HandleRow) → Among rows h → owned_out s n h + outside (more s) h ≤ outside s h =
-      λ h among. part h among (is_owner (owner_value n) h.owner) refl in
+      λ h among. grind (arith, nat_tests, comes, shrinks) in
       let a = sum-le (λ h. owned_out s n h + outside (more s) h) (outside s) rows each in
       let b = sum-plus (owned_out s n) (outside (more s)) rows in
       omega arith
-    where
-      part : (h : HandleRow) → Among rows h → (b : Bool) → is_owner (owner_value n) h.owner ≡ b → owned_out s n h + outside (more s) h ≤ outside s h
-      part h among x2 e = grind (arith, nat_tests, comes, shrinks)
 
   -- what is in the one set is in the other
   pub inside : (s t : ℕ → Bool) (h : HandleRow) → IsWithin rows s t → Among rows h → s h.number.0 ≡ true → t h.number.0 ≡ true
@@ -78,7 +74,7 @@ module _ (rows : List HandleRow) (keyed : ℕ → Bool) (entries : List HandleRo
   wider s t n within goes =
       let pins = sum-le (pin_out t n) (pin_out s n) rows (λ h among. let a = at-most-sum (only_in s t) rows h among in grind (arith, nat_tests)) in
       let handles = sum-le (held_out t n) (held_out s n) rows (λ h among. let a = at-most-sum (only_in s t) rows h among in grind (arith, nat_tests)) in
-      (grind (arith, nat_tests))
+      grind (arith, nat_tests)
 
   -- what isn't given, and is owned by no value that goes, doesn't fall
   module _ (given gone stay : ℕ → Bool) (least : IsLeast rows keyed entries given gone) (free : (h : HandleRow) → Among rows h → given h.number.0 ≡ true → stay h.number.0 ≡ false)
@@ -87,20 +83,19 @@ module _ (rows : List HandleRow) (keyed : ℕ → Bool) (entries : List HandleRo
     but q = gone q && not (stay q)
 
     but-holds : IsWithin rows given but
-    but-holds = sum-zero (only_in given but) rows (λ h among. part h among (given h.number.0) refl)
-      where
-        part : (h : HandleRow) → Among rows h → (b : Bool) → given h.number.0 ≡ b → only_in given but h ≡ 0
-        part h among true e = rw (e, inside given gone h least.holds among e, free h among e) refl
-        part h among false e = rw e refl
+    but-holds = sum-zero (only_in given but) rows (λ h among. elim (cases_Bool (given h.number.0)) [
+      | inl e ↦ rw (e, inside given gone h least.holds among e, free h among e) refl
+      | inr e ↦ rw e refl
+    ])
 
     but-closed : IsClosed rows keyed entries but
     but-closed n goes =
         let lost_too = wider but gone n (sum-zero (only_in but gone) rows (λ h among. grind (arith, nat_tests))) goes in
-        sum-zero (owned_out but n) rows (λ h among. part n h among lost_too (least.closed n lost_too) (is_owner (owner_value n) h.owner) refl)
-      where
-        part : (n : ℕ) (h : HandleRow) → Among rows h → lost gone n ≡ true → sum_by (owned_out gone n) rows ≡ 0 → (b : Bool) → is_owner (owner_value n) h.owner ≡ b → owned_out but n h ≡ 0
-        part n h among lost_too none true e = let f = apart n h among e lost_too in let a = at-most-sum (owned_out gone n) rows h among in grind (arith, nat_tests)
-        part n h among lost_too none false e = rw e refl
+        let none = least.closed n lost_too in
+        sum-zero (owned_out but n) rows (λ h among. elim (cases_Bool (is_owner (owner_value n) h.owner)) [
+          | inl e ↦ let f = apart n h among e lost_too in let a = at-most-sum (owned_out gone n) rows h among in grind (arith, nat_tests)
+          | inr e ↦ rw e refl
+        ])
 
     pub outlast : (h : HandleRow) → Among rows h → stay h.number.0 ≡ true → gone h.number.0 ≡ false
     outlast h among is = false_from_ne_true (gone h.number.0) (λ e. let goes = inside gone but h (least.least but but-holds but-closed) among e in grind (arith, nat_tests))
@@ -110,7 +105,7 @@ module _ (rows : List HandleRow) (keyed : ℕ → Bool) (entries : List HandleRo
   stays s t within closed = sum-zero (only_in (more s) t) rows (λ h among. part h among (s h.number.0) refl (nat_lt 0 (sum_by (follows (lost s) h.number.0) rows)) refl)
     where
       owned : (h : HandleRow) → Among rows h → 0 < sum_by (follows (lost s) h.number.0) rows → t h.number.0 ≡ true
-      owned h among some = of-row h (counted (follows (lost s) h.number.0) rows some)
+      owned h among some = (grind (arith, nat_tests, one-true, of-value, same-number, owner-of, counted (follows (lost s) h.number.0) rows some))
         where
           of-value : (h x : HandleRow) → Among rows x → x.number.0 ≡ h.number.0 → (n : ℕ) × (is_owner (owner_value n) x.owner ≡ true) × (lost s n ≡ true) → t h.number.0 ≡ true
           of-value h x among number (n, is, goes) =
@@ -118,9 +113,6 @@ module _ (rows : List HandleRow) (keyed : ℕ → Bool) (entries : List HandleRo
               let at : owned_out t n x ≤ sum_by (owned_out t n) rows = at-most-sum (owned_out t n) rows x among in
               let it : t x.number.0 ≡ true = grind (arith, nat_tests) in
               sym (ap t number) ∙ it
-
-          of-row : (h : HandleRow) → (x : HandleRow) × Among rows x × (0 < follows (lost s) h.number.0 x) → t h.number.0 ≡ true
-          of-row h (x, among, some) = grind (arith, nat_tests, one-true, of-value, same-number, owner-of)
 
       part : (h : HandleRow) → Among rows h → (a : Bool) → s h.number.0 ≡ a → (b : Bool) → nat_lt 0 (sum_by (follows (lost s) h.number.0) rows) ≡ b → only_in (more s) t h ≡ 0
       part h among true e b f = let c = inside s t h within among e in grind (arith, nat_tests)
@@ -131,22 +123,15 @@ module _ (rows : List HandleRow) (keyed : ℕ → Bool) (entries : List HandleRo
   less s = sum-le (outside (more s)) (outside s) rows (λ h among. shrinks s h)
 
   -- a set that is in each closed one is the least once it is closed itself; until then it grows
-  decide : (given s : ℕ → Bool) → IsWithin rows given s
-      → ((t : ℕ → Bool) → IsWithin rows given t → IsClosed rows keyed entries t → IsWithin rows s t)
-      → (sum_by (outside (more s)) rows < sum_by (outside s) rows → (s : ℕ → Bool) × IsLeast rows keyed entries given s)
-      → (b : Bool) → nat_lt (sum_by (outside (more s)) rows) (sum_by (outside s) rows) ≡ b
-      → (s : ℕ → Bool) × IsLeast rows keyed entries given s
-  decide given s holds least rest false e = let l = less s in (s, record { holds = holds; closed = closed-if s (grind (arith, nat_tests)); least = least })
-  decide given s holds least rest true e = rest (grind (arith, nat_tests))
-
   grows : (given : ℕ → Bool) (k : ℕ) (s : ℕ → Bool) → sum_by (outside s) rows ≤ k → IsWithin rows given s
       → ((t : ℕ → Bool) → IsWithin rows given t → IsClosed rows keyed entries t → IsWithin rows s t)
       → (s : ℕ → Bool) × IsLeast rows keyed entries given s
-  grows given zero s few holds least = decide given s holds least (λ fewer. absurd (omega arith)) (nat_lt (sum_by (outside (more s)) rows) (sum_by (outside s) rows)) refl
-  grows given (suc k) s few holds least =
-      decide given s holds least (λ fewer. grows given k (more s) (omega arith)
-      ((sum-zero (only_in given (more s)) rows (λ h among. let a = at-most-sum (only_in given s) rows h among in grind (arith, nat_tests)))) (λ t h c. stays s t (least t h c) c))
-      (nat_lt (sum_by (outside (more s)) rows) (sum_by (outside s) rows)) refl
+  grows given zero s few holds least = (s, record { holds = holds; closed = closed-if s (let l = less s in omega arith); least = least })
+  grows given (suc k) s few holds least = elim (cases_lt (sum_by (outside (more s)) rows) (sum_by (outside s) rows)) [
+    | inl fewer ↦ grows given k (more s) (omega arith)
+        (sum-zero (only_in given (more s)) rows (λ h among. let a = at-most-sum (only_in given s) rows h among in grind (arith, nat_tests))) (λ t h c. stays s t (least t h c) c)
+    | inr enough ↦ (s, record { holds = holds; closed = closed-if s (let l = less s in omega arith); least = least })
+  ]
 
   within-self : (given : ℕ → Bool) → IsWithin rows given given
   within-self given = sum-zero (only_in given given) rows (λ h among. grind (arith, nat_tests))

@@ -1,41 +1,27 @@
 -- A pager with few of each is whole, by facts about its first numbers that compute.
-use Rattle.pagable_laws.proofs.Words.{◌≡◌, ℕ, zero, suc, ◌<◌, ◌≤◌, ◌==◌, ◌&&◌, Bool, true, false, List, [], ◌∷◌, refl, ap, sym, subst, arith, All, not, Ok, None, is_some, nat_lt, nat_le, nat_eq}
-use Rattle.pagable_laws.proofs.Words.{and_parts, agree_below, agree_below_at, nat_tests, AllPairs-cons, Among, times, one, updated, Owner, HandleRow, is_shared, is_loose, is_owner, type_of}
-use Rattle.pagable_laws.proofs.Words.{is_owned_by, owner_value, is_at, is_pin, is_share, held, pins, sharing, Core, OpenLoad, Root, of_cell, of_key, row_at, type_at, Alike, loses_value}
-use Rattle.pagable_laws.proofs.Words.{owned_outside, is_outside, is_keyed, IsLeast, MustList, Falls, fallen, IsHandleBefore, length, ◌∙◌, inl, Option, Some, ArcRef, sample_references, value_at}
-use Rattle.pagable_laws.proofs.Words.{is_shared_kind, is_handle, is_here, references_fault, WellFormed, MayOwnLoad, IsRootWhole, no_work, Sample, sample, sample_type, machine}
-use Rattle.pagable_laws.proofs.{Sums.sum-zero, GoodReferences.good}
-use Rattle.std.specs.List.{AllPairs}
+use Rattle.pagable_laws.proofs.Words.{◌≡◌, ℕ, suc, ◌<◌, ◌≤◌, ◌==◌, ◌&&◌, Bool, true, false, List, [], ◌∷◌, refl, ap, sym, subst, arith, All, not, Ok, None, is_some, nat_lt, nat_le, nat_eq, and_parts}
+use Rattle.pagable_laws.proofs.Words.{agree_below, agree_below_at, nat_tests, AllPairs-cons, Among, times, one, updated, Owner, HandleRow, is_shared, is_loose, is_owner, type_of, is_owned_by}
+use Rattle.pagable_laws.proofs.Words.{owner_value, is_at, is_pin, is_share, held, pins, sharing, Core, OpenLoad, Root, of_cell, of_key, row_at, type_at, Alike, loses_value, owned_outside, is_keyed}
+use Rattle.pagable_laws.proofs.Words.{IsLeast, MustList, Falls, fallen, IsHandleBefore, length, ◌∙◌, inl, Option, Some, ArcRef, sample_references, value_at, is_shared_kind, is_handle, is_here}
+use Rattle.pagable_laws.proofs.{Words.{references_fault, WellFormed, MayOwnLoad, no_work, Sample, sample, sample_type, machine}, Sums.sum-zero, GoodReferences.good}
+use Rattle.std.{proofs.Common.rules, specs.{Prelude.IfSome, List.{AllPairs, AllByRecursion as Each}}}
 
 -- ---- lists, options and numbers
 
--- P of each; and of what there is
-abbrev pub Each : {X : Type 0} → (X → Type 0) → List X → Type 0
-Each P [] = Unit {0}
-Each P (x ∷ xs) = P x × Each P xs
-
-abbrev pub OfSome : {X : Type 0} → (X → Type 0) → Option X → Type 0
-OfSome P None = Unit {0}
-OfSome P (Some x) = P x
-
-of-some : {X : Type 0} (P : X → Type 0) {x : Option X} {y : X} → OfSome P x → x ≡ Some y → P y
-of-some P {x} {y} h is = subst (λ o. OfSome P o) is h
+-- what holds of what there is
+of-some : {X : Type 0} (P : X → Type 0) {x : Option X} {y : X} → IfSome x P → x ≡ Some y → P y
+of-some P {x} {y} h is = subst (λ o. IfSome o P) is h
 
 each-among : {X : Type 0} (P : X → Type 0) (xs : List X) (x : X) → Each P xs → Among xs x → P x
-each-among P [] x h (i, is) = absurd (cc)
-each-among P (y ∷ ys) x h (zero, is) = of-some P {x = Some y} h.0 is
 each-among P (y ∷ ys) x h (suc i, is) = each-among P ys x h.1 (i, is)
+each-among x0 x1 x2 x3 x4 = grind (arith, nat_tests, of-some)
 
 none-pass : {X : Type 0} (P : X → Type 0) (q : X → Bool) (xs : List X) → Each P xs → ((x : X) → P x → q x ≡ false) → times q xs ≡ 0
 none-pass P q xs all h = sum-zero (λ x. one (q x)) xs (λ x among. ap one (h x (each-among P xs x all among)))
 
 -- what holds of the first numbers and past them holds of all
 by-four : (P : ℕ → Type 0) → P 0 × P 1 × P 2 × P 3 → ((n : ℕ) → 3 < n → P n) → (n : ℕ) → P n
-by-four P h past zero = h.0
-by-four P h past (suc zero) = h.1
-by-four P h past (suc (suc zero)) = h.2
-by-four P h past (suc (suc (suc zero))) = h.3
-by-four P h past (suc (suc (suc (suc n)))) = past (suc (suc (suc (suc n)))) (omega arith)
+by-four x0 h past x3 = grind (arith, nat_tests)
 
 by-number : (k : ℕ) (f g : ℕ → Bool) → agree_below f g (suc k) ≡ true → ((n : ℕ) → k < n → f n ≡ g n) → (n : ℕ) → f n ≡ g n
 by-number k f g ok past n = part (nat_le n k) refl
@@ -79,12 +65,6 @@ module _ (rows : List HandleRow) (low : Each RowLow rows) where
 
   owner-past : (n : ℕ) → 3 < n → (o : Owner) → OwnerLow o → is_owner (owner_value n) o ≡ false
   owner-past n lt x2 ok = grind (arith, nat_tests)
-
-  owned-past : (n : ℕ) → 3 < n → (more : HandleRow → Bool) → times (λ h. is_owned_by (owner_value n) h && more h) rows ≡ 0
-  owned-past n lt more = none-pass RowLow (λ h. is_owned_by (owner_value n) h && more h) rows low (λ h ok. let a = owner-past n lt h.owner ok.2 in rw a refl)
-
-  owns-past : (n : ℕ) → 3 < n → times (is_owned_by (owner_value n)) rows ≡ 0
-  owns-past n lt = none-pass RowLow (is_owned_by (owner_value n)) rows low (λ h ok. owner-past n lt h.owner ok.2)
 
 -- ---- what falls
 
@@ -131,18 +111,16 @@ pub falls-alone : (before w : Core) (given : ℕ → Bool) → AreAlone before w
 falls-alone before w given (low_before, low, few, none, ok) =
     falls-so before w given given low_before few none (record {
       holds = sum-zero (λ h. one (given h.number.0 && not (given h.number.0))) w.rows (λ h among. self (given h.number.0));
-      closed = λ n goes. let a = by-number 3 (takes_more w given) never ok (λ n lt. past (loses_value w.rows (is_keyed w) [] given n) (owned-past w.rows low n lt (is_outside given))) n in
+      closed = λ n goes. let a = by-number 3 (takes_more w given) never ok (λ n lt. past (loses_value w.rows (is_keyed w) [] given n) (search (rules, none-pass, owner-past))) n in
           grind (arith, nat_tests);
       least = λ t holds closed. holds;
     })
   where
     self : (b : Bool) → one (b && not b) ≡ 0
-    self true = refl
-    self false = refl
+    self x0 = grind (arith, nat_tests)
 
     past : {k : ℕ} (b : Bool) → k ≡ 0 → (b && nat_lt 0 k) ≡ false
-    past true e = rw e refl
-    past false e = refl
+    past x0 e = grind (arith, nat_tests)
 
 -- ---- what is whole
 
@@ -163,8 +141,7 @@ ordered low (h ∷ hs) (first, more) =
     let rest = ordered h.number.0 hs more in (AllPairs-cons IsHandleBefore h hs rest.1 rest.0, at (grind (arith, nat_tests)) rest.1)
   where
     at : low < h.number.0 → All (λ (x : HandleRow). h.number.0 < x.number.0) hs → All (λ (x : HandleRow). low < x.number.0) (h ∷ hs)
-    at first others zero d within = first
-    at first others (suc j) d within = let a = others j d (omega arith) in omega arith
+    at first others x2 d within = grind (arith, nat_tests)
 
 -- a handle's number was given, and its owner is there
 abbrev pub OwnerThere : Core → Owner → Type 0
@@ -177,7 +154,7 @@ RowThere w h = (nat_lt 0 h.number.0 ≡ true) × (nat_le h.number.0 w.last.handl
 
 abbrev pub RootFits : Core → Root → Type 0
 RootFits w (of_cell node t h) =
-    OfSome (λ u. u ≡ t) (type_at w node.0) × OfSome (λ (row : HandleRow). (row.node ≡ node) × (is_loose row.mode ≡ true)) (row_at w h)
+    IfSome (type_at w node.0) (λ u. u ≡ t) × IfSome (row_at w h) (λ (row : HandleRow). (row.node ≡ node) × (is_loose row.mode ≡ true))
     × (nat_le h.0 w.last.handle ≡ true) × (nat_le node.0 w.last.node ≡ true)
 RootFits w of_key = Unit {0}
 
@@ -201,7 +178,7 @@ ValueFits w n (Some x) =
 abbrev pub NumberFits : Core → List (Option Sample) → ℕ → Type 0
 NumberFits w vs n =
     ((is_some (w.cells n) && not (nat_lt 0 n && nat_le n w.last.node)) ≡ false) × (is_some (w.cells n) ≡ nat_lt 0 (held n w.rows))
-    × (is_some (value_at vs n) ≡ (is_some (w.cells n) && is_here w n)) × ValueFits w n (value_at vs n) × OfSome (LoadFits w n) (w.loads n)
+    × (is_some (value_at vs n) ≡ (is_some (w.cells n) && is_here w n)) × ValueFits w n (value_at vs n) × IfSome (w.loads n) (LoadFits w n)
 
 -- all that is asked of a pager with few of each: of its handles, of it as a whole, and of each number
 pub record HandlesFit (w : Core) : Type 0 where
@@ -215,7 +192,7 @@ pub record Stands (w : Core) (vs : List (Option Sample)) : Type 0 where
   pub stands_open : w.closed ≡ false
   pub room : (nat_le w.last.handle 9 ≡ true) × (nat_le w.last.node 3 ≡ true) × (nat_le w.last.load 3 ≡ true) × (nat_le (length w.rows) w.places.handles ≡ true)
   pub workers : (w.workers 0 ≡ false) × ((w.workers 1 && not (nat_le 1 w.last.worker)) ≡ false)
-  pub third : OfSome (λ t. t ≡ 1) (type_at w 3) × OfSome (λ n. nat_le n w.last.node ≡ true) (w.cache 4 8)
+  pub third : IfSome (type_at w 3) (λ t. t ≡ 1) × IfSome (w.cache 4 8) (λ n. nat_le n w.last.node ≡ true)
 
 pub record Passes (w : Core) (vs : List (Option Sample)) : Type 0 where
   pub handles : HandlesFit w
@@ -232,9 +209,7 @@ module _ (w : Core) (vs : List (Option Sample)) (few : Few w) (p : Passes w vs) 
   number = by-four (NumberFits w vs) p.numbers past
     where
       past : (n : ℕ) → 3 < n → NumberFits w vs n
-      past n lt =
-          let short = p.stands.short in let none : value_at vs n ≡ None = past-end vs n (grind (arith, nat_tests)) in
-          let a = few.0 n lt in let b = few.1 n lt in let c = held-past w.rows p.handles.low n lt in rw (a, b, c, none) (refl, refl, refl, owns-past w.rows p.handles.low n lt, tt)
+      past n lt = grind (arith, nat_tests, past-end, held-past, none-pass, owner-past)
 
   row : (h : HandleRow) → Among w.rows h → RowThere w h
   row h among = each-among (RowThere w) w.rows h p.handles.there among
@@ -245,16 +220,6 @@ module _ (w : Core) (vs : List (Option Sample)) (few : Few w) (p : Passes w vs) 
   load : (l : ℕ) (load : OpenLoad) → w.loads l ≡ Some load → LoadFits w l load
   load l x is = of-some (LoadFits w l) (number l).4 is
 
-  load-numbered : (l : ℕ) (found : Option OpenLoad) → OfSome (LoadFits w l) found → is_some found ≡ true → (0 < l) × (l ≤ w.last.load)
-  load-numbered l x1 fits some = grind (arith, nat_tests)
-
-  node-numbered : (n : ℕ) → is_some (w.cells n) ≡ true → (0 < n) × (n ≤ w.last.node)
-  node-numbered n some = let a = (number n).0 in grind (arith, nat_tests, and_parts)
-
-  root-whole : (node : _) (t : ℕ) (h : _) → RootFits w (of_cell node t h) → IsRootWhole w node t h
-  root-whole node t h (typed, begun, given, node_given) =
-      record { typed = λ type at. of-some (λ u. u ≡ t) typed at; begun = λ r at. of-some _ begun at; given = (grind (arith, nat_tests), grind (arith, nat_tests)) }
-
   value : (n : ℕ) (x : Sample) → value_at vs n ≡ Some x → ValueFits w n (Some x)
   value n x is = subst (λ o. ValueFits w n o) is (number n).3
 
@@ -263,22 +228,10 @@ module _ (w : Core) (vs : List (Option Sample)) (few : Few w) (p : Passes w vs) 
     where
       past : (q : ℕ) → 9 < q → nat_eq (refers x q) (owns w n q) ≡ true
       past q lt =
-          let few = p.stands.room.0 in
           let a : refers x q ≡ 0 = none-pass (λ (r : ArcRef). nat_le r.handle.0 9 ≡ true) (λ r. r.handle.0 == q) (sample_references x) (value n x is).2 (λ r ok. grind (arith, nat_tests)) in
           let b : owns w n q ≡ 0 = none-pass (RowThere w) (λ h. is_handle q h && is_owned_by (owner_value n) h) w.rows p.handles.there
           (λ h ok. let c = ok.1 in let d : is_handle q h ≡ false = grind (arith, nat_tests) in rw d refl) in
           rw (a, b) refl
-
-  list-owns-none : (q : ℕ) → times (λ h. is_handle q h && is_owned_by Owner.List h) w.rows ≡ 0
-  list-owns-none q = none-pass RowLow (λ h. is_handle q h && is_owned_by Owner.List h) w.rows p.handles.low (λ h ok. not-list (is_handle q h) h.owner ok.2)
-    where
-      not-list : (b : Bool) (o : Owner) → OwnerLow o → (b && is_owner Owner.List o) ≡ false
-      not-list x0 x1 ok = grind (arith, nat_tests)
-
-  worker-numbered : (v : ℕ) → w.workers v ≡ true → v ≤ w.last.worker
-  worker-numbered zero is = omega arith
-  worker-numbered (suc zero) is = let a = p.stands.workers.1 in grind (arith, nat_tests)
-  worker-numbered (suc (suc v)) is = let e = few.2 (suc (suc v)) (omega arith) in absurd (cc)
 
   pub whole-so : WellFormed sample (machine w vs no_work).pager
   whole-so =
@@ -288,7 +241,7 @@ module _ (w : Core) (vs : List (Option Sample)) (few : Few w) (p : Passes w vs) 
           handles = record {
             ordered = (ordered 0 w.rows p.handles.rise).0;
             numbered = λ h among. let (a, b, c) = row h among in (grind (arith, nat_tests), grind (arith, nat_tests));
-            nodes_numbered = node-numbered;
+            nodes_numbered = grind (arith, nat_tests, number, and_parts);
             within = let a : w.last.handle ≤ 9 = grind (arith, nat_tests) in let b : w.last.node ≤ 3 = grind (arith, nat_tests) in let c : w.last.load ≤ 3 = grind (arith, nat_tests) in
                 (omega arith, omega arith, omega arith);
             live = λ n. (number n).1;
@@ -297,15 +250,15 @@ module _ (w : Core) (vs : List (Option Sample)) (few : Few w) (p : Passes w vs) 
             places = (grind (arith, nat_tests), let e : length w.list ≡ 0 = ap length p.stands.list in omega arith);
           };
           owners_there = record {
-            listed = λ q. subst (λ hs. times (λ h. h.0 == q) hs ≡ times (λ h. is_handle q h && is_owned_by Owner.List h) w.rows) (sym p.stands.list) (sym (list-owns-none q));
+            listed = λ q. subst (λ hs. times (λ h. h.0 == q) hs ≡ times (λ h. is_handle q h && is_owned_by Owner.List h) w.rows) (sym p.stands.list) (sym (grind (arith, nat_tests, none-pass, low)));
             waiting = λ h among is. absurd (subst (λ o. OwnerLow o) is (low h among).2);
             loads = λ h l among is. subst (λ o. OwnerThere w o) is (row h among).2;
             workers = λ h v among is. subst (λ o. OwnerThere w o) is (row h among).2;
           };
           loads = record {
-            numbered = λ l some. load-numbered l (w.loads l) (number l).4 some;
+            numbered = λ l some. grind (arith, nat_tests);
             owned = λ l x is. subst (λ o. MayOwnLoad w o) (sym (load l x is).2) tt;
-            roots = λ l x node t h is root. root-whole node t h (subst (λ r. RootFits w r) root (load l x is).3);
+            roots = λ l x node t h is root. grind (arith, nat_tests, of-some, subst (λ r. RootFits w r) root (load l x is).3);
           };
           cache = λ kind key n is. let (four, eight, three) = few.3 kind key n is in
               record {
@@ -313,7 +266,7 @@ module _ (w : Core) (vs : List (Option Sample)) (few : Few w) (p : Passes w vs) 
                 typed = λ t at. of-some (λ t. t ≡ 1) p.stands.third.0 (subst (λ k. type_at w k ≡ Some t) three at) ∙ ap type_of (sym four);
                 shares = λ h among at. (low h among).1 ∙ ap is_shared_kind (sym four);
               };
-          workers_numbered = worker-numbered;
+          workers_numbered = grind (arith, nat_tests);
           shut = λ closed. let e = p.stands.stands_open in absurd (cc);
         };
         counted = λ n. refl;

@@ -1,8 +1,7 @@
 -- What a load reads goes on fitting, whatever it gets.
-use Rattle.pagable_laws.proofs.Words.{nat_tests, ◌≡◌, ℕ, zero, suc, ◌+◌, ◌<◌, ◌≤◌, List, [], ◌∷◌, ◌++◌, Option, Some, ◌⊎◌, inl, inr, refl, sym, ap, ◌∙◌, subst, arith, slice_get, length, KeyRef}
-use Rattle.pagable_laws.proofs.Words.{ReadsAs, IsFollowed, number-followed, integer-followed, text-followed, pattern-followed, none-followed, pair-followed, variant-followed, reference-followed}
-use Rattle.pagable_laws.proofs.Words.{HandleRow, ArcRef, Kind, Blob, Types, Tree, type_of, ReadsTree, Meaning, Among, Frame, Next, asks, next_in, need_at, need_of, needs_nested, needs_lazy}
-use Rattle.pagable_laws.proofs.{Words.{root_frame, nested_frame, with_got, ReadsNodeTree, FrameFits, FramesFit, SameTrees, Needs, KeepsStored, FramesGiven}, Decoding.asks_next}
+use Rattle.pagable_laws.proofs.Words.{nat_tests, ◌≡◌, ℕ, zero, suc, ◌<◌, ◌≤◌, List, [], ◌∷◌, ◌++◌, Option, Some, ◌⊎◌, inl, inr, refl, sym, ap, ◌∙◌, subst, arith, slice_get, length, length-append}
+use Rattle.pagable_laws.proofs.Words.{HandleRow, ArcRef, Kind, Blob, Types, Tree, type_of, ReadsTree, Among, Frame, Next, asks, next_in, need_at, need_of, needs_nested, needs_lazy, root_frame}
+use Rattle.pagable_laws.proofs.{Words.{nested_frame, with_got, ReadsNodeTree, FrameFits, FramesFit, SameTrees, Needs, KeepsStored, FramesGiven}, Decoding.asks_next, Trees.{each-type, followed-on}}
 
 -- ---- what is asked
 
@@ -15,27 +14,15 @@ pub pushed : {X : Type 0} (xs : List X) (y : X) (i : ℕ) (x : X) → slice_get 
 pushed (z ∷ xs) y (suc i) x is = elim (pushed xs y i x is) [ inl old ↦ inl old | inr new ↦ inr (let n = new.0 in omega (arith, n), new.1) ]
 pushed x0 y x2 x is = grind (arith, nat_tests)
 
-pub longer : {X : Type 0} (xs : List X) (y : X) → length (xs ++ y ∷ []) ≡ length xs + 1
-longer [] y = omega arith
-longer (x ∷ xs) y = let a = longer xs y in omega (arith, a)
-
 pub inside : {X : Type 0} (xs : List X) (i : ℕ) (x : X) → slice_get xs i ≡ Some x → i < length xs
 inside (y ∷ xs) (suc i) x is = let a = inside xs i x is in omega (arith, a)
 inside x0 x1 x is = grind (arith, nat_tests)
 
 module _ {stored stored' : ℕ → Option Blob} {types : Types} (kept : KeepsStored stored stored') where
-  read-stays : {t key : ℕ} {m : Meaning KeyRef} → ReadsAs stored types t key m → ReadsAs stored' types t key m
-  read-stays {t} {key} h = record { blob = h.blob; stored = kept key h.blob h.stored; rest = h.rest; reads = h.reads }
-
-  follows-stays : {m : Meaning KeyRef} {a : Meaning ⊥} → IsFollowed (ReadsAs stored types) m a → IsFollowed (ReadsAs stored' types) m a
-  follows-stays (pair-followed x y a b f g) = pair-followed x y a b (follows-stays f) (follows-stays g)
-  follows-stays (variant-followed n x a f) = variant-followed n x a (follows-stays f)
-  follows-stays (reference-followed r x a o f) = reference-followed r x a (read-stays o) (follows-stays f)
-  follows-stays h = search (number-followed, integer-followed, text-followed, pattern-followed, none-followed)
-
   -- what a key reads as stays
   pub tree-stays : {key : ℕ} {t : Tree} → ReadsTree stored types key t → ReadsTree stored' types key t
-  tree-stays h = record { own = h.own; reads = read-stays h.reads; follows = follows-stays h.follows }
+  tree-stays {t = t} h =
+      record { own = h.own; reads = grind (arith, nat_tests); follows = followed-on (λ n. Unit {0}) (λ n key m all r. grind (arith, nat_tests)) (each-type (λ n. tt) t.meaning) h.follows }
 
   pub node-stays : {trees trees' : ℕ → Tree} {key t n : ℕ} → trees' n ≡ trees n → ReadsNodeTree types stored trees key t n → ReadsNodeTree types stored' trees' key t n
   node-stays {key = key} same h = record { typed = ap (λ (z : Tree). z.type) same ∙ h.typed; reads = subst (λ (z : Tree). ReadsTree stored' types key z) (sym same) (tree-stays h.reads) }
@@ -55,7 +42,7 @@ module _ {types : Types} {stored : ℕ → Option Blob} {trees : ℕ → Tree} w
   got-fits frame q key next read h =
       record {
         is = h.is;
-        few = let a = longer frame.got q in let b = inside frame.blob.keys (length frame.got) key next in omega (arith, a, b);
+        few = let a = length-append frame.got (q ∷ []) in let b = inside frame.blob.keys (length frame.got) key next in omega (arith, a, b);
         got = λ place k r is at. at-place place k r at (pushed frame.got q place r is);
       }
     where

@@ -1,7 +1,7 @@
 -- References that nothing is to be said against name handles of their owner, as they should. A handle that is given up doesn't bring a value back.
-use Rattle.pagable_laws.proofs.Words.{◌≡◌, ℕ, suc, ◌+◌, ◌≤◌, Bool, true, false, List, [], ◌∷◌, ◌++◌, cond, refl, arith, Option, Some, None, not, nat_tests, sum_by-cons, ArcRef, or_else, one}
-use Rattle.pagable_laws.proofs.Words.{Owner, HandleRow, is_owner, pins, is_pin, Core, Alike, AreNewEntries, Falls, left_rows, is_type, reference_fault, references_fault, IsReference, AreGood}
-use Rattle.pagable_laws.proofs.{Words.StaysAway, Sums.same-number, Goes.{alike, fell}}
+use Rattle.pagable_laws.proofs.Words.{◌≡◌, ℕ, suc, ◌+◌, ◌≤◌, Bool, true, List, [], ◌∷◌, ◌++◌, cond, refl, arith, Option, None, not, nat_tests, sum_by-cons, ArcRef, or_else, one, Owner, HandleRow}
+use Rattle.pagable_laws.proofs.{Words.{is_owner, pins, is_pin, Core, Alike, AreNewEntries, Falls, left_rows, reference_fault, references_fault, IsReference, AreGood, StaysAway}, Sums.same-number}
+use Rattle.pagable_laws.proofs.Goes.{alike, fell}
 use Rattle.std.proofs.Common.{rules}
 
 pub or-none : {X : Type 0} (a b : Option X) → or_else a b ≡ None → (a ≡ None) × (b ≡ None)
@@ -10,12 +10,9 @@ or-none x0 b is = grind (arith, nat_tests)
 pub same-owner : (o p : Owner) → is_owner o p ≡ true → p ≡ o
 same-owner x0 x1 is = grind (arith, nat_tests, same-number)
 
-pub typed-by : (t : ℕ) (found : Option ℕ) → is_type t found ≡ true → found ≡ Some t
-typed-by t x1 is = grind (arith, nat_tests, same-number)
-
 module _ (w : Core) (owner : Owner) where
   good-one : (seen : List ℕ) (r : ArcRef) → reference_fault w owner seen r ≡ None → IsReference w owner r
-  good-one seen r none = search (rules, same-number, same-owner, typed-by)
+  good-one seen r none = search (rules, same-number, same-owner)
 
   pub good : (seen : List ℕ) (references : List ArcRef) → references_fault w owner seen references ≡ None → AreGood w owner references
   unfolding references_fault
@@ -38,8 +35,7 @@ pins-left n gone (h ∷ hs) more k none = at (gone h.number.0) (pins-left n gone
     at : (b : Bool) → pins n (left_rows gone hs ++ more) ≤ pins n hs → pins n (h ∷ hs) ≡ one (is_pin n h) + pins n hs
         → pins n (h ∷ left_rows gone hs ++ more) ≡ one (is_pin n h) + pins n (left_rows gone hs ++ more)
         → pins n (cond (not b) (h ∷ left_rows gone hs) (left_rows gone hs) ++ more) ≤ pins n (h ∷ hs)
-    at true le a b = omega arith
-    at false le a b = omega arith
+    at x0 le a b = grind (arith, nat_tests)
 
 no-pins : (n last : ℕ) (entries : List HandleRow) → AreNewEntries last entries → pins n entries ≡ 0
 no-pins n last [] new = refl

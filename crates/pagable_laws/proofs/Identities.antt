@@ -1,10 +1,10 @@
 -- Two kinds or keys never get one identity through one cache, and one kind and key gets the same for as long as its node is held.
-use Rattle.pagable_laws.proofs.Words.{◌≡◌, ℕ, zero, suc, ◌+◌, ◌≤◌, Bool, true, false, List, [], ◌∷◌, Some, None, inl, inr, refl, sym, ap, subst, ◌∙◌, if◌then◌else◌, arith, nat_tests, OptionalDataKey}
-use Rattle.pagable_laws.proofs.Words.{Owner, Mode, Kind, ArcRef, LoadNumber, type_of, Among, is_pinned_kind, mode_of, fits_mode, is_pinning, Core, Last, Alike, Seen, usable, with_handle}
-use Rattle.pagable_laws.proofs.Words.{with_node, with_cached, next_node, GetsKnown, adopted, first_key, MachineState, world_of, IsWhole, IsMachineWhole, Moment, AreMoments, state_after}
-use Rattle.pagable_laws.proofs.{Words.{GetsReference, IsFilledByReading, LeavesCache, StaysAlive, OneIdentityLaw, Change, nothing_felt, GetsRow}, Goes.{Goes, KnowsNext, quiet-then, quiet-goes, goes-quiet}}
-use Rattle.pagable_laws.proofs.{Goes.{alike, a-handle, fell-anyhow, adopts}, Called.gets-known, Outlasting.among-found, ReadingSteps.{cached-rows, got-known, got-fallen, got-born, is-cached}}
-use Rattle.pagable_laws.proofs.{ReadingSteps.event-goes, Sums.self-number, Effects.{IsEntered, IsHeldFor, can-use, entered-of, stays-alike, stays-fell}, SparingSteps.{keeps-open, event-lasts}}
+use Rattle.pagable_laws.proofs.Words.{◌≡◌, ℕ, zero, suc, ◌+◌, ◌≤◌, true, false, List, [], ◌∷◌, Some, None, inl, inr, refl, sym, ap, subst, ◌∙◌, arith, nat_tests, OptionalDataKey, Owner, Mode, Kind}
+use Rattle.pagable_laws.proofs.Words.{ArcRef, LoadNumber, type_of, Among, is_pinned_kind, mode_of, fits_mode, is_pinning, Core, Last, Alike, Seen, usable, with_handle, with_node, next_node, GetsKnown}
+use Rattle.pagable_laws.proofs.Words.{adopted, first_key, MachineState, world_of, IsWhole, IsMachineWhole, Moment, AreMoments, state_after, GetsReference, IsFilledByReading, LeavesCache, StaysAlive}
+use Rattle.pagable_laws.proofs.{Words.{OneIdentityLaw, Change, nothing_felt, GetsRow}, Goes.{Goes, KnowsNext, quiet-then, quiet-goes, goes-quiet, alike, a-handle, fell-anyhow, adopts}}
+use Rattle.pagable_laws.proofs.{Called.gets-known, Outlasting.among-found, ReadingSteps.{cached-rows, got-known, got-fallen, got-born, is-cached, event-goes}, Sums.self-number, Effects.IsEntered}
+use Rattle.pagable_laws.proofs.{Effects.{IsHeldFor, can-use, entered-of, stays-alike, stays-fell}, SparingSteps.{keeps-open, event-lasts}}
 
 -- ---- what is got
 
@@ -35,7 +35,8 @@ module _ {w w' : Core} (whole : IsWhole w) (kind : Kind) (key n : ℕ) (g : Gets
   old m is gets q enters = subst (λ x. Gotten w kind key x w') (sym gets.at ∙ g.at) (record { held = held-by kind key gets; from = got-old is q (enters (entered-of kind.0 key m w is)) })
 
   known : GetsKnown w g.l kind key g.k w' → Gotten w kind key n w'
-  known c = old c.n c.known (got-known whole.handles kind g.k g.row g.made c.next.above c.n (Owner.Load g.l) c.leaves) (gets-known {me = Owner.Caller} {lists = false} {Asks = Unit {0}} {Leaves = Unit {0}} c).goes (λ e h. stays-alike kind.0 key c.n c.leaves e h)
+  known c = old c.n c.known (got-known whole.handles kind g.k g.row g.made c.next.above c.n (Owner.Load g.l) c.leaves)
+      (gets-known {me = Owner.Caller} {lists = false} {Asks = Unit {0}} {Leaves = Unit {0}} c).goes (λ e h. stays-alike kind.0 key c.n c.leaves e h)
 
   new : (own : OptionalDataKey) (references : List ArcRef) → g.k.0 ≡ w.last.handle + 1 → usable w kind.0 key ≡ None → Alike (adopted w g.l kind key own references) w' → Gotten w kind key n w'
   new own references above none a =
@@ -65,9 +66,8 @@ record IsKnownOnce (kind key n : ℕ) (w : Core) : Type 0 where
 once-goes : (kind key n : ℕ) {c : Change} {w w' : Core} → Goes c w w' → KnowsNext c w → IsKnownOnce kind key n w → IsKnownOnce kind key n w'
 once-goes kind key n {w = w} g next once =
     let few = once.given in
-    let more = g.nodes in
     record {
-      given = omega (arith, few, more);
+      given = omega (arith, few, g.nodes);
       only = λ k q is. elim (g.cache k q n is) [
         | inl there ↦ once.only k q there
         | inr knows ↦ absurd (let e = next k q n knows in omega (arith, e, few))
@@ -87,18 +87,6 @@ once-got {w} {w'} kind key n whole filled (got-new none next l own references a)
         | inr known ↦ (known.0, known.1)
       ];
     }
-
--- ---- what is got is known
-
-entered-got : {w w' : Core} (kind : Kind) (key n : ℕ) → w.closed ≡ false → Got w kind key n w' → HeldEnters w' kind key n
-entered-got kind key n opened (got-old is q enters) h = enters h
-entered-got {w} {w'} kind key n opened (got-new none next l own references a) h = stays-alike kind.0 key n a (entered w.closed opened) h
-  where
-    made : Core
-    made = with_handle (with_node w (type_of kind.0) own references) (next_node w) (mode_of kind.0) (Owner.Load l)
-
-    entered : (b : Bool) → b ≡ false → let d = if b then made else with_cached made kind key (next_node w) in IsEntered kind.0 key n d.cache d.cells
-    entered x0 is = grind (arith, nat_tests, self-number)
 
 -- ---- along a chain
 
@@ -141,5 +129,5 @@ one_identity_law E m w first between last kind other_kind key other_key n other_
     record {
       differ = λ same_kind same_node. differ kind other_kind key other_key n other_n s.1 b.from same_node;
       same = λ same_kind same_key alive.
-          same kind other_kind key other_key n other_n (used-along m kind key n first between chain leaves alive (entered-got kind key n opened a.from a.held) a.held) b.from same_kind same_key;
+          same kind other_kind key other_key n other_n (used-along m kind key n first between chain leaves alive (grind (arith, nat_tests, stays-alike, self-number)) a.held) b.from same_kind same_key;
     }

@@ -1,24 +1,22 @@
 -- The chain of two levels is one of the machine, and meets the headline with all that it asks: its pagers are whole by closed facts, and so is each step.
 use Rattle.pagable_laws.proofs.Words.{◌≡◌, ℕ, zero, suc, ◌<◌, ◌≤◌, ◌==◌, Bool, true, false, List, [], ◌∷◌, refl, sym, subst, arith, Ok, None, is_some, nat_le, nat_tests, updated, Owner, HandleRow}
 use Rattle.pagable_laws.proofs.Words.{held, pins, Core, OpenLoad, of_cell, of_key, row_at, owned_outside, is_keyed, fallen, length, ◌∙◌, inl, Option, Some, sample_references, value_at, is_here}
-use Rattle.pagable_laws.proofs.Words.{references_fault, Sample, sample, machine, ◌++◌, ◌+◌, inr, is_none, if_there, blob_of, HandleNumber, NodeNumber, Blob, Took, Mode, Pinning, WorkerAnswer}
-use Rattle.pagable_laws.proofs.Words.{PagerState, TodoTakesWell, ArePremised, find_row, is_named_by, preimage, IsSettled, is_in, identity_of, Shelf, Written, Todo, Reading, to_start, to_pin}
-use Rattle.pagable_laws.proofs.Words.{to_load, to_write, to_set, to_publish, to_release, to_finish, to_item, digest, nobody, row_of, with_key, CloneCall, PinCall, StoreCall, WalkDoes, claim_fault}
-use Rattle.pagable_laws.proofs.Words.{is_workers_at, nothing-form, reference-form, without_worker, is_workers, AreMoments, Walking, Ends, is_counted, steps_after, TookWrites, SameShelf, no_shelf}
-use Rattle.pagable_laws.proofs.Words.{IsMachineWhole, IsReadingWhole, IsWalkingWhole, owner_worker, ◌⊎◌, LoadAnswer, Frame, BeginCall, ReadingDoes, root_frame, IsClosed, IsWithin, with_mode}
-use Rattle.pagable_laws.proofs.Words.{UnpinCall, named_fault, answers_from, ReadsRoot, IsCellOf, Event, EventReply, one_more, load_fault, reading_at, reading_after, ReadingsAre, ReadingBrings}
-use Rattle.pagable_laws.proofs.Words.{world_of, WorkStays, OnlyCore, Beginning, MachineState, fresh, references_in, SameReferences, IsReadable, LiesIn, Throughout, throughout-in, none-followed}
-use Rattle.pagable_laws.proofs.Words.{rest_of, Tree, tree, IsLawful, ReadsItsTypes, KeepsOpen, FallsAnyhow, HandOverCall, LazyCall, EndCall, SetKeyCall, PinsAtOnce}
-use Rattle.pagable_laws.proofs.{Words.{ReadsAsType, IsWellAsked, IsPremised, state_after, TwoLevelsMeetTheHeadline}, GoodReferences.good, Two.and-false, Joining.new_whole}
+use Rattle.pagable_laws.proofs.Words.{references_fault, Sample, sample, machine, ◌++◌, ◌+◌, inr, is_none, if_there, blob_of, HandleNumber, Blob, Took, Mode, WorkerAnswer, PagerState, TodoTakesWell}
+use Rattle.pagable_laws.proofs.Words.{ArePremised, find_row, is_named_by, preimage, IsSettled, is_in, identity_of, Shelf, Written, Todo, Reading, to_start, to_pin, to_write, to_set, to_publish}
+use Rattle.pagable_laws.proofs.Words.{to_release, to_finish, to_item, digest, nobody, row_of, with_key, CloneCall, StoreCall, WalkDoes, claim_fault, is_workers_at, nothing-form, reference-form}
+use Rattle.pagable_laws.proofs.Words.{without_worker, is_workers, AreMoments, Walking, Ends, is_counted, steps_after, TookWrites, SameShelf, no_shelf, IsMachineWhole, IsReadingWhole, owner_worker}
+use Rattle.pagable_laws.proofs.Words.{◌⊎◌, LoadAnswer, Frame, BeginCall, ReadingDoes, root_frame, IsClosed, IsWithin, with_mode, UnpinCall, named_fault, answers_from, ReadsRoot, IsCellOf, Event}
+use Rattle.pagable_laws.proofs.Words.{EventReply, one_more, load_fault, reading_at, reading_after, ReadingsAre, ReadingBrings, world_of, WorkStays, OnlyCore, Beginning, MachineState, fresh}
+use Rattle.pagable_laws.proofs.Words.{references_in, SameReferences, IsReadable, LiesIn, Throughout, throughout-in, none-followed, rest_of, Tree, tree, IsLawful, ReadsItsTypes, KeepsOpen, FallsAnyhow}
+use Rattle.pagable_laws.proofs.{Words.{HandOverCall, LazyCall, EndCall, SetKeyCall, PinsAtOnce, ReadsAsType, IsWellAsked, IsPremised, state_after, TwoLevelsMeetTheHeadline}, GoodReferences.good}
+use Rattle.pagable_laws.proofs.{Trees.same_some, Two.and-false, Joining.new_whole, Chains.headline_law, Few.{updated-past, alike-self, falls-so, AreAlone, falls-alone, Few, Passes, whole-so}}
 use Rattle.pagable_world.specs.Refusals.{OwnsLoad}
-use Rattle.pagable_laws.proofs.Chains.{headline_law}
 use Rattle.pagable_world.specs.{Workers.Site, World.HasForm}
 use Rattle.pagable_laws.specs.TwoLevels as two
 use Rattle.pagable_world.specs.{Runs.Does, Events.Happens, LoadCalls.IsNextLoad, Pager.EventBrings, Pager.ReplyWrites}
 use Rattle.pagable_model.specs.Reading as grammar
 use Rattle.pagable_model.specs.Shape as shapes
 use Rattle.pagable_model.specs.Meaning as meanings
-use Rattle.pagable_laws.proofs.Few.{updated-past, alike-self, falls-so, AreAlone, falls-alone, Few, Passes, whole-so}
 
 -- ---- the machine over a pager that passes
 
@@ -37,34 +35,14 @@ Good w vs = Few w × Passes w vs
 
 pub whole-at : (w : Core) (vs : List (Option two.Sample)) (shelf : Shelf) (walking : Option Walking) (reading : Option Reading) → Good w vs → FitsWalking w walking → FitsReading w reading
     → IsMachineWhole two.sample (two.machine w vs (two.work_of shelf walking reading))
-whole-at w vs shelf walking reading (few, p) walks reads = record { pager = whole-so w vs few p; readings = read-so reading reads; walkings = walk-so walking walks; all_there = there walking walks }
-  where
-    read-so : (reading : Option Reading) → FitsReading w reading → (l : ℕ) (r : Reading) → two.reads reading l ≡ Some r → IsReadingWhole w l r
-    read-so reading fits l r is = grind (arith, nat_tests)
-
-    walk-so : (walking : Option Walking) → FitsWalking w walking → (n : ℕ) (x : Walking) → updated 1 walking (λ v. None) n ≡ Some x → IsWalkingWhole w (two.work_of shelf walking reading) n x
-    walk-so walking fits n x is = grind (arith, nat_tests)
-
-    there : (walking : Option Walking) → FitsWalking w walking → (n : ℕ) → w.workers n ≡ true → is_some (updated 1 walking (λ v. None) n) ≡ true
-    there walking fits zero is = let e = p.stands.workers.0 in absurd (cc)
-    there None fits (suc zero) is = absurd (cc)
-    there (Some x) fits (suc zero) is = refl
-    there walking fits (suc (suc n)) is = let e = few.2 (suc (suc n)) (omega arith) in absurd (cc)
-
--- what is few stays few
-pub few-key : (w : Core) (n : NodeNumber) (key : ℕ) → Few w → Few (with_key w n key)
-few-key w n key few = (keyed, few.1, few.2, few.3)
-  where
-    keyed : (m : ℕ) → 3 < m → (with_key w n key).cells m ≡ None
-    keyed m lt = let e = few.0 m lt in grind (arith, nat_tests)
+whole-at w vs shelf walking reading (few, p) walks reads =
+    record { pager = whole-so w vs few p; readings = grind (arith, nat_tests); walkings = grind (arith, nat_tests); all_there = grind (arith, nat_tests) }
 
 pub few-fallen : (w : Core) (gone : ℕ → Bool) → Few w → Few (fallen w gone [])
 few-fallen w gone few = (λ n lt. let e = few.0 n lt in grind (arith, nat_tests), few.1, few.2, few.3)
 
 few-ended : (answer : Option WorkerAnswer) (w : Core) → Few w → Few (two.ended answer w)
-few-ended None w few = few
-few-ended (Some answer) w few =
-    few-fallen (without_worker w 1) (is_workers w 1) (few.0, λ l lt. let e = few.1 l lt in grind (arith, nat_tests), updated-past 1 1 false false w.workers (omega arith) few.2, few.3)
+few-ended x0 w few = grind (arith, nat_tests, few-fallen, updated-past)
 
 -- ---- each step
 
@@ -108,11 +86,6 @@ claims-it : (w : Core) (s : Shelf) (r : _) (place : ℕ) (below : List Todo) →
     → let a = two.next_step w s (to_start r place ∷ below) in Walks w s (to_start r place ∷ below) a.0 a.1 a.2 a.3
 claims-it w s r place below first good free = grind (arith, nat_tests, alike-self, same-shelf)
 
-pinned-again : (w : Core) (n : NodeNumber) → let q = w.last.handle + 1 in row_at (two.cloned w n) (two.handle q) ≡ Some (row_of q n Mode.LoosePinned (owner_worker 1))
-    → is_here (two.cloned w n) n.0 ≡ true
-    → nat_le w.last.handle 6 ≡ true → PinCall (two.cloned w n) (owner_worker 1) (two.handle q) (Ok (Pinning.Pinned (two.handle (q + 1)))) (two.pinned_at w n)
-pinned-again w n live here few = grind (arith, nat_tests, alike-self)
-
 stored-so : (w : Core) (blob : Blob) → w.closed ≡ false → w.stored (digest two.sample blob) ≡ None → StoreCall (digest two.sample) w blob (Ok (digest two.sample blob)) (two.with_blob w blob)
 stored-so w blob is_open free = grind (arith, nat_tests, alike-self)
 
@@ -124,7 +97,7 @@ does-so w s (to_pin r place ∷ below) (live, clone_live, here, few) =
     let cloned : CloneCall w (owner_worker 1) r.handle (Ok (two.handle (w.last.handle + 1))) (two.cloned w r.node) =
     record { made = (row, live, record { above = refl; is_left = omega arith }, alike-self (two.cloned w r.node)); refused = tt } in
     let pins : PinsAtOnce w (owner_worker 1) r (two.handle (w.last.handle + 1)) (two.handle (w.last.handle + 1 + 1)) (two.pinned_at w r.node) =
-    inr (record { row = row; live = live; sort = refl }, (two.cloned w r.node, cloned, pinned-again w r.node clone_live here few)) in
+    inr (record { row = row; live = live; sort = refl }, (two.cloned w r.node, cloned, (grind (arith, nat_tests, alike-self)))) in
     search (same-shelf, pins)
 does-so w s (to_write r place through ∷ below) ok = search (alike-self w, same-shelf)
 does-so w s (to_finish o ∷ below) (all, is_open, free) = search (stored-so w (blob_of o.written.bytes o.keys), same-shelf)
@@ -139,9 +112,7 @@ does-so w s (to_item written keys ∷ below) (all, is_open, free) = search (stor
 does-so w s todo ok = absurd ok
 
 few-next : (w : Core) (s : Shelf) (todo : List Todo) → Few w → let a = two.next_step w s todo in Few a.1
-few-next w s (to_set r through key height ∷ below) few = few-fallen (with_key w r.node key) nobody (few-key w r.node key few)
-few-next w s (to_release r key height ∷ below) few = few-fallen w (is_workers_at w 1 r.node.0) few
-few-next w s todo few = few
+few-next w s x2 few = grind (arith, nat_tests, few-fallen)
 
 -- what is written is a form of the value
 writes-so : (w : Core) (s : Shelf) (work : _) (todo : List Todo) → Asks w s todo → let a = two.next_step w s todo in TookWrites two.sample (λ w. w) (two.machine w two.two_values work).pager a.0
@@ -160,10 +131,6 @@ EndsSo (Some answer) w = AreAlone w (without_worker w 1) (is_workers w 1)
 ends-so : (answer : Option WorkerAnswer) (w : Core) → EndsSo answer w → Ends answer 1 w (two.ended answer w)
 ends-so None w ok = alike-self w
 ends-so (Some answer) w alone = record { told = Ok tt; falls = falls-alone w (without_worker w 1) (is_workers w 1) alone }
-
-takes-so : (s : Core) (shelf : Shelf) (pager : PagerState two.Sample (Unit {0})) (todo : List Todo) → Asks s shelf todo → TodoTakesWell two.sample pager todo
-takes-so w s pager (to_load r place through reading ∷ below) ok = absurd ok
-takes-so w s pager todo ok = tt
 
 -- ---- the page-out, step by step
 
@@ -196,12 +163,22 @@ does : (s : MachineState two.Sample (Unit {0})) (event : Event two.Sample Blob W
     → ReplyWrites two.sample_seen s.pager reply → Good w vs → FitsWalking w walking → FitsReading w reading → Does two.sample_seen s event reply s'
 does s event reply w vs shelf walking reading happens come writes good walks reads = search whole-at
 
-pub pages-out : (n : ℕ) (x : two.Working) (xs : List two.Happening) → Few x.core → AllAsk n x → AreMoments two.sample_seen (two.at_work (two.walked n x)) xs
-    → AreMoments two.sample_seen (two.at_work x) (two.page_out n x ++ xs)
+asked : (s : MachineState two.Sample (Unit {0})) (x : two.Happening) → KeepsOpen x.event → ((trees : ℕ → Tree) → IsWellAsked two.sample s trees x.event x.reply) → (trees : ℕ → Tree)
+    → IsPremised two.sample s trees x.event x.reply x.after
+asked s x open_still well trees = record { settled = λ n x is. two-settled x; reads_settled = λ x is. two-settled x; stays_open = open_still; well = well trees }
+
+infixr 3 ◌⨾◌
+-- one moment, and those after it
+◌⨾◌ : {A B : Type 0} → A → B → A × B
+a ⨾ b = (a, b)
+
+pages : (n : ℕ) (x : two.Working) (xs : List two.Happening) → Few x.core → AllAsk n x → AreMoments two.sample_seen (two.at_work (two.walked n x)) xs × ArePremised (two.at_work (two.walked n x)) xs
+    → AreMoments two.sample_seen (two.at_work x) (two.page_out n x ++ xs) × ArePremised (two.at_work x) (two.page_out n x ++ xs)
 unfolding two.page_out two.walked AllAsk
-pages-out zero x xs few ok rest = rest
-pages-out (suc n) x xs few (works, asks, counts, ends, passes, at_work, ok) rest =
-    let a = two.next_step x.core x.shelf x.todo in let y = two.next x in let few_then = few-ended y.answer a.1 (few-next x.core x.shelf x.todo few) in (
+pages zero x xs few ok rest = rest
+pages (suc n) x xs few (works, asks, counts, ends, passes, at_work, ok) rest =
+    let a = two.next_step x.core x.shelf x.todo in let y = two.next x in let few_then = few-ended y.answer a.1 (few-next x.core x.shelf x.todo few) in
+    let (moments, premised) = pages n y xs few_then ok rest in (
       does _ _ _ y.core two.two_values y.shelf (Some (two.walking y)) None (record {
         moves = record {
           walking = two.walking x;
@@ -213,31 +190,11 @@ pages-out (suc n) x xs few (works, asks, counts, ends, passes, at_work, ok) rest
           counts = counts;
           ends = ends-so y.answer a.1 ends;
           readings = λ l. none-there (y.core.loads l) None refl;
-          work = record { same_shelves = λ t. shelf-again x.shelf y.shelf t; last_is = refl; same_walkings = again 1 (Some (two.walking x)) (Some (two.walking y)) (λ q. None) };
+          work = record { same_shelves = λ t. grind (arith, nat_tests, same-shelf); last_is = refl; same_walkings = again 1 (Some (two.walking x)) (Some (two.walking y)) (λ q. None) };
         };
         refused = tt;
-      }) (λ n x is. inl is) (writes-so x.core x.shelf (two.work_after x None) x.todo asks) (few_then, passes) (refl, at_work) tt,
-      pages-out n y xs few_then ok rest,
-    )
-  where
-    shelf-again : (x y : Shelf) (t : ℕ) → SameShelf (updated 1 y (updated 1 x (λ q. no_shelf)) t) (updated 1 y (λ q. no_shelf) t)
-    shelf-again x y t = grind (arith, nat_tests, same-shelf)
-
-some-is : {X : Type 0} (P : X → Type 0) (x y : X) → Some x ≡ Some y → P x → P y
-some-is P x y is holds = grind arith
-
-pub pages-asked : (n : ℕ) (x : two.Working) (xs : List two.Happening) → AllAsk n x → ArePremised (two.at_work (two.walked n x)) xs → ArePremised (two.at_work x) (two.page_out n x ++ xs)
-unfolding two.page_out two.walked AllAsk
-pages-asked zero x xs ok rest = rest
-pages-asked (suc n) x xs (works, asks, counts, ends, passes, at_work, ok) rest =
-    let y = two.next x in (
-      λ trees. record {
-        settled = λ n x is. two-settled x;
-        reads_settled = λ x is. two-settled x;
-        stays_open = tt;
-        well = λ w is. some-is (λ (w : Walking). TodoTakesWell two.sample (two.at_work x).pager w.todo) (two.walking x) w is (takes-so x.core x.shelf (two.at_work x).pager x.todo asks);
-      },
-      pages-asked n y xs ok rest,
+      }) (λ n x is. inl is) (writes-so x.core x.shelf (two.work_after x None) x.todo asks) (few_then, passes) (refl, at_work) tt ⨾ moments,
+      asked _ _ tt (λ trees w is. subst (λ (w : Walking). TodoTakesWell two.sample (two.at_work x).pager w.todo) (same_some _ _ is) (grind (arith, nat_tests))) ⨾ premised,
     )
 
 pub begun-asks : AllAsk 15 two.begun
@@ -275,11 +232,6 @@ loads-good =
 
 -- ---- a moment of the machine
 
-infixr 3 ◌⨾◌
--- one moment, and those after it
-◌⨾◌ : {A B : Type 0} → A → B → A × B
-a ⨾ b = (a, b)
-
 same-work : (shelf : Shelf) (walking : Option Walking) (reading reading' : Option Reading) → WorkStays (two.work_of shelf walking reading) (two.work_of shelf walking reading')
 same-work shelf walking reading reading' = record { shelves = λ t. same-shelf _; last_table = refl; walkings = λ v. refl }
 
@@ -291,19 +243,13 @@ only-core w w' shelf walking P step = record { step = step; readings = λ l. non
 -- the one reading goes on, or is over
 reads-on : (w : Core) (r : Reading) (before : ℕ → Option Reading) → is_some (w.loads r.load.0) ≡ true → ((l : ℕ) → (l == r.load.0) ≡ false → before l ≡ None) → (l : ℕ)
     → two.reads (Some r) l ≡ if_there (λ (load : OpenLoad). updated r.load.0 (Some r) before l) None (w.loads l)
-reads-on w r before there other l = grind (arith, nat_tests, some-there, none-there)
-  where
-    some-there : {X Y : Type 0} (found : Option Y) (x : Option X) → is_some found ≡ true → x ≡ if_there (λ (y : Y). x) None found
-    some-there x0 x is = grind (arith, nat_tests)
-
-reads-over : (w : Core) (r : Reading) (l : ℕ) → None ≡ if_there (λ (load : OpenLoad). updated r.load.0 None (two.reads (Some r)) l) None (w.loads l)
-reads-over w r l = grind (arith, nat_tests, none-there)
+reads-on w r before there other l = grind (arith, nat_tests, none-there)
 
 pub births-do : (xs : List two.Happening) → AreMoments two.sample_seen (two.at_work two.begun) xs → AreMoments two.sample_seen two.new_one (two.births ++ xs)
 unfolding find_row is_named_by is_in references_fault value_at
 births-do xs rest =
     does _ _ _ two.new_core [] no_shelf None None (record {
-      made = (refl, alike-self two.new_core, λ l. refl, record { same_shelves = λ t. same-shelf _; last_is = refl; same_walkings = none-walk });
+      made = (refl, alike-self two.new_core, λ l. refl, record { same_shelves = λ t. same-shelf _; last_is = refl; same_walkings = grind (arith, nat_tests) });
       refused = tt;
     }) (λ n x is. inl is) tt births-good.0 refl tt
     ⨾ does _ _ _ two.child_born _ no_shelf None None
@@ -324,9 +270,6 @@ births-do xs rest =
     }) (λ n x is. inl is) tt births-good.3 (refl, refl) tt
     ⨾ rest
   where
-    none-walk : (v : ℕ) → let none : Option Walking = None in updated 1 none (λ q. none) v ≡ none
-    none-walk v = grind (arith, nat_tests)
-
     leaf-comes : (n : ℕ) (x : two.Sample) → value_at (None ∷ Some two.leaf ∷ []) n ≡ Some x → (value_at [] n ≡ Some x) ⊎ ((value_at [] n ≡ None) × ((x ≡ two.leaf) × (0 < n)))
     leaf-comes x0 x is = grind (arith, nat_tests)
 
@@ -444,7 +387,7 @@ loads-do =
     (reads-on two.child_got two.parent_read (two.reads (Some two.parent_fetched)) refl (λ l e. rw e refl)) (λ n x is. inl is) loads-good.2 (refl, refl)
     (record { number = refl; load = cell_load; open_load = refl; owned = refl; typed = refl })
     ⨾ reads-step two.child_got two.loaded [] two.last_values (Some two.parent_read) None 1 3 two.parent_read [] (Some (LoadAnswer.Pinned (two.handle 9))) refl refl ends-pinned refl
-    (reads-over two.loaded two.parent_read) parent-comes loads-good.3 (refl, refl) tt
+    (grind (arith, nat_tests, none-there)) parent-comes loads-good.3 (refl, refl) tt
     ⨾ does _ _ _ two.key_loading _ _ done (Some (fresh (two.load_number 2) 1)) (record {
       step = record { begins = (refl, record { above = refl; is_left = omega arith }, alike-self two.key_loading); refused = tt };
       begun = reads-on two.key_loading (fresh (two.load_number 2) 1) (λ l. None) refl (λ l e. refl);
@@ -456,7 +399,7 @@ loads-do =
     (fetches two.key_loading 2 1 key_load two.leaf_blob refl refl refl) refl (reads-on two.key_loading two.child_fetched (two.reads (Some (fresh (two.load_number 2) 1))) refl (λ l e. rw e refl))
     (λ n x is. inl is) loads-good.4 (refl, refl) (record { number = refl; load = key_load; open_load = refl; owned = refl; typed = tt })
     ⨾ reads-step two.key_loading two.read_back two.last_values two.last_values (Some two.child_fetched) None 2 2 two.child_fetched [] (Some (LoadAnswer.Read two.leaf)) refl refl reads-out refl
-    (reads-over two.read_back two.child_fetched) (λ n x is. inl is) loads-good.5 (refl, refl) tt
+    (grind (arith, nat_tests, none-there)) (λ n x is. inl is) loads-good.5 (refl, refl) tt
     ⨾ does _ _ _ two.read_back _ _ done None (only-core two.read_back two.read_back _ done _
     (record { does = (record { found = (row_of 2 (two.node 2) Mode.LoosePinned Owner.Caller, refl, refl); refused = tt }, alike-self two.read_back) }))
     (λ n x is. inl is) tt loads-good.5 (refl, refl) tt
@@ -484,23 +427,14 @@ shaped (two.parent r) = (shapes.reference 4, refl)
 pub lawful : IsLawful two.sample
 lawful = grind (arith, nat_tests, refers_same, shaped)
 
-nothing-readable : (s : shapes.Shape) → s ≡ shapes.nothing → Throughout IsReadable two.sample_types.parts s
-unfolding IsReadable LiesIn
-nothing-readable s is = subst (λ x. Throughout IsReadable two.sample_types.parts x) (sym is) (throughout-in IsReadable two.sample_types.parts (λ n. Unit {0}) (λ n it. (tt, tt)) shapes.nothing tt tt)
-
-reference-readable : (s : shapes.Shape) → s ≡ shapes.reference 4 → Throughout IsReadable two.sample_types.parts s
-unfolding IsReadable LiesIn
-reference-readable s is =
-    subst (λ x. Throughout IsReadable two.sample_types.parts x) (sym is) (throughout-in IsReadable two.sample_types.parts (λ n. Unit {0}) (λ n it. (tt, tt)) (shapes.reference 4) tt tt)
-
 pub reads-types : ReadsItsTypes two.sample_types
-reads-types x0 s is = grind (arith, nat_tests, reference-readable, nothing-readable)
+unfolding IsReadable LiesIn
+reads-types zero s is =
+    subst (λ x. Throughout IsReadable two.sample_types.parts x) (same_some _ _ is) (throughout-in _ two.sample_types.parts (λ n. Unit {0}) (λ n it. (tt, tt)) (shapes.reference 4) tt tt)
+reads-types (suc n) s is =
+    subst (λ x. Throughout IsReadable two.sample_types.parts x) (same_some _ _ is) (throughout-in _ two.sample_types.parts (λ n. Unit {0}) (λ n it. (tt, tt)) shapes.nothing tt tt)
 
 -- ---- moments
-
-asked : (s : MachineState two.Sample (Unit {0})) (x : two.Happening) → KeepsOpen x.event → ((trees : ℕ → Tree) → IsWellAsked two.sample s trees x.event x.reply) → (trees : ℕ → Tree)
-    → IsPremised two.sample s trees x.event x.reply x.after
-asked s x open_still well trees = record { settled = λ n x is. two-settled x; reads_settled = λ x is. two-settled x; stays_open = open_still; well = well trees }
 
 -- the child's key reads as a leaf
 child-reads : (s : PagerState two.Sample (Unit {0})) → s.core.stored 8 ≡ Some two.leaf_blob → ReadsAsType two.sample s 1 8
@@ -519,7 +453,7 @@ births-asked : (xs : List two.Happening) → ArePremised (two.at_work two.begun)
 births-asked xs rest = (asked _ _ tt (λ trees. tt), (asked _ _ tt (λ trees. tt), (asked _ _ tt (λ trees. tt), (asked _ _ tt (λ trees. tt), rest))))
 
 runs : AreMoments two.sample_seen two.new_one (two.moments 2)
-runs = births-do _ (pages-out 15 two.begun (two.loads ++ two.counts 2) births-good.3.0 begun-asks loads-do)
+runs = births-do _ (pages 15 two.begun (two.loads ++ two.counts 2) births-good.3.0 begun-asks (loads-do, loads-asked)).0
 
 -- what comes later is a chain
 later : (s : MachineState two.Sample (Unit {0})) (xs ys : List two.Happening) → AreMoments two.sample_seen s (xs ++ ys) → AreMoments two.sample_seen (state_after s xs) ys
@@ -527,16 +461,12 @@ unfolding state_after
 later s [] ys all = all
 later s (x ∷ xs) ys (does, rest) = later x.after xs ys rest
 
-pins-two : (n : ℕ) (row : HandleRow) → Some (row_of 2 (two.node 2) Mode.LoosePinned Owner.Caller) ≡ Some row → n ≡ pins row.node.0 two.read_back.rows → n ≡ 2
-unfolding two.walked value_at preimage find_row is_named_by is_in
-pins-two n row is counted = grind (arith, nat_tests)
-
 no-other : (n : ℕ) → AreMoments two.sample_seen two.new_one (two.moments n) → n ≡ 2
 unfolding two.walked two.page_out value_at preimage find_row is_named_by is_in state_after
 no-other n all =
     let worked = later (two.at_work two.begun) (two.page_out 15 two.begun) (two.loads ++ two.counts n) (later two.new_one two.births (two.page_out 15 two.begun ++ (two.loads ++ two.counts n)) all) in
     let counted = later (two.at_work two.answered) two.loads (two.counts n) worked in
-    let (row, is, told) = counted.0.step.happens.step.does.0.found in pins-two n row is told
+    let (row, is, told) = counted.0.step.happens.step.does.0.found in (grind (arith, nat_tests))
 
 pub headline_met : TwoLevelsMeetTheHeadline
 unfolding value_at
@@ -549,7 +479,7 @@ headline_met =
       idle = new.idle _ _ tt;
       stands = λ trees. new.stands _ _ tt trees;
       settled = λ n x is. two-settled x;
-      premised = births-asked _ (pages-asked 15 two.begun (two.loads ++ two.counts 2) begun-asks loads-asked);
+      premised = births-asked _ (pages 15 two.begun (two.loads ++ two.counts 2) births-good.3.0 begun-asks (loads-do, loads-asked)).1;
       headline = headline_law (Unit {0}) two.sample_seen two.new_one (two.moments 2) (new.whole _ _ tt) (new.idle _ _ tt) runs;
       no_other = no-other;
     }

@@ -1,21 +1,19 @@
 -- A tree of canonical types has one key, a stored tree has the key that it stands under, and keys tell trees apart.
-use Rattle.pagable_laws.proofs.Words.{arith, nat_tests, ◌≡◌, ℕ, suc, Bool, List, [], ◌∷◌, ◌++◌, length, refl, sym, ap, ◌∙◌, subst, unsigned_form, signed_form, bool_form, length_form}
-use Rattle.pagable_laws.proofs.Words.{text_form, char_form, Meaning, sequence, Entry, of_entries, Shape, Form, Forms, Entries, nothing-form, unsigned-form, signed-form, flag-form}
-use Rattle.pagable_laws.proofs.Words.{text-form, letter-form, duration-form, pattern-form, none-form, some-form, err-form, ok-form, list-form, run-form, array-form, both-form}
-use Rattle.pagable_laws.proofs.Words.{sorted-map-form, placed-map-form, hash-map-form, sorted-set-form, placed-set-form, static-form, tagged-form, case-form, reference-form, nested-form}
-use Rattle.pagable_laws.proofs.Words.{json-null-form, json-flag-form, json-number-form, json-text-form, json-array-form, json-object-form, no-forms, more-forms, no-entries, more-entries}
-use Rattle.pagable_laws.proofs.Words.{LiesIn, IsCanonical, Throughout, CanonicalHasOneForm, true, false, pair, variant, reference, followed, lifted, rename, code_order, ordered, put_all}
-use Rattle.pagable_laws.proofs.Words.{put_sorted, of_hash_map, Tree, Types, type_of, Kid, unfolded, KeyOf, key-of, KeysOf, no-keys, more-keys, EachType, StaysInside, IsCanonicalInside}
-use Rattle.pagable_laws.proofs.Words.{zero, ◌+◌, ◌*◌, ◌/◌, ◌%◌, ◌^◌, ◌<◌, ◌≤◌, div-div-eq-div-mul, pow-suc, length-append, Blob, preimage, cut, HasOnePreimage, inl, inr, if◌then◌else◌}
-use Rattle.pagable_laws.proofs.Words.{cases_lt, is_eager, height, HasPath, IsLongestPath, map, Option, Ok, append-nil, read, read_typed, key_of, KeyRef, tree, key_ref, ReadsAs, IsFollowed}
-use Rattle.pagable_laws.proofs.Words.{number-followed, integer-followed, text-followed, pattern-followed, none-followed, pair-followed, variant-followed, reference-followed, blob_context}
-use Rattle.pagable_laws.proofs.Words.{rest_of, kind_of_kid, tree_of_kid, TreeForm, blob_of, kind_of_ref, key_of_ref, StoredAs, HasOwnKeys, SharesNoKey, IsCanonicalType, IsCanonicalTree}
-use Rattle.pagable_laws.proofs.Words.{IsReadableType, rest, IsOneKey, IsOneItemKey, IsStoredKey, IsTreeReadable, IsKeyOfOneTree}
-use Rattle.pagable_laws.proofs.{Again.{here, narrowed, part_of, of_json, of_text, lower, form-again, Looked, all-looked, one-looked}}
-use Rattle.pagable_laws.proofs.{Along.{Along, number-along, integer-along, text-along, pattern-along, none-along, pair-along, variant-along, reference-along, AllTwo, no-two}}
-use Rattle.pagable_laws.proofs.{Along.{more-two, form-along}, Trees.{same_some, same_result, tree_is, one-followed}}
+use Rattle.pagable_laws.proofs.Words.{arith, nat_tests, ◌≡◌, ℕ, suc, Bool, List, [], ◌∷◌, ◌++◌, length, refl, sym, ap, ◌∙◌, subst, unsigned_form, signed_form, bool_form, length_form, text_form}
+use Rattle.pagable_laws.proofs.Words.{char_form, Meaning, sequence, Entry, of_entries, Shape, Form, Forms, Entries, nothing-form, unsigned-form, signed-form, flag-form, text-form, letter-form}
+use Rattle.pagable_laws.proofs.Words.{duration-form, pattern-form, none-form, some-form, err-form, ok-form, list-form, run-form, array-form, both-form, sorted-map-form, placed-map-form, hash-map-form}
+use Rattle.pagable_laws.proofs.Words.{sorted-set-form, placed-set-form, static-form, tagged-form, case-form, reference-form, nested-form, json-null-form, json-flag-form, json-number-form}
+use Rattle.pagable_laws.proofs.Words.{json-text-form, json-array-form, json-object-form, no-forms, more-forms, no-entries, more-entries, LiesIn, IsCanonical, Throughout, CanonicalHasOneForm, true}
+use Rattle.pagable_laws.proofs.Words.{false, pair, variant, reference, followed, lifted, rename, code_order, ordered, put_all, put_sorted, of_hash_map, Tree, Types, type_of, Kid, unfolded, KeyOf}
+use Rattle.pagable_laws.proofs.Words.{key-of, KeysOf, no-keys, more-keys, EachType, StaysInside, IsCanonicalInside, zero, ◌+◌, ◌*◌, ◌/◌, ◌%◌, ◌^◌, ◌<◌, ◌≤◌, div-div-eq-div-mul, pow-suc, length-append}
+use Rattle.pagable_laws.proofs.Words.{Blob, preimage, cut, HasOnePreimage, inl, inr, if◌then◌else◌, cases_lt, is_eager, height, HasPath, IsLongestPath, map, Option, Ok, append-nil, read, read_typed}
+use Rattle.pagable_laws.proofs.Words.{key_of, KeyRef, tree, key_ref, ReadsAs, IsFollowed, pair-followed, variant-followed, reference-followed, blob_context, rest_of, kind_of_kid, tree_of_kid}
+use Rattle.pagable_laws.proofs.Words.{TreeForm, blob_of, kind_of_ref, key_of_ref, StoredAs, HasOwnKeys, SharesNoKey, IsCanonicalType, IsCanonicalTree, IsReadableType, rest, IsOneKey, IsOneItemKey}
+use Rattle.pagable_laws.proofs.{Words.{IsStoredKey, IsTreeReadable, IsKeyOfOneTree}, Again.{here, narrowed, part_of, of_json, of_text, lower, form-again, Looked, all-looked, one-looked}, Along.Along}
+use Rattle.pagable_laws.proofs.Along.{number-along, integer-along, text-along, pattern-along, none-along, pair-along, variant-along, reference-along, AllTwo, no-two, more-two, form-along}
+use Rattle.pagable_laws.proofs.Trees.{same_some, same_result, tree_is, one-followed, followed-on}
 use Rattle.pagable_model.specs.{Canonical.IsClosed}
-use Rattle.std.{specs.Int.{byte_at, bytes_low_first, to_le_bytes, w64, w128}, specs.List.{flat_map, AllByRecursion}, proofs.Common.rules}
+use Rattle.std.{specs.Int.{byte_at, bytes_low_first, to_le_bytes, w64, w128}, specs.List.{flat_map, AllByRecursion as Each}, proofs.Common.rules}
 use Rattle.pagable_model.specs.Meaning as meanings
 
 -- ---- a meaning of a canonical shape has at most one form
@@ -134,13 +132,7 @@ EachRef P (reference a) = P a
 EachRef P (followed kind a) = EachRef P a
 EachRef P _ = Unit {0}
 
--- P of each
-pub Each : {X : Type 0} → (X → Type 0) → List X → Type 0
-Each P [] = Unit {0}
-Each P (x ∷ xs) = P x × Each P xs
-
 each_split : {X : Type 0} (P : X → Type 0) (xs ys : List X) → Each P (xs ++ ys) → Each P xs × Each P ys
-unfolding Each
 each_split P [] ys h = (tt, h)
 each_split P (x ∷ xs) ys h = let s = each_split P xs ys h.1 in ((h.0, s.0), s.1)
 
@@ -156,27 +148,25 @@ module _ {A : Type 0} (P : A → Type 0) where
   lifted_refs x0 = grind (arith, nat_tests)
 
   sequence_refs : (ms : List (Meaning A)) → Each (EachRef P) ms → EachRef P (sequence ms)
-  unfolding EachRef Each
+  unfolding EachRef
   sequence_refs [] h = tt
   sequence_refs (m ∷ ms) h = (h.0, sequence_refs ms h.1)
 
   entries_refs : (es : List (Entry A)) → Each EachEntry es → EachRef P (of_entries es)
-  unfolding EachRef Each
+  unfolding EachRef
   entries_refs [] h = tt
   entries_refs (e ∷ es) h = (h.0, entries_refs es h.1)
 
   put_refs : (acc : List (Entry A)) (e : Entry A) → Each EachEntry acc → EachEntry e → Each EachEntry (put_sorted code_order acc e)
-  unfolding Each
   put_refs [] e h g = (g, tt)
   put_refs (x ∷ acc) e h g = grind (arith, nat_tests, ordered, put_refs acc e h.1 g)
 
   put_all_refs : (es acc : List (Entry A)) → Each EachEntry acc → Each EachEntry es → Each EachEntry (put_all (put_sorted code_order) acc es)
-  unfolding Each put_all
+  unfolding put_all
   put_all_refs [] acc h g = h
   put_all_refs (e ∷ es) acc h g = put_all_refs es (put_sorted code_order acc e) (put_refs acc e h g.0) g.1
 
   hash_refs : (es : List (Entry A)) → Each EachEntry es → EachRef P (of_hash_map es)
-  unfolding Each
   hash_refs es h = entries_refs _ (put_all_refs es [] tt h)
 
 -- ---- forms
@@ -187,7 +177,7 @@ Inside nodes parts s = Throughout (LiesIn nodes (λ n. Unit {0})) parts s
 
 module _ {A : Type 0} {kind_of : A → ℕ} {parts : ℕ → Shape} (nodes : ℕ → Type 0) (P Q : A → Type 0) (both : (a : A) → nodes (type_of (kind_of a)) → P a → Q a) where
   mutual
-    unfolding EachRef Each LiesIn
+    unfolding EachRef LiesIn
 
     form-refs : {left : ℕ} {s : Shape} {m : Meaning A} {b : List ℕ} {k : List A} → Form A kind_of parts left s m b k → Inside nodes parts s → Each P k → EachRef Q m
     form-refs (flag-form left true) t h = tt
@@ -244,8 +234,6 @@ module _ (hash : List ℕ → List ℕ) (types : Types) (nodes : ℕ → Type 0)
   types_of x0 h = grind (arith, nat_tests)
 
   mutual
-    unfolding Each
-
     stays : {t : Tree} {key : ℕ} → KeyOf hash types t key → nodes t.type → EachType nodes t.meaning
     stays (key-of t s bytes kids keys is f h) inside = types_of t.meaning (form-refs nodes Kept Found (λ k n g. (n, g n)) f (closed t.type s inside is) (all_stay h))
 
@@ -268,9 +256,6 @@ canonical_inside hash types nodes t key closed all inside h = (all t.type inside
 
 -- ---- different blobs have different preimages
 
-byte_at-pow : (k x : ℕ) → byte_at k x ≡ x / 256 ^ k % 256
-byte_at-pow x0 x = grind (arith, nat_tests)
-
 shifted : (j x : ℕ) → x / 256 ^ suc j ≡ x / 256 ^ j / 256
 shifted j x = ap (λ (p : ℕ). x / p) (pow-suc 256 j) ∙ sym (div-div-eq-div-mul x (256 ^ j) 256)
 
@@ -278,10 +263,9 @@ same-from : (k j m n : ℕ) → m / 256 ^ j < 256 ^ k → n / 256 ^ j < 256 ^ k 
 same-from zero j m n h g e = omega arith
 same-from (suc k) j m n h g e =
     let heads : byte_at j m ≡ byte_at j n = cc in
-    let first : m / 256 ^ j % 256 ≡ n / 256 ^ j % 256 = sym (byte_at-pow j m) ∙ heads ∙ byte_at-pow j n in
+    let first : m / 256 ^ j % 256 ≡ n / 256 ^ j % 256 = sym (grind (arith, nat_tests)) ∙ heads ∙ (grind (arith, nat_tests)) in
     let few : m / 256 ^ suc j < 256 ^ k = omega (arith, pow-suc 256 k, shifted j m) in
-    let rest = same-from k (suc j) m n few (omega (arith, pow-suc 256 k, shifted j n)) cc in
-    omega (arith, first, rest, shifted j m, shifted j n)
+    omega (arith, first, same-from k (suc j) m n few (omega (arith, pow-suc 256 k, shifted j n)) cc, shifted j m, shifted j n)
 
 same-bytes : (k m n : ℕ) → m < 256 ^ k → n < 256 ^ k → bytes_low_first 0 k m ≡ bytes_low_first 0 k n → m ≡ n
 same-bytes k m n h g e = omega (arith, same-from k 0 m n (omega arith) (omega arith) e)
@@ -290,7 +274,7 @@ keys-length : (ks : List ℕ) → length (flat_map (to_le_bytes w128) ks) ≡ 16
 keys-length [] = refl
 keys-length (k ∷ ks) = omega (arith, length-append (to_le_bytes w128 k) (flat_map (to_le_bytes w128) ks), keys-length ks)
 
-same-key-lists : (ks ls : List ℕ) → AllByRecursion (λ k. k < 2 ^ 128) ks → AllByRecursion (λ k. k < 2 ^ 128) ls → flat_map (to_le_bytes w128) ks ≡ flat_map (to_le_bytes w128) ls → ks ≡ ls
+same-key-lists : (ks ls : List ℕ) → Each (λ k. k < 2 ^ 128) ks → Each (λ k. k < 2 ^ 128) ls → flat_map (to_le_bytes w128) ks ≡ flat_map (to_le_bytes w128) ls → ks ≡ ls
 same-key-lists [] [] h g e = refl
 same-key-lists (k ∷ ks) (l ∷ ls) h g e =
     let parts = cut (to_le_bytes w128 k) (to_le_bytes w128 l) _ _ refl e in
@@ -307,15 +291,9 @@ one_preimage a b h g e =
     (arith, long, count, length-append a.bytes (flat_map (to_le_bytes w128) a.keys), length-append b.bytes (flat_map (to_le_bytes w128) b.keys), keys-length a.keys, keys-length b.keys) in
     let rest = cut a.bytes b.bytes _ _ size counts.1 in
     let keys = same-key-lists a.keys b.keys h.1 g.1 rest.1 in
-    blob_is _ _ _ _ rest.0 keys
-  where
-    blob_is : (x y k l : List ℕ) → x ≡ y → k ≡ l → (let p : Blob = record { bytes = x; keys = k } in p) ≡ (let q : Blob = record { bytes = y; keys = l } in q)
-    blob_is x y k l e1 e2 = rw (e1, e2) refl
+    grind (arith, nat_tests)
 
 -- ---- the height of a tree is the length of its longest path
-
-above-least : (b : Bool) (n h : ℕ) → b ≡ true → n ≤ h → suc n ≤ (if b then h + 1 else 0)
-above-least x0 n h is le = grind (arith, nat_tests)
 
 above-some : (b : Bool) (n h : ℕ) → suc n ≤ (if b then h + 1 else 0) → (b ≡ true) × (n ≤ h)
 above-some x0 n h le = grind (arith, nat_tests)
@@ -325,7 +303,7 @@ unfolding HasPath height
 path-to (pair a b) n (inl h) = let p = path-to a n h in omega arith
 path-to (pair a b) n (inr h) = let p = path-to b n h in omega arith
 path-to (variant x a) n h = path-to a n h
-path-to (followed kind a) (suc n) (eager, h) = above-least (is_eager kind) n (height a) eager (path-to a n h)
+path-to (followed kind a) (suc n) (eager, h) = grind (arith, nat_tests, path-to a n h)
 path-to x0 x1 x2 = grind (arith, nat_tests)
 
 path-from : (m : Meaning ⊥) (n : ℕ) → n ≤ height m → HasPath n m
@@ -400,20 +378,11 @@ looked-keys (r ∷ refs) = one-looked r.key (map key_of_ref refs) r refs (Ok [])
 pub stored-reads : (store : ℕ → Option Blob) (types : Types) (type key : ℕ) (m : Meaning KeyRef) → IsReadableType types type → StoredAs store types type key m → ReadsAs store types type key m
 unfolding read
 stored-reads store types type key m can h =
-    let whole = form-again [] h.form (looked-keys h.refs) (can h.shape h.is) in
-    let whole2 = rw append-nil at whole in
-    record { blob = blob_of h.bytes (map key_of_ref h.refs); stored = h.stored; rest = rest [] []; reads = rw h.is whole2 }
-
-module _ {store : ℕ → Option Blob} {types : Types} where
-  followed-reads : {m : Meaning KeyRef} {a : Meaning ⊥} → EachType (IsReadableType types) a → IsFollowed (StoredAs store types) m a → IsFollowed (ReadsAs store types) m a
-  unfolding EachType
-  followed-reads h (pair-followed x y a b f g) = pair-followed x y a b (followed-reads h.0 f) (followed-reads h.1 g)
-  followed-reads h (variant-followed n x a f) = variant-followed n x a (followed-reads h f)
-  followed-reads h (reference-followed r x a o f) = reference-followed r x a (stored-reads store types (type_of r.kind) r.key x h.0 o) (followed-reads h.1 f)
-  followed-reads h f = search (number-followed, integer-followed, text-followed, pattern-followed, none-followed)
+    let whole = rw append-nil at (form-again [] h.form (looked-keys h.refs) (can h.shape h.is)) in
+    record { blob = blob_of h.bytes (map key_of_ref h.refs); stored = h.stored; rest = rest [] []; reads = rw h.is whole }
 
 pub tree_readable : IsTreeReadable
-tree_readable store types t key can h = grind (arith, nat_tests, stored-reads, followed-reads)
+tree_readable store types t key can h = grind (arith, nat_tests, stored-reads, followed-on)
 
 -- ---- the key of what is stored
 
@@ -465,6 +434,5 @@ key_of_one_tree hash store other types t u k l first second shares type can read
 
     from : t ≡ u → k ≡ l
     from e =
-        let one = stored_key hash store types t k first h in
         let two = let P : Tree → Type 0 = λ x. KeyOf hash types x l in subst P (sym e) (stored_key hash other types u l second g) in
-        one_key hash types t k l can one two
+        one_key hash types t k l can (stored_key hash store types t k first h) two

@@ -1,16 +1,13 @@
 -- Each stage once: what is still to be done of it, with what was done, is at most what was claimed.
-use Rattle.pagable_laws.proofs.Words.{◌≡◌, ℕ, ◌+◌, ◌≤◌, ◌==◌, ◌&&◌, Bool, List, [], ◌∷◌, ◌++◌, refl, sym, subst, ◌∙◌, arith, Ok, Err, Some, nat_le, nat_tests, sum_by-cons, ArcRef, Identity, one}
-use Rattle.pagable_laws.proofs.Words.{times, Claim, PinStep, Took, identity_of, Open, Todo, to_start, to_pin, to_load, to_write, to_finish, to_item, to_set, to_publish, to_release, to_fail, Fault}
-use Rattle.pagable_laws.proofs.Words.{Option, HandleNumber, false, Task, Written, is_identity, next_start, give, first_todo, Follows, Leads, InOrder, OnceEach, is_claim_of, is_later_of}
+use Rattle.pagable_laws.proofs.Words.{◌≡◌, ℕ, ◌+◌, ◌≤◌, ◌==◌, ◌&&◌, Bool, List, [], ◌∷◌, ◌++◌, refl, sym, subst, arith, Ok, Err, Some, nat_le, nat_tests, sum_by-cons, ArcRef, Identity, one, times}
+use Rattle.pagable_laws.proofs.Words.{Claim, PinStep, Took, identity_of, Open, Todo, to_start, to_pin, to_load, to_write, to_finish, to_item, to_set, to_publish, to_release, to_fail, Fault, Option}
+use Rattle.pagable_laws.proofs.Words.{HandleNumber, false, Task, Written, is_identity, next_start, give, first_todo, Follows, Leads, InOrder, OnceEach, is_claim_of, is_later_of}
 
 -- ---- numbers
 
 -- the stage k is this one or comes after it, from p on
 abbrev from : ℕ → ℕ → Bool → ℕ
 from k p b = one (nat_le p k && b)
-
-at-most : (x b : Bool) → one (x && b) ≤ one b
-at-most x0 x1 = grind (arith, nat_tests)
 
 pub plus-none : (n : ℕ) → 0 + n ≡ n
 plus-none n = omega arith
@@ -53,33 +50,20 @@ module _ (k : ℕ) (i : Identity) where
 
   started-node : (place : ℕ) (rs : List ArcRef) (o : Open) (below : List Todo) → OnlyWaits below → Keeps (all-left (to_finish o ∷ below)) (next_start place rs ++ to_finish o ∷ below)
   unfolding OnlyWaits all-left
-  started-node place [] o below more = record { same = refl; way = more }
-  started-node place (r ∷ rs) o below more = record { same = plus-none _; way = more }
+  started-node place x1 o below more = grind (arith, nat_tests, plus-none)
 
   started-item : (place : ℕ) (rs : List ArcRef) (written : Written) (keys : List ℕ) (below : List Todo) → OnlyWaits below
       → Keeps (all-left below) (next_start place rs ++ to_item written keys ∷ below)
   unfolding OnlyWaits all-left
-  started-item place [] written keys below more = record { same = plus-none _; way = more }
-  started-item place (r ∷ rs) written keys below more = record { same = plus-none _ ∙ plus-none _; way = more }
+  started-item place x1 written keys below more = grind (arith, nat_tests, plus-none)
 
   given : (r : ArcRef) (key height : ℕ) (below : List Todo) → OnlyWaits below → Keeps (all-left below) (give r key height below)
   unfolding OnlyWaits all-left
-  given r key height (to_finish o ∷ below) waits = started-node _ _ _ below waits
-  given r key height (to_item written keys ∷ below) waits = grind (arith, nat_tests)
-  given r key height x3 waits = grind (arith, nat_tests)
+  given r key height x3 waits = grind (arith, nat_tests, started-node)
 
   -- whether the reference is of the identity
   abbrev at : ArcRef → Bool
   at r = is_identity i (identity_of r)
-
-  fails : (b : ℕ) → 0 + (0 + 0) ≤ 0 + b
-  fails b = omega arith
-
-  stays : (b : ℕ) → 0 + b ≤ 0 + b
-  stays b = omega arith
-
-  gives : (a b : ℕ) → a ≡ b → 0 + a ≤ 0 + (0 + b)
-  gives a b is = omega arith
 
   claims-it : (r : ArcRef) (n : ℕ) → 0 + (from k 0 (at r) + n) ≤ one (at r) + (0 + n)
   claims-it r n = grind (arith, nat_tests)
@@ -100,23 +84,18 @@ module _ (k : ℕ) (i : Identity) where
 
   failed : {next : List Todo} {fault : Fault} {back : Option HandleNumber} (todo : List Todo) → next ≡ to_fail fault back ∷ [] → Goes false false todo next
   unfolding OnlyWaits all-left
-  failed todo e = rw e (record { less = fails _; way = tt })
-
-  emptied : {next : List Todo} (todo : List Todo) → next ≡ [] → Goes false false todo next
-  unfolding OnlyWaits all-left
-  emptied todo e = rw e (record { less = fails _; way = tt })
+  failed todo e = rw e (record { less = omega arith; way = tt })
 
   module _ {W : Type 0} (f : W → Written) where
     goes : (todo : List Todo) (step : Took W) (next : List Todo) → IsWay todo → Follows f todo step next → Goes (is_later_of k i step) (is_claim_of i step) todo next
     unfolding OnlyWaits all-left
     goes (to_start r place ∷ []) step next way follows = absurd way
     goes (to_start r place ∷ x ∷ xs) (Took.Claim j (Ok Claim.Claimed)) next way (is, e) = rw (is, e) (record { less = claims-it r (all-left (x ∷ xs)); way = way })
-    goes (to_start r place ∷ x ∷ xs) (Took.Claim j (Ok (Claim.Known key height))) next way (is, e) = let g = given r key height (x ∷ xs) way in rw e (record { less = gives _ _ g.same; way = g.way })
-    goes (to_start r place ∷ x ∷ xs) (Took.Claim j (Ok Claim.Waiting)) next way (is, e) = rw e (record { less = stays (all-left (to_start r place ∷ x ∷ xs)); way = way })
+    goes (to_start r place ∷ x ∷ xs) (Took.Claim j (Ok (Claim.Known key height))) next way (is, e) = grind (arith, nat_tests, given)
+    goes (to_start r place ∷ x ∷ xs) (Took.Claim j (Ok Claim.Waiting)) next way (is, e) = rw e (record { less = omega arith; way = way })
     goes (to_pin r place ∷ below) (Took.Pin j (Ok (PinStep.Held h))) next way (is, (through, e)) = rw (is, e) (record { less = skips r (all-left below); way = way })
     goes (to_pin r place ∷ below) (Took.Pin j (Ok (PinStep.LoadBegun l))) next way (is, (through, e)) = rw (is, e) (record { less = goes-up 0 r _ (all-left below) refl; way = way })
-    goes (to_load r place through reading ∷ below) (Took.Pin j (Ok PinStep.LoadWent)) next way (is, (frames, e)) = grind (arith, nat_tests, stays)
-    goes (to_load r place through reading ∷ below) (Took.Pin j (Ok (PinStep.Held h))) next way (is, e) = rw (is, e) (record { less = goes-up 1 r _ (all-left below) refl; way = way })
+    goes (to_load r place through reading ∷ below) x1 next way x4 = grind (arith, nat_tests, goes-up, failed)
     goes (to_write r place through ∷ below) (Took.Write j (Ok out)) next way (is, e) = grind (arith, nat_tests, started-node, goes-up)
     goes (to_write r place through ∷ below) (Took.Write j (Err fault)) next way (is, e) = rw (is, e) (record { less = ends 2 r 0 (all-left below) (omega arith); way = tt })
     goes (to_finish o ∷ below) (Took.Store (Some j) (Ok key)) next way (is, e) = rw (is, e) (record { less = goes-up 3 o.reference _ (all-left below) refl; way = way })
@@ -125,19 +104,20 @@ module _ (k : ℕ) (i : Identity) where
     goes (to_set r through key height ∷ below) (Took.SetKey j (Err fault)) next way (is, e) = rw (is, e) (record { less = ends 4 r 0 (all-left below) (omega arith); way = tt })
     goes (to_publish r key height ∷ below) (Took.Publish j q h) next way (is, same_key, same_height, e) = rw (is, e) (record { less = goes-up 5 r _ (all-left below) refl; way = way })
     goes (to_release r key height ∷ below) (Took.Release j) next way (is, e) = grind (arith, nat_tests, given, ends)
-    goes _ step next way follows = grind (arith, nat_tests, failed, emptied)
+    goes _ step next way follows = grind (arith, nat_tests, failed)
 
     claim-cons : (step : Took W) (steps : List (Took W)) → times (is_claim_of i) (step ∷ steps) ≡ one (is_claim_of i step) + times (is_claim_of i) steps
     claim-cons step steps = sum_by-cons (λ s. one (is_claim_of i s)) step steps
 
     along : (todo : List Todo) (steps : List (Took W)) (last : List Todo) → IsWay todo → Leads f todo steps last
         → times (is_later_of k i) steps + all-left last ≤ times (is_claim_of i) steps + all-left todo
-    along todo [] last way is = subst (λ t. 0 + all-left t ≤ 0 + all-left todo) (sym is) (stays (all-left todo))
-    along todo (step ∷ steps) last way (mid, follows, leads) = let a = goes todo step mid way follows in
-        sum _ _ _ _ _ _ _ _ _ ((sum_by-cons (λ s. one (is_later_of k i s)) step steps)) (claim-cons step steps) a.less (along mid steps last a.way leads)
-      where
-        sum : (l t m c s n d t' s' : ℕ) → t' ≡ l + t → s' ≡ c + s → l + m ≤ c + n → t + d ≤ s + m → t' + d ≤ s' + n
-        sum l t m c s n d t' s' is_later is_claim first more = omega arith
+    along todo [] last way is = subst (λ t. 0 + all-left t ≤ 0 + all-left todo) (sym is) (omega arith)
+    along todo (step ∷ steps) last way (mid, follows, leads) =
+        let a = goes todo step mid way follows in
+        let later = sum_by-cons (λ s. one (is_later_of k i s)) step steps in
+        let claim = claim-cons step steps in
+        let more = along mid steps last a.way leads in
+        omega arith
 
     after-release : (r : ArcRef) (key height : ℕ) (steps : List (Took W)) (last : List Todo) → Leads f (to_release r key height ∷ []) steps last → times (is_later_of k i) steps ≤ 1
     after-release r key height (Took.Release j ∷ []) last leads = grind (arith, nat_tests)
@@ -165,10 +145,7 @@ module _ (k : ℕ) (i : Identity) where
     entry r place (Took.Claim j (Ok Claim.Claimed) ∷ steps) last (mid, (is, e), leads) few =
         let few_left : one (at r) + times (is_claim_of i) steps ≤ 1 = subst (λ j. one (is_identity i j) + times (is_claim_of i) steps ≤ 1) is
         (few-claims (Took.Claim j (Ok Claim.Claimed)) steps few) in
-        grind (arith, nat_tests, once-more, bounded, along, to_pin, least, at-most, nat_le)
-      where
-        least : {a b : ℕ} → a ≤ b → a + 0 ≤ b
-        least le = omega arith
+        grind (arith, nat_tests, once-more, bounded, along)
     entry r place (Took.Claim j (Ok (Claim.Known key height)) ∷ steps) last (mid, (is, e), leads) few = grind (arith, nat_tests, once-more, after-release)
     entry r place (Took.Claim j (Ok Claim.Waiting) ∷ steps) last (mid, (is, e), leads) few =
         grind (arith, nat_tests, once-more, fewer, few-claims, entry r place steps last (subst (λ m. Leads f m steps last) e leads) (fewer _ (few-claims (Took.Claim j (Ok Claim.Waiting)) steps few)))

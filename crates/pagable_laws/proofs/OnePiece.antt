@@ -1,13 +1,13 @@
 -- Where each load is done in one piece, one of a cell whose key a page-out set is refused by chance alone.
-use Rattle.pagable_laws.proofs.Words.{nat_tests, ◌≡◌, ℕ, zero, suc, ◌+◌, ◌<◌, ◌≤◌, ◌==◌, Bool, true, false, List, [], ◌∷◌, Option, Some, None, Ok, Err, ◌⊎◌, inl, inr, refl, sym, ap, subst, ◌∙◌}
-use Rattle.pagable_laws.proofs.Words.{arith, slice_get, is_some, Error, HandleRow, Owner, Mode, Beginning, Call, Reply, LoadAnswer, LoadReply, Event, EventReply, ArcRef, HandleNumber, LoadNumber}
-use Rattle.pagable_laws.proofs.Words.{NodeNumber, Tree, Among, if_there, is_in, times, updated, any_mode, held, find_row, Core, OpenLoad, of_cell, Frame, Reading, Seen, IsLawful, row_at}
-use Rattle.pagable_laws.proofs.Words.{IsReference, references_fault, handle_fault, BeginCall, BeginKeyCall, IsDecoded, gone_on, fresh, ReadingsAre, reading_at, reading_after, LoadSteps, Stays}
-use Rattle.pagable_laws.proofs.Words.{Happens, MachineState, world_of, IsMachineWhole, of_caller, FrameFits, FramesFit, ReadsItsTypes, Moment, Turn, of_load, of_nobody, turn_of, StandTogether}
-use Rattle.pagable_laws.proofs.{Words.{IsOfChance, IsLoadOfPagedOut, LoadIsSound, IsBeginOf, HasBegun, SoundLaw, FramesHeld}, Trees.same_some, Sums.{self-number, same-number}, Coming.updated-at}
-use Rattle.pagable_laws.proofs.{Chains.{IsGoingOn, idle-goes}, Taking.row-held, Fitting.first-fits, Decoding.decodes, Outlasting.{stands-whole, stands-alike}, ReadingSteps.reading-stands}
-use Rattle.pagable_laws.proofs.{ReadingStepsGive.got-typed, Sound.{by-chance, by-references, by-handle, IsForm, load-cause}, Apart.{fine, reads-once}}
-use Rattle.pagable_laws.proofs.{LoadsReady.{times_got, LoadReady, once-none, apart-once, got-cons, goes-ready}, Effects.with-one, Deeply.along-with}
+use Rattle.pagable_laws.proofs.Words.{nat_tests, ◌≡◌, ℕ, zero, suc, ◌<◌, ◌≤◌, ◌==◌, Bool, true, false, List, [], ◌∷◌, Option, Some, None, Ok, Err, ◌⊎◌, inl, inr, refl, sym, ap, subst, ◌∙◌, arith}
+use Rattle.pagable_laws.proofs.Words.{slice_get, is_some, Error, HandleRow, Owner, Mode, Beginning, Call, Reply, LoadAnswer, LoadReply, Event, EventReply, ArcRef, HandleNumber, LoadNumber, NodeNumber}
+use Rattle.pagable_laws.proofs.Words.{Tree, Among, if_there, is_in, times, updated, held, find_row, Core, OpenLoad, of_cell, Frame, Reading, Seen, IsLawful, row_at, IsReference, references_fault}
+use Rattle.pagable_laws.proofs.Words.{BeginCall, BeginKeyCall, IsDecoded, gone_on, fresh, ReadingsAre, reading_at, reading_after, LoadSteps, Stays, Happens, MachineState, world_of, IsMachineWhole}
+use Rattle.pagable_laws.proofs.Words.{of_caller, FrameFits, FramesFit, ReadsItsTypes, Moment, Turn, of_load, of_nobody, turn_of, StandTogether, IsOfChance, IsLoadOfPagedOut, LoadIsSound, IsBeginOf}
+use Rattle.pagable_laws.proofs.{Words.{HasBegun, SoundLaw, FramesHeld}, Trees.same_some, Sums.{self-number, same-number}, Coming.updated-at, Chains.{IsGoingOn, idle-goes}, Taking.row-held}
+use Rattle.pagable_laws.proofs.{Fitting.first-fits, Decoding.decodes, Outlasting.{stands-whole, stands-alike}, ReadingSteps.reading-stands, ReadingStepsGive.got-typed, Sound.by-chance}
+use Rattle.pagable_laws.proofs.{Sound.{by-references, by-handle, IsForm, load-cause}, Apart.{fine, reads-once}, LoadsReady.{times_got, LoadReady, once-none, apart-once, got-cons, goes-ready}}
+use Rattle.pagable_laws.proofs.{Effects.with-one, Deeply.along-with}
 use Rattle.pagable_world.specs.{Loads.Does}
 
 -- ---- whose turn it is
@@ -24,9 +24,6 @@ turn-isnt : (n : ℕ) (t : Turn) → is_turn n t ≡ false → t ≡ of_load n �
 unfolding is_turn
 turn-isnt n t isnt is = let e : is_turn n t ≡ true = ap (is_turn n) is ∙ self-number n in cc
 
-number-or : (a n : ℕ) → (a ≡ n) ⊎ (a ≡ n → ⊥)
-number-or a n = grind (arith, nat_tests)
-
 module _ {N B W : Type 0} where
   -- a load's turn is its begin, or a step
   pub turn-cases : (n : ℕ) (event : Event N B W) (reply : EventReply N B W) → turn_of event reply ≡ of_load n → IsBeginOf n event reply ⊎ ((l : LoadNumber) × (l.0 ≡ n) × (event ≡ Event.LoadStep l))
@@ -36,9 +33,9 @@ module _ {N B W : Type 0} where
   begin-turn n x1 x2 is = grind (arith, nat_tests)
 
   begin-or : (n : ℕ) (event : Event N B W) (reply : EventReply N B W) → IsBeginOf n event reply ⊎ (IsBeginOf n event reply → ⊥)
-  begin-or n (Event.LoadStart h) (EventReply.Started (Ok (Beginning.Load l key))) = number-or l.0 n
-  begin-or n (Event.Call (Call.LoadBegin h)) (EventReply.CallReply (Reply.Begun (Ok (Beginning.Load l key)))) = number-or l.0 n
-  begin-or n (Event.LoadKey k t) (EventReply.Started (Ok (Beginning.Load l key))) = number-or l.0 n
+  begin-or n (Event.LoadStart h) (EventReply.Started (Ok (Beginning.Load l key))) = grind (arith, nat_tests)
+  begin-or n (Event.Call (Call.LoadBegin h)) (EventReply.CallReply (Reply.Begun (Ok (Beginning.Load l key)))) = grind (arith, nat_tests)
+  begin-or n (Event.LoadKey k t) (EventReply.Started (Ok (Beginning.Load l key))) = grind (arith, nat_tests)
   begin-or n event reply = inr (λ b. b)
 
 -- ---- ready
@@ -79,13 +76,11 @@ module _ {N B W E : Type 0} (m : Seen N B W) (s s' : MachineState N E) (whole : 
       let row : HandleRow = g.0 in
       let next = g.2.2.above in
       let a = g.2.4.2 in
-      let there : w'.loads l.0 ≡ Some (record { owner = Owner.Caller; key = key; root = of_cell row.node g.2.4.0 h }) =
-      ap w'.loads (sym same ∙ next) ∙ a.loads (w.last.load + 1) ∙ updated-at (w.last.load + 1) _ w.loads in
+      let there : w'.loads l.0 ≡ Some (record { owner = Owner.Caller; key = key; root = of_cell row.node g.2.4.0 h }) = grind (arith, nat_tests, updated-at) in
       let is : record { owner = Owner.Caller; key = key; root = of_cell row.node g.2.4.0 h } ≡ load = same_some _ _ (sym there ∙ open_load) in
       let st = stands-alike a (with-one w row.node Mode.LooseUnpinned (Owner.Load k) (stands-whole whole.pager.whole.handles h.0 row g.1.live)) in
       nothing-ready l load reading.frames (begun-empty l reading s.work.readings are (λ r e. absurd (unread l r (omega (arith, same, next)) e)) at)
       (λ node t q root.
-      let e : of_cell row.node g.2.4.0 h ≡ of_cell node t q = ap (λ (x : OpenLoad). x.root) is ∙ root in
       let hs : h ≡ q = cc in
       (row, subst (λ (x : HandleNumber). row_at w' x ≡ Some row) hs st.live, g.1.own))
 
@@ -145,14 +140,11 @@ module _ {N B W E : Type 0} (m : Seen N B W) (lawful : IsLawful m.values) (reada
   step-ready : (l : LoadNumber) (reply : LoadReply N) → LoadSteps m.values (world_of s) l reply (world_of s') → Ready s l → Ready s' l
   step-ready l reply x ready reading load at open_load = by reply.ended refl
     where
-      was : core.loads l.0 ≡ Some load
-      was = was-open l reply x load open_load
-
       a : IsAt l x.reading load
-      a = is-at l x.reading load x.at was
+      a = is-at l x.reading load x.at (grind (arith, nat_tests, was-open))
 
       before : LoadReady core x.reading.load load x.reading.frames
-      before = subst (λ k. LoadReady core k load x.reading.frames) (sym a.number) (ready x.reading load x.at was)
+      before = subst (λ k. LoadReady core k load x.reading.frames) (sym a.number) (ready x.reading load x.at (grind (arith, nat_tests, was-open)))
 
       by : (answer : Option (LoadAnswer N)) → reply.ended ≡ answer → LoadReady s'.pager.core l load reading.frames
       by (Some end) e = grind (arith, nat_tests, closes, a)
@@ -187,11 +179,8 @@ module _ {N B W E : Type 0} (m : Seen N B W) (lawful : IsLawful m.values) (reada
   references-fine l reading load a ready frame below x is decoded form =
       fine core (Owner.Load reading.load) [] (m.values.references x) good-one (λ r among. refl) once
     where
-      here : FramesFit m.values.types core.stored trees load.key reading.node_type (frame ∷ below)
-      here = subst (λ fs. FramesFit m.values.types core.stored trees load.key reading.node_type fs) is a.fits
-
       fits : FrameFits m.values.types core.stored trees frame
-      fits = first-fits m.values.types load.key reading.node_type core.stored trees frame below here
+      fits = first-fits m.values.types load.key reading.node_type core.stored trees frame below (grind (arith, nat_tests, core, a))
 
       front : Among reading.frames frame
       front = subst (λ fs. Among fs frame) (sym is) (zero, refl)
@@ -206,20 +195,12 @@ module _ {N B W E : Type 0} (m : Seen N B W) (lawful : IsLawful m.values) (reada
           record { row = b.0; live = b.1; at = stood.0; owned = own; fits = stood.1; typed = on.stands.pager.typed r.node.0 live ∙ ap (λ (n : ℕ). Some n) (got-typed frame fits r got) }
 
       top-once : (q : ℕ) → times (λ (r : ArcRef). r.handle.0 == q) frame.got ≤ 1
-      top-once q =
-          let all = subst (λ fs. (n : ℕ) → times_got n fs ≤ 1) is ready.once q in
-          let c = got-cons q frame below in
-          omega (arith, all, c)
+      top-once q = omega (arith, subst (λ fs. (n : ℕ) → times_got n fs ≤ 1) is ready.once q, got-cons q frame below)
 
       once : (q : ℕ) → times (λ (r : ArcRef). r.handle.0 == q) (m.values.references x) ≤ 1
       once q =
-          let named = lawful.refers x decoded.own decoded.means (λ r. r.handle.0 == q) in
           let few = reads-once m.values.types frame.node_type frame.blob form.refs frame.got form.form form.kinds (apart-once frame.got top-once) decoded.own decoded.read q in
-          omega (arith, named, few)
-
-  callers-handle : (l : LoadNumber) (load : OpenLoad) (frames : List Frame) (node : NodeNumber) (t : ℕ) (h : HandleNumber) (e : Error) → LoadReady core l load frames
-      → load.root ≡ of_cell node t h → handle_fault core Owner.Caller h any_mode ≡ Some e → ⊥
-  callers-handle l load frames node t h e ready root fault = grind (arith, nat_tests)
+          omega (arith, lawful.refers x decoded.own decoded.means (λ r. r.handle.0 == q), few)
 
   sound : (l : LoadNumber) (reply : LoadReply N) → LoadSteps m.values (world_of s) l reply (world_of s') → Ready s l → (load : OpenLoad) (e : Error)
       → core.loads l.0 ≡ Some load → IsLoadOfPagedOut s load
@@ -231,7 +212,7 @@ module _ {N B W E : Type 0} (m : Seen N B W) (lawful : IsLawful m.values) (reada
       elim (load-cause m lawful readable s s' trees trees on l reply x load e open_load paged ended) [
         | by-chance chance ↦ chance
         | by-references frame below y frames decoded form fault ↦ absurd (let f = references-fine l x.reading load a r frame below y frames decoded form in cc)
-        | by-handle node t h root fault ↦ absurd (callers-handle l load x.reading.frames node t h e r root fault)
+        | by-handle node t h root fault ↦ absurd (grind (arith, nat_tests))
       ]
 
   load-step-ready : (l : LoadNumber) (reply : EventReply N B W) → Happens m (world_of s) (Event.LoadStep l) reply (world_of s') → Ready s l → Ready s' l

@@ -1,11 +1,11 @@
 -- A handle that is live, that no value owns and that isn't given up outlasts a cascade, with its row.
 use Rattle.pagable_laws.proofs.Words.{◌≡◌, ℕ, zero, suc, ◌+◌, ◌<◌, ◌≤◌, ◌==◌, ◌&&◌, Bool, true, false, List, [], ◌∷◌, ◌++◌, cond, refl, ap, sym, subst, ◌∙◌, inl, inr, arith, Option, Some, None, not}
-use Rattle.pagable_laws.proofs.Words.{if◌then◌else◌, filter, map, slice_get, cases_order, nat_tests, get_or_from_slice_get, slice_get_within, HandleNumber, NodeNumber, Among, changed, one, or_else}
-use Rattle.pagable_laws.proofs.Words.{Owner, HandleRow, find_row, is_handle, is_owner, is_owned_by, owner_value, Core, Last, Alike, IsWithin, IsClosed, IsLeast, is_keyed, Falls, left_rows, fallen}
-use Rattle.pagable_laws.proofs.Words.{owned_outside, IsHandleBefore, HandlesAreWhole, Ok, ArcRef, Identity, LoadNumber, Mode, Event, EventReply, LoadAnswer, WorkerAnswer, Took, Call, Reply, Pinning}
-use Rattle.pagable_laws.proofs.Words.{PinStep, is_pinning, is_loose, owner_worker, World, Seen, Todo, to_pin, is_named_by, CloneCall, PinCall, with_pin, without_load, is_owned_in, EndCall, Site}
-use Rattle.pagable_laws.proofs.{Words.{PinsAtOnce, answer_after, Ends, Happens, HasPin, to_load, row_at, FallsAnyhow, row_of, with_handle, with_mode, moved, PinHolds}, Decoding.among-either}
-use Rattle.pagable_laws.proofs.{Existing.{inside, wider}, Goes.{le-more, found-number, none-in-new}, Sums.{same-number, self-number, sum-zero, at-most-sum}, Trees.same_some}
+use Rattle.pagable_laws.proofs.Words.{if◌then◌else◌, filter, map, slice_get, cases_order, nat_tests, get_or_from_slice_get, slice_get_within, HandleNumber, NodeNumber, Among, changed, or_else, Owner}
+use Rattle.pagable_laws.proofs.Words.{HandleRow, find_row, is_handle, is_owner, owner_value, Core, Last, Alike, IsLeast, is_keyed, Falls, left_rows, fallen, IsHandleBefore, HandlesAreWhole, Ok}
+use Rattle.pagable_laws.proofs.Words.{ArcRef, Identity, LoadNumber, Mode, Event, EventReply, LoadAnswer, Took, Call, Reply, Pinning, PinStep, is_pinning, is_loose, owner_worker, World, Seen, Todo}
+use Rattle.pagable_laws.proofs.Words.{to_pin, is_named_by, CloneCall, PinCall, with_pin, without_load, is_owned_in, EndCall, Site, PinsAtOnce, answer_after, Happens, HasPin, to_load, row_at}
+use Rattle.pagable_laws.proofs.{Words.{FallsAnyhow, row_of, with_handle, with_mode, moved, PinHolds}, Decoding.among-either, Existing.outlast, Goes.{le-more, found-number, none-in-new}}
+use Rattle.pagable_laws.proofs.{Sums.{same-number, self-number}, Trees.same_some}
 use Rattle.pagable_world.specs.Loads.{Does}
 use Rattle.std.{specs.List.AllPairs, proofs.lemmas.Bool.false_from_ne_true, proofs.Common.rules}
 use Rattle.pagable_world.specs.Workers as workers
@@ -19,34 +19,13 @@ not-owned n x1 free = grind (arith, nat_tests)
 
 -- ---- what doesn't fall
 
-module _ (rows : List HandleRow) (keyed : ℕ → Bool) (entries : List HandleRow) (given gone : ℕ → Bool) (least : IsLeast rows keyed entries given gone)
-    (q : ℕ) (free : (h : HandleRow) → Among rows h → h.number.0 ≡ q → NotValues h.owner) (kept : given q ≡ false) where
-  -- what falls but for this handle is closed too
-  abbrev less : ℕ → Bool
-  less p = gone p && not (p == q)
-
-  less-within : IsWithin rows less gone
-  less-within = sum-zero (λ h. one (less h.number.0 && not (gone h.number.0))) rows (λ h among. grind (arith, nat_tests))
-
-  less-holds : IsWithin rows given less
-  less-holds = grind (arith, nat_tests)
-
-  less-closed : IsClosed rows keyed entries less
-  less-closed n goes =
-      let none = least.closed n (wider rows keyed entries less gone n less-within goes) in
-      sum-zero (λ h. one (is_owned_by (owner_value n) h && not (less h.number.0))) rows (λ h among. part h among none (h.number.0 == q) refl)
-    where
-      part : (h : HandleRow) → Among rows h → owned_outside rows gone n ≡ 0 → (d : Bool) → (h.number.0 == q) ≡ d → one (is_owned_by (owner_value n) h && not (less h.number.0)) ≡ 0
-      part h among none true f = let g = not-owned n h.owner (free h among (same-number _ _ f)) in rw g refl
-      part h among none false f = let g = at-most-sum (λ h. one (is_owned_by (owner_value n) h && not (gone h.number.0))) rows h among in grind (arith, nat_tests)
-
-  pub outlasts : (h : HandleRow) → Among rows h → h.number.0 ≡ q → gone q ≡ false
-  outlasts h among is = false_from_ne_true (gone q) (λ e.
-      let goes : less h.number.0 ≡ true = inside rows keyed entries gone less h (least.least less less-holds less-closed) among (ap gone is ∙ e) in
-      let same = self-number q in
-      let stays : less q ≡ false = rw (same, e) refl in
-      let f : less q ≡ true = sym (ap less is) ∙ goes in
-      cc)
+outlasts : (rows : List HandleRow) (keyed : ℕ → Bool) (entries : List HandleRow) (given gone : ℕ → Bool) → IsLeast rows keyed entries given gone → (q : ℕ)
+    → ((h : HandleRow) → Among rows h → h.number.0 ≡ q → NotValues h.owner) → given q ≡ false → (h : HandleRow) → Among rows h → h.number.0 ≡ q → gone h.number.0 ≡ false
+outlasts rows keyed entries given gone least q free kept h among is =
+    outlast rows keyed entries given gone (λ p. p == q) least
+    (λ x there goes. false_from_ne_true (x.number.0 == q) (λ e. let s = same-number x.number.0 q e in cc))
+    (λ n x there own lost. false_from_ne_true (x.number.0 == q) (λ e. let o = not-owned n x.owner (free x there (same-number x.number.0 q e)) in cc))
+    h among (ap (λ p. p == q) is ∙ self-number q)
 
 -- ---- the one row of a number
 
@@ -87,9 +66,7 @@ none-found q [] h none among is = absurd (cc)
 none-found q (x ∷ xs) h none among is = at (λ none a. none-found q xs h none a is) (is_handle q x) refl none among
   where
     at : (find_row q xs ≡ None → Among xs h → ⊥) → (b : Bool) → is_handle q x ≡ b → (if b then Some x else find_row q xs) ≡ None → Among (x ∷ xs) h → ⊥
-    at rest true e none among = absurd (cc)
-    at rest false e none (suc i, a) = rest none (i, a)
-    at rest false e none (zero, a) = grind (arith, nat_tests, self-number)
+    at rest x1 e none x4 = grind (arith, nat_tests, self-number)
 
 -- no number of a row is above this one
 abbrev pub AreUpTo : ℕ → List HandleRow → Type 0
@@ -110,12 +87,9 @@ once rows ordered a b (i, at) (j, there) same =
     let lt' = slice_get_within rows j b there in
     elim (cases_order i j) [
       | inl equal ↦ same_some _ _ (sym at ∙ (ap (slice_get rows) equal ∙ there))
-      | inr (inl before) ↦ absurd (let o = ordered i j a before lt' in before-self _ _ (ap (λ (h : HandleRow). h.number.0) n) (ap (λ (h : HandleRow). h.number.0) k) same o)
-      | inr (inr after) ↦ absurd (let o = ordered j i a after lt in before-self _ _ (ap (λ (h : HandleRow). h.number.0) k) (ap (λ (h : HandleRow). h.number.0) n) (sym same) o)
+      | inr (inl before) ↦ absurd (let o = rw (n, k) at (ordered i j a before lt') in omega arith)
+      | inr (inr after) ↦ absurd (let o = rw (k, n) at (ordered j i a after lt) in omega arith)
     ]
-  where
-    before-self : (x y : ℕ) {m n : ℕ} → x ≡ m → y ≡ n → m ≡ n → x < y → ⊥
-    before-self x y a b c lt = absurd (omega arith)
 
 pub stands-whole : {w : Core} → HandlesAreWhole w → (q : ℕ) (row : HandleRow) → find_row q w.rows ≡ Some row → Stands w.last.handle w.rows q row
 stands-whole {w} whole q row found =
@@ -140,11 +114,9 @@ module _ (test : HandleRow → Bool) (f : HandleRow → HandleRow) (same : (h : 
 
   pub found-after : (q : ℕ) (rows : List HandleRow) (row : HandleRow) → find_row q rows ≡ Some row → find_row q (changed test f rows) ≡ Some (after row)
   found-after q rows row found =
-      found-by q row (λ xs. find_row q (changed test f xs) ≡ Some (after row)) (λ h hs is e. find-front q (after h) _ (still h is) ∙ ap (λ (x : HandleRow). Some (after x)) e)
-      (λ h hs is a. find-later q (after h) _ (still h is) ∙ a) rows found
-    where
-      still : {b : Bool} (h : HandleRow) → is_handle q h ≡ b → is_handle q (after h) ≡ b
-      still h is = ap (λ (k : HandleNumber). k.0 == q) (after-number h) ∙ is
+      found-by q row (λ xs. find_row q (changed test f xs) ≡ Some (after row))
+      (λ h hs is e. find-front q (after h) _ (grind (arith, nat_tests, after-number)) ∙ ap (λ (x : HandleRow). Some (after x)) e)
+      (λ h hs is a. find-later q (after h) _ (grind (arith, nat_tests, after-number)) ∙ a) rows found
 
   pub stands-changed : {last : ℕ} {rows : List HandleRow} {q : ℕ} {row : HandleRow} → Stands last rows q row → Stands last (changed test f rows) q (after row)
   stands-changed {last} {rows} {q} {row} s =
@@ -167,31 +139,25 @@ stands-more {last} {more_last} {rows} {q} {row} more le none s =
       given = let g = s.given in omega arith;
     }
 
+only-one : (row h : HandleRow) → Among (row ∷ []) h → h ≡ row
+only-one row h x2 = grind (arith, nat_tests)
+
 pub stands-new : (last : ℕ) (rows : List HandleRow) (row : HandleRow) → AreUpTo last rows → row.number.0 ≡ last + 1 → Stands (last + 1) (rows ++ row ∷ []) row.number.0 row
 stands-new last rows row few next =
     let none = none-above last row.number.0 rows few (omega arith) in
     record {
       live = find-both row.number.0 rows (row ∷ []) ∙ (ap (λ x. or_else x (find_row row.number.0 (row ∷ []))) none ∙ find-front row.number.0 row [] (self-number row.number.0));
-      only = λ h (i, at) is. elim (among-either rows (row ∷ []) i h at) [ inl a ↦ absurd (none-found row.number.0 rows h none a is) | inr b ↦ only-one h b ];
+      only = λ h (i, at) is. elim (among-either rows (row ∷ []) i h at) [ inl a ↦ absurd (none-found row.number.0 rows h none a is) | inr b ↦ only-one row h b ];
       given = omega arith;
     }
-  where
-    only-one : (h : HandleRow) → Among (row ∷ []) h → h ≡ row
-    only-one h (zero, is) = cc
-    only-one h (suc i, is) = absurd (cc)
 
 -- ---- a cascade
 
 pub found-kept : (gone : ℕ → Bool) (q : ℕ) (rows : List HandleRow) (row : HandleRow) → gone q ≡ false → find_row q rows ≡ Some row → find_row q (left_rows gone rows) ≡ Some row
-found-kept gone q rows row kept found = found-by q row (λ xs. find_row q (left_rows gone xs) ≡ Some row) front (λ h hs is a. later h hs is a (gone h.number.0) refl) rows found
+found-kept gone q rows row kept found = found-by q row (λ xs. find_row q (left_rows gone xs) ≡ Some row) front (λ h hs is a. grind (arith, nat_tests, find-later)) rows found
   where
     front : (h : HandleRow) (hs : List HandleRow) → is_handle q h ≡ true → h ≡ row → find_row q (left_rows gone (h ∷ hs)) ≡ Some row
     front h hs is e = let stays : gone h.number.0 ≡ false = ap gone (same-number _ _ is) ∙ kept in rw stays (find-front q h _ is ∙ ap (λ (x : HandleRow). Some x) e)
-
-    later : (h : HandleRow) (hs : List HandleRow) → is_handle q h ≡ false → find_row q (left_rows gone hs) ≡ Some row → (b : Bool) → gone h.number.0 ≡ b
-        → find_row q (left_rows gone (h ∷ hs)) ≡ Some row
-    later h hs is a true goes = rw goes a
-    later h hs is a false goes = rw goes (find-later q h _ is ∙ a)
 
 pub among-kept : {X : Type 0} (test : X → Bool) (xs : List X) (x : X) → Among (filter test xs) x → Among xs x
 among-kept test [] x among = among
@@ -207,7 +173,8 @@ pub stands-fell : {before w w' : Core} {given : ℕ → Bool} {r : _} {q : ℕ} 
 stands-fell {before} {w} {w'} {given} {r} {q} {row} f free kept s =
     let among = among-found q w.rows row s.live in
     let no_value = λ (h : HandleRow) (a : Among w.rows h) (is : h.number.0 ≡ q). subst (λ (x : HandleRow). NotValues x.owner) (sym (s.only h a is)) free in
-    let stays = outlasts w.rows (is_keyed w) f.entries given f.gone f.set q no_value kept row among (found-number q w.rows row s.live) in
+    let number = found-number q w.rows row s.live in
+    let stays = ap f.gone (sym number) ∙ outlasts w.rows (is_keyed w) f.entries given f.gone f.set q no_value kept row among number in
     let live = found-kept f.gone q w.rows row stays s.live in
     let left : Stands w.last.handle (left_rows f.gone w.rows) q row = record { live = live; only = λ h a is. s.only h (among-kept _ w.rows h a) is; given = s.given } in
     stands-alike {w = fallen w f.gone f.entries} f.leaves (stands-more f.entries (le-more _ _) (none-in-new w.last.handle q f.entries f.new s.given) left)
@@ -234,9 +201,6 @@ new-handle w node mode owner low = stands-new w.last.handle w.rows (row_of (w.la
 
 pins-by : {last : ℕ} (w : Core) {row : HandleRow} (k : HandleNumber) (q : ℕ) → k.0 ≡ q → Stands last w.rows q row → is_pinning row.mode ≡ true → HasPin w k
 pins-by w {row = row} k q is s pins = record { row = row; live = subst (λ n. find_row n w.rows ≡ Some row) (sym is) s.live; is = pins }
-
-has-pin-alike : {w w' : Core} (k : HandleNumber) → Alike w w' → HasPin w k → HasPin w' k
-has-pin-alike k a h = record { row = h.row; live = subst (λ rows. find_row k.0 rows ≡ Some h.row) (sym a.rows) h.live; is = h.is }
 
 module _ (w w' : Core) (low : AreLow w) where
   pin-call : (me : Owner) (h k : HandleNumber) → PinCall w me h (Ok (Pinning.Pinned k)) w' → HasPin w' k
@@ -284,12 +248,8 @@ low-handle w m node mode owner low a h among =
     let there : Among (w.rows ++ row_of (w.last.handle + 1) node mode owner ∷ []) h = subst (λ rows. Among rows h) a.rows among in
     elim (among-either w.rows (row_of (w.last.handle + 1) node mode owner ∷ []) there.0 h there.1) [
       | inl old ↦ let le = low h old in omega (arith, last, le)
-      | inr new ↦ let e = only-one h new in omega (arith, last, e)
+      | inr new ↦ let e = ap (λ (r : HandleRow). r.number.0) (only-one _ h new) in omega (arith, last, e)
     ]
-  where
-    only-one : (h : HandleRow) → Among (row_of (w.last.handle + 1) node mode owner ∷ []) h → h.number.0 ≡ w.last.handle + 1
-    only-one h (zero, is) = let e : row_of (w.last.handle + 1) node mode owner ≡ h = cc in sym (ap (λ (r : HandleRow). r.number.0) e)
-    only-one h (suc i, is) = absurd (cc)
 
 module _ {N B W : Type 0} (m : Seen N B W) (v : ℕ) (s s' : Site) (low : AreLow s.core) where
   at-once : (r : ArcRef) (through k : HandleNumber) → PinsAtOnce s.core (owner_worker v) r through k s'.core → HasPin s'.core k
@@ -308,9 +268,6 @@ module _ {N B W : Type 0} (m : Seen N B W) (v : ℕ) (s s' : Site) (low : AreLow
   held (to_load r place through reading ∷ below) i k (is, p) = let e = p.goes.0.does.0 in (end-call s.core s'.core low (owner_worker v) reading.load e.x _ _ k (λ n is. absurd (cc)) e.ended, refl)
   held _ i k does = absurd does
 
-ends-alike : (v : ℕ) (w w' : Core) (answer : Option WorkerAnswer) → answer ≡ None → Ends answer v w w' → Alike w w'
-ends-alike v w w' answer is e = subst (λ a. Ends a v w w') is e
-
 -- each pin of an event that answers one
 pub pins-hold : {N B W : Type 0} (m : Seen N B W) (u u' : World) (event : Event N B W) (reply : EventReply N B W) → HandlesAreWhole u.core → Happens m u event reply u' → PinHolds event reply u'.core
 pins-hold m u u' (Event.Call (Call.Pin h)) (EventReply.CallReply (Reply.Pin (Ok (Pinning.Pinned k)))) whole happens = pin-call u.core u'.core (low-whole whole) Owner.Caller h k happens.step.does
@@ -324,5 +281,5 @@ pins-hold {W = W} m u u' (Event.WorkerStep n) (EventReply.WorkerMoved (Ok reply)
     let steps = happens.moves in
     let site : Site = record { core = u.core; shelf = u.work.shelves steps.walking.table; todo = steps.walking.todo } in
     let h = held m n.0 site steps.after (low-whole whole) steps.walking.todo i k (subst (λ (t : Took W). workers.Does m n.0 site steps.walking.todo t steps.after) is steps.does.does) in
-    has-pin-alike k (ends-alike n.0 steps.after.core u'.core reply.answer (steps.answers ∙ (ap (λ (t : Took W). answer_after steps.walking.todo t) is ∙ h.1)) steps.ends) h.0
+    grind (arith, nat_tests, find_row)
 pins-hold m u u' event reply whole happens = tt

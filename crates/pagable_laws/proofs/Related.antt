@@ -1,18 +1,18 @@
 -- Reading does the same whatever stands for references: two readers over related inputs give related meanings. And readers of which a fault stays whatever follows, what is
 -- read of a front is read of the whole, and what was used reads alone.
-use Rattle.pagable_laws.proofs.Words.{nat_tests, ◌≡◌, ℕ, zero, suc, ◌+◌, ◌-◌, ◌*◌, ◌/◌, ◌%◌, ◌^◌, Bool, true, false, List, [], ◌∷◌, ◌++◌, length, take, Result, Ok, Err, ◌⊎◌, if◌then◌else◌}
-use Rattle.pagable_laws.proofs.Words.{inl, inr, refl, sym, arith, append_assoc, cases_lt, le-ltb, lt-ltb, take-append-le, drop-append-le, length-append, take-append-drop, length-take-le}
-use Rattle.pagable_laws.proofs.Words.{take-length, drop-length, nat_le, nat_lt, Error, ◌>>=◌, Read, byte_at, varint_at, unsigned_at, signed_from, signed_at, longest, length_at, bytes_at}
-use Rattle.pagable_laws.proofs.Words.{text_at, bool_at, one_char, char_at, carried, duration_at, nanos_of_second, Some, None, subst, Meaning, none, variant, sequence, entry, absent}
-use Rattle.pagable_laws.proofs.Words.{present, success, failure, lifted, Entry, KeyOrder, code_order, text_order, put_all, put_sorted, put_placed, put_sorted_item, put_placed_item}
-use Rattle.pagable_laws.proofs.Words.{of_entries, of_tagged, of_hash_map, Shape, nothing, unsigned, signed, flag, letter, duration, json, optional, outcome, list, run, array, both}
-use Rattle.pagable_laws.proofs.Words.{sorted_map, placed_map, hash_map, sorted_set, placed_set, static_value, tagged, cases, nested, Rest, Look, Gets, bytes_of, reference_at, seen, two}
-use Rattle.pagable_laws.proofs.Words.{choose, items, counted, registered, Deeper, enter, JsonCase, null_case, flag_case, number_case, text_case, array_case, object_case, json_case}
-use Rattle.pagable_laws.proofs.Words.{json_part, read_with, below, LiesIn, deepest, read, IsReadable, HasNoReference, Throughout, ap, ◌∙◌, Context, rest, with_more, IsLocal, IsUsed}
-use Rattle.pagable_laws.proofs.Words.{IsLasting, map, pair, followed, rename, Form, at, IsNatural, IsReadOver, IsRenamed, IsReadThrough, KeepsForms}
-use Rattle.std.{proofs.Common.rules, specs.Int.{Width, w8, w16, w32, w64, w128}, specs.Str.{is_utf8, chars}, specs.List.AllByRecursion}
-use Rattle.pagable_laws.proofs.{Along.{Along, number-along, integer-along, text-along, pattern-along, none-along, pair-along, variant-along, reference-along, lifted-along}}
-use Rattle.pagable_laws.proofs.{Along.{plain-along, AllTwo, no-two, more-two, EntryAlong, followed-along, form-along}, Again.{Under, here, narrowed, part_of, of_json, of_text}}
+use Rattle.pagable_laws.proofs.Words.{nat_tests, ◌≡◌, ℕ, zero, suc, ◌+◌, ◌-◌, ◌*◌, ◌/◌, ◌%◌, ◌^◌, Bool, true, List, [], ◌∷◌, ◌++◌, length, take, Result, Ok, Err, ◌⊎◌, if◌then◌else◌, inl, inr, refl}
+use Rattle.pagable_laws.proofs.Words.{sym, arith, append_assoc, cases_lt, le-ltb, lt-ltb, length-append, take-append-drop, length-take-le, nat_le, nat_lt, Error, ◌>>=◌, Read, byte_at, varint_at}
+use Rattle.pagable_laws.proofs.Words.{unsigned_at, signed_from, signed_at, longest, length_at, bytes_at, text_at, bool_at, one_char, char_at, carried, duration_at, nanos_of_second, Some, None, subst}
+use Rattle.pagable_laws.proofs.Words.{Meaning, none, variant, sequence, entry, absent, present, success, failure, lifted, Entry, KeyOrder, code_order, text_order, put_all, put_sorted, put_placed}
+use Rattle.pagable_laws.proofs.Words.{put_sorted_item, put_placed_item, of_entries, of_tagged, of_hash_map, Shape, nothing, unsigned, signed, flag, letter, duration, json, optional, outcome, list}
+use Rattle.pagable_laws.proofs.Words.{run, array, both, sorted_map, placed_map, hash_map, sorted_set, placed_set, static_value, tagged, cases, nested, Rest, Look, Gets, bytes_of, reference_at, seen}
+use Rattle.pagable_laws.proofs.Words.{two, choose, items, counted, registered, Deeper, enter, JsonCase, null_case, flag_case, number_case, text_case, array_case, object_case, json_case, json_part}
+use Rattle.pagable_laws.proofs.Words.{read_with, below, LiesIn, deepest, read, IsReadable, HasNoReference, Throughout, ap, ◌∙◌, Context, rest, with_more, IsLocal, IsUsed, IsLasting, map, pair}
+use Rattle.pagable_laws.proofs.{Words.{followed, rename, Form, at, IsNatural, IsReadOver, IsRenamed, IsReadThrough, KeepsForms, take_at, drop_at, append-nil}, Along.{Along, number-along}}
+use Rattle.pagable_laws.proofs.Along.{integer-along, text-along, pattern-along, none-along, pair-along, variant-along, reference-along, lifted-along, plain-along, AllTwo, no-two, more-two, EntryAlong}
+use Rattle.pagable_laws.proofs.{Along.{followed-along, form-along}, Again.{Under, here, narrowed, part_of, of_json, of_text}}
+use Rattle.std.{proofs.Common.rules, proofs.lemmas.List.map-id, specs.Int.{Width, w8, w16, w32, w64, w128}, specs.Str.{is_utf8, chars}, specs.List.AllByRecursion}
+use mathlib.Core.Path.{fun_ext}
 use Rattle.pagable_model.specs.Meaning as meanings
 use Rattle.pagable_model.specs.Shape as shapes
 
@@ -20,26 +20,20 @@ use Rattle.pagable_model.specs.Shape as shapes
 abbrev pub IsEnd : Error → Type 0
 IsEnd e = (e ≡ Error.UnexpectedEnd) ⊎ (e ≡ Error.NoMoreKeys)
 
--- where the first reads something, the second reads it with x after it; where the first is refused for another cause
--- than the end, so is the second
-unfoldable pub Goes : {I A : Type 0} → (I → I → I) → I → Result (A × I) Error → Result (A × I) Error → Type 0
-Goes plus x (Ok p) second = second ≡ Ok (p.0, plus p.1 x)
-Goes plus x (Err e) second = IsEnd e ⊎ (second ≡ Err e)
-
--- the front of i that was read as v, which reads alone
-pub record Front {I A : Type 0} (plus : I → I → I) (end : I) (get : I → Result (A × I) Error) (i : I) (v : A) (after : I) : Type 0 where
+-- a front of i was read as v, and is read so whatever follows it
+pub record Front {I A : Type 0} (plus : I → I → I) (get : I → Result (A × I) Error) (i : I) (v : A) (after : I) : Type 0 where
   pub used : I
   pub whole : i ≡ plus used after
-  pub alone : get used ≡ Ok (v, end)
+  pub reads : (y : I) → get (plus used y) ≡ Ok (v, y)
 
-unfoldable pub Uses : {I A : Type 0} → (I → I → I) → I → (I → Result (A × I) Error) → I → Result (A × I) Error → Type 0
-Uses plus end get i (Ok p) = Front plus end get i p.0 p.1
-Uses plus end get i (Err e) = Unit {0}
+-- what comes of i where it is read with this result: a front was read, or what refuses it does so whatever follows, unless it is that the input ends
+unfoldable pub Comes : {I A : Type 0} → (I → I → I) → (I → Result (A × I) Error) → I → Result (A × I) Error → Type 0
+Comes plus get i (Ok p) = Front plus get i p.0 p.1
+Comes {I} plus get i (Err e) = IsEnd e ⊎ ((x : I) → get (plus i x) ≡ Err e)
 
--- a reader with these three properties, of inputs that plus joins
-pub record Tame {I A : Type 0} (plus : I → I → I) (end : I) (get : I → Result (A × I) Error) : Type 0 where
-  pub goes : (i x : I) → Goes plus x (get i) (get (plus i x))
-  pub uses : (i : I) → Uses plus end get i (get i)
+-- a reader of which this holds, of inputs that plus joins
+pub record Tame {I A : Type 0} (plus : I → I → I) (get : I → Result (A × I) Error) : Type 0 where
+  pub comes : (i : I) → Comes plus get i (get i)
 
 -- inputs that are joined
 pub record Joins {I : Type 0} (plus : I → I → I) (end : I) : Type 0 where
@@ -47,41 +41,31 @@ pub record Joins {I : Type 0} (plus : I → I → I) (end : I) : Type 0 where
   pub start : (a : I) → plus end a ≡ a
 
 module _ {I : Type 0} {plus : I → I → I} {end : I} (joins : Joins plus end) where
-  pub gives : {A : Type 0} (v : A) → Tame plus end (λ i. let r : Result (A × I) Error = Ok (v, i) in r)
-  unfolding Goes Uses
-  gives v = record { goes = λ i x. refl; uses = λ i. record { used = end; whole = sym (joins.start i); alone = refl } }
+  pub gives : {A : Type 0} (v : A) → Tame plus (λ i. let r : Result (A × I) Error = Ok (v, i) in r)
+  unfolding Comes
+  gives v = record { comes = λ i. record { used = end; whole = sym (joins.start i); reads = λ y. rw (joins.start y) refl } }
 
-  pub refuses : (A : Type 0) (e : Error) → Tame plus end (λ (i : I). let r : Result (A × I) Error = Err e in r)
-  unfolding Goes Uses
-  refuses A e = record { goes = λ i x. inr refl; uses = λ i. tt }
+  pub refuses : (A : Type 0) (e : Error) → Tame plus (λ (i : I). let r : Result (A × I) Error = Err e in r)
+  unfolding Comes
+  refuses A e = record { comes = λ i. inr (λ x. refl) }
 
   -- one of two
-  pub either : {A : Type 0} (t : Bool) {get other : I → Result (A × I) Error} → Tame plus end get → Tame plus end other → Tame plus end (λ i. if t then get i else other i)
-  either true h g = record { goes = λ i x. h.goes i x; uses = λ i. h.uses i }
-  either false h g = record { goes = λ i x. g.goes i x; uses = λ i. g.uses i }
+  pub either : {A : Type 0} (t : Bool) {get other : I → Result (A × I) Error} → Tame plus get → Tame plus other → Tame plus (λ i. if t then get i else other i)
+  either x0 h g = grind (arith, nat_tests)
 
   -- one after the other
   module _ {A B : Type 0} {get : I → Result (A × I) Error} (f : A → I → Result (B × I) Error) (whole : I → Result (B × I) Error) (is : (i : I) → whole i ≡ (get i >>= λ p. f p.0 p.1))
-      (h : Tame plus end get) (g : (v : A) → Tame plus end (f v)) where
-    goes_on : (x : I) (first second : Result (A × I) Error) → Goes plus x first second → Goes plus x (first >>= λ p. f p.0 p.1) (second >>= λ p. f p.0 p.1)
-    unfolding Goes
-    goes_on x x1 second x3 = grind (arith, nat_tests)
+      (h : Tame plus get) (g : (v : A) → Tame plus (f v)) where
+    after : (i : I) (p : A × I) → Front plus get i p.0 p.1 → (r : Result (B × I) Error) → Comes plus (f p.0) p.1 r → Comes plus whole i r
+    unfolding Comes
+    after i p a x3 x4 = grind (arith, nat_tests)
 
-    front_on : (i : I) (p : A × I) (q : B × I) → Front plus end get i p.0 p.1 → Front plus end (f p.0) p.1 q.0 q.1 → Front plus end whole i q.0 q.1
-    unfolding Goes
-    front_on i p q a b = grind (arith, nat_tests)
+    then_comes : (i : I) (first : Result (A × I) Error) → Comes plus get i first → Comes plus whole i (first >>= λ p. f p.0 p.1)
+    unfolding Comes
+    then_comes i x1 x2 = grind (arith, nat_tests, after)
 
-    uses_after : (i : I) (p : A × I) → Front plus end get i p.0 p.1 → (r : Result (B × I) Error) → Uses plus end (f p.0) p.1 r → Uses plus end whole i r
-    unfolding Uses
-    uses_after i p a x3 u = grind (arith, nat_tests, front_on)
-
-    uses_on : (i : I) (first : Result (A × I) Error) → Uses plus end get i first → Uses plus end whole i (first >>= λ p. f p.0 p.1)
-    unfolding Uses
-    uses_on i (Ok p) u = uses_after i p u (f p.0 p.1) ((g p.0).uses p.1)
-    uses_on i (Err e) u = tt
-
-    pub and_then : Tame plus end whole
-    and_then = grind (arith, nat_tests, goes_on, uses_on)
+    pub and_then : Tame plus whole
+    and_then = record { comes = λ i. rw (is i) (then_comes i (get i) (h.comes i)) }
 
 -- ---- bytes
 
@@ -89,34 +73,27 @@ abbrev pub more_bytes : List ℕ → List ℕ → List ℕ
 more_bytes a b = a ++ b
 
 abbrev pub TameBytes : {A : Type 0} → (List ℕ → Read A) → Type 0
-TameBytes read = Tame more_bytes [] read
+TameBytes read = Tame more_bytes read
 
 pub bytes_join : Joins more_bytes []
 bytes_join = record { assoc = append_assoc; start = λ a. refl }
 
-byte_uses : (bs : List ℕ) → Uses more_bytes [] byte_at bs (byte_at bs)
-unfolding Uses
-byte_uses [] = tt
-byte_uses (b ∷ bs) = record { used = b ∷ []; whole = refl; alone = refl }
-
 pub byte_tame : TameBytes byte_at
-unfolding Goes
-byte_tame = record { goes = (grind (arith, nat_tests)); uses = byte_uses }
-
--- so many bytes
-bytes_alone : (n : ℕ) (u : List ℕ) → length u ≡ n → bytes_at n u ≡ Ok (u, [])
-bytes_alone n u e = rw (← e, le-ltb (length u) (length u) (omega arith), take-length u, drop-length u) refl
-
-bytes_uses : (n : ℕ) (bs : List ℕ) → Uses more_bytes [] (bytes_at n) bs (bytes_at n bs)
-unfolding Uses
-bytes_uses n bs = elim (cases_lt (length bs) n) [
-  | inl lt ↦ rw (lt-ltb (length bs) n lt) tt
-  | inr le ↦ rw (le-ltb (length bs) n le) (record { used = take n bs; whole = sym (take-append-drop n bs); alone = bytes_alone n (take n bs) (length-take-le n bs le) })
-]
+unfolding Comes
+byte_tame = record { comes = elim [ [] ↦ inl (inl refl) | b ∷ bs ↦ record { used = b ∷ []; whole = refl; reads = λ y. refl } ] }
 
 pub bytes_tame : (n : ℕ) → TameBytes (bytes_at n)
-unfolding Goes
-bytes_tame n = record { goes = (search (rules, lt-ltb, le-ltb, length-append, take-append-le, drop-append-le)); uses = bytes_uses n }
+unfolding Comes
+bytes_tame n = record {
+  comes = λ bs. elim (cases_lt (length bs) n) [
+    | inl lt ↦ rw (lt-ltb (length bs) n lt) (inl (inl refl))
+    | inr le ↦ rw (le-ltb (length bs) n le) (record {
+      used = take n bs;
+      whole = sym (take-append-drop n bs);
+      reads = λ y. grind (arith, nat_tests, le-ltb, length-append, take_at, drop_at, length-take-le n bs le);
+    })
+  ];
+}
 
 last_is : (last : ℕ) (bs : List ℕ) → varint_at zero last bs ≡ (byte_at bs >>= λ p. if nat_le p.0 last then Ok p else Err Error.BadVarint)
 unfolding varint_at
@@ -141,23 +118,15 @@ unsigned_tame w128 = varint_tame 18 3
 pub signed_tame : (w : Width) → TameBytes (signed_at w)
 signed_tame w = and_then bytes_join (λ n bs. Ok (signed_from w n, bs)) _ (λ bs. refl) (unsigned_tame w) (λ n. gives bytes_join (signed_from w n))
 
-flag_of : ℕ → List ℕ → Read Bool
-flag_of zero bs = Ok (false, bs)
-flag_of (suc zero) bs = Ok (true, bs)
-flag_of (suc (suc n)) bs = Err Error.BadBool
-
-bool_is : (bs : List ℕ) → bool_at bs ≡ (byte_at bs >>= λ p. flag_of p.0 p.1)
-unfolding bool_at flag_of
-bool_is x0 = grind (arith, nat_tests)
-
-flag_tame : (n : ℕ) → TameBytes (flag_of n)
-unfolding flag_of
-flag_tame zero = gives bytes_join false
-flag_tame (suc zero) = gives bytes_join true
-flag_tame (suc (suc n)) = refuses bytes_join Bool Error.BadBool
+bool_comes : (bs : List ℕ) → Comes more_bytes bool_at bs (bool_at bs)
+unfolding Comes bool_at
+bool_comes [] = inl (inl refl)
+bool_comes (zero ∷ bs) = record { used = 0 ∷ []; whole = refl; reads = λ y. refl }
+bool_comes (suc zero ∷ bs) = record { used = 1 ∷ []; whole = refl; reads = λ y. refl }
+bool_comes (suc (suc n) ∷ bs) = inr (λ x. refl)
 
 pub bool_tame : TameBytes bool_at
-bool_tame = and_then bytes_join flag_of _ bool_is byte_tame flag_tame
+bool_tame = record { comes = bool_comes }
 
 pub length_tame : TameBytes length_at
 unfolding length_at
@@ -188,6 +157,21 @@ duration_tame =
 
 -- ---- what is put into maps and sets
 
+one-two : {X Y : Type 0} {V : X → Y → Type 0} (x : X) (y : Y) → V x y → AllTwo V (x ∷ []) (y ∷ [])
+one-two x y v = more-two x y [] [] v no-two
+
+-- what is put into lists that go along goes along, where it does in front of what goes along behind
+module _ {X Y : Type 0} {V : X → Y → Type 0} (put : List X → X → List X) (put2 : List Y → Y → List Y) (first : (x : X) (y : Y) → V x y → AllTwo V (put [] x) (put2 [] y))
+    (later : (x u : X) (y w : Y) (acc : List X) (acc2 : List Y) → V x y → V u w → AllTwo V acc acc2 → AllTwo V (put acc x) (put2 acc2 y) → AllTwo V (put (u ∷ acc) x) (put2 (w ∷ acc2) y)) where
+  put-two : (x : X) (y : Y) → V x y → {acc : List X} {acc2 : List Y} → AllTwo V acc acc2 → AllTwo V (put acc x) (put2 acc2 y)
+  put-two x y v no-two = first x y v
+  put-two x y v (more-two u w acc acc2 g h) = later x u y w acc acc2 v g h (put-two x y v h)
+
+  put_all-two : {xs : List X} {ys : List Y} {acc : List X} {acc2 : List Y} → AllTwo V xs ys → AllTwo V acc acc2 → AllTwo V (put_all put acc xs) (put_all put2 acc2 ys)
+  unfolding put_all
+  put_all-two no-two h = h
+  put_all-two (more-two x y xs ys v g) h = put_all-two g (put-two x y v h)
+
 module _ {A B : Type 0} {F : Type 0} {R : A → B → Type 0} where
   pub sequence-two : {ms : List (Meaning A)} {ns : List (Meaning B)} → AllTwo (Along F R) ms ns → Along F R (sequence ms) (sequence ns)
   sequence-two no-two = none-along
@@ -197,43 +181,19 @@ module _ {A B : Type 0} {F : Type 0} {R : A → B → Type 0} where
   entries-two no-two = none-along
   entries-two (more-two e f es fs h g) = pair-along _ _ _ _ (pair-along _ _ _ _ h.key h.value) (entries-two g)
 
-  put_sorted-two : (order : KeyOrder) {acc : List (Entry A)} {acc2 : List (Entry B)} {e : Entry A} {f : Entry B} → AllTwo (EntryAlong F R) acc acc2 → EntryAlong F R e f
-      → AllTwo (EntryAlong F R) (put_sorted order acc e) (put_sorted order acc2 f)
-  put_sorted-two order {e = e} {f = f} no-two h = more-two e f [] [] h no-two
-  put_sorted-two order {e = e} {f = f} (more-two x y acc acc2 g k) h = search (rules, more-two, plain-along, put_sorted-two order k h)
-
-  put_sorted_item-two : (order : KeyOrder) {acc : List (Meaning A)} {acc2 : List (Meaning B)} {m : Meaning A} {n : Meaning B} → AllTwo (Along F R) acc acc2 → Along F R m n
-      → AllTwo (Along F R) (put_sorted_item order acc m) (put_sorted_item order acc2 n)
-  put_sorted_item-two order {m = m} {n = n} no-two h = more-two m n [] [] h no-two
-  put_sorted_item-two order {m = m} {n = n} (more-two x y acc acc2 g k) h = search (rules, more-two, plain-along, put_sorted_item-two order k h)
-
-  put_placed-two : {acc : List (Entry A)} {acc2 : List (Entry B)} {e : Entry A} {f : Entry B} → AllTwo (EntryAlong F R) acc acc2 → EntryAlong F R e f
-      → AllTwo (EntryAlong F R) (put_placed acc e) (put_placed acc2 f)
-  put_placed-two {e = e} {f = f} no-two h = more-two e f [] [] h no-two
-  put_placed-two {e = e} {f = f} (more-two x y acc acc2 g k) h = search (rules, more-two, plain-along, put_placed-two k h)
-
-  put_placed_item-two : {acc : List (Meaning A)} {acc2 : List (Meaning B)} {m : Meaning A} {n : Meaning B} → AllTwo (Along F R) acc acc2 → Along F R m n
-      → AllTwo (Along F R) (put_placed_item acc m) (put_placed_item acc2 n)
-  put_placed_item-two {m = m} {n = n} no-two h = more-two m n [] [] h no-two
-  put_placed_item-two {m = m} {n = n} (more-two x y acc acc2 g k) h = search (rules, more-two, plain-along, put_placed_item-two k h)
-
-put_all-two : {X Y : Type 0} {V : X → Y → Type 0} (put : List X → X → List X) (put2 : List Y → Y → List Y)
-    → ((acc : List X) (acc2 : List Y) (x : X) (y : Y) → AllTwo V acc acc2 → V x y → AllTwo V (put acc x) (put2 acc2 y))
-    → {xs : List X} {ys : List Y} (acc : List X) (acc2 : List Y) → AllTwo V acc acc2 → AllTwo V xs ys → AllTwo V (put_all put acc xs) (put_all put2 acc2 ys)
-unfolding put_all
-put_all-two put put2 k acc acc2 h no-two = h
-put_all-two put put2 k acc acc2 h (more-two x y xs ys v g) = put_all-two put put2 k (put acc x) (put2 acc2 y) (k acc acc2 x y h v) g
-
-module _ {A B : Type 0} {F : Type 0} {R : A → B → Type 0} where
   sorted-two : (order : KeyOrder) {es : List (Entry A)} {fs : List (Entry B)} → AllTwo (EntryAlong F R) es fs
       → Along F R (of_entries (put_all (put_sorted order) [] es)) (of_entries (put_all (put_sorted order) [] fs))
-  sorted-two order h = entries-two (put_all-two _ _ (λ acc acc2 e f g k. put_sorted-two order g k) [] [] no-two h)
+  sorted-two order h = entries-two (put_all-two _ _ one-two (λ x u y w acc acc2 v g k l. search (rules, more-two, plain-along)) h no-two)
 
   placed-two : {es : List (Entry A)} {fs : List (Entry B)} → AllTwo (EntryAlong F R) es fs → Along F R (of_entries (put_all put_placed [] es)) (of_entries (put_all put_placed [] fs))
-  placed-two h = entries-two (put_all-two _ _ (λ acc acc2 e f g k. put_placed-two g k) [] [] no-two h)
+  placed-two h = entries-two (put_all-two _ _ one-two (λ x u y w acc acc2 v g k l. search (rules, more-two, plain-along)) h no-two)
+
+  sorted_items-two : (order : KeyOrder) {ms : List (Meaning A)} {ns : List (Meaning B)} → AllTwo (Along F R) ms ns
+      → Along F R (sequence (put_all (put_sorted_item order) [] ms)) (sequence (put_all (put_sorted_item order) [] ns))
+  sorted_items-two order h = sequence-two (put_all-two {V = Along F R} _ _ one-two (λ x u y w acc acc2 v g k l. search (rules, more-two, plain-along)) h no-two)
 
   placed_items-two : {ms : List (Meaning A)} {ns : List (Meaning B)} → AllTwo (Along F R) ms ns → Along F R (sequence (put_all put_placed_item [] ms)) (sequence (put_all put_placed_item [] ns))
-  placed_items-two h = sequence-two (put_all-two {V = Along F R} _ _ (λ acc acc2 e f g k. put_placed_item-two g k) [] [] no-two h)
+  placed_items-two h = sequence-two (put_all-two {V = Along F R} _ _ one-two (λ x u y w acc acc2 v g k l. search (rules, more-two, plain-along)) h no-two)
 
 -- ---- readers
 
@@ -252,50 +212,39 @@ module _ {A : Type 0} where
   ended = rest [] []
 
   abbrev pub TameGets : {X : Type 0} → Gets A X → Type 0
-  TameGets get = Tame more ended get
+  TameGets get = Tame more get
 
   pub joins : Joins more ended
   joins = record { assoc = λ a b c. rw (append_assoc a.bytes b.bytes c.bytes, append_assoc a.refs b.refs c.refs) refl; start = λ a. refl }
 
--- a reader that does the same
-module _ {A X : Type 0} {get get2 : Gets A X} (h : TameGets get) (is : (i : Rest A) → get2 i ≡ get i) where
-  uses_of : (i : Rest A) (r : Result (X × Rest A) Error) → Uses more ended get i r → Uses more ended get2 i r
-  unfolding Uses
-  uses_of i (Ok p) u = record { used = u.used; whole = u.whole; alone = is u.used ∙ u.alone }
-  uses_of i (Err e) u = tt
-
-  pub likewise : TameGets get2
-  likewise = record { goes = λ i x. rw (is, is) (h.goes i x); uses = λ i. rw is (uses_of i (get i) (h.uses i)) }
+  -- a reader that does the same
+  pub likewise : {X : Type 0} {get get2 : Gets A X} → TameGets get → ((i : Rest A) → get2 i ≡ get i) → TameGets get2
+  likewise h is = subst (λ g. TameGets g) (sym (fun_ext is)) h
 
 module _ {A X Y : Type 0} (read : List ℕ → Read X) (view : X → Y) (h : TameBytes read) where
-  bytes_use : (i : Rest A) (first : Read X) → Uses more_bytes [] read i.bytes first → Uses more ended (bytes_of read view) i
+  bytes_come : (i : Rest A) (first : Read X) → Comes more_bytes read i.bytes first → Comes more (bytes_of read view) i
       (first >>= λ p. let z : Result (Y × Rest A) Error = Ok (view p.0, record i { bytes = p.1 }) in z)
-  unfolding Uses
-  bytes_use i (Ok p) g = record { used = rest g.used []; whole = ap (λ (b : List ℕ). rest b i.refs) g.whole; alone = rw g.alone refl }
-  bytes_use i (Err e) g = tt
+  unfolding Comes
+  bytes_come i (Ok p) g = record { used = rest g.used []; whole = ap (λ (b : List ℕ). rest b i.refs) g.whole; reads = λ y. rw g.reads refl }
+  bytes_come i (Err e) (inl ends) = inl ends
+  bytes_come i (Err e) (inr stays) = inr (λ x. rw stays refl)
 
   pub of_bytes : TameGets {A = A} (bytes_of read view)
-  unfolding Goes
-  of_bytes = record { goes = λ i x. (grind (arith, nat_tests)); uses = λ i. bytes_use i (read i.bytes) (h.uses i.bytes) }
+  of_bytes = record { comes = λ i. bytes_come i (read i.bytes) (h.comes i.bytes) }
 
 module _ {A B : Type 0} (look : Look A B) where
-  reference_goes : (kind : ℕ) (bytes : List ℕ) (refs : List A) (x : Rest A)
-      → Goes more x (reference_at look kind refs (rest bytes refs)) (reference_at look kind (refs ++ x.refs) (more (rest bytes refs) x))
-  unfolding Goes
-  reference_goes kind bytes x2 x = grind (arith, nat_tests)
-
-  reference_uses : (kind : ℕ) (bytes : List ℕ) (refs : List A) → Uses more ended (λ i. reference_at look kind i.refs i) (rest bytes refs) (reference_at look kind refs (rest bytes refs))
-  unfolding Uses
-  reference_uses kind bytes [] = tt
-  reference_uses kind bytes (a ∷ refs) = used (look kind a) refl
+  reference_comes : (kind : ℕ) (bytes : List ℕ) (refs : List A) → Comes more (λ i. reference_at look kind i.refs i) (rest bytes refs) (reference_at look kind refs (rest bytes refs))
+  unfolding Comes
+  reference_comes kind bytes [] = inl (inr refl)
+  reference_comes kind bytes (a ∷ refs) = by (look kind a) refl
     where
-      used : (r : Result B Error) → look kind a ≡ r
-          → Uses more ended (λ i. reference_at look kind i.refs i) (rest bytes (a ∷ refs)) (r >>= λ b. let z : Result (Meaning B × Rest A) Error = Ok (meanings.reference b, rest bytes refs) in z)
-      used (Ok b) e = record { used = rest [] (a ∷ []); whole = refl; alone = rw e refl }
-      used (Err f) e = tt
+      by : (r : Result B Error) → look kind a ≡ r
+          → Comes more (λ i. reference_at look kind i.refs i) (rest bytes (a ∷ refs)) (r >>= λ b. let z : Result (Meaning B × Rest A) Error = Ok (meanings.reference b, rest bytes refs) in z)
+      by (Ok b) e = record { used = rest [] (a ∷ []); whole = refl; reads = λ y. rw e refl }
+      by (Err f) e = inr (λ x. rw e refl)
 
   reference_tame : (kind : ℕ) → TameGets (λ i. reference_at look kind i.refs i)
-  reference_tame kind = record { goes = λ i x. reference_goes kind i.bytes i.refs x; uses = λ i. reference_uses kind i.bytes i.refs }
+  reference_tame kind = record { comes = λ i. reference_comes kind i.bytes i.refs }
 
 -- as many bytes, and what stands for references as S says
 pub record SameRest {A B : Type 0} (S : A → B → Type 0) (r : Rest A) (q : Rest B) : Type 0 where
@@ -386,9 +335,6 @@ Covers F parts s = F ⊎ Throughout IsReadable parts s
 
 over : {F : Type 0} {parts : ℕ → Shape} {s t : Shape} → (IsReadable s → IsReadable t) → Under s t → Covers F parts s → Covers F parts t
 over h u x2 = grind (arith, nat_tests, narrowed)
-
-covers-part : {F : Type 0} {parts : ℕ → Shape} {n : ℕ} → Covers F parts (nested n) → Covers F parts (parts n)
-covers-part x0 = grind (arith, nat_tests, part_of)
 
 -- what stands for a reference is looked up alike
 pub data OutLook {A B : Type 0} (E : Error → Type 0) (R : A → B → Type 0) : Result A Error → Result B Error → Type 0 where
@@ -506,9 +452,8 @@ module _ {A B C D : Type 0} {E : Error → Type 0} {F : Type 0} {S : A → B →
       with_par h (hash_map s s2) t =
           likewise_par (seen_par of_hash_map of_hash_map (λ es fs r. sorted-two code_order r)
           (counted_par (entry_par (with_par h s (over (λ p. p.0) (λ n d l. l.0) t)) (with_par h s2 (over (λ p. p.1) (λ n d l. l.1) t))))) (λ i. refl) (λ i. refl)
-      with_par h (sorted_set order s) t = likewise_par (seen_par _ _
-          (λ ms ns r. (sequence-two (put_all-two {V = Along F R} _ _ (λ acc acc2 e f g k. put_sorted_item-two order g k) [] [] no-two r)))
-          (counted_par (with_par h s (over (λ p. p) (λ n d l. l) t)))) (λ i. refl) (λ i. refl)
+      with_par h (sorted_set order s) t =
+          likewise_par (seen_par _ _ (λ ms ns r. sorted_items-two order r) (counted_par (with_par h s (over (λ p. p) (λ n d l. l) t)))) (λ i. refl) (λ i. refl)
       with_par h (placed_set s) t = likewise_par (seen_par _ _ (λ ms ns r. placed_items-two r) (counted_par (with_par h s (over (λ p. p) (λ n d l. l) t)))) (λ i. refl) (λ i. refl)
       with_par h (static_value registry) t =
           then_same (λ i. refl) (λ i. refl) (bytes_same (unsigned_at w32) (unsigned_tame w32)) (λ n. registered_par registry (grind (arith, nat_tests, here)) n (registered registry n) refl)
@@ -520,7 +465,7 @@ module _ {A B C D : Type 0} {E : Error → Type 0} {F : Type 0} {S : A → B →
           known_par (unsigned_at w) (unsigned_tame w) known (λ i. refl) (λ i. refl)
           (λ n e. seen_par (variant n) (variant n) (λ x y r. variant-along _ _ _ r) (with_par h (part n) (over (λ p. p n e) (λ nodes d l. l n e) t))) (λ n. refuses_par (Along F R) Error.UnknownTag)
       with_par h (shapes.reference kind) t = likewise_par (reference_par look look2 alike kind) (λ i. refl) (λ i. refl)
-      with_par h (nested n) t = likewise_par (enter_par _ _ h (λ get get2 g. g (parts n) (covers-part t))) (λ i. refl) (λ i. refl)
+      with_par h (nested n) t = likewise_par (enter_par _ _ h (λ get get2 g. g (parts n) (grind (arith, nat_tests, part_of)))) (λ i. refl) (λ i. refl)
 
       below_par : (left : ℕ) → DeeperPar E F S R parts (below look parts left) (below look2 parts left)
       unfolding below
@@ -544,27 +489,29 @@ read_tame {A} {B} context s =
     let alike : (kind : ℕ) (a b : A) → a ≡ b → OutLook any_cause (λ c d. Unit {0}) (context.look kind a) (context.look kind b) = λ kind a b is. rw is (looked-same (context.look kind b)) in
     let par = read_par {E = any_cause} {F = Unit {0}} {S = λ a b. a ≡ b} {R = λ c d. Unit {0}} {parts = context.parts} context.look context.look alike context.levels s (inl tt) in par.tame
 
+-- what comes of an input that is read so
+comes-of : {A B : Type 0} (context : Context A B) (s : Shape) (input : Rest A) {r : Result (Meaning B × Rest A) Error} → read context s input ≡ r → Comes more (read context s) input r
+comes-of context s input e = subst (Comes more (read context s) input) e ((read_tame context s).comes input)
+
 pub local : {A B : Type 0} → IsLocal A B
-unfolding Goes
-local {A} {B} context s front after x y m e =
-    let goes = (read_tame context s).goes front (rest x y) in
-    let P : Result (Meaning B × Rest A) Error → Type 0 = λ r. Goes more (rest x y) r (read context s (with_more front x y)) in subst P e goes
+unfolding Comes
+local context s front after x y m e =
+    let f = comes-of context s front e in rw (f.whole, joins.assoc f.used after (rest x y)) (f.reads (more after (rest x y)))
 
 pub used : {A B : Type 0} → IsUsed A B
-unfolding Uses
-used {A} {B} context s input after m e =
-    let uses = (read_tame context s).uses input in
-    let P : Result (Meaning B × Rest A) Error → Type 0 = λ r. Uses more ended (read context s) input r in
-    let front = subst P e uses in
-    record { bytes = front.used.bytes; refs = front.used.refs; whole = front.whole; alone = front.alone }
+unfolding Comes
+used context s input after m e =
+    let f = comes-of context s input e in
+    let alone : more f.used ended ≡ f.used = rw (append-nil f.used.bytes, append-nil f.used.refs) refl in
+    record { bytes = f.used.bytes; refs = f.used.refs; whole = f.whole; alone = rw alone at (f.reads ended) }
 
 pub lasting : {A B : Type 0} → IsLasting A B
-unfolding Goes
-lasting {A} {B} context s front x y e is not_end not_keys =
-    let goes = (read_tame context s).goes front (rest x y) in
-    let P : Result (Meaning B × Rest A) Error → Type 0 = λ r. Goes more (rest x y) r (read context s (with_more front x y)) in
-    let or_end = subst P is goes in
-    grind (arith, nat_tests, read_tame)
+unfolding Comes
+lasting context s front x y e is not_end not_keys = elim (comes-of context s front is) [
+  | inl (inl end) ↦ absurd (not_end end)
+  | inl (inr keys) ↦ absurd (not_keys keys)
+  | inr stays ↦ stays (rest x y)
+]
 
 -- ---- reading is natural in what stands for references, and forms are
 
@@ -609,35 +556,25 @@ natural {A} {B} {C} {D} f g look other levels parts s input h =
     let par = read_par look other alike levels s (inl tt) in
     natural-out f g (par.out input (rest input.bytes (map f input.refs)) (record { bytes = refl; refs = all-map f input.refs }))
 
-same : {B : Type 0} → B → B
-same b = b
-
-rename_same : {B : Type 0} (m : Meaning B) → rename same m ≡ m
-unfolding rename same
+rename_same : {B : Type 0} (m : Meaning B) → rename (λ b. b) m ≡ m
+unfolding rename
 rename_same (pair a b) = rw (rename_same a, rename_same b) refl
 rename_same (variant n a) = rw (rename_same a) refl
 rename_same (followed kind a) = rw (rename_same a) refl
 rename_same _ = refl
 
-map_same : {A : Type 0} (k : List A) → map same k ≡ k
-unfolding same
-map_same [] = refl
-map_same (a ∷ k) = rw (map_same k) refl
-
-found : {B : Type 0} (r : Result B Error) → r ≡ (r >>= λ b. Ok (same b))
-unfolding same
+found : {B : Type 0} (r : Result B Error) → r ≡ (r >>= λ b. Ok b)
 found x0 = grind (arith, nat_tests)
 
 pub read_over : {A B C : Type 0} → IsReadOver A B C
 read_over f look levels parts s input =
-    natural f same (λ kind a. look kind (f a)) look levels parts s input (λ kind a. found (look kind (f a)))
+    natural f (λ b. b) (λ kind a. look kind (f a)) look levels parts s input (λ kind a. found (look kind (f a)))
     ∙ (grind (arith, nat_tests, rename_same))
 
 pub renamed : {A B D : Type 0} → IsRenamed A B D
-unfolding same
 renamed {A} {B} {D} g look levels parts s input =
-    let all = natural same g look (λ kind a. look kind a >>= λ b. Ok (g b)) levels parts s input (λ kind a. refl) in
-    ap (λ (k : List A). read (at levels (λ kind a. look kind a >>= λ b. Ok (g b)) parts) s (rest input.bytes k)) (sym (map_same input.refs)) ∙ all ∙ (grind (arith, nat_tests, map_same))
+    let all = natural (λ a. a) g look (λ kind a. look kind a >>= λ b. Ok (g b)) levels parts s input (λ kind a. refl) in
+    ap (λ (k : List A). read (at levels (λ kind a. look kind a >>= λ b. Ok (g b)) parts) s (rest input.bytes k)) (sym (map-id input.refs)) ∙ all ∙ (grind (arith, nat_tests, map-id))
 
 pub keeps_forms : {A B : Type 0} → KeepsForms A B
 keeps_forms {A} {B} f kind_of kind_of2 parts left s m b k kinds h =

@@ -2,10 +2,9 @@
 use Rattle.pagable_laws.proofs.Words.{◌≡◌, ℕ, ◌==◌, ◌⊎◌, Bool, true, false, refl, ap, sym, subst, ◌∙◌, arith, Option, Some, None, nat_eq, if◌then◌else◌, nat_tests, and_parts, Identity, if_there}
 use Rattle.pagable_laws.proofs.Words.{Shelf, Slot, Outcome, failed, Written, Task, is_identity, SameShelf, with_slot, with_changed_slot, with_outcome, with_failed, is_open_outcome, IsPublished, Meets}
 use Rattle.pagable_laws.proofs.Words.{meets-of-item, meets-entry, meets-below, ◌≤◌, ◌||◌, List, [], ◌∷◌, is_some, WorkerAnswer, identity_of, no_result, Todo, to_start, to_pin, to_load, to_write}
-use Rattle.pagable_laws.proofs.Words.{to_finish, to_item, to_set, to_publish, to_release, to_fail, of_item, Walking, suc, ◌++◌, inl, inr, drop, length, max, ArcRef, HandleNumber, Among, above, Open}
-use Rattle.pagable_laws.proofs.{Words.{Fault, next_start, settle, give, published, open_node, ◌<◌, of_entry, first_todo}, Sums.same-number}
-use Rattle.pagable_laws.proofs.Words.{Follows, Took}
-use Rattle.std.proofs.lemmas.Bool.{or_cases, or_left, or_right, false_from_ne_true, cases_Bool}
+use Rattle.pagable_laws.proofs.Words.{to_finish, to_item, to_set, to_publish, to_release, to_fail, of_item, Walking, suc, ◌++◌, inl, inr, drop, max, ArcRef, HandleNumber, Among, above, Open, Fault}
+use Rattle.pagable_laws.proofs.{Words.{next_start, settle, give, published, open_node, ◌<◌, of_entry, first_todo, Follows, Took}, Sums.same-number}
+use Rattle.std.proofs.{Common.rules, lemmas.Bool.{or_cases, or_left, or_right, false_from_ne_true, cases_Bool}}
 
 -- the slot has the same worker, and what was written and the result stay
 pub record SlotGrows (slot slot' : Slot) : Type 0 where
@@ -212,23 +211,13 @@ pub record WorkStands (shelves : ℕ → Shelf) (walkings : ℕ → Option Walki
 
 -- below what is done next written nodes and an item wait again after a step
 
-started-waits : (place : ℕ) (rs : List ArcRef) (x : Todo) (below : List Todo) → AllWait (x ∷ below) → WaitsWell (x ∷ below) → WaitsWell (next_start place rs ++ x ∷ below)
-started-waits place x1 x below whole rest = grind (arith, nat_tests)
-
 settle-waits : (todo : List Todo) → AllWait todo → WaitsWell (settle todo)
 unfolding AllWait
-settle-waits x0 waits = grind (arith, nat_tests, started-waits)
-
-give-waits : (r : ArcRef) (key height : ℕ) (todo : List Todo) → AllWait todo → WaitsWell (give r key height todo)
-unfolding AllWait
-give-waits r key height x3 waits = grind (arith, nat_tests, settle-waits, above)
-
-by-now : {next todo : List Todo} → next ≡ todo → WaitsWell todo → WaitsWell next
-by-now is waits = subst (λ t. WaitsWell t) (sym is) waits
+settle-waits x0 waits = grind (arith, nat_tests)
 
 pub follows-waits : {W : Type 0} (f : W → Written) (todo : List Todo) (step : Took W) (next : List Todo) → Follows f todo step next → WaitsWell todo → WaitsWell next
 unfolding AllWait
-follows-waits f x1 x2 next x4 waits = grind (arith, nat_tests, by-now, give-waits, settle-waits)
+follows-waits f x1 x2 next x4 waits = grind (arith, nat_tests, settle-waits)
 
 pub first-waits : (task : Task) → WaitsWell (first_todo task)
 unfolding AllWait
@@ -246,14 +235,11 @@ module _ (u : ℕ) (task : Task) (shelf shelf' : Shelf) (more : ShelfGrows shelf
   abbrev pub KeepsOf : (Identity → Bool) → Type 0
   KeepsOf test = (i : Identity) → test i ≡ true → (slot : Slot) → shelf.slots i ≡ Some slot → slot.worker ≡ u → shelf'.slots i ≡ Some slot
 
-  one-stays : (x : Todo) (below : List Todo) → KeepsOf (λ i. is_open_of i x) → Stands shelf u task x below → Stands shelf' u task x below
-  one-stays x0 below keeps x3 = grind (arith, nat_tests, meets-grow, is-self, published-stays)
-
   pub all-stay : (todo : List Todo) → KeepsOf (λ i. is_open_in i todo) → AllStand shelf u task todo → AllStand shelf' u task todo
   unfolding AllStand is_open_in
   all-stay [] keeps all = tt
   all-stay (x ∷ below) keeps (stands, apart, rest) = (
-    one-stays x below (λ i is. keeps i (or_left (is_open_of i x) (is_open_in i below) is)) stands,
+    (grind (arith, nat_tests, meets-grow, is-self, published-stays)),
     apart,
     all-stay below (λ i is. keeps i (or_right (is_open_of i x) (is_open_in i below) is)) rest,
   )
@@ -268,14 +254,11 @@ module _ (v : ℕ) (task : Task) where
     of-claim : (j : Identity) {so : Option Written → Type 0} → HasClaim shelf v j so → is_identity i j ≡ true → IsSlot
     of-claim j c is = (c.slot, sym (ap shelf.slots (is-same i j is)) ∙ c.claimed)
 
-    of-one : (x : Todo) (below : List Todo) → Stands shelf v task x below → is_open_of i x ≡ true → IsSlot
-    of-one x0 below stands is = grind (arith, nat_tests, of-claim)
-
     -- what is open has a slot
     pub open-slot : (todo : List Todo) → AllStand shelf v task todo → is_open_in i todo ≡ true → IsSlot
     unfolding AllStand is_open_in
     open-slot [] all is = absurd (cc)
-    open-slot (x ∷ below) (stands, apart, rest) is = elim (or_cases (is_open_of i x) (is_open_in i below) is) [ inl a ↦ of-one x below stands a | inr b ↦ open-slot below rest b ]
+    open-slot (x ∷ below) (stands, apart, rest) is = elim (or_cases (is_open_of i x) (is_open_in i below) is) [ inl a ↦ (grind (arith, nat_tests, of-claim)) | inr b ↦ open-slot below rest b ]
 
   -- each claim without a result is worked at
   abbrev pub CoversBy : Shelf → List Todo → Type 0
@@ -326,15 +309,11 @@ module _ (v : ℕ) (task : Task) where
 
     pub settles : (o : Open) (below : List Todo) → AllStand shelf v task (to_finish o ∷ below) → AllStand shelf v task (settle (to_finish o ∷ below))
     unfolding AllStand
-    settles o below ((meets, c), apart, rest) =
-        started o.place (drop (length o.keys) o.written.references) (to_finish o ∷ below)
-        (λ r among. meets-below (identity_of o.reference) c.slot o.written r meets c.claimed c.written_so (among-drop (length o.keys) o.written.references r among)) ((meets, c), apart, rest)
+    settles o below x2 = search (rules, started, meets-below, among-drop)
 
     pub item-settles : (written : Written) (keys : List ℕ) (below : List Todo) → AllStand shelf v task (to_item written keys ∷ below) → AllStand shelf v task (settle (to_item written keys ∷ below))
     unfolding AllStand
-    item-settles written keys below ((is, last), apart, rest) =
-        started 0 (drop (length keys) written.references) (to_item written keys ∷ below) (λ r among. meets-of-item written r is (among-drop (length keys) written.references r among))
-        ((is, last), apart, rest)
+    item-settles written keys below x3 = search (rules, started, meets-of-item, among-drop)
 
     pub gives : (r : ArcRef) (key height : ℕ) (todo : List Todo) → AllStand shelf v task todo → AllStand shelf v task (give r key height todo)
     unfolding AllStand
@@ -358,13 +337,13 @@ module _ (v : ℕ) (task : Task) (shelf shelf' : Shelf) where
       → AllStand shelf v task below → AllStand shelf' v task below
   below-stays i slot below puts changes apart all = grind (arith, nat_tests, all-stay, false_from_ne_true, true-false, is-same)
 
-  -- an own slot changes, or comes, that hasn't failed
-  clean-still : (i : Identity) (new : Slot) → PutsSlot shelf.slots shelf'.slots i new → is_failed new.outcome ≡ false → HasNoFailed shelf v → HasNoFailed shelf' v
-  clean-still i new puts good clean j slot there own =
-      elim (put-cases shelf.slots shelf'.slots i new puts j slot there) [ inl e ↦ ap (λ (s : Slot). is_failed s.outcome) e.1 ∙ good | inr e ↦ clean j slot e.1 own ]
-
   abbrev new-slot : Slot
   new-slot = record { worker = v; written = None; outcome = no_result }
+
+  -- an own slot changes, or comes, that hasn't failed and that the task meets
+  own-goes : (i : Identity) (new : Slot) (todo : List Todo) → PutsSlot shelf.slots shelf'.slots i new → Changes v shelf shelf' → Meets shelf' task i → is_failed new.outcome ≡ false
+      → AllStand shelf' v task todo → Covers shelf' v todo → Goes v task shelf None shelf' todo
+  own-goes i new todo puts changes meets good all covers = grind (arith, nat_tests, put-cases, some-none)
 
   -- the identity is claimed
   pub claimed : (r : ArcRef) (place : ℕ) (below : List Todo) → AllStand shelf v task (to_start r place ∷ below) → CoversBy v task shelf (to_start r place ∷ below) → shelf.slots (identity_of r) ≡ None
@@ -372,34 +351,18 @@ module _ (v : ℕ) (task : Task) (shelf shelf' : Shelf) where
   unfolding AllStand is_open_in
   claimed r place below (meets, apart, rest) covers none puts =
       let changes : Changes v shelf shelf' = (put-by v shelf shelf' (identity_of r) new-slot puts (is-new new-slot none refl refl)) in
-      let more : ShelfGrows shelf shelf' = grows v shelf shelf' changes in
-      let meets_now : Meets shelf' task (identity_of r) = meets-grow shelf shelf' task (identity_of r) more meets in
+      let meets_now : Meets shelf' task (identity_of r) = meets-grow shelf shelf' task (identity_of r) (grows v shelf shelf' changes) meets in
       let free : is_open_in (identity_of r) below ≡ false =
       false_from_ne_true (is_open_in (identity_of r) below) (λ is. let a = open-slot v task shelf (identity_of r) below rest is in some-none a.1 none) in
-      record {
-        changes = changes;
-        all = (
-          (meets_now, record { slot = new-slot; claimed = puts.at; own = refl; no_result_yet = refl; written_so = refl }),
-          (λ i is. subst (λ k. is_open_in k below ≡ false) (is-same i (identity_of r) is) free),
-          below-stays (identity_of r) new-slot below puts changes free rest,
-        );
-        covers = grind (arith, nat_tests, put-cases, identity_of, new-slot, open-self, is_open_in, or_right, is_identity);
-        unfailed = λ nothing. clean-still (identity_of r) new-slot puts refl;
-        done = λ a is. absurd (cc);
-        met = grind (arith, nat_tests, put-cases, identity_of, new-slot, some-none);
-      }
-
-  -- an own slot changes: nothing comes that isn't met
-  none-comes : (i : Identity) (old new : Slot) → PutsSlot shelf.slots shelf'.slots i new → shelf.slots i ≡ Some old → (j : Identity) (slot : Slot) → shelf.slots j ≡ None
-      → shelf'.slots j ≡ Some slot → Meets shelf' task j
-  none-comes i old new puts was j slot none there = grind (arith, nat_tests)
+      own-goes (identity_of r) new-slot _ puts changes meets_now refl (
+        (meets_now, record { slot = new-slot; claimed = puts.at; own = refl; no_result_yet = refl; written_so = refl }),
+        (λ i is. subst (λ k. is_open_in k below ≡ false) (is-same i (identity_of r) is) free),
+        below-stays (identity_of r) new-slot below puts changes free rest,
+      ) (grind (arith, nat_tests, put-cases, identity_of, new-slot, open-self, is_open_in, or_right, is_identity))
 
   -- a worker's own open slot
   abbrev wrote : Slot → Written → Slot
   wrote slot written = record slot { written = Some written }
-
-  wrote-grows : (slot : Slot) (written : Written) → slot.written ≡ None → SlotGrows slot (wrote slot written)
-  wrote-grows slot written none = record { worker = refl; written = λ w is. some-none is none; outcome = λ closed. refl }
 
   -- the value is written
   pub written-goes : (r : ArcRef) (place : ℕ) (through : HandleNumber) (written : Written) (below : List Todo) → AllStand shelf v task (to_write r place through ∷ below)
@@ -409,27 +372,15 @@ module _ (v : ℕ) (task : Task) (shelf shelf' : Shelf) where
   written-goes r place through written below ((meets, c), apart, rest) covers same =
       let new : Slot = wrote c.slot written in
       let puts : PutsSlot shelf.slots shelf'.slots (identity_of r) new = changes-slot shelf shelf' (identity_of r) c.slot (λ slot. record slot { written = Some written }) c.claimed same in
-      let changes : Changes v shelf shelf' = puts-own v shelf shelf' (identity_of r) c.slot new puts c.claimed c.own (wrote-grows c.slot written c.written_so) in
-      let more : ShelfGrows shelf shelf' = grows v shelf shelf' changes in
+      let changes : Changes v shelf shelf' = puts-own v shelf shelf' (identity_of r) c.slot new puts c.claimed c.own (grind (arith, nat_tests, some-none)) in
+      let meets_now : Meets shelf' task (identity_of r) = meets-grow shelf shelf' task (identity_of r) (grows v shelf shelf' changes) meets in
       let free : is_open_in (identity_of r) below ≡ false = apart (identity_of r) (is-self (identity_of r)) in
       let o : Open = record { reference = r; place = place; through = through; written = written; keys = []; height = 0 } in
-      record {
-        changes = changes;
-        all = settles v task shelf' o below (
-          (meets-grow shelf shelf' task (identity_of r) more meets, record { slot = new; claimed = puts.at; own = c.own; no_result_yet = c.no_result_yet; written_so = refl }),
-          apart,
-          below-stays (identity_of r) new below puts changes free rest,
-        );
-        covers = grind (arith, nat_tests, or_right, is_failing, open_node, is_open_in, started-open, drop, to_finish, covered);
-        unfailed = λ nothing. clean-still (identity_of r) new puts (ap is_failed c.no_result_yet);
-        done = λ a is. absurd (cc);
-        met = none-comes (identity_of r) c.slot new puts c.claimed;
-      }
-    where
-      covered : {new : Slot} → PutsSlot shelf.slots shelf'.slots (identity_of r) new → CoversBy v task shelf (to_write r place through ∷ below) → (i : Identity) (slot : Slot)
-          → shelf'.slots i ≡ Some slot → slot.worker ≡ v → slot.outcome ≡ no_result
-          → (is_identity i (identity_of r) || is_open_in i below) ≡ true
-      covered {new = new} puts covers i slot there own still = grind (arith, nat_tests, put-cases, open-self)
+      own-goes (identity_of r) new _ puts changes meets_now (ap is_failed c.no_result_yet) (settles v task shelf' o below (
+        (meets_now, record { slot = new; claimed = puts.at; own = c.own; no_result_yet = c.no_result_yet; written_so = refl }),
+        apart,
+        below-stays (identity_of r) new below puts changes free rest,
+      )) (grind (arith, nat_tests, or_right, started-open, put-cases, open-self))
 
   -- key and height are published
   pub published-goes : (r : ArcRef) (key height : ℕ) (below : List Todo) → AllStand shelf v task (to_publish r key height ∷ below) → CoversBy v task shelf (to_publish r key height ∷ below)
@@ -439,27 +390,14 @@ module _ (v : ℕ) (task : Task) (shelf shelf' : Shelf) where
       let new : Slot = with_outcome (published key height) c.slot in
       let puts : PutsSlot shelf.slots shelf'.slots (identity_of r) new = changes-slot shelf shelf' (identity_of r) c.slot (with_outcome (published key height)) c.claimed same in
       let changes : Changes v shelf shelf' = puts-own v shelf shelf' (identity_of r) c.slot new puts c.claimed c.own (outcome-grows (published key height) c.slot) in
-      let more : ShelfGrows shelf shelf' = grows v shelf shelf' changes in
+      let meets_now : Meets shelf' task (identity_of r) = meets-grow shelf shelf' task (identity_of r) (grows v shelf shelf' changes) meets in
       let free : is_open_in (identity_of r) below ≡ false = apart (identity_of r) (is-self (identity_of r)) in
-      let known : new.outcome ≡ published key height = is-known c.slot c.no_result_yet in
-      record {
-        changes = changes;
-        all = (
-          (meets-grow shelf shelf' task (identity_of r) more meets, record { slot = new; claimed = puts.at; known = known }),
-          (λ i is. absurd (cc)),
-          below-stays (identity_of r) new below puts changes free rest,
-        );
-        covers = grind (arith, nat_tests, put-cases, identity_of, published, no_result, not-here);
-        unfailed = λ nothing. clean-still (identity_of r) new puts (ap is_failed known);
-        done = λ a is. absurd (cc);
-        met = none-comes (identity_of r) c.slot new puts c.claimed;
-      }
-    where
-      is-known : (slot : Slot) → slot.outcome ≡ no_result → (with_outcome (published key height) slot).outcome ≡ published key height
-      is-known slot still = rw still refl
-
-      not-here : (i : Identity) → is_identity (identity_of r) i ≡ false → (is_identity i (identity_of r) || is_open_in i below) ≡ true → is_open_in i below ≡ true
-      not-here i other is = grind (arith, nat_tests, or_cases, is_identity, identity_of, is_open_in, true-false, is-same, is-self)
+      let known : new.outcome ≡ published key height = (cc) in
+      own-goes (identity_of r) new _ puts changes meets_now (ap is_failed known) (
+        (meets_now, record { slot = new; claimed = puts.at; known = known }),
+        (λ i is. absurd (cc)),
+        below-stays (identity_of r) new below puts changes free rest,
+      ) (grind (arith, nat_tests, put-cases, or_cases, true-false, is-same, is-self))
 
   -- all goes
   pub failed-goes : (answer : WorkerAnswer) → SameShelf (with_failed shelf v) shelf' → Goes v task shelf (Some answer) shelf' []
@@ -587,13 +525,10 @@ is-stepped v shelves shelves' walkings walkings' w now at at_now same_table same
       changes = λ t. change t (nat_eq t w.table) refl;
       others = others;
       own = λ x there. let e = some-same at there in record { now = now; there = at_now; table = same_table ∙ ap (λ (y : Walking). y.table) e; task = same_task ∙ ap (λ (y : Walking). y.task) e };
-      met = λ t i slot none there. meet t i slot none there (nat_eq t w.table) refl;
+      met = λ t i slot none there. grind (arith, nat_tests, same-worker, some-none);
       stands = grind (arith, nat_tests, some-same);
     }
   where
     change : (t : ℕ) (b : Bool) → nat_eq t w.table ≡ b → Changes v (shelves t) (shelves' t)
     change t true e = subst (λ n. Changes v (shelves n) (shelves' n)) (sym (same-worker t w.table e)) goes.changes
     change t false e = same-slots v (shelves t) (shelves' t) (elsewhere t e)
-
-    meet : (t : ℕ) (i : Identity) (slot : Slot) → (shelves t).slots i ≡ None → (shelves' t).slots i ≡ Some slot → (b : Bool) → nat_eq t w.table ≡ b → IsMetBy (shelves' t) walkings' v t i
-    meet t i slot none there x5 e = grind (arith, nat_tests, same-worker, some-none)

@@ -1,6 +1,6 @@
 -- Sums over the elements of a list, and what they count.
 use Rattle.pagable_laws.proofs.Words.{◌≡◌, ℕ, suc, zero, ◌+◌, ◌<◌, ◌≤◌, ◌==◌, Bool, true, List, [], ◌∷◌, sum_by, refl, ap, ◌∙◌, arith, filter, length, nat_tests, sum_by-cons, one, Among}
-use Rattle.pagable_laws.proofs.Words.{times, PinsAreAFilter}
+use Rattle.{pagable_laws.proofs.Words.{times, PinsAreAFilter}, std.proofs.Common.rules}
 
 -- a number is itself by the test too
 pub self-number : (a : ℕ) → (a == a) ≡ true
@@ -31,9 +31,7 @@ at-most-sum f x1 x x3 = grind (arith, nat_tests, sum_by-cons)
 -- a sum is the one of two functions
 pub sum-plus : {X : Type 0} (f g : X → ℕ) (xs : List X) → sum_by (λ x. f x + g x) xs ≡ sum_by f xs + sum_by g xs
 sum-plus f g [] = refl
-sum-plus f g (x ∷ xs) =
-    let b = sum-plus f g xs in
-    let c = sum_by-cons f x xs in let d = sum_by-cons g x xs in let e = sum_by-cons (λ y. f y + g y) x xs in omega arith
+sum-plus f g (x ∷ xs) = search (rules, sum_by-cons, sum-plus f g xs)
 
 zeros : {X : Type 0} (xs : List X) → sum_by (λ (x : X). 0) xs ≡ 0
 zeros [] = refl

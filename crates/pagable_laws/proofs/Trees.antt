@@ -38,6 +38,15 @@ module _ {P Q : ℕ → ℕ → Meaning KeyRef → Type 0} (C : ℕ → Type 0) 
       rw (is, one-followed c.1 h h2 (same _ _ _ _ c.0 p p3)) refl
   one-followed c h g e = absurd cc
 
+-- what P says of each reference, Q says
+module _ {P Q : ℕ → ℕ → Meaning KeyRef → Type 0} (C : ℕ → Type 0) (on : (t key : ℕ) (m : Meaning KeyRef) → C t → P t key m → Q t key m) where
+  pub followed-on : {m : Meaning KeyRef} {a : Meaning ⊥} → EachType C a → IsFollowed P m a → IsFollowed Q m a
+  unfolding EachType
+  followed-on c (pair-followed x y a b h g) = pair-followed x y a b (followed-on c.0 h) (followed-on c.1 g)
+  followed-on c (variant-followed n x a h) = variant-followed n x a (followed-on c h)
+  followed-on c (reference-followed r x a p h) = reference-followed r x a (on (type_of r.kind) r.key x c.0 p) (followed-on c.1 h)
+  followed-on c h = search (number-followed, integer-followed, text-followed, pattern-followed, none-followed)
+
 module _ {store : ℕ → Option Blob} {types : Types} where
   same-reading : {type key : ℕ} {m n : Meaning KeyRef} → ReadsAs store types type key m → ReadsAs store types type key n → m ≡ n
   same-reading {type} {key} {m} {n} h g = grind (arith, nat_tests)

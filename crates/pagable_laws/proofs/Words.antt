@@ -68,14 +68,14 @@ unfoldable pub use Rattle.pagable_world.specs.{Refusals.named_fault, Runs.state_
 pub use Rattle.pagable_laws.specs.DeepLaws.{ShallowLaw, MetDepthAlone, DepthIsTold, ToldDepthLaw, WaitsForAsker, ClaimIsDeep, DeepClaimLaw, IsOfHandles, LoadIsFaultless, FaultlessLaw, LoadIsDeep}
 pub use Rattle.pagable_laws.specs.{DeepLaws.DeepLoadLaw, FallLaws.{PinsAreAFilter, OwnsNothing, IsGivenAlone, TwoLevelsFall, LoneIsListed}, FormLaws.{rest, at, IsNatural, IsReadOver, IsRenamed}}
 pub use Rattle.pagable_laws.specs.FormLaws.{IsReadThrough, KeepsForms, with_more, IsLocal, IsUsed, IsLasting, IsReadAgain, LooksUp, no-references, more-references, CanonicalHasOneForm}
-pub use Rattle.pagable_laws.specs.{FormLaws.{HasOnePreimage, IsPrefixFree}, JsonLaws.{FloatHasNoForm, WholeIsBounded}, KeyLaws.{IsOneKeyMeaning, IsAnyOrder}, KeyRuns.{StandsAt, KeyIsSet}}
+pub use Rattle.pagable_laws.specs.{FormLaws.{HasOnePreimage, IsPrefixFree}, KeyLaws.{FloatHasNoForm, WholeIsBounded, IsOneKeyMeaning, IsAnyOrder}, KeyRuns.{StandsAt, KeyIsSet}}
 pub use Rattle.pagable_laws.specs.{KeyRuns.{is_publishing, HasHandle, KeysHeld, Holds, KeysAreRight}, TwoLevels.{ArePremised, TwoLevelsMeetTheHeadline, Sample, sample, sample_type}}
-pub use Rattle.pagable_laws.specs.{TwoLevels.{sample_references, machine}, LoadLaws.{IsBeginOf, HasBegun, SoundLaw}, PageOutLaws.{IsLow, AllLow, IsAttained, place_over, HasRoom, Placed}}
+pub use Rattle.pagable_laws.specs.{TwoLevels.{sample_references, machine}, DeepLaws.{IsBeginOf, HasBegun, SoundLaw}, PageOutLaws.{IsLow, AllLow, IsAttained, place_over, HasRoom, Placed}}
 pub use Rattle.pagable_laws.specs.PageOutLaws.{ground_of, Walks, WorkFits, Ground, WroteTree, BlobStands, SlotFits, Expects, Above, HasBlob, SlotsFit, FollowsTo, number-follows, integer-follows}
 pub use Rattle.pagable_laws.specs.{PageOutLaws.{text-follows, pattern-follows, none-follows, pair-follows, variant-follows, reference-follows, KeyStands, IsOfEntry, IsDone}, ReadLaws.Needs}
 pub use Rattle.pagable_laws.specs.ReadLaws.{KeepsStored, FramesGiven, ValueLeads, LeadsTo, number-leads, integer-leads, text-leads, pattern-leads, none-leads, pair-leads, variant-leads}
-pub use Rattle.pagable_laws.specs.{ReadLaws.{followed-leads, reference-leads, Decoded}, ReadRuns.{FramesHeld, GotStands}, Rows.{only_cat, chain, no_parts, cats}, RunLaws.{ChainsJoin, NewIsWhole}}
-pub use Rattle.pagable_laws.specs.{RunLaws.NextIsOneOf, SmallWorlds.{no_work, two_rows, are_two, outer, first, first_node, lone, lone_listed, lone_unlisted}, TreeLaws.{IsOneKey, IsOneItemKey}}
+pub use Rattle.pagable_laws.specs.{ReadLaws.{followed-leads, reference-leads, Decoded, FramesHeld, GotStands}, Rows.{only_cat, chain, no_parts, cats}, FallLaws.{ChainsJoin, NewIsWhole}}
+pub use Rattle.pagable_laws.specs.{FallLaws.NextIsOneOf, SmallWorlds.{no_work, two_rows, are_two, outer, first, first_node, lone, lone_listed, lone_unlisted}, TreeLaws.{IsOneKey, IsOneItemKey}}
 pub use Rattle.pagable_laws.specs.{TreeLaws.{IsStoredKey, IsTreeReadable, IsKeyOfOneTree, StaysInside, IsCanonicalInside, IsOneTree, IsLongestPath}, TreeRuns.ChangeFits, TreeSteps.Change}
 pub use Rattle.pagable_laws.specs.TreeSteps.{nothing_felt, bears_known, ReadingFeels, reads-root, reads-blob, gets-known, gets-lazy, makes-known, makes-node, reading-ends, sets_key, IsFresh}
 pub use Rattle.pagable_laws.specs.TreeSteps.{CoreGoes, EventFeels, by-call, by-reading, by-key, by-nothing, KeepsReadings, KeysAreReady, StepFeels, knows_node, bears_node, StaysAway, AreGood}

@@ -1,17 +1,13 @@
 pub mod FormLaws
 pub mod TreeLaws
 pub mod KeyLaws
-pub mod JsonLaws
 pub mod Rows
 pub mod SmallWorlds
 pub mod FallLaws
-pub mod RunLaws
 pub mod TreeSteps
 pub mod TreeRuns
-pub mod ReadRuns
 pub mod ReadLaws
 pub mod PageOutLaws
 pub mod KeyRuns
 pub mod TwoLevels
 pub mod DeepLaws
-pub mod LoadLaws

@@ -1,7 +1,8 @@
--- What a value leads to by its own references, where each node has its tree; what comes of a value that was read; and what loads need.
-use Rattle.std.specs.Prelude.{ℕ, ◌≡◌, ◌≤◌, ◌⊎◌, List, Option, Some, ℤ}
+-- What a value leads to by its own references, where each node has its tree; what comes of a value that was read; what loads need, and what they got and still have.
+use Rattle.std.specs.Prelude.{ℕ, ◌≡◌, ◌≤◌, ◌⊎◌, true, List, Option, Some, ℤ}
 use Rattle.pagable_model.specs.Meaning.{number, integer, text, pattern, none, pair, variant, reference, followed}
-use Rattle.pagable_world.specs.{Plain.{ArcRef, Kind, Blob, Meaning, Tree, Types, ReadsTree, type_of, Among}, World.{Frame, Values}, Loads.{need_of, needs_nested, needs_lazy}}
+use Rattle.pagable_world.specs.{Plain.{ArcRef, Kind, Blob, LoadNumber, Meaning, Tree, Types, ReadsTree, type_of, Among}, World.{Core, Frame, Values, row_at}, Loads.{need_of, needs_nested, needs_lazy}}
+use Rattle.pagable_world.specs.{declared.handles.Owner.Owner, declared.handles.HandleRow.HandleRow, Kinds.fits_mode}
 
 -- the meaning leads to this one, where each node has its tree: each reference is followed to its node's tree, which is of the kind's type
 pub data LeadsTo (trees : ℕ → Tree) : Meaning ArcRef → Meaning ⊥ → Type 0 where
@@ -41,3 +42,12 @@ Needs types frames kind key = (need_of types frames ≡ needs_nested kind key) �
 -- what was stored stays stored
 abbrev pub KeepsStored : (ℕ → Option Blob) → (ℕ → Option Blob) → Type 0
 KeepsStored stored stored' = (key : ℕ) (b : Blob) → stored key ≡ Some b → stored' key ≡ Some b
+
+-- A handle that a load got was given, and its node; and while the load has it, it is of the reference's node, in a mode that fits the kind.
+pub record GotStands (w : Core) (l : LoadNumber) (r : ArcRef) : Type 0 where
+  pub given : r.handle.0 ≤ w.last.handle
+  pub node_given : r.node.0 ≤ w.last.node
+  pub is : (row : HandleRow) → row_at w r.handle ≡ Some row → row.owner ≡ Owner.Load l → (row.node ≡ r.node) × (fits_mode r.kind.0 row.mode ≡ true)
+
+abbrev pub FramesHeld : Core → LoadNumber → List Frame → Type 0
+FramesHeld w l frames = (frame : Frame) (r : ArcRef) → Among frames frame → Among frame.got r → GotStands w l r

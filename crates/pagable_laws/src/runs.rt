@@ -3,12 +3,12 @@
 ghost use Rattle.pagable_world.specs.Access.{PinLaw, ReadLaw};
 ghost use Rattle.pagable_world.specs.Headline.{HeadlineLaw};
 ghost use Rattle.pagable_world.specs.OneWorker.{OneIdentityLaw};
-ghost use Rattle.pagable_laws.specs.DeepLaws.{ShallowLaw, ToldDepthLaw, DeepClaimLaw, DeepLoadLaw, FaultlessLaw};
-ghost use Rattle.pagable_laws.specs.LoadLaws.{SoundLaw};
+ghost use Rattle.pagable_laws.specs.DeepLaws.{ShallowLaw, ToldDepthLaw, DeepClaimLaw, DeepLoadLaw, FaultlessLaw, SoundLaw};
 
 use crate::world::SeenAs;
 
 /// The headline holds of every chain that begins at a whole machine for which nobody works yet.
+#[tactic(auto, using(crate::proofs::Chains::headline_law))]
 pub fn headline<N: SeenAs<B, W>, B, W, E>()
     ensures { HeadlineLaw E N.seen }
 {}

@@ -1,9 +1,8 @@
 //! The laws of the definitions of the pager's world: each is the contract of a function that does nothing.
 
 ghost use Rattle.pagable_world.specs.World.{Seen};
-ghost use Rattle.pagable_laws.specs.FallLaws.{IsThere, IsOne, IsGivenAlone, PinsAreAFilter, TwoLevelsFall, LoneIsListed};
+ghost use Rattle.pagable_laws.specs.FallLaws.{IsThere, IsOne, IsGivenAlone, PinsAreAFilter, TwoLevelsFall, LoneIsListed, ChainsJoin, NewIsWhole, NextIsOneOf};
 ghost use Rattle.pagable_laws.specs.TwoLevels.{TwoLevelsMeetTheHeadline};
-ghost use Rattle.pagable_laws.specs.RunLaws.{ChainsJoin, NewIsWhole, NextIsOneOf};
 
 /// How values of this type are seen, with blobs B and what is written W: any values, so that a law is one of all.
 pub trait SeenAs<B, W>: Sized {
