@@ -2,7 +2,7 @@
 use Rattle.pagable_traits.proofs.Words.{◌≡◌, ℕ, List, [], ◌++◌, length, ◌∙◌, Result, Ok, Err, Option, Some, ap, ◌≤◌, OnOk, IfErr, Bool, true, false, Error, ArcRef, bool_form, longest, text_form}
 use Rattle.pagable_traits.proofs.Words.{MeansOption, means-some, MeansPair, MeansResult, means-ok, means-err, Meaning, present, success, failure, Shape, optional, outcome, text-form, some-form}
 use Rattle.pagable_traits.proofs.{Words.{err-form, ok-form, Is, Out, Nesting, WritesSome, added, grows_trans, memory_refuses, refused_memory, NoForm, Refused, writes_is, writes_bytes}, Parts.ok_along}
-use Rattle.pagable_traits.proofs.Parts.{err_along, some_along, refused_along, writes_absent, writes_whole, refuses_whole, writes_pair, refused_first, refused_second}
+use Rattle.pagable_traits.proofs.{Words.{FormAt, Grows}, Parts.{err_along, some_along, refused_along, writes_absent, writes_whole, refuses_whole, writes_both, first_refused, second_refused}}
 use Rattle.std.specs.Str.{IsUtf8}
 use Rattle.pagable_model.specs.Meaning as meanings
 use Rattle.pagable_model.specs.Shape as shapes
@@ -19,11 +19,26 @@ writes_str (Err y) t n old last now w e f utf8 short h = tt
 no-some : (n : Nesting) (s : Shape) (m : Meaning ArcRef) → NoForm n s m → NoForm n (optional s) (present m)
 no-some n s m h b k (some-form l s' m' c k' f) = h c k' f
 
-no-success : (n : Nesting) (s t : Shape) (m : Meaning ArcRef) → NoForm n s m → NoForm n (outcome s t) (success m)
+pub no-success : (n : Nesting) (s t : Shape) (m : Meaning ArcRef) → NoForm n s m → NoForm n (outcome s t) (success m)
 no-success n s t m h b k (ok-form l s' t' m' c k' f) = h c k' f
 
-no-failure : (n : Nesting) (s t : Shape) (m : Meaning ArcRef) → NoForm n t m → NoForm n (outcome s t) (failure m)
+pub no-failure : (n : Nesting) (s t : Shape) (m : Meaning ArcRef) → NoForm n t m → NoForm n (outcome s t) (failure m)
 no-failure n s t m h b k (err-form l s' t' m' c k' f) = h c k' f
+
+-- all that the writer of both owes, by what the part's writer tells: a meaning of the part leads to one of the whole, and a form of it to one of the whole, which has none where the part has none
+pub flagged : {Y E : Type 0} (r : Result Y Error) (P Q : Meaning ArcRef → Type 0) (n : Nesting) (s t : Shape) (flag : Bool) (whole : Meaning ArcRef → Meaning ArcRef) (first causes : Error → Type 0) {old mid new : Out} {env env_after : E} {levels levels_after : ℕ}
+    → ((m : Meaning ArcRef) → P m → Q (whole m)) → ((m : Meaning ArcRef) (b : List ℕ) (k : List ArcRef) → FormAt n s m b k → FormAt n t (whole m) (bool_form flag ++ b) k) → ((m : Meaning ArcRef) → NoForm n s m → NoForm n t (whole m))
+    → ((e : Error) → first e → causes e) → mid ≡ added old (bool_form flag) []
+    → record { ok : OnOk r (WritesSome P n s mid new); refused : IfErr r (Refused P n s); only : IfErr r first; err : Grows mid new; same_env : env_after ≡ env; same_levels : levels_after ≡ levels }
+    → record { ok : OnOk r (WritesSome Q n t old new); refused : IfErr r (Refused Q n t); only : IfErr r causes; err : Grows old new; same_env : env_after ≡ env; same_levels : levels_after ≡ levels }
+flagged r P Q n s t flag whole first causes {old = old} {mid = mid} {new = new} means form lacks own wrote told = record {
+  ok = ok_along r told.ok (λ w. writes_whole n n whole s t P Q means (bool_form flag) old mid new form wrote w);
+  refused = err_along r told.refused (λ e h. refuses_whole n n whole s t P Q means e lacks h);
+  only = err_along r told.only own;
+  err = grows_trans old mid new (record { bytes = bool_form flag; refs = []; grown = wrote }) told.err;
+  same_env = told.same_env;
+  same_levels = told.same_levels;
+}
 
 module _ {T : Type 0} (M : T → Meaning ArcRef → Type 0) (y : Option T) (x : T) (here : y ≡ Some x) (n : Nesting) (s : Shape) where
   pub writes_present : (old mid new : Out) → mid ≡ added old (bool_form true) [] → WritesSome (M x) n s mid new → WritesSome (MeansOption M y) n (optional s) old new
@@ -68,4 +83,4 @@ pub ruleset writes_result = (steps, writes_success, writes_failure, refused_succ
 
 pub ruleset alike = (ok_along, err_along, some_along, refused_along, pair_along)
 
-pub ruleset pairs = (ok_along, err_along, grows_trans, writes_pair, refused_first, refused_second)
+pub ruleset pairs = (ok_along, err_along, grows_trans, writes_both, first_refused, second_refused)

@@ -1,6 +1,7 @@
 -- Values that hold others: what writing their parts one after another adds.
 use Rattle.pagable_traits.proofs.Words.{◌≡◌, false, List, [], ◌∷◌, ◌++◌, refl, Result, Ok, Err, None, inl, inr, OnOk, IfErr, Error, ArcRef, ℕ, bool_form, memory_or, long_or, long_or_memory, Meaning}
-use Rattle.pagable_traits.proofs.Words.{pair, absent, Shape, optional, both, both-form, Out, Nesting, FormAt, WritesSome, added, NoForm, Refused, Meanings, MeansOption, means-none, MeansPair, then}
+use Rattle.pagable_traits.proofs.Words.{pair, absent, Shape, optional, both, both-form, Out, Nesting, FormAt, WritesSome, added, NoForm, Refused, SomeMeaning, Meanings, some, MeansOption}
+use Rattle.pagable_traits.proofs.Words.{means-none, MeansPair, then}
 use Rattle.pagable_model.specs.Form.{none-form}
 
 -- ---- results
@@ -9,6 +10,9 @@ use Rattle.pagable_model.specs.Form.{none-form}
 pub ok_along : {X : Type 0} (r : Result X Error) {P Q : Type 0} → OnOk r P → (P → Q) → OnOk r Q
 ok_along (Ok x) h f = f h
 ok_along (Err e) h f = tt
+
+pub where_ok : {X : Type 0} (r : Result X Error) (P Q : Type 0) → (P → Q) → OnOk r P → OnOk r Q
+where_ok r P Q f h = ok_along r h f
 
 pub err_along : {X : Type 0} (r : Result X Error) {P Q : Error → Type 0} → IfErr r P → ((e : Error) → P e → Q e) → IfErr r Q
 err_along (Ok x) h f = tt
@@ -54,8 +58,8 @@ module _ (n inner : Nesting) (whole : Meaning ArcRef → Meaning ArcRef) (s t : 
 
 -- ---- two values, one after the other
 
-pub writes_pair : {A B : Type 0} (M : A → Meaning ArcRef → Type 0) (N : B → Meaning ArcRef → Type 0) (x : A) (y : B) (n : Nesting) (s t : Shape) (old mid new : Out) → WritesSome (M x) n s old mid → WritesSome (N y) n t mid new → WritesSome (MeansPair M N (x, y)) n (both s t) old new
-writes_pair M N x y n s t old mid new v w = record {
+pub writes_pair : {A B : Type 0} (M : A → Meaning ArcRef → Type 0) (N : B → Meaning ArcRef → Type 0) (p : A × B) (n : Nesting) (s t : Shape) (old mid new : Out) → WritesSome (M p.0) n s old mid → WritesSome (N p.1) n t mid new → WritesSome (MeansPair M N p) n (both s t) old new
+writes_pair M N p n s t old mid new v w = record {
   m = pair v.m w.m;
   is = record { first = v.m; second = w.m; is_first = v.is; is_second = w.is; is = refl };
   wrote = record {
@@ -66,18 +70,33 @@ writes_pair M N x y n s t old mid new v w = record {
   };
 }
 
+-- the same of two values by themselves
+pub writes_both : {A B : Type 0} (M : A → Meaning ArcRef → Type 0) (N : B → Meaning ArcRef → Type 0) (x : A) (y : B) (n : Nesting) (s t : Shape) (old mid new : Out)
+    → WritesSome (M x) n s old mid → WritesSome (N y) n t mid new → WritesSome (MeansPair M N (x, y)) n (both s t) old new
+writes_both M N x y n s t old mid new v w = writes_pair M N (x, y) n s t old mid new v w
+
 no-first : (n : Nesting) (s t : Shape) (x y : Meaning ArcRef) → NoForm n s x → NoForm n (both s t) (pair x y)
 no-first n s t x y h b k (both-form l s' t' x' y' c d j i f g) = h c j f
 
 no-second : (n : Nesting) (s t : Shape) (x y : Meaning ArcRef) → NoForm n t y → NoForm n (both s t) (pair x y)
 no-second n s t x y h b k (both-form l s' t' x' y' c d j i f g) = h d i g
 
-pub refused_first : {Z A B : Type 0} (r : Result Z Error) (M : A → Meaning ArcRef → Type 0) (N : Meanings B) (x : A) (y : B) (n : Nesting) (s t : Shape) → IfErr r (Refused (M x) n s) → IfErr r (Refused (MeansPair M N.of (x, y)) n (both s t))
-refused_first r M N x y n s t h = err_along r h (λ e k fault.
-    let no = k fault in
-    record { m = pair no.m (N.meaning y); is = record { first = no.m; second = N.meaning y; is_first = no.is; is_second = N.is y; is = refl }; no_form = no-first n s t no.m (N.meaning y) no.no_form })
+pub refuses_first : {A B : Type 0} (M : A → Meaning ArcRef → Type 0) (N : B → Meaning ArcRef → Type 0) (has : (y : B) → SomeMeaning (N y)) (p : A × B) (n : Nesting) (s t : Shape) (e : Error) → Refused (M p.0) n s e → Refused (MeansPair M N p) n (both s t) e
+refuses_first M N has p n s t e h = λ fault.
+    let no = h fault in
+    let other = has p.1 in
+    record { m = pair no.m other.0; is = record { first = no.m; second = other.0; is_first = no.is; is_second = other.1; is = refl }; no_form = no-first n s t no.m other.0 no.no_form }
 
-pub refused_second : {Z A B : Type 0} (r : Result Z Error) (M : Meanings A) (N : B → Meaning ArcRef → Type 0) (x : A) (y : B) (n : Nesting) (s t : Shape) → IfErr r (Refused (N y) n t) → IfErr r (Refused (MeansPair M.of N (x, y)) n (both s t))
-refused_second r M N x y n s t h = err_along r h (λ e k fault.
+pub refused_second : {X A B : Type 0} (r : Result X Error) (M : A → Meaning ArcRef → Type 0) (N : B → Meaning ArcRef → Type 0) (has : (x : A) → SomeMeaning (M x)) (p : A × B) (n : Nesting) (s t : Shape)
+    → IfErr r (Refused (N p.1) n t) → IfErr r (Refused (MeansPair M N p) n (both s t))
+refused_second r M N has p n s t h = err_along r h (λ e k fault.
     let no = k fault in
-    record { m = pair (M.meaning x) no.m; is = record { first = M.meaning x; second = no.m; is_first = M.is x; is_second = no.is; is = refl }; no_form = no-second n s t (M.meaning x) no.m no.no_form })
+    let other = has p.0 in
+    record { m = pair other.0 no.m; is = record { first = other.0; second = no.m; is_first = other.1; is_second = no.is; is = refl }; no_form = no-second n s t other.0 no.m no.no_form })
+
+-- the same by what else the other value means
+pub first_refused : {X A B : Type 0} (r : Result X Error) (M : A → Meaning ArcRef → Type 0) (N : Meanings B) (x : A) (y : B) (n : Nesting) (s t : Shape) → IfErr r (Refused (M x) n s) → IfErr r (Refused (MeansPair M N.of (x, y)) n (both s t))
+first_refused r M N x y n s t h = err_along r h (λ e k. refuses_first M N.of (some N) (x, y) n s t e k)
+
+pub second_refused : {X A B : Type 0} (r : Result X Error) (M : Meanings A) (N : B → Meaning ArcRef → Type 0) (x : A) (y : B) (n : Nesting) (s t : Shape) → IfErr r (Refused (N y) n t) → IfErr r (Refused (MeansPair M.of N (x, y)) n (both s t))
+second_refused r M N x y n s t h = refused_second r M.of N (some M) (x, y) n s t h
