@@ -167,11 +167,6 @@ module _ {D E R N H K V T F : Type 0} (env : Environments E N H K V) (d : Deseri
   abbrev pub TellsTagged : List (List ℕ × F) → D → D → Result T Error → Type 0
   TellsTagged readers a b r = Tells d ((written : List ℕ → Shape) → GivesSome (memory_or own) (λ x. MeansTagged (tag_of x) (M x)) (d.rest b) r (read (context_in env d a) (tagged_by written (grammars grammar (d.environment a) readers)) (d.rest a))) a b
 
-  -- the tag is refused
-  pub no_tag_read : {a b : D} {e : Error} (readers : List (List ℕ × F)) (r : Result T Error) → IsErrAnd r (λ f. f ≡ e) → Tells d ((bytes_of text_at (λ t. t) (d.rest a) ≡ Err e) ⊎ memory e) a b → TellsTagged readers a b r
-  unfolding read read_with
-  no_tag_read readers r is told = let q = err_from_is_err_and r is in rw (q.1, q.2) (tells d told (λ written. elim told.gives [ inl h ↦ inl (rw h refl) | inr h ↦ inr (inl h) ]))
-
   -- no reader is registered
   pub unknown_read : {a b : D} {tag : List ℕ} (readers known : List (List ℕ × F)) (named : List ℕ) → Tells d (bytes_of text_at (λ t. t) (d.rest a) ≡ Ok (tag, d.rest b)) a b → named ≡ tag → known ≡ readers → NoneFor named known → TellsTagged readers a b (Err errors.UnknownTag)
   unknown_read {a} {b} {tag} readers known named told same all none =
