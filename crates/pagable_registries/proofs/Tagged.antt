@@ -168,7 +168,8 @@ module _ {D E R N H K V T F : Type 0} (env : Environments E N H K V) (d : Deseri
   TellsTagged readers a b r = Tells d ((written : List ℕ → Shape) → GivesSome (memory_or own) (λ x. MeansTagged (tag_of x) (M x)) (d.rest b) r (read (context_in env d a) (tagged_by written (grammars grammar (d.environment a) readers)) (d.rest a))) a b
 
   -- no reader is registered
-  pub unknown_read : {a b : D} {tag : List ℕ} (readers known : List (List ℕ × F)) (named : List ℕ) → Tells d (bytes_of text_at (λ t. t) (d.rest a) ≡ Ok (tag, d.rest b)) a b → named ≡ tag → known ≡ readers → NoneFor named known → TellsTagged readers a b (Err errors.UnknownTag)
+  pub unknown_read : {a b : D} {tag : List ℕ} (readers known : List (List ℕ × F)) (named : List ℕ) → Tells d (bytes_of text_at (λ t. t) (d.rest a) ≡ Ok (tag, d.rest b)) a b → named ≡ tag
+      → known ≡ readers → NoneFor named known → TellsTagged readers a b (Err errors.UnknownTag)
   unknown_read {a} {b} {tag} readers known named told same all none =
       tells d told (λ written. inl (read-unknown _ written grammar (d.environment a) readers tag _ _ told.gives (rw (same, all) at none)))
 
@@ -180,7 +181,8 @@ module _ {D E R N H K V T F : Type 0} (env : Environments E N H K V) (d : Deseri
   after-tag first told f = then-tells d first.moves first.same_env first.same_levels (record { gives = told.gives; moves = told.moves; same_env = told.same_env; same_levels = told.same_levels }) f
 
   -- the body is refused
-  pub no_body_read : {Y : Type 0} {a b c : D} {tag : List ℕ} {e : Error} (readers known : List (List ℕ × F)) (named : List ℕ) (f : F) (r : Result T Error) → IsErrAnd r (λ x. x ≡ e) → Tells d (bytes_of text_at (λ t. t) (d.rest a) ≡ Ok (tag, d.rest b)) a b → named ≡ tag → known ≡ readers → IsLastFor named known f
+  pub no_body_read : {Y : Type 0} {a b c : D} {tag : List ℕ} {e : Error} (readers known : List (List ℕ × F)) (named : List ℕ) (f : F) (r : Result T Error) → IsErrAnd r (λ x. x ≡ e)
+      → Tells d (bytes_of text_at (λ t. t) (d.rest a) ≡ Ok (tag, d.rest b)) a b → named ≡ tag → known ≡ readers → IsLastFor named known f
       → TellsBody ((read (context_in env d b) (grammar f (d.environment b)) (d.rest b) ≡ Err e) ⊎ own e) Y b c → TellsTagged readers a c r
   no_body_read {a = a} {tag = tag} readers known named f r is first same all last told =
       let q = err_from_is_err_and r is in
@@ -193,7 +195,8 @@ module _ {D E R N H K V T F : Type 0} (env : Environments E N H K V) (d : Deseri
       ]))
 
   -- the body is read
-  pub tagged_read : {a b c : D} {tag : List ℕ} (readers known : List (List ℕ × F)) (named its : List ℕ) (f : F) (x : T) → Tells d (bytes_of text_at (λ t. t) (d.rest a) ≡ Ok (tag, d.rest b)) a b → named ≡ tag → known ≡ readers → IsLastFor named known f → its ≡ named
+  pub tagged_read : {a b c : D} {tag : List ℕ} (readers known : List (List ℕ × F)) (named its : List ℕ) (f : F) (x : T) → Tells d (bytes_of text_at (λ t. t) (d.rest a) ≡ Ok (tag, d.rest b)) a b
+      → named ≡ tag → known ≡ readers → IsLastFor named known f → its ≡ named
       → TellsBody (Gave (M x) (d.rest c) (read (context_in env d b) (grammar f (d.environment b)) (d.rest b))) (tag_of x ≡ its) b c → TellsTagged readers a c (Ok x)
   tagged_read {a} {b} {c} {tag} readers known named its f x first same all last its_own told =
       let known_last = rw (same, all) at last in

@@ -37,7 +37,8 @@ pub gives_along : {X Y R : Type 0} (own : Error → Type 0) (P Q : X → Y → T
 gives_along own P Q last (Ok x) read f g = record { m = g.m; is = f x g.m g.is; gave = g.gave }
 gives_along own P Q last (Err e) read f h = h
 
-pub gives-seen : {X Y Z R : Type 0} (own : Error → Type 0) (P : X → Y → Type 0) (Q : X → Z → Type 0) (view : Y → Z) (last : R) (r : Result X Error) (part : Result (Y × R) Error) → ((x : X) (y : Y) → P x y → Q x (view y)) → GivesSome own P last r part → GivesSome own Q last r (part >>= λ y. Ok (view y.0, y.1))
+pub gives-seen : {X Y Z R : Type 0} (own : Error → Type 0) (P : X → Y → Type 0) (Q : X → Z → Type 0) (view : Y → Z) (last : R) (r : Result X Error) (part : Result (Y × R) Error)
+    → ((x : X) (y : Y) → P x y → Q x (view y)) → GivesSome own P last r part → GivesSome own Q last r (part >>= λ y. Ok (view y.0, y.1))
 gives-seen own P Q view last (Ok x) part f g = record { m = view g.m; is = f x g.m g.is; gave = rw g.gave refl }
 gives-seen own P Q view last (Err e) part f (inl h) = inl (rw h refl)
 gives-seen own P Q view last (Err e) part f (inr h) = inr h

@@ -29,7 +29,8 @@ pub forms-last : {parts : ℕ → Shape} {left : ℕ} {s : Shape} {ms : List (Me
 forms-last m c l (no-forms d s) f = rw (← append-nil c, ← append-nil l) (more-forms d s m [] c [] l [] f (no-forms d s))
 forms-last m c l (more-forms d s x xs b e k j h g) f = rw (append_assoc b e c, append_assoc k j l) (more-forms d s x (xs ++ m ∷ []) b (e ++ c) k (j ++ l) h (forms-last m c l g f))
 
-pub writes-next : {T : Type 0} (M : T → Meaning ArcRef → Type 0) (front : List T) (x : T) (n : Nesting) (s : Shape) (a b c : Out) → WritesSomeAll (MeanAll M front) n s a b → WritesSome (M x) n s b c → WritesSomeAll (MeanAll M (front ++ x ∷ [])) n s a c
+pub writes-next : {T : Type 0} (M : T → Meaning ArcRef → Type 0) (front : List T) (x : T) (n : Nesting) (s : Shape) (a b c : Out) → WritesSomeAll (MeanAll M front) n s a b
+    → WritesSome (M x) n s b c → WritesSomeAll (MeanAll M (front ++ x ∷ [])) n s a c
 writes-next M front x n s a b c v w = record {
   ms = v.ms ++ w.m ∷ [];
   is = mean_last M front v.ms x w.m v.is w.is;

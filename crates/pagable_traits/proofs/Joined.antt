@@ -27,7 +27,8 @@ no-failure n s t m h b k (err-form l s' t' m' c k' f) = h c k' f
 
 -- all that the writer of both owes, by what the part's writer tells: a meaning of the part leads to one of the whole, and a form of it to one of the whole, which has none where the part has none
 pub flagged : {Y E : Type 0} (r : Result Y Error) (P Q : Meaning ArcRef → Type 0) (n : Nesting) (s t : Shape) (flag : Bool) (whole : Meaning ArcRef → Meaning ArcRef) (first causes : Error → Type 0) {old mid new : Out} {env env_after : E} {levels levels_after : ℕ}
-    → ((m : Meaning ArcRef) → P m → Q (whole m)) → ((m : Meaning ArcRef) (b : List ℕ) (k : List ArcRef) → FormAt n s m b k → FormAt n t (whole m) (bool_form flag ++ b) k) → ((m : Meaning ArcRef) → NoForm n s m → NoForm n t (whole m))
+    → ((m : Meaning ArcRef) → P m → Q (whole m)) → ((m : Meaning ArcRef) (b : List ℕ) (k : List ArcRef) → FormAt n s m b k → FormAt n t (whole m) (bool_form flag ++ b) k)
+    → ((m : Meaning ArcRef) → NoForm n s m → NoForm n t (whole m))
     → ((e : Error) → first e → causes e) → mid ≡ added old (bool_form flag) []
     → record { ok : OnOk r (WritesSome P n s mid new); refused : IfErr r (Refused P n s); only : IfErr r first; err : Grows mid new; same_env : env_after ≡ env; same_levels : levels_after ≡ levels }
     → record { ok : OnOk r (WritesSome Q n t old new); refused : IfErr r (Refused Q n t); only : IfErr r causes; err : Grows old new; same_env : env_after ≡ env; same_levels : levels_after ≡ levels }
@@ -50,12 +51,14 @@ module _ {T : Type 0} (M : T → Meaning ArcRef → Type 0) (y : Option T) (x : 
       rw here (err_along r h (λ e k. refuses_whole n n present s (optional s) (M x) (MeansOption M (Some x)) (λ m is. means-some x m is) e (no-some n s) k))
 
 module _ {T X : Type 0} (M : T → Meaning ArcRef → Type 0) (N : X → Meaning ArcRef → Type 0) (y : Result T X) (n : Nesting) (s t : Shape) where
-  pub writes_success : (x : T) (flag : Bool) (old mid new : Out) → y ≡ Ok x → flag ≡ true → mid ≡ added old (bool_form flag) [] → WritesSome (M x) n s mid new → WritesSome (MeansResult M N y) n (outcome s t) old new
+  pub writes_success : (x : T) (flag : Bool) (old mid new : Out) → y ≡ Ok x → flag ≡ true → mid ≡ added old (bool_form flag) [] → WritesSome (M x) n s mid new
+      → WritesSome (MeansResult M N y) n (outcome s t) old new
   writes_success x flag old mid new here is e w =
       rw here
       (writes_whole n n success s (outcome s t) (M x) (MeansResult M N (Ok x)) (λ m is. means-ok x m is) (bool_form true) old mid new (λ m b k f. ok-form _ s t m b k f) (rw is at e) w)
 
-  pub writes_failure : (x : X) (flag : Bool) (old mid new : Out) → y ≡ Err x → flag ≡ false → mid ≡ added old (bool_form flag) [] → WritesSome (N x) n t mid new → WritesSome (MeansResult M N y) n (outcome s t) old new
+  pub writes_failure : (x : X) (flag : Bool) (old mid new : Out) → y ≡ Err x → flag ≡ false → mid ≡ added old (bool_form flag) [] → WritesSome (N x) n t mid new
+      → WritesSome (MeansResult M N y) n (outcome s t) old new
   writes_failure x flag old mid new here is e w =
       rw here
       (writes_whole n n failure t (outcome s t) (N x) (MeansResult M N (Err x)) (λ m is. means-err x m is) (bool_form false) old mid new (λ m b k f. err-form _ s t m b k f) (rw is at e) w)

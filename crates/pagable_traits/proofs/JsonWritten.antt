@@ -206,10 +206,12 @@ module _ {X : Type 0} (M : X → Meaning ArcRef → Type 0) (has : (x : X) → S
     deep = λ n e le. λ fault. let each = items_have_meanings M has ys in record { m = variant case (sequence each.0); is = is _ (record { ms = each.0; each = each.1; is = refl }); no_form = deep n _ le };
   }
     where
-      refuses : (n : Nesting) (e : Error) → ((n : Nesting) (m : Meaning ArcRef) → NoForm (deeper n) whole m → NoForm n json (variant case m)) → Refused (MeansList M ys) (deeper n) whole e → Refused (Is of_data d) n json e
+      refuses : (n : Nesting) (e : Error) → ((n : Nesting) (m : Meaning ArcRef) → NoForm (deeper n) whole m → NoForm n json (variant case m)) → Refused (MeansList M ys) (deeper n) whole e
+          → Refused (Is of_data d) n json e
       refuses n e lack h = refuses_whole n (deeper n) (λ m. variant case m) whole json (MeansList M ys) (Is of_data d) is e (lack n) h
 
-      longer : (n : Nesting) (e : Error) → ((n : Nesting) (m : Meaning ArcRef) → NoForm (deeper n) whole m → NoForm n json (variant case m)) → Wraps M ys (MeansList M ys) (deeper n) whole item → long_or_no_memory count e → Refused (Is of_data d) n json e
+      longer : (n : Nesting) (e : Error) → ((n : Nesting) (m : Meaning ArcRef) → NoForm (deeper n) whole m → NoForm n json (variant case m)) → Wraps M ys (MeansList M ys) (deeper n) whole item
+          → long_or_no_memory count e → Refused (Is of_data d) n json e
       longer n e lack wraps (inl h) = refuses n e lack (refuses-long wraps has count counted e h.0)
       longer n e lack wraps (inr h) = memory_refuses e _ n json h
 
@@ -218,7 +220,8 @@ arrays vs count counted =
     holds-below (Is of_value) value-has vs 4 count (list json) json (array (items_view vs)) (items-are vs) refl counted (λ n. wraps_list (Is of_value) vs n json)
     (λ n lt m b k f. array-up n lt f) no-array no-deep-array
 
-pub objects : (es : List (String Global × Value)) (count : ℕ) → count ≡ length es → IsStrictlySortedBy string_cmp (keys_of es) → HoldsBelow 5 count (all (MeanAll (MeansPair (Is of_key) (Is of_value)) es) (both text json)) (object (members_view es))
+pub objects : (es : List (String Global × Value)) (count : ℕ) → count ≡ length es → IsStrictlySortedBy string_cmp (keys_of es)
+    → HoldsBelow 5 count (all (MeanAll (MeansPair (Is of_key) (Is of_value)) es) (both text json)) (object (members_view es))
 objects es count counted sorted =
     holds-below (MeansPair (Is of_key) (Is of_value)) member-has es 5 count (sorted_map text_order text json) (both text json) (object (members_view es)) (members-are es) refl counted
     (λ n. wraps_sorted_map (Is of_key) (Is of_value) string_cmp text_order keys-in-order es n text json sorted) (λ n lt m b k f. object-up n lt f) no-object no-deep-object

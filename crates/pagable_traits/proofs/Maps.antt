@@ -177,7 +177,8 @@ module _ {K V : Type 0} (M : K → Meaning ArcRef → Type 0) (N : V → Meaning
   put-all-alike acc _ ds _ so_far h = absurd h
 
   -- what was put in entry by entry
-  pub map-put : (now : List (K × V)) (es : List (Entry ArcRef)) → Collected (MeansPair M N) (λ ys x zs. zs ≡ put ys x) now (map entry es) → MeansList (MeansPair M N) now (of_entries (put_all put' [] es))
+  pub map-put : (now : List (K × V)) (es : List (Entry ArcRef)) → Collected (MeansPair M N) (λ ys x zs. zs ≡ put ys x) now (map entry es)
+      → MeansList (MeansPair M N) now (of_entries (put_all put' [] es))
   unfolding EntriesMean
   map-put now es c =
       let all = put-all-alike [] c.xs [] es tt (entries-mean M N es c.each) in
@@ -197,7 +198,8 @@ pub record IsOrderOf {K : Type 0} (M : K → Meaning ArcRef → Type 0) (cmp : K
   pub agrees : (x y : K) (m n : Meaning ArcRef) → M x m → M y n → cmp x y ≡ ordered order m n
   pub antisymm : (x y : K) → cmp x y ≡ ordering_reverse (cmp y x)
 
-pub key_order : {K : Type 0} (M : K → Meaning ArcRef → Type 0) (meaning : K → Meaning ArcRef) → ((x : K) (m : Meaning ArcRef) → M x m → m ≡ meaning x) → (cmp : K → K → Ordering) (order : KeyOrder) → ((x y : K) → cmp x y ≡ ordered order (meaning x) (meaning y)) → IsTotalOrder cmp → IsOrderOf M cmp order
+pub key_order : {K : Type 0} (M : K → Meaning ArcRef → Type 0) (meaning : K → Meaning ArcRef) → ((x : K) (m : Meaning ArcRef) → M x m → m ≡ meaning x) → (cmp : K → K → Ordering) (order : KeyOrder)
+    → ((x y : K) → cmp x y ≡ ordered order (meaning x) (meaning y)) → IsTotalOrder cmp → IsOrderOf M cmp order
 key_order M meaning single cmp order is total = record { agrees = λ x y m n first second. rw (single x m first, single y n second) (is x y); antisymm = total.antisymm }
 
 put-in-order : {K V : Type 0} (M : K → Meaning ArcRef → Type 0) (N : V → Meaning ArcRef → Type 0) (cmp : K → K → Ordering) (order : KeyOrder) → IsOrderOf M cmp order → (xs : List (K × V)) (es : List (Entry ArcRef)) (x : K × V) (e : Entry ArcRef)
@@ -226,7 +228,8 @@ wraps_sorted_map M N cmp order is xs n s t sorted = wraps-sequence (MeansPair M 
     let w = entries-written M N each f in
     rw (w.is, length-map w.es entry) (sorted-map-form _ order s t w.es b k (rw (← w.long) le) (ascends M N cmp order is xs w.es w.mean sorted) w.form))
 
-pub sorted-map-put : {K V : Type 0} (M : K → Meaning ArcRef → Type 0) (N : V → Meaning ArcRef → Type 0) (cmp : K → K → Ordering) (order : KeyOrder) → IsOrderOf M cmp order → (now : List (K × V)) (es : List (Entry ArcRef))
+pub sorted-map-put : {K V : Type 0} (M : K → Meaning ArcRef → Type 0) (N : V → Meaning ArcRef → Type 0) (cmp : K → K → Ordering) (order : KeyOrder) → IsOrderOf M cmp order
+    → (now : List (K × V)) (es : List (Entry ArcRef))
     → Collected (MeansPair M N) (λ ys x zs. zs ≡ insert_entry cmp ys x.0 x.1) now (map entry es) → MeansList (MeansPair M N) now (of_entries (put_all (put_sorted order) [] es))
 sorted-map-put M N cmp order is now es c = map-put M N (λ ys x. insert_entry cmp ys x.0 x.1) (put_sorted order) (put-in-order M N cmp order is) now es c
 

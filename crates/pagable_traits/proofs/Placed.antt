@@ -18,7 +18,8 @@ pub record IsSameOf {K : Type 0} (M : K → Meaning ArcRef → Type 0) (eq : K �
   pub agrees : (x y : K) (m n : Meaning ArcRef) → M x m → M y n → eq x y ≡ same_key m n
   pub symm : (x y : K) → eq x y ≡ eq y x
 
-pub key_same : {K : Type 0} (M : K → Meaning ArcRef → Type 0) (meaning : K → Meaning ArcRef) → ((x : K) (m : Meaning ArcRef) → M x m → m ≡ meaning x) → (eq : K → K → Bool) → ((x y : K) → eq x y ≡ same_key (meaning x) (meaning y)) → IsEquivalence eq → IsSameOf M eq
+pub key_same : {K : Type 0} (M : K → Meaning ArcRef → Type 0) (meaning : K → Meaning ArcRef) → ((x : K) (m : Meaning ArcRef) → M x m → m ≡ meaning x) → (eq : K → K → Bool)
+    → ((x y : K) → eq x y ≡ same_key (meaning x) (meaning y)) → IsEquivalence eq → IsSameOf M eq
 key_same M meaning single eq is laws = record { agrees = λ x y m n first second. rw (single x m first, single y n second) (is x y); symm = laws.symm }
 
 put-in-place : {K V : Type 0} (M : K → Meaning ArcRef → Type 0) (N : V → Meaning ArcRef → Type 0) (eq : K → K → Bool) → IsSameOf M eq → (xs : List (K × V)) (es : List (Entry ArcRef)) (x : K × V) (e : Entry ArcRef) → EntriesMean M N xs es → M x.0 e.0 → N x.1 e.1

@@ -16,18 +16,22 @@ module _ {T : Type 0} (M : T → Meaning ArcRef → Type 0) (xs : List T) (n : N
     wrote = record { bytes = v.wrote.bytes; refs = v.wrote.refs; form = join _ _ _ (mean-length v.is) v.wrote.form; grown = v.wrote.grown };
   }
 
-  refused-row : {Z : Type 0} (r : Result Z Error) → ((ms : List (Meaning ArcRef)) (b : List ℕ) (k : List ArcRef) → FormAt n whole (sequence ms) b k → FormsAt n s ms b k) → IfErr r (RefusedAll (MeanAll M xs) n s) → IfErr r (Refused (MeansList M xs) n whole)
+  refused-row : {Z : Type 0} (r : Result Z Error) → ((ms : List (Meaning ArcRef)) (b : List ℕ) (k : List ArcRef) → FormAt n whole (sequence ms) b k → FormsAt n s ms b k)
+      → IfErr r (RefusedAll (MeanAll M xs) n s) → IfErr r (Refused (MeansList M xs) n whole)
   refused-row r parts h = err_along r h (λ e k fault. let no = k fault in record { m = sequence no.ms; is = record { ms = no.ms; each = no.is; is = refl }; no_form = λ b k f. no.no_forms b k (parts _ b k f) })
 
 -- ---- arrays
 
-array-parts : (n : Nesting) {count : ℕ} {s : Shape} {m : Meaning ArcRef} {b : List ℕ} {k : List ArcRef} (ms : List (Meaning ArcRef)) → FormAt n (array count s) m b k → m ≡ sequence ms → FormsAt n s ms b k
+array-parts : (n : Nesting) {count : ℕ} {s : Shape} {m : Meaning ArcRef} {b : List ℕ} {k : List ArcRef} (ms : List (Meaning ArcRef)) → FormAt n (array count s) m b k → m ≡ sequence ms
+    → FormsAt n s ms b k
 array-parts n ms (array-form l count s' xs b' k' le f) e = let Q : List (Meaning ArcRef) → Type 0 = λ x. FormsAt n s' x b' k' in subst Q (sequence-same xs ms e) f
 
-pub writes_array : {T : Type 0} (M : T → Meaning ArcRef → Type 0) (xs : List T) (count : ℕ) (n : Nesting) (s : Shape) (old new : Out) → length xs ≡ count → WritesSomeAll (MeanAll M xs) n s old new → WritesSome (MeansList M xs) n (array count s) old new
+pub writes_array : {T : Type 0} (M : T → Meaning ArcRef → Type 0) (xs : List T) (count : ℕ) (n : Nesting) (s : Shape) (old new : Out) → length xs ≡ count → WritesSomeAll (MeanAll M xs) n s old new
+    → WritesSome (MeansList M xs) n (array count s) old new
 writes_array M xs count n s old new e v = writes-row M xs n (array count s) s old new (λ ms b k same f. array-form _ count s ms b k (same ∙ e) f) v
 
-pub refused_array : {Z T : Type 0} (r : Result Z Error) (M : T → Meaning ArcRef → Type 0) (xs : List T) (count : ℕ) (n : Nesting) (s : Shape) → IfErr r (RefusedAll (MeanAll M xs) n s) → IfErr r (Refused (MeansList M xs) n (array count s))
+pub refused_array : {Z T : Type 0} (r : Result Z Error) (M : T → Meaning ArcRef → Type 0) (xs : List T) (count : ℕ) (n : Nesting) (s : Shape) → IfErr r (RefusedAll (MeanAll M xs) n s)
+    → IfErr r (Refused (MeansList M xs) n (array count s))
 refused_array r M xs count n s h = refused-row M xs n (array count s) s r (λ ms b k f. array-parts n ms f refl) h
 
 -- ---- runs
@@ -40,7 +44,8 @@ run-parts n {s} {m} {b} {k} ms (run-form l s' xs b' k' le f) e =
     let P : List (Meaning ArcRef) → Type 0 = λ x. (length x ≤ longest) × FormsAt n s' x b' k' in
     subst P (sequence-same xs ms e) (le, f)
 
-pub refused_run : {Z T : Type 0} (r : Result Z Error) (M : T → Meaning ArcRef → Type 0) (xs : List T) (n : Nesting) (s : Shape) → IfErr r (RefusedAll (MeanAll M xs) n s) → IfErr r (Refused (MeansList M xs) n (run s))
+pub refused_run : {Z T : Type 0} (r : Result Z Error) (M : T → Meaning ArcRef → Type 0) (xs : List T) (n : Nesting) (s : Shape) → IfErr r (RefusedAll (MeanAll M xs) n s)
+    → IfErr r (Refused (MeansList M xs) n (run s))
 refused_run r M xs n s h = refused-row M xs n (run s) s r (λ ms b k f. (run-parts n ms f refl).1) h
 
 -- a run that is too long has no form

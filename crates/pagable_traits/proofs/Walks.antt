@@ -55,7 +55,8 @@ pub refuses-among : {T : Type 0} (M : T → Meaning ArcRef → Type 0) (has : (x
 refuses-among M has front x rest n s e h = λ fault. lacks-among M has front x rest n s (h fault)
 
 -- an item of a list, by its place
-pub refuses_item : {T : Type 0} (M : T → Meaning ArcRef → Type 0) (has : (x : T) → SomeMeaning (M x)) (xs : List T) (i : ℕ) (x : T) (n : Nesting) (s : Shape) (e : Error) → i < length xs → x ≡ get_or xs i x
+pub refuses_item : {T : Type 0} (M : T → Meaning ArcRef → Type 0) (has : (x : T) → SomeMeaning (M x)) (xs : List T) (i : ℕ) (x : T) (n : Nesting) (s : Shape) (e : Error) → i < length xs
+    → x ≡ get_or xs i x
     → Refused (M x) n s e → RefusedAll (MeanAll M xs) n s e
 refuses_item {T} M has xs i x n s e lt is h =
     let P : List T → Type 0 = λ ys. RefusedAll (MeanAll M ys) n s e in
@@ -116,7 +117,8 @@ written_counted (Ok y) {n = n} {item = item} count old new shows wraps all w =
     writes-counted wraps old (added old (length_form count) []) new count all refl w.within (each-written shows n item (added old (length_form count) []) new w.each)
 written_counted (Err e) count old new shows wraps all w = tt
 
-pub refuses-long : {X : Type 0} {N : X → Meaning ArcRef → Type 0} {ys : List X} {Whole : Meaning ArcRef → Type 0} {n : Nesting} {whole item : Shape} → Wraps N ys Whole n whole item → ((y : X) → SomeMeaning (N y))
+pub refuses-long : {X : Type 0} {N : X → Meaning ArcRef → Type 0} {ys : List X} {Whole : Meaning ArcRef → Type 0} {n : Nesting} {whole item : Shape} → Wraps N ys Whole n whole item
+    → ((y : X) → SomeMeaning (N y))
     → (count : ℕ) → count ≡ length ys → (e : Error) → longest < count → Refused Whole n whole e
 refuses-long {N = N} {ys = ys} wraps has count all e more = λ fault.
     let each = items_have_meanings N has ys in
