@@ -1,10 +1,9 @@
 -- Values in a registry, by their index.
-use Rattle.std.proofs.Common.{◌≡◌, ℕ, zero, suc, ◌+◌, ◌<◌, ◌≤◌, Bool, false, List, [], ◌∷◌, ◌++◌, length, get_or, map, Some, Ok, Err, refl, sym, subst, ◌∙◌, arith, inl, inr}
-use Rattle.std.proofs.{lemmas.List.take_more, lemmas.List.map-append, lemmas.List.length-map, lemmas.Bool.cases_lt, lemmas.Option.slice_get_read, lemmas.Option.get_or_from_slice_get}
-use Rattle.std.specs.{Prelude.IsTrue, Prelude.◌⊎◌, Prelude.take, Int.w32, List.slice_get}
-use Rattle.pagable_model.specs.Reading.{registered}
-use Rattle.pagable_model.specs.{declared.numbers.ArcRef.ArcRef, Numbers.bound, Numbers.unsigned_form, Meaning.Meaning, Meaning.lifted}
-use Rattle.pagable_model.specs.{Shape.static_value, Form.static-form, Standing.Is, Writing.Out, Writing.Nesting, Writing.WritesSome, Statics.HasEqual, Statics.NoEqualBelow}
+use Rattle.std.proofs.{Common.{◌≡◌, ℕ, zero, suc, ◌+◌, ◌<◌, ◌≤◌, Bool, false, List, [], ◌∷◌, ◌++◌, length, get_or, map, Some, Ok, Err, refl, sym, subst, ◌∙◌, arith, inl, inr}, lemmas.List.take_more}
+use Rattle.std.{proofs.{lemmas.List.{map-append, length-map}, lemmas.Bool.cases_lt, lemmas.Option.{slice_get_read, get_or_from_slice_get}}, specs.{Prelude.{IsTrue, ◌⊎◌, take}, Int.w32}}
+use Rattle.std.specs.List.{slice_get}
+use Rattle.pagable_model.specs.{Reading.registered, declared.numbers.ArcRef.ArcRef, Numbers.{bound, unsigned_form}, Meaning.{Meaning, lifted}, Shape.static_value, Form.static-form, Standing.Is}
+use Rattle.pagable_model.specs.{Writing.{Out, Nesting, WritesSome}, Statics.{HasEqual, NoEqualBelow}}
 use Rattle.pagable_codec.proofs.Writing.{writes_bytes}
 use Rattle.pagable_model.specs.declared.error.Error.TheVariants as errors
 

@@ -6,9 +6,9 @@ use Rattle.pagable_model.specs.{declared.error.Error.Error, declared.numbers.Arc
 use Rattle.pagable_model.specs.{Canonical.Throughout, Gives.{Gives, memory, memory_or}, Reading.{Rest, Context, read, read_with, bytes_of}, Carried.{of_tagged, is_registered, body_of, tagged_by}}
 use Rattle.pagable_model.specs.{Meaning.Meaning, Shape.{Shape, tagged, cases}, Form.tagged-form, Standing.{Answer, SomeMeaning, Gave, GivesSome, MovesOn}, Writing.{Out, Nesting, FormAt, WritesSome, NoForm, Refused}}
 use Rattle.pagable_model.specs.{Writing.added, Lengths.long_or_memory, Tagged.{MeansTagged, IsLastFor, NoneFor, grammars, HasDistinctTags, ReadsWhatIsWritten}}
-use Rattle.pagable_codec.proofs.Writing.{then, memory_refuses}
+use Rattle.pagable_codec.proofs.{Reading.moves_trans, Writing.{then, memory_refuses}}
 use Rattle.pagable_codec.specs.{declared.env.Env.Ghosts as Environments, declared.deserializer.PagableDeserializer.Ghosts as Deserializers}
-use Rattle.pagable_traits.{proofs.InTurn.{Tells, tells, then-tells}, specs.JsonSteps.context_in}
+use Rattle.pagable_traits.{proofs.Parts.{ok_along, err_along}, specs.{JsonSteps.context_in, Meanings.Meanings}}
 use Rattle.pagable_model.specs.declared.error.Error.TheVariants as errors
 
 -- ---- writing
@@ -42,18 +42,21 @@ no-body n written known body tag x h b k f = let p = (tagged-parts n written kno
 no-tag : (n : Nesting) (written : List ℕ → Shape) (known : List ℕ → Bool) (body : List ℕ → Shape) (tag : List ℕ) (x : Meaning ArcRef) → longest < length tag → NoForm n (tagged written known body) (of_tagged tag x)
 no-tag n written known body tag x lt b k f = omega (arith, lt, (tagged-parts n written known body tag x f refl).0)
 
-pub refused_body : {X : Type 0} (r : Result X Error) (M : Meaning ArcRef → Type 0) (tag : List ℕ) (n : Nesting) (written : List ℕ → Shape) (known : List ℕ → Bool) (body : List ℕ → Shape) → IfErr r (Refused M n (written tag)) → IfErr r (Refused (MeansTagged tag M) n (tagged written known body))
-refused_body (Ok x) M tag n written known body h = tt
-refused_body (Err e) M tag n written known body h = λ fault.
-    let no = h fault in record { m = of_tagged tag no.m; is = record { body = no.m; is_body = no.is; is = refl }; no_form = no-body n written known body tag no.m no.no_form }
+pub refused_body : {Z : Type 0} (r : Result Z Error) (M : Meaning ArcRef → Type 0) (tag : List ℕ) (n : Nesting) (written : List ℕ → Shape) (known : List ℕ → Bool) (body : List ℕ → Shape)
+    → IfErr r (Refused M n (written tag)) → IfErr r (Refused (MeansTagged tag M) n (tagged written known body))
+refused_body r M tag n written known body h = err_along r h (λ e k fault.
+    let no = k fault in record { m = of_tagged tag no.m; is = record { body = no.m; is_body = no.is; is = refl }; no_form = no-body n written known body tag no.m no.no_form })
 
-refuses-tag : (M : Meaning ArcRef → Type 0) (has : SomeMeaning M) (tag : List ℕ) (n : Nesting) (written : List ℕ → Shape) (known : List ℕ → Bool) (body : List ℕ → Shape) (e : Error) → long_or_memory (length tag) e → Refused (MeansTagged tag M) n (tagged written known body) e
-refuses-tag M has tag n written known body e (inl h) = λ fault. record { m = of_tagged tag has.0; is = record { body = has.0; is_body = has.1; is = refl }; no_form = no-tag n written known body tag has.0 h.0 }
-refuses-tag M has tag n written known body e (inr h) = memory_refuses e (MeansTagged tag M) n (tagged written known body) h.1
+refuses-tag : {T : Type 0} (M : Meanings T) (x : T) (tag : List ℕ) (n : Nesting) (written : List ℕ → Shape) (known : List ℕ → Bool) (body : List ℕ → Shape) (e : Error)
+    → long_or_memory (length tag) e → Refused (MeansTagged tag (M.of x)) n (tagged written known body) e
+refuses-tag M x tag n written known body e (inl h) = λ fault. record { m = of_tagged tag (M.meaning x); is = record { body = M.meaning x; is_body = M.is x; is = refl }; no_form = no-tag n written known body tag (M.meaning x) h.0 }
+refuses-tag M x tag n written known body e (inr h) = memory_refuses e (MeansTagged tag (M.of x)) n (tagged written known body) h.1
 
-pub refused_tag : {X : Type 0} (r : Result X Error) (M : Meaning ArcRef → Type 0) (has : SomeMeaning M) (tag : List ℕ) (n : Nesting) (written : List ℕ → Shape) (known : List ℕ → Bool) (body : List ℕ → Shape) → IfErr r (long_or_memory (length tag)) → IfErr r (Refused (MeansTagged tag M) n (tagged written known body))
-refused_tag (Ok x) M has tag n written known body h = tt
-refused_tag (Err e) M has tag n written known body h = refuses-tag M has tag n written known body e h
+pub refused_tag : {Z T : Type 0} (r : Result Z Error) (M : Meanings T) (x : T) (tag : List ℕ) (n : Nesting) (written : List ℕ → Shape) (known : List ℕ → Bool) (body : List ℕ → Shape)
+    → IfErr r (long_or_memory (length tag)) → IfErr r (Refused (MeansTagged tag (M.of x)) n (tagged written known body))
+refused_tag r M x tag n written known body h = err_along r h (λ e k. refuses-tag M x tag n written known body e k)
+
+pub ruleset writes = (ok_along, writes_tagged, refused_body)
 
 -- ---- the last registration of a tag
 
@@ -147,30 +150,39 @@ text_is_read bytes_in (Ok x) rest last bytes after e f h = rw (f, e, h) refl
 text_is_read bytes_in (Err x) rest last bytes after e f (inl h) = inl (rw (e, h) refl)
 text_is_read bytes_in (Err x) rest last bytes after e f (inr h) = inr h
 
+module _ {D E R N H K V : Type 0} (d : Deserializers D E R N H K V) where
+  -- what a reader of a part or of the whole owes
+  abbrev pub Tells : Type 0 → D → D → Type 0
+  Tells gives old new = record { gives : gives; moves : MovesOn (d.standing old) (d.standing new); same_env : d.environment new ≡ d.environment old; same_levels : d.levels new ≡ d.levels old }
+
+  tells : {P Q : Type 0} {a b : D} → Tells P a b → Q → Tells Q a b
+  tells t gives = record { gives = gives; moves = t.moves; same_env = t.same_env; same_levels = t.same_levels }
+
+  -- what follows a part that was read
+  then-tells : {P Q : Type 0} {a b c : D} → MovesOn (d.standing a) (d.standing b) → d.environment b ≡ d.environment a → d.levels b ≡ d.levels a → Tells P b c → (P → Q) → Tells Q a c
+  then-tells moves same_env same_levels told f = record { gives = f told.gives; moves = moves_trans _ _ _ moves told.moves; same_env = told.same_env ∙ same_env; same_levels = told.same_levels ∙ same_levels }
+
 module _ {D E R N H K V T F : Type 0} (env : Environments E N H K V) (d : Deserializers D E R N H K V) (own : Error → Type 0) (tag_of : T → List ℕ) (M : T → Meaning ArcRef → Type 0) (grammar : F → E → Shape) where
   -- what a reader of a tagged value owes
   abbrev pub TellsTagged : List (List ℕ × F) → D → D → Result T Error → Type 0
-  TellsTagged readers a b r = Tells env d ((written : List ℕ → Shape) → GivesSome (memory_or own) (λ x. MeansTagged (tag_of x) (M x)) (d.rest b) r (read (context_in env d a) (tagged_by written (grammars grammar (d.environment a) readers)) (d.rest a))) a b
-
-  -- the tag is refused
-  pub no_tag_read : {a b : D} {e : Error} (readers : List (List ℕ × F)) (r : Result T Error) → IsErrAnd r (λ f. f ≡ e) → Tells env d ((bytes_of text_at (λ t. t) (d.rest a) ≡ Err e) ⊎ memory e) a b → TellsTagged readers a b r
-  unfolding read read_with
-  no_tag_read readers r is told = let q = err_from_is_err_and r is in rw (q.1, q.2) (tells env d told (λ written. elim told.gives [ inl h ↦ inl (rw h refl) | inr h ↦ inr (inl h) ]))
+  TellsTagged readers a b r = Tells d ((written : List ℕ → Shape) → GivesSome (memory_or own) (λ x. MeansTagged (tag_of x) (M x)) (d.rest b) r (read (context_in env d a) (tagged_by written (grammars grammar (d.environment a) readers)) (d.rest a))) a b
 
   -- no reader is registered
-  pub unknown_read : {a b : D} {tag : List ℕ} (readers known : List (List ℕ × F)) (named : List ℕ) → Tells env d (bytes_of text_at (λ t. t) (d.rest a) ≡ Ok (tag, d.rest b)) a b → named ≡ tag → known ≡ readers → NoneFor named known → TellsTagged readers a b (Err errors.UnknownTag)
+  pub unknown_read : {a b : D} {tag : List ℕ} (readers known : List (List ℕ × F)) (named : List ℕ) → Tells d (bytes_of text_at (λ t. t) (d.rest a) ≡ Ok (tag, d.rest b)) a b → named ≡ tag
+      → known ≡ readers → NoneFor named known → TellsTagged readers a b (Err errors.UnknownTag)
   unknown_read {a} {b} {tag} readers known named told same all none =
-      tells env d told (λ written. inl (read-unknown _ written grammar (d.environment a) readers tag _ _ told.gives (rw (same, all) at none)))
+      tells d told (λ written. inl (read-unknown _ written grammar (d.environment a) readers tag _ _ told.gives (rw (same, all) at none)))
 
   -- what the reader of a body tells, after the tag
   abbrev pub TellsBody : (gives of_tag : Type 0) → D → D → Type 0
   TellsBody gives of_tag old new = record { gives : gives; of_tag : of_tag; moves : MovesOn (d.standing old) (d.standing new); same_env : d.environment new ≡ d.environment old; same_levels : d.levels new ≡ d.levels old }
 
-  after-tag : {P Q X Y : Type 0} {a b c : D} → Tells env d P a b → TellsBody X Y b c → (X → Q) → Tells env d Q a c
-  after-tag first told f = then-tells env d first.moves first.same_env first.same_levels (record { gives = told.gives; moves = told.moves; same_env = told.same_env; same_levels = told.same_levels }) f
+  after-tag : {P Q X Y : Type 0} {a b c : D} → Tells d P a b → TellsBody X Y b c → (X → Q) → Tells d Q a c
+  after-tag first told f = then-tells d first.moves first.same_env first.same_levels (record { gives = told.gives; moves = told.moves; same_env = told.same_env; same_levels = told.same_levels }) f
 
   -- the body is refused
-  pub no_body_read : {Y : Type 0} {a b c : D} {tag : List ℕ} {e : Error} (readers known : List (List ℕ × F)) (named : List ℕ) (f : F) (r : Result T Error) → IsErrAnd r (λ x. x ≡ e) → Tells env d (bytes_of text_at (λ t. t) (d.rest a) ≡ Ok (tag, d.rest b)) a b → named ≡ tag → known ≡ readers → IsLastFor named known f
+  pub no_body_read : {Y : Type 0} {a b c : D} {tag : List ℕ} {e : Error} (readers known : List (List ℕ × F)) (named : List ℕ) (f : F) (r : Result T Error) → IsErrAnd r (λ x. x ≡ e)
+      → Tells d (bytes_of text_at (λ t. t) (d.rest a) ≡ Ok (tag, d.rest b)) a b → named ≡ tag → known ≡ readers → IsLastFor named known f
       → TellsBody ((read (context_in env d b) (grammar f (d.environment b)) (d.rest b) ≡ Err e) ⊎ own e) Y b c → TellsTagged readers a c r
   no_body_read {a = a} {tag = tag} readers known named f r is first same all last told =
       let q = err_from_is_err_and r is in
@@ -183,7 +195,8 @@ module _ {D E R N H K V T F : Type 0} (env : Environments E N H K V) (d : Deseri
       ]))
 
   -- the body is read
-  pub tagged_read : {a b c : D} {tag : List ℕ} (readers known : List (List ℕ × F)) (named its : List ℕ) (f : F) (x : T) → Tells env d (bytes_of text_at (λ t. t) (d.rest a) ≡ Ok (tag, d.rest b)) a b → named ≡ tag → known ≡ readers → IsLastFor named known f → its ≡ named
+  pub tagged_read : {a b c : D} {tag : List ℕ} (readers known : List (List ℕ × F)) (named its : List ℕ) (f : F) (x : T) → Tells d (bytes_of text_at (λ t. t) (d.rest a) ≡ Ok (tag, d.rest b)) a b
+      → named ≡ tag → known ≡ readers → IsLastFor named known f → its ≡ named
       → TellsBody (Gave (M x) (d.rest c) (read (context_in env d b) (grammar f (d.environment b)) (d.rest b))) (tag_of x ≡ its) b c → TellsTagged readers a c (Ok x)
   tagged_read {a} {b} {c} {tag} readers known named its f x first same all last its_own told =
       let known_last = rw (same, all) at last in

@@ -43,7 +43,7 @@ pub trait PagableTagged<E: Env>: Sized {
         ensures same_levels { S.levels serializer.new ≡ S.levels serializer.old };
 
     /// Writes the tag and then the body, whichever tags are registered. TooLong for a tag above 4,294,967,295 bytes.
-    #[tactic(auto, using(pagable_traits::proofs::InTurn::writes, pagable_traits::proofs::Parts::only_parts, pagable_codec::proofs::Writing::grows_trans))]
+    #[tactic(auto, using(pagable_traits::proofs::InTurn::writes, pagable_traits::proofs::Parts::only_parts, pagable_codec::proofs::Writing::grows_trans, crate::proofs::Tagged::writes))]
     final fn serialize_tagged<S: PagableSerializer<E>>(
         &self,
         serializer: &mut S,
@@ -160,6 +160,7 @@ impl<T, F: ForTag> TypetagRegistry<T, F> {
     /// Reads a tag, and then the body by the reader that was registered last for the tag: UnknownTag where none was.
     /// The value that it gives has the tag that was read. This is for a registry at hand; `deserialize_tagged` finds the
     /// environment's own.
+    #[tactic(auto, unfolding(pagable_model::specs::Reading::read, pagable_model::specs::Reading::read_with), using(pagable_codec::proofs::Reading::parts))]
     pub fn deserialize_tagged<E: Env, D: PagableDeserializer<E>>(
         &self,
         alloc: Global,
@@ -244,6 +245,7 @@ fn registered_reader<E: Env, T: HasTypetagRegistry<E>>(tag: &str, env: &E) -> Op
 
 /// Reads a tag, and then the body by the reader that the environment's registry has for the tag, the last one that was
 /// registered: UnknownTag where none was. The value that it gives has the tag that was read.
+#[tactic(auto, unfolding(pagable_model::specs::Reading::read, pagable_model::specs::Reading::read_with), using(pagable_codec::proofs::Reading::parts))]
 pub fn deserialize_tagged<E: Env, T: HasTypetagRegistry<E>, D: PagableDeserializer<E>>(
     alloc: Global,
     deserializer: &mut D,

@@ -1,8 +1,8 @@
 -- Items that are put in one after another as they are read.
-use Rattle.pagable_traits.proofs.Words.{◌≡◌, subst, List, [], ◌∷◌, ◌++◌, length, refl, sym, ap, ◌∙◌, append_assoc, ℕ, zero, suc, Result, Ok, Err, inl, inr, append-nil, ◌⊎◌, Error, ArcRef, ◌>>=◌}
-use Rattle.pagable_traits.proofs.Words.{length_at, never, Meaning, put_all, Shape, list, Rest, Gets, Context, items, bytes_of, counted, seen, read, read_with, GivesSome, MeanAll, mean-none}
-use Rattle.pagable_traits.proofs.{Items.mean-length, Items.mean_last, Words.MeansList, Words.PutInTurn, Words.Collected, Words.arith}
-use Rattle.std.specs.{Prelude.IfOk, Prelude.vec_len, declared.vec.Vec.Vec}
+use Rattle.pagable_traits.proofs.Words.{◌≡◌, subst, List, [], ◌∷◌, ◌++◌, length, refl, sym, ap, ◌∙◌, append_assoc, ℕ, zero, suc, Result, Ok, Err, inl, inr, append-nil, Error, ArcRef, ◌>>=◌, Meaning}
+use Rattle.pagable_traits.proofs.Words.{put_all, Shape, list, Rest, Gets, Context, items, counted, seen, read, read_with, GivesSome, MeanAll, mean-none, MeansList, PutInTurn, Collected, arith}
+use Rattle.pagable_traits.proofs.Items.{mean-length, mean_last}
+use Rattle.std.specs.{Prelude.{IfOk, vec_len}, declared.vec.Vec.Vec}
 
 pub collected_none : {T : Type 0} (M : T → Meaning ArcRef → Type 0) (puts : List T → T → List T → Type 0) (now : List T) → now ≡ [] → Collected M puts now []
 unfolding PutInTurn
@@ -37,18 +37,11 @@ pub gives_along : {X Y R : Type 0} (own : Error → Type 0) (P Q : X → Y → T
 gives_along own P Q last (Ok x) read f g = record { m = g.m; is = f x g.m g.is; gave = g.gave }
 gives_along own P Q last (Err e) read f h = h
 
-gives-seen : {X Y Z R : Type 0} (own : Error → Type 0) (P : X → Y → Type 0) (Q : X → Z → Type 0) (view : Y → Z) (last : R) (r : Result X Error) (part : Result (Y × R) Error) → ((x : X) (y : Y) → P x y → Q x (view y)) → GivesSome own P last r part → GivesSome own Q last r (part >>= λ y. Ok (view y.0, y.1))
+pub gives-seen : {X Y Z R : Type 0} (own : Error → Type 0) (P : X → Y → Type 0) (Q : X → Z → Type 0) (view : Y → Z) (last : R) (r : Result X Error) (part : Result (Y × R) Error)
+    → ((x : X) (y : Y) → P x y → Q x (view y)) → GivesSome own P last r part → GivesSome own Q last r (part >>= λ y. Ok (view y.0, y.1))
 gives-seen own P Q view last (Ok x) part f g = record { m = view g.m; is = f x g.m g.is; gave = rw g.gave refl }
 gives-seen own P Q view last (Err e) part f (inl h) = inl (rw h refl)
 gives-seen own P Q view last (Err e) part f (inr h) = inr h
-
--- items after their count
-pub uncounted : {A X : Type 0} (own : Error → Type 0) (get : Gets A X) (rest : Rest A) (e : Error) → (bytes_of length_at (λ n. n) rest ≡ Err e) ⊎ never e → (counted get rest ≡ Err e) ⊎ own e
-uncounted own get rest e (inl h) = inl (rw h refl)
-uncounted own get rest e (inr h) = absurd h
-
-pub gives_counted : {X Y A : Type 0} (own : Error → Type 0) (P : X → List Y → Type 0) (r : Result X Error) (get : Gets A Y) (rest mid last : Rest A) (count : ℕ) → bytes_of length_at (λ n. n) rest ≡ Ok (count, mid) → GivesSome own P last r (items get count mid) → GivesSome own P last r (counted get rest)
-gives_counted own P r get rest mid last count e h = rw e h
 
 -- a whole whose items were counted
 pub reads_items : {X A : Type 0} (own : Error → Type 0) (P : X → List (Meaning ArcRef) → Type 0) (Q : X → Meaning ArcRef → Type 0) (view : List (Meaning ArcRef) → Meaning ArcRef) → ((x : X) (ms : List (Meaning ArcRef)) → P x ms → Q x (view ms)) → (r : Result X Error) (get : Gets A (Meaning ArcRef)) (rest last : Rest A)

@@ -1,11 +1,9 @@
 -- One step after another: what each of two functions that write or read owes, both owe.
 use Rattle.pagable_traits.proofs.Words.{◌≡◌, ℕ, ◌<◌, ◌≤◌, ◌+◌, ◌-◌, [], ◌∷◌, ◌++◌, List, arith, refl, ◌∙◌, Result, Ok, Err, inl, inr, err_from_is_err_and, OnOk, IfErr, ◌⊎◌, IsErrAnd, Error, ArcRef}
-use Rattle.pagable_traits.proofs.Words.{Extends, memory, memory_or, Meaning, Context, Gets, Rest, deepest, items, Shape, Answer, Gave, MovesOn, Out, Nesting, nesting, added, WritesSome, Refused}
-use Rattle.pagable_traits.{proofs.Words.{Grows, grows_bytes, grows_refl, grows_trans, moves_trans, Piece, bytes, Wrote, Reads, nested_in, context_in}, proofs.Items.{with_front, starts, goes_on}}
-use Rattle.pagable_traits.{proofs.Items.{ends, is_done}, proofs.Maps.viewed, specs.JsonSteps.value}
-use Rattle.pagable_codec.proofs.Adding.{added_bytes}
-use Rattle.pagable_codec.specs.{declared.env.Env.Ghosts as Environments, declared.serializer.PagableSerializer.Ghosts as Serializers}
-use Rattle.pagable_codec.specs.{declared.deserializer.PagableDeserializer.Ghosts as Deserializers}
+use Rattle.pagable_traits.proofs.Words.{memory, memory_or, Meaning, Context, Gets, Rest, deepest, items, Shape, Answer, MovesOn, Out, Nesting, nesting, WritesSome, Refused, Grows, grows_refl}
+use Rattle.pagable_traits.proofs.{Words.{grows_trans, moves_trans, Piece, Wrote, Reads, nested_in, context_in}, Items.{with_front, starts, goes_on, ends, is_done}, Maps.viewed}
+use Rattle.pagable_traits.specs.JsonSteps.{value}
+use Rattle.pagable_codec.specs.{declared.env.Env.Ghosts as Environments, declared.serializer.PagableSerializer.Ghosts as Serializers, declared.deserializer.PagableDeserializer.Ghosts as Deserializers}
 use Rattle.pagable_model.specs.declared.error.Error.TheVariants as errors
 
 -- one level further down, where a level is left
@@ -16,18 +14,7 @@ abbrev pub below : Piece → Piece
 below p = record { wrote = λ n old new. (n.levels < deepest) × p.wrote (deeper n) old new; lacks = λ n e. (n.levels < deepest) × p.lacks (deeper n) e }
 
 module _ {S E N H K V : Type 0} (env : Environments E N H K V) (s : Serializers S E N H K V) where
-  -- bytes that the lent writer added
-  pub lent-bytes : {X : Type 0} {old new : S} {given : List ℕ} {end b : List ℕ} (r : Result X Error) → given ≡ (s.out old).bytes → s.out new ≡ record (s.out old) { bytes = end } → OnOk r (end ≡ given ++ b) → IfErr r memory → Extends given end
-      → s.environment new ≡ s.environment old → s.levels new ≡ s.levels old → Wrote env s (bytes b) memory old new r
-  lent-bytes {X} {old} {new} {given} {end} {b} (Ok x) held is h only grown same_env same_levels = record { ok = is ∙ added_bytes (s.out old) end b (rw held at h); refused = tt; only = tt; err = rw is (grows_bytes (s.out old) end (rw held at grown)); same_env = same_env; same_levels = same_levels }
-  lent-bytes {X} {old} {new} {given} {end} (Err e) held is h only grown same_env same_levels = record { ok = tt; refused = tt; only = only; err = rw is (grows_bytes (s.out old) end (rw held at grown)); same_env = same_env; same_levels = same_levels }
-
-  -- bytes, and a value, as the functions write them that have these clauses
-  pub as-bytes : {X : Type 0} {old new : S} (b : List ℕ) (causes : Error → Type 0) (r : Result X Error) → OnOk r (s.out new ≡ added (s.out old) b []) → IfErr r causes → Grows (s.out old) (s.out new) → s.environment new ≡ s.environment old → s.levels new ≡ s.levels old
-      → Wrote env s (bytes b) causes old new r
-  as-bytes b causes (Ok x) ok only err same_env same_levels = record { ok = ok; refused = tt; only = tt; err = err; same_env = same_env; same_levels = same_levels }
-  as-bytes b causes (Err e) ok only err same_env same_levels = record { ok = tt; refused = tt; only = only; err = err; same_env = same_env; same_levels = same_levels }
-
+  -- a value, as the functions write it that have these clauses
   pub as-form : {X : Type 0} {old new : S} (M : Meaning ArcRef → Type 0) (shape : Shape) (causes : Error → Type 0) (r : Result X Error) → OnOk r (WritesSome M (nested_in env s old) shape (s.out old) (s.out new)) → IfErr r (Refused M (nested_in env s old) shape) → IfErr r causes → Grows (s.out old) (s.out new)
       → s.environment new ≡ s.environment old → s.levels new ≡ s.levels old → Wrote env s (value M shape) causes old new r
   as-form M shape causes r ok refused only err same_env same_levels = record { ok = ok; refused = refused; only = only; err = err; same_env = same_env; same_levels = same_levels }
@@ -71,20 +58,12 @@ module _ {S E N H K V : Type 0} (env : Environments E N H K V) (s : Serializers 
       → ((n : Nesting) → deepest ≤ n.levels → W.lacks n e) → (e ≡ errors.TooDeep → causes e) → Wrote env s W causes a c r
   wrote-deep r is p deep out_in env_in lacks only = grind arith
 
--- what is seen of a part is refused as the part is, and seen as it is, it is the part
-pub through : {X Y : Type 0} {whole : Result (Y × Rest Answer) Error} {part : Result (X × Rest Answer) Error} {e : Error} (view : X → Y) → whole ≡ viewed view part → part ≡ Err e → whole ≡ Err e
-through view same h = same ∙ rw h refl
-
+-- what is seen as it is
 pub seen-same : {X : Type 0} (r : Result (X × Rest Answer) Error) → r ≡ viewed (λ x. x) r
 seen-same (Ok x) = refl
 seen-same (Err e) = refl
 
 module _ {D E R N H K V : Type 0} (env : Environments E N H K V) (d : Deserializers D E R N H K V) where
-  -- what was read of a part, seen as the whole
-  pub read-as : {Y Z W : Type 0} {M : Y → Type 0} {a b : D} {part : Result (Y × Rest Answer) Error} (z : Z) (view : Y → W) {L : Z → W → Type 0} {whole : Context Answer ArcRef → Gets Answer W} → Gave M (d.rest b) part → MovesOn (d.standing a) (d.standing b) → d.environment b ≡ d.environment a → d.levels b ≡ d.levels a
-      → ((y : Y) → M y → L z (view y)) → whole (context_in env d a) (d.rest a) ≡ viewed view part → Reads env d L whole a b (let r : Result Z Error = Ok z in r)
-  read-as z view g moves same_env same_levels is same = record { gives = record { m = view g.m; is = is g.m g.is; gave = same ∙ rw g.gave refl }; moves = moves; same_env = same_env; same_levels = same_levels }
-
   -- a part was refused
   pub read-err : {Y Z W own : Type 0} {a b : D} {part : Result (Y × Rest Answer) Error} {e : Error} (r : Result Z Error) {L : Z → W → Type 0} {whole : Context Answer ArcRef → Gets Answer W} → IsErrAnd r (λ f. f ≡ e) → (part ≡ Err e) ⊎ own → MovesOn (d.standing a) (d.standing b)
       → d.environment b ≡ d.environment a → d.levels b ≡ d.levels a → (own → memory e) → (part ≡ Err e → whole (context_in env d a) (d.rest a) ≡ Err e) → Reads env d L whole a b r

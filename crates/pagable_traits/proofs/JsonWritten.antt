@@ -1,18 +1,18 @@
 -- What writing a JSON value adds: its case, and a form of its part; and which values have no form.
-use Rattle.pagable_traits.proofs.Words.{◌≡◌, ℕ, ◌-◌, ◌+◌, ◌<◌, ◌≤◌, ◌^◌, true, subst, List, [], ◌∷◌, ◌++◌, length, map, arith, rules, refl, sym, ap, ◌∙◌, Result, Ok, Err, Some, None, inl, inr}
-use Rattle.pagable_traits.proofs.Words.{String, Global, Vec, OnOk, IfErr, ℤ, pos, Bool, Option, IsErrAnd, w64, string_bytes, string_cmp, keys_of, IsStrictlySortedBy, as_i64, view, number_view, Value}
-use Rattle.pagable_traits.proofs.Words.{Error, ArcRef, longest, length_form, text_form, of_entries, memory, long_or, json_causes, text_order, long_or_memory, MeanAll, MeansList, MeansPair}
-use Rattle.pagable_traits.proofs.Words.{pair_has_meaning, Meaning, integer, pair, variant, sequence, none, deepest, Shape, json, list, both, sorted_map, signed, flag, text, list-form}
-use Rattle.pagable_traits.proofs.Words.{sorted-map-form, signed-form, flag-form, text-form, Is, SomeMeaning, Out, Nesting, FormAt, WritesSome, added, NoForm, Refused, Grows, then, memory_refuses}
-use Rattle.pagable_traits.proofs.{Words.{grows_trans, of_data, of_value, of_key, Piece, Wrote, bytes, all}, Maps.{IsOrderOf, key-order, sorted-map-splits, writes_sorted_map, refuse-count}}
-use Rattle.pagable_traits.proofs.{Maps.{refuses-items, Written}, Items.{writes_list, refused_items, refuses-count}, JsonSteps.{deeper, below, wrote-then, wrote-err}}
-use Rattle.std.{proofs.lemmas.Bool.lt-ltb, proofs.Common.BTreeMap, specs.Prelude.nat_lt, specs.String.string_cmp_total}
-use Rattle.serde_json.proofs.Views.{view-Array, view-Object}
-use Rattle.serde_json.specs.{Data.{Num, Data, null, boolean, number, string, array, object}, View.{items_view, members_view}, declared.value.Value.the_lemmas, declared.number.Number.Number}
+use Rattle.pagable_traits.proofs.Words.{◌≡◌, ℕ, ◌-◌, ◌+◌, ◌<◌, ◌≤◌, ◌^◌, true, subst, List, [], ◌∷◌, ◌++◌, length, map, arith, rules, refl, sym, ap, ◌∙◌, Result, Ok, Err, Some, None, inl, inr, String}
+use Rattle.pagable_traits.proofs.Words.{Global, Vec, OnOk, IfErr, ℤ, pos, Bool, Option, w64, string_bytes, string_cmp, keys_of, IsStrictlySortedBy, as_i64, view, number_view, Value, Error, ArcRef}
+use Rattle.pagable_traits.proofs.Words.{longest, length_form, text_form, of_entries, memory, long_or, json_causes, text_order, long_or_memory, MeanAll, MeansList, MeansPair, items_have_meanings}
+use Rattle.pagable_traits.proofs.Words.{pair_has_meaning, Meaning, integer, pair, variant, sequence, none, deepest, Shape, json, list, both, sorted_map, signed, flag, text, list-form, sorted-map-form}
+use Rattle.pagable_traits.proofs.Words.{signed-form, flag-form, text-form, Is, SomeMeaning, Out, Nesting, FormAt, WritesSome, added, NoForm, Refused, Grows, then, memory_refuses, grows_trans}
+use Rattle.pagable_traits.proofs.{Words.{grows_refl, refused_memory, to_z-of_z, bool_form, false, of_data, of_value, of_key, Piece, Wrote, bytes, all}, Maps.{IsOrderOf, key_order, wraps_sorted_map}}
+use Rattle.pagable_traits.proofs.{Maps.Written, Parts.{ok_along, err_along, writes_whole, refuses_whole}, Walks.{Wraps, wraps_list, writes-counted, refuses-long, refuses-items}, JsonSteps.deeper}
+use Rattle.pagable_traits.{proofs.JsonSteps.{below, wrote-err}, specs.{JsonData.{json_items, json_members, long_or_no_memory}, JsonSteps.{front, value as form}}}
+use Rattle.std.{proofs.{lemmas.Bool.lt-ltb, Common.BTreeMap}, specs.{Prelude.nat_lt, String.string_cmp_total}}
+use Rattle.serde_json.{proofs.Views.{view-Array, view-Object}, specs.{Data.{Num, Data, null, boolean, number, string, array, object}, View.{items_view, members_view}, declared.value.Value.the_lemmas}}
+use Rattle.serde_json.specs.declared.number.Number.{Number}
 use Rattle.pagable_model.specs.{Form.{json-null-form, json-flag-form, json-number-form, json-text-form, json-array-form, json-object-form}, Numbers.{unsigned_form, varint, IsSigned}}
 use Rattle.pagable_model.specs.{Lifted.{list_single, pair_single}, Keyed.text_is_ordered}
 use Rattle.pagable_codec.specs.{declared.env.Env.Ghosts as Environments, declared.serializer.PagableSerializer.Ghosts as Serializers}
-use Rattle.pagable_traits.specs.{JsonData.json_items, JsonData.json_members, JsonData.long_or_no_memory, JsonSteps.front, JsonSteps.value as form}
 use Rattle.serde_json.specs.Data as kit
 use Rattle.serde_json.specs.declared.value.Value as values
 use Rattle.pagable_model.specs.declared.error.Error.TheVariants as errors
@@ -24,13 +24,6 @@ unfolding varint
 case-byte case small = rw small refl
 
 -- ---- a value is its case and a value of another shape
-
-module _ (n inner : Nesting) (case : ℕ) (s : Shape) (M N : Meaning ArcRef → Type 0) (is : (m : Meaning ArcRef) → M m → N (variant case m)) where
-  wrote-part : (first : List ℕ) (old mid new : Out) → ((m : Meaning ArcRef) (b : List ℕ) (k : List ArcRef) → FormAt inner s m b k → FormAt n json (variant case m) (first ++ b) k) → mid ≡ added old first [] → WritesSome M inner s mid new → WritesSome N n json old new
-  wrote-part first old mid new up e w = record { m = variant case w.m; is = is w.m w.is; wrote = record { bytes = first ++ w.wrote.bytes; refs = w.wrote.refs; form = up _ _ _ w.wrote.form; grown = (then) old mid new _ _ _ _ e w.wrote.grown } }
-
-  lacks-part : (e : Error) → ((m : Meaning ArcRef) → NoForm inner s m → NoForm n json (variant case m)) → Refused M inner s e → Refused N n json e
-  lacks-part e lack h = λ fault. let lacks = h fault in record { m = variant case lacks.m; is = is lacks.m lacks.is; no_form = lack lacks.m lacks.no_form }
 
 module _ (n : Nesting) where
   flag-up : {m : Meaning ArcRef} {b : List ℕ} {k : List ArcRef} → FormAt n flag m b k → FormAt n json (variant 1 m) (1 ∷ b) k
@@ -179,7 +172,7 @@ seen-object v members is = rw is (view-Object members)
 
 -- the order of the keys is that of their bytes
 pub keys-in-order : IsOrderOf (Is of_key) string_cmp text_order
-keys-in-order = key-order (Is of_key) of_key (λ k m is. is) string_cmp text_order (λ x y. text_is_ordered (string_bytes x) (string_bytes y)) string_cmp_total
+keys-in-order = key_order (Is of_key) of_key (λ k m is. is) string_cmp text_order (λ x y. text_is_ordered (string_bytes x) (string_bytes y)) string_cmp_total
 
 pub value-has : (v : Value) → SomeMeaning (Is of_value v)
 value-has v = (of_value v, refl)
@@ -187,64 +180,77 @@ value-has v = (of_value v, refl)
 pub member-has : (e : String Global × Value) → SomeMeaning (MeansPair (Is of_key) (Is of_value) e)
 member-has e = pair_has_meaning (Is of_key) (Is of_value) (λ k. (of_key k, refl)) value-has e
 
-abbrev pub items-below : List Value → Piece
-items-below vs = below (all (MeanAll (Is of_value) vs) json)
-
-abbrev pub members-below : List (String Global × Value) → Piece
-members-below es = below (all (MeanAll (MeansPair (Is of_key) (Is of_value)) es) (both text json))
-
 -- of all members, those before left were written
 abbrev pub members-so-far : List (String Global × Value) → List (String Global × Value) → Piece
 members-so-far es left = record { wrote = λ n. Written (MeansPair (Is of_key) (Is of_value)) n (both text json) es left; lacks = λ n e. Unit {0} }
 
-module _ (vs : List Value) (count : ℕ) (counted : count ≡ length vs) where
-  pub array-joins : (n : Nesting) (old mid new : Out) → (front 4 count).wrote n old mid → (items-below vs).wrote n mid new → WritesSome (Is of_data (array (items_view vs))) n json old new
-  array-joins n old mid new f w =
-      let listed = writes_list (Is of_value) vs (deeper n) json (added old (4 ∷ []) []) mid new (rw (case-byte 4 refl, counted) at f.1) (rw counted at f.0) w.1 in
-      wrote-part n (deeper n) 4 (list json) (MeansList (Is of_value) vs) (Is of_data (array (items_view vs))) (items-are vs) (4 ∷ []) old (added old (4 ∷ []) []) new (λ m b k f. array-up n w.0 f) refl listed
+-- what a case, a count and a part one level further down make of this data
+pub record HoldsBelow (case count : ℕ) (P : Piece) (d : Data) : Type 0 where
+  pub joins : (n : Nesting) (old mid new : Out) → (front case count).wrote n old mid → (below P).wrote n mid new → WritesSome (Is of_data d) n json old new
+  pub lacks : (n : Nesting) (e : Error) → (below P).lacks n e → Refused (Is of_data d) n json e
+  pub long : (n : Nesting) (e : Error) → long_or_no_memory count e → Refused (Is of_data d) n json e
+  pub deep : (n : Nesting) (e : Error) → deepest ≤ n.levels → Refused (Is of_data d) n json e
 
-  pub array-lacks : (n : Nesting) (e : Error) → (items-below vs).lacks n e → Refused (Is of_data (array (items_view vs))) n json e
-  array-lacks n e l =
-      lacks-part n (deeper n) 4 (list json) (MeansList (Is of_value) vs) (Is of_data (array (items_view vs))) (items-are vs) e (no-array n) (refused_items (let r : Result ℕ Error = Err e in r) (Is of_value) vs (deeper n) json l.1)
+module _ {X : Type 0} (M : X → Meaning ArcRef → Type 0) (has : (x : X) → SomeMeaning (M x)) (ys : List X) (case count : ℕ) (whole item : Shape) (d : Data) (is : (m : Meaning ArcRef) → MeansList M ys m → variant case m ≡ of_data d) where
+  holds-below : nat_lt case 128 ≡ true → count ≡ length ys → ((n : Nesting) → Wraps M ys (MeansList M ys) n whole item)
+      → ((n : Nesting) → n.levels < deepest → (m : Meaning ArcRef) (b : List ℕ) (k : List ArcRef) → FormAt (deeper n) whole m b k → FormAt n json (variant case m) (case ∷ b) k)
+      → ((n : Nesting) (m : Meaning ArcRef) → NoForm (deeper n) whole m → NoForm n json (variant case m))
+      → ((n : Nesting) (m : Meaning ArcRef) → deepest ≤ n.levels → NoForm n json (variant case m)) → HoldsBelow case count (all (MeanAll M ys) item) d
+  holds-below small counted wraps up lack deep = record {
+    joins = λ n old mid new f w.
+        let first = added old (case ∷ []) [] in
+        let part = writes-counted (wraps (deeper n)) (added old (case ∷ []) []) mid new count counted (rw (case-byte case small) at f.1) f.0 w.1 in
+        writes_whole n (deeper n) (λ m. variant case m) whole json (MeansList M ys) (Is of_data d) is (case ∷ []) old first new (up n w.0) refl part;
+    lacks = λ n e l. refuses n e lack (refuses-items (wraps (deeper n)) e l.1);
+    long = λ n e h. longer n e lack (wraps (deeper n)) h;
+    deep = λ n e le. λ fault. let each = items_have_meanings M has ys in record { m = variant case (sequence each.0); is = is _ (record { ms = each.0; each = each.1; is = refl }); no_form = deep n _ le };
+  }
+    where
+      refuses : (n : Nesting) (e : Error) → ((n : Nesting) (m : Meaning ArcRef) → NoForm (deeper n) whole m → NoForm n json (variant case m)) → Refused (MeansList M ys) (deeper n) whole e
+          → Refused (Is of_data d) n json e
+      refuses n e lack h = refuses_whole n (deeper n) (λ m. variant case m) whole json (MeansList M ys) (Is of_data d) is e (lack n) h
 
-  pub array-long : (n : Nesting) (e : Error) → long_or_no_memory count e → Refused (Is of_data (array (items_view vs))) n json e
-  array-long n e (inl h) =
-      lacks-part n (deeper n) 4 (list json) (MeansList (Is of_value) vs) (Is of_data (array (items_view vs))) (items-are vs) e (no-array n) (refuses-count (Is of_value) value-has vs (deeper n) json e (inl (rw counted at h)))
-  array-long n e (inr h) = memory_refuses e _ n json h
+      longer : (n : Nesting) (e : Error) → ((n : Nesting) (m : Meaning ArcRef) → NoForm (deeper n) whole m → NoForm n json (variant case m)) → Wraps M ys (MeansList M ys) (deeper n) whole item
+          → long_or_no_memory count e → Refused (Is of_data d) n json e
+      longer n e lack wraps (inl h) = refuses n e lack (refuses-long wraps has count counted e h.0)
+      longer n e lack wraps (inr h) = memory_refuses e _ n json h
 
-pub array-deep : (vs : List Value) (n : Nesting) (e : Error) → deepest ≤ n.levels → Refused (Is of_data (array (items_view vs))) n json e
-array-deep vs n e le = λ fault. record { m = variant 4 (sequence (map of_value vs)); is = sym (items-mean vs); no_form = no-deep-array n _ le }
+pub arrays : (vs : List Value) (count : ℕ) → count ≡ length vs → HoldsBelow 4 count (all (MeanAll (Is of_value) vs) json) (array (items_view vs))
+arrays vs count counted =
+    holds-below (Is of_value) value-has vs 4 count (list json) json (array (items_view vs)) (items-are vs) refl counted (λ n. wraps_list (Is of_value) vs n json)
+    (λ n lt m b k f. array-up n lt f) no-array no-deep-array
 
-module _ (es : List (String Global × Value)) (count : ℕ) (counted : count ≡ length es) where
-  pub object-joins : IsStrictlySortedBy string_cmp (keys_of es) → (n : Nesting) (old mid new : Out) → (front 5 count).wrote n old mid → (members-below es).wrote n mid new → WritesSome (Is of_data (object (members_view es))) n json old new
-  object-joins sorted n old mid new f w =
-      let mapped = writes_sorted_map (Is of_key) (Is of_value) string_cmp text_order keys-in-order es (deeper n) text json (added old (5 ∷ []) []) mid new count sorted counted (rw (case-byte 5 refl) at f.1) f.0 w.1 in
-      wrote-part n (deeper n) 5 (sorted_map text_order text json) (MeansList (MeansPair (Is of_key) (Is of_value)) es) (Is of_data (object (members_view es))) (members-are es) (5 ∷ []) old (added old (5 ∷ []) []) new (λ m b k f. object-up n w.0 f) refl mapped
+pub objects : (es : List (String Global × Value)) (count : ℕ) → count ≡ length es → IsStrictlySortedBy string_cmp (keys_of es)
+    → HoldsBelow 5 count (all (MeanAll (MeansPair (Is of_key) (Is of_value)) es) (both text json)) (object (members_view es))
+objects es count counted sorted =
+    holds-below (MeansPair (Is of_key) (Is of_value)) member-has es 5 count (sorted_map text_order text json) (both text json) (object (members_view es)) (members-are es) refl counted
+    (λ n. wraps_sorted_map (Is of_key) (Is of_value) string_cmp text_order keys-in-order es n text json sorted) (λ n lt m b k f. object-up n lt f) no-object no-deep-object
 
-  pub object-lacks : (n : Nesting) (e : Error) → (members-below es).lacks n e → Refused (Is of_data (object (members_view es))) n json e
-  object-lacks n e l =
-      lacks-part n (deeper n) 5 _ (MeansList (MeansPair (Is of_key) (Is of_value)) es) (Is of_data (object (members_view es))) (members-are es) e (no-object n)
-      (refuses-items (MeansPair (Is of_key) (Is of_value)) es (deeper n) _ _ e (sorted-map-splits (deeper n) text_order text json) l.1)
+-- ---- a case, and then a value of another shape
 
-  pub object-long : (n : Nesting) (e : Error) → long_or_no_memory count e → Refused (Is of_data (object (members_view es))) n json e
-  object-long n e (inl h) =
-      lacks-part n (deeper n) 5 _ (MeansList (MeansPair (Is of_key) (Is of_value)) es) (Is of_data (object (members_view es))) (members-are es) e (no-object n)
-      (refuse-count (MeansPair (Is of_key) (Is of_value)) member-has es (deeper n) _ _ e (sorted-map-splits (deeper n) text_order text json) count counted (inl h))
-  object-long n e (inr h) = memory_refuses e _ n json h
+module _ (n : Nesting) (old mid new : Out) where
+  pub flag_written : (b : Bool) → mid ≡ added old (unsigned_form w64 1) [] → WritesSome (Is meanings.flag b) n flag mid new → WritesSome (Is of_data (boolean b)) n json old new
+  flag_written b e w =
+      writes_whole n n (λ m. variant 1 m) flag json (Is meanings.flag b) (Is of_data (boolean b)) (λ m is. rw is refl) (1 ∷ []) old mid new (λ m b k f. flag-up n f) (rw (case-byte 1 refl) at e) w
 
-pub object-deep : (es : List (String Global × Value)) (n : Nesting) (e : Error) → deepest ≤ n.levels → Refused (Is of_data (object (members_view es))) n json e
-object-deep es n e le = λ fault. record { m = variant 5 (sequence (map (λ f. pair (of_key f.0) (of_value f.1)) es)); is = sym (members-mean es); no_form = no-deep-object n _ le }
+  pub number_written : (first : Out) (a : Num) (i : ℤ) → as_i64 a ≡ Some i → first ≡ added old (unsigned_form w64 2) [] → mid ≡ added first (bool_form false) []
+      → WritesSome (Is integer i) n (signed w64) mid new → WritesSome (Is of_data (number a)) n json old new
+  number_written first a i some e f w =
+      writes_whole n n (λ m. variant 2 m) (signed w64) json (Is integer i) (Is of_data (number a)) (λ m is. rw is (sym (whole_number a i some)))
+      (2 ∷ 0 ∷ []) old mid new (λ m b k f. number-up n f) ((then) old first mid _ _ _ _ (rw (case-byte 2 refl) at e) f) w
+
+  pub text_written : (t : String Global) → mid ≡ added old (unsigned_form w64 3) [] → WritesSome (Is of_key t) n text mid new → WritesSome (Is of_data (string (string_bytes t))) n json old new
+  text_written t e w =
+      writes_whole n n (λ m. variant 3 m) text json (Is of_key t) (Is of_data (string (string_bytes t))) (λ m is. rw is refl) (3 ∷ []) old mid new (λ m b k f. text-up n f) (rw (case-byte 3 refl) at e) w
+
+pub refused_string : {Z : Type 0} (r : Result Z Error) (t : String Global) (n : Nesting) → IfErr r (Refused (Is of_key t) n text) → IfErr r (Refused (Is of_data (string (string_bytes t))) n json)
+refused_string r t n h = err_along r h (λ e k. refuses_whole n n (λ m. variant 3 m) text json (Is of_key t) (Is of_data (string (string_bytes t))) (λ m is. rw is refl) e (no-text n) k)
+
+pub ruleset leaves = (ok_along, err_along, grows_trans, grows_refl, memory_refuses, refused_memory, flag_written, number_written, text_written, refused_string, refuses-number, json-memory, json-text, to_z-of_z)
 
 -- ---- steps of the code
 
 module _ {S E N H K V : Type 0} (env : Environments E N H K V) (s : Serializers S E N H K V) where
-  pub two-bytes : {X Y : Type 0} {b c : List ℕ} {x y z : S} {u : X} (r : Result Y Error) → Wrote env s (bytes b) memory x y (Ok u) → Wrote env s (bytes c) memory y z r → Wrote env s (bytes (b ++ c)) memory x z r
-  two-bytes r p q = wrote-then env s r p q (λ n old mid new e f. (then) old mid new _ _ _ _ e f) (λ n e l h. tt) (λ e h. h)
-
-  -- bytes that were refused in the midst of a value
-  pub bytes-err : {X Y : Type 0} {b : List ℕ} {M : Meaning ArcRef → Type 0} {x y : S} {e : Error} (r : Result Y Error) → IsErrAnd r (λ f. f ≡ e) → Wrote env s (bytes b) memory x y (let p : Result X Error = Err e in p) → Wrote env s (form M json) json_causes x y r
-  bytes-err {M = M} r is p = wrote-err env s r is p (λ n l h. memory_refuses _ M n json h) (json-memory _)
-
   -- a value is what its data is
   pub as-value : {Y : Type 0} {x y : S} (v : Value) (d : Data) (r : Result Y Error) → view v ≡ d → Wrote env s (form (Is of_data d) json) json_causes x y r → Wrote env s (form (Is of_value v) json) json_causes x y r
   as-value {x = x} {y = y} v d r e h = let P : Data → Type 0 = λ z. Wrote env s (form (Is of_data z) json) json_causes x y r in subst P (sym e) h
@@ -253,19 +259,6 @@ module _ {S E N H K V : Type 0} (env : Environments E N H K V) (s : Serializers 
   null-value v (Ok u) is p =
       record { ok = record { m = variant 0 none; is = ap of_data (sym (seen-null v is)); wrote = record { bytes = 0 ∷ []; refs = []; form = json-null-form _; grown = rw (case-byte 0 refl) at p.ok } }; refused = tt; only = tt; err = p.err; same_env = p.same_env; same_levels = p.same_levels }
   null-value v (Err e) is p = record { ok = tt; refused = memory_refuses e _ _ json p.only; only = json-memory e p.only; err = p.err; same_env = p.same_env; same_levels = p.same_levels }
-
-  pub flag-wrote : {X Y : Type 0} {x y z : S} {u : X} (b : Bool) (r : Result Y Error) → Wrote env s (bytes (unsigned_form w64 1)) memory x y (Ok u) → Wrote env s (form (Is meanings.flag b) flag) memory y z r → Wrote env s (form (Is of_data (boolean b)) json) json_causes x z r
-  flag-wrote b r p q =
-      wrote-then env s r p q (λ n old mid new e w. wrote-part n n 1 flag (Is meanings.flag b) (Is of_data (boolean b)) (λ m is. rw is refl) (1 ∷ []) old mid new (λ m b k f. flag-up n f) (rw (case-byte 1 refl) at e) w) (λ n e l h. memory_refuses e _ n json h) json-memory
-
-  pub number-wrote : {X Y : Type 0} {x y z : S} {u : X} (a : Num) (i : ℤ) (r : Result Y Error) → as_i64 a ≡ Some i → Wrote env s (bytes (unsigned_form w64 2 ++ 0 ∷ [])) memory x y (Ok u) → Wrote env s (form (Is integer i) (signed w64)) memory y z r → Wrote env s (form (Is of_data (number a)) json) json_causes x z r
-  number-wrote a i r some p q =
-      wrote-then env s r p q (λ n old mid new e w. wrote-part n n 2 (signed w64) (Is integer i) (Is of_data (number a)) (λ m is. rw is (sym (whole_number a i some))) (2 ∷ 0 ∷ []) old mid new (λ m b k f. number-up n f) (rw (case-byte 2 refl) at e) w) (λ n e l h. memory_refuses e _ n json h) json-memory
-
-  pub text-wrote : {X Y : Type 0} {x y z : S} {u : X} (t : String Global) (r : Result Y Error) → Wrote env s (bytes (unsigned_form w64 3)) memory x y (Ok u) → Wrote env s (form (Is of_key t) text) (long_or memory) y z r → Wrote env s (form (Is of_data (string (string_bytes t))) json) json_causes x z r
-  text-wrote t r p q =
-      wrote-then env s r p q (λ n old mid new e w. wrote-part n n 3 text (Is of_key t) (Is of_data (string (string_bytes t))) (λ m is. rw is refl) (3 ∷ []) old mid new (λ m b k f. text-up n f) (rw (case-byte 3 refl) at e) w)
-      (λ n e l h. lacks-part n n 3 text (Is of_key t) (Is of_data (string (string_bytes t))) (λ m is. rw is refl) e (no-text n) l) json-text
 
   pub count-wrote : {X Y : Type 0} {x y z : S} {u : X} (case count : ℕ) (r : Result Y Error) → Wrote env s (bytes (unsigned_form w64 case)) memory x y (Ok u) → OnOk r (s.out z ≡ added (s.out y) (length_form count) []) → OnOk r (count ≤ longest) → IfErr r (long_or_memory count) → Grows (s.out y) (s.out z)
       → s.environment z ≡ s.environment y → s.levels z ≡ s.levels y → Wrote env s (front case count) (long_or_no_memory count) x z r

@@ -1,11 +1,10 @@
 -- Entries of maps: what they mean as pairs, and what putting in, writing and reading them gives.
-use Rattle.pagable_traits.proofs.Words.{◌≡◌, ℕ, zero, suc, ◌-◌, ◌<◌, ◌≤◌, List, [], ◌∷◌, ◌++◌, length, map, arith, refl, sym, ap, ◌∙◌, append_assoc, Result, Ok, Err, inl, inr, length-map, append-nil}
-use Rattle.pagable_traits.proofs.Words.{◌⊎◌, AllByRecursion, IsStrictlySortedBy, keys_of, Ordering, ordering_reverse, IsTotalOrder, insert_entry, Error, ArcRef, ◌>>=◌, longest, length_form}
-use Rattle.pagable_traits.proofs.Words.{length_at, long_or_memory, Meaning, pair, sequence, entry, Entry, KeyOrder, ordered, put_all, put_sorted, AllAfter, Apart, Shape, both, sorted_map, of_entries}
-use Rattle.pagable_traits.proofs.Words.{Forms, Entries, no-forms, more-forms, more-entries, both-form, sorted-map-form, Rest, Gets, Context, deepest, items, bytes_of, counted, seen, read, read_with}
-use Rattle.pagable_traits.proofs.Words.{Out, Nesting, FormAt, FormsAt, WritesSome, WritesSomeAll, added, kind_of_arc, Refused, RefusedAll, Gave, GivesSome, SomeMeaning, Collected, MeanAll, mean-none}
-use Rattle.pagable_traits.proofs.{Words.{mean-more, MeansList, MeansPair, items_have_meanings, then, memory_refuses}, Items.{mean-length, mean_last, split-same, forms-last, writes_no_items}}
-use Rattle.pagable_traits.proofs.{Parts.writes_pair, Collecting.put-in-turn, Walks.{Splits, Wraps, wraps-sequence, writes-counted, refuses-among}}
+use Rattle.pagable_traits.proofs.Words.{◌≡◌, ℕ, zero, suc, ◌-◌, ◌<◌, ◌≤◌, List, [], ◌∷◌, ◌++◌, length, map, arith, refl, sym, ap, ◌∙◌, append_assoc, Result, Ok, Err, length-map, append-nil}
+use Rattle.pagable_traits.proofs.Words.{AllByRecursion, IsStrictlySortedBy, keys_of, Ordering, ordering_reverse, IsTotalOrder, insert_entry, Error, ArcRef, ◌>>=◌, longest, Meaning, pair, sequence}
+use Rattle.pagable_traits.proofs.Words.{entry, Entry, KeyOrder, ordered, put_all, put_sorted, AllAfter, Apart, Shape, both, sorted_map, of_entries, Forms, Entries, no-forms, more-forms, more-entries}
+use Rattle.pagable_traits.proofs.Words.{both-form, sorted-map-form, Rest, Gets, Context, deepest, items, counted, seen, read, read_with, Out, Nesting, FormAt, FormsAt, WritesSome, WritesSomeAll}
+use Rattle.pagable_traits.proofs.{Words.{kind_of_arc, Refused, RefusedAll, GivesSome, SomeMeaning, Collected, MeanAll, mean-none, mean-more, MeansList, MeansPair}, Items.{split-same, writes_no_items}}
+use Rattle.pagable_traits.proofs.{Items.writes-next, Collecting.put-in-turn, Walks.{Splits, Wraps, wraps-sequence, refuses-among}}
 use Rattle.pagable_model.specs.{Keys.Ascends, Form.no-entries, Reading.two}
 use Rattle.std.specs.declared.cmp.Ordering.TheVariants as answers
 
@@ -136,21 +135,6 @@ reads-entries {X} {A} own P Q view f r context s t rest last h = grind (arith, r
 
 -- ---- writing entries one after another
 
-pub writes_entry : {K V : Type 0} (M : K → Meaning ArcRef → Type 0) (N : V → Meaning ArcRef → Type 0) (x : K) (y : V) (n : Nesting) (s t : Shape) (old mid new : Out) → WritesSome (M x) n s old mid → WritesSome (N y) n t mid new → WritesSome (MeansPair M N (x, y)) n (both s t) old new
-writes_entry M N x y n s t old mid new v w = writes_pair M N (x, y) n s t old mid new v w
-
-pub writes-next : {T : Type 0} (M : T → Meaning ArcRef → Type 0) (front : List T) (x : T) (n : Nesting) (s : Shape) (a b c : Out) → WritesSomeAll (MeanAll M front) n s a b → WritesSome (M x) n s b c → WritesSomeAll (MeanAll M (front ++ x ∷ [])) n s a c
-writes-next M front x n s a b c v w = record {
-  ms = v.ms ++ w.m ∷ [];
-  is = mean_last M front v.ms x w.m v.is w.is;
-  wrote = record {
-    bytes = v.wrote.bytes ++ w.wrote.bytes;
-    refs = v.wrote.refs ++ w.wrote.refs;
-    form = forms-last w.m w.wrote.bytes w.wrote.refs v.wrote.form w.wrote.form;
-    grown = then a b c _ _ _ _ v.wrote.grown w.wrote.grown;
-  };
-}
-
 -- of all, those before left were written
 pub record Written {T : Type 0} (M : T → Meaning ArcRef → Type 0) (n : Nesting) (s : Shape) (all left : List T) (old new : Out) : Type 0 where
   pub front : List T
@@ -181,19 +165,25 @@ written-refused {T} M has n s all left rest x a b e v f h =
     let same : all ≡ v.front ++ x ∷ rest = v.is ∙ ap (λ (ys : List T). v.front ++ ys) f in
     rw same (refuses-among M has v.front x rest n s e h)
 
--- ---- refusals, for each shape that is a length and items
+-- ---- putting in
 
-pub refuses-items : {T : Type 0} (M : T → Meaning ArcRef → Type 0) (xs : List T) (n : Nesting) (whole item : Shape) (e : Error) → Splits n whole item → RefusedAll (MeanAll M xs) n item e → Refused (MeansList M xs) n whole e
-refuses-items M xs n whole item e split h = λ fault.
-    let lacks = h fault in
-    record { m = sequence lacks.ms; is = record { ms = lacks.ms; each = lacks.is; is = refl }; no_form = λ b k f. let p = (split.parts lacks.ms b k f).1 in lacks.no_forms p.0 k p.1 }
+-- one more entry on each side leaves them alike
+module _ {K V : Type 0} (M : K → Meaning ArcRef → Type 0) (N : V → Meaning ArcRef → Type 0) (put : List (K × V) → K × V → List (K × V)) (put' : List (Entry ArcRef) → Entry ArcRef → List (Entry ArcRef))
+    (one : (xs : List (K × V)) (es : List (Entry ArcRef)) (x : K × V) (e : Entry ArcRef) → EntriesMean M N xs es → M x.0 e.0 → N x.1 e.1 → EntriesMean M N (put xs x) (put' es e)) where
+  put-all-alike : (acc xs : List (K × V)) (ds es : List (Entry ArcRef)) → EntriesMean M N acc ds → EntriesMean M N xs es → EntriesMean M N (put_all put acc xs) (put_all put' ds es)
+  unfolding EntriesMean put_all
+  put-all-alike acc [] ds [] so_far h = so_far
+  put-all-alike acc (x ∷ xs) ds (e ∷ es) so_far h = put-all-alike (put acc x) xs (put' ds e) es (one acc ds x e so_far h.0 h.1) h.2
+  put-all-alike acc _ ds _ so_far h = absurd h
 
-pub refuse-count : {T : Type 0} (M : T → Meaning ArcRef → Type 0) (has : (x : T) → SomeMeaning (M x)) (xs : List T) (n : Nesting) (whole item : Shape) (e : Error) → Splits n whole item → (count : ℕ) → count ≡ length xs → long_or_memory count e → Refused (MeansList M xs) n whole e
-refuse-count M has xs n whole item e split count all (inl h) = λ fault.
-    let each = items_have_meanings M has xs in
-    let long : longest < length each.0 = rw (mean-length each.1, ← all) h.0 in
-    record { m = sequence each.0; is = record { ms = each.0; each = each.1; is = refl }; no_form = λ b k f. omega (arith, long, (split.parts each.0 b k f).0) }
-refuse-count M has xs n whole item e split count all (inr h) = memory_refuses e (MeansList M xs) n whole h.1
+  -- what was put in entry by entry
+  pub map-put : (now : List (K × V)) (es : List (Entry ArcRef)) → Collected (MeansPair M N) (λ ys x zs. zs ≡ put ys x) now (map entry es)
+      → MeansList (MeansPair M N) now (of_entries (put_all put' [] es))
+  unfolding EntriesMean
+  map-put now es c =
+      let all = put-all-alike [] c.xs [] es tt (entries-mean M N es c.each) in
+      let each : EntriesMean M N now (put_all put' [] es) = rw (put-in-turn put [] c.xs now c.is) all in
+      record { ms = map entry (put_all put' [] es); each = pairs-of-entries M N now (put_all put' [] es) each; is = refl }
 
 -- ---- sorted maps
 
@@ -208,8 +198,9 @@ pub record IsOrderOf {K : Type 0} (M : K → Meaning ArcRef → Type 0) (cmp : K
   pub agrees : (x y : K) (m n : Meaning ArcRef) → M x m → M y n → cmp x y ≡ ordered order m n
   pub antisymm : (x y : K) → cmp x y ≡ ordering_reverse (cmp y x)
 
-pub key-order : {K : Type 0} (M : K → Meaning ArcRef → Type 0) (meaning : K → Meaning ArcRef) → ((x : K) (m : Meaning ArcRef) → M x m → m ≡ meaning x) → (cmp : K → K → Ordering) (order : KeyOrder) → ((x y : K) → cmp x y ≡ ordered order (meaning x) (meaning y)) → IsTotalOrder cmp → IsOrderOf M cmp order
-key-order M meaning single cmp order is total = record { agrees = λ x y m n first second. rw (single x m first, single y n second) (is x y); antisymm = total.antisymm }
+pub key_order : {K : Type 0} (M : K → Meaning ArcRef → Type 0) (meaning : K → Meaning ArcRef) → ((x : K) (m : Meaning ArcRef) → M x m → m ≡ meaning x) → (cmp : K → K → Ordering) (order : KeyOrder)
+    → ((x y : K) → cmp x y ≡ ordered order (meaning x) (meaning y)) → IsTotalOrder cmp → IsOrderOf M cmp order
+key_order M meaning single cmp order is total = record { agrees = λ x y m n first second. rw (single x m first, single y n second) (is x y); antisymm = total.antisymm }
 
 put-in-order : {K V : Type 0} (M : K → Meaning ArcRef → Type 0) (N : V → Meaning ArcRef → Type 0) (cmp : K → K → Ordering) (order : KeyOrder) → IsOrderOf M cmp order → (xs : List (K × V)) (es : List (Entry ArcRef)) (x : K × V) (e : Entry ArcRef)
     → EntriesMean M N xs es → M x.0 e.0 → N x.1 e.1 → EntriesMean M N (insert_entry cmp xs x.0 x.1) (put_sorted order es e)
@@ -217,14 +208,6 @@ unfolding EntriesMean
 put-in-order M N cmp order is [] [] x e h first second = (first, second, tt)
 put-in-order M N cmp order is (y ∷ xs) (f ∷ es) x e h first second = grind (arith, put-in-order M N cmp order is xs es x e h.2 first second)
 put-in-order M N cmp order is _ _ x e h first second = absurd h
-
-put-all-in-order : {K V : Type 0} (M : K → Meaning ArcRef → Type 0) (N : V → Meaning ArcRef → Type 0) (cmp : K → K → Ordering) (order : KeyOrder) → IsOrderOf M cmp order → (acc xs : List (K × V)) (ds es : List (Entry ArcRef)) → EntriesMean M N acc ds → EntriesMean M N xs es
-    → EntriesMean M N (put_all (λ ys x. insert_entry cmp ys x.0 x.1) acc xs) (put_all (put_sorted order) ds es)
-unfolding EntriesMean put_all
-put-all-in-order M N cmp order is acc [] ds [] so_far h = so_far
-put-all-in-order M N cmp order is acc (x ∷ xs) ds (e ∷ es) so_far h =
-    put-all-in-order M N cmp order is (insert_entry cmp acc x.0 x.1) xs (put_sorted order ds e) es (put-in-order M N cmp order is acc ds x e so_far h.0 h.1) h.2
-put-all-in-order M N cmp order is acc _ ds _ so_far h = absurd h
 
 below-all : {K V : Type 0} (M : K → Meaning ArcRef → Type 0) (N : V → Meaning ArcRef → Type 0) (cmp : K → K → Ordering) (order : KeyOrder) → IsOrderOf M cmp order → (x : K × V) (e : Entry ArcRef) → M x.0 e.0 → (xs : List (K × V)) (es : List (Entry ArcRef)) → EntriesMean M N xs es
     → AllByRecursion (λ y. cmp x.0 y ≡ answers.Less) (keys_of xs) → AllAfter (λ (d f : Entry ArcRef). ordered order d.0 f.0 ≡ answers.Greater) e es
@@ -245,34 +228,13 @@ wraps_sorted_map M N cmp order is xs n s t sorted = wraps-sequence (MeansPair M 
     let w = entries-written M N each f in
     rw (w.is, length-map w.es entry) (sorted-map-form _ order s t w.es b k (rw (← w.long) le) (ascends M N cmp order is xs w.es w.mean sorted) w.form))
 
-pub writes_sorted_map : {K V : Type 0} (M : K → Meaning ArcRef → Type 0) (N : V → Meaning ArcRef → Type 0) (cmp : K → K → Ordering) (order : KeyOrder) → IsOrderOf M cmp order → (xs : List (K × V)) (n : Nesting) (s t : Shape) (old mid new : Out) (count : ℕ) → IsStrictlySortedBy cmp (keys_of xs)
-    → count ≡ length xs → mid ≡ added old (length_form count) [] → count ≤ longest → WritesSomeAll (MeanAll (MeansPair M N) xs) n (both s t) mid new → WritesSome (MeansList (MeansPair M N) xs) n (sorted_map order s t) old new
-writes_sorted_map M N cmp order is xs n s t old mid new count sorted all counted le v = writes-counted (wraps_sorted_map M N cmp order is xs n s t sorted) old mid new count all counted le v
-
--- what was put in entry by entry
-sorted-map-put : {K V : Type 0} (M : K → Meaning ArcRef → Type 0) (N : V → Meaning ArcRef → Type 0) (cmp : K → K → Ordering) (order : KeyOrder) → IsOrderOf M cmp order → (now : List (K × V)) (es : List (Entry ArcRef)) → Collected (MeansPair M N) (λ ys x zs. zs ≡ insert_entry cmp ys x.0 x.1) now (map entry es)
-    → MeansList (MeansPair M N) now (of_entries (put_all (put_sorted order) [] es))
-unfolding EntriesMean
-sorted-map-put M N cmp order is now es c =
-    let put = put-all-in-order M N cmp order is [] c.xs [] es tt (entries-mean M N es c.each) in
-    let each : EntriesMean M N now (put_all (put_sorted order) [] es) = rw (put-in-turn (λ ys x. insert_entry cmp ys x.0 x.1) [] c.xs now c.is) put in
-    record { ms = map entry (put_all (put_sorted order) [] es); each = pairs-of-entries M N now (put_all (put_sorted order) [] es) each; is = refl }
+pub sorted-map-put : {K V : Type 0} (M : K → Meaning ArcRef → Type 0) (N : V → Meaning ArcRef → Type 0) (cmp : K → K → Ordering) (order : KeyOrder) → IsOrderOf M cmp order
+    → (now : List (K × V)) (es : List (Entry ArcRef))
+    → Collected (MeansPair M N) (λ ys x zs. zs ≡ insert_entry cmp ys x.0 x.1) now (map entry es) → MeansList (MeansPair M N) now (of_entries (put_all (put_sorted order) [] es))
+sorted-map-put M N cmp order is now es c = map-put M N (λ ys x. insert_entry cmp ys x.0 x.1) (put_sorted order) (put-in-order M N cmp order is) now es c
 
 pub reads_sorted_map : {X K V A : Type 0} (own : Error → Type 0) (M : K → Meaning ArcRef → Type 0) (N : V → Meaning ArcRef → Type 0) (cmp : K → K → Ordering) (order : KeyOrder) → IsOrderOf M cmp order → (r : Result X Error) (held : X → List (K × V)) (context : Context A ArcRef) (s t : Shape) (rest last : Rest A)
     → GivesSome own (λ x. Collected (MeansPair M N) (λ ys y zs. zs ≡ insert_entry cmp ys y.0 y.1) (held x)) last r (counted (read context (both s t)) rest) → GivesSome own (λ x. MeansList (MeansPair M N) (held x)) last r (read context (sorted_map order s t) rest)
 unfolding read read_with
 reads_sorted_map own M N cmp order is r held context s t rest last h =
     reads-entries own (λ x. Collected (MeansPair M N) (λ ys y zs. zs ≡ insert_entry cmp ys y.0 y.1) (held x)) (λ x. MeansList (MeansPair M N) (held x)) (λ es. of_entries (put_all (put_sorted order) [] es)) (λ x es p. sorted-map-put M N cmp order is (held x) es p) r context s t rest last h
-
-pub sorted_map_collected : {K V A : Type 0} (M : K → Meaning ArcRef → Type 0) (N : V → Meaning ArcRef → Type 0) (cmp : K → K → Ordering) (order : KeyOrder) → IsOrderOf M cmp order → (context : Context A ArcRef) (s t : Shape) (now : List (K × V)) (rest mid after : Rest A) (count : ℕ) → bytes_of length_at (λ n. n) rest ≡ Ok (count, mid)
-    → Gave (Collected (MeansPair M N) (λ ys x zs. zs ≡ insert_entry cmp ys x.0 x.1) now) after (items (read context (both s t)) count mid) → Gave (MeansList (MeansPair M N) now) after (read context (sorted_map order s t) rest)
-unfolding read read_with
-sorted_map_collected M N cmp order is context s t now rest mid after count told g =
-    let were = read-entries context s t count mid after g.m g.gave in
-    record { m = of_entries (put_all (put_sorted order) [] were.0); is = sorted-map-put M N cmp order is now were.0 (rw were.1 at g.is); gave = rw (told, were.2) refl }
-
-pub sorted_map_refused : {A : Type 0} (own : Error → Type 0) (context : Context A ArcRef) (order : KeyOrder) (s t : Shape) (e : Error) (rest mid : Rest A) (count : ℕ) → bytes_of length_at (λ n. n) rest ≡ Ok (count, mid) → (items (read context (both s t)) count mid ≡ Err e) ⊎ own e
-    → (read context (sorted_map order s t) rest ≡ Err e) ⊎ own e
-unfolding read read_with
-sorted_map_refused own context order s t e rest mid count told (inl h) = inl (rw (told, entries-refused context s t count mid e h) refl)
-sorted_map_refused own context order s t e rest mid count told (inr h) = inr h

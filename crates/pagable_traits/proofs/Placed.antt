@@ -1,8 +1,8 @@
 -- Maps in order of arrival: what putting in, writing and reading their entries gives.
 use Rattle.pagable_traits.proofs.Words.{◌≡◌, ℕ, ◌≤◌, Bool, false, List, [], ◌∷◌, length, map, refl, sym, ◌∙◌, Result, length-map, AllByRecursion, IsDistinct, keys_of, Error, ArcRef, longest, Meaning}
 use Rattle.pagable_traits.proofs.Words.{sequence, entry, Entry, same_key, put_all, AllAfter, Apart, Differ, Shape, both, of_entries, Rest, Context, counted, read, read_with, Nesting, FormAt, FormsAt}
-use Rattle.pagable_traits.proofs.{Words.{GivesSome, Collected, MeansList, MeansPair, arith}, Maps.{EntriesMean, pairs-of-entries, forms-of-entries, entries-mean, entries-written, reads-entries}}
-use Rattle.pagable_traits.proofs.{Items.split-same, Collecting.put-in-turn, Walks.{Splits, Wraps, wraps-sequence}}
+use Rattle.pagable_traits.proofs.{Words.{GivesSome, Collected, MeansList, MeansPair, arith}, Maps.{EntriesMean, forms-of-entries, entries-written, map-put, reads-entries}, Items.split-same}
+use Rattle.pagable_traits.proofs.Walks.{Splits, Wraps, wraps-sequence}
 use Rattle.std.specs.Cmp.{IsEquivalence}
 use Rattle.indexmap.specs.IndexMap.{insert_entry}
 use Rattle.pagable_model.specs.{Keys.put_placed, Shape.placed_map, Form.placed-map-form}
@@ -18,8 +18,9 @@ pub record IsSameOf {K : Type 0} (M : K → Meaning ArcRef → Type 0) (eq : K �
   pub agrees : (x y : K) (m n : Meaning ArcRef) → M x m → M y n → eq x y ≡ same_key m n
   pub symm : (x y : K) → eq x y ≡ eq y x
 
-pub key-same : {K : Type 0} (M : K → Meaning ArcRef → Type 0) (meaning : K → Meaning ArcRef) → ((x : K) (m : Meaning ArcRef) → M x m → m ≡ meaning x) → (eq : K → K → Bool) → ((x y : K) → eq x y ≡ same_key (meaning x) (meaning y)) → IsEquivalence eq → IsSameOf M eq
-key-same M meaning single eq is laws = record { agrees = λ x y m n first second. rw (single x m first, single y n second) (is x y); symm = laws.symm }
+pub key_same : {K : Type 0} (M : K → Meaning ArcRef → Type 0) (meaning : K → Meaning ArcRef) → ((x : K) (m : Meaning ArcRef) → M x m → m ≡ meaning x) → (eq : K → K → Bool)
+    → ((x y : K) → eq x y ≡ same_key (meaning x) (meaning y)) → IsEquivalence eq → IsSameOf M eq
+key_same M meaning single eq is laws = record { agrees = λ x y m n first second. rw (single x m first, single y n second) (is x y); symm = laws.symm }
 
 put-in-place : {K V : Type 0} (M : K → Meaning ArcRef → Type 0) (N : V → Meaning ArcRef → Type 0) (eq : K → K → Bool) → IsSameOf M eq → (xs : List (K × V)) (es : List (Entry ArcRef)) (x : K × V) (e : Entry ArcRef) → EntriesMean M N xs es → M x.0 e.0 → N x.1 e.1
     → EntriesMean M N (insert_entry eq xs x.0 x.1) (put_placed es e)
@@ -27,14 +28,6 @@ unfolding EntriesMean
 put-in-place M N eq is [] [] x e h first second = (first, second, tt)
 put-in-place M N eq is (y ∷ xs) (f ∷ es) x e h first second = grind (arith, put-in-place M N eq is xs es x e h.2 first second)
 put-in-place M N eq is _ _ x e h first second = absurd h
-
-put-all-in-place : {K V : Type 0} (M : K → Meaning ArcRef → Type 0) (N : V → Meaning ArcRef → Type 0) (eq : K → K → Bool) → IsSameOf M eq → (acc xs : List (K × V)) (ds es : List (Entry ArcRef)) → EntriesMean M N acc ds → EntriesMean M N xs es
-    → EntriesMean M N (put_all (λ ys x. insert_entry eq ys x.0 x.1) acc xs) (put_all put_placed ds es)
-unfolding EntriesMean put_all
-put-all-in-place M N eq is acc [] ds [] so_far h = so_far
-put-all-in-place M N eq is acc (x ∷ xs) ds (e ∷ es) so_far h =
-    put-all-in-place M N eq is (insert_entry eq acc x.0 x.1) xs (put_placed ds e) es (put-in-place M N eq is acc ds x e so_far h.0 h.1) h.2
-put-all-in-place M N eq is acc _ ds _ so_far h = absurd h
 
 apart-from-all : {K V : Type 0} (M : K → Meaning ArcRef → Type 0) (N : V → Meaning ArcRef → Type 0) (eq : K → K → Bool) → IsSameOf M eq → (x : K × V) (e : Entry ArcRef) → M x.0 e.0 → (xs : List (K × V)) (es : List (Entry ArcRef)) → EntriesMean M N xs es
     → AllByRecursion (λ y. eq x.0 y ≡ false) (keys_of xs) → AllAfter (λ (d f : Entry ArcRef). same_key d.0 f.0 ≡ false) e es
@@ -54,16 +47,8 @@ wraps_placed_map M N eq is xs n s t distinct = wraps-sequence (MeansPair M N) xs
     let w = entries-written M N each f in
     rw (w.is, length-map w.es entry) (placed-map-form _ s t w.es b k (rw (← w.long) le) (differ M N eq is xs w.es w.mean distinct) w.form))
 
-placed-map-put : {K V : Type 0} (M : K → Meaning ArcRef → Type 0) (N : V → Meaning ArcRef → Type 0) (eq : K → K → Bool) → IsSameOf M eq → (now : List (K × V)) (es : List (Entry ArcRef)) → Collected (MeansPair M N) (λ ys x zs. zs ≡ insert_entry eq ys x.0 x.1) now (map entry es)
-    → MeansList (MeansPair M N) now (of_entries (put_all put_placed [] es))
-unfolding EntriesMean
-placed-map-put M N eq is now es c =
-    let put = put-all-in-place M N eq is [] c.xs [] es tt (entries-mean M N es c.each) in
-    let each : EntriesMean M N now (put_all put_placed [] es) = rw (put-in-turn (λ ys x. insert_entry eq ys x.0 x.1) [] c.xs now c.is) put in
-    record { ms = map entry (put_all put_placed [] es); each = pairs-of-entries M N now (put_all put_placed [] es) each; is = refl }
-
 pub reads_placed_map : {X K V A : Type 0} (own : Error → Type 0) (M : K → Meaning ArcRef → Type 0) (N : V → Meaning ArcRef → Type 0) (eq : K → K → Bool) → IsSameOf M eq → (r : Result X Error) (held : X → List (K × V)) (context : Context A ArcRef) (s t : Shape) (rest last : Rest A)
     → GivesSome own (λ x. Collected (MeansPair M N) (λ ys y zs. zs ≡ insert_entry eq ys y.0 y.1) (held x)) last r (counted (read context (both s t)) rest) → GivesSome own (λ x. MeansList (MeansPair M N) (held x)) last r (read context (placed_map s t) rest)
 unfolding read read_with
 reads_placed_map own M N eq is r held context s t rest last h =
-    reads-entries own (λ x. Collected (MeansPair M N) (λ ys y zs. zs ≡ insert_entry eq ys y.0 y.1) (held x)) (λ x. MeansList (MeansPair M N) (held x)) (λ es. of_entries (put_all put_placed [] es)) (λ x es p. placed-map-put M N eq is (held x) es p) r context s t rest last h
+    reads-entries own (λ x. Collected (MeansPair M N) (λ ys y zs. zs ≡ insert_entry eq ys y.0 y.1) (held x)) (λ x. MeansList (MeansPair M N) (held x)) (λ es. of_entries (put_all put_placed [] es)) (λ x es p. map-put M N (λ ys y. insert_entry eq ys y.0 y.1) put_placed (put-in-place M N eq is) (held x) es p) r context s t rest last h

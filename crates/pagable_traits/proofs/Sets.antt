@@ -1,10 +1,10 @@
 -- Sets: what putting in, writing and reading their items gives.
 use Rattle.pagable_traits.proofs.Words.{◌≡◌, ℕ, ◌≤◌, Bool, true, false, subst, List, [], ◌∷◌, ◌++◌, length, refl, sym, ap, ◌∙◌, Result, AllByRecursion, IsDistinct, IsStrictlySortedBy, Ordering}
 use Rattle.pagable_traits.proofs.Words.{match_ordering, ordering_reverse, Error, ArcRef, longest, Meaning, sequence, KeyOrder, ordered, same_key, put_all, AllAfter, Apart, Shape, Rest, Context}
-use Rattle.pagable_traits.proofs.Words.{counted, read, read_with, Nesting, FormAt, FormsAt, GivesSome, Collected, MeanAll, mean-none, mean-more, MeansList, arith}
-use Rattle.std.specs.{Prelude.if◌then◌else◌, Prelude.◌||◌, List.list_any, BTreeSet.insert_key}
-use Rattle.pagable_model.specs.{Keys.put_sorted_item, Keys.put_placed_item, Keys.ItemsAscend, Keys.ItemsDiffer, Shape.sorted_set, Shape.placed_set, Form.sorted-set-form, Form.placed-set-form}
-use Rattle.pagable_traits.proofs.{Items.split-same, Collecting.put-in-turn, Collecting.reads_items, Walks.Splits, Walks.Wraps, Walks.wraps-sequence, Maps.IsOrderOf, Placed.IsSameOf}
+use Rattle.pagable_traits.proofs.{Words.{counted, read, read_with, Nesting, FormAt, FormsAt, GivesSome, Collected, MeanAll, mean-none, mean-more, MeansList}, Items.split-same, Collecting.put-in-turn}
+use Rattle.pagable_traits.proofs.{Collecting.reads_items, Walks.{Splits, Wraps, wraps-sequence}, Maps.IsOrderOf, Placed.IsSameOf}
+use Rattle.std.specs.{Prelude.{if◌then◌else◌, ◌||◌}, List.list_any, BTreeSet.insert_key}
+use Rattle.pagable_model.specs.{Keys.{put_sorted_item, put_placed_item, ItemsAscend, ItemsDiffer}, Shape.{sorted_set, placed_set}, Form.{sorted-set-form, placed-set-form}}
 use Rattle.std.specs.declared.cmp.Ordering.TheVariants as answers
 use Rattle.indexmap.specs.IndexSet as placed
 
@@ -22,6 +22,21 @@ placed-set-parts n ms (placed-set-form l s xs c k le differ f) e = split-same n 
 pub placed-set-splits : (n : Nesting) (s : Shape) → Splits n (placed_set s) s
 placed-set-splits n s = record { parts = λ ms b k f. placed-set-parts n ms f refl }
 
+-- ---- putting in
+
+-- one more item on each side leaves them alike
+module _ {K : Type 0} (M : K → Meaning ArcRef → Type 0) (put : List K → K → List K) (put' : List (Meaning ArcRef) → Meaning ArcRef → List (Meaning ArcRef))
+    (one : (x : K) (m : Meaning ArcRef) → M x m → (xs : List K) (ms : List (Meaning ArcRef)) → MeanAll M xs ms → MeanAll M (put xs x) (put' ms m)) where
+  put-items : (acc : List K) (ds : List (Meaning ArcRef)) → MeanAll M acc ds → {xs : List K} {ms : List (Meaning ArcRef)} → MeanAll M xs ms → MeanAll M (put_all put acc xs) (put_all put' ds ms)
+  unfolding put_all
+  put-items acc ds so_far mean-none = so_far
+  put-items acc ds so_far (mean-more x m xs ms h t) = put-items (put acc x) (put' ds m) (one x m h acc ds so_far) t
+
+  set-put : (now : List K) (ms : List (Meaning ArcRef)) → Collected M (λ ys y zs. zs ≡ put ys y) now ms → MeansList M now (sequence (put_all put' [] ms))
+  set-put now ms c =
+      let each : MeanAll M now (put_all put' [] ms) = rw (put-in-turn put [] c.xs now c.is) (put-items [] [] mean-none c.each) in
+      record { ms = put_all put' [] ms; each = each; is = refl }
+
 -- ---- sorted sets
 
 put-item : {K : Type 0} (M : K → Meaning ArcRef → Type 0) (cmp : K → K → Ordering) (order : KeyOrder) → IsOrderOf M cmp order → (x : K) (m : Meaning ArcRef) → M x m → {xs : List K} {ms : List (Meaning ArcRef)} → MeanAll M xs ms → MeanAll M (insert_key cmp xs x) (insert_key (ordered order) ms m)
@@ -33,12 +48,6 @@ put-item M cmp order is x m h (mean-more y f xs ms g t) = rw (is.agrees x y m f 
     by_case tail answers.Less = mean-more x m (y ∷ xs) (f ∷ ms) h (mean-more y f xs ms g t)
     by_case tail answers.Equal = mean-more y f xs ms g t
     by_case tail answers.Greater = mean-more y f (insert_key cmp xs x) (insert_key (ordered order) ms m) g tail
-
-put-items : {K : Type 0} (M : K → Meaning ArcRef → Type 0) (cmp : K → K → Ordering) (order : KeyOrder) → IsOrderOf M cmp order → (acc : List K) (ds : List (Meaning ArcRef)) → MeanAll M acc ds → {xs : List K} {ms : List (Meaning ArcRef)} → MeanAll M xs ms
-    → MeanAll M (put_all (λ ys y. insert_key cmp ys y) acc xs) (put_all (put_sorted_item order) ds ms)
-unfolding put_all
-put-items M cmp order is acc ds so_far mean-none = so_far
-put-items M cmp order is acc ds so_far (mean-more x m xs ms h t) = put-items M cmp order is (insert_key cmp acc x) (put_sorted_item order ds m) (put-item M cmp order is x m h so_far) t
 
 below-items : {K : Type 0} (M : K → Meaning ArcRef → Type 0) (cmp : K → K → Ordering) (order : KeyOrder) → IsOrderOf M cmp order → (x : K) (m : Meaning ArcRef) → M x m → {ys : List K} {ns : List (Meaning ArcRef)} → MeanAll M ys ns → AllByRecursion (λ y. cmp x y ≡ answers.Less) ys
     → AllAfter (λ (a b : Meaning ArcRef). ordered order a b ≡ answers.Greater) m ns
@@ -54,15 +63,12 @@ items-ascend M cmp order is (mean-more x m xs ms h t) sorted = (below-items M cm
 pub wraps_sorted_set : {K : Type 0} (M : K → Meaning ArcRef → Type 0) (cmp : K → K → Ordering) (order : KeyOrder) → IsOrderOf M cmp order → (xs : List K) (n : Nesting) (s : Shape) → IsStrictlySortedBy cmp xs → Wraps M xs (MeansList M xs) n (sorted_set order s) s
 wraps_sorted_set M cmp order is xs n s sorted = wraps-sequence M xs n (sorted_set order s) s (sorted-set-splits n order s) (λ ms b k each le f. sorted-set-form _ order s ms b k le (items-ascend M cmp order is each sorted) f)
 
-sorted-set-put : {K : Type 0} (M : K → Meaning ArcRef → Type 0) (cmp : K → K → Ordering) (order : KeyOrder) → IsOrderOf M cmp order → (now : List K) (ms : List (Meaning ArcRef)) → Collected M (λ ys y zs. zs ≡ insert_key cmp ys y) now ms → MeansList M now (sequence (put_all (put_sorted_item order) [] ms))
-sorted-set-put M cmp order is now ms c =
-    let each : MeanAll M now (put_all (put_sorted_item order) [] ms) = rw (put-in-turn (λ ys y. insert_key cmp ys y) [] c.xs now c.is) (put-items M cmp order is [] [] mean-none c.each) in
-    record { ms = put_all (put_sorted_item order) [] ms; each = each; is = refl }
-
 pub reads_sorted_set : {X K A : Type 0} (own : Error → Type 0) (M : K → Meaning ArcRef → Type 0) (cmp : K → K → Ordering) (order : KeyOrder) → IsOrderOf M cmp order → (r : Result X Error) (held : X → List K) (context : Context A ArcRef) (s : Shape) (rest last : Rest A)
     → GivesSome own (λ x. Collected M (λ ys y zs. zs ≡ insert_key cmp ys y) (held x)) last r (counted (read context s) rest) → GivesSome own (λ x. MeansList M (held x)) last r (read context (sorted_set order s) rest)
 unfolding read read_with
-reads_sorted_set own M cmp order is r held context s rest last h = grind (arith, reads_items, sorted-set-put)
+reads_sorted_set own M cmp order is r held context s rest last h =
+    reads_items own (λ x. Collected M (λ ys y zs. zs ≡ insert_key cmp ys y) (held x)) (λ x. MeansList M (held x)) (λ ms. sequence (put_all (put_sorted_item order) [] ms))
+    (λ x ms p. set-put M (insert_key cmp) (put_sorted_item order) (λ x m h ys ns all. put-item M cmp order is x m h all) (held x) ms p) r (read context s) rest last h
 
 -- ---- sets in order of arrival
 
@@ -82,11 +88,6 @@ place-item {K} M eq is x m h (mean-more y f xs ms g t) =
     by_case tail true = mean-more y f xs ms g t
     by_case tail false = mean-more y f (placed.insert_key eq xs x) (put_placed_item ms m) g tail
 
-place-items : {K : Type 0} (M : K → Meaning ArcRef → Type 0) (eq : K → K → Bool) → IsSameOf M eq → (acc : List K) (ds : List (Meaning ArcRef)) → MeanAll M acc ds → {xs : List K} {ms : List (Meaning ArcRef)} → MeanAll M xs ms → MeanAll M (put_all (λ ys y. placed.insert_key eq ys y) acc xs) (put_all put_placed_item ds ms)
-unfolding put_all
-place-items M eq is acc ds so_far mean-none = so_far
-place-items M eq is acc ds so_far (mean-more x m xs ms h t) = place-items M eq is (placed.insert_key eq acc x) (put_placed_item ds m) (place-item M eq is x m h so_far) t
-
 apart-items : {K : Type 0} (M : K → Meaning ArcRef → Type 0) (eq : K → K → Bool) → IsSameOf M eq → (x : K) (m : Meaning ArcRef) → M x m → {ys : List K} {ns : List (Meaning ArcRef)} → MeanAll M ys ns → AllByRecursion (λ y. eq x y ≡ false) ys → AllAfter (λ (a b : Meaning ArcRef). same_key a b ≡ false) m ns
 unfolding AllAfter
 apart-items M eq is x m first mean-none other = tt
@@ -100,13 +101,8 @@ items-differ M eq is (mean-more x m xs ms h t) distinct = (apart-items M eq is x
 pub wraps_placed_set : {K : Type 0} (M : K → Meaning ArcRef → Type 0) (eq : K → K → Bool) → IsSameOf M eq → (xs : List K) (n : Nesting) (s : Shape) → IsDistinct eq xs → Wraps M xs (MeansList M xs) n (placed_set s) s
 wraps_placed_set M eq is xs n s distinct = wraps-sequence M xs n (placed_set s) s (placed-set-splits n s) (λ ms b k each le f. placed-set-form _ s ms b k le (items-differ M eq is each distinct) f)
 
-placed-set-put : {K : Type 0} (M : K → Meaning ArcRef → Type 0) (eq : K → K → Bool) → IsSameOf M eq → (now : List K) (ms : List (Meaning ArcRef)) → Collected M (λ ys y zs. zs ≡ placed.insert_key eq ys y) now ms → MeansList M now (sequence (put_all put_placed_item [] ms))
-placed-set-put M eq is now ms c =
-    let each : MeanAll M now (put_all put_placed_item [] ms) = rw (put-in-turn (λ ys y. placed.insert_key eq ys y) [] c.xs now c.is) (place-items M eq is [] [] mean-none c.each) in
-    record { ms = put_all put_placed_item [] ms; each = each; is = refl }
-
 pub reads_placed_set : {X K A : Type 0} (own : Error → Type 0) (M : K → Meaning ArcRef → Type 0) (eq : K → K → Bool) → IsSameOf M eq → (r : Result X Error) (held : X → List K) (context : Context A ArcRef) (s : Shape) (rest last : Rest A)
     → GivesSome own (λ x. Collected M (λ ys y zs. zs ≡ placed.insert_key eq ys y) (held x)) last r (counted (read context s) rest) → GivesSome own (λ x. MeansList M (held x)) last r (read context (placed_set s) rest)
 unfolding read read_with
 reads_placed_set own M eq is r held context s rest last h =
-    reads_items own (λ x. Collected M (λ ys y zs. zs ≡ placed.insert_key eq ys y) (held x)) (λ x. MeansList M (held x)) (λ ms. sequence (put_all put_placed_item [] ms)) (λ x ms p. placed-set-put M eq is (held x) ms p) r (read context s) rest last h
+    reads_items own (λ x. Collected M (λ ys y zs. zs ≡ placed.insert_key eq ys y) (held x)) (λ x. MeansList M (held x)) (λ ms. sequence (put_all put_placed_item [] ms)) (λ x ms p. set-put M (placed.insert_key eq) put_placed_item (λ x m h ys ns all. place-item M eq is x m h all) (held x) ms p) r (read context s) rest last h

@@ -1,7 +1,7 @@
 -- Spans of time: how one is written, and what reading one gives.
-use Rattle.pagable_traits.proofs.Words.{◌≡◌, ℕ, ◌+◌, ◌*◌, ◌<◌, ◌≤◌, ◌^◌, List, ◌++◌, arith, refl, ap, ◌∙◌, Result, Ok, Err, inl, inr, OnOk, ◌⊎◌, w32, w64, Error, Gives, never, unsigned_at, Rest}
-use Rattle.pagable_traits.proofs.{Words.{read, read_with, Shape, Answer, GivesSome, Is, handles_at, Out, Nesting, WritesSome, writes_is, writes_bytes}, Basics.gives_bytes}
-use Rattle.std.{proofs.Common.◌/◌, proofs.lemmas.Bool.le-ltb, proofs.lemmas.Nat.mod_below, specs.Duration.as_nanos, specs.declared.time.Duration.Duration}
+use Rattle.pagable_traits.proofs.Words.{◌≡◌, ℕ, ◌+◌, ◌*◌, ◌<◌, ◌≤◌, ◌^◌, List, ◌++◌, arith, refl, ap, ◌∙◌, Result, Ok, Err, OnOk, w32, w64, Error, Gives, never, unsigned_at, Rest, read, read_with}
+use Rattle.pagable_traits.proofs.{Words.{Shape, Answer, GivesSome, Is, handles_at, Out, Nesting, WritesSome, writes_is, writes_bytes}, Basics.gives_bytes}
+use Rattle.std.{proofs.{Common.◌/◌, lemmas.Bool.le-ltb, lemmas.Nat.mod_below}, specs.{Duration.as_nanos, declared.time.Duration.Duration}}
 use Rattle.pagable_model.specs.{Basic.{nanos_of_second, duration_form, duration_at}, Carried.of_duration, Form.duration-form, Shape.duration, Spans.{seconds_of, nanos_of, of_span}}
 use Rattle.pagable_model.specs.declared.error.Error.TheVariants as errors
 
@@ -20,16 +20,6 @@ pub gives_span : (levels : ℕ) (parts : ℕ → Shape) (r : Result Duration Err
     → GivesSome never (Is of_span) last r (read (handles_at levels parts) duration rest)
 unfolding read read_with
 gives_span levels parts r rest last bytes after e f h = rw f (gives_bytes never (λ d. (seconds_of d, nanos_of d)) (λ p. of_duration p.0 p.1) duration_at r rest after (rw e h))
-
-pub seconds_refused : (e : Error) (bytes : List ℕ) → (unsigned_at w64 bytes ≡ Err e) ⊎ never e → (duration_at bytes ≡ Err e) ⊎ never e
-unfolding duration_at
-seconds_refused e bytes (inl h) = inl (rw h refl)
-seconds_refused e bytes (inr h) = inr h
-
-pub nanos_refused : (e : Error) (bytes mid : List ℕ) (s : ℕ) → unsigned_at w64 bytes ≡ Ok (s, mid) → (unsigned_at w32 mid ≡ Err e) ⊎ never e → (duration_at bytes ≡ Err e) ⊎ never e
-unfolding duration_at
-nanos_refused e bytes mid s g (inl h) = inl (rw (g, h) refl)
-nanos_refused e bytes mid s g (inr h) = inr h
 
 pub span_overflows : (bytes mid after : List ℕ) (s n : ℕ) → unsigned_at w64 bytes ≡ Ok (s, mid) → unsigned_at w32 mid ≡ Ok (n, after) → 2 ^ 64 ≤ s + n / nanos_of_second → duration_at bytes ≡ Err errors.BadDuration
 unfolding duration_at

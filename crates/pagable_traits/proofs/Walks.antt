@@ -1,10 +1,10 @@
 -- Items that a walk yields: what writing each, after their count, makes of the whole that holds them.
-use Rattle.pagable_traits.proofs.Words.{◌≡◌, ℕ, ◌<◌, ◌≤◌, List, [], ◌∷◌, ◌++◌, length, map, arith, refl, sym, ◌∙◌, Option, Some, Result, Ok, Err, inl, inr, Bor, OnOk, IfErr, Error, ArcRef}
-use Rattle.pagable_traits.proofs.Words.{longest, length_form, Meaning, sequence, Shape, list, list-form, Out, Nesting, FormAt, FormsAt, WritesSome, WritesSomeAll, added, NoFormOfSome}
+use Rattle.pagable_traits.proofs.Words.{◌≡◌, ℕ, ◌<◌, ◌≤◌, List, [], ◌∷◌, ◌++◌, length, map, take, get_or, suc, subst, arith, refl, sym, ◌∙◌, Option, Some, Result, Ok, Err, inl, inr, Bor, OnOk, IfErr}
+use Rattle.pagable_traits.proofs.Words.{Error, ArcRef, longest, length_form, Meaning, sequence, Shape, list, list-form, Out, Nesting, FormAt, FormsAt, WritesSome, WritesSomeAll, added, NoFormOfSome}
 use Rattle.pagable_traits.proofs.Words.{NoFormsOfSome, Refused, RefusedAll, SomeMeaning, MeanAll, mean-none, mean-more, MeansList, MeansPair, items_have_meanings, then, memory_refuses, WritesEach}
-use Rattle.pagable_traits.proofs.{Items.mean-length, Items.no-head, Items.no-tail, Items.list-parts, Words.WritesCounted, Words.RefusedAmong, Words.RefusedCounted}
-use Rattle.std.proofs.{lemmas.Iterator.YieldsList, lemmas.Iterator.YieldsList-from_slice, lemmas.Iterator.items_from_drains, lemmas.Iterator.Consumers.YieldsList-from_rest}
-use Rattle.std.specs.{Iterator.Yields, Iterator.AlwaysYields, Map.Iter.TakesFirst, Map.Iter.deref, Map.Iter.deref_pair, Slice.Iter.iter_rest, Slice.Iter.iter_steps}
+use Rattle.pagable_traits.proofs.{Words.{WritesCounted, RefusedAmong, RefusedCounted}, Items.{mean-length, no-head, no-tail, list-parts}}
+use Rattle.std.{proofs.{lemmas.Iterator.{YieldsList, YieldsList-from_slice, items_from_drains}, lemmas.Iterator.Consumers.YieldsList-from_rest, Common.drop, Math.Seq.split_at}, specs.Iterator.Yields}
+use Rattle.std.specs.{Iterator.AlwaysYields, Map.Iter.{TakesFirst, deref, deref_pair}, Slice.Iter.{iter_rest, iter_steps}}
 
 -- ---- what a walk shows
 
@@ -53,6 +53,15 @@ lacks-among M has (y ∷ front) x rest n s lacks =
 
 pub refuses-among : {T : Type 0} (M : T → Meaning ArcRef → Type 0) (has : (x : T) → SomeMeaning (M x)) (front : List T) (x : T) (rest : List T) (n : Nesting) (s : Shape) (e : Error) → Refused (M x) n s e → RefusedAll (MeanAll M (front ++ x ∷ rest)) n s e
 refuses-among M has front x rest n s e h = λ fault. lacks-among M has front x rest n s (h fault)
+
+-- an item of a list, by its place
+pub refuses_item : {T : Type 0} (M : T → Meaning ArcRef → Type 0) (has : (x : T) → SomeMeaning (M x)) (xs : List T) (i : ℕ) (x : T) (n : Nesting) (s : Shape) (e : Error) → i < length xs
+    → x ≡ get_or xs i x
+    → Refused (M x) n s e → RefusedAll (MeanAll M xs) n s e
+refuses_item {T} M has xs i x n s e lt is h =
+    let P : List T → Type 0 = λ ys. RefusedAll (MeanAll M ys) n s e in
+    let Q : T → Type 0 = λ y. Refused (M y) n s e in
+    subst P (sym (split_at xs i x lt)) (refuses-among M has (take i xs) (get_or xs i x) (drop (suc i) xs) n s e (subst Q is h))
 
 each-written : {W T X : Type 0} {next : W → Option T → W → Type 0} {M : T → Meaning ArcRef → Type 0} {walk : W} {N : X → Meaning ArcRef → Type 0} {ys : List X} → Shows next M walk N ys → (n : Nesting) (s : Shape) (old new : Out) → WritesEach next M walk n s old new → WritesSomeAll (MeanAll N ys) n s old new
 each-written {M = M} {N = N} {ys = ys} shows n s old new w =
@@ -108,19 +117,28 @@ written_counted (Ok y) {n = n} {item = item} count old new shows wraps all w =
     writes-counted wraps old (added old (length_form count) []) new count all refl w.within (each-written shows n item (added old (length_form count) []) new w.each)
 written_counted (Err e) count old new shows wraps all w = tt
 
+pub refuses-long : {X : Type 0} {N : X → Meaning ArcRef → Type 0} {ys : List X} {Whole : Meaning ArcRef → Type 0} {n : Nesting} {whole item : Shape} → Wraps N ys Whole n whole item
+    → ((y : X) → SomeMeaning (N y))
+    → (count : ℕ) → count ≡ length ys → (e : Error) → longest < count → Refused Whole n whole e
+refuses-long {N = N} {ys = ys} wraps has count all e more = λ fault.
+    let each = items_have_meanings N has ys in
+    let p = wraps.splits each.0 each.1 in
+    let long : longest < length each.0 = rw (mean-length each.1, ← all) more in
+    record { m = p.0; is = p.1; no_form = λ b k f. omega (arith, long, (p.2 b k f).0) }
+
+pub refuses-items : {X : Type 0} {N : X → Meaning ArcRef → Type 0} {ys : List X} {Whole : Meaning ArcRef → Type 0} {n : Nesting} {whole item : Shape} → Wraps N ys Whole n whole item → (e : Error)
+    → RefusedAll (MeanAll N ys) n item e → Refused Whole n whole e
+refuses-items wraps e h = λ fault.
+    let lacks = h fault in
+    let p = wraps.splits lacks.ms lacks.is in
+    record { m = p.0; is = p.1; no_form = λ b k f. let q = (p.2 b k f).1 in lacks.no_forms q.0 q.1 q.2 }
+
 pub refused_counted : {W T X Y : Type 0} (r : Result Y Error) {next : W → Option T → W → Type 0} {M : T → Meaning ArcRef → Type 0} {walk : W} {N : X → Meaning ArcRef → Type 0} {ys : List X} {Whole : Meaning ArcRef → Type 0} {n : Nesting} {whole item : Shape} (count : ℕ)
     → Shows next M walk N ys → Wraps N ys Whole n whole item → ((y : X) → SomeMeaning (N y)) → count ≡ length ys → IfErr r (RefusedCounted next M walk count n item) → IfErr r (Refused Whole n whole)
 refused_counted (Ok y) count shows wraps has all h = tt
-refused_counted (Err e) {N = N} {ys = ys} count shows wraps has all (inl (inl h)) = λ fault.
-    let each = items_have_meanings N has ys in
-    let p = wraps.splits each.0 each.1 in
-    let long : longest < length each.0 = rw (mean-length each.1, ← all) h.0 in
-    record { m = p.0; is = p.1; no_form = λ b k f. omega (arith, long, (p.2 b k f).0) }
+refused_counted (Err e) count shows wraps has all (inl (inl h)) = refuses-long wraps has count all e h.0
 refused_counted (Err e) {Whole = Whole} {n = n} {whole = whole} count shows wraps has all (inl (inr h)) = memory_refuses e Whole n whole h.1
-refused_counted (Err e) {n = n} {item = item} count shows wraps has all (inr h) = λ fault.
-    let lacks = each-refused shows has n item e h fault in
-    let p = wraps.splits lacks.ms lacks.is in
-    record { m = p.0; is = p.1; no_form = λ b k f. let q = (p.2 b k f).1 in lacks.no_forms q.0 q.1 q.2 }
+refused_counted (Err e) {n = n} {item = item} count shows wraps has all (inr h) = refuses-items wraps e (each-refused shows has n item e h)
 
 -- a list
 pub wraps_list : {X : Type 0} (N : X → Meaning ArcRef → Type 0) (ys : List X) (n : Nesting) (s : Shape) → Wraps N ys (MeansList N ys) n (list s) s

@@ -1,8 +1,5 @@
 //! The carried types.
 
-pub mod arrays;
-pub mod basic;
-pub mod boxed_texts;
 pub mod cells;
 pub mod collecting;
 pub mod hashed;
@@ -13,14 +10,8 @@ pub mod json_writing;
 pub mod lists;
 pub mod maps;
 pub mod numbers;
-pub mod paths;
 pub mod placed;
-pub mod references;
-pub mod results;
 pub mod sets;
-pub mod signed;
-pub mod slices;
-pub mod small;
 pub mod texts;
 pub mod thin;
 pub mod times;

@@ -15,9 +15,8 @@ pub mod traits;
 
 pub use boxes::PagableBoxDeserialize;
 pub use eager::{EagerlyCarried, PagableEagerDeserialize, PagableEagerSerialize};
-pub use impls::boxed_texts::serialize_str;
 pub use impls::lists::serialize_slice;
-pub use impls::paths::PathText;
+pub use impls::texts::{PathText, serialize_str};
 pub use impls::thin::Thin;
 pub use in_node::InNode;
 pub use keys::{PagableKey, PagableOrdKey};

@@ -3,7 +3,7 @@
 ghost use Rattle.std.specs.Prelude.{refl};
 ghost use Rattle.pagable_traits.specs.ReadBack.{IsReadThroughout, basic_is_read, hash_map_is_read, over_is_read, two_is_read};
 
-use crate::impls::paths::PathText;
+use crate::impls::texts::PathText;
 use crate::impls::thin::Thin;
 use crate::keys::{PagableKey, PagableOrdKey};
 use crate::traits::Carried;

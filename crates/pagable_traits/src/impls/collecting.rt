@@ -75,7 +75,7 @@ pub fn collect_items<
 }
 
 /// Reads how many items follow, and then the items, as `collect_items` does. TooLong above 4,294,967,295.
-#[tactic(auto, using(crate::proofs::InTurn::reads))]
+#[tactic(auto, using(crate::proofs::Held::reads))]
 pub fn read_collected<
     'de,
     E: Env,

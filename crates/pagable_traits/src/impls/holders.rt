@@ -1,15 +1,18 @@
-//! Values that hold one or two others: `Option`, `Box` and pairs.
+//! Values that hold one or two others: `Option`, `Result`, `Box` and pairs; values that are lent; and marks of a type, of
+//! which there is nothing to write.
 
-ghost use Rattle.pagable_model.specs.{Shape.optional, Shape.both};
-ghost use Rattle.pagable_traits.specs.{Meanings.{options, pairs, options_single, pairs_single}, OwnCauses.{reads_memory_or, reads_either, writes_memory_or, writes_either}};
+ghost use Rattle.pagable_model.specs.{Shape.{optional, outcome, both}};
+ghost use Rattle.pagable_traits.specs.Meanings.{options, results, pairs, options_single, results_single, pairs_single};
+ghost use Rattle.pagable_traits.specs.OwnCauses.{reads_memory_or, reads_either, writes_memory_or, writes_either, writes_never};
 
-use crate::alike::CarriedAs;
+use crate::alike::{CarriedAs, ReadAs};
 use crate::impls::maps::write_entry;
 use crate::traits::{Carried, OneMeaning, PagableDeserialize, PagableSerialize};
 use pagable_codec::parts::{read_flag, write_flag};
 use pagable_codec::{Env, PagableDeserializer, PagableSerializer};
 use pagable_flavors::Error;
 use std::alloc::Global;
+use std::marker::PhantomData;
 
 impl<E: Env, T: Carried<E>> Carried<E> for Option<T> {
     ghost shape = { λ e. optional (T.shape e) };
@@ -24,6 +27,7 @@ impl<E: Env, T: OneMeaning<E>> OneMeaning<E> for Option<T> {
 impl<E: Env, T: PagableSerialize<E>> PagableSerialize<E> for Option<T> {
     ghost write_causes = { writes_memory_or T.write_causes };
 
+    #[tactic(auto, using(crate::proofs::Joined::writes_option))]
     fn pagable_serialize<S: PagableSerializer<E>>(&self, serializer: &mut S) -> Result<(), Error> {
         match self {
             None => write_flag(false, serializer),
@@ -38,6 +42,7 @@ impl<E: Env, T: PagableSerialize<E>> PagableSerialize<E> for Option<T> {
 impl<'de, E: Env, T: PagableDeserialize<'de, E>> PagableDeserialize<'de, E> for Option<T> {
     ghost read_causes = { T.read_causes };
 
+    #[tactic(auto, unfolding(pagable_model::specs::Reading::read, pagable_model::specs::Reading::read_with), using(crate::proofs::Held::reads))]
     fn pagable_deserialize<D: PagableDeserializer<E>>(
         alloc: Global,
         deserializer: &mut D,
@@ -67,7 +72,7 @@ impl<E: Env, T: PagableSerialize<E>> PagableSerialize<E> for Box<T> {
 impl<'de, E: Env, T: PagableDeserialize<'de, E> + Drop> PagableDeserialize<'de, E> for Box<T> {
     ghost read_causes = { reads_memory_or T.read_causes };
 
-    #[tactic(auto, using(crate::proofs::InTurn::reads))]
+    #[tactic(auto, using(crate::proofs::Held::reads))]
     fn pagable_deserialize<D: PagableDeserializer<E>>(
         alloc: Global,
         deserializer: &mut D,
@@ -103,6 +108,7 @@ impl<
 > PagableDeserialize<'de, E> for (A, B) {
     ghost read_causes = { reads_either A.read_causes B.read_causes };
 
+    #[tactic(auto, unfolding(pagable_model::specs::Reading::read, pagable_model::specs::Reading::read_with), using(crate::proofs::Held::reads))]
     fn pagable_deserialize<D: PagableDeserializer<E>>(
         alloc: Global,
         deserializer: &mut D,
@@ -110,5 +116,84 @@ impl<
         let first = A::pagable_deserialize(alloc, deserializer)?;
         let second = B::pagable_deserialize(alloc, deserializer)?;
         Ok((first, second))
+    }
+}
+
+impl<E: Env, T: Carried<E>, X: Carried<E>> Carried<E> for Result<T, X> {
+    ghost shape = { λ e. outcome (T.shape e) (X.shape e) };
+
+    ghost means = { results T.means X.means };
+}
+
+impl<E: Env, T: OneMeaning<E>, X: OneMeaning<E>> OneMeaning<E> for Result<T, X> {
+    ghost single = { results_single T.Carried.means X.Carried.means T.single X.single };
+}
+
+impl<E: Env, T: PagableSerialize<E>, X: PagableSerialize<E>> PagableSerialize<E> for Result<T, X> {
+    ghost write_causes = { writes_memory_or (writes_either T.write_causes X.write_causes) };
+
+    #[tactic(auto, using(crate::proofs::Joined::writes_result))]
+    fn pagable_serialize<S: PagableSerializer<E>>(&self, serializer: &mut S) -> Result<(), Error> {
+        write_flag(self.is_ok(), serializer)?;
+        match self {
+            Ok(value) => value.pagable_serialize(serializer),
+            Err(failure) => failure.pagable_serialize(serializer),
+        }
+    }
+}
+
+impl<'de, E: Env, T: PagableDeserialize<'de, E>, X: PagableDeserialize<'de, E>> PagableDeserialize<
+    'de,
+    E,
+> for Result<T, X> {
+    ghost read_causes = { reads_either T.read_causes X.read_causes };
+
+    #[tactic(auto, unfolding(pagable_model::specs::Reading::read, pagable_model::specs::Reading::read_with), using(crate::proofs::Held::reads))]
+    fn pagable_deserialize<D: PagableDeserializer<E>>(
+        alloc: Global,
+        deserializer: &mut D,
+    ) -> Result<Self, Error> {
+        let good = read_flag(deserializer)?;
+        if good {
+            let value = T::pagable_deserialize(alloc, deserializer)?;
+            return Ok(Ok(value));
+        }
+        let failure = X::pagable_deserialize(alloc, deserializer)?;
+        Ok(Err(failure))
+    }
+}
+
+/// A lent value is written as it is; nothing reads it, since a reader has nobody to lend from.
+impl<'a, T> CarriedAs for &'a T {
+    type Other = T;
+
+    ghost other = { λ r. r.now };
+}
+
+impl<'a, E: Env, T: PagableSerialize<E>> PagableSerialize<E> for &'a T {
+    ghost write_causes = { T.write_causes };
+
+    fn pagable_serialize<S: PagableSerializer<E>>(&self, serializer: &mut S) -> Result<(), Error> {
+        T::pagable_serialize(*self, serializer)
+    }
+}
+
+impl<T> CarriedAs for PhantomData<T> {
+    type Other = ();
+
+    ghost other = { λ x. tt };
+}
+
+impl<T> ReadAs for PhantomData<T> {
+    fn of_other(_value: ()) -> Self {
+        PhantomData
+    }
+}
+
+impl<E: Env, T> PagableSerialize<E> for PhantomData<T> {
+    ghost write_causes = { writes_never };
+
+    fn pagable_serialize<S: PagableSerializer<E>>(&self, serializer: &mut S) -> Result<(), Error> {
+        PagableSerialize::<E>::pagable_serialize(&(), serializer)
     }
 }

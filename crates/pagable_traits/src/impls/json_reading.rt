@@ -2,9 +2,9 @@
 //! entered after their length was read.
 
 ghost use Rattle.std.{specs.Prelude.◌≡◌, specs.Int.w64};
-ghost use Rattle.pagable_model.specs.{Reading.{bytes_of, items as items_at, read, seen, flag_case, number_case, text_case, array_case, object_case}, Gives.{Gives, never}, Meaning.{sequence, variant}};
+ghost use Rattle.pagable_model.specs.{Reading.{bytes_of, items as items_at, read, seen, flag_case, number_case, text_case, array_case, object_case}, Gives.{Gives, never}, Lifted.MeansPair, Meaning.{sequence, variant}};
 ghost use Rattle.pagable_model.specs.{Numbers.unsigned_at, Shape.{both, json, text}, Standing.{Is, MovesOn}};
-ghost use Rattle.pagable_traits.specs.{JsonData.of_value, JsonSteps.{Reads, part_of, ObjectOf}};
+ghost use Rattle.pagable_traits.specs.{JsonData.{of_key, of_value}, JsonSteps.{Reads, part_of, ObjectOf}};
 
 use crate::traits::PagableDeserialize;
 use pagable_codec::parts::{places_for, read_count, read_flag};
@@ -15,6 +15,7 @@ use std::alloc::Global;
 use std::collections::BTreeMap;
 
 // Reads the number of a case.
+#[tactic(auto, using(pagable_codec::proofs::Reading::part_read))]
 fn read_case<E: Env, D: PagableDeserializer<E>>(deserializer: &mut D) -> Result<usize, Error>
     ensures gives { Gives never (λ n. (n, D.rest deserializer.new)) result (bytes_of (unsigned_at w64) (λ n. n) (D.rest deserializer.old)) }
     ensures moves { MovesOn (D.standing deserializer.old) (D.standing deserializer.new) }
@@ -25,6 +26,7 @@ fn read_case<E: Env, D: PagableDeserializer<E>>(deserializer: &mut D) -> Result<
 }
 
 // Reads a flag after its case.
+#[tactic(auto, unfolding(pagable_model::specs::Reading::read, pagable_model::specs::Reading::read_with), using(crate::proofs::JsonRead::parts))]
 fn flag_part<E: Env, D: PagableDeserializer<E>>(
     alloc: Global,
     deserializer: &mut D,
@@ -36,6 +38,7 @@ fn flag_part<E: Env, D: PagableDeserializer<E>>(
 }
 
 // Reads a number after its case: JsonNumber where its flag says that it is a float.
+#[tactic(auto, unfolding(pagable_model::specs::Reading::read, pagable_model::specs::Reading::read_with), using(crate::proofs::JsonRead::parts))]
 fn number_part<E: Env, D: PagableDeserializer<E>>(
     alloc: Global,
     deserializer: &mut D,
@@ -51,6 +54,7 @@ fn number_part<E: Env, D: PagableDeserializer<E>>(
 }
 
 // Reads a text after its case.
+#[tactic(auto, unfolding(pagable_model::specs::Reading::read, pagable_model::specs::Reading::read_with), using(crate::proofs::JsonRead::parts))]
 fn text_part<E: Env, D: PagableDeserializer<E>>(
     alloc: Global,
     deserializer: &mut D,
@@ -64,6 +68,7 @@ fn text_part<E: Env, D: PagableDeserializer<E>>(
 /// Reads a JSON value. JsonCase where the case is above 5, JsonNumber where a number is a float, TooDeep for an array or
 /// an object where 128 levels were entered, and else the faults of its parts.
 #[cycle(reading_json)]
+#[tactic(auto, unfolding(pagable_model::specs::Reading::read, pagable_model::specs::Reading::read_with), using(crate::proofs::JsonRead::cases))]
 pub fn read_value<E: Env, D: PagableDeserializer<E>>(
     alloc: Global,
     deserializer: &mut D,
@@ -84,6 +89,7 @@ pub fn read_value<E: Env, D: PagableDeserializer<E>>(
 
 // Reads an array after its case.
 #[cycle(reading_json)]
+#[tactic(auto, unfolding(pagable_model::specs::Reading::read, pagable_model::specs::Reading::read_with), using(crate::proofs::Held::reads))]
 fn array_part<E: Env, D: PagableDeserializer<E>>(
     alloc: Global,
     deserializer: &mut D,
@@ -117,6 +123,7 @@ fn read_items<E: Env, D: PagableDeserializer<E>>(
 
 // Reads an object after its case.
 #[cycle(reading_json)]
+#[tactic(auto, unfolding(pagable_model::specs::Reading::read, pagable_model::specs::Reading::read_with), using(crate::proofs::Held::reads))]
 fn object_part<E: Env, D: PagableDeserializer<E>>(
     alloc: Global,
     deserializer: &mut D,
@@ -141,9 +148,23 @@ fn read_members<E: Env, D: PagableDeserializer<E>>(
 {
     let mut members = BTreeMap::new(alloc);
     for index in 0..count {
-        let key = String::pagable_deserialize(alloc, deserializer)?;
-        let value = read_value(alloc, deserializer)?;
+        let member = read_member(alloc, deserializer)?;
+        let (key, value) = member;
         members.insert(key, value)?;
     }
     Ok(Value::Object(members))
+}
+
+// Reads a key and its value.
+#[cycle(reading_json)]
+#[tactic(auto, unfolding(pagable_model::specs::Reading::read, pagable_model::specs::Reading::read_with), using(crate::proofs::Held::reads))]
+fn read_member<E: Env, D: PagableDeserializer<E>>(
+    alloc: Global,
+    deserializer: &mut D,
+) -> Result<(String, Value), Error>
+    ensures { Reads E.Env D.PagableDeserializer (MeansPair (Is of_key) (Is of_value)) (λ c. read c (both text json)) deserializer.old deserializer.new result }
+{
+    let key = String::pagable_deserialize(alloc, deserializer)?;
+    let value = read_value(alloc, deserializer)?;
+    Ok((key, value))
 }

@@ -13,6 +13,7 @@ use serde_json::{Number, Value};
 use std::collections::BTreeMap;
 
 // Writes the number of a case.
+#[tactic(auto, using(pagable_codec::proofs::Writing::parts, pagable_codec::proofs::Adding::steps, crate::proofs::Parts::err_along))]
 fn write_case<E: Env, S: PagableSerializer<E>>(case: usize, serializer: &mut S) -> Result<(), Error>
     ensures { Wrote E.Env S.PagableSerializer (bytes (unsigned_form w64 case)) memory serializer.old serializer.new result }
 {
@@ -33,6 +34,7 @@ fn write_front<E: Env, S: PagableSerializer<E>>(
 }
 
 // Writes a flag.
+#[tactic(auto, using(crate::proofs::JsonWritten::leaves))]
 fn write_flag<E: Env, S: PagableSerializer<E>>(flag: bool, serializer: &mut S) -> Result<(), Error>
     ensures { Wrote E.Env S.PagableSerializer (form (Is of_data (boolean flag)) json) json_causes serializer.old serializer.new result }
 {
@@ -41,6 +43,7 @@ fn write_flag<E: Env, S: PagableSerializer<E>>(flag: bool, serializer: &mut S) -
 }
 
 // Writes a number. JsonNumber, before anything was written, where it isn't whole or 64 bits with a sign don't hold it.
+#[tactic(auto, using(crate::proofs::JsonWritten::leaves))]
 fn write_number<E: Env, S: PagableSerializer<E>>(
     value: &Number,
     serializer: &mut S,
@@ -56,6 +59,7 @@ fn write_number<E: Env, S: PagableSerializer<E>>(
 }
 
 // Writes a text. TooLong where it has more than 4,294,967,295 bytes.
+#[tactic(auto, using(crate::proofs::JsonWritten::leaves))]
 fn write_text<E: Env, S: PagableSerializer<E>>(
     text: &String,
     serializer: &mut S,

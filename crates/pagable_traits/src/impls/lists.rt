@@ -1,7 +1,7 @@
-//! Lists, and the items of a list in turn.
+//! Lists of each kind, slices and arrays, and the items of a list in turn.
 
-ghost use Rattle.std.{specs.Prelude.{◌≡◌, ◌++◌, ◌∷◌, [], OnOk, IfOk, IfErr, vec_len}, specs.Vec.vec_capacity};
-ghost use Rattle.pagable_model.specs.{Writing.{nesting, WritesSome, WritesSomeAll, Refused, RefusedAll, Grows}, Gives.{memory_or, long_or}, Shape.list, Reading.{items, read}};
+ghost use Rattle.std.specs.{Prelude.{◌≡◌, ◌++◌, ◌∷◌, [], OnOk, IfOk, IfErr, max, vec_len}, Vec.vec_capacity, Box.boxed_slice_items};
+ghost use Rattle.pagable_model.specs.{Writing.{nesting, WritesSome, WritesSomeAll, Refused, RefusedAll, Grows}, Gives.{memory_or, long_or}, Shape.{array, list, run}, Reading.{items, read}};
 ghost use Rattle.pagable_model.specs.{Standing.{handles_at, MovesOn, GivesSome}, Lifted.{MeanAll, MeansList}};
 ghost use Rattle.pagable_traits.specs.{Meanings.{seen_by, lists, lists_single}, OwnCauses.{reads_memory_or, writes_memory_or, writes_long_or}};
 
@@ -10,7 +10,10 @@ use crate::impls::walks::{write_counted, write_each};
 use crate::traits::{Carried, OneMeaning, PagableDeserialize, PagableSerialize};
 use pagable_codec::{Env, PagableDeserializer, PagableSerializer};
 use pagable_flavors::Error;
+use smallvec::SmallVec;
 use std::alloc::Global;
+use std::boxed::BoxedSlice;
+use std::default::MadeWith;
 
 /// Writes the items one after another, without their count. A refusal is that of the first item that is refused.
 pub fn write_items<E: Env, T: PagableSerialize<E>, S: PagableSerializer<E>>(
@@ -103,5 +106,150 @@ impl<'de, E: Env, T: PagableDeserialize<'de, E> + Drop> PagableDeserialize<'de, 
         deserializer: &mut D,
     ) -> Result<Self, Error> {
         read_collected(alloc, deserializer)
+    }
+}
+
+impl<T: MadeWith<Global> + Drop, const N: usize> Collects<T> for SmallVec<T, N> {
+    ghost held = { λ v. v.items };
+
+    ghost puts = { λ xs x ys. ys ≡ xs ++ x ∷ [] };
+
+    ghost has_room = { λ v n. v.capacity ≡ max N n };
+
+    fn with_places(alloc: Global, places: usize) -> Result<Self, Error> {
+        Ok(SmallVec::with_capacity(alloc, places)?)
+    }
+
+    fn put_in(&mut self, item: T) -> Result<(), Error> {
+        self.push(item)?;
+        Ok(())
+    }
+}
+
+impl<E: Env, T: Carried<E>, const N: usize> Carried<E> for SmallVec<T, N> {
+    ghost shape = { λ e. list (T.shape e) };
+
+    ghost means = { seen_by (λ v. v.items) (lists T.means) };
+}
+
+impl<E: Env, T: OneMeaning<E>, const N: usize> OneMeaning<E> for SmallVec<T, N> {
+    ghost single = { λ v. lists_single T.Carried.means T.single v.items };
+}
+
+impl<E: Env, T: PagableSerialize<E>, const N: usize> PagableSerialize<E> for SmallVec<T, N> {
+    ghost write_causes = { writes_long_or (writes_memory_or T.write_causes) };
+
+    fn pagable_serialize<S: PagableSerializer<E>>(&self, serializer: &mut S) -> Result<(), Error> {
+        serialize_slice(self.as_slice(), serializer)
+    }
+}
+
+impl<
+    'de,
+    E: Env,
+    T: PagableDeserialize<'de, E> + MadeWith<Global> + Drop,
+    const N: usize,
+> PagableDeserialize<'de, E> for SmallVec<T, N> {
+    ghost read_causes = { reads_memory_or T.read_causes };
+
+    fn pagable_deserialize<D: PagableDeserializer<E>>(
+        alloc: Global,
+        deserializer: &mut D,
+    ) -> Result<Self, Error> {
+        read_collected(alloc, deserializer)
+    }
+}
+
+// The most items that are written one after another without their count.
+const LONGEST: usize = 4_294_967_295;
+
+/// A slice behind a reference is written as its items without their count, as in the Rust crate, so nothing can read it
+/// by itself.
+impl<'a, E: Env, T: Carried<E>> Carried<E> for &'a [T] {
+    ghost shape = { λ e. run (T.shape e) };
+
+    ghost means = { seen_by (λ v. v.now) (lists T.means) };
+}
+
+impl<'a, E: Env, T: OneMeaning<E>> OneMeaning<E> for &'a [T] {
+    ghost single = { λ v. lists_single T.Carried.means T.single v.now };
+}
+
+impl<'a, E: Env, T: PagableSerialize<E>> PagableSerialize<E> for &'a [T] {
+    ghost write_causes = { writes_long_or T.write_causes };
+
+    #[tactic(auto, using(pagable_codec::proofs::Writing::parts, crate::proofs::Slices::runs))]
+    fn pagable_serialize<S: PagableSerializer<E>>(&self, serializer: &mut S) -> Result<(), Error> {
+        if self.len() > LONGEST {
+            return Err(Error::TooLong);
+        }
+        write_items(*self, serializer)
+    }
+}
+
+impl<E: Env, T: Carried<E>> Carried<E> for BoxedSlice<T> {
+    ghost shape = { λ e. list (T.shape e) };
+
+    ghost means = { seen_by (λ v. boxed_slice_items v) (lists T.means) };
+}
+
+impl<E: Env, T: OneMeaning<E>> OneMeaning<E> for BoxedSlice<T> {
+    ghost single = { λ v. lists_single T.Carried.means T.single (boxed_slice_items v) };
+}
+
+impl<E: Env, T: PagableSerialize<E>> PagableSerialize<E> for BoxedSlice<T> {
+    ghost write_causes = { writes_long_or (writes_memory_or T.write_causes) };
+
+    fn pagable_serialize<S: PagableSerializer<E>>(&self, serializer: &mut S) -> Result<(), Error> {
+        serialize_slice(self.as_slice(), serializer)
+    }
+}
+
+impl<'de, E: Env, T: PagableDeserialize<'de, E> + Drop> PagableDeserialize<'de, E>
+    for BoxedSlice<T> {
+    ghost read_causes = { reads_memory_or T.read_causes };
+
+    fn pagable_deserialize<D: PagableDeserializer<E>>(
+        alloc: Global,
+        deserializer: &mut D,
+    ) -> Result<Self, Error> {
+        match <Vec<T>>::pagable_deserialize(alloc, deserializer) {
+            Ok(values) => Ok(values.into_boxed_slice()),
+            Err(refusal) => Err(refusal),
+        }
+    }
+}
+
+impl<E: Env, T: Carried<E>, const N: usize> Carried<E> for [T; N] {
+    ghost shape = { λ e. array N (T.shape e) };
+
+    ghost means = { lists T.means };
+}
+
+impl<E: Env, T: OneMeaning<E>, const N: usize> OneMeaning<E> for [T; N] {
+    ghost single = { λ xs. lists_single T.Carried.means T.single xs };
+}
+
+impl<E: Env, T: PagableSerialize<E>, const N: usize> PagableSerialize<E> for [T; N] {
+    ghost write_causes = { T.write_causes };
+
+    #[tactic(auto, using(crate::proofs::Slices::arrays))]
+    fn pagable_serialize<S: PagableSerializer<E>>(&self, serializer: &mut S) -> Result<(), Error> {
+        write_items(self.as_slice(), serializer)
+    }
+}
+
+/// The items are collected in a `Vec` first, so reading an array takes memory.
+impl<'de, E: Env, T: PagableDeserialize<'de, E> + Drop, const N: usize> PagableDeserialize<'de, E>
+    for [T; N] {
+    ghost read_causes = { reads_memory_or T.read_causes };
+
+    #[tactic(auto, unfolding(pagable_model::specs::Reading::read, pagable_model::specs::Reading::read_with), using(crate::proofs::Held::reads))]
+    fn pagable_deserialize<D: PagableDeserializer<E>>(
+        alloc: Global,
+        deserializer: &mut D,
+    ) -> Result<Self, Error> {
+        let values: Vec<T> = read_items(alloc, N, deserializer)?;
+        Ok(<[T; N]>::try_from(values).unwrap())
     }
 }

@@ -14,6 +14,7 @@ use std::alloc::Global;
 use std::collections::BTreeMap;
 
 /// Writes a key and its value, one after the other. A refusal is the key's, or else the value's.
+#[tactic(auto, using(crate::proofs::Joined::pairs))]
 pub fn write_entry<E: Env, K: PagableSerialize<E>, V: PagableSerialize<E>, S: PagableSerializer<E>>(
     key: &K,
     value: &V,

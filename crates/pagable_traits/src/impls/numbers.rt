@@ -1,9 +1,9 @@
-//! Whole numbers without a sign.
+//! Whole numbers, flags, characters and nothing.
 #![tactic(auto, using(pagable_codec::proofs::Writing::parts, crate::proofs::Basics::read_steps, crate::proofs::Basics::write_steps))]
 
 ghost use Rattle.std.specs.{Int.w8, Int.w16, Int.w32, Int.w64, Int.w128};
-ghost use Rattle.pagable_model.specs.{Meaning.number, Shape.unsigned};
-ghost use Rattle.pagable_traits.specs.Meanings.{exactly};
+ghost use Rattle.pagable_model.specs.{Meaning.{number, integer, none, flag as flag_meaning}, Shape.{unsigned, signed, flag, letter, nothing}};
+ghost use Rattle.pagable_traits.specs.{Meanings.{exactly}, OwnCauses.{writes_never}};
 
 use crate::alike::CarriedAs;
 use crate::traits::{Carried, OneMeaning, PagableDeserialize, PagableSerialize};
@@ -154,5 +154,209 @@ impl<'de, E: Env> PagableDeserialize<'de, E> for usize {
         deserializer: &mut D,
     ) -> Result<Self, Error> {
         deserializer.serde().read_usize()
+    }
+}
+
+impl<E: Env> Carried<E> for i8 {
+    ghost shape = { λ e. signed w8 };
+
+    ghost means = { exactly integer };
+}
+
+impl<E: Env> OneMeaning<E> for i8 {
+    ghost single = { λ x m is. is };
+}
+
+impl<E: Env> PagableSerialize<E> for i8 {
+    fn pagable_serialize<S: PagableSerializer<E>>(&self, serializer: &mut S) -> Result<(), Error> {
+        serializer.serde().write_i8(*self)
+    }
+}
+
+impl<'de, E: Env> PagableDeserialize<'de, E> for i8 {
+    fn pagable_deserialize<D: PagableDeserializer<E>>(
+        _alloc: Global,
+        deserializer: &mut D,
+    ) -> Result<Self, Error> {
+        deserializer.serde().read_i8()
+    }
+}
+
+impl<E: Env> Carried<E> for i16 {
+    ghost shape = { λ e. signed w16 };
+
+    ghost means = { exactly integer };
+}
+
+impl<E: Env> OneMeaning<E> for i16 {
+    ghost single = { λ x m is. is };
+}
+
+impl<E: Env> PagableSerialize<E> for i16 {
+    fn pagable_serialize<S: PagableSerializer<E>>(&self, serializer: &mut S) -> Result<(), Error> {
+        serializer.serde().write_i16(*self)
+    }
+}
+
+impl<'de, E: Env> PagableDeserialize<'de, E> for i16 {
+    fn pagable_deserialize<D: PagableDeserializer<E>>(
+        _alloc: Global,
+        deserializer: &mut D,
+    ) -> Result<Self, Error> {
+        deserializer.serde().read_i16()
+    }
+}
+
+impl<E: Env> Carried<E> for i32 {
+    ghost shape = { λ e. signed w32 };
+
+    ghost means = { exactly integer };
+}
+
+impl<E: Env> OneMeaning<E> for i32 {
+    ghost single = { λ x m is. is };
+}
+
+impl<E: Env> PagableSerialize<E> for i32 {
+    fn pagable_serialize<S: PagableSerializer<E>>(&self, serializer: &mut S) -> Result<(), Error> {
+        serializer.serde().write_i32(*self)
+    }
+}
+
+impl<'de, E: Env> PagableDeserialize<'de, E> for i32 {
+    fn pagable_deserialize<D: PagableDeserializer<E>>(
+        _alloc: Global,
+        deserializer: &mut D,
+    ) -> Result<Self, Error> {
+        deserializer.serde().read_i32()
+    }
+}
+
+impl<E: Env> Carried<E> for i64 {
+    ghost shape = { λ e. signed w64 };
+
+    ghost means = { exactly integer };
+}
+
+impl<E: Env> OneMeaning<E> for i64 {
+    ghost single = { λ x m is. is };
+}
+
+impl<E: Env> PagableSerialize<E> for i64 {
+    fn pagable_serialize<S: PagableSerializer<E>>(&self, serializer: &mut S) -> Result<(), Error> {
+        serializer.serde().write_i64(*self)
+    }
+}
+
+impl<'de, E: Env> PagableDeserialize<'de, E> for i64 {
+    fn pagable_deserialize<D: PagableDeserializer<E>>(
+        _alloc: Global,
+        deserializer: &mut D,
+    ) -> Result<Self, Error> {
+        deserializer.serde().read_i64()
+    }
+}
+
+impl<E: Env> Carried<E> for i128 {
+    ghost shape = { λ e. signed w128 };
+
+    ghost means = { exactly integer };
+}
+
+impl<E: Env> OneMeaning<E> for i128 {
+    ghost single = { λ x m is. is };
+}
+
+impl<E: Env> PagableSerialize<E> for i128 {
+    fn pagable_serialize<S: PagableSerializer<E>>(&self, serializer: &mut S) -> Result<(), Error> {
+        serializer.serde().write_i128(*self)
+    }
+}
+
+impl<'de, E: Env> PagableDeserialize<'de, E> for i128 {
+    fn pagable_deserialize<D: PagableDeserializer<E>>(
+        _alloc: Global,
+        deserializer: &mut D,
+    ) -> Result<Self, Error> {
+        deserializer.serde().read_i128()
+    }
+}
+
+impl<E: Env> Carried<E> for bool {
+    ghost shape = { λ e. flag };
+
+    ghost means = { exactly flag_meaning };
+}
+
+impl<E: Env> OneMeaning<E> for bool {
+    ghost single = { λ x m is. is };
+}
+
+impl<E: Env> PagableSerialize<E> for bool {
+    fn pagable_serialize<S: PagableSerializer<E>>(&self, serializer: &mut S) -> Result<(), Error> {
+        serializer.serde().write_bool(*self)
+    }
+}
+
+impl<'de, E: Env> PagableDeserialize<'de, E> for bool {
+    fn pagable_deserialize<D: PagableDeserializer<E>>(
+        _alloc: Global,
+        deserializer: &mut D,
+    ) -> Result<Self, Error> {
+        deserializer.serde().read_bool()
+    }
+}
+
+impl<E: Env> Carried<E> for char {
+    ghost shape = { λ e. letter };
+
+    ghost means = { exactly number };
+}
+
+impl<E: Env> OneMeaning<E> for char {
+    ghost single = { λ x m is. is };
+}
+
+impl<E: Env> PagableSerialize<E> for char {
+    fn pagable_serialize<S: PagableSerializer<E>>(&self, serializer: &mut S) -> Result<(), Error> {
+        serializer.serde().write_char(*self)
+    }
+}
+
+impl<'de, E: Env> PagableDeserialize<'de, E> for char {
+    fn pagable_deserialize<D: PagableDeserializer<E>>(
+        _alloc: Global,
+        deserializer: &mut D,
+    ) -> Result<Self, Error> {
+        deserializer.serde().read_char()
+    }
+}
+
+impl<E: Env> Carried<E> for () {
+    ghost shape = { λ e. nothing };
+
+    ghost means = { exactly (λ x. none) };
+}
+
+impl<E: Env> OneMeaning<E> for () {
+    ghost single = { λ x m is. is };
+}
+
+impl<E: Env> PagableSerialize<E> for () {
+    ghost write_causes = { writes_never };
+
+    #[tactic(auto, using(pagable_codec::proofs::Writing::parts))]
+    fn pagable_serialize<S: PagableSerializer<E>>(&self, _serializer: &mut S) -> Result<(), Error> {
+        Ok(())
+    }
+}
+
+impl<'de, E: Env> PagableDeserialize<'de, E> for () {
+    #[tactic(auto, unfolding(pagable_model::specs::Reading::read, pagable_model::specs::Reading::read_with), using(pagable_codec::proofs::Reading::parts))]
+    fn pagable_deserialize<D: PagableDeserializer<E>>(
+        _alloc: Global,
+        _deserializer: &mut D,
+    ) -> Result<Self, Error> {
+        Ok(())
     }
 }

@@ -1,17 +1,66 @@
-//! Texts.
+//! Texts, lent and boxed ones among them, and paths, which are texts here.
 
-ghost use Rattle.std.specs.String.{string_bytes};
-ghost use Rattle.pagable_model.specs.{Shape.text, Meaning.text as text_meaning};
+ghost use Rattle.std.specs.{Prelude.{◌≡◌, OnOk, IfErr}, Box.boxed_str_bytes, String.string_bytes};
+ghost use Rattle.pagable_model.specs.{Carried.path_text, Gives.{memory, long_or}, Shape.{text as text_shape}, Meaning.{text as text_meaning}, Standing.Is, Writing.{nesting, WritesSome, Refused, Grows}};
 ghost use Rattle.pagable_traits.specs.{Meanings.{exactly}, OwnCauses.{reads_memory, writes_memory, writes_long_or}};
 
-use crate::impls::boxed_texts::serialize_str;
 use crate::traits::{Carried, OneMeaning, PagableDeserialize, PagableSerialize};
 use pagable_codec::{Env, PagableDeserializer, PagableSerializer, Reader};
 use pagable_flavors::Error;
 use std::alloc::Global;
+use std::boxed::BoxedStr;
+
+/// Writes a text as a `String` is written: its length in bytes, and its bytes. TooLong above 4,294,967,295 bytes; else
+/// refused by want of memory alone.
+#[tactic(auto, using(pagable_codec::proofs::Writing::parts, crate::proofs::Joined::writes_str))]
+pub fn serialize_str<E: Env, S: PagableSerializer<E>>(
+    text: &str,
+    serializer: &mut S,
+) -> Result<(), Error>
+    ensures ok { OnOk result (WritesSome (Is text_meaning text.now) (nesting (S.levels serializer.old) (E.parts (S.environment serializer.old))) text_shape (S.out serializer.old) (S.out serializer.new)) }
+    ensures refused { IfErr result (Refused (Is text_meaning text.now) (nesting (S.levels serializer.old) (E.parts (S.environment serializer.old))) text_shape) }
+    ensures only { IfErr result (long_or memory) }
+    ensures err { Grows (S.out serializer.old) (S.out serializer.new) }
+    ensures same_env { S.environment serializer.new ≡ S.environment serializer.old }
+    ensures same_levels { S.levels serializer.new ≡ S.levels serializer.old }
+{
+    serializer.serde().write_str(text)
+}
+
+impl<E: Env> Carried<E> for BoxedStr {
+    ghost shape = { λ e. text_shape };
+
+    ghost means = { exactly (λ s. text_meaning (boxed_str_bytes s)) };
+}
+
+impl<E: Env> OneMeaning<E> for BoxedStr {
+    ghost single = { λ s m is. is };
+}
+
+impl<E: Env> PagableSerialize<E> for BoxedStr {
+    ghost write_causes = { writes_long_or writes_memory };
+
+    fn pagable_serialize<S: PagableSerializer<E>>(&self, serializer: &mut S) -> Result<(), Error> {
+        serialize_str(self.as_str(), serializer)
+    }
+}
+
+impl<'de, E: Env> PagableDeserialize<'de, E> for BoxedStr {
+    ghost read_causes = { reads_memory };
+
+    fn pagable_deserialize<D: PagableDeserializer<E>>(
+        alloc: Global,
+        deserializer: &mut D,
+    ) -> Result<Self, Error> {
+        match <String as PagableDeserialize<E>>::pagable_deserialize(alloc, deserializer) {
+            Ok(text) => Ok(text.into_boxed_str()),
+            Err(refusal) => Err(refusal),
+        }
+    }
+}
 
 impl<E: Env> Carried<E> for String {
-    ghost shape = { λ e. text };
+    ghost shape = { λ e. text_shape };
 
     ghost means = { exactly (λ s. text_meaning (string_bytes s)) };
 }
@@ -36,5 +85,43 @@ impl<'de, E: Env> PagableDeserialize<'de, E> for String {
         deserializer: &mut D,
     ) -> Result<Self, Error> {
         deserializer.serde().read_string(alloc)
+    }
+}
+
+/// A path as its text, which is written as a `String` is. Nothing is asked of the text.
+#[derive(Debug, PartialEq, Eq, PartialOrd, Ord, Hash, Drop)]
+pub struct PathText {
+    pub text: String,
+}
+
+impl<E: Env> Carried<E> for PathText {
+    ghost shape = { λ e. path_text };
+
+    ghost means = { exactly (λ p. text_meaning (string_bytes p.text)) };
+}
+
+impl<E: Env> OneMeaning<E> for PathText {
+    ghost single = { λ p m is. is };
+}
+
+impl<E: Env> PagableSerialize<E> for PathText {
+    ghost write_causes = { writes_long_or writes_memory };
+
+    fn pagable_serialize<S: PagableSerializer<E>>(&self, serializer: &mut S) -> Result<(), Error> {
+        serialize_str(self.text.as_str(), serializer)
+    }
+}
+
+impl<'de, E: Env> PagableDeserialize<'de, E> for PathText {
+    ghost read_causes = { reads_memory };
+
+    fn pagable_deserialize<D: PagableDeserializer<E>>(
+        alloc: Global,
+        deserializer: &mut D,
+    ) -> Result<Self, Error> {
+        match PagableDeserialize::<E>::pagable_deserialize(alloc, deserializer) {
+            Ok(text) => Ok(PathText { text }),
+            Err(refusal) => Err(refusal),
+        }
     }
 }

@@ -25,6 +25,7 @@ fn write_span(span: Duration, writer: &mut PagableVecFlavor) -> Result<(), Error
 }
 
 // Reads seconds and nanoseconds, of which whole seconds are carried over: BadDuration where the seconds overflow.
+#[tactic(auto, unfolding(pagable_model::specs::Basic::duration_at), using(crate::proofs::Times::span_overflows, crate::proofs::Times::span_read))]
 fn read_span<R: Reader>(reader: &mut R) -> Result<Duration, Error>
     ensures gives { Gives never (λ d. ((seconds_of d, nanos_of d), left (R.track reader.new))) result (duration_at (left (R.track reader.old))) }
     ensures goes { GoesOn (R.track reader.old) (R.track reader.new) }

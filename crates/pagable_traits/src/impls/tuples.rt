@@ -1,4 +1,5 @@
 //! Tuples of three to five values: each is written and read as its first value and the tuple of the others.
+#![tactic(auto, using(crate::proofs::Joined::alike))]
 
 ghost use Rattle.pagable_traits.specs.OwnCauses.{writes_either};
 

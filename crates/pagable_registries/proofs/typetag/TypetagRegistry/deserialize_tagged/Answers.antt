@@ -1,11 +1,6 @@
 use Rattle.std.proofs.Common.{refl}
-use Rattle.pagable_registries.proofs.Tagged.{no_tag_read, unknown_read, no_body_read, tagged_read}
+use Rattle.pagable_registries.proofs.Tagged.{unknown_read, no_body_read, tagged_read}
 use Rattle.pagable_registries.proofs.typetag.TypetagRegistry.deserialize_tagged.Goals as goal
-
-pub returns-in_err-tag : goal.returns-in_err-tag
-returns-in_err-tag g c =
-    no_tag_read g.E.Env g.D.PagableDeserializer g.F.TagReader.read_causes.are g.T.PagableTagged.tag g.T.PagableTagged.body_means.of g.F.TagReader.grammar c.args.self.now
-    c.from_residual.result c.from_residual.ensures.1 c.in_err-tag.ensures
 
 pub returns-in_default : goal.returns-in_default
 returns-in_default g c =

@@ -1,5 +1,4 @@
-use Rattle.pagable_traits.proofs.Words.{inl, inr, ◌∙◌, ◌++◌, ◌∷◌, [], err_from_is_err_and, moves_trans}
-use Rattle.pagable_traits.proofs.{Items.starts, Items.goes_on, Items.ends, Items.is_done, Collecting.collected_none, Collecting.collected_more}
+use Rattle.pagable_traits.proofs.{Words.{inl, inr, ◌∙◌, ◌++◌, ◌∷◌, [], err_from_is_err_and, moves_trans}, Items.{starts, goes_on, ends, is_done}, Collecting.{collected_none, collected_more}}
 use Rattle.pagable_traits.proofs.impls.collecting.collect_items.Goals as goal
 
 pub loop-index-init : goal.loop-index-init

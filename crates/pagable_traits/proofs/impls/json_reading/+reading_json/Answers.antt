@@ -1,56 +1,9 @@
-use Rattle.pagable_traits.proofs.Words.{◌≡◌, ◌<◌, refl, rules, ◌∙◌, arith, inl, insert_entry, MeansPair, mean-none, variant, sequence, flag_case, number_case, text_case, array_case, object_case, Is}
-use Rattle.pagable_traits.proofs.{Words.{string_cmp, moves_trans, of_value, of_key}, JsonSteps.{read-err, read-no-memory, read-then, read-below, read-deep, none-so-far, one-more, refused-so-far}}
-use Rattle.pagable_traits.proofs.{JsonSteps.{all-read, seen-same}, JsonRead.{case-unread, case-unknown, null-read, case-then, array-unread, array-deep, array-seen, is-array, object-unread}}
-use Rattle.pagable_traits.proofs.{JsonRead.{object-deep, object-read, key-refused, value-refused, member-read}, Collecting.{collected_none, collected_more}, Items.mean_last}
+use Rattle.pagable_traits.proofs.{Words.{◌≡◌, refl, rules, ◌∙◌, insert_entry, MeansPair, mean-none, variant, sequence, Is, string_cmp, moves_trans, of_value, of_key}, JsonSteps.read-no-memory}
+use Rattle.pagable_traits.proofs.{JsonSteps.{read-then, read-below, read-deep, none-so-far, one-more, refused-so-far, all-read, seen-same}, JsonRead.{array-deep, array-seen, is-array, object-deep}}
+use Rattle.pagable_traits.proofs.{JsonRead.object-read, Collecting.{collected_none, collected_more}, Items.mean_last}
 use Rattle.pagable_codec.proofs.Reading.{moves_refl}
 use Rattle.serde_json.specs.declared.value.Value as values
 use Rattle.pagable_traits.proofs.impls.json_reading.+reading_json.Goals as goal
-
-pub read_value-returns-in_err-case : goal.read_value-returns-in_err-case
-read_value-returns-in_err-case g t c =
-    let told = c.in_err-case.ensures in
-    read-err g.E.Env g.D.PagableDeserializer c.from_residual.result c.from_residual.ensures.1 told.gives told.moves told.same_env told.same_levels (λ h. absurd h) (case-unread _ _ _)
-
-pub read_value-returns-in-0 : goal.read_value-returns-in-0
-read_value-returns-in-0 g t c =
-    let told = c.in_ok-case.ensures in
-    record { gives = null-read _ _ _ _ _ refl told.gives c.in-0.is; moves = told.moves; same_env = told.same_env; same_levels = told.same_levels }
-
-pub read_value-returns-in-1 : goal.read_value-returns-in-1
-read_value-returns-in-1 g t c =
-    let told = c.in_ok-case.ensures in
-    case-then g.E.Env g.D.PagableDeserializer 1 flag_case c.in-1.is refl told.gives told.moves told.same_env told.same_levels c.flag_part.ensures
-
-pub read_value-returns-in-2 : goal.read_value-returns-in-2
-read_value-returns-in-2 g t c =
-    let told = c.in_ok-case.ensures in
-    case-then g.E.Env g.D.PagableDeserializer 2 number_case c.in-2.is refl told.gives told.moves told.same_env told.same_levels c.number_part.ensures
-
-pub read_value-returns-in-3 : goal.read_value-returns-in-3
-read_value-returns-in-3 g t c =
-    let told = c.in_ok-case.ensures in
-    case-then g.E.Env g.D.PagableDeserializer 3 text_case c.in-3.is refl told.gives told.moves told.same_env told.same_levels c.text_part.ensures
-
-pub read_value-returns-in-4 : goal.read_value-returns-in-4
-read_value-returns-in-4 g t c =
-    let told = c.in_ok-case.ensures in
-    case-then g.E.Env g.D.PagableDeserializer 4 array_case c.in-4.is refl told.gives told.moves told.same_env told.same_levels c.array_part.ensures
-
-pub read_value-returns-in-5 : goal.read_value-returns-in-5
-read_value-returns-in-5 g t c =
-    let told = c.in_ok-case.ensures in
-    case-then g.E.Env g.D.PagableDeserializer 5 object_case c.in-5.is refl told.gives told.moves told.same_env told.same_levels c.object_part.ensures
-
-pub read_value-returns-in_default : goal.read_value-returns-in_default
-read_value-returns-in_default g t c =
-    let told = c.in_ok-case.ensures in
-    let above : 5 < c.in_ok-case.case = omega arith in
-    record { gives = inl (case-unknown _ _ _ _ told.gives above); moves = told.moves; same_env = told.same_env; same_levels = told.same_levels }
-
-pub array_part-returns-in_err-count : goal.array_part-returns-in_err-count
-array_part-returns-in_err-count g t c =
-    let told = c.in_err-count.ensures in
-    read-err g.E.Env g.D.PagableDeserializer c.from_residual.result c.from_residual.ensures.1 told.gives told.moves told.same_env told.same_levels (λ h. absurd h) (array-unread _ _ _ _)
 
 pub array_part-returns-in_err-enter : goal.array_part-returns-in_err-enter
 array_part-returns-in_err-enter g t c =
@@ -65,11 +18,6 @@ array_part-returns g t c =
     let up = c.leave.ensures in
     read-then g.E.Env g.D.PagableDeserializer told.moves told.same_env told.same_levels (read-below g.E.Env g.D.PagableDeserializer down.ok down.same_standing down.same_rest down.same_env c.read_items-read.ensures up.up up.same_standing up.same_rest up.same_env)
     (array-seen _ _ _ _ _ told.gives (rw told.same_levels at down.ok.1))
-
-pub object_part-returns-in_err-count : goal.object_part-returns-in_err-count
-object_part-returns-in_err-count g t c =
-    let told = c.in_err-count.ensures in
-    read-err g.E.Env g.D.PagableDeserializer c.from_residual.result c.from_residual.ensures.1 told.gives told.moves told.same_env told.same_levels (λ h. absurd h) (object-unread _ _ _ _)
 
 pub object_part-returns-in_err-enter : goal.object_part-returns-in_err-enter
 object_part-returns-in_err-enter g t c =
@@ -117,26 +65,17 @@ read_members-loop-index-init g t c =
 
 pub read_members-loop-index-preserved : goal.read_members-loop-index-preserved
 read_members-loop-index-preserved g t c =
-    let key = c.in_ok-key.ensures in
-    one-more g.E.Env g.D.PagableDeserializer _ _ _ c.loop-index-test.true c.loop-index.invariant (member-read g.E.Env g.D.PagableDeserializer key.gives key.moves key.same_env key.same_levels c.in_ok-value.ensures)
-    (λ ms m each is. collected_more (MeansPair (Is of_key) (Is of_value)) (λ es e fs. fs ≡ insert_entry string_cmp es e.0 e.1) _ _ ms (c.in_ok-key.key, c.in_ok-value.value) m each is c.in_ok-insert.ensures.entries)
+    one-more g.E.Env g.D.PagableDeserializer _ _ _ c.loop-index-test.true c.loop-index.invariant c.in_ok-member.ensures
+    (λ ms m each is. collected_more (MeansPair (Is of_key) (Is of_value)) (λ es e fs. fs ≡ insert_entry string_cmp es e.0 e.1) _ _ ms c.in_ok-member.member m each is c.in_ok-insert.ensures.entries)
 
-pub read_members-returns-in_err-key : goal.read_members-returns-in_err-key
-read_members-returns-in_err-key g t c =
-    let told = c.in_err-key.ensures in
-    refused-so-far g.E.Env g.D.PagableDeserializer _ _ _ c.from_residual.result c.from_residual.ensures.1 c.loop-index-test.true c.loop-index.invariant (key-refused g.E.Env g.D.PagableDeserializer told.gives told.moves told.same_env told.same_levels) (λ h. h)
-
-pub read_members-returns-in_err-value : goal.read_members-returns-in_err-value
-read_members-returns-in_err-value g t c =
-    let key = c.in_ok-key.ensures in
-    refused-so-far g.E.Env g.D.PagableDeserializer _ _ _ c.from_residual-in_err-value.result c.from_residual-in_err-value.ensures.1 c.loop-index-test.true c.loop-index.invariant
-    (value-refused g.E.Env g.D.PagableDeserializer c.in_ok-key.key key.gives key.moves key.same_env key.same_levels c.in_err-value.ensures) (λ h. h)
+pub read_members-returns-in_err-member : goal.read_members-returns-in_err-member
+read_members-returns-in_err-member g t c =
+    refused-so-far g.E.Env g.D.PagableDeserializer _ _ _ c.from_residual.result c.from_residual.ensures.1 c.loop-index-test.true c.loop-index.invariant c.in_err-member.ensures (λ h. h)
 
 pub read_members-returns-in_err-insert : goal.read_members-returns-in_err-insert
 read_members-returns-in_err-insert g t c =
     let so = c.loop-index.invariant in
-    let key = c.in_ok-key.ensures in
-    let told = member-read g.E.Env g.D.PagableDeserializer {k = c.in_ok-key.key} {v = c.in_ok-value.value} key.gives key.moves key.same_env key.same_levels c.in_ok-value.ensures in
+    let told = c.in_ok-member.ensures in
     read-no-memory g.E.Env g.D.PagableDeserializer c.from_residual-in_err-insert.result c.from_residual-in_err-insert.ensures.1 (moves_trans _ _ _ so.moves told.moves) (told.same_env ∙ so.same_env) (told.same_levels ∙ so.same_levels)
 
 pub read_members-returns : goal.read_members-returns

@@ -1,8 +1,7 @@
-use Rattle.pagable_traits.proofs.{Words.{◌≡◌, length, refl, sym, rules, ◌∙◌, Result, Ok, Err, Error, memory, long_or, MeansPair, both, json, text, Is, of_key, of_value}, Maps.writes_entry}
-use Rattle.pagable_traits.proofs.{Maps.{written-fewer, written-none, written-more, written-all, written-refused}, JsonSteps.{as-form, wrote-then, wrote-err, wrote-nothing, wrote-more, wrote-is}}
-use Rattle.pagable_traits.proofs.{JsonSteps.{wrote-then-err, wrote-below, wrote-deep}, JsonWritten.{as-value, seen-object, value-has}}
-use Rattle.pagable_traits.proofs.JsonWritten.{member-has, array-joins, array-lacks, array-long, array-deep, object-joins, object-lacks, object-long, object-deep, json-text, json-long, json-deep}
-use Rattle.pagable_traits.proofs.{Items.{writes_no_items, writes_item, refuses_item}, Parts.{refuses_first, refuses_second}}
+use Rattle.pagable_traits.proofs.{Words.{refl, sym, rules, ◌∙◌, Result, Ok, Err, Error, memory, long_or, MeansPair, both, json, text, Is, of_key, of_value}, Maps.{written-fewer, written-none}}
+use Rattle.pagable_traits.proofs.{Maps.{written-more, written-all, written-refused}, JsonSteps.{as-form, wrote-then, wrote-err, wrote-nothing, wrote-more, wrote-is, wrote-then-err, wrote-below}}
+use Rattle.pagable_traits.proofs.{JsonSteps.wrote-deep, JsonWritten.{as-value, seen-object, value-has, member-has, arrays, objects, json-text, json-long, json-deep}, Items.writes_no_items}
+use Rattle.pagable_traits.{proofs.{Items.writes_item, Walks.refuses_item, Parts.{writes_both, first_refused, second_refused}}, specs.Meanings.exactly}
 use Rattle.pagable_traits.proofs.impls.json_writing.+writing_json.Goals as goal
 
 pub write_value-returns-in-Object : goal.write_value-returns-in-Object
@@ -10,21 +9,21 @@ write_value-returns-in-Object g t c = as-value g.E.Env g.S.PagableSerializer c.a
 
 pub write_array-returns-in_err-write_front : goal.write_array-returns-in_err-write_front
 write_array-returns-in_err-write_front g t c =
-    wrote-err g.E.Env g.S.PagableSerializer c.from_residual.result c.from_residual.ensures.1 c.in_err-write_front.ensures (λ n l h. array-long c.args.items.now.items c.len.result (search rules) n _ h) (λ h. json-long _ _ h)
+    wrote-err g.E.Env g.S.PagableSerializer c.from_residual.result c.from_residual.ensures.1 c.in_err-write_front.ensures (λ n l h. (arrays c.args.items.now.items c.len.result (search rules)).long n _ h) (λ h. json-long _ _ h)
 
 pub write_array-returns-in_err-enter : goal.write_array-returns-in_err-enter
 write_array-returns-in_err-enter g t c =
     let down = c.in_err-enter.ensures in
-    wrote-deep g.E.Env g.S.PagableSerializer c.from_residual-in_err-enter.result c.from_residual-in_err-enter.ensures.1 c.in_ok-write_front.ensures down.err down.same_out down.same_env (λ n le. array-deep c.args.items.now.items n _ le) (λ h. json-deep _ h)
+    wrote-deep g.E.Env g.S.PagableSerializer c.from_residual-in_err-enter.result c.from_residual-in_err-enter.ensures.1 c.in_ok-write_front.ensures down.err down.same_out down.same_env (λ n le. (arrays c.args.items.now.items _ refl).deep n _ le) (λ h. json-deep _ h)
 
 pub write_array-returns : goal.write_array-returns
 write_array-returns g t c =
     let down = c.in_ok-enter.ensures in
     let up = c.leave.ensures in
-    let counted : c.len.result ≡ length c.args.items.now.items = search rules in
+    let made = arrays c.args.items.now.items c.len.result (search rules) in
     wrote-then g.E.Env g.S.PagableSerializer c.write_items-done.result c.in_ok-write_front.ensures
     (wrote-below g.E.Env g.S.PagableSerializer c.write_items-done.result down.ok down.same_out down.same_env c.write_items-done.ensures up.up up.same_out up.same_env)
-    (array-joins c.args.items.now.items c.len.result counted) (λ n e l h. array-lacks c.args.items.now.items c.len.result counted n e l) (λ e h. h)
+    made.joins (λ n e l h. made.lacks n e l) (λ e h. h)
 
 pub write_items-loop-item-init : goal.write_items-loop-item-init
 write_items-loop-item-init g t c = wrote-nothing g.E.Env g.S.PagableSerializer (writes_no_items _ _ _ _)
@@ -41,20 +40,21 @@ write_items-returns-in_err-write_value g t c =
 
 pub write_object-returns-in_err-write_front : goal.write_object-returns-in_err-write_front
 write_object-returns-in_err-write_front g t c =
-    wrote-err g.E.Env g.S.PagableSerializer c.from_residual.result c.from_residual.ensures.1 c.in_err-write_front.ensures (λ n l h. object-long c.args.members.now.entries c.len.result c.len.ensures.len n _ h) (λ h. json-long _ _ h)
+    wrote-err g.E.Env g.S.PagableSerializer c.from_residual.result c.from_residual.ensures.1 c.in_err-write_front.ensures (λ n l h. (objects c.args.members.now.entries c.len.result c.len.ensures.len c.len.ensures.ordered).long n _ h) (λ h. json-long _ _ h)
 
 pub write_object-returns-in_err-enter : goal.write_object-returns-in_err-enter
 write_object-returns-in_err-enter g t c =
     let down = c.in_err-enter.ensures in
-    wrote-deep g.E.Env g.S.PagableSerializer c.from_residual-in_err-enter.result c.from_residual-in_err-enter.ensures.1 c.in_ok-write_front.ensures down.err down.same_out down.same_env (λ n le. object-deep c.args.members.now.entries n _ le) (λ h. json-deep _ h)
+    wrote-deep g.E.Env g.S.PagableSerializer c.from_residual-in_err-enter.result c.from_residual-in_err-enter.ensures.1 c.in_ok-write_front.ensures down.err down.same_out down.same_env (λ n le. (objects c.args.members.now.entries c.len.result c.len.ensures.len c.len.ensures.ordered).deep n _ le) (λ h. json-deep _ h)
 
 pub write_object-returns : goal.write_object-returns
 write_object-returns g t c =
+    let made = objects c.args.members.now.entries c.len.result c.len.ensures.len c.len.ensures.ordered in
     let down = c.in_ok-enter.ensures in
     let up = c.leave.ensures in
     wrote-then g.E.Env g.S.PagableSerializer c.write_members-done.result c.in_ok-write_front.ensures
     (wrote-below g.E.Env g.S.PagableSerializer c.write_members-done.result down.ok down.same_out down.same_env c.write_members-done.ensures up.up up.same_out up.same_env)
-    (object-joins c.args.members.now.entries c.len.result c.len.ensures.len c.len.ensures.ordered) (λ n e l h. object-lacks c.args.members.now.entries c.len.result c.len.ensures.len n e l) (λ e h. h)
+    made.joins (λ n e l h. made.lacks n e l) (λ e h. h)
 
 pub write_members-loop-key-init : goal.write_members-loop-key-init
 write_members-loop-key-init g t c = wrote-nothing g.E.Env g.S.PagableSerializer (written-none _ _ _ _ _ _ (sym c.iter-key-items.ensures.rest ∙ sym c.into_iter-key-iterator.ensures.into_iter_gives))
@@ -80,12 +80,12 @@ write_member-returns-in_err-pagable_serialize g t c =
     let w = c.in_err-pagable_serialize.ensures in
     let r : Result (Unit {0}) Error = Err c.in_err-pagable_serialize.field-0.0 in
     wrote-err g.E.Env g.S.PagableSerializer c.from_residual.result c.from_residual.ensures.1 (as-form g.E.Env g.S.PagableSerializer (Is of_key c.args.key.now) text (long_or memory) r w.ok w.refused w.only w.err w.same_env w.same_levels)
-    (λ n l h. refuses_first (Is of_key) (Is of_value) value-has (c.args.key.now, c.args.value.now) n text json _ l) (λ h. json-text _ h)
+    (λ n l h. first_refused {X = Unit {0}} (Err _) (Is of_key) (exactly of_value) c.args.key.now c.args.value.now n text json l) (λ h. json-text _ h)
 
 pub write_member-returns : goal.write_member-returns
 write_member-returns g t c =
     let w = c.in_ok-pagable_serialize.ensures in
     let r : Result (Unit {0}) Error = Ok tt in
     wrote-then g.E.Env g.S.PagableSerializer c.write_value.result (as-form g.E.Env g.S.PagableSerializer (Is of_key c.args.key.now) text (long_or memory) r w.ok w.refused w.only w.err w.same_env w.same_levels) c.write_value.ensures
-    (λ n old mid new v u. writes_entry (Is of_key) (Is of_value) c.args.key.now c.args.value.now n text json old mid new v u)
-    (λ n e l h. refuses_second (Is of_key) (Is of_value) (λ k. (of_key k, refl)) (c.args.key.now, c.args.value.now) n text json e l) (λ e h. h)
+    (λ n old mid new v u. writes_both (Is of_key) (Is of_value) c.args.key.now c.args.value.now n text json old mid new v u)
+    (λ n e l h. second_refused {X = Unit {0}} (Err e) (exactly of_key) (Is of_value) c.args.key.now c.args.value.now n text json l) (λ e h. h)

@@ -3,6 +3,6 @@ use Rattle.pagable_traits.proofs.impls.lists.write_items.Goals as goal
 
 pub returns : goal.returns
 returns g c =
-    owed g.E.Env g.S.PagableSerializer c.write_each.result _ _ _ _ _ c.write_each.ensures
+    owed g.S.PagableSerializer c.write_each.result _ _ _ _ _ c.write_each.ensures
     (written_each c.write_each.result (shows_slice g.T.Carried.means.of c.args.values.now c.iter.ensures.rest) _ _ _ _ c.write_each.ensures.ok)
     (refused_each c.write_each.result (shows_slice g.T.Carried.means.of c.args.values.now c.iter.ensures.rest) (some g.T.Carried.means) _ _ c.write_each.ensures.refused)

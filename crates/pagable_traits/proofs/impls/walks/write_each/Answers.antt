@@ -1,4 +1,4 @@
-use Rattle.pagable_traits.proofs.{Words.{refl, ◌∙◌, err_from_is_err_and, grows_trans}, Items.{writes_no_items, grows_some_all}, Maps.writes-next}
+use Rattle.pagable_traits.proofs.{Words.{refl, ◌∙◌, err_from_is_err_and, grows_trans}, Items.{writes_no_items, grows_some_all, writes-next}}
 use Rattle.pagable_traits.proofs.impls.walks.write_each.Goals as goal
 
 pub loop-item-init : goal.loop-item-init

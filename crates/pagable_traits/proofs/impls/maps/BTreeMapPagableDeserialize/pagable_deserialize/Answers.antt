@@ -1,8 +1,7 @@
-use Rattle.pagable_traits.proofs.{Maps.key-order, Maps.reads_sorted_map, InTurn.tells}
+use Rattle.pagable_traits.proofs.{Maps.key_order, Maps.reads_sorted_map}
 use Rattle.pagable_traits.proofs.impls.maps.BTreeMapPagableDeserialize.pagable_deserialize.Goals as goal
 
-pub returns : goal.returns
-returns g c =
-    let same = key-order g.K.Carried.means.of g.K.Carried.means.meaning g.met.K.OneMeaning.single g.K.Ord.cmp g.K.PagableOrdKey.order g.met.K.PagableOrdKey.is_order g.met.K.Ord.total in
-    tells g.E.Env g.D.PagableDeserializer c.read_collected.ensures
-    (reads_sorted_map _ g.K.Carried.means.of g.V.Carried.means.of g.K.Ord.cmp g.K.PagableOrdKey.order same c.read_collected.result (λ x. x.entries) _ _ _ _ _ c.read_collected.ensures.gives)
+pub returns-clause-gives : goal.returns-clause-gives
+returns-clause-gives g c =
+    let same = key_order g.K.Carried.means.of g.K.Carried.means.meaning g.met.K.OneMeaning.single g.K.Ord.cmp g.K.PagableOrdKey.order g.met.K.PagableOrdKey.is_order g.met.K.Ord.total in
+    reads_sorted_map _ g.K.Carried.means.of g.V.Carried.means.of g.K.Ord.cmp g.K.PagableOrdKey.order same c.read_collected.result (λ x. x.entries) _ _ _ _ _ c.read_collected.ensures.gives
