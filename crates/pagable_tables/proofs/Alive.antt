@@ -177,14 +177,6 @@ none-live q (s ∷ ss) h = by s.is_live refl (none-live q ss (λ k d lt e. h (su
 pub row-got : (ss : List Place) (i : ℕ) (p : Place) (q : ℕ) → AllPairs IsBefore ss → slice_get ss i ≡ Some p → p.is_live ≡ true → p.row.number.0 ≡ q → find_row q (live ss) ≡ Some p.row
 row-got ss i p q ordered at is number = subst (λ n. find_row n (live ss) ≡ Some p.row) number (row-live ss i p.row ordered (at ∙ ap (λ b. Some (record { row = p.row; is_live = b })) is))
 
--- the number at a dead place is no other's
-pub dead-only : (q : ℕ) (ss : List Place) (m : ℕ) (s : Place) → AllPairs IsBefore ss → m < length ss → s ≡ get_or ss m s → s.row.number.0 ≡ q → s.is_live ≡ false
-    → (k : ℕ) (d : Place) → k < length ss → (get_or ss k d).row.number.0 ≡ q → (get_or ss k d).is_live ≡ false
-dead-only q ss m s ordered lt is number dead k d klt e =
-    let at : get_or ss m d ≡ s = get_or_default ss m d s lt ∙ sym is in
-    let number' : (get_or ss m d).row.number.0 ≡ q = ap (λ (x : Place). x.row.number.0) at ∙ number in
-    grind (arith, nat_tests, cases_eq)
-
 -- each place's number is below q still, after a place of it changes
 pub next-set : (q : ℕ) (ss : List Place) (i : ℕ) (row : HandleRow) (new : Place) → slice_get ss i ≡ Some (alive row) → new.row.number.0 ≡ row.number.0 → IsNext q ss → IsNext q (set ss i new)
 next-set q ss i row new at same next =
@@ -220,20 +212,8 @@ smaller-up f xs m q e ordered lt less k d h =
     let at : f (get_or xs m e) ≡ f (get_or xs m d) = ap f (get_or_default xs m e d lt) in
     grind (arith, nat_tests, cases_eq)
 
--- all rows from a greater one on are greater
-pub greater-from : {A : Type 0} (f : A → ℕ) (xs : List A) (m q : ℕ) (e : A) → AllPairs (λ a b. f a < f b) xs → m < length xs → q ≤ f (get_or xs m e) → (f (get_or xs m e) ≡ q → ⊥)
-    → (k : ℕ) (d : A) → m ≤ k → k < length xs → q < f (get_or xs k d)
-greater-from f xs m q e ordered lt more other k d h within =
-    let at : f (get_or xs m e) ≡ f (get_or xs m d) = ap f (get_or_default xs m e d lt) in
-    grind (arith, nat_tests, cases_eq)
-
 pub le_or_lt : (a b : ℕ) → (a ≤ b) ⊎ (b < a)
 le_or_lt a b = grind arith
-
--- what is smaller below a place and greater from one that isn't above it on has the number nowhere
-pub outside : {A : Type 0} (f : A → ℕ) (xs : List A) (q low high : ℕ) → high ≤ low → ((k : ℕ) (d : A) → k < low → f (get_or xs k d) < q)
-    → ((k : ℕ) (d : A) → high ≤ k → k < length xs → q < f (get_or xs k d)) → (k : ℕ) (d : A) → k < length xs → (f (get_or xs k d) ≡ q → ⊥)
-outside f xs q low high meet below above k d lt e = grind (arith, nat_tests, le_or_lt)
 
 -- each row keeps its number
 number-set : {A : Type 0} (f : A → ℕ) (xs : List A) (i : ℕ) (x y : A) (k : ℕ) (d : A) → slice_get xs i ≡ Some x → f y ≡ f x → k < length xs → f (get_or (set xs i y) k d) ≡ f (get_or xs k d)
