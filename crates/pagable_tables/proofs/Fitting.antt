@@ -2,7 +2,7 @@
 use Rattle.pagable_tables.proofs.Words.{◌≡◌, ℕ, ◌+◌, ◌-◌, ◌<◌, ◌≤◌, ◌==◌, ◌&&◌, ◌||◌, Bool, true, false, if◌then◌else◌, List, [], ◌∷◌, ◌++◌, length, sum_by, ap, sym, ◌∙◌, subst, arith, Option, Some}
 use Rattle.pagable_tables.proofs.Words.{None, inl, inr, ◌⊎◌, ◌≢◌, not, nat_tests, cases_eq, sum_by-cons, sum_by-le-sum_by, sum_by_push, ArcRef, HandleRow, Owner, one, held, pins, is_pin, is_at}
 use Rattle.pagable_tables.proofs.Words.{is_pinning, is_handle, is_owner, owner_value, Counts, pins_in, holds_in, falls_in, next_in, keyed_in, Chain, is_right, Right, is_fallen_by, after, is_new}
-use Rattle.pagable_tables.proofs.Words.{Fits, entry, owns, owns_nothing, named, often, CellsStay, HasFallen}
+use Rattle.pagable_tables.proofs.Words.{Fits, entry, owns, owns_nothing, named, often, unpinned, CellsStay, HasFallen}
 
 -- 1 for a handle that pins the node, for one of it, for the handle q that its value owns, and for the handle q
 abbrev pub pin_of : ℕ → HandleRow → ℕ
@@ -52,11 +52,11 @@ if-false x0 m n h = grind (arith, nat_tests)
 in-none : (n : ℕ) (stack : List ℕ) (m : ℕ) → often n stack ≡ 0 → 0 < often m stack → m ≢ n
 in-none n stack m none some e = let a = ap (λ k. often k stack) e in absurd (omega arith)
 
--- one handle less, and perhaps an entry more
-module _ (at at' : ℕ → Option Counts) (refs refs' : ℕ → List ArcRef) (rows rows' : List HandleRow) (top : ℕ) (stack : List ℕ) (x : HandleRow) (c : Counts) (listed : Bool) (k : ℕ)
-    (fits : Fits at refs rows top stack (λ n q. is_owned n q x)) (is : at x.node.0 ≡ Some c)
-    (leaves : (f : HandleRow → ℕ) → sum_by f rows' + f x ≡ sum_by f rows + (if listed then f (entry k x.node) else 0))
-    (here : at' x.node.0 ≡ Some (after c (is_pinning x.mode) listed top)) (others : (n : ℕ) → n ≢ x.node.0 → at' n ≡ at n) (same : (n : ℕ) → refs' n ≡ refs n)
+-- one handle less, or one that stays without its pin, and perhaps an entry more
+module _ (at at' : ℕ → Option Counts) (refs refs' : ℕ → List ArcRef) (rows rows' : List HandleRow) (top : ℕ) (stack : List ℕ) (x : HandleRow) (c : Counts) (stays listed : Bool) (k : ℕ)
+    (fits : Fits at refs rows top stack (λ n q. is_owned n q x)) (is : at x.node.0 ≡ Some c) (plain : stays ≡ true → (n q : ℕ) → is_owned n q x ≡ 0)
+    (leaves : (f : HandleRow → ℕ) → sum_by f rows' + f x ≡ sum_by f rows + (if stays then f (unpinned x) else 0) + (if listed then f (entry k x.node) else 0))
+    (here : at' x.node.0 ≡ Some (after c (is_pinning x.mode) stays listed top)) (others : (n : ℕ) → n ≢ x.node.0 → at' n ≡ at n) (same : (n : ℕ) → refs' n ≡ refs n)
     (some : one (is_pinning x.mode) ≤ c.pins) (live : 1 ≤ c.holds) where
   given-pinned : (n : ℕ) → pins_in (at' n) ≡ pins n rows'
   given-pinned n = grind (arith, nat_tests)
@@ -72,7 +72,7 @@ module _ (at at' : ℕ → Option Counts) (refs refs' : ℕ → List ArcRef) (ro
 
   -- whether the node waits from now on
   abbrev now_falls : Bool
-  now_falls = is_fallen_by c (is_pinning x.mode) (c.pins - one (is_pinning x.mode)) (if listed then c.holds else c.holds - 1)
+  now_falls = is_fallen_by c (is_pinning x.mode) (c.pins - one (is_pinning x.mode)) ((if stays then c.holds else c.holds - 1) + one listed)
 
   given-chain : (b : Bool) → now_falls ≡ b → Chain at' (if b then x.node.0 else top) (if b then x.node.0 ∷ stack else stack)
   given-chain true e = grind (arith, nat_tests, if-true, not-both, chain-frame, in-none, if-false)
@@ -97,9 +97,9 @@ module _ (at at' : ℕ → Option Counts) (refs refs' : ℕ → List ArcRef) (ro
   pub given-cells : CellsStay at at'
   given-cells n some' = grind (arith, nat_tests)
 
-pub new-top : (c : Counts) (pinning listed : Bool) (top node : ℕ) → (b : Bool) → is_fallen_by c pinning (c.pins - one pinning) (if listed then c.holds else c.holds - 1) ≡ b
-    → (if is_new c.is_falling (after c pinning listed top).is_falling then node else top) ≡ (if b then node else top)
-new-top c pinning listed top node b e = ap (λ (t : Bool). if t then node else top) (is-new c.is_falling _ ∙ e)
+pub new-top : (c : Counts) (pinning stays listed : Bool) (top node : ℕ) → (b : Bool) → is_fallen_by c pinning (c.pins - one pinning) ((if stays then c.holds else c.holds - 1) + one listed) ≡ b
+    → (if is_new c.is_falling (after c pinning stays listed top).is_falling then node else top) ≡ (if b then node else top)
+new-top c pinning stays listed top node b e = ap (λ (t : Bool). if t then node else top) (is-new c.is_falling _ ∙ e)
 
 pub long-if : (b : Bool) (n : ℕ) (stack : List ℕ) → length (if b then n ∷ stack else stack) ≤ length stack + 1
 long-if x0 n stack = grind (arith, nat_tests)

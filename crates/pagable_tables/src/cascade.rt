@@ -67,7 +67,7 @@ pub fn shed<N: Drop>(
     ensures unlisting { lists ≡ false → t.new.list.items ≡ t.old.list.items }
     ensures sheds { Sheds (counts_at t.old.nodes) (get nat_eq values.old) (counts_at t.new.nodes) (get nat_eq values.new) }
 {
-    holdings::give_up(t, at, lists);
+    holdings::give_up(t, at, false, lists);
     cascade(t, values, lists);
 }
 

@@ -1,6 +1,6 @@
-use Rattle.pagable_tables.proofs.Words.{◌≡◌, ◌+◌, ℕ, Bool, true, false, arith, refl, ap, sym, ◌∙◌, subst, Some, Option, List, [], ◌∷◌, ◌++◌, length, slice_get, if◌then◌else◌, inl, inr, ◌≢◌, is_some}
-use Rattle.pagable_tables.proofs.Words.{cases_eq, nat_tests, append-nil, ArcRef, HandleNumber, NodeNumber, HandleRow, owner_value, one, live, alive, counts_at, refs_at, IsFalling, Settles}
-use Rattle.pagable_tables.proofs.{Words.{GivesUp, CellsStay, cell_in, ValueStays, owns, owns_nothing, entry, is_valued, valued, Counts, Holdings}, Alive.{only-row, none-found}, Left.leaves-sums}
+use Rattle.pagable_tables.proofs.Words.{◌≡◌, ◌+◌, ℕ, Bool, false, arith, refl, ap, sym, ◌∙◌, subst, Some, Option, List, [], ◌∷◌, ◌++◌, length, slice_get, if◌then◌else◌, inl, inr, ◌≢◌, is_some}
+use Rattle.pagable_tables.proofs.Words.{cases_eq, nat_tests, append-nil, ArcRef, HandleNumber, NodeNumber, HandleRow, owner_value, one, live, alive, counts_at, refs_at, IsFalling, Settles, GivesUp}
+use Rattle.pagable_tables.proofs.{Words.{CellsStay, cell_in, ValueStays, owns, owns_nothing, entry, is_valued, valued, Counts, Holdings}, Alive.{only-row, none-found}, Left.gives-sums}
 use Rattle.pagable_tables.proofs.Fitting.{is_owned, taken-fits, taken-owned, taken-there, owner-is, fits-same, fallen}
 use Rattle.pagable_tables.proofs.holdings.step.Goals as goal
 
@@ -73,11 +73,10 @@ returns-in-Some-look c stack w =
     let x = c.in-Some-look.at.row in
     let mid : Holdings = record t { nodes = c.pop_reference.new.nodes } in
     let o = taken t mid s.0 c.in-Some.reference c.in-Some-look.at.place x s.3 e.here e.others e.counts f.place (ap (λ (n : HandleNumber). n.0) f.number) in
-    let g : GivesUp mid (t.top ∷ s.0) x c.args.lists c.give_up.new.t = c.give_up.ensures (t.top ∷ s.0) o.1 in
+    let g : GivesUp mid (t.top ∷ s.0) x false c.args.lists c.give_up.new.t = c.give_up.ensures (t.top ∷ s.0) o.1 in
     let v : of_value x ≡ 1 = ap (λ k. one (is_valued k)) o.0 in
-    let m : valued (live c.give_up.new.t.handles.places.items) ≡ valued (live g.between.handles.places.items) = ap (λ (h : Holdings). valued (live h.handles.places.items)) g.same in
-    let l : valued (live g.between.handles.places.items) + of_value x ≡ valued (live t.handles.places.items) + 0 = leaves-sums mid g.between x _ g.listed g.leaves of_value
-    ∙ ap (λ k. valued (live t.handles.places.items) + k) (no-value g.listed (t.last_handle + 1) x.node) in
+    let l = gives-sums g of_value in
+    let z = no-value g.listed (t.last_handle + 1) x.node in
     let n = ap length s.2 in
     record {
       rest = g.more;
