@@ -1,8 +1,8 @@
 -- A handle is given up: handles and nodes fit again.
 use Rattle.pagable_tables.proofs.Words.{◌≡◌, ℕ, ◌+◌, ◌-◌, ◌<◌, ◌≤◌, ◌==◌, ◌&&◌, ◌||◌, Bool, true, false, if◌then◌else◌, List, [], ◌∷◌, ◌++◌, length, sum_by, ap, sym, ◌∙◌, subst, arith, Option, Some}
 use Rattle.pagable_tables.proofs.Words.{None, inl, inr, ◌⊎◌, ◌≢◌, not, nat_tests, cases_eq, sum_by-cons, sum_by-le-sum_by, sum_by_push, ArcRef, HandleRow, Owner, one, held, pins, is_pin, is_at}
-use Rattle.pagable_tables.proofs.Words.{is_pinning, is_handle, is_owner, owner_value, Counts, pins_in, holds_in, falls_in, next_in, keyed_in, Chain, is_right, Right, is_fallen_by, after, is_new}
-use Rattle.pagable_tables.proofs.Words.{Fits, entry, owns, owns_nothing, named, often, unpinned, CellsStay, HasFallen}
+use Rattle.pagable_tables.proofs.Words.{is_pinning, is_handle, is_owner, owner_value, Counts, pins_in, holds_in, falls_in, next_in, keyed_in, Chain, is_right, Right, is_fallen_by, after, is_new, Fits}
+use Rattle.pagable_tables.proofs.Words.{entry, owns, owns_nothing, named, often, unpinned, CellsStay, HasFallen, Holdings, IsFalling, live, counts_at, is_bare, has_value, landed}
 
 -- 1 for a handle that pins the node, for one of it, for the handle q that its value owns, and for the handle q
 abbrev pub pin_of : ℕ → HandleRow → ℕ
@@ -104,17 +104,60 @@ new-top c pinning stays listed top node b e = ap (λ (t : Bool). if t then node 
 pub long-if : (b : Bool) (n : ℕ) (stack : List ℕ) → length (if b then n ∷ stack else stack) ≤ length stack + 1
 long-if x0 n stack = grind (arith, nat_tests)
 
+-- what waits first is there and waits
+pub first-waits : (at : ℕ → Option Counts) (refs : ℕ → List ArcRef) (rows : List HandleRow) (n : ℕ) (ns : List ℕ) (extra : ℕ → ℕ → ℕ) → Fits at refs rows n (n ∷ ns) extra → falls_in (at n) ≡ true
+first-waits at refs rows n ns extra fits = let a = sum_by-cons (λ y. one (y == n)) n ns in let b = fits.marked n in grind (arith, nat_tests)
+
+-- the top stands first
+pub top-stands : (t : Holdings) (stack : List ℕ) → t.top ≢ 0 → IsFalling t stack owns_nothing → (ns : List ℕ) × (stack ≡ t.top ∷ ns) × IsFalling t (t.top ∷ ns) owns_nothing
+top-stands t [] some w = absurd (some w.fits.chain)
+top-stands t (n ∷ ns) some w = let top = sym w.fits.chain.0 in (ns, ap (λ m. m ∷ ns) top, subst (λ m. IsFalling t (m ∷ ns) owns_nothing) top w)
+
+pub top-there : (t : Holdings) (stack : List ℕ) → t.top ≢ 0 → IsFalling t stack owns_nothing → counts_at t.nodes t.top ≡ None → ⊥
+top-there t stack some w none =
+    let s = top-stands t stack some w in
+    let waits = first-waits _ _ _ _ _ _ s.2.fits in
+    let a = ap falls_in none in
+    absurd (cc)
+
+-- a node has no more pins than handles
+pub pins-le-held : (n : ℕ) (rows : List HandleRow) → pins n rows ≤ held n rows
+pins-le-held n rows = sum_by-le-sum_by (pin_of n) (handle_of n) rows (λ h. grind (arith, nat_tests))
+
+landed-pins : (c : Counts) → c.pins ≤ c.holds → pins_in (landed c) ≡ c.pins
+landed-pins c few = grind (arith, nat_tests)
+
+landed-holds : (c : Counts) → holds_in (landed c) ≡ c.holds
+landed-holds c = grind (arith, nat_tests)
+
+landed-free : (c : Counts) → falls_in (landed c) ≡ false
+landed-free c = grind (arith, nat_tests)
+
+landed-right : (c : Counts) → Right (landed c) []
+landed-right c = grind (arith, nat_tests)
+
+-- where a node that fell still has a handle, it has a key, and nothing pins it
+landed-gone : (c : Counts) (bare : Bool) → c.is_falling ≡ true → is_right c bare ≡ true → has_value (landed c) ≡ false
+landed-gone c bare falls right = grind (arith, nat_tests)
+
 -- the first node that waits is done: it is gone, or waits no more
 module _ (at at' : ℕ → Option Counts) (refs refs' : ℕ → List ArcRef) (rows : List HandleRow) (n : ℕ) (ns : List ℕ) (c : Counts)
-    (fits : Fits at refs rows n (n ∷ ns) owns_nothing) (is : at n ≡ Some c) (pins' : pins_in (at' n) ≡ c.pins) (holds' : holds_in (at' n) ≡ c.holds)
-    (free : falls_in (at' n) ≡ false) (right' : Right (at' n) (refs' n))
+    (fits : Fits at refs rows n (n ∷ ns) owns_nothing) (is : at n ≡ Some c) (here : at' n ≡ landed c) (bare : refs n ≡ [])
     (others : (m : ℕ) → m ≢ n → at' m ≡ at m) (same : (m : ℕ) → refs' m ≡ refs m) (one' : n ≢ 0) where
   once : often n ns ≡ 0
   once =
       grind (arith, nat_tests, sum_by-cons (λ y. one (y == n)) n ns)
 
+  pub done-gone : has_value (at' n) ≡ false
+  done-gone =
+      ap has_value here ∙ landed-gone c (is_bare (refs n)) (sym (ap falls_in is) ∙ first-waits at refs rows n ns owns_nothing fits) (subst (λ o. Right o (refs n)) is (fits.right n))
+
   pub done-fits : Fits at' refs' rows c.next ns owns_nothing
   done-fits =
+      let pins' = ap pins_in here ∙ landed-pins c (omega (arith, fits.pinned n, fits.holding n, ap pins_in is, ap holds_in is, pins-le-held n rows)) in
+      let holds' = ap holds_in here ∙ landed-holds c in
+      let free = ap falls_in here ∙ landed-free c in
+      let right' : Right (at' n) (refs' n) = rw (here, same, bare) (landed-right c) in
       record {
         pinned = λ m. grind (arith, nat_tests, cases_eq);
         holding = λ m. grind (arith, nat_tests, cases_eq);
@@ -124,10 +167,6 @@ module _ (at at' : ℕ → Option Counts) (refs refs' : ℕ → List ArcRef) (ro
         right = λ m. grind (arith, nat_tests, cases_eq);
         from_one = others 0 (λ e. one' (sym e)) ∙ fits.from_one;
       }
-
--- what waits first is there and waits
-pub first-waits : (at : ℕ → Option Counts) (refs : ℕ → List ArcRef) (rows : List HandleRow) (n : ℕ) (ns : List ℕ) (extra : ℕ → ℕ → ℕ) → Fits at refs rows n (n ∷ ns) extra → falls_in (at n) ≡ true
-first-waits at refs rows n ns extra fits = let a = sum_by-cons (λ y. one (y == n)) n ns in let b = fits.marked n in grind (arith, nat_tests)
 
 still-right : (w a b b' : Bool) → w ≡ true → (if w then a else b) ≡ true → (if w then a else b') ≡ true
 still-right x0 a b b' e h = grind (arith, nat_tests)
@@ -139,16 +178,9 @@ owner-value n x1 h = grind (arith, nat_tests)
 still : (o : Option Counts) (refs refs' : List ArcRef) → falls_in o ≡ true → Right o refs → Right o refs'
 still x0 refs refs' waits right = grind (arith, nat_tests, still-right)
 
--- a node has no more pins than handles
-pub pins-le-held : (n : ℕ) (rows : List HandleRow) → pins n rows ≤ held n rows
-pins-le-held n rows = sum_by-le-sum_by (pin_of n) (handle_of n) rows (λ h. grind (arith, nat_tests))
-
 -- an owned row's owner
 pub owner-is : (n q : ℕ) (x : HandleRow) → is_owned n q x ≡ 1 → (x.owner ≡ owner_value n) × ((m r : ℕ) → is_owned m r x ≡ one (n == m && q == r))
 owner-is n q x h = grind (arith, nat_tests, owner-value)
-
-pub settled-right : (c : Counts) → c.is_falling ≡ false → 0 < c.holds → is_right c true ≡ true
-settled-right c free live = grind (arith, nat_tests)
 
 -- the last reference of the first node that waits is taken: its row is owned by that node's value
 module _ (at at' : ℕ → Option Counts) (refs refs' : ℕ → List ArcRef) (rows : List HandleRow) (n : ℕ) (ns : List ℕ) (p : ArcRef)
@@ -193,3 +225,5 @@ fallen at refs rows n ns fits =
       | inl none ↦ inl (sym (fits.holding n) ∙ none)
       | inr both ↦ inr (both.0, sym (fits.pinned n) ∙ both.1)
     ]
+
+pub ruleset landing = (nat_tests, cases_eq)

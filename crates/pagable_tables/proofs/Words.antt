@@ -30,7 +30,7 @@ pub use Rattle.pagable_tables.specs.{Core.{load_in, core_of, Makes, plain_of, Ma
 pub use Rattle.pagable_tables.specs.Falling.{holds_in, falls_in, is_bare, is_right, Right, Fits, owns_nothing, named, key_in, next_in, keyed_in, Chain, is_fallen_by, after, is_new, owns, often}
 pub use Rattle.pagable_tables.specs.Falling.{CellsStay, HasFallen, entries_of, first_cause, IsUnlisted, GivesUp, HasPlaces, Steps, Leaves, FallsBy, IsFalling, valued, has_value, ValueStays, Sheds}
 pub use Rattle.pagable_tables.specs.{Falling.{MayList, Settles, AreKept, is_node}, Lowering.{GetsKey, keyed}, Later.AreLater, Live.{live, room, AreSound, IsNext, alive, is_live_place, IsBefore}}
-pub use Rattle.pagable_tables.specs.{Falling.unpinned, Owning.{named_at, IsNamed}, Offering.Offered, Onward.{is_plain_pin, SoFar, told_by, Begins, IsApart}, Ready.IsReady}
+pub use Rattle.pagable_tables.specs.{Falling.{landed, unpinned}, Owning.{named_at, IsNamed}, Offering.Offered, Onward.{is_plain_pin, SoFar, told_by, Begins, IsApart}, Ready.IsReady}
 pub use Rattle.pagable_tables.specs.{Becoming.Becomes, Ready.IsWider}
 pub use Rattle.pagable_tables.specs.{Ready.has_come, declared.handles.Handles.Handles, declared.holdings.Holdings.Holdings, declared.installing.Ending.Ending, declared.rows.Counts.Counts}
 pub use Rattle.pagable_tables.specs.{declared.rows.LoadRow.LoadRow, declared.rows.NodeRow.NodeRow, declared.rows.Place.Place, declared.tables.Tables.Tables, Giving.{passes_in, left_load, gives_row}}

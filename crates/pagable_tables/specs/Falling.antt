@@ -199,6 +199,10 @@ pub record GivesUp (old : Holdings) (stack : List ℕ) (x : HandleRow) (stays li
   -- where its handle stays a node falls only if it has a key
   pub keyed : stays ≡ true → old.top ≡ 0 → new.top ≢ 0 → nat_lt 0 counts.key ≡ true
 
+-- the counts of a node that falls no more, if it is left
+abbrev pub landed : Counts → Option Counts
+landed c = if c.holds == 0 then None else Some (record c { is_falling = false; next = 0 })
+
 -- The first node that falls is done, and its value goes.
 pub record Settles (old : Holdings) (stack : List ℕ) (new : Holdings) : Type 0 where
   pub same : new ≡ record old { nodes = new.nodes; top = new.top }

@@ -5,7 +5,7 @@ ghost use Rattle.std.specs.Prelude.{◌≡◌, ◌≢◌, ℕ, ◌+◌, ◌-◌,
 ghost use Rattle.std.specs.Prelude.{IsSome, Bool};
 ghost use Rattle.pagable_model.specs.declared.numbers.HandleNumber.{HandleNumber};
 ghost use Rattle.pagable_world.specs.{declared.handles.HandleRow.HandleRow, Plain.one, Kinds.is_pinning, Cascade.{left_rows, only_handle}};
-ghost use Rattle.pagable_tables.specs.{Falling.{Lists, MayList, Leaves, is_listing, is_valued, after, is_new, IsFalling, GivesUp, Settles, Steps, owns, owns_nothing}, Live.{alive, AreSound, IsNext, live}};
+ghost use Rattle.pagable_tables.specs.{Falling.{Lists, MayList, Leaves, is_listing, is_valued, after, is_new, IsFalling, GivesUp, landed, Settles, Steps, owns, owns_nothing}, Live.{alive, AreSound, IsNext, live}};
 ghost use Rattle.pagable_tables.specs.{ByNumber.{refs_at, counts_at}, declared.rows.Counts.Counts};
 
 use crate::handles::Handles;
@@ -195,6 +195,30 @@ pub fn give_up(t: &mut Holdings, at: HandleAt, stays: bool, lists: bool)
     t.top = top_after(counts.is_falling, left.is_falling, node, t.top);
 }
 
+/// A node that fell has nothing any more. It is gone if it has no handle.
+#[tactic(auto, using(crate::proofs::Fitting::landing))]
+fn land(nodes: &mut IndexMap<u64, NodeRow>, node: u64, counts: Counts)
+    requires is { counts_at nodes.old node ≡ Some counts }
+    requires bare { refs_at nodes.old node ≡ [] }
+    ensures here { counts_at nodes.new node ≡ landed counts }
+    ensures others { (q : ℕ) → q ≢ node → counts_at nodes.new q ≡ counts_at nodes.old q }
+    ensures refs { (q : ℕ) → refs_at nodes.new q ≡ refs_at nodes.old q }
+{
+    if counts.holds == 0 {
+        nodes::remove(nodes, node);
+    } else {
+        nodes::set_counts(
+            nodes,
+            node,
+            Counts {
+                is_falling: false,
+                next: 0,
+                ..counts
+            },
+        );
+    }
+}
+
 /// The first node that falls has given up all that its value referred to.
 fn settle(t: &mut Holdings)
     requires falling { (stack : List ℕ) × IsFalling t.old stack owns_nothing }
@@ -207,19 +231,7 @@ fn settle(t: &mut Holdings)
         unreachable!();
     };
     t.top = counts.next;
-    if counts.holds == 0 {
-        nodes::remove(&mut t.nodes, node);
-    } else {
-        nodes::set_counts(
-            &mut t.nodes,
-            node,
-            Counts {
-                is_falling: false,
-                next: 0,
-                ..counts
-            },
-        );
-    }
+    land(&mut t.nodes, node, counts);
 }
 
 /// One step of what follows when handles are given up: the first node that falls gives up a handle, or it is done, and then it is answered: its value
