@@ -124,17 +124,8 @@ top-there t stack some w none =
 pub pins-le-held : (n : ℕ) (rows : List HandleRow) → pins n rows ≤ held n rows
 pins-le-held n rows = sum_by-le-sum_by (pin_of n) (handle_of n) rows (λ h. grind (arith, nat_tests))
 
-landed-pins : (c : Counts) → c.pins ≤ c.holds → pins_in (landed c) ≡ c.pins
-landed-pins c few = grind (arith, nat_tests)
-
-landed-holds : (c : Counts) → holds_in (landed c) ≡ c.holds
-landed-holds c = grind (arith, nat_tests)
-
-landed-free : (c : Counts) → falls_in (landed c) ≡ false
-landed-free c = grind (arith, nat_tests)
-
-landed-right : (c : Counts) → Right (landed c) []
-landed-right c = grind (arith, nat_tests)
+landed-as : (c : Counts) → c.pins ≤ c.holds → (pins_in (landed c) ≡ c.pins) × (holds_in (landed c) ≡ c.holds) × (falls_in (landed c) ≡ false) × Right (landed c) []
+landed-as c few = (grind (arith, nat_tests), grind (arith, nat_tests), grind (arith, nat_tests), grind (arith, nat_tests))
 
 -- where a node that fell still has a handle, it has a key, and nothing pins it
 landed-gone : (c : Counts) (bare : Bool) → c.is_falling ≡ true → is_right c bare ≡ true → has_value (landed c) ≡ false
@@ -154,10 +145,11 @@ module _ (at at' : ℕ → Option Counts) (refs refs' : ℕ → List ArcRef) (ro
 
   pub done-fits : Fits at' refs' rows c.next ns owns_nothing
   done-fits =
-      let pins' = ap pins_in here ∙ landed-pins c (omega (arith, fits.pinned n, fits.holding n, ap pins_in is, ap holds_in is, pins-le-held n rows)) in
-      let holds' = ap holds_in here ∙ landed-holds c in
-      let free = ap falls_in here ∙ landed-free c in
-      let right' : Right (at' n) (refs' n) = rw (here, same, bare) (landed-right c) in
+      let l = landed-as c (omega (arith, fits.pinned n, fits.holding n, ap pins_in is, ap holds_in is, pins-le-held n rows)) in
+      let pins' = ap pins_in here ∙ l.0 in
+      let holds' = ap holds_in here ∙ l.1 in
+      let free = ap falls_in here ∙ l.2 in
+      let right' : Right (at' n) (refs' n) = rw (here, same, bare) l.3 in
       record {
         pinned = λ m. grind (arith, nat_tests, cases_eq);
         holding = λ m. grind (arith, nat_tests, cases_eq);
