@@ -1,10 +1,10 @@
 -- Handles are given up together, those that pass a test or that references name.
 use Rattle.pagable_tables.proofs.Words.{nat_lt, ◌≡◌, ℕ, ◌<◌, ◌≤◌, ◌-◌, ◌==◌, ◌&&◌, ◌||◌, Bool, true, false, not, [], Option, Some, None, refl, ap, sym, ◌∙◌, arith, nat_tests, NodeNumber, HandleRow}
 use Rattle.pagable_tables.proofs.Words.{Owner, if_there, is_owner, find_row, Core, OpenLoad, nobody, Giving, Holdings, live, is_valued, SoFar, gives_row, passes_in, ◌+◌, if◌then◌else◌, List, ◌∷◌, suc}
-use Rattle.pagable_tables.proofs.Words.{length, get_or, slice_get, AllPairs, slice_get-get_or, is_handle, Place, alive, IsBefore, take, ArcRef, LoadNumber, is_named_by}
-use Rattle.pagable_tables.proofs.{Words.{is_owned_in, ◌⊎◌, ◌≢◌, inl, inr}, Regiven.{regiven, passes-here, passes-left, passes-none, no-entry, and_owned}, Alive.{le_or_lt, row-live, smaller-up}}
-use Rattle.pagable_tables.proofs.{Named.named-take, Bits.had, Coming.list-owner, Entries.none-came}
-use Rattle.pagable_tables.{proofs.{Bits.and-left, Words.{InReach, Reach}}, specs.Giving.gives}
+use Rattle.pagable_tables.proofs.Words.{length, get_or, slice_get, AllPairs, slice_get-get_or, is_handle, Place, alive, IsBefore, take, ArcRef, LoadNumber, is_named_by, is_owned_in, ◌⊎◌, ◌≢◌, inl}
+use Rattle.pagable_tables.proofs.{Words.{inr, InReach, Reach}, Regiven.{regiven, passes-here, passes-left, passes-none, no-entry, and_owned}, Alive.{le_or_lt, row-live, smaller-up}, Named.named-take}
+use Rattle.pagable_tables.proofs.{Named.named-none, Bits.{had, and-left}, Coming.list-owner, Entries.none-came}
+use Rattle.pagable_tables.specs.Giving.{gives}
 
 -- a world of these loads alone
 abbrev pub bare : (ℕ → Option OpenLoad) → Core
@@ -134,14 +134,9 @@ module _ (ss : List Place) (m : ℕ) (p : Place) (within : m < length ss) (is : 
 abbrev pub named_owned : Core → LoadNumber → List ArcRef → ℕ → ℕ → Bool
 named_owned w l rs i q = is_named_by (take i rs) q && is_owned_in w (Owner.Load l) q
 
-named-nothing : (rs : List ArcRef) (q : ℕ) → is_named_by (take 0 rs) q ≡ false
-unfolding is_named_by
-named-nothing [] q = refl
-named-nothing (r ∷ rs) q = refl
-
 module _ (before w : Core) (lists : Bool) (t : Holdings) (l : LoadNumber) (rs : List ArcRef) where
   pub none-given : SoFar before w nobody lists t → SoFar before w (named_owned w l rs 0) lists t
-  none-given f = regiven before w nobody (named_owned w l rs 0) lists t f (λ r e. absurd (let a = and-left (is_named_by (take 0 rs) r) _ e in let b = named-nothing rs r in cc)) (λ r e. absurd (cc))
+  none-given f = regiven before w nobody (named_owned w l rs 0) lists t f (λ r e. absurd (let a = and-left (is_named_by (take 0 rs) r) _ e in let b = named-none r in cc)) (λ r e. absurd (cc))
 
   pub one-given : (i : ℕ) (d : ArcRef) → i < length rs → SoFar before w (and_owned w l (named_owned w l rs i) (get_or rs i d).handle.0) lists t → SoFar before w (named_owned w l rs (i + 1)) lists t
   one-given i d lt f =

@@ -86,11 +86,8 @@ with-entry f rows x2 k node = grind (arith, nat_tests, sum_by_push, append-nil)
 pub gives-sums : {old new : Holdings} {stack : List ℕ} {x : HandleRow} {stays lists : Bool} (g : GivesUp old stack x stays lists new) (f : HandleRow → ℕ) → sum_by f (live new.handles.places.items) + f x
     ≡ sum_by f (live old.handles.places.items) + (if stays then f (unpinned x) else 0) + (if g.listed then f (entry (old.last_handle + 1) x.node) else 0)
 gives-sums {old} {new} {x = x} g f =
-    let a = g.leaves.sums f in
-    let b = ap (sum_by f) g.comes.comes.rows in
     let d = with-entry f (live g.left.places.items) g.listed (old.last_handle + 1) x.node in
-    let e = ap (λ (h : Holdings). sum_by f (live h.handles.places.items)) g.same in
-    omega arith
+    omega (arith, d, g.leaves.sums f, ap (sum_by f) g.comes.comes.rows, ap (λ (h : Holdings). sum_by f (live h.handles.places.items)) g.same)
 
 abbrev pub of_list : ℕ → HandleRow → Bool
 of_list q h = is_handle q h && is_owned_by Owner.List h

@@ -56,12 +56,7 @@ unlisted-apart {w = w} {t = t} {x = x} f g same owner =
 
 -- handles are no more
 pub gives-fewer : {old new : Holdings} {stack : List ℕ} {x : HandleRow} {lists : Bool} → GivesUp old stack x false lists new → length (live new.handles.places.items) ≤ length (live old.handles.places.items)
-gives-fewer {old} {new} g =
-    let a = gives-sums g (λ h. 1) in
-    let b = ones (live old.handles.places.items) in
-    let d = ones (live new.handles.places.items) in
-    let e = one-le g.listed in
-    omega arith
+gives-fewer {old} {new} g = omega (arith, gives-sums g (λ h. 1), ones (live old.handles.places.items), ones (live new.handles.places.items), one-le g.listed)
 
 -- the same is asked and told where other rows are as many, and other cells are left
 must-as : {before w w' : Core} {n : ℕ} (rows : List HandleRow) (cells : ℕ → Option Cell) → MustList before w w' n → MustList before (record w { rows = rows }) (record w' { cells = cells }) n
@@ -95,24 +90,13 @@ module _ {before w : Core} {given : ℕ → Bool} {lists stays : Bool} {t popped
   before-rows = ap (λ (h : Holdings). live h.handles.places.items) same
 
   left : (n : ℕ) → pins n (live new.handles.places.items) + one (is_pin n x) ≡ pins n (live t.handles.places.items)
-  left n =
-      let a = gives-sums g (λ h. one (is_pin n h)) in
-      let b = entry-pins g.listed (popped.last_handle + 1) n x.node in
-      let d = unpinned-pins stays n x in
-      let e = ap (pins n) before-rows in
-      omega arith
+  left n = omega (arith, gives-sums g (λ h. one (is_pin n h)), entry-pins g.listed (popped.last_handle + 1) n x.node, unpinned-pins stays n x, ap (pins n) before-rows)
 
   here : (p : HandleRow → Bool) → one (p x) ≤ times p (live t.handles.places.items)
   here p = let a = g.leaves.there (λ h. one (p h)) in let b = ap (times p) before-rows in omega arith
 
   fewer : length (live g.left.places.items) ≤ length w.rows
-  fewer =
-      let a = g.leaves.sums (λ h. 1) in
-      let b = ones (live g.left.places.items) in
-      let d = ones (live popped.handles.places.items) in
-      let e = ap length before-rows in
-      let k = one-le stays in
-      omega arith
+  fewer = omega (arith, g.leaves.sums (λ h. 1), ones (live g.left.places.items), ones (live popped.handles.places.items), ap length before-rows, one-le stays)
 
   since : popped.last_handle ≡ t.last_handle
   since = ap (λ (h : Holdings). h.last_handle) same
@@ -128,14 +112,7 @@ module _ {before w : Core} {given : ℕ → Bool} {lists stays : Bool} {t popped
   list-more gone kept = grind (arith, nat_tests, map-append, entry-number, added, append_assoc)
 
   room : HasPlaces t new
-  room =
-      let a = ap (λ (h : Holdings). vec_capacity h.handles.places) same in
-      let b = ap (λ (h : Holdings). vec_capacity h.list) same in
-      let d = ap (λ (h : Holdings). vec_capacity h.handles.places) g.same in
-      let e = ap (λ (h : Holdings). vec_capacity h.list) g.same in
-      let c = g.leaves.becomes.capacity in
-      let p = g.comes.comes.places in
-      record { handles = omega arith; entries = omega arith }
+  room = grind (arith, nat_tests)
 
   -- why none came
   wanting : (e : Error) → g.listed ≡ false → IsUnlisted gap e → IsListRefusal w (with_tables w new) e
@@ -155,7 +132,7 @@ module _ {before w : Core} {given : ℕ → Bool} {lists stays : Bool} {t popped
   told =
       let unlisted = ap (λ (h : Holdings). h.unlisted) same in
       let kept : new.unlisted ≡ g.between.unlisted = ap (λ (h : Holdings). h.unlisted) g.same in
-      tells-more before w given lists t f x g.counts is (pinned x.node.0) here new left g.listed (t.last_handle + 1) g.comes.only t.unlisted new.unlisted gap f.tells
+      tells-more f x g.counts is (pinned x.node.0) here new left g.listed (t.last_handle + 1) g.comes.only t.unlisted new.unlisted gap f.tells
       (λ s. kept ∙ g.comes.told s ∙ unlisted)
       (λ none wanted. let y = g.comes.why none wanted in (y.0, y.1, kept ∙ y.2 ∙ ap (λ u. first_cause u y.0) unlisted))
       wanting
@@ -183,7 +160,7 @@ module _ {before w : Core} {given : ℕ → Bool} {lists stays : Bool} {t popped
         holds = holds;
         least = least;
         new = new-more w.last.handle f.entries g.listed (t.last_handle + 1) x.node f.new (let a = f.last in omega arith);
-        only = λ n some. let o = only-more before w given lists t f x g.counts is (pinned x.node.0) here new left g.listed (t.last_handle + 1) g.comes.only n some in
+        only = λ n some. let o = only-more f x g.counts is (pinned x.node.0) here new left g.listed (t.last_handle + 1) g.comes.only n some in
             (must-as rows (λ n. cell_in (counts_at new.nodes n)) o.0, o.1);
         tells = tells-as rows (λ n. cell_in (counts_at new.nodes n)) long (told_by new.unlisted) told;
         few = few';
@@ -234,7 +211,7 @@ least-more {before} {w} {given} {lists} {t} {x = x} {n} f by s final bare has cl
     let rows = ap (λ (h : Holdings). live h.handles.places.items) by.same in
     let bare-before : (m : ℕ) → held m (live t.handles.places.items) ≡ 0 → held m final ≡ 0 = λ m none. bare m (none-comes by.gives m (ap (held m) rows ∙ none)) in
     let rest = f.least s final bare-before has closed in
-    let none = forced before w given lists t f s rest final n (bare-before n) by.fallen closed in
+    let none = forced f s rest final n (bare-before n) by.fallen closed in
     let a = by.gives.leaves.there (λ h. one (is_owned_by (owner_value n) h && is_outside s h)) in
     let b = ap (times (λ h. is_owned_by (owner_value n) h && is_outside s h)) rows in
     with-one f.gone s x.number.0 w.rows (in-set n x s by.owner (omega arith)) rest
@@ -244,13 +221,7 @@ pub within-less : (a b c d : ℕ → Bool) (rows : List HandleRow) → ((r : ℕ
 within-less a b c d rows less is = grind (arith, nat_tests, sum_by-le-sum_by)
 
 within-both : (gone given s : ℕ → Bool) (q : ℕ) (rows : List HandleRow) → IsWithin rows gone s → IsWithin rows (and_one given q) s → IsWithin rows (and_one gone q) s
-within-both gone given s q rows a b =
-    let c = sum-most (λ h. one (and_one gone q h.number.0 && not (s h.number.0))) (λ h. one (gone h.number.0 && not (s h.number.0))) (λ h. one (and_one given q h.number.0 && not (s h.number.0))) rows
-    (λ h. bits (gone h.number.0) (given h.number.0) (h.number.0 == q) (s h.number.0)) in
-    omega arith
-  where
-    bits : (g v r s : Bool) → one ((g || r) && not s) ≤ one (g && not s) + one ((v || r) && not s)
-    bits g v r s = grind (arith, nat_tests)
+within-both gone given s q rows a b = grind (arith, nat_tests, sum-most)
 
 -- one step of a cascade
 pub steps-on : (before w : Core) (given : ℕ → Bool) (lists : Bool) (t new : Holdings) (stack : List ℕ) (r : Option NodeNumber) → SoFar before w given lists t
@@ -279,21 +250,8 @@ gives-on before w given lists t new stack x f pinned free few g =
     (λ s final bare has closed. within-both f.gone given s x.number.0 w.rows
     (f.least s final (λ n none. bare n (none-comes g n none)) (within-less given s (and_one given x.number.0) s w.rows (λ r. grind (arith, nat_tests)) has) closed) has)
 
-pub steps-fewer : (t new : Holdings) (stack : List ℕ) (lists : Bool) (r : Option NodeNumber) → Steps t stack lists r new → length (live new.handles.places.items) ≤ length (live t.handles.places.items)
-steps-fewer t new stack lists r s = elim s.what [
-  | inl done ↦ let a = ap (λ (u : Holdings). length (live u.handles.places.items)) done.1 in omega arith
-  | inr gone ↦
-      omega (arith, ap (λ (u : Holdings). length (live u.handles.places.items)) gone.3.same, gives-fewer gone.3.gives)
-]
-
 none-came : (listed : Bool) (q : HandleNumber) → (listed ≡ true → false ≡ true) → (if listed then q ∷ [] else []) ≡ []
 none-came x0 q only = grind (arith, nat_tests)
 
 pub gives-unlisted : {t new : Holdings} {stack : List ℕ} {x : HandleRow} {lists : Bool} → lists ≡ false → GivesUp t stack x false lists new → new.list.items ≡ t.list.items
 gives-unlisted {t} {new} shut g = grind (arith, nat_tests, none-came, append-nil)
-
-pub steps-unlisted : (t new : Holdings) (stack : List ℕ) (lists : Bool) (r : Option NodeNumber) → lists ≡ false → Steps t stack lists r new → new.list.items ≡ t.list.items
-steps-unlisted t new stack lists r shut s = elim s.what [
-  | inl done ↦ ap (λ (u : Holdings). u.list.items) done.1
-  | inr gone ↦ gives-unlisted shut gone.3.gives ∙ ap (λ (u : Holdings). u.list.items) gone.3.same
-]

@@ -1,8 +1,8 @@
 -- A handle lets its pin go and stays: what has gone and come so far.
 use Rattle.pagable_tables.proofs.Words.{◌&&◌, ◌-◌, ◌==◌, ◌∙◌, ◌≡◌, ◌≢◌, ◌≤◌, Begins, Blob, Bool, Core, HandleRow, Holdings, List, Mode, None, Option, Owner, SoFar, Tables, [], ap, append-nil, arith}
-use Rattle.pagable_tables.proofs.Words.{core_of, false, if◌then◌else◌, inl, inr, is_handle, is_owned_by, is_pin, is_share, length, length-map, live, nat_tests, nobody, not, one, pins, refl, sharing}
-use Rattle.pagable_tables.proofs.{Words.{sym, times, true, unpinned, updated, with_mode, ℕ, is_listing, and_parts, is_plain_pin, GivesUp}, Begun.{begun-whole, none-within}, Left.{all-kept, ones}}
-use Rattle.pagable_tables.proofs.{Left.gives-sums, Next.entered-on, Telling.listing-is}
+use Rattle.pagable_tables.proofs.Words.{core_of, false, if◌then◌else◌, inl, inr, is_handle, is_owned_by, is_pin, is_share, length, length-map, live, nat_tests, nobody, not, one, refl, sym, times}
+use Rattle.pagable_tables.proofs.{Words.{true, unpinned, updated, with_mode, ℕ, is_listing, and_parts, is_plain_pin, GivesUp}, Begun.{begun-whole, none-within}, Left.{all-kept, ones, gives-sums}}
+use Rattle.pagable_tables.proofs.{Next.entered-on, Telling.listing-is}
 use Rattle.pagable_tables.specs.Core.{IsWhole}
 
 module _ (T : Tables) (stored : ℕ → Option Blob) (closed lists : Bool) (failures : ℕ) (whole : IsWhole T) (opened : lists ≡ not closed) (x : HandleRow) (new : Holdings)
@@ -16,16 +16,18 @@ module _ (T : Tables) (stored : ℕ → Option Blob) (closed lists : Bool) (fail
   abbrev f : SoFar old old nobody lists (record T.holdings { unlisted = None })
   f = begun-whole T stored closed lists failures whole opened
 
+  less : (p : HandleRow → Bool) → one (p (unpinned x)) ≤ one (p x) → times p now.rows ≤ times p old.rows
+  less p le = omega (arith, g.leaves.sums (λ h. one (p h)), ap (times p) g.leaves.becomes.rows)
+
   begins : Begins old now lists
   begins =
       record {
         open_storage = opened;
-        fewer = λ n. let a = g.leaves.sums (λ h. one (is_pin n h)) in let b = ap (pins n) g.leaves.becomes.rows in let z : one (is_pin n (unpinned x)) ≡ 0 = grind (arith, nat_tests) in omega arith;
-        shared = λ n. let a = g.leaves.sums (λ h. one (is_share n h)) in let b = ap (sharing n) g.leaves.becomes.rows in let z : one (is_share n (unpinned x)) ≡ 0 = grind (arith, nat_tests) in omega arith;
+        fewer = λ n. less (is_pin n) (grind (arith, nat_tests));
+        shared = λ n. less (is_share n) (grind (arith, nat_tests));
         uniform = λ n. elim (f.begins.uniform n) [
           | inl none ↦ inl none
-          | inr none ↦ let a = g.leaves.sums (λ h. one (is_plain_pin n h)) in let b = ap (times (is_plain_pin n)) g.leaves.becomes.rows in
-              let z : one (is_plain_pin n (unpinned x)) ≡ 0 = grind (arith, nat_tests) in inr (omega arith)
+          | inr none ↦ let a = less (is_plain_pin n) (grind (arith, nat_tests)) in inr (omega arith)
         ];
         listed = λ q. let a = g.leaves.sums (λ h. one (is_handle q h && is_owned_by Owner.List h)) in
             let b = ap (times (λ h. is_handle q h && is_owned_by Owner.List h)) g.leaves.becomes.rows in let d = f.begins.listed q in omega arith;

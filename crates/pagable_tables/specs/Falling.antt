@@ -243,6 +243,8 @@ pub record Steps (old : Holdings) (stack : List ℕ) (lists : Bool) (r : Option 
   pub cells : CellsStay (counts_at old.nodes) (counts_at new.nodes)
   pub values : (n : ℕ) → r ≢ Some (record { 0 = n }) → ValueStays (counts_at old.nodes n) (counts_at new.nodes n)
   pub gone : IfSome r (λ n. has_value (counts_at new.nodes n.0) ≡ false)
+  pub fewer : length (live new.handles.places.items) ≤ length (live old.handles.places.items)
+  pub unlisting : lists ≡ false → new.list.items ≡ old.list.items
   pub what : ((r ≡ Some (record { 0 = old.top })) × (new ≡ record old { nodes = new.nodes; top = new.top })) ⊎ ((x : HandleRow) × (n : ℕ) × (r ≡ None) × FallsBy old x n lists new)
 
 -- A node that doesn't fall has its value exactly while something pins it or it has no key.

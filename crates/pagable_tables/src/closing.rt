@@ -1,6 +1,6 @@
 //! The close of the storage, as far as tables go: nothing is listed or known any more.
 
-ghost use Rattle.std.specs.Prelude.{◌≡◌, ℕ, ◌≤◌, Bool, true, None, Option, Ok, nat_eq};
+ghost use Rattle.std.specs.Prelude.{ℕ, ◌≤◌, Bool, true, None, Option, Ok, nat_eq};
 ghost use Rattle.pagable_world.specs.{Plain.Blob, Calls.CloseCall};
 ghost use Rattle.indexmap.specs.IndexMap.{get};
 ghost use Rattle.pagable_tables.specs.{ByNumber.counts_at, Falling.Sheds, Core.{core_of, IsWhole}, Later.AreLater};
@@ -23,9 +23,10 @@ pub fn close<N: Drop>(t: &mut Tables, values: &mut IndexMap<u64, Arc<N>>)
 {
     cache::forget(&mut t.cache);
     t.holdings.list.clear();
+    let giving = Giving::Listed;
     let reach = Reach {
         since: 0,
         beside: 0,
     };
-    let _ = give_all(&mut t.holdings, values, &t.loads, Giving::Listed, reach, false);
+    let _ = give_all(&mut t.holdings, values, &t.loads, giving, reach, false);
 }

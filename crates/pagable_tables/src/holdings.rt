@@ -1,12 +1,10 @@
 //! Who holds what: handles, nodes with what their values refer to, and the list of cells that wait for page-out. Handles are given up here, with all
 //! that goes with them.
 
-ghost use Rattle.std.specs.Prelude.{◌≡◌, ◌≢◌, ℕ, ◌+◌, ◌-◌, ◌<◌, ◌≤◌, [], if◌then◌else◌, List, slice_get, Some, None, OnOk, OnErr, true, vec_len, vec_capacity, ◌&&◌, ◌*◌, ◌++◌, ◌∷◌, length, sum_by, ◌^◌, false};
-ghost use Rattle.std.specs.Prelude.{IsSome, Bool};
-ghost use Rattle.pagable_model.specs.declared.numbers.HandleNumber.{HandleNumber};
-ghost use Rattle.pagable_world.specs.{declared.handles.HandleRow.HandleRow, Plain.one, Kinds.is_pinning, Cascade.{left_rows, only_handle}};
-ghost use Rattle.pagable_tables.specs.{Falling.{Lists, MayList, Leaves, is_listing, is_valued, after, is_new, IsFalling, GivesUp, landed, Settles, Steps, owns, owns_nothing}, Live.{alive, AreSound, IsNext, live}};
-ghost use Rattle.pagable_tables.specs.{ByNumber.{refs_at, counts_at}, declared.rows.Counts.Counts};
+ghost use Rattle.std.specs.Prelude.{◌≡◌, ◌≢◌, ℕ, ◌+◌, ◌-◌, ◌<◌, ◌≤◌, [], if◌then◌else◌, List, slice_get, Some, None, OnOk, OnErr, true, vec_len, vec_capacity, ◌&&◌, ◌^◌, false};
+ghost use Rattle.pagable_world.specs.{Plain.one, Kinds.is_pinning};
+ghost use Rattle.pagable_tables.specs.{Falling.{Lists, MayList, Leaves, is_listing, is_valued, after, is_new, IsFalling, GivesUp, landed, Settles, Steps, owns, owns_nothing}, Live.{alive, AreSound, IsNext}};
+ghost use Rattle.pagable_tables.specs.ByNumber.{refs_at, counts_at};
 
 use crate::handles::Handles;
 use crate::making::places_taken;

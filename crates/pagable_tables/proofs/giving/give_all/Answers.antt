@@ -4,12 +4,12 @@ use Rattle.pagable_tables.proofs.giving.give_all.Goals as goal
 
 pub loop-at-init : goal.loop-at-init
 loop-at-init g c = (
-      aside c.args.t.now None [] owns_nothing c.requires.steady,
-      omega arith,
-      λ before u w loads f few between. none-past before u w c.args.lists c.args.giving (λ is. (c.requires.listed is).0) c.args.reach (λ q e. (between q e).0) _ c.args.t.now.last_handle (λ q e. (between q e).1) f,
-      sheds-still c.args.t.now _ c.requires.steady,
-      λ none. refl,
-    )
+  aside c.args.t.now None [] owns_nothing c.requires.steady,
+  omega arith,
+  λ before u w loads f few between. none-past before u w c.args.lists c.args.giving (λ is. (c.requires.listed is).0) c.args.reach (λ q e. (between q e).0) _ c.args.t.now.last_handle (λ q e. (between q e).1) f,
+  sheds-still c.args.t.now _ c.requires.steady,
+  λ none. refl,
+)
 
 pub shed-requires-clause-plain : goal.shed-requires-clause-plain
 shed-requires-clause-plain g c =

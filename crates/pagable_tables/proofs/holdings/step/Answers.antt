@@ -1,7 +1,7 @@
 use Rattle.pagable_tables.proofs.Words.{◌≡◌, ◌+◌, ℕ, Bool, false, arith, refl, ap, sym, ◌∙◌, subst, Some, Option, List, [], ◌∷◌, ◌++◌, length, slice_get, if◌then◌else◌, inl, inr, ◌≢◌, is_some}
 use Rattle.pagable_tables.proofs.Words.{cases_eq, nat_tests, append-nil, ArcRef, HandleNumber, NodeNumber, HandleRow, owner_value, one, live, alive, counts_at, refs_at, IsFalling, Settles, GivesUp}
 use Rattle.pagable_tables.proofs.{Words.{CellsStay, cell_in, ValueStays, owns, owns_nothing, entry, is_valued, valued, Counts, Holdings}, Alive.{only-row, none-found}, Left.gives-sums}
-use Rattle.pagable_tables.proofs.Fitting.{is_owned, taken-fits, taken-owned, taken-there, owner-is, fits-same, fallen, top-stands}
+use Rattle.pagable_tables.proofs.{Fitting.{is_owned, taken-fits, taken-owned, taken-there, owner-is, fits-same, fallen, top-stands}, Next.{gives-fewer, gives-unlisted}}
 use Rattle.pagable_tables.proofs.holdings.step.Goals as goal
 
 abbrev of_value : HandleRow → ℕ
@@ -81,6 +81,8 @@ returns-in-Some-look c stack w =
       cells = cells-through (counts_at t.nodes) (counts_at mid.nodes) (counts_at c.give_up.new.t.nodes) e.counts g.cells;
       values = λ m _. subst (λ o. ValueStays o (counts_at c.give_up.new.t.nodes m)) (e.counts m) (g.values m);
       gone = tt;
+      fewer = gives-fewer g;
+      unlisting = λ none. gives-unlisted none g;
       what = inr (x, t.top, refl, record { owner = o.0; fallen = fallen _ (refs_at t.nodes) _ t.top s.0 s.2.fits; popped = mid; same = refl; counts = e.counts; stack = t.top ∷ s.0; gives = g });
     }
 
@@ -98,5 +100,7 @@ returns-in-None c stack w =
       cells = cells-through (counts_at t.nodes) (counts_at mid.nodes) (counts_at c.settle.new.t.nodes) e.counts g.cells;
       values = λ m ne. subst (λ o. ValueStays o (counts_at c.settle.new.t.nodes m)) (e.counts m) (g.values m (λ eq. ne (ap (λ k. Some (record { 0 = k })) (sym eq))));
       gone = g.gone;
+      fewer = let a = ap (λ (h : Holdings). length (live h.handles.places.items)) g.same in omega arith;
+      unlisting = λ none. ap (λ (h : Holdings). h.list.items) g.same;
       what = inl (refl, g.same);
     }
