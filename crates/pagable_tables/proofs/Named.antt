@@ -1,7 +1,7 @@
 -- Handles that references name come to another owner.
 use Rattle.pagable_tables.proofs.Words.{Bool, SameAt, ◌≡◌, ℕ, ◌+◌, ◌<◌, ◌≤◌, ◌==◌, ◌||◌, true, false, List, [], ◌∷◌, ◌++◌, take, drop, drop-cons, get_or, length, add-one, refl, ap, sym, ◌∙◌, arith}
 use Rattle.pagable_tables.proofs.Words.{Some, None, nat_tests, ◌≢◌, drop_all, take-suc, Error, ArcRef, HandleNumber, HandleRow, Owner, is_in, or_else, find_row, Core, reference_fault}
-use Rattle.pagable_tables.proofs.{Words.{references_fault, only_handle, moved, is_named_by, Alike, HasRoom, suc, zero}, Handed.moved-unless, Coming.owned-by, Worlds.same-cache}
+use Rattle.pagable_tables.proofs.{Words.{references_fault, only_handle, moved, is_named_by, Alike, HasRoom, suc, zero, take_all}, Handed.moved-unless, Coming.owned-by, Worlds.same-cache}
 
 -- no row has the number
 pub moved-none : (h : HandleNumber) (owner : Owner) (rows : List HandleRow) → find_row h.0 rows ≡ None → moved (only_handle h) owner rows ≡ rows
@@ -75,4 +75,4 @@ alike-listed w w' rows list places same = grind (arith, nat_tests, same-cache)
 pub at-work-still : {w w' : Core} {workers : ℕ → Bool} → Alike w w' → SameAt w'.workers workers → Alike w (record w' { workers = workers })
 at-work-still {w} {w'} {workers} a still = grind (arith, nat_tests)
 
-pub ruleset naming = (nat_tests, named-none, moved-nobody, seen-none, fault-end)
+pub ruleset naming = (nat_tests, named-in, named-other, take_all, named-none, moved-nobody, seen-none, fault-end)
