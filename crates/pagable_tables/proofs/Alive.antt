@@ -1,10 +1,10 @@
 -- The live rows after a place changes, and how halving finds one.
-use Rattle.pagable_tables.proofs.Words.{◌≡◌, ℕ, ◌+◌, ◌<◌, ◌≤◌, ◌==◌, Bool, true, false, if◌then◌else◌, List, [], ◌∷◌, ◌++◌, length, get_or, set, suc, zero, sum_by, All, filter, refl, ap, sym, subst}
-use Rattle.pagable_tables.proofs.Words.{◌∙◌, arith, Some, None, slice_get, nat_tests, sum_by-cons, All-tail, All-set, ◌⊎◌, cases_eq, get_or_default, get_or_from_slice_get, slice_get_within}
-use Rattle.pagable_tables.proofs.Words.{sum_by-set, get_or-le-sum_by, sum_by-le-sum_by, HandleRow, one, changed, find_row, is_handle, left_rows, IsNext, live, alive, is_live_place, IsBefore, Place}
-use Rattle.pagable_tables.proofs.Words.{AreSound, Handles, All-push, all_pairs_push, length-append, slice_get-get_or}
-use Rattle.pagable_tables.proofs.{Words.{AllPairs, times, take, get_or-set_other, length-set, get_or-set_at}, Left.{left-none, ones}}
-use Rattle.std.proofs.lemmas.List.{get_or-take, length-take-le}
+use Rattle.pagable_tables.proofs.Words.{◌≡◌, ℕ, ◌+◌, ◌<◌, ◌≤◌, ◌==◌, Bool, true, false, if◌then◌else◌, List, [], ◌∷◌, ◌++◌, length, get_or, set, suc, zero, sum_by, filter, refl, ap, sym, subst, ◌∙◌}
+use Rattle.pagable_tables.proofs.Words.{arith, Some, None, slice_get, nat_tests, sum_by-cons, All-set, ◌⊎◌, cases_eq, get_or_default, get_or_from_slice_get, slice_get_within, sum_by-set}
+use Rattle.pagable_tables.proofs.Words.{get_or-le-sum_by, sum_by-le-sum_by, HandleRow, one, changed, find_row, is_handle, left_rows, IsNext, live, alive, is_live_place, IsBefore, Place, AreSound}
+use Rattle.pagable_tables.proofs.Words.{Handles, All-push, all_pairs_push, length-append, slice_get-get_or, AllPairs, times, take, get_or-set_other, length-set, get_or-set_at, drop, ◌≢◌}
+use Rattle.pagable_tables.proofs.Left.{left-none, ones}
+use Rattle.std.proofs.lemmas.List.{get_or-take, get_or-drop, length-take-le, length-drop, set_split, set-get_or}
 
 -- the rows but for one number
 abbrev without : ℕ → List HandleRow → List HandleRow
@@ -22,10 +22,6 @@ length-live-filter (s ∷ ss) = grind (arith, nat_tests, length-live-filter ss)
 pub length-live-le : (ss : List Place) → length (live ss) ≤ length ss
 length-live-le [] = omega arith
 length-live-le (s ∷ ss) = grind (arith, nat_tests, length-live-le ss)
-
-pub live-push : (ss : List Place) (row : HandleRow) → live (ss ++ alive row ∷ []) ≡ live ss ++ row ∷ []
-live-push [] row = refl
-live-push (s ∷ ss) row = grind (arith, nat_tests, live-push ss row)
 
 -- a dead place more
 pub take-dead : (ss : List Place) (n : ℕ) (d : Place) → n < length ss → (get_or ss n d).is_live ≡ false → live (take (suc n) ss) ≡ live (take n ss)
@@ -52,60 +48,17 @@ sum-live f (s ∷ ss) = by s.is_live (sum-live f ss) ∙ sym (sum_by-cons (weigh
     by : (b : Bool) → sum_by f (live ss) ≡ sum_by (weigh f) ss → sum_by f (if b then s.row ∷ live ss else live ss) ≡ (if b then f s.row else 0) + sum_by (weigh f) ss
     by b0 h = grind (arith, nat_tests, sum_by-cons)
 
-later : (s : Place) (ss : List Place) → AllPairs IsBefore (s ∷ ss) → All (λ x. s.row.number.0 < x.row.number.0) ss
-later s ss ordered k d lt = ordered 0 (suc k) d (omega arith) (omega arith)
+live-append : (xs ys : List Place) → live (xs ++ ys) ≡ live xs ++ live ys
+live-append [] ys = refl
+live-append (s ∷ xs) ys = grind (arith, nat_tests, live-append xs ys)
 
-pub pairs-tail : (s : Place) (ss : List Place) → AllPairs IsBefore (s ∷ ss) → AllPairs IsBefore ss
-pairs-tail s ss ordered j k d less lt = ordered (suc j) (suc k) d (omega arith) (omega arith)
+pub live-push : (ss : List Place) (row : HandleRow) → live (ss ++ alive row ∷ []) ≡ live ss ++ row ∷ []
+live-push ss row = live-append ss (alive row ∷ [])
 
--- The live rows before a place and after it, of other numbers.
-record Stands (ss : List Place) (i : ℕ) (row : HandleRow) : Type 0 where
-  before : List HandleRow
-  after : List HandleRow
-  is : live ss ≡ before ++ row ∷ after
-  set : (new : Place) → live (set ss i new) ≡ before ++ (if new.is_live then new.row ∷ after else after)
-  below : times (is_handle row.number.0) before ≡ 0
-  above : times (is_handle row.number.0) after ≡ 0
-
-none-above : (q : ℕ) (ss : List Place) → All (λ s. q < s.row.number.0) ss → times (is_handle q) (live ss) ≡ 0
-none-above q [] h = refl
-none-above q (s ∷ ss) h =
-    let a : q < s.row.number.0 = h 0 s (omega arith) in
-    grind (arith, nat_tests, sum_by-cons, none-above q ss (All-tail (λ s. q < s.row.number.0) s ss h))
-
-put : (b : Bool) (x : HandleRow) (xs ys zs : List HandleRow) → xs ≡ ys ++ zs → (if b then x ∷ xs else xs) ≡ (if b then x ∷ ys else ys) ++ zs
-put x0 x xs ys zs e = grind (arith, nat_tests)
-
-stands : (ss : List Place) (i : ℕ) (row : HandleRow) → AllPairs IsBefore ss → slice_get ss i ≡ Some (alive row) → Stands ss i row
-stands [] i row ordered at = absurd (cc)
-stands (s ∷ ss) zero row ordered at =
-    let same : s ≡ alive row = cc in
-    let number = ap (λ (s : Place). s.row.number.0) same in
-    record {
-      before = [];
-      after = live ss;
-      is = ap (λ (s : Place). if s.is_live then s.row ∷ live ss else live ss) same;
-      set = λ new. refl;
-      below = refl;
-      above = none-above row.number.0 ss (λ k d lt. let a = later s ss ordered k d lt in omega arith);
-    }
-stands (s ∷ ss) (suc i) row ordered at =
-    let r = stands ss i row (pairs-tail s ss ordered) at in
-    let lt : i < length ss = slice_get_within ss i (alive row) at in
-    let less : s.row.number.0 < (get_or ss i s).row.number.0 = ordered 0 (suc i) s (omega arith) (omega arith) in
-    let number : (get_or ss i s).row.number.0 ≡ row.number.0 = ap (λ (x : Place). x.row.number.0) (get_or_from_slice_get ss i (alive row) s at) in
-    let other : (s.row.number.0 == row.number.0) ≡ false = grind (arith, nat_tests) in
-    record {
-      before = if s.is_live then s.row ∷ r.before else r.before;
-      after = r.after;
-      is = put s.is_live s.row (live ss) r.before (row ∷ r.after) r.is;
-      set = λ new. put s.is_live s.row (live (set ss i new)) r.before (if new.is_live then new.row ∷ r.after else r.after) (r.set new);
-      below = none s.is_live other r.before r.below;
-      above = r.above;
-    }
-  where
-    none : (b : Bool) → (s.row.number.0 == row.number.0) ≡ false → (xs : List HandleRow) → times (is_handle row.number.0) xs ≡ 0 → times (is_handle row.number.0) (if b then s.row ∷ xs else xs) ≡ 0
-    none b other xs z = let a = sum_by-cons (λ h. one (is_handle row.number.0 h)) s.row xs in grind (arith, nat_tests)
+-- no place has the number
+none-of : (q : ℕ) (ss : List Place) → ((k : ℕ) (d : Place) → k < length ss → (get_or ss k d).row.number.0 ≢ q) → times (is_handle q) (live ss) ≡ 0
+none-of q [] h = refl
+none-of q (s ∷ ss) h = let a = h 0 s (omega arith) in grind (arith, nat_tests, sum_by-cons, none-of q ss (λ k d lt. h (suc k) d (omega arith)))
 
 -- what is done to the rows of one number, where the rows before and after have others
 changed-none : (q : ℕ) (f : HandleRow → HandleRow) (xs : List HandleRow) → times (is_handle q) xs ≡ 0 → changed (is_handle q) f xs ≡ xs
@@ -127,27 +80,59 @@ find-one q [] ys x here below = grind (arith, nat_tests)
 find-one q (y ∷ xs) ys x here below = let a = sum_by-cons (λ h. one (is_handle q h)) y xs in grind (arith, nat_tests, find-one q xs ys x)
 
 module _ (ss : List Place) (i : ℕ) (row : HandleRow) (ordered : AllPairs IsBefore ss) (at : slice_get ss i ≡ Some (alive row)) where
-  abbrev s : Stands ss i row
-  s = stands ss i row ordered at
+  abbrev before : List HandleRow
+  before = live (take i ss)
+
+  abbrev behind : List HandleRow
+  behind = live (drop (suc i) ss)
+
+  lt : i < length ss
+  lt = slice_get_within ss i (alive row) at
+
+  got : (d : Place) → get_or ss i d ≡ alive row
+  got d = get_or_from_slice_get ss i (alive row) d at
+
+  put : (new : Place) → live (set ss i new) ≡ before ++ (if new.is_live then new.row ∷ behind else behind)
+  put new = ap live (set_split ss i new lt) ∙ live-append (take i ss) (new ∷ drop (suc i) ss)
+
+  stands : live ss ≡ before ++ row ∷ behind
+  stands = ap live (sym (ap (set ss i) (sym (got (alive row))) ∙ set-get_or ss i (alive row))) ∙ put (alive row)
+
+  below : times (is_handle row.number.0) before ≡ 0
+  below = none-of row.number.0 (take i ss) λ k d within e.
+      let l = lt in
+      let n = length-take-le i ss (omega arith) in
+      let a = ap (λ (p : Place). p.row.number.0) (get_or-take i ss k d (omega arith)) in
+      let b = ap (λ (p : Place). p.row.number.0) (got d) in
+      let o = ordered k i d (omega arith) lt in
+      omega arith
+
+  above : times (is_handle row.number.0) behind ≡ 0
+  above = none-of row.number.0 (drop (suc i) ss) λ k d within e.
+      let n = length-drop (suc i) ss in
+      let a = ap (λ (p : Place). p.row.number.0) (get_or-drop (suc i) ss k d) in
+      let b = ap (λ (p : Place). p.row.number.0) (got d) in
+      let o = ordered i (suc i + k) d (omega arith) (omega arith) in
+      omega arith
 
   -- a place that is killed
   pub live-kill : live (set ss i (record { row = row; is_live = false })) ≡ without row.number.0 (live ss)
-  live-kill = s.set (record { row = row; is_live = false }) ∙ sym (ap (without row.number.0) s.is ∙ left-one row.number.0 s.before s.after row refl s.below s.above)
+  live-kill = put (record { row = row; is_live = false }) ∙ sym (ap (without row.number.0) stands ∙ left-one row.number.0 before behind row refl below above)
 
   -- a number is one row's, so what is done to rows of the number is done to that row
-  changed-live : (f : HandleRow → HandleRow) → changed (is_handle row.number.0) f (live ss) ≡ s.before ++ f row ∷ s.after
-  changed-live f = ap (changed (is_handle row.number.0) f) s.is ∙ changed-one row.number.0 f s.before s.after row refl s.below s.above
+  changed-live : (f : HandleRow → HandleRow) → changed (is_handle row.number.0) f (live ss) ≡ before ++ f row ∷ behind
+  changed-live f = ap (changed (is_handle row.number.0) f) stands ∙ changed-one row.number.0 f before behind row refl below above
 
   -- a row that is replaced
   pub live-set : (new : HandleRow) → live (set ss i (alive new)) ≡ changed (is_handle row.number.0) (λ _. new) (live ss)
-  live-set new = s.set (alive new) ∙ sym (changed-live (λ _. new))
+  live-set new = put (alive new) ∙ sym (changed-live (λ _. new))
 
   pub changed-known : (f : HandleRow → HandleRow) → changed (is_handle row.number.0) (λ _. f row) (live ss) ≡ changed (is_handle row.number.0) f (live ss)
   changed-known f = changed-live (λ _. f row) ∙ sym (changed-live f)
 
   -- the row at a live place is the one of its number
   pub row-live : find_row row.number.0 (live ss) ≡ Some row
-  row-live = ap (find_row row.number.0) s.is ∙ find-one row.number.0 s.before s.after row refl s.below
+  row-live = ap (find_row row.number.0) stands ∙ find-one row.number.0 before behind row refl below
 
 -- sums after a place changes
 pub sum-live-set : (f : HandleRow → ℕ) (ss : List Place) (i : ℕ) (row : HandleRow) (new : Place) → slice_get ss i ≡ Some (alive row)
@@ -176,14 +161,6 @@ none-live q (s ∷ ss) h = by s.is_live refl (none-live q ss (λ k d lt e. h (su
 
 pub row-got : (ss : List Place) (i : ℕ) (p : Place) (q : ℕ) → AllPairs IsBefore ss → slice_get ss i ≡ Some p → p.is_live ≡ true → p.row.number.0 ≡ q → find_row q (live ss) ≡ Some p.row
 row-got ss i p q ordered at is number = subst (λ n. find_row n (live ss) ≡ Some p.row) number (row-live ss i p.row ordered (at ∙ ap (λ b. Some (record { row = p.row; is_live = b })) is))
-
--- the number at a dead place is no other's
-pub dead-only : (q : ℕ) (ss : List Place) (m : ℕ) (s : Place) → AllPairs IsBefore ss → m < length ss → s ≡ get_or ss m s → s.row.number.0 ≡ q → s.is_live ≡ false
-    → (k : ℕ) (d : Place) → k < length ss → (get_or ss k d).row.number.0 ≡ q → (get_or ss k d).is_live ≡ false
-dead-only q ss m s ordered lt is number dead k d klt e =
-    let at : get_or ss m d ≡ s = get_or_default ss m d s lt ∙ sym is in
-    let number' : (get_or ss m d).row.number.0 ≡ q = ap (λ (x : Place). x.row.number.0) at ∙ number in
-    grind (arith, nat_tests, cases_eq)
 
 -- each place's number is below q still, after a place of it changes
 pub next-set : (q : ℕ) (ss : List Place) (i : ℕ) (row : HandleRow) (new : Place) → slice_get ss i ≡ Some (alive row) → new.row.number.0 ≡ row.number.0 → IsNext q ss → IsNext q (set ss i new)
@@ -220,20 +197,8 @@ smaller-up f xs m q e ordered lt less k d h =
     let at : f (get_or xs m e) ≡ f (get_or xs m d) = ap f (get_or_default xs m e d lt) in
     grind (arith, nat_tests, cases_eq)
 
--- all rows from a greater one on are greater
-pub greater-from : {A : Type 0} (f : A → ℕ) (xs : List A) (m q : ℕ) (e : A) → AllPairs (λ a b. f a < f b) xs → m < length xs → q ≤ f (get_or xs m e) → (f (get_or xs m e) ≡ q → ⊥)
-    → (k : ℕ) (d : A) → m ≤ k → k < length xs → q < f (get_or xs k d)
-greater-from f xs m q e ordered lt more other k d h within =
-    let at : f (get_or xs m e) ≡ f (get_or xs m d) = ap f (get_or_default xs m e d lt) in
-    grind (arith, nat_tests, cases_eq)
-
 pub le_or_lt : (a b : ℕ) → (a ≤ b) ⊎ (b < a)
 le_or_lt a b = grind arith
-
--- what is smaller below a place and greater from one that isn't above it on has the number nowhere
-pub outside : {A : Type 0} (f : A → ℕ) (xs : List A) (q low high : ℕ) → high ≤ low → ((k : ℕ) (d : A) → k < low → f (get_or xs k d) < q)
-    → ((k : ℕ) (d : A) → high ≤ k → k < length xs → q < f (get_or xs k d)) → (k : ℕ) (d : A) → k < length xs → (f (get_or xs k d) ≡ q → ⊥)
-outside f xs q low high meet below above k d lt e = grind (arith, nat_tests, le_or_lt)
 
 -- each row keeps its number
 number-set : {A : Type 0} (f : A → ℕ) (xs : List A) (i : ℕ) (x y : A) (k : ℕ) (d : A) → slice_get xs i ≡ Some x → f y ≡ f x → k < length xs → f (get_or (set xs i y) k d) ≡ f (get_or xs k d)

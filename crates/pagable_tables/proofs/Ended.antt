@@ -1,10 +1,10 @@
 -- Where no node falls any more, all has gone that had to go, and no more. Values that go as nodes fall.
-use Rattle.pagable_tables.proofs.Words.{IsLeast, ◌≡◌, ℕ, ◌+◌, ◌≤◌, ◌&&◌, Bool, true, false, not, if◌then◌else◌, List, [], ◌∷◌, sum_by, refl, ap, sym, ◌∙◌, subst, arith, inl, inr, Option, None, ◌⊎◌}
-use Rattle.pagable_tables.proofs.Words.{is_some, nat_lt, nat_eq, Result, nat_tests, sum_by-cons, sum_by-append, Error, OptionalDataKey, ArcRef, HandleRow, one, times, if_there, is_at}
-use Rattle.pagable_tables.proofs.Words.{is_pin, is_owned_by, owner_value, held, pins, has_key, Core, Cell, greatest, Alike, left_rows, IsClosed, is_keyed, MustList, TellsListing}
-use Rattle.pagable_tables.proofs.Words.{CannotList, IsListRefusal, Falls, fallen, pins_outside, held_outside, Counts, Holdings, live, counts_at, refs_at, Fits, IsFalling, Right, holds_in, falls_in}
-use Rattle.pagable_tables.proofs.{Words.{keyed_in, cell_in, HasFallen, owns, owns_nothing, with_tables, told_by, SoFar, length, is_valued, valued, ValueStays, Sheds, has_value}, Left.times-left}
-use Rattle.pagable_tables.proofs.{Words.sum_by-le-sum_by, Left.{entries-none, ones}, Telling.keyed-cell, Fitting.first-waits, Bits.one-le, Worlds.same-cache}
+use Rattle.pagable_tables.proofs.Words.{IsLeast, ◌≡◌, ℕ, ◌+◌, ◌≤◌, ◌&&◌, Bool, true, false, if◌then◌else◌, List, [], ◌∷◌, sum_by, refl, ap, sym, ◌∙◌, subst, arith, inl, inr, Option, None, ◌⊎◌}
+use Rattle.pagable_tables.proofs.Words.{is_some, nat_lt, nat_eq, Result, nat_tests, sum_by-cons, Error, OptionalDataKey, ArcRef, HandleRow, one, times, if_there, is_at, is_pin, is_owned_by}
+use Rattle.pagable_tables.proofs.Words.{owner_value, held, pins, has_key, Core, Cell, greatest, Alike, IsClosed, is_keyed, MustList, TellsListing, CannotList, IsListRefusal, Falls, fallen}
+use Rattle.pagable_tables.proofs.Words.{pins_outside, held_outside, Counts, Holdings, live, counts_at, refs_at, Fits, IsFalling, Right, holds_in, falls_in, keyed_in, cell_in, HasFallen, owns}
+use Rattle.pagable_tables.proofs.{Words.{owns_nothing, with_tables, told_by, SoFar, length, is_valued, valued, ValueStays, Sheds, has_value, sum_by-le-sum_by}, Left.{entries-none, ones}}
+use Rattle.pagable_tables.proofs.{Telling.{keyed-cell, counted}, Fitting.first-waits, Bits.one-le, Worlds.same-cache}
 
 stands : (at : ℕ → Option Counts) (refs : ℕ → List ArcRef) (rows : List HandleRow) (top : ℕ) → Fits at refs rows top [] owns_nothing → (n : ℕ) → falls_in (at n) ≡ false
 stands at refs rows top fits n = let a = fits.marked n in grind (arith, nat_tests)
@@ -39,26 +39,23 @@ each-listed : (before w w' : Core) (entries : List HandleRow) (r : Result (Unit 
 each-listed before w w' entries x4 tells n must = grind (arith, nat_tests, refusal)
 
 module _ (before w : Core) (given : ℕ → Bool) (lists : Bool) (t : Holdings) (f : SoFar before w given lists t) (whole : IsFalling t [] owns_nothing) where
-  counted : (p : HandleRow → Bool) → times p (live t.handles.places.items) ≡ times (λ h. p h && not (f.gone h.number.0)) w.rows + times p f.entries
-  counted p = ap (times p) f.rows ∙ sum_by-append (λ h. one (p h)) (left_rows f.gone w.rows) f.entries ∙ ap (λ k. k + times p f.entries) (times-left p f.gone w.rows)
-
   down : (n : ℕ) (keyed : Bool) → is_keyed w n ≡ keyed → (if keyed then nat_eq (pins_outside w.rows f.gone n) 0 else nat_eq (held n f.entries) 0 && nat_eq
       (held_outside w.rows f.gone n) 0) ≡ true → HasFallen (counts_at t.nodes) (live t.handles.places.items) n
   down n true e lost =
-      let a = counted (is_pin n) in
+      let a = counted f (is_pin n) in
       let b = entries-none (is_pin n) (λ h mode owner. grind (arith, nat_tests)) w.last.handle f.entries f.new in
       let z : pins n (live t.handles.places.items) ≡ 0 = grind (arith, nat_tests) in
       elim (down-keyed (counts_at t.nodes n) (w.cells n) (f.cells n) e) [
         | inl none ↦ inl (sym (whole.fits.holding n) ∙ none)
         | inr keyed ↦ inr (keyed, z)
       ]
-  down n false e lost = let a = counted (is_at n) in inl (grind (arith, nat_tests))
+  down n false e lost = let a = counted f (is_at n) in inl (grind (arith, nat_tests))
 
   pub closed : IsClosed w.rows (is_keyed w) f.entries f.gone
   closed n lost =
       let fell = down n (is_keyed w n) refl lost in
       let a = none-owned n (live t.handles.places.items) (λ q. none-left (counts_at t.nodes) (refs_at t.nodes) (live t.handles.places.items) t.top whole.fits n q fell) in
-      let b = counted (is_owned_by (owner_value n)) in
+      let b = counted f (is_owned_by (owner_value n)) in
       omega arith
 
   cells-same : (n : ℕ) → cell_in (counts_at t.nodes n) ≡ (fallen w f.gone f.entries).cells n
@@ -71,7 +68,7 @@ module _ (before w : Core) (given : ℕ → Bool) (lists : Bool) (t : Holdings) 
   pub ended : Falls before w given (told_by t.unlisted) (with_tables w t)
   ended =
       let set : IsLeast w.rows (is_keyed w) f.entries given f.gone =
-      record { holds = f.holds; closed = closed; least = λ s has is. f.least s f.entries (λ n none. let a = counted (is_at n) in omega arith) has is } in
+      record { holds = f.holds; closed = closed; least = λ s has is. f.least s f.entries (λ n none. let a = counted f (is_at n) in omega arith) has is } in
       let within : w.last.handle + length f.entries ≤ greatest = subst (λ k. k ≤ greatest) f.last f.within in
       grind (arith, nat_tests, each-listed, leaves)
 

@@ -1,8 +1,8 @@
 -- A handle is given up: handles and nodes fit again.
 use Rattle.pagable_tables.proofs.Words.{◌≡◌, ℕ, ◌+◌, ◌-◌, ◌<◌, ◌≤◌, ◌==◌, ◌&&◌, ◌||◌, Bool, true, false, if◌then◌else◌, List, [], ◌∷◌, ◌++◌, length, sum_by, ap, sym, ◌∙◌, subst, arith, Option, Some}
 use Rattle.pagable_tables.proofs.Words.{None, inl, inr, ◌⊎◌, ◌≢◌, not, nat_tests, cases_eq, sum_by-cons, sum_by-le-sum_by, sum_by_push, ArcRef, HandleRow, Owner, one, held, pins, is_pin, is_at}
-use Rattle.pagable_tables.proofs.Words.{is_pinning, is_handle, is_owner, owner_value, Counts, pins_in, holds_in, falls_in, next_in, keyed_in, Chain, is_right, Right, is_fallen_by, after, is_new}
-use Rattle.pagable_tables.proofs.Words.{Fits, entry, owns, owns_nothing, named, often, CellsStay, HasFallen}
+use Rattle.pagable_tables.proofs.Words.{is_pinning, is_handle, is_owner, owner_value, Counts, pins_in, holds_in, falls_in, next_in, keyed_in, Chain, is_right, Right, is_fallen_by, after, is_new, Fits}
+use Rattle.pagable_tables.proofs.Words.{entry, owns, owns_nothing, named, often, unpinned, CellsStay, HasFallen, Holdings, IsFalling, live, counts_at, is_bare, has_value, landed}
 
 -- 1 for a handle that pins the node, for one of it, for the handle q that its value owns, and for the handle q
 abbrev pub pin_of : ℕ → HandleRow → ℕ
@@ -52,11 +52,11 @@ if-false x0 m n h = grind (arith, nat_tests)
 in-none : (n : ℕ) (stack : List ℕ) (m : ℕ) → often n stack ≡ 0 → 0 < often m stack → m ≢ n
 in-none n stack m none some e = let a = ap (λ k. often k stack) e in absurd (omega arith)
 
--- one handle less, and perhaps an entry more
-module _ (at at' : ℕ → Option Counts) (refs refs' : ℕ → List ArcRef) (rows rows' : List HandleRow) (top : ℕ) (stack : List ℕ) (x : HandleRow) (c : Counts) (listed : Bool) (k : ℕ)
-    (fits : Fits at refs rows top stack (λ n q. is_owned n q x)) (is : at x.node.0 ≡ Some c)
-    (leaves : (f : HandleRow → ℕ) → sum_by f rows' + f x ≡ sum_by f rows + (if listed then f (entry k x.node) else 0))
-    (here : at' x.node.0 ≡ Some (after c (is_pinning x.mode) listed top)) (others : (n : ℕ) → n ≢ x.node.0 → at' n ≡ at n) (same : (n : ℕ) → refs' n ≡ refs n)
+-- one handle less, or one that stays without its pin, and perhaps an entry more
+module _ (at at' : ℕ → Option Counts) (refs refs' : ℕ → List ArcRef) (rows rows' : List HandleRow) (top : ℕ) (stack : List ℕ) (x : HandleRow) (c : Counts) (stays listed : Bool) (k : ℕ)
+    (fits : Fits at refs rows top stack (λ n q. is_owned n q x)) (is : at x.node.0 ≡ Some c) (plain : stays ≡ true → (n q : ℕ) → is_owned n q x ≡ 0)
+    (leaves : (f : HandleRow → ℕ) → sum_by f rows' + f x ≡ sum_by f rows + (if stays then f (unpinned x) else 0) + (if listed then f (entry k x.node) else 0))
+    (here : at' x.node.0 ≡ Some (after c (is_pinning x.mode) stays listed top)) (others : (n : ℕ) → n ≢ x.node.0 → at' n ≡ at n) (same : (n : ℕ) → refs' n ≡ refs n)
     (some : one (is_pinning x.mode) ≤ c.pins) (live : 1 ≤ c.holds) where
   given-pinned : (n : ℕ) → pins_in (at' n) ≡ pins n rows'
   given-pinned n = grind (arith, nat_tests)
@@ -72,7 +72,7 @@ module _ (at at' : ℕ → Option Counts) (refs refs' : ℕ → List ArcRef) (ro
 
   -- whether the node waits from now on
   abbrev now_falls : Bool
-  now_falls = is_fallen_by c (is_pinning x.mode) (c.pins - one (is_pinning x.mode)) (if listed then c.holds else c.holds - 1)
+  now_falls = is_fallen_by c (is_pinning x.mode) (c.pins - one (is_pinning x.mode)) ((if stays then c.holds else c.holds - 1) + one listed)
 
   given-chain : (b : Bool) → now_falls ≡ b → Chain at' (if b then x.node.0 else top) (if b then x.node.0 ∷ stack else stack)
   given-chain true e = grind (arith, nat_tests, if-true, not-both, chain-frame, in-none, if-false)
@@ -97,24 +97,59 @@ module _ (at at' : ℕ → Option Counts) (refs refs' : ℕ → List ArcRef) (ro
   pub given-cells : CellsStay at at'
   given-cells n some' = grind (arith, nat_tests)
 
-pub new-top : (c : Counts) (pinning listed : Bool) (top node : ℕ) → (b : Bool) → is_fallen_by c pinning (c.pins - one pinning) (if listed then c.holds else c.holds - 1) ≡ b
-    → (if is_new c.is_falling (after c pinning listed top).is_falling then node else top) ≡ (if b then node else top)
-new-top c pinning listed top node b e = ap (λ (t : Bool). if t then node else top) (is-new c.is_falling _ ∙ e)
+pub new-top : (c : Counts) (pinning stays listed : Bool) (top node : ℕ) → (b : Bool) → is_fallen_by c pinning (c.pins - one pinning) ((if stays then c.holds else c.holds - 1) + one listed) ≡ b
+    → (if is_new c.is_falling (after c pinning stays listed top).is_falling then node else top) ≡ (if b then node else top)
+new-top c pinning stays listed top node b e = ap (λ (t : Bool). if t then node else top) (is-new c.is_falling _ ∙ e)
 
 pub long-if : (b : Bool) (n : ℕ) (stack : List ℕ) → length (if b then n ∷ stack else stack) ≤ length stack + 1
 long-if x0 n stack = grind (arith, nat_tests)
 
+-- what waits first is there and waits
+pub first-waits : (at : ℕ → Option Counts) (refs : ℕ → List ArcRef) (rows : List HandleRow) (n : ℕ) (ns : List ℕ) (extra : ℕ → ℕ → ℕ) → Fits at refs rows n (n ∷ ns) extra → falls_in (at n) ≡ true
+first-waits at refs rows n ns extra fits = let a = sum_by-cons (λ y. one (y == n)) n ns in let b = fits.marked n in grind (arith, nat_tests)
+
+-- the top stands first
+pub top-stands : (t : Holdings) (stack : List ℕ) → t.top ≢ 0 → IsFalling t stack owns_nothing → (ns : List ℕ) × (stack ≡ t.top ∷ ns) × IsFalling t (t.top ∷ ns) owns_nothing
+top-stands t [] some w = absurd (some w.fits.chain)
+top-stands t (n ∷ ns) some w = let top = sym w.fits.chain.0 in (ns, ap (λ m. m ∷ ns) top, subst (λ m. IsFalling t (m ∷ ns) owns_nothing) top w)
+
+pub top-there : (t : Holdings) (stack : List ℕ) → t.top ≢ 0 → IsFalling t stack owns_nothing → counts_at t.nodes t.top ≡ None → ⊥
+top-there t stack some w none =
+    let s = top-stands t stack some w in
+    let waits = first-waits _ _ _ _ _ _ s.2.fits in
+    let a = ap falls_in none in
+    absurd (cc)
+
+-- a node has no more pins than handles
+pub pins-le-held : (n : ℕ) (rows : List HandleRow) → pins n rows ≤ held n rows
+pins-le-held n rows = sum_by-le-sum_by (pin_of n) (handle_of n) rows (λ h. grind (arith, nat_tests))
+
+landed-as : (c : Counts) → c.pins ≤ c.holds → (pins_in (landed c) ≡ c.pins) × (holds_in (landed c) ≡ c.holds) × (falls_in (landed c) ≡ false) × Right (landed c) []
+landed-as c few = (grind (arith, nat_tests), grind (arith, nat_tests), grind (arith, nat_tests), grind (arith, nat_tests))
+
+-- where a node that fell still has a handle, it has a key, and nothing pins it
+landed-gone : (c : Counts) (bare : Bool) → c.is_falling ≡ true → is_right c bare ≡ true → has_value (landed c) ≡ false
+landed-gone c bare falls right = grind (arith, nat_tests)
+
 -- the first node that waits is done: it is gone, or waits no more
 module _ (at at' : ℕ → Option Counts) (refs refs' : ℕ → List ArcRef) (rows : List HandleRow) (n : ℕ) (ns : List ℕ) (c : Counts)
-    (fits : Fits at refs rows n (n ∷ ns) owns_nothing) (is : at n ≡ Some c) (pins' : pins_in (at' n) ≡ c.pins) (holds' : holds_in (at' n) ≡ c.holds)
-    (free : falls_in (at' n) ≡ false) (right' : Right (at' n) (refs' n))
+    (fits : Fits at refs rows n (n ∷ ns) owns_nothing) (is : at n ≡ Some c) (here : at' n ≡ landed c) (bare : refs n ≡ [])
     (others : (m : ℕ) → m ≢ n → at' m ≡ at m) (same : (m : ℕ) → refs' m ≡ refs m) (one' : n ≢ 0) where
   once : often n ns ≡ 0
   once =
       grind (arith, nat_tests, sum_by-cons (λ y. one (y == n)) n ns)
 
+  pub done-gone : has_value (at' n) ≡ false
+  done-gone =
+      ap has_value here ∙ landed-gone c (is_bare (refs n)) (sym (ap falls_in is) ∙ first-waits at refs rows n ns owns_nothing fits) (subst (λ o. Right o (refs n)) is (fits.right n))
+
   pub done-fits : Fits at' refs' rows c.next ns owns_nothing
   done-fits =
+      let l = landed-as c (omega (arith, fits.pinned n, fits.holding n, ap pins_in is, ap holds_in is, pins-le-held n rows)) in
+      let pins' = ap pins_in here ∙ l.0 in
+      let holds' = ap holds_in here ∙ l.1 in
+      let free = ap falls_in here ∙ l.2 in
+      let right' : Right (at' n) (refs' n) = rw (here, same, bare) l.3 in
       record {
         pinned = λ m. grind (arith, nat_tests, cases_eq);
         holding = λ m. grind (arith, nat_tests, cases_eq);
@@ -124,10 +159,6 @@ module _ (at at' : ℕ → Option Counts) (refs refs' : ℕ → List ArcRef) (ro
         right = λ m. grind (arith, nat_tests, cases_eq);
         from_one = others 0 (λ e. one' (sym e)) ∙ fits.from_one;
       }
-
--- what waits first is there and waits
-pub first-waits : (at : ℕ → Option Counts) (refs : ℕ → List ArcRef) (rows : List HandleRow) (n : ℕ) (ns : List ℕ) (extra : ℕ → ℕ → ℕ) → Fits at refs rows n (n ∷ ns) extra → falls_in (at n) ≡ true
-first-waits at refs rows n ns extra fits = let a = sum_by-cons (λ y. one (y == n)) n ns in let b = fits.marked n in grind (arith, nat_tests)
 
 still-right : (w a b b' : Bool) → w ≡ true → (if w then a else b) ≡ true → (if w then a else b') ≡ true
 still-right x0 a b b' e h = grind (arith, nat_tests)
@@ -139,16 +170,9 @@ owner-value n x1 h = grind (arith, nat_tests)
 still : (o : Option Counts) (refs refs' : List ArcRef) → falls_in o ≡ true → Right o refs → Right o refs'
 still x0 refs refs' waits right = grind (arith, nat_tests, still-right)
 
--- a node has no more pins than handles
-pub pins-le-held : (n : ℕ) (rows : List HandleRow) → pins n rows ≤ held n rows
-pins-le-held n rows = sum_by-le-sum_by (pin_of n) (handle_of n) rows (λ h. grind (arith, nat_tests))
-
 -- an owned row's owner
 pub owner-is : (n q : ℕ) (x : HandleRow) → is_owned n q x ≡ 1 → (x.owner ≡ owner_value n) × ((m r : ℕ) → is_owned m r x ≡ one (n == m && q == r))
 owner-is n q x h = grind (arith, nat_tests, owner-value)
-
-pub settled-right : (c : Counts) → c.is_falling ≡ false → 0 < c.holds → is_right c true ≡ true
-settled-right c free live = grind (arith, nat_tests)
 
 -- the last reference of the first node that waits is taken: its row is owned by that node's value
 module _ (at at' : ℕ → Option Counts) (refs refs' : ℕ → List ArcRef) (rows : List HandleRow) (n : ℕ) (ns : List ℕ) (p : ArcRef)
@@ -193,3 +217,5 @@ fallen at refs rows n ns fits =
       | inl none ↦ inl (sym (fits.holding n) ∙ none)
       | inr both ↦ inr (both.0, sym (fits.pinned n) ∙ both.1)
     ]
+
+pub ruleset landing = (nat_tests, cases_eq)

@@ -1,10 +1,10 @@
 -- Handles are given up together, those that pass a test or that references name.
 use Rattle.pagable_tables.proofs.Words.{nat_lt, ◌≡◌, ℕ, ◌<◌, ◌≤◌, ◌-◌, ◌==◌, ◌&&◌, ◌||◌, Bool, true, false, not, [], Option, Some, None, refl, ap, sym, ◌∙◌, arith, nat_tests, NodeNumber, HandleRow}
 use Rattle.pagable_tables.proofs.Words.{Owner, if_there, is_owner, find_row, Core, OpenLoad, nobody, Giving, Holdings, live, is_valued, SoFar, gives_row, passes_in, ◌+◌, if◌then◌else◌, List, ◌∷◌, suc}
-use Rattle.pagable_tables.proofs.Words.{length, get_or, slice_get, AllPairs, slice_get-get_or, is_handle, Place, alive, IsBefore, take, ArcRef, LoadNumber, is_named_by}
-use Rattle.pagable_tables.proofs.{Words.is_owned_in, Regiven.{regiven, passes-so-far, passes-here, passes-none, and_owned}, Alive.{le_or_lt, row-live, smaller-up, greater-from}}
-use Rattle.pagable_tables.proofs.{Named.named-take, Bits.had}
-use Rattle.pagable_tables.{proofs.{Bits.and-left, Words.{InReach, Reach}}, specs.Giving.gives}
+use Rattle.pagable_tables.proofs.Words.{length, get_or, slice_get, AllPairs, slice_get-get_or, is_handle, Place, alive, IsBefore, take, ArcRef, LoadNumber, is_named_by, is_owned_in, ◌⊎◌, ◌≢◌, inl}
+use Rattle.pagable_tables.proofs.{Words.{inr, InReach, Reach}, Regiven.{regiven, passes-here, passes-left, passes-none, no-entry, and_owned}, Alive.{le_or_lt, row-live, smaller-up}, Named.named-take}
+use Rattle.pagable_tables.proofs.{Named.named-none, Bits.{had, and-left}, Coming.list-owner, Entries.none-came}
+use Rattle.pagable_tables.specs.Giving.{gives}
 
 -- a world of these loads alone
 abbrev pub bare : (ℕ → Option OpenLoad) → Core
@@ -23,15 +23,19 @@ bare loads =
       places = record { handles = 0; entries = 0 };
     }
 
-no-list : (w : Core) (giving : Giving) (node : NodeNumber) → gives w giving Owner.List node ≡ false
-no-list w giving node = grind (arith, nat_tests)
+-- neither a value's handle is given up so, nor the list's where others are
+pub given-plain : (w : Core) (giving : Giving) (o : Owner) (node : NodeNumber) → gives w giving o node ≡ true → (is_valued o ≡ false) × ((is_owner Owner.List o ≡ false) ⊎ (giving ≡ Giving.Listed))
+given-plain w Giving.Listed o node is = (list-owner o is, inr refl)
+given-plain w (Giving.Load l) o node is = grind (arith, nat_tests)
+given-plain w (Giving.AtNode v n) o node is = grind (arith, nat_tests)
+given-plain w (Giving.Worker v) o node is = grind (arith, nat_tests)
 
--- neither a value's handle is given up so, nor the list's
-pub given-plain : (w : Core) (giving : Giving) (o : Owner) (node : NodeNumber) → gives w giving o node ≡ true → (is_valued o ≡ false) × (is_owner Owner.List o ≡ false)
-given-plain w giving o node is = grind (arith, nat_tests)
+unlisting : (w : Core) (giving : Giving) → giving ≢ Giving.Listed → (h : HandleRow) → h.owner ≡ Owner.List → gives_row w giving h ≡ false
+unlisting w x1 other h is = grind (arith, nat_tests)
 
-unlisting : (w : Core) (giving : Giving) (h : HandleRow) → h.owner ≡ Owner.List → gives_row w giving h ≡ false
-unlisting w giving h is = ap (λ o. gives w giving o h.node) is ∙ no-list w giving h.node
+listed-or : (giving : Giving) → (giving ≡ Giving.Listed) ⊎ (giving ≢ Giving.Listed)
+listed-or Giving.Listed = inl refl
+listed-or x0 = inr (λ is. absurd (cc))
 
 went : (g o : Bool) → (not g && o) ≡ false → o ≡ true → g ≡ true
 went g o e is = grind (arith, nat_tests)
@@ -40,12 +44,20 @@ went g o e is = grind (arith, nat_tests)
 abbrev pub past_of : Core → Core → Giving → ℕ → ℕ → Bool
 past_of u w giving left q = nat_lt left q && passes_in (gives_row w giving) u.rows q
 
-module _ (before u w : Core) (lists : Bool) (giving : Giving) (reach : Reach) (within : (q : ℕ) → passes_in (gives_row w giving) u.rows q ≡ true → InReach reach q) where
+module _ (before u w : Core) (lists : Bool) (giving : Giving) (shut : giving ≡ Giving.Listed → lists ≡ false) (reach : Reach) (within : (q : ℕ) → passes_in (gives_row w giving) u.rows q ≡ true → InReach reach q) where
   abbrev passes : ℕ → Bool
   passes q = passes_in (gives_row w giving) u.rows q
 
   abbrev past : ℕ → ℕ → Bool
   past = past_of u w giving
+
+  -- of what passes, what hasn't gone is there
+  told : (t : Holdings) (given : ℕ → Bool) (f : SoFar before u given lists t) (q : ℕ) → passes_in (gives_row w giving) (live t.handles.places.items) q ≡ (not (f.gone q) && passes q)
+  told t given f q =
+      ap (λ rows. passes_in (gives_row w giving) rows q) f.rows ∙ passes-left (gives_row w giving) q f.gone f.entries u.rows (elim (listed-or giving) [
+        | inl is ↦ ap (λ es. passes_in (gives_row w giving) es q) (none-came f (shut is)) ∙ passes-none (gives_row w giving) q
+        | inr other ↦ no-entry (gives_row w giving) q (unlisting w giving other) u.last.handle f.entries f.new
+      ])
 
   pub none-past : (t : Holdings) (left : ℕ) → ((q : ℕ) → passes q ≡ true → q ≤ left) → SoFar before u nobody lists t → SoFar before u (past left) lists t
   none-past t left up f = regiven before u nobody (past left) lists t f (λ r e. absurd (above r e)) (λ r e. absurd (cc))
@@ -53,17 +65,16 @@ module _ (before u w : Core) (lists : Bool) (giving : Giving) (reach : Reach) (w
       above : (r : ℕ) → past left r ≡ true → ⊥
       above r e = let p : passes r ≡ true = grind (arith, nat_tests) in let a = up r p in grind (arith, nat_tests)
 
-  -- what is given of the numbers in between has gone
-  narrowed : (t : Holdings) (n left : ℕ) → n ≤ left → ((q : ℕ) → InReach reach q → n < q → q ≤ left → passes_in (gives_row w giving) (live t.handles.places.items) q ≡ false) → SoFar before u (past left) lists t → SoFar before u (past n) lists t
-  narrowed t n left le none f = regiven before u (past left) (past n) lists t f (λ r e. less r e (nat_lt left r) refl) (λ r e. grind (arith, nat_tests))
+  -- what is given of the numbers that are left and isn't there has gone
+  onto : (t : Holdings) (left : ℕ) (s : ℕ → Bool) → ((r : ℕ) → s r ≡ true → passes r ≡ true) → ((r : ℕ) → past left r ≡ true → s r ≡ true)
+      → ((r : ℕ) → s r ≡ true → r ≤ left → passes_in (gives_row w giving) (live t.handles.places.items) r ≡ false) → SoFar before u (past left) lists t → SoFar before u s lists t
+  onto t left s up over none f = regiven before u (past left) s lists t f (λ r e. less r e (nat_lt left r) refl) over
     where
-      less : (r : ℕ) → past n r ≡ true → (b : Bool) → nat_lt left r ≡ b → (past left r || f.gone r) ≡ true
-      less r e true is = grind (arith, nat_tests)
+      less : (r : ℕ) → s r ≡ true → (b : Bool) → nat_lt left r ≡ b → (past left r || f.gone r) ≡ true
+      less r e true is = let p = up r e in grind (arith, nat_tests)
       less r e false is =
-          let p : passes r ≡ true = grind (arith, nat_tests) in
-          let above : n < r = grind (arith, nat_tests) in
           let below : r ≤ left = grind (arith, nat_tests) in
-          let g : f.gone r ≡ true = went (f.gone r) (passes r) (sym (passes-so-far before u (past left) lists t f (gives_row w giving) (unlisting w giving) r) ∙ none r (within r p) above below) p in
+          let g : f.gone r ≡ true = went (f.gone r) (passes r) (sym (told t (past left) f r) ∙ none r e below) (up r e) in
           grind (arith, nat_tests)
 
   -- one more is given, the last of those that are left
@@ -72,11 +83,12 @@ module _ (before u w : Core) (lists : Bool) (giving : Giving) (reach : Reach) (w
       → ((given : ℕ → Bool) → SoFar before u given lists t → SoFar before u (λ q. given q || q == x.number.0) lists new) → SoFar before u (past left) lists t → SoFar before u (past (x.number.0 - 1)) lists new
   one-past t new left x above below found is none gives f =
       let n = x.number.0 in
-      let g = gives (past n) (narrowed t n left below none f) in
-      regiven before u (λ q. past n q || q == n) (past (n - 1)) lists new g (λ r e. grind (arith, nat_tests)) (λ r e. more r e (r == n) refl)
+      let narrowed = onto t left (past n) (λ r e. grind (arith, nat_tests)) (λ r e. grind (arith, nat_tests))
+      (λ r e. none r (within r (let p : passes r ≡ true = grind (arith, nat_tests) in p)) (let l : n < r = grind (arith, nat_tests) in l)) f in
+      regiven before u (λ q. past n q || q == n) (past (n - 1)) lists new (gives (past n) narrowed) (λ r e. grind (arith, nat_tests)) (λ r e. more r e (r == n) refl)
     where
       here : passes x.number.0 ≡ true
-      here = had (f.gone x.number.0) _ (sym (passes-so-far before u (past left) lists t f (gives_row w giving) (unlisting w giving) x.number.0) ∙ ap (if_there (gives_row w giving) false) found ∙ is)
+      here = had (f.gone x.number.0) _ (sym (told t (past left) f x.number.0) ∙ ap (if_there (gives_row w giving) false) found ∙ is)
 
       more : (r : ℕ) → (past x.number.0 r || r == x.number.0) ≡ true → (b : Bool) → (r == x.number.0) ≡ b → past (x.number.0 - 1) r ≡ true
       more r e true same = let m : r ≡ x.number.0 = grind (arith, nat_tests) in let p : passes r ≡ true = ap passes m ∙ here in grind (arith, nat_tests)
@@ -84,14 +96,7 @@ module _ (before u w : Core) (lists : Bool) (giving : Giving) (reach : Reach) (w
 
   pub all-past : (t : Holdings) (left : ℕ) → ((q : ℕ) → InReach reach q → q ≤ left → passes_in (gives_row w giving) (live t.handles.places.items) q ≡ false)
       → SoFar before u (past left) lists t → SoFar before u passes lists t
-  all-past t left none f = regiven before u (past left) passes lists t f (λ r e. less r e (nat_lt left r) refl) (λ r e. grind (arith, nat_tests))
-    where
-      less : (r : ℕ) → passes r ≡ true → (b : Bool) → nat_lt left r ≡ b → (past left r || f.gone r) ≡ true
-      less r p true is = grind (arith, nat_tests)
-      less r p false is =
-          let below : r ≤ left = grind (arith, nat_tests) in
-          let g : f.gone r ≡ true = went (f.gone r) (passes r) (sym (passes-so-far before u (past left) lists t f (gives_row w giving) (unlisting w giving) r) ∙ none r (within r p) below) p in
-          grind (arith, nat_tests)
+  all-past t left none f = onto t left passes (λ r e. e) (λ r e. grind (arith, nat_tests)) (λ r e below. none r (within r e) below) f
 
 none-passes : (test : HandleRow → Bool) (q : ℕ) (ss : List Place) → ((k : ℕ) (d : Place) → k < length ss → (get_or ss k d).row.number.0 ≡ q → (get_or ss k d).is_live ≡ true → test (get_or ss k d).row ≡ false)
     → passes_in test (live ss) q ≡ false
@@ -115,12 +120,6 @@ module _ (ss : List Place) (m : ℕ) (p : Place) (within : m < length ss) (is : 
   number : p.row.number.0 ≡ (get_or ss m p).row.number.0
   number = ap (λ (x : Place). x.row.number.0) is
 
-  -- all places from one above a number on are above it
-  pub above-from : (q : ℕ) → AllPairs IsBefore ss → q < p.row.number.0 → (k : ℕ) (d : Place) → m ≤ k → k < length ss → q < (get_or ss k d).row.number.0
-  above-from q ordered more =
-      let n = number in
-      greater-from (λ (x : Place). x.row.number.0) ss m q p ordered within (omega arith) (λ (same : (get_or ss m p).row.number.0 ≡ q). absurd (omega arith))
-
   -- all places up to one that isn't above a number are below each greater one
   pub below-to : (since q : ℕ) → AllPairs IsBefore ss → p.row.number.0 ≤ since → since < q → (k : ℕ) (d : Place) → k < m + 1 → (get_or ss k d).row.number.0 < q
   below-to since q ordered up over = let n = number in smaller-up (λ (x : Place). x.row.number.0) ss m q p ordered within (omega arith)
@@ -135,14 +134,9 @@ module _ (ss : List Place) (m : ℕ) (p : Place) (within : m < length ss) (is : 
 abbrev pub named_owned : Core → LoadNumber → List ArcRef → ℕ → ℕ → Bool
 named_owned w l rs i q = is_named_by (take i rs) q && is_owned_in w (Owner.Load l) q
 
-named-nothing : (rs : List ArcRef) (q : ℕ) → is_named_by (take 0 rs) q ≡ false
-unfolding is_named_by
-named-nothing [] q = refl
-named-nothing (r ∷ rs) q = refl
-
 module _ (before w : Core) (lists : Bool) (t : Holdings) (l : LoadNumber) (rs : List ArcRef) where
   pub none-given : SoFar before w nobody lists t → SoFar before w (named_owned w l rs 0) lists t
-  none-given f = regiven before w nobody (named_owned w l rs 0) lists t f (λ r e. absurd (let a = and-left (is_named_by (take 0 rs) r) _ e in let b = named-nothing rs r in cc)) (λ r e. absurd (cc))
+  none-given f = regiven before w nobody (named_owned w l rs 0) lists t f (λ r e. absurd (let a = and-left (is_named_by (take 0 rs) r) _ e in let b = named-none r in cc)) (λ r e. absurd (cc))
 
   pub one-given : (i : ℕ) (d : ArcRef) → i < length rs → SoFar before w (and_owned w l (named_owned w l rs i) (get_or rs i d).handle.0) lists t → SoFar before w (named_owned w l rs (i + 1)) lists t
   one-given i d lt f =

@@ -7,55 +7,39 @@ pub in-none : (hs : List HandleNumber) (q : ℕ) → is_in (seen hs 0) q ≡ fal
 unfolding is_in seen
 in-none hs q = refl
 
-in-suc : (hs : List HandleNumber) (n q : ℕ) → is_in (seen hs (suc n)) q ≡ (named_at hs n == q || is_in (seen hs n) q)
-unfolding is_in seen
-in-suc hs n q = refl
-
 -- one more is seen
 pub in-more : (hs : List HandleNumber) (n q : ℕ) → is_in (seen hs (n + 1)) q ≡ (named_at hs n == q || is_in (seen hs n) q)
-in-more hs n q = let e : n + 1 ≡ suc n = omega arith in ap (λ m. is_in (seen hs m) q) e ∙ in-suc hs n q
+unfolding is_in seen
+in-more hs n q = let e : n + 1 ≡ suc n = omega arith in ap (λ m. is_in (seen hs m) q) e
 
 pub in-there : (hs : List HandleNumber) (m n q : ℕ) → n < m → named_at hs n ≡ q → is_in (seen hs m) q ≡ true
 in-there hs zero n q lt is = absurd (omega arith)
-in-there hs (suc m) n q lt is = grind (arith, nat_tests, in-suc, in-there hs m n q)
-
-seen-none : (hs : List HandleNumber) → seen hs 0 ≡ []
-unfolding seen
-seen-none hs = refl
-
-seen-suc : (hs : List HandleNumber) (n : ℕ) → seen hs (suc n) ≡ named_at hs n ∷ seen hs n
-unfolding seen
-seen-suc hs n = refl
+in-there hs (suc m) n q lt is = let a = in-more hs m q in let e : suc m ≡ m + 1 = omega arith in ap (λ k. is_in (seen hs k) q) e ∙ a ∙ grind (arith, nat_tests, in-there hs m n q)
 
 seen-more : (hs : List HandleNumber) (n : ℕ) → seen hs (n + 1) ≡ named_at hs n ∷ seen hs n
-seen-more hs n = let e : n + 1 ≡ suc n = omega arith in ap (seen hs) e ∙ seen-suc hs n
-
-none-named : (w : Core) (o : Owner) (before : List ℕ) → named_fault w o before [] ≡ None
-unfolding named_fault
-none-named w o before = refl
+unfolding seen
+seen-more hs n = let e : n + 1 ≡ suc n = omega arith in ap (seen hs) e
 
 abbrev pub one-fault : Core → Owner → List ℕ → HandleNumber → Option Error
 one-fault w o before h = if_there (λ (row : HandleRow). refused_if (not (is_owner o row.owner) || is_in before h.0) Error.NotYours) (Some Error.NoSuchHandle) (find_row h.0 w.rows)
 
-next-named : (w : Core) (o : Owner) (before : List ℕ) (h : HandleNumber) (hs : List HandleNumber) → named_fault w o before (h ∷ hs) ≡ earlier (one-fault w o before h) (named_fault w o (h.0 ∷ before) hs)
-unfolding named_fault
-next-named w o before h hs = refl
-
 -- past the last there is no fault
 pub last-named : (w : Core) (o : Owner) (hs : List HandleNumber) → None ≡ named_fault w o (seen hs (length hs)) (drop (length hs) hs)
-last-named w o hs = sym (at_drop_all (named_fault w o (seen hs (length hs))) hs (length hs) (omega arith) ∙ none-named w o (seen hs (length hs)))
+unfolding named_fault
+last-named w o hs = sym (at_drop_all (named_fault w o (seen hs (length hs))) hs (length hs) (omega arith))
 
 -- the fault of one and of those after it
 pub one-named : (w : Core) (o : Owner) (hs : List HandleNumber) (p : ℕ) (x rest : Option Error) → p < length hs → x ≡ one-fault w o (seen hs p) (get_or hs p (record { 0 = 0 })) → rest ≡ named_fault w o (seen hs (p + 1)) (drop (p + 1) hs) → earlier x rest ≡ named_fault w o (seen hs p) (drop p hs)
+unfolding named_fault
 one-named w o hs p x rest lt is follows =
     ap (λ x. earlier x rest) is
     ∙ ap (earlier (one-fault w o (seen hs p) (get_or hs p (record { 0 = 0 })))) (follows ∙ ap (λ before. named_fault w o before (drop (p + 1) hs)) (seen-more hs p))
-    ∙ sym (next-named w o (seen hs p) (get_or hs p (record { 0 = 0 })) (drop (p + 1) hs))
     ∙ sym (at_drop_more (named_fault w o (seen hs p)) hs p (record { 0 = 0 }) lt)
 
 -- all of them
 pub all-named : (w : Core) (o : Owner) (hs : List HandleNumber) (p : ℕ) (x : Option Error) → p ≡ 0 → x ≡ named_fault w o (seen hs p) (drop p hs) → x ≡ named_fault w o [] hs
-all-named w o hs p x zero' is = is ∙ ap (λ p. named_fault w o (seen hs p) (drop p hs)) zero' ∙ ap (λ before. named_fault w o before hs) (seen-none hs)
+unfolding seen
+all-named w o hs p x zero' is = is ∙ ap (λ p. named_fault w o (seen hs p) (drop p hs)) zero'
 
 -- the set is told by another test
 pub moved-same : (s s' : ℕ → Bool) (o : Owner) (rows : List HandleRow) → ((q : ℕ) → s q ≡ s' q) → moved s o rows ≡ moved s' o rows
@@ -110,15 +94,8 @@ named-still hs p q o rows rows' is plain n =
 or-none : (b : Bool) → (b || false) ≡ b
 or-none x0 = grind (arith, nat_tests)
 
-in-first : (q : ℕ) (h : HandleNumber) (xs : List HandleNumber) → is_in (numbers_of (h ∷ xs)) q ≡ (h.0 == q || is_in (numbers_of xs) q)
-unfolding is_in
-in-first q h xs = refl
-
-in-nothing : (q : ℕ) → is_in [] q ≡ false
-unfolding is_in
-in-nothing q = refl
-
 seen-so-far : (hs : List HandleNumber) (q n : ℕ) → n ≤ length hs → (is_in (seen hs n) q || is_in (numbers_of (drop n hs)) q) ≡ is_in (numbers_of hs) q
+unfolding is_in
 seen-so-far hs q zero le = ap (λ b. b || is_in (numbers_of hs) q) (in-none hs q)
 seen-so-far hs q (suc n) le =
     let e : suc n ≡ n + 1 = omega arith in
@@ -126,15 +103,16 @@ seen-so-far hs q (suc n) le =
     let b = at_drop_more (λ xs. is_in (numbers_of xs) q) hs n (record { 0 = 0 }) (omega arith) in
     let d = in-more hs n q in
     ap (λ m. is_in (seen hs m) q || is_in (numbers_of (drop m hs)) q) e ∙ ap (λ s. s || is_in (numbers_of (drop (n + 1) hs)) q) d ∙ swap (named_at hs n == q) (is_in (seen hs n) q) (is_in (numbers_of (drop (n + 1) hs)) q)
-    ∙ sym (ap (λ s. is_in (seen hs n) q || s) (b ∙ in-first q (get_or hs n (record { 0 = 0 })) (drop (n + 1) hs))) ∙ a
+    ∙ sym (ap (λ s. is_in (seen hs n) q || s) b) ∙ a
   where
     swap : (a b c : Bool) → ((a || b) || c) ≡ (b || (a || c))
     swap a b c = grind (arith, nat_tests)
 
 pub seen-all : (hs : List HandleNumber) (q : ℕ) → is_in (seen hs (length hs)) q ≡ is_in (numbers_of hs) q
+unfolding is_in
 seen-all hs q =
     sym (or-none (is_in (seen hs (length hs)) q))
-    ∙ sym (ap (λ b. is_in (seen hs (length hs)) q || b) (at_drop_all (λ xs. is_in (numbers_of xs) q) hs (length hs) (omega arith) ∙ in-nothing q))
+    ∙ sym (ap (λ b. is_in (seen hs (length hs)) q || b) (at_drop_all (λ xs. is_in (numbers_of xs) q) hs (length hs) (omega arith)))
     ∙ seen-so-far hs q (length hs) (omega arith)
 
 pub all-moved : (hs : List HandleNumber) (p : ℕ) (o : Owner) (rows rows' : List HandleRow) → p ≡ length hs → rows' ≡ moved (is_in (seen hs p)) o rows → rows' ≡ moved (is_in (numbers_of hs)) o rows

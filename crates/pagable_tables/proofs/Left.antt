@@ -1,7 +1,7 @@
 -- Rows that are left when a set of handles goes, counted and listed, and handles that leave.
 use Rattle.pagable_tables.proofs.Words.{◌≡◌, ℕ, ◌+◌, ◌≤◌, ◌==◌, ◌&&◌, ◌||◌, Bool, true, false, not, if◌then◌else◌, List, [], ◌∷◌, ◌++◌, length, filter, refl, ap, ◌∙◌, arith, nat_tests, sum_by-cons}
 use Rattle.pagable_tables.proofs.Words.{sum_by-le-sum_by, HandleNumber, HandleRow, Owner, Mode, one, times, is_handle, left_rows, AreNewEntries, sum_by, append-nil, sum_by_push, NodeNumber, Holdings}
-use Rattle.pagable_tables.proofs.{Words.{live, entry, entries_of, Leaves, sum_by-append, is_owned_by, is_owner, only_handle}, Bits.{and-zero, and-all}}
+use Rattle.pagable_tables.proofs.{Words.{live, entry, entries_of, unpinned, Handles, Leaves, GivesUp, sum_by-append, is_owned_by, is_owner, only_handle}, Bits.{and-zero, and-all}}
 
 -- a sum is at most two others where each of its parts is
 pub sum-most : {X : Type 0} (f g h : X → ℕ) (xs : List X) → ((x : X) → f x ≤ g x + h x) → sum_by f xs ≤ sum_by g xs + sum_by h xs
@@ -83,9 +83,11 @@ pub with-entry : (f : HandleRow → ℕ) (rows : List HandleRow) (listed : Bool)
     → sum_by f (rows ++ entries_of listed k node) ≡ sum_by f rows + (if listed then f (entry k node) else 0)
 with-entry f rows x2 k node = grind (arith, nat_tests, sum_by_push, append-nil)
 
-pub leaves-sums : (old new : Holdings) (x : HandleRow) (wanted listed : Bool) → Leaves old x wanted listed new → (f : HandleRow → ℕ)
-    → sum_by f (live new.handles.places.items) + f x ≡ sum_by f (live old.handles.places.items) + (if listed then f (entry (old.last_handle + 1) x.node) else 0)
-leaves-sums old new x wanted listed leaves f = grind (arith, nat_tests, with-entry)
+pub gives-sums : {old new : Holdings} {stack : List ℕ} {x : HandleRow} {stays lists : Bool} (g : GivesUp old stack x stays lists new) (f : HandleRow → ℕ) → sum_by f (live new.handles.places.items) + f x
+    ≡ sum_by f (live old.handles.places.items) + (if stays then f (unpinned x) else 0) + (if g.listed then f (entry (old.last_handle + 1) x.node) else 0)
+gives-sums {old} {new} {x = x} g f =
+    let d = with-entry f (live g.left.places.items) g.listed (old.last_handle + 1) x.node in
+    omega (arith, d, g.leaves.sums f, ap (sum_by f) g.comes.comes.rows, ap (λ (h : Holdings). sum_by f (live h.handles.places.items)) g.same)
 
 abbrev pub of_list : ℕ → HandleRow → Bool
 of_list q h = is_handle q h && is_owned_by Owner.List h
@@ -97,12 +99,12 @@ none-of : (p : HandleRow → Bool) (q : ℕ) (rows : List HandleRow) → times (
 none-of p q [] = refl
 none-of p q (x ∷ xs) = grind (arith, nat_tests, none-of p q xs)
 
-pub none-listed : (old new : Holdings) (x : HandleRow) (wanted listed : Bool) → Leaves old x wanted listed new → is_owned_by Owner.List x ≡ false
-    → times (of_list x.number.0) (live old.handles.places.items) ≡ 0
-none-listed old new x wanted listed leaves owner =
-    let b = ap (times (of_list x.number.0)) leaves.rows in
-    let d = times-left (of_list x.number.0) (only_handle x.number) (live old.handles.places.items) in
-    let e = none-of (is_owned_by Owner.List) x.number.0 (live old.handles.places.items) in
+pub none-listed : {old new : Handles} {x : HandleRow} → Leaves old x false new → is_owned_by Owner.List x ≡ false → times (of_list x.number.0) (live old.places.items) ≡ 0
+none-listed {old} {x = x} leaves owner =
+    let a = leaves.sums (λ h. one (of_list x.number.0 h)) in
+    let b = ap (times (of_list x.number.0)) leaves.becomes.rows in
+    let d = times-left (of_list x.number.0) (only_handle x.number) (live old.places.items) in
+    let e = none-of (is_owned_by Owner.List) x.number.0 (live old.places.items) in
     let z : one (of_list x.number.0 x) ≡ 0 = grind (arith, nat_tests) in
     omega arith
 

@@ -1,9 +1,7 @@
 -- Handles that references name come to another owner.
-use Rattle.pagable_tables.proofs.Handed.{moved-unless}
-use Rattle.pagable_tables.proofs.Words.{Bool, SameAt}
-use Rattle.pagable_tables.proofs.Words.{◌≡◌, ℕ, ◌+◌, ◌<◌, ◌≤◌, ◌==◌, ◌||◌, true, false, List, [], ◌∷◌, ◌++◌, take, drop, drop-cons, get_or, length, add-one, refl, ap, sym, ◌∙◌, arith, Some, None}
-use Rattle.pagable_tables.proofs.Words.{nat_tests, ◌≢◌, drop_all, take-suc, Error, ArcRef, HandleNumber, HandleRow, Owner, is_in, or_else, find_row, Core, reference_fault, references_fault}
-use Rattle.pagable_tables.proofs.{Words.{only_handle, moved, is_named_by, Alike, HasRoom}, Coming.owned-by, Worlds.same-cache}
+use Rattle.pagable_tables.proofs.Words.{Bool, SameAt, ◌≡◌, ℕ, ◌+◌, ◌<◌, ◌≤◌, ◌==◌, ◌||◌, true, false, List, [], ◌∷◌, ◌++◌, take, drop, drop-cons, get_or, length, add-one, refl, ap, sym, ◌∙◌, arith}
+use Rattle.pagable_tables.proofs.Words.{Some, None, nat_tests, ◌≢◌, drop_all, take-suc, Error, ArcRef, HandleNumber, HandleRow, Owner, is_in, or_else, find_row, Core, reference_fault}
+use Rattle.pagable_tables.proofs.{Words.{references_fault, only_handle, moved, is_named_by, Alike, HasRoom, suc, zero, take_all}, Handed.moved-unless, Coming.owned-by, Worlds.same-cache}
 
 -- no row has the number
 pub moved-none : (h : HandleNumber) (owner : Owner) (rows : List HandleRow) → find_row h.0 rows ≡ None → moved (only_handle h) owner rows ≡ rows
@@ -34,30 +32,17 @@ moved-take rs i d owner rows lt =
     let a : take i rs ++ get_or rs i d ∷ [] ≡ take (i + 1) rs = sym (take-suc rs i d lt) ∙ ap (λ n. take n rs) (sym (add-one i)) in
     moved-push (take i rs) (get_or rs i d) owner rows ∙ ap (λ l. moved (is_named_by l) owner rows) a
 
--- the rest of the references, one on
-named-drop : (rs : List ArcRef) (i : ℕ) (d : ArcRef) (q : ℕ) → i < length rs → is_named_by (drop i rs) q ≡ ((get_or rs i d).handle.0 == q) || is_named_by (drop (i + 1) rs) q
+pub named-in : (rs : List ArcRef) (i : ℕ) (d : ArcRef) (q : ℕ) → i < length rs → (get_or rs i d).handle.0 ≡ q → is_named_by rs q ≡ true
 unfolding is_named_by
-named-drop rs i d q lt = rw (add-one, drop-cons rs i d) refl
-
-pub named-here : (rs : List ArcRef) (i : ℕ) (d : ArcRef) (q : ℕ) → i < length rs → (get_or rs i d).handle.0 ≡ q → is_named_by (drop i rs) q ≡ true
-named-here rs i d q lt is =
-    let a : ((get_or rs i d).handle.0 == q) ≡ true = grind (arith, nat_tests) in
-    named-drop rs i d q lt ∙ ap (λ b. b || is_named_by (drop (i + 1) rs) q) a
-
-pub named-past : (rs : List ArcRef) (i : ℕ) (d : ArcRef) (q : ℕ) → i < length rs → (get_or rs i d).handle.0 ≢ q → is_named_by (drop i rs) q ≡ is_named_by (drop (i + 1) rs) q
-named-past rs i d q lt other =
-    let a : ((get_or rs i d).handle.0 == q) ≡ false = grind (arith, nat_tests) in
-    named-drop rs i d q lt ∙ ap (λ b. b || is_named_by (drop (i + 1) rs) q) a
-
-pub named-end : (rs : List ArcRef) (i q : ℕ) → length rs ≤ i → is_named_by (drop i rs) q ≡ false
-unfolding is_named_by
-named-end rs i q past = ap (λ l. is_named_by l q) (drop_all i rs past)
+named-in [] i d q lt is = absurd (omega arith)
+named-in (r ∷ rs) zero d q lt is = grind (arith, nat_tests)
+named-in (r ∷ rs) (suc i) d q lt is = let a = named-in rs i d q (omega arith) is in grind (arith, nat_tests)
 
 pub named-take : (rs : List ArcRef) (i : ℕ) (d : ArcRef) (q : ℕ) → i < length rs → is_named_by (take (i + 1) rs) q ≡ ((get_or rs i d).handle.0 == q) || is_named_by (take i rs) q
 named-take rs i d q lt = ap (λ l. is_named_by l q) (ap (λ n. take n rs) (add-one i) ∙ take-suc rs i d lt) ∙ named-push (take i rs) (get_or rs i d) q
 
-pub above-named : (rs : List ArcRef) (i : ℕ) (d : ArcRef) (q : ℕ) → (get_or rs i d).handle.0 < q → i < length rs → is_named_by (take i rs) q ≡ false → is_named_by (take (i + 1) rs) q ≡ false
-above-named rs i d q less lt before =
+pub named-other : (rs : List ArcRef) (i : ℕ) (d : ArcRef) (q : ℕ) → (get_or rs i d).handle.0 ≢ q → i < length rs → is_named_by (take i rs) q ≡ false → is_named_by (take (i + 1) rs) q ≡ false
+named-other rs i d q other lt before =
     let a : ((get_or rs i d).handle.0 == q) ≡ false = grind (arith, nat_tests) in
     named-take rs i d q lt ∙ ap (λ b. b || is_named_by (take i rs) q) a ∙ before
 
@@ -90,4 +75,4 @@ alike-listed w w' rows list places same = grind (arith, nat_tests, same-cache)
 pub at-work-still : {w w' : Core} {workers : ℕ → Bool} → Alike w w' → SameAt w'.workers workers → Alike w (record w' { workers = workers })
 at-work-still {w} {w'} {workers} a still = grind (arith, nat_tests)
 
-pub ruleset naming = (nat_tests, named-here, named-past, named-end, named-none, moved-nobody, seen-none, fault-end)
+pub ruleset naming = (nat_tests, named-in, named-other, take_all, named-none, moved-nobody, seen-none, fault-end)

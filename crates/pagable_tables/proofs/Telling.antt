@@ -1,18 +1,15 @@
 -- A handle has gone and an entry may have come: which cells must be listed then, and what is told of it.
 use Rattle.pagable_tables.proofs.Words.{◌≡◌, ℕ, ◌+◌, ◌≤◌, ◌&&◌, Bool, true, false, not, if◌then◌else◌, List, refl, ap, sym, ◌∙◌, arith, Option, Some, None, inl, inr, is_some, nat_lt, nat_eq}
-use Rattle.pagable_tables.proofs.Words.{nat_tests, sum_by-append, OptionalDataKey, HandleRow, one, times, if_there, is_at, is_pin, is_owned_by, owner_value, held, pins, has_key, Core}
-use Rattle.pagable_tables.proofs.Words.{Cell, IsWithin, IsClosed, is_keyed, is_outside, left_rows, held_outside, pins_outside, Counts, Holdings, live, counts_at, keyed_in, key_in, cell_in, HasFallen}
-use Rattle.pagable_tables.proofs.Words.{SoFar, ◌⊎◌, cases_Bool, and_parts, NodeNumber, Owner, Mode, is_share, is_shared, is_pinning, MustList, pins_in, entry, is_listing, with_tables, is_plain_pin}
-use Rattle.pagable_tables.proofs.{Words.{◌<◌, ◌++◌, length, subst, vec_capacity, Error, TellsListing, IsListRefusal, entries_of, IsUnlisted, first_cause, told_by}, Left.{times-left, entries-none}}
-use Rattle.pagable_tables.proofs.{Left.{left-le, with-entry, times-le, sum-most}, Begun.open-then}
+use Rattle.pagable_tables.proofs.Words.{nat_tests, sum_by-append, OptionalDataKey, HandleRow, one, times, if_there, is_at, is_pin, is_owned_by, owner_value, held, pins, has_key, Core, Cell, IsWithin}
+use Rattle.pagable_tables.proofs.Words.{IsClosed, is_keyed, is_outside, left_rows, held_outside, pins_outside, Counts, Holdings, live, counts_at, keyed_in, key_in, cell_in, HasFallen, SoFar, ◌⊎◌}
+use Rattle.pagable_tables.proofs.Words.{cases_Bool, and_parts, NodeNumber, Owner, Mode, is_share, is_shared, is_pinning, MustList, pins_in, entry, is_listing, with_tables, is_plain_pin, ◌<◌, ◌++◌}
+use Rattle.pagable_tables.proofs.{Words.{length, subst, vec_capacity, Error, TellsListing, IsListRefusal, entries_of, IsUnlisted, first_cause, told_by}, Left.{times-left, entries-none, left-le}}
+use Rattle.pagable_tables.proofs.{Left.{with-entry, times-le, sum-most}, Begun.open-then}
 
 -- what is outside the one set is outside the other, or between them
 cut : (f : HandleRow → Bool) (gone s : ℕ → Bool) (rows : List HandleRow) → times (λ h. f h && not (s h.number.0)) rows
     ≤ times (λ h. f h && not (gone h.number.0)) rows + times (λ h. gone h.number.0 && not (s h.number.0)) rows
-cut f gone s rows = sum-most _ _ _ rows (λ h. bits (f h) (gone h.number.0) (s h.number.0))
-  where
-    bits : (p g s : Bool) → one (p && not s) ≤ one (p && not g) + one (g && not s)
-    bits p g s = grind (arith, nat_tests)
+cut f gone s rows = grind (arith, nat_tests, sum-most)
 
 pub keyed-cell : (k : ℕ) → has_key (key_in k) ≡ nat_lt 0 k
 keyed-cell x0 = grind (arith, nat_tests)
@@ -20,20 +17,25 @@ keyed-cell x0 = grind (arith, nat_tests)
 up-keyed : (o : Option Counts) (cell : Option Cell) → (is_some o ≡ true → cell_in o ≡ cell) → keyed_in o ≡ true → has_key (if_there (λ (c : Cell). c.key) OptionalDataKey.None cell) ≡ true
 up-keyed x0 cell same e = grind (arith, nat_tests, keyed-cell)
 
-module _ (before w : Core) (given : ℕ → Bool) (lists : Bool) (t : Holdings) (f : SoFar before w given lists t) (s : ℕ → Bool) (within : IsWithin w.rows f.gone s) where
-  counted : (p : HandleRow → Bool) → times p (live t.handles.places.items) ≡ times (λ h. p h && not (f.gone h.number.0)) w.rows + times p f.entries
+module _ {before w : Core} {given : ℕ → Bool} {lists : Bool} {t : Holdings} (f : SoFar before w given lists t) where
+  pub counted : (p : HandleRow → Bool) → times p (live t.handles.places.items) ≡ times (λ h. p h && not (f.gone h.number.0)) w.rows + times p f.entries
   counted p = ap (times p) f.rows ∙ sum_by-append (λ h. one (p h)) (left_rows f.gone w.rows) f.entries ∙ ap (λ k. k + times p f.entries) (times-left p f.gone w.rows)
 
+  -- what no new entry is, is in the tables no more often than at first
+  no-more : (p : HandleRow → Bool) → ((h : HandleRow) → h.mode ≡ Mode.LooseUnpinned → h.owner ≡ Owner.List → p h ≡ false) → times p (live t.handles.places.items) ≤ times p w.rows
+  no-more p none = grind (arith, nat_tests, sum_by-append, entries-none, left-le)
+
+module _ {before w : Core} {given : ℕ → Bool} {lists : Bool} {t : Holdings} (f : SoFar before w given lists t) (s : ℕ → Bool) (within : IsWithin w.rows f.gone s) where
   lost : (final : List HandleRow) (n : ℕ) (keyed : Bool) → is_keyed w n ≡ keyed → (held n (live t.handles.places.items) ≡ 0 → held n final ≡ 0)
       → HasFallen (counts_at t.nodes) (live t.handles.places.items) n
       → (if keyed then nat_eq (pins_outside w.rows s n) 0 else nat_eq (held n final) 0 && nat_eq (held_outside w.rows s n) 0) ≡ true
   lost final n true e bare down =
-      let a = counted (is_pin n) in
+      let a = counted f (is_pin n) in
       let b = cut (is_pin n) f.gone s w.rows in
       let d : pins n (live t.handles.places.items) ≤ held n (live t.handles.places.items) = times-le (is_pin n) (is_at n) (live t.handles.places.items) (λ h. grind (arith, nat_tests)) in
       grind (arith, nat_tests)
   lost final n false e bare (inl none) =
-      let a = counted (is_at n) in
+      let a = counted f (is_at n) in
       let b = cut (is_at n) f.gone s w.rows in
       grind (arith, nat_tests)
   lost final n false e bare (inr both) = let k = up-keyed (counts_at t.nodes n) (w.cells n) (f.cells n) both.0 in absurd (cc)
@@ -44,7 +46,7 @@ module _ (before w : Core) (given : ℕ → Bool) (lists : Bool) (t : Holdings) 
       → times (λ h. is_owned_by (owner_value n) h && is_outside s h) (live t.handles.places.items) ≡ 0
   forced final n bare down closed =
       let none = closed n (lost final n (is_keyed w n) refl bare down) in
-      let a = counted (λ h. is_owned_by (owner_value n) h && is_outside s h) in
+      let a = counted f (λ h. is_owned_by (owner_value n) h && is_outside s h) in
       let b = entries-none (λ h. is_owned_by (owner_value n) h && is_outside s h) (λ h mode owner. grind (arith, nat_tests)) w.last.handle f.entries f.new in
       let d = times-le (λ h. (is_owned_by (owner_value n) h && is_outside s h) && not (f.gone h.number.0)) (λ h. is_owned_by (owner_value n) h && is_outside s h)
       w.rows (λ h. grind (arith, nat_tests)) in
@@ -70,54 +72,6 @@ open-lists lists x1 e c = grind (arith, nat_tests)
 both : (a b : Bool) → a ≡ true → b ≡ true → (a && b) ≡ true
 both x0 b e h = grind (arith, nat_tests)
 
-module _ (before w : Core) (given : ℕ → Bool) (lists : Bool) (t : Holdings) (f : SoFar before w given lists t) where
-  -- what no new entry is, is in the tables no more often than at first
-  pub no-more : (p : HandleRow → Bool) → ((h : HandleRow) → h.mode ≡ Mode.LooseUnpinned → h.owner ≡ Owner.List → p h ≡ false) → times p (live t.handles.places.items) ≤ times p w.rows
-  no-more p none = grind (arith, nat_tests, sum_by-append, entries-none, left-le)
-
-  -- the last pin of a cell without a key has gone
-  pub must-now : (x : HandleRow) (c : Counts) (new : Holdings) → counts_at t.nodes x.node.0 ≡ Some c
-      → pins_in (counts_at t.nodes x.node.0) ≡ pins x.node.0 (live t.handles.places.items) → ((p : HandleRow → Bool) → one (p x) ≤ times p (live t.handles.places.items))
-      → (lists && is_listing c x.mode) ≡ true → pins x.node.0 (live new.handles.places.items) ≡ 0 → MustList before w (with_tables w new) x.node.0
-  must-now x c new is pinned here wanted none =
-      let w' = and_parts lists (is_listing c x.mode) wanted in
-      let l = listing-is c x.mode w'.1 in
-      let n = x.node.0 in
-      let a = ap pins_in is in
-      let b = no-more (is_pin n) (λ h mode owner. grind (arith, nat_tests)) in
-      let d = f.begins.fewer n in
-      let p = no-more (is_plain_pin n) (λ h mode owner. grind (arith, nat_tests)) in
-      let plain : one (is_plain_pin n x) ≡ 1 = grind (arith, nat_tests) in
-      grind (arith, nat_tests, cell-keyed, open-then)
-
-  -- a cell must be listed: its last pin had gone before, or it has gone now
-  pub must-before : (x : HandleRow) (c : Counts) (new : Holdings) (n : ℕ) → counts_at t.nodes x.node.0 ≡ Some c
-      → pins_in (counts_at t.nodes x.node.0) ≡ pins x.node.0 (live t.handles.places.items) → ((p : HandleRow → Bool) → one (p x) ≤ times p (live t.handles.places.items))
-      → pins n (live new.handles.places.items) + one (is_pin n x) ≡ pins n (live t.handles.places.items) → MustList before w (with_tables w new) n
-      → (MustList before w (with_tables w t) n) ⊎ ((n ≡ x.node.0) × ((lists && is_listing c x.mode) ≡ true))
-  must-before x c new n is pinned here left must =
-      elim (cases_Bool (is_pin n x)) [
-        | inr other ↦ let z = must.unpinned in let k = ap one other in inl (record {
-          pinned = must.pinned;
-          unpinned = omega arith;
-          unkeyed = must.unkeyed;
-          unshared = must.unshared;
-          stands_open = must.stands_open;
-        })
-        | inl pin ↦ inr (now pin)
-      ]
-    where
-      now : is_pin n x ≡ true → (n ≡ x.node.0) × ((lists && is_listing c x.mode) ≡ true)
-      now pin =
-          let at : n ≡ x.node.0 = grind (arith, nat_tests) in
-          let pinning : is_pinning x.mode ≡ true = grind (arith, nat_tests) in
-          let a = no-more (is_share n) (λ h mode owner. let m : is_shared h.mode ≡ false = ap is_shared mode in grind (arith, nat_tests)) in
-          let unshared : is_shared x.mode ≡ false = grind (arith, nat_tests) in
-          let o = ap one pin in
-          let p : c.pins ≡ 1 = sym (ap pins_in is) ∙ pinned ∙ ap (λ m. pins m (live t.handles.places.items)) (sym at) ∙ (omega arith) in
-          let k : nat_lt 0 c.key ≡ false = sym (cell-keyed (counts_at t.nodes x.node.0) c (w.cells x.node.0) is (f.cells x.node.0)) ∙ ap (λ m. is_keyed w m) (sym at) ∙ must.unkeyed in
-          (at, both lists (is_listing c x.mode) (open-lists lists w.closed f.begins.open_storage must.stands_open) (is-listing c x.mode pinning unshared p k))
-
 -- a cause stays
 refusal-kept : (w : Core) (t new : Holdings) (e : Error) → IsListRefusal w (with_tables w t) e → t.last_handle ≤ new.last_handle → length t.list.items ≤ length new.list.items
     → IsListRefusal w (with_tables w new) e
@@ -133,7 +87,7 @@ refusal-now w b new e why last list since handles entries rows = grind (arith, n
 which : (listed wanted : Bool) → ((listed ≡ true) ⊎ (wanted ≡ false)) ⊎ ((listed ≡ false) × (wanted ≡ true))
 which listed wanted = grind (arith, nat_tests)
 
-module _ (before w : Core) (given : ℕ → Bool) (lists : Bool) (t : Holdings) (f : SoFar before w given lists t) (x : HandleRow) (c : Counts)
+module _ {before w : Core} {given : ℕ → Bool} {lists : Bool} {t : Holdings} (f : SoFar before w given lists t) (x : HandleRow) (c : Counts)
     (is : counts_at t.nodes x.node.0 ≡ Some c) (pinned : pins_in (counts_at t.nodes x.node.0) ≡ pins x.node.0 (live t.handles.places.items))
     (here : (p : HandleRow → Bool) → one (p x) ≤ times p (live t.handles.places.items)) (new : Holdings)
     (left : (n : ℕ) → pins n (live new.handles.places.items) + one (is_pin n x) ≡ pins n (live t.handles.places.items)) (listed : Bool) (k : ℕ)
@@ -144,13 +98,41 @@ module _ (before w : Core) (given : ℕ → Bool) (lists : Bool) (t : Holdings) 
   none-held : (lists && is_listing c x.mode) ≡ true → held x.node.0 f.entries ≡ 0
   none-held wanted = grind (arith, nat_tests)
 
+  -- the last pin of a cell without a key has gone
   new-must : (lists && is_listing c x.mode) ≡ true → MustList before w (with_tables w new) x.node.0
   new-must wanted =
-      let l = listing-is c x.mode (and_parts lists (is_listing c x.mode) wanted).1 in
-      let is-pin : one (is_pin x.node.0 x) ≡ 1 = grind (arith, nat_tests) in
-      let a = one-pin wanted in
-      let b = left x.node.0 in
-      must-now before w given lists t f x c new is pinned here wanted (omega arith)
+      let w' = and_parts lists (is_listing c x.mode) wanted in
+      let l = listing-is c x.mode w'.1 in
+      let n = x.node.0 in
+      let is-pin : one (is_pin n x) ≡ 1 = grind (arith, nat_tests) in
+      let none : pins n (live new.handles.places.items) ≡ 0 = omega (arith, one-pin wanted, left n, is-pin) in
+      let b = no-more f (is_pin n) (λ h mode owner. grind (arith, nat_tests)) in
+      let d = f.begins.fewer n in
+      let p = no-more f (is_plain_pin n) (λ h mode owner. grind (arith, nat_tests)) in
+      let plain : one (is_plain_pin n x) ≡ 1 = grind (arith, nat_tests) in
+      grind (arith, nat_tests, cell-keyed, open-then)
+
+  -- a cell must be listed: its last pin had gone before, or it has gone now
+  must-before : (n : ℕ) → MustList before w (with_tables w new) n → (MustList before w (with_tables w t) n) ⊎ ((n ≡ x.node.0) × ((lists && is_listing c x.mode) ≡ true))
+  must-before n must =
+      elim (cases_Bool (is_pin n x)) [
+        | inr other ↦ let a = left n in let z = must.unpinned in let k = ap one other in
+            inl (record { pinned = must.pinned; unpinned = omega arith; unkeyed = must.unkeyed; unshared = must.unshared; stands_open = must.stands_open })
+        | inl pin ↦ inr (now pin)
+      ]
+    where
+      now : is_pin n x ≡ true → (n ≡ x.node.0) × ((lists && is_listing c x.mode) ≡ true)
+      now pin =
+          let at : n ≡ x.node.0 = grind (arith, nat_tests) in
+          let pinning : is_pinning x.mode ≡ true = grind (arith, nat_tests) in
+          let a = no-more f (is_share n) (λ h mode owner. let m : is_shared h.mode ≡ false = ap is_shared mode in grind (arith, nat_tests)) in
+          let unshared : is_shared x.mode ≡ false = grind (arith, nat_tests) in
+          let o = ap one pin in
+          let l = left n in
+          let z = must.unpinned in
+          let p : c.pins ≡ 1 = sym (ap pins_in is) ∙ pinned ∙ ap (λ m. pins m (live t.handles.places.items)) (sym at) ∙ (omega arith) in
+          let k : nat_lt 0 c.key ≡ false = sym (cell-keyed (counts_at t.nodes x.node.0) c (w.cells x.node.0) is (f.cells x.node.0)) ∙ ap (λ m. is_keyed w m) (sym at) ∙ must.unkeyed in
+          (at, both lists (is_listing c x.mode) (open-lists lists w.closed f.begins.open_storage must.stands_open) (is-listing c x.mode pinning unshared p k))
 
   must-kept : (n : ℕ) → MustList before w (with_tables w t) n → MustList before w (with_tables w new) n
   must-kept n m = let a = left n in let b = m.unpinned in record { pinned = m.pinned; unpinned = omega arith; unkeyed = m.unkeyed; unshared = m.unshared; stands_open = m.stands_open }
@@ -166,7 +148,7 @@ module _ (before w : Core) (given : ℕ → Bool) (lists : Bool) (t : Holdings) 
       → MustList before w (with_tables w new) n → held n (f.entries ++ entries_of listed k x.node) ≡ 1
   all-more all comes n must =
       let more = with-entry (λ h. one (is_at n h)) f.entries listed k x.node in
-      elim (must-before before w given lists t f x c new n is pinned here (left n) must) [
+      elim (must-before n must) [
         | inl m ↦ let a = all n m in let z = other n m.unpinned in omega arith
         | inr now ↦
             elim (cases_Bool listed) [

@@ -2,8 +2,8 @@
 use Rattle.std.specs.Prelude.{ℕ, zero, suc, ◌≡◌, ◌+◌, ◌*◌, ◌-◌, ◌<◌, ◌≤◌, ◌≢◌, ◌==◌, ◌&&◌, ◌||◌, ◌⊎◌, ◌++◌, Bool, true, false, not, if◌then◌else◌, List, [], ◌∷◌, length, sum_by, Option, Some, None, is_some, nat_lt, Result, Ok, Err, IfErr, IfSome, vec_capacity}
 use Rattle.pagable_model.specs.{declared.data_key.OptionalDataKey.OptionalDataKey, declared.error.Error.Error, declared.numbers.ArcRef.ArcRef, declared.numbers.NodeNumber.NodeNumber}
 use Rattle.pagable_world.specs.{declared.handles.HandleRow.HandleRow, declared.rows.Mode.Mode, declared.handles.Owner.Owner, Plain.one, Plain.times, Kinds.held, Kinds.pins}
-use Rattle.pagable_world.specs.{Kinds.is_handle, Kinds.is_owned_by, Kinds.owner_value, World.greatest, World.Cell, Calls.row_of, Cascade.left_rows, Cascade.only_handle}
-use Rattle.pagable_tables.specs.{declared.rows.Counts.Counts, declared.holdings.Holdings.Holdings, Live.live, Live.AreSound, Live.IsNext, ByNumber.counts_at, ByNumber.refs_at}
+use Rattle.pagable_world.specs.{Kinds.{is_handle, is_owned_by, owner_value}, World.{greatest, Cell}, Calls.row_of, Cascade.{left_rows, only_handle}, Plain.changed}
+use Rattle.pagable_tables.specs.{declared.rows.Counts.Counts, declared.handles.Handles.Handles, declared.holdings.Holdings.Holdings, Live.{live, AreSound, IsNext}, ByNumber.{counts_at, refs_at}, Becoming.Becomes}
 use Rattle.pagable_model.specs.declared.data_key.OptionalDataKey.TheVariants as optional
 use Rattle.pagable_model.specs.declared.error.Error.TheVariants as errors
 use Rattle.pagable_world.specs.declared.rows.Mode.TheVariants as modes
@@ -60,14 +60,15 @@ is_listing c modes.LooseUnpinned = false
 is_listing c modes.Pinned = c.pins == 1 && not (nat_lt 0 c.key)
 is_listing c modes.Shared = false
 
--- The counts after a handle has left. A node falls from now on where its last handle went, or its last pin and it has a key.
+-- The counts after a handle has left, or stayed without its pin, and perhaps an entry came. A node falls from now on where its last handle went, or its last pin and
+-- it has a key.
 abbrev pub is_fallen_by : Counts → Bool → ℕ → ℕ → Bool
 is_fallen_by c pinning pins holds = not c.is_falling && (holds == 0 || (pinning && pins == 0 && nat_lt 0 c.key))
 
-abbrev pub after : Counts → Bool → Bool → ℕ → Counts
-after c pinning listed top =
+abbrev pub after : Counts → Bool → Bool → Bool → ℕ → Counts
+after c pinning stays listed top =
     let pins = c.pins - one pinning in
-    let holds = if listed then c.holds else c.holds - 1 in
+    let holds = (if stays then c.holds else c.holds - 1) + one listed in
     let falls = is_fallen_by c pinning pins holds in
     record c { pins = pins; holds = holds; is_falling = c.is_falling || falls; next = if falls then top else c.next }
 
@@ -147,14 +148,15 @@ pub record MayList (old : Holdings) (node : NodeNumber) (wanted listed : Bool) (
   pub told : (listed ≡ true) ⊎ (wanted ≡ false) → new.unlisted ≡ old.unlisted
   pub why : listed ≡ false → wanted ≡ true → (e : Error) × IsUnlisted old e × (new.unlisted ≡ first_cause old.unlisted e)
 
--- the handle of the row x leaves, and then an entry for its node may come
-pub record Leaves (old : Holdings) (x : HandleRow) (wanted listed : Bool) (new : Holdings) : Type 0 where
-  pub between : Holdings
-  pub rows : live between.handles.places.items ≡ left_rows (only_handle x.number) (live old.handles.places.items)
-  pub sums : (f : HandleRow → ℕ) → sum_by f (live between.handles.places.items) + f x ≡ sum_by f (live old.handles.places.items)
-  pub places : HasPlaces old between
-  pub same : between ≡ record old { handles = between.handles }
-  pub lists : MayList between x.node wanted listed new
+-- the row of a loose handle without its pin
+abbrev pub unpinned : HandleRow → HandleRow
+unpinned x = record x { mode = modes.LooseUnpinned }
+
+-- the handle of the row x leaves, or it stays without its pin
+pub record Leaves (old : Handles) (x : HandleRow) (stays : Bool) (new : Handles) : Type 0 where
+  pub becomes : Becomes old (if stays then changed (is_handle x.number.0) unpinned (live old.places.items) else left_rows (only_handle x.number) (live old.places.items)) new
+  pub sums : (f : HandleRow → ℕ) → sum_by f (live new.places.items) + f x ≡ sum_by f (live old.places.items) + (if stays then f (unpinned x) else 0)
+  pub there : (f : HandleRow → ℕ) → f x ≤ sum_by f (live old.places.items)
 
 -- the key of this number, if it is one
 abbrev pub key_in : ℕ → OptionalDataKey
@@ -179,19 +181,27 @@ has_value (Some c) = nat_lt 0 c.pins || not (nat_lt 0 c.key)
 abbrev pub ValueStays : Option Counts → Option Counts → Type 0
 ValueStays old new = falls_in new ≡ false → (falls_in old ≡ false) × (has_value new ≡ has_value old)
 
--- The handle of the row x is given up.
-pub record GivesUp (old : Holdings) (stack : List ℕ) (x : HandleRow) (listing : Bool) (new : Holdings) : Type 0 where
+-- The handle of the row x is given up, or it stays without its pin. Then an entry for its node may come.
+pub record GivesUp (old : Holdings) (stack : List ℕ) (x : HandleRow) (stays lists : Bool) (new : Holdings) : Type 0 where
+  pub left : Handles
+  pub leaves : Leaves old.handles x stays left
   pub counts : Counts
   pub is : counts_at old.nodes x.node.0 ≡ Some counts
   pub listed : Bool
   pub between : Holdings
-  pub leaves : Leaves old x (listing && is_listing counts x.mode) listed between
+  pub comes : MayList (record old { handles = left }) x.node (lists && is_listing counts x.mode) listed between
   pub same : new ≡ record between { nodes = new.nodes; top = new.top }
   pub cells : CellsStay (counts_at old.nodes) (counts_at new.nodes)
   pub values : (n : ℕ) → ValueStays (counts_at old.nodes n) (counts_at new.nodes n)
   pub more : List ℕ
   pub falling : IsFalling new more owns_nothing
   pub long : length more ≤ length stack + 1
+  -- where its handle stays a node falls only if it has a key
+  pub keyed : stays ≡ true → old.top ≡ 0 → new.top ≢ 0 → nat_lt 0 counts.key ≡ true
+
+-- the counts of a node that falls no more, if it is left
+abbrev pub landed : Counts → Option Counts
+landed c = if c.holds == 0 then None else Some (record c { is_falling = false; next = 0 })
 
 -- The first node that falls is done, and its value goes.
 pub record Settles (old : Holdings) (stack : List ℕ) (new : Holdings) : Type 0 where
@@ -223,7 +233,7 @@ pub record FallsBy (old : Holdings) (x : HandleRow) (n : ℕ) (lists : Bool) (ne
   pub same : popped ≡ record old { nodes = popped.nodes }
   pub counts : (m : ℕ) → counts_at popped.nodes m ≡ counts_at old.nodes m
   pub stack : List ℕ
-  pub gives : GivesUp popped stack x lists new
+  pub gives : GivesUp popped stack x false lists new
 
 -- One step: a handle is given up, or the first node that falls is done, and its value goes.
 pub record Steps (old : Holdings) (stack : List ℕ) (lists : Bool) (r : Option NodeNumber) (new : Holdings) : Type 0 where
@@ -233,6 +243,8 @@ pub record Steps (old : Holdings) (stack : List ℕ) (lists : Bool) (r : Option 
   pub cells : CellsStay (counts_at old.nodes) (counts_at new.nodes)
   pub values : (n : ℕ) → r ≢ Some (record { 0 = n }) → ValueStays (counts_at old.nodes n) (counts_at new.nodes n)
   pub gone : IfSome r (λ n. has_value (counts_at new.nodes n.0) ≡ false)
+  pub fewer : length (live new.handles.places.items) ≤ length (live old.handles.places.items)
+  pub unlisting : lists ≡ false → new.list.items ≡ old.list.items
   pub what : ((r ≡ Some (record { 0 = old.top })) × (new ≡ record old { nodes = new.nodes; top = new.top })) ⊎ ((x : HandleRow) × (n : ℕ) × (r ≡ None) × FallsBy old x n lists new)
 
 -- A node that doesn't fall has its value exactly while something pins it or it has no key.

@@ -14,6 +14,7 @@ abbrev pub gives : Core → Giving → Owner → NodeNumber → Bool
 gives w (givings.Load l) owner node = is_owner (owners.Load l) owner
 gives w (givings.AtNode v n) owner node = is_owner (owners.Worker v) owner && node.0 == n.0
 gives w (givings.Worker v) owner node = is_owner (owners.Worker v) owner || is_load_of w v.0 owner
+gives w givings.Listed owner node = is_owner owners.List owner
 
 abbrev pub gives_row : Core → Giving → HandleRow → Bool
 gives_row w giving row = gives w giving row.owner row.node

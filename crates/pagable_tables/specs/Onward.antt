@@ -2,7 +2,7 @@
 use Rattle.std.specs.Prelude.{ℕ, ◌≡◌, ◌≢◌, ◌+◌, ◌<◌, ◌≤◌, ◌==◌, ◌&&◌, ◌||◌, ◌⊎◌, ◌++◌, Bool, true, not, List, length, map, filter, Option, Some, None, is_some, Result, Ok, Err, vec_capacity}
 use Rattle.pagable_model.specs.{declared.error.Error.Error, declared.numbers.HandleNumber.HandleNumber}
 use Rattle.pagable_world.specs.{declared.handles.HandleRow.HandleRow, Plain.times, Kinds.{is_shared, is_pin, is_handle, is_owned_by, held, pins, sharing}, World.{Core, greatest, HasRoom}}
-use Rattle.pagable_world.specs.{Cascade.{IsWithin, IsClosed, AreNewEntries, is_keyed, left_rows, MustList, TellsListing}, Calls.is_listed, LoadCalls.is_owned_in}
+use Rattle.pagable_world.specs.{Cascade.{IsWithin, IsClosed, AreNewEntries, is_keyed, left_rows, MustList, TellsListing}}
 use Rattle.pagable_tables.specs.{declared.holdings.Holdings.Holdings, Live.live, ByNumber.counts_at, Falling.cell_in}
 use Rattle.pagable_world.specs.declared.handles.Owner.TheVariants as owners
 
@@ -62,15 +62,3 @@ pub record SoFar (before w : Core) (given : ℕ → Bool) (lists : Bool) (t : Ho
 pub record IsApart (before w : Core) (given : ℕ → Bool) (lists : Bool) (t : Holdings) (f : SoFar before w given lists t) (q : ℕ) : Type 0 where
   pub unentered : times (is_handle q) f.entries ≡ 0
   pub kept : filter (λ (h : HandleNumber). not (f.gone h.0 || h.0 == q)) w.list ≡ filter (λ (h : HandleNumber). not (f.gone h.0)) w.list
-
--- how often a list has a handle
-abbrev pub entered : ℕ → List HandleNumber → ℕ
-entered q list = times (λ (h : HandleNumber). h.0 == q) list
-
-abbrev pub with_list : Core → List HandleNumber → Core
-with_list w list = record w { list = list }
-
--- the list has each of its entries once, and owns it
-pub record AreEntries (w : Core) : Type 0 where
-  pub once : (q : ℕ) → entered q w.list ≤ 1
-  pub owned : (q : ℕ) → is_listed w q ≡ true → is_owned_in w owners.List q ≡ true

@@ -1,6 +1,6 @@
 //! What follows when handles are given up, to its end.
 
-ghost use Rattle.std.specs.Prelude.{◌≡◌, ℕ, ◌+◌, ◌*◌, ◌≤◌, ◌==◌, ◌||◌, ◌⊎◌, [], List, length, Bool, false, if◌then◌else◌, nat_eq, None, slice_get, Some, ◌≢◌, Option};
+ghost use Rattle.std.specs.Prelude.{◌≡◌, ℕ, ◌+◌, ◌*◌, ◌≤◌, ◌==◌, ◌||◌, ◌⊎◌, [], List, length, Bool, false, if◌then◌else◌, nat_eq, None, slice_get, Some};
 ghost use Rattle.pagable_world.specs.{Kinds.is_owner, World.Core, Cascade.Falls};
 ghost use Rattle.pagable_tables.specs.{Live.{live, alive, AreSound}, ByNumber.counts_at, Falling.{IsFalling, is_valued, owns_nothing, Sheds, is_node}, Onward.{with_tables, told_by, SoFar, IsApart}};
 ghost use Rattle.indexmap.specs.IndexMap.{get};
@@ -67,7 +67,7 @@ pub fn shed<N: Drop>(
     ensures unlisting { lists ≡ false → t.new.list.items ≡ t.old.list.items }
     ensures sheds { Sheds (counts_at t.old.nodes) (get nat_eq values.old) (counts_at t.new.nodes) (get nat_eq values.new) }
 {
-    holdings::give_up(t, at, lists);
+    holdings::give_up(t, at, false, lists);
     cascade(t, values, lists);
 }
 

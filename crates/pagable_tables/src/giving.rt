@@ -1,10 +1,11 @@
-//! Handles that are given up together: all that a load owns, or a worker.
+//! Handles that are given up together: all that a load owns, a worker, or the list.
 
 ghost use Rattle.std.specs.Prelude.{◌≡◌, ℕ, ◌<◌, ◌≤◌, [], length, slice_get, Some, None, IfSome, IfNone, true, false, nat_eq};
 ghost use Rattle.indexmap.specs.IndexMap.{get};
 ghost use Rattle.pagable_world.specs.{Kinds.find_row, World.Core, Cascade.{Falls, nobody}, Workers.is_load_of};
 ghost use Rattle.pagable_tables.specs.{Live.{live, alive, AreSound}, ByNumber.counts_at, Falling.{IsFalling, owns_nothing, Sheds}, Onward.{with_tables, SoFar}, Giving.{gives_row, passes_in, InReach}};
 ghost use Rattle.pagable_tables.specs.Giving.{LoadsAre};
+ghost use Rattle.pagable_tables.specs.declared.giving.Giving.TheVariants as givings;
 
 use crate::cascade::{fall, shed};
 use crate::handles::Handles;
@@ -26,6 +27,8 @@ pub enum Giving {
     AtNode(WorkerNumber, NodeNumber),
     /// All that this worker owns, or one of its loads.
     Worker(WorkerNumber),
+    /// All that the list owns, which has no entry any more.
+    Listed,
 }
 
 /// Whether this owner is a load of the worker's.
@@ -53,6 +56,7 @@ fn gives(loads: &IndexMap<u64, LoadRow>, giving: Giving, row: HandleRow) -> bool
         Giving::Worker(worker) => {
             is_owner(Owner::Worker(worker), row.owner) || is_load_of(loads, worker, row.owner)
         }
+        Giving::Listed => is_owner(Owner::List, row.owner),
     }
 }
 
@@ -160,7 +164,8 @@ pub fn give_all<N: Drop>(
     reach: Reach,
     lists: bool,
 ) -> Result<(), Error>
-    requires { IsFalling t.old [] owns_nothing }
+    requires steady { IsFalling t.old [] owns_nothing }
+    requires listed { giving ≡ givings.Listed → (lists ≡ false) × (t.old.list.items ≡ []) }
     ensures steady { IsFalling t.new [] owns_nothing }
     ensures falls { (before u w : Core) → LoadsAre loads.now w → SoFar before u nobody lists (record t.old { unlisted = None }) → length (live t.old.handles.places.items) ≤ length u.rows
         → ((q : ℕ) → passes_in (gives_row w giving) u.rows q ≡ true → InReach reach q × (q ≤ t.old.last_handle)) → Falls before u (passes_in (gives_row w giving) u.rows) result (with_tables u t.new) }

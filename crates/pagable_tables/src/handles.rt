@@ -133,13 +133,13 @@ fn compact(handles: &mut Handles)
 }
 
 /// How many places there are up to the last live one.
-fn live_end(places: &[Place]) -> usize
-    ensures within { result ≤ length places.now }
-    ensures rows { live (take result places.now) ≡ live places.now }
+fn live_end(handles: &Handles) -> usize
+    ensures within { result ≤ length handles.now.places.items }
+    ensures rows { live (take result handles.now.places.items) ≡ live handles.now.places.items }
 {
-    let mut end = places.len();
+    let mut end = handles.places.len();
     while end > 0 {
-        let last = places[end - 1];
+        let last = handles.places[end - 1];
         if last.is_live {
             return end;
         }
@@ -154,7 +154,7 @@ fn clear(handles: &mut Handles)
     requires { AreSound handles.old }
     ensures { Becomes handles.old (live handles.old.places.items) handles.new }
 {
-    let end = live_end(&handles.places);
+    let end = live_end(handles);
     handles.dead -= handles.places.len() - end;
     handles.places.truncate(end);
     if handles.dead > handles.places.len() - handles.dead {

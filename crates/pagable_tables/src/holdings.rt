@@ -1,14 +1,13 @@
 //! Who holds what: handles, nodes with what their values refer to, and the list of cells that wait for page-out. Handles are given up here, with all
 //! that goes with them.
 
-ghost use Rattle.std.specs.Prelude.{◌≡◌, ◌≢◌, ℕ, ◌+◌, ◌-◌, ◌<◌, ◌≤◌, [], if◌then◌else◌, List, slice_get, Some, None, OnOk, OnErr, true, vec_len, vec_capacity, ◌&&◌, ◌*◌, ◌++◌, ◌∷◌, length, sum_by};
-ghost use Rattle.std.specs.Prelude.{IsSome, Bool};
-ghost use Rattle.pagable_model.specs.declared.numbers.HandleNumber.{HandleNumber};
-ghost use Rattle.pagable_world.specs.{declared.handles.HandleRow.HandleRow, Plain.one, Kinds.is_pinning, Cascade.{left_rows, only_handle}};
-ghost use Rattle.pagable_tables.specs.{Falling.{Lists, MayList, Leaves, is_listing, after, is_new, IsFalling, GivesUp, Settles, Steps, owns, owns_nothing}, Live.{alive, AreSound, IsNext, live}};
-ghost use Rattle.pagable_tables.specs.{ByNumber.{refs_at, counts_at}, declared.rows.Counts.Counts};
+ghost use Rattle.std.specs.Prelude.{◌≡◌, ◌≢◌, ℕ, ◌+◌, ◌-◌, ◌<◌, ◌≤◌, [], if◌then◌else◌, List, slice_get, Some, None, OnOk, OnErr, true, vec_len, vec_capacity, ◌&&◌, ◌^◌, false};
+ghost use Rattle.pagable_world.specs.{Plain.one, Kinds.is_pinning};
+ghost use Rattle.pagable_tables.specs.{Falling.{Lists, MayList, Leaves, is_listing, is_valued, after, is_new, IsFalling, GivesUp, landed, Settles, Steps, owns, owns_nothing}, Live.{alive, AreSound, IsNext}};
+ghost use Rattle.pagable_tables.specs.ByNumber.{refs_at, counts_at};
 
 use crate::handles::Handles;
+use crate::making::places_taken;
 use crate::rows::{Counts, HandleAt, NodeRow};
 use crate::{handles, nodes};
 use indexmap::IndexMap;
@@ -80,7 +79,7 @@ fn enlist(t: &mut Holdings, node: NodeNumber) -> Result<(), Error>
 }
 
 /// The same where one is wanted; and whether it came. A cause is kept where it is the first.
-pub fn enlist_if(t: &mut Holdings, node: NodeNumber, wanted: bool) -> bool
+fn enlist_if(t: &mut Holdings, node: NodeNumber, wanted: bool) -> bool
     requires sound { AreSound t.old.handles }
     requires next { IsNext (t.old.last_handle + 1) t.old.handles.places.items }
     ensures { MayList t.old node wanted result t.new }
@@ -100,7 +99,7 @@ pub fn enlist_if(t: &mut Holdings, node: NodeNumber, wanted: bool) -> bool
 }
 
 /// Whether the last pin of a cell without a key goes with a handle of this mode, where cells are listed.
-pub fn wants_entry(counts: Counts, mode: Mode, lists: bool) -> bool
+fn wants_entry(counts: Counts, mode: Mode, lists: bool) -> bool
     ensures { result ≡ (lists && is_listing counts mode) }
 {
     match mode {
@@ -109,33 +108,47 @@ pub fn wants_entry(counts: Counts, mode: Mode, lists: bool) -> bool
     }
 }
 
-/// The handle at this place leaves, and an entry for its cell comes to the list, where one is wanted and can come.
-fn take_out(t: &mut Holdings, at: HandleAt, wanted: bool) -> bool
-    requires sound { AreSound t.old.handles }
-    requires next { IsNext (t.old.last_handle + 1) t.old.handles.places.items }
-    requires place { slice_get t.old.handles.places.items at.place ≡ Some (alive at.row) }
-    ensures { Leaves t.old at.row wanted result t.new }
+/// The handle at this place leaves, or it stays without its pin.
+#[tactic(auto, using(crate::proofs::Coming::counting))]
+fn leave(handles: &mut Handles, at: HandleAt, stays: bool)
+    requires sound { AreSound handles.old }
+    requires place { slice_get handles.old.places.items at.place ≡ Some (alive at.row) }
+    ensures { Leaves handles.old at.row stays handles.new }
 {
-    handles::kill(&mut t.handles, at);
-    enlist_if(t, at.row.node, wanted)
+    if stays {
+        let row = HandleRow {
+            mode: Mode::LooseUnpinned,
+            ..at.row
+        };
+        handles::set(handles, at, row);
+    } else {
+        handles::kill(handles, at);
+    }
 }
 
-/// The counts of a node after a handle has left.
-pub fn counts_after(counts: Counts, pinning: bool, listed: bool, top: u64) -> Counts
+/// How many handles a node has after one has left, or stayed, and perhaps an entry came.
+fn holds_after(holds: u64, stays: bool, listed: bool) -> u64
+    requires some { 1 ≤ holds }
+    requires small { holds < 2 ^ 63 }
+    ensures { result ≡ (if stays then holds else holds - 1) + one listed }
+{
+    let kept = if stays { holds } else { holds - 1 };
+    if listed { kept + 1 } else { kept }
+}
+
+/// The counts of a node after a handle has left, or stayed without its pin, and perhaps an entry came.
+fn counts_after(counts: Counts, pinning: bool, stays: bool, listed: bool, top: u64) -> Counts
     requires pins { one pinning ≤ counts.pins }
     requires holds { 1 ≤ counts.holds }
-    ensures { result ≡ after counts pinning listed top }
+    requires small { counts.holds < 2 ^ 63 }
+    ensures { result ≡ after counts pinning stays listed top }
 {
     let pins = if pinning {
         counts.pins - 1
     } else {
         counts.pins
     };
-    let holds = if listed {
-        counts.holds
-    } else {
-        counts.holds - 1
-    };
+    let holds = holds_after(counts.holds, stays, listed);
     if !counts.is_falling && (holds == 0 || (pinning && pins == 0 && counts.key != 0)) {
         return Counts {
             pins,
@@ -159,22 +172,49 @@ pub fn top_after(before: bool, falls: bool, node: u64, top: u64) -> u64
     if falls && !before { node } else { top }
 }
 
-/// Gives up the handle at this place. Where cells are listed, one without a key is, if that was its last pin.
-pub fn give_up(t: &mut Holdings, at: HandleAt, lists: bool)
+/// Gives up the handle at this place, or only its pin where it stays. Where cells are listed, one without a key is, if that was its last pin.
+#[tactic(auto, using(crate::proofs::Coming::counting))]
+pub fn give_up(t: &mut Holdings, at: HandleAt, stays: bool, lists: bool)
     requires falling { (stack : List ℕ) × IsFalling t.old stack (owns at.row) }
     requires place { slice_get t.old.handles.places.items at.place ≡ Some (alive at.row) }
-    ensures { (stack : List ℕ) → IsFalling t.old stack (owns at.row) → GivesUp t.old stack at.row lists t.new }
+    requires plain { stays ≡ true → is_valued at.row.owner ≡ false }
+    ensures { (stack : List ℕ) → IsFalling t.old stack (owns at.row) → GivesUp t.old stack at.row stays lists t.new }
 {
     let node = at.row.node.0;
     let Some(counts) = nodes::counts_of(&t.nodes, node) else {
         unreachable!();
     };
+    places_taken(&t.handles.places);
+    leave(&mut t.handles, at, stays);
     let wanted = wants_entry(counts, at.row.mode, lists);
-    let listed = take_out(t, at, wanted);
-    let pinning = pins(at.row.mode);
-    let left = counts_after(counts, pinning, listed, t.top);
+    let listed = enlist_if(t, at.row.node, wanted);
+    let left = counts_after(counts, pins(at.row.mode), stays, listed, t.top);
     nodes::set_counts(&mut t.nodes, node, left);
     t.top = top_after(counts.is_falling, left.is_falling, node, t.top);
+}
+
+/// A node that fell has nothing any more. It is gone if it has no handle.
+#[tactic(auto, using(crate::proofs::Fitting::landing))]
+fn land(nodes: &mut IndexMap<u64, NodeRow>, node: u64, counts: Counts)
+    requires is { counts_at nodes.old node ≡ Some counts }
+    requires bare { refs_at nodes.old node ≡ [] }
+    ensures here { counts_at nodes.new node ≡ landed counts }
+    ensures others { (q : ℕ) → q ≢ node → counts_at nodes.new q ≡ counts_at nodes.old q }
+    ensures refs { (q : ℕ) → refs_at nodes.new q ≡ refs_at nodes.old q }
+{
+    if counts.holds == 0 {
+        nodes::remove(nodes, node);
+    } else {
+        nodes::set_counts(
+            nodes,
+            node,
+            Counts {
+                is_falling: false,
+                next: 0,
+                ..counts
+            },
+        );
+    }
 }
 
 /// The first node that falls has given up all that its value referred to.
@@ -189,19 +229,7 @@ fn settle(t: &mut Holdings)
         unreachable!();
     };
     t.top = counts.next;
-    if counts.holds == 0 {
-        nodes::remove(&mut t.nodes, node);
-    } else {
-        nodes::set_counts(
-            &mut t.nodes,
-            node,
-            Counts {
-                is_falling: false,
-                next: 0,
-                ..counts
-            },
-        );
-    }
+    land(&mut t.nodes, node, counts);
 }
 
 /// One step of what follows when handles are given up: the first node that falls gives up a handle, or it is done, and then it is answered: its value
@@ -215,7 +243,7 @@ pub fn step(t: &mut Holdings, lists: bool) -> Option<NodeNumber>
     match nodes::pop_reference(&mut t.nodes, node) {
         Some(reference) => {
             match handles::look(&t.handles, reference.handle) {
-                Some(at) => give_up(t, at, lists),
+                Some(at) => give_up(t, at, false, lists),
                 None => unreachable!(),
             }
             None

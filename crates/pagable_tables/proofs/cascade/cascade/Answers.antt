@@ -1,5 +1,5 @@
-use Rattle.pagable_tables.proofs.Words.{◌≡◌, ℕ, Bool, true, false, Option, Some, None, arith, ap, sym, ◌∙◌, ◌≢◌, IfSome, nat_tests, NodeNumber, Steps, has_value, is_node, counts_at}
-use Rattle.pagable_tables.proofs.{Ended.{lasts-on, none-falls, ended}, Next.{steps-fewer, steps-unlisted, steps-on}}
+use Rattle.pagable_tables.proofs.{Words.{◌≡◌, ℕ, Bool, true, false, Option, Some, arith, ◌∙◌, ◌≢◌, IfSome, nat_tests, NodeNumber, Steps, has_value, is_node, counts_at}, Ended.{lasts-on, none-falls}}
+use Rattle.pagable_tables.proofs.{Ended.ended, Next.steps-on}
 use Rattle.pagable_tables.proofs.cascade.cascade.Goals as goal
 
 not-node : (r : Option NodeNumber) (n : ℕ) → is_node r n ≡ false → r ≢ Some (record { 0 = n })
@@ -14,7 +14,7 @@ fall-preserved g c =
     let s : Steps c.fall.t i.0 c.args.lists c.step-done.result c.step-done.new.t = c.step-done.ensures i.0 i.1 in
     let less = s.less in
     let few = i.2 in
-    let fewer = steps-fewer c.fall.t c.step-done.new.t i.0 c.args.lists c.step-done.result s in
+    let fewer = s.fewer in
     let so-far = c.fall.invariant.3 in (
       (s.rest, s.falling, omega arith),
       λ before w given f. steps-on before w given c.args.lists c.fall.t c.step-done.new.t i.0 c.step-done.result
@@ -23,7 +23,7 @@ fall-preserved g c =
           (counts_at c.step-done.new.t.nodes n) _ _ _ (c.let_go.ensures n) (λ other. s.values n (not-node c.step-done.result n other))
           (gone-node (λ m. has_value (counts_at c.step-done.new.t.nodes m)) c.step-done.result n s.gone) (c.fall.invariant.2 kept n),
       omega arith,
-      λ none. steps-unlisted c.fall.t c.step-done.new.t i.0 c.args.lists c.step-done.result none s ∙ c.fall.invariant.4 none,
+      λ none. s.unlisting none ∙ c.fall.invariant.4 none,
     )
 
 pub returns-clause-falls : goal.returns-clause-falls

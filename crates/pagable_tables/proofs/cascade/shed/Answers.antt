@@ -17,8 +17,8 @@ returns g c =
     let e = c.give_up.ensures [] (unowned t x [] c.requires.plain s) in
     record {
       steady = c.cascade.ensures.whole;
-      fewer = omega (arith, c.cascade.ensures.fewer, gives-fewer t c.give_up.new.t [] x c.args.lists e);
+      fewer = omega (arith, c.cascade.ensures.fewer, gives-fewer e);
       so_far = λ before w given f few free. c.cascade.ensures.so_far before w _ (gives-on before w given c.args.lists t c.give_up.new.t [] x f s.fits.pinned free few e);
-      unlisting = λ none. c.cascade.ensures.unlisting none ∙ gives-unlisted t c.give_up.new.t [] x _ none e;
+      unlisting = λ none. c.cascade.ensures.unlisting none ∙ gives-unlisted none e;
       sheds = stays-first e.values c.cascade.ensures.sheds;
     }

@@ -1,18 +1,34 @@
-use Rattle.pagable_tables.proofs.Words.{refl}
-use Rattle.pagable_tables.proofs.{Words.{None, false, Ok, arith, shut, core_of, nat_tests}, Entries.{are-entries, begun-shut, cache-anew}, Newer.{close-newer, later-on}, keeps.EndCalls.close-whole}
-use Rattle.pagable_tables.proofs.keeps.Placed.{whole-so}
+use Rattle.pagable_tables.proofs.Words.{refl, None, false, Ok, Owner, arith, inl, not, shut, is_listed, is_owned_by, core_of, plain_of, with_tables, Holdings, FallsAnyhow, Falls, NodeNumber, ap, option_map, sym, subst}
+use Rattle.pagable_tables.proofs.{Begun.{begins, begun}, Entries.{owned-listed, cache-anew}, Newer.{close-newer, later-on}, Taken.passes-given, keeps.{EndCalls.close-whole, Placed.whole-so}}
 use Rattle.pagable_tables.proofs.closing.close.Goals as goal
+
+pub give_all-requires-clause-steady : goal.give_all-requires-clause-steady
+give_all-requires-clause-steady g c = let w = c.requires.whole.steady in record { sound = w.sound; next = w.next; fits = w.fits }
 
 pub returns-clause-closed : goal.returns-clause-closed
 returns-clause-closed g c stored closed failures failures' le =
     let t = c.args.t.now in
     let w = core_of t stored closed failures in
-    let e = are-entries c.requires.whole.core in
-    let falls = c.give_entries.ensures.falls w (shut w failures') (begun-shut t stored closed failures failures' c.requires.whole) (omega arith) (record { once = e.once; owned = e.owned }) in
-    grind (arith, nat_tests, cache-anew, c.forget.ensures)
+    let u = shut w failures' in
+    let whole = c.requires.whole in
+    let b = begins t stored closed (not closed) failures whole refl in
+    let left : Holdings = record t.holdings { list = c.clear.new.self; unlisted = None } in
+    let so-far = begun w u false left (record { open_storage = refl; fewer = b.fewer; shared = b.shared; uniform = b.uniform; listed = λ q. omega arith })
+    refl c.clear.ensures.items refl whole.core.handles.within.0 (record { handles = omega arith; entries = omega arith }) (λ n. refl) refl
+    (λ n must. let a = must.pinned in let z = must.unpinned in absurd (omega arith)) in
+    let falls = c.give_all.ensures.falls w u w (λ l. refl) so-far (omega arith)
+    (λ q is. let given = passes-given (is_owned_by Owner.List) (plain_of t) q whole.core.handles is in ((given.0, inl given.0), given.1)) in
+    let listed : FallsAnyhow w u (is_listed w) (with_tables u c.give_all.new.t) =
+    record { told = c.give_all.result; falls = subst (λ s. Falls w u s c.give_all.result (with_tables u c.give_all.new.t)) (λ i q. owned-listed whole.core q i) falls } in
+    record {
+      told = refl;
+      fails = le;
+      falls = cache-anew w u (with_tables u c.give_all.new.t) (is_listed w) (core_of (record t { cache = c.forget.new.cache }) stored closed failures).cache
+          (λ kind key. sym (ap (option_map (λ (n : NodeNumber). n.0)) (c.forget.ensures kind key))) listed;
+    }
 
 pub returns-clause-whole : goal.returns-clause-whole
-returns-clause-whole g c = whole-so c.give_entries.ensures.steady (close-whole (Ok tt) c.requires.whole.core (returns-clause-closed g c (λ key. None) false 0 0 (omega arith)))
+returns-clause-whole g c = whole-so c.give_all.ensures.steady (close-whole (Ok tt) c.requires.whole.core (returns-clause-closed g c (λ key. None) false 0 0 (omega arith)))
 
 pub returns-clause-later : goal.returns-clause-later
 returns-clause-later g c later =

@@ -1,10 +1,15 @@
-use Rattle.pagable_tables.proofs.{Words.{refl, arith, option_map, load_at, load_in, inl, None, [], owns_nothing}, Begun.aside, GivenAll.{bare, given-plain, none-past, one-past, all-past}, Ended.sheds-still}
-use Rattle.pagable_tables.proofs.Ended.{sheds-then}
+use Rattle.pagable_tables.proofs.{Words.{refl, arith, option_map, load_at, load_in, inl, inr, None, [], owns_nothing, ◌∙◌}, Begun.aside, GivenAll.{bare, given-plain, none-past, one-past, all-past}}
+use Rattle.pagable_tables.proofs.{Ended.{sheds-still, sheds-then}, Entries.entry-apart}
 use Rattle.pagable_tables.proofs.giving.give_all.Goals as goal
 
 pub loop-at-init : goal.loop-at-init
-loop-at-init g c =
-    (aside c.args.t.now None [] owns_nothing c.requires, omega arith, λ before u w loads f few between. none-past before u w c.args.lists c.args.giving c.args.reach (λ q e. (between q e).0) _ c.args.t.now.last_handle (λ q e. (between q e).1) f, sheds-still (record c.args.t.now { unlisted = None }) _ (aside c.args.t.now None [] owns_nothing c.requires))
+loop-at-init g c = (
+  aside c.args.t.now None [] owns_nothing c.requires.steady,
+  omega arith,
+  λ before u w loads f few between. none-past before u w c.args.lists c.args.giving (λ is. (c.requires.listed is).0) c.args.reach (λ q e. (between q e).0) _ c.args.t.now.last_handle (λ q e. (between q e).1) f,
+  sheds-still c.args.t.now _ c.requires.steady,
+  λ none. refl,
+)
 
 pub shed-requires-clause-plain : goal.shed-requires-clause-plain
 shed-requires-clause-plain g c =
@@ -19,17 +24,22 @@ loop-at-preserved g c =
     let next = c.shed.ensures.fewer in (
       c.shed.ensures.steady,
       omega arith,
-      λ before u w loads f few between. one-past before u w c.args.lists c.args.giving c.args.reach (λ q e. (between q e).0) c.loop-at.t c.shed.new.t c.loop-at.left x b.0 b.1 c.in-Some.ensures.found (c.in-Some.ensures.gives w loads)
+      λ before u w loads f few between.
+          one-past before u w c.args.lists c.args.giving (λ is. (c.requires.listed is).0) c.args.reach (λ q e. (between q e).0) c.loop-at.t c.shed.new.t c.loop-at.left x b.0 b.1 c.in-Some.ensures.found (c.in-Some.ensures.gives w loads)
           (λ q in-reach above below. c.in-Some.ensures.last w q loads in-reach above below)
-          (λ given s. c.shed.ensures.so_far before u given s (omega arith) (inl (given-plain w c.args.giving x.owner x.node (c.in-Some.ensures.gives w loads)).1)) (i.2 before u w loads f few between),
+          (λ given s. c.shed.ensures.so_far before u given s (omega arith) (elim (given-plain w c.args.giving x.owner x.node (c.in-Some.ensures.gives w loads)).1 [
+            | inl free ↦ inl free
+            | inr is ↦ let l = c.requires.listed is in inr (entry-apart s l.0 x.number.0 (i.4 l.0 ∙ l.1))
+          ])) (i.2 before u w loads f few between),
       sheds-then i.3 c.shed.ensures.sheds,
+      λ none. c.shed.ensures.unlisting none ∙ i.4 none,
     )
 
 pub returns-clause-falls : goal.returns-clause-falls
 returns-clause-falls g c before u w loads f few between =
     let i = c.loop-at.invariant in
-    c.fall.ensures.falls before u _ (all-past before u w c.args.lists c.args.giving c.args.reach (λ q e. (between q e).0) c.loop-at.t c.loop-at.left (λ q in-reach below. c.in_default.ensures.none w q loads in-reach below)
-    (i.2 before u w loads f few between))
+    c.fall.ensures.falls before u _ (all-past before u w c.args.lists c.args.giving (λ is. (c.requires.listed is).0) c.args.reach (λ q e. (between q e).0) c.loop-at.t c.loop-at.left
+    (λ q in-reach below. c.in_default.ensures.none w q loads in-reach below) (i.2 before u w loads f few between))
 
 pub returns-clause-sheds : goal.returns-clause-sheds
 returns-clause-sheds g c = sheds-then c.loop-at.invariant.3 c.fall.ensures.sheds

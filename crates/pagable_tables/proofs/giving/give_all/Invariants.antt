@@ -1,4 +1,4 @@
-use Rattle.pagable_tables.proofs.Words.{◌≡◌, ℕ, nat_eq, ◌≤◌, [], length, true, None, Core, nobody, get, live, counts_at, IsFalling, Sheds, owns_nothing, SoFar, gives_row, passes_in, InReach, LoadsAre}
+use Rattle.pagable_tables.proofs.Words.{◌≡◌, ℕ, nat_eq, ◌≤◌, [], length, true, false, None, Core, nobody, get, live, counts_at, IsFalling, Sheds, owns_nothing, SoFar, gives_row, passes_in, InReach, LoadsAre}
 use Rattle.pagable_tables.proofs.GivenAll.{past_of}
 use Rattle.pagable_tables.proofs.giving.give_all.Given as goal
 
@@ -9,6 +9,7 @@ invariant-loop-at g l =
     × ((before u w : Core) → LoadsAre l.loads w → SoFar before u nobody l.lists (record l.fn.t { unlisted = None }) → length (live l.fn.t.handles.places.items) ≤ length u.rows
     → ((q : ℕ) → passes_in (gives_row w l.giving) u.rows q ≡ true → InReach l.reach q × (q ≤ l.fn.t.last_handle)) → SoFar before u (past_of u w l.giving l.left) l.lists l.t)
     × Sheds (counts_at l.fn.t.nodes) (get nat_eq l.fn.values) (counts_at l.t.nodes) (get nat_eq l.values)
+    × (l.lists ≡ false → l.t.list.items ≡ l.fn.t.list.items)
 
 abbrev pub decreases-loop-at : goal.decreases-loop-at
 decreases-loop-at g l = l.left

@@ -1,11 +1,16 @@
 use Rattle.pagable_tables.proofs.Words.{cases_eq, nat_tests, false, Bool, ◌+◌, ◌-◌, ◌≡◌, ◌≤◌, ℕ, arith, refl, ap, sym, ◌∙◌, subst, Some, ◌∷◌, if◌then◌else◌, ◌≢◌, one, is_pinning, live, counts_at}
-use Rattle.pagable_tables.proofs.{Words.{refs_at, Fits, pins_in, after, is_fallen_by, ValueStays, owns_nothing, Leaves, Counts}, Alive.row-le-live, Left.leaves-sums, Fitting.{given-fits, given-cells}}
-use Rattle.pagable_tables.proofs.Fitting.{new-top, long-if, pin-here, held-here, pin_of}
+use Rattle.pagable_tables.proofs.Words.{refs_at, Fits, pins_in, after, is_fallen_by, ValueStays, owns_nothing, Counts, HandleRow, Holdings, MayList, sum_by, unpinned, entry, nat_lt, true}
+use Rattle.pagable_tables.proofs.{Alive.row-le-live, Coming.owned-by-none, Left.with-entry, Fitting.{given-fits, given-cells, new-top, long-if, pin-here, held-here, pin_of}}
 use Rattle.pagable_tables.proofs.holdings.give_up.Goals as goal
 
 -- a handle that leaves takes no value with it at once
-after-value : (y : Counts) (pinning listed : Bool) (top : ℕ) → one pinning ≤ y.pins → ValueStays (Some y) (Some (after y pinning listed top))
-after-value y pinning listed top some falls = let stood : y.is_falling ≡ false = grind (arith, nat_tests) in (stood, grind (arith, nat_tests))
+after-value : (y : Counts) (pinning stays listed : Bool) (top : ℕ) → one pinning ≤ y.pins → ValueStays (Some y) (Some (after y pinning stays listed top))
+after-value y pinning stays listed top some falls = let stood : y.is_falling ≡ false = grind (arith, nat_tests) in (stood, grind (arith, nat_tests))
+
+-- a node that keeps its handle falls only if it has a key
+keyed-then : (c : Counts) (pinning listed : Bool) (n top : ℕ) (b : Bool) → is_fallen_by c pinning (c.pins - one pinning) (c.holds + one listed) ≡ b → 1 ≤ c.holds → top ≡ 0 → (if b then n else top) ≢ 0
+    → nat_lt 0 c.key ≡ true
+keyed-then c pinning listed n top b is live none some = grind (arith, nat_tests)
 
 pub unreachable-requires : goal.unreachable-requires
 unreachable-requires c = grind (arith, nat_tests, row-le-live, held-here, c.requires.falling.1.fits.holding, c.counts_of.ensures, c.in_default.is, c.requires.place)
@@ -15,40 +20,46 @@ returns c stack w =
     let x = c.args.at.row in
     let n = x.node.0 in
     let old = c.args.t.now in
-    let mid = c.take_out-listed.new.t in
+    let stays = c.args.stays in
+    let gap : Holdings = record old { handles = c.leave.new.handles } in
+    let mid = c.enlist_if-listed.new.t in
     let counts = c.in-Some.counts in
-    let listed = c.take_out-listed.result in
-    let leaves = c.take_out-listed.ensures in
-    let e = leaves.lists.comes in
-    let nodes : mid.nodes ≡ old.nodes = e.nodes ∙ ap (λ t. t.nodes) leaves.same in
+    let listed = c.enlist_if-listed.result in
+    let e = c.enlist_if-listed.ensures.comes in
     let is : counts_at old.nodes n ≡ Some counts = sym c.counts_of.ensures ∙ c.in-Some.is in
-    let left : c.counts_after-left.result ≡ after counts (is_pinning x.mode) listed old.top = grind (arith, nat_tests, c.counts_after-left.ensures) in
-    let b = is_fallen_by counts (is_pinning x.mode) (counts.pins - one (is_pinning x.mode)) (if listed then counts.holds else counts.holds - 1) in
-    let here : counts_at c.set_counts.new.nodes n ≡ Some (after counts (is_pinning x.mode) listed old.top) = c.set_counts.ensures.here ∙ ap Some left in
-    let others : (m : ℕ) → m ≢ n → counts_at c.set_counts.new.nodes m ≡ counts_at old.nodes m = λ m ne. c.set_counts.ensures.others m ne ∙ ap (λ s. counts_at s m) nodes in
-    let same : (m : ℕ) → refs_at c.set_counts.new.nodes m ≡ refs_at old.nodes m = λ m. c.set_counts.ensures.refs m ∙ ap (λ s. refs_at s m) nodes in
+    let left : c.counts_after-left.result ≡ after counts (is_pinning x.mode) stays listed old.top = grind (arith, nat_tests, c.counts_after-left.ensures) in
+    let b = is_fallen_by counts (is_pinning x.mode) (counts.pins - one (is_pinning x.mode)) ((if stays then counts.holds else counts.holds - 1) + one listed) in
+    let here : counts_at c.set_counts.new.nodes n ≡ Some (after counts (is_pinning x.mode) stays listed old.top) = c.set_counts.ensures.here ∙ ap Some left in
+    let others : (m : ℕ) → m ≢ n → counts_at c.set_counts.new.nodes m ≡ counts_at old.nodes m = λ m ne. c.set_counts.ensures.others m ne ∙ ap (λ s. counts_at s m) e.nodes in
+    let same : (m : ℕ) → refs_at c.set_counts.new.nodes m ≡ refs_at old.nodes m = λ m. c.set_counts.ensures.refs m ∙ ap (λ s. refs_at s m) e.nodes in
     let some : one (is_pinning x.mode) ≤ counts.pins = omega (arith, w.fits.pinned n, ap pins_in is, row-le-live (pin_of n) old.handles.places.items c.args.at.place x c.requires.place, pin-here x) in
     let live' : 1 ≤ counts.holds = grind (arith, nat_tests, row-le-live, held-here, c.requires.place) in
     let top : c.top_after-t.result ≡ (if b then n else old.top) = grind (arith, nat_tests, new-top, c.top_after-t.ensures) in
     let at' = counts_at c.set_counts.new.nodes in
     let refs' = refs_at c.set_counts.new.nodes in
     let rows' = live mid.handles.places.items in
-    let sums = leaves-sums old mid x _ listed leaves in
+    let sums : (f : HandleRow → ℕ) → sum_by f rows' + f x ≡ sum_by f (live old.handles.places.items) + (if stays then f (unpinned x) else 0) + (if listed then f (entry (old.last_handle + 1) x.node) else 0) =
+    λ f. let a = c.leave.ensures.sums f in let d = ap (sum_by f) e.rows in let g = with-entry f (live c.leave.new.handles.places.items) listed (old.last_handle + 1) x.node in omega arith in
+    let plain = λ (so : stays ≡ true) (m q : ℕ). owned-by-none m q x (c.requires.plain so) in
     record {
+      left = c.leave.new.handles;
+      leaves = c.leave.ensures;
       counts = counts;
       is = is;
       listed = listed;
       between = mid;
-      leaves = subst (λ w. Leaves old x w listed mid) c.wants_entry-wanted.ensures leaves;
+      comes = subst (λ w. MayList gap x.node w listed mid) c.wants_entry-wanted.ensures c.enlist_if-listed.ensures;
       same = refl;
-      cells = given-cells _ at' _ refs' _ rows' old.top stack x counts listed (old.last_handle + 1) w.fits is sums here others same some live';
+      cells = given-cells _ at' _ refs' _ rows' old.top stack x counts stays listed (old.last_handle + 1) w.fits is plain sums here others same some live';
       values = λ m. grind (arith, nat_tests, cases_eq, after-value);
       more = if b then n ∷ stack else stack;
       falling = record {
         sound = e.sound;
         next = e.next;
         fits = subst (λ t. Fits at' refs' rows' t (if b then n ∷ stack else stack) owns_nothing) (sym top)
-            (given-fits _ at' _ refs' _ rows' old.top stack x counts listed (old.last_handle + 1) w.fits is sums here others same some live' b refl);
+            (given-fits _ at' _ refs' _ rows' old.top stack x counts stays listed (old.last_handle + 1) w.fits is plain sums here others same some live' b refl);
       };
       long = long-if b n stack;
+      keyed = λ so none some. keyed-then counts (is_pinning x.mode) listed n old.top b (ap (λ s. is_fallen_by counts (is_pinning x.mode) (counts.pins - one (is_pinning x.mode)) ((if s then counts.holds else counts.holds - 1) + one listed)) (sym so))
+          live' none (λ z. some (top ∙ z));
     }

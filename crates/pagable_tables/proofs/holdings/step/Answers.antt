@@ -1,7 +1,7 @@
-use Rattle.pagable_tables.proofs.Words.{◌≡◌, ◌+◌, ℕ, Bool, true, false, arith, refl, ap, sym, ◌∙◌, subst, Some, Option, List, [], ◌∷◌, ◌++◌, length, slice_get, if◌then◌else◌, inl, inr, ◌≢◌, is_some}
-use Rattle.pagable_tables.proofs.Words.{cases_eq, nat_tests, append-nil, ArcRef, HandleNumber, NodeNumber, HandleRow, owner_value, one, live, alive, counts_at, refs_at, IsFalling, Settles}
-use Rattle.pagable_tables.proofs.{Words.{GivesUp, CellsStay, cell_in, ValueStays, owns, owns_nothing, entry, is_valued, valued, Counts, Holdings}, Alive.{only-row, none-found}, Left.leaves-sums}
-use Rattle.pagable_tables.proofs.Fitting.{is_owned, taken-fits, taken-owned, taken-there, owner-is, fits-same, fallen}
+use Rattle.pagable_tables.proofs.Words.{◌≡◌, ◌+◌, ℕ, Bool, false, arith, refl, ap, sym, ◌∙◌, subst, Some, Option, List, [], ◌∷◌, ◌++◌, length, slice_get, if◌then◌else◌, inl, inr, ◌≢◌, is_some}
+use Rattle.pagable_tables.proofs.Words.{cases_eq, nat_tests, append-nil, ArcRef, HandleNumber, NodeNumber, HandleRow, owner_value, one, live, alive, counts_at, refs_at, IsFalling, Settles, GivesUp}
+use Rattle.pagable_tables.proofs.{Words.{CellsStay, cell_in, ValueStays, owns, owns_nothing, entry, is_valued, valued, Counts, Holdings}, Alive.{only-row, none-found}, Left.gives-sums}
+use Rattle.pagable_tables.proofs.{Fitting.{is_owned, taken-fits, taken-owned, taken-there, owner-is, fits-same, fallen, top-stands}, Next.{gives-fewer, gives-unlisted}}
 use Rattle.pagable_tables.proofs.holdings.step.Goals as goal
 
 abbrev of_value : HandleRow → ℕ
@@ -26,10 +26,6 @@ module _ (t mid : Holdings) (ns : List ℕ) (p : ArcRef) (i : ℕ) (x : HandleRo
       let fits = taken-fits (counts_at t.nodes) (counts_at mid.nodes) (refs_at t.nodes) (refs_at mid.nodes) (live t.handles.places.items) t.top ns p w.fits popped others same x o.1 in
       (o.0, record { sound = w.sound; next = w.next; fits = fits })
 
-top-stands : (t : Holdings) (stack : List ℕ) → t.top ≢ 0 → IsFalling t stack owns_nothing → (ns : List ℕ) × (n : ℕ) × (stack ≡ n ∷ ns) × IsFalling t (t.top ∷ ns) owns_nothing
-top-stands t [] some w = absurd (some w.fits.chain)
-top-stands t (n ∷ ns) some w = (ns, n, refl, subst (λ m. IsFalling t (m ∷ ns) owns_nothing) (sym w.fits.chain.0) w)
-
 pub give_up-requires-clause-falling : goal.give_up-requires-clause-falling
 give_up-requires-clause-falling c =
     let t = c.args.t.now in
@@ -37,7 +33,7 @@ give_up-requires-clause-falling c =
     let e = c.in-Some.ensures in
     let f = c.in-Some-look.ensures in
     let number = ap (λ (n : HandleNumber). n.0) f.number in
-    let k = taken t (record t { nodes = c.pop_reference.new.nodes }) s.0 c.in-Some.reference c.in-Some-look.at.place c.in-Some-look.at.row s.3 e.here e.others e.counts f.place number in
+    let k = taken t (record t { nodes = c.pop_reference.new.nodes }) s.0 c.in-Some.reference c.in-Some-look.at.place c.in-Some-look.at.row s.2 e.here e.others e.counts f.place number in
     (t.top ∷ s.0, k.1)
 
 pub unreachable-requires : goal.unreachable-requires
@@ -46,7 +42,7 @@ unreachable-requires c =
     let s = top-stands t c.requires.falling.0 c.requires.some c.requires.falling.1 in
     let e = c.in-Some.ensures in
     let a = taken-there (counts_at t.nodes) (counts_at c.pop_reference.new.nodes) (refs_at t.nodes) (refs_at c.pop_reference.new.nodes)
-    (live t.handles.places.items) t.top s.0 c.in-Some.reference s.3.fits e.here e.others e.counts in
+    (live t.handles.places.items) t.top s.0 c.in-Some.reference s.2.fits e.here e.others e.counts in
     absurd (omega (arith, none-found c.in-Some.reference.handle.0 (live t.handles.places.items) c.in-None-look.ensures.none))
 
 -- nothing was taken
@@ -72,13 +68,12 @@ returns-in-Some-look c stack w =
     let f = c.in-Some-look.ensures in
     let x = c.in-Some-look.at.row in
     let mid : Holdings = record t { nodes = c.pop_reference.new.nodes } in
-    let o = taken t mid s.0 c.in-Some.reference c.in-Some-look.at.place x s.3 e.here e.others e.counts f.place (ap (λ (n : HandleNumber). n.0) f.number) in
-    let g : GivesUp mid (t.top ∷ s.0) x c.args.lists c.give_up.new.t = c.give_up.ensures (t.top ∷ s.0) o.1 in
+    let o = taken t mid s.0 c.in-Some.reference c.in-Some-look.at.place x s.2 e.here e.others e.counts f.place (ap (λ (n : HandleNumber). n.0) f.number) in
+    let g : GivesUp mid (t.top ∷ s.0) x false c.args.lists c.give_up.new.t = c.give_up.ensures (t.top ∷ s.0) o.1 in
     let v : of_value x ≡ 1 = ap (λ k. one (is_valued k)) o.0 in
-    let m : valued (live c.give_up.new.t.handles.places.items) ≡ valued (live g.between.handles.places.items) = ap (λ (h : Holdings). valued (live h.handles.places.items)) g.same in
-    let l : valued (live g.between.handles.places.items) + of_value x ≡ valued (live t.handles.places.items) + 0 = leaves-sums mid g.between x _ g.listed g.leaves of_value
-    ∙ ap (λ k. valued (live t.handles.places.items) + k) (no-value g.listed (t.last_handle + 1) x.node) in
-    let n = ap length s.2 in
+    let l = gives-sums g of_value in
+    let z = no-value g.listed (t.last_handle + 1) x.node in
+    let n = ap length s.1 in
     record {
       rest = g.more;
       falling = g.falling;
@@ -86,7 +81,9 @@ returns-in-Some-look c stack w =
       cells = cells-through (counts_at t.nodes) (counts_at mid.nodes) (counts_at c.give_up.new.t.nodes) e.counts g.cells;
       values = λ m _. subst (λ o. ValueStays o (counts_at c.give_up.new.t.nodes m)) (e.counts m) (g.values m);
       gone = tt;
-      what = inr (x, t.top, refl, record { owner = o.0; fallen = fallen _ (refs_at t.nodes) _ t.top s.0 s.3.fits; popped = mid; same = refl; counts = e.counts; stack = t.top ∷ s.0; gives = g });
+      fewer = gives-fewer g;
+      unlisting = λ none. gives-unlisted none g;
+      what = inr (x, t.top, refl, record { owner = o.0; fallen = fallen _ (refs_at t.nodes) _ t.top s.0 s.2.fits; popped = mid; same = refl; counts = e.counts; stack = t.top ∷ s.0; gives = g });
     }
 
 pub returns-in-None : goal.returns-in-None
@@ -103,5 +100,7 @@ returns-in-None c stack w =
       cells = cells-through (counts_at t.nodes) (counts_at mid.nodes) (counts_at c.settle.new.t.nodes) e.counts g.cells;
       values = λ m ne. subst (λ o. ValueStays o (counts_at c.settle.new.t.nodes m)) (e.counts m) (g.values m (λ eq. ne (ap (λ k. Some (record { 0 = k })) (sym eq))));
       gone = g.gone;
+      fewer = let a = ap (λ (h : Holdings). length (live h.handles.places.items)) g.same in omega arith;
+      unlisting = λ none. ap (λ (h : Holdings). h.list.items) g.same;
       what = inl (refl, g.same);
     }

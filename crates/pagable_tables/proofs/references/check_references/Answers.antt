@@ -1,4 +1,4 @@
-use Rattle.pagable_tables.proofs.{Words.{ℕ, Bool, Option, get_or, sym, ◌∙◌, arith, ◌∷◌, ArcRef, Blob, core_of}, Named.{seen-more, above-named, fault-some}}
+use Rattle.pagable_tables.proofs.{Words.{ℕ, Bool, Option, get_or, sym, ◌∙◌, arith, ◌∷◌, ArcRef, Blob, core_of}, Named.{seen-more, named-other, fault-some}}
 use Rattle.pagable_tables.proofs.Named.{fault-none}
 use Rattle.pagable_tables.proofs.references.check_references.Goals as goal
 
@@ -14,7 +14,7 @@ loop-i-preserved c =
     record {
       seen = (get_or rs l.i blank).handle.0 ∷ l.invariant.seen;
       same = seen-more l.invariant.seen rs l.i blank (omega arith) l.invariant.same;
-      highest = λ q above. above-named rs l.i blank q (omega (arith, c.max-highest.ensures)) (omega arith) (l.invariant.highest q (omega (arith, c.max-highest.ensures)));
+      highest = λ q above. named-other rs l.i blank q (omega (arith, c.max-highest.ensures)) (omega arith) (l.invariant.highest q (omega (arith, c.max-highest.ensures)));
       rest = λ stored closed failures. l.invariant.rest stored closed failures ∙ fault-none (core_of c.args.t.now stored closed failures) c.args.me l.invariant.seen rs l.i blank (omega arith) (none stored closed failures);
     }
 
