@@ -2,7 +2,8 @@
 use Rattle.std.proofs.{lemmas.{Bool.Decides.nat_tests, Grind.common_steps, List.length-append, Map.Keys.any_passes_from_place, Option.slice_get_within}, Common.{rules, ◌≡◌, ◌≢◌}}
 use Rattle.std.proofs.Common.{ℕ, zero, suc, refl, ◌+◌, ◌<◌, ◌≤◌, List, [], ◌∷◌, ◌++◌, length, false, Option, Some, None, Result, Ok, Err, IfOk, ◌⊎◌, inl, inr, ap, sym, subst, ◌∙◌, arith, slice_get}
 use Rattle.{std.specs.{List.list_any, Option.option_map, Prelude.option_and_then}, pagable_model.specs.declared.error.Error.Error}
-use Rattle.{pagable_model.specs.{declared.numbers.ArcRef.ArcRef, Deep.is_eager}, pagable_world.specs.Pager.PagerState, pagable_loads.{proofs.Stepped.tells_map, specs.{Got.lent_at, Lending.{Lends, LendsEach}, Starting.Shares}}}
+use Rattle.{pagable_model.specs.{declared.numbers.ArcRef.ArcRef, Deep.is_eager}, pagable_world.specs.Pager.PagerState, pagable_loads.proofs.Stepped.tells_map}
+use Rattle.pagable_loads.specs.{Got.lent_at, Lending.{Lends, LendsEach}, Starting.Shares}
 
 module _ {A N E : Type 0} (see : A → N) (s : PagerState N E) where
   -- a share is refused

@@ -1,6 +1,8 @@
 -- A step of a load leaves less to do.
-use Rattle.std.proofs.Common.{◌≡◌, ℕ, zero, suc, ◌+◌, ◌-◌, ◌*◌, ◌<◌, ◌≤◌, ◌⊎◌, inl, inr, Bool, List, [], ◌∷◌, ◌++◌, length, Option, Some, None, Result, Ok, Err, refl, ap, sym, subst, ◌∙◌, arith, slice_get, ◌^◌}
-use Rattle.{std.proofs.{lemmas.{Option.slice_get_within, List.length-append, Bool.Decides.nat_tests}, Math.Nat.mul-le-mul_right}, pagable_model.specs.declared.{error.Error.Error, numbers.{ArcRef.ArcRef, Kind.Kind}}}
+use Rattle.std.proofs.Common.{◌≡◌, ℕ, zero, suc, ◌+◌, ◌-◌, ◌*◌, ◌<◌, ◌≤◌, ◌⊎◌, inl, inr, Bool, List, [], ◌∷◌}
+use Rattle.std.proofs.Common.{◌++◌, length, Option, Some, None, Result, Ok, Err, refl, ap, sym, subst, ◌∙◌, arith, slice_get, ◌^◌}
+use Rattle.std.proofs.lemmas.{Option.slice_get_within, List.length-append, Bool.Decides.nat_tests}
+use Rattle.{std.proofs.Math.Nat.mul-le-mul_right, pagable_model.specs.declared.{error.Error.Error, numbers.{ArcRef.ArcRef, Kind.Kind}}}
 use Rattle.{pagable_model.specs.{Meaning.Meaning, Reading.Rest, Standing.Answer}, pagable_world.specs.{Plain.Types, World.Frame, Loads.{Need, Next, reads, asks, next_by, next_in, need_at, need_of}}}
 use Rattle.{pagable_world.specs.Loads.{needs_nested, needs_lazy}, pagable_loads.specs.Ending.{left_in, left_behind, many, weight, weight_on, waiting, to_do, LeadsOn}}
 

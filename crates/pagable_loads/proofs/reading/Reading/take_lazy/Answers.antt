@@ -10,4 +10,5 @@ returns-in-Err-clause-acts g c = acts_map c.in-Err.ensures (lazy_refused _ _ _ c
 
 pub returns-in-Ok-clause-leads : goal.returns-in-Ok-clause-leads
 returns-in-Ok-clause-leads g c = got_leads (frame_of c.in_ok-top.top) (onto [] c.take_top.new.self.below.items) c.in-Ok.taken
-    (wants _ _ (frame_of c.in_ok-top.top) (onto [] c.take_top.new.self.below.items) c.args.kind c.args.key c.in_ok-top.ensures.ok.frames (inr c.requires.need)) c.in_ok-top.ensures.ok.frames c.put_got.ensures.gets.frames
+    (wants _ _ (frame_of c.in_ok-top.top) (onto [] c.take_top.new.self.below.items) c.args.kind c.args.key c.in_ok-top.ensures.ok.frames (inr c.requires.need))
+    c.in_ok-top.ensures.ok.frames c.put_got.ensures.gets.frames
