@@ -6,7 +6,7 @@ use Rattle.pagable_world.specs.{Cascade.FallsAnyhow, Kinds.{identity_of, owner_w
 use Rattle.pagable_world.specs.{Workers.{with_changed_slot, with_failed, with_outcome}, declared.{handles.Owner.Owner, events.{WorkerAnswer.WorkerAnswer, Took.Took}}}
 use Rattle.pagable_walk.specs.{Ending.{Stores, IsStored, named_by, GoesBack}, Failing.{back_of, fails}, Found.keys_of, Due.{LeadsOn, due}, Slots.written_of, Tasks.{Gives, IsPlain, IsWay, fault_of}}
 use Rattle.pagable_walk.specs.{Tasks.{todos, waiting_todo, waits_as}, Turns.{TurnsTo, Turned, plan}, declared.{results.Trees.Ghosts, table.PageOutError.PageOutError, tasks.{Done.Done, Node.Node}}}
-use Rattle.pagable_walk.{specs.declared.tasks.{Task.Task, Turn.Turn, Waiting.Waiting}, proofs.{Forming.none-back, Pinning.same-shelf, Turning.{alike, plain-fits}}}
+use Rattle.pagable_walk.{specs.declared.tasks.{Task.Task, Turn.Turn, Waiting.Waiting}, proofs.{Pinning.same-shelf, Turning.{alike, plain-fits}}}
 
 -- ---- what waits and has all its results
 
@@ -41,8 +41,8 @@ module _ {X : Type 0} {g : Ghosts X} {N E : Type 0} (v : Values N) (me : Owner) 
     fails-so : (node : Option Node) → IsWay (waits_as node written keys ∷ below) → (e : Error) (task : Task X g) (after : List Todo) → IsPlain task → after ≡ fails (was_refused e) (back_of None below)
         → Stores v s (blob_of written.bytes keys) (Err e) t
         → Turned v n shelf (waits_as node written keys ∷ below) s shelf (record { took = Took.Store (named_by node) (Err e); turn = Turn.Goes task; counted = true }) after t
-    fails-so None way e task after plain is call = grind (arith, nat_tests, common_steps, same-shelf, none-back, none_comes, plain-fits)
-    fails-so (Some o) way e task after plain is call = grind (arith, nat_tests, common_steps, same-shelf, none-back, none_comes, plain-fits)
+    fails-so None way e task after plain is call = grind (arith, nat_tests, common_steps, same-shelf, none_comes, plain-fits)
+    fails-so (Some o) way e task after plain is call = grind (arith, nat_tests, common_steps, same-shelf, none_comes, plain-fits)
 
   module _ (w : Waiting X g) (way : IsWay (waiting_todo w ∷ below)) where
     pub finish-stores : (key : ℕ) (turn : Turn X g) (path : List (Waiting X g)) → todos path ≡ below → IsStored w.node key turn → (s t : PagerState N E)
@@ -63,7 +63,7 @@ module _ {X : Type 0} {g : Ghosts X} {N E : Type 0} (v : Values N) (me : Owner) 
     pub set-fails : (through : HandleNumber) (e : Error) (task : Task X g) (after : List Todo) → IsPlain task → after ≡ fails (was_refused e) (back_of None below) → (s t : PagerState N E)
         → Called v (λ w'. SetKeyCall s.core me through d.found.key (Err e) w') s t
         → TurnsTo v me n shelf (Task.SetKey d through) below shelf (record { took = Took.SetKey (identity_of d.reference) (Err e); turn = Turn.Goes task; counted = true }) after s t
-    set-fails through e task after plain is s t call = grind (arith, nat_tests, common_steps, same-shelf, none-back, none_comes, plain-fits)
+    set-fails through e task after plain is s t call = grind (arith, nat_tests, common_steps, same-shelf, none_comes, plain-fits)
 
     pub publishes : (shelf' : Shelf) (i : Identity) (key height : ℕ) → i ≡ identity_of d.reference → key ≡ d.found.key → height ≡ d.found.height
         → SameShelf (with_changed_slot shelf i (with_outcome (published key height))) shelf' → (s : PagerState N E)

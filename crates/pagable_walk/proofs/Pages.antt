@@ -1,8 +1,8 @@
 -- Page-outs of an item and of the entries of the list, from the runs of their workers.
-use Rattle.std.proofs.{Common.{ℕ, ◌≡◌, ◌≤◌, ◌<◌, ◌+◌, List, ◌∷◌, length, Option, Some, None, Result, Ok, Err, inl, inr, refl, ap, subst, sym, ◌∙◌, arith}, lemmas.List.Edits.length-remove}
+use Rattle.std.proofs.{Common.{ℕ, ◌≡◌, ◌≤◌, ◌<◌, ◌+◌, List, ◌∷◌, length, Option, Some, None, Result, Ok, Err, inl, refl, ap, subst, sym, ◌∙◌, arith}, lemmas.List.Edits.length-remove}
 use Rattle.{std.{proofs.lemmas.{Option.slice_get_within, Bool.Decides.nat_tests, Grind.common_steps}, specs.List.remove}, pagable_model.specs.declared.{error.Error.Error, numbers.ArcRef.ArcRef}}
 use Rattle.{pagable_model.specs.declared.{numbers.{HandleNumber.HandleNumber, WorkerNumber.WorkerNumber}, data_key.OptionalDataKey.OptionalDataKey}, pagable_world.specs.Access.{AccessState, Called}}
-use Rattle.pagable_world.specs.Access.{WorkerStarts, WorkerRun, worker-ends, worker-goes-on, no-worker, item-is-walked, EntryHas, EntryRun, entry-is-refused, no-entry-worker, entry-is-walked, ListRun}
+use Rattle.pagable_world.specs.Access.{WorkerStarts, WorkerRun, worker-ends, worker-goes-on, no-worker, item-is-walked, EntryHas, entry-is-refused, no-entry-worker, entry-is-walked, ListRun}
 use Rattle.pagable_world.specs.{Access.{no-more, skips, pages, fails}, Calls.{ReleaseCall, TakeCall}, Events.{entry_task, no_shelf}, Kinds.{identity_of, owner_worker}, Pager.{PagerState, WellFormed}}
 use Rattle.pagable_world.specs.{Workers.first_todo, World.{Shelf, SameShelf, Todo, of_entry, of_item, Values, Written, Seen, Alike}, declared.events.{Took.Took, WorkerAnswer.WorkerAnswer}}
 use Rattle.{pagable_world.specs.declared.handles.Owner.Owner, pagable_laws.proofs.SparingSteps.{walk-spares-list, release-spares-list}}
