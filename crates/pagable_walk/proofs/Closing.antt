@@ -27,10 +27,6 @@ module _ {X : Type 0} {g : Ghosts X} where
   failed-leads None written keys below after task less = omega (arith, less)
   failed-leads (Some n) written keys below after task less = omega (arith, less)
 
-counted : (node : Option Node) (written : Written) (keys : List ℕ) (below : List Todo) (i : Option Identity) (r : Result ℕ Error) → true ≡ is_counted (waits_as node written keys ∷ below) (let t : Took Written = Took.Store i r in t)
-counted None written keys below i r = refl
-counted (Some n) written keys below i r = refl
-
 module _ {X : Type 0} {g : Ghosts X} {N E : Type 0} (v : Values N) (me : Owner) (n : ℕ) (shelf : Shelf) (below : List Todo) where
   module _ (mine : me ≡ owner_worker n) (written : Written) (keys : List ℕ) (s t : PagerState N E) (was : WellFormed v s) where
     stores : (node : Option Node) → IsWay (waits_as node written keys ∷ below) → (key : ℕ) (turn : Turn X g) (path : List (Waiting X g)) → todos path ≡ below → IsStored node key turn → Stores v s (blob_of written.bytes keys) (Ok key) t
@@ -48,12 +44,12 @@ module _ {X : Type 0} {g : Ghosts X} {N E : Type 0} (v : Values N) (me : Owner) 
     pub finish-stores : (key : ℕ) (turn : Turn X g) (path : List (Waiting X g)) → todos path ≡ below → IsStored w.node key turn → (s t : PagerState N E)
         → Stores v s (blob_of (written_of (arc_value w.written)).bytes (keys_of w.children.items)) (Ok key) t
         → TurnsTo v me n shelf (Task.Finish w) below shelf (record { took = Took.Store (named_by w.node) (Ok key); turn = turn; counted = true }) (plan turn path) s t
-    finish-stores key turn path at is s t call = grind (arith, nat_tests, common_steps, stores, counted)
+    finish-stores key turn path at is s t call = grind (arith, nat_tests, common_steps, stores)
 
     pub finish-fails : (e : Error) (task : Task X g) (after : List Todo) → IsPlain task → after ≡ fails (was_refused e) (back_of None below) → (s t : PagerState N E)
         → Stores v s (blob_of (written_of (arc_value w.written)).bytes (keys_of w.children.items)) (Err e) t
         → TurnsTo v me n shelf (Task.Finish w) below shelf (record { took = Took.Store (named_by w.node) (Err e); turn = Turn.Goes task; counted = true }) after s t
-    finish-fails e task after plain is s t call = grind (arith, nat_tests, common_steps, fails-so, counted)
+    finish-fails e task after plain is s t call = grind (arith, nat_tests, common_steps, fails-so)
 
   module _ (d : Done X g) where
     pub set-goes : (through : HandleNumber) (s t : PagerState N E) → Called v (λ w'. SetKeyCall s.core me through d.found.key (Ok tt) w') s t

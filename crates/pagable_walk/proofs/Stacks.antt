@@ -63,10 +63,6 @@ pub give-is : (node : Option Node) (written : Written) (keys : List ℕ) (below 
 give-is None written keys below r key height = refl
 give-is (Some n) written keys below r key height = refl
 
-pub rank-waits : (node : Option Node) (written : Written) (keys : List ℕ) → rank (waits_as node written keys) ≡ 6
-rank-waits None written keys = refl
-rank-waits (Some n) written keys = refl
-
 pub place-low : (node : Option Node) → ((n : Node) → node ≡ Some n → n.place + n.height ≤ longest_path) → place_of node ≤ longest_path
 place-low None near = omega arith
 place-low (Some n) near = let low = near n refl in omega (arith, low)
@@ -94,6 +90,6 @@ module _ (node : Option Node) (written : Written) (keys : List ℕ) (below : Lis
 -- what a path with nothing on it, and one with one more, is as plain data
 pub ruleset paths = (nat_tests, todos-none, todos-more, back-none, item-way)
 
-pub ruleset settling = (nat_tests, common_steps, todos-more, settled-all, settled-next, rank-waits, place-low, length-map)
+pub ruleset settling = (nat_tests, common_steps, todos-more, settled-all, settled-next, place-low, length-map)
 
 pub ruleset giving = (nat_tests, common_steps, todos-more, todos-none, raised-has, length-map, map-append, slice_get_within)
