@@ -122,10 +122,6 @@ module _ (w w' : Core) (n : ℕ) (r : ArcRef) (whole : HandlesAreWhole w) where
 
 -- ---- the turns
 
-no-key : (root : Root) (node : NodeNumber) (t : ℕ) (h : HandleNumber) → root ≡ of_cell node t h → IsOfKey root → ⊥
-no-key (of_cell m u k) node t h is key = key
-no-key of_key node t h is key = absurd (cc)
-
 pub same-shelf : (shelf : Shelf) → SameShelf shelf shelf
 same-shelf shelf = record { slots = λ i. refl; waits = λ q. refl }
 
@@ -211,4 +207,4 @@ module _ {X : Type 0} {g : Ghosts X} {N E : Type 0} (v : Values N) (me : Owner) 
     -- a load of a cell reads out nothing
     pub load-reads-none : (x : N) (frames : List Frame) (moved : Moved X g) (after : List Todo) → moved.counted ≡ false → (s t : PagerState N E) → Steps v me own s (Some (LoadAnswer.Read x)) frames t
         → TurnsTo v me n shelf (Task.Load r place through own) below shelf moved after s t
-    load-reads-none x frames moved after uncounted s t call = grind (arith, nat_tests, common_steps, stepped, same_some, no-key)
+    load-reads-none x frames moved after uncounted s t call = grind (arith, nat_tests, common_steps, stepped, same_some)

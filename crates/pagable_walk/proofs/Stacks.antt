@@ -63,10 +63,6 @@ pub give-is : (node : Option Node) (written : Written) (keys : List ℕ) (below 
 give-is None written keys below r key height = refl
 give-is (Some n) written keys below r key height = refl
 
-pub place-low : (node : Option Node) → ((n : Node) → node ≡ Some n → n.place + n.height ≤ longest_path) → place_of node ≤ longest_path
-place-low None near = omega arith
-place-low (Some n) near = let low = near n refl in omega (arith, low)
-
 -- what holds of a node with the height by a reference too
 pub raised-has : (Q : Node → Type 0) (kind height : ℕ) (node : Option Node) → ((m : Node) → node ≡ Some m → Q (record m { height = max m.height (above kind height) }))
     → (n : Node) → raised kind height node ≡ Some n → Q n
@@ -90,6 +86,6 @@ module _ (node : Option Node) (written : Written) (keys : List ℕ) (below : Lis
 -- what a path with nothing on it, and one with one more, is as plain data
 pub ruleset paths = (nat_tests, todos-none, todos-more, back-none, item-way)
 
-pub ruleset settling = (nat_tests, common_steps, todos-more, settled-all, settled-next, place-low, length-map)
+pub ruleset settling = (nat_tests, common_steps, todos-more, settled-all, settled-next, length-map)
 
 pub ruleset giving = (nat_tests, common_steps, todos-more, todos-none, raised-has, length-map, map-append, slice_get_within)
