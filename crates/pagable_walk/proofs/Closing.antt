@@ -1,10 +1,10 @@
 -- A turn at what was written is the worker's.
-use Rattle.std.proofs.{Common.{ℕ, ◌≡◌, true, List, [], ◌∷◌, length, Some, None, Result, Ok, Err, inl, refl, sym, subst, arith}, lemmas.{Bool.Decides.nat_tests, Grind.common_steps}}
+use Rattle.std.proofs.{Common.{ℕ, ◌≡◌, true, List, [], ◌∷◌, Some, None, Result, Ok, Err, inl, refl, sym, subst, arith}, lemmas.{Bool.Decides.nat_tests, Grind.common_steps}}
 use Rattle.{std.specs.{Arc.arc_value, Prelude.Option}, pagable_model.specs.{Merkle.blob_of, declared.error.Error.Error}, pagable_loads.proofs.Stepped.{none_comes, acts_map, acts_all, tells_all}}
 use Rattle.pagable_world.specs.{World.{Shelf, SameShelf, Todo, Values, Written, to_publish, to_release, was_refused, answer_of_fault, published}, Access.Called, Calls.{ScheduleCall, SetKeyCall}}
 use Rattle.pagable_world.specs.{Cascade.FallsAnyhow, Kinds.{identity_of, owner_worker}, Pager.{PagerState, WellFormed}, Plain.{HandleNumber, Identity}, Workers.{is_workers_at, give}}
 use Rattle.pagable_world.specs.{Workers.{with_changed_slot, with_failed, with_outcome}, declared.{handles.Owner.Owner, events.{WorkerAnswer.WorkerAnswer, Took.Took}}}
-use Rattle.pagable_walk.specs.{Ending.{Stores, IsStored, named_by, GoesBack}, Failing.{back_of, fails}, Found.keys_of, Due.{LeadsOn, due}, Slots.written_of, Tasks.{Gives, IsPlain, IsWay, fault_of}}
+use Rattle.pagable_walk.specs.{Ending.{Stores, IsStored, named_by, GoesBack}, Failing.{back_of, fails}, Found.keys_of, Slots.written_of, Tasks.{Gives, IsPlain, IsWay, fault_of}}
 use Rattle.pagable_walk.specs.{Tasks.{todos, waiting_todo, waits_as}, Turns.{TurnsTo, Turned, plan}, declared.{results.Trees.Ghosts, table.PageOutError.PageOutError, tasks.{Done.Done, Node.Node}}}
 use Rattle.pagable_walk.{specs.declared.tasks.{Task.Task, Turn.Turn, Waiting.Waiting}, proofs.{Pinning.same-shelf, Turning.{alike, plain-fits}}}
 
@@ -14,10 +14,6 @@ module _ {X : Type 0} {g : Ghosts X} where
   pub stored-way : (node : Option Node) (written : Written) (keys : List ℕ) (key : ℕ) (turn : Turn X g) (path : List (Waiting X g)) → IsStored node key turn → IsWay (waits_as node written keys ∷ todos path) → IsWay (plan turn path)
   stored-way None written keys key turn path is way = rw is tt
   stored-way (Some n) written keys key turn path (task, is, todo, plain) (all, up, low) = rw (is, todo) (n.place, up, low)
-
-  pub stored-leads : (node : Option Node) (written : Written) (keys : List ℕ) (key : ℕ) (turn : Turn X g) (path : List (Waiting X g)) → IsStored node key turn → LeadsOn (waits_as node written keys ∷ todos path) turn (plan turn path)
-  stored-leads None written keys key turn path is = rw is tt
-  stored-leads (Some n) written keys key turn path (task, is, todo, plain) = rw (is, todo) (omega arith)
 
 module _ {X : Type 0} {g : Ghosts X} {N E : Type 0} (v : Values N) (me : Owner) (n : ℕ) (shelf : Shelf) (below : List Todo) where
   module _ (mine : me ≡ owner_worker n) (written : Written) (keys : List ℕ) (s t : PagerState N E) (was : WellFormed v s) where
@@ -86,7 +82,7 @@ module _ {N E : Type 0} (v : Values N) (me : Owner) where
       → GoesBack v me back s t
   back-some back h r is s t call = subst (λ b. GoesBack v me b s t) (sym is) (record { goes = (r, call.step); moves = call.moves; whole = λ w. call.whole })
 
-pub ruleset finishing = (nat_tests, common_steps, stored-way, stored-leads)
+pub ruleset finishing = (nat_tests, common_steps, stored-way)
 
 pub ruleset backs = (acts_map, acts_all, back-none, back-some)
 

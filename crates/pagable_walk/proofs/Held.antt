@@ -1,6 +1,6 @@
 -- The slots of a table after one of them came or changed.
-use Rattle.std.proofs.{Common.{ℕ, ◌≡◌, true≢false, Bool, true, false, cond, Option, Some, refl, sym, ap, ◌∙◌, subst, nat_eq, arith, ◌&&◌, if◌then◌else◌, inl, inr}, lemmas.Bool.Decides.nat_tests}
-use Rattle.{std.{proofs.lemmas.Grind.common_steps, specs.{Option.option_map, Prelude.{◌⊎◌, Result, Ok, Err, OnOk, OnErr}}}, indexmap.specs.IndexMap.{IndexMap, get}}
+use Rattle.std.proofs.{Common.{ℕ, ◌≡◌, Bool, true, false, cond, Option, Some, refl, sym, ap, ◌∙◌, subst, nat_eq, arith, ◌&&◌, inl, inr}, lemmas.Bool.Decides.nat_tests}
+use Rattle.{std.{proofs.lemmas.Grind.common_steps, specs.Prelude.{◌⊎◌, Result, Ok, Err, OnOk, OnErr}}, indexmap.specs.IndexMap.{IndexMap, get}}
 use Rattle.pagable_world.specs.{Plain.{Identity, SameAt, updated}, World.{Slot, is_identity}}
 use Rattle.pagable_walk.{specs.{Slots.{is_same, slot_of, IsNamed, slots_in, AreNamed, SlotIs, Changes}, declared.{results.Trees.Ghosts, slots.ArcSerSlot.ArcSerSlot}}, proofs.Waits.some-same}
 
@@ -14,15 +14,11 @@ eq-sym a b = grind (arith, nat_tests)
 pub same-as : (i j : Identity) → is_same (i.kind.0, i.node.0) (j.kind.0, j.node.0) ≡ is_identity i j
 same-as i j = ap (λ b. b && nat_eq i.node.0 j.node.0) (eq-sym i.kind.0 j.kind.0) ∙ ap (λ b. nat_eq j.kind.0 i.kind.0 && b) (eq-sym i.node.0 j.node.0)
 
-and-true : (a b : Bool) → (a && b) ≡ true → (a ≡ true) × (b ≡ true)
-and-true true b h = (refl, h)
-and-true false b h = absurd (true≢false (sym h))
-
 pub same-numbers : (i j : Identity) → i.kind.0 ≡ j.kind.0 → i.node.0 ≡ j.node.0 → i ≡ j
 same-numbers i j k n = λ p. record { kind = record { 0 = k p }; node = record { 0 = n p } }
 
 pub same-identity : (i j : Identity) → is_same (i.kind.0, i.node.0) (j.kind.0, j.node.0) ≡ true → i ≡ j
-same-identity i j h = grind (arith, nat_tests, common_steps, and-true, nat_tests, same-numbers)
+same-identity i j h = grind (arith, nat_tests, common_steps, same-numbers)
 
 -- what waits at one number, and at the others
 pub wait-is : {T : Type 0} (old new : IndexMap ℕ Identity T) (v : ℕ) (w : Option Identity) → ((q : ℕ) → get nat_eq new q ≡ cond (nat_eq v q) w (get nat_eq old q)) → SameAt (updated v w (λ q. get nat_eq old q)) (λ q. get nat_eq new q)

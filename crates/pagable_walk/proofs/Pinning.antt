@@ -4,7 +4,7 @@ use Rattle.{std.{proofs.lemmas.Grind.common_steps, specs.Prelude.{Option, if◌t
 use Rattle.pagable_world.specs.{Plain.{ArcRef, HandleNumber, LoadNumber, NodeNumber, type_of, if_there}, Kinds.{identity_of, is_loose, is_pinning, owner_worker, owner_value, find_row, is_handle}}
 use Rattle.pagable_world.specs.World.{Core, Cell, Shelf, SameShelf, Todo, to_pin, to_load, to_write, Frame, OpenLoad, Reading, Root, of_cell, of_key, Values, was_refused, type_at, one_more}
 use Rattle.pagable_world.specs.{Calls.{with_handle, with_mode, moved, is_named_by, CloneCall, PinCall}, Access.{Called, ReadingStep}, Cascade.FallsAnyhow, LoadCalls.{with_pin, without_load}}
-use Rattle.pagable_world.specs.{LoadCalls.is_owned_in, Loads.{EndsPinned, IsOfKey, gone_on}, Pager.{PagerState, HandlesAreWhole, Moves, TodoBrings, TookWrites, WellFormed}, Workers.PinsAtOnce}
+use Rattle.pagable_world.specs.{LoadCalls.is_owned_in, Loads.{EndsPinned, gone_on}, Pager.{PagerState, HandlesAreWhole, Moves, TodoBrings, TookWrites, WellFormed}, Workers.PinsAtOnce}
 use Rattle.pagable_world.specs.{Workers.{RowIs, answer_after, fresh, Does}, declared.{events.{LoadAnswer.LoadAnswer, Took.Took, PinStep.PinStep}, handles.HandleRow.HandleRow}}
 use Rattle.{pagable_world.specs.declared.{handles.Owner.Owner, answers.Pinning.Pinning, rows.Mode.Mode}, pagable_loads.specs.declared.{reading.Reading.Reading as Own, working.Taken.Taken}}
 use Rattle.pagable_loads.{proofs.{Stepped.none_comes, Driven.goes_open}, specs.{Frames.{IsLoadOf, frames_of, reading_of}, Stepping.{IsSameLoad, Steps}, Working.{TakesReference, BeginsAt}}}
