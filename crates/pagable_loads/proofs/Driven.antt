@@ -2,7 +2,8 @@
 use Rattle.std.proofs.{Common.{arith, rules, ◌≡◌, ℕ, Bool, true, false, List, [], Option, Some, None, inl, inr, refl, ap, sym, subst, ◌∙◌, if◌then◌else◌}, lemmas.Bool.Decides.nat_tests}
 use Rattle.{std.proofs.lemmas.Grind.common_steps, pagable_model.specs.declared.numbers.{Kind.Kind, LoadNumber.LoadNumber, NodeNumber.NodeNumber}}
 use Rattle.pagable_world.specs.{declared.{events.LoadAnswer.LoadAnswer, handles.Owner.Owner}, World.{Core, Frame, Reading, Values, one_more}, Calls.with_cached, Loads.{GoesOn, Does, gone_on}}
-use Rattle.{pagable_world.specs.{Pager.PagerState, Access.{Told, LoadRun, load-ends, load-goes-on}}, pagable_loads.specs.{Frames.{IsLoadOf, frames_of, reading_of}, Stepping.{IsSameLoad, Steps}, Running.Runs}}
+use Rattle.{pagable_world.specs.{Pager.PagerState, Access.{LoadRun, load-ends, load-goes-on}}, pagable_loads.proofs.Stepped.acts_then}
+use Rattle.pagable_loads.specs.{Frames.{IsLoadOf, frames_of, reading_of}, Stepping.{IsSameLoad, Steps}, Running.Runs}
 use Rattle.pagable_loads.specs.{Running.HasGone, declared.reading.Reading.Reading as Own}
 
 module _ {N : Type 0} (v : Values N) (me : Owner) where
@@ -41,3 +42,5 @@ module _ {N E : Type 0} (v : Values N) (me : Owner) where
 
     pub ends_so : (answer : LoadAnswer N) (frames : List Frame) → Steps v me now m (Some answer) frames t → Runs v me own s answer t
     ends_so answer frames step = first_of (grind (arith, common_steps, nat_tests), grind (arith, nat_tests, load-ends), search (rules, load-ends))
+
+pub ruleset driving = (nat_tests, acts_then, went_on, ends_so)

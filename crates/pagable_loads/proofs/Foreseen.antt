@@ -1,22 +1,14 @@
 -- From one reading with stand-ins to what a blob asks for ahead.
-use Rattle.std.proofs.Common.{◌≡◌, ℕ, ◌+◌, ◌<◌, Bool, true, false, if◌then◌else◌, List, [], ◌∷◌, ◌++◌, length, Option, Some, None, Result, Ok, Err, inl, inr, refl, ap, sym, subst, ◌∙◌, arith}
-use Rattle.std.proofs.{Common.{slice_get, ◌==◌}, lemmas.{Option.{slice_get_within, slice_get-get_or}, Bool.Decides.nat_tests, List.{append_assoc, length-append, length-map, map-append}}}
+use Rattle.std.proofs.Common.{◌≡◌, ℕ, ◌+◌, ◌<◌, ◌≤◌, ◌⊎◌, drop, Bool, true, false, if◌then◌else◌, List, [], ◌∷◌, ◌++◌}
+use Rattle.std.proofs.Common.{length, Option, Some, None, Result, Ok, Err, inl, inr, refl, ap, sym, subst, ◌∙◌, arith}
+use Rattle.std.proofs.{Common.{slice_get, ◌==◌}, lemmas.{Option.{slice_get_cases, slice_get_within, slice_get-get_or}, Bool.Decides.nat_tests}}
+use Rattle.std.proofs.lemmas.List.{append_assoc, at_drop_all, at_drop_more, length-append, length-map, map-append}
 use Rattle.pagable_model.specs.{declared.{error.Error.Error, numbers.{ArcRef.ArcRef, Kind.Kind}}, Blob.Blob, Meaning.Meaning, Reading.Rest, Standing.Answer, Deep.is_eager}
-use Rattle.{pagable_world.specs.{Plain.Types, World.Frame, Loads.{asks, answers_from, next_by, next_of, read_with, need_at, need_of, needs_nested, needs_lazy}}, pagable_loads.specs.Ahead.kinds_of}
+use Rattle.pagable_world.specs.{Plain.Types, World.Frame, Loads.{asks, answer_of, answers_from, next_by}}
+use Rattle.{pagable_world.specs.Loads.{next_of, read_with, need_at, need_of, needs_nested, needs_lazy}, pagable_loads.specs.Ahead.kinds_of}
 use Rattle.pagable_loads.{specs.Ahead.{AsksNext, Foresees, IsAhead, AskedIf, RowTells, GotMore, Kept}, proofs.Traced.{End, done, faulty, Answered, Goes, Trace, typed_traced}}
 
 -- ---- lists
-
-behind : (front : List ArcRef) → slice_get (front ++ []) (length front) ≡ None
-behind [] = refl
-behind (x ∷ xs) = behind xs
-
-at_place : (front : List ArcRef) (g : ArcRef) (back : List ArcRef) → slice_get (front ++ g ∷ back) (length front) ≡ Some g
-at_place [] g back = refl
-at_place (x ∷ xs) g back = at_place xs g back
-
-longer : (front : List ArcRef) (g : ArcRef) → length (front ++ g ∷ []) ≡ length front + 1
-longer front g = length-append front (g ∷ [])
 
 kinds_joined : (xs ys : List ArcRef) → kinds_of (xs ++ ys) ≡ kinds_of xs ++ kinds_of ys
 kinds_joined xs ys = map-append (λ (r : ArcRef). r.kind.0) xs ys
@@ -24,59 +16,65 @@ kinds_joined xs ys = map-append (λ (r : ArcRef). r.kind.0) xs ys
 as_many : (rs : List ArcRef) → length (kinds_of rs) ≡ length rs
 as_many rs = length-map rs (λ (r : ArcRef). r.kind.0)
 
+-- a reference stands at the place, or the row ends before it
+from : (xs : List ArcRef) (place : ℕ)
+    → ((kinds_of (drop place xs) ≡ []) × (slice_get xs place ≡ None))
+    ⊎ ((x : ArcRef) × (place < length xs) × (slice_get xs place ≡ Some x) × (kinds_of (drop place xs) ≡ x.kind.0 ∷ kinds_of (drop (place + 1) xs)))
+from xs place = elim (slice_get_cases xs place).1 [
+  | inl (x, less, at, is) ↦ inr (x, less, at, at_drop_more kinds_of xs place x less ∙ ap (λ (z : ArcRef). z.kind.0 ∷ kinds_of (drop (place + 1) xs)) is)
+  | inr (past, none) ↦ inl (at_drop_all kinds_of xs place past, none)
+]
+
 -- ---- what the answers say of the kinds
+
+one_kind : (x : ArcRef) (n : ℕ) (P : Type 0) (Q : Error → Type 0) → Answered (answer_of (Some x) n) P Q → ((x.kind.0 ≡ n) × P) ⊎ (((x.kind.0 == n) ≡ false) × Q Error.WrongKind)
+one_kind x n P Q = by (x.kind.0 == n) refl
+  where
+    by : (b : Bool) → (x.kind.0 == n) ≡ b → Answered (if b then Ok x else Err Error.WrongKind) P Q → ((x.kind.0 ≡ n) × P) ⊎ (((x.kind.0 == n) ≡ false) × Q Error.WrongKind)
+    by true is h = inl (grind arith, h)
+    by false is h = inr (is, h)
 
 module _ {X : Type 0} (r : Result (X × Rest Answer) Error) (k : ℕ) where
   -- a reading that stops at the first reference that wasn't got asked for all that were, by their kinds
-  asked_kinds : (ks : List ℕ) (end : End) (front xs : List ArcRef) (keys : List ℕ) → Goes ks end (answers_from (front ++ xs) (length front) keys) r → r ≡ Err (Error.Storage k)
-      → (more : List ℕ) × (ks ≡ kinds_of xs ++ k ∷ more)
+  asked_kinds : (ks : List ℕ) (end : End) (xs : List ArcRef) (place : ℕ) (keys : List ℕ) → Goes ks end (answers_from xs place keys) r → r ≡ Err (Error.Storage k)
+      → (more : List ℕ) × (ks ≡ kinds_of (drop place xs) ++ k ∷ more)
   unfolding Goes answers_from
-  asked_kinds [] (done b) front xs keys (x, is) e = absurd (let f : Err (Error.Storage k) ≡ Ok (x, record { bytes = b; refs = answers_from (front ++ xs) (length front) keys }) = sym e ∙ is in cc)
-  asked_kinds [] (faulty f sober) front xs keys h e = absurd (let g : Err f ≡ Err (Error.Storage k) = sym h ∙ e in cc)
-  asked_kinds (n ∷ ks) end front xs [] h e = absurd (let g : Err Error.NoMoreKeys ≡ Err (Error.Storage k) = sym h ∙ e in cc)
-  asked_kinds (n ∷ ks) end front [] (key ∷ keys) h e =
-      let g = rw (behind front) at h in
-      let f : Err (Error.Storage n) ≡ Err (Error.Storage k) = sym g ∙ e in
-      let same : n ≡ k = cc in
-      (ks, ap (λ z. z ∷ ks) same)
-  asked_kinds (n ∷ ks) end front (x ∷ xs) (key ∷ keys) h e =
-      let g = rw (at_place front x xs) at h in
-      at (x.kind.0 == n) refl g (λ tail. asked_kinds ks end (front ++ x ∷ []) xs keys tail e)
-    where
-      at : (b : Bool) → (x.kind.0 == n) ≡ b
-          → Answered (if b then Ok x else Err Error.WrongKind) (Goes ks end (answers_from (front ++ x ∷ xs) (length front + 1) keys) r) (λ f. r ≡ Err f)
-          → (Goes ks end (answers_from ((front ++ x ∷ []) ++ xs) (length (front ++ x ∷ [])) keys) r → (more : List ℕ) × (ks ≡ kinds_of xs ++ k ∷ more))
-          → (more : List ℕ) × (n ∷ ks ≡ x.kind.0 ∷ kinds_of xs ++ k ∷ more)
-      at true same g onward =
-          let one : x.kind.0 ≡ n = grind arith in
-          let moved = subst (λ l. Goes ks end (answers_from (front ++ x ∷ xs) l keys) r) (sym (longer front x)) g in
-          let tail = onward (subst (λ rs. Goes ks end (answers_from rs (length (front ++ x ∷ [])) keys) r) (sym (append_assoc front (x ∷ []) xs)) moved) in
-          (tail.0, ap (λ z. z ∷ ks) (sym one) ∙ ap (λ zs. x.kind.0 ∷ zs) tail.1)
-      at false other g onward = absurd (let f : Err Error.WrongKind ≡ Err (Error.Storage k) = sym g ∙ e in cc)
+  asked_kinds [] (done b) xs place keys (x, is) e = absurd (let f : Err (Error.Storage k) ≡ Ok (x, record { bytes = b; refs = answers_from xs place keys }) = sym e ∙ is in cc)
+  asked_kinds [] (faulty f sober) xs place keys h e = absurd (let g : Err f ≡ Err (Error.Storage k) = sym h ∙ e in cc)
+  asked_kinds (n ∷ ks) end xs place [] h e = absurd (let g : Err Error.NoMoreKeys ≡ Err (Error.Storage k) = sym h ∙ e in cc)
+  asked_kinds (n ∷ ks) end xs place (key ∷ keys) h e = elim (from xs place) [
+    | inl (nothing, none) ↦
+        let g = rw none at h in
+        let f : Err (Error.Storage n) ≡ Err (Error.Storage k) = sym g ∙ e in
+        let same : n ≡ k = cc in
+        (ks, ap (λ z. z ∷ ks) same ∙ ap (λ zs. zs ++ k ∷ ks) (sym nothing))
+    | inr (x, less, at, is) ↦ elim (one_kind x n _ _ (rw at at h)) [
+      | inl (same, tail) ↦
+          let t = asked_kinds ks end xs (place + 1) keys tail e in
+          (t.0, ap (λ zs. n ∷ zs) t.1 ∙ ap (λ z. z ∷ kinds_of (drop (place + 1) xs) ++ k ∷ t.0) (sym same) ∙ ap (λ zs. zs ++ k ∷ t.0) (sym is))
+      | inr (other, wrong) ↦ absurd (let f : Err Error.WrongKind ≡ Err (Error.Storage k) = sym wrong ∙ e in cc)
+    ]
+  ]
 
   -- and one that asks for those kinds stops there, whatever of the kinds was got
-  asks_so : (ks : List ℕ) (end : End) (front ys : List ArcRef) (keys more : List ℕ) → ks ≡ kinds_of ys ++ k ∷ more → length ys < length keys
-      → Goes ks end (answers_from (front ++ ys) (length front) keys) r → r ≡ Err (Error.Storage k)
+  asks_so : (ks : List ℕ) (end : End) (ys : List ArcRef) (place : ℕ) (keys more : List ℕ) → ks ≡ kinds_of (drop place ys) ++ k ∷ more → place ≤ length ys
+      → length ys < place + length keys → Goes ks end (answers_from ys place keys) r → r ≡ Err (Error.Storage k)
   unfolding Goes answers_from
-  asks_so [] end front [] keys more is few h = absurd (cc)
-  asks_so [] end front (y ∷ ys) keys more is few h = absurd (cc)
-  asks_so (n ∷ ks) end front ys [] more is few h = absurd (omega (arith, few))
-  asks_so (n ∷ ks) end front [] (key ∷ keys) more is few h =
-      let g = rw (behind front) at h in
-      let same : n ≡ k = cc in
-      g ∙ ap (λ z. let o : Result (X × Rest Answer) Error = Err (Error.Storage z) in o) same
-  asks_so (n ∷ ks) end front (y ∷ ys) (key ∷ keys) more is few h =
-      let g = rw (at_place front y ys) at h in
-      let same : y.kind.0 ≡ n = cc in
-      at (y.kind.0 == n) refl same g (asks_so ks end (front ++ y ∷ []) ys keys more (cc) (omega (arith, few)))
-    where
-      at : (b : Bool) → (y.kind.0 == n) ≡ b → y.kind.0 ≡ n
-          → Answered (if b then Ok y else Err Error.WrongKind) (Goes ks end (answers_from (front ++ y ∷ ys) (length front + 1) keys) r) (λ f. r ≡ Err f)
-          → (Goes ks end (answers_from ((front ++ y ∷ []) ++ ys) (length (front ++ y ∷ [])) keys) r → r ≡ Err (Error.Storage k)) → r ≡ Err (Error.Storage k)
-      at true is same g onward =
-          let moved = subst (λ l. Goes ks end (answers_from (front ++ y ∷ ys) l keys) r) (sym (longer front y)) g in
-          onward (subst (λ rs. Goes ks end (answers_from rs (length (front ++ y ∷ [])) keys) r) (sym (append_assoc front (y ∷ []) ys)) moved)
-      at false is same g onward = absurd (grind arith)
+  asks_so [] end ys place keys more is within few h = absurd (let n = ap length is in let l = length-append (kinds_of (drop place ys)) (k ∷ more) in omega (arith, n, l))
+  asks_so (n ∷ ks) end ys place [] more is within few h = absurd (omega (arith, few, within))
+  asks_so (n ∷ ks) end ys place (key ∷ keys) more is within few h = elim (from ys place) [
+    | inl (nothing, none) ↦
+        let g = rw none at h in
+        let e : n ∷ ks ≡ k ∷ more = is ∙ ap (λ zs. zs ++ k ∷ more) nothing in
+        let same : n ≡ k = cc in
+        g ∙ ap (λ z. let o : Result (X × Rest Answer) Error = Err (Error.Storage z) in o) same
+    | inr (y, less, at, left) ↦
+        let e : n ∷ ks ≡ y.kind.0 ∷ kinds_of (drop (place + 1) ys) ++ k ∷ more = is ∙ ap (λ zs. zs ++ k ∷ more) left in
+        elim (one_kind y n _ _ (rw at at h)) [
+          | inl (same, tail) ↦ asks_so ks end ys (place + 1) keys more (cc (e)) (omega (arith, less)) (omega (arith, few)) tail
+          | inr (other, wrong) ↦ absurd (let same : y.kind.0 ≡ n = cc (e) in grind arith)
+        ]
+  ]
 
 -- ---- what comes next
 
@@ -92,14 +90,14 @@ module _ (types : Types) (t : ℕ) (blob : Blob) where
       → (got : List ArcRef) (k : ℕ) (back : List ℕ) → kinds_of xs ++ kind.0 ∷ [] ≡ kinds_of got ++ k ∷ back → AsksNext types t blob got k
   row_asked xs kind key next got k back is =
       let s = stopped_at (slice_get blob.keys (length xs)) (read_with types t blob xs) kind key next in
-      let a = asked_kinds (read_with types t blob xs) kind.0 trace.kinds trace.end [] xs blob.keys (trace.goes (answers_from xs 0 blob.keys)) s.0 in
+      let a = asked_kinds (read_with types t blob xs) kind.0 trace.kinds trace.end xs 0 blob.keys (trace.goes (answers_from xs 0 blob.keys)) s.0 in
       let within = slice_get_within blob.keys (length xs) key s.1 in
       let many = ap length is in
       let short : length got < length blob.keys = fewer many within in
       let there = slice_get-get_or blob.keys (length got) 0 short in
       let all : trace.kinds ≡ kinds_of got ++ k ∷ (back ++ a.0) =
       a.1 ∙ sym (append_assoc (kinds_of xs) (kind.0 ∷ []) a.0) ∙ ap (λ ks. ks ++ a.0) is ∙ append_assoc (kinds_of got) (k ∷ back) a.0 in
-      let stop = asks_so (read_with types t blob got) k trace.kinds trace.end [] got blob.keys (back ++ a.0) all short (trace.goes (answers_from got 0 blob.keys)) in
+      let stop = asks_so (read_with types t blob got) k trace.kinds trace.end got 0 blob.keys (back ++ a.0) all (omega arith) (omega (arith, short)) (trace.goes (answers_from got 0 blob.keys)) in
       record { key = _; there = there; next = ap (next_by (slice_get blob.keys (length got))) stop ∙ ap (λ o. next_by o (Err (Error.Storage k))) there }
     where
       fewer : length (kinds_of xs ++ kind.0 ∷ []) ≡ length (kinds_of got ++ k ∷ back) → length xs < length blob.keys → length got < length blob.keys
@@ -170,17 +168,13 @@ row_tells types top fs frames row r key place is count at_row at_key later h = e
           need = ap (need_of types) is ∙ lazy_need types top fs r.kind key (a.next ∙ ap (asks r.kind) same) later;
         }
 
-abbrev first_of : Frame → List Frame → Frame
-first_of f [] = f
-first_of f (g ∷ gs) = g
-
 -- and it does so of what is left, where the reference is of the kind
 pub row_goes_on : (types : Types) (old new : List Frame) (row after : List ArcRef) (kind : Kind) (key : ℕ) (s : ArcRef) → RowTells types old row kind key → GotMore old new s → Kept kind s row after → IsAhead types new after
 row_goes_on types old new row after kind key s t g (inr none) = none_ahead types new after none
 row_goes_on types old new row after kind key s t g (inl (same, is)) = record { is = inr (record g.f { got = g.f.got ++ s ∷ [] }, g.fs, g.is, subst (λ (rs : List ArcRef). Foresees types (record g.f { got = g.f.got ++ s ∷ [] }) (kinds_of rs)) (sym is) still) }
   where
     one : t.f ≡ g.f
-    one = ap (first_of t.f) (sym t.there ∙ g.was)
+    one = let same : t.f ∷ t.fs ≡ g.f ∷ g.fs = sym t.there ∙ g.was in cc
 
     still : Foresees types (record g.f { got = g.f.got ++ s ∷ [] }) (kinds_of row)
     still = still_ahead types g.f row t.r s (subst (λ (f : Frame). Foresees types f (kinds_of row)) one t.foresees) (subst (λ (f : Frame). slice_get row (length f.got) ≡ Some t.r) one t.at) (same ∙ ap (λ (k : Kind). k.0) t.of_kind)

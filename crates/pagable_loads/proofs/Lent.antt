@@ -1,14 +1,23 @@
 -- What the references that were got lend, one after the other.
-use Rattle.std.proofs.{lemmas.{Bool.Decides.nat_tests, Grind.common_steps, List.length-append, Map.Keys.any_passes_from_place, Option.{slice_get_within, slice_get-get_or}}, Common.{rules, ◌≡◌, ◌≢◌}}
-use Rattle.std.proofs.Common.{ℕ, ◌+◌, ◌<◌, ◌≤◌, List, [], ◌∷◌, ◌++◌, length, false, Option, Some, None, Result, Ok, Err, IfOk, ◌⊎◌, inl, inr, ap, sym, subst, ◌∙◌, arith, slice_get}
-use Rattle.{std.{proofs.Math.{ListN.get_or-append, Seq.get_or-append_seam}, specs.{List.list_any, Option.option_map, Prelude.option_and_then}}, pagable_model.specs.declared.error.Error.Error}
-use Rattle.{pagable_model.specs.{declared.numbers.ArcRef.ArcRef, Deep.is_eager}, pagable_world.specs.Pager.PagerState, pagable_loads.specs.{Got.lent_at, Lending.{Lends, LendsEach}, Starting.Shares}}
+use Rattle.std.proofs.{lemmas.{Bool.Decides.nat_tests, Grind.common_steps, List.length-append, Map.Keys.any_passes_from_place, Option.slice_get_within}, Common.{rules, ◌≡◌, ◌≢◌}}
+use Rattle.std.proofs.Common.{ℕ, zero, suc, refl, ◌+◌, ◌<◌, ◌≤◌, List, [], ◌∷◌, ◌++◌, length, false, Option, Some, None, Result, Ok, Err, IfOk, ◌⊎◌, inl, inr, ap, sym, subst, ◌∙◌, arith, slice_get}
+use Rattle.{std.specs.{List.list_any, Option.option_map, Prelude.option_and_then}, pagable_model.specs.declared.error.Error.Error}
+use Rattle.{pagable_model.specs.{declared.numbers.ArcRef.ArcRef, Deep.is_eager}, pagable_world.specs.Pager.PagerState, pagable_loads.proofs.Stepped.tells_map}
+use Rattle.pagable_loads.specs.{Got.lent_at, Lending.{Lends, LendsEach}, Starting.Shares}
 
 module _ {A N E : Type 0} (see : A → N) (s : PagerState N E) where
   -- a share is refused
   pub not_shared : (r : ArcRef) (e : Error) (result : Result (Option A) Error) → Shares see s r.handle (Err e) → IfOk result (λ found. (found ≡ None) × (e ≢ Error.OutOfMemory)) → IfOk result (λ found. Lends s r (option_map see found))
   not_shared r e (Err f) h none = tt
   not_shared r e (Ok found) h none = first_of (grind (arith, common_steps, nat_tests), search (rules))
+
+-- what stands at a place once one more came
+pushed_at : {X : Type 0} (xs : List X) (y : X) (k : ℕ) → k < length xs + 1
+    → ((k < length xs) × (slice_get (xs ++ y ∷ []) k ≡ slice_get xs k)) ⊎ ((k ≡ length xs) × (slice_get (xs ++ y ∷ []) k ≡ Some y))
+pushed_at [] y zero less = inr (refl, refl)
+pushed_at [] y (suc k) less = absurd (omega (arith, less))
+pushed_at (x ∷ xs) y zero less = inl (omega arith, refl)
+pushed_at (x ∷ xs) y (suc k) less = elim (pushed_at xs y k (omega (arith, less))) [ inl (l, is) ↦ inl (omega (arith, l), is) | inr (l, is) ↦ inr (ap suc l, is) ]
 
 pub longer : {A : Type 0} (i : ℕ) (xs new : List A) (x : A) → new ≡ xs ++ x ∷ [] → length xs ≡ i → length new ≡ i + 1
 longer i xs new x is same = ap length is ∙ length-append xs (x ∷ []) ∙ ap (λ n. n + 1) same
@@ -23,29 +32,12 @@ module _ {A N E : Type 0} (see : A → N) (s : PagerState N E) (got : List ArcRe
   none_lent is = grind (arith, nat_tests, any_passes_from_place, slice_get)
 
   pushed_lent : (i : ℕ) (r : ArcRef) (lent : List (Option A)) (o : Option A) → length lent ≡ i → slice_get got i ≡ Some r → LentTo i lent → Lends s r (option_map see o) → LentTo (i + 1) (lent ++ o ∷ [])
-  pushed_lent i r lent o same here to lends place q before there = elim (before_or place before) [
-    | inl less ↦ subst (λ found. Lends s q (option_map see (option_and_then (λ x. x) found))) (sym (earlier place less)) (to place q less there)
-    | inr is ↦ last place is q there
+  pushed_lent i r lent o same here to lends place q before there = elim (pushed_at lent o place (omega (arith, before, same))) [
+    | inl (less, is) ↦ subst (λ found. Lends s q (option_map see (option_and_then (λ x. x) found))) (sym is) (to place q (omega (arith, less, same)) there)
+    | inr (at, is) ↦
+        let own : r ≡ q = let e : Some r ≡ Some q = sym here ∙ ap (slice_get got) (sym (at ∙ same)) ∙ there in cc in
+        subst (λ found. Lends s q (option_map see (option_and_then (λ x. x) found))) (sym is) (subst (λ (x : ArcRef). Lends s x (option_map see o)) own lends)
   ]
-    where
-      long : length (lent ++ o ∷ []) ≡ length lent + 1
-      long = length-append lent (o ∷ [])
-
-      before_or : (k : ℕ) → k < i + 1 → (k < i) ⊎ (k ≡ i)
-      before_or k less = grind arith
-
-      earlier : (k : ℕ) → k < i → slice_get (lent ++ o ∷ []) k ≡ slice_get lent k
-      earlier k less =
-          slice_get-get_or (lent ++ o ∷ []) k o (omega (arith, long, less, same)) ∙ ap Some (get_or-append lent (o ∷ []) o k (omega (arith, less, same))) ∙ sym (slice_get-get_or lent k o (omega (arith, less, same)))
-
-      new : slice_get (lent ++ o ∷ []) (length lent) ≡ Some o
-      new = slice_get-get_or (lent ++ o ∷ []) (length lent) o (omega (arith, long)) ∙ ap Some (get_or-append_seam lent o [] o)
-
-      last : (k : ℕ) → k ≡ i → (q : ArcRef) → slice_get got k ≡ Some q → Lends s q (lent_at see (lent ++ o ∷ []) k)
-      last k is q there =
-          let found : slice_get (lent ++ o ∷ []) k ≡ Some o = subst (λ n. slice_get (lent ++ o ∷ []) n ≡ Some o) (same ∙ sym is) new in
-          let own : r ≡ q = let e : Some r ≡ Some q = sym here ∙ ap (slice_get got) (sym is) ∙ there in cc in
-          subst (λ f. Lends s q (option_map see (option_and_then (λ x. x) f))) (sym found) (subst (λ (x : ArcRef). Lends s x (option_map see o)) own lends)
 
   pub more_lent : (i : ℕ) (r : ArcRef) (lent new : List (Option A)) (o : Option A) → new ≡ lent ++ o ∷ [] → length lent ≡ i → slice_get got i ≡ Some r → LentTo i lent → Lends s r (option_map see o) → LentTo (i + 1) new
   more_lent i r lent new o is same here to lends = subst (LentTo (i + 1)) (sym is) (pushed_lent i r lent o same here to lends)
@@ -53,3 +45,5 @@ module _ {A N E : Type 0} (see : A → N) (s : PagerState N E) (got : List ArcRe
   -- all of them do
   pub all_lent : (i : ℕ) (lent : List (Option A)) → length got ≤ i → LentTo i lent → LendsEach see s got lent
   all_lent i lent past to = grind (arith, nat_tests, slice_get_within)
+
+pub ruleset sharing = (nat_tests, tells_map, not_shared)

@@ -1,29 +1,19 @@
 -- A step of a load leaves less to do.
-use Rattle.std.proofs.Common.{◌≡◌, ℕ, zero, suc, ◌+◌, ◌-◌, ◌*◌, ◌<◌, Bool, List, [], ◌∷◌, ◌++◌, length, Option, Some, None, Result, Ok, Err, refl, ap, sym, subst, ◌∙◌, arith, slice_get, ◌^◌}
-use Rattle.{std.proofs.lemmas.{Option.slice_get_within, List.length-append, Bool.Decides.nat_tests}, pagable_model.specs.declared.{error.Error.Error, numbers.{ArcRef.ArcRef, Kind.Kind}}}
-use Rattle.{pagable_model.specs.{Meaning.Meaning, Reading.Rest, Standing.Answer}, pagable_world.specs.{Plain.Types, World.Frame, Loads.{Next, reads, asks, next_by, next_in, need_at, need_of}}}
-use Rattle.{pagable_world.specs.Loads.{needs_nested, needs_lazy}, pagable_loads.specs.Ending.{left_in, waits_for, many, waiting, widened, to_do, LeadsOn}}
+use Rattle.std.proofs.Common.{◌≡◌, ℕ, zero, suc, ◌+◌, ◌-◌, ◌*◌, ◌<◌, ◌≤◌, ◌⊎◌, inl, inr, Bool, List, [], ◌∷◌}
+use Rattle.std.proofs.Common.{◌++◌, length, Option, Some, None, Result, Ok, Err, refl, ap, sym, subst, ◌∙◌, arith, slice_get, ◌^◌}
+use Rattle.std.proofs.lemmas.{Option.slice_get_within, List.length-append, Bool.Decides.nat_tests}
+use Rattle.{std.proofs.Math.Nat.mul-le-mul_right, pagable_model.specs.declared.{error.Error.Error, numbers.{ArcRef.ArcRef, Kind.Kind}}}
+use Rattle.{pagable_model.specs.{Meaning.Meaning, Reading.Rest, Standing.Answer}, pagable_world.specs.{Plain.Types, World.Frame, Loads.{Need, Next, reads, asks, next_by, next_in, need_at, need_of}}}
+use Rattle.{pagable_world.specs.Loads.{needs_nested, needs_lazy}, pagable_loads.specs.Ending.{left_in, left_behind, many, weight, weight_on, waiting, to_do, LeadsOn}}
 
-widened_less : (k a b : ℕ) → a < b → widened k a < widened k b
-unfolding widened
-widened_less zero a b lt = lt
-widened_less (suc k) a b lt = widened_less k (a * many) (b * many) (omega (arith, lt))
+weight_more : (k : ℕ) → weight (suc k) ≡ weight k * many
+unfolding weight
+weight_more k = refl
 
-widened_once : (k a : ℕ) → widened (suc k) a ≡ widened k (a * many)
-unfolding widened
-widened_once k a = refl
-
-widened_none : (a : ℕ) → widened zero a ≡ a
-unfolding widened
-widened_none a = refl
-
-waiting_none : waiting [] ≡ 0
-unfolding waiting
-waiting_none = refl
-
-waiting_more : (f : Frame) (fs : List Frame) → waiting (f ∷ fs) ≡ waiting fs * many + waits_for f
-unfolding waiting
-waiting_more f fs = refl
+weight_some : (k : ℕ) → 0 < weight k
+unfolding weight
+weight_some zero = omega arith
+weight_some (suc k) = let w = weight_some k in omega (arith, w)
 
 -- ---- what is asked for stands in the blob
 
@@ -36,88 +26,55 @@ asked_is found (Err f) kind key e = absurd (cc)
 asked_of : (types : Types) (f : Frame) (kind : Kind) (key : ℕ) → next_in types f ≡ asks kind key → length f.got < length f.blob.keys
 asked_of types f kind key e = grind (arith, nat_tests, asked_is, slice_get, slice_get_within)
 
-nested_asks : (fs : List Frame) (next : Next) (kind : Kind) (key : ℕ) → need_at fs next ≡ needs_nested kind key → (k : Kind) × (q : ℕ) × (next ≡ asks k q)
-nested_asks fs (asks k q) kind key e = (k, q, refl)
-nested_asks [] (reads own) kind key e = absurd (cc)
-nested_asks fs next kind key e = absurd (cc)
+-- the load needs a reference, at once or later
+abbrev NeedsOne : Need → Kind → ℕ → Type 0
+NeedsOne need kind key = (need ≡ needs_nested kind key) ⊎ (need ≡ needs_lazy kind key)
 
-lazy_asks : (fs : List Frame) (next : Next) (kind : Kind) (key : ℕ) → need_at fs next ≡ needs_lazy kind key → (k : Kind) × (q : ℕ) × (next ≡ asks k q)
-lazy_asks fs (asks k q) kind key e = (k, q, refl)
-lazy_asks [] (reads own) kind key e = absurd (cc)
-lazy_asks fs next kind key e = absurd (cc)
+one_asked : (fs : List Frame) (next : Next) (kind : Kind) (key : ℕ) → NeedsOne (need_at fs next) kind key → (k : Kind) × (q : ℕ) × (next ≡ asks k q)
+one_asked fs (asks k q) kind key e = (k, q, refl)
+one_asked [] (reads own) kind key e = absurd (elim e [ inl h ↦ cc | inr h ↦ cc ])
+one_asked fs next kind key e = absurd (elim e [ inl h ↦ cc | inr h ↦ cc ])
 
-module _ (types : Types) (old : List Frame) (f : Frame) (fs : List Frame) (is : old ≡ f ∷ fs) (kind : Kind) (key : ℕ) where
-  pub nested_wants : need_of types old ≡ needs_nested kind key → length f.got < length f.blob.keys
-  nested_wants need = let a = nested_asks fs (next_in types f) kind key (sym (ap (need_of types) is) ∙ need) in asked_of types f a.0 a.1 a.2
-
-  pub lazy_wants : need_of types old ≡ needs_lazy kind key → length f.got < length f.blob.keys
-  lazy_wants need = let a = lazy_asks fs (next_in types f) kind key (sym (ap (need_of types) is) ∙ need) in asked_of types f a.0 a.1 a.2
+pub wants : (types : Types) (old : List Frame) (f : Frame) (fs : List Frame) (kind : Kind) (key : ℕ) → old ≡ f ∷ fs → NeedsOne (need_of types old) kind key
+    → length f.got < length f.blob.keys
+wants types old f fs kind key is need =
+    let a = one_asked fs (next_in types f) kind key (subst (λ o. NeedsOne (need_of types o) kind key) is need) in
+    asked_of types f a.0 a.1 a.2
 
 -- ---- what each step leaves
 
-first : (f : Frame) → f.got ≡ [] → length f.blob.keys < 2 ^ 63 → to_do (f ∷ []) < to_do []
-first f none few =
-    let g : length f.got ≡ 0 = ap length none in
-    let w = waiting_none in
-    widened_less 129 (waiting [] * many + left_in f + 1) many (omega (arith, g, w, few))
-
-more : (f : Frame) (fs : List Frame) (r : ArcRef) → length f.got < length f.blob.keys → to_do (record f { got = f.got ++ r ∷ [] } ∷ fs) < to_do (f ∷ fs)
-more f fs r left =
-    let n = length-append f.got (r ∷ []) in
-    widened_less (129 - length fs) (waiting fs * many + (length f.blob.keys - length (f.got ++ r ∷ [])) + 1) (waiting fs * many + left_in f + 1) (omega (arith, n, left))
-
-above : (g f : Frame) (fs : List Frame) → g.got ≡ [] → length g.blob.keys < 2 ^ 63 → length fs < 128 → length f.got < length f.blob.keys → to_do (g ∷ f ∷ fs) < to_do (f ∷ fs)
-above g f fs none few short left =
-    let n : length g.got ≡ 0 = ap length none in
-    let w = waiting_more f fs in
-    let k : 129 - length fs ≡ suc (129 - length (f ∷ fs)) = omega (arith, short) in
-    let e : to_do (f ∷ fs) ≡ widened (129 - length (f ∷ fs)) ((waiting fs * many + left_in f + 1) * many) = ap (λ k. widened k (waiting fs * many + left_in f + 1)) k ∙ widened_once (129 - length (f ∷ fs)) (waiting fs * many + left_in f + 1) in
-    let l = widened_less (129 - length (f ∷ fs)) (waiting (f ∷ fs) * many + left_in g + 1) ((waiting fs * many + left_in f + 1) * many) (omega (arith, n, w, few, left)) in
-    subst (λ x. to_do (g ∷ f ∷ fs) < x) (sym e) l
-
-below : (t u : Frame) (fs : List Frame) (r : ArcRef) → to_do (record u { got = u.got ++ r ∷ [] } ∷ fs) < to_do (t ∷ u ∷ fs)
-below t u fs r = by (129 - length fs) refl
-  where
-    new-digits : ℕ
-    new-digits = waiting fs * many + (length u.blob.keys - length (u.got ++ r ∷ [])) + 1
-
-    old-digits : ℕ
-    old-digits = waiting (u ∷ fs) * many + left_in t + 1
-
-    by : (k : ℕ) → 129 - length fs ≡ k → to_do (record u { got = u.got ++ r ∷ [] } ∷ fs) < to_do (t ∷ u ∷ fs)
-    by zero e =
-        let n = length-append u.got (r ∷ []) in
-        let w = waiting_more u fs in
-        let k : 129 - length (u ∷ fs) ≡ zero = omega (arith, e) in
-        let a : to_do (record u { got = u.got ++ r ∷ [] } ∷ fs) ≡ new-digits = ap (λ k. widened k new-digits) e ∙ widened_none new-digits in
-        let b : to_do (t ∷ u ∷ fs) ≡ old-digits = ap (λ k. widened k old-digits) k ∙ widened_none old-digits in
-        omega (arith, n, w, a, b)
-    by (suc j) e =
-        let n = length-append u.got (r ∷ []) in
-        let w = waiting_more u fs in
-        let k : 129 - length (u ∷ fs) ≡ j = omega (arith, e) in
-        let a : to_do (record u { got = u.got ++ r ∷ [] } ∷ fs) ≡ widened j (new-digits * many) = ap (λ k. widened k new-digits) e ∙ widened_once j new-digits in
-        let b : to_do (t ∷ u ∷ fs) ≡ widened j old-digits = ap (λ k. widened k old-digits) k in
-        let l = widened_less j (new-digits * many) old-digits (omega (arith, n, w)) in
-        omega (arith, a, b, l)
-
--- ---- in the words of steps
-
 module _ {N : Type 0} {for_cell : Bool} {old new : List Frame} where
-  less : to_do new < to_do old → LeadsOn {N = N} for_cell old new (Ok None)
-  less lt = record { leads = lt }
-
   led : {o n : List Frame} → old ≡ o → new ≡ n → to_do n < to_do o → LeadsOn {N = N} for_cell old new (Ok None)
-  led {o} {n} a b lt = less (subst (λ x. to_do x < to_do old) (sym b) (subst (λ x. to_do n < to_do x) (sym a) lt))
+  led {o} {n} a b lt = record { leads = subst (λ x. to_do x < to_do old) (sym b) (subst (λ x. to_do n < to_do x) (sym a) lt) }
 
   pub root_leads : (f : Frame) → f.got ≡ [] → length f.blob.keys < 2 ^ 63 → old ≡ [] → new ≡ f ∷ [] → LeadsOn {N = N} for_cell old new (Ok None)
-  root_leads f none few a b = led a b (first f none few)
+  root_leads f none few a b =
+      let g : length f.got ≡ 0 = ap length none in
+      let w = weight_some 129 in
+      let m : (left_in f + 2) * weight 129 ≤ many * weight 129 = mul-le-mul_right (weight 129) (omega (arith, g, few)) in
+      led a b (omega (arith, w, m))
 
-  pub got_leads : (f : Frame) (fs : List Frame) (r : ArcRef) → length f.got < length f.blob.keys → old ≡ f ∷ fs → new ≡ record f { got = f.got ++ r ∷ [] } ∷ fs → LeadsOn {N = N} for_cell old new (Ok None)
-  got_leads f fs r left a b = led a b (more f fs r left)
+  pub got_leads : (f : Frame) (fs : List Frame) (r : ArcRef) → length f.got < length f.blob.keys → old ≡ f ∷ fs → new ≡ record f { got = f.got ++ r ∷ [] } ∷ fs
+      → LeadsOn {N = N} for_cell old new (Ok None)
+  got_leads f fs r left a b =
+      let n = length-append f.got (r ∷ []) in
+      let w = weight_some (129 - length fs) in
+      let m : (length f.blob.keys - length (f.got ++ r ∷ []) + 1) * weight_on fs ≤ left_in f * weight_on fs = mul-le-mul_right (weight_on fs) (omega (arith, n, left)) in
+      led a b (omega (arith, w, m))
 
-  pub blob_leads : (g f : Frame) (fs : List Frame) → g.got ≡ [] → length g.blob.keys < 2 ^ 63 → length fs < 128 → length f.got < length f.blob.keys → old ≡ f ∷ fs → new ≡ g ∷ f ∷ fs → LeadsOn {N = N} for_cell old new (Ok None)
-  blob_leads g f fs none few short left a b = led a b (above g f fs none few short left)
+  pub blob_leads : (g f : Frame) (fs : List Frame) → g.got ≡ [] → length g.blob.keys < 2 ^ 63 → length fs < 128 → length f.got < length f.blob.keys → old ≡ f ∷ fs → new ≡ g ∷ f ∷ fs
+      → LeadsOn {N = N} for_cell old new (Ok None)
+  blob_leads g f fs none few short left a b =
+      let n : length g.got ≡ 0 = ap length none in
+      let k : 129 - length fs ≡ suc (129 - length (f ∷ fs)) = omega (arith, short) in
+      let e : weight_on fs ≡ weight_on (f ∷ fs) * many = ap weight k ∙ weight_more (129 - length (f ∷ fs)) in
+      let w = weight_some (129 - length (f ∷ fs)) in
+      let m : (left_in g + 2) * weight_on (f ∷ fs) ≤ many * weight_on (f ∷ fs) = mul-le-mul_right (weight_on (f ∷ fs)) (omega (arith, n, few)) in
+      let u : (left_behind f + 1) * weight_on fs ≤ left_in f * weight_on fs = mul-le-mul_right (weight_on fs) (omega (arith, left)) in
+      led a b (omega (arith, e, w, m, u))
 
   pub node_leads : (t u : Frame) (fs : List Frame) (r : ArcRef) → old ≡ t ∷ u ∷ fs → new ≡ record u { got = u.got ++ r ∷ [] } ∷ fs → LeadsOn {N = N} for_cell old new (Ok None)
-  node_leads t u fs r a b = led a b (below t u fs r)
+  node_leads t u fs r a b =
+      let n = length-append u.got (r ∷ []) in
+      let m : (length u.blob.keys - length (u.got ++ r ∷ [])) * weight_on fs ≡ left_behind u * weight_on fs = ap (λ x. (length u.blob.keys - x) * weight_on fs) n in
+      led a b (omega (arith, m))

@@ -62,3 +62,5 @@ module _ {N : Type 0} (v : Values N) (own : Own) (top : Held) (is : own.top ≡ 
 
   pub read_needs : (need : Need N) → IsRead own.below.items own.for_cell x need → Needs v (reading_of own) own.for_cell need
   read_needs need r = grind (arith, nat_tests, node, root)
+
+pub ruleset needing = (nat_tests, read_needs)

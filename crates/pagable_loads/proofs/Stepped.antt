@@ -1,11 +1,13 @@
 -- What a step's call did is what the step is said to do.
 use Rattle.std.proofs.Common.{◌≡◌, ℕ, ◌+◌, ◌<◌, ◌≤◌, List, [], ◌∷◌, ◌++◌, length, true, false, Option, Some, None, Result, Ok, Err, inl, inr, refl, ap, sym, subst, ◌∙◌, arith}
-use Rattle.{std.{proofs.lemmas.{Bool.Decides.nat_tests, Grind.common_steps}, specs.Prelude.not}, pagable_model.specs.{declared.{error.Error.Error, numbers.{ArcRef.ArcRef, HandleNumber.HandleNumber, Kind.Kind}}, Blob.Blob}}
+use Rattle.{std.{proofs.lemmas.{Bool.Decides.nat_tests, Grind.common_steps}, specs.Prelude.not}, pagable_model.specs.declared.error.Error.Error}
+use Rattle.pagable_model.specs.{declared.numbers.{ArcRef.ArcRef, HandleNumber.HandleNumber, Kind.Kind, LoadNumber.LoadNumber}, Blob.Blob}
 use Rattle.{pagable_model.specs.Deep.longest_path, pagable_world.specs.{declared.{events.LoadAnswer.LoadAnswer, handles.Owner.Owner, calls.Want.Want}, Kinds.is_owner, Plain.if_there, World.Core}}
 use Rattle.pagable_world.specs.{World.{Root, of_cell, of_key, OpenLoad, Frame, Reading, Values}, Refusals.{OwnsLoad, refused_if, load_fault}, LoadCalls.{from_store, AskCall, AdoptCall, EndCall}}
 use Rattle.pagable_world.specs.{LoadCalls.{HandOverCall, DropCall, LoadCloses}, Loads.{need_of, needs_nested, needs_lazy, root_frame, nested_frame, with_got, handles_of, MakesNode, ReadsNode}}
 use Rattle.pagable_world.specs.{Loads.{ReadsRoot, LoadIs, IsOfCell, IsOfKey, Meets, Does}, Pager.{PagerState, Moves, ReadingBrings, IsNewNode, IsCellOf}, Access.{Told, Called, ReadingStep}}
-use Rattle.pagable_loads.specs.{Telling.{Acting, Acts, ActsThen, Tells, Brings, IsMade, AsksFor, TakesLazily, AdoptsValue}, Frames.{frame_of, frames_of, onto, reading_of, is_cell, IsLoadOf}, Stepping.{Met, Tries, Steps, Drops}}
+use Rattle.pagable_loads.specs.Telling.{Acting, Acts, ActsThen, Tells, Brings, IsMade, AsksFor, TakesLazily, AdoptsValue}
+use Rattle.pagable_loads.specs.{Frames.{frame_of, frames_of, onto, reading_of, is_cell, IsLoadOf}, Stepping.{Met, Tries, Steps, Drops}}
 use Rattle.{pagable_loads.{specs.declared.reading.{Frame.Frame as Held, Reading.Reading as Own}, proofs.Needed.length_onto}, either.specs.declared.Either.Either}
 
 -- ---- what is told
@@ -124,19 +126,11 @@ module _ {N : Type 0} (E : Type 0) (v : Values N) (me : Owner) (own : Own) where
     both : frame_of top ∷ frame_of under ∷ onto [] rest ≡ node.top ∷ node.below
     both = sym was ∙ node.frames
 
-    abbrev first_of : Frame → List Frame → Frame
-    first_of other [] = other
-    first_of other (f ∷ fs) = f
-
-    abbrev rest_of : List Frame → List Frame
-    rest_of [] = []
-    rest_of (f ∷ fs) = fs
-
     top_is : frame_of top ≡ node.top
-    top_is = ap (first_of (frame_of top)) both
+    top_is = cc (both)
 
     below_is : frame_of under ∷ onto [] rest ≡ node.below
-    below_is = ap rest_of both
+    below_is = cc (both)
 
     brought : {s t : PagerState N E} → Moves (λ n y. (y ≡ x) × IsNewNode s.core n) s t → Moves (ReadingBrings v s.core reading) s t
     brought {s} m = comes_as (λ n y came. inl (subst (ReadsNode v reading) (sym came.0) node, came.1)) m
@@ -230,9 +224,11 @@ module _ {N : Type 0} (E : Type 0) (v : Values N) (me : Owner) (own : Own) where
   closes : (mid t : Core) (told : Result (Unit {0}) Error) (load : OpenLoad) → OwnsLoad mid me own.load load → DropCall mid me own.load told t → LoadCloses mid own.load told t
   closes mid t told load o d = grind (arith, nat_tests, usable_load)
 
-  pub gives_up : (e : Error) (frames none : List Frame) → none ≡ [] → (s mid t : PagerState N E) → Tries v me own s (Err e) frames mid → Drops v me own.load mid t → Steps v me own s (Some (LoadAnswer.Refused e)) none t
-  gives_up e frames none is s mid t tried d = record {
+  pub gives_up : (e : Error) (l : LoadNumber) (frames none : List Frame) → l ≡ own.load → none ≡ [] → (s mid t : PagerState N E) → Tries v me own s (Err e) frames mid → Drops v me l mid t
+      → Steps v me own s (Some (LoadAnswer.Refused e)) none t
+  gives_up e l frames none at is s mid t tried dropped = record {
     does = λ o.
+        let d = subst (λ n. Drops v me n mid t) at dropped in
         let m = tried.meets o in
         let open_load : OwnsLoad mid.core me own.load o.load = record { stands_open = stays_open s.core mid.core e m.meets ∙ o.owned.stands_open; own = o.owned.own } in
         record {
@@ -241,3 +237,5 @@ module _ {N : Type 0} (E : Type 0) (v : Values N) (me : Owner) (own : Own) where
           whole = d.call.whole;
         };
   }
+
+pub ruleset giving_up = (nat_tests, acts_then, gives_up)

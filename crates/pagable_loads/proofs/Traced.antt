@@ -150,16 +150,13 @@ module _ {X Y Z : Type 0} (second : Gets Answer Y) (pair : X → Y → Z) where
   ends_refused e sober refs r is = rw is refl
 
   join : (first : Gets Answer X) (whole : Gets Answer Z) → ((i : Rest Answer) → whole i ≡ (first i >>= joined)) → Traced first → Traced second → Traced whole
-  join first whole is h k = record { on = λ bytes. by bytes (h.on bytes) }
+  join first whole is h k = record { on = λ bytes. let t = h.on bytes in at bytes t.kinds t.end t.goes }
     where
       at : (bytes : List ℕ) (ks : List ℕ) (end : End) → ((refs : List Answer) → Goes ks end refs (first (left bytes refs))) → Trace whole bytes
       at bytes ks (done b) goes = let q = k.on b in
           record { kinds = ks ++ q.kinds; end = q.end; goes = λ refs. rw (is (left bytes refs)) (goes_then joined ks q.kinds (done b) q.end (ends_joined b q) refs (first (left bytes refs)) (goes refs)) }
       at bytes ks (faulty f sober) goes =
           record { kinds = ks ++ []; end = faulty f sober; goes = λ refs. rw (is (left bytes refs)) (goes_then joined ks [] (faulty f sober) (faulty f sober) (ends_refused f sober) refs (first (left bytes refs)) (goes refs)) }
-
-      by : (bytes : List ℕ) → Trace first bytes → Trace whole bytes
-      by bytes t = at bytes t.kinds t.end t.goes
 
 gives : {X : Type 0} (x : X) → Traced (λ (i : Rest Answer). let r : Result (X × Rest Answer) Error = Ok (x, i) in r)
 unfolding Goes
@@ -170,16 +167,10 @@ unfolding Goes
 refuses e sober = record { on = λ bytes. record { kinds = []; end = faulty e sober; goes = λ refs. refl } }
 
 likewise : {X : Type 0} {get whole : Gets Answer X} → Traced get → ((i : Rest Answer) → whole i ≡ get i) → Traced whole
-likewise {X} {get} {whole} h is = record { on = λ bytes. again bytes (h.on bytes) }
-  where
-    again : (bytes : List ℕ) → Trace get bytes → Trace whole bytes
-    again bytes t = record { kinds = t.kinds; end = t.end; goes = λ refs. rw (is (left bytes refs)) (t.goes refs) }
+likewise h is = record { on = λ bytes. let t = h.on bytes in record { kinds = t.kinds; end = t.end; goes = λ refs. rw (is (left bytes refs)) (t.goes refs) } }
 
 sees : {X Y : Type 0} (view : X → Y) {get : Gets Answer X} → Traced get → Traced (seen view get)
-sees {X} {Y} view {get} h = record { on = λ bytes. again bytes (h.on bytes) }
-  where
-    again : (bytes : List ℕ) → Trace get bytes → Trace (seen view get) bytes
-    again bytes t = record { kinds = t.kinds; end = t.end; goes = λ refs. goes_seen view t.kinds t.end refs (get (left bytes refs)) (t.goes refs) }
+sees view {get} h = record { on = λ bytes. let t = h.on bytes in record { kinds = t.kinds; end = t.end; goes = λ refs. goes_seen view t.kinds t.end refs (get (left bytes refs)) (t.goes refs) } }
 
 -- bytes, and then what they say
 module _ {X Z : Type 0} (read : List ℕ → Read Z) (sober : (bytes : List ℕ) → Sober (read bytes)) where

@@ -2,31 +2,34 @@
 use Rattle.std.specs.Prelude.{ℕ, ◌≡◌, ◌+◌, ◌-◌, ◌*◌, ◌<◌, ◌^◌, Bool, true, false, zero, suc, List, [], ◌∷◌, length, Option, Some, None, Result, Ok, Err}
 use Rattle.{pagable_model.specs.declared.error.Error.Error, pagable_world.specs.{declared.events.LoadAnswer.LoadAnswer, World.Frame}}
 
--- how many references a blob has still to get; and so, and one more, of one that waits for the blob above it
+-- how many references a blob has still to get; and so behind the one that it waits for
 abbrev pub left_in : Frame → ℕ
 left_in f = length f.blob.keys - length f.got
 
-abbrev pub waits_for : Frame → ℕ
-waits_for f = length f.blob.keys - (length f.got + 1) + 1
+abbrev pub left_behind : Frame → ℕ
+left_behind f = length f.blob.keys - (length f.got + 1)
 
 -- a blob has fewer references than this
 abbrev pub many : ℕ
 many = 2 ^ 64
 
--- the numbers of blobs that wait, as the digits of one, the root's first
-unfoldable pub waiting : List Frame → ℕ
+-- what a reference weighs over so many levels: more than all of a blob of one level less
+unfoldable pub weight : ℕ → ℕ
+weight zero = 1
+weight (suc k) = weight k * many
+
+-- a reference of the blob that stands on these, the root's the most
+abbrev pub weight_on : List Frame → ℕ
+weight_on fs = weight (129 - length fs)
+
+abbrev pub waiting : List Frame → ℕ
 waiting [] = 0
-waiting (f ∷ fs) = waiting fs * many + waits_for f
+waiting (f ∷ fs) = left_behind f * weight_on fs + waiting fs + 1
 
--- with so many digits more
-unfoldable pub widened : ℕ → ℕ → ℕ
-widened zero n = n
-widened (suc k) n = widened k (n * many)
-
--- the innermost blob gets references; its digit is the last that is told, and so many may come
+-- all that is still to get, of the innermost blob and of those that wait
 abbrev pub to_do : List Frame → ℕ
-to_do [] = widened 129 many
-to_do (f ∷ fs) = widened (129 - length fs) (waiting fs * many + left_in f + 1)
+to_do [] = weight 129 * many
+to_do (f ∷ fs) = left_in f * weight_on fs + waiting fs + 1
 
 -- a load of a cell ends with a pin, one of a key with a value; and a step that ends nothing leaves less to do
 abbrev pub Leads : {N : Type 0} → Bool → List Frame → List Frame → Result (Option (LoadAnswer N)) Error → Type 0

@@ -88,6 +88,7 @@ impl Reading {
     }
 
     /// What the load needs next. The innermost blob is read from its front for it, with these values of the references that it has got, and nothing else is touched.
+    #[tactic(auto, using(crate::proofs::Needed::needing))]
     pub fn next<E: Env>(
         &self,
         env: &E,
@@ -154,6 +155,7 @@ fn unshared<N>(e: Error) -> Result<Option<N>, Error>
 }
 
 // The value of a reference that is read together with it. What its handle doesn't share isn't lent, and its reader refuses it. Refused with OutOfMemory.
+#[tactic(auto, using(crate::proofs::Lent::sharing))]
 fn value_of<E: Env, A: Access<E>>(
     access: &A,
     reference: ArcRef,

@@ -224,6 +224,7 @@ impl Reading {
     /// Makes the load's next step: one call of the access, and before that what was read of its innermost blob, with the values of its references, which are
     /// shared for it. Answers what ended the load, or None while there is more. A step that is refused gives the load up, with all that it owns. That the load
     /// is open, and is the one that this reading began with, is what the clause asks of a state that is told.
+    #[tactic(auto, using(crate::proofs::Stepped::giving_up))]
     pub fn step<E: Env, A: Access<E>>(
         &mut self,
         access: &mut A,
@@ -250,6 +251,7 @@ impl Reading {
     }
 
     // Makes the step that takes the next reference of the row, which is read later, without reading the blob.
+    #[tactic(auto, using(crate::proofs::Stepped::giving_up))]
     fn step_in_row<E: Env, A: Access<E>>(
         &mut self,
         access: &mut A,
@@ -309,6 +311,7 @@ impl Reading {
 
     /// Makes the load's steps up to its end, and answers what ended it. A load of a cell ends with a pin, one of a key with its value; either may be refused.
     /// A row of references that are read later is taken without reading its blob in between.
+    #[tactic(auto, using(crate::proofs::Driven::driving))]
     pub fn run<E: Env, A: Access<E>>(
         &mut self,
         access: &mut A,

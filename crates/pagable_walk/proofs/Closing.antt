@@ -1,35 +1,19 @@
 -- A turn at what was written is the worker's.
-use Rattle.std.proofs.{Common.{ℕ, ◌≡◌, true, List, [], ◌∷◌, length, Some, None, Result, Ok, Err, inl, refl, sym, subst, arith}, lemmas.{Bool.Decides.nat_tests, Grind.common_steps}}
-use Rattle.{std.specs.{Arc.arc_value, Prelude.Option}, pagable_model.specs.{Merkle.blob_of, declared.error.Error.Error}, pagable_loads.proofs.Stepped.{none_comes, acts_map, acts_all}}
+use Rattle.std.proofs.{Common.{ℕ, ◌≡◌, true, List, [], ◌∷◌, Some, None, Result, Ok, Err, inl, refl, sym, subst, arith}, lemmas.{Bool.Decides.nat_tests, Grind.common_steps}}
+use Rattle.{std.specs.{Arc.arc_value, Prelude.Option}, pagable_model.specs.{Merkle.blob_of, declared.error.Error.Error}, pagable_loads.proofs.Stepped.{none_comes, acts_map, acts_all, tells_all}}
 use Rattle.pagable_world.specs.{World.{Shelf, SameShelf, Todo, Values, Written, to_publish, to_release, was_refused, answer_of_fault, published}, Access.Called, Calls.{ScheduleCall, SetKeyCall}}
-use Rattle.pagable_world.specs.{Cascade.FallsAnyhow, Kinds.{identity_of, owner_worker}, Pager.{PagerState, WellFormed}, Plain.{HandleNumber, Identity}, Workers.{is_counted, is_workers_at, give}}
+use Rattle.pagable_world.specs.{Cascade.FallsAnyhow, Kinds.{identity_of, owner_worker}, Pager.{PagerState, WellFormed}, Plain.{HandleNumber, Identity}, Workers.{is_workers_at, give}}
 use Rattle.pagable_world.specs.{Workers.{with_changed_slot, with_failed, with_outcome}, declared.{handles.Owner.Owner, events.{WorkerAnswer.WorkerAnswer, Took.Took}}}
-use Rattle.pagable_walk.specs.{Ending.{Stores, IsStored, named_by, GoesBack}, Failing.{back_of, fails}, Found.keys_of, Due.{LeadsOn, due}, Slots.written_of, Tasks.{Gives, IsPlain, IsWay, fault_of}}
+use Rattle.pagable_walk.specs.{Ending.{Stores, IsStored, named_by, GoesBack}, Failing.{back_of, fails}, Found.keys_of, Slots.written_of, Tasks.{Gives, IsPlain, IsWay, fault_of}}
 use Rattle.pagable_walk.specs.{Tasks.{todos, waiting_todo, waits_as}, Turns.{TurnsTo, Turned, plan}, declared.{results.Trees.Ghosts, table.PageOutError.PageOutError, tasks.{Done.Done, Node.Node}}}
-use Rattle.pagable_walk.{specs.declared.tasks.{Task.Task, Turn.Turn, Waiting.Waiting}, proofs.{Forming.none-back, Pinning.same-shelf, Turning.{alike, plain-fits}}}
+use Rattle.pagable_walk.{specs.declared.tasks.{Task.Task, Turn.Turn, Waiting.Waiting}, proofs.{Pinning.same-shelf, Turning.{alike, plain-fits}}}
 
 -- ---- what waits and has all its results
-
-pub all-done : (node : Option Node) (written : Written) (keys : List ℕ) (below : List Todo) → IsWay (waits_as node written keys ∷ below) → length keys ≡ length written.references
-all-done None written keys below way = way.0
-all-done (Some n) written keys below way = way.0
 
 module _ {X : Type 0} {g : Ghosts X} where
   pub stored-way : (node : Option Node) (written : Written) (keys : List ℕ) (key : ℕ) (turn : Turn X g) (path : List (Waiting X g)) → IsStored node key turn → IsWay (waits_as node written keys ∷ todos path) → IsWay (plan turn path)
   stored-way None written keys key turn path is way = rw is tt
   stored-way (Some n) written keys key turn path (task, is, todo, plain) (all, up, low) = rw (is, todo) (n.place, up, low)
-
-  pub stored-leads : (node : Option Node) (written : Written) (keys : List ℕ) (key : ℕ) (turn : Turn X g) (path : List (Waiting X g)) → IsStored node key turn → LeadsOn (waits_as node written keys ∷ todos path) turn (plan turn path)
-  stored-leads None written keys key turn path is = rw is tt
-  stored-leads (Some n) written keys key turn path (task, is, todo, plain) = rw (is, todo) (omega arith)
-
-  pub failed-leads : (node : Option Node) (written : Written) (keys : List ℕ) (below after : List Todo) (task : Task X g) → due after ≡ 1 → LeadsOn (waits_as node written keys ∷ below) (Turn.Goes task) after
-  failed-leads None written keys below after task less = omega (arith, less)
-  failed-leads (Some n) written keys below after task less = omega (arith, less)
-
-counted : (node : Option Node) (written : Written) (keys : List ℕ) (below : List Todo) (i : Option Identity) (r : Result ℕ Error) → true ≡ is_counted (waits_as node written keys ∷ below) (let t : Took Written = Took.Store i r in t)
-counted None written keys below i r = refl
-counted (Some n) written keys below i r = refl
 
 module _ {X : Type 0} {g : Ghosts X} {N E : Type 0} (v : Values N) (me : Owner) (n : ℕ) (shelf : Shelf) (below : List Todo) where
   module _ (mine : me ≡ owner_worker n) (written : Written) (keys : List ℕ) (s t : PagerState N E) (was : WellFormed v s) where
@@ -41,19 +25,19 @@ module _ {X : Type 0} {g : Ghosts X} {N E : Type 0} (v : Values N) (me : Owner) 
     fails-so : (node : Option Node) → IsWay (waits_as node written keys ∷ below) → (e : Error) (task : Task X g) (after : List Todo) → IsPlain task → after ≡ fails (was_refused e) (back_of None below)
         → Stores v s (blob_of written.bytes keys) (Err e) t
         → Turned v n shelf (waits_as node written keys ∷ below) s shelf (record { took = Took.Store (named_by node) (Err e); turn = Turn.Goes task; counted = true }) after t
-    fails-so None way e task after plain is call = grind (arith, nat_tests, common_steps, same-shelf, none-back, none_comes, plain-fits)
-    fails-so (Some o) way e task after plain is call = grind (arith, nat_tests, common_steps, same-shelf, none-back, none_comes, plain-fits)
+    fails-so None way e task after plain is call = grind (arith, nat_tests, common_steps, same-shelf, none_comes, plain-fits)
+    fails-so (Some o) way e task after plain is call = grind (arith, nat_tests, common_steps, same-shelf, none_comes, plain-fits)
 
   module _ (w : Waiting X g) (way : IsWay (waiting_todo w ∷ below)) where
     pub finish-stores : (key : ℕ) (turn : Turn X g) (path : List (Waiting X g)) → todos path ≡ below → IsStored w.node key turn → (s t : PagerState N E)
         → Stores v s (blob_of (written_of (arc_value w.written)).bytes (keys_of w.children.items)) (Ok key) t
         → TurnsTo v me n shelf (Task.Finish w) below shelf (record { took = Took.Store (named_by w.node) (Ok key); turn = turn; counted = true }) (plan turn path) s t
-    finish-stores key turn path at is s t call = grind (arith, nat_tests, common_steps, stores, counted)
+    finish-stores key turn path at is s t call = grind (arith, nat_tests, common_steps, stores)
 
     pub finish-fails : (e : Error) (task : Task X g) (after : List Todo) → IsPlain task → after ≡ fails (was_refused e) (back_of None below) → (s t : PagerState N E)
         → Stores v s (blob_of (written_of (arc_value w.written)).bytes (keys_of w.children.items)) (Err e) t
         → TurnsTo v me n shelf (Task.Finish w) below shelf (record { took = Took.Store (named_by w.node) (Err e); turn = Turn.Goes task; counted = true }) after s t
-    finish-fails e task after plain is s t call = grind (arith, nat_tests, common_steps, fails-so, counted)
+    finish-fails e task after plain is s t call = grind (arith, nat_tests, common_steps, fails-so)
 
   module _ (d : Done X g) where
     pub set-goes : (through : HandleNumber) (s t : PagerState N E) → Called v (λ w'. SetKeyCall s.core me through d.found.key (Ok tt) w') s t
@@ -63,7 +47,7 @@ module _ {X : Type 0} {g : Ghosts X} {N E : Type 0} (v : Values N) (me : Owner) 
     pub set-fails : (through : HandleNumber) (e : Error) (task : Task X g) (after : List Todo) → IsPlain task → after ≡ fails (was_refused e) (back_of None below) → (s t : PagerState N E)
         → Called v (λ w'. SetKeyCall s.core me through d.found.key (Err e) w') s t
         → TurnsTo v me n shelf (Task.SetKey d through) below shelf (record { took = Took.SetKey (identity_of d.reference) (Err e); turn = Turn.Goes task; counted = true }) after s t
-    set-fails through e task after plain is s t call = grind (arith, nat_tests, common_steps, same-shelf, none-back, none_comes, plain-fits)
+    set-fails through e task after plain is s t call = grind (arith, nat_tests, common_steps, same-shelf, none_comes, plain-fits)
 
     pub publishes : (shelf' : Shelf) (i : Identity) (key height : ℕ) → i ≡ identity_of d.reference → key ≡ d.found.key → height ≡ d.found.height
         → SameShelf (with_changed_slot shelf i (with_outcome (published key height))) shelf' → (s : PagerState N E)
@@ -98,6 +82,12 @@ module _ {N E : Type 0} (v : Values N) (me : Owner) where
       → GoesBack v me back s t
   back-some back h r is s t call = subst (λ b. GoesBack v me b s t) (sym is) (record { goes = (r, call.step); moves = call.moves; whole = λ w. call.whole })
 
-pub ruleset finishing = (nat_tests, common_steps, all-done, stored-way, stored-leads, failed-leads)
+pub ruleset finishing = (nat_tests, common_steps, stored-way)
 
 pub ruleset backs = (acts_map, acts_all, back-none, back-some)
+
+pub ruleset publishing = (nat_tests, tells_all, publishes)
+
+pub ruleset releasing = (nat_tests, acts_map, release-gives, release-ends)
+
+pub ruleset failing = (nat_tests, acts_map, ends-failed)

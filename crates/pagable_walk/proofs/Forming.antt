@@ -1,5 +1,5 @@
 -- What was written is a form of the node's value.
-use Rattle.std.proofs.{Common.{ℕ, ◌≡◌, List, [], ◌∷◌, true, false, Some, None, Result, Ok, Err, inr, refl, sym, ap, subst, ◌∙◌, arith}, lemmas.{Bool.Decides.nat_tests, Grind.common_steps}}
+use Rattle.std.proofs.{Common.{ℕ, ◌≡◌, List, true, false, Some, None, Result, Ok, Err, inr, sym, ap, subst, ◌∙◌, arith}, lemmas.{Bool.Decides.nat_tests, Grind.common_steps}}
 use Rattle.{std.specs.{Arc.arc_value, Prelude.{IfOk, IfErr}, declared.{alloc.Global.Global, sync.Arc.Arc}}, pagable_core.specs.declared.context.writing.SerializedData.SerializedData}
 use Rattle.pagable_model.specs.{Refusals.is_writing_fault, declared.{error.Error.Error, numbers.{ArcRef.ArcRef, HandleNumber.HandleNumber, NodeNumber.NodeNumber}}}
 use Rattle.pagable_world.specs.{Kinds.identity_of, Pager.{PagerState, ValueCall, RefusesWriting}, Plain.type_of, Workers.{with_changed_slot, open_node}, World.{Values, Written, Shelf, Todo}}
@@ -39,10 +39,6 @@ module _ {N E : Type 0} (v : Values N) (s : PagerState N E) (r : ArcRef) (pin : 
 
 -- ---- the turn
 
-pub none-back : (below : List Todo) → back_of None below ≡ None
-none-back [] = refl
-none-back (x ∷ below) = refl
-
 module _ {X : Type 0} {g : Ghosts X} {N E : Type 0} (v : Values N) (me : Owner) (n : ℕ) (shelf shelf' : Shelf) (r : ArcRef) (place : ℕ) (through pin : HandleNumber) (below after : List Todo) (task : Task X g) (plain : IsPlain task) (s : PagerState N E) where
   is-pinned : Fits {g = g} v me n (Task.Write r place through pin) s → IsPinned v s r pin
   is-pinned f = record { whole = f.whole; kind = f.task_fits.0; pins = f.task_fits.1.pins }
@@ -54,4 +50,4 @@ module _ {X : Type 0} {g : Ghosts X} {N E : Type 0} (v : Values N) (me : Owner) 
 
   pub write-fails : (e : Error) → Forms v s r pin (Err e) → SameShelf shelf shelf' → after ≡ fails (was_refused e) (back_of None below)
       → TurnsTo v me n shelf (Task.Write r place through pin) below shelf' (record { took = Took.Write (identity_of r) (Err e); turn = Turn.Goes task; counted = true }) after s s
-  write-fails e forms same is = grind (arith, nat_tests, common_steps, is-pinned, alike, none-back, plain-fits)
+  write-fails e forms same is = grind (arith, nat_tests, common_steps, is-pinned, alike, plain-fits)

@@ -1,6 +1,6 @@
 -- The slots of a table after one of them came or changed.
-use Rattle.std.proofs.{Common.{ℕ, ◌≡◌, true≢false, Bool, true, false, cond, Option, Some, refl, sym, ap, ◌∙◌, subst, nat_eq, arith, ◌&&◌, if◌then◌else◌, inl, inr}, lemmas.Bool.Decides.nat_tests}
-use Rattle.{std.{proofs.lemmas.Grind.common_steps, specs.{Option.option_map, Prelude.{◌⊎◌, Result, Ok, Err, OnOk, OnErr}}}, indexmap.specs.IndexMap.{IndexMap, get}}
+use Rattle.std.proofs.{Common.{ℕ, ◌≡◌, Bool, true, false, cond, Option, Some, refl, sym, ap, ◌∙◌, subst, nat_eq, arith, ◌&&◌, inl, inr}, lemmas.Bool.Decides.nat_tests}
+use Rattle.{std.{proofs.lemmas.Grind.common_steps, specs.Prelude.{◌⊎◌, Result, Ok, Err, OnOk, OnErr}}, indexmap.specs.IndexMap.{IndexMap, get}}
 use Rattle.pagable_world.specs.{Plain.{Identity, SameAt, updated}, World.{Slot, is_identity}}
 use Rattle.pagable_walk.{specs.{Slots.{is_same, slot_of, IsNamed, slots_in, AreNamed, SlotIs, Changes}, declared.{results.Trees.Ghosts, slots.ArcSerSlot.ArcSerSlot}}, proofs.Waits.some-same}
 
@@ -14,32 +14,24 @@ eq-sym a b = grind (arith, nat_tests)
 pub same-as : (i j : Identity) → is_same (i.kind.0, i.node.0) (j.kind.0, j.node.0) ≡ is_identity i j
 same-as i j = ap (λ b. b && nat_eq i.node.0 j.node.0) (eq-sym i.kind.0 j.kind.0) ∙ ap (λ b. nat_eq j.kind.0 i.kind.0 && b) (eq-sym i.node.0 j.node.0)
 
-and-true : (a b : Bool) → (a && b) ≡ true → (a ≡ true) × (b ≡ true)
-and-true true b h = (refl, h)
-and-true false b h = absurd (true≢false (sym h))
-
 pub same-numbers : (i j : Identity) → i.kind.0 ≡ j.kind.0 → i.node.0 ≡ j.node.0 → i ≡ j
 same-numbers i j k n = λ p. record { kind = record { 0 = k p }; node = record { 0 = n p } }
 
 pub same-identity : (i j : Identity) → is_same (i.kind.0, i.node.0) (j.kind.0, j.node.0) ≡ true → i ≡ j
-same-identity i j h = grind (arith, nat_tests, common_steps, and-true, nat_tests, same-numbers)
+same-identity i j h = grind (arith, nat_tests, common_steps, same-numbers)
 
 -- what waits at one number, and at the others
 pub wait-is : {T : Type 0} (old new : IndexMap ℕ Identity T) (v : ℕ) (w : Option Identity) → ((q : ℕ) → get nat_eq new q ≡ cond (nat_eq v q) w (get nat_eq old q)) → SameAt (updated v w (λ q. get nat_eq old q)) (λ q. get nat_eq new q)
 wait-is old new v w h q = h q ∙ ap (λ b. cond b w (get nat_eq old q)) (eq-sym v q)
 
 module _ {E : Type 0} {g : Ghosts E} where
-  chosen : (b : Bool) (s : ArcSerSlot E g) (x : Slot) → slot_of s ≡ x → (o : Option (ArcSerSlot E g)) → option_map slot_of (cond b (Some s) o) ≡ (if b then Some x else option_map slot_of o)
-  chosen true s x e o = ap Some e
-  chosen false s x e o = refl
-
   own-chosen : (j : Identity) (b : Bool) (s : ArcSerSlot E g) (o : Option (ArcSerSlot E g)) (t : ArcSerSlot E g) → (b ≡ true → IsNamed j s) → ((x : ArcSerSlot E g) → o ≡ Some x → IsNamed j x) → cond b (Some s) o ≡ Some t → IsNamed j t
   own-chosen j true s o t f h e = subst (IsNamed j) (some-same e) (f refl)
   own-chosen j false s o t f h e = h t e
 
   module _ {S : Type 0} (old new : IndexMap (ℕ × ℕ) (ArcSerSlot E g) S) (i : Identity) (s : ArcSerSlot E g) (h : (q : ℕ × ℕ) → get is_same new q ≡ cond (is_same (i.kind.0, i.node.0) q) (Some s) (get is_same old q)) where
     pub slot-is : (x : Slot) → slot_of s ≡ x → SlotIs (slots_in old) i (Some x) (slots_in new)
-    slot-is x e j = grind (arith, nat_tests, common_steps, chosen, same-as)
+    slot-is x e j = grind (arith, nat_tests, common_steps, same-as)
 
     pub own-is : AreNamed old → ((j : Identity) → is_same (i.kind.0, i.node.0) (j.kind.0, j.node.0) ≡ true → IsNamed j s) → AreNamed new
     own-is own fresh j t there = own-chosen j (is_same (i.kind.0, i.node.0) (j.kind.0, j.node.0)) s (get is_same old (j.kind.0, j.node.0)) t (fresh j) (own j) (sym (h (j.kind.0, j.node.0)) ∙ there)

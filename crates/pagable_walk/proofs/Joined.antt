@@ -1,5 +1,6 @@
 -- Steps of a worker's walk are joined to a run.
-use Rattle.{std.proofs.Common.{ℕ, ◌≡◌, List, [], ◌∷◌, ap, subst, ◌∙◌}, pagable_world.specs.{Access.{WalkStep, worker-ends, worker-goes-on}, Pager.PagerState, World.{Shelf, Todo, Values}}}
+use Rattle.std.proofs.{Common.{ℕ, ◌≡◌, List, [], ◌∷◌, ap, subst, ◌∙◌}, lemmas.Bool.Decides.nat_tests}
+use Rattle.{pagable_loads.proofs.Stepped.{acts_all, acts_on}, pagable_world.specs.{Access.{WalkStep, worker-ends, worker-goes-on}, Pager.PagerState, World.{Shelf, Todo, Values}}}
 use Rattle.{pagable_world.specs.declared.{events.WorkerAnswer.WorkerAnswer, handles.Owner.Owner}, pagable_walk.specs.{Tasks.todo_of, Turns.{LeavesFit, StepsTo, answer_in, plain, plain_took}}}
 use Rattle.pagable_walk.specs.{declared.{tasks.{Turn.Turn, Moved.Moved, Task.Task}, results.Trees.Ghosts}, Walking.{RunsTo, HasWalked}}
 
@@ -29,3 +30,5 @@ module _ {X : Type 0} {g : Ghosts X} {N E : Type 0} (v : Values N) (me : Owner) 
           let st = step.steps (walked.fits f) in
           walked.then f answer t next_shelf (record { steps = plain_took moved.took ∷ []; run = worker-ends (todo_of now ∷ now_below) after (plain_took moved.took) answer _ _ st.does (st.answers ∙ ap answer_in ends) });
     }
+
+pub ruleset joining = (nat_tests, acts_all, acts_on, none-walked, goes-walked, ends-walked)

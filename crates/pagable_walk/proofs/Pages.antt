@@ -1,12 +1,13 @@
 -- Page-outs of an item and of the entries of the list, from the runs of their workers.
-use Rattle.std.proofs.{Common.{ℕ, ◌≡◌, ◌≤◌, ◌<◌, ◌+◌, List, ◌∷◌, length, Option, Some, None, Result, Ok, Err, inl, inr, refl, ap, subst, sym, ◌∙◌, arith}, lemmas.List.Edits.length-remove}
+use Rattle.std.proofs.{Common.{ℕ, ◌≡◌, ◌≤◌, ◌<◌, ◌+◌, List, ◌∷◌, length, Option, Some, None, Result, Ok, Err, inl, refl, ap, subst, sym, ◌∙◌, arith}, lemmas.List.Edits.length-remove}
 use Rattle.{std.{proofs.lemmas.{Option.slice_get_within, Bool.Decides.nat_tests, Grind.common_steps}, specs.List.remove}, pagable_model.specs.declared.{error.Error.Error, numbers.ArcRef.ArcRef}}
 use Rattle.{pagable_model.specs.declared.{numbers.{HandleNumber.HandleNumber, WorkerNumber.WorkerNumber}, data_key.OptionalDataKey.OptionalDataKey}, pagable_world.specs.Access.{AccessState, Called}}
-use Rattle.pagable_world.specs.Access.{WorkerStarts, WorkerRun, worker-ends, worker-goes-on, no-worker, item-is-walked, EntryHas, EntryRun, entry-is-refused, no-entry-worker, entry-is-walked, ListRun}
+use Rattle.pagable_world.specs.Access.{WorkerStarts, WorkerRun, worker-ends, worker-goes-on, no-worker, item-is-walked, EntryHas, entry-is-refused, no-entry-worker, entry-is-walked, ListRun}
 use Rattle.pagable_world.specs.{Access.{no-more, skips, pages, fails}, Calls.{ReleaseCall, TakeCall}, Events.{entry_task, no_shelf}, Kinds.{identity_of, owner_worker}, Pager.{PagerState, WellFormed}}
 use Rattle.pagable_world.specs.{Workers.first_todo, World.{Shelf, SameShelf, Todo, of_entry, of_item, Values, Written, Seen, Alike}, declared.events.{Took.Took, WorkerAnswer.WorkerAnswer}}
 use Rattle.{pagable_world.specs.declared.handles.Owner.Owner, pagable_laws.proofs.SparingSteps.{walk-spares-list, release-spares-list}}
 use Rattle.pagable_laws.proofs.SparingSteps.{none-shorter, Spares, spares-then}
+use Rattle.pagable_loads.proofs.Stepped.{acts_all, acts_from, acts_map, acts_same, acts_then, tells_map}
 use Rattle.{pagable_loads.specs.{Telling.{Acting, as_caller}, Working.{StartsEntry, RefusesEntry}}, pagable_walk.proofs.{Pinning.same-shelf, Turning.{alike, plain-fits}}}
 use Rattle.{pagable_laws.proofs.Answered.{item-answered, entry-answered}, pagable_walk.specs.{Over.{failure_of, PagesItem, PagesList, PagesEntry, Skipped, SkipsEntry, PagesAt, HasPaged}, Slots.no_claims, Tasks.IsPlain}}
 use Rattle.pagable_walk.specs.{Tasks.todo_of, Turns.{Fits, plain}, Walking.{RunsTo, Walked}, declared.{results.Trees.Ghosts, table.PageOutError.PageOutError, tasks.Task.Task}}
@@ -55,20 +56,7 @@ module _ {N E : Type 0} (v : Values N) where
   entries-stay place s mid t within is longer = grind (arith, nat_tests, common_steps, length-remove)
 
   pub entry-refused : (place : ℕ) (e : Error) (s t : PagerState N E) → RefusesEntry v s place e t → PagesEntry v place (WorkerAnswer.Failed e) s t
-  entry-refused place e s t r = record {
-    pages = λ whole listed. record {
-      run = elim r.why [
-        | inl past ↦ absurd (omega (arith, listed, past.1))
-        | inr other ↦ elim other [
-          | inl kind ↦ subst (λ x. EntryRun (plain v) s place (WorkerAnswer.Failed x) t) (sym kind.0) (entry-is-refused kind.1.0 kind.1.1 kind.1.2 t kind.1.3 kind.1.4 r.stays)
-          | inr is ↦ subst (λ x. EntryRun (plain v) s place (WorkerAnswer.Failed x) t) (sym is) (no-entry-worker t r.stays)
-        ]
-      ];
-      whole = r.stays.whole;
-      long = let same = ap (λ (xs : List HandleNumber). length xs) r.stays.step.list in omega (arith, listed, same);
-      unfailed = λ is. absurd (cc);
-    };
-  }
+  entry-refused place e s t r = grind (arith, nat_tests, common_steps, entry-is-refused, no-entry-worker)
 
   pub entry-walked : {X : Type 0} {g : Ghosts X} (place : ℕ) (me : Owner) (n : WorkerNumber) (r : ArcRef) (shelf : Shelf) (task : Task X g) (below : List Todo) (shelf' : Shelf) (answer : WorkerAnswer) → me ≡ owner_worker n.0
       → IsPlain task → todo_of task ∷ below ≡ first_todo (of_entry r.handle (identity_of r)) → SameShelf no_claims shelf → (s mid t : PagerState N E) → StartsEntry v s place n r mid
@@ -152,3 +140,9 @@ module _ {N E : Type 0} (v : Values N) where
 
   pub all-paged : (left : ℕ) → left ≡ 0 → (s t : PagerState N E) → HasPaged v left s t → PagesList v (Ok tt) s t
   all-paged left none s t paged = record { over = λ whole. paged.then whole (Ok tt) t (subst (λ i. ListRun (plain v) i t (Ok tt) t) (sym none) (no-more t)) }
+
+pub ruleset items = (nat_tests, acts_all, acts_map, item-unstarted, item-unbegun)
+
+pub ruleset places = (nat_tests, tells_map, acts_same, acts_from, at-past, at-paged, at-failed, at-other)
+
+pub ruleset listed = (nat_tests, acts_map, acts_then, tells_map, acts_same, none-paged, more-paged, ends-paged, all-paged)

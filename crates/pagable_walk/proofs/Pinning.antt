@@ -1,11 +1,11 @@
 -- A turn that pins what was claimed, or loads it, is the worker's.
-use Rattle.std.proofs.{Common.{ℕ, ◌≡◌, ◌+◌, ◌==◌, Bool, true, false, List, [], ◌∷◌, Some, None, Ok, Err, inl, inr, refl, sym, ap, subst, ◌∙◌, arith}, lemmas.Bool.Decides.nat_tests}
+use Rattle.std.proofs.{Common.{ℕ, ◌≡◌, ◌+◌, ◌==◌, Bool, true, false, List, ◌∷◌, Some, None, Ok, Err, inl, inr, refl, sym, ap, subst, ◌∙◌, arith}, lemmas.Bool.Decides.nat_tests}
 use Rattle.{std.{proofs.lemmas.Grind.common_steps, specs.Prelude.{Option, if◌then◌else◌, not, ◌&&◌}}, pagable_model.specs.declared.error.Error.Error}
 use Rattle.pagable_world.specs.{Plain.{ArcRef, HandleNumber, LoadNumber, NodeNumber, type_of, if_there}, Kinds.{identity_of, is_loose, is_pinning, owner_worker, owner_value, find_row, is_handle}}
 use Rattle.pagable_world.specs.World.{Core, Cell, Shelf, SameShelf, Todo, to_pin, to_load, to_write, Frame, OpenLoad, Reading, Root, of_cell, of_key, Values, was_refused, type_at, one_more}
 use Rattle.pagable_world.specs.{Calls.{with_handle, with_mode, moved, is_named_by, CloneCall, PinCall}, Access.{Called, ReadingStep}, Cascade.FallsAnyhow, LoadCalls.{with_pin, without_load}}
-use Rattle.pagable_world.specs.{LoadCalls.is_owned_in, Loads.{EndsPinned, IsOfKey, gone_on}, Pager.{PagerState, HandlesAreWhole, Moves, TodoBrings, TookWrites, WellFormed}, Workers.PinsAtOnce}
-use Rattle.pagable_world.specs.{Workers.{RowIs, answer_after, fresh, entry_left, Does}, declared.{events.{LoadAnswer.LoadAnswer, Took.Took, PinStep.PinStep}, handles.HandleRow.HandleRow}}
+use Rattle.pagable_world.specs.{LoadCalls.is_owned_in, Loads.{EndsPinned, gone_on}, Pager.{PagerState, HandlesAreWhole, Moves, TodoBrings, TookWrites, WellFormed}, Workers.PinsAtOnce}
+use Rattle.pagable_world.specs.{Workers.{RowIs, answer_after, fresh, Does}, declared.{events.{LoadAnswer.LoadAnswer, Took.Took, PinStep.PinStep}, handles.HandleRow.HandleRow}}
 use Rattle.{pagable_world.specs.declared.{handles.Owner.Owner, answers.Pinning.Pinning, rows.Mode.Mode}, pagable_loads.specs.declared.{reading.Reading.Reading as Own, working.Taken.Taken}}
 use Rattle.pagable_loads.{proofs.{Stepped.none_comes, Driven.goes_open}, specs.{Frames.{IsLoadOf, frames_of, reading_of}, Stepping.{IsSameLoad, Steps}, Working.{TakesReference, BeginsAt}}}
 use Rattle.pagable_laws.{specs.{KeyRuns.StandsAt, TreeSteps.Change}, proofs.{Outlasting.{AreLow, low-whole, low-changed, low-handle, new-handle, NotValues, Stands}, Goes.Goes, Naming.clone-stands}}
@@ -122,20 +122,8 @@ module _ (w w' : Core) (n : ℕ) (r : ArcRef) (whole : HandlesAreWhole w) where
 
 -- ---- the turns
 
-no-key : (root : Root) (node : NodeNumber) (t : ℕ) (h : HandleNumber) → root ≡ of_cell node t h → IsOfKey root → ⊥
-no-key (of_cell m u k) node t h is key = key
-no-key of_key node t h is key = absurd (cc)
-
 pub same-shelf : (shelf : Shelf) → SameShelf shelf shelf
 same-shelf shelf = record { slots = λ i. refl; waits = λ q. refl }
-
-pub pin-back : (r : ArcRef) (place : ℕ) (below : List Todo) → back_of (Some r.handle) below ≡ entry_left (to_pin r place ∷ below)
-pin-back r place [] = refl
-pin-back r place (x ∷ below) = refl
-
-pub load-back : (r : ArcRef) (place : ℕ) (through : HandleNumber) (reading : Reading) (below : List Todo) → back_of (Some r.handle) below ≡ entry_left (to_load r place through reading ∷ below)
-load-back r place through reading [] = refl
-load-back r place through reading (x ∷ below) = refl
 
 -- a step of the worker that leaves the table, from what it does
 module _ {X : Type 0} {g : Ghosts X} {N E : Type 0} (v : Values N) (n : ℕ) (shelf : Shelf) (todo : List Todo) (moved : Moved X g) (after : List Todo) (s t : PagerState N E) where
@@ -170,7 +158,7 @@ module _ {X : Type 0} {g : Ghosts X} {N E : Type 0} (v : Values N) (me : Owner) 
   pub pin-fails : (e : Error) (task : Task X g) (after : List Todo) → IsPlain task → after ≡ fails (was_refused e) (back_of (Some r.handle) below) → (s t : PagerState N E)
       → Called v (λ w'. TakesReference s.core me r (Err e) w') s t
       → TurnsTo v me n shelf (Task.Pin r place) below shelf (record { took = Took.Pin (identity_of r) (Err e); turn = Turn.Goes task; counted = true }) after s t
-  pin-fails e task after plain-task is s t call = grind (arith, nat_tests, common_steps, same-shelf, pin-back, none_comes, plain-fits)
+  pin-fails e task after plain-task is s t call = grind (arith, nat_tests, common_steps, same-shelf, none_comes, plain-fits)
 
   module _ (through : HandleNumber) (own : Own) where
     stepped : {s t : PagerState N E} {answer : Option (LoadAnswer N)} {frames : List Frame} → Fits {g = g} v me n (Task.Load r place through own) s → Steps v me own s answer frames t
@@ -214,9 +202,9 @@ module _ {X : Type 0} {g : Ghosts X} {N E : Type 0} (v : Values N) (me : Owner) 
     pub load-fails : (e : Error) (frames : List Frame) (task : Task X g) (after : List Todo) → IsPlain task → after ≡ fails (was_refused e) (back_of (Some r.handle) below)
         → (s t : PagerState N E) → Steps v me own s (Some (LoadAnswer.Refused e)) frames t
         → TurnsTo v me n shelf (Task.Load r place through own) below shelf (record { took = Took.Pin (identity_of r) (Err e); turn = Turn.Goes task; counted = false }) after s t
-    load-fails e frames task after plain-task is s t call = grind (arith, nat_tests, common_steps, stepped, same-shelf, load-back, plain-fits)
+    load-fails e frames task after plain-task is s t call = grind (arith, nat_tests, common_steps, stepped, same-shelf, plain-fits)
 
     -- a load of a cell reads out nothing
     pub load-reads-none : (x : N) (frames : List Frame) (moved : Moved X g) (after : List Todo) → moved.counted ≡ false → (s t : PagerState N E) → Steps v me own s (Some (LoadAnswer.Read x)) frames t
         → TurnsTo v me n shelf (Task.Load r place through own) below shelf moved after s t
-    load-reads-none x frames moved after uncounted s t call = grind (arith, nat_tests, common_steps, stepped, same_some, no-key)
+    load-reads-none x frames moved after uncounted s t call = grind (arith, nat_tests, common_steps, stepped, same_some)

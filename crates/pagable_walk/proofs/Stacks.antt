@@ -1,8 +1,8 @@
 -- What a worker has to do, after a reference was done.
 use Rattle.std.proofs.{Common.{ℕ, ◌≡◌, ◌≤◌, ◌<◌, ◌+◌, List, [], ◌∷◌, ◌++◌, length, drop, take, map, get_or, refl, sym, ap, subst, ◌∙◌, arith, Some, slice_get}, lemmas.Bool.Decides.nat_tests}
 use Rattle.std.proofs.lemmas.{Grind.common_steps, List.{at_drop_more, at_drop_all, take_more, length-append, length-map, map-append}, Option.{get_or_from_slice_get, slice_get_within}}
-use Rattle.{std.specs.Prelude.{None, max}, pagable_model.specs.declared.numbers.{ArcRef.ArcRef, HandleNumber.HandleNumber}, pagable_world.specs.{Kinds.identity_of, Plain.{above, longest_path}}}
-use Rattle.{pagable_world.specs.{Workers.{place_below, next_start, settle, give}, World.{Todo, Written, to_start}}, pagable_walk.specs.{Due.rank, Failing.back_of, Found.ids_of}, std.proofs.lemmas.Option.none-some}
+use Rattle.{std.specs.Prelude.{None, max}, pagable_model.specs.declared.numbers.{ArcRef.ArcRef, HandleNumber.HandleNumber}, pagable_world.specs.{Kinds.identity_of, Plain.above}}
+use Rattle.{pagable_world.specs.{Workers.{place_below, next_start, settle, give}, World.{Todo, Written, to_start}}, pagable_walk.specs.{Failing.back_of, Found.ids_of}, std.proofs.lemmas.Option.none-some}
 use Rattle.pagable_walk.specs.{Tasks.{place_of, raised, waiting_todo, waits_as, todos_onto, todos}, declared.{results.{SlotResult.SlotResult, Trees.Ghosts}, tasks.{Node.Node, Waiting.Waiting}}}
 use Rattle.{std.specs.Prelude.Option, pagable_walk.proofs.{Waits.some-same, Ways.item-way}}
 
@@ -63,14 +63,6 @@ pub give-is : (node : Option Node) (written : Written) (keys : List ℕ) (below 
 give-is None written keys below r key height = refl
 give-is (Some n) written keys below r key height = refl
 
-pub rank-waits : (node : Option Node) (written : Written) (keys : List ℕ) → rank (waits_as node written keys) ≡ 6
-rank-waits None written keys = refl
-rank-waits (Some n) written keys = refl
-
-pub place-low : (node : Option Node) → ((n : Node) → node ≡ Some n → n.place + n.height ≤ longest_path) → place_of node ≤ longest_path
-place-low None near = omega arith
-place-low (Some n) near = let low = near n refl in omega (arith, low)
-
 -- what holds of a node with the height by a reference too
 pub raised-has : (Q : Node → Type 0) (kind height : ℕ) (node : Option Node) → ((m : Node) → node ≡ Some m → Q (record m { height = max m.height (above kind height) }))
     → (n : Node) → raised kind height node ≡ Some n → Q n
@@ -94,6 +86,6 @@ module _ (node : Option Node) (written : Written) (keys : List ℕ) (below : Lis
 -- what a path with nothing on it, and one with one more, is as plain data
 pub ruleset paths = (nat_tests, todos-none, todos-more, back-none, item-way)
 
-pub ruleset settling = (nat_tests, common_steps, todos-more, settled-all, settled-next, rank-waits, place-low, length-map)
+pub ruleset settling = (nat_tests, common_steps, todos-more, settled-all, settled-next, length-map)
 
 pub ruleset giving = (nat_tests, common_steps, todos-more, todos-none, raised-has, length-map, map-append, slice_get_within)

@@ -1,6 +1,6 @@
 -- A claim of a table is a worker's claim, and a turn of the worker.
-use Rattle.std.{proofs.{Common.{ℕ, ◌≡◌, true, List, [], ◌∷◌, Some, None, ◌⊎◌, inl, inr, refl, sym, subst, arith}, lemmas.{Bool.Decides.nat_tests, Grind.common_steps}}, specs.Prelude.{Result, Ok, Err}}
-use Rattle.{std.specs.Prelude.IfOk, pagable_model.specs.declared.numbers.ArcRef.ArcRef, pagable_world.specs.Workers.{Site, claim_fault, entry_left, is_counted_claim, Claims, Finds, Turns, IsTooDeep}}
+use Rattle.std.{proofs.{Common.{ℕ, ◌≡◌, true, List, ◌∷◌, Some, None, ◌⊎◌, inl, inr, refl, sym, subst, arith}, lemmas.{Bool.Decides.nat_tests, Grind.common_steps}}, specs.Prelude.{Result, Ok, Err}}
+use Rattle.{std.specs.Prelude.IfOk, pagable_model.specs.declared.numbers.ArcRef.ArcRef, pagable_world.specs.Workers.{Site, claim_fault, is_counted_claim, Claims, Finds, Turns, IsTooDeep}}
 use Rattle.pagable_world.specs.{Workers.with_wait, Kinds.identity_of, Pager.{PagerState, HandlesAreWhole}, Plain.Error, World.{Core, Shelf, Todo, to_start, SameShelf, Alike, Values, was_refused}}
 use Rattle.{pagable_world.specs.declared.{events.{Claim.Claim, Took.Took}, handles.Owner.Owner}, pagable_laws.proofs.{Naming.{may-claim, claimed-stands}, Trees.same_some}}
 use Rattle.pagable_walk.specs.{Failing.{back_of, fails}, Slots.{Would, claimed_shelf, RefusesClaim, ClaimsThere}, Table.{found_as, IsFoundOf}, Tasks.IsPlain, Turns.{site, claim_todo, ClaimFits}}
@@ -37,10 +37,6 @@ module _ (core : Core) (v : ℕ) (s s' : Shelf) (r : ArcRef) (place : ℕ) (belo
 kind-claimed : (w : Core) (r : ArcRef) → HandlesAreWhole w → claim_fault w r ≡ None → IsOfKind w r
 kind-claimed w r whole may = grind (arith, nat_tests, common_steps, may-claim, claimed-stands, same_some)
 
-start-back : (r : ArcRef) (place : ℕ) (below : List Todo) → back_of (Some r.handle) below ≡ entry_left (to_start r place ∷ below)
-start-back r place [] = refl
-start-back r place (x ∷ below) = refl
-
 module _ {X : Type 0} {g : Ghosts X} where
   pub claim-fits : (v : ℕ) (s s' : Shelf) (r : ArcRef) (place : ℕ) (claim : Result (Found X g) Error) → ClaimsThere v s (identity_of r) place (found_as claim) s'
       → IfOk claim (IsFoundOf (identity_of r)) → ClaimFits r place claim
@@ -71,6 +67,6 @@ module _ {X : Type 0} {g : Ghosts X} where
   pub start-refused : {N E : Type 0} (v : Values N) (me : Owner) (n : ℕ) (shelf shelf' : Shelf) (r : ArcRef) (place : ℕ) (below after : List Todo) (task : Task X g) → after ≡ fails (was_refused Error.OutOfMemory) (back_of (Some r.handle) below)
       → IsPlain task → SameShelf (with_wait shelf n None) shelf' → (s : PagerState N E)
       → TurnsTo v me n shelf (Task.Start r place) below shelf' (record { took = Took.Claim (identity_of r) (Err Error.OutOfMemory); turn = Turn.Goes task; counted = true }) after s s
-  start-refused v me n shelf shelf' r place below after task is plain same s = grind (arith, nat_tests, common_steps, start-turns, start-back, finds, alike)
+  start-refused v me n shelf shelf' r place below after task is plain same s = grind (arith, nat_tests, common_steps, start-turns, finds, alike)
 
 pub ruleset claiming = (nat_tests, common_steps, claims-there, refuses, claim-fits)

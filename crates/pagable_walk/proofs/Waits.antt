@@ -47,21 +47,13 @@ path-then : {s : Shelf} {u w : ℕ} → Path s u w → (t : ℕ) → WaitsFor s 
 path-then (path-one u w e) t h = path-more u w t e (path-one w t h)
 path-then (path-more u x w e p) t h = path-more u x t e (path-then p t h)
 
-record First (s : Shelf) (u t : ℕ) : Type 0 where
-  pub w : ℕ
-  pub step : WaitsFor s u w
-  pub rest : (w ≡ t) ⊎ Path s w t
-
-first : {s : Shelf} {u t : ℕ} → Path s u t → First s u t
-first (path-one u w e) = record { w = w; step = e; rest = inl refl }
-first (path-more u w t e p) = record { w = w; step = e; rest = inr p }
-
-around : (s : Shelf) (u t w : ℕ) → WaitsFor s u w → t ≡ u → (w ≡ t) ⊎ Path s w t → Path s w w
-around s u t w e q (inl r) = path-one w w (subst (λ x. WaitsFor s x w) (sym (r ∙ q)) e)
-around s u t w e q (inr p) = path-then p w (subst (λ x. WaitsFor s x w) (sym q) e)
+-- a ring, seen from its next worker
+turned : {s : Shelf} {u t : ℕ} → Path s u t → t ≡ u → (w : ℕ) × WaitsFor s u w × Path s w w
+turned {s} (path-one u w e) q = (w, e, path-one w w (subst (λ x. WaitsFor s x w) (sym q) e))
+turned {s} (path-more u w t e p) q = (w, e, path-then p w (subst (λ x. WaitsFor s x w) (sym q) e))
 
 no-ring : {s : Shelf} {u : ℕ} → Ends s u → (t : ℕ) → Path s u t → t ≡ u → ⊥
-no-ring {s} (ends-at u f) t p q = let x = first p in no-ring (f x.w x.step) x.w (around s u t x.w x.step q x.rest) refl
+no-ring (ends-at u f) t p q = let x = turned p q in no-ring (f x.0 x.1) x.0 x.2 refl
 
 pub no-ring-at : (s : Shelf) (u : ℕ) → ∥ Ends s u ∥₁ → Path s u u → ⊥
 no-ring-at s u ends p = ∥∥₁_elim ends (λ a b. absurd a) (λ e. no-ring e u p refl)

@@ -144,6 +144,7 @@ where
 }
 
 /// Puts a result where others see it.
+#[tactic(auto, using(crate::proofs::Closing::publishing))]
 pub fn publish<E: Env, A: WorkerAccess<E>>(
     _access: &A,
     table: &mut SlotTable<E>,
@@ -163,7 +164,7 @@ where
 }
 
 /// Gives up the worker's handles of a node that is done. Its result goes to what waits for it; where nothing does, its key is answered.
-#[tactic(auto, using(crate::proofs::Ways::ways))]
+#[tactic(auto, using(crate::proofs::Closing::releasing, crate::proofs::Ways::ways))]
 pub fn release<E: Env, A: WorkerAccess<E>>(
     access: &mut A,
     worker: WorkerNumber,
@@ -217,6 +218,7 @@ fn answer(why: PageOutError) -> WorkerAnswer
 }
 
 /// Ends a failed walk: its claims without a result are failed, and its entry goes back to the list.
+#[tactic(auto, using(crate::proofs::Closing::failing))]
 pub fn end<E: Env, A: WorkerAccess<E>>(
     access: &mut A,
     table: &mut SlotTable<E>,

@@ -28,6 +28,7 @@ fn told(answer: WorkerAnswer) -> Result<DataKey, PageOutError>
 
 /// Pages an item out on a table, by a worker of its own, up to the worker's answer: the item's key, or why it fails. The access is the caller's, before and
 /// after. A failure leaves what was stored and set so far, and no claim without a result.
+#[tactic(auto, using(crate::proofs::Pages::items))]
 pub fn page_out_item_over<E: Env, A: WorkerAccess<E>>(
     access: &mut A,
     alloc: Global,
@@ -83,6 +84,7 @@ where
 }
 
 // Pages out the entry at a place of the list, or releases it where its cell has a key.
+#[tactic(auto, using(crate::proofs::Pages::places))]
 fn page_out_at<E: Env, A: WorkerAccess<E>>(
     access: &mut A,
     alloc: Global,
@@ -109,6 +111,7 @@ where
 
 /// Pages out the entries that stand in the list at the call, from the last to the first, each on a table of its own, up to the first failure, which is answered. What is
 /// listed meanwhile stays. An entry whose cell has a key is only released. The access is the caller's, before and after.
+#[tactic(auto, using(crate::proofs::Pages::listed))]
 pub fn page_out_pending_over<E: Env, A: WorkerAccess<E>>(
     access: &mut A,
     alloc: Global,

@@ -278,6 +278,7 @@ impl<E: Trees> SlotTable<E> {
 
     /// A worker claims an identity at this place on a path, or learns what is known there. It waits only for a worker that doesn't come to wait for it. Refused with TooDeep where the path is too
     /// long, also with the height that is known there, or where workers would wait in a ring; and with OutOfMemory. No claim is made then, and the worker waits for nothing.
+    #[tactic(auto, using(crate::proofs::Claims::claims))]
     pub fn try_claim(
         &mut self,
         worker: WorkerNumber,

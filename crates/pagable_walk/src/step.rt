@@ -140,6 +140,7 @@ where
 
 /// Makes a worker's steps from its task and its path on, up to its answer. It waits for no other worker, and makes no more claims than there are numbers: a claim that would
 /// have to wait, or that is one too many, is refused as one for which memory is wanting.
+#[tactic(auto, using(crate::proofs::Joined::joining))]
 pub fn run<E: Env, A: WorkerAccess<E>>(
     access: &mut A,
     alloc: Global,

@@ -1,5 +1,5 @@
-use Rattle.{std.{specs.Arc.arc_value, proofs.Common.{refl, []}}, pagable_core.specs.Data.blob_of, pagable_world.specs.Loads.nested_frame, pagable_loads.specs.Frames.{frame_of, onto}}
-use Rattle.pagable_loads.proofs.{Stepped.{acts_map, nested_known, nested_blob, nested_deep, nested_refused}, Lowering.{got_leads, blob_leads, nested_wants}, Needed.below_short}
+use Rattle.{std.{specs.Arc.arc_value, proofs.Common.{refl, [], inl}}, pagable_core.specs.Data.blob_of, pagable_world.specs.Loads.nested_frame, pagable_loads.specs.Frames.{frame_of, onto}}
+use Rattle.pagable_loads.proofs.{Stepped.{acts_map, nested_known, nested_blob, nested_deep, nested_refused}, Lowering.{got_leads, blob_leads, wants}, Needed.below_short}
 use Rattle.pagable_loads.proofs.reading.Reading.step_nested.Goals as goal
 
 pub returns-in-Ok-Left-clause-acts : goal.returns-in-Ok-Left-clause-acts
@@ -20,9 +20,11 @@ returns-in-Err-clause-acts g c =
 
 pub returns-in-Ok-Left-clause-leads : goal.returns-in-Ok-Left-clause-leads
 returns-in-Ok-Left-clause-leads g c = got_leads (frame_of c.in_ok-top.top) (onto [] c.take_top.new.self.below.items) c.in-Ok-Left.reference
-    (nested_wants _ _ (frame_of c.in_ok-top.top) (onto [] c.take_top.new.self.below.items) c.in_ok-top.ensures.ok.frames c.args.kind c.args.key c.requires.need) c.in_ok-top.ensures.ok.frames c.put_got.ensures.gets.frames
+    (wants _ _ (frame_of c.in_ok-top.top) (onto [] c.take_top.new.self.below.items) c.args.kind c.args.key c.in_ok-top.ensures.ok.frames (inl c.requires.need))
+    c.in_ok-top.ensures.ok.frames c.put_got.ensures.gets.frames
 
 pub returns-in-Ok-clause-leads : goal.returns-in-Ok-clause-leads
 returns-in-Ok-clause-leads g c =
     blob_leads (nested_frame c.args.kind c.args.key (blob_of (arc_value c.in-Ok-Right.blob))) (frame_of c.in_ok-top.top) (onto [] c.take_top.new.self.below.items) refl c.in-Ok.ensures.few (below_short _ c.in-Ok.ensures.short)
-    (nested_wants _ _ (frame_of c.in_ok-top.top) (onto [] c.take_top.new.self.below.items) c.in_ok-top.ensures.ok.frames c.args.kind c.args.key c.requires.need) c.in_ok-top.ensures.ok.frames c.in-Ok.ensures.ok
+    (wants _ _ (frame_of c.in_ok-top.top) (onto [] c.take_top.new.self.below.items) c.args.kind c.args.key c.in_ok-top.ensures.ok.frames (inl c.requires.need))
+    c.in_ok-top.ensures.ok.frames c.in-Ok.ensures.ok
