@@ -1,5 +1,6 @@
 -- What trees feel of a step: which node gets a key, becomes known or is born, which values come, and how blobs that loads read grow.
-use Rattle.{std.specs.Prelude.{ℕ, ◌≡◌, ◌<◌, ◌≤◌, ◌+◌, ◌⊎◌, true, false, List, [], ◌∷◌, Option, Some, None, is_some, Ok}, pagable_world.specs.Plain.{OptionalDataKey, ArcRef, Kind, HandleNumber}}
+use Rattle.std.specs.Prelude.{ℕ, ◌≡◌, ◌<◌, ◌≤◌, ◌+◌, ◌⊎◌, true, false, List, [], ◌∷◌, Option, Some, None, is_some, Ok}
+use Rattle.pagable_world.specs.Plain.{OptionalDataKey, ArcRef, Kind, HandleNumber}
 use Rattle.pagable_world.specs.{Plain.{LoadNumber, NodeNumber, WorkerNumber, Identity, Blob, Tree, ReadsTree, type_of, Among}, declared.{answers.Pinning.Pinning, events.{PinStep.PinStep, Took.Took}}}
 use Rattle.pagable_world.specs.declared.{handles.{Owner.Owner, HandleRow.HandleRow}, calls.{Call.Call, Reply.Reply}, events.{LoadAnswer.LoadAnswer, Event.Event, EventReply.EventReply}}
 use Rattle.pagable_world.specs.{Kinds.{is_pinning, is_loose, any_mode, fits_mode, owner_worker, find_row}, World.{Core, Cell, OpenLoad, of_cell, Frame, Reading, Todo, to_load, to_set, Walking, World}}
