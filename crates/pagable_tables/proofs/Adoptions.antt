@@ -42,7 +42,7 @@ module _ (w : Core) (me : Owner) (l : LoadNumber) (load : OpenLoad) (kind : Kind
       fresh = lazy-cause ∙ ap (λ b. if b then spent w.last.handle else birth_fault w) (ap is_some none)
 
       pub lazy-not-new : {e : Error} {w' : Core} → Refused (birth_fault w) (birth_fault w) (Unit {0}) w e w' → LazyCall w me l kind key (Err e) w'
-      lazy-not-new r = record { makes = tt; refused = record { why = elim r.why [ inl a ↦ inl (fresh ∙ a) | inr b ↦ inr (b.0, fresh ∙ b.1, inl none) ]; stays = r.stays } }
+      lazy-not-new r = grind (arith, nat_tests, fresh)
 
       pub lazy-new : (k : HandleNumber) {w' : Core} → w.last.node < greatest → IsNext k w → Alike (adopted w l kind key (OptionalDataKey.Some key) []) w' → LazyCall w me l kind key (Ok k) w'
       lazy-new k node_left next made = record { makes = (load, own, loose, inr (none, node_left, next, made)); refused = tt }

@@ -182,13 +182,7 @@ module _ (t t1 : Tables) (stored : ℕ → Option Blob) (closed lists : Bool) (f
     owned-pinned q = loaded-beside l q mid x unloaded ∙ owned-mode (Owner.Load l) q (is_handle h.0) Mode.LoosePinned rows0 ∙ owned-moved s o (Owner.Load l) q w.rows refl
 
     spared-pin : given (t.holdings.last_handle + 1) ≡ false
-    spared-pin = by (given (t.holdings.last_handle + 1)) refl
-      where
-        by : (b : Bool) → given (t.holdings.last_handle + 1) ≡ b → b ≡ false
-        by false eq = refl
-        by true eq =
-            let own = and-left (is_owned_in w (Owner.Load l) (t.holdings.last_handle + 1)) (not (s (t.holdings.last_handle + 1))) eq in
-            absurd (let g = owned-given (plain_of t) (Owner.Load l) (t.holdings.last_handle + 1) was.core.handles own in omega arith)
+    spared-pin = grind (arith, nat_tests, and-left, owned-given (plain_of t) (Owner.Load l) (t.holdings.last_handle + 1) was.core.handles)
 
     ordered : AllPairs IsHandleBefore u.rows
     ordered = grind (arith, nat_tests, come, ordered-map)

@@ -40,14 +40,10 @@ unfolding is_named_by
 named-drop rs i d q lt = rw (add-one, drop-cons rs i d) refl
 
 pub named-here : (rs : List ArcRef) (i : ℕ) (d : ArcRef) (q : ℕ) → i < length rs → (get_or rs i d).handle.0 ≡ q → is_named_by (drop i rs) q ≡ true
-named-here rs i d q lt is =
-    let a : ((get_or rs i d).handle.0 == q) ≡ true = grind (arith, nat_tests) in
-    named-drop rs i d q lt ∙ ap (λ b. b || is_named_by (drop (i + 1) rs) q) a
+named-here rs i d q lt is = grind (arith, nat_tests, named-drop rs i d q lt)
 
 pub named-past : (rs : List ArcRef) (i : ℕ) (d : ArcRef) (q : ℕ) → i < length rs → (get_or rs i d).handle.0 ≢ q → is_named_by (drop i rs) q ≡ is_named_by (drop (i + 1) rs) q
-named-past rs i d q lt other =
-    let a : ((get_or rs i d).handle.0 == q) ≡ false = grind (arith, nat_tests) in
-    named-drop rs i d q lt ∙ ap (λ b. b || is_named_by (drop (i + 1) rs) q) a
+named-past rs i d q lt other = grind (arith, nat_tests, named-drop rs i d q lt)
 
 pub named-end : (rs : List ArcRef) (i q : ℕ) → length rs ≤ i → is_named_by (drop i rs) q ≡ false
 unfolding is_named_by
@@ -57,9 +53,7 @@ pub named-take : (rs : List ArcRef) (i : ℕ) (d : ArcRef) (q : ℕ) → i < len
 named-take rs i d q lt = ap (λ l. is_named_by l q) (ap (λ n. take n rs) (add-one i) ∙ take-suc rs i d lt) ∙ named-push (take i rs) (get_or rs i d) q
 
 pub above-named : (rs : List ArcRef) (i : ℕ) (d : ArcRef) (q : ℕ) → (get_or rs i d).handle.0 < q → i < length rs → is_named_by (take i rs) q ≡ false → is_named_by (take (i + 1) rs) q ≡ false
-above-named rs i d q less lt before =
-    let a : ((get_or rs i d).handle.0 == q) ≡ false = grind (arith, nat_tests) in
-    named-take rs i d q lt ∙ ap (λ b. b || is_named_by (take i rs) q) a ∙ before
+above-named rs i d q less lt before = grind (arith, nat_tests, named-take rs i d q lt)
 
 pub seen-more : (seen : List ℕ) (rs : List ArcRef) (i : ℕ) (d : ArcRef) → i < length rs → ((q : ℕ) → is_in seen q ≡ is_named_by (take i rs) q) → (q : ℕ) → is_in ((get_or rs i d).handle.0 ∷ seen) q ≡ is_named_by (take (i + 1) rs) q
 unfolding is_in

@@ -123,8 +123,7 @@ module _ (before w : Core) (given : ℕ → Bool) (lists : Bool) (t : Holdings) 
   refusal-to x0 r = grind (arith, nat_tests)
 
   tells-to : (r : Result (Unit {0}) Error) → TellsListing before w entries r (with_tables w new) → TellsListing before now entries r (with_tables now new)
-  tells-to (Ok u) tells = record { all = λ n m. tells.all n (must-from n m); not_all = tt }
-  tells-to (Err e) tells = record { all = tt; not_all = let a = tells.not_all in (a.0, must-to a.0 a.1, a.2, refusal-to e a.3) }
+  tells-to x0 tells = grind (arith, nat_tests, must-from, must-to, refusal-to)
 
   pub entered-on : (given' gone : ℕ → Bool) → Begins before now lists → live gap.handles.places.items ≡ left_rows gone rows ++ f.entries
       → filter (λ (q : HandleNumber). not (gone q.0)) w.list ≡ filter (λ (q : HandleNumber). not (f.gone q.0)) w.list

@@ -19,7 +19,7 @@ pub alike-past : {m w' : Core} (p : Places) → HasRoom m.places p → Alike (re
 alike-past {m} {w'} p more a = grind (arith, nat_tests)
 
 pub next-past : {w w' : Core} {k : HandleNumber} → OnlyRoom w w' → IsNext k w' → IsNext k w
-next-past {w} {w'} {k} o next = let n = subst (λ (u : Core). IsNext k u) o.same next in record { above = n.above; is_left = n.is_left }
+next-past {w} {w'} {k} o next = grind (arith, nat_tests)
 
 pub born-past : {w w1 w' : Core} (node_type : ℕ) (key : OptionalDataKey) (rs : List ArcRef) (mode : Mode) (me : Owner) → OnlyRoom w w1
     → Alike (with_handle (with_node w1 node_type key rs) (next_node w1) mode me) w' → Alike (with_handle (with_node w node_type key rs) (next_node w) mode me) w'
@@ -72,4 +72,4 @@ not-spent n h node handle = grind (arith, nat_tests)
 
 -- where nothing was looked at before, memory may be wanting all the more
 pub weaker : {cause before : Option Error} {w w' : Core} {e : Error} → Refused cause before (Unit {0}) w e w' → Refused cause None (Unit {0}) w e w'
-weaker r = record { why = elim r.why [ inl a ↦ inl a | inr b ↦ inr (b.0, refl, tt) ]; stays = r.stays }
+weaker r = grind (arith, nat_tests)

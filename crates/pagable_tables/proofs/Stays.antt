@@ -99,11 +99,7 @@ named-loaded w l refs good q named =
     ap (if_there (is_owned_by (Owner.Load l)) false) m.live ∙ ap (is_owner (Owner.Load l)) m.own ∙ owner-self (Owner.Load l)
 
 pub not-named : (w : Core) (l : LoadNumber) (refs : List ArcRef) → HandlesAreWhole w → references_fault w (Owner.Load l) [] refs ≡ None → (q : ℕ) → w.last.handle < q → is_named_by refs q ≡ false
-not-named w l refs whole good q above = split (is_named_by refs q) refl
-  where
-    split : (b : Bool) → is_named_by refs q ≡ b → b ≡ false
-    split false e = refl
-    split true e = absurd (let g = owned-given w (Owner.Load l) q whole (named-loaded w l refs good q e) in omega arith)
+not-named w l refs whole good q above = grind (arith, nat_tests, owned-given w (Owner.Load l) q whole, named-loaded w l refs good q)
 
 pub swapped : (w : Core) (node : NodeNumber) (mode : Mode) (me : Owner) → AllPairs IsHandleBefore (with_handle w node mode me).rows
     → is_valued me ≡ false → {w' : Core} {given : ℕ → Bool} {r : Result (Unit {0}) Error}

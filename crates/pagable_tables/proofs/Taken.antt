@@ -110,11 +110,7 @@ owned-given w o q whole own = (passes-given (is_owned_by o) w q whole own).1
 
 -- what a worker has at a node is its own
 pub at-node : (w : Core) (v : WorkerNumber) (n : NodeNumber) (q : ℕ) → passes_in (gives_row w (Giving.AtNode v n)) w.rows q ≡ true → is_owned_in w (Owner.Worker v) q ≡ true
-at-node w v n q is = split (find_row q w.rows) is
-  where
-    split : (found : Option HandleRow) → if_there (gives_row w (Giving.AtNode v n)) false found ≡ true → if_there (is_owned_by (Owner.Worker v)) false found ≡ true
-    split None is = absurd (cc)
-    split (Some row) is = and-left (is_owner (Owner.Worker v) row.owner) _ is
+at-node w v n q is = grind (arith, nat_tests, and-left)
 
 -- all that a worker gives up when it ends is in its reach
 pub in-reach : (t : Tables) → IsWhole t → AreLater t → (v : WorkerNumber) (q : ℕ) → passes_in (gives_row (plain_of t) (Giving.Worker v)) (plain_of t).rows q ≡ true → InReach (reach_at t.workers v.0) q

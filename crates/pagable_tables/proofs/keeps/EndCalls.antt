@@ -22,22 +22,12 @@ closes : {before u w' : Core} {r : Result (Unit {0}) Error} (l : LoadNumber) (gi
 closes {before} {u} l given whole on gives falls placed =
     falls-lost u {u = without_load u l} whole on refl (record {
       listed = λ q. inl (whole.owners_there.listed q);
-      owners = λ h among. there h among h.owner refl (is-in whole h among);
+      owners = λ h among. let i = is-in whole h among in grind (arith, nat_tests, gives);
       loads = λ k load is. let was = still-there l.0 u.loads k load is in (was, whole.loads.owned k load was);
       cache = λ kind key n is. is;
       workers = λ v is. is;
       shut = λ closed. absurd (cc);
     }) falls placed
-  where
-    there : (h : HandleRow) → Among u.rows h → (o : Owner) → h.owner ≡ o → IsIn u h.mode o → IsIn (without_load u l) h.mode o ⊎ (given h.number.0 ≡ true)
-    there h among (Owner.Load k) is i = at (k.0 == l.0) refl
-      where
-        at : (b : Bool) → (k.0 == l.0) ≡ b → (is_some (if b then None else u.loads k.0) ≡ true) ⊎ (given h.number.0 ≡ true)
-        at true e = let same : k.0 ≡ l.0 = grind (arith, nat_tests) in inr (gives h among (is ∙ ap (λ n. Owner.Load (record { 0 = n })) same))
-        at false e = inl i
-    there h among (Owner.Worker v) is i = inl i
-    there h among Owner.List is i = inl i
-    there h among _ is i = inl tt
 
 -- what a load owns, it owns by its number too
 owned-in : {w : Core} → IsWhole w → (l : LoadNumber) (x : HandleRow) → Among w.rows x → x.owner ≡ Owner.Load l → is_owned_in w (Owner.Load l) x.number.0 ≡ true
@@ -170,17 +160,13 @@ hand-over-whole me l hs (Err e) whole call placed = alike-whole whole (alike-ope
 pub close-whole : {w w' : Core} (r : Result (Unit {0}) Error) → IsWhole (opened w) → CloseCall w r w' → ArePlaced (opened w') → IsWhole (opened w')
 close-whole {w} {w'} r whole call placed =
     falls-lost w {u = shut w w'.failures} (roomy-whole whole) (stays-on w) refl (record {
-      listed = λ q. at q (times (λ (h : HandleNumber). h.0 == q) w.list) refl;
+      listed = λ q. let a = whole.owners_there.listed q in grind (arith, nat_tests);
       owners = λ h among. inl (is-in whole h among);
       loads = λ l load is. (is, whole.loads.owned l load is);
       cache = λ kind key n is. absurd (cc);
       workers = λ v is. is;
       shut = λ closed. absurd (cc);
     }) call.falls.falls placed
-  where
-    at : (q k : ℕ) → times (λ (h : HandleNumber). h.0 == q) w.list ≡ k → (0 ≡ times (λ h. is_handle q h && is_owned_by Owner.List h) w.rows) ⊎ ((is_listed w q ≡ true) × (◌≡◌ {A = ℕ} 0 0))
-    at q zero none = inl (sym (sym (whole.owners_there.listed q) ∙ none))
-    at q (suc k) some = inr (grind (arith, nat_tests), refl)
 
 -- an open load may hold
 load-holds : {w : Core} {me : Owner} {l : LoadNumber} (load : _) → OwnsLoad w me l load → MayHold w (Owner.Load l)

@@ -50,16 +50,7 @@ pub record GoOn (w u : Core) : Type 0 where
 
 -- no row changes
 pub same-rows : {w u : Core} → IsWhole w → u.rows ≡ w.rows → SameAt w.cells u.cells → u.last.node ≡ w.last.node → u.last.handle ≡ w.last.handle → w.last.load ≤ u.last.load → GoOn w u
-same-rows {w} {u} whole rows cells node handle load =
-    record {
-      last = (omega arith, omega arith, load);
-      ordered = subst (λ r. AllPairs IsHandleBefore r) (sym rows) whole.handles.ordered;
-      fresh = false;
-      rows = λ h among. inl (stays-old (subst (λ r. Among r h) rows among));
-      live = λ n. ap is_some (cells n) ∙ whole.handles.live n ∙ ap (λ r. nat_lt 0 (held n r)) (sym rows);
-      typed = λ n t few is. sym (ap type_in (cells n)) ∙ is;
-      keyed = λ n like few none. ap keyed_in (cells n) ∙ none;
-    }
+same-rows {w} {u} whole rows cells node handle load = grind (arith, nat_tests, stays-old)
 
 -- ---- owners and loads
 
@@ -82,23 +73,14 @@ is-in {w} whole h among = of h.owner refl
 -- where loads stay open and workers at work
 pub in-still : (w u : Core) → ((l : ℕ) → is_some (w.loads l) ≡ true → is_some (u.loads l) ≡ true) → ((v : ℕ) → w.workers v ≡ true → u.workers v ≡ true) → (mode : Mode) (o : Owner)
     → IsIn w mode o → IsIn u mode o
-in-still w u loads workers mode Owner.List i = i
-in-still w u loads workers mode (Owner.Load l) i = loads l.0 i
-in-still w u loads workers mode (Owner.Worker v) i = workers v.0 i
-in-still w u loads workers mode _ i = tt
+in-still w u loads workers mode o i = grind (arith, nat_tests)
 
 -- in another mode, as that of the list's handles is known
 pub other-mode : (w : Core) (a b : Mode) (o : Owner) → IsIn w a o → (o ≡ Owner.List → b ≡ Mode.LooseUnpinned) → IsIn w b o
-other-mode w a b Owner.List i waits = waits refl
-other-mode w a b (Owner.Load l) i waits = i
-other-mode w a b (Owner.Worker v) i waits = i
-other-mode w a b _ i waits = tt
+other-mode w a b o i waits = grind (arith, nat_tests)
 
 pub holder-in : (w : Core) (mode : Mode) (o : Owner) → MayHold w o → IsIn w mode o
-holder-in w mode Owner.List may = absurd may
-holder-in w mode (Owner.Load l) may = may
-holder-in w mode (Owner.Worker v) may = may
-holder-in w mode _ may = tt
+holder-in w mode o may = grind (arith, nat_tests)
 
 -- a load that opens, of a root that w tells
 pub record IsNewLoad (w u : Core) (l : ℕ) (load : OpenLoad) : Type 0 where
@@ -269,15 +251,7 @@ module _ {w u : Core} (whole : IsWhole w) (k : Keeps w u) where
       }
 
   entry : (kind n : ℕ) → IsEntryWhole w kind n → IsEntryWhole u kind n
-  entry kind n e =
-      record {
-        given = let a = e.given in let b = k.on.last in omega arith;
-        typed = λ t is. e.typed t (k.on.typed n t e.given is);
-        shares = λ h among at. elim (like h among) [
-          | inl old ↦ sym old.same ∙ e.shares old.row old.there (old.at ∙ at)
-          | inr new ↦ absurd (let a = e.given in let b = new.0 in omega arith)
-        ];
-      }
+  entry kind n e = grind (arith, nat_tests, like, k.on.typed)
 
   pub keeps-whole : IsWhole u
   keeps-whole =

@@ -119,11 +119,7 @@ module _ {w : Core} (whole : IsWhole w) (row : HandleRow) (there : Among w.rows 
   same-type x0 = grind (arith, nat_tests)
 
   keyless : (n : ℕ) → HasLike w.rows n true → keyed_in (w.cells n) ≡ false → (b : Bool) → (n == row.node.0) ≡ b → keyed_in (if b then rekey (w.cells row.node.0) else w.cells n) ≡ false
-  keyless n like none false e = none
-  keyless n like none true e =
-      let at : n ≡ row.node.0 = grind (arith, nat_tests) in
-      let f : true ≡ false = sym like.same ∙ (alike-rows whole).same like.row row like.there there (like.at ∙ at) ∙ unshared in
-      absurd (cc)
+  keyless n like none b e = grind (arith, nat_tests, alike-rows whole)
 
   pub keyed-whole : IsWhole (with_key w row.node key)
   keyed-whole =

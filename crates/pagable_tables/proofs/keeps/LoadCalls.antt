@@ -1,4 +1,5 @@
 -- Calls on loads keep the world whole.
+use Rattle.pagable_tables.proofs.{Words.Among, keeps.Kept.{GoOn, IsIn}}
 use Rattle.pagable_tables.proofs.Unpinning.{updated-here}
 use Rattle.pagable_tables.proofs.Words.{◌+◌, ◌<◌, ◌∙◌, ◌≡◌, ◌⊎◌, ArePlaced, BeginCall, BeginKeyCall, Beginning, Core, Err, Error, HandleNumber, HandleRow, IsNextLoad, IsRootWhole, IsWhole}
 use Rattle.pagable_tables.proofs.Words.{MayHold, MayOwnLoad, Mode, NodeNumber, Ok, OpenLoad, Option, Owner, Owns, Result, Root, Some, ap, arith, greatest, inl, inr, is_loose, is_some, nat_tests}
@@ -20,21 +21,9 @@ pub loaded-whole : {w : Core} (key : ℕ) (root : Root) (me : Owner) → IsWhole
 loaded-whole {w} key root me whole may left good =
     let new : OpenLoad = record { owner = me; key = key; root = root } in
     let after = with_load w key root me in
-    keeps-whole whole (record {
-      on = same-rows whole refl (λ n. refl) refl refl (omega arith);
-      within = let (a, b, c) = whole.handles.within in (a, b, omega arith);
-      places = whole.handles.places;
-      listed = whole.owners_there.listed;
-      owners = λ h among. in-still w after (some-updated (w.last.load + 1) new w.loads) (λ v is. is) h.mode h.owner (is-in whole h among);
-      loads = λ l load is. elim (at-updated (w.last.load + 1) new w.loads l load is) [
-        | inl e ↦ subst (λ (x : OpenLoad). MayOwnLoad after x.owner × ((w.loads l ≡ Some x) ⊎ IsNewLoad w after l x)) e.1
-            (may-own w after (λ v at. at) me may, inr (let a = e.0 in record { numbered = (omega arith, omega arith); root = good }))
-        | inr was ↦ loads-stay whole (λ v at. at) l load was
-      ];
-      cache = whole.cache;
-      workers = whole.workers_numbered;
-      shut = whole.shut;
-    })
+    let on : GoOn w after = same-rows whole refl (λ n. refl) refl refl (omega arith) in
+    let owners : (h : HandleRow) → Among w.rows h → IsIn after h.mode h.owner = λ h among. in-still w after (some-updated (w.last.load + 1) new w.loads) (λ v is. is) h.mode h.owner (is-in whole h among) in
+    keeps-whole whole (grind (arith, nat_tests, loads-stay, at-updated, may-own))
 
 pub begin-key-whole : {w w' : Core} (me : Owner) (key : ℕ) (r : Result Beginning Error) → IsWhole w → MayOwnLoad w me → BeginKeyCall w me key r w' → ArePlaced w' → IsWhole w'
 begin-key-whole {w} me key (Ok (Beginning.Load l k)) whole may call placed =

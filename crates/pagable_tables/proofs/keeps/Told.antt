@@ -11,8 +11,7 @@ abbrev pub roomy : Core → Core
 roomy w = record w { places = record { handles = length w.rows; entries = length w.list } }
 
 none-then : {X : Type 0} (o o' : Option X) → ((x : X) → o' ≡ Some x → o ≡ Some x) → o ≡ None → o' ≡ None
-none-then o None only none = refl
-none-then o (Some x) only none = let f : None ≡ Some x = sym none ∙ only x refl in absurd (cc)
+none-then o o' only none = grind (arith, nat_tests)
 
 module _ {m w' : Core} (whole : IsWhole m) (rows : w'.rows ≡ m.rows) (cells : SameAt m.cells w'.cells) (list : w'.list ≡ m.list)
     (cache : (kind key n : ℕ) → w'.cache kind key ≡ Some n → m.cache kind key ≡ Some n)
