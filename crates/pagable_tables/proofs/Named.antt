@@ -1,9 +1,7 @@
 -- Handles that references name come to another owner.
-use Rattle.pagable_tables.proofs.Handed.{moved-unless}
-use Rattle.pagable_tables.proofs.Words.{Bool, SameAt}
-use Rattle.pagable_tables.proofs.Words.{◌≡◌, ℕ, ◌+◌, ◌<◌, ◌≤◌, ◌==◌, ◌||◌, true, false, List, [], ◌∷◌, ◌++◌, take, drop, drop-cons, get_or, length, add-one, refl, ap, sym, ◌∙◌, arith, Some, None}
-use Rattle.pagable_tables.proofs.Words.{nat_tests, ◌≢◌, drop_all, take-suc, Error, ArcRef, HandleNumber, HandleRow, Owner, is_in, or_else, find_row, Core, reference_fault, references_fault}
-use Rattle.pagable_tables.proofs.{Words.{only_handle, moved, is_named_by, Alike, HasRoom}, Coming.owned-by, Worlds.same-cache}
+use Rattle.pagable_tables.proofs.{Handed.moved-unless, Words.{Bool, SameAt, ◌≡◌, ℕ, ◌+◌, ◌<◌, ◌≤◌, ◌==◌, ◌||◌, true, false, List, [], ◌∷◌, ◌++◌, take, drop, drop-cons, get_or, length, add-one, refl}}
+use Rattle.pagable_tables.proofs.Words.{ap, sym, ◌∙◌, arith, Some, None, nat_tests, ◌≢◌, drop_all, take-suc, Error, ArcRef, HandleNumber, HandleRow, Owner, is_in, or_else, find_row, Core}
+use Rattle.pagable_tables.proofs.{Words.{reference_fault, references_fault, only_handle, moved, is_named_by, Alike, HasRoom}, Coming.owned-by, Worlds.same-cache}
 
 -- no row has the number
 pub moved-none : (h : HandleNumber) (owner : Owner) (rows : List HandleRow) → find_row h.0 rows ≡ None → moved (only_handle h) owner rows ≡ rows

@@ -1,11 +1,11 @@
 -- What loads own is what they owned, or has come since.
 use Rattle.pagable_tables.proofs.Words.{◌≡◌, ℕ, ◌+◌, ◌<◌, ◌≤◌, ◌++◌, ◌∷◌, [], Bool, true, false, not, List, refl, ap, sym, ◌∙◌, arith, Option, Some, None, inl, inr, ◌⊎◌, ◌≢◌, Result, Ok, Err, is_some}
-use Rattle.pagable_tables.proofs.Words.{option_map, cases_eq, Error, HandleNumber, LoadNumber, NodeNumber, HandleRow, Owner, Mode, Pinning, Kind, ArcRef, OptionalDataKey, if_there, type_of}
-use Rattle.pagable_tables.proofs.Words.{changed, is_handle, is_owner, is_owned_by, owner_value, find_row, mode_of, Core, Last, Alike, Falls, only_handle, with_handle, with_node, next_node}
-use Rattle.pagable_tables.proofs.Words.{with_cached_if_open, is_named_by, moved, with_mode, LoosenCall, PinCall, UnpinCall, ReleaseCall, SetKeyCall, ScheduleCall, OfferCall, CloseCall}
-use Rattle.pagable_tables.proofs.Words.{is_owned_in, adopted, first_key, Adopts, DropCall, LazyCall, LoadRow, Tables, load_at, plain_of, load_in, Makes, AreLater, nat_tests, Among, subst, owner_worker, reach_at, InReach, IsNoLess, Reach, IndexMap, worker_at, anywhere}
-use Rattle.std.specs.Option.{option_map_or}
-use Rattle.pagable_tables.proofs.{Regiven.{owned, passes-here, passes-left, no-entry, unlisting}, Taken.owned-moved, Bits.{and-left, had}, Worlds.owner-same, keeps.Rows.{found-among, found-push}}
+use Rattle.pagable_tables.proofs.Words.{option_map, cases_eq, Error, HandleNumber, LoadNumber, NodeNumber, HandleRow, Owner, Mode, Kind, ArcRef, OptionalDataKey, if_there, type_of, changed, is_handle}
+use Rattle.pagable_tables.proofs.Words.{is_owner, is_owned_by, owner_value, find_row, mode_of, Core, Last, Alike, Falls, only_handle, with_handle, with_node, next_node, with_cached_if_open}
+use Rattle.pagable_tables.proofs.Words.{is_named_by, moved, with_mode, UnpinCall, ReleaseCall, SetKeyCall, ScheduleCall, OfferCall, CloseCall, is_owned_in, adopted, first_key, Adopts, DropCall}
+use Rattle.pagable_tables.proofs.Words.{LazyCall, LoadRow, Tables, load_at, plain_of, load_in, Makes, AreLater, nat_tests, Among, subst, owner_worker, reach_at, InReach, IsNoLess, Reach, IndexMap}
+use Rattle.pagable_tables.proofs.{Words.worker_at, Regiven.{owned, passes-here, passes-left, no-entry, unlisting}, Taken.owned-moved, Bits.{and-left, had, there-is}, Worlds.owner-same}
+use Rattle.pagable_tables.proofs.keeps.Rows.{found-among, found-push}
 use Rattle.pagable_world.specs.Pager as pager
 
 -- loads and workers give up what they have together
@@ -104,11 +104,7 @@ closed-still at at' m gone others l load is = grind (arith, nat_tests)
 
 -- one who isn't there owns nothing
 none-owned : (w : Core) (o : Owner) (q : ℕ) → ((h : HandleRow) → Among w.rows h → h.owner ≡ o → ⊥) → is_owned_in w o q ≡ true → ⊥
-none-owned w o q nobody own = split (find_row q w.rows) refl own
-  where
-    split : (found : Option HandleRow) → find_row q w.rows ≡ found → if_there (is_owned_by o) false found ≡ true → ⊥
-    split None e own = absurd (cc)
-    split (Some row) e own = nobody row (found-among q w.rows row e).0 (owner-same o row.owner own)
+none-owned w o q nobody own = let (row, e, is) = there-is (is_owned_by o) (find_row q w.rows) own in nobody row (found-among q w.rows row e).0 (owner-same o row.owner is)
 
 -- one load more is open
 pub later-opened : {t t' : Tables} → pager.IsWhole (plain_of t) → AreLater t → OnlyNewer (plain_of t) (plain_of t') → (m : ℕ) (row : LoadRow) → load_at t.loads m ≡ None → load_at t'.loads m ≡ Some row → row.since ≡ t.holdings.last_handle
@@ -124,10 +120,7 @@ later-opened {t} {t'} whole later newer m row none here since others same =
         | inr past ↦ elim (one l load is) [ inl now ↦ omega arith | inr was ↦ (let a = later.given l load was in omega arith) ]
       ];
       begun = λ v. let a = later.begun v in let b = newer.last in let c = reaches v in omega arith;
-      reach = λ v q own. elim (newer.kept (owner_worker v) q refl own) [
-        | inl there ↦ subst (λ u. InReach (reach_at u v) q) (sym same) (later.reach v q there)
-        | inr past ↦ (let a = later.begun v in let c = reaches v in (omega arith, inl (omega arith)))
-      ];
+      reach = λ v q own. let k = newer.kept (owner_worker v) q refl own in let r = later.reach v q in let a = later.begun v in grind (arith, nat_tests);
       loads = λ v l load is owns. let c = reaches v in elim (one l load is) [ inl now ↦ (let a = later.begun v in omega arith) | inr was ↦ (let a = later.loads v l load was owns in omega arith) ];
     }
   where

@@ -1,13 +1,12 @@
 -- What has gone so far, after one step of a cascade, and after a handle that is given.
-use Rattle.pagable_tables.proofs.Words.{◌&&◌, ◌++◌, ◌+◌, ◌<◌, ◌==◌, ◌||◌, ◌∙◌, ◌∷◌, ◌≡◌, ◌≢◌, ◌≤◌, ◌⊎◌, AreNewEntries, Begins, Bool, CellsStay, Core, Counts, Err, Error, FallsBy, GivesUp}
-use Rattle.pagable_tables.proofs.Words.{HandleNumber, HandleRow, HasFallen, HasPlaces, Holdings, IsApart, IsClosed, IsFalling, IsListRefusal, IsUnlisted, IsWithin, Leaves, List, MayList, MustList}
-use Rattle.pagable_tables.proofs.Words.{NodeNumber, Ok, Option, Owner, Result, SoFar, Some, Steps, TellsListing, [], ap, append-nil, append_assoc, arith, cell_in, counts_at, entries_of, entry}
-use Rattle.pagable_tables.proofs.Words.{false, filter, filter-append, first_cause, greatest, held, if◌then◌else◌, inl, inr, is_at, is_handle, is_keyed, is_listing, is_outside, is_owned_by, is_owner}
-use Rattle.pagable_tables.proofs.Words.{is_pin, is_some, left_rows, length, length-append, live, map, map-append, nat_tests, not, one, only_handle, owner_value, owns_nothing, pins, pins_in, refl}
-use Rattle.pagable_tables.proofs.{Words.{subst, sum_by, sum_by-append, sum_by-le-sum_by, sym, times, told_by, true, vec_capacity, with_tables, ℕ}, Bits.one-le, Left.and_one}
-use Rattle.pagable_tables.proofs.Left.{sum-most, entries-more, kept-more, leaves-sums, left-more, left-none, none-entered, none-listed, of_list, ones, times-left}
-use Rattle.pagable_tables.proofs.Telling.{entry-pins, forced, only-more}
-use Rattle.pagable_tables.proofs.{Telling.{refusal-now, tells-more}, keeps.HandleCalls.lists}
+use Rattle.pagable_tables.proofs.Words.{◌&&◌, ◌++◌, ◌+◌, ◌<◌, ◌==◌, ◌||◌, ◌∙◌, ◌∷◌, ◌≡◌, ◌≢◌, ◌≤◌, ◌⊎◌, AreNewEntries, Begins, Bool, CellsStay, Core, Counts, Error, FallsBy, GivesUp, HandleNumber}
+use Rattle.pagable_tables.proofs.Words.{HandleRow, HasFallen, HasPlaces, Holdings, IsApart, IsClosed, IsFalling, IsListRefusal, IsUnlisted, IsWithin, Leaves, List, MayList, MustList, NodeNumber}
+use Rattle.pagable_tables.proofs.Words.{Option, Owner, Result, SoFar, Some, Steps, TellsListing, [], ap, append-nil, append_assoc, arith, cell_in, counts_at, entries_of, entry, false, filter}
+use Rattle.pagable_tables.proofs.Words.{filter-append, first_cause, greatest, held, if◌then◌else◌, inl, inr, is_at, is_handle, is_keyed, is_listing, is_outside, is_owned_by, is_owner, is_pin, is_some}
+use Rattle.pagable_tables.proofs.Words.{left_rows, length, length-append, live, map, map-append, nat_tests, not, one, only_handle, owner_value, owns_nothing, pins, pins_in, refl, subst, sum_by}
+use Rattle.pagable_tables.proofs.{Words.{sum_by-append, sum_by-le-sum_by, sym, times, told_by, true, vec_capacity, with_tables, ℕ}, Bits.one-le, Left.{and_one, sum-most, entries-more, kept-more}}
+use Rattle.pagable_tables.proofs.{Left.{leaves-sums, left-more, left-none, none-entered, none-listed, of_list, ones, times-left}, Telling.{entry-pins, forced, only-more, refusal-now, tells-more}}
+use Rattle.pagable_tables.proofs.keeps.HandleCalls.{lists}
 
 rows-leaves : (rows entries : List HandleRow) (gone : ℕ → Bool) (old new : Holdings) (x : HandleRow) (wanted listed : Bool) (leaves : Leaves old x wanted listed new)
     → live old.handles.places.items ≡ left_rows gone rows ++ entries → times (is_handle x.number.0) entries ≡ 0
@@ -38,9 +37,6 @@ long-one x0 k node = grind (arith, nat_tests)
 
 within-more : (listed : Bool) (last : ℕ) → last ≤ greatest → (listed ≡ true → last < greatest) → last + one listed ≤ greatest
 within-more x0 last within left = grind (arith, nat_tests)
-
-one-more : (listed : Bool) → (if listed then 1 else 0) ≤ 1
-one-more listed = one-le listed
 
 -- a handle that the list doesn't own may go apart from it
 pub unlisted-apart : (before w : Core) (given : ℕ → Bool) (lists : Bool) (t popped new : Holdings) (stack : List ℕ) (x : HandleRow) (f : SoFar before w given lists t) → GivesUp popped stack x lists new
@@ -116,14 +112,8 @@ module _ (before w : Core) (given : ℕ → Bool) (lists : Bool) (t : Holdings) 
   must-to : (n : ℕ) → MustList before w (with_tables w new) n → MustList before now (with_tables now new) n
   must-to n m = record { pinned = m.pinned; unpinned = m.unpinned; unkeyed = m.unkeyed; unshared = m.unshared; stands_open = m.stands_open }
 
-  must-from : (n : ℕ) → MustList before now (with_tables now new) n → MustList before w (with_tables w new) n
-  must-from n m = record { pinned = m.pinned; unpinned = m.unpinned; unkeyed = m.unkeyed; unshared = m.unshared; stands_open = m.stands_open }
-
-  refusal-to : (e : Error) → IsListRefusal w (with_tables w new) e → IsListRefusal now (with_tables now new) e
-  refusal-to x0 r = grind (arith, nat_tests)
-
   tells-to : (r : Result (Unit {0}) Error) → TellsListing before w entries r (with_tables w new) → TellsListing before now entries r (with_tables now new)
-  tells-to x0 tells = grind (arith, nat_tests, must-from, must-to, refusal-to)
+  tells-to x0 tells = grind (arith, nat_tests)
 
   pub entered-on : (given' gone : ℕ → Bool) → Begins before now lists → live gap.handles.places.items ≡ left_rows gone rows ++ f.entries
       → filter (λ (q : HandleNumber). not (gone q.0)) w.list ≡ filter (λ (q : HandleNumber). not (f.gone q.0)) w.list
@@ -189,26 +179,17 @@ module _ (before w : Core) (given given' : ℕ → Bool) (lists : Bool) (t poppe
       fewer left given' (and_one f.gone x.number.0) f.begins
       (rows-leaves w.rows f.entries f.gone popped g.between x (lists && is_listing g.counts x.mode) g.listed g.leaves (before-rows ∙ f.rows) apart.unentered) apart.kept
       (λ n there. let s = g.cells n there in s.1 ∙ ap cell_in (counts n) ∙ f.cells n (sym (ap is_some (counts n)) ∙ s.0)) holds least
-      (λ falls. let a = sums (λ h. 1) in let b = ones (live new.handles.places.items) in let d = ones (live t.handles.places.items) in let e = one-more g.listed in omega arith)
+      (λ falls. let a = sums (λ h. 1) in let b = ones (live new.handles.places.items) in let d = ones (live t.handles.places.items) in let e = one-le g.listed in omega arith)
 
--- what is asked of handles and list, where only nodes differ
-must-same : (before w : Core) (t new : Holdings) (n : ℕ) → MustList before w (with_tables w t) n → MustList before w (with_tables w (record t { nodes = new.nodes; top = new.top })) n
-must-same before w t new n m = record { pinned = m.pinned; unpinned = m.unpinned; unkeyed = m.unkeyed; unshared = m.unshared; stands_open = m.stands_open }
-
-must-back : (before w : Core) (t new : Holdings) (n : ℕ) → MustList before w (with_tables w (record t { nodes = new.nodes; top = new.top })) n → MustList before w (with_tables w t) n
-must-back before w t new n m = record { pinned = m.pinned; unpinned = m.unpinned; unkeyed = m.unkeyed; unshared = m.unshared; stands_open = m.stands_open }
-
-refusal-same : (w : Core) (t new : Holdings) (e : Error) → IsListRefusal w (with_tables w t) e → IsListRefusal w (with_tables w (record t { nodes = new.nodes; top = new.top })) e
-refusal-same w t new e r = grind (arith, nat_tests)
-
+-- what is told of handles and list, where only nodes differ
 tells-same : (before w : Core) (entries : List HandleRow) (t new : Holdings) (r : Result (Unit {0}) Error) → TellsListing before w entries r (with_tables w t)
     → TellsListing before w entries r (with_tables w (record t { nodes = new.nodes; top = new.top }))
-tells-same before w entries t new x5 tells = grind (arith, nat_tests, must-back, must-same, refusal-same)
+tells-same before w entries t new x5 tells = grind (arith, nat_tests)
 
 -- nothing happened to the handles and the list
 same-handles : (before w : Core) (given : ℕ → Bool) (lists : Bool) (t new : Holdings) → SoFar before w given lists t → CellsStay (counts_at t.nodes) (counts_at new.nodes) → t.top ≢ 0
     → SoFar before w given lists (record t { nodes = new.nodes; top = new.top })
-same-handles before w given lists t new f stay some = grind (arith, nat_tests, must-same, tells-same)
+same-handles before w given lists t new f stay some = grind (arith, nat_tests, tells-same)
 
 -- the first node that falls is done
 pub settled : (before w : Core) (given : ℕ → Bool) (lists : Bool) (t new : Holdings) → SoFar before w given lists t → CellsStay (counts_at t.nodes) (counts_at new.nodes) → t.top ≢ 0

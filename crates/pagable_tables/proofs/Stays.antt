@@ -1,15 +1,12 @@
 -- A handle that comes stays, while others that are given go with all that follows.
-use Rattle.pagable_tables.proofs.Words.{◌≡◌, ℕ, ◌<◌, ◌≤◌, ◌==◌, ◌&&◌, ◌++◌, Bool, true, false, not, if◌then◌else◌, List, [], ◌∷◌, refl, ap, sym, ◌∙◌, subst, arith, inl, inr, None, ◌⊎◌, nat_eq}
-use Rattle.pagable_tables.proofs.Words.{Result, AllPairs, nat_tests, cases_eq, sum_by-le-sum_by, sum_by_push, sum_by-append, Error, HandleRow, Among, if_there, one, times, is_loose_kind, is_owner}
-use Rattle.pagable_tables.proofs.Words.{mode_of, is_at, is_pin, is_pinning, is_shared, is_owned_by, owner_value, held, pins, sharing, Core, Places, HasRoom, IsHandleBefore, HandlesAreWhole}
-use Rattle.pagable_tables.proofs.Words.{references_fault, is_owned_in, ArcRef, IsLeast, IsWithin, IsClosed, loses_value, pins_outside, held_outside, owned_outside, is_outside, is_keyed, left_rows}
-use Rattle.pagable_tables.proofs.Words.{Falls, is_named_by, is_valued, LoadNumber, Mode, Owner, ◌+◌, Option, NodeNumber, Blob, is_handle, HandleNumber, Last, Alike, nobody, row_of, with_handle}
-use Rattle.pagable_tables.proofs.{Words.{Counts, Tables, live, counts_at, ValueStays, cell_in, has_value, pins_in, SoFar, core_of, Some, changed, find_row, with_mode}, Coming.no-value}
-use Rattle.pagable_tables.proofs.{Regiven.{owned, passes-here, passes-none}, Left.times-left, Taken.owned-given, keeps.HandleCalls.named-mine, keeps.Rows.{counted, at-most-sum, once, among-last}}
-use Rattle.pagable_tables.{proofs.{Opened.owner-self, Begun.{begins, begun}, Ended.none-falls-in, Worlds.same-cache}, specs.Core.IsWhole}
-
-zero-or : (n : ℕ) → (n ≡ 0) ⊎ (0 < n)
-zero-or n = elim (cases_eq n 0) [ inl e ↦ inl e | inr e ↦ inr (omega arith) ]
+use Rattle.pagable_tables.proofs.Words.{◌≡◌, ℕ, ◌<◌, ◌≤◌, ◌==◌, ◌&&◌, ◌++◌, Bool, true, false, not, if◌then◌else◌, List, [], ◌∷◌, refl, ap, sym, ◌∙◌, subst, arith, None, nat_eq, Result, AllPairs}
+use Rattle.pagable_tables.proofs.Words.{nat_tests, sum_by-le-sum_by, sum_by_push, sum_by-append, Error, HandleRow, Among, if_there, one, times, is_loose_kind, is_owner, mode_of, is_at, is_pin}
+use Rattle.pagable_tables.proofs.Words.{is_pinning, is_shared, is_owned_by, owner_value, held, pins, sharing, Core, Places, HasRoom, IsHandleBefore, HandlesAreWhole, references_fault, is_owned_in}
+use Rattle.pagable_tables.proofs.Words.{ArcRef, IsLeast, IsWithin, IsClosed, loses_value, pins_outside, held_outside, is_outside, is_keyed, left_rows, Falls, is_named_by, is_valued, LoadNumber, Mode}
+use Rattle.pagable_tables.proofs.Words.{Owner, ◌+◌, Option, NodeNumber, Blob, is_handle, HandleNumber, Last, Alike, nobody, row_of, with_handle, Counts, Tables, live, counts_at, ValueStays, cell_in}
+use Rattle.pagable_tables.proofs.{Words.{has_value, pins_in, SoFar, core_of, Some, changed, find_row, with_mode}, Coming.no-value, Regiven.{owned, passes-here, passes-none}, Left.times-left}
+use Rattle.pagable_tables.proofs.{Taken.owned-given, keeps.HandleCalls.named-mine, keeps.Rows.{sum-none, at-most-sum, once, among-last}, Opened.owner-self, Begun.{begins, begun}, Ended.none-falls-in}
+use Rattle.pagable_tables.{proofs.Worlds.same-cache, specs.Core.IsWhole}
 
 -- what isn't given and isn't a value's isn't in the least set
 module _ (rows : List HandleRow) (keyed : ℕ → Bool) (entries : List HandleRow) (given s : ℕ → Bool) (least : IsLeast rows keyed entries given s) (ordered : AllPairs IsHandleBefore rows)
@@ -31,21 +28,13 @@ module _ (rows : List HandleRow) (keyed : ℕ → Bool) (entries : List HandleRo
       split false e = let a = fewer (is_at n) in grind (arith, nat_tests)
 
   closed-less : IsClosed rows keyed entries less
-  closed-less n e = elim (zero-or (owned_outside rows less n)) [
-    | inl none ↦ none
-    | inr some ↦ absurd (
-        let (h, among, counts) = counted (λ h. one (is_owned_by (owner_value n) h && is_outside less h)) rows some in
-        let none = least.closed n (loses n e) in
-        let l = at-most-sum (λ h. one (is_owned_by (owner_value n) h && is_outside s h)) rows h among in
-        split h among (h.number.0 == x.number.0) refl counts (omega arith))
-  ]
-    where
-      split : (h : HandleRow) → Among rows h → (b : Bool) → (h.number.0 == x.number.0) ≡ b → 0 < one (is_owned_by (owner_value n) h && is_outside less h) → one (is_owned_by (owner_value n) h && is_outside s h) ≡ 0 → ⊥
-      split h among true e some none =
-          let same : h.number.0 ≡ x.number.0 = grind (arith, nat_tests) in
-          let o : is_owned_by (owner_value n) h ≡ false = ap (is_owned_by (owner_value n)) (once rows ordered h x among there same) ∙ no-value n x.owner plain in
-          absurd (grind (arith, nat_tests))
-      split h among false e some none = absurd (grind (arith, nat_tests))
+  closed-less n e =
+      sum-none (λ h. one (is_owned_by (owner_value n) h && is_outside less h)) rows (λ h among.
+      let none = least.closed n (loses n e) in
+      let l = at-most-sum (λ h. one (is_owned_by (owner_value n) h && is_outside s h)) rows h among in
+      let o = once rows ordered h x among there in
+      let p = no-value n x.owner plain in
+      grind (arith, nat_tests))
 
   pub not-least : s x.number.0 ≡ false
   not-least =

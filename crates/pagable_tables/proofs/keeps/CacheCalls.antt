@@ -1,10 +1,9 @@
 -- Calls on the cache and on room keep the world whole.
-use Rattle.pagable_tables.proofs.keeps.Kept.{GoOn}
-use Rattle.pagable_tables.proofs.Words.{◌&&◌, ◌<◌, ◌==◌, ◌∙◌, ◌≡◌, ArePlaced, Bool, ClearCall, Core, Err, Error, HandleNumber, IsEntryWhole, IsWhole, Kind, MayHold, Mode, NodeNumber, None}
-use Rattle.pagable_tables.proofs.Words.{OfferCall, Ok, Option, Owner, RecallCall, ReserveCall, Result, Some, Suits, arith, false, fits_mode, greatest, if◌then◌else◌, inl, inr, is_shared}
-use Rattle.pagable_tables.proofs.{Words.{is_shared_kind, is_some, mode_of, nat_tests, refl, sym, true, type_of, usable, with_cached, with_known, ℕ}, keeps.Comes.{beside, handle-on, suits-like}}
-use Rattle.pagable_tables.proofs.{keeps.Fallen.falls-whole, keeps.Kept.{alike-rows, is-in, keeps-whole, loads-stay, same-rows, there-then}, keeps.Rows.{counted, found-among}, keeps.Told.alike-whole}
-use Rattle.pagable_tables.proofs.keeps.Told.{roomy, roomy-whole, settles, told-whole}
+use Rattle.pagable_tables.proofs.{keeps.Kept.{GoOn, alike-rows, is-in, keeps-whole, loads-stay, same-rows, there-then}, Words.{◌&&◌, ◌<◌, ◌==◌, ◌∙◌, ◌≡◌, ArePlaced, Bool, ClearCall, Core, Err, Error}}
+use Rattle.pagable_tables.proofs.Words.{HandleNumber, IsEntryWhole, IsWhole, Kind, MayHold, Mode, NodeNumber, None, OfferCall, Ok, Option, Owner, RecallCall, ReserveCall, Result, Some, Suits, arith}
+use Rattle.pagable_tables.proofs.Words.{false, fits_mode, greatest, if◌then◌else◌, inl, inr, is_shared, is_shared_kind, is_some, mode_of, nat_tests, refl, sym, true, type_of, usable, with_cached}
+use Rattle.pagable_tables.proofs.{Words.{with_known, ℕ}, keeps.{Comes.{beside, handle-on, suits-like}, Fallen.falls-whole, Rows.{counted, found-among}, Told.{alike-whole, roomy, roomy-whole}}}
+use Rattle.pagable_tables.proofs.keeps.Told.{settles, told-whole}
 
 pub clear-whole : {w w' : Core} (r : Result (Unit {0}) Error) → IsWhole w → ClearCall w r w' → ArePlaced w' → IsWhole w'
 clear-whole {w} {w'} r whole call placed = let a = call.leaves in

@@ -1,11 +1,8 @@
 -- Calls on loads keep the world whole.
-use Rattle.pagable_tables.proofs.{Words.Among, keeps.Kept.{GoOn, IsIn}}
-use Rattle.pagable_tables.proofs.Unpinning.{updated-here}
-use Rattle.pagable_tables.proofs.Words.{◌+◌, ◌<◌, ◌∙◌, ◌≡◌, ◌⊎◌, ArePlaced, BeginCall, BeginKeyCall, Beginning, Core, Err, Error, HandleNumber, HandleRow, IsNextLoad, IsRootWhole, IsWhole}
-use Rattle.pagable_tables.proofs.Words.{MayHold, MayOwnLoad, Mode, NodeNumber, Ok, OpenLoad, Option, Owner, Owns, Result, Root, Some, ap, arith, greatest, inl, inr, is_loose, is_some, nat_tests}
-use Rattle.pagable_tables.proofs.{Words.{of_cell, of_key, refl, subst, sym, true, type_at, updated, with_handle, with_load, ℕ}, keeps.Comes.beside, keeps.HandleCalls.loose-unshared}
-use Rattle.pagable_tables.proofs.{keeps.Kept.{IsNewLoad, in-still, is-in, keeps-whole, loads-stay, may-own, same-rows, there-then}, keeps.Rows.found-among, keeps.Told.{alike-whole, roomy}}
-use Rattle.pagable_tables.proofs.keeps.Told.{roomy-whole, settles}
+use Rattle.pagable_tables.proofs.Words.{Among, ◌+◌, ◌<◌, ◌∙◌, ◌≡◌, ◌⊎◌, ArePlaced, BeginCall, BeginKeyCall, Beginning, Core, Err, Error, HandleNumber, HandleRow, IsNextLoad, IsRootWhole, IsWhole}
+use Rattle.pagable_tables.proofs.Words.{MayHold, MayOwnLoad, Mode, NodeNumber, Ok, OpenLoad, Option, Owner, Owns, Result, Root, Some, ap, arith, greatest, is_loose, is_some, nat_tests, of_cell}
+use Rattle.pagable_tables.proofs.{Words.{of_key, refl, sym, true, type_at, updated, with_handle, with_load, ℕ}, keeps.Kept.{GoOn, IsIn, in-still, is-in, keeps-whole, loads-stay, may-own, same-rows}}
+use Rattle.pagable_tables.proofs.{keeps.{Kept.there-then, Comes.beside, HandleCalls.loose-unshared, Rows.found-among, Told.{alike-whole, roomy, roomy-whole, settles}}, Unpinning.updated-here}
 
 -- ---- one load more
 

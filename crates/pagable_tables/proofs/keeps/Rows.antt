@@ -186,14 +186,7 @@ module _ {X : Type 0} (number : X → ℕ) (f : X → Bool) (q : ℕ) (only : (x
   pub one-left : (b : Bool) → gone q ≡ b → (xs : List X) → times f (filter (λ x. not (gone (number x))) xs) ≡ (if b then 0 else times f xs)
   one-left true e [] = refl
   one-left false e [] = refl
-  one-left b e (x ∷ xs) = at b e (f x) refl (gone (number x)) refl (one-left b e xs)
-    where
-      goes : f x ≡ true → gone (number x) ≡ gone q
-      goes e = ap gone (only x e)
-
-      at : (b : Bool) → gone q ≡ b → (c : Bool) → f x ≡ c → (d : Bool) → gone (number x) ≡ d → times f (filter (λ x. not (gone (number x))) xs) ≡ (if b then 0 else times f xs)
-          → times f (if not d then x ∷ filter (λ x. not (gone (number x))) xs else filter (λ x. not (gone (number x))) xs) ≡ (if b then 0 else times f (x ∷ xs))
-      at b0 e b2 g b4 h rest = grind (arith, nat_tests, goes, sum_by-cons (λ y. one (f y)) x xs, sum_by-cons (λ y. one (f y)) x (filter (λ x. not (gone (number x))) xs))
+  one-left b e (x ∷ xs) = let goes = only x in grind (arith, nat_tests, one-left b e xs, sum_by-cons (λ y. one (f y)) x xs, sum_by-cons (λ y. one (f y)) x (filter (λ x. not (gone (number x))) xs))
 
 -- a row of the given ones goes
 pub within-goes : (rows : List HandleRow) (given gone : ℕ → Bool) (h : HandleRow) → IsWithin rows given gone → Among rows h → given h.number.0 ≡ true → gone h.number.0 ≡ true

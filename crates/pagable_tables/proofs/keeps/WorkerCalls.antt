@@ -1,9 +1,7 @@
 -- A worker that begins or ends keeps the world whole.
-use Rattle.pagable_tables.proofs.keeps.Kept.{GoOn}
-use Rattle.pagable_tables.proofs.Words.{◌+◌, ◌==◌, ◌||◌, ◌∙◌, ◌≡◌, ◌≤◌, ◌⊎◌, Among, ArePlaced, Bool, Core, HandleRow, IsWhole, LoadNumber, MayOwnLoad, None, OpenLoad, Option, Owner, Some, ap}
-use Rattle.pagable_tables.proofs.Words.{arith, false, if_there, if◌then◌else◌, inl, inr, is_owner, is_some, is_workers, is_workers_load, nat_tests, owner_worker, refl, true, with_worker}
-use Rattle.pagable_tables.proofs.{Words.{without_worker, ℕ}, keeps.Fallen.{falls-lost, opened}, keeps.Kept.{IsIn, in-still, is-in, keeps-whole, loads-stay, same-rows}, keeps.Rows.found-so}
-use Rattle.pagable_tables.proofs.keeps.Told.{roomy-whole, stays-on}
+use Rattle.pagable_tables.proofs.{keeps.Kept.{GoOn, IsIn, in-still, is-in, keeps-whole, loads-stay, same-rows}, Words.{◌+◌, ◌==◌, ◌||◌, ◌≡◌, ◌≤◌, Among, ArePlaced, Bool, Core, HandleRow, IsWhole}}
+use Rattle.pagable_tables.proofs.Words.{MayOwnLoad, None, OpenLoad, Option, Owner, Some, ap, arith, false, if_there, if◌then◌else◌, inl, is_owner, is_workers, is_workers_load, nat_tests, owner_worker}
+use Rattle.pagable_tables.proofs.{Words.{refl, true, with_worker, without_worker, ℕ}, keeps.{Fallen.{falls-lost, opened}, Rows.found-so, Told.{roomy-whole, stays-on}}}
 use Rattle.pagable_world.specs.Workers.{WorkerEnds, is_load_of}
 
 -- ---- one worker more
