@@ -144,20 +144,11 @@ module _ (w w' : Core) (kind : Kind) (key : ℕ) (n : NodeNumber) (cache : ℕ �
   abbrev known : ℕ → ℕ → Option ℕ
   known k q = if k == kind.0 && q == key then Some n.0 else w.cache k q
 
-  known-here : (k q : ℕ) → k ≡ kind.0 → q ≡ key → known k q ≡ Some n.0
-  known-here k q e f = let h : (k == kind.0 && q == key) ≡ true = grind (arith, nat_tests) in rw h refl
-
-  known-other : (k q : ℕ) → (k ≢ kind.0) ⊎ (q ≢ key) → known k q ≡ w.cache k q
-  known-other k q x2 = grind (arith, nat_tests)
-
-  split : (k q : ℕ) → ((k ≡ kind.0) × (q ≡ key)) ⊎ ((k ≢ kind.0) ⊎ (q ≢ key))
-  split k q = grind (arith, nat_tests)
-
-  found : (k q : ℕ) → k ≡ kind.0 → q ≡ key → cache k q ≡ Some n.0
-  found k q e f = ap (λ k. cache k q) e ∙ ap (cache kind.0) f ∙ here
+  same : (k q : ℕ) → ((known k q ≡ Some n.0) × (cache k q ≡ Some n.0)) ⊎ ((known k q ≡ w.cache k q) × (cache k q ≡ w'.cache k q))
+  same k q = grind (arith, nat_tests)
 
   pub learned : Alike (with_cached w kind key n) (record w' { cache = cache })
-  learned = grind (arith, nat_tests, split, usable-same, found, known-here, known-other)
+  learned = grind (arith, nat_tests, same, usable-same)
 
 -- the cache learns while the storage is open
 pub if-open : (closed : Bool) (w w' : Core) (kind : Kind) (key : ℕ) (n : NodeNumber) → (closed ≡ true → Alike w w') → (closed ≡ false → Alike (with_cached w kind key n) w') → Alike (if closed then w else with_cached w kind key n) w'

@@ -1,5 +1,5 @@
 -- Truth values, and what they count.
-use Rattle.pagable_tables.proofs.Words.{◌≡◌, ◌<◌, ◌≤◌, ◌&&◌, Bool, true, false, not, arith, nat_tests, one, Option, Some, None, if_there, refl}
+use Rattle.pagable_tables.proofs.Words.{◌≡◌, ◌≤◌, ◌&&◌, Bool, true, false, not, arith, nat_tests, one, Option, Some, None, if_there, refl}
 
 pub and-zero : (b : Bool) → one (b && false) ≡ 0
 and-zero b = grind (arith, nat_tests)
@@ -18,9 +18,6 @@ had g o e = grind (arith, nat_tests)
 
 pub one-le : (b : Bool) → one b ≤ 1
 one-le b = grind (arith, nat_tests)
-
-pub one-true : (b : Bool) → 0 < one b → b ≡ true
-one-true b some = grind (arith, nat_tests)
 
 pub not-so : (b : Bool) → not b ≡ true → b ≡ false
 not-so b e = grind (arith, nat_tests)

@@ -155,10 +155,7 @@ module _ (t t1 : Tables) (stored : ℕ → Option Blob) (closed lists : Bool) (f
           open_storage = e;
           fewer = λ n. omega arith;
           shared = λ n. omega arith;
-          uniform = λ n. elim ((begins t1 stored closed lists failures whole e).uniform n) [
-            | inl none ↦ inl (as-moved (is_share n) (λ y. refl) ∙ none)
-            | inr none ↦ inr (as-moved (is_plain_pin n) (λ y. refl) ∙ none)
-          ];
+          uniform = λ n. let b = (begins t1 stored closed lists failures whole e).uniform n in let p = as-moved (is_share n) (λ y. refl) in let q = as-moved (is_plain_pin n) (λ y. refl) in grind (arith, nat_tests);
           listed = λ q. let a = list-has q in omega arith;
         })
         (rows ∙ come) (ap (λ v. v.items) list ∙ a.list) (last ∙ ap (λ (v : Last). v.handle) a.last)
@@ -214,9 +211,6 @@ not-so x0 e = grind (arith, nat_tests)
 -- t1 is t with the pins
 module _ (t t1 : Tables) (stored : ℕ → Option Blob) (closed : Bool) (failures : ℕ) (row : HandleRow) (me : Owner)
     (a : Alike (with_handle (with_mode (core_of t stored closed failures) row.number Mode.LoosePinned) row.node Mode.Pinned me) (core_of t1 stored closed failures)) where
-  abbrev one-more : HandleRow
-  one-more = row_of (t.holdings.last_handle + 1) row.node Mode.Pinned me
-
   pub pins-here : 0 < pins row.node.0 (live t1.holdings.handles.places.items)
   pins-here = grind (arith, nat_tests, sum_by_push, live)
 
@@ -255,13 +249,9 @@ module _ (t t1 : Tables) (stored : ℕ → Option Blob) (closed : Bool) (failure
       by : (b : Bool) → (n == row.node.0) ≡ b → has_value (counts_at t1.holdings.nodes n) ≡ (if b then true else has_value (counts_at t.holdings.nodes n))
       by true is = grind (arith, nat_tests, pinned-value, pins-here)
       by false is =
-          let other : (row.node.0 == n) ≡ false = grind (arith, nat_tests) in
           let rows = live t.holdings.handles.places.items in
-          let b = ap (pins n) a.rows in
-          let d = sum_by_push (λ y. one (is_pin n y)) (changed (is_handle row.number.0) turned rows) (one-more t t1 stored closed failures row me a) in
-          let f : one (is_pin n (one-more t t1 stored closed failures row me a)) ≡ 0 = ap (λ b. one (b && true)) other in
-          let g = other-pins row.number row.node rows (row-of rows was.core.handles.ordered row found) n other in
-          same-value (counts_at t.holdings.nodes n) (counts_at t1.holdings.nodes n) false (a.cells n) (omega arith) (λ eq. absurd (cc))
+          let same = other-pins row.number row.node rows (row-of rows was.core.handles.ordered row found) n in
+          grind (arith, nat_tests, same-value, sum_by_push, same, a.rows, a.cells n, was.steady.fits.pinned n, whole.steady.fits.pinned n)
 
 -- what is true with more places is true without them
 pub may-wider : {w v : Core} {me : Owner} {l : LoadNumber} {node : NodeNumber} {h : HandleNumber} {t : ℕ} {refs : List ArcRef} → IsWider w v → MayEnd v me l node h t refs → MayEnd w me l node h t refs

@@ -4,7 +4,7 @@ use Rattle.pagable_tables.proofs.Words.{IsHandleBefore, IsWhole, IsWithin, List,
 use Rattle.pagable_tables.proofs.Words.{if◌then◌else◌, inl, inr, is_at, is_handle, is_owned_by, is_pin, is_pinning, is_share, is_shared, is_some, left_rows, length, map, nat_lt, nat_tests, not, one}
 use Rattle.pagable_tables.proofs.{Words.{pins, refl, sharing, subst, sum_by-append, sym, times, true, zero, ℕ}, Bits.not-so, keeps.Kept.{GoOn, HasLike, IsIn, IsNew, IsOld, at-then, held-some, is-in}}
 use Rattle.pagable_tables.proofs.keeps.{Kept.{keeps-whole, keyed_in, stays-old, there-then, type_in}, Rows.{IsEntry, among-both, among-left, at-most-sum, counted, entries-listed, entry-is, one-left}}
-use Rattle.pagable_tables.proofs.keeps.{Rows.{ordered-entries, sum-none, within-goes}, Told.{GoesOn, roomy, settles, told-whole}}
+use Rattle.pagable_tables.proofs.keeps.{HandleCalls.lists, Rows.{ordered-entries, sum-none, within-goes}, Told.{GoesOn, roomy, settles, told-whole}}
 
 -- What a whole world has lost besides before handles fall: owners of the given handles, entries of the list that are given, and what the cache knew.
 pub record Loses (m : Core) (list : List HandleNumber) (known : ℕ → ℕ → Option ℕ) (reads : ℕ → Option OpenLoad) (works given : ℕ → Bool) : Type 0 where
@@ -92,10 +92,6 @@ module _ (before : Core) {m : Core} (whole : IsWhole m) (on : GoesOn before m) (
         typed = λ n t given is. old-cell type_in refl n t is;
         keyed = λ n like given none. keyless n (nat_lt 0 (held n after.rows)) none;
       }
-
-  -- the list's handles of one number
-  abbrev lists : ℕ → HandleRow → Bool
-  lists q h = is_handle q h && is_owned_by Owner.List h
 
   lists-only : (q : ℕ) (h : HandleRow) → lists q h ≡ true → h.number.0 ≡ q
   lists-only q h is = grind (arith, nat_tests)

@@ -1,7 +1,7 @@
 -- Calls on loads keep the world whole.
 use Rattle.pagable_tables.proofs.Words.{Among, ◌+◌, ◌<◌, ◌∙◌, ◌≡◌, ◌⊎◌, ArePlaced, BeginCall, BeginKeyCall, Beginning, Core, Err, Error, HandleNumber, HandleRow, IsNextLoad, IsRootWhole, IsWhole}
 use Rattle.pagable_tables.proofs.Words.{MayHold, MayOwnLoad, Mode, NodeNumber, Ok, OpenLoad, Option, Owner, Owns, Result, Root, Some, ap, arith, greatest, is_loose, is_some, nat_tests, of_cell}
-use Rattle.pagable_tables.proofs.{Words.{of_key, refl, sym, true, type_at, updated, with_handle, with_load, ℕ}, keeps.Kept.{GoOn, IsIn, in-still, is-in, keeps-whole, loads-stay, may-own, same-rows}}
+use Rattle.pagable_tables.proofs.{Words.{of_key, refl, true, type_at, updated, with_handle, with_load, ℕ}, keeps.Kept.{GoOn, IsIn, in-still, is-in, keeps-whole, loads-stay, may-own, same-rows}}
 use Rattle.pagable_tables.proofs.{keeps.{Kept.there-then, Comes.beside, HandleCalls.loose-unshared, Rows.found-among, Told.{alike-whole, roomy, roomy-whole, settles}}, Unpinning.updated-here}
 
 -- ---- one load more
@@ -44,12 +44,9 @@ begin-whole {w} {w'} me h (Ok (Beginning.Load l key)) whole may call placed =
         → IsWhole (roomy (with_load (with_handle w row.node Mode.LooseUnpinned (Owner.Load l)) key (of_cell row.node t h) me))
     begun row owns next left t typed key =
         let found = found-among h.0 w.rows row owns.live in
-        let root : IsRootWhole w row.node t h = record {
-          typed = λ type is. let e : Some type ≡ Some t = sym is ∙ typed in cc;
-          begun = λ x is. let e : Some row ≡ Some x = sym owns.live ∙ is in let same : row ≡ x = cc in
-              (ap (λ (y : HandleRow). y.node) (sym same), ap (λ (y : HandleRow). is_loose y.mode) (sym same) ∙ owns.as_asked);
-          given = let a = (whole.handles.numbered row found.0).1 in let b = found.1 in (omega arith, (whole.handles.nodes_numbered row.node.0 (there-then whole row found.0)).1);
-        } in
+        let few = whole.handles.numbered row found.0 in
+        let old = whole.handles.nodes_numbered row.node.0 (there-then whole row found.0) in
+        let root : IsRootWhole w row.node t h = grind (arith, nat_tests, owns.live, owns.as_asked) in
         let new : OpenLoad = record { owner = me; key = key; root = of_cell row.node t h } in
         beside (loaded-whole key new.root me whole may next.is_left (λ node t2 k is. named row t root node t2 k is)) row.node Mode.LooseUnpinned (Owner.Load l)
         (record { row = row; there = found.0; at = refl; same = loose-unshared row.mode owns.as_asked })
