@@ -67,10 +67,7 @@ pub later-by : {t t' : Tables} → AreLater t → t.holdings.last_handle ≤ t'.
 later-by {t} {t'} later last loads less own work =
     record {
       given = λ l load is. let a = later.given l load (loads l load is) in omega arith;
-      since = λ l load q is has. elim (own l q has) [
-        | inl had ↦ later.since l load q (loads l load is) had
-        | inr past ↦ (let a = later.given l load (loads l load is) in omega arith)
-      ];
+      since = λ l load q is has. let o = own l q has in let s = later.since l load q (loads l load is) in let a = later.given l load (loads l load is) in grind (arith, nat_tests);
       begun = λ v. let a = later.begun v in let b = less.before v in omega arith;
       reach = λ v q has. elim (work v q has) [
         | inl had ↦ less.wider v q (later.reach v q had)
@@ -117,7 +114,7 @@ later-opened {t} {t'} whole later newer m row none here since others same =
           | inl e ↦ absurd (none-owned (plain_of t) (Owner.Load (record { 0 = l })) q (λ h among of. closed l e (whole.owners_there.loads h (record { 0 = l }) among of)) there)
           | inr e ↦ later.since l load q (sym (others l e) ∙ is) there
         ]
-        | inr past ↦ elim (one l load is) [ inl now ↦ omega arith | inr was ↦ (let a = later.given l load was in omega arith) ]
+        | inr past ↦ let o = one l load is in grind (arith, nat_tests, later.given)
       ];
       begun = λ v. let a = later.begun v in let b = newer.last in let c = reaches v in omega arith;
       reach = λ v q own. let k = newer.kept (owner_worker v) q refl own in let r = later.reach v q in let a = later.begun v in grind (arith, nat_tests);
