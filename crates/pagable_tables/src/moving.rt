@@ -74,7 +74,10 @@ fn fault_at(handles: &Handles, owner: Owner, named: &[HandleNumber], place: usiz
         return Some(Error::NoSuchHandle);
     };
     let is_anothers = !is_owner(owner, at.row.owner);
-    refused_if(is_anothers || is_before(named, place, handle.0), Error::NotYours)
+    refused_if(
+        is_anothers || is_before(named, place, handle.0),
+        Error::NotYours,
+    )
 }
 
 /// Why the handles that are named can't all be handed over by this owner: one isn't live, or one is another's or is named twice.
