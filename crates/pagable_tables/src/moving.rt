@@ -10,7 +10,7 @@ ghost use Rattle.pagable_model.specs.declared.error.Error.TheVariants as errors;
 use crate::handles;
 use crate::handles::Handles;
 use crate::holdings::Holdings;
-use crate::references::{earlier, refused_if};
+use crate::references::earlier;
 use crate::rows::HandleAt;
 use crate::turning::is_owner;
 use pagable_model::{ArcRef, Error, HandleNumber};
@@ -73,11 +73,10 @@ fn fault_at(handles: &Handles, owner: Owner, named: &[HandleNumber], place: usiz
     let Some(at) = handles::look(handles, handle) else {
         return Some(Error::NoSuchHandle);
     };
-    let is_anothers = !is_owner(owner, at.row.owner);
-    refused_if(
-        is_anothers || is_before(named, place, handle.0),
-        Error::NotYours,
-    )
+    if !is_owner(owner, at.row.owner) || is_before(named, place, handle.0) {
+        return Some(Error::NotYours);
+    }
+    None
 }
 
 /// Why the handles that are named can't all be handed over by this owner: one isn't live, or one is another's or is named twice.
