@@ -15,8 +15,8 @@ pub kind-or-node-late : (w : Core) (b : Bool) (kind : Kind) (key : ℕ) (f : Err
 kind-or-node-late w b kind key f is = late (refused_if b Error.WrongKind) (node_fault w kind key) 3 (kind-late b) (λ g e. let a = node-late w kind key g e in omega arith) f is
 
 -- what refuses the load itself comes first
-not-own : {before : Option Error} {wanting : Type 0} (w : Core) (me : Owner) (l : LoadNumber) (rest : Option Error) (e : Error) → load_fault w me l ≡ Some e → ((f : Error) → rest ≡ Some f → 3 ≤ rank f)
-    → Refused (earlier (load_fault w me l) rest) before wanting w e w
+not-own : {before : Option Error} {wanting : Type 0} (w : Core) (me : Owner) (l : LoadNumber) (rest : Option Error) (e : Error) → load_fault w me l ≡ Some e
+    → ((f : Error) → rest ≡ Some f → 3 ≤ rank f) → Refused (earlier (load_fault w me l) rest) before wanting w e w
 not-own w me l rest e is late = record { why = inl (earlier-first (load_fault w me l) rest e is (λ f g. let a = load-low w me l e is in let b = late f g in omega arith)); stays = still w }
 
 pub lazy-not-own : (w : Core) (me : Owner) (l : LoadNumber) (kind : Kind) (key : ℕ) (e : Error) → load_fault w me l ≡ Some e → LazyCall w me l kind key (Err e) w

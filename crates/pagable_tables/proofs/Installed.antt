@@ -155,7 +155,8 @@ module _ (t t1 : Tables) (stored : ℕ → Option Blob) (closed lists : Bool) (f
           open_storage = e;
           fewer = λ n. omega arith;
           shared = λ n. omega arith;
-          uniform = λ n. let b = (begins t1 stored closed lists failures whole e).uniform n in let p = as-moved (is_share n) (λ y. refl) in let q = as-moved (is_plain_pin n) (λ y. refl) in grind (arith, nat_tests);
+          uniform = λ n. let b = (begins t1 stored closed lists failures whole e).uniform n in
+              let p = as-moved (is_share n) (λ y. refl) in let q = as-moved (is_plain_pin n) (λ y. refl) in grind (arith, nat_tests);
           listed = λ q. let a = list-has q in omega arith;
         })
         (rows ∙ come) (ap (λ v. v.items) list ∙ a.list) (last ∙ ap (λ (v : Last). v.handle) a.last)

@@ -19,7 +19,8 @@ loaded-whole {w} key root me whole may left good =
     let new : OpenLoad = record { owner = me; key = key; root = root } in
     let after = with_load w key root me in
     let on : GoOn w after = same-rows whole refl (λ n. refl) refl refl (omega arith) in
-    let owners : (h : HandleRow) → Among w.rows h → IsIn after h.mode h.owner = λ h among. in-still w after (some-updated (w.last.load + 1) new w.loads) (λ v is. is) h.mode h.owner (is-in whole h among) in
+    let owners : (h : HandleRow) → Among w.rows h → IsIn after h.mode h.owner =
+    λ h among. in-still w after (some-updated (w.last.load + 1) new w.loads) (λ v is. is) h.mode h.owner (is-in whole h among) in
     keeps-whole whole (grind (arith, nat_tests, loads-stay, at-updated, may-own))
 
 pub begin-key-whole : {w w' : Core} (me : Owner) (key : ℕ) (r : Result Beginning Error) → IsWhole w → MayOwnLoad w me → BeginKeyCall w me key r w' → ArePlaced w' → IsWhole w'
