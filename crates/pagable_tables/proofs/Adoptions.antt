@@ -1,11 +1,10 @@
 -- What a load asks and reads: why it can't become a node, and what becomes of it.
 use Rattle.pagable_tables.proofs.Words.{◌≡◌, ℕ, ◌<◌, ◌≤◌, Bool, true, false, if◌then◌else◌, refl, ap, ◌∙◌, arith, Ok, Err, Some, None, inl, inr, not, is_some, Result, [], Error, HandleNumber}
 use Rattle.pagable_tables.proofs.Words.{LoadNumber, NodeNumber, Kind, Owner, Mode, is_loose_kind, mode_of, Core, OpenLoad, greatest, usable, Alike, rank, earlier, refused_if, spent, load_fault}
-use Rattle.pagable_tables.proofs.Words.{OwnsLoad, Refused, birth_fault, node_fault, lazy_fault, adopted, LazyCall, OptionalDataKey, key_in, Makes, nat_tests, ◌==◌, List, Option, ArcRef, Blob}
-use Rattle.pagable_tables.proofs.Words.{type_of, or_else, references_fault, AreHandlesFull, FallsAnyhow, with_handle, is_named_by, adopt_fault, first_key, Adopts, early_fault, OnlyRoom, Tables}
-use Rattle.pagable_tables.proofs.{Words.{ArePlaced, core_of, plain_of, ◌&&◌, ◌≢◌, ◌⊎◌, with_cached, is_usable, recall_fault, RecallCall, AsksKnown}, Opened.{earlier-first, load-low, no-load-fault}}
-use Rattle.pagable_tables.proofs.{Opened.{late, kind-late, references-low, spent-late}, Worlds.{still, usable-same}, Readied.{fault-by, room-alike}, keeps.EndCalls.{adopt-whole, both-none}}
-use Rattle.pagable_tables.proofs.keeps.Fallen.{opened}
+use Rattle.pagable_tables.proofs.Words.{OwnsLoad, Refused, birth_fault, node_fault, lazy_fault, adopted, LazyCall, OptionalDataKey, key_in, Makes, nat_tests, ◌==◌, List, Option, ArcRef, Blob, type_of}
+use Rattle.pagable_tables.proofs.Words.{or_else, references_fault, AreHandlesFull, FallsAnyhow, with_handle, is_named_by, adopt_fault, first_key, Adopts, early_fault, OnlyRoom, Tables, ArePlaced}
+use Rattle.pagable_tables.proofs.{Words.{core_of, plain_of, ◌&&◌, ◌≢◌, ◌⊎◌, with_cached, is_usable, RecallCall, AsksKnown}, Opened.{earlier-first, load-low, no-load-fault, late, kind-late}}
+use Rattle.pagable_tables.proofs.{Opened.{references-low, spent-late}, Worlds.{still, usable-same}, Readied.{fault-by, room-alike}, keeps.{EndCalls.{adopt-whole, both-none}, Fallen.opened}}
 use Rattle.pagable_world.specs.Calls.{IsNext}
 use Rattle.pagable_world.specs.Pager as pager
 
@@ -15,15 +14,13 @@ node-late w kind key f is = grind (arith, nat_tests)
 pub kind-or-node-late : (w : Core) (b : Bool) (kind : Kind) (key : ℕ) (f : Error) → earlier (refused_if b Error.WrongKind) (node_fault w kind key) ≡ Some f → 3 ≤ rank f
 kind-or-node-late w b kind key f is = late (refused_if b Error.WrongKind) (node_fault w kind key) 3 (kind-late b) (λ g e. let a = node-late w kind key g e in omega arith) f is
 
+-- what refuses the load itself comes first
+not-own : {before : Option Error} {wanting : Type 0} (w : Core) (me : Owner) (l : LoadNumber) (rest : Option Error) (e : Error) → load_fault w me l ≡ Some e
+    → ((f : Error) → rest ≡ Some f → 3 ≤ rank f) → Refused (earlier (load_fault w me l) rest) before wanting w e w
+not-own w me l rest e is late = record { why = inl (earlier-first (load_fault w me l) rest e is (λ f g. let a = load-low w me l e is in let b = late f g in omega arith)); stays = still w }
+
 pub lazy-not-own : (w : Core) (me : Owner) (l : LoadNumber) (kind : Kind) (key : ℕ) (e : Error) → load_fault w me l ≡ Some e → LazyCall w me l kind key (Err e) w
-lazy-not-own w me l kind key e is =
-    record {
-      makes = tt;
-      refused = record {
-        why = inl (earlier-first (load_fault w me l) (earlier (refused_if (not (is_loose_kind kind.0)) Error.WrongKind) (node_fault w kind key)) e is (λ f late. let a = load-low w me l e is in let b = kind-or-node-late w (not (is_loose_kind kind.0)) kind key f late in omega arith));
-        stays = still w;
-      };
-    }
+lazy-not-own w me l kind key e is = record { makes = tt; refused = not-own w me l _ e is (kind-or-node-late w (not (is_loose_kind kind.0)) kind key) }
 
 module _ (w : Core) (me : Owner) (l : LoadNumber) (load : OpenLoad) (kind : Kind) (key : ℕ) (own : OwnsLoad w me l load) where
   pub lazy-not-loose : is_loose_kind kind.0 ≡ false → LazyCall w me l kind key (Err Error.WrongKind) w
@@ -42,7 +39,7 @@ module _ (w : Core) (me : Owner) (l : LoadNumber) (load : OpenLoad) (kind : Kind
       fresh = lazy-cause ∙ ap (λ b. if b then spent w.last.handle else birth_fault w) (ap is_some none)
 
       pub lazy-not-new : {e : Error} {w' : Core} → Refused (birth_fault w) (birth_fault w) (Unit {0}) w e w' → LazyCall w me l kind key (Err e) w'
-      lazy-not-new r = record { makes = tt; refused = record { why = elim r.why [ inl a ↦ inl (fresh ∙ a) | inr b ↦ inr (b.0, fresh ∙ b.1, inl none) ]; stays = r.stays } }
+      lazy-not-new r = grind (arith, nat_tests, fresh)
 
       pub lazy-new : (k : HandleNumber) {w' : Core} → w.last.node < greatest → IsNext k w → Alike (adopted w l kind key (OptionalDataKey.Some key) []) w' → LazyCall w me l kind key (Ok k) w'
       lazy-new k node_left next made = record { makes = (load, own, loose, inr (none, node_left, next, made)); refused = tt }
@@ -147,20 +144,11 @@ module _ (w w' : Core) (kind : Kind) (key : ℕ) (n : NodeNumber) (cache : ℕ �
   abbrev known : ℕ → ℕ → Option ℕ
   known k q = if k == kind.0 && q == key then Some n.0 else w.cache k q
 
-  known-here : (k q : ℕ) → k ≡ kind.0 → q ≡ key → known k q ≡ Some n.0
-  known-here k q e f = let h : (k == kind.0 && q == key) ≡ true = grind (arith, nat_tests) in rw h refl
-
-  known-other : (k q : ℕ) → (k ≢ kind.0) ⊎ (q ≢ key) → known k q ≡ w.cache k q
-  known-other k q x2 = grind (arith, nat_tests)
-
-  split : (k q : ℕ) → ((k ≡ kind.0) × (q ≡ key)) ⊎ ((k ≢ kind.0) ⊎ (q ≢ key))
-  split k q = grind (arith, nat_tests)
-
-  found : (k q : ℕ) → k ≡ kind.0 → q ≡ key → cache k q ≡ Some n.0
-  found k q e f = ap (λ k. cache k q) e ∙ ap (cache kind.0) f ∙ here
+  same : (k q : ℕ) → ((known k q ≡ Some n.0) × (cache k q ≡ Some n.0)) ⊎ ((known k q ≡ w.cache k q) × (cache k q ≡ w'.cache k q))
+  same k q = grind (arith, nat_tests)
 
   pub learned : Alike (with_cached w kind key n) (record w' { cache = cache })
-  learned = grind (arith, nat_tests, split, usable-same, found, known-here, known-other)
+  learned = grind (arith, nat_tests, same, usable-same)
 
 -- the cache learns while the storage is open
 pub if-open : (closed : Bool) (w w' : Core) (kind : Kind) (key : ℕ) (n : NodeNumber) → (closed ≡ true → Alike w w') → (closed ≡ false → Alike (with_cached w kind key n) w') → Alike (if closed then w else with_cached w kind key n) w'
@@ -170,8 +158,4 @@ pub recalls-asked : (w : Core) (me : Owner) (l : LoadNumber) (load : OpenLoad) (
 recalls-asked w me l load kind key r w' own call = grind (arith, nat_tests)
 
 pub not-asked : (w : Core) (me : Owner) (l : LoadNumber) (kind : Kind) (key : ℕ) (e : Error) → load_fault w me l ≡ Some e → AsksKnown w me l kind key (Err e) w
-not-asked w me l kind key e is =
-    record {
-      gives = tt;
-      refused = record { why = inl (earlier-first (load_fault w me l) (recall_fault w kind key) e is (λ f late. let a = load-low w me l e is in let b = spent-late w.last.handle (is_usable w kind key) f late in omega arith)); stays = still w };
-    }
+not-asked w me l kind key e is = record { gives = tt; refused = not-own w me l _ e is (λ f late. let b = spent-late w.last.handle (is_usable w kind key) f late in omega arith) }

@@ -1,5 +1,5 @@
 -- Truth values, and what they count.
-use Rattle.pagable_tables.proofs.Words.{◌≡◌, ◌<◌, ◌≤◌, ◌&&◌, Bool, true, false, not, arith, nat_tests, one}
+use Rattle.pagable_tables.proofs.Words.{◌≡◌, ◌≤◌, ◌&&◌, Bool, true, false, not, arith, nat_tests, one, Option, Some, None, if_there, refl}
 
 pub and-zero : (b : Bool) → one (b && false) ≡ 0
 and-zero b = grind (arith, nat_tests)
@@ -19,8 +19,10 @@ had g o e = grind (arith, nat_tests)
 pub one-le : (b : Bool) → one b ≤ 1
 one-le b = grind (arith, nat_tests)
 
-pub one-true : (b : Bool) → 0 < one b → b ≡ true
-one-true b some = grind (arith, nat_tests)
-
 pub not-so : (b : Bool) → not b ≡ true → b ≡ false
 not-so b e = grind (arith, nat_tests)
+
+-- what passes a test is there
+pub there-is : {X : Type 0} (test : X → Bool) (o : Option X) → if_there test false o ≡ true → (x : X) × (o ≡ Some x) × (test x ≡ true)
+there-is test (Some x) is = (x, refl, is)
+there-is test None is = absurd (cc)

@@ -15,9 +15,9 @@ owned-by-none n q x e = let a = no-value n x.owner e in grind (arith, nat_tests)
 pub is-free : (at : ℕ → Option Counts) (refs : ℕ → List ArcRef) (rows : List HandleRow) (top : ℕ) (n : ℕ) (c : Counts) → Fits at refs rows top [] owns_nothing → at n ≡ Some c → c.is_falling ≡ false
 is-free at refs rows top n c fits is = let a = fits.marked n in let b = ap falls_in is in grind (arith, nat_tests)
 
--- what is there has a number from 1 on
-not-zero : {at : ℕ → Option Counts} {refs : ℕ → List ArcRef} {rows : List HandleRow} {top n : ℕ} {c : Counts} → Fits at refs rows top [] owns_nothing → at n ≡ Some c → 0 ≢ n
-not-zero {at = at} {c = c} fits is z = absurd (let a : at 0 ≡ Some c = ap at z ∙ is in cc (a, fits.from_one))
+-- a node that is there isn't 0
+pub not-zero : (at : ℕ → Option Counts) (n : ℕ) (c : Counts) → at 0 ≡ None → at n ≡ Some c → 0 ≢ n
+not-zero at n c none is z = absurd (let a : at 0 ≡ Some c = ap at z ∙ is in cc (a, none))
 
 module _ (at at' : ℕ → Option Counts) (refs refs' : ℕ → List ArcRef) (rows : List HandleRow) (top : ℕ) (x : HandleRow) (c : Counts)
     (fits : Fits at refs rows top [] owns_nothing) (is : at x.node.0 ≡ Some c)
@@ -38,7 +38,7 @@ module _ (at at' : ℕ → Option Counts) (refs refs' : ℕ → List ArcRef) (ro
           | inl e ↦ subst (λ m. Right (at' m) (refs' m)) (sym e) right-here
           | inr e ↦ subst (λ o. Right o (refs' n)) (sym (others n e)) (subst (λ r. Right (at n) r) (sym (same n)) (fits.right n))
         ];
-        from_one = others 0 (not-zero fits is) ∙ fits.from_one;
+        from_one = others 0 (not-zero at x.node.0 c fits.from_one is) ∙ fits.from_one;
       }
 
   pub come-cells : SameAt (λ n. cell_in (at n)) (λ n. cell_in (at' n))
@@ -76,7 +76,7 @@ module _ (at at' : ℕ → Option Counts) (refs refs' : ℕ → List ArcRef) (ro
   turn-right = grind (arith, nat_tests)
 
   pub turn-fits : Fits at' refs' rows' top [] owns_nothing
-  turn-fits = grind (arith, nat_tests, cases_eq, pin-here, pin-turned, pin-other, pin-turned-other, named, turn-right, not-zero fits is)
+  turn-fits = grind (arith, nat_tests, cases_eq, pin-here, pin-turned, pin-other, pin-turned-other, named, turn-right, not-zero at x.node.0 c fits.from_one is)
 
   pub turn-cells : SameAt (λ n. cell_in (at n)) (λ n. cell_in (at' n))
   turn-cells n = grind (arith, nat_tests)

@@ -1,17 +1,15 @@
 -- A load of a cell ends with a pin, and gives up what it still owns. The pin stays, so that cells are listed as of the world before.
 use Rattle.pagable_tables.proofs.Words.{◌≡◌, ℕ, ◌<◌, ◌==◌, List, [], ◌∷◌, refl, ap, sym, ◌∙◌, subst, arith, Option, Some, None, ◌⊎◌, ◌≤◌, ◌+◌, not, vec_capacity, nat_tests, Error, ArcRef}
-use Rattle.pagable_tables.proofs.Words.{HandleNumber, LoadNumber, NodeNumber, HandleRow, Owner, if_there, Core, OpenLoad, Places, of_cell, of_key, greatest, AreHandlesFull, refused_if}
-use Rattle.pagable_tables.proofs.Words.{where_so, spent, load_fault, references_fault, MayOwnLoad, root_fault, end_fault, is_owned_in, MayEnd, Handles, Tables, live, room, AreSound}
-use Rattle.pagable_tables.proofs.Words.{IsNext, counts_at, refs_at, plain_of, Ending, IsReady, ◌&&◌, Bool, true, false, ◌++◌, length, inl, inr, if◌then◌else◌, ◌≢◌, Result, option_map, AllPairs}
-use Rattle.pagable_tables.proofs.Words.{sum_by_push, Mode, Blob, Among, one, times, changed, find_row, pins, sharing, is_handle, is_owner, is_owned_by, is_pin, is_share, owner_value, IsHandleBefore}
-use Rattle.pagable_tables.proofs.Words.{Last, Alike, Falls, nobody, moved, row_of, is_named_by, with_handle, with_mode, without_load, with_pin, Installs, Holdings, Counts, LoadRow, load_at, cell_in}
-use Rattle.pagable_tables.proofs.{Words.{has_value, is_valued, pins_in, with_tables, is_plain_pin, SoFar, core_of, load_in, MayHold, IsWider, has_come}, Coming.{rows-told, turned}}
-use Rattle.pagable_tables.proofs.{keeps.Told.alike-whole, keeps.Placed.whole-so, keeps.EndCalls.both-none, Newer.{OnlyNewer, owned-mode, newer-then, newer-moved, newer-mode, newer-handle}}
-use Rattle.pagable_tables.proofs.Worlds.{alike, fault-by}
-use Rattle.pagable_tables.proofs.{Newer.newer-falls, Begun.{begins, begun}, Taken.{load-closed, owned-given, moved-times, owned-moved, no-load}, Joined.{moved-turned, turned-sum}, Named.moved-nobody}
-use Rattle.pagable_tables.proofs.{Named.named-none, Regiven.{found-first, owned, passes-here, passes-none}, Stays.{seen-before, stays-pinned, not-named, same-value}, keeps.HandleCalls.named-unlisted}
-use Rattle.pagable_tables.proofs.{keeps.HandleCalls.moved-to-value, keeps.Comes.{not-list, not-a-value}, keeps.LoadCalls.may-hold, keeps.Rows.{among-map, found-among, once, ordered-map, sum-map}}
-use Rattle.pagable_tables.{proofs.Bits.{and-zero, and-left, and-all}, specs.Core.IsWhole}
+use Rattle.pagable_tables.proofs.Words.{HandleNumber, LoadNumber, NodeNumber, HandleRow, Owner, if_there, Core, OpenLoad, Places, of_cell, of_key, greatest, AreHandlesFull, refused_if, where_so}
+use Rattle.pagable_tables.proofs.Words.{spent, load_fault, references_fault, MayOwnLoad, root_fault, end_fault, is_owned_in, MayEnd, Tables, live, room, AreSound, counts_at, plain_of, Ending, IsReady}
+use Rattle.pagable_tables.proofs.Words.{◌&&◌, Bool, true, false, ◌++◌, length, inl, inr, if◌then◌else◌, ◌≢◌, Result, option_map, AllPairs, sum_by_push, Mode, Blob, Among, one, times, changed}
+use Rattle.pagable_tables.proofs.Words.{find_row, pins, sharing, is_handle, is_owner, is_owned_by, is_pin, is_share, owner_value, IsHandleBefore, Last, Alike, Falls, nobody, moved, row_of}
+use Rattle.pagable_tables.proofs.Words.{is_named_by, with_handle, with_mode, without_load, with_pin, Installs, Holdings, Counts, LoadRow, load_at, cell_in, has_value, is_valued, pins_in, with_tables}
+use Rattle.pagable_tables.proofs.{Words.{is_plain_pin, SoFar, core_of, load_in, MayHold, IsWider, has_come}, Coming.turned, keeps.EndCalls.both-none, Newer.{OnlyNewer, owned-mode, newer-then}}
+use Rattle.pagable_tables.proofs.{Newer.{newer-moved, newer-mode, newer-handle, newer-falls}, Worlds.fault-by, Begun.{begins, begun}, Taken.{load-closed, owned-given, moved-times, owned-moved}}
+use Rattle.pagable_tables.proofs.{Taken.no-load, Joined.{moved-turned, turned-sum}, Named.{moved-nobody, named-none}, Regiven.{found-first, owned, passes-here, passes-none}, Stays.seen-before}
+use Rattle.pagable_tables.proofs.{Stays.{stays-pinned, not-named, same-value}, keeps.HandleCalls.{named-unlisted, moved-to-value}, keeps.Comes.{not-list, not-a-value}, keeps.LoadCalls.may-hold}
+use Rattle.pagable_tables.{proofs.{keeps.Rows.{among-map, found-among, once, ordered-map, sum-map}, Bits.{and-zero, and-left, and-all}}, specs.Core.IsWhole}
 
 typed-so : (a b : ℕ) → refused_if (not (a == b)) Error.WrongKind ≡ None → a ≡ b
 typed-so a b e = grind (arith, nat_tests)
@@ -48,15 +46,6 @@ module _ (w : Core) (me : Owner) (l : LoadNumber) (node_type : ℕ) (refs : List
 -- references are as good where there are other places
 pub references-placed : (w : Core) (places : Places) (owner : Owner) (seen : List ℕ) (refs : List ArcRef) → references_fault (record w { places = places }) owner seen refs ≡ references_fault w owner seen refs
 references-placed w places = fault-by w (record w { places = places })
-
--- more places, and all as it was
-pub placed-whole : (t : Tables) (h : Handles) → IsWhole t → AreSound h → ((q : ℕ) → IsNext q t.holdings.handles.places.items → IsNext q h.places.items)
-    → live h.places.items ≡ live t.holdings.handles.places.items → vec_capacity t.holdings.handles.places ≤ vec_capacity h.places → IsWhole (record t { holdings = record t.holdings { handles = h } })
-placed-whole t h w sound next rows more =
-    let k = t.holdings in
-    whole-so
-    (record { sound = sound; next = next (k.last_handle + 1) w.steady.next; fits = rows-told (counts_at k.nodes) (refs_at k.nodes) (live k.handles.places.items) (live h.places.items) k.top rows w.steady.fits })
-    (alike-whole w.core (alike (plain_of t) (plain_of (record t { holdings = record t.holdings { handles = h } })) rows (λ n. refl) (record { handles = more; entries = omega arith }) refl))
 
 -- neither number nor place is wanting
 pub no-wanting : (t : Tables) (e : Error) → AreSound t.holdings.handles → t.holdings.last_handle < greatest → 1 ≤ room t.holdings.handles
@@ -166,10 +155,8 @@ module _ (t t1 : Tables) (stored : ℕ → Option Blob) (closed lists : Bool) (f
           open_storage = e;
           fewer = λ n. omega arith;
           shared = λ n. omega arith;
-          uniform = λ n. elim ((begins t1 stored closed lists failures whole e).uniform n) [
-            | inl none ↦ inl (as-moved (is_share n) (λ y. refl) ∙ none)
-            | inr none ↦ inr (as-moved (is_plain_pin n) (λ y. refl) ∙ none)
-          ];
+          uniform = λ n. let b = (begins t1 stored closed lists failures whole e).uniform n in
+              let p = as-moved (is_share n) (λ y. refl) in let q = as-moved (is_plain_pin n) (λ y. refl) in grind (arith, nat_tests);
           listed = λ q. let a = list-has q in omega arith;
         })
         (rows ∙ come) (ap (λ v. v.items) list ∙ a.list) (last ∙ ap (λ (v : Last). v.handle) a.last)
@@ -182,13 +169,7 @@ module _ (t t1 : Tables) (stored : ℕ → Option Blob) (closed lists : Bool) (f
     owned-pinned q = loaded-beside l q mid x unloaded ∙ owned-mode (Owner.Load l) q (is_handle h.0) Mode.LoosePinned rows0 ∙ owned-moved s o (Owner.Load l) q w.rows refl
 
     spared-pin : given (t.holdings.last_handle + 1) ≡ false
-    spared-pin = by (given (t.holdings.last_handle + 1)) refl
-      where
-        by : (b : Bool) → given (t.holdings.last_handle + 1) ≡ b → b ≡ false
-        by false eq = refl
-        by true eq =
-            let own = and-left (is_owned_in w (Owner.Load l) (t.holdings.last_handle + 1)) (not (s (t.holdings.last_handle + 1))) eq in
-            absurd (let g = owned-given (plain_of t) (Owner.Load l) (t.holdings.last_handle + 1) was.core.handles own in omega arith)
+    spared-pin = grind (arith, nat_tests, and-left, owned-given (plain_of t) (Owner.Load l) (t.holdings.last_handle + 1) was.core.handles)
 
     ordered : AllPairs IsHandleBefore u.rows
     ordered = grind (arith, nat_tests, come, ordered-map)
@@ -231,9 +212,6 @@ not-so x0 e = grind (arith, nat_tests)
 -- t1 is t with the pins
 module _ (t t1 : Tables) (stored : ℕ → Option Blob) (closed : Bool) (failures : ℕ) (row : HandleRow) (me : Owner)
     (a : Alike (with_handle (with_mode (core_of t stored closed failures) row.number Mode.LoosePinned) row.node Mode.Pinned me) (core_of t1 stored closed failures)) where
-  abbrev one-more : HandleRow
-  one-more = row_of (t.holdings.last_handle + 1) row.node Mode.Pinned me
-
   pub pins-here : 0 < pins row.node.0 (live t1.holdings.handles.places.items)
   pins-here = grind (arith, nat_tests, sum_by_push, live)
 
@@ -272,13 +250,9 @@ module _ (t t1 : Tables) (stored : ℕ → Option Blob) (closed : Bool) (failure
       by : (b : Bool) → (n == row.node.0) ≡ b → has_value (counts_at t1.holdings.nodes n) ≡ (if b then true else has_value (counts_at t.holdings.nodes n))
       by true is = grind (arith, nat_tests, pinned-value, pins-here)
       by false is =
-          let other : (row.node.0 == n) ≡ false = grind (arith, nat_tests) in
           let rows = live t.holdings.handles.places.items in
-          let b = ap (pins n) a.rows in
-          let d = sum_by_push (λ y. one (is_pin n y)) (changed (is_handle row.number.0) turned rows) (one-more t t1 stored closed failures row me a) in
-          let f : one (is_pin n (one-more t t1 stored closed failures row me a)) ≡ 0 = ap (λ b. one (b && true)) other in
-          let g = other-pins row.number row.node rows (row-of rows was.core.handles.ordered row found) n other in
-          same-value (counts_at t.holdings.nodes n) (counts_at t1.holdings.nodes n) false (a.cells n) (omega arith) (λ eq. absurd (cc))
+          let same = other-pins row.number row.node rows (row-of rows was.core.handles.ordered row found) n in
+          grind (arith, nat_tests, same-value, sum_by_push, same, a.rows, a.cells n, was.steady.fits.pinned n, whole.steady.fits.pinned n)
 
 -- what is true with more places is true without them
 pub may-wider : {w v : Core} {me : Owner} {l : LoadNumber} {node : NodeNumber} {h : HandleNumber} {t : ℕ} {refs : List ArcRef} → IsWider w v → MayEnd v me l node h t refs → MayEnd w me l node h t refs

@@ -1,7 +1,7 @@
 -- A node gets a key: handles and nodes fit again, and nothing else has gone or come so far.
 use Rattle.pagable_tables.proofs.Words.{◌≡◌, ℕ, ◌<◌, ◌==◌, ◌&&◌, ◌||◌, Bool, true, false, if◌then◌else◌, List, [], ◌∷◌, refl, ap, sym, ◌∙◌, subst, arith, inl, inr, Option, Some, ◌≢◌, nat_lt, not}
 use Rattle.pagable_tables.proofs.Words.{cases_eq, nat_tests, ArcRef, HandleRow, one, Counts, Fits, Chain, Right, is_new, falls_in, often, named, owns_nothing, keyed, None, NodeNumber, Blob, with_key}
-use Rattle.pagable_tables.{proofs.{Words.{Core, nobody, Tables, Holdings, counts_at, GetsKey, Begins, SoFar, core_of}, Coming.is-free, Begun.{begins, begun}}, specs.Core.IsWhole}
+use Rattle.pagable_tables.{proofs.{Words.{Core, nobody, Tables, Holdings, counts_at, GetsKey, SoFar, core_of}, Coming.{is-free, not-zero}, Begun.{begins, begun}}, specs.Core.IsWhole}
 
 keyed-right : (w bare : Bool) (p h : ℕ) (k key : ℕ) → w ≡ false → 0 < key → (if w then h == 0 || (p == 0 && nat_lt 0 k) else nat_lt 0 h && (nat_lt 0 p || not (nat_lt 0 k) || bare)) ≡ true
     → (if p == 0 then h == 0 || (p == 0 && nat_lt 0 key) else nat_lt 0 h && (nat_lt 0 p || not (nat_lt 0 key) || bare)) ≡ true
@@ -17,9 +17,6 @@ module _ (at at' : ℕ → Option Counts) (refs refs' : ℕ → List ArcRef) (ro
   told : {X : Type 0} (f : Option Counts → X) → f (Some (keyed c key top)) ≡ f (Some c) → (m : ℕ) → f (at' m) ≡ f (at m)
   told f e m = elim (cases_eq m n) [ inl eq ↦ ap (λ k. f (at' k)) eq ∙ ap f here ∙ e ∙ sym (ap f is) ∙ sym (ap (λ k. f (at k)) eq) | inr other ↦ ap f (others m other) ]
 
-  real : 0 ≢ n
-  real z = absurd (let a : at 0 ≡ Some c = ap at z ∙ is in cc (a, fits.from_one))
-
   key-chain : (b : Bool) → (c.pins == 0) ≡ b → Chain at' (if b then n else top) (if b then n ∷ [] else [])
   key-chain x0 e = grind (arith, nat_tests)
 
@@ -33,10 +30,7 @@ module _ (at at' : ℕ → Option Counts) (refs refs' : ℕ → List ArcRef) (ro
   ]
 
   pub key-fits : (b : Bool) → (c.pins == 0) ≡ b → Fits at' refs' rows (if b then n else top) (if b then n ∷ [] else []) owns_nothing
-  key-fits b e = grind (arith, nat_tests, told, named, key-chain, key-marked, key-right, real)
-
-keyed-begins : (before w : Core) (node : NodeNumber) (key : ℕ) (lists : Bool) → Begins before w lists → Begins before (with_key w node key) lists
-keyed-begins before w node key lists b = record { open_storage = b.open_storage; fewer = b.fewer; shared = b.shared; uniform = b.uniform; listed = b.listed }
+  key-fits b e = grind (arith, nat_tests, told, named, key-chain, key-marked, key-right, not-zero at n c fits.from_one is)
 
 module _ (T : Tables) (stored : ℕ → Option Blob) (closed lists : Bool) (failures : ℕ) (whole : IsWhole T) (opened : lists ≡ not closed) (node : NodeNumber) (key : ℕ) (new : Holdings) where
   abbrev old : Core
@@ -45,7 +39,8 @@ module _ (T : Tables) (stored : ℕ → Option Blob) (closed lists : Bool) (fail
   pub keyed-on : new ≡ record T.holdings { unlisted = None; nodes = new.nodes; top = new.top } → GetsKey (counts_at T.holdings.nodes) (counts_at new.nodes) node.0 key
       → SoFar old (with_key old node key) nobody lists new
   keyed-on same cells =
+      let b = begins T stored closed lists failures whole opened in
       subst (SoFar old (with_key old node key) nobody lists) (sym same)
       (begun old (with_key old node key) lists (record T.holdings { unlisted = None; nodes = new.nodes; top = new.top })
-      (keyed-begins old old node key lists (begins T stored closed lists failures whole opened)) refl refl refl whole.core.handles.within.0
+      (record { open_storage = b.open_storage; fewer = b.fewer; shared = b.shared; uniform = b.uniform; listed = b.listed }) refl refl refl whole.core.handles.within.0
       (record { handles = omega arith; entries = omega arith }) cells refl (λ n must. let a = must.pinned in let b = must.unpinned in absurd (omega arith)))

@@ -1,11 +1,11 @@
 -- What loads own is what they owned, or has come since.
 use Rattle.pagable_tables.proofs.Words.{◌≡◌, ℕ, ◌+◌, ◌<◌, ◌≤◌, ◌++◌, ◌∷◌, [], Bool, true, false, not, List, refl, ap, sym, ◌∙◌, arith, Option, Some, None, inl, inr, ◌⊎◌, ◌≢◌, Result, Ok, Err, is_some}
-use Rattle.pagable_tables.proofs.Words.{option_map, cases_eq, Error, HandleNumber, LoadNumber, NodeNumber, HandleRow, Owner, Mode, Pinning, Kind, ArcRef, OptionalDataKey, if_there, type_of}
-use Rattle.pagable_tables.proofs.Words.{changed, is_handle, is_owner, is_owned_by, owner_value, find_row, mode_of, Core, Last, Alike, Falls, only_handle, with_handle, with_node, next_node}
-use Rattle.pagable_tables.proofs.Words.{with_cached_if_open, is_named_by, moved, with_mode, LoosenCall, PinCall, UnpinCall, ReleaseCall, SetKeyCall, ScheduleCall, OfferCall, CloseCall}
-use Rattle.pagable_tables.proofs.Words.{is_owned_in, adopted, first_key, Adopts, DropCall, LazyCall, LoadRow, Tables, load_at, plain_of, load_in, Makes, AreLater, nat_tests, Among, subst, owner_worker, reach_at, InReach, IsNoLess, Reach, IndexMap, worker_at, anywhere}
-use Rattle.std.specs.Option.{option_map_or}
-use Rattle.pagable_tables.proofs.{Regiven.{owned, passes-here, passes-left, no-entry, unlisting}, Taken.owned-moved, Bits.{and-left, had}, Worlds.owner-same, keeps.Rows.{found-among, found-push}}
+use Rattle.pagable_tables.proofs.Words.{option_map, cases_eq, Error, HandleNumber, LoadNumber, NodeNumber, HandleRow, Owner, Mode, Kind, ArcRef, OptionalDataKey, if_there, type_of, changed, is_handle}
+use Rattle.pagable_tables.proofs.Words.{is_owner, is_owned_by, owner_value, find_row, mode_of, Core, Last, Alike, Falls, only_handle, with_handle, with_node, next_node, with_cached_if_open}
+use Rattle.pagable_tables.proofs.Words.{is_named_by, moved, with_mode, UnpinCall, ReleaseCall, SetKeyCall, ScheduleCall, OfferCall, CloseCall, is_owned_in, adopted, first_key, Adopts, DropCall}
+use Rattle.pagable_tables.proofs.Words.{LazyCall, LoadRow, Tables, load_at, plain_of, load_in, Makes, AreLater, nat_tests, Among, subst, owner_worker, reach_at, InReach, IsNoLess, Reach, IndexMap}
+use Rattle.pagable_tables.proofs.{Words.worker_at, Regiven.{owned, passes-here, passes-left, no-entry, unlisting}, Taken.owned-moved, Bits.{and-left, had, there-is}, Worlds.owner-same}
+use Rattle.pagable_tables.proofs.keeps.Rows.{found-among, found-push}
 use Rattle.pagable_world.specs.Pager as pager
 
 -- loads and workers give up what they have together
@@ -58,12 +58,7 @@ pub newer-mode : (w : Core) (h : HandleNumber) (mode : Mode) → OnlyNewer w (wi
 newer-mode w h mode = record { last = omega arith; kept = λ o q gives own. inl (sym (owned-mode o q (is_handle h.0) mode w.rows) ∙ own) }
 
 pub newer-falls : {before u w' : Core} {given : ℕ → Bool} {r : Result (Unit {0}) Error} → Falls before u given r w' → OnlyNewer u w'
-newer-falls {before} {u} {w'} falls =
-    record {
-      last = (let e = ap (λ (l : Last). l.handle) falls.leaves.last in omega arith);
-      kept = λ o q gives own. inl (had (falls.gone q) (owned o q u.rows) (sym (ap (owned o q) falls.leaves.rows
-          ∙ passes-left (is_owned_by o) q falls.gone falls.entries u.rows (no-entry (is_owned_by o) q (unlisting o (not-giver o Owner.List gives refl)) u.last.handle falls.entries falls.new)) ∙ own));
-    }
+newer-falls {before} {u} {w'} falls = grind (arith, nat_tests, had, passes-left, no-entry, unlisting, not-giver)
 
 -- the open loads are ones that were open, and what a worker got besides is in its reach
 pub later-by : {t t' : Tables} → AreLater t → t.holdings.last_handle ≤ t'.holdings.last_handle → ((l : ℕ) (load : LoadRow) → load_at t'.loads l ≡ Some load → load_at t.loads l ≡ Some load) → IsNoLess t.workers t'.workers
@@ -72,10 +67,7 @@ pub later-by : {t t' : Tables} → AreLater t → t.holdings.last_handle ≤ t'.
 later-by {t} {t'} later last loads less own work =
     record {
       given = λ l load is. let a = later.given l load (loads l load is) in omega arith;
-      since = λ l load q is has. elim (own l q has) [
-        | inl had ↦ later.since l load q (loads l load is) had
-        | inr past ↦ (let a = later.given l load (loads l load is) in omega arith)
-      ];
+      since = λ l load q is has. let o = own l q has in let s = later.since l load q (loads l load is) in let a = later.given l load (loads l load is) in grind (arith, nat_tests);
       begun = λ v. let a = later.begun v in let b = less.before v in omega arith;
       reach = λ v q has. elim (work v q has) [
         | inl had ↦ less.wider v q (later.reach v q had)
@@ -94,17 +86,7 @@ later-less later newer loads less = later-by later newer.last loads less (λ l q
 
 -- one worker less is at work
 pub less-one : {S : Type 0} (workers workers' : IndexMap ℕ Reach S) (v : ℕ) → worker_at workers' v ≡ None → ((q : ℕ) → q ≢ v → worker_at workers' q ≡ worker_at workers q) → IsNoLess workers workers'
-less-one {S} workers workers' v gone others =
-    record {
-      wider = λ u q in-reach. elim (one u) [ inl same ↦ subst (λ r. InReach r q) (sym same) in-reach | inr any ↦ subst (λ r. InReach r q) (sym any) (in-reach.0, inl in-reach.0) ];
-      before = λ u. elim (one u) [ inl same ↦ (let a = ap (λ (r : Reach). r.since) same in omega arith) | inr any ↦ (let a = ap (λ (r : Reach). r.since) any in omega arith) ];
-    }
-  where
-    one : (u : ℕ) → (reach_at workers' u ≡ reach_at workers u) ⊎ (reach_at workers' u ≡ anywhere)
-    one u = elim (cases_eq u v) [
-      | inl e ↦ inr (ap (λ k. reach_at workers' k) e ∙ ap (λ o. option_map_or (λ (r : Reach). r) o anywhere) gone)
-      | inr e ↦ inl (ap (λ o. option_map_or (λ (r : Reach). r) o anywhere) (others u e))
-    ]
+less-one {S} workers workers' v gone others = grind (arith, nat_tests, cases_eq, others)
 
 -- the same, where the workers are those that were
 pub later-so : {t t' : Tables} → AreLater t → OnlyNewer (plain_of t) (plain_of t') → ((l : ℕ) (load : LoadRow) → load_at t'.loads l ≡ Some load → load_at t.loads l ≡ Some load) → t'.workers ≡ t.workers → AreLater t'
@@ -119,11 +101,7 @@ closed-still at at' m gone others l load is = grind (arith, nat_tests)
 
 -- one who isn't there owns nothing
 none-owned : (w : Core) (o : Owner) (q : ℕ) → ((h : HandleRow) → Among w.rows h → h.owner ≡ o → ⊥) → is_owned_in w o q ≡ true → ⊥
-none-owned w o q nobody own = split (find_row q w.rows) refl own
-  where
-    split : (found : Option HandleRow) → find_row q w.rows ≡ found → if_there (is_owned_by o) false found ≡ true → ⊥
-    split None e own = absurd (cc)
-    split (Some row) e own = nobody row (found-among q w.rows row e).0 (owner-same o row.owner own)
+none-owned w o q nobody own = let (row, e, is) = there-is (is_owned_by o) (find_row q w.rows) own in nobody row (found-among q w.rows row e).0 (owner-same o row.owner is)
 
 -- one load more is open
 pub later-opened : {t t' : Tables} → pager.IsWhole (plain_of t) → AreLater t → OnlyNewer (plain_of t) (plain_of t') → (m : ℕ) (row : LoadRow) → load_at t.loads m ≡ None → load_at t'.loads m ≡ Some row → row.since ≡ t.holdings.last_handle
@@ -136,13 +114,10 @@ later-opened {t} {t'} whole later newer m row none here since others same =
           | inl e ↦ absurd (none-owned (plain_of t) (Owner.Load (record { 0 = l })) q (λ h among of. closed l e (whole.owners_there.loads h (record { 0 = l }) among of)) there)
           | inr e ↦ later.since l load q (sym (others l e) ∙ is) there
         ]
-        | inr past ↦ elim (one l load is) [ inl now ↦ omega arith | inr was ↦ (let a = later.given l load was in omega arith) ]
+        | inr past ↦ let o = one l load is in grind (arith, nat_tests, later.given)
       ];
       begun = λ v. let a = later.begun v in let b = newer.last in let c = reaches v in omega arith;
-      reach = λ v q own. elim (newer.kept (owner_worker v) q refl own) [
-        | inl there ↦ subst (λ u. InReach (reach_at u v) q) (sym same) (later.reach v q there)
-        | inr past ↦ (let a = later.begun v in let c = reaches v in (omega arith, inl (omega arith)))
-      ];
+      reach = λ v q own. let k = newer.kept (owner_worker v) q refl own in let r = later.reach v q in let a = later.begun v in grind (arith, nat_tests);
       loads = λ v l load is owns. let c = reaches v in elim (one l load is) [ inl now ↦ (let a = later.begun v in omega arith) | inr was ↦ (let a = later.loads v l load was owns in omega arith) ];
     }
   where
@@ -214,17 +189,6 @@ lazy-newer {w} me l kind key (Ok k) call = elim call.makes.3 [
 ]
 lazy-newer me l kind key (Err e) call = newer-alike call.refused.stays
 
-pub loosen-newer : {w w' : Core} (me : Owner) (h : HandleNumber) (r : Result HandleNumber Error) → LoosenCall w me h r w' → OnlyNewer w w'
-loosen-newer {w} me h (Ok k) call = newer-then (newer-mode w h Mode.LoosePinned) (newer-alike (let (row, own, same, leaves) = call.turned in leaves))
-loosen-newer me h (Err e) call = newer-alike call.refused.1
-
-pub pin-newer : {w w' : Core} (me : Owner) (h : HandleNumber) (r : Result Pinning Error) → PinCall w me h r w' → OnlyNewer w w'
-pin-newer {w} me h (Ok (Pinning.Pinned k)) call =
-    let (row, own, (here, next, leaves)) = call.pins in
-    newer-then (newer-then (newer-mode w h Mode.LoosePinned) (newer-handle (with_mode w h Mode.LoosePinned) row.node Mode.Pinned me)) (newer-alike leaves)
-pin-newer me h (Ok (Pinning.NeedsLoad key)) call = let (row, own, (away, is, stays)) = call.pins in newer-alike stays
-pin-newer me h (Err e) call = newer-alike call.refused.stays
-
 pub unpin-newer : {w w' : Core} (me : Owner) (h : HandleNumber) (r : Result (Unit {0}) Error) → UnpinCall w me h r w' → OnlyNewer w w'
 unpin-newer {w} me h r call = elim call.does [
   | inl refused ↦ newer-alike refused.stays
@@ -277,12 +241,7 @@ module _ (t : Tables) (later : AreLater t) (s : ℕ → Bool) (me : Owner) (othe
 
   -- what a worker owns then it owned, or it has moved
   pub worker-kept : (v q : ℕ) → now (owner_worker v) q ≡ true → (owned (owner_worker v) q (plain_of t).rows ≡ true) ⊎ ((is_owner (owner_worker v) me ≡ true) × (s q ≡ true))
-  worker-kept v q own = split (is_owner (owner_worker v) me) refl (s q) refl
-    where
-      split : (b : Bool) → is_owner (owner_worker v) me ≡ b → (c : Bool) → s q ≡ c → (owned (owner_worker v) q (plain_of t).rows ≡ true) ⊎ ((is_owner (owner_worker v) me ≡ true) × (s q ≡ true))
-      split true e true f = inr (e, f)
-      split false e c f = inl (and-left (owned (owner_worker v) q (plain_of t).rows) (not (s q)) (sym (ap (owned (owner_worker v) q) are ∙ owned-moved s me (owner_worker v) q (plain_of t).rows e) ∙ own))
-      split true e false f = inl (sym (owned-unmoved s me (owner_worker v) q (plain_of t).rows f) ∙ sym (ap (owned (owner_worker v) q) are) ∙ own)
+  worker-kept v q own = grind (arith, nat_tests, and-left, owned-moved, owned-unmoved)
 
   -- a load of the same owner hands handles of its own to it and is closed: they came after the worker began
   pub later-handed : {t' : Tables} (l : LoadNumber) (row : LoadRow) → load_at t.loads l.0 ≡ Some row → is_owner me row.owner ≡ true → ((q : ℕ) → s q ≡ true → is_owned_in (plain_of t) (Owner.Load l) q ≡ true)

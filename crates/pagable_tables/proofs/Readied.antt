@@ -1,12 +1,11 @@
 -- A world with more room, and a node that is born in it.
-use Rattle.pagable_tables.proofs.Words.{◌≡◌, ℕ, ◌+◌, ◌<◌, ◌≤◌, true, false, if◌then◌else◌, List, [], refl, ap, ◌∙◌, subst, arith, Option, None, inl, inr, Bool, vec_capacity, nat_tests}
-use Rattle.pagable_tables.proofs.Words.{OptionalDataKey, Error, ArcRef, HandleNumber, Kind, LoadNumber, Owner, Mode, Blob, type_of, mode_of, Core, Places, Alike, HasRoom, greatest}
-use Rattle.pagable_tables.proofs.Words.{earlier, spent, references_fault, Refused, with_handle, with_node, with_cached, next_node, adopted, Holdings, Tables, OnlyRoom}
-use Rattle.pagable_tables.proofs.{Words.{counts_at, refs_at, known_at, Fits, owns_nothing, live, AreSound, core_of, plain_of, AreLater}, Newer.{newer-alike, later-on}, keeps.Told.alike-whole}
-use Rattle.pagable_tables.{proofs.keeps.Placed.whole-so, specs.Core.IsWhole}
-pub use Rattle.pagable_tables.proofs.Worlds.{fault-by}
+use Rattle.pagable_tables.proofs.Words.{◌≡◌, ℕ, ◌+◌, ◌<◌, ◌≤◌, true, false, if◌then◌else◌, List, [], ap, ◌∙◌, subst, arith, Option, None, Bool, vec_capacity, nat_tests, OptionalDataKey, Error, ArcRef}
+use Rattle.pagable_tables.proofs.Words.{HandleNumber, Kind, LoadNumber, Owner, Mode, Blob, type_of, mode_of, Core, Places, Alike, HasRoom, greatest, earlier, spent, references_fault, Refused}
+use Rattle.pagable_tables.proofs.Words.{with_handle, with_node, with_cached, next_node, adopted, Tables, OnlyRoom, counts_at, refs_at, known_at, live, AreSound, core_of, plain_of, AreLater}
+use Rattle.pagable_tables.{proofs.{Newer.{newer-alike, later-on}, keeps.Told.alike-whole, keeps.Placed.whole-so}, specs.Core.IsWhole}
 use Rattle.pagable_world.specs.Calls.{IsNext}
 use Rattle.pagable_tables.specs.Live as places
+pub use Rattle.pagable_tables.proofs.Worlds.{fault-by}
 
 pub room-then : {a b c : Core} → OnlyRoom a b → OnlyRoom b c → OnlyRoom a c
 room-then {a} {b} {c} p q = grind (arith, nat_tests)
@@ -19,7 +18,7 @@ pub alike-past : {m w' : Core} (p : Places) → HasRoom m.places p → Alike (re
 alike-past {m} {w'} p more a = grind (arith, nat_tests)
 
 pub next-past : {w w' : Core} {k : HandleNumber} → OnlyRoom w w' → IsNext k w' → IsNext k w
-next-past {w} {w'} {k} o next = let n = subst (λ (u : Core). IsNext k u) o.same next in record { above = n.above; is_left = n.is_left }
+next-past {w} {w'} {k} o next = grind (arith, nat_tests)
 
 pub born-past : {w w1 w' : Core} (node_type : ℕ) (key : OptionalDataKey) (rs : List ArcRef) (mode : Mode) (me : Owner) → OnlyRoom w w1
     → Alike (with_handle (with_node w1 node_type key rs) (next_node w1) mode me) w' → Alike (with_handle (with_node w node_type key rs) (next_node w) mode me) w'
@@ -41,16 +40,7 @@ pub room-whole : (t t' : Tables) → IsWhole t → AreSound t'.holdings.handles 
     → live t'.holdings.handles.places.items ≡ live t.holdings.handles.places.items → ((n : ℕ) → counts_at t'.holdings.nodes n ≡ counts_at t.holdings.nodes n)
     → ((n : ℕ) → refs_at t'.holdings.nodes n ≡ refs_at t.holdings.nodes n) → t'.holdings.top ≡ t.holdings.top → OnlyRoom (plain_of t) (plain_of t') → IsWhole t'
 room-whole t t' whole sound next rows counts refs top room =
-    whole-so {t = t'} (record { sound = sound; next = next; fits = fits }) (alike-whole whole.core (room-alike room))
-  where
-    old : Holdings
-    old = t.holdings
-
-    new : Holdings
-    new = t'.holdings
-
-    fits : Fits (counts_at new.nodes) (refs_at new.nodes) (live new.handles.places.items) new.top [] owns_nothing
-    fits = grind (arith, nat_tests, new, old)
+    whole-so {t = t'} (record { sound = sound; next = next; fits = grind (arith, nat_tests) }) (alike-whole whole.core (room-alike room))
 
 pub room-newer : {t t' : Tables} → OnlyRoom (plain_of t) (plain_of t') → t'.loads ≡ t.loads → t'.workers ≡ t.workers → AreLater t → AreLater t'
 room-newer {t} {t'} room loads workers later = later-on later (newer-alike (room-alike room)) loads workers
@@ -72,4 +62,4 @@ not-spent n h node handle = grind (arith, nat_tests)
 
 -- where nothing was looked at before, memory may be wanting all the more
 pub weaker : {cause before : Option Error} {w w' : Core} {e : Error} → Refused cause before (Unit {0}) w e w' → Refused cause None (Unit {0}) w e w'
-weaker r = record { why = elim r.why [ inl a ↦ inl a | inr b ↦ inr (b.0, refl, tt) ]; stays = r.stays }
+weaker r = grind (arith, nat_tests)

@@ -29,17 +29,13 @@ module _ (rows : List HandleRow) (keyed : ℕ → Bool) (entries : List HandleRo
       split false e = let a = fewer (is_at n) in grind (arith, nat_tests)
 
   closed-less : IsClosed rows keyed entries less
-  closed-less n e = sum-none (λ h. one (is_owned_by (owner_value n) h && is_outside less h)) rows λ h among.
+  closed-less n e =
+      sum-none (λ h. one (is_owned_by (owner_value n) h && is_outside less h)) rows (λ h among.
       let none = least.closed n (loses n e) in
       let l = at-most-sum (λ h. one (is_owned_by (owner_value n) h && is_outside s h)) rows h among in
-      split h among (h.number.0 == x.number.0) refl (omega arith)
-    where
-      split : (h : HandleRow) → Among rows h → (b : Bool) → (h.number.0 == x.number.0) ≡ b → one (is_owned_by (owner_value n) h && is_outside s h) ≡ 0 → one (is_owned_by (owner_value n) h && is_outside less h) ≡ 0
-      split h among true e none =
-          let same : h.number.0 ≡ x.number.0 = grind (arith, nat_tests) in
-          let o : is_owned_by (owner_value n) h ≡ false = ap (is_owned_by (owner_value n)) (once rows ordered h x among there same) ∙ no-value n x.owner plain in
-          grind (arith, nat_tests)
-      split h among false e none = grind (arith, nat_tests)
+      let o = once rows ordered h x among there in
+      let p = no-value n x.owner plain in
+      grind (arith, nat_tests))
 
   pub not-least : s x.number.0 ≡ false
   not-least =
@@ -93,11 +89,7 @@ named-loaded w l refs good q named =
     ap (if_there (is_owned_by (Owner.Load l)) false) m.live ∙ ap (is_owner (Owner.Load l)) m.own ∙ owner-self (Owner.Load l)
 
 pub not-named : (w : Core) (l : LoadNumber) (refs : List ArcRef) → HandlesAreWhole w → references_fault w (Owner.Load l) [] refs ≡ None → (q : ℕ) → w.last.handle < q → is_named_by refs q ≡ false
-not-named w l refs whole good q above = split (is_named_by refs q) refl
-  where
-    split : (b : Bool) → is_named_by refs q ≡ b → b ≡ false
-    split false e = refl
-    split true e = absurd (let g = owned-given w (Owner.Load l) q whole (named-loaded w l refs good q e) in omega arith)
+not-named w l refs whole good q above = grind (arith, nat_tests, owned-given w (Owner.Load l) q whole, named-loaded w l refs good q)
 
 pub swapped : (w : Core) (node : NodeNumber) (mode : Mode) (me : Owner) → AllPairs IsHandleBefore (with_handle w node mode me).rows
     → is_valued me ≡ false → {w' : Core} {given : ℕ → Bool} {r : Result (Unit {0}) Error}

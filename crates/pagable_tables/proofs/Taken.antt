@@ -2,12 +2,11 @@
 use Rattle.pagable_tables.proofs.Words.{◌≡◌, ℕ, ◌<◌, ◌==◌, ◌&&◌, Bool, true, false, not, if◌then◌else◌, List, [], ◌∷◌, length, refl, ap, sym, ◌∙◌, subst, arith, Option, None, inl, inr, nat_tests}
 use Rattle.pagable_tables.proofs.Words.{sum_by-cons, HandleNumber, LoadNumber, HandleRow, Owner, Blob, one, times, is_in, is_handle, is_owner, is_owned_by, is_pin, is_share, find_row, pins, Core}
 use Rattle.pagable_tables.proofs.Words.{HasRoom, MayOwnLoad, load_fault, named_fault, nobody, moved, without_load, numbers_of, hand_over_fault, Tables, Holdings, live, is_valued, with_tables}
-use Rattle.pagable_tables.proofs.Words.{is_plain_pin, SoFar, core_of, named_at, IsNamed, ◌≤◌, Some, ◌≢◌, Result, option_map, Error, updated, if_there, OpenLoad, Falls, is_owned_in, LoadRow}
-use Rattle.pagable_tables.proofs.{Words.{passes_in, load_in, ◌+◌, Ok, TakeCall, is_workers_load, with_worker, left_load}, Begun.{begins, begun}, Handed.{seen-all, in-there}}
-use Rattle.pagable_tables.proofs.{Regiven.owned, keeps.Comes.not-list, keeps.EndCalls.{both-none, handed-mine, handed-unlisted, asker-owns}, keeps.LoadCalls.may-hold}
-use Rattle.pagable_tables.{proofs.{keeps.HandleCalls.moved-to-holder, keeps.Rows.found-among}, specs.Core.IsWhole, specs.Giving.TakesWorker}
-use Rattle.pagable_tables.proofs.Words.{NodeNumber, Giving, gives_row, AreLater, InReach, Reach, reach_at, worker_at, is_some, plain_of, cases_Bool, inl, inr, ◌||◌}
-use Rattle.pagable_tables.proofs.{Bits.and-left, Opened.owner-self, Words.{load_at, refused_if}}
+use Rattle.pagable_tables.proofs.Words.{is_plain_pin, SoFar, core_of, named_at, IsNamed, ◌≤◌, Some, ◌≢◌, Result, option_map, Error, updated, if_there, OpenLoad, Falls, is_owned_in, LoadRow, passes_in}
+use Rattle.pagable_tables.proofs.Words.{load_in, ◌+◌, Ok, TakeCall, is_workers_load, with_worker, left_load, NodeNumber, Giving, gives_row, AreLater, InReach, Reach, reach_at, worker_at, is_some}
+use Rattle.pagable_tables.proofs.{Words.{plain_of, cases_Bool, ◌||◌, load_at, refused_if}, Begun.{begins, begun}, Handed.{seen-all, in-there}, Regiven.owned, keeps.Comes.not-list}
+use Rattle.pagable_tables.proofs.{keeps.EndCalls.{both-none, handed-mine, handed-unlisted, asker-owns}, keeps.LoadCalls.may-hold, keeps.HandleCalls.moved-to-holder, keeps.Rows.found-among}
+use Rattle.pagable_tables.{proofs.{Bits.{and-left, there-is}, Opened.owner-self}, specs.{Core.IsWhole, Giving.TakesWorker}}
 use Rattle.pagable_world.specs.Workers.{is_load_of}
 use Rattle.pagable_model.specs.declared.numbers.WorkerNumber.{WorkerNumber}
 use Rattle.pagable_world.specs.Pager as pager
@@ -15,12 +14,7 @@ use Rattle.pagable_world.specs.Pager as pager
 -- what is counted of handles whoever owns them
 pub moved-times : (f : HandleRow → Bool) (s : ℕ → Bool) (o : Owner) (rows : List HandleRow) → ((x : HandleRow) → f (record x { owner = o }) ≡ f x) → times f (moved s o rows) ≡ times f rows
 moved-times f s o [] same = refl
-moved-times f s o (x ∷ xs) same =
-    let b = sum_by-cons (λ h. one (f h)) (if s x.number.0 then record x { owner = o } else x) (moved s o xs) in
-    omega (arith, moved-times f s o xs same, sum_by-cons (λ h. one (f h)) x xs, ap one (split (s x.number.0)))
-  where
-    split : (b : Bool) → f (if b then record x { owner = o } else x) ≡ f x
-    split b0 = grind (arith, nat_tests)
+moved-times f s o (x ∷ xs) same = let here = same x in grind (arith, nat_tests, moved-times f s o xs same, sum_by-cons (λ h. one (f h)))
 
 -- what one owns once handles have moved to another
 pub owned-moved : (s : ℕ → Bool) (o a : Owner) (q : ℕ) (rows : List HandleRow) → is_owner a o ≡ false → owned a q (moved s o rows) ≡ (owned a q rows && not (s q))
@@ -99,26 +93,23 @@ begun-less t loads workers stored closed lists failures w e =
 
 -- a handle whose row passes a test was given
 pub passes-given : (test : HandleRow → Bool) (w : Core) (q : ℕ) → pager.HandlesAreWhole w → passes_in test w.rows q ≡ true → (0 < q) × (q ≤ w.last.handle)
-passes-given test w q whole passes = split (find_row q w.rows) refl passes
-  where
-    split : (found : Option HandleRow) → find_row q w.rows ≡ found → if_there test false found ≡ true → (0 < q) × (q ≤ w.last.handle)
-    split None e passes = absurd (cc)
-    split (Some h) e passes = let f = found-among q w.rows h e in let n = whole.numbered h f.0 in let n0 = n.0 in let n1 = n.1 in let same = f.1 in (omega arith, omega arith)
+passes-given test w q whole passes =
+    let (h, e, is) = there-is test (find_row q w.rows) passes in
+    let f = found-among q w.rows h e in let n = whole.numbered h f.0 in let (n0, n1) = n in let same = f.1 in (omega arith, omega arith)
 
 pub owned-given : (w : Core) (o : Owner) (q : ℕ) → pager.HandlesAreWhole w → is_owned_in w o q ≡ true → q ≤ w.last.handle
 owned-given w o q whole own = (passes-given (is_owned_by o) w q whole own).1
 
 -- what a worker has at a node is its own
 pub at-node : (w : Core) (v : WorkerNumber) (n : NodeNumber) (q : ℕ) → passes_in (gives_row w (Giving.AtNode v n)) w.rows q ≡ true → is_owned_in w (Owner.Worker v) q ≡ true
-at-node w v n q is = split (find_row q w.rows) is
-  where
-    split : (found : Option HandleRow) → if_there (gives_row w (Giving.AtNode v n)) false found ≡ true → if_there (is_owned_by (Owner.Worker v)) false found ≡ true
-    split None is = absurd (cc)
-    split (Some row) is = and-left (is_owner (Owner.Worker v) row.owner) _ is
+at-node w v n q is = grind (arith, nat_tests, and-left)
 
 -- all that a worker gives up when it ends is in its reach
 pub in-reach : (t : Tables) → IsWhole t → AreLater t → (v : WorkerNumber) (q : ℕ) → passes_in (gives_row (plain_of t) (Giving.Worker v)) (plain_of t).rows q ≡ true → InReach (reach_at t.workers v.0) q
-in-reach t whole later v q is = split (find_row q (plain_of t).rows) refl is
+in-reach t whole later v q is = let (row, e, passes) = there-is (gives_row w (Giving.Worker v)) (find_row q w.rows) is in elim (cases_Bool (is_owner (Owner.Worker v) row.owner)) [
+  | inl own ↦ later.reach v.0 q (ap (if_there (is_owned_by (Owner.Worker v)) false) e ∙ own)
+  | inr other ↦ of-load row.owner (ap (if_there (is_owned_by row.owner) false) e ∙ owner-self row.owner) (sym (ap (λ b. b || is_load_of w v.0 row.owner) other) ∙ passes)
+]
   where
     w : Core
     w = plain_of t
@@ -130,13 +121,6 @@ in-reach t whole later v q is = split (find_row q (plain_of t).rows) refl is
     of-load : (o : Owner) → is_owned_in w o q ≡ true → is_load_of w v.0 o ≡ true → InReach (reach_at t.workers v.0) q
     of-load (Owner.Load l) own of = lent l (load_at t.loads l.0) refl own of
     of-load _ own of = absurd (cc)
-
-    split : (found : Option HandleRow) → find_row q w.rows ≡ found → if_there (gives_row w (Giving.Worker v)) false found ≡ true → InReach (reach_at t.workers v.0) q
-    split None e is = absurd (cc)
-    split (Some row) e is = elim (cases_Bool (is_owner (Owner.Worker v) row.owner)) [
-      | inl own ↦ later.reach v.0 q (ap (if_there (is_owned_by (Owner.Worker v)) false) e ∙ own)
-      | inr other ↦ of-load row.owner (ap (if_there (is_owned_by row.owner) false) e ∙ owner-self row.owner) (sym (ap (λ b. b || is_load_of w v.0 row.owner) other) ∙ is)
-    ]
 
 -- loads and workers are told anew
 pub loads-anew : (before u w' : Core) (given : ℕ → Bool) (r : Result (Unit {0}) Error) (loads : ℕ → Option OpenLoad) → ((q : ℕ) → w'.loads q ≡ loads q) → Falls before u given r w' → Falls before u given r (record w' { loads = loads })

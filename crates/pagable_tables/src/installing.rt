@@ -56,13 +56,8 @@ fn number_fault(t: &Tables, me: Owner, handle: HandleNumber) -> Option<Error>
     ensures { (stored : ℕ → Option Blob) (closed : Bool) (failures : ℕ)
         → result ≡ where_so (is_owned_in (core_of t.now stored closed failures) me handle.0) (spent t.now.holdings.last_handle) }
 {
-    if !is_owned(t, me, handle) {
-        return None;
-    }
-    if t.holdings.last_handle == u64::MAX {
-        return Some(Error::NumbersSpent);
-    }
-    None
+    let is_spent = t.holdings.last_handle == u64::MAX;
+    refused_if(is_owned(t, me, handle) && is_spent, Error::NumbersSpent)
 }
 
 /// Why a load can't end with a value of this type, if it is open: it is of a key, or of a cell of another type; or no number is left for a pin of a handle that the caller

@@ -20,17 +20,12 @@ use std::sync::Arc;
 fn counts_keyed(counts: Counts, key: u128, top: u64) -> Counts
     ensures { result ≡ keyed counts key top }
 {
-    if counts.pins == 0 {
-        return Counts {
-            key,
-            is_falling: true,
-            next: top,
-            ..counts
-        };
-    }
+    let is_falling = counts.pins == 0;
+    let next = if is_falling { top } else { counts.next };
     Counts {
         key,
-        is_falling: false,
+        is_falling,
+        next,
         ..counts
     }
 }

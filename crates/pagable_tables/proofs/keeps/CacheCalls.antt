@@ -1,10 +1,9 @@
 -- Calls on the cache and on room keep the world whole.
-use Rattle.pagable_tables.proofs.keeps.Kept.{GoOn}
-use Rattle.pagable_tables.proofs.Words.{◌&&◌, ◌<◌, ◌==◌, ◌∙◌, ◌≡◌, ArePlaced, Bool, ClearCall, Core, Err, Error, HandleNumber, IsEntryWhole, IsWhole, Kind, MayHold, Mode, NodeNumber, None}
-use Rattle.pagable_tables.proofs.Words.{OfferCall, Ok, Option, Owner, RecallCall, ReserveCall, Result, Some, Suits, arith, false, fits_mode, greatest, if◌then◌else◌, inl, inr, is_shared}
-use Rattle.pagable_tables.proofs.{Words.{is_shared_kind, is_some, mode_of, nat_tests, refl, sym, true, type_of, usable, with_cached, with_known, ℕ}, keeps.Comes.{beside, handle-on, suits-like}}
-use Rattle.pagable_tables.proofs.{keeps.Fallen.falls-whole, keeps.Kept.{alike-rows, is-in, keeps-whole, loads-stay, same-rows, there-then}, keeps.Rows.{counted, found-among}, keeps.Told.alike-whole}
-use Rattle.pagable_tables.proofs.keeps.Told.{roomy, roomy-whole, settles, told-whole}
+use Rattle.pagable_tables.proofs.Words.{Among, HandleRow, ◌&&◌, ◌<◌, ◌==◌, ◌∙◌, ◌≡◌, ArePlaced, Bool, ClearCall, Core, Err, Error, HandleNumber, IsEntryWhole, IsWhole, Kind, MayHold, Mode, NodeNumber}
+use Rattle.pagable_tables.proofs.Words.{None, OfferCall, Ok, Option, Owner, RecallCall, ReserveCall, Result, Some, Suits, arith, false, fits_mode, greatest, if◌then◌else◌, inl, inr, is_shared}
+use Rattle.pagable_tables.proofs.{Words.{is_shared_kind, is_some, mode_of, nat_tests, refl, true, usable, with_cached, with_known, ℕ}, keeps.Kept.{GoOn, alike-rows, is-in, keeps-whole, loads-stay}}
+use Rattle.pagable_tables.proofs.keeps.{Kept.{same-rows, there-then}, Comes.{beside, handle-on, suits-like}, Fallen.falls-whole, Rows.{counted, found-among}, Told.{alike-whole, roomy, roomy-whole}}
+use Rattle.pagable_tables.proofs.keeps.Told.{settles, told-whole}
 
 pub clear-whole : {w w' : Core} (r : Result (Unit {0}) Error) → IsWhole w → ClearCall w r w' → ArePlaced w' → IsWhole w'
 clear-whole {w} {w'} r whole call placed = let a = call.leaves in
@@ -54,11 +53,9 @@ offer-whole {w} me kind key h (Ok None) whole holder call placed =
     let (row, owns, typed, offers) = call.answers in
     let (stands_open, none, leaves) = offers in
     let there = (found-among h.0 w.rows row owns.live).0 in
-    let entry : IsEntryWhole w kind.0 row.node.0 = record {
-      given = (whole.handles.nodes_numbered row.node.0 (there-then whole row there)).1;
-      typed = λ t is. let e : Some t ≡ Some (type_of kind.0) = sym is ∙ typed in cc;
-      shares = λ x among at. (alike-rows whole).same x row among there at ∙ fits-shared kind.0 row.mode owns.as_asked;
-    } in
+    let given = (whole.handles.nodes_numbered row.node.0 (there-then whole row there)).1 in
+    let shares = λ (x : HandleRow) (among : Among w.rows x) (at : x.node.0 ≡ row.node.0). (alike-rows whole).same x row among there at ∙ fits-shared kind.0 row.mode owns.as_asked in
+    let entry : IsEntryWhole w kind.0 row.node.0 = grind (arith, nat_tests) in
     settles (roomy-whole (cached-whole kind key row.node whole stands_open entry)) leaves placed
 offer-whole {w} me kind key h (Ok (Some k)) whole holder call placed = elim call.answers.3 [
   | inl (closed, same, stays) ↦ alike-whole whole stays placed

@@ -1,15 +1,14 @@
 -- Calls by which a load goes on or ends, and the close of the storage, keep the world whole.
-use Rattle.pagable_tables.proofs.Words.{◌&&◌, ◌+◌, ◌<◌, ◌==◌, ◌∙◌, ◌∷◌, ◌≡◌, ◌⊎◌, AdoptCall, AllPairs, Among, ArcRef, ArePlaced, Bool, CloseCall, Core, DropCall, EndCall, Err, Error, Falls}
-use Rattle.pagable_tables.proofs.Words.{HandOverCall, HandleNumber, HandleRow, IsEntryWhole, IsHandleBefore, IsWhole, Kind, LazyCall, List, LoadCloses, LoadNumber, MayHold, MayOwnLoad, Mode}
-use Rattle.pagable_tables.proofs.Words.{NodeNumber, None, Ok, OpenLoad, Option, OptionalDataKey, Owner, Owns, OwnsLoad, Result, Some, [], adopted, ap, arith, cell_fault, earlier, false, first_key}
-use Rattle.pagable_tables.proofs.Words.{greatest, has_key, if_there, if◌then◌else◌, inl, inr, is_handle, is_in, is_listed, is_loose, is_loose_kind, is_named_by, is_owned_by, is_owned_in, is_owner}
-use Rattle.pagable_tables.proofs.Words.{is_shared, is_some, load_fault, mode_of, moved, named_fault, nat_tests, next_node, not, numbers_of, owner_value, references_fault, refl, row_of, shut, subst}
-use Rattle.pagable_tables.proofs.{Words.{suc, sym, times, true, type_of, updated, with_cached, with_handle, with_mode, with_node, with_pin, without_load, zero, ℕ}, Handed.{found-there, one-fault}}
-use Rattle.pagable_tables.proofs.{Worlds.{fault-by, owner-same}, keeps.CacheCalls.{cached-whole, known-whole, mode-shared}, keeps.Comes.{handle-on, not-list}, keeps.Fallen.alike-opened}
-use Rattle.pagable_tables.proofs.{keeps.Fallen.{falls-lost, falls-opened, opened}, keeps.HandleCalls.{IsMine, born-whole, mine-of, moved-number, moved-on, moved-to-holder, moved-to-value}}
-use Rattle.pagable_tables.proofs.{keeps.HandleCalls.{named-own, named-unlisted, no-references, pin-comes, pin-on}, keeps.Kept.{IsIn, alike-rows, is-in, may-own}, keeps.LoadCalls.may-hold}
-use Rattle.pagable_tables.proofs.{keeps.Rows.{among-both, among-changed, among-last, among-one, found-among, found-so, once}, keeps.Told.{GoesOn, alike-whole, roomy, roomy-whole, settles, stays-on}}
-use Rattle.pagable_tables.proofs.keeps.Told.{then-on}
+use Rattle.pagable_tables.proofs.Words.{◌&&◌, ◌+◌, ◌<◌, ◌==◌, ◌∙◌, ◌∷◌, ◌≡◌, AdoptCall, AllPairs, Among, ArcRef, ArePlaced, Bool, CloseCall, Core, DropCall, EndCall, Err, Error, Falls, HandOverCall}
+use Rattle.pagable_tables.proofs.Words.{HandleNumber, HandleRow, IsEntryWhole, IsHandleBefore, IsWhole, Kind, LazyCall, List, LoadCloses, LoadNumber, MayHold, MayOwnLoad, Mode, NodeNumber, None, Ok}
+use Rattle.pagable_tables.proofs.Words.{OpenLoad, Option, OptionalDataKey, Owner, Owns, OwnsLoad, Result, Some, [], adopted, ap, arith, cell_fault, earlier, false, first_key, greatest, has_key}
+use Rattle.pagable_tables.proofs.Words.{if_there, if◌then◌else◌, inl, inr, is_handle, is_in, is_loose, is_loose_kind, is_named_by, is_owned_by, is_owned_in, is_owner, is_shared, is_some, load_fault}
+use Rattle.pagable_tables.proofs.Words.{mode_of, moved, named_fault, nat_tests, next_node, not, numbers_of, owner_value, references_fault, refl, row_of, shut, subst, sym, true, type_of, updated}
+use Rattle.pagable_tables.proofs.{Words.{with_cached, with_handle, with_mode, with_node, with_pin, without_load, ℕ}, Handed.{found-there, one-fault}, Worlds.{fault-by, owner-same}}
+use Rattle.pagable_tables.proofs.keeps.{CacheCalls.{cached-whole, known-whole, mode-shared}, Comes.{handle-on, not-list}, Fallen.{alike-opened, falls-lost, falls-opened, opened}, HandleCalls.IsMine}
+use Rattle.pagable_tables.proofs.keeps.HandleCalls.{born-whole, mine-of, moved-number, moved-on, moved-to-holder, moved-to-value, named-own, named-unlisted, no-references, pin-comes, pin-on}
+use Rattle.pagable_tables.proofs.keeps.{Kept.{alike-rows, is-in, may-own}, LoadCalls.may-hold, Rows.{among-both, among-changed, among-last, among-one, found-among, found-so, once}, Told.GoesOn}
+use Rattle.pagable_tables.proofs.keeps.Told.{alike-whole, roomy, roomy-whole, settles, stays-on, then-on}
 
 -- ---- a load closes
 
@@ -22,22 +21,12 @@ closes : {before u w' : Core} {r : Result (Unit {0}) Error} (l : LoadNumber) (gi
 closes {before} {u} l given whole on gives falls placed =
     falls-lost u {u = without_load u l} whole on refl (record {
       listed = λ q. inl (whole.owners_there.listed q);
-      owners = λ h among. there h among h.owner refl (is-in whole h among);
+      owners = λ h among. let i = is-in whole h among in grind (arith, nat_tests, gives);
       loads = λ k load is. let was = still-there l.0 u.loads k load is in (was, whole.loads.owned k load was);
       cache = λ kind key n is. is;
       workers = λ v is. is;
       shut = λ closed. absurd (cc);
     }) falls placed
-  where
-    there : (h : HandleRow) → Among u.rows h → (o : Owner) → h.owner ≡ o → IsIn u h.mode o → IsIn (without_load u l) h.mode o ⊎ (given h.number.0 ≡ true)
-    there h among (Owner.Load k) is i = at (k.0 == l.0) refl
-      where
-        at : (b : Bool) → (k.0 == l.0) ≡ b → (is_some (if b then None else u.loads k.0) ≡ true) ⊎ (given h.number.0 ≡ true)
-        at true e = let same : k.0 ≡ l.0 = grind (arith, nat_tests) in inr (gives h among (is ∙ ap (λ n. Owner.Load (record { 0 = n })) same))
-        at false e = inl i
-    there h among (Owner.Worker v) is i = inl i
-    there h among Owner.List is i = inl i
-    there h among _ is i = inl tt
 
 -- what a load owns, it owns by its number too
 owned-in : {w : Core} → IsWhole w → (l : LoadNumber) (x : HandleRow) → Among w.rows x → x.owner ≡ Owner.Load l → is_owned_in w (Owner.Load l) x.number.0 ≡ true
@@ -106,21 +95,16 @@ end-whole {N} {w} {w'} me l x node_type refs (Ok k) whole call placed =
     -- the handle that began the load isn't one of the value's references
     kept-own : (node : NodeNumber) (h : HandleNumber) (row : HandleRow) → Owns w me h is_loose row → MayOwnLoad w me → references_fault w (Owner.Load l) [] refs ≡ None
         → Owns (roomy (record (opened w) { rows = moved (is_named_by refs) (owner_value node.0) w.rows })) me h is_loose row
-    kept-own node h row owns may good = at (is_named_by refs row.number.0) refl
-      where
-        s : ℕ → Bool
-        s = is_named_by refs
-
-        at : (b : Bool) → s row.number.0 ≡ b → Owns (roomy (record (opened w) { rows = moved s (owner_value node.0) w.rows })) me h is_loose row
-        at true e =
-            absurd (not-load w me l may (sym owns.own ∙ named-own whole (Owner.Load l) refs (fault-by w (opened w) (Owner.Load l) [] refs ∙ good) row (found-among h.0 w.rows row owns.live).0 e))
-        at false e =
-            record {
-              live = found-there (λ y. if s y.number.0 then record y { owner = owner_value node.0 } else y) (moved-number whole s (owner_value node.0)) h.0 w.rows row owns.live
-                  ∙ ap (λ b. Some (if b then record row { owner = owner_value node.0 } else row)) e;
-              own = owns.own;
-              as_asked = owns.as_asked;
-            }
+    kept-own node h row owns may good =
+        let mine = named-own whole (Owner.Load l) refs (fault-by w (opened w) (Owner.Load l) [] refs ∙ good) row (found-among h.0 w.rows row owns.live).0 in
+        let none = not-load w me l may in
+        let spared : is_named_by refs row.number.0 ≡ false = grind (arith, nat_tests) in
+        let same = found-there (λ y. if is_named_by refs y.number.0 then record y { owner = owner_value node.0 } else y) (moved-number whole (is_named_by refs) (owner_value node.0)) in
+        record {
+          live = same h.0 w.rows row owns.live ∙ ap (λ b. Some (if b then record row { owner = owner_value node.0 } else row)) spared;
+          own = owns.own;
+          as_asked = owns.as_asked;
+        }
 end-whole me l x node_type refs (Err (e, Some y)) whole call placed = alike-whole whole (alike-opened call.refused.1.stays) placed
 end-whole me l x node_type refs (Err (e, None)) whole call placed = let v = call.refused in load-closes l v.told whole v.closes placed
 
@@ -170,17 +154,13 @@ hand-over-whole me l hs (Err e) whole call placed = alike-whole whole (alike-ope
 pub close-whole : {w w' : Core} (r : Result (Unit {0}) Error) → IsWhole (opened w) → CloseCall w r w' → ArePlaced (opened w') → IsWhole (opened w')
 close-whole {w} {w'} r whole call placed =
     falls-lost w {u = shut w w'.failures} (roomy-whole whole) (stays-on w) refl (record {
-      listed = λ q. at q (times (λ (h : HandleNumber). h.0 == q) w.list) refl;
+      listed = λ q. let a = whole.owners_there.listed q in grind (arith, nat_tests);
       owners = λ h among. inl (is-in whole h among);
       loads = λ l load is. (is, whole.loads.owned l load is);
       cache = λ kind key n is. absurd (cc);
       workers = λ v is. is;
       shut = λ closed. absurd (cc);
     }) call.falls.falls placed
-  where
-    at : (q k : ℕ) → times (λ (h : HandleNumber). h.0 == q) w.list ≡ k → (0 ≡ times (λ h. is_handle q h && is_owned_by Owner.List h) w.rows) ⊎ ((is_listed w q ≡ true) × (◌≡◌ {A = ℕ} 0 0))
-    at q zero none = inl (sym (sym (whole.owners_there.listed q) ∙ none))
-    at q (suc k) some = inr (grind (arith, nat_tests), refl)
 
 -- an open load may hold
 load-holds : {w : Core} {me : Owner} {l : LoadNumber} (load : _) → OwnsLoad w me l load → MayHold w (Owner.Load l)

@@ -1,10 +1,10 @@
 -- The world is whole once handles have fallen, whether the storage was closed or not.
-use Rattle.pagable_tables.proofs.Words.{◌&&◌, ◌+◌, ◌<◌, ◌==◌, ◌∙◌, ◌∷◌, ◌≡◌, ◌≤◌, ◌⊎◌, Alike, AllPairs-filter, Among, AreNewEntries, ArePlaced, Bool, Cell, Core, Error, Falls, HandleNumber}
-use Rattle.pagable_tables.proofs.Words.{HandleRow, IsHandleBefore, IsWhole, IsWithin, List, MayOwnLoad, None, OpenLoad, Option, Owner, Result, Some, [], ap, arith, fallen, false, filter, greatest}
-use Rattle.pagable_tables.proofs.Words.{held, if◌then◌else◌, inl, inr, is_at, is_handle, is_owned_by, is_pin, is_pinning, is_share, is_shared, is_some, left_rows, length, map, nat_lt, nat_tests}
-use Rattle.pagable_tables.proofs.{Words.{not, one, pins, refl, sharing, subst, suc, sum_by-append, sym, times, true, zero, ℕ}, Bits.{not-so, one-true}, keeps.Kept.{GoOn, HasLike, IsIn, IsNew}}
-use Rattle.pagable_tables.proofs.{keeps.Kept.{IsOld, at-then, held-some, is-in, keeps-whole, keyed_in, stays-old, there-then, type_in}, keeps.Rows.{IsEntry, among-both, among-left, at-most-sum}}
-use Rattle.pagable_tables.proofs.{keeps.Rows.{counted, entries-listed, entry-is, one-left, ordered-entries, within-goes}, keeps.Told.{GoesOn, roomy, settles, told-whole}}
+use Rattle.pagable_tables.proofs.Words.{◌&&◌, ◌+◌, ◌<◌, ◌==◌, ◌∙◌, ◌∷◌, ◌≡◌, ◌≤◌, ◌⊎◌, Alike, AllPairs-filter, Among, AreNewEntries, ArePlaced, Bool, Cell, Core, Error, Falls, HandleNumber, HandleRow}
+use Rattle.pagable_tables.proofs.Words.{IsHandleBefore, IsWhole, IsWithin, List, MayOwnLoad, None, OpenLoad, Option, Owner, Result, Some, [], ap, arith, fallen, false, filter, greatest, held}
+use Rattle.pagable_tables.proofs.Words.{if◌then◌else◌, inl, inr, is_at, is_handle, is_owned_by, is_pin, is_pinning, is_share, is_shared, is_some, left_rows, length, map, nat_lt, nat_tests, not, one}
+use Rattle.pagable_tables.proofs.{Words.{pins, refl, sharing, subst, sum_by-append, sym, times, true, zero, ℕ}, Bits.not-so, keeps.Kept.{GoOn, HasLike, IsIn, IsNew, IsOld, at-then, held-some, is-in}}
+use Rattle.pagable_tables.proofs.keeps.{Kept.{keeps-whole, keyed_in, stays-old, there-then, type_in}, Rows.{IsEntry, among-both, among-left, at-most-sum, counted, entries-listed, entry-is, one-left}}
+use Rattle.pagable_tables.proofs.keeps.{HandleCalls.lists, Rows.{ordered-entries, sum-none, within-goes}, Told.{GoesOn, roomy, settles, told-whole}}
 
 -- What a whole world has lost besides before handles fall: owners of the given handles, entries of the list that are given, and what the cache knew.
 pub record Loses (m : Core) (list : List HandleNumber) (known : ℕ → ℕ → Option ℕ) (reads : ℕ → Option OpenLoad) (works given : ℕ → Bool) : Type 0 where
@@ -93,33 +93,23 @@ module _ (before : Core) {m : Core} (whole : IsWhole m) (on : GoesOn before m) (
         keyed = λ n like given none. keyless n (nat_lt 0 (held n after.rows)) none;
       }
 
-  -- the list's handles of one number
-  abbrev lists : ℕ → HandleRow → Bool
-  lists q h = is_handle q h && is_owned_by Owner.List h
-
   lists-only : (q : ℕ) (h : HandleRow) → lists q h ≡ true → h.number.0 ≡ q
   lists-only q h is = grind (arith, nat_tests)
 
   in-list : (q : ℕ) (x : HandleNumber) → (x.0 == q) ≡ true → x.0 ≡ q
   in-list q x is = grind (arith, nat_tests)
 
+  -- a given handle that stays isn't the list's
+  no-row : (q : ℕ) → given q ≡ true → gone q ≡ false → times (lists q) m.rows ≡ 0
+  no-row q is kept = sum-none (λ h. one (lists q h)) m.rows (λ h among. let g = within-goes m.rows given gone h within among in let o = lists-only q h in grind (arith, nat_tests))
+
   still-listed : (q : ℕ) → times (λ (h : HandleNumber). h.0 == q) (filter (λ (h : HandleNumber). not (gone h.0)) list) ≡ times (lists q) left
-  still-listed q = at (gone q) refl (one-left (λ (h : HandleNumber). h.0) (λ h. h.0 == q) q (in-list q) gone (gone q) refl list)
-      (one-left (λ (h : HandleRow). h.number.0) (lists q) q (lists-only q) gone (gone q) refl m.rows)
-    where
-      at : (b : Bool) → gone q ≡ b → times (λ (h : HandleNumber). h.0 == q) (filter (λ (h : HandleNumber). not (gone h.0)) list) ≡
-          (if b then 0 else times (λ (h : HandleNumber). h.0 == q) list) → times (lists q) left ≡ (if b then 0 else times (lists q) m.rows)
-          → times (λ (h : HandleNumber). h.0 == q) (filter (λ (h : HandleNumber). not (gone h.0)) list) ≡ times (lists q) left
-      at true e a b = a ∙ sym b
-      at false e a b = a ∙ elim (lost.listed q) [ inl same ↦ same | inr (is, none) ↦ none ∙ sym (no-row is (times (lists q) m.rows) refl) ] ∙ sym b
-        where
-          no-row : given q ≡ true → (k : ℕ) → times (lists q) m.rows ≡ k → times (lists q) m.rows ≡ 0
-          no-row is zero some = some
-          no-row is (suc k) some =
-              let found = counted (λ h. one (lists q h)) m.rows (omega arith) in
-              let number = lists-only q found.0 (one-true (lists q found.0) found.2) in
-              let f = within-goes m.rows given gone found.0 within found.1 (ap given number ∙ is) in
-              absurd (cc)
+  still-listed q =
+      let a = one-left (λ (h : HandleNumber). h.0) (λ h. h.0 == q) q (in-list q) gone (gone q) refl list in
+      let b = one-left (λ (h : HandleRow). h.number.0) (lists q) q (lists-only q) gone (gone q) refl m.rows in
+      let l = lost.listed q in
+      let none = no-row q in
+      grind (arith, nat_tests)
 
   no-entry : (es : List HandleRow) → entries ≡ es → m.closed ≡ true → entries ≡ []
   no-entry [] e closed = e

@@ -61,7 +61,7 @@ clone-whole me h (Err e) whole holder call placed = alike-whole whole call.refus
 
 -- the list's handles are owned by the list
 owned-by-list : (row : HandleRow) → is_owned_by Owner.List row ≡ false → row.owner ≡ Owner.List → ⊥
-owned-by-list row other is = let f : true ≡ false = ap (λ (o : Owner). is_owned_by Owner.List (record row { owner = o })) (sym is) ∙ other in absurd (cc)
+owned-by-list row other is = grind (arith, nat_tests)
 
 -- a handle that is loose or Pinned, and not the list's, is loose and pins
 pub pins-whole : {w : Core} (h : HandleNumber) (row : HandleRow) → IsWhole w → row_at w h ≡ Some row → is_shared row.mode ≡ false → is_owned_by Owner.List row ≡ false
@@ -73,11 +73,7 @@ is-pinned x0 is = grind (arith, nat_tests)
 
 -- a Pinned handle isn't the list's
 pub pinned-unlisted : {w : Core} (h : HandleNumber) (row : HandleRow) → IsWhole w → row_at w h ≡ Some row → is_pinned row.mode ≡ true → is_owned_by Owner.List row ≡ false
-pinned-unlisted {w} h row whole live pinned = of row.owner refl
-  where
-    of : (o : Owner) → row.owner ≡ o → is_owned_by Owner.List (record row { owner = o }) ≡ false
-    of Owner.List is = let e = whole.owners_there.waiting row (found-among h.0 w.rows row live).0 is in let f : Mode.LooseUnpinned ≡ Mode.Pinned = sym e ∙ is-pinned row.mode pinned in absurd (cc)
-    of _ is = refl
+pinned-unlisted {w} h row whole live pinned = grind (arith, nat_tests, whole.owners_there.waiting row (found-among h.0 w.rows row live).0, is-pinned)
 
 pub loosen-whole : {w w' : Core} (me : Owner) (h : HandleNumber) (r : Result HandleNumber Error) → IsWhole w → LoosenCall w me h r w' → ArePlaced w' → IsWhole w'
 loosen-whole me h (Ok k) whole call placed =
@@ -154,10 +150,10 @@ module _ {w : Core} (whole : IsWhole w) (node_type : ℕ) (key : OptionalDataKey
   cells = updated (w.last.node + 1) (Some (record { node_type = node_type; key = key })) w.cells
 
   cell-new : cells (w.last.node + 1) ≡ Some (record { node_type = node_type; key = key })
-  cell-new = let e : (w.last.node + 1 == w.last.node + 1) ≡ true = grind (arith, nat_tests) in rw e refl
+  cell-new = grind (arith, nat_tests)
 
   cell-old : (n : ℕ) → (n ≢ w.last.node + 1) ⊎ (n ≤ w.last.node) → cells n ≡ w.cells n
-  cell-old n old = let e : (n == w.last.node + 1) ≡ false = grind (arith, nat_tests) in rw e refl
+  cell-old n old = grind (arith, nat_tests)
 
   pub born-whole : IsWhole (roomy (with_handle (with_node w node_type key refs) (next_node w) mode me))
   born-whole =

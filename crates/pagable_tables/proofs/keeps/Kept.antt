@@ -50,16 +50,7 @@ pub record GoOn (w u : Core) : Type 0 where
 
 -- no row changes
 pub same-rows : {w u : Core} → IsWhole w → u.rows ≡ w.rows → SameAt w.cells u.cells → u.last.node ≡ w.last.node → u.last.handle ≡ w.last.handle → w.last.load ≤ u.last.load → GoOn w u
-same-rows {w} {u} whole rows cells node handle load =
-    record {
-      last = (omega arith, omega arith, load);
-      ordered = subst (λ r. AllPairs IsHandleBefore r) (sym rows) whole.handles.ordered;
-      fresh = false;
-      rows = λ h among. inl (stays-old (subst (λ r. Among r h) rows among));
-      live = λ n. ap is_some (cells n) ∙ whole.handles.live n ∙ ap (λ r. nat_lt 0 (held n r)) (sym rows);
-      typed = λ n t few is. sym (ap type_in (cells n)) ∙ is;
-      keyed = λ n like few none. ap keyed_in (cells n) ∙ none;
-    }
+same-rows {w} {u} whole rows cells node handle load = grind (arith, nat_tests, stays-old)
 
 -- ---- owners and loads
 
@@ -82,23 +73,14 @@ is-in {w} whole h among = of h.owner refl
 -- where loads stay open and workers at work
 pub in-still : (w u : Core) → ((l : ℕ) → is_some (w.loads l) ≡ true → is_some (u.loads l) ≡ true) → ((v : ℕ) → w.workers v ≡ true → u.workers v ≡ true) → (mode : Mode) (o : Owner)
     → IsIn w mode o → IsIn u mode o
-in-still w u loads workers mode Owner.List i = i
-in-still w u loads workers mode (Owner.Load l) i = loads l.0 i
-in-still w u loads workers mode (Owner.Worker v) i = workers v.0 i
-in-still w u loads workers mode _ i = tt
+in-still w u loads workers mode o i = grind (arith, nat_tests)
 
 -- in another mode, as that of the list's handles is known
 pub other-mode : (w : Core) (a b : Mode) (o : Owner) → IsIn w a o → (o ≡ Owner.List → b ≡ Mode.LooseUnpinned) → IsIn w b o
-other-mode w a b Owner.List i waits = waits refl
-other-mode w a b (Owner.Load l) i waits = i
-other-mode w a b (Owner.Worker v) i waits = i
-other-mode w a b _ i waits = tt
+other-mode w a b o i waits = grind (arith, nat_tests)
 
 pub holder-in : (w : Core) (mode : Mode) (o : Owner) → MayHold w o → IsIn w mode o
-holder-in w mode Owner.List may = absurd may
-holder-in w mode (Owner.Load l) may = may
-holder-in w mode (Owner.Worker v) may = may
-holder-in w mode _ may = tt
+holder-in w mode o may = grind (arith, nat_tests)
 
 -- a load that opens, of a root that w tells
 pub record IsNewLoad (w u : Core) (l : ℕ) (load : OpenLoad) : Type 0 where
@@ -166,37 +148,22 @@ shared-count n rows x b among e is = ap (λ a. one (a && is_shared x.mode)) (at-
 
 pub alike-rows : {w : Core} → IsWhole w → AreAlike w.rows
 alike-rows {w} whole = record {
-  same = λ x y there here same. elim (whole.handles.uniform y.node.0) [
-    | inl none ↦ unshared y.node.0 none x there same (is_shared x.mode) refl ∙ sym (unshared y.node.0 none y here refl (is_shared y.mode) refl)
-    | inr all ↦ shared y.node.0 all x there same (is_shared x.mode) refl ∙ sym (shared y.node.0 all y here refl (is_shared y.mode) refl)
-  ];
+  same = λ x y there here same.
+      let n = y.node.0 in
+      let u = whole.handles.uniform n in
+      let a = at-most-sum (λ h. one (is_share n h)) w.rows x there in
+      let b = at-most-sum (λ h. one (is_share n h)) w.rows y here in
+      let c = sum-less (λ h. one (is_share n h)) (λ h. one (is_at n h)) w.rows x (λ h. share-le (is_at n h) (is_shared h.mode)) there in
+      let d = sum-less (λ h. one (is_share n h)) (λ h. one (is_at n h)) w.rows y (λ h. share-le (is_at n h) (is_shared h.mode)) here in
+      grind (arith, nat_tests);
 }
-  where
-    unshared : (n : ℕ) → sharing n w.rows ≡ 0 → (x : HandleRow) → Among w.rows x → x.node.0 ≡ n → (b : Bool) → is_shared x.mode ≡ b → is_shared x.mode ≡ false
-    unshared n none x among e false is = is
-    unshared n none x among e true is = absurd (omega (arith, shared-count n w.rows x true among e is, at-most-sum (λ h. one (is_share n h)) w.rows x among))
-
-    shared : (n : ℕ) → sharing n w.rows ≡ held n w.rows → (x : HandleRow) → Among w.rows x → x.node.0 ≡ n → (b : Bool) → is_shared x.mode ≡ b → is_shared x.mode ≡ true
-    shared n all x among e true is = is
-    shared n all x among e false is =
-        let a = shared-count n w.rows x false among e is in
-        let b : one (is_at n x) ≡ 1 = ap one (at-one n x e) in
-        let c = sum-less (λ h. one (is_share n h)) (λ h. one (is_at n h)) w.rows x (λ h. share-le (is_at n h) (is_shared h.mode)) among (omega arith) in
-        absurd (omega arith)
 
 uniform-rows : (n : ℕ) (rows : List HandleRow) → AreAlike rows → (k : ℕ) → sharing n rows ≡ k → (sharing n rows ≡ 0) ⊎ (sharing n rows ≡ held n rows)
 uniform-rows n rows alike zero is = inl is
 uniform-rows n rows alike (suc k) is =
-    let found = counted (λ h. one (is_share n h)) rows (omega arith) in
-    let x = share-then n found.0 found.2 in
-    inr (same-sum (λ h. one (is_share n h)) (λ h. one (is_at n h)) rows (λ y among. at y (y.node.0 == n) refl (λ e. alike.same y found.0 among found.1 (e ∙ sym x.0) ∙ x.1)))
-  where
-    and-true : (b : Bool) → one (b && true) ≡ one b
-    and-true b = grind (arith, nat_tests)
-
-    at : (y : HandleRow) (b : Bool) → (y.node.0 == n) ≡ b → (y.node.0 ≡ n → is_shared y.mode ≡ true) → one (is_share n y) ≡ one (is_at n y)
-    at y true e same = let f : y.node.0 ≡ n = grind (arith, nat_tests) in ap (λ b. one (is_at n y && b)) (same f) ∙ and-true (is_at n y)
-    at y false e same = ap (λ b. one (b && is_shared y.mode)) e ∙ ap one (sym e)
+    let (x, there, counts) = counted (λ h. one (is_share n h)) rows (omega arith) in
+    let (at, shared) = share-then n x counts in
+    inr (same-sum (λ h. one (is_share n h)) (λ h. one (is_at n h)) rows (λ y among. let s = alike.same y x among there in grind (arith, nat_tests)))
 
 module _ {w u : Core} (whole : IsWhole w) (k : Keeps w u) where
   given : (n : ℕ) (shared : Bool) → HasLike w.rows n shared → (0 < n) × (n ≤ w.last.node)
@@ -204,24 +171,10 @@ module _ {w u : Core} (whole : IsWhole w) (k : Keeps w u) where
 
   like : (h : HandleRow) → Among u.rows h → HasLike w.rows h.node.0 (is_shared h.mode)
       ⊎ ((w.last.node < h.node.0) × (h.node.0 ≤ u.last.node) × (is_shared h.mode ≡ k.on.fresh) × (k.on.fresh ≡ true → keyed_in (u.cells h.node.0) ≡ false))
-  like h among = elim (k.on.rows h among) [
-    | inl old ↦ inl (record { row = old.row; there = old.there; at = ap (λ (n : NodeNumber). n.0) old.node; same = old.shared })
-    | inr new ↦ new.like
-  ]
+  like h among = let r = k.on.rows h among in grind (arith, nat_tests)
 
   alike : AreAlike u.rows
-  alike = record {
-    same = λ x y there here same. elim (like x there) [
-      | inl a ↦ elim (like y here) [
-        | inl b ↦ sym a.same ∙ (alike-rows whole).same a.row b.row a.there b.there (a.at ∙ same ∙ sym b.at) ∙ b.same
-        | inr b ↦ absurd (let c = given x.node.0 (is_shared x.mode) a in let d = b.0 in omega arith)
-      ]
-      | inr a ↦ elim (like y here) [
-        | inl b ↦ absurd (let c = given y.node.0 (is_shared y.mode) b in let d = a.0 in omega arith)
-        | inr b ↦ a.2 ∙ sym b.2
-      ]
-    ];
-  }
+  alike = record { same = λ x y there here same. let a = like x there in let b = like y here in let s = (alike-rows whole).same in grind (arith, nat_tests, given, s) }
 
   handles : HandlesAreWhole u
   handles =
@@ -232,10 +185,7 @@ module _ {w u : Core} (whole : IsWhole w) (k : Keeps w u) where
           | inl old ↦ let a = h.numbered old.row old.there in let b = old.number in let c = k.on.last in (omega arith, omega arith)
           | inr new ↦ let a = new.above in let b = new.few in (omega arith, omega arith)
         ];
-        nodes_numbered = λ n some. let (x, among, at) = row-then n u.rows (u.cells n) (k.on.live n) some in elim (like x among) [
-          | inl old ↦ let a = given x.node.0 (is_shared x.mode) old in let c = k.on.last in (omega arith, omega arith)
-          | inr new ↦ let a = new.0 in let b = new.1 in (omega arith, omega arith)
-        ];
+        nodes_numbered = λ n some. let (x, among, at) = row-then n u.rows (u.cells n) (k.on.live n) some in let l = like x among in let c = k.on.last in grind (arith, nat_tests, given);
         within = k.within;
         live = k.on.live;
         uniform = λ n. uniform-rows n u.rows alike (sharing n u.rows) refl;
@@ -269,15 +219,7 @@ module _ {w u : Core} (whole : IsWhole w) (k : Keeps w u) where
       }
 
   entry : (kind n : ℕ) → IsEntryWhole w kind n → IsEntryWhole u kind n
-  entry kind n e =
-      record {
-        given = let a = e.given in let b = k.on.last in omega arith;
-        typed = λ t is. e.typed t (k.on.typed n t e.given is);
-        shares = λ h among at. elim (like h among) [
-          | inl old ↦ sym old.same ∙ e.shares old.row old.there (old.at ∙ at)
-          | inr new ↦ absurd (let a = e.given in let b = new.0 in omega arith)
-        ];
-      }
+  entry kind n e = grind (arith, nat_tests, like, k.on.typed)
 
   pub keeps-whole : IsWhole u
   keeps-whole =

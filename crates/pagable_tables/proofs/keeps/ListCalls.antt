@@ -1,11 +1,10 @@
 -- Calls by which handles go to the list, come from it or fall keep the world whole.
-use Rattle.pagable_tables.proofs.Words.{◌&&◌, ◌++◌, ◌+◌, ◌<◌, ◌==◌, ◌∙◌, ◌∷◌, ◌≡◌, Among, ArePlaced, Bool, Cell, Core, Err, Error, HandleNumber, HandleRow, IsWhole, MayHold, Mode, None, Ok}
-use Rattle.pagable_tables.proofs.Words.{Option, OptionalDataKey, Owner, ReleaseCall, Result, ScheduleCall, SetKeyCall, Some, TakeCall, UnpinCall, [], ap, arith, false, get_or, get_or_from_slice_get}
-use Rattle.pagable_tables.proofs.Words.{if_there, if◌then◌else◌, inl, inr, is_owned_by, is_owner, is_shared, is_some, is_unpinned, moved, nat_tests, one, only_handle, refl, slice_get}
-use Rattle.pagable_tables.proofs.{Words.{slice_get_within, sum_by-remove, sum_by_push, sym, times, true, with_key, ℕ}, Bits.{and-all, and-zero}, keeps.Comes.not-list, keeps.Fallen.alike-opened}
-use Rattle.pagable_tables.proofs.{keeps.Fallen.{falls-opened, falls-whole, opened}, keeps.HandleCalls.{lists, loose-unshared, moved-so}, keeps.Kept.{HasLike, alike-rows, holder-in, is-in}}
-use Rattle.pagable_tables.proofs.{keeps.Kept.{keeps-whole, keyed_in, loads-stay, stays-old, type_in}, keeps.Rows.{changed-sum, counted, found-among, once}, keeps.Told.{alike-whole, moded-on}}
-use Rattle.pagable_tables.proofs.keeps.Told.{moded-whole, roomy, roomy-whole, settles, stays-on}
+use Rattle.pagable_tables.proofs.Words.{◌&&◌, ◌++◌, ◌+◌, ◌<◌, ◌==◌, ◌∙◌, ◌∷◌, ◌≡◌, Among, ArePlaced, Bool, Cell, Core, Err, Error, HandleNumber, HandleRow, IsWhole, MayHold, Mode, None, Ok, Option}
+use Rattle.pagable_tables.proofs.Words.{OptionalDataKey, Owner, ReleaseCall, Result, ScheduleCall, SetKeyCall, Some, TakeCall, UnpinCall, [], ap, arith, false, get_or, get_or_from_slice_get, if_there}
+use Rattle.pagable_tables.proofs.Words.{if◌then◌else◌, inl, inr, is_owned_by, is_owner, is_shared, is_some, is_unpinned, moved, nat_tests, one, only_handle, refl, slice_get, slice_get_within}
+use Rattle.pagable_tables.proofs.{Words.{sum_by-remove, sum_by_push, sym, times, true, with_key, ℕ}, Bits.{and-all, and-zero}, keeps.{Comes.not-list, Fallen.{alike-opened, falls-opened, falls-whole}}}
+use Rattle.pagable_tables.proofs.keeps.{Fallen.opened, HandleCalls.{lists, loose-unshared, moved-so}, Kept.{HasLike, alike-rows, holder-in, is-in, keeps-whole, keyed_in, loads-stay, stays-old}}
+use Rattle.pagable_tables.proofs.keeps.{Kept.type_in, Rows.{changed-sum, counted, found-among, once}, Told.{alike-whole, moded-on, moded-whole, roomy, roomy-whole, settles, stays-on}}
 use Rattle.std.specs.List.{remove}
 
 -- The handle h of this row alone moves: what the list's handles of a number are then.
@@ -119,11 +118,7 @@ module _ {w : Core} (whole : IsWhole w) (row : HandleRow) (there : Among w.rows 
   same-type x0 = grind (arith, nat_tests)
 
   keyless : (n : ℕ) → HasLike w.rows n true → keyed_in (w.cells n) ≡ false → (b : Bool) → (n == row.node.0) ≡ b → keyed_in (if b then rekey (w.cells row.node.0) else w.cells n) ≡ false
-  keyless n like none false e = none
-  keyless n like none true e =
-      let at : n ≡ row.node.0 = grind (arith, nat_tests) in
-      let f : true ≡ false = sym like.same ∙ (alike-rows whole).same like.row row like.there there (like.at ∙ at) ∙ unshared in
-      absurd (cc)
+  keyless n like none b e = grind (arith, nat_tests, alike-rows whole)
 
   pub keyed-whole : IsWhole (with_key w row.node key)
   keyed-whole =

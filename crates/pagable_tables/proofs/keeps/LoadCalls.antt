@@ -1,10 +1,8 @@
 -- Calls on loads keep the world whole.
-use Rattle.pagable_tables.proofs.Unpinning.{updated-here}
-use Rattle.pagable_tables.proofs.Words.{◌+◌, ◌<◌, ◌∙◌, ◌≡◌, ◌⊎◌, ArePlaced, BeginCall, BeginKeyCall, Beginning, Core, Err, Error, HandleNumber, HandleRow, IsNextLoad, IsRootWhole, IsWhole}
-use Rattle.pagable_tables.proofs.Words.{MayHold, MayOwnLoad, Mode, NodeNumber, Ok, OpenLoad, Option, Owner, Owns, Result, Root, Some, ap, arith, greatest, inl, inr, is_loose, is_some, nat_tests}
-use Rattle.pagable_tables.proofs.{Words.{of_cell, of_key, refl, subst, sym, true, type_at, updated, with_handle, with_load, ℕ}, keeps.Comes.beside, keeps.HandleCalls.loose-unshared}
-use Rattle.pagable_tables.proofs.{keeps.Kept.{IsNewLoad, in-still, is-in, keeps-whole, loads-stay, may-own, same-rows, there-then}, keeps.Rows.found-among, keeps.Told.{alike-whole, roomy}}
-use Rattle.pagable_tables.proofs.keeps.Told.{roomy-whole, settles}
+use Rattle.pagable_tables.proofs.Words.{Among, ◌+◌, ◌<◌, ◌∙◌, ◌≡◌, ◌⊎◌, ArePlaced, BeginCall, BeginKeyCall, Beginning, Core, Err, Error, HandleNumber, HandleRow, IsNextLoad, IsRootWhole, IsWhole}
+use Rattle.pagable_tables.proofs.Words.{MayHold, MayOwnLoad, Mode, NodeNumber, Ok, OpenLoad, Option, Owner, Owns, Result, Root, Some, ap, arith, greatest, is_loose, is_some, nat_tests, of_cell}
+use Rattle.pagable_tables.proofs.{Words.{of_key, refl, true, type_at, updated, with_handle, with_load, ℕ}, keeps.Kept.{GoOn, IsIn, in-still, is-in, keeps-whole, loads-stay, may-own, same-rows}}
+use Rattle.pagable_tables.proofs.{keeps.{Kept.there-then, Comes.beside, HandleCalls.loose-unshared, Rows.found-among, Told.{alike-whole, roomy, roomy-whole, settles}}, Unpinning.updated-here}
 
 -- ---- one load more
 
@@ -20,21 +18,10 @@ pub loaded-whole : {w : Core} (key : ℕ) (root : Root) (me : Owner) → IsWhole
 loaded-whole {w} key root me whole may left good =
     let new : OpenLoad = record { owner = me; key = key; root = root } in
     let after = with_load w key root me in
-    keeps-whole whole (record {
-      on = same-rows whole refl (λ n. refl) refl refl (omega arith);
-      within = let (a, b, c) = whole.handles.within in (a, b, omega arith);
-      places = whole.handles.places;
-      listed = whole.owners_there.listed;
-      owners = λ h among. in-still w after (some-updated (w.last.load + 1) new w.loads) (λ v is. is) h.mode h.owner (is-in whole h among);
-      loads = λ l load is. elim (at-updated (w.last.load + 1) new w.loads l load is) [
-        | inl e ↦ subst (λ (x : OpenLoad). MayOwnLoad after x.owner × ((w.loads l ≡ Some x) ⊎ IsNewLoad w after l x)) e.1
-            (may-own w after (λ v at. at) me may, inr (let a = e.0 in record { numbered = (omega arith, omega arith); root = good }))
-        | inr was ↦ loads-stay whole (λ v at. at) l load was
-      ];
-      cache = whole.cache;
-      workers = whole.workers_numbered;
-      shut = whole.shut;
-    })
+    let on : GoOn w after = same-rows whole refl (λ n. refl) refl refl (omega arith) in
+    let owners : (h : HandleRow) → Among w.rows h → IsIn after h.mode h.owner =
+    λ h among. in-still w after (some-updated (w.last.load + 1) new w.loads) (λ v is. is) h.mode h.owner (is-in whole h among) in
+    keeps-whole whole (grind (arith, nat_tests, loads-stay, at-updated, may-own))
 
 pub begin-key-whole : {w w' : Core} (me : Owner) (key : ℕ) (r : Result Beginning Error) → IsWhole w → MayOwnLoad w me → BeginKeyCall w me key r w' → ArePlaced w' → IsWhole w'
 begin-key-whole {w} me key (Ok (Beginning.Load l k)) whole may call placed =
@@ -58,12 +45,9 @@ begin-whole {w} {w'} me h (Ok (Beginning.Load l key)) whole may call placed =
         → IsWhole (roomy (with_load (with_handle w row.node Mode.LooseUnpinned (Owner.Load l)) key (of_cell row.node t h) me))
     begun row owns next left t typed key =
         let found = found-among h.0 w.rows row owns.live in
-        let root : IsRootWhole w row.node t h = record {
-          typed = λ type is. let e : Some type ≡ Some t = sym is ∙ typed in cc;
-          begun = λ x is. let e : Some row ≡ Some x = sym owns.live ∙ is in let same : row ≡ x = cc in
-              (ap (λ (y : HandleRow). y.node) (sym same), ap (λ (y : HandleRow). is_loose y.mode) (sym same) ∙ owns.as_asked);
-          given = let a = (whole.handles.numbered row found.0).1 in let b = found.1 in (omega arith, (whole.handles.nodes_numbered row.node.0 (there-then whole row found.0)).1);
-        } in
+        let few = whole.handles.numbered row found.0 in
+        let old = whole.handles.nodes_numbered row.node.0 (there-then whole row found.0) in
+        let root : IsRootWhole w row.node t h = grind (arith, nat_tests, owns.live, owns.as_asked) in
         let new : OpenLoad = record { owner = me; key = key; root = of_cell row.node t h } in
         beside (loaded-whole key new.root me whole may next.is_left (λ node t2 k is. named row t root node t2 k is)) row.node Mode.LooseUnpinned (Owner.Load l)
         (record { row = row; there = found.0; at = refl; same = loose-unshared row.mode owns.as_asked })

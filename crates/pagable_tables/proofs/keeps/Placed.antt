@@ -1,6 +1,5 @@
 -- What the tables tell is in its places, since no vector is longer than its capacity.
-use Rattle.pagable_tables.proofs.{Words.{arith, [], Tables, IsFalling, owns_nothing, plain_of, ArePlaced, nat_tests}, Alive.length-live-le}
-use Rattle.pagable_tables.specs.Core.{IsWhole}
+use Rattle.pagable_tables.{proofs.{Words.{arith, [], Tables, IsFalling, owns_nothing, plain_of, ArePlaced, nat_tests}, Alive.length-live-le}, specs.Core.IsWhole}
 use Rattle.pagable_world.specs.Pager as pager
 
 pub placed : (t : Tables) → ArePlaced (plain_of t)

@@ -144,14 +144,8 @@ pub changed-sum : (f : HandleRow → ℕ) (to : HandleRow → HandleRow) (rows :
     → ((x : HandleRow) → (x.number.0 == row.number.0) ≡ false → f (to x) ≡ f x) → sum_by f (map to rows) + f row ≡ sum_by f rows + f (to row)
 changed-sum f to [] row ordered among same = let a = among.1 in absurd (cc)
 changed-sum f to (x ∷ xs) row ordered (zero, is) same =
-    let e : x ≡ row = cc in
-    let n = ap (λ (y : HandleRow). y.number.0) e in
-    let a = sum_by-cons f x xs in
-    let b = sum_by-cons f (to x) (map to xs) in
     let c = sum-map f f to xs (λ y among. same y (let less = first-less x xs ordered y among in grind (arith, nat_tests))) in
-    let d : f x ≡ f row = ap f e in
-    let g : f (to x) ≡ f (to row) = ap (λ (y : HandleRow). f (to y)) e in
-    omega arith
+    grind (arith, nat_tests, sum_by-cons f x xs, sum_by-cons f (to x) (map to xs))
 changed-sum f to (x ∷ xs) row ordered (suc i, is) same =
     let less = first-less x xs ordered row (i, is) in
     let a = sum_by-cons f x xs in
@@ -165,12 +159,8 @@ pub only-row : (f : HandleRow → ℕ) (rows : List HandleRow) (row : HandleRow)
     → sum_by f rows ≡ f row
 only-row f [] row ordered among none = let a = among.1 in absurd (cc)
 only-row f (x ∷ xs) row ordered (zero, is) none =
-    let e : x ≡ row = cc in
-    let n = ap (λ (y : HandleRow). y.number.0) e in
-    let a = sum_by-cons f x xs in
-    let b : f x ≡ f row = ap f e in
     let c = sum-none f xs (λ y among. none y (let less = first-less x xs ordered y among in grind (arith, nat_tests))) in
-    omega arith
+    grind (arith, nat_tests, sum_by-cons f x xs)
 only-row f (x ∷ xs) row ordered (suc i, is) none =
     let less = first-less x xs ordered row (i, is) in
     let a = sum_by-cons f x xs in
@@ -196,25 +186,11 @@ module _ {X : Type 0} (number : X → ℕ) (f : X → Bool) (q : ℕ) (only : (x
   pub one-left : (b : Bool) → gone q ≡ b → (xs : List X) → times f (filter (λ x. not (gone (number x))) xs) ≡ (if b then 0 else times f xs)
   one-left true e [] = refl
   one-left false e [] = refl
-  one-left b e (x ∷ xs) = at b e (f x) refl (gone (number x)) refl (one-left b e xs)
-    where
-      goes : f x ≡ true → gone (number x) ≡ gone q
-      goes e = ap gone (only x e)
-
-      at : (b : Bool) → gone q ≡ b → (c : Bool) → f x ≡ c → (d : Bool) → gone (number x) ≡ d → times f (filter (λ x. not (gone (number x))) xs) ≡ (if b then 0 else times f xs)
-          → times f (if not d then x ∷ filter (λ x. not (gone (number x))) xs else filter (λ x. not (gone (number x))) xs) ≡ (if b then 0 else times f (x ∷ xs))
-      at b0 e b2 g b4 h rest = grind (arith, nat_tests, goes, sum_by-cons (λ y. one (f y)) x xs, sum_by-cons (λ y. one (f y)) x (filter (λ x. not (gone (number x))) xs))
+  one-left b e (x ∷ xs) = let goes = only x in grind (arith, nat_tests, one-left b e xs, sum_by-cons (λ y. one (f y)) x xs, sum_by-cons (λ y. one (f y)) x (filter (λ x. not (gone (number x))) xs))
 
 -- a row of the given ones goes
 pub within-goes : (rows : List HandleRow) (given gone : ℕ → Bool) (h : HandleRow) → IsWithin rows given gone → Among rows h → given h.number.0 ≡ true → gone h.number.0 ≡ true
-within-goes rows given gone h within among is = at (gone h.number.0) refl
-  where
-    at : (b : Bool) → gone h.number.0 ≡ b → gone h.number.0 ≡ true
-    at true e = e
-    at false e =
-        let a = at-most-sum (λ x. one (given x.number.0 && not (gone x.number.0))) rows h among in
-        let b : one (given h.number.0 && not (gone h.number.0)) ≡ 1 = ap (λ c. one (given h.number.0 && not c)) e ∙ ap (λ c. one (c && true)) is in
-        absurd (omega arith)
+within-goes rows given gone h within among is = grind (arith, nat_tests, at-most-sum (λ x. one (given x.number.0 && not (gone x.number.0))) rows h among)
 
 -- ---- what comes
 

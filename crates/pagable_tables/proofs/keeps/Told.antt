@@ -1,9 +1,8 @@
 -- A world that is told alike, or whose rows are changed one by one, stays whole, while rows and list are in their places.
-use Rattle.pagable_tables.proofs.keeps.Kept.{GoOn}
-use Rattle.pagable_tables.proofs.Words.{◌&&◌, ◌==◌, ◌∙◌, ◌≡◌, Alike, Among, ArePlaced, Bool, Core, HandleNumber, HandleRow, IsWhole, Last, List, Mode, NodeNumber, None, Option, Owner, SameAt, Some}
-use Rattle.pagable_tables.proofs.Words.{[], ap, arith, changed, false, if◌then◌else◌, inl, is_at, is_handle, is_loose, is_owned_by, is_shared, is_some, length, nat_lt, nat_tests, one, refl, row_at}
-use Rattle.pagable_tables.proofs.{Words.{subst, sym, times, true, with_mode, ℕ}, keeps.Kept.{HasLike, IsIn, IsOld, in-still, is-in, keeps-whole, loads-stay, may-own, other-mode, same-rows}}
-use Rattle.pagable_tables.proofs.{keeps.Kept.stays-old, keeps.Rows.{among-changed, among-to, each-changed, found-among, once, ordered-map, sum-map}}
+use Rattle.pagable_tables.proofs.{keeps.Kept.{GoOn, HasLike, IsIn, IsOld, in-still, is-in, keeps-whole, loads-stay, may-own, other-mode, same-rows, stays-old}, Words.{◌&&◌, ◌==◌, ◌∙◌, ◌≡◌, Alike}}
+use Rattle.pagable_tables.proofs.Words.{Among, ArePlaced, Bool, Core, HandleNumber, HandleRow, IsWhole, Last, List, Mode, NodeNumber, None, Option, Owner, SameAt, Some, [], ap, arith, changed, false}
+use Rattle.pagable_tables.proofs.Words.{if◌then◌else◌, inl, is_at, is_handle, is_loose, is_owned_by, is_shared, is_some, length, nat_lt, nat_tests, one, refl, row_at, subst, sym, times, true}
+use Rattle.pagable_tables.proofs.{Words.{with_mode, ℕ}, keeps.Rows.{among-changed, among-to, each-changed, found-among, once, ordered-map, sum-map}}
 pub use Rattle.pagable_tables.proofs.keeps.Kept.{may-own}
 
 -- the world with room for just what is there
@@ -11,8 +10,7 @@ abbrev pub roomy : Core → Core
 roomy w = record w { places = record { handles = length w.rows; entries = length w.list } }
 
 none-then : {X : Type 0} (o o' : Option X) → ((x : X) → o' ≡ Some x → o ≡ Some x) → o ≡ None → o' ≡ None
-none-then o None only none = refl
-none-then o (Some x) only none = let f : None ≡ Some x = sym none ∙ only x refl in absurd (cc)
+none-then o o' only none = grind (arith, nat_tests)
 
 module _ {m w' : Core} (whole : IsWhole m) (rows : w'.rows ≡ m.rows) (cells : SameAt m.cells w'.cells) (list : w'.list ≡ m.list)
     (cache : (kind key n : ℕ) → w'.cache kind key ≡ Some n → m.cache kind key ≡ Some n)

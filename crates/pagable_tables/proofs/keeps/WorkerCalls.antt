@@ -1,9 +1,7 @@
 -- A worker that begins or ends keeps the world whole.
-use Rattle.pagable_tables.proofs.keeps.Kept.{GoOn}
-use Rattle.pagable_tables.proofs.Words.{◌+◌, ◌==◌, ◌||◌, ◌∙◌, ◌≡◌, ◌≤◌, ◌⊎◌, Among, ArePlaced, Bool, Core, HandleRow, IsWhole, LoadNumber, MayOwnLoad, None, OpenLoad, Option, Owner, Some, ap}
-use Rattle.pagable_tables.proofs.Words.{arith, false, if_there, if◌then◌else◌, inl, inr, is_owner, is_some, is_workers, is_workers_load, nat_tests, owner_worker, refl, true, with_worker}
-use Rattle.pagable_tables.proofs.{Words.{without_worker, ℕ}, keeps.Fallen.{falls-lost, opened}, keeps.Kept.{IsIn, in-still, is-in, keeps-whole, loads-stay, same-rows}, keeps.Rows.found-so}
-use Rattle.pagable_tables.proofs.keeps.Told.{roomy-whole, stays-on}
+use Rattle.pagable_tables.proofs.{keeps.Kept.{GoOn, IsIn, in-still, is-in, keeps-whole, loads-stay, same-rows}, Words.{◌+◌, ◌==◌, ◌||◌, ◌≡◌, ◌≤◌, Among, ArePlaced, Bool, Core, HandleRow, IsWhole}}
+use Rattle.pagable_tables.proofs.Words.{MayOwnLoad, None, OpenLoad, Option, Owner, Some, ap, arith, false, if_there, if◌then◌else◌, inl, is_owner, is_workers, is_workers_load, nat_tests, owner_worker}
+use Rattle.pagable_tables.proofs.{Words.{refl, true, with_worker, without_worker, ℕ}, keeps.{Fallen.{falls-lost, opened}, Rows.found-so, Told.{roomy-whole, stays-on}}}
 use Rattle.pagable_world.specs.Workers.{WorkerEnds, is_load_of}
 
 -- ---- one worker more
@@ -32,35 +30,12 @@ pub worker-end-whole : {w w' : Core} (v : ℕ) → IsWhole (opened w) → Worker
 worker-end-whole {w} {w'} v whole ends placed =
     falls-lost w {u = without_worker w v} (roomy-whole whole) (stays-on w) refl (record {
       listed = λ q. inl (whole.owners_there.listed q);
-      owners = λ h among. there h among h.owner refl (is-in whole h among);
+      owners = λ h among. let i = is-in whole h among in let f = found h among in grind (arith, nat_tests);
       loads = λ l load is. let a = left-open v (w.loads l) load is in (a.0, may-still w v load.owner a.1 (whole.loads.owned l load a.0));
       cache = λ kind key n is. is;
-      workers = worked;
+      workers = λ v is. grind (arith, nat_tests);
       shut = λ closed. absurd (cc);
     }) ends.falls placed
   where
     found : (h : HandleRow) → Among w.rows h → is_workers w v h.number.0 ≡ (is_owner (owner_worker v) h.owner || is_load_of w v h.owner)
     found h among = ap (if_there (λ (row : HandleRow). is_owner (owner_worker v) row.owner || is_load_of w v row.owner) false) (found-so h.number.0 w.rows h whole.handles.ordered among refl)
-
-    own : (h : HandleRow) → Among w.rows h → h.owner ≡ Owner.Worker (record { 0 = v }) → is_workers w v h.number.0 ≡ true
-    own h among is = let same : (v == v) ≡ true = grind (arith, nat_tests) in found h among ∙ ap (λ o. is_owner (owner_worker v) o || is_load_of w v o) is ∙ ap (λ b. b || false) same
-
-    loaded : (h : HandleRow) (l : LoadNumber) → Among w.rows h → h.owner ≡ Owner.Load l → is_workers_load v (w.loads l.0) ≡ true → is_workers w v h.number.0 ≡ true
-    loaded h l among is mine = found h among ∙ ap (λ o. is_owner (owner_worker v) o || is_load_of w v o) is ∙ mine
-
-    worked : (u : ℕ) → (if u == v then false else w.workers u) ≡ true → w.workers u ≡ true
-    worked u is = grind (arith, nat_tests)
-
-    there : (h : HandleRow) → Among w.rows h → (o : Owner) → h.owner ≡ o → IsIn w h.mode o → IsIn (without_worker w v) h.mode o ⊎ (is_workers w v h.number.0 ≡ true)
-    there h among (Owner.Load l) is i = at (is_workers_load v (w.loads l.0)) refl
-      where
-        at : (b : Bool) → is_workers_load v (w.loads l.0) ≡ b → (is_some (if b then None else w.loads l.0) ≡ true) ⊎ (is_workers w v h.number.0 ≡ true)
-        at true e = inr (loaded h l among is e)
-        at false e = inl i
-    there h among (Owner.Worker u) is i = at (u.0 == v) refl
-      where
-        at : (b : Bool) → (u.0 == v) ≡ b → ((if b then false else w.workers u.0) ≡ true) ⊎ (is_workers w v h.number.0 ≡ true)
-        at true e = let same : u.0 ≡ v = grind (arith, nat_tests) in inr (own h among (is ∙ ap (λ n. Owner.Worker (record { 0 = n })) same))
-        at false e = inl i
-    there h among Owner.List is i = inl i
-    there h among _ is i = inl tt

@@ -1,4 +1,4 @@
-use Rattle.pagable_tables.proofs.Words.{◌≡◌, ℕ, ◌⊎◌, ◌&&◌, false, true, Bool, nat_eq, inl, inr, arith, refl, ◌≢◌, nat_tests, is_same}
+use Rattle.pagable_tables.proofs.Words.{◌≡◌, ℕ, ◌⊎◌, false, arith, ◌≢◌, nat_tests, is_same}
 use Rattle.pagable_tables.proofs.cache.learn.Goals as goal
 
 other : (a b k q : ℕ) → (k ≢ a) ⊎ (q ≢ b) → is_same (a, b) (k, q) ≡ false

@@ -1,4 +1,4 @@
-use Rattle.pagable_tables.proofs.{Words.{arith, core_of, nat_tests}, Installed.{placed-whole, ready-placed}, Worlds.alike, Opened.no-load-fault}
+use Rattle.pagable_tables.proofs.{Words.{refl, arith, core_of, nat_tests}, Installed.ready-placed, Doing.widens-does, Worlds.alike, Opened.no-load-fault}
 use Rattle.pagable_tables.proofs.installing.prepare_end.Goals as goal
 
 pub returns-in_default-clause-unended : goal.returns-in_default-clause-unended
@@ -6,7 +6,7 @@ returns-in_default-clause-unended c stored closed failures =
     grind (arith, nat_tests, no-load-fault, alike, c.reserve.ensures.widens.rows, c.reserve.ensures.widens.capacity, (c.in-Ok.ensures.ready stored closed failures).may)
 
 pub returns-in_default-clause-whole : goal.returns-in_default-clause-whole
-returns-in_default-clause-whole c = placed-whole c.args.t.now c.reserve.new.handles c.requires c.reserve.ensures.widens.sound c.reserve.ensures.widens.next c.reserve.ensures.widens.rows c.reserve.ensures.widens.capacity
+returns-in_default-clause-whole c = (widens-does c.args.t.now c.reserve.new.handles c.args.t.now.holdings.nodes c.requires c.reserve.ensures.widens (λ n. refl) (λ n. refl)).whole
 
 pub returns-clause-ready : goal.returns-clause-ready
 returns-clause-ready c stored closed failures =
@@ -16,4 +16,4 @@ returns-clause-ready c stored closed failures =
     ready-placed w w'.places w'.rows c.args.me c.args.load c.args.node_type c.args.references.now c.in-Ok.ending c.reserve.ensures.widens.rows (c.in-Ok.ensures.ready stored closed failures)
 
 pub returns-clause-whole : goal.returns-clause-whole
-returns-clause-whole c = placed-whole c.args.t.now c.reserve.new.handles c.requires c.reserve.ensures.widens.sound c.reserve.ensures.widens.next c.reserve.ensures.widens.rows c.reserve.ensures.widens.capacity
+returns-clause-whole c = (widens-does c.args.t.now c.reserve.new.handles c.args.t.now.holdings.nodes c.requires c.reserve.ensures.widens (λ n. refl) (λ n. refl)).whole

@@ -1,5 +1,4 @@
-use Rattle.pagable_tables.proofs.{Words.{sym, false, None}, Opened.{recalls, not-recalled}, keeps.CacheCalls.known-suits}
-use Rattle.pagable_tables.proofs.Doing.{does-as}
+use Rattle.pagable_tables.proofs.{Words.{sym, false, None}, Opened.{recalls, not-recalled}, keeps.CacheCalls.known-suits, Doing.does-as}
 use Rattle.pagable_tables.proofs.known.cache_get.Goals as goal
 
 pub make-requires-clause-suits : goal.make-requires-clause-suits

@@ -1,5 +1,4 @@
-use Rattle.pagable_tables.proofs.{Words.{◌≡◌, ◌∙◌, sym, ap, arith, Some, false, HandleNumber, live, is_valued, named_at, IsNamed, Holdings}, Handed.{one-moved, named-still}}
-use Rattle.pagable_tables.proofs.Handed.{all-moved}
+use Rattle.pagable_tables.proofs.{Words.{◌≡◌, ◌∙◌, sym, ap, arith, Some, false, HandleNumber, live, is_valued, named_at, IsNamed, Holdings}, Handed.{one-moved, named-still, all-moved}}
 use Rattle.pagable_tables.proofs.moving.hand_each.Goals as goal
 
 pub unreachable-requires : goal.unreachable-requires

@@ -1,5 +1,4 @@
-use Rattle.pagable_tables.proofs.Words.{◌≡◌, ◌+◌, ◌-◌, drop, arith, ◌∙◌, subst, named_fault, seen}
-use Rattle.pagable_tables.proofs.{Handed.{one-named}}
+use Rattle.pagable_tables.proofs.{Words.{◌≡◌, ◌+◌, ◌-◌, drop, arith, ◌∙◌, subst, named_fault, seen}, Handed.one-named}
 use Rattle.pagable_tables.proofs.moving.named_fault.Goals as goal
 
 pub loop-place-preserved : goal.loop-place-preserved

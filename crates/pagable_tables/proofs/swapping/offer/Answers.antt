@@ -1,7 +1,6 @@
-use Rattle.pagable_tables.proofs.Words.{not, ◌≡◌, ◌+◌, false, None, Ok, Some, inr, refl, ap, sym, subst, arith, IfSome, length, nat_tests, mode_of, with_known, Falls, only_handle}
-use Rattle.pagable_tables.proofs.{Words.{Tables, core_of, plain_of, AllPairs, IsHandleBefore, true}, Begun.{open-then, not-closed}, Stays.{found-again, begun-made, swapped}}
-use Rattle.pagable_tables.proofs.{Stays.{values-made, values-still}, Ended.{stays-first, sheds-still}, keeps.CacheCalls.offer-whole, keeps.Comes.{not-a-value, not-list}, keeps.Placed.whole-so}
-use Rattle.pagable_tables.proofs.{keeps.Rows.found-among, Newer.{later-on, offer-newer}}
+use Rattle.pagable_tables.proofs.Words.{not, ◌≡◌, ◌+◌, false, None, Ok, Some, inr, refl, ap, sym, subst, arith, IfSome, length, nat_tests, mode_of, with_known, Falls, only_handle, Tables, core_of}
+use Rattle.pagable_tables.proofs.{Words.{plain_of, AllPairs, IsHandleBefore, true}, Begun.{open-then, not-closed}, Stays.{found-again, begun-made, swapped, values-made, values-still}}
+use Rattle.pagable_tables.proofs.{Ended.{stays-first, sheds-still}, keeps.{CacheCalls.offer-whole, Comes.{not-a-value, not-list}, Placed.whole-so, Rows.found-among}, Newer.{later-on, offer-newer}}
 use Rattle.pagable_tables.proofs.swapping.offer.Goals as goal
 
 pub give_number-requires-clause-there : goal.give_number-requires-clause-there

@@ -1,6 +1,5 @@
-use Rattle.pagable_tables.proofs.{Words.{◌+◌, ◌≡◌, arith, refl, ap, sym, ◌∙◌, Some, not, one, live, counts_at, plain_of, Mode}, Alive.{changed-known}}
-use Rattle.pagable_tables.proofs.{Alive.{row-live}, Coming.{turn-fits, turn-cells, turned}, Worlds.alike, keeps.Told.settles}
-use Rattle.pagable_tables.proofs.{Doing.does-so, Newer.{newer-alike, newer-mode, newer-then}, keeps.HandleCalls.pins-whole}
+use Rattle.pagable_tables.proofs.{Words.{◌+◌, ◌≡◌, arith, refl, ap, sym, ◌∙◌, Some, not, one, live, counts_at, plain_of, Mode}, Alive.{changed-known, row-live}, Coming.{turn-fits, turn-cells, turned}}
+use Rattle.pagable_tables.proofs.{Worlds.alike, keeps.{Told.settles, HandleCalls.pins-whole}, Doing.does-so, Newer.{newer-alike, newer-mode, newer-then}}
 use Rattle.pagable_tables.proofs.turning.turn.Goals as goal
 
 pub returns-clause-does : goal.returns-clause-does
