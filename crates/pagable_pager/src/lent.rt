@@ -96,6 +96,7 @@ where
         self.pager.share(handle)
     }
 
+    #[tactic(auto, using(crate::proofs::Lending::stored_key))]
     fn store(&mut self, alloc: Global, blob: PagableData) -> Result<DataKey, Error> {
         let stored = self.pager.store(alloc, blob);
         self.pager.is_whole();
