@@ -1,13 +1,13 @@
 -- What a lent pager's calls tell as those of an access.
-use Rattle.pagable_pager.proofs.Words.{AskCall, from_cache, AsksFor, FewerValues, OnlyTables, SameValues, value_in, ValuesByNode, Refers, TakesEntry, LeavesEntry, WorkerNumber, AdoptCall}
-use Rattle.pagable_pager.proofs.Words.{StartsEntry, RefusesEntry, TakesLazily, AdoptsValue, ◌≡◌, ℕ, ◌+◌, true, List, [], Option, Some, Result, Ok, Err, inl, inr, ap, sym, subst, ◌∙◌, arith}
-use Rattle.pagable_pager.proofs.Words.{IsSome, is_some, IfOk, option_map, OptionalDataKey, Error, ArcRef, HandleNumber, Kind, LoadNumber, NodeNumber, HandleRow, Owner, Blob, find_row, mode_of}
-use Rattle.pagable_pager.proofs.Words.{Core, Reading, Values, Alike, row_at, Looks, StoreCall, with_handle, IsNext, BeginCall, GetsKnown, LazyCall, Adopts, first_key, reading_of_load}
-use Rattle.pagable_pager.proofs.Words.{HandlesAreWhole, WellFormed, Told, Called, found-number, good, Stands, stands-alike, stands-fell, among-found, row-pins, same_some, pinned-here, StartsPin}
-use Rattle.pagable_pager.proofs.Words.{begun_is, IsMade, PagerView, Telling, core_in, state_in, nat_tests, Bool, refl, false, if◌then◌else◌, type_of, owner_value, row_of, with_node, with_cached}
-use Rattle.{pagable_pager.proofs.Words.{next_node, is_named_by, AreUpTo, stands-new, named-among, adopted}, pagable_loads.specs.declared.starting.PinStart.PinStart}
-use Rattle.{pagable_world.specs.declared.{answers.Beginning.Beginning, calls.Want.Want}, either.specs.declared.Either.Either, pagable_laws.proofs.Outlasting.{low-changed, low-whole, new-handle}}
-use Rattle.{pagable_steps.proofs.Spared.not-load, pagable_pager.specs.Calling.{Calls, CallsLess}, std.proofs.lemmas.Bool.false_from_ne_true}
+use Rattle.pagable_pager.proofs.Words.{AskCall, from_cache, AsksFor, FewerValues, OnlyTables, SameValues, value_in, ValuesByNode, Refers, AdoptCall, TakesLazily, AdoptsValue, ◌≡◌, ℕ, ◌+◌, true}
+use Rattle.pagable_pager.proofs.Words.{List, [], Option, Some, Result, Ok, Err, inl, inr, ap, sym, subst, ◌∙◌, arith, IsSome, is_some, IfOk, option_map, OptionalDataKey, Error, ArcRef}
+use Rattle.pagable_pager.proofs.Words.{HandleNumber, Kind, LoadNumber, NodeNumber, HandleRow, Owner, Blob, find_row, mode_of, Core, Reading, Values, Alike, row_at, Looks, StoreCall, with_handle}
+use Rattle.pagable_pager.proofs.Words.{IsNext, BeginCall, GetsKnown, LazyCall, Adopts, first_key, reading_of_load, HandlesAreWhole, WellFormed, Told, Called, found-number, good, Stands}
+use Rattle.pagable_pager.proofs.Words.{stands-alike, stands-fell, among-found, row-pins, same_some, pinned-here, StartsPin, begun_is, IsMade, PagerView, Telling, core_in, state_in, nat_tests}
+use Rattle.pagable_pager.proofs.Words.{Bool, refl, false, if◌then◌else◌, type_of, owner_value, row_of, with_node, with_cached, next_node, is_named_by, AreUpTo, stands-new, named-among, adopted}
+use Rattle.{pagable_loads.specs.declared.starting.PinStart.PinStart, pagable_world.specs.declared.{answers.Beginning.Beginning, calls.Want.Want}, either.specs.declared.Either.Either}
+use Rattle.{pagable_laws.proofs.Outlasting.{low-changed, low-whole, new-handle}, pagable_steps.proofs.Spared.not-load, pagable_pager.specs.Calling.{Calls, CallsLess}}
+use Rattle.std.proofs.lemmas.Bool.{false_from_ne_true}
 
 -- what a call does to a pager of which no value comes
 module _ {N S E : Type 0} (tells : Telling S) (v : E → Values N) (p q : PagerView N S E) where
@@ -24,15 +24,6 @@ module _ {N S E : Type 0} (tells : Telling S) (v : E → Values N) (p q : PagerV
 
   same_there : OnlyTables p q → FewerValues p q
   same_there only = all_there (record { values = only.values; environment = only.environment })
-
-  -- a worker that an entry moved to
-  pub told_entry : {place : ℕ} {n : WorkerNumber} {r : ArcRef} → TakesEntry (core_in tells p) place n r (core_in tells q) → OnlyTables p q → WellFormed (v q.environment) (state_in tells q)
-      → Told (Some (state_in tells p)) (Some (state_in tells q)) (λ s t. StartsEntry (v p.environment) s place n r t)
-  told_entry {place} {n} e only whole = grind (arith, nat_tests, all_there, called)
-
-  pub told_no_entry : {place : ℕ} {e : Error} → LeavesEntry (core_in tells p) place e (core_in tells q) → OnlyTables p q → WellFormed (v q.environment) (state_in tells q)
-      → Told (Some (state_in tells p)) (Some (state_in tells q)) (λ s t. RefusesEntry (v p.environment) s place e t)
-  told_no_entry l only whole = grind (arith, nat_tests, all_there, called)
 
 -- a call by which values may go
 pub told_less : {N S E : Type 0} {tells : Telling S} (v : E → Values N) {p q : PagerView N S E} {makes : Core → Core → Type 0} → CallsLess tells p makes q → WellFormed (v q.environment)
@@ -134,3 +125,5 @@ told_lazy {tells = tells} v {p} {q} {me} {l} {kind} {key} made r handles call re
 pub load_starts : {w w' : Core} {me : Owner} {h : HandleNumber} {l : LoadNumber} {key : ℕ} → BeginCall w me h (Ok (Beginning.Load l key)) w' → (t : ℕ)
     → Some t ≡ option_map (λ (r : Reading). r.node_type) (reading_of_load l (w'.loads l.0)) → StartsPin w me h (Ok (PinStart.Load l key t)) w'
 load_starts c t is = grind (arith, nat_tests, begun_is, pinned-here, row-pins, same_some)
+
+pub ruleset entering = (nat_tests, all_there, called)

@@ -257,6 +257,7 @@ where
         Ok(worker)
     }
 
+    #[tactic(auto, using(crate::proofs::Lending::entering))]
     fn worker_listed(&mut self, place: usize) -> Result<(WorkerNumber, ArcRef), Error> {
         let begun = self.pager.worker_listed(place);
         self.pager.is_whole();
