@@ -16,6 +16,6 @@ module _ {w w' : Core} {me : Owner} {l : LoadNumber} {kind : Kind} {key : ℕ} w
     known-spares (Err e) c = asks whole (Err e) (known-refused c)
 
   pub known-bare : (r : Result (Option HandleNumber) Error) → AsksKnown w me l kind key r w' → IsBare w → IsBare w'
-  known-bare (Ok (Some k)) c b = bare-alike c.gives.2.3 b
-  known-bare (Ok None) c b = bare-alike c.gives.2.1 b
-  known-bare (Err e) c b = bare-alike c.refused.stays b
+  known-bare r c b = grind (arith, nat_tests, bare-alike)
+
+pub ruleset asked_known = (nat_tests, known-found)

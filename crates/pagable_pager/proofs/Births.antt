@@ -1,61 +1,77 @@
--- A node that comes, or room that was made for one, leaves the pager in step.
-use Rattle.pagable_pager.proofs.Words.{◌≡◌, ℕ, ◌==◌, ◌<◌, ◌+◌, Bool, true, if◌then◌else◌, Ok, Err, [], refl, ap, sym, ◌∙◌, Some, None, Option, inl, inr, arith, ◌≢◌, List, Result, nat_tests, cases_eq}
-use Rattle.pagable_pager.proofs.Words.{ArcRef, HandleNumber, Owner, Mode, Blob, Error, is_pinning, Core, greatest, references_fault, BirthCall, AwayBirthCall, IsNewNode, Moves, same_some, born}
-use Rattle.pagable_pager.proofs.Words.{spared, spares-alike, Tables, BearsValue, OnlyRoom, IsWhole, core_of, plain_of, AreLater, room-alike, room-fault, fault-by, next-past, born-past, PagerView}
-use Rattle.pagable_pager.proofs.{Words.{Telling, Spelling, ValuesByNode, IsPager, core_in, state_in, value_in, values_of, Last}, Shed.whole-over, Shut.{IsBare, bare-alike}, Spared.caller-free}
+-- A node that comes with its value, or room that was made for one, leaves the pager in step.
+use Rattle.pagable_pager.proofs.Words.{◌≡◌, ℕ, ◌==◌, ◌<◌, ◌+◌, false, if◌then◌else◌, Ok, Err, [], refl, ap, sym, subst, ◌∙◌, Some, None, inr, arith, ◌≢◌, List, Result, nat_tests, cases_eq, true}
+use Rattle.pagable_pager.proofs.Words.{ArcRef, HandleNumber, Owner, Mode, Error, is_pinning, Core, greatest, references_fault, BirthCall, AwayBirthCall, IsNewNode, Moves, same_some, born, spared}
+use Rattle.pagable_pager.proofs.Words.{spares-alike, Tables, BearsValue, OnlyRoom, plain_of, room-alike, room-fault, fault-by, next-past, born-past, PagerView, Telling, Spelling, ValuesByNode}
+use Rattle.{pagable_pager.proofs.{Words.{IsPager, core_in, state_in, value_in, values_of, Last}, Shed.in-step, Shut.{IsBare, bare-alike}, Spared.caller-free}, pagable_tables.specs.Doing.Does}
 
 -- nothing comes to the list or the cache with a cell that is away
 pub away-bare : {w w' : Core} {me : Owner} {node_type key : ℕ} (r : Result HandleNumber Error) → AwayBirthCall w me node_type key r w' → IsBare w → IsBare w'
-away-bare (Ok k) c b = bare-alike c.made.2 b
-away-bare (Err e) c b = bare-alike c.refused.stays b
+away-bare r c b = grind (arith, nat_tests, bare-alike)
 
 -- a birth in a world where room was made before
-pub birth-past : {N : Type 0} {w w1 w' : Core} {x : N} (me : Owner) (t t' : ℕ) (rs rs' : List ArcRef) (mode : Mode) (k : HandleNumber) → OnlyRoom w w1 → references_fault w me [] rs ≡ None → w1.last.node < greatest
-    → t ≡ t' → rs ≡ rs' → BearsValue w1 me t rs mode k w' → BirthCall w me x t' rs' mode (Ok k) w'
+birth-past : {N : Type 0} {w w1 w' : Core} {x : N} (me : Owner) (t t' : ℕ) (rs rs' : List ArcRef) (mode : Mode) (k : HandleNumber) → OnlyRoom w w1 → references_fault w me [] rs ≡ None
+    → w1.last.node < greatest → t ≡ t' → rs ≡ rs' → BearsValue w1 me t rs mode k w' → BirthCall w me x t' rs' mode (Ok k) w'
 birth-past {N} {w} {w1} {w'} {x} me t t' rs rs' mode k room fit left typed named b = grind (arith, nat_tests, born-past, next-past)
 
--- it has the next number
-pub born-next : {w w1 w' : Core} {me : Owner} {t : ℕ} {rs : List ArcRef} {mode : Mode} {k : HandleNumber} → OnlyRoom w w1 → BearsValue w1 me t rs mode k w' → w'.last.node ≡ w.last.node + 1
-born-next room b = ap (λ (l : Last). l.node) b.leaves.last ∙ ap (λ (u : Core). u.last.node + 1) room.same
-
-pub fit-past : (t t1 : Tables) (stored : ℕ → Option Blob) (closed : Bool) (failures : ℕ) (me : Owner) (rs : List ArcRef) → OnlyRoom (plain_of t) (plain_of t1) → references_fault (plain_of t1) me [] rs ≡ None
-    → references_fault (core_of t stored closed failures) me [] rs ≡ None
-fit-past t t1 stored closed failures me rs room fit = fault-by (plain_of t) (core_of t stored closed failures) me [] rs ∙ sym (room-fault me rs room) ∙ fit
-
-module _ {N S E : Type 0} (tells : Telling S) (g : Spelling N E) (p : PagerView N S E) (is : IsPager tells g p) (t : Tables) (values : ValuesByNode N) where
-  abbrev after : PagerView N S E
-  after = record p { tables = t; values = values }
-
+module _ {N S E : Type 0} {tells : Telling S} {g : Spelling N E} {p : PagerView N S E} (is : IsPager tells g p) where
   abbrev next : ℕ
   next = p.tables.last_node + 1
 
-  -- only room was made
-  pub roomier : IsWhole t → AreLater t → OnlyRoom (core_in tells p) (core_in tells after) → ((n : ℕ) → value_in values n ≡ value_in p.values n) → IsPager tells g after
-  roomier whole later room same =
-      let a = room-alike room in
-      let core = whole-over t (tells.stored p.storage) (tells.closed p.storage) (tells.failed p.storage) whole (λ shut. bare-alike a (is.state.whole.shut shut)) in
-      record { tables = whole; later = later; state = spared (values_of g p.environment) (state_in tells p) (state_in tells after) is.state (spares-alike a) same whole.steady.fits.pinned core }
+  module _ {t1 : Tables} (mid : ValuesByNode N) (room : Does p.tables OnlyRoom t1) where
+    abbrev roomy : PagerView N S E
+    roomy = record p { tables = t1; values = mid }
 
-  pub unmoved : {comes : ℕ → N → Type 0} → ((n : ℕ) → value_in values n ≡ value_in p.values n) → Moves comes (state_in tells p) (state_in tells after)
-  unmoved same = record { each = λ n x has. inl (sym (same n) ∙ has); environment = refl }
+    only-room : OnlyRoom (core_in tells p) (core_in tells roomy)
+    only-room = room.does (tells.stored p.storage) (tells.closed p.storage) (tells.failed p.storage)
 
-  -- memory is wanting
-  pub no-memory : (x y : N) → y ≡ x → (node_type : ℕ) (references : List ArcRef) (mode : Mode) → OnlyRoom (core_in tells p) (core_in tells after) → BirthCall (core_in tells p) Owner.Caller x node_type references mode (Err (Error.OutOfMemory, y)) (core_in tells after)
-  no-memory x y same node_type references mode room = record { made = tt; refused = (same, record { why = inr (refl, refl, tt); stays = room-alike room }) }
+    -- memory is wanting
+    pub no-memory : (x y : N) → y ≡ x → (node_type : ℕ) (references : List ArcRef) (mode : Mode) → BirthCall (core_in tells p) Owner.Caller x node_type references mode (Err (Error.OutOfMemory, y))
+        (core_in tells roomy)
+    no-memory x y same node_type references mode = record { made = tt; refused = (same, record { why = inr (refl, refl, tt); stays = room-alike only-room }) }
 
-  module _ (x : N) (here : value_in values next ≡ Some x) (others : (n : ℕ) → n ≢ next → value_in values n ≡ value_in p.values n) where
-    pub told : (n : ℕ) → value_in values n ≡ (if n == next then Some x else value_in p.values n)
-    told n = grind (arith, nat_tests, cases_eq)
+    module _ (same : (n : ℕ) → value_in mid n ≡ value_in p.values n) where
+      -- only room was made
+      pub roomier : IsPager tells g roomy
+      roomier =
+          let a = room-alike only-room in
+          in-step roomy room.whole (room.later is.later) (λ shut. bare-alike a (is.state.whole.shut shut))
+          (spared (values_of g p.environment) (state_in tells p) (state_in tells roomy) is.state (spares-alike a) same)
 
-    -- the node came with its value
-    pub comes-in : (mode : Mode) (k : HandleNumber) → is_pinning mode ≡ true → IsWhole t → AreLater t → BirthCall (core_in tells p) Owner.Caller x (g.type_of x) (g.refs_of x) mode (Ok k) (core_in tells after) → IsPager tells g after
-    comes-in mode k pinning whole later call =
-        let core = whole-over t (tells.stored p.storage) (tells.closed p.storage) (tells.failed p.storage) whole (λ shut. bare-alike call.made.3 (is.state.whole.shut shut)) in
-        record { tables = whole; later = later; state = born {v = values_of g p.environment} {s = state_in tells p} {s' = state_in tells after} is.state caller-free pinning call told whole.steady.fits.pinned core }
+      -- a value is kept with the node that has come
+      module _ (t2 : Tables) (values : ValuesByNode N) (x : N) {y : N} (shared : y ≡ x) (here : value_in values t2.last_node ≡ Some y)
+          (others : (n : ℕ) → n ≢ t2.last_node → value_in values n ≡ value_in mid n) where
+        abbrev after : PagerView N S E
+        after = record p { tables = t2; values = values }
 
-    -- the node of the next number has no value yet
-    none-yet : value_in p.values next ≡ None
-    none-yet = grind (arith, nat_tests)
+        pub told : t2.last_node ≡ next → (n : ℕ) → value_in values n ≡ (if n == next then Some x else value_in p.values n)
+        told last n = grind (arith, nat_tests, cases_eq)
 
-    pub moved-in : Moves (λ n y. (y ≡ x) × IsNewNode (core_in tells p) n) (state_in tells p) (state_in tells after)
-    moved-in = grind (arith, nat_tests, cases_eq, none-yet, same_some)
+        -- the node of the next number had no value yet
+        none-yet : value_in p.values next ≡ None
+        none-yet = grind (arith, nat_tests)
+
+        pub moved-in : t2.last_node ≡ next → Moves (λ n z. (z ≡ x) × IsNewNode (core_in tells p) n) (state_in tells p) (state_in tells after)
+        moved-in last = let a = told last in grind (arith, nat_tests, cases_eq, none-yet, same_some)
+
+        -- a node of the caller's
+        module _ {mode : Mode} {k : HandleNumber} {node_type : ℕ} {rs qs : List ArcRef} (bears : Does t1 (λ w w'. BearsValue w Owner.Caller node_type rs mode k w') t2) (left : t1.last_node < greatest)
+            (fit : references_fault (plain_of t1) Owner.Caller [] qs ≡ None) (read : qs ≡ rs) (typed : node_type ≡ g.type_of x) (named : rs ≡ g.refs_of x) where
+          birth : BirthCall (core_in tells p) Owner.Caller x (g.type_of x) (g.refs_of x) mode (Ok k) (core_in tells after)
+          birth =
+              let plain = room.does (λ key. None) false 0 in
+              let fine = fault-by (plain_of p.tables) (core_in tells p) Owner.Caller [] rs ∙ sym (room-fault Owner.Caller rs plain) ∙ subst
+              (λ l. references_fault (plain_of t1) Owner.Caller [] l ≡ None) read fit in
+              birth-past Owner.Caller node_type (g.type_of x) rs (g.refs_of x) mode k only-room fine left typed named
+              (bears.does (tells.stored p.storage) (tells.closed p.storage) (tells.failed p.storage))
+
+          born-last : t2.last_node ≡ next
+          born-last = ap (λ (l : Last). l.node) birth.made.3.last
+
+          pub born-told : BirthCall (core_in tells p) Owner.Caller x (g.type_of x) (g.refs_of x) mode (Ok k) (core_in tells after) × Moves (λ n z. (z ≡ x) × IsNewNode (core_in tells p) n)
+              (state_in tells p) (state_in tells after)
+          born-told = (birth, moved-in born-last)
+
+          pub born-so : is_pinning mode ≡ true → IsPager tells g after
+          born-so pinning =
+              in-step after bears.whole (bears.later (room.later is.later)) (λ shut. bare-alike birth.made.3 (is.state.whole.shut shut))
+              (born {v = values_of g p.environment} {s = state_in tells p} {s' = state_in tells after} is.state caller-free pinning birth (told born-last))

@@ -1,5 +1,4 @@
 mod Words
-mod AtWork
 pub mod Spared
 pub mod Stored
 pub mod Shed
@@ -13,4 +12,3 @@ pub mod Births
 pub mod Adopting
 mod Working
 pub mod Lending
-pub mod Taking

@@ -1,11 +1,11 @@
 -- A value comes to a load's cell, and others go with their nodes.
-use Rattle.pagable_pager.proofs.Words.{rules, ◌≡◌, ℕ, ◌==◌, ◌&&◌, Bool, true, false, Ok, Err, refl, ap, sym, ◌∙◌, subst, Some, None, Option, List, if◌then◌else◌, inl, inr, nat_eq, arith, ◌≢◌, ◌⊎◌}
+use Rattle.pagable_pager.proofs.Words.{rules, ◌≡◌, ℕ, ◌&&◌, Bool, true, false, Ok, Err, refl, ap, sym, ◌∙◌, subst, Some, None, Option, List, if◌then◌else◌, inl, inr, nat_eq, arith, ◌≢◌, ◌⊎◌}
 use Rattle.pagable_pager.proofs.Words.{Result, is_some, nat_lt, get, cases_eq, nat_tests, ArcRef, NodeNumber, Owner, HandleNumber, LoadNumber, Error, if_there, updated, Core, OpenLoad, Alike}
 use Rattle.pagable_pager.proofs.Words.{is_here, OwnsLoad, Refused, load_fault, closed_fault, DropCall, EndCall, EndRefused, Installs, MayEnd, end_fault, held, is_owner, IsCellOf, Moves}
 use Rattle.pagable_pager.proofs.Words.{WellFormed, row-held, installed_away, installed_there, Ending, Tables, counts_at, Sheds, has_value, IsWhole, plain_of, AreLater, IsReady, IsVain, IsWider}
-use Rattle.pagable_pager.proofs.Words.{ShedsBeside, Unends, has_come, Unended, installs-wider, may-wider, not-so, so-then, earlier-first, still, end_refused, spared, spares-alike, PagerView}
-use Rattle.pagable_pager.proofs.Words.{Telling, Spelling, ValuesByNode, IsPager, core_in, state_in, value_in, values_of, PutsIn, with_value}
-use Rattle.pagable_pager.proofs.{Shed.here-in, Shed.here-told, Shed.less, Shed.shed, Shed.some-map, Shed.left-map, Shed.whole-over, Shut.bare-alike, Shut.end-refused-bare, Shut.installed-bare}
+use Rattle.pagable_pager.proofs.Words.{ShedsBeside, has_come, installs-wider, may-wider, not-so, so-then, earlier-first, still, end_refused, spared, spares-alike, PagerView, Telling, Spelling}
+use Rattle.pagable_pager.proofs.Words.{ValuesByNode, IsPager, core_in, state_in, value_in, values_of, PutsIn, with_value}
+use Rattle.pagable_pager.proofs.{Shed.{here-in, here-told, less, shed, some-map, left-map, in-step, whole-over}, Shut.{bare-alike, end-refused-bare, installed-bare}}
 use Rattle.pagable_world.specs.Pager as pager
 
 -- the value comes
@@ -35,12 +35,16 @@ beside-there t me l node_type refs r whole ready here =
     let is = so-then (is_here p n) (sym ready.away ∙ here) in
     sym (here-told (counts_at t.holdings.nodes n) p n refl (sym (whole.steady.fits.pinned n))) ∙ ap (λ b. b && is_here p n) (whole.core.handles.live n ∙ yes) ∙ is
 
+-- type and references as they are told
+pub ready-told : {w : Core} {me : Owner} {l : LoadNumber} {t t' : ℕ} {refs refs' : List ArcRef} {r : Ending} → t ≡ t' → refs ≡ refs' → IsReady w me l t refs r → IsReady w me l t' refs' r
+ready-told {w} {me} {l} {t} {t'} {refs} {refs'} {r} typed named is = subst (λ k. IsReady w me l k refs' r) typed (subst (λ k. IsReady w me l t k r) named is)
+
 -- the pager after a load has ended with a pin
-module _ {N S E : Type 0} (tells : Telling S) (g : Spelling N E) (p : PagerView N S E) (is : IsPager tells g p) (me : Owner) (l : LoadNumber) (x : N) (t1 t2 : Tables) (values : ValuesByNode N) (r : Ending) (k : HandleNumber)
+module _ {N S E : Type 0} {tells : Telling S} {g : Spelling N E} {p : PagerView N S E} (is : IsPager tells g p) (x : N) (t1 t2 : Tables) (values : ValuesByNode N) {me : Owner} {l : LoadNumber}
+    {node_type : ℕ} {qs rs : List ArcRef} {r : Ending} {k : HandleNumber} (typed : node_type ≡ g.type_of x) (read : qs ≡ rs) (listed : rs ≡ g.refs_of x)
     (wider : IsWider (core_in tells p) (core_in tells (record p { tables = t1 }))) (nodes : t1.holdings.nodes ≡ p.tables.holdings.nodes)
-    (ready : IsReady (core_in tells (record p { tables = t1 })) me l (g.type_of x) (g.refs_of x) r)
-    (installs : Installs (core_in tells (record p { tables = t1 })) me l r.row.node r.row.number k (g.refs_of x) (core_in tells (record p { tables = t2; values = values })))
-    (whole2 : IsWhole t2) (later2 : AreLater t2) (puts : PutsIn r.is_away r.row.node.0 x t1 p.values t2 values) where
+    (prepared : IsReady (core_in tells (record p { tables = t1 })) me l node_type qs r) (installed : Installs (core_in tells (record p { tables = t1 })) me l r.row.node r.row.number k rs
+    (core_in tells (record p { tables = t2; values = values }))) (whole2 : IsWhole t2) (later2 : AreLater t2) (puts : PutsIn r.is_away r.row.node.0 x t1 p.values t2 values) where
   abbrev w : Core
   w = core_in tells p
 
@@ -50,14 +54,14 @@ module _ {N S E : Type 0} (tells : Telling S) (g : Spelling N E) (p : PagerView 
   abbrev w' : Core
   w' = core_in tells p'
 
+  ready : IsReady (core_in tells (record p { tables = t1 })) me l (g.type_of x) (g.refs_of x) r
+  ready = ready-told typed (read ∙ listed) prepared
+
   may : MayEnd w me l r.row.node r.row.number (g.type_of x) (g.refs_of x)
   may = may-wider wider ready.may
 
   was : Installs w me l r.row.node r.row.number k (g.refs_of x) w'
-  was = installs-wider wider installs
-
-  pub end-call : EndCall w me l x (g.type_of x) (g.refs_of x) (Ok k) w'
-  end-call = record { installs = (r.row.node, r.row.number, may, was); refused = tt }
+  was = installs-wider wider (subst (λ z. Installs (core_in tells (record p { tables = t1 })) me l r.row.node r.row.number k z w') listed installed)
 
   whole' : pager.IsWhole w'
   whole' = whole-over t2 (tells.stored p.storage) (tells.closed p.storage) (tells.failed p.storage) whole2 (λ shut. installed-bare shut (is.state.whole.shut shut) was)
@@ -82,44 +86,22 @@ module _ {N S E : Type 0} (tells : Telling S) (g : Spelling N E) (p : PagerView 
       by false e =
           installed_there is.state may was (sym same-here ∙ so-then (is_here (core_in tells (record p { tables = t1 })) r.row.node.0) (sym ready.away ∙ e)) (swept false e) whole2.steady.fits.pinned whole'
 
-  pub moves : Moves (λ n y. (y ≡ x) × IsCellOf w l n) (state_in tells p) (state_in tells p')
-  moves = record { each = λ n y some. by n y r.is_away refl (is_some (w'.cells n) && is_here w' n) (sym (swept r.is_away refl n) ∙ some); environment = refl }
-    where
-      none-there : (o : Option N) → is_some o ≡ false → o ≡ None
-      none-there None e = refl
-      none-there (Some y) e = absurd (cc)
+  cell-of : (n : ℕ) → r.row.node.0 ≡ n → IsCellOf w l n
+  cell-of n m = record { load = may.load; node = r.row.node; t = g.type_of x; h = r.row.number; open_load = may.owned.stands_open; root = may.of_node; is = m }
 
-      and-false : (b d : Bool) → d ≡ false → (b && d) ≡ false
-      and-false true d e = e
-      and-false false d e = refl
+  had-none : r.is_away ≡ true → value_in p.values r.row.node.0 ≡ None
+  had-none e = let a = is.state.valued r.row.node.0 in let b = away e in grind (arith, nat_tests)
 
-      same-some : (a b : N) → Some a ≡ Some b → b ≡ a
-      same-some a b e = sym (ap (λ (o : Option N). elim o [ None ↦ a | Some y ↦ y ]) e)
+  comes : (n : ℕ) (y : N) → value_in values n ≡ Some y → (value_in p.values n ≡ Some y) ⊎ ((value_in p.values n ≡ None) × ((y ≡ x) × IsCellOf w l n))
+  comes n y some = let s = swept r.is_away refl n in grind (arith, nat_tests, cases_eq, cell-of, had-none)
 
-      comes : (n : ℕ) (y : N) → r.is_away ≡ true → (b : Bool) → (n == r.row.node.0) ≡ b → (if b then Some x else value_in p.values n) ≡ Some y
-          → (value_in p.values n ≡ Some y) ⊎ ((value_in p.values n ≡ None) × ((y ≡ x) × IsCellOf w l n))
-      comes n y e true here some =
-          let m : r.row.node.0 ≡ n = grind (arith, nat_tests) in
-          let gone : is_some (value_in p.values n) ≡ false =
-          subst (λ i. is_some (value_in p.values i) ≡ false) m (is.state.valued r.row.node.0 ∙ and-false (is_some (w.cells r.row.node.0)) (is_here w r.row.node.0) (away e)) in
-          inr (
-            none-there (value_in p.values n) gone,
-            (same-some x y some, record { load = may.load; node = r.row.node; t = g.type_of x; h = r.row.number; open_load = may.owned.stands_open; root = may.of_node; is = m }),
-          )
-      comes n y e false here some = inl some
+  pub ended-told : EndCall w me l x (g.type_of x) (g.refs_of x) (Ok k) w' × Moves (λ n y. (y ≡ x) × IsCellOf w l n) (state_in tells p) (state_in tells p')
+  ended-told = (record { installs = (r.row.node, r.row.number, may, was); refused = tt }, record { each = comes; environment = refl })
 
-      by : (n : ℕ) (y : N) (b : Bool) → r.is_away ≡ b → (d : Bool) → (if d then with_value b r.row.node.0 x (value_in p.values) n else None) ≡ Some y
-          → (value_in p.values n ≡ Some y) ⊎ ((value_in p.values n ≡ None) × ((y ≡ x) × IsCellOf w l n))
-      by n y b e false some = absurd (cc)
-      by n y true e true some = comes n y e (n == r.row.node.0) refl some
-      by n y false e true some = inl some
-
-pub own-self : (o : Owner) → is_owner o o ≡ true
-own-self Owner.Caller = refl
-own-self Owner.List = refl
+own-self : (o : Owner) → is_owner o o ≡ true
 own-self o = grind (arith, nat_tests)
 
-pub owner-owns : {w : Core} {me : Owner} {l : LoadNumber} {load : OpenLoad} → OwnsLoad w me l load → load_fault w me l ≡ None
+owner-owns : {w : Core} {me : Owner} {l : LoadNumber} {load : OpenLoad} → OwnsLoad w me l load → load_fault w me l ≡ None
 owner-owns {me = me} o = grind (arith, nat_tests, own-self)
 
 -- an own load is open
@@ -142,36 +124,33 @@ pub wider-alike : {w v : Core} → IsWider w v → Alike w v
 wider-alike {w} {v} wider = grind (arith, nat_tests, still)
 
 -- memory is wanting for the value
-module _ {N S E : Type 0} (tells : Telling S) (g : Spelling N E) (p : PagerView N S E) (is : IsPager tells g p) (t1 t2 : Tables) (values : ValuesByNode N)
+module _ {N S E : Type 0} {tells : Telling S} {g : Spelling N E} {p : PagerView N S E} (is : IsPager tells g p) (t1 t2 : Tables) (values : ValuesByNode N)
     (wider : IsWider (core_in tells p) (core_in tells (record p { tables = t1 }))) (same : t2 ≡ t1) (kept : (n : ℕ) → value_in values n ≡ value_in p.values n) (whole2 : IsWhole t2) (later2 : AreLater t2) where
-  pub stays-alike : Alike (core_in tells p) (core_in tells (record p { tables = t2; values = values }))
+  abbrev kept-so : PagerView N S E
+  kept-so = record p { tables = t2; values = values }
+
+  stays-alike : Alike (core_in tells p) (core_in tells kept-so)
   stays-alike = subst (λ (t : Tables). Alike (core_in tells p) (core_in tells (record p { tables = t; values = values }))) (sym same) (wider-alike wider)
 
-  pub stays-so : IsPager tells g (record p { tables = t2; values = values })
+  pub stays-so : IsPager tells g kept-so
   stays-so =
-      record {
-        tables = whole2;
-        later = later2;
-        state = spared (values_of g p.environment) (state_in tells p) (state_in tells (record p { tables = t2; values = values })) is.state (spares-alike stays-alike) kept whole2.steady.fits.pinned
-            (whole-over t2 (tells.stored p.storage) (tells.closed p.storage) (tells.failed p.storage) whole2 (λ shut. bare-alike stays-alike (is.state.whole.shut shut)));
-      }
+      in-step kept-so whole2 later2 (λ shut. bare-alike stays-alike (is.state.whole.shut shut))
+      (spared (values_of g p.environment) (state_in tells p) (state_in tells kept-so) is.state (spares-alike stays-alike) kept)
 
--- types and references as they are told
-pub unends-told : (w v : Core) (me : Owner) (l : LoadNumber) (u : Unended) (t t' : ℕ) (refs refs' : List ArcRef) → t ≡ t' → refs ≡ refs' → Unends w me l t refs u v → Unends w me l t' refs' u v
-unends-told w v me l u t t' refs refs' typed named is = subst (λ k. Unends w me l k refs' u v) typed (subst (λ k. Unends w me l t k u v) named is)
-
-pub ready-told : {w : Core} {me : Owner} {l : LoadNumber} {t t' : ℕ} {refs refs' : List ArcRef} {r : Ending} → t ≡ t' → refs ≡ refs' → IsReady w me l t refs r → IsReady w me l t' refs' r
-ready-told {w} {me} {l} {t} {t'} {refs} {refs'} {r} typed named is = subst (λ k. IsReady w me l k refs' r) typed (subst (λ k. IsReady w me l t k r) named is)
+  pub no-room : {me : Owner} {l : LoadNumber} {x y : N} {u t : ℕ} {qs refs : List ArcRef} {r : Ending} → y ≡ x → IsReady (core_in tells (record p { tables = t1 })) me l u qs r
+      → EndCall (core_in tells p) me l x t refs (Err (Error.OutOfMemory, Some y)) (core_in tells kept-so)
+  no-room back ready = record { installs = tt; refused = (back, record { why = inr (refl, owned-open (may-wider wider ready.may).owned, tt); stays = stays-alike }) }
 
 -- the load doesn't end with the value
-module _ {N S E : Type 0} (tells : Telling S) (g : Spelling N E) (p : PagerView N S E) (is : IsPager tells g p) (t1 t2 : Tables) (values : ValuesByNode N) (nodes : t1.holdings.nodes ≡ p.tables.holdings.nodes)
-    (sheds : Sheds (counts_at t1.holdings.nodes) (get nat_eq p.values) (counts_at t2.holdings.nodes) (get nat_eq values)) where
+module _ {N S E : Type 0} {tells : Telling S} {g : Spelling N E} {p : PagerView N S E} (is : IsPager tells g p) (t1 t2 : Tables) (values : ValuesByNode N)
+    (nodes : t1.holdings.nodes ≡ p.tables.holdings.nodes) (sheds : Sheds (counts_at t1.holdings.nodes) (get nat_eq p.values) (counts_at t2.holdings.nodes) (get nat_eq values)) where
   gone : Sheds (counts_at p.tables.holdings.nodes) (get nat_eq p.values) (counts_at t2.holdings.nodes) (get nat_eq values)
   gone = subst (λ ns. Sheds (counts_at ns) (get nat_eq p.values) (counts_at t2.holdings.nodes) (get nat_eq values)) nodes sheds
 
   pub refused-so : (me : Owner) (l : LoadNumber) (x : N) (t : ℕ) (refs : List ArcRef) (e : Error) (back : Option N) → IsWhole t2 → AreLater t2
-      → EndCall (core_in tells p) me l x t refs (Err (e, back)) (core_in tells (record p { tables = t2; values = values })) → IsPager tells g (record p { tables = t2; values = values })
-  refused-so me l x t refs e back whole2 later2 call =
+      → EndRefused (core_in tells p) me l x t refs e back (core_in tells (record p { tables = t2; values = values })) → IsPager tells g (record p { tables = t2; values = values })
+  refused-so me l x t refs e back whole2 later2 refused =
+      let call : EndCall (core_in tells p) me l x t refs (Err (e, back)) (core_in tells (record p { tables = t2; values = values })) = record { installs = tt; refused = refused } in
       shed tells g p is t2 values whole2 later2 gone (λ shut. end-refused-bare shut (is.state.whole.shut shut) e back call) (λ left. end_refused is.state left e back call)
 
   pub refused-moves : (comes : ℕ → N → Type 0) → Moves comes (state_in tells p) (state_in tells (record p { tables = t2; values = values }))

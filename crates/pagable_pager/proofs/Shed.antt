@@ -1,9 +1,8 @@
 -- Values that went with their nodes leave the pager in step.
-use Rattle.pagable_pager.proofs.Words.{◌≡◌, ℕ, ◌&&◌, ◌||◌, Bool, true, false, [], refl, ap, sym, ◌∙◌, Some, None, Option, if◌then◌else◌, inl, inr, nat_eq, suc, zero, arith, ◌⊎◌, is_some, nat_lt}
-use Rattle.pagable_pager.proofs.Words.{not, nat_tests, option_map, arc_value, get, has_key, is_pinning, mode_of, pins, Blob, Core, is_here, usable, WellFormed, entered-of, Leaves, known-here}
-use Rattle.pagable_pager.proofs.Words.{Counts, Tables, counts_at, AreKept, Sheds, has_value, pins_in, cell_in, key_in, AreLater, IsWhole, core_of, plain_of, PagerView, Telling, Spelling}
-use Rattle.{pagable_tables.specs.Doing.DoesShed, pagable_pager.specs.Calling.CallsLess}
-use Rattle.pagable_pager.proofs.Words.{ValuesByNode, OnlyLess, IsPager, core_in, state_in, value_in, values_of}
+use Rattle.pagable_pager.proofs.Words.{◌≡◌, ℕ, ◌&&◌, Bool, true, [], refl, ap, sym, ◌∙◌, Some, None, Option, if◌then◌else◌, nat_eq, arith, ◌⊎◌, is_some, nat_lt, not, nat_tests, option_map}
+use Rattle.pagable_pager.proofs.Words.{arc_value, get, has_key, is_pinning, mode_of, pins, Blob, Core, is_here, usable, WellFormed, entered-of, Leaves, known-here, Counts, Tables, counts_at}
+use Rattle.pagable_pager.proofs.Words.{AreKept, Sheds, has_value, pins_in, cell_in, key_in, AreLater, IsWhole, core_of, plain_of, PagerView, Telling, Spelling, ValuesByNode, OnlyLess, IsPager}
+use Rattle.{pagable_pager.{proofs.{Words.{core_in, state_in, value_in, values_of}, Shut.IsBare}, specs.Calling.CallsLess}, pagable_tables.specs.Doing.DoesShed}
 use Rattle.pagable_world.specs.Pager as pager
 
 -- the plain world is whole, whatever is stored, if nothing is listed or known once the storage is closed
@@ -23,24 +22,25 @@ whole-over t stored closed failures whole shut =
       shut = shut;
     }
 
+-- tables that are whole leave the pager in step, where the plain state stays well-formed
+pub in-step : {N S E : Type 0} {tells : Telling S} {g : Spelling N E} (q : PagerView N S E) → IsWhole q.tables → AreLater q.tables → (tells.closed q.storage ≡ true → IsBare (core_in tells q))
+    → (((n : ℕ) → pins_in (counts_at q.tables.holdings.nodes n) ≡ pins n (core_in tells q).rows) → pager.IsWhole (core_in tells q) → WellFormed (values_of g q.environment) (state_in tells q))
+    → IsPager tells g q
+in-step {tells = tells} q whole later bare state =
+    record { tables = whole; later = later; state = state whole.steady.fits.pinned (whole-over q.tables (tells.stored q.storage) (tells.closed q.storage) (tells.failed q.storage) whole bare) }
+
 has-key : (k : ℕ) → has_key (key_in k) ≡ nat_lt 0 k
-has-key zero = refl
-has-key (suc k) = grind (arith, nat_tests)
+has-key k = grind (arith, nat_tests)
 
 -- whether a node has its value in memory, by its counts
 pub here-told : (o : Option Counts) (w : Core) (n : ℕ) → w.cells n ≡ cell_in o → pins n w.rows ≡ pins_in o → (is_some (w.cells n) && is_here w n) ≡ has_value o
-here-told None w n cell pinned = rw cell refl
-here-told (Some c) w n cell pinned = rw cell (ap (λ k. nat_lt 0 k || not (has_key (key_in c.key))) pinned ∙ ap (λ b. nat_lt 0 c.pins || not b) (has-key c.key))
+here-told o w n cell pinned = grind (arith, nat_tests, has-key)
 
 pub some-map : {X Y : Type 0} (f : X → Y) (o : Option X) → is_some (option_map f o) ≡ is_some o
-some-map f None = refl
-some-map f (Some x) = refl
+some-map f o = grind (arith, nat_tests)
 
 pub left-map : {X Y : Type 0} (f : X → Y) (b : Bool) (old new : Option X) → ((new ≡ old) ⊎ (new ≡ None)) → is_some new ≡ b → option_map f new ≡ (if b then option_map f old else None)
-left-map f true old new (inl eq) some = ap (option_map f) eq
-left-map f true old new (inr eq) some = absurd (let e = sym (ap is_some eq) ∙ some in cc)
-left-map f false old None which some = refl
-left-map f false old (Some x) which some = absurd (cc)
+left-map f b old new which some = grind (arith, nat_tests)
 
 module _ {N S E : Type 0} (tells : Telling S) (g : Spelling N E) (p : PagerView N S E) (is : IsPager tells g p) where
   pub here-in : (n : ℕ) → (is_some ((core_in tells p).cells n) && is_here (core_in tells p) n) ≡ has_value (counts_at p.tables.holdings.nodes n)
@@ -48,11 +48,11 @@ module _ {N S E : Type 0} (tells : Telling S) (g : Spelling N E) (p : PagerView 
 
   -- the value is in memory of a node that the cache gives for handles that pin
   pub known-valued : (kind key n : ℕ) → usable (core_in tells p) kind key ≡ Some n → is_pinning (mode_of kind) ≡ true → has_value (counts_at p.tables.holdings.nodes n) ≡ true
-  known-valued kind key n known pinning = sym (here-in n) ∙ both _ _ (entered-of kind key n (core_in tells p) known).there (known-here is.state.whole kind key n known pinning)
-    where
-      both : (a b : Bool) → a ≡ true → b ≡ true → (a && b) ≡ true
-      both true b e f = f
-      both false b e f = absurd (cc)
+  known-valued kind key n known pinning =
+      let there = entered-of kind key n (core_in tells p) known in
+      let here = known-here is.state.whole kind key n known pinning in
+      let both = here-in n in
+      grind (arith, nat_tests)
 
   pub kept-in : AreKept (counts_at p.tables.holdings.nodes) (get nat_eq p.values)
   kept-in n falls = sym (some-map arc_value (get nat_eq p.values n)) ∙ is.state.valued n ∙ here-in n

@@ -1,5 +1,5 @@
 -- Once the storage is closed nothing comes to the list or the cache.
-use Rattle.pagable_pager.proofs.Words.{◌≡◌, ℕ, Bool, true, false, Ok, Err, List, [], ◌++◌, refl, ap, sym, ◌∙◌, Some, None, inl, inr, Option, Result, map, filter, not, ArcRef, HandleNumber, Kind}
+use Rattle.pagable_pager.proofs.Words.{◌≡◌, ℕ, Bool, true, false, Ok, Err, List, [], ◌++◌, ap, sym, ◌∙◌, Some, None, inl, inr, Option, Result, map, filter, not, ArcRef, HandleNumber, Kind}
 use Rattle.pagable_pager.proofs.Words.{LoadNumber, NodeNumber, HandleRow, Owner, Error, Core, Alike, Falls, with_cached_if_open, ReleaseCall, UnpinCall, SetKeyCall, ScheduleCall, OfferCall}
 use Rattle.pagable_pager.proofs.Words.{no-entries, Adopts, LazyCall, DropCall, HandOverCall, EndCall, Installs, arith, nat_tests}
 
@@ -8,8 +8,7 @@ abbrev pub IsBare : Core → Type 0
 IsBare w = (w.list ≡ []) × ((kind key : ℕ) → w.cache kind key ≡ None)
 
 none-known : (found : Option ℕ) → ((n : ℕ) → found ≡ Some n → None ≡ Some n) → found ≡ None
-none-known None h = refl
-none-known (Some n) h = let e = h n refl in absurd (cc)
+none-known found h = grind (arith, nat_tests)
 
 pub bare-alike : {w w' : Core} → Alike w w' → IsBare w → IsBare w'
 bare-alike {w} {w'} a b = (a.list ∙ b.0, λ kind key. none-known (w'.cache kind key) (λ n is. sym (b.1 kind key) ∙ a.cache.only kind key n is))
@@ -39,9 +38,7 @@ module _ {w w' : Core} (closed : w.closed ≡ true) (b : IsBare w) where
   scheduled-bare (Err e) c = bare-alike c.refused.stays b
 
   pub offered-bare : {me : Owner} {kind : Kind} {key : ℕ} {h : HandleNumber} (r : Result (Option HandleNumber) Error) → OfferCall w me kind key h r w' → IsBare w'
-  offered-bare (Ok None) c = absurd (let e : true ≡ false = sym closed ∙ c.answers.3.0 in cc)
-  offered-bare (Ok (Some k)) c = elim c.answers.3 [ inl (shut, same, a) ↦ bare-alike a b | inr (stands_open, makes) ↦ absurd (let e : true ≡ false = sym closed ∙ stands_open in cc) ]
-  offered-bare (Err e) c = bare-alike c.refused.stays b
+  offered-bare r c = grind (arith, nat_tests, bare-alike)
 
   pub dropped-bare : {me : Owner} {l : LoadNumber} {r : Result (Unit {0}) Error} → DropCall w me l r w' → IsBare w'
   dropped-bare c = elim c.does [ inl refused ↦ bare-alike refused.stays b | inr (load, owns, f) ↦ bare-fell f closed b ]
@@ -51,8 +48,7 @@ module _ {w w' : Core} (closed : w.closed ≡ true) (b : IsBare w) where
   handed-bare (Err e) c = bare-alike c.refused.1 b
 
   pub lazy-bare : {me : Owner} {l : LoadNumber} {kind : Kind} {key : ℕ} (r : Result HandleNumber Error) → LazyCall w me l kind key r w' → IsBare w'
-  lazy-bare {l = l} {kind} {key} (Ok k) c = grind (arith, nat_tests, bare-alike, bare-cached)
-  lazy-bare (Err e) c = grind (arith, nat_tests, bare-alike, bare-cached)
+  lazy-bare {l = l} {kind} {key} r c = grind (arith, nat_tests, bare-alike, bare-cached)
 
   pub installed-bare : {me : Owner} {l : LoadNumber} {node : NodeNumber} {h k : HandleNumber} {references : List ArcRef} → Installs w me l node h k references w' → IsBare w'
   installed-bare i = elim i.falls [ inl (away, f) ↦ bare-fell f.falls closed b | inr (here, f) ↦ bare-fell f.falls closed b ]

@@ -1,20 +1,34 @@
--- What the storage is asked leaves the plain world whole.
-use Rattle.pagable_pager.proofs.Words.{rules, ◌≡◌, ℕ, ◌≤◌, Bool, false, Ok, Err, Some, Option, Result, IfOk, IfErr, OnOk, OnErr, Adds, RefusesFetch, RefusesStore, Core, seen_as, Blob, Error, Asked}
-use Rattle.{pagable_pager.proofs.Words.{FetchCall, StoreCall, Tables, core_of, still, placed, told-whole, arith, nat_tests}, pagable_world.specs.Pager.IsWhole}
+-- What the storage is asked leaves the pager in step.
+use Rattle.pagable_pager.proofs.Words.{rules, ◌≡◌, ℕ, ◌≤◌, false, refl, Some, Result, IfOk, IfErr, OnOk, OnErr, Adds, RefusesFetch, RefusesStore, Core, seen_as, Blob, Error, Asked, FetchCall}
+use Rattle.pagable_pager.proofs.Words.{StoreCall, still, told-whole, arith, nat_tests, Spares, spared, stores, PagerView, Telling, Spelling, IsPager, core_in, state_in, values_of}
+use Rattle.{pagable_steps.proofs.Spared.asked as spares-asked, pagable_world.specs.Pager.IsWhole}
 
-module _ (t : Tables) (stored stored' : ℕ → Option Blob) (closed closed' : Bool) (failures failures' : ℕ) where
-  pub whole-told : closed' ≡ closed → IsWhole (core_of t stored closed failures) → IsWhole (core_of t stored' closed' failures')
-  whole-told same is = search (rules, placed, told-whole)
+module _ {N S E : Type 0} {tells : Telling S} {g : Spelling N E} {p : PagerView N S E} (is : IsPager tells g p) (s : S) (stays : tells.closed s ≡ tells.closed p.storage)
+    (more : tells.failed p.storage ≤ tells.failed s) where
+  abbrev after : PagerView N S E
+  after = record p { storage = s }
 
-  pub asked : stored' ≡ stored → closed' ≡ closed → failures ≤ failures' → Asked (core_of t stored closed failures) (core_of t stored' closed' failures')
-  asked same stays more = grind (arith, nat_tests, still)
+  whole : IsWhole (core_in tells after)
+  whole = search (rules, told-whole)
 
-  pub store-call : (digest : Blob → ℕ) (blob : Blob) (r : Result ℕ Error) → IfOk r (λ key. key ≡ digest blob) → OnOk r (Adds (digest blob) blob stored stored') → OnOk r (closed ≡ false) → IfErr r (RefusesStore blob (stored (digest blob)) closed failures failures')
-      → OnErr r (stored' ≡ stored) → closed' ≡ closed → failures ≤ failures' → StoreCall digest (core_of t stored closed failures) blob r (core_of t stored' closed' failures')
-  store-call digest blob (Ok key) is adds was only same stays more = grind (arith, nat_tests, asked, still)
-  store-call digest blob (Err e) is adds was only same stays more = grind (arith, nat_tests, asked, still)
+  told : Spares (core_in tells p) (core_in tells after) → IsPager tells g after
+  told spares = record { tables = is.tables; later = is.later; state = spared (values_of g p.environment) (state_in tells p) (state_in tells after) is.state spares (λ n. refl) is.state.counted whole }
+
+  pub asked : tells.stored s ≡ tells.stored p.storage → Asked (core_in tells p) (core_in tells after)
+  asked same = grind (arith, nat_tests, still)
+
+  pub asked-so : tells.stored s ≡ tells.stored p.storage → IsPager tells g after
+  asked-so same = told (spares-asked (asked same))
+
+  module _ (digest : Blob → ℕ) (blob : Blob) (r : Result ℕ Error) (keyed : IfOk r (λ key. key ≡ digest blob)) (adds : OnOk r (Adds (digest blob) blob (tells.stored p.storage) (tells.stored s)))
+      (was : OnOk r (tells.closed p.storage ≡ false)) (only : IfErr r (RefusesStore blob (tells.stored p.storage (digest blob)) (tells.closed p.storage) (tells.failed p.storage) (tells.failed s)))
+      (same : OnErr r (tells.stored s ≡ tells.stored p.storage)) where
+    pub store-call : StoreCall digest (core_in tells p) blob r (core_in tells after)
+    store-call = grind (arith, nat_tests, asked, still)
+
+    pub stored-so : IsPager tells g after
+    stored-so = told (stores r store-call)
 
 -- the blob, as it is seen
 pub fetch-call : {X : Type 0} (see : X → Blob) (w w' : Core) (key : ℕ) (r : Result X Error) → Asked w w' → IfOk r (λ x. w.stored key ≡ Some (see x)) → IfErr r (RefusesFetch key (w.stored key) w.failures w'.failures) → FetchCall w key (seen_as see r) w'
-fetch-call see w w' key (Ok x) asks found only = record { asked = asks; found = found; refused = tt }
-fetch-call see w w' key (Err e) asks found only = record { asked = asks; found = tt; refused = only }
+fetch-call see w w' key r asks found only = grind (arith, nat_tests)

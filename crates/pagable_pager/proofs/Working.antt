@@ -1,17 +1,15 @@
--- A worker comes, for an entry of the list or without one.
-use Rattle.pagable_pager.proofs.Words.{◌≡◌, ◌+◌, ◌==◌, true, if◌then◌else◌, Ok, Err, Some, ap, arith, ℕ, Result, nat_tests, Error, WorkerNumber, Core, with_worker, Spares, with-worker, starts-listed}
-use Rattle.pagable_pager.proofs.Words.{spares-alike, ArePlaced, MayHold, BeginsWorker, TakesWorker, take-whole, settles, alike-whole, roomy-whole, worker-whole, ArcRef, HandleRow, Kind, sym, subst}
-use Rattle.pagable_world.specs.declared.handles.Owner.{Owner}
-use Rattle.{pagable_pager.proofs.Words.{◌∙◌, same_some, HandleNumber, TakesEntry, loose_kind, HasKinds, IsEntry, with_entry_taken, Alike}, pagable_world.specs.Pager.IsWhole}
+-- A worker comes, for an entry of the list or without one, and takes a reference.
+use Rattle.pagable_pager.proofs.Words.{◌≡◌, subst, Bool, true, Ok, Err, sym, Result, Error, ArcRef, HandleNumber, Owner, is_loose, Core, Looks, CloneCall, RowIs, Taken, TakesReference, PinsClone}
+use Rattle.pagable_pager.proofs.Words.{◌+◌, ◌==◌, if◌then◌else◌, Some, ap, arith, ℕ, nat_tests, WorkerNumber, with_worker, Spares, with-worker, starts-listed, spares-alike, ArePlaced, MayHold}
+use Rattle.pagable_pager.proofs.Words.{BeginsWorker, TakesWorker, take-whole, settles, alike-whole, roomy-whole, worker-whole, HandleRow, Kind, ◌∙◌, same_some, TakesEntry, loose_kind, HasKinds}
+use Rattle.{pagable_pager.proofs.Words.{IsEntry, with_entry_taken, Alike}, pagable_world.specs.{declared.handles.Owner.Owner, Pager.IsWhole}}
 
 module _ {w w' : Core} (whole : IsWhole w) where
   pub begins : (r : Result WorkerNumber Error) → BeginsWorker w r w' → Spares w w'
-  begins (Ok v) b = with-worker b.begun.1
-  begins (Err e) b = spares-alike b.refused.1
+  begins r b = grind (arith, nat_tests, with-worker, spares-alike)
 
   pub begins-whole : (r : Result WorkerNumber Error) → BeginsWorker w r w' → ArePlaced w' → IsWhole w'
-  begins-whole (Ok v) b placed = settles (roomy-whole (worker-whole whole)) b.begun.1 placed
-  begins-whole (Err e) b placed = alike-whole whole b.refused.1 placed
+  begins-whole r b placed = grind (arith, nat_tests, settles, roomy-whole, worker-whole, alike-whole)
 
   pub takes : (place : ℕ) (r : Result WorkerNumber Error) → TakesWorker w place r w' → Spares w w'
   takes place (Ok v) b = let (h, listed, next, leaves) = b.taken in starts-listed whole place h v listed leaves
@@ -42,3 +40,13 @@ entry-starts {w} {w'} {place} {type} {row} {n} e (is, kinds) t =
       next = next;
       leaves = subst (λ (q : HandleNumber). Alike (with_worker (with_entry_taken w place q n)) w') same leaves;
     }
+
+-- a reference that was claimed is taken by its worker
+pub sort_so : {w : Core} {h : HandleNumber} {loose : Bool} → Looks w h (λ b row. b ≡ is_loose row.mode) (Ok loose) → RowIs w h loose
+sort_so l = record { row = l.found.0; live = l.found.1; sort = sym l.found.2 }
+
+pub then_pins : {w mid w' : Core} {me : Owner} {r : ArcRef} {through : HandleNumber} (result : Result Taken Error) → RowIs w r.handle true → CloneCall w me r.handle (Ok through) mid
+    → PinsClone mid me through result w' → TakesReference w me r result w'
+then_pins result sort c s = grind (arith, nat_tests)
+
+pub ruleset starting = (nat_tests, entry-starts)

@@ -96,6 +96,7 @@ where
         self.pager.share(handle)
     }
 
+    #[tactic(auto, using(crate::proofs::Lending::stored_key))]
     fn store(&mut self, alloc: Global, blob: PagableData) -> Result<DataKey, Error> {
         let stored = self.pager.store(alloc, blob);
         self.pager.is_whole();
@@ -256,6 +257,7 @@ where
         Ok(worker)
     }
 
+    #[tactic(auto, using(crate::proofs::Lending::entering))]
     fn worker_listed(&mut self, place: usize) -> Result<(WorkerNumber, ArcRef), Error> {
         let begun = self.pager.worker_listed(place);
         self.pager.is_whole();

@@ -74,16 +74,13 @@ where
     fn held(&self, handle: HandleNumber) -> Result<Option<&Arc<E::Node>>, Error>
         ensures { ValueCall (state_in (telling S.stored S.is_closed S.failed) self.now) handle (seen_as (option_map (λ x. arc_value x.now)) result) }
     {
-        let found = match lookups::pinned_node(&self.tables, handle) {
-            Ok(found) => found,
-            Err(e) => return Err(e),
-        };
-        let Some(node) = found else {
-            return Ok(None);
-        };
-        match self.values.get(&node.0) {
-            Some(value) => Ok(Some(value)),
-            None => unreachable!(),
+        match lookups::pinned_node(&self.tables, handle) {
+            Ok(Some(node)) => match self.values.get(&node.0) {
+                Some(value) => Ok(Some(value)),
+                None => unreachable!(),
+            },
+            Ok(None) => Ok(None),
+            Err(e) => Err(e),
         }
     }
 

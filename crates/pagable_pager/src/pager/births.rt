@@ -1,16 +1,15 @@
 //! Nodes that come, and what loads have read becomes nodes.
 
-ghost use Rattle.std.specs.{Prelude.{◌≡◌, ◌≢◌, ◌<◌, ℕ, Some, IfOk, IfErr, OnOk, true, List, ◌+◌, Bool, Option, None, IfSome, IfNone, OnErr, not}, Arc.arc_value, HashMap.spare};
+ghost use Rattle.std.specs.{Prelude.{◌≡◌, ◌≢◌, ◌<◌, ℕ, Some, IfOk, IfErr, OnOk, true, List, Bool, Option, None, IfSome, IfNone}, Arc.arc_value, HashMap.spare};
 ghost use Rattle.pagable_world.specs.{Kinds.is_pinning, Calls.{BirthCall, AwayBirthCall}, Pager.{IsNewNode, Moves}, Refusals.{load_fault, closed_fault, Refused}, Plain.Blob, World.usable};
-ghost use Rattle.{pagable_world.specs.LoadCalls.{adopt_fault, AdoptCall, Adopts}, pagable_pager.specs.View.{core_in, state_in, telling, value_in, OnlyTables, OnlyLess, is_at_work}};
-ghost use Rattle.{pagable_model.specs.declared.numbers.{ArcRef.ArcRef, Kind.Kind}, pagable_tables.specs.{Asking.early_fault, Bearing.OnlyRoom, Core.{core_of, plain_of, IsWhole}, Later.AreLater}};
+ghost use Rattle.{pagable_world.specs.LoadCalls.{adopt_fault, end_fault, AdoptCall, Adopts}, pagable_pager.specs.View.{core_in, state_in, telling, value_in, OnlyTables, OnlyLess, is_at_work}};
+ghost use Rattle.{pagable_model.specs.declared.numbers.{ArcRef.ArcRef, Kind.Kind}, pagable_tables.specs.{Asking.early_fault, Core.{core_of, plain_of}}};
 
 use crate::pager::Pager;
 use indexmap::IndexMap;
 use pagable_codec::{Env, NodeSet};
 use pagable_core::PagableStorage;
 use pagable_model::{ArcRef, DataKey, Error, HandleNumber, Kind, LoadNumber};
-use pagable_tables::tables::Tables;
 use pagable_tables::{adopting, births, loads};
 use pagable_world::Mode;
 use pagable_world::handles::Owner;
@@ -46,47 +45,6 @@ pub(crate) fn keep<N: Drop>(values: &mut IndexMap<u64, Arc<N>>, node: u64, value
     let Ok(_) = values.insert(node, value) else {
         unreachable!();
     };
-}
-
-/// A new node of what a load of the caller's has read, which the cache knows from now on, with a handle of the load's. `adopt_if_known` found no cause against it and no
-/// node in the cache. Refused with NumbersSpent and OutOfMemory, and the value comes back.
-pub(crate) fn adopt_new<N: Drop>(
-    tables: &mut Tables,
-    values: &mut IndexMap<u64, Arc<N>>,
-    alloc: Global,
-    me: Owner,
-    load: LoadNumber,
-    kind: Kind,
-    key: DataKey,
-    node_type: u32,
-    references: Vec<ArcRef>,
-    value: N,
-    lists: bool,
-) -> Result<HandleNumber, (Error, N)>
-    requires whole { IsWhole tables.old }
-    requires later { AreLater tables.old }
-    requires fresh { (stored : ℕ → Option Blob) (closed : Bool) (failures : ℕ) → early_fault (core_of tables.old stored closed failures) me load kind node_type references.items ≡ None }
-    requires unknown { usable (plain_of tables.old) kind.0 key ≡ None }
-    ensures adopts { IfOk result (λ k. (stored : ℕ → Option Blob) (closed : Bool) (failures : ℕ) → lists ≡ not closed → Adopts (core_of tables.old stored closed failures) me load kind key node_type references.items k (core_of tables.new stored closed failures)) }
-    ensures refused { IfErr result (λ e. (stored : ℕ → Option Blob) (closed : Bool) (failures : ℕ) → Refused (adopt_fault (core_of tables.old stored closed failures) me load kind key node_type references.items) (load_fault (core_of tables.old stored closed failures) me load) (Unit {0}) (core_of tables.old stored closed failures) e.0 (core_of tables.new stored closed failures)) }
-    ensures back { IfErr result (λ e. e.1 ≡ value) }
-    ensures room { OnErr result ((stored : ℕ → Option Blob) (closed : Bool) (failures : ℕ) → OnlyRoom (core_of tables.old stored closed failures) (core_of tables.new stored closed failures)) }
-    ensures whole { IsWhole tables.new }
-    ensures later { AreLater tables.new }
-    ensures here { OnOk result (value_in values.new (tables.old.last_node + 1) ≡ Some value) }
-    ensures others { OnOk result ((n : ℕ) → n ≢ tables.old.last_node + 1 → value_in values.new n ≡ value_in values.old n) }
-    ensures kept { OnErr result ((n : ℕ) → value_in values.new n ≡ value_in values.old n) }
-{
-    if let Err(e) = adopting::make_ready_to_learn(tables) {
-        return Err((e, value));
-    }
-    let value = match share_with_room(values, alloc, value) {
-        Ok(value) => value,
-        Err(value) => return Err((Error::OutOfMemory, value)),
-    };
-    let handle = adopting::adopt(tables, load, kind, key, references, lists);
-    keep(values, tables.last_node, value);
-    Ok(handle)
 }
 
 impl<E: Env, S: PagableStorage<E>> Pager<E, S>
@@ -226,17 +184,28 @@ where
         ensures step { AdoptCall (core_in (telling S.stored S.is_closed S.failed) self.old) me load kind key node (E.Node.type_of node) (E.Node.refs_of node) result (core_in (telling S.stored S.is_closed S.failed) self.new) }
         ensures moves { Moves (λ n x. (x ≡ node) × IsNewNode (core_in (telling S.stored S.is_closed S.failed) self.old) n) (state_in (telling S.stored S.is_closed S.failed) self.old) (state_in (telling S.stored S.is_closed S.failed) self.new) }
     {
+        if let Err(e) = adopting::make_ready_to_learn(&mut self.tables) {
+            return Err((e, node));
+        }
+        let value = match share_with_room(&mut self.values, alloc, node) {
+            Ok(value) => value,
+            Err(node) => return Err((Error::OutOfMemory, node)),
+        };
         let lists = !self.storage.has_closed();
-        let node_type = node.node_type();
-        let (tables, values) = (&mut self.tables, &mut self.values);
-        adopt_new(
-            tables, values, alloc, me, load, kind, key, node_type, references, node, lists,
-        )
+        let handle = adopting::adopt(&mut self.tables, load, kind, key, references, lists);
+        keep(&mut self.values, self.tables.last_node, value);
+        Ok(handle)
     }
 
-    /// Why a load's value doesn't become a node, whose references can't be listed: the load isn't open, or memory is wanting.
-    fn unlisted(&self, me: Owner, load: LoadNumber) -> Error
-        ensures { (kind : Kind) (key node_type : ℕ) (references : List ArcRef) → Refused (adopt_fault (core_in (telling S.stored S.is_closed S.failed) self.now) me load kind key node_type references) (closed_fault (core_in (telling S.stored S.is_closed S.failed) self.now) load) (Unit {0}) (core_in (telling S.stored S.is_closed S.failed) self.now) result (core_in (telling S.stored S.is_closed S.failed) self.now) }
+    /// Why a load's value neither becomes a node nor ends the load, where its references can't be listed: the load isn't open, or memory is wanting.
+    pub(crate) fn unlisted(&self, me: Owner, load: LoadNumber) -> Error
+        ensures adopts { (kind : Kind) (key node_type : ℕ) (references : List ArcRef) → Refused
+            (adopt_fault (core_in (telling S.stored S.is_closed S.failed) self.now) me load kind key node_type references)
+            (closed_fault (core_in (telling S.stored S.is_closed S.failed) self.now) load) (Unit {0}) (core_in (telling S.stored S.is_closed S.failed) self.now) result
+            (core_in (telling S.stored S.is_closed S.failed) self.now) }
+        ensures ends { (node_type : ℕ) (references : List ArcRef) → Refused (end_fault (core_in (telling S.stored S.is_closed S.failed) self.now) me load node_type references)
+            (closed_fault (core_in (telling S.stored S.is_closed S.failed) self.now) load) (Unit {0}) (core_in (telling S.stored S.is_closed S.failed) self.now) result
+            (core_in (telling S.stored S.is_closed S.failed) self.now) }
     {
         match loads::load_of(&self.tables.loads, load.0) {
             Some(_) => Error::OutOfMemory,

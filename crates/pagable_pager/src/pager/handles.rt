@@ -100,6 +100,7 @@ where
     }
 
     // The reference that stands for a live handle, as this kind. Of one that isn't live it names no node.
+    #[tactic(auto, using(crate::proofs::Lending::made_so))]
     pub(crate) fn reference(&self, kind: Kind, handle: HandleNumber) -> ArcRef
         ensures made { IsSome (row_at (core_in (telling S.stored S.is_closed S.failed) self.now) handle) → IsMade (core_in (telling S.stored S.is_closed S.failed) self.now) kind result }
         ensures handle { result.handle ≡ handle }

@@ -1,7 +1,7 @@
 //! Loads of cells that end with a value.
 
-ghost use Rattle.std.specs.{Prelude.{◌≡◌, ◌≢◌, ◌<◌, ℕ, Bool, Option, Some, IfOk, IfErr, OnOk, OnErr, List, [], not, nat_eq, true, false}, Arc.arc_value, HashMap.{get, spare}};
-ghost use Rattle.pagable_world.specs.{LoadCalls.{EndCall, EndRefused, Installs, end_fault}, Plain.Blob, World.Core, Refusals.{Refused, closed_fault}, Pager.{IsCellOf, Moves}};
+ghost use Rattle.std.specs.{Prelude.{◌≡◌, ℕ, Bool, Option, Some, IfOk, IfErr, OnOk, OnErr, List, not, nat_eq, true}, HashMap.get};
+ghost use Rattle.pagable_world.specs.{LoadCalls.{EndCall, EndRefused, Installs}, Plain.Blob, World.Core, Pager.{IsCellOf, Moves}};
 ghost use Rattle.{pagable_model.specs.declared.numbers.ArcRef.ArcRef, pagable_tables.specs.{Core.{core_of, IsWhole}, Later.AreLater, ByNumber.counts_at, Falling.Sheds, Ready.{IsReady, HasPlace}}};
 ghost use Rattle.{pagable_tables.specs.Ready.Unends, pagable_pager.specs.{View.{core_in, state_in, telling, value_in, is_at_work}, Puts.PutsIn}};
 
@@ -13,7 +13,7 @@ use pagable_core::PagableStorage;
 use pagable_model::{ArcRef, Error, HandleNumber, LoadNumber};
 use pagable_tables::installing::{Ending, Unended};
 use pagable_tables::tables::Tables;
-use pagable_tables::{ending, installing, loads};
+use pagable_tables::{ending, installing};
 use pagable_world::handles::Owner;
 use std::alloc::Global;
 use std::sync::Arc;
@@ -120,16 +120,6 @@ where
         Ok(handle)
     }
 
-    /// Why a load doesn't end with a value whose references can't be listed: it isn't open, or memory is wanting.
-    fn unread(&self, me: Owner, load: LoadNumber) -> Error
-        ensures { (node_type : ℕ) (references : List ArcRef) → Refused (end_fault (core_in (telling S.stored S.is_closed S.failed) self.now) me load node_type references) (closed_fault (core_in (telling S.stored S.is_closed S.failed) self.now) load) (Unit {0}) (core_in (telling S.stored S.is_closed S.failed) self.now) result (core_in (telling S.stored S.is_closed S.failed) self.now) }
-    {
-        match loads::load_of(&self.tables.loads, load.0) {
-            Some(_) => Error::OutOfMemory,
-            None => Error::NoSuchHandle,
-        }
-    }
-
     /// Ends a load of a cell with its value, which the load read: the handle that began it is pinned, a Pinned one is made and answered, and what the load still owns is given up. The value comes into
     /// the cell with the handles of its references; where the cell has its value already, it is dropped. Asks that the value is what the cell's key reads as. A refusal gives the value back and leaves
     /// the load open: NoSuchHandle and NotYours, of the load and of the references; WrongMode where the load is of a key, and of a reference; WrongKind of another type; NumbersSpent and OutOfMemory.
@@ -160,7 +150,7 @@ where
     {
         match value.refs(alloc) {
             Ok(references) => self.end_with(me, alloc, load, value, references),
-            Err(_) => Err((self.unread(me, load), Some(value))),
+            Err(_) => Err((self.unlisted(me, load), Some(value))),
         }
     }
 }

@@ -105,6 +105,7 @@ where
     }
 
     /// The node, or else the blob, of a reference.
+    #[tactic(auto, using(crate::proofs::Asking::asked_known))]
     fn fetch_nested(
         &mut self,
         me: Owner,

@@ -72,6 +72,7 @@ where
 
     /// The same, with the reference that the worker pages out: the entry's handle, as a loose one of its cell. Refused with NoSuchHandle past the end, with WrongKind
     /// where the cell's type has no kinds, and with OutOfMemory.
+    #[tactic(auto, using(crate::proofs::Working::starting))]
     pub(crate) fn worker_listed(&mut self, place: usize) -> Result<(WorkerNumber, ArcRef), Error>
         ensures begins { IfOk result (λ b. TakesEntry (core_in (telling S.stored S.is_closed S.failed) self.old) place b.0 b.1 (core_in (telling S.stored S.is_closed S.failed) self.new)) }
         ensures refused { IfErr result (λ e. LeavesEntry (core_in (telling S.stored S.is_closed S.failed) self.old) place e (core_in (telling S.stored S.is_closed S.failed) self.new)) }

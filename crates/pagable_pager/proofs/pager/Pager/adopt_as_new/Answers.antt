@@ -1,23 +1,49 @@
-use Rattle.pagable_pager.proofs.{Words.{◌≡◌, None, subst, sym, usable, plain_of, PagerView}, Adopting.{new-so, new-moves, new-call}, Shed.told-open}
+use Rattle.pagable_pager.proofs.{Adopting.{new-asked, new-memory, new-refused, new-so, new-told, new-unknown}, Words.refl, Births.roomier, Shed.told-open}
 use Rattle.pagable_pager.proofs.pager.Pager.adopt_as_new.Goals as goal
 
 pub invariant_of-self : goal.invariant_of-self
-invariant_of-self g c =
-    let unknown = subst (λ (v : PagerView _ _ _). usable (plain_of v.tables) c.args.kind.0 c.args.key ≡ None) (sym c.self.view_is) c.requires.unknown in
-    let e = c.adopt_new.ensures in
-    new-so _ _ _ c.self.invariant c.adopt_new.new.tables c.adopt_new.new.values e.whole e.later _ _ _ _ _ c.args.references.items c.args.node c.node_type-node_type.ensures.value c.requires.listed unknown
-    _ (told-open c.has_closed-lists.ensures) c.adopt_new.result (record { adopts = e.adopts; refused = e.refused; back = e.back; room = e.room; here = e.here; others = e.others; kept = e.kept })
+invariant_of-self g c = roomier c.self.invariant c.self.inside.values c.make_ready_to_learn.ensures.does (λ n. refl)
 
-pub returns-clause-step : goal.returns-clause-step
-returns-clause-step g c =
-    let unknown = subst (λ (v : PagerView _ _ _). usable (plain_of v.tables) c.args.kind.0 c.args.key ≡ None) (sym c.self.view_is) c.requires.unknown in
-    let e = c.adopt_new.ensures in
-    rw (← c.self.view_is) (new-call _ _ _ c.self.invariant c.adopt_new.new.tables c.adopt_new.new.values e.whole e.later _ _ _ _ _ c.args.references.items c.args.node c.node_type-node_type.ensures.value c.requires.listed unknown
-    _ (told-open c.has_closed-lists.ensures) c.adopt_new.result (record { adopts = e.adopts; refused = e.refused; back = e.back; room = e.room; here = e.here; others = e.others; kept = e.kept }))
+pub returns-in-Err-clause-step : goal.returns-in-Err-clause-step
+returns-in-Err-clause-step g c =
+    rw (← c.self.view_is) (new-refused c.self.invariant c.self.view_is c.args.me c.args.load c.args.kind c.args.key c.args.node c.requires.listed c.requires.fresh c.requires.unknown
+    (c.in-Err.ensures.refused _ _ _))
 
-pub returns-clause-moves : goal.returns-clause-moves
-returns-clause-moves g c =
-    let unknown = subst (λ (v : PagerView _ _ _). usable (plain_of v.tables) c.args.kind.0 c.args.key ≡ None) (sym c.self.view_is) c.requires.unknown in
-    let e = c.adopt_new.ensures in
-    rw (← c.self.view_is) (new-moves _ _ _ c.self.invariant c.adopt_new.new.tables c.adopt_new.new.values e.whole e.later _ _ _ _ _ c.args.references.items c.args.node c.node_type-node_type.ensures.value c.requires.listed unknown
-    _ (told-open c.has_closed-lists.ensures) c.adopt_new.result (record { adopts = e.adopts; refused = e.refused; back = e.back; room = e.room; here = e.here; others = e.others; kept = e.kept }))
+pub invariant_of-self-in-Err-share_with_room : goal.invariant_of-self-in-Err-share_with_room
+invariant_of-self-in-Err-share_with_room g c = roomier c.self.invariant c.share_with_room.new.values c.make_ready_to_learn.ensures.does c.share_with_room.ensures.same
+
+pub returns-in-Err-share_with_room-clause-step : goal.returns-in-Err-share_with_room-clause-step
+returns-in-Err-share_with_room-clause-step g c =
+    rw (← c.self.view_is) (new-memory c.self.invariant c.self.view_is c.args.me c.args.load c.args.kind c.args.key c.args.node c.requires.listed c.requires.fresh c.requires.unknown
+    c.share_with_room.new.values c.make_ready_to_learn.ensures.does c.in-Err-share_with_room.ensures.back)
+
+pub adopt-handle-requires-clause-later : goal.adopt-handle-requires-clause-later
+adopt-handle-requires-clause-later g c = c.make_ready_to_learn.ensures.does.later c.self.invariant.later
+
+pub adopt-handle-requires-clause-asked : goal.adopt-handle-requires-clause-asked
+adopt-handle-requires-clause-asked g c = (
+  c.args.me,
+  _,
+  new-asked c.self.invariant c.self.view_is c.args.me c.args.load c.args.kind c.args.key c.args.node c.requires.listed c.requires.fresh c.requires.unknown c.self.inside.values
+      c.make_ready_to_learn.ensures.does,
+)
+
+pub adopt-handle-requires-clause-unknown : goal.adopt-handle-requires-clause-unknown
+adopt-handle-requires-clause-unknown g c =
+    new-unknown c.self.invariant c.self.view_is c.args.me c.args.load c.args.kind c.args.key c.args.node c.requires.listed c.requires.fresh c.requires.unknown c.self.inside.values
+    c.make_ready_to_learn.ensures.does
+
+pub invariant_of-self-2 : goal.invariant_of-self-2
+invariant_of-self-2 g c =
+    new-so c.self.invariant c.self.view_is c.args.me c.args.load c.args.kind c.args.key c.args.node c.requires.listed c.requires.fresh c.requires.unknown
+    c.share_with_room.new.values c.make_ready_to_learn.ensures.does c.share_with_room.ensures.same c.adopt-handle.new.t c.keep.new.values c.in-Ok.ensures.shared c.keep.ensures.here
+    c.keep.ensures.others (told-open c.has_closed-lists.ensures) c.in_default.ensures.ready.node_left c.adopt-handle.ensures.next c.adopt-handle.ensures.adopted c.adopt-handle.ensures.whole
+    c.adopt-handle.ensures.later
+
+pub returns : goal.returns
+returns g c =
+    let new = new-told c.self.invariant c.self.view_is c.args.me c.args.load c.args.kind c.args.key c.args.node c.requires.listed c.requires.fresh c.requires.unknown
+    c.share_with_room.new.values c.make_ready_to_learn.ensures.does c.share_with_room.ensures.same c.adopt-handle.new.t c.keep.new.values c.in-Ok.ensures.shared c.keep.ensures.here
+    c.keep.ensures.others (told-open c.has_closed-lists.ensures) c.in_default.ensures.ready.node_left c.adopt-handle.ensures.next c.adopt-handle.ensures.adopted c.adopt-handle.ensures.whole
+    c.adopt-handle.ensures.later in
+    rw (← c.self.view_is) (record { step = new.0; moves = new.1 })

@@ -1,4 +1,4 @@
-use Rattle.pagable_pager.proofs.{Words.{load_fault, adopt_fault, core_of, eager-pins}, Adopting.found-so, Shed.{told-open, only-less, known-valued}}
+use Rattle.pagable_pager.proofs.{Words.eager-pins, Adopting.found-so, Shed.{told-open, only-less, known-valued}}
 use Rattle.pagable_pager.proofs.pager.Pager.adopt_known.Goals as goal
 
 pub adopt_if_known-requires-clause-valued : goal.adopt_if_known-requires-clause-valued
@@ -7,10 +7,8 @@ adopt_if_known-requires-clause-valued g c n known eager = known-valued _ _ _ c.s
 pub invariant_of-self : goal.invariant_of-self
 invariant_of-self g c =
     let e = c.adopt_if_known.ensures in
-    let w = core_of c.self.inside.tables (g.S.PagableStorage.stored c.self.inside.storage) (g.S.PagableStorage.is_closed c.self.inside.storage) (g.S.PagableStorage.failed c.self.inside.storage) in
     found-so _ _ _ c.self.invariant c.adopt_if_known.new.t c.adopt_if_known.new.values e.whole e.later e.sheds c.args.me c.args.load c.args.kind c.args.key c.args.node_type c.args.references.now
-    (adopt_fault w c.args.me c.args.load c.args.kind c.args.key c.args.node_type c.args.references.now) (load_fault w c.args.me c.args.load) c.adopt_if_known.result
-    (e.known _ _ _ (told-open c.has_closed-lists.ensures)) e.given e.same (e.refused _ _ _)
+    c.adopt_if_known.result (e.known _ _ _ (told-open c.has_closed-lists.ensures)) e.given e.same (e.refused _ _ _)
 
 pub returns-clause-known : goal.returns-clause-known
 returns-clause-known g c = rw (← c.self.view_is) (c.adopt_if_known.ensures.known _ _ _ (told-open c.has_closed-lists.ensures))

@@ -1,12 +1,12 @@
-use Rattle.pagable_pager.proofs.{Words.{refl, lazily}, Shed.{whole-over, told-open}, Shut.lazy-bare}
+use Rattle.pagable_pager.proofs.{Words.{refl, lazily}, Shed.{in-step, told-open}, Shut.lazy-bare}
 use Rattle.pagable_pager.proofs.pager.Pager.load_lazy_by.Goals as goal
 
 pub invariant_of-self : goal.invariant_of-self
 invariant_of-self g c =
     let e = c.load_lazy.ensures in
     let step = e.does _ _ _ (told-open c.has_closed-lists.ensures) in
-    let whole = whole-over c.load_lazy.new.t _ _ _ e.whole (λ shut. lazy-bare shut (c.self.invariant.state.whole.shut shut) c.load_lazy.result step) in
-    record { tables = e.whole; later = e.later c.self.invariant.later; state = lazily c.self.invariant.state c.load_lazy.result step (λ n. refl) e.whole.steady.fits.pinned whole }
+    in-step _ e.whole (e.later c.self.invariant.later) (λ shut. lazy-bare shut (c.self.invariant.state.whole.shut shut) c.load_lazy.result step)
+    (lazily c.self.invariant.state c.load_lazy.result step (λ n. refl))
 
 pub returns : goal.returns
 returns g c = rw (← c.self.view_is) (record { step = c.load_lazy.ensures.does _ _ _ (told-open c.has_closed-lists.ensures); only = record { values = refl; storage = refl; environment = refl } })

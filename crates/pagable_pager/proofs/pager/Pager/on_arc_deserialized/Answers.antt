@@ -1,4 +1,4 @@
-use Rattle.pagable_pager.proofs.{Words.{refl, offered}, Shed.{shed, told-open, less, known-valued}, Shut.offered-bare, Spared.caller-free}
+use Rattle.pagable_pager.proofs.{Words.offered, Shed.{shed, told-open, only-less, known-valued}, Shut.offered-bare, Spared.caller-free}
 use Rattle.pagable_pager.proofs.pager.Pager.on_arc_deserialized.Goals as goal
 
 pub invariant_of-self : goal.invariant_of-self
@@ -8,10 +8,7 @@ invariant_of-self g c =
     let sheds = e.sheds (λ n known pinning. known-valued _ _ _ c.self.invariant c.args.kind.0 c.args.key n known pinning) in
     shed _ _ _ c.self.invariant c.offer.new.t c.offer.new.values e.whole (e.later c.self.invariant.later) sheds (λ shut. offered-bare shut (c.self.invariant.state.whole.shut shut) c.offer.result step) (λ left. offered c.self.invariant.state left caller-free c.offer.result step)
 
-pub returns-clause-step : goal.returns-clause-step
-returns-clause-step g c = rw (← c.self.view_is) (c.offer.ensures.offered _ _ _ (told-open c.has_closed-lists.ensures))
-
-pub returns-clause-only : goal.returns-clause-only
-returns-clause-only g c =
+pub returns : goal.returns
+returns g c =
     let sheds = c.offer.ensures.sheds (λ n known pinning. known-valued _ _ _ c.self.invariant c.args.kind.0 c.args.key n known pinning) in
-    rw (← c.self.view_is) (record { values = less _ _ _ c.self.invariant c.offer.new.t c.offer.new.values sheds; storage = refl; environment = refl })
+    rw (← c.self.view_is) (record { step = c.offer.ensures.offered _ _ _ (told-open c.has_closed-lists.ensures); only = only-less _ _ _ c.self.invariant _ _ sheds })

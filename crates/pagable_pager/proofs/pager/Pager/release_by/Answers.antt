@@ -1,4 +1,4 @@
-use Rattle.pagable_pager.proofs.{Words.{released, telling}, Shed.{shed-by, told-open, less-called}, Shut.released-bare, Spared.{owner-free, owner-plain, owner-unlisted}}
+use Rattle.pagable_pager.proofs.{Words.{released, telling}, Shed.{shed-by, told-open, less-called}, Shut.released-bare, Spared.{owner-free}}
 use Rattle.pagable_pager.proofs.pager.Pager.release_by.Goals as goal
 
 pub invariant_of-self : goal.invariant_of-self
@@ -7,9 +7,3 @@ invariant_of-self g c =
 
 pub returns : goal.returns
 returns g c = rw (← c.self.view_is) (less-called _ _ _ c.self.invariant _ _ c.release.ensures (told-open c.has_closed-lists.ensures))
-
-pub release-requires-clause-plain : goal.release-requires-clause-plain
-release-requires-clause-plain g c = owner-plain (telling g.S.PagableStorage.stored g.S.PagableStorage.is_closed g.S.PagableStorage.failed) _ _ c.args.me c.self.view_is c.requires
-
-pub release-requires-clause-free : goal.release-requires-clause-free
-release-requires-clause-free g c = owner-unlisted (telling g.S.PagableStorage.stored g.S.PagableStorage.is_closed g.S.PagableStorage.failed) _ _ c.args.me c.self.view_is c.requires

@@ -1,4 +1,4 @@
-use Rattle.pagable_pager.proofs.{Words.{scheduled, telling}, Shed.{shed, told-open, only-less}, Shut.scheduled-bare, Spared.{owner-free, owner-holds}}
+use Rattle.pagable_pager.proofs.{Words.{scheduled, telling}, Shed.{shed, told-open, only-less}, Shut.scheduled-bare, Spared.{owner-free}}
 use Rattle.pagable_pager.proofs.pager.Pager.schedule_for_paging_by.Goals as goal
 
 pub invariant_of-self : goal.invariant_of-self
@@ -11,6 +11,3 @@ pub returns : goal.returns
 returns g c =
     let e = c.schedule_for_paging.ensures in
     rw (← c.self.view_is) (record { step = e.scheduled _ _ _ (told-open c.has_closed-lists.ensures); only = only-less _ _ _ c.self.invariant _ _ e.sheds })
-
-pub schedule_for_paging-requires-clause-holder : goal.schedule_for_paging-requires-clause-holder
-schedule_for_paging-requires-clause-holder g c = owner-holds (telling g.S.PagableStorage.stored g.S.PagableStorage.is_closed g.S.PagableStorage.failed) _ _ c.args.me c.self.view_is c.requires

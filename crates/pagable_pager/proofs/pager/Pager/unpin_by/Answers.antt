@@ -1,4 +1,4 @@
-use Rattle.pagable_pager.proofs.{Words.{unpinned, telling}, Shed.{shed-by, told-open, less-called}, Shut.unpinned-bare, Spared.{owner-free, owner-plain}}
+use Rattle.pagable_pager.proofs.{Words.{unpinned, telling}, Shed.{shed-by, told-open, less-called}, Shut.unpinned-bare, Spared.{owner-free}}
 use Rattle.pagable_pager.proofs.pager.Pager.unpin_by.Goals as goal
 
 pub invariant_of-self : goal.invariant_of-self
@@ -7,6 +7,3 @@ invariant_of-self g c =
 
 pub returns : goal.returns
 returns g c = rw (← c.self.view_is) (less-called _ _ _ c.self.invariant _ _ c.unpin.ensures (told-open c.has_closed-lists.ensures))
-
-pub unpin-requires-clause-plain : goal.unpin-requires-clause-plain
-unpin-requires-clause-plain g c = owner-plain (telling g.S.PagableStorage.stored g.S.PagableStorage.is_closed g.S.PagableStorage.failed) _ _ c.args.me c.self.view_is c.requires
