@@ -181,8 +181,12 @@ module _ {N E : Type 0} {v : Values N} {c : Change} {comes : ℕ → N → Type 
       [ inl stays ↦ node-stays goes.stored (fits.same n (well.whole.cache kind key n stays).given) (stands.cache kind key n stays) | inr knows ↦ fits.knows kind key n knows ]
 
   pub trees-go-on : Represents v s' trees'
-  trees-go-on = record { stands = λ n live. node-by lawful well' leads-again n live (λ z l k. stand lawful well' leads-again (trees' n).meaning l refl k);
-      typed = typed-again; loads = loads-again; cache = cache-again }
+  trees-go-on = record {
+    stands = λ n live. node-by lawful well' leads-again n live (λ z l k. stand lawful well' leads-again (trees' n).meaning l refl k);
+    typed = typed-again;
+    loads = loads-again;
+    cache = cache-again;
+  }
 
 -- ---- trees with one more
 
@@ -336,9 +340,11 @@ module _ {N E : Type 0} {v : Values N} {s s' : PagerState N E} {trees : ℕ → 
       → (answer ≡ None → (load : OpenLoad) × (s.core.loads reading.load.0 ≡ Some load))
       → ReadingFeels v s.core reading answer frames s'.core c → (after : ℕ → Tree) × ChangeFits v c (ReadingBrings v s.core reading) s s' trees after
   reading-fits goes takes opens (gets-lazy kind key row needs got answer is) =
-      let asked = takes kind key needs in
-      (_, fits-born-known lawful settled well well' stands asked.read _ kind.0 key (OptionalDataKey.Some key) asked.typed (λ q e. cc) (tree-stays goes.stored asked.reads)
-      (λ n x brings unset at. elim brings [ inl (reads, new) ↦ absurd (cc) | inr (root, cell) ↦ root-on goes asked.read n x at root cell ]))
+      let asked = takes kind key needs in (
+        _,
+        fits-born-known lawful settled well well' stands asked.read _ kind.0 key (OptionalDataKey.Some key) asked.typed (λ q e. cc) (tree-stays goes.stored asked.reads)
+            (λ n x brings unset at. elim brings [ inl (reads, new) ↦ absurd (cc) | inr (root, cell) ↦ root-on goes asked.read n x at root cell ]),
+      )
   reading-fits goes takes opens (makes-node x reads row got answer is) =
       let load = opens answer in
       let fit = fits load.0 load.1 in

@@ -95,10 +95,13 @@ module _ {N : Type 0} {v : Values N} {u u' : World} {l : LoadNumber} {reply : Lo
   steps-load after (of_worker n place walking r through below there todo) = inl (of_worker n place walking r through below (sym (s.work.walkings n) ∙ there) todo)
 
   pub stepped-load : (B W : Type 0) → IsWhole u.core → IsSteppedReading u (let e : Event N B W = Event.LoadStep l in e) s.reading
-  stepped-load B W whole = (s.at, elim (reading-stands u whole l s.reading s.at) [
-    | inl there ↦ inl (of_caller l.0 there)
-    | inr begun ↦ inr (begun.0, begun.1, subst (λ (z : LoadNumber). z.0 ≤ u.core.last.load) (sym begun.2) begun.3)
-  ])
+  stepped-load B W whole = (
+    s.at,
+    elim (reading-stands u whole l s.reading s.at) [
+      | inl there ↦ inl (of_caller l.0 there)
+      | inr begun ↦ inr (begun.0, begun.1, subst (λ (z : LoadNumber). z.0 ≤ u.core.last.load) (sym begun.2) begun.3)
+    ],
+  )
 
 -- ---- a load of a worker's
 
