@@ -5,7 +5,7 @@ use Rattle.pagable.specs.{ArcRef.ArcRef, Basic.{bool_at, bool_form}, Error.Error
 use Rattle.pagable.specs.{Meaning.failure, Reading.{Rest, deepest, read, read_with, bytes_of}, Shape.{Shape, both, unsigned, nested}}
 use Rattle.pagable.specs.Standing.{Answer, Standing, MovesOn, GivesSome, Gave, Is, SomeMeaning, handles_at}
 use Rattle.pagable.specs.Writing.{Out, nesting, WritesSome, Grows, added, Refused}
-use Rattle.pagable_examples.proofs.Levels.{writes-down, refused-down, refused-deep, only-deep, reads-deep, reads-down}
+use Rattle.pagable_examples.proofs.Levels.{writes-down, refused-down, refused-deep, reads-deep, reads-down}
 use Rattle.pagable_examples.specs.{declared.expression.Expression.{Expression, Number}, Expressions.{node, nodes, of_expression, IsWritten, IsRead, IsSum}}
 use Rattle.pagable.specs.Error.TheVariants as errors
 
@@ -17,7 +17,7 @@ pub deep_unwritten : {X E : Type 0} (x : Expression) (e : Error) (levels after :
 deep_unwritten x e levels after old new env env_after h out same = record {
   ok = tt;
   refused = refused-deep nodes 0 e (Is of_expression x) (of_expression x) levels refl h.1;
-  only = only-deep memory e h.0;
+  only = inl h.0;
   err = grows_same old new out;
   same_env = same;
   same_levels = h.2;
@@ -146,17 +146,12 @@ unfolding read read_with
 right_refused x levels rest mid last e h g (inl f) = inl (rw (h, g.gave, f) refl)
 right_refused x levels rest mid last e h g (inr own) = inr own
 
-gave_sum : (x y whole : Expression) (levels : ℕ) (rest mid last after : Rest Answer) → of_expression whole ≡ failure (pair (of_expression x) (of_expression y))
-    → bytes_of bool_at (λ b. b) rest ≡ Ok (false, mid) → Gave (Is of_expression x) last (read (handles_at levels nodes) (nested 0) mid)
-    → Gave (Is of_expression y) after (read (handles_at levels nodes) (nested 0) last) → Gave (Is of_expression whole) after (read (handles_at levels nodes) node rest)
-unfolding read read_with
-gave_sum x y whole levels rest mid last after same h g i = record { m = failure (pair g.m i.m); is = rw (g.is, i.is, same) refl; gave = rw (h, g.gave, i.gave) refl }
-
 -- the sum of what was read, or no memory for it
 pub sum_gives : (x y : Expression) (r : Result Expression Error) (levels : ℕ) (rest mid half last : Rest Answer) → bytes_of bool_at (λ b. b) rest ≡ Ok (false, mid)
     → Gave (Is of_expression x) half (read (handles_at levels nodes) (nested 0) mid)
     → Gave (Is of_expression y) last (read (handles_at levels nodes) (nested 0) half) → IsSum x y r → GivesSome memory (Is of_expression) last r (read (handles_at levels nodes) node rest)
-sum_gives x y (Ok sum) levels rest mid half last h g i is = gave_sum x y sum levels rest mid half last is h g i
+unfolding read read_with
+sum_gives x y (Ok sum) levels rest mid half last h g i is = record { m = failure (pair g.m i.m); is = rw (g.is, i.is, is) refl; gave = rw (h, g.gave, i.gave) refl }
 sum_gives x y (Err e) levels rest mid half last h g i is = inr is
 
 -- one part after another

@@ -1,6 +1,6 @@
 -- A part one level further down, in any environment: what writing and reading it on the deeper level says of it.
-use Rattle.std.{proofs.Common.{◌≡◌, ℕ, suc, ◌+◌, ◌-◌, ◌<◌, ◌≤◌, arith, refl, Result, Ok, Err, inl}, specs.Prelude.IfErr}
-use Rattle.pagable.specs.{ArcRef.ArcRef, Error.Error, Form.nested-form, Gives.deep_or, Meaning.Meaning, Reading.{Rest, deepest, read, read_with, below}, Shape.{Shape, nested}, Standing.Answer}
+use Rattle.std.{proofs.Common.{◌≡◌, ℕ, suc, ◌+◌, ◌-◌, ◌<◌, ◌≤◌, arith, refl, Result, Ok, Err}, specs.Prelude.IfErr}
+use Rattle.pagable.specs.{ArcRef.ArcRef, Error.Error, Form.nested-form, Meaning.Meaning, Reading.{Rest, deepest, read, read_with, below}, Shape.{Shape, nested}, Standing.Answer}
 use Rattle.pagable.specs.{Standing.handles_at, Writing.{Out, nesting, WritesSome, NoForm, Refused}}
 use Rattle.pagable.specs.Error.TheVariants as errors
 
@@ -32,7 +32,3 @@ module _ (parts : ℕ → Shape) (part : ℕ) where
   pub reads-down : (levels : ℕ) (rest : Rest Answer) → levels < deepest → read (handles_at levels parts) (nested part) rest ≡ read (handles_at (levels + 1) parts) (parts part) rest
   unfolding read read_with below
   reads-down levels rest lt = let one : deepest - levels ≡ suc (deepest - (levels + 1)) = omega arith in rw one refl
-
--- no level is left
-pub only-deep : (part : Error → Type 0) (e : Error) → e ≡ errors.TooDeep → deep_or part e
-only-deep part e h = inl h

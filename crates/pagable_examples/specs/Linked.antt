@@ -100,14 +100,12 @@ shape_of (suc (suc (suc n))) = None
 
 -- all refusals of the writing of a type's values, and of the reading, beside the faults of the input and of references
 abbrev pub writes : ℕ → WriteCauses
-writes zero = one_writes
-writes (suc zero) = one_writes
 writes (suc (suc t)) = bundle_writes
+writes _ = one_writes
 
 abbrev pub reads : ℕ → ReadCauses
-reads zero = reads_memory_or reads_never
-reads (suc zero) = reads_memory_or reads_never
 reads (suc (suc t)) = reads_memory_or bundle_reads
+reads _ = reads_memory_or reads_never
 
 -- each node's type is there
 pub has_shape : (n : LinkedNode) → shape_of (type_of n) ≡ Some (own_shape n)
@@ -133,30 +131,24 @@ HoldsIn M t n = Holds M.of t (type_of n) (means n)
 
 abbrev pub link_in : LinkedNode → Option (Chain 1)
 link_in (nodes.Link x) = Some (arc_value x)
-link_in (nodes.ArcLink x) = None
-link_in (nodes.Bundle x) = None
+link_in _ = None
 
 pub holds_link : (n : LinkedNode) → HoldsIn (chain_means 1) 0 n (link_in n)
 holds_link (nodes.Link x) = holds-value (arc_value x) refl (λ m h. h) (λ m h. h)
-holds_link (nodes.ArcLink x) = holds-none (λ e. omega (arith, e))
-holds_link (nodes.Bundle x) = holds-none (λ e. omega (arith, e))
+holds_link _ = holds-none (λ e. omega (arith, e))
 
 abbrev pub arc_link_in : LinkedNode → Option (Chain 3)
-arc_link_in (nodes.Link x) = None
 arc_link_in (nodes.ArcLink x) = Some (arc_value x)
-arc_link_in (nodes.Bundle x) = None
+arc_link_in _ = None
 
 pub holds_arc_link : (n : LinkedNode) → HoldsIn (chain_means 3) 1 n (arc_link_in n)
-holds_arc_link (nodes.Link x) = holds-none (λ e. omega (arith, e))
 holds_arc_link (nodes.ArcLink x) = holds-value (arc_value x) refl (λ m h. h) (λ m h. h)
-holds_arc_link (nodes.Bundle x) = holds-none (λ e. omega (arith, e))
+holds_arc_link _ = holds-none (λ e. omega (arith, e))
 
 abbrev pub bundle_in : LinkedNode → Option Bundle
-bundle_in (nodes.Link x) = None
-bundle_in (nodes.ArcLink x) = None
 bundle_in (nodes.Bundle x) = Some (arc_value x)
+bundle_in _ = None
 
 pub holds_bundle : (n : LinkedNode) → HoldsIn bundle_means 2 n (bundle_in n)
-holds_bundle (nodes.Link x) = holds-none (λ e. omega (arith, e))
-holds_bundle (nodes.ArcLink x) = holds-none (λ e. omega (arith, e))
 holds_bundle (nodes.Bundle x) = holds-value (arc_value x) refl (λ m h. h) (λ m h. h)
+holds_bundle _ = holds-none (λ e. omega (arith, e))

@@ -8,46 +8,28 @@ of_text bytes = text bytes
 abbrev pub of_numbers : List ℕ → Meaning ⊥
 of_numbers bytes = sequence (map number bytes)
 
--- a text means its bytes
-abbrev pub word : Bor (List ℕ) → Meaning ⊥
-word w = of_text w.now
+-- what means one thing exactly if its bytes are equal
+module _ (means : List ℕ → Meaning ⊥) (x y : Bor (List ℕ)) where
+  pub meets_equal : IsTrue (bytes_eq x.now y.now) → means x.now ≡ means y.now
+  meets_equal same = ap means ((bytes_eq-Decides x.now y.now).0 same)
 
--- bytes mean a list of numbers
-abbrev pub bytes_of : Bor (List ℕ) → Meaning ⊥
-bytes_of b = of_numbers b.now
+  pub is_equal : ((xs ys : List ℕ) → means xs ≡ means ys → xs ≡ ys) → means x.now ≡ means y.now → IsTrue (bytes_eq x.now y.now)
+  is_equal apart same = (bytes_eq-Decides x.now y.now).1 (apart x.now y.now same)
 
-text-apart : (xs ys : List ℕ) → of_text xs ≡ of_text ys → xs ≡ ys
-text-apart xs ys e = cc
+pub texts_apart : (xs ys : List ℕ) → of_text xs ≡ of_text ys → xs ≡ ys
+texts_apart xs ys e = cc
 
-pub word_meets_equal : (x y : Bor (List ℕ)) → IsTrue (bytes_eq x.now y.now) → word x ≡ word y
-word_meets_equal x y same = ap of_text ((bytes_eq-Decides x.now y.now).0 same)
+pub numbers_apart : (xs ys : List ℕ) → of_numbers xs ≡ of_numbers ys → xs ≡ ys
+numbers_apart [] [] e = refl
+numbers_apart [] (y ∷ ys) e = cc
+numbers_apart (x ∷ xs) [] e = cc
+numbers_apart (x ∷ xs) (y ∷ ys) e = let rest : of_numbers xs ≡ of_numbers ys = cc in let same = numbers_apart xs ys rest in cc
 
-pub word_is_equal : (x y : Bor (List ℕ)) → word x ≡ word y → IsTrue (bytes_eq x.now y.now)
-word_is_equal x y same = (bytes_eq-Decides x.now y.now).1 (text-apart x.now y.now same)
-
-pub word_refers_to_nothing : (x : Bor (List ℕ)) → HasNoReference (word x)
+pub text_refers_to_nothing : (xs : List ℕ) → HasNoReference (of_text xs)
 unfolding HasNoReference
-word_refers_to_nothing x = tt
+text_refers_to_nothing xs = tt
 
-numbers-apart : (xs ys : List ℕ) → of_numbers xs ≡ of_numbers ys → xs ≡ ys
-numbers-apart [] [] e = refl
-numbers-apart [] (y ∷ ys) e = let no : ⊥ = cc in absurd no
-numbers-apart (x ∷ xs) [] e = let no : ⊥ = cc in absurd no
-numbers-apart (x ∷ xs) (y ∷ ys) e =
-    let first : x ≡ y = cc in
-    let rest : of_numbers xs ≡ of_numbers ys = cc in
-    rw (first, numbers-apart xs ys rest) refl
-
-pub bytes_meet_equal : (x y : Bor (List ℕ)) → IsTrue (bytes_eq x.now y.now) → bytes_of x ≡ bytes_of y
-bytes_meet_equal x y same = ap of_numbers ((bytes_eq-Decides x.now y.now).0 same)
-
-pub bytes_are_equal : (x y : Bor (List ℕ)) → bytes_of x ≡ bytes_of y → IsTrue (bytes_eq x.now y.now)
-bytes_are_equal x y same = (bytes_eq-Decides x.now y.now).1 (numbers-apart x.now y.now same)
-
-numbers-refer-to-nothing : (xs : List ℕ) → HasNoReference (of_numbers xs)
+pub numbers_refer_to_nothing : (xs : List ℕ) → HasNoReference (of_numbers xs)
 unfolding HasNoReference
-numbers-refer-to-nothing [] = tt
-numbers-refer-to-nothing (x ∷ xs) = (tt, numbers-refer-to-nothing xs)
-
-pub bytes_refer_to_nothing : (x : Bor (List ℕ)) → HasNoReference (bytes_of x)
-bytes_refer_to_nothing x = numbers-refer-to-nothing x.now
+numbers_refer_to_nothing [] = tt
+numbers_refer_to_nothing (x ∷ xs) = (tt, numbers_refer_to_nothing xs)

@@ -1,6 +1,6 @@
 //! A type that holds values of its own type, each one level further down: sums inside sums.
 
-ghost use Rattle.pagable.specs.{Shape.nested, Standing.Is};
+ghost use Rattle.pagable.specs.{Meanings.exactly, OwnCauses.{reads_memory, writes_deep_or, writes_memory}, Shape.nested, Standing.Is};
 ghost use Rattle.pagable_examples.specs.Expressions.{node, nodes, of_expression, IsWritten, IsRead, IsSum};
 
 use pagable::parts::{read_flag, write_flag};
@@ -34,8 +34,6 @@ impl Env for Sheet {
     type CtxKey = ();
 
     type CtxValue = ();
-
-    ghost use Rattle.pagable_examples.specs.Expressions.{nodes};
 
     ghost parts = { λ e. nodes };
 }
@@ -118,18 +116,12 @@ fn read_node<D: PagableDeserializer<Sheet>>(
 }
 
 impl Carried<Sheet> for Expression {
-    ghost use Rattle.pagable.specs.Meanings.{exactly};
-    ghost use Rattle.pagable.specs.Shape.{nested};
-    ghost use Rattle.pagable_examples.specs.Expressions.{of_expression};
-
     ghost shape = { λ e. nested 0 };
 
     ghost means = { exactly of_expression };
 }
 
 impl PagableSerialize<Sheet> for Expression {
-    ghost use Rattle.pagable.specs.OwnCauses.{writes_deep_or, writes_memory};
-
     ghost write_causes = { writes_deep_or writes_memory };
 
     fn pagable_serialize<S: PagableSerializer<Sheet>>(
@@ -141,8 +133,6 @@ impl PagableSerialize<Sheet> for Expression {
 }
 
 impl<'de> PagableDeserialize<'de, Sheet> for Expression {
-    ghost use Rattle.pagable.specs.OwnCauses.{reads_memory};
-
     ghost read_causes = { reads_memory };
 
     fn pagable_deserialize<D: PagableDeserializer<Sheet>>(

@@ -1,6 +1,9 @@
 //! Types that refer to each other, and their environment: links refer to links, and a bundle to links of both sorts by each
 //! sort of references.
 
+ghost use Rattle.std.specs.{Arc.arc_value, Prelude.{◌≡◌, Some, refl}};
+ghost use Rattle.pagable_examples.specs.Linked.{arc_link_in, bundle_in, holds_arc_link, holds_bundle, holds_link, link_in, no_parts, numbers_are_small};
+
 pub mod bundle;
 pub mod chain;
 
@@ -25,8 +28,6 @@ impl Env for Linked {
     type CtxKey = ();
 
     type CtxValue = ();
-
-    ghost use Rattle.pagable_examples.specs.Linked.{no_parts};
 
     ghost parts = { λ e. no_parts };
 }
@@ -115,10 +116,6 @@ impl NodeSet<Linked> for LinkedNode {
 }
 
 impl OfNode<Linked> for Link {
-    ghost use Rattle.std.specs.Prelude.{◌≡◌, Some};
-    ghost use Rattle.std.specs.Arc.{arc_value};
-    ghost use Rattle.pagable_examples.specs.Linked.{link_in, numbers_are_small};
-
     ghost TYPE = { 0 };
 
     ghost held = { link_in };
@@ -142,9 +139,6 @@ impl OfNode<Linked> for Link {
 }
 
 impl InNode<Linked> for Link {
-    ghost use Rattle.std.specs.Prelude.{refl};
-    ghost use Rattle.pagable_examples.specs.Linked.{holds_link};
-
     ghost holds = { holds_link };
 
     ghost shape_is = { λ e. refl };
@@ -155,10 +149,6 @@ impl InNode<Linked> for Link {
 }
 
 impl OfNode<Linked> for ArcLink {
-    ghost use Rattle.std.specs.Prelude.{◌≡◌, Some};
-    ghost use Rattle.std.specs.Arc.{arc_value};
-    ghost use Rattle.pagable_examples.specs.Linked.{arc_link_in, numbers_are_small};
-
     ghost TYPE = { 1 };
 
     ghost held = { arc_link_in };
@@ -182,9 +172,6 @@ impl OfNode<Linked> for ArcLink {
 }
 
 impl InNode<Linked> for ArcLink {
-    ghost use Rattle.std.specs.Prelude.{refl};
-    ghost use Rattle.pagable_examples.specs.Linked.{holds_arc_link};
-
     ghost holds = { holds_arc_link };
 
     ghost shape_is = { λ e. refl };
@@ -195,10 +182,6 @@ impl InNode<Linked> for ArcLink {
 }
 
 impl OfNode<Linked> for Bundle {
-    ghost use Rattle.std.specs.Prelude.{◌≡◌, Some};
-    ghost use Rattle.std.specs.Arc.{arc_value};
-    ghost use Rattle.pagable_examples.specs.Linked.{bundle_in, numbers_are_small};
-
     ghost TYPE = { 2 };
 
     ghost held = { bundle_in };
@@ -222,9 +205,6 @@ impl OfNode<Linked> for Bundle {
 }
 
 impl InNode<Linked> for Bundle {
-    ghost use Rattle.std.specs.Prelude.{refl};
-    ghost use Rattle.pagable_examples.specs.Linked.{holds_bundle};
-
     ghost holds = { holds_bundle };
 
     ghost shape_is = { λ e. refl };

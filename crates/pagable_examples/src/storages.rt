@@ -1,6 +1,7 @@
 //! A storage over another storage, for tests, which fails once.
 
 ghost use Rattle.std.specs.Prelude.{◌≡◌, true, false};
+ghost use Rattle.pagable_examples.specs.Failing.{failures_of};
 
 use pagable::{DataKey, Env, Error, PagableData, PagableStorage};
 use std::alloc::Global;
@@ -44,13 +45,11 @@ impl<S> FailingStorage<S> {
 }
 
 impl<E: Env, S: PagableStorage<E>> PagableStorage<E> for FailingStorage<S> {
-    ghost use Rattle.pagable_examples.specs.Failing.{called, failures_over};
+    ghost stored = { λ s. S.stored s.inner };
 
-    ghost stored = { λ s. S.stored (called s) };
+    ghost is_closed = { λ s. S.is_closed s.inner };
 
-    ghost is_closed = { λ s. S.is_closed (called s) };
-
-    ghost failed = { λ s. failures_over s (S.failed (called s)) };
+    ghost failed = { λ s. failures_of s.has_failed (S.failed s.inner) };
 
     #[tactic(auto, using(crate::proofs::Refusing::refusing))]
     fn fetch_data_blocking(

@@ -1,6 +1,7 @@
 //! An environment with registries.
 
-ghost use Rattle.pagable_examples.specs.Words.{word, bytes_of, word_meets_equal, word_is_equal, word_refers_to_nothing, bytes_meet_equal, bytes_are_equal, bytes_refer_to_nothing};
+ghost use Rattle.pagable.specs.Shape.{nothing};
+ghost use Rattle.pagable_examples.specs.Words.{is_equal, meets_equal, numbers_apart, numbers_refer_to_nothing, of_numbers, of_text, text_refers_to_nothing, texts_apart};
 
 use crate::animal::{Animal, AnimalReader};
 use pagable::{
@@ -79,13 +80,11 @@ impl Env for Zoo {
 
     type CtxValue = ();
 
-    ghost use Rattle.pagable.specs.Shape.{nothing};
-
     ghost parts = { λ e number. nothing };
 }
 
 impl HasStaticValueRegistry<Zoo> for &'static str {
-    ghost plain = { word };
+    ghost plain = { λ x. of_text x.now };
 
     ghost known = { λ e. e.words };
 
@@ -93,15 +92,15 @@ impl HasStaticValueRegistry<Zoo> for &'static str {
         &env.words
     }
 
-    ghost same_meaning = { word_meets_equal };
+    ghost same_meaning = { meets_equal of_text };
 
-    ghost same_value = { word_is_equal };
+    ghost same_value = { λ x y. is_equal of_text x y texts_apart };
 
-    ghost holds_no_reference = { word_refers_to_nothing };
+    ghost holds_no_reference = { λ x. text_refers_to_nothing x.now };
 }
 
 impl HasStaticValueRegistry<Zoo> for &'static [u8] {
-    ghost plain = { bytes_of };
+    ghost plain = { λ x. of_numbers x.now };
 
     ghost known = { λ e. e.blobs };
 
@@ -109,11 +108,11 @@ impl HasStaticValueRegistry<Zoo> for &'static [u8] {
         &env.blobs
     }
 
-    ghost same_meaning = { bytes_meet_equal };
+    ghost same_meaning = { meets_equal of_numbers };
 
-    ghost same_value = { bytes_are_equal };
+    ghost same_value = { λ x y. is_equal of_numbers x y numbers_apart };
 
-    ghost holds_no_reference = { bytes_refer_to_nothing };
+    ghost holds_no_reference = { λ x. numbers_refer_to_nothing x.now };
 }
 
 impl HasTypetagRegistry<Zoo> for Animal {

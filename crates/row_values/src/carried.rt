@@ -33,14 +33,6 @@ impl Env for AnyEnv {
     ghost parts = { λ e number. nothing };
 }
 
-/// The number of a refusal.
-fn refused<T: Drop>(read: Result<T, Error>) -> Option<u32> {
-    match &read {
-        Ok(_) => None,
-        Err(refusal) => Some(refusal.number()),
-    }
-}
-
 /// A way to read values.
 pub trait Takes<'de, E: Env> {
     /// What comes of a reading.
@@ -73,9 +65,10 @@ impl<'de, E: Env, T: PagableDeserialize<'de, E> + Drop> Takes<'de, E> for Twice<
         source: &mut D,
     ) -> (Option<u32>, Result<T, Error>) {
         let front = source.position();
-        let first = refused(T::pagable_deserialize(alloc, source));
+        let first = T::pagable_deserialize(alloc, source).err();
         source.seek(front);
-        (first, T::pagable_deserialize(alloc, source))
+        let number = first.map(|refusal| refusal.number());
+        (number, T::pagable_deserialize(alloc, source))
     }
 }
 
@@ -97,13 +90,9 @@ pub fn finished<E: Env>(
     done: Result<(), Error>,
     out: PagableSerializerImpl<'_, E>,
 ) -> Result<Vec<u8>, u32> {
-    if let Err(refusal) = done {
-        return Err(refusal.number());
-    }
-    match out.finish() {
-        Ok(data) => Ok(data.bytes),
-        Err(refusal) => Err(refusal.number()),
-    }
+    done.map_err(|refusal| refusal.number())?;
+    let data = out.finish().map_err(|refusal| refusal.number())?;
+    Ok(data.bytes)
 }
 
 /// The bytes of a value, which is written once, or the number of the refusal.

@@ -61,11 +61,7 @@ fn next_piece<R: BufRead>(reader: &mut R, line: &mut Vec<u8>) -> io::Result<Piec
     let end = bytes.iter().position(|byte| *byte == b'\n');
     let length = end.unwrap_or(bytes.len());
     let room = (LONGEST_LINE + 1).saturating_sub(line.len());
-    if length <= room {
-        line.extend_from_slice(&bytes[..length])?;
-    } else {
-        line.extend_from_slice(&bytes[..room])?;
-    }
+    line.extend_from_slice(&bytes[..length.min(room)])?;
     match end {
         Some(place) => {
             reader.consume(place + 1);

@@ -63,25 +63,11 @@ fn answer<H: KeyHash, W: Write>(
 /// Writes an answer, or why there is none.
 fn write<W: Write>(outcome: &Result<Answer<'_>, Refusal>, writer: &mut W) -> io::Result<()> {
     match outcome {
-        Ok(answer) => write_answer(*answer, writer),
-        Err(refusal) => write_refusal(refusal, writer),
-    }
-}
-
-/// Writes an answer.
-fn write_answer<W: Write>(answer: Answer<'_>, writer: &mut W) -> io::Result<()> {
-    match answer {
-        Answer::Text(text) => writeln!(writer, "{text}"),
-        Answer::Number(number) => writeln!(writer, "{number}"),
-    }
-}
-
-/// Writes why there is no answer.
-fn write_refusal<W: Write>(refusal: &Refusal, writer: &mut W) -> io::Result<()> {
-    match refusal {
-        Refusal::BadName => writeln!(writer, "bad name"),
-        Refusal::NoName => writeln!(writer, "no name"),
-        Refusal::Error(e) => {
+        Ok(Answer::Text(text)) => writeln!(writer, "{text}"),
+        Ok(Answer::Number(number)) => writeln!(writer, "{number}"),
+        Err(Refusal::BadName) => writeln!(writer, "bad name"),
+        Err(Refusal::NoName) => writeln!(writer, "no name"),
+        Err(Refusal::Error(e)) => {
             let number = e.number();
             writeln!(writer, "error {number}")
         }

@@ -33,9 +33,13 @@ fn vector(alloc: Global, name: &str, input: &[u8]) -> Option<Outcome> {
     }
 }
 
-/// Tuples, and what comes after them.
-fn tuple(alloc: Global, name: &str, input: &[u8]) -> Option<Outcome> {
+/// What comes of an option, a result, a box or a tuple; other names are handed on.
+pub fn answer(alloc: Global, name: &str, input: &[u8]) -> Option<Outcome> {
     match name {
+        "Option<u8>" => replay::<Option<u8>>(alloc, input),
+        "Option<Option<i32>>" => replay::<Option<Option<i32>>>(alloc, input),
+        "Box<u16>" => replay::<Box<u16>>(alloc, input),
+        "Result<String,String>" => replay::<Result<String, String>>(alloc, input),
         "(bool,String)" => replay::<(bool, String)>(alloc, input),
         "(u8,u16,i32)" => replay::<(u8, u16, i32)>(alloc, input),
         "(u8,String,Vec<u64>,Option<i8>)" => {
@@ -43,16 +47,5 @@ fn tuple(alloc: Global, name: &str, input: &[u8]) -> Option<Outcome> {
         }
         "(u128,i128,char,bool,())" => replay::<(u128, i128, char, bool, ())>(alloc, input),
         _ => vector(alloc, name, input),
-    }
-}
-
-/// What comes of an option, a result or a box; other names are handed on.
-pub fn answer(alloc: Global, name: &str, input: &[u8]) -> Option<Outcome> {
-    match name {
-        "Option<u8>" => replay::<Option<u8>>(alloc, input),
-        "Option<Option<i32>>" => replay::<Option<Option<i32>>>(alloc, input),
-        "Box<u16>" => replay::<Box<u16>>(alloc, input),
-        "Result<String,String>" => replay::<Result<String, String>>(alloc, input),
-        _ => tuple(alloc, name, input),
     }
 }

@@ -27,21 +27,7 @@ fn hash_map(alloc: Global, input: &[u8]) -> Option<Outcome> {
     sorted(alloc, outcome.used()?, outcome.bytes()?)
 }
 
-/// Sets and maps in the order of arrival, and what comes after them.
-fn ordered(alloc: Global, name: &str, input: &[u8]) -> Option<Outcome> {
-    match name {
-        "BTreeSet<i16>" => replay::<BTreeSet<i16>>(alloc, input),
-        "IndexSet<u64>" => replay::<IndexSet<u64>>(alloc, input),
-        "IndexMap<String,u8>" => replay::<IndexMap<String, u8>>(alloc, input),
-        "IndexMap<String,u32>" => replay::<IndexMap<String, u32>>(alloc, input),
-        "IndexMap<String,BTreeSet<Option<i8>>>" => {
-            replay::<IndexMap<String, BTreeSet<Option<i8>>>>(alloc, input)
-        }
-        _ => lent::answer(alloc, name, input),
-    }
-}
-
-/// What comes of a map in the order of its keys or in none; other names are handed on.
+/// What comes of a map or a set; other names are handed on.
 pub fn answer(alloc: Global, name: &str, input: &[u8]) -> Option<Outcome> {
     match name {
         "HashMap<String,i32>" => hash_map(alloc, input),
@@ -52,6 +38,13 @@ pub fn answer(alloc: Global, name: &str, input: &[u8]) -> Option<Outcome> {
         "BTreeMap<(u8,bool),Vec<String>>" => {
             replay::<BTreeMap<(u8, bool), Vec<String>>>(alloc, input)
         }
-        _ => ordered(alloc, name, input),
+        "BTreeSet<i16>" => replay::<BTreeSet<i16>>(alloc, input),
+        "IndexSet<u64>" => replay::<IndexSet<u64>>(alloc, input),
+        "IndexMap<String,u8>" => replay::<IndexMap<String, u8>>(alloc, input),
+        "IndexMap<String,u32>" => replay::<IndexMap<String, u32>>(alloc, input),
+        "IndexMap<String,BTreeSet<Option<i8>>>" => {
+            replay::<IndexMap<String, BTreeSet<Option<i8>>>>(alloc, input)
+        }
+        _ => lent::answer(alloc, name, input),
     }
 }
