@@ -11,7 +11,7 @@ use std::process::ExitCode;
 use std::{env, io};
 
 /// The one word after the program's name; None for no word, for more, and for one that isn't text.
-fn wanted(rt: &(impl env::Env + Alloc)) -> io::Result<Option<String>> {
+fn wanted(rt: &HostRuntime) -> io::Result<Option<String>> {
     let mut words = match env::args(rt) {
         Ok(words) => words,
         Err(e) if e.kind() == io::ErrorKind::InvalidData => return Ok(None),
