@@ -23,14 +23,7 @@ module _ {X : Type 0} {g : Ghosts X} where
 
     pub view-is : machine_in tells (view_of s.pager s.held) ≡ raw_in
     view-is =
-        ap (λ shelves. with-work shelves (length (map table_view s.held.tables.items)) (λ v. lookup (nat_eq v) (map (λ (e : _). (e.0, walking_of e.1)) s.held.walks.entries)))
-        (fun_ext (shelves-are s.held.tables.items))
-        ∙ ap (λ last. with-work (shelf_at s.held.tables.items) last (λ v. lookup (nat_eq v) (map (λ (e : _). (e.0, walking_of e.1)) s.held.walks.entries))) (length-map s.held.tables.items table_view)
-        ∙ ap (with-work (shelf_at s.held.tables.items) (length s.held.tables.items)) (fun_ext (λ v. lookup-map_values walking_of (nat_eq v) s.held.walks.entries))
-      where
-        with-work : (ℕ → Shelf) → ℕ → (ℕ → Option Walking) → MachineState N E
-        with-work shelves last walkings =
-            record {
-              pager = state_in tells s.pager;
-              work = record { shelves = shelves; last_table = last; readings = readings_in (kept_at s.held.readings) (core_in tells s.pager); walkings = walkings };
-            }
+        let shelves = fun_ext (shelves-are s.held.tables.items) in
+        let last = length-map s.held.tables.items table_view in
+        let walks = fun_ext (λ v. lookup-map_values walking_of (nat_eq v) s.held.walks.entries) in
+        cc
