@@ -1,5 +1,5 @@
 -- Tables and workers that begin.
-use Rattle.pagable_machine.proofs.Words.{still, nat_tests, common_steps, rules, ◌≡◌, ◌≢◌, ℕ, zero, suc, ◌+◌, ◌≤◌, true, List, [], ◌∷◌, ◌++◌, Option, Some, Ok, inl, inr, refl, sym, ap, subst, ◌∙◌}
+use Rattle.pagable_machine.proofs.Words.{still, nat_tests, common_steps, rules, ◌≡◌, ◌≢◌, ℕ, zero, suc, ◌+◌, true, List, [], ◌∷◌, ◌++◌, Option, Some, Ok, inl, inr, refl, sym, ap, subst, ◌∙◌}
 use Rattle.pagable_machine.proofs.Words.{length, arith, is_some, slice_get, length-append, WorkerNumber, Event, TableNumber, updated, is_owner, Alike, Core, SameShelf, Seen, Happens, IsTable, Starts}
 use Rattle.pagable_machine.proofs.Words.{no_shelf, with_worker, step_of, Moves, PagerState, WellFormed, world_of, same-number, Ghosts, SlotTable, Task, shelf_of, Walk, Holding}
 use Rattle.pagable_machine.proofs.{Words.{IsServing, KeepsOne, Makes, machine_of, readings_in, IsBegun, IsWalkKept, shelf_at}, Keeping.{are-these, as-before, at-one, kept-on, makes, makes-with}}

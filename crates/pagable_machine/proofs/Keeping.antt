@@ -1,7 +1,7 @@
 -- What a machine keeps of loads stays in step with its pager, whatever event happens.
 use Rattle.pagable_machine.proofs.Words.{nat_tests, common_steps, rules, ◌≡◌, ◌≢◌, ℕ, ◌+◌, ◌<◌, ◌≤◌, ◌==◌, Bool, true, false, [], length, Option, Some, None, Ok, Err, ◌⊎◌, inl, inr, if◌then◌else◌}
-use Rattle.pagable_machine.proofs.Words.{refl, sym, ap, subst, ◌∙◌, arith, Result, is_some, option_map, Owner, Beginning, Error, HandleNumber, LoadNumber, Call, Reply, Event, EventReply, if_there}
-use Rattle.pagable_machine.proofs.Words.{updated, is_owner, Alike, Core, Last, OpenLoad, Reading, Walking, of_key, Seen, Values, fresh, step_of, CallStep, Happens, Stays, WorkStays, CallBrings}
+use Rattle.pagable_machine.proofs.Words.{refl, sym, ap, subst, ◌∙◌, arith, is_some, option_map, Owner, Beginning, Error, LoadNumber, Call, Reply, Event, EventReply, if_there}
+use Rattle.pagable_machine.proofs.Words.{updated, is_owner, Alike, Core, Last, OpenLoad, Reading, Walking, of_key, Seen, Values, fresh, step_of, CallStep, Happens, Stays, WorkStays}
 use Rattle.pagable_machine.proofs.Words.{EventBrings, HandlesAreWhole, IsMachineWhole, IsReadingWhole, IsWalkingWhole, Moves, PagerState, ReplyWrites, WellFormed, world_of, same_some, same-number}
 use Rattle.pagable_machine.proofs.Words.{self-number, reading_of, Ghosts, Walk, AllKept, Forgets, Holding, IsKept, IsServing, KeepsOne, Kept, Makes, ReadsFor, machine_of, readings_in, work_of}
 use Rattle.pagable_machine.proofs.{Words.{IsWalkKept, walking_of}, Leaving.{Leaves, call-leaves, like}, Passing.{Passes, event-passes}, Fitting.walk-on}

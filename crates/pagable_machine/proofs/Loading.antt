@@ -8,10 +8,6 @@ use Rattle.pagable_machine.proofs.{Keeping.{are-these, as-before, at-one, kept-o
 use Rattle.pagable_laws.proofs.{Effects.{IsMine, owned-mine}, ReadingSteps.{caller-free, reading-feels}}
 use Rattle.{pagable_world.specs.declared.{events.{EventReply.EventReply, Event.Event}, handles.Owner.Owner}, pagable_loads.specs.{Stepping.IsSameLoad, declared.reading.Reading.Reading as Own}}
 
-fits : (root : Root) (a b : Reading) → b.node_type ≡ a.node_type → FitsRoot root a → FitsRoot root b
-fits (of_cell node t h) a b same fit = same ∙ fit
-fits of_key a b same fit = tt
-
 module _ {X : Type 0} {g : Ghosts X} {N E : Type 0} (s : PagerState N E) (h : Holding g) (l : LoadNumber) (load : OpenLoad) (o : OwnsLoad s.core Owner.Caller l load) where
   at-found : (own : Option Own) → h.readings l.0 ≡ own → reading_at (world_of (machine_of s h)) l ≡ or_else (option_map reading_of own) (reading_of_root l load.root)
   at-found own is = first_of (grind (arith, common_steps, nat_tests), search (rules))
@@ -24,8 +20,7 @@ of_root of_key type is = absurd (cc)
 
 -- the same load reads for the same
 still-reads : {load : OpenLoad} {own now : Own} {count : ℕ} → ReadsFor load own → IsSameLoad own now count → ReadsFor load now
-still-reads {load} {own} {now} reads e =
-    record { owned = reads.owned; key = reads.key ∙ sym e.key; sort = reads.sort ∙ sym e.for_cell; typed = fits load.root (reading_of own) (reading_of now) e.node_type reads.typed }
+still-reads {load} {own} {now} reads e = first_of (grind (arith, nat_tests), search (rules))
 
 module _ {X : Type 0} {g : Ghosts X} {N E : Type 0} (s : PagerState N E) {h : Holding g} (serving : IsServing s.core h) where
   -- what is taken is of the load
@@ -136,16 +131,9 @@ module _ {X : Type 0} {g : Ghosts X} {N B W E : Type 0} (m : Seen N B W) (s s' :
       closes = elim drop.does [ inl r ↦ absurd (let f : None ≡ Some r.e = sym (owner-owns o) ∙ r.why in cc) | inr (other, owned, c) ↦ c ]
 
 -- a load that can't be looked at can't step
-fault-first : (found : Option OpenLoad) (b : Bool) (e : Error)
-    → if_there (λ (load : OpenLoad). refused_if (not (is_owner Owner.Caller load.owner)) Error.NotYours) (Some Error.NoSuchHandle) found ≡ Some e
-    → earlier (if_there (λ (load : OpenLoad). refused_if (not (is_owner Owner.Caller load.owner)) Error.NotYours) (Some Error.NoSuchHandle) found) (refused_if b Error.WrongMode) ≡ Some e
-fault-first None true e is = is
-fault-first None false e is = is
-fault-first (Some load) b e is = first_of (grind (arith, common_steps, nat_tests), search (rules))
-
 pub faulty : {X : Type 0} {g : Ghosts X} {N E : Type 0} (s : PagerState N E) (h : Holding g) (l : LoadNumber) (e : Error) → load_fault s.core Owner.Caller l ≡ Some e
     → step_fault (world_of (machine_of s h)) l ≡ Some e
-faulty s h l e is = fault-first (s.core.loads l.0) (is_none (reading_at (world_of (machine_of s h)) l)) e is
+faulty s h l e is = first_of (grind (arith, common_steps, nat_tests), search (rules))
 
 -- a load's step is refused
 pub refuses-step : {X : Type 0} {g : Ghosts X} {N B W E : Type 0} (m : Seen N B W) (s : PagerState N E) (h : Holding g) {kept' : Kept} → IsServing s.core h → WellFormed m.values s

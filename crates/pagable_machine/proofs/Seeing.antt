@@ -1,7 +1,7 @@
 -- What the machine's value shows of tables and workers is what it keeps of them.
-use Rattle.pagable_machine.proofs.Words.{◌≡◌, ℕ, zero, suc, List, Option, Some, None, refl, ap, ◌∙◌, length, map, slice_get, nat_eq, lookup, fun_ext, length-map, lookup-map_values, slice_get-map}
-use Rattle.pagable_machine.proofs.Words.{option_map, if_there, Shelf, Walking, no_shelf, MachineState, Telling, core_in, state_in, Ghosts, SlotTable, is_same, slot_of, shelf_of, machine_of}
-use Rattle.pagable_machine.proofs.Words.{readings_in, shelf_at, walking_of, Over, claims_at, claims_of, holding, kept_at, machine_in, table_view, view_of}
+use Rattle.pagable_machine.proofs.Words.{◌≡◌, ℕ, zero, suc, List, Option, Some, None, refl, ap, ◌∙◌, map, slice_get, nat_eq, lookup, fun_ext, length-map, lookup-map_values, slice_get-map}
+use Rattle.pagable_machine.proofs.Words.{option_map, if_there, Shelf, no_shelf, MachineState, Telling, state_in, Ghosts, SlotTable, is_same, slot_of, shelf_of, machine_of}
+use Rattle.pagable_machine.proofs.Words.{shelf_at, walking_of, Over, claims_at, claims_of, holding, machine_in, table_view, view_of}
 
 module _ {X : Type 0} {g : Ghosts X} where
   claims-are : (t : SlotTable X g) → claims_of (table_view t) ≡ shelf_of t

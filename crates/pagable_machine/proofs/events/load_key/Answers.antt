@@ -8,7 +8,8 @@ returns-in-Err g c =
 pub returns-in-Some : goal.returns-in-Some
 returns-in-Some g c =
     key-drives (values_at g.E.Node.NodeSet g.E.Env g.E.Hash.KeyHash) _ _ _ _ _ c.requires c.is_whole.ensures _ _ _ _ c.new.result c.in-Some.ensures.some
-    (serves-same c.load_key-begun.ensures.step c.load_key-begun.ensures.only) c.is_whole-2.ensures c.new.ensures.reading c.new.ensures.key c.new.ensures.for_cell (keeps-after c.key_place.ensures.same c.put.ensures)
+    (serves-same c.load_key-begun.ensures.step c.load_key-begun.ensures.only) c.is_whole-2.ensures c.new.ensures.reading c.new.ensures.key c.new.ensures.for_cell
+    (keeps-after c.key_place.ensures.same c.put.ensures)
 
 pub returns-in-None : goal.returns-in-None
 returns-in-None g c =
