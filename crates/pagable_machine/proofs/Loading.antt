@@ -1,7 +1,7 @@
 -- A load's step, and why it is refused.
-use Rattle.pagable_machine.proofs.Words.{owner-owns, still, nat_tests, common_steps, rules, ◌≡◌, ℕ, Bool, true, false, List, [], Option, Some, None, Ok, Err, inl, inr, refl, sym, ap, subst, ◌∙◌}
-use Rattle.pagable_machine.proofs.Words.{arith, Result, is_none, is_some, not, option_map, LoadAnswer, Error, LoadNumber, LoadReply, if_there, or_else, updated, is_owner, Frame, OpenLoad, Reading}
-use Rattle.pagable_machine.proofs.Words.{Root, of_cell, of_key, Seen, one_more, OwnsLoad, earlier, load_fault, refused_if, DropCall, LoadCloses, gone_on, fresh, reading_after, reading_at}
+use Rattle.pagable_machine.proofs.Words.{owner-owns, still, nat_tests, common_steps, rules, ◌≡◌, ℕ, true, List, [], Option, Some, None, Ok, Err, inl, inr, refl, sym, ap, subst, ◌∙◌}
+use Rattle.pagable_machine.proofs.Words.{arith, Result, is_some, option_map, LoadAnswer, Error, LoadNumber, LoadReply, or_else, updated, Frame, OpenLoad, Reading}
+use Rattle.pagable_machine.proofs.Words.{Root, of_cell, of_key, Seen, one_more, OwnsLoad, load_fault, DropCall, LoadCloses, gone_on, fresh, reading_after, reading_at}
 use Rattle.pagable_machine.proofs.Words.{reading_of_root, step_fault, FitsRoot, Moves, PagerState, WellFormed, world_of, ReadingStep, same_some, IsLoadOf, is_cell, reading_of, type_of_root, Ghosts}
 use Rattle.pagable_machine.proofs.{Words.{Holding, IsKept, IsServing, IsTaken, KeepsOne, Kept, Makes, ReadsFor, Stepped, machine_of, readings_in, rest_after}, Keeping.KeepsAll}
 use Rattle.pagable_machine.proofs.{Keeping.{are-these, as-before, at-one, kept-on, one-or-old, quiet, refuses, same-work, stays}, Leaving.leaves-so}
