@@ -1,5 +1,5 @@
 -- Tables and workers that begin.
-use Rattle.pagable_machine.proofs.Words.{still, nat_tests, common_steps, rules, ◌≡◌, ◌≢◌, ℕ, zero, suc, ◌+◌, ◌≤◌, true, List, [], ◌∷◌, ◌++◌, Option, Some, Ok, inl, inr, refl, sym, ap, subst, ◌∙◌}
+use Rattle.pagable_machine.proofs.Words.{still, nat_tests, common_steps, rules, ◌≡◌, ◌≢◌, ℕ, zero, suc, ◌+◌, true, List, [], ◌∷◌, ◌++◌, Option, Some, Ok, inl, inr, refl, sym, ap, subst, ◌∙◌}
 use Rattle.pagable_machine.proofs.Words.{length, arith, is_some, slice_get, length-append, WorkerNumber, Event, TableNumber, updated, is_owner, Alike, Core, SameShelf, Seen, Happens, IsTable, Starts}
 use Rattle.pagable_machine.proofs.Words.{no_shelf, with_worker, step_of, Moves, PagerState, WellFormed, world_of, same-number, Ghosts, SlotTable, Task, shelf_of, Walk, Holding}
 use Rattle.pagable_machine.proofs.{Words.{IsServing, KeepsOne, Makes, machine_of, readings_in, IsBegun, IsWalkKept, shelf_at}, Keeping.{are-these, as-before, at-one, kept-on, makes, makes-with}}
@@ -81,11 +81,8 @@ module _ {X : Type 0} {g : Ghosts X} {N B W E : Type 0} (m : Seen N B W) (s s' :
   worker-made event none happens moves =
       makes-with m s s' {h' = with_walk} formed event (EventReply.WorkerMade (Ok n)) happens
       (record { each = λ q x is. elim (moves.each q x is) [ inl there ↦ inl there | inr came ↦ absurd came.1 ]; environment = moves.environment }) tt
-      (one-serves {h' = with_walk} serving was.whole.handles n.0 k keeps (le-self _) (kept-on serving.readings on (λ l own is. inl is)) (λ q other. passes q) at-work new-walk)
+      (one-serves {h' = with_walk} serving was.whole.handles n.0 k keeps (omega arith) (kept-on serving.readings on (λ l own is. inl is)) (λ q other. passes q) at-work new-walk)
     where
-      le-self : (a : ℕ) → a ≤ a
-      le-self a = omega arith
-
       passes : (v : ℕ) → Passes v s.core s'.core
       passes v = event-passes m v (world_of (machine_of s h)) (world_of (machine_of s' with_walk)) was.whole event (EventReply.WorkerMade (Ok n)) (none v) happens
           (λ l load is own. on.others l load is (was.whole.loads.numbered l (ap is_some is)).1 (ap (is_owner Owner.Caller) own))

@@ -1,7 +1,7 @@
 -- Each event of tables and workers, by what the pager and what is kept say of it.
-use Rattle.pagable_machine.proofs.Words.{Result, IfOk, IfErr, OnErr, still, ◌≡◌, ℕ, ◌+◌, ◌<◌, ◌≤◌, Bool, true, false, List, [], ◌∷◌, ◌++◌, Option, Some, None, Ok, Err, ◌⊎◌, inl, inr, refl, sym, subst}
+use Rattle.pagable_machine.proofs.Words.{Result, IfOk, IfErr, OnErr, still, ◌≡◌, ℕ, ◌+◌, ◌<◌, ◌≤◌, true, false, List, [], ◌∷◌, ◌++◌, Option, Some, None, Ok, Err, ◌⊎◌, inl, inr, refl, sym, subst}
 use Rattle.pagable_machine.proofs.Words.{◌∙◌, length, arith, is_none, is_some, option_map, Global, Arc, Vec, nat_tests, SerializedData, Error, ArcRef, HandleNumber, WorkerNumber, TableNumber}
-use Rattle.pagable_machine.proofs.Words.{WorkerAnswer, WorkerReply, HandleRow, Blob, if_there, HasNoKinds, identity_of, Alike, SameShelf, Seen, Values, Walking, Written, of_entry, of_item, Called}
+use Rattle.pagable_machine.proofs.Words.{WorkerReply, HandleRow, Blob, if_there, HasNoKinds, identity_of, Alike, SameShelf, Seen, Values, Walking, Written, of_entry, of_item, Called}
 use Rattle.pagable_machine.proofs.Words.{WorkerStarts, IsEntry, IsNoTable, IsTable, entry_task, no_shelf, with_entry_taken, PagerState, WellFormed, world_of, RefusesEntry, StartsEntry, PagerView}
 use Rattle.pagable_machine.proofs.Words.{Telling, state_in, Ghosts, SlotTable, written_of, shelf_of, plain, Held, Walk, Holding, KeepsOne, Makes, machine_of, IsBegun, WalksOn, has_task, is_table}
 use Rattle.pagable_machine.proofs.{Words.{walking_of, Answer, ByNumber, Drives, Given, IsInStep, holding, kept_at, over}, Keeping.{KeepsAll, refuses, stays}, Happening.keeps-after}
@@ -14,6 +14,9 @@ there-is t tables is = (grind (arith, nat_tests), grind (arith, nat_tests))
 
 none-is : {X : Type 0} {g : Ghosts X} (t : ℕ) (tables : List (SlotTable X g)) → is_table t tables ≡ false → (t ≡ 0) ⊎ (length tables < t)
 none-is t tables is = grind (arith, nat_tests)
+
+answered : {X : Type 0} {g : Ghosts X} (k : Walk X g) → is_some k.task ≡ is_none k.answer → is_some k.task ≡ false → is_some k.answer ≡ true
+answered k either none = grind (arith, nat_tests)
 
 pub nothing-done : {N E : Type 0} {v : Values N} (s : PagerState N E) → WellFormed v s → Called v (λ w'. Alike s.core w') s s
 nothing-done s was = record { step = still s.core; moves = record { each = λ n x is. inl is; environment = refl }; whole = was }
@@ -108,18 +111,6 @@ module _ {X : Type 0} {g : Ghosts X} {N S E : Type 0} (v : E → Values N) (tell
     ])
 
     module _ (n : WorkerNumber) (k : Walk X g) (there : is_table t.0 held.tables.items ≡ true) (keeps : KeepsOne (kept_at held.walks) n.0 (Some k) (kept_at walks')) where
-      pub item-started : (item : SerializedData) → WorkerStarts (v old.environment) s.core s n.0 s' → IsBegun t (of_item (written_of item)) k
-          → Happens (Event.WorkerItem t item) (EventReply.WorkerMade (Ok n)) new left
-      item-started item starts begun =
-          let formed = starts.begins.whole in
-          let on = item-leaves starts.begins.step in
-          let table = there-is t.0 held.tables.items there in
-          let task = of_item (written_of item) in
-          record {
-            makes = worker-made m s s' h serving was formed on t task n k table starts.next begun keeps (Event.WorkerItem t (written_of item)) (λ q. refl)
-                (record { starts = starts-so m s s' h serving was formed on t task n k table starts.next begun keeps s.core starts.begins.step; refused = tt }) starts.begins.moves;
-          }
-
       pub listed-started : (i : ℕ) (r : ArcRef) → StartsEntry (v old.environment) s i n r s' → IsBegun t (of_entry r.handle (identity_of r)) k
           → Happens (Event.WorkerListed t i) (EventReply.WorkerMade (Ok n)) new left
       listed-started i r entry begun =
@@ -149,8 +140,17 @@ module _ {X : Type 0} {g : Ghosts X} {N S E : Type 0} (v : E → Values N) (tell
         → is_table t.0 held.tables.items ≡ true → IsBegun t (of_item (written_of item)) k → IfOk r (λ n. WorkerStarts (v old.environment) s.core s n.0 s')
         → IfErr r (λ e. (e ≡ Error.OutOfMemory) × Called (v old.environment) (λ w'. Alike s.core w') s s') → IfOk r (λ n. KeepsOne (kept_at mid) n.0 (Some k) (kept_at walks'))
         → OnErr r ((q : ℕ) → kept_at walks' q ≡ kept_at mid q) → Happens (Event.WorkerItem t item) (EventReply.WorkerMade r) new left
-    item-begun mid as_was item k (Ok n) there begun starts refused keeps stays = item-started n k there (keeps-after as_was keeps) item starts begun
-    item-begun mid as_was item k (Err e) there begun starts refused keeps stays = item-refused e refused.1 (λ q. stays q ∙ as_was q) item (inr (refused.0, there))
+    item-begun mid as_was item k (Ok n) there begun starts refused keeps _ =
+        let formed = starts.begins.whole in
+        let on = item-leaves starts.begins.step in
+        let table = there-is t.0 held.tables.items there in
+        let task = of_item (written_of item) in
+        let own = keeps-after as_was keeps in
+        record {
+          makes = worker-made m s s' h serving was formed on t task n k table starts.next begun own (Event.WorkerItem t (written_of item)) (λ q. refl)
+              (record { starts = starts-so m s s' h serving was formed on t task n k table starts.next begun own s.core starts.begins.step; refused = tt }) starts.begins.moves;
+        }
+    item-begun mid as_was item k (Err e) there begun starts refused keeps same = item-refused e refused.1 (λ q. same q ∙ as_was q) item (inr (refused.0, there))
 
   -- ---- a worker's step
 
@@ -163,16 +163,9 @@ module _ {X : Type 0} {g : Ghosts X} {N S E : Type 0} (v : E → Values N) (tell
             (record { each = λ q x is. inl is; environment = refl }) tt;
       }
     where
-      answered : (task answer : Bool) → task ≡ false → task ≡ answer → answer ≡ false
-      answered task answer none same = sym same ∙ none
-
-      some-answer : (found : Option WorkerAnswer) → is_none found ≡ false → is_some found ≡ true
-      some-answer None is = absurd (cc)
-      some-answer (Some answer) is = refl
-
       by : (found : Option (Walk X g)) → kept_at held.walks n.0 ≡ found → has_task found ≡ false → if_there (λ (walking : Walking). is_some walking.answer) true (option_map walking_of found) ≡ true
       by None is none = refl
-      by (Some k) is none = some-answer k.answer (answered _ _ none (serving.walks n.0 k is).either)
+      by (Some k) is none = answered k (serving.walks n.0 k is).either none
 
   pub step-drives : (n : WorkerNumber) (k k' : Walk X g) (reply : WorkerReply (Arc SerializedData Global)) (tables' : Vec (SlotTable X g) Global) (walks' : ByNumber (Walk X g))
       → kept_at held.walks n.0 ≡ Some k

@@ -1,13 +1,13 @@
 -- Each event of the machine, by what the pager and what is kept of loads say of it.
-use Rattle.pagable_machine.proofs.Words.{Does, CallBrings, OnlyLess, core_in, plain_call, plain_reply, arith, nat_tests, common_steps, rules, ◌≡◌, ℕ, true, false, Option, Some, None, Ok, Err, ◌⊎◌}
+use Rattle.pagable_machine.proofs.Words.{Does, CallBrings, OnlyLess, core_in, plain_call, plain_reply, arith, nat_tests, ◌≡◌, ℕ, true, false, Option, Some, None, Ok, Err, ◌⊎◌}
 use Rattle.pagable_machine.proofs.Words.{inl, inr, refl, sym, ap, subst, ◌∙◌, Result, is_some, Arc, Global, PagableData, Error, HandleNumber, LoadNumber, Beginning, Call, Reply, LoadReply, Blob, Core}
-use Rattle.pagable_machine.proofs.Words.{Seen, Values, Written, load_fault, DropCall, fresh, Moves, PagerState, WellFormed, same-number, same_some, reading_of, PagerView, Telling, state_in, ReadsAs}
+use Rattle.pagable_machine.proofs.Words.{Seen, Values, Written, load_fault, DropCall, fresh, Moves, PagerState, WellFormed, same_some, reading_of, PagerView, Telling, state_in, ReadsAs}
 use Rattle.pagable_machine.proofs.Words.{Ghosts, plain, Held, Serves, BeginsNoKey, Forgets, Holding, IsPrepared, IsTaken, KeepsOne, Kept, Makes, KeptStep, rest_after, Answer, Drives, Given}
 use Rattle.pagable_machine.proofs.{Words.{IsInStep, Readings, holding, kept_at, over}, Keeping.{by-call, key-refused, key-starts, same-work}, Loading.{faulty, never-typed, no-place, own-steps}}
 use Rattle.{pagable_machine.proofs.Loading.refuses-step, pagable_world.specs.declared.{handles.Owner.Owner, events.{LoadAnswer.LoadAnswer, EventReply.EventReply, Event.Event}}}
-use Rattle.pagable_loads.specs.declared.reading.Reading.{Reading as Own}
+use Rattle.{pagable_loads.specs.declared.reading.Reading.Reading as Own, pagable_pager.specs.View.{OnlyTables, value_in}}
 
--- a call by which values come, and one by which they only go
+-- a call by which values come, one by which they only go, and one by which they stay
 module _ {N S E : Type 0} {v : Values N} {tells : Telling S} {old new : PagerView N S E} {call : Call N PagableData} {r : Reply N (Arc PagableData Global)}
     (does : Does (plain v) (core_in tells old) Owner.Caller (plain_call call) (plain_reply r) (core_in tells new)) where
   pub serves : Moves (CallBrings (core_in tells old) (plain_call call)) (state_in tells old) (state_in tells new) → Serves v tells old call r new
@@ -15,6 +15,9 @@ module _ {N S E : Type 0} {v : Values N} {tells : Telling S} {old new : PagerVie
 
   pub serves-less : OnlyLess old new → Serves v tells old call r new
   serves-less only = serves (record { each = λ n x is. inl (only.values n x is); environment = only.environment })
+
+  pub serves-same : OnlyTables old new → Serves v tells old call r new
+  serves-same only = serves (record { each = λ n x is. inl (subst (λ values. value_in values n ≡ Some x) only.values is); environment = only.environment })
 
 -- nothing is forgotten where all stays
 pub forgets-none : (w : Core) {kept kept' : Kept} → ((q : ℕ) → kept' q ≡ kept q) → Forgets w kept kept'
@@ -35,11 +38,9 @@ is-prepared {kept} l key t some = by (kept l.0) refl some
 pub begins-prepared : {kept kept' : Kept} (l : LoadNumber) (key : ℕ) (t : Option ℕ) (type : ℕ) (own : Own) → is_some (kept l.0) ≡ false → t ≡ Some type → reading_of own ≡ fresh l type → own.key ≡ key
     → own.for_cell ≡ true → KeepsOne kept l.0 (Some own) kept'
     → IsPrepared kept l key t kept'
-begins-prepared {kept} l key t type own none typed is key_is sort keeps = record { own = own; taken = record { why = inr (unkept (kept l.0) none, (type, typed, is), key_is, sort) }; keeps = keeps }
-  where
-    unkept : (found : Option Own) → is_some found ≡ false → found ≡ None
-    unkept None e = refl
-    unkept (Some x) e = absurd (cc)
+begins-prepared {kept} l key t type own none typed is key_is sort keeps =
+    let unkept : kept l.0 ≡ None = grind (arith, nat_tests) in
+    record { own = own; taken = record { why = inr (unkept, (type, typed, is), key_is, sort) }; keeps = keeps }
 
 module _ {X : Type 0} {g : Ghosts X} {N S E : Type 0} (v : E → Values N) (tells : Telling S) (old new : PagerView N S E) (held : Held X g) (kept' : Readings) (serving : IsInStep tells (over old held))
     (was : WellFormed (v old.environment) (state_in tells old)) where

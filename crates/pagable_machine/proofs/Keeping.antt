@@ -1,7 +1,7 @@
 -- What a machine keeps of loads stays in step with its pager, whatever event happens.
 use Rattle.pagable_machine.proofs.Words.{nat_tests, common_steps, rules, ◌≡◌, ◌≢◌, ℕ, ◌+◌, ◌<◌, ◌≤◌, ◌==◌, Bool, true, false, [], length, Option, Some, None, Ok, Err, ◌⊎◌, inl, inr, if◌then◌else◌}
-use Rattle.pagable_machine.proofs.Words.{refl, sym, ap, subst, ◌∙◌, arith, Result, is_some, option_map, Owner, Beginning, Error, HandleNumber, LoadNumber, Call, Reply, Event, EventReply, if_there}
-use Rattle.pagable_machine.proofs.Words.{updated, is_owner, Alike, Core, Last, OpenLoad, Reading, Walking, of_key, Seen, Values, fresh, step_of, CallStep, Happens, Stays, WorkStays, CallBrings}
+use Rattle.pagable_machine.proofs.Words.{refl, sym, ap, subst, ◌∙◌, arith, is_some, option_map, Owner, Beginning, Error, LoadNumber, Call, Reply, Event, EventReply, if_there}
+use Rattle.pagable_machine.proofs.Words.{updated, is_owner, Alike, Core, Last, OpenLoad, Reading, Walking, of_key, Seen, Values, fresh, step_of, CallStep, Happens, Stays, WorkStays}
 use Rattle.pagable_machine.proofs.Words.{EventBrings, HandlesAreWhole, IsMachineWhole, IsReadingWhole, IsWalkingWhole, Moves, PagerState, ReplyWrites, WellFormed, world_of, same_some, same-number}
 use Rattle.pagable_machine.proofs.Words.{self-number, reading_of, Ghosts, Walk, AllKept, Forgets, Holding, IsKept, IsServing, KeepsOne, Kept, Makes, ReadsFor, machine_of, readings_in, work_of}
 use Rattle.pagable_machine.proofs.{Words.{IsWalkKept, walking_of}, Leaving.{Leaves, call-leaves, like}, Passing.{Passes, event-passes}, Fitting.walk-on}
@@ -63,7 +63,7 @@ machine-whole {X} {g} v s h formed serving =
       pager = formed;
       readings = λ l reading is. of l reading (s.core.loads l) refl (h.readings l) refl is;
       walkings = λ n walking is. of-walk n walking (h.walks n) refl is;
-      all_there = λ n is. there (h.walks n) (serving.all_there n is);
+      all_there = λ n is. let there = serving.all_there n is in grind (arith, nat_tests);
     }
   where
     of : (l : ℕ) (reading : Reading) (found : Option OpenLoad) → s.core.loads l ≡ found → (own : Option Own) → h.readings l ≡ own
@@ -80,10 +80,6 @@ machine-whole {X} {g} v s h formed serving =
     of-walk n walking (Some k) e is =
         let kept = serving.walks n k e in
         subst (λ x. IsWalkingWhole s.core (work_of h s.core) n x) (same_some _ _ is) (record { table = kept.table; at_work = kept.at_work })
-
-    there : (found : Option (Walk X g)) → is_some found ≡ true → is_some (option_map walking_of found) ≡ true
-    there None is = absurd (cc)
-    there (Some k) is = refl
 
 -- ---- events
 
@@ -133,9 +129,6 @@ module _ {X : Type 0} {g : Ghosts X} {N B W E : Type 0} (m : Seen N B W) (s s' :
       passes v = event-passes m v (world_of (machine_of s h)) (world_of (machine_of s' h')) was.whole event reply (none v) happens
           (λ l load is own. on.others l load is (was.whole.loads.numbered l (ap is_some is)).1 (ap (is_owner Owner.Caller) own))
 
-le-self : (n : ℕ) → n ≤ n
-le-self n = omega arith
-
 -- ---- calls and loads
 
 module _ {X : Type 0} {g : Ghosts X} {N B W E : Type 0} (m : Seen N B W) (s s' : PagerState N E) (h : Holding g) (kept' : Kept) (serving : IsServing s.core h) (was : WellFormed m.values s)
@@ -149,7 +142,7 @@ module _ {X : Type 0} {g : Ghosts X} {N B W E : Type 0} (m : Seen N B W) (s s' :
   pub quiet : Leaves Owner.Caller s.core.workers s.core s'.core → (event : Event N B W) (reply : EventReply N B W) → ((v : ℕ) → step_of v event reply ≡ [])
       → Happens m (world_of (machine_of s h)) event reply (world_of (machine_of s' after)) → Moves (EventBrings m.values (world_of (machine_of s h)) event) s s' → ReplyWrites m s reply
       → AllKept s'.core kept' → Makes m s h event reply s' after
-  quiet on = makes m s s' {h' = after} serving was formed (le-self _) (λ v. refl) on
+  quiet on = makes m s s' {h' = after} serving was formed (omega arith) (λ v. refl) on
 
   -- what a call does, of which no more is kept than there was
   pub by-call : (call : Call N B) (answer : Reply N B) → CallStep m s.core Owner.Caller call answer s'.core → Forgets s'.core h.readings kept' → (event : Event N B W) (reply : EventReply N B W)

@@ -1,38 +1,26 @@
 -- A load's step, and why it is refused.
-use Rattle.pagable_machine.proofs.Words.{owner-owns, still, nat_tests, common_steps, rules, ◌≡◌, ℕ, Bool, true, false, List, [], Option, Some, None, Ok, Err, inl, inr, refl, sym, ap, subst, ◌∙◌}
-use Rattle.pagable_machine.proofs.Words.{arith, Result, is_none, is_some, not, option_map, LoadAnswer, Error, LoadNumber, LoadReply, if_there, or_else, updated, is_owner, Frame, OpenLoad, Reading}
-use Rattle.pagable_machine.proofs.Words.{Root, of_cell, of_key, Seen, one_more, OwnsLoad, earlier, load_fault, refused_if, DropCall, LoadCloses, gone_on, fresh, reading_after, reading_at}
+use Rattle.pagable_machine.proofs.Words.{owner-owns, still, nat_tests, common_steps, rules, ◌≡◌, ℕ, true, List, [], Option, Some, None, Ok, Err, inl, inr, refl, sym, ap, subst, ◌∙◌}
+use Rattle.pagable_machine.proofs.Words.{arith, Result, is_some, option_map, LoadAnswer, Error, LoadNumber, LoadReply, or_else, updated, Frame, OpenLoad, Reading}
+use Rattle.pagable_machine.proofs.Words.{Root, of_cell, of_key, Seen, one_more, OwnsLoad, load_fault, DropCall, LoadCloses, gone_on, fresh, reading_after, reading_at}
 use Rattle.pagable_machine.proofs.Words.{reading_of_root, step_fault, FitsRoot, Moves, PagerState, WellFormed, world_of, ReadingStep, same_some, IsLoadOf, is_cell, reading_of, type_of_root, Ghosts}
 use Rattle.pagable_machine.proofs.{Words.{Holding, IsKept, IsServing, IsTaken, KeepsOne, Kept, Makes, ReadsFor, Stepped, machine_of, readings_in, rest_after}, Keeping.KeepsAll}
 use Rattle.pagable_machine.proofs.{Keeping.{are-these, as-before, at-one, kept-on, one-or-old, quiet, refuses, same-work, stays}, Leaving.leaves-so}
 use Rattle.pagable_laws.proofs.{Effects.{IsMine, owned-mine}, ReadingSteps.{caller-free, reading-feels}}
 use Rattle.{pagable_world.specs.declared.{events.{EventReply.EventReply, Event.Event}, handles.Owner.Owner}, pagable_loads.specs.{Stepping.IsSameLoad, declared.reading.Reading.Reading as Own}}
 
-fits : (root : Root) (a b : Reading) → b.node_type ≡ a.node_type → FitsRoot root a → FitsRoot root b
-fits (of_cell node t h) a b same fit = same ∙ fit
-fits of_key a b same fit = tt
-
 module _ {X : Type 0} {g : Ghosts X} {N E : Type 0} (s : PagerState N E) (h : Holding g) (l : LoadNumber) (load : OpenLoad) (o : OwnsLoad s.core Owner.Caller l load) where
   at-found : (own : Option Own) → h.readings l.0 ≡ own → reading_at (world_of (machine_of s h)) l ≡ or_else (option_map reading_of own) (reading_of_root l load.root)
   at-found own is = first_of (grind (arith, common_steps, nat_tests), search (rules))
 
-  -- a load that is kept
-  pub at-kept : (own : Own) → h.readings l.0 ≡ Some own → reading_at (world_of (machine_of s h)) l ≡ Some (reading_of own)
-  at-kept own is = at-found (Some own) is
-
-  -- one of a cell that hasn't made a step
-  pub at-first : (own : Own) (t : ℕ) → h.readings l.0 ≡ None → reading_of_root l load.root ≡ Some (fresh l t) → reading_of own ≡ fresh l t
-      → reading_at (world_of (machine_of s h)) l ≡ Some (reading_of own)
-  at-first own t none root is = at-found None none ∙ root ∙ ap Some (sym is)
-
-  -- one of a key that a call began
-  pub never : h.readings l.0 ≡ None → reading_of_root l load.root ≡ None → step_fault (world_of (machine_of s h)) l ≡ Some Error.WrongMode
-  never none root = first_of (grind (arith, common_steps, nat_tests), grind (arith, nat_tests, at-found), search (rules, at-found))
+-- what a load of a cell reads
+of_root : (root : Root) (type : ℕ) → type_of_root root ≡ Some type
+    → (is_cell root ≡ true) × ((r : Reading) → r.node_type ≡ type → FitsRoot root r) × ((l : LoadNumber) → reading_of_root l root ≡ Some (fresh l type))
+of_root (of_cell node t h) type is = let e : t ≡ type = same_some _ _ is in (refl, (λ r typed. typed ∙ sym e), λ l. ap (λ n. Some (fresh l n)) e)
+of_root of_key type is = absurd (cc)
 
 -- the same load reads for the same
 still-reads : {load : OpenLoad} {own now : Own} {count : ℕ} → ReadsFor load own → IsSameLoad own now count → ReadsFor load now
-still-reads {load} {own} {now} reads e =
-    record { owned = reads.owned; key = reads.key ∙ sym e.key; sort = reads.sort ∙ sym e.for_cell; typed = fits load.root (reading_of own) (reading_of now) e.node_type reads.typed }
+still-reads {load} {own} {now} reads e = first_of (grind (arith, nat_tests), search (rules))
 
 module _ {X : Type 0} {g : Ghosts X} {N E : Type 0} (s : PagerState N E) {h : Holding g} (serving : IsServing s.core h) where
   -- what is taken is of the load
@@ -40,19 +28,14 @@ module _ {X : Type 0} {g : Ghosts X} {N E : Type 0} (s : PagerState N E) {h : Ho
       → IsTaken h.readings l key t own
       → (own.load ≡ l) × ReadsFor load own × (reading_at (world_of (machine_of s h)) l ≡ Some (reading_of own))
   reads-taken l load key t own o key_is root taken = elim taken.why [
-    | inl there ↦ let k = serving.readings l.0 own there in (ap (λ n. record { 0 = n }) k.number, k.reads load o.stands_open, at-kept s h l load o own there)
+    | inl there ↦ let k = serving.readings l.0 own there in (ap (λ n. record { 0 = n }) k.number, k.reads load o.stands_open, at-found s h l load o (Some own) there)
     | inr (none, (type, typed, is), keyed, sort) ↦
         let read = of_root load.root type (root ∙ typed) in (
           ap (λ (r : Reading). r.load) is,
           record { owned = o.own; key = key_is ∙ sym keyed; sort = read.0 ∙ sym sort; typed = read.1 (reading_of own) (ap (λ (r : Reading). r.node_type) is) },
-          at-first s h l load o own type none (read.2 l) is,
+          at-found s h l load o None none ∙ read.2 l ∙ ap Some (sym is),
         )
   ]
-    where
-      of_root : (root : Root) (type : ℕ) → type_of_root root ≡ Some type
-          → (is_cell root ≡ true) × ((r : Reading) → r.node_type ≡ type → FitsRoot root r) × ((l : LoadNumber) → reading_of_root l root ≡ Some (fresh l type))
-      of_root (of_cell node t h) type is = let e : t ≡ type = same_some _ _ is in (refl, (λ r typed. typed ∙ sym e), λ l. ap (λ n. Some (fresh l n)) e)
-      of_root of_key type is = absurd (cc)
 
 -- a load of a key that a call began
 pub never-typed : {X : Type 0} {g : Ghosts X} {N E : Type 0} (s : PagerState N E) (h : Holding g) (l : LoadNumber) (load : OpenLoad) → OwnsLoad s.core Owner.Caller l load → h.readings l.0 ≡ None
@@ -120,16 +103,10 @@ module _ {X : Type 0} {g : Ghosts X} {N B W E : Type 0} (m : Seen N B W) (s s' :
       let e = only reply.ended now is in
       (ap (λ (x : Own). x.load) (sym e) ∙ stepped.same.load ∙ r.0, subst (λ x. ReadsFor load x) e (still-reads r.1 stepped.same)))
     where
-      F : List Frame
-      F = (reading_of new).frames
+      goes : reading_of new ≡ gone_on (reading_of own) (reading_of new).frames
+      goes = rw (stepped.same.load, stepped.same.node_type, stepped.same.steps) refl
 
-      goes : reading_of new ≡ gone_on (reading_of own) F
-      goes =
-          ap (λ (n : LoadNumber). let x : Reading = record { load = n; node_type = new.node_type; frames = F; steps = new.steps } in x) stepped.same.load
-          ∙ ap (λ (n : ℕ). let x : Reading = record { load = own.load; node_type = n; frames = F; steps = new.steps } in x) stepped.same.node_type
-          ∙ ap (λ (n : ℕ). let x : Reading = record { load = own.load; node_type = own.node_type; frames = F; steps = n } in x) stepped.same.steps
-
-      goes-on : (ended : Option (LoadAnswer N)) → option_map reading_of (rest_after ended (Some new)) ≡ reading_after ended (reading_of own) F
+      goes-on : (ended : Option (LoadAnswer N)) → option_map reading_of (rest_after ended (Some new)) ≡ reading_after ended (reading_of own) (reading_of new).frames
       goes-on None = ap Some goes
       goes-on (Some answer) = refl
 
@@ -143,31 +120,20 @@ module _ {X : Type 0} {g : Ghosts X} {N B W E : Type 0} (m : Seen N B W) (s s' :
       → Moves (λ n x. ⊥) s s' → WellFormed m.values s' → ((q : ℕ) → kept' q ≡ h.readings q)
       → Makes m s h (Event.LoadStep l) (EventReply.LoadMoved (Ok (record { ended = Some (LoadAnswer.Refused Error.OutOfMemory); steps = 1 }))) s' left
   no-place l load type told o root none drop moves formed as_was =
-      steps l load (fresh l type) None (record { ended = Some (LoadAnswer.Refused Error.OutOfMemory); steps = 1 }) [] o (at-found s h l load o None none ∙ root-is load.root root)
+      steps l load (fresh l type) None (record { ended = Some (LoadAnswer.Refused Error.OutOfMemory); steps = 1 }) [] o (at-found s h l load o None none ∙ (of_root load.root type root).2 l)
       (record {
         does = record { does = (inl (record { mid = s.core; meets = inl (inr (inr refl), still s.core); told = told; closes = closes }), refl) };
         moves = record { each = λ n x is. elim (moves.each n x is) [ inl there ↦ inl there | inr came ↦ absurd came.1 ]; environment = moves.environment };
         whole = formed;
       }) refl (owned-mine o) (record { here = as_was l.0 ∙ none; others = λ q other. as_was q }) refl (λ now is. absurd (cc))
     where
-      root-is : (root : Root) → type_of_root root ≡ Some type → reading_of_root l root ≡ Some (fresh l type)
-      root-is (of_cell node t h) is = ap (λ n. Some (fresh l n)) (same_some _ _ is)
-      root-is of_key is = absurd (cc)
-
       closes : LoadCloses s.core l told s'.core
       closes = elim drop.does [ inl r ↦ absurd (let f : None ≡ Some r.e = sym (owner-owns o) ∙ r.why in cc) | inr (other, owned, c) ↦ c ]
 
 -- a load that can't be looked at can't step
-fault-first : (found : Option OpenLoad) (b : Bool) (e : Error)
-    → if_there (λ (load : OpenLoad). refused_if (not (is_owner Owner.Caller load.owner)) Error.NotYours) (Some Error.NoSuchHandle) found ≡ Some e
-    → earlier (if_there (λ (load : OpenLoad). refused_if (not (is_owner Owner.Caller load.owner)) Error.NotYours) (Some Error.NoSuchHandle) found) (refused_if b Error.WrongMode) ≡ Some e
-fault-first None true e is = is
-fault-first None false e is = is
-fault-first (Some load) b e is = first_of (grind (arith, common_steps, nat_tests), search (rules))
-
 pub faulty : {X : Type 0} {g : Ghosts X} {N E : Type 0} (s : PagerState N E) (h : Holding g) (l : LoadNumber) (e : Error) → load_fault s.core Owner.Caller l ≡ Some e
     → step_fault (world_of (machine_of s h)) l ≡ Some e
-faulty s h l e is = fault-first (s.core.loads l.0) (is_none (reading_at (world_of (machine_of s h)) l)) e is
+faulty s h l e is = first_of (grind (arith, common_steps, nat_tests), search (rules))
 
 -- a load's step is refused
 pub refuses-step : {X : Type 0} {g : Ghosts X} {N B W E : Type 0} (m : Seen N B W) (s : PagerState N E) (h : Holding g) {kept' : Kept} → IsServing s.core h → WellFormed m.values s

@@ -1,7 +1,7 @@
 -- A run goes on by one event more, and the headline holds of it after whatever came before.
 use Rattle.pagable_machine.proofs.Words.{◌≡◌, List, [], ◌∷◌, ◌++◌, length, map, refl, ap, sym, ◌∙◌, subst, append-nil, append_assoc, map-append, Event, EventReply, Seen, MachineState, Moment}
 use Rattle.pagable_machine.proofs.Words.{AreMoments, HasRun, state_after, headline_law, Telling, Spelling, values_of, Ghosts, plain, plain_answer, plain_event, Answer, Drives, Given, IsInStep}
-use Rattle.{pagable_machine.proofs.{Words.{MachineView, Over, Runs, machine_in, view_of}, Seeing.{raw_in, view-is}}, pagable_world.specs.Runs.Does}
+use Rattle.{pagable_machine.proofs.{Words.{MachineView, Over, Runs, machine_in, view_of}, Seeing.{raw_in, view-is}}, pagable_world.specs.Runs.Does, std.proofs.lemmas.List.nil_from_length}
 
 module _ {N E B W : Type 0} (m : Seen N B W) where
   joins : (s : MachineState N E) (xs ys : List (Moment N E B W)) → AreMoments m s xs → AreMoments m (state_after s xs) ys → AreMoments m s (xs ++ ys)
@@ -36,11 +36,6 @@ module _ {N E B W : Type 0} (m : Seen N B W) where
         ends = after-join old run.moments (x ∷ []) ∙ last-is (state_after old run.moments) x;
         chain = joins old run.moments (x ∷ []) run.chain (subst (λ s. Does m s event reply new) (sym run.ends) does, tt);
       }
-
--- a list of length 0 is empty
-nothing-left : {X : Type 0} (xs : List X) → length xs ≡ 0 → xs ≡ []
-nothing-left [] e = refl
-nothing-left (x ∷ xs) e = absurd (cc)
 
 module _ {N S E X : Type 0} {t : Ghosts X} (tells : Telling S) (g : Spelling N E) (old : MachineView N S E) where
   -- the events so far have happened, and the others are left
@@ -77,7 +72,7 @@ module _ {N S E X : Type 0} {t : Ghosts X} (tells : Telling S) (g : Spelling N E
   pub all-ran : (all rest : List (Given N)) (replies : List (Answer N)) (new : Over N S E t)
       → length rest ≡ 0 → SoFar all rest replies new → Runs (values_of g old.pager.environment) tells old all replies (view_of new.pager new.held)
   all-ran all rest replies new none so =
-      let is : so.done ≡ all = sym (append-nil so.done) ∙ ap (λ xs. so.done ++ xs) (sym (nothing-left rest none)) ∙ so.left in
+      let is : so.done ≡ all = sym (append-nil so.done) ∙ ap (λ xs. so.done ++ xs) (sym (nil_from_length rest none)) ∙ so.left in
       let m = plain (values_of g old.pager.environment) in
       let run = subst (λ xs. HasRun m (machine_in tells old) (map plain_event xs) (map plain_answer replies) (machine_in tells (view_of new.pager new.held))) is
       (subst (λ x. HasRun m (machine_in tells old) (map plain_event so.done) (map plain_answer replies) x) (sym (view-is tells new)) so.run) in

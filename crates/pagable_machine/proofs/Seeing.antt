@@ -1,7 +1,7 @@
 -- What the machine's value shows of tables and workers is what it keeps of them.
-use Rattle.pagable_machine.proofs.Words.{◌≡◌, ℕ, zero, suc, List, Option, Some, None, refl, ap, ◌∙◌, length, map, slice_get, nat_eq, lookup, fun_ext, length-map, lookup-map_values, slice_get-map}
-use Rattle.pagable_machine.proofs.Words.{option_map, if_there, Shelf, Walking, no_shelf, MachineState, Telling, core_in, state_in, Ghosts, SlotTable, is_same, slot_of, shelf_of, machine_of}
-use Rattle.pagable_machine.proofs.Words.{readings_in, shelf_at, walking_of, Over, claims_at, claims_of, holding, kept_at, machine_in, table_view, view_of}
+use Rattle.pagable_machine.proofs.Words.{◌≡◌, ℕ, zero, suc, List, Option, Some, None, refl, ap, ◌∙◌, map, slice_get, nat_eq, lookup, fun_ext, length-map, lookup-map_values, slice_get-map}
+use Rattle.pagable_machine.proofs.Words.{option_map, if_there, Shelf, no_shelf, MachineState, Telling, state_in, Ghosts, SlotTable, is_same, slot_of, shelf_of, machine_of}
+use Rattle.pagable_machine.proofs.Words.{shelf_at, walking_of, Over, claims_at, claims_of, holding, machine_in, table_view, view_of}
 
 module _ {X : Type 0} {g : Ghosts X} where
   claims-are : (t : SlotTable X g) → claims_of (table_view t) ≡ shelf_of t
@@ -23,14 +23,7 @@ module _ {X : Type 0} {g : Ghosts X} where
 
     pub view-is : machine_in tells (view_of s.pager s.held) ≡ raw_in
     view-is =
-        ap (λ shelves. with-work shelves (length (map table_view s.held.tables.items)) (λ v. lookup (nat_eq v) (map (λ (e : _). (e.0, walking_of e.1)) s.held.walks.entries)))
-        (fun_ext (shelves-are s.held.tables.items))
-        ∙ ap (λ last. with-work (shelf_at s.held.tables.items) last (λ v. lookup (nat_eq v) (map (λ (e : _). (e.0, walking_of e.1)) s.held.walks.entries))) (length-map s.held.tables.items table_view)
-        ∙ ap (with-work (shelf_at s.held.tables.items) (length s.held.tables.items)) (fun_ext (λ v. lookup-map_values walking_of (nat_eq v) s.held.walks.entries))
-      where
-        with-work : (ℕ → Shelf) → ℕ → (ℕ → Option Walking) → MachineState N E
-        with-work shelves last walkings =
-            record {
-              pager = state_in tells s.pager;
-              work = record { shelves = shelves; last_table = last; readings = readings_in (kept_at s.held.readings) (core_in tells s.pager); walkings = walkings };
-            }
+        let shelves = fun_ext (shelves-are s.held.tables.items) in
+        let last = length-map s.held.tables.items table_view in
+        let walks = fun_ext (λ v. lookup-map_values walking_of (nat_eq v) s.held.walks.entries) in
+        cc

@@ -22,16 +22,13 @@ front-mine n w task below fits = tt
 module _ {X : Type 0} {g : Ghosts X} where
   -- what is left to be done is the plan
   left-is : (turn : Turn X g) (path : List (Waiting X g)) → todo_left (task_in turn) path ≡ plan turn path
-  left-is (Turn.Goes task) path = refl
-  left-is (Turn.Answers answer) path = refl
+  left-is turn path = first_of (grind (arith, nat_tests), search (rules))
 
   either-is : (turn : Turn X g) → is_some (task_in turn) ≡ is_none (answer_in turn)
-  either-is (Turn.Goes task) = refl
-  either-is (Turn.Answers answer) = refl
+  either-is turn = first_of (grind (arith, nat_tests), search (rules))
 
   fits-then : (n : ℕ) (w : Core) (turn : Turn X g) (task : Task X g) → LeavesFit n w turn → task_in turn ≡ Some task → TaskFits n w task
-  fits-then n w (Turn.Goes own) task fits is = let e : own ≡ task = cc in subst (λ x. TaskFits n w x) e fits
-  fits-then n w (Turn.Answers answer) task fits is = absurd (cc)
+  fits-then n w turn task fits is = first_of (grind (arith, nat_tests), search (rules))
 
   -- the shelf of a table that is set, and of the others
   shelf-set : (tables tables' : List (SlotTable X g)) (place : ℕ) (table : SlotTable X g) (after : Shelf) → SetsTable tables place table tables' → SameShelf after (shelf_of table) → (t : ℕ)
@@ -48,9 +45,8 @@ works-then : {X : Type 0} {g : Ghosts X} (turn : Turn X g) (n : ℕ) (works : �
 works-then (Turn.Goes task) n works at_work = at_work
 works-then (Turn.Answers answer) n works at_work = updated-at n false works
 
-works-others : (answer : Option WorkerAnswer) (n q : ℕ) (works : ℕ → Bool) → (q == n) ≡ false → works_after answer n works q ≡ works q
-works-others None n q works other = refl
-works-others (Some answer) n q works other = ap (λ b. if b then false else works q) other
+works-others : (answer : Option WorkerAnswer) (n q : ℕ) (works : ℕ → Bool) → q ≢ n → works_after answer n works q ≡ works q
+works-others answer n q works other = grind (arith, nat_tests, same-number)
 
 module _ {X : Type 0} {g : Ghosts X} {N E : Type 0} (v : Values N) (s s' : PagerState N E) (h : Holding g) {tables' : List (SlotTable X g)} {walks' : ℕ → Option (Walk X g)}
     (serving : IsServing s.core h)
@@ -151,4 +147,4 @@ module _ {X : Type 0} {g : Ghosts X} {N E : Type 0} (v : Values N) (s s' : Pager
       }) done.does.writes
       (one-serves {h' = after} serving was.whole.handles n.0 k' keeps (subst (λ last. length h.tables ≤ last) (sym on.sets.len) (omega arith))
       (kept-on serving.readings leaves (λ l own is. inl is)) passes
-      (λ q other. leaves.workers q ∙ works-others (answer_in turn) n.0 q s.core.workers (apart q n.0 other)) still))
+      (λ q other. leaves.workers q ∙ works-others (answer_in turn) n.0 q s.core.workers other) still))

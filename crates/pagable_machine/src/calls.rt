@@ -7,9 +7,9 @@ ghost use Rattle.pagable_machine.specs.Serving.{Serves, plain_blob};
 use either::Either;
 use pagable_codec::{Env, NodeSet};
 use pagable_core::{PagableData, PagableStorage};
-use pagable_model::{DataKey, Error, HandleNumber};
+use pagable_model::{Error, HandleNumber};
 use pagable_pager::Pager;
-use pagable_world::{Beginning, Call, Found, Reply};
+use pagable_world::{Call, Found, Reply};
 use std::alloc::Global;
 use std::sync::Arc;
 
@@ -24,30 +24,6 @@ fn found(
         Ok(Either::Right(blob)) => Ok(Found::Blob(blob)),
         Err(e) => Err(e),
     }
-}
-
-/// A load of a loose handle's cell begins.
-pub fn begin<E: Env, S: PagableStorage<E>>(
-    pager: &mut Pager<E, S>,
-    handle: HandleNumber,
-) -> Result<Beginning, Error>
-where
-    E::Node: NodeSet<E>,
-    ensures { Serves (values_at E.Node.NodeSet E.Env E.Hash.KeyHash pager.old.environment) (telling S.stored S.is_closed S.failed) pager.old (Call.LoadBegin handle) (Reply.Begun result) pager.new }
-{
-    pager.load_begin(handle)
-}
-
-/// A load of a key begins.
-pub fn begin_key<E: Env, S: PagableStorage<E>>(
-    pager: &mut Pager<E, S>,
-    key: DataKey,
-) -> Result<Beginning, Error>
-where
-    E::Node: NodeSet<E>,
-    ensures { Serves (values_at E.Node.NodeSet E.Env E.Hash.KeyHash pager.old.environment) (telling S.stored S.is_closed S.failed) pager.old (Call.LoadKey key) (Reply.Begun result) pager.new }
-{
-    pager.load_key(key)
 }
 
 /// Makes the call, and answers what the pager answers.
@@ -89,8 +65,8 @@ where
         Call::Fetch(key) => Reply::Fetched(pager.fetch(alloc, key)),
         Call::Store(blob) => Reply::Stored(pager.store(alloc, blob)),
         Call::Flush => Reply::Done(pager.flush()),
-        Call::LoadBegin(handle) => Reply::Begun(begin(pager, handle)),
-        Call::LoadKey(key) => Reply::Begun(begin_key(pager, key)),
+        Call::LoadBegin(handle) => Reply::Begun(pager.load_begin(handle)),
+        Call::LoadKey(key) => Reply::Begun(pager.load_key(key)),
         Call::LoadFetch(load, want) => Reply::LoadFound(found(pager.load_fetch(alloc, load, want))),
         Call::LoadAdopt(load, kind, key, node) => {
             Reply::Made(pager.load_adopt(alloc, load, kind, key, node))

@@ -21,9 +21,7 @@ use std::sync::Arc;
 // The load that the call may close.
 fn closed_by<N: Drop>(call: &Call<N, PagableData>) -> Option<LoadNumber> {
     match call {
-        Call::LoadEnd(load, _) => Some(*load),
-        Call::LoadTake(load, _) => Some(*load),
-        Call::LoadDrop(load) => Some(*load),
+        Call::LoadEnd(load, _) | Call::LoadTake(load, _) | Call::LoadDrop(load) => Some(*load),
         _ => None,
     }
 }
@@ -80,7 +78,7 @@ where
         (over pager.old held.now) (Event.LoadStart handle) (EventReply.Started result) (over pager.new held.now) }
 {
     pager.is_whole();
-    let begun = calls::begin(pager, handle);
+    let begun = pager.load_begin(handle);
     pager.is_whole();
     begun
 }
@@ -133,7 +131,7 @@ where
         Ok(()) => {}
         Err(e) => return Err(e),
     }
-    let begun = calls::begin_key(pager, key);
+    let begun = pager.load_key(key);
     pager.is_whole();
     match begun_load(&begun) {
         Some(load) => {

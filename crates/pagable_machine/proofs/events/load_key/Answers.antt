@@ -1,4 +1,4 @@
-use Rattle.pagable_machine.proofs.{Happening.keeps-after, Happening.key-drives, Happening.key-full-drives, Happening.key-none-drives, Words.values_at}
+use Rattle.pagable_machine.proofs.{Happening.keeps-after, Happening.key-drives, Happening.key-full-drives, Happening.key-none-drives, Happening.serves-same, Words.values_at}
 use Rattle.pagable_machine.proofs.events.load_key.Goals as goal
 
 pub returns-in-Err : goal.returns-in-Err
@@ -7,10 +7,11 @@ returns-in-Err g c =
 
 pub returns-in-Some : goal.returns-in-Some
 returns-in-Some g c =
-    key-drives (values_at g.E.Node.NodeSet g.E.Env g.E.Hash.KeyHash) _ _ _ _ _ c.requires c.is_whole.ensures _ _ _ _ c.new.result c.in-Some.ensures.some c.begin_key-begun.ensures c.is_whole-2.ensures
-    c.new.ensures.reading c.new.ensures.key c.new.ensures.for_cell (keeps-after c.key_place.ensures.same c.put.ensures)
+    key-drives (values_at g.E.Node.NodeSet g.E.Env g.E.Hash.KeyHash) _ _ _ _ _ c.requires c.is_whole.ensures _ _ _ _ c.new.result c.in-Some.ensures.some
+    (serves-same c.load_key-begun.ensures.step c.load_key-begun.ensures.only) c.is_whole-2.ensures c.new.ensures.reading c.new.ensures.key c.new.ensures.for_cell
+    (keeps-after c.key_place.ensures.same c.put.ensures)
 
 pub returns-in-None : goal.returns-in-None
 returns-in-None g c =
-    key-none-drives (values_at g.E.Node.NodeSet g.E.Env g.E.Hash.KeyHash) _ _ _ _ _ c.requires c.is_whole.ensures _ _ _ c.in-None.ensures.none c.begin_key-begun.ensures c.is_whole-2.ensures
-    c.key_place.ensures.same
+    key-none-drives (values_at g.E.Node.NodeSet g.E.Env g.E.Hash.KeyHash) _ _ _ _ _ c.requires c.is_whole.ensures _ _ _ c.in-None.ensures.none
+    (serves-same c.load_key-begun.ensures.step c.load_key-begun.ensures.only) c.is_whole-2.ensures c.key_place.ensures.same
