@@ -66,21 +66,7 @@ module _ {N E : Type 0} (v : Values N) (s : MachineState N E) (trees : ℕ → T
       let f = fit.slots t i p.slot p.claimed in
       let b = f.publishes key height p.known in
       let w = f.writes b.0 b.1 in
-      record {
-        slot = p.slot;
-        written = b.0;
-        blob = blob_of b.0.bytes b.2.keys;
-        key = key;
-        height = height;
-        shape = w.shape;
-        claimed = p.claimed;
-        written_is = b.1;
-        known = p;
-        stored = b.2.is_stored;
-        keys = b.2.known;
-        has_shape = w.is;
-        form = tree-form w;
-      }
+      search (p.claimed, b.1, p, b.2.is_stored, b.2.known, w.is, tree-form w)
 
 -- ---- an event
 

@@ -293,9 +293,7 @@ module _ {me : Owner} {lists : Bool} where
   own-named w references right mine o = named-free mine w me references o.other right
 
   pub load-owns : (w : Core) (l : LoadNumber) → Ours me lists w (is_owned_in w (Owner.Load l))
-  load-owns w l mine o = record {
-    each = λ q row own s. ap (λ (f : Option HandleRow). if_there (is_owned_by (Owner.Load l)) false f) s.live ∙ (ap (is_owner (Owner.Load l)) own ∙ o.apart.no_load l);
-  }
+  load-owns w l mine o = grind (arith, nat_tests)
 
   pub but : {w : Core} (f g : ℕ → Bool) → Ours me lists w f → Ours me lists w (λ q. f q && not (g q))
   but f g free mine o = record { each = λ q row own s. ap (λ b. b && not (g q)) ((free mine o).each q row own s) }
