@@ -5,7 +5,7 @@ use Rattle.pagable_laws.proofs.Words.{BeginKeyCall, Given, arith, nat_tests, Ask
 use Rattle.pagable_laws.proofs.Words.{owner_value, Seen, Values, only_handle, next_node, is_named_by, BirthCall, UnpinCall, ReleaseCall, SetKeyCall, ScheduleCall, TakeCall, RecallCall, OfferCall}
 use Rattle.pagable_laws.proofs.Words.{AdoptCall, LazyCall, EndCall, Installs, HandOverCall, DropCall, first_key, CallBrings, IsNewNode, KeepsOpen, LeavesCache, Change, sets_key, knows_node}
 use Rattle.pagable_laws.proofs.Words.{bears_node, bears_known, CallFeels, feels-nothing, feels-birth, feels-away, feels-key, feels-known, feels-adopted, feels-lazy, feels-end, StaysAway, with_known}
-use Rattle.pagable_laws.proofs.{Words.{usable, adopted, AreGood, FallsAnyhow, type_of, mode_of, of_key, is_owned_in, is_in, numbers_of, subst, sym, ap, ◌∙◌}, Goes.{Goes, NotLoads, a-handle}}
+use Rattle.pagable_laws.proofs.{Words.{usable, adopted, AreGood, FallsAnyhow, of_key, is_owned_in, is_in, numbers_of, subst, sym, ap, ◌∙◌}, Goes.{Goes, NotLoads, a-handle}}
 use Rattle.pagable_laws.proofs.{Goes.{quiet-goes, goes-then, begun, found-changed, KnowsNext}, Effects.{Effect, IsMine, none, handle, turned, moves, cached, cached-if, opens, shuts, like, fell}}
 use Rattle.pagable_laws.proofs.Effects.{own-mode, node, with-key, beside, forgets, stays, own-handle, own-named, load-named, none-named, load-owns, but, no-one, entry, handed, owned-mine}
 use Rattle.{pagable_laws.proofs.{Effects.{unfaulty-mine, both-none}, Sums.same-number, Trees.same_some, GoodReferences.{good, alike-away, fell-away}}, pagable_world.specs.Events.Does}

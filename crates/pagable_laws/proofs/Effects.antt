@@ -348,12 +348,7 @@ module _ {me : Owner} {lists : Bool} {Asks Leaves : Type 0} where
       where
         other : (k q p : ℕ) → IsEntered k q p w.cache w.cells → IsHeldFor k q p w.rows → m.cache k q ≡ Some p → (a b : Bool) → (k == kind.0) ≡ a → (q == key) ≡ b
             → (if a && b then Some n.0 else m.cache k q) ≡ Some p
-        other k q p e h was true true x y =
-            let f = subst (λ a. usable w a q ≡ Some p) (same-number _ _ x) (can-use k q p w e h) in
-            let g = subst (λ a. usable w kind.0 a ≡ Some p) (same-number _ _ y) f in
-            absurd (cc)
-        other k q p e h was true false x y = was
-        other k q p e h was false b x y = was
+        other k q p e h was s t x y = grind (arith, nat_tests, same-number, can-use k q p w e h)
 
     pub cached-if : (b : Bool) (kind : Kind) (key : ℕ) (n : NodeNumber) → Knows c w kind.0 key n.0 → usable w kind.0 key ≡ None → Effect me lists Asks Leaves true c w (if b then m else with_cached m kind key n)
     cached-if x0 kind key n knows unknown = grind (arith, nat_tests, cached)

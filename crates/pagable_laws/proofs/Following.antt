@@ -88,8 +88,7 @@ rows-once q (h ∷ hs) apart =
     off same x i there true e = absurd (let lt = apart 0 (suc i) h x (omega arith) refl there in let is = same-number x.number.0 q e in omega (arith, lt, is, same))
 
     at : (b : Bool) → is_handle q h ≡ b → times (is_handle q) hs ≤ 1 → times (is_handle q) (h ∷ hs) ≡ one (is_handle q h) + times (is_handle q) hs → times (is_handle q) (h ∷ hs) ≤ 1
-    at false e le sum = let f : one (is_handle q h) ≡ 0 = ap one e in omega (arith, le, sum, f)
-    at true e le sum = grind (arith, nat_tests, sum-zero, one, off, same-number)
+    at b e le sum = grind (arith, nat_tests, sum-zero, one, off, same-number)
 
 pub handles-once : {w : Core} → HandlesAreWhole w → (q : ℕ) → times (is_handle q) w.rows ≤ 1
 handles-once {w} whole q = rows-once q w.rows (λ i j a b lt at there.

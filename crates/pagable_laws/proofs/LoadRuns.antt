@@ -1,7 +1,7 @@
 -- A load from its begin to its end keeps trees: what it pins stands for its node's tree, and what it reads for the tree that its key reads as.
 use Rattle.pagable_laws.proofs.{Felt.{reading-fits, fits-nothing, trees-go-on}, Called.{begin-goes, key-goes}, Goes.Goes, ReadingSteps.{ReadingFelt, caller-free, reading-feels}}
 use Rattle.{pagable_laws.proofs.{ReadingStepsGive.{hands, read-right}, Taking.{Going, going-new, going-step, given-nodes, was-open, row-held, stands-here}, Trees.same_some}, std.proofs.Common.{◌≡◌}}
-use Rattle.std.proofs.{Common.{ℕ, ◌+◌, ◌≤◌, ◌==◌, true, List, [], Option, Some, None, if◌then◌else◌, inl, inr, refl, sym, ap, subst, ◌∙◌, arith}, lemmas.Bool.Decides.nat_tests}
+use Rattle.std.proofs.{Common.{ℕ, ◌+◌, ◌≤◌, List, [], Option, Some, None, inl, inr, refl, sym, ap, subst, ◌∙◌, arith}, lemmas.Bool.Decides.nat_tests}
 use Rattle.pagable_world.specs.{World.{Core, Last, Alike, Root, of_cell, of_key, OpenLoad, Frame, Reading, Written, Values, Seen, IsLawful}, Pager.{PagerState, WellFormed, Moves, ReadingBrings}}
 use Rattle.pagable_world.specs.{Pager.{Represents, FramesFit, SameTrees}, Access.{ReadingStep, LoadRun, load-ends, load-goes-on, LoadAsksWell, PinLaw, ReadLaw}, Calls.with_handle}
 use Rattle.pagable_world.specs.{Events.reading_of_load, Headline.ReadIsRight, Kinds.held, LoadCalls.with_load, Loads.{Does, EndsRead, gone_on}, Plain.{Blob, LoadNumber, Tree}, Runs.ReadsItsTypes}

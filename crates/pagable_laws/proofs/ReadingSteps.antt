@@ -9,14 +9,14 @@ use Rattle.pagable_laws.proofs.Words.{nothing_felt, bears_known, ReadingFeels, r
 use Rattle.pagable_laws.proofs.Words.{Pinning, Beginning, Claim, is_loose, to_start, to_pin, to_set, to_release, to_fail, SetKeyCall, Does, PinsAtOnce, PinsByLoad, PinRefused, GivesBack, next_start}
 use Rattle.pagable_laws.proofs.Words.{give, give_known, fresh, TodoBrings, sets_key, false, if◌then◌else◌, updated, if_there, EventReply, TableNumber, WorkerAnswer, only_handle, Cell, Task, type_at}
 use Rattle.pagable_laws.proofs.Words.{key_at, first_todo, without_worker, WorkerEnds, is_workers_load, answer_after, BeginsKey, Stays, begun_readings, KeyStarted, Starts, new_walking, Ends, Happens}
-use Rattle.pagable_laws.proofs.Words.{with_worker, MachineState, world_of, IsMachineWhole, IsNewNode, EventBrings, KeepsOpen, LeavesCache, SameNode, NewNode, StaysAway, KeepsReadings, EventFeels}
+use Rattle.pagable_laws.proofs.Words.{with_worker, IsNewNode, EventBrings, KeepsOpen, LeavesCache, SameNode, NewNode, StaysAway, KeepsReadings, EventFeels}
 use Rattle.pagable_laws.proofs.Words.{by-call, by-reading, by-key, by-nothing, Blob, StoreCall, digest, AreGood, OwnersAreThere, step_of, Among, ◌==◌, CloneCall, Needs, GetsKnown, with_got}
 use Rattle.pagable_laws.proofs.Goes.{found-left, none-in-new, at-updated, Quiet, Goes, NotLoads, quiet-then, goes-quiet, alike, fell-anyhow, KnowsNext, parts, le-self, rows-self, next-above}
 use Rattle.pagable_laws.proofs.Effects.{Effect, IsMine, IsApart, IsHeldFor, Lasts, Spares, none, moves, fell, with-key, stays, one-then, entry, no-one, none-named, released-free, ended-free}
 use Rattle.pagable_laws.proofs.{Effects.{worker-apart, stays-alike, spares-then, stays-fell, then-alike, then-fell, held-fell}, Called.{hands-over, ends-load, noted, asks, closes}}
 use Rattle.pagable_laws.proofs.{Called.{gets-known as was-known, adopts, adopts-known, schedules, clones, pins, begins, begins-key, stores, calls-go, call-knows}, Decoding.among-left}
 use Rattle.pagable_laws.proofs.{GoodReferences.{good, alike-away}, Outlasting.{AreUpTo, low-changed, low-whole, stands-new}, Sums.self-number, Trees.same_some, Standing.{AllWait, WaitsWell}}
-use Rattle.{pagable_world.specs.{Loads.{Does as LoadDoes, Meets}, Runs.Does as DoesMoment}, std.proofs.Common.rules}
+use Rattle.{pagable_world.specs.Loads.{Does as LoadDoes, Meets}, std.proofs.Common.rules}
 use Rattle.pagable_world.specs.Workers as workers
 
 pub fits-kind : (kind : ℕ) → fits_mode kind (mode_of kind) ≡ true
