@@ -177,13 +177,8 @@ module _ {A B : Type 0} {F : Type 0} {R : A → B → Type 0} where
   unput_all (e ∷ es) acc h d a =
       let rest = unput_all es (put_sorted code_order acc e) (those_put e acc es h.1 d.0) d.1 a in
       let one = unput acc e h.0 rest.first in
-      record {
-        before = one.before;
-        entries = one.entry ∷ rest.entries;
-        first = one.each;
-        each = more-two e one.entry es rest.entries one.one rest.each;
-        put = ap (λ (z : List (Entry B)). put_all (put_sorted code_order) z rest.entries) one.put ∙ rest.put;
-      }
+      let put = ap (λ (z : List (Entry B)). put_all (put_sorted code_order) z rest.entries) one.put ∙ rest.put in
+      search (one.each, more-two e one.entry es rest.entries one.one rest.each, put)
 
   pub hash_map-along : (es : List (Entry A)) {n : Meaning B} → Differ es → Along F R (of_hash_map es) n → Made (EntryAlong F R) of_hash_map es n
   hash_map-along es d a =

@@ -1,5 +1,5 @@
 -- What follows for keys: each that is published is its tree's, each that is answered is its task's, and what a worker met that answers one is left paged out.
-use Rattle.pagable_laws.proofs.Words.{longest_path, arith, nat_tests, ◌≡◌, ℕ, true, List, [], ◌∷◌, Option, Some, Ok, Err, refl, sym, ap, subst, ◌∙◌, is_some, OptionalDataKey, blob_of, KeyOfItem}
+use Rattle.pagable_laws.proofs.Words.{longest_path, arith, nat_tests, ◌≡◌, ℕ, true, List, [], ◌∷◌, Option, Some, Ok, Err, refl, sym, ap, subst, ◌∙◌, is_some, OptionalDataKey, KeyOfItem}
 use Rattle.pagable_laws.proofs.Words.{ArcRef, Identity, is_loose_kind, Tree, HandleNumber, ReadsTree, WorkerNumber, if_there, Event, EventReply, Took, WorkerAnswer, WorkerReply, identity_of, has_key}
 use Rattle.pagable_laws.proofs.Words.{Core, Cell, key_at, Shelf, Slot, Written, Todo, to_item, to_set, to_publish, to_release, to_fail, Task, of_item, of_entry, Walking, Values, Seen, Site, Does}
 use Rattle.pagable_laws.proofs.Words.{IsPublished, answer_after, WorkerSteps, Happens, PagerState, MachineState, world_of, kids_of, HandlesAreWhole, IsMachineWhole, Represents, StandsFor}
@@ -66,21 +66,7 @@ module _ {N E : Type 0} (v : Values N) (s : MachineState N E) (trees : ℕ → T
       let f = fit.slots t i p.slot p.claimed in
       let b = f.publishes key height p.known in
       let w = f.writes b.0 b.1 in
-      record {
-        slot = p.slot;
-        written = b.0;
-        blob = blob_of b.0.bytes b.2.keys;
-        key = key;
-        height = height;
-        shape = w.shape;
-        claimed = p.claimed;
-        written_is = b.1;
-        known = p;
-        stored = b.2.is_stored;
-        keys = b.2.known;
-        has_shape = w.is;
-        form = tree-form w;
-      }
+      search (p.claimed, b.1, p, b.2.is_stored, b.2.known, w.is, tree-form w)
 
 -- ---- an event
 

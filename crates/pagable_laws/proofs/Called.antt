@@ -5,11 +5,12 @@ use Rattle.pagable_laws.proofs.Words.{BeginKeyCall, Given, arith, nat_tests, Ask
 use Rattle.pagable_laws.proofs.Words.{owner_value, Seen, Values, only_handle, next_node, is_named_by, BirthCall, UnpinCall, ReleaseCall, SetKeyCall, ScheduleCall, TakeCall, RecallCall, OfferCall}
 use Rattle.pagable_laws.proofs.Words.{AdoptCall, LazyCall, EndCall, Installs, HandOverCall, DropCall, first_key, CallBrings, IsNewNode, KeepsOpen, LeavesCache, Change, sets_key, knows_node}
 use Rattle.pagable_laws.proofs.Words.{bears_node, bears_known, CallFeels, feels-nothing, feels-birth, feels-away, feels-key, feels-known, feels-adopted, feels-lazy, feels-end, StaysAway, with_known}
-use Rattle.pagable_laws.proofs.{Words.{usable, adopted, AreGood, FallsAnyhow, type_of, mode_of, of_key, is_owned_in, is_in, numbers_of, subst, sym, ap, ◌∙◌}, Goes.{Goes, NotLoads, a-handle}}
+use Rattle.pagable_laws.proofs.{Words.{usable, adopted, AreGood, FallsAnyhow, of_key, is_owned_in, is_in, numbers_of, subst, sym, ap, ◌∙◌}, Goes.{Goes, NotLoads, a-handle}}
 use Rattle.pagable_laws.proofs.{Goes.{quiet-goes, goes-then, begun, found-changed, KnowsNext}, Effects.{Effect, IsMine, none, handle, turned, moves, cached, cached-if, opens, shuts, like, fell}}
 use Rattle.pagable_laws.proofs.Effects.{own-mode, node, with-key, beside, forgets, stays, own-handle, own-named, load-named, none-named, load-owns, but, no-one, entry, handed, owned-mine}
 use Rattle.{pagable_laws.proofs.{Effects.{unfaulty-mine, both-none}, Sums.same-number, Trees.same_some, GoodReferences.{good, alike-away, fell-away}}, pagable_world.specs.Events.Does}
 use Rattle.pagable_world.specs.LoadCalls.{MayEnd}
+use Rattle.std.proofs.Common.{rules}
 
 -- ---- each call, and what loads do, by whoever asks
 
@@ -144,9 +145,7 @@ module _ {me : Owner} {lists : Bool} {Asks Leaves : Type 0} where
   -- a node that a load adopts, which the cache gets to know while the storage is open
   pub adopts : {w w' : Core} (l : LoadNumber) (kind : Kind) (key : ℕ) (own : OptionalDataKey) (references : List ArcRef) → usable w kind.0 key ≡ None → AreGood w (Owner.Load l) references
       → Alike (adopted w l kind key own references) w' → Effect me lists Asks Leaves false (bears_known kind.0 key own) w w'
-  adopts {w} l kind key own references unknown right a =
-      like (cached-if (handle (node w (type_of kind.0) own references (refl, refl) (load-named w l references right)) (next_node w) (mode_of kind.0) (Owner.Load l)) w.closed kind key (next_node w)
-      (refl, refl, refl) unknown) a
+  adopts {w} l kind key own references unknown right a = search (rules, like, cached-if, handle, node, load-named)
 
 -- of a load that begins, what trees feel alone
 pub begin-goes : {w w' : Core} {me : Owner} {h : HandleNumber} (r : Result Beginning Error) → BeginCall w me h r w' → Goes nothing_felt w w'

@@ -6,7 +6,7 @@ use Rattle.pagable_laws.proofs.Words.{AreMoments, TreesAfter, TreesAlong, GivesT
 use Rattle.pagable_laws.proofs.Words.{sum_by-append, sum_by-cons, Identity, WorkerNumber, one, times, Took, WorkerReply, Shelf, Slot, Walking, World, Happens, WorkerSteps, step_of, steps_of}
 use Rattle.pagable_laws.proofs.Words.{is_claim_of, is_on_table, claims_made, ◌++◌, append_assoc, is_none, WorkerAnswer, HandleRow, Owner, owner_worker, is_owner, state_after, events_of, replies_of}
 use Rattle.pagable_laws.proofs.{Words.{InOrder, TableMeets, HasLetGo, StepsAreWithin, WorkerIsRight, WorkIsRight, HeadlineLaw}, Felt.{reading-fits, none-comes, fits-nothing, fits-key, call-fits}}
-use Rattle.pagable_laws.proofs.{Felt.trees-go-on, Fitting.tree-stays, ReadingSteps.{is-reading-of, does-feels, readings-on}, Trees.same_some, Answering.keys-right, Coming.{waits-well, StandsIn}}
+use Rattle.pagable_laws.proofs.{Felt.trees-go-on, Fitting.tree-stays, ReadingSteps.{is-reading-of, event-goes, readings-on}, Trees.same_some, Answering.keys-right, Coming.{waits-well, StandsIn}}
 use Rattle.pagable_laws.proofs.{Coming.{event-turns, turns-stand, idle-stands, updated-at, EventTurns, Went, HasGone, goes-on}, Naming.{held-at-first, held-on, keys-ready}, Outlasting.pins-hold}
 use Rattle.pagable_laws.proofs.{Stepping.{fits-at-first, fits-on}, ReadingStepsGive.{reads-give, LoadsStand, event-on, step-within, idle-bounded, steps-left}, Taking.{pin_stands, Going, going-new}}
 use Rattle.pagable_laws.proofs.{Taking.{going-on, going-step, given-nodes}, Standing.{ShelfGrows, is-same, puts-slot, grows, true-false, KeepsTask, Turned, keeps-task, WalkingStands, is_open_in}}
@@ -84,16 +84,17 @@ module _ {N E B W : Type 0} (m : Seen N B W) (lawful : IsLawful m.values) (reada
   pub goes : (s : MachineState N E) (trees : ℕ → Tree) (x : Moment N E B W) → IsGoingOn m.values s trees → DoesMoment m s x.event x.reply x.after
       → IsPremised m.values s trees x.event x.reply x.after → Goes s trees x
   goes s trees x on does premised =
-      let feels = does-feels m s x.after x.event x.reply on.whole (waits-well (world_of s) on.work) premised.stays_open does in
+      let g = event-goes m (world_of s) (world_of x.after) x.event x.reply premised.stays_open does.step.happens in
+      let felt = g.feels on.whole.pager.whole (waits-well (world_of s) on.work) in
       let ready = keys-ready m.values s trees readable on.fits on.held in
-      let f = event-fits m s trees on.stands on.readings lawful readable x.after on.settled on.whole does.whole ready x.event x.reply feels.core premised.well feels.feels in
-      let pager = trees-go-on lawful on.settled on.whole.pager does.whole.pager on.stands.pager does.moves feels.core f.1 in
-      let readings = readings-on (Going m.values x.after.pager f.0) (λ reading is. going-on on.whole.pager does.whole.pager on.stands.pager feels.core f.1 reading (on.readings reading is))
-      (λ reading new. going-new x.after.pager f.0 reading new.0 new.2) (λ reading frames load is at felt.
-      going-step on.whole.pager does.whole.pager on.stands.pager feels.core f.1 reading frames load at (going-of m s trees on.stands on.readings reading is) felt) feels.feels in
+      let f = event-fits m s trees on.stands on.readings lawful readable x.after on.settled on.whole does.whole ready x.event x.reply g.goes premised.well felt in
+      let pager = trees-go-on lawful on.settled on.whole.pager does.whole.pager on.stands.pager does.moves g.goes f.1 in
+      let readings = readings-on (Going m.values x.after.pager f.0) (λ reading is. going-on on.whole.pager does.whole.pager on.stands.pager g.goes f.1 reading (on.readings reading is))
+      (λ reading new. going-new x.after.pager f.0 reading new.0 new.2) (λ reading frames load is at read.
+      going-step on.whole.pager does.whole.pager on.stands.pager g.goes f.1 reading frames load at (going-of m s trees on.stands on.readings reading is) read) felt in
       let stands : StandsFor m.values x.after f.0 = record { pager = pager; readings = λ reading is. (readings reading is).fits } in
       let turns = event-turns m (world_of s) (world_of x.after) on.work (λ v w there. (on.whole.walkings v w there).table.1) x.event x.reply does.step.happens in
-      let fits = fits-on m s x.after trees f.0 (record { kept = feels.core.stored; last = feels.core.nodes; trees = f.1.same }) on.fits on.whole on.stands.pager
+      let fits = fits-on m s x.after trees f.0 (record { kept = g.goes.stored; last = g.goes.nodes; trees = f.1.same }) on.fits on.whole on.stands.pager
       on.settled readable lawful on.work x.event x.reply turns does.writes in
       let held = held-on m s x.after x.event x.reply turns on.whole premised.stays_open does on.held in
       let pins = pins-hold m (world_of s) (world_of x.after) x.event x.reply on.whole.pager.whole.handles does.step.happens in

@@ -1,5 +1,5 @@
 -- Heights that are known are those of trees: so no key is answered of what leads down too long a path, or to a value that has no form; and why a claim is too deep.
-use Rattle.pagable_laws.proofs.Words.{nat_tests, ◌≡◌, ℕ, ◌<◌, ◌≤◌, List, refl, sym, subst, ◌∙◌, arith, max, Some, pair, variant, reference, followed, longest_path, above, height, deepest_path}
+use Rattle.pagable_laws.proofs.Words.{nat_tests, ◌≡◌, ℕ, ◌<◌, ◌≤◌, List, refl, sym, subst, ◌∙◌, arith, max, Some, pair, variant, followed, longest_path, above, height, deepest_path}
 use Rattle.pagable_laws.proofs.Words.{ArcRef, Identity, Meaning, Tree, Took, WorkerAnswer, identity_of, Shelf, Todo, Task, of_item, of_entry, Values, Seen, Site, Does, IsPublished}
 use Rattle.pagable_laws.proofs.Words.{MachineState, world_of, IsLongBelow, IsTooDeepTask, Ground, FollowsTo, pair-follows, variant-follows, reference-follows, Waits, Walks, WorkFits, Bool, true}
 use Rattle.pagable_laws.proofs.Words.{false, ap, inl, inr, TreeForm, tree, type_of, Among, Written, kids_of, Reaches, refers, refers-on, in-first, in-rest, in-part, HasNoForm, LeadsToNoForm}

@@ -293,9 +293,7 @@ module _ {me : Owner} {lists : Bool} where
   own-named w references right mine o = named-free mine w me references o.other right
 
   pub load-owns : (w : Core) (l : LoadNumber) → Ours me lists w (is_owned_in w (Owner.Load l))
-  load-owns w l mine o = record {
-    each = λ q row own s. ap (λ (f : Option HandleRow). if_there (is_owned_by (Owner.Load l)) false f) s.live ∙ (ap (is_owner (Owner.Load l)) own ∙ o.apart.no_load l);
-  }
+  load-owns w l mine o = grind (arith, nat_tests)
 
   pub but : {w : Core} (f g : ℕ → Bool) → Ours me lists w f → Ours me lists w (λ q. f q && not (g q))
   but f g free mine o = record { each = λ q row own s. ap (λ b. b && not (g q)) ((free mine o).each q row own s) }
@@ -350,12 +348,7 @@ module _ {me : Owner} {lists : Bool} {Asks Leaves : Type 0} where
       where
         other : (k q p : ℕ) → IsEntered k q p w.cache w.cells → IsHeldFor k q p w.rows → m.cache k q ≡ Some p → (a b : Bool) → (k == kind.0) ≡ a → (q == key) ≡ b
             → (if a && b then Some n.0 else m.cache k q) ≡ Some p
-        other k q p e h was true true x y =
-            let f = subst (λ a. usable w a q ≡ Some p) (same-number _ _ x) (can-use k q p w e h) in
-            let g = subst (λ a. usable w kind.0 a ≡ Some p) (same-number _ _ y) f in
-            absurd (cc)
-        other k q p e h was true false x y = was
-        other k q p e h was false b x y = was
+        other k q p e h was s t x y = grind (arith, nat_tests, same-number, can-use k q p w e h)
 
     pub cached-if : (b : Bool) (kind : Kind) (key : ℕ) (n : NodeNumber) → Knows c w kind.0 key n.0 → usable w kind.0 key ≡ None → Effect me lists Asks Leaves true c w (if b then m else with_cached m kind key n)
     cached-if x0 kind key n knows unknown = grind (arith, nat_tests, cached)

@@ -88,8 +88,7 @@ rows-once q (h ∷ hs) apart =
     off same x i there true e = absurd (let lt = apart 0 (suc i) h x (omega arith) refl there in let is = same-number x.number.0 q e in omega (arith, lt, is, same))
 
     at : (b : Bool) → is_handle q h ≡ b → times (is_handle q) hs ≤ 1 → times (is_handle q) (h ∷ hs) ≡ one (is_handle q h) + times (is_handle q) hs → times (is_handle q) (h ∷ hs) ≤ 1
-    at false e le sum = let f : one (is_handle q h) ≡ 0 = ap one e in omega (arith, le, sum, f)
-    at true e le sum = grind (arith, nat_tests, sum-zero, one, off, same-number)
+    at b e le sum = grind (arith, nat_tests, sum-zero, one, off, same-number)
 
 pub handles-once : {w : Core} → HandlesAreWhole w → (q : ℕ) → times (is_handle q) w.rows ≤ 1
 handles-once {w} whole q = rows-once q w.rows (λ i j a b lt at there.
@@ -143,15 +142,10 @@ module _ {N E : Type 0} {v : Values N} {s : PagerState N E} {trees : ℕ → Tre
       ∙ ap (λ z. v.types.nodes (v.node_type z)) (sym same) ∙ w.form.is in
       let of-value : (r : ArcRef) → Among written.references r → Among (v.references w.x) r = λ r among. subst (λ (rs : List ArcRef). Among rs r) w.listed among in
       let alone = references-among (reads (trees n).type w.form.shape shape_is) w.form.form in
-      record {
-        shape = w.form.shape;
-        own = w.form.own;
-        is = shape_is;
-        form = w.form.form;
-        follows = follows-to written.references (λ r b among stands. (refers n w.x r w.held (of-value r among)).1 b stands) meant alone.1;
-        given = λ r among. (refers n w.x r w.held (of-value r among)).0;
-        once = names-once n w.x w.form.own w.held w.form.means;
-      }
+      let follows : FollowsTo trees written.references w.form.own (trees n).meaning =
+      follows-to written.references (λ r b among stands. (refers n w.x r w.held (of-value r among)).1 b stands) meant alone.1 in
+      let given : (r : ArcRef) → Among written.references r → r.node.0 ≤ s.core.last.node = λ r among. (refers n w.x r w.held (of-value r among)).0 in
+      search (shape_is, w.form.form, follows, given, names-once n w.x w.form.own w.held w.form.means)
   wrote-of n written t is (away n2 key t2 none_there keyed fits) w = let f = w.held in absurd (cc)
 
   -- what a worker writes of a node
@@ -231,19 +225,13 @@ pub key-stands : {N : Type 0} {v : Values N} {g : Ground} {shelf : Shelf} {n key
     → WroteTree v.types g n written → AreKeysOf shelf written.references keys → g.stored key ≡ Some (blob_of written.bytes keys) → key ≡ digest v (blob_of written.bytes keys)
     → KeyStands v g.stored (g.trees n) key
 key-stands {v = v} {g} {shelf} {n} {key} {written} keys right w known is_stored is =
+    let form = keeps_forms (keyed_by shelf) kind_of_arc kind_of_ref v.types.parts deepest w.shape w.own written.bytes written.references (λ r. refl) w.form in
     record {
       is_key = subst (λ k. KeyOf v.hash v.types (g.trees n) k) (sym is)
           (key-of (g.trees n) w.shape written.bytes (kids_of g.trees written.references) keys w.is (tree-form w) (keys-of right written.references keys known));
       stands = record {
         own = rename (keyed_by shelf) w.own;
-        stands = record {
-          shape = w.shape;
-          is = w.is;
-          bytes = written.bytes;
-          refs = map (keyed_by shelf) written.references;
-          form = keeps_forms (keyed_by shelf) kind_of_arc kind_of_ref v.types.parts deepest w.shape w.own written.bytes written.references (λ r. refl) w.form;
-          stored = is_stored ∙ ap (λ ks. Some (blob_of written.bytes ks)) (keys-are shelf written.references keys known);
-        };
+        stands = search (w.is, form, is_stored ∙ ap (λ ks. Some (blob_of written.bytes ks)) (keys-are shelf written.references keys known));
         follows = follows-keys right written.references keys known w.follows;
       };
     }

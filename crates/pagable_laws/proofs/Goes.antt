@@ -3,7 +3,7 @@ use Rattle.pagable_laws.proofs.Words.{◌≡◌, ℕ, ◌+◌, ◌<◌, ◌≤�
 use Rattle.pagable_laws.proofs.Words.{nat_tests, Blob, ArcRef, Kind, type_of, HandleNumber, LoadNumber, NodeNumber, OptionalDataKey, changed, updated, if_there, HandleRow, Owner, Mode, find_row}
 use Rattle.pagable_laws.proofs.Words.{is_handle, mode_of, is_loose, Core, Cell, OpenLoad, Root, Alike, type_at, key_at, AreNewEntries, Falls, FallsAnyhow, fallen, left_rows, row_of, with_handle}
 use Rattle.pagable_laws.proofs.{Words.{with_node, with_key, with_cached, next_node, moved, with_load, adopted, Change, nothing_felt, sets_key, bears_known, Knows, Bears, BeginsWell}, Sums.same-number}
-use Rattle.std.proofs.Common.{rules}
+use Rattle.std.proofs.Common.{le_trans, rules}
 pub use Rattle.pagable_laws.specs.TreeSteps.{Was, RowsGo, IsShut, Kept, CoreGoes as Goes}
 
 -- a step that sets no key, bears no node, begins no load and lets the cache know nothing
@@ -177,40 +177,27 @@ keyed w node key = grind (arith, le-self, at-updated, keyed-cell, rows-self)
 
 pub begun : (c : Change) (w : Core) (key : ℕ) (root : Root) (me : Owner) → BeginsWell w (record { owner = me; key = key; root = root }) → Goes c w (with_load w key root me)
 begun c w key root me well =
-    record {
-      nodes = le-self _;
-      handles = le-self _;
-      loads_last = le-more _ _;
-      workers_last = le-self _;
-      cells = λ n cell is. inl (record { was = cell; live = is; typed = refl; key = inl refl });
-      stored = λ q blob is. is;
-      loads = λ l load is. elim (at-updated _ _ w.loads l load is) [
-        | inl (at, e) ↦ let f : record { owner = me; key = key; root = root } ≡ load = cc in inr (next-above l w.last.load at, subst (λ (x : OpenLoad). BeginsWell w x) f well)
-        | inr there ↦ inl there
-      ];
-      cache = λ kind q n is. inl is;
-      rows = rows-self w.last.handle w.rows w.rows refl;
-      shut = λ is. is;
-    }
+    let loads : (l : ℕ) (load : OpenLoad) → (with_load w key root me).loads l ≡ Some load → (w.loads l ≡ Some load) ⊎ ((w.last.load < l) × BeginsWell w load) =
+    λ l load is. elim (at-updated _ _ w.loads l load is) [
+      | inl (at, e) ↦ let f : record { owner = me; key = key; root = root } ≡ load = cc in inr (next-above l w.last.load at, subst (λ (x : OpenLoad). BeginsWell w x) f well)
+      | inr there ↦ inl there
+    ] in
+    grind (arith, nat_tests, le-self, le-more, rows-self, loads)
 
 -- two steps of which nothing is felt: the cells that the first leaves are those that a load that the second begins is of
 pub goes-then : {w m w' : Core} → Goes nothing_felt w m → Goes nothing_felt m w' → Goes nothing_felt w w'
 goes-then {w} {m} {w'} a b =
-    record {
-      nodes = let c = a.nodes in let d = b.nodes in omega arith;
-      handles = let c = a.handles in let d = b.handles in omega arith;
-      loads_last = let c = a.loads_last in let d = b.loads_last in omega arith;
-      workers_last = let c = a.workers_last in let d = b.workers_last in omega arith;
-      cells = λ n cell is. elim (b.cells n cell is) [ inl k ↦ inl (kept n cell k (was n k.was k.live)) | inr (next, bears) ↦ absurd bears ];
-      stored = λ q blob is. b.stored q blob (a.stored q blob is);
-      loads = λ l load is. elim (b.loads l load is) [
-        | inl there ↦ a.loads l load there
-        | inr (above, well) ↦ inr (let c = a.loads_last in omega arith, λ node t h root. let k = well node t h root in both node.0 t load.key (m.cells node.0) refl k.0 k.1)
-      ];
-      cache = λ kind key n is. elim (b.cache kind key n is) [ inl there ↦ a.cache kind key n there | inr known ↦ absurd known ];
-      rows = rows-then w.last.handle m.last.handle w.rows m.rows w'.rows a.handles a.rows b.rows;
-      shut = λ is. b.shut (a.shut is);
-    }
+    let cells : (n : ℕ) (cell : Cell) → w'.cells n ≡ Some cell → Kept nothing_felt w n cell ⊎ ((n ≡ w.last.node + 1) × Bears nothing_felt cell.node_type cell.key) = λ n cell is.
+        elim (b.cells n cell is) [ inl k ↦ inl (kept n cell k (was n k.was k.live)) | inr (next, bears) ↦ absurd bears ] in
+    let loads : (l : ℕ) (load : OpenLoad) → w'.loads l ≡ Some load → (w.loads l ≡ Some load) ⊎ ((w.last.load < l) × BeginsWell w load) = λ l load is. elim (b.loads l load is) [
+      | inl there ↦ a.loads l load there
+      | inr (above, well) ↦ inr (let c = a.loads_last in omega arith, λ node t h root. let k = well node t h root in both node.0 t load.key (m.cells node.0) refl k.0 k.1)
+    ] in
+    let cache : (kind key n : ℕ) → w'.cache kind key ≡ Some n → (w.cache kind key ≡ Some n) ⊎ Knows nothing_felt w kind key n = λ kind key n is.
+        elim (b.cache kind key n is) [ inl there ↦ a.cache kind key n there | inr known ↦ absurd known ] in
+    let rows = rows-then w.last.handle m.last.handle w.rows m.rows w'.rows a.handles a.rows b.rows in
+    search (le_trans a.nodes b.nodes, le_trans a.handles b.handles, le_trans a.loads_last b.loads_last, le_trans a.workers_last b.workers_last, cells, loads, cache, rows,
+    a.stored, b.stored, a.shut, b.shut)
   where
     same-key : {u : Core} {n : ℕ} {cell : Cell} → (k : Kept nothing_felt u n cell) → cell.key ≡ k.was.key
     same-key k = elim k.key [ inl same ↦ same | inr (key, none, is) ↦ absurd none ]

@@ -1,6 +1,6 @@
 -- The chain of two levels is one of the machine, and meets the headline with all that it asks: its pagers are whole by closed facts, and so is each step.
 use Rattle.pagable_laws.proofs.Words.{◌≡◌, ℕ, zero, suc, ◌<◌, ◌≤◌, ◌==◌, Bool, true, false, List, [], ◌∷◌, refl, sym, subst, arith, Ok, None, is_some, nat_le, nat_tests, updated, Owner, HandleRow}
-use Rattle.pagable_laws.proofs.Words.{held, pins, Core, OpenLoad, of_cell, of_key, row_at, owned_outside, is_keyed, fallen, length, ◌∙◌, inl, Option, Some, sample_references, value_at, is_here}
+use Rattle.pagable_laws.proofs.Words.{held, Core, OpenLoad, of_cell, of_key, row_at, owned_outside, is_keyed, fallen, length, ◌∙◌, inl, Option, Some, sample_references, value_at, is_here}
 use Rattle.pagable_laws.proofs.Words.{references_fault, Sample, sample, machine, ◌++◌, ◌+◌, inr, is_none, if_there, blob_of, HandleNumber, Blob, Took, Mode, WorkerAnswer, PagerState, TodoTakesWell}
 use Rattle.pagable_laws.proofs.Words.{ArePremised, find_row, is_named_by, preimage, IsSettled, is_in, identity_of, Shelf, Written, Todo, Reading, to_start, to_pin, to_write, to_set, to_publish}
 use Rattle.pagable_laws.proofs.Words.{to_release, to_finish, to_item, digest, nobody, row_of, with_key, CloneCall, StoreCall, WalkDoes, claim_fault, is_workers_at, nothing-form, reference-form}

@@ -1,12 +1,11 @@
 -- A load from its begin to its end keeps trees: what it pins stands for its node's tree, and what it reads for the tree that its key reads as.
 use Rattle.pagable_laws.proofs.{Felt.{reading-fits, fits-nothing, trees-go-on}, Called.{begin-goes, key-goes}, Goes.Goes, ReadingSteps.{ReadingFelt, caller-free, reading-feels}}
 use Rattle.{pagable_laws.proofs.{ReadingStepsGive.{hands, read-right}, Taking.{Going, going-new, going-step, given-nodes, was-open, row-held, stands-here}, Trees.same_some}, std.proofs.Common.{◌≡◌}}
-use Rattle.std.proofs.{Common.{ℕ, ◌+◌, ◌≤◌, ◌==◌, true, List, [], Option, Some, None, if◌then◌else◌, inl, inr, refl, sym, ap, subst, ◌∙◌, arith}, lemmas.Bool.Decides.nat_tests}
+use Rattle.std.proofs.{Common.{ℕ, ◌+◌, ◌≤◌, List, [], Option, Some, None, inl, inr, refl, sym, ap, subst, ◌∙◌, arith}, lemmas.Bool.Decides.nat_tests}
 use Rattle.pagable_world.specs.{World.{Core, Last, Alike, Root, of_cell, of_key, OpenLoad, Frame, Reading, Written, Values, Seen, IsLawful}, Pager.{PagerState, WellFormed, Moves, ReadingBrings}}
 use Rattle.pagable_world.specs.{Pager.{Represents, FramesFit, SameTrees}, Access.{ReadingStep, LoadRun, load-ends, load-goes-on, LoadAsksWell, PinLaw, ReadLaw}, Calls.with_handle}
 use Rattle.pagable_world.specs.{Events.reading_of_load, Headline.ReadIsRight, Kinds.held, LoadCalls.with_load, Loads.{Does, EndsRead, gone_on}, Plain.{Blob, LoadNumber, Tree}, Runs.ReadsItsTypes}
-use Rattle.{pagable_world.specs.{Runs.{HoldsSettled, TakesWell}, Workers.fresh, declared.events.LoadAnswer.LoadAnswer}, pagable_laws.specs.{TreeRuns.ChangeFits, TreeSteps.nothing_felt}}
-use Rattle.pagable_laws.specs.TreeSteps.{ReadingFeels}
+use Rattle.{pagable_world.specs.{Runs.{HoldsSettled, TakesWell}, Workers.fresh, declared.events.LoadAnswer.LoadAnswer}, pagable_laws.specs.TreeSteps.{ChangeFits, nothing_felt, ReadingFeels}}
 use Rattle.pagable_world.specs.declared.events.LoadAnswer.TheVariants as ends
 use Rattle.pagable_world.specs.declared.handles.Owner.TheVariants as owners
 use Rattle.pagable_world.specs.declared.rows.Mode.TheVariants as modes
@@ -49,14 +48,11 @@ module _ {N E : Type 0} {v : Values N} (lawful : IsLawful v) (readable : ReadsIt
     -- the load goes on
     still : answer ≡ None → Under v s' fit.0 key (gone_on reading frames)
     still none =
-        record {
-          settled = settled';
-          well = step.whole;
-          stands = went.stands;
-          going = going-step u.well step.whole u.stands felt.does.goes fit.1 reading frames load.0 load.1 u.going
-              (subst (λ (o : Option (LoadAnswer N)). ReadingFeels v s.core reading o frames s'.core felt.change) none feels);
-          keyed = λ other there. u.keyed other (was-open u.well step.whole u.stands felt.does.goes fit.1 reading.load.0 other u.going.within there);
-        }
+        let going = going-step u.well step.whole u.stands felt.does.goes fit.1 reading frames load.0 load.1 u.going
+            (subst (λ (o : Option (LoadAnswer N)). ReadingFeels v s.core reading o frames s'.core felt.change) none feels) in
+        let keyed : (other : OpenLoad) → s'.core.loads reading.load.0 ≡ Some other → other.key ≡ key = λ other there.
+            u.keyed other (was-open u.well step.whole u.stands felt.does.goes fit.1 reading.load.0 other u.going.within there) in
+        search (settled', step.whole, went.stands, going, keyed)
       where
         load : (x : OpenLoad) × (s.core.loads reading.load.0 ≡ Some x)
         load = felt.opens none
@@ -98,11 +94,7 @@ module _ {N E : Type 0} {v : Values N} (lawful : IsLawful v) (readable : ReadsIt
   module _ (s mid : PagerState N E) (trees : ℕ → Tree) (well : WellFormed v s) (settled : HoldsSettled v s) (stands : Represents v s trees) (does : Goes nothing_felt s.core mid.core) (moves : Moves (λ n x. ⊥) s mid) (whole : WellFormed v mid) where
     begun : After v s trees mid trees
     begun =
-        record {
-          same = λ n within. refl;
-          nodes = does.nodes;
-          stands = trees-go-on lawful settled well whole stands moves does (fits-nothing lawful settled well whole stands (λ n x. ⊥) (λ n x comes none is. absurd comes));
-        }
+        search (does.nodes, trees-go-on lawful settled well whole stands moves does (fits-nothing lawful settled well whole stands (λ n x. ⊥) (λ n x comes none is. absurd comes)))
 
     under : (w : Core) (l : LoadNumber) (t key : ℕ) (root : Root) → l.0 ≡ w.last.load + 1 → Alike (with_load w key root owners.Caller) mid.core → Under v mid trees key (fresh l t)
     unfolding FramesFit
@@ -112,11 +104,7 @@ module _ {N E : Type 0} {v : Values N} (lawful : IsLawful v) (readable : ReadsIt
           well = whole;
           stands = begun.stands;
           going = going-new mid trees (fresh l t) refl (let e = ap (λ (x : Last). x.load) a.last in omega (arith, e, next));
-          keyed = λ load is.
-              let same : (l.0 == w.last.load + 1) ≡ true = grind (arith, nat_tests) in
-              let there = a.loads l.0 ∙ ap (λ b. if b then Some (let x : OpenLoad = record { owner = owners.Caller; key = key; root = root } in x) else w.loads l.0) same in
-              let e : _ ≡ load = same_some _ _ (sym there ∙ is) in
-              sym (ap (λ (x : OpenLoad). x.key) e);
+          keyed = λ load is. grind (arith, nat_tests, same_some);
         }
 
 -- a reading that has begun

@@ -162,11 +162,8 @@ module _ {N : Type 0} (v : Values N) (lawful : IsLawful v) (readable : ReadsItsT
       let number = found-number k.0 w'.rows row made in
       let there : row_at w' row.number ≡ Some row = ap (λ n. find_row n w'.rows) number ∙ made in
       let owned : row.owner ≡ Owner.Load l = ap (λ (x : HandleRow). x.owner) same ∙ own in
-      record {
-        begun = begun-on callers;
-        live = all-more (IsLive w' l) fs kind row (row, there, owned) (live-on fs kept live);
-        once = once-got fs kind row (λ frame r among got. let lt = below frame r among got in omega (arith, lt, number, next)) once;
-      }
+      let once' = once-got fs kind row (λ frame r among got. let lt = below frame r among got in omega (arith, lt, number, next)) once in
+      search (begun-on callers, all-more (IsLive w' l) fs kind row (row, there, owned) (live-on fs kept live), once')
 
   known-ready : (kind : Kind) (key : ℕ) (k : HandleNumber) (row : HandleRow) → GetsKnown w l kind key k w' → row_at w' k ≡ Some row → LoadReady w' l load (with_got kind row reading.frames)
   known-ready kind key k row c made =

@@ -119,12 +119,8 @@ module _ {N B W E : Type 0} (m : Seen N B W) (lawful : IsLawful m.values) (reada
     | inl there ↦
         let a = on.whole.readings l.0 reading there in
         let is = of_caller l.0 there in
-        record {
-          number = same-load reading.load l a.number;
-          given = (on.whole.pager.whole.loads.numbered l.0 (ap is_some open_load)).1;
-          fits = on.stands.readings reading is load (ap core.loads a.number ∙ open_load);
-          got = (on.readings reading is).held;
-        }
+        let given = on.whole.pager.whole.loads.numbered l.0 (ap is_some open_load) in
+        search (same-load reading.load l a.number, given.1, on.stands.readings reading is load (ap core.loads a.number ∙ open_load), (on.readings reading is).held)
     | inr begun ↦ record {
       number = begun.2;
       given = begun.3;

@@ -9,14 +9,14 @@ use Rattle.pagable_laws.proofs.Words.{nothing_felt, bears_known, ReadingFeels, r
 use Rattle.pagable_laws.proofs.Words.{Pinning, Beginning, Claim, is_loose, to_start, to_pin, to_set, to_release, to_fail, SetKeyCall, Does, PinsAtOnce, PinsByLoad, PinRefused, GivesBack, next_start}
 use Rattle.pagable_laws.proofs.Words.{give, give_known, fresh, TodoBrings, sets_key, false, if◌then◌else◌, updated, if_there, EventReply, TableNumber, WorkerAnswer, only_handle, Cell, Task, type_at}
 use Rattle.pagable_laws.proofs.Words.{key_at, first_todo, without_worker, WorkerEnds, is_workers_load, answer_after, BeginsKey, Stays, begun_readings, KeyStarted, Starts, new_walking, Ends, Happens}
-use Rattle.pagable_laws.proofs.Words.{with_worker, MachineState, world_of, IsMachineWhole, IsNewNode, EventBrings, KeepsOpen, LeavesCache, SameNode, NewNode, StaysAway, KeepsReadings, EventFeels}
-use Rattle.pagable_laws.proofs.Words.{by-call, by-reading, by-key, by-nothing, StepFeels, Blob, StoreCall, digest, AreGood, OwnersAreThere, step_of, Among, ◌==◌, CloneCall, Needs, GetsKnown, with_got}
+use Rattle.pagable_laws.proofs.Words.{with_worker, IsNewNode, EventBrings, KeepsOpen, LeavesCache, SameNode, NewNode, StaysAway, KeepsReadings, EventFeels}
+use Rattle.pagable_laws.proofs.Words.{by-call, by-reading, by-key, by-nothing, Blob, StoreCall, digest, AreGood, OwnersAreThere, step_of, Among, ◌==◌, CloneCall, Needs, GetsKnown, with_got}
 use Rattle.pagable_laws.proofs.Goes.{found-left, none-in-new, at-updated, Quiet, Goes, NotLoads, quiet-then, goes-quiet, alike, fell-anyhow, KnowsNext, parts, le-self, rows-self, next-above}
 use Rattle.pagable_laws.proofs.Effects.{Effect, IsMine, IsApart, IsHeldFor, Lasts, Spares, none, moves, fell, with-key, stays, one-then, entry, no-one, none-named, released-free, ended-free}
 use Rattle.pagable_laws.proofs.{Effects.{worker-apart, stays-alike, spares-then, stays-fell, then-alike, then-fell, held-fell}, Called.{hands-over, ends-load, noted, asks, closes}}
 use Rattle.pagable_laws.proofs.{Called.{gets-known as was-known, adopts, adopts-known, schedules, clones, pins, begins, begins-key, stores, calls-go, call-knows}, Decoding.among-left}
 use Rattle.pagable_laws.proofs.{GoodReferences.{good, alike-away}, Outlasting.{AreUpTo, low-changed, low-whole, stands-new}, Sums.self-number, Trees.same_some, Standing.{AllWait, WaitsWell}}
-use Rattle.{pagable_world.specs.{Loads.{Does as LoadDoes, Meets}, Runs.Does as DoesMoment}, std.proofs.Common.rules}
+use Rattle.{pagable_world.specs.Loads.{Does as LoadDoes, Meets}, std.proofs.Common.rules}
 use Rattle.pagable_world.specs.Workers as workers
 
 pub fits-kind : (kind : ℕ) → fits_mode kind (mode_of kind) ≡ true
@@ -116,8 +116,6 @@ pub record LoadsTodo {N : Type 0} (v : Values N) (me : Owner) (s s' : Site) (rea
 module _ {N B W : Type 0} (m : Seen N B W) (v : ℕ) (s s' : Site) where
   pub loads-todo : (r : ArcRef) (place : ℕ) (through : HandleNumber) (reading : Reading) (below : List Todo) (step : Took W)
       → workers.Does m v s (to_load r place through reading ∷ below) step s' → LoadsTodo m.values (owner_worker v) s s' reading
-  loads-todo r place through reading below (Took.Pin i (Err e)) (is, p) =
-      record { answer = Some (LoadAnswer.Refused e); frames = []; does = p.refused.0; next = λ q at h after rest f. let g : workers.failing_by e s.todo ≡ to_load q at h after ∷ rest = sym p.refused.1.list_is ∙ f in absurd (cc) }
   loads-todo r place through reading below step does = grind (arith, nat_tests)
 
 module _ {N B W : Type 0} {m : Seen N B W} {u u' : World} {k : WorkerNumber} {reply : WorkerReply W} (s : WorkerSteps m u k reply u') where
@@ -616,10 +614,3 @@ module _ {c : Change} {w w' : Core} (g : Goes c w w') where
     | inl kept ↦ absurd (let few = (whole.nodes_numbered n (ap is_some kept.live)).1 in omega (arith, few, above))
     | inr (next, bears) ↦ record { t = cell.node_type; own = cell.key; born = bears; next = next; typed = type-is n w' cell is; key = key-is n w' cell is }
   ]
-
--- each event of a whole machine is felt
-pub does-feels : {N B W E : Type 0} (m : Seen N B W) (s s' : MachineState N E) (event : Event N B W) (reply : EventReply N B W)
-    → IsMachineWhole m.values s → AllWaitWell (world_of s) → KeepsOpen event → DoesMoment m s event reply s' → StepFeels m.values (world_of s) event reply (world_of s')
-does-feels m s s' event reply whole well open_still does =
-    let g = event-goes m (world_of s) (world_of s') event reply open_still does.step.happens in
-    record { change = g.change; core = g.goes; feels = g.feels whole.pager.whole well }

@@ -66,22 +66,9 @@ module _ {N E : Type 0} (v : Values N) (s : MachineState N E) (trees : ℕ → T
       let there : v.types.nodes frame.node_type ≡ Some w.shape = ap v.types.nodes typed ∙ w.is in
       let same : blob_of written.bytes b.2.keys ≡ frame.blob = same_some _ _ (sym b.2.is_stored ∙ is) in
       let form : IsFormOf v.types frame.node_type (blob_of written.bytes b.2.keys) written.references =
-      record {
-        shape = w.shape;
-        own = w.own;
-        is = there;
-        can = readable frame.node_type w.shape there;
-        form = w.form;
-        as_many = as-many-keys shelf written.references b.2.keys b.2.known;
-        once = w.once;
-      } in
-      record {
-        refs = written.references;
-        form = subst (λ (x : Blob). IsFormOf v.types frame.node_type x written.references) same form;
-        keys = subst (λ (x : Blob). AreKeysOf shelf written.references x.keys) same b.2.known;
-        lows = b.2.low;
-        small = b.2.within;
-      }
+      search (there, readable frame.node_type w.shape there, w.form, as-many-keys shelf written.references b.2.keys b.2.known, w.once) in
+      let keys = subst (λ (x : Blob). AreKeysOf shelf written.references x.keys) same b.2.known in
+      search (subst (λ (x : Blob). IsFormOf v.types frame.node_type x written.references) same form, keys, b.2.low, b.2.within)
 
   -- what is asked for has a key that is known
   record IsAsked (kind : Kind) (key height : ℕ) : Type 0 where
@@ -253,12 +240,9 @@ module _ {N B W E : Type 0} (m : Seen N B W) (s : MachineState N E) (trees : ℕ
             let a = whole.readings l.0 reading there in
             let is_of = of_caller l.0 there in
             let same_load = same_some _ _ (sym a.open_load ∙ open_load) in
-            record {
-              number = ap (λ n. record { 0 = n }) a.number;
-              fits = stands.readings reading is_of load (ap w.loads a.number ∙ open_load);
-              asked = got reading is_of;
-              of_type = subst (λ root. FitsRoot root reading) (ap (λ (x : OpenLoad). x.root) same_load ∙ paged.3) a.typed;
-            }
+            let number : reading.load ≡ l = ap (λ n. record { 0 = n }) a.number in
+            let of_type : reading.node_type ≡ t = subst (λ root. FitsRoot root reading) (ap (λ (x : OpenLoad). x.root) same_load ∙ paged.3) a.typed in
+            search (number, stands.readings reading is_of load (ap w.loads a.number ∙ open_load), got reading is_of, of_type)
         by None e is = grind (arith, nat_tests)
 
     -- the tree that it reads

@@ -63,28 +63,16 @@ module _ {N : Type 0} (v : Values N) {g g' : Ground} (goes : GroundGoes g g') wh
   pub wrote-on : {n : ℕ} {written : Written} → n ≤ g.last → WroteTree v.types g n written → WroteTree v.types g' n written
   wrote-on {n} {written} given w =
       let same = goes.trees n given in
-      record {
-        shape = w.shape;
-        own = w.own;
-        is = ap (λ (t : Tree). v.types.nodes t.type) same ∙ w.is;
-        form = w.form;
-        follows = follows-on (λ r among. goes.trees r.node.0 (w.given r among)) (subst (λ (t : Tree). FollowsTo g.trees written.references w.own t.meaning) (sym same) w.follows);
-        given = λ r among. let le = w.given r among in let more = goes.last in omega arith;
-        once = w.once;
-      }
+      let inside : (r : ArcRef) → Among written.references r → r.node.0 ≤ g'.last = λ r among. let le = w.given r among in let more = goes.last in omega arith in
+      let follows : FollowsTo g'.trees written.references w.own (g'.trees n).meaning =
+      follows-on (λ r among. goes.trees r.node.0 (w.given r among)) (subst (λ (t : Tree). FollowsTo g.trees written.references w.own t.meaning) (sym same) w.follows) in
+      search (ap (λ (t : Tree). v.types.nodes t.type) same ∙ w.is, w.form, inside, follows, w.once)
 
   module _ {shelf shelf' : Shelf} (keys : KeepsKeys shelf shelf') where
     pub blob-on : {n key height : ℕ} {written : Written} → n ≤ g.last → BlobStands v g shelf n written key height → BlobStands v g' shelf' n written key height
     blob-on {n} {key} {height} {written} given b =
-        record {
-          keys = b.keys;
-          known = keys-on keys written.references b.keys b.known;
-          is_stored = goes.kept key _ b.is_stored;
-          right = subst (λ t. KeyStands v g'.stored t key) (sym (goes.trees n given)) (stands-on b.right);
-          within = b.within;
-          low = λ r among. low-on keys (b.low r among);
-          attained = attained-on keys height written.references b.attained;
-        }
+        let right : KeyStands v g'.stored (g'.trees n) key = subst (λ t. KeyStands v g'.stored t key) (sym (goes.trees n given)) (stands-on b.right) in
+        search (keys-on keys written.references b.keys b.known, goes.kept key _ b.is_stored, right, b.within, low-on keys, b.low, attained-on keys height written.references b.attained)
 
     pub slot-on : {i : Identity} {slot : Slot} → SlotFits v g shelf i slot → SlotFits v g' shelf' i slot
     slot-on {i} {slot} fits = search (rules, wrote-on, blob-on)
@@ -262,15 +250,11 @@ module _ {N B W : Type 0} (m : Seen N B W) (n : ℕ) {g g' : Ground} (task : Tas
             written = o.written;
             claimed = a.1;
             wrote = wrote;
-            stands = record {
-              keys = o.keys;
-              known = known';
-              is_stored = there;
-              right = key-stands o.keys (stands-for m.values g' s'.shelf kept) (fit.writes o.written wrote) known' there is;
-              within = omega arith;
-              low = all-low s'.shelf o.height o.written.references o.keys all first;
-              attained = attained-on (keys-grow more) o.height o.written.references attained;
-            };
+            stands =
+                let right = key-stands o.keys (stands-for m.values g' s'.shelf kept) (fit.writes o.written wrote) known' there is in
+                let small : o.height ≤ longest_path = omega arith in
+                let most : IsAttained s'.shelf o.height o.written.references = attained-on (keys-grow more) o.height o.written.references attained in
+                search (known', there, right, small, all-low s'.shelf o.height o.written.references o.keys all first, most);
           },
           reach,
           still o.reference below (expects, waits),

@@ -144,31 +144,24 @@ module _ {N : Type 0} {v : Values N} {w w' : Core} {trees trees' : ℕ → Tree}
     fit-got : (frames : List Frame) (kind : Kind) (key n : ℕ) (row : HandleRow) → Needs v.types frames kind key → GetsRow w w' kind n row
         → ReadsNodeTree v.types w'.stored trees' key (type_of kind.0) row.node.0 → Now frames → Now (with_got kind row frames)
     fit-got frames kind key n row needs got read f =
-        record {
-          fit = needed-fits v.types k t w'.stored trees' frames kind key row f.fit needs read;
-          held = all-more (GotStands w' l) frames kind row (got-new l kind n row h.after.handles got) f.held;
-          asked = needed-asked v.types frames kind key row f.asked needs;
-        }
+        let held = all-more (GotStands w' l) frames kind row (got-new l kind n row h.after.handles got) f.held in
+        search (needed-fits v.types k t w'.stored trees' frames kind key row f.fit needs read, held, needed-asked v.types frames kind key row f.asked needs)
 
     fit-made : (reading : Reading) (x : N) (made : ReadsNode v reading x) (n : ℕ) (row : HandleRow) → GetsRow w w' made.top.kind n row
         → ReadsNodeTree v.types w'.stored trees' made.top.key (type_of made.top.kind.0) row.node.0 → Now reading.frames → Now (with_got made.top.kind row made.below)
     fit-made reading x made n row got read f =
         let g = subst Now made.frames f in
-        record {
-          fit = made-fits v.types k t w'.stored trees' made.top made.below row g.fit read;
-          held = all-more (GotStands w' l) made.below made.top.kind row (got-new l made.top.kind n row h.after.handles got) (λ frame r among there. g.held frame r (suc among.0, among.1) there);
-          asked = made-asked v.types made.top made.below row g.asked;
-        }
+        let held = all-more (GotStands w' l) made.below made.top.kind row (got-new l made.top.kind n row h.after.handles got) (λ frame r among there. g.held frame r (suc among.0, among.1) there) in
+        search (made-fits v.types k t w'.stored trees' made.top made.below row g.fit read, held, made-asked v.types made.top made.below row g.asked)
 
   felt-after : (reading : Reading) (load : OpenLoad) (frames : List Frame) {c : Change} → AtStep v c w w' trees trees' → w.loads reading.load.0 ≡ Some load
       → ReadingFeels v w reading None frames w' c → FitOf v w' trees' reading load reading.frames → FitOf v w' trees' reading load frames
   felt-after reading load frames h open_load (reads-root l blob none_read at stored answer is) g =
       grind (arith, nat_tests, same_some, root_frame, root-fits, held, all-new, all-none, asked, root-asked)
-  felt-after reading load frames h open_load (reads-blob kind key blob needs stored answer is) g = subst (FitOf v w' trees' reading load) (sym is) (record {
-    fit = nested-fits v.types load.key reading.node_type w'.stored trees' reading.frames kind key blob g.fit needs (h.goes.stored key blob stored);
-    held = all-new (GotStands w' reading.load) (nested_frame kind key blob) reading.frames refl g.held;
-    asked = nested-asked v.types reading.frames kind key blob g.asked needs;
-  })
+  felt-after reading load frames h open_load (reads-blob kind key blob needs stored answer is) g =
+      let fit = nested-fits v.types load.key reading.node_type w'.stored trees' reading.frames kind key blob g.fit needs (h.goes.stored key blob stored) in
+      let held = all-new (GotStands w' reading.load) (nested_frame kind key blob) reading.frames refl g.held in
+      subst (FitOf v w' trees' reading load) (sym is) (search (fit, held, nested-asked v.types reading.frames kind key blob g.asked needs))
   felt-after reading load frames h open_load (gets-known kind key n row needs known got answer is) g =
       subst (FitOf v w' trees' reading load) (sym is) (fit-got reading.load load.key reading.node_type h reading.frames kind key n row needs got (known-reads h kind key n row known got.at) g)
   felt-after reading load frames h open_load (gets-lazy kind key row needs got answer is) g =
@@ -196,14 +189,9 @@ module _ {N E : Type 0} {v : Values N} {s s' : PagerState N E} {trees trees' : �
     (stands : Represents v s trees) (goes : CoreGoes c s.core s'.core) (fits : ChangeFits v c comes s s' trees trees') where
   at-step : AtStep v c s.core s'.core trees trees'
   at-step =
-      record {
-        goes = goes;
-        same = fits.same;
-        before = whole.whole;
-        after = whole'.whole;
-        cache = stands.cache;
-        born = λ kind key own is. let f = subst (λ z. ChangeFits v z comes s s' trees trees') is fits in f.knows kind key (s.core.last.node + 1) (refl, refl, refl);
-      }
+      let born : (kind key : ℕ) (own : OptionalDataKey) → c ≡ bears_known kind key own → ReadsNodeTree v.types s'.core.stored trees' key (type_of kind) (s.core.last.node + 1) =
+      λ kind key own is. let f = subst (λ z. ChangeFits v z comes s s' trees trees') is fits in f.knows kind key (s.core.last.node + 1) (refl, refl, refl) in
+      search (goes, fits.same, whole.whole, whole'.whole, stands.cache, born)
 
   -- a load that is open afterwards and was given was open before
   pub was-open : (l : ℕ) (load : OpenLoad) → l ≤ s.core.last.load → s'.core.loads l ≡ Some load → s.core.loads l ≡ Some load
@@ -214,13 +202,9 @@ module _ {N E : Type 0} {v : Values N} {s s' : PagerState N E} {trees trees' : �
 
   pub going-on : (reading : Reading) → Going v s trees reading → Going v s' trees' reading
   going-on reading g =
-      record {
-        within = still-within reading.load.0 g.within;
-        fits = λ load is. let was = was-open reading.load.0 load g.within is in
-            (fit-still reading.load load.key reading.node_type at-step reading.frames (record { fit = g.fits load was; held = g.held; asked = g.asked })).fit;
-        held = frames-on goes reading.load reading.frames g.held;
-        asked = g.asked;
-      }
+      let fits : ReadingFits v s' trees' reading = λ load is. let was = was-open reading.load.0 load g.within is in
+      (fit-still reading.load load.key reading.node_type at-step reading.frames (record { fit = g.fits load was; held = g.held; asked = g.asked })).fit in
+      search (still-within reading.load.0 g.within, fits, frames-on goes reading.load reading.frames g.held, g.asked)
 
   -- and where the load makes a step and goes on
   pub going-step : (reading : Reading) (frames : List Frame) (load : OpenLoad) → s.core.loads reading.load.0 ≡ Some load → Going v s trees reading
@@ -228,13 +212,9 @@ module _ {N E : Type 0} {v : Values N} {s s' : PagerState N E} {trees trees' : �
   going-step reading frames load opened g feels =
       let before = fit-still reading.load load.key reading.node_type at-step reading.frames (record { fit = g.fits load opened; held = g.held; asked = g.asked }) in
       let after = felt-after reading load frames at-step opened feels before in
-      record {
-        within = still-within reading.load.0 g.within;
-        fits = λ other at. subst (λ (z : OpenLoad). FramesFit v.types s'.core.stored trees' z.key reading.node_type frames)
-            (same_some _ _ (sym opened ∙ was-open reading.load.0 other g.within at)) after.fit;
-        held = after.held;
-        asked = after.asked;
-      }
+      let fits : ReadingFits v s' trees' (gone_on reading frames) = λ other at.
+          subst (λ (z : OpenLoad). FramesFit v.types s'.core.stored trees' z.key reading.node_type frames) (same_some _ _ (sym opened ∙ was-open reading.load.0 other g.within at)) after.fit in
+      search (still-within reading.load.0 g.within, fits, after.held, after.asked)
 
 -- ---- what is read
 

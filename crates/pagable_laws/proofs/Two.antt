@@ -1,6 +1,6 @@
 -- What falls of a value of two levels; and a lone cell that is unpinned.
 use Rattle.pagable_laws.proofs.Words.{◌≡◌, ℕ, ◌+◌, ◌≤◌, ◌&&◌, Bool, true, false, List, [], ◌∷◌, length, refl, ap, inl, inr, arith, Option, Ok, sum_by-cons, nat_tests, Blob, one, Owner, Mode}
-use Rattle.pagable_laws.proofs.Words.{HandleRow, pins, held, find_row, Last, owned_outside, loses_value, IsClosed, IsWithin, IsLeast, Falls, fallen, nobody, row_of, with_mode, UnpinCall, two_rows}
+use Rattle.pagable_laws.proofs.Words.{HandleRow, pins, held, find_row, Last, owned_outside, loses_value, IsClosed, IsWithin, IsLeast, Falls, nobody, row_of, with_mode, UnpinCall, two_rows}
 use Rattle.pagable_laws.proofs.Words.{are_two, outer, first, first_node, lone, lone_listed, lone_unlisted, TwoLevelsFall, LoneIsListed}
 use Rattle.pagable_laws.{specs.SmallWorlds.both, proofs.Existing.given-least, proofs.Sums.one-small}
 

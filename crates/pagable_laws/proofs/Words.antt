@@ -76,9 +76,9 @@ pub use Rattle.pagable_laws.specs.{PageOutLaws.{text-follows, pattern-follows, n
 pub use Rattle.pagable_laws.specs.ReadLaws.{KeepsStored, FramesGiven, ValueLeads, LeadsTo, number-leads, integer-leads, text-leads, pattern-leads, none-leads, pair-leads, variant-leads}
 pub use Rattle.pagable_laws.specs.{ReadLaws.{followed-leads, reference-leads, Decoded, FramesHeld, GotStands}, Rows.{only_cat, chain, no_parts, cats}, FallLaws.{ChainsJoin, NewIsWhole}}
 pub use Rattle.pagable_laws.specs.{FallLaws.NextIsOneOf, SmallWorlds.{no_work, two_rows, are_two, outer, first, first_node, lone, lone_listed, lone_unlisted}, TreeLaws.{IsOneKey, IsOneItemKey}}
-pub use Rattle.pagable_laws.specs.{TreeLaws.{IsStoredKey, IsTreeReadable, IsKeyOfOneTree, StaysInside, IsCanonicalInside, IsOneTree, IsLongestPath}, TreeRuns.ChangeFits, TreeSteps.Change}
+pub use Rattle.pagable_laws.specs.{TreeLaws.{IsStoredKey, IsTreeReadable, IsKeyOfOneTree, StaysInside, IsCanonicalInside, IsOneTree, IsLongestPath}, TreeSteps.ChangeFits, TreeSteps.Change}
 pub use Rattle.pagable_laws.specs.TreeSteps.{nothing_felt, bears_known, ReadingFeels, reads-root, reads-blob, gets-known, gets-lazy, makes-known, makes-node, reading-ends, sets_key, IsFresh}
-pub use Rattle.pagable_laws.specs.TreeSteps.{CoreGoes, EventFeels, by-call, by-reading, by-key, by-nothing, KeepsReadings, KeysAreReady, StepFeels, knows_node, bears_node, StaysAway, AreGood}
+pub use Rattle.pagable_laws.specs.TreeSteps.{CoreGoes, EventFeels, by-call, by-reading, by-key, by-nothing, KeepsReadings, KeysAreReady, knows_node, bears_node, StaysAway, AreGood}
 pub use Rattle.pagable_laws.specs.TreeSteps.{CallFeels, feels-nothing, feels-birth, feels-away, feels-key, feels-known, feels-adopted, feels-lazy, feels-end, HandsOver, ReadHolds}
 pub use Rattle.pagable_laws.specs.TreeSteps.{IsSteppedReading, StepsReading, BeginsWell, GetsRow, HasPin, PinHolds, NodeLeads, Sets, Knows, Bears, SameNode, NewNode}
 unfoldable pub use Rattle.pagable_laws.specs.{KeyRuns.AllHold, PageOutLaws.{KeysSoFar, Waits}, TwoLevels.value_at}

@@ -5,7 +5,6 @@ pub mod Rows
 pub mod SmallWorlds
 pub mod FallLaws
 pub mod TreeSteps
-pub mod TreeRuns
 pub mod ReadLaws
 pub mod PageOutLaws
 pub mod KeyRuns

@@ -1,4 +1,4 @@
--- What trees feel of a step: which node gets a key, becomes known or is born, which values come, and how blobs that loads read grow.
+-- What trees feel of a step: which node gets a key, becomes known or is born, which values come, and how blobs that loads read grow; and what of it fits the trees afterwards.
 use Rattle.std.specs.Prelude.{ℕ, ◌≡◌, ◌<◌, ◌≤◌, ◌+◌, ◌⊎◌, true, false, List, [], ◌∷◌, Option, Some, None, is_some, Ok}
 use Rattle.pagable_world.specs.Plain.{OptionalDataKey, ArcRef, Kind, HandleNumber}
 use Rattle.pagable_world.specs.{Plain.{LoadNumber, NodeNumber, WorkerNumber, Identity, Blob, Tree, ReadsTree, type_of, Among}, declared.{answers.Pinning.Pinning, events.{PinStep.PinStep, Took.Took}}}
@@ -6,7 +6,7 @@ use Rattle.pagable_world.specs.declared.{handles.{Owner.Owner, HandleRow.HandleR
 use Rattle.pagable_world.specs.{Kinds.{is_pinning, is_loose, any_mode, fits_mode, owner_worker, find_row}, World.{Core, Cell, OpenLoad, of_cell, Frame, Reading, Todo, to_load, to_set, Walking, World}}
 use Rattle.pagable_world.specs.{World.{row_at, type_at, key_at, is_here, Values}, Refusals.{Owns, IsReference}, LoadCalls.first_key, Loads.{ReadsNode, ReadsRoot, need_of, needs_nested, needs_lazy}}
 use Rattle.pagable_world.specs.{Loads.{root_frame, nested_frame, with_got, gone_on}, Events.reading_at, Pager.{PagerState, MachineState, world_of, KeyFits, IsNewNode, CallBrings, EventBrings}}
-use Rattle.{pagable_world.specs.Pager.IsReadingOf, pagable_laws.specs.ReadLaws.ValueLeads}
+use Rattle.{pagable_world.specs.Pager.{IsReadingOf, SameTrees, ReadsNodeTree}, pagable_laws.specs.ReadLaws.ValueLeads}
 
 -- a node leads to its tree: its key reads as that, and its value leads there
 pub record NodeLeads {N E : Type 0} (v : Values N) (s : PagerState N E) (trees : ℕ → Tree) (n : ℕ) : Type 0 where
@@ -189,12 +189,6 @@ pub data EventFeels {N B W : Type 0} (v : Values N) (u : World) (event : Event N
   by-key : (k : WorkerNumber) (key : ℕ) (row : HandleRow) → event ≡ Event.WorkerStep k → SetsThrough u k key row → KeepsReadings u u' → EventFeels v u event reply u' (sets_key row.node.0 key)
   by-nothing : ((n : ℕ) (x : N) → EventBrings v u event n x → IsNewNode u.core n ⊎ StaysAway u.core u'.core n) → KeepsReadings u u' → EventFeels v u event reply u' nothing_felt
 
--- some change, and how it is felt
-pub record StepFeels {N B W : Type 0} (v : Values N) (u : World) (event : Event N B W) (reply : EventReply N B W) (u' : World) : Type 0 where
-  pub change : Change
-  pub core : CoreGoes change u.core u'.core
-  pub feels : EventFeels v u event reply u' change
-
 -- A handle that pins; and each of these references, which the load owned, is the asker's.
 pub record HasPin (w : Core) (k : HandleNumber) : Type 0 where
   pub row : HandleRow
@@ -219,3 +213,12 @@ ReadHolds v u event reply u' = Unit {0}
 -- the key that a worker is about to set reads as the tree of its handle's node.
 abbrev pub KeysAreReady : {N E : Type 0} → Values N → MachineState N E → (ℕ → Tree) → Type 0
 KeysAreReady v s trees = (k : WorkerNumber) (key : ℕ) (row : HandleRow) → SetsThrough (world_of s) k key row → ReadsTree s.pager.core.stored v.types key (trees row.node.0)
+
+-- What a change brings fits the trees afterwards: the key that is set, the key of a new node, what becomes known, and each value that comes.
+pub record ChangeFits {N E : Type 0} (v : Values N) (c : Change) (comes : ℕ → N → Type 0) (s s' : PagerState N E) (trees trees' : ℕ → Tree) : Type 0 where
+  pub same : SameTrees s.core.last.node trees trees'
+  pub sets : (n key : ℕ) → Sets c n key → ReadsTree s'.core.stored v.types key (trees n)
+  pub born : (t : ℕ) (own : OptionalDataKey) → Bears c t own → (trees' (s.core.last.node + 1)).type ≡ t
+  pub keyed : (t key : ℕ) → Bears c t (OptionalDataKey.Some key) → ReadsTree s'.core.stored v.types key (trees' (s.core.last.node + 1))
+  pub knows : (kind key n : ℕ) → Knows c s.core kind key n → ReadsNodeTree v.types s'.core.stored trees' key (type_of kind) n
+  pub comes_well : (n : ℕ) (x : N) → comes n x → s.values n ≡ None → s'.values n ≡ Some x → ValueLeads v trees' x (trees' n)
