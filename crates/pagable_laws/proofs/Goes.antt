@@ -188,16 +188,28 @@ begun c w key root me well =
 pub goes-then : {w m w' : Core} → Goes nothing_felt w m → Goes nothing_felt m w' → Goes nothing_felt w w'
 goes-then {w} {m} {w'} a b =
     let cells : (n : ℕ) (cell : Cell) → w'.cells n ≡ Some cell → Kept nothing_felt w n cell ⊎ ((n ≡ w.last.node + 1) × Bears nothing_felt cell.node_type cell.key) = λ n cell is.
-        elim (b.cells n cell is) [ inl k ↦ inl (kept n cell k (was n k.was k.live)) | inr (next, bears) ↦ absurd bears ] in
+    elim (b.cells n cell is) [ inl k ↦ inl (kept n cell k (was n k.was k.live)) | inr (next, bears) ↦ absurd bears ] in
     let loads : (l : ℕ) (load : OpenLoad) → w'.loads l ≡ Some load → (w.loads l ≡ Some load) ⊎ ((w.last.load < l) × BeginsWell w load) = λ l load is. elim (b.loads l load is) [
       | inl there ↦ a.loads l load there
       | inr (above, well) ↦ inr (let c = a.loads_last in omega arith, λ node t h root. let k = well node t h root in both node.0 t load.key (m.cells node.0) refl k.0 k.1)
     ] in
     let cache : (kind key n : ℕ) → w'.cache kind key ≡ Some n → (w.cache kind key ≡ Some n) ⊎ Knows nothing_felt w kind key n = λ kind key n is.
-        elim (b.cache kind key n is) [ inl there ↦ a.cache kind key n there | inr known ↦ absurd known ] in
+    elim (b.cache kind key n is) [ inl there ↦ a.cache kind key n there | inr known ↦ absurd known ] in
     let rows = rows-then w.last.handle m.last.handle w.rows m.rows w'.rows a.handles a.rows b.rows in
-    search (le_trans a.nodes b.nodes, le_trans a.handles b.handles, le_trans a.loads_last b.loads_last, le_trans a.workers_last b.workers_last, cells, loads, cache, rows,
-    a.stored, b.stored, a.shut, b.shut)
+    search (
+      le_trans a.nodes b.nodes,
+      le_trans a.handles b.handles,
+      le_trans a.loads_last b.loads_last,
+      le_trans a.workers_last b.workers_last,
+      cells,
+      loads,
+      cache,
+      rows,
+      a.stored,
+      b.stored,
+      a.shut,
+      b.shut,
+    )
   where
     same-key : {u : Core} {n : ℕ} {cell : Cell} → (k : Kept nothing_felt u n cell) → cell.key ≡ k.was.key
     same-key k = elim k.key [ inl same ↦ same | inr (key, none, is) ↦ absurd none ]

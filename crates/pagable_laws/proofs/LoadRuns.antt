@@ -49,9 +49,9 @@ module _ {N E : Type 0} {v : Values N} (lawful : IsLawful v) (readable : ReadsIt
     still : answer ≡ None → Under v s' fit.0 key (gone_on reading frames)
     still none =
         let going = going-step u.well step.whole u.stands felt.does.goes fit.1 reading frames load.0 load.1 u.going
-            (subst (λ (o : Option (LoadAnswer N)). ReadingFeels v s.core reading o frames s'.core felt.change) none feels) in
+        (subst (λ (o : Option (LoadAnswer N)). ReadingFeels v s.core reading o frames s'.core felt.change) none feels) in
         let keyed : (other : OpenLoad) → s'.core.loads reading.load.0 ≡ Some other → other.key ≡ key = λ other there.
-            u.keyed other (was-open u.well step.whole u.stands felt.does.goes fit.1 reading.load.0 other u.going.within there) in
+        u.keyed other (was-open u.well step.whole u.stands felt.does.goes fit.1 reading.load.0 other u.going.within there) in
         search (settled', step.whole, went.stands, going, keyed)
       where
         load : (x : OpenLoad) × (s.core.loads reading.load.0 ≡ Some x)

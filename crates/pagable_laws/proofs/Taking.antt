@@ -213,7 +213,7 @@ module _ {N E : Type 0} {v : Values N} {s s' : PagerState N E} {trees trees' : �
       let before = fit-still reading.load load.key reading.node_type at-step reading.frames (record { fit = g.fits load opened; held = g.held; asked = g.asked }) in
       let after = felt-after reading load frames at-step opened feels before in
       let fits : ReadingFits v s' trees' (gone_on reading frames) = λ other at.
-          subst (λ (z : OpenLoad). FramesFit v.types s'.core.stored trees' z.key reading.node_type frames) (same_some _ _ (sym opened ∙ was-open reading.load.0 other g.within at)) after.fit in
+      subst (λ (z : OpenLoad). FramesFit v.types s'.core.stored trees' z.key reading.node_type frames) (same_some _ _ (sym opened ∙ was-open reading.load.0 other g.within at)) after.fit in
       search (still-within reading.load.0 g.within, fits, after.held, after.asked)
 
 -- ---- what is read
