@@ -4,9 +4,7 @@ ghost use Rattle.std.specs.Prelude.{◌≡◌, ◌+◌, ◌≤◌, List, [], ◌
 ghost use Rattle.pagable_model.specs.Gives.{memory};
 
 mod numbers;
-mod signed;
 mod texts;
-mod wide;
 
 use pagable_model::Error;
 use std::alloc::Global;

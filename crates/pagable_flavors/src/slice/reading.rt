@@ -35,7 +35,7 @@ impl Reader for PagableSlice<'_> {
         self.pop()
     }
 
-    #[tactic(auto, using(crate::proofs::Varint::reader_steps, crate::proofs::Varint::limits))]
+    #[tactic(auto, using(crate::proofs::Varint::varint_at_first), unfolding(pagable_model::specs::Numbers::varint_limit))]
     fn read_u16(&mut self) -> Result<u16, Error> {
         if let Some(byte) = self.short() {
             return Ok(u16::from(byte));
@@ -44,7 +44,7 @@ impl Reader for PagableSlice<'_> {
         Ok(number as u16)
     }
 
-    #[tactic(auto, using(crate::proofs::Varint::reader_steps, crate::proofs::Varint::limits))]
+    #[tactic(auto, using(crate::proofs::Varint::varint_at_first), unfolding(pagable_model::specs::Numbers::varint_limit))]
     fn read_u32(&mut self) -> Result<u32, Error> {
         if let Some(byte) = self.short() {
             return Ok(u32::from(byte));
@@ -53,7 +53,7 @@ impl Reader for PagableSlice<'_> {
         Ok(number as u32)
     }
 
-    #[tactic(auto, using(crate::proofs::Varint::reader_steps, crate::proofs::Varint::limits))]
+    #[tactic(auto, using(crate::proofs::Varint::varint_at_first), unfolding(pagable_model::specs::Numbers::varint_limit))]
     fn read_u64(&mut self) -> Result<u64, Error> {
         if let Some(byte) = self.short() {
             return Ok(u64::from(byte));
@@ -62,7 +62,7 @@ impl Reader for PagableSlice<'_> {
         Ok(number)
     }
 
-    #[tactic(auto, using(crate::proofs::Varint::wide_reader_steps))]
+    #[tactic(auto, using(crate::proofs::Varint::varint_at_first))]
     fn read_u128(&mut self) -> Result<u128, Error> {
         if let Some(byte) = self.short() {
             return Ok(u128::from(byte));

@@ -1,14 +1,15 @@
-//! Whole numbers are written.
+//! Whole numbers are written, without and with a sign.
 
-ghost use Rattle.std.specs.{Int.w8, Int.w16, Int.w32, Int.w64, Prelude.◌≡◌, Prelude.◌++◌, Prelude.OnOk, Prelude.IfErr};
-ghost use Rattle.pagable_model.specs.{Gives.memory, Gives.Extends, Numbers.unsigned_form, Varints.AppendsVarint};
+ghost use Rattle.std.specs.{Int.w8, Int.w16, Int.w32, Int.w64, Int.w128, Prelude.◌≡◌, Prelude.◌++◌, Prelude.OnOk, Prelude.IfErr};
+ghost use Rattle.pagable_model.specs.{Gives.memory, Gives.Extends, Numbers.unsigned_form, Numbers.signed_form, Varints.AppendsVarint};
 
 use super::PagableVecFlavor;
+use crate::zigzag;
 use pagable_model::Error;
 
 impl PagableVecFlavor {
     // The shortest varint of a number, for every width that the number fits.
-    #[tactic(auto, using(crate::proofs::Varint::writer_steps))]
+    #[tactic(auto, using(crate::proofs::Varint::writing))]
     fn varint(&mut self, number: u64) -> Result<(), Error>
         ensures ok { OnOk result (AppendsVarint self.old self.new number) }
         ensures only { IfErr result memory }
@@ -33,7 +34,7 @@ impl PagableVecFlavor {
     }
 
     /// A number of 16 bits, in 1 to 3 bytes. `OutOfMemory` where the writer can't grow.
-    #[tactic(auto, using(crate::proofs::Varint::limits))]
+    #[tactic(auto, unfolding(pagable_model::specs::Numbers::varint_limit))]
     pub fn write_u16(&mut self, number: u16) -> Result<(), Error>
         ensures ok { OnOk result (self.new ≡ self.old ++ unsigned_form w16 number) }
         ensures only { IfErr result memory }
@@ -43,7 +44,7 @@ impl PagableVecFlavor {
     }
 
     /// A number of 32 bits, in 1 to 5 bytes. `OutOfMemory` where the writer can't grow.
-    #[tactic(auto, using(crate::proofs::Varint::limits))]
+    #[tactic(auto, unfolding(pagable_model::specs::Numbers::varint_limit))]
     pub fn write_u32(&mut self, number: u32) -> Result<(), Error>
         ensures ok { OnOk result (self.new ≡ self.old ++ unsigned_form w32 number) }
         ensures only { IfErr result memory }
@@ -53,7 +54,7 @@ impl PagableVecFlavor {
     }
 
     /// A number of 64 bits, in 1 to 10 bytes. `OutOfMemory` where the writer can't grow.
-    #[tactic(auto, using(crate::proofs::Varint::limits))]
+    #[tactic(auto, unfolding(pagable_model::specs::Numbers::varint_limit))]
     pub fn write_u64(&mut self, number: u64) -> Result<(), Error>
         ensures ok { OnOk result (self.new ≡ self.old ++ unsigned_form w64 number) }
         ensures only { IfErr result memory }
@@ -69,5 +70,69 @@ impl PagableVecFlavor {
         ensures err { Extends self.old self.new }
     {
         self.write_u64(number as u64)
+    }
+
+    /// A number of 128 bits, in 1 to 19 bytes. `OutOfMemory` where the writer can't grow.
+    #[tactic(auto, using(crate::proofs::Varint::writing))]
+    pub fn write_u128(&mut self, number: u128) -> Result<(), Error>
+        ensures ok { OnOk result (self.new ≡ self.old ++ unsigned_form w128 number) }
+        ensures only { IfErr result memory }
+        ensures err { Extends self.old self.new }
+    {
+        let mut rest = number;
+        while rest >= 128 {
+            let low = (rest % 128) as u8;
+            self.try_push(128 + low)?;
+            rest /= 128;
+        }
+        self.try_push(rest as u8)?;
+        Ok(())
+    }
+
+    /// A number of 8 bits with a sign, in one byte in two's complement. `OutOfMemory` where the writer can't grow.
+    pub fn write_i8(&mut self, number: i8) -> Result<(), Error>
+        ensures ok { OnOk result (self.new ≡ self.old ++ signed_form w8 number) }
+        ensures only { IfErr result memory }
+        ensures err { Extends self.old self.new }
+    {
+        self.write_u8(number.cast_unsigned())
+    }
+
+    /// A number of 16 bits with a sign, in 1 to 3 bytes. `OutOfMemory` where the writer can't grow.
+    #[tactic(auto, using(crate::proofs::Signed::zigzag_bounds))]
+    pub fn write_i16(&mut self, number: i16) -> Result<(), Error>
+        ensures ok { OnOk result (self.new ≡ self.old ++ signed_form w16 number) }
+        ensures only { IfErr result memory }
+        ensures err { Extends self.old self.new }
+    {
+        self.write_u16(zigzag::encode(i64::from(number)) as u16)
+    }
+
+    /// A number of 32 bits with a sign, in 1 to 5 bytes. `OutOfMemory` where the writer can't grow.
+    #[tactic(auto, using(crate::proofs::Signed::zigzag_bounds))]
+    pub fn write_i32(&mut self, number: i32) -> Result<(), Error>
+        ensures ok { OnOk result (self.new ≡ self.old ++ signed_form w32 number) }
+        ensures only { IfErr result memory }
+        ensures err { Extends self.old self.new }
+    {
+        self.write_u32(zigzag::encode(i64::from(number)) as u32)
+    }
+
+    /// A number of 64 bits with a sign, in 1 to 10 bytes. `OutOfMemory` where the writer can't grow.
+    pub fn write_i64(&mut self, number: i64) -> Result<(), Error>
+        ensures ok { OnOk result (self.new ≡ self.old ++ signed_form w64 number) }
+        ensures only { IfErr result memory }
+        ensures err { Extends self.old self.new }
+    {
+        self.write_u64(zigzag::encode(number))
+    }
+
+    /// A number of 128 bits with a sign, in 1 to 19 bytes. `OutOfMemory` where the writer can't grow.
+    pub fn write_i128(&mut self, number: i128) -> Result<(), Error>
+        ensures ok { OnOk result (self.new ≡ self.old ++ signed_form w128 number) }
+        ensures only { IfErr result memory }
+        ensures err { Extends self.old self.new }
+    {
+        self.write_u128(zigzag::encode_wide(number))
     }
 }
