@@ -3,8 +3,7 @@
 ghost use Rattle.std.specs.Prelude.{◌≡◌, ◌+◌, ◌≤◌, List, [], ◌∷◌, ◌++◌, length, take, drop, OnOk, OnErr, IfErr};
 ghost use Rattle.pagable_model.specs.Gives.{memory};
 
-mod numbers;
-mod texts;
+mod writing;
 
 use pagable_model::Error;
 use std::alloc::Global;
