@@ -1,5 +1,5 @@
 -- What the fields of serializers, deserializers and those who answer for references stand for.
-use Rattle.std.{specs.Prelude.{◌≡◌, refl, Result, Err, true}, proofs.Common.subst}
+use Rattle.std.specs.Prelude.{◌≡◌, refl, Result, Err, true}
 use Rattle.pagable_model.specs.{Refusals.may_refuse_reference, Writing.Out, declared.error.Error.Error, declared.numbers.ArcRef.ArcRef}
 use Rattle.pagable_core.specs.{declared.context.reading.PagableDeserializerImpl.PagableDeserializerImpl, declared.context.writing.SerializerOver.SerializerOver}
 use Rattle.pagable_model.specs.declared.error.Error.TheVariants as errors
@@ -12,6 +12,4 @@ references_of s = s.references
 
 pub wrong_kind_may_refuse : (e : Error) → (let r : Result ArcRef Error = Err errors.WrongKind in r) ≡ Err e → may_refuse_reference e ≡ true
 wrong_kind_may_refuse e is =
-    let same : errors.WrongKind ≡ e = cc in
-    let P : Error → Type 0 = λ x. may_refuse_reference x ≡ true in
-    subst P same refl
+    let same : errors.WrongKind ≡ e = cc in rw (← same) refl
