@@ -1,26 +1,9 @@
 -- The references of values that hold others, one after the other.
 use Rattle.std.proofs.{Common.{◌≡◌, ◌∙◌, ◌<◌, ◌≤◌, ◌+◌, ℕ, length, slice_index_or, List, [], ◌∷◌, ◌++◌, sym, ap, append_assoc, Result, Ok, Err}, lemmas.List.{append-nil, drop_all, drop_more}}
-use Rattle.std.specs.Prelude.{map, drop, OnOk, Option, Some, None}
-use Rattle.pagable_model.specs.{Carried.of_option, Meaning.{Meaning, pair, reference, sequence}, References.references_in, Shape.Shape, Writing.{Nesting, Out, WritesSome}, declared.error.Error.Error}
+use Rattle.std.specs.Prelude.{map, drop, OnOk}
+use Rattle.pagable_model.specs.{Meaning.{Meaning, pair, sequence}, References.references_in, Shape.Shape, Writing.{Nesting, Out, WritesSome}, declared.error.Error.Error}
 use Rattle.pagable_model.specs.declared.numbers.ArcRef.{ArcRef}
 use Rattle.pagable_arcs.specs.Refers.{ListsInOrder}
-use Rattle.pagable_model.specs.Meaning as texts
-
-pub one_listed : (old new : List ArcRef) (r : ArcRef) → new ≡ old ++ r ∷ [] → new ≡ old ++ references_in (reference r)
-unfolding references_in
-one_listed old new r e = e
-
-pub none_listed : (old : List ArcRef) (t : List ℕ) → old ≡ old ++ references_in (texts.text t)
-unfolding references_in
-none_listed old t = sym (append-nil old)
-
-pub absent_listed : {T : Type 0} (meaning : T → Meaning ArcRef) (o : Option T) (old : List ArcRef) → o ≡ None → old ≡ old ++ references_in (of_option meaning o)
-unfolding references_in
-absent_listed meaning o old e = rw e (sym (append-nil old))
-
-pub present_listed : {T : Type 0} (meaning : T → Meaning ArcRef) (x : T) (old new : List ArcRef) → new ≡ old ++ references_in (meaning x) → new ≡ old ++ references_in (of_option meaning (Some x))
-unfolding references_in
-present_listed meaning x old new e = e
 
 pub pair_listed : (m n : Meaning ArcRef) (old mid new : List ArcRef) → mid ≡ old ++ references_in m → new ≡ mid ++ references_in n → new ≡ old ++ references_in (pair m n)
 unfolding references_in
@@ -49,4 +32,4 @@ pub written_listed : {X : Type 0} (r : Result X Error) (M : Meaning ArcRef → T
 written_listed (Ok x) M own n s old new single order w = written-listed M own n s old new single order w
 written_listed (Err e) M own n s old new single order w = tt
 
-pub ruleset parts = (one_listed, none_listed, absent_listed, present_listed, pair_listed)
+pub ruleset parts = (append-nil)

@@ -26,7 +26,7 @@ pub trait Refers<E: Env>: OneMeaning<E> {
 }
 
 impl<E: Env, T: OfNode<E>> Refers<E> for PagableArc<T> {
-    #[tactic(auto, using(crate::proofs::Listed::parts))]
+    #[tactic(auto, using(crate::proofs::Listed::parts), unfolding(pagable_model::specs::References::references_in))]
     fn list_references(&self, list: &mut Vec<ArcRef>) -> Result<(), Error> {
         list.push(self.reference::<E>())?;
         Ok(())
@@ -36,7 +36,7 @@ impl<E: Env, T: OfNode<E>> Refers<E> for PagableArc<T> {
 }
 
 impl<E: Env, T: OfNode<E>, const PINS: bool> Refers<E> for HoldingArc<T, PINS> {
-    #[tactic(auto, using(crate::proofs::Listed::parts))]
+    #[tactic(auto, using(crate::proofs::Listed::parts), unfolding(pagable_model::specs::References::references_in))]
     fn list_references(&self, list: &mut Vec<ArcRef>) -> Result<(), Error> {
         list.push(self.reference::<E>())?;
         Ok(())
@@ -46,7 +46,7 @@ impl<E: Env, T: OfNode<E>, const PINS: bool> Refers<E> for HoldingArc<T, PINS> {
 }
 
 impl<E: Env, const KIND: u32> Refers<E> for OfKind<KIND> {
-    #[tactic(auto, using(crate::proofs::Listed::parts))]
+    #[tactic(auto, using(crate::proofs::Listed::parts), unfolding(pagable_model::specs::References::references_in))]
     fn list_references(&self, list: &mut Vec<ArcRef>) -> Result<(), Error> {
         list.push(self.reference())?;
         Ok(())
@@ -64,7 +64,7 @@ impl<'a, E: Env, T: Refers<E>> Refers<E> for &'a T {
 }
 
 impl<E: Env> Refers<E> for String {
-    #[tactic(auto, using(crate::proofs::Listed::parts))]
+    #[tactic(auto, using(crate::proofs::Listed::parts), unfolding(pagable_model::specs::References::references_in))]
     fn list_references(&self, _list: &mut Vec<ArcRef>) -> Result<(), Error> {
         Ok(())
     }
@@ -73,7 +73,7 @@ impl<E: Env> Refers<E> for String {
 }
 
 impl<E: Env, T: Refers<E>> Refers<E> for Option<T> {
-    #[tactic(auto, using(crate::proofs::Listed::parts))]
+    #[tactic(auto, using(crate::proofs::Listed::parts), unfolding(pagable_model::specs::References::references_in))]
     fn list_references(&self, list: &mut Vec<ArcRef>) -> Result<(), Error> {
         match self {
             None => Ok(()),
@@ -85,7 +85,7 @@ impl<E: Env, T: Refers<E>> Refers<E> for Option<T> {
 }
 
 impl<E: Env, A: Refers<E>, B: Refers<E>> Refers<E> for (A, B) {
-    #[tactic(auto, using(crate::proofs::Listed::parts))]
+    #[tactic(auto, using(crate::proofs::Listed::pair_listed))]
     fn list_references(&self, list: &mut Vec<ArcRef>) -> Result<(), Error> {
         self.0.list_references(list)?;
         self.1.list_references(list)

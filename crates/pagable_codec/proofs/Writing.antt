@@ -18,20 +18,14 @@ pub grows_refl : (old : Out) → Grows old old
 grows_refl old = record { bytes = []; refs = []; grown = out_is _ _ _ _ (sym (append-nil old.bytes)) (sym (append-nil old.refs)) }
 
 -- two steps are one
-added-twice : (old : Out) (b c : List ℕ) (k l : List ArcRef) → added (added old b k) c l ≡ added old (b ++ c) (k ++ l)
-added-twice old b c k l = out_is _ _ _ _ (append_assoc old.bytes b c) (append_assoc old.refs k l)
-
 pub then : (a b c : Out) (p q : List ℕ) (k l : List ArcRef) → b ≡ added a p k → c ≡ added b q l → c ≡ added a (p ++ q) (k ++ l)
-then a b c p q k l e f = f ∙ ap (λ (x : Out). added x q l) e ∙ added-twice a p q k l
+then a b c p q k l e f = f ∙ ap (λ (x : Out). added x q l) e ∙ out_is _ _ _ _ (append_assoc a.bytes p q) (append_assoc a.refs k l)
 
 pub grows_trans : (a b c : Out) → Grows a b → Grows b c → Grows a c
 grows_trans a b c g h = record { bytes = g.bytes ++ h.bytes; refs = g.refs ++ h.refs; grown = then a b c _ _ _ _ g.grown h.grown }
 
-pub grows_writes : (n : Nesting) (s : Shape) (m : Meaning ArcRef) (a b : Out) → Writes n s m a b → Grows a b
-grows_writes n s m a b w = record { bytes = w.bytes; refs = w.refs; grown = w.grown }
-
 pub grows_some : (M : Meaning ArcRef → Type 0) (n : Nesting) (s : Shape) (a b : Out) → WritesSome M n s a b → Grows a b
-grows_some M n s a b w = grows_writes n s w.m a b w.wrote
+grows_some M n s a b w = record { bytes = w.wrote.bytes; refs = w.wrote.refs; grown = w.wrote.grown }
 
 -- bytes alone
 pub writes_bytes : (n : Nesting) (s : Shape) (m : Meaning ArcRef) (old : Out) (w b : List ℕ) → w ≡ old.bytes ++ b → FormAt n s m b [] → Writes n s m old (record old { bytes = w })
@@ -84,13 +78,10 @@ no_text n t lt b k f = go f refl
     go : {m : Meaning ArcRef} {b : List ℕ} {k : List ArcRef} → FormAt n shapes.text m b k → m ≡ meanings.text t → ⊥
     go (text-form l u v le) e = let same : u ≡ t = cc in omega (arith, ap length same)
 
-refuses_text : {X : Type 0} (meaning : X → Meaning ArcRef) (x : X) (n : Nesting) (t : List ℕ) (e : Error) → meaning x ≡ meanings.text t → long_or_memory (length t) e → Refused (Is meaning x) n shapes.text e
-refuses_text meaning x n t e is (inl h) = λ fault. record { m = meaning x; is = refl; no_form = rw is (no_text n t h.0) }
-refuses_text meaning x n t e is (inr h) = memory_refuses e (Is meaning x) n shapes.text h.1
-
 pub refused_text : {X Y : Type 0} (r : Result Y Error) (meaning : X → Meaning ArcRef) (x : X) (n : Nesting) (t : List ℕ) → meaning x ≡ meanings.text t → IfErr r (long_or_memory (length t)) → IfErr r (Refused (Is meaning x) n shapes.text)
 refused_text (Ok y) meaning x n t is h = tt
-refused_text (Err e) meaning x n t is h = refuses_text meaning x n t e is h
+refused_text (Err e) meaning x n t is (inl h) = λ fault. record { m = meaning x; is = refl; no_form = rw is (no_text n t h.0) }
+refused_text (Err e) meaning x n t is (inr h) = memory_refuses e (Is meaning x) n shapes.text h.1
 
 pub only_long : {Y : Type 0} (r : Result Y Error) (len : ℕ) → IfErr r (long_or_memory len) → IfErr r (long_or memory)
 only_long (Ok y) len h = tt

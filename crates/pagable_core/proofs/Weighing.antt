@@ -44,11 +44,6 @@ is_weighed_more old new came b h sum place = record {
 pub take_next : (bytes : List ℕ) (i b : ℕ) (front : List ℕ) → i < length bytes → b ≡ get_or bytes i 0 → front ++ take (i + 1) bytes ≡ (front ++ take i bytes) ++ b ∷ []
 take_next bytes i b front h is = rw (take_more bytes i 0 h, ← is) (sym (append_assoc front (take i bytes) (b ∷ [])))
 
--- the keys so far, and one more
-pub flat_map-next : (f : ℕ → List ℕ) (keys : List ℕ) (i key : ℕ) (front : List ℕ) → i < length keys → key ≡ get_or keys i key → front ++ flat_map f (take (i + 1) keys) ≡ (front ++ flat_map f (take i keys)) ++ f key
-flat_map-next f keys i key front h is =
-    rw (take_more keys i key h, ← is, flat_map-append f (take i keys) (key ∷ []), append-nil (f key)) (sym (append_assoc front (flat_map f (take i keys)) (f key)))
-
 -- the count, the bytes and the keys are the preimage
 pub preimage_is : (bytes keys : List ℕ) → (to_le_bytes w64 (length keys) ++ bytes) ++ flat_map (to_le_bytes w128) keys ≡ preimage (record { bytes = bytes; keys = keys })
 unfolding preimage
@@ -60,6 +55,7 @@ begins count counted bytes written f e h = rw (e, h) (sym (append-nil (count ++ 
 
 -- one key more
 pub continues : (f : ℕ → List ℕ) (keys : List ℕ) (i key : ℕ) (front more : List ℕ) → i < length keys → key ≡ get_or keys i key → more ≡ f key → (front ++ flat_map f (take i keys)) ++ more ≡ front ++ flat_map f (take (i + 1) keys)
-continues f keys i key front more h is e = rw e (sym (flat_map-next f keys i key front h is))
+continues f keys i key front more h is e =
+    rw (e, take_more keys i key h, ← is, flat_map-append f (take i keys) (key ∷ []), append-nil (f key)) (append_assoc front (flat_map f (take i keys)) (f key))
 
 pub ruleset keying = (begins, continues, preimage_is, take_all)

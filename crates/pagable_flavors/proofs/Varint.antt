@@ -5,48 +5,14 @@ use Rattle.pagable_model.specs.{Gives.Extends, Numbers.Read, Numbers.byte_at, Nu
 use Rattle.pagable_model.specs.declared.error.Error.TheVariants as errors
 
 -- what such numbers stay below
-pub limit-step : (more last : ℕ) → 0 < more → varint_limit more last ≡ 128 * varint_limit (more - 1) last
+limit-step : (more last : ℕ) → 0 < more → varint_limit more last ≡ 128 * varint_limit (more - 1) last
 unfolding varint_limit
 limit-step zero last h = absurd (omega arith)
 limit-step (suc more) last h = let e : suc more - 1 ≡ more = omega arith in rw e refl
 
-pub limit-zero : (last : ℕ) → varint_limit 0 last ≡ last + 1
-unfolding varint_limit
-limit-zero last = refl
-
-pub limit-16 : varint_limit 2 3 ≡ 2 ^ 16
-unfolding varint_limit
-limit-16 = refl
-
-pub limit-32 : varint_limit 4 15 ≡ 2 ^ 32
-unfolding varint_limit
-limit-32 = refl
-
-pub limit-64 : varint_limit 9 1 ≡ 2 ^ 64
-unfolding varint_limit
-limit-64 = refl
-
-pub room-16 : 2 ^ 16 ≤ varint_limit 2 127
-unfolding varint_limit
-room-16 = omega arith
-
-pub room-32 : 2 ^ 32 ≤ varint_limit 4 127
-unfolding varint_limit
-room-32 = omega arith
-
-pub room-64 : 2 ^ 64 ≤ varint_limit 9 127
-unfolding varint_limit
-room-64 = omega arith
-
-pub limit-128 : varint_limit 18 3 ≡ 2 ^ 128
-unfolding varint_limit
-limit-128 = refl
-
 pub room-128 : 2 ^ 128 ≤ varint_limit 18 127
 unfolding varint_limit
 room-128 = omega arith
-
-pub ruleset limits = (limit-16, limit-32, limit-64, room-16, room-32, room-64)
 
 -- What was read so far are the low bits, and what the rest reads as is the high part of the number.
 abbrev pub raised : ℕ → ℕ → Read ℕ → Read ℕ
@@ -74,25 +40,13 @@ unfolding varint_at
 varint_at-short zero last b xs p l = absurd (omega arith)
 varint_at-short (suc more) last b xs p l = rw (lt-ltb b 128 l) refl
 
-varint_at-last : (last b : ℕ) (xs : List ℕ) → b ≤ last → varint_at 0 last (b ∷ xs) ≡ Ok (b, xs)
-unfolding varint_at
-varint_at-last last b xs l = rw (le-leb b last l) refl
-
-varint_at-bad : (last b : ℕ) (xs : List ℕ) → last < b → varint_at 0 last (b ∷ xs) ≡ Err errors.BadVarint
-unfolding varint_at
-varint_at-bad last b xs l = rw (lt-leb b last l) refl
-
-varint_at-none : (more last : ℕ) → varint_at more last [] ≡ Err errors.UnexpectedEnd
-unfolding varint_at
-varint_at-none more last = refl
-
 same_ok : {X E : Type 0} (x y : X) → (let r : Result X E = Ok x in r) ≡ Ok y → x ≡ y
 same_ok x y e = cc
 
 -- a number of one byte
-pub varint_at-first : (more last b : ℕ) (xs ys : List ℕ) → byte_at xs ≡ Ok (b, ys) → b < 128 → 0 < more → varint_at more last xs ≡ Ok (b, ys)
-varint_at-first more last b [] ys h l p = cc
-varint_at-first more last b (x ∷ xs) ys h l p =
+pub varint_at_first : (more last b : ℕ) (xs ys : List ℕ) → byte_at xs ≡ Ok (b, ys) → b < 128 → 0 < more → varint_at more last xs ≡ Ok (b, ys)
+varint_at_first more last b [] ys h l p = cc
+varint_at_first more last b (x ∷ xs) ys h l p =
     rw (varint_at-short more last x xs p (omega (arith, ap (λ (p : ℕ × List ℕ). p.0) (same_ok _ _ h)))) h
 
 -- after `place` bytes with the top bit set
@@ -107,7 +61,12 @@ unfolding varint_limit
 limit-above zero last = omega arith
 limit-above (suc more) last = omega (arith, limit-above more last)
 
-pub limit-least : (more last : ℕ) → 0 < more → 128 ≤ varint_limit more last
+limit-some : (more n : ℕ) → 128 ≤ n → n < varint_limit more 127 → 0 < more
+unfolding varint_limit
+limit-some zero n l h = absurd (omega arith)
+limit-some (suc more) n l h = omega arith
+
+limit-least : (more last : ℕ) → 0 < more → 128 ≤ varint_limit more last
 limit-least more last p = omega (arith, limit-step more last p, limit-above (more - 1) last)
 
 below_raised : (low scale byte top : ℕ) → low < scale → byte < top → low + scale * byte < scale * top
@@ -130,44 +89,45 @@ ReadsOn_scale {more} {last} {bytes} {place} {low} {scale} r p l =
     let two : 256 ≤ varint_limit (more - place) last = omega (arith, limit-above (more - place - 1) last) in
     omega (arith, mul-le-mul_left scale two, r.limit)
 
-pub ReadsOn_more : {more last : ℕ} {bytes : List ℕ} {place low scale : ℕ} (byte : ℕ) → ReadsOn more last bytes place low scale → place < length bytes → place ≢ more → byte ≡ get_or bytes place 0 - 128 → 128 ≤ get_or bytes place 0 → byte < 128 → ReadsOn more last bytes (place + 1) (low + scale * byte) (scale * 128)
+-- what the next byte and those after it read as is the high part
+at_byte : {more last : ℕ} {bytes : List ℕ} {place low scale : ℕ} (byte : ℕ) (high : Read ℕ) → ReadsOn more last bytes place low scale → place < length bytes → byte ≡ get_or bytes place 0
+    → varint_at (more - place) last (byte ∷ drop (place + 1) bytes) ≡ high → varint_at more last bytes ≡ raised low scale high
+at_byte {more} {last} {bytes} {place} {low} {scale} byte high r h e is =
+    let here : drop place bytes ≡ byte ∷ drop (place + 1) bytes = rw (e, add-one) (drop-cons bytes place 0 h) in
+    r.reads ∙ ap (λ (xs : List ℕ). raised low scale (varint_at (more - place) last xs)) here ∙ ap (raised low scale) is
+
+pub ReadsOn_more : {more last : ℕ} {bytes : List ℕ} {place low scale : ℕ} (byte : ℕ) → ReadsOn more last bytes place low scale → place < length bytes → place ≢ more → byte ≡ get_or bytes place 0 - 128 → 128 ≤ get_or bytes place 0 → byte < 128
+    → ReadsOn more last bytes (place + 1) (low + scale * byte) (scale * 128)
 ReadsOn_more {more} {last} {bytes} {place} {low} {scale} byte r h apart e long small =
     let p : place < more = omega (arith, r.turn) in
     let less : more - place - 1 ≡ more - (place + 1) = omega arith in
-    let step : varint_limit (more - place) last ≡ 128 * varint_limit (more - place - 1) last = limit-step (more - place) last (omega arith) in
-    let here : drop place bytes ≡ get_or bytes place 0 ∷ drop (place + 1) bytes = rw add-one (drop-cons bytes place 0 h) in
     let front = varint_at-long (more - place) last (get_or bytes place 0) (drop (place + 1) bytes) (omega arith) long in
     record {
-      reads = r.reads ∙ ap (λ (xs : List ℕ). raised low scale (varint_at (more - place) last xs)) here ∙ ap (raised low scale) front ∙ rw (← e, ← less) (raised_twice low scale byte (varint_at (more - place - 1) last (drop (place + 1) bytes)));
-      limit = rw (← less) (omega (arith, r.limit, ap (λ (n : ℕ). scale * n) step));
+      reads = at_byte _ _ r h refl front ∙ rw (← e, ← less) (raised_twice low scale byte (varint_at (more - place - 1) last (drop (place + 1) bytes)));
+      limit = rw (← less) (omega (arith, r.limit, ap (λ (n : ℕ). scale * n) (limit-step (more - place) last (omega arith))));
       below = below_raised low scale byte 128 r.below small;
       turn = omega arith;
     }
 
 -- how reading ends
-ends : {more last : ℕ} {bytes : List ℕ} {place low scale : ℕ} (byte : ℕ) → ReadsOn more last bytes place low scale → place < length bytes → byte ≡ get_or bytes place 0 → varint_at (more - place) last (byte ∷ drop (place + 1) bytes) ≡ Ok (byte, drop (place + 1) bytes) → varint_at more last bytes ≡ Ok (low + scale * byte, drop (place + 1) bytes)
-ends {more} {last} {bytes} {place} {low} {scale} byte r h e done =
-    let here : drop place bytes ≡ byte ∷ drop (place + 1) bytes = rw (e, add-one) (drop-cons bytes place 0 h) in
-    r.reads ∙ ap (λ (xs : List ℕ). raised low scale (varint_at (more - place) last xs)) here ∙ ap (raised low scale) done
+pub ReadsOn_end : {more last : ℕ} {bytes : List ℕ} {place low scale : ℕ} (byte : ℕ) → ReadsOn more last bytes place low scale → place < length bytes → byte ≡ get_or bytes place 0 → place ≢ more → byte < 128
+    → varint_at more last bytes ≡ Ok (low + scale * byte, drop (place + 1) bytes)
+ReadsOn_end {more} {last} {bytes} {place} byte r h e apart small = at_byte byte _ r h e (varint_at-short (more - place) last byte (drop (place + 1) bytes) (omega (arith, r.turn)) small)
 
-pub ReadsOn_end : {more last : ℕ} {bytes : List ℕ} {place low scale : ℕ} (byte : ℕ) → ReadsOn more last bytes place low scale → place < length bytes → byte ≡ get_or bytes place 0 → place ≢ more → byte < 128 → varint_at more last bytes ≡ Ok (low + scale * byte, drop (place + 1) bytes)
-ReadsOn_end {more} {last} {bytes} {place} byte r h e apart small = ends byte r h e (varint_at-short (more - place) last byte (drop (place + 1) bytes) (omega (arith, r.turn)) small)
-
-pub ReadsOn_last : {more last : ℕ} {bytes : List ℕ} {place low scale : ℕ} (byte : ℕ) → ReadsOn more last bytes place low scale → place < length bytes → byte ≡ get_or bytes place 0 → place ≡ more → byte ≤ last → varint_at more last bytes ≡ Ok (low + scale * byte, drop (place + 1) bytes)
+pub ReadsOn_last : {more last : ℕ} {bytes : List ℕ} {place low scale : ℕ} (byte : ℕ) → ReadsOn more last bytes place low scale → place < length bytes → byte ≡ get_or bytes place 0 → place ≡ more → byte ≤ last
+    → varint_at more last bytes ≡ Ok (low + scale * byte, drop (place + 1) bytes)
+unfolding varint_at
 ReadsOn_last {more} {last} {bytes} {place} byte r h e whole small =
-    let none : more - place ≡ 0 = omega arith in
-    ends byte r h e (rw none (varint_at-last last byte (drop (place + 1) bytes) small))
+    let none : more - place ≡ 0 = omega arith in at_byte byte (Ok (byte, drop (place + 1) bytes)) r h e (rw (none, le-leb byte last small) refl)
 
 pub ReadsOn_bad : {more last : ℕ} {bytes : List ℕ} {place low scale : ℕ} → ReadsOn more last bytes place low scale → place < length bytes → place ≡ more → last < get_or bytes place 0 → varint_at more last bytes ≡ Err errors.BadVarint
-ReadsOn_bad {more} {last} {bytes} {place} {low} {scale} r h p big =
-    let none : more - place ≡ 0 = omega arith in
-    let here : drop place bytes ≡ get_or bytes place 0 ∷ drop (place + 1) bytes = rw add-one (drop-cons bytes place 0 h) in
-    let bad : varint_at (more - place) last (get_or bytes place 0 ∷ drop (place + 1) bytes) ≡ Err errors.BadVarint = rw none (varint_at-bad last (get_or bytes place 0) (drop (place + 1) bytes) big) in
-    r.reads ∙ ap (λ (xs : List ℕ). raised low scale (varint_at (more - place) last xs)) here ∙ ap (raised low scale) bad
+unfolding varint_at
+ReadsOn_bad {more} {last} {bytes} {place} r h whole big =
+    let none : more - place ≡ 0 = omega arith in at_byte (get_or bytes place 0) (Err errors.BadVarint) r h refl (rw (none, lt-leb (get_or bytes place 0) last big) refl)
 
 pub ReadsOn_short : {more last : ℕ} {bytes : List ℕ} {place low scale : ℕ} → ReadsOn more last bytes place low scale → length bytes ≤ place → varint_at more last bytes ≡ Err errors.UnexpectedEnd
-ReadsOn_short {more} {last} {bytes} {place} {low} {scale} r h =
-    r.reads ∙ ap (λ (xs : List ℕ). raised low scale (varint_at (more - place) last xs)) (drop_all place bytes h) ∙ ap (raised low scale) (varint_at-none (more - place) last)
+unfolding varint_at
+ReadsOn_short {more} {last} {bytes} {place} {low} {scale} r h = r.reads ∙ ap (λ (xs : List ℕ). raised low scale (varint_at (more - place) last xs)) (drop_all place bytes h)
 
 varint-short : (more n : ℕ) → n < 128 → varint more n ≡ n ∷ []
 unfolding varint
@@ -213,21 +173,15 @@ WritesOn_more {start} {here} {next} {number} {rest} byte w l b e = record {
     go : (more : ℕ) → StillToWrite start here number rest more → StillToWrite start next number (rest / 128) more
     go more s = record {
       less = s.less - 1;
-      fits = omega (arith, s.fits, limit-step s.less 127 (some s.less s.fits));
-      same = s.same ∙ ap (λ xs. here ++ xs) (varint-long s.less rest (some s.less s.fits) l) ∙ rw (← b, e, append_assoc) refl;
+      fits = omega (arith, s.fits, limit-step s.less 127 (limit-some s.less rest l s.fits));
+      same = s.same ∙ ap (λ xs. here ++ xs) (varint-long s.less rest (limit-some s.less rest l s.fits) l) ∙ rw (← b, e, append_assoc) refl;
     }
-      where
-        some : (less : ℕ) → rest < varint_limit less 127 → 0 < less
-        some zero h = absurd (omega (arith, rw limit-zero at h))
-        some (suc less) h = omega arith
 
 pub WritesOn_last : {start here next : List ℕ} {number rest : ℕ} → WritesOn start here number rest → rest < 128 → next ≡ here ++ rest ∷ [] → AppendsVarint start next number
 WritesOn_last {start} {here} {next} {number} {rest} w l e = record {
   appends = λ more h. let s = w.still more h in e ∙ ap (λ xs. here ++ xs) (sym (varint-short s.less rest l)) ∙ sym s.same;
 }
 
-pub ruleset reader_steps = (varint_at-first, limit-least)
+pub ruleset reading = (ReadsOn_below, ReadsOn_below_end, ReadsOn_scale, ReadsOn_end, ReadsOn_bad, ReadsOn_short)
 
-pub ruleset wide_reader_steps = (varint_at-first, limit-128)
-
-pub ruleset writer_steps = (WritesOn_none, WritesOn_last, Extends_twice, Extends_end)
+pub ruleset writing = (WritesOn_none, WritesOn_last, Extends_twice, Extends_end)

@@ -5,8 +5,6 @@ ghost use Rattle.pagable_model.specs.{Basic.bytes_at, Gives.Gives, Gives.never, 
 
 mod numbers;
 mod reading;
-mod texts;
-mod wide;
 
 use pagable_model::Error;
 use std::marker::Model;

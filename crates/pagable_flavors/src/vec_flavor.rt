@@ -3,10 +3,7 @@
 ghost use Rattle.std.specs.Prelude.{◌≡◌, ◌+◌, ◌≤◌, List, [], ◌∷◌, ◌++◌, length, take, drop, OnOk, OnErr, IfErr};
 ghost use Rattle.pagable_model.specs.Gives.{memory};
 
-mod numbers;
-mod signed;
-mod texts;
-mod wide;
+mod writing;
 
 use pagable_model::Error;
 use std::alloc::Global;

@@ -48,12 +48,7 @@ impl<'de, R> PagableDeserializerImpl<'de, PagableSlice<'de>, R> {
     pub fn finish(self) -> R
         ensures { result ≡ references_of self.entry }
     {
-        let PagableDeserializerImpl {
-            reader: _,
-            keys: _,
-            levels: _,
-            references,
-        } = self;
+        let PagableDeserializerImpl { references, .. } = self;
         references
     }
 }
@@ -65,21 +60,20 @@ impl<'de, E: Env, B: Reader, R: References<E>> PagableDeserializer<E>
     ghost use Rattle.std.specs.Prelude.{refl};
     ghost use Rattle.pagable_model.specs.Standing.{rest_at};
     ghost use Rattle.pagable_core.specs.Context.{standing_of, moves_of};
-    ghost use Rattle.pagable_core.specs.Fields.{keys_of, reader_of, references_of, levels_read, with_reader};
 
-    ghost standing = { λ s. standing_of (R.answer (references_of s)) (keys_of s) (B.track (reader_of s)) };
+    ghost standing = { λ s. standing_of (R.answer s.references) s.keys (B.track s.reader) };
 
-    ghost rest = { λ s. rest_at (standing_of (R.answer (references_of s)) (keys_of s) (B.track (reader_of s))) };
+    ghost rest = { λ s. rest_at (standing_of (R.answer s.references) s.keys (B.track s.reader)) };
 
-    ghost levels = { levels_read };
+    ghost levels = { λ s. s.levels };
 
-    ghost environment = { λ s. R.environment (references_of s) };
+    ghost environment = { λ s. R.environment s.references };
 
-    ghost reader = { reader_of };
+    ghost reader = { λ s. s.reader };
 
-    ghost lends = { λ s. R.lends (references_of s) };
+    ghost lends = { λ s. R.lends s.references };
 
-    ghost with_reader = { with_reader };
+    ghost with_reader = { λ s r. record s { reader = r } };
 
     ghost rest_is = { λ s. refl };
 
@@ -87,7 +81,7 @@ impl<'de, E: Env, B: Reader, R: References<E>> PagableDeserializer<E>
 
     ghost rest_of_with = { λ s r. refl };
 
-    ghost moves_of_with = { λ s r goes. moves_of (R.answer (references_of s)) (keys_of s) (B.track (reader_of s)) (B.track r) goes };
+    ghost moves_of_with = { λ s r goes. moves_of (R.answer s.references) s.keys (B.track s.reader) (B.track r) goes };
 
     ghost levels_of_with = { λ s r. refl };
 

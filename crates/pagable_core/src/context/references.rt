@@ -8,8 +8,8 @@ ghost use Rattle.pagable_model.specs.{Refusals.may_refuse_reference, declared.er
 use pagable_codec::{ArcRef, Env, Kind, SessionContext};
 use pagable_flavors::{DataKey, Error};
 
-/// What lends a deserializer its environment and its session's context, and answers for its references. An answer depends on the place of the
-/// reference in the blob, its key and its kind alone, so that a blob may be read again from its front.
+/// What lends a deserializer its environment and its session's context, and answers for its references. An answer depends on
+/// the place of the reference in the blob, its key and its kind alone, so that a blob may be read again from its front.
 pub trait References<E: Env> {
     ghost environment: { Self → E };
 
@@ -59,9 +59,9 @@ impl<'e, E: Env> NoReferences<'e, E> {
 }
 
 impl<'e, E: Env> References<E> for NoReferences<'e, E> {
-    ghost use Rattle.pagable_core.specs.Fields.{environment_without, wrong_kind_may_refuse};
+    ghost use Rattle.pagable_core.specs.Fields.{wrong_kind_may_refuse};
 
-    ghost environment = { environment_without };
+    ghost environment = { λ s. s.env.now };
 
     ghost answer = { λ s place key kind. Err WrongKind };
 

@@ -1,7 +1,7 @@
 //! The serializer that collects bytes and references.
 
 ghost use Rattle.std.specs.Prelude.{◌≡◌, refl, [], length, IsOk, IfOk};
-ghost use Rattle.pagable_core.specs.{Context.nothing, Context.out_of, Context.pair_out, Fields.written, Fields.levels_written, Fields.writers_environment, Fields.with_written};
+ghost use Rattle.pagable_core.specs.{Context.nothing, Context.out_of, Context.pair_out, Fields.written};
 
 use pagable_codec::{ArcRef, Env, PagableCursor, PagableSerializer, SessionContext};
 use pagable_flavors::{Error, PagableVecFlavor};
@@ -46,8 +46,8 @@ impl<'e, E, S> SerializerOver<'e, E, S> {
     /// A serializer to which nothing was written, with this session. It takes no memory.
     fn over(alloc: Global, env: &'e E, session: S) -> SerializerOver<'e, E, S>
         ensures out { written result ≡ nothing }
-        ensures levels { levels_written result ≡ 0 }
-        ensures env { writers_environment result ≡ env.now }
+        ensures levels { result.levels ≡ 0 }
+        ensures env { result.env.now ≡ env.now }
     {
         SerializerOver {
             writer: PagableVecFlavor::new(alloc),
@@ -91,13 +91,7 @@ impl<'e, E: Env> SerializerForPaging<'e, E> {
     pub fn finish(self) -> (Vec<u8>, Vec<ArcRef>)
         ensures { pair_out result ≡ ⟦<SerializerForPaging<'e, E> as PagableSerializer<E>>⟧.out self.entry }
     {
-        let SerializerOver {
-            writer,
-            arcs,
-            levels: _,
-            env: _,
-            session: _,
-        } = self;
+        let SerializerOver { writer, arcs, .. } = self;
         (writer.finalize(), arcs)
     }
 }
@@ -117,13 +111,7 @@ impl<'e, E: Env> PagableSerializerImpl<'e, E> {
         ensures ok { IsOk result }
         ensures data { IfOk result (λ d. out_of d ≡ ⟦<PagableSerializerImpl<'e, E> as PagableSerializer<E>>⟧.out self.entry) }
     {
-        let SerializerOver {
-            writer,
-            arcs,
-            levels: _,
-            env: _,
-            session: _,
-        } = self;
+        let SerializerOver { writer, arcs, .. } = self;
         Ok(SerializedData {
             bytes: writer.finalize(),
             arcs,
@@ -135,11 +123,11 @@ impl<'e, E: Env, S: HasSession<E::CtxKey, E::CtxValue>> PagableSerializer<E>
     for SerializerOver<'e, E, S> {
     ghost out = { written };
 
-    ghost levels = { levels_written };
+    ghost levels = { λ s. s.levels };
 
-    ghost environment = { writers_environment };
+    ghost environment = { λ s. s.env.now };
 
-    ghost with_bytes = { with_written };
+    ghost with_bytes = { λ s bytes. record s { writer = bytes } };
 
     ghost out_of_with = { λ s w. refl };
 

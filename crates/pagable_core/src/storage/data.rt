@@ -38,17 +38,7 @@ impl PagableData {
 fn key_of_hash(bytes: [u8; 16]) -> DataKey
     ensures { result ≡ number_of_hash bytes }
 {
-    match DataKey::new(u128::from_le_bytes(bytes)) {
-        Some(key) => key,
-        None => one(),
-    }
-}
-
-/// The key 1.
-fn one() -> DataKey
-    ensures { result ≡ 1 }
-{
-    match DataKey::new(1) {
+    match DataKey::new(u128::from_le_bytes(bytes).max(1)) {
         Some(key) => key,
         None => unreachable!(),
     }

@@ -77,11 +77,9 @@ fn put(
 }
 
 impl<E: Env> PagableStorage<E> for InMemoryBlobs<E> {
-    ghost use Rattle.pagable_core.specs.Blobs.{blobs_of, has_closed};
+    ghost stored = { λ s. stored_in s.blobs };
 
-    ghost stored = { blobs_of };
-
-    ghost is_closed = { has_closed };
+    ghost is_closed = { λ s. s.closed };
 
     ghost failed = { λ s. 0 };
 

@@ -1,12 +1,14 @@
 //! Numbers of several bytes, byte by byte.
 
-ghost use Rattle.std.specs.{Prelude.◌≡◌, Prelude.◌≤◌, Prelude.◌<◌, Prelude.◌^◌, Prelude.IfOk, Prelude.MatchOption, Prelude.drop, Prelude.length};
-ghost use Rattle.pagable_model.specs.{Gives.Gives, Gives.never, Numbers.byte_at, Numbers.varint_at, Numbers.varint_limit, Track.left, Track.GoesOn};
+ghost use Rattle.std.specs.{Int.w128, Prelude.◌≡◌, Prelude.◌≤◌, Prelude.◌<◌, Prelude.◌^◌, Prelude.IfOk, Prelude.MatchOption, Prelude.drop, Prelude.length};
+ghost use Rattle.pagable_model.specs.{Gives.Gives, Gives.never, Numbers.byte_at, Numbers.varint_at, Numbers.varint_limit, Numbers.unsigned_at, Track.left, Track.GoesOn};
 
 use super::PagableSlice;
 use pagable_model::Error;
 
-// The number at the front, of at most `more` bytes with the top bit set and one that is at most `last`, and how many bytes it takes.
+// The number at the front, of at most `more` bytes with the top bit set and one that is at most `last`, and how many
+// bytes it takes.
+#[tactic(auto, using(crate::proofs::Varint::reading))]
 fn varint_of(bytes: &[u8], more: usize, last: u8) -> Result<(u64, usize), Error>
     requires ends { (0 < last) × (last < 128) }
     requires fits { varint_limit more last ≤ 2 ^ 64 }
@@ -27,6 +29,32 @@ fn varint_of(bytes: &[u8], more: usize, last: u8) -> Result<(u64, usize), Error>
             return Ok((low + scale * u64::from(*byte), place + 1));
         }
         low += scale * u64::from(*byte - 128);
+        scale *= 128;
+    }
+    Err(Error::UnexpectedEnd)
+}
+
+// The same of 128 bits.
+#[tactic(auto, using(crate::proofs::Varint::reading))]
+fn wide_varint_of(bytes: &[u8], more: usize, last: u8) -> Result<(u128, usize), Error>
+    requires ends { (0 < last) × (last < 128) }
+    requires fits { varint_limit more last ≤ 2 ^ 128 }
+    ensures gives { Gives never (λ n. (n.0, drop n.1 bytes.now)) result (varint_at more last bytes.now) }
+    ensures within { IfOk result (λ n. n.1 ≤ length bytes.now) }
+{
+    let mut low = 0u128;
+    let mut scale = 1u128;
+    for (place, byte) in bytes.iter().enumerate() {
+        if place == more {
+            if last < *byte {
+                return Err(Error::BadVarint);
+            }
+            return Ok((low + scale * u128::from(*byte), place + 1));
+        }
+        if *byte < 128 {
+            return Ok((low + scale * u128::from(*byte), place + 1));
+        }
+        low += scale * u128::from(*byte - 128);
         scale *= 128;
     }
     Err(Error::UnexpectedEnd)
@@ -60,6 +88,17 @@ impl<'de> PagableSlice<'de> {
         ensures goes { GoesOn self.old self.new }
     {
         let (number, count) = varint_of(&self.bytes[self.position..], more, last)?;
+        self.position += count;
+        Ok(number)
+    }
+
+    // The next number of 128 bits.
+    #[tactic(auto, unfolding(pagable_model::specs::Numbers::varint_limit))]
+    pub(super) fn wide_varint(&mut self) -> Result<u128, Error>
+        ensures gives { Gives never (λ n. (n, left self.new)) result (unsigned_at w128 (left self.old)) }
+        ensures goes { GoesOn self.old self.new }
+    {
+        let (number, count) = wide_varint_of(&self.bytes[self.position..], 18, 3)?;
         self.position += count;
         Ok(number)
     }

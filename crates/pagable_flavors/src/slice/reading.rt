@@ -1,4 +1,7 @@
-//! Basic values are read.
+//! Basic values are read, and texts and byte arrays that stay where they are.
+
+ghost use Rattle.std.specs.Prelude.{◌≡◌};
+ghost use Rattle.pagable_model.specs.{Basic.text_at, ByteArrays.byte_array_at, Gives.Gives, Gives.never, Track.left, Track.GoesOn};
 
 use super::PagableSlice;
 use crate::reader::Reader;
@@ -35,7 +38,7 @@ impl Reader for PagableSlice<'_> {
         self.pop()
     }
 
-    #[tactic(auto, using(crate::proofs::Varint::reader_steps, crate::proofs::Varint::limits))]
+    #[tactic(auto, using(crate::proofs::Varint::varint_at_first), unfolding(pagable_model::specs::Numbers::varint_limit))]
     fn read_u16(&mut self) -> Result<u16, Error> {
         if let Some(byte) = self.short() {
             return Ok(u16::from(byte));
@@ -44,7 +47,7 @@ impl Reader for PagableSlice<'_> {
         Ok(number as u16)
     }
 
-    #[tactic(auto, using(crate::proofs::Varint::reader_steps, crate::proofs::Varint::limits))]
+    #[tactic(auto, using(crate::proofs::Varint::varint_at_first), unfolding(pagable_model::specs::Numbers::varint_limit))]
     fn read_u32(&mut self) -> Result<u32, Error> {
         if let Some(byte) = self.short() {
             return Ok(u32::from(byte));
@@ -53,7 +56,7 @@ impl Reader for PagableSlice<'_> {
         Ok(number as u32)
     }
 
-    #[tactic(auto, using(crate::proofs::Varint::reader_steps, crate::proofs::Varint::limits))]
+    #[tactic(auto, using(crate::proofs::Varint::varint_at_first), unfolding(pagable_model::specs::Numbers::varint_limit))]
     fn read_u64(&mut self) -> Result<u64, Error> {
         if let Some(byte) = self.short() {
             return Ok(u64::from(byte));
@@ -62,7 +65,7 @@ impl Reader for PagableSlice<'_> {
         Ok(number)
     }
 
-    #[tactic(auto, using(crate::proofs::Varint::wide_reader_steps))]
+    #[tactic(auto, using(crate::proofs::Varint::varint_at_first))]
     fn read_u128(&mut self) -> Result<u128, Error> {
         if let Some(byte) = self.short() {
             return Ok(u128::from(byte));
@@ -126,5 +129,32 @@ impl Reader for PagableSlice<'_> {
     fn read_string(&mut self, alloc: Global) -> Result<String, Error> {
         let text = self.read_str()?;
         Ok(String::from_str(alloc, text)?)
+    }
+}
+
+impl<'de> PagableSlice<'de> {
+    /// A text, which stays where it is among the bytes. `TooLong`, then `UnexpectedEnd`, then `BadUtf8`.
+    #[tactic(auto, using(crate::proofs::Text::utf8_tests), unfolding(pagable_model::specs::Basic::text_at))]
+    pub fn read_str(&mut self) -> Result<&'de str, Error>
+        ensures gives { Gives never (λ t. (t.now, left self.new)) result (text_at (left self.old)) }
+        ensures goes { GoesOn self.old self.new }
+    {
+        let count = self.read_len()?;
+        let bytes = self.try_take_n(count)?;
+        match str::from_utf8(bytes) {
+            Ok(text) => Ok(text),
+            Err(_) => Err(Error::BadUtf8),
+        }
+    }
+
+    /// A byte array, which stays where it is among the bytes. `TooLong`, then `UnexpectedEnd`.
+    #[tactic(auto, unfolding(pagable_model::specs::ByteArrays::byte_array_at))]
+    pub fn read_bytes(&mut self) -> Result<&'de [u8], Error>
+        ensures gives { Gives never (λ b. (b.now, left self.new)) result (byte_array_at (left self.old)) }
+        ensures goes { GoesOn self.old self.new }
+    {
+        let count = self.read_len()?;
+        let array = self.try_take_n(count)?;
+        Ok(array)
     }
 }

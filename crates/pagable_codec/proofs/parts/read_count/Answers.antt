@@ -1,8 +1,0 @@
-use Rattle.pagable_model.specs.Basic.{length_at}
-use Rattle.pagable_codec.proofs.Reading.{part_read}
-use Rattle.pagable_codec.proofs.parts.read_count.Goals as goal
-
-pub returns : goal.returns
-returns g c =
-    let law = g.met.D.PagableDeserializer in
-    part_read length_at _ (law.bytes_are _) (law.rest_of_with _ _) (law.moves_of_with _ _) (law.environment_of_with _ _) (law.levels_of_with _ _) (rw c.serde.ensures.value at c.read_len.ensures)
