@@ -30,23 +30,6 @@ pub pair_is_same : {A : Type 0} (s t : Bool) (a b c d : Meaning A) → s ≡ sam
 unfolding plain
 pair_is_same s t a b c d p q = (λ i. p i && q i) ∙ both-same (plain a) (plain b) (plain c) (plain d)
 
-and-assoc : (s t u : Bool) → ((s && t) && u) ≡ (s && (t && u))
-and-assoc true t u = refl
-and-assoc false t u = refl
-
-pub triple_is_same : {A : Type 0} (s t u : Bool) (a b c x y z : Meaning A) → s ≡ same_key a x → t ≡ same_key b y → u ≡ same_key c z → ((s && t) && u) ≡ same_key (pair a (pair b c)) (pair x (pair y z))
-triple_is_same s t u a b c x y z p q r = and-assoc s t u ∙ pair_is_same s (t && u) a (pair b c) x (pair y z) p (pair_is_same t u b c y z q r)
-
-pub quadruple_is_same : {A : Type 0} (s t u v : Bool) (a b c d w x y z : Meaning A) → s ≡ same_key a w → t ≡ same_key b x → u ≡ same_key c y → v ≡ same_key d z
-    → (((s && t) && u) && v) ≡ same_key (pair a (pair b (pair c d))) (pair w (pair x (pair y z)))
-quadruple_is_same s t u v a b c d w x y z p q r h =
-    and-assoc (s && t) u v ∙ triple_is_same s t (u && v) a b (pair c d) w x (pair y z) p q (pair_is_same u v c d y z r h)
-
-pub quintuple_is_same : {A : Type 0} (s t u v k : Bool) (a b c d f w x y z g : Meaning A) → s ≡ same_key a w → t ≡ same_key b x → u ≡ same_key c y → v ≡ same_key d z → k ≡ same_key f g
-    → ((((s && t) && u) && v) && k) ≡ same_key (pair a (pair b (pair c (pair d f)))) (pair w (pair x (pair y (pair z g))))
-quintuple_is_same s t u v k a b c d f w x y z g p q r h j =
-    and-assoc ((s && t) && u) v k ∙ quadruple_is_same s t u (v && k) a b c (pair d f) w x y (pair z g) p q r (pair_is_same v k d f z g h j)
-
 pub option_is_same : {A T : Type 0} (eq : T → T → Bool) (meaning : T → Meaning A) → ((x y : T) → eq x y ≡ same_key (meaning x) (meaning y)) → (x y : Option T) → option_eq eq x y ≡ same_key (of_option meaning x) (of_option meaning y)
 unfolding plain code
 option_is_same eq meaning same None None = refl
