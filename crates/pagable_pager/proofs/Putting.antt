@@ -101,7 +101,7 @@ module _ {N S E : Type 0} {tells : Telling S} {g : Spelling N E} {p : PagerView 
 own-self : (o : Owner) → is_owner o o ≡ true
 own-self o = grind (arith, nat_tests)
 
-owner-owns : {w : Core} {me : Owner} {l : LoadNumber} {load : OpenLoad} → OwnsLoad w me l load → load_fault w me l ≡ None
+pub owner-owns : {w : Core} {me : Owner} {l : LoadNumber} {load : OpenLoad} → OwnsLoad w me l load → load_fault w me l ≡ None
 owner-owns {me = me} o = grind (arith, nat_tests, own-self)
 
 -- an own load is open
