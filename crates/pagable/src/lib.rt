@@ -93,7 +93,7 @@ pub mod traits {
         Canonical, Carried, EagerlyCarried, OneMeaning, Pagable, PagableBoxDeserialize,
         PagableDeserialize, PagableDeserializeOwned, PagableDeserializer, PagableEagerDeserialize,
         PagableEagerSerialize, PagableKey, PagableOrdKey, PagableSerialize, PagableSerializer,
-        ReadBack, SessionContext,
+        SessionContext,
     };
 }
 
@@ -130,7 +130,7 @@ pub use pagable_traits::{
     Canonical, Carried, EagerlyCarried, Env, InNode, KeyHash, NodeSet, OfNode, OneMeaning, Pagable,
     PagableBoxDeserialize, PagableDeserialize, PagableDeserializeOwned, PagableDeserializer,
     PagableEagerDeserialize, PagableEagerSerialize, PagableKey, PagableOrdKey, PagableSerialize,
-    PagableSerializer, PathText, ReadBack, Reader, SessionContext, SessionMap, SessionValue, Thin,
+    PagableSerializer, PathText, Reader, SessionContext, SessionMap, SessionValue, Thin,
     serialize_slice, serialize_str,
 };
 

@@ -2,7 +2,7 @@
 
 ghost use Rattle.std.{specs.Arc.arc_value, specs.Cmp.Rules.comparing, specs.Prelude.{◌≡◌, ◌≢◌, ⊤, nat_eq, Some, option_and_then, IfOk, IfErr}, proofs.Common.rules};
 ghost use Rattle.pagable_model.specs.{Shape.reference as reference_shape, Reading.read, Standing.{handles_at, GivesSome, Is, MovesOn}};
-ghost use Rattle.pagable_arcs.specs.References.{holding_kind, holding, holding_means, reference_has_one_form, reference_is_read, reads_unlent, unlent};
+ghost use Rattle.pagable_arcs.specs.References.{holding_kind, holding, holding_means, reference_has_one_form, reads_unlent, unlent};
 ghost use Rattle.pagable_traits.specs.Meanings.{exactly};
 
 use crate::plain::read_reference;
@@ -10,9 +10,7 @@ use pagable_codec::{
     ArcRef, Env, HandleNumber, Kind, NodeNumber, OfNode, PagableDeserializer, PagableSerializer,
 };
 use pagable_flavors::{Error, Reason};
-use pagable_traits::{
-    Canonical, Carried, OneMeaning, PagableDeserialize, PagableSerialize, ReadBack,
-};
+use pagable_traits::{Canonical, Carried, OneMeaning, PagableDeserialize, PagableSerialize};
 use std::alloc::{AllocError, Global};
 use std::ops::Deref;
 use std::sync::Arc as Shared;
@@ -177,10 +175,6 @@ impl<E: Env, T: OfNode<E>, const PINS: bool> OneMeaning<E> for HoldingArc<T, PIN
 
 impl<E: Env, T: OfNode<E>, const PINS: bool> Canonical<E> for HoldingArc<T, PINS> {
     ghost one_form = { λ e. reference_has_one_form (E.parts e) (holding_kind T.TYPE PINS) };
-}
-
-impl<E: Env, T: OfNode<E>, const PINS: bool> ReadBack<E> for HoldingArc<T, PINS> {
-    ghost is_read = { λ e. reference_is_read (E.parts e) (holding_kind T.TYPE PINS) };
 }
 
 impl<E: Env, T: OfNode<E>, const PINS: bool> PagableSerialize<E> for HoldingArc<T, PINS> {

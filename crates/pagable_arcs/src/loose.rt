@@ -2,16 +2,14 @@
 
 ghost use Rattle.std.specs.Prelude.{◌≡◌, ◌≢◌, IfSome, IfNone, nat_eq};
 ghost use Rattle.pagable_model.specs.Shape.{reference as reference_shape};
-ghost use Rattle.pagable_arcs.specs.References.{loose, loose_kind, loose_means, reference_is_read, reference_has_one_form};
+ghost use Rattle.pagable_arcs.specs.References.{loose, loose_kind, loose_means, reference_has_one_form};
 ghost use Rattle.pagable_traits.specs.Meanings.{exactly};
 
 use pagable_codec::{
     ArcRef, Env, HandleNumber, Kind, NodeNumber, OfNode, PagableDeserializer, PagableSerializer,
 };
 use pagable_flavors::Error;
-use pagable_traits::{
-    Canonical, Carried, OneMeaning, PagableDeserialize, PagableSerialize, ReadBack,
-};
+use pagable_traits::{Canonical, Carried, OneMeaning, PagableDeserialize, PagableSerialize};
 use std::alloc::Global;
 use std::marker::PhantomData;
 
@@ -82,10 +80,6 @@ impl<E: Env, T: OfNode<E>> OneMeaning<E> for PagableArc<T> {
 
 impl<E: Env, T: OfNode<E>> Canonical<E> for PagableArc<T> {
     ghost one_form = { λ e. reference_has_one_form (E.parts e) (loose_kind T.TYPE) };
-}
-
-impl<E: Env, T: OfNode<E>> ReadBack<E> for PagableArc<T> {
-    ghost is_read = { λ e. reference_is_read (E.parts e) (loose_kind T.TYPE) };
 }
 
 impl<E: Env, T: OfNode<E>> PagableSerialize<E> for PagableArc<T> {

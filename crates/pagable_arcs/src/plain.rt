@@ -3,16 +3,14 @@
 ghost use Rattle.std.specs.Prelude.{◌≡◌, ◌≢◌, OnOk, IfOk, IfErr, IfSome, IfNone};
 ghost use Rattle.pagable_model.specs.{Meaning.reference as meaning_of, Shape.reference as reference_shape, Gives.{memory, never}};
 ghost use Rattle.pagable_model.specs.{Reading.read, Standing.{handles_at, GivesSome, Is, MovesOn}, Writing.{nesting, Grows, Refused, WritesSome}};
-ghost use Rattle.pagable_arcs.specs.{Plain.{plain, plain_means}, References.{reference_has_one_form, reference_is_read}};
+ghost use Rattle.pagable_arcs.specs.{Plain.{plain, plain_means}, References.{reference_has_one_form}};
 ghost use Rattle.pagable_traits.specs.Meanings.{exactly};
 
 use pagable_codec::{
     ArcRef, Env, HandleNumber, Kind, NodeNumber, PagableDeserializer, PagableSerializer,
 };
 use pagable_flavors::Error;
-use pagable_traits::{
-    Canonical, Carried, OneMeaning, PagableDeserialize, PagableSerialize, ReadBack,
-};
+use pagable_traits::{Canonical, Carried, OneMeaning, PagableDeserialize, PagableSerialize};
 use std::alloc::Global;
 
 /// Writes a reference: no byte, and the reference at the end of the list. Refused by want of memory alone.
@@ -95,10 +93,6 @@ impl<E: Env, const KIND: u32> OneMeaning<E> for OfKind<KIND> {
 
 impl<E: Env, const KIND: u32> Canonical<E> for OfKind<KIND> {
     ghost one_form = { λ e. reference_has_one_form (E.parts e) KIND };
-}
-
-impl<E: Env, const KIND: u32> ReadBack<E> for OfKind<KIND> {
-    ghost is_read = { λ e. reference_is_read (E.parts e) KIND };
 }
 
 impl<E: Env, const KIND: u32> PagableSerialize<E> for OfKind<KIND> {

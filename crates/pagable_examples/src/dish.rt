@@ -2,13 +2,13 @@
 
 ghost use Rattle.std.specs.{Int.w16, Prelude.refl, String.string_bytes};
 ghost use Rattle.pagable.specs.OwnCauses.{reads_either, reads_memory, reads_never, writes_either, writes_long_or, writes_memory};
-ghost use Rattle.pagable.specs.{KeyLaws.{key_seen, number_key, pair_key, text_key}, OneForm.{basic_has_one_form, two_has_one_form}, ReadBack.{basic_is_read, two_is_read}, Shape.{both, text, unsigned}};
+ghost use Rattle.pagable.specs.{KeyLaws.{key_seen, number_key, pair_key, text_key}, OneForm.{basic_has_one_form, two_has_one_form}, Shape.{both, text, unsigned}};
 ghost use Rattle.pagable_examples.specs.Dishes.{dish_means, dish_single};
 
 use pagable::impls::write_entry;
 use pagable::{
     Canonical, Carried, Env, Error, OneMeaning, PagableDeserialize, PagableDeserializer,
-    PagableKey, PagableSerialize, PagableSerializer, ReadBack,
+    PagableKey, PagableSerialize, PagableSerializer,
 };
 use std::alloc::Global;
 
@@ -34,11 +34,6 @@ impl<E: Env> OneMeaning<E> for Dish {
 /// so equal dishes are written alike, as a name and a number have one form each;
 impl<E: Env> Canonical<E> for Dish {
     ghost one_form = { λ e. two_has_one_form (refl, refl) (basic_has_one_form tt) (basic_has_one_form tt) };
-}
-
-/// what is written is read again, as names and numbers are;
-impl<E: Env> ReadBack<E> for Dish {
-    ghost is_read = { λ e. two_is_read (refl, refl) (basic_is_read tt) (basic_is_read tt) };
 }
 
 /// and a dish may be a key of maps and an item of sets.

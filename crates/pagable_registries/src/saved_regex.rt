@@ -3,7 +3,6 @@
 ghost use Rattle.std.{specs.Prelude.{◌≡◌, ◌≢◌, ℕ, List, IfOk, IfErr, OnOk}, specs.String.string_bytes, specs.Str.bytes_eq, specs.Cmp.Rules.{comparing, hashing}, proofs.Common.rules};
 ghost use Rattle.pagable_model.specs.{Gives.{memory, long_or}, Meaning.pattern, OneForm.{basic_has_one_form, basic_refers_to_nothing}, Patterns.pattern_is_same};
 ghost use Rattle.pagable_model.specs.{Reading.read, Standing.{handles_at, Is, MovesOn, GivesSome}, Writing.{nesting, WritesSome, Refused, Grows}, declared.error.Error.TheVariants.RegexRefused};
-ghost use Rattle.pagable_traits.specs.ReadBack.{basic_is_read};
 ghost use Rattle.pagable_registries.specs.Building.{IsBuiltFrom, IsRefusedPattern, refusal_of, pattern_causes, reads_pattern, ReadsNoPattern};
 ghost use Rattle.std.specs.Hash as fed;
 ghost use Rattle.pagable_model.specs.Shape as shapes;
@@ -12,7 +11,7 @@ ghost use Rattle.pagable_traits.specs.{Meanings.{exactly}, OwnCauses.{writes_mem
 use pagable_codec::{Env, PagableDeserializer, PagableSerializer, Reader};
 use pagable_flavors::Error;
 use pagable_traits::{
-    Canonical, Carried, OneMeaning, PagableDeserialize, PagableKey, PagableSerialize, ReadBack,
+    Canonical, Carried, OneMeaning, PagableDeserialize, PagableKey, PagableSerialize,
 };
 use regex::Regex;
 use std::alloc::Global;
@@ -128,10 +127,6 @@ impl<E: Env> Carried<E> for SavedRegex {
     ghost shape = { λ e. shapes.pattern };
 
     ghost means = { exactly pattern };
-}
-
-impl<E: Env> ReadBack<E> for SavedRegex {
-    ghost is_read = { λ e. basic_is_read tt };
 }
 
 impl<E: Env> OneMeaning<E> for SavedRegex {

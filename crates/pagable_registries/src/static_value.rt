@@ -6,13 +6,12 @@ ghost use Rattle.std.{specs.List.Sorted.{IsPermutation, IsSorted, IsStable}, spe
 ghost use Rattle.pagable_model.specs.{Statics.{HasEqual, NoEqualBelow, StandsAt, meanings_of, unregistered}, Basic.longest, Canonical.HasNoReference, Gives.Gives};
 ghost use Rattle.pagable_model.specs.{Gives.{never, memory_or}, Numbers.unsigned_at, Meaning.{Meaning, lifted}, Reading.{bytes_of, read, registered}, Shape.static_value, Standing.{handles_at, GivesSome, Is, MovesOn}};
 ghost use Rattle.pagable_model.specs.{Writing.{nesting, WritesSome, Refused, Grows}, Lengths.long_or_memory};
-ghost use Rattle.pagable_registries.specs.StaticValues.{static_is_read, static_is_same, static_refers_to_nothing, writes_unregistered};
+ghost use Rattle.pagable_registries.specs.StaticValues.{static_is_same, static_refers_to_nothing, writes_unregistered};
 ghost use Rattle.pagable_traits.specs.{Meanings.{exactly}, OwnCauses.{writes_memory_or}};
 
 use pagable_codec::{Env, PagableDeserializer, PagableSerializer, Reader};
 use pagable_flavors::Error;
 use pagable_traits::keys::PagableKey;
-use pagable_traits::read_back::ReadBack;
 use pagable_traits::traits::{Carried, OneMeaning, PagableDeserialize, PagableSerialize};
 use std::alloc::{AllocError, Global};
 use std::fmt;
@@ -292,10 +291,6 @@ impl<E: Env, T: HasStaticValueRegistry<E>> OneMeaning<E> for StaticValue<T> {
 /// By the value alone, as equality and the hash are.
 impl<E: Env, T: HasStaticValueRegistry<E>> PagableKey<E> for StaticValue<T> {
     ghost key = { record { same = λ x y. static_is_same T.eq T.plain T.same_meaning T.same_value x.0.value y.0.value; refers_to_nothing = λ e. static_refers_to_nothing (E.parts e) (meanings_of T.plain (T.known e)) } };
-}
-
-impl<E: Env, T: HasStaticValueRegistry<E>> ReadBack<E> for StaticValue<T> {
-    ghost is_read = { λ e. static_is_read (E.parts e) T.plain T.holds_no_reference (T.known e) };
 }
 
 impl<E: Env, T: HasStaticValueRegistry<E>> PagableSerialize<E> for StaticValue<T> {

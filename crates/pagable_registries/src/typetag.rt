@@ -266,7 +266,7 @@ pub fn deserialize_tagged<E: Env, T: HasTypetagRegistry<E>, D: PagableDeserializ
 }
 
 /// With distinct tags, each under which a body has a form being registered with a reader of what is written under it,
-/// the forms of tagged values are read again: what a tagged type needs to be `ReadBack`.
+/// the forms of tagged values are read again, as `forms_are_read_again` of `pagable` asks.
 #[tactic(auto, using(crate::proofs::Tagged::distinct_is_read))]
 pub fn distinct_tags_are_read_again()
     ensures { (parts : ℕ → Shape) (written : List ℕ → Shape) (registrations : List (List ℕ × Shape)) → HasDistinctTags registrations → ReadsWhatIsWritten parts written registrations → IsReadThroughout parts (tagged_by written registrations) }

@@ -4,7 +4,6 @@ ghost use Rattle.std.specs.Prelude.{◌≡◌};
 ghost use Rattle.pagable_traits.specs.Meanings.{seen_by};
 
 use crate::one_form::Canonical;
-use crate::read_back::ReadBack;
 use crate::traits::{Carried, OneMeaning, PagableDeserialize};
 use pagable_codec::{Env, PagableDeserializer};
 use pagable_flavors::Error;
@@ -37,10 +36,6 @@ impl<E: Env, O: OneMeaning<E>, X: CarriedAs<Other = O>> OneMeaning<E> for X {
 
 impl<E: Env, O: Canonical<E>, X: CarriedAs<Other = O>> Canonical<E> for X {
     ghost one_form = { λ e. O.one_form e };
-}
-
-impl<E: Env, O: ReadBack<E>, X: CarriedAs<Other = O>> ReadBack<E> for X {
-    ghost is_read = { λ e. O.is_read e };
 }
 
 impl<'de, E: Env, O: PagableDeserialize<'de, E>, X: ReadAs<Other = O>> PagableDeserialize<'de, E>

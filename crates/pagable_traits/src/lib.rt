@@ -10,7 +10,6 @@ pub mod keys;
 pub mod laws;
 pub mod one_form;
 pub mod owned;
-pub mod read_back;
 pub mod traits;
 
 pub use boxes::PagableBoxDeserialize;
@@ -27,5 +26,4 @@ pub use pagable_codec::{
     PagableCursor, PagableDeserializer, PagableSerializer, Reader, SessionContext, SessionMap,
     SessionValue, WorkerNumber,
 };
-pub use read_back::ReadBack;
 pub use traits::{Carried, OneMeaning, PagableDeserialize, PagableSerialize};

@@ -1,12 +1,12 @@
 //! Bundles: references of each sort to values of other types.
 
-ghost use Rattle.pagable_examples.specs.Linked.{bundle_has_one_form, bundle_in_order, bundle_is_read, bundle_means, bundle_reads, bundle_shape, bundle_single, bundle_writes};
+ghost use Rattle.pagable_examples.specs.Linked.{bundle_has_one_form, bundle_in_order, bundle_means, bundle_reads, bundle_shape, bundle_single, bundle_writes};
 
 use crate::linked::Linked;
 use crate::linked::chain::{ArcLink, Link};
 use pagable::{
     Arc, ArcRef, Canonical, Carried, Error, OneMeaning, PagableArc, PagableDeserialize,
-    PagableDeserializer, PagableSerialize, PagableSerializer, PinnedPagableArc, ReadBack, Refers,
+    PagableDeserializer, PagableSerialize, PagableSerializer, PinnedPagableArc, Refers,
 };
 use std::alloc::Global;
 
@@ -36,10 +36,6 @@ impl OneMeaning<Linked> for Bundle {
 
 impl Canonical<Linked> for Bundle {
     ghost one_form = { λ e. bundle_has_one_form };
-}
-
-impl ReadBack<Linked> for Bundle {
-    ghost is_read = { λ e. bundle_is_read };
 }
 
 impl Refers<Linked> for Bundle {
