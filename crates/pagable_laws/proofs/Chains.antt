@@ -1,7 +1,7 @@
 -- Each event keeps trees: what it brings fits some trees afterwards, for which the machine stands then, with all that its loads read.
-use Rattle.pagable_laws.proofs.Words.{◌≡◌, ℕ, List, [], inl, inr, sym, subst, ◌⊎◌, Event, EventReply, Tree, Among, Reading, Values, Seen, IsLawful, MachineState, world_of, IsMachineWhole, StandsFor}
+use Rattle.pagable_laws.proofs.Words.{◌≡◌, ℕ, List, [], sym, subst, Event, EventReply, Tree, Among, Reading, Values, Seen, IsLawful, MachineState, world_of, IsMachineWhole, StandsFor}
 use Rattle.pagable_laws.proofs.Words.{EventBrings, IsReadingOf, HoldsSettled, ReadsItsTypes, TakesWell, AsksWell, IsWellAsked, Change, CoreGoes, IsSteppedReading, EventFeels, by-call, by-reading}
-use Rattle.pagable_laws.proofs.Words.{by-key, arith, nat_tests, by-nothing, KeysAreReady, IsFresh, ChangeFits, ◌+◌, ◌≤◌, Option, Some, None, refl, ◌∙◌, ◌∷◌, HandleNumber, IsIdle, IsPremised, Moment}
+use Rattle.pagable_laws.proofs.Words.{by-key, arith, nat_tests, by-nothing, KeysAreReady, ChangeFits, ◌+◌, ◌≤◌, Option, Some, None, refl, ◌∙◌, ◌∷◌, HandleNumber, IsIdle, IsPremised, Moment}
 use Rattle.pagable_laws.proofs.Words.{AreMoments, TreesAfter, TreesAlong, GivesTree, PinGives, IsRight, HasPin, PinHolds, WorkFits, KeysHeld, ◌==◌, ◌&&◌, Bool, true, false, ap, Ok, is_some}
 use Rattle.pagable_laws.proofs.Words.{sum_by-append, sum_by-cons, Identity, WorkerNumber, one, times, Took, WorkerReply, Shelf, Slot, Walking, World, Happens, WorkerSteps, step_of, steps_of}
 use Rattle.pagable_laws.proofs.Words.{is_claim_of, is_on_table, claims_made, ◌++◌, append_assoc, is_none, WorkerAnswer, HandleRow, Owner, owner_worker, is_owner, state_after, events_of, replies_of}
@@ -9,7 +9,7 @@ use Rattle.pagable_laws.proofs.{Words.{InOrder, TableMeets, HasLetGo, StepsAreWi
 use Rattle.pagable_laws.proofs.{Felt.trees-go-on, Fitting.tree-stays, ReadingSteps.{is-reading-of, event-goes, readings-on}, Trees.same_some, Answering.keys-right, Coming.{waits-well, StandsIn}}
 use Rattle.pagable_laws.proofs.{Coming.{event-turns, turns-stand, idle-stands, updated-at, EventTurns, Went, HasGone, goes-on}, Naming.{held-at-first, held-on, keys-ready}, Outlasting.pins-hold}
 use Rattle.pagable_laws.proofs.{Stepping.{fits-at-first, fits-on}, ReadingStepsGive.{reads-give, LoadsStand, event-on, step-within, idle-bounded, steps-left}, Taking.{pin_stands, Going, going-new}}
-use Rattle.pagable_laws.proofs.{Taking.{going-on, going-step, given-nodes}, Standing.{ShelfGrows, is-same, puts-slot, grows, true-false, KeepsTask, Turned, keeps-task, WalkingStands, is_open_in}}
+use Rattle.pagable_laws.proofs.{Taking.{going-on, going-step, going-of, given-nodes}, Standing.{ShelfGrows, is-same, puts-slot, grows, true-false, KeepsTask, Turned, keeps-task, WalkingStands, is_open_in}}
 use Rattle.pagable_laws.proofs.{Once.{once_each, plus-none}, Sums.{sum-zero, one-small}}
 use Rattle.pagable_world.specs.Runs.{Does as DoesMoment}
 use Rattle.std.{proofs.Common.{append-nil, le_trans, rules}, proofs.lemmas.Bool.false_from_ne_true}
@@ -20,10 +20,6 @@ module _ {N E B W : Type 0} (m : Seen N B W) (s : MachineState N E) (trees : ℕ
   reading-takes x0 reply reading x3 well = grind (arith, nat_tests)
 
   module _ (stands : StandsFor m.values s trees) (readings : (reading : Reading) → IsReadingOf s.work reading → Going m.values s.pager trees reading) where
-    pub going-of : (reading : Reading) → IsReadingOf s.work reading ⊎ IsFresh s.pager.core reading → Going m.values s.pager trees reading
-    going-of reading (inl is) = readings reading is
-    going-of reading (inr new) = going-new s.pager trees reading new.0 new.2
-
     pub event-fits : (lawful : IsLawful m.values) (readable : ReadsItsTypes m.values.types) (s' : MachineState N E) → HoldsSettled m.values s.pager → IsMachineWhole m.values s
         → IsMachineWhole m.values s' → KeysAreReady m.values s trees
         → (event : Event N B W) (reply : EventReply N B W) {c : Change} → CoreGoes c s.pager.core s'.pager.core → IsWellAsked m.values s trees event reply
@@ -35,7 +31,7 @@ module _ {N E B W : Type 0} (m : Seen N B W) (s : MachineState N E) (trees : ℕ
         let f = call-fits lawful settled whole.pager whole'.pager stands.pager c call answer goes asked feels in
         (f.after, subst (λ e. ChangeFits m.values c (EventBrings m.values (world_of s) e) s.pager s'.pager trees f.after) (sym called) f.fits)
     event-fits lawful readable s' settled whole whole' ready event reply goes well (by-reading c reading answer frames stepped opens feels steps) =
-        let g = going-of reading (is-reading-of (world_of s) event reading stepped) in
+        let g = going-of s trees readings reading (is-reading-of (world_of s) event reading stepped) in
         let f = reading-fits lawful readable settled whole.pager whole'.pager stands.pager reading g.fits (given-nodes reading.frames g.held) goes
         (reading-takes event reply reading stepped well) opens feels in
         (f.0, (grind (arith, nat_tests)))
@@ -91,7 +87,7 @@ module _ {N E B W : Type 0} (m : Seen N B W) (lawful : IsLawful m.values) (reada
       let pager = trees-go-on lawful on.settled on.whole.pager does.whole.pager on.stands.pager does.moves g.goes f.1 in
       let readings = readings-on (Going m.values x.after.pager f.0) (λ reading is. going-on on.whole.pager does.whole.pager on.stands.pager g.goes f.1 reading (on.readings reading is))
       (λ reading new. going-new x.after.pager f.0 reading new.0 new.2) (λ reading frames load is at read.
-      going-step on.whole.pager does.whole.pager on.stands.pager g.goes f.1 reading frames load at (going-of m s trees on.stands on.readings reading is) read) felt in
+      going-step on.whole.pager does.whole.pager on.stands.pager g.goes f.1 reading frames load at (going-of s trees on.readings reading is) read) felt in
       let stands : StandsFor m.values x.after f.0 = record { pager = pager; readings = λ reading is. (readings reading is).fits } in
       let turns = event-turns m (world_of s) (world_of x.after) on.work (λ v w there. (on.whole.walkings v w there).table.1) x.event x.reply does.step.happens in
       let fits = fits-on m s x.after trees f.0 (record { kept = g.goes.stored; last = g.goes.nodes; trees = f.1.same }) on.fits on.whole on.stands.pager

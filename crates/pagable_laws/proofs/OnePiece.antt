@@ -1,28 +1,15 @@
 -- Where each load is done in one piece, one of a cell whose key a page-out set is refused by chance alone.
-use Rattle.pagable_laws.proofs.Words.{nat_tests, ◌≡◌, ℕ, zero, suc, ◌<◌, ◌≤◌, ◌==◌, Bool, true, false, List, [], ◌∷◌, Option, Some, None, Ok, Err, ◌⊎◌, inl, inr, refl, sym, ap, subst, ◌∙◌, arith}
-use Rattle.pagable_laws.proofs.Words.{slice_get, is_some, Error, HandleRow, Owner, Mode, Beginning, Call, Reply, LoadAnswer, LoadReply, Event, EventReply, ArcRef, HandleNumber, LoadNumber, NodeNumber}
-use Rattle.pagable_laws.proofs.Words.{Tree, Among, if_there, is_in, times, updated, held, find_row, Core, OpenLoad, of_cell, Frame, Reading, Seen, IsLawful, row_at, IsReference, references_fault}
-use Rattle.pagable_laws.proofs.Words.{BeginCall, BeginKeyCall, IsDecoded, gone_on, fresh, ReadingsAre, reading_at, reading_after, LoadSteps, Stays, Happens, MachineState, world_of, IsMachineWhole}
-use Rattle.pagable_laws.proofs.Words.{of_caller, FrameFits, FramesFit, ReadsItsTypes, Moment, Turn, of_load, of_nobody, turn_of, StandTogether, IsOfChance, IsLoadOfPagedOut, LoadIsSound, IsBeginOf}
-use Rattle.pagable_laws.proofs.{Words.{HasBegun, SoundLaw, FramesHeld}, Trees.same_some, Sums.{self-number, same-number}, Coming.updated-at, Chains.{IsGoingOn, idle-goes}, Taking.row-held}
-use Rattle.pagable_laws.proofs.{Fitting.first-fits, Decoding.decodes, Outlasting.{stands-whole, stands-alike}, ReadingSteps.reading-stands, ReadingStepsGive.got-typed, Sound.by-chance}
-use Rattle.pagable_laws.proofs.{Sound.{by-references, by-handle, IsForm, load-cause}, Apart.{fine, reads-once}, LoadsReady.{times_got, LoadReady, once-none, apart-once, got-cons, goes-ready}}
-use Rattle.pagable_laws.proofs.{Effects.with-one, Deeply.along-with}
-use Rattle.pagable_world.specs.{Loads.Does}
+use Rattle.pagable_laws.proofs.Words.{nat_tests, ◌≡◌, ℕ, zero, suc, ◌<◌, ◌≤◌, ◌==◌, List, [], ◌∷◌, Option, Some, None, Ok, Err, ◌⊎◌, inl, inr, refl, sym, ap, subst, ◌∙◌, arith, slice_get, is_some}
+use Rattle.pagable_laws.proofs.Words.{Error, HandleRow, Owner, Mode, Beginning, Call, Reply, LoadAnswer, LoadReply, Event, EventReply, ArcRef, HandleNumber, LoadNumber, NodeNumber, Tree, Among}
+use Rattle.pagable_laws.proofs.Words.{if_there, is_in, times, updated, held, find_row, Core, OpenLoad, of_cell, Frame, Reading, Seen, IsLawful, row_at, IsReference, references_fault, BeginCall}
+use Rattle.pagable_laws.proofs.Words.{BeginKeyCall, IsDecoded, gone_on, fresh, ReadingsAre, reading_at, reading_after, LoadSteps, Stays, Happens, MachineState, world_of, IsMachineWhole, FrameFits}
+use Rattle.pagable_laws.proofs.Words.{FramesFit, ReadsItsTypes, Moment, of_load, of_nobody, turn_of, StandTogether, IsOfChance, IsLoadOfPagedOut, LoadIsSound, IsBeginOf, HasBegun, SoundLaw}
+use Rattle.pagable_laws.proofs.{Trees.same_some, Coming.updated-at, Chains.{IsGoingOn, idle-goes}, Taking.{row-held, Going, going-of}, Fitting.first-fits, Decoding.decodes, Outlasting.stands-whole}
+use Rattle.pagable_laws.proofs.{Outlasting.stands-alike, ReadingSteps.{reading-stands, reading-number, reading-open}, ReadingStepsGive.got-typed, Sound.{by-chance, by-references, by-handle, IsForm}}
+use Rattle.pagable_laws.proofs.{Sound.load-cause, Apart.{fine, reads-once}, LoadsReady.{times_got, LoadReady, once-none, apart-once, got-cons, goes-ready}, Effects.with-one, Deeply.along-with}
+use Rattle.pagable_world.specs.Loads.{Does}
 
 -- ---- whose turn it is
-
-is_turn : ℕ → Turn → Bool
-is_turn n (of_load k) = k == n
-is_turn n t = false
-
-turn-is : (n : ℕ) (t : Turn) → is_turn n t ≡ true → t ≡ of_load n
-unfolding is_turn
-turn-is n x1 is = grind (arith, nat_tests, same-number)
-
-turn-isnt : (n : ℕ) (t : Turn) → is_turn n t ≡ false → t ≡ of_load n → ⊥
-unfolding is_turn
-turn-isnt n t isnt is = let e : is_turn n t ≡ true = ap (is_turn n) is ∙ self-number n in cc
 
 module _ {N B W : Type 0} where
   -- a load's turn is its begin, or a step
@@ -31,12 +18,6 @@ module _ {N B W : Type 0} where
 
   begin-turn : (n : ℕ) (event : Event N B W) (reply : EventReply N B W) → IsBeginOf n event reply → turn_of event reply ≡ of_load n
   begin-turn n x1 x2 is = grind (arith, nat_tests)
-
-  begin-or : (n : ℕ) (event : Event N B W) (reply : EventReply N B W) → IsBeginOf n event reply ⊎ (IsBeginOf n event reply → ⊥)
-  begin-or n (Event.LoadStart h) (EventReply.Started (Ok (Beginning.Load l key))) = grind (arith, nat_tests)
-  begin-or n (Event.Call (Call.LoadBegin h)) (EventReply.CallReply (Reply.Begun (Ok (Beginning.Load l key)))) = grind (arith, nat_tests)
-  begin-or n (Event.LoadKey k t) (EventReply.Started (Ok (Beginning.Load l key))) = grind (arith, nat_tests)
-  begin-or n event reply = inr (λ b. b)
 
 -- ---- ready
 
@@ -107,27 +88,8 @@ module _ {N B W E : Type 0} (m : Seen N B W) (lawful : IsLawful m.values) (reada
   core = s.pager.core
 
   -- what a load has read, where it is one of the machine's or has just begun
-  record IsAt (l : LoadNumber) (reading : Reading) (load : OpenLoad) : Type 0 where
-    number : reading.load ≡ l
-    given : l.0 ≤ core.last.load
-    fits : FramesFit m.values.types core.stored trees load.key reading.node_type reading.frames
-    got : FramesHeld core reading.load reading.frames
-
-  is-at : (l : LoadNumber) (reading : Reading) (load : OpenLoad) → reading_at (world_of s) l ≡ Some reading → core.loads l.0 ≡ Some load → IsAt l reading load
-  unfolding FramesFit
-  is-at l reading load at open_load = elim (reading-stands (world_of s) on.whole.pager.whole l reading at) [
-    | inl there ↦
-        let a = on.whole.readings l.0 reading there in
-        let is = of_caller l.0 there in
-        let given = on.whole.pager.whole.loads.numbered l.0 (ap is_some open_load) in
-        search (same-load reading.load l a.number, given.1, on.stands.readings reading is load (ap core.loads a.number ∙ open_load), (on.readings reading is).held)
-    | inr begun ↦ record {
-      number = begun.2;
-      given = begun.3;
-      fits = subst (λ fs. FramesFit m.values.types core.stored trees load.key reading.node_type fs) (sym begun.0) tt;
-      got = λ frame r among got. absurd (let there = subst (λ fs. Among fs frame) begun.0 among in let e = there.1 in cc);
-    }
-  ]
+  is-at : (l : LoadNumber) (reading : Reading) → reading_at (world_of s) l ≡ Some reading → Going m.values s.pager trees reading
+  is-at l reading at = going-of s trees on.readings reading (reading-stands (world_of s) on.whole.pager.whole l reading at)
 
   -- the load was open, and is the same
   was-open : (l : LoadNumber) (reply : LoadReply N) → LoadSteps m.values (world_of s) l reply (world_of s') → (load : OpenLoad) → s'.pager.core.loads l.0 ≡ Some load → core.loads l.0 ≡ Some load
@@ -136,23 +98,29 @@ module _ {N B W E : Type 0} (m : Seen N B W) (lawful : IsLawful m.values) (reada
   step-ready : (l : LoadNumber) (reply : LoadReply N) → LoadSteps m.values (world_of s) l reply (world_of s') → Ready s l → Ready s' l
   step-ready l reply x ready reading load at open_load = by reply.ended refl
     where
-      a : IsAt l x.reading load
-      a = is-at l x.reading load x.at (grind (arith, nat_tests, was-open))
+      number : x.reading.load ≡ l
+      number = reading-number s on.whole l x.reading x.at
+
+      open_load' : core.loads l.0 ≡ Some load
+      open_load' = was-open l reply x load open_load
+
+      a : Going m.values s.pager trees x.reading
+      a = is-at l x.reading x.at
 
       before : LoadReady core x.reading.load load x.reading.frames
-      before = subst (λ k. LoadReady core k load x.reading.frames) (sym a.number) (ready x.reading load x.at (grind (arith, nat_tests, was-open)))
+      before = subst (λ k. LoadReady core k load x.reading.frames) (sym number) (ready x.reading load x.at open_load')
 
       by : (answer : Option (LoadAnswer N)) → reply.ended ≡ answer → LoadReady s'.pager.core l load reading.frames
-      by (Some end) e = grind (arith, nat_tests, closes, a)
+      by (Some end) e = grind (arith, nat_tests, closes, number)
       by None e =
           let go = subst (λ o. Does m.values core Owner.Caller x.reading o x.frames s'.pager.core) e x.does.does in
-          let after = goes-ready m.values lawful readable core s'.pager.core x.reading load trees load.key x.reading.node_type on.whole.pager.whole.handles before a.got a.fits x.frames go in
+          let after = goes-ready m.values lawful readable core s'.pager.core x.reading load trees load.key x.reading.node_type on.whole.pager.whole.handles before a.held (a.fits load (reading-open s on.whole l x.reading x.at open_load')) x.frames go in
           let now : s'.work.readings l.0 ≡ Some (gone_on x.reading x.frames) =
           x.readings l.0 ∙ ap (λ (o : Option OpenLoad). if_there (λ (z : OpenLoad). updated l.0 (reading_after reply.ended x.reading x.frames) s.work.readings l.0) None o) open_load
           ∙ updated-at l.0 (reading_after reply.ended x.reading x.frames) s.work.readings ∙ ap (λ o. reading_after o x.reading x.frames) e in
           let same : Some (gone_on x.reading x.frames) ≡ Some reading = rw now at at in
           let frames : x.frames ≡ reading.frames = ap (λ (r : Reading). r.frames) (same_some _ _ same) in
-          subst (λ fs. LoadReady s'.pager.core l load fs) frames (subst (λ k. LoadReady s'.pager.core k load x.frames) a.number after)
+          subst (λ fs. LoadReady s'.pager.core l load fs) frames (subst (λ k. LoadReady s'.pager.core k load x.frames) number after)
 
   stays-ready : (l : LoadNumber) → Stays (world_of s) (world_of s') → Ready s l → Ready s' l
   stays-ready l st ready reading load at open_load =
@@ -168,15 +136,19 @@ module _ {N B W E : Type 0} (m : Seen N B W) (lawful : IsLawful m.values) (reada
 
   -- ---- it is sound
 
-  references-fine : (l : LoadNumber) (reading : Reading) (load : OpenLoad) → IsAt l reading load → LoadReady core l load reading.frames → (frame : Frame) (below : List Frame) (x : N)
-      → reading.frames ≡ frame ∷ below
+  references-fine : (l : LoadNumber) (reading : Reading) (load : OpenLoad) → reading_at (world_of s) l ≡ Some reading → core.loads l.0 ≡ Some load → LoadReady core l load reading.frames
+      → (frame : Frame) (below : List Frame) (x : N) → reading.frames ≡ frame ∷ below
       → (decoded : IsDecoded m.values frame x) → IsForm m.values frame → references_fault core (Owner.Load reading.load) [] (m.values.references x) ≡ None
   unfolding is_in
-  references-fine l reading load a ready frame below x is decoded form =
+  references-fine l reading load at open_load ready frame below x is decoded form =
       fine core (Owner.Load reading.load) [] (m.values.references x) good-one (λ r among. refl) once
     where
+      a : Going m.values s.pager trees reading
+      a = is-at l reading at
+
       fits : FrameFits m.values.types core.stored trees frame
-      fits = first-fits m.values.types load.key reading.node_type core.stored trees frame below (grind (arith, nat_tests, core, a))
+      fits = first-fits m.values.types load.key reading.node_type core.stored trees frame below
+          (subst (λ fs. FramesFit m.values.types core.stored trees load.key reading.node_type fs) is (a.fits load (reading-open s on.whole l reading at open_load)))
 
       front : Among reading.frames frame
       front = subst (λ fs. Among fs frame) (sym is) (zero, refl)
@@ -185,8 +157,8 @@ module _ {N B W E : Type 0} (m : Seen N B W) (lawful : IsLawful m.values) (reada
       good-one r among =
           let got = (decodes lawful readable frame x fits decoded).got r among in
           let b = ready.live frame r front got in
-          let own : b.0.owner ≡ Owner.Load reading.load = b.2 ∙ ap (λ (k : LoadNumber). Owner.Load k) (sym a.number) in
-          let stood = (a.got frame r front got).is b.0 b.1 own in
+          let own : b.0.owner ≡ Owner.Load reading.load = b.2 ∙ ap (λ (k : LoadNumber). Owner.Load k) (sym (reading-number s on.whole l reading at)) in
+          let stood = (a.held frame r front got).is b.0 b.1 own in
           let live = subst (λ (n : NodeNumber). 0 < held n.0 core.rows) stood.0 (row-held core r.handle b.0 b.1) in
           record { row = b.0; live = b.1; at = stood.0; owned = own; fits = stood.1; typed = on.stands.pager.typed r.node.0 live ∙ ap (λ (n : ℕ). Some n) (got-typed frame fits r got) }
 
@@ -204,10 +176,9 @@ module _ {N B W E : Type 0} (m : Seen N B W) (lawful : IsLawful m.values) (reada
       → IsOfChance e
   sound l reply x ready load e open_load paged ended =
       let r = ready x.reading load x.at open_load in
-      let a = is-at l x.reading load x.at open_load in
       elim (load-cause m lawful readable s s' trees trees on l reply x load e open_load paged ended) [
         | by-chance chance ↦ chance
-        | by-references frame below y frames decoded form fault ↦ absurd (let f = references-fine l x.reading load a r frame below y frames decoded form in cc)
+        | by-references frame below y frames decoded form fault ↦ absurd (let f = references-fine l x.reading load x.at open_load r frame below y frames decoded form in cc)
         | by-handle node t h root fault ↦ absurd (grind (arith, nat_tests))
       ]
 
@@ -227,70 +198,48 @@ module _ {N B W E : Type 0} (m : Seen N B W) (lawful : IsLawful m.values) (reada
 -- ---- along a chain
 
 module _ {N B W E : Type 0} (m : Seen N B W) where
-  -- once a load has a turn, all have been its own from the first on
-  abbrev TurnsOn : LoadNumber → List (Moment N E B W) → Type 0
-  TurnsOn l xs =
-      (i j : ℕ) (a b : Moment N E B W) → i < j → slice_get xs i ≡ Some a → slice_get xs j ≡ Some b → turn_of b.event b.reply ≡ of_load l.0 → turn_of a.event a.reply ≡ of_load l.0
+  -- whenever the load makes a step, it has begun by then in what is left, or it is ready, and all up to that step is its own
+  abbrev Stage : MachineState N E → LoadNumber → List (Moment N E B W) → ℕ → Type 0
+  Stage s l xs k = HasBegun xs l.0 k ⊎ (Ready s l × ((i : ℕ) (a : Moment N E B W) → i < k → slice_get xs i ≡ Some a → turn_of a.event a.reply ≡ of_load l.0))
 
-  abbrev NoTurns : LoadNumber → List (Moment N E B W) → Type 0
-  NoTurns l xs = (i : ℕ) (a : Moment N E B W) → slice_get xs i ≡ Some a → turn_of a.event a.reply ≡ of_load l.0 → ⊥
-
-  abbrev BegunFirst : LoadNumber → List (Moment N E B W) → Type 0
-  BegunFirst l xs = (k : ℕ) (c : Moment N E B W) → slice_get xs k ≡ Some c → c.event ≡ Event.LoadStep l → HasBegun xs l.0 k
-
-  -- a load goes on in one piece, or has no turn any more, or hasn't begun
-  data Stage (s : MachineState N E) (l : LoadNumber) (xs : List (Moment N E B W)) : Type 0 where
-    going : Ready s l → TurnsOn l xs → Stage s l xs
-    off : NoTurns l xs → Stage s l xs
-    ahead : BegunFirst l xs → Stage s l xs
-
-  later-begun : (x : Moment N E B W) (xs : List (Moment N E B W)) (n k : ℕ) → (IsBeginOf n x.event x.reply → ⊥) → HasBegun (x ∷ xs) n (suc k) → HasBegun xs n k
-  later-begun x xs n k isnt h = by h.i h.a h.before h.at h.begins
-    where
-      by : (i : ℕ) (a : Moment N E B W) → i < suc k → slice_get (x ∷ xs) i ≡ Some a → IsBeginOf n a.event a.reply → HasBegun xs n k
-      by zero a before at begins = let same : a ≡ x = cc in absurd (isnt (subst (λ (y : Moment N E B W). IsBeginOf n y.event y.reply) same begins))
-      by (suc i) a before at begins = record { i = i; a = a; before = omega (arith, before); at = at; begins = begins }
+  abbrev Stages : MachineState N E → List (Moment N E B W) → Type 0
+  Stages s xs = (k : ℕ) (c : Moment N E B W) (l : LoadNumber) → slice_get xs k ≡ Some c → c.event ≡ Event.LoadStep l → Stage s l xs k
 
   module _ (lawful : IsLawful m.values) (readable : ReadsItsTypes m.values.types) where
     module _ (s : MachineState N E) (trees : ℕ → Tree) (on : IsGoingOn m.values s trees) (x : Moment N E B W) (xs : List (Moment N E B W)) (whole' : IsMachineWhole m.values x.after)
         (is : Happens m (world_of s) x.event x.reply (world_of x.after))
         (together : StandTogether (x ∷ xs)) where
-      next-going : (l : LoadNumber) → Ready s l → TurnsOn l (x ∷ xs) → (b : Bool) → is_turn l.0 (turn_of x.event x.reply) ≡ b → Stage x.after l xs
-      next-going l ready turns true e =
-          going (turn-ready m lawful readable s x.after trees on whole' l x.event x.reply is (turn-is l.0 (turn_of x.event x.reply) e) ready)
-          (λ i j a b lt at there. turns (suc i) (suc j) a b (omega (arith, lt)) at there)
-      next-going l ready turns false e = off (λ i a at turn. turn-isnt l.0 (turn_of x.event x.reply) e (turns 0 (suc i) x a (omega arith) refl at turn))
-
-      next-ahead : (l : LoadNumber) → BegunFirst l (x ∷ xs) → IsBeginOf l.0 x.event x.reply ⊎ (IsBeginOf l.0 x.event x.reply → ⊥) → Stage x.after l xs
-      next-ahead l first (inl begins) =
-          let turn = begin-turn l.0 x.event x.reply begins in
-          going (begin-ready m s x.after on.whole whole' l x.event x.reply begins is)
-          (λ i j a b lt at there own. together 0 (suc i) (suc j) x a b (omega arith) (omega (arith, lt)) refl at there (λ nobody. let e : of_load l.0 ≡ of_nobody = sym turn ∙ nobody in cc)
-          (own ∙ sym turn) ∙ turn)
-      next-ahead l first (inr isnt) = ahead (λ k c at step. later-begun x xs l.0 k isnt (first (suc k) c at step))
-
-      next-stage : (l : LoadNumber) → Stage s l (x ∷ xs) → Stage x.after l xs
-      next-stage l (going ready turns) = next-going l ready turns (is_turn l.0 (turn_of x.event x.reply)) refl
-      next-stage l (off none) = off (λ i a at turn. none (suc i) a at turn)
-      next-stage l (ahead first) = next-ahead l first (begin-or l.0 x.event x.reply)
-
-      load-sound : ((l : LoadNumber) → Stage s l (x ∷ xs)) → (trees' : ℕ → Tree) (event : Event N B W) (reply : EventReply N B W) → x.event ≡ event
-          → Happens m (world_of s) event reply (world_of x.after) → LoadIsSound s trees event reply x.after trees'
-      load-sound stage trees' (Event.LoadStep l) (EventReply.LoadMoved (Ok reply)) same h = λ load e open_load paged ended. by load e open_load paged ended (stage l)
+      next-stage : Stages s (x ∷ xs) → Stages x.after xs
+      next-stage stages k c l at step = elim (stages (suc k) c l at step) [
+        | inl h ↦ by h.i h.a h.before h.at h.begins
+        | inr (ready, own) ↦ inr (turn-ready m lawful readable s x.after trees on whole' l x.event x.reply is (own 0 x (omega arith) refl) ready,
+            λ i a lt there. own (suc i) a (omega (arith, lt)) there)
+      ]
         where
-          by : (load : OpenLoad) (e : Error) → s.pager.core.loads l.0 ≡ Some load → IsLoadOfPagedOut s load → reply.ended ≡ Some (LoadAnswer.Refused e) → Stage s l (x ∷ xs) → IsOfChance e
-          by load e open_load paged ended (going ready turns) = sound m lawful readable s x.after trees on whole' l reply h.moves ready load e open_load paged ended
-          by load e open_load paged ended (off none) = absurd (none 0 x refl (ap (λ (v : Event N B W). turn_of v x.reply) same))
-          by load e open_load paged ended (ahead first) = absurd (let b = first 0 x refl same in let lt = b.before in omega (arith, lt))
-      load-sound stage trees' event reply same h = tt
+          by : (i : ℕ) (a : Moment N E B W) → i < suc k → slice_get (x ∷ xs) i ≡ Some a → IsBeginOf l.0 a.event a.reply → Stage x.after l xs k
+          by (suc i) a before there begins = inl (record { i = i; a = a; before = omega (arith, before); at = there; begins = begins })
+          by zero a before there begins =
+              let same : a ≡ x = cc in
+              let here = subst (λ (y : Moment N E B W). IsBeginOf l.0 y.event y.reply) same begins in
+              let turn = begin-turn l.0 x.event x.reply here in
+              inr (begin-ready m s x.after on.whole whole' l x.event x.reply here is, λ j b lt later. together 0 (suc j) (suc k) x b c (omega arith) (omega (arith, lt)) refl later at
+              (λ nobody. let e : of_load l.0 ≡ of_nobody = sym turn ∙ nobody in cc) (ap (λ (v : Event N B W). turn_of v c.reply) step ∙ sym turn) ∙ turn)
+
+      load-sound : Stages s (x ∷ xs) → (trees' : ℕ → Tree) (event : Event N B W) (reply : EventReply N B W) → x.event ≡ event
+          → Happens m (world_of s) event reply (world_of x.after) → LoadIsSound s trees event reply x.after trees'
+      load-sound stages trees' (Event.LoadStep l) (EventReply.LoadMoved (Ok reply)) same h = λ load e open_load paged ended. elim (stages 0 x l refl same) [
+        | inl begun ↦ absurd (let lt = begun.before in omega (arith, lt))
+        | inr (ready, own) ↦ sound m lawful readable s x.after trees on whole' l reply h.moves ready load e open_load paged ended
+      ]
+      load-sound stages trees' event reply same h = tt
 
 pub sound_law : {N B W : Type 0} (E : Type 0) (m : Seen N B W) → SoundLaw E m
 sound_law E m start moments trees whole idle chain together begun stands lawful readable settled =
-    along-with m LoadIsSound (λ s xs. StandTogether xs × ((l : LoadNumber) → Stage m s l xs)) lawful readable (λ s trees trees' x xs on so whole' is. (
+    along-with m LoadIsSound (λ s xs. StandTogether xs × Stages m s xs) lawful readable (λ s trees trees' x xs on so whole' is. (
       load-sound m lawful readable s trees on x xs whole' is so.0 so.1 trees' x.event x.reply refl is,
       (
         (λ i j k p q r lt lt2 at there here. so.0 (suc i) (suc j) (suc k) p q r (omega (arith, lt)) (omega (arith, lt2)) at there here),
-        λ l. next-stage m lawful readable s trees on x xs whole' is so.0 l (so.1 l),
+        next-stage m lawful readable s trees on x xs whole' is so.0 so.1,
       ),
     ))
-    start trees moments (idle-goes m lawful readable start trees whole idle settled stands) (together, λ l. ahead (λ k c at step. begun k c l at step)) chain
+    start trees moments (idle-goes m lawful readable start trees whole idle settled stands) (together, λ k c l at step. inl (begun k c l at step)) chain

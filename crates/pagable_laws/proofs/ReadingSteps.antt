@@ -4,17 +4,17 @@ use Rattle.pagable_laws.proofs.Words.{NodeNumber, OptionalDataKey, type_of, Hand
 use Rattle.pagable_laws.proofs.Words.{with_handle, with_node, with_cached_if_open, with_known, next_node, is_named_by, moved, adopted, HandlesAreWhole, GetsRow, sym, inl, Option, None, Ok, Err}
 use Rattle.pagable_laws.proofs.Words.{is_some, WorkerNumber, LoadAnswer, LoadReply, WorkerReply, PinStep, Took, Event, owner_worker, Frame, Reading, Todo, to_load, Walking, World, Seen, Values}
 use Rattle.pagable_laws.proofs.Words.{ReadingDoes, gone_on, Site, ReadingsAre, reading_at, reading_after, LoadSteps, WorkerSteps, IsWhole, IsReadingOf, of_caller, of_worker, IsSteppedReading}
-use Rattle.pagable_laws.proofs.Words.{StepsReading, IsFresh, Error, OpenLoad, EndCall, HandOverCall, first_key, Fails, RefusesRoot, LoadIs, IsOfCell, IsOfKey, handles_of, GetsLazy, MakesNode, Change}
-use Rattle.pagable_laws.proofs.Words.{nothing_felt, bears_known, ReadingFeels, reads-root, reads-blob, gets-known, gets-lazy, makes-known, makes-node, reading-ends, Want, AskCall, AsksInVain, Result}
-use Rattle.pagable_laws.proofs.Words.{Pinning, Beginning, Claim, is_loose, to_start, to_pin, to_set, to_release, to_fail, SetKeyCall, Does, PinsAtOnce, PinsByLoad, PinRefused, GivesBack, next_start}
-use Rattle.pagable_laws.proofs.Words.{give, give_known, fresh, TodoBrings, sets_key, false, if◌then◌else◌, updated, if_there, EventReply, TableNumber, WorkerAnswer, only_handle, Cell, Task, type_at}
-use Rattle.pagable_laws.proofs.Words.{key_at, first_todo, without_worker, WorkerEnds, is_workers_load, answer_after, BeginsKey, Stays, begun_readings, KeyStarted, Starts, new_walking, Ends, Happens}
-use Rattle.pagable_laws.proofs.Words.{with_worker, IsNewNode, EventBrings, KeepsOpen, LeavesCache, SameNode, NewNode, StaysAway, KeepsReadings, EventFeels}
-use Rattle.pagable_laws.proofs.Words.{by-call, by-reading, by-key, by-nothing, Blob, StoreCall, digest, AreGood, OwnersAreThere, step_of, Among, ◌==◌, CloneCall, Needs, GetsKnown, with_got}
-use Rattle.pagable_laws.proofs.Goes.{found-left, none-in-new, at-updated, Quiet, Goes, NotLoads, quiet-then, goes-quiet, alike, fell-anyhow, KnowsNext, parts, le-self, rows-self, next-above}
-use Rattle.pagable_laws.proofs.Effects.{Effect, IsMine, IsApart, IsHeldFor, Lasts, Spares, none, moves, fell, with-key, stays, one-then, entry, no-one, none-named, released-free, ended-free}
-use Rattle.pagable_laws.proofs.{Effects.{worker-apart, stays-alike, spares-then, stays-fell, then-alike, then-fell, held-fell}, Called.{hands-over, ends-load, noted, asks, closes}}
-use Rattle.pagable_laws.proofs.{Called.{gets-known as was-known, adopts, adopts-known, schedules, clones, pins, begins, begins-key, stores, calls-go, call-knows}, Decoding.among-left}
+use Rattle.pagable_laws.proofs.Words.{MachineState, IsMachineWhole, StepsReading, IsFresh, Error, OpenLoad, EndCall, HandOverCall, first_key, Fails, RefusesRoot, LoadIs, IsOfCell, IsOfKey, handles_of}
+use Rattle.pagable_laws.proofs.Words.{GetsLazy, MakesNode, Change, nothing_felt, bears_known, ReadingFeels, reads-root, reads-blob, gets-known, gets-lazy, makes-known, makes-node, reading-ends, Want}
+use Rattle.pagable_laws.proofs.Words.{AskCall, AsksInVain, Result, Pinning, Beginning, Claim, is_loose, to_start, to_pin, to_set, to_release, to_fail, SetKeyCall, Does, PinsAtOnce, PinsByLoad}
+use Rattle.pagable_laws.proofs.Words.{PinRefused, GivesBack, next_start, give, give_known, fresh, TodoBrings, sets_key, false, if◌then◌else◌, updated, if_there, EventReply, TableNumber, WorkerAnswer}
+use Rattle.pagable_laws.proofs.Words.{only_handle, Cell, Task, type_at, key_at, first_todo, without_worker, WorkerEnds, is_workers_load, answer_after, BeginsKey, Stays, begun_readings, KeyStarted}
+use Rattle.pagable_laws.proofs.Words.{Starts, new_walking, Ends, Happens, with_worker, IsNewNode, EventBrings, KeepsOpen, LeavesCache, SameNode, NewNode, StaysAway, KeepsReadings, EventFeels, by-call}
+use Rattle.pagable_laws.proofs.Words.{by-reading, by-key, by-nothing, Blob, StoreCall, digest, AreGood, OwnersAreThere, step_of, Among, ◌==◌, CloneCall, Needs, GetsKnown, with_got, world_of, or_else}
+use Rattle.pagable_laws.proofs.{Words.reading_of_load, Goes.{found-left, none-in-new, at-updated, Quiet, Goes, NotLoads, quiet-then, goes-quiet, alike, fell-anyhow, KnowsNext, parts, le-self}}
+use Rattle.pagable_laws.proofs.{Goes.{rows-self, next-above}, Effects.{Effect, IsMine, IsApart, IsHeldFor, Lasts, Spares, none, moves, fell, with-key, stays, one-then, entry, no-one, none-named}}
+use Rattle.pagable_laws.proofs.{Effects.{released-free, ended-free, worker-apart, stays-alike, spares-then, stays-fell, then-alike, then-fell, held-fell}, Called.{hands-over, ends-load, noted, asks}}
+use Rattle.pagable_laws.proofs.{Called.{closes, gets-known as was-known, adopts, adopts-known, schedules, clones, pins, begins, begins-key, stores, calls-go, call-knows}, Decoding.among-left}
 use Rattle.pagable_laws.proofs.{GoodReferences.{good, alike-away}, Outlasting.{AreUpTo, low-changed, low-whole, stands-new}, Sums.self-number, Trees.same_some, Standing.{AllWait, WaitsWell}}
 use Rattle.{pagable_world.specs.Loads.{Does as LoadDoes, Meets}, std.proofs.Common.rules}
 use Rattle.pagable_world.specs.Workers as workers
@@ -76,9 +76,22 @@ pub reading-was : (readings : ℕ → Option Reading) (u' : World) → ReadingsA
 reading-was readings u' are q after is = grind (arith, nat_tests)
 
 -- a reading that makes a step is the machine's, or has just begun at an open load
-pub reading-stands : (u : World) → IsWhole u.core → (l : LoadNumber) (reading : Reading) → reading_at u l ≡ Some reading
-    → (u.work.readings l.0 ≡ Some reading) ⊎ ((reading.frames ≡ []) × (reading.steps ≡ 0) × (reading.load ≡ l) × (l.0 ≤ u.core.last.load))
-reading-stands u whole l reading at = grind (arith, nat_tests)
+pub reading-stands : (u : World) → IsWhole u.core → (l : LoadNumber) (reading : Reading) → reading_at u l ≡ Some reading → IsReadingOf u.work reading ⊎ IsFresh u.core reading
+reading-stands u whole l reading at = by (u.work.readings l.0) refl at
+  where
+    by : (o : Option Reading) → u.work.readings l.0 ≡ o → or_else o (reading_of_load l (u.core.loads l.0)) ≡ Some reading → IsReadingOf u.work reading ⊎ IsFresh u.core reading
+    by None none at = grind (arith, nat_tests)
+    by (Some r) is at = inl (of_caller l.0 (is ∙ at))
+
+-- it is of the load with this number
+pub reading-number : {N E : Type 0} {v : Values N} (s : MachineState N E) → IsMachineWhole v s → (l : LoadNumber) (reading : Reading) → reading_at (world_of s) l ≡ Some reading → reading.load ≡ l
+reading-number s whole l reading at =
+    let there : (s.work.readings l.0 ≡ Some reading → reading.load ≡ l) = λ is. ap (λ n. let k : LoadNumber = record { 0 = n } in k) (whole.readings l.0 reading is).number in
+    grind (arith, nat_tests, there)
+
+pub reading-open : {N E : Type 0} {v : Values N} (s : MachineState N E) → IsMachineWhole v s → (l : LoadNumber) (reading : Reading) {load : OpenLoad} → reading_at (world_of s) l ≡ Some reading
+    → s.pager.core.loads l.0 ≡ Some load → s.pager.core.loads reading.load.0 ≡ Some load
+reading-open s whole l reading at open_load = ap (λ (k : LoadNumber). s.pager.core.loads k.0) (reading-number s whole l reading at) ∙ open_load
 
 -- ---- a load of the caller's
 
@@ -95,13 +108,7 @@ module _ {N : Type 0} {v : Values N} {u u' : World} {l : LoadNumber} {reply : Lo
   steps-load after (of_worker n place walking r through below there todo) = inl (of_worker n place walking r through below (sym (s.work.walkings n) ∙ there) todo)
 
   pub stepped-load : (B W : Type 0) → IsWhole u.core → IsSteppedReading u (let e : Event N B W = Event.LoadStep l in e) s.reading
-  stepped-load B W whole = (
-    s.at,
-    elim (reading-stands u whole l s.reading s.at) [
-      | inl there ↦ inl (of_caller l.0 there)
-      | inr begun ↦ inr (begun.0, begun.1, subst (λ (z : LoadNumber). z.0 ≤ u.core.last.load) (sym begun.2) begun.3)
-    ],
-  )
+  stepped-load B W whole = (s.at, reading-stands u whole l s.reading s.at)
 
 -- ---- a load of a worker's
 

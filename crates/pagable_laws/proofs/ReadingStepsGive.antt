@@ -4,12 +4,12 @@ use Rattle.pagable_laws.proofs.Words.{LoadAnswer, Core, Frame, Reading, World, V
 use Rattle.pagable_laws.proofs.Words.{makes-node, reading-ends, EventFeels, nat_tests, ◌&&◌, ◌||◌, Bool, true, false, map, Ok, ap, not, Error, HandleNumber, is_in, if_there, Owner, is_owner, row_at}
 use Rattle.pagable_laws.proofs.Words.{Seen, refused_if, named_fault, moved, numbers_of, HandOverCall, hand_over_fault, is_owned_in, EndsRead, handles_of, Happens, HandlesAreWhole, HandsOver}
 use Rattle.pagable_laws.proofs.Words.{ReadHolds, ◌<◌, slice_get-get_or, Blob, NodeNumber, Tree, Types, type_of, LoadReply, held, OpenLoad, type_at, IsLawful, IsReference, ReadsRoot, LoadSteps}
-use Rattle.pagable_laws.proofs.Words.{MachineState, world_of, IsMachineWhole, IsReadingOf, of_caller, StandsFor, SameTrees, FrameFits, FramesFit, ReadsItsTypes, ReadIsRight, ReadGives, ◌+◌, ◌*◌, ◌≤◌}
-use Rattle.pagable_laws.proofs.Words.{◌⊎◌, is_eager, asks, next_in, need_of, needs_nested, needs_lazy, to_adopt, root_frame, after_kinds, Unfolds, unfolds, UnfoldsFrom, KeepsStored, IsSome, Call}
-use Rattle.pagable_laws.proofs.Words.{Reply, one_more, gone_on, IsIdle, KeepsOpen, HasStepLeft, IsWithinBound, StepIsWithin, PagerState, Represents, WellFormed, LoadsHaveStepsLeft, IsFresh}
-use Rattle.pagable_laws.proofs.{Fitting.{inside, first-fits, frames-stay, asked}, ReadingSteps.{readings-on, caller-free, reading-feels, reading-stands, AllWaitWell, EventGoes, event-goes}}
+use Rattle.pagable_laws.proofs.Words.{MachineState, world_of, IsMachineWhole, IsReadingOf, StandsFor, SameTrees, FrameFits, FramesFit, ReadsItsTypes, ReadIsRight, ReadGives, ◌+◌, ◌*◌, ◌≤◌, ◌⊎◌}
+use Rattle.pagable_laws.proofs.Words.{is_eager, asks, next_in, need_of, needs_nested, needs_lazy, to_adopt, root_frame, after_kinds, Unfolds, unfolds, UnfoldsFrom, KeepsStored, IsSome, Call, Reply}
+use Rattle.pagable_laws.proofs.{Words.{one_more, gone_on, IsIdle, KeepsOpen, HasStepLeft, IsWithinBound, StepIsWithin, PagerState, Represents, WellFormed, LoadsHaveStepsLeft, IsFresh}, Fitting.inside}
+use Rattle.pagable_laws.proofs.{Fitting.{first-fits, frames-stay, asked}, ReadingSteps.{readings-on, caller-free, reading-feels, reading-stands, AllWaitWell, EventGoes, event-goes, reading-open}}
 use Rattle.pagable_laws.proofs.{Goes.{found-number, IsShut, Goes}, Outlasting.{Stands, stands-whole, stands-changed, stands-fell}, Sums.self-number, Decoding.decodes, Taking.{row-held, root-right}}
-use Rattle.pagable_laws.proofs.{Taking.{adopted-over, Going, given-nodes, eager-nested}, ReadingStepsKinds.{kinds_of, asks-by-kinds, kinds-pushed}, Trees.same_some}
+use Rattle.pagable_laws.proofs.{Taking.{adopted-over, Going, given-nodes, eager-nested, going-of}, ReadingStepsKinds.{kinds_of, asks-by-kinds, kinds-pushed}, Trees.same_some}
 use Rattle.{pagable_world.specs.{Loads.Does as LoadDoes, Runs.Does}, std.proofs.Common.rules}
 pub use Rattle.pagable_laws.proofs.Effects.{both-none as neither}
 
@@ -119,14 +119,9 @@ module _ {N E B W : Type 0} (m : Seen N B W) (lawful : IsLawful m.values) (reada
   reads-give (Event.LoadStep l) (EventReply.LoadMoved (Ok reply)) does = λ load x open_load ended.
       let h = does.step.happens.moves in
       let (reading, at, root, hands) = reads-hold m (world_of s) (world_of s') whole.pager.whole.handles (Event.LoadStep l) (EventReply.LoadMoved (Ok reply)) does.step.happens x ended in
-      elim (reading-stands (world_of s) whole.pager.whole l reading at) [
-        | inr begun ↦ absurd (let e = sym begun.0 ∙ root.frames in cc)
-        | inl there ↦
-            let number : reading.load.0 ≡ l.0 = (whole.readings l.0 reading there).number in
-            let stored = (reading-feels m s.pager.core Owner.Caller caller-free s'.pager.core h.reading reply.ended h.frames h.does).does.goes.stored in
-            read-right lawful readable s.pager s'.pager trees trees' same stored whole'.pager stands'.pager reading
-            (readings reading (of_caller l.0 there)) load (ap s.pager.core.loads number ∙ open_load) x root hands
-      ]
+      let stored = (reading-feels m s.pager.core Owner.Caller caller-free s'.pager.core h.reading reply.ended h.frames h.does).does.goes.stored in
+      let going = going-of s trees readings reading (reading-stands (world_of s) whole.pager.whole l reading at) in
+      read-right lawful readable s.pager s'.pager trees trees' same stored whole'.pager stands'.pager reading going load (reading-open s whole l reading at open_load) x root hands
   reads-give event reply does = tt
 
 -- How many steps an open load still needs: at most two for each reference that its blobs still take, with all that it leads to, and one for each of its blobs.
@@ -278,6 +273,9 @@ nothing-unfolds none (unfolds t key many longest blob there from) = let e = none
 abbrev IsBounded : Types → World → Reading → Type 0
 IsBounded types u reading = (reading.load.0 ≤ u.core.last.load) × ((load : OpenLoad) → u.core.loads reading.load.0 ≡ Some load → Bounded types u.core.stored load.key reading)
 
+fresh-bounded : (types : Types) (u : World) (reading : Reading) → IsFresh u.core reading → IsBounded types u reading
+fresh-bounded types u reading new = (new.2, λ load is_open. bounded-new types u.core.stored load.key reading new.0 new.1)
+
 abbrev AllBounded : Types → World → Type 0
 AllBounded types u = (reading : Reading) → IsReadingOf u.work reading → IsBounded types u reading
 
@@ -295,6 +293,10 @@ module _ {N E B W : Type 0} (m : Seen N B W) (s s' : MachineState N E) (whole : 
   abbrev u' : World
   u' = world_of s'
 
+  bounded-of : AllBounded m.values.types u → (reading : Reading) → IsReadingOf u.work reading ⊎ IsFresh u.core reading → IsBounded m.values.types u reading
+  bounded-of all reading (inl there) = all reading there
+  bounded-of all reading (inr new) = fresh-bounded m.values.types u reading new
+
   -- a load that is open afterwards was open before
   were-open : {c : Change} → Goes c u.core u'.core → (q : ℕ) (load : OpenLoad) → q ≤ u.core.last.load → u'.core.loads q ≡ Some load → u.core.loads q ≡ Some load
   were-open goes q load few is = elim (goes.loads q load is) [ inl same ↦ same | inr new ↦ absurd (let above = new.0 in omega (arith, few, above)) ]
@@ -310,8 +312,7 @@ module _ {N E B W : Type 0} (m : Seen N B W) (s s' : MachineState N E) (whole : 
     went-bounded : (reading : Reading) (frames : List Frame) → IsReadingOf u.work reading ⊎ IsFresh u.core reading → ReadingFeels m.values u.core reading None frames u'.core c
         → IsBounded m.values.types u' (gone_on reading frames)
     went-bounded reading frames stands feels =
-        let before : IsBounded m.values.types u reading =
-        elim stands [ inl there ↦ all reading there | inr new ↦ (new.2, λ load is_open. bounded-new m.values.types u.core.stored load.key reading new.0 new.1) ] in
+        let before = bounded-of all reading stands in
         let few = before.0 in
         let more = goes.loads_last in (
           omega (arith, few, more),
@@ -322,27 +323,21 @@ module _ {N E B W : Type 0} (m : Seen N B W) (s s' : MachineState N E) (whole : 
 
   -- all loads go on so
   all-on : {event : Event N B W} {reply : EventReply N B W} {c : Change} → Goes c u.core u'.core → AllBounded m.values.types u → EventFeels m.values u event reply u' c → AllBounded m.values.types u'
-  all-on goes all = readings-on (λ r. IsBounded m.values.types u' r) (old-bounded goes all)
-      (λ r new. (new.2, λ load is_open. bounded-new m.values.types u'.core.stored load.key r new.0 new.1)) (λ r frames load stands at feels. went-bounded goes all r frames stands feels)
+  all-on goes all = readings-on (λ r. IsBounded m.values.types u' r) (old-bounded goes all) (fresh-bounded m.values.types u')
+      (λ r frames load stands at feels. went-bounded goes all r frames stands feels)
 
   -- a load that makes a step was bounded, and is where it goes on
   module _ (all : AllBounded m.values.types u) {l : LoadNumber} {reply : LoadReply N} (x : LoadSteps m.values u l reply u') (load : OpenLoad) (open_load : u.core.loads l.0 ≡ Some load) where
-    number-is : x.reading.load.0 ≡ l.0
-    number-is = elim (reading-stands u whole.pager.whole l x.reading x.at) [
-      | inl there ↦ (whole.readings l.0 x.reading there).number
-      | inr begun ↦ ap (λ (k : LoadNumber). k.0) begun.2
-    ]
+    is-open : u.core.loads x.reading.load.0 ≡ Some load
+    is-open = reading-open s whole l x.reading x.at open_load
 
     was-bounded : Bounded m.values.types u.core.stored load.key x.reading
-    was-bounded = elim (reading-stands u whole.pager.whole l x.reading x.at) [
-      | inl there ↦ (all x.reading (of_caller l.0 there)).1 load (ap u.core.loads number-is ∙ open_load)
-      | inr begun ↦ bounded-new m.values.types u.core.stored load.key x.reading begun.0 begun.1
-    ]
+    was-bounded = (bounded-of all x.reading (reading-stands u whole.pager.whole l x.reading x.at)).1 load is-open
 
     now-bounded : reply.ended ≡ None → Bounded m.values.types u.core.stored load.key (gone_on x.reading x.frames)
     now-bounded none =
         let f = reading-feels m u.core Owner.Caller caller-free u'.core x.reading reply.ended x.frames x.does in
-        bounded-step x.reading load x.frames (ap u.core.loads number-is ∙ open_load) was-bounded (subst (λ a. ReadingFeels m.values u.core x.reading a x.frames u'.core f.change) none (f.feels whole.pager.whole.handles))
+        bounded-step x.reading load x.frames is-open was-bounded (subst (λ a. ReadingFeels m.values u.core x.reading a x.frames u'.core f.change) none (f.feels whole.pager.whole.handles))
 
   pub event-on : (event : Event N B W) (reply : EventReply N B W) → Happens m u event reply u' → AllWaitWell u → LoadsStand m.values.types u → LoadsStand m.values.types u'
   event-on event reply h waits stands = elim (keeps-open event) [

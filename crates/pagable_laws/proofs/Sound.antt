@@ -5,12 +5,12 @@ use Rattle.pagable_laws.proofs.Words.{ArcRef, Kind, Identity, Blob, Meaning, Tre
 use Rattle.pagable_laws.proofs.Words.{next_in, need_at, need_of, is_broken, IsPublished, MachineState, world_of, FramesFit, ReadsItsTypes, AreKeysOf, WorkFits, Needs, ◌==◌, Bool, false, ◌⊎◌, None}
 use Rattle.pagable_laws.proofs.Words.{Err, refl, Result, not, Want, Owner, HandleNumber, LoadNumber, NodeNumber, Types, if_there, any_mode, Core, OpenLoad, of_cell, Reading, Seen, IsLawful, earlier}
 use Rattle.pagable_laws.proofs.Words.{where_so, refused_if, spent, handle_fault, references_fault, load_fault, AreHandlesFull, Refused, FetchCall, AskCall, LazyCall, ask_fault, is_known, node_fault}
-use Rattle.pagable_laws.proofs.Words.{root_fault, needs_nested, needs_lazy, to_adopt, IsDecoded, RefusesBlob, RefusesNested, RefusesNode, RefusesRoot, IsOfKey, Fails, reading_at, IsMachineWhole}
-use Rattle.pagable_laws.proofs.Words.{StandsFor, FitsRoot, of_caller, IsOfChance, IsPagedOutAs, IsLoadOfPagedOut, Ok, HandleRow, Mode, LoadAnswer, LoadReply, Event, EventReply, or_else, row_fault}
-use Rattle.pagable_laws.proofs.Words.{reference_fault, LoadSteps, Happens, IsOfHandles, LoadIsFaultless, FaultlessLaw, ◌<◌, Took, owner_worker, Todo, Walking, named_fault, cell_fault, handles_of}
-use Rattle.pagable_laws.proofs.{Words.{after_kinds, LeadsDown, is-there, goes-down, ReadsTooDeep, IsReadingOf, of_worker, LoadIsDeep, DeepLoadLaw, AllLow}, Trees.same_some, Fitting.asked}
-use Rattle.pagable_laws.proofs.{Fitting.first-typed, Apart.{IsFormOf, GotAsked, FramesAsked, NextOf, asks-known, all-read, next-known, all-got}, ReadingStepsKinds.{kinds_of, asks-by-kinds}}
-use Rattle.pagable_laws.proofs.{ReadingStepsKinds.faulty-by-kinds, Sums.self-number, Taking.{adopted-over, eager-nested}, Chains.IsGoingOn, Deeply.along-first, ReadingSteps.reading-stands}
+use Rattle.pagable_laws.proofs.Words.{root_fault, needs_nested, needs_lazy, to_adopt, IsDecoded, RefusesBlob, RefusesNested, RefusesNode, RefusesRoot, IsOfKey, Fails, reading_at, FitsRoot, IsOfChance}
+use Rattle.pagable_laws.proofs.Words.{IsPagedOutAs, IsLoadOfPagedOut, Ok, HandleRow, Mode, LoadAnswer, LoadReply, Event, EventReply, or_else, row_fault, reference_fault, LoadSteps, Happens}
+use Rattle.pagable_laws.proofs.Words.{IsOfHandles, LoadIsFaultless, FaultlessLaw, ◌<◌, Took, owner_worker, Todo, Walking, named_fault, cell_fault, handles_of, after_kinds, LeadsDown, is-there}
+use Rattle.pagable_laws.proofs.{Words.{goes-down, ReadsTooDeep, IsReadingOf, of_worker, LoadIsDeep, DeepLoadLaw, AllLow, IsFresh}, Trees.same_some, Fitting.{asked, first-typed}, Apart.IsFormOf}
+use Rattle.pagable_laws.proofs.{Apart.{GotAsked, FramesAsked, NextOf, asks-known, all-read, next-known, all-got}, ReadingStepsKinds.{kinds_of, asks-by-kinds, faulty-by-kinds}, Sums.self-number}
+use Rattle.pagable_laws.proofs.{Taking.{adopted-over, eager-nested, Going, going-of}, Chains.IsGoingOn, Deeply.along-first, ReadingSteps.{reading-stands, reading-number, reading-open}}
 use Rattle.{std.proofs.Common.rules, pagable_world.specs.Loads.Does}
 use Rattle.pagable_world.specs.Workers as workers
 
@@ -202,9 +202,7 @@ pub data Cause {N : Type 0} (v : Values N) (w : Core) (load : OpenLoad) (reading
       → references_fault w (Owner.Load reading.load) [] (v.references x) ≡ Some e → Cause v w load reading e
   by-handle : (node : NodeNumber) (t : ℕ) (h : HandleNumber) → load.root ≡ of_cell node t h → handle_fault w Owner.Caller h any_mode ≡ Some e → Cause v w load reading e
 
-module _ {N B W E : Type 0} (m : Seen N B W) (s : MachineState N E) (trees : ℕ → Tree) (whole : IsMachineWhole m.values s) (stands : StandsFor m.values s trees) (lawful : IsLawful m.values)
-    (readable : ReadsItsTypes m.values.types)
-    (fit : WorkFits m.values s trees) (got : (reading : Reading) → IsReadingOf s.work reading → FramesAsked m.values.types reading.frames) where
+module _ {N B W E : Type 0} (m : Seen N B W) (s : MachineState N E) (trees : ℕ → Tree) (on : IsGoingOn m.values s trees) (lawful : IsLawful m.values) (readable : ReadsItsTypes m.values.types) where
   abbrev v : Values N
   v = m.values
 
@@ -223,47 +221,42 @@ module _ {N B W E : Type 0} (m : Seen N B W) (s : MachineState N E) (trees : ℕ
     out = paged.4
 
     -- what is read of it
-    record Read : Type 0 where
-      number : reading.load ≡ l
-      fits : FramesFit v.types w.stored trees load.key reading.node_type reading.frames
-      asked : FramesAsked v.types reading.frames
-      of_type : reading.node_type ≡ t
+    number : reading.load ≡ l
+    number = reading-number s on.whole l reading at
 
-    is-read : Read
-    unfolding FramesFit FramesAsked
-    is-read = by (s.work.readings l.0) refl at
+    going : Going v s.pager trees reading
+    going = going-of s trees on.readings reading (reading-stands (world_of s) on.whole.pager.whole l reading at)
+
+    fits : FramesFit v.types w.stored trees load.key reading.node_type reading.frames
+    fits = going.fits load (reading-open s on.whole l reading at open_load)
+
+    of-type : reading.node_type ≡ t
+    of-type = grind (arith, nat_tests, there)
       where
-        by : (found : Option Reading) → s.work.readings l.0 ≡ found → reading_at (world_of s) l ≡ Some reading → Read
-        by (Some r) e is =
-            let same : Some r ≡ Some reading = rw e at is in
-            let there = e ∙ same in
-            let a = whole.readings l.0 reading there in
-            let is_of = of_caller l.0 there in
-            let same_load = same_some _ _ (sym a.open_load ∙ open_load) in
-            let number : reading.load ≡ l = ap (λ n. record { 0 = n }) a.number in
-            let of_type : reading.node_type ≡ t = subst (λ root. FitsRoot root reading) (ap (λ (x : OpenLoad). x.root) same_load ∙ paged.3) a.typed in
-            search (number, stands.readings reading is_of load (ap w.loads a.number ∙ open_load), got reading is_of, of_type)
-        by None e is = grind (arith, nat_tests)
+        there : s.work.readings l.0 ≡ Some reading → reading.node_type ≡ t
+        there is =
+            let a = on.whole.readings l.0 reading is in
+            subst (λ root. FitsRoot root reading) (ap (λ (x : OpenLoad). x.root) (same_some _ _ (sym a.open_load ∙ open_load)) ∙ paged.3) a.typed
 
     -- the tree that it reads
     typed : (trees out.i.node.0).type ≡ reading.node_type
     typed =
-        let r = stands.pager.loads l.0 load node t paged.2 open_load paged.3 in
-        ap (λ n. (trees n).type) out.of_node ∙ r.typed ∙ sym is-read.of_type
+        let r = on.stands.pager.loads l.0 load node t paged.2 open_load paged.3 in
+        ap (λ n. (trees n).type) out.of_node ∙ r.typed ∙ sym of-type
 
     found : (blob : Blob) × (w.stored load.key ≡ Some blob)
-    found = let b = (fit.slots out.t out.i out.known.slot out.known.claimed).publishes load.key out.height out.known.known in (_, b.2.is_stored)
+    found = let b = (on.fits.slots out.t out.i out.known.slot out.known.claimed).publishes load.key out.height out.known.known in (_, b.2.is_stored)
 
     abbrev C : Error → Type 0
     C e = Cause v w load reading e
 
     no-load-fault : (P : Error → Type 0) → Only P (load_fault w Owner.Caller reading.load)
-    no-load-fault P e is = absurd (let f = ap (load_fault w Owner.Caller) is-read.number ∙ may in cc)
+    no-load-fault P e is = absurd (let f = ap (load_fault w Owner.Caller) number ∙ may in cc)
 
     need-there : (kind : Kind) (key : ℕ) → (need_of v.types reading.frames ≡ needs_nested kind key) ⊎ (need_of v.types reading.frames ≡ needs_lazy kind key)
         → (blob : Blob) × (w.stored key ≡ Some blob) × (is_eager kind.0 ≡ true → length reading.frames ≤ longest_path)
     need-there kind key needs =
-        let n = needed v s trees fit readable out.t load.key reading.node_type out.i out.height out.known typed reading.frames is-read.fits is-read.asked kind key needs in
+        let n = needed v s trees on.fits readable out.t load.key reading.node_type out.i out.height out.known typed reading.frames fits going.asked kind key needs in
         (n.blob, n.is, n.short)
 
     -- the front of what is needed
@@ -272,8 +265,8 @@ module _ {N B W E : Type 0} (m : Seen N B W) (s : MachineState N E) (trees : ℕ
 
     form-of : (frame : Frame) (below : List Frame) → reading.frames ≡ frame ∷ below → (x : N) → IsDecoded v frame x → IsForm v frame
     form-of frame below is x decoded =
-        formed v s trees fit readable out.t load.key reading.node_type out.i out.height out.known typed frame below
-        (subst (λ fs. FramesFit v.types w.stored trees load.key reading.node_type fs) is is-read.fits) (subst (λ fs. FramesAsked v.types fs) is is-read.asked) decoded.own decoded.read
+        formed v s trees on.fits readable out.t load.key reading.node_type out.i out.height out.known typed frame below
+        (subst (λ fs. FramesFit v.types w.stored trees load.key reading.node_type fs) is fits) (subst (λ fs. FramesAsked v.types fs) is going.asked) decoded.own decoded.read
 
     -- ---- asking
 
@@ -293,7 +286,7 @@ module _ {N B W E : Type 0} (m : Seen N B W) (s : MachineState N E) (trees : ℕ
     -- ---- the causes
 
     of-blob : (e : Error) → RefusesBlob v reading e → IsOfChance e
-    of-blob e (inl is) = absurd (not-broken v s trees fit readable out.t load.key reading.node_type out.i out.height out.known typed reading.frames is-read.fits is-read.asked e is)
+    of-blob e (inl is) = absurd (not-broken v s trees on.fits readable out.t load.key reading.node_type out.i out.height out.known typed reading.frames fits going.asked e is)
     of-blob e (inr (inl (top, below, is, causes))) = (grind (arith, nat_tests))
     of-blob e (inr (inr memory)) = (subst IsOfChance (sym memory) tt)
 
@@ -307,7 +300,7 @@ module _ {N B W E : Type 0} (m : Seen N B W) (s : MachineState N E) (trees : ℕ
 
     -- the blob that becomes a node is read through a reference that isn't loose, and is of its kind's type
     node-right : (top : Frame) (below : List Frame) → reading.frames ≡ top ∷ below → need_of v.types reading.frames ≡ to_adopt → (is_eager top.kind.0 ≡ true) × (top.node_type ≡ type_of top.kind.0)
-    node-right top below is needs = grind (arith, nat_tests, is-read, adopted-over, second-eager, first-typed)
+    node-right top below is needs = grind (arith, nat_tests, fits, going, adopted-over, second-eager, first-typed)
 
     of-node : (mid : Core) (e : Error) → RefusesNode v w Owner.Caller reading e mid → C e
     of-node mid e r =
@@ -321,7 +314,7 @@ module _ {N B W E : Type 0} (m : Seen N B W) (s : MachineState N E) (trees : ℕ
     of-root : (mid : Core) (e : Error) → RefusesRoot v w Owner.Caller reading e mid → C e
     of-root mid e r = elim r.refuses [
       | inr (is, handed) ↦
-          let same : is.load ≡ load = same_some _ _ (sym is.open_load ∙ (ap (λ (x : LoadNumber). w.loads x.0) is-read.number ∙ open_load)) in
+          let same : is.load ≡ load = same_some _ _ (sym is.open_load ∙ (ap (λ (x : LoadNumber). w.loads x.0) number ∙ open_load)) in
           absurd (subst IsOfKey (ap (λ (x : OpenLoad). x.root) same ∙ paged.3) is.sort)
       | inl (is, ended) ↦ only-refused {P = C} e ended.refused.1 (only-earlier _ _ (no-load-fault _) (only-earlier _ _ (λ f a. by-chance (root-chance r f a))
           (λ f a. by-references r.reads_root.root [] r.x r.reads_root.frames r.reads_root.decoded (form-of r.reads_root.root [] r.reads_root.frames r.x r.reads_root.decoded) a)))
@@ -329,16 +322,16 @@ module _ {N B W E : Type 0} (m : Seen N B W) (s : MachineState N E) (trees : ℕ
     ]
       where
         root-chance : (r : RefusesRoot v w Owner.Caller reading e mid) → Only IsOfChance (if_there (λ (x : OpenLoad). root_fault w Owner.Caller (v.node_type r.x) x.root) None (w.loads reading.load.0))
-        root-chance r f is = grind (arith, nat_tests, is-read, either, never, same-type, last-type, where-chance)
+        root-chance r f is = grind (arith, nat_tests, number, fits, of-type, either, never, same-type, last-type, where-chance)
 
     pub cause : (w' : Core) (e : Error) → Fails v w Owner.Caller reading e w' → C e
     cause w' e (inr r) =
         let c = r.ended.refused in
-        let same : c.may.load ≡ load = same_some _ _ (sym c.may.owned.stands_open ∙ (ap (λ (x : LoadNumber). w.loads x.0) is-read.number ∙ open_load)) in
+        let same : c.may.load ≡ load = same_some _ _ (sym c.may.owned.stands_open ∙ (ap (λ (x : LoadNumber). w.loads x.0) number ∙ open_load)) in
         by-handle c.node (v.node_type r.x) c.h (ap (λ (x : OpenLoad). x.root) (sym same) ∙ c.may.of_node) c.why
     cause w' e (inl gives) = elim gives.meets [
       | inl (refuses, a) ↦ by-chance (of-blob e refuses)
-      | inr (inl (first, asked)) ↦ by-chance (grind (arith, nat_tests, ask-chance, same_some, is-read, vain-chance, found))
+      | inr (inl (first, asked)) ↦ by-chance (grind (arith, nat_tests, ask-chance, same_some, number, vain-chance, found))
       | inr (inr (inl nested)) ↦ by-chance (of-nested gives.mid e nested)
       | inr (inr (inr (inl (kind, key, needs, asked)))) ↦ by-chance (of-lazy gives.mid e kind key needs asked)
       | inr (inr (inr (inr (inl node)))) ↦ of-node gives.mid e node
@@ -375,7 +368,7 @@ module _ {N B W E : Type 0} (m : Seen N B W) (lawful : IsLawful m.values) (reada
       → Cause m.values s.pager.core load x.reading e
   load-cause l reply x load e open_load paged is =
       let fails = subst (λ a. Does m.values s.pager.core Owner.Caller x.reading a x.frames s'.pager.core) is x.does.does in
-      cause m s trees on.whole on.stands lawful readable on.fits (λ r is. (on.readings r is).asked) l x.reading load x.at x.may open_load paged s'.pager.core e fails.0
+      cause m s trees on lawful readable l x.reading load x.at x.may open_load paged s'.pager.core e fails.0
 
   load-faultless : (event : Event N B W) (reply : EventReply N B W) → Happens m (world_of s) event reply (world_of s') → LoadIsFaultless s trees event reply s' trees'
   load-faultless (Event.LoadStep l) (EventReply.LoadMoved (Ok reply)) is = λ load e open_load paged ended. elim (load-cause l reply is.moves load e open_load paged ended) [
@@ -487,22 +480,19 @@ module _ {N B W : Type 0} (m : Seen N B W) (lawful : IsLawful m.values) (w : Cor
 -- ---- an event
 
 module _ {N B W E : Type 0} (m : Seen N B W) (lawful : IsLawful m.values) (s s' : MachineState N E) (trees trees' : ℕ → Tree) (on : IsGoingOn m.values s trees) where
-  by-reading : (me : Owner) (reading : Reading) (load : OpenLoad) → IsReadingOf s.work reading → s.pager.core.loads reading.load.0 ≡ Some load → (w' : Core)
+  by-reading : (me : Owner) (reading : Reading) (load : OpenLoad) → IsReadingOf s.work reading ⊎ IsFresh s.pager.core reading → s.pager.core.loads reading.load.0 ≡ Some load → (w' : Core)
       → Fails m.values s.pager.core me reading Error.TooDeep w'
       → ReadsTooDeep m.values.types s.pager.core.stored reading.node_type load.key
-  by-reading me reading load is open_load w' fails =
-      fails-deep m lawful s.pager.core me reading trees load.key reading.node_type (on.stands.readings reading is load open_load) (on.readings reading is).asked w' fails
+  by-reading me reading load stands open_load w' fails =
+      let g = going-of s trees on.readings reading stands in fails-deep m lawful s.pager.core me reading trees load.key reading.node_type (g.fits load open_load) g.asked w' fails
 
   load-deep : (event : Event N B W) (reply : EventReply N B W) → Happens m (world_of s) event reply (world_of s') → LoadIsDeep m.values s trees event reply s' trees'
-  unfolding FramesFit FramesAsked
   load-deep (Event.LoadStep l) (EventReply.LoadMoved (Ok reply)) is = λ reading load at open_load ended.
       let x = is.moves in
       let same : x.reading ≡ reading = same_some _ _ (sym x.at ∙ at) in
       let fails = subst (λ a. Does m.values s.pager.core Owner.Caller x.reading a x.frames s'.pager.core) ended x.does.does in
-      subst (λ (r : Reading). ReadsTooDeep m.values.types s.pager.core.stored r.node_type load.key) same (elim (reading-stands (world_of s) on.whole.pager.whole l x.reading x.at) [
-        | inl there ↦ by-reading Owner.Caller x.reading load (of_caller l.0 there) (ap s.pager.core.loads (on.whole.readings l.0 x.reading there).number ∙ open_load) s'.pager.core fails.0
-        | inr begun ↦ (grind (arith, fails-deep))
-      ])
+      subst (λ (r : Reading). ReadsTooDeep m.values.types s.pager.core.stored r.node_type load.key) same
+      (by-reading Owner.Caller x.reading load (reading-stands (world_of s) on.whole.pager.whole l x.reading x.at) (reading-open s on.whole l x.reading x.at open_load) s'.pager.core fails.0)
   load-deep (Event.WorkerStep n) (EventReply.WorkerMoved (Ok reply)) is = λ walking r place through reading below load i there todo open_load taken.
       let x = is.moves in
       let same : x.walking ≡ walking = same_some _ _ (sym x.at ∙ there) in
@@ -511,7 +501,7 @@ module _ {N B W E : Type 0} (m : Seen N B W) (lawful : IsLawful m.values) (s s' 
       subst (λ (k : Took W). workers.Does m n.0 (record { core = s.pager.core; shelf = s.work.shelves x.walking.table; todo = x.walking.todo }) x.walking.todo k x.after) taken x.does.does in
       let step = subst (λ (t : List Todo). workers.Does m n.0 (record { core = s.pager.core; shelf = s.work.shelves x.walking.table; todo = x.walking.todo }) t (Took.Pin i
       (Err Error.TooDeep)) x.after) front does in
-      by-reading (owner_worker n.0) reading load (of_worker n.0 place walking r through below there todo) open_load x.after.core step.1.refused.0.does.0
+      by-reading (owner_worker n.0) reading load (inl (of_worker n.0 place walking r through below there todo)) open_load x.after.core step.1.refused.0.does.0
   load-deep event reply is = tt
 
 pub deep_load_law : {N B W : Type 0} (E : Type 0) (m : Seen N B W) → DeepLoadLaw E m

@@ -4,9 +4,9 @@ use Rattle.pagable_laws.proofs.Words.{OptionalDataKey, ArcRef, Kind, HandleNumbe
 use Rattle.pagable_laws.proofs.Words.{Reading, row_at, Values, IsLawful, IsReference, Next, need_at, to_adopt, ReadsRoot, ReadsNode, root_frame, nested_frame, with_got, PagerState, HandlesAreWhole}
 use Rattle.pagable_laws.proofs.Words.{IsWhole, WellFormed, NodeStands, ValueStands, ReadsNodeTree, FramesFit, SameTrees, Represents, ReadsItsTypes, GivesTree, ReadIsRight, Change, bears_known}
 use Rattle.pagable_laws.proofs.Words.{CoreGoes, ReadingFeels, reads-root, reads-blob, gets-known, gets-lazy, makes-known, makes-node, reading-ends, Decoded, FramesGiven, ap, inl, gone_on, GetsRow}
-use Rattle.pagable_laws.proofs.{Words.{GotStands, FramesHeld, LoadNumber, ReadingFits, ChangeFits, Needs, is_eager, asks, next_in, need_of, needs_nested}, Fitting.{node-stays, first-fits}}
-use Rattle.pagable_laws.proofs.{Fitting.{first-typed, frames-stay, all-none, all-new, all-more, made-fits, needed-fits, nested-fits, root-fits, asked}, Decoding.{decodes, read_stands}, Apart.none-got}
-use Rattle.pagable_laws.proofs.{Apart.{one-got, FramesAsked}, Following.{cell-of, given-of}, Outlasting.among-found, Sums.{at-most-sum, self-number}, Trees.same_some}
+use Rattle.pagable_laws.proofs.Words.{GotStands, FramesHeld, LoadNumber, ReadingFits, ChangeFits, Needs, is_eager, asks, next_in, need_of, needs_nested, MachineState, IsReadingOf, IsFresh, ◌⊎◌}
+use Rattle.pagable_laws.proofs.{Fitting.{node-stays, first-fits, first-typed, frames-stay, all-none, all-new, all-more, made-fits, needed-fits, nested-fits, root-fits, asked}, Decoding.decodes}
+use Rattle.pagable_laws.proofs.{Decoding.read_stands, Apart.{none-got, one-got, FramesAsked}, Following.{cell-of, given-of}, Outlasting.among-found, Sums.{at-most-sum, self-number}, Trees.same_some}
 
 -- ---- a live handle's node
 
@@ -184,6 +184,12 @@ pub record Going {N E : Type 0} (v : Values N) (s : PagerState N E) (trees : ℕ
 pub going-new : {N E : Type 0} {v : Values N} (s : PagerState N E) (trees : ℕ → Tree) (reading : Reading) → reading.frames ≡ [] → reading.load.0 ≤ s.core.last.load → Going v s trees reading
 unfolding FramesFit
 going-new {v = v} s trees reading none within = search (none, all-none, none-asked)
+
+-- one that makes a step: the machine's, or one that has just begun
+pub going-of : {N E : Type 0} {v : Values N} (s : MachineState N E) (trees : ℕ → Tree) → ((reading : Reading) → IsReadingOf s.work reading → Going v s.pager trees reading) → (reading : Reading)
+    → IsReadingOf s.work reading ⊎ IsFresh s.pager.core reading → Going v s.pager trees reading
+going-of s trees readings reading (inl is) = readings reading is
+going-of s trees readings reading (inr new) = going-new s.pager trees reading new.0 new.2
 
 module _ {N E : Type 0} {v : Values N} {s s' : PagerState N E} {trees trees' : ℕ → Tree} {comes : ℕ → N → Type 0} {c : Change} (whole : WellFormed v s) (whole' : WellFormed v s')
     (stands : Represents v s trees) (goes : CoreGoes c s.core s'.core) (fits : ChangeFits v c comes s s' trees trees') where
