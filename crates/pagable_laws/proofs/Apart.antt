@@ -5,9 +5,7 @@ use Rattle.pagable_laws.proofs.Words.{handles_at, IsReadable, Throughout, ArcRef
 use Rattle.pagable_laws.proofs.Words.{next_in, rest, at, zero, suc, ◌+◌, ◌||◌, Bool, false, inr, if◌then◌else◌, sum_by-cons, Owner, Among, is_in, one, Core, reference_fault, references_fault}
 use Rattle.pagable_laws.proofs.{Words.IsReference, Again.{form-again, Looked, all-looked, one-looked, not-looked}, Related.{renamed, keeps_forms, no_cause, OutLook, both-looked-up, both-not}}
 use Rattle.pagable_laws.proofs.{Related.read_par, Sums.{self-number, same-number, at-most-sum, counted, one-true}, ReadingStepsKinds.{kinds_of, kinds-pushed}, Along.{Along, AllTwo, no-two, more-two}}
-use Rattle.pagable_laws.proofs.{Along.{refs-two, each-two}, Decoding.read-gives}
-use Rattle.pagable_world.specs.Loads.{read_with}
-use Rattle.std.proofs.lemmas.{Option.slice_get_past, List.length-map}
+use Rattle.{pagable_laws.proofs.{Along.{refs-two, each-two}, Decoding.read-gives}, pagable_world.specs.Loads.read_with, std.proofs.lemmas.{Option.slice_get_past, List.length-map}}
 
 -- ---- what is answered
 
@@ -32,9 +30,6 @@ unfolding look_kind
 unanswered o kind is = rw is refl
 
 -- the references are these, and the first of them were got
-first-kind : (g d : ArcRef) (gs ds : List ArcRef) → kinds_of (g ∷ gs) ≡ kinds_of (d ∷ ds) → (g.kind.0 ≡ d.kind.0) × (kinds_of gs ≡ kinds_of ds)
-first-kind g d gs ds e = (cc, cc)
-
 -- what is looked up of references, the first of which were got: all, or the first of those that are left is refused
 abbrev found-of : List ArcRef → Result (List Answer) Error
 found-of [] = Ok []
@@ -46,10 +41,11 @@ unfolding answers_from
 looked front [] [] [] [] same few = all-looked []
 looked front [] [] (q ∷ more) (key ∷ keys) same few = not-looked _ _ _ _ _ (unanswered _ q.kind.0 (slice_get_past (front ++ []) (length front) (omega (arith, length-append front []))))
 looked front (g ∷ back) (d ∷ done) left (key ∷ keys) same few =
-    let both = first-kind g d back done same in
-    let tail = looked (front ++ g ∷ []) back done left keys both.1 (omega arith) in
+    let one : g.kind.0 ≡ d.kind.0 = cc in
+    let others : kinds_of back ≡ kinds_of done = cc in
+    let tail = looked (front ++ g ∷ []) back done left keys others (omega arith) in
     let moved = subst (λ gs. Looked look_kind own_kind (answers_from gs (length (front ++ g ∷ [])) keys) (map kind_of_arc (done ++ left)) (found-of left)) (append_assoc front (g ∷ []) back) tail in
-    one-looked _ _ _ _ _ (answered g (slice_get (front ++ g ∷ back) (length front)) d.kind.0 (at-place front g back) both.0)
+    one-looked _ _ _ _ _ (answered g (slice_get (front ++ g ∷ back) (length front)) d.kind.0 (at-place front g back) one)
     (subst (λ n. Looked look_kind own_kind (answers_from (front ++ g ∷ back) n keys) (map kind_of_arc (done ++ left)) (found-of left)) (length-append front (g ∷ [])) moved)
 looked front x1 x2 x3 x4 same few = grind (arith, nat_tests)
 

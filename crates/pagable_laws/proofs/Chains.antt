@@ -9,8 +9,8 @@ use Rattle.pagable_laws.proofs.{Words.{InOrder, TableMeets, HasLetGo, StepsAreWi
 use Rattle.pagable_laws.proofs.{Felt.trees-go-on, Fitting.tree-stays, ReadingSteps.{is-reading-of, event-goes, readings-on}, Trees.same_some, Answering.keys-right, Coming.{waits-well, StandsIn}}
 use Rattle.pagable_laws.proofs.{Coming.{event-turns, turns-stand, idle-stands, updated-at, EventTurns, Went, HasGone, goes-on}, Naming.{held-at-first, held-on, keys-ready}, Outlasting.pins-hold}
 use Rattle.pagable_laws.proofs.{Stepping.{fits-at-first, fits-on}, ReadingStepsGive.{reads-give, LoadsStand, event-on, step-within, idle-bounded, steps-left}, Taking.{pin_stands, Going, going-new}}
-use Rattle.pagable_laws.proofs.{Taking.{going-on, going-step, going-of, given-nodes}, Standing.{ShelfGrows, is-same, puts-slot, grows, true-false, KeepsTask, Turned, keeps-task, WalkingStands, is_open_in}}
-use Rattle.pagable_laws.proofs.{Once.{once_each, plus-none}, Sums.{sum-zero, one-small}}
+use Rattle.pagable_laws.proofs.{Taking.{going-on, going-step, given-nodes}, Standing.{ShelfGrows, is-same, puts-slot, grows, true-false, KeepsTask, Turned, keeps-task, WalkingStands, is_open_in}}
+use Rattle.pagable_laws.proofs.{Once.{once_each, plus-none}, Sums.{sum-zero, one-small}, Taking.going-of}
 use Rattle.pagable_world.specs.Runs.{Does as DoesMoment}
 use Rattle.std.{proofs.Common.{append-nil, le_trans, rules}, proofs.lemmas.Bool.false_from_ne_true}
 

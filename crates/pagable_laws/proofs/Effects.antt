@@ -335,16 +335,22 @@ module _ {me : Owner} {lists : Bool} {Asks Leaves : Type 0} where
     moves set owner list safe free = rowed (only-rows (rows-moved m.last.handle m.rows set owner safe) (le-self _))
         (λ mine o. record { each = λ q row own s. moved-free mine set owner ((free mine o).each q row own s) ((d.spares mine o).each q row own s) })
 
+    -- the cache and loads alone
+    plainly : {cache : ℕ → ℕ → Option ℕ} {loads : ℕ → Option OpenLoad} {last : ℕ} → let x = record m { cache = cache; loads = loads; last = record m.last { load = last } } in
+        Goes c w x → (Leaves → (kind key n : ℕ) → IsEntered kind key n w.cache w.cells → IsHeldFor kind key n w.rows → IsEntered kind key n cache m.cells)
+        → (Asks → (l : ℕ) (load : OpenLoad) → w.loads l ≡ Some load → l ≤ w.last.load → is_owner me load.owner ≡ false → loads l ≡ Some load) → Effect me lists Asks Leaves true c w x
+    plainly goes lasts others = record {
+      goes = goes;
+      spares = λ mine o. record { each = (d.spares mine o).each };
+      lasts = λ k kind key n e h still. lasts k kind key n e h;
+      workers = d.workers;
+      others = others;
+    }
+
     -- the cache learns a node where it gave none
     pub cached : (kind : Kind) (key : ℕ) (n : NodeNumber) → Knows c w kind.0 key n.0 → usable w kind.0 key ≡ None → Effect me lists Asks Leaves true c w (with_cached m kind key n)
-    cached kind key n knows unknown = record {
-      goes = goes-known d.goes kind key n knows;
-      spares = λ mine o. record { each = (d.spares mine o).each };
-      lasts = λ k k' q p e h still.
-          let was = d.lasts k k' q p e h (λ f. absurd (cc)) in record { entry = other k' q p e h was.entry (k' == kind.0) (q == key) refl refl; there = was.there };
-      workers = d.workers;
-      others = d.others;
-    }
+    cached kind key n knows unknown = plainly (goes-known d.goes kind key n knows) (λ k k' q p e h.
+        let was = directly k k' q p e h in record { entry = other k' q p e h was.entry (k' == kind.0) (q == key) refl refl; there = was.there }) d.others
       where
         other : (k q p : ℕ) → IsEntered k q p w.cache w.cells → IsHeldFor k q p w.rows → m.cache k q ≡ Some p → (a b : Bool) → (k == kind.0) ≡ a → (q == key) ≡ b
             → (if a && b then Some n.0 else m.cache k q) ≡ Some p
@@ -355,22 +361,11 @@ module _ {me : Owner} {lists : Bool} {Asks Leaves : Type 0} where
 
     -- a load comes, or goes
     pub opens : (key : ℕ) (root : Root) → Goes c w (with_load m key root me) → Effect me lists Asks Leaves true c w (with_load m key root me)
-    opens key root goes = record {
-      goes = goes;
-      spares = λ mine o. record { each = (d.spares mine o).each };
-      lasts = d.lasts;
-      workers = d.workers;
-      others = λ own l load is few other. let more = d.goes.loads_last in let a = d.others own l load is few other in grind (arith, nat_tests);
-    }
+    opens key root goes = plainly goes directly (λ own l load is few other. let more = d.goes.loads_last in let a = d.others own l load is few other in grind (arith, nat_tests))
 
     pub shuts : (l : LoadNumber) → (Asks → IsMine w me l) → Effect me lists Asks Leaves true c w (without_load m l)
-    shuts l mine = record {
-      goes = goes-quiet d.goes (closed-load m l);
-      spares = λ mine o. record { each = (d.spares mine o).each };
-      lasts = d.lasts;
-      workers = d.workers;
-      others = λ own l load is few other. let a = d.others own l load is few other in let b = mine own in grind (arith, nat_tests, same-number);
-    }
+    shuts l mine = plainly (goes-quiet d.goes (closed-load m l)) directly
+        (λ own l load is few other. let a = d.others own l load is few other in let b = mine own in grind (arith, nat_tests, same-number))
 
     -- ---- the end of a step
 

@@ -1,7 +1,8 @@
 -- What a load reads goes on fitting, whatever it gets.
-use Rattle.pagable_laws.proofs.Words.{nat_tests, ◌≡◌, ℕ, zero, suc, ◌<◌, ◌≤◌, List, [], ◌∷◌, ◌++◌, Option, Some, ◌⊎◌, inl, inr, refl, sym, ap, ◌∙◌, subst, arith, slice_get, length, length-append}
+use Rattle.pagable_laws.proofs.Words.{nat_tests, ◌≡◌, ℕ, zero, suc, ◌≤◌, List, [], ◌∷◌, ◌++◌, Option, Some, ◌⊎◌, inl, inr, refl, sym, ap, ◌∙◌, subst, arith, slice_get, length, length-append}
 use Rattle.pagable_laws.proofs.Words.{HandleRow, ArcRef, Kind, Blob, Types, Tree, type_of, ReadsTree, Among, Frame, Next, asks, next_in, need_at, need_of, needs_nested, needs_lazy, root_frame}
-use Rattle.pagable_laws.proofs.{Words.{nested_frame, with_got, ReadsNodeTree, FrameFits, FramesFit, SameTrees, Needs, KeepsStored, FramesGiven}, Decoding.asks_next, Trees.{each-type, followed-on}}
+use Rattle.pagable_laws.proofs.{Words.{nested_frame, with_got, ReadsNodeTree, FrameFits, FramesFit, SameTrees, Needs, KeepsStored, FramesGiven, slice_get_within}, Decoding.asks_next, Trees.each-type}
+use Rattle.pagable_laws.proofs.Trees.{followed-on}
 
 -- ---- what is asked
 
@@ -13,10 +14,6 @@ asked x0 x1 kind key x4 = grind (arith, nat_tests)
 pub pushed : {X : Type 0} (xs : List X) (y : X) (i : ℕ) (x : X) → slice_get (xs ++ y ∷ []) i ≡ Some x → (slice_get xs i ≡ Some x) ⊎ ((i ≡ length xs) × (y ≡ x))
 pushed (z ∷ xs) y (suc i) x is = elim (pushed xs y i x is) [ inl old ↦ inl old | inr new ↦ inr (let n = new.0 in omega (arith, n), new.1) ]
 pushed x0 y x2 x is = grind (arith, nat_tests)
-
-pub inside : {X : Type 0} (xs : List X) (i : ℕ) (x : X) → slice_get xs i ≡ Some x → i < length xs
-inside (y ∷ xs) (suc i) x is = let a = inside xs i x is in omega (arith, a)
-inside x0 x1 x is = grind (arith, nat_tests)
 
 module _ {stored stored' : ℕ → Option Blob} {types : Types} (kept : KeepsStored stored stored') where
   -- what a key reads as stays
@@ -42,7 +39,7 @@ module _ {types : Types} {stored : ℕ → Option Blob} {trees : ℕ → Tree} w
   got-fits frame q key next read h =
       record {
         is = h.is;
-        few = let a = length-append frame.got (q ∷ []) in let b = inside frame.blob.keys (length frame.got) key next in omega (arith, a, b);
+        few = let a = length-append frame.got (q ∷ []) in let b = slice_get_within frame.blob.keys (length frame.got) key next in omega (arith, a, b);
         got = λ place k r is at. at-place place k r at (pushed frame.got q place r is);
       }
     where
@@ -106,6 +103,26 @@ module _ (types : Types) (root_key root_type : ℕ) where
 
 -- ---- what holds of each reference that was got
 
+-- the reference was got for this blob, in this place
+pub record GotAt (frames : List Frame) (i j : ℕ) (r : ArcRef) : Type 0 where
+  pub frame : Frame
+  pub at : slice_get frames i ≡ Some frame
+  pub there : slice_get frame.got j ≡ Some r
+
+abbrev pub GotLast : Frame → Kind → HandleRow → ℕ → ℕ → ArcRef → Type 0
+GotLast top kind row i j r = (i ≡ 0) × (j ≡ length top.got) × (record { kind = kind; node = row.node; handle = row.number } ≡ r)
+
+-- what was got by now was got before, or last
+pub got-before : (top : Frame) (below : List Frame) (kind : Kind) (row : HandleRow) (i j : ℕ) (r : ArcRef) → GotAt (with_got kind row (top ∷ below)) i j r
+    → GotAt (top ∷ below) i j r ⊎ GotLast top kind row i j r
+got-before top below kind row (suc i) j r g = inl (record { frame = g.frame; at = g.at; there = g.there })
+got-before top below kind row zero j r g =
+    let grown : record top { got = top.got ++ record { kind = kind; node = row.node; handle = row.number } ∷ [] } ≡ g.frame = let e = g.at in cc in
+    elim (pushed top.got _ j r (subst (λ (f : Frame). slice_get f.got j ≡ Some r) (sym grown) g.there)) [
+      | inl old ↦ inl (record { frame = top; at = refl; there = old })
+      | inr last ↦ inr (refl, last.0, last.1)
+    ]
+
 abbrev pub AllGot : (ArcRef → Type 0) → List Frame → Type 0
 AllGot P frames = (frame : Frame) (r : ArcRef) → Among frames frame → Among frame.got r → P r
 
@@ -119,10 +136,7 @@ module _ (P : ArcRef → Type 0) where
 
   pub all-more : (frames : List Frame) (kind : Kind) (row : HandleRow) → P (record { kind = kind; node = row.node; handle = row.number }) → AllGot P frames → AllGot P (with_got kind row frames)
   all-more [] kind row new all frame r (i, is) got = absurd (cc)
-  all-more (top ∷ below) kind row new all frame r (zero, is) (place, there) =
-      let got_is : frame.got ≡ top.got ++ record { kind = kind; node = row.node; handle = row.number } ∷ [] = cc in
-      elim (pushed top.got _ place r (subst (λ (rs : List ArcRef). slice_get rs place ≡ Some r) got_is there)) [
-        | inl old ↦ all top r (zero, refl) (place, old)
-        | inr at ↦ subst P at.1 new
-      ]
-  all-more (top ∷ below) kind row new all frame r (suc i, is) got = all frame r (suc i, is) got
+  all-more (top ∷ below) kind row new all frame r (i, is) (j, there) = elim (got-before top below kind row i j r (record { frame = frame; at = is; there = there })) [
+    | inl old ↦ all old.frame r (i, old.at) (j, old.there)
+    | inr last ↦ subst P last.2 new
+  ]

@@ -1,14 +1,10 @@
 -- A load from its begin to its end keeps trees: what it pins stands for its node's tree, and what it reads for the tree that its key reads as.
-use Rattle.pagable_laws.proofs.{Felt.{reading-fits, fits-nothing, trees-go-on}, Called.{begin-goes, key-goes}, Goes.Goes, ReadingSteps.{ReadingFelt, caller-free, reading-feels}}
-use Rattle.{pagable_laws.proofs.{ReadingStepsGive.{hands, read-right}, Taking.{Going, going-new, going-step, given-nodes, was-open, row-held, stands-here}, Trees.same_some}, std.proofs.Common.{◌≡◌}}
-use Rattle.std.proofs.{Common.{ℕ, ◌+◌, ◌≤◌, List, [], Option, Some, None, inl, inr, refl, sym, ap, subst, ◌∙◌, arith}, lemmas.Bool.Decides.nat_tests}
-use Rattle.pagable_world.specs.{World.{Core, Last, Alike, Root, of_cell, of_key, OpenLoad, Frame, Reading, Written, Values, Seen, IsLawful}, Pager.{PagerState, WellFormed, Moves, ReadingBrings}}
-use Rattle.pagable_world.specs.{Pager.{Represents, FramesFit, SameTrees}, Access.{ReadingStep, LoadRun, load-ends, load-goes-on, LoadAsksWell, PinLaw, ReadLaw}, Calls.with_handle}
-use Rattle.pagable_world.specs.{Events.reading_of_load, Headline.ReadIsRight, Kinds.held, LoadCalls.with_load, Loads.{Does, EndsRead, gone_on}, Plain.{Blob, LoadNumber, Tree}, Runs.ReadsItsTypes}
-use Rattle.{pagable_world.specs.{Runs.{HoldsSettled, TakesWell}, Workers.fresh, declared.events.LoadAnswer.LoadAnswer}, pagable_laws.specs.TreeSteps.{ChangeFits, nothing_felt, ReadingFeels}}
-use Rattle.pagable_world.specs.declared.events.LoadAnswer.TheVariants as ends
-use Rattle.pagable_world.specs.declared.handles.Owner.TheVariants as owners
-use Rattle.pagable_world.specs.declared.rows.Mode.TheVariants as modes
+use Rattle.pagable_laws.proofs.Words.{◌≡◌, ℕ, ◌+◌, ◌≤◌, List, [], Option, Some, None, inl, inr, refl, sym, ap, subst, ◌∙◌, arith, nat_tests, Core, Last, Alike, Root, of_cell, of_key, OpenLoad, Frame}
+use Rattle.pagable_laws.proofs.Words.{Reading, Written, Values, Seen, IsLawful, PagerState, WellFormed, Moves, ReadingBrings, Represents, FramesFit, SameTrees, with_handle, reading_of_load}
+use Rattle.pagable_laws.proofs.Words.{ReadIsRight, held, with_load, EndsRead, gone_on, Blob, LoadNumber, Tree, ReadsItsTypes, HoldsSettled, TakesWell, fresh, LoadAnswer, ChangeFits, nothing_felt}
+use Rattle.pagable_laws.proofs.{Words.{ReadingFeels, Owner, Mode}, Felt.{reading-fits, fits-nothing, trees-go-on}, Called.{begin-goes, key-goes}, Goes.Goes, ReadingSteps.{ReadingFelt, caller-free}}
+use Rattle.pagable_laws.proofs.{ReadingSteps.reading-feels, ReadingStepsGive.{hands, read-right}, Taking.{Going, going-new, going-step, given-nodes, was-open, row-held, stands-here}, Trees.same_some}
+use Rattle.pagable_world.specs.{Access.{ReadingStep, LoadRun, load-ends, load-goes-on, LoadAsksWell, PinLaw, ReadLaw}, Loads.Does}
 
 abbrev seen : {N : Type 0} → Values N → Seen N Blob Written
 seen v = record { values = v; blob_of = λ b. b; written_of = λ w. w }
@@ -32,9 +28,9 @@ after-then a b = record { same = λ n within. b.same n (let c = a.nodes in omega
 
 module _ {N E : Type 0} {v : Values N} (lawful : IsLawful v) (readable : ReadsItsTypes v.types) where
   module _ (s s' : PagerState N E) (trees : ℕ → Tree) (key : ℕ) (reading : Reading) (answer : Option (LoadAnswer N)) (frames : List Frame) (u : Under v s trees key reading) (settled' : HoldsSettled v s') (takes : TakesWell v s reading)
-      (step : ReadingStep v owners.Caller reading s answer frames s') where
-    felt : ReadingFelt v s.core owners.Caller reading answer frames s'.core
-    felt = reading-feels (seen v) s.core owners.Caller caller-free s'.core reading answer frames step.does
+      (step : ReadingStep v Owner.Caller reading s answer frames s') where
+    felt : ReadingFelt v s.core Owner.Caller reading answer frames s'.core
+    felt = reading-feels (seen v) s.core Owner.Caller caller-free s'.core reading answer frames step.does
 
     feels : ReadingFeels v s.core reading answer frames s'.core felt.change
     feels = felt.feels u.well.whole.handles
@@ -58,9 +54,9 @@ module _ {N E : Type 0} {v : Values N} (lawful : IsLawful v) (readable : ReadsIt
         load = felt.opens none
 
     -- the value that it answers is that of its key
-    module _ (x : N) (is : answer ≡ Some (ends.Read x)) where
-      read : EndsRead v s.core owners.Caller reading x s'.core
-      read = let d = subst (λ (o : Option (LoadAnswer N)). Does v s.core owners.Caller reading o frames s'.core) is step.does.does in d.0
+    module _ (x : N) (is : answer ≡ Some (LoadAnswer.Read x)) where
+      read : EndsRead v s.core Owner.Caller reading x s'.core
+      read = let d = subst (λ (o : Option (LoadAnswer N)). Does v s.core Owner.Caller reading o frames s'.core) is step.does.does in d.0
 
       right : ReadIsRight v s' key x
       right =
@@ -75,9 +71,9 @@ module _ {N E : Type 0} {v : Values N} (lawful : IsLawful v) (readable : ReadsIt
   record Comes (s : PagerState N E) (trees : ℕ → Tree) (key : ℕ) (answer : LoadAnswer N) (s' : PagerState N E) : Type 0 where
     pub trees' : ℕ → Tree
     pub after : After v s trees s' trees'
-    pub right : (x : N) → answer ≡ ends.Read x → ReadIsRight v s' key x
+    pub right : (x : N) → answer ≡ LoadAnswer.Read x → ReadIsRight v s' key x
 
-  comes : {reading : Reading} {s s' : PagerState N E} {answer : LoadAnswer N} (run : LoadRun v owners.Caller reading s answer s') → LoadAsksWell run → (trees : ℕ → Tree) (key : ℕ) → Under v s trees key reading → Comes s trees key answer s'
+  comes : {reading : Reading} {s s' : PagerState N E} {answer : LoadAnswer N} (run : LoadRun v Owner.Caller reading s answer s') → LoadAsksWell run → (trees : ℕ → Tree) (key : ℕ) → Under v s trees key reading → Comes s trees key answer s'
   unfolding LoadAsksWell
   comes (load-ends reading answer s s' step) asks trees key u =
       record {
@@ -96,7 +92,7 @@ module _ {N E : Type 0} {v : Values N} (lawful : IsLawful v) (readable : ReadsIt
     begun =
         search (does.nodes, trees-go-on lawful settled well whole stands moves does (fits-nothing lawful settled well whole stands (λ n x. ⊥) (λ n x comes none is. absurd comes)))
 
-    under : (w : Core) (l : LoadNumber) (t key : ℕ) (root : Root) → l.0 ≡ w.last.load + 1 → Alike (with_load w key root owners.Caller) mid.core → Under v mid trees key (fresh l t)
+    under : (w : Core) (l : LoadNumber) (t key : ℕ) (root : Root) → l.0 ≡ w.last.load + 1 → Alike (with_load w key root Owner.Caller) mid.core → Under v mid trees key (fresh l t)
     unfolding FramesFit
     under w l t key root next a =
         record {
@@ -117,7 +113,7 @@ pin_law v s mid s' h k reading x row run well starts asks live held lawful reada
     let b = c.step.begins.2 in
     let first = begun lawful readable s mid trees well settled stands (begin-goes _ c.step) c.moves c.whole in
     let f = is-fresh reading.load (mid.core.loads reading.load.0) reading starts.is in
-    let u = under lawful readable s mid trees well settled stands (begin-goes _ c.step) c.moves c.whole (with_handle s.core c.step.begins.0.node modes.LooseUnpinned (owners.Load reading.load)) reading.load f.0 starts.key (of_cell c.step.begins.0.node b.4.0 h) b.2.above b.4.2 in
+    let u = under lawful readable s mid trees well settled stands (begin-goes _ c.step) c.moves c.whole (with_handle s.core c.step.begins.0.node Mode.LooseUnpinned (Owner.Load reading.load)) reading.load f.0 starts.key (of_cell c.step.begins.0.node b.4.0 h) b.2.above b.4.2 in
     let r = comes lawful readable run asks trees starts.key (subst (λ z. Under v mid trees starts.key z) (sym f.1) u) in
     let after = after-then first r.after in
     (r.trees', after.same, after.stands, stands-here (after.stands.stands row.node.0 (row-held s'.core k row live)) held)

@@ -1,73 +1,58 @@
 -- What a load has got stays live and the load's own, each handle once, as long as the load makes its own steps; and so does the handle that began it.
-use Rattle.pagable_laws.proofs.Words.{nat_tests, ◌≡◌, ℕ, zero, suc, ◌+◌, ◌<◌, ◌≤◌, ◌==◌, Bool, true, false, List, [], ◌∷◌, ◌++◌, Some, inl, inr, refl, sym, ap, subst, ◌∙◌, arith, sum_by, sum_by-cons}
-use Rattle.pagable_laws.proofs.Words.{sum_by_push, HandleRow, Owner, ArcRef, Kind, HandleNumber, LoadNumber, NodeNumber, OptionalDataKey, Among, type_of, one, times, mode_of, Core, OpenLoad, of_cell}
-use Rattle.pagable_laws.proofs.Words.{Frame, Alike, row_at, row_of, with_handle, with_node, next_node, is_named_by, Asked, adopted, GetsKnown, with_got, owner_value, HandlesAreWhole, Tree, find_row}
-use Rattle.pagable_laws.proofs.{Words.{Reading, Values, IsLawful, GoesOn, GetsLazy, MakesNode, FramesFit, ReadsItsTypes, FramesHeld}, Outlasting.{Stands, low-changed, stands-alike, NotValues}}
-use Rattle.pagable_laws.proofs.{Outlasting.{stands-whole, stands-fell, new-handle, low-whole}, Apart.AreApart, Fitting.{AllGot, all-new, all-more, first-fits}, Goes.found-number}
-use Rattle.pagable_laws.proofs.{ReadingSteps.cached-rows, Sums.{self-number, same-number, at-most-sum, sum-zero}, Effects.{with-one, moved-free, named-among}, Decoding.decodes, GoodReferences.good}
-use Rattle.{pagable_laws.proofs.Trees.same_some, std.proofs.lemmas.Bool.{cases_Bool, false_from_ne_true}}
+use Rattle.pagable_laws.proofs.Words.{nat_tests, ◌≡◌, ℕ, zero, suc, ◌+◌, ◌<◌, false, List, [], ◌∷◌, Some, inl, inr, refl, sym, ap, subst, ◌∙◌, arith, HandleRow, Owner, ArcRef, Kind, HandleNumber}
+use Rattle.pagable_laws.proofs.Words.{LoadNumber, NodeNumber, OptionalDataKey, Among, type_of, mode_of, Core, OpenLoad, of_cell, Frame, Alike, row_at, row_of, with_handle, with_node, next_node}
+use Rattle.pagable_laws.proofs.Words.{is_named_by, Asked, adopted, GetsKnown, with_got, owner_value, HandlesAreWhole, Tree, find_row, Reading, Values, IsLawful, GoesOn, GetsLazy, MakesNode, FramesFit}
+use Rattle.pagable_laws.proofs.{Words.{ReadsItsTypes, FramesHeld, slice_get, ◌⊎◌, root_frame}, Outlasting.{Stands, low-changed, stands-alike, NotValues, stands-whole, stands-fell, new-handle}}
+use Rattle.pagable_laws.proofs.{Outlasting.{low-whole, Has}, Apart.AreApart, Fitting.{AllGot, all-new, all-more, first-fits, GotAt, GotLast, got-before}, Goes.found-number, ReadingSteps.cached-rows}
+use Rattle.{pagable_laws.proofs.{Effects.{with-one, moved-free, named-among}, Decoding.decodes, GoodReferences.good, Trees.same_some}, std.proofs.lemmas.Bool.false_from_ne_true}
 
 -- ---- each handle once
 
--- how often the handle was got for these blobs
-abbrev pub times_got : ℕ → List Frame → ℕ
-times_got q frames = sum_by (λ (f : Frame). times (λ (r : ArcRef). r.handle.0 == q) f.got) frames
-
-abbrev pub GotOnce : List Frame → Type 0
-GotOnce frames = (q : ℕ) → times_got q frames ≤ 1
+-- each handle was got in one place
+pub record GotOnce (frames : List Frame) : Type 0 where
+  pub once : (i j k l : ℕ) (r q : ArcRef) → GotAt frames i j r → GotAt frames k l q → r.handle.0 ≡ q.handle.0 → (i ≡ k) × (j ≡ l)
 
 abbrev pub AllBelow : ℕ → List Frame → Type 0
 AllBelow n frames = (frame : Frame) (r : ArcRef) → Among frames frame → Among frame.got r → r.handle.0 < n
 
-pub got-cons : (q : ℕ) (frame : Frame) (frames : List Frame) → times_got q (frame ∷ frames) ≡ times (λ (r : ArcRef). r.handle.0 == q) frame.got + times_got q frames
-got-cons q frame frames = sum_by-cons (λ (f : Frame). times (λ (r : ArcRef). r.handle.0 == q) f.got) frame frames
+in-rest : (frame : Frame) (frames : List Frame) (i j : ℕ) (r : ArcRef) → GotAt frames i j r → GotAt (frame ∷ frames) (suc i) j r
+in-rest frame frames i j r g = record { frame = g.frame; at = g.at; there = g.there }
+
+rest-of : {frame : Frame} {frames : List Frame} {i j : ℕ} {r : ArcRef} → GotAt (frame ∷ frames) (suc i) j r → GotAt frames i j r
+rest-of g = record { frame = g.frame; at = g.at; there = g.there }
+
+none-new : {frame : Frame} {frames : List Frame} {j : ℕ} {r : ArcRef} → frame.got ≡ [] → GotAt (frame ∷ frames) 0 j r → ⊥
+none-new {frame} {j = j} {r} none g =
+    let same : frame ≡ g.frame = let e = g.at in cc in
+    let e = subst (λ rs. slice_get rs j ≡ Some r) (ap (λ (f : Frame). f.got) (sym same) ∙ none) g.there in cc
 
 pub once-new : (frame : Frame) (frames : List Frame) → frame.got ≡ [] → GotOnce frames → GotOnce (frame ∷ frames)
-once-new frame frames none once q = grind (arith, got-cons)
+once-new frame frames none o = record { once = by }
+  where
+    by : (i j k l : ℕ) (r q : ArcRef) → GotAt (frame ∷ frames) i j r → GotAt (frame ∷ frames) k l q → r.handle.0 ≡ q.handle.0 → (i ≡ k) × (j ≡ l)
+    by (suc i) j (suc k) l r q a b same = let e = o.once i j k l r q (rest-of a) (rest-of b) same in (ap suc e.0, e.1)
+    by zero j k l r q a b same = absurd (none-new none a)
+    by i j zero l r q a b same = absurd (none-new none b)
 
 pub once-none : (frames : List Frame) → frames ≡ [] → GotOnce frames
-once-none frames none q = let a : times_got q frames ≡ 0 = ap (times_got q) none in omega (arith, a)
+once-none frames none = record { once = λ i j k l r q a b same. absurd (let e = subst (λ fs. slice_get fs i ≡ Some a.frame) none a.at in cc) }
 
 pub once-got : (frames : List Frame) (kind : Kind) (row : HandleRow) → AllBelow row.number.0 frames → GotOnce frames → GotOnce (with_got kind row frames)
-once-got [] kind row small once q = once q
-once-got (top ∷ below) kind row small once q =
-    let new : ArcRef = record { kind = kind; node = row.node; handle = row.number } in
-    let grown : Frame = record top { got = top.got ++ new ∷ [] } in
-    let sum = got-cons q grown below in
-    let old = got-cons q top below in
-    let push = sum_by_push (λ (r : ArcRef). one (r.handle.0 == q)) top.got new in
-    let few = once q in
-    elim (cases_Bool (row.number.0 == q)) [
-      | inl e ↦
-          let z : one (row.number.0 == q) ≡ 1 = ap one e in
-          let none = sum-zero (λ (f : Frame). times (λ (r : ArcRef). r.handle.0 == q) f.got) (top ∷ below) (λ f fs. sum-zero (λ (r : ArcRef). one (r.handle.0 == q)) f.got
-          (λ r rs. off (same-number row.number.0 q e) f fs r rs (r.handle.0 == q) refl)) in
-          omega (arith, z, sum, old, push, none)
-      | inr e ↦ let z : one (row.number.0 == q) ≡ 0 = ap one e in omega (arith, z, sum, old, push, few)
-    ]
+once-got [] kind row small o = o
+once-got (top ∷ below) kind row small o = record { once = λ i j k l r q a b same. by i j k l r q same (got-before top below kind row i j r a) (got-before top below kind row k l q b) }
   where
-    off : row.number.0 ≡ q → (f : Frame) → Among (top ∷ below) f → (r : ArcRef) → Among f.got r → (b : Bool) → (r.handle.0 == q) ≡ b → one (r.handle.0 == q) ≡ 0
-    off same f fs r rs false e = ap one e
-    off same f fs r rs true e = absurd (let lt = small f r fs rs in let is = same-number r.handle.0 q e in omega (arith, lt, is, same))
+    old-isnt : (i j k l : ℕ) (r q : ArcRef) → r.handle.0 ≡ q.handle.0 → GotAt (top ∷ below) i j r → GotLast top kind row k l q → ⊥
+    old-isnt i j k l r q same a (first, at, is) = let lt = small a.frame r (i, a.at) (j, a.there) in let e = ap (λ (g : ArcRef). g.handle.0) is in omega (arith, lt, e, same)
 
--- what was got once isn't got again
-twice : (x : ArcRef) (xs : List ArcRef) → ((q : ℕ) → times (λ (r : ArcRef). r.handle.0 == q) (x ∷ xs) ≤ 1) → (y : ArcRef) → Among xs y → x.handle.0 ≡ y.handle.0 → ⊥
-twice x xs once y among same =
-    let a = once y.handle.0 in
-    let b = sum_by-cons (λ (r : ArcRef). one (r.handle.0 == y.handle.0)) x xs in
-    let c = at-most-sum (λ (r : ArcRef). one (r.handle.0 == y.handle.0)) xs y among in
-    let d : one (y.handle.0 == y.handle.0) ≡ 1 = ap one (self-number y.handle.0) in
-    let z : one (x.handle.0 == y.handle.0) ≡ 1 = ap (λ n. one (n == y.handle.0)) same ∙ d in
-    omega (arith, a, b, c, d, z)
+    by : (i j k l : ℕ) (r q : ArcRef) → r.handle.0 ≡ q.handle.0 → GotAt (top ∷ below) i j r ⊎ GotLast top kind row i j r → GotAt (top ∷ below) k l q ⊎ GotLast top kind row k l q → (i ≡ k) × (j ≡ l)
+    by i j k l r q same (inl a) (inl b) = o.once i j k l r q a b same
+    by i j k l r q same (inl a) (inr b) = absurd (old-isnt i j k l r q same a b)
+    by i j k l r q same (inr a) (inl b) = absurd (old-isnt k l i j q r (sym same) b a)
+    by i j k l r q same (inr a) (inr b) = (a.0 ∙ sym b.0, a.1 ∙ sym b.1)
 
--- where each was got once, they are apart
-pub apart-once : (got : List ArcRef) → ((q : ℕ) → times (λ (r : ArcRef). r.handle.0 == q) got ≤ 1) → AreApart got
-apart-once [] once i j r q is at same = absurd (cc)
-apart-once (x ∷ xs) once zero zero r q is at same = refl
-apart-once (x ∷ xs) once zero (suc j) r q is at same = absurd (twice x xs once q (j, at) (let e : x ≡ r = cc in ap (λ (y : ArcRef). y.handle.0) e ∙ same))
-apart-once (x ∷ xs) once (suc i) zero r q is at same = absurd (twice x xs once r (i, is) (let e : x ≡ q = cc in ap (λ (y : ArcRef). y.handle.0) e ∙ sym same))
-apart-once (x ∷ xs) once (suc i) (suc j) r q is at same =
-    let e = apart-once xs (λ n. let a = once n in let b = sum_by-cons (λ (y : ArcRef). one (y.handle.0 == n)) x xs in omega (arith, a, b)) i j r q is at same in omega (arith, e)
+-- so those of the innermost blob are apart
+pub once-apart : (frame : Frame) (below : List Frame) → GotOnce (frame ∷ below) → AreApart frame.got
+once-apart frame below o i j r q at there same = (o.once 0 i 0 j r q (record { frame = frame; at = refl; there = at }) (record { frame = frame; at = refl; there = there }) same).1
 
 -- ---- rows
 
@@ -107,17 +92,10 @@ not-named rs q none = false_from_ne_true (is_named_by rs q) (λ e. let (r, among
 
 -- ---- a step
 
--- each handle that was got is live, and the load's
-abbrev pub IsLive : Core → LoadNumber → ArcRef → Type 0
-IsLive w l r = (row : HandleRow) × (row_at w r.handle ≡ Some row) × (row.owner ≡ Owner.Load l)
-
-abbrev pub Live : Core → LoadNumber → List Frame → Type 0
-Live w l frames = AllGot (IsLive w l) frames
-
 -- The load's handles are its own, each got once; and the handle that began it is the caller's.
 pub record LoadReady (w : Core) (l : LoadNumber) (load : OpenLoad) (frames : List Frame) : Type 0 where
-  pub begun : (node : NodeNumber) (t : ℕ) (h : HandleNumber) → load.root ≡ of_cell node t h → (row : HandleRow) × (row_at w h ≡ Some row) × (row.owner ≡ Owner.Caller)
-  pub live : Live w l frames
+  pub begun : (node : NodeNumber) (t : ℕ) (h : HandleNumber) → load.root ≡ of_cell node t h → Has w Owner.Caller h
+  pub live : AllGot (λ r. Has w (Owner.Load l) r.handle) frames
   pub once : GotOnce frames
 
 -- A load's own step leaves it ready: what it has got is its own, and the caller has the handle that began it.
@@ -133,22 +111,22 @@ module _ {N : Type 0} (v : Values N) (lawful : IsLawful v) (readable : ReadsItsT
   Keeps q = (row : HandleRow) → NotValues row.owner → Stands w.last.handle w.rows q row → Stands w'.last.handle w'.rows q row
 
   abbrev CallersKept : Type 0
-  CallersKept = (h : HandleNumber) (row : HandleRow) → row_at w h ≡ Some row → row.owner ≡ Owner.Caller → Keeps h.0
+  CallersKept = (h : HandleNumber) → Has w Owner.Caller h → Keeps h.0
 
   abbrev LivesKept : List Frame → Type 0
-  LivesKept fs = (frame : Frame) (r : ArcRef) → Among fs frame → Among frame.got r → Keeps r.handle.0
+  LivesKept fs = AllGot (λ r. Keeps r.handle.0) fs
 
-  no-value-caller : (row : HandleRow) → row.owner ≡ Owner.Caller → NotValues row.owner
-  no-value-caller row own n is = let e : Owner.Caller ≡ Owner.Value n = sym own ∙ is in absurd (cc)
+  has-on : (owner : Owner) → NotValues owner → (h : HandleNumber) → Keeps h.0 → Has w owner h → Has w' owner h
+  has-on owner free h keeps has = let s = keeps has.row (subst NotValues (sym has.own) free) (stands-whole whole h.0 has.row has.live) in record { row = has.row; live = s.live; own = has.own }
 
-  begun-on : CallersKept → (node : NodeNumber) (t : ℕ) (h : HandleNumber) → load.root ≡ of_cell node t h → (row : HandleRow) × (row_at w' h ≡ Some row) × (row.owner ≡ Owner.Caller)
-  begun-on kept node t h root = grind (arith, no-value-caller, stands-whole)
+  begun-on : CallersKept → (node : NodeNumber) (t : ℕ) (h : HandleNumber) → load.root ≡ of_cell node t h → Has w' Owner.Caller h
+  begun-on kept node t h root = let has = ready.begun node t h root in has-on Owner.Caller (λ n is. absurd (cc)) h (kept h has) has
 
-  live-on : (fs : List Frame) → LivesKept fs → Live w l fs → Live w' l fs
-  live-on fs kept live frame r among got =
-      let b = live frame r among got in
-      let s = kept frame r among got b.0 (λ n is. let e : Owner.Load l ≡ Owner.Value n = sym b.2 ∙ is in absurd (cc)) (stands-whole whole r.handle.0 b.0 b.1) in
-      (b.0, s.live, b.2)
+  abbrev Live : Core → List Frame → Type 0
+  Live u fs = AllGot (λ r. Has u (Owner.Load l) r.handle) fs
+
+  live-on : (fs : List Frame) → LivesKept fs → Live w fs → Live w' fs
+  live-on fs kept live frame r among got = has-on (Owner.Load l) (λ n is. absurd (cc)) r.handle (kept frame r among got) (live frame r among got)
 
   small : AllBelow (w.last.handle + 1) reading.frames
   small frame r among got = let g = (held frame r among got).given in omega (arith, g)
@@ -156,20 +134,20 @@ module _ {N : Type 0} (v : Values N) (lawful : IsLawful v) (readable : ReadsItsT
   -- a handle was got
   got-ready : (fs : List Frame) (kind : Kind) (row : HandleRow) (k : HandleNumber) (new : HandleRow) → row_at w' k ≡ Some row → k.0 ≡ w.last.handle + 1
       → Stands w'.last.handle w'.rows (w.last.handle + 1) new → new.owner ≡ Owner.Load l
-      → LivesKept fs → CallersKept → Live w l fs → GotOnce fs → AllBelow (w.last.handle + 1) fs → LoadReady w' l load (with_got kind row fs)
+      → LivesKept fs → CallersKept → Live w fs → GotOnce fs → AllBelow (w.last.handle + 1) fs → LoadReady w' l load (with_got kind row fs)
   got-ready fs kind row k new made next s own kept callers live once below =
       let same : row ≡ new = same_some _ _ (sym made ∙ ap (λ n. find_row n w'.rows) next ∙ s.live) in
       let number = found-number k.0 w'.rows row made in
       let there : row_at w' row.number ≡ Some row = ap (λ n. find_row n w'.rows) number ∙ made in
       let owned : row.owner ≡ Owner.Load l = ap (λ (x : HandleRow). x.owner) same ∙ own in
       let once' = once-got fs kind row (λ frame r among got. let lt = below frame r among got in omega (arith, lt, number, next)) once in
-      search (begun-on callers, all-more (IsLive w' l) fs kind row (row, there, owned) (live-on fs kept live), once')
+      search (begun-on callers, all-more (λ r. Has w' (Owner.Load l) r.handle) fs kind row (record { row = row; live = there; own = owned }) (live-on fs kept live), once')
 
   known-ready : (kind : Kind) (key : ℕ) (k : HandleNumber) (row : HandleRow) → GetsKnown w l kind key k w' → row_at w' k ≡ Some row → LoadReady w' l load (with_got kind row reading.frames)
   known-ready kind key k row c made =
       let new = stands-alike c.leaves (new-handle w (record { 0 = c.n }) (mode_of kind.0) (Owner.Load l) (low-whole whole)) in
       got-ready reading.frames kind row k _ made c.next.above new refl (λ frame r among got x free s. known-keeps w w' c s)
-      (λ h x there own y free s. known-keeps w w' c s) ready.live ready.once small
+      (λ h has y free s. known-keeps w w' c s) ready.live ready.once small
 
   lazy-ready : (frames : List Frame) (g : GetsLazy v.types w Owner.Caller reading frames w') → LoadReady w' l load (with_got g.kind g.row reading.frames)
   lazy-ready frames g = elim g.asked.makes.3 [
@@ -177,7 +155,7 @@ module _ {N : Type 0} (v : Values N) (lawful : IsLawful v) (readable : ReadsItsT
     | inr (none, few, next, a) ↦
         got-ready reading.frames g.kind g.row g.k _ g.made next.above (adopted-new w w' l g.kind g.key (OptionalDataKey.Some g.key) [] whole a) refl
         (λ frame r among got x free s. adopted-keeps w w' l g.kind g.key (OptionalDataKey.Some g.key) [] a (nothing r.handle.0) s)
-        (λ h x there own y free s. adopted-keeps w w' l g.kind g.key (OptionalDataKey.Some g.key) [] a (nothing h.0) s)
+        (λ h has y free s. adopted-keeps w w' l g.kind g.key (OptionalDataKey.Some g.key) [] a (nothing h.0) s)
         ready.live ready.once small
   ]
     where
@@ -209,22 +187,17 @@ module _ {N : Type 0} (v : Values N) (lawful : IsLawful v) (readable : ReadsItsT
       small_all = subst (λ fs. AllBelow (w.last.handle + 1) fs) is small
 
       got-twice : (frame : Frame) (r g : ArcRef) → Among below frame → Among frame.got r → Among top.got g → g.handle.0 ≡ r.handle.0 → ⊥
-      got-twice frame r g among got top_got same =
-          let q = r.handle.0 in
-          let a = now.once q in
-          let b = got-cons q top below in
-          let c = at-most-sum (λ (x : ArcRef). one (x.handle.0 == q)) top.got g top_got in
-          let d : one (g.handle.0 == q) ≡ 1 = ap (λ n. one (n == q)) same ∙ ap one (self-number q) in
-          let e = at-most-sum (λ (f : Frame). times (λ (x : ArcRef). x.handle.0 == q) f.got) below frame among in
-          let f = at-most-sum (λ (x : ArcRef). one (x.handle.0 == q)) frame.got r got in
-          let z : one (r.handle.0 == q) ≡ 1 = ap one (self-number q) in
-          omega (arith, a, b, c, d, e, f, z)
+      got-twice frame r g (i, is) (j, at) (k, there) same =
+          let e = (now.once.once (suc i) j 0 k r g (record { frame = frame; at = is; there = at }) (record { frame = top; at = refl; there = there }) (sym same)).0 in cc
 
-      caller-free : (h : HandleNumber) (row : HandleRow) → row_at w h ≡ Some row → row.owner ≡ Owner.Caller → is_named_by (v.references g.x) h.0 ≡ false
-      caller-free h row there own = not-named (v.references g.x) h.0 (λ x named same.
+      caller-free : (h : HandleNumber) → Has w Owner.Caller h → is_named_by (v.references g.x) h.0 ≡ false
+      caller-free h has = not-named (v.references g.x) h.0 (λ x named same.
           let a = good w (Owner.Load l) [] (v.references g.x) c.good x named in
-          let same_row : a.row ≡ row = same_some _ _ (sym a.live ∙ ap (λ n. find_row n w.rows) same ∙ there) in
-          let e : Owner.Load l ≡ Owner.Caller = sym a.owned ∙ ap (λ (y : HandleRow). y.owner) same_row ∙ own in cc)
+          let same_row : a.row ≡ has.row = same_some _ _ (sym a.live ∙ ap (λ n. find_row n w.rows) same ∙ has.live) in
+          let e : Owner.Load l ≡ Owner.Caller = sym a.owned ∙ ap (λ (y : HandleRow). y.owner) same_row ∙ has.own in cc)
+
+      below-once : GotOnce below
+      below-once = record { once = λ i j k n r q a b same. let e = now.once.once (suc i) j (suc k) n r q (in-rest top below i j r a) (in-rest top below k n q b) same in let f = e.0 in (cc, e.1) }
 
       -- no reference names the handle that comes
       new-free : is_named_by (v.references g.x) (w.last.handle + 1) ≡ false
@@ -234,14 +207,23 @@ module _ {N : Type 0} (v : Values N) (lawful : IsLawful v) (readable : ReadsItsT
           → LoadReady w' l load (with_got top.kind g.row below)
       by new s own keeps = got-ready below top.kind g.row g.k new g.made c.next.above s own (λ frame r among got. keeps r.handle.0
           (not-named (v.references g.x) r.handle.0 (λ x named same. got-twice frame r x among got (was_got x named) same)))
-          (λ h x there own. keeps h.0 (caller-free h x there own)) (λ frame r (i, e) got. now.live frame r (suc i, e) got)
-          (λ q. let a = got-cons q top below in let c = now.once q in omega (arith, a, c)) (λ frame r (i, e) got. small_all frame r (suc i, e) got)
+          (λ h has. keeps h.0 (caller-free h has)) (λ frame r (i, e) got. now.live frame r (suc i, e) got)
+          below-once (λ frame r (i, e) got. small_all frame r (suc i, e) got)
 
   -- ---- all steps
 
+  -- a blob was read
+  asked-ready : Asked w w' → (frame : Frame) → frame.got ≡ [] → LoadReady w' l load (frame ∷ reading.frames)
+  asked-ready a frame none = record {
+    begun = begun-on (λ h has row free s. asked-keeps w w' a s);
+    live = all-new (λ r. Has w' (Owner.Load l) r.handle) frame reading.frames none (live-on reading.frames (λ f r among got row free s. asked-keeps w w' a s) ready.live);
+    once = once-new frame reading.frames none ready.once;
+  }
+
   pub goes-ready : (frames : List Frame) → GoesOn v w Owner.Caller reading frames w' → LoadReady w' l load frames
-  goes-ready frames (inl root) = grind (arith, asked-keeps, begun-on, all-new (IsLive w' l), once-new, once-none)
+  goes-ready frames (inl g) =
+      subst (λ fs. LoadReady w' l load fs) (sym (g.goes ∙ ap (λ (fs : List Frame). root_frame g.load.key reading.node_type g.blob ∷ fs) (sym g.first))) (asked-ready g.asked.gives.2.asked _ refl)
   goes-ready frames (inr (inl g)) = subst (λ fs. LoadReady w' l load fs) (sym g.goes) (known-ready g.kind g.key g.k g.row g.asked.gives.2 g.made)
-  goes-ready frames (inr (inr (inl g))) = search (g.goes, g.asked.gives.2.1.asked, begun-on, asked-keeps, live-on, all-new, ready.live, once-new, ready.once)
+  goes-ready frames (inr (inr (inl g))) = subst (λ fs. LoadReady w' l load fs) (sym g.goes) (asked-ready g.asked.gives.2.1.asked _ refl)
   goes-ready frames (inr (inr (inr (inl g)))) = subst (λ fs. LoadReady w' l load fs) (sym g.goes) (lazy-ready frames g)
   goes-ready frames (inr (inr (inr (inr g)))) = subst (λ fs. LoadReady w' l load fs) (sym g.goes) (node-ready frames g)

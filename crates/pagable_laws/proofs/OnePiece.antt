@@ -1,12 +1,12 @@
 -- Where each load is done in one piece, one of a cell whose key a page-out set is refused by chance alone.
 use Rattle.pagable_laws.proofs.Words.{nat_tests, ◌≡◌, ℕ, zero, suc, ◌<◌, ◌≤◌, ◌==◌, List, [], ◌∷◌, Option, Some, None, Ok, Err, ◌⊎◌, inl, inr, refl, sym, ap, subst, ◌∙◌, arith, slice_get, is_some}
 use Rattle.pagable_laws.proofs.Words.{Error, HandleRow, Owner, Mode, Beginning, Call, Reply, LoadAnswer, LoadReply, Event, EventReply, ArcRef, HandleNumber, LoadNumber, NodeNumber, Tree, Among}
-use Rattle.pagable_laws.proofs.Words.{if_there, is_in, times, updated, held, find_row, Core, OpenLoad, of_cell, Frame, Reading, Seen, IsLawful, row_at, IsReference, references_fault, BeginCall}
-use Rattle.pagable_laws.proofs.Words.{BeginKeyCall, IsDecoded, gone_on, fresh, ReadingsAre, reading_at, reading_after, LoadSteps, Stays, Happens, MachineState, world_of, IsMachineWhole, FrameFits}
-use Rattle.pagable_laws.proofs.Words.{FramesFit, ReadsItsTypes, Moment, of_load, of_nobody, turn_of, StandTogether, IsOfChance, IsLoadOfPagedOut, LoadIsSound, IsBeginOf, HasBegun, SoundLaw}
-use Rattle.pagable_laws.proofs.{Trees.same_some, Coming.updated-at, Chains.{IsGoingOn, idle-goes}, Taking.{row-held, Going, going-of}, Fitting.first-fits, Decoding.decodes, Outlasting.stands-whole}
-use Rattle.pagable_laws.proofs.{Outlasting.stands-alike, ReadingSteps.{reading-stands, reading-number, reading-open}, ReadingStepsGive.got-typed, Sound.{by-chance, by-references, by-handle, IsForm}}
-use Rattle.pagable_laws.proofs.{Sound.load-cause, Apart.{fine, reads-once}, LoadsReady.{times_got, LoadReady, once-none, apart-once, got-cons, goes-ready}, Effects.with-one, Deeply.along-with}
+use Rattle.pagable_laws.proofs.Words.{if_there, is_in, times, updated, held, Core, OpenLoad, of_cell, Frame, Reading, Seen, IsLawful, row_at, IsReference, references_fault, BeginCall, BeginKeyCall}
+use Rattle.pagable_laws.proofs.Words.{IsDecoded, gone_on, fresh, ReadingsAre, reading_at, reading_after, LoadSteps, Stays, Happens, MachineState, world_of, IsMachineWhole, FrameFits, FramesFit}
+use Rattle.pagable_laws.proofs.{Words.{ReadsItsTypes, Moment, of_load, of_nobody, turn_of, StandTogether, IsOfChance, IsLoadOfPagedOut, LoadIsSound, IsBeginOf, HasBegun, SoundLaw}, Trees.same_some}
+use Rattle.pagable_laws.proofs.{Coming.updated-at, Chains.{IsGoingOn, idle-goes}, Taking.{row-held, Going, going-of}, Fitting.first-fits, Decoding.decodes, Outlasting.{stands-whole, stands-alike}}
+use Rattle.pagable_laws.proofs.{Outlasting.{Has, has-alike}, ReadingSteps.{reading-stands, reading-number, reading-open}, ReadingStepsGive.got-typed, Sound.{by-chance, by-references, by-handle}}
+use Rattle.pagable_laws.proofs.{Sound.{IsForm, load-cause}, Apart.{fine, reads-once}, LoadsReady.{LoadReady, once-none, goes-ready, GotOnce, once-apart}, Effects.with-one, Deeply.along-with}
 use Rattle.pagable_world.specs.Loads.{Does}
 
 -- ---- whose turn it is
@@ -43,7 +43,7 @@ module _ {N B W E : Type 0} (m : Seen N B W) (s s' : MachineState N E) (whole : 
       omega (arith, above, few)
 
   nothing-ready : (l : LoadNumber) (load : OpenLoad) (frames : List Frame) → frames ≡ []
-      → ((node : NodeNumber) (t : ℕ) (h : HandleNumber) → load.root ≡ of_cell node t h → (row : HandleRow) × (row_at w' h ≡ Some row) × (row.owner ≡ Owner.Caller)) → LoadReady w' l load frames
+      → ((node : NodeNumber) (t : ℕ) (h : HandleNumber) → load.root ≡ of_cell node t h → Has w' Owner.Caller h) → LoadReady w' l load frames
   nothing-ready l load frames none begun = grind (arith, nat_tests, once-none)
 
   -- what has just begun has read nothing
@@ -63,7 +63,7 @@ module _ {N B W E : Type 0} (m : Seen N B W) (s s' : MachineState N E) (whole : 
       nothing-ready l load reading.frames (begun-empty l reading s.work.readings are (λ r e. absurd (unread l r (omega (arith, same, next)) e)) at)
       (λ node t q root.
       let hs : h ≡ q = cc in
-      (row, subst (λ (x : HandleNumber). row_at w' x ≡ Some row) hs st.live, g.1.own))
+      record { row = row; live = subst (λ (x : HandleNumber). row_at w' x ≡ Some row) hs st.live; own = g.1.own })
 
   by-key : (k l : LoadNumber) (key t : ℕ) (b : BeginKeyCall w Owner.Caller key (Ok (Beginning.Load k key)) w') → ReadingsAre (updated k.0 (Some (fresh k t)) s.work.readings) (world_of s')
       → k.0 ≡ l.0 → Ready s' l
@@ -114,7 +114,8 @@ module _ {N B W E : Type 0} (m : Seen N B W) (lawful : IsLawful m.values) (reada
       by (Some end) e = grind (arith, nat_tests, closes, number)
       by None e =
           let go = subst (λ o. Does m.values core Owner.Caller x.reading o x.frames s'.pager.core) e x.does.does in
-          let after = goes-ready m.values lawful readable core s'.pager.core x.reading load trees load.key x.reading.node_type on.whole.pager.whole.handles before a.held (a.fits load (reading-open s on.whole l x.reading x.at open_load')) x.frames go in
+          let fits = a.fits load (reading-open s on.whole l x.reading x.at open_load') in
+          let after = goes-ready m.values lawful readable core s'.pager.core x.reading load trees load.key x.reading.node_type on.whole.pager.whole.handles before a.held fits x.frames go in
           let now : s'.work.readings l.0 ≡ Some (gone_on x.reading x.frames) =
           x.readings l.0 ∙ ap (λ (o : Option OpenLoad). if_there (λ (z : OpenLoad). updated l.0 (reading_after reply.ended x.reading x.frames) s.work.readings l.0) None o) open_load
           ∙ updated-at l.0 (reading_after reply.ended x.reading x.frames) s.work.readings ∙ ap (λ o. reading_after o x.reading x.frames) e in
@@ -129,8 +130,8 @@ module _ {N B W E : Type 0} (m : Seen N B W) (lawful : IsLawful m.values) (reada
       let here : reading_at (world_of s) l ≡ Some reading = rw (same, st.core.loads l.0) at at in
       let b = ready reading load here was in
       record {
-        begun = λ node t h root. let c = b.begun node t h root in (c.0, subst (λ rows. find_row h.0 rows ≡ Some c.0) (sym st.core.rows) c.1, c.2);
-        live = λ frame r among got. let c = b.live frame r among got in (c.0, subst (λ rows. find_row r.handle.0 rows ≡ Some c.0) (sym st.core.rows) c.1, c.2);
+        begun = λ node t h root. has-alike st.core (b.begun node t h root);
+        live = λ frame r among got. has-alike st.core (b.live frame r among got);
         once = b.once;
       }
 
@@ -157,17 +158,14 @@ module _ {N B W E : Type 0} (m : Seen N B W) (lawful : IsLawful m.values) (reada
       good-one r among =
           let got = (decodes lawful readable frame x fits decoded).got r among in
           let b = ready.live frame r front got in
-          let own : b.0.owner ≡ Owner.Load reading.load = b.2 ∙ ap (λ (k : LoadNumber). Owner.Load k) (sym (reading-number s on.whole l reading at)) in
-          let stood = (a.held frame r front got).is b.0 b.1 own in
-          let live = subst (λ (n : NodeNumber). 0 < held n.0 core.rows) stood.0 (row-held core r.handle b.0 b.1) in
-          record { row = b.0; live = b.1; at = stood.0; owned = own; fits = stood.1; typed = on.stands.pager.typed r.node.0 live ∙ ap (λ (n : ℕ). Some n) (got-typed frame fits r got) }
-
-      top-once : (q : ℕ) → times (λ (r : ArcRef). r.handle.0 == q) frame.got ≤ 1
-      top-once q = omega (arith, subst (λ fs. (n : ℕ) → times_got n fs ≤ 1) is ready.once q, got-cons q frame below)
+          let own : b.row.owner ≡ Owner.Load reading.load = b.own ∙ ap (λ (k : LoadNumber). Owner.Load k) (sym (reading-number s on.whole l reading at)) in
+          let stood = (a.held frame r front got).is b.row b.live own in
+          let live = subst (λ (n : NodeNumber). 0 < held n.0 core.rows) stood.0 (row-held core r.handle b.row b.live) in
+          record { row = b.row; live = b.live; at = stood.0; owned = own; fits = stood.1; typed = on.stands.pager.typed r.node.0 live ∙ ap (λ (n : ℕ). Some n) (got-typed frame fits r got) }
 
       once : (q : ℕ) → times (λ (r : ArcRef). r.handle.0 == q) (m.values.references x) ≤ 1
       once q =
-          let few = reads-once m.values.types frame.node_type frame.blob form.refs frame.got form.form form.kinds (apart-once frame.got top-once) decoded.own decoded.read q in
+          let few = reads-once m.values.types frame.node_type frame.blob form.refs frame.got form.form form.kinds (once-apart frame below (subst GotOnce is ready.once)) decoded.own decoded.read q in
           omega (arith, lawful.refers x decoded.own decoded.means (λ r. r.handle.0 == q), few)
 
   sound : (l : LoadNumber) (reply : LoadReply N) → LoadSteps m.values (world_of s) l reply (world_of s') → Ready s l → (load : OpenLoad) (e : Error)
@@ -179,7 +177,7 @@ module _ {N B W E : Type 0} (m : Seen N B W) (lawful : IsLawful m.values) (reada
       elim (load-cause m lawful readable s s' trees trees on l reply x load e open_load paged ended) [
         | by-chance chance ↦ chance
         | by-references frame below y frames decoded form fault ↦ absurd (let f = references-fine l x.reading load x.at open_load r frame below y frames decoded form in cc)
-        | by-handle node t h root fault ↦ absurd (grind (arith, nat_tests))
+        | by-handle node t h root fault ↦ absurd (let b = r.begun node t h root in grind (arith, nat_tests))
       ]
 
   load-step-ready : (l : LoadNumber) (reply : EventReply N B W) → Happens m (world_of s) (Event.LoadStep l) reply (world_of s') → Ready s l → Ready s' l

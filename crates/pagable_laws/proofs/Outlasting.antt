@@ -5,9 +5,7 @@ use Rattle.pagable_laws.proofs.Words.{HandleRow, find_row, is_handle, is_owner, 
 use Rattle.pagable_laws.proofs.Words.{ArcRef, Identity, LoadNumber, Mode, Event, EventReply, LoadAnswer, Took, Call, Reply, Pinning, PinStep, is_pinning, is_loose, owner_worker, World, Seen, Todo}
 use Rattle.pagable_laws.proofs.Words.{to_pin, is_named_by, CloneCall, PinCall, with_pin, without_load, is_owned_in, EndCall, Site, PinsAtOnce, answer_after, Happens, HasPin, to_load, row_at}
 use Rattle.pagable_laws.proofs.{Words.{FallsAnyhow, row_of, with_handle, with_mode, moved, PinHolds}, Decoding.among-either, Existing.outlast, Goes.{le-more, found-number, none-in-new}}
-use Rattle.pagable_laws.proofs.{Sums.{same-number, self-number}, Trees.same_some}
-use Rattle.pagable_world.specs.Loads.{Does}
-use Rattle.std.{specs.List.AllPairs, proofs.lemmas.Bool.false_from_ne_true, proofs.Common.rules}
+use Rattle.{pagable_laws.proofs.{Sums.{same-number, self-number}, Trees.same_some}, pagable_world.specs.Loads.Does, std.{specs.List.AllPairs, proofs.{lemmas.Bool.false_from_ne_true, Common.rules}}}
 use Rattle.pagable_world.specs.Workers as workers
 
 -- no value's
@@ -96,6 +94,15 @@ stands-whole {w} whole q row found =
     let among = among-found q w.rows row found in
     let number = found-number q w.rows row found in
     record { live = found; only = λ h there is. once w.rows whole.ordered h row there among (is ∙ sym number); given = subst (λ n. n ≤ w.last.handle) number (whole.numbered row among).1 }
+
+-- the handle is live, and this owner's
+pub record Has (w : Core) (owner : Owner) (h : HandleNumber) : Type 0 where
+  pub row : HandleRow
+  pub live : row_at w h ≡ Some row
+  pub own : row.owner ≡ owner
+
+pub has-alike : {w w' : Core} {owner : Owner} {h : HandleNumber} → Alike w w' → Has w owner h → Has w' owner h
+has-alike {h = h} a has = record { row = has.row; live = subst (λ rows. find_row h.0 rows ≡ Some has.row) (sym a.rows) has.live; own = has.own }
 
 pub stands-alike : {w w' : Core} {q : ℕ} {row : HandleRow} → Alike w w' → Stands w.last.handle w.rows q row → Stands w'.last.handle w'.rows q row
 stands-alike {w} {w'} {q} {row} a s = subst (λ l. Stands l w'.rows q row) (sym (ap (λ (l : Last). l.handle) a.last)) (subst (λ rows. Stands w.last.handle rows q row) (sym a.rows) s)
@@ -202,13 +209,15 @@ new-handle w node mode owner low = stands-new w.last.handle w.rows (row_of (w.la
 pins-by : {last : ℕ} (w : Core) {row : HandleRow} (k : HandleNumber) (q : ℕ) → k.0 ≡ q → Stands last w.rows q row → is_pinning row.mode ≡ true → HasPin w k
 pins-by w {row = row} k q is s pins = record { row = row; live = subst (λ n. find_row n w.rows ≡ Some row) (sym is) s.live; is = pins }
 
+-- the pin that is made of a loose handle
+pinned-new : (u : Core) (h : HandleNumber) (node : NodeNumber) (me : Owner) → AreLow u
+    → Stands (with_pin u h node me).last.handle (with_pin u h node me).rows (u.last.handle + 1) (row_of (u.last.handle + 1) node Mode.Pinned me)
+pinned-new u h node me low = new-handle (with_mode u h Mode.LoosePinned) node Mode.Pinned me
+    (low-changed u.last.handle u.rows (is_handle h.0) (λ r. record r { mode = Mode.LoosePinned }) (λ r. refl) low)
+
 module _ (w w' : Core) (low : AreLow w) where
   pin-call : (me : Owner) (h k : HandleNumber) → PinCall w me h (Ok (Pinning.Pinned k)) w' → HasPin w' k
-  pin-call me h k c =
-      let row : HandleRow = c.pins.0 in
-      let low' = low-changed w.last.handle w.rows (is_handle h.0) (λ r. record r { mode = Mode.LoosePinned }) (λ r. refl) low in
-      let s = new-handle (with_mode w h Mode.LoosePinned) row.node Mode.Pinned me low' in
-      pins-by w' k (w.last.handle + 1) c.pins.2.1.above (stands-alike {w = with_handle (with_mode w h Mode.LoosePinned) row.node Mode.Pinned me} c.pins.2.2 s) refl
+  pin-call me h k c = pins-by w' k (w.last.handle + 1) c.pins.2.1.above (stands-alike {w = with_pin w h c.pins.0.node me} c.pins.2.2 (pinned-new w h c.pins.0.node me low)) refl
 
   pub clone-call : (me : Owner) (h k : HandleNumber) → CloneCall w me h (Ok k) w'
       → (row : HandleRow) × (row_at w h ≡ Some row) × Stands w'.last.handle w'.rows (w.last.handle + 1) (row_of (w.last.handle + 1) row.node row.mode me)
@@ -222,10 +231,8 @@ module _ (w w' : Core) (low : AreLow w) where
       → k.0 ≡ w.last.handle + 1 → given (w.last.handle + 1) ≡ false
       → FallsAnyhow w (with_pin u h node me) given w' → HasPin w' k
   pin-stays u h node me k given free low' same next kept f =
-      let low'' = low-changed u.last.handle u.rows (is_handle h.0) (λ r. record r { mode = Mode.LoosePinned }) (λ r. refl) low' in
-      let s = new-handle (with_mode u h Mode.LoosePinned) node Mode.Pinned me low'' in
       let q : u.last.handle + 1 ≡ w.last.handle + 1 = ap (λ n. n + 1) same in
-      pins-by w' k (u.last.handle + 1) (next ∙ sym q) (stands-fell f.falls free (ap given q ∙ kept) s) refl
+      pins-by w' k (u.last.handle + 1) (next ∙ sym q) (stands-fell f.falls free (ap given q ∙ kept) (pinned-new u h node me low')) refl
 
   end-call : {N : Type 0} (me : Owner) (l : LoadNumber) (x : N) (t : ℕ) (references : List ArcRef) (k : HandleNumber) → NotValues me → EndCall w me l x t references (Ok k) w' → HasPin w' k
   end-call me l x t references k free c =

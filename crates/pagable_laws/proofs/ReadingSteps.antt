@@ -93,22 +93,33 @@ pub reading-open : {N E : Type 0} {v : Values N} (s : MachineState N E) → IsMa
     → s.pager.core.loads l.0 ≡ Some load → s.pager.core.loads reading.load.0 ≡ Some load
 reading-open s whole l reading at open_load = ap (λ (k : LoadNumber). s.pager.core.loads k.0) (reading-number s whole l reading at) ∙ open_load
 
+-- the reading of a load at the front
+abbrev pub front_reading : List Todo → Option Reading
+front_reading (to_load r place through reading ∷ below) = Some reading
+front_reading todo = None
+
+-- what is read afterwards was read before, or is new: of the caller, or at the front of a worker's list
+read-after : {readings : ℕ → Option Reading} {walkings : ℕ → Option Walking} (u u' : World) (New : Reading → Type 0) → ReadingsAre readings u'
+    → ((n : ℕ) → u'.work.walkings n ≡ walkings n) → ((q : ℕ) (after : Reading) → readings q ≡ Some after → (u.work.readings q ≡ Some after) ⊎ New after)
+    → ((n : ℕ) (walking : Walking) (after : Reading) → walkings n ≡ Some walking → (u.work.walkings n ≡ Some walking) ⊎ (front_reading walking.todo ≡ Some after → New after))
+    → (after : Reading) → IsReadingOf u'.work after → IsReadingOf u.work after ⊎ New after
+read-after {readings} u u' New are same callers workers after (of_caller q is) =
+    elim (callers q after (reading-was readings u' are q after is).0) [ inl old ↦ inl (of_caller q old) | inr new ↦ inr new ]
+read-after u u' New are same callers workers after (of_worker n place walking r through below there todo) = elim (workers n walking after (sym (same n) ∙ there)) [
+  | inl old ↦ inl (of_worker n place walking r through below old todo)
+  | inr new ↦ inr (new (ap front_reading todo))
+]
+
 -- ---- a load of the caller's
 
 module _ {N : Type 0} {v : Values N} {u u' : World} {l : LoadNumber} {reply : LoadReply N} (s : LoadSteps v u l reply u') where
   went : (answer : Option (LoadAnswer N)) (after : Reading) → reading_after answer s.reading s.frames ≡ Some after → (answer ≡ None) × (after ≡ gone_on s.reading s.frames)
   went x0 after e = grind (arith, nat_tests, same_some)
 
-  -- a reading of the caller's was there, or is this one
-  pub caller-was : (q : ℕ) (after : Reading) → u'.work.readings q ≡ Some after → (u.work.readings q ≡ Some after) ⊎ ((q ≡ l.0) × (reply.ended ≡ None) × (after ≡ gone_on s.reading s.frames))
-  caller-was q after is = grind (arith, nat_tests, at-updated, reading-was, went)
-
   pub steps-load : StepsReading u s.reading reply.ended s.frames u'
-  steps-load after (of_caller q is) = elim (caller-was q after is) [ inl old ↦ inl (of_caller q old) | inr new ↦ inr (new.1, new.2) ]
-  steps-load after (of_worker n place walking r through below there todo) = inl (of_worker n place walking r through below (sym (s.work.walkings n) ∙ there) todo)
-
-  pub stepped-load : (B W : Type 0) → IsWhole u.core → IsSteppedReading u (let e : Event N B W = Event.LoadStep l in e) s.reading
-  stepped-load B W whole = (s.at, reading-stands u whole l s.reading s.at)
+  steps-load = read-after u u' (λ after. (reply.ended ≡ None) × (after ≡ gone_on s.reading s.frames)) s.readings s.work.walkings (λ q after is.
+      elim (at-updated l.0 (reading_after reply.ended s.reading s.frames) u.work.readings q after is) [ inl (here, e) ↦ inr (went reply.ended after e) | inr old ↦ inl old ])
+      (λ n w after there. inl there)
 
 -- ---- a load of a worker's
 
@@ -117,8 +128,7 @@ pub record LoadsTodo {N : Type 0} (v : Values N) (me : Owner) (s s' : Site) (rea
   pub answer : Option (LoadAnswer N)
   pub frames : List Frame
   pub does : ReadingDoes v s.core me reading answer frames s'.core
-  pub next : (r : ArcRef) (place : ℕ) (through : HandleNumber) (after : Reading) (below : List Todo) → s'.todo ≡ to_load r place through after ∷ below
-      → (answer ≡ None) × (after ≡ gone_on reading frames)
+  pub next : (after : Reading) → front_reading s'.todo ≡ Some after → (answer ≡ None) × (after ≡ gone_on reading frames)
 
 module _ {N B W : Type 0} (m : Seen N B W) (v : ℕ) (s s' : Site) where
   pub loads-todo : (r : ArcRef) (place : ℕ) (through : HandleNumber) (reading : Reading) (below : List Todo) (step : Took W)
@@ -126,20 +136,13 @@ module _ {N B W : Type 0} (m : Seen N B W) (v : ℕ) (s s' : Site) where
   loads-todo r place through reading below step does = grind (arith, nat_tests)
 
 module _ {N B W : Type 0} {m : Seen N B W} {u u' : World} {k : WorkerNumber} {reply : WorkerReply W} (s : WorkerSteps m u k reply u') where
-  abbrev before : Site
-  before = record { core = u.core; shelf = u.work.shelves s.walking.table; todo = s.walking.todo }
-
-  pub steps-worker : {me : Owner} {reading : Reading} (t : LoadsTodo m.values me before s.after reading) → StepsReading u reading t.answer t.frames u'
-  steps-worker t after (of_caller q is) = inl (of_caller q (reading-was u.work.readings u' s.readings q after is).0)
-  steps-worker t after (of_worker n place walking r through below there todo) = elim
-      (at-updated k.0 (Some (record s.walking { todo = s.after.todo; steps = reply.steps; answer = reply.answer })) u.work.walkings n walking (sym (s.work.same_walkings n) ∙ there)) [
-        | inl (here, e) ↦ inr (t.next r place through after below (ap (λ (w : Walking). w.todo) (same_some _ _ e) ∙ todo))
-        | inr old ↦ inl (of_worker n place walking r through below old todo)
-      ]
-
-  pub stepped-worker : (event : Event N B W) → event ≡ Event.WorkerStep k → (r : ArcRef) (place : ℕ) (through : HandleNumber) (reading : Reading) (below : List Todo)
-      → s.walking.todo ≡ to_load r place through reading ∷ below → IsSteppedReading u event reading
-  stepped-worker event is r place through reading below todo = grind (arith, nat_tests)
+  pub steps-worker : {me : Owner} {reading : Reading} (t : LoadsTodo m.values me (record { core = u.core; shelf = u.work.shelves s.walking.table; todo = s.walking.todo }) s.after reading)
+      → StepsReading u reading t.answer t.frames u'
+  steps-worker {reading = reading} t = read-after u u' (λ after. (t.answer ≡ None) × (after ≡ gone_on reading t.frames)) s.readings s.work.same_walkings (λ q after is. inl is) (λ n w after there.
+      elim (at-updated k.0 (Some (record s.walking { todo = s.after.todo; steps = reply.steps; answer = reply.answer })) u.work.walkings n w there) [
+        | inl (here, e) ↦ inr (λ front. t.next after (ap (λ (x : Walking). front_reading x.todo) (same_some _ _ e) ∙ front))
+        | inr old ↦ inl old
+      ])
 
 -- the reading that makes the step is the machine's, or has just begun
 pub is-reading-of : {N B W : Type 0} (u : World) (event : Event N B W) (reading : Reading) → IsSteppedReading u event reading → IsReadingOf u.work reading ⊎ IsFresh u.core reading
@@ -286,11 +289,6 @@ pub works-free : (v : ℕ) → NotLoads (owner_worker v)
 works-free v l is = absurd (cc)
 
 -- ---- what stands at the front afterwards
-
--- the reading of a load at the front
-abbrev pub front_reading : List Todo → Option Reading
-front_reading (to_load r place through reading ∷ below) = Some reading
-front_reading todo = None
 
 abbrev pub LoadsAnew : Site → Type 0
 LoadsAnew s = (reading : Reading) → front_reading s.todo ≡ Some reading → IsFresh s.core reading
@@ -455,31 +453,24 @@ ends-last kind key n (Some answer) v f a = record { lasts = λ i h h'. stays-fel
 -- ---- readings
 
 module _ (u u' : World) where
-  callers-keep : ReadingsAre u.work.readings u' → (q : ℕ) (reading : Reading) → u'.work.readings q ≡ Some reading → IsReadingOf u.work reading
-  callers-keep are q reading is = of_caller q (reading-was u.work.readings u' are q reading is).0
-
   keeps-all : ReadingsAre u.work.readings u' → ((n : ℕ) → u'.work.walkings n ≡ u.work.walkings n) → KeepsReadings u u'
-  keeps-all are same reading (of_caller q is) = inl (callers-keep are q reading is)
-  keeps-all are same reading (of_worker n place walking r through below there todo) = inl (of_worker n place walking r through below (sym (same n) ∙ there) todo)
+  keeps-all are same = read-after u u' (λ r. IsFresh u'.core r) are same (λ q r is. inl is) (λ n w r there. inl there)
 
   -- one worker is another afterwards, and has at most begun a load
   keeps-but : ReadingsAre u.work.readings u' → (k : ℕ) (now : Walking) → ((n : ℕ) → u'.work.walkings n ≡ updated k (Some now) u.work.walkings n)
       → ((reading : Reading) → front_reading now.todo ≡ Some reading → IsFresh u'.core reading) → KeepsReadings u u'
-  keeps-but are k now same anew reading (of_caller q is) = inl (callers-keep are q reading is)
-  keeps-but are k now same anew reading (of_worker n place walking r through below there todo) = elim (at-updated k (Some now) u.work.walkings n walking (sym (same n) ∙ there)) [
-    | inl (here, e) ↦ inr (anew reading (ap front_reading (ap (λ (w : Walking). w.todo) (same_some _ _ e) ∙ todo)))
-    | inr old ↦ inl (of_worker n place walking r through below old todo)
-  ]
+  keeps-but are k now same anew = read-after u u' (λ r. IsFresh u'.core r) are same (λ q r is. inl is) (λ n w r there. elim (at-updated k (Some now) u.work.walkings n w there) [
+    | inl (here, e) ↦ inr (λ front. anew r (ap (λ (x : Walking). front_reading x.todo) (same_some _ _ e) ∙ front))
+    | inr old ↦ inl old
+  ])
 
   keeps-begun : (t : ℕ) (b : Beginning) → ReadingsAre (begun_readings b t u.work.readings) u' → ((l : LoadNumber) (k : ℕ) → b ≡ Beginning.Load l k → l.0 ≤ u'.core.last.load)
       → ((n : ℕ) → u'.work.walkings n ≡ u.work.walkings n) → KeepsReadings u u'
-  keeps-begun t Beginning.InMemory are within same reading is = keeps-all are same reading is
-  keeps-begun t (Beginning.Load l k) are within same reading (of_worker n place walking r through below there todo) = inl (of_worker n place walking r through below (sym (same n) ∙ there) todo)
-  keeps-begun t (Beginning.Load l k) are within same reading (of_caller q is) = elim
-      (at-updated l.0 (Some (fresh l t)) u.work.readings q reading (reading-was (updated l.0 (Some (fresh l t)) u.work.readings) u' are q reading is).0) [
-        | inl (here, e) ↦ let f : fresh l t ≡ reading = same_some _ _ e in inr (subst (λ x. IsFresh u'.core x) f (refl, refl, within l k refl))
-        | inr old ↦ inl (of_caller q old)
-      ]
+  keeps-begun t Beginning.InMemory are within same = keeps-all are same
+  keeps-begun t (Beginning.Load l k) are within same = read-after u u' (λ r. IsFresh u'.core r) are same (λ q r is. elim (at-updated l.0 (Some (fresh l t)) u.work.readings q r is) [
+    | inl (here, e) ↦ let f : fresh l t ≡ r = same_some _ _ e in inr (subst (λ x. IsFresh u'.core x) f (refl, refl, within l k refl))
+    | inr old ↦ inl old
+  ]) (λ n w r there. inl there)
 
 -- a new worker has no load
 first-no-load : (task : Task) → front_reading (first_todo task) ≡ None
@@ -548,7 +539,7 @@ module _ {N B W : Type 0} (m : Seen N B W) (u u' : World) where
       let x = is.moves in
       let f = reading-feels m u.core Owner.Caller caller-free u'.core x.reading reply.ended x.frames x.does in
       felt f.does (λ left. tt)
-      (λ whole well. by-reading f.change x.reading reply.ended x.frames (stepped-load x B W whole) f.opens (f.feels whole.handles) (steps-load x))
+      (λ whole well. by-reading f.change x.reading reply.ended x.frames (x.at, reading-stands u whole l x.reading x.at) f.opens (f.feels whole.handles) (steps-load x))
       (λ whole leaves. reading-knows (f.feels whole.handles))
 
   module _ (k : WorkerNumber) (reply : WorkerReply W) (s : WorkerSteps m u k reply u') where
@@ -566,7 +557,7 @@ module _ {N B W : Type 0} (m : Seen N B W) (u u' : World) where
     worker-feels c (walk-loads c2 r place through reading below todo t opens feels) whole =
         let none : reply.answer ≡ None = s.answers ∙ ap (λ x. answer_after x reply.took) todo in
         let last : Alike s.after.core u'.core = subst (λ a. Ends a k.0 s.after.core u'.core) none s.ends in
-        by-reading c reading t.answer t.frames (stepped-worker s (Event.WorkerStep k) refl r place through reading below todo) opens (feels-alike (feels whole.handles) last) (steps-worker s t)
+        by-reading c reading t.answer t.frames (s.walking, r, place, through, below, s.at, todo) opens (feels-alike (feels whole.handles) last) (steps-worker s t)
     worker-feels c (walk-sets r through key height below row todo live own loose anew) whole =
         by-key k key row refl (record { walking = s.walking; r = r; through = through; height = height; below = below; there = s.at; sets = todo; live = live; own = own; loose = loose }) (now anew)
     worker-feels c (walk-rests none anew) whole =

@@ -6,10 +6,10 @@ use Rattle.pagable_laws.proofs.Words.{Seen, refused_if, named_fault, moved, numb
 use Rattle.pagable_laws.proofs.Words.{ReadHolds, ◌<◌, slice_get-get_or, Blob, NodeNumber, Tree, Types, type_of, LoadReply, held, OpenLoad, type_at, IsLawful, IsReference, ReadsRoot, LoadSteps}
 use Rattle.pagable_laws.proofs.Words.{MachineState, world_of, IsMachineWhole, IsReadingOf, StandsFor, SameTrees, FrameFits, FramesFit, ReadsItsTypes, ReadIsRight, ReadGives, ◌+◌, ◌*◌, ◌≤◌, ◌⊎◌}
 use Rattle.pagable_laws.proofs.Words.{is_eager, asks, next_in, need_of, needs_nested, needs_lazy, to_adopt, root_frame, after_kinds, Unfolds, unfolds, UnfoldsFrom, KeepsStored, IsSome, Call, Reply}
-use Rattle.pagable_laws.proofs.{Words.{one_more, gone_on, IsIdle, KeepsOpen, HasStepLeft, IsWithinBound, StepIsWithin, PagerState, Represents, WellFormed, LoadsHaveStepsLeft, IsFresh}, Fitting.inside}
+use Rattle.pagable_laws.proofs.Words.{one_more, gone_on, IsIdle, KeepsOpen, HasStepLeft, IsWithinBound, StepIsWithin, PagerState, Represents, WellFormed, LoadsHaveStepsLeft, IsFresh, slice_get_within}
 use Rattle.pagable_laws.proofs.{Fitting.{first-fits, frames-stay, asked}, ReadingSteps.{readings-on, caller-free, reading-feels, reading-stands, AllWaitWell, EventGoes, event-goes, reading-open}}
-use Rattle.pagable_laws.proofs.{Goes.{found-number, IsShut, Goes}, Outlasting.{Stands, stands-whole, stands-changed, stands-fell}, Sums.self-number, Decoding.decodes, Taking.{row-held, root-right}}
-use Rattle.pagable_laws.proofs.{Taking.{adopted-over, Going, given-nodes, eager-nested, going-of}, ReadingStepsKinds.{kinds_of, asks-by-kinds, kinds-pushed}, Trees.same_some}
+use Rattle.pagable_laws.proofs.{Goes.{found-number, IsShut, Goes}, Outlasting.{Stands, stands-whole, stands-changed, stands-fell, Has}, Sums.self-number, Decoding.decodes, Taking.row-held}
+use Rattle.pagable_laws.proofs.{Taking.{root-right, adopted-over, Going, given-nodes, eager-nested, going-of}, ReadingStepsKinds.{kinds_of, asks-by-kinds, kinds-pushed}, Trees.same_some}
 use Rattle.{pagable_world.specs.{Loads.Does as LoadDoes, Runs.Does}, std.proofs.Common.rules}
 pub use Rattle.pagable_laws.proofs.Effects.{both-none as neither}
 
@@ -17,21 +17,15 @@ pub use Rattle.pagable_laws.proofs.Effects.{both-none as neither}
 
 -- ---- nothing is said against the handles
 
--- the handle is live, and the owner's
-record IsNamed (w : Core) (owner : Owner) (h : HandleNumber) : Type 0 where
-  row : HandleRow
-  live : row_at w h ≡ Some row
-  own : row.owner ≡ owner
-
 module _ (w : Core) (owner : Owner) where
   named-one : (seen : List ℕ) (h : HandleNumber)
-      → if_there (λ (row : HandleRow). refused_if (not (is_owner owner row.owner) || is_in seen h.0) Error.NotYours) (Some Error.NoSuchHandle) (row_at w h) ≡ None → IsNamed w owner h
+      → if_there (λ (row : HandleRow). refused_if (not (is_owner owner row.owner) || is_in seen h.0) Error.NotYours) (Some Error.NoSuchHandle) (row_at w h) ≡ None → Has w owner h
   named-one seen h none = grind (arith, nat_tests)
 
-  named : (seen : List ℕ) (hs : List HandleNumber) → named_fault w owner seen hs ≡ None → (h : HandleNumber) → Among hs h → IsNamed w owner h
+  named : (seen : List ℕ) (hs : List HandleNumber) → named_fault w owner seen hs ≡ None → (h : HandleNumber) → Among hs h → Has w owner h
   unfolding named_fault
   named seen [] none h (i, is) = absurd (cc)
-  named seen (x ∷ hs) none h (zero, is) = let same : x ≡ h = cc in subst (λ z. IsNamed w owner z) same (named-one seen x (neither _ _ none).0)
+  named seen (x ∷ hs) none h (zero, is) = let same : x ≡ h = cc in subst (λ z. Has w owner z) same (named-one seen x (neither _ _ none).0)
   named seen (x ∷ hs) none h (suc i, is) = named (x.0 ∷ seen) hs (neither _ _ none).1 h (i, is)
 
 named-none : (w : Core) (l : LoadNumber) (hs : List HandleNumber) → hand_over_fault w Owner.Caller l hs ≡ None → named_fault w (Owner.Load l) [] hs ≡ None
@@ -80,7 +74,7 @@ module _ {N B W : Type 0} (m : Seen N B W) (u u' : World) (whole : HandlesAreWho
 pub got-typed : {types : Types} {stored : ℕ → Option Blob} {trees : ℕ → Tree} (frame : Frame) → FrameFits types stored trees frame → (r : ArcRef) → Among frame.got r
     → (trees r.node.0).type ≡ type_of r.kind.0
 got-typed frame fits r (place, is) =
-    let few = inside frame.got place r is in
+    let few = slice_get_within frame.got place r is in
     let most = fits.few in
     (fits.got place _ r is (slice_get-get_or frame.blob.keys place 0 (omega (arith, few, most)))).typed
 
@@ -165,10 +159,6 @@ pub Owes : Types → (ℕ → Option Blob) → ℕ → List Frame → ℕ → Ty
 Owes types store many [] owed = owed ≡ 2 * many + 2
 Owes types store many (frame ∷ below) owed = Owing types store frame (kinds_of frame.got) (λ more. Waits types store frame.kind below more) owed
 
-pub owes-first : (types : Types) (store : ℕ → Option Blob) (many : ℕ) (frames : List Frame) → frames ≡ [] → Owes types store many frames (2 * many + 2)
-unfolding Owes
-owes-first types store many frames none = subst (λ fs. Owes types store many fs (2 * many + 2)) (sym none) refl
-
 pub owes-some : (types : Types) (store : ℕ → Option Blob) (many : ℕ) (frames : List Frame) (owed : ℕ) → Owes types store many frames owed → 1 ≤ owed
 unfolding Owes
 owes-some types store many x3 owed x5 = grind (arith, nat_tests)
@@ -243,9 +233,6 @@ Bounded types store key reading = (more : ℕ → Option Blob) → KeepsStored s
 bounded-on : {types : Types} {store later : ℕ → Option Blob} {key : ℕ} (reading : Reading) → KeepsStored store later → Bounded types store key reading → Bounded types later key reading
 bounded-on reading kept b more after many longest under = b more (λ q x is. after q x (kept q x is)) many longest under
 
-bounded-new : (types : Types) (store : ℕ → Option Blob) (key : ℕ) (reading : Reading) → reading.frames ≡ [] → reading.steps ≡ 0 → Bounded types store key reading
-bounded-new types store key reading none no_steps more kept many longest under = (2 * many + 2, owes-first types more many reading.frames none, omega (arith, no_steps))
-
 few-more : (n : ℕ) → one_more n ≤ n + 1
 few-more n = omega arith
 
@@ -274,7 +261,9 @@ abbrev IsBounded : Types → World → Reading → Type 0
 IsBounded types u reading = (reading.load.0 ≤ u.core.last.load) × ((load : OpenLoad) → u.core.loads reading.load.0 ≡ Some load → Bounded types u.core.stored load.key reading)
 
 fresh-bounded : (types : Types) (u : World) (reading : Reading) → IsFresh u.core reading → IsBounded types u reading
-fresh-bounded types u reading new = (new.2, λ load is_open. bounded-new types u.core.stored load.key reading new.0 new.1)
+unfolding Owes
+fresh-bounded types u reading new = (new.2, λ load is_open more kept many longest under.
+    (2 * many + 2, subst (λ fs. Owes types more many fs (2 * many + 2)) (sym new.0) refl, let none = new.1 in omega (arith, none)))
 
 abbrev AllBounded : Types → World → Type 0
 AllBounded types u = (reading : Reading) → IsReadingOf u.work reading → IsBounded types u reading

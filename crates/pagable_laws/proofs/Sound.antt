@@ -54,7 +54,6 @@ module _ {N E : Type 0} (v : Values N) (s : MachineState N E) (trees : ℕ → T
     form : IsFormOf v.types frame.node_type frame.blob refs
     keys : AreKeysOf shelf refs frame.blob.keys
     lows : AllLow shelf height refs
-    small : height ≤ longest_path
 
   known-frame : (frame : Frame) (i : Identity) (height : ℕ) → IsPublished shelf i frame.key height → frame.node_type ≡ (trees i.node.0).type → stored frame.key ≡ Some frame.blob
       → IsKnown frame height
@@ -68,7 +67,7 @@ module _ {N E : Type 0} (v : Values N) (s : MachineState N E) (trees : ℕ → T
       let form : IsFormOf v.types frame.node_type (blob_of written.bytes b.2.keys) written.references =
       search (there, readable frame.node_type w.shape there, w.form, as-many-keys shelf written.references b.2.keys b.2.known, w.once) in
       let keys = subst (λ (x : Blob). AreKeysOf shelf written.references x.keys) same b.2.known in
-      search (subst (λ (x : Blob). IsFormOf v.types frame.node_type x written.references) same form, keys, b.2.low, b.2.within)
+      search (subst (λ (x : Blob). IsFormOf v.types frame.node_type x written.references) same form, keys, b.2.low)
 
   -- what is asked for has a key that is known
   record IsAsked (kind : Kind) (key height : ℕ) : Type 0 where

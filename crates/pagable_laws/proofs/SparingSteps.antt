@@ -1,11 +1,12 @@
 -- An event leaves each handle of a worker as it is that doesn't make it, and what the cache gives for a kind and a key, where the node is held before and after. What a worker's step
 -- does leaves the handles of the list too, so that this gets no shorter.
 pub use Rattle.pagable_laws.proofs.Effects.{named-among, IsEntered, entered-of, Spares, spares-then}
-use Rattle.pagable_laws.proofs.Words.{◌≡◌, ℕ, ◌<◌, ◌≤◌, ◌==◌, ◌&&◌, Bool, true, false, List, [], ◌∷◌, Option, Some, None, refl, ap, sym, ◌∙◌, arith, Result, length, sum_by-cons, times, and_parts, nat_tests}
-use Rattle.pagable_laws.proofs.Words.{Error, Among, one, zero, suc, ◌+◌, Owner, HandleNumber, HandleRow, Core, find_row, is_handle, is_owned_by, owner_worker, OwnersAreThere, Event, EventReply, Happens}
-use Rattle.pagable_laws.proofs.Words.{KeepsOpen, LeavesCache, nothing_felt, ReleaseCall, Seen, Site, Took, WorkerAnswer, World, step_of, HandlesAreWhole, IsWhole, Ends}
-use Rattle.pagable_laws.proofs.{Effects.{Effect, IsOther, list-apart, Lasts}, ReadingSteps.{event-goes, walk-goes, ends-spare}, Called.releases, GoodReferences.same-owner, Goes.found-number}
-use Rattle.pagable_laws.proofs.{Outlasting.{stands-whole, among-found, none-found, once}, Following.{handles-once, one-less}, Sums.{same-number, self-number, at-most-sum, counted, one-true, sum-le}}
+use Rattle.pagable_laws.proofs.Words.{◌≡◌, ℕ, ◌≤◌, ◌==◌, ◌&&◌, Bool, false, List, [], ◌∷◌, Option, Some, None, refl, ap, sym, ◌∙◌, arith, Result, length, sum_by-cons, times, and_parts, nat_tests}
+use Rattle.pagable_laws.proofs.Words.{Error, Among, one, zero, suc, Owner, HandleNumber, HandleRow, Core, find_row, is_handle, is_owned_by, owner_worker, OwnersAreThere, Event, EventReply, Happens}
+use Rattle.pagable_laws.proofs.Words.{KeepsOpen, LeavesCache, nothing_felt, ReleaseCall, Seen, Site, Took, WorkerAnswer, World, step_of, HandlesAreWhole, IsWhole, Ends, slice_get_within}
+use Rattle.pagable_laws.proofs.{Words.get_or_from_slice_get, Effects.{Effect, IsOther, list-apart, Lasts}, ReadingSteps.{event-goes, walk-goes, ends-spare}, Called.releases, GoodReferences.same-owner}
+use Rattle.pagable_laws.proofs.{Goes.found-number, Outlasting.{stands-whole, among-found, none-found, once}, Following.{handles-once, one-less}, Sums.{same-number, self-number, at-most-sum, counted}}
+use Rattle.{pagable_laws.proofs.Sums.{one-true, sum-le}, std.{proofs.{Common.get_or, lemmas.List.{Sums.sum_by-remove, Edits.length-remove}}, specs.List.remove}}
 use Rattle.pagable_world.specs.Workers as workers
 
 pub event-spares : {N B W : Type 0} (m : Seen N B W) (v : ℕ) (u u' : World) → OwnersAreThere u.core → (event : Event N B W) (reply : EventReply N B W) → step_of v event reply ≡ [] → KeepsOpen event
@@ -40,28 +41,6 @@ release-spares-list {w} {w'} {h} r c = let e : Effect Owner.Caller false (Unit {
 abbrev has : ℕ → HandleNumber → Bool
 has q h = h.0 == q
 
--- a list that has a number, without it once
-record Without (n : ℕ) (xs : List HandleNumber) : Type 0 where
-  pub rest : List HandleNumber
-  pub shorter : length xs ≡ length rest + 1
-  pub counts : (q : ℕ) → times (has q) xs ≡ one (n == q) + times (has q) rest
-
-without : (n : ℕ) (xs : List HandleNumber) → 0 < times (has n) xs → Without n xs
-without n [] some = absurd (omega arith)
-without n (x ∷ xs) some = by (λ more. without n xs more) (x.0 == n) refl
-  where
-    by : (0 < times (has n) xs → Without n xs) → (b : Bool) → (x.0 == n) ≡ b → Without n (x ∷ xs)
-    by later true e = record { rest = xs; shorter = omega arith; counts = λ q. sum_by-cons (λ h. one (has q h)) x xs ∙ ap (λ k. one (k == q) + times (has q) xs) (same-number _ _ e) }
-    by later false e =
-        let here : one (has n x) ≡ 0 = ap one e in
-        let sum = sum_by-cons (λ h. one (has n h)) x xs in
-        let w = later (omega (arith, some, here, sum)) in
-        record {
-          rest = x ∷ w.rest;
-          shorter = let s = w.shorter in omega arith;
-          counts = λ q. let a = w.counts q in let b = sum_by-cons (λ h. one (has q h)) x xs in let c = sum_by-cons (λ h. one (has q h)) x w.rest in omega arith;
-        }
-
 -- what has each number as often is as long
 fewer : (xs ys : List HandleNumber) → ((q : ℕ) → times (has q) xs ≤ times (has q) ys) → length xs ≤ length ys
 fewer [] ys le = omega arith
@@ -69,10 +48,17 @@ fewer (x ∷ xs) ys le =
     let first = le x.0 in
     let sum = sum_by-cons (λ h. one (has x.0 h)) x xs in
     let here : one (x.0 == x.0) ≡ 1 = ap one (self-number x.0) in
-    let w = without x.0 ys (omega (arith, first, sum, here)) in
-    let rest = fewer xs w.rest (λ q. let a = le q in let b = sum_by-cons (λ h. one (has q h)) x xs in let c = w.counts q in omega (arith, a, b, c)) in
-    let s = w.shorter in
-    omega (arith, rest, s)
+    let y = counted (λ h. one (has x.0 h)) ys (omega (arith, first, sum, here)) in
+    let lt = slice_get_within ys y.1.0 y.0 y.1.1 in
+    let same : (get_or ys y.1.0 y.0).0 ≡ x.0 = ap (λ (h : HandleNumber). h.0) (get_or_from_slice_get ys y.1.0 y.0 y.0 y.1.1) ∙ same-number _ _ (one-true _ y.2) in
+    let rest = fewer xs (remove ys y.1.0) (λ q.
+        let a = le q in
+        let b = sum_by-cons (λ h. one (has q h)) x xs in
+        let c = sum_by-remove (λ h. one (has q h)) ys y.1.0 y.0 lt in
+        let e : one (has q (get_or ys y.1.0 y.0)) ≡ one (has q x) = ap (λ n. one (n == q)) same in
+        omega (arith, a, b, c, e)) in
+    let shorter = length-remove ys y.1.0 lt in
+    omega (arith, rest, shorter)
 
 found : {w : Core} → HandlesAreWhole w → (q : ℕ) (x : HandleRow) → Among w.rows x → x.number.0 ≡ q → find_row q w.rows ≡ Some x
 found {w} whole q x among is = by (find_row q w.rows) refl
