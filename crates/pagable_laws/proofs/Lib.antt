@@ -14,7 +14,6 @@ pub mod Outlasting
 pub mod GoodReferences
 pub mod Effects
 pub mod Called
-mod ReadingStepsKinds
 pub mod ReadingStepsGive
 pub mod ReadingSteps
 mod Once
@@ -37,6 +36,5 @@ pub mod SparingSteps
 mod Identities
 mod Sound
 mod Apart
-mod LoadsReady
 mod OnePiece
 mod LoadRuns

@@ -9,7 +9,7 @@ use Rattle.pagable_laws.proofs.Words.{is_eager, asks, next_in, need_of, needs_ne
 use Rattle.pagable_laws.proofs.Words.{one_more, gone_on, IsIdle, KeepsOpen, HasStepLeft, IsWithinBound, StepIsWithin, PagerState, Represents, WellFormed, LoadsHaveStepsLeft, IsFresh, slice_get_within}
 use Rattle.pagable_laws.proofs.{Fitting.{first-fits, frames-stay, asked}, ReadingSteps.{readings-on, caller-free, reading-feels, reading-stands, AllWaitWell, EventGoes, event-goes, reading-open}}
 use Rattle.pagable_laws.proofs.{Goes.{found-number, IsShut, Goes}, Outlasting.{Stands, stands-whole, stands-changed, stands-fell, Has}, Sums.self-number, Decoding.decodes, Taking.row-held}
-use Rattle.pagable_laws.proofs.{Taking.{root-right, adopted-over, Going, given-nodes, eager-nested, going-of}, ReadingStepsKinds.{kinds_of, asks-by-kinds, kinds-pushed}, Trees.same_some}
+use Rattle.pagable_laws.proofs.{Taking.{root-right, adopted-over, Going, given-nodes, eager-nested, going-of}, Apart.{kinds_of, asks-by-kinds, kinds-pushed}, Trees.same_some}
 use Rattle.{pagable_world.specs.{Loads.Does as LoadDoes, Runs.Does}, std.proofs.Common.rules}
 pub use Rattle.pagable_laws.proofs.Effects.{both-none as neither}
 

@@ -9,9 +9,9 @@ use Rattle.pagable_laws.proofs.Words.{root_fault, needs_nested, needs_lazy, to_a
 use Rattle.pagable_laws.proofs.Words.{IsPagedOutAs, IsLoadOfPagedOut, Ok, HandleRow, Mode, LoadAnswer, LoadReply, Event, EventReply, or_else, row_fault, reference_fault, LoadSteps, Happens}
 use Rattle.pagable_laws.proofs.Words.{IsOfHandles, LoadIsFaultless, FaultlessLaw, ◌<◌, Took, owner_worker, Todo, Walking, named_fault, cell_fault, handles_of, after_kinds, LeadsDown, is-there}
 use Rattle.pagable_laws.proofs.{Words.{goes-down, ReadsTooDeep, IsReadingOf, of_worker, LoadIsDeep, DeepLoadLaw, AllLow, IsFresh}, Trees.same_some, Fitting.{asked, first-typed}, Apart.IsFormOf}
-use Rattle.pagable_laws.proofs.{Apart.{GotAsked, FramesAsked, NextOf, asks-known, all-read, next-known, all-got}, ReadingStepsKinds.{kinds_of, asks-by-kinds, faulty-by-kinds}, Sums.self-number}
-use Rattle.pagable_laws.proofs.{Taking.{adopted-over, eager-nested, Going, going-of}, Chains.IsGoingOn, Deeply.along-first, ReadingSteps.{reading-stands, reading-number, reading-open}}
-use Rattle.{std.proofs.Common.rules, pagable_world.specs.Loads.Does}
+use Rattle.pagable_laws.proofs.{Apart.{GotAsked, FramesAsked, NextOf, asks-known, all-read, next-known, all-got, kinds_of, asks-by-kinds, faulty-by-kinds}, Sums.self-number, Taking.adopted-over}
+use Rattle.{pagable_laws.proofs.{Taking.{eager-nested, Going, going-of}, Chains.IsGoingOn, Deeply.along-first, ReadingSteps.{reading-stands, reading-number, reading-open}}, std.proofs.Common.rules}
+use Rattle.pagable_world.specs.Loads.{Does}
 use Rattle.pagable_world.specs.Workers as workers
 
 -- ---- what a load reads of a key that a page-out has published: each blob is a form of a tree, asks for references whose keys are known, and lies within the path's limit
