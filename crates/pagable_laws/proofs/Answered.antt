@@ -1,9 +1,9 @@
 -- A worker's steps up to its answer: none of its own claims waits any more, and what another claimed is as it was.
-use Rattle.pagable_laws.proofs.Words.{◌≡◌, ℕ, nat_eq, nat_tests, arith, Bool, true, false, List, [], ◌∷◌, ◌++◌, append_assoc, None, Some, Ok, refl, sym, subst, Identity, HandleNumber, Slot, Shelf}
+use Rattle.pagable_laws.proofs.Words.{◌≡◌, ℕ, nat_eq, nat_tests, arith, true, false, List, [], ◌∷◌, ◌++◌, append_assoc, None, Some, Ok, refl, sym, subst, Identity, HandleNumber, Slot, Shelf}
 use Rattle.pagable_laws.proofs.Words.{no_result, Todo, Task, of_item, of_entry, Written, Took, Claim, WorkerAnswer, Seen, Site, Does, answer_after, first_todo, is_open_outcome, IsMetFailure}
-use Rattle.pagable_laws.proofs.{Words.FailedElsewhere, Standing.{is_open_in, AllStand, Covers, HasNoFailed, Changes, first-stands, some-none, some-same, Goes, grows}, Coming.{stands-on, goes-same}}
-use Rattle.pagable_laws.proofs.{Coming.{FailsMet, follows-met, fails-stay, first-met, failed-stays, failed-elsewhere, answered}, Joining.steps_follow, Decoding.among-right}
-use Rattle.pagable_world.specs.Access.{AccessState, AllHaveResults, WorkerRun, WalkStep, worker-ends, worker-goes-on}
+use Rattle.pagable_laws.proofs.{Words.{FailedElsewhere, inl, inr}, Standing.{is_open_in, AllStand, Covers, HasNoFailed, Changes, first-stands, some-none, some-same, Goes, grows, same-worker}}
+use Rattle.pagable_laws.proofs.{Coming.{stands-on, goes-same, FailsMet, follows-met, fails-stay, first-met, failed-stays, failed-elsewhere, answered}, Joining.steps_follow, Decoding.among-right}
+use Rattle.{pagable_world.specs.Access.{AccessState, AllHaveResults, WorkerRun, WalkStep, worker-ends, worker-goes-on}, std.proofs.lemmas.Bool.cases_Bool}
 
 -- what a worker leaves with its answer, whose steps these are; and what it failed with was met, where C
 record Answered {W : Type 0} (C : Type 0) (n : ℕ) (shelf : Shelf) (steps : List (Took W)) (answer : WorkerAnswer) (shelf' : Shelf) : Type 0 where
@@ -65,12 +65,7 @@ pub item-answered : {N E B W : Type 0} (m : Seen N B W) (n : ℕ) (item : Writte
     → WorkerRun m n (first_todo (of_item item)) s steps answer s' → AllHaveResults s.shelf → AllHaveResults s'.shelf
 item-answered m n item {s} {s'} run all =
     let a = at-answer m n (of_item item) ⊥ run [] (first-stands s.shelf n (of_item item)) (λ i slot there own still. absurd (let e = all i slot there in grind arith)) (λ c. absurd c) in
-    (λ i slot there. by i slot there (nat_eq slot.worker n) refl (a.own i slot there) (a.others i slot there))
-  where
-    by : (i : Identity) (slot : Slot) → s'.shelf.slots i ≡ Some slot → (b : Bool) → nat_eq slot.worker n ≡ b → (slot.worker ≡ n → is_open_outcome slot.outcome ≡ false)
-        → (nat_eq slot.worker n ≡ false → s.shelf.slots i ≡ Some slot) → is_open_outcome slot.outcome ≡ false
-    by i slot there true e own others = own (grind (arith, nat_tests))
-    by i slot there false e own others = all i slot (others e)
+    (λ i slot there. elim (cases_Bool (nat_eq slot.worker n)) [ inl e ↦ a.own i slot there (same-worker slot.worker n e) | inr e ↦ all i slot (a.others i slot there e) ])
 
 -- of an entry, on a table of no claims: nobody had failed before
 pub entry-answered : {N E B W : Type 0} (m : Seen N B W) (n : ℕ) (h : HandleNumber) (j : Identity) {s s' : AccessState N E} {steps : List (Took W)} {answer : WorkerAnswer}

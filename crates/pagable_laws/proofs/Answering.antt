@@ -1,11 +1,11 @@
 -- What follows for keys: each that is published is its tree's, each that is answered is its task's, and what a worker met that answers one is left paged out.
-use Rattle.pagable_laws.proofs.Words.{longest_path, arith, nat_tests, ◌≡◌, ℕ, true, List, [], ◌∷◌, Option, Some, Ok, Err, refl, sym, ap, subst, ◌∙◌, is_some, OptionalDataKey, KeyOfItem}
-use Rattle.pagable_laws.proofs.Words.{ArcRef, Identity, is_loose_kind, Tree, HandleNumber, ReadsTree, WorkerNumber, if_there, Event, EventReply, Took, WorkerAnswer, WorkerReply, identity_of, has_key}
-use Rattle.pagable_laws.proofs.Words.{Core, Cell, key_at, Shelf, Slot, Written, Todo, to_item, to_set, to_publish, to_release, to_fail, Task, of_item, of_entry, Walking, Values, Seen, Site, Does}
-use Rattle.pagable_laws.proofs.Words.{IsPublished, answer_after, WorkerSteps, Happens, PagerState, MachineState, world_of, kids_of, HandlesAreWhole, IsMachineWhole, Represents, StandsFor}
-use Rattle.pagable_laws.proofs.Words.{ReadsItsTypes, Meets, meets-of-item, meets-entry, meets-below, AreKeysOf, IsLeftPagedOut, HasKeyOf, LeavesAll, IsKeyOfTask, Ground, ground_of, IsOfEntry, Waits}
-use Rattle.pagable_laws.proofs.{Words.{Walks, WorkFits, IsDone, KeyIsSet, AllHold, HasHandle, KeysHeld, KeysAreRight}, Merkle.{one_key, one_item_key, tree_readable}, Trees.{same_some, each-type}}
-use Rattle.pagable_laws.proofs.{Following.{IdentityStands, known-of, keys-of, tree-form, cell-of}, Taking.row-held, Coming.updated-at, Stepping.{done-on, keys-same, all-known, all-low, stands-for}}
+use Rattle.pagable_laws.proofs.Words.{longest_path, arith, nat_tests, ◌≡◌, ℕ, true, List, [], ◌∷◌, Some, Ok, Err, sym, ap, subst, ◌∙◌, is_some, OptionalDataKey, KeyOfItem, ArcRef, Identity}
+use Rattle.pagable_laws.proofs.Words.{is_loose_kind, Tree, HandleNumber, ReadsTree, WorkerNumber, if_there, Event, EventReply, Took, WorkerAnswer, WorkerReply, identity_of, Core, key_at, Shelf, Slot}
+use Rattle.pagable_laws.proofs.Words.{Written, Todo, to_item, to_set, to_publish, to_release, to_fail, Task, of_item, of_entry, Walking, Values, Seen, Site, Does, IsPublished, answer_after}
+use Rattle.pagable_laws.proofs.Words.{WorkerSteps, Happens, PagerState, MachineState, world_of, kids_of, HandlesAreWhole, IsMachineWhole, Represents, StandsFor, ReadsItsTypes, Meets, meets-of-item}
+use Rattle.pagable_laws.proofs.Words.{meets-entry, meets-below, AreKeysOf, IsLeftPagedOut, HasKeyOf, LeavesAll, IsKeyOfTask, Ground, ground_of, IsOfEntry, Waits, Walks, WorkFits, IsDone, KeyIsSet}
+use Rattle.pagable_laws.proofs.{Words.{AllHold, HasHandle, KeysHeld, KeysAreRight, has_key}, Merkle.{one_key, one_item_key, tree_readable}, Trees.{same_some, each-type}, Following.IdentityStands}
+use Rattle.pagable_laws.proofs.{Following.{known-of, keys-of, tree-form, cell-of}, Taking.row-held, Coming.updated-at, Stepping.{done-on, keys-same, all-known, all-low, stands-for}}
 
 -- ---- one step of a worker
 
@@ -71,14 +71,11 @@ module _ {N E : Type 0} (v : Values N) (s : MachineState N E) (trees : ℕ → T
 -- ---- an event
 
 -- a live cell whose key was set has one
-key-known : (w : Core) (n : ℕ) → KeyIsSet w n → is_some (w.cells n) ≡ true → (key : ℕ) × (key_at w n ≡ OptionalDataKey.Some key)
-key-known w n set live = by (w.cells n) refl live
-  where
-    of-key : (own : OptionalDataKey) → has_key own ≡ true → (key : ℕ) × (own ≡ OptionalDataKey.Some key)
-    of-key x0 is = grind (arith, nat_tests)
+some-key : (own : OptionalDataKey) → has_key own ≡ true → (key : ℕ) × (own ≡ OptionalDataKey.Some key)
+some-key x0 is = grind (arith, nat_tests)
 
-    by : (c : Option Cell) → w.cells n ≡ c → is_some c ≡ true → (key : ℕ) × (key_at w n ≡ OptionalDataKey.Some key)
-    by x0 there is = grind (arith, nat_tests, of-key, if_there)
+key-known : (w : Core) (n : ℕ) → KeyIsSet w n → is_some (w.cells n) ≡ true → (key : ℕ) × (key_at w n ≡ OptionalDataKey.Some key)
+key-known w n set live = some-key (key_at w n) (let keyed = set.keyed in grind (arith, nat_tests, if_there))
 
 has-key-of : {N E : Type 0} (v : Values N) (s : PagerState N E) (trees : ℕ → Tree) (n : ℕ) → HandlesAreWhole s.core → Represents v s trees → KeyIsSet s.core n
     → is_some (s.core.cells n) ≡ true → HasKeyOf v s trees n

@@ -3,11 +3,11 @@
 use Rattle.pagable_laws.proofs.Words.{nat_tests, ◌≡◌, ℕ, suc, ◌+◌, List, [], ◌∷◌, ◌++◌, map, length, Result, refl, ap, inl, arith, Option, Some, None, slice_get, Error, Rest, read_typed, Answer}
 use Rattle.pagable_laws.proofs.Words.{answer_at, handles_at, ArcRef, Kind, Blob, Shape, Types, Meaning, answer_of, answers_from, reads, asks, is_faulty, next_by, next_of, some_of, after_kinds, sym}
 use Rattle.pagable_laws.proofs.Words.{◌∙◌, ◌≤◌, ◌==◌, true, Ok, Err, subst, length-append, append_assoc, slice_get-get_or, append-nil, ◌>>=◌, rename, read, deepest, references_in, Form, kind_of_arc}
-use Rattle.pagable_laws.proofs.Words.{IsReadable, Throughout, is_eager, times, Frame, Next, next_in, rest, at, zero, ◌||◌, Bool, false, inr, if◌then◌else◌, sum_by-cons, Owner, Among, is_in, one, Core}
+use Rattle.pagable_laws.proofs.Words.{IsReadable, Throughout, is_eager, times, Frame, Next, next_in, rest, at, zero, false, inr, if◌then◌else◌, sum_by-cons, Owner, Among, is_in, one, Core}
 use Rattle.pagable_laws.proofs.{Words.{reference_fault, references_fault, IsReference}, Related.{no_cause, Out, both-given, both-refused, first-refused, OutLook, both-looked-up, both-not, read_par}}
 use Rattle.pagable_laws.proofs.{Related.{renamed, keeps_forms}, Along.{Along, AllTwo, no-two, more-two, refs-two, each-two}, Again.{form-again, Looked, all-looked, one-looked, not-looked}}
 use Rattle.{pagable_laws.proofs.{Sums.{self-number, same-number, at-most-sum, counted, one-true}, Decoding.read-gives}, pagable_world.specs.Loads.read_with, std.proofs.lemmas.Option.slice_get_past}
-use Rattle.std.proofs.lemmas.List.{length-map}
+use Rattle.std.proofs.lemmas.{List.length-map, Bool.cases_Bool}
 
 abbrev pub kinds_of : List ArcRef → List ℕ
 kinds_of got = map (λ (r : ArcRef). r.kind.0) got
@@ -276,13 +276,9 @@ module _ (types : Types) (t : ℕ) (blob : Blob) (refs got : List ArcRef) (f : I
     no-more q r g p is no-two = omega arith
     no-more q r g p is (more-two a b xs ys h more) =
         let tail = no-more q r g p is more in
-        at (a.handle.0 == q) refl tail (sum_by-cons (λ (x : ArcRef). one (x.handle.0 == q)) a xs) (sum_by-cons (λ (y : ArcRef). one (y.handle.0 == r.handle.0)) b ys)
-      where
-        at : (t : Bool) → (a.handle.0 == q) ≡ t → times (λ (x : ArcRef). x.handle.0 == q) xs ≤ times (λ (y : ArcRef). y.handle.0 == r.handle.0) ys
-            → times (λ (x : ArcRef). x.handle.0 == q) (a ∷ xs) ≡ one (a.handle.0 == q) + times (λ (x : ArcRef). x.handle.0 == q) xs
-            → times (λ (y : ArcRef). y.handle.0 == r.handle.0) (b ∷ ys) ≡ one (b.handle.0 == r.handle.0) + times (λ (y : ArcRef). y.handle.0 == r.handle.0) ys
-            → times (λ (x : ArcRef). x.handle.0 == q) (a ∷ xs) ≤ times (λ (y : ArcRef). y.handle.0 == r.handle.0) (b ∷ ys)
-        at x0 e tail left right = grind (arith, nat_tests, one, same-number, self-number)
+        let left = sum_by-cons (λ (x : ArcRef). one (x.handle.0 == q)) a xs in
+        let right = sum_by-cons (λ (y : ArcRef). one (y.handle.0 == r.handle.0)) b ys in
+        grind (arith, nat_tests, one, same-number, self-number)
 
     -- what is read names no handle twice
     pub reads-once : (own : Meaning ArcRef) → next_of types t blob got ≡ reads own → (q : ℕ) → times (λ (r : ArcRef). r.handle.0 == q) (references_in own) ≤ 1
@@ -300,24 +296,21 @@ module _ (types : Types) (t : ℕ) (blob : Blob) (refs got : List ArcRef) (f : I
 -- ---- nothing is said against references that are good and apart
 
 module _ (w : Core) (owner : Owner) where
-  fine-one : (seen : List ℕ) (r : ArcRef) → IsReference w owner r → is_in seen r.handle.0 ≡ false → reference_fault w owner seen r ≡ None
-  fine-one seen r is new = grind (arith, self-number)
-
   pub fine : (seen : List ℕ) (rs : List ArcRef) → ((r : ArcRef) → Among rs r → IsReference w owner r) → ((r : ArcRef) → Among rs r → is_in seen r.handle.0 ≡ false)
       → ((q : ℕ) → times (λ (r : ArcRef). r.handle.0 == q) rs ≤ 1) → references_fault w owner seen rs ≡ None
   unfolding references_fault is_in
   fine seen [] good new once = refl
   fine seen (r ∷ rs) good new once =
-      let rest = fine (r.handle.0 ∷ seen) rs (λ q among. good q (suc among.0, among.1)) (λ q among. by q among (r.handle.0 == q.handle.0) refl)
-      (λ q. let a = once q in let b = sum_by-cons (λ (x : ArcRef). one (x.handle.0 == q)) r rs in omega (arith, a, b)) in
-      rw (fine-one seen r (good r (zero, refl)) (new r (zero, refl))) rest
-    where
-      by : (q : ArcRef) → Among rs q → (b : Bool) → (r.handle.0 == q.handle.0) ≡ b → (r.handle.0 == q.handle.0) || is_in seen q.handle.0 ≡ false
-      by q among false e = let n = new q (suc among.0, among.1) in rw (e, n) refl
-      by q among true e =
+      let rest = fine (r.handle.0 ∷ seen) rs (λ q among. good q (suc among.0, among.1)) (λ q among.
+          let n = new q (suc among.0, among.1) in
           let a = once q.handle.0 in
           let b = sum_by-cons (λ (x : ArcRef). one (x.handle.0 == q.handle.0)) r rs in
           let c = at-most-sum (λ (x : ArcRef). one (x.handle.0 == q.handle.0)) rs q among in
           let d : one (q.handle.0 == q.handle.0) ≡ 1 = ap one (self-number q.handle.0) in
-          let z : one (r.handle.0 == q.handle.0) ≡ 1 = ap one e in
-          absurd (omega (arith, a, b, c, d, z))
+          elim (cases_Bool (r.handle.0 == q.handle.0)) [
+            | inl e ↦ absurd (let z : one (r.handle.0 == q.handle.0) ≡ 1 = ap one e in omega (arith, a, b, c, d, z))
+            | inr e ↦ rw (e, n) refl
+          ])
+      (λ q. let a = once q in let b = sum_by-cons (λ (x : ArcRef). one (x.handle.0 == q)) r rs in omega (arith, a, b)) in
+      let first : reference_fault w owner seen r ≡ None = let is = good r (zero, refl) in let isnt = new r (zero, refl) in grind (arith, self-number) in
+      rw first rest

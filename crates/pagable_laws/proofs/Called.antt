@@ -1,25 +1,16 @@
 -- What trees feel of each call, by the call and its reply.
-use Rattle.pagable_laws.proofs.Words.{◌≡◌, ℕ, Bool, true, false, List, refl, Option, Some, Result, Ok, Err, Adds, Error, Kind, Blob, HandleNumber, LoadNumber, NodeNumber, Owner, HandleRow, Mode, Want}
-use Rattle.pagable_laws.proofs.Words.{Pinning, Beginning, OptionalDataKey, Core, of_cell, type_at, key_at, Alike, with_handle, moved, CloneCall, PinCall, Asked, StoreCall, without_load, BeginCall}
-use Rattle.pagable_laws.proofs.Words.{BeginKeyCall, Given, arith, nat_tests, AskCall, GetsKnown, LoadCloses, nothing_felt, BeginsWell, [], inl, inr, None, ◌⊎◌, ArcRef, Call, Reply, Event, find_row}
-use Rattle.pagable_laws.proofs.Words.{owner_value, Seen, Values, only_handle, next_node, is_named_by, BirthCall, UnpinCall, ReleaseCall, SetKeyCall, ScheduleCall, TakeCall, RecallCall, OfferCall}
-use Rattle.pagable_laws.proofs.Words.{AdoptCall, LazyCall, EndCall, Installs, HandOverCall, DropCall, first_key, CallBrings, IsNewNode, KeepsOpen, LeavesCache, Change, sets_key, knows_node}
-use Rattle.pagable_laws.proofs.Words.{bears_node, bears_known, CallFeels, feels-nothing, feels-birth, feels-away, feels-key, feels-known, feels-adopted, feels-lazy, feels-end, StaysAway, with_known}
-use Rattle.pagable_laws.proofs.{Words.{usable, adopted, AreGood, FallsAnyhow, of_key, is_owned_in, is_in, numbers_of, subst, sym, ap, ◌∙◌}, Goes.{Goes, NotLoads, a-handle}}
-use Rattle.pagable_laws.proofs.{Goes.{quiet-goes, goes-then, begun, found-changed, KnowsNext}, Effects.{Effect, IsMine, none, handle, turned, moves, cached, cached-if, opens, shuts, like, fell}}
-use Rattle.pagable_laws.proofs.Effects.{own-mode, node, with-key, beside, forgets, stays, own-handle, own-named, load-named, none-named, load-owns, but, no-one, entry, handed, owned-mine}
-use Rattle.{pagable_laws.proofs.{Effects.{unfaulty-mine, both-none}, Sums.same-number, Trees.same_some, GoodReferences.{good, alike-away, fell-away}}, pagable_world.specs.Events.Does}
-use Rattle.pagable_world.specs.LoadCalls.{MayEnd}
-use Rattle.std.proofs.Common.{rules}
+use Rattle.pagable_laws.proofs.Words.{◌≡◌, ℕ, Bool, true, false, List, refl, Option, Some, Result, Ok, Err, Error, Kind, Blob, HandleNumber, LoadNumber, NodeNumber, Owner, HandleRow, Mode, Want}
+use Rattle.pagable_laws.proofs.Words.{Pinning, Beginning, OptionalDataKey, Core, of_cell, Alike, with_handle, moved, CloneCall, PinCall, Asked, StoreCall, without_load, BeginCall, BeginKeyCall, Given}
+use Rattle.pagable_laws.proofs.Words.{arith, nat_tests, AskCall, GetsKnown, LoadCloses, nothing_felt, [], inl, inr, None, ◌⊎◌, ArcRef, Call, Reply, Event, find_row, owner_value, Seen, Values}
+use Rattle.pagable_laws.proofs.Words.{only_handle, next_node, is_named_by, BirthCall, UnpinCall, ReleaseCall, SetKeyCall, ScheduleCall, TakeCall, RecallCall, OfferCall, AdoptCall, LazyCall, EndCall}
+use Rattle.pagable_laws.proofs.Words.{Installs, HandOverCall, DropCall, first_key, CallBrings, IsNewNode, KeepsOpen, LeavesCache, Change, sets_key, knows_node, bears_node, bears_known, CallFeels}
+use Rattle.pagable_laws.proofs.Words.{feels-nothing, feels-birth, feels-away, feels-key, feels-known, feels-adopted, feels-lazy, feels-end, StaysAway, with_known, usable, adopted, AreGood}
+use Rattle.pagable_laws.proofs.{Words.{FallsAnyhow, of_key, is_owned_in, is_in, numbers_of, subst, sym, ap, ◌∙◌}, Goes.{NotLoads, a-handle, quiet-goes, goes-then, begun, found-changed, KnowsNext}}
+use Rattle.pagable_laws.proofs.{Goes.Goes, Effects.{Effect, IsMine, none, handle, turned, moves, cached, cached-if, opens, shuts, like, fell, own-mode, node, with-key, beside, forgets, stays}}
+use Rattle.pagable_laws.proofs.{Effects.{own-handle, own-named, load-named, none-named, load-owns, but, no-one, entry, handed, owned-mine, both-none}, Sums.same-number, Trees.same_some}
+use Rattle.{pagable_laws.proofs.GoodReferences.{good, alike-away, fell-away}, pagable_world.specs.{Events.Does, LoadCalls.MayEnd}, std.proofs.Common.rules}
 
 -- ---- each call, and what loads do, by whoever asks
-
-stored-still : {key : ℕ} {blob : Blob} {old new : ℕ → Option Blob} → Adds key blob old new → (q : ℕ) (b : Blob) → old q ≡ Some b → new q ≡ Some b
-stored-still adds q b is = grind (arith, same-number)
-
-begun-well : (w : Core) (me : Owner) (node : NodeNumber) (t : ℕ) (h : HandleNumber) (key : ℕ) → type_at w node.0 ≡ Some t → key_at w node.0 ≡ OptionalDataKey.Some key
-    → BeginsWell w (record { owner = me; key = key; root = of_cell node t h })
-begun-well w me node t h key typed own a u k root = grind (arith, nat_tests)
 
 module _ {me : Owner} {lists : Bool} {Asks Leaves : Type 0} {c : Change} where
   -- nothing changes: what search knows of any asker, it applies here of this one
@@ -38,7 +29,7 @@ module _ {me : Owner} {lists : Bool} {Asks Leaves : Type 0} {c : Change} where
 
   pub stores : {digest : Blob → ℕ} {w w' : Core} {blob : Blob} → (r : Result ℕ Error) → StoreCall digest w blob r w' → Effect me lists Asks Leaves false c w w'
   stores {w = w} {w'} (Ok key) x =
-      let s = x.stores.1 in like (beside w w'.stored w'.failures (stored-still s.adds) (λ is. absurd (let a = is.0 in let b = s.stands_open in cc))) s.leaves
+      let s = x.stores.1 in like (beside w w'.stored w'.failures (λ q b is. let adds = s.adds in grind (arith, same-number)) (λ is. absurd (let a = is.0 in let b = s.stands_open in cc))) s.leaves
   stores (Err e) x = was-asked x.refused.0
 
   pub clones : {w w' : Core} {h : HandleNumber} (r : Result HandleNumber Error) → CloneCall w me h r w' → Effect me lists Asks Leaves false c w w'
@@ -90,7 +81,8 @@ module _ {me : Owner} {lists : Bool} {Asks Leaves : Type 0} {c : Change} where
     pub hands-over : {w w' : Core} (l : LoadNumber) (hs : List HandleNumber) (r : Result (Unit {0}) Error) → HandOverCall w me l hs r w' → Effect me lists Asks Leaves false c w w'
     hands-over {w = w} l hs (Ok u) x =
         let named = both-none _ _ x.hands.0 in
-        fell (moves (shuts (none w) l (λ own. unfaulty-mine w me l named.0)) (is_in (numbers_of hs)) me w.list free (handed w l hs (both-none _ _ named.1).1)) x.hands.1.falls
+        let mine : IsMine w me l = λ load is. let may = named.0 in grind (arith, nat_tests) in
+        fell (moves (shuts (none w) l (λ own. mine)) (is_in (numbers_of hs)) me w.list free (handed w l hs (both-none _ _ named.1).1)) x.hands.1.falls
         (but (is_owned_in w (Owner.Load l)) (is_in (numbers_of hs)) (load-owns w l))
     hands-over l hs (Err e) x = stays x.refused.1
 
@@ -135,7 +127,7 @@ module _ {me : Owner} {lists : Bool} {Asks Leaves : Type 0} where
       let made = with_handle w row.node Mode.LooseUnpinned (Owner.Load l) in
       like (opens (handle (none w) row.node Mode.LooseUnpinned (Owner.Load l)) key (of_cell row.node a.4.0 h)
       (goes-then (quiet-goes nothing_felt (a-handle w row.node Mode.LooseUnpinned (Owner.Load l)))
-      (begun nothing_felt made key (of_cell row.node a.4.0 h) me (begun-well made me row.node a.4.0 h key a.4.1 a.1)))) a.4.2
+      (begun nothing_felt made key (of_cell row.node a.4.0 h) me (λ node t k root. let typed = a.4.1 in let own = a.1 in grind (arith, nat_tests))))) a.4.2
   begins x0 x = grind (arith, nat_tests, unfelt)
 
   pub begins-key : {w w' : Core} {key : ℕ} (r : Result Beginning Error) → BeginKeyCall w me key r w' → Effect me lists Asks Leaves false nothing_felt w w'
@@ -150,9 +142,6 @@ module _ {me : Owner} {lists : Bool} {Asks Leaves : Type 0} where
 -- of a load that begins, what trees feel alone
 pub begin-goes : {w w' : Core} {me : Owner} {h : HandleNumber} (r : Result Beginning Error) → BeginCall w me h r w' → Goes nothing_felt w w'
 begin-goes r x = (begins {lists = false} {Asks = Unit {0}} {Leaves = Unit {0}} r x).goes
-
-pub key-goes : {w w' : Core} {me : Owner} {key : ℕ} (r : Result Beginning Error) → BeginKeyCall w me key r w' → Goes nothing_felt w w'
-key-goes r x = (begins-key {lists = false} {Asks = Unit {0}} {Leaves = Unit {0}} r x).goes
 
 -- ---- what trees feel of each call that doesn't close the storage, by the call and its reply
 

@@ -1,14 +1,14 @@
 -- What each event does to workers and tables: it touches one worker, and claims of its own.
 use Rattle.pagable_laws.proofs.Words.{◌≡◌, ℕ, inl, inr, true, List, [], ◌∷◌, refl, ap, sym, subst, ◌∙◌, Ok, Option, Some, None, ArcRef, Identity, WorkerAnswer, Claim, Took, identity_of, no_result}
 use Rattle.pagable_laws.proofs.Words.{answer_of_fault, Todo, to_start, to_write, to_item, to_publish, to_release, to_fail, arith, Task, Seen, Site, Does, give, give_known, with_wait, answer_after}
-use Rattle.pagable_laws.proofs.Words.{IsPublished, ◌+◌, ◌<◌, ◌≤◌, ◌==◌, Bool, false, nat_eq, if◌then◌else◌, nat_tests, WorkerNumber, updated, Call, Reply, Event, EventReply, TableNumber, WorkerReply}
-use Rattle.pagable_laws.proofs.Words.{Owner, Core, Alike, Shelf, Slot, Walking, World, CallStep, Happens, Stays, WorkStays, WorkIs, Starts, no_shelf, new_walking, WorkerSteps, MachineState, world_of}
-use Rattle.pagable_laws.proofs.Words.{IsIdle, step_of, ◌*◌, ◌-◌, ◌++◌, Err, drop, length, max, length-drop, sum_by-cons, sum_by-append, one, times, above, Open, to_pin, to_load, to_finish, to_set}
-use Rattle.pagable_laws.proofs.Words.{Written, next_start, first_todo, is_counted, Follows, is_claim, references_written, own_references, Error, Among, MetError, FailedElsewhere, IsMetFailure}
-use Rattle.pagable_laws.proofs.{Words.{steps_after, Leads}, Standing.{same-worker, puts-slot, SlotChanges, ShelfGrows, some-none, some-same, grows, same-slots, meets-grow, CoversBy, Goes, plain}}
-use Rattle.pagable_laws.proofs.Standing.{fails, swaps, gives, given-open, all-stay, SameSlots, Turned, work-stands, is-quiet, is-started, is-stepped, is_open_in, AllStand, Covers, HasNoFailed}
-use Rattle.pagable_laws.proofs.{Standing.{WorkStands, claimed, written-goes, published-goes, failed-goes, is_failed, WaitsWell, follows-waits}, Called.calls-go, ReadingSteps.caller-free}
-use Rattle.{pagable_laws.proofs.{ReadingSteps.{reading-feels, walk-goes}, Joining.steps_follow, Decoding.{among-left, among-right}, Goes.le-of}, std.proofs.Common.{length-append, append-nil, rules}}
+use Rattle.pagable_laws.proofs.Words.{IsPublished, ◌+◌, ◌<◌, ◌≤◌, ◌==◌, Bool, false, nat_eq, if◌then◌else◌, nat_tests, WorkerNumber, updated, Call, Event, EventReply, TableNumber, WorkerReply, Owner}
+use Rattle.pagable_laws.proofs.Words.{Core, Alike, Shelf, Slot, Walking, World, Happens, Stays, WorkStays, WorkIs, Starts, no_shelf, new_walking, WorkerSteps, MachineState, world_of, IsIdle, step_of}
+use Rattle.pagable_laws.proofs.Words.{◌*◌, ◌-◌, ◌++◌, drop, length, max, length-drop, sum_by-cons, sum_by-append, one, times, above, Open, to_pin, to_load, to_finish, to_set, Written, next_start}
+use Rattle.pagable_laws.proofs.Words.{first_todo, is_counted, Follows, is_claim, references_written, own_references, Error, Among, MetError, FailedElsewhere, IsMetFailure, steps_after, Leads, Err}
+use Rattle.pagable_laws.proofs.{Words.{Reply, CallStep}, Standing.{same-worker, puts-slot, SlotChanges, ShelfGrows, some-none, some-same, grows, same-slots, meets-grow, CoversBy, Goes, plain, fails}}
+use Rattle.pagable_laws.proofs.Standing.{swaps, gives, given-open, all-stay, SameSlots, Turned, work-stands, is-quiet, is-started, is-stepped, is_open_in, AllStand, Covers, HasNoFailed, WorkStands}
+use Rattle.pagable_laws.proofs.{Standing.{claimed, written-goes, published-goes, failed-goes, is_failed, WaitsWell, follows-waits}, Called.calls-go, ReadingSteps.{caller-free, reading-feels}}
+use Rattle.{pagable_laws.proofs.{ReadingSteps.walk-goes, Joining.steps_follow, Decoding.{among-left, among-right}, Goes.le-of}, std.proofs.Common.{length-append, append-nil, rules}}
 use Rattle.std.{proofs.lemmas.Bool.{false_from_ne_true, cases_Bool}, specs.List.sum_by}
 use Rattle.pagable_laws.proofs.Called as calling
 
@@ -193,7 +193,8 @@ module _ {N B W : Type 0} (m : Seen N B W) (u u' : World) (work : StandsIn u) wh
   pub event-turns : KnowsTables u → (event : Event N B W) (reply : EventReply N B W) → Happens m u event reply u' → EventTurns m u event reply u'
   event-turns tables (Event.Call call) (EventReply.CallReply r) h = by-work _ _ (λ n. refl) (call-last call r h.step) h.work
   event-turns tables (Event.LoadStart q) (EventReply.Started r) h = by-work _ _ (λ n. refl) (calling.begin-goes r h.step).workers_last h.work
-  event-turns tables (Event.LoadKey key t) (EventReply.Started r) h = by-work _ _ (λ n. refl) (calling.key-goes r h.step).workers_last h.work
+  event-turns tables (Event.LoadKey key t) (EventReply.Started r) h =
+      by-work _ _ (λ n. refl) (calling.begins-key {lists = false} {Asks = Unit {0}} {Leaves = Unit {0}} r h.step).goes.workers_last h.work
   event-turns tables (Event.LoadStep l) (EventReply.LoadMoved (Ok r)) h = let x = h.moves in
       by-work _ _ (λ n. refl) (reading-feels m u.core Owner.Caller caller-free u'.core x.reading r.ended x.frames x.does).does.goes.workers_last x.work
   event-turns tables Event.TableNew (EventReply.TableMade (Ok t)) h = tabled _ _ (λ n. refl) tables t h.made.0 h.made.1 h.made.3

@@ -2,14 +2,14 @@
 -- its bare keys, and each of these reads as the tree of the node that was got for it.
 use Rattle.pagable_laws.proofs.Words.{nat_tests, ◌≡◌, ℕ, zero, suc, ◌+◌, ◌≤◌, ◌==◌, ◌&&◌, Bool, true, List, [], ◌∷◌, ◌++◌, Option, Some, None, Result, Ok, Err, ◌⊎◌, inl, inr, refl, sym, ap, ◌∙◌}
 use Rattle.pagable_laws.proofs.Words.{subst, arith, sum_by, slice_get, length, and_parts, Error, number, integer, text, pattern, none, pair, variant, reference, followed, references_in}
-use Rattle.pagable_laws.proofs.Words.{SameReferences, Rest, read_typed, Answer, answer_at, handles_at, KeyRef, key_ref, ReadsAs, blob_context, rest_of, IsFollowed, number-followed}
-use Rattle.pagable_laws.proofs.Words.{integer-followed, text-followed, pattern-followed, none-followed, pair-followed, variant-followed, reference-followed, ArcRef, Kind, Blob, Shape, Types, Tree}
-use Rattle.pagable_laws.proofs.Words.{ReadsTree, tree, type_of, Meaning, Among, one, Frame, Values, IsLawful, answer_of, answers_from, reads, asks, next_by, next_in, IsDecoded, PagerState}
-use Rattle.pagable_laws.proofs.Words.{NodeStands, ValueStands, MeaningStands, number-stands, integer-stands, text-stands, pattern-stands, none-stands, pair-stands, variant-stands, followed-stands}
-use Rattle.pagable_laws.proofs.Words.{reference-stands, ReadsNodeTree, FrameFits, ReadsItsTypes, LeadsTo, number-leads, integer-leads, text-leads, pattern-leads, none-leads, pair-leads}
-use Rattle.pagable_laws.proofs.{Words.{variant-leads, followed-leads, reference-leads, Decoded}, Along.{Along, number-along, integer-along, text-along, pattern-along, none-along, pair-along}}
-use Rattle.pagable_laws.proofs.{Along.{variant-along, reference-along, followed-along, AllTwo, no-two, more-two, refs-two, each-two}, Related.{Out, both-given, both-refused, OutLook}}
-use Rattle.pagable_laws.proofs.{Related.{both-looked-up, any_cause, first-not, read_par}, Trees.{tree_is, one_tree}, Sums.{same-number, self-number, at-most-sum, counted}}
+use Rattle.pagable_laws.proofs.Words.{SameReferences, Rest, read_typed, Answer, answer_at, handles_at, KeyRef, key_ref, ReadsAs, blob_context, rest_of, IsFollowed, number-followed, integer-followed}
+use Rattle.pagable_laws.proofs.Words.{text-followed, pattern-followed, none-followed, pair-followed, variant-followed, reference-followed, ArcRef, Kind, Blob, Shape, Types, Tree, ReadsTree, tree}
+use Rattle.pagable_laws.proofs.Words.{type_of, Meaning, Among, one, Frame, Values, IsLawful, answer_of, answers_from, reads, asks, next_by, next_in, IsDecoded, PagerState, NodeStands, ValueStands}
+use Rattle.pagable_laws.proofs.Words.{MeaningStands, number-stands, integer-stands, text-stands, pattern-stands, none-stands, pair-stands, variant-stands, followed-stands, reference-stands}
+use Rattle.pagable_laws.proofs.Words.{ReadsNodeTree, FrameFits, ReadsItsTypes, LeadsTo, number-leads, integer-leads, text-leads, pattern-leads, none-leads, pair-leads, variant-leads, followed-leads}
+use Rattle.pagable_laws.proofs.{Words.{reference-leads, Decoded}, Along.{Along, number-along, integer-along, text-along, pattern-along, none-along, pair-along, variant-along, reference-along}}
+use Rattle.pagable_laws.proofs.{Along.{followed-along, AllTwo, no-two, more-two, refs-two, each-two}, Related.{Out, both-given, both-refused, OutLook, both-looked-up, any_cause, first-not, read_par}}
+use Rattle.pagable_laws.proofs.{Trees.{tree_is, one_tree}, Sums.{same-number, self-number, at-most-sum, counted}}
 
 -- ---- what is read or asked
 
@@ -34,11 +34,7 @@ abbrev AnswersFor : (types : Types) (stored : ℕ → Option Blob) (trees : ℕ 
 AnswersFor types stored trees got answer key = (kind : ℕ) → OutLook any_cause (Found types stored trees got) (answer kind) (Ok (key_ref kind key))
 
 pub among-either : {X : Type 0} (xs ys : List X) (i : ℕ) (r : X) → slice_get (xs ++ ys) i ≡ Some r → Among xs r ⊎ Among ys r
-among-either {X} (x ∷ xs) ys (suc i) r is = later (among-either xs ys i r is)
-  where
-    later : Among xs r ⊎ Among ys r → Among (x ∷ xs) r ⊎ Among ys r
-    later (inl a) = inl (suc a.0, a.1)
-    later (inr b) = inr b
+among-either (x ∷ xs) ys (suc i) r is = elim (among-either xs ys i r is) [ inl a ↦ inl (suc a.0, a.1) | inr b ↦ inr b ]
 among-either x0 ys x2 r is = grind (arith, nat_tests)
 
 module _ {types : Types} {stored : ℕ → Option Blob} {trees : ℕ → Tree} {got : List ArcRef} where
@@ -89,14 +85,11 @@ module _ {types : Types} {stored : ℕ → Option Blob} {trees : ℕ → Tree} {
 is_ref : ArcRef → ArcRef → Bool
 is_ref r q = (q.kind.0 == r.kind.0) && ((q.node.0 == r.node.0) && (q.handle.0 == r.handle.0))
 
-is-itself : (r : ArcRef) → is_ref r r ≡ true
-unfolding is_ref
-is-itself r = rw (self-number r.kind.0, self-number r.node.0, self-number r.handle.0) refl
-
 pub meant-refs : (rs ss : List ArcRef) → SameReferences rs ss → (r : ArcRef) → Among rs r → Among ss r
 unfolding is_ref
 meant-refs rs ss same r among =
-    let one_here : 1 ≤ sum_by (λ q. one (is_ref r q)) rs = let a = at-most-sum (λ q. one (is_ref r q)) rs r among in let b = is-itself r in rw b at a in
+    let itself : is_ref r r ≡ true = rw (self-number r.kind.0, self-number r.node.0, self-number r.handle.0) refl in
+    let one_here : 1 ≤ sum_by (λ q. one (is_ref r q)) rs = let a = at-most-sum (λ q. one (is_ref r q)) rs r among in rw itself at a in
     let found = counted (λ q. one (is_ref r q)) ss (omega (arith, one_here, same (is_ref r))) in
     subst (Among ss) (grind (arith, and_parts, same-number)) found.1
 

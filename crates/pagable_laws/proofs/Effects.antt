@@ -2,14 +2,14 @@
 -- kind asks. The parts of which each call is made.
 use Rattle.pagable_laws.proofs.Words.{◌≡◌, ℕ, ◌<◌, ◌≤◌, ◌==◌, ◌&&◌, Bool, true, List, ◌++◌, Option, Some, None, inl, inr, refl, ap, subst, ◌∙◌, if◌then◌else◌, arith, Result, not, nat_lt, is_some}
 use Rattle.pagable_laws.proofs.Words.{and_parts, nat_tests, OptionalDataKey, HandleRow, Error, Among, updated, if_there, one, is_pinned_kind, is_pinning, is_pin, is_at, is_in_memory, pins, held, Core}
-use Rattle.pagable_laws.proofs.Words.{Cell, Alike, usable, Falls, left_rows, fallen, suc, zero, ◌||◌, false, [], ◌∷◌, sym, slice_get, Owner, Mode, ArcRef, HandleNumber, LoadNumber, NodeNumber}
-use Rattle.pagable_laws.proofs.Words.{changed, find_row, is_handle, is_owner, is_owned_by, owner_worker, nobody, only_handle, Owns, with_handle, with_mode, moved, is_named_by, is_owned_in}
-use Rattle.pagable_laws.proofs.Words.{OwnersAreThere, AreGood, Blob, Kind, is_in, named_fault, numbers_of, owner_value, refused_if, row_at, with_cached, with_node, without_load, ◌+◌, row_of}
-use Rattle.pagable_laws.proofs.Words.{is_load_of, is_workers, is_workers_at, OpenLoad, load_fault, earlier, Change, nothing_felt, sets_key, Knows, Bears, Root, with_load, with_key, is_loose}
-use Rattle.pagable_laws.proofs.{Sums.{same-number, self-number, at-most-sum, counted, one-true}, Decoding.among-either, Trees.same_some, GoodReferences.same-owner, Outlasting.{among-kept, NotValues}}
-use Rattle.pagable_laws.proofs.{Outlasting.{Stands, stands-alike, stands-changed, stands-fell, stands-more}, Goes.{found-number, le-more, none-in-next, Goes, Quiet, IsShut, NotLoads, rows-self}}
-use Rattle.pagable_laws.proofs.Goes.{rows-mode, rows-moved, alike, parts, quiet-self, only-rows, a-handle, quiet-goes, goes-quiet, born, keyed, goes-then, goes-known, le-self, fell as quiet-fell}
-use Rattle.{pagable_world.specs.Refusals.OwnsLoad, std.proofs.{Common.rules, lemmas.Bool.false_from_ne_true}}
+use Rattle.pagable_laws.proofs.Words.{Cell, Alike, usable, Falls, left_rows, fallen, suc, zero, false, [], ◌∷◌, sym, slice_get, Owner, Mode, ArcRef, HandleNumber, LoadNumber, NodeNumber, changed}
+use Rattle.pagable_laws.proofs.Words.{find_row, is_handle, is_owner, is_owned_by, owner_worker, nobody, only_handle, Owns, with_handle, with_mode, moved, is_named_by, is_owned_in, OwnersAreThere}
+use Rattle.pagable_laws.proofs.Words.{AreGood, Blob, Kind, is_in, named_fault, numbers_of, owner_value, with_cached, with_node, without_load, ◌+◌, row_of, is_load_of, is_workers, is_workers_at}
+use Rattle.pagable_laws.proofs.{Words.{OpenLoad, earlier, Change, nothing_felt, sets_key, Knows, Bears, Root, with_load, with_key, is_loose, ◌||◌, refused_if, row_at}, Sums.{same-number, self-number}}
+use Rattle.pagable_laws.proofs.{Sums.{at-most-sum, counted, one-true}, Decoding.among-either, Trees.same_some, GoodReferences.same-owner, Outlasting.{among-kept, NotValues, Stands, stands-alike}}
+use Rattle.pagable_laws.proofs.{Outlasting.{stands-changed, stands-fell, stands-more, Has}, Goes.{found-number, le-more, none-in-next, Goes, Quiet, IsShut, NotLoads, rows-self, rows-mode, rows-moved}}
+use Rattle.pagable_laws.proofs.Goes.{alike, parts, quiet-self, only-rows, a-handle, quiet-goes, goes-quiet, born, keyed, goes-then, goes-known, le-self, fell as quiet-fell}
+use Rattle.{pagable_world.specs.Refusals.OwnsLoad, std.proofs.{Common.rules, lemmas.Bool.{false_from_ne_true, cases_Bool}}}
 
 module _ (kind key n : ℕ) where
   -- the cache has the node under kind and key, and it is there
@@ -117,12 +117,10 @@ list-apart = record { no_value = λ n is. absurd (cc); no_load = λ l. refl }
 pub named-among : (rs : List ArcRef) (q : ℕ) → is_named_by rs q ≡ true → (r : ArcRef) × Among rs r × (r.handle.0 ≡ q)
 unfolding is_named_by
 named-among [] q is = absurd (cc)
-named-among (r ∷ rs) q is = by (λ e. named-among rs q e) (r.handle.0 == q) refl is
-  where
-    by : (is_named_by rs q ≡ true → (x : ArcRef) × Among rs x × (x.handle.0 ≡ q)) → (b : Bool) → (r.handle.0 == q) ≡ b → (b || is_named_by rs q) ≡ true
-        → (x : ArcRef) × Among (r ∷ rs) x × (x.handle.0 ≡ q)
-    by rest true e is = let same : r.handle.0 ≡ q = grind (arith, nat_tests) in (r, (zero, refl), same)
-    by rest false e is = let a = rest is in (a.0, (suc a.1.0, a.1.1), a.2)
+named-among (r ∷ rs) q is = elim (cases_Bool (r.handle.0 == q)) [
+  | inl e ↦ (r, (zero, refl), same-number _ _ e)
+  | inr e ↦ let a = named-among rs q (rw e at is) in (a.0, (suc a.1.0, a.1.1), a.2)
+]
 
 pub with-one : (w : Core) {q : ℕ} {row : HandleRow} (node : NodeNumber) (mode : Mode) (owner : Owner) → Stands w.last.handle w.rows q row
     → Stands (with_handle w node mode owner).last.handle (with_handle w node mode owner).rows q row
@@ -131,6 +129,20 @@ with-one w {q} {row} node mode owner s =
 
 pub both-none : (a b : Option Error) → earlier a b ≡ None → (a ≡ None) × (b ≡ None)
 both-none x0 x1 is = grind (arith, nat_tests)
+
+-- where nothing is said against handles that are named, each is live and the owner's
+module _ (w : Core) (owner : Owner) where
+  named-one : (seen : List ℕ) (h : HandleNumber)
+      → if_there (λ (row : HandleRow). refused_if (not (is_owner owner row.owner) || is_in seen h.0) Error.NotYours) (Some Error.NoSuchHandle) (row_at w h) ≡ None → Has w owner h
+  named-one seen h none = grind (arith, nat_tests)
+
+  pub named : (seen : List ℕ) (hs : List HandleNumber) → named_fault w owner seen hs ≡ None → (h : HandleNumber) → is_in (numbers_of hs) h.0 ≡ true → Has w owner h
+  unfolding named_fault is_in
+  named seen [] none h is = absurd (cc)
+  named seen (x ∷ hs) none h is = elim (cases_Bool (x.0 == h.0)) [
+    | inl e ↦ subst (λ z. Has w owner z) (ap (λ n. let k : HandleNumber = record { 0 = n } in k) (same-number _ _ e)) (named-one seen x (both-none _ _ none).0)
+    | inr e ↦ named (x.0 ∷ seen) hs (both-none _ _ none).1 h (rw e at is)
+  ]
 
 module _ (mine : Owner) where
   -- each handle of the owner's that stands before stands afterwards
@@ -144,18 +156,12 @@ module _ (mine : Owner) where
   pub spares-then : {w m w' : Core} → Spares w m → Spares m w' → Spares w w'
   spares-then a b = record { each = λ q row own s. b.each q row own (a.each q row own s) }
 
-  pub spares-alike : {w w' : Core} → Alike w w' → Spares w w'
-  spares-alike a = record { each = λ q row own s. stands-alike a s }
-
   -- with the same rows, the second core stays alike
   pub then-alike : {w m w' : Core} → Alike m w' → Spares w m → Spares w w'
-  then-alike a b = spares-then b (spares-alike a)
+  then-alike a b = spares-then b (record { each = λ q row own s. stands-alike a s })
 
   pub then-fell : IsApart mine → {before w m w' : Core} {given : ℕ → Bool} {r : _} → Falls before m given r w' → Spares w m → Free w given → Spares w w'
   then-fell apart f a free = record { each = λ q row own s. stands-fell f (λ n is. apart.no_value n (sym own ∙ is)) (free.each q row own s) (a.each q row own s) }
-
-  pub itself : {w : Core} → Spares w w
-  itself = record { each = λ q row own s. s }
 
   pub spares-handle : (w : Core) (node : NodeNumber) (mode : Mode) (owner : Owner) → Spares w (with_handle w node mode owner)
   spares-handle w node mode owner = record { each = λ q row own s. with-one w node mode owner s }
@@ -170,10 +176,6 @@ module _ (mine : Owner) where
   -- handles of a set move that aren't the owner's
   pub moved-free : {last : ℕ} {rows : List HandleRow} {q : ℕ} {row : HandleRow} (set : ℕ → Bool) (owner : Owner) → set q ≡ false → Stands last rows q row → Stands last (moved set owner rows) q row
   moved-free set owner free s = unchanged (λ h. set h.number.0) (λ h. record h { owner = owner }) (λ h. refl) (ap set (row-number s) ∙ free) s
-
-  pub mode-free : {last : ℕ} {rows : List HandleRow} {q : ℕ} {row : HandleRow} (h : HandleNumber) (mode : Mode) → only_handle h q ≡ false → Stands last rows q row
-      → Stands last (changed (is_handle h.0) (λ x. record x { mode = mode }) rows) q row
-  mode-free h mode free s = unchanged (is_handle h.0) (λ x. record x { mode = mode }) (λ x. refl) (ap (λ n. n == h.0) (row-number s) ∙ free) s
 
   -- two rows of one number
   same-row : {last : ℕ} {rows : List HandleRow} {q n : ℕ} {row : HandleRow} (r : HandleRow) → Stands last rows q row → find_row n rows ≡ Some r → q ≡ n → row.owner ≡ r.owner
@@ -198,30 +200,14 @@ module _ (mine : Owner) where
     each = λ q row own s. false_from_ne_true (q == h.0) (λ e.
         let same : h.0 ≡ q = sym (same-number q h.0 e) in
         let here : one (h.0 == q) ≡ 1 = ap (λ n. one (n == q)) same ∙ ap one (self-number q) in
-        let owned = counted (λ (x : HandleRow). one (is_handle q x && is_owned_by Owner.List x)) w.rows
-        (above _ _ _ here (at-most-sum (λ (x : HandleNumber). one (x.0 == q)) w.list h (i, at)) (there.listed q)) in
+        let most = at-most-sum (λ (x : HandleNumber). one (x.0 == q)) w.list h (i, at) in
+        let as_many = there.listed q in
+        let owned = counted (λ (x : HandleRow). one (is_handle q x && is_owned_by Owner.List x)) w.rows (omega (arith, here, most, as_many)) in
         let both = and_parts (is_handle q owned.0) (is_owned_by Owner.List owned.0) (one-true _ owned.2) in
         let it = s.only owned.0 owned.1 (same-number _ _ both.0) in
         let f : is_owner Owner.List mine ≡ true = sym (ap (λ (x : HandleRow). is_owner Owner.List x.owner) it ∙ ap (is_owner Owner.List) own) ∙ both.1 in
         cc);
   }
-    where
-      above : (a b c : ℕ) → a ≡ 1 → a ≤ b → b ≡ c → 0 < c
-      above a b c e le same = omega arith
-
-  -- handles that a load hands over aren't the owner's
-  pub handed-free : IsApart mine → (w : Core) (l : LoadNumber) (hs : List HandleNumber) (seen : List ℕ) → named_fault w (Owner.Load l) seen hs ≡ None → (q : ℕ) (row : HandleRow) → row.owner ≡ mine
-      → Stands w.last.handle w.rows q row → is_in (numbers_of hs) q ≡ false
-  unfolding named_fault is_in
-  handed-free apart w l [] seen none q row own s = refl
-  handed-free apart w l (h ∷ hs) seen none q row own s = by (λ rest. handed-free apart w l hs (h.0 ∷ seen) rest q row own s) (h.0 == q) refl (both-none _ _ none)
-    where
-      by : (named_fault w (Owner.Load l) (h.0 ∷ seen) hs ≡ None → is_in (numbers_of hs) q ≡ false) → (b : Bool) → (h.0 == q) ≡ b
-          → (if_there (λ (x : HandleRow). refused_if (not (is_owner (Owner.Load l) x.owner) || is_in seen h.0) Error.NotYours) (Some Error.NoSuchHandle) (row_at w h) ≡ None)
-          × (named_fault w (Owner.Load l) (h.0 ∷ seen) hs ≡ None)
-          → (b || is_in (numbers_of hs) q) ≡ false
-      by more false e (first, rest) = more rest
-      by more true e (first, rest) = grind (arith, nat_tests, same-number, apart)
 
 -- ---- what a step does
 
@@ -241,9 +227,6 @@ own-self x0 = grind (arith, nat_tests, self-number)
 pub owned-mine : {w : Core} {me : Owner} {l : LoadNumber} {load : OpenLoad} → OwnsLoad w me l load → IsMine w me l
 owned-mine {me = me} o load is = ap (is_owner me) (ap (λ (x : OpenLoad). x.owner) (same_some _ _ (sym is ∙ o.stands_open)) ∙ o.own) ∙ own-self me
 
-pub unfaulty-mine : (w : Core) (me : Owner) (l : LoadNumber) → load_fault w me l ≡ None → IsMine w me l
-unfaulty-mine w me l none load is = grind (arith, nat_tests)
-
 -- What a step of the asker's does: up to what falls then, or to its end. It is felt as this change; each handle stays that isn't the asker's; where the cache is left to
 -- itself it goes on to give what it gave, as long as the node is held; the same work, and loads that aren't the asker's stay, where what it asks is so.
 pub record Effect (me : Owner) (lists : Bool) (Asks Leaves : Type 0) (direct : Bool) (c : Change) (w w' : Core) : Type 0 where
@@ -252,10 +235,6 @@ pub record Effect (me : Owner) (lists : Bool) (Asks Leaves : Type 0) (direct : B
   pub lasts : Leaves → (kind key n : ℕ) → IsEntered kind key n w.cache w.cells → IsHeldFor kind key n w.rows → (direct ≡ false → IsHeldFor kind key n w'.rows) → IsEntered kind key n w'.cache w'.cells
   pub workers : (v : ℕ) → w'.workers v ≡ w.workers v
   pub others : Asks → (l : ℕ) (load : OpenLoad) → w.loads l ≡ Some load → l ≤ w.last.load → is_owner me load.owner ≡ false → w'.loads l ≡ Some load
-
--- the load isn't there any more
-closed-load : (w : Core) (l : LoadNumber) → Quiet w (without_load w l)
-closed-load w l = grind (arith, parts, le-self, rows-self)
 
 -- whoever else is concerned has no handle of these numbers
 abbrev pub Ours : Owner → Bool → Core → (ℕ → Bool) → Type 0
@@ -306,13 +285,18 @@ module _ {me : Owner} {lists : Bool} where
 
   -- handles that a load hands over
   pub handed : (w : Core) (l : LoadNumber) (hs : List HandleNumber) → named_fault w (Owner.Load l) [] hs ≡ None → Ours me lists w (is_in (numbers_of hs))
-  handed w l hs none mine o = record { each = handed-free mine o.apart w l hs [] none }
+  handed w l hs none mine o = record {
+    each = λ q row own s. false_from_ne_true (is_in (numbers_of hs) q) (λ e.
+        let has = named w (Owner.Load l) [] hs none (record { 0 = q }) e in not-load l o.apart (sym has.own ∙ sym (same-row mine has.row s has.live refl) ∙ own));
+  }
 
 module _ {me : Owner} {lists : Bool} {Asks Leaves : Type 0} where
   -- ---- what is done directly
 
   pub none : {c : Change} (w : Core) → Effect me lists Asks Leaves true c w w
-  none {c} w = record { goes = quiet-goes c (quiet-self w); spares = λ mine o. itself mine; lasts = λ k kind key n e h still. e; workers = λ v. refl; others = λ own l load is few other. is }
+  none {c} w =
+      record { goes = quiet-goes c (quiet-self w); spares = λ mine o. record { each = λ q row own s. s };
+        lasts = λ k kind key n e h still. e; workers = λ v. refl; others = λ own l load is few other. is }
 
   module _ {c : Change} {w m : Core} (d : Effect me lists Asks Leaves true c w m) where
     -- the entry is there in the middle
@@ -329,7 +313,8 @@ module _ {me : Owner} {lists : Bool} {Asks Leaves : Type 0} where
 
     pub turned : (h : HandleNumber) (mode : Mode) → is_loose mode ≡ true → Ours me lists w (only_handle h) → ((r : HandleRow) → find_row h.0 m.rows ≡ Some r → NotLoads r.owner) → Effect me lists Asks Leaves true c w (with_mode m h mode)
     turned h mode is free safe = rowed (only-rows (rows-mode m.last.handle m.rows h mode is safe) (le-self _))
-        (λ mine o. record { each = λ q row own s. mode-free mine h mode ((free mine o).each q row own s) ((d.spares mine o).each q row own s) })
+        (λ mine o. record { each = λ q row own s. let r = (d.spares mine o).each q row own s in
+        unchanged mine (is_handle h.0) (λ x. record x { mode = mode }) (λ x. refl) (ap (λ n. n == h.0) (row-number mine r) ∙ (free mine o).each q row own s) r })
 
     pub moves : (set : ℕ → Bool) (owner : Owner) (list : List HandleNumber) → NotLoads owner → Ours me lists w set → Effect me lists Asks Leaves true c w (record m { rows = moved set owner m.rows; list = list })
     moves set owner list safe free = rowed (only-rows (rows-moved m.last.handle m.rows set owner safe) (le-self _))
@@ -350,11 +335,7 @@ module _ {me : Owner} {lists : Bool} {Asks Leaves : Type 0} where
     -- the cache learns a node where it gave none
     pub cached : (kind : Kind) (key : ℕ) (n : NodeNumber) → Knows c w kind.0 key n.0 → usable w kind.0 key ≡ None → Effect me lists Asks Leaves true c w (with_cached m kind key n)
     cached kind key n knows unknown = plainly (goes-known d.goes kind key n knows) (λ k k' q p e h.
-        let was = directly k k' q p e h in record { entry = other k' q p e h was.entry (k' == kind.0) (q == key) refl refl; there = was.there }) d.others
-      where
-        other : (k q p : ℕ) → IsEntered k q p w.cache w.cells → IsHeldFor k q p w.rows → m.cache k q ≡ Some p → (a b : Bool) → (k == kind.0) ≡ a → (q == key) ≡ b
-            → (if a && b then Some n.0 else m.cache k q) ≡ Some p
-        other k q p e h was s t x y = grind (arith, nat_tests, same-number, can-use k q p w e h)
+        let was = directly k k' q p e h in record { entry = grind (arith, nat_tests, same-number, can-use k' q p w e h); there = was.there }) d.others
 
     pub cached-if : (b : Bool) (kind : Kind) (key : ℕ) (n : NodeNumber) → Knows c w kind.0 key n.0 → usable w kind.0 key ≡ None → Effect me lists Asks Leaves true c w (if b then m else with_cached m kind key n)
     cached-if x0 kind key n knows unknown = grind (arith, nat_tests, cached)
@@ -364,7 +345,7 @@ module _ {me : Owner} {lists : Bool} {Asks Leaves : Type 0} where
     opens key root goes = plainly goes directly (λ own l load is few other. let more = d.goes.loads_last in let a = d.others own l load is few other in grind (arith, nat_tests))
 
     pub shuts : (l : LoadNumber) → (Asks → IsMine w me l) → Effect me lists Asks Leaves true c w (without_load m l)
-    shuts l mine = plainly (goes-quiet d.goes (closed-load m l)) directly
+    shuts l mine = plainly (goes-quiet d.goes (grind (arith, parts, le-self, rows-self))) directly
         (λ own l load is few other. let a = d.others own l load is few other in let b = mine own in grind (arith, nat_tests, same-number))
 
     -- ---- the end of a step

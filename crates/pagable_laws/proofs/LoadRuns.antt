@@ -2,9 +2,9 @@
 use Rattle.pagable_laws.proofs.Words.{◌≡◌, ℕ, ◌+◌, ◌≤◌, List, [], Option, Some, None, inl, inr, refl, sym, ap, subst, ◌∙◌, arith, nat_tests, Core, Last, Alike, Root, of_cell, of_key, OpenLoad, Frame}
 use Rattle.pagable_laws.proofs.Words.{Reading, Written, Values, Seen, IsLawful, PagerState, WellFormed, Moves, ReadingBrings, Represents, FramesFit, SameTrees, with_handle, reading_of_load}
 use Rattle.pagable_laws.proofs.Words.{ReadIsRight, held, with_load, EndsRead, gone_on, Blob, LoadNumber, Tree, ReadsItsTypes, HoldsSettled, TakesWell, fresh, LoadAnswer, ChangeFits, nothing_felt}
-use Rattle.pagable_laws.proofs.{Words.{ReadingFeels, Owner, Mode}, Felt.{reading-fits, fits-nothing, trees-go-on}, Called.{begin-goes, key-goes}, Goes.Goes, ReadingSteps.{ReadingFelt, caller-free}}
-use Rattle.pagable_laws.proofs.{ReadingSteps.reading-feels, ReadingStepsGive.{hands, read-right}, Taking.{Going, going-new, going-step, given-nodes, was-open, row-held, stands-here}, Trees.same_some}
-use Rattle.pagable_world.specs.{Access.{ReadingStep, LoadRun, load-ends, load-goes-on, LoadAsksWell, PinLaw, ReadLaw}, Loads.Does}
+use Rattle.pagable_laws.proofs.{Words.{ReadingFeels, Owner, Mode, false}, Felt.{reading-fits, fits-nothing, trees-go-on}, Goes.Goes, ReadingSteps.{ReadingFelt, caller-free, reading-feels}}
+use Rattle.pagable_laws.proofs.{ReadingStepsGive.{hands, read-right}, Taking.{Going, going-new, going-step, given-nodes, was-open, row-held, stands-here}, Trees.same_some, Called.{begins, begins-key}}
+use Rattle.{pagable_laws.proofs.Called.begin-goes, pagable_world.specs.{Access.{ReadingStep, LoadRun, load-ends, load-goes-on, LoadAsksWell, PinLaw, ReadLaw}, Loads.Does}}
 
 abbrev seen : {N : Type 0} → Values N → Seen N Blob Written
 seen v = record { values = v; blob_of = λ b. b; written_of = λ w. w }
@@ -47,7 +47,7 @@ module _ {N E : Type 0} {v : Values N} (lawful : IsLawful v) (readable : ReadsIt
         let going = going-step u.well step.whole u.stands felt.does.goes fit.1 reading frames load.0 load.1 u.going
         (subst (λ (o : Option (LoadAnswer N)). ReadingFeels v s.core reading o frames s'.core felt.change) none feels) in
         let keyed : (other : OpenLoad) → s'.core.loads reading.load.0 ≡ Some other → other.key ≡ key = λ other there.
-        u.keyed other (was-open u.well step.whole u.stands felt.does.goes fit.1 reading.load.0 other u.going.within there) in
+        u.keyed other (was-open felt.does.goes reading.load.0 other u.going.within there) in
         search (settled', step.whole, went.stands, going, keyed)
       where
         load : (x : OpenLoad) × (s.core.loads reading.load.0 ≡ Some x)
@@ -121,8 +121,9 @@ pin_law v s mid s' h k reading x row run well starts asks live held lawful reada
 pub read_law : {N E : Type 0} (v : Values N) → ReadLaw E v
 read_law v s mid s' key t l x run well starts asks settled_value lawful readable settled trees stands =
     let b = starts.step.begins in
-    let first = begun lawful readable s mid trees well settled stands (key-goes _ starts.step) starts.moves starts.whole in
-    let u = under lawful readable s mid trees well settled stands (key-goes _ starts.step) starts.moves starts.whole s.core l t key of_key b.1.above b.2 in
+    let goes : Goes nothing_felt s.core mid.core = (begins-key {lists = false} {Asks = Unit {0}} {Leaves = Unit {0}} _ starts.step).goes in
+    let first = begun lawful readable s mid trees well settled stands goes starts.moves starts.whole in
+    let u = under lawful readable s mid trees well settled stands goes starts.moves starts.whole s.core l t key of_key b.1.above b.2 in
     let r = comes lawful readable run asks trees key u in
     let after = after-then first r.after in
     (r.trees', after.same, after.stands, r.right x refl)

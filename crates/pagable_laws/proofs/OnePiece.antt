@@ -4,10 +4,10 @@ use Rattle.pagable_laws.proofs.Words.{nat_tests, ◌≡◌, ℕ, zero, suc, ◌+
 use Rattle.pagable_laws.proofs.Words.{LoadNumber, NodeNumber, OptionalDataKey, Among, type_of, mode_of, Core, OpenLoad, of_cell, Frame, Alike, row_at, row_of, with_handle, with_node, next_node}
 use Rattle.pagable_laws.proofs.Words.{is_named_by, Asked, adopted, GetsKnown, with_got, owner_value, HandlesAreWhole, Tree, find_row, Reading, Values, IsLawful, GoesOn, GetsLazy, MakesNode, FramesFit}
 use Rattle.pagable_laws.proofs.Words.{ReadsItsTypes, FramesHeld, slice_get, ◌⊎◌, root_frame, ◌≤◌, ◌==◌, Option, None, Ok, Err, is_some, Error, Mode, Beginning, Call, Reply, LoadAnswer, LoadReply}
-use Rattle.pagable_laws.proofs.Words.{Event, EventReply, if_there, is_in, times, updated, held, Seen, IsReference, references_fault, BeginCall, BeginKeyCall, IsDecoded, gone_on, fresh, ReadingsAre}
-use Rattle.pagable_laws.proofs.Words.{reading_at, reading_after, LoadSteps, Stays, Happens, MachineState, world_of, IsMachineWhole, FrameFits, Moment, of_load, of_nobody, turn_of, StandTogether}
-use Rattle.pagable_laws.proofs.{Words.{IsOfChance, IsLoadOfPagedOut, LoadIsSound, IsBeginOf, HasBegun, SoundLaw}, Outlasting.{Stands, low-changed, stands-alike, NotValues, stands-whole, stands-fell}}
-use Rattle.pagable_laws.proofs.{Outlasting.{new-handle, low-whole, Has, has-alike}, Apart.{AreApart, fine, reads-once}, Fitting.{AllGot, all-new, all-more, first-fits, GotAt, GotLast, got-before}}
+use Rattle.pagable_laws.proofs.Words.{Event, EventReply, if_there, is_in, times, updated, held, Seen, IsReference, references_fault, BeginCall, IsDecoded, gone_on, ReadingsAre, reading_at}
+use Rattle.pagable_laws.proofs.Words.{reading_after, LoadSteps, Stays, Happens, MachineState, world_of, IsMachineWhole, FrameFits, Moment, of_load, of_nobody, turn_of, StandTogether, IsOfChance}
+use Rattle.pagable_laws.proofs.{Words.{IsLoadOfPagedOut, LoadIsSound, IsBeginOf, HasBegun, SoundLaw}, Outlasting.{Stands, low-changed, stands-alike, NotValues, stands-whole, stands-fell, new-handle}}
+use Rattle.pagable_laws.proofs.{Outlasting.{low-whole, Has, has-alike}, Apart.{AreApart, fine, reads-once}, Fitting.{AllGot, all-new, all-more, first-fits, GotAt, GotLast, got-before}}
 use Rattle.pagable_laws.proofs.{Goes.found-number, ReadingSteps.{cached-rows, reading-stands, reading-number, reading-open}, Effects.{with-one, moved-free, named-among}, Decoding.decodes}
 use Rattle.pagable_laws.proofs.{GoodReferences.good, Trees.same_some, Coming.updated-at, Chains.{IsGoingOn, idle-goes}, Taking.{row-held, Going, going-of}, ReadingStepsGive.got-typed, Sound.by-chance}
 use Rattle.{pagable_laws.proofs.{Sound.{by-references, by-handle, IsForm, load-cause}, Deeply.along-with}, std.proofs.lemmas.Bool.false_from_ne_true, pagable_world.specs.Loads.Does}
@@ -156,17 +156,15 @@ module _ {N : Type 0} (v : Values N) (lawful : IsLawful v) (readable : ReadsItsT
       (λ h has y free s. known-keeps w w' c s) ready.live ready.once small
 
   lazy-ready : (frames : List Frame) (g : GetsLazy v.types w Owner.Caller reading frames w') → LoadReady w' l load (with_got g.kind g.row reading.frames)
+  unfolding is_named_by
   lazy-ready frames g = elim g.asked.makes.3 [
     | inl c ↦ known-ready g.kind g.key g.k g.row c g.made
     | inr (none, few, next, a) ↦
         got-ready reading.frames g.kind g.row g.k _ g.made next.above (adopted-new w w' l g.kind g.key (OptionalDataKey.Some g.key) [] whole a) refl
-        (λ frame r among got x free s. adopted-keeps w w' l g.kind g.key (OptionalDataKey.Some g.key) [] a (nothing r.handle.0) s)
-        (λ h has y free s. adopted-keeps w w' l g.kind g.key (OptionalDataKey.Some g.key) [] a (nothing h.0) s)
+        (λ frame r among got x free s. adopted-keeps w w' l g.kind g.key (OptionalDataKey.Some g.key) [] a refl s)
+        (λ h has y free s. adopted-keeps w w' l g.kind g.key (OptionalDataKey.Some g.key) [] a refl s)
         ready.live ready.once small
   ]
-    where
-      nothing : (q : ℕ) → is_named_by [] q ≡ false
-      nothing q = not-named [] q (λ g among is. let e = among.1 in cc)
 
   -- what was read became a node: its references go, and what was got for the blobs below stays
   node-ready : (frames : List Frame) (g : MakesNode v w Owner.Caller reading frames w') → LoadReady w' l load (with_got g.reads_node.top.kind g.row g.reads_node.below)
@@ -250,9 +248,6 @@ module _ {N B W : Type 0} where
 abbrev Ready : {N E : Type 0} → MachineState N E → LoadNumber → Type 0
 Ready s l = (reading : Reading) (load : OpenLoad) → reading_at (world_of s) l ≡ Some reading → s.pager.core.loads l.0 ≡ Some load → LoadReady s.pager.core l load reading.frames
 
-same-load : (a b : LoadNumber) → a.0 ≡ b.0 → a ≡ b
-same-load a b is = ap (λ n. record { 0 = n }) is
-
 module _ {N B W E : Type 0} (m : Seen N B W) (s s' : MachineState N E) (whole : IsMachineWhole m.values s) (whole' : IsMachineWhole m.values s') where
   abbrev w : Core
   w = s.pager.core
@@ -289,10 +284,6 @@ module _ {N B W E : Type 0} (m : Seen N B W) (s s' : MachineState N E) (whole : 
       (λ node t q root.
       let hs : h ≡ q = cc in
       record { row = row; live = subst (λ (x : HandleNumber). row_at w' x ≡ Some row) hs st.live; own = g.1.own })
-
-  by-key : (k l : LoadNumber) (key t : ℕ) (b : BeginKeyCall w Owner.Caller key (Ok (Beginning.Load k key)) w') → ReadingsAre (updated k.0 (Some (fresh k t)) s.work.readings) (world_of s')
-      → k.0 ≡ l.0 → Ready s' l
-  by-key k l key t b are same = grind (arith, nat_tests)
 
   begin-ready : (l : LoadNumber) (event : Event N B W) (reply : EventReply N B W) → IsBeginOf l.0 event reply → Happens m (world_of s) event reply (world_of s') → Ready s' l
   begin-ready l (Event.LoadStart h) (EventReply.Started (Ok (Beginning.Load k key))) is x = by-call h k l key x.step x.readings is
@@ -414,7 +405,7 @@ module _ {N B W E : Type 0} (m : Seen N B W) (lawful : IsLawful m.values) (reada
   turn-ready l event reply is turn ready = elim (turn-cases l.0 event reply turn) [
     | inl begins ↦ begin-ready m s s' on.whole whole' l event reply begins is
     | inr (k, same, e) ↦
-        let own : event ≡ Event.LoadStep l = e ∙ ap (λ (q : LoadNumber). Event.LoadStep q) (same-load k l same) in
+        let own : event ≡ Event.LoadStep l = e ∙ ap (λ (q : LoadNumber). Event.LoadStep q) (ap (λ n. let q : LoadNumber = record { 0 = n } in q) same) in
         load-step-ready l reply (subst (λ (x : Event N B W). Happens m (world_of s) x reply (world_of s')) own is) ready
   ]
 

@@ -12,9 +12,6 @@ use Rattle.pagable_world.specs.Workers as workers
 abbrev pub NotValues : Owner → Type 0
 NotValues o = (n : NodeNumber) → o ≡ Owner.Value n → ⊥
 
-pub not-owned : (n : ℕ) (o : Owner) → NotValues o → is_owner (owner_value n) o ≡ false
-not-owned n x1 free = grind (arith, nat_tests)
-
 -- ---- what doesn't fall
 
 outlasts : (rows : List HandleRow) (keyed : ℕ → Bool) (entries : List HandleRow) (given gone : ℕ → Bool) → IsLeast rows keyed entries given gone → (q : ℕ)
@@ -22,7 +19,8 @@ outlasts : (rows : List HandleRow) (keyed : ℕ → Bool) (entries : List Handle
 outlasts rows keyed entries given gone least q free kept h among is =
     outlast rows keyed entries given gone (λ p. p == q) least
     (λ x there goes. false_from_ne_true (x.number.0 == q) (λ e. let s = same-number x.number.0 q e in cc))
-    (λ n x there own lost. false_from_ne_true (x.number.0 == q) (λ e. let o = not-owned n x.owner (free x there (same-number x.number.0 q e)) in cc))
+    (λ n x there own lost. false_from_ne_true (x.number.0 == q) (λ e.
+        let o = free x there (same-number x.number.0 q e) in let no : is_owner (owner_value n) x.owner ≡ false = grind (arith, nat_tests) in cc))
     h among (ap (λ p. p == q) is ∙ self-number q)
 
 -- ---- the one row of a number
@@ -61,10 +59,9 @@ among-found q rows row found = found-by q row (λ xs. Among xs row) (λ h hs is 
 pub none-found : (q : ℕ) (rows : List HandleRow) (h : HandleRow) → find_row q rows ≡ None → Among rows h → h.number.0 ≡ q → ⊥
 unfolding find_row
 none-found q [] h none among is = absurd (cc)
-none-found q (x ∷ xs) h none among is = at (λ none a. none-found q xs h none a is) (is_handle q x) refl none among
-  where
-    at : (find_row q xs ≡ None → Among xs h → ⊥) → (b : Bool) → is_handle q x ≡ b → (if b then Some x else find_row q xs) ≡ None → Among (x ∷ xs) h → ⊥
-    at rest x1 e none x4 = grind (arith, nat_tests, self-number)
+none-found q (x ∷ xs) h none among is =
+    let rest : (find_row q xs ≡ None → Among xs h → ⊥) = λ no there. none-found q xs h no there is in
+    grind (arith, nat_tests, self-number, rest)
 
 -- no number of a row is above this one
 abbrev pub AreUpTo : ℕ → List HandleRow → Type 0

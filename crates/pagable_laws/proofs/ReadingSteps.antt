@@ -1,33 +1,25 @@
 -- The row of a handle that a load has got: it is new, of its node, and its mode fits the kind.
 use Rattle.pagable_laws.proofs.Words.{◌≡◌, ℕ, ◌+◌, ◌<◌, ◌≤◌, Bool, true, List, [], ◌∷◌, ◌++◌, refl, ap, subst, ◌∙◌, inr, arith, Some, ◌⊎◌, nat_tests, ArcRef, Kind, HandleNumber, LoadNumber}
-use Rattle.pagable_laws.proofs.Words.{NodeNumber, OptionalDataKey, type_of, HandleRow, Owner, find_row, mode_of, fits_mode, owner_value, Core, Last, Alike, row_at, usable, FallsAnyhow, row_of}
-use Rattle.pagable_laws.proofs.Words.{with_handle, with_node, with_cached_if_open, with_known, next_node, is_named_by, moved, adopted, HandlesAreWhole, GetsRow, sym, inl, Option, None, Ok, Err}
-use Rattle.pagable_laws.proofs.Words.{is_some, WorkerNumber, LoadAnswer, LoadReply, WorkerReply, PinStep, Took, Event, owner_worker, Frame, Reading, Todo, to_load, Walking, World, Seen, Values}
-use Rattle.pagable_laws.proofs.Words.{ReadingDoes, gone_on, Site, ReadingsAre, reading_at, reading_after, LoadSteps, WorkerSteps, IsWhole, IsReadingOf, of_caller, of_worker, IsSteppedReading}
-use Rattle.pagable_laws.proofs.Words.{MachineState, IsMachineWhole, StepsReading, IsFresh, Error, OpenLoad, EndCall, HandOverCall, first_key, Fails, RefusesRoot, LoadIs, IsOfCell, IsOfKey, handles_of}
-use Rattle.pagable_laws.proofs.Words.{GetsLazy, MakesNode, Change, nothing_felt, bears_known, ReadingFeels, reads-root, reads-blob, gets-known, gets-lazy, makes-known, makes-node, reading-ends, Want}
-use Rattle.pagable_laws.proofs.Words.{AskCall, AsksInVain, Result, Pinning, Beginning, Claim, is_loose, to_start, to_pin, to_set, to_release, to_fail, SetKeyCall, Does, PinsAtOnce, PinsByLoad}
-use Rattle.pagable_laws.proofs.Words.{PinRefused, GivesBack, next_start, give, give_known, fresh, TodoBrings, sets_key, false, if◌then◌else◌, updated, if_there, EventReply, TableNumber, WorkerAnswer}
-use Rattle.pagable_laws.proofs.Words.{only_handle, Cell, Task, type_at, key_at, first_todo, without_worker, WorkerEnds, is_workers_load, answer_after, BeginsKey, Stays, begun_readings, KeyStarted}
-use Rattle.pagable_laws.proofs.Words.{Starts, new_walking, Ends, Happens, with_worker, IsNewNode, EventBrings, KeepsOpen, LeavesCache, SameNode, NewNode, StaysAway, KeepsReadings, EventFeels, by-call}
-use Rattle.pagable_laws.proofs.Words.{by-reading, by-key, by-nothing, Blob, StoreCall, digest, AreGood, OwnersAreThere, step_of, Among, ◌==◌, CloneCall, Needs, GetsKnown, with_got, world_of, or_else}
-use Rattle.pagable_laws.proofs.{Words.reading_of_load, Goes.{found-left, none-in-new, at-updated, Quiet, Goes, NotLoads, quiet-then, goes-quiet, alike, fell-anyhow, KnowsNext, parts, le-self}}
-use Rattle.pagable_laws.proofs.{Goes.{rows-self, next-above}, Effects.{Effect, IsMine, IsApart, IsHeldFor, Lasts, Spares, none, moves, fell, with-key, stays, one-then, entry, no-one, none-named}}
-use Rattle.pagable_laws.proofs.{Effects.{released-free, ended-free, worker-apart, stays-alike, spares-then, stays-fell, then-alike, then-fell, held-fell}, Called.{hands-over, ends-load, noted, asks}}
-use Rattle.pagable_laws.proofs.{Called.{closes, gets-known as was-known, adopts, adopts-known, schedules, clones, pins, begins, begins-key, stores, calls-go, call-knows}, Decoding.among-left}
-use Rattle.pagable_laws.proofs.{GoodReferences.{good, alike-away}, Outlasting.{AreUpTo, low-changed, low-whole, stands-new}, Sums.self-number, Trees.same_some, Standing.{AllWait, WaitsWell}}
-use Rattle.{pagable_world.specs.Loads.{Does as LoadDoes, Meets}, std.proofs.Common.rules}
+use Rattle.pagable_laws.proofs.Words.{NodeNumber, OptionalDataKey, type_of, HandleRow, Owner, find_row, mode_of, owner_value, Core, Last, Alike, row_at, usable, FallsAnyhow, row_of, with_handle}
+use Rattle.pagable_laws.proofs.Words.{with_node, with_cached_if_open, with_known, next_node, is_named_by, moved, adopted, HandlesAreWhole, GetsRow, sym, inl, Option, None, Ok, Err, is_some}
+use Rattle.pagable_laws.proofs.Words.{WorkerNumber, LoadAnswer, LoadReply, WorkerReply, PinStep, Took, Event, owner_worker, Frame, Reading, Todo, to_load, Walking, World, Seen, Values, ReadingDoes}
+use Rattle.pagable_laws.proofs.Words.{gone_on, Site, ReadingsAre, reading_at, reading_after, LoadSteps, WorkerSteps, IsWhole, IsReadingOf, of_caller, of_worker, IsSteppedReading, MachineState}
+use Rattle.pagable_laws.proofs.Words.{IsMachineWhole, StepsReading, IsFresh, Error, OpenLoad, EndCall, HandOverCall, first_key, Fails, RefusesRoot, LoadIs, IsOfCell, IsOfKey, handles_of, GetsLazy}
+use Rattle.pagable_laws.proofs.Words.{MakesNode, Change, nothing_felt, bears_known, ReadingFeels, reads-root, reads-blob, gets-known, gets-lazy, makes-known, makes-node, reading-ends, Want, AskCall}
+use Rattle.pagable_laws.proofs.Words.{AsksInVain, Result, Pinning, Beginning, Claim, is_loose, to_start, to_pin, to_set, to_release, to_fail, SetKeyCall, Does, PinsAtOnce, PinsByLoad, PinRefused}
+use Rattle.pagable_laws.proofs.Words.{GivesBack, next_start, give, give_known, fresh, TodoBrings, sets_key, false, if◌then◌else◌, updated, if_there, EventReply, TableNumber, WorkerAnswer, only_handle}
+use Rattle.pagable_laws.proofs.Words.{Cell, Task, type_at, key_at, without_worker, WorkerEnds, answer_after, Stays, KeyStarted, Starts, new_walking, Ends, Happens, with_worker, IsNewNode, EventBrings}
+use Rattle.pagable_laws.proofs.Words.{KeepsOpen, LeavesCache, SameNode, NewNode, StaysAway, KeepsReadings, EventFeels, by-call, by-reading, by-key, by-nothing, Blob, StoreCall, digest, AreGood}
+use Rattle.pagable_laws.proofs.{Words.{OwnersAreThere, step_of, Among, CloneCall, Needs, GetsKnown, with_got, world_of, or_else, reading_of_load}, Goes.{found-left, none-in-new, at-updated, Quiet}}
+use Rattle.pagable_laws.proofs.{Goes.{Goes, NotLoads, quiet-then, goes-quiet, alike, fell-anyhow, KnowsNext, parts, le-self, rows-self, next-above}, Effects.{Effect, IsMine, IsApart, IsHeldFor}}
+use Rattle.pagable_laws.proofs.Effects.{Lasts, Spares, none, moves, fell, with-key, stays, one-then, entry, no-one, none-named, released-free, ended-free, worker-apart, stays-alike, spares-then}
+use Rattle.pagable_laws.proofs.{Effects.{stays-fell, then-alike, then-fell, held-fell}, Called.{hands-over, ends-load, noted, asks, closes, gets-known as was-known, adopts, adopts-known, schedules}}
+use Rattle.pagable_laws.proofs.{Called.{clones, pins, begins, begins-key, stores, calls-go, call-knows}, Decoding.among-left, GoodReferences.{good, alike-away}, Outlasting.{AreUpTo, low-changed}}
+use Rattle.{pagable_laws.proofs.{Outlasting.{low-whole, stands-new, find-both}, Sums.self-number, Trees.same_some, Standing.{AllWait, WaitsWell}}, pagable_world.specs.Loads.{Does as LoadDoes, Meets}}
+use Rattle.std.proofs.Common.{rules}
 use Rattle.pagable_world.specs.Workers as workers
 
-pub fits-kind : (kind : ℕ) → fits_mode kind (mode_of kind) ≡ true
-fits-kind kind = grind (arith, nat_tests)
-
 -- ---- what is found at a new number
-
-pub found-append : (q : ℕ) (xs ys : List HandleRow) (row : HandleRow) → find_row q (xs ++ ys) ≡ Some row → (find_row q xs ≡ Some row) ⊎ (find_row q ys ≡ Some row)
-unfolding find_row
-found-append q [] ys row found = inr found
-found-append q (h ∷ hs) ys row found = grind (arith, nat_tests, found-append q hs ys row)
 
 pub cached-rows : (w : Core) (kind : Kind) (key : ℕ) (n : NodeNumber) → ((with_cached_if_open w kind key n).rows ≡ w.rows) × ((with_cached_if_open w kind key n).last ≡ w.last)
 cached-rows w kind key n = grind (arith, nat_tests)
@@ -41,7 +33,7 @@ module _ {w w' : Core} (whole : HandlesAreWhole w) (kind : Kind) (k : HandleNumb
       let new = row_of (w.last.handle + 1) node (mode_of kind.0) owner in
       let s = stands-new w.last.handle rows new low refl in
       let e : new ≡ row = same_some _ _ (sym s.live ∙ sym (ap (λ n. find_row n (rows ++ new ∷ [])) next) ∙ found) in
-      grind (arith, nat_tests, fits-kind)
+      grind (arith, nat_tests)
 
   -- of a node that there was
   pub got-known : (n : ℕ) (owner : Owner) → Alike (with_known w kind n owner) w' → GetsRow w w' kind n row
@@ -49,7 +41,7 @@ module _ {w w' : Core} (whole : HandlesAreWhole w) (kind : Kind) (k : HandleNumb
 
   -- of such a one, where others were given up then
   pub got-fallen : (n : ℕ) (owner : Owner) {before : Core} {given : ℕ → Bool} → FallsAnyhow before (with_known w kind n owner) given w' → GetsRow w w' kind n row
-  got-fallen n owner f = grind (arith, nat_tests, found-append, gets w.rows (record { 0 = n }) owner (low-whole whole), next-above, found-left, none-in-new)
+  got-fallen n owner f = grind (arith, nat_tests, find-both, gets w.rows (record { 0 = n }) owner (low-whole whole), next-above, found-left, none-in-new)
 
   -- of the next node
   pub got-born : (l : LoadNumber) (key : ℕ) (own : OptionalDataKey) (references : List ArcRef) → Alike (adopted w l kind key own references) w' → GetsRow w w' kind (w.last.node + 1) row
@@ -129,11 +121,6 @@ pub record LoadsTodo {N : Type 0} (v : Values N) (me : Owner) (s s' : Site) (rea
   pub frames : List Frame
   pub does : ReadingDoes v s.core me reading answer frames s'.core
   pub next : (after : Reading) → front_reading s'.todo ≡ Some after → (answer ≡ None) × (after ≡ gone_on reading frames)
-
-module _ {N B W : Type 0} (m : Seen N B W) (v : ℕ) (s s' : Site) where
-  pub loads-todo : (r : ArcRef) (place : ℕ) (through : HandleNumber) (reading : Reading) (below : List Todo) (step : Took W)
-      → workers.Does m v s (to_load r place through reading ∷ below) step s' → LoadsTodo m.values (owner_worker v) s s' reading
-  loads-todo r place through reading below step does = grind (arith, nat_tests)
 
 module _ {N B W : Type 0} {m : Seen N B W} {u u' : World} {k : WorkerNumber} {reply : WorkerReply W} (s : WorkerSteps m u k reply u') where
   pub steps-worker : {me : Owner} {reading : Reading} (t : LoadsTodo m.values me (record { core = u.core; shelf = u.work.shelves s.walking.table; todo = s.walking.todo }) s.after reading)
@@ -347,18 +334,12 @@ module _ {Asks : Type 0} {w w' : Core} (v : ℕ) where
     at-once : (through k : HandleNumber) → PinsAtOnce w (owner_worker v) r through k w' → Effect (owner_worker v) false Asks (Unit {0}) false nothing_felt w w'
     at-once through k does = elim does [ inl (row, is, clone) ↦ clones (Ok k) clone | inr (row, (mid, clone, pin)) ↦ then-clone clone (pins (works-free v) (Ok (Pinning.Pinned k)) pin) ]
 
-    by-load : (through : HandleNumber) (l : LoadNumber) → PinsByLoad w (owner_worker v) r through l w' → Effect (owner_worker v) false Asks (Unit {0}) false nothing_felt w w'
-    by-load through l (row, (mid, key, clone, begin)) = then-clone clone (begins (Ok (Beginning.Load l key)) begin)
-
     pin-refused : (e : Error) → PinRefused w (owner_worker v) r e w' → Effect (owner_worker v) false Asks (Unit {0}) false nothing_felt w w'
     pin-refused e does = elim does [
       | inl clone ↦ clones (Err e) clone
       | inr (row, (mid, through, clone, inl pin)) ↦ then-clone clone (pins (works-free v) (Err e) pin)
       | inr (row, (mid, through, clone, inr begin)) ↦ then-clone clone (begins (Err e) begin)
     ]
-
-begun-number : {w w' : Core} (v : ℕ) (r : ArcRef) (through : HandleNumber) (l : LoadNumber) → PinsByLoad w (owner_worker v) r through l w' → l.0 ≤ w'.last.load
-begun-number v r through l (row, (mid, key, clone, begin)) = grind (arith, nat_tests)
 
 module _ {N B W : Type 0} (m : Seen N B W) (v : ℕ) (s s' : Site) where
   abbrev WF : List Todo → Type 0
@@ -386,7 +367,7 @@ module _ {N B W : Type 0} (m : Seen N B W) (v : ℕ) (s s' : Site) where
   loads-on : (r : ArcRef) (place : ℕ) (through : HandleNumber) (reading : Reading) (below : List Todo) (step : Took W)
       → Does m v s (to_load r place through reading ∷ below) step s' → WF (to_load r place through reading ∷ below)
   loads-on r place through reading below step does =
-      let t = loads-todo m v s s' r place through reading below step does in
+      let t : LoadsTodo m.values (owner_worker v) s s' reading = grind (arith, nat_tests) in
       let f = reading-feels m s.core (owner_worker v) (works-free v) s'.core reading t.answer t.frames t.does in
       record { change = f.change; does = f.does; goes = f.does.goes; feels = λ front well. walk-loads f.change r place through reading below refl t f.opens f.feels; knows = λ whole. reading-knows (f.feels whole) }
 
@@ -406,9 +387,12 @@ module _ {N B W : Type 0} (m : Seen N B W) (v : ℕ) (s s' : Site) where
 
   load-begins : (r : ArcRef) (place t : ℕ) (below : List Todo) (through : HandleNumber) (l : LoadNumber) → PinsByLoad s.core (owner_worker v) r through l s'.core
       → s'.todo ≡ to_load r place through (fresh l t) ∷ below → WF (to_pin r place ∷ below)
-  load-begins r place t below through l does is = quiet (λ n x b. b) (λ front well reading e.
+  load-begins r place t below through l (row, (mid, key, clone, begin)) is =
+      let next = begin.begins.2.2.above in
+      let last = ap (λ (x : Last). x.load) begin.begins.2.4.2.last in
+      quiet (λ n x b. b) (λ front well reading e.
       let same : fresh l t ≡ reading = same_some _ _ (ap front_reading (sym is) ∙ e) in
-      subst (λ x. IsFresh s'.core x) same (refl, refl, begun-number v r through l does)) (by-load v r through l does)
+      subst (λ x. IsFresh s'.core x) same (refl, refl, omega (arith, next, last))) (then-clone v clone (begins (Ok (Beginning.Load l key)) begin))
 
   pub walk-goes : (todo : List Todo) (step : Took W) → Does m v s todo step s' → WF todo
   walk-goes (to_start r place ∷ below) (Took.Claim i (Ok Claim.Waiting)) (is, c) = let t = c.finds.1.2 in
@@ -432,11 +416,7 @@ others-work : (w : Core) (loads : ℕ → Option OpenLoad) (workers : ℕ → Bo
 others-work w loads workers worker more fewer = parts (le-self _) more (λ n cell is. is) fewer (λ kind key n is. is) (rows-self w.last.handle w.rows w.rows refl)
 
 worker-ends : {w w' : Core} (v : ℕ) → WorkerEnds w v w' → Quiet w w'
-worker-ends {w} {w'} v f = quiet-then (others-work w (without_worker w v).loads (without_worker w v).workers w.last.worker (omega arith) (λ l load is. left (is_workers_load v (w.loads l)) (w.loads l) load is)) (fell-anyhow f)
-  where
-    left : (b : Bool) (x : Option OpenLoad) (y : OpenLoad) → (if b then None else x) ≡ Some y → x ≡ Some y
-    left true x y is = absurd (cc)
-    left false x y is = is
+worker-ends {w} {w'} v f = quiet-then (others-work w (without_worker w v).loads (without_worker w v).workers w.last.worker (omega arith) (λ l load is. grind (arith, nat_tests))) (fell-anyhow f)
 
 pub ends-quiet : {w w' : Core} (answer : Option WorkerAnswer) (v : ℕ) → Ends answer v w w' → Quiet w w'
 ends-quiet x0 v e = grind (arith, nat_tests, alike, worker-ends)
@@ -464,17 +444,12 @@ module _ (u u' : World) where
     | inr old ↦ inl old
   ])
 
-  keeps-begun : (t : ℕ) (b : Beginning) → ReadingsAre (begun_readings b t u.work.readings) u' → ((l : LoadNumber) (k : ℕ) → b ≡ Beginning.Load l k → l.0 ≤ u'.core.last.load)
+  keeps-begun : (t : ℕ) (l : LoadNumber) → ReadingsAre (updated l.0 (Some (fresh l t)) u.work.readings) u' → l.0 ≤ u'.core.last.load
       → ((n : ℕ) → u'.work.walkings n ≡ u.work.walkings n) → KeepsReadings u u'
-  keeps-begun t Beginning.InMemory are within same = keeps-all are same
-  keeps-begun t (Beginning.Load l k) are within same = read-after u u' (λ r. IsFresh u'.core r) are same (λ q r is. elim (at-updated l.0 (Some (fresh l t)) u.work.readings q r is) [
-    | inl (here, e) ↦ let f : fresh l t ≡ r = same_some _ _ e in inr (subst (λ x. IsFresh u'.core x) f (refl, refl, within l k refl))
+  keeps-begun t l are within same = read-after u u' (λ r. IsFresh u'.core r) are same (λ q r is. elim (at-updated l.0 (Some (fresh l t)) u.work.readings q r is) [
+    | inl (here, e) ↦ let f : fresh l t ≡ r = same_some _ _ e in inr (subst (λ x. IsFresh u'.core x) f (refl, refl, within))
     | inr old ↦ inl old
   ]) (λ n w r there. inl there)
-
--- a new worker has no load
-first-no-load : (task : Task) → front_reading (first_todo task) ≡ None
-first-no-load x0 = grind (arith, nat_tests, started)
 
 -- ---- events
 
@@ -519,7 +494,8 @@ module _ {N B W : Type 0} (m : Seen N B W) (u u' : World) where
     spares = λ q there others.
         let a = e.spares (owner_worker q) (record { apart = worker-apart q; other = callers q; unlisted = λ yes. (refl, there) }) in then-alike (owner_worker q) s.pager (record { each = a.each });
     lasts = λ left kind key n. record { lasts = λ i h h'. stays-alike kind key n s.pager (e.lasts tt kind key n i h (λ f. absurd (cc))) h' };
-    feels = λ whole well. by-nothing (λ n x b. absurd (brings n x b)) (keeps-but u u' s.readings v.0 (new_walking t task) s.work.same_walkings (λ reading is. let first = first-no-load task in absurd (cc)));
+    feels = λ whole well. by-nothing (λ n x b. absurd (brings n x b))
+        (keeps-but u u' s.readings v.0 (new_walking t task) s.work.same_walkings (λ reading is. absurd (grind (arith, nat_tests, started))));
     knows = λ whole leaves k q n known. absurd known;
   }
 
@@ -528,11 +504,11 @@ module _ {N B W : Type 0} (m : Seen N B W) (u u' : World) where
 
   key-starts : (key t : ℕ) (r : Result Beginning Error) → KeyStarted u key t r u' → EG (Event.LoadKey key t) (EventReply.Started r)
   key-starts key t (Err e) is = event-rests (λ n x b. absurd b) (keeps-all u u' is.refused is.work.walkings) (begins-key (Err e) is.step)
-  key-starts key t (Ok b) is = event-rests (λ n x b. absurd b) (keeps-begun u u' t b is.begun (within b is.step.begins) is.work.walkings) (begins-key (Ok b) is.step)
-    where
-      within : (b : Beginning) → BeginsKey u.core Owner.Caller key b u'.core → (l : LoadNumber) (k : ℕ) → b ≡ Beginning.Load l k → l.0 ≤ u'.core.last.load
-      within Beginning.InMemory does l k is = absurd does
-      within (Beginning.Load l2 k2) does l k is = grind (arith, nat_tests)
+  key-starts key t (Ok Beginning.InMemory) is = absurd is.step.begins
+  key-starts key t (Ok (Beginning.Load l k)) is =
+      let next = is.step.begins.1.above in
+      let last = ap (λ (x : Last). x.load) is.step.begins.2.last in
+      event-rests (λ n x b. absurd b) (keeps-begun u u' t l is.begun (omega (arith, next, last)) is.work.walkings) (begins-key (Ok (Beginning.Load l k)) is.step)
 
   load-steps : (l : LoadNumber) (reply : LoadReply N) → Happens m u (Event.LoadStep l) (EventReply.LoadMoved (Ok reply)) u' → EG (Event.LoadStep l) (EventReply.LoadMoved (Ok reply))
   load-steps l reply is =
@@ -563,10 +539,6 @@ module _ {N B W : Type 0} (m : Seen N B W) (u u' : World) where
     worker-feels c (walk-rests none anew) whole =
         by-nothing (λ n x (walking, at, brings). absurd (none n x (subst (λ (z : Walking). TodoBrings m.values u.core z.todo n x) (same_some _ _ (sym at ∙ s.at)) brings))) (now anew)
 
-    -- who makes no step isn't the one that makes this
-    isnt-own : {X : Type 0} (x : X) (v : ℕ) → (if k.0 == v then x ∷ [] else []) ≡ [] → owner_worker k.0 ≡ owner_worker v → ⊥
-    isnt-own x v none is = grind (arith, nat_tests, self-number)
-
     worker-steps : EG (Event.WorkerStep k) (EventReply.WorkerMoved (Ok reply))
     worker-steps =
         let f = walk-goes m k.0 site s.after s.walking.todo reply.took s.does.does in
@@ -574,7 +546,7 @@ module _ {N B W : Type 0} (m : Seen N B W) (u u' : World) where
           change = f.change;
           goes = goes-quiet f.goes (ends-quiet reply.answer k.0 s.ends);
           spares = λ v there others.
-              let other = isnt-own reply.took v others in
+              let other : (owner_worker k.0 ≡ owner_worker v → ⊥) = λ is. grind (arith, nat_tests, self-number) in
               ends-spare (owner_worker v) (worker-apart v) k.0 other reply.answer s.ends
               (f.does.spares (owner_worker v) (record { apart = worker-apart v; other = other; unlisted = λ yes. absurd (cc) }));
           lasts = λ left kind key n. ends-last kind key n reply.answer k.0 s.ends (record { lasts = λ i h h'. f.does.lasts tt kind key n i h (λ g. h') });

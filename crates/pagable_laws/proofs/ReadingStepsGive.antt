@@ -1,47 +1,26 @@
 -- What a load of a key hands over, and that what it read is right; and how many steps an open load still needs.
 use Rattle.pagable_laws.proofs.Words.{◌≡◌, ℕ, zero, suc, List, [], ◌∷◌, ◌++◌, refl, sym, subst, ◌∙◌, inl, inr, arith, Option, Some, None, ArcRef, Kind, LoadNumber, Among, HandleRow, Event, EventReply}
 use Rattle.pagable_laws.proofs.Words.{LoadAnswer, Core, Frame, Reading, World, Values, with_got, nested_frame, Change, ReadingFeels, reads-root, reads-blob, gets-known, gets-lazy, makes-known}
-use Rattle.pagable_laws.proofs.Words.{makes-node, reading-ends, EventFeels, nat_tests, ◌&&◌, ◌||◌, Bool, true, false, map, Ok, ap, not, Error, HandleNumber, is_in, if_there, Owner, is_owner, row_at}
-use Rattle.pagable_laws.proofs.Words.{Seen, refused_if, named_fault, moved, numbers_of, HandOverCall, hand_over_fault, is_owned_in, EndsRead, handles_of, Happens, HandlesAreWhole, HandsOver}
-use Rattle.pagable_laws.proofs.Words.{ReadHolds, ◌<◌, slice_get-get_or, Blob, NodeNumber, Tree, Types, type_of, LoadReply, held, OpenLoad, type_at, IsLawful, IsReference, ReadsRoot, LoadSteps}
-use Rattle.pagable_laws.proofs.Words.{MachineState, world_of, IsMachineWhole, IsReadingOf, StandsFor, SameTrees, FrameFits, FramesFit, ReadsItsTypes, ReadIsRight, ReadGives, ◌+◌, ◌*◌, ◌≤◌, ◌⊎◌}
-use Rattle.pagable_laws.proofs.Words.{is_eager, asks, next_in, need_of, needs_nested, needs_lazy, to_adopt, root_frame, after_kinds, Unfolds, unfolds, UnfoldsFrom, KeepsStored, IsSome, Call, Reply}
-use Rattle.pagable_laws.proofs.Words.{one_more, gone_on, IsIdle, KeepsOpen, HasStepLeft, IsWithinBound, StepIsWithin, PagerState, Represents, WellFormed, LoadsHaveStepsLeft, IsFresh, slice_get_within}
-use Rattle.pagable_laws.proofs.{Fitting.{first-fits, frames-stay, asked}, ReadingSteps.{readings-on, caller-free, reading-feels, reading-stands, AllWaitWell, EventGoes, event-goes, reading-open}}
-use Rattle.pagable_laws.proofs.{Goes.{found-number, IsShut, Goes}, Outlasting.{Stands, stands-whole, stands-changed, stands-fell, Has}, Sums.self-number, Decoding.decodes, Taking.row-held}
-use Rattle.pagable_laws.proofs.{Taking.{root-right, adopted-over, Going, given-nodes, eager-nested, going-of}, Apart.{kinds_of, asks-by-kinds, kinds-pushed}, Trees.same_some}
-use Rattle.{pagable_world.specs.{Loads.Does as LoadDoes, Runs.Does}, std.proofs.Common.rules}
+use Rattle.pagable_laws.proofs.Words.{makes-node, reading-ends, EventFeels, nat_tests, ◌&&◌, true, false, Ok, ap, not, is_in, Owner, Seen, moved, numbers_of, HandOverCall, is_owned_in, handles_of}
+use Rattle.pagable_laws.proofs.Words.{Happens, HandlesAreWhole, HandsOver, ◌<◌, slice_get-get_or, Blob, NodeNumber, Tree, Types, type_of, LoadReply, held, OpenLoad, type_at, IsLawful, IsReference}
+use Rattle.pagable_laws.proofs.Words.{ReadsRoot, LoadSteps, MachineState, world_of, IsMachineWhole, IsReadingOf, StandsFor, SameTrees, FrameFits, FramesFit, ReadsItsTypes, ReadIsRight, ReadGives, ◌+◌}
+use Rattle.pagable_laws.proofs.Words.{◌*◌, ◌≤◌, ◌⊎◌, is_eager, asks, next_in, need_of, needs_nested, needs_lazy, to_adopt, root_frame, after_kinds, Unfolds, unfolds, UnfoldsFrom, KeepsStored, IsSome}
+use Rattle.pagable_laws.proofs.Words.{Call, Reply, one_more, gone_on, IsIdle, KeepsOpen, IsWithinBound, StepIsWithin, PagerState, Represents, WellFormed, LoadsHaveStepsLeft, IsFresh, slice_get_within}
+use Rattle.pagable_laws.proofs.{Words.{HandleNumber, named_fault, hand_over_fault}, Fitting.{first-fits, frames-stay, asked}, ReadingSteps.{readings-on, caller-free, reading-feels, reading-stands}}
+use Rattle.pagable_laws.proofs.{ReadingSteps.{AllWaitWell, EventGoes, event-goes, reading-open}, Goes.{found-number, IsShut, Goes}, Outlasting.{Stands, stands-whole, stands-changed, stands-fell}}
+use Rattle.pagable_laws.proofs.{Sums.self-number, Decoding.decodes, Taking.{row-held, root-right, adopted-over, Going, given-nodes, eager-nested, going-of, was-open}, Apart.{kinds_of, asks-by-kinds}}
+use Rattle.{pagable_laws.proofs.{Apart.kinds-pushed, Trees.same_some, Effects.named}, pagable_world.specs.{Loads.Does as LoadDoes, Runs.Does}, std.proofs.Common.rules}
 pub use Rattle.pagable_laws.proofs.Effects.{both-none as neither}
 
 -- A load of a key that answers a value hands over the value's references: each was the load's, and is the caller's then.
 
--- ---- nothing is said against the handles
-
-module _ (w : Core) (owner : Owner) where
-  named-one : (seen : List ℕ) (h : HandleNumber)
-      → if_there (λ (row : HandleRow). refused_if (not (is_owner owner row.owner) || is_in seen h.0) Error.NotYours) (Some Error.NoSuchHandle) (row_at w h) ≡ None → Has w owner h
-  named-one seen h none = grind (arith, nat_tests)
-
-  named : (seen : List ℕ) (hs : List HandleNumber) → named_fault w owner seen hs ≡ None → (h : HandleNumber) → Among hs h → Has w owner h
-  unfolding named_fault
-  named seen [] none h (i, is) = absurd (cc)
-  named seen (x ∷ hs) none h (zero, is) = let same : x ≡ h = cc in subst (λ z. Has w owner z) same (named-one seen x (neither _ _ none).0)
-  named seen (x ∷ hs) none h (suc i, is) = named (x.0 ∷ seen) hs (neither _ _ none).1 h (i, is)
-
 named-none : (w : Core) (l : LoadNumber) (hs : List HandleNumber) → hand_over_fault w Owner.Caller l hs ≡ None → named_fault w (Owner.Load l) [] hs ≡ None
 named-none w l hs none = grind (arith, nat_tests, neither)
 
-among-map : {X Y : Type 0} (f : X → Y) (xs : List X) (x : X) → Among xs x → Among (map f xs) (f x)
-among-map f (y ∷ ys) x (suc i, is) = let a = among-map f ys x (i, is) in (suc a.0, a.1)
-among-map f x1 x x3 = grind (arith, nat_tests)
-
-in-numbers : (hs : List HandleNumber) (h : HandleNumber) → Among hs h → is_in (numbers_of hs) h.0 ≡ true
+in-numbers : (rs : List ArcRef) (r : ArcRef) → Among rs r → is_in (numbers_of (handles_of rs)) r.handle.0 ≡ true
 unfolding is_in
-in-numbers (x ∷ hs) h (suc i, is) = grind (arith, nat_tests, in-numbers hs h)
-in-numbers x0 h x2 = grind (arith, nat_tests, self-number)
-
-not-given : (a b : Bool) → b ≡ true → (a && not b) ≡ false
-not-given x0 b is = grind (arith, nat_tests)
+in-numbers (x ∷ rs) r (suc i, is) = grind (arith, nat_tests, in-numbers rs r)
+in-numbers x0 r x2 = grind (arith, nat_tests, self-number)
 
 -- ---- what is handed over
 
@@ -50,23 +29,15 @@ hands {w} {w'} l references whole c =
     record {
       each = λ r among.
           let hs = handles_of references in
-          let there = among-map (λ (x : ArcRef). x.handle) references r among in
-          let n = named w (Owner.Load l) [] hs (named-none w l hs c.hands.0) r.handle there in
-          let numbered = in-numbers hs r.handle there in
+          let numbered = in-numbers references r among in
+          let n = named w (Owner.Load l) [] hs (named-none w l hs c.hands.0) r.handle numbered in
           let stood = stands-changed (λ (row : HandleRow). is_in (numbers_of hs) row.number.0) (λ row. record row { owner = Owner.Caller }) (λ h. refl) (stands-whole whole r.handle.0 n.row n.live) in
           let moves : is_in (numbers_of hs) n.row.number.0 ≡ true = ap (is_in (numbers_of hs)) (found-number r.handle.0 w.rows n.row n.live) ∙ numbered in
           let now : Stands w.last.handle (moved (is_in (numbers_of hs)) Owner.Caller w.rows) r.handle.0 (record n.row { owner = Owner.Caller }) = rw moves at stood in
-          let after = stands-fell c.hands.1.falls (λ n e. cc) (not-given (is_owned_in w (Owner.Load l) r.handle.0) (is_in (numbers_of hs) r.handle.0) numbered) now in
+          let stays : (is_owned_in w (Owner.Load l) r.handle.0 && not (is_in (numbers_of hs) r.handle.0)) ≡ false = grind (arith, nat_tests) in
+          let after = stands-fell c.hands.1.falls (λ n e. cc) stays now in
           (n.row, n.live, n.own, after.live);
     }
-
-module _ {N B W : Type 0} (m : Seen N B W) (u u' : World) (whole : HandlesAreWhole u.core) where
-  read-ends : (reading : Reading) (answer : Option (LoadAnswer N)) (frames : _) → LoadDoes m.values u.core Owner.Caller reading answer frames u'.core → (x : N)
-      → answer ≡ Some (LoadAnswer.Read x) → EndsRead m.values u.core Owner.Caller reading x u'.core
-  read-ends reading answer frames does x is = (let P : Option (LoadAnswer N) → Type 0 = λ a. LoadDoes m.values u.core Owner.Caller reading a frames u'.core in subst P is does).0
-
-  pub reads-hold : (event : Event N B W) (reply : EventReply N B W) → Happens m u event reply u' → ReadHolds m.values u event reply u'
-  reads-hold x0 x1 h = grind (arith, nat_tests, read-ends, hands)
 
 -- A value that a load of a key answers stands for the tree that the key reads as, and the caller has its references.
 
@@ -112,10 +83,11 @@ module _ {N E B W : Type 0} (m : Seen N B W) (lawful : IsLawful m.values) (reada
   pub reads-give : (event : Event N B W) (reply : EventReply N B W) → Does m s event reply s' → ReadGives m.values s trees event reply s' trees'
   reads-give (Event.LoadStep l) (EventReply.LoadMoved (Ok reply)) does = λ load x open_load ended.
       let h = does.step.happens.moves in
-      let (reading, at, root, hands) = reads-hold m (world_of s) (world_of s') whole.pager.whole.handles (Event.LoadStep l) (EventReply.LoadMoved (Ok reply)) does.step.happens x ended in
+      let read = (subst (λ (a : Option (LoadAnswer N)). LoadDoes m.values s.pager.core Owner.Caller h.reading a h.frames s'.pager.core) ended h.does.does).0 in
       let stored = (reading-feels m s.pager.core Owner.Caller caller-free s'.pager.core h.reading reply.ended h.frames h.does).does.goes.stored in
-      let going = going-of s trees readings reading (reading-stands (world_of s) whole.pager.whole l reading at) in
-      read-right lawful readable s.pager s'.pager trees trees' same stored whole'.pager stands'.pager reading going load (reading-open s whole l reading at open_load) x root hands
+      let going = going-of s trees readings h.reading (reading-stands (world_of s) whole.pager.whole l h.reading h.at) in
+      read-right lawful readable s.pager s'.pager trees trees' same stored whole'.pager stands'.pager h.reading going load (reading-open s whole l h.reading h.at open_load) x read.reads_root
+      (hands h.reading.load (m.values.references x) whole.pager.whole.handles read.handed)
   reads-give event reply does = tt
 
 -- How many steps an open load still needs: at most two for each reference that its blobs still take, with all that it leads to, and one for each of its blobs.
@@ -240,9 +212,6 @@ bounded-step : {N : Type 0} {v : Values N} {w w' : Core} {c : Change} (reading :
     → Bounded v.types w.stored load.key reading → ReadingFeels v w reading None frames w' c → Bounded v.types w.stored load.key (gone_on reading frames)
 bounded-step reading load frames open_load b feels more kept many longest under = search (rules, owes-less, few-more)
 
-has-left : {types : Types} {store : ℕ → Option Blob} {key : ℕ} (reading : Reading) → Bounded types store key reading → HasStepLeft types store key reading
-has-left {types} {store} {key} reading b many longest under = search (rules, owes-some)
-
 ended-some : {X : Type 0} (answer : Option X) → (answer ≡ None → ⊥) → IsSome answer
 ended-some x0 x1 = grind (arith, nat_tests)
 
@@ -286,33 +255,21 @@ module _ {N E B W : Type 0} (m : Seen N B W) (s s' : MachineState N E) (whole : 
   bounded-of all reading (inl there) = all reading there
   bounded-of all reading (inr new) = fresh-bounded m.values.types u reading new
 
-  -- a load that is open afterwards was open before
-  were-open : {c : Change} → Goes c u.core u'.core → (q : ℕ) (load : OpenLoad) → q ≤ u.core.last.load → u'.core.loads q ≡ Some load → u.core.loads q ≡ Some load
-  were-open goes q load few is = elim (goes.loads q load is) [ inl same ↦ same | inr new ↦ absurd (let above = new.0 in omega (arith, few, above)) ]
-
   module _ {c : Change} (goes : Goes c u.core u'.core) (all : AllBounded m.values.types u) where
-    old-bounded : (reading : Reading) → IsReadingOf u.work reading → IsBounded m.values.types u' reading
-    old-bounded reading is =
-        let b = all reading is in
+    kept-bounded : (reading : Reading) → IsBounded m.values.types u reading → IsBounded m.values.types u' reading
+    kept-bounded reading b =
         let few = b.0 in
         let more = goes.loads_last in
-        (omega (arith, few, more), λ load is_open. bounded-on reading goes.stored (b.1 load (were-open goes reading.load.0 load b.0 is_open)))
+        (omega (arith, few, more), λ load is_open. bounded-on reading goes.stored (b.1 load (was-open goes reading.load.0 load b.0 is_open)))
 
     went-bounded : (reading : Reading) (frames : List Frame) → IsReadingOf u.work reading ⊎ IsFresh u.core reading → ReadingFeels m.values u.core reading None frames u'.core c
         → IsBounded m.values.types u' (gone_on reading frames)
     went-bounded reading frames stands feels =
-        let before = bounded-of all reading stands in
-        let few = before.0 in
-        let more = goes.loads_last in (
-          omega (arith, few, more),
-          λ load is_open.
-              let was = were-open goes reading.load.0 load before.0 is_open in
-              bounded-on (gone_on reading frames) goes.stored (bounded-step reading load frames was (before.1 load was) feels),
-        )
+        let before = bounded-of all reading stands in kept-bounded (gone_on reading frames) (before.0, λ load was. bounded-step reading load frames was (before.1 load was) feels)
 
   -- all loads go on so
   all-on : {event : Event N B W} {reply : EventReply N B W} {c : Change} → Goes c u.core u'.core → AllBounded m.values.types u → EventFeels m.values u event reply u' c → AllBounded m.values.types u'
-  all-on goes all = readings-on (λ r. IsBounded m.values.types u' r) (old-bounded goes all) (fresh-bounded m.values.types u')
+  all-on goes all = readings-on (λ r. IsBounded m.values.types u' r) (λ r is. kept-bounded goes all r (all r is)) (fresh-bounded m.values.types u')
       (λ r frames load stands at feels. went-bounded goes all r frames stands feels)
 
   -- a load that makes a step was bounded, and is where it goes on
@@ -356,4 +313,4 @@ idle-bounded types s idle = grind (arith, nat_tests)
 
 pub steps-left : {N E : Type 0} (v : Values N) (s : MachineState N E) → LoadsStand v.types (world_of s) → LoadsHaveStepsLeft v (world_of s)
 steps-left v s (inl shut) reading load is is_open = λ many longest under. absurd (nothing-unfolds shut.1 under)
-steps-left v s (inr all) reading load is is_open = has-left reading ((all reading is).1 load is_open)
+steps-left v s (inr all) reading load is is_open = let b = (all reading is).1 load is_open in λ many longest under. search (rules, owes-some)

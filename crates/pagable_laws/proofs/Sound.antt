@@ -3,15 +3,14 @@
 use Rattle.pagable_laws.proofs.Words.{nat_tests, ◌≡◌, ℕ, suc, ◌+◌, ◌≤◌, true, List, [], ◌∷◌, length, Option, Some, sym, ap, subst, ◌∙◌, inl, inr, if◌then◌else◌, arith, slice_get, blob_of, Error}
 use Rattle.pagable_laws.proofs.Words.{ArcRef, Kind, Identity, Blob, Meaning, Tree, type_of, is_eager, above, longest_path, identity_of, Shelf, Written, Frame, Values, Next, reads, asks, is_faulty}
 use Rattle.pagable_laws.proofs.Words.{next_in, need_at, need_of, is_broken, IsPublished, MachineState, world_of, FramesFit, ReadsItsTypes, AreKeysOf, WorkFits, Needs, ◌==◌, Bool, false, ◌⊎◌, None}
-use Rattle.pagable_laws.proofs.Words.{Err, refl, Result, not, Want, Owner, HandleNumber, LoadNumber, NodeNumber, Types, if_there, any_mode, Core, OpenLoad, of_cell, Reading, Seen, IsLawful, earlier}
-use Rattle.pagable_laws.proofs.Words.{where_so, refused_if, spent, handle_fault, references_fault, load_fault, AreHandlesFull, Refused, FetchCall, AskCall, LazyCall, ask_fault, is_known, node_fault}
-use Rattle.pagable_laws.proofs.Words.{root_fault, needs_nested, needs_lazy, to_adopt, IsDecoded, RefusesBlob, RefusesNested, RefusesNode, RefusesRoot, IsOfKey, Fails, reading_at, FitsRoot, IsOfChance}
-use Rattle.pagable_laws.proofs.Words.{IsPagedOutAs, IsLoadOfPagedOut, Ok, HandleRow, Mode, LoadAnswer, LoadReply, Event, EventReply, or_else, row_fault, reference_fault, LoadSteps, Happens}
-use Rattle.pagable_laws.proofs.Words.{IsOfHandles, LoadIsFaultless, FaultlessLaw, ◌<◌, Took, owner_worker, Todo, Walking, named_fault, cell_fault, handles_of, after_kinds, LeadsDown, is-there}
-use Rattle.pagable_laws.proofs.{Words.{goes-down, ReadsTooDeep, IsReadingOf, of_worker, LoadIsDeep, DeepLoadLaw, AllLow, IsFresh}, Trees.same_some, Fitting.{asked, first-typed}, Apart.IsFormOf}
-use Rattle.pagable_laws.proofs.{Apart.{GotAsked, FramesAsked, NextOf, asks-known, all-read, next-known, all-got, kinds_of, asks-by-kinds, faulty-by-kinds}, Sums.self-number, Taking.adopted-over}
-use Rattle.{pagable_laws.proofs.{Taking.{eager-nested, Going, going-of}, Chains.IsGoingOn, Deeply.along-first, ReadingSteps.{reading-stands, reading-number, reading-open}}, std.proofs.Common.rules}
-use Rattle.pagable_world.specs.Loads.{Does}
+use Rattle.pagable_laws.proofs.Words.{Err, refl, Result, not, Want, Owner, HandleNumber, LoadNumber, NodeNumber, Types, any_mode, Core, OpenLoad, of_cell, Reading, Seen, IsLawful, earlier, where_so}
+use Rattle.pagable_laws.proofs.Words.{refused_if, spent, handle_fault, references_fault, load_fault, AreHandlesFull, Refused, FetchCall, AskCall, ask_fault, is_known, node_fault, needs_nested}
+use Rattle.pagable_laws.proofs.Words.{needs_lazy, IsDecoded, RefusesBlob, RefusesNode, RefusesRoot, IsOfKey, Fails, reading_at, FitsRoot, IsOfChance, IsPagedOutAs, IsLoadOfPagedOut, Ok, Mode}
+use Rattle.pagable_laws.proofs.Words.{LoadAnswer, LoadReply, Event, EventReply, or_else, LoadSteps, Happens, IsOfHandles, LoadIsFaultless, FaultlessLaw, ◌<◌, Took, owner_worker, Todo, Walking}
+use Rattle.pagable_laws.proofs.Words.{named_fault, handles_of, after_kinds, LeadsDown, is-there, goes-down, ReadsTooDeep, IsReadingOf, of_worker, LoadIsDeep, DeepLoadLaw, AllLow, IsFresh, LazyCall}
+use Rattle.pagable_laws.proofs.{Words.{RefusesNested, reference_fault, HandleRow, row_fault}, Trees.same_some, Fitting.asked, Apart.{IsFormOf, GotAsked, FramesAsked, NextOf, asks-known, all-read}}
+use Rattle.pagable_laws.proofs.{Apart.{next-known, all-got, kinds_of, asks-by-kinds, faulty-by-kinds}, Sums.self-number, Taking.{adopted-over, eager-nested, Going, going-of}, Chains.IsGoingOn}
+use Rattle.{pagable_laws.proofs.{Deeply.along-first, ReadingSteps.{reading-stands, reading-number, reading-open}}, std.proofs.Common.rules, pagable_world.specs.Loads.Does}
 use Rattle.pagable_world.specs.Workers as workers
 
 -- ---- what a load reads of a key that a page-out has published: each blob is a form of a tree, asks for references whose keys are known, and lies within the path's limit
@@ -33,10 +32,6 @@ key-at : (shelf : Shelf) (rs : List ArcRef) (keys : List ℕ) → AreKeysOf shel
     → (height : ℕ) × IsPublished shelf (identity_of r) key height
 key-at shelf (q ∷ rs) (k ∷ ks) all (suc place) r key is at = key-at shelf rs ks all.1 place r key is at
 key-at shelf x1 x2 all x4 r key is at = grind (arith, nat_tests)
-
--- an identity has one key and one height
-one-outcome : (shelf : Shelf) (i : Identity) (k key h height : ℕ) → IsPublished shelf i k h → IsPublished shelf i key height → h ≡ height
-one-outcome shelf i k key h height p q = grind (arith, same_some)
 
 above-eager : (kind h limit : ℕ) → is_eager kind ≡ true → above kind h ≤ limit → h + 1 ≤ limit
 above-eager kind h limit is le = let e : (if is_eager kind then h + 1 else 0) ≡ h + 1 = ap (λ b. if b then h + 1 else 0) is in omega (arith, e, le)
@@ -90,7 +85,7 @@ module _ {N E : Type 0} (v : Values N) (s : MachineState N E) (trees : ℕ → T
           let p = key-at shelf k.refs frame.blob.keys k.keys place r q at there in
           let p2 = subst (λ x. IsPublished shelf (identity_of r) x p.0) keys p.1 in
           let l = k.lows r (place, at) in
-          let h = one-outcome shelf (identity_of r) l.key key l.below p.0 l.known p2 in
+          let h : l.below ≡ p.0 = let k = l.known in grind (arith, same_some) in
           record { r = r; below = p.0; known = p2; of_kind = kinds; within = subst (λ (x : Kind). above x.0 p.0 ≤ height) kinds (subst (λ x. above r.kind.0 x ≤ height) h l.within) }
 
   -- the innermost blob is known, with its height within what the path leaves
@@ -180,14 +175,6 @@ where-chance x0 n e is = grind (arith, nat_tests, only-if IsOfChance)
 
 never : (b : Bool) (f e : Error) → b ≡ false → refused_if b f ≡ Some e → ⊥
 never _ f e is so = cc
-
-second-eager : (types : Types) (top under : Frame) (rest : List Frame) → FramesAsked types (top ∷ under ∷ rest) → is_eager top.kind.0 ≡ true
-unfolding FramesAsked
-second-eager types top under rest (a, eager, next, more) = eager
-
-last-type : (types : Types) (stored : ℕ → Option Blob) (trees : ℕ → Tree) (k t : ℕ) (root : Frame) → FramesFit types stored trees k t (root ∷ []) → root.node_type ≡ t
-unfolding FramesFit
-last-type types stored trees k t root (fits, key, typed) = typed
 
 same-type : (a b : ℕ) → a ≡ b → not (a == b) ≡ false
 same-type a b is = ap (λ x. not (x == b)) is ∙ ap not (self-number b)
@@ -289,39 +276,31 @@ module _ {N B W E : Type 0} (m : Seen N B W) (s : MachineState N E) (trees : ℕ
     of-blob e (inr (inl (top, below, is, causes))) = (grind (arith, nat_tests))
     of-blob e (inr (inr memory)) = (subst IsOfChance (sym memory) tt)
 
-    of-nested : (mid : Core) (e : Error) → RefusesNested v.types w Owner.Caller reading e mid → IsOfChance e
-    of-nested mid e (kind, key, needs, inl asked) = let n = need-there kind key (inl needs) in nested-asked kind key n.0 mid e n.1 asked
-    of-nested mid e (kind, key, needs, inr (blob, is, deep, asked)) = absurd (let n = (need-there kind key (inl needs)).2 (front reading.frames kind key needs) in omega arith)
-
     of-lazy : (mid : Core) (e : Error) (kind : Kind) (key : ℕ) → need_of v.types reading.frames ≡ needs_lazy kind key → LazyCall w Owner.Caller reading.load kind key (Err e) mid → IsOfChance e
     of-lazy mid e kind key needs c = only-refused {P = IsOfChance} e c.refused
         (only-earlier _ _ (no-load-fault _) (only-earlier _ _ (λ f so. absurd (never _ Error.WrongKind f (grind (arith, nat_tests)) so)) (only-node IsOfChance w kind key tt))) tt
 
-    -- the blob that becomes a node is read through a reference that isn't loose, and is of its kind's type
-    node-right : (top : Frame) (below : List Frame) → reading.frames ≡ top ∷ below → need_of v.types reading.frames ≡ to_adopt → (is_eager top.kind.0 ≡ true) × (top.node_type ≡ type_of top.kind.0)
-    node-right top below is needs = grind (arith, nat_tests, fits, going, adopted-over, second-eager, first-typed)
-
     of-node : (mid : Core) (e : Error) → RefusesNode v w Owner.Caller reading e mid → C e
+    unfolding FramesFit FramesAsked
     of-node mid e r =
         let n = r.reads_node in
-        let right = node-right n.top n.below n.frames n.needs in
+        let right : (is_eager n.top.kind.0 ≡ true) × (n.top.node_type ≡ type_of n.top.kind.0) = grind (arith, nat_tests, fits, going, adopted-over) in
         only-refused {P = C} e r.adopted.refused.1 (only-earlier _ _ (no-load-fault _) (only-earlier _ _ (λ f so. absurd (never _ Error.WrongMode f (grind (arith, nat_tests)) so))
         (only-earlier _ _ (λ f so. absurd (never _ Error.WrongKind f (same-type (v.node_type r.x) (type_of n.top.kind.0) (n.decoded.typed ∙ right.1)) so))
         (only-earlier _ _ (λ f a. by-references n.top n.below r.x n.frames n.decoded (form-of n.top n.below n.frames r.x n.decoded) a)
         (λ f a. by-chance (only-node IsOfChance w n.top.kind n.top.key tt f a)))))) (by-chance tt)
 
     of-root : (mid : Core) (e : Error) → RefusesRoot v w Owner.Caller reading e mid → C e
+    unfolding FramesFit
     of-root mid e r = elim r.refuses [
       | inr (is, handed) ↦
           let same : is.load ≡ load = same_some _ _ (sym is.open_load ∙ (ap (λ (x : LoadNumber). w.loads x.0) number ∙ open_load)) in
           absurd (subst IsOfKey (ap (λ (x : OpenLoad). x.root) same ∙ paged.3) is.sort)
-      | inl (is, ended) ↦ only-refused {P = C} e ended.refused.1 (only-earlier _ _ (no-load-fault _) (only-earlier _ _ (λ f a. by-chance (root-chance r f a))
+      | inl (is, ended) ↦ only-refused {P = C} e ended.refused.1 (only-earlier _ _ (no-load-fault _) (only-earlier _ _
+          (λ f a. by-chance (grind (arith, nat_tests, number, fits, of-type, either, never, same-type, where-chance)))
           (λ f a. by-references r.reads_root.root [] r.x r.reads_root.frames r.reads_root.decoded (form-of r.reads_root.root [] r.reads_root.frames r.x r.reads_root.decoded) a)))
           (by-chance tt)
     ]
-      where
-        root-chance : (r : RefusesRoot v w Owner.Caller reading e mid) → Only IsOfChance (if_there (λ (x : OpenLoad). root_fault w Owner.Caller (v.node_type r.x) x.root) None (w.loads reading.load.0))
-        root-chance r f is = grind (arith, nat_tests, number, fits, of-type, either, never, same-type, last-type, where-chance)
 
     pub cause : (w' : Core) (e : Error) → Fails v w Owner.Caller reading e w' → C e
     cause w' e (inr r) =
@@ -331,7 +310,8 @@ module _ {N B W E : Type 0} (m : Seen N B W) (s : MachineState N E) (trees : ℕ
     cause w' e (inl gives) = elim gives.meets [
       | inl (refuses, a) ↦ by-chance (of-blob e refuses)
       | inr (inl (first, asked)) ↦ by-chance (grind (arith, nat_tests, ask-chance, same_some, number, vain-chance, found))
-      | inr (inr (inl nested)) ↦ by-chance (of-nested gives.mid e nested)
+      | inr (inr (inl (kind, key, needs, inl asked))) ↦ let n = need-there kind key (inl needs) in by-chance (nested-asked kind key n.0 gives.mid e n.1 asked)
+      | inr (inr (inl (kind, key, needs, inr (blob, is, deep, asked)))) ↦ absurd (let n = (need-there kind key (inl needs)).2 (front reading.frames kind key needs) in omega arith)
       | inr (inr (inr (inl (kind, key, needs, asked)))) ↦ by-chance (of-lazy gives.mid e kind key needs asked)
       | inr (inr (inr (inr (inl node)))) ↦ of-node gives.mid e node
       | inr (inr (inr (inr (inr root)))) ↦ of-root gives.mid e root
@@ -339,21 +319,20 @@ module _ {N B W E : Type 0} (m : Seen N B W) (s : MachineState N E) (trees : ℕ
 
 -- ---- what is told of handles
 
-of-handles : (f e : Error) → IsOfHandles f → Some f ≡ Some e → IsOfHandles e
-of-handles f e is same = let g : f ≡ e = cc in subst IsOfHandles g is
-
-by-row : (w : Core) (r : ArcRef) (b : Bool) (row : HandleRow) (e : Error) → row_fault w r (refused_if b Error.NotYours) row ≡ Some e → IsOfHandles e
+by-row : (w : Core) (r : ArcRef) (b : Bool) (row : HandleRow) → Only IsOfHandles (row_fault w r (refused_if b Error.NotYours) row)
 by-row w r b row e is = grind (arith, nat_tests)
 
-pub by-all : (w : Core) (owner : Owner) (seen : List ℕ) (rs : List ArcRef) (e : Error) → references_fault w owner seen rs ≡ Some e → IsOfHandles e
+of-reference : (w : Core) (owner : Owner) (seen : List ℕ) (r : ArcRef) → Only IsOfHandles (reference_fault w owner seen r)
+of-reference w owner seen r e is = grind (arith, nat_tests, by-row)
+
+only-else : {P : Error → Type 0} (a b : Option Error) → Only P a → Only P b → Only P (or_else a b)
+only-else None b first second e is = second e is
+only-else (Some f) b first second e is = first e is
+
+pub by-all : (w : Core) (owner : Owner) (seen : List ℕ) (rs : List ArcRef) → Only IsOfHandles (references_fault w owner seen rs)
 unfolding references_fault
 by-all w owner seen [] e is = absurd (cc)
-by-all w owner seen (r ∷ rs) e is = at (λ f. by-all w owner (r.handle.0 ∷ seen) rs e f) (reference_fault w owner seen r) refl is
-  where
-    at : (references_fault w owner (r.handle.0 ∷ seen) rs ≡ Some e → IsOfHandles e) → (found : Option Error) → reference_fault w owner seen r ≡ found
-        → or_else found (references_fault w owner (r.handle.0 ∷ seen) rs) ≡ Some e → IsOfHandles e
-    at later None first is = later is
-    at later (Some f) first is = (search (rules, of-handles, by-row))
+by-all w owner seen (r ∷ rs) e is = only-else {P = IsOfHandles} _ _ (of-reference w owner seen r) (by-all w owner (r.handle.0 ∷ seen) rs) e is
 
 pub by-handle-row : (w : Core) (me : Owner) (h : HandleNumber) (fits : Mode → Bool) (e : Error) → handle_fault w me h fits ≡ Some e → IsOfHandles e
 by-handle-row w me h fits e is = grind (arith, nat_tests)
@@ -392,9 +371,6 @@ only-named : (w : Core) (owner : Owner) (seen : List ℕ) (hs : List HandleNumbe
 unfolding named_fault
 only-named v owner seen [] e is deep = cc
 only-named v owner seen (h ∷ hs) e is deep = only-earlier {P = NotDeep} _ _ (λ f so deep. grind (arith, nat_tests)) (only-named v owner (h.0 ∷ seen) hs) e is deep
-
-only-cell : (found : Option OpenLoad) → Only NotDeep (if_there (λ (load : OpenLoad). cell_fault load.root) None found)
-only-cell x0 e is deep = grind (arith, nat_tests)
 
 not-refused : {cause before : Option Error} {full : Type 0} {w w' : Core} → Refused cause before full w Error.TooDeep w' → Only NotDeep cause → ⊥
 not-refused r none = only-refused {P = NotDeep} Error.TooDeep r none (λ e. absurd (cc)) refl
@@ -457,7 +433,7 @@ module _ {N B W : Type 0} (m : Seen N B W) (lawful : IsLawful m.values) (w : Cor
   root-not u r = elim r.refuses [
     | inl (is, ended) ↦ not-refused ended.refused.1 (only-earlier _ _ (only-load w me reading.load)
         (only-earlier _ _ (λ e is deep. grind (arith, nat_tests, only-earlier {P = NotDeep}, only-if NotDeep)) (by-references-not r.x)))
-    | inr (is, handed) ↦ only-earlier {P = NotDeep} _ _ (only-load w me reading.load) (only-earlier _ _ (only-cell (w.loads reading.load.0)) (only-named w (Owner.Load reading.load) [] (handles_of
+    | inr (is, handed) ↦ only-earlier {P = NotDeep} _ _ (only-load w me reading.load) (only-earlier _ _ (λ e is deep. grind (arith, nat_tests)) (only-named w (Owner.Load reading.load) [] (handles_of
         (m.values.references r.x)))) Error.TooDeep handed.refused.0 refl
   ]
 

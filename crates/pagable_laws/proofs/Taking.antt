@@ -191,6 +191,10 @@ pub going-of : {N E : Type 0} {v : Values N} (s : MachineState N E) (trees : ℕ
 going-of s trees readings reading (inl is) = readings reading is
 going-of s trees readings reading (inr new) = going-new s.pager trees reading new.0 new.2
 
+-- a load that is open afterwards and was given was open before
+pub was-open : {c : Change} {w w' : Core} → CoreGoes c w w' → (l : ℕ) (load : OpenLoad) → l ≤ w.last.load → w'.loads l ≡ Some load → w.loads l ≡ Some load
+was-open goes l load within is = elim (goes.loads l load is) [ inl was ↦ was | inr (above, begins) ↦ absurd (omega (arith, within, above)) ]
+
 module _ {N E : Type 0} {v : Values N} {s s' : PagerState N E} {trees trees' : ℕ → Tree} {comes : ℕ → N → Type 0} {c : Change} (whole : WellFormed v s) (whole' : WellFormed v s')
     (stands : Represents v s trees) (goes : CoreGoes c s.core s'.core) (fits : ChangeFits v c comes s s' trees trees') where
   at-step : AtStep v c s.core s'.core trees trees'
@@ -199,16 +203,12 @@ module _ {N E : Type 0} {v : Values N} {s s' : PagerState N E} {trees trees' : �
       λ kind key own is. let f = subst (λ z. ChangeFits v z comes s s' trees trees') is fits in f.knows kind key (s.core.last.node + 1) (refl, refl, refl) in
       search (goes, fits.same, whole.whole, whole'.whole, stands.cache, born)
 
-  -- a load that is open afterwards and was given was open before
-  pub was-open : (l : ℕ) (load : OpenLoad) → l ≤ s.core.last.load → s'.core.loads l ≡ Some load → s.core.loads l ≡ Some load
-  was-open l load within is = elim (goes.loads l load is) [ inl was ↦ was | inr (above, begins) ↦ absurd (omega (arith, within, above)) ]
-
   still-within : (l : ℕ) → l ≤ s.core.last.load → l ≤ s'.core.last.load
   still-within l within = let a = goes.loads_last in omega (arith, a, within)
 
   pub going-on : (reading : Reading) → Going v s trees reading → Going v s' trees' reading
   going-on reading g =
-      let fits : ReadingFits v s' trees' reading = λ load is. let was = was-open reading.load.0 load g.within is in
+      let fits : ReadingFits v s' trees' reading = λ load is. let was = was-open goes reading.load.0 load g.within is in
       (fit-still reading.load load.key reading.node_type at-step reading.frames (record { fit = g.fits load was; held = g.held; asked = g.asked })).fit in
       search (still-within reading.load.0 g.within, fits, frames-on goes reading.load reading.frames g.held, g.asked)
 
@@ -219,7 +219,7 @@ module _ {N E : Type 0} {v : Values N} {s s' : PagerState N E} {trees trees' : �
       let before = fit-still reading.load load.key reading.node_type at-step reading.frames (record { fit = g.fits load opened; held = g.held; asked = g.asked }) in
       let after = felt-after reading load frames at-step opened feels before in
       let fits : ReadingFits v s' trees' (gone_on reading frames) = λ other at.
-      subst (λ (z : OpenLoad). FramesFit v.types s'.core.stored trees' z.key reading.node_type frames) (same_some _ _ (sym opened ∙ was-open reading.load.0 other g.within at)) after.fit in
+      subst (λ (z : OpenLoad). FramesFit v.types s'.core.stored trees' z.key reading.node_type frames) (same_some _ _ (sym opened ∙ was-open goes reading.load.0 other g.within at)) after.fit in
       search (still-within reading.load.0 g.within, fits, after.held, after.asked)
 
 -- ---- what is read

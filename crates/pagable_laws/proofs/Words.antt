@@ -79,6 +79,6 @@ pub use Rattle.pagable_laws.specs.{FallLaws.NextIsOneOf, SmallWorlds.{no_work, t
 pub use Rattle.pagable_laws.specs.{TreeLaws.{IsStoredKey, IsTreeReadable, IsKeyOfOneTree, StaysInside, IsCanonicalInside, IsOneTree, IsLongestPath}, TreeSteps.ChangeFits, TreeSteps.Change}
 pub use Rattle.pagable_laws.specs.TreeSteps.{nothing_felt, bears_known, ReadingFeels, reads-root, reads-blob, gets-known, gets-lazy, makes-known, makes-node, reading-ends, sets_key, IsFresh}
 pub use Rattle.pagable_laws.specs.TreeSteps.{CoreGoes, EventFeels, by-call, by-reading, by-key, by-nothing, KeepsReadings, KeysAreReady, knows_node, bears_node, StaysAway, AreGood}
-pub use Rattle.pagable_laws.specs.TreeSteps.{CallFeels, feels-nothing, feels-birth, feels-away, feels-key, feels-known, feels-adopted, feels-lazy, feels-end, HandsOver, ReadHolds}
+pub use Rattle.pagable_laws.specs.TreeSteps.{CallFeels, feels-nothing, feels-birth, feels-away, feels-key, feels-known, feels-adopted, feels-lazy, feels-end, HandsOver}
 pub use Rattle.pagable_laws.specs.TreeSteps.{IsSteppedReading, StepsReading, BeginsWell, GetsRow, HasPin, PinHolds, NodeLeads, Sets, Knows, Bears, SameNode, NewNode}
 unfoldable pub use Rattle.pagable_laws.specs.{KeyRuns.AllHold, PageOutLaws.{KeysSoFar, Waits}, TwoLevels.value_at}

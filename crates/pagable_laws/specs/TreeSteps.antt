@@ -4,7 +4,7 @@ use Rattle.pagable_world.specs.Plain.{OptionalDataKey, ArcRef, Kind, HandleNumbe
 use Rattle.pagable_world.specs.{Plain.{LoadNumber, NodeNumber, WorkerNumber, Identity, Blob, Tree, ReadsTree, type_of, Among}, declared.{answers.Pinning.Pinning, events.{PinStep.PinStep, Took.Took}}}
 use Rattle.pagable_world.specs.declared.{handles.{Owner.Owner, HandleRow.HandleRow}, calls.{Call.Call, Reply.Reply}, events.{LoadAnswer.LoadAnswer, Event.Event, EventReply.EventReply}}
 use Rattle.pagable_world.specs.{Kinds.{is_pinning, is_loose, any_mode, fits_mode, owner_worker, find_row}, World.{Core, Cell, OpenLoad, of_cell, Frame, Reading, Todo, to_load, to_set, Walking, World}}
-use Rattle.pagable_world.specs.{World.{row_at, type_at, key_at, is_here, Values}, Refusals.{Owns, IsReference}, LoadCalls.first_key, Loads.{ReadsNode, ReadsRoot, need_of, needs_nested, needs_lazy}}
+use Rattle.pagable_world.specs.{World.{row_at, type_at, key_at, is_here, Values}, Refusals.{Owns, IsReference}, LoadCalls.first_key, Loads.{ReadsNode, need_of, needs_nested, needs_lazy}}
 use Rattle.pagable_world.specs.{Loads.{root_frame, nested_frame, with_got, gone_on}, Events.reading_at, Pager.{PagerState, MachineState, world_of, KeyFits, IsNewNode, CallBrings, EventBrings}}
 use Rattle.{pagable_world.specs.Pager.{IsReadingOf, SameTrees, ReadsNodeTree}, pagable_laws.specs.ReadLaws.ValueLeads}
 
@@ -204,11 +204,6 @@ PinHolds (Event.LoadStep l) (EventReply.LoadMoved (Ok reply)) w' = (k : HandleNu
 PinHolds (Event.Call (Call.LoadEnd l x)) (EventReply.CallReply (Reply.LoadEnded (Ok k))) w' = HasPin w' k
 PinHolds (Event.WorkerStep n) (EventReply.WorkerMoved (Ok reply)) w' = (i : Identity) (k : HandleNumber) → reply.took ≡ Took.Pin i (Ok (PinStep.Held k)) → HasPin w' k
 PinHolds event reply w' = Unit {0}
-
-abbrev pub ReadHolds : {N B W : Type 0} → Values N → World → Event N B W → EventReply N B W → World → Type 0
-ReadHolds {N} v u (Event.LoadStep l) (EventReply.LoadMoved (Ok reply)) u' = (x : N) → reply.ended ≡ Some (LoadAnswer.Read x)
-    → (reading : Reading) × (reading_at u l ≡ Some reading) × ReadsRoot v reading x × HandsOver u.core reading.load (v.references x) u'.core
-ReadHolds v u event reply u' = Unit {0}
 
 -- the key that a worker is about to set reads as the tree of its handle's node.
 abbrev pub KeysAreReady : {N E : Type 0} → Values N → MachineState N E → (ℕ → Tree) → Type 0
