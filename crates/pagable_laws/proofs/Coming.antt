@@ -317,10 +317,6 @@ given-due r key height (to_item written keys ∷ below) = settled-item written (
 given-due r key height x3 = grind (arith, nat_tests)
 
 module _ {W : Type 0} (f : W → Written) where
-  -- one step pays for itself: out of what was due, of its claim, or of the references that it wrote
-  abbrev pub Pays : List Todo → Took W → List Todo → Type 0
-  Pays todo step next = one (is_counted todo step) + all-due next ≤ 8 * one (is_claim step) + references_written f step + all-due todo
-
   pays-known : (n d e : ℕ) → d ≤ e → 1 + d ≤ 8 * 0 + 0 + (1 + e)
   pays-known n d e le = omega arith
 
@@ -331,7 +327,9 @@ module _ {W : Type 0} (f : W → Written) where
   unfolding all-due
   due-cons x below = refl
 
-  pub pays : (todo : List Todo) (step : Took W) (next : List Todo) → Follows f todo step next → Pays todo step next
+  -- one step pays for itself: out of what was due, of its claim, or of the references that it wrote
+  pub pays : (todo : List Todo) (step : Took W) (next : List Todo) → Follows f todo step next
+      → one (is_counted todo step) + all-due next ≤ 8 * one (is_claim step) + references_written f step + all-due todo
   unfolding all-due
   pays (to_start r place ∷ x ∷ xs) (Took.Claim j (Ok (Claim.Known key height))) next (is, e) = rw e (pays-known 0 _ _ (given-due r key height (x ∷ xs)))
   pays (to_write r place through ∷ below) (Took.Write j (Ok out)) next (is, e) = grind (arith, settled-node)

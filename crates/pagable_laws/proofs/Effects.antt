@@ -248,18 +248,15 @@ not-load l apart e = let f : is_owner (Owner.Load l) (Owner.Load l) ≡ false = 
 
 -- what a worker gives up isn't another's
 module _ (mine : Owner) (apart : IsApart mine) (u : ℕ) (other : owner_worker u ≡ mine → ⊥) where
-  not-mine : is_owner (owner_worker u) mine ≡ false
-  not-mine = grind (arith, nat_tests, same-owner)
-
   no-load : (w : Core) (o : Owner) → IsApart o → is_load_of w u o ≡ false
   no-load w (Owner.Load l) a = let f = a.no_load l in let g = self-number l.0 in absurd (cc)
   no-load w o a = refl
 
   pub ended-free : (w : Core) → Free mine w (is_workers w u)
-  ended-free w = grind (arith, nat_tests, not-mine, no-load)
+  ended-free w = grind (arith, nat_tests, same-owner, no-load)
 
   pub released-free : (w : Core) (p : ℕ) → Free mine w (is_workers_at w u p)
-  released-free w p = grind (arith, nat_tests, not-mine)
+  released-free w p = grind (arith, nat_tests, same-owner)
 
 module _ {me : Owner} {lists : Bool} where
   pub own-handle : {w : Core} {fits : Mode → Bool} (h : HandleNumber) (row : HandleRow) → Owns w me h fits row → Ours me lists w (only_handle h)

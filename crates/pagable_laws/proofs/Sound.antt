@@ -1,22 +1,19 @@
 -- Why a load is refused whose key a page-out has published: by chance, or by a handle. And as too deep one is refused only where the reading of its key comes to a
 -- blob that lies too deep, or to one that enters a level too many.
 use Rattle.pagable_laws.proofs.Words.{nat_tests, ◌≡◌, ℕ, suc, ◌+◌, ◌≤◌, true, List, [], ◌∷◌, length, Option, Some, sym, ap, subst, ◌∙◌, inl, inr, if◌then◌else◌, arith, slice_get, blob_of, Error}
-use Rattle.pagable_laws.proofs.Words.{ArcRef, Kind, Identity, Blob, Meaning, Tree, type_of, is_eager, above, longest_path, identity_of, Shelf, Written, Frame, Values, Next, reads, asks, is_faulty}
-use Rattle.pagable_laws.proofs.Words.{next_in, need_at, need_of, is_broken, IsPublished, MachineState, world_of, FramesFit, ReadsItsTypes, AreKeysOf, WorkFits, Needs, ◌==◌, Bool, false, ◌⊎◌, None}
-use Rattle.pagable_laws.proofs.Words.{Err, refl, Result, not, Want, Owner, HandleNumber, LoadNumber, NodeNumber, Types, any_mode, Core, OpenLoad, of_cell, Reading, Seen, IsLawful, earlier, where_so}
-use Rattle.pagable_laws.proofs.Words.{refused_if, spent, handle_fault, references_fault, load_fault, AreHandlesFull, Refused, FetchCall, AskCall, ask_fault, is_known, node_fault, needs_nested}
-use Rattle.pagable_laws.proofs.Words.{needs_lazy, IsDecoded, RefusesBlob, RefusesNode, RefusesRoot, IsOfKey, Fails, reading_at, FitsRoot, IsOfChance, IsPagedOutAs, IsLoadOfPagedOut, Ok, Mode}
-use Rattle.pagable_laws.proofs.Words.{LoadAnswer, LoadReply, Event, EventReply, or_else, LoadSteps, Happens, IsOfHandles, LoadIsFaultless, FaultlessLaw, ◌<◌, Took, owner_worker, Todo, Walking}
-use Rattle.pagable_laws.proofs.Words.{named_fault, handles_of, after_kinds, LeadsDown, is-there, goes-down, ReadsTooDeep, IsReadingOf, of_worker, LoadIsDeep, DeepLoadLaw, AllLow, IsFresh, LazyCall}
-use Rattle.pagable_laws.proofs.{Words.{RefusesNested, reference_fault, HandleRow, row_fault}, Trees.same_some, Fitting.asked, Apart.{IsFormOf, GotAsked, FramesAsked, NextOf, asks-known, all-read}}
-use Rattle.pagable_laws.proofs.{Apart.{next-known, all-got, kinds_of, asks-by-kinds, faulty-by-kinds}, Sums.self-number, Taking.{adopted-over, eager-nested, Going, going-of}, Chains.IsGoingOn}
-use Rattle.{pagable_laws.proofs.{Deeply.along-first, ReadingSteps.{reading-stands, reading-number, reading-open}}, std.proofs.Common.rules, pagable_world.specs.Loads.Does}
+use Rattle.pagable_laws.proofs.Words.{ArcRef, Kind, Identity, Blob, Meaning, Tree, type_of, is_eager, above, longest_path, identity_of, Shelf, Written, Frame, Values, reads, asks, next_in, need_of}
+use Rattle.pagable_laws.proofs.Words.{is_broken, IsPublished, MachineState, world_of, FramesFit, ReadsItsTypes, AreKeysOf, WorkFits, Needs, ◌==◌, Bool, false, ◌⊎◌, None, Err, refl, Result, not, Want}
+use Rattle.pagable_laws.proofs.Words.{Owner, HandleNumber, LoadNumber, NodeNumber, Types, any_mode, Core, OpenLoad, of_cell, Reading, Seen, IsLawful, earlier, where_so, refused_if, spent}
+use Rattle.pagable_laws.proofs.Words.{handle_fault, references_fault, load_fault, AreHandlesFull, Refused, FetchCall, AskCall, ask_fault, is_known, node_fault, needs_nested, needs_lazy, IsDecoded}
+use Rattle.pagable_laws.proofs.Words.{RefusesBlob, RefusesNode, RefusesRoot, IsOfKey, Fails, reading_at, FitsRoot, IsOfChance, IsPagedOutAs, IsLoadOfPagedOut, Ok, Mode, LoadAnswer, LoadReply, Event}
+use Rattle.pagable_laws.proofs.Words.{EventReply, or_else, LoadSteps, Happens, IsOfHandles, LoadIsFaultless, FaultlessLaw, ◌<◌, Took, owner_worker, Todo, Walking, named_fault, handles_of, after_kinds}
+use Rattle.pagable_laws.proofs.Words.{LeadsDown, is-there, goes-down, ReadsTooDeep, IsReadingOf, of_worker, LoadIsDeep, DeepLoadLaw, AllLow, IsFresh, LazyCall, RefusesNested, reference_fault}
+use Rattle.pagable_laws.proofs.{Words.{HandleRow, row_fault}, Trees.same_some, Fitting.asked, Apart.{IsFormOf, GotAsked, FramesAsked, NextOf, asks-known, all-read, next-known, all-got, kinds_of}}
+use Rattle.pagable_laws.proofs.{Apart.{asks-by-kinds, faulty-by-kinds}, Sums.self-number, Taking.{adopted-over, eager-nested, Going, going-of}, Chains.IsGoingOn, Deeply.along-first}
+use Rattle.{pagable_laws.proofs.ReadingSteps.{reading-stands, reading-number, reading-open}, std.proofs.Common.rules, pagable_world.specs.Loads.Does}
 use Rattle.pagable_world.specs.Workers as workers
 
 -- ---- what a load reads of a key that a page-out has published: each blob is a form of a tree, asks for references whose keys are known, and lies within the path's limit
-
-pub broken-is : (below : List Frame) (next : Next) (e : Error) → need_at below next ≡ is_broken e → next ≡ is_faulty e
-broken-is x0 x1 e is = grind (arith, nat_tests)
 
 -- the blob is a form of some value, and all of its references were got
 pub record IsForm {N : Type 0} (v : Values N) (frame : Frame) : Type 0 where
@@ -145,7 +142,7 @@ module _ {N E : Type 0} (v : Values N) (s : MachineState N E) (trees : ℕ → T
         by (next-known v.types frame.node_type frame.blob t.known.refs t.known.form (first-asked frame below got))
       where
         by : {refs : List ArcRef} → NextOf frame.blob refs (next_in v.types frame) → ⊥
-        by x0 = grind (arith, nat_tests, broken-is, next_in, v)
+        by x0 = grind (arith, nat_tests, next_in, v)
 
 -- ---- refusals
 
@@ -440,7 +437,7 @@ module _ {N B W : Type 0} (m : Seen N B W) (lawful : IsLawful m.values) (w : Cor
   pub fails-deep : (w' : Core) → Fails m.values w me reading Error.TooDeep w' → Deep
   fails-deep w' (inr ended) = absurd (by-handle-row w me ended.ended.refused.h any_mode Error.TooDeep ended.ended.refused.why)
   fails-deep w' (inl gives) = elim gives.meets [
-    | inl (refuses, a) ↦ (grind (arith, nat_tests, down-to, kinds_of, faulty-by-kinds, broken-is, next_in))
+    | inl (refuses, a) ↦ (grind (arith, nat_tests, down-to, kinds_of, faulty-by-kinds, next_in))
     | inr (inl (first, c)) ↦ absurd (not-asked Want.Root gives.mid c)
     | inr (inr (inl nested)) ↦ nested-deep gives.mid nested
     | inr (inr (inr (inl (kind, key, needs, c)))) ↦
