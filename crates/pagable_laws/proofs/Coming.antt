@@ -289,11 +289,6 @@ unfoldable pub all-due : List Todo → ℕ
 all-due [] = 0
 all-due (x ∷ below) = due x below + all-due below
 
--- something is to be done
-some-due : (x : Todo) (below : List Todo) → 1 ≤ all-due (x ∷ below)
-unfolding all-due
-some-due x0 x1 = grind (arith, nat_tests)
-
 -- what waits starts the first of the references that are left, if there is one
 started-due : (place : ℕ) (rs : List ArcRef) (x : Todo) (below : List Todo) → all-due (next_start place rs ++ x ∷ below) + (length rs - 1) ≤ length rs + all-due (x ∷ below)
 unfolding all-due
@@ -317,24 +312,14 @@ given-due r key height (to_item written keys ∷ below) = settled-item written (
 given-due r key height x3 = grind (arith, nat_tests)
 
 module _ {W : Type 0} (f : W → Written) where
-  pays-known : (n d e : ℕ) → d ≤ e → 1 + d ≤ 8 * 0 + 0 + (1 + e)
-  pays-known n d e le = omega arith
-
-  ends : (d : ℕ) → 1 ≤ d → 1 + (1 + 0) ≤ 8 * 0 + 0 + (1 + d)
-  ends d some = omega arith
-
-  due-cons : (x : Todo) (below : List Todo) → all-due (x ∷ below) ≡ due x below + all-due below
-  unfolding all-due
-  due-cons x below = refl
-
   -- one step pays for itself: out of what was due, of its claim, or of the references that it wrote
   pub pays : (todo : List Todo) (step : Took W) (next : List Todo) → Follows f todo step next
       → one (is_counted todo step) + all-due next ≤ 8 * one (is_claim step) + references_written f step + all-due todo
   unfolding all-due
-  pays (to_start r place ∷ x ∷ xs) (Took.Claim j (Ok (Claim.Known key height))) next (is, e) = rw e (pays-known 0 _ _ (given-due r key height (x ∷ xs)))
+  pays (to_start r place ∷ x ∷ xs) (Took.Claim j (Ok (Claim.Known key height))) next (is, e) = rw e (let le = given-due r key height (x ∷ xs) in omega (arith, le))
   pays (to_write r place through ∷ below) (Took.Write j (Ok out)) next (is, e) = grind (arith, settled-node)
-  pays (to_release r key height ∷ below) (Took.Release j) next (is, e) = rw e (pays-known 0 _ _ (given-due r key height below))
-  pays _ step next follows = grind (arith, nat_tests, due-cons, some-due, pays-known, given-due, ends)
+  pays (to_release r key height ∷ below) (Took.Release j) next (is, e) = rw e (let le = given-due r key height below in omega (arith, le))
+  pays _ step next follows = grind (arith, nat_tests, given-due)
 
   -- the steps that were counted, with those that are due, are within the bound
   abbrev pub IsWithin : Task → List Todo → ℕ → List (Took W) → Type 0

@@ -8,8 +8,8 @@ use Rattle.pagable_laws.proofs.Words.{handle_fault, references_fault, load_fault
 use Rattle.pagable_laws.proofs.Words.{RefusesBlob, RefusesNode, RefusesRoot, IsOfKey, Fails, reading_at, FitsRoot, IsOfChance, IsPagedOutAs, IsLoadOfPagedOut, Ok, Mode, LoadAnswer, LoadReply, Event}
 use Rattle.pagable_laws.proofs.Words.{EventReply, or_else, LoadSteps, Happens, IsOfHandles, LoadIsFaultless, FaultlessLaw, ◌<◌, Took, owner_worker, Todo, Walking, named_fault, handles_of, after_kinds}
 use Rattle.pagable_laws.proofs.Words.{LeadsDown, is-there, goes-down, ReadsTooDeep, IsReadingOf, of_worker, LoadIsDeep, DeepLoadLaw, AllLow, IsFresh, LazyCall, RefusesNested, reference_fault}
-use Rattle.pagable_laws.proofs.{Words.{HandleRow, row_fault}, Trees.same_some, Fitting.asked, Apart.{IsFormOf, GotAsked, FramesAsked, NextOf, asks-known, all-read, next-known, all-got, kinds_of}}
-use Rattle.pagable_laws.proofs.{Apart.{asks-by-kinds, faulty-by-kinds}, Sums.self-number, Taking.{adopted-over, eager-nested, Going, going-of}, Chains.IsGoingOn, Deeply.along-first}
+use Rattle.pagable_laws.proofs.{Words.{HandleRow, row_fault}, Trees.same_some, Fitting.asked, Apart.{IsFormOf, GotAsked, FramesAsked, NextOf, asks-known, all-read, next-known, kinds_of}}
+use Rattle.pagable_laws.proofs.{Apart.{asks-by-kinds, faulty-by-kinds, all-got}, Sums.self-number, Taking.{adopted-over, eager-nested, Going, going-of}, Chains.IsGoingOn, Deeply.along-first}
 use Rattle.{pagable_laws.proofs.ReadingSteps.{reading-stands, reading-number, reading-open}, std.proofs.Common.rules, pagable_world.specs.Loads.Does}
 use Rattle.pagable_world.specs.Workers as workers
 
