@@ -139,11 +139,8 @@ module _ {N B W : Type 0} (m : Seen N B W) (u u' : World) (work : StandsIn u) wh
           last = let e = s.next in omega arith;
           small = let e = s.next in omega arith;
           others = λ n other. no_step n;
-          own = begins t task (no_step v.0) (λ q i. (s.work.same_shelves q).slots i) (nobody above (u.work.walkings v.0) refl) new;
+          own = begins t task (no_step v.0) (λ q i. (s.work.same_shelves q).slots i) (grind (arith, nat_tests)) new;
         }
-      where
-        nobody : u.core.last.worker < v.0 → (o : Option Walking) → u.work.walkings v.0 ≡ o → u.work.walkings v.0 ≡ None
-        nobody x0 x1 is = grind (arith, nat_tests)
 
     tabled : ((n : ℕ) → step_of n event reply ≡ []) → KnowsTables u → (t : TableNumber) → t.0 ≡ u.work.last_table + 1 → Alike u.core u'.core
         → WorkIs (updated t.0 no_shelf u.work.shelves) t.0 u.work.walkings u'.work → EventTurns m u event reply u'

@@ -139,10 +139,8 @@ module _ {N E : Type 0} (v : Values N) (s : MachineState N E) (trees : ℕ → T
     not-broken [] fits got e is = cc
     not-broken (frame ∷ below) fits got e is =
         let t = top-known frame below fits got in
-        by (next-known v.types frame.node_type frame.blob t.known.refs t.known.form (first-asked frame below got))
-      where
-        by : {refs : List ArcRef} → NextOf frame.blob refs (next_in v.types frame) → ⊥
-        by x0 = grind (arith, nat_tests, next_in, v)
+        let next = next-known v.types frame.node_type frame.blob t.known.refs t.known.form (first-asked frame below got) in
+        grind (arith, nat_tests, next_in, v)
 
 -- ---- refusals
 

@@ -244,9 +244,6 @@ module _ {N : Type 0} {v : Values N} (lawful : IsLawful v) (readable : ReadsItsT
   root-right s trees reading x key whole represents fit root own =
       let here = subst (λ fs. FramesFit v.types s.core.stored trees key reading.node_type fs) root.frames fit in
       let fits = first-fits v.types key reading.node_type s.core.stored trees root.root [] here in
-      record { stands = λ t typed reads_tree. read_stands lawful readable s trees root.root x t fits root.decoded nodes-stand (typed ∙ root.decoded.typed) (subst (λ n. ReadsTree s.core.stored v.types n t) (sym (root-key v.types s.core.stored trees key reading.node_type root.root here)) reads_tree); own = own }
-    where
-      nodes-stand : (r : ArcRef) → Among (v.references x) r → NodeStands v s r.node.0 (trees r.node.0)
-      nodes-stand r among =
-          let is = own r among in
-          represents.stands r.node.0 (given-of whole.whole.handles r.node.0 is.typed).0
+      let nodes_stand : (r : ArcRef) → Among (v.references x) r → NodeStands v s r.node.0 (trees r.node.0) =
+      λ r among. represents.stands r.node.0 (given-of whole.whole.handles r.node.0 (own r among).typed).0 in
+      record { stands = λ t typed reads_tree. read_stands lawful readable s trees root.root x t fits root.decoded nodes_stand (typed ∙ root.decoded.typed) (subst (λ n. ReadsTree s.core.stored v.types n t) (sym (root-key v.types s.core.stored trees key reading.node_type root.root here)) reads_tree); own = own }
