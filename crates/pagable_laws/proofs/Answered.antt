@@ -33,7 +33,8 @@ module _ {N E B W : Type 0} (m : Seen N B W) (n : ℕ) (task : Task) (C : Type 0
       let g = went w all covers in
       let grown = grows n s.shelf s'.shelf g.changes in
       record {
-        own = λ i slot there own. let none : (slot.outcome ≡ no_result → false ≡ true) = λ still. subst (λ t. Covers s'.shelf n t) (g.done answer is) g.covers i slot there own still in grind (arith, nat_tests);
+        own = λ i slot there own.
+            let none : (slot.outcome ≡ no_result → false ≡ true) = λ still. subst (λ t. Covers s'.shelf n t) (g.done answer is) g.covers i slot there own still in grind (arith, nat_tests);
         others = others-were n s.shelf s'.shelf g.changes;
         met = λ c. answered n s'.shelf (past ++ step ∷ []) todo step answer is (fails-stay n s.shelf s'.shelf past (step ∷ []) todo grown (met c).1);
       }

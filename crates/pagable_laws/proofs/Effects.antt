@@ -57,18 +57,12 @@ module _ (kind key n : ℕ) where
   stays-alike {w} {w'} a e h = entered-of w' (a.cache.gives kind key ∙ can-use w e (subst IsHeldFor a.rows h))
 
   pub stays-fell : {before w w' : Core} {given : ℕ → Bool} {r : Result (Unit {0}) Error} → Falls before w given r w' → IsEntered w.cache w.cells → IsHeldFor w'.rows → IsEntered w'.cache w'.cells
-  stays-fell {before} {w} {w'} {given} {r} f e h = stays-alike {w = fallen w f.gone f.entries} f.leaves (record { entry = e.entry; there = there }) h
-    where
-      rows : List HandleRow
-      rows = left_rows f.gone w.rows ++ f.entries
-
-      some : nat_lt 0 (held n rows) ≡ true
-      some =
-          let g = subst IsHeldFor f.leaves.rows h in
-          above-none 0 (held n rows) (is_at n g.row) (at-row g.row g.at) (at-most-sum (λ x. one (is_at n x)) rows g.row g.live)
-
-      there : is_some (if nat_lt 0 (held n rows) then w.cells n else None) ≡ true
-      there = rw some e.there
+  stays-fell {before} {w} {w'} {given} {r} f e h =
+      let rows : List HandleRow = left_rows f.gone w.rows ++ f.entries in
+      let g : IsHeldFor rows = subst IsHeldFor f.leaves.rows h in
+      let some : nat_lt 0 (held n rows) ≡ true = above-none 0 (held n rows) (is_at n g.row) (at-row g.row g.at) (at-most-sum (λ x. one (is_at n x)) rows g.row g.live) in
+      let there : is_some (if nat_lt 0 (held n rows) then w.cells n else None) ≡ true = rw some e.there in
+      stays-alike {w = fallen w f.gone f.entries} f.leaves (record { entry = e.entry; there = there }) h
 
   -- ---- parts, one after another
 
@@ -78,7 +72,8 @@ module _ (kind key n : ℕ) where
 
   -- what is held after handles were given up was held before: an entry of the list comes for a node that was pinned
   pub held-fell : {w m w' : Core} {given : ℕ → Bool} {r : Result (Unit {0}) Error} → m.rows ≡ w.rows → Falls w m given r w' → IsHeldFor w'.rows → IsHeldFor w.rows
-  held-fell {w} {m} {w'} same f h = elim (among-either (left_rows f.gone m.rows) f.entries g.live.0 g.row g.live.1) [
+  held-fell {w} {m} {w'} same f h = let g : IsHeldFor (left_rows f.gone m.rows ++ f.entries) = subst IsHeldFor f.leaves.rows h in
+      elim (among-either (left_rows f.gone m.rows) f.entries g.live.0 g.row g.live.1) [
     | inl left ↦ record { row = g.row; live = subst (λ rows. Among rows g.row) same (among-kept _ m.rows g.row left); at = g.at; pins_it = g.pins_it }
     | inr new ↦
         let le = at-most-sum (λ x. one (is_at n x)) f.entries g.row new in
@@ -87,9 +82,6 @@ module _ (kind key n : ℕ) where
         let both = and_parts (p.0.node.0 == n) (is_pinning p.0.mode) (one-true _ p.2) in
         record { row = p.0; live = p.1; at = same-number _ _ both.0; pins_it = λ is. both.1 }
   ]
-    where
-      g : IsHeldFor (left_rows f.gone m.rows ++ f.entries)
-      g = subst IsHeldFor f.leaves.rows h
 
   -- ---- cells
 

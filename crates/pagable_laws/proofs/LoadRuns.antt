@@ -44,14 +44,12 @@ module _ {N E : Type 0} {v : Values N} (lawful : IsLawful v) (readable : ReadsIt
     -- the load goes on
     still : answer ≡ None → Under v s' fit.0 key (gone_on reading frames)
     still none =
+        let load = felt.opens none in
         let going = going-step u.well step.whole u.stands felt.does.goes fit.1 reading frames load.0 load.1 u.going
         (subst (λ (o : Option (LoadAnswer N)). ReadingFeels v s.core reading o frames s'.core felt.change) none feels) in
         let keyed : (other : OpenLoad) → s'.core.loads reading.load.0 ≡ Some other → other.key ≡ key = λ other there.
         u.keyed other (was-open felt.does.goes reading.load.0 other u.going.within there) in
         search (settled', step.whole, went.stands, going, keyed)
-      where
-        load : (x : OpenLoad) × (s.core.loads reading.load.0 ≡ Some x)
-        load = felt.opens none
 
     -- the value that it answers is that of its key
     module _ (x : N) (is : answer ≡ Some (LoadAnswer.Read x)) where

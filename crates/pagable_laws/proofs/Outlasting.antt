@@ -159,7 +159,8 @@ stands-new last rows row few next =
 
 pub found-kept : (gone : ℕ → Bool) (q : ℕ) (rows : List HandleRow) (row : HandleRow) → gone q ≡ false → find_row q rows ≡ Some row → find_row q (left_rows gone rows) ≡ Some row
 found-kept gone q rows row kept found = found-by q row (λ xs. find_row q (left_rows gone xs) ≡ Some row) (λ h hs is e.
-    let stays : gone h.number.0 ≡ false = ap gone (same-number _ _ is) ∙ kept in rw stays (find-front q h _ is ∙ ap (λ (x : HandleRow). Some x) e)) (λ h hs is a. grind (arith, nat_tests, find-later)) rows found
+    let stays : gone h.number.0 ≡ false = ap gone (same-number _ _ is) ∙ kept in rw stays (find-front q h _ is ∙ ap (λ (x : HandleRow). Some x) e))
+    (λ h hs is a. grind (arith, nat_tests, find-later)) rows found
 
 pub among-kept : {X : Type 0} (test : X → Bool) (xs : List X) (x : X) → Among (filter test xs) x → Among xs x
 among-kept test [] x among = among

@@ -55,15 +55,13 @@ module _ {N E : Type 0} {v : Values N} (lawful : IsLawful v) (readable : ReadsIt
   pub read-right : (reading : Reading) → Going v s trees reading → (load : OpenLoad) → s.core.loads reading.load.0 ≡ Some load → (x : N) → ReadsRoot v reading x
       → HandsOver s.core reading.load (v.references x) s'.core → ReadIsRight v s' load.key x
   read-right reading g load open_load x root hands =
-      let after = frames-stay v.types load.key reading.node_type s.core.stored s'.core.stored trees trees' s.core.last.node reading.frames stored same (given-nodes reading.frames g.held) fit in
+      let after = frames-stay v.types load.key reading.node_type s.core.stored s'.core.stored trees trees' s.core.last.node reading.frames stored same
+      (given-nodes reading.frames g.held) (g.fits load open_load) in
       root-right lawful readable s' trees' reading x load.key whole' stands' after root owned
     where
-      fit : FramesFit v.types s.core.stored trees load.key reading.node_type reading.frames
-      fit = g.fits load open_load
-
       owned : (r : ArcRef) → Among (v.references x) r → IsReference s'.core Owner.Caller r
       owned r among =
-          let here = subst (λ fs. FramesFit v.types s.core.stored trees load.key reading.node_type fs) root.frames fit in
+          let here = subst (λ fs. FramesFit v.types s.core.stored trees load.key reading.node_type fs) root.frames (g.fits load open_load) in
           let fits = first-fits v.types load.key reading.node_type s.core.stored trees root.root [] here in
           let got = (decodes lawful readable root.root x fits root.decoded).got r among in
           let front : Among reading.frames root.root = subst (λ fs. Among fs root.root) (sym root.frames) (zero, refl) in

@@ -212,12 +212,11 @@ module _ {N B W E : Type 0} (m : Seen N B W) (s : MachineState N E) (trees : ℕ
     fits = going.fits load (reading-open s on.whole l reading at open_load)
 
     of-type : reading.node_type ≡ t
-    of-type = grind (arith, nat_tests, there)
-      where
-        there : s.work.readings l.0 ≡ Some reading → reading.node_type ≡ t
-        there is =
-            let a = on.whole.readings l.0 reading is in
-            subst (λ root. FitsRoot root reading) (ap (λ (x : OpenLoad). x.root) (same_some _ _ (sym a.open_load ∙ open_load)) ∙ paged.3) a.typed
+    of-type =
+        let there : (s.work.readings l.0 ≡ Some reading → reading.node_type ≡ t) = λ is.
+        let a = on.whole.readings l.0 reading is in
+        subst (λ root. FitsRoot root reading) (ap (λ (x : OpenLoad). x.root) (same_some _ _ (sym a.open_load ∙ open_load)) ∙ paged.3) a.typed in
+        grind (arith, nat_tests, there)
 
     -- the tree that it reads
     typed : (trees out.i.node.0).type ≡ reading.node_type
