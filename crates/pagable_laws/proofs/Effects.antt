@@ -210,8 +210,8 @@ module _ (mine : Owner) where
       above a b c e le same = omega arith
 
   -- handles that a load hands over aren't the owner's
-  pub handed-free : IsApart mine → (w : Core) (l : LoadNumber) (hs : List HandleNumber) (seen : List ℕ) → named_fault w (Owner.Load l) seen hs ≡ None → (q : ℕ) (row : HandleRow) → row.owner ≡ mine
-      → Stands w.last.handle w.rows q row → is_in (numbers_of hs) q ≡ false
+  pub handed-free : ((load : LoadNumber) → is_owner (Owner.Load load) mine ≡ false) → (w : Core) (l : LoadNumber) (hs : List HandleNumber) (seen : List ℕ) → named_fault w (Owner.Load l) seen hs ≡ None
+      → (q : ℕ) (row : HandleRow) → row.owner ≡ mine → Stands w.last.handle w.rows q row → is_in (numbers_of hs) q ≡ false
   unfolding named_fault is_in
   handed-free apart w l [] seen none q row own s = refl
   handed-free apart w l (h ∷ hs) seen none q row own s = by (λ rest. handed-free apart w l hs (h.0 ∷ seen) rest q row own s) (h.0 == q) refl (both-none _ _ none)
@@ -306,7 +306,7 @@ module _ {me : Owner} {lists : Bool} where
 
   -- handles that a load hands over
   pub handed : (w : Core) (l : LoadNumber) (hs : List HandleNumber) → named_fault w (Owner.Load l) [] hs ≡ None → Ours me lists w (is_in (numbers_of hs))
-  handed w l hs none mine o = record { each = handed-free mine o.apart w l hs [] none }
+  handed w l hs none mine o = record { each = handed-free mine o.apart.no_load w l hs [] none }
 
 module _ {me : Owner} {lists : Bool} {Asks Leaves : Type 0} where
   -- ---- what is done directly

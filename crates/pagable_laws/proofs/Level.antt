@@ -9,7 +9,7 @@ use Rattle.pagable_laws.proofs.Words.{◌⊎◌, LoadAnswer, Frame, BeginCall, R
 use Rattle.pagable_laws.proofs.Words.{EventReply, one_more, load_fault, reading_at, reading_after, ReadingsAre, ReadingBrings, world_of, WorkStays, OnlyCore, Beginning, MachineState, fresh}
 use Rattle.pagable_laws.proofs.Words.{references_in, SameReferences, IsReadable, LiesIn, Throughout, throughout-in, none-followed, rest_of, Tree, tree, IsLawful, ReadsItsTypes, KeepsOpen, FallsAnyhow}
 use Rattle.pagable_laws.proofs.{Words.{HandOverCall, LazyCall, EndCall, SetKeyCall, PinsAtOnce, ReadsAsType, IsWellAsked, IsPremised, state_after, TwoLevelsMeetTheHeadline}, GoodReferences.good}
-use Rattle.pagable_laws.proofs.{Trees.same_some, Two.and-false, Joining.new_whole, Chains.headline_law, Few.{updated-past, alike-self, falls-so, AreAlone, falls-alone, Few, Passes, whole-so}}
+use Rattle.pagable_laws.proofs.{Trees.same_some, Existing.and-false, Joining.new_whole, Chains.headline_law, Few.{updated-past, alike-self, falls-so, AreAlone, falls-alone, Few, Passes, whole-so}}
 use Rattle.pagable_world.specs.Refusals.{OwnsLoad}
 use Rattle.pagable_world.specs.{Workers.Site, World.HasForm}
 use Rattle.pagable_laws.specs.TwoLevels as two
