@@ -2,9 +2,9 @@
 use Rattle.pagable_laws.proofs.Words.{◌≡◌, ℕ, suc, ◌<◌, ◌≤◌, ◌==◌, ◌&&◌, Bool, true, false, List, [], ◌∷◌, refl, ap, sym, subst, arith, All, not, Ok, None, is_some, nat_lt, nat_le, nat_eq, and_parts}
 use Rattle.pagable_laws.proofs.Words.{agree_below, agree_below_at, nat_tests, AllPairs-cons, Among, times, one, updated, Owner, HandleRow, is_shared, is_loose, is_owner, type_of, is_owned_by}
 use Rattle.pagable_laws.proofs.Words.{owner_value, is_at, is_pin, is_share, held, pins, sharing, Core, OpenLoad, Root, of_cell, of_key, row_at, type_at, Alike, loses_value, owned_outside, is_keyed}
-use Rattle.pagable_laws.proofs.Words.{IsLeast, MustList, Falls, fallen, IsHandleBefore, length, ◌∙◌, inl, Option, Some, ArcRef, sample_references, value_at, is_shared_kind, is_handle, is_here}
-use Rattle.pagable_laws.proofs.{Words.{cases_lt, inr, references_fault, WellFormed, MayOwnLoad, no_work, Sample, sample, sample_type, machine}, Sums.sum-zero, GoodReferences.good, Existing.within-self}
-use Rattle.std.{proofs.Common.rules, specs.{Prelude.IfSome, List.{AllPairs, AllByRecursion as Each}}}
+use Rattle.pagable_laws.proofs.Words.{IsLeast, MustList, Falls, fallen, IsHandleBefore, length, ◌∙◌, inl, inr, Option, Some, ArcRef, sample_references, value_at, is_shared_kind, is_handle, is_here}
+use Rattle.pagable_laws.proofs.{Words.{references_fault, WellFormed, MayOwnLoad, no_work, Sample, sample, sample_type, machine}, Sums.sum-zero, GoodReferences.good, Existing.within-self}
+use Rattle.std.{proofs.{Common.rules, lemmas.Bool.cases_lt}, specs.{Prelude.IfSome, List.{AllPairs, AllByRecursion as Each}}}
 
 -- ---- lists, options and numbers
 
