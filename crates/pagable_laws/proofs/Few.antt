@@ -120,6 +120,10 @@ Few w =
     ((n : ℕ) → 3 < n → w.cells n ≡ None) × ((l : ℕ) → 3 < l → w.loads l ≡ None) × ((v : ℕ) → 1 < v → w.workers v ≡ false)
     × ((kind key n : ℕ) → w.cache kind key ≡ Some n → (kind ≡ 4) × (key ≡ 8) × (n ≡ 3))
 
+-- where it knows nothing
+pub none-cached : (kind key n : ℕ) → ◌≡◌ {A = Option ℕ} None (Some n) → (kind ≡ 4) × (key ≡ 8) × (n ≡ 3)
+none-cached kind key n is = absurd (cc)
+
 -- the handles stand in the order of their numbers, which are above this one
 abbrev pub Rises : ℕ → List HandleRow → Type 0
 Rises low [] = Unit {0}

@@ -13,7 +13,7 @@ use Rattle.pagable_laws.proofs.Words.{root_frame, IsClosed, IsWithin, with_mode,
 use Rattle.pagable_laws.proofs.Words.{reading_after, ReadingsAre, ReadingBrings, world_of, WorkStays, OnlyCore, Beginning, MachineState, fresh, references_in, SameReferences, IsReadable, LiesIn}
 use Rattle.pagable_laws.proofs.Words.{Throughout, none-followed, rest_of, Tree, tree, IsLawful, ReadsItsTypes, KeepsOpen, FallsAnyhow, HandOverCall, LazyCall, EndCall, SetKeyCall, PinsAtOnce}
 use Rattle.pagable_laws.proofs.{Words.{ReadsAsType, IsWellAsked, IsPremised, state_after, TwoLevelsMeetTheHeadline}, GoodReferences.good, Trees.same_some, Existing.and-false, Joining.new_whole}
-use Rattle.pagable_laws.proofs.{Chains.headline_law, Few.{updated-past, alike-self, falls-so, AreAlone, falls-alone, Few, Passes, whole-so}}
+use Rattle.pagable_laws.proofs.{Chains.headline_law, Few.{updated-past, alike-self, falls-so, AreAlone, falls-alone, Few, Passes, whole-so, none-cached}}
 use Rattle.pagable_world.specs.{Refusals.OwnsLoad, Workers.Site, World.HasForm, Runs.Does, Events.Happens, LoadCalls.IsNextLoad, Pager.{EventBrings, ReplyWrites}, Calls.IsNext}
 use Rattle.pagable_model.specs.Keyed.{throughout-alone}
 
@@ -150,11 +150,6 @@ none-there x0 x is = grind (arith, nat_tests)
 pub again : {X : Type 0} (n : ℕ) (x y : X) (f : ℕ → X) (q : ℕ) → updated n y f q ≡ updated n y (updated n x f) q
 again n x y f q = grind (arith, nat_tests)
 
-pub few-walked : (n : ℕ) (x : two.Working) → Few x.core → let y = two.walked n x in Few y.core
-unfolding two.walked
-few-walked zero x few = few
-few-walked (suc n) x few = let a = two.next_step x.core x.shelf x.todo in let y = two.next x in few-walked n y (few-ended y.answer a.1 (few-next x.core x.shelf x.todo few))
-
 -- what happens, what values come, and that the machine is good afterwards
 does : (s : MachineState two.Sample (Unit {0})) (event : Event two.Sample Blob Written) (reply : EventReply two.Sample Blob Written) (w : Core) (vs : List (Option two.Sample)) (shelf : Shelf)
     (walking : Option Walking) (reading : Option Reading) → let s' = two.machine w vs (two.work_of shelf walking reading) in Happens two.sample_seen (world_of s) event reply (world_of s')
@@ -204,17 +199,12 @@ begun-asks = search arith
 
 pub births-good : Good two.new_core [] × Good two.child_born (None ∷ Some two.leaf ∷ []) × Good two.both_born two.two_values × Good two.begun.core two.two_values
 unfolding value_at is_named_by find_row references_fault is_in
-births-good =
-    let none : Few two.new_core = (λ n lt. refl, λ l lt. refl, λ v lt. refl, λ kind key n is. absurd (cc)) in
-    let child : Few two.child_born = (updated-past 3 1 _ None (λ n. None) (omega arith) (λ n lt. refl), none.1, none.2, none.3) in
-    let both : Few two.both_born = (updated-past 3 2 _ None two.child_born.cells (omega arith) child.0, none.1, none.2, none.3) in
-    let begun : Few two.begun.core = (both.0, none.1, updated-past 1 1 true false (λ v. false) (omega arith) none.2, none.3) in
-    ((none, search arith), (child, search arith), (both, search arith), (begun, search arith))
+births-good = (search (arith, none-cached), search (arith, none-cached), search (arith, none-cached), search (arith, none-cached))
 
 loads-good : Good two.evicted [] × Good two.loading [] × Good two.child_got [] × Good two.loaded two.last_values × Good two.key_loading two.last_values × Good two.read_back two.last_values
 unfolding two.walked value_at is_named_by find_row preimage references_fault is_in
 loads-good =
-    let gone : Few two.evicted = few-fallen (with_mode two.answered.core (two.handle 2) Mode.LooseUnpinned) two.child_handle (few-walked 15 two.begun births-good.3.0) in
+    let gone : Few two.evicted = search (arith, none-cached) in
     let begun : Few two.loading = (gone.0, updated-past 3 1 _ None two.evicted.loads (omega arith) gone.1, gone.2, gone.3) in
     let got : Few two.child_got = (updated-past 3 3 _ None two.loading.cells (omega arith) begun.0, begun.1, gone.2, λ kind key n is. grind (arith, nat_tests)) in
     let loaded : Few two.loaded = few-fallen (two.installed two.child_got) (two.given_up two.child_got) (got.0, updated-past 3 1 None None two.loading.loads (omega arith) begun.1, gone.2, got.3) in
