@@ -201,6 +201,20 @@ module _ (mine : Owner) where
         cc);
   }
 
+  -- handles that a load hands over aren't the owner's
+  pub handed-free : ((load : LoadNumber) → is_owner (Owner.Load load) mine ≡ false) → (w : Core) (l : LoadNumber) (hs : List HandleNumber) (seen : List ℕ) → named_fault w (Owner.Load l) seen hs ≡ None
+      → (q : ℕ) (row : HandleRow) → row.owner ≡ mine → Stands w.last.handle w.rows q row → is_in (numbers_of hs) q ≡ false
+  unfolding named_fault is_in
+  handed-free apart w l [] seen none q row own s = refl
+  handed-free apart w l (h ∷ hs) seen none q row own s = by (λ rest. handed-free apart w l hs (h.0 ∷ seen) rest q row own s) (h.0 == q) refl (both-none _ _ none)
+    where
+      by : (named_fault w (Owner.Load l) (h.0 ∷ seen) hs ≡ None → is_in (numbers_of hs) q ≡ false) → (b : Bool) → (h.0 == q) ≡ b
+          → (if_there (λ (x : HandleRow). refused_if (not (is_owner (Owner.Load l) x.owner) || is_in seen h.0) Error.NotYours) (Some Error.NoSuchHandle) (row_at w h) ≡ None)
+          × (named_fault w (Owner.Load l) (h.0 ∷ seen) hs ≡ None)
+          → (b || is_in (numbers_of hs) q) ≡ false
+      by more false e (first, rest) = more rest
+      by more true e (first, rest) = grind (arith, nat_tests, same-number, apart)
+
 -- ---- what a step does
 
 -- an owner of whom nothing is taken: not the asker, no value and no load; and not the list, where its entries may be taken
@@ -274,10 +288,7 @@ module _ {me : Owner} {lists : Bool} where
 
   -- handles that a load hands over
   pub handed : (w : Core) (l : LoadNumber) (hs : List HandleNumber) → named_fault w (Owner.Load l) [] hs ≡ None → Ours me lists w (is_in (numbers_of hs))
-  handed w l hs none mine o = record {
-    each = λ q row own s. false_from_ne_true (is_in (numbers_of hs) q) (λ e.
-        let has = named w (Owner.Load l) [] hs none (record { 0 = q }) e in not-load l o.apart (sym has.own ∙ sym (same-row mine has.row s has.live refl) ∙ own));
-  }
+  handed w l hs none mine o = record { each = handed-free mine o.apart.no_load w l hs [] none }
 
 module _ {me : Owner} {lists : Bool} {Asks Leaves : Type 0} where
   -- ---- what is done directly

@@ -1,8 +1,11 @@
--- The least set of handles that fall.
+-- The least set of handles that fall. What falls of a value of two levels; and a lone cell that is unpinned.
 use Rattle.pagable_laws.proofs.Words.{◌≡◌, ℕ, suc, zero, ◌+◌, ◌<◌, ◌≤◌, ◌==◌, ◌&&◌, ◌||◌, Bool, true, false, List, sum_by, refl, ap, sym, ◌∙◌, arith, nat_lt, not, nat_tests, cases_lt, inl, inr}
 use Rattle.pagable_laws.proofs.Words.{and_parts, one, Among, Owner, HandleRow, is_owner, is_owned_by, owner_value, is_at, is_pin, is_outside, loses_value, IsClosed, IsWithin, IsLeast, OwnsNothing}
-use Rattle.pagable_laws.proofs.{Words.IsGivenAlone, Sums.{same-number, one-true, sum-le, at-most-sum, sum-plus, sum-zero, counted}}
-use Rattle.std.proofs.lemmas.Bool.{false_from_ne_true, cases_Bool}
+use Rattle.pagable_laws.proofs.Words.{IsGivenAlone, [], ◌∷◌, length, Option, Ok, sum_by-cons, Blob, Mode, pins, held, find_row, Last, owned_outside, Falls, nobody, row_of, with_mode, UnpinCall}
+use Rattle.pagable_laws.proofs.Words.{two_rows, are_two, outer, first, first_node, lone, lone_listed, lone_unlisted, TwoLevelsFall, LoneIsListed}
+use Rattle.pagable_laws.proofs.Sums.{same-number, one-true, sum-le, at-most-sum, sum-plus, sum-zero, counted, one-small}
+use Rattle.std.proofs.lemmas.Bool.{false_from_ne_true}
+use Rattle.pagable_laws.specs.SmallWorlds.{both}
 
 -- 1 for a handle outside the set; one of the node, one that pins it, one that its value owns; and one of the one set and not of the other
 abbrev outside : (ℕ → Bool) → HandleRow → ℕ
@@ -83,26 +86,23 @@ module _ (rows : List HandleRow) (keyed : ℕ → Bool) (entries : List HandleRo
     but q = gone q && not (stay q)
 
     but-holds : IsWithin rows given but
-    but-holds = sum-zero (only_in given but) rows (λ h among. elim (cases_Bool (given h.number.0)) [
-      | inl e ↦ rw (e, inside given gone h least.holds among e, free h among e) refl
-      | inr e ↦ rw e refl
-    ])
+    but-holds = sum-zero (only_in given but) rows (λ h among. grind (arith, nat_tests, inside given gone h least.holds among, free h among))
 
     but-closed : IsClosed rows keyed entries but
     but-closed n goes =
         let lost_too = wider but gone n (sum-zero (only_in but gone) rows (λ h among. grind (arith, nat_tests))) goes in
         let none = least.closed n lost_too in
-        sum-zero (owned_out but n) rows (λ h among. elim (cases_Bool (is_owner (owner_value n) h.owner)) [
-          | inl e ↦ let f = apart n h among e lost_too in let a = at-most-sum (owned_out gone n) rows h among in grind (arith, nat_tests)
-          | inr e ↦ rw e refl
-        ])
+        sum-zero (owned_out but n) rows (λ h among.
+        let f : is_owner (owner_value n) h.owner ≡ true → stay h.number.0 ≡ false = λ e. apart n h among e lost_too in
+        let a = at-most-sum (owned_out gone n) rows h among in
+        grind (arith, nat_tests, f))
 
     pub outlast : (h : HandleRow) → Among rows h → stay h.number.0 ≡ true → gone h.number.0 ≡ false
     outlast h among is = false_from_ne_true (gone h.number.0) (λ e. let goes = inside gone but h (least.least but but-holds but-closed) among e in grind (arith, nat_tests))
 
   -- what follows is in each closed set
   stays : (s t : ℕ → Bool) → IsWithin rows s t → IsClosed rows keyed entries t → IsWithin rows (more s) t
-  stays s t within closed = sum-zero (only_in (more s) t) rows (λ h among. part h among (s h.number.0) refl (nat_lt 0 (sum_by (follows (lost s) h.number.0) rows)) refl)
+  stays s t within closed = sum-zero (only_in (more s) t) rows (λ h among. grind (arith, nat_tests, inside s t h within among, owned h among))
     where
       owned : (h : HandleRow) → Among rows h → 0 < sum_by (follows (lost s) h.number.0) rows → t h.number.0 ≡ true
       owned h among some = (grind (arith, nat_tests, one-true, of-value, same-number, owner-of, counted (follows (lost s) h.number.0) rows some))
@@ -113,11 +113,6 @@ module _ (rows : List HandleRow) (keyed : ℕ → Bool) (entries : List HandleRo
               let at : owned_out t n x ≤ sum_by (owned_out t n) rows = at-most-sum (owned_out t n) rows x among in
               let it : t x.number.0 ≡ true = grind (arith, nat_tests) in
               sym (ap t number) ∙ it
-
-      part : (h : HandleRow) → Among rows h → (a : Bool) → s h.number.0 ≡ a → (b : Bool) → nat_lt 0 (sum_by (follows (lost s) h.number.0) rows) ≡ b → only_in (more s) t h ≡ 0
-      part h among true e b f = let c = inside s t h within among e in grind (arith, nat_tests)
-      part h among false e true f = let c = owned h among (grind (arith, nat_tests)) in grind (arith, nat_tests)
-      part h among false e false f = grind (arith, nat_tests)
 
   less : (s : ℕ → Bool) → sum_by (outside (more s)) rows ≤ sum_by (outside s) rows
   less s = sum-le (outside (more s)) (outside s) rows (λ h among. shrinks s h)
@@ -133,19 +128,14 @@ module _ (rows : List HandleRow) (keyed : ℕ → Bool) (entries : List HandleRo
     | inr enough ↦ (s, record { holds = holds; closed = closed-if s (let l = less s in omega arith); least = least })
   ]
 
-  within-self : (given : ℕ → Bool) → IsWithin rows given given
+  pub within-self : (given : ℕ → Bool) → IsWithin rows given given
   within-self given = sum-zero (only_in given given) rows (λ h among. grind (arith, nat_tests))
 
   pub least_is_there : (given : ℕ → Bool) → (s : ℕ → Bool) × IsLeast rows keyed entries given s
   least_is_there given = grows given (sum_by (outside given) rows) given (omega arith) (within-self given) (λ t holds closed. holds)
 
   pub least_is_one : (given s t : ℕ → Bool) (h : HandleRow) → IsLeast rows keyed entries given s → IsLeast rows keyed entries given t → Among rows h → s h.number.0 ≡ t h.number.0
-  least_is_one given s t h a b among = both (s h.number.0) refl (t h.number.0) refl
-    where
-      both : (x : Bool) → s h.number.0 ≡ x → (y : Bool) → t h.number.0 ≡ y → s h.number.0 ≡ t h.number.0
-      both true e false f = let c = inside s t h (a.least t b.holds b.closed) among e in absurd (grind (arith, nat_tests))
-      both false e true f = let c = inside t s h (b.least s a.holds a.closed) among f in absurd (grind (arith, nat_tests))
-      both _ e _ f = e ∙ sym f
+  least_is_one given s t h a b among = grind (arith, nat_tests, inside s t h (a.least t b.holds b.closed) among, inside t s h (b.least s a.holds a.closed) among)
 
 -- where no value owns a handle, every set is closed
 closed-alone : (rows : List HandleRow) (keyed : ℕ → Bool) (entries : List HandleRow) (s : ℕ → Bool) → OwnsNothing rows → IsClosed rows keyed entries s
@@ -159,3 +149,63 @@ given-least rows keyed entries given nothing = record { holds = within-self rows
 
 pub given_alone : IsGivenAlone
 given_alone rows keyed entries given s h nothing least among = least_is_one rows keyed entries given s given h least (given-least rows keyed entries given nothing) among
+
+-- ---- a value of two levels, and a lone cell
+
+pub and-false : (b : Bool) → one (b && false) ≡ 0
+and-false x0 = grind (arith, nat_tests)
+
+both-least : IsLeast two_rows are_two [] outer both
+both-least = record { holds = refl; closed = grind (arith, nat_tests, and-false); least = least }
+  where
+    least : (t : ℕ → Bool) → IsWithin two_rows outer t → IsClosed two_rows are_two [] t → IsWithin two_rows both t
+    least t holds closed =
+        let goes : loses_value two_rows are_two [] t 1 ≡ true = grind (arith, nat_tests) in
+        let fallen : owned_outside two_rows t 1 ≡ 0 = closed 1 goes in
+        omega arith
+
+outer-not : ¬ IsLeast two_rows are_two [] outer outer
+outer-not least = let fallen = least.closed 1 refl in absurd (omega arith)
+
+pub two_fall : TwoLevelsFall
+two_fall = record { falls = both-least; not_less = outer-not }
+
+-- ---- a lone cell is listed
+
+-- the entry that comes
+abbrev came : List HandleRow
+came = row_of 2 first_node Mode.LooseUnpinned Owner.List ∷ []
+
+fell : (stored : ℕ → Option Blob) → Falls (lone stored) (with_mode (lone stored) first Mode.LooseUnpinned) nobody (Ok tt) (lone_listed stored)
+fell stored =
+    record {
+      gone = nobody;
+      entries = came;
+      set = given-least _ _ _ nobody (omega arith);
+      new = (refl, refl, refl, tt);
+      only = λ n some. ((grind (arith, nat_tests, first)), (grind (arith, nat_tests)));
+      each = λ n must. inl (grind (arith, nat_tests));
+      tells = record { all = λ n must. grind (arith, nat_tests); not_all = tt };
+      within = omega arith;
+      leaves = grind (arith, nat_tests);
+    }
+
+lone-unpinned : (stored : ℕ → Option Blob) → UnpinCall (lone stored) Owner.Caller first (Ok tt) (lone_listed stored)
+unfolding find_row
+lone-unpinned stored = record { does = inr (row_of 1 first_node Mode.LoosePinned Owner.Caller, record { live = refl; own = refl; as_asked = refl }, inr (refl, fell stored)) }
+
+not-unlisted : (stored : ℕ → Option Blob) → ¬ UnpinCall (lone stored) Owner.Caller first (Ok tt) (lone_unlisted stored)
+not-unlisted stored call = elim call.does [
+  | inl refused ↦ absurd (cc)
+  | inr (row, own, inl (is, told, alike)) ↦ let pins_are : pins 1 (lone_unlisted stored).rows ≡ pins 1 (lone stored).rows = ap (pins 1) alike.rows in absurd (omega arith)
+  | inr (row, own, inr (is, falls)) ↦ unlisted falls
+]
+  where
+    unlisted : Falls (lone stored) (with_mode (lone stored) first Mode.LooseUnpinned) nobody (Ok tt) (lone_unlisted stored) → ⊥
+    unlisted falls =
+        let last : 1 ≡ 1 + length falls.entries = ap (λ (l : Last). l.handle) falls.leaves.last in
+        let few : held 1 falls.entries ≤ length falls.entries = grind (arith, nat_tests, sum_by-cons, one-small) in
+        omega arith
+
+pub is_listed : LoneIsListed
+is_listed = record { listed = lone-unpinned; not_unlisted = not-unlisted }

@@ -2,9 +2,9 @@
 use Rattle.pagable_laws.proofs.Words.{◌≡◌, ℕ, suc, ◌<◌, ◌≤◌, ◌==◌, ◌&&◌, Bool, true, false, List, [], ◌∷◌, refl, ap, sym, subst, arith, All, not, Ok, None, is_some, nat_lt, nat_le, nat_eq, and_parts}
 use Rattle.pagable_laws.proofs.Words.{agree_below, agree_below_at, nat_tests, AllPairs-cons, Among, times, one, updated, Owner, HandleRow, is_shared, is_loose, is_owner, type_of, is_owned_by}
 use Rattle.pagable_laws.proofs.Words.{owner_value, is_at, is_pin, is_share, held, pins, sharing, Core, OpenLoad, Root, of_cell, of_key, row_at, type_at, Alike, loses_value, owned_outside, is_keyed}
-use Rattle.pagable_laws.proofs.Words.{IsLeast, MustList, Falls, fallen, IsHandleBefore, length, ◌∙◌, inl, Option, Some, ArcRef, sample_references, value_at, is_shared_kind, is_handle, is_here}
-use Rattle.pagable_laws.proofs.{Words.{references_fault, WellFormed, MayOwnLoad, no_work, Sample, sample, sample_type, machine}, Sums.sum-zero, GoodReferences.good}
-use Rattle.std.{proofs.Common.rules, specs.{Prelude.IfSome, List.{AllPairs, AllByRecursion as Each}}}
+use Rattle.pagable_laws.proofs.Words.{IsLeast, MustList, Falls, fallen, IsHandleBefore, length, ◌∙◌, inl, inr, Option, Some, ArcRef, sample_references, value_at, is_shared_kind, is_handle, is_here}
+use Rattle.pagable_laws.proofs.{Words.{references_fault, WellFormed, MayOwnLoad, no_work, Sample, sample, sample_type, machine}, Sums.sum-zero, GoodReferences.good, Existing.within-self}
+use Rattle.std.{proofs.{Common.rules, lemmas.Bool.cases_lt}, specs.{Prelude.IfSome, List.{AllPairs, AllByRecursion as Each}}}
 
 -- ---- lists, options and numbers
 
@@ -24,11 +24,7 @@ by-four : (P : ℕ → Type 0) → P 0 × P 1 × P 2 × P 3 → ((n : ℕ) → 3
 by-four x0 h past x3 = grind (arith, nat_tests)
 
 by-number : (k : ℕ) (f g : ℕ → Bool) → agree_below f g (suc k) ≡ true → ((n : ℕ) → k < n → f n ≡ g n) → (n : ℕ) → f n ≡ g n
-by-number k f g ok past n = part (nat_le n k) refl
-  where
-    part : (b : Bool) → nat_le n k ≡ b → f n ≡ g n
-    part true e = agree_below_at f g (suc k) n ok (grind (arith, nat_tests))
-    part false e = past n (grind (arith, nat_tests))
+by-number k f g ok past n = elim (cases_lt k n) [ inl lt ↦ past n lt | inr le ↦ agree_below_at f g (suc k) n ok (omega arith) ]
 
 pub updated-past : {X : Type 0} (k m : ℕ) (x d : X) (f : ℕ → X) → m ≤ k → ((n : ℕ) → k < n → f n ≡ d) → (n : ℕ) → k < n → updated m x f n ≡ d
 updated-past k m x d f le past n lt = let a : (n == m) ≡ false = grind (arith, nat_tests) in rw a (past n lt)
@@ -58,10 +54,7 @@ module _ (rows : List HandleRow) (low : Each RowLow rows) where
   pins-past n lt = none-pass RowLow (is_pin n) rows low (λ h ok. let a = node-low n lt h ok in rw a refl)
 
   unshared : (n : ℕ) → sharing n rows ≡ 0
-  unshared n = none-pass RowLow (is_share n) rows low (λ h ok. and-false (is_at n h) (is_shared h.mode) ok.1)
-    where
-      and-false : (a b : Bool) → b ≡ false → (a && b) ≡ false
-      and-false a b is = grind (arith, nat_tests)
+  unshared n = none-pass RowLow (is_share n) rows low (λ h ok. let a = ok.1 in grind (arith, nat_tests))
 
   owner-past : (n : ℕ) → 3 < n → (o : Owner) → OwnerLow o → is_owner (owner_value n) o ≡ false
   owner-past n lt x2 ok = grind (arith, nat_tests)
@@ -110,15 +103,12 @@ AreAlone before w given =
 pub falls-alone : (before w : Core) (given : ℕ → Bool) → AreAlone before w given → Falls before w given (Ok tt) (fallen w given [])
 falls-alone before w given (low_before, low, few, none, ok) =
     falls-so before w given given low_before few none (record {
-      holds = sum-zero (λ h. one (given h.number.0 && not (given h.number.0))) w.rows (λ h among. self (given h.number.0));
+      holds = within-self w.rows (is_keyed w) [] given;
       closed = λ n goes. let a = by-number 3 (takes_more w given) never ok (λ n lt. past (loses_value w.rows (is_keyed w) [] given n) (search (rules, none-pass, owner-past))) n in
           grind (arith, nat_tests);
       least = λ t holds closed. holds;
     })
   where
-    self : (b : Bool) → one (b && not b) ≡ 0
-    self x0 = grind (arith, nat_tests)
-
     past : {k : ℕ} (b : Bool) → k ≡ 0 → (b && nat_lt 0 k) ≡ false
     past x0 e = grind (arith, nat_tests)
 
@@ -129,6 +119,10 @@ abbrev pub Few : Core → Type 0
 Few w =
     ((n : ℕ) → 3 < n → w.cells n ≡ None) × ((l : ℕ) → 3 < l → w.loads l ≡ None) × ((v : ℕ) → 1 < v → w.workers v ≡ false)
     × ((kind key n : ℕ) → w.cache kind key ≡ Some n → (kind ≡ 4) × (key ≡ 8) × (n ≡ 3))
+
+-- where it knows nothing
+pub none-cached : (kind key n : ℕ) → ◌≡◌ {A = Option ℕ} None (Some n) → (kind ≡ 4) × (key ≡ 8) × (n ≡ 3)
+none-cached kind key n is = absurd (cc)
 
 -- the handles stand in the order of their numbers, which are above this one
 abbrev pub Rises : ℕ → List HandleRow → Type 0

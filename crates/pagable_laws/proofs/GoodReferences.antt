@@ -37,7 +37,7 @@ pins-left n gone (h ∷ hs) more k none = at (gone h.number.0) (pins-left n gone
         → pins n (cond (not b) (h ∷ left_rows gone hs) (left_rows gone hs) ++ more) ≤ pins n (h ∷ hs)
     at x0 le a b = grind (arith, nat_tests)
 
-no-pins : (n last : ℕ) (entries : List HandleRow) → AreNewEntries last entries → pins n entries ≡ 0
+pub no-pins : (n last : ℕ) (entries : List HandleRow) → AreNewEntries last entries → pins n entries ≡ 0
 no-pins n last [] new = refl
 no-pins n last (h ∷ hs) (number, mode, owner, new) = grind (arith, nat_tests, one, no-pins n (last + 1) hs new)
 

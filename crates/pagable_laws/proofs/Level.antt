@@ -1,22 +1,21 @@
 -- The chain of two levels is one of the machine, and meets the headline with all that it asks: its pagers are whole by closed facts, and so is each step.
-use Rattle.pagable_laws.proofs.Words.{◌≡◌, ℕ, zero, suc, ◌<◌, ◌≤◌, ◌==◌, Bool, true, false, List, [], ◌∷◌, refl, sym, subst, arith, Ok, None, is_some, nat_le, nat_tests, updated, Owner, HandleRow}
-use Rattle.pagable_laws.proofs.Words.{held, Core, OpenLoad, of_cell, of_key, row_at, owned_outside, is_keyed, fallen, length, ◌∙◌, inl, Option, Some, sample_references, value_at, is_here}
-use Rattle.pagable_laws.proofs.Words.{references_fault, Sample, sample, machine, ◌++◌, ◌+◌, inr, is_none, if_there, blob_of, HandleNumber, Blob, Took, Mode, WorkerAnswer, PagerState, TodoTakesWell}
-use Rattle.pagable_laws.proofs.Words.{ArePremised, find_row, is_named_by, preimage, IsSettled, is_in, identity_of, Shelf, Written, Todo, Reading, to_start, to_pin, to_write, to_set, to_publish}
-use Rattle.pagable_laws.proofs.Words.{to_release, to_finish, to_item, digest, nobody, row_of, with_key, CloneCall, StoreCall, WalkDoes, claim_fault, is_workers_at, nothing-form, reference-form}
-use Rattle.pagable_laws.proofs.Words.{without_worker, is_workers, AreMoments, Walking, Ends, is_counted, steps_after, TookWrites, SameShelf, no_shelf, IsMachineWhole, IsReadingWhole, owner_worker}
-use Rattle.pagable_laws.proofs.Words.{◌⊎◌, LoadAnswer, Frame, BeginCall, ReadingDoes, root_frame, IsClosed, IsWithin, with_mode, UnpinCall, named_fault, answers_from, ReadsRoot, IsCellOf, Event}
-use Rattle.pagable_laws.proofs.Words.{EventReply, one_more, load_fault, reading_at, reading_after, ReadingsAre, ReadingBrings, world_of, WorkStays, OnlyCore, Beginning, MachineState, fresh}
-use Rattle.pagable_laws.proofs.Words.{references_in, SameReferences, IsReadable, LiesIn, Throughout, throughout-in, none-followed, rest_of, Tree, tree, IsLawful, ReadsItsTypes, KeepsOpen, FallsAnyhow}
-use Rattle.pagable_laws.proofs.{Words.{HandOverCall, LazyCall, EndCall, SetKeyCall, PinsAtOnce, ReadsAsType, IsWellAsked, IsPremised, state_after, TwoLevelsMeetTheHeadline}, GoodReferences.good}
-use Rattle.pagable_laws.proofs.{Trees.same_some, Two.and-false, Joining.new_whole, Chains.headline_law, Few.{updated-past, alike-self, falls-so, AreAlone, falls-alone, Few, Passes, whole-so}}
-use Rattle.pagable_world.specs.Refusals.{OwnsLoad}
-use Rattle.pagable_world.specs.{Workers.Site, World.HasForm}
 use Rattle.pagable_laws.specs.TwoLevels as two
-use Rattle.pagable_world.specs.{Runs.Does, Events.Happens, LoadCalls.IsNextLoad, Pager.EventBrings, Pager.ReplyWrites}
 use Rattle.pagable_model.specs.Reading as grammar
 use Rattle.pagable_model.specs.Shape as shapes
 use Rattle.pagable_model.specs.Meaning as meanings
+use Rattle.pagable_laws.proofs.Words.{◌≡◌, ℕ, zero, suc, ◌<◌, ◌≤◌, ◌==◌, Bool, true, false, List, [], ◌∷◌, refl, sym, subst, arith, Ok, None, is_some, nat_le, nat_tests, updated, Owner, HandleRow}
+use Rattle.pagable_laws.proofs.Words.{held, Core, OpenLoad, of_cell, of_key, row_at, owned_outside, is_keyed, fallen, length, ◌∙◌, inl, Option, Some, value_at, is_here, references_fault, ◌++◌, ◌+◌}
+use Rattle.pagable_laws.proofs.Words.{inr, is_none, if_there, blob_of, HandleNumber, Blob, Took, Mode, WorkerAnswer, PagerState, TodoTakesWell, ArePremised, find_row, is_named_by, preimage, IsSettled}
+use Rattle.pagable_laws.proofs.Words.{is_in, identity_of, Shelf, Written, Todo, Reading, to_start, to_pin, to_write, to_set, to_publish, to_release, to_finish, to_item, digest, nobody, row_of}
+use Rattle.pagable_laws.proofs.Words.{with_key, CloneCall, StoreCall, WalkDoes, claim_fault, is_workers_at, nothing-form, reference-form, without_worker, is_workers, AreMoments, Walking, Ends}
+use Rattle.pagable_laws.proofs.Words.{is_counted, steps_after, TookWrites, SameShelf, no_shelf, IsMachineWhole, IsReadingWhole, owner_worker, ◌⊎◌, LoadAnswer, Frame, BeginCall, ReadingDoes}
+use Rattle.pagable_laws.proofs.Words.{root_frame, IsClosed, IsWithin, with_mode, UnpinCall, named_fault, answers_from, ReadsRoot, IsCellOf, Event, EventReply, one_more, load_fault, reading_at}
+use Rattle.pagable_laws.proofs.Words.{reading_after, ReadingsAre, ReadingBrings, world_of, WorkStays, OnlyCore, Beginning, MachineState, fresh, references_in, SameReferences, IsReadable, LiesIn}
+use Rattle.pagable_laws.proofs.Words.{Throughout, none-followed, rest_of, Tree, tree, IsLawful, ReadsItsTypes, KeepsOpen, FallsAnyhow, HandOverCall, LazyCall, EndCall, SetKeyCall, PinsAtOnce}
+use Rattle.pagable_laws.proofs.{Words.{ReadsAsType, IsWellAsked, IsPremised, state_after, TwoLevelsMeetTheHeadline}, GoodReferences.good, Trees.same_some, Existing.and-false, Joining.new_whole}
+use Rattle.pagable_laws.proofs.{Chains.headline_law, Few.{updated-past, alike-self, falls-so, AreAlone, falls-alone, Few, Passes, whole-so, none-cached}}
+use Rattle.pagable_world.specs.{Refusals.OwnsLoad, Workers.Site, World.HasForm, Runs.Does, Events.Happens, LoadCalls.IsNextLoad, Pager.{EventBrings, ReplyWrites}, Calls.IsNext}
+use Rattle.pagable_model.specs.Keyed.{throughout-alone}
 
 -- ---- the machine over a pager that passes
 
@@ -94,8 +93,8 @@ does-so w s (to_start r place ∷ below) (first, good, free) = claims-it w s r p
 does-so w s (to_pin r place ∷ below) (live, clone_live, here, few) =
     let left : w.last.handle ≤ 6 = grind (arith, nat_tests) in
     let row = row_of r.handle.0 r.node Mode.LoosePinned (owner_at w r.handle) in
-    let cloned : CloneCall w (owner_worker 1) r.handle (Ok (two.handle (w.last.handle + 1))) (two.cloned w r.node) =
-    record { made = (row, live, record { above = refl; is_left = omega arith }, alike-self (two.cloned w r.node)); refused = tt } in
+    let next : IsNext (two.handle (w.last.handle + 1)) w = record { above = refl; is_left = omega arith } in
+    let cloned : CloneCall w (owner_worker 1) r.handle (Ok (two.handle (w.last.handle + 1))) (two.cloned w r.node) = search (live, next, alike-self) in
     let pins : PinsAtOnce w (owner_worker 1) r (two.handle (w.last.handle + 1)) (two.handle (w.last.handle + 1 + 1)) (two.pinned_at w r.node) =
     inr (record { row = row; live = live; sort = refl }, (two.cloned w r.node, cloned, (grind (arith, nat_tests, alike-self)))) in
     search (same-shelf, pins)
@@ -151,11 +150,6 @@ none-there x0 x is = grind (arith, nat_tests)
 pub again : {X : Type 0} (n : ℕ) (x y : X) (f : ℕ → X) (q : ℕ) → updated n y f q ≡ updated n y (updated n x f) q
 again n x y f q = grind (arith, nat_tests)
 
-pub few-walked : (n : ℕ) (x : two.Working) → Few x.core → let y = two.walked n x in Few y.core
-unfolding two.walked
-few-walked zero x few = few
-few-walked (suc n) x few = let a = two.next_step x.core x.shelf x.todo in let y = two.next x in few-walked n y (few-ended y.answer a.1 (few-next x.core x.shelf x.todo few))
-
 -- what happens, what values come, and that the machine is good afterwards
 does : (s : MachineState two.Sample (Unit {0})) (event : Event two.Sample Blob Written) (reply : EventReply two.Sample Blob Written) (w : Core) (vs : List (Option two.Sample)) (shelf : Shelf)
     (walking : Option Walking) (reading : Option Reading) → let s' = two.machine w vs (two.work_of shelf walking reading) in Happens two.sample_seen (world_of s) event reply (world_of s')
@@ -205,17 +199,12 @@ begun-asks = search arith
 
 pub births-good : Good two.new_core [] × Good two.child_born (None ∷ Some two.leaf ∷ []) × Good two.both_born two.two_values × Good two.begun.core two.two_values
 unfolding value_at is_named_by find_row references_fault is_in
-births-good =
-    let none : Few two.new_core = (λ n lt. refl, λ l lt. refl, λ v lt. refl, λ kind key n is. absurd (cc)) in
-    let child : Few two.child_born = (updated-past 3 1 _ None (λ n. None) (omega arith) (λ n lt. refl), none.1, none.2, none.3) in
-    let both : Few two.both_born = (updated-past 3 2 _ None two.child_born.cells (omega arith) child.0, none.1, none.2, none.3) in
-    let begun : Few two.begun.core = (both.0, none.1, updated-past 1 1 true false (λ v. false) (omega arith) none.2, none.3) in
-    ((none, search arith), (child, search arith), (both, search arith), (begun, search arith))
+births-good = (search (arith, none-cached), search (arith, none-cached), search (arith, none-cached), search (arith, none-cached))
 
 loads-good : Good two.evicted [] × Good two.loading [] × Good two.child_got [] × Good two.loaded two.last_values × Good two.key_loading two.last_values × Good two.read_back two.last_values
 unfolding two.walked value_at is_named_by find_row preimage references_fault is_in
 loads-good =
-    let gone : Few two.evicted = few-fallen (with_mode two.answered.core (two.handle 2) Mode.LooseUnpinned) two.child_handle (few-walked 15 two.begun births-good.3.0) in
+    let gone : Few two.evicted = search (arith, none-cached) in
     let begun : Few two.loading = (gone.0, updated-past 3 1 _ None two.evicted.loads (omega arith) gone.1, gone.2, gone.3) in
     let got : Few two.child_got = (updated-past 3 3 _ None two.loading.cells (omega arith) begun.0, begun.1, gone.2, λ kind key n is. grind (arith, nat_tests)) in
     let loaded : Few two.loaded = few-fallen (two.installed two.child_got) (two.given_up two.child_got) (got.0, updated-past 3 1 None None two.loading.loads (omega arith) begun.1, gone.2, got.3) in
@@ -429,10 +418,8 @@ lawful = grind (arith, nat_tests, refers_same, shaped)
 
 pub reads-types : ReadsItsTypes two.sample_types
 unfolding IsReadable LiesIn
-reads-types zero s is =
-    subst (λ x. Throughout IsReadable two.sample_types.parts x) (same_some _ _ is) (throughout-in _ two.sample_types.parts (λ n. Unit {0}) (λ n it. (tt, tt)) (shapes.reference 4) tt tt)
-reads-types (suc n) s is =
-    subst (λ x. Throughout IsReadable two.sample_types.parts x) (same_some _ _ is) (throughout-in _ two.sample_types.parts (λ n. Unit {0}) (λ n it. (tt, tt)) shapes.nothing tt tt)
+reads-types zero s is = subst (λ x. Throughout IsReadable two.sample_types.parts x) (same_some _ _ is) (throughout-alone _ _ (shapes.reference 4) tt (λ those. tt))
+reads-types (suc n) s is = subst (λ x. Throughout IsReadable two.sample_types.parts x) (same_some _ _ is) (throughout-alone _ _ shapes.nothing tt (λ those. tt))
 
 -- ---- moments
 

@@ -7,7 +7,6 @@ pub mod Related
 mod AnyOrder
 pub mod Sums
 pub mod Existing
-mod Two
 mod Joining
 pub mod Goes
 pub mod Outlasting
@@ -20,9 +19,9 @@ mod Once
 mod Standing
 mod Coming
 pub mod Answered
-mod Decoding
+pub mod Decoding
 mod Fitting
-mod Following
+pub mod Following
 pub mod Naming
 mod Stepping
 mod Felt

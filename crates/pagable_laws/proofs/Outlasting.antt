@@ -143,7 +143,7 @@ stands-more {last} {more_last} {rows} {q} {row} more le none s =
       given = let g = s.given in omega arith;
     }
 
-only-one : (row h : HandleRow) → Among (row ∷ []) h → h ≡ row
+pub only-one : (row h : HandleRow) → Among (row ∷ []) h → h ≡ row
 only-one row h x2 = grind (arith, nat_tests)
 
 pub stands-new : (last : ℕ) (rows : List HandleRow) (row : HandleRow) → AreUpTo last rows → row.number.0 ≡ last + 1 → Stands (last + 1) (rows ++ row ∷ []) row.number.0 row

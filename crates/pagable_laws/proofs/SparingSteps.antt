@@ -60,7 +60,7 @@ fewer (x ∷ xs) ys le =
     let shorter = length-remove ys y.1.0 lt in
     omega (arith, rest, shorter)
 
-found : {w : Core} → HandlesAreWhole w → (q : ℕ) (x : HandleRow) → Among w.rows x → x.number.0 ≡ q → find_row q w.rows ≡ Some x
+pub found : {w : Core} → HandlesAreWhole w → (q : ℕ) (x : HandleRow) → Among w.rows x → x.number.0 ≡ q → find_row q w.rows ≡ Some x
 found {w} whole q x among is = by (find_row q w.rows) refl
   where
     by : (f : Option HandleRow) → find_row q w.rows ≡ f → find_row q w.rows ≡ Some x

@@ -17,16 +17,13 @@ pub record KeyIsSet (w : Core) (n : ℕ) : Type 0 where
 
 -- what a worker holds of a reference that it has claimed, and what it has come to when its key is published
 abbrev pub Holds : Core → Todo → Type 0
-Holds w (to_start r place) = Unit {0}
 Holds w (to_pin r place) = StandsAt w r r.handle
 Holds w (to_load r place through reading) = StandsAt w r through
 Holds w (to_write r place through) = StandsAt w r through
 Holds w (to_finish o) = StandsAt w o.reference o.through
-Holds w (to_item written keys) = Unit {0}
 Holds w (to_set r through key height) = StandsAt w r through
 Holds w (to_publish r key height) = is_loose_kind r.kind.0 ≡ true → KeyIsSet w r.node.0
-Holds w (to_release r key height) = Unit {0}
-Holds w (to_fail fault back) = Unit {0}
+Holds w todo = Unit {0}
 
 -- whether a key is about to be published
 abbrev pub is_publishing : List Todo → Bool

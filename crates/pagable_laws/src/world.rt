@@ -33,13 +33,13 @@ pub fn pins_are_a_filter()
 {}
 
 /// A value of two levels falls whole.
-#[tactic(auto, using(crate::proofs::Two::two_fall))]
+#[tactic(auto, using(crate::proofs::Existing::two_fall))]
 pub fn two_levels_fall()
     ensures { TwoLevelsFall }
 {}
 
 /// Unpinning a lone cell without a key lists it.
-#[tactic(auto, using(crate::proofs::Two::is_listed))]
+#[tactic(auto, using(crate::proofs::Existing::is_listed))]
 pub fn lone_is_listed()
     ensures { LoneIsListed }
 {}

@@ -1,8 +1,7 @@
 -- Flags, lengths, texts, characters and durations as bytes: postcard's bool, seq, string and char, and serde's Duration.
 use Rattle.std.specs.{Prelude.{ℕ, zero, suc, ◌+◌, ◌/◌, ◌%◌, ◌^◌, List, [], ◌∷◌, ◌++◌, length, take, drop, Bool, true, false, Ok, Err, nat_lt, nat_le, if◌then◌else◌}, Int.{w32, w64}, Char.encode_utf8}
 use Rattle.std.specs.Str.{is_utf8, chars}
-use Rattle.pagable_model.specs.{Steps.◌>>=◌, Numbers.{Read, unsigned_form, unsigned_at}}
-use Rattle.pagable_model.specs.declared.error.Error.TheVariants as errors
+use Rattle.pagable_model.specs.{declared.error.Error.Error, Steps.◌>>=◌, Numbers.{Read, unsigned_form, unsigned_at}}
 
 -- postcard, bool
 abbrev pub bool_form : Bool → List ℕ
@@ -10,10 +9,10 @@ bool_form false = 0 ∷ []
 bool_form true = 1 ∷ []
 
 unfoldable pub bool_at : List ℕ → Read Bool
-bool_at [] = Err errors.UnexpectedEnd
+bool_at [] = Err Error.UnexpectedEnd
 bool_at (zero ∷ rest) = Ok (false, rest)
 bool_at (suc zero ∷ rest) = Ok (true, rest)
-bool_at (suc (suc b) ∷ rest) = Err errors.BadBool
+bool_at (suc (suc b) ∷ rest) = Err Error.BadBool
 
 -- the greatest length of a text or a list, a limit of this port
 abbrev pub longest : ℕ
@@ -25,18 +24,18 @@ length_form n = unsigned_form w64 n
 
 -- a length: it is too long before the input is too short
 unfoldable pub length_at : List ℕ → Read ℕ
-length_at bytes = unsigned_at w64 bytes >>= λ n. if nat_le n.0 longest then Ok n else Err errors.TooLong
+length_at bytes = unsigned_at w64 bytes >>= λ n. if nat_le n.0 longest then Ok n else Err Error.TooLong
 
 -- the first n bytes
 abbrev pub bytes_at : ℕ → List ℕ → Read (List ℕ)
-bytes_at n bytes = if nat_lt (length bytes) n then Err errors.UnexpectedEnd else Ok (take n bytes, drop n bytes)
+bytes_at n bytes = if nat_lt (length bytes) n then Err Error.UnexpectedEnd else Ok (take n bytes, drop n bytes)
 
 -- postcard, string: the length in bytes, and the bytes
 abbrev pub text_form : List ℕ → List ℕ
 text_form t = length_form (length t) ++ t
 
 abbrev pub checked_text : List ℕ × List ℕ → Read (List ℕ)
-checked_text t = if is_utf8 t.0 then Ok t else Err errors.BadUtf8
+checked_text t = if is_utf8 t.0 then Ok t else Err Error.BadUtf8
 
 -- a text: too long, then too short, then not UTF-8
 unfoldable pub text_at : List ℕ → Read (List ℕ)
@@ -47,9 +46,9 @@ char_form c = text_form (encode_utf8 c)
 
 -- the character that the text is, if it is one
 abbrev pub one_char : List ℕ → List ℕ → Read ℕ
-one_char [] rest = Err errors.BadChar
+one_char [] rest = Err Error.BadChar
 one_char (c ∷ []) rest = Ok (c, rest)
-one_char (c ∷ d ∷ cs) rest = Err errors.BadChar
+one_char (c ∷ d ∷ cs) rest = Err Error.BadChar
 
 -- a character is the text of that character: the faults of its text come first, and then more or less than one
 unfoldable pub char_at : List ℕ → Read ℕ
@@ -63,7 +62,7 @@ duration_form seconds nanos = unsigned_form w64 seconds ++ unsigned_form w32 nan
 
 -- seconds and nanoseconds, where whole seconds among the nanoseconds are carried over
 abbrev pub carried : ℕ → ℕ → List ℕ → Read (ℕ × ℕ)
-carried seconds nanos rest = let total = seconds + nanos / nanos_of_second in if nat_lt total (2 ^ 64) then Ok ((total, nanos % nanos_of_second), rest) else Err errors.BadDuration
+carried seconds nanos rest = let total = seconds + nanos / nanos_of_second in if nat_lt total (2 ^ 64) then Ok ((total, nanos % nanos_of_second), rest) else Err Error.BadDuration
 
 unfoldable pub duration_at : List ℕ → Read (ℕ × ℕ)
 duration_at bytes = unsigned_at w64 bytes >>= λ s. unsigned_at w32 s.1 >>= λ n. carried s.0 n.0 n.1

@@ -1,21 +1,11 @@
 -- Shapes of which no meaning has two forms, shapes that are read, and of which shapes a value is made.
-use Rattle.std.specs.{Prelude.{◌≡◌, ℕ, zero, suc, List, true, false, Some, ◌⊎◌}, Int.w8, List.AllByRecursion}
-use Rattle.pagable_model.specs.{Meaning.{Meaning, number, integer, none, pair, variant, followed}, Shape.{Shape, nothing, unsigned, signed, flag, text, letter, duration, pattern, json, optional}}
-use Rattle.pagable_model.specs.{Shape.{outcome, list, run, array, both, sorted_map, placed_map, hash_map, sorted_set, placed_set, static_value, tagged, cases, reference, nested}, Form.Form}
-use Rattle.pagable_model.specs.Trees.{Tree, Types, type_of}
 use Rattle.pagable_model.specs.Meaning as meanings
+use Rattle.std.specs.{Prelude.{◌≡◌, ℕ, zero, suc, List, true, false, Some, ◌⊎◌}, Int.w8, List.AllByRecursion}
+use Rattle.pagable_model.specs.Shape.{Shape, nothing, optional, outcome, list, run, array, both, sorted_map, placed_map, hash_map, sorted_set, placed_set, static_value, tagged, cases, reference}
+use Rattle.pagable_model.specs.{Meaning.{Meaning, pair, variant, followed}, Shape.nested, Form.Form, Trees.{Tree, Types, type_of}}
 
 -- a shape of which no meaning has two forms, if this is so of its numbered parts
 unfoldable pub IsCanonical : Shape → Type 0
-IsCanonical nothing = Unit {0}
-IsCanonical (unsigned w) = Unit {0}
-IsCanonical (signed w) = Unit {0}
-IsCanonical flag = Unit {0}
-IsCanonical text = Unit {0}
-IsCanonical letter = Unit {0}
-IsCanonical duration = Unit {0}
-IsCanonical pattern = Unit {0}
-IsCanonical json = Unit {0}
 IsCanonical (optional s) = IsCanonical s
 IsCanonical (outcome s t) = IsCanonical s × IsCanonical t
 IsCanonical (list s) = IsCanonical s
@@ -30,8 +20,7 @@ IsCanonical (placed_set s) = IsCanonical s
 IsCanonical (static_value registry) = ⊥
 IsCanonical (tagged written known body) = ((tag : List ℕ) → IsCanonical (written tag)) × ((tag : List ℕ) → known tag ≡ true → IsCanonical (body tag))
 IsCanonical (cases w known part) = (n : ℕ) → known n ≡ true → IsCanonical (part n)
-IsCanonical (reference kind) = Unit {0}
-IsCanonical (nested n) = Unit {0}
+IsCanonical _ = Unit {0}
 
 -- the shape of what no value is: what is written under a tag that no value has
 abbrev pub unwritten : Shape
@@ -44,28 +33,15 @@ HasNoCase _ = ⊥
 
 -- a meaning in which nothing is referred to
 unfoldable pub HasNoReference : Meaning ⊥ → Type 0
-HasNoReference (number n) = Unit {0}
-HasNoReference (integer z) = Unit {0}
-HasNoReference (meanings.text t) = Unit {0}
-HasNoReference (meanings.pattern t) = Unit {0}
-HasNoReference none = Unit {0}
 HasNoReference (pair a b) = HasNoReference a × HasNoReference b
 HasNoReference (variant n a) = HasNoReference a
 HasNoReference (meanings.reference a) = absurd a
 HasNoReference (followed kind a) = ⊥
+HasNoReference _ = Unit {0}
 
 -- A shape whose forms are read, if this is so of its numbered parts. Each tag under which anything is written has to be
 -- registered with a reader of what is written.
 unfoldable pub IsReadable : Shape → Type 0
-IsReadable nothing = Unit {0}
-IsReadable (unsigned w) = Unit {0}
-IsReadable (signed w) = Unit {0}
-IsReadable flag = Unit {0}
-IsReadable text = Unit {0}
-IsReadable letter = Unit {0}
-IsReadable duration = Unit {0}
-IsReadable pattern = Unit {0}
-IsReadable json = Unit {0}
 IsReadable (optional s) = IsReadable s
 IsReadable (outcome s t) = IsReadable s × IsReadable t
 IsReadable (list s) = IsReadable s
@@ -81,20 +57,10 @@ IsReadable (static_value registry) = AllByRecursion HasNoReference registry
 IsReadable (tagged written known body) =
     ((tag : List ℕ) → HasNoCase (written tag) ⊎ ((known tag ≡ true) × (body tag ≡ written tag))) × ((tag : List ℕ) → known tag ≡ true → IsReadable (body tag))
 IsReadable (cases w known part) = (n : ℕ) → known n ≡ true → IsReadable (part n)
-IsReadable (reference kind) = Unit {0}
-IsReadable (nested n) = Unit {0}
+IsReadable _ = Unit {0}
 
 -- each node type that the shape refers to is in nodes, and each numbered part that it has is in parts
 unfoldable pub LiesIn : (ℕ → Type 0) → (ℕ → Type 0) → Shape → Type 0
-LiesIn nodes parts nothing = Unit {0}
-LiesIn nodes parts (unsigned w) = Unit {0}
-LiesIn nodes parts (signed w) = Unit {0}
-LiesIn nodes parts flag = Unit {0}
-LiesIn nodes parts text = Unit {0}
-LiesIn nodes parts letter = Unit {0}
-LiesIn nodes parts duration = Unit {0}
-LiesIn nodes parts pattern = Unit {0}
-LiesIn nodes parts json = Unit {0}
 LiesIn nodes parts (optional s) = LiesIn nodes parts s
 LiesIn nodes parts (outcome s t) = LiesIn nodes parts s × LiesIn nodes parts t
 LiesIn nodes parts (list s) = LiesIn nodes parts s
@@ -106,11 +72,11 @@ LiesIn nodes parts (placed_map s t) = LiesIn nodes parts s × LiesIn nodes parts
 LiesIn nodes parts (hash_map s t) = LiesIn nodes parts s × LiesIn nodes parts t
 LiesIn nodes parts (sorted_set order s) = LiesIn nodes parts s
 LiesIn nodes parts (placed_set s) = LiesIn nodes parts s
-LiesIn nodes parts (static_value registry) = Unit {0}
 LiesIn nodes parts (tagged written known body) = ((tag : List ℕ) → LiesIn nodes parts (written tag)) × ((tag : List ℕ) → known tag ≡ true → LiesIn nodes parts (body tag))
 LiesIn nodes parts (cases w known part) = (n : ℕ) → known n ≡ true → LiesIn nodes parts (part n)
 LiesIn nodes parts (reference kind) = nodes (type_of kind)
 LiesIn nodes parts (nested n) = parts n
+LiesIn nodes parts _ = Unit {0}
 
 -- P of the shape, and of each that this many steps from part to numbered part lead to
 unfoldable pub Within : (Shape → Type 0) → (ℕ → Shape) → ℕ → Shape → Type 0
@@ -135,15 +101,11 @@ IsReadableType types n = (s : Shape) → types.nodes n ≡ Some s → Throughout
 
 -- P of the value type of each reference in the tree, however far down
 unfoldable pub EachType : (ℕ → Type 0) → Meaning ⊥ → Type 0
-EachType P (number n) = Unit {0}
-EachType P (integer z) = Unit {0}
-EachType P (meanings.text t) = Unit {0}
-EachType P (meanings.pattern t) = Unit {0}
-EachType P none = Unit {0}
 EachType P (pair a b) = EachType P a × EachType P b
 EachType P (variant n a) = EachType P a
 EachType P (meanings.reference a) = absurd a
 EachType P (followed kind a) = P (type_of kind) × EachType P a
+EachType P _ = Unit {0}
 
 -- the tree's own type and the types of all that it reaches are canonical, and are read
 abbrev pub IsCanonicalTree : Types → Tree → Type 0
@@ -160,15 +122,6 @@ IsClosed types nodes = (n : ℕ) (s : Shape) → nodes n → types.nodes n ≡ S
 -- what lies in sets lies in greater ones
 pub lies-along : {nodes parts more_nodes more_parts : ℕ → Type 0} → ((n : ℕ) → nodes n → more_nodes n) → ((n : ℕ) → parts n → more_parts n) → (s : Shape) → LiesIn nodes parts s → LiesIn more_nodes more_parts s
 unfolding LiesIn
-lies-along f g nothing h = tt
-lies-along f g (unsigned w) h = tt
-lies-along f g (signed w) h = tt
-lies-along f g flag h = tt
-lies-along f g text h = tt
-lies-along f g letter h = tt
-lies-along f g duration h = tt
-lies-along f g pattern h = tt
-lies-along f g json h = tt
 lies-along f g (optional s) h = lies-along f g s h
 lies-along f g (outcome s t) h = (lies-along f g s h.0, lies-along f g t h.1)
 lies-along f g (list s) h = lies-along f g s h
@@ -180,11 +133,11 @@ lies-along f g (placed_map s t) h = (lies-along f g s h.0, lies-along f g t h.1)
 lies-along f g (hash_map s t) h = (lies-along f g s h.0, lies-along f g t h.1)
 lies-along f g (sorted_set order s) h = lies-along f g s h
 lies-along f g (placed_set s) h = lies-along f g s h
-lies-along f g (static_value registry) h = tt
 lies-along f g (tagged written known body) h = (λ tag. lies-along f g (written tag) (h.0 tag), λ tag e. lies-along f g (body tag) (h.1 tag e))
 lies-along f g (cases w known part) h = λ n e. lies-along f g (part n) (h n e)
 lies-along f g (reference kind) h = f (type_of kind) h
 lies-along f g (nested n) h = g n h
+lies-along f g _ h = tt
 
 -- P holds throughout a shape whose numbered parts lie in a set of parts that have P and lie in it themselves
 pub throughout-in : (P : Shape → Type 0) (parts : ℕ → Shape) (those : ℕ → Type 0) → ((n : ℕ) → those n → P (parts n) × LiesIn (λ n. Unit {0}) those (parts n)) → (s : Shape) → P s → LiesIn (λ n. Unit {0}) those s → Throughout P parts s

@@ -1,5 +1,5 @@
 -- Causes that a reader has of its own are no faults of the input, and those of a writer are refusals that a writer may answer.
-use Rattle.std.{specs.Prelude.{◌≡◌, true, refl}, proofs.Common.{subst, sym, inl, inr}}
+use Rattle.std.{specs.Prelude.{◌≡◌, true, refl}, proofs.Common.{arith, subst, sym}}
 use Rattle.pagable_model.specs.{declared.error.Error.Error, Refusals.{is_own_reading, may_refuse_writing}, Gives.{never, memory, memory_or, either, long_or, deep_or, number_or, json_causes}}
 
 pub never_is_own_reading : (e : Error) → never e → is_own_reading e ≡ true
@@ -15,32 +15,25 @@ pub memory_may_refuse_writing : (e : Error) → memory e → may_refuse_writing 
 memory_may_refuse_writing e h = let P : Error → Type 0 = λ x. may_refuse_writing x ≡ true in subst P (sym h) refl
 
 pub memory_or_is_own_reading : (own : Error → Type 0) → ((e : Error) → own e → is_own_reading e ≡ true) → (e : Error) → memory_or own e → is_own_reading e ≡ true
-memory_or_is_own_reading own is e (inl h) = memory_is_own_reading e h
-memory_or_is_own_reading own is e (inr h) = is e h
+memory_or_is_own_reading own is e h = grind (arith, memory_is_own_reading, is)
 
 pub memory_or_may_refuse_writing : (own : Error → Type 0) → ((e : Error) → own e → may_refuse_writing e ≡ true) → (e : Error) → memory_or own e → may_refuse_writing e ≡ true
-memory_or_may_refuse_writing own is e (inl h) = memory_may_refuse_writing e h
-memory_or_may_refuse_writing own is e (inr h) = is e h
+memory_or_may_refuse_writing own is e h = grind (arith, memory_may_refuse_writing, is)
 
 pub either_is_own_reading : (first second : Error → Type 0) → ((e : Error) → first e → is_own_reading e ≡ true) → ((e : Error) → second e → is_own_reading e ≡ true) → (e : Error) → either first second e → is_own_reading e ≡ true
-either_is_own_reading first second is_first is_second e (inl h) = is_first e h
-either_is_own_reading first second is_first is_second e (inr h) = is_second e h
+either_is_own_reading first second is_first is_second e h = grind (arith, is_first, is_second)
 
 pub either_may_refuse_writing : (first second : Error → Type 0) → ((e : Error) → first e → may_refuse_writing e ≡ true) → ((e : Error) → second e → may_refuse_writing e ≡ true) → (e : Error) → either first second e → may_refuse_writing e ≡ true
-either_may_refuse_writing first second is_first is_second e (inl h) = is_first e h
-either_may_refuse_writing first second is_first is_second e (inr h) = is_second e h
+either_may_refuse_writing first second is_first is_second e h = grind (arith, is_first, is_second)
 
 pub long_or_may_refuse_writing : (part : Error → Type 0) → ((e : Error) → part e → may_refuse_writing e ≡ true) → (e : Error) → long_or part e → may_refuse_writing e ≡ true
-long_or_may_refuse_writing part may e (inl h) = let P : Error → Type 0 = λ x. may_refuse_writing x ≡ true in subst P (sym h) refl
-long_or_may_refuse_writing part may e (inr h) = may e h
+long_or_may_refuse_writing part may e h = grind (arith, may)
 
 pub deep_or_may_refuse_writing : (part : Error → Type 0) → ((e : Error) → part e → may_refuse_writing e ≡ true) → (e : Error) → deep_or part e → may_refuse_writing e ≡ true
-deep_or_may_refuse_writing part may e (inl h) = let P : Error → Type 0 = λ x. may_refuse_writing x ≡ true in subst P (sym h) refl
-deep_or_may_refuse_writing part may e (inr h) = may e h
+deep_or_may_refuse_writing part may e h = grind (arith, may)
 
 pub number_or_may_refuse_writing : (part : Error → Type 0) → ((e : Error) → part e → may_refuse_writing e ≡ true) → (e : Error) → number_or part e → may_refuse_writing e ≡ true
-number_or_may_refuse_writing part may e (inl h) = let P : Error → Type 0 = λ x. may_refuse_writing x ≡ true in subst P (sym h) refl
-number_or_may_refuse_writing part may e (inr h) = may e h
+number_or_may_refuse_writing part may e h = grind (arith, may)
 
 -- of a text
 pub text_may_refuse_writing : (e : Error) → long_or memory e → may_refuse_writing e ≡ true

@@ -1,7 +1,6 @@
 -- What a reader or a writer of the code owes, beside what the definitions say of the value.
 use Rattle.std.specs.Prelude.{◌≡◌, List, ◌++◌, Result, Ok, Err, ◌⊎◌}
 use Rattle.pagable_model.specs.declared.error.Error.{Error}
-use Rattle.pagable_model.specs.declared.error.Error.TheVariants as errors
 
 -- What a function returned, seen by view, is what reading gives. A refusal is the first fault that reading meets, or
 -- one of the causes that the function has of its own.
@@ -15,11 +14,11 @@ never e = ⊥
 
 -- want of memory alone
 abbrev pub memory : Error → Type 0
-memory e = e ≡ errors.OutOfMemory
+memory e = e ≡ Error.OutOfMemory
 
 -- want of memory, or a cause of its parts
 abbrev pub memory_or : (Error → Type 0) → Error → Type 0
-memory_or part e = (e ≡ errors.OutOfMemory) ⊎ part e
+memory_or part e = (e ≡ Error.OutOfMemory) ⊎ part e
 
 -- a cause of one of two parts
 abbrev pub either : (Error → Type 0) → (Error → Type 0) → Error → Type 0
@@ -27,13 +26,13 @@ either first second e = first e ⊎ second e
 
 -- TooLong of what has a length, TooDeep of what enters a level, JsonNumber of a JSON number, or a cause of the rest
 abbrev pub long_or : (Error → Type 0) → Error → Type 0
-long_or part e = (e ≡ errors.TooLong) ⊎ part e
+long_or part e = (e ≡ Error.TooLong) ⊎ part e
 
 abbrev pub deep_or : (Error → Type 0) → Error → Type 0
-deep_or part e = (e ≡ errors.TooDeep) ⊎ part e
+deep_or part e = (e ≡ Error.TooDeep) ⊎ part e
 
 abbrev pub number_or : (Error → Type 0) → Error → Type 0
-number_or part e = (e ≡ errors.JsonNumber) ⊎ part e
+number_or part e = (e ≡ Error.JsonNumber) ⊎ part e
 
 -- a JSON value may be refused by each of these, or by want of memory
 abbrev pub json_causes : Error → Type 0

@@ -1,10 +1,8 @@
 -- Keys that are made of keys: when two are the same, in which order they stand, and that they refer to nothing.
-use Rattle.std.proofs.{Common.{◌≡◌, Bool, true, false, ◌&&◌, List, [], ◌∷◌, Option, Some, None, Result, Ok, Err, refl, ap, ◌∙◌}, lemmas.Slice.Eq.bytes_eq-Decides}
-use Rattle.std.specs.{Cmp.{first_so, second_so}, Cmp.Lexicographic.{slice_cmp, pointwise}, declared.cmp.Ordering.Ordering, Ordering.ordering_then, Option.{option_eq, option_cmp}, Result.result_eq}
-use Rattle.std.specs.{Result.result_cmp, Str.bytes_eq}
-use Rattle.pagable_model.specs.{Meaning.{Meaning, pair, plain}, Keys.{KeyOrder, code, same_key, ordered, optional_order, outcome_order, pair_order, list_order}, Codes.one-meaning, Carried.of_option}
-use Rattle.pagable_model.specs.{Carried.{of_result, of_list}, Keyed.{same-by}}
-use Rattle.std.specs.declared.cmp.Ordering.TheVariants as answers
+use Rattle.std.proofs.{Common.{arith, ◌≡◌, Bool, true, ◌&&◌, List, ◌∷◌, Option, Result, Ok, Err, refl, ◌∙◌}, lemmas.Bool.and_parts, lemmas.Slice.Eq.bytes_eq-Decides}
+use Rattle.std.specs.{Cmp.Lexicographic.{slice_cmp, pointwise}, declared.cmp.Ordering.Ordering, Ordering.ordering_then, Option.{option_eq, option_cmp}, Result.{result_eq, result_cmp}, Str.bytes_eq}
+use Rattle.pagable_model.specs.{Meaning.{Meaning, pair, plain}, Keys.{KeyOrder, code, same_key, ordered, optional_order, outcome_order, pair_order, list_order}, Codes.one-meaning}
+use Rattle.pagable_model.specs.{Carried.{of_option, of_result, of_list}, Keyed.same-by}
 
 -- ---- two keys are the same if their parts are
 
@@ -13,18 +11,13 @@ both-same a b c d = same-by (bytes_eq (code a) (code c) && bytes_eq (code b) (co
   where
     one : (bytes_eq (code a) (code c) && bytes_eq (code b) (code d)) ≡ true → pair a b ≡ pair c d
     one e =
-        let first : a ≡ c = one-meaning a c ((bytes_eq-Decides (code a) (code c)).0 (first_so (bytes_eq (code a) (code c)) (bytes_eq (code b) (code d)) e)) in
-        let second : b ≡ d = one-meaning b d ((bytes_eq-Decides (code b) (code d)).0 (second_so (bytes_eq (code a) (code c)) (bytes_eq (code b) (code d)) e)) in
-        rw (first, second) refl
+        let both = and_parts (bytes_eq (code a) (code c)) (bytes_eq (code b) (code d)) e in
+        cc (one-meaning a c ((bytes_eq-Decides (code a) (code c)).0 both.0), one-meaning b d ((bytes_eq-Decides (code b) (code d)).0 both.1))
 
     told : code (pair a b) ≡ code (pair c d) → (bytes_eq (code a) (code c) && bytes_eq (code b) (code d)) ≡ true
     told e =
         let whole : pair a b ≡ pair c d = one-meaning (pair a b) (pair c d) e in
-        let first : a ≡ c = cc in
-        let second : b ≡ d = cc in
-        let fronts : bytes_eq (code a) (code c) ≡ true = (bytes_eq-Decides (code a) (code c)).1 (ap code first) in
-        let rests : bytes_eq (code b) (code d) ≡ true = (bytes_eq-Decides (code b) (code d)).1 (ap code second) in
-        rw (fronts, rests) refl
+        rw ((bytes_eq-Decides (code a) (code c)).1 (cc), (bytes_eq-Decides (code b) (code d)).1 (cc)) refl
 
 pub pair_is_same : {A : Type 0} (s t : Bool) (a b c d : Meaning A) → s ≡ same_key a c → t ≡ same_key b d → (s && t) ≡ same_key (pair a b) (pair c d)
 unfolding plain
@@ -32,26 +25,20 @@ pair_is_same s t a b c d p q = (λ i. p i && q i) ∙ both-same (plain a) (plain
 
 pub option_is_same : {A T : Type 0} (eq : T → T → Bool) (meaning : T → Meaning A) → ((x y : T) → eq x y ≡ same_key (meaning x) (meaning y)) → (x y : Option T) → option_eq eq x y ≡ same_key (of_option meaning x) (of_option meaning y)
 unfolding plain code
-option_is_same eq meaning same None None = refl
-option_is_same eq meaning same None (Some y) = refl
-option_is_same eq meaning same (Some x) None = refl
-option_is_same eq meaning same (Some x) (Some y) = same x y
+option_is_same eq meaning same x0 x1 = grind (arith, same)
 
 pub result_is_same : {A T X : Type 0} (eq : T → T → Bool) (fails : X → X → Bool) (meaning : T → Meaning A) (failing : X → Meaning A) → ((x y : T) → eq x y ≡ same_key (meaning x) (meaning y)) → ((x y : X) → fails x y ≡ same_key (failing x) (failing y))
     → (x y : Result T X) → result_eq eq fails x y ≡ same_key (of_result meaning failing x) (of_result meaning failing y)
 unfolding plain code
 result_is_same eq fails meaning failing same alike (Ok x) (Ok y) = same x y
-result_is_same eq fails meaning failing same alike (Ok x) (Err y) = refl
-result_is_same eq fails meaning failing same alike (Err x) (Ok y) = refl
 result_is_same eq fails meaning failing same alike (Err x) (Err y) = alike x y
+result_is_same eq fails meaning failing same alike _ _ = refl
 
 pub list_is_same : {A T : Type 0} (eq : T → T → Bool) (meaning : T → Meaning A) → ((x y : T) → eq x y ≡ same_key (meaning x) (meaning y)) → (xs ys : List T) → pointwise eq xs ys ≡ same_key (of_list meaning xs) (of_list meaning ys)
 unfolding plain code
-list_is_same eq meaning same [] [] = refl
-list_is_same eq meaning same [] (y ∷ ys) = refl
-list_is_same eq meaning same (x ∷ xs) [] = refl
 list_is_same eq meaning same (x ∷ xs) (y ∷ ys) =
     pair_is_same (eq x y) (pointwise eq xs ys) (meaning x) (of_list meaning xs) (meaning y) (of_list meaning ys) (same x y) (list_is_same eq meaning same xs ys)
+list_is_same eq meaning same x0 x1 = grind (arith)
 
 -- ---- and stand in the order of their parts
 
@@ -60,9 +47,7 @@ unfolding plain
 pair_is_ordered f g o p a b c d h k = λ i. ordering_then (h i) (k i)
 
 then-assoc : (o p q : Ordering) → ordering_then (ordering_then o p) q ≡ ordering_then o (ordering_then p q)
-then-assoc answers.Less p q = refl
-then-assoc answers.Equal p q = refl
-then-assoc answers.Greater p q = refl
+then-assoc x0 p q = grind (arith)
 
 pub triple_is_ordered : {A : Type 0} (f g h : KeyOrder) (o p q : Ordering) (a b c x y z : Meaning A) → o ≡ ordered f a x → p ≡ ordered g b y → q ≡ ordered h c z
     → ordering_then (ordering_then o p) q ≡ ordered (pair_order f (pair_order g h)) (pair a (pair b c)) (pair x (pair y z))
@@ -82,22 +67,16 @@ quintuple_is_ordered f g h m n o p q r s a b c d t w x y z u i j k l v =
 
 pub option_is_ordered : {A T : Type 0} (order : KeyOrder) (cmp : T → T → Ordering) (meaning : T → Meaning A) → ((x y : T) → cmp x y ≡ ordered order (meaning x) (meaning y)) → (x y : Option T) → option_cmp cmp x y ≡ ordered (optional_order order) (of_option meaning x) (of_option meaning y)
 unfolding plain
-option_is_ordered order cmp meaning is None None = refl
-option_is_ordered order cmp meaning is None (Some y) = refl
-option_is_ordered order cmp meaning is (Some x) None = refl
-option_is_ordered order cmp meaning is (Some x) (Some y) = is x y
+option_is_ordered order cmp meaning is x0 x1 = grind (arith, is)
 
 pub result_is_ordered : {A T X : Type 0} (order fail_order : KeyOrder) (cmp : T → T → Ordering) (cmp_fails : X → X → Ordering) (meaning : T → Meaning A) (failing : X → Meaning A) → ((x y : T) → cmp x y ≡ ordered order (meaning x) (meaning y))
     → ((x y : X) → cmp_fails x y ≡ ordered fail_order (failing x) (failing y)) → (x y : Result T X) → result_cmp cmp cmp_fails x y ≡ ordered (outcome_order order fail_order) (of_result meaning failing x) (of_result meaning failing y)
 unfolding plain
 result_is_ordered order fail_order cmp cmp_fails meaning failing is fails (Ok x) (Ok y) = is x y
-result_is_ordered order fail_order cmp cmp_fails meaning failing is fails (Ok x) (Err y) = refl
-result_is_ordered order fail_order cmp cmp_fails meaning failing is fails (Err x) (Ok y) = refl
 result_is_ordered order fail_order cmp cmp_fails meaning failing is fails (Err x) (Err y) = fails x y
+result_is_ordered order fail_order cmp cmp_fails meaning failing is fails _ _ = refl
 
 pub list_is_ordered : {A T : Type 0} (order : KeyOrder) (cmp : T → T → Ordering) (meaning : T → Meaning A) → ((x y : T) → cmp x y ≡ ordered order (meaning x) (meaning y)) → (xs ys : List T) → slice_cmp cmp xs ys ≡ ordered (list_order order) (of_list meaning xs) (of_list meaning ys)
 unfolding plain
-list_is_ordered order cmp meaning is [] [] = refl
-list_is_ordered order cmp meaning is [] (y ∷ ys) = refl
-list_is_ordered order cmp meaning is (x ∷ xs) [] = refl
 list_is_ordered order cmp meaning is (x ∷ xs) (y ∷ ys) = λ i. ordering_then (is x y i) (list_is_ordered order cmp meaning is xs ys i)
+list_is_ordered order cmp meaning is x0 x1 = grind (arith)

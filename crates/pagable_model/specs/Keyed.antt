@@ -1,10 +1,10 @@
 -- What the key law asks of a type, and why it holds of the types that may be keys.
 use mathlib.Core.Bool.{beq}
-use Rattle.std.proofs.{Common.ap, lemmas.Bool.{eqb-true, eq-eqb}, lemmas.Bool.Decides.Decides-int_eq, lemmas.Slice.Eq.bytes_eq-Decides}
-use Rattle.std.specs.{Prelude.{◌≡◌, ℕ, ℤ, zero, suc, Bool, true, false, List, nat_eq, refl}, Cmp.both_ways, Str.bytes_eq, Ordering.{nat_cmp, int_cmp, int_eq, bool_cmp}}
-use Rattle.std.specs.Cmp.Lexicographic.{slice_cmp}
-use Rattle.pagable_model.specs.{declared.numbers.ArcRef.ArcRef, Numbers.zigzag, Meaning.{Meaning, number, integer, text, none, flag, plain}, Keys.{code, same_key, ordered, number_order}}
-use Rattle.pagable_model.specs.{Keys.{integer_order, text_order, flag_order}, Codes.same-integer, Shape.Shape, Canonical.{LiesIn, Within, Throughout}}
+use Rattle.std.proofs.{Common.{ap, arith}, lemmas.Bool.{eqb-true, eq-eqb}, lemmas.Bool.Decides.Decides-int_eq, lemmas.Slice.Eq.bytes_eq-Decides}
+use Rattle.std.specs.{Prelude.{◌≡◌, ℕ, ℤ, zero, suc, Bool, true, List, nat_eq, refl}, Cmp.both_ways, Str.bytes_eq, Ordering.{nat_cmp, int_cmp, int_eq, bool_cmp}, Cmp.Lexicographic.slice_cmp}
+use Rattle.pagable_model.specs.{declared.numbers.ArcRef.ArcRef, Numbers.zigzag, Meaning.{Meaning, number, integer, text, none, flag, plain}}
+use Rattle.pagable_model.specs.{Keys.{code, same_key, ordered, number_order, integer_order, text_order, flag_order}, Codes.same-integer, Shape.Shape}
+use Rattle.pagable_model.specs.Canonical.{LiesIn, Within, Throughout, throughout-in}
 
 -- nowhere in a value of the shape, in none of its parts, is there a reference
 abbrev pub RefersToNothing : (ℕ → Shape) → Shape → Type 0
@@ -12,21 +12,7 @@ RefersToNothing parts s = Throughout (LiesIn (λ node. ⊥) (λ part. Unit {0}))
 
 -- what a shape has that has no numbered part
 pub throughout-alone : (P : Shape → Type 0) (parts : ℕ → Shape) (s : Shape) → P s → ((those : ℕ → Type 0) → LiesIn (λ n. Unit {0}) those s) → Throughout P parts s
-unfolding Within
-throughout-alone P parts s p lies = record { within = within }
-  where
-    within : (steps : ℕ) → Within P parts steps s
-    within zero = p
-    within (suc steps) = (p, lies (λ n. Within P parts steps (parts n)))
-
--- a shape over one other
-pub throughout-over : (P : Shape → Type 0) (parts : ℕ → Shape) (s whole : Shape) → (P s → P whole) → ((those : ℕ → Type 0) → LiesIn (λ n. Unit {0}) those s → LiesIn (λ n. Unit {0}) those whole) → Throughout P parts s → Throughout P parts whole
-unfolding Within
-throughout-over P parts s whole f lies t = record { within = within }
-  where
-    within : (steps : ℕ) → Within P parts steps whole
-    within zero = f (t.within zero)
-    within (suc steps) = (f (t.within (suc steps)).0, lies (λ n. Within P parts steps (parts n)) (t.within (suc steps)).1)
+throughout-alone P parts s p lies = throughout-in P parts (λ n. ⊥) (λ n no. absurd no) s p (lies (λ n. ⊥))
 
 -- a shape over two others
 pub throughout-two : (P : Shape → Type 0) (parts : ℕ → Shape) (s t whole : Shape) → (P s → P t → P whole) → ((those : ℕ → Type 0) → LiesIn (λ n. Unit {0}) those s → LiesIn (λ n. Unit {0}) those t → LiesIn (λ n. Unit {0}) those whole)
@@ -37,6 +23,10 @@ throughout-two P parts s t whole f lies u v = record { within = within }
     within : (steps : ℕ) → Within P parts steps whole
     within zero = f (u.within zero) (v.within zero)
     within (suc steps) = (f (u.within (suc steps)).0 (v.within (suc steps)).0, lies (λ n. Within P parts steps (parts n)) (u.within (suc steps)).1 (v.within (suc steps)).1)
+
+-- a shape over one other
+pub throughout-over : (P : Shape → Type 0) (parts : ℕ → Shape) (s whole : Shape) → (P s → P whole) → ((those : ℕ → Type 0) → LiesIn (λ n. Unit {0}) those s → LiesIn (λ n. Unit {0}) those whole) → Throughout P parts s → Throughout P parts whole
+throughout-over P parts s whole f lies t = throughout-two P parts s s whole (λ p q. f p) (λ those l m. lies those l) t t
 
 -- a test that holds exactly where two meanings are one is the sameness of keys
 pub same-by : (test : Bool) (a b : Meaning ⊥) → (test ≡ true → a ≡ b) → (code a ≡ code b → test ≡ true) → test ≡ bytes_eq (code a) (code b)
@@ -70,17 +60,11 @@ integer_is_ordered y z = refl
 
 pub flag_is_same : (x y : Bool) → beq x y ≡ same_key {A = ArcRef} (flag x) (flag y)
 unfolding plain code
-flag_is_same false false = refl
-flag_is_same false true = refl
-flag_is_same true false = refl
-flag_is_same true true = refl
+flag_is_same x0 x1 = grind (arith)
 
 pub flag_is_ordered : (x y : Bool) → bool_cmp x y ≡ ordered {A = ArcRef} flag_order (flag x) (flag y)
 unfolding plain
-flag_is_ordered false false = refl
-flag_is_ordered false true = refl
-flag_is_ordered true false = refl
-flag_is_ordered true true = refl
+flag_is_ordered x0 x1 = grind (arith)
 
 pub nothing_is_same : true ≡ same_key {A = ArcRef} none none
 unfolding plain code

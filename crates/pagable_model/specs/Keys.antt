@@ -2,7 +2,6 @@
 use Rattle.std.specs.{Prelude.{◌≡◌, ℕ, zero, suc, List, [], ◌∷◌, ◌++◌, length, Bool, false, Option, Some, None, if◌then◌else◌}, declared.cmp.Ordering.Ordering, Ordering.{nat_cmp, int_cmp}}
 use Rattle.std.specs.{Ordering.ordering_then, Cmp.Lexicographic.slice_cmp, Str.bytes_eq, Option.option_or, BTreeMap.insert_entry, BTreeSet.insert_key}
 use Rattle.pagable_model.specs.{Numbers.zigzag, Meaning.{Meaning, number, integer, text, pattern, none, pair, variant, reference, followed, plain}}
-use Rattle.std.specs.declared.cmp.Ordering.TheVariants as answers
 
 -- the order of a type's values, by their meanings. Keys and items of sets hold no reference
 abbrev pub KeyOrder : Type 0
@@ -34,54 +33,54 @@ same_key a b = bytes_eq (code (plain a)) (code (plain b))
 -- the order of texts by their bytes
 abbrev pub text_order : KeyOrder
 text_order (text s) (text t) = slice_cmp nat_cmp s t
-text_order a b = answers.Equal
+text_order a b = Ordering.Equal
 
 -- the order of whole numbers, of characters too, and of numbers with a sign
 abbrev pub number_order : KeyOrder
 number_order (number m) (number n) = nat_cmp m n
-number_order a b = answers.Equal
+number_order a b = Ordering.Equal
 
 abbrev pub integer_order : KeyOrder
 integer_order (integer y) (integer z) = int_cmp y z
-integer_order a b = answers.Equal
+integer_order a b = Ordering.Equal
 
 -- where there is but one value
 abbrev pub nothing_order : KeyOrder
-nothing_order a b = answers.Equal
+nothing_order a b = Ordering.Equal
 
 -- no before yes
 abbrev pub flag_order : KeyOrder
 flag_order (variant m a) (variant n b) = nat_cmp m n
-flag_order a b = answers.Equal
+flag_order a b = Ordering.Equal
 
 -- none before some, and two that are there by what they hold
 abbrev pub optional_order : KeyOrder → KeyOrder
-optional_order order (variant zero a) (variant zero b) = answers.Equal
-optional_order order (variant zero a) (variant (suc n) b) = answers.Less
-optional_order order (variant (suc m) a) (variant zero b) = answers.Greater
+optional_order order (variant zero a) (variant zero b) = Ordering.Equal
+optional_order order (variant zero a) (variant (suc n) b) = Ordering.Less
+optional_order order (variant (suc m) a) (variant zero b) = Ordering.Greater
 optional_order order (variant (suc m) a) (variant (suc n) b) = order a b
-optional_order order a b = answers.Equal
+optional_order order a b = Ordering.Equal
 
 -- a success before a failure; two successes by the one order, and two failures by the other
 abbrev pub outcome_order : KeyOrder → KeyOrder → KeyOrder
 outcome_order good bad (variant zero a) (variant zero b) = bad a b
-outcome_order good bad (variant zero a) (variant (suc n) b) = answers.Greater
-outcome_order good bad (variant (suc m) a) (variant zero b) = answers.Less
+outcome_order good bad (variant zero a) (variant (suc n) b) = Ordering.Greater
+outcome_order good bad (variant (suc m) a) (variant zero b) = Ordering.Less
 outcome_order good bad (variant (suc m) a) (variant (suc n) b) = good a b
-outcome_order good bad a b = answers.Equal
+outcome_order good bad a b = Ordering.Equal
 
 -- by the first parts, and where these tell nothing by the others
 abbrev pub pair_order : KeyOrder → KeyOrder → KeyOrder
 pair_order first rest (pair a b) (pair c d) = ordering_then (first a c) (rest b d)
-pair_order first rest a b = answers.Equal
+pair_order first rest a b = Ordering.Equal
 
 -- lists by the first items that differ; a list that ends there stands before one that goes on
 abbrev pub list_order : KeyOrder → KeyOrder
-list_order order none none = answers.Equal
-list_order order none (pair b more) = answers.Less
-list_order order (pair a rest) none = answers.Greater
+list_order order none none = Ordering.Equal
+list_order order none (pair b more) = Ordering.Less
+list_order order (pair a rest) none = Ordering.Greater
 list_order order (pair a rest) (pair b more) = ordering_then (order a b) (list_order order rest more)
-list_order order a b = answers.Equal
+list_order order a b = Ordering.Equal
 
 -- items put in one after another
 unfoldable pub put_all : {X : Type 0} → (List X → X → List X) → List X → List X → List X
@@ -119,10 +118,10 @@ Apart R (x ∷ xs) = AllAfter R x xs × Apart R xs
 
 -- each key is above those before it
 abbrev pub Ascends : {A : Type 0} → KeyOrder → List (Entry A) → Type 0
-Ascends order es = Apart (λ e f. ordered order e.0 f.0 ≡ answers.Greater) es
+Ascends order es = Apart (λ e f. ordered order e.0 f.0 ≡ Ordering.Greater) es
 
 abbrev pub ItemsAscend : {A : Type 0} → KeyOrder → List (Meaning A) → Type 0
-ItemsAscend order ms = Apart (λ m n. ordered order m n ≡ answers.Greater) ms
+ItemsAscend order ms = Apart (λ m n. ordered order m n ≡ Ordering.Greater) ms
 
 -- no key is the same as one before it
 abbrev pub Differ : {A : Type 0} → List (Entry A) → Type 0

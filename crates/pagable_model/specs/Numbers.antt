@@ -2,14 +2,13 @@
 use Rattle.std.specs.{Prelude.{ℕ, zero, suc, ◌+◌, ◌-◌, ◌*◌, ◌/◌, ◌%◌, ◌^◌, List, [], ◌∷◌, Result, Ok, Err, ℤ, pos, negsuc, nat_lt, nat_le, ◌==◌, ◌<◌, if◌then◌else◌}, Int.{Width, w8, w16, w32, w64}}
 use Rattle.std.specs.Int.{w128}
 use Rattle.pagable_model.specs.{declared.error.Error.Error, Steps.◌>>=◌}
-use Rattle.pagable_model.specs.declared.error.Error.TheVariants as errors
 
 -- what a reader of bytes gives: a value and the bytes after it
 abbrev pub Read : Type 0 → Type 0
 Read A = Result (A × List ℕ) Error
 
 abbrev pub byte_at : List ℕ → Read ℕ
-byte_at [] = Err errors.UnexpectedEnd
+byte_at [] = Err Error.UnexpectedEnd
 byte_at (b ∷ rest) = Ok (b, rest)
 
 -- The shortest varint of a number (postcard, Varint Encoded Integers): seven bits a byte, low bits first; at most
@@ -21,8 +20,8 @@ varint (suc more) n = if nat_lt n 128 then n ∷ [] else (128 + n % 128) ∷ var
 -- What a varint at the front reads as (postcard, Maximum Encoded Length): after `more` bytes with the top bit set the
 -- next is the last, and it is at most `last`. Longer spellings than needed are accepted.
 unfoldable pub varint_at : ℕ → ℕ → List ℕ → Read ℕ
-varint_at more last [] = Err errors.UnexpectedEnd
-varint_at zero last (b ∷ rest) = if nat_le b last then Ok (b, rest) else Err errors.BadVarint
+varint_at more last [] = Err Error.UnexpectedEnd
+varint_at zero last (b ∷ rest) = if nat_le b last then Ok (b, rest) else Err Error.BadVarint
 varint_at (suc more) last (b ∷ rest) =
     if nat_lt b 128 then Ok (b, rest) else (varint_at more last rest >>= λ high. Ok (b - 128 + 128 * high.0, high.1))
 

@@ -1,6 +1,6 @@
 -- What holds throughout a shape where it holds throughout those that it is made of: no meaning of a carried type has two forms, and
 -- nothing in a key is a reference.
-use Rattle.std.specs.Prelude.{◌≡◌, ℕ}
+use Rattle.std.{specs.Prelude.{◌≡◌, ℕ}, proofs.Common.arith}
 use Rattle.pagable_model.specs.Shape.{Shape, nothing, unsigned, signed, flag, text, letter, duration, pattern, json, optional, outcome, list, run, array, both, sorted_map, placed_map, sorted_set, placed_set}
 use Rattle.pagable_model.specs.{Canonical.{IsCanonical, IsReadable, LiesIn, Throughout}, Keyed.{RefersToNothing, throughout-alone, throughout-over, throughout-two}}
 
@@ -43,33 +43,15 @@ pub record Follows (A : (Shape → Type 0) → Type 0) (nodes parts : ℕ → Ty
 module _ (nodes parts : ℕ → Type 0) where
   pub basic-follows : (s : Shape) → IsBasic s → Follows (λ P. P s) nodes parts
   unfolding IsCanonical IsReadable LiesIn
-  basic-follows nothing h = record { canonical = tt; readable = tt; lies = tt }
-  basic-follows (unsigned w) h = record { canonical = tt; readable = tt; lies = tt }
-  basic-follows (signed w) h = record { canonical = tt; readable = tt; lies = tt }
-  basic-follows flag h = record { canonical = tt; readable = tt; lies = tt }
-  basic-follows text h = record { canonical = tt; readable = tt; lies = tt }
-  basic-follows letter h = record { canonical = tt; readable = tt; lies = tt }
-  basic-follows duration h = record { canonical = tt; readable = tt; lies = tt }
-  basic-follows pattern h = record { canonical = tt; readable = tt; lies = tt }
-  basic-follows json h = record { canonical = tt; readable = tt; lies = tt }
-  basic-follows _ h = absurd h
+  basic-follows x0 h = grind (arith)
 
   pub over-follows : (s whole : Shape) → IsOver s whole → Follows (λ P. P s → P whole) nodes parts
   unfolding IsCanonical IsReadable LiesIn
-  over-follows s (optional t) e = rw e (record { canonical = λ h. h; readable = λ h. h; lies = λ h. h })
-  over-follows s (list t) e = rw e (record { canonical = λ h. h; readable = λ h. h; lies = λ h. h })
-  over-follows s (array n t) e = rw e (record { canonical = λ h. h; readable = λ h. h; lies = λ h. h })
-  over-follows s (sorted_set order t) e = rw e (record { canonical = λ h. h; readable = λ h. h; lies = λ h. h })
-  over-follows s (placed_set t) e = rw e (record { canonical = λ h. h; readable = λ h. h; lies = λ h. h })
-  over-follows s _ e = absurd e
+  over-follows s x1 e = grind (arith)
 
   pub two-follows : (s t whole : Shape) → IsOfTwo s t whole → Follows (λ P. P s → P t → P whole) nodes parts
   unfolding IsCanonical IsReadable LiesIn
-  two-follows s t (outcome u v) e = rw (e.0, e.1) (record { canonical = λ h k. (h, k); readable = λ h k. (h, k); lies = λ h k. (h, k) })
-  two-follows s t (both u v) e = rw (e.0, e.1) (record { canonical = λ h k. (h, k); readable = λ h k. (h, k); lies = λ h k. (h, k) })
-  two-follows s t (sorted_map order u v) e = rw (e.0, e.1) (record { canonical = λ h k. (h, k); readable = λ h k. (h, k); lies = λ h k. (h, k) })
-  two-follows s t (placed_map u v) e = rw (e.0, e.1) (record { canonical = λ h k. (h, k); readable = λ h k. (h, k); lies = λ h k. (h, k) })
-  two-follows s t _ e = absurd e
+  two-follows s t x2 e = grind (arith)
 
 -- a part may be any shape here
 abbrev pub any : ℕ → Type 0

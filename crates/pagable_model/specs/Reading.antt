@@ -4,7 +4,6 @@ use Rattle.pagable_model.specs.{declared.error.Error.Error, Steps.◌>>=◌, Num
 use Rattle.pagable_model.specs.{Meaning.{integer, none, variant, sequence, entry, absent, present, success, failure, lifted}, Keys.{text_order, put_all, put_sorted, put_placed, put_sorted_item}}
 use Rattle.pagable_model.specs.{Keys.put_placed_item, Carried.{of_entries, of_duration, of_tagged, of_hash_map}, Shape.{Shape, nothing, unsigned, signed, flag, text, letter, duration, pattern, json}}
 use Rattle.pagable_model.specs.Shape.{optional, outcome, list, run, array, both, sorted_map, placed_map, hash_map, sorted_set, placed_set, static_value, tagged, cases, reference, nested}
-use Rattle.pagable_model.specs.declared.error.Error.TheVariants as errors
 use Rattle.pagable_model.specs.Meaning as meanings
 
 -- what is left to be read: bytes, and what stands for references, in their order
@@ -37,7 +36,7 @@ bytes_of read view rest = read rest.bytes >>= λ x. Ok (view x.0, record rest { 
 
 -- a reference takes the next of the list, also where it is refused
 abbrev pub reference_at : {A B : Type 0} → Look A B → ℕ → (refs : List A) → Gets A (Meaning B)
-reference_at look kind [] rest = Err errors.NoMoreKeys
+reference_at look kind [] rest = Err Error.NoMoreKeys
 reference_at look kind (a ∷ refs) rest = look kind a >>= λ b. Ok (meanings.reference b, record rest { refs = refs })
 
 -- a part, seen by view
@@ -64,7 +63,7 @@ counted get rest = bytes_of length_at (λ n. n) rest >>= λ count. items get cou
 
 -- the value that is registered under an index
 abbrev pub registered : List (Meaning ⊥) → ℕ → Result (Meaning ⊥) Error
-registered [] i = Err errors.BadStaticIndex
+registered [] i = Err Error.BadStaticIndex
 registered (m ∷ ms) zero = Ok m
 registered (m ∷ ms) (suc i) = registered ms i
 
@@ -74,7 +73,7 @@ Deeper A B = Option (Shape → Gets A (Meaning B))
 
 -- the part is read one level further down
 abbrev pub enter : {A B X : Type 0} → Deeper A B → ((Shape → Gets A (Meaning B)) → Gets A X) → Gets A X
-enter None part rest = Err errors.TooDeep
+enter None part rest = Err Error.TooDeep
 enter (Some get) part rest = part get rest
 
 -- the cases of a JSON value, numbered from 0
@@ -84,14 +83,14 @@ pub data JsonCase : Type 0 where
 abbrev pub json_case : ℕ → Result JsonCase Error
 json_case n =
     if n == 0 then Ok null_case else if n == 1 then Ok flag_case else if n == 2 then Ok number_case else
-    if n == 3 then Ok text_case else if n == 4 then Ok array_case else if n == 5 then Ok object_case else Err errors.JsonCase
+    if n == 3 then Ok text_case else if n == 4 then Ok array_case else if n == 5 then Ok object_case else Err Error.JsonCase
 
 -- A JSON value after its case. The level of an array or an object is entered after its length was read.
 abbrev pub json_part : {A B : Type 0} → Deeper A B → JsonCase → Gets A (Meaning B)
 json_part deeper null_case rest = Ok (variant 0 none, rest)
 json_part deeper flag_case rest = bytes_of bool_at (λ b. variant 1 (meanings.flag b)) rest
 json_part deeper number_case rest =
-    bytes_of bool_at (λ b. b) rest >>= λ float. choose float.0 (λ r. Err errors.JsonNumber) (bytes_of (signed_at w64) (λ z. variant 2 (integer z))) float.1
+    bytes_of bool_at (λ b. b) rest >>= λ float. choose float.0 (λ r. Err Error.JsonNumber) (bytes_of (signed_at w64) (λ z. variant 2 (integer z))) float.1
 json_part deeper text_case rest = bytes_of text_at (λ t. variant 3 (meanings.text t)) rest
 json_part deeper array_case rest =
     bytes_of length_at (λ n. n) rest >>= λ count. enter deeper (λ get. seen (λ ms. variant 4 (sequence ms)) (items (get json) count.0)) count.1
@@ -120,7 +119,7 @@ read_with look parts deeper (outcome s t) rest =
     bytes_of bool_at (λ b. b) rest >>= λ ok. choose ok.0 (seen success (read_with look parts deeper s)) (seen failure (read_with look parts deeper t)) ok.1
 read_with look parts deeper (list s) rest = seen sequence (counted (read_with look parts deeper s)) rest
 -- no type that is read has this shape
-read_with look parts deeper (run s) rest = Err errors.WrongKind
+read_with look parts deeper (run s) rest = Err Error.WrongKind
 read_with look parts deeper (array n s) rest = seen sequence (items (read_with look parts deeper s) n) rest
 read_with look parts deeper (both s t) rest = seen entry (two (read_with look parts deeper s) (read_with look parts deeper t)) rest
 read_with look parts deeper (sorted_map order s t) rest =
@@ -133,9 +132,9 @@ read_with look parts deeper (placed_set s) rest = seen (λ ms. sequence (put_all
 read_with look parts deeper (static_value registry) rest =
     bytes_of (unsigned_at w32) (λ i. i) rest >>= λ i. registered registry i.0 >>= λ m. Ok (lifted m, i.1)
 read_with look parts deeper (tagged written known body) rest =
-    bytes_of text_at (λ t. t) rest >>= λ tag. choose (known tag.0) (seen (of_tagged tag.0) (read_with look parts deeper (body tag.0))) (λ r. Err errors.UnknownTag) tag.1
+    bytes_of text_at (λ t. t) rest >>= λ tag. choose (known tag.0) (seen (of_tagged tag.0) (read_with look parts deeper (body tag.0))) (λ r. Err Error.UnknownTag) tag.1
 read_with look parts deeper (cases w known part) rest =
-    bytes_of (unsigned_at w) (λ n. n) rest >>= λ n. choose (known n.0) (seen (variant n.0) (read_with look parts deeper (part n.0))) (λ r. Err errors.UnknownTag) n.1
+    bytes_of (unsigned_at w) (λ n. n) rest >>= λ n. choose (known n.0) (seen (variant n.0) (read_with look parts deeper (part n.0))) (λ r. Err Error.UnknownTag) n.1
 read_with look parts deeper (reference kind) rest = reference_at look kind rest.refs rest
 read_with look parts deeper (nested n) rest = enter deeper (λ get. get (parts n)) rest
 
@@ -150,5 +149,5 @@ read context s = read_with context.look context.parts (below context.look contex
 
 -- a value of a type that there may not be
 abbrev pub read_typed : {A B : Type 0} → Context A B → Option Shape → Gets A (Meaning B)
-read_typed context None rest = Err errors.WrongKind
+read_typed context None rest = Err Error.WrongKind
 read_typed context (Some s) rest = read context s rest

@@ -4,15 +4,11 @@ use Rattle.pagable_model.specs.{declared.numbers.ArcRef.ArcRef, Meaning.{Meaning
 
 -- the references in a meaning, from the front
 unfoldable pub references_in : {A : Type 0} → Meaning A → List A
-references_in (number n) = []
-references_in (integer z) = []
-references_in (text t) = []
-references_in (pattern t) = []
-references_in none = []
 references_in (pair a b) = references_in a ++ references_in b
 references_in (variant n a) = references_in a
 references_in (reference a) = a ∷ []
 references_in (followed kind a) = references_in a
+references_in _ = []
 
 -- The same references, each as often, in any order, since a hash map is written in an order of its own: every test of a reference
 -- holds of as many in both.

@@ -4,9 +4,8 @@ use Rattle.std.specs.Prelude.{◌≡◌, Option, Some, None, IsSome}
 -- none where there is none, and else a clone of what is there
 abbrev pub IsCloneOf : {V : Type 0} → (V → V → Type 0) → Option V → Option V → Type 0
 IsCloneOf is_clone None None = Unit {0}
-IsCloneOf is_clone None (Some y) = ⊥
-IsCloneOf is_clone (Some x) None = ⊥
 IsCloneOf is_clone (Some x) (Some y) = is_clone x y
+IsCloneOf is_clone _ _ = ⊥
 
 -- What a refused call gives back of the value that it was to make: the one that it made, or none where it didn't come to
 -- that, since the key has a value.

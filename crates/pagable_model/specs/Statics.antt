@@ -1,7 +1,6 @@
 -- Values that are written as an index: the registry that they stand in, as the list of its values by their index.
 use Rattle.std.{specs.Prelude.{◌≡◌, refl, ℕ, ◌<◌, List, map, Bool, true, false, Some, Ok, IsTrue}, proofs.Common.{subst, sym}, specs.List.slice_get}
 use Rattle.pagable_model.specs.{declared.error.Error.Error, Refusals.may_refuse_writing, Meaning.Meaning, Reading.registered}
-use Rattle.pagable_model.specs.declared.error.Error.TheVariants as errors
 
 -- what the values mean, by their index
 abbrev pub meanings_of : {T : Type 0} → (T → Meaning ⊥) → List T → List (Meaning ⊥)
@@ -23,7 +22,7 @@ StandsAt plain registry value i = registered (meanings_of plain registry) i ≡ 
 
 -- the refusal of a value that doesn't stand there
 abbrev pub unregistered : Error → Type 0
-unregistered e = e ≡ errors.Unregistered
+unregistered e = e ≡ Error.Unregistered
 
 pub unregistered_may_refuse_writing : (e : Error) → unregistered e → may_refuse_writing e ≡ true
 unregistered_may_refuse_writing e h = let P : Error → Type 0 = λ x. may_refuse_writing x ≡ true in subst P (sym h) refl

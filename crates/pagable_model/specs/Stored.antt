@@ -1,7 +1,6 @@
 -- What a storage may answer.
 use Rattle.std.specs.{Prelude.{◌≡◌, ◌≢◌, ◌-◌, ◌^◌, ◌<◌, ◌==◌, ◌⊎◌, ◌↔◌, ℕ, Bool, true, List, length, Option, Some, None, IsSome, if◌then◌else◌}, List.{AllPairs, Contains}}
 use Rattle.pagable_model.specs.{declared.error.Error.Error, Blob.Blob}
-use Rattle.pagable_model.specs.declared.error.Error.TheVariants as errors
 
 -- The blob stands under the key now, and what stood elsewhere still does; nothing else stood there.
 pub record Adds (key : ℕ) (blob : Blob) (old new : ℕ → Option Blob) : Type 0 where
@@ -14,23 +13,23 @@ HasFailed before after = (before < after) ⊎ ((before ≡ 2 ^ 64 - 1) × (after
 
 -- why a fetch is refused
 abbrev pub RefusesFetch : ℕ → Option Blob → ℕ → ℕ → Error → Type 0
-RefusesFetch key found before after (errors.NoData k) = (k ≡ key) × (found ≡ None)
-RefusesFetch key found before after errors.OutOfMemory = Unit {0}
-RefusesFetch key found before after (errors.Storage code) = HasFailed before after
+RefusesFetch key found before after (Error.NoData k) = (k ≡ key) × (found ≡ None)
+RefusesFetch key found before after Error.OutOfMemory = Unit {0}
+RefusesFetch key found before after (Error.Storage code) = HasFailed before after
 RefusesFetch key found before after _ = ⊥
 
 -- why a blob is not stored
 abbrev pub RefusesStore : Blob → Option Blob → Bool → ℕ → ℕ → Error → Type 0
-RefusesStore blob found closed before after errors.KeyTaken = (other : Blob) × (found ≡ Some other) × (other ≢ blob)
-RefusesStore blob found closed before after errors.Closed = closed ≡ true
-RefusesStore blob found closed before after errors.OutOfMemory = Unit {0}
-RefusesStore blob found closed before after (errors.Storage code) = HasFailed before after
+RefusesStore blob found closed before after Error.KeyTaken = (other : Blob) × (found ≡ Some other) × (other ≢ blob)
+RefusesStore blob found closed before after Error.Closed = closed ≡ true
+RefusesStore blob found closed before after Error.OutOfMemory = Unit {0}
+RefusesStore blob found closed before after (Error.Storage code) = HasFailed before after
 RefusesStore blob found closed before after _ = ⊥
 
 -- why a flush is refused
 abbrev pub RefusesFlush : ℕ → ℕ → Error → Type 0
-RefusesFlush before after errors.OutOfMemory = Unit {0}
-RefusesFlush before after (errors.Storage code) = HasFailed before after
+RefusesFlush before after Error.OutOfMemory = Unit {0}
+RefusesFlush before after (Error.Storage code) = HasFailed before after
 RefusesFlush before after _ = ⊥
 
 -- the keys under which a blob stands are these, each named once, and they are so many

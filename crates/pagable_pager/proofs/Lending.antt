@@ -6,7 +6,7 @@ use Rattle.pagable_pager.proofs.Words.{IsNext, BeginCall, GetsKnown, LazyCall, A
 use Rattle.pagable_pager.proofs.Words.{stands-alike, stands-fell, among-found, row-pins, same_some, pinned-here, StartsPin, begun_is, IsMade, PagerView, Telling, core_in, state_in, nat_tests}
 use Rattle.pagable_pager.proofs.Words.{Bool, refl, false, if◌then◌else◌, type_of, owner_value, row_of, with_node, with_cached, next_node, is_named_by, AreUpTo, stands-new, named-among, adopted}
 use Rattle.{pagable_loads.specs.declared.starting.PinStart.PinStart, pagable_world.specs.declared.{answers.Beginning.Beginning, calls.Want.Want}, either.specs.declared.Either.Either}
-use Rattle.{pagable_laws.proofs.Outlasting.{low-changed, low-whole, new-handle}, pagable_steps.proofs.Spared.not-load, pagable_pager.specs.Calling.{Calls, CallsLess}}
+use Rattle.{pagable_laws.proofs.Outlasting.{low-changed, low-whole, new-handle}, pagable_steps.proofs.Owning.not-load, pagable_pager.specs.Calling.{Calls, CallsLess}}
 use Rattle.std.proofs.lemmas.Bool.{false_from_ne_true}
 
 -- what a call does to a pager of which no value comes

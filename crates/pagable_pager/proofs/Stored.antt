@@ -1,7 +1,7 @@
 -- What the storage is asked leaves the pager in step.
 use Rattle.pagable_pager.proofs.Words.{rules, ◌≡◌, ℕ, ◌≤◌, false, refl, Some, Result, IfOk, IfErr, OnOk, OnErr, Adds, RefusesFetch, RefusesStore, Core, seen_as, Blob, Error, Asked, FetchCall}
 use Rattle.pagable_pager.proofs.Words.{StoreCall, still, told-whole, arith, nat_tests, Spares, spared, stores, PagerView, Telling, Spelling, IsPager, core_in, state_in, values_of}
-use Rattle.{pagable_steps.proofs.Spared.asked as spares-asked, pagable_world.specs.Pager.IsWhole}
+use Rattle.{pagable_steps.proofs.Owning.asked as spares-asked, pagable_world.specs.Pager.IsWhole}
 
 module _ {N S E : Type 0} {tells : Telling S} {g : Spelling N E} {p : PagerView N S E} (is : IsPager tells g p) (s : S) (stays : tells.closed s ≡ tells.closed p.storage)
     (more : tells.failed p.storage ≤ tells.failed s) where

@@ -6,9 +6,9 @@ pub use Rattle.pagable_model.specs.{Blob.key_of, Stored.{Adds, RefusesFetch, Ref
 pub use Rattle.{pagable_model.specs.declared.numbers.{Kind.Kind, LoadNumber.LoadNumber, NodeNumber.NodeNumber, WorkerNumber.WorkerNumber}, pagable_pager.specs.{Clones.PinsClone, Made.Refers}}
 pub use Rattle.pagable_pager.specs.{Made.TakesEntry, Puts.{PutsIn, with_value}, View.{PagerView, Telling, Spelling, ValuesByNode, IsPager, OnlyLess, core_in, state_in, value_in, values_of}}
 pub use Rattle.{pagable_pager.specs.View.{is_at_work, FewerValues, OnlyTables, SameValues, telling}, pagable_steps.proofs.{Births.{born, lazily, born-away}, Falling.{adopted_known, closed}}}
-pub use Rattle.pagable_steps.proofs.{Falling.{end_refused, dropped, handed_over, offered, released, worker_released, scheduled, key_set, unpinned, worker_ended}, Installing.installed_away}
-pub use Rattle.pagable_steps.proofs.{Installing.installed_there, Owning.{pinned-here, stayed, Leaves, Spares, spared, spares-alike}, Spared.{clones, loosens, pins-it, known-here, with-worker}}
-pub use Rattle.{pagable_steps.proofs.Spared.{starts-listed, clears, recalls, reserves, stores, takes, asks, begins, begins-key}, pagable_tables.proofs.Adoptions.{adopts-new, early-past}}
+pub use Rattle.pagable_steps.proofs.{Falling.{end_refused, dropped, handed_over, offered, released, worker_released, scheduled, key_set, unpinned, worker_ended}, Births.installed_away}
+pub use Rattle.pagable_steps.proofs.{Births.installed_there, Owning.{pinned-here, stayed, Leaves, Spares, spared, spares-alike, clones, loosens, pins-it, known-here, with-worker}}
+pub use Rattle.{pagable_steps.proofs.Owning.{starts-listed, clears, recalls, reserves, stores, takes, asks, begins, begins-key}, pagable_tables.proofs.Adoptions.{adopts-new, early-past}}
 pub use Rattle.pagable_tables.proofs.{Adoptions.{refused-memory, refused-new}, Entries.no-entries, Installed.{installs-wider, may-wider, not-so, so-then}, Opened.{earlier-first, told-later}}
 pub use Rattle.pagable_tables.proofs.{Readied.{room-alike, room-fault, fault-by, next-past, born-past, adopted-past}, Stays.eager-pins, Worlds.still, keeps.CacheCalls.{clear-whole, recall-whole}}
 pub use Rattle.pagable_tables.proofs.keeps.{CacheCalls.reserve-whole, HandleCalls.{clone-whole, loosen-whole, pin-whole}, ListCalls.take-whole, LoadCalls.{begin-whole, begin-key-whole}}

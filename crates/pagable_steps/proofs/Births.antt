@@ -5,9 +5,10 @@ use Rattle.pagable_steps.proofs.Words.{arith, Result, is_some, not, nat_lt, nat_
 use Rattle.pagable_steps.proofs.Words.{Among, is_in, one, times, if_there, type_of, is_loose_kind, is_pinning, is_pin, is_at, owner_value, held, mode_of, pins, Core, Cell, OpenLoad, Values, type_at}
 use Rattle.pagable_steps.proofs.Words.{is_here, usable, row_of, moved, with_node, with_handle, next_node, reference_fault, references_fault, is_named_by, BirthCall, AwayBirthCall, Adopts, LazyCall}
 use Rattle.pagable_steps.proofs.Words.{PagerState, IsWhole, WellFormed, Stands, AreGood, NotValues, good, or-none, named-among, stands-whole, stands-changed, found-number, among-changed, self-number}
-use Rattle.pagable_steps.proofs.Words.{same-number, sum-le}
-use Rattle.pagable_steps.proofs.{Owning.{At, Has, among-named, same-value, holds_value, settled, sits}, Spared.{not-load, gets-known}}
-use Rattle.pagable_steps.proofs.Owning.{OwnsAlike, Spares, owns-then, owns-handle, pinned-here, sits-on, spared, spares-alike, spares-cached, sum-mapped}
+use Rattle.pagable_steps.proofs.Words.{same-number, sum-le, one-less, and_parts, NodeNumber, updated, is_owned_by, is_owner, is_loose, is_in_memory, key_at, Owns, with_mode, without_load, is_owned_in}
+use Rattle.pagable_steps.proofs.Owning.{At, Has, among-named, same-value, holds_value, settled, sits, not-load, gets-known, OwnsAlike, Spares, owns-then, owns-handle, pinned-here, sits-on, spared}
+use Rattle.pagable_steps.proofs.Owning.{spares-alike, spares-cached, sum-mapped, AreFree, Keeps, Sweeps, spares-keeps, spares-then, spares-same, spares-handle, mode-owns, mode-others, mode-here}
+use Rattle.pagable_steps.proofs.{Words.{with_pin, MayEnd, Installs, NotLoads, row-held, found}, Owning.turned, Falling.{fell, fell-from, load-free}}
 
 unseen : (w : Core) (owner : Owner) (seen : List ℕ) (r : ArcRef) → reference_fault w owner seen r ≡ None → is_in seen r.handle.0 ≡ false
 unseen w owner seen r none = grind (arith, nat_tests)
@@ -182,12 +183,9 @@ module _ {N E : Type 0} {v : Values N} {s : PagerState N E} (s' : PagerState N E
 
       no-pins : pins next s.core.rows ≡ 0
       no-pins =
-          let le = sum-le (λ h. one (is_pin next h)) (λ h. one (is_at next h)) s.core.rows (λ h among. fewer (is_at next h) (is_pinning h.mode)) in
+          let le = sum-le (λ h. one (is_pin next h)) (λ h. one (is_at next h)) s.core.rows (λ h among. one-less (is_at next h) (is_pinning h.mode)) in
           let live : is_some (s.core.cells next) ≡ nat_lt 0 (held next s.core.rows) = is.whole.handles.live next in
           grind (arith, nat_tests, no-cell)
-        where
-          fewer : (a b : Bool) → one (a && b) ≤ one a
-          fewer a b = grind (arith, nat_tests)
 
       away : is_here made next ≡ false
       away = let p = pins-made next in let q = self-number next in grind (arith, nat_tests, no-pins)
@@ -228,3 +226,115 @@ module _ {N E : Type 0} {v : Values N} {s s' : PagerState N E} (is : WellFormed 
         (spares-cached kind key (next_node s.core) s.core.closed a) key refl refl (mode-pins kind.0 true c.makes.2)
   ]
   lazily (Err e) c = spared v s s' is (spares-alike c.refused.stays)
+
+-- ---- a load of a cell ends with a pin: where the cell has no value, what was read comes into it; else it is dropped. What the load still owns goes
+
+module _ {N E : Type 0} {v : Values N} {s : PagerState N E} (is : WellFormed v s) {me : Owner} {l : LoadNumber} {node : NodeNumber} {h : HandleNumber} {x : N}
+    (may : MayEnd s.core me l node h (v.node_type x) (v.references x)) (row : HandleRow) (own : Owns s.core me h is_loose row) (at_node : row.node ≡ node) where
+  free : NotValues me × NotLoads me
+  free = (grind (arith, nat_tests))
+
+  stands : Stands s.core.last.handle s.core.rows h.0 row
+  stands = stands-whole is.whole.handles h.0 row own.live
+
+  there-keeps : is_here s.core node.0 ≡ true → Keeps s.core (with_pin (without_load s.core l) h node me)
+  there-keeps there =
+      let first = turned is.whole free.0 h row own (subst (λ (m : NodeNumber). is_here s.core m.0 ≡ true) (sym at_node) there) in
+      let here = subst (λ (m : NodeNumber). is_here (with_mode s.core h Mode.LoosePinned) m.0 ≡ true) at_node (mode-here s.core h Mode.LoosePinned row stands refl) in
+      spares-keeps (spares-then first (spares-then (spares-handle (with_mode s.core h Mode.LoosePinned) node Mode.Pinned me free.0 (λ e. here)) (spares-same refl (λ n. refl) refl)))
+
+  -- ---- the cell has no value
+
+  module _ (away : is_here s.core node.0 ≡ false) where
+    -- the cell is there, of the value's type
+    cell-typed : type_at s.core node.0 ≡ Some (v.node_type x)
+    cell-typed =
+        let some = row-held s.core h row own.live in
+        let live = is.whole.handles.live node.0 in
+        let root = is.whole.loads.roots l.0 may.load node (v.node_type x) h may.owned.stands_open may.of_node in
+        grind (arith, nat_tests)
+
+    no-value-yet : s.values node.0 ≡ None
+    no-value-yet = grind (arith, nat_tests)
+
+    -- the load is closed, and what the value names is its own
+    abbrev closed-given : Core
+    closed-given = record (without_load s.core l) { rows = moved (is_named_by (v.references x)) (owner_value node.0) s.core.rows }
+
+    abbrev pinned : Core
+    pinned = with_mode closed-given h Mode.LoosePinned
+
+    abbrev values : ℕ → Option N
+    values = updated node.0 (Some x) s.values
+
+    -- the handle has its row still
+    stands-still : Stands closed-given.last.handle closed-given.rows h.0 row
+    stands-still =
+        let right = good s.core (Owner.Load l) [] (v.references x) may.good in
+        let unnamed = (effects.named-free me s.core (Owner.Load l) (v.references x) (λ e. free.1 l (sym e)) right).each h.0 row own.own stands in
+        effects.moved-free me (is_named_by (v.references x)) (owner_value node.0) unnamed stands
+
+    after : (n : ℕ) → OwnsAlike n closed-given (with_pin closed-given h node me)
+    after n = owns-then (mode-owns closed-given h Mode.LoosePinned row stands-still (subst NotValues (sym own.own) free.0) n) (owns-handle pinned node Mode.Pinned me free.0 n)
+
+    takes-it : Receives v s.core closed-given s.values (v.references x) node.0
+    takes-it = receives is (not-load l) (v.references x) may.good node.0 s.core.cells closed-given.loads s.core.last.node (λ n t e. e) no-value-yet
+
+    sits-all : (n : ℕ) → At v (with_pin closed-given h node me) n (values n)
+    sits-all n = sits-on v (after n) (values n) (takes-it.all (Some x) (takes-it.value x refl cell-typed) n)
+
+    -- each node that is in memory has a value
+    there : (n : ℕ) → holds_value (with_pin closed-given h node me) n ≡ true → is_some (values n) ≡ true
+    there n holds = at (n == node.0) refl
+      where
+        same-pins : (n == node.0) ≡ false → pins n (with_pin closed-given h node me).rows ≡ pins n s.core.rows
+        same-pins e =
+            let apart : (node.0 == n) ≡ false = grind (arith, nat_tests) in
+            let a = sum_by_push (λ r. one (is_pin n r)) pinned.rows (row_of (s.core.last.handle + 1) node Mode.Pinned me) in
+            let b = mode-others closed-given h Mode.LoosePinned row stands-still n (ap (λ (m : NodeNumber). m.0 == n) at_node ∙ apart) in
+            let c = takes-it.pins n in
+            let d : one (is_pin n (row_of (s.core.last.handle + 1) node Mode.Pinned me)) ≡ 0 = rw apart refl in
+            omega (arith, a, b, c, d)
+
+        at : (b : Bool) → (n == node.0) ≡ b → is_some (if b then Some x else s.values n) ≡ true
+        at true e = refl
+        at false e = is.valued n ∙ (ap (λ p. is_some (s.core.cells n) && is_in_memory p (key_at s.core n)) (sym (same-pins e)) ∙ holds)
+
+    -- what goes is no value's
+    none-goes : AreFree (with_pin closed-given h node me) (λ q. is_owned_in s.core (Owner.Load l) q && not (is_named_by (v.references x) q))
+    none-goes q among goes n mine = at (n.0 == node.0) refl
+      where
+        was : Among closed-given.rows q
+        was = (after n.0).owned q among mine
+
+        both : (is_owned_in s.core (Owner.Load l) q.number.0 ≡ true) × (not (is_named_by (v.references x) q.number.0) ≡ true)
+        both = and_parts (is_owned_in s.core (Owner.Load l) q.number.0) _ goes
+
+        at : (b : Bool) → (n.0 == node.0) ≡ b → ⊥
+        at true e = let named = takes-it.named q was (mine ∙ ap owner_value (same-number n.0 node.0 e)) in let f = both.1 in cc
+        at false e =
+            let row_found = found is.whole.handles q.number.0 q ((takes-it.before n.0 e).owned q was mine) refl in
+            let other : is_owned_in s.core (Owner.Load l) q.number.0 ≡ is_owner (Owner.Load l) q.owner = ap (if_there (is_owned_by (Owner.Load l)) false) row_found in
+            let f = ap (is_owner (Owner.Load l)) mine in
+            let g = both.0 in
+            cc
+
+-- ---- the law
+
+module _ {N E : Type 0} {v : Values N} {s s' : PagerState N E} (is : WellFormed v s) {me : Owner} {l : LoadNumber} {node : NodeNumber} {h k : HandleNumber} {x : N}
+    (may : MayEnd s.core me l node h (v.node_type x) (v.references x)) (i : Installs s.core me l node h k (v.references x) s'.core) where
+  -- the cell has its value already
+  pub installed_there : is_here s.core node.0 ≡ true → Sweeps s.values s'.core s'.values → ((n : ℕ) → s'.counts n ≡ pins n s'.core.rows) → IsWhole s'.core → WellFormed v s'
+  installed_there there swept counts whole = elim i.falls [
+    | inl (away, f) ↦ absurd (let e : false ≡ true = sym away ∙ there in cc)
+    | inr (here, f) ↦ fell is (there-keeps is may i.row i.owned i.at there) f.falls (load-free is.whole l) (record { swept = swept; counted = counts; whole = whole })
+  ]
+
+  -- the value comes into it
+  pub installed_away : is_here s.core node.0 ≡ false → Sweeps (updated node.0 (Some x) s.values) s'.core s'.values → ((n : ℕ) → s'.counts n ≡ pins n s'.core.rows) → IsWhole s'.core
+      → WellFormed v s'
+  installed_away away swept counts whole = elim i.falls [
+    | inl (none, f) ↦ fell-from (sits-all is may i.row i.owned i.at away) (there is may i.row i.owned i.at away) s' f.falls (none-goes is may i.row i.owned i.at away)
+        (record { swept = swept; counted = counts; whole = whole })
+    | inr (there, f) ↦ absurd (let e : true ≡ false = sym there ∙ away in cc)
+  ]

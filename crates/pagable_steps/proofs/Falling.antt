@@ -1,17 +1,16 @@
 -- Values go with a cascade: where a call has done what it does directly, a value stays exactly where its node is in memory afterwards, and owns what it did. And the calls by which handles go.
-use Rattle.std.proofs.lemmas.Bool.{false_from_ne_true}
 use Rattle.pagable_laws.proofs.Effects as effects
-use Rattle.pagable_steps.proofs.{Owning.{At, Has, AreFree, Keeps, Leaves, Spares, settled, sits, holds_value, same-value, owned-test, found-whole, among-named, among-either, sits-on, stayed}}
-use Rattle.pagable_steps.proofs.Owning.{spares-keeps, spares-then, spares-same, spares-alike, spares-moved, owns-same, mode-owns, mode-others, row-here}
-use Rattle.pagable_steps.proofs.Spared.{rowed, own-free, listed-free, schedules, offers, spares-known, not-load}
+use Rattle.std.proofs.lemmas.Bool.{false_from_ne_true}
+use Rattle.pagable_steps.proofs.Owning.{At, Has, AreFree, Keeps, Leaves, Spares, settled, sits, holds_value, same-value, owned-test, among-named, sits-on, stayed, spares-keeps, spares-then}
 use Rattle.pagable_steps.proofs.Words.{◌≡◌, ℕ, suc, zero, ◌+◌, ◌<◌, ◌≤◌, ◌&&◌, Bool, true, false, List, [], ◌∷◌, Option, Some, None, inl, inr, refl, ap, sym, subst, ◌∙◌, if◌then◌else◌, arith, is_some}
 use Rattle.pagable_steps.proofs.Words.{not, nat_lt, cond, and_parts, nat_tests, sum_by-cons, sum_by-append, HandleRow, Owner, ArcRef, Among, one, times, if_there, filter, is_at, is_pin, is_owned_by}
-use Rattle.pagable_steps.proofs.Words.{owner_value, held, pins, Core, Cell, Values, type_at, is_here, is_outside, owned_outside, loses_value, AreNewEntries, is_keyed, left_rows, Falls, PagerState}
+use Rattle.pagable_steps.proofs.Words.{owner_value, held, Core, Cell, Values, type_at, is_here, is_outside, owned_outside, loses_value, AreNewEntries, is_keyed, left_rows, Falls, PagerState}
 use Rattle.pagable_steps.proofs.Words.{WellFormed, is_named_by, Stands, stands-alike, stands-more, among-kept, among-found, found-number, found-kept, none-in-new, le-more, same-owner, sum-le}
 use Rattle.pagable_steps.proofs.Words.{at-most-sum, row-held, fell-away, outlast, fallen, named-among, ◌==◌, ◌||◌, Ok, Err, Result, Error, Mode, Kind, HandleNumber, LoadNumber, NodeNumber, is_in}
-use Rattle.pagable_steps.proofs.Words.{find_row, is_owner, owner_worker, is_in_memory, is_pinning, Alike, row_at, key_at, usable, FallsAnyhow, refused_if, named_fault, UnpinCall, ReleaseCall}
-use Rattle.pagable_steps.proofs.Words.{SetKeyCall, ScheduleCall, OfferCall, CloseCall, Owns, with_mode, with_key, is_owned_in, numbers_of, Adopts, EndCall, HandOverCall, DropCall, LoadCloses}
-use Rattle.pagable_steps.proofs.Words.{is_workers_at, is_load_of, WorkerEnds, IsWhole, same-number, counted, good, NotValues, neither, stands-whole}
+use Rattle.pagable_steps.proofs.Words.{find_row, is_owner, owner_worker, is_in_memory, is_pinning, Alike, key_at, usable, FallsAnyhow, UnpinCall, ReleaseCall, SetKeyCall, ScheduleCall, OfferCall}
+use Rattle.pagable_steps.proofs.Words.{CloseCall, Owns, with_mode, with_key, is_owned_in, numbers_of, Adopts, EndCall, HandOverCall, DropCall, LoadCloses, is_workers_at, is_load_of, WorkerEnds}
+use Rattle.pagable_steps.proofs.Owning.{spares-same, spares-alike, spares-moved, owns-same, mode-owns, mode-others, row-here, rowed, own-free, listed-free, schedules, offers, spares-known, not-load}
+use Rattle.pagable_steps.proofs.Words.{IsWhole, same-number, counted, good, NotValues, neither, stands-whole, among-either, no-pins, slice_get}
 
 -- ---- what is left, and what comes
 
@@ -32,15 +31,10 @@ times-left t gone (x ∷ xs) =
     let rest = times-left t gone xs in
     grind (arith, nat_tests)
 
--- new entries pin nothing, and the list owns them
-pinless : (n last : ℕ) (entries : List HandleRow) → AreNewEntries last entries → pins n entries ≡ 0
-pinless n last [] new = refl
-pinless n last (x ∷ xs) (number, mode, owner, new) = grind (arith, nat_tests, pinless n (last + 1) xs new)
-
+-- the list owns new entries
 listed : (last : ℕ) (entries : List HandleRow) → AreNewEntries last entries → (h : HandleRow) → Among entries h → h.owner ≡ Owner.List
-listed last [] new h among = absurd (cc)
 listed last (x ∷ xs) (number, mode, owner, new) h (suc i, is) = listed (last + 1) xs new h (i, is)
-listed last (x ∷ xs) (number, mode, owner, new) h (zero, is) = let same : x ≡ h = cc in ap (λ (y : HandleRow). y.owner) (sym same) ∙ owner
+listed last x1 x2 h x4 = grind (arith, nat_tests)
 
 typed-cell : (w : Core) (n t : ℕ) → type_at w n ≡ Some t → (cell : Cell) × (w.cells n ≡ Some cell)
 typed-cell w n t is = grind (arith, nat_tests)
@@ -51,7 +45,7 @@ module _ {before w w' : Core} {given : ℕ → Bool} {r : _} (f : Falls before w
   loses n cell live =
       let h = counts (is_at n) in
       let p = counts (is_pin n) in
-      let none = pinless n w.last.handle f.entries f.new in
+      let none = no-pins n w.last.handle f.entries f.new in
       let fewer = sum-le (λ h. one (is_pin n h && is_outside f.gone h)) (λ h. one (is_at n h && is_outside f.gone h)) w.rows (λ h among. pin-at (is_at n h) _ (is_outside f.gone h)) in
       let cells : w'.cells n ≡ (if nat_lt 0 (held n w'.rows) then Some cell else None) = f.leaves.cells n ∙ rw (f.leaves.rows, live) refl in
       grind (arith, nat_tests)
@@ -64,7 +58,7 @@ module _ {before w w' : Core} {given : ℕ → Bool} {r : _} (f : Falls before w
 
   -- a row that a value owns was there, and isn't gone
   was : (n : ℕ) (h : HandleRow) → Among w'.rows h → h.owner ≡ owner_value n → Among w.rows h × (f.gone h.number.0 ≡ false)
-  was n h among own = elim (among-either (left_rows f.gone w.rows) f.entries h (subst (λ rows. Among rows h) f.leaves.rows among)) [
+  was n h (i, at) own = elim (among-either (left_rows f.gone w.rows) f.entries i h (subst (λ rows. slice_get rows i ≡ Some h) f.leaves.rows at)) [
     | inl left ↦ (among-kept _ w.rows h left, outside (f.gone h.number.0) (passes _ w.rows h left))
     | inr new ↦ absurd (let e : Owner.List ≡ owner_value n = sym (listed w.last.handle f.entries f.new h new) ∙ own in cc)
   ]
@@ -165,9 +159,6 @@ fell {v = v} {s} {s'} is k f free =
 -- ---- what no value owns
 
 module _ {w : Core} (whole : IsWhole w) where
-  not-loads : (l : LoadNumber) (o : Owner) → o ≡ Owner.Load l → NotValues o
-  not-loads l o is n own = not-load l n (sym is ∙ own)
-
   -- handles whose rows pass a test that no value's passes
   by-row : (test : HandleRow → Bool) → ((h : HandleRow) (n : NodeNumber) → h.owner ≡ Owner.Value n → test h ≡ false) → AreFree w (λ q. if_there test false (find_row q w.rows))
   by-row test none = rowed whole _ (λ n. record { each = λ q row own s. ap (if_there test false) s.live ∙ none row n own })
@@ -175,19 +166,6 @@ module _ {w : Core} (whole : IsWhole w) where
   -- what a load owns
   pub load-free : (l : LoadNumber) → AreFree w (is_owned_in w (Owner.Load l))
   load-free l = by-row (is_owned_by (Owner.Load l)) (λ h n own. ap (is_owner (Owner.Load l)) own)
-
-  -- what else is asked of it
-  both-free : (f g : ℕ → Bool) → AreFree w f → AreFree w (λ q. f q && g q)
-  both-free f g free h among is = free h among (and_parts (f h.number.0) (g h.number.0) is).0
-
-  -- what a load hands over
-  handed-free : (l : LoadNumber) (hs : List HandleNumber) (seen : List ℕ) → named_fault w (Owner.Load l) seen hs ≡ None → AreFree w (is_in (numbers_of hs))
-  unfolding named_fault is_in
-  handed-free l [] seen none h among is = absurd (cc)
-  handed-free l (x ∷ hs) seen none h among is =
-      let both = neither _ _ none in
-      let rest : is_in (numbers_of hs) h.number.0 ≡ true → NotValues h.owner = λ e. handed-free l hs (x.0 ∷ seen) both.1 h among e in
-      grind (arith, nat_tests, row_at, find_row, same-number, found-whole, refused_if, not, is_owner, not-loads, same-owner)
 
 -- ---- what is done directly
 
@@ -297,7 +275,8 @@ module _ {N E : Type 0} {v : Values N} {s s' : PagerState N E} (is : WellFormed 
     pub handed_over : {l : LoadNumber} {hs : List HandleNumber} (r : Result (Unit {0}) Error) → HandOverCall s.core me l hs r s'.core → WellFormed v s'
     handed_over {l} {hs} (Ok u) c =
         let named = (neither _ _ (neither _ _ c.hands.0).1).1 in
-        let moves = spares-moved s.core (is_in (numbers_of hs)) me {list = s.core.list} none (handed-free is.whole l hs [] named) in
+        let free = rowed is.whole (is_in (numbers_of hs)) (λ n. record { each = effects.handed-free (Owner.Value n) (λ m. refl) s.core l hs [] named }) in
+        let moves = spares-moved s.core (is_in (numbers_of hs)) me {list = s.core.list} none free in
         fell is (spares-keeps (spares-then moves (spares-same refl (λ n. refl) refl))) c.hands.1.falls
-        (both-free is.whole (is_owned_in s.core (Owner.Load l)) (λ q. not (is_in (numbers_of hs) q)) (load-free is.whole l)) left
+        (λ h among is_so. load-free is.whole l h among (and_parts (is_owned_in s.core (Owner.Load l) h.number.0) _ is_so).0) left
     handed_over (Err e) c = stays c.refused.1

@@ -1,13 +1,16 @@
 -- What a pager's type says of values, row by row: a value owns the one row of each handle that it refers to, and no other; a node without a value owns nothing. And what is done before
 -- handles go, part by part: it leaves what values own as it is.
-use Rattle.std.{specs.{List.AllPairs, Prelude.◌⊎◌}, proofs.lemmas.Bool.false_from_ne_true}
 use Rattle.pagable_laws.proofs.Effects as effects
+use Rattle.std.proofs.lemmas.Bool.{false_from_ne_true}
 use Rattle.pagable_steps.proofs.Words.{◌≡◌, ℕ, suc, ◌<◌, ◌≤◌, ◌==◌, ◌&&◌, Bool, true, List, [], ◌∷◌, Option, Some, None, refl, ap, sym, subst, ◌∙◌, arith, is_some, and_parts, nat_tests, HandleRow}
-use Rattle.pagable_steps.proofs.Words.{Owner, ArcRef, Among, one, times, find_row, is_handle, is_owner, is_owned_by, owner_value, fits_mode, type_of, pins, Core, Values, type_at, is_here, PagerState}
-use Rattle.pagable_steps.proofs.Words.{IsWhole, WellFormed, HandlesAreWhole, Stands, stands-whole, among-found, found-number, none-found, once, same-owner, same-number, IsHandleBefore, sum_by-cons}
-use Rattle.pagable_steps.proofs.Words.{slice_get_within, get_or_from_slice_get, is_named_by, self-number, at-most-sum, sum-le, sum-zero, counted, one-true, ◌+◌, false, ◌++◌, sum_by, map, inl, inr}
-use Rattle.pagable_steps.proofs.Words.{if◌then◌else◌, nat_lt, sum_by_push, Mode, OptionalDataKey, HandleNumber, NodeNumber, SameAt, changed, if_there, is_pin, is_pinning, is_in_memory, Cell, Last}
-use Rattle.pagable_steps.proofs.Words.{Alike, row_at, key_at, row_of, with_handle, with_mode, with_cached, moved, Kind, stands-changed, among-changed, NotValues, row-pins, found-after}
+use Rattle.pagable_steps.proofs.Words.{Owner, ArcRef, Among, one, times, is_handle, is_owner, is_owned_by, owner_value, fits_mode, type_of, pins, Core, Values, type_at, is_here, PagerState, IsWhole}
+use Rattle.pagable_steps.proofs.Words.{WellFormed, HandlesAreWhole, Stands, stands-whole, among-found, found-number, once, same-owner, same-number, sum_by-cons, is_named_by, self-number, at-most-sum}
+use Rattle.pagable_steps.proofs.Words.{sum-le, sum-zero, counted, one-true, ◌+◌, false, sum_by, map, inl, inr, if◌then◌else◌, nat_lt, sum_by_push, Mode, OptionalDataKey, HandleNumber, NodeNumber}
+use Rattle.pagable_steps.proofs.Words.{SameAt, changed, if_there, is_pin, is_pinning, is_in_memory, Cell, Last, Alike, row_at, key_at, row_of, with_handle, with_mode, with_cached, moved, Kind}
+use Rattle.pagable_steps.proofs.Words.{stands-changed, among-changed, NotValues, row-pins, found-after, Ok, Err, Result, not, slice_get, Beginning, Pinning, Want, Error, Blob, LoadNumber}
+use Rattle.pagable_steps.proofs.Words.{WorkerNumber, is_shared_kind, is_loose_kind, is_pinned_kind, is_at, is_pinned, is_shared, is_share, mode_of, held, usable, only_handle, Owns, with_known}
+use Rattle.pagable_steps.proofs.Words.{CloneCall, PinCall, LoosenCall, ScheduleCall, TakeCall, ReserveCall, RecallCall, OfferCall, ClearCall, Asked, StoreCall, with_worker, with_entry_taken}
+use Rattle.pagable_steps.proofs.Words.{BeginCall, BeginKeyCall, GetsKnown, Given, from_cache, AskCall, IsEntered, entered-of, among-either, handles-once, one-less, only-one, found}
 
 -- the reference names the one row of a handle that the node's value owns
 pub record Refers (w : Core) (n : ℕ) (r : ArcRef) : Type 0 where
@@ -42,13 +45,6 @@ holds_value w n = is_some (w.cells n) && is_here w n
 
 -- ---- rows
 
-pub found-whole : {w : Core} → HandlesAreWhole w → (h : HandleRow) → Among w.rows h → find_row h.number.0 w.rows ≡ Some h
-found-whole {w} whole h among = at (find_row h.number.0 w.rows) refl
-  where
-    at : (found : Option HandleRow) → find_row h.number.0 w.rows ≡ found → find_row h.number.0 w.rows ≡ Some h
-    at None e = absurd (none-found h.number.0 w.rows h e among refl)
-    at (Some row) e = e ∙ ap (λ (x : HandleRow). Some x) (once w.rows whole.ordered row h (among-found h.number.0 w.rows row e) among (found-number h.number.0 w.rows row e))
-
 pub same-value : {n m : ℕ} (o : Owner) → o ≡ owner_value n → o ≡ owner_value m → m ≡ n
 same-value {n} {m} o a b = same-number m n (sym (ap (is_owner (owner_value n)) b) ∙ (ap (is_owner (owner_value n)) a ∙ self-number n))
 
@@ -68,21 +64,6 @@ there-some test xs some = let c = counted (λ y. one (test y)) xs some in (c.0, 
 none-there : {X : Type 0} (test : X → Bool) (xs : List X) → ((x : X) → Among xs x → test x ≡ true → ⊥) → times test xs ≡ 0
 none-there test xs none = sum-zero (λ y. one (test y)) xs (λ x among. ap one (false_from_ne_true (test x) (none x among)))
 
--- no two rows have one number
-rows-once : (q : ℕ) (rows : List HandleRow) → AllPairs IsHandleBefore rows → times (is_handle q) rows ≤ 1
-rows-once q [] ordered = omega arith
-rows-once q (h ∷ hs) ordered =
-    let rest = rows-once q hs (λ i j d less lt. ordered (suc i) (suc j) d (omega (arith, less)) (omega (arith, lt))) in
-    let sum = sum_by-cons (λ x. one (is_handle q x)) h hs in
-    grind (arith, nat_tests, alone)
-  where
-    alone : is_handle q h ≡ true → times (is_handle q) hs ≡ 0
-    alone same = none-there (is_handle q) hs (λ x (i, there) e.
-        let within = slice_get_within hs i x there in
-        let lt = ordered 0 (suc i) x (omega arith) (omega (arith, within)) in
-        let place = ap (λ (y : HandleRow). y.number.0) (get_or_from_slice_get hs i x x there) in
-        omega (arith, lt, place, same-number _ _ e, same-number _ _ same))
-
 -- the handle is this one, and the node's value owns it
 abbrev owns : ℕ → ℕ → HandleRow → Bool
 owns n q h = is_handle q h && is_owned_by (owner_value n) h
@@ -95,12 +76,9 @@ owns-test n q h number own = let a = ap (λ m. m == q) number ∙ self-number q 
 
 owns-once : {w : Core} → HandlesAreWhole w → (n q : ℕ) → times (owns n q) w.rows ≤ 1
 owns-once {w} whole n q =
-    let a = sum-le (λ h. one (owns n q h)) (λ h. one (is_handle q h)) w.rows (λ h among. less (is_handle q h) (is_owned_by (owner_value n) h)) in
-    let b = rows-once q w.rows whole.ordered in
+    let a = sum-le (λ h. one (owns n q h)) (λ h. one (is_handle q h)) w.rows (λ h among. one-less (is_handle q h) (is_owned_by (owner_value n) h)) in
+    let b = handles-once whole q in
     omega (arith, a, b)
-  where
-    less : (a b : Bool) → one (a && b) ≤ one a
-    less a b = grind (arith, nat_tests)
 
 -- ---- a pager's type says that
 
@@ -269,14 +247,6 @@ pinned-here w n pinned = let some : nat_lt 0 (pins n w.rows) ≡ true = grind (a
 pub row-here : (w : Core) (h : HandleNumber) (row : HandleRow) → row_at w h ≡ Some row → is_pinning row.mode ≡ true → is_here w row.node.0 ≡ true
 row-here w h row live pinning = pinned-here w row.node.0 (row-pins w h row live pinning)
 
-pub among-either : {X : Type 0} (xs ys : List X) (x : X) → Among (xs ++ ys) x → Among xs x ⊎ Among ys x
-among-either (x ∷ xs) ys r (suc i, is) = elim (among-either xs ys r (i, is)) [ inl a ↦ inl (suc a.0, a.1) | inr b ↦ inr b ]
-among-either x0 ys r x3 = grind (arith, nat_tests)
-
-only-new : (x h : HandleRow) → Among (x ∷ []) h → x ≡ h
-only-new x h (suc i, is) = absurd (cc)
-only-new x h x2 = grind (arith, nat_tests)
-
 module _ (w : Core) (node : NodeNumber) (mode : Mode) (me : Owner) (free : NotValues me) where
   abbrev new : HandleRow
   new = row_of (w.last.handle + 1) node mode me
@@ -285,9 +255,9 @@ module _ (w : Core) (node : NodeNumber) (mode : Mode) (me : Owner) (free : NotVa
   owns-handle n = record {
     typed = λ p t is. is;
     spares = effects.spares-handle (owner_value n) w node mode me;
-    owned = λ h among own. elim (among-either w.rows (new ∷ []) h among) [
+    owned = λ h among own. elim (among-either w.rows (new ∷ []) among.0 h among.1) [
       | inl old ↦ old
-      | inr is ↦ absurd (free (record { 0 = n }) (ap (λ (x : HandleRow). x.owner) (only-new new h is) ∙ own))
+      | inr is ↦ absurd (free (record { 0 = n }) (sym (ap (λ (x : HandleRow). x.owner) (only-one new h is)) ∙ own))
     ];
   }
 
@@ -370,3 +340,154 @@ module _ (w : Core) (h : HandleNumber) (mode : Mode) (row : HandleRow) (stands :
       at : (n : ℕ) (b : Bool) → (row.node.0 == n) ≡ b → holds_value (with_mode w h mode) n ≡ holds_value w n
       at n true is = ap (λ b. is_some (w.cells n) && b) (subst (λ k. is_here (with_mode w h mode) k ≡ is_here w k) (same-number _ _ is) (mode-here pinning ∙ sym here))
       at n false is = ap (λ p. is_some (w.cells n) && is_in_memory p (key_at w n)) (mode-others n is)
+
+-- ---- calls by which no value comes or goes
+
+pub not-load : (l : LoadNumber) → NotValues (Owner.Load l)
+not-load l n e = cc
+
+-- ---- the storage, and who works
+
+pub with-worker : {w w' : Core} → Alike (with_worker w) w' → Spares w w'
+with-worker {w} a = spares-same a.rows a.cells (ap (λ (l : Last). l.handle) a.last)
+
+pub reserves : {w w' : Core} {n : ℕ} {r : Result (Unit {0}) Error} → ReserveCall w n r w' → Spares w w'
+reserves c = spares-alike c.stays
+
+pub clears : {w w' : Core} {r : Result (Unit {0}) Error} → ClearCall w r w' → Spares w w'
+clears c = spares-same c.leaves.rows c.leaves.cells (ap (λ (l : Last). l.handle) c.leaves.last)
+
+pub asked : {w w' : Core} → Asked w w' → Spares w w'
+asked a = spares-same a.leaves.rows a.leaves.cells (ap (λ (l : Last). l.handle) a.leaves.last)
+
+pub stores : {digest : Blob → ℕ} {w w' : Core} {blob : Blob} (r : Result ℕ Error) → StoreCall digest w blob r w' → Spares w w'
+stores (Ok key) c = let a = c.stores.1.leaves in spares-same a.rows a.cells (ap (λ (l : Last). l.handle) a.last)
+stores (Err e) c = asked c.refused.0
+
+pub begins : {w w' : Core} {me : Owner} {h : HandleNumber} (r : Result Beginning Error) → BeginCall w me h r w' → Spares w w'
+begins (Ok Beginning.InMemory) c = spares-alike c.begins.2.1
+begins {w} (Ok (Beginning.Load l key)) c =
+    let row : HandleRow = c.begins.0 in
+    let a = c.begins.2.4.2 in
+    spares-then
+    (spares-handle w row.node Mode.LooseUnpinned (Owner.Load l) (not-load l) (λ is. absurd (let e : false ≡ true = is in cc))) (spares-same a.rows a.cells (ap (λ (l : Last). l.handle) a.last))
+begins (Err e) c = spares-alike c.refused.stays
+
+pub begins-key : {w w' : Core} {me : Owner} {key : ℕ} (r : Result Beginning Error) → BeginKeyCall w me key r w' → Spares w w'
+begins-key (Ok (Beginning.Load l k)) c = let a = c.begins.2 in spares-same a.rows a.cells (ap (λ (l : Last). l.handle) a.last)
+begins-key x0 c = grind (arith, nat_tests, spares-alike)
+
+module _ {w : Core} (whole : IsWhole w) where
+  -- ---- handles
+
+  -- handles that are no value's, by their rows
+  pub rowed : (given : ℕ → Bool) → ((n : NodeNumber) → effects.Free (Owner.Value n) w given) → AreFree w given
+  rowed given free h among is n own = let no = (free n).each h.number.0 h own (stands-whole whole.handles h.number.0 h (found whole.handles h.number.0 h among refl)) in cc
+
+  -- an own handle, and an entry of the list
+  pub own-free : {me : Owner} {fits : Mode → Bool} (h : HandleNumber) (row : HandleRow) → NotValues me → Owns w me h fits row → AreFree w (only_handle h)
+  own-free h row free owns = rowed (only_handle h) (λ n. effects.other-handle (Owner.Value n) h row (free n) owns)
+
+  pub listed-free : (i : ℕ) (h : HandleNumber) → slice_get w.list i ≡ Some h → AreFree w (only_handle h)
+  listed-free i h at = rowed (only_handle h) (λ n. effects.listed-free (Owner.Value n) refl whole.owners_there i h at)
+
+  -- a worker comes for an entry, which moves to it
+  pub starts-listed : {w' : Core} (i : ℕ) (h : HandleNumber) (v : WorkerNumber) → slice_get w.list i ≡ Some h → Alike (with_worker (with_entry_taken w i h v)) w' → Spares w w'
+  starts-listed i h v at a = spares-then (spares-moved w (only_handle h) (Owner.Worker v) (λ n e. cc) (listed-free i h at)) (with-worker a)
+
+  module _ {me : Owner} (free : NotValues me) where
+    pub clones : {w' : Core} {h : HandleNumber} (r : Result HandleNumber Error) → CloneCall w me h r w' → Spares w w'
+    clones {h = h} (Ok k) c = let row : HandleRow = c.made.0 in spares-made w row.node row.mode me free (row-here w h row c.made.1) c.made.3
+    clones (Err e) c = spares-alike c.refused.stays
+
+    -- a handle of the asker's in a mode that pins
+    pub turned : {fits : Mode → Bool} (h : HandleNumber) (row : HandleRow) → Owns w me h fits row → is_here w row.node.0 ≡ true → Spares w (with_mode w h Mode.LoosePinned)
+    turned h row owns here = spares-mode w h Mode.LoosePinned row (stands-whole whole.handles h.0 row owns.live) (subst NotValues (sym owns.own) free) refl here
+
+    pub pins-it : {w' : Core} {h : HandleNumber} (r : Result Pinning Error) → PinCall w me h r w' → Spares w w'
+    pins-it {h = h} (Ok (Pinning.Pinned k)) c =
+        let row : HandleRow = c.pins.0 in
+        let owns = c.pins.1 in
+        let here = mode-here w h Mode.LoosePinned row (stands-whole whole.handles h.0 row owns.live) refl in
+        spares-then (turned h row owns c.pins.2.0) (spares-made _ row.node Mode.Pinned me free (λ is. here) c.pins.2.2)
+    pins-it x0 c = grind (arith, nat_tests, spares-alike, pins)
+
+    pub loosens : {w' : Core} {h : HandleNumber} (r : Result HandleNumber Error) → LoosenCall w me h r w' → Spares w w'
+    loosens {h = h} (Ok k) c =
+        let row : HandleRow = c.turned.0 in
+        let owns = c.turned.1 in
+        spares-then (turned h row owns (row-here w h row owns.live (pins-mode row.mode owns.as_asked))) (spares-alike c.turned.3)
+      where
+        pins-mode : (mode : Mode) → is_pinned mode ≡ true → is_pinning mode ≡ true
+        pins-mode mode is = grind (arith, nat_tests)
+    loosens (Err e) c = spares-alike c.refused.1
+
+    pub schedules : {w' : Core} {h : HandleNumber} → w.closed ≡ false → (r : Result (Unit {0}) Error) → ScheduleCall w me h r w' → Spares w w'
+    schedules {h = h} open_still (Ok u) c = elim c.moves.2 [
+      | inl (is, a) ↦ spares-then (spares-moved w (only_handle h) Owner.List (λ n e. cc) (own-free h c.moves.0 free c.moves.1)) (spares-alike a)
+      | inr (closed, f) ↦ absurd (let e : true ≡ false = sym closed ∙ open_still in cc)
+    ]
+    schedules open_still (Err e) c = spares-alike c.refused.stays
+
+  pub takes : {w' : Core} {me : Owner} (i : ℕ) → NotValues me → (h : Option HandleNumber) → TakeCall w me i h w' → Spares w w'
+  takes {me = me} i free (Some h) c = spares-then (spares-moved w (only_handle h) me free (listed-free i h c.0)) (spares-alike c.1)
+  takes i free None c = spares-alike c.1
+
+  -- ---- nodes that the cache gives
+
+  -- where a handle is made that pins, the node's value is in memory
+  pub known-here : (kind key n : ℕ) → usable w kind key ≡ Some n → is_pinning (mode_of kind) ≡ true → is_here w n ≡ true
+  known-here kind key n known pinning = by (is_shared_kind kind) refl (is_loose_kind kind) refl pinning
+    where
+      entered : IsEntered kind key n w.cache w.cells
+      entered = entered-of kind key n w known
+
+      some-held : is_some (w.cells n) ≡ true → is_some (w.cells n) ≡ nat_lt 0 (held n w.rows) → 0 < held n w.rows
+      some-held there live = grind (arith, nat_tests)
+
+      shared : is_shared_kind kind ≡ true → is_here w n ≡ true
+      shared is =
+          let holds = counted (λ h. one (is_at n h)) w.rows (some-held entered.there (whole.handles.live n)) in
+          let at : (holds.0.node.0 == n) ≡ true = one-true _ holds.2 in
+          let shares : is_shared holds.0.mode ≡ true = (whole.cache kind key n entered.entry).shares holds.0 holds.1 (same-number _ _ at) ∙ is in
+          let one_share : one (is_share n holds.0) ≡ 1 = rw (at, shares) refl in
+          let le = at-most-sum (λ h. one (is_share n h)) w.rows holds.0 holds.1 in
+          let unkeyed = whole.handles.unkeyed n (omega (arith, one_share, le)) in
+          grind (arith, nat_tests)
+
+      pinned : is_pinned_kind kind ≡ true → is_here w n ≡ true
+      pinned is = grind (arith, nat_tests, entered, not, is_some, is_here)
+
+      by : (a : Bool) → is_shared_kind kind ≡ a → (b : Bool) → is_loose_kind kind ≡ b
+          → is_pinning (if a then Mode.Shared else if b then Mode.LooseUnpinned else Mode.Pinned) ≡ true → is_here w n ≡ true
+      by x0 e x2 f pinning = grind (arith, nat_tests, shared, pinned)
+
+  -- a handle of such a node
+  pub spares-known : {owner : Owner} (kind : Kind) (key n : ℕ) → NotValues owner → usable w kind.0 key ≡ Some n → Spares w (with_known w kind n owner)
+  spares-known {owner} kind key n free known = spares-handle w (record { 0 = n }) (mode_of kind.0) owner free (known-here kind.0 key n known)
+
+  pub recalls : {w' : Core} {me : Owner} {kind : Kind} {key : ℕ} → NotValues me → (r : Result (Option HandleNumber) Error) → RecallCall w me kind key r w' → Spares w w'
+  recalls {kind = kind} {key} free (Ok (Some k)) c = spares-then (spares-known kind key c.answers.0 free c.answers.1) (spares-alike c.answers.3)
+  recalls free x1 c = grind (arith, nat_tests, spares-alike)
+
+  -- an offer by which no handle is given up: the cache learns the node, or the offered handle is answered itself
+  pub offers : {w' : Core} {me : Owner} {kind : Kind} {key : ℕ} {h : HandleNumber} (r : Result (Option HandleNumber) Error)
+      → ((k : HandleNumber) → r ≡ Ok (Some k) → k ≡ h) → OfferCall w me kind key h r w' → Spares w w'
+  offers {h = h} (Ok (Some k)) back c = elim c.answers.3 [
+    | inl (closed, same, a) ↦ spares-alike a
+    | inr (open_still, (n, known, next, f)) ↦
+        absurd (above-last _ _ _ (ap (λ (x : HandleNumber). x.0) (back k refl)) next.above (stands-whole whole.handles h.0 c.answers.0 c.answers.1.live).given)
+  ]
+    where
+      above-last : (a b last : ℕ) → a ≡ b → a ≡ last + 1 → b ≤ last → ⊥
+      above-last a b last same next few = absurd (omega arith)
+  offers x0 back c = grind (arith, nat_tests, spares-same, spares-alike)
+
+  -- ---- loads
+
+  pub gets-known : {w' : Core} {l : LoadNumber} {kind : Kind} {key : ℕ} {k : HandleNumber} → GetsKnown w l kind key k w' → Spares w w'
+  gets-known {l = l} {kind} {key} g = spares-then (spares-known kind key g.n (not-load l) g.known) (spares-alike g.leaves)
+
+  pub asks : {w' : Core} {me : Owner} {l : LoadNumber} {want : Want} (r : Result Given Error) → AskCall w me l want r w' → Spares w w'
+  asks {want = Want.Nested kind key} (Ok (from_cache k)) c = gets-known c.gives.2
+  asks x0 c = grind (arith, nat_tests, asked, spares-alike)

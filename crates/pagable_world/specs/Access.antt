@@ -1,20 +1,12 @@
 -- Whole operations over an access to a pager and a table, which may tell its state: a pin, a reading, a page-out of an item and of the list. Each is
 -- a run of the steps of one load or of one worker, up to its answer.
 use Rattle.std.specs.Prelude.{◌≡◌, ℕ, List, [], ◌∷◌, ◌+◌, false, Option, Some, None, Result, Ok, IfOk, IfErr, slice_get, ◌⊎◌, Err}
-use Rattle.pagable_world.specs.Plain.{Identity, Error, OptionalDataKey, HandleNumber, LoadNumber, Tree, Owner, HandleRow, LoadAnswer, Took, WorkerAnswer}
+use Rattle.pagable_world.specs.Plain.{Beginning, Pinning, Mode, Identity, Error, OptionalDataKey, HandleNumber, LoadNumber, Tree, Owner, HandleRow, LoadAnswer, Took, WorkerAnswer}
 use Rattle.pagable_world.specs.{Kinds.{HasKinds, HasNoKinds}, World.{Written, Frame, Values, Core, Shelf, Slot, Reading, Todo, of_item, row_at}}
 use Rattle.pagable_world.specs.{World.{key_at, Alike, SameShelf, Seen, IsLawful, IsSettled}, Calls.{PinCall, UnpinCall, ReleaseCall, TakeCall}, LoadCalls.{BeginCall, BeginKeyCall}}
 use Rattle.pagable_world.specs.{Loads.{ReadingDoes, gone_on}, Workers.{Site, WalkDoes, is_open_slot, first_todo, fresh, answer_after}, Events.{Ends, IsEntry}}
 use Rattle.pagable_world.specs.{Events.{entry_task, with_entry_taken, with_worker, reading_of_load, no_shelf}, Pager.{PagerState, WellFormed, Moves, ReadingBrings, TodoBrings, TookWrites}}
 use Rattle.pagable_world.specs.{Pager.{ValueStands, Represents, SameTrees}, Runs.{ReadsItsTypes, HoldsSettled, TakesWell}, Headline.{ReadIsRight}}
-use Rattle.pagable_model.specs.declared.error.Error.TheVariants as errors
-use Rattle.pagable_model.specs.declared.data_key.OptionalDataKey.TheVariants as optional
-use Rattle.pagable_world.specs.declared.rows.Mode.TheVariants as modes
-use Rattle.pagable_world.specs.declared.handles.Owner.TheVariants as owners
-use Rattle.pagable_world.specs.declared.answers.Pinning.TheVariants as pinnings
-use Rattle.pagable_world.specs.declared.answers.Beginning.TheVariants as beginnings
-use Rattle.pagable_world.specs.declared.events.LoadAnswer.TheVariants as ends
-use Rattle.pagable_world.specs.declared.events.WorkerAnswer.TheVariants as finals
 
 -- the pager and the one table of an access
 pub record AccessState (N E : Type 0) : Type 0 where
@@ -72,16 +64,16 @@ LoadAsksWell {v = v} (load-goes-on reading frames answer s mid s' step more) = H
 -- a load of the handle's cell begins, and this is its reading
 pub record LoadStarts {N E : Type 0} (v : Values N) (s : PagerState N E) (h : HandleNumber) (reading : Reading) (s' : PagerState N E) : Type 0 where
   pub key : ℕ
-  pub begins : Called v (λ w'. BeginCall s.core owners.Caller h (Ok (beginnings.Load reading.load key)) w') s s'
+  pub begins : Called v (λ w'. BeginCall s.core Owner.Caller h (Ok (Beginning.Load reading.load key)) w') s s'
   pub is : reading_of_load reading.load (s'.core.loads reading.load.0) ≡ Some reading
 
 -- a pin: at once, or by a load up to its end
 pub data PinRun {N E : Type 0} (v : Values N) (s : PagerState N E) (h : HandleNumber) : Result HandleNumber Error → PagerState N E → Type 0 where
-  pins-at-once : (k : HandleNumber) (s' : PagerState N E) → Called v (λ w'. PinCall s.core owners.Caller h (Ok (pinnings.Pinned k)) w') s s' → PinRun v s h (Ok k) s'
-  pin-is-refused : (e : Error) (s' : PagerState N E) → Called v (λ w'. PinCall s.core owners.Caller h (Err e) w') s s' → PinRun v s h (Err e) s'
-  load-is-refused : (e : Error) (s' : PagerState N E) → Called v (λ w'. BeginCall s.core owners.Caller h (Err e) w') s s' → PinRun v s h (Err e) s'
-  load-pins : (k : HandleNumber) (reading : Reading) (mid s' : PagerState N E) → LoadStarts v s h reading mid → LoadRun v owners.Caller reading mid (ends.Pinned k) s' → PinRun v s h (Ok k) s'
-  load-fails : (e : Error) (reading : Reading) (mid s' : PagerState N E) → LoadStarts v s h reading mid → LoadRun v owners.Caller reading mid (ends.Refused e) s' → PinRun v s h (Err e) s'
+  pins-at-once : (k : HandleNumber) (s' : PagerState N E) → Called v (λ w'. PinCall s.core Owner.Caller h (Ok (Pinning.Pinned k)) w') s s' → PinRun v s h (Ok k) s'
+  pin-is-refused : (e : Error) (s' : PagerState N E) → Called v (λ w'. PinCall s.core Owner.Caller h (Err e) w') s s' → PinRun v s h (Err e) s'
+  load-is-refused : (e : Error) (s' : PagerState N E) → Called v (λ w'. BeginCall s.core Owner.Caller h (Err e) w') s s' → PinRun v s h (Err e) s'
+  load-pins : (k : HandleNumber) (reading : Reading) (mid s' : PagerState N E) → LoadStarts v s h reading mid → LoadRun v Owner.Caller reading mid (LoadAnswer.Pinned k) s' → PinRun v s h (Ok k) s'
+  load-fails : (e : Error) (reading : Reading) (mid s' : PagerState N E) → LoadStarts v s h reading mid → LoadRun v Owner.Caller reading mid (LoadAnswer.Refused e) s' → PinRun v s h (Err e) s'
 
 -- the value of the handle's node, which the pin shares
 pub record IsValueOf {N E : Type 0} (s : PagerState N E) (k : HandleNumber) (x : N) : Type 0 where
@@ -92,8 +84,8 @@ pub record IsValueOf {N E : Type 0} (s : PagerState N E) (k : HandleNumber) (x :
 -- The handle was unpinned before, and its pin is let go again; or it was pinned, and stays so.
 abbrev pub IsUnpinnedBack : {N E : Type 0} → Values N → Core → HandleNumber → PagerState N E → PagerState N E → Type 0
 IsUnpinnedBack v before h s s' =
-    ((row : HandleRow) × (told : Result (Unit {0}) Error) × (row_at before h ≡ Some row) × (row.mode ≡ modes.LooseUnpinned) × Called v (λ w'. UnpinCall s.core owners.Caller h told w') s s')
-    ⊎ ((row : HandleRow) × (row_at before h ≡ Some row) × (row.mode ≡ modes.LoosePinned) × Called v (λ w'. Alike s.core w') s s')
+    ((row : HandleRow) × (told : Result (Unit {0}) Error) × (row_at before h ≡ Some row) × (row.mode ≡ Mode.LooseUnpinned) × Called v (λ w'. UnpinCall s.core Owner.Caller h told w') s s')
+    ⊎ ((row : HandleRow) × (row_at before h ≡ Some row) × (row.mode ≡ Mode.LoosePinned) × Called v (λ w'. Alike s.core w') s s')
 
 -- a pin whose value couldn't be shared for want of memory is taken back
 pub record PinTakenBack {N E : Type 0} (v : Values N) (s : PagerState N E) (h : HandleNumber) (s' : PagerState N E) : Type 0 where
@@ -103,22 +95,22 @@ pub record PinTakenBack {N E : Type 0} (v : Values N) (s : PagerState N E) (h : 
   pub told : Result (Unit {0}) Error
   pub pins : PinRun v s h (Ok k) mid
   pub unpins : IsUnpinnedBack v s.core h mid low
-  pub releases : Called v (λ w'. ReleaseCall low.core owners.Caller k told w') low s'
+  pub releases : Called v (λ w'. ReleaseCall low.core Owner.Caller k told w') low s'
 
 -- The answer of a pin, and what it leaves: its handle's value, or a refusal.
 -- To be carried by: `pin_over`.
 pub record PinsOver {N E : Type 0} (v : Values N) (s : PagerState N E) (h : HandleNumber) (r : Result (HandleNumber × N) Error) (s' : PagerState N E) : Type 0 where
   pub pins : IfOk r (λ a. PinRun v s h (Ok a.0) s' × IsValueOf s' a.0 a.1)
-  pub refused : IfErr r (λ e. PinRun v s h (Err e) s' ⊎ ((e ≡ errors.OutOfMemory) × PinTakenBack v s h s'))
+  pub refused : IfErr r (λ e. PinRun v s h (Err e) s' ⊎ ((e ≡ Error.OutOfMemory) × PinTakenBack v s h s'))
 
 -- a load of a key begins
 abbrev pub KeyStarts : {N E : Type 0} → Values N → PagerState N E → ℕ → LoadNumber → PagerState N E → Type 0
-KeyStarts v s key l s' = Called v (λ w'. BeginKeyCall s.core owners.Caller key (Ok (beginnings.Load l key)) w') s s'
+KeyStarts v s key l s' = Called v (λ w'. BeginKeyCall s.core Owner.Caller key (Ok (Beginning.Load l key)) w') s s'
 
 pub data ReadRun {N E : Type 0} (v : Values N) (s : PagerState N E) (key t : ℕ) : Result N Error → PagerState N E → Type 0 where
-  reading-is-refused : (e : Error) (s' : PagerState N E) → Called v (λ w'. BeginKeyCall s.core owners.Caller key (Err e) w') s s' → ReadRun v s key t (Err e) s'
-  load-reads : (x : N) (l : LoadNumber) (mid s' : PagerState N E) → KeyStarts v s key l mid → LoadRun v owners.Caller (fresh l t) mid (ends.Read x) s' → ReadRun v s key t (Ok x) s'
-  reading-fails : (e : Error) (l : LoadNumber) (mid s' : PagerState N E) → KeyStarts v s key l mid → LoadRun v owners.Caller (fresh l t) mid (ends.Refused e) s' → ReadRun v s key t (Err e) s'
+  reading-is-refused : (e : Error) (s' : PagerState N E) → Called v (λ w'. BeginKeyCall s.core Owner.Caller key (Err e) w') s s' → ReadRun v s key t (Err e) s'
+  load-reads : (x : N) (l : LoadNumber) (mid s' : PagerState N E) → KeyStarts v s key l mid → LoadRun v Owner.Caller (fresh l t) mid (LoadAnswer.Read x) s' → ReadRun v s key t (Ok x) s'
+  reading-fails : (e : Error) (l : LoadNumber) (mid s' : PagerState N E) → KeyStarts v s key l mid → LoadRun v Owner.Caller (fresh l t) mid (LoadAnswer.Refused e) s' → ReadRun v s key t (Err e) s'
 
 -- The answer of a reading of a key as a value of a type, and what it leaves.
 -- To be carried by: `read_over`.
@@ -135,7 +127,7 @@ pub record WorkerStarts {N E : Type 0} (v : Values N) (core : Core) (s : PagerSt
   pub begins : Called v (λ w'. Alike (with_worker core) w') s s'
 
 pub data ItemRun {N E B W : Type 0} (m : Seen N B W) (s : AccessState N E) (item : Written) : WorkerAnswer → AccessState N E → Type 0 where
-  no-worker : (s' : AccessState N E) → Called m.values (λ w'. Alike s.pager.core w') s.pager s'.pager → SameShelf s.shelf s'.shelf → ItemRun m s item (finals.Failed errors.OutOfMemory) s'
+  no-worker : (s' : AccessState N E) → Called m.values (λ w'. Alike s.pager.core w') s.pager s'.pager → SameShelf s.shelf s'.shelf → ItemRun m s item (WorkerAnswer.Failed Error.OutOfMemory) s'
   item-is-walked : (n : ℕ) (steps : List (Took W)) (answer : WorkerAnswer) (mid : PagerState N E) (s' : AccessState N E) → WorkerStarts m.values s.pager.core s.pager n mid
       → WorkerRun m n (first_todo (of_item item)) (record { pager = mid; shelf = s.shelf }) steps answer s' → ItemRun m s item answer s'
 
@@ -154,19 +146,19 @@ pub record EntryHas (w : Core) (place : ℕ) (h : HandleNumber) (key : OptionalD
 
 -- an entry is paged out on a table of its own, which nothing is told of afterwards
 pub data EntryRun {N E B W : Type 0} (m : Seen N B W) (s : PagerState N E) (place : ℕ) : WorkerAnswer → PagerState N E → Type 0 where
-  entry-is-refused : (h : HandleNumber) (row : HandleRow) (t : ℕ) (s' : PagerState N E) → IsEntry s.core place h row t → HasNoKinds t → Called m.values (λ w'. Alike s.core w') s s' → EntryRun m s place (finals.Failed errors.WrongKind) s'
-  no-entry-worker : (s' : PagerState N E) → Called m.values (λ w'. Alike s.core w') s s' → EntryRun m s place (finals.Failed errors.OutOfMemory) s'
+  entry-is-refused : (h : HandleNumber) (row : HandleRow) (t : ℕ) (s' : PagerState N E) → IsEntry s.core place h row t → HasNoKinds t → Called m.values (λ w'. Alike s.core w') s s' → EntryRun m s place (WorkerAnswer.Failed Error.WrongKind) s'
+  no-entry-worker : (s' : PagerState N E) → Called m.values (λ w'. Alike s.core w') s s' → EntryRun m s place (WorkerAnswer.Failed Error.OutOfMemory) s'
   entry-is-walked : (h : HandleNumber) (row : HandleRow) (t n : ℕ) (steps : List (Took W)) (answer : WorkerAnswer) (mid : PagerState N E) (s' : AccessState N E) → IsEntry s.core place h row t → HasKinds t
       → WorkerStarts m.values (with_entry_taken s.core place h (record { 0 = n })) s n mid → WorkerRun m n (first_todo (entry_task h row t)) (record { pager = mid; shelf = no_shelf }) steps answer s' → EntryRun m s place answer s'.pager
 
 -- A page-out of so many entries, from the last to the first: one whose cell has a key is taken and released, another is paged out, and the first failure is the end.
 pub data ListRun {N E B W : Type 0} (m : Seen N B W) : ℕ → PagerState N E → Result (Unit {0}) WorkerAnswer → PagerState N E → Type 0 where
   no-more : (s : PagerState N E) → ListRun m 0 s (Ok tt) s
-  skips : (i place key : ℕ) (h : HandleNumber) (told : Result (Unit {0}) Error) (answer : Result (Unit {0}) WorkerAnswer) (s mid low s' : PagerState N E) → i ≡ place + 1 → EntryHas s.core place h (optional.Some key)
-      → Called m.values (λ w'. TakeCall s.core owners.Caller place (Some h) w') s mid → Called m.values (λ w'. ReleaseCall mid.core owners.Caller h told w') mid low → ListRun m place low answer s' → ListRun m i s answer s'
-  pages : (i place key : ℕ) (h : HandleNumber) (answer : Result (Unit {0}) WorkerAnswer) (s mid s' : PagerState N E) → i ≡ place + 1 → EntryHas s.core place h optional.None → EntryRun m s place (finals.Key key) mid
+  skips : (i place key : ℕ) (h : HandleNumber) (told : Result (Unit {0}) Error) (answer : Result (Unit {0}) WorkerAnswer) (s mid low s' : PagerState N E) → i ≡ place + 1 → EntryHas s.core place h (OptionalDataKey.Some key)
+      → Called m.values (λ w'. TakeCall s.core Owner.Caller place (Some h) w') s mid → Called m.values (λ w'. ReleaseCall mid.core Owner.Caller h told w') mid low → ListRun m place low answer s' → ListRun m i s answer s'
+  pages : (i place key : ℕ) (h : HandleNumber) (answer : Result (Unit {0}) WorkerAnswer) (s mid s' : PagerState N E) → i ≡ place + 1 → EntryHas s.core place h OptionalDataKey.None → EntryRun m s place (WorkerAnswer.Key key) mid
       → ListRun m place mid answer s' → ListRun m i s answer s'
-  fails : (i place : ℕ) (h : HandleNumber) (e : Error) (s s' : PagerState N E) → i ≡ place + 1 → EntryHas s.core place h optional.None → EntryRun m s place (finals.Failed e) s' → ListRun m i s (Err (finals.Failed e)) s'
+  fails : (i place : ℕ) (h : HandleNumber) (e : Error) (s s' : PagerState N E) → i ≡ place + 1 → EntryHas s.core place h OptionalDataKey.None → EntryRun m s place (WorkerAnswer.Failed e) s' → ListRun m i s (Err (WorkerAnswer.Failed e)) s'
 
 -- for each choice of trees that the pager stood for there is one, the same for the nodes that were there, that it stands for now, and P holds
 abbrev pub LeadsToTrees : {N E : Type 0} → Values N → PagerState N E → PagerState N E → ((ℕ → Tree) → (ℕ → Tree) → Type 0) → Type 0
@@ -175,11 +167,11 @@ LeadsToTrees v s s' P = IsLawful v → ReadsItsTypes v.types → HoldsSettled v 
 -- The law of loads that end with a pin: the value of its handle's node stands for the node's tree.
 abbrev pub PinLaw : {N : Type 0} → (E : Type 0) → Values N → Type 0
 PinLaw {N} E v =
-    (s mid s' : PagerState N E) (h k : HandleNumber) (reading : Reading) (x : N) (row : HandleRow) (run : LoadRun v owners.Caller reading mid (ends.Pinned k) s')
+    (s mid s' : PagerState N E) (h k : HandleNumber) (reading : Reading) (x : N) (row : HandleRow) (run : LoadRun v Owner.Caller reading mid (LoadAnswer.Pinned k) s')
     → WellFormed v s → LoadStarts v s h reading mid → LoadAsksWell run → row_at s'.core k ≡ Some row → s'.values row.node.0 ≡ Some x → LeadsToTrees v s s' (λ trees trees'. ValueStands v s' x (trees' row.node.0))
 
 -- The law of loads that read a key: their value stands for the tree that the key reads as.
 abbrev pub ReadLaw : {N : Type 0} → (E : Type 0) → Values N → Type 0
 ReadLaw {N} E v =
-    (s mid s' : PagerState N E) (key t : ℕ) (l : LoadNumber) (x : N) (run : LoadRun v owners.Caller (fresh l t) mid (ends.Read x) s')
+    (s mid s' : PagerState N E) (key t : ℕ) (l : LoadNumber) (x : N) (run : LoadRun v Owner.Caller (fresh l t) mid (LoadAnswer.Read x) s')
     → WellFormed v s → KeyStarts v s key l mid → LoadAsksWell run → IsSettled v x → LeadsToTrees v s s' (λ trees trees'. ReadIsRight v s' key x)

@@ -6,11 +6,6 @@ use Rattle.pagable_world.specs.Plain.{Error, OptionalDataKey, ArcRef, HandleNumb
 use Rattle.pagable_world.specs.{Kinds.{is_loose, is_unpinned, is_pinned, any_mode, is_handle, owner_value, pins, mode_of, fits_mode}, World.{Core, Cell, greatest, row_at, type_at, key_at, is_here}}
 use Rattle.pagable_world.specs.{World.{Alike, usable}, Cascade.{Falls, FallsAnyhow, nobody, only_handle}, Refusals.{earlier, where_so, spent, AreHandlesFull, IsListFull, Owns, live_fault}}
 use Rattle.pagable_world.specs.Refusals.{handle_fault, references_fault, Refused, refused_if, is_type}
-use Rattle.pagable_model.specs.declared.error.Error.TheVariants as errors
-use Rattle.pagable_model.specs.declared.data_key.OptionalDataKey.TheVariants as optional
-use Rattle.pagable_world.specs.declared.rows.Mode.TheVariants as modes
-use Rattle.pagable_world.specs.declared.handles.Owner.TheVariants as owners
-use Rattle.pagable_world.specs.declared.answers.Pinning.TheVariants as pinnings
 
 abbrev pub row_of : ℕ → NodeNumber → Mode → Owner → HandleRow
 row_of q node mode owner = record { number = record { 0 = q }; node = node; mode = mode; owner = owner }
@@ -29,7 +24,7 @@ moved s owner rows = changed (λ row. s row.number.0) (λ row. record row { owne
 
 -- the node with this key
 abbrev pub with_key : Core → NodeNumber → ℕ → Core
-with_key w n key = record w { cells = updated n.0 (if_there (λ (cell : Cell). Some (record cell { key = optional.Some key })) None (w.cells n.0)) w.cells }
+with_key w n key = record w { cells = updated n.0 (if_there (λ (cell : Cell). Some (record cell { key = OptionalDataKey.Some key })) None (w.cells n.0)) w.cells }
 
 -- whether the handle is one of a value's references
 unfoldable pub is_named_by : List ArcRef → ℕ → Bool
@@ -60,12 +55,12 @@ birth_fault w = earlier (spent w.last.node) (spent w.last.handle)
 
 -- A new node of a value x that is handed in, with one handle. A refusal gives the value back. Memory may be wanting before the references are known.
 pub record BirthCall {N : Type 0} (w : Core) (me : Owner) (x : N) (node_type : ℕ) (references : List ArcRef) (mode : Mode) (r : Result HandleNumber (Error × N)) (w' : Core) : Type 0 where
-  pub made : IfOk r (λ k. (references_fault w me [] references ≡ None) × (w.last.node < greatest) × IsNext k w × Alike (with_handle (with_node w node_type optional.None references) (next_node w) mode me) w')
+  pub made : IfOk r (λ k. (references_fault w me [] references ≡ None) × (w.last.node < greatest) × IsNext k w × Alike (with_handle (with_node w node_type OptionalDataKey.None references) (next_node w) mode me) w')
   pub refused : IfErr r (λ e. (e.1 ≡ x) × Refused (earlier (references_fault w me [] references) (birth_fault w)) None (Unit {0}) w e.0 w')
 
 -- a new cell that has a key and no value, with one unpinned handle
 pub record AwayBirthCall (w : Core) (me : Owner) (node_type key : ℕ) (r : Result HandleNumber Error) (w' : Core) : Type 0 where
-  pub made : IfOk r (λ k. (w.last.node < greatest) × IsNext k w × Alike (with_handle (with_node w node_type (optional.Some key) []) (next_node w) modes.LooseUnpinned me) w')
+  pub made : IfOk r (λ k. (w.last.node < greatest) × IsNext k w × Alike (with_handle (with_node w node_type (OptionalDataKey.Some key) []) (next_node w) Mode.LooseUnpinned me) w')
   pub refused : IfErr r (λ e. Refused (birth_fault w) None (Unit {0}) w e w')
 
 -- why a clone is refused before anything grows
@@ -83,8 +78,8 @@ is_handle_here w h = if_there (λ (row : HandleRow). is_here w row.node.0) false
 
 -- The loose handle is pinned from now on, and a Pinned one is made. Or the value has to be read first under this key, and nothing changes.
 abbrev pub Pins : Core → Owner → HandleNumber → HandleRow → Pinning → Core → Type 0
-Pins w me h row (pinnings.Pinned k) w' = (is_here w row.node.0 ≡ true) × IsNext k w × Alike (with_handle (with_mode w h modes.LoosePinned) row.node modes.Pinned me) w'
-Pins w me h row (pinnings.NeedsLoad key) w' = (is_here w row.node.0 ≡ false) × (key_at w row.node.0 ≡ optional.Some key) × Alike w w'
+Pins w me h row (Pinning.Pinned k) w' = (is_here w row.node.0 ≡ true) × IsNext k w × Alike (with_handle (with_mode w h Mode.LoosePinned) row.node Mode.Pinned me) w'
+Pins w me h row (Pinning.NeedsLoad key) w' = (is_here w row.node.0 ≡ false) × (key_at w row.node.0 ≡ OptionalDataKey.Some key) × Alike w w'
 
 abbrev pub pin_fault : Core → Owner → HandleNumber → Option Error
 pin_fault w me h = earlier (handle_fault w me h is_loose) (where_so (is_handle_here w h) (spent w.last.handle))
@@ -96,7 +91,7 @@ pub record PinCall (w : Core) (me : Owner) (h : HandleNumber) (r : Result Pinnin
 
 -- a Pinned handle becomes a loose pinned one, under its own number
 pub record LoosenCall (w : Core) (me : Owner) (h : HandleNumber) (r : Result HandleNumber Error) (w' : Core) : Type 0 where
-  pub turned : IfOk r (λ k. (row : HandleRow) × Owns w me h is_pinned row × (k ≡ h) × Alike (with_mode w h modes.LoosePinned) w')
+  pub turned : IfOk r (λ k. (row : HandleRow) × Owns w me h is_pinned row × (k ≡ h) × Alike (with_mode w h Mode.LoosePinned) w')
   pub refused : IfErr r (λ e. (handle_fault w me h is_pinned ≡ Some e) × Alike w w')
 
 -- A call on an own handle is refused by this cause, and nothing changes.
@@ -108,7 +103,7 @@ pub record IsRefused (cause : Option Error) (w : Core) (r : Result (Unit {0}) Er
 
 -- The handle of this row lets its pin go and stays; or it is unpinned already.
 abbrev pub LetsGo : Core → HandleNumber → HandleRow → Result (Unit {0}) Error → Core → Type 0
-LetsGo w h row r w' = ((row.mode ≡ modes.LooseUnpinned) × (r ≡ Ok tt) × Alike w w') ⊎ ((row.mode ≡ modes.LoosePinned) × Falls w (with_mode w h modes.LooseUnpinned) nobody r w')
+LetsGo w h row r w' = ((row.mode ≡ Mode.LooseUnpinned) × (r ≡ Ok tt) × Alike w w') ⊎ ((row.mode ≡ Mode.LoosePinned) × Falls w (with_mode w h Mode.LooseUnpinned) nobody r w')
 
 pub record UnpinCall (w : Core) (me : Owner) (h : HandleNumber) (r : Result (Unit {0}) Error) (w' : Core) : Type 0 where
   pub does : IsRefused (handle_fault w me h is_loose) w r w' ⊎ ((row : HandleRow) × Owns w me h is_loose row × LetsGo w h row r w')
@@ -148,7 +143,7 @@ TypeCall w n found = found ≡ type_at w n.0
 -- a loose unpinned handle moves to the list's end; once the storage is closed it is given up
 abbrev pub Schedules : Core → HandleNumber → Core → Type 0
 Schedules w h w' =
-    ((w.closed ≡ false) × Alike (record w { rows = moved (only_handle h) owners.List w.rows; list = w.list ++ h ∷ [] }) w') ⊎ ((w.closed ≡ true) × FallsAnyhow w w (only_handle h) w')
+    ((w.closed ≡ false) × Alike (record w { rows = moved (only_handle h) Owner.List w.rows; list = w.list ++ h ∷ [] }) w') ⊎ ((w.closed ≡ true) × FallsAnyhow w w (only_handle h) w')
 
 pub record ScheduleCall (w : Core) (me : Owner) (h : HandleNumber) (r : Result (Unit {0}) Error) (w' : Core) : Type 0 where
   pub moves : IfOk r (λ u. (row : HandleRow) × Owns w me h is_unpinned row × Schedules w h w')
@@ -167,7 +162,7 @@ room_of w = min (w.places.handles - length w.rows) (w.places.entries - length w.
 pub record ReserveCall (w : Core) (n : ℕ) (r : Result (Unit {0}) Error) (w' : Core) : Type 0 where
   pub stays : Alike w w'
   pub enough : IfOk r (λ u. n ≤ room_of w')
-  pub wanting : IfErr r (λ e. (e ≡ errors.OutOfMemory) × (room_of w' < n))
+  pub wanting : IfErr r (λ e. (e ≡ Error.OutOfMemory) × (room_of w' < n))
 
 -- whether the cache gives a node for the kind and key
 abbrev pub is_usable : Core → Kind → ℕ → Bool
@@ -199,7 +194,7 @@ with_cached_if_open w kind key n = if w.closed then w else with_cached w kind ke
 
 abbrev pub offer_fault : Core → Owner → Kind → ℕ → HandleNumber → Option Error
 offer_fault w me kind key h =
-    earlier (handle_fault w me h (fits_mode kind.0)) (earlier (refused_if (not (is_type (type_of kind.0) (if_there (λ (row : HandleRow). type_at w row.node.0) None (row_at w h)))) errors.WrongKind) (where_so (not w.closed && is_usable w kind key) (spent w.last.handle)))
+    earlier (handle_fault w me h (fits_mode kind.0)) (earlier (refused_if (not (is_type (type_of kind.0) (if_there (λ (row : HandleRow). type_at w row.node.0) None (row_at w h)))) Error.WrongKind) (where_so (not w.closed && is_usable w kind key) (spent w.last.handle)))
 
 -- The cache learns the handle's node, and the handle stays with its owner. Where it gives a node already, a handle of that node is made first, and
 -- then the one that was offered is given up. Once the storage is closed, the handle is answered itself.

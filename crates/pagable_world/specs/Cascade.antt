@@ -1,9 +1,7 @@
 -- Handles are given up, with all that goes with them, and cells that lose their last pin are listed. There is one way for all calls and steps: the least set that holds the given handles falls.
 use Rattle.std.specs.Prelude.{ℕ, ◌≡◌, ◌+◌, ◌<◌, ◌≤◌, ◌==◌, ◌&&◌, ◌⊎◌, ◌++◌, Bool, true, false, not, if◌then◌else◌, List, [], ◌∷◌, filter, map, length, Result, IfOk, IfErr, nat_lt, nat_eq, None}
-use Rattle.pagable_world.specs.{Plain.{Error, HandleNumber, HandleRow, times}, Kinds.{is_owned_by, owner_value, is_at, is_pin, held, pins, sharing, has_key}, World.{Core, greatest, key_at, Alike}}
-use Rattle.pagable_model.specs.declared.error.Error.TheVariants as errors
-use Rattle.pagable_world.specs.declared.rows.Mode.TheVariants as modes
-use Rattle.pagable_world.specs.declared.handles.Owner.TheVariants as owners
+use Rattle.pagable_world.specs.{Plain.{Error, HandleNumber, HandleRow, times, Owner, Mode}, Kinds.{is_owned_by, owner_value, is_at, is_pin, held, pins, sharing, has_key}}
+use Rattle.pagable_world.specs.World.{Core, greatest, key_at, Alike}
 
 -- whether the handle isn't in the set
 abbrev pub is_outside : (ℕ → Bool) → HandleRow → Bool
@@ -41,7 +39,7 @@ pub record IsLeast (rows : List HandleRow) (keyed : ℕ → Bool) (entries : Lis
 -- new entries of the list have the numbers above the last one given, in their order, and are unpinned handles
 abbrev pub AreNewEntries : ℕ → List HandleRow → Type 0
 AreNewEntries last [] = Unit {0}
-AreNewEntries last (h ∷ hs) = (h.number.0 ≡ last + 1) × (h.mode ≡ modes.LooseUnpinned) × (h.owner ≡ owners.List) × AreNewEntries (last + 1) hs
+AreNewEntries last (h ∷ hs) = (h.number.0 ≡ last + 1) × (h.mode ≡ Mode.LooseUnpinned) × (h.owner ≡ Owner.List) × AreNewEntries (last + 1) hs
 
 -- whether the node has a key
 abbrev pub is_keyed : Core → ℕ → Bool
@@ -65,8 +63,8 @@ CannotList w w' = (greatest ≤ w'.last.handle) ⊎ IsPlaceWanting w w'
 
 -- what is answered then: memory is wanting only where a number was left at first
 abbrev pub IsListRefusal : Core → Core → Error → Type 0
-IsListRefusal w w' errors.NumbersSpent = greatest ≤ w'.last.handle
-IsListRefusal w w' errors.OutOfMemory = IsPlaceWanting w w' × (w.last.handle < greatest)
+IsListRefusal w w' Error.NumbersSpent = greatest ≤ w'.last.handle
+IsListRefusal w w' Error.OutOfMemory = IsPlaceWanting w w' × (w.last.handle < greatest)
 IsListRefusal w w' _ = ⊥
 
 -- what the answer tells of the listing: all that must be listed is, or some cell isn't

@@ -1,23 +1,13 @@
 -- The main theorem, a law of chains: what loads and page-outs answer and leave, by trees; and what workers and claims come to.
 use Rattle.std.specs.Prelude.{ℕ, ◌≡◌, ◌≢◌, ◌+◌, ◌≤◌, ◌==◌, true, false, List, [], ◌∷◌, Option, Some, Ok, is_some, Bool, ◌&&◌}
-use Rattle.pagable_model.specs.{Merkle.{KeyOf, KeyOfItem, TreeForm, IsCanonicalItem}, Canonical.IsCanonicalTree}
-use Rattle.pagable_world.specs.Plain.{ArcRef, HandleNumber, Identity, Blob, Tree, ReadsTree, Shape, HandleRow, Took, WorkerAnswer, Event, EventReply, Among, times, is_loose_kind, if_there, one}
-use Rattle.pagable_world.specs.{Kinds.{identity_of, is_owned_by, owner_worker}, World.{OpenLoad, Shelf, Slot, Written, no_result, failed, Reading, Task, of_item, of_entry, Walking, World, row_at}}
-use Rattle.pagable_world.specs.{World.{key_at, Values, Seen, IsLawful}, Refusals.IsReference, Workers.{IsPublished, is_workers_load}, Events.reading_at, Pager.{PagerState, MachineState, world_of}}
-use Rattle.pagable_world.specs.{Pager.{IsMachineWhole, IsIdle, IsReadingOf, ValueStands, StandsFor, kids_of}, Runs.{ReadsItsTypes, HoldsSettled, Moment, AreMoments, state_after, events_of}}
-use Rattle.pagable_world.specs.{Runs.{replies_of, Fact, TreesAlong}, Order.{steps_of, InOrder, OnceEach, MetError, IsBounded, HasStepLeft, IsWithinBound, is_claim_of}}
-use Rattle.pagable_model.specs.declared.data_key.OptionalDataKey.TheVariants as optional
-use Rattle.pagable_world.specs.declared.handles.Owner.TheVariants as owners
-use Rattle.pagable_world.specs.declared.answers.Pinning.TheVariants as pinnings
-use Rattle.pagable_world.specs.declared.calls.Call.TheVariants as calls
-use Rattle.pagable_world.specs.declared.calls.Reply.TheVariants as replies
-use Rattle.pagable_world.specs.declared.events.Claim.TheVariants as claims
-use Rattle.pagable_world.specs.declared.events.PinStep.TheVariants as pinsteps
-use Rattle.pagable_world.specs.declared.events.Took.TheVariants as took
-use Rattle.pagable_world.specs.declared.events.WorkerAnswer.TheVariants as finals
-use Rattle.pagable_world.specs.declared.events.LoadAnswer.TheVariants as ends
-use Rattle.pagable_world.specs.declared.events.Event.TheVariants as events
-use Rattle.pagable_world.specs.declared.events.EventReply.TheVariants as answers
+use Rattle.pagable_model.specs.{declared.data_key.OptionalDataKey.OptionalDataKey, Merkle.{KeyOf, KeyOfItem, TreeForm, IsCanonicalItem}, Canonical.IsCanonicalTree}
+use Rattle.pagable_world.specs.Plain.{Owner, ArcRef, HandleNumber, Identity, Blob, Tree, ReadsTree, Shape, HandleRow, Took, WorkerAnswer, Event, EventReply, Among, times, is_loose_kind, if_there, one}
+use Rattle.pagable_world.specs.{Plain.{Call, Pinning, LoadAnswer, PinStep, Claim, Reply}, Kinds.{identity_of, is_owned_by, owner_worker}}
+use Rattle.pagable_world.specs.World.{OpenLoad, Shelf, Slot, Written, no_result, failed, Reading, Task, of_item, of_entry, Walking, World, row_at, key_at, Values, Seen, IsLawful}
+use Rattle.pagable_world.specs.{Refusals.IsReference, Workers.{IsPublished, is_workers_load}, Events.reading_at}
+use Rattle.pagable_world.specs.Pager.{PagerState, MachineState, world_of, IsMachineWhole, IsIdle, IsReadingOf, ValueStands, StandsFor, kids_of}
+use Rattle.pagable_world.specs.Runs.{ReadsItsTypes, HoldsSettled, Moment, AreMoments, state_after, events_of, replies_of, Fact, TreesAlong}
+use Rattle.pagable_world.specs.Order.{steps_of, InOrder, OnceEach, MetError, IsBounded, HasStepLeft, IsWithinBound, is_claim_of}
 
 -- the node of this handle has a value in memory, which stands for the tree that the node was made with
 pub record GivesTree {N E : Type 0} (v : Values N) (s : PagerState N E) (trees : ℕ → Tree) (k : HandleNumber) : Type 0 where
@@ -29,19 +19,20 @@ pub record GivesTree {N E : Type 0} (v : Values N) (s : PagerState N E) (trees :
 
 -- each pin that succeeds gives the tree that its handle's node was made with
 abbrev pub PinGives : {N E B W : Type 0} → Values N → Fact N E B W
-PinGives v s trees (events.Call (calls.Pin h)) (answers.CallReply (replies.Pin (Ok (pinnings.Pinned k)))) s' trees' = GivesTree v s'.pager trees' k
-PinGives v s trees (events.LoadStep l) (answers.LoadMoved (Ok reply)) s' trees' = (k : HandleNumber) → reply.ended ≡ Some (ends.Pinned k) → GivesTree v s'.pager trees' k
-PinGives v s trees (events.Call (calls.LoadEnd l x)) (answers.CallReply (replies.LoadEnded (Ok k))) s' trees' = GivesTree v s'.pager trees' k
-PinGives v s trees (events.WorkerStep n) (answers.WorkerMoved (Ok reply)) s' trees' = (i : Identity) (k : HandleNumber) → reply.took ≡ took.Pin i (Ok (pinsteps.Held k)) → GivesTree v s'.pager trees' k
+PinGives v s trees (Event.Call (Call.Pin h)) (EventReply.CallReply (Reply.Pin (Ok (Pinning.Pinned k)))) s' trees' = GivesTree v s'.pager trees' k
+PinGives v s trees (Event.LoadStep l) (EventReply.LoadMoved (Ok reply)) s' trees' = (k : HandleNumber) → reply.ended ≡ Some (LoadAnswer.Pinned k) → GivesTree v s'.pager trees' k
+PinGives v s trees (Event.Call (Call.LoadEnd l x)) (EventReply.CallReply (Reply.LoadEnded (Ok k))) s' trees' = GivesTree v s'.pager trees' k
+PinGives v s trees (Event.WorkerStep n) (EventReply.WorkerMoved (Ok reply)) s' trees' =
+    (i : Identity) (k : HandleNumber) → reply.took ≡ Took.Pin i (Ok (PinStep.Held k)) → GivesTree v s'.pager trees' k
 PinGives v s trees event reply s' trees' = Unit {0}
 
 -- A value that a load of a key answers stands for the tree that the key reads as, and the caller has its references.
 pub record ReadIsRight {N E : Type 0} (v : Values N) (s : PagerState N E) (key : ℕ) (x : N) : Type 0 where
   pub stands : (t : Tree) → t.type ≡ v.node_type x → ReadsTree s.core.stored v.types key t → ValueStands v s x t
-  pub own : (r : ArcRef) → Among (v.references x) r → IsReference s.core owners.Caller r
+  pub own : (r : ArcRef) → Among (v.references x) r → IsReference s.core Owner.Caller r
 
 abbrev pub ReadGives : {N E B W : Type 0} → Values N → Fact N E B W
-ReadGives {N} v s trees (events.LoadStep l) (answers.LoadMoved (Ok reply)) s' trees' = (load : OpenLoad) (x : N) → s.pager.core.loads l.0 ≡ Some load → reply.ended ≡ Some (ends.Read x) → ReadIsRight v s'.pager load.key x
+ReadGives {N} v s trees (Event.LoadStep l) (EventReply.LoadMoved (Ok reply)) s' trees' = (load : OpenLoad) (x : N) → s.pager.core.loads l.0 ≡ Some load → reply.ended ≡ Some (LoadAnswer.Read x) → ReadIsRight v s'.pager load.key x
 ReadGives v s trees event reply s' trees' = Unit {0}
 
 -- What a task meets: the references of its item, or its listed cell, and those that were written of what it met. The least such set, since it is made by these cases alone.
@@ -62,8 +53,7 @@ pub record TableMeets (u : World) (t : ℕ) (i : Identity) : Type 0 where
 abbrev pub AreKeysOf : Shelf → List ArcRef → List ℕ → Type 0
 AreKeysOf shelf [] [] = Unit {0}
 AreKeysOf shelf (r ∷ rs) (k ∷ ks) = ((height : ℕ) × IsPublished shelf (identity_of r) k height) × AreKeysOf shelf rs ks
-AreKeysOf shelf [] (k ∷ ks) = ⊥
-AreKeysOf shelf (r ∷ rs) [] = ⊥
+AreKeysOf shelf _ _ = ⊥
 
 -- The identity was paged out: under its key stands a blob, a form of the node's tree over the keys of what was written of it.
 pub record IsLeftPagedOut {N E : Type 0} (v : Values N) (s : PagerState N E) (shelf : Shelf) (trees : ℕ → Tree) (i : Identity) : Type 0 where
@@ -84,7 +74,7 @@ pub record IsLeftPagedOut {N E : Type 0} (v : Values N) (s : PagerState N E) (sh
 -- the cell has a key that reads as its tree
 pub record HasKeyOf {N E : Type 0} (v : Values N) (s : PagerState N E) (trees : ℕ → Tree) (n : ℕ) : Type 0 where
   pub key : ℕ
-  pub set : key_at s.core n ≡ optional.Some key
+  pub set : key_at s.core n ≡ OptionalDataKey.Some key
   pub reads : ReadsTree s.core.stored v.types key (trees n)
 
 -- what a worker leaves when it answers a key: all that it met, and keys of the live cells that it met through a loose reference
@@ -94,7 +84,7 @@ pub record LeavesAll {N E : Type 0} (v : Values N) (s : PagerState N E) (shelf :
 
 -- P of a worker that answers this key with its step
 abbrev pub AnswersKey : {N E B W : Type 0} → (MachineState N E → (ℕ → Tree) → Walking → ℕ → Type 0) → Fact N E B W
-AnswersKey P s trees (events.WorkerStep n) (answers.WorkerMoved (Ok reply)) s' trees' = (walking : Walking) (key : ℕ) → s'.work.walkings n.0 ≡ Some walking → reply.answer ≡ Some (finals.Key key) → P s' trees' walking key
+AnswersKey P s trees (Event.WorkerStep n) (EventReply.WorkerMoved (Ok reply)) s' trees' = (walking : Walking) (key : ℕ) → s'.work.walkings n.0 ≡ Some walking → reply.answer ≡ Some (WorkerAnswer.Key key) → P s' trees' walking key
 AnswersKey P s trees event reply s' trees' = Unit {0}
 
 abbrev pub AnswerLeavesAll : {N E B W : Type 0} → Values N → Fact N E B W
@@ -113,8 +103,8 @@ AnswerIsKey v = AnswersKey (λ s trees walking key. IsKeyOfTask v trees walking.
 
 -- a key that is published is the tree's, and a cell had one by then
 abbrev pub PublishIsKey : {N E B W : Type 0} → Values N → Fact N E B W
-PublishIsKey v s trees (events.WorkerStep n) (answers.WorkerMoved (Ok reply)) s' trees' =
-    (i : Identity) (key height : ℕ) → reply.took ≡ took.Publish i key height → KeyOf v.hash v.types (trees i.node.0) key × (is_loose_kind i.kind.0 ≡ true → (set : ℕ) × (key_at s.pager.core i.node.0 ≡ optional.Some set))
+PublishIsKey v s trees (Event.WorkerStep n) (EventReply.WorkerMoved (Ok reply)) s' trees' =
+    (i : Identity) (key height : ℕ) → reply.took ≡ Took.Publish i key height → KeyOf v.hash v.types (trees i.node.0) key × (is_loose_kind i.kind.0 ≡ true → (set : ℕ) × (key_at s.pager.core i.node.0 ≡ OptionalDataKey.Some set))
 PublishIsKey v s trees event reply s' trees' = Unit {0}
 
 -- all that holds of one event by trees
@@ -131,7 +121,7 @@ is_on_table t walking = if_there (λ (w : Walking). w.table == t) false walking
 
 -- how often the identity was claimed in these replies by workers of the table
 unfoldable pub claims_made : {N B W : Type 0} → (ℕ → Option Walking) → ℕ → Identity → List (Event N B W) → List (EventReply N B W) → ℕ
-claims_made walkings t i (events.WorkerStep v ∷ more) (answers.WorkerMoved (Ok reply) ∷ rest) = one (is_on_table t (walkings v.0) && is_claim_of i reply.took) + claims_made walkings t i more rest
+claims_made walkings t i (Event.WorkerStep v ∷ more) (EventReply.WorkerMoved (Ok reply) ∷ rest) = one (is_on_table t (walkings v.0) && is_claim_of i reply.took) + claims_made walkings t i more rest
 claims_made walkings t i (event ∷ more) (reply ∷ rest) = claims_made walkings t i more rest
 claims_made walkings t i [] rest = 0
 claims_made walkings t i (event ∷ more) [] = 0
@@ -150,9 +140,9 @@ pub record FailedElsewhere (shelf : Shelf) (n : ℕ) (i : Identity) : Type 0 whe
 
 -- a worker failed with a refusal that a step of its own met, or since another had failed where its walk came
 abbrev pub IsMetFailure : {W : Type 0} → Shelf → ℕ → List (Took W) → WorkerAnswer → Type 0
-IsMetFailure shelf n steps (finals.Key key) = Unit {0}
-IsMetFailure {W} shelf n steps (finals.Failed e) = (step : Took W) × Among steps step × MetError step e
-IsMetFailure shelf n steps finals.AlreadyFailed = (i : Identity) × Among steps (took.Claim i (Ok claims.AlreadyFailed)) × FailedElsewhere shelf n i
+IsMetFailure shelf n steps (WorkerAnswer.Key key) = Unit {0}
+IsMetFailure {W} shelf n steps (WorkerAnswer.Failed e) = (step : Took W) × Among steps step × MetError step e
+IsMetFailure shelf n steps WorkerAnswer.AlreadyFailed = (i : Identity) × Among steps (Took.Claim i (Ok Claim.AlreadyFailed)) × FailedElsewhere shelf n i
 
 -- a worker that has answered has a result in each slot that it claimed, owns no handle and has no load open
 pub record HasLetGo (u : World) (n : ℕ) (shelf : Shelf) : Type 0 where
@@ -180,7 +170,7 @@ pub record WorkIsRight {N E B W : Type 0} (m : Seen N B W) (s : MachineState N E
 
 -- a load's step is within its bound
 abbrev pub StepIsWithin : {N E B W : Type 0} → Values N → MachineState N E → Event N B W → EventReply N B W → Type 0
-StepIsWithin v s (events.LoadStep l) (answers.LoadMoved (Ok reply)) =
+StepIsWithin v s (Event.LoadStep l) (EventReply.LoadMoved (Ok reply)) =
     (reading : Reading) (load : OpenLoad) → reading_at (world_of s) l ≡ Some reading → s.pager.core.loads l.0 ≡ Some load → IsWithinBound v.types s.pager.core.stored reading.node_type load.key reply
 StepIsWithin v s event reply = Unit {0}
 

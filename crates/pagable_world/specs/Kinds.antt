@@ -1,9 +1,6 @@
 -- Handles: which kinds of references they stand under, which of them pin their nodes, and who gives them up.
 use Rattle.std.specs.Prelude.{ℕ, ◌+◌, ◌*◌, ◌<◌, ◌≤◌, ◌^◌, ◌==◌, Bool, not, true, if◌then◌else◌, ◌&&◌, ◌||◌, false, List, [], ◌∷◌, sum_by, Option, Some, None, nat_lt}
 use Rattle.pagable_world.specs.Plain.{ArcRef, Identity, Mode, OptionalDataKey, Owner, HandleRow, one, is_loose_kind, is_pinned_kind, is_shared_kind}
-use Rattle.pagable_world.specs.declared.rows.Mode.TheVariants as modes
-use Rattle.pagable_model.specs.declared.data_key.OptionalDataKey.TheVariants as optional
-use Rattle.pagable_world.specs.declared.handles.Owner.TheVariants as owners
 
 -- the kind under which a listed cell of this type is paged out
 abbrev pub loose_kind : ℕ → ℕ
@@ -18,12 +15,12 @@ HasNoKinds t = 2 ^ 32 ≤ loose_kind t
 
 -- the mode of a handle that is made for a reference of this kind, as it is read
 abbrev pub mode_of : ℕ → Mode
-mode_of kind = if is_shared_kind kind then modes.Shared else if is_loose_kind kind then modes.LooseUnpinned else modes.Pinned
+mode_of kind = if is_shared_kind kind then Mode.Shared else if is_loose_kind kind then Mode.LooseUnpinned else Mode.Pinned
 
 -- whether a handle of this mode may stand under this kind
 abbrev pub fits_mode : ℕ → Mode → Bool
-fits_mode kind modes.Pinned = is_pinned_kind kind
-fits_mode kind modes.Shared = is_shared_kind kind
+fits_mode kind Mode.Pinned = is_pinned_kind kind
+fits_mode kind Mode.Shared = is_shared_kind kind
 fits_mode kind _ = is_loose_kind kind
 
 -- the identity that a reference names
@@ -32,26 +29,26 @@ identity_of r = record { kind = r.kind; node = r.node }
 
 -- whether a handle of this mode pins its node
 abbrev pub is_pinning : Mode → Bool
-is_pinning modes.LooseUnpinned = false
+is_pinning Mode.LooseUnpinned = false
 is_pinning _ = true
 
 -- whether a handle of this mode can be pinned and unpinned; any other pins as long as it is live
 abbrev pub is_loose : Mode → Bool
-is_loose modes.LoosePinned = true
-is_loose modes.LooseUnpinned = true
+is_loose Mode.LoosePinned = true
+is_loose Mode.LooseUnpinned = true
 is_loose _ = false
 
 -- whether it is loose and pins nothing; whether it is a Pinned one; and whether it is of a node that never has a key
 abbrev pub is_unpinned : Mode → Bool
-is_unpinned modes.LooseUnpinned = true
+is_unpinned Mode.LooseUnpinned = true
 is_unpinned _ = false
 
 abbrev pub is_pinned : Mode → Bool
-is_pinned modes.Pinned = true
+is_pinned Mode.Pinned = true
 is_pinned _ = false
 
 abbrev pub is_shared : Mode → Bool
-is_shared modes.Shared = true
+is_shared Mode.Shared = true
 is_shared _ = false
 
 -- any mode will do
@@ -60,19 +57,19 @@ any_mode mode = true
 
 -- whether it is the same owner
 abbrev pub is_owner : Owner → Owner → Bool
-is_owner owners.Caller owners.Caller = true
-is_owner (owners.Value n) (owners.Value m) = m.0 == n.0
-is_owner owners.List owners.List = true
-is_owner (owners.Load l) (owners.Load m) = m.0 == l.0
-is_owner (owners.Worker v) (owners.Worker u) = u.0 == v.0
+is_owner Owner.Caller Owner.Caller = true
+is_owner (Owner.Value n) (Owner.Value m) = m.0 == n.0
+is_owner Owner.List Owner.List = true
+is_owner (Owner.Load l) (Owner.Load m) = m.0 == l.0
+is_owner (Owner.Worker v) (Owner.Worker u) = u.0 == v.0
 is_owner _ _ = false
 
 -- the value of the node and the worker of this number, as owners
 abbrev pub owner_value : ℕ → Owner
-owner_value n = owners.Value (record { 0 = n })
+owner_value n = Owner.Value (record { 0 = n })
 
 abbrev pub owner_worker : ℕ → Owner
-owner_worker v = owners.Worker (record { 0 = v })
+owner_worker v = Owner.Worker (record { 0 = v })
 
 -- whether the handle has this number
 abbrev pub is_handle : ℕ → HandleRow → Bool
@@ -109,8 +106,8 @@ find_row q (h ∷ hs) = if is_handle q h then Some h else find_row q hs
 
 -- whether there is a key
 abbrev pub has_key : OptionalDataKey → Bool
-has_key optional.None = false
-has_key (optional.Some key) = true
+has_key OptionalDataKey.None = false
+has_key (OptionalDataKey.Some key) = true
 
 -- whether a node that is pinned so often and has this key has its value in memory: something pins it, or it has no key
 abbrev pub is_in_memory : ℕ → OptionalDataKey → Bool

@@ -1,16 +1,14 @@
 -- A load's steps: a fetch, a lazily read cell or an adoption each, and in the end a pin, an answer or a refusal. What it does next is told by the innermost of its blobs.
 use Rattle.std.specs.Prelude.{ℕ, ◌≡◌, ◌≤◌, ◌<◌, ◌⊎◌, if◌then◌else◌, List, [], ◌∷◌, ◌++◌, length, map, Option, Some, None, Result, Ok, Err, ◌==◌, ◌+◌, slice_get}
 use Rattle.pagable_model.specs.{Reading.{Rest, read_typed}, Standing.{Answer, handles_at}}
-use Rattle.pagable_world.specs.{Plain.{Error, ArcRef, Kind, HandleNumber, Blob, Types, type_of, Meaning, Owner, HandleRow, LoadAnswer, is_eager, longest_path}, World.{Core, Root, of_cell, of_key}}
-use Rattle.pagable_world.specs.{World.{OpenLoad, Frame, Reading, row_at, one_more, Alike, Values}, LoadCalls.{from_cache, from_store, AskCall, AdoptCall, LazyCall, EndCall, HandOverCall, LoadCloses}}
-use Rattle.pagable_model.specs.declared.error.Error.TheVariants as errors
-use Rattle.pagable_world.specs.declared.calls.Want.TheVariants as wants
-use Rattle.pagable_world.specs.declared.events.LoadAnswer.TheVariants as ends
+use Rattle.pagable_world.specs.Plain.{Error, ArcRef, Kind, HandleNumber, Blob, Types, type_of, Meaning, Owner, HandleRow, LoadAnswer, is_eager, longest_path, Want}
+use Rattle.pagable_world.specs.World.{Core, Root, of_cell, of_key, OpenLoad, Frame, Reading, row_at, one_more, Alike, Values}
+use Rattle.pagable_world.specs.LoadCalls.{from_cache, from_store, AskCall, AdoptCall, LazyCall, EndCall, HandOverCall, LoadCloses}
 
 -- A reference that was got is answered as its own kind. One that wasn't is refused by a name that tells its kind, and that no reader has as a cause of its own.
 abbrev pub answer_of : Option ArcRef → ℕ → Result ArcRef Error
-answer_of None kind = Err (errors.Storage kind)
-answer_of (Some r) kind = if r.kind.0 == kind then Ok r else Err errors.WrongKind
+answer_of None kind = Err (Error.Storage kind)
+answer_of (Some r) kind = if r.kind.0 == kind then Ok r else Err Error.WrongKind
 
 -- the answers to a blob's keys, from this place on
 unfoldable pub answers_from : List ArcRef → ℕ → List ℕ → List Answer
@@ -31,12 +29,12 @@ pub data Next : Type 0 where
   is_faulty : Error → Next
 
 abbrev pub asks_for : ℕ → Option ℕ → Next
-asks_for kind None = is_faulty errors.NoMoreKeys
+asks_for kind None = is_faulty Error.NoMoreKeys
 asks_for kind (Some key) = asks (record { 0 = kind }) key
 
 abbrev pub next_by : Option ℕ → Result (Meaning ArcRef × Rest Answer) Error → Next
 next_by key (Ok (own, rest)) = reads own
-next_by key (Err (errors.Storage kind)) = asks_for kind key
+next_by key (Err (Error.Storage kind)) = asks_for kind key
 next_by key (Err e) = is_faulty e
 
 abbrev pub next_of : Types → ℕ → Blob → List ArcRef → Next
@@ -94,7 +92,7 @@ pub record GetsRoot (w : Core) (me : Owner) (reading : Reading) (frames : List F
   pub blob : Blob
   pub first : reading.frames ≡ []
   pub open_load : w.loads reading.load.0 ≡ Some load
-  pub asked : AskCall w me reading.load wants.Root (Ok (from_store blob)) w'
+  pub asked : AskCall w me reading.load Want.Root (Ok (from_store blob)) w'
   pub goes : frames ≡ root_frame load.key reading.node_type blob ∷ []
 
 -- it has got a handle of a node that the cache knows
@@ -104,7 +102,7 @@ pub record GetsCached (types : Types) (w : Core) (me : Owner) (reading : Reading
   pub k : HandleNumber
   pub row : HandleRow
   pub needs : need_of types reading.frames ≡ needs_nested kind key
-  pub asked : AskCall w me reading.load (wants.Nested kind key) (Ok (from_cache k)) w'
+  pub asked : AskCall w me reading.load (Want.Nested kind key) (Ok (from_cache k)) w'
   pub made : row_at w' k ≡ Some row
   pub goes : frames ≡ with_got kind row reading.frames
 
@@ -115,7 +113,7 @@ pub record GetsBlob (types : Types) (w : Core) (me : Owner) (reading : Reading) 
   pub blob : Blob
   pub needs : need_of types reading.frames ≡ needs_nested kind key
   pub short : length reading.frames ≤ longest_path
-  pub asked : AskCall w me reading.load (wants.Nested kind key) (Ok (from_store blob)) w'
+  pub asked : AskCall w me reading.load (Want.Nested kind key) (Ok (from_store blob)) w'
   pub goes : frames ≡ nested_frame kind key blob ∷ reading.frames
 
 -- it has got a handle of a cell of which nothing was read
@@ -190,7 +188,7 @@ pub record EndsRead {N : Type 0} (v : Values N) (w : Core) (me : Owner) (reading
 
 -- by its blob, or by a cause that the type's own reader has; or since memory is wanting for what is read
 abbrev pub RefusesBlob : {N : Type 0} → Values N → Reading → Error → Type 0
-RefusesBlob v reading e = (need_of v.types reading.frames ≡ is_broken e) ⊎ ((top : Frame) × (below : List Frame) × (reading.frames ≡ top ∷ below) × v.read_causes top.node_type e) ⊎ (e ≡ errors.OutOfMemory)
+RefusesBlob v reading e = (need_of v.types reading.frames ≡ is_broken e) ⊎ ((top : Frame) × (below : List Frame) × (reading.frames ≡ top ∷ below) × v.read_causes top.node_type e) ⊎ (e ≡ Error.OutOfMemory)
 
 -- by a fetch; or by the path that is too long, which is seen once the blob was fetched
 abbrev pub RefusesNested : Types → Core → Owner → Reading → Error → Core → Type 0
@@ -198,7 +196,7 @@ RefusesNested types w me reading e w' =
     (kind : Kind)
     × (key : ℕ)
     × (need_of types reading.frames ≡ needs_nested kind key)
-    × (AskCall w me reading.load (wants.Nested kind key) (Err e) w' ⊎ ((blob : Blob) × (e ≡ errors.TooDeep) × (longest_path < length reading.frames) × AskCall w me reading.load (wants.Nested kind key) (Ok (from_store blob)) w'))
+    × (AskCall w me reading.load (Want.Nested kind key) (Err e) w' ⊎ ((blob : Blob) × (e ≡ Error.TooDeep) × (longest_path < length reading.frames) × AskCall w me reading.load (Want.Nested kind key) (Ok (from_store blob)) w'))
 
 -- by an adoption
 pub record RefusesNode {N : Type 0} (v : Values N) (w : Core) (me : Owner) (reading : Reading) (e : Error) (w' : Core) : Type 0 where
@@ -218,7 +216,7 @@ pub record RefusesRoot {N : Type 0} (v : Values N) (w : Core) (me : Owner) (read
 abbrev pub Meets : {N : Type 0} → Values N → Core → Owner → Reading → Error → Core → Type 0
 Meets v w me reading e w' =
     (RefusesBlob v reading e × Alike w w')
-    ⊎ ((reading.frames ≡ []) × AskCall w me reading.load wants.Root (Err e) w')
+    ⊎ ((reading.frames ≡ []) × AskCall w me reading.load Want.Root (Err e) w')
     ⊎ RefusesNested v.types w me reading e w'
     ⊎ ((kind : Kind) × (key : ℕ) × (need_of v.types reading.frames ≡ needs_lazy kind key) × LazyCall w me reading.load kind key (Err e) w')
     ⊎ RefusesNode v w me reading e w'
@@ -242,9 +240,9 @@ Fails v w me reading e w' = GivesUp v w me reading e w' ⊎ EndsClosed v w me re
 
 abbrev pub Does : {N : Type 0} → Values N → Core → Owner → Reading → Option (LoadAnswer N) → List Frame → Core → Type 0
 Does v w me reading None frames w' = GoesOn v w me reading frames w'
-Does v w me reading (Some (ends.Pinned k)) frames w' = EndsPinned v w me reading k w' × (frames ≡ [])
-Does v w me reading (Some (ends.Read x)) frames w' = EndsRead v w me reading x w' × (frames ≡ [])
-Does v w me reading (Some (ends.Refused e)) frames w' = Fails v w me reading e w' × (frames ≡ [])
+Does v w me reading (Some (LoadAnswer.Pinned k)) frames w' = EndsPinned v w me reading k w' × (frames ≡ [])
+Does v w me reading (Some (LoadAnswer.Read x)) frames w' = EndsRead v w me reading x w' × (frames ≡ [])
+Does v w me reading (Some (LoadAnswer.Refused e)) frames w' = Fails v w me reading e w' × (frames ≡ [])
 
 -- What a load's step answers, which blobs it reads afterwards, and what it does to the pager. It touches nothing else.
 pub record ReadingDoes {N : Type 0} (v : Values N) (w : Core) (me : Owner) (reading : Reading) (answer : Option (LoadAnswer N)) (frames : List Frame) (w' : Core) : Type 0 where

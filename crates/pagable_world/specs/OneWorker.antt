@@ -1,18 +1,10 @@
 -- What holds besides where each load's and each worker's steps stand together, and of one cache.
 use Rattle.std.specs.Prelude.{ℕ, ◌≡◌, ◌≢◌, ◌<◌, ◌⊎◌, max, true, false, List, [], ◌∷◌, Some, Ok, slice_get}
 use Rattle.pagable_model.specs.{Deep.Kid, Meaning.{pair, variant, followed}, Merkle.TreeForm}
-use Rattle.pagable_world.specs.Plain.{Error, ArcRef, HandleNumber, Identity, Kind, LoadNumber, NodeNumber, Meaning, Shape, Tree, Types, tree, type_of, Owner, HandleRow, Event, EventReply, Among}
-use Rattle.pagable_world.specs.{Plain.{longest_path, above, height, deepest_path}, Kinds.fits_mode, World.{Core, OpenLoad, of_cell, Task, of_item, of_entry, Walking, row_at, Values, Seen}}
-use Rattle.pagable_world.specs.{LoadCalls.{from_cache, AskCall, Adopts, LazyCall}, Workers.IsPublished, Pager.{MachineState, IsWhole, IsMachineWhole}, Runs.{Moment, AreMoments, state_after, Fact}}
-use Rattle.pagable_model.specs.declared.error.Error.TheVariants as errors
-use Rattle.pagable_world.specs.declared.answers.Beginning.TheVariants as beginnings
-use Rattle.pagable_world.specs.declared.calls.Want.TheVariants as wants
-use Rattle.pagable_world.specs.declared.calls.Call.TheVariants as calls
-use Rattle.pagable_world.specs.declared.calls.Reply.TheVariants as replies
-use Rattle.pagable_world.specs.declared.events.WorkerAnswer.TheVariants as finals
-use Rattle.pagable_world.specs.declared.events.LoadAnswer.TheVariants as ends
-use Rattle.pagable_world.specs.declared.events.Event.TheVariants as events
-use Rattle.pagable_world.specs.declared.events.EventReply.TheVariants as answers
+use Rattle.pagable_world.specs.Plain.{Want, Error, ArcRef, HandleNumber, Identity, Kind, LoadNumber, NodeNumber, Meaning, Shape, Tree, Types, tree, type_of, Owner, HandleRow, Event, EventReply, Among}
+use Rattle.pagable_world.specs.{Plain.{Beginning, longest_path, above, height, deepest_path, LoadAnswer, WorkerAnswer, Reply, Call}, Kinds.fits_mode}
+use Rattle.pagable_world.specs.{World.{Core, OpenLoad, of_cell, Task, of_item, of_entry, Walking, row_at, Values, Seen}, LoadCalls.{from_cache, AskCall, Adopts, LazyCall}, Workers.IsPublished}
+use Rattle.pagable_world.specs.{Pager.{MachineState, IsWhole, IsMachineWhole}, Runs.{Moment, AreMoments, state_after, Fact}}
 
 -- whose turn a moment is; the begin of a load or worker is its first
 pub data Turn : Type 0 where
@@ -21,13 +13,13 @@ pub data Turn : Type 0 where
   of_nobody : Turn
 
 abbrev pub turn_of : {N B W : Type 0} → Event N B W → EventReply N B W → Turn
-turn_of (events.LoadStep l) reply = of_load l.0
-turn_of (events.LoadStart h) (answers.Started (Ok (beginnings.Load l key))) = of_load l.0
-turn_of (events.Call (calls.LoadBegin h)) (answers.CallReply (replies.Begun (Ok (beginnings.Load l key)))) = of_load l.0
-turn_of (events.LoadKey k t) (answers.Started (Ok (beginnings.Load l key))) = of_load l.0
-turn_of (events.WorkerStep v) reply = of_worker v.0
-turn_of (events.WorkerItem t written) (answers.WorkerMade (Ok v)) = of_worker v.0
-turn_of (events.WorkerListed t i) (answers.WorkerMade (Ok v)) = of_worker v.0
+turn_of (Event.LoadStep l) reply = of_load l.0
+turn_of (Event.LoadStart h) (EventReply.Started (Ok (Beginning.Load l key))) = of_load l.0
+turn_of (Event.Call (Call.LoadBegin h)) (EventReply.CallReply (Reply.Begun (Ok (Beginning.Load l key)))) = of_load l.0
+turn_of (Event.LoadKey k t) (EventReply.Started (Ok (Beginning.Load l key))) = of_load l.0
+turn_of (Event.WorkerStep v) reply = of_worker v.0
+turn_of (Event.WorkerItem t written) (EventReply.WorkerMade (Ok v)) = of_worker v.0
+turn_of (Event.WorkerListed t i) (EventReply.WorkerMade (Ok v)) = of_worker v.0
 turn_of event reply = of_nobody
 
 -- each load's turns, and each worker's, stand together
@@ -70,17 +62,18 @@ IsFormlessTask types trees (of_entry h i) = LeadsToNoForm types (trees i.node.0)
 
 -- No key is answered where such a path leads down, or where some value has no form for whatever fault.
 abbrev pub KeyIsShallow : {N E B W : Type 0} → Values N → Fact N E B W
-KeyIsShallow v s trees (events.WorkerStep n) (answers.WorkerMoved (Ok reply)) s' trees' =
-    (walking : Walking) (key : ℕ) → s.work.walkings n.0 ≡ Some walking → reply.answer ≡ Some (finals.Key key) → (¬ IsTooDeepTask trees walking.task) × (¬ IsFormlessTask v.types trees walking.task)
+KeyIsShallow v s trees (Event.WorkerStep n) (EventReply.WorkerMoved (Ok reply)) s' trees' =
+    (walking : Walking) (key : ℕ) → s.work.walkings n.0 ≡ Some walking → reply.answer ≡ Some (WorkerAnswer.Key key)
+    → (¬ IsTooDeepTask trees walking.task) × (¬ IsFormlessTask v.types trees walking.task)
 KeyIsShallow v s trees event reply s' trees' = Unit {0}
 
 -- what a pin may still be refused for, once a page-out has set the cell's key
 abbrev pub IsOfChance : Error → Type 0
-IsOfChance errors.RegexRefused = Unit {0}
-IsOfChance errors.NumbersSpent = Unit {0}
-IsOfChance errors.OutOfMemory = Unit {0}
-IsOfChance (errors.Storage code) = Unit {0}
-IsOfChance (errors.Custom text) = Unit {0}
+IsOfChance Error.RegexRefused = Unit {0}
+IsOfChance Error.NumbersSpent = Unit {0}
+IsOfChance Error.OutOfMemory = Unit {0}
+IsOfChance (Error.Storage code) = Unit {0}
+IsOfChance (Error.Custom text) = Unit {0}
 IsOfChance e = ⊥
 
 -- a page-out has published the key of the node on some table
@@ -97,8 +90,8 @@ IsLoadOfPagedOut s load = (node : NodeNumber) × (t : ℕ) × (h : HandleNumber)
 
 -- a load of a cell whose key a page-out set is refused by chance alone
 abbrev pub LoadIsSound : {N E B W : Type 0} → Fact N E B W
-LoadIsSound s trees (events.LoadStep l) (answers.LoadMoved (Ok reply)) s' trees' =
-    (load : OpenLoad) (e : Error) → s.pager.core.loads l.0 ≡ Some load → IsLoadOfPagedOut s load → reply.ended ≡ Some (ends.Refused e) → IsOfChance e
+LoadIsSound s trees (Event.LoadStep l) (EventReply.LoadMoved (Ok reply)) s' trees' =
+    (load : OpenLoad) (e : Error) → s.pager.core.loads l.0 ≡ Some load → IsLoadOfPagedOut s load → reply.ended ≡ Some (LoadAnswer.Refused e) → IsOfChance e
 LoadIsSound s trees event reply s' trees' = Unit {0}
 
 -- a load gets a reference of this kind and key, and it is of this node
@@ -110,7 +103,7 @@ pub record GetsReference (w : Core) (kind : Kind) (key n : ℕ) (w' : Core) : Ty
   pub made : row_at w' k ≡ Some row
   pub at : row.node.0 ≡ n
   pub gets :
-      AskCall w me l (wants.Nested kind key) (Ok (from_cache k)) w'
+      AskCall w me l (Want.Nested kind key) (Ok (from_cache k)) w'
       ⊎ LazyCall w me l kind key (Ok k) w'
       ⊎ ((t : ℕ) × (references : List ArcRef) × Adopts w me l kind key t references k w')
 
@@ -120,9 +113,9 @@ IsFilledByReading w = (kind key other_kind other_key n : ℕ) → w.cache kind k
 
 -- the event neither clears the cache nor puts a caller's reference into it, nor closes the storage
 abbrev pub LeavesCache : {N B W : Type 0} → Event N B W → Type 0
-LeavesCache (events.Call calls.CacheClear) = ⊥
-LeavesCache (events.Call (calls.OnArcDeserialized kind key h)) = ⊥
-LeavesCache (events.Call calls.Close) = ⊥
+LeavesCache (Event.Call Call.CacheClear) = ⊥
+LeavesCache (Event.Call (Call.OnArcDeserialized kind key h)) = ⊥
+LeavesCache (Event.Call Call.Close) = ⊥
 LeavesCache event = Unit {0}
 
 -- a handle of the node that fits the kind is alive

@@ -1,19 +1,13 @@
 -- The order of a worker's steps: an automaton over what it has to do, which says nothing of pager and table. And how many steps workers and loads make at most.
 use Rattle.std.specs.Prelude.{ℕ, ◌≡◌, ◌≤◌, ◌==◌, ◌&&◌, if◌then◌else◌, Bool, false, List, [], ◌∷◌, ◌++◌, Some, None, Ok, Err, ◌+◌, ◌*◌, ◌<◌, ◌⊎◌, max, true, map, length, sum_by, Option, IsSome}
-use Rattle.pagable_world.specs.Plain.{Error, HandleNumber, Identity, type_of, Types, ArcRef, Kind, Meaning, Blob, Took, Event, EventReply, LoadReply, times, is_eager, longest_path}
+use Rattle.pagable_world.specs.Plain.{PinStep, Claim, Error, HandleNumber, Identity, type_of, Types, ArcRef, Kind, Meaning, Blob, Took, Event, EventReply, LoadReply, times, is_eager, longest_path}
 use Rattle.pagable_world.specs.{Kinds.identity_of, World.{Written, Frame, was_failed, Todo, to_start, to_pin, to_load, to_write, to_finish, to_item, to_set, to_publish, to_release, to_fail, Task}}
 use Rattle.pagable_world.specs.{World.{is_identity, Reading, of_item, of_entry, Walking}, Loads.{gone_on, Next, reads, asks, is_faulty, next_of}, Workers.{give, give_known, open_node, first_todo}}
 use Rattle.pagable_world.specs.Workers.{failing, failing_by, fresh}
-use Rattle.pagable_model.specs.declared.error.Error.TheVariants as errors
-use Rattle.pagable_world.specs.declared.events.Claim.TheVariants as claims
-use Rattle.pagable_world.specs.declared.events.PinStep.TheVariants as pinsteps
-use Rattle.pagable_world.specs.declared.events.Took.TheVariants as took
-use Rattle.pagable_world.specs.declared.events.Event.TheVariants as events
-use Rattle.pagable_world.specs.declared.events.EventReply.TheVariants as answers
 
 -- the step that this reply tells of the worker
 abbrev pub step_of : {N B W : Type 0} → ℕ → Event N B W → EventReply N B W → List (Took W)
-step_of v (events.WorkerStep u) (answers.WorkerMoved (Ok reply)) = if u.0 == v then reply.took ∷ [] else []
+step_of v (Event.WorkerStep u) (EventReply.WorkerMoved (Ok reply)) = if u.0 == v then reply.took ∷ [] else []
 step_of v event reply = []
 
 -- the worker's steps, in order
@@ -24,28 +18,28 @@ steps_of v (event ∷ more) [] = []
 
 -- the step may follow where this is to be done, and this is to be done then
 abbrev pub Follows : {W : Type 0} → (W → Written) → List Todo → Took W → List Todo → Type 0
-Follows f (to_start r place ∷ below) (took.Claim i (Ok claims.Claimed)) next = (i ≡ identity_of r) × (next ≡ to_pin r place ∷ below)
-Follows f (to_start r place ∷ below) (took.Claim i (Ok (claims.Known key height))) next = (i ≡ identity_of r) × (next ≡ give_known r key height below)
-Follows f (to_start r place ∷ below) (took.Claim i (Ok claims.Waiting)) next = (i ≡ identity_of r) × (next ≡ to_start r place ∷ below)
-Follows f (to_start r place ∷ below) (took.Claim i (Ok claims.AlreadyFailed)) next = (i ≡ identity_of r) × (next ≡ failing was_failed (to_start r place ∷ below))
-Follows f (to_start r place ∷ below) (took.Claim i (Err e)) next = (i ≡ identity_of r) × (next ≡ failing_by e (to_start r place ∷ below))
-Follows f (to_pin r place ∷ below) (took.Pin i (Ok (pinsteps.Held k))) next = (i ≡ identity_of r) × ((through : HandleNumber) × (next ≡ to_write r place through ∷ below))
-Follows f (to_pin r place ∷ below) (took.Pin i (Ok (pinsteps.LoadBegun l))) next = (i ≡ identity_of r) × ((through : HandleNumber) × (next ≡ to_load r place through (fresh l (type_of r.kind.0)) ∷ below))
-Follows f (to_pin r place ∷ below) (took.Pin i (Err e)) next = (i ≡ identity_of r) × (next ≡ failing_by e (to_pin r place ∷ below))
-Follows f (to_load r place through reading ∷ below) (took.Pin i (Ok pinsteps.LoadWent)) next = (i ≡ identity_of r) × ((frames : List Frame) × (next ≡ to_load r place through (gone_on reading frames) ∷ below))
-Follows f (to_load r place through reading ∷ below) (took.Pin i (Ok (pinsteps.Held k))) next = (i ≡ identity_of r) × (next ≡ to_write r place through ∷ below)
-Follows f (to_load r place through reading ∷ below) (took.Pin i (Err e)) next = (i ≡ identity_of r) × (next ≡ failing_by e (to_load r place through reading ∷ below))
-Follows f (to_write r place through ∷ below) (took.Write i (Ok out)) next = (i ≡ identity_of r) × (next ≡ open_node r place through (f out) below)
-Follows f (to_write r place through ∷ below) (took.Write i (Err e)) next = (i ≡ identity_of r) × (next ≡ failing_by e (to_write r place through ∷ below))
-Follows f (to_finish o ∷ below) (took.Store (Some i) (Ok key)) next = (i ≡ identity_of o.reference) × (next ≡ to_set o.reference o.through key o.height ∷ below)
-Follows f (to_finish o ∷ below) (took.Store (Some i) (Err e)) next = (i ≡ identity_of o.reference) × (next ≡ failing_by e (to_finish o ∷ below))
-Follows f (to_item written keys ∷ below) (took.Store None (Ok key)) next = next ≡ []
-Follows f (to_item written keys ∷ below) (took.Store None (Err e)) next = next ≡ failing_by e (to_item written keys ∷ below)
-Follows f (to_set r through key height ∷ below) (took.SetKey i (Ok u)) next = (i ≡ identity_of r) × (next ≡ to_publish r key height ∷ below)
-Follows f (to_set r through key height ∷ below) (took.SetKey i (Err e)) next = (i ≡ identity_of r) × (next ≡ failing_by e (to_set r through key height ∷ below))
-Follows f (to_publish r key height ∷ below) (took.Publish i k h) next = (i ≡ identity_of r) × (k ≡ key) × (h ≡ height) × (next ≡ to_release r key height ∷ below)
-Follows f (to_release r key height ∷ below) (took.Release i) next = (i ≡ identity_of r) × (next ≡ give r key height below)
-Follows f (to_fail fault back ∷ below) took.Fail next = next ≡ []
+Follows f (to_start r place ∷ below) (Took.Claim i (Ok Claim.Claimed)) next = (i ≡ identity_of r) × (next ≡ to_pin r place ∷ below)
+Follows f (to_start r place ∷ below) (Took.Claim i (Ok (Claim.Known key height))) next = (i ≡ identity_of r) × (next ≡ give_known r key height below)
+Follows f (to_start r place ∷ below) (Took.Claim i (Ok Claim.Waiting)) next = (i ≡ identity_of r) × (next ≡ to_start r place ∷ below)
+Follows f (to_start r place ∷ below) (Took.Claim i (Ok Claim.AlreadyFailed)) next = (i ≡ identity_of r) × (next ≡ failing was_failed (to_start r place ∷ below))
+Follows f (to_start r place ∷ below) (Took.Claim i (Err e)) next = (i ≡ identity_of r) × (next ≡ failing_by e (to_start r place ∷ below))
+Follows f (to_pin r place ∷ below) (Took.Pin i (Ok (PinStep.Held k))) next = (i ≡ identity_of r) × ((through : HandleNumber) × (next ≡ to_write r place through ∷ below))
+Follows f (to_pin r place ∷ below) (Took.Pin i (Ok (PinStep.LoadBegun l))) next = (i ≡ identity_of r) × ((through : HandleNumber) × (next ≡ to_load r place through (fresh l (type_of r.kind.0)) ∷ below))
+Follows f (to_pin r place ∷ below) (Took.Pin i (Err e)) next = (i ≡ identity_of r) × (next ≡ failing_by e (to_pin r place ∷ below))
+Follows f (to_load r place through reading ∷ below) (Took.Pin i (Ok PinStep.LoadWent)) next = (i ≡ identity_of r) × ((frames : List Frame) × (next ≡ to_load r place through (gone_on reading frames) ∷ below))
+Follows f (to_load r place through reading ∷ below) (Took.Pin i (Ok (PinStep.Held k))) next = (i ≡ identity_of r) × (next ≡ to_write r place through ∷ below)
+Follows f (to_load r place through reading ∷ below) (Took.Pin i (Err e)) next = (i ≡ identity_of r) × (next ≡ failing_by e (to_load r place through reading ∷ below))
+Follows f (to_write r place through ∷ below) (Took.Write i (Ok out)) next = (i ≡ identity_of r) × (next ≡ open_node r place through (f out) below)
+Follows f (to_write r place through ∷ below) (Took.Write i (Err e)) next = (i ≡ identity_of r) × (next ≡ failing_by e (to_write r place through ∷ below))
+Follows f (to_finish o ∷ below) (Took.Store (Some i) (Ok key)) next = (i ≡ identity_of o.reference) × (next ≡ to_set o.reference o.through key o.height ∷ below)
+Follows f (to_finish o ∷ below) (Took.Store (Some i) (Err e)) next = (i ≡ identity_of o.reference) × (next ≡ failing_by e (to_finish o ∷ below))
+Follows f (to_item written keys ∷ below) (Took.Store None (Ok key)) next = next ≡ []
+Follows f (to_item written keys ∷ below) (Took.Store None (Err e)) next = next ≡ failing_by e (to_item written keys ∷ below)
+Follows f (to_set r through key height ∷ below) (Took.SetKey i (Ok u)) next = (i ≡ identity_of r) × (next ≡ to_publish r key height ∷ below)
+Follows f (to_set r through key height ∷ below) (Took.SetKey i (Err e)) next = (i ≡ identity_of r) × (next ≡ failing_by e (to_set r through key height ∷ below))
+Follows f (to_publish r key height ∷ below) (Took.Publish i k h) next = (i ≡ identity_of r) × (k ≡ key) × (h ≡ height) × (next ≡ to_release r key height ∷ below)
+Follows f (to_release r key height ∷ below) (Took.Release i) next = (i ≡ identity_of r) × (next ≡ give r key height below)
+Follows f (to_fail fault back ∷ below) Took.Fail next = next ≡ []
 Follows f todo step next = ⊥
 
 -- one after another
@@ -60,19 +54,19 @@ pub record InOrder {W : Type 0} (f : W → Written) (task : Task) (steps : List 
 
 -- whether the step claims the identity
 abbrev pub is_claim_of : {W : Type 0} → Identity → Took W → Bool
-is_claim_of i (took.Claim j (Ok claims.Claimed)) = is_identity i j
+is_claim_of i (Took.Claim j (Ok Claim.Claimed)) = is_identity i j
 is_claim_of i step = false
 
 -- Whether the step is of this stage after a claim of the identity: 0 that a load begins, 1 that the node is pinned, 2 that it is written, 3 that it is stored, 4 that its key is set, 5 that it is
 -- published, 6 that it is released.
 abbrev pub is_later_of : {W : Type 0} → ℕ → Identity → Took W → Bool
-is_later_of stage i (took.Pin j (Ok (pinsteps.LoadBegun l))) = stage == 0 && is_identity i j
-is_later_of stage i (took.Pin j (Ok (pinsteps.Held k))) = stage == 1 && is_identity i j
-is_later_of stage i (took.Write j r) = stage == 2 && is_identity i j
-is_later_of stage i (took.Store (Some j) r) = stage == 3 && is_identity i j
-is_later_of stage i (took.SetKey j r) = stage == 4 && is_identity i j
-is_later_of stage i (took.Publish j key height) = stage == 5 && is_identity i j
-is_later_of stage i (took.Release j) = stage == 6 && is_identity i j
+is_later_of stage i (Took.Pin j (Ok (PinStep.LoadBegun l))) = stage == 0 && is_identity i j
+is_later_of stage i (Took.Pin j (Ok (PinStep.Held k))) = stage == 1 && is_identity i j
+is_later_of stage i (Took.Write j r) = stage == 2 && is_identity i j
+is_later_of stage i (Took.Store (Some j) r) = stage == 3 && is_identity i j
+is_later_of stage i (Took.SetKey j r) = stage == 4 && is_identity i j
+is_later_of stage i (Took.Publish j key height) = stage == 5 && is_identity i j
+is_later_of stage i (Took.Release j) = stage == 6 && is_identity i j
 is_later_of stage i step = false
 
 -- an identity is claimed at most once, and after that each stage comes at most once
@@ -82,21 +76,21 @@ pub record OnceEach {W : Type 0} (steps : List (Took W)) : Type 0 where
 
 -- the step was refused with this
 abbrev pub MetError : {W : Type 0} → Took W → Error → Type 0
-MetError (took.Claim i (Err e)) f = e ≡ f
-MetError (took.Pin i (Err e)) f = e ≡ f
-MetError (took.Write i (Err e)) f = e ≡ f
-MetError (took.Store i (Err e)) f = e ≡ f
-MetError (took.SetKey i (Err e)) f = e ≡ f
+MetError (Took.Claim i (Err e)) f = e ≡ f
+MetError (Took.Pin i (Err e)) f = e ≡ f
+MetError (Took.Write i (Err e)) f = e ≡ f
+MetError (Took.Store i (Err e)) f = e ≡ f
+MetError (Took.SetKey i (Err e)) f = e ≡ f
 MetError step f = ⊥
 
 -- whether the step claims something
 abbrev pub is_claim : {W : Type 0} → Took W → Bool
-is_claim (took.Claim i (Ok claims.Claimed)) = true
+is_claim (Took.Claim i (Ok Claim.Claimed)) = true
 is_claim step = false
 
 -- how many references the step wrote
 abbrev pub references_written : {W : Type 0} → (W → Written) → Took W → ℕ
-references_written f (took.Write i (Ok out)) = length (f out).references
+references_written f (Took.Write i (Ok out)) = length (f out).references
 references_written f step = 0
 
 -- how many references the task has itself
@@ -145,7 +139,7 @@ pub record ReadsTooDeep (types : Types) (store : ℕ → Option Blob) (t key : �
   pub blob : Blob
   pub down : LeadsDown types store t key n last_type last
   pub is : store last ≡ Some blob
-  pub deep : (longest_path < n) ⊎ ((kinds : List ℕ) × (after_kinds types last_type blob kinds ≡ is_faulty errors.TooDeep))
+  pub deep : (longest_path < n) ⊎ ((kinds : List ℕ) × (after_kinds types last_type blob kinds ≡ is_faulty Error.TooDeep))
 
 -- an open load whose reading takes n references has a step left of 2n + 2
 abbrev pub HasStepLeft : Types → (ℕ → Option Blob) → ℕ → Reading → Type 0

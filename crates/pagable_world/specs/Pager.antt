@@ -3,17 +3,11 @@
 use Rattle.std.specs.Prelude.{ℕ, ◌≡◌, ◌<◌, ◌≤◌, ◌==◌, ◌&&◌, ◌⊎◌, true, false, List, [], ◌∷◌, length, Option, Some, None, is_some, is_none, Result, Ok, Err, IfOk, nat_lt, ℤ, map, slice_get}
 use Rattle.std.specs.List.{AllPairs}
 use Rattle.pagable_model.specs.{Refusals.is_writing_fault, Writing.{nesting, NoFormOfSome}, Meaning.{number, integer, text, pattern, none, pair, variant, reference, followed}, Deep.{Kid, kid}}
-use Rattle.pagable_world.specs.Plain.{Error, ArcRef, Identity, HandleNumber, LoadNumber, NodeNumber, Shape, type_of, Owner, HandleRow, Call, Event, EventReply, Took, Among, times, Meaning, Blob}
-use Rattle.pagable_world.specs.{Plain.{Tree, Types, tree, ReadsTree, is_shared_kind}, Kinds.{is_pinning, is_loose, is_shared, is_owned_by, owner_value, is_handle, held, pins, sharing, has_key}}
+use Rattle.pagable_model.specs.declared.data_key.OptionalDataKey.{OptionalDataKey}
+use Rattle.pagable_world.specs.Plain.{Mode, Error, ArcRef, Identity, HandleNumber, LoadNumber, NodeNumber, Shape, type_of, Owner, HandleRow, Call, Event, EventReply, Took, Among, times, Meaning, Blob}
 use Rattle.pagable_world.specs.World.{Core, OpenLoad, Root, of_cell, of_key, Reading, Todo, to_load, Walking, Work, World, Written, greatest, row_at, type_at, key_at, is_here, Values, Seen, HasForm}
+use Rattle.pagable_world.specs.{Plain.{Tree, Types, tree, ReadsTree, is_shared_kind}, Kinds.{is_pinning, is_loose, is_shared, is_owned_by, owner_value, is_handle, held, pins, sharing, has_key}}
 use Rattle.pagable_world.specs.{World.Frame, Refusals.IsReference, Calls.Looks, Loads.{ReadsNode, ReadsRoot, asks, next_in}, Events.reading_at}
-use Rattle.pagable_world.specs.declared.rows.Mode.TheVariants as modes
-use Rattle.pagable_world.specs.declared.handles.Owner.TheVariants as owners
-use Rattle.pagable_world.specs.declared.calls.Call.TheVariants as calls
-use Rattle.pagable_world.specs.declared.events.Event.TheVariants as events
-use Rattle.pagable_world.specs.declared.events.EventReply.TheVariants as answers
-use Rattle.pagable_world.specs.declared.events.Took.TheVariants as took
-use Rattle.pagable_model.specs.declared.data_key.OptionalDataKey.TheVariants as optional
 
 -- the pager: the kept counts and the values by their nodes' numbers
 pub record PagerState (N E : Type 0) : Type 0 where
@@ -52,19 +46,17 @@ pub record HandlesAreWhole (w : Core) : Type 0 where
 -- Who owns a handle is there.
 pub record OwnersAreThere (w : Core) : Type 0 where
   -- the list has each handle that it owns once, all of them loose and unpinned
-  pub listed : (q : ℕ) → times (λ (h : HandleNumber). h.0 == q) w.list ≡ times (λ h. is_handle q h && is_owned_by owners.List h) w.rows
-  pub waiting : (h : HandleRow) → Among w.rows h → h.owner ≡ owners.List → h.mode ≡ modes.LooseUnpinned
+  pub listed : (q : ℕ) → times (λ (h : HandleNumber). h.0 == q) w.list ≡ times (λ h. is_handle q h && is_owned_by Owner.List h) w.rows
+  pub waiting : (h : HandleRow) → Among w.rows h → h.owner ≡ Owner.List → h.mode ≡ Mode.LooseUnpinned
   -- a load that owns a handle is open, and a worker that owns one is at work
-  pub loads : (h : HandleRow) (l : LoadNumber) → Among w.rows h → h.owner ≡ owners.Load l → is_some (w.loads l.0) ≡ true
-  pub workers : (h : HandleRow) (v : ℕ) → Among w.rows h → h.owner ≡ owners.Worker (record { 0 = v }) → w.workers v ≡ true
+  pub loads : (h : HandleRow) (l : LoadNumber) → Among w.rows h → h.owner ≡ Owner.Load l → is_some (w.loads l.0) ≡ true
+  pub workers : (h : HandleRow) (v : ℕ) → Among w.rows h → h.owner ≡ Owner.Worker (record { 0 = v }) → w.workers v ≡ true
 
 -- The owner of a load is the caller, or a worker that is at work.
 abbrev pub MayOwnLoad : Core → Owner → Type 0
-MayOwnLoad w owners.Caller = Unit {0}
-MayOwnLoad w (owners.Worker v) = w.workers v.0 ≡ true
-MayOwnLoad w (owners.Value n) = ⊥
-MayOwnLoad w owners.List = ⊥
-MayOwnLoad w (owners.Load l) = ⊥
+MayOwnLoad w Owner.Caller = Unit {0}
+MayOwnLoad w (Owner.Worker v) = w.workers v.0 ≡ true
+MayOwnLoad w _ = ⊥
 
 -- A load of a cell is of its cell's type, as long as that is there. The handle that began it is a loose one of the cell, or gone. Both numbers were given.
 pub record IsRootWhole (w : Core) (node : NodeNumber) (t : ℕ) (h : HandleNumber) : Type 0 where
@@ -116,7 +108,7 @@ pub record IsReadingWhole (w : Core) (l : ℕ) (reading : Reading) : Type 0 wher
   pub number : reading.load.0 ≡ l
   pub load : OpenLoad
   pub open_load : w.loads l ≡ Some load
-  pub owned : load.owner ≡ owners.Caller
+  pub owned : load.owner ≡ Owner.Caller
   pub typed : FitsRoot load.root reading
 
 -- a worker is on a table that is there, and at work exactly until it has answered
@@ -173,11 +165,11 @@ pub record IsCellOf (w : Core) (l : LoadNumber) (n : ℕ) : Type 0 where
 
 -- what a call brings: the value that it was handed, at a new node or at its load's cell
 abbrev pub CallBrings : {N B : Type 0} → Core → Call N B → ℕ → N → Type 0
-CallBrings w (calls.NewPinned y) n x = (x ≡ y) × IsNewNode w n
-CallBrings w (calls.NewLoose y) n x = (x ≡ y) × IsNewNode w n
-CallBrings w (calls.NewShared y) n x = (x ≡ y) × IsNewNode w n
-CallBrings w (calls.LoadAdopt l kind key y) n x = (x ≡ y) × IsNewNode w n
-CallBrings w (calls.LoadEnd l y) n x = (x ≡ y) × IsCellOf w l n
+CallBrings w (Call.NewPinned y) n x = (x ≡ y) × IsNewNode w n
+CallBrings w (Call.NewLoose y) n x = (x ≡ y) × IsNewNode w n
+CallBrings w (Call.NewShared y) n x = (x ≡ y) × IsNewNode w n
+CallBrings w (Call.LoadAdopt l kind key y) n x = (x ≡ y) × IsNewNode w n
+CallBrings w (Call.LoadEnd l y) n x = (x ≡ y) × IsCellOf w l n
 CallBrings w call n x = ⊥
 
 -- what a load's step brings: the value that its innermost blob was read as, at a new node, or at its cell
@@ -190,9 +182,9 @@ TodoBrings v w (to_load r place through reading ∷ below) n x = ReadingBrings v
 TodoBrings v w todo n x = ⊥
 
 abbrev pub EventBrings : {N B W : Type 0} → Values N → World → Event N B W → ℕ → N → Type 0
-EventBrings v u (events.Call call) n x = CallBrings u.core call n x
-EventBrings v u (events.LoadStep l) n x = (reading : Reading) × (reading_at u l ≡ Some reading) × ReadingBrings v u.core reading n x
-EventBrings v u (events.WorkerStep k) n x = (walking : Walking) × (u.work.walkings k.0 ≡ Some walking) × TodoBrings v u.core walking.todo n x
+EventBrings v u (Event.Call call) n x = CallBrings u.core call n x
+EventBrings v u (Event.LoadStep l) n x = (reading : Reading) × (reading_at u l ≡ Some reading) × ReadingBrings v u.core reading n x
+EventBrings v u (Event.WorkerStep k) n x = (walking : Walking) × (u.work.walkings k.0 ≡ Some walking) × TodoBrings v u.core walking.todo n x
 EventBrings v u event n x = ⊥
 
 -- what was written is a form of the node's value, with exactly its references
@@ -213,12 +205,12 @@ abbrev pub RefusesWriting : {N E : Type 0} → Values N → PagerState N E → �
 RefusesWriting {N} v s n e = is_writing_fault e ≡ true → (x : N) × (s.values n ≡ Some x) × IsFormless v x
 
 abbrev pub TookWrites : {N E W : Type 0} → Values N → (W → Written) → PagerState N E → Took W → Type 0
-TookWrites v f s (took.Write i (Ok out)) = IsWrittenOf v s i.node.0 (f out)
-TookWrites v f s (took.Write i (Err e)) = RefusesWriting v s i.node.0 e
+TookWrites v f s (Took.Write i (Ok out)) = IsWrittenOf v s i.node.0 (f out)
+TookWrites v f s (Took.Write i (Err e)) = RefusesWriting v s i.node.0 e
 TookWrites v f s step = Unit {0}
 
 abbrev pub ReplyWrites : {N B E W : Type 0} → Seen N B W → PagerState N E → EventReply N B W → Type 0
-ReplyWrites m s (answers.WorkerMoved r) = IfOk r (λ reply. TookWrites m.values m.written_of s reply.took)
+ReplyWrites m s (EventReply.WorkerMoved r) = IfOk r (λ reply. TookWrites m.values m.written_of s reply.took)
 ReplyWrites m s reply = Unit {0}
 
 -- a handle that pins lends its node's value, another none
@@ -231,13 +223,13 @@ ValueCall s h r = Looks s.core h (λ x row. Lends s row x) r
 
 -- whatever key the node has reads as the tree
 abbrev pub KeyFits : {N E : Type 0} → Values N → PagerState N E → ℕ → Tree → Type 0
-KeyFits v s n t = (key : ℕ) → key_at s.core n ≡ optional.Some key → ReadsTree s.core.stored v.types key t
+KeyFits v s n t = (key : ℕ) → key_at s.core n ≡ OptionalDataKey.Some key → ReadsTree s.core.stored v.types key t
 
 mutual
   -- the node stands for the tree: its value's meaning leads to it through the nodes that it refers to; or the value is away, and the node's key reads as the tree
   pub data NodeStands {N E : Type 0} (v : Values N) (s : PagerState N E) : ℕ → Tree → Type 0 where
     here : (n : ℕ) (x : N) (own : Meaning ArcRef) (t : Tree) → s.values n ≡ Some x → v.node_type x ≡ t.type → v.means x own → MeaningStands v s own t.meaning → KeyFits v s n t → NodeStands v s n t
-    away : (n key : ℕ) (t : Tree) → s.values n ≡ None → key_at s.core n ≡ optional.Some key → KeyFits v s n t → NodeStands v s n t
+    away : (n key : ℕ) (t : Tree) → s.values n ≡ None → key_at s.core n ≡ OptionalDataKey.Some key → KeyFits v s n t → NodeStands v s n t
 
   -- A meaning whose references are handles stands for one in which each is followed to what its node stands for. What is followed already stands for itself.
   pub data MeaningStands {N E : Type 0} (v : Values N) (s : PagerState N E) : Meaning ArcRef → Meaning ⊥ → Type 0 where

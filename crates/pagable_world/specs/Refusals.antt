@@ -3,15 +3,14 @@
 use Rattle.std.specs.Prelude.{ℕ, ◌≡◌, ◌≤◌, ◌==◌, ◌||◌, ◌⊎◌, Bool, true, false, not, if◌then◌else◌, List, [], ◌∷◌, length, Option, Some, None, nat_lt, nat_le}
 use Rattle.pagable_world.specs.{Plain.{Error, ArcRef, HandleNumber, LoadNumber, type_of, Mode, Owner, HandleRow, is_in, or_else, if_there}, Kinds.{fits_mode, is_owner}, World.{Core, OpenLoad}}
 use Rattle.pagable_world.specs.World.{greatest, row_at, type_at, Alike}
-use Rattle.pagable_model.specs.declared.error.Error.TheVariants as errors
 
 -- the places of refusals in the order
 abbrev pub rank : Error → ℕ
-rank errors.NoSuchHandle = 0
-rank errors.NotYours = 1
-rank errors.WrongMode = 2
-rank errors.WrongKind = 3
-rank errors.NumbersSpent = 4
+rank Error.NoSuchHandle = 0
+rank Error.NotYours = 1
+rank Error.WrongMode = 2
+rank Error.WrongKind = 3
+rank Error.NumbersSpent = 4
 rank _ = 5
 
 -- of two causes that there may be the one that comes first in the order
@@ -31,7 +30,7 @@ refused_if b e = if b then Some e else None
 
 -- no number is left after this one
 abbrev pub spent : ℕ → Option Error
-spent last = refused_if (nat_le greatest last) errors.NumbersSpent
+spent last = refused_if (nat_le greatest last) Error.NumbersSpent
 
 -- the vector of handles has no place left, or the list has none
 abbrev pub AreHandlesFull : Core → Type 0
@@ -48,12 +47,12 @@ pub record Owns (w : Core) (me : Owner) (h : HandleNumber) (fits : Mode → Bool
 
 -- why a handle can't be looked at
 abbrev pub live_fault : Option HandleRow → Option Error
-live_fault row = if_there (λ (h : HandleRow). None) (Some errors.NoSuchHandle) row
+live_fault row = if_there (λ (h : HandleRow). None) (Some Error.NoSuchHandle) row
 
 -- why an own handle can't be used
 abbrev pub handle_fault : Core → Owner → HandleNumber → (Mode → Bool) → Option Error
 handle_fault w me h fits =
-    if_there (λ (row : HandleRow). if not (is_owner me row.owner) then Some errors.NotYours else refused_if (not (fits row.mode)) errors.WrongMode) (Some errors.NoSuchHandle) (row_at w h)
+    if_there (λ (row : HandleRow). if not (is_owner me row.owner) then Some Error.NotYours else refused_if (not (fits row.mode)) Error.WrongMode) (Some Error.NoSuchHandle) (row_at w h)
 
 -- whether there is a type, and it is this one
 abbrev pub is_type : ℕ → Option ℕ → Bool
@@ -71,12 +70,12 @@ pub record IsReference (w : Core) (owner : Owner) (r : ArcRef) : Type 0 where
 -- why a reference is refused whose handle has this row, where others may be asked of it first
 abbrev pub row_fault : Core → ArcRef → Option Error → HandleRow → Option Error
 row_fault w r first row =
-    if not (row.node.0 == r.node.0) then Some errors.NoSuchHandle else
-    or_else first (if not (fits_mode r.kind.0 row.mode) then Some errors.WrongMode else refused_if (not (is_type (type_of r.kind.0) (type_at w r.node.0))) errors.WrongKind)
+    if not (row.node.0 == r.node.0) then Some Error.NoSuchHandle else
+    or_else first (if not (fits_mode r.kind.0 row.mode) then Some Error.WrongMode else refused_if (not (is_type (type_of r.kind.0) (type_at w r.node.0))) Error.WrongKind)
 
 -- why one reference of a value that is handed in is refused; seen are the handles that earlier ones named
 abbrev pub reference_fault : Core → Owner → List ℕ → ArcRef → Option Error
-reference_fault w owner seen r = if_there (λ (row : HandleRow). row_fault w r (refused_if (not (is_owner owner row.owner) || is_in seen r.handle.0) errors.NotYours) row) (Some errors.NoSuchHandle) (row_at w r.handle)
+reference_fault w owner seen r = if_there (λ (row : HandleRow). row_fault w r (refused_if (not (is_owner owner row.owner) || is_in seen r.handle.0) Error.NotYours) row) (Some Error.NoSuchHandle) (row_at w r.handle)
 
 -- the cause of the first reference that has one
 unfoldable pub references_fault : Core → Owner → List ℕ → List ArcRef → Option Error
@@ -87,7 +86,7 @@ references_fault w owner seen (r ∷ rs) = or_else (reference_fault w owner seen
 unfoldable pub named_fault : Core → Owner → List ℕ → List HandleNumber → Option Error
 named_fault w owner seen [] = None
 named_fault w owner seen (h ∷ hs) =
-    earlier (if_there (λ (row : HandleRow). refused_if (not (is_owner owner row.owner) || is_in seen h.0) errors.NotYours) (Some errors.NoSuchHandle) (row_at w h)) (named_fault w owner (h.0 ∷ seen) hs)
+    earlier (if_there (λ (row : HandleRow). refused_if (not (is_owner owner row.owner) || is_in seen h.0) Error.NotYours) (Some Error.NoSuchHandle) (row_at w h)) (named_fault w owner (h.0 ∷ seen) hs)
 
 -- an open load that the asker began
 pub record OwnsLoad (w : Core) (me : Owner) (l : LoadNumber) (load : OpenLoad) : Type 0 where
@@ -96,13 +95,13 @@ pub record OwnsLoad (w : Core) (me : Owner) (l : LoadNumber) (load : OpenLoad) :
 
 -- why an own load can't be used
 abbrev pub load_fault : Core → Owner → LoadNumber → Option Error
-load_fault w me l = if_there (λ (load : OpenLoad). refused_if (not (is_owner me load.owner)) errors.NotYours) (Some errors.NoSuchHandle) (w.loads l.0)
+load_fault w me l = if_there (λ (load : OpenLoad). refused_if (not (is_owner me load.owner)) Error.NotYours) (Some Error.NoSuchHandle) (w.loads l.0)
 
 -- no load of this number is open
 abbrev pub closed_fault : Core → LoadNumber → Option Error
-closed_fault w l = if_there (λ (load : OpenLoad). None) (Some errors.NoSuchHandle) (w.loads l.0)
+closed_fault w l = if_there (λ (load : OpenLoad). None) (Some Error.NoSuchHandle) (w.loads l.0)
 
 -- The call is refused by its cause; or memory is wanting, where that may be, and no cause of those that are looked at before it holds. Nothing changes.
 pub record Refused (cause before : Option Error) (full : Type 0) (w : Core) (e : Error) (w' : Core) : Type 0 where
-  pub why : (cause ≡ Some e) ⊎ ((e ≡ errors.OutOfMemory) × (before ≡ None) × full)
+  pub why : (cause ≡ Some e) ⊎ ((e ≡ Error.OutOfMemory) × (before ≡ None) × full)
   pub stays : Alike w w'

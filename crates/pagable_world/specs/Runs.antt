@@ -4,13 +4,7 @@ use Rattle.std.specs.Prelude.{ℕ, ◌≡◌, List, [], ◌∷◌, map, Option, 
 use Rattle.pagable_model.specs.Canonical.{IsReadableType}
 use Rattle.pagable_world.specs.{Plain.{Tree, Types, ReadsTree, type_of, Kind, Event, EventReply, HandleRow, Call, Reply, LoadAnswer}, Kinds.{is_loose, any_mode}, World.{Seen, Values, IsSettled}}
 use Rattle.pagable_world.specs.{World.{Reading, Todo, to_load, Walking}, Refusals.Owns, Loads.{needs_lazy, need_of}, Events.{Step, reading_at}, Pager.{MachineState, world_of, Moves, EventBrings}}
-use Rattle.pagable_world.specs.Pager.{ReplyWrites, IsMachineWhole, PagerState, IsCellOf, StandsFor, SameTrees, ValueStands}
-use Rattle.pagable_world.specs.declared.handles.Owner.TheVariants as owners
-use Rattle.pagable_world.specs.declared.calls.Call.TheVariants as calls
-use Rattle.pagable_world.specs.declared.calls.Reply.TheVariants as replies
-use Rattle.pagable_world.specs.declared.events.LoadAnswer.TheVariants as ends
-use Rattle.pagable_world.specs.declared.events.Event.TheVariants as events
-use Rattle.pagable_world.specs.declared.events.EventReply.TheVariants as answers
+use Rattle.pagable_world.specs.{Plain.Owner, Pager.{ReplyWrites, IsMachineWhole, PagerState, IsCellOf, StandsFor, SameTrees, ValueStands}}
 
 -- Each type of the environment is read back from its forms. Where types have tags, this is the registry of distinct tags: each tag that a value writes has a reader of that tag's body.
 abbrev pub ReadsItsTypes : Types → Type 0
@@ -22,11 +16,11 @@ HoldsSettled {N} v s = (n : ℕ) (x : N) → s.values n ≡ Some x → IsSettled
 
 -- the value that a load of a key answers
 abbrev pub read_by : {N : Type 0} → Option (LoadAnswer N) → Option N
-read_by (Some (ends.Read x)) = Some x
+read_by (Some (LoadAnswer.Read x)) = Some x
 read_by answer = None
 
 abbrev pub read_out : {N B W : Type 0} → EventReply N B W → Option N
-read_out (answers.LoadMoved (Ok reply)) = read_by reply.ended
+read_out (EventReply.LoadMoved (Ok reply)) = read_by reply.ended
 read_out reply = None
 
 -- nor does one that is read out
@@ -35,7 +29,7 @@ ReadsSettled {N} v reply = (x : N) → read_out reply ≡ Some x → IsSettled v
 
 -- the storage isn't closed
 abbrev pub KeepsOpen : {N B W : Type 0} → Event N B W → Type 0
-KeepsOpen (events.Call calls.Close) = ⊥
+KeepsOpen (Event.Call Call.Close) = ⊥
 KeepsOpen event = Unit {0}
 
 -- the key reads as some value of the type
@@ -53,12 +47,12 @@ pub record ReadsAsValue {N E : Type 0} (v : Values N) (s : PagerState N E) (x : 
 -- Keys that a caller sets or gives, references that it puts into the cache and values that it gives to a load by itself read as the value in the
 -- store. It is asked of calls that do something, and of a key only through a loose handle.
 abbrev pub AsksWell : {N E B : Type 0} → Values N → PagerState N E → (ℕ → Tree) → Call N B → Reply N B → Type 0
-AsksWell v s trees (calls.NewPagedOut t key) (replies.Handle (Ok k)) = ReadsAsType v s t key
-AsksWell v s trees (calls.SetDataKey h key) reply = (row : HandleRow) → Owns s.core owners.Caller h is_loose row → ReadsTree s.core.stored v.types key (trees row.node.0)
-AsksWell v s trees (calls.OnArcDeserialized kind key h) (replies.FromCache (Ok None)) = (row : HandleRow) → Owns s.core owners.Caller h any_mode row → ReadsTree s.core.stored v.types key (trees row.node.0)
-AsksWell v s trees (calls.LoadAdopt l kind key x) (replies.Made (Ok k)) = ReadsAsValue v s x key
-AsksWell v s trees (calls.LoadLazy l kind key) (replies.Handle (Ok k)) = ReadsAsType v s (type_of kind.0) key
-AsksWell v s trees (calls.LoadEnd l x) (replies.LoadEnded (Ok k)) = (n : ℕ) → IsCellOf s.core l n → ValueStands v s x (trees n)
+AsksWell v s trees (Call.NewPagedOut t key) (Reply.Handle (Ok k)) = ReadsAsType v s t key
+AsksWell v s trees (Call.SetDataKey h key) reply = (row : HandleRow) → Owns s.core Owner.Caller h is_loose row → ReadsTree s.core.stored v.types key (trees row.node.0)
+AsksWell v s trees (Call.OnArcDeserialized kind key h) (Reply.FromCache (Ok None)) = (row : HandleRow) → Owns s.core Owner.Caller h any_mode row → ReadsTree s.core.stored v.types key (trees row.node.0)
+AsksWell v s trees (Call.LoadAdopt l kind key x) (Reply.Made (Ok k)) = ReadsAsValue v s x key
+AsksWell v s trees (Call.LoadLazy l kind key) (Reply.Handle (Ok k)) = ReadsAsType v s (type_of kind.0) key
+AsksWell v s trees (Call.LoadEnd l x) (Reply.LoadEnded (Ok k)) = (n : ℕ) → IsCellOf s.core l n → ValueStands v s x (trees n)
 AsksWell v s trees call reply = Unit {0}
 
 -- a key that a load takes through a loose reference, of which nothing is read, reads as some value of the kind's type
@@ -70,9 +64,9 @@ TodoTakesWell v s (to_load r place through reading ∷ below) = TakesWell v s re
 TodoTakesWell v s todo = Unit {0}
 
 abbrev pub IsWellAsked : {N E B W : Type 0} → Values N → MachineState N E → (ℕ → Tree) → Event N B W → EventReply N B W → Type 0
-IsWellAsked v s trees (events.Call call) (answers.CallReply reply) = AsksWell v s.pager trees call reply
-IsWellAsked v s trees (events.LoadStep l) reply = (reading : Reading) → reading_at (world_of s) l ≡ Some reading → TakesWell v s.pager reading
-IsWellAsked v s trees (events.WorkerStep n) reply = (walking : Walking) → s.work.walkings n.0 ≡ Some walking → TodoTakesWell v s.pager walking.todo
+IsWellAsked v s trees (Event.Call call) (EventReply.CallReply reply) = AsksWell v s.pager trees call reply
+IsWellAsked v s trees (Event.LoadStep l) reply = (reading : Reading) → reading_at (world_of s) l ≡ Some reading → TakesWell v s.pager reading
+IsWellAsked v s trees (Event.WorkerStep n) reply = (walking : Walking) → s.work.walkings n.0 ≡ Some walking → TodoTakesWell v s.pager walking.todo
 IsWellAsked v s trees event reply = Unit {0}
 
 -- all that is asked of an event at the state that it finds, and of what it leaves

@@ -2,20 +2,11 @@
 use Rattle.std.specs.Prelude.{ℕ, ◌≡◌, ◌+◌, ◌<◌, ◌≤◌, ◌&&◌, ◌||◌, ◌⊎◌, Bool, true, false, if◌then◌else◌, List, [], ◌∷◌, ◌++◌, length, drop, max, Option, Some, None, Result, Ok, Err, IfOk, IfErr}
 use Rattle.std.specs.Prelude.{nat_eq}
 use Rattle.pagable_model.specs.Merkle.{blob_of}
-use Rattle.pagable_world.specs.Plain.{Error, ArcRef, Identity, HandleNumber, LoadNumber, type_of, Owner, HandleRow, Claim, PinStep, Took, WorkerAnswer, updated, is_eager, longest_path, above}
-use Rattle.pagable_world.specs.{Plain.if_there, Kinds.{identity_of, is_owner, is_loose, owner_worker, find_row, is_at, is_owned_by}, World.{Core, OpenLoad, Shelf, Slot, Outcome, no_result}}
-use Rattle.pagable_world.specs.World.{published, failed, Written, Frame, Reading, Fault, was_refused, was_failed, answer_of_fault, Todo, to_start, to_pin, to_load, to_write, to_finish, to_item}
-use Rattle.pagable_world.specs.{World.{to_set, to_publish, to_release, to_fail, Task, of_item, of_entry, row_at, is_identity, Alike, SameShelf, Values, Seen, digest, seen_as}, Cascade.FallsAnyhow}
-use Rattle.pagable_world.specs.{Refusals.row_fault, Calls.{CloneCall, PinCall, SetKeyCall, ScheduleCall, StoreCall}, LoadCalls.BeginCall, Loads.{ReadingDoes, gone_on}}
-use Rattle.pagable_model.specs.declared.error.Error.TheVariants as errors
-use Rattle.pagable_world.specs.declared.handles.Owner.TheVariants as owners
-use Rattle.pagable_world.specs.declared.answers.Pinning.TheVariants as pinnings
-use Rattle.pagable_world.specs.declared.answers.Beginning.TheVariants as beginnings
-use Rattle.pagable_world.specs.declared.events.Claim.TheVariants as claims
-use Rattle.pagable_world.specs.declared.events.LoadAnswer.TheVariants as ends
-use Rattle.pagable_world.specs.declared.events.PinStep.TheVariants as pinsteps
-use Rattle.pagable_world.specs.declared.events.Took.TheVariants as took
-use Rattle.pagable_world.specs.declared.events.WorkerAnswer.TheVariants as finals
+use Rattle.pagable_world.specs.Plain.{Pinning, Error, ArcRef, Identity, HandleNumber, LoadNumber, type_of, Owner, HandleRow, Claim, PinStep, Took, WorkerAnswer, updated, is_eager, longest_path, above}
+use Rattle.pagable_world.specs.World.{Core, OpenLoad, Shelf, Slot, Outcome, no_result, published, failed, Written, Frame, Reading, Fault, was_refused, was_failed, answer_of_fault, Todo, to_start}
+use Rattle.pagable_world.specs.World.{to_pin, to_load, to_write, to_finish, to_item, to_set, to_publish, to_release, to_fail, Task, of_item, of_entry, row_at, is_identity, Alike, SameShelf, Values}
+use Rattle.pagable_world.specs.{Plain.{if_there, Beginning, LoadAnswer}, Kinds.{identity_of, is_owner, is_loose, owner_worker, find_row, is_at, is_owned_by}, World.{Seen, digest, seen_as}}
+use Rattle.pagable_world.specs.{Cascade.FallsAnyhow, Refusals.row_fault, Calls.{CloneCall, PinCall, SetKeyCall, ScheduleCall, StoreCall}, LoadCalls.BeginCall, Loads.{ReadingDoes, gone_on}}
 
 -- the place of a reference on the path below a node at this one; a path ends at a reference through a loose handle
 abbrev pub place_below : ℕ → ℕ → ℕ
@@ -91,7 +82,7 @@ pub record GoesTo (s : Site) (todo : List Todo) (s' : Site) : Type 0 where
 
 -- why a reference can't be claimed, before its place and slot are looked at, whoever owns its handle
 abbrev pub claim_fault : Core → ArcRef → Option Error
-claim_fault w r = if_there (row_fault w r None) (Some errors.NoSuchHandle) (row_at w r.handle)
+claim_fault w r = if_there (row_fault w r None) (Some Error.NoSuchHandle) (row_at w r.handle)
 
 -- the identity is claimed, and this is its slot, which has no result yet
 pub record IsOpenSlot (s : Shelf) (i : Identity) (slot : Slot) : Type 0 where
@@ -130,15 +121,15 @@ IsTooDeep s v i place =
 
 -- what a claim finds, and what is to be done then; that a worker waits is forgotten as soon as a claim answers something else
 abbrev pub Finds : ℕ → Site → ArcRef → ℕ → List Todo → Claim → Site → Type 0
-Finds v s r place below claims.Claimed s' =
+Finds v s r place below Claim.Claimed s' =
     (place ≤ longest_path)
     × (s.shelf.slots (identity_of r) ≡ None)
     × Turns s (with_slot (with_wait s.shelf v None) (identity_of r) (Some (record { worker = v; written = None; outcome = no_result }))) (to_pin r place ∷ below) s'
-Finds v s r place below (claims.Known key height) s' =
+Finds v s r place below (Claim.Known key height) s' =
     (place + height ≤ longest_path) × IsPublished s.shelf (identity_of r) key height × Turns s (with_wait s.shelf v None) (give_known r key height below) s'
-Finds v s r place below claims.Waiting s' =
+Finds v s r place below Claim.Waiting s' =
     (place ≤ longest_path) × ((slot : Slot) × IsOpenSlot s.shelf (identity_of r) slot × ComesToEnd s.shelf v slot.worker) × Turns s (with_wait s.shelf v (Some (identity_of r))) s.todo s'
-Finds v s r place below claims.AlreadyFailed s' =
+Finds v s r place below Claim.AlreadyFailed s' =
     (place ≤ longest_path)
     × ((slot : Slot) × (s.shelf.slots (identity_of r) ≡ Some slot) × (slot.outcome ≡ failed))
     × Turns s (with_wait s.shelf v None) (failing was_failed s.todo) s'
@@ -146,7 +137,7 @@ Finds v s r place below claims.AlreadyFailed s' =
 -- a claim of what a reference names
 pub record Claims (v : ℕ) (s : Site) (r : ArcRef) (place : ℕ) (below : List Todo) (result : Result Claim Error) (s' : Site) : Type 0 where
   pub finds : IfOk result (λ c. (claim_fault s.core r ≡ None) × Finds v s r place below c s')
-  pub refused : IfErr result (λ e. ((claim_fault s.core r ≡ Some e) ⊎ ((claim_fault s.core r ≡ None) × (e ≡ errors.TooDeep) × IsTooDeep s.shelf v (identity_of r) place) ⊎ (e ≡ errors.OutOfMemory))
+  pub refused : IfErr result (λ e. ((claim_fault s.core r ≡ Some e) ⊎ ((claim_fault s.core r ≡ None) × (e ≡ Error.TooDeep) × IsTooDeep s.shelf v (identity_of r) place) ⊎ (e ≡ Error.OutOfMemory))
       × Turns s (with_wait s.shelf v None) (failing_by e s.todo) s')
 
 -- the row of a live handle is so
@@ -159,12 +150,12 @@ pub record RowIs (w : Core) (h : HandleNumber) (loose : Bool) : Type 0 where
 abbrev pub PinsAtOnce : Core → Owner → ArcRef → HandleNumber → HandleNumber → Core → Type 0
 PinsAtOnce w me r through k w' =
     (RowIs w r.handle false × (through ≡ k) × CloneCall w me r.handle (Ok k) w')
-    ⊎ (RowIs w r.handle true × ((mid : Core) × CloneCall w me r.handle (Ok through) mid × PinCall mid me through (Ok (pinnings.Pinned k)) w'))
+    ⊎ (RowIs w r.handle true × ((mid : Core) × CloneCall w me r.handle (Ok through) mid × PinCall mid me through (Ok (Pinning.Pinned k)) w'))
 
 -- the clone's value is away: a load is begun by it
 abbrev pub PinsByLoad : Core → Owner → ArcRef → HandleNumber → LoadNumber → Core → Type 0
 PinsByLoad w me r through l w' =
-    RowIs w r.handle true × ((mid : Core) × (key : ℕ) × CloneCall w me r.handle (Ok through) mid × BeginCall mid me through (Ok (beginnings.Load l key)) w')
+    RowIs w r.handle true × ((mid : Core) × (key : ℕ) × CloneCall w me r.handle (Ok through) mid × BeginCall mid me through (Ok (Beginning.Load l key)) w')
 
 -- the clone is refused; or the pin of a loose clone, or the begin of its load
 abbrev pub PinRefused : Core → Owner → ArcRef → Error → Core → Type 0
@@ -177,9 +168,9 @@ abbrev pub fresh : LoadNumber → ℕ → Reading
 fresh l t = record { load = l; node_type = t; frames = []; steps = 0 }
 
 abbrev pub PinsFirst : ℕ → Site → ArcRef → ℕ → List Todo → PinStep → Site → Type 0
-PinsFirst v s r place below (pinsteps.Held k) s' = (through : HandleNumber) × PinsAtOnce s.core (owner_worker v) r through k s'.core × GoesTo s (to_write r place through ∷ below) s'
-PinsFirst v s r place below (pinsteps.LoadBegun l) s' = (through : HandleNumber) × PinsByLoad s.core (owner_worker v) r through l s'.core × GoesTo s (to_load r place through (fresh l (type_of r.kind.0)) ∷ below) s'
-PinsFirst v s r place below pinsteps.LoadWent s' = ⊥
+PinsFirst v s r place below (PinStep.Held k) s' = (through : HandleNumber) × PinsAtOnce s.core (owner_worker v) r through k s'.core × GoesTo s (to_write r place through ∷ below) s'
+PinsFirst v s r place below (PinStep.LoadBegun l) s' = (through : HandleNumber) × PinsByLoad s.core (owner_worker v) r through l s'.core × GoesTo s (to_load r place through (fresh l (type_of r.kind.0)) ∷ below) s'
+PinsFirst v s r place below PinStep.LoadWent s' = ⊥
 
 -- what was claimed is pinned, or a load of it begins
 pub record PinsClaimed (v : ℕ) (s : Site) (r : ArcRef) (place : ℕ) (below : List Todo) (result : Result PinStep Error) (s' : Site) : Type 0 where
@@ -187,15 +178,15 @@ pub record PinsClaimed (v : ℕ) (s : Site) (r : ArcRef) (place : ℕ) (below : 
   pub refused : IfErr result (λ e. PinRefused s.core (owner_worker v) r e s'.core × GoesTo s (failing_by e s.todo) s')
 
 abbrev pub LoadsOn : {N : Type 0} → Values N → ℕ → Site → ArcRef → ℕ → HandleNumber → Reading → List Todo → PinStep → Site → Type 0
-LoadsOn m v s r place through reading below (pinsteps.Held k) s' = ReadingDoes m s.core (owner_worker v) reading (Some (ends.Pinned k)) [] s'.core × GoesTo s (to_write r place through ∷ below) s'
-LoadsOn m v s r place through reading below (pinsteps.LoadBegun l) s' = ⊥
-LoadsOn m v s r place through reading below pinsteps.LoadWent s' =
+LoadsOn m v s r place through reading below (PinStep.Held k) s' = ReadingDoes m s.core (owner_worker v) reading (Some (LoadAnswer.Pinned k)) [] s'.core × GoesTo s (to_write r place through ∷ below) s'
+LoadsOn m v s r place through reading below (PinStep.LoadBegun l) s' = ⊥
+LoadsOn m v s r place through reading below PinStep.LoadWent s' =
     (frames : List Frame) × ReadingDoes m s.core (owner_worker v) reading None frames s'.core × GoesTo s (to_load r place through (gone_on reading frames) ∷ below) s'
 
 -- its load goes on, or ends with the pin
 pub record PinsLoaded {N : Type 0} (m : Values N) (v : ℕ) (s : Site) (r : ArcRef) (place : ℕ) (through : HandleNumber) (reading : Reading) (below : List Todo) (result : Result PinStep Error) (s' : Site) : Type 0 where
   pub goes : IfOk result (λ p. LoadsOn m v s r place through reading below p s')
-  pub refused : IfErr result (λ e. ReadingDoes m s.core (owner_worker v) reading (Some (ends.Refused e)) [] s'.core × GoesTo s (failing_by e s.todo) s')
+  pub refused : IfErr result (λ e. ReadingDoes m s.core (owner_worker v) reading (Some (LoadAnswer.Refused e)) [] s'.core × GoesTo s (failing_by e s.todo) s')
 
 -- the slot of the identity is changed so, if it is claimed
 abbrev pub with_changed_slot : Shelf → Identity → (Slot → Slot) → Shelf
@@ -204,7 +195,7 @@ with_changed_slot shelf i f = with_slot shelf i (if_there (λ slot. Some (f slot
 -- the value is written, and what was written is known from now on
 pub record Writes {N : Type 0} (m : Values N) (s : Site) (r : ArcRef) (place : ℕ) (through : HandleNumber) (below : List Todo) (result : Result Written Error) (s' : Site) : Type 0 where
   pub writes : IfOk result (λ written. Turns s (with_changed_slot s.shelf (identity_of r) (λ slot. record slot { written = Some written })) (open_node r place through written below) s')
-  pub refused : IfErr result (λ e. (m.write_causes (type_of r.kind.0) e ⊎ (e ≡ errors.OutOfMemory)) × Turns s s.shelf (failing_by e s.todo) s')
+  pub refused : IfErr result (λ e. (m.write_causes (type_of r.kind.0) e ⊎ (e ≡ Error.OutOfMemory)) × Turns s s.shelf (failing_by e s.todo) s')
 
 -- the blob of what was written is stored over the keys of its references, which are all known
 pub record StoresBlob {N : Type 0} (m : Values N) (s : Site) (written : Written) (keys : List ℕ) (next : ℕ → List Todo) (result : Result ℕ Error) (s' : Site) : Type 0 where
@@ -232,7 +223,7 @@ abbrev pub is_workers_load : ℕ → Option OpenLoad → Bool
 is_workers_load v load = if_there (λ (l : OpenLoad). is_owner (owner_worker v) l.owner) false load
 
 abbrev pub is_load_of : Core → ℕ → Owner → Bool
-is_load_of w v (owners.Load l) = is_workers_load v (w.loads l.0)
+is_load_of w v (Owner.Load l) = is_workers_load v (w.loads l.0)
 is_load_of w v owner = false
 
 -- whether the handle is owned by the worker or by one of its loads
@@ -258,18 +249,18 @@ GivesBack w v (Some h) w' = (r : Result (Unit {0}) Error) × ScheduleCall w (own
 
 -- what stands at the front is done; below it stands the rest of the list
 abbrev pub Does : {N B W : Type 0} → Seen N B W → ℕ → Site → List Todo → Took W → Site → Type 0
-Does m v s (to_start r place ∷ below) (took.Claim i c) s' = (i ≡ identity_of r) × Claims v s r place below c s'
-Does m v s (to_pin r place ∷ below) (took.Pin i p) s' = (i ≡ identity_of r) × PinsClaimed v s r place below p s'
-Does m v s (to_load r place through reading ∷ below) (took.Pin i p) s' = (i ≡ identity_of r) × PinsLoaded m.values v s r place through reading below p s'
-Does m v s (to_write r place through ∷ below) (took.Write i out) s' = (i ≡ identity_of r) × Writes m.values s r place through below (seen_as m.written_of out) s'
-Does m v s (to_finish o ∷ below) (took.Store i key) s' = (i ≡ Some (identity_of o.reference)) × StoresBlob m.values s o.written o.keys (λ k. to_set o.reference o.through k o.height ∷ below) key s'
-Does m v s (to_item written keys ∷ below) (took.Store i key) s' = (i ≡ None) × StoresBlob m.values s written keys (λ k. []) key s'
-Does m v s (to_set r through key height ∷ below) (took.SetKey i u) s' = (i ≡ identity_of r) × SetsKey v s r through key height below u s'
-Does m v s (to_publish r key height ∷ below) (took.Publish i k h) s' =
+Does m v s (to_start r place ∷ below) (Took.Claim i c) s' = (i ≡ identity_of r) × Claims v s r place below c s'
+Does m v s (to_pin r place ∷ below) (Took.Pin i p) s' = (i ≡ identity_of r) × PinsClaimed v s r place below p s'
+Does m v s (to_load r place through reading ∷ below) (Took.Pin i p) s' = (i ≡ identity_of r) × PinsLoaded m.values v s r place through reading below p s'
+Does m v s (to_write r place through ∷ below) (Took.Write i out) s' = (i ≡ identity_of r) × Writes m.values s r place through below (seen_as m.written_of out) s'
+Does m v s (to_finish o ∷ below) (Took.Store i key) s' = (i ≡ Some (identity_of o.reference)) × StoresBlob m.values s o.written o.keys (λ k. to_set o.reference o.through k o.height ∷ below) key s'
+Does m v s (to_item written keys ∷ below) (Took.Store i key) s' = (i ≡ None) × StoresBlob m.values s written keys (λ k. []) key s'
+Does m v s (to_set r through key height ∷ below) (Took.SetKey i u) s' = (i ≡ identity_of r) × SetsKey v s r through key height below u s'
+Does m v s (to_publish r key height ∷ below) (Took.Publish i k h) s' =
     (i ≡ identity_of r) × (k ≡ key) × (h ≡ height) × Turns s (with_changed_slot s.shelf (identity_of r) (with_outcome (published key height))) (to_release r key height ∷ below) s'
-Does m v s (to_release r key height ∷ below) (took.Release i) s' =
+Does m v s (to_release r key height ∷ below) (Took.Release i) s' =
     (i ≡ identity_of r) × FallsAnyhow s.core s.core (is_workers_at s.core v r.node.0) s'.core × GoesTo s (give r key height below) s'
-Does m v s (to_fail fault back ∷ below) took.Fail s' = GivesBack s.core v back s'.core × SameShelf (with_failed s.shelf v) s'.shelf × (s'.todo ≡ [])
+Does m v s (to_fail fault back ∷ below) Took.Fail s' = GivesBack s.core v back s'.core × SameShelf (with_failed s.shelf v) s'.shelf × (s'.todo ≡ [])
 Does m v s todo step s' = ⊥
 
 -- One step of the worker v, on the pager, its table and its list. It touches nothing else.
@@ -277,22 +268,22 @@ pub record WalkDoes {N B W : Type 0} (m : Seen N B W) (v : ℕ) (s : Site) (step
   pub does : Does m v s s.todo step s'
 
 abbrev pub item_answer : Result ℕ Error → Option WorkerAnswer
-item_answer (Ok key) = Some (finals.Key key)
+item_answer (Ok key) = Some (WorkerAnswer.Key key)
 item_answer (Err e) = None
 
 -- a worker answers with its item's store, with the release of its entry's cell, and where it fails
 abbrev pub answer_after : {W : Type 0} → List Todo → Took W → Option WorkerAnswer
-answer_after (to_item written keys ∷ below) (took.Store i r) = item_answer r
-answer_after (to_release r key height ∷ []) step = Some (finals.Key key)
+answer_after (to_item written keys ∷ below) (Took.Store i r) = item_answer r
+answer_after (to_release r key height ∷ []) step = Some (WorkerAnswer.Key key)
 answer_after (to_fail fault back ∷ below) step = Some (answer_of_fault fault)
 answer_after todo step = None
 
 abbrev pub is_counted_claim : Result Claim Error → Bool
-is_counted_claim (Ok claims.Waiting) = false
+is_counted_claim (Ok Claim.Waiting) = false
 is_counted_claim r = true
 
 -- every step is counted but a claim that has to wait and the steps of a load
 abbrev pub is_counted : {W : Type 0} → List Todo → Took W → Bool
 is_counted (to_load r place through reading ∷ below) step = false
-is_counted todo (took.Claim i r) = is_counted_claim r
+is_counted todo (Took.Claim i r) = is_counted_claim r
 is_counted todo step = true

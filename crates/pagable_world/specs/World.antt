@@ -4,8 +4,6 @@ use Rattle.std.specs.Prelude.{ℕ, ◌≡◌, ◌≤◌, ◌==◌, ◌&&◌, ◌
 use Rattle.pagable_model.specs.{Blob.key_of, Reading.deepest, Refusals.{is_own_reading, may_refuse_writing}, Form.Form, Writing.kind_of_arc, References.{references_in, SameReferences}}
 use Rattle.pagable_world.specs.Plain.{Error, OptionalDataKey, Kind, ArcRef, Identity, HandleNumber, LoadNumber, NodeNumber, Blob, Owner, HandleRow, WorkerAnswer, SameAt, Meaning, Shape, Types}
 use Rattle.pagable_world.specs.{Plain.{is_pinned_kind, if_there}, Kinds.{find_row, pins, is_in_memory}}
-use Rattle.pagable_model.specs.declared.data_key.OptionalDataKey.TheVariants as optional
-use Rattle.pagable_world.specs.declared.events.WorkerAnswer.TheVariants as finals
 
 -- a node by the type of its value and its key
 pub record Cell : Type 0 where
@@ -107,8 +105,8 @@ pub data Fault : Type 0 where
   was_failed : Fault
 
 abbrev pub answer_of_fault : Fault → WorkerAnswer
-answer_of_fault (was_refused e) = finals.Failed e
-answer_of_fault was_failed = finals.AlreadyFailed
+answer_of_fault (was_refused e) = WorkerAnswer.Failed e
+answer_of_fault was_failed = WorkerAnswer.AlreadyFailed
 
 -- what a worker has to do
 pub data Todo : Type 0 where
@@ -171,7 +169,7 @@ abbrev pub type_at : Core → ℕ → Option ℕ
 type_at w n = if_there (λ (cell : Cell). Some cell.node_type) None (w.cells n)
 
 abbrev pub key_at : Core → ℕ → OptionalDataKey
-key_at w n = if_there (λ (cell : Cell). cell.key) optional.None (w.cells n)
+key_at w n = if_there (λ (cell : Cell). cell.key) OptionalDataKey.None (w.cells n)
 
 -- whether a live node has its value in memory
 abbrev pub is_here : Core → ℕ → Bool
