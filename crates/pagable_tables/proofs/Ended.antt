@@ -17,9 +17,8 @@ none-left at refs rows top fits n q down = grind (arith, nat_tests)
 none-owned : (n : ℕ) (rows : List HandleRow) → ((q : ℕ) → sum_by (λ h. owns h n q) rows ≡ 0) → times (is_owned_by (owner_value n)) rows ≡ 0
 none-owned n [] none = refl
 none-owned n (x ∷ xs) none =
-    let a = sum_by-cons (λ h. owns h n x.number.0) x xs in
     let rest = none-owned n xs (λ q. let k = sum_by-cons (λ h. owns h n q) x xs in let l = none q in omega arith) in
-    grind (arith, nat_tests, sum_by-cons (λ h. one (is_owned_by (owner_value n) h)) x xs)
+    grind (arith, nat_tests, sum_by-cons (λ h. one (is_owned_by (owner_value n) h)) x xs, sum_by-cons (λ h. owns h n x.number.0) x xs)
 
 refusal : (w w' : Core) (e : Error) → IsListRefusal w w' e → CannotList w w'
 refusal w w' e r = grind (arith, nat_tests)

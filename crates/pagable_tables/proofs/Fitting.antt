@@ -173,12 +173,11 @@ pub fits-same : (at at' : ℕ → Option Counts) (refs refs' : ℕ → List ArcR
     → ((m : ℕ) → at' m ≡ at m) → ((m : ℕ) → refs' m ≡ refs m) → Fits at' refs' rows top stack owns_nothing
 fits-same at at' refs refs' rows top stack fits same refs-same = grind (arith, nat_tests, named, chain-frame)
 
-fallen-at : (o : Option Counts) (refs : List ArcRef) → falls_in o ≡ true → Right o refs → (holds_in o ≡ 0) ⊎ ((keyed_in o ≡ true) × (pins_in o ≡ 0))
-fallen-at x0 refs w r = grind (arith, nat_tests)
-
 pub fallen : (at : ℕ → Option Counts) (refs : ℕ → List ArcRef) (rows : List HandleRow) (n : ℕ) (ns : List ℕ) → Fits at refs rows n (n ∷ ns) owns_nothing → HasFallen at rows n
 fallen at refs rows n ns fits =
-    elim (fallen-at (at n) (refs n) (first-waits at refs rows n ns owns_nothing fits) (fits.right n)) [
+    let w = first-waits at refs rows n ns owns_nothing fits in let r = fits.right n in
+    let gone : (holds_in (at n) ≡ 0) ⊎ ((keyed_in (at n) ≡ true) × (pins_in (at n) ≡ 0)) = grind (arith, nat_tests) in
+    elim gone [
       | inl none ↦ inl (sym (fits.holding n) ∙ none)
       | inr both ↦ inr (both.0, sym (fits.pinned n) ∙ both.1)
     ]

@@ -3,12 +3,12 @@ use Rattle.pagable_tables.proofs.Words.{◌≡◌, ℕ, ◌<◌, ◌==◌, List,
 use Rattle.pagable_tables.proofs.Words.{HandleNumber, LoadNumber, NodeNumber, HandleRow, Owner, if_there, Core, OpenLoad, Places, of_cell, of_key, greatest, AreHandlesFull, refused_if, where_so}
 use Rattle.pagable_tables.proofs.Words.{spent, load_fault, references_fault, MayOwnLoad, root_fault, end_fault, is_owned_in, MayEnd, Tables, live, room, AreSound, counts_at, plain_of, Ending, IsReady}
 use Rattle.pagable_tables.proofs.Words.{◌&&◌, Bool, true, false, length, inl, inr, if◌then◌else◌, ◌≢◌, Result, option_map, AllPairs, sum_by_push, Mode, Blob, Among, one, times, changed}
-use Rattle.pagable_tables.proofs.Words.{find_row, pins, sharing, is_handle, is_owner, is_owned_by, is_pin, is_share, owner_value, IsHandleBefore, Last, Alike, Falls, nobody, moved, row_of}
+use Rattle.pagable_tables.proofs.Words.{find_row, pins, sharing, is_handle, is_owned_by, is_pin, is_share, owner_value, IsHandleBefore, Last, Alike, Falls, nobody, moved, row_of}
 use Rattle.pagable_tables.proofs.Words.{is_named_by, with_handle, with_mode, without_load, with_pin, Installs, Holdings, LoadRow, load_at, cell_in, has_value, is_valued, with_tables}
 use Rattle.pagable_tables.proofs.{Words.{is_plain_pin, SoFar, core_of, load_in, MayHold, IsWider, has_come}, Coming.turned, Newer.{OnlyNewer, owned-mode, newer-then, newer-moved, newer-mode}}
 use Rattle.pagable_tables.proofs.{Newer.{newer-handle, newer-falls}, Worlds.fault-by, Begun.{begins, begun}, Taken.{load-closed, owned-given, moved-times, owned-moved, no-load}, Joined.moved-turned}
 use Rattle.pagable_tables.proofs.{Joined.turned-sum, Named.{moved-nobody, named-none}, Regiven.{found-first, passes-here, passes-none}, Stays.{seen-before, stays-pinned, not-named}}
-use Rattle.pagable_tables.proofs.keeps.{EndCalls.both-none, HandleCalls.{named-unlisted, moved-to-value}, Comes.{not-list, not-a-value}, LoadCalls.may-hold}
+use Rattle.pagable_tables.proofs.keeps.{EndCalls.both-none, HandleCalls.{named-unlisted, moved-to-value}, Comes.{not-a-value}, LoadCalls.may-hold}
 use Rattle.pagable_tables.{proofs.{keeps.Rows.{among-map, found-among, once, ordered-map, sum-map}, Bits.{and-left, and-all}}, specs.Core.IsWhole}
 
 module _ (w : Core) (me : Owner) (l : LoadNumber) (node_type : ℕ) (refs : List ArcRef) (none : end_fault w me l node_type refs ≡ None) where
@@ -93,14 +93,8 @@ module _ (t t1 : Tables) (stored : ℕ → Option Blob) (closed lists : Bool) (f
   listed : (q : ℕ) → times (λ (h : HandleNumber). h.0 == q) t.holdings.list.items ≡ times (λ h. is_handle q h && is_owned_by Owner.List h) (moved s o (live t.holdings.handles.places.items))
   listed = (moved-to-value was.core s (named-unlisted was.core (Owner.Load l) rs refl good) row.node.0).owners_there.listed
 
-  unlisted : is_owner Owner.List me ≡ false
-  unlisted = not-list (plain_of t) me holder
-
   unvalued : is_valued me ≡ false
   unvalued = not-a-value (plain_of t) me holder
-
-  unloaded : is_owner (Owner.Load l) me ≡ false
-  unloaded = no-load (plain_of t) me l may
 
   abbrev w : Core
   w = core_of t stored closed failures
@@ -157,7 +151,7 @@ module _ (t t1 : Tables) (stored : ℕ → Option Blob) (closed lists : Bool) (f
 
     owned-pinned : (q : ℕ) → is_owned_in u (Owner.Load l) q ≡ given q
     owned-pinned q = found-first (is_owned_by (Owner.Load l)) q mid (x ∷ []) (grind (arith, nat_tests, passes-here, passes-none,
-        unloaded)) ∙ owned-mode (Owner.Load l) q (is_handle h.0) Mode.LoosePinned rows0 ∙ owned-moved s o (Owner.Load l) q w.rows refl
+        no-load (plain_of t) me l may)) ∙ owned-mode (Owner.Load l) q (is_handle h.0) Mode.LoosePinned rows0 ∙ owned-moved s o (Owner.Load l) q w.rows refl
 
     spared-pin : given (t.holdings.last_handle + 1) ≡ false
     spared-pin = grind (arith, nat_tests, and-left, owned-given (plain_of t) (Owner.Load l) (t.holdings.last_handle + 1) was.core.handles)

@@ -1,7 +1,7 @@
 -- What loads own is what they owned, or has come since.
 use Rattle.pagable_tables.proofs.Words.{◌≡◌, ℕ, ◌+◌, ◌<◌, ◌≤◌, ◌∷◌, [], Bool, true, false, not, List, refl, ap, sym, ◌∙◌, arith, Option, Some, None, inl, inr, ◌⊎◌, ◌≢◌, Result, Ok, Err, is_some}
 use Rattle.pagable_tables.proofs.Words.{option_map, cases_eq, Error, HandleNumber, LoadNumber, NodeNumber, HandleRow, Owner, Mode, Kind, ArcRef, OptionalDataKey, type_of, changed, is_handle, is_owner}
-use Rattle.pagable_tables.proofs.Words.{is_owned_by, owner_value, find_row, mode_of, Core, Last, Alike, Falls, only_handle, with_handle, with_node, next_node, with_cached_if_open, is_named_by, moved}
+use Rattle.pagable_tables.proofs.Words.{is_owned_by, owner_value, find_row, mode_of, Core, Last, Alike, Falls, only_handle, with_handle, with_node, next_node, is_named_by, moved}
 use Rattle.pagable_tables.proofs.Words.{with_mode, UnpinCall, ReleaseCall, SetKeyCall, ScheduleCall, OfferCall, CloseCall, is_owned_in, adopted, first_key, Adopts, DropCall, LazyCall, LoadRow, Tables}
 use Rattle.pagable_tables.proofs.{Words.{load_at, plain_of, load_in, Makes, AreLater, nat_tests, Among, subst, owner_worker, reach_at, InReach, IsNoLess, Reach, IndexMap, worker_at}, Regiven.owned}
 use Rattle.pagable_tables.proofs.{Regiven.{passes-here, passes-left, no-entry, unlisting}, Taken.owned-moved, Bits.{and-left, had, there-is}, Worlds.owner-same, keeps.Rows.{found-among, found-push}}
@@ -151,9 +151,6 @@ pub makes-newer : {w w' : Core} (node : NodeNumber) (mode : Mode) (owner : Owner
 makes-newer {w} node mode owner (Ok k) m = newer-then (newer-handle w node mode owner) (newer-alike m.made.1)
 makes-newer node mode owner (Err e) m = newer-alike m.refused.stays
 
-newer-cached : (w : Core) (kind : Kind) (key : ℕ) (n : NodeNumber) → OnlyNewer w (with_cached_if_open w kind key n)
-newer-cached w kind key n = grind (arith, nat_tests)
-
 -- a node comes with its references and a handle
 pub newer-node : (w : Core) (node_type : ℕ) (own_key : OptionalDataKey) (references : List ArcRef) (mode : Mode) (owner : Owner) → OnlyNewer w (with_handle (with_node w node_type own_key references) (next_node w) mode owner)
 newer-node w node_type own_key references mode owner =
@@ -161,7 +158,7 @@ newer-node w node_type own_key references mode owner =
 
 pub newer-adopted : (w : Core) (l : LoadNumber) (kind : Kind) (key : ℕ) (own_key : OptionalDataKey) (references : List ArcRef) → OnlyNewer w (adopted w l kind key own_key references)
 newer-adopted w l kind key own_key references =
-    newer-then (newer-node w (type_of kind.0) own_key references (mode_of kind.0) (Owner.Load l)) (newer-cached (with_handle (with_node w (type_of kind.0) own_key references) (next_node w) (mode_of kind.0) (Owner.Load l)) kind key (next_node w))
+    newer-then (newer-node w (type_of kind.0) own_key references (mode_of kind.0) (Owner.Load l)) (grind (arith, nat_tests))
 
 pub lazy-newer : {w w' : Core} (me : Owner) (l : LoadNumber) (kind : Kind) (key : ℕ) (r : Result HandleNumber Error) → LazyCall w me l kind key r w' → OnlyNewer w w'
 lazy-newer {w} me l kind key (Ok k) call = elim call.makes.3 [

@@ -1,5 +1,5 @@
 -- What has gone so far, after one step of a cascade, and after a handle that is given.
-use Rattle.pagable_tables.proofs.Words.{◌&&◌, ◌++◌, ◌+◌, ◌<◌, ◌==◌, ◌||◌, ◌∙◌, ◌∷◌, ◌≡◌, ◌≢◌, ◌≤◌, ◌⊎◌, AreNewEntries, Begins, Bool, CellsStay, Core, Error, FallsBy, GivesUp, HandleNumber}
+use Rattle.pagable_tables.proofs.Words.{◌&&◌, ◌++◌, ◌+◌, ◌<◌, ◌==◌, ◌∙◌, ◌∷◌, ◌≡◌, ◌≢◌, ◌≤◌, ◌⊎◌, AreNewEntries, Begins, Bool, Core, Error, FallsBy, GivesUp, HandleNumber}
 use Rattle.pagable_tables.proofs.Words.{HandleRow, HasPlaces, Holdings, IsApart, IsClosed, IsFalling, IsListRefusal, IsUnlisted, IsWithin, List, MustList, NodeNumber, Option, Owner, Result, SoFar}
 use Rattle.pagable_tables.proofs.Words.{Some, Steps, TellsListing, [], ap, append-nil, append_assoc, arith, cell_in, counts_at, entries_of, false, filter, filter-append, first_cause, held}
 use Rattle.pagable_tables.proofs.Words.{if◌then◌else◌, inl, inr, is_at, is_handle, is_keyed, is_outside, is_owned_by, is_owner, is_pin, is_some, left_rows, length, length-append, live}
@@ -91,9 +91,6 @@ module _ {before w : Core} {given : ℕ → Bool} {lists stays : Bool} {t popped
 
   added : new.list.items ≡ t.list.items ++ came
   added = ap (λ (h : Holdings). h.list.items) g.same ∙ g.comes.comes.list ∙ ap (λ (h : Holdings). h.list.items ++ (if g.listed then record { 0 = h.last_handle + 1 } ∷ [] else [])) same
-
-  room : HasPlaces t new
-  room = grind (arith, nat_tests)
 
   -- why none came
   wanting : (e : Error) → g.listed ≡ false → IsUnlisted gap e → IsListRefusal w (with_tables w new) e
@@ -187,7 +184,7 @@ module _ {before w : Core} {given : ℕ → Bool} {lists stays : Bool} {t popped
         list = grind (arith, nat_tests, map-append, added, append_assoc);
         last = grind (arith, nat_tests, last, length-append);
         within = grind (arith, nat_tests, last, since, g.comes.comes.left, f.within);
-        places = let p = room in let q = f.places in record { handles = omega arith; entries = omega arith };
+        places = let p : HasPlaces t new = grind (arith, nat_tests) in let q = f.places in record { handles = omega arith; entries = omega arith };
         cells = λ n there. let s = g.cells n there in s.1 ∙ ap cell_in (counts n) ∙ f.cells n (sym (ap is_some (counts n)) ∙ s.0);
         holds = holds;
         least = least;
@@ -209,11 +206,6 @@ module _ {before w : Core} {given : ℕ → Bool} {lists : Bool} {t popped new :
       entered-on f g same counts pinned few w.rows refl given' (and_one f.gone x.number.0) f.begins
       (rows-leaves w.rows f.entries (live popped.handles.places.items) (live g.left.places.items) f.gone x g.leaves.becomes.rows (rows ∙ f.rows) apart.unentered) apart.kept holds least
       (λ falls. let a = gives-fewer g in let b = ap length rows in omega arith)
-
--- the first node that falls is done
-pub settled : (before w : Core) (given : ℕ → Bool) (lists : Bool) (t new : Holdings) → SoFar before w given lists t → CellsStay (counts_at t.nodes) (counts_at new.nodes) → t.top ≢ 0
-    → new ≡ record t { nodes = new.nodes; top = new.top } → SoFar before w given lists new
-settled before w given lists t new f stay some same = subst (SoFar before w given lists) (sym same) (grind (arith, nat_tests, tells-as, must-as))
 
 -- no handle comes where there was none
 none-comes : {old new : Holdings} {stack : List ℕ} {x : HandleRow} {lists : Bool} → GivesUp old stack x false lists new → (m : ℕ) → held m (live old.handles.places.items) ≡ 0
@@ -248,17 +240,14 @@ pub steps-on : (before w : Core) (given : ℕ → Bool) (lists : Bool) (t new : 
     → IsFalling t stack owns_nothing → t.top ≢ 0 → Steps t stack lists r new → SoFar before w given lists new
 steps-on before w given lists t new stack r f falling some s =
     elim s.what [
-      | inl done ↦ settled before w given lists t new f s.cells some done.1
+      | inl done ↦ let stay = s.cells in subst (SoFar before w given lists) (sym done.1) (grind (arith, nat_tests, tells-as, must-as))
       | inr gone ↦ owned gone.0 gone.1 gone.3
     ]
   where
-    bits : (a g e : Bool) → one (a && not (g || e)) ≤ one (a && not g)
-    bits a g e = grind (arith, nat_tests)
-
     owned : (x : HandleRow) (n : ℕ) → FallsBy t x n lists new → SoFar before w given lists new
     owned x n by =
         one-goes given f by.gives by.same by.counts falling.fits.pinned (f.few some) (unlisted-apart f by.gives by.same (ap (is_owner Owner.List) by.owner))
-        (within-less given (and_one f.gone x.number.0) given f.gone w.rows (λ r. bits (given r) (f.gone r) (r == x.number.0)) f.holds) (least-more f by)
+        (within-less given (and_one f.gone x.number.0) given f.gone w.rows (λ r. grind (arith, nat_tests)) f.holds) (least-more f by)
 
 -- a handle is given that the list doesn't own, or one apart from the list
 pub gives-on : (before w : Core) (given : ℕ → Bool) (lists : Bool) (t new : Holdings) (stack : List ℕ) (x : HandleRow) → (f : SoFar before w given lists t)

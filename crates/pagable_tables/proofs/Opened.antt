@@ -2,7 +2,7 @@
 use Rattle.pagable_tables.proofs.Words.{◌≡◌, ℕ, ◌<◌, ◌≤◌, Bool, true, List, arith, Option, Some, None, ◌≢◌, ◌⊎◌, nat_tests, Error, OptionalDataKey, HandleNumber, LoadNumber, HandleRow, Owner, Mode}
 use Rattle.pagable_tables.proofs.Words.{if_there, is_owner, is_loose, is_in_memory, pins, Core, Cell, OpenLoad, greatest, row_at, rank, earlier, where_so, refused_if, spent, handle_fault, load_fault}
 use Rattle.pagable_tables.proofs.Words.{closed_fault, OwnsLoad, Refused, Counts, LoadRow, pins_in, cell_in, key_in, load_in, option_map, or_else, not, if◌then◌else◌, reference_fault}
-use Rattle.pagable_tables.proofs.Words.{references_fault, fits_mode, is_type, type_of, type_at, ArcRef, [], ◌∷◌, ◌==◌, ◌+◌, is_some, updated, ◌&&◌, NodeNumber, Kind, is_usable}
+use Rattle.pagable_tables.proofs.Words.{references_fault, fits_mode, type_of, type_at, ArcRef, [], ◌∷◌, ◌==◌, ◌+◌, is_some, updated, ◌&&◌, NodeNumber, Kind, is_usable}
 use Rattle.pagable_tables.proofs.Words.{offer_fault, ap, subst, Ok, Err, mode_of, usable, Alike, with_handle, recall_fault, RecallCall, Makes}
 
 -- a load that wasn't open comes and goes
@@ -95,9 +95,6 @@ pub none-yet : (o : Option LoadRow) (last : ℕ) → (is_some (option_map load_i
 none-yet x0 last h = grind (arith, nat_tests)
 
 module _ (w : Core) (me : Owner) (kind : Kind) (key : ℕ) (h : HandleNumber) where
-  abbrev kind-fault : Option Error
-  kind-fault = refused_if (not (is_type (type_of kind.0) (if_there (λ (row : HandleRow). type_at w row.node.0) None (row_at w h)))) Error.WrongKind
-
   abbrev last-fault : Option Error
   last-fault = where_so (not w.closed && is_usable w kind key) (spent w.last.handle)
 

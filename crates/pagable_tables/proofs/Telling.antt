@@ -1,8 +1,8 @@
 -- A handle has gone and an entry may have come: which cells must be listed then, and what is told of it.
 use Rattle.pagable_tables.proofs.Words.{◌≡◌, ℕ, ◌+◌, ◌≤◌, ◌&&◌, Bool, true, false, not, if◌then◌else◌, List, refl, ap, ◌∙◌, arith, Option, Some, inl, inr, is_some, nat_lt, nat_eq, nat_tests}
 use Rattle.pagable_tables.proofs.Words.{sum_by-append, OptionalDataKey, HandleRow, one, times, if_there, is_at, is_pin, is_owned_by, owner_value, held, pins, has_key, Core, Cell, IsWithin, IsClosed}
-use Rattle.pagable_tables.proofs.Words.{is_keyed, is_outside, left_rows, held_outside, pins_outside, Counts, Holdings, live, counts_at, cell_in, HasFallen, SoFar, ◌⊎◌, NodeNumber, Owner}
-use Rattle.pagable_tables.proofs.{Words.{Mode, is_shared, is_pinning, entry, is_listing, with_tables, length, Error, IsListRefusal}, Left.{times-left, entries-none, times-le, sum-most}}
+use Rattle.pagable_tables.proofs.Words.{is_keyed, is_outside, left_rows, held_outside, pins_outside, Counts, Holdings, live, counts_at, cell_in, HasFallen, SoFar, ◌⊎◌, Owner}
+use Rattle.pagable_tables.proofs.{Words.{Mode, is_shared, is_pinning, is_listing, with_tables, length, Error, IsListRefusal}, Left.{times-left, entries-none, times-le, sum-most}}
 
 -- what is outside the one set is outside the other, or between them
 cut : (f : HandleRow → Bool) (gone s : ℕ → Bool) (rows : List HandleRow) → times (λ h. f h && not (s h.number.0)) rows
@@ -42,10 +42,6 @@ module _ {before w : Core} {given : ℕ → Bool} {lists : Bool} {t : Holdings} 
 -- what a listing handle is: the last pin of a cell without a key
 pub listing-is : (c : Counts) (m : Mode) → is_listing c m ≡ true → (is_pinning m ≡ true) × (is_shared m ≡ false) × (c.pins ≡ 1) × (nat_lt 0 c.key ≡ false)
 listing-is c m e = grind (arith, nat_tests)
-
--- a new entry pins nothing
-pub entry-pins : (listed : Bool) (k n : ℕ) (node : NodeNumber) → (if listed then one (is_pin n (entry k node)) else 0) ≡ 0
-entry-pins x0 k n node = grind (arith, nat_tests)
 
 pub cell-keyed : (o : Option Counts) (c : Counts) (cell : Option Cell) → o ≡ Some c → (is_some o ≡ true → cell_in o ≡ cell)
     → has_key (if_there (λ (c : Cell). c.key) OptionalDataKey.None cell) ≡ nat_lt 0 c.key

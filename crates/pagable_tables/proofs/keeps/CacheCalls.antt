@@ -1,7 +1,7 @@
 -- Calls on the cache and on room keep the world whole.
-use Rattle.pagable_tables.proofs.Words.{Among, HandleRow, ◌&&◌, ◌<◌, ◌==◌, ◌∙◌, ◌≡◌, ArePlaced, Bool, ClearCall, Core, Err, Error, HandleNumber, IsEntryWhole, IsWhole, Kind, MayHold, Mode, NodeNumber}
-use Rattle.pagable_tables.proofs.Words.{None, OfferCall, Ok, Option, Owner, RecallCall, ReserveCall, Result, Some, Suits, arith, false, fits_mode, greatest, if◌then◌else◌, inl, inr, is_shared}
-use Rattle.pagable_tables.proofs.{Words.{is_shared_kind, mode_of, nat_tests, refl, true, usable, with_cached, with_known, ℕ}, keeps.Kept.{GoOn, alike-rows, is-in, keeps-whole, loads-stay}}
+use Rattle.pagable_tables.proofs.Words.{Among, HandleRow, ◌&&◌, ◌<◌, ◌==◌, ◌∙◌, ◌≡◌, ArePlaced, Bool, ClearCall, Core, Err, Error, HandleNumber, IsEntryWhole, IsWhole, Kind, MayHold, NodeNumber}
+use Rattle.pagable_tables.proofs.Words.{None, OfferCall, Ok, Option, Owner, RecallCall, ReserveCall, Result, Some, Suits, arith, false, greatest, if◌then◌else◌, inl, inr, is_shared}
+use Rattle.pagable_tables.proofs.{Words.{is_shared_kind, mode_of, nat_tests, refl, usable, with_cached, with_known, ℕ}, keeps.Kept.{GoOn, alike-rows, is-in, keeps-whole, loads-stay}}
 use Rattle.pagable_tables.proofs.keeps.{Kept.{same-rows, there-then}, Comes.{beside, handle-on, suits-like}, Fallen.{alike-opened, falls-opened, opened}, Rows.{counted, found-among}}
 use Rattle.pagable_tables.proofs.keeps.Told.{alike-whole, roomy, roomy-whole, settles, told-whole}
 
@@ -16,9 +16,6 @@ reserve-whole n r whole call placed = alike-whole whole call.stays placed
 
 pub mode-shared : (kind : ℕ) → is_shared (mode_of kind) ≡ is_shared_kind kind
 mode-shared kind = grind (arith, nat_tests)
-
-pub fits-shared : (kind : ℕ) (mode : Mode) → fits_mode kind mode ≡ true → is_shared mode ≡ is_shared_kind kind
-fits-shared kind mode fits = grind (arith, nat_tests)
 
 -- so the mode of its kind suits the node
 pub known-suits : {w : Core} → IsWhole w → (kind key n : ℕ) → usable w kind key ≡ Some n → Suits w (record { 0 = n }) (mode_of kind)
@@ -50,7 +47,8 @@ offer-whole {w} me kind key h (Ok None) whole holder call placed =
     let (stands_open, none, leaves) = offers in
     let there = (found-among h.0 w.rows row owns.live).0 in
     let given = (whole.handles.nodes_numbered row.node.0 (there-then whole row there)).1 in
-    let shares = λ (x : HandleRow) (among : Among w.rows x) (at : x.node.0 ≡ row.node.0). (alike-rows whole).same x row among there at ∙ fits-shared kind.0 row.mode owns.as_asked in
+    let fits : is_shared row.mode ≡ is_shared_kind kind.0 = grind (arith, nat_tests, owns.as_asked) in
+    let shares = λ (x : HandleRow) (among : Among w.rows x) (at : x.node.0 ≡ row.node.0). (alike-rows whole).same x row among there at ∙ fits in
     let entry : IsEntryWhole (opened w) kind.0 row.node.0 = grind (arith, nat_tests) in
     settles (roomy-whole (cached-whole {w = opened w} kind key row.node whole refl entry)) (alike-opened leaves) placed
 offer-whole {w} me kind key h (Ok (Some k)) whole holder call placed = elim call.answers.3 [

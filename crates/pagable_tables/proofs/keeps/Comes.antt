@@ -22,12 +22,6 @@ module _ {w : Core} (whole : IsWhole w) (x : HandleRow) (cells : ℕ → Option 
   abbrev grown : Core
   grown = roomy (record w { rows = w.rows ++ x ∷ []; cells = cells; last = record w.last { node = last; handle = w.last.handle + 1 } })
 
-  held-push : (n : ℕ) → held n grown.rows ≡ held n w.rows + one (is_at n x)
-  held-push n = sum_by_push (λ h. one (is_at n h)) w.rows x
-
-  others : (n : ℕ) → n ≢ x.node.0 → cells n ≡ w.cells n
-  others n other = same n (inl other)
-
   come : IsNew w grown (is_shared x.mode) x
   come = record { above = omega arith; few = omega arith; like = elim like [ inl old ↦ inl old | inr new ↦ inr (new.0, new.1, refl, new.2) ] }
 
@@ -38,7 +32,7 @@ module _ {w : Core} (whole : IsWhole w) (x : HandleRow) (cells : ℕ → Option 
         ordered = ordered-push w.rows x (λ y among. let a = whole.handles.numbered y among in omega arith) whole.handles.ordered;
         fresh = is_shared x.mode;
         rows = λ h among. elim (among-both w.rows (x ∷ []) h among) [ inl old ↦ inl (stays-old old) | inr new ↦ inr (subst (IsNew w grown (is_shared x.mode)) (sym (among-one x h new)) come) ];
-        live = λ n. grind (arith, nat_tests, held-push, others);
+        live = λ n. grind (arith, nat_tests, sum_by_push (λ h. one (is_at n h)) w.rows x, same n);
         typed = λ n t given is. sym (ap type_in (same n (inr given))) ∙ is;
         keyed = λ n like given none. ap keyed_in (same n (inr given)) ∙ none;
       }

@@ -32,19 +32,17 @@ schedule-whole {w} {w'} me h (Ok u) whole holder call placed = let (row, owns, d
     listed row (among, number) mine mode =
         moved-so whole (only_handle h) Owner.List (w.list ++ h ∷ [])
         (λ q.
-        let b = whole.owners_there.listed q in
-        grind (arith, nat_tests, sum_by_push (λ (k : HandleNumber). one (k.0 == q)) w.list h, lists-moved whole h row Owner.List among number q))
+        grind (arith, nat_tests, sum_by_push (λ (k : HandleNumber). one (k.0 == q)) w.list h, lists-moved whole h row Owner.List among number q, whole.owners_there.listed q))
         (λ x there e. ap (λ (y : HandleRow). y.mode) (once w.rows whole.handles.ordered x row there among (grind (arith, nat_tests))) ∙ mode) (λ closed. absurd (cc))
 schedule-whole me h (Err e) whole holder call placed = alike-whole whole (alike-opened call.refused.stays) placed
 
 pub take-whole : {w w' : Core} (me : Owner) (i : ℕ) (found : Option HandleNumber) → IsWhole w → MayHold w me → TakeCall w me i found w' → ArePlaced w' → IsWhole w'
-take-whole {w} {w'} me i (Some h) whole holder call placed = settles taken call.1 placed
+take-whole {w} {w'} me i (Some h) whole holder call placed =
+    settles (moved-so whole (only_handle h) me (remove w.list i) still (λ x there e. holder-in w x.mode me holder)
+    (λ closed. let f : None ≡ Some h = ap (λ l. slice_get l i) (sym (whole.shut closed).0) ∙ call.0 in absurd (cc))) call.1 placed
   where
     less : (q : ℕ) → times (λ (k : HandleNumber). k.0 == q) (remove w.list i) + one (h.0 == q) ≡ times (λ (k : HandleNumber). k.0 == q) w.list
     less q = grind (arith, nat_tests, sum_by-remove (λ (k : HandleNumber). one (k.0 == q)) w.list i h (slice_get_within w.list i h call.0), slice_get_within, get_or_from_slice_get)
-
-    lists-one : (x : HandleRow) → 0 < one (of_list h.0 x) → (x.number.0 ≡ h.0) × (is_owned_by Owner.List x ≡ true)
-    lists-one x some = grind (arith, nat_tests)
 
     -- the entry's handle is the list's
     entry : (x : HandleRow) × Among w.rows x × (0 < one (of_list h.0 x))
@@ -53,14 +51,8 @@ take-whole {w} {w'} me i (Some h) whole holder call placed = settles taken call.
     still : (q : ℕ) → times (λ (k : HandleNumber). k.0 == q) (remove w.list i) ≡ times (of_list q) (moved (only_handle h) me w.rows)
     still q =
         let (row, among, counts) = entry in
-        let (number, owned) = lists-one row counts in
-        let b = whole.owners_there.listed q in
-        grind (arith, nat_tests, less q, lists-moved whole h row me among number q)
-
-    taken : IsWhole (roomy (record w { rows = moved (only_handle h) me w.rows; list = remove w.list i }))
-    taken =
-        moved-so whole (only_handle h) me (remove w.list i) still (λ x there e. holder-in w x.mode me holder)
-        (λ closed. let f : None ≡ Some h = ap (λ l. slice_get l i) (sym (whole.shut closed).0) ∙ call.0 in absurd (cc))
+        let number : row.number.0 ≡ h.0 = grind (arith, nat_tests) in let owned : is_owned_by Owner.List row ≡ true = grind (arith, nat_tests) in
+        grind (arith, nat_tests, less q, lists-moved whole h row me among number q, whole.owners_there.listed q)
 take-whole me i None whole holder call placed = alike-whole whole call.1 placed
 
 pub release-whole : {w w' : Core} (me : Owner) (h : HandleNumber) (r : Result (Unit {0}) Error) → IsWhole (opened w) → ReleaseCall w me h r w' → ArePlaced (opened w') → IsWhole (opened w')

@@ -1,5 +1,5 @@
 -- A world that is told alike, or whose rows are changed one by one, stays whole, while rows and list are in their places.
-use Rattle.pagable_tables.proofs.{keeps.Kept.{GoOn, HasLike, IsIn, IsOld, is-in, keeps-whole, loads-stay, may-own, other-mode, same-rows, stays-old}, Words.{◌&&◌, ◌==◌, ◌∙◌, ◌≡◌, Alike}}
+use Rattle.pagable_tables.proofs.{keeps.Kept.{GoOn, HasLike, IsIn, IsOld, is-in, keeps-whole, loads-stay, may-own, same-rows, stays-old}, Words.{◌&&◌, ◌==◌, ◌∙◌, ◌≡◌, Alike}}
 use Rattle.pagable_tables.proofs.Words.{Among, ArePlaced, Bool, Core, HandleNumber, HandleRow, IsWhole, List, Mode, NodeNumber, Owner, SameAt, Some, [], ap, arith, changed, false}
 use Rattle.pagable_tables.proofs.Words.{if◌then◌else◌, inl, is_at, is_handle, is_loose, is_owned_by, is_shared, length, nat_lt, nat_tests, one, refl, row_at, subst, sym, times, true}
 use Rattle.pagable_tables.proofs.{Words.{with_mode, ℕ}, keeps.Rows.{among-changed, among-to, each-changed, found-among, once, ordered-map, sum-map}}
@@ -62,9 +62,6 @@ module _ {w : Core} (whole : IsWhole w) (test : HandleRow → Bool) (f : HandleR
   abbrev turned : Core
   turned = roomy (record w { rows = changed test f w.rows; list = list })
 
-  to-number : (x : HandleRow) → (to x).number.0 ≡ x.number.0
-  to-number x = each-changed test f (λ y. y.number.0 ≡ x.number.0) x (λ e. number x) (λ e. refl)
-
   to-node : (x : HandleRow) → (to x).node ≡ x.node
   to-node x = each-changed test f (λ y. y.node ≡ x.node) x (λ e. node x) (λ e. refl)
 
@@ -83,7 +80,7 @@ module _ {w : Core} (whole : IsWhole w) (test : HandleRow → Bool) (f : HandleR
   turned-whole listed owners none =
       let on : GoOn w turned = record {
         last = (omega arith, omega arith, omega arith);
-        ordered = ordered-map to w.rows to-number whole.handles.ordered;
+        ordered = ordered-map to w.rows (λ x. grind (arith, nat_tests, number x)) whole.handles.ordered;
         fresh = false;
         rows = λ h among. inl (among-changed test f (IsOld w.rows) w.rows h among
             (λ x there e. record { row = x; there = there; number = sym (number x); node = sym (node x); shared = sym (shared x there e); loose = loose x there e }) (λ x there e. stays-old there));
@@ -118,7 +115,7 @@ module _ {w : Core} (whole : IsWhole w) (h : HandleNumber) (row : HandleRow) (mo
       (λ q. whole.owners_there.listed q ∙ sym (sum-map (λ x. one (is_handle q x && is_owned_by Owner.List x)) (λ x. one (is_handle q x && is_owned_by Owner.List x))
       (λ x. if is_handle h.0 x then in-mode x else x) w.rows
       (λ x among. each-changed (is_handle h.0) in-mode (λ y. one (is_handle q y && is_owned_by Owner.List y) ≡ one (is_handle q x && is_owned_by Owner.List x)) x (λ e. refl) (λ e. refl))))
-      (λ x among e. other-mode w x.mode mode x.owner (is-in whole x among) (λ own. waits (ap (λ (y : HandleRow). y.owner) (sym (the-row x among e)) ∙ own)))
+      (λ x among e. let i = is-in whole x among in let r = the-row x among e in grind (arith, nat_tests, waits))
       (λ so. (whole.shut so).0)
 
   pub moded-on : GoesOn w (with_mode w h mode)
