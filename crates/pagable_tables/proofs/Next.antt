@@ -1,12 +1,11 @@
 -- What has gone so far, after one step of a cascade, and after a handle that is given.
-use Rattle.pagable_tables.proofs.Words.{◌&&◌, ◌++◌, ◌+◌, ◌<◌, ◌==◌, ◌∙◌, ◌∷◌, ◌≡◌, ◌≢◌, ◌≤◌, ◌⊎◌, AreNewEntries, Begins, Bool, Core, Error, FallsBy, GivesUp, HandleNumber}
-use Rattle.pagable_tables.proofs.Words.{HandleRow, HasPlaces, Holdings, IsApart, IsClosed, IsFalling, IsListRefusal, IsUnlisted, IsWithin, List, MustList, NodeNumber, Option, Owner, Result, SoFar}
-use Rattle.pagable_tables.proofs.Words.{Some, Steps, TellsListing, [], ap, append-nil, append_assoc, arith, cell_in, counts_at, entries_of, false, filter, filter-append, first_cause, held}
-use Rattle.pagable_tables.proofs.Words.{if◌then◌else◌, inl, inr, is_at, is_handle, is_keyed, is_outside, is_owned_by, is_owner, is_pin, is_some, left_rows, length, length-append, live}
-use Rattle.pagable_tables.proofs.Words.{map-append, nat_tests, not, one, only_handle, owner_value, owns_nothing, pins, pins_in, refl, subst, sum_by-append, sum_by-le-sum_by, sym, times, told_by, true}
-use Rattle.pagable_tables.proofs.Words.{with_tables, ℕ, Cell, None, and_parts, cases_Bool, entry, is_listing, is_plain_pin, is_share, is_shared}
-use Rattle.pagable_tables.proofs.{Bits.one-le, Left.{and_one, sum-most, entries-more, kept-more, left-more, left-none, none-entered, none-listed, of_list, ones, times-left, gives-sums, with-entry}}
-use Rattle.pagable_tables.proofs.{Telling.{both, cell-keyed, forced, listing-is, no-more, refusal-kept, which}, Begun.open-then}
+use Rattle.pagable_tables.proofs.Words.{◌&&◌, ◌++◌, ◌+◌, ◌<◌, ◌==◌, ◌∙◌, ◌∷◌, ◌≡◌, ◌≢◌, ◌≤◌, ◌⊎◌, Begins, Bool, Core, Error, FallsBy, GivesUp, HandleNumber, HandleRow, HasPlaces, Holdings, IsApart}
+use Rattle.pagable_tables.proofs.Words.{IsClosed, IsFalling, IsListRefusal, IsUnlisted, IsWithin, List, MustList, NodeNumber, Option, Owner, Result, SoFar, Some, Steps, TellsListing, [], ap}
+use Rattle.pagable_tables.proofs.Words.{append-nil, append_assoc, arith, cell_in, counts_at, entries_of, false, filter, filter-append, first_cause, held, if◌then◌else◌, inl, inr, is_at, is_handle}
+use Rattle.pagable_tables.proofs.Words.{is_keyed, is_outside, is_owned_by, is_owner, is_pin, is_some, left_rows, length, length-append, live, map-append, nat_tests, not, one, only_handle, owner_value}
+use Rattle.pagable_tables.proofs.Words.{owns_nothing, pins, pins_in, refl, subst, sum_by-append, sum_by-le-sum_by, sym, times, told_by, true, with_tables, ℕ, Cell, None, and_parts, cases_Bool, entry}
+use Rattle.pagable_tables.proofs.{Words.{is_listing, is_plain_pin, is_share, is_shared}, Bits.one-le, Left.{and_one, sum-most, entries-more, kept-more, left-more, left-none, none-entered}}
+use Rattle.pagable_tables.proofs.{Left.{none-listed, of_list, ones, times-left, gives-sums, with-entry}, Telling.{both, cell-keyed, forced, listing-is, no-more, refusal-kept, which}, Begun.open-then}
 
 rows-leaves : (rows entries before left : List HandleRow) (gone : ℕ → Bool) (x : HandleRow) → left ≡ left_rows (only_handle x.number) before → before ≡ left_rows gone rows ++ entries
     → times (is_handle x.number.0) entries ≡ 0 → left ≡ left_rows (and_one gone x.number.0) rows ++ entries
@@ -20,10 +19,6 @@ list-kept : (gone : ℕ → Bool) (q : ℕ) (rows : List HandleRow) (list : List
     → times (λ h. of_list q h && not (gone h.number.0)) rows ≡ 0
     → filter (λ (h : HandleNumber). not (and_one gone q h.0)) list ≡ filter (λ (h : HandleNumber). not (gone h.0)) list
 list-kept gone q rows list listed none = grind (arith, nat_tests, sum_by-le-sum_by, kept-more)
-
-new-more : (last : ℕ) (entries : List HandleRow) (listed : Bool) (k : ℕ) (node : NodeNumber) → AreNewEntries last entries → k ≡ last + length entries + 1
-    → AreNewEntries last (entries ++ entries_of listed k node)
-new-more last entries x2 k node new is = grind (arith, nat_tests, entries-more, append-nil)
 
 -- a handle that the list doesn't own may go apart from it
 unlisted-apart : {before w : Core} {given : ℕ → Bool} {lists : Bool} {t popped new : Holdings} {stack : List ℕ} {x : HandleRow} (f : SoFar before w given lists t) → GivesUp popped stack x false lists new
@@ -138,9 +133,6 @@ module _ {before w : Core} {given : ℕ → Bool} {lists stays : Bool} {t popped
   only-more : (n : ℕ) → 0 < held n entries → MustList before w (with_tables w new) n × (held n entries ≡ 1)
   only-more n some = grind (arith, nat_tests, held-more, new-must, must-kept, none-held)
 
-  all-more : ((n : ℕ) → MustList before w (with_tables w t) n → held n f.entries ≡ 1) → (g.listed ≡ false → wanted ≡ true → ⊥) → (n : ℕ) → MustList before w (with_tables w new) n → held n entries ≡ 1
-  all-more all comes n must = grind (arith, nat_tests, held-more, must-before, other, cases_Bool, entry, none-held)
-
   -- the first cause is told
   told : TellsListing before w entries (told_by new.unlisted) (with_tables w new)
   told = by t.unlisted refl f.tells
@@ -161,7 +153,8 @@ module _ {before w : Core} {given : ℕ → Bool} {lists stays : Bool} {t popped
           (record { all = tt; not_all = (a.0, must-kept a.0 a.1, omega (arith, held-more a.0, other a.0 a.1.unpinned, a.2), refusal-kept w t new e a.3 (omega (arith, last)) (omega (arith,
               ap length added, length-append t.list.items came))) })
       by None is tells = elim (which g.listed wanted) [
-        | inl s ↦ told-so None (kept None is s) (record { all = all-more tells.all (λ none want. elim s [ inl l ↦ absurd (cc) | inr n ↦ absurd (cc) ]); not_all = tt })
+        | inl s ↦ told-so None (kept None is s) (record { all = λ n must. let t = tells.all n in grind (arith, nat_tests, held-more, must-before, other, cases_Bool g.listed, entry,
+            none-held); not_all = tt })
         | inr (none, want) ↦
             let y = late None is none want in
             let l = ap (λ b. if b then one (is_at x.node.0 (entry (t.last_handle + 1) x.node)) else 0) none in
@@ -188,7 +181,7 @@ module _ {before w : Core} {given : ℕ → Bool} {lists stays : Bool} {t popped
         cells = λ n there. let s = g.cells n there in s.1 ∙ ap cell_in (counts n) ∙ f.cells n (sym (ap is_some (counts n)) ∙ s.0);
         holds = holds;
         least = least;
-        new = new-more w.last.handle f.entries g.listed (t.last_handle + 1) x.node f.new (let a = f.last in omega arith);
+        new = let a = f.last in let n = f.new in grind (arith, nat_tests, entries-more, append-nil);
         only = λ n some. let o = only-more n some in (must-as rows (λ n. cell_in (counts_at new.nodes n)) o.0, o.1);
         tells = tells-as rows (λ n. cell_in (counts_at new.nodes n)) long (told_by new.unlisted) told;
         few = few';

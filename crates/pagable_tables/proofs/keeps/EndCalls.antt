@@ -163,13 +163,10 @@ module _ (w : Core) (whole : IsWhole (opened w)) (l : LoadNumber) (kind : Kind) 
   abbrev made : Core
   made = with_handle (with_node w (type_of kind.0) own refs) (next_node w) (mode_of kind.0) (Owner.Load l)
 
-  abbrev now : Core
-  now = roomy (opened made)
-
-  now-whole : IsWhole now
+  now-whole : IsWhole (roomy (opened made))
   now-whole = born-whole whole (type_of kind.0) own refs (mode_of kind.0) (Owner.Load l) (Owner.Load l) refl good holder node_left left unkeyed
 
-  new-entry : IsEntryWhole now kind.0 (w.last.node + 1)
+  new-entry : IsEntryWhole (roomy (opened made)) kind.0 (w.last.node + 1)
   new-entry =
       record {
         given = omega arith;
@@ -185,7 +182,7 @@ module _ (w : Core) (whole : IsWhole (opened w)) (l : LoadNumber) (kind : Kind) 
     where
       at : (b : Bool) → IsWhole (roomy (opened (if b then made else with_cached made kind key (next_node w))))
       at true = now-whole
-      at false = cached-whole {w = now} kind key (next_node w) now-whole refl new-entry
+      at false = cached-whole {w = roomy (opened made)} kind key (next_node w) now-whole refl new-entry
 
 loose-plain : (kind : ℕ) → is_loose_kind kind ≡ true → is_shared (mode_of kind) ≡ true → ⊥
 loose-plain kind loose shared = grind (arith, nat_tests, mode-shared)

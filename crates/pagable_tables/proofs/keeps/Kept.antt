@@ -1,6 +1,6 @@
 -- A change of a whole world, as small as a row, an entry or a load: what has to be shown of it, and that the world is whole then.
 use Rattle.pagable_tables.proofs.Words.{◌&&◌, ◌<◌, ◌==◌, ◌∙◌, ◌∷◌, ◌≡◌, ◌≤◌, ◌⊎◌, AllPairs, Among, Bool, Cell, Core, HandleNumber, HandleRow, HandlesAreWhole, IsEntryWhole, IsHandleBefore}
-use Rattle.pagable_tables.proofs.Words.{IsRootWhole, IsWhole, List, MayHold, MayOwnLoad, Mode, NodeNumber, None, OpenLoad, Option, OptionalDataKey, Owner, SameAt, Some, [], ap, arith, false}
+use Rattle.pagable_tables.proofs.Words.{IsRootWhole, IsWhole, List, MayHold, MayOwnLoad, Mode, NodeNumber, None, OpenLoad, Option, OptionalDataKey, Owner, SameAt, Some, [], arith, false}
 use Rattle.pagable_tables.proofs.Words.{greatest, has_key, held, if_there, inl, inr, is_at, is_handle, is_loose, is_owned_by, is_share, is_shared, is_some, length, nat_lt, nat_tests}
 use Rattle.pagable_tables.proofs.{Words.{of_cell, one, refl, sharing, subst, suc, sum_by, sum_by-cons, sym, times, true, ℕ}, keeps.Rows.{at-most-sum, counted, found-among, found-so, sum-less}}
 
@@ -75,10 +75,6 @@ pub in-still : (w u : Core) → ((l : ℕ) → is_some (w.loads l) ≡ true → 
     → IsIn w mode o → IsIn u mode o
 in-still w u loads workers mode o i = grind (arith, nat_tests)
 
--- in another mode, as that of the list's handles is known
-pub other-mode : (w : Core) (a b : Mode) (o : Owner) → IsIn w a o → (o ≡ Owner.List → b ≡ Mode.LooseUnpinned) → IsIn w b o
-other-mode w a b o i waits = grind (arith, nat_tests)
-
 pub holder-in : (w : Core) (mode : Mode) (o : Owner) → MayHold w o → IsIn w mode o
 holder-in w mode o may = grind (arith, nat_tests)
 
@@ -113,21 +109,15 @@ same-sum : {X : Type 0} (f g : X → ℕ) (xs : List X) → ((x : X) → Among x
 same-sum f g [] h = refl
 same-sum f g (x ∷ xs) h = grind (arith, nat_tests, sum_by-cons, same-sum f g xs (λ y among. h y (suc among.0, among.1)))
 
-at-one : (n : ℕ) (h : HandleRow) → h.node.0 ≡ n → (h.node.0 == n) ≡ true
-at-one n h e = grind (arith, nat_tests)
-
 pub at-then : (n : ℕ) (h : HandleRow) → 0 < one (is_at n h) → h.node.0 ≡ n
 at-then n h some = grind (arith, nat_tests)
-
-share-le : (a b : Bool) → one (a && b) ≤ one a
-share-le a b = grind (arith, nat_tests)
 
 share-then : (n : ℕ) (h : HandleRow) → 0 < one (is_share n h) → (h.node.0 ≡ n) × (is_shared h.mode ≡ true)
 share-then n h some = grind (arith, nat_tests)
 
 -- a row counts among those of its node
 pub held-some : (n : ℕ) (rows : List HandleRow) (h : HandleRow) → Among rows h → h.node.0 ≡ n → 0 < held n rows
-held-some n rows h among e = let a = at-most-sum (λ x. one (is_at n x)) rows h among in let b : one (is_at n h) ≡ 1 = ap one (at-one n h e) in omega arith
+held-some n rows h among e = let a = at-most-sum (λ x. one (is_at n x)) rows h among in grind (arith, nat_tests)
 
 pub there-then : {w : Core} → IsWhole w → (h : HandleRow) → Among w.rows h → is_some (w.cells h.node.0) ≡ true
 there-then {w} whole h among = let a = held-some h.node.0 w.rows h among refl in let b : nat_lt 0 (held h.node.0 w.rows) ≡ true = grind (arith, nat_tests) in whole.handles.live h.node.0 ∙ b
@@ -141,15 +131,15 @@ pub record AreAlike (rows : List HandleRow) : Type 0 where
   pub same : (x y : HandleRow) → Among rows x → Among rows y → x.node.0 ≡ y.node.0 → is_shared x.mode ≡ is_shared y.mode
 
 shared-count : (n : ℕ) (rows : List HandleRow) (x : HandleRow) (b : Bool) → Among rows x → x.node.0 ≡ n → is_shared x.mode ≡ b → one (is_share n x) ≡ one b
-shared-count n rows x b among e is = ap (λ a. one (a && is_shared x.mode)) (at-one n x e) ∙ ap one is
+shared-count n rows x b among e is = grind (arith, nat_tests)
 
 pub alike-rows : {w : Core} → IsWhole w → AreAlike w.rows
 alike-rows {w} whole = record {
   same = λ x y there here same.
       let n = y.node.0 in
       grind (arith, nat_tests, whole.handles.uniform n, at-most-sum (λ h. one (is_share n h)) w.rows x there, at-most-sum (λ h. one (is_share n h)) w.rows y here,
-          sum-less (λ h. one (is_share n h)) (λ h. one (is_at n h)) w.rows x (λ h. share-le (is_at n h) (is_shared h.mode)) there,
-          sum-less (λ h. one (is_share n h)) (λ h. one (is_at n h)) w.rows y (λ h. share-le (is_at n h) (is_shared h.mode)) here);
+          sum-less (λ h. one (is_share n h)) (λ h. one (is_at n h)) w.rows x (λ h. grind (arith, nat_tests)) there,
+          sum-less (λ h. one (is_share n h)) (λ h. one (is_at n h)) w.rows y (λ h. grind (arith, nat_tests)) here);
 }
 
 uniform-rows : (n : ℕ) (rows : List HandleRow) → AreAlike rows → (k : ℕ) → sharing n rows ≡ k → (sharing n rows ≡ 0) ⊎ (sharing n rows ≡ held n rows)

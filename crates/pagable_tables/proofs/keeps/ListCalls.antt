@@ -74,28 +74,27 @@ unpin-whole me h r whole call placed = elim call.does [
 -- ---- a key
 
 -- a cell that isn't shared gets a key
-module _ {w : Core} (whole : IsWhole w) (row : HandleRow) (there : Among w.rows row) (key : ℕ) (unshared : is_shared row.mode ≡ false) where
-  pub keyed-whole : IsWhole (with_key w row.node key)
-  keyed-whole =
-      keeps-whole whole (record {
-        on = record {
-          last = (omega arith, omega arith, omega arith);
-          ordered = whole.handles.ordered;
-          fresh = false;
-          rows = λ h among. inl (stays-old among);
-          live = λ n. let l = whole.handles.live n in grind (arith, nat_tests);
-          typed = λ n t given is. grind (arith, nat_tests);
-          keyed = λ n like given none. grind (arith, nat_tests, alike-rows whole);
-        };
-        within = whole.handles.within;
-        places = whole.handles.places;
-        listed = whole.owners_there.listed;
-        owners = is-in whole;
-        loads = loads-stay whole (λ v at. at);
-        cache = whole.cache;
-        workers = whole.workers_numbered;
-        shut = whole.shut;
-      })
+keyed-whole : {w : Core} → IsWhole w → (row : HandleRow) → Among w.rows row → (key : ℕ) → is_shared row.mode ≡ false → IsWhole (with_key w row.node key)
+keyed-whole {w} whole row there key unshared =
+    keeps-whole whole (record {
+      on = record {
+        last = (omega arith, omega arith, omega arith);
+        ordered = whole.handles.ordered;
+        fresh = false;
+        rows = λ h among. inl (stays-old among);
+        live = λ n. let l = whole.handles.live n in grind (arith, nat_tests);
+        typed = λ n t given is. grind (arith, nat_tests);
+        keyed = λ n like given none. grind (arith, nat_tests, alike-rows whole);
+      };
+      within = whole.handles.within;
+      places = whole.handles.places;
+      listed = whole.owners_there.listed;
+      owners = is-in whole;
+      loads = loads-stay whole (λ v at. at);
+      cache = whole.cache;
+      workers = whole.workers_numbered;
+      shut = whole.shut;
+    })
 
 pub set-key-whole : {w w' : Core} (me : Owner) (h : HandleNumber) (key : ℕ) (r : Result (Unit {0}) Error) → IsWhole (opened w) → SetKeyCall w me h key r w' → ArePlaced (opened w')
     → IsWhole (opened w')
