@@ -153,9 +153,6 @@ module _ (t t1 : Tables) (stored : ℕ → Option Blob) (closed lists : Bool) (f
     owned-pinned q = found-first (is_owned_by (Owner.Load l)) q mid (x ∷ []) (grind (arith, nat_tests, passes-here, passes-none,
         no-load (plain_of t) me l may)) ∙ owned-mode (Owner.Load l) q (is_handle h.0) Mode.LoosePinned rows0 ∙ owned-moved s o (Owner.Load l) q w.rows refl
 
-    spared-pin : given (t.holdings.last_handle + 1) ≡ false
-    spared-pin = grind (arith, nat_tests, and-left, owned-given (plain_of t) (Owner.Load l) (t.holdings.last_handle + 1) was.core.handles)
-
     ordered : AllPairs IsHandleBefore u.rows
     ordered = grind (arith, nat_tests, come, ordered-map)
 
@@ -164,7 +161,8 @@ module _ (t t1 : Tables) (stored : ℕ → Option Blob) (closed lists : Bool) (f
       where
         to-before : (n : ℕ) → pins n w'.rows ≡ 0 → (pins n u.rows ≡ pins n w.rows) × (sharing n u.rows ≡ sharing n w.rows)
         to-before n none =
-            let stays = stays-pinned (record w { rows = mid }) u w' given r x refl ordered unvalued spared-pin falls n none in
+            let stays = stays-pinned (record w { rows = mid }) u w' given r x refl ordered unvalued (grind (arith, nat_tests, and-left,
+                owned-given (plain_of t) (Owner.Load l) (t.holdings.last_handle + 1) was.core.handles)) falls n none in
             let more = sum_by_push (λ y. one (is_pin n y)) mid x in
             let z : one (is_pin n x) ≡ 0 = (let b = stays.0 in omega arith) in
             let other : (row.node.0 == n) ≡ false = grind (arith, nat_tests) in (

@@ -1,4 +1,4 @@
--- What has gone so far, after one step of a cascade, and after a handle that is given.
+-- What has gone so far, after one step of a cascade, and after a handle that is given; which cells must be listed then, and what is told of it.
 use Rattle.pagable_tables.proofs.Words.{◌&&◌, ◌++◌, ◌+◌, ◌<◌, ◌==◌, ◌∙◌, ◌∷◌, ◌≡◌, ◌≢◌, ◌≤◌, ◌⊎◌, Begins, Bool, Core, Error, FallsBy, GivesUp, HandleNumber, HandleRow, HasPlaces, Holdings, IsApart}
 use Rattle.pagable_tables.proofs.Words.{IsClosed, IsFalling, IsListRefusal, IsUnlisted, IsWithin, List, MustList, NodeNumber, Option, Owner, Result, SoFar, Some, Steps, TellsListing, [], ap}
 use Rattle.pagable_tables.proofs.Words.{append-nil, append_assoc, arith, cell_in, counts_at, entries_of, false, filter, filter-append, first_cause, held, if◌then◌else◌, inl, inr, is_at, is_handle}

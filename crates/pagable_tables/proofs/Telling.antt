@@ -1,4 +1,4 @@
--- A handle has gone and an entry may have come: which cells must be listed then, and what is told of it.
+-- What is known of handles and cells once a handle has gone: what still counts, which handle is a cell's last pin, and why an entry didn't come.
 use Rattle.pagable_tables.proofs.Words.{◌≡◌, ℕ, ◌+◌, ◌≤◌, ◌&&◌, Bool, true, false, not, if◌then◌else◌, List, refl, ap, ◌∙◌, arith, Option, Some, inl, inr, is_some, nat_lt, nat_eq, nat_tests}
 use Rattle.pagable_tables.proofs.Words.{sum_by-append, OptionalDataKey, HandleRow, one, times, if_there, is_at, is_pin, is_owned_by, owner_value, held, pins, has_key, Core, Cell, IsWithin, IsClosed}
 use Rattle.pagable_tables.proofs.Words.{is_keyed, is_outside, left_rows, held_outside, pins_outside, Counts, Holdings, live, counts_at, cell_in, HasFallen, SoFar, ◌⊎◌, Owner}

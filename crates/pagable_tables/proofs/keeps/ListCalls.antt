@@ -4,7 +4,7 @@ use Rattle.pagable_tables.proofs.Words.{Owner, ReleaseCall, Result, ScheduleCall
 use Rattle.pagable_tables.proofs.Words.{if◌then◌else◌, inl, inr, is_owned_by, is_owner, is_shared, moved, nat_tests, one, only_handle, refl, slice_get, slice_get_within}
 use Rattle.pagable_tables.proofs.{Words.{sum_by-remove, sum_by_push, sym, times, true, with_key, ℕ}, Left.of_list, keeps.{Comes.not-list, Fallen.{alike-opened, falls-opened}}}
 use Rattle.pagable_tables.proofs.keeps.{Fallen.opened, HandleCalls.{loose-unshared, moved-so}, Kept.{alike-rows, holder-in, is-in, keeps-whole, loads-stay, stays-old}}
-use Rattle.pagable_tables.proofs.keeps.{Rows.{changed-sum, counted, found-among, once}, Told.{alike-whole, moded-on, moded-whole, roomy, roomy-whole, settles, stays-on}}
+use Rattle.pagable_tables.proofs.keeps.{Rows.{changed-sum, counted, found-among, once}, Told.{alike-whole, moded-on, moded-whole, roomy-whole, settles, stays-on}}
 use Rattle.std.specs.List.{remove}
 
 -- The handle h of this row alone moves: what the list's handles of a number are then.
@@ -12,28 +12,21 @@ lists-moved : {w : Core} → IsWhole w → (h : HandleNumber) (row : HandleRow) 
     → times (of_list q) (moved (only_handle h) owner w.rows) + one (h.0 == q && is_owned_by Owner.List row) ≡ times (of_list q) w.rows + one (h.0 == q && is_owner Owner.List owner)
 lists-moved {w} whole h row owner among number q =
     let to = λ (x : HandleRow). if only_handle h x.number.0 then record x { owner = owner } else x in
-    let here : (row.number.0 == h.0) ≡ true = grind (arith, nat_tests) in
-    let a = changed-sum (λ x. one (of_list q x)) to w.rows row whole.handles.ordered among (λ x other.
-    ap (λ b. one (of_list q (if b then record x { owner = owner } else x))) (let e : (x.number.0 == h.0) ≡ false = grind (arith, nat_tests) in e)) in
-    let b : one (of_list q (to row)) ≡ one (h.0 == q && is_owner Owner.List owner) =
-    ap (λ b. one (of_list q (if b then record row { owner = owner } else row))) here ∙ ap (λ n. one (n == q && is_owner Owner.List owner)) number in
+    let a = changed-sum (λ x. one (of_list q x)) to w.rows row whole.handles.ordered among (λ x other. grind (arith, nat_tests)) in
     grind (arith, nat_tests)
 
 pub schedule-whole : {w w' : Core} (me : Owner) (h : HandleNumber) (r : Result (Unit {0}) Error) → IsWhole (opened w) → MayHold w me → ScheduleCall w me h r w' → ArePlaced (opened w')
     → IsWhole (opened w')
 schedule-whole {w} {w'} me h (Ok u) whole holder call placed = let (row, owns, does) = call.moves in elim does [
   | inl (stands_open, alike) ↦
-      settles (listed row (found-among h.0 w.rows row owns.live) (ap (is_owner Owner.List) owns.own ∙ not-list w me holder) (grind (arith, nat_tests, owns.as_asked))) (alike-opened alike) placed
+      let (among, number) = found-among h.0 w.rows row owns.live in
+      let mine : is_owned_by Owner.List row ≡ false = ap (is_owner Owner.List) owns.own ∙ not-list w me holder in
+      let mode : row.mode ≡ Mode.LooseUnpinned = grind (arith, nat_tests, owns.as_asked) in
+      settles (moved-so {w = opened w} whole (only_handle h) Owner.List (w.list ++ h ∷ [])
+      (λ q. grind (arith, nat_tests, sum_by_push (λ (k : HandleNumber). one (k.0 == q)) w.list h, lists-moved {w = opened w} whole h row Owner.List among number q, whole.owners_there.listed q))
+      (λ x there e. ap (λ (y : HandleRow). y.mode) (once w.rows whole.handles.ordered x row there among (grind (arith, nat_tests))) ∙ mode) (λ closed. absurd (cc))) (alike-opened alike) placed
   | inr (closed, falls) ↦ falls-opened (roomy-whole whole) (stays-on w) falls.falls placed
 ]
-  where
-    listed : (row : HandleRow) → Among w.rows row × (row.number.0 ≡ h.0) → is_owned_by Owner.List row ≡ false → row.mode ≡ Mode.LooseUnpinned
-        → IsWhole (roomy (record (opened w) { rows = moved (only_handle h) Owner.List w.rows; list = w.list ++ h ∷ [] }))
-    listed row (among, number) mine mode =
-        moved-so whole (only_handle h) Owner.List (w.list ++ h ∷ [])
-        (λ q.
-        grind (arith, nat_tests, sum_by_push (λ (k : HandleNumber). one (k.0 == q)) w.list h, lists-moved whole h row Owner.List among number q, whole.owners_there.listed q))
-        (λ x there e. ap (λ (y : HandleRow). y.mode) (once w.rows whole.handles.ordered x row there among (grind (arith, nat_tests))) ∙ mode) (λ closed. absurd (cc))
 schedule-whole me h (Err e) whole holder call placed = alike-whole whole (alike-opened call.refused.stays) placed
 
 pub take-whole : {w w' : Core} (me : Owner) (i : ℕ) (found : Option HandleNumber) → IsWhole w → MayHold w me → TakeCall w me i found w' → ArePlaced w' → IsWhole w'
