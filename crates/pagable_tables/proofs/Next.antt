@@ -5,7 +5,7 @@ use Rattle.pagable_tables.proofs.Words.{append-nil, append_assoc, arith, cell_in
 use Rattle.pagable_tables.proofs.Words.{is_keyed, is_outside, is_owned_by, is_owner, is_pin, is_some, left_rows, length, length-append, live, map-append, nat_tests, not, one, only_handle, owner_value}
 use Rattle.pagable_tables.proofs.Words.{owns_nothing, pins, pins_in, refl, subst, sum_by-append, sum_by-le-sum_by, sym, times, told_by, true, with_tables, ℕ, Cell, None, and_parts, cases_Bool, entry}
 use Rattle.pagable_tables.proofs.{Words.{is_listing, is_plain_pin, is_share, is_shared}, Bits.one-le, Left.{and_one, sum-most, entries-more, kept-more, left-more, left-none, none-entered}}
-use Rattle.pagable_tables.proofs.{Left.{none-listed, of_list, ones, times-left, gives-sums, with-entry}, Telling.{both, cell-keyed, forced, listing-is, no-more, refusal-kept, which}, Begun.open-then}
+use Rattle.pagable_tables.proofs.{Left.{none-listed, of_list, ones, times-left, gives-sums, with-entry}, Telling.{cell-keyed, forced, listing-is, no-more, refusal-kept, which}, Begun.open-then}
 
 rows-leaves : (rows entries before left : List HandleRow) (gone : ℕ → Bool) (x : HandleRow) → left ≡ left_rows (only_handle x.number) before → before ≡ left_rows gone rows ++ entries
     → times (is_handle x.number.0) entries ≡ 0 → left ≡ left_rows (and_one gone x.number.0) rows ++ entries
@@ -117,7 +117,7 @@ module _ {before w : Core} {given : ℕ → Bool} {lists stays : Bool} {t popped
         | inr other ↦ let a = left n in let z = must.unpinned in let k = ap one other in
             inl (record { pinned = must.pinned; unpinned = omega arith; unkeyed = must.unkeyed; unshared = must.unshared; stands_open = must.stands_open })
         | inl pin ↦ inr (grind (arith, nat_tests, no-more f (is_share n) (λ h mode owner. let m : is_shared h.mode ≡ false = ap is_shared mode in grind (arith, nat_tests)), here (is_share n),
-            must.unshared, ap one pin, left n, must.unpinned, is, cell-keyed, both))
+            must.unshared, ap one pin, left n, must.unpinned, is, cell-keyed))
       ]
 
   must-kept : (n : ℕ) → MustList before w (with_tables w t) n → MustList before w (with_tables w new) n

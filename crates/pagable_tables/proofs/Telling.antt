@@ -47,9 +47,6 @@ pub cell-keyed : (o : Option Counts) (c : Counts) (cell : Option Cell) → o ≡
     → has_key (if_there (λ (c : Cell). c.key) OptionalDataKey.None cell) ≡ nat_lt 0 c.key
 cell-keyed o c cell is same = grind (arith, nat_tests)
 
-pub both : (a b : Bool) → a ≡ true → b ≡ true → (a && b) ≡ true
-both x0 b e h = grind (arith, nat_tests)
-
 -- a cause stays
 pub refusal-kept : (w : Core) (t new : Holdings) (e : Error) → IsListRefusal w (with_tables w t) e → t.last_handle ≤ new.last_handle → length t.list.items ≤ length new.list.items
     → IsListRefusal w (with_tables w new) e
