@@ -32,10 +32,7 @@ take-dead (s ∷ ss) (suc n) d within dead = let rest = take-dead ss n d (omega 
 pub pairs-take : (n : ℕ) (ss : List Place) → n ≤ length ss → AllPairs IsBefore ss → AllPairs IsBefore (take n ss)
 pairs-take n ss within ordered i j d less lt =
     let e = length-take-le n ss within in
-    let a = ap (λ (p : Place). p.row.number.0) (get_or-take n ss i d (omega arith)) in
-    let b = ap (λ (p : Place). p.row.number.0) (get_or-take n ss j d (omega arith)) in
-    let o = ordered i j d less (omega arith) in
-    omega arith
+    omega (arith, ap (λ (p : Place). p.row.number.0) (get_or-take n ss i d (omega arith)), ap (λ (p : Place). p.row.number.0) (get_or-take n ss j d (omega arith)), ordered i j d less (omega arith))
 
 -- what a place weighs
 abbrev pub weigh : (HandleRow → ℕ) → Place → ℕ
@@ -104,16 +101,12 @@ module _ (ss : List Place) (i : ℕ) (row : HandleRow) (ordered : AllPairs IsBef
       let n = length-take-le i ss (omega arith) in
       let a = ap (λ (p : Place). p.row.number.0) (get_or-take i ss k d (omega arith)) in
       let b = ap (λ (p : Place). p.row.number.0) (got d) in
-      let o = ordered k i d (omega arith) lt in
-      omega arith
+      grind (arith, nat_tests)
 
   above : times (is_handle row.number.0) behind ≡ 0
   above = none-of row.number.0 (drop (suc i) ss) λ k d within e.
       let n = length-drop (suc i) ss in
-      let a = ap (λ (p : Place). p.row.number.0) (get_or-drop (suc i) ss k d) in
-      let b = ap (λ (p : Place). p.row.number.0) (got d) in
-      let o = ordered i (suc i + k) d (omega arith) (omega arith) in
-      omega arith
+      omega (arith, ap (λ (p : Place). p.row.number.0) (get_or-drop (suc i) ss k d), ap (λ (p : Place). p.row.number.0) (got d), ordered i (suc i + k) d (omega arith) (omega arith))
 
   -- a place that is killed
   pub live-kill : live (set ss i (record { row = row; is_live = false })) ≡ without row.number.0 (live ss)
@@ -183,13 +176,8 @@ sum-without q (h ∷ hs) = grind (arith, nat_tests, sum-without q hs)
 -- a number is used once, so what weighs only at the number weighs at its row alone
 pub only-row : (f : HandleRow → ℕ) (ss : List Place) (i : ℕ) (row : HandleRow) → AllPairs IsBefore ss → slice_get ss i ≡ Some (alive row)
     → ((h : HandleRow) → f h ≤ one (is_handle row.number.0 h)) → sum_by f (live ss) ≡ f row
-only-row f ss i row ordered at less =
-    let dead : Place = record { row = row; is_live = false } in
-    let e = sum-live-set f ss i row dead at in
-    let k = ap (sum_by f) (live-kill ss i row ordered at) in
-    let l = sum_by-le-sum_by f (λ h. one (is_handle row.number.0 h)) (without row.number.0 (live ss)) less in
-    let z = sum-without row.number.0 (live ss) in
-    omega arith
+only-row f ss i row ordered at less = grind (arith, nat_tests, ap (sum_by f) (live-kill ss i row ordered at),
+    sum_by-le-sum_by f (λ h. one (is_handle row.number.0 h)) (without row.number.0 (live ss)) less, sum-without row.number.0 (live ss), sum-live-set)
 
 -- all rows up to a smaller one are smaller
 pub smaller-up : {A : Type 0} (f : A → ℕ) (xs : List A) (m q : ℕ) (e : A) → AllPairs (λ a b. f a < f b) xs → m < length xs → f (get_or xs m e) < q → (k : ℕ) (d : A) → k < m + 1 → f (get_or xs k d) < q
@@ -213,13 +201,8 @@ rises-set f xs i x y ordered at same j k d less within =
 -- places are in order and counted after one of them changes
 pub sound-set : (old new : Handles) (i : ℕ) (row : HandleRow) (p : Place) → AreSound old → slice_get old.places.items i ≡ Some (alive row) → p.row.number.0 ≡ row.number.0
     → new.places.items ≡ set old.places.items i p → new.dead + one p.is_live ≡ old.dead + 1 → AreSound new
-sound-set old new i row p sound at same is dead =
-    let ordered = rises-set (λ (s : Place). s.row.number.0) old.places.items i (alive row) p sound.ordered at same in
-    let live-length = ap (λ ss. length (live ss)) is in
-    record {
-      ordered = subst (AllPairs IsBefore) (sym is) ordered;
-      counted = omega (arith, sound.counted, dead, ap length is, live-length, length-set old.places.items i p, length-live-set old.places.items i row p at);
-    }
+sound-set old new i row p sound at same is dead = grind (arith, nat_tests, rises-set (λ (s : Place). s.row.number.0) old.places.items i (alive row) p sound.ordered at same,
+    ap (λ ss. length (live ss)) is, length-set, length-live-set)
 
 -- a row more, above all that are there
 pub ordered-push : (ss : List Place) (row : HandleRow) → AllPairs IsBefore ss → IsNext row.number.0 ss → AllPairs IsBefore (ss ++ alive row ∷ [])

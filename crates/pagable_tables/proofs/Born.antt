@@ -2,9 +2,8 @@
 use Rattle.pagable_tables.proofs.Words.{◌≡◌, ℕ, ◌+◌, ◌<◌, ◌≤◌, ◌==◌, ◌&&◌, ◌||◌, Bool, true, false, List, [], ◌∷◌, ◌++◌, map, sum_by, refl, ap, sym, ◌∙◌, subst, arith, Option, Some, None, inl, inr}
 use Rattle.pagable_tables.proofs.Words.{if◌then◌else◌, ◌≢◌, ◌⊎◌, is_some, cases_eq, nat_tests, sum_by_push, sum_by-cons, ArcRef, HandleRow, Owner, Mode, Among, is_in, one, find_row, held, pins}
 use Rattle.pagable_tables.proofs.Words.{is_handle, is_pinning, owner_value, IsHandleBefore, Core, reference_fault, references_fault, moved, is_named_by, Counts, Fits, Right, is_right, is_bare}
-use Rattle.pagable_tables.proofs.{Words.{cell_in, pins_in, holds_in, falls_in, is_valued, named, owns_nothing, AllPairs}, Coming.{owned-by-none, owned-by}, Fitting.{pin_of, handle_of, is_owned}}
-use Rattle.pagable_tables.proofs.{Fitting.{pin-here, held-here, pin-other, held-other}, keeps.HandleCalls.{named-mine, or-none}, keeps.Rows.{found-so, found-among, sum-map, sum-none, at-most-sum}}
-use Rattle.pagable_tables.proofs.{keeps.Rows.only-row, Bits.and-zero}
+use Rattle.pagable_tables.proofs.{Words.{cell_in, pins_in, falls_in, is_valued, named, owns_nothing, AllPairs}, Coming.{owned-by-none, owned-by}, Fitting.{pin_of, handle_of, is_owned}}
+use Rattle.pagable_tables.proofs.{Fitting.{pin-here, held-here}, Bits.and-zero, keeps.{HandleCalls.{named-mine, or-none}, Rows.{found-so, found-among, sum-map, sum-none, at-most-sum, only-row}}}
 
 -- what is named wasn't named before
 unseen : (w : Core) (me : Owner) (seen : List ℕ) (rs : List ArcRef) → references_fault w me seen rs ≡ None → (q : ℕ) → is_named_by rs q ≡ true → is_in seen q ≡ false
@@ -61,13 +60,7 @@ module _ (w : Core) (me : Owner) (n : ℕ) (rs : List ArcRef) (ordered : AllPair
       by : (h : HandleRow) → Among w.rows h → (b : Bool) → is_named_by rs h.number.0 ≡ b → (d : Bool) → is_handle q h ≡ d → is_owned n q (if b then owned-by (owner_value n) h else h) ≡ both q h
       by h among true is true here = grind (arith, nat_tests)
       by h among true is false other = rw other refl
-      by h among false is true here =
-          let e : h.number.0 ≡ q = grind (arith, nat_tests) in
-          let s : is_named_by rs q ≡ false = subst (λ k. is_named_by rs k ≡ false) e is in
-          let a = at-most-sum (is_owned n q) w.rows h among in
-          let z : is_owned n q h ≡ 0 = omega arith in
-          let o : both q h ≡ 0 = rw (here, s) refl in
-          z ∙ sym o
+      by h among false is true here = grind (arith, nat_tests, at-most-sum (is_owned n q) w.rows h among)
       by h among false is false other = rw other refl
 
 -- the counts of a new node are right, where it has no key, or its value refers to nothing, or it is pinned
@@ -103,18 +96,14 @@ module _ (w : Core) (me : Owner) (rs : List ArcRef) (ordered : AllPairs IsHandle
   pinned-here : pins_in (at' n) ≡ pins n rows'
   pinned-here = grind (arith, nat_tests, pins-given, pin-here)
 
-  held-here' : holds_in (at' n) ≡ held n rows'
-  held-here' = grind (arith, nat_tests, held-given, held-here)
-
   owned-here : (q : ℕ) → named q (refs' n) + owns_nothing n q ≡ sum_by (is_owned n q) rows'
   owned-here q =
       let l = sum_by_push (is_owned n q) given x in
-      let z = not-x n q in
       let none = ap (named q) nothing in
       let before : sum_by (is_owned n q) w.rows ≡ 0 = omega arith in
       let own = own-own w me n rs ordered fit unvalued q before in
       let some = ap (named q) refers in
-      omega arith
+      grind (arith, nat_tests)
 
   falls-here : 0 ≡ one (falls_in (at' n))
   falls-here = let k : c.is_falling ≡ false = ap (λ (d : Counts). d.is_falling) new in sym (ap (λ o. one (falls_in o)) here ∙ ap one k)
@@ -128,8 +117,8 @@ module _ (w : Core) (me : Owner) (rs : List ArcRef) (ordered : AllPairs IsHandle
   pub born-fits : Fits at' refs' rows' top [] owns_nothing
   born-fits =
       record {
-        pinned = λ m. grind (arith, nat_tests, cases_eq, pinned-here, pins-given, pin-other);
-        holding = λ m. grind (arith, nat_tests, cases_eq, held-here', held-given, held-other);
+        pinned = λ m. grind (arith, nat_tests, cases_eq, pinned-here, pins-given);
+        holding = λ m. grind (arith, nat_tests, cases_eq, held-here, held-given);
         owned = λ m q. elim (cases_eq m n) [
           | inl e ↦ subst (λ k. named q (refs' k) + owns_nothing k q ≡ sum_by (is_owned k q) rows') (sym e) (owned-here q)
           | inr e ↦

@@ -1,9 +1,9 @@
 -- A handle comes to a live node or to another owner, and nothing falls.
 use Rattle.pagable_tables.proofs.Words.{sum_by, ◌≡◌, ℕ, ◌+◌, ◌<◌, ◌≤◌, false, List, [], ◌∷◌, ◌++◌, length, ap, sym, ◌∙◌, subst, arith, Option, Some, None, inl, inr, ◌≢◌, not, IsSome, nat_tests}
-use Rattle.pagable_tables.proofs.Words.{cases_eq, sum_by_push, ArcRef, HandleRow, Owner, Mode, one, SameAt, held, is_pinning, is_owner, owner_value, Counts, holds_in, falls_in, Right}
-use Rattle.pagable_tables.proofs.Words.{Fits, owns_nothing, named, is_valued, cell_in, ◌==◌, ◌&&◌, true, get_or, slice_get, get_or-le-sum_by, sum_by-le-sum_by, HandleNumber, times, find_row}
-use Rattle.pagable_tables.proofs.{Words.{is_handle, is_owned_by, Place, live, alive, IsBefore, AllPairs}, Fitting.{pin_of, handle_of, is_owned, pin-here, held-here, pin-other, held-other}}
-use Rattle.pagable_tables.proofs.{Words.{is_at, slice_get-get_or}, Alive.{length-live-le, none-found, only-row, row-le-live}, Bits.one-le, Fitting.pins-le-held, Left.ones}
+use Rattle.pagable_tables.proofs.Words.{cases_eq, sum_by_push, ArcRef, HandleRow, Owner, Mode, one, SameAt, held, is_pinning, is_owner, owner_value, Counts, holds_in, falls_in, Right, Fits}
+use Rattle.pagable_tables.proofs.Words.{owns_nothing, named, is_valued, cell_in, ◌==◌, ◌&&◌, true, get_or, slice_get, get_or-le-sum_by, sum_by-le-sum_by, HandleNumber, times, find_row, is_handle}
+use Rattle.pagable_tables.proofs.{Words.{is_owned_by, Place, live, alive, IsBefore, AllPairs, is_at, slice_get-get_or}, Fitting.{pin_of, handle_of, is_owned, pin-here, held-here, pins-le-held}}
+use Rattle.pagable_tables.proofs.{Alive.{length-live-le, none-found, only-row, row-le-live}, Bits.one-le, Left.ones}
 
 pub no-value : (n : ℕ) (o : Owner) → is_valued o ≡ false → is_owner (owner_value n) o ≡ false
 no-value n x1 e = grind (arith, nat_tests)
@@ -29,8 +29,8 @@ module _ (at at' : ℕ → Option Counts) (refs refs' : ℕ → List ArcRef) (ro
   pub come-fits : Fits at' refs' (rows ++ x ∷ []) top [] owns_nothing
   come-fits =
       record {
-        pinned = λ n. grind (arith, nat_tests, cases_eq, sum_by_push, pin-here, pin-other);
-        holding = λ n. grind (arith, nat_tests, cases_eq, sum_by_push, held-here, held-other);
+        pinned = λ n. grind (arith, nat_tests, cases_eq, sum_by_push, pin-here);
+        holding = λ n. grind (arith, nat_tests, cases_eq, sum_by_push, held-here);
         owned = λ n q. let a = fits.owned n q in let b = ap (named q) (same n) in let l = sum_by_push (is_owned n q) rows x in let z = owned-by-none n q x owner in omega arith;
         chain = fits.chain;
         marked = λ n. grind (arith, nat_tests, cases_eq);
@@ -61,22 +61,13 @@ held-few n rows = omega (arith, ones rows, sum_by-le-sum_by (handle_of n) (λ h.
 abbrev pub turned : HandleRow → HandleRow
 turned x = record x { mode = Mode.LoosePinned }
 
-pin-turned : (x : HandleRow) → pin_of x.node.0 (turned x) ≡ 1
-pin-turned x = grind (arith, nat_tests)
-
-pin-turned-other : (n : ℕ) (x : HandleRow) → n ≢ x.node.0 → pin_of n (turned x) ≡ 0
-pin-turned-other n x other = grind (arith, nat_tests)
-
 module _ (at at' : ℕ → Option Counts) (refs refs' : ℕ → List ArcRef) (rows rows' : List HandleRow) (top : ℕ) (x : HandleRow) (c : Counts)
     (fits : Fits at refs rows top [] owns_nothing) (is : at x.node.0 ≡ Some c)
     (sums : (f : HandleRow → ℕ) → sum_by f rows' + f x ≡ sum_by f rows + f (turned x))
     (here : at' x.node.0 ≡ Some (record c { pins = c.pins + one (not (is_pinning x.mode)) }))
     (others : (n : ℕ) → n ≢ x.node.0 → at' n ≡ at n) (same : (n : ℕ) → refs' n ≡ refs n) where
-  turn-right : Right (at' x.node.0) (refs' x.node.0)
-  turn-right = grind (arith, nat_tests)
-
   pub turn-fits : Fits at' refs' rows' top [] owns_nothing
-  turn-fits = grind (arith, nat_tests, cases_eq, pin-here, pin-turned, pin-other, pin-turned-other, named, turn-right, not-zero at x.node.0 c fits.from_one is)
+  turn-fits = grind (arith, nat_tests, cases_eq, pin-here, named, not-zero at x.node.0 c fits.from_one is)
 
   pub turn-cells : SameAt (λ n. cell_in (at n)) (λ n. cell_in (at' n))
   turn-cells n = grind (arith, nat_tests)

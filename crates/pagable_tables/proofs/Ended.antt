@@ -4,7 +4,7 @@ use Rattle.pagable_tables.proofs.Words.{is_some, nat_lt, nat_eq, Result, nat_tes
 use Rattle.pagable_tables.proofs.Words.{owner_value, held, pins, has_key, Core, Cell, greatest, Alike, IsClosed, is_keyed, MustList, TellsListing, CannotList, IsListRefusal, Falls, fallen}
 use Rattle.pagable_tables.proofs.Words.{pins_outside, held_outside, Counts, Holdings, live, counts_at, refs_at, Fits, IsFalling, Right, holds_in, falls_in, keyed_in, cell_in, HasFallen, owns}
 use Rattle.pagable_tables.proofs.{Words.{owns_nothing, with_tables, told_by, SoFar, length, is_valued, valued, ValueStays, Sheds, has_value, sum_by-le-sum_by}, Left.{entries-none, ones}}
-use Rattle.pagable_tables.proofs.{Telling.{keyed-cell, counted}, Fitting.first-waits, Bits.one-le, Worlds.same-cache}
+use Rattle.pagable_tables.proofs.{Telling.counted, Fitting.first-waits, Bits.one-le, Worlds.same-cache}
 
 stands : (at : ℕ → Option Counts) (refs : ℕ → List ArcRef) (rows : List HandleRow) (top : ℕ) → Fits at refs rows top [] owns_nothing → (n : ℕ) → falls_in (at n) ≡ false
 stands at refs rows top fits n = let a = fits.marked n in grind (arith, nat_tests)
@@ -17,60 +17,33 @@ none-left at refs rows top fits n q down = grind (arith, nat_tests)
 none-owned : (n : ℕ) (rows : List HandleRow) → ((q : ℕ) → sum_by (λ h. owns h n q) rows ≡ 0) → times (is_owned_by (owner_value n)) rows ≡ 0
 none-owned n [] none = refl
 none-owned n (x ∷ xs) none =
-    let a = sum_by-cons (λ h. owns h n x.number.0) x xs in
-    let d = sum_by-cons (λ h. one (is_owned_by (owner_value n) h)) x xs in
     let rest = none-owned n xs (λ q. let k = sum_by-cons (λ h. owns h n q) x xs in let l = none q in omega arith) in
-    let here : one (is_owned_by (owner_value n) x) ≡ 0 = grind (arith, nat_tests) in
-    omega arith
-
-down-keyed : (o : Option Counts) (cell : Option Cell) → (is_some o ≡ true → cell_in o ≡ cell) → has_key (if_there (λ (c : Cell). c.key) OptionalDataKey.None cell) ≡ true
-    → (holds_in o ≡ 0) ⊎ (keyed_in o ≡ true)
-down-keyed x0 cell same e = grind (arith, nat_tests, keyed-cell)
-
-cell-kept : (o : Option Counts) (refs : List ArcRef) (h : ℕ) (cell : Option Cell) → falls_in o ≡ false → Right o refs → holds_in o ≡ h → (is_some o ≡ true → cell_in o ≡ cell)
-    → cell_in o ≡ (if nat_lt 0 h then cell else None)
-cell-kept o refs h cell free right e same = grind (arith, nat_tests)
+    grind (arith, nat_tests, sum_by-cons (λ h. one (is_owned_by (owner_value n) h)) x xs, sum_by-cons (λ h. owns h n x.number.0) x xs)
 
 refusal : (w w' : Core) (e : Error) → IsListRefusal w w' e → CannotList w w'
 refusal w w' e r = grind (arith, nat_tests)
 
-each-listed : (before w w' : Core) (entries : List HandleRow) (r : Result (Unit {0}) Error) → TellsListing before w entries r w' → (n : ℕ) → MustList before w w' n
-    → (held n entries ≡ 1) ⊎ CannotList w w'
-each-listed before w w' entries x4 tells n must = grind (arith, nat_tests, refusal)
-
 module _ (before w : Core) (given : ℕ → Bool) (lists : Bool) (t : Holdings) (f : SoFar before w given lists t) (whole : IsFalling t [] owns_nothing) where
   down : (n : ℕ) (keyed : Bool) → is_keyed w n ≡ keyed → (if keyed then nat_eq (pins_outside w.rows f.gone n) 0 else nat_eq (held n f.entries) 0 && nat_eq
       (held_outside w.rows f.gone n) 0) ≡ true → HasFallen (counts_at t.nodes) (live t.handles.places.items) n
-  down n true e lost =
-      let a = counted f (is_pin n) in
-      let b = entries-none (is_pin n) (λ h mode owner. grind (arith, nat_tests)) w.last.handle f.entries f.new in
-      let z : pins n (live t.handles.places.items) ≡ 0 = grind (arith, nat_tests) in
-      elim (down-keyed (counts_at t.nodes n) (w.cells n) (f.cells n) e) [
-        | inl none ↦ inl (sym (whole.fits.holding n) ∙ none)
-        | inr keyed ↦ inr (keyed, z)
-      ]
+  down n true e lost = grind (arith, nat_tests, counted f (is_pin n), entries-none (is_pin n) (λ h mode owner. grind (arith, nat_tests)) w.last.handle f.entries f.new)
   down n false e lost = let a = counted f (is_at n) in inl (grind (arith, nat_tests))
 
   pub closed : IsClosed w.rows (is_keyed w) f.entries f.gone
   closed n lost =
       let fell = down n (is_keyed w n) refl lost in
-      let a = none-owned n (live t.handles.places.items) (λ q. none-left (counts_at t.nodes) (refs_at t.nodes) (live t.handles.places.items) t.top whole.fits n q fell) in
-      let b = counted f (is_owned_by (owner_value n)) in
-      omega arith
-
-  cells-same : (n : ℕ) → cell_in (counts_at t.nodes n) ≡ (fallen w f.gone f.entries).cells n
-  cells-same n = grind (arith, nat_tests, cell-kept, stands, live)
+      omega (arith, none-owned n (live t.handles.places.items) (λ q. none-left (counts_at t.nodes) (refs_at t.nodes) (live t.handles.places.items) t.top whole.fits n q fell),
+          counted f (is_owned_by (owner_value n)))
 
   leaves : Alike (fallen w f.gone f.entries) (with_tables w t)
-  leaves = grind (arith, nat_tests, cells-same, same-cache, live, fallen)
+  leaves = grind (arith, nat_tests, stands, same-cache, live, fallen)
 
   -- what the world says of a cascade
   pub ended : Falls before w given (told_by t.unlisted) (with_tables w t)
   ended =
       let set : IsLeast w.rows (is_keyed w) f.entries given f.gone =
       record { holds = f.holds; closed = closed; least = λ s has is. f.least s f.entries (λ n none. let a = counted f (is_at n) in omega arith) has is } in
-      let within : w.last.handle + length f.entries ≤ greatest = subst (λ k. k ≤ greatest) f.last f.within in
-      grind (arith, nat_tests, each-listed, leaves)
+      grind (arith, nat_tests, refusal, leaves)
 
 pub valued-le : (rows : List HandleRow) → valued rows ≤ length rows
 valued-le rows = omega (arith, ones rows, sum_by-le-sum_by (λ (h : HandleRow). one (is_valued h.owner)) (λ h. 1) rows (λ h. one-le (is_valued h.owner)))

@@ -31,23 +31,8 @@ pin-here x = grind (arith, nat_tests)
 pub held-here : (x : HandleRow) → handle_of x.node.0 x ≡ 1
 held-here x = grind (arith, nat_tests)
 
-pub pin-other : (n : ℕ) (x : HandleRow) → n ≢ x.node.0 → pin_of n x ≡ 0
-pin-other n x other = grind (arith, nat_tests)
-
-pub held-other : (n : ℕ) (x : HandleRow) → n ≢ x.node.0 → handle_of n x ≡ 0
-held-other n x other = grind (arith, nat_tests)
-
-not-both : (w g : Bool) → (not w && g) ≡ true → w ≡ false
-not-both x0 g h = grind (arith, nat_tests)
-
 is-new : (w g : Bool) → is_new w (w || (not w && g)) ≡ (not w && g)
 is-new w g = grind (arith, nat_tests)
-
-if-true : (b : Bool) (m n : ℕ) → b ≡ true → (if b then m else n) ≡ m
-if-true x0 m n h = grind (arith, nat_tests)
-
-if-false : (b : Bool) (m n : ℕ) → b ≡ false → (if b then m else n) ≡ n
-if-false x0 m n h = grind (arith, nat_tests)
 
 in-none : (n : ℕ) (stack : List ℕ) (m : ℕ) → often n stack ≡ 0 → 0 < often m stack → m ≢ n
 in-none n stack m none some e = let a = ap (λ k. often k stack) e in absurd (omega arith)
@@ -58,12 +43,6 @@ module _ (at at' : ℕ → Option Counts) (refs refs' : ℕ → List ArcRef) (ro
     (leaves : (f : HandleRow → ℕ) → sum_by f rows' + f x ≡ sum_by f rows + (if stays then f (unpinned x) else 0) + (if listed then f (entry k x.node) else 0))
     (here : at' x.node.0 ≡ Some (after c (is_pinning x.mode) stays listed top)) (others : (n : ℕ) → n ≢ x.node.0 → at' n ≡ at n) (same : (n : ℕ) → refs' n ≡ refs n)
     (some : one (is_pinning x.mode) ≤ c.pins) (live : 1 ≤ c.holds) where
-  given-pinned : (n : ℕ) → pins_in (at' n) ≡ pins n rows'
-  given-pinned n = grind (arith, nat_tests)
-
-  given-holding : (n : ℕ) → holds_in (at' n) ≡ held n rows'
-  given-holding n = grind (arith, nat_tests)
-
   given-owned : (n q : ℕ) → named q (refs' n) + 0 ≡ sum_by (is_owned n q) rows'
   given-owned n q = grind (arith, nat_tests)
 
@@ -75,8 +54,7 @@ module _ (at at' : ℕ → Option Counts) (refs refs' : ℕ → List ArcRef) (ro
   now_falls = is_fallen_by c (is_pinning x.mode) (c.pins - one (is_pinning x.mode)) ((if stays then c.holds else c.holds - 1) + one listed)
 
   given-chain : (b : Bool) → now_falls ≡ b → Chain at' (if b then x.node.0 else top) (if b then x.node.0 ∷ stack else stack)
-  given-chain true e = grind (arith, nat_tests, if-true, not-both, chain-frame, in-none, if-false)
-  given-chain false e = grind (arith, nat_tests, if-true, not-both, chain-frame, in-none, if-false)
+  given-chain x1 e = grind (arith, nat_tests, chain-frame, in-none)
 
   given-marked : (b : Bool) → now_falls ≡ b → (n : ℕ) → often n (if b then x.node.0 ∷ stack else stack) ≡ one (falls_in (at' n))
   given-marked true e n =
@@ -92,7 +70,7 @@ module _ (at at' : ℕ → Option Counts) (refs refs' : ℕ → List ArcRef) (ro
   given-right n = grind (arith, nat_tests)
 
   pub given-fits : (b : Bool) → now_falls ≡ b → Fits at' refs' rows' (if b then x.node.0 else top) (if b then x.node.0 ∷ stack else stack) owns_nothing
-  given-fits b e = grind (arith, nat_tests, given-pinned, given-holding, given-owned, given-chain, given-marked, given-right, given-one)
+  given-fits b e = grind (arith, nat_tests, given-owned, given-chain, given-marked, given-right, given-one)
 
   pub given-cells : CellsStay at at'
   given-cells n some' = grind (arith, nat_tests)
@@ -127,10 +105,6 @@ pins-le-held n rows = sum_by-le-sum_by (pin_of n) (handle_of n) rows (λ h. grin
 landed-as : (c : Counts) → c.pins ≤ c.holds → (pins_in (landed c) ≡ c.pins) × (holds_in (landed c) ≡ c.holds) × (falls_in (landed c) ≡ false) × Right (landed c) []
 landed-as c few = (grind (arith, nat_tests), grind (arith, nat_tests), grind (arith, nat_tests), grind (arith, nat_tests))
 
--- where a node that fell still has a handle, it has a key, and nothing pins it
-landed-gone : (c : Counts) (bare : Bool) → c.is_falling ≡ true → is_right c bare ≡ true → has_value (landed c) ≡ false
-landed-gone c bare falls right = grind (arith, nat_tests)
-
 -- the first node that waits is done: it is gone, or waits no more
 module _ (at at' : ℕ → Option Counts) (refs refs' : ℕ → List ArcRef) (rows : List HandleRow) (n : ℕ) (ns : List ℕ) (c : Counts)
     (fits : Fits at refs rows n (n ∷ ns) owns_nothing) (is : at n ≡ Some c) (here : at' n ≡ landed c) (bare : refs n ≡ [])
@@ -141,7 +115,8 @@ module _ (at at' : ℕ → Option Counts) (refs refs' : ℕ → List ArcRef) (ro
 
   pub done-gone : has_value (at' n) ≡ false
   done-gone =
-      ap has_value here ∙ landed-gone c (is_bare (refs n)) (sym (ap falls_in is) ∙ first-waits at refs rows n ns owns_nothing fits) (subst (λ o. Right o (refs n)) is (fits.right n))
+      let w : c.is_falling ≡ true = sym (ap falls_in is) ∙ first-waits at refs rows n ns owns_nothing fits in let r : Right (Some c) (refs n) = subst (λ o. Right o (refs n)) is (fits.right n) in
+      ap has_value here ∙ (grind (arith, nat_tests))
 
   pub done-fits : Fits at' refs' rows c.next ns owns_nothing
   done-fits =
@@ -160,19 +135,13 @@ module _ (at at' : ℕ → Option Counts) (refs refs' : ℕ → List ArcRef) (ro
         from_one = others 0 (λ e. one' (sym e)) ∙ fits.from_one;
       }
 
-still-right : (w a b b' : Bool) → w ≡ true → (if w then a else b) ≡ true → (if w then a else b') ≡ true
-still-right x0 a b b' e h = grind (arith, nat_tests)
-
-owner-value : (n : ℕ) (o : Owner) → is_owner (owner_value n) o ≡ true → o ≡ owner_value n
-owner-value n x1 h = grind (arith, nat_tests)
-
 -- what waits may lose references
 still : (o : Option Counts) (refs refs' : List ArcRef) → falls_in o ≡ true → Right o refs → Right o refs'
-still x0 refs refs' waits right = grind (arith, nat_tests, still-right)
+still x0 refs refs' waits right = grind (arith, nat_tests)
 
 -- an owned row's owner
 pub owner-is : (n q : ℕ) (x : HandleRow) → is_owned n q x ≡ 1 → (x.owner ≡ owner_value n) × ((m r : ℕ) → is_owned m r x ≡ one (n == m && q == r))
-owner-is n q x h = grind (arith, nat_tests, owner-value)
+owner-is n q x h = grind (arith, nat_tests)
 
 -- the last reference of the first node that waits is taken: its row is owned by that node's value
 module _ (at at' : ℕ → Option Counts) (refs refs' : ℕ → List ArcRef) (rows : List HandleRow) (n : ℕ) (ns : List ℕ) (p : ArcRef)
@@ -204,16 +173,11 @@ pub fits-same : (at at' : ℕ → Option Counts) (refs refs' : ℕ → List ArcR
     → ((m : ℕ) → at' m ≡ at m) → ((m : ℕ) → refs' m ≡ refs m) → Fits at' refs' rows top stack owns_nothing
 fits-same at at' refs refs' rows top stack fits same refs-same = grind (arith, nat_tests, named, chain-frame)
 
--- the first node that waits has lost its value
-fallen-plain : (w k : Bool) (p h : ℕ) (b : Bool) → w ≡ true → (if w then h == 0 || (p == 0 && k) else b) ≡ true → (h ≡ 0) ⊎ ((k ≡ true) × (p ≡ 0))
-fallen-plain w k p h b e h' = grind (arith, nat_tests)
-
-fallen-at : (o : Option Counts) (refs : List ArcRef) → falls_in o ≡ true → Right o refs → (holds_in o ≡ 0) ⊎ ((keyed_in o ≡ true) × (pins_in o ≡ 0))
-fallen-at x0 refs w r = grind (arith, nat_tests, fallen-plain)
-
 pub fallen : (at : ℕ → Option Counts) (refs : ℕ → List ArcRef) (rows : List HandleRow) (n : ℕ) (ns : List ℕ) → Fits at refs rows n (n ∷ ns) owns_nothing → HasFallen at rows n
 fallen at refs rows n ns fits =
-    elim (fallen-at (at n) (refs n) (first-waits at refs rows n ns owns_nothing fits) (fits.right n)) [
+    let w = first-waits at refs rows n ns owns_nothing fits in let r = fits.right n in
+    let gone : (holds_in (at n) ≡ 0) ⊎ ((keyed_in (at n) ≡ true) × (pins_in (at n) ≡ 0)) = grind (arith, nat_tests) in
+    elim gone [
       | inl none ↦ inl (sym (fits.holding n) ∙ none)
       | inr both ↦ inr (both.0, sym (fits.pinned n) ∙ both.1)
     ]

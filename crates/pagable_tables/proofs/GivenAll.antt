@@ -25,17 +25,13 @@ bare loads =
 
 -- neither a value's handle is given up so, nor the list's where others are
 pub given-plain : (w : Core) (giving : Giving) (o : Owner) (node : NodeNumber) → gives w giving o node ≡ true → (is_valued o ≡ false) × ((is_owner Owner.List o ≡ false) ⊎ (giving ≡ Giving.Listed))
-given-plain w Giving.Listed o node is = (list-owner o is, inr refl)
-given-plain w (Giving.Load l) o node is = grind (arith, nat_tests)
-given-plain w (Giving.AtNode v n) o node is = grind (arith, nat_tests)
-given-plain w (Giving.Worker v) o node is = grind (arith, nat_tests)
+given-plain w x2 o node is = grind (arith, nat_tests, list-owner)
 
 unlisting : (w : Core) (giving : Giving) → giving ≢ Giving.Listed → (h : HandleRow) → h.owner ≡ Owner.List → gives_row w giving h ≡ false
 unlisting w x1 other h is = grind (arith, nat_tests)
 
 listed-or : (giving : Giving) → (giving ≡ Giving.Listed) ⊎ (giving ≢ Giving.Listed)
-listed-or Giving.Listed = inl refl
-listed-or x0 = inr (λ is. absurd (cc))
+listed-or x1 = grind (arith, nat_tests)
 
 went : (g o : Bool) → (not g && o) ≡ false → o ≡ true → g ≡ true
 went g o e is = grind (arith, nat_tests)

@@ -2,20 +2,14 @@
 use Rattle.pagable_tables.proofs.Words.{◌≡◌, ℕ, ◌<◌, ◌==◌, List, [], ◌∷◌, refl, ap, sym, ◌∙◌, subst, arith, Option, Some, None, ◌⊎◌, ◌≤◌, ◌+◌, not, vec_capacity, nat_tests, Error, ArcRef}
 use Rattle.pagable_tables.proofs.Words.{HandleNumber, LoadNumber, NodeNumber, HandleRow, Owner, if_there, Core, OpenLoad, Places, of_cell, of_key, greatest, AreHandlesFull, refused_if, where_so}
 use Rattle.pagable_tables.proofs.Words.{spent, load_fault, references_fault, MayOwnLoad, root_fault, end_fault, is_owned_in, MayEnd, Tables, live, room, AreSound, counts_at, plain_of, Ending, IsReady}
-use Rattle.pagable_tables.proofs.Words.{◌&&◌, Bool, true, false, ◌++◌, length, inl, inr, if◌then◌else◌, ◌≢◌, Result, option_map, AllPairs, sum_by_push, Mode, Blob, Among, one, times, changed}
-use Rattle.pagable_tables.proofs.Words.{find_row, pins, sharing, is_handle, is_owner, is_owned_by, is_pin, is_share, owner_value, IsHandleBefore, Last, Alike, Falls, nobody, moved, row_of}
-use Rattle.pagable_tables.proofs.Words.{is_named_by, with_handle, with_mode, without_load, with_pin, Installs, Holdings, Counts, LoadRow, load_at, cell_in, has_value, is_valued, pins_in, with_tables}
-use Rattle.pagable_tables.proofs.{Words.{is_plain_pin, SoFar, core_of, load_in, MayHold, IsWider, has_come}, Coming.turned, keeps.EndCalls.both-none, Newer.{OnlyNewer, owned-mode, newer-then}}
-use Rattle.pagable_tables.proofs.{Newer.{newer-moved, newer-mode, newer-handle, newer-falls}, Worlds.fault-by, Begun.{begins, begun}, Taken.{load-closed, owned-given, moved-times, owned-moved}}
-use Rattle.pagable_tables.proofs.{Taken.no-load, Joined.{moved-turned, turned-sum}, Named.{moved-nobody, named-none}, Regiven.{found-first, owned, passes-here, passes-none}, Stays.seen-before}
-use Rattle.pagable_tables.proofs.{Stays.{stays-pinned, not-named, same-value}, keeps.HandleCalls.{named-unlisted, moved-to-value}, keeps.Comes.{not-list, not-a-value}, keeps.LoadCalls.may-hold}
-use Rattle.pagable_tables.{proofs.{keeps.Rows.{among-map, found-among, once, ordered-map, sum-map}, Bits.{and-zero, and-left, and-all}}, specs.Core.IsWhole}
-
-typed-so : (a b : ℕ) → refused_if (not (a == b)) Error.WrongKind ≡ None → a ≡ b
-typed-so a b e = grind (arith, nat_tests)
-
-own-so : (w : Core) (me : Owner) (l : LoadNumber) (load : OpenLoad) → w.loads l.0 ≡ Some load → load_fault w me l ≡ None → load.owner ≡ me
-own-so w me l load is none = grind (arith, nat_tests)
+use Rattle.pagable_tables.proofs.Words.{◌&&◌, Bool, true, false, length, inl, inr, if◌then◌else◌, ◌≢◌, Result, option_map, AllPairs, sum_by_push, Mode, Blob, Among, one, times, changed}
+use Rattle.pagable_tables.proofs.Words.{find_row, pins, sharing, is_handle, is_owned_by, is_pin, is_share, owner_value, IsHandleBefore, Last, Alike, Falls, nobody, moved, row_of}
+use Rattle.pagable_tables.proofs.Words.{is_named_by, with_handle, with_mode, without_load, with_pin, Installs, Holdings, LoadRow, load_at, cell_in, has_value, is_valued, with_tables}
+use Rattle.pagable_tables.proofs.{Words.{is_plain_pin, SoFar, core_of, load_in, MayHold, IsWider, has_come}, Coming.turned, Newer.{OnlyNewer, owned-mode, newer-then, newer-moved, newer-mode}}
+use Rattle.pagable_tables.proofs.{Newer.{newer-handle, newer-falls}, Worlds.fault-by, Begun.{begins, begun}, Taken.{load-closed, owned-given, moved-times, owned-moved, no-load}, Joined.moved-turned}
+use Rattle.pagable_tables.proofs.{Joined.turned-sum, Named.{moved-nobody, named-none}, Regiven.{found-first, passes-here, passes-none}, Stays.{seen-before, stays-pinned, not-named}}
+use Rattle.pagable_tables.proofs.keeps.{EndCalls.both-none, HandleCalls.{named-unlisted, moved-to-value}, Comes.{not-a-value}, LoadCalls.may-hold}
+use Rattle.pagable_tables.{proofs.{keeps.Rows.{among-map, found-among, once, ordered-map, sum-map}, Bits.{and-left, and-all}}, specs.Core.IsWhole}
 
 module _ (w : Core) (me : Owner) (l : LoadNumber) (node_type : ℕ) (refs : List ArcRef) (none : end_fault w me l node_type refs ≡ None) where
   abbrev root : Option Error
@@ -41,7 +35,7 @@ module _ (w : Core) (me : Owner) (l : LoadNumber) (node_type : ℕ) (refs : List
       fits = both-none (refused_if (not (node_type == t)) Error.WrongKind) (where_so (is_owned_in w me h.0) (spent w.last.handle)) (sym (ap (root_fault w me node_type) cell) ∙ rooted)
 
       pub may-end : MayEnd w me l node h node_type refs
-      may-end = grind (arith, nat_tests, own-so, parts, typed-so, fits)
+      may-end = grind (arith, nat_tests, parts, fits)
 
 -- references are as good where there are other places
 pub references-placed : (w : Core) (places : Places) (owner : Owner) (seen : List ℕ) (refs : List ArcRef) → references_fault (record w { places = places }) owner seen refs ≡ references_fault w owner seen refs
@@ -68,9 +62,6 @@ module _ (h : HandleNumber) (node : NodeNumber) (rows : List HandleRow) (of : (y
 
   pub other-shares : sharing n (changed (is_handle h.0) turned rows) ≡ sharing n rows
   other-shares = grind (arith, nat_tests, sum-map, of)
-
-loaded-beside : (l : LoadNumber) (q : ℕ) (rows : List HandleRow) (x : HandleRow) → is_owner (Owner.Load l) x.owner ≡ false → owned (Owner.Load l) q (rows ++ x ∷ []) ≡ owned (Owner.Load l) q rows
-loaded-beside l q rows x other = found-first (is_owned_by (Owner.Load l)) q rows (x ∷ []) (grind (arith, nat_tests, passes-here, passes-none))
 
 row-of : (rows : List HandleRow) → AllPairs IsHandleBefore rows → (row : HandleRow) → find_row row.number.0 rows ≡ Some row → (z : HandleRow) → Among rows z → is_handle row.number.0 z ≡ true
     → z.node ≡ row.node
@@ -102,14 +93,8 @@ module _ (t t1 : Tables) (stored : ℕ → Option Blob) (closed lists : Bool) (f
   listed : (q : ℕ) → times (λ (h : HandleNumber). h.0 == q) t.holdings.list.items ≡ times (λ h. is_handle q h && is_owned_by Owner.List h) (moved s o (live t.holdings.handles.places.items))
   listed = (moved-to-value was.core s (named-unlisted was.core (Owner.Load l) rs refl good) row.node.0).owners_there.listed
 
-  unlisted : is_owner Owner.List me ≡ false
-  unlisted = not-list (plain_of t) me holder
-
   unvalued : is_valued me ≡ false
   unvalued = not-a-value (plain_of t) me holder
-
-  unloaded : is_owner (Owner.Load l) me ≡ false
-  unloaded = no-load (plain_of t) me l may
 
   abbrev w : Core
   w = core_of t stored closed failures
@@ -142,8 +127,7 @@ module _ (t t1 : Tables) (stored : ℕ → Option Blob) (closed lists : Bool) (f
   list-has : (q : ℕ) → times (λ (h : HandleNumber). h.0 == q) u.list ≡ times (λ h. is_handle q h && is_owned_by Owner.List h) u.rows
   list-has q =
       let b = sum_by_push (λ (h : HandleRow). one (is_handle q h && is_owned_by Owner.List h)) mid x in
-      let z : one (is_handle q x && is_owned_by Owner.List x) ≡ 0 = ap (λ b. one (is_handle q x && b)) unlisted ∙ and-zero (is_handle q x) in
-      omega (arith, turned-sum (λ (h : HandleRow). one (is_handle q h && is_owned_by Owner.List h)) h.0 rows0 (λ y. refl), listed q)
+      grind (arith, nat_tests, turned-sum (λ (h : HandleRow). one (is_handle q h && is_owned_by Owner.List h)) h.0 rows0 (λ y. refl), listed q)
 
   module _ (k : Holdings) (rows : live k.handles.places.items ≡ moved s o (live t1.holdings.handles.places.items)) (list : k.list ≡ t1.holdings.list) (last : k.last_handle ≡ t1.holdings.last_handle)
       (capacity : vec_capacity k.handles.places ≡ vec_capacity t1.holdings.handles.places) (cells : (n : ℕ) → cell_in (counts_at k.nodes n) ≡ cell_in (counts_at t1.holdings.nodes n)) where
@@ -166,10 +150,8 @@ module _ (t t1 : Tables) (stored : ℕ → Option Blob) (closed lists : Bool) (f
         (λ n must. let p = must.pinned in let z = must.unpinned in let r = ap (pins n) (rows ∙ come) in absurd (omega arith))
 
     owned-pinned : (q : ℕ) → is_owned_in u (Owner.Load l) q ≡ given q
-    owned-pinned q = loaded-beside l q mid x unloaded ∙ owned-mode (Owner.Load l) q (is_handle h.0) Mode.LoosePinned rows0 ∙ owned-moved s o (Owner.Load l) q w.rows refl
-
-    spared-pin : given (t.holdings.last_handle + 1) ≡ false
-    spared-pin = grind (arith, nat_tests, and-left, owned-given (plain_of t) (Owner.Load l) (t.holdings.last_handle + 1) was.core.handles)
+    owned-pinned q = found-first (is_owned_by (Owner.Load l)) q mid (x ∷ []) (grind (arith, nat_tests, passes-here, passes-none,
+        no-load (plain_of t) me l may)) ∙ owned-mode (Owner.Load l) q (is_handle h.0) Mode.LoosePinned rows0 ∙ owned-moved s o (Owner.Load l) q w.rows refl
 
     ordered : AllPairs IsHandleBefore u.rows
     ordered = grind (arith, nat_tests, come, ordered-map)
@@ -179,7 +161,8 @@ module _ (t t1 : Tables) (stored : ℕ → Option Blob) (closed lists : Bool) (f
       where
         to-before : (n : ℕ) → pins n w'.rows ≡ 0 → (pins n u.rows ≡ pins n w.rows) × (sharing n u.rows ≡ sharing n w.rows)
         to-before n none =
-            let stays = stays-pinned (record w { rows = mid }) u w' given r x refl ordered unvalued spared-pin falls n none in
+            let stays = stays-pinned (record w { rows = mid }) u w' given r x refl ordered unvalued (grind (arith, nat_tests, and-left,
+                owned-given (plain_of t) (Owner.Load l) (t.holdings.last_handle + 1) was.core.handles)) falls n none in
             let more = sum_by_push (λ y. one (is_pin n y)) mid x in
             let z : one (is_pin n x) ≡ 0 = (let b = stays.0 in omega arith) in
             let other : (row.node.0 == n) ≡ false = grind (arith, nat_tests) in (
@@ -199,9 +182,8 @@ module _ (t t1 : Tables) (stored : ℕ → Option Blob) (closed lists : Bool) (f
         (later q mine, (let g = owned-given (plain_of t) (Owner.Load l) q was.core.handles mine in let b = ap (λ (v : Last). v.handle) a.last in omega arith))) in
         let fell = as-before (subst (λ g. Falls u u g r (with_tables u new)) (λ i q. owned-pinned q i) falls) in
         let closed-one = load-closed (load_at t.loads) loads l.0 gone (λ q other. others q other ∙ ap (λ (v : Tables). load_at v.loads q) same) in
-        let told : Falls w u given r (record (with_tables u new) { loads = λ q. option_map load_in (loads q) }) =
-        subst (λ f. Falls w u given r (record (with_tables u new) { loads = f })) (λ i q. closed-one q i) fell in
-        subst (λ (v : Tables). Falls w u given r (record (core_of (record v { holdings = new }) stored closed failures) { loads = λ q. option_map load_in (loads q) })) (sym same) told
+        subst (λ (v : Tables). Falls w u given r (record (core_of (record v { holdings = new }) stored closed failures) { loads = λ q. option_map load_in (loads q) })) (sym same)
+        (subst (λ f. Falls w u given r (record (with_tables u new) { loads = f })) (λ i q. closed-one q i) fell)
 
 pub so-then : (b : Bool) → not b ≡ false → b ≡ true
 so-then x0 e = grind (arith, nat_tests)
@@ -220,8 +202,7 @@ pub none-moves : (w : Core) (l : LoadNumber) (row : HandleRow) (me : Owner) (r :
     → Falls w (with_pin (record (without_load w l) { rows = moved (is_named_by []) (owner_value row.node.0) w.rows }) row.number row.node me) (λ q. is_owned_in w (Owner.Load l) q && not (is_named_by [] q)) r w'
     → Falls w (with_pin (without_load w l) row.number row.node me) (is_owned_in w (Owner.Load l)) r w'
 none-moves w l row me r w' falls =
-    subst (λ rows. Falls w (with_pin (record (without_load w l) { rows = rows }) row.number row.node me) (is_owned_in w (Owner.Load l)) r w') (moved-nobody (owner_value row.node.0) w.rows)
-    (subst (λ given. Falls w (with_pin (record (without_load w l) { rows = moved (is_named_by []) (owner_value row.node.0) w.rows }) row.number row.node me) given r w') (λ i q. all q i) falls)
+    subst (λ (T : Type 0). T) (λ i. Falls w (with_pin (record (without_load w l) { rows = moved-nobody (owner_value row.node.0) w.rows i }) row.number row.node me) (λ q. all q i) r w') falls
   where
     all : (q : ℕ) → (is_owned_in w (Owner.Load l) q && not (is_named_by [] q)) ≡ is_owned_in w (Owner.Load l) q
     all q = ap (λ b. is_owned_in w (Owner.Load l) q && not b) (named-none q) ∙ and-all (is_owned_in w (Owner.Load l) q)
@@ -237,9 +218,6 @@ install-newer {w} {w'} me l node h k refs i = elim i.falls [
     pinned : (v : Core) {before w' : Core} {given : ℕ → Bool} {r : Result (Unit {0}) Error} → Falls before (with_pin v h node me) given r w' → OnlyNewer v w'
     pinned v falls = newer-then (newer-mode v h Mode.LoosePinned) (newer-then (newer-handle (with_mode v h Mode.LoosePinned) node Mode.Pinned me) (newer-falls falls))
 
-pinned-value : (c : Option Counts) → 0 < pins_in c → has_value c ≡ true
-pinned-value x0 some = grind (arith, nat_tests)
-
 -- whose value is in memory then, where the pinned cell has got one
 module _ (t t1 : Tables) (stored : ℕ → Option Blob) (closed : Bool) (failures : ℕ) (was : IsWhole t) (whole : IsWhole t1) (row : HandleRow)
     (found : find_row row.number.0 (live t.holdings.handles.places.items) ≡ Some row) (me : Owner)
@@ -248,11 +226,11 @@ module _ (t t1 : Tables) (stored : ℕ → Option Blob) (closed : Bool) (failure
   has-come n = by (n == row.node.0) refl
     where
       by : (b : Bool) → (n == row.node.0) ≡ b → has_value (counts_at t1.holdings.nodes n) ≡ (if b then true else has_value (counts_at t.holdings.nodes n))
-      by true is = grind (arith, nat_tests, pinned-value, pins-here)
+      by true is = grind (arith, nat_tests, pins-here)
       by false is =
           let rows = live t.holdings.handles.places.items in
           let same = other-pins row.number row.node rows (row-of rows was.core.handles.ordered row found) n in
-          grind (arith, nat_tests, same-value, sum_by_push, same, a.rows, a.cells n, was.steady.fits.pinned n, whole.steady.fits.pinned n)
+          grind (arith, nat_tests, sum_by_push, same, a.rows, a.cells n, was.steady.fits.pinned n, whole.steady.fits.pinned n)
 
 -- what is true with more places is true without them
 pub may-wider : {w v : Core} {me : Owner} {l : LoadNumber} {node : NodeNumber} {h : HandleNumber} {t : ℕ} {refs : List ArcRef} → IsWider w v → MayEnd v me l node h t refs → MayEnd w me l node h t refs

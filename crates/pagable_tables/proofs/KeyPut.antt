@@ -1,11 +1,7 @@
 -- A node gets a key: handles and nodes fit again, and nothing else has gone or come so far.
-use Rattle.pagable_tables.proofs.Words.{◌≡◌, ℕ, ◌<◌, ◌==◌, ◌&&◌, ◌||◌, Bool, true, false, if◌then◌else◌, List, [], ◌∷◌, refl, ap, sym, ◌∙◌, subst, arith, inl, inr, Option, Some, ◌≢◌, nat_lt, not}
-use Rattle.pagable_tables.proofs.Words.{cases_eq, nat_tests, ArcRef, HandleRow, one, Counts, Fits, Chain, Right, is_new, falls_in, often, named, owns_nothing, keyed, None, NodeNumber, Blob, with_key}
+use Rattle.pagable_tables.proofs.Words.{◌≡◌, ℕ, ◌<◌, ◌==◌, Bool, false, if◌then◌else◌, List, [], ◌∷◌, refl, ap, sym, ◌∙◌, subst, arith, inl, inr, Option, Some, ◌≢◌, not}
+use Rattle.pagable_tables.proofs.Words.{cases_eq, nat_tests, ArcRef, HandleRow, Counts, Fits, Right, is_new, named, owns_nothing, keyed, None, NodeNumber, Blob, with_key}
 use Rattle.pagable_tables.{proofs.{Words.{Core, nobody, Tables, Holdings, counts_at, GetsKey, SoFar, core_of}, Coming.{is-free, not-zero}, Begun.{begins, begun}}, specs.Core.IsWhole}
-
-keyed-right : (w bare : Bool) (p h : ℕ) (k key : ℕ) → w ≡ false → 0 < key → (if w then h == 0 || (p == 0 && nat_lt 0 k) else nat_lt 0 h && (nat_lt 0 p || not (nat_lt 0 k) || bare)) ≡ true
-    → (if p == 0 then h == 0 || (p == 0 && nat_lt 0 key) else nat_lt 0 h && (nat_lt 0 p || not (nat_lt 0 key) || bare)) ≡ true
-keyed-right w bare p h k key e some r = grind (arith, nat_tests)
 
 pub key-top : (b : Bool) (n top : ℕ) → (if is_new false b then n else top) ≡ (if b then n else top)
 key-top x0 n top = grind (arith, nat_tests)
@@ -17,20 +13,14 @@ module _ (at at' : ℕ → Option Counts) (refs refs' : ℕ → List ArcRef) (ro
   told : {X : Type 0} (f : Option Counts → X) → f (Some (keyed c key top)) ≡ f (Some c) → (m : ℕ) → f (at' m) ≡ f (at m)
   told f e m = elim (cases_eq m n) [ inl eq ↦ ap (λ k. f (at' k)) eq ∙ ap f here ∙ e ∙ sym (ap f is) ∙ sym (ap (λ k. f (at k)) eq) | inr other ↦ ap f (others m other) ]
 
-  key-chain : (b : Bool) → (c.pins == 0) ≡ b → Chain at' (if b then n else top) (if b then n ∷ [] else [])
-  key-chain x0 e = grind (arith, nat_tests)
-
-  key-marked : (b : Bool) → (c.pins == 0) ≡ b → (m : ℕ) → often m (if b then n ∷ [] else []) ≡ one (falls_in (at' m))
-  key-marked b e m = grind (arith, nat_tests)
-
   key-right : (m : ℕ) → Right (at' m) (refs' m)
   key-right m = elim (cases_eq m n) [
-    | inl eq ↦ grind (arith, nat_tests, keyed-right, is-free)
+    | inl eq ↦ grind (arith, nat_tests, is-free)
     | inr other ↦ subst (λ o. Right o (refs' m)) (sym (others m other)) (subst (λ r. Right (at m) r) (sym (same m)) (fits.right m))
   ]
 
   pub key-fits : (b : Bool) → (c.pins == 0) ≡ b → Fits at' refs' rows (if b then n else top) (if b then n ∷ [] else []) owns_nothing
-  key-fits b e = grind (arith, nat_tests, told, named, key-chain, key-marked, key-right, not-zero at n c fits.from_one is)
+  key-fits b e = grind (arith, nat_tests, told, named, key-right, not-zero at n c fits.from_one is)
 
 module _ (T : Tables) (stored : ℕ → Option Blob) (closed lists : Bool) (failures : ℕ) (whole : IsWhole T) (opened : lists ≡ not closed) (node : NodeNumber) (key : ℕ) (new : Holdings) where
   abbrev old : Core

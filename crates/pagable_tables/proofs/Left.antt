@@ -1,7 +1,7 @@
 -- Rows that are left when a set of handles goes, counted and listed, and handles that leave.
 use Rattle.pagable_tables.proofs.Words.{◌≡◌, ℕ, ◌+◌, ◌≤◌, ◌==◌, ◌&&◌, ◌||◌, Bool, true, false, not, if◌then◌else◌, List, [], ◌∷◌, ◌++◌, length, filter, refl, ap, ◌∙◌, arith, nat_tests, sum_by-cons}
 use Rattle.pagable_tables.proofs.Words.{sum_by-le-sum_by, HandleNumber, HandleRow, Owner, Mode, one, times, is_handle, left_rows, AreNewEntries, sum_by, append-nil, sum_by_push, NodeNumber, Holdings}
-use Rattle.pagable_tables.proofs.{Words.{live, entry, entries_of, unpinned, Handles, Leaves, GivesUp, sum_by-append, is_owned_by, is_owner, only_handle}, Bits.{and-zero, and-all}}
+use Rattle.pagable_tables.proofs.{Words.{live, entry, entries_of, unpinned, Handles, Leaves, GivesUp, sum_by-append, is_owned_by, is_owner, only_handle}, Bits.{and-zero}}
 
 -- a sum is at most two others where each of its parts is
 pub sum-most : {X : Type 0} (f g h : X → ℕ) (xs : List X) → ((x : X) → f x ≤ g x + h x) → sum_by f xs ≤ sum_by g xs + sum_by h xs
@@ -21,15 +21,10 @@ times-left f gone (x ∷ xs) = split (times-left f gone xs) (gone x.number.0) re
         → times f (left_rows gone (x ∷ xs)) ≡ times (λ h. f h && not (gone h.number.0)) (x ∷ xs)
     split rest true e = grind (arith, nat_tests, sum_by-cons, and-zero)
     split rest false e =
-        let l : times f (left_rows gone (x ∷ xs)) ≡ times f (x ∷ left_rows gone xs) = ap (λ b. times f (if not b then x ∷ left_rows gone xs else left_rows gone xs)) e in
-        let z : one (f x && not (gone x.number.0)) ≡ one (f x) = ap (λ b. one (f x && not b)) e ∙ ap one (and-all (f x)) in
-        omega (arith, sum_by-cons (λ h. one (f h && not (gone h.number.0))) x xs, sum_by-cons (λ h. one (f h)) x (left_rows gone xs))
+        grind (arith, nat_tests, sum_by-cons (λ h. one (f h && not (gone h.number.0))) x xs, sum_by-cons (λ h. one (f h)) x (left_rows gone xs))
 
 pub times-le : (f g : HandleRow → Bool) (rows : List HandleRow) → ((h : HandleRow) → one (f h) ≤ one (g h)) → times f rows ≤ times g rows
 times-le f g rows h = sum_by-le-sum_by (λ x. one (f x)) (λ x. one (g x)) rows h
-
-pub left-le : (f : HandleRow → Bool) (gone : ℕ → Bool) (rows : List HandleRow) → times f (left_rows gone rows) ≤ times f rows
-left-le f gone rows = grind (arith, nat_tests, times-left, times-le)
 
 -- one handle more goes
 pub left-more : (gone : ℕ → Bool) (q : ℕ) (rows : List HandleRow) → left_rows (λ r. r == q) (left_rows gone rows) ≡ left_rows (and_one gone q) rows
@@ -85,9 +80,7 @@ with-entry f rows x2 k node = grind (arith, nat_tests, sum_by_push, append-nil)
 
 pub gives-sums : {old new : Holdings} {stack : List ℕ} {x : HandleRow} {stays lists : Bool} (g : GivesUp old stack x stays lists new) (f : HandleRow → ℕ) → sum_by f (live new.handles.places.items) + f x
     ≡ sum_by f (live old.handles.places.items) + (if stays then f (unpinned x) else 0) + (if g.listed then f (entry (old.last_handle + 1) x.node) else 0)
-gives-sums {old} {new} {x = x} g f =
-    let d = with-entry f (live g.left.places.items) g.listed (old.last_handle + 1) x.node in
-    omega (arith, d, g.leaves.sums f, ap (sum_by f) g.comes.comes.rows, ap (λ (h : Holdings). sum_by f (live h.handles.places.items)) g.same)
+gives-sums {old} {new} {x = x} g f = grind (arith, nat_tests, with-entry)
 
 abbrev pub of_list : ℕ → HandleRow → Bool
 of_list q h = is_handle q h && is_owned_by Owner.List h
@@ -100,21 +93,14 @@ none-of p q [] = refl
 none-of p q (x ∷ xs) = grind (arith, nat_tests, none-of p q xs)
 
 pub none-listed : {old new : Handles} {x : HandleRow} → Leaves old x false new → is_owned_by Owner.List x ≡ false → times (of_list x.number.0) (live old.places.items) ≡ 0
-none-listed {old} {x = x} leaves owner =
-    let a = leaves.sums (λ h. one (of_list x.number.0 h)) in
-    let b = ap (times (of_list x.number.0)) leaves.becomes.rows in
-    let d = times-left (of_list x.number.0) (only_handle x.number) (live old.places.items) in
-    let e = none-of (is_owned_by Owner.List) x.number.0 (live old.places.items) in
-    let z : one (of_list x.number.0 x) ≡ 0 = grind (arith, nat_tests) in
-    omega arith
+none-listed {old} {x = x} leaves owner = grind (arith, nat_tests, leaves.sums (λ h. one (of_list x.number.0 h)), ap (times (of_list x.number.0)) leaves.becomes.rows,
+    times-left (of_list x.number.0) (only_handle x.number) (live old.places.items), none-of (is_owned_by Owner.List) x.number.0 (live old.places.items))
 
 pub none-entered : (q last : ℕ) (rows left entries : List HandleRow) → rows ≡ left ++ entries → AreNewEntries last entries → times (of_list q) rows ≡ 0 → times (is_handle q) entries ≡ 0
 none-entered q last rows left entries is new none =
-    let a = ap (times (of_list q)) is in
-    let b = sum_by-append (λ h. one (of_list q h)) left entries in
-    let d = sum-most (λ h. one (is_handle q h)) (λ h. one (of_list q h)) (λ h. one (of_other q h)) entries (λ h. bits (is_handle q h) (is_owned_by Owner.List h)) in
     let e = entries-none (of_other q) (λ h mode owner. let l : is_owned_by Owner.List h ≡ true = ap (is_owner Owner.List) owner in grind (arith, nat_tests)) last entries new in
-    omega arith
+    omega (arith, ap (times (of_list q)) is, sum_by-append (λ h. one (of_list q h)) left entries,
+        sum-most (λ h. one (is_handle q h)) (λ h. one (of_list q h)) (λ h. one (of_other q h)) entries (λ h. bits (is_handle q h) (is_owned_by Owner.List h)))
   where
     bits : (a b : Bool) → one a ≤ one (a && b) + one (a && not b)
     bits a b = grind (arith, nat_tests)

@@ -1,11 +1,10 @@
 -- What loads own is what they owned, or has come since.
-use Rattle.pagable_tables.proofs.Words.{◌≡◌, ℕ, ◌+◌, ◌<◌, ◌≤◌, ◌++◌, ◌∷◌, [], Bool, true, false, not, List, refl, ap, sym, ◌∙◌, arith, Option, Some, None, inl, inr, ◌⊎◌, ◌≢◌, Result, Ok, Err, is_some}
-use Rattle.pagable_tables.proofs.Words.{option_map, cases_eq, Error, HandleNumber, LoadNumber, NodeNumber, HandleRow, Owner, Mode, Kind, ArcRef, OptionalDataKey, if_there, type_of, changed, is_handle}
-use Rattle.pagable_tables.proofs.Words.{is_owner, is_owned_by, owner_value, find_row, mode_of, Core, Last, Alike, Falls, only_handle, with_handle, with_node, next_node, with_cached_if_open}
-use Rattle.pagable_tables.proofs.Words.{is_named_by, moved, with_mode, UnpinCall, ReleaseCall, SetKeyCall, ScheduleCall, OfferCall, CloseCall, is_owned_in, adopted, first_key, Adopts, DropCall}
-use Rattle.pagable_tables.proofs.Words.{LazyCall, LoadRow, Tables, load_at, plain_of, load_in, Makes, AreLater, nat_tests, Among, subst, owner_worker, reach_at, InReach, IsNoLess, Reach, IndexMap}
-use Rattle.pagable_tables.proofs.{Words.worker_at, Regiven.{owned, passes-here, passes-left, no-entry, unlisting}, Taken.owned-moved, Bits.{and-left, had, there-is}, Worlds.owner-same}
-use Rattle.pagable_tables.proofs.keeps.Rows.{found-among, found-push}
+use Rattle.pagable_tables.proofs.Words.{◌≡◌, ℕ, ◌+◌, ◌<◌, ◌≤◌, ◌∷◌, [], Bool, true, false, not, List, refl, ap, sym, ◌∙◌, arith, Option, Some, None, inl, inr, ◌⊎◌, ◌≢◌, Result, Ok, Err, is_some}
+use Rattle.pagable_tables.proofs.Words.{option_map, cases_eq, Error, HandleNumber, LoadNumber, NodeNumber, HandleRow, Owner, Mode, Kind, ArcRef, OptionalDataKey, type_of, changed, is_handle, is_owner}
+use Rattle.pagable_tables.proofs.Words.{is_owned_by, owner_value, find_row, mode_of, Core, Last, Alike, Falls, only_handle, with_handle, with_node, next_node, is_named_by, moved}
+use Rattle.pagable_tables.proofs.Words.{with_mode, UnpinCall, ReleaseCall, SetKeyCall, ScheduleCall, OfferCall, CloseCall, is_owned_in, adopted, first_key, Adopts, DropCall, LazyCall, LoadRow, Tables}
+use Rattle.pagable_tables.proofs.{Words.{load_at, plain_of, load_in, Makes, AreLater, nat_tests, Among, subst, owner_worker, reach_at, InReach, IsNoLess, Reach, IndexMap, worker_at}, Regiven.owned}
+use Rattle.pagable_tables.proofs.{Regiven.{passes-here, passes-left, no-entry, unlisting}, Taken.owned-moved, Bits.{and-left, had, there-is}, Worlds.owner-same, keeps.Rows.{found-among, found-push}}
 use Rattle.pagable_world.specs.Pager as pager
 
 -- loads and workers give up what they have together
@@ -13,9 +12,6 @@ abbrev pub is_giver : Owner → Bool
 is_giver (Owner.Load l) = true
 is_giver (Owner.Worker v) = true
 is_giver _ = false
-
-not-giver : (a o : Owner) → is_giver a ≡ true → is_giver o ≡ false → is_owner a o ≡ false
-not-giver a o gives other = grind (arith, nat_tests)
 
 pub record IsNewer (rows rows' : List HandleRow) (given given' : ℕ) : Type 0 where
   pub last : given ≤ given'
@@ -28,20 +24,13 @@ pub newer-alike : {w w' : Core} → Alike w w' → OnlyNewer w w'
 newer-alike {w} {w'} a = record { last = (let e = ap (λ (l : Last). l.handle) a.last in omega arith); kept = λ o q gives own. inl (sym (ap (owned o q) a.rows) ∙ own) }
 
 pub newer-then : {r s t : List HandleRow} {i j k : ℕ} → IsNewer r s i j → IsNewer s t j k → IsNewer r t i k
-newer-then p q = record {
-  last = (let x = p.last in let y = q.last in omega arith);
-  kept = λ o n gives own. elim (q.kept o n gives own) [ inl there ↦ p.kept o n gives there | inr past ↦ inr (let x = p.last in omega arith) ];
-}
-
-owned-push : (o : Owner) (q : ℕ) (rows : List HandleRow) (x : HandleRow) → owned o q (rows ++ x ∷ []) ≡ true → (owned o q rows ≡ true) ⊎ (x.number.0 ≡ q)
-owned-push o q rows x own = grind (arith, nat_tests, found-push, found-among)
+newer-then p q = grind (arith, nat_tests)
 
 pub newer-handle : (w : Core) (node : NodeNumber) (mode : Mode) (owner : Owner) → OnlyNewer w (with_handle w node mode owner)
-newer-handle w node mode owner = record { last = omega arith; kept = λ o q gives own. elim (owned-push o q w.rows _ own) [ inl there ↦ inl there | inr is ↦ inr (omega arith) ] }
+newer-handle w node mode owner = record { last = omega arith; kept = λ o q gives own. grind (arith, nat_tests, found-push, found-among) }
 
 pub newer-moved : (w : Core) (s : ℕ → Bool) (o : Owner) → is_giver o ≡ false → OnlyNewer w (record w { rows = moved s o w.rows })
-newer-moved w s o other =
-    record { last = omega arith; kept = λ a q gives own. inl (and-left (owned a q w.rows) (not (s q)) (sym (owned-moved s o a q w.rows (not-giver a o gives other)) ∙ own)) }
+newer-moved w s o other = grind (arith, nat_tests, and-left, owned-moved)
 
 -- a handle that doesn't move is owned as before
 owned-unmoved : (s : ℕ → Bool) (o a : Owner) (q : ℕ) (rows : List HandleRow) → s q ≡ false → owned a q (moved s o rows) ≡ owned a q rows
@@ -58,7 +47,7 @@ pub newer-mode : (w : Core) (h : HandleNumber) (mode : Mode) → OnlyNewer w (wi
 newer-mode w h mode = record { last = omega arith; kept = λ o q gives own. inl (sym (owned-mode o q (is_handle h.0) mode w.rows) ∙ own) }
 
 pub newer-falls : {before u w' : Core} {given : ℕ → Bool} {r : Result (Unit {0}) Error} → Falls before u given r w' → OnlyNewer u w'
-newer-falls {before} {u} {w'} falls = grind (arith, nat_tests, had, passes-left, no-entry, unlisting, not-giver)
+newer-falls {before} {u} {w'} falls = grind (arith, nat_tests, had, passes-left, no-entry, unlisting)
 
 -- the open loads are ones that were open, and what a worker got besides is in its reach
 pub later-by : {t t' : Tables} → AreLater t → t.holdings.last_handle ≤ t'.holdings.last_handle → ((l : ℕ) (load : LoadRow) → load_at t'.loads l ≡ Some load → load_at t.loads l ≡ Some load) → IsNoLess t.workers t'.workers
@@ -81,8 +70,7 @@ still-reaches : {S : Type 0} {workers workers' : IndexMap ℕ Reach S} → worke
 still-reaches {S} {workers} {workers'} same = subst (λ u. IsNoLess workers u) (sym same) (record { wider = λ v q in-reach. in-reach; before = λ v. omega arith })
 
 pub later-less : {t t' : Tables} → AreLater t → OnlyNewer (plain_of t) (plain_of t') → ((l : ℕ) (load : LoadRow) → load_at t'.loads l ≡ Some load → load_at t.loads l ≡ Some load) → IsNoLess t.workers t'.workers → AreLater t'
-later-less later newer loads less = later-by later newer.last loads less (λ l q has. newer.kept (Owner.Load (record { 0 = l })) q refl has)
-    (λ v q has. elim (newer.kept (owner_worker v) q refl has) [ inl had ↦ inl had | inr past ↦ inr (inl past) ])
+later-less later newer loads less = grind (arith, nat_tests, later-by)
 
 -- one worker less is at work
 pub less-one : {S : Type 0} (workers workers' : IndexMap ℕ Reach S) (v : ℕ) → worker_at workers' v ≡ None → ((q : ℕ) → q ≢ v → worker_at workers' q ≡ worker_at workers q) → IsNoLess workers workers'
@@ -107,31 +95,24 @@ none-owned w o q nobody own = let (row, e, is) = there-is (is_owned_by o) (find_
 pub later-opened : {t t' : Tables} → pager.IsWhole (plain_of t) → AreLater t → OnlyNewer (plain_of t) (plain_of t') → (m : ℕ) (row : LoadRow) → load_at t.loads m ≡ None → load_at t'.loads m ≡ Some row → row.since ≡ t.holdings.last_handle
     → ((q : ℕ) → q ≢ m → load_at t'.loads q ≡ load_at t.loads q) → t'.workers ≡ t.workers → AreLater t'
 later-opened {t} {t'} whole later newer m row none here since others same =
+    let last = newer.last in
     record {
-      given = λ l load is. let a = newer.last in elim (one l load is) [ inl now ↦ omega arith | inr was ↦ (let b = later.given l load was in omega arith) ];
-      since = λ l load q is own. elim (newer.kept (Owner.Load (record { 0 = l })) q refl own) [
-        | inl there ↦ elim (cases_eq l m) [
-          | inl e ↦ absurd (none-owned (plain_of t) (Owner.Load (record { 0 = l })) q (λ h among of. closed l e (whole.owners_there.loads h (record { 0 = l }) among of)) there)
-          | inr e ↦ later.since l load q (sym (others l e) ∙ is) there
-        ]
-        | inr past ↦ let o = one l load is in grind (arith, nat_tests, later.given)
-      ];
-      begun = λ v. let a = later.begun v in let b = newer.last in let c = reaches v in omega arith;
+      given = λ l load is. let o = one l load is in grind (arith, nat_tests, later.given);
+      since = λ l load q is own. let o = one l load is in let k = newer.kept (Owner.Load (record { 0 = l })) q refl own in grind (arith, nat_tests, later.given, later.since, new-owns);
+      begun = λ v. let a = later.begun v in let c = reaches v in omega arith;
       reach = λ v q own. let k = newer.kept (owner_worker v) q refl own in let r = later.reach v q in let a = later.begun v in grind (arith, nat_tests);
-      loads = λ v l load is owns. let c = reaches v in elim (one l load is) [ inl now ↦ (let a = later.begun v in omega arith) | inr was ↦ (let a = later.loads v l load was owns in omega arith) ];
+      loads = λ v l load is owns. let c = reaches v in let o = one l load is in grind (arith, nat_tests, later.begun, later.loads);
     }
   where
     reaches : (v : ℕ) → (reach_at t'.workers v).since ≡ (reach_at t.workers v).since
     reaches v = ap (λ u. (reach_at u v).since) same
 
-    closed : (l : ℕ) → l ≡ m → is_some ((plain_of t).loads l) ≡ true → ⊥
-    closed l e some = absurd (let a : is_some ((plain_of t).loads l) ≡ false = ap (λ k. is_some (option_map load_in (load_at t.loads k))) e ∙ ap (λ o. is_some (option_map load_in o)) none in cc)
+    new-owns : (q : ℕ) → owned (Owner.Load (record { 0 = m })) q (plain_of t).rows ≡ true → ⊥
+    new-owns q own = none-owned (plain_of t) (Owner.Load (record { 0 = m })) q (λ h among of. absurd (let a = whole.owners_there.loads h (record { 0 = m }) among of in
+        let b : is_some ((plain_of t).loads m) ≡ false = ap (λ o. is_some (option_map load_in o)) none in cc)) own
 
-    one : (l : ℕ) (load : LoadRow) → load_at t'.loads l ≡ Some load → (load.since ≡ t.holdings.last_handle) ⊎ (load_at t.loads l ≡ Some load)
-    one l load is = elim (cases_eq l m) [
-      | inl e ↦ inl (let same : Some load ≡ Some row = sym is ∙ ap (load_at t'.loads) e ∙ here in ap (λ (o : Option LoadRow). if_there (λ (r : LoadRow). r.since) 0 o) same ∙ since)
-      | inr e ↦ inr (sym (others l e) ∙ is)
-    ]
+    one : (l : ℕ) (load : LoadRow) → load_at t'.loads l ≡ Some load → ((l ≡ m) × (load.since ≡ t.holdings.last_handle)) ⊎ (load_at t.loads l ≡ Some load)
+    one l load is = grind (arith, nat_tests, cases_eq, here, since, others)
 
 -- one worker more is at work
 pub later-begun : {t t' : Tables} → pager.IsWhole (plain_of t) → AreLater t → t' ≡ record t { workers = t'.workers; last_worker = t'.last_worker } → (v : ℕ) → v ≡ t.last_worker + 1
@@ -170,9 +151,6 @@ pub makes-newer : {w w' : Core} (node : NodeNumber) (mode : Mode) (owner : Owner
 makes-newer {w} node mode owner (Ok k) m = newer-then (newer-handle w node mode owner) (newer-alike m.made.1)
 makes-newer node mode owner (Err e) m = newer-alike m.refused.stays
 
-newer-cached : (w : Core) (kind : Kind) (key : ℕ) (n : NodeNumber) → OnlyNewer w (with_cached_if_open w kind key n)
-newer-cached w kind key n = grind (arith, nat_tests)
-
 -- a node comes with its references and a handle
 pub newer-node : (w : Core) (node_type : ℕ) (own_key : OptionalDataKey) (references : List ArcRef) (mode : Mode) (owner : Owner) → OnlyNewer w (with_handle (with_node w node_type own_key references) (next_node w) mode owner)
 newer-node w node_type own_key references mode owner =
@@ -180,7 +158,7 @@ newer-node w node_type own_key references mode owner =
 
 pub newer-adopted : (w : Core) (l : LoadNumber) (kind : Kind) (key : ℕ) (own_key : OptionalDataKey) (references : List ArcRef) → OnlyNewer w (adopted w l kind key own_key references)
 newer-adopted w l kind key own_key references =
-    newer-then (newer-node w (type_of kind.0) own_key references (mode_of kind.0) (Owner.Load l)) (newer-cached (with_handle (with_node w (type_of kind.0) own_key references) (next_node w) (mode_of kind.0) (Owner.Load l)) kind key (next_node w))
+    newer-then (newer-node w (type_of kind.0) own_key references (mode_of kind.0) (Owner.Load l)) (grind (arith, nat_tests))
 
 pub lazy-newer : {w w' : Core} (me : Owner) (l : LoadNumber) (kind : Kind) (key : ℕ) (r : Result HandleNumber Error) → LazyCall w me l kind key r w' → OnlyNewer w w'
 lazy-newer {w} me l kind key (Ok k) call = elim call.makes.3 [
@@ -254,10 +232,7 @@ module _ (t : Tables) (later : AreLater t) (s : ℕ → Bool) (me : Owner) (othe
       ])
     where
       after : (v q : ℕ) → is_owner (owner_worker v) me ≡ true → s q ≡ true → InReach (reach_at t.workers v) q
-      after v q is gone =
-          let a = later.since l.0 row q here (its q gone) in
-          let b = later.loads v l.0 row here (ap (is_owner (owner_worker v)) (owner-same me row.owner mine) ∙ is) in
-          (omega arith, inl (omega arith))
+      after v q is gone = grind (arith, nat_tests, later.since l.0 row q here (its q gone), later.loads v l.0 row here (ap (is_owner (owner_worker v)) (owner-same me row.owner mine) ∙ is), owner-same)
 
 pub handle-is : (h : HandleNumber) (q : ℕ) → only_handle h q ≡ true → h.0 ≡ q
 handle-is h q is = grind (arith, nat_tests)

@@ -1,43 +1,24 @@
--- What has gone so far, after one step of a cascade, and after a handle that is given.
-use Rattle.pagable_tables.proofs.Words.{◌&&◌, ◌++◌, ◌+◌, ◌<◌, ◌==◌, ◌||◌, ◌∙◌, ◌∷◌, ◌≡◌, ◌≢◌, ◌≤◌, ◌⊎◌, AreNewEntries, Begins, Bool, CellsStay, Core, Err, Error, FallsBy, GivesUp, HandleNumber}
-use Rattle.pagable_tables.proofs.Words.{HandleRow, HasPlaces, Holdings, IsApart, IsClosed, IsFalling, IsListRefusal, IsUnlisted, IsWithin, List, MustList, NodeNumber, Ok, Option, Owner, Result, SoFar}
-use Rattle.pagable_tables.proofs.Words.{Some, Steps, TellsListing, [], ap, append-nil, append_assoc, arith, cell_in, counts_at, entries_of, false, filter, filter-append, first_cause, greatest, held}
-use Rattle.pagable_tables.proofs.Words.{if◌then◌else◌, inl, inr, is_at, is_handle, is_keyed, is_outside, is_owned_by, is_owner, is_pin, is_some, left_rows, length, length-append, live, map}
-use Rattle.pagable_tables.proofs.Words.{map-append, nat_tests, not, one, only_handle, owner_value, owns_nothing, pins, pins_in, refl, subst, sum_by-append, sum_by-le-sum_by, sym, times, told_by, true}
-use Rattle.pagable_tables.proofs.{Words.{vec_capacity, with_tables, ℕ, unpinned, Cell}, Bits.one-le, Left.{and_one, sum-most, entries-more, kept-more, left-more, left-none, none-entered, none-listed}}
-use Rattle.pagable_tables.proofs.{Left.{of_list, ones, times-left, gives-sums}, Telling.{entry-pins, forced, only-more, refusal-now, tells-more}, keeps.HandleCalls.lists}
+-- What has gone so far, after one step of a cascade, and after a handle that is given; which cells must be listed then, and what is told of it.
+use Rattle.pagable_tables.proofs.Words.{◌&&◌, ◌++◌, ◌+◌, ◌<◌, ◌==◌, ◌∙◌, ◌∷◌, ◌≡◌, ◌≢◌, ◌≤◌, ◌⊎◌, Begins, Bool, Core, Error, FallsBy, GivesUp, HandleNumber, HandleRow, HasPlaces, Holdings, IsApart}
+use Rattle.pagable_tables.proofs.Words.{IsClosed, IsFalling, IsListRefusal, IsUnlisted, IsWithin, List, MustList, NodeNumber, Option, Owner, Result, SoFar, Some, Steps, TellsListing, [], ap}
+use Rattle.pagable_tables.proofs.Words.{append-nil, append_assoc, arith, cell_in, counts_at, entries_of, false, filter, filter-append, first_cause, held, if◌then◌else◌, inl, inr, is_at, is_handle}
+use Rattle.pagable_tables.proofs.Words.{is_keyed, is_outside, is_owned_by, is_owner, is_pin, is_some, left_rows, length, length-append, live, map-append, nat_tests, not, one, only_handle, owner_value}
+use Rattle.pagable_tables.proofs.Words.{owns_nothing, pins, pins_in, refl, subst, sum_by-append, sum_by-le-sum_by, sym, times, told_by, true, with_tables, ℕ, Cell, None, and_parts, cases_Bool, entry}
+use Rattle.pagable_tables.proofs.{Words.{is_listing, is_plain_pin, is_share, is_shared}, Bits.one-le, Left.{and_one, sum-most, entries-more, kept-more, left-more, left-none, none-entered}}
+use Rattle.pagable_tables.proofs.{Left.{none-listed, of_list, ones, times-left, gives-sums, with-entry}, Telling.{cell-keyed, forced, listing-is, no-more, refusal-kept, which}, Begun.open-then}
 
 rows-leaves : (rows entries before left : List HandleRow) (gone : ℕ → Bool) (x : HandleRow) → left ≡ left_rows (only_handle x.number) before → before ≡ left_rows gone rows ++ entries
     → times (is_handle x.number.0) entries ≡ 0 → left ≡ left_rows (and_one gone x.number.0) rows ++ entries
 rows-leaves rows entries before left gone x leaves is none =
-    let split : left_rows (only_handle x.number) (left_rows gone rows ++ entries) ≡ left_rows (only_handle x.number) (left_rows gone rows) ++ left_rows (only_handle x.number) entries = grind (arith, nat_tests, filter-append) in
+    let split : left_rows (only_handle x.number) (left_rows gone rows ++ entries) ≡ left_rows (only_handle x.number) (left_rows gone rows) ++ left_rows (only_handle x.number) entries = grind (arith,
+        nat_tests, filter-append) in
     leaves ∙ ap (left_rows (only_handle x.number)) is ∙ split ∙ ap (λ r. r ++ left_rows (only_handle x.number) entries) (left-more gone x.number.0 rows)
     ∙ ap (λ r. left_rows (and_one gone x.number.0) rows ++ r) (left-none x.number.0 entries none)
-
--- a handle of which the list has none may go, whether it had gone or not
-kept-gone : (gone : ℕ → Bool) (q : ℕ) (list : List HandleNumber) → gone q ≡ true → filter (λ (h : HandleNumber). not (and_one gone q h.0)) list ≡ filter (λ (h : HandleNumber). not (gone h.0)) list
-kept-gone gone q list e = grind (arith, nat_tests)
 
 list-kept : (gone : ℕ → Bool) (q : ℕ) (rows : List HandleRow) (list : List HandleNumber) → times (λ (h : HandleNumber). h.0 == q) list ≤ times (of_list q) rows
     → times (λ h. of_list q h && not (gone h.number.0)) rows ≡ 0
     → filter (λ (h : HandleNumber). not (and_one gone q h.0)) list ≡ filter (λ (h : HandleNumber). not (gone h.0)) list
-list-kept gone q rows list listed none = grind (arith, nat_tests, kept-gone, sum_by-le-sum_by, kept-more)
-
-entry-number : (listed : Bool) (k : ℕ) (node : NodeNumber) → map (λ (h : HandleRow). h.number) (entries_of listed k node) ≡ (if listed then record { 0 = k } ∷ [] else [])
-entry-number x0 k node = grind (arith, nat_tests)
-
-new-more : (last : ℕ) (entries : List HandleRow) (listed : Bool) (k : ℕ) (node : NodeNumber) → AreNewEntries last entries → k ≡ last + length entries + 1
-    → AreNewEntries last (entries ++ entries_of listed k node)
-new-more last entries x2 k node new is = grind (arith, nat_tests, entries-more, append-nil)
-
-long-one : (listed : Bool) (k : ℕ) (node : NodeNumber) → length (entries_of listed k node) ≡ one listed
-long-one x0 k node = grind (arith, nat_tests)
-
-within-more : (listed : Bool) (last : ℕ) → last ≤ greatest → (listed ≡ true → last < greatest) → last + one listed ≤ greatest
-within-more x0 last within left = grind (arith, nat_tests)
-
-unpinned-pins : (stays : Bool) (n : ℕ) (x : HandleRow) → (if stays then one (is_pin n (unpinned x)) else 0) ≡ 0
-unpinned-pins x0 n x = grind (arith, nat_tests)
+list-kept gone q rows list listed none = grind (arith, nat_tests, sum_by-le-sum_by, kept-more)
 
 -- a handle that the list doesn't own may go apart from it
 unlisted-apart : {before w : Core} {given : ℕ → Bool} {lists : Bool} {t popped new : Holdings} {stack : List ℕ} {x : HandleRow} (f : SoFar before w given lists t) → GivesUp popped stack x false lists new
@@ -67,8 +48,7 @@ refusal-as w w' rows cells long x5 r = grind (arith, nat_tests)
 
 tells-as : {before w w' : Core} {entries : List HandleRow} (rows : List HandleRow) (cells : ℕ → Option Cell) → length rows ≡ length w.rows → (r : Result (Unit {0}) Error)
     → TellsListing before w entries r w' → TellsListing before (record w { rows = rows }) entries r (record w' { cells = cells })
-tells-as {w = w} {w'} rows cells long (Ok u) tells = record { all = λ n m. tells.all n (must-as w.rows w'.cells m); not_all = tt }
-tells-as {w = w} {w'} rows cells long (Err e) tells = record { all = tt; not_all = let a = tells.not_all in (a.0, must-as rows cells a.1, a.2, refusal-as w w' rows cells long e a.3) }
+tells-as rows cells long x4 tells = grind (arith, nat_tests, must-as, refusal-as)
 
 -- A handle has gone, or it stays without its pin; then an entry may have come.
 module _ {before w : Core} {given : ℕ → Bool} {lists stays : Bool} {t popped new : Holdings} {stack : List ℕ} {x : HandleRow} (f : SoFar before w given lists t)
@@ -90,7 +70,7 @@ module _ {before w : Core} {given : ℕ → Bool} {lists stays : Bool} {t popped
   before-rows = ap (λ (h : Holdings). live h.handles.places.items) same
 
   left : (n : ℕ) → pins n (live new.handles.places.items) + one (is_pin n x) ≡ pins n (live t.handles.places.items)
-  left n = omega (arith, gives-sums g (λ h. one (is_pin n h)), entry-pins g.listed (popped.last_handle + 1) n x.node, unpinned-pins stays n x, ap (pins n) before-rows)
+  left n = grind (arith, nat_tests, gives-sums g (λ h. one (is_pin n h)), ap (pins n) before-rows)
 
   here : (p : HandleRow → Bool) → one (p x) ≤ times p (live t.handles.places.items)
   here p = let a = g.leaves.there (λ h. one (p h)) in let b = ap (times p) before-rows in omega arith
@@ -107,37 +87,79 @@ module _ {before w : Core} {given : ℕ → Bool} {lists stays : Bool} {t popped
   added : new.list.items ≡ t.list.items ++ came
   added = ap (λ (h : Holdings). h.list.items) g.same ∙ g.comes.comes.list ∙ ap (λ (h : Holdings). h.list.items ++ (if g.listed then record { 0 = h.last_handle + 1 } ∷ [] else [])) same
 
-  list-more : (gone : ℕ → Bool) → filter (λ (q : HandleNumber). not (gone q.0)) w.list ≡ filter (λ (q : HandleNumber). not (f.gone q.0)) w.list
-      → new.list.items ≡ filter (λ (q : HandleNumber). not (gone q.0)) w.list ++ map (λ (h : HandleRow). h.number) entries
-  list-more gone kept = grind (arith, nat_tests, map-append, entry-number, added, append_assoc)
-
-  room : HasPlaces t new
-  room = grind (arith, nat_tests)
-
   -- why none came
   wanting : (e : Error) → g.listed ≡ false → IsUnlisted gap e → IsListRefusal w (with_tables w new) e
-  wanting e none why =
-      let listed = ap one none in
-      let k = last in
-      let s = since in
-      let c = g.leaves.becomes.capacity in
-      let handles = ap (λ (h : Holdings). vec_capacity h.handles.places) same in
-      let entries = ap (λ (h : Holdings). vec_capacity h.list) same in
-      let list = ap (λ (h : Holdings). length h.list.items) same in
-      let more = ap length added in
-      let long = length-append t.list.items came in
-      refusal-now w gap new e why (omega arith) (omega arith) (omega arith) (omega arith) (omega arith) fewer
+  wanting e none why = grind (arith, nat_tests, last, since, added, length-append, fewer)
 
+  abbrev wanted : Bool
+  wanted = lists && is_listing g.counts x.mode
+
+  one-pin : wanted ≡ true → pins x.node.0 (live t.handles.places.items) ≡ 1
+  one-pin want = sym (pinned x.node.0) ∙ ap pins_in is ∙ (listing-is g.counts x.mode (and_parts lists (is_listing g.counts x.mode) want).1).2
+
+  none-held : wanted ≡ true → held x.node.0 f.entries ≡ 0
+  none-held want = grind (arith, nat_tests, one-pin)
+
+  -- the last pin of a cell without a key has gone
+  new-must : wanted ≡ true → MustList before w (with_tables w new) x.node.0
+  new-must want =
+      let w' = and_parts lists (is_listing g.counts x.mode) want in
+      let l = listing-is g.counts x.mode w'.1 in
+      let n = x.node.0 in
+      grind (arith, nat_tests, open-then, one-pin want, left n, no-more f (is_pin n) (λ h mode owner. grind (arith, nat_tests)), f.begins.fewer n,
+          no-more f (is_plain_pin n) (λ h mode owner. grind (arith, nat_tests)),
+          here (is_plain_pin n), cell-keyed (counts_at t.nodes n) g.counts (w.cells n) is (f.cells n), f.begins.uniform n)
+
+  -- a cell must be listed: its last pin had gone before, or it has gone now
+  must-before : (n : ℕ) → MustList before w (with_tables w new) n → MustList before w (with_tables w t) n ⊎ ((n ≡ x.node.0) × (wanted ≡ true))
+  must-before n must =
+      elim (cases_Bool (is_pin n x)) [
+        | inr other ↦ let a = left n in let z = must.unpinned in let k = ap one other in
+            inl (record { pinned = must.pinned; unpinned = omega arith; unkeyed = must.unkeyed; unshared = must.unshared; stands_open = must.stands_open })
+        | inl pin ↦ inr (grind (arith, nat_tests, no-more f (is_share n) (λ h mode owner. let m : is_shared h.mode ≡ false = ap is_shared mode in grind (arith, nat_tests)), here (is_share n),
+            must.unshared, ap one pin, left n, must.unpinned, is, cell-keyed))
+      ]
+
+  must-kept : (n : ℕ) → MustList before w (with_tables w t) n → MustList before w (with_tables w new) n
+  must-kept n m = let a = left n in let b = m.unpinned in record { pinned = m.pinned; unpinned = omega arith; unkeyed = m.unkeyed; unshared = m.unshared; stands_open = m.stands_open }
+
+  held-more : (n : ℕ) → held n entries ≡ held n f.entries + (if g.listed then one (is_at n (entry (t.last_handle + 1) x.node)) else 0)
+  held-more n = with-entry (λ h. one (is_at n h)) f.entries g.listed (t.last_handle + 1) x.node
+
+  -- the new entry is of no cell that nothing pinned
+  other : (n : ℕ) → pins n (live t.handles.places.items) ≡ 0 → (if g.listed then one (is_at n (entry (t.last_handle + 1) x.node)) else 0) ≡ 0
+  other n z = grind (arith, nat_tests, one-pin, g.comes.only)
+
+  only-more : (n : ℕ) → 0 < held n entries → MustList before w (with_tables w new) n × (held n entries ≡ 1)
+  only-more n some = grind (arith, nat_tests, held-more, new-must, must-kept, none-held)
+
+  -- the first cause is told
   told : TellsListing before w entries (told_by new.unlisted) (with_tables w new)
-  told =
-      let unlisted = ap (λ (h : Holdings). h.unlisted) same in
-      let kept : new.unlisted ≡ g.between.unlisted = ap (λ (h : Holdings). h.unlisted) g.same in
-      tells-more f x g.counts is (pinned x.node.0) here new left g.listed (t.last_handle + 1) g.comes.only t.unlisted new.unlisted gap f.tells
-      (λ s. kept ∙ g.comes.told s ∙ unlisted)
-      (λ none wanted. let y = g.comes.why none wanted in (y.0, y.1, kept ∙ y.2 ∙ ap (λ u. first_cause u y.0) unlisted))
-      wanting
-      (let a = last in omega arith)
-      (let a = ap length added in let b = length-append t.list.items came in omega arith)
+  told = by t.unlisted refl f.tells
+    where
+      kept : (u : Option Error) → t.unlisted ≡ u → (g.listed ≡ true) ⊎ (wanted ≡ false) → new.unlisted ≡ u
+      kept u is s = ap (λ (h : Holdings). h.unlisted) g.same ∙ g.comes.told s ∙ ap (λ (h : Holdings). h.unlisted) same ∙ is
+
+      late : (u : Option Error) → t.unlisted ≡ u → g.listed ≡ false → wanted ≡ true → (e : Error) × IsUnlisted gap e × (new.unlisted ≡ first_cause u e)
+      late u is none want = let y = g.comes.why none want in (y.0, y.1, ap (λ (h : Holdings). h.unlisted) g.same ∙ y.2 ∙ ap (λ u. first_cause u y.0) (ap (λ (h : Holdings). h.unlisted) same ∙ is))
+
+      told-so : (u : Option Error) → new.unlisted ≡ u → TellsListing before w entries (told_by u) (with_tables w new) → TellsListing before w entries (told_by new.unlisted) (with_tables w new)
+      told-so u is = subst (λ v. TellsListing before w entries (told_by v) (with_tables w new)) (sym is)
+
+      by : (u : Option Error) → t.unlisted ≡ u → TellsListing before w f.entries (told_by u) (with_tables w t) → TellsListing before w entries (told_by new.unlisted) (with_tables w new)
+      by (Some e) is tells =
+          let a = tells.not_all in
+          told-so (Some e) (elim (which g.listed wanted) [ inl s ↦ kept (Some e) is s | inr n ↦ (late (Some e) is n.0 n.1).2 ])
+          (record { all = tt; not_all = (a.0, must-kept a.0 a.1, omega (arith, held-more a.0, other a.0 a.1.unpinned, a.2), refusal-kept w t new e a.3 (omega (arith, last)) (omega (arith,
+              ap length added, length-append t.list.items came))) })
+      by None is tells = elim (which g.listed wanted) [
+        | inl s ↦ told-so None (kept None is s) (record { all = λ n must. let t = tells.all n in grind (arith, nat_tests, held-more, must-before, other, cases_Bool g.listed, entry,
+            none-held); not_all = tt })
+        | inr (none, want) ↦
+            let y = late None is none want in
+            let l = ap (λ b. if b then one (is_at x.node.0 (entry (t.last_handle + 1) x.node)) else 0) none in
+            told-so (Some y.0) y.2 (record { all = tt; not_all = (x.node.0, new-must want, omega (arith, held-more x.node.0, l, none-held want), wanting y.0 none y.1) })
+      ]
 
   pub entered-on : (rows : List HandleRow) → length rows ≡ length w.rows → (given' gone : ℕ → Bool) → Begins before (record w { rows = rows }) lists
       → live g.left.places.items ≡ left_rows gone rows ++ f.entries
@@ -152,16 +174,15 @@ module _ {before w : Core} {given : ℕ → Bool} {lists stays : Bool} {t popped
         entries = entries;
         rows = ap (λ (h : Holdings). live h.handles.places.items) g.same ∙ g.comes.comes.rows ∙ ap (λ r. r ++ entries_of g.listed (popped.last_handle + 1) x.node) rest
             ∙ ap (λ k. (left_rows gone rows ++ f.entries) ++ entries_of g.listed (k + 1) x.node) since ∙ append_assoc (left_rows gone rows) f.entries (entries_of g.listed (t.last_handle + 1) x.node);
-        list = list-more gone kept;
-        last = grind (arith, nat_tests, last, length-append, long-one);
-        within = subst (λ k. k ≤ greatest) (sym last) (within-more g.listed t.last_handle f.within (λ l. subst (λ k. k < greatest) since (g.comes.comes.left l)));
-        places = let p = room in let q = f.places in record { handles = omega arith; entries = omega arith };
+        list = grind (arith, nat_tests, map-append, added, append_assoc);
+        last = grind (arith, nat_tests, last, length-append);
+        within = grind (arith, nat_tests, last, since, g.comes.comes.left, f.within);
+        places = let p : HasPlaces t new = grind (arith, nat_tests) in let q = f.places in record { handles = omega arith; entries = omega arith };
         cells = λ n there. let s = g.cells n there in s.1 ∙ ap cell_in (counts n) ∙ f.cells n (sym (ap is_some (counts n)) ∙ s.0);
         holds = holds;
         least = least;
-        new = new-more w.last.handle f.entries g.listed (t.last_handle + 1) x.node f.new (let a = f.last in omega arith);
-        only = λ n some. let o = only-more f x g.counts is (pinned x.node.0) here new left g.listed (t.last_handle + 1) g.comes.only n some in
-            (must-as rows (λ n. cell_in (counts_at new.nodes n)) o.0, o.1);
+        new = let a = f.last in let n = f.new in grind (arith, nat_tests, entries-more, append-nil);
+        only = λ n some. let o = only-more n some in (must-as rows (λ n. cell_in (counts_at new.nodes n)) o.0, o.1);
         tells = tells-as rows (λ n. cell_in (counts_at new.nodes n)) long (told_by new.unlisted) told;
         few = few';
       }
@@ -179,26 +200,10 @@ module _ {before w : Core} {given : ℕ → Bool} {lists : Bool} {t popped new :
       (rows-leaves w.rows f.entries (live popped.handles.places.items) (live g.left.places.items) f.gone x g.leaves.becomes.rows (rows ∙ f.rows) apart.unentered) apart.kept holds least
       (λ falls. let a = gives-fewer g in let b = ap length rows in omega arith)
 
--- nothing happened to the handles and the list
-same-handles : (before w : Core) (given : ℕ → Bool) (lists : Bool) (t new : Holdings) → SoFar before w given lists t → CellsStay (counts_at t.nodes) (counts_at new.nodes) → t.top ≢ 0
-    → SoFar before w given lists (record t { nodes = new.nodes; top = new.top })
-same-handles before w given lists t new f stay some =
-    let tells = tells-as w.rows (λ n. cell_in (counts_at new.nodes n)) refl (told_by t.unlisted) f.tells in
-    let only = λ (n : ℕ) (e : 0 < held n f.entries). let o = f.only n e in must-as w.rows (λ n. cell_in (counts_at new.nodes n)) o.0 in
-    grind (arith, nat_tests)
-
--- the first node that falls is done
-pub settled : (before w : Core) (given : ℕ → Bool) (lists : Bool) (t new : Holdings) → SoFar before w given lists t → CellsStay (counts_at t.nodes) (counts_at new.nodes) → t.top ≢ 0
-    → new ≡ record t { nodes = new.nodes; top = new.top } → SoFar before w given lists new
-settled before w given lists t new f stay some same = subst (SoFar before w given lists) (sym same) (same-handles before w given lists t new f stay some)
-
 -- no handle comes where there was none
 none-comes : {old new : Holdings} {stack : List ℕ} {x : HandleRow} {lists : Bool} → GivesUp old stack x false lists new → (m : ℕ) → held m (live old.handles.places.items) ≡ 0
     → held m (live new.handles.places.items) ≡ 0
 none-comes g m none = let a = gives-sums g (λ h. one (is_at m h)) in grind (arith, nat_tests)
-
-in-set : (n : ℕ) (x : HandleRow) (s : ℕ → Bool) → x.owner ≡ owner_value n → one (is_owned_by (owner_value n) x && is_outside s x) ≡ 0 → s x.number.0 ≡ true
-in-set n x s owner none = let is : is_owned_by (owner_value n) x ≡ (n == n) = ap (λ o. is_owner (owner_value n) o) owner in grind (arith, nat_tests)
 
 with-one : (gone s : ℕ → Bool) (q : ℕ) (rows : List HandleRow) → s q ≡ true → IsWithin rows gone s → IsWithin rows (and_one gone q) s
 with-one gone s q rows is within = grind (arith, nat_tests)
@@ -214,7 +219,7 @@ least-more {before} {w} {given} {lists} {t} {x = x} {n} f by s final bare has cl
     let none = forced f s rest final n (bare-before n) by.fallen closed in
     let a = by.gives.leaves.there (λ h. one (is_owned_by (owner_value n) h && is_outside s h)) in
     let b = ap (times (λ h. is_owned_by (owner_value n) h && is_outside s h)) rows in
-    with-one f.gone s x.number.0 w.rows (in-set n x s by.owner (omega arith)) rest
+    with-one f.gone s x.number.0 w.rows (let own : is_owned_by (owner_value n) x ≡ (n == n) = ap (λ o. is_owner (owner_value n) o) by.owner in grind (arith, nat_tests)) rest
 
 -- one handle more on both sides, or on the right
 pub within-less : (a b c d : ℕ → Bool) (rows : List HandleRow) → ((r : ℕ) → one (a r && not (b r)) ≤ one (c r && not (d r))) → IsWithin rows c d → IsWithin rows a b
@@ -228,17 +233,14 @@ pub steps-on : (before w : Core) (given : ℕ → Bool) (lists : Bool) (t new : 
     → IsFalling t stack owns_nothing → t.top ≢ 0 → Steps t stack lists r new → SoFar before w given lists new
 steps-on before w given lists t new stack r f falling some s =
     elim s.what [
-      | inl done ↦ settled before w given lists t new f s.cells some done.1
+      | inl done ↦ let stay = s.cells in subst (SoFar before w given lists) (sym done.1) (grind (arith, nat_tests, tells-as, must-as))
       | inr gone ↦ owned gone.0 gone.1 gone.3
     ]
   where
-    bits : (a g e : Bool) → one (a && not (g || e)) ≤ one (a && not g)
-    bits a g e = grind (arith, nat_tests)
-
     owned : (x : HandleRow) (n : ℕ) → FallsBy t x n lists new → SoFar before w given lists new
     owned x n by =
         one-goes given f by.gives by.same by.counts falling.fits.pinned (f.few some) (unlisted-apart f by.gives by.same (ap (is_owner Owner.List) by.owner))
-        (within-less given (and_one f.gone x.number.0) given f.gone w.rows (λ r. bits (given r) (f.gone r) (r == x.number.0)) f.holds) (least-more f by)
+        (within-less given (and_one f.gone x.number.0) given f.gone w.rows (λ r. grind (arith, nat_tests)) f.holds) (least-more f by)
 
 -- a handle is given that the list doesn't own, or one apart from the list
 pub gives-on : (before w : Core) (given : ℕ → Bool) (lists : Bool) (t new : Holdings) (stack : List ℕ) (x : HandleRow) → (f : SoFar before w given lists t)

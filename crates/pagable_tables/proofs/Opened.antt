@@ -1,8 +1,8 @@
 -- Why calls are refused, and which of several causes is told. Loads that are opened and closed again, and what is offered to the cache.
 use Rattle.pagable_tables.proofs.Words.{◌≡◌, ℕ, ◌<◌, ◌≤◌, Bool, true, List, arith, Option, Some, None, ◌≢◌, ◌⊎◌, nat_tests, Error, OptionalDataKey, HandleNumber, LoadNumber, HandleRow, Owner, Mode}
 use Rattle.pagable_tables.proofs.Words.{if_there, is_owner, is_loose, is_in_memory, pins, Core, Cell, OpenLoad, greatest, row_at, rank, earlier, where_so, refused_if, spent, handle_fault, load_fault}
-use Rattle.pagable_tables.proofs.Words.{closed_fault, OwnsLoad, Refused, Counts, LoadRow, pins_in, cell_in, key_in, load_in, option_map, or_else, not, if◌then◌else◌, reference_fault, row_fault}
-use Rattle.pagable_tables.proofs.Words.{references_fault, is_in, fits_mode, is_type, type_of, type_at, ArcRef, [], ◌∷◌, ◌||◌, ◌==◌, ◌+◌, is_some, updated, ◌&&◌, NodeNumber, Kind, is_usable}
+use Rattle.pagable_tables.proofs.Words.{closed_fault, OwnsLoad, Refused, Counts, LoadRow, pins_in, cell_in, key_in, load_in, option_map, or_else, not, if◌then◌else◌, reference_fault}
+use Rattle.pagable_tables.proofs.Words.{references_fault, fits_mode, type_of, type_at, ArcRef, [], ◌∷◌, ◌==◌, ◌+◌, is_some, updated, ◌&&◌, NodeNumber, Kind, is_usable}
 use Rattle.pagable_tables.proofs.Words.{offer_fault, ap, subst, Ok, Err, mode_of, usable, Alike, with_handle, recall_fault, RecallCall, Makes}
 
 -- a load that wasn't open comes and goes
@@ -32,11 +32,7 @@ row-low : (at mine fits typed : Bool) (e : Error)
 row-low at mine fits typed e is = grind (arith, nat_tests)
 
 reference-low : (w : Core) (o : Owner) (seen : List ℕ) (r : ArcRef) (e : Error) → reference_fault w o seen r ≡ Some e → rank e ≤ 3
-reference-low w o seen r e is = split (row_at w r.handle) is
-  where
-    split : (o' : Option HandleRow) → if_there (λ (row : HandleRow). row_fault w r (refused_if (not (is_owner o row.owner) || is_in seen r.handle.0) Error.NotYours) row) (Some Error.NoSuchHandle) o' ≡ Some e → rank e ≤ 3
-    split None is = grind (arith, nat_tests)
-    split (Some row) is = row-low (row.node.0 == r.node.0) (not (is_owner o row.owner) || is_in seen r.handle.0) (fits_mode r.kind.0 row.mode) (is_type (type_of r.kind.0) (type_at w r.node.0)) e is
+reference-low w o seen r e is = search (arith, row-low)
 
 pub references-low : (w : Core) (o : Owner) (seen : List ℕ) (refs : List ArcRef) (e : Error) → references_fault w o seen refs ≡ Some e → rank e ≤ 3
 unfolding references_fault
@@ -68,12 +64,9 @@ pub begin-first : (w : Core) (me : Owner) (h : HandleNumber) (fits : Mode → Bo
     → handle_fault w me h fits ≡ Some e → earlier (handle_fault w me h fits) (where_so so (earlier (spent m) (spent n))) ≡ Some e
 begin-first w me h fits e so m n is = handle-first w me h fits e _ is (numbers-late so m n)
 
-pub unspent : (last : ℕ) → last < greatest → spent last ≡ None
-unspent last lt = grind (arith, nat_tests)
-
 -- while numbers are left only memory can be wanting
 pub only-memory : (last : ℕ) (e : Error) {A B : Type 0} → last < greatest → (spent last ≡ Some e) ⊎ ((e ≡ Error.OutOfMemory) × A × B) → e ≡ Error.OutOfMemory
-only-memory last e lt x3 = grind (arith, nat_tests, unspent)
+only-memory last e lt x3 = grind (arith, nat_tests)
 
 pub no-begin-fault : (w : Core) (me : Owner) (h : HandleNumber) (so : Bool) → handle_fault w me h is_loose ≡ None → w.last.load < greatest → w.last.handle < greatest → earlier (handle_fault w me h is_loose) (where_so so (earlier (spent w.last.load) (spent w.last.handle))) ≡ None
 no-begin-fault w me h so none load handle = grind (arith, nat_tests)
@@ -89,13 +82,9 @@ load-low w me l e is = grind (arith, nat_tests)
 pub no-load-fault : (w : Core) (me : Owner) (l : LoadNumber) (load : OpenLoad) → OwnsLoad w me l load → load_fault w me l ≡ None
 no-load-fault w me l load own = grind (arith, nat_tests, owner-self)
 
--- a load that may be used, or is another's, is open
-pub open-by : (w : Core) (me : Owner) (l : LoadNumber) → load_fault w me l ≢ Some Error.NoSuchHandle → closed_fault w l ≡ None
-open-by w me l other = grind (arith, nat_tests)
-
 -- memory may be told to be wanting where it was asked for only of an own load
 pub told-later : {cause : Option Error} {full : Type 0} {w w' : Core} {e : Error} (me : Owner) (l : LoadNumber) → Refused cause (load_fault w me l) full w e w' → Refused cause (closed_fault w l) full w e w'
-told-later {cause} {full} {w} {w'} {e} me l r = grind (arith, nat_tests, open-by)
+told-later {cause} {full} {w} {w'} {e} me l r = grind (arith, nat_tests)
 
 -- one load more, and the others stay
 pub load-comes : (at at' : ℕ → Option LoadRow) (l : ℕ) (row : LoadRow) → at' l ≡ Some row → ((q : ℕ) → q ≢ l → at' q ≡ at q) → (q : ℕ) → option_map load_in (at' q) ≡ updated l (Some (load_in row)) (λ q. option_map load_in (at q)) q
@@ -106,9 +95,6 @@ pub none-yet : (o : Option LoadRow) (last : ℕ) → (is_some (option_map load_i
 none-yet x0 last h = grind (arith, nat_tests)
 
 module _ (w : Core) (me : Owner) (kind : Kind) (key : ℕ) (h : HandleNumber) where
-  abbrev kind-fault : Option Error
-  kind-fault = refused_if (not (is_type (type_of kind.0) (if_there (λ (row : HandleRow). type_at w row.node.0) None (row_at w h)))) Error.WrongKind
-
   abbrev last-fault : Option Error
   last-fault = where_so (not w.closed && is_usable w kind key) (spent w.last.handle)
 
@@ -117,8 +103,7 @@ module _ (w : Core) (me : Owner) (kind : Kind) (key : ℕ) (h : HandleNumber) wh
 
   -- a handle that can't be used is refused first
   pub offer-first : (e : Error) → handle_fault w me h (fits_mode kind.0) ≡ Some e → offer_fault w me kind key h ≡ Some e
-  offer-first e is =
-      handle-first w me h (fits_mode kind.0) e (earlier kind-fault last-fault) is (late kind-fault last-fault 3 (kind-late _) (λ f so. let a = last-late f so in omega arith))
+  offer-first e is = search (arith, handle-first, late, kind-late, last-late)
 
   -- where handle and type are as asked, the last cause is left
   pub offer-last : (row : HandleRow) → handle_fault w me h (fits_mode kind.0) ≡ None → row_at w h ≡ Some row → type_at w row.node.0 ≡ Some (type_of kind.0) → offer_fault w me kind key h ≡ last-fault

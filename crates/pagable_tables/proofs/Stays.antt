@@ -1,12 +1,11 @@
 -- A handle that comes stays, while others that are given go with all that follows.
 use Rattle.pagable_tables.proofs.Words.{◌≡◌, ℕ, ◌<◌, ◌≤◌, ◌==◌, ◌&&◌, ◌++◌, Bool, true, false, not, if◌then◌else◌, List, [], ◌∷◌, refl, ap, sym, ◌∙◌, subst, arith, None, nat_eq, Result, AllPairs}
-use Rattle.pagable_tables.proofs.Words.{nat_tests, sum_by-le-sum_by, sum_by_push, sum_by-append, Error, HandleRow, Among, if_there, one, times, is_loose_kind, is_owner, mode_of, is_at, is_pin}
-use Rattle.pagable_tables.proofs.Words.{is_pinning, is_shared, is_owned_by, owner_value, held, pins, sharing, Core, Places, HasRoom, IsHandleBefore, HandlesAreWhole, references_fault, is_owned_in}
-use Rattle.pagable_tables.proofs.Words.{ArcRef, IsLeast, IsWithin, IsClosed, loses_value, pins_outside, held_outside, is_outside, is_keyed, left_rows, Falls, is_named_by, is_valued, LoadNumber, Mode}
-use Rattle.pagable_tables.proofs.Words.{Owner, ◌+◌, Option, NodeNumber, Blob, is_handle, HandleNumber, Last, Alike, nobody, row_of, with_handle, Counts, Tables, live, counts_at, ValueStays, cell_in}
-use Rattle.pagable_tables.proofs.{Words.{has_value, pins_in, SoFar, core_of, Some, changed, find_row, with_mode}, Coming.no-value, Regiven.{owned, passes-here, passes-none}, Left.times-left}
-use Rattle.pagable_tables.proofs.{Taken.owned-given, keeps.HandleCalls.named-mine, keeps.Rows.{at-most-sum, once, among-last, sum-none}, Opened.owner-self, Begun.{begins, begun}, Ended.none-falls-in}
-use Rattle.pagable_tables.proofs.Worlds.{same-cache}
+use Rattle.pagable_tables.proofs.Words.{nat_tests, sum_by-le-sum_by, sum_by_push, sum_by-append, Error, HandleRow, Among, one, times, is_loose_kind, mode_of, is_at, is_pin, is_pinning}
+use Rattle.pagable_tables.proofs.Words.{is_owned_by, owner_value, held, pins, sharing, Core, Places, HasRoom, IsHandleBefore, HandlesAreWhole, references_fault, is_owned_in, ArcRef, IsLeast}
+use Rattle.pagable_tables.proofs.Words.{IsClosed, loses_value, pins_outside, held_outside, is_outside, is_keyed, left_rows, Falls, is_named_by, is_valued, LoadNumber, Mode, Owner, ◌+◌, Option}
+use Rattle.pagable_tables.proofs.Words.{NodeNumber, Blob, is_handle, HandleNumber, Last, Alike, nobody, row_of, with_handle, Tables, live, counts_at, ValueStays, cell_in, has_value, SoFar, core_of}
+use Rattle.pagable_tables.proofs.{Words.{Some, changed, find_row, with_mode}, Coming.no-value, Regiven.{owned, passes-here, passes-none}, Left.times-left, Taken.owned-given, Opened.owner-self}
+use Rattle.pagable_tables.proofs.{Begun.{begins, begun}, Ended.none-falls-in, Worlds.same-cache, keeps.{HandleCalls.named-mine, Rows.{at-most-sum, once, among-last, sum-none}}}
 use Rattle.pagable_tables.specs.Core.{IsWhole}
 
 -- what isn't given and isn't a value's isn't in the least set
@@ -14,9 +13,6 @@ module _ (rows : List HandleRow) (keyed : ℕ → Bool) (entries : List HandleRo
     (x : HandleRow) (there : Among rows x) (plain : is_valued x.owner ≡ false) (kept : given x.number.0 ≡ false) where
   abbrev less : ℕ → Bool
   less q = s q && not (q == x.number.0)
-
-  given-less : IsWithin rows given less
-  given-less = grind (arith, nat_tests)
 
   fewer : (f : HandleRow → Bool) → times (λ h. f h && is_outside s h) rows ≤ times (λ h. f h && is_outside less h) rows
   fewer f = grind (arith, nat_tests, sum_by-le-sum_by)
@@ -31,26 +27,18 @@ module _ (rows : List HandleRow) (keyed : ℕ → Bool) (entries : List HandleRo
   closed-less : IsClosed rows keyed entries less
   closed-less n e =
       sum-none (λ h. one (is_owned_by (owner_value n) h && is_outside less h)) rows (λ h among.
-      let none = least.closed n (loses n e) in
-      let l = at-most-sum (λ h. one (is_owned_by (owner_value n) h && is_outside s h)) rows h among in
-      let o = once rows ordered h x among there in
-      let p = no-value n x.owner plain in
-      grind (arith, nat_tests))
+      grind (arith, nat_tests, least.closed n (loses n e), at-most-sum (λ h. one (is_owned_by (owner_value n) h && is_outside s h)) rows h among, once rows ordered h x among there,
+          no-value n x.owner plain))
 
   pub not-least : s x.number.0 ≡ false
   not-least =
-      let e : (x.number.0 == x.number.0) ≡ true = grind (arith, nat_tests) in
-      grind (arith, nat_tests, least.least less given-less closed-less, at-most-sum (λ h. one (s h.number.0 && not (less h.number.0))) rows x there)
+      grind (arith, nat_tests, least.least less (grind (arith, nat_tests)) closed-less, at-most-sum (λ h. one (s h.number.0 && not (less h.number.0))) rows x there)
 
 -- why a cell must be listed, seen from another world before
 module _ {b w u w' : Core} {given : ℕ → Bool} {r : Result (Unit {0}) Error} (places : Places) (more : HasRoom u.places places)
     (to : (n : ℕ) → pins n w'.rows ≡ 0 → (pins n b.rows ≡ pins n w.rows) × (sharing n b.rows ≡ sharing n w.rows)) (falls : Falls b (record u { places = places }) given r w') where
   pub seen-before : Falls w u given r w'
   seen-before = grind (arith, nat_tests)
-
--- a handle that doesn't pin isn't Shared
-unshared : (b : Bool) (mode : Mode) → (b && is_pinning mode) ≡ false → (b && is_shared mode) ≡ false
-unshared b mode e = grind (arith, nat_tests)
 
 -- where a handle of w has come and stays, pins go to 0 just where they would have
 pub stays-pinned : (w u w' : Core) (given : ℕ → Bool) (r : Result (Unit {0}) Error) (x : HandleRow) → u.rows ≡ w.rows ++ x ∷ [] → AllPairs IsHandleBefore u.rows
@@ -65,15 +53,9 @@ stays-pinned w u w' given r x rows ordered plain kept falls n none = split (is_p
     stands = not-least u.rows (is_keyed u) falls.entries given falls.gone falls.set ordered x among plain kept
 
     split : (b : Bool) → is_pin n x ≡ b → (pins n u.rows ≡ pins n w.rows) × (sharing n u.rows ≡ sharing n w.rows)
-    split true e =
-        let a = at-most-sum (λ h. one (is_pin n h && not (falls.gone h.number.0))) u.rows x among in
-        let b = times-left (is_pin n) falls.gone u.rows in
-        let c = ap (pins n) falls.leaves.rows in
-        let d = sum_by-append (λ h. one (is_pin n h)) (left_rows falls.gone u.rows) falls.entries in
-        let kept : falls.gone x.number.0 ≡ false = stands in
-        let here : one (is_pin n x && not (falls.gone x.number.0)) ≡ 1 = grind (arith, nat_tests) in
-        absurd (omega arith)
-    split false e = let s = unshared (x.node.0 == n) x.mode e in grind (arith, nat_tests, sum_by_push)
+    split true e = grind (arith, nat_tests, at-most-sum (λ h. one (is_pin n h && not (falls.gone h.number.0))) u.rows x among, times-left (is_pin n) falls.gone u.rows, ap (pins n) falls.leaves.rows,
+        sum_by-append (λ h. one (is_pin n h)) (left_rows falls.gone u.rows) falls.entries, among, stands)
+    split false e = grind (arith, nat_tests, sum_by_push)
 
 pub eager-pins : (kind : ℕ) → is_loose_kind kind ≡ false → is_pinning (mode_of kind) ≡ true
 eager-pins kind eager = grind (arith, nat_tests)
@@ -84,9 +66,7 @@ loaded-append l q (x ∷ xs) more own = grind (arith, nat_tests, passes-none, pa
 
 -- what references name that are good is the load's, and was given
 pub named-loaded : (w : Core) (l : LoadNumber) (refs : List ArcRef) → references_fault w (Owner.Load l) [] refs ≡ None → (q : ℕ) → is_named_by refs q ≡ true → is_owned_in w (Owner.Load l) q ≡ true
-named-loaded w l refs good q named =
-    let m = named-mine w (Owner.Load l) [] refs good q named in
-    ap (if_there (is_owned_by (Owner.Load l)) false) m.live ∙ ap (is_owner (Owner.Load l)) m.own ∙ owner-self (Owner.Load l)
+named-loaded w l refs good q named = grind (arith, nat_tests, named-mine w (Owner.Load l) [] refs good q named, owner-self)
 
 pub not-named : (w : Core) (l : LoadNumber) (refs : List ArcRef) → HandlesAreWhole w → references_fault w (Owner.Load l) [] refs ≡ None → (q : ℕ) → w.last.handle < q → is_named_by refs q ≡ false
 not-named w l refs whole good q above = grind (arith, nat_tests, owned-given w (Owner.Load l) q whole, named-loaded w l refs good q)
@@ -98,9 +78,6 @@ swapped w node mode me ordered plain {w'} {given} {r} f spared =
     let u = with_handle w node mode me in
     seen-before {b = u} {w = w} {u = u} u.places (record { handles = omega arith; entries = omega arith })
     (stays-pinned w u w' given r (row_of (w.last.handle + 1) node mode me) refl ordered plain spared f) f
-
-pub same-value : (o o' : Option Counts) (b : Bool) → cell_in o' ≡ cell_in o → pins_in o' ≡ pins_in o + one b → (b ≡ true → has_value o ≡ true) → has_value o' ≡ has_value o
-same-value o o' b cell pinned there = grind (arith, nat_tests)
 
 -- where rows and cells stay no value comes or goes
 pub values-still : (t new : Tables) → IsWhole t → IsWhole new → live new.holdings.handles.places.items ≡ live t.holdings.handles.places.items
@@ -128,7 +105,7 @@ module _ (t new : Tables) (stored : ℕ → Option Blob) (closed : Bool) (failur
 
   -- and no value came or went
   pub values-made : IsWhole t → (is_pinning mode ≡ true → has_value (counts_at t.holdings.nodes node.0) ≡ true) → (n : ℕ) → ValueStays (counts_at t.holdings.nodes n) (counts_at new.holdings.nodes n)
-  values-made was there n falls = grind (arith, nat_tests, none-falls-in, same-value, sum_by_push, live)
+  values-made was there n falls = grind (arith, nat_tests, none-falls-in, sum_by_push, live)
 
 -- a row of another number stays
 pub changed-push : (q : ℕ) (f : HandleRow → HandleRow) (rows : List HandleRow) (x : HandleRow) → q < x.number.0 → changed (is_handle q) f (rows ++ x ∷ []) ≡ changed (is_handle q) f rows ++ x ∷ []

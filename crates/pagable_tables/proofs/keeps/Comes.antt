@@ -1,8 +1,8 @@
 -- A handle comes, under the next number.
-use Rattle.pagable_tables.proofs.Words.{◌&&◌, ◌++◌, ◌+◌, ◌<◌, ◌==◌, ◌∙◌, ◌∷◌, ◌≡◌, ◌≢◌, ◌≤◌, ◌⊎◌, Cell, Core, HandleRow, IsWhole, MayHold, Mode, NodeNumber, Option, Owner, Suits, [], ap}
-use Rattle.pagable_tables.proofs.Words.{arith, false, greatest, held, inl, inr, is_at, is_handle, is_owned_by, is_owner, is_shared, is_some, is_valued, nat_lt, nat_tests, one, refl, row_of, subst}
-use Rattle.pagable_tables.proofs.{Words.{sum_by_push, sym, true, with_handle, ℕ}, Bits.and-zero, keeps.Kept.{GoOn, HasLike, IsIn, IsNew, held-some, holder-in, is-in, keeps-whole, keyed_in}}
-use Rattle.pagable_tables.proofs.{keeps.Kept.{loads-stay, stays-old, there-then, type_in}, keeps.Rows.{among-both, among-more, among-one, ordered-push}, keeps.Told.{GoesOn, roomy}}
+use Rattle.pagable_tables.proofs.Words.{◌++◌, ◌+◌, ◌<◌, ◌==◌, ◌∙◌, ◌∷◌, ◌≡◌, ◌≢◌, ◌≤◌, ◌⊎◌, Cell, Core, HandleRow, IsWhole, MayHold, Mode, NodeNumber, Option, Owner, Suits, [], ap, arith, false}
+use Rattle.pagable_tables.proofs.Words.{greatest, held, inl, inr, is_at, is_owner, is_shared, is_some, is_valued, nat_tests, one, refl, row_of, subst, Among, HandleNumber, times, sum_by_push}
+use Rattle.pagable_tables.proofs.{Words.{sym, true, with_handle, ℕ}, Left.of_list, keeps.Kept.{GoOn, HasLike, IsIn, IsNew, held-some, holder-in, is-in, keeps-whole, keyed_in, loads-stay, stays-old}}
+use Rattle.pagable_tables.proofs.keeps.{Kept.{there-then, type_in}, Rows.{among-both, among-more, among-one, ordered-push}, Told.{GoesOn, roomy}}
 
 -- who may hold is neither the list nor a value
 pub not-list : (w : Core) (o : Owner) → MayHold w o → is_owner Owner.List o ≡ false
@@ -22,21 +22,6 @@ module _ {w : Core} (whole : IsWhole w) (x : HandleRow) (cells : ℕ → Option 
   abbrev grown : Core
   grown = roomy (record w { rows = w.rows ++ x ∷ []; cells = cells; last = record w.last { node = last; handle = w.last.handle + 1 } })
 
-  held-push : (n : ℕ) → held n grown.rows ≡ held n w.rows + one (is_at n x)
-  held-push n = sum_by_push (λ h. one (is_at n h)) w.rows x
-
-  others : (n : ℕ) → n ≢ x.node.0 → cells n ≡ w.cells n
-  others n other = same n (inl other)
-
-  at-here : (x.node.0 == x.node.0) ≡ true
-  at-here = grind (arith, nat_tests)
-
-  at-other : (n : ℕ) → n ≢ x.node.0 → (x.node.0 == n) ≡ false
-  at-other n other = grind (arith, nat_tests)
-
-  grown-live : (n : ℕ) → is_some (cells n) ≡ nat_lt 0 (held n grown.rows)
-  grown-live n = grind (arith, nat_tests, held-push, at-here, at-other, others)
-
   come : IsNew w grown (is_shared x.mode) x
   come = record { above = omega arith; few = omega arith; like = elim like [ inl old ↦ inl old | inr new ↦ inr (new.0, new.1, refl, new.2) ] }
 
@@ -47,32 +32,21 @@ module _ {w : Core} (whole : IsWhole w) (x : HandleRow) (cells : ℕ → Option 
         ordered = ordered-push w.rows x (λ y among. let a = whole.handles.numbered y among in omega arith) whole.handles.ordered;
         fresh = is_shared x.mode;
         rows = λ h among. elim (among-both w.rows (x ∷ []) h among) [ inl old ↦ inl (stays-old old) | inr new ↦ inr (subst (IsNew w grown (is_shared x.mode)) (sym (among-one x h new)) come) ];
-        live = grown-live;
+        live = λ n. grind (arith, nat_tests, sum_by_push (λ h. one (is_at n h)) w.rows x, same n);
         typed = λ n t given is. sym (ap type_in (same n (inr given))) ∙ is;
         keyed = λ n like given none. ap keyed_in (same n (inr given)) ∙ none;
       }
 
   pub grown-whole : IsWhole grown
   grown-whole =
-      keeps-whole whole (record {
-        on = grown-on;
-        within = let (a, b, c) = whole.handles.within in (omega arith, few, c);
-        places = (omega arith, omega arith);
-        listed = λ q.
-            let a = sum_by_push (λ h. one (is_handle q h && is_owned_by Owner.List h)) w.rows x in
-            let b = whole.owners_there.listed q in
-            let c = not-list w x.owner holder in
-            let d : one (is_handle q x && is_owned_by Owner.List x) ≡ 0 = ap (λ b. one (is_handle q x && b)) c ∙ and-zero (is_handle q x) in
-            omega arith;
-        owners = λ h among. elim (among-both w.rows (x ∷ []) h among) [
-          | inl old ↦ is-in whole h old
-          | inr new ↦ subst (λ (y : HandleRow). IsIn w y.mode y.owner) (sym (among-one x h new)) (holder-in w x.mode x.owner holder)
-        ];
-        loads = loads-stay whole (λ v at. at);
-        cache = whole.cache;
-        workers = whole.workers_numbered;
-        shut = whole.shut;
-      })
+      let on = grown-on in
+      let listed : (q : ℕ) → times (λ (h : HandleNumber). h.0 == q) w.list ≡ times (of_list q) grown.rows = λ q.
+          grind (arith, nat_tests, sum_by_push (λ h. one (of_list q h)) w.rows x, whole.owners_there.listed q, not-list w x.owner holder) in
+      let owners : (h : HandleRow) → Among grown.rows h → IsIn w h.mode h.owner = λ h among. elim (among-both w.rows (x ∷ []) h among) [
+        | inl old ↦ is-in whole h old
+        | inr new ↦ subst (λ (y : HandleRow). IsIn w y.mode y.owner) (sym (among-one x h new)) (holder-in w x.mode x.owner holder)
+      ] in
+      keeps-whole whole (grind (arith, nat_tests, loads-stay))
 
 -- where a handle of a mode suits a node
 pub suits-like : {w : Core} (node : NodeNumber) (mode : Mode) → Suits w node mode → HasLike w.rows node.0 (is_shared mode)

@@ -3,7 +3,7 @@ use Rattle.pagable_tables.proofs.Words.{◌&&◌, ◌+◌, ◌<◌, ◌==◌, �
 use Rattle.pagable_tables.proofs.Words.{HandleNumber, HandleRow, IsEntryWhole, IsHandleBefore, IsWhole, Kind, LazyCall, List, LoadCloses, LoadNumber, MayHold, MayOwnLoad, Mode, NodeNumber, None, Ok}
 use Rattle.pagable_tables.proofs.Words.{OpenLoad, Option, OptionalDataKey, Owner, Owns, OwnsLoad, Result, Some, [], adopted, ap, arith, cell_fault, earlier, false, first_key, greatest, has_key}
 use Rattle.pagable_tables.proofs.Words.{if_there, if◌then◌else◌, inl, inr, is_handle, is_in, is_loose, is_loose_kind, is_named_by, is_owned_by, is_owned_in, is_owner, is_shared, is_some, load_fault}
-use Rattle.pagable_tables.proofs.Words.{mode_of, moved, named_fault, nat_tests, next_node, not, numbers_of, owner_value, references_fault, refl, row_of, shut, subst, sym, true, type_of, updated}
+use Rattle.pagable_tables.proofs.Words.{mode_of, moved, named_fault, nat_tests, next_node, not, numbers_of, owner_value, references_fault, refl, row_of, shut, subst, sym, true, type_of}
 use Rattle.pagable_tables.proofs.{Words.{with_cached, with_handle, with_mode, with_node, with_pin, without_load, ℕ}, Handed.{found-there, one-fault}, Worlds.{fault-by, owner-same}}
 use Rattle.pagable_tables.proofs.keeps.{CacheCalls.{cached-whole, known-whole, mode-shared}, Comes.{handle-on, not-list}, Fallen.{alike-opened, falls-lost, falls-opened, opened}, HandleCalls.IsMine}
 use Rattle.pagable_tables.proofs.keeps.HandleCalls.{born-whole, mine-of, moved-number, moved-on, moved-to-holder, moved-to-value, named-own, named-unlisted, no-references, pin-comes, pin-on}
@@ -12,20 +12,16 @@ use Rattle.pagable_tables.proofs.keeps.Told.{alike-whole, roomy, roomy-whole, se
 
 -- ---- a load closes
 
-still-there : {X : Type 0} (l : ℕ) (f : ℕ → Option X) (q : ℕ) (x : X) → updated l None f q ≡ Some x → f q ≡ Some x
-still-there {X} l f q x is = grind (arith, nat_tests)
-
 -- a load closes and what it owns is given
 closes : {before u w' : Core} {r : Result (Unit {0}) Error} (l : LoadNumber) (given : ℕ → Bool) → IsWhole (roomy (opened u)) → GoesOn before u
     → ((h : HandleRow) → Among u.rows h → h.owner ≡ Owner.Load l → given h.number.0 ≡ true) → Falls before (without_load u l) given r w' → ArePlaced (opened w') → IsWhole (opened w')
 closes {before} {u} l given whole on gives falls placed =
-    falls-lost u {u = without_load u l} whole on refl (record {
+    falls-lost u (without_load u l) whole on (record {
       listed = λ q. inl (whole.owners_there.listed q);
       owners = λ h among. let i = is-in whole h among in grind (arith, nat_tests, gives);
-      loads = λ k load is. let was = still-there l.0 u.loads k load is in (was, whole.loads.owned k load was);
+      loads = λ k load is. let was : u.loads k ≡ Some load = grind (arith, nat_tests) in (was, whole.loads.owned k load was);
       cache = λ kind key n is. is;
       workers = λ v is. is;
-      shut = λ closed. absurd (cc);
     }) falls placed
 
 -- what a load owns, it owns by its number too
@@ -65,15 +61,12 @@ module _ (before m : Core) (whole : IsWhole (roomy (opened m))) (on : GoesOn bef
       (then-on on (pin-on {w = roomy (opened m)} h row me whole (may-hold m me may) owns)) pinned-gives
       (subst (λ n. Falls before (without_load (with_pin m h n me) l) given r w') (sym at) falls) placed
 
-both-true : (a b : Bool) → a ≡ true → b ≡ false → (a && not b) ≡ true
-both-true a b e f = rw (e, f) refl
-
 -- what the load still owns once handles have moved to another is given
 left-given : {w : Core} → IsWhole w → (l : LoadNumber) (s : ℕ → Bool) (o : Owner) → (o ≡ Owner.Load l → ⊥) → (y : HandleRow) → Among (moved s o w.rows) y → y.owner ≡ Owner.Load l
     → (is_owned_in w (Owner.Load l) y.number.0 && not (s y.number.0)) ≡ true
 left-given {w} whole l s o other y among =
     among-changed (λ z. s z.number.0) (λ z. record z { owner = o }) (λ z. z.owner ≡ Owner.Load l → (is_owned_in w (Owner.Load l) z.number.0 && not (s z.number.0)) ≡ true) w.rows y among
-    (λ z there e own. absurd (other own)) (λ z there e own. both-true _ _ (owned-in whole l z there own) e)
+    (λ z there e own. absurd (other own)) (λ z there e own. let o = owned-in whole l z there own in grind (arith, nat_tests))
 
 pub end-whole : {N : Type 0} {w w' : Core} (me : Owner) (l : LoadNumber) (x : N) (node_type : ℕ) (refs : List ArcRef) (r : Result HandleNumber (Error × Option N)) → IsWhole (opened w)
     → EndCall w me l x node_type refs r w' → ArePlaced (opened w') → IsWhole (opened w')
@@ -113,15 +106,12 @@ end-whole me l x node_type refs (Err (e, None)) whole call placed = let v = call
 pub both-none : (a b : Option Error) → earlier a b ≡ None → (a ≡ None) × (b ≡ None)
 both-none a b e = grind (arith, nat_tests)
 
-handed-one : (w : Core) (owner : Owner) (seen : List ℕ) (h : HandleNumber) → one-fault w owner seen h ≡ None → IsMine w owner h.0
-handed-one w owner seen h good = grind (arith, nat_tests, owner-same)
-
 pub handed-mine : (w : Core) (owner : Owner) (seen : List ℕ) (hs : List HandleNumber) → named_fault w owner seen hs ≡ None → (q : ℕ) → is_in (numbers_of hs) q ≡ true → IsMine w owner q
 unfolding named_fault is_in
 handed-mine w owner seen [] good q named = absurd (cc)
 handed-mine w owner seen (h ∷ hs) good q named =
     let parts = both-none (one-fault w owner seen h) (named_fault w owner (h.0 ∷ seen) hs) good in
-    mine-of w owner h.0 q (h.0 == q) (is_in (numbers_of hs) q) refl named (handed-one w owner seen h parts.0) (λ n. handed-mine w owner (h.0 ∷ seen) hs parts.1 q n)
+    mine-of w owner h.0 q (h.0 == q) (is_in (numbers_of hs) q) refl named (let a = parts.0 in grind (arith, nat_tests, owner-same)) (λ n. handed-mine w owner (h.0 ∷ seen) hs parts.1 q n)
 
 -- what is handed over isn't the list's
 pub handed-unlisted : (w : Core) → AllPairs IsHandleBefore w.rows → (l : LoadNumber) (hs : List HandleNumber) → named_fault w (Owner.Load l) [] hs ≡ None → (x : HandleRow) → Among w.rows x
@@ -153,13 +143,12 @@ hand-over-whole me l hs (Err e) whole call placed = alike-whole whole (alike-ope
 
 pub close-whole : {w w' : Core} (r : Result (Unit {0}) Error) → IsWhole (opened w) → CloseCall w r w' → ArePlaced (opened w') → IsWhole (opened w')
 close-whole {w} {w'} r whole call placed =
-    falls-lost w {u = shut w w'.failures} (roomy-whole whole) (stays-on w) refl (record {
+    falls-lost w (shut w w'.failures) (roomy-whole whole) (stays-on w) (record {
       listed = λ q. let a = whole.owners_there.listed q in grind (arith, nat_tests);
       owners = λ h among. inl (is-in whole h among);
       loads = λ l load is. (is, whole.loads.owned l load is);
       cache = λ kind key n is. absurd (cc);
       workers = λ v is. is;
-      shut = λ closed. absurd (cc);
     }) call.falls.falls placed
 
 -- an open load may hold
@@ -174,13 +163,10 @@ module _ (w : Core) (whole : IsWhole (opened w)) (l : LoadNumber) (kind : Kind) 
   abbrev made : Core
   made = with_handle (with_node w (type_of kind.0) own refs) (next_node w) (mode_of kind.0) (Owner.Load l)
 
-  abbrev now : Core
-  now = roomy (opened made)
-
-  now-whole : IsWhole now
+  now-whole : IsWhole (roomy (opened made))
   now-whole = born-whole whole (type_of kind.0) own refs (mode_of kind.0) (Owner.Load l) (Owner.Load l) refl good holder node_left left unkeyed
 
-  new-entry : IsEntryWhole now kind.0 (w.last.node + 1)
+  new-entry : IsEntryWhole (roomy (opened made)) kind.0 (w.last.node + 1)
   new-entry =
       record {
         given = omega arith;
@@ -196,7 +182,7 @@ module _ (w : Core) (whole : IsWhole (opened w)) (l : LoadNumber) (kind : Kind) 
     where
       at : (b : Bool) → IsWhole (roomy (opened (if b then made else with_cached made kind key (next_node w))))
       at true = now-whole
-      at false = cached-whole {w = now} kind key (next_node w) now-whole refl new-entry
+      at false = cached-whole {w = roomy (opened made)} kind key (next_node w) now-whole refl new-entry
 
 loose-plain : (kind : ℕ) → is_loose_kind kind ≡ true → is_shared (mode_of kind) ≡ true → ⊥
 loose-plain kind loose shared = grind (arith, nat_tests, mode-shared)
@@ -210,9 +196,6 @@ lazy-whole {w} me l kind key (Ok k) whole call placed = let (load, owns, loose, 
 ]
 lazy-whole me l kind key (Err e) whole call placed = alike-whole whole (alike-opened call.refused.stays) placed
 
-shared-keyless : (kind key : ℕ) → is_shared (mode_of kind) ≡ true → has_key (first_key kind key) ≡ false
-shared-keyless kind key shared = grind (arith, nat_tests, mode-shared)
-
 pub adopt-whole : {N : Type 0} {w w' : Core} (me : Owner) (l : LoadNumber) (kind : Kind) (key : ℕ) (x : N) (node_type : ℕ) (refs : List ArcRef) (r : Result HandleNumber (Error × N))
     → IsWhole (opened w)
     → AdoptCall w me l kind key x node_type refs r w' → ArePlaced (opened w') → IsWhole (opened w')
@@ -223,6 +206,6 @@ adopt-whole {N} {w} me l kind key x node_type refs (Ok k) whole call placed =
           falls-opened (known-whole kind key n (Owner.Load l) whole is (load-holds a.load a.owned) a.next.is_left) (handle-on w (record { 0 = n }) (mode_of kind.0) (Owner.Load l)) falls.falls placed
       | inr (none, node_left, leaves) ↦
           settles (adopted-whole w whole l kind key (first_key kind.0 key) refs (load-holds a.load a.owned) (fault-by w (opened w) (Owner.Load l) [] refs ∙ a.good) node_left a.next.is_left
-          (shared-keyless kind.0 key)) (alike-opened leaves) placed
+          (λ shared. grind (arith, nat_tests, mode-shared))) (alike-opened leaves) placed
     ]
 adopt-whole me l kind key x node_type refs (Err e) whole call placed = alike-whole whole (alike-opened call.refused.1.stays) placed

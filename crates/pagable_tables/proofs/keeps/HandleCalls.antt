@@ -1,15 +1,10 @@
 -- Calls by which a handle comes, moves or is pinned, or a node comes, keep the world whole.
-use Rattle.pagable_tables.proofs.Words.{◌&&◌, ◌+◌, ◌<◌, ◌==◌, ◌||◌, ◌∙◌, ◌∷◌, ◌≡◌, ◌≢◌, ◌≤◌, ◌⊎◌, Among, ArcRef, ArePlaced, AwayBirthCall, BirthCall, Bool, Cell, CloneCall, Core, Err, Error}
-use Rattle.pagable_tables.proofs.Words.{HandleNumber, HandleRow, IsWhole, List, LoosenCall, Makes, MayHold, Mode, NodeNumber, None, Ok, Option, OptionalDataKey, Owner, Owns, PinCall, Pinning}
-use Rattle.pagable_tables.proofs.Words.{Result, Some, Suits, [], ap, arith, false, find_row, greatest, has_key, if◌then◌else◌, inr, is_handle, is_loose, is_named_by, is_owned_by, is_owner}
-use Rattle.pagable_tables.proofs.Words.{is_pinned, is_shared, is_some, moved, nat_tests, next_node, one, or_else, owner_value, reference_fault, references_fault, refl, row_at, row_of, subst, sym}
-use Rattle.pagable_tables.proofs.{Words.{times, true, updated, with_handle, with_mode, with_node, with_pin, ℕ}, keeps.Comes.{beside, grown-whole, handle-on, not-list, not-the-list, suits-like}}
-use Rattle.pagable_tables.proofs.{keeps.Kept.{HasLike, IsIn, holder-in, keyed_in}, keeps.Rows.{each-changed, found-among, once, sum-map}, keeps.Told.{GoesOn, alike-whole, moded-on, moded-whole}}
-use Rattle.pagable_tables.proofs.keeps.Told.{roomy, settles, then-on, turned-on, turned-whole}
-
--- the list's handles of one number
-abbrev pub lists : ℕ → HandleRow → Bool
-lists q h = is_handle q h && is_owned_by Owner.List h
+use Rattle.pagable_tables.proofs.Words.{◌&&◌, ◌+◌, ◌<◌, ◌==◌, ◌||◌, ◌∙◌, ◌∷◌, ◌≡◌, Among, ArcRef, ArePlaced, AwayBirthCall, BirthCall, Bool, Cell, CloneCall, Core, Err, Error, HandleNumber, HandleRow}
+use Rattle.pagable_tables.proofs.Words.{IsWhole, List, LoosenCall, Makes, MayHold, Mode, NodeNumber, None, Ok, Option, OptionalDataKey, Owner, Owns, PinCall, Pinning, Result, Some, Suits, [], ap}
+use Rattle.pagable_tables.proofs.Words.{arith, false, find_row, greatest, has_key, if◌then◌else◌, inr, is_handle, is_loose, is_named_by, is_owned_by, is_owner, is_pinned, is_shared, moved, nat_tests}
+use Rattle.pagable_tables.proofs.Words.{next_node, one, or_else, owner_value, reference_fault, references_fault, refl, row_at, row_of, subst, sym, times, true, updated, with_handle, with_mode}
+use Rattle.pagable_tables.proofs.{Words.{with_node, with_pin, ℕ}, Left.of_list, keeps.{Comes.{beside, grown-whole, handle-on, not-list, not-the-list, suits-like}, Kept.{HasLike, IsIn, holder-in}}}
+use Rattle.pagable_tables.proofs.keeps.{Rows.{each-changed, found-among, once, sum-map}, Told.{GoesOn, alike-whole, moded-on, moded-whole, roomy, settles, then-on, turned-on, turned-whole}}
 
 module _ {w : Core} (whole : IsWhole w) (s : ℕ → Bool) (owner : Owner) where
   abbrev moves : HandleRow → Bool
@@ -25,15 +20,15 @@ module _ {w : Core} (whole : IsWhole w) (s : ℕ → Bool) (owner : Owner) where
   moved-on = turned-on whole moves to-owner w.list (λ x. refl) (λ x. refl) (λ x among e. refl) (λ x among e was. was)
 
   -- with the list that fits; the new owner is there
-  pub moved-so : (list : List HandleNumber) → ((q : ℕ) → times (λ (h : HandleNumber). h.0 == q) list ≡ times (lists q) (moved s owner w.rows))
+  pub moved-so : (list : List HandleNumber) → ((q : ℕ) → times (λ (h : HandleNumber). h.0 == q) list ≡ times (of_list q) (moved s owner w.rows))
       → ((x : HandleRow) → Among w.rows x → s x.number.0 ≡ true → IsIn w x.mode owner) → (w.closed ≡ true → list ≡ []) → IsWhole (roomy (record w { rows = moved s owner w.rows; list = list }))
   moved-so list listed there none = turned-whole whole moves to-owner list (λ x. refl) (λ x. refl) (λ x among e. refl) (λ x among e was. was) listed there none
 
   -- what the list has of a number stays where none of its handles moves, nor to it
   pub still-lists : ((x : HandleRow) → Among w.rows x → s x.number.0 ≡ true → is_owned_by Owner.List x ≡ false) → is_owner Owner.List owner ≡ false → (q : ℕ)
-      → times (λ (h : HandleNumber). h.0 == q) w.list ≡ times (lists q) (moved s owner w.rows)
-  still-lists mine other q = whole.owners_there.listed q ∙ sym (sum-map (λ x. one (lists q x)) (λ x. one (lists q x)) (λ x. if moves x then to-owner x else x) w.rows
-      (λ x among. each-changed moves to-owner (λ y. one (lists q y) ≡ one (lists q x)) x
+      → times (λ (h : HandleNumber). h.0 == q) w.list ≡ times (of_list q) (moved s owner w.rows)
+  still-lists mine other q = whole.owners_there.listed q ∙ sym (sum-map (λ x. one (of_list q x)) (λ x. one (of_list q x)) (λ x. if moves x then to-owner x else x) w.rows
+      (λ x among. each-changed moves to-owner (λ y. one (of_list q y) ≡ one (of_list q x)) x
       (λ e. ap (λ b. one (is_handle q x && b)) (other ∙ sym (mine x among e))) (λ e. refl)))
 
 -- to the value of a node, or to one who may hold
@@ -54,19 +49,13 @@ pub row-suits : {w : Core} (h : HandleNumber) (row : HandleRow) → row_at w h �
 row-suits {w} h row live = record { row = row; there = (found-among h.0 w.rows row live).0; at = refl; shared = refl }
 
 pub clone-whole : {w w' : Core} (me : Owner) (h : HandleNumber) (r : Result HandleNumber Error) → IsWhole w → MayHold w me → CloneCall w me h r w' → ArePlaced w' → IsWhole w'
-clone-whole {w} me h (Ok k) whole holder call placed =
-    let row = call.made.0 in
-    settles (beside whole row.node row.mode me (suits-like row.node row.mode (row-suits {w = w} h row call.made.1)) holder call.made.2.is_left) call.made.3 placed
+clone-whole {w} me h (Ok k) whole holder call placed = search (arith, settles, beside, suits-like, row-suits)
 clone-whole me h (Err e) whole holder call placed = alike-whole whole call.refused.stays placed
-
--- the list's handles are owned by the list
-owned-by-list : (row : HandleRow) → is_owned_by Owner.List row ≡ false → row.owner ≡ Owner.List → ⊥
-owned-by-list row other is = grind (arith, nat_tests)
 
 -- a handle that is loose or Pinned, and not the list's, is loose and pins
 pub pins-whole : {w : Core} (h : HandleNumber) (row : HandleRow) → IsWhole w → row_at w h ≡ Some row → is_shared row.mode ≡ false → is_owned_by Owner.List row ≡ false
     → IsWhole (roomy (with_mode w h Mode.LoosePinned))
-pins-whole h row whole live unshared other = moded-whole whole h row Mode.LoosePinned live (sym unshared) (λ loose. refl) (λ is. absurd (owned-by-list row other is))
+pins-whole h row whole live unshared other = moded-whole whole h row Mode.LoosePinned live (sym unshared) (λ loose. refl) (λ is. grind (arith, nat_tests))
 
 pub is-pinned : (mode : Mode) → is_pinned mode ≡ true → mode ≡ Mode.Pinned
 is-pinned x0 is = grind (arith, nat_tests)
@@ -112,9 +101,6 @@ pub record IsMine (w : Core) (owner : Owner) (q : ℕ) : Type 0 where
   pub live : find_row q w.rows ≡ Some row
   pub own : row.owner ≡ owner
 
-good-one : (w : Core) (owner : Owner) (seen : List ℕ) (r : ArcRef) → reference_fault w owner seen r ≡ None → IsMine w owner r.handle.0
-good-one w owner seen r good = grind (arith, nat_tests)
-
 -- one that is named first, or later
 pub mine-of : (w : Core) (owner : Owner) (k q : ℕ) (b rest : Bool) → (k == q) ≡ b → (b || rest) ≡ true → IsMine w owner k → (rest ≡ true → IsMine w owner q) → IsMine w owner q
 mine-of w owner k q b0 rest e named mine others = grind (arith, nat_tests)
@@ -127,7 +113,7 @@ unfolding references_fault is_named_by
 named-mine w owner seen [] good q named = absurd (cc)
 named-mine w owner seen (r ∷ rs) good q named =
     let parts = or-none (reference_fault w owner seen r) (references_fault w owner (r.handle.0 ∷ seen) rs) good in
-    mine-of w owner r.handle.0 q (r.handle.0 == q) (is_named_by rs q) refl named (good-one w owner seen r parts.0) (λ n. named-mine w owner (r.handle.0 ∷ seen) rs parts.1 q n)
+    mine-of w owner r.handle.0 q (r.handle.0 == q) (is_named_by rs q) refl named (let a = parts.0 in grind (arith, nat_tests)) (λ n. named-mine w owner (r.handle.0 ∷ seen) rs parts.1 q n)
 
 -- what is named is the owner's, so it isn't the list's
 pub named-own : {w : Core} → IsWhole w → (owner : Owner) (refs : List ArcRef) → references_fault w owner [] refs ≡ None → (x : HandleRow) → Among w.rows x → is_named_by refs x.number.0 ≡ true
@@ -149,16 +135,10 @@ module _ {w : Core} (whole : IsWhole w) (node_type : ℕ) (key : OptionalDataKey
   abbrev cells : ℕ → Option Cell
   cells = updated (w.last.node + 1) (Some (record { node_type = node_type; key = key })) w.cells
 
-  cell-new : cells (w.last.node + 1) ≡ Some (record { node_type = node_type; key = key })
-  cell-new = grind (arith, nat_tests)
-
-  cell-old : (n : ℕ) → (n ≢ w.last.node + 1) ⊎ (n ≤ w.last.node) → cells n ≡ w.cells n
-  cell-old n old = grind (arith, nat_tests)
-
   pub born-whole : IsWhole (roomy (with_handle (with_node w node_type key refs) (next_node w) mode me))
   born-whole =
       grown-whole (moved-to-value whole (is_named_by refs) (named-unlisted whole from refs other good) (w.last.node + 1)) (row_of (w.last.handle + 1) (next_node w) mode me) cells (w.last.node + 1)
-      refl left (omega arith) (omega arith) (ap is_some cell-new) cell-old (inr (omega arith, omega arith, λ is. ap keyed_in cell-new ∙ unkeyed is)) holder
+      refl left (omega arith) (omega arith) (grind (arith, nat_tests)) (λ n old. grind (arith, nat_tests)) (inr (omega arith, omega arith, λ is. grind (arith, nat_tests, unkeyed is))) holder
 
 pub birth-whole : {N : Type 0} {w w' : Core} (me : Owner) (x : N) (node_type : ℕ) (refs : List ArcRef) (mode : Mode) (r : Result HandleNumber (Error × N)) → IsWhole w → MayHold w me
     → BirthCall w me x node_type refs mode r w' → ArePlaced w' → IsWhole w'

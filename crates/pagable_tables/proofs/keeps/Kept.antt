@@ -1,8 +1,8 @@
 -- A change of a whole world, as small as a row, an entry or a load: what has to be shown of it, and that the world is whole then.
 use Rattle.pagable_tables.proofs.Words.{◌&&◌, ◌<◌, ◌==◌, ◌∙◌, ◌∷◌, ◌≡◌, ◌≤◌, ◌⊎◌, AllPairs, Among, Bool, Cell, Core, HandleNumber, HandleRow, HandlesAreWhole, IsEntryWhole, IsHandleBefore}
-use Rattle.pagable_tables.proofs.Words.{IsRootWhole, IsWhole, List, MayHold, MayOwnLoad, Mode, NodeNumber, None, OpenLoad, Option, OptionalDataKey, Owner, SameAt, Some, [], ap, arith, false}
+use Rattle.pagable_tables.proofs.Words.{IsRootWhole, IsWhole, List, MayHold, MayOwnLoad, Mode, NodeNumber, None, OpenLoad, Option, OptionalDataKey, Owner, SameAt, Some, [], arith, false}
 use Rattle.pagable_tables.proofs.Words.{greatest, has_key, held, if_there, inl, inr, is_at, is_handle, is_loose, is_owned_by, is_share, is_shared, is_some, length, nat_lt, nat_tests}
-use Rattle.pagable_tables.proofs.{Words.{of_cell, one, refl, sharing, subst, suc, sum_by, sum_by-cons, sym, times, true, zero, ℕ}, keeps.Rows.{at-most-sum, counted, found-among, found-so, sum-less}}
+use Rattle.pagable_tables.proofs.{Words.{of_cell, one, refl, sharing, subst, suc, sum_by, sum_by-cons, sym, times, true, ℕ}, keeps.Rows.{at-most-sum, counted, found-among, found-so, sum-less}}
 
 abbrev pub type_in : Option Cell → Option ℕ
 type_in cell = if_there (λ (cell : Cell). Some cell.node_type) None cell
@@ -75,10 +75,6 @@ pub in-still : (w u : Core) → ((l : ℕ) → is_some (w.loads l) ≡ true → 
     → IsIn w mode o → IsIn u mode o
 in-still w u loads workers mode o i = grind (arith, nat_tests)
 
--- in another mode, as that of the list's handles is known
-pub other-mode : (w : Core) (a b : Mode) (o : Owner) → IsIn w a o → (o ≡ Owner.List → b ≡ Mode.LooseUnpinned) → IsIn w b o
-other-mode w a b o i waits = grind (arith, nat_tests)
-
 pub holder-in : (w : Core) (mode : Mode) (o : Owner) → MayHold w o → IsIn w mode o
 holder-in w mode o may = grind (arith, nat_tests)
 
@@ -113,57 +109,41 @@ same-sum : {X : Type 0} (f g : X → ℕ) (xs : List X) → ((x : X) → Among x
 same-sum f g [] h = refl
 same-sum f g (x ∷ xs) h = grind (arith, nat_tests, sum_by-cons, same-sum f g xs (λ y among. h y (suc among.0, among.1)))
 
-at-one : (n : ℕ) (h : HandleRow) → h.node.0 ≡ n → (h.node.0 == n) ≡ true
-at-one n h e = grind (arith, nat_tests)
-
 pub at-then : (n : ℕ) (h : HandleRow) → 0 < one (is_at n h) → h.node.0 ≡ n
 at-then n h some = grind (arith, nat_tests)
-
-share-le : (a b : Bool) → one (a && b) ≤ one a
-share-le a b = grind (arith, nat_tests)
 
 share-then : (n : ℕ) (h : HandleRow) → 0 < one (is_share n h) → (h.node.0 ≡ n) × (is_shared h.mode ≡ true)
 share-then n h some = grind (arith, nat_tests)
 
 -- a row counts among those of its node
 pub held-some : (n : ℕ) (rows : List HandleRow) (h : HandleRow) → Among rows h → h.node.0 ≡ n → 0 < held n rows
-held-some n rows h among e = let a = at-most-sum (λ x. one (is_at n x)) rows h among in let b : one (is_at n h) ≡ 1 = ap one (at-one n h e) in omega arith
+held-some n rows h among e = let a = at-most-sum (λ x. one (is_at n x)) rows h among in grind (arith, nat_tests)
 
 pub there-then : {w : Core} → IsWhole w → (h : HandleRow) → Among w.rows h → is_some (w.cells h.node.0) ≡ true
 there-then {w} whole h among = let a = held-some h.node.0 w.rows h among refl in let b : nat_lt 0 (held h.node.0 w.rows) ≡ true = grind (arith, nat_tests) in whole.handles.live h.node.0 ∙ b
 
 -- a node that is there has a row
 pub row-then : (n : ℕ) (rows : List HandleRow) (cell : Option Cell) → is_some cell ≡ nat_lt 0 (held n rows) → is_some cell ≡ true → (h : HandleRow) × Among rows h × (h.node.0 ≡ n)
-row-then n rows cell live some =
-    let b : nat_lt 0 (held n rows) ≡ true = sym live ∙ some in
-    let c : 0 < held n rows = grind (arith, nat_tests) in
-    let r = counted (λ x. one (is_at n x)) rows c in (r.0, r.1, at-then n r.0 r.2)
+row-then n rows cell live some = grind (arith, nat_tests, counted, at-then)
 
 -- rows of one node are all Shared, or none is
 pub record AreAlike (rows : List HandleRow) : Type 0 where
   pub same : (x y : HandleRow) → Among rows x → Among rows y → x.node.0 ≡ y.node.0 → is_shared x.mode ≡ is_shared y.mode
 
 shared-count : (n : ℕ) (rows : List HandleRow) (x : HandleRow) (b : Bool) → Among rows x → x.node.0 ≡ n → is_shared x.mode ≡ b → one (is_share n x) ≡ one b
-shared-count n rows x b among e is = ap (λ a. one (a && is_shared x.mode)) (at-one n x e) ∙ ap one is
+shared-count n rows x b among e is = grind (arith, nat_tests)
 
 pub alike-rows : {w : Core} → IsWhole w → AreAlike w.rows
 alike-rows {w} whole = record {
   same = λ x y there here same.
       let n = y.node.0 in
-      let u = whole.handles.uniform n in
-      let a = at-most-sum (λ h. one (is_share n h)) w.rows x there in
-      let b = at-most-sum (λ h. one (is_share n h)) w.rows y here in
-      let c = sum-less (λ h. one (is_share n h)) (λ h. one (is_at n h)) w.rows x (λ h. share-le (is_at n h) (is_shared h.mode)) there in
-      let d = sum-less (λ h. one (is_share n h)) (λ h. one (is_at n h)) w.rows y (λ h. share-le (is_at n h) (is_shared h.mode)) here in
-      grind (arith, nat_tests);
+      grind (arith, nat_tests, whole.handles.uniform n, at-most-sum (λ h. one (is_share n h)) w.rows x there, at-most-sum (λ h. one (is_share n h)) w.rows y here,
+          sum-less (λ h. one (is_share n h)) (λ h. one (is_at n h)) w.rows x (λ h. grind (arith, nat_tests)) there,
+          sum-less (λ h. one (is_share n h)) (λ h. one (is_at n h)) w.rows y (λ h. grind (arith, nat_tests)) here);
 }
 
 uniform-rows : (n : ℕ) (rows : List HandleRow) → AreAlike rows → (k : ℕ) → sharing n rows ≡ k → (sharing n rows ≡ 0) ⊎ (sharing n rows ≡ held n rows)
-uniform-rows n rows alike zero is = inl is
-uniform-rows n rows alike (suc k) is =
-    let (x, there, counts) = counted (λ h. one (is_share n h)) rows (omega arith) in
-    let (at, shared) = share-then n x counts in
-    inr (same-sum (λ h. one (is_share n h)) (λ h. one (is_at n h)) rows (λ y among. let s = alike.same y x among there in grind (arith, nat_tests)))
+uniform-rows n rows alike x4 is = grind (arith, nat_tests, counted, share-then, same-sum)
 
 module _ {w u : Core} (whole : IsWhole w) (k : Keeps w u) where
   given : (n : ℕ) (shared : Bool) → HasLike w.rows n shared → (0 < n) × (n ≤ w.last.node)
@@ -181,10 +161,8 @@ module _ {w u : Core} (whole : IsWhole w) (k : Keeps w u) where
       let h = whole.handles in
       record {
         ordered = k.on.ordered;
-        numbered = λ x among. elim (k.on.rows x among) [
-          | inl old ↦ let a = h.numbered old.row old.there in let b = old.number in let c = k.on.last in (omega arith, omega arith)
-          | inr new ↦ let a = new.above in let b = new.few in (omega arith, omega arith)
-        ];
+        numbered = λ x among. elim (k.on.rows x among) [ inl old ↦ (let n = h.numbered old.row old.there in let b = old.number in let c = k.on.last in (omega arith,
+            omega arith)) | inr new ↦ (let a = new.above in let b = new.few in (omega arith, omega arith)) ];
         nodes_numbered = λ n some. let (x, among, at) = row-then n u.rows (u.cells n) (k.on.live n) some in let l = like x among in let c = k.on.last in grind (arith, nat_tests, given);
         within = k.within;
         live = k.on.live;
@@ -207,14 +185,10 @@ module _ {w u : Core} (whole : IsWhole w) (k : Keeps w u) where
 
   root : (node : NodeNumber) (t : ℕ) (h : HandleNumber) → IsRootWhole w node t h → IsRootWhole u node t h
   root node t h r =
+      let so = λ (x : HandleRow) (there : Among w.rows x) (same : x.number.0 ≡ h.0). r.begun x (found-so h.0 w.rows x whole.handles.ordered there same) in
       record {
         typed = λ type is. r.typed type (k.on.typed node.0 type r.given.1 is);
-        begun = λ row is. let found = found-among h.0 u.rows row is in elim (k.on.rows row found.0) [
-          | inl old ↦
-              let a = r.begun old.row (found-so h.0 w.rows old.row whole.handles.ordered old.there (old.number ∙ found.1)) in
-              (sym old.node ∙ a.0, old.loose a.1)
-          | inr new ↦ absurd (let a = new.above in let b = r.given.0 in let c = found.1 in omega arith)
-        ];
+        begun = λ row is. let found = found-among h.0 u.rows row is in let old = k.on.rows row found.0 in grind (arith, nat_tests, so);
         given = let a = r.given in let b = k.on.last in (omega arith, omega arith);
       }
 
@@ -232,10 +206,7 @@ module _ {w u : Core} (whole : IsWhole w) (k : Keeps w u) where
           workers = λ h v among is. subst (IsIn u h.mode) is (k.owners h among);
         };
         loads = record {
-          numbered = λ l some. let (load, is) = some-value (u.loads l) some in elim (k.loads l load is).1 [
-            | inl was ↦ let a = whole.loads.numbered l (ap is_some was) in let b = k.on.last in (a.0, omega arith)
-            | inr new ↦ new.numbered
-          ];
+          numbered = λ l some. grind (arith, nat_tests, k.loads, whole.loads.numbered, k.on.last);
           owned = λ l load is. (k.loads l load is).0;
           roots = λ l load node t h is of. root node t h (elim (k.loads l load is).1 [ inl was ↦ whole.loads.roots l load node t h was of | inr new ↦ new.root node t h of ]);
         };
@@ -243,7 +214,3 @@ module _ {w u : Core} (whole : IsWhole w) (k : Keeps w u) where
         workers_numbered = k.workers;
         shut = k.shut;
       }
-    where
-      some-value : {X : Type 0} (o : Option X) → is_some o ≡ true → (x : X) × (o ≡ Some x)
-      some-value (Some x) is = (x, refl)
-      some-value None is = absurd (cc)

@@ -1,17 +1,10 @@
 -- Calls on loads keep the world whole.
-use Rattle.pagable_tables.proofs.Words.{Among, ◌+◌, ◌<◌, ◌∙◌, ◌≡◌, ◌⊎◌, ArePlaced, BeginCall, BeginKeyCall, Beginning, Core, Err, Error, HandleNumber, HandleRow, IsNextLoad, IsRootWhole, IsWhole}
-use Rattle.pagable_tables.proofs.Words.{MayHold, MayOwnLoad, Mode, NodeNumber, Ok, OpenLoad, Option, Owner, Owns, Result, Root, Some, ap, arith, greatest, is_loose, is_some, nat_tests, of_cell}
-use Rattle.pagable_tables.proofs.{Words.{of_key, refl, true, type_at, updated, with_handle, with_load, ℕ}, keeps.Kept.{GoOn, IsIn, in-still, is-in, keeps-whole, loads-stay, may-own, same-rows}}
-use Rattle.pagable_tables.proofs.{keeps.{Kept.there-then, Comes.beside, HandleCalls.loose-unshared, Rows.found-among, Told.{alike-whole, roomy, roomy-whole, settles}}, Unpinning.updated-here}
+use Rattle.pagable_tables.proofs.Words.{Among, ◌+◌, ◌<◌, ◌∙◌, ◌≡◌, ArePlaced, BeginCall, BeginKeyCall, Beginning, Core, Err, Error, HandleNumber, HandleRow, IsRootWhole, IsWhole}
+use Rattle.pagable_tables.proofs.Words.{MayHold, MayOwnLoad, Mode, NodeNumber, Ok, OpenLoad, Owner, Result, Root, Some, ap, arith, greatest, is_some, nat_tests, of_cell}
+use Rattle.pagable_tables.proofs.{Words.{of_key, refl, updated, with_load, ℕ}, keeps.Kept.{GoOn, IsIn, in-still, is-in, keeps-whole, loads-stay, may-own, same-rows}}
+use Rattle.pagable_tables.proofs.{keeps.{Kept.there-then, Comes.beside, HandleCalls.loose-unshared, Rows.found-among, Told.{alike-whole, roomy-whole, settles}}, Unpinning.updated-here}
 
 -- ---- one load more
-
--- what is there under a number is the new one or was there
-at-updated : {X : Type 0} (l : ℕ) (new : X) (f : ℕ → Option X) (q : ℕ) (x : X) → updated l (Some new) f q ≡ Some x → ((q ≡ l) × (new ≡ x)) ⊎ (f q ≡ Some x)
-at-updated {X} l new f q x is = grind (arith, nat_tests)
-
-some-updated : {X : Type 0} (l : ℕ) (new : X) (f : ℕ → Option X) (q : ℕ) → is_some (f q) ≡ true → is_some (updated l (Some new) f q) ≡ true
-some-updated {X} l new f q is = grind (arith, nat_tests)
 
 pub loaded-whole : {w : Core} (key : ℕ) (root : Root) (me : Owner) → IsWhole w → MayOwnLoad w me → w.last.load < greatest
     → ((node : NodeNumber) (t : ℕ) (h : HandleNumber) → root ≡ of_cell node t h → IsRootWhole w node t h) → IsWhole (with_load w key root me)
@@ -20,8 +13,8 @@ loaded-whole {w} key root me whole may left good =
     let after = with_load w key root me in
     let on : GoOn w after = same-rows whole refl (λ n. refl) refl refl (omega arith) in
     let owners : (h : HandleRow) → Among w.rows h → IsIn after h.mode h.owner =
-    λ h among. in-still w after (some-updated (w.last.load + 1) new w.loads) (λ v is. is) h.mode h.owner (is-in whole h among) in
-    keeps-whole whole (grind (arith, nat_tests, loads-stay, at-updated, may-own))
+    λ h among. in-still w after (λ l is. grind (arith, nat_tests)) (λ v is. is) h.mode h.owner (is-in whole h among) in
+    keeps-whole whole (grind (arith, nat_tests, loads-stay, may-own))
 
 pub begin-key-whole : {w w' : Core} (me : Owner) (key : ℕ) (r : Result Beginning Error) → IsWhole w → MayOwnLoad w me → BeginKeyCall w me key r w' → ArePlaced w' → IsWhole w'
 begin-key-whole {w} me key (Ok (Beginning.Load l k)) whole may call placed =
@@ -39,21 +32,14 @@ begin-whole {w} {w'} me h (Ok (Beginning.Load l key)) whole may call placed =
     let (row, owns, begins) = call.begins in
     let (away, keyed, next, left, rest) = begins in
     let (t, typed, leaves) = rest in
-    settles (begun row owns next left t typed key) leaves placed
-  where
-    begun : (row : HandleRow) → Owns w me h is_loose row → IsNextLoad l w → w.last.handle < greatest → (t : ℕ) → type_at w row.node.0 ≡ Some t → (key : ℕ)
-        → IsWhole (roomy (with_load (with_handle w row.node Mode.LooseUnpinned (Owner.Load l)) key (of_cell row.node t h) me))
-    begun row owns next left t typed key =
-        let found = found-among h.0 w.rows row owns.live in
-        let few = whole.handles.numbered row found.0 in
-        let old = whole.handles.nodes_numbered row.node.0 (there-then whole row found.0) in
-        let root : IsRootWhole w row.node t h = grind (arith, nat_tests, owns.live, owns.as_asked) in
-        let new : OpenLoad = record { owner = me; key = key; root = of_cell row.node t h } in
-        beside (loaded-whole key new.root me whole may next.is_left (λ node t2 k is. named row t root node t2 k is)) row.node Mode.LooseUnpinned (Owner.Load l)
-        (record { row = row; there = found.0; at = refl; same = loose-unshared row.mode owns.as_asked })
-        (ap (λ n. is_some (updated (w.last.load + 1) (Some new) w.loads n)) next.above ∙ ap is_some (updated-here (w.last.load + 1) (Some new) w.loads)) left
-      where
-        named : (row : HandleRow) (t : ℕ) → IsRootWhole w row.node t h → (node : NodeNumber) (t2 : ℕ) (k : HandleNumber) → of_cell row.node t h ≡ of_cell node t2 k → IsRootWhole w node t2 k
-        named row t root node t2 k is = grind (arith, nat_tests)
+    let found = found-among h.0 w.rows row owns.live in
+    let few = whole.handles.numbered row found.0 in
+    let old = whole.handles.nodes_numbered row.node.0 (there-then whole row found.0) in
+    let root : IsRootWhole w row.node t h = grind (arith, nat_tests, owns.live, owns.as_asked) in
+    let new : OpenLoad = record { owner = me; key = key; root = of_cell row.node t h } in
+    let named : (node : NodeNumber) (t2 : ℕ) (k : HandleNumber) → new.root ≡ of_cell node t2 k → IsRootWhole w node t2 k = λ node t2 k is. grind (arith, nat_tests) in
+    settles (beside (loaded-whole key new.root me whole may next.is_left named) row.node Mode.LooseUnpinned (Owner.Load l)
+    (record { row = row; there = found.0; at = refl; same = loose-unshared row.mode owns.as_asked })
+    (ap (λ n. is_some (updated (w.last.load + 1) (Some new) w.loads n)) next.above ∙ ap is_some (updated-here (w.last.load + 1) (Some new) w.loads)) left) leaves placed
 begin-whole me h (Ok Beginning.InMemory) whole may call placed = let (row, owns, begins) = call.begins in alike-whole whole begins.1 placed
 begin-whole me h (Err e) whole may call placed = alike-whole whole call.refused.stays placed

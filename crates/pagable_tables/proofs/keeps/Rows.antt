@@ -7,9 +7,8 @@ use Rattle.pagable_tables.proofs.{Words.{slice_get_within, subst, suc, sum_by, s
 -- ---- one by one
 
 pub among-both : {X : Type 0} (xs ys : List X) (z : X) → Among (xs ++ ys) z → Among xs z ⊎ Among ys z
-among-both [] ys z a = inr a
-among-both (x ∷ xs) ys z (zero, is) = inl (zero, is)
 among-both (x ∷ xs) ys z (suc i, is) = elim (among-both xs ys z (i, is)) [ inl a ↦ inl (suc a.0, a.1) | inr a ↦ inr a ]
+among-both x0 ys z x3 = grind (arith, nat_tests)
 
 pub among-one : {X : Type 0} (x y : X) → Among (x ∷ []) y → y ≡ x
 among-one x y x2 = grind (arith, nat_tests)
@@ -19,15 +18,13 @@ among-last [] x = (zero, refl)
 among-last (y ∷ ys) x = let a = among-last ys x in (suc a.0, a.1)
 
 pub among-more : {X : Type 0} (xs ys : List X) (x : X) → Among xs x → Among (xs ++ ys) x
-among-more [] ys x a = let b = a.1 in absurd (cc)
-among-more (z ∷ zs) ys x (zero, is) = (zero, is)
 among-more (z ∷ zs) ys x (suc i, is) = let r = among-more zs ys x (i, is) in (suc r.0, r.1)
+among-more x0 ys x x3 = grind (arith, nat_tests)
 
 -- the element of a changed list was one before
 pub among-map : {X : Type 0} (f : X → X) (xs : List X) (x : X) → Among (map f xs) x → (y : X) × Among xs y × (x ≡ f y)
-among-map f [] x a = absurd (cc)
-among-map f (y ∷ ys) x (zero, is) = let e : f y ≡ x = cc in (y, (zero, refl), sym e)
 among-map f (y ∷ ys) x (suc i, is) = let r = among-map f ys x (i, is) in (r.0, (suc r.1.0, r.1.1), r.2)
+among-map f x1 x x3 = grind (arith, nat_tests)
 
 among-cond : {X : Type 0} (test : X → Bool) (b : Bool) (y : X) (ys zs : List X) (x : X) → test y ≡ b → Among (if b then y ∷ ys else ys) x → (Among ys x → Among zs x × (test x ≡ true))
     → Among (y ∷ zs) x × (test x ≡ true)
@@ -42,32 +39,24 @@ among-left test (y ∷ ys) x a = among-cond test (test y) y (filter test ys) ys 
 
 -- and each that was there is there changed
 pub among-to : {X : Type 0} (f : X → X) (xs : List X) (x : X) → Among xs x → Among (map f xs) (f x)
-among-to f [] x a = let b = a.1 in absurd (cc)
-among-to f (y ∷ ys) x (zero, is) = let e : y ≡ x = cc in (zero, ap (λ z. Some (f z)) e)
 among-to f (y ∷ ys) x (suc i, is) = let r = among-to f ys x (i, is) in (suc r.0, r.1)
+among-to f x1 x x3 = grind (arith, nat_tests)
 
 -- what both cases give of a row to which f may be done
 pub each-changed : {X : Type 0} (test : X → Bool) (f : X → X) (P : X → Type 0) (x : X) → (test x ≡ true → P (f x)) → (test x ≡ false → P x) → P (if test x then f x else x)
-each-changed test f P x does not-so = at (test x) refl
-  where
-    at : (b : Bool) → test x ≡ b → P (if b then f x else x)
-    at true e = does e
-    at false e = not-so e
+each-changed test f P x does not-so = grind (arith, nat_tests)
 
 -- a row of changed ones, of which the row before is known
 pub among-changed : {X : Type 0} (test : X → Bool) (f : X → X) (P : X → Type 0) (xs : List X) (x : X) → Among (changed test f xs) x → ((y : X) → Among xs y → test y ≡ true → P (f y))
     → ((y : X) → Among xs y → test y ≡ false → P y) → P x
-among-changed test f P xs x among does stays =
-    let old = among-map (λ z. if test z then f z else z) xs x among in
-    subst P (sym old.2) (each-changed test f P old.0 (does old.0 old.1) (stays old.0 old.1))
+among-changed test f P xs x among does stays = grind (arith, nat_tests, among-map (λ z. if test z then f z else z) xs x among, each-changed)
 
 -- ---- counted
 
 -- each element is part of the sum
 pub at-most-sum : {X : Type 0} (f : X → ℕ) (xs : List X) (x : X) → Among xs x → f x ≤ sum_by f xs
-at-most-sum f [] x a = absurd (cc)
-at-most-sum f (y ∷ ys) x (zero, is) = let e : y ≡ x = cc in let a : f y ≡ f x = ap f e in let c = sum_by-cons f y ys in omega arith
-at-most-sum f (y ∷ ys) x (suc i, is) = let b = at-most-sum f ys x (i, is) in let c = sum_by-cons f y ys in omega arith
+at-most-sum f (y ∷ ys) x (suc i, is) = grind (arith, nat_tests, sum_by-cons, at-most-sum f ys x)
+at-most-sum f x1 x x3 = grind (arith, nat_tests, sum_by-cons)
 
 -- a sum above zero has an element that counts
 pub counted : {X : Type 0} (f : X → ℕ) (xs : List X) → 0 < sum_by f xs → (x : X) × Among xs x × (0 < f x)
@@ -80,9 +69,8 @@ counted {X} f (x ∷ xs) some = pick (f x) refl (λ z. let c = sum_by-cons f x x
 
 -- smaller at each element and less at one, so less in sum
 pub sum-less : {X : Type 0} (f g : X → ℕ) (xs : List X) (x : X) → ((y : X) → f y ≤ g y) → Among xs x → f x < g x → sum_by f xs < sum_by g xs
-sum-less f g [] x le among lt = let a = among.1 in absurd (cc)
-sum-less f g (y ∷ ys) x le (zero, is) lt = grind (arith, nat_tests, sum_by-le-sum_by, sum_by-cons)
 sum-less f g (y ∷ ys) x le (suc i, is) lt = grind (arith, nat_tests, sum_by-le-sum_by, sum_by-cons, sum-less f g ys x le (i, is) lt)
+sum-less f g x2 x le x5 lt = grind (arith, nat_tests, sum_by-le-sum_by, sum_by-cons)
 
 -- the sum after each element changed
 pub sum-map : {X : Type 0} (f g : X → ℕ) (to : X → X) (xs : List X) → ((x : X) → Among xs x → f (to x) ≡ g x) → sum_by f (map to xs) ≡ sum_by g xs
@@ -106,21 +94,15 @@ found-among q (h ∷ hs) row found = at (found-among q hs row) (is_handle q h) r
 
 -- one row has a number
 pub once : (rows : List HandleRow) → AllPairs IsHandleBefore rows → (a b : HandleRow) → Among rows a → Among rows b → a.number.0 ≡ b.number.0 → a ≡ b
-once rows ordered a b (i, at) (j, there) same =
-    let n = ap (λ (h : HandleRow). h.number.0) (get_or_from_slice_get rows i a a at) in
-    let k = ap (λ (h : HandleRow). h.number.0) (get_or_from_slice_get rows j b a there) in
-    let lt = slice_get_within rows i a at in
-    let lt' = slice_get_within rows j b there in
-    grind (arith, nat_tests, cases_order)
+once rows ordered a b (i, at) (j, there) same = grind (arith, nat_tests, ap (λ (h : HandleRow). h.number.0) (get_or_from_slice_get rows i a a at),
+    ap (λ (h : HandleRow). h.number.0) (get_or_from_slice_get rows j b a there), slice_get_within rows i a at, slice_get_within rows j b there, get_or_from_slice_get, cases_order)
 
 -- the order stays where numbers do, and where a greater number comes
 pub ordered-map : (to : HandleRow → HandleRow) (rows : List HandleRow) → ((h : HandleRow) → (to h).number.0 ≡ h.number.0) → AllPairs IsHandleBefore rows → AllPairs IsHandleBefore (map to rows)
 ordered-map to rows same ordered j k d less lt =
     let n = length-map rows to in
-    let a = ap (λ (h : HandleRow). h.number.0) (get_or-map to rows j d d (omega arith)) in
-    let b = ap (λ (h : HandleRow). h.number.0) (get_or-map to rows k d d (omega arith)) in
-    let o = ordered j k d less (omega arith) in
-    omega arith
+    omega (arith, ap (λ (h : HandleRow). h.number.0) (get_or-map to rows j d d (omega arith)), ap (λ (h : HandleRow). h.number.0) (get_or-map to rows k d d (omega arith)),
+        ordered j k d less (omega arith))
 
 pub ordered-push : (rows : List HandleRow) (row : HandleRow) → ((h : HandleRow) → Among rows h → h.number.0 < row.number.0) → AllPairs IsHandleBefore rows → AllPairs IsHandleBefore (rows ++ row ∷ [])
 ordered-push rows row above ordered = all_pairs_push IsHandleBefore rows row ordered (λ k d lt. above (get_or rows k d) (k, slice_get-get_or rows k d lt))
@@ -148,11 +130,8 @@ changed-sum f to (x ∷ xs) row ordered (zero, is) same =
     grind (arith, nat_tests, sum_by-cons f x xs, sum_by-cons f (to x) (map to xs))
 changed-sum f to (x ∷ xs) row ordered (suc i, is) same =
     let less = first-less x xs ordered row (i, is) in
-    let a = sum_by-cons f x xs in
-    let b = sum_by-cons f (to x) (map to xs) in
-    let c = same x (grind (arith, nat_tests)) in
-    let d = changed-sum f to xs row (λ j k d less lt. ordered (suc j) (suc k) d (omega arith) (omega arith)) (i, is) same in
-    omega arith
+    omega (arith, sum_by-cons f x xs, sum_by-cons f (to x) (map to xs), same x (grind (arith, nat_tests)),
+        changed-sum f to xs row (λ j k d less lt. ordered (suc j) (suc k) d (omega arith) (omega arith)) (i, is) same)
 
 -- what is counted of one number is counted of its row
 pub only-row : (f : HandleRow → ℕ) (rows : List HandleRow) (row : HandleRow) → AllPairs IsHandleBefore rows → Among rows row → ((x : HandleRow) → (x.number.0 == row.number.0) ≡ false → f x ≡ 0)
@@ -163,10 +142,7 @@ only-row f (x ∷ xs) row ordered (zero, is) none =
     grind (arith, nat_tests, sum_by-cons f x xs)
 only-row f (x ∷ xs) row ordered (suc i, is) none =
     let less = first-less x xs ordered row (i, is) in
-    let a = sum_by-cons f x xs in
-    let b = none x (grind (arith, nat_tests)) in
-    let c = only-row f xs row (λ j k d less lt. ordered (suc j) (suc k) d (omega arith) (omega arith)) (i, is) none in
-    omega arith
+    omega (arith, sum_by-cons f x xs, none x (grind (arith, nat_tests)), only-row f xs row (λ j k d less lt. ordered (suc j) (suc k) d (omega arith) (omega arith)) (i, is) none)
 
 -- a row that stands there is found
 pub found-so : (q : ℕ) (rows : List HandleRow) (row : HandleRow) → AllPairs IsHandleBefore rows → Among rows row → row.number.0 ≡ q → find_row q rows ≡ Some row
@@ -175,9 +151,7 @@ found-so q rows row ordered among number = at (find_row q rows) refl
     at : (found : Option HandleRow) → find_row q rows ≡ found → find_row q rows ≡ Some row
     at (Some y) e = let a = found-among q rows y e in e ∙ ap (λ (x : HandleRow). Some x) (once rows ordered y row a.0 among (a.1 ∙ sym number))
     at None e =
-        let c : (row.number.0 == q) ≡ true = grind (arith, nat_tests) in
-        let d : one (is_handle q row) ≡ 1 = ap one c in
-        absurd (omega (arith, none-found q rows e, at-most-sum (λ h. one (is_handle q h)) rows row among))
+        absurd (grind (arith, nat_tests, none-found q rows e, at-most-sum (λ h. one (is_handle q h)) rows row among))
 
 -- ---- what is left
 
@@ -201,20 +175,15 @@ pub record IsEntry (last few : ℕ) (h : HandleRow) : Type 0 where
   pub owner : h.owner ≡ Owner.List
 
 pub entry-is : (last : ℕ) (entries : List HandleRow) (h : HandleRow) → AreNewEntries last entries → Among entries h → IsEntry last (length entries) h
-entry-is last [] h new among = let a = among.1 in absurd (cc)
-entry-is last (x ∷ xs) h new (zero, is) = grind (arith, nat_tests)
 entry-is last (x ∷ xs) h new (suc i, is) = grind (arith, nat_tests, entry-is (last + 1) xs h new.3 (i, is))
+entry-is last x1 h new x4 = grind (arith, nat_tests)
 
 -- the list gets each entry
 pub entries-listed : (q last : ℕ) (entries : List HandleRow) → AreNewEntries last entries
     → times (λ (h : HandleNumber). h.0 == q) (map (λ (h : HandleRow). h.number) entries) ≡ times (λ h. is_handle q h && is_owned_by Owner.List h) entries
 entries-listed q last [] new = refl
-entries-listed q last (x ∷ xs) new =
-    let rest = entries-listed q (last + 1) xs new.3 in
-    let a = sum_by-cons (λ (h : HandleNumber). one (h.0 == q)) x.number (map (λ (h : HandleRow). h.number) xs) in
-    let b = sum_by-cons (λ h. one (is_handle q h && is_owned_by Owner.List h)) x xs in
-    let c : one (is_handle q x) ≡ one (is_handle q x && is_owned_by Owner.List x) = grind (arith, nat_tests, and-all) in
-    omega arith
+entries-listed q last (x ∷ xs) new = grind (arith, nat_tests, entries-listed q (last + 1) xs new.3,
+    sum_by-cons (λ (h : HandleNumber). one (h.0 == q)) x.number (map (λ (h : HandleRow). h.number) xs), sum_by-cons (λ h. one (is_handle q h && is_owned_by Owner.List h)) x xs, and-all)
 
 pub ordered-entries : (last : ℕ) (rows entries : List HandleRow) → ((h : HandleRow) → Among rows h → h.number.0 ≤ last) → AreNewEntries last entries → AllPairs IsHandleBefore rows
     → AllPairs IsHandleBefore (rows ++ entries)

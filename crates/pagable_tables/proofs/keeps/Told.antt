@@ -1,7 +1,7 @@
 -- A world that is told alike, or whose rows are changed one by one, stays whole, while rows and list are in their places.
-use Rattle.pagable_tables.proofs.{keeps.Kept.{GoOn, HasLike, IsIn, IsOld, in-still, is-in, keeps-whole, loads-stay, may-own, other-mode, same-rows, stays-old}, Words.{◌&&◌, ◌==◌, ◌∙◌, ◌≡◌, Alike}}
-use Rattle.pagable_tables.proofs.Words.{Among, ArePlaced, Bool, Core, HandleNumber, HandleRow, IsWhole, Last, List, Mode, NodeNumber, None, Option, Owner, SameAt, Some, [], ap, arith, changed, false}
-use Rattle.pagable_tables.proofs.Words.{if◌then◌else◌, inl, is_at, is_handle, is_loose, is_owned_by, is_shared, is_some, length, nat_lt, nat_tests, one, refl, row_at, subst, sym, times, true}
+use Rattle.pagable_tables.proofs.{keeps.Kept.{GoOn, HasLike, IsIn, IsOld, is-in, keeps-whole, loads-stay, may-own, same-rows, stays-old}, Words.{◌&&◌, ◌==◌, ◌∙◌, ◌≡◌, Alike}}
+use Rattle.pagable_tables.proofs.Words.{Among, ArePlaced, Bool, Core, HandleNumber, HandleRow, IsWhole, List, Mode, NodeNumber, Owner, SameAt, Some, [], ap, arith, changed, false}
+use Rattle.pagable_tables.proofs.Words.{if◌then◌else◌, inl, is_at, is_handle, is_loose, is_owned_by, is_shared, length, nat_lt, nat_tests, one, refl, row_at, subst, sym, times, true}
 use Rattle.pagable_tables.proofs.{Words.{with_mode, ℕ}, keeps.Rows.{among-changed, among-to, each-changed, found-among, once, ordered-map, sum-map}}
 pub use Rattle.pagable_tables.proofs.keeps.Kept.{may-own}
 
@@ -9,29 +9,25 @@ pub use Rattle.pagable_tables.proofs.keeps.Kept.{may-own}
 abbrev pub roomy : Core → Core
 roomy w = record w { places = record { handles = length w.rows; entries = length w.list } }
 
-none-then : {X : Type 0} (o o' : Option X) → ((x : X) → o' ≡ Some x → o ≡ Some x) → o ≡ None → o' ≡ None
-none-then o o' only none = grind (arith, nat_tests)
-
 module _ {m w' : Core} (whole : IsWhole m) (rows : w'.rows ≡ m.rows) (cells : SameAt m.cells w'.cells) (list : w'.list ≡ m.list)
     (cache : (kind key n : ℕ) → w'.cache kind key ≡ Some n → m.cache kind key ≡ Some n)
     (closed : w'.closed ≡ m.closed) (loads : SameAt m.loads w'.loads) (workers : SameAt m.workers w'.workers) (last : w'.last ≡ m.last) (placed : ArePlaced w') where
   pub told-whole : IsWhole w'
   told-whole =
-      let node = ap (λ (l : Last). l.node) last in
-      let handle = ap (λ (l : Last). l.handle) last in
-      let load = ap (λ (l : Last). l.load) last in
-      let worker = ap (λ (l : Last). l.worker) last in
-      keeps-whole whole (record {
-        on = same-rows whole rows cells node handle (omega arith);
-        within = let (a, b, c) = whole.handles.within in (omega arith, omega arith, omega arith);
-        places = (placed.rows, placed.list);
-        listed = λ q. ap (times (λ (h : HandleNumber). h.0 == q)) list ∙ whole.owners_there.listed q ∙ ap (times (λ h. is_handle q h && is_owned_by Owner.List h)) (sym rows);
-        owners = λ h among. in-still m w' (λ l is. ap is_some (loads l) ∙ is) (λ v is. workers v ∙ is) h.mode h.owner (is-in whole h (subst (λ r. Among r h) rows among));
-        loads = λ l open-load is. let was = sym (loads l) ∙ is in (may-own m w' (λ v at. workers v ∙ at) open-load.owner (whole.loads.owned l open-load was), inl was);
+      let v : Core = record m { cache = w'.cache; stored = w'.stored; failures = w'.failures; places = w'.places } in
+      let on : GoOn m v = same-rows whole refl (λ n. refl) refl refl (omega arith) in
+      let same : w' ≡ v = λ i. record w' { rows = rows i; cells = λ n. cells n i; list = list i; closed = closed i; loads = λ l. loads l i; workers = λ u. workers u i; last = last i } in
+      subst IsWhole (sym same) (keeps-whole whole (record {
+        on = on;
+        within = whole.handles.within;
+        places = (omega (arith, placed.rows, ap length rows), omega (arith, placed.list, ap length list));
+        listed = whole.owners_there.listed;
+        owners = is-in whole;
+        loads = loads-stay whole (λ v at. at);
         cache = λ kind key n is. whole.cache kind key n (cache kind key n is);
-        workers = λ v is. let a = whole.workers_numbered v (sym (workers v) ∙ is) in omega arith;
-        shut = λ so. let s = whole.shut (sym closed ∙ so) in (list ∙ s.0, λ kind key. none-then (m.cache kind key) (w'.cache kind key) (cache kind key) (s.1 kind key));
-      })
+        workers = whole.workers_numbered;
+        shut = λ so. let s = whole.shut so in (s.0, λ kind key. let o = s.1 kind key in let c = cache kind key in grind (arith, nat_tests));
+      }))
 
 pub roomy-whole : {w : Core} → IsWhole w → IsWhole (roomy w)
 roomy-whole {w} whole = told-whole {m = w} {w' = roomy w} whole refl (λ n. refl) refl (λ kind key n is. is) refl (λ l. refl) (λ v. refl) refl (record { rows = omega arith; list = omega arith })
@@ -66,9 +62,6 @@ module _ {w : Core} (whole : IsWhole w) (test : HandleRow → Bool) (f : HandleR
   abbrev turned : Core
   turned = roomy (record w { rows = changed test f w.rows; list = list })
 
-  to-number : (x : HandleRow) → (to x).number.0 ≡ x.number.0
-  to-number x = each-changed test f (λ y. y.number.0 ≡ x.number.0) x (λ e. number x) (λ e. refl)
-
   to-node : (x : HandleRow) → (to x).node ≡ x.node
   to-node x = each-changed test f (λ y. y.node ≡ x.node) x (λ e. node x) (λ e. refl)
 
@@ -87,7 +80,7 @@ module _ {w : Core} (whole : IsWhole w) (test : HandleRow → Bool) (f : HandleR
   turned-whole listed owners none =
       let on : GoOn w turned = record {
         last = (omega arith, omega arith, omega arith);
-        ordered = ordered-map to w.rows to-number whole.handles.ordered;
+        ordered = ordered-map to w.rows (λ x. grind (arith, nat_tests, number x)) whole.handles.ordered;
         fresh = false;
         rows = λ h among. inl (among-changed test f (IsOld w.rows) w.rows h among
             (λ x there e. record { row = x; there = there; number = sym (number x); node = sym (node x); shared = sym (shared x there e); loose = loose x there e }) (λ x there e. stays-old there));
@@ -122,7 +115,7 @@ module _ {w : Core} (whole : IsWhole w) (h : HandleNumber) (row : HandleRow) (mo
       (λ q. whole.owners_there.listed q ∙ sym (sum-map (λ x. one (is_handle q x && is_owned_by Owner.List x)) (λ x. one (is_handle q x && is_owned_by Owner.List x))
       (λ x. if is_handle h.0 x then in-mode x else x) w.rows
       (λ x among. each-changed (is_handle h.0) in-mode (λ y. one (is_handle q y && is_owned_by Owner.List y) ≡ one (is_handle q x && is_owned_by Owner.List x)) x (λ e. refl) (λ e. refl))))
-      (λ x among e. other-mode w x.mode mode x.owner (is-in whole x among) (λ own. waits (ap (λ (y : HandleRow). y.owner) (sym (the-row x among e)) ∙ own)))
+      (λ x among e. let i = is-in whole x among in let r = the-row x among e in grind (arith, nat_tests, waits))
       (λ so. (whole.shut so).0)
 
   pub moded-on : GoesOn w (with_mode w h mode)

@@ -1,6 +1,6 @@
 -- A worker that begins or ends keeps the world whole.
-use Rattle.pagable_tables.proofs.{keeps.Kept.{GoOn, IsIn, in-still, is-in, keeps-whole, loads-stay, same-rows}, Words.{◌+◌, ◌==◌, ◌||◌, ◌≡◌, ◌≤◌, Among, ArePlaced, Bool, Core, HandleRow, IsWhole}}
-use Rattle.pagable_tables.proofs.Words.{MayOwnLoad, None, OpenLoad, Option, Owner, Some, ap, arith, false, if_there, if◌then◌else◌, inl, is_owner, is_workers, is_workers_load, nat_tests, owner_worker}
+use Rattle.pagable_tables.proofs.{keeps.Kept.{GoOn, IsIn, in-still, is-in, keeps-whole, loads-stay, same-rows}, Words.{◌+◌, ◌||◌, ◌≡◌, ◌≤◌, Among, ArePlaced, Core, HandleRow, IsWhole}}
+use Rattle.pagable_tables.proofs.Words.{ap, arith, false, if_there, inl, is_owner, is_workers, nat_tests, owner_worker}
 use Rattle.pagable_tables.proofs.{Words.{refl, true, with_worker, without_worker, ℕ}, keeps.{Fallen.{falls-lost, opened}, Rows.found-so, Told.{roomy-whole, stays-on}}}
 use Rattle.pagable_world.specs.Workers.{WorkerEnds, is_load_of}
 
@@ -8,33 +8,22 @@ use Rattle.pagable_world.specs.Workers.{WorkerEnds, is_load_of}
 
 pub worker-whole : {w : Core} → IsWhole w → IsWhole (with_worker w)
 worker-whole {w} whole =
+    let still : (v : ℕ) → w.workers v ≡ true → (with_worker w).workers v ≡ true = λ v is. grind (arith, nat_tests) in
+    let numbered : (v : ℕ) → (with_worker w).workers v ≡ true → v ≤ w.last.worker + 1 = λ v is. grind (arith, nat_tests, whole.workers_numbered v) in
     let on : GoOn w (with_worker w) = same-rows whole refl (λ n. refl) refl refl (omega arith) in
     let owners : (h : HandleRow) → Among w.rows h → IsIn (with_worker w) h.mode h.owner = λ h among. in-still w (with_worker w) (λ l is. is) still h.mode h.owner (is-in whole h among) in
-    keeps-whole whole (grind (arith, nat_tests, loads-stay, still, numbered))
-  where
-    still : (v : ℕ) → w.workers v ≡ true → (with_worker w).workers v ≡ true
-    still v is = grind (arith, nat_tests)
-
-    numbered : (v : ℕ) (b : Bool) → (v == w.last.worker + 1) ≡ b → (if b then true else w.workers v) ≡ true → v ≤ w.last.worker + 1
-    numbered v b1 e is = grind (arith, nat_tests)
+    keeps-whole whole (grind (arith, nat_tests, loads-stay))
 
 -- ---- a worker ends
 
-left-open : (v : ℕ) (load : Option OpenLoad) (x : OpenLoad) → (if is_workers_load v load then None else load) ≡ Some x → (load ≡ Some x) × (is_owner (owner_worker v) x.owner ≡ false)
-left-open v load x is = grind (arith, nat_tests)
-
-may-still : (w : Core) (v : ℕ) (o : Owner) → is_owner (owner_worker v) o ≡ false → MayOwnLoad w o → MayOwnLoad (without_worker w v) o
-may-still w v o other may = grind (arith, nat_tests)
-
 pub worker-end-whole : {w w' : Core} (v : ℕ) → IsWhole (opened w) → WorkerEnds w v w' → ArePlaced (opened w') → IsWhole (opened w')
 worker-end-whole {w} {w'} v whole ends placed =
-    falls-lost w {u = without_worker w v} (roomy-whole whole) (stays-on w) refl (record {
+    falls-lost w (without_worker w v) (roomy-whole whole) (stays-on w) (record {
       listed = λ q. inl (whole.owners_there.listed q);
       owners = λ h among. let i = is-in whole h among in let f = found h among in grind (arith, nat_tests);
-      loads = λ l load is. let a = left-open v (w.loads l) load is in (a.0, may-still w v load.owner a.1 (whole.loads.owned l load a.0));
+      loads = λ l load is. let o = whole.loads.owned l in grind (arith, nat_tests);
       cache = λ kind key n is. is;
       workers = λ v is. grind (arith, nat_tests);
-      shut = λ closed. absurd (cc);
     }) ends.falls placed
   where
     found : (h : HandleRow) → Among w.rows h → is_workers w v h.number.0 ≡ (is_owner (owner_worker v) h.owner || is_load_of w v h.owner)
