@@ -4,7 +4,7 @@ use Rattle.{std.specs.{Arc.arc_value, Prelude.Option}, pagable_model.specs.{Merk
 use Rattle.pagable_world.specs.{World.{Shelf, SameShelf, Todo, Values, Written, to_publish, to_release, was_refused, answer_of_fault, published}, Access.Called, Calls.{ScheduleCall, SetKeyCall}}
 use Rattle.pagable_world.specs.{Cascade.FallsAnyhow, Kinds.{identity_of, owner_worker}, Pager.{PagerState, WellFormed}, Plain.{HandleNumber, Identity}, Workers.{is_workers_at, give}}
 use Rattle.pagable_world.specs.{Workers.{with_changed_slot, with_failed, with_outcome}, declared.{handles.Owner.Owner, events.{WorkerAnswer.WorkerAnswer, Took.Took}}}
-use Rattle.pagable_walk.specs.{Ending.{Stores, IsStored, named_by, GoesBack}, Failing.{back_of, fails}, Found.keys_of, Slots.written_of, Tasks.{Gives, IsPlain, IsWay, fault_of}}
+use Rattle.pagable_walk.specs.{Writing.{Stores, IsStored, named_by, GoesBack}, Slots.{keys_of, written_of}, Tasks.{Gives, IsPlain, IsWay, back_of, fails, fault_of}}
 use Rattle.pagable_walk.specs.{Tasks.{todos, waiting_todo, waits_as}, Turns.{TurnsTo, Turned, plan}, declared.{results.Trees.Ghosts, table.PageOutError.PageOutError, tasks.{Done.Done, Node.Node}}}
 use Rattle.pagable_walk.{specs.declared.tasks.{Task.Task, Turn.Turn, Waiting.Waiting}, proofs.{Pinning.same-shelf, Turning.{alike, plain-fits}}}
 

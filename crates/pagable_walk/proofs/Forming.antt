@@ -5,7 +5,7 @@ use Rattle.pagable_model.specs.{Refusals.is_writing_fault, declared.{error.Error
 use Rattle.pagable_world.specs.{Kinds.identity_of, Pager.{PagerState, ValueCall, RefusesWriting}, Plain.type_of, Workers.{with_changed_slot, open_node}, World.{Values, Written, Shelf, Todo}}
 use Rattle.{pagable_world.specs.{World.{SameShelf, seen_as, was_refused}, declared.{handles.{HandleRow.HandleRow, Owner.Owner}, events.Took.Took}}, pagable_laws.proofs.Trees.same_some}
 use Rattle.{pagable_loads.specs.Starting.Shares, pagable_walk.{specs.declared.{results.Trees.Ghosts, tasks.{Task.Task, Turn.Turn}}, proofs.Turning.{alike, plain-fits}}}
-use Rattle.pagable_walk.specs.{Failing.{back_of, fails}, Slots.{with_written, written_of}, Tasks.IsPlain, Turns.{Fits, TurnsTo}, Writing.{IsForm, WriteRefused, IsPinned, Finds, Forms}}
+use Rattle.pagable_walk.specs.{Slots.{with_written, written_of}, Tasks.{IsPlain, back_of, fails}, Turns.{Fits, TurnsTo}, Writing.{IsForm, WriteRefused, IsPinned, Finds, Forms}}
 
 -- ---- what a handle pins
 

@@ -10,7 +10,7 @@ use Rattle.pagable_laws.proofs.SparingSteps.{none-shorter, Spares, spares-then}
 use Rattle.pagable_loads.proofs.Stepped.{acts_all, acts_from, acts_map, acts_same, acts_then, tells_map}
 use Rattle.{pagable_loads.specs.{Telling.{Acting, as_caller}, Working.{StartsEntry, RefusesEntry}}, pagable_walk.proofs.{Pinning.same-shelf, Turning.{alike, plain-fits}}}
 use Rattle.{pagable_laws.proofs.Answered.{item-answered, entry-answered}, pagable_walk.specs.{Over.{failure_of, PagesItem, PagesList, PagesEntry, Skipped, SkipsEntry, PagesAt, HasPaged}, Slots.no_claims, Tasks.IsPlain}}
-use Rattle.pagable_walk.specs.{Tasks.todo_of, Turns.{Fits, plain}, Walking.{RunsTo, Walked}, declared.{results.Trees.Ghosts, table.PageOutError.PageOutError, tasks.Task.Task}}
+use Rattle.pagable_walk.specs.{Tasks.todo_of, Turns.{Fits, plain, RunsTo, Walked}, declared.{results.Trees.Ghosts, table.PageOutError.PageOutError, tasks.Task.Task}}
 
 -- whoever acts for the caller does so again after a worker
 pub is-caller : {E : Type 0} (acting : Acting E) → acting.me ≡ Owner.Caller → as_caller acting ≡ acting

@@ -10,7 +10,7 @@ use Rattle.{pagable_world.specs.declared.{handles.Owner.Owner, answers.Pinning.P
 use Rattle.pagable_loads.{proofs.{Stepped.none_comes, Driven.goes_open}, specs.{Frames.{IsLoadOf, frames_of, reading_of}, Stepping.{IsSameLoad, Steps}, Working.{TakesReference, BeginsAt}}}
 use Rattle.pagable_laws.{specs.{KeyRuns.StandsAt, TreeSteps.Change}, proofs.{Outlasting.{AreLow, low-whole, low-changed, low-handle, new-handle, NotValues, Stands}, Goes.Goes, Naming.clone-stands}}
 use Rattle.pagable_laws.proofs.{Outlasting.{stands-alike, stands-fell, clone-call, not-loose, owned-none}, Trees.same_some, ReadingSteps.walk-goes}
-use Rattle.pagable_walk.specs.{Failing.{back_of, fails}, Tasks.IsPlain, declared.{tasks.{Turn.Turn, Moved.Moved, Task.Task}, results.Trees.Ghosts}, Turns.{IsLoading, IsOfKind, HoldsPin, Fits}}
+use Rattle.pagable_walk.specs.{Tasks.{IsPlain, back_of, fails}, declared.{tasks.{Turn.Turn, Moved.Moved, Task.Task}, results.Trees.Ghosts}, Turns.{IsLoading, IsOfKind, HoldsPin, Fits}}
 use Rattle.pagable_walk.{specs.Turns.{LeavesFit, Turned, TurnsTo, answer_in, plain, plain_took, site}, proofs.Turning.plain-fits}
 
 -- ---- what stays

@@ -2,9 +2,9 @@
 use Rattle.std.proofs.{Common.{ℕ, ◌≡◌, ◌≤◌, ◌<◌, ◌+◌, List, [], ◌∷◌, ◌++◌, length, drop, take, map, get_or, refl, sym, ap, subst, ◌∙◌, arith, Some, slice_get}, lemmas.Bool.Decides.nat_tests}
 use Rattle.std.proofs.lemmas.{Grind.common_steps, List.{at_drop_more, at_drop_all, take_more, length-append, length-map, map-append}, Option.{get_or_from_slice_get, slice_get_within}}
 use Rattle.{std.specs.Prelude.{None, max}, pagable_model.specs.declared.numbers.{ArcRef.ArcRef, HandleNumber.HandleNumber}, pagable_world.specs.{Kinds.identity_of, Plain.above}}
-use Rattle.{pagable_world.specs.{Workers.{place_below, next_start, settle, give}, World.{Todo, Written, to_start}}, pagable_walk.specs.{Failing.back_of, Found.ids_of}, std.proofs.lemmas.Option.none-some}
+use Rattle.{pagable_world.specs.{Workers.{place_below, next_start, settle, give}, World.{Todo, Written, to_start}}, pagable_walk.specs.{Tasks.back_of, Slots.ids_of}}
 use Rattle.pagable_walk.specs.{Tasks.{place_of, raised, waiting_todo, waits_as, todos_onto, todos}, declared.{results.{SlotResult.SlotResult, Trees.Ghosts}, tasks.{Node.Node, Waiting.Waiting}}}
-use Rattle.{std.specs.Prelude.Option, pagable_walk.proofs.{Waits.some-same, Ways.item-way}}
+use Rattle.{std.{specs.Prelude.Option, proofs.lemmas.Option.none-some}, pagable_walk.proofs.{Waits.some-same, Ways.item-way}}
 
 module _ {E : Type 0} {g : Ghosts E} where
   onto-more : (ws : List (Waiting E g)) (w : Waiting E g) (below : List Todo) → todos_onto (ws ++ w ∷ []) below ≡ waiting_todo w ∷ todos_onto ws below
