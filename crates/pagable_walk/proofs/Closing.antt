@@ -61,11 +61,7 @@ module _ {X : Type 0} {g : Ghosts X} {N E : Type 0} (v : Values N) (me : Owner) 
 
   pub release-gives : (below : List Todo) (task : Task X g) (after : List Todo) → Gives d.reference d.found.key d.found.height below after → IsPlain task → (s t : PagerState N E)
       → Called v (λ w'. FallsAnyhow s.core s.core (is_workers_at s.core n d.reference.node.0) w') s t → TurnsTo v me n shelf (Task.Release d) below shelf (record { took = Took.Release (identity_of d.reference); turn = Turn.Goes task; counted = true }) after s t
-  release-gives below task after gives plain s t call = by gives.x gives.rest gives.was gives.is
-    where
-      by : (x : Todo) (rest : List Todo) → below ≡ x ∷ rest → after ≡ give d.reference d.found.key d.found.height (x ∷ rest)
-          → TurnsTo v me n shelf (Task.Release d) below shelf (record { took = Took.Release (identity_of d.reference); turn = Turn.Goes task; counted = true }) after s t
-      by x rest some is = grind (arith, nat_tests, common_steps, same-shelf, none_comes, plain-fits)
+  release-gives below task after gives plain s t call = grind (arith, nat_tests, common_steps, same-shelf, none_comes, plain-fits)
 
 module _ {X : Type 0} {g : Ghosts X} {N E : Type 0} (v : Values N) (me : Owner) (n : ℕ) (shelf : Shelf) where
   pub ends-failed : (shelf' : Shelf) (why : PageOutError) (back : Option HandleNumber) (below : List Todo) → SameShelf (with_failed shelf n) shelf' → (s t : PagerState N E) → GoesBack v me back s t
@@ -75,8 +71,7 @@ module _ {X : Type 0} {g : Ghosts X} {N E : Type 0} (v : Values N) (me : Owner) 
 -- an entry goes back, or none does
 module _ {N E : Type 0} (v : Values N) (me : Owner) where
   pub back-none : (back : Option HandleNumber) → ((h : HandleNumber) → back ≡ Some h → ⊥) → (s : PagerState N E) → GoesBack v me back s s
-  back-none None none s = record { goes = alike s.core; moves = record { each = λ q x is. inl is; environment = refl }; whole = λ is. is }
-  back-none (Some h) none s = absurd (none h refl)
+  back-none back none s = grind (arith, nat_tests, common_steps, alike)
 
   pub back-some : (back : Option HandleNumber) (h : HandleNumber) (r : Result (Unit {0}) Error) → back ≡ Some h → (s t : PagerState N E) → Called v (λ w'. ScheduleCall s.core me h r w') s t
       → GoesBack v me back s t

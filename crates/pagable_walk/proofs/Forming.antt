@@ -30,12 +30,10 @@ module _ {N E : Type 0} (v : Values N) (s : PagerState N E) (r : ArcRef) (pin : 
 
 module _ {N E : Type 0} (v : Values N) (s : PagerState N E) (r : ArcRef) (pin : HandleNumber) {W : Type 0} (see : W → Written) where
   pub forms-from : (x : N) (result : Result W Error) → IfOk result (λ d. IsForm v x (see d)) → IfErr result (λ e. WriteRefused v x e) → Finds v s r pin (Ok x) → Forms v s r pin (seen_as see result)
-  forms-from x (Ok d) is why finds = record { written = λ p. record { x = x; held = (finds.found p).0; form = is.form; listed = is.listed }; refused = λ p. tt }
-  forms-from x (Err e) is why finds = grind (arith, nat_tests, common_steps)
+  forms-from x result is why finds = grind (arith, nat_tests, common_steps)
 
   pub kept-forms : (w : Written) (result : Result W Error) → IfOk result (λ p. see p ≡ w) → IfErr result (λ e. e ≡ Error.OutOfMemory) → Forms v s r pin (Ok w) → Forms v s r pin (seen_as see result)
-  kept-forms w (Ok p) same only forms = subst (λ x. Forms v s r pin (Ok x)) (sym same) forms
-  kept-forms w (Err e) same only forms = record { written = λ p. tt; refused = λ p. (inr only, none-written v s r pin e only) }
+  kept-forms w result same only forms = grind (arith, nat_tests, common_steps, none-written)
 
 -- ---- the turn
 

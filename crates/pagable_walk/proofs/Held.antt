@@ -26,8 +26,7 @@ wait-is old new v w h q = h q ∙ ap (λ b. cond b w (get nat_eq old q)) (eq-sym
 
 module _ {E : Type 0} {g : Ghosts E} where
   own-chosen : (j : Identity) (b : Bool) (s : ArcSerSlot E g) (o : Option (ArcSerSlot E g)) (t : ArcSerSlot E g) → (b ≡ true → IsNamed j s) → ((x : ArcSerSlot E g) → o ≡ Some x → IsNamed j x) → cond b (Some s) o ≡ Some t → IsNamed j t
-  own-chosen j true s o t f h e = subst (IsNamed j) (some-same e) (f refl)
-  own-chosen j false s o t f h e = h t e
+  own-chosen j b s o t f h e = grind (arith, nat_tests, some-same)
 
   module _ {S : Type 0} (old new : IndexMap (ℕ × ℕ) (ArcSerSlot E g) S) (i : Identity) (s : ArcSerSlot E g) (h : (q : ℕ × ℕ) → get is_same new q ≡ cond (is_same (i.kind.0, i.node.0) q) (Some s) (get is_same old q)) where
     pub slot-is : (x : Slot) → slot_of s ≡ x → SlotIs (slots_in old) i (Some x) (slots_in new)

@@ -25,7 +25,7 @@ module _ {N E : Type 0} (v : Values N) where
     item-unbegun e is s t call = grind (arith, nat_tests, common_steps, same-shelf, no-worker)
 
     pub item-unstarted : (e : Error) → e ≡ Error.OutOfMemory → (s : PagerState N E) → PagesItem v shelf item shelf (WorkerAnswer.Failed e) s s
-    item-unstarted e is s = subst (λ x. PagesItem v shelf item shelf (WorkerAnswer.Failed x) s s) (sym is) (record { over = λ whole all. record { run = no-worker _ (stays-called s whole) (same-shelf shelf); all_have_results = all } })
+    item-unstarted e is s = grind (arith, nat_tests, common_steps, stays-called, same-shelf, no-worker)
 
     pub item-walked : {X : Type 0} {g : Ghosts X} (me : Owner) (n : ℕ) (task : Task X g) (below : List Todo) (shelf' : Shelf) (answer : WorkerAnswer) → me ≡ owner_worker n → IsPlain task
         → todo_of task ∷ below ≡ first_todo (of_item item) → (s mid t : PagerState N E) → WorkerStarts v s.core s n mid → RunsTo v me n shelf task below shelf' answer mid t

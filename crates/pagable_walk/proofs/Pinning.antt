@@ -85,9 +85,6 @@ begun-loads w w' n r through l key own whole stands (is, (mid, clone, begin)) sa
 
 -- ---- a load that goes on, and one that ends with the pin
 
-worker-free : (n : ℕ) → NotValues (owner_worker n)
-worker-free n m is = absurd (cc)
-
 abbrev node-in : NodeNumber → Root → NodeNumber
 node-in other (of_cell node t h) = node
 node-in other of_key = other
@@ -100,7 +97,7 @@ module _ (w w' : Core) (n : ℕ) (r : ArcRef) (whole : HandlesAreWhole w) where
       let low' = low-changed u.last.handle u.rows (is_handle h.0) (λ r. record r { mode = Mode.LoosePinned }) (λ r. refl) low in
       let s = new-handle (with_mode u h Mode.LoosePinned) node Mode.Pinned (owner_worker n) low' in
       let q : u.last.handle + 1 ≡ w.last.handle + 1 = ap (λ n. n + 1) same in
-      pins-by w' r k (u.last.handle + 1) (next ∙ sym q) (stands-fell f.falls (worker-free n) (ap given q ∙ kept) s) at refl
+      pins-by w' r k (u.last.handle + 1) (next ∙ sym q) (stands-fell f.falls (λ m is. absurd (cc)) (ap given q ∙ kept) s) at refl
 
   pub end-pins : {N : Type 0} (v : Values N) (through : HandleNumber) (own : Own) (k : HandleNumber) → IsLoading w n r through own → EndsPinned v w (owner_worker n) (reading_of own) k w'
       → HoldsPin w' (owner_worker n) r k

@@ -15,8 +15,7 @@ module _ (core : Core) (v : ℕ) (s s' : Shelf) (r : ArcRef) (place : ℕ) (belo
 
   finds : (c : Claim) → Would v s (identity_of r) place c → SameShelf (claimed_shelf v s (identity_of r) c) s'
       → Finds v (site core s (to_start r place ∷ below)) r place below c (site core s' (claim_todo r place below (Ok c)))
-  finds Claim.Claimed w same = (w.0, w.1, turns _ _ same)
-  finds c w same = (w.0, w.1, turns _ _ same)
+  finds c w same = grind (arith, nat_tests, common_steps, turns)
 
   why : (e : Error) → claim_fault core r ≡ None → RefusesClaim v s (identity_of r) place e
       → (claim_fault core r ≡ Some e) ⊎ ((claim_fault core r ≡ None) × (e ≡ Error.TooDeep) × IsTooDeep s v (identity_of r) place) ⊎ (e ≡ Error.OutOfMemory)
@@ -25,8 +24,7 @@ module _ (core : Core) (v : ℕ) (s s' : Shelf) (r : ArcRef) (place : ℕ) (belo
 
   pub claims-there : (result : Result Claim Error) → claim_fault core r ≡ None → ClaimsThere v s (identity_of r) place result s'
       → Claims v (site core s (to_start r place ∷ below)) r place below result (site core s' (claim_todo r place below result))
-  claims-there (Ok c) none there = record { finds = (none, finds c there.finds.0 there.finds.1); refused = tt }
-  claims-there (Err e) none there = record { finds = tt; refused = (why e none there.refused.0, turns _ _ there.refused.1) }
+  claims-there result none there = grind (arith, nat_tests, common_steps, turns, finds, why)
 
   pub refuses : (e : Error) → claim_fault core r ≡ Some e → SameShelf (with_wait s v None) s'
       → Claims v (site core s (to_start r place ∷ below)) r place below (Err e) (site core s' (claim_todo r place below (Err e)))
@@ -40,16 +38,11 @@ kind-claimed w r whole may = grind (arith, nat_tests, common_steps, may-claim, c
 module _ {X : Type 0} {g : Ghosts X} where
   pub claim-fits : (v : ℕ) (s s' : Shelf) (r : ArcRef) (place : ℕ) (claim : Result (Found X g) Error) → ClaimsThere v s (identity_of r) place (found_as claim) s'
       → IfOk claim (IsFoundOf (identity_of r)) → ClaimFits r place claim
-  claim-fits v s s' r place (Ok Found.Claimed) there own = there.finds.0.0
-  claim-fits v s s' r place (Ok (Found.Known found)) there own = (own, there.finds.0.0)
-  claim-fits v s s' r place claim there own = tt
+  claim-fits v s s' r place claim there own = grind (arith, nat_tests)
 
   -- a task that needs nothing fits
   pub plain-fits : (n : ℕ) (w : Core) (t : Task X g) → IsPlain t → TaskFits n w t
-  plain-fits n w (Task.Pin r place) plain = absurd plain
-  plain-fits n w (Task.Load r place through reading) plain = absurd plain
-  plain-fits n w (Task.Write r place through pin) plain = absurd plain
-  plain-fits n w task plain = tt
+  plain-fits n w task plain = grind (arith, nat_tests)
 
   claim-leaves : (n : ℕ) (w : Core) (shelf : Shelf) (s' : Site) (r : ArcRef) (place : ℕ) (below : List Todo) (claim : Result (Found X g) Error) (task : Task X g) → HandlesAreWhole w
       → ClaimLeaves r place claim task
