@@ -12,21 +12,18 @@ use Rattle.pagable_walk.{specs.declared.tasks.{Task.Task, Turn.Turn, Waiting.Wai
 
 module _ {X : Type 0} {g : Ghosts X} where
   pub stored-way : (node : Option Node) (written : Written) (keys : List ℕ) (key : ℕ) (turn : Turn X g) (path : List (Waiting X g)) → IsStored node key turn → IsWay (waits_as node written keys ∷ todos path) → IsWay (plan turn path)
-  stored-way None written keys key turn path is way = rw is tt
-  stored-way (Some n) written keys key turn path (task, is, todo, plain) (all, up, low) = rw (is, todo) (n.place, up, low)
+  stored-way node written keys key turn path is way = grind (arith, nat_tests, common_steps)
 
 module _ {X : Type 0} {g : Ghosts X} {N E : Type 0} (v : Values N) (me : Owner) (n : ℕ) (shelf : Shelf) (below : List Todo) where
   module _ (mine : me ≡ owner_worker n) (written : Written) (keys : List ℕ) (s t : PagerState N E) (was : WellFormed v s) where
     stores : (node : Option Node) → IsWay (waits_as node written keys ∷ below) → (key : ℕ) (turn : Turn X g) (path : List (Waiting X g)) → todos path ≡ below → IsStored node key turn → Stores v s (blob_of written.bytes keys) (Ok key) t
         → Turned v n shelf (waits_as node written keys ∷ below) s shelf (record { took = Took.Store (named_by node) (Ok key); turn = turn; counted = true }) (plan turn path) t
-    stores None way key turn path at is call = rw is (grind (arith, nat_tests, common_steps, same-shelf, none_comes))
-    stores (Some o) way key turn path at (task, is, todo, plain) call = rw is (grind (arith, nat_tests, common_steps, same-shelf, none_comes, plain-fits))
+    stores node way key turn path at is call = grind (arith, nat_tests, common_steps, same-shelf, none_comes, plain-fits)
 
     fails-so : (node : Option Node) → IsWay (waits_as node written keys ∷ below) → (e : Error) (task : Task X g) (after : List Todo) → IsPlain task → after ≡ fails (was_refused e) (back_of None below)
         → Stores v s (blob_of written.bytes keys) (Err e) t
         → Turned v n shelf (waits_as node written keys ∷ below) s shelf (record { took = Took.Store (named_by node) (Err e); turn = Turn.Goes task; counted = true }) after t
-    fails-so None way e task after plain is call = grind (arith, nat_tests, common_steps, same-shelf, none_comes, plain-fits)
-    fails-so (Some o) way e task after plain is call = grind (arith, nat_tests, common_steps, same-shelf, none_comes, plain-fits)
+    fails-so node way e task after plain is call = grind (arith, nat_tests, common_steps, same-shelf, none_comes, plain-fits)
 
   module _ (w : Waiting X g) (way : IsWay (waiting_todo w ∷ below)) where
     pub finish-stores : (key : ℕ) (turn : Turn X g) (path : List (Waiting X g)) → todos path ≡ below → IsStored w.node key turn → (s t : PagerState N E)

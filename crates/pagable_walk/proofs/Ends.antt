@@ -1,5 +1,5 @@
 -- Waits come to an end after each change of a table.
-use Rattle.std.proofs.{Common.{ℕ, ◌≡◌, Bool, true, false, if◌then◌else◌, Option, Some, None, ◌⊎◌, inl, inr, refl, sym, ap, ◌∙◌, subst, nat_eq}, lemmas.Option.none-some}
+use Rattle.std.proofs.{Common.{arith, ℕ, ◌≡◌, Bool, true, false, if◌then◌else◌, Option, Some, None, ◌⊎◌, inl, inr, refl, sym, ap, ◌∙◌, subst, nat_eq}, lemmas.Option.none-some}
 use Rattle.pagable_world.specs.{Workers.{is_open_outcome, with_outcome, IsOpenSlot, ComesToEnd, works, may-go-on, waits-on, with_slot, with_wait}, Plain.{Identity, SameAt, if_there}, World.Outcome}
 use Rattle.{std.proofs.lemmas.{Bool.Decides.nat_tests, Grind.{common_steps, merely}}, pagable_world.specs.World.{Slot, Shelf, SameShelf, is_identity}, pagable_walk.specs.Slots.Changes}
 use Rattle.pagable_walk.{proofs.{Held.{same-as, same-identity}, Waits.{some-same, open-is, closed}}, specs.Slots.{open_worker, WaitsFor, Ends, ends-at, EachEnds, claimed_by, SlotIs, SameSlots}}
@@ -22,8 +22,7 @@ pub less-open : (s s' : Shelf) → ((i : Identity) (w : ℕ) → open_worker (s'
 less-open s s' h same = each-ends s s' (λ u w e. inl (record { i = e.i; waits = sym (same u) ∙ e.waits; still = h e.i w e.still }))
 
 was-waiting : (b : Bool) (x : Option Identity) (i : Identity) → (if b then None else x) ≡ Some i → x ≡ Some i
-was-waiting true x i e = absurd (none-some i e)
-was-waiting false x i e = e
+was-waiting b x i e = grind (arith, nat_tests)
 
 -- one that doesn't wait any more
 pub stopped : (s s' : Shelf) (v : ℕ) → SameShelf (with_wait s v None) s' → EachEnds s → EachEnds s'
@@ -79,8 +78,7 @@ no-waits s h u = merely (ends-at u (λ w e. absurd (none-some e.i (sym (h u) ∙
 -- a slot that changes and doesn't come to be without a result
 module _ (old new : Identity → Option Slot) (i : Identity) (f : Slot → Slot) (h : (x : Slot) (w : ℕ) → open_worker (Some (f x)) ≡ Some w → open_worker (Some x) ≡ Some w) (is : Changes f old i new) where
   less-at : (o : Option Slot) (w : ℕ) → open_worker (if_there (λ (x : Slot). Some (f x)) None o) ≡ Some w → open_worker o ≡ Some w
-  less-at None w e = absurd (none-some w e)
-  less-at (Some x) w e = h x w e
+  less-at o w e = grind (arith, nat_tests)
 
   less : (j : Identity) (b : Bool) → is_identity i j ≡ b → (w : ℕ) → open_worker (if b then if_there (λ (x : Slot). Some (f x)) None (old i) else old j) ≡ Some w → open_worker (old j) ≡ Some w
   less j false q w e = e
@@ -90,8 +88,7 @@ module _ (old new : Identity → Option Slot) (i : Identity) (f : Slot → Slot)
   changed-less j w e = less j (is_identity i j) refl w (sym (ap open_worker (is j)) ∙ e)
 
 outcome-by : (o : Outcome) → is_open_outcome o ≡ false → (x : Slot) (b : Bool) (w : ℕ) → open_worker (Some (if b then record x { outcome = o } else x)) ≡ Some w → open_worker (Some x) ≡ Some w
-outcome-by o h x false w e = e
-outcome-by o h x true w e = absurd (none-some w (sym (ap (λ b. if b then Some x.worker else None) h) ∙ e))
+outcome-by o h x b w e = grind (arith, nat_tests)
 
 -- a slot that gets an outcome
 pub outcome-less : (o : Outcome) → is_open_outcome o ≡ false → (x : Slot) (w : ℕ) → open_worker (Some (with_outcome o x)) ≡ Some w → open_worker (Some x) ≡ Some w

@@ -1,6 +1,6 @@
 -- What a worker's failure makes of its claims, one row after another.
 use Rattle.std.proofs.Common.{ℕ, ◌≡◌, ◌≤◌, zero, suc, Bool, true, false, cond, if◌then◌else◌, List, [], ◌∷◌, length, Option, Some, None, refl, sym, ap, ◌∙◌, subst, nat_eq, arith, slice_get}
-use Rattle.{std.{proofs.lemmas.Option.none-some, specs.{Map.{lookup, values_of}, Option.option_map}}, indexmap.specs.IndexMap.set_value_at, pagable_walk.proofs.{Ends.outcome-less, Waits.some-same}}
+use Rattle.{std.{proofs.lemmas.{Bool.Decides.nat_tests, Option.none-some}, specs.{Map.{lookup, values_of}, Option.option_map}}, indexmap.specs.IndexMap.set_value_at, pagable_walk.proofs.{Ends.outcome-less, Waits.some-same}}
 use Rattle.pagable_world.specs.{Plain.Identity, Workers.with_outcome, World.{Slot, failed}}
 use Rattle.pagable_walk.specs.{Slots.{is_same, slot_of, IsNamed, FailedTo, failed_by, after_failure, open_worker}, declared.{results.Trees.Ghosts, slots.ArcSerSlot.ArcSerSlot}}
 
@@ -53,11 +53,9 @@ module _ {E : Type 0} {g : Ghosts E} (v : ℕ) where
       by more false at is = more (λ x was. named x (ap (λ b. cond b (Some e.1) (lookup (is_same q) es)) at ∙ was)) s is
 
 less-by : (v : ℕ) (s : Slot) (b : Bool) (w : ℕ) → open_worker (Some (if b then with_outcome failed s else s)) ≡ Some w → open_worker (Some s) ≡ Some w
-less-by v s true w e = outcome-less failed refl s w e
-less-by v s false w e = e
+less-by v s b w e = grind (arith, nat_tests, outcome-less)
 
 pub failure-less : (v : ℕ) (o : Option Slot) (w : ℕ) → open_worker (after_failure v o) ≡ Some w → open_worker o ≡ Some w
-failure-less v None w e = e
-failure-less v (Some s) w e = less-by v s (nat_eq s.worker v) w e
+failure-less v o w e = grind (arith, nat_tests, less-by)
 
 pub ruleset failing = (no-row, all-failed)

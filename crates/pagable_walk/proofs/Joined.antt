@@ -1,5 +1,5 @@
 -- A turn with the worker's end is its step, and steps of a worker's walk are joined to a run.
-use Rattle.std.proofs.{Common.{ℕ, ◌≡◌, List, [], ◌∷◌, inl, refl, sym, ap, subst, ◌∙◌}, lemmas.Bool.Decides.nat_tests}
+use Rattle.std.proofs.{Common.{arith, ℕ, ◌≡◌, List, [], ◌∷◌, inl, refl, sym, ap, subst, ◌∙◌}, lemmas.{Bool.Decides.nat_tests, Grind.common_steps}}
 use Rattle.{pagable_loads.proofs.Stepped.{acts_all, acts_on, moves_then}, pagable_world.specs.{Access.{WalkStep, worker-ends, worker-goes-on}, Events.Ends, Pager.{PagerState, WellFormed, Moves}}}
 use Rattle.pagable_world.specs.{World.{Shelf, Todo, Values}, declared.{events.WorkerAnswer.WorkerAnswer, handles.Owner.Owner}}
 use Rattle.pagable_walk.{proofs.{Pinning.same-shelf, Turning.alike}, specs.{Tasks.todo_of, Turns.{Closes, LeavesFit, StepsTo, TurnsTo, RunsTo, HasWalked, answer_in, plain, plain_took, site}}}
@@ -14,13 +14,7 @@ record Closed {X : Type 0} {g : Ghosts X} {N E : Type 0} (v : Values N) (n : ℕ
 
 module _ {X : Type 0} {g : Ghosts X} {N E : Type 0} (v : Values N) (n : ℕ) where
   closed : (turn : Turn X g) (s t : PagerState N E) → Closes v n turn s t → Closed v n turn s t
-  closed (Turn.Goes task) s t close = subst (Closed v n (Turn.Goes task) s) (sym close.closes) (record {
-    ends = alike s.core;
-    moves = record { each = λ q x is. inl is; environment = refl };
-    whole = λ w. w;
-    fits = λ f. f;
-  })
-  closed (Turn.Answers answer) s t close = record { ends = close.closes.step; moves = close.closes.moves; whole = λ w. close.closes.whole; fits = λ f. tt }
+  closed turn s t close = grind (arith, nat_tests, common_steps, alike)
 
   pub steps-to : (me : Owner) (shelf shelf' : Shelf) (task : Task X g) (below after : List Todo) (moved : Moved X g) (s mid t : PagerState N E)
       → TurnsTo v me n shelf task below shelf' moved after s mid → Closes v n moved.turn mid t

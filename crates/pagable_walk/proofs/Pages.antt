@@ -1,5 +1,5 @@
 -- Page-outs of an item and of the entries of the list, from the runs of their workers.
-use Rattle.std.proofs.{Common.{ℕ, ◌≡◌, ◌≤◌, ◌<◌, ◌+◌, List, ◌∷◌, length, Option, Some, None, Result, Ok, Err, inl, refl, ap, subst, sym, ◌∙◌, arith}, lemmas.List.Edits.length-remove}
+use Rattle.std.proofs.{Common.{rules, ℕ, ◌≡◌, ◌≤◌, ◌<◌, ◌+◌, List, ◌∷◌, length, Option, Some, None, Result, Ok, Err, inl, refl, ap, subst, sym, ◌∙◌, arith}, lemmas.List.Edits.length-remove}
 use Rattle.{std.{proofs.lemmas.{Option.slice_get_within, Bool.Decides.nat_tests, Grind.common_steps}, specs.List.remove}, pagable_model.specs.declared.{error.Error.Error, numbers.ArcRef.ArcRef}}
 use Rattle.{pagable_model.specs.declared.{numbers.{HandleNumber.HandleNumber, WorkerNumber.WorkerNumber}, data_key.OptionalDataKey.OptionalDataKey}, pagable_world.specs.Access.{AccessState, Called}}
 use Rattle.pagable_world.specs.Access.{WorkerStarts, WorkerRun, worker-ends, worker-goes-on, no-worker, item-is-walked, EntryHas, entry-is-refused, no-entry-worker, entry-is-walked, ListRun}
@@ -79,8 +79,7 @@ module _ {N E : Type 0} (v : Values N) where
   -- ---- a place of the list
 
   pub took-none : (place : ℕ) (taken : Option HandleNumber) → ((h : HandleNumber) → taken ≡ Some h → ⊥) → (me : Owner) (s t : PagerState N E) → Called v (λ w'. TakeCall s.core me place taken w') s t → SkipsEntry v place s t
-  took-none place (Some h) none me s t call = absurd (none h refl)
-  took-none place None none me s t call = record { skips = λ h listed. absurd (let within = slice_get_within s.core.list place h listed in omega (arith, within, call.step.0)) }
+  took-none place taken none me s t call = grind (arith, nat_tests, common_steps, slice_get_within)
 
   pub took-some : {me : Owner} → me ≡ Owner.Caller → (place : ℕ) (h : HandleNumber) (told : Result (Unit {0}) Error) (s mid t : PagerState N E) → Called v (λ w'. TakeCall s.core me place (Some h) w') s mid
       → Called v (λ w'. ReleaseCall mid.core me h told w') mid t → SkipsEntry v place s t
@@ -136,7 +135,7 @@ module _ {N E : Type 0} (v : Values N) where
   more-paged left place next s mid t paged at = grind (arith, nat_tests, common_steps)
 
   pub ends-paged : (left place : ℕ) → left ≡ place + 1 → (why : PageOutError) (s mid t : PagerState N E) → HasPaged v left s mid → PagesAt v place (Err why) mid t → PagesList v (Err why) s t
-  ends-paged left place next why s mid t paged at = record { over = λ whole. let d = at.done (paged.whole whole) (let long = paged.long whole in omega (arith, long, next)) in paged.then whole (Err (failure_of why)) t (d.stops left next) }
+  ends-paged left place next why s mid t paged at = grind (arith, nat_tests)
 
   pub all-paged : (left : ℕ) → left ≡ 0 → (s t : PagerState N E) → HasPaged v left s t → PagesList v (Ok tt) s t
   all-paged left none s t paged = record { over = λ whole. paged.then whole (Ok tt) t (subst (λ i. ListRun (plain v) i t (Ok tt) t) (sym none) (no-more t)) }

@@ -47,8 +47,7 @@ module _ {X : Type 0} {g : Ghosts X} where
   claim-leaves : (n : ℕ) (w : Core) (shelf : Shelf) (s' : Site) (r : ArcRef) (place : ℕ) (below : List Todo) (claim : Result (Found X g) Error) (task : Task X g) → HandlesAreWhole w
       → ClaimLeaves r place claim task
       → Claims n (site w shelf (to_start r place ∷ below)) r place below (found_as claim) s' → TaskFits n w task
-  claim-leaves n w shelf s' r place below (Ok Found.Claimed) task whole leaves c = subst (TaskFits n w) (sym leaves) (claimed-stands whole r c.finds.0, kind-claimed w r whole c.finds.0)
-  claim-leaves n w shelf s' r place below claim task whole leaves c = plain-fits n w task leaves
+  claim-leaves n w shelf s' r place below claim task whole leaves c = grind (arith, nat_tests, common_steps, claimed-stands, kind-claimed, plain-fits)
 
   pub start-turns : {N E : Type 0} (v : Values N) (me : Owner) (n : ℕ) (shelf shelf' : Shelf) (r : ArcRef) (place : ℕ) (below after : List Todo) (claim : Result (Found X g) Error) (task : Task X g) → after ≡ claim_todo r place below (found_as claim)
       → ClaimLeaves r place claim task

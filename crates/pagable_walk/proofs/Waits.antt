@@ -1,5 +1,5 @@
 -- Whom a worker waits for.
-use Rattle.std.proofs.{Common.{ℕ, ◌≡◌, Bool, true, false, if◌then◌else◌, Option, Some, None, refl, sym, ap, ◌∙◌, subst, nat_eq}, lemmas.{Bool.Decides.nat_tests, Option.none-some}}
+use Rattle.std.proofs.{Common.{arith, ℕ, ◌≡◌, Bool, true, false, if◌then◌else◌, Option, Some, None, refl, sym, ap, ◌∙◌, subst, nat_eq}, lemmas.{Bool.Decides.nat_tests, Option.none-some}}
 use Rattle.pagable_world.specs.{Workers.{is_open_outcome, is_open_slot, IsOpenSlot, ComesBack, waits-back, ComesToEnd, works, may-go-on, waits-on, with_wait}, Plain.{Identity, if_there}}
 use Rattle.{pagable_world.specs.World.{Slot, Shelf, SameShelf, no_result}, pagable_walk.specs.{Slots.{open_worker, IsOpenOf, Leads, Stands}, declared.{results.Trees.Ghosts, slots.Standing.Standing}}}
 
@@ -15,15 +15,11 @@ closed (Some x) h w e = none-some w (sym (ap (λ b. if b then Some x.worker else
 
 -- where a slot isn't found to be open it isn't
 pub not-open : {E : Type 0} {g : Ghosts E} (i : Identity) (slot : Option Slot) (st : Standing E g) → Stands i slot st → ((w : ℕ) → st ≡ Standing.Open w → ⊥) → is_open_slot slot ≡ false
-not-open i slot Standing.Free is none = ap is_open_slot is
-not-open i slot (Standing.Open w) is none = absurd (none w refl)
-not-open i slot (Standing.Known r) (own, (x, there, known)) none = ap is_open_slot there ∙ ap is_open_outcome known
-not-open i slot Standing.Failed (x, there, was) none = ap is_open_slot there ∙ ap is_open_outcome was
+not-open i slot st stands none = grind (arith, nat_tests)
 
 -- where the worker that it waits for leads, it does
 pub leads-on : (s : Shelf) (v u : ℕ) (i : Identity) → s.waits u ≡ Some i → nat_eq u v ≡ false → (w : ℕ) → IsOpenOf (s.slots i) w → (b : Bool) → Leads s v w b → Leads s v u b
-leads-on s v u i waits differs w (x, there, none, at) true back = waits-back u i x waits (record { claimed = there; no_result_yet = none }) (subst (ComesBack s v) (sym at) back)
-leads-on s v u i waits differs w (x, there, none, at) false end = waits-on u i x differs waits (record { claimed = there; no_result_yet = none }) (subst (ComesToEnd s v) (sym at) end)
+leads-on s v u i waits differs w there b h = grind (arith, nat_tests, waits-back, waits-on)
 
 -- once its wait is forgotten
 module _ (s s1 s2 : Shelf) (v : ℕ) (i : Identity) (same : SameShelf (with_wait s v None) s1) where
