@@ -37,8 +37,7 @@ module _ (s s' : Shelf) (v : ℕ) (i : Identity) (same : SameShelf (with_slot s 
   taken = each-ends s s' (λ u w e. by u w e.i (is_identity i e.i) (sym (same.waits u) ∙ e.waits) (sym (ap open_worker (same.slots e.i)) ∙ e.still))
     where
       by : (u w : ℕ) (j : Identity) (b : Bool) → s.waits u ≡ Some j → open_worker (if b then Some (claimed_by v) else s.slots j) ≡ Some w → WaitsFor s u w ⊎ Ends s' w
-      by u w j true waits still = inr (subst (Ends s') (some-same still) claimer-ends)
-      by u w j false waits still = inl (record { i = j; waits = waits; still = still })
+      by u w j b waits still = grind (arith, nat_tests, some-same, claimer-ends)
 
 -- a worker waits for one whose wait comes to an end without it
 module _ (s s' : Shelf) (v : ℕ) (i : Identity) (same : SameShelf (with_wait s v (Some i)) s') where
@@ -81,8 +80,7 @@ module _ (old new : Identity → Option Slot) (i : Identity) (f : Slot → Slot)
   less-at o w e = grind (arith, nat_tests)
 
   less : (j : Identity) (b : Bool) → is_identity i j ≡ b → (w : ℕ) → open_worker (if b then if_there (λ (x : Slot). Some (f x)) None (old i) else old j) ≡ Some w → open_worker (old j) ≡ Some w
-  less j false q w e = e
-  less j true q w e = subst (λ k. open_worker (old k) ≡ Some w) (same-identity i j (same-as i j ∙ q)) (less-at (old i) w e)
+  less j b q w e = grind (arith, nat_tests, same-identity, same-as, less-at)
 
   pub changed-less : (j : Identity) (w : ℕ) → open_worker (new j) ≡ Some w → open_worker (old j) ≡ Some w
   changed-less j w e = less j (is_identity i j) refl w (sym (ap open_worker (is j)) ∙ e)

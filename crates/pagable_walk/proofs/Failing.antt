@@ -8,23 +8,17 @@ module _ {E : Type 0} {g : Ghosts E} (v : ℕ) where
   -- the next row is failed; or there is none
   pub row-fails : (n : ℕ) (first rows : List ((ℕ × ℕ) × ArcSerSlot E g)) (s w : ArcSerSlot E g) → slice_get (values_of rows) n ≡ Some s → slot_of w ≡ failed_by v (slot_of s) → ((i : Identity) → IsNamed i s → IsNamed i w)
       → FailedTo v n first rows → FailedTo v (suc n) first (set_value_at rows n w)
-  row-fails n first [] s w at is own h = absurd (none-some s at)
-  row-fails zero [] (m ∷ ms) s w at is own h = absurd (cc)
   row-fails zero (e ∷ es) (m ∷ ms) s w at is own h =
       let same : m ≡ e = cc in
       let rest : ms ≡ es = cc in
       let here : s ≡ e.1 = sym (some-same at) ∙ ap (λ (x : (ℕ × ℕ) × ArcSerSlot E g). x.1) same in
       (record { key = ap (λ (x : (ℕ × ℕ) × ArcSerSlot E g). x.0) same; slot = is ∙ ap (λ x. failed_by v (slot_of x)) here; own = λ i named. own i (subst (IsNamed i) (sym here) named) }, rest)
-  row-fails (suc n) [] (m ∷ ms) s w at is own h = absurd (cc)
   row-fails (suc n) (e ∷ es) (m ∷ ms) s w at is own (row, rest) = (row, row-fails n es ms s w at is own rest)
+  row-fails n first rows s w at is own h = grind (arith, nat_tests, none-some)
 
   pub no-row : (n : ℕ) (first rows : List ((ℕ × ℕ) × ArcSerSlot E g)) → slice_get (values_of rows) n ≡ None → FailedTo v n first rows → FailedTo v (suc n) first rows
-  no-row zero [] rows none h = h
-  no-row zero (e ∷ es) [] none h = absurd (cc)
-  no-row zero (e ∷ es) (m ∷ ms) none h = absurd (none-some m.1 (sym none))
-  no-row (suc n) [] rows none h = h
-  no-row (suc n) (e ∷ es) [] none h = absurd h
   no-row (suc n) (e ∷ es) (m ∷ ms) none (row, rest) = (row, no-row n es ms none rest)
+  no-row n first rows none h = grind (arith, nat_tests, none-some)
 
   -- once each row is failed
   pub all-failed : (n : ℕ) (first rows : List ((ℕ × ℕ) × ArcSerSlot E g)) (q : ℕ × ℕ) → length first ≤ n → FailedTo v n first rows

@@ -85,13 +85,9 @@ module _ {N E : Type 0} (v : Values N) where
       → Called v (λ w'. ReleaseCall mid.core me h told w') mid t → SkipsEntry v place s t
   took-some mine place h told s mid t takes releases = record {
     skips = λ k listed.
-        let e : h ≡ k = cc-some takes.step.0 listed in
+        let e : h ≡ k = cc (takes.step.0, listed) in
         subst (λ x. Skipped v s place x t) e (record { mid = mid; told = told; takes = rw mine at takes; releases = rw mine at releases });
   }
-    where
-      cc-some : {X : Type 0} {x y : X} {a : Option X} → a ≡ Some x → a ≡ Some y → x ≡ y
-      cc-some is other = cc
-
   pub at-past : (place : ℕ) (s : PagerState N E) → length s.core.list ≤ place → PagesAt v place (Ok tt) s s
   at-past place s past = record { done = λ whole within. absurd (omega (arith, past, within)) }
 

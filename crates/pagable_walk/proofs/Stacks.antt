@@ -74,11 +74,7 @@ module _ (node : Option Node) (written : Written) (keys : List ℕ) (below : Lis
 
   pub settled-next : (r : ArcRef) (p : ℕ) → n < length written.references → r ≡ get_or written.references n r → p ≡ place_below (place_of node) r.kind.0
       → to_start r p ∷ waits_as node written keys ∷ below ≡ settle (waits_as node written keys ∷ below)
-  settled-next r p more is at = next-starts (place_of node) (length keys) n p written.references r (waits_as node written keys ∷ below) many more is at ∙ sym (settle-is node written keys below)
-    where
-      next-starts : (place m n p : ℕ) (rs : List ArcRef) (r : ArcRef) (todo : List Todo) → m ≡ n → n < length rs → r ≡ get_or rs n r → p ≡ place_below place r.kind.0
-          → to_start r p ∷ todo ≡ next_start place (drop m rs) ++ todo
-      next-starts place m n p rs r todo e more is at = grind (arith, nat_tests, common_steps, at_drop_more)
+  settled-next r p more is at = grind (arith, nat_tests, common_steps, at_drop_more, settle-is)
 
 -- what a path with nothing on it, and one with one more, is as plain data
 pub ruleset paths = (nat_tests, todos-none, todos-more, back-none, item-way)

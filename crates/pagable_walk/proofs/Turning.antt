@@ -19,8 +19,7 @@ module _ (core : Core) (v : ℕ) (s s' : Shelf) (r : ArcRef) (place : ℕ) (belo
 
   why : (e : Error) → claim_fault core r ≡ None → RefusesClaim v s (identity_of r) place e
       → (claim_fault core r ≡ Some e) ⊎ ((claim_fault core r ≡ None) × (e ≡ Error.TooDeep) × IsTooDeep s v (identity_of r) place) ⊎ (e ≡ Error.OutOfMemory)
-  why e none (inl h) = inr (inl (none, h.0, h.1))
-  why e none (inr h) = inr (inr h)
+  why e none h = grind (arith, nat_tests)
 
   pub claims-there : (result : Result Claim Error) → claim_fault core r ≡ None → ClaimsThere v s (identity_of r) place result s'
       → Claims v (site core s (to_start r place ∷ below)) r place below result (site core s' (claim_todo r place below result))
