@@ -1,5 +1,5 @@
 -- A turn with the worker's end is its step, and steps of a worker's walk are joined to a run.
-use Rattle.std.proofs.{Common.{arith, ℕ, ◌≡◌, List, [], ◌∷◌, inl, refl, sym, ap, subst, ◌∙◌}, lemmas.{Bool.Decides.nat_tests, Grind.common_steps}}
+use Rattle.std.proofs.{Common.{arith, ℕ, ◌≡◌, List, [], ◌∷◌, refl, sym, ap, subst, ◌∙◌}, lemmas.{Bool.Decides.nat_tests, Grind.common_steps}}
 use Rattle.{pagable_loads.proofs.Stepped.{acts_all, acts_on, moves_then}, pagable_world.specs.{Access.{WalkStep, worker-ends, worker-goes-on}, Events.Ends, Pager.{PagerState, WellFormed, Moves}}}
 use Rattle.pagable_world.specs.{World.{Shelf, Todo, Values}, declared.{events.WorkerAnswer.WorkerAnswer, handles.Owner.Owner}}
 use Rattle.pagable_walk.{proofs.{Pinning.same-shelf, Turning.alike}, specs.{Tasks.todo_of, Turns.{Closes, LeavesFit, StepsTo, TurnsTo, RunsTo, HasWalked, answer_in, plain, plain_took, site}}}

@@ -1,5 +1,5 @@
 -- What a worker has to do, after a reference was done.
-use Rattle.std.proofs.{Common.{ℕ, ◌≡◌, ◌≤◌, ◌<◌, ◌+◌, List, [], ◌∷◌, ◌++◌, length, drop, take, map, get_or, refl, sym, ap, subst, ◌∙◌, arith, Some, slice_get}, lemmas.Bool.Decides.nat_tests}
+use Rattle.std.proofs.{Common.{ℕ, ◌≡◌, ◌≤◌, ◌<◌, ◌+◌, List, [], ◌∷◌, ◌++◌, length, drop, take, map, get_or, refl, sym, ap, ◌∙◌, arith, Some, slice_get}, lemmas.Bool.Decides.nat_tests}
 use Rattle.std.proofs.lemmas.{Grind.common_steps, List.{at_drop_more, at_drop_all, take_more, length-append, length-map, map-append}, Option.{get_or_from_slice_get, slice_get_within}}
 use Rattle.{std.specs.Prelude.{None, max}, pagable_model.specs.declared.numbers.{ArcRef.ArcRef, HandleNumber.HandleNumber}, pagable_world.specs.{Kinds.identity_of, Plain.above}}
 use Rattle.{pagable_world.specs.{Workers.{place_below, next_start, settle, give}, World.{Todo, Written, to_start}}, pagable_walk.specs.{Tasks.back_of, Slots.ids_of}}

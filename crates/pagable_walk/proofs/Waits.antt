@@ -1,6 +1,6 @@
 -- Whom a worker waits for.
-use Rattle.std.proofs.{Common.{arith, ℕ, ◌≡◌, Bool, true, false, if◌then◌else◌, Option, Some, None, refl, sym, ap, ◌∙◌, subst, nat_eq}, lemmas.{Bool.Decides.nat_tests, Option.none-some}}
-use Rattle.pagable_world.specs.{Workers.{is_open_outcome, is_open_slot, IsOpenSlot, ComesBack, waits-back, ComesToEnd, works, may-go-on, waits-on, with_wait}, Plain.{Identity, if_there}}
+use Rattle.std.proofs.{Common.{arith, ℕ, ◌≡◌, Bool, false, if◌then◌else◌, Option, Some, None, sym, ap, ◌∙◌, nat_eq}, lemmas.{Bool.Decides.nat_tests, Option.none-some}}
+use Rattle.pagable_world.specs.{Workers.{is_open_outcome, is_open_slot, IsOpenSlot, waits-back, ComesToEnd, works, may-go-on, waits-on, with_wait}, Plain.{Identity, if_there}}
 use Rattle.{pagable_world.specs.World.{Slot, Shelf, SameShelf, no_result}, pagable_walk.specs.{Slots.{open_worker, IsOpenOf, Leads, Stands}, declared.{results.Trees.Ghosts, slots.Standing.Standing}}}
 
 pub some-same : {A : Type 0} {x y : A} → Some x ≡ Some y → x ≡ y
