@@ -15,26 +15,16 @@ module _ {X : Type 0} {g : Ghosts X} where
   stored-way node written keys key turn path is way = grind (arith, nat_tests, common_steps)
 
 module _ {X : Type 0} {g : Ghosts X} {N E : Type 0} (v : Values N) (me : Owner) (n : ℕ) (shelf : Shelf) (below : List Todo) where
-  module _ (mine : me ≡ owner_worker n) (written : Written) (keys : List ℕ) (s t : PagerState N E) (was : WellFormed v s) where
-    stores : (node : Option Node) → IsWay (waits_as node written keys ∷ below) → (key : ℕ) (turn : Turn X g) (path : List (Waiting X g)) → todos path ≡ below → IsStored node key turn → Stores v s (blob_of written.bytes keys) (Ok key) t
-        → Turned v n shelf (waits_as node written keys ∷ below) s shelf (record { took = Took.Store (named_by node) (Ok key); turn = turn; counted = true }) (plan turn path) t
-    stores node way key turn path at is call = grind (arith, nat_tests, common_steps, same-shelf, none_comes, plain-fits)
-
-    fails-so : (node : Option Node) → IsWay (waits_as node written keys ∷ below) → (e : Error) (task : Task X g) (after : List Todo) → IsPlain task → after ≡ fails (was_refused e) (back_of None below)
-        → Stores v s (blob_of written.bytes keys) (Err e) t
-        → Turned v n shelf (waits_as node written keys ∷ below) s shelf (record { took = Took.Store (named_by node) (Err e); turn = Turn.Goes task; counted = true }) after t
-    fails-so node way e task after plain is call = grind (arith, nat_tests, common_steps, same-shelf, none_comes, plain-fits)
-
   module _ (w : Waiting X g) (way : IsWay (waiting_todo w ∷ below)) where
     pub finish-stores : (key : ℕ) (turn : Turn X g) (path : List (Waiting X g)) → todos path ≡ below → IsStored w.node key turn → (s t : PagerState N E)
         → Stores v s (blob_of (written_of (arc_value w.written)).bytes (keys_of w.children.items)) (Ok key) t
         → TurnsTo v me n shelf (Task.Finish w) below shelf (record { took = Took.Store (named_by w.node) (Ok key); turn = turn; counted = true }) (plan turn path) s t
-    finish-stores key turn path at is s t call = grind (arith, nat_tests, common_steps, stores)
+    finish-stores key turn path at is s t call = grind (arith, nat_tests, common_steps, same-shelf, none_comes, plain-fits)
 
     pub finish-fails : (e : Error) (task : Task X g) (after : List Todo) → IsPlain task → after ≡ fails (was_refused e) (back_of None below) → (s t : PagerState N E)
         → Stores v s (blob_of (written_of (arc_value w.written)).bytes (keys_of w.children.items)) (Err e) t
         → TurnsTo v me n shelf (Task.Finish w) below shelf (record { took = Took.Store (named_by w.node) (Err e); turn = Turn.Goes task; counted = true }) after s t
-    finish-fails e task after plain is s t call = grind (arith, nat_tests, common_steps, fails-so)
+    finish-fails e task after plain is s t call = grind (arith, nat_tests, common_steps, same-shelf, none_comes, plain-fits)
 
   module _ (d : Done X g) where
     pub set-goes : (through : HandleNumber) (s t : PagerState N E) → Called v (λ w'. SetKeyCall s.core me through d.found.key (Ok tt) w') s t

@@ -6,24 +6,17 @@ use Rattle.{std.{specs.{Prelude.{Option}}, proofs.lemmas.Bool.Decides.nat_tests}
 falls-by : (l l' d d' b : ℕ) → l' + 1 ≤ l → d' < b → l' * b + d' < l * b + d
 falls-by l l' d d' b less low = let a : (l' + 1) * b ≤ l * b = mul-le-mul_right b less in omega (arith, a)
 
-waits-leads : (node : Option Node) (written : Written) (keys : List ℕ) (below after : List Todo) → Leads (waits_as node written keys ∷ below) after → due after < due (waits_as node written keys ∷ below)
-waits-leads node written keys below after leads = grind (arith, nat_tests)
-
 module _ {X : Type 0} {g : Ghosts X} where
   pub start-falls : (turn : Turn X g) (l l' : ℕ) (r : ArcRef) (place : ℕ) (below after : List Todo) → l' + 1 ≤ l → length below < 2 ^ 64 → LeadsOn (to_start r place ∷ below) turn after
       → IfGoes turn (l' * far + due after < l * far + due (to_start r place ∷ below))
-  start-falls (Turn.Goes t) l l' r place below after less few leads = let low : due after < far = omega arith in falls-by l l' (due (to_start r place ∷ below)) (due after) far less low
-  start-falls (Turn.Answers a) l l' r place below after less few leads = tt
-
-  same-falls : (turn : Turn X g) (l : ℕ) (todo after : List Todo) → IfGoes turn (due after < due todo) → IfGoes turn (l * far + due after < l * far + due todo)
-  same-falls turn l todo after less = grind (arith, nat_tests)
+  start-falls turn l l' r place below after less few leads = grind (arith, nat_tests, falls-by)
 
   other-leads : (task : Task X g) → ((r : ArcRef) (place : ℕ) → task ≡ Task.Start r place → ⊥) → (turn : Turn X g) (below after : List Todo) → LeadsOn (todo_of task ∷ below) turn after
       → IfGoes turn (due after < due (todo_of task ∷ below))
-  other-leads task other turn below after leads = grind (arith, nat_tests, waits-leads)
+  other-leads task other turn below after leads = grind (arith, nat_tests)
 
   pub other-falls : (task : Task X g) → ((r : ArcRef) (place : ℕ) → task ≡ Task.Start r place → ⊥) → (turn : Turn X g) (l : ℕ) (below after : List Todo) → LeadsOn (todo_of task ∷ below) turn after
       → IfGoes turn (l * far + due after < l * far + due (todo_of task ∷ below))
-  other-falls task other turn l below after leads = same-falls turn l (todo_of task ∷ below) after (other-leads task other turn below after leads)
+  other-falls task other turn l below after leads = grind (arith, nat_tests, other-leads)
 
 pub ruleset dues = (nat_tests, start-falls, other-falls, todos-length)

@@ -46,10 +46,7 @@ module _ {E : Type 0} {g : Ghosts E} (v : ℕ) where
       by more true at is = subst (IsNamed i) (some-same is) (row.own i (named e.1 (ap (λ b. cond b (Some e.1) (lookup (is_same q) es)) at)))
       by more false at is = more (λ x was. named x (ap (λ b. cond b (Some e.1) (lookup (is_same q) es)) at ∙ was)) s is
 
-less-by : (v : ℕ) (s : Slot) (b : Bool) (w : ℕ) → open_worker (Some (if b then with_outcome failed s else s)) ≡ Some w → open_worker (Some s) ≡ Some w
-less-by v s b w e = grind (arith, nat_tests, outcome-less)
-
 pub failure-less : (v : ℕ) (o : Option Slot) (w : ℕ) → open_worker (after_failure v o) ≡ Some w → open_worker o ≡ Some w
-failure-less v o w e = grind (arith, nat_tests, less-by)
+failure-less v o w e = grind (arith, nat_tests, outcome-less)
 
 pub ruleset failing = (no-row, all-failed)

@@ -51,13 +51,10 @@ pin-pins w w' me r h k low stands c =
     let s = new-handle (with_mode w h Mode.LoosePinned) row.node Mode.Pinned me low' in
     pins-by w' r k (w.last.handle + 1) c.pins.2.1.above (stands-alike {w = with_handle (with_mode w h Mode.LoosePinned) row.node Mode.Pinned me} c.pins.2.2 s) (stands.is row c.pins.1.live).0 refl
 
-low-cloned : (w w' : Core) (me : Owner) (h k : HandleNumber) → HandlesAreWhole w → CloneCall w me h (Ok k) w' → AreLow w'
-low-cloned w w' me h k whole c = let row : HandleRow = c.made.0 in low-handle w w' row.node row.mode me (low-whole whole) c.made.3
-
 pub at-once-pins : (w w' : Core) (me : Owner) (r : ArcRef) (through k : HandleNumber) → HandlesAreWhole w → StandsAt w r r.handle → PinsAtOnce w me r through k w' → HoldsPin w' me r k
 at-once-pins w w' me r through k whole stands does = elim does [
   | inl (is, same, clone) ↦ clone-pins w w' me r k whole stands is clone
-  | inr (is, (mid, clone, pin)) ↦ pin-pins mid w' me r through k (low-cloned w mid me r.handle through whole clone) (clone-stands whole r through stands clone) pin
+  | inr (is, (mid, clone, pin)) ↦ pin-pins mid w' me r through k (low-handle w mid clone.made.0.node clone.made.0.mode me (low-whole whole) clone.made.3) (clone-stands whole r through stands clone) pin
 ]
 
 -- ---- a load that has begun
