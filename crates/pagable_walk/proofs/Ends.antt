@@ -5,13 +5,9 @@ use Rattle.{std.proofs.lemmas.{Bool.Decides.nat_tests, Grind.{common_steps, mere
 use Rattle.pagable_walk.{proofs.{Held.{same-as, same-identity}, Waits.{some-same, open-is, closed}}, specs.Slots.{open_worker, WaitsFor, Ends, ends-at, EachEnds, claimed_by, SlotIs, SameSlots}}
 use mathlib.Core.Logic.{∥∥₁_map}
 
-or-ends : {A B : Type 0} → (A → B) → A ⊎ B → B
-or-ends f (inl a) = f a
-or-ends f (inr b) = b
-
 module _ (s s' : Shelf) (h : (u w : ℕ) → WaitsFor s' u w → WaitsFor s u w ⊎ Ends s' w) where
   ends-still : {u : ℕ} → Ends s u → Ends s' u
-  ends-still (ends-at u f) = ends-at u (λ w e. or-ends (λ old. ends-still (f w old)) (h u w e))
+  ends-still (ends-at u f) = ends-at u (λ w e. elim (h u w e) [ inl old ↦ ends-still (f w old) | inr ends ↦ ends ])
 
   -- where each wait that is new comes to an end
   pub each-ends : EachEnds s → EachEnds s'
@@ -59,11 +55,7 @@ module _ (s s' : Shelf) (v : ℕ) (i : Identity) (same : SameShelf (with_wait s 
     waiting = each-ends s s' (λ u w e. ask u w e (nat_eq u v) refl)
       where
         ask : (u w : ℕ) → WaitsFor s' u w → (b : Bool) → nat_eq u v ≡ b → WaitsFor s u w ⊎ Ends s' w
-        ask u w e false d = inl (was-for u w d e)
-        ask u w e true d =
-            let same_i : i ≡ e.i = some-same (sym (same.waits u ∙ ap (λ b. if b then Some i else s.waits u) d) ∙ e.waits) in
-            let is : open_worker (s.slots i) ≡ Some w = ap (λ k. open_worker (s.slots k)) same_i ∙ ap open_worker (sym (same.slots e.i)) ∙ e.still in
-            inr (subst (Ends s') (some-same (sym (ap open_worker o.claimed ∙ open-is slot o.no_result_yet) ∙ is)) (end-later c))
+        ask u w e b d = grind (arith, nat_tests, was-for, some-same, open-is, end-later)
 
 -- a claim that is made or refused
 pub taken-or-not : (s s' : Shelf) (v : ℕ) (i : Identity) → SameAt s.waits s'.waits → s.waits v ≡ None → SlotIs s.slots i (Some (claimed_by v)) s'.slots ⊎ SameSlots s.slots s'.slots → EachEnds s → EachEnds s'

@@ -22,18 +22,15 @@ module _ {N E : Type 0} (v : Values N) (s : PagerState N E) (r : ArcRef) (pin : 
     pub finds-other : (y : X) (e : Error) (t : ℕ) → t ≡ v.node_type (see y) → (t ≡ type_of r.kind.0 → ⊥) → Shares see s pin (Ok (Some y)) → Finds v s r pin (Err e)
     finds-other y e t is differs shared = record { found = λ p. tt; refused = λ p. absurd (differs (is ∙ (shared-some (see y) shared.given p).1)) }
 
-  none-written : (e : Error) → e ≡ Error.OutOfMemory → RefusesWriting v s r.node.0 e
-  none-written e oom is = let no : false ≡ true = sym (ap is_writing_fault oom) ∙ is in absurd (cc)
-
   pub unfound-refuses : (e : Error) → Finds v s r pin (Err e) → Forms v s r pin (Err e)
-  unfound-refuses e finds = record { written = λ p. tt; refused = λ p. (inr (finds.refused p), none-written e (finds.refused p)) }
+  unfound-refuses e finds = grind (arith, nat_tests, common_steps)
 
 module _ {N E : Type 0} (v : Values N) (s : PagerState N E) (r : ArcRef) (pin : HandleNumber) {W : Type 0} (see : W → Written) where
   pub forms-from : (x : N) (result : Result W Error) → IfOk result (λ d. IsForm v x (see d)) → IfErr result (λ e. WriteRefused v x e) → Finds v s r pin (Ok x) → Forms v s r pin (seen_as see result)
   forms-from x result is why finds = grind (arith, nat_tests, common_steps)
 
   pub kept-forms : (w : Written) (result : Result W Error) → IfOk result (λ p. see p ≡ w) → IfErr result (λ e. e ≡ Error.OutOfMemory) → Forms v s r pin (Ok w) → Forms v s r pin (seen_as see result)
-  kept-forms w result same only forms = grind (arith, nat_tests, common_steps, none-written)
+  kept-forms w result same only forms = grind (arith, nat_tests, common_steps)
 
 -- ---- the turn
 

@@ -69,8 +69,7 @@ raised-has Q kind height node f n is = grind (arith, nat_tests, some-same)
 -- of so many references that are done, the next is started, or none is left
 module _ (node : Option Node) (written : Written) (keys : List ℕ) (below : List Todo) (n : ℕ) (many : length keys ≡ n) where
   pub settled-all : length written.references ≤ n → waits_as node written keys ∷ below ≡ settle (waits_as node written keys ∷ below)
-  settled-all all = sym (settle-is node written keys below ∙ ap (λ k. next_start (place_of node) (drop k written.references) ++ waits_as node written keys ∷ below) many
-      ∙ at_drop_all (λ xs. next_start (place_of node) xs ++ waits_as node written keys ∷ below) written.references n all)
+  settled-all all = grind (arith, nat_tests, common_steps, at_drop_all, settle-is)
 
   pub settled-next : (r : ArcRef) (p : ℕ) → n < length written.references → r ≡ get_or written.references n r → p ≡ place_below (place_of node) r.kind.0
       → to_start r p ∷ waits_as node written keys ∷ below ≡ settle (waits_as node written keys ∷ below)

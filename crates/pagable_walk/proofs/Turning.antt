@@ -17,13 +17,9 @@ module _ (core : Core) (v : ℕ) (s s' : Shelf) (r : ArcRef) (place : ℕ) (belo
       → Finds v (site core s (to_start r place ∷ below)) r place below c (site core s' (claim_todo r place below (Ok c)))
   finds c w same = grind (arith, nat_tests, common_steps, turns)
 
-  why : (e : Error) → claim_fault core r ≡ None → RefusesClaim v s (identity_of r) place e
-      → (claim_fault core r ≡ Some e) ⊎ ((claim_fault core r ≡ None) × (e ≡ Error.TooDeep) × IsTooDeep s v (identity_of r) place) ⊎ (e ≡ Error.OutOfMemory)
-  why e none h = grind (arith, nat_tests)
-
   pub claims-there : (result : Result Claim Error) → claim_fault core r ≡ None → ClaimsThere v s (identity_of r) place result s'
       → Claims v (site core s (to_start r place ∷ below)) r place below result (site core s' (claim_todo r place below result))
-  claims-there result none there = grind (arith, nat_tests, common_steps, turns, finds, why)
+  claims-there result none there = grind (arith, nat_tests, common_steps, turns, finds)
 
   pub refuses : (e : Error) → claim_fault core r ≡ Some e → SameShelf (with_wait s v None) s'
       → Claims v (site core s (to_start r place ∷ below)) r place below (Err e) (site core s' (claim_todo r place below (Err e)))
