@@ -12,7 +12,7 @@ use Rattle.pagable_walk.{specs.declared.tasks.{Task.Task, Turn.Turn, Waiting.Wai
 
 module _ {X : Type 0} {g : Ghosts X} where
   pub stored-way : (node : Option Node) (written : Written) (keys : List ℕ) (key : ℕ) (turn : Turn X g) (path : List (Waiting X g)) → IsStored node key turn → IsWay (waits_as node written keys ∷ todos path) → IsWay (plan turn path)
-  stored-way node written keys key turn path is way = grind (arith, nat_tests, common_steps)
+  stored-way given written keys key turn path is way = grind (arith, nat_tests, common_steps)
 
 module _ {X : Type 0} {g : Ghosts X} {N E : Type 0} (v : Values N) (me : Owner) (n : ℕ) (shelf : Shelf) (below : List Todo) where
   module _ (w : Waiting X g) (way : IsWay (waiting_todo w ∷ below)) where

@@ -55,16 +55,16 @@ module _ {E : Type 0} {g : Ghosts E} where
 
 pub settle-is : (node : Option Node) (written : Written) (keys : List ℕ) (below : List Todo)
     → settle (waits_as node written keys ∷ below) ≡ next_start (place_of node) (drop (length keys) written.references) ++ waits_as node written keys ∷ below
-settle-is node written keys below = grind (arith, nat_tests)
+settle-is given written keys below = grind (arith, nat_tests)
 
 pub give-is : (node : Option Node) (written : Written) (keys : List ℕ) (below : List Todo) (r : ArcRef) (key height : ℕ)
     → give r key height (waits_as node written keys ∷ below) ≡ settle (waits_as (raised r.kind.0 height node) written (keys ++ key ∷ []) ∷ below)
-give-is node written keys below r key height = grind (arith, nat_tests)
+give-is given written keys below r key height = grind (arith, nat_tests)
 
 -- what holds of a node with the height by a reference too
 pub raised-has : (Q : Node → Type 0) (kind height : ℕ) (node : Option Node) → ((m : Node) → node ≡ Some m → Q (record m { height = max m.height (above kind height) }))
     → (n : Node) → raised kind height node ≡ Some n → Q n
-raised-has Q kind height node f n is = grind (arith, nat_tests, some-same)
+raised-has Q kind height given f n is = grind (arith, nat_tests, some-same)
 
 -- of so many references that are done, the next is started, or none is left
 module _ (node : Option Node) (written : Written) (keys : List ℕ) (below : List Todo) (n : ℕ) (many : length keys ≡ n) where
