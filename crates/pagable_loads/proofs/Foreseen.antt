@@ -78,7 +78,7 @@ module _ {X : Type 0} (r : Result (X × Rest Answer) Error) (k : ℕ) where
 
 -- ---- what comes next
 
-stopped_at : (found : Option ℕ) (r : Result (Meaning ArcRef × Rest Answer) Error) (kind : Kind) (key : ℕ) → next_by found r ≡ asks kind key → (r ≡ Err (Error.Storage kind.0)) × (found ≡ Some key)
+pub stopped_at : (found : Option ℕ) (r : Result (Meaning ArcRef × Rest Answer) Error) (kind : Kind) (key : ℕ) → next_by found r ≡ asks kind key → (r ≡ Err (Error.Storage kind.0)) × (found ≡ Some key)
 stopped_at None (Err (Error.Storage k)) kind key e = grind (arith, nat_tests)
 stopped_at found r kind key e = grind (arith, nat_tests)
 
@@ -116,9 +116,6 @@ row_found types f fs frames row xs noted last b there is split found asked =
     let of_row : kinds_of row ≡ kinds_of xs ++ last.kind.0 ∷ [] = ap kinds_of is ∙ kinds_joined xs (last ∷ []) in
     record { is = inr (f, fs, there, record { ahead = kinds_of noted; split = ap kinds_of (is ∙ split) ∙ kinds_joined f.got noted; each = λ got k more e. row_asked types f.node_type f.blob xs last.kind told.0 told.1 got k more (sym of_row ∙ e) }) }
 
-pub none_ahead : (types : Types) (frames : List Frame) (row : List ArcRef) → row ≡ [] → IsAhead types frames row
-none_ahead types frames row is = record { is = inl is }
-
 -- what stands in the row behind what was got
 next_in_row : (row got : List ArcRef) (r : ArcRef) (ahead : List ℕ) → kinds_of row ≡ kinds_of got ++ ahead → slice_get row (length got) ≡ Some r → (more : List ℕ) × (ahead ≡ r.kind.0 ∷ more)
 next_in_row [] [] r ahead is at = absurd (cc)
@@ -133,9 +130,6 @@ known types f row r h at = let n = next_in_row row f.got r h.ahead h.split at in
 pub still_ahead : (types : Types) (f : Frame) (row : List ArcRef) (r s : ArcRef) → Foresees types f (kinds_of row) → slice_get row (length f.got) ≡ Some r → s.kind.0 ≡ r.kind.0
     → Foresees types (record f { got = f.got ++ s ∷ [] }) (kinds_of row)
 still_ahead types f row r s h at same = grind (arith, nat_tests, append_assoc, kinds_joined, next_in_row)
-
-lazy_need : (types : Types) (f : Frame) (fs : List Frame) (kind : Kind) (key : ℕ) → next_of types f.node_type f.blob f.got ≡ asks kind key → is_eager kind.0 ≡ false → need_of types (f ∷ fs) ≡ needs_lazy kind key
-lazy_need types f fs kind key next is = ap (need_at fs) next ∙ ap (λ b. if b then needs_nested kind key else needs_lazy kind key) is
 
 -- what a row tells of the innermost blob
 pub row_tells : (types : Types) (top : Frame) (fs frames : List Frame) (row : List ArcRef) (r : ArcRef) (key place : ℕ) → frames ≡ top ∷ fs → place ≡ length top.got → slice_get row place ≡ Some r
@@ -165,12 +159,12 @@ row_tells types top fs frames row r key place is count at_row at_key later h = e
           r = r;
           at = at;
           of_kind = refl;
-          need = ap (need_of types) is ∙ lazy_need types top fs r.kind key (a.next ∙ ap (asks r.kind) same) later;
+          need = ap (need_of types) is ∙ ap (need_at fs) (a.next ∙ ap (asks r.kind) same) ∙ ap (λ b. if b then needs_nested r.kind key else needs_lazy r.kind key) later;
         }
 
 -- and it does so of what is left, where the reference is of the kind
 pub row_goes_on : (types : Types) (old new : List Frame) (row after : List ArcRef) (kind : Kind) (key : ℕ) (s : ArcRef) → RowTells types old row kind key → GotMore old new s → Kept kind s row after → IsAhead types new after
-row_goes_on types old new row after kind key s t g (inr none) = none_ahead types new after none
+row_goes_on types old new row after kind key s t g (inr none) = record { is = inl none }
 row_goes_on types old new row after kind key s t g (inl (same, is)) = record { is = inr (record g.f { got = g.f.got ++ s ∷ [] }, g.fs, g.is, subst (λ (rs : List ArcRef). Foresees types (record g.f { got = g.f.got ++ s ∷ [] }) (kinds_of rs)) (sym is) still) }
   where
     one : t.f ≡ g.f

@@ -159,21 +159,20 @@ module _ {N : Type 0} (E : Type 0) (v : Values N) (me : Owner) (own : Own) where
 
     pub adopt_refused : (e : Error × N) (frames : List Frame) (s t : PagerState N E)
         → Brings v (λ w'. AdoptsValue s.core me own.load top.kind top.key x (v.node_type x) (v.references x) (Err e) w') (λ n y. (y ≡ x) × IsNewNode s.core n) s t → Tries v me own s (Err e.0) frames t
-    adopt_refused e frames s t c = fails (λ o. record { meets = inr (inr (inr (inr (inl (record { x = x; reads_node = node; adopted = again a.adopted }))))); moves = brought c.moves })
+    adopt_refused e frames s t c =
+        fails (λ o. record {
+          meets = inr (inr (inr (inr (inl (record { x = x; reads_node = node; adopted = record { adopts = tt; refused = (refl, a.adopted.refused.1) } })))));
+          moves = brought c.moves;
+        })
       where
         a : AdoptsValue s.core me own.load node.top.kind node.top.key x (v.node_type x) (v.references x) (Err e) t.core
         a = adopted_as c.step
 
-        again : AdoptCall s.core me own.load node.top.kind node.top.key x (v.node_type x) (v.references x) (Err e) t.core → AdoptCall s.core me own.load node.top.kind node.top.key x (v.node_type x) (v.references x) (Err (e.0, x)) t.core
-        again call = record { adopts = tt; refused = (refl, call.refused.1) }
-
   cell_of : (root : Root) → is_cell root ≡ true → IsOfCell root
-  cell_of (of_cell node t h) is = tt
-  cell_of of_key is = absurd (cc)
+  cell_of root is = grind (arith, nat_tests)
 
   key_of : (root : Root) → is_cell root ≡ false → IsOfKey root
-  key_of (of_cell node t h) is = absurd (cc)
-  key_of of_key is = tt
+  key_of root is = grind (arith, nat_tests)
 
   module _ (x : N) (root : ReadsRoot v reading x) (cell : own.for_cell ≡ true) where
     for_cell : (w : Core) → IsLoadOf w me own → LoadIs w reading IsOfCell
@@ -204,9 +203,7 @@ module _ {N : Type 0} (E : Type 0) (v : Values N) (me : Owner) (own : Own) where
   -- ---- a refusal gives the load up
 
   owner_self : (o : Owner) → is_owner o o ≡ true
-  owner_self Owner.Caller = refl
-  owner_self Owner.List = refl
-  owner_self o = grind arith
+  owner_self o = grind (arith, nat_tests)
 
   usable_load : (w : Core) (load : OpenLoad) → OwnsLoad w me own.load load → load_fault w me own.load ≡ None
   usable_load w load o = ap (λ (l : Option OpenLoad). if_there (λ (load : OpenLoad). refused_if (not (is_owner me load.owner)) Error.NotYours) (Some Error.NoSuchHandle) l) o.stands_open ∙ ap (λ owner. refused_if (not (is_owner me owner)) Error.NotYours) o.own ∙ ap (λ b. refused_if (not b) Error.NotYours) (owner_self me)
