@@ -8,11 +8,7 @@ use Rattle.pagable_loads.specs.{Frames.{IsLoadOf, frames_of, reading_of}, Steppi
 module _ {N : Type 0} (v : Values N) (me : Owner) where
   -- while there is more the load stays open
   pub goes_open : (w w' : Core) (reading : Reading) (frames : List Frame) → GoesOn v w me reading frames w' → w'.loads reading.load.0 ≡ w.loads reading.load.0
-  goes_open w w' reading frames (inl g) = g.asked.gives.2.asked.leaves.loads reading.load.0
-  goes_open w w' reading frames (inr (inl g)) = g.asked.gives.2.leaves.loads reading.load.0
-  goes_open w w' reading frames (inr (inr (inl g))) = g.asked.gives.2.1.asked.leaves.loads reading.load.0
-  goes_open w w' reading frames (inr (inr (inr (inl g)))) = first_of (grind (arith, common_steps, nat_tests), search (rules))
-  goes_open w w' reading frames (inr (inr (inr (inr g)))) = first_of (grind (arith, common_steps, nat_tests), search (rules))
+  goes_open w w' reading frames g = grind (arith, common_steps, nat_tests)
 
 module _ {N E : Type 0} (v : Values N) (me : Owner) where
   module _ (own now : Own) (s m t : PagerState N E) (gone : HasGone v me own now s m) where

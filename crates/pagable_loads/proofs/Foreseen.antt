@@ -164,11 +164,4 @@ row_tells types top fs frames row r key place is count at_row at_key later h = e
 
 -- and it does so of what is left, where the reference is of the kind
 pub row_goes_on : (types : Types) (old new : List Frame) (row after : List ArcRef) (kind : Kind) (key : ℕ) (s : ArcRef) → RowTells types old row kind key → GotMore old new s → Kept kind s row after → IsAhead types new after
-row_goes_on types old new row after kind key s t g (inr none) = record { is = inl none }
-row_goes_on types old new row after kind key s t g (inl (same, is)) = record { is = inr (record g.f { got = g.f.got ++ s ∷ [] }, g.fs, g.is, subst (λ (rs : List ArcRef). Foresees types (record g.f { got = g.f.got ++ s ∷ [] }) (kinds_of rs)) (sym is) still) }
-  where
-    one : t.f ≡ g.f
-    one = let same : t.f ∷ t.fs ≡ g.f ∷ g.fs = sym t.there ∙ g.was in cc
-
-    still : Foresees types (record g.f { got = g.f.got ++ s ∷ [] }) (kinds_of row)
-    still = still_ahead types g.f row t.r s (subst (λ (f : Frame). Foresees types f (kinds_of row)) one t.foresees) (subst (λ (f : Frame). slice_get row (length f.got) ≡ Some t.r) one t.at) (same ∙ ap (λ (k : Kind). k.0) t.of_kind)
+row_goes_on types old new row after kind key s t g kept = grind (arith, nat_tests, still_ahead)

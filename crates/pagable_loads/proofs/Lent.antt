@@ -29,12 +29,7 @@ module _ {A N E : Type 0} (see : A → N) (s : PagerState N E) (got : List ArcRe
   none_lent is = grind (arith, nat_tests, any_passes_from_place, slice_get)
 
   pub more_lent : (i : ℕ) (r : ArcRef) (lent : List (Option A)) (o : Option A) → length lent ≡ i → slice_get got i ≡ Some r → LentTo i lent → Lends s r (option_map see o) → LentTo (i + 1) (lent ++ o ∷ [])
-  more_lent i r lent o same here to lends place q before there = elim (pushed_at lent o place (omega (arith, before, same))) [
-    | inl (less, is) ↦ subst (λ found. Lends s q (option_map see (option_and_then (λ x. x) found))) (sym is) (to place q (omega (arith, less, same)) there)
-    | inr (at, is) ↦
-        let own : r ≡ q = let e : Some r ≡ Some q = sym here ∙ ap (slice_get got) (sym (at ∙ same)) ∙ there in cc in
-        subst (λ found. Lends s q (option_map see (option_and_then (λ x. x) found))) (sym is) (subst (λ (x : ArcRef). Lends s x (option_map see o)) own lends)
-  ]
+  more_lent i r lent o same here to lends = grind (arith, nat_tests, pushed_at)
 
   -- all of them do
   pub all_lent : (i : ℕ) (lent : List (Option A)) → length got ≤ i → LentTo i lent → LendsEach see s got lent

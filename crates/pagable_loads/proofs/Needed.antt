@@ -25,8 +25,7 @@ reads_with own means nodes parts t env other levels got found bytes keys blob st
 
 -- a refusal that is none of Storage asks for nothing
 pub asks_nothing : (e : Error) → ((kind : ℕ) → e ≡ Error.Storage kind → ⊥) → is_asking e ≡ false
-asks_nothing (Error.Storage k) other = absurd (other k refl)
-asks_nothing e other = refl
+asks_nothing e other = grind (arith, nat_tests)
 
 module _ {N : Type 0} (v : Values N) (t : ℕ) (blob : Blob) (got : List ArcRef) where
   pub is_read : (x : N) → v.node_type x ≡ t → ReadsWith v t blob got (Ok x) → Decodes v t blob got (Decoded.Read x)
@@ -65,8 +64,7 @@ two_frames o top under got below rest a b same =
     ap (λ x. frames_of x below) a ∙ ap (λ fs. frame_of top ∷ onto [] fs) b ∙ ap (λ fs. frame_of top ∷ fs) (onto_more [] rest under) ∙ ap (λ (got : List ArcRef). frame_of top ∷ record (frame_of under) { got = got } ∷ onto [] rest) (sym same)
 
 adopts : (below : List Frame) (own : Meaning ArcRef) → 0 < length below → need_at below (reads own) ≡ to_adopt
-adopts [] own some = absurd (omega (arith, some))
-adopts (f ∷ fs) own some = refl
+adopts below own some = grind (arith, nat_tests)
 
 module _ {N : Type 0} (v : Values N) (own : Own) (top : Held) (is : own.top ≡ Some top) (x : N) (read : IsReadAs v top.node_type (blob_of (arc_value top.blob)) top.got.items x) where
   frames : frames_of own.top own.below.items ≡ frame_of top ∷ onto [] own.below.items
@@ -76,16 +74,7 @@ module _ {N : Type 0} (v : Values N) (own : Own) (top : Held) (is : own.top ≡ 
   decoded = record { own = read.own; read = read.read; typed = read.typed; means = read.means }
 
   node : 0 < length own.below.items → ReadsNode v (reading_of own) x
-  node some =
-      let l = length_onto [] own.below.items in
-      let more : 0 < length (onto [] own.below.items) = omega (arith, l, some) in
-      record {
-        top = frame_of top;
-        below = onto [] own.below.items;
-        frames = frames;
-        needs = ap (need_of v.types) frames ∙ ap (need_at (onto [] own.below.items)) read.read ∙ adopts (onto [] own.below.items) read.own more;
-        decoded = decoded;
-      }
+  node some = grind (arith, nat_tests, length_onto, adopts)
 
   root : own.below.items ≡ [] → ReadsRoot v (reading_of own) x
   root none = record { root = frame_of top; frames = frames ∙ ap (λ fs. frame_of top ∷ fs) (onto_none own.below.items none); decoded = decoded }

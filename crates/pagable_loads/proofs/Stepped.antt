@@ -210,13 +210,7 @@ module _ {N : Type 0} (E : Type 0) (v : Values N) (me : Owner) (own : Own) where
 
   -- while it is met the load stays open
   stays_open : (w w' : Core) (e : Error) → Meets v w me reading e w' → w'.loads own.load.0 ≡ w.loads own.load.0
-  stays_open w w' e (inl (why, a)) = a.loads own.load.0
-  stays_open w w' e (inr (inl (first, asked))) = elim asked.refused [ inl r ↦ r.stays.loads own.load.0 | inr (load, owned, f) ↦ f.asked.leaves.loads own.load.0 ]
-  stays_open w w' e (inr (inr (inl (kind, key, need, inl asked)))) = elim asked.refused [ inl r ↦ r.stays.loads own.load.0 | inr (load, owned, f) ↦ f.1.asked.leaves.loads own.load.0 ]
-  stays_open w w' e (inr (inr (inl (kind, key, need, inr (blob, is, long, asked))))) = let g = asked.gives.2.1 in g.asked.leaves.loads own.load.0
-  stays_open w w' e (inr (inr (inr (inl (kind, key, need, lazy))))) = lazy.refused.stays.loads own.load.0
-  stays_open w w' e (inr (inr (inr (inr (inl r))))) = r.adopted.refused.1.stays.loads own.load.0
-  stays_open w w' e (inr (inr (inr (inr (inr r))))) = elim r.refuses [ inl (is, ended) ↦ ended.refused.1.stays.loads own.load.0 | inr (is, handed) ↦ handed.refused.1.loads own.load.0 ]
+  stays_open w w' e m = grind (arith, common_steps, nat_tests)
 
   closes : (mid t : Core) (told : Result (Unit {0}) Error) (load : OpenLoad) → OwnsLoad mid me own.load load → DropCall mid me own.load told t → LoadCloses mid own.load told t
   closes mid t told load o d = grind (arith, nat_tests, usable_load)
