@@ -28,11 +28,7 @@ from xs place = elim (slice_get_cases xs place).1 [
 -- ---- what the answers say of the kinds
 
 one_kind : (x : ArcRef) (n : ℕ) (P : Type 0) (Q : Error → Type 0) → Answered (answer_of (Some x) n) P Q → ((x.kind.0 ≡ n) × P) ⊎ (((x.kind.0 == n) ≡ false) × Q Error.WrongKind)
-one_kind x n P Q = by (x.kind.0 == n) refl
-  where
-    by : (b : Bool) → (x.kind.0 == n) ≡ b → Answered (if b then Ok x else Err Error.WrongKind) P Q → ((x.kind.0 ≡ n) × P) ⊎ (((x.kind.0 == n) ≡ false) × Q Error.WrongKind)
-    by true is h = inl (grind arith, h)
-    by false is h = inr (is, h)
+one_kind x n P Q h = grind (arith, nat_tests)
 
 module _ {X : Type 0} (r : Result (X × Rest Answer) Error) (k : ℕ) where
   -- a reading that stops at the first reference that wasn't got asked for all that were, by their kinds
@@ -136,31 +132,15 @@ pub row_tells : (types : Types) (top : Frame) (fs frames : List Frame) (row : Li
     → slice_get top.blob.keys place ≡ Some key → is_eager r.kind.0 ≡ false → IsAhead types frames row → RowTells types frames row r.kind key
 row_tells types top fs frames row r key place is count at_row at_key later h = elim h.is [
   | inl none ↦ absurd (let e : slice_get [] place ≡ Some r = subst (λ (rs : List ArcRef). slice_get rs place ≡ Some r) none at_row in cc)
-  | inr (f, gs, same, foresees) ↦ by f gs (sym same ∙ is) foresees
+  | inr (f, gs, same, foresees) ↦
+      let one : f ≡ top = let e : f ∷ gs ≡ top ∷ fs = sym same ∙ is in cc in
+      let at : slice_get row (length f.got) ≡ Some r = rw (one, sym count) at_row in
+      let there : slice_get f.blob.keys (length f.got) ≡ Some key = rw (one, sym count) at_key in
+      let a = known types f row r foresees at in
+      let own : a.key ≡ key = let k : Some a.key ≡ Some key = sym a.there ∙ there in cc in
+      let need = ap (need_of types) same ∙ ap (need_at gs) (a.next ∙ ap (asks r.kind) own) ∙ ap (λ b. if b then needs_nested r.kind key else needs_lazy r.kind key) later in
+      record { f = f; fs = gs; there = same; foresees = foresees; r = r; at = at; of_kind = refl; need = need }
 ]
-  where
-    at : slice_get row (length top.got) ≡ Some r
-    at = subst (λ n. slice_get row n ≡ Some r) count at_row
-
-    there : slice_get top.blob.keys (length top.got) ≡ Some key
-    there = subst (λ n. slice_get top.blob.keys n ≡ Some key) count at_key
-
-    by : (f : Frame) (gs : List Frame) → f ∷ gs ≡ top ∷ fs → Foresees types f (kinds_of row) → RowTells types frames row r.kind key
-    by f gs e foresees =
-        let one : f ≡ top = cc in
-        let own = subst (λ (f : Frame). Foresees types f (kinds_of row)) one foresees in
-        let a = known types top row r own at in
-        let same : a.key ≡ key = let k : Some a.key ≡ Some key = sym a.there ∙ there in cc in
-        record {
-          f = top;
-          fs = fs;
-          there = is;
-          foresees = own;
-          r = r;
-          at = at;
-          of_kind = refl;
-          need = ap (need_of types) is ∙ ap (need_at fs) (a.next ∙ ap (asks r.kind) same) ∙ ap (λ b. if b then needs_nested r.kind key else needs_lazy r.kind key) later;
-        }
 
 -- and it does so of what is left, where the reference is of the kind
 pub row_goes_on : (types : Types) (old new : List Frame) (row after : List ArcRef) (kind : Kind) (key : ℕ) (s : ArcRef) → RowTells types old row kind key → GotMore old new s → Kept kind s row after → IsAhead types new after

@@ -21,9 +21,7 @@ abbrev NeedsOne : Need → Kind → ℕ → Type 0
 NeedsOne need kind key = (need ≡ needs_nested kind key) ⊎ (need ≡ needs_lazy kind key)
 
 one_asked : (fs : List Frame) (next : Next) (kind : Kind) (key : ℕ) → NeedsOne (need_at fs next) kind key → (k : Kind) × (q : ℕ) × (next ≡ asks k q)
-one_asked fs (asks k q) kind key e = (k, q, refl)
-one_asked [] (reads own) kind key e = absurd (elim e [ inl h ↦ cc | inr h ↦ cc ])
-one_asked fs next kind key e = absurd (elim e [ inl h ↦ cc | inr h ↦ cc ])
+one_asked fs next kind key e = grind arith
 
 wants : (types : Types) (old : List Frame) (f : Frame) (fs : List Frame) (kind : Kind) (key : ℕ) → old ≡ f ∷ fs → NeedsOne (need_of types old) kind key
     → length f.got < length f.blob.keys

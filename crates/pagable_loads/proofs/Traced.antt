@@ -1,6 +1,6 @@
 -- What a reading asks for is told by its bytes alone: kinds, one after the other, up to its end or its fault, whatever is answered.
 use Rattle.std.proofs.Common.{◌≡◌, ℕ, zero, suc, ◌+◌, ◌-◌, ◌/◌, ◌^◌, Bool, true, false, if◌then◌else◌, List, [], ◌∷◌, ◌++◌, length, Option, Some, None, Result, Ok, Err, refl, subst, ◌==◌}
-use Rattle.{std.{proofs.lemmas.List.append-nil, specs.{Prelude.{nat_lt, nat_le}, Int.{Width, w8, w32, w64}, Str.{is_utf8, chars}}}, pagable_model.specs.declared.error.Error.Error}
+use Rattle.{std.{proofs.{Common.arith, lemmas.{Bool.Decides.nat_tests, List.append-nil}}, specs.{Prelude.{nat_lt, nat_le}, Int.{Width, w8, w32, w64}, Str.{is_utf8, chars}}}, pagable_model.specs.declared.error.Error.Error}
 use Rattle.pagable_model.specs.{declared.numbers.ArcRef.ArcRef, Steps.◌>>=◌, Numbers.{Read, byte_at, varint_at, unsigned_at, signed_at}, Basic.{length_at, bytes_at, text_at, bool_at, one_char}}
 use Rattle.pagable_model.specs.{Basic.{char_at, duration_at, longest, nanos_of_second}, Meaning.{Meaning, integer, none, variant, sequence, entry, absent, present, success, failure, lifted}}
 use Rattle.pagable_model.specs.{Keys.{text_order, put_all, put_sorted}, Carried.{of_entries, of_tagged, of_hash_map}, Shape.{Shape, nothing, unsigned, signed, flag, letter, duration, json, optional}}
@@ -17,16 +17,13 @@ Sober (Ok x) = Unit {0}
 Sober (Err e) = is_asking e ≡ false
 
 sober_then : {A B : Type 0} (r : Result A Error) (f : A → Result B Error) → Sober r → ((x : A) → Sober (f x)) → Sober (r >>= f)
-sober_then (Ok x) f h k = k x
-sober_then (Err e) f h k = h
+sober_then r f h k = grind (arith, nat_tests)
 
 sober_if : {A : Type 0} (b : Bool) (r q : Result A Error) → Sober r → Sober q → Sober (if b then r else q)
-sober_if true r q h k = h
-sober_if false r q h k = k
+sober_if b r q h k = grind (arith, nat_tests)
 
 sober_byte : (bytes : List ℕ) → Sober (byte_at bytes)
-sober_byte [] = refl
-sober_byte (b ∷ bytes) = tt
+sober_byte bytes = grind (arith, nat_tests)
 
 sober_varint : (more last : ℕ) (bytes : List ℕ) → Sober (varint_at more last bytes)
 unfolding varint_at
@@ -53,15 +50,10 @@ sober_text bytes = sober_then (length_at bytes) _ (sober_length bytes)
 
 sober_flag : (bytes : List ℕ) → Sober (bool_at bytes)
 unfolding bool_at
-sober_flag [] = refl
-sober_flag (zero ∷ bytes) = tt
-sober_flag (suc zero ∷ bytes) = tt
-sober_flag (suc (suc b) ∷ bytes) = refl
+sober_flag bytes = grind (arith, nat_tests)
 
 sober_one : (cs bytes : List ℕ) → Sober (one_char cs bytes)
-sober_one [] bytes = refl
-sober_one (c ∷ []) bytes = tt
-sober_one (c ∷ d ∷ cs) bytes = refl
+sober_one cs bytes = grind (arith, nat_tests)
 
 sober_char : (bytes : List ℕ) → Sober (char_at bytes)
 unfolding char_at
@@ -112,8 +104,7 @@ pub record Traced {X : Type 0} (get : Gets Answer X) : Type 0 where
 
 -- an answer leads to what comes of a reference, or of a refusal
 answered_map : (o : Result ArcRef Error) {P P' : Type 0} {Q Q' : Error → Type 0} → (P → P') → ((e : Error) → Q e → Q' e) → Answered o P Q → Answered o P' Q'
-answered_map (Ok r) f g h = f h
-answered_map (Err e) f g h = g e h
+answered_map o f g h = grind (arith, nat_tests)
 
 module _ {X Y : Type 0} (f : X × Rest Answer → Result (Y × Rest Answer) Error) where
   refused_then : (r : Result (X × Rest Answer) Error) (e : Error) → r ≡ Err e → (r >>= f) ≡ Err e
@@ -209,14 +200,8 @@ asks_one : (kind : ℕ) → Traced (λ (i : Rest Answer). reference_at answer_at
 unfolding Goes
 asks_one kind = record { on = λ bytes. record { kinds = kind ∷ []; end = done bytes; goes = λ refs. by bytes refs } }
   where
-    at : (bytes : List ℕ) (refs : List Answer) (o : Result ArcRef Error)
-        → Answered o (Ends (done bytes) refs (o >>= λ b. let z : Result (Meaning ArcRef × Rest Answer) Error = Ok (meanings.reference b, left bytes refs) in z)) (λ e. (o >>= λ b. let z : Result (Meaning ArcRef × Rest Answer) Error = Ok (meanings.reference b, left bytes refs) in z) ≡ Err e)
-    at bytes refs (Ok r) = (meanings.reference r, refl)
-    at bytes refs (Err e) = refl
-
     by : (bytes : List ℕ) (refs : List Answer) → Goes (kind ∷ []) (done bytes) refs (reference_at answer_at kind refs (left bytes refs))
-    by bytes [] = refl
-    by bytes (a ∷ refs) = at bytes refs (a kind)
+    by bytes refs = grind (arith, nat_tests)
 
 -- ---- values
 
