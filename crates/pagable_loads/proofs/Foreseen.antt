@@ -75,7 +75,6 @@ module _ {X : Type 0} (r : Result (X × Rest Answer) Error) (k : ℕ) where
 -- ---- what comes next
 
 pub stopped_at : (found : Option ℕ) (r : Result (Meaning ArcRef × Rest Answer) Error) (kind : Kind) (key : ℕ) → next_by found r ≡ asks kind key → (r ≡ Err (Error.Storage kind.0)) × (found ≡ Some key)
-stopped_at None (Err (Error.Storage k)) kind key e = grind (arith, nat_tests)
 stopped_at found r kind key e = grind (arith, nat_tests)
 
 module _ (types : Types) (t : ℕ) (blob : Blob) where
@@ -88,21 +87,13 @@ module _ (types : Types) (t : ℕ) (blob : Blob) where
       let s = stopped_at (slice_get blob.keys (length xs)) (read_with types t blob xs) kind key next in
       let a = asked_kinds (read_with types t blob xs) kind.0 trace.kinds trace.end xs 0 blob.keys (trace.goes (answers_from xs 0 blob.keys)) s.0 in
       let within = slice_get_within blob.keys (length xs) key s.1 in
-      let many = ap length is in
-      let short : length got < length blob.keys = fewer many within in
+      let short : length got < length blob.keys =
+      omega (arith, within, ap length is, length-append (kinds_of xs) (kind.0 ∷ []), length-append (kinds_of got) (k ∷ back), as_many xs, as_many got) in
       let there = slice_get-get_or blob.keys (length got) 0 short in
       let all : trace.kinds ≡ kinds_of got ++ k ∷ (back ++ a.0) =
       a.1 ∙ sym (append_assoc (kinds_of xs) (kind.0 ∷ []) a.0) ∙ ap (λ ks. ks ++ a.0) is ∙ append_assoc (kinds_of got) (k ∷ back) a.0 in
       let stop = asks_so (read_with types t blob got) k trace.kinds trace.end got 0 blob.keys (back ++ a.0) all (omega arith) (omega (arith, short)) (trace.goes (answers_from got 0 blob.keys)) in
       record { key = _; there = there; next = ap (next_by (slice_get blob.keys (length got))) stop ∙ ap (λ o. next_by o (Err (Error.Storage k))) there }
-    where
-      fewer : length (kinds_of xs ++ kind.0 ∷ []) ≡ length (kinds_of got ++ k ∷ back) → length xs < length blob.keys → length got < length blob.keys
-      fewer many within =
-          let a = length-append (kinds_of xs) (kind.0 ∷ []) in
-          let b = length-append (kinds_of got) (k ∷ back) in
-          let c = as_many xs in
-          let d = as_many got in
-          omega (arith, many, within, a, b, c, d)
 
 -- a row that was found by stand-ins, the last of which is asked for after all others
 pub row_found : (types : Types) (f : Frame) (fs frames : List Frame) (row xs noted : List ArcRef) (last : ArcRef) (b : Bool) → frames ≡ f ∷ fs

@@ -99,8 +99,7 @@ module _ {N E : Type 0} (v : Values N) (h : HandleNumber) where
       (record { step = grind (arith, common_steps, nat_tests); moves = record { each = λ n x has. inl has; environment = refl }; whole = whole })
 
   back : (s mid low : PagerState N E) (was : Bool) (row : HandleRow) → row_at s.core h ≡ Some row → is_loose row.mode ≡ true → was ≡ is_unpinned row.mode → WellFormed v mid → Unpins v was h mid low → IsUnpinnedBack v s.core h mid low
-  back s mid low true row live loose is whole u = inl (row, u.0, live, unpinned_so row.mode (sym is), u.1)
-  back s mid low false row live loose is whole u = inr (row, live, pinned_so row.mode loose (sym is), nothing_goes mid low whole u)
+  back s mid low was row live loose is whole u = grind (arith, nat_tests, unpinned_so, pinned_so, nothing_goes)
 
   -- ---- its answer
 

@@ -122,8 +122,7 @@ module _ {X Y : Type 0} (f : X × Rest Answer → Result (Y × Rest Answer) Erro
 module _ {X Y : Type 0} (view : X → Y) where
   ends_seen : (end : End) (refs : List Answer) (r : Result (X × Rest Answer) Error) → Ends end refs r → Goes [] end refs (r >>= λ x. let o : Result (Y × Rest Answer) Error = Ok (view x.0, x.1) in o)
   unfolding Goes
-  ends_seen (done bytes) refs r (x, is) = (view x, rw is refl)
-  ends_seen (faulty e sober) refs r is = rw is refl
+  ends_seen end refs r is = grind (arith, nat_tests)
 
   goes_seen : (ks : List ℕ) (end : End) (refs : List Answer) (r : Result (X × Rest Answer) Error) → Goes ks end refs r → Goes ks end refs (r >>= λ x. let o : Result (Y × Rest Answer) Error = Ok (view x.0, x.1) in o)
   goes_seen ks end refs r h = subst (λ l. Goes l end refs (r >>= λ x. let o : Result (Y × Rest Answer) Error = Ok (view x.0, x.1) in o)) (append-nil ks) (goes_then _ ks [] end end (ends_seen end) refs r h)

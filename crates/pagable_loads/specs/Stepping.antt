@@ -43,10 +43,6 @@ pub record TakenTwo (old new : Own) (top under : Held) : Type 0 where
   pub frames : frames_of old.top old.below.items ≡ frame_of top ∷ frame_of under ∷ onto [] new.below.items
   pub room : vec_len under.got < vec_capacity under.got
 
--- the blob is the innermost, and has got this reference besides
-pub record Gets (old new : Own) (top : Held) (r : ArcRef) : Type 0 where
-  pub frames : frames_of new.top new.below.items ≡ record (frame_of top) { got = top.got.items ++ r ∷ [] } ∷ onto [] old.below.items
-
 -- all steps of a load that is open, and is what its own side says
 pub record Runs {N E : Type 0} (v : Values N) (me : Owner) (own : Own) (s : PagerState N E) (answer : LoadAnswer N) (t : PagerState N E) : Type 0 where
   pub run : IsLoadOf s.core me own → LoadRun v me (reading_of own) s answer t

@@ -4,7 +4,7 @@ use Rattle.pagable_loads.proofs.reading.Reading.step_nested.Goals as goal
 
 pub returns-in-Ok-Left-clause-acts : goal.returns-in-Ok-Left-clause-acts
 returns-in-Ok-Left-clause-acts g c =
-    acts_map (rw c.in-Ok-Left.field-0-is at c.in-Ok-Left.ensures) (nested_known _ _ _ c.args.self.now c.args.kind c.args.key c.in_ok-top.top _ c.in_ok-top.ensures.ok.frames (λ d. blob_of (arc_value d)) c.requires.need c.in-Ok-Left.reference _ c.put_got.ensures.gets.frames)
+    acts_map (rw c.in-Ok-Left.field-0-is at c.in-Ok-Left.ensures) (nested_known _ _ _ c.args.self.now c.args.kind c.args.key c.in_ok-top.top _ c.in_ok-top.ensures.ok.frames (λ d. blob_of (arc_value d)) c.requires.need c.in-Ok-Left.reference _ c.put_got.ensures.gets)
 
 pub returns-in-Ok-clause-acts : goal.returns-in-Ok-clause-acts
 returns-in-Ok-clause-acts g c =
@@ -21,7 +21,7 @@ returns-in-Err-clause-acts g c =
 pub returns-in-Ok-Left-clause-leads : goal.returns-in-Ok-Left-clause-leads
 returns-in-Ok-Left-clause-leads g c =
     got_leads _ (frame_of c.in_ok-top.top) (onto [] c.take_top.new.self.below.items) c.in-Ok-Left.reference c.args.kind c.args.key (inl c.requires.need)
-    c.in_ok-top.ensures.ok.frames c.put_got.ensures.gets.frames
+    c.in_ok-top.ensures.ok.frames c.put_got.ensures.gets
 
 pub returns-in-Ok-clause-leads : goal.returns-in-Ok-clause-leads
 returns-in-Ok-clause-leads g c =
