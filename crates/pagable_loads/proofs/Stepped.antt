@@ -5,7 +5,7 @@ use Rattle.pagable_model.specs.{declared.numbers.{ArcRef.ArcRef, HandleNumber.Ha
 use Rattle.{pagable_model.specs.Deep.longest_path, pagable_world.specs.{declared.{events.LoadAnswer.LoadAnswer, handles.Owner.Owner, calls.Want.Want}, Kinds.is_owner, Plain.if_there, World.Core}}
 use Rattle.pagable_world.specs.{World.{Root, of_cell, of_key, OpenLoad, Frame, Reading, Values}, Refusals.{OwnsLoad, refused_if, load_fault}, LoadCalls.{from_store, AskCall, AdoptCall, EndCall}}
 use Rattle.pagable_world.specs.{LoadCalls.{HandOverCall, DropCall, LoadCloses}, Loads.{need_of, needs_nested, needs_lazy, root_frame, nested_frame, with_got, handles_of, MakesNode, ReadsNode}}
-use Rattle.pagable_world.specs.{Loads.{ReadsRoot, LoadIs, IsOfCell, IsOfKey, Meets, Does}, Pager.{PagerState, Moves, ReadingBrings, IsNewNode, IsCellOf}, Access.{Told, Called, ReadingStep}}
+use Rattle.pagable_world.specs.{Loads.{IsDecoded, ReadsRoot, LoadIs, IsOfCell, IsOfKey, Meets, Does}, Pager.{PagerState, Moves, ReadingBrings, IsNewNode, IsCellOf}, Access.{Told, Called, ReadingStep}}
 use Rattle.pagable_loads.specs.Telling.{Acting, Acts, ActsThen, Tells, Brings, IsMade, AsksFor, TakesLazily, AdoptsValue}
 use Rattle.pagable_loads.specs.{Frames.{frame_of, frames_of, onto, reading_of, is_cell, IsLoadOf}, Stepping.{Met, Tries, Steps, Drops}}
 use Rattle.{pagable_loads.{specs.declared.reading.{Frame.Frame as Held, Reading.Reading as Own}, proofs.Needed.length_onto}, either.specs.declared.Either.Either}
@@ -123,50 +123,30 @@ module _ {N : Type 0} (E : Type 0) (v : Values N) (me : Owner) (own : Own) where
       lazy_refused e frames s t c = fails (λ o. met c (inr (inr (inr (inl (kind, key, need, c.step.taken))))))
 
   module _ (x : N) (node : ReadsNode v reading x) (top under : Held) (rest : List Held) (was : frames_of own.top own.below.items ≡ frame_of top ∷ frame_of under ∷ onto [] rest) where
-    both : frame_of top ∷ frame_of under ∷ onto [] rest ≡ node.top ∷ node.below
-    both = sym was ∙ node.frames
-
-    top_is : frame_of top ≡ node.top
-    top_is = cc (both)
-
-    below_is : frame_of under ∷ onto [] rest ≡ node.below
-    below_is = cc (both)
+    -- the same by the blobs that were taken off
+    abbrev own_node : ReadsNode v reading x
+    own_node = let is : frame_of top ≡ node.top = let e : frame_of top ∷ frame_of under ∷ onto [] rest ≡ node.top ∷ node.below = sym was ∙ node.frames in cc in
+        record { top = frame_of top; below = frame_of under ∷ onto [] rest; frames = was; needs = node.needs; decoded = subst (λ (f : Frame). IsDecoded v f x) (sym is) node.decoded }
 
     brought : {s t : PagerState N E} → Moves (λ n y. (y ≡ x) × IsNewNode s.core n) s t → Moves (ReadingBrings v s.core reading) s t
     brought {s} m = comes_as (λ n y came. inl (subst (ReadsNode v reading) (sym came.0) node, came.1)) m
-
-    adopted_as : {r : Result ArcRef (Error × N)} {w w' : Core} → AdoptsValue w me own.load top.kind top.key x (v.node_type x) (v.references x) r w' → AdoptsValue w me own.load node.top.kind node.top.key x (v.node_type x) (v.references x) r w'
-    adopted_as {r} {w} {w'} a = subst (λ (f : Frame). AdoptsValue w me own.load f.kind f.key x (v.node_type x) (v.references x) r w') top_is a
 
     pub adopt_comes : (r : ArcRef) (frames : List Frame) → frames ≡ record (frame_of under) { got = under.got.items ++ r ∷ [] } ∷ onto [] rest → (s t : PagerState N E)
         → Brings v (λ w'. AdoptsValue s.core me own.load top.kind top.key x (v.node_type x) (v.references x) (Ok r) w') (λ n y. (y ≡ x) × IsNewNode s.core n) s t → Tries v me own s (Ok None) frames t
     adopt_comes r frames is s t c = goes (λ o. record { does = record { does = inr (inr (inr (inr made))) }; moves = brought c.moves; whole = c.whole })
       where
-        a : AdoptsValue s.core me own.load node.top.kind node.top.key x (v.node_type x) (v.references x) (Ok r) t.core
-        a = adopted_as c.step
-
         made : MakesNode v s.core me reading frames t.core
         made =
-            record {
-              x = x;
-              reads_node = node;
-              k = r.handle;
-              row = a.made.row;
-              adopted = a.adopted;
-              made = a.made.live;
-              goes = is ∙ ap (λ (y : ArcRef). record (frame_of under) { got = under.got.items ++ y ∷ [] } ∷ onto [] rest) a.made.is ∙ ap (with_got node.top.kind a.made.row) below_is;
-            }
+            let goes = is ∙ ap (λ (y : ArcRef). record (frame_of under) { got = under.got.items ++ y ∷ [] } ∷ onto [] rest) c.step.made.is in
+            record { x = x; reads_node = own_node; k = r.handle; row = c.step.made.row; adopted = c.step.adopted; made = c.step.made.live; goes = goes }
 
     pub adopt_refused : (e : Error × N) (frames : List Frame) (s t : PagerState N E)
         → Brings v (λ w'. AdoptsValue s.core me own.load top.kind top.key x (v.node_type x) (v.references x) (Err e) w') (λ n y. (y ≡ x) × IsNewNode s.core n) s t → Tries v me own s (Err e.0) frames t
     adopt_refused e frames s t c =
         fails (λ o. record {
-          meets = inr (inr (inr (inr (inl (record { x = x; reads_node = node; adopted = record { adopts = tt; refused = (refl, a.adopted.refused.1) } })))));
+          meets = inr (inr (inr (inr (inl (record { x = x; reads_node = own_node; adopted = record { adopts = tt; refused = (refl, c.step.adopted.refused.1) } })))));
           moves = brought c.moves;
         })
-      where
-        a : AdoptsValue s.core me own.load node.top.kind node.top.key x (v.node_type x) (v.references x) (Err e) t.core
-        a = adopted_as c.step
 
   cell_of : (root : Root) → is_cell root ≡ true → IsOfCell root
   cell_of root is = grind (arith, nat_tests)
