@@ -1,7 +1,7 @@
 -- A load's steps, one after another up to its end.
-use Rattle.std.proofs.{Common.{arith, rules, ◌≡◌, List, [], Some, None, inl, inr, refl, ap, sym, subst, ◌∙◌}, lemmas.Bool.Decides.nat_tests}
+use Rattle.std.proofs.{Common.{arith, rules, ◌≡◌, List, Some, None, refl, ap, sym, subst, ◌∙◌}, lemmas.Bool.Decides.nat_tests}
 use Rattle.{std.proofs.lemmas.Grind.common_steps, pagable_model.specs.declared.numbers.{LoadNumber.LoadNumber}}
-use Rattle.pagable_world.specs.{declared.{events.LoadAnswer.LoadAnswer, handles.Owner.Owner}, World.{Core, Frame, Reading, Values, one_more}, Loads.{GoesOn, Does, gone_on}}
+use Rattle.pagable_world.specs.{declared.{events.LoadAnswer.LoadAnswer, handles.Owner.Owner}, World.{Core, Frame, Reading, Values, one_more}, Loads.{GoesOn, gone_on}}
 use Rattle.{pagable_world.specs.{Pager.PagerState, Access.{LoadRun, load-ends, load-goes-on}}, pagable_loads.proofs.Stepped.acts_then}
 use Rattle.pagable_loads.specs.{Frames.{IsLoadOf, frames_of, reading_of}, Stepping.{IsSameLoad, Steps, Runs, HasGone}, declared.reading.Reading.Reading as Own}
 

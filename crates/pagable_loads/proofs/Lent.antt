@@ -1,7 +1,7 @@
 -- What the references that were got lend, one after the other.
 use Rattle.std.proofs.{lemmas.{Bool.Decides.nat_tests, Grind.common_steps, Map.Keys.any_passes_from_place, Option.slice_get_within}, Common.{rules, ◌≡◌, ◌≢◌}}
-use Rattle.std.proofs.Common.{ℕ, zero, suc, refl, ◌+◌, ◌<◌, ◌≤◌, List, [], ◌∷◌, ◌++◌, length, false, Option, Some, None, Result, Ok, Err, IfOk, ◌⊎◌, inl, inr, ap, sym, subst, ◌∙◌, arith, slice_get}
-use Rattle.{std.specs.{List.list_any, Option.option_map, Prelude.option_and_then}, pagable_model.specs.declared.error.Error.Error}
+use Rattle.std.proofs.Common.{ℕ, zero, suc, refl, ◌+◌, ◌<◌, ◌≤◌, List, [], ◌∷◌, ◌++◌, length, false, Option, Some, None, Result, Ok, Err, IfOk, ◌⊎◌, inl, inr, ap, arith, slice_get}
+use Rattle.{std.specs.{List.list_any, Option.option_map}, pagable_model.specs.declared.error.Error.Error}
 use Rattle.{pagable_model.specs.{declared.numbers.ArcRef.ArcRef, Deep.is_eager}, pagable_world.specs.Pager.PagerState, pagable_loads.proofs.Stepped.tells_map}
 use Rattle.pagable_loads.specs.{Got.{lent_at, Lends, LendsEach}, Starting.Shares}
 

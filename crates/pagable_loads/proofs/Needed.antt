@@ -2,7 +2,7 @@
 use Rattle.std.proofs.Common.{arith, ◌≡◌, ℕ, ◌+◌, ◌<◌, List, [], ◌∷◌, ◌++◌, length, false, Option, Some, Result, Ok, refl, ap, subst, sym, ◌∙◌, slice_get}
 use Rattle.{std.{proofs.lemmas.Bool.Decides.nat_tests, specs.Arc.arc_value}, pagable_core.specs.{Context.at_front, Data.blob_of}, pagable_model.specs.{declared.error.Error.Error, Deep.longest_path}}
 use Rattle.pagable_model.specs.{declared.numbers.ArcRef.ArcRef, Blob.Blob, Meaning.Meaning, Shape.Shape, Reading.{Rest, read_typed}, Standing.{Answer, Standing, GivesSome, handles_at, rest_at}}
-use Rattle.pagable_world.specs.{World.{Frame, Values}, Loads.{answer_of, answers_from, next_by, read_with, reads, IsDecoded, to_adopt, need_at, need_of, ReadsNode, ReadsRoot}}
+use Rattle.pagable_world.specs.{World.{Frame, Values}, Loads.{answer_of, answers_from, next_by, read_with, reads, IsDecoded, to_adopt, need_at, ReadsNode, ReadsRoot}}
 use Rattle.pagable_loads.specs.{declared.{decoding.Decoded.Decoded, reading.{Need.Need, Frame.Frame as Held, Reading.Reading as Own}}, Frames.{frame_of, frames_of, onto, reading_of}}
 use Rattle.pagable_loads.specs.{Needing.{Needs, IsRead}, Decoding.{Decodes, ReadsWith, IsReadAs, is_asking}, Got.answer_at}
 use Rattle.pagable_core.specs.Context as context

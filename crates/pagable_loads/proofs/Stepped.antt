@@ -3,7 +3,7 @@ use Rattle.std.proofs.Common.{◌≡◌, ℕ, ◌+◌, ◌<◌, ◌≤◌, List,
 use Rattle.{std.{proofs.lemmas.{Bool.Decides.nat_tests, Grind.common_steps}, specs.Prelude.not}, pagable_model.specs.declared.error.Error.Error}
 use Rattle.pagable_model.specs.{declared.numbers.{ArcRef.ArcRef, HandleNumber.HandleNumber, Kind.Kind, LoadNumber.LoadNumber}, Blob.Blob}
 use Rattle.{pagable_model.specs.Deep.longest_path, pagable_world.specs.{declared.{events.LoadAnswer.LoadAnswer, handles.Owner.Owner, calls.Want.Want}, Kinds.is_owner, Plain.if_there, World.Core}}
-use Rattle.pagable_world.specs.{World.{Root, of_cell, of_key, OpenLoad, Frame, Reading, Values}, Refusals.{OwnsLoad, refused_if, load_fault}, LoadCalls.{from_store, AskCall, AdoptCall, EndCall}}
+use Rattle.pagable_world.specs.{World.{Root, OpenLoad, Frame, Reading, Values}, Refusals.{OwnsLoad, refused_if, load_fault}, LoadCalls.{from_store, AskCall, EndCall}}
 use Rattle.pagable_world.specs.{LoadCalls.{HandOverCall, DropCall, LoadCloses}, Loads.{need_of, needs_nested, needs_lazy, root_frame, nested_frame, with_got, handles_of, MakesNode, ReadsNode}}
 use Rattle.pagable_world.specs.{Loads.{IsDecoded, ReadsRoot, LoadIs, IsOfCell, IsOfKey, Meets, Does}, Pager.{PagerState, Moves, ReadingBrings, IsNewNode, IsCellOf}, Access.{Told, Called, ReadingStep}}
 use Rattle.pagable_loads.specs.Telling.{Acting, Acts, ActsThen, Tells, Brings, IsMade, AsksFor, TakesLazily, AdoptsValue}
@@ -13,9 +13,6 @@ use Rattle.{pagable_loads.{specs.declared.reading.{Frame.Frame as Held, Reading.
 -- ---- what is told
 
 module _ {S : Type 0} where
-  pub told_map : {o n : Option S} {R Q : S → S → Type 0} → ((s t : S) → R s t → Q s t) → Told o n R → Told o n Q
-  told_map {o} {n} f h = grind (arith, nat_tests)
-
   pub told_then : {o n m : Option S} {R T Q : S → S → Type 0} → ((s mid t : S) → R s mid → T mid t → Q s t) → Told o n R → Told n m T → Told o m Q
   told_then {o} {n} {m} f h k = grind (arith, nat_tests)
 
@@ -28,19 +25,11 @@ module _ {S : Type 0} where
   pub tells_all : {o : Option S} {P : S → Type 0} → ((s : S) → P s) → Tells o P
   tells_all {o} {P} f = grind (arith, nat_tests, common_steps)
 
-  -- of one state that stays
-  pub told_same : {o : Option S} {R : S → S → Type 0} → Tells o (λ s. R s s) → Told o o R
-  told_same {o} {R} h = grind (arith, nat_tests, common_steps)
-
-  -- beside the first of two states
-  pub told_from : {o n : Option S} {P : S → Type 0} {R Q : S → S → Type 0} → ((s t : S) → P s → R s t → Q s t) → Tells o P → Told o n R → Told o n Q
-  told_from {o} {n} {P} {R} {Q} f h k = grind (arith, nat_tests, common_steps)
-
 -- ---- what an access does
 
 module _ {A S E : Type 0} {told : A → Option S} {by : A → Acting E} where
   pub acts_map : {o n : A} {after : Acting E → Acting E} {R Q : Acting E → S → S → Type 0} → ActsThen told by o n after R → ((s t : S) → R (by o) s t → Q (by o) s t) → ActsThen told by o n after Q
-  acts_map h f = record { step = told_map f h.step; acting = h.acting }
+  acts_map {o} {n} h f = record { step = grind (arith, nat_tests); acting = h.acting }
 
   -- one thing after another
   pub acts_on : {o m n : A} {first then after : Acting E → Acting E} {R T Q : Acting E → S → S → Type 0} → ActsThen told by o m first R → ActsThen told by m n then T
@@ -52,14 +41,14 @@ module _ {A S E : Type 0} {told : A → Option S} {by : A → Acting E} where
 
   -- nothing is done
   pub acts_same : {o : A} {R : Acting E → S → S → Type 0} → Tells (told o) (λ s. R (by o) s s) → Acts told by o o R
-  acts_same h = record { step = told_same h; acting = refl }
+  acts_same {o} {R} h = record { step = grind (arith, nat_tests, common_steps); acting = refl }
 
   pub acts_all : {o : A} {R : Acting E → S → S → Type 0} → ((s : S) → R (by o) s s) → Acts told by o o R
   acts_all f = acts_same (tells_all f)
 
   -- beside what held before
   pub acts_from : {o n : A} {P : S → Type 0} {R Q : Acting E → S → S → Type 0} → Tells (told o) P → Acts told by o n R → ((s t : S) → P s → R (by o) s t → Q (by o) s t) → Acts told by o n Q
-  acts_from h k f = record { step = told_from f h k.step; acting = k.acting }
+  acts_from {o} {n} {P} {R} {Q} h k f = record { step = grind (arith, nat_tests, common_steps); acting = k.acting }
 
 -- ---- which values come
 

@@ -1,6 +1,6 @@
 -- What a load's step does, up to its refusal and with it, in the words of the world.
-use Rattle.std.specs.Prelude.{◌≡◌, ℕ, ◌<◌, ◌++◌, List, [], ◌∷◌, Option, Result, IfOk, IfErr, vec_len, vec_capacity}
-use Rattle.{pagable_model.specs.declared.{error.Error.Error, numbers.ArcRef.ArcRef}, pagable_loads.specs.declared.reading.Frame.Frame as Held}
+use Rattle.std.specs.Prelude.{◌≡◌, ℕ, ◌<◌, List, [], ◌∷◌, Option, Result, IfOk, IfErr, vec_len, vec_capacity}
+use Rattle.{pagable_model.specs.declared.{error.Error.Error}, pagable_loads.specs.declared.reading.Frame.Frame as Held}
 use Rattle.{pagable_model.specs.declared.numbers.LoadNumber.LoadNumber, pagable_world.specs.{declared.{events.LoadAnswer.LoadAnswer, handles.Owner.Owner}, World.{Frame, Reading, Values}}}
 use Rattle.{pagable_world.specs.{LoadCalls.DropCall, Loads.Meets, Pager.{PagerState, Moves, ReadingBrings}, Access.{Called, ReadingStep, LoadRun}}}
 use Rattle.pagable_loads.specs.{declared.reading.Reading.Reading as Own, Frames.{IsLoadOf, reading_of, frame_of, frames_of, onto}}
