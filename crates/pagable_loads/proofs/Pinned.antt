@@ -10,17 +10,6 @@ use Rattle.pagable_loads.specs.{Stepping.Runs, Starting.{StartsPin, PinsFirst, U
 pub begun_is : (w w' : Core) (l : LoadNumber) (key : ℕ) (root : Root) (me : Owner) → l.0 ≡ w.last.load + 1 → Alike (with_load w key root me) w' → w'.loads l.0 ≡ Some (record { owner = me; key = key; root = root })
 begun_is w w' l key root me next a = first_of (grind (arith, common_steps, nat_tests), search (rules))
 
--- a load that has begun
-module _ (me : Owner) (own : Own) (l : LoadNumber) (key t : ℕ) (is : reading_of own ≡ fresh l t) (under : own.key ≡ key) where
-  opens : (w : Core) (root : Root) → own.for_cell ≡ is_cell root → w.loads l.0 ≡ Some (record { owner = me; key = key; root = root }) → IsLoadOf w me own
-  opens w root sort there =
-      record {
-        load = record { owner = me; key = key; root = root };
-        owned = record { stands_open = ap (λ (r : Reading). w.loads r.load.0) is ∙ there; own = refl };
-        key = sym under;
-        sort = sym sort;
-      }
-
 module _ {N E : Type 0} (v : Values N) (me : Owner) (mine : me ≡ Owner.Caller) where
   module _ (own : Own) (l : LoadNumber) (key t : ℕ) (is : reading_of own ≡ fresh l t) (under : own.key ≡ key) where
     runs_on : {s t' : PagerState N E} {answer : LoadAnswer N} → IsLoadOf s.core me own → Runs v me own s answer t' → LoadRun v Owner.Caller (fresh l t) s answer t'
@@ -44,7 +33,14 @@ module _ {N E : Type 0} (v : Values N) (me : Owner) (mine : me ≡ Owner.Caller)
 
     module _ (sort : own.for_cell ≡ false) (s mid : PagerState N E) (c : Called v (λ w'. BeginKeyCall s.core me key (begun_as key (Ok l)) w') s mid) where
       open_key : IsLoadOf mid.core me own
-      open_key = let b = c.step.begins in opens me own l key t is under mid.core of_key sort (begun_is s.core mid.core l key of_key me b.1.above b.2)
+      open_key =
+          let b = c.step.begins in
+          record {
+            load = record { owner = me; key = key; root = of_key };
+            owned = record { stands_open = ap (λ (r : Reading). mid.core.loads r.load.0) is ∙ begun_is s.core mid.core l key of_key me b.1.above b.2; own = refl };
+            key = sym under;
+            sort = sym sort;
+          }
 
       key_calls : Called v (λ w'. BeginKeyCall s.core Owner.Caller key (Ok (Beginning.Load l key)) w') s mid
       key_calls = record { step = subst (λ m. BeginKeyCall s.core m key (Ok (Beginning.Load l key)) mid.core) mine c.step; moves = c.moves; whole = c.whole }
@@ -70,12 +66,6 @@ module _ {N E : Type 0} (v : Values N) (me : Owner) (mine : me ≡ Owner.Caller)
 
 -- ---- how it is taken back
 
-unpinned_so : (m : Mode) → is_unpinned m ≡ true → m ≡ Mode.LooseUnpinned
-unpinned_so m is = grind (arith, nat_tests)
-
-pinned_so : (m : Mode) → is_loose m ≡ true → is_unpinned m ≡ false → m ≡ Mode.LoosePinned
-pinned_so m loose is = grind (arith, nat_tests)
-
 module _ {N E : Type 0} (v : Values N) (h : HandleNumber) where
   run_whole : {me : Owner} {reading : Reading} {s t : PagerState N E} {answer : LoadAnswer N} → LoadRun v me reading s answer t → WellFormed v t
   run_whole (load-ends reading answer s t step) = step.whole
@@ -99,7 +89,7 @@ module _ {N E : Type 0} (v : Values N) (h : HandleNumber) where
       (record { step = grind (arith, common_steps, nat_tests); moves = record { each = λ n x has. inl has; environment = refl }; whole = whole })
 
   back : (s mid low : PagerState N E) (was : Bool) (row : HandleRow) → row_at s.core h ≡ Some row → is_loose row.mode ≡ true → was ≡ is_unpinned row.mode → WellFormed v mid → Unpins v was h mid low → IsUnpinnedBack v s.core h mid low
-  back s mid low was row live loose is whole u = grind (arith, nat_tests, unpinned_so, pinned_so, nothing_goes)
+  back s mid low was row live loose is whole u = grind (arith, nat_tests, nothing_goes)
 
   -- ---- its answer
 

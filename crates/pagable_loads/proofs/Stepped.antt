@@ -137,15 +137,9 @@ module _ {N : Type 0} (E : Type 0) (v : Values N) (me : Owner) (own : Own) where
           moves = brought c.moves;
         })
 
-  cell_of : (root : Root) → is_cell root ≡ true → IsOfCell root
-  cell_of root is = grind (arith, nat_tests)
-
-  key_of : (root : Root) → is_cell root ≡ false → IsOfKey root
-  key_of root is = grind (arith, nat_tests)
-
   module _ (x : N) (root : ReadsRoot v reading x) (cell : own.for_cell ≡ true) where
     for_cell : (w : Core) → IsLoadOf w me own → LoadIs w reading IsOfCell
-    for_cell w o = record { load = o.load; open_load = o.owned.stands_open; sort = cell_of o.load.root (o.sort ∙ cell) }
+    for_cell w o = record { load = o.load; open_load = o.owned.stands_open; sort = grind (arith, nat_tests) }
 
     comes : {s t : PagerState N E} → Moves (λ n y. (y ≡ x) × IsCellOf s.core own.load n) s t → Moves (ReadingBrings v s.core reading) s t
     comes {s} m = comes_as (λ n y came. inr (subst (ReadsRoot v reading) (sym came.0) root, came.1)) m
@@ -161,7 +155,7 @@ module _ {N : Type 0} (E : Type 0) (v : Values N) (me : Owner) (own : Own) where
 
   module _ (x : N) (root : ReadsRoot v reading x) (sort : own.for_cell ≡ false) (named : List HandleNumber) (is : named ≡ handles_of (v.references x)) where
     for_key : (w : Core) → IsLoadOf w me own → LoadIs w reading IsOfKey
-    for_key w o = record { load = o.load; open_load = o.owned.stands_open; sort = key_of o.load.root (o.sort ∙ sort) }
+    for_key w o = record { load = o.load; open_load = o.owned.stands_open; sort = grind (arith, nat_tests) }
 
     pub hands_over : (frames : List Frame) → frames ≡ [] → (s t : PagerState N E) → Called v (λ w'. HandOverCall s.core me own.load named (Ok tt) w') s t → Tries v me own s (Ok (Some (LoadAnswer.Read x))) frames t
     hands_over frames none s t c = goes (λ o. went c (record { reads_root = root; of_key_load = for_key s.core o; handed = subst (λ hs. HandOverCall s.core me own.load hs (Ok tt) t.core) is c.step }, none))
@@ -174,15 +168,12 @@ module _ {N : Type 0} (E : Type 0) (v : Values N) (me : Owner) (own : Own) where
   owner_self : (o : Owner) → is_owner o o ≡ true
   owner_self o = grind (arith, nat_tests)
 
-  usable_load : (w : Core) (load : OpenLoad) → OwnsLoad w me own.load load → load_fault w me own.load ≡ None
-  usable_load w load o = ap (λ (l : Option OpenLoad). if_there (λ (load : OpenLoad). refused_if (not (is_owner me load.owner)) Error.NotYours) (Some Error.NoSuchHandle) l) o.stands_open ∙ ap (λ owner. refused_if (not (is_owner me owner)) Error.NotYours) o.own ∙ ap (λ b. refused_if (not b) Error.NotYours) (owner_self me)
-
   -- while it is met the load stays open
   stays_open : (w w' : Core) (e : Error) → Meets v w me reading e w' → w'.loads own.load.0 ≡ w.loads own.load.0
   stays_open w w' e m = grind (arith, common_steps, nat_tests)
 
   closes : (mid t : Core) (told : Result (Unit {0}) Error) (load : OpenLoad) → OwnsLoad mid me own.load load → DropCall mid me own.load told t → LoadCloses mid own.load told t
-  closes mid t told load o d = grind (arith, nat_tests, usable_load)
+  closes mid t told load o d = grind (arith, nat_tests, owner_self)
 
   pub gives_up : (e : Error) (l : LoadNumber) (frames none : List Frame) → l ≡ own.load → none ≡ [] → (s mid t : PagerState N E) → Tries v me own s (Err e) frames mid → Drops v me l mid t
       → Steps v me own s (Some (LoadAnswer.Refused e)) none t

@@ -22,9 +22,6 @@ sober_then r f h k = grind (arith, nat_tests)
 sober_if : {A : Type 0} (b : Bool) (r q : Result A Error) → Sober r → Sober q → Sober (if b then r else q)
 sober_if b r q h k = grind (arith, nat_tests)
 
-sober_byte : (bytes : List ℕ) → Sober (byte_at bytes)
-sober_byte bytes = grind (arith, nat_tests)
-
 sober_varint : (more last : ℕ) (bytes : List ℕ) → Sober (varint_at more last bytes)
 unfolding varint_at
 sober_varint zero last [] = refl
@@ -33,8 +30,7 @@ sober_varint zero last (b ∷ bytes) = sober_if (nat_le b last) _ _ tt refl
 sober_varint (suc more) last (b ∷ bytes) = sober_if (nat_lt b 128) _ _ tt (sober_then (varint_at more last bytes) _ (sober_varint more last bytes) (λ x. tt))
 
 sober_unsigned : (w : Width) (bytes : List ℕ) → Sober (unsigned_at w bytes)
-sober_unsigned w8 bytes = sober_byte bytes
-sober_unsigned w bytes = sober_varint _ _ bytes
+sober_unsigned w bytes = grind (arith, nat_tests, sober_varint)
 
 sober_signed : (w : Width) (bytes : List ℕ) → Sober (signed_at w bytes)
 sober_signed w bytes = sober_then (unsigned_at w bytes) _ (sober_unsigned w bytes) (λ x. tt)
@@ -45,19 +41,15 @@ sober_length bytes = sober_then (unsigned_at w64 bytes) _ (sober_unsigned w64 by
 
 sober_text : (bytes : List ℕ) → Sober (text_at bytes)
 unfolding text_at
-sober_text bytes = sober_then (length_at bytes) _ (sober_length bytes)
-    (λ n. sober_then (bytes_at n.0 n.1) _ (sober_if (nat_lt (length n.1) n.0) _ _ refl tt) (λ t. sober_if (is_utf8 t.0) _ _ tt refl))
+sober_text bytes = grind (arith, nat_tests, sober_length)
 
 sober_flag : (bytes : List ℕ) → Sober (bool_at bytes)
 unfolding bool_at
 sober_flag bytes = grind (arith, nat_tests)
 
-sober_one : (cs bytes : List ℕ) → Sober (one_char cs bytes)
-sober_one cs bytes = grind (arith, nat_tests)
-
 sober_char : (bytes : List ℕ) → Sober (char_at bytes)
 unfolding char_at
-sober_char bytes = sober_then (text_at bytes) _ (sober_text bytes) (λ t. sober_one (chars t.0) t.1)
+sober_char bytes = grind (arith, nat_tests, sober_text)
 
 sober_duration : (bytes : List ℕ) → Sober (duration_at bytes)
 unfolding duration_at
