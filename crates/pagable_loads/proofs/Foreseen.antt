@@ -110,9 +110,6 @@ next_in_row [] (g ∷ got) r ahead is at = absurd (cc)
 next_in_row (x ∷ row) [] r ahead is at = let e : x ≡ r = cc in (kinds_of row, sym is ∙ ap (λ (z : ArcRef). z.kind.0 ∷ kinds_of row) e)
 next_in_row (x ∷ row) (g ∷ got) r ahead is at = next_in_row row got r ahead (cc) at
 
-pub known : (types : Types) (f : Frame) (row : List ArcRef) (r : ArcRef) → Foresees types f (kinds_of row) → slice_get row (length f.got) ≡ Some r → AsksNext types f.node_type f.blob f.got r.kind.0
-known types f row r h at = let n = next_in_row row f.got r h.ahead h.split at in h.each f.got r.kind.0 n.0 (h.split ∙ ap (λ ks. kinds_of f.got ++ ks) n.1)
-
 -- a reference of the kind is got
 pub still_ahead : (types : Types) (f : Frame) (row : List ArcRef) (r s : ArcRef) → Foresees types f (kinds_of row) → slice_get row (length f.got) ≡ Some r → s.kind.0 ≡ r.kind.0
     → Foresees types (record f { got = f.got ++ s ∷ [] }) (kinds_of row)
@@ -127,7 +124,8 @@ row_tells types top fs frames row r key place is count at_row at_key later h = e
       let one : f ≡ top = let e : f ∷ gs ≡ top ∷ fs = sym same ∙ is in cc in
       let at : slice_get row (length f.got) ≡ Some r = rw (one, sym count) at_row in
       let there : slice_get f.blob.keys (length f.got) ≡ Some key = rw (one, sym count) at_key in
-      let a = known types f row r foresees at in
+      let n = next_in_row row f.got r foresees.ahead foresees.split at in
+      let a = foresees.each f.got r.kind.0 n.0 (foresees.split ∙ ap (λ ks. kinds_of f.got ++ ks) n.1) in
       let own : a.key ≡ key = let k : Some a.key ≡ Some key = sym a.there ∙ there in cc in
       let need = ap (need_of types) same ∙ ap (need_at gs) (a.next ∙ ap (asks r.kind) own) ∙ ap (λ b. if b then needs_nested r.kind key else needs_lazy r.kind key) later in
       record { f = f; fs = gs; there = same; foresees = foresees; r = r; at = at; of_kind = refl; need = need }

@@ -172,9 +172,6 @@ module _ {N : Type 0} (E : Type 0) (v : Values N) (me : Owner) (own : Own) where
   stays_open : (w w' : Core) (e : Error) → Meets v w me reading e w' → w'.loads own.load.0 ≡ w.loads own.load.0
   stays_open w w' e m = grind (arith, common_steps, nat_tests)
 
-  closes : (mid t : Core) (told : Result (Unit {0}) Error) (load : OpenLoad) → OwnsLoad mid me own.load load → DropCall mid me own.load told t → LoadCloses mid own.load told t
-  closes mid t told load o d = grind (arith, nat_tests, owner_self)
-
   pub gives_up : (e : Error) (l : LoadNumber) (frames none : List Frame) → l ≡ own.load → none ≡ [] → (s mid t : PagerState N E) → Tries v me own s (Err e) frames mid → Drops v me l mid t
       → Steps v me own s (Some (LoadAnswer.Refused e)) none t
   gives_up e l frames none at is s mid t tried dropped = record {
@@ -183,7 +180,7 @@ module _ {N : Type 0} (E : Type 0) (v : Values N) (me : Owner) (own : Own) where
         let m = tried.meets o in
         let open_load : OwnsLoad mid.core me own.load o.load = record { stands_open = stays_open s.core mid.core e m.meets ∙ o.owned.stands_open; own = o.owned.own } in
         record {
-          does = record { does = (inl (record { mid = mid.core; meets = m.meets; told = d.told; closes = closes mid.core t.core d.told o.load open_load d.call.step }), is) };
+          does = record { does = (inl (record { mid = mid.core; meets = m.meets; told = d.told; closes = grind (arith, nat_tests, owner_self) }), is) };
           moves = moves_then m.moves d.call.moves;
           whole = d.call.whole;
         };
