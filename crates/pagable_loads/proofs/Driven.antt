@@ -22,12 +22,7 @@ module _ {N E : Type 0} (v : Values N) (me : Owner) where
         still o =
             let n = gone.open_still o in
             let stays = goes_open v me m.core t.core (reading_of now) frames (step.does n).does.does in
-            record {
-              load = n.load;
-              owned = record { stands_open = ap (λ (l : LoadNumber). t.core.loads l.0) is_same.load ∙ stays ∙ n.owned.stands_open; own = n.owned.own };
-              key = n.key ∙ sym is_same.key;
-              sort = n.sort ∙ sym is_same.for_cell;
-            }
+            record { load = n.load; owned = grind (arith, nat_tests); key = n.key ∙ sym is_same.key; sort = n.sort ∙ sym is_same.for_cell }
 
     pub ends_so : (answer : LoadAnswer N) (frames : List Frame) → Steps v me now m (Some answer) frames t → Runs v me own s answer t
     ends_so answer frames step = first_of (grind (arith, common_steps, nat_tests), grind (arith, nat_tests, load-ends), search (rules, load-ends))
