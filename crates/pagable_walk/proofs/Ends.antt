@@ -68,11 +68,8 @@ no-waits s h u = merely (ends-at u (λ w e. absurd (none-some e.i (sym (h u) ∙
 
 -- a slot that changes and doesn't come to be without a result
 module _ (old new : Identity → Option Slot) (i : Identity) (f : Slot → Slot) (h : (x : Slot) (w : ℕ) → open_worker (Some (f x)) ≡ Some w → open_worker (Some x) ≡ Some w) (is : Changes f old i new) where
-  less : (j : Identity) (b : Bool) → is_identity i j ≡ b → (w : ℕ) → open_worker (if b then if_there (λ (x : Slot). Some (f x)) None (old i) else old j) ≡ Some w → open_worker (old j) ≡ Some w
-  less j b q w e = grind (arith, nat_tests, same-identity, same-as, h)
-
   pub changed-less : (j : Identity) (w : ℕ) → open_worker (new j) ≡ Some w → open_worker (old j) ≡ Some w
-  changed-less j w e = less j (is_identity i j) refl w (sym (ap open_worker (is j)) ∙ e)
+  changed-less j w e = grind (arith, nat_tests, same-identity, same-as, h)
 
 -- a slot that gets an outcome
 pub outcome-less : (o : Outcome) → is_open_outcome o ≡ false → (x : Slot) (w : ℕ) → open_worker (Some (with_outcome o x)) ≡ Some w → open_worker (Some x) ≡ Some w

@@ -53,10 +53,6 @@ module _ {E : Type 0} {g : Ghosts E} where
 
 -- ---- what waits, a node or the item
 
-pub settle-is : (node : Option Node) (written : Written) (keys : List ℕ) (below : List Todo)
-    → settle (waits_as node written keys ∷ below) ≡ next_start (place_of node) (drop (length keys) written.references) ++ waits_as node written keys ∷ below
-settle-is given written keys below = grind (arith, nat_tests)
-
 pub give-is : (node : Option Node) (written : Written) (keys : List ℕ) (below : List Todo) (r : ArcRef) (key height : ℕ)
     → give r key height (waits_as node written keys ∷ below) ≡ settle (waits_as (raised r.kind.0 height node) written (keys ++ key ∷ []) ∷ below)
 give-is given written keys below r key height = grind (arith, nat_tests)
@@ -69,11 +65,11 @@ raised-has Q kind height given f n is = grind (arith, nat_tests, some-same)
 -- of so many references that are done, the next is started, or none is left
 module _ (node : Option Node) (written : Written) (keys : List ℕ) (below : List Todo) (n : ℕ) (many : length keys ≡ n) where
   pub settled-all : length written.references ≤ n → waits_as node written keys ∷ below ≡ settle (waits_as node written keys ∷ below)
-  settled-all all = grind (arith, nat_tests, common_steps, at_drop_all, settle-is)
+  settled-all all = grind (arith, nat_tests, common_steps, at_drop_all)
 
   pub settled-next : (r : ArcRef) (p : ℕ) → n < length written.references → r ≡ get_or written.references n r → p ≡ place_below (place_of node) r.kind.0
       → to_start r p ∷ waits_as node written keys ∷ below ≡ settle (waits_as node written keys ∷ below)
-  settled-next r p more is at = grind (arith, nat_tests, common_steps, at_drop_more, settle-is)
+  settled-next r p more is at = grind (arith, nat_tests, common_steps, at_drop_more)
 
 -- what a path with nothing on it, and one with one more, is as plain data
 pub ruleset paths = (nat_tests, todos-none, todos-more, back-none, item-way)
