@@ -84,12 +84,8 @@ module _ {N E : Type 0} (v : Values N) (h : HandleNumber) where
   pin_loose r is (load-pins k reading mid t starts run) = let p = starts.begins.step.begins in (p.0, p.1.live, p.1.as_asked)
   pin_loose r is run = absurd (cc)
 
-  nothing_goes : (s low : PagerState N E) → WellFormed v s → low ≡ s → Called v (λ w'. Alike s.core w') s low
-  nothing_goes s low whole is = subst (λ x. Called v (λ w'. Alike s.core w') s x) (sym is)
-      (record { step = grind (arith, common_steps, nat_tests); moves = record { each = λ n x has. inl has; environment = refl }; whole = whole })
-
   back : (s mid low : PagerState N E) (was : Bool) (row : HandleRow) → row_at s.core h ≡ Some row → is_loose row.mode ≡ true → was ≡ is_unpinned row.mode → WellFormed v mid → Unpins v was h mid low → IsUnpinnedBack v s.core h mid low
-  back s mid low was row live loose is whole u = grind (arith, nat_tests, nothing_goes)
+  back s mid low was row live loose is whole u = grind (arith, nat_tests, common_steps)
 
   -- ---- its answer
 

@@ -165,9 +165,6 @@ module _ {N : Type 0} (E : Type 0) (v : Values N) (me : Owner) (own : Own) where
 
   -- ---- a refusal gives the load up
 
-  owner_self : (o : Owner) → is_owner o o ≡ true
-  owner_self o = grind (arith, nat_tests)
-
   -- while it is met the load stays open
   stays_open : (w w' : Core) (e : Error) → Meets v w me reading e w' → w'.loads own.load.0 ≡ w.loads own.load.0
   stays_open w w' e m = grind (arith, common_steps, nat_tests)
@@ -180,7 +177,7 @@ module _ {N : Type 0} (E : Type 0) (v : Values N) (me : Owner) (own : Own) where
         let m = tried.meets o in
         let open_load : OwnsLoad mid.core me own.load o.load = record { stands_open = stays_open s.core mid.core e m.meets ∙ o.owned.stands_open; own = o.owned.own } in
         record {
-          does = record { does = (inl (record { mid = mid.core; meets = m.meets; told = d.told; closes = grind (arith, nat_tests, owner_self) }), is) };
+          does = record { does = (inl (record { mid = mid.core; meets = m.meets; told = d.told; closes = grind (arith, nat_tests) }), is) };
           moves = moves_then m.moves d.call.moves;
           whole = d.call.whole;
         };
