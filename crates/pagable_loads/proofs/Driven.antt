@@ -1,25 +1,14 @@
 -- A load's steps, one after another up to its end.
-use Rattle.std.proofs.{Common.{arith, rules, ◌≡◌, ℕ, Bool, true, false, List, [], Option, Some, None, inl, inr, refl, ap, sym, subst, ◌∙◌, if◌then◌else◌}, lemmas.Bool.Decides.nat_tests}
-use Rattle.{std.proofs.lemmas.Grind.common_steps, pagable_model.specs.declared.numbers.{Kind.Kind, LoadNumber.LoadNumber, NodeNumber.NodeNumber}}
-use Rattle.pagable_world.specs.{declared.{events.LoadAnswer.LoadAnswer, handles.Owner.Owner}, World.{Core, Frame, Reading, Values, one_more}, Calls.with_cached, Loads.{GoesOn, Does, gone_on}}
+use Rattle.std.proofs.{Common.{arith, rules, ◌≡◌, List, Some, None, refl, ap, sym, subst, ◌∙◌}, lemmas.Bool.Decides.nat_tests}
+use Rattle.{std.proofs.lemmas.Grind.common_steps, pagable_model.specs.declared.numbers.{LoadNumber.LoadNumber}}
+use Rattle.pagable_world.specs.{declared.{events.LoadAnswer.LoadAnswer, handles.Owner.Owner}, World.{Core, Frame, Reading, Values, one_more}, Loads.{GoesOn, gone_on}}
 use Rattle.{pagable_world.specs.{Pager.PagerState, Access.{LoadRun, load-ends, load-goes-on}}, pagable_loads.proofs.Stepped.acts_then}
-use Rattle.pagable_loads.specs.{Frames.{IsLoadOf, frames_of, reading_of}, Stepping.{IsSameLoad, Steps}, Running.Runs}
-use Rattle.pagable_loads.specs.{Running.HasGone, declared.reading.Reading.Reading as Own}
+use Rattle.pagable_loads.specs.{Frames.{IsLoadOf, frames_of, reading_of}, Stepping.{IsSameLoad, Steps, Runs, HasGone}, declared.reading.Reading.Reading as Own}
 
 module _ {N : Type 0} (v : Values N) (me : Owner) where
   -- while there is more the load stays open
   pub goes_open : (w w' : Core) (reading : Reading) (frames : List Frame) → GoesOn v w me reading frames w' → w'.loads reading.load.0 ≡ w.loads reading.load.0
-  goes_open w w' reading frames (inl g) = g.asked.gives.2.asked.leaves.loads reading.load.0
-  goes_open w w' reading frames (inr (inl g)) = g.asked.gives.2.leaves.loads reading.load.0
-  goes_open w w' reading frames (inr (inr (inl g))) = g.asked.gives.2.1.asked.leaves.loads reading.load.0
-  goes_open w w' reading frames (inr (inr (inr (inl g)))) = first_of (grind (arith, common_steps, nat_tests), search (rules))
-  goes_open w w' reading frames (inr (inr (inr (inr g)))) = first_of (grind (arith, common_steps, nat_tests), search (rules))
-
-  -- and what ends it leaves no blob
-  ended : (w w' : Core) (reading : Reading) (answer : LoadAnswer N) (frames : List Frame) → Does v w me reading (Some answer) frames w' → frames ≡ []
-  ended w w' reading (LoadAnswer.Pinned k) frames d = d.1
-  ended w w' reading (LoadAnswer.Read x) frames d = d.1
-  ended w w' reading (LoadAnswer.Refused e) frames d = d.1
+  goes_open w w' reading frames g = grind (arith, common_steps, nat_tests)
 
 module _ {N E : Type 0} (v : Values N) (me : Owner) where
   module _ (own now : Own) (s m t : PagerState N E) (gone : HasGone v me own now s m) where
@@ -33,12 +22,7 @@ module _ {N E : Type 0} (v : Values N) (me : Owner) where
         still o =
             let n = gone.open_still o in
             let stays = goes_open v me m.core t.core (reading_of now) frames (step.does n).does.does in
-            record {
-              load = n.load;
-              owned = record { stands_open = ap (λ (l : LoadNumber). t.core.loads l.0) is_same.load ∙ stays ∙ n.owned.stands_open; own = n.owned.own };
-              key = n.key ∙ sym is_same.key;
-              sort = n.sort ∙ sym is_same.for_cell;
-            }
+            record { load = n.load; owned = grind (arith, nat_tests); key = n.key ∙ sym is_same.key; sort = n.sort ∙ sym is_same.for_cell }
 
     pub ends_so : (answer : LoadAnswer N) (frames : List Frame) → Steps v me now m (Some answer) frames t → Runs v me own s answer t
     ends_so answer frames step = first_of (grind (arith, common_steps, nat_tests), grind (arith, nat_tests, load-ends), search (rules, load-ends))

@@ -28,11 +28,7 @@ from xs place = elim (slice_get_cases xs place).1 [
 -- ---- what the answers say of the kinds
 
 one_kind : (x : ArcRef) (n : ℕ) (P : Type 0) (Q : Error → Type 0) → Answered (answer_of (Some x) n) P Q → ((x.kind.0 ≡ n) × P) ⊎ (((x.kind.0 == n) ≡ false) × Q Error.WrongKind)
-one_kind x n P Q = by (x.kind.0 == n) refl
-  where
-    by : (b : Bool) → (x.kind.0 == n) ≡ b → Answered (if b then Ok x else Err Error.WrongKind) P Q → ((x.kind.0 ≡ n) × P) ⊎ (((x.kind.0 == n) ≡ false) × Q Error.WrongKind)
-    by true is h = inl (grind arith, h)
-    by false is h = inr (is, h)
+one_kind x n P Q h = grind (arith, nat_tests)
 
 module _ {X : Type 0} (r : Result (X × Rest Answer) Error) (k : ℕ) where
   -- a reading that stops at the first reference that wasn't got asked for all that were, by their kinds
@@ -78,8 +74,7 @@ module _ {X : Type 0} (r : Result (X × Rest Answer) Error) (k : ℕ) where
 
 -- ---- what comes next
 
-stopped_at : (found : Option ℕ) (r : Result (Meaning ArcRef × Rest Answer) Error) (kind : Kind) (key : ℕ) → next_by found r ≡ asks kind key → (r ≡ Err (Error.Storage kind.0)) × (found ≡ Some key)
-stopped_at None (Err (Error.Storage k)) kind key e = grind (arith, nat_tests)
+pub stopped_at : (found : Option ℕ) (r : Result (Meaning ArcRef × Rest Answer) Error) (kind : Kind) (key : ℕ) → next_by found r ≡ asks kind key → (r ≡ Err (Error.Storage kind.0)) × (found ≡ Some key)
 stopped_at found r kind key e = grind (arith, nat_tests)
 
 module _ (types : Types) (t : ℕ) (blob : Blob) where
@@ -92,21 +87,13 @@ module _ (types : Types) (t : ℕ) (blob : Blob) where
       let s = stopped_at (slice_get blob.keys (length xs)) (read_with types t blob xs) kind key next in
       let a = asked_kinds (read_with types t blob xs) kind.0 trace.kinds trace.end xs 0 blob.keys (trace.goes (answers_from xs 0 blob.keys)) s.0 in
       let within = slice_get_within blob.keys (length xs) key s.1 in
-      let many = ap length is in
-      let short : length got < length blob.keys = fewer many within in
+      let short : length got < length blob.keys =
+      omega (arith, within, ap length is, length-append (kinds_of xs) (kind.0 ∷ []), length-append (kinds_of got) (k ∷ back), as_many xs, as_many got) in
       let there = slice_get-get_or blob.keys (length got) 0 short in
       let all : trace.kinds ≡ kinds_of got ++ k ∷ (back ++ a.0) =
       a.1 ∙ sym (append_assoc (kinds_of xs) (kind.0 ∷ []) a.0) ∙ ap (λ ks. ks ++ a.0) is ∙ append_assoc (kinds_of got) (k ∷ back) a.0 in
       let stop = asks_so (read_with types t blob got) k trace.kinds trace.end got 0 blob.keys (back ++ a.0) all (omega arith) (omega (arith, short)) (trace.goes (answers_from got 0 blob.keys)) in
       record { key = _; there = there; next = ap (next_by (slice_get blob.keys (length got))) stop ∙ ap (λ o. next_by o (Err (Error.Storage k))) there }
-    where
-      fewer : length (kinds_of xs ++ kind.0 ∷ []) ≡ length (kinds_of got ++ k ∷ back) → length xs < length blob.keys → length got < length blob.keys
-      fewer many within =
-          let a = length-append (kinds_of xs) (kind.0 ∷ []) in
-          let b = length-append (kinds_of got) (k ∷ back) in
-          let c = as_many xs in
-          let d = as_many got in
-          omega (arith, many, within, a, b, c, d)
 
 -- a row that was found by stand-ins, the last of which is asked for after all others
 pub row_found : (types : Types) (f : Frame) (fs frames : List Frame) (row xs noted : List ArcRef) (last : ArcRef) (b : Bool) → frames ≡ f ∷ fs
@@ -116,9 +103,6 @@ row_found types f fs frames row xs noted last b there is split found asked =
     let of_row : kinds_of row ≡ kinds_of xs ++ last.kind.0 ∷ [] = ap kinds_of is ∙ kinds_joined xs (last ∷ []) in
     record { is = inr (f, fs, there, record { ahead = kinds_of noted; split = ap kinds_of (is ∙ split) ∙ kinds_joined f.got noted; each = λ got k more e. row_asked types f.node_type f.blob xs last.kind told.0 told.1 got k more (sym of_row ∙ e) }) }
 
-pub none_ahead : (types : Types) (frames : List Frame) (row : List ArcRef) → row ≡ [] → IsAhead types frames row
-none_ahead types frames row is = record { is = inl is }
-
 -- what stands in the row behind what was got
 next_in_row : (row got : List ArcRef) (r : ArcRef) (ahead : List ℕ) → kinds_of row ≡ kinds_of got ++ ahead → slice_get row (length got) ≡ Some r → (more : List ℕ) × (ahead ≡ r.kind.0 ∷ more)
 next_in_row [] [] r ahead is at = absurd (cc)
@@ -126,55 +110,27 @@ next_in_row [] (g ∷ got) r ahead is at = absurd (cc)
 next_in_row (x ∷ row) [] r ahead is at = let e : x ≡ r = cc in (kinds_of row, sym is ∙ ap (λ (z : ArcRef). z.kind.0 ∷ kinds_of row) e)
 next_in_row (x ∷ row) (g ∷ got) r ahead is at = next_in_row row got r ahead (cc) at
 
-pub known : (types : Types) (f : Frame) (row : List ArcRef) (r : ArcRef) → Foresees types f (kinds_of row) → slice_get row (length f.got) ≡ Some r → AsksNext types f.node_type f.blob f.got r.kind.0
-known types f row r h at = let n = next_in_row row f.got r h.ahead h.split at in h.each f.got r.kind.0 n.0 (h.split ∙ ap (λ ks. kinds_of f.got ++ ks) n.1)
-
 -- a reference of the kind is got
 pub still_ahead : (types : Types) (f : Frame) (row : List ArcRef) (r s : ArcRef) → Foresees types f (kinds_of row) → slice_get row (length f.got) ≡ Some r → s.kind.0 ≡ r.kind.0
     → Foresees types (record f { got = f.got ++ s ∷ [] }) (kinds_of row)
 still_ahead types f row r s h at same = grind (arith, nat_tests, append_assoc, kinds_joined, next_in_row)
-
-lazy_need : (types : Types) (f : Frame) (fs : List Frame) (kind : Kind) (key : ℕ) → next_of types f.node_type f.blob f.got ≡ asks kind key → is_eager kind.0 ≡ false → need_of types (f ∷ fs) ≡ needs_lazy kind key
-lazy_need types f fs kind key next is = ap (need_at fs) next ∙ ap (λ b. if b then needs_nested kind key else needs_lazy kind key) is
 
 -- what a row tells of the innermost blob
 pub row_tells : (types : Types) (top : Frame) (fs frames : List Frame) (row : List ArcRef) (r : ArcRef) (key place : ℕ) → frames ≡ top ∷ fs → place ≡ length top.got → slice_get row place ≡ Some r
     → slice_get top.blob.keys place ≡ Some key → is_eager r.kind.0 ≡ false → IsAhead types frames row → RowTells types frames row r.kind key
 row_tells types top fs frames row r key place is count at_row at_key later h = elim h.is [
   | inl none ↦ absurd (let e : slice_get [] place ≡ Some r = subst (λ (rs : List ArcRef). slice_get rs place ≡ Some r) none at_row in cc)
-  | inr (f, gs, same, foresees) ↦ by f gs (sym same ∙ is) foresees
+  | inr (f, gs, same, foresees) ↦
+      let one : f ≡ top = let e : f ∷ gs ≡ top ∷ fs = sym same ∙ is in cc in
+      let at : slice_get row (length f.got) ≡ Some r = rw (one, sym count) at_row in
+      let there : slice_get f.blob.keys (length f.got) ≡ Some key = rw (one, sym count) at_key in
+      let n = next_in_row row f.got r foresees.ahead foresees.split at in
+      let a = foresees.each f.got r.kind.0 n.0 (foresees.split ∙ ap (λ ks. kinds_of f.got ++ ks) n.1) in
+      let own : a.key ≡ key = let k : Some a.key ≡ Some key = sym a.there ∙ there in cc in
+      let need = ap (need_of types) same ∙ ap (need_at gs) (a.next ∙ ap (asks r.kind) own) ∙ ap (λ b. if b then needs_nested r.kind key else needs_lazy r.kind key) later in
+      record { f = f; fs = gs; there = same; foresees = foresees; r = r; at = at; of_kind = refl; need = need }
 ]
-  where
-    at : slice_get row (length top.got) ≡ Some r
-    at = subst (λ n. slice_get row n ≡ Some r) count at_row
-
-    there : slice_get top.blob.keys (length top.got) ≡ Some key
-    there = subst (λ n. slice_get top.blob.keys n ≡ Some key) count at_key
-
-    by : (f : Frame) (gs : List Frame) → f ∷ gs ≡ top ∷ fs → Foresees types f (kinds_of row) → RowTells types frames row r.kind key
-    by f gs e foresees =
-        let one : f ≡ top = cc in
-        let own = subst (λ (f : Frame). Foresees types f (kinds_of row)) one foresees in
-        let a = known types top row r own at in
-        let same : a.key ≡ key = let k : Some a.key ≡ Some key = sym a.there ∙ there in cc in
-        record {
-          f = top;
-          fs = fs;
-          there = is;
-          foresees = own;
-          r = r;
-          at = at;
-          of_kind = refl;
-          need = ap (need_of types) is ∙ lazy_need types top fs r.kind key (a.next ∙ ap (asks r.kind) same) later;
-        }
 
 -- and it does so of what is left, where the reference is of the kind
 pub row_goes_on : (types : Types) (old new : List Frame) (row after : List ArcRef) (kind : Kind) (key : ℕ) (s : ArcRef) → RowTells types old row kind key → GotMore old new s → Kept kind s row after → IsAhead types new after
-row_goes_on types old new row after kind key s t g (inr none) = none_ahead types new after none
-row_goes_on types old new row after kind key s t g (inl (same, is)) = record { is = inr (record g.f { got = g.f.got ++ s ∷ [] }, g.fs, g.is, subst (λ (rs : List ArcRef). Foresees types (record g.f { got = g.f.got ++ s ∷ [] }) (kinds_of rs)) (sym is) still) }
-  where
-    one : t.f ≡ g.f
-    one = let same : t.f ∷ t.fs ≡ g.f ∷ g.fs = sym t.there ∙ g.was in cc
-
-    still : Foresees types (record g.f { got = g.f.got ++ s ∷ [] }) (kinds_of row)
-    still = still_ahead types g.f row t.r s (subst (λ (f : Frame). Foresees types f (kinds_of row)) one t.foresees) (subst (λ (f : Frame). slice_get row (length f.got) ≡ Some t.r) one t.at) (same ∙ ap (λ (k : Kind). k.0) t.of_kind)
+row_goes_on types old new row after kind key s t g kept = grind (arith, nat_tests, still_ahead)

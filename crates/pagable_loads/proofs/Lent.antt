@@ -1,9 +1,9 @@
 -- What the references that were got lend, one after the other.
-use Rattle.std.proofs.{lemmas.{Bool.Decides.nat_tests, Grind.common_steps, List.length-append, Map.Keys.any_passes_from_place, Option.slice_get_within}, Common.{rules, ◌≡◌, ◌≢◌}}
-use Rattle.std.proofs.Common.{ℕ, zero, suc, refl, ◌+◌, ◌<◌, ◌≤◌, List, [], ◌∷◌, ◌++◌, length, false, Option, Some, None, Result, Ok, Err, IfOk, ◌⊎◌, inl, inr, ap, sym, subst, ◌∙◌, arith, slice_get}
-use Rattle.{std.specs.{List.list_any, Option.option_map, Prelude.option_and_then}, pagable_model.specs.declared.error.Error.Error}
+use Rattle.std.proofs.{lemmas.{Bool.Decides.nat_tests, Grind.common_steps, Map.Keys.any_passes_from_place, Option.slice_get_within}, Common.{rules, ◌≡◌, ◌≢◌}}
+use Rattle.std.proofs.Common.{ℕ, zero, suc, refl, ◌+◌, ◌<◌, ◌≤◌, List, [], ◌∷◌, ◌++◌, length, false, Option, Some, None, Result, Ok, Err, IfOk, ◌⊎◌, inl, inr, ap, arith, slice_get}
+use Rattle.{std.specs.{List.list_any, Option.option_map}, pagable_model.specs.declared.error.Error.Error}
 use Rattle.{pagable_model.specs.{declared.numbers.ArcRef.ArcRef, Deep.is_eager}, pagable_world.specs.Pager.PagerState, pagable_loads.proofs.Stepped.tells_map}
-use Rattle.pagable_loads.specs.{Got.lent_at, Lending.{Lends, LendsEach}, Starting.Shares}
+use Rattle.pagable_loads.specs.{Got.{lent_at, Lends, LendsEach}, Starting.Shares}
 
 module _ {A N E : Type 0} (see : A → N) (s : PagerState N E) where
   -- a share is refused
@@ -19,9 +19,6 @@ pushed_at [] y (suc k) less = absurd (omega (arith, less))
 pushed_at (x ∷ xs) y zero less = inl (omega arith, refl)
 pushed_at (x ∷ xs) y (suc k) less = elim (pushed_at xs y k (omega (arith, less))) [ inl (l, is) ↦ inl (omega (arith, l), is) | inr (l, is) ↦ inr (ap suc l, is) ]
 
-pub longer : {A : Type 0} (i : ℕ) (xs new : List A) (x : A) → new ≡ xs ++ x ∷ [] → length xs ≡ i → length new ≡ i + 1
-longer i xs new x is same = ap length is ∙ length-append xs (x ∷ []) ∙ ap (λ n. n + 1) same
-
 module _ {A N E : Type 0} (see : A → N) (s : PagerState N E) (got : List ArcRef) where
   -- those before this place lend theirs
   abbrev pub LentTo : ℕ → List (Option A) → Type 0
@@ -31,16 +28,8 @@ module _ {A N E : Type 0} (see : A → N) (s : PagerState N E) (got : List ArcRe
   pub none_lent : list_any (λ (r : ArcRef). is_eager r.kind.0) got ≡ false → LendsEach see s got []
   none_lent is = grind (arith, nat_tests, any_passes_from_place, slice_get)
 
-  pushed_lent : (i : ℕ) (r : ArcRef) (lent : List (Option A)) (o : Option A) → length lent ≡ i → slice_get got i ≡ Some r → LentTo i lent → Lends s r (option_map see o) → LentTo (i + 1) (lent ++ o ∷ [])
-  pushed_lent i r lent o same here to lends place q before there = elim (pushed_at lent o place (omega (arith, before, same))) [
-    | inl (less, is) ↦ subst (λ found. Lends s q (option_map see (option_and_then (λ x. x) found))) (sym is) (to place q (omega (arith, less, same)) there)
-    | inr (at, is) ↦
-        let own : r ≡ q = let e : Some r ≡ Some q = sym here ∙ ap (slice_get got) (sym (at ∙ same)) ∙ there in cc in
-        subst (λ found. Lends s q (option_map see (option_and_then (λ x. x) found))) (sym is) (subst (λ (x : ArcRef). Lends s x (option_map see o)) own lends)
-  ]
-
-  pub more_lent : (i : ℕ) (r : ArcRef) (lent new : List (Option A)) (o : Option A) → new ≡ lent ++ o ∷ [] → length lent ≡ i → slice_get got i ≡ Some r → LentTo i lent → Lends s r (option_map see o) → LentTo (i + 1) new
-  more_lent i r lent new o is same here to lends = subst (LentTo (i + 1)) (sym is) (pushed_lent i r lent o same here to lends)
+  pub more_lent : (i : ℕ) (r : ArcRef) (lent : List (Option A)) (o : Option A) → length lent ≡ i → slice_get got i ≡ Some r → LentTo i lent → Lends s r (option_map see o) → LentTo (i + 1) (lent ++ o ∷ [])
+  more_lent i r lent o same here to lends = grind (arith, nat_tests, pushed_at)
 
   -- all of them do
   pub all_lent : (i : ℕ) (lent : List (Option A)) → length got ≤ i → LentTo i lent → LendsEach see s got lent

@@ -1,4 +1,3 @@
-mod NextStep
 mod Traced
 mod Foreseen
 mod Lent

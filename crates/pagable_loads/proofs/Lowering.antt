@@ -1,10 +1,9 @@
 -- A step of a load leaves less to do.
-use Rattle.std.proofs.Common.{◌≡◌, ℕ, zero, suc, ◌+◌, ◌-◌, ◌*◌, ◌<◌, ◌≤◌, ◌⊎◌, inl, inr, Bool, List, [], ◌∷◌}
-use Rattle.std.proofs.Common.{◌++◌, length, Option, Some, None, Result, Ok, Err, refl, ap, sym, subst, ◌∙◌, arith, slice_get, ◌^◌}
-use Rattle.std.proofs.lemmas.{Option.slice_get_within, List.length-append, Bool.Decides.nat_tests}
-use Rattle.{std.proofs.Math.Nat.mul-le-mul_right, pagable_model.specs.declared.{error.Error.Error, numbers.{ArcRef.ArcRef, Kind.Kind}}}
-use Rattle.{pagable_model.specs.{Meaning.Meaning, Reading.Rest, Standing.Answer}, pagable_world.specs.{Plain.Types, World.Frame, Loads.{Need, Next, reads, asks, next_by, next_in, need_at, need_of}}}
-use Rattle.{pagable_world.specs.Loads.{needs_nested, needs_lazy}, pagable_loads.specs.Ending.{left_in, left_behind, many, weight, weight_on, waiting, to_do, LeadsOn}}
+use Rattle.std.proofs.Common.{◌≡◌, ℕ, zero, suc, ◌+◌, ◌-◌, ◌*◌, ◌<◌, ◌≤◌, ◌⊎◌, Bool, List, [], ◌∷◌}
+use Rattle.std.proofs.Common.{◌++◌, length, None, Ok, refl, ap, sym, subst, ◌∙◌, arith, slice_get, ◌^◌}
+use Rattle.{std.proofs.{lemmas.{Option.slice_get_within, List.length-append}, Math.Nat.mul-le-mul_right}, pagable_loads.proofs.Foreseen.stopped_at}
+use Rattle.{pagable_model.specs.declared.numbers.{ArcRef.ArcRef, Kind.Kind}, pagable_world.specs.{Plain.Types, World.Frame, Loads.{Need, Next, asks, next_in}}}
+use Rattle.{pagable_world.specs.Loads.{need_at, need_of, needs_nested, needs_lazy, read_with}, pagable_loads.specs.Ending.{left_in, left_behind, many, weight, weight_on, to_do, LeadsOn}}
 
 weight_more : (k : ℕ) → weight (suc k) ≡ weight k * many
 unfolding weight
@@ -17,29 +16,18 @@ weight_some (suc k) = let w = weight_some k in omega (arith, w)
 
 -- ---- what is asked for stands in the blob
 
-asked_is : (found : Option ℕ) (r : Result (Meaning ArcRef × Rest Answer) Error) (kind : Kind) (key : ℕ) → next_by found r ≡ asks kind key → (q : ℕ) × (found ≡ Some q)
-asked_is found (Ok x) kind key e = absurd (cc)
-asked_is None (Err (Error.Storage k)) kind key e = absurd (cc)
-asked_is (Some q) (Err (Error.Storage k)) kind key e = (q, refl)
-asked_is found (Err f) kind key e = absurd (cc)
-
-asked_of : (types : Types) (f : Frame) (kind : Kind) (key : ℕ) → next_in types f ≡ asks kind key → length f.got < length f.blob.keys
-asked_of types f kind key e = grind (arith, nat_tests, asked_is, slice_get, slice_get_within)
-
 -- the load needs a reference, at once or later
 abbrev NeedsOne : Need → Kind → ℕ → Type 0
 NeedsOne need kind key = (need ≡ needs_nested kind key) ⊎ (need ≡ needs_lazy kind key)
 
 one_asked : (fs : List Frame) (next : Next) (kind : Kind) (key : ℕ) → NeedsOne (need_at fs next) kind key → (k : Kind) × (q : ℕ) × (next ≡ asks k q)
-one_asked fs (asks k q) kind key e = (k, q, refl)
-one_asked [] (reads own) kind key e = absurd (elim e [ inl h ↦ cc | inr h ↦ cc ])
-one_asked fs next kind key e = absurd (elim e [ inl h ↦ cc | inr h ↦ cc ])
+one_asked fs next kind key e = grind arith
 
-pub wants : (types : Types) (old : List Frame) (f : Frame) (fs : List Frame) (kind : Kind) (key : ℕ) → old ≡ f ∷ fs → NeedsOne (need_of types old) kind key
+wants : (types : Types) (old : List Frame) (f : Frame) (fs : List Frame) (kind : Kind) (key : ℕ) → old ≡ f ∷ fs → NeedsOne (need_of types old) kind key
     → length f.got < length f.blob.keys
 wants types old f fs kind key is need =
     let a = one_asked fs (next_in types f) kind key (subst (λ o. NeedsOne (need_of types o) kind key) is need) in
-    asked_of types f a.0 a.1 a.2
+    slice_get_within f.blob.keys (length f.got) a.1 (stopped_at (slice_get f.blob.keys (length f.got)) (read_with types f.node_type f.blob f.got) a.0 a.1 a.2).1
 
 -- ---- what each step leaves
 
@@ -54,17 +42,19 @@ module _ {N : Type 0} {for_cell : Bool} {old new : List Frame} where
       let m : (left_in f + 2) * weight 129 ≤ many * weight 129 = mul-le-mul_right (weight 129) (omega (arith, g, few)) in
       led a b (omega (arith, w, m))
 
-  pub got_leads : (f : Frame) (fs : List Frame) (r : ArcRef) → length f.got < length f.blob.keys → old ≡ f ∷ fs → new ≡ record f { got = f.got ++ r ∷ [] } ∷ fs
-      → LeadsOn {N = N} for_cell old new (Ok None)
-  got_leads f fs r left a b =
+  pub got_leads : (types : Types) (f : Frame) (fs : List Frame) (r : ArcRef) (kind : Kind) (key : ℕ)
+      → NeedsOne (need_of types old) kind key → old ≡ f ∷ fs → new ≡ record f { got = f.got ++ r ∷ [] } ∷ fs → LeadsOn {N = N} for_cell old new (Ok None)
+  got_leads types f fs r kind key need a b =
+      let left = wants types old f fs kind key a need in
       let n = length-append f.got (r ∷ []) in
       let w = weight_some (129 - length fs) in
       let m : (length f.blob.keys - length (f.got ++ r ∷ []) + 1) * weight_on fs ≤ left_in f * weight_on fs = mul-le-mul_right (weight_on fs) (omega (arith, n, left)) in
       led a b (omega (arith, w, m))
 
-  pub blob_leads : (g f : Frame) (fs : List Frame) → g.got ≡ [] → length g.blob.keys < 2 ^ 63 → length fs < 128 → length f.got < length f.blob.keys → old ≡ f ∷ fs → new ≡ g ∷ f ∷ fs
-      → LeadsOn {N = N} for_cell old new (Ok None)
-  blob_leads g f fs none few short left a b =
+  pub blob_leads : (types : Types) (g f : Frame) (fs : List Frame) (kind : Kind) (key : ℕ) → g.got ≡ [] → length g.blob.keys < 2 ^ 63 → length fs < 128
+      → NeedsOne (need_of types old) kind key → old ≡ f ∷ fs → new ≡ g ∷ f ∷ fs → LeadsOn {N = N} for_cell old new (Ok None)
+  blob_leads types g f fs kind key none few short need a b =
+      let left = wants types old f fs kind key a need in
       let n : length g.got ≡ 0 = ap length none in
       let k : 129 - length fs ≡ suc (129 - length (f ∷ fs)) = omega (arith, short) in
       let e : weight_on fs ≡ weight_on (f ∷ fs) * many = ap weight k ∙ weight_more (129 - length (f ∷ fs)) in

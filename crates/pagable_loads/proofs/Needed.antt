@@ -1,8 +1,37 @@
--- What was read is what a load needs next.
-use Rattle.std.{proofs.{Common.{◌≡◌, ◌+◌, ◌<◌, List, [], ◌∷◌, ◌++◌, length, Option, Some, refl, ap, sym, ◌∙◌, arith}, lemmas.Bool.Decides.nat_tests}, specs.Arc.arc_value}
-use Rattle.{pagable_core.specs.Data.blob_of, pagable_model.specs.{declared.numbers.ArcRef.ArcRef, Deep.longest_path, Meaning.Meaning}, pagable_world.specs.{World.{Frame, Values}, Loads.reads}}
-use Rattle.{pagable_world.specs.Loads.{IsDecoded, to_adopt, need_at, need_of, ReadsNode, ReadsRoot}, pagable_loads.specs.declared.reading.{Need.Need, Frame.Frame as Held, Reading.Reading as Own}}
-use Rattle.pagable_loads.specs.{Frames.{frame_of, frames_of, onto, reading_of}, Decoding.IsReadAs, Needing.{Needs, IsRead}}
+-- From what reading gives to what the blob asks for next, and what a load needs.
+use Rattle.std.proofs.Common.{arith, ◌≡◌, ℕ, ◌+◌, ◌<◌, List, [], ◌∷◌, ◌++◌, length, false, Option, Some, Result, Ok, refl, ap, subst, sym, ◌∙◌, slice_get}
+use Rattle.{std.{proofs.lemmas.Bool.Decides.nat_tests, specs.Arc.arc_value}, pagable_core.specs.{Context.at_front, Data.blob_of}, pagable_model.specs.{declared.error.Error.Error, Deep.longest_path}}
+use Rattle.pagable_model.specs.{declared.numbers.ArcRef.ArcRef, Blob.Blob, Meaning.Meaning, Shape.Shape, Reading.{Rest, read_typed}, Standing.{Answer, Standing, GivesSome, handles_at, rest_at}}
+use Rattle.pagable_world.specs.{World.{Frame, Values}, Loads.{answer_of, answers_from, next_by, read_with, reads, IsDecoded, to_adopt, need_at, ReadsNode, ReadsRoot}}
+use Rattle.pagable_loads.specs.{declared.{decoding.Decoded.Decoded, reading.{Need.Need, Frame.Frame as Held, Reading.Reading as Own}}, Frames.{frame_of, frames_of, onto, reading_of}}
+use Rattle.pagable_loads.specs.{Needing.{Needs, IsRead}, Decoding.{Decodes, ReadsWith, IsReadAs, is_asking}, Got.answer_at}
+use Rattle.pagable_core.specs.Context as context
+
+-- answers by place, key and kind are those of the references got
+same_answers : (got : List ArcRef) (place : ℕ) (keys : List ℕ) → context.answers_from (answer_at got) place keys ≡ answers_from got place keys
+unfolding answers_from
+same_answers got place [] = refl
+same_answers got place (key ∷ keys) = ap (λ (rest : List Answer). (λ kind. answer_of (slice_get got place) kind) ∷ rest) (same_answers got (place + 1) keys)
+
+-- reading at the front of the blob, with these answers, is reading with these references
+pub reads_with : {X E : Type 0} (own : Error → Type 0) (means : X → Meaning ArcRef → Type 0) (nodes : E → ℕ → Option Shape) (parts : E → ℕ → Shape) (t : ℕ) (env other : E) (levels : ℕ) (got found : List ArcRef) (bytes keys : List ℕ) (blob : Blob) (st : Standing) (after : Rest Answer) (result : Result X Error)
+    → st ≡ at_front (answer_at found) bytes keys → levels ≡ 0 → other ≡ env → found ≡ got → bytes ≡ blob.bytes → keys ≡ blob.keys
+    → GivesSome own means after result (read_typed (handles_at levels (parts other)) (nodes other t) (rest_at st))
+    → GivesSome own means after result (read_with (record { nodes = nodes env; parts = parts env }) t blob got)
+reads_with own means nodes parts t env other levels got found bytes keys blob st after result s l e g b k h =
+    let P : List Answer → Type 0 = λ refs. GivesSome own means after result (read_typed (handles_at 0 (parts env)) (nodes env t) (let x : Rest Answer = record { bytes = blob.bytes; refs = refs } in x)) in
+    let there : P (context.answers_from (answer_at got) 0 blob.keys) = rw (s, l, e, g, b, k) at h in
+    subst P (same_answers got 0 blob.keys) there
+
+-- a refusal that is none of Storage asks for nothing
+pub asks_nothing : (e : Error) → ((kind : ℕ) → e ≡ Error.Storage kind → ⊥) → is_asking e ≡ false
+asks_nothing e other = grind (arith, nat_tests)
+
+module _ {N : Type 0} (v : Values N) (t : ℕ) (blob : Blob) (got : List ArcRef) where
+  pub is_read : (x : N) → v.node_type x ≡ t → ReadsWith v t blob got (Ok x) → Decodes v t blob got (Decoded.Read x)
+  is_read x typed h = record { answers = record { own = h.gives.m; read = ap (next_by (slice_get blob.keys (length got))) h.gives.gave; typed = typed; means = h.gives.is } }
+
+-- ---- the blobs of a load
 
 pub length_onto : (below : List Frame) (fs : List Held) → length (onto below fs) ≡ length below + length fs
 unfolding onto
@@ -35,8 +64,7 @@ two_frames o top under got below rest a b same =
     ap (λ x. frames_of x below) a ∙ ap (λ fs. frame_of top ∷ onto [] fs) b ∙ ap (λ fs. frame_of top ∷ fs) (onto_more [] rest under) ∙ ap (λ (got : List ArcRef). frame_of top ∷ record (frame_of under) { got = got } ∷ onto [] rest) (sym same)
 
 adopts : (below : List Frame) (own : Meaning ArcRef) → 0 < length below → need_at below (reads own) ≡ to_adopt
-adopts [] own some = absurd (omega (arith, some))
-adopts (f ∷ fs) own some = refl
+adopts below own some = grind (arith, nat_tests)
 
 module _ {N : Type 0} (v : Values N) (own : Own) (top : Held) (is : own.top ≡ Some top) (x : N) (read : IsReadAs v top.node_type (blob_of (arc_value top.blob)) top.got.items x) where
   frames : frames_of own.top own.below.items ≡ frame_of top ∷ onto [] own.below.items
@@ -46,16 +74,7 @@ module _ {N : Type 0} (v : Values N) (own : Own) (top : Held) (is : own.top ≡ 
   decoded = record { own = read.own; read = read.read; typed = read.typed; means = read.means }
 
   node : 0 < length own.below.items → ReadsNode v (reading_of own) x
-  node some =
-      let l = length_onto [] own.below.items in
-      let more : 0 < length (onto [] own.below.items) = omega (arith, l, some) in
-      record {
-        top = frame_of top;
-        below = onto [] own.below.items;
-        frames = frames;
-        needs = ap (need_of v.types) frames ∙ ap (need_at (onto [] own.below.items)) read.read ∙ adopts (onto [] own.below.items) read.own more;
-        decoded = decoded;
-      }
+  node some = grind (arith, nat_tests, length_onto, adopts)
 
   root : own.below.items ≡ [] → ReadsRoot v (reading_of own) x
   root none = record { root = frame_of top; frames = frames ∙ ap (λ fs. frame_of top ∷ fs) (onto_none own.below.items none); decoded = decoded }

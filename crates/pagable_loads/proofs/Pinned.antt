@@ -1,31 +1,14 @@
 -- A pin with its loads, and how it is taken back; and the reading of a key.
-use Rattle.std.proofs.{lemmas.{Grind.common_steps, Bool.Decides.nat_tests}, Common.{rules, ◌≡◌, ℕ, ◌+◌, Bool, true, false, Option, Some, Result, Ok, Err, inl, inr, refl, ap, sym, subst, ◌∙◌, arith}}
+use Rattle.std.proofs.{lemmas.{Grind.common_steps, Bool.Decides.nat_tests}, Common.{rules, ◌≡◌, ℕ, ◌+◌, Bool, true, false, Some, Result, Ok, Err, inl, inr, refl, ap, sym, subst, ◌∙◌, arith}}
 use Rattle.{pagable_model.specs.declared.{error.Error.Error, numbers.{HandleNumber.HandleNumber, LoadNumber.LoadNumber}}, pagable_world.specs.declared.events.LoadAnswer.LoadAnswer}
 use Rattle.pagable_world.specs.{declared.{handles.{HandleRow.HandleRow, Owner.Owner}, rows.Mode.Mode, answers.{Pinning.Pinning, Beginning.Beginning}}, Plain.if_there, Kinds.{is_loose, is_unpinned}}
 use Rattle.pagable_world.specs.{World.{Core, Reading, Root, of_key, Values, Alike, row_at}, Calls.{PinCall, ReleaseCall}, LoadCalls.{BeginCall, BeginKeyCall, with_load}, Workers.fresh}
-use Rattle.pagable_world.specs.{Pager.{PagerState, WellFormed}, Access.{Told, Called, LoadRun, load-ends, load-goes-on, PinRun, pins-at-once, pin-is-refused, load-is-refused, load-pins, load-fails}}
-use Rattle.{pagable_world.specs.Access.{reading-is-refused, load-reads, reading-fails, IsUnpinnedBack, PinsOver, ReadsOver}, pagable_loads.specs.{Frames.{IsLoadOf, reading_of, is_cell}, Running.Runs}}
-use Rattle.pagable_loads.specs.{Starting.{StartsPin, Shares, PinsFirst, Unpins, TakesBack}, Telling.{Tells, begun_as}, declared.{starting.PinStart.PinStart, reading.Reading.Reading as Own}}
-
-still : (w : Core) → Alike w w
-still w = first_of (grind (arith, common_steps, nat_tests), search (rules))
+use Rattle.pagable_world.specs.{Pager.{PagerState, WellFormed}, Access.{Called, LoadRun, load-ends, load-goes-on, PinRun, pins-at-once, pin-is-refused, load-is-refused, load-pins, load-fails}}
+use Rattle.{pagable_world.specs.Access.{reading-is-refused, load-reads, reading-fails, IsUnpinnedBack, PinsOver, ReadsOver}, pagable_loads.specs.Frames.{IsLoadOf, reading_of, is_cell}}
+use Rattle.pagable_loads.specs.{Stepping.Runs, Starting.{StartsPin, PinsFirst, Unpins, TakesBack}, Telling.{begun_as}, declared.{starting.PinStart.PinStart, reading.Reading.Reading as Own}}
 
 pub begun_is : (w w' : Core) (l : LoadNumber) (key : ℕ) (root : Root) (me : Owner) → l.0 ≡ w.last.load + 1 → Alike (with_load w key root me) w' → w'.loads l.0 ≡ Some (record { owner = me; key = key; root = root })
 begun_is w w' l key root me next a = first_of (grind (arith, common_steps, nat_tests), search (rules))
-
--- a load that has begun
-module _ (me : Owner) (own : Own) (l : LoadNumber) (key t : ℕ) (is : reading_of own ≡ fresh l t) (under : own.key ≡ key) where
-  load_is : own.load ≡ l
-  load_is = ap (λ (r : Reading). r.load) is
-
-  opens : (w : Core) (root : Root) → own.for_cell ≡ is_cell root → w.loads l.0 ≡ Some (record { owner = me; key = key; root = root }) → IsLoadOf w me own
-  opens w root sort there =
-      record {
-        load = record { owner = me; key = key; root = root };
-        owned = record { stands_open = ap (λ (n : LoadNumber). w.loads n.0) load_is ∙ there; own = refl };
-        key = sym under;
-        sort = sym sort;
-      }
 
 module _ {N E : Type 0} (v : Values N) (me : Owner) (mine : me ≡ Owner.Caller) where
   module _ (own : Own) (l : LoadNumber) (key t : ℕ) (is : reading_of own ≡ fresh l t) (under : own.key ≡ key) where
@@ -50,7 +33,14 @@ module _ {N E : Type 0} (v : Values N) (me : Owner) (mine : me ≡ Owner.Caller)
 
     module _ (sort : own.for_cell ≡ false) (s mid : PagerState N E) (c : Called v (λ w'. BeginKeyCall s.core me key (begun_as key (Ok l)) w') s mid) where
       open_key : IsLoadOf mid.core me own
-      open_key = let b = c.step.begins in opens me own l key t is under mid.core of_key sort (begun_is s.core mid.core l key of_key me b.1.above b.2)
+      open_key =
+          let b = c.step.begins in
+          record {
+            load = record { owner = me; key = key; root = of_key };
+            owned = record { stands_open = ap (λ (r : Reading). mid.core.loads r.load.0) is ∙ begun_is s.core mid.core l key of_key me b.1.above b.2; own = refl };
+            key = sym under;
+            sort = sym sort;
+          }
 
       key_calls : Called v (λ w'. BeginKeyCall s.core Owner.Caller key (Ok (Beginning.Load l key)) w') s mid
       key_calls = record { step = subst (λ m. BeginKeyCall s.core m key (Ok (Beginning.Load l key)) mid.core) mine c.step; moves = c.moves; whole = c.whole }
@@ -76,14 +66,6 @@ module _ {N E : Type 0} (v : Values N) (me : Owner) (mine : me ≡ Owner.Caller)
 
 -- ---- how it is taken back
 
-unpinned_so : (m : Mode) → is_unpinned m ≡ true → m ≡ Mode.LooseUnpinned
-unpinned_so Mode.LooseUnpinned is = refl
-unpinned_so m is = absurd (cc)
-
-pinned_so : (m : Mode) → is_loose m ≡ true → is_unpinned m ≡ false → m ≡ Mode.LoosePinned
-pinned_so Mode.LoosePinned loose is = refl
-pinned_so m loose is = absurd (cc)
-
 module _ {N E : Type 0} (v : Values N) (h : HandleNumber) where
   run_whole : {me : Owner} {reading : Reading} {s t : PagerState N E} {answer : LoadAnswer N} → LoadRun v me reading s answer t → WellFormed v t
   run_whole (load-ends reading answer s t step) = step.whole
@@ -102,12 +84,8 @@ module _ {N E : Type 0} (v : Values N) (h : HandleNumber) where
   pin_loose r is (load-pins k reading mid t starts run) = let p = starts.begins.step.begins in (p.0, p.1.live, p.1.as_asked)
   pin_loose r is run = absurd (cc)
 
-  nothing_goes : (s low : PagerState N E) → WellFormed v s → low ≡ s → Called v (λ w'. Alike s.core w') s low
-  nothing_goes s low whole is = subst (λ x. Called v (λ w'. Alike s.core w') s x) (sym is) (record { step = still s.core; moves = record { each = λ n x has. inl has; environment = refl }; whole = whole })
-
   back : (s mid low : PagerState N E) (was : Bool) (row : HandleRow) → row_at s.core h ≡ Some row → is_loose row.mode ≡ true → was ≡ is_unpinned row.mode → WellFormed v mid → Unpins v was h mid low → IsUnpinnedBack v s.core h mid low
-  back s mid low true row live loose is whole u = inl (row, u.0, live, unpinned_so row.mode (sym is), u.1)
-  back s mid low false row live loose is whole u = inr (row, live, pinned_so row.mode loose (sym is), nothing_goes mid low whole u)
+  back s mid low was row live loose is whole u = grind (arith, nat_tests, common_steps)
 
   -- ---- its answer
 

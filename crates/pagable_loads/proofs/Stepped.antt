@@ -3,9 +3,9 @@ use Rattle.std.proofs.Common.{◌≡◌, ℕ, ◌+◌, ◌<◌, ◌≤◌, List,
 use Rattle.{std.{proofs.lemmas.{Bool.Decides.nat_tests, Grind.common_steps}, specs.Prelude.not}, pagable_model.specs.declared.error.Error.Error}
 use Rattle.pagable_model.specs.{declared.numbers.{ArcRef.ArcRef, HandleNumber.HandleNumber, Kind.Kind, LoadNumber.LoadNumber}, Blob.Blob}
 use Rattle.{pagable_model.specs.Deep.longest_path, pagable_world.specs.{declared.{events.LoadAnswer.LoadAnswer, handles.Owner.Owner, calls.Want.Want}, Kinds.is_owner, Plain.if_there, World.Core}}
-use Rattle.pagable_world.specs.{World.{Root, of_cell, of_key, OpenLoad, Frame, Reading, Values}, Refusals.{OwnsLoad, refused_if, load_fault}, LoadCalls.{from_store, AskCall, AdoptCall, EndCall}}
+use Rattle.pagable_world.specs.{World.{Root, OpenLoad, Frame, Reading, Values}, Refusals.{OwnsLoad, refused_if, load_fault}, LoadCalls.{from_store, AskCall, EndCall}}
 use Rattle.pagable_world.specs.{LoadCalls.{HandOverCall, DropCall, LoadCloses}, Loads.{need_of, needs_nested, needs_lazy, root_frame, nested_frame, with_got, handles_of, MakesNode, ReadsNode}}
-use Rattle.pagable_world.specs.{Loads.{ReadsRoot, LoadIs, IsOfCell, IsOfKey, Meets, Does}, Pager.{PagerState, Moves, ReadingBrings, IsNewNode, IsCellOf}, Access.{Told, Called, ReadingStep}}
+use Rattle.pagable_world.specs.{Loads.{IsDecoded, ReadsRoot, LoadIs, IsOfCell, IsOfKey, Meets, Does}, Pager.{PagerState, Moves, ReadingBrings, IsNewNode, IsCellOf}, Access.{Told, Called, ReadingStep}}
 use Rattle.pagable_loads.specs.Telling.{Acting, Acts, ActsThen, Tells, Brings, IsMade, AsksFor, TakesLazily, AdoptsValue}
 use Rattle.pagable_loads.specs.{Frames.{frame_of, frames_of, onto, reading_of, is_cell, IsLoadOf}, Stepping.{Met, Tries, Steps, Drops}}
 use Rattle.{pagable_loads.{specs.declared.reading.{Frame.Frame as Held, Reading.Reading as Own}, proofs.Needed.length_onto}, either.specs.declared.Either.Either}
@@ -13,9 +13,6 @@ use Rattle.{pagable_loads.{specs.declared.reading.{Frame.Frame as Held, Reading.
 -- ---- what is told
 
 module _ {S : Type 0} where
-  pub told_map : {o n : Option S} {R Q : S → S → Type 0} → ((s t : S) → R s t → Q s t) → Told o n R → Told o n Q
-  told_map {o} {n} f h = grind (arith, nat_tests)
-
   pub told_then : {o n m : Option S} {R T Q : S → S → Type 0} → ((s mid t : S) → R s mid → T mid t → Q s t) → Told o n R → Told n m T → Told o m Q
   told_then {o} {n} {m} f h k = grind (arith, nat_tests)
 
@@ -28,19 +25,11 @@ module _ {S : Type 0} where
   pub tells_all : {o : Option S} {P : S → Type 0} → ((s : S) → P s) → Tells o P
   tells_all {o} {P} f = grind (arith, nat_tests, common_steps)
 
-  -- of one state that stays
-  pub told_same : {o : Option S} {R : S → S → Type 0} → Tells o (λ s. R s s) → Told o o R
-  told_same {o} {R} h = grind (arith, nat_tests, common_steps)
-
-  -- beside the first of two states
-  pub told_from : {o n : Option S} {P : S → Type 0} {R Q : S → S → Type 0} → ((s t : S) → P s → R s t → Q s t) → Tells o P → Told o n R → Told o n Q
-  told_from {o} {n} {P} {R} {Q} f h k = grind (arith, nat_tests, common_steps)
-
 -- ---- what an access does
 
 module _ {A S E : Type 0} {told : A → Option S} {by : A → Acting E} where
   pub acts_map : {o n : A} {after : Acting E → Acting E} {R Q : Acting E → S → S → Type 0} → ActsThen told by o n after R → ((s t : S) → R (by o) s t → Q (by o) s t) → ActsThen told by o n after Q
-  acts_map h f = record { step = told_map f h.step; acting = h.acting }
+  acts_map {o} {n} h f = record { step = grind (arith, nat_tests); acting = h.acting }
 
   -- one thing after another
   pub acts_on : {o m n : A} {first then after : Acting E → Acting E} {R T Q : Acting E → S → S → Type 0} → ActsThen told by o m first R → ActsThen told by m n then T
@@ -52,14 +41,14 @@ module _ {A S E : Type 0} {told : A → Option S} {by : A → Acting E} where
 
   -- nothing is done
   pub acts_same : {o : A} {R : Acting E → S → S → Type 0} → Tells (told o) (λ s. R (by o) s s) → Acts told by o o R
-  acts_same h = record { step = told_same h; acting = refl }
+  acts_same {o} {R} h = record { step = grind (arith, nat_tests, common_steps); acting = refl }
 
   pub acts_all : {o : A} {R : Acting E → S → S → Type 0} → ((s : S) → R (by o) s s) → Acts told by o o R
   acts_all f = acts_same (tells_all f)
 
   -- beside what held before
   pub acts_from : {o n : A} {P : S → Type 0} {R Q : Acting E → S → S → Type 0} → Tells (told o) P → Acts told by o n R → ((s t : S) → P s → R (by o) s t → Q (by o) s t) → Acts told by o n Q
-  acts_from h k f = record { step = told_from f h k.step; acting = k.acting }
+  acts_from {o} {n} {P} {R} {Q} h k f = record { step = grind (arith, nat_tests, common_steps); acting = k.acting }
 
 -- ---- which values come
 
@@ -123,61 +112,34 @@ module _ {N : Type 0} (E : Type 0) (v : Values N) (me : Owner) (own : Own) where
       lazy_refused e frames s t c = fails (λ o. met c (inr (inr (inr (inl (kind, key, need, c.step.taken))))))
 
   module _ (x : N) (node : ReadsNode v reading x) (top under : Held) (rest : List Held) (was : frames_of own.top own.below.items ≡ frame_of top ∷ frame_of under ∷ onto [] rest) where
-    both : frame_of top ∷ frame_of under ∷ onto [] rest ≡ node.top ∷ node.below
-    both = sym was ∙ node.frames
-
-    top_is : frame_of top ≡ node.top
-    top_is = cc (both)
-
-    below_is : frame_of under ∷ onto [] rest ≡ node.below
-    below_is = cc (both)
+    -- the same by the blobs that were taken off
+    abbrev own_node : ReadsNode v reading x
+    own_node = let is : frame_of top ≡ node.top = let e : frame_of top ∷ frame_of under ∷ onto [] rest ≡ node.top ∷ node.below = sym was ∙ node.frames in cc in
+        record { top = frame_of top; below = frame_of under ∷ onto [] rest; frames = was; needs = node.needs; decoded = subst (λ (f : Frame). IsDecoded v f x) (sym is) node.decoded }
 
     brought : {s t : PagerState N E} → Moves (λ n y. (y ≡ x) × IsNewNode s.core n) s t → Moves (ReadingBrings v s.core reading) s t
     brought {s} m = comes_as (λ n y came. inl (subst (ReadsNode v reading) (sym came.0) node, came.1)) m
-
-    adopted_as : {r : Result ArcRef (Error × N)} {w w' : Core} → AdoptsValue w me own.load top.kind top.key x (v.node_type x) (v.references x) r w' → AdoptsValue w me own.load node.top.kind node.top.key x (v.node_type x) (v.references x) r w'
-    adopted_as {r} {w} {w'} a = subst (λ (f : Frame). AdoptsValue w me own.load f.kind f.key x (v.node_type x) (v.references x) r w') top_is a
 
     pub adopt_comes : (r : ArcRef) (frames : List Frame) → frames ≡ record (frame_of under) { got = under.got.items ++ r ∷ [] } ∷ onto [] rest → (s t : PagerState N E)
         → Brings v (λ w'. AdoptsValue s.core me own.load top.kind top.key x (v.node_type x) (v.references x) (Ok r) w') (λ n y. (y ≡ x) × IsNewNode s.core n) s t → Tries v me own s (Ok None) frames t
     adopt_comes r frames is s t c = goes (λ o. record { does = record { does = inr (inr (inr (inr made))) }; moves = brought c.moves; whole = c.whole })
       where
-        a : AdoptsValue s.core me own.load node.top.kind node.top.key x (v.node_type x) (v.references x) (Ok r) t.core
-        a = adopted_as c.step
-
         made : MakesNode v s.core me reading frames t.core
         made =
-            record {
-              x = x;
-              reads_node = node;
-              k = r.handle;
-              row = a.made.row;
-              adopted = a.adopted;
-              made = a.made.live;
-              goes = is ∙ ap (λ (y : ArcRef). record (frame_of under) { got = under.got.items ++ y ∷ [] } ∷ onto [] rest) a.made.is ∙ ap (with_got node.top.kind a.made.row) below_is;
-            }
+            let goes = is ∙ ap (λ (y : ArcRef). record (frame_of under) { got = under.got.items ++ y ∷ [] } ∷ onto [] rest) c.step.made.is in
+            record { x = x; reads_node = own_node; k = r.handle; row = c.step.made.row; adopted = c.step.adopted; made = c.step.made.live; goes = goes }
 
     pub adopt_refused : (e : Error × N) (frames : List Frame) (s t : PagerState N E)
         → Brings v (λ w'. AdoptsValue s.core me own.load top.kind top.key x (v.node_type x) (v.references x) (Err e) w') (λ n y. (y ≡ x) × IsNewNode s.core n) s t → Tries v me own s (Err e.0) frames t
-    adopt_refused e frames s t c = fails (λ o. record { meets = inr (inr (inr (inr (inl (record { x = x; reads_node = node; adopted = again a.adopted }))))); moves = brought c.moves })
-      where
-        a : AdoptsValue s.core me own.load node.top.kind node.top.key x (v.node_type x) (v.references x) (Err e) t.core
-        a = adopted_as c.step
-
-        again : AdoptCall s.core me own.load node.top.kind node.top.key x (v.node_type x) (v.references x) (Err e) t.core → AdoptCall s.core me own.load node.top.kind node.top.key x (v.node_type x) (v.references x) (Err (e.0, x)) t.core
-        again call = record { adopts = tt; refused = (refl, call.refused.1) }
-
-  cell_of : (root : Root) → is_cell root ≡ true → IsOfCell root
-  cell_of (of_cell node t h) is = tt
-  cell_of of_key is = absurd (cc)
-
-  key_of : (root : Root) → is_cell root ≡ false → IsOfKey root
-  key_of (of_cell node t h) is = absurd (cc)
-  key_of of_key is = tt
+    adopt_refused e frames s t c =
+        fails (λ o. record {
+          meets = inr (inr (inr (inr (inl (record { x = x; reads_node = own_node; adopted = record { adopts = tt; refused = (refl, c.step.adopted.refused.1) } })))));
+          moves = brought c.moves;
+        })
 
   module _ (x : N) (root : ReadsRoot v reading x) (cell : own.for_cell ≡ true) where
     for_cell : (w : Core) → IsLoadOf w me own → LoadIs w reading IsOfCell
-    for_cell w o = record { load = o.load; open_load = o.owned.stands_open; sort = cell_of o.load.root (o.sort ∙ cell) }
+    for_cell w o = record { load = o.load; open_load = o.owned.stands_open; sort = grind (arith, nat_tests) }
 
     comes : {s t : PagerState N E} → Moves (λ n y. (y ≡ x) × IsCellOf s.core own.load n) s t → Moves (ReadingBrings v s.core reading) s t
     comes {s} m = comes_as (λ n y came. inr (subst (ReadsRoot v reading) (sym came.0) root, came.1)) m
@@ -193,7 +155,7 @@ module _ {N : Type 0} (E : Type 0) (v : Values N) (me : Owner) (own : Own) where
 
   module _ (x : N) (root : ReadsRoot v reading x) (sort : own.for_cell ≡ false) (named : List HandleNumber) (is : named ≡ handles_of (v.references x)) where
     for_key : (w : Core) → IsLoadOf w me own → LoadIs w reading IsOfKey
-    for_key w o = record { load = o.load; open_load = o.owned.stands_open; sort = key_of o.load.root (o.sort ∙ sort) }
+    for_key w o = record { load = o.load; open_load = o.owned.stands_open; sort = grind (arith, nat_tests) }
 
     pub hands_over : (frames : List Frame) → frames ≡ [] → (s t : PagerState N E) → Called v (λ w'. HandOverCall s.core me own.load named (Ok tt) w') s t → Tries v me own s (Ok (Some (LoadAnswer.Read x))) frames t
     hands_over frames none s t c = goes (λ o. went c (record { reads_root = root; of_key_load = for_key s.core o; handed = subst (λ hs. HandOverCall s.core me own.load hs (Ok tt) t.core) is c.step }, none))
@@ -203,26 +165,9 @@ module _ {N : Type 0} (E : Type 0) (v : Values N) (me : Owner) (own : Own) where
 
   -- ---- a refusal gives the load up
 
-  owner_self : (o : Owner) → is_owner o o ≡ true
-  owner_self Owner.Caller = refl
-  owner_self Owner.List = refl
-  owner_self o = grind arith
-
-  usable_load : (w : Core) (load : OpenLoad) → OwnsLoad w me own.load load → load_fault w me own.load ≡ None
-  usable_load w load o = ap (λ (l : Option OpenLoad). if_there (λ (load : OpenLoad). refused_if (not (is_owner me load.owner)) Error.NotYours) (Some Error.NoSuchHandle) l) o.stands_open ∙ ap (λ owner. refused_if (not (is_owner me owner)) Error.NotYours) o.own ∙ ap (λ b. refused_if (not b) Error.NotYours) (owner_self me)
-
   -- while it is met the load stays open
   stays_open : (w w' : Core) (e : Error) → Meets v w me reading e w' → w'.loads own.load.0 ≡ w.loads own.load.0
-  stays_open w w' e (inl (why, a)) = a.loads own.load.0
-  stays_open w w' e (inr (inl (first, asked))) = elim asked.refused [ inl r ↦ r.stays.loads own.load.0 | inr (load, owned, f) ↦ f.asked.leaves.loads own.load.0 ]
-  stays_open w w' e (inr (inr (inl (kind, key, need, inl asked)))) = elim asked.refused [ inl r ↦ r.stays.loads own.load.0 | inr (load, owned, f) ↦ f.1.asked.leaves.loads own.load.0 ]
-  stays_open w w' e (inr (inr (inl (kind, key, need, inr (blob, is, long, asked))))) = let g = asked.gives.2.1 in g.asked.leaves.loads own.load.0
-  stays_open w w' e (inr (inr (inr (inl (kind, key, need, lazy))))) = lazy.refused.stays.loads own.load.0
-  stays_open w w' e (inr (inr (inr (inr (inl r))))) = r.adopted.refused.1.stays.loads own.load.0
-  stays_open w w' e (inr (inr (inr (inr (inr r))))) = elim r.refuses [ inl (is, ended) ↦ ended.refused.1.stays.loads own.load.0 | inr (is, handed) ↦ handed.refused.1.loads own.load.0 ]
-
-  closes : (mid t : Core) (told : Result (Unit {0}) Error) (load : OpenLoad) → OwnsLoad mid me own.load load → DropCall mid me own.load told t → LoadCloses mid own.load told t
-  closes mid t told load o d = grind (arith, nat_tests, usable_load)
+  stays_open w w' e m = grind (arith, common_steps, nat_tests)
 
   pub gives_up : (e : Error) (l : LoadNumber) (frames none : List Frame) → l ≡ own.load → none ≡ [] → (s mid t : PagerState N E) → Tries v me own s (Err e) frames mid → Drops v me l mid t
       → Steps v me own s (Some (LoadAnswer.Refused e)) none t
@@ -232,7 +177,7 @@ module _ {N : Type 0} (E : Type 0) (v : Values N) (me : Owner) (own : Own) where
         let m = tried.meets o in
         let open_load : OwnsLoad mid.core me own.load o.load = record { stands_open = stays_open s.core mid.core e m.meets ∙ o.owned.stands_open; own = o.owned.own } in
         record {
-          does = record { does = (inl (record { mid = mid.core; meets = m.meets; told = d.told; closes = closes mid.core t.core d.told o.load open_load d.call.step }), is) };
+          does = record { does = (inl (record { mid = mid.core; meets = m.meets; told = d.told; closes = grind (arith, nat_tests) }), is) };
           moves = moves_then m.moves d.call.moves;
           whole = d.call.whole;
         };

@@ -1,6 +1,6 @@
 -- What a reading asks for is told by its bytes alone: kinds, one after the other, up to its end or its fault, whatever is answered.
 use Rattle.std.proofs.Common.{◌≡◌, ℕ, zero, suc, ◌+◌, ◌-◌, ◌/◌, ◌^◌, Bool, true, false, if◌then◌else◌, List, [], ◌∷◌, ◌++◌, length, Option, Some, None, Result, Ok, Err, refl, subst, ◌==◌}
-use Rattle.{std.{proofs.lemmas.List.append-nil, specs.{Prelude.{nat_lt, nat_le}, Int.{Width, w8, w32, w64}, Str.{is_utf8, chars}}}, pagable_model.specs.declared.error.Error.Error}
+use Rattle.{std.{proofs.{Common.arith, lemmas.{Bool.Decides.nat_tests, List.append-nil}}, specs.{Prelude.{nat_lt, nat_le}, Int.{Width, w8, w32, w64}, Str.{is_utf8, chars}}}, pagable_model.specs.declared.error.Error.Error}
 use Rattle.pagable_model.specs.{declared.numbers.ArcRef.ArcRef, Steps.◌>>=◌, Numbers.{Read, byte_at, varint_at, unsigned_at, signed_at}, Basic.{length_at, bytes_at, text_at, bool_at, one_char}}
 use Rattle.pagable_model.specs.{Basic.{char_at, duration_at, longest, nanos_of_second}, Meaning.{Meaning, integer, none, variant, sequence, entry, absent, present, success, failure, lifted}}
 use Rattle.pagable_model.specs.{Keys.{text_order, put_all, put_sorted}, Carried.{of_entries, of_tagged, of_hash_map}, Shape.{Shape, nothing, unsigned, signed, flag, letter, duration, json, optional}}
@@ -17,16 +17,10 @@ Sober (Ok x) = Unit {0}
 Sober (Err e) = is_asking e ≡ false
 
 sober_then : {A B : Type 0} (r : Result A Error) (f : A → Result B Error) → Sober r → ((x : A) → Sober (f x)) → Sober (r >>= f)
-sober_then (Ok x) f h k = k x
-sober_then (Err e) f h k = h
+sober_then r f h k = grind (arith, nat_tests)
 
 sober_if : {A : Type 0} (b : Bool) (r q : Result A Error) → Sober r → Sober q → Sober (if b then r else q)
-sober_if true r q h k = h
-sober_if false r q h k = k
-
-sober_byte : (bytes : List ℕ) → Sober (byte_at bytes)
-sober_byte [] = refl
-sober_byte (b ∷ bytes) = tt
+sober_if b r q h k = grind (arith, nat_tests)
 
 sober_varint : (more last : ℕ) (bytes : List ℕ) → Sober (varint_at more last bytes)
 unfolding varint_at
@@ -36,8 +30,7 @@ sober_varint zero last (b ∷ bytes) = sober_if (nat_le b last) _ _ tt refl
 sober_varint (suc more) last (b ∷ bytes) = sober_if (nat_lt b 128) _ _ tt (sober_then (varint_at more last bytes) _ (sober_varint more last bytes) (λ x. tt))
 
 sober_unsigned : (w : Width) (bytes : List ℕ) → Sober (unsigned_at w bytes)
-sober_unsigned w8 bytes = sober_byte bytes
-sober_unsigned w bytes = sober_varint _ _ bytes
+sober_unsigned w bytes = grind (arith, nat_tests, sober_varint)
 
 sober_signed : (w : Width) (bytes : List ℕ) → Sober (signed_at w bytes)
 sober_signed w bytes = sober_then (unsigned_at w bytes) _ (sober_unsigned w bytes) (λ x. tt)
@@ -48,24 +41,15 @@ sober_length bytes = sober_then (unsigned_at w64 bytes) _ (sober_unsigned w64 by
 
 sober_text : (bytes : List ℕ) → Sober (text_at bytes)
 unfolding text_at
-sober_text bytes = sober_then (length_at bytes) _ (sober_length bytes)
-    (λ n. sober_then (bytes_at n.0 n.1) _ (sober_if (nat_lt (length n.1) n.0) _ _ refl tt) (λ t. sober_if (is_utf8 t.0) _ _ tt refl))
+sober_text bytes = grind (arith, nat_tests, sober_length)
 
 sober_flag : (bytes : List ℕ) → Sober (bool_at bytes)
 unfolding bool_at
-sober_flag [] = refl
-sober_flag (zero ∷ bytes) = tt
-sober_flag (suc zero ∷ bytes) = tt
-sober_flag (suc (suc b) ∷ bytes) = refl
-
-sober_one : (cs bytes : List ℕ) → Sober (one_char cs bytes)
-sober_one [] bytes = refl
-sober_one (c ∷ []) bytes = tt
-sober_one (c ∷ d ∷ cs) bytes = refl
+sober_flag bytes = grind (arith, nat_tests)
 
 sober_char : (bytes : List ℕ) → Sober (char_at bytes)
 unfolding char_at
-sober_char bytes = sober_then (text_at bytes) _ (sober_text bytes) (λ t. sober_one (chars t.0) t.1)
+sober_char bytes = grind (arith, nat_tests, sober_text)
 
 sober_duration : (bytes : List ℕ) → Sober (duration_at bytes)
 unfolding duration_at
@@ -112,8 +96,7 @@ pub record Traced {X : Type 0} (get : Gets Answer X) : Type 0 where
 
 -- an answer leads to what comes of a reference, or of a refusal
 answered_map : (o : Result ArcRef Error) {P P' : Type 0} {Q Q' : Error → Type 0} → (P → P') → ((e : Error) → Q e → Q' e) → Answered o P Q → Answered o P' Q'
-answered_map (Ok r) f g h = f h
-answered_map (Err e) f g h = g e h
+answered_map o f g h = grind (arith, nat_tests)
 
 module _ {X Y : Type 0} (f : X × Rest Answer → Result (Y × Rest Answer) Error) where
   refused_then : (r : Result (X × Rest Answer) Error) (e : Error) → r ≡ Err e → (r >>= f) ≡ Err e
@@ -131,8 +114,7 @@ module _ {X Y : Type 0} (f : X × Rest Answer → Result (Y × Rest Answer) Erro
 module _ {X Y : Type 0} (view : X → Y) where
   ends_seen : (end : End) (refs : List Answer) (r : Result (X × Rest Answer) Error) → Ends end refs r → Goes [] end refs (r >>= λ x. let o : Result (Y × Rest Answer) Error = Ok (view x.0, x.1) in o)
   unfolding Goes
-  ends_seen (done bytes) refs r (x, is) = (view x, rw is refl)
-  ends_seen (faulty e sober) refs r is = rw is refl
+  ends_seen end refs r is = grind (arith, nat_tests)
 
   goes_seen : (ks : List ℕ) (end : End) (refs : List Answer) (r : Result (X × Rest Answer) Error) → Goes ks end refs r → Goes ks end refs (r >>= λ x. let o : Result (Y × Rest Answer) Error = Ok (view x.0, x.1) in o)
   goes_seen ks end refs r h = subst (λ l. Goes l end refs (r >>= λ x. let o : Result (Y × Rest Answer) Error = Ok (view x.0, x.1) in o)) (append-nil ks) (goes_then _ ks [] end end (ends_seen end) refs r h)
@@ -209,14 +191,8 @@ asks_one : (kind : ℕ) → Traced (λ (i : Rest Answer). reference_at answer_at
 unfolding Goes
 asks_one kind = record { on = λ bytes. record { kinds = kind ∷ []; end = done bytes; goes = λ refs. by bytes refs } }
   where
-    at : (bytes : List ℕ) (refs : List Answer) (o : Result ArcRef Error)
-        → Answered o (Ends (done bytes) refs (o >>= λ b. let z : Result (Meaning ArcRef × Rest Answer) Error = Ok (meanings.reference b, left bytes refs) in z)) (λ e. (o >>= λ b. let z : Result (Meaning ArcRef × Rest Answer) Error = Ok (meanings.reference b, left bytes refs) in z) ≡ Err e)
-    at bytes refs (Ok r) = (meanings.reference r, refl)
-    at bytes refs (Err e) = refl
-
     by : (bytes : List ℕ) (refs : List Answer) → Goes (kind ∷ []) (done bytes) refs (reference_at answer_at kind refs (left bytes refs))
-    by bytes [] = refl
-    by bytes (a ∷ refs) = at bytes refs (a kind)
+    by bytes refs = grind (arith, nat_tests)
 
 -- ---- values
 

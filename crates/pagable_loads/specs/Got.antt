@@ -1,8 +1,8 @@
--- What those who answer from a list of got references stand for.
-use Rattle.std.specs.{Prelude.{◌≡◌, refl, ℕ, ◌==◌, Bool, true, false, if◌then◌else◌, List, Option, Some, None, Result, Ok, Err, option_and_then, slice_get}, Option.option_map}
-use Rattle.std.{specs.declared.{alloc.Global.Global, sync.Arc.Arc}, proofs.Common.subst}
-use Rattle.pagable_model.specs.{declared.{error.Error.Error, numbers.ArcRef.ArcRef}, Refusals.may_refuse_reference}
-use Rattle.{pagable_world.specs.Loads.answer_of, pagable_loads.specs.declared.got.GotReferences.GotReferences}
+-- What those who answer from a list of got references stand for, and what a load lends to them.
+use Rattle.std.specs.Prelude.{◌≡◌, ◌⊎◌, refl, ℕ, ◌==◌, Bool, true, false, if◌then◌else◌, List, Option, Some, None, IfSome, IfNone, IsSome, Result, Ok, Err, option_and_then, slice_get}
+use Rattle.std.{specs.{Option.option_map, declared.{alloc.Global.Global, sync.Arc.Arc}}, proofs.Common.subst}
+use Rattle.pagable_model.specs.{declared.{error.Error.Error, numbers.ArcRef.ArcRef}, Refusals.may_refuse_reference, Deep.is_eager}
+use Rattle.{pagable_world.specs.{World.row_at, Refusals.live_fault, Loads.answer_of, Pager.{PagerState, ValueCall}}, pagable_loads.specs.declared.got.GotReferences.GotReferences}
 
 abbrev pub environment_of : {E N H K V : Type 0} → GotReferences E N H K V → E
 environment_of s = s.env.now
@@ -27,6 +27,15 @@ is_handle_of r (Some found) = found.handle.0 == r.handle.0
 -- the value at this place, if the reference stands there
 abbrev pub lent_by : {A N : Type 0} → (A → N) → List ArcRef → List (Option A) → ℕ → ArcRef → Option N
 lent_by see got lent place r = if is_handle_of r (slice_get got place) then lent_at see lent place else None
+
+-- The value that its handle pins, if it is read together with it; none where the handle pins none, or is gone.
+pub record Lends {N E : Type 0} (s : PagerState N E) (r : ArcRef) (found : Option N) : Type 0 where
+  pub value : IfSome found (λ x. (is_eager r.kind.0 ≡ true) × ValueCall s r.handle (Ok (Some x)))
+  pub none : IfNone found ((is_eager r.kind.0 ≡ false) ⊎ ValueCall s r.handle (Ok None) ⊎ IsSome (live_fault (row_at s.core r.handle)))
+
+-- each reference lends its own, by its place
+pub record LendsEach {A N E : Type 0} (see : A → N) (s : PagerState N E) (got : List ArcRef) (lent : List (Option A)) : Type 0 where
+  pub each : (place : ℕ) (r : ArcRef) → slice_get got place ≡ Some r → Lends s r (lent_at see lent place)
 
 may_of : (e f : Error) → may_refuse_reference f ≡ true → (let r : Result ArcRef Error = Err f in r) ≡ Err e → may_refuse_reference e ≡ true
 may_of e f may is =

@@ -2,7 +2,6 @@ pub mod Telling
 pub mod Got
 pub mod Decoding
 pub mod Frames
-pub mod Lending
 pub mod Needing
 pub mod Stepping
 pub mod Working
@@ -10,4 +9,3 @@ pub mod Ending
 pub mod Ahead
 pub mod StandIns
 pub mod Starting
-pub mod Running

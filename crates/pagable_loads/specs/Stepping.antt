@@ -1,8 +1,8 @@
 -- What a load's step does, up to its refusal and with it, in the words of the world.
-use Rattle.std.specs.Prelude.{◌≡◌, ℕ, ◌<◌, ◌++◌, List, [], ◌∷◌, Option, Result, IfOk, IfErr, vec_len, vec_capacity}
-use Rattle.pagable_model.specs.declared.{error.Error.Error, numbers.ArcRef.ArcRef}
+use Rattle.std.specs.Prelude.{◌≡◌, ℕ, ◌<◌, List, [], ◌∷◌, Option, Result, IfOk, IfErr, vec_len, vec_capacity}
+use Rattle.{pagable_model.specs.declared.{error.Error.Error}, pagable_loads.specs.declared.reading.Frame.Frame as Held}
 use Rattle.{pagable_model.specs.declared.numbers.LoadNumber.LoadNumber, pagable_world.specs.{declared.{events.LoadAnswer.LoadAnswer, handles.Owner.Owner}, World.{Frame, Reading, Values}}}
-use Rattle.{pagable_world.specs.{LoadCalls.DropCall, Loads.Meets, Pager.{PagerState, Moves, ReadingBrings}, Access.{Called, ReadingStep}}, pagable_loads.specs.declared.reading.Frame.Frame as Held}
+use Rattle.{pagable_world.specs.{LoadCalls.DropCall, Loads.Meets, Pager.{PagerState, Moves, ReadingBrings}, Access.{Called, ReadingStep, LoadRun}}}
 use Rattle.pagable_loads.specs.{declared.reading.Reading.Reading as Own, Frames.{IsLoadOf, reading_of, frame_of, frames_of, onto}}
 
 -- a refusal was met, and the load is still open
@@ -43,6 +43,11 @@ pub record TakenTwo (old new : Own) (top under : Held) : Type 0 where
   pub frames : frames_of old.top old.below.items ≡ frame_of top ∷ frame_of under ∷ onto [] new.below.items
   pub room : vec_len under.got < vec_capacity under.got
 
--- the blob is the innermost, and has got this reference besides
-pub record Gets (old new : Own) (top : Held) (r : ArcRef) : Type 0 where
-  pub frames : frames_of new.top new.below.items ≡ record (frame_of top) { got = top.got.items ++ r ∷ [] } ∷ onto [] old.below.items
+-- all steps of a load that is open, and is what its own side says
+pub record Runs {N E : Type 0} (v : Values N) (me : Owner) (own : Own) (s : PagerState N E) (answer : LoadAnswer N) (t : PagerState N E) : Type 0 where
+  pub run : IsLoadOf s.core me own → LoadRun v me (reading_of own) s answer t
+
+-- Steps so far: the load is still open, and what ends it from there ends it from its beginning.
+pub record HasGone {N E : Type 0} (v : Values N) (me : Owner) (own now : Own) (s t : PagerState N E) : Type 0 where
+  pub open_still : IsLoadOf s.core me own → IsLoadOf t.core me now
+  pub then : IsLoadOf s.core me own → (answer : LoadAnswer N) (u : PagerState N E) → LoadRun v me (reading_of now) t answer u → LoadRun v me (reading_of own) s answer u

@@ -2,7 +2,7 @@
 
 ghost use Rattle.std.specs.{Prelude.{◌≡◌, ◌<◌, [], length, IsSome, true, false, ◌≢◌, None, IfOk, IfErr}, Arc.arc_value, List.list_any, Option.option_map};
 ghost use Rattle.pagable_model.specs.Deep.{is_eager};
-ghost use Rattle.pagable_loads.specs.{Frames.{reading_of, frames_of}, Needing.{Needs, HasFrames, IsRead, need_wanted}, Telling.{values_at, Tells}, Lending.{Lends, LendsEach}};
+ghost use Rattle.pagable_loads.specs.{Frames.{reading_of, frames_of}, Needing.{Needs, HasFrames, IsRead, need_wanted}, Telling.{values_at, Tells}, Got.{Lends, LendsEach}};
 
 use crate::access::Access;
 use crate::decoding::{Decoded, decode};

@@ -1,9 +1,9 @@
 //! The blobs of a load, the innermost apart from those below it.
 
-ghost use Rattle.std.specs.{Prelude.{◌≡◌, ◌<◌, ◌≤◌, ◌∷◌, ◌^◌, [], length, vec_len, vec_capacity, IsSome, IfOk, IfErr, OnOk}, Arc.arc_value};
+ghost use Rattle.std.specs.{Prelude.{◌≡◌, ◌<◌, ◌≤◌, ◌∷◌, ◌++◌, ◌^◌, [], length, vec_len, vec_capacity, IsSome, IfOk, IfErr, OnOk}, Arc.arc_value};
 ghost use Rattle.pagable_core.specs.Data.{blob_of};
 ghost use Rattle.{pagable_model.specs.Deep.longest_path, pagable_world.specs.Loads.{root_frame, nested_frame, handles_of as all_handles}, pagable_loads.specs.Frames.{frame_of, frames_of, onto}};
-ghost use Rattle.pagable_loads.specs.Stepping.{IsSameLoad, TakenOff, TakenTwo, Gets};
+ghost use Rattle.pagable_loads.specs.Stepping.{IsSameLoad, TakenOff, TakenTwo};
 
 use crate::reading::{Frame, Reading};
 use pagable_codec::{ArcRef, Kind};
@@ -57,7 +57,7 @@ impl Reading {
     /// The blob is the innermost, and has got one more reference.
     pub(crate) fn put_got(&mut self, top: Frame, reference: ArcRef)
         requires { vec_len top.got < vec_capacity top.got }
-        ensures gets { Gets self.old self.new top reference }
+        ensures gets { frames_of self.new.top self.new.below.items ≡ record (frame_of top) { got = top.got.items ++ reference ∷ [] } ∷ onto [] self.old.below.items }
         ensures same { IsSameLoad self.old self.new self.old.steps }
     {
         let mut top = top;

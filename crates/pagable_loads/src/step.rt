@@ -3,7 +3,7 @@
 ghost use Rattle.std.specs.Prelude.{◌≡◌, ◌<◌, [], length, IsSome, IfOk, Some, Result, Ok, true, false};
 ghost use Rattle.pagable_world.specs.{World.one_more, Loads.{need_of, needs_nested, needs_lazy, ReadsNode}};
 ghost use Rattle.{pagable_world.specs.Loads.ReadsRoot, pagable_loads.specs.{Stepping.{IsSameLoad, Tries, Steps, Drops}, Ahead.{GotMore, goes_on_with, IsAhead, RowTells}}};
-ghost use Rattle.pagable_loads.specs.{Ending.{LeadsOn, EndsAs}, Frames.{reading_of, frames_of}, Needing.{Needs, HasFrames}, Telling.{Acts, values_at}, Running.Runs};
+ghost use Rattle.pagable_loads.specs.{Ending.{LeadsOn, EndsAs}, Frames.{reading_of, frames_of}, Needing.{Needs, HasFrames}, Telling.{Acts, values_at}, Stepping.Runs};
 
 use crate::access::Access;
 use crate::foreseeing::keep_if;

@@ -1,6 +1,6 @@
 -- Results have their trees, one for each reference.
 use Rattle.{std.proofs.{Common.{ℕ, ◌≡◌, List, [], ◌∷◌, map, length, get_or, drop, sym, ap, subst, arith}, lemmas.Grind.merely}, pagable_model.specs.{Blob.key_of, Merkle.blob_of}}
-use Rattle.{pagable_model.specs.declared.numbers.ArcRef.ArcRef, pagable_world.specs.{Kinds.identity_of, Plain.Identity, World.{Written, Values}}, pagable_walk.specs.Found.{ids_of, keys_of}}
+use Rattle.{pagable_model.specs.declared.numbers.ArcRef.ArcRef, pagable_world.specs.{Kinds.identity_of, Plain.Identity, World.{Written, Values}}, pagable_walk.specs.Slots.{ids_of, keys_of}}
 use Rattle.pagable_walk.specs.{Results.{HasFormOf, ResultStands, stands-over, ResultsStand, no-results, more-results}, declared.results.{SlotResult.SlotResult, Trees.Ghosts}}
 use mathlib.Core.Logic.{∥∥₁_elim, ∥∥₁_map, ∥∥₁_prop}
 

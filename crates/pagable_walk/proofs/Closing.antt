@@ -1,10 +1,10 @@
 -- A turn at what was written is the worker's.
-use Rattle.std.proofs.{Common.{ℕ, ◌≡◌, true, List, [], ◌∷◌, Some, None, Result, Ok, Err, inl, refl, sym, subst, arith}, lemmas.{Bool.Decides.nat_tests, Grind.common_steps}}
+use Rattle.std.proofs.{Common.{ℕ, ◌≡◌, true, List, [], ◌∷◌, Some, None, Result, Ok, Err, sym, subst, arith}, lemmas.{Bool.Decides.nat_tests, Grind.common_steps}}
 use Rattle.{std.specs.{Arc.arc_value, Prelude.Option}, pagable_model.specs.{Merkle.blob_of, declared.error.Error.Error}, pagable_loads.proofs.Stepped.{none_comes, acts_map, acts_all, tells_all}}
 use Rattle.pagable_world.specs.{World.{Shelf, SameShelf, Todo, Values, Written, to_publish, to_release, was_refused, answer_of_fault, published}, Access.Called, Calls.{ScheduleCall, SetKeyCall}}
-use Rattle.pagable_world.specs.{Cascade.FallsAnyhow, Kinds.{identity_of, owner_worker}, Pager.{PagerState, WellFormed}, Plain.{HandleNumber, Identity}, Workers.{is_workers_at, give}}
+use Rattle.pagable_world.specs.{Cascade.FallsAnyhow, Kinds.{identity_of, owner_worker}, Pager.{PagerState, WellFormed}, Plain.{HandleNumber, Identity}, Workers.{is_workers_at}}
 use Rattle.pagable_world.specs.{Workers.{with_changed_slot, with_failed, with_outcome}, declared.{handles.Owner.Owner, events.{WorkerAnswer.WorkerAnswer, Took.Took}}}
-use Rattle.pagable_walk.specs.{Ending.{Stores, IsStored, named_by, GoesBack}, Failing.{back_of, fails}, Found.keys_of, Slots.written_of, Tasks.{Gives, IsPlain, IsWay, fault_of}}
+use Rattle.pagable_walk.specs.{Writing.{Stores, IsStored, named_by, GoesBack}, Slots.{keys_of, written_of}, Tasks.{Gives, IsPlain, IsWay, back_of, fails, fault_of}}
 use Rattle.pagable_walk.specs.{Tasks.{todos, waiting_todo, waits_as}, Turns.{TurnsTo, Turned, plan}, declared.{results.Trees.Ghosts, table.PageOutError.PageOutError, tasks.{Done.Done, Node.Node}}}
 use Rattle.pagable_walk.{specs.declared.tasks.{Task.Task, Turn.Turn, Waiting.Waiting}, proofs.{Pinning.same-shelf, Turning.{alike, plain-fits}}}
 
@@ -12,32 +12,19 @@ use Rattle.pagable_walk.{specs.declared.tasks.{Task.Task, Turn.Turn, Waiting.Wai
 
 module _ {X : Type 0} {g : Ghosts X} where
   pub stored-way : (node : Option Node) (written : Written) (keys : List ℕ) (key : ℕ) (turn : Turn X g) (path : List (Waiting X g)) → IsStored node key turn → IsWay (waits_as node written keys ∷ todos path) → IsWay (plan turn path)
-  stored-way None written keys key turn path is way = rw is tt
-  stored-way (Some n) written keys key turn path (task, is, todo, plain) (all, up, low) = rw (is, todo) (n.place, up, low)
+  stored-way given written keys key turn path is way = grind (arith, nat_tests, common_steps)
 
 module _ {X : Type 0} {g : Ghosts X} {N E : Type 0} (v : Values N) (me : Owner) (n : ℕ) (shelf : Shelf) (below : List Todo) where
-  module _ (mine : me ≡ owner_worker n) (written : Written) (keys : List ℕ) (s t : PagerState N E) (was : WellFormed v s) where
-    stores : (node : Option Node) → IsWay (waits_as node written keys ∷ below) → (key : ℕ) (turn : Turn X g) (path : List (Waiting X g)) → todos path ≡ below → IsStored node key turn → Stores v s (blob_of written.bytes keys) (Ok key) t
-        → Turned v n shelf (waits_as node written keys ∷ below) s shelf (record { took = Took.Store (named_by node) (Ok key); turn = turn; counted = true }) (plan turn path) t
-    stores None way key turn path at is call = rw is (grind (arith, nat_tests, common_steps, same-shelf, none_comes))
-    stores (Some o) way key turn path at (task, is, todo, plain) call = rw is (grind (arith, nat_tests, common_steps, same-shelf, none_comes, plain-fits))
-
-    fails-so : (node : Option Node) → IsWay (waits_as node written keys ∷ below) → (e : Error) (task : Task X g) (after : List Todo) → IsPlain task → after ≡ fails (was_refused e) (back_of None below)
-        → Stores v s (blob_of written.bytes keys) (Err e) t
-        → Turned v n shelf (waits_as node written keys ∷ below) s shelf (record { took = Took.Store (named_by node) (Err e); turn = Turn.Goes task; counted = true }) after t
-    fails-so None way e task after plain is call = grind (arith, nat_tests, common_steps, same-shelf, none_comes, plain-fits)
-    fails-so (Some o) way e task after plain is call = grind (arith, nat_tests, common_steps, same-shelf, none_comes, plain-fits)
-
   module _ (w : Waiting X g) (way : IsWay (waiting_todo w ∷ below)) where
     pub finish-stores : (key : ℕ) (turn : Turn X g) (path : List (Waiting X g)) → todos path ≡ below → IsStored w.node key turn → (s t : PagerState N E)
         → Stores v s (blob_of (written_of (arc_value w.written)).bytes (keys_of w.children.items)) (Ok key) t
         → TurnsTo v me n shelf (Task.Finish w) below shelf (record { took = Took.Store (named_by w.node) (Ok key); turn = turn; counted = true }) (plan turn path) s t
-    finish-stores key turn path at is s t call = grind (arith, nat_tests, common_steps, stores)
+    finish-stores key turn path at is s t call = grind (arith, nat_tests, common_steps, same-shelf, none_comes, plain-fits)
 
     pub finish-fails : (e : Error) (task : Task X g) (after : List Todo) → IsPlain task → after ≡ fails (was_refused e) (back_of None below) → (s t : PagerState N E)
         → Stores v s (blob_of (written_of (arc_value w.written)).bytes (keys_of w.children.items)) (Err e) t
         → TurnsTo v me n shelf (Task.Finish w) below shelf (record { took = Took.Store (named_by w.node) (Err e); turn = Turn.Goes task; counted = true }) after s t
-    finish-fails e task after plain is s t call = grind (arith, nat_tests, common_steps, fails-so)
+    finish-fails e task after plain is s t call = grind (arith, nat_tests, common_steps, same-shelf, none_comes, plain-fits)
 
   module _ (d : Done X g) where
     pub set-goes : (through : HandleNumber) (s t : PagerState N E) → Called v (λ w'. SetKeyCall s.core me through d.found.key (Ok tt) w') s t
@@ -61,11 +48,7 @@ module _ {X : Type 0} {g : Ghosts X} {N E : Type 0} (v : Values N) (me : Owner) 
 
   pub release-gives : (below : List Todo) (task : Task X g) (after : List Todo) → Gives d.reference d.found.key d.found.height below after → IsPlain task → (s t : PagerState N E)
       → Called v (λ w'. FallsAnyhow s.core s.core (is_workers_at s.core n d.reference.node.0) w') s t → TurnsTo v me n shelf (Task.Release d) below shelf (record { took = Took.Release (identity_of d.reference); turn = Turn.Goes task; counted = true }) after s t
-  release-gives below task after gives plain s t call = by gives.x gives.rest gives.was gives.is
-    where
-      by : (x : Todo) (rest : List Todo) → below ≡ x ∷ rest → after ≡ give d.reference d.found.key d.found.height (x ∷ rest)
-          → TurnsTo v me n shelf (Task.Release d) below shelf (record { took = Took.Release (identity_of d.reference); turn = Turn.Goes task; counted = true }) after s t
-      by x rest some is = grind (arith, nat_tests, common_steps, same-shelf, none_comes, plain-fits)
+  release-gives below task after gives plain s t call = grind (arith, nat_tests, common_steps, same-shelf, none_comes, plain-fits)
 
 module _ {X : Type 0} {g : Ghosts X} {N E : Type 0} (v : Values N) (me : Owner) (n : ℕ) (shelf : Shelf) where
   pub ends-failed : (shelf' : Shelf) (why : PageOutError) (back : Option HandleNumber) (below : List Todo) → SameShelf (with_failed shelf n) shelf' → (s t : PagerState N E) → GoesBack v me back s t
@@ -75,8 +58,7 @@ module _ {X : Type 0} {g : Ghosts X} {N E : Type 0} (v : Values N) (me : Owner) 
 -- an entry goes back, or none does
 module _ {N E : Type 0} (v : Values N) (me : Owner) where
   pub back-none : (back : Option HandleNumber) → ((h : HandleNumber) → back ≡ Some h → ⊥) → (s : PagerState N E) → GoesBack v me back s s
-  back-none None none s = record { goes = alike s.core; moves = record { each = λ q x is. inl is; environment = refl }; whole = λ is. is }
-  back-none (Some h) none s = absurd (none h refl)
+  back-none back none s = grind (arith, nat_tests, common_steps, alike)
 
   pub back-some : (back : Option HandleNumber) (h : HandleNumber) (r : Result (Unit {0}) Error) → back ≡ Some h → (s t : PagerState N E) → Called v (λ w'. ScheduleCall s.core me h r w') s t
       → GoesBack v me back s t

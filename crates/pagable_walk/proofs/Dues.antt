@@ -1,34 +1,22 @@
 -- The number that falls with each step of a walk.
-use Rattle.{std.proofs.{Common.{ℕ, ◌≡◌, ◌≤◌, ◌<◌, ◌+◌, ◌*◌, ◌^◌, List, ◌∷◌, length, refl, arith}, Math.Nat.mul-le-mul_right}, pagable_model.specs.declared.numbers.ArcRef.ArcRef}
+use Rattle.{std.proofs.{Common.{ℕ, ◌≡◌, ◌≤◌, ◌<◌, ◌+◌, ◌*◌, ◌^◌, List, ◌∷◌, length, arith}, Math.Nat.mul-le-mul_right}, pagable_model.specs.declared.numbers.ArcRef.ArcRef}
 use Rattle.{pagable_world.specs.World.{Todo, Written, to_start}, pagable_walk.specs.{Due.{IfGoes, Leads, LeadsOn, due, far}, Tasks.{todo_of, waits_as}, declared.{results.Trees.Ghosts, tasks.{Node.Node, Task.Task, Turn.Turn}}}}
-use Rattle.{std.{specs.{Arc.arc_value, Prelude.{Option, Some, None}}, proofs.lemmas.Bool.Decides.nat_tests}, pagable_walk.{proofs.Stacks.todos-length, specs.{Found.keys_of, Slots.written_of}}}
+use Rattle.{std.{specs.{Prelude.{Option}}, proofs.lemmas.Bool.Decides.nat_tests}, pagable_walk.{proofs.Stacks.todos-length}}
 
 falls-by : (l l' d d' b : ℕ) → l' + 1 ≤ l → d' < b → l' * b + d' < l * b + d
 falls-by l l' d d' b less low = let a : (l' + 1) * b ≤ l * b = mul-le-mul_right b less in omega (arith, a)
 
-waits-leads : (node : Option Node) (written : Written) (keys : List ℕ) (below after : List Todo) → Leads (waits_as node written keys ∷ below) after → due after < due (waits_as node written keys ∷ below)
-waits-leads None written keys below after leads = leads
-waits-leads (Some n) written keys below after leads = leads
-
 module _ {X : Type 0} {g : Ghosts X} where
   pub start-falls : (turn : Turn X g) (l l' : ℕ) (r : ArcRef) (place : ℕ) (below after : List Todo) → l' + 1 ≤ l → length below < 2 ^ 64 → LeadsOn (to_start r place ∷ below) turn after
       → IfGoes turn (l' * far + due after < l * far + due (to_start r place ∷ below))
-  start-falls (Turn.Goes t) l l' r place below after less few leads = let low : due after < far = omega arith in falls-by l l' (due (to_start r place ∷ below)) (due after) far less low
-  start-falls (Turn.Answers a) l l' r place below after less few leads = tt
-
-  same-falls : (turn : Turn X g) (l : ℕ) (todo after : List Todo) → IfGoes turn (due after < due todo) → IfGoes turn (l * far + due after < l * far + due todo)
-  same-falls (Turn.Goes t) l todo after less = omega (arith, less)
-  same-falls (Turn.Answers a) l todo after less = tt
+  start-falls turn l l' r place below after less few leads = grind (arith, nat_tests, falls-by)
 
   other-leads : (task : Task X g) → ((r : ArcRef) (place : ℕ) → task ≡ Task.Start r place → ⊥) → (turn : Turn X g) (below after : List Todo) → LeadsOn (todo_of task ∷ below) turn after
       → IfGoes turn (due after < due (todo_of task ∷ below))
-  other-leads (Task.Start r place) other turn below after leads = absurd (other r place refl)
-  other-leads (Task.Finish w) other (Turn.Goes t) below after leads = waits-leads w.node (written_of (arc_value w.written)) (keys_of w.children.items) below after leads
-  other-leads (Task.Finish w) other (Turn.Answers a) below after leads = tt
-  other-leads task other turn below after leads = leads
+  other-leads task other turn below after leads = grind (arith, nat_tests)
 
   pub other-falls : (task : Task X g) → ((r : ArcRef) (place : ℕ) → task ≡ Task.Start r place → ⊥) → (turn : Turn X g) (l : ℕ) (below after : List Todo) → LeadsOn (todo_of task ∷ below) turn after
       → IfGoes turn (l * far + due after < l * far + due (todo_of task ∷ below))
-  other-falls task other turn l below after leads = same-falls turn l (todo_of task ∷ below) after (other-leads task other turn below after leads)
+  other-falls task other turn l below after leads = grind (arith, nat_tests, other-leads)
 
 pub ruleset dues = (nat_tests, start-falls, other-falls, todos-length)

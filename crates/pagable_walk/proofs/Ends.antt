@@ -1,17 +1,13 @@
 -- Waits come to an end after each change of a table.
-use Rattle.std.proofs.{Common.{ℕ, ◌≡◌, Bool, true, false, if◌then◌else◌, Option, Some, None, ◌⊎◌, inl, inr, refl, sym, ap, ◌∙◌, subst, nat_eq}, lemmas.Option.none-some}
+use Rattle.std.proofs.{Common.{arith, ℕ, ◌≡◌, Bool, true, false, if◌then◌else◌, Option, Some, None, ◌⊎◌, inl, inr, refl, sym, ap, ◌∙◌, subst, nat_eq}, lemmas.Option.none-some}
 use Rattle.pagable_world.specs.{Workers.{is_open_outcome, with_outcome, IsOpenSlot, ComesToEnd, works, may-go-on, waits-on, with_slot, with_wait}, Plain.{Identity, SameAt, if_there}, World.Outcome}
 use Rattle.{std.proofs.lemmas.{Bool.Decides.nat_tests, Grind.{common_steps, merely}}, pagable_world.specs.World.{Slot, Shelf, SameShelf, is_identity}, pagable_walk.specs.Slots.Changes}
 use Rattle.pagable_walk.{proofs.{Held.{same-as, same-identity}, Waits.{some-same, open-is, closed}}, specs.Slots.{open_worker, WaitsFor, Ends, ends-at, EachEnds, claimed_by, SlotIs, SameSlots}}
 use mathlib.Core.Logic.{∥∥₁_map}
 
-or-ends : {A B : Type 0} → (A → B) → A ⊎ B → B
-or-ends f (inl a) = f a
-or-ends f (inr b) = b
-
 module _ (s s' : Shelf) (h : (u w : ℕ) → WaitsFor s' u w → WaitsFor s u w ⊎ Ends s' w) where
   ends-still : {u : ℕ} → Ends s u → Ends s' u
-  ends-still (ends-at u f) = ends-at u (λ w e. or-ends (λ old. ends-still (f w old)) (h u w e))
+  ends-still (ends-at u f) = ends-at u (λ w e. elim (h u w e) [ inl old ↦ ends-still (f w old) | inr ends ↦ ends ])
 
   -- where each wait that is new comes to an end
   pub each-ends : EachEnds s → EachEnds s'
@@ -22,8 +18,7 @@ pub less-open : (s s' : Shelf) → ((i : Identity) (w : ℕ) → open_worker (s'
 less-open s s' h same = each-ends s s' (λ u w e. inl (record { i = e.i; waits = sym (same u) ∙ e.waits; still = h e.i w e.still }))
 
 was-waiting : (b : Bool) (x : Option Identity) (i : Identity) → (if b then None else x) ≡ Some i → x ≡ Some i
-was-waiting true x i e = absurd (none-some i e)
-was-waiting false x i e = e
+was-waiting b x i e = grind (arith, nat_tests)
 
 -- one that doesn't wait any more
 pub stopped : (s s' : Shelf) (v : ℕ) → SameShelf (with_wait s v None) s' → EachEnds s → EachEnds s'
@@ -38,8 +33,7 @@ module _ (s s' : Shelf) (v : ℕ) (i : Identity) (same : SameShelf (with_slot s 
   taken = each-ends s s' (λ u w e. by u w e.i (is_identity i e.i) (sym (same.waits u) ∙ e.waits) (sym (ap open_worker (same.slots e.i)) ∙ e.still))
     where
       by : (u w : ℕ) (j : Identity) (b : Bool) → s.waits u ≡ Some j → open_worker (if b then Some (claimed_by v) else s.slots j) ≡ Some w → WaitsFor s u w ⊎ Ends s' w
-      by u w j true waits still = inr (subst (Ends s') (some-same still) claimer-ends)
-      by u w j false waits still = inl (record { i = j; waits = waits; still = still })
+      by u w j b waits still = grind (arith, nat_tests, some-same, claimer-ends)
 
 -- a worker waits for one whose wait comes to an end without it
 module _ (s s' : Shelf) (v : ℕ) (i : Identity) (same : SameShelf (with_wait s v (Some i)) s') where
@@ -61,11 +55,7 @@ module _ (s s' : Shelf) (v : ℕ) (i : Identity) (same : SameShelf (with_wait s 
     waiting = each-ends s s' (λ u w e. ask u w e (nat_eq u v) refl)
       where
         ask : (u w : ℕ) → WaitsFor s' u w → (b : Bool) → nat_eq u v ≡ b → WaitsFor s u w ⊎ Ends s' w
-        ask u w e false d = inl (was-for u w d e)
-        ask u w e true d =
-            let same_i : i ≡ e.i = some-same (sym (same.waits u ∙ ap (λ b. if b then Some i else s.waits u) d) ∙ e.waits) in
-            let is : open_worker (s.slots i) ≡ Some w = ap (λ k. open_worker (s.slots k)) same_i ∙ ap open_worker (sym (same.slots e.i)) ∙ e.still in
-            inr (subst (Ends s') (some-same (sym (ap open_worker o.claimed ∙ open-is slot o.no_result_yet) ∙ is)) (end-later c))
+        ask u w e b d = grind (arith, nat_tests, was-for, some-same, open-is, end-later)
 
 -- a claim that is made or refused
 pub taken-or-not : (s s' : Shelf) (v : ℕ) (i : Identity) → SameAt s.waits s'.waits → s.waits v ≡ None → SlotIs s.slots i (Some (claimed_by v)) s'.slots ⊎ SameSlots s.slots s'.slots → EachEnds s → EachEnds s'
@@ -78,23 +68,11 @@ no-waits s h u = merely (ends-at u (λ w e. absurd (none-some e.i (sym (h u) ∙
 
 -- a slot that changes and doesn't come to be without a result
 module _ (old new : Identity → Option Slot) (i : Identity) (f : Slot → Slot) (h : (x : Slot) (w : ℕ) → open_worker (Some (f x)) ≡ Some w → open_worker (Some x) ≡ Some w) (is : Changes f old i new) where
-  less-at : (o : Option Slot) (w : ℕ) → open_worker (if_there (λ (x : Slot). Some (f x)) None o) ≡ Some w → open_worker o ≡ Some w
-  less-at None w e = absurd (none-some w e)
-  less-at (Some x) w e = h x w e
-
-  less : (j : Identity) (b : Bool) → is_identity i j ≡ b → (w : ℕ) → open_worker (if b then if_there (λ (x : Slot). Some (f x)) None (old i) else old j) ≡ Some w → open_worker (old j) ≡ Some w
-  less j false q w e = e
-  less j true q w e = subst (λ k. open_worker (old k) ≡ Some w) (same-identity i j (same-as i j ∙ q)) (less-at (old i) w e)
-
   pub changed-less : (j : Identity) (w : ℕ) → open_worker (new j) ≡ Some w → open_worker (old j) ≡ Some w
-  changed-less j w e = less j (is_identity i j) refl w (sym (ap open_worker (is j)) ∙ e)
-
-outcome-by : (o : Outcome) → is_open_outcome o ≡ false → (x : Slot) (b : Bool) (w : ℕ) → open_worker (Some (if b then record x { outcome = o } else x)) ≡ Some w → open_worker (Some x) ≡ Some w
-outcome-by o h x false w e = e
-outcome-by o h x true w e = absurd (none-some w (sym (ap (λ b. if b then Some x.worker else None) h) ∙ e))
+  changed-less j w e = grind (arith, nat_tests, same-identity, same-as, h)
 
 -- a slot that gets an outcome
 pub outcome-less : (o : Outcome) → is_open_outcome o ≡ false → (x : Slot) (w : ℕ) → open_worker (Some (with_outcome o x)) ≡ Some w → open_worker (Some x) ≡ Some w
-outcome-less o h x w e = outcome-by o h x (is_open_outcome x.outcome) w e
+outcome-less o h x w e = grind (arith, nat_tests)
 
 pub ruleset empty = (nat_tests, common_steps, no-waits, none-some)

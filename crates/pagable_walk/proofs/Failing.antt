@@ -1,6 +1,6 @@
 -- What a worker's failure makes of its claims, one row after another.
-use Rattle.std.proofs.Common.{ℕ, ◌≡◌, ◌≤◌, zero, suc, Bool, true, false, cond, if◌then◌else◌, List, [], ◌∷◌, length, Option, Some, None, refl, sym, ap, ◌∙◌, subst, nat_eq, arith, slice_get}
-use Rattle.{std.{proofs.lemmas.Option.none-some, specs.{Map.{lookup, values_of}, Option.option_map}}, indexmap.specs.IndexMap.set_value_at, pagable_walk.proofs.{Ends.outcome-less, Waits.some-same}}
+use Rattle.std.proofs.Common.{ℕ, ◌≡◌, ◌≤◌, zero, suc, Bool, true, false, cond, if◌then◌else◌, List, [], ◌∷◌, length, Option, Some, None, refl, sym, ap, ◌∙◌, subst, arith, slice_get}
+use Rattle.{std.{proofs.lemmas.{Bool.Decides.nat_tests, Option.none-some}, specs.{Map.{lookup, values_of}, Option.option_map}}, indexmap.specs.IndexMap.set_value_at, pagable_walk.proofs.{Ends.outcome-less, Waits.some-same}}
 use Rattle.pagable_world.specs.{Plain.Identity, Workers.with_outcome, World.{Slot, failed}}
 use Rattle.pagable_walk.specs.{Slots.{is_same, slot_of, IsNamed, FailedTo, failed_by, after_failure, open_worker}, declared.{results.Trees.Ghosts, slots.ArcSerSlot.ArcSerSlot}}
 
@@ -8,23 +8,17 @@ module _ {E : Type 0} {g : Ghosts E} (v : ℕ) where
   -- the next row is failed; or there is none
   pub row-fails : (n : ℕ) (first rows : List ((ℕ × ℕ) × ArcSerSlot E g)) (s w : ArcSerSlot E g) → slice_get (values_of rows) n ≡ Some s → slot_of w ≡ failed_by v (slot_of s) → ((i : Identity) → IsNamed i s → IsNamed i w)
       → FailedTo v n first rows → FailedTo v (suc n) first (set_value_at rows n w)
-  row-fails n first [] s w at is own h = absurd (none-some s at)
-  row-fails zero [] (m ∷ ms) s w at is own h = absurd (cc)
   row-fails zero (e ∷ es) (m ∷ ms) s w at is own h =
       let same : m ≡ e = cc in
       let rest : ms ≡ es = cc in
       let here : s ≡ e.1 = sym (some-same at) ∙ ap (λ (x : (ℕ × ℕ) × ArcSerSlot E g). x.1) same in
       (record { key = ap (λ (x : (ℕ × ℕ) × ArcSerSlot E g). x.0) same; slot = is ∙ ap (λ x. failed_by v (slot_of x)) here; own = λ i named. own i (subst (IsNamed i) (sym here) named) }, rest)
-  row-fails (suc n) [] (m ∷ ms) s w at is own h = absurd (cc)
   row-fails (suc n) (e ∷ es) (m ∷ ms) s w at is own (row, rest) = (row, row-fails n es ms s w at is own rest)
+  row-fails n first rows s w at is own h = grind (arith, nat_tests, none-some)
 
   pub no-row : (n : ℕ) (first rows : List ((ℕ × ℕ) × ArcSerSlot E g)) → slice_get (values_of rows) n ≡ None → FailedTo v n first rows → FailedTo v (suc n) first rows
-  no-row zero [] rows none h = h
-  no-row zero (e ∷ es) [] none h = absurd (cc)
-  no-row zero (e ∷ es) (m ∷ ms) none h = absurd (none-some m.1 (sym none))
-  no-row (suc n) [] rows none h = h
-  no-row (suc n) (e ∷ es) [] none h = absurd h
   no-row (suc n) (e ∷ es) (m ∷ ms) none (row, rest) = (row, no-row n es ms none rest)
+  no-row n first rows none h = grind (arith, nat_tests, none-some)
 
   -- once each row is failed
   pub all-failed : (n : ℕ) (first rows : List ((ℕ × ℕ) × ArcSerSlot E g)) (q : ℕ × ℕ) → length first ≤ n → FailedTo v n first rows
@@ -52,12 +46,7 @@ module _ {E : Type 0} {g : Ghosts E} (v : ℕ) where
       by more true at is = subst (IsNamed i) (some-same is) (row.own i (named e.1 (ap (λ b. cond b (Some e.1) (lookup (is_same q) es)) at)))
       by more false at is = more (λ x was. named x (ap (λ b. cond b (Some e.1) (lookup (is_same q) es)) at ∙ was)) s is
 
-less-by : (v : ℕ) (s : Slot) (b : Bool) (w : ℕ) → open_worker (Some (if b then with_outcome failed s else s)) ≡ Some w → open_worker (Some s) ≡ Some w
-less-by v s true w e = outcome-less failed refl s w e
-less-by v s false w e = e
-
 pub failure-less : (v : ℕ) (o : Option Slot) (w : ℕ) → open_worker (after_failure v o) ≡ Some w → open_worker o ≡ Some w
-failure-less v None w e = e
-failure-less v (Some s) w e = less-by v s (nat_eq s.worker v) w e
+failure-less v o w e = grind (arith, nat_tests, outcome-less)
 
 pub ruleset failing = (no-row, all-failed)

@@ -5,7 +5,7 @@ use Rattle.pagable_model.specs.{Refusals.is_writing_fault, declared.{error.Error
 use Rattle.pagable_world.specs.{Kinds.identity_of, Pager.{PagerState, ValueCall, RefusesWriting}, Plain.type_of, Workers.{with_changed_slot, open_node}, World.{Values, Written, Shelf, Todo}}
 use Rattle.{pagable_world.specs.{World.{SameShelf, seen_as, was_refused}, declared.{handles.{HandleRow.HandleRow, Owner.Owner}, events.Took.Took}}, pagable_laws.proofs.Trees.same_some}
 use Rattle.{pagable_loads.specs.Starting.Shares, pagable_walk.{specs.declared.{results.Trees.Ghosts, tasks.{Task.Task, Turn.Turn}}, proofs.Turning.{alike, plain-fits}}}
-use Rattle.pagable_walk.specs.{Failing.{back_of, fails}, Slots.{with_written, written_of}, Tasks.IsPlain, Turns.{Fits, TurnsTo}, Writing.{IsForm, WriteRefused, IsPinned, Finds, Forms}}
+use Rattle.pagable_walk.specs.{Slots.{with_written, written_of}, Tasks.{IsPlain, back_of, fails}, Turns.{Fits, TurnsTo}, Writing.{IsForm, WriteRefused, IsPinned, Finds, Forms}}
 
 -- ---- what a handle pins
 
@@ -22,20 +22,15 @@ module _ {N E : Type 0} (v : Values N) (s : PagerState N E) (r : ArcRef) (pin : 
     pub finds-other : (y : X) (e : Error) (t : ℕ) → t ≡ v.node_type (see y) → (t ≡ type_of r.kind.0 → ⊥) → Shares see s pin (Ok (Some y)) → Finds v s r pin (Err e)
     finds-other y e t is differs shared = record { found = λ p. tt; refused = λ p. absurd (differs (is ∙ (shared-some (see y) shared.given p).1)) }
 
-  none-written : (e : Error) → e ≡ Error.OutOfMemory → RefusesWriting v s r.node.0 e
-  none-written e oom is = let no : false ≡ true = sym (ap is_writing_fault oom) ∙ is in absurd (cc)
-
   pub unfound-refuses : (e : Error) → Finds v s r pin (Err e) → Forms v s r pin (Err e)
-  unfound-refuses e finds = record { written = λ p. tt; refused = λ p. (inr (finds.refused p), none-written e (finds.refused p)) }
+  unfound-refuses e finds = grind (arith, nat_tests, common_steps)
 
 module _ {N E : Type 0} (v : Values N) (s : PagerState N E) (r : ArcRef) (pin : HandleNumber) {W : Type 0} (see : W → Written) where
   pub forms-from : (x : N) (result : Result W Error) → IfOk result (λ d. IsForm v x (see d)) → IfErr result (λ e. WriteRefused v x e) → Finds v s r pin (Ok x) → Forms v s r pin (seen_as see result)
-  forms-from x (Ok d) is why finds = record { written = λ p. record { x = x; held = (finds.found p).0; form = is.form; listed = is.listed }; refused = λ p. tt }
-  forms-from x (Err e) is why finds = grind (arith, nat_tests, common_steps)
+  forms-from x result is why finds = grind (arith, nat_tests, common_steps)
 
   pub kept-forms : (w : Written) (result : Result W Error) → IfOk result (λ p. see p ≡ w) → IfErr result (λ e. e ≡ Error.OutOfMemory) → Forms v s r pin (Ok w) → Forms v s r pin (seen_as see result)
-  kept-forms w (Ok p) same only forms = subst (λ x. Forms v s r pin (Ok x)) (sym same) forms
-  kept-forms w (Err e) same only forms = record { written = λ p. tt; refused = λ p. (inr only, none-written v s r pin e only) }
+  kept-forms w result same only forms = grind (arith, nat_tests, common_steps)
 
 -- ---- the turn
 

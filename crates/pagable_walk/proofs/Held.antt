@@ -1,5 +1,5 @@
 -- The slots of a table after one of them came or changed.
-use Rattle.std.proofs.{Common.{ℕ, ◌≡◌, Bool, true, false, cond, Option, Some, refl, sym, ap, ◌∙◌, subst, nat_eq, arith, ◌&&◌, inl, inr}, lemmas.Bool.Decides.nat_tests}
+use Rattle.std.proofs.{Common.{ℕ, ◌≡◌, Bool, true, cond, Option, Some, sym, ap, ◌∙◌, subst, nat_eq, arith, ◌&&◌, inl, inr}, lemmas.Bool.Decides.nat_tests}
 use Rattle.{std.{proofs.lemmas.Grind.common_steps, specs.Prelude.{◌⊎◌, Result, Ok, Err, OnOk, OnErr}}, indexmap.specs.IndexMap.{IndexMap, get}}
 use Rattle.pagable_world.specs.{Plain.{Identity, SameAt, updated}, World.{Slot, is_identity}}
 use Rattle.pagable_walk.{specs.{Slots.{is_same, slot_of, IsNamed, slots_in, AreNamed, SlotIs, Changes}, declared.{results.Trees.Ghosts, slots.ArcSerSlot.ArcSerSlot}}, proofs.Waits.some-same}
@@ -25,16 +25,12 @@ pub wait-is : {T : Type 0} (old new : IndexMap ℕ Identity T) (v : ℕ) (w : Op
 wait-is old new v w h q = h q ∙ ap (λ b. cond b w (get nat_eq old q)) (eq-sym v q)
 
 module _ {E : Type 0} {g : Ghosts E} where
-  own-chosen : (j : Identity) (b : Bool) (s : ArcSerSlot E g) (o : Option (ArcSerSlot E g)) (t : ArcSerSlot E g) → (b ≡ true → IsNamed j s) → ((x : ArcSerSlot E g) → o ≡ Some x → IsNamed j x) → cond b (Some s) o ≡ Some t → IsNamed j t
-  own-chosen j true s o t f h e = subst (IsNamed j) (some-same e) (f refl)
-  own-chosen j false s o t f h e = h t e
-
   module _ {S : Type 0} (old new : IndexMap (ℕ × ℕ) (ArcSerSlot E g) S) (i : Identity) (s : ArcSerSlot E g) (h : (q : ℕ × ℕ) → get is_same new q ≡ cond (is_same (i.kind.0, i.node.0) q) (Some s) (get is_same old q)) where
     pub slot-is : (x : Slot) → slot_of s ≡ x → SlotIs (slots_in old) i (Some x) (slots_in new)
     slot-is x e j = grind (arith, nat_tests, common_steps, same-as)
 
     pub own-is : AreNamed old → ((j : Identity) → is_same (i.kind.0, i.node.0) (j.kind.0, j.node.0) ≡ true → IsNamed j s) → AreNamed new
-    own-is own fresh j t there = own-chosen j (is_same (i.kind.0, i.node.0) (j.kind.0, j.node.0)) s (get is_same old (j.kind.0, j.node.0)) t (fresh j) (own j) (sym (h (j.kind.0, j.node.0)) ∙ there)
+    own-is own fresh j t there = grind (arith, nat_tests, common_steps, some-same)
 
     -- the slot that stood there has changed
     module _ (was : ArcSerSlot E g) (at : Some was ≡ get is_same old (i.kind.0, i.node.0)) where

@@ -1,8 +1,46 @@
--- Steps of a worker's walk are joined to a run.
-use Rattle.std.proofs.{Common.{ℕ, ◌≡◌, List, [], ◌∷◌, ap, subst, ◌∙◌}, lemmas.Bool.Decides.nat_tests}
-use Rattle.{pagable_loads.proofs.Stepped.{acts_all, acts_on}, pagable_world.specs.{Access.{WalkStep, worker-ends, worker-goes-on}, Pager.PagerState, World.{Shelf, Todo, Values}}}
-use Rattle.{pagable_world.specs.declared.{events.WorkerAnswer.WorkerAnswer, handles.Owner.Owner}, pagable_walk.specs.{Tasks.todo_of, Turns.{LeavesFit, StepsTo, answer_in, plain, plain_took}}}
-use Rattle.pagable_walk.specs.{declared.{tasks.{Turn.Turn, Moved.Moved, Task.Task}, results.Trees.Ghosts}, Walking.{RunsTo, HasWalked}}
+-- A turn with the worker's end is its step, and steps of a worker's walk are joined to a run.
+use Rattle.std.proofs.{Common.{arith, ℕ, ◌≡◌, List, [], ◌∷◌, refl, sym, ap, subst, ◌∙◌}, lemmas.{Bool.Decides.nat_tests, Grind.common_steps}}
+use Rattle.{pagable_loads.proofs.Stepped.{acts_all, acts_on, moves_then}, pagable_world.specs.{Access.{WalkStep, worker-ends, worker-goes-on}, Events.Ends, Pager.{PagerState, WellFormed, Moves}}}
+use Rattle.pagable_world.specs.{World.{Shelf, Todo, Values}, declared.{events.WorkerAnswer.WorkerAnswer, handles.Owner.Owner}}
+use Rattle.pagable_walk.{proofs.{Pinning.same-shelf, Turning.alike}, specs.{Tasks.todo_of, Turns.{Closes, LeavesFit, StepsTo, TurnsTo, RunsTo, HasWalked, answer_in, plain, plain_took, site}}}
+use Rattle.pagable_walk.specs.declared.{results.Trees.Ghosts, tasks.{Moved.Moved, Task.Task, Turn.Turn}}
+
+-- what the end after a turn does
+record Closed {X : Type 0} {g : Ghosts X} {N E : Type 0} (v : Values N) (n : ℕ) (turn : Turn X g) (s t : PagerState N E) : Type 0 where
+  pub ends : Ends (answer_in turn) n s.core t.core
+  pub moves : Moves (λ n x. ⊥) s t
+  pub whole : WellFormed v s → WellFormed v t
+  pub fits : LeavesFit n s.core turn → LeavesFit n t.core turn
+
+module _ {X : Type 0} {g : Ghosts X} {N E : Type 0} (v : Values N) (n : ℕ) where
+  closed : (turn : Turn X g) (s t : PagerState N E) → Closes v n turn s t → Closed v n turn s t
+  closed turn s t close = grind (arith, nat_tests, common_steps, alike)
+
+  pub steps-to : (me : Owner) (shelf shelf' : Shelf) (task : Task X g) (below after : List Todo) (moved : Moved X g) (s mid t : PagerState N E)
+      → TurnsTo v me n shelf task below shelf' moved after s mid → Closes v n moved.turn mid t
+      → StepsTo v me n shelf task below shelf' moved after s t
+  steps-to me shelf shelf' task below after moved s mid t turns close = record {
+    steps = λ f.
+        let turned = turns.turns f in
+        let end = closed moved.turn mid t close in
+        record {
+          does = record {
+            after = site mid.core shelf' after;
+            does = turned.does;
+            goes_on = refl;
+            shelf_is = same-shelf shelf';
+            ends = subst (λ a. Ends a n mid.core t.core) (sym turned.answers) end.ends;
+            moves = moves_then turned.moves end.moves;
+            writes = turned.writes;
+            whole = end.whole turned.whole;
+          };
+          answers = turned.answers;
+          fits = end.fits turned.fits;
+        };
+    counts = turns.counts;
+  }
+
+-- ---- a run
 
 module _ {X : Type 0} {g : Ghosts X} {N E : Type 0} (v : Values N) (me : Owner) (n : ℕ) (shelf : Shelf) (first : Task X g) (below : List Todo) where
   pub none-walked : (s : PagerState N E) → HasWalked v me n shelf first below shelf first below s s

@@ -1,7 +1,6 @@
 pub mod Waits
 pub mod Held
 pub mod Ends
-pub mod Claims
 pub mod Failing
 pub mod Stacks
 pub mod Ways
@@ -10,7 +9,6 @@ pub mod Turning
 pub mod Forming
 pub mod Pinning
 pub mod Closing
-pub mod Stepping
 pub mod Joined
 pub mod Dues
 pub mod Pages

@@ -1,5 +1,5 @@
 -- Page-outs of an item and of the entries of the list, from the runs of their workers.
-use Rattle.std.proofs.{Common.{ℕ, ◌≡◌, ◌≤◌, ◌<◌, ◌+◌, List, ◌∷◌, length, Option, Some, None, Result, Ok, Err, inl, refl, ap, subst, sym, ◌∙◌, arith}, lemmas.List.Edits.length-remove}
+use Rattle.std.proofs.{Common.{ℕ, ◌≡◌, ◌≤◌, ◌<◌, ◌+◌, List, ◌∷◌, length, Option, Some, Result, Ok, Err, inl, refl, ap, subst, sym, ◌∙◌, arith}, lemmas.List.Edits.length-remove}
 use Rattle.{std.{proofs.lemmas.{Option.slice_get_within, Bool.Decides.nat_tests, Grind.common_steps}, specs.List.remove}, pagable_model.specs.declared.{error.Error.Error, numbers.ArcRef.ArcRef}}
 use Rattle.{pagable_model.specs.declared.{numbers.{HandleNumber.HandleNumber, WorkerNumber.WorkerNumber}, data_key.OptionalDataKey.OptionalDataKey}, pagable_world.specs.Access.{AccessState, Called}}
 use Rattle.pagable_world.specs.Access.{WorkerStarts, WorkerRun, worker-ends, worker-goes-on, no-worker, item-is-walked, EntryHas, entry-is-refused, no-entry-worker, entry-is-walked, ListRun}
@@ -9,8 +9,8 @@ use Rattle.{pagable_world.specs.declared.handles.Owner.Owner, pagable_laws.proof
 use Rattle.pagable_laws.proofs.SparingSteps.{none-shorter, Spares, spares-then}
 use Rattle.pagable_loads.proofs.Stepped.{acts_all, acts_from, acts_map, acts_same, acts_then, tells_map}
 use Rattle.{pagable_loads.specs.{Telling.{Acting, as_caller}, Working.{StartsEntry, RefusesEntry}}, pagable_walk.proofs.{Pinning.same-shelf, Turning.{alike, plain-fits}}}
-use Rattle.{pagable_laws.proofs.Answered.{item-answered, entry-answered}, pagable_walk.specs.{Over.{failure_of, PagesItem, PagesList, PagesEntry, Skipped, SkipsEntry, PagesAt, HasPaged}, Slots.no_claims, Tasks.IsPlain}}
-use Rattle.pagable_walk.specs.{Tasks.todo_of, Turns.{Fits, plain}, Walking.{RunsTo, Walked}, declared.{results.Trees.Ghosts, table.PageOutError.PageOutError, tasks.Task.Task}}
+use Rattle.{pagable_laws.proofs.Answered.{item-answered, entry-answered}, pagable_walk.specs.{Over.{PagesItem, PagesList, PagesEntry, Skipped, SkipsEntry, PagesAt, HasPaged}, Slots.no_claims, Tasks.IsPlain}}
+use Rattle.pagable_walk.specs.{Tasks.todo_of, Turns.{Fits, plain, RunsTo, Walked}, declared.{results.Trees.Ghosts, table.PageOutError.PageOutError, tasks.Task.Task}}
 
 -- whoever acts for the caller does so again after a worker
 pub is-caller : {E : Type 0} (acting : Acting E) → acting.me ≡ Owner.Caller → as_caller acting ≡ acting
@@ -25,7 +25,7 @@ module _ {N E : Type 0} (v : Values N) where
     item-unbegun e is s t call = grind (arith, nat_tests, common_steps, same-shelf, no-worker)
 
     pub item-unstarted : (e : Error) → e ≡ Error.OutOfMemory → (s : PagerState N E) → PagesItem v shelf item shelf (WorkerAnswer.Failed e) s s
-    item-unstarted e is s = subst (λ x. PagesItem v shelf item shelf (WorkerAnswer.Failed x) s s) (sym is) (record { over = λ whole all. record { run = no-worker _ (stays-called s whole) (same-shelf shelf); all_have_results = all } })
+    item-unstarted e is s = grind (arith, nat_tests, common_steps, stays-called, same-shelf, no-worker)
 
     pub item-walked : {X : Type 0} {g : Ghosts X} (me : Owner) (n : ℕ) (task : Task X g) (below : List Todo) (shelf' : Shelf) (answer : WorkerAnswer) → me ≡ owner_worker n → IsPlain task
         → todo_of task ∷ below ≡ first_todo (of_item item) → (s mid t : PagerState N E) → WorkerStarts v s.core s n mid → RunsTo v me n shelf task below shelf' answer mid t
@@ -79,20 +79,15 @@ module _ {N E : Type 0} (v : Values N) where
   -- ---- a place of the list
 
   pub took-none : (place : ℕ) (taken : Option HandleNumber) → ((h : HandleNumber) → taken ≡ Some h → ⊥) → (me : Owner) (s t : PagerState N E) → Called v (λ w'. TakeCall s.core me place taken w') s t → SkipsEntry v place s t
-  took-none place (Some h) none me s t call = absurd (none h refl)
-  took-none place None none me s t call = record { skips = λ h listed. absurd (let within = slice_get_within s.core.list place h listed in omega (arith, within, call.step.0)) }
+  took-none place taken none me s t call = grind (arith, nat_tests, common_steps, slice_get_within)
 
   pub took-some : {me : Owner} → me ≡ Owner.Caller → (place : ℕ) (h : HandleNumber) (told : Result (Unit {0}) Error) (s mid t : PagerState N E) → Called v (λ w'. TakeCall s.core me place (Some h) w') s mid
       → Called v (λ w'. ReleaseCall mid.core me h told w') mid t → SkipsEntry v place s t
   took-some mine place h told s mid t takes releases = record {
     skips = λ k listed.
-        let e : h ≡ k = cc-some takes.step.0 listed in
+        let e : h ≡ k = cc (takes.step.0, listed) in
         subst (λ x. Skipped v s place x t) e (record { mid = mid; told = told; takes = rw mine at takes; releases = rw mine at releases });
   }
-    where
-      cc-some : {X : Type 0} {x y : X} {a : Option X} → a ≡ Some x → a ≡ Some y → x ≡ y
-      cc-some is other = cc
-
   pub at-past : (place : ℕ) (s : PagerState N E) → length s.core.list ≤ place → PagesAt v place (Ok tt) s s
   at-past place s past = record { done = λ whole within. absurd (omega (arith, past, within)) }
 
@@ -136,7 +131,7 @@ module _ {N E : Type 0} (v : Values N) where
   more-paged left place next s mid t paged at = grind (arith, nat_tests, common_steps)
 
   pub ends-paged : (left place : ℕ) → left ≡ place + 1 → (why : PageOutError) (s mid t : PagerState N E) → HasPaged v left s mid → PagesAt v place (Err why) mid t → PagesList v (Err why) s t
-  ends-paged left place next why s mid t paged at = record { over = λ whole. let d = at.done (paged.whole whole) (let long = paged.long whole in omega (arith, long, next)) in paged.then whole (Err (failure_of why)) t (d.stops left next) }
+  ends-paged left place next why s mid t paged at = grind (arith, nat_tests)
 
   pub all-paged : (left : ℕ) → left ≡ 0 → (s t : PagerState N E) → HasPaged v left s t → PagesList v (Ok tt) s t
   all-paged left none s t paged = record { over = λ whole. paged.then whole (Ok tt) t (subst (λ i. ListRun (plain v) i t (Ok tt) t) (sym none) (no-more t)) }

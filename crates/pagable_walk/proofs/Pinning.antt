@@ -8,9 +8,9 @@ use Rattle.pagable_world.specs.{LoadCalls.is_owned_in, Loads.{EndsPinned, gone_o
 use Rattle.pagable_world.specs.{Workers.{RowIs, answer_after, fresh, Does}, declared.{events.{LoadAnswer.LoadAnswer, Took.Took, PinStep.PinStep}, handles.HandleRow.HandleRow}}
 use Rattle.{pagable_world.specs.declared.{handles.Owner.Owner, answers.Pinning.Pinning, rows.Mode.Mode}, pagable_loads.specs.declared.{reading.Reading.Reading as Own, working.Taken.Taken}}
 use Rattle.pagable_loads.{proofs.{Stepped.none_comes, Driven.goes_open}, specs.{Frames.{IsLoadOf, frames_of, reading_of}, Stepping.{IsSameLoad, Steps}, Working.{TakesReference, BeginsAt}}}
-use Rattle.pagable_laws.{specs.{KeyRuns.StandsAt, TreeSteps.Change}, proofs.{Outlasting.{AreLow, low-whole, low-changed, low-handle, new-handle, NotValues, Stands}, Goes.Goes, Naming.clone-stands}}
+use Rattle.pagable_laws.{specs.{KeyRuns.StandsAt, TreeSteps.Change}, proofs.{Outlasting.{AreLow, low-whole, low-changed, low-handle, new-handle, Stands}, Goes.Goes, Naming.clone-stands}}
 use Rattle.pagable_laws.proofs.{Outlasting.{stands-alike, stands-fell, clone-call, not-loose, owned-none}, Trees.same_some, ReadingSteps.walk-goes}
-use Rattle.pagable_walk.specs.{Failing.{back_of, fails}, Tasks.IsPlain, declared.{tasks.{Turn.Turn, Moved.Moved, Task.Task}, results.Trees.Ghosts}, Turns.{IsLoading, IsOfKind, HoldsPin, Fits}}
+use Rattle.pagable_walk.specs.{Tasks.{IsPlain, back_of, fails}, declared.{tasks.{Turn.Turn, Moved.Moved, Task.Task}, results.Trees.Ghosts}, Turns.{IsLoading, IsOfKind, HoldsPin, Fits}}
 use Rattle.pagable_walk.{specs.Turns.{LeavesFit, Turned, TurnsTo, answer_in, plain, plain_took, site}, proofs.Turning.plain-fits}
 
 -- ---- what stays
@@ -51,13 +51,10 @@ pin-pins w w' me r h k low stands c =
     let s = new-handle (with_mode w h Mode.LoosePinned) row.node Mode.Pinned me low' in
     pins-by w' r k (w.last.handle + 1) c.pins.2.1.above (stands-alike {w = with_handle (with_mode w h Mode.LoosePinned) row.node Mode.Pinned me} c.pins.2.2 s) (stands.is row c.pins.1.live).0 refl
 
-low-cloned : (w w' : Core) (me : Owner) (h k : HandleNumber) → HandlesAreWhole w → CloneCall w me h (Ok k) w' → AreLow w'
-low-cloned w w' me h k whole c = let row : HandleRow = c.made.0 in low-handle w w' row.node row.mode me (low-whole whole) c.made.3
-
 pub at-once-pins : (w w' : Core) (me : Owner) (r : ArcRef) (through k : HandleNumber) → HandlesAreWhole w → StandsAt w r r.handle → PinsAtOnce w me r through k w' → HoldsPin w' me r k
 at-once-pins w w' me r through k whole stands does = elim does [
   | inl (is, same, clone) ↦ clone-pins w w' me r k whole stands is clone
-  | inr (is, (mid, clone, pin)) ↦ pin-pins mid w' me r through k (low-cloned w mid me r.handle through whole clone) (clone-stands whole r through stands clone) pin
+  | inr (is, (mid, clone, pin)) ↦ pin-pins mid w' me r through k (low-handle w mid clone.made.0.node clone.made.0.mode me (low-whole whole) clone.made.3) (clone-stands whole r through stands clone) pin
 ]
 
 -- ---- a load that has begun
@@ -85,9 +82,6 @@ begun-loads w w' n r through l key own whole stands (is, (mid, clone, begin)) sa
 
 -- ---- a load that goes on, and one that ends with the pin
 
-worker-free : (n : ℕ) → NotValues (owner_worker n)
-worker-free n m is = absurd (cc)
-
 abbrev node-in : NodeNumber → Root → NodeNumber
 node-in other (of_cell node t h) = node
 node-in other of_key = other
@@ -100,7 +94,7 @@ module _ (w w' : Core) (n : ℕ) (r : ArcRef) (whole : HandlesAreWhole w) where
       let low' = low-changed u.last.handle u.rows (is_handle h.0) (λ r. record r { mode = Mode.LoosePinned }) (λ r. refl) low in
       let s = new-handle (with_mode u h Mode.LoosePinned) node Mode.Pinned (owner_worker n) low' in
       let q : u.last.handle + 1 ≡ w.last.handle + 1 = ap (λ n. n + 1) same in
-      pins-by w' r k (u.last.handle + 1) (next ∙ sym q) (stands-fell f.falls (worker-free n) (ap given q ∙ kept) s) at refl
+      pins-by w' r k (u.last.handle + 1) (next ∙ sym q) (stands-fell f.falls (λ m is. absurd (cc)) (ap given q ∙ kept) s) at refl
 
   pub end-pins : {N : Type 0} (v : Values N) (through : HandleNumber) (own : Own) (k : HandleNumber) → IsLoading w n r through own → EndsPinned v w (owner_worker n) (reading_of own) k w'
       → HoldsPin w' (owner_worker n) r k

@@ -1,10 +1,10 @@
 -- What a worker has to do, after a reference was done.
-use Rattle.std.proofs.{Common.{ℕ, ◌≡◌, ◌≤◌, ◌<◌, ◌+◌, List, [], ◌∷◌, ◌++◌, length, drop, take, map, get_or, refl, sym, ap, subst, ◌∙◌, arith, Some, slice_get}, lemmas.Bool.Decides.nat_tests}
+use Rattle.std.proofs.{Common.{ℕ, ◌≡◌, ◌≤◌, ◌<◌, ◌+◌, List, [], ◌∷◌, ◌++◌, length, drop, take, map, get_or, refl, sym, ap, ◌∙◌, arith, Some, slice_get}, lemmas.Bool.Decides.nat_tests}
 use Rattle.std.proofs.lemmas.{Grind.common_steps, List.{at_drop_more, at_drop_all, take_more, length-append, length-map, map-append}, Option.{get_or_from_slice_get, slice_get_within}}
 use Rattle.{std.specs.Prelude.{None, max}, pagable_model.specs.declared.numbers.{ArcRef.ArcRef, HandleNumber.HandleNumber}, pagable_world.specs.{Kinds.identity_of, Plain.above}}
-use Rattle.{pagable_world.specs.{Workers.{place_below, next_start, settle, give}, World.{Todo, Written, to_start}}, pagable_walk.specs.{Failing.back_of, Found.ids_of}, std.proofs.lemmas.Option.none-some}
+use Rattle.{pagable_world.specs.{Workers.{place_below, next_start, settle, give}, World.{Todo, Written, to_start}}, pagable_walk.specs.{Tasks.back_of, Slots.ids_of}}
 use Rattle.pagable_walk.specs.{Tasks.{place_of, raised, waiting_todo, waits_as, todos_onto, todos}, declared.{results.{SlotResult.SlotResult, Trees.Ghosts}, tasks.{Node.Node, Waiting.Waiting}}}
-use Rattle.{std.specs.Prelude.Option, pagable_walk.proofs.{Waits.some-same, Ways.item-way}}
+use Rattle.{std.{specs.Prelude.Option, proofs.lemmas.Option.none-some}, pagable_walk.proofs.{Waits.some-same, Ways.item-way}}
 
 module _ {E : Type 0} {g : Ghosts E} where
   onto-more : (ws : List (Waiting E g)) (w : Waiting E g) (below : List Todo) → todos_onto (ws ++ w ∷ []) below ≡ waiting_todo w ∷ todos_onto ws below
@@ -53,35 +53,23 @@ module _ {E : Type 0} {g : Ghosts E} where
 
 -- ---- what waits, a node or the item
 
-pub settle-is : (node : Option Node) (written : Written) (keys : List ℕ) (below : List Todo)
-    → settle (waits_as node written keys ∷ below) ≡ next_start (place_of node) (drop (length keys) written.references) ++ waits_as node written keys ∷ below
-settle-is None written keys below = refl
-settle-is (Some n) written keys below = refl
-
 pub give-is : (node : Option Node) (written : Written) (keys : List ℕ) (below : List Todo) (r : ArcRef) (key height : ℕ)
     → give r key height (waits_as node written keys ∷ below) ≡ settle (waits_as (raised r.kind.0 height node) written (keys ++ key ∷ []) ∷ below)
-give-is None written keys below r key height = refl
-give-is (Some n) written keys below r key height = refl
+give-is given written keys below r key height = grind (arith, nat_tests)
 
 -- what holds of a node with the height by a reference too
 pub raised-has : (Q : Node → Type 0) (kind height : ℕ) (node : Option Node) → ((m : Node) → node ≡ Some m → Q (record m { height = max m.height (above kind height) }))
     → (n : Node) → raised kind height node ≡ Some n → Q n
-raised-has Q kind height None f n is = absurd (none-some n is)
-raised-has Q kind height (Some m) f n is = subst Q (some-same is) (f m refl)
+raised-has Q kind height given f n is = grind (arith, nat_tests, some-same)
 
 -- of so many references that are done, the next is started, or none is left
 module _ (node : Option Node) (written : Written) (keys : List ℕ) (below : List Todo) (n : ℕ) (many : length keys ≡ n) where
   pub settled-all : length written.references ≤ n → waits_as node written keys ∷ below ≡ settle (waits_as node written keys ∷ below)
-  settled-all all = sym (settle-is node written keys below ∙ ap (λ k. next_start (place_of node) (drop k written.references) ++ waits_as node written keys ∷ below) many
-      ∙ at_drop_all (λ xs. next_start (place_of node) xs ++ waits_as node written keys ∷ below) written.references n all)
+  settled-all all = grind (arith, nat_tests, common_steps, at_drop_all)
 
   pub settled-next : (r : ArcRef) (p : ℕ) → n < length written.references → r ≡ get_or written.references n r → p ≡ place_below (place_of node) r.kind.0
       → to_start r p ∷ waits_as node written keys ∷ below ≡ settle (waits_as node written keys ∷ below)
-  settled-next r p more is at = next-starts (place_of node) (length keys) n p written.references r (waits_as node written keys ∷ below) many more is at ∙ sym (settle-is node written keys below)
-    where
-      next-starts : (place m n p : ℕ) (rs : List ArcRef) (r : ArcRef) (todo : List Todo) → m ≡ n → n < length rs → r ≡ get_or rs n r → p ≡ place_below place r.kind.0
-          → to_start r p ∷ todo ≡ next_start place (drop m rs) ++ todo
-      next-starts place m n p rs r todo e more is at = grind (arith, nat_tests, common_steps, at_drop_more)
+  settled-next r p more is at = grind (arith, nat_tests, common_steps, at_drop_more)
 
 -- what a path with nothing on it, and one with one more, is as plain data
 pub ruleset paths = (nat_tests, todos-none, todos-more, back-none, item-way)

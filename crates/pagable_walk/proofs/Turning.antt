@@ -1,9 +1,9 @@
 -- A claim of a table is a worker's claim, and a turn of the worker.
-use Rattle.std.{proofs.{Common.{ℕ, ◌≡◌, true, List, ◌∷◌, Some, None, ◌⊎◌, inl, inr, refl, sym, subst, arith}, lemmas.{Bool.Decides.nat_tests, Grind.common_steps}}, specs.Prelude.{Result, Ok, Err}}
+use Rattle.std.{proofs.{Common.{ℕ, ◌≡◌, true, List, ◌∷◌, Some, None, ◌⊎◌, inl, refl, arith}, lemmas.{Bool.Decides.nat_tests, Grind.common_steps}}, specs.Prelude.{Result, Ok, Err}}
 use Rattle.{std.specs.Prelude.IfOk, pagable_model.specs.declared.numbers.ArcRef.ArcRef, pagable_world.specs.Workers.{Site, claim_fault, is_counted_claim, Claims, Finds, Turns, IsTooDeep}}
 use Rattle.pagable_world.specs.{Workers.with_wait, Kinds.identity_of, Pager.{PagerState, HandlesAreWhole}, Plain.Error, World.{Core, Shelf, Todo, to_start, SameShelf, Alike, Values, was_refused}}
 use Rattle.{pagable_world.specs.declared.{events.{Claim.Claim, Took.Took}, handles.Owner.Owner}, pagable_laws.proofs.{Naming.{may-claim, claimed-stands}, Trees.same_some}}
-use Rattle.pagable_walk.specs.{Failing.{back_of, fails}, Slots.{Would, claimed_shelf, RefusesClaim, ClaimsThere}, Table.{found_as, IsFoundOf}, Tasks.IsPlain, Turns.{site, claim_todo, ClaimFits}}
+use Rattle.pagable_walk.specs.{Slots.{Would, claimed_shelf, RefusesClaim, ClaimsThere}, Table.{found_as, IsFoundOf}, Tasks.{IsPlain, back_of, fails}, Turns.{site, claim_todo, ClaimFits}}
 use Rattle.pagable_walk.specs.{Turns.{ClaimLeaves, IsOfKind, TaskFits, TurnsTo}, declared.{tasks.{Turn.Turn, Task.Task}, results.Trees.Ghosts, table.Found.Found}}
 
 pub alike : (w : Core) → Alike w w
@@ -15,18 +15,11 @@ module _ (core : Core) (v : ℕ) (s s' : Shelf) (r : ArcRef) (place : ℕ) (belo
 
   finds : (c : Claim) → Would v s (identity_of r) place c → SameShelf (claimed_shelf v s (identity_of r) c) s'
       → Finds v (site core s (to_start r place ∷ below)) r place below c (site core s' (claim_todo r place below (Ok c)))
-  finds Claim.Claimed w same = (w.0, w.1, turns _ _ same)
-  finds c w same = (w.0, w.1, turns _ _ same)
-
-  why : (e : Error) → claim_fault core r ≡ None → RefusesClaim v s (identity_of r) place e
-      → (claim_fault core r ≡ Some e) ⊎ ((claim_fault core r ≡ None) × (e ≡ Error.TooDeep) × IsTooDeep s v (identity_of r) place) ⊎ (e ≡ Error.OutOfMemory)
-  why e none (inl h) = inr (inl (none, h.0, h.1))
-  why e none (inr h) = inr (inr h)
+  finds c w same = grind (arith, nat_tests, common_steps, turns)
 
   pub claims-there : (result : Result Claim Error) → claim_fault core r ≡ None → ClaimsThere v s (identity_of r) place result s'
       → Claims v (site core s (to_start r place ∷ below)) r place below result (site core s' (claim_todo r place below result))
-  claims-there (Ok c) none there = record { finds = (none, finds c there.finds.0 there.finds.1); refused = tt }
-  claims-there (Err e) none there = record { finds = tt; refused = (why e none there.refused.0, turns _ _ there.refused.1) }
+  claims-there result none there = grind (arith, nat_tests, common_steps, turns, finds)
 
   pub refuses : (e : Error) → claim_fault core r ≡ Some e → SameShelf (with_wait s v None) s'
       → Claims v (site core s (to_start r place ∷ below)) r place below (Err e) (site core s' (claim_todo r place below (Err e)))
@@ -40,22 +33,16 @@ kind-claimed w r whole may = grind (arith, nat_tests, common_steps, may-claim, c
 module _ {X : Type 0} {g : Ghosts X} where
   pub claim-fits : (v : ℕ) (s s' : Shelf) (r : ArcRef) (place : ℕ) (claim : Result (Found X g) Error) → ClaimsThere v s (identity_of r) place (found_as claim) s'
       → IfOk claim (IsFoundOf (identity_of r)) → ClaimFits r place claim
-  claim-fits v s s' r place (Ok Found.Claimed) there own = there.finds.0.0
-  claim-fits v s s' r place (Ok (Found.Known found)) there own = (own, there.finds.0.0)
-  claim-fits v s s' r place claim there own = tt
+  claim-fits v s s' r place claim there own = grind (arith, nat_tests)
 
   -- a task that needs nothing fits
   pub plain-fits : (n : ℕ) (w : Core) (t : Task X g) → IsPlain t → TaskFits n w t
-  plain-fits n w (Task.Pin r place) plain = absurd plain
-  plain-fits n w (Task.Load r place through reading) plain = absurd plain
-  plain-fits n w (Task.Write r place through pin) plain = absurd plain
-  plain-fits n w task plain = tt
+  plain-fits n w task plain = grind (arith, nat_tests)
 
   claim-leaves : (n : ℕ) (w : Core) (shelf : Shelf) (s' : Site) (r : ArcRef) (place : ℕ) (below : List Todo) (claim : Result (Found X g) Error) (task : Task X g) → HandlesAreWhole w
       → ClaimLeaves r place claim task
       → Claims n (site w shelf (to_start r place ∷ below)) r place below (found_as claim) s' → TaskFits n w task
-  claim-leaves n w shelf s' r place below (Ok Found.Claimed) task whole leaves c = subst (TaskFits n w) (sym leaves) (claimed-stands whole r c.finds.0, kind-claimed w r whole c.finds.0)
-  claim-leaves n w shelf s' r place below claim task whole leaves c = plain-fits n w task leaves
+  claim-leaves n w shelf s' r place below claim task whole leaves c = grind (arith, nat_tests, common_steps, claimed-stands, kind-claimed, plain-fits)
 
   pub start-turns : {N E : Type 0} (v : Values N) (me : Owner) (n : ℕ) (shelf shelf' : Shelf) (r : ArcRef) (place : ℕ) (below after : List Todo) (claim : Result (Found X g) Error) (task : Task X g) → after ≡ claim_todo r place below (found_as claim)
       → ClaimLeaves r place claim task

@@ -1,6 +1,6 @@
 -- A path that leads to what is done next goes on so.
-use Rattle.std.proofs.Common.{ℕ, zero, suc, ◌≡◌, ◌≤◌, ◌+◌, Bool, true, false, List, [], ◌∷◌, ◌++◌, length, drop, refl, sym, ap, ◌∙◌, subst, arith, Some, slice_get, if◌then◌else◌}
-use Rattle.{std.{proofs.lemmas.{List.length-append, Option.{none-some, slice_get_within}}, specs.Prelude.{max, None, Option}}, pagable_model.specs.declared.numbers.ArcRef.ArcRef}
+use Rattle.std.proofs.Common.{ℕ, zero, suc, ◌≡◌, ◌≤◌, ◌+◌, Bool, List, [], ◌∷◌, ◌++◌, length, drop, refl, sym, ap, ◌∙◌, subst, arith, Some, slice_get, if◌then◌else◌}
+use Rattle.{std.{proofs.lemmas.{Bool.Decides.nat_tests, List.length-append, Option.{none-some, slice_get_within}}, specs.Prelude.{max, None, Option}}, pagable_model.specs.declared.numbers.ArcRef.ArcRef}
 use Rattle.{pagable_world.specs.{World.{to_finish, to_item, Written}, Plain.{above, is_eager, longest_path}, Workers.{give, give_known, next_start, settle}}, pagable_walk.specs.Tasks.Awaits}
 use Rattle.{pagable_world.specs.World.{Open, Todo}, pagable_walk.{specs.{Tasks.{AwaitsLow, Gives, IsWay, TakesNext, waits_as}, declared.tasks.Node.Node}, proofs.Waits.some-same}}
 
@@ -25,8 +25,7 @@ item-way written keys few = left-by (λ rest. IsWay (next_start 0 rest ++ to_ite
 -- the height by the reference too fits
 near-by : (place height p h kind : ℕ) (b : Bool) → is_eager kind ≡ b → p ≡ (if b then place + 1 else 0) → place + height ≤ longest_path → p + h ≤ longest_path
     → place + max height (above kind h) ≤ longest_path
-near-by place height p h kind true is at near low = let a : above kind h ≡ h + 1 = ap (λ c. if c then h + 1 else 0) is in omega (arith, a)
-near-by place height p h kind false is at near low = let a : above kind h ≡ 0 = ap (λ c. if c then h + 1 else 0) is in omega (arith, a)
+near-by place height p h kind b is at near low = grind (arith, nat_tests)
 
 node-awaits : (o : Open) (below : List Todo) (r : ArcRef) (h : ℕ) → AwaitsLow (to_finish o ∷ below) r h
     → (slice_get o.written.references (length o.keys) ≡ Some r) × (o.place + max o.height (above r.kind.0 h) ≤ longest_path) × Awaits below o.reference o.place

@@ -1,12 +1,8 @@
 pub mod Results
-pub mod Found
 pub mod Slots
 pub mod Table
 pub mod Tasks
-pub mod Failing
 pub mod Turns
 pub mod Due
 pub mod Writing
-pub mod Ending
-pub mod Walking
 pub mod Over

@@ -1,9 +1,9 @@
 -- The plain claims that a lent table tells; whom each waiting worker waits for; and what a claim finds.
-use Rattle.std.specs.{Prelude.{ℕ, zero, suc, List, [], ◌∷◌, ◌≡◌, ◌≤◌, ◌+◌, ◌⊎◌, ◌&&◌, Bool, true, false, if◌then◌else◌, Option, Some, None, Result, IfOk, IfErr, nat_eq}, Arc.arc_value, Option.option_map}
+use Rattle.std.specs.Prelude.{ℕ, zero, suc, List, [], ◌∷◌, map, ◌≡◌, ◌≤◌, ◌+◌, ◌⊎◌, ◌&&◌, Bool, true, false, if◌then◌else◌, Option, Some, None, Result, IfOk, IfErr, nat_eq}
 use Rattle.{indexmap.specs.IndexMap.{IndexMap, get}, pagable_core.specs.declared.context.writing.SerializedData.SerializedData, pagable_world.specs.Workers.{with_slot, with_wait, with_outcome}}
 use Rattle.pagable_world.specs.{Workers.{is_open_outcome, IsOpenSlot, IsPublished, ComesBack, ComesToEnd, IsTooDeep}, Plain.{Error, Identity, if_there, longest_path}, World.{Written, Slot, Shelf}}
 use Rattle.{pagable_world.specs.{World.{no_result, published, failed, SameShelf, is_identity}, declared.events.Claim.Claim}, pagable_walk.specs.declared.results.{SlotResult.SlotResult, Trees.Ghosts}}
-use Rattle.pagable_walk.specs.declared.slots.{ArcSerSlot.ArcSerSlot, Outcome.Outcome, Standing.Standing}
+use Rattle.{std.specs.{Arc.arc_value, Option.option_map}, pagable_walk.specs.declared.slots.{ArcSerSlot.ArcSerSlot, Outcome.Outcome, Standing.Standing}}
 use Rattle.pagable_world.specs.World as world
 
 -- whether kind and node are the same
@@ -13,6 +13,13 @@ is_same x y = nat_eq x.0 y.0 && nat_eq x.1 y.1
 -- what was written, without where it lies in memory
 abbrev pub written_of : SerializedData → Written
 written_of d = record { bytes = d.bytes.items; references = d.arcs.items }
+
+-- the keys and identities of results
+abbrev pub keys_of : {E : Type 0} {g : Ghosts E} → List (SlotResult E g) → List ℕ
+keys_of xs = map (λ r. r.key) xs
+
+abbrev pub ids_of : {E : Type 0} {g : Ghosts E} → List (SlotResult E g) → List Identity
+ids_of xs = map (λ r. r.identity) xs
 
 -- a slot of whose node this was written
 abbrev pub with_written : Written → Slot → Slot

@@ -1,13 +1,21 @@
 -- A worker's task at hand and its path as plain data: what it has to do, what comes next first.
 use Rattle.std.specs.{Prelude.{ℕ, ◌≡◌, ◌≤◌, ◌+◌, List, [], ◌∷◌, length, max, Option, None, Some, slice_get}, Arc.arc_value}
-use Rattle.pagable_model.specs.declared.numbers.ArcRef.{ArcRef}
+use Rattle.{pagable_model.specs.declared.numbers.{ArcRef.ArcRef, HandleNumber.HandleNumber}, pagable_loads.specs.Frames.reading_of}
 use Rattle.pagable_world.specs.{World.{Todo, to_start, to_pin, to_load, to_write, to_finish, to_item, to_set, to_publish, to_release, to_fail, Fault, was_refused, was_failed, Written}, Plain.above}
-use Rattle.{pagable_world.specs.{Plain.longest_path, Workers.{give, place_below}}, pagable_loads.specs.Frames.reading_of, pagable_walk.specs.{Found.keys_of, Slots.written_of, declared.results.Trees.Ghosts}}
+use Rattle.{pagable_world.specs.{Plain.longest_path, Workers.{give, place_below}}, pagable_walk.specs.{Slots.{keys_of, written_of}, declared.results.Trees.Ghosts}}
 use Rattle.pagable_walk.specs.declared.{table.PageOutError.PageOutError, tasks.{Node.Node, Task.Task, Waiting.Waiting}}
 
 abbrev pub fault_of : PageOutError → Fault
 fault_of (PageOutError.Failed e) = was_refused e
 fault_of PageOutError.AlreadyFailed = was_failed
+
+-- a walk that fails; the entry goes back where nothing waits
+abbrev pub back_of : Option HandleNumber → List Todo → Option HandleNumber
+back_of entry [] = entry
+back_of entry (x ∷ below) = None
+
+abbrev pub fails : Fault → Option HandleNumber → List Todo
+fails fault back = to_fail fault back ∷ []
 
 -- what waits for its references: a written node, or else the item
 abbrev pub waits_as : Option Node → Written → List ℕ → Todo

@@ -2,9 +2,9 @@
 use Rattle.std.specs.{Prelude.{ℕ, ◌≡◌, ◌≤◌, ◌+◌, true, List, [], ◌∷◌, Option, Some, None, Result, Ok, Err}, Arc.arc_value, declared.{alloc.Global.Global, sync.Arc.Arc}}
 use Rattle.{pagable_model.specs.declared.{error.Error.Error, numbers.{ArcRef.ArcRef, HandleNumber.HandleNumber}}, pagable_world.specs.World.{Core, Shelf, Todo, to_start, to_pin, was_failed, of_cell}}
 use Rattle.pagable_world.specs.{World.{Written, Values, Seen, seen_as, row_at, type_at}, Workers.{Site, WalkDoes, WorkerEnds, give_known, failing, failing_by, answer_after, is_counted}, Access.Called}
-use Rattle.pagable_world.specs.{Access.WalkStep, Kinds.{is_pinning, owner_worker, identity_of}, Pager.{PagerState, WellFormed, Moves, TodoBrings, TookWrites}, Plain.{Blob, type_of, longest_path}}
+use Rattle.pagable_world.specs.{Access.{WalkStep, WorkerRun}, Kinds.{is_pinning, owner_worker, identity_of}, Pager.{PagerState, WellFormed, Moves, TodoBrings, TookWrites}}
 use Rattle.{pagable_world.specs.declared.{events.{Claim.Claim, Took.Took, WorkerAnswer.WorkerAnswer}, handles.{HandleRow.HandleRow, Owner.Owner}}, pagable_loads.specs.Frames.IsLoadOf}
-use Rattle.{pagable_loads.specs.{Telling.{Acting, as_caller}, declared.reading.Reading.Reading as Own}, pagable_laws.specs.KeyRuns.StandsAt}
+use Rattle.{pagable_world.specs.Plain.{Blob, type_of, longest_path}, pagable_loads.specs.{Telling.{Acting, as_caller}, declared.reading.Reading.Reading as Own}, pagable_laws.specs.KeyRuns.StandsAt}
 use Rattle.{pagable_core.specs.declared.context.writing.SerializedData.SerializedData, pagable_walk.specs.{Slots.written_of, Tasks.{IsPlain, todo_of, todos}, declared.results.Trees.Ghosts}}
 use Rattle.pagable_walk.specs.declared.{table.Found.Found, tasks.{Moved.Moved, Task.Task, Turn.Turn, Waiting.Waiting}}
 
@@ -131,3 +131,20 @@ module _ {X : Type 0} {g : Ghosts X} where
   pub record StepsTo {N E : Type 0} (v : Values N) (me : Owner) (n : ℕ) (shelf : Shelf) (task : Task X g) (below : List Todo) (shelf' : Shelf) (moved : Moved X g) (after : List Todo) (s t : PagerState N E) : Type 0 where
     pub steps : Fits v me n task s → Stepped v n shelf (todo_of task ∷ below) s shelf' moved after t
     pub counts : moved.counted ≡ is_counted (todo_of task ∷ below) (plain_took moved.took)
+
+-- ---- a worker's walk from a task to its answer
+
+-- some steps from what is to be done to this answer
+pub record Walked {N E : Type 0} (v : Values N) (n : ℕ) (todo : List Todo) (s : PagerState N E) (shelf : Shelf) (answer : WorkerAnswer) (t : PagerState N E) (shelf' : Shelf) : Type 0 where
+  pub steps : List (Took Written)
+  pub run : WorkerRun (plain v) n todo (record { pager = s; shelf = shelf }) steps answer (record { pager = t; shelf = shelf' })
+
+module _ {X : Type 0} {g : Ghosts X} where
+  -- The answer is that of a run of the worker, where the task fits.
+  pub record RunsTo {N E : Type 0} (v : Values N) (me : Owner) (n : ℕ) (shelf : Shelf) (task : Task X g) (below : List Todo) (shelf' : Shelf) (answer : WorkerAnswer) (s t : PagerState N E) : Type 0 where
+    pub runs : Fits v me n task s → Walked v n (todo_of task ∷ below) s shelf answer t shelf'
+
+  -- Steps so far: what is to be done fits, and a run from there is one from the beginning.
+  pub record HasWalked {N E : Type 0} (v : Values N) (me : Owner) (n : ℕ) (shelf : Shelf) (first : Task X g) (below : List Todo) (now_shelf : Shelf) (now : Task X g) (now_below : List Todo) (s t : PagerState N E) : Type 0 where
+    pub fits : Fits v me n first s → Fits v me n now t
+    pub then : Fits v me n first s → (answer : WorkerAnswer) (u : PagerState N E) (shelf' : Shelf) → Walked v n (todo_of now ∷ now_below) t now_shelf answer u shelf' → Walked v n (todo_of first ∷ below) s shelf answer u shelf'

@@ -4,7 +4,7 @@ ghost use Rattle.std.specs.{Arc.arc_value, Prelude.{◌≡◌, ◌∷◌, [], �
 ghost use Rattle.{pagable_core.specs.Data.blob_of, pagable_model.specs.Merkle.blob_of as blob_over};
 ghost use Rattle.{pagable_model.specs.Blob.key_of, pagable_world.specs.{World.{Shelf, Todo, answer_of_fault, to_release, to_set}, Kinds.identity_of, Plain.longest_path}};
 ghost use Rattle.{pagable_loads.specs.Telling.{Acts, Tells, values_at}, pagable_walk.specs.{Tasks.{AwaitsLow, IsWay, fault_of, todos, waiting_todo}, Due.LeadsOn}};
-ghost use Rattle.pagable_walk.specs.{Ending.{Stores, IsStored, named_by, GoesBack}, Found.{keys_of, ids_of}, Slots.written_of, Table.shelf_of, Turns.{TurnsTo, plan}, Results.HasFormOf};
+ghost use Rattle.pagable_walk.specs.{Writing.{Stores, IsStored, named_by, GoesBack}, Slots.{keys_of, ids_of, written_of}, Table.shelf_of, Turns.{TurnsTo, plan}, Results.HasFormOf};
 
 use crate::stack::{fail, give, refuse};
 use crate::tasks::{Done, Moved, Node, Task, Turn, Waiting, named};

@@ -3,7 +3,7 @@
 ghost use Rattle.std.specs.{Arc.arc_value, Prelude.{◌≡◌, ℕ, Some, OnOk, OnErr, IfOk, None, IfErr}};
 ghost use Rattle.{pagable_model.specs.declared.numbers.Identity.Identity as Named, pagable_world.specs.Workers.{with_outcome, with_slot, with_wait, IsOpenSlot, ComesToEnd, with_changed_slot}};
 ghost use Rattle.{pagable_world.specs.{Workers.with_failed, World.{published, failed, Slot, SameShelf}}, pagable_walk.specs.Slots.{written_of, claimed_by, slot_of, IsNamed, slots_in, AreNamed, shelf_in}};
-ghost use Rattle.pagable_walk.specs.{Slots.{Stands, SlotIs, SameSlots, EachEnds, Leads, Changes, FailsAt, failed_by, after_failure, with_written, no_claims, Judges, ClaimsThere}, Table.shelf_of};
+ghost use Rattle.pagable_walk.specs.{Slots.{Stands, SlotIs, SameSlots, Leads, Changes, FailsAt, failed_by, after_failure, with_written, no_claims, Judges, ClaimsThere}, Table.shelf_of};
 ghost use Rattle.pagable_walk.specs.Table.{found_as, IsFoundOf};
 
 use crate::{Found, SlotResult, SlotTable, Trees};
@@ -181,29 +181,33 @@ pub fn fail_all<E: Trees>(slots: &mut IndexMap<(u32, u64), ArcSerSlot<E>>, worke
     }
 }
 
-/// Whether the worker `start` waits for one that waits, and so on, for the worker `asker`. Refused by want of memory alone.
+/// Whether the worker `start` waits for one that waits, and so on, for the worker `asker`. As no workers wait in a ring, no more waits lead there than there are: where they did,
+/// the claim would be refused as one for which memory is wanting.
 pub fn comes_back<E: Trees>(
     slots: &IndexMap<(u32, u64), ArcSerSlot<E>>,
     waits: &IndexMap<u64, Identity>,
     asker: u64,
     start: u64,
 ) -> Result<bool, AllocError>
-    requires own { AreNamed slots.now }
-    requires ends { EachEnds (shelf_in slots.now waits.now) }
+    requires { AreNamed slots.now }
     ensures { IfOk result (Leads (shelf_in slots.now waits.now) asker start) }
 {
-    let mut left = waits.clone()?;
+    let mut left = waits.len();
     let mut worker = start;
     loop {
         if worker == asker {
             return Ok(true);
         }
-        let Some(identity) = left.swap_remove(&worker) else {
+        let Some(identity) = waits.get(&worker) else {
             return Ok(false);
         };
-        let Standing::Open(next) = look_up(slots, identity) else {
+        let Standing::Open(next) = look_up(slots, *identity) else {
             return Ok(false);
         };
+        if left == 0 {
+            return Err(AllocError);
+        }
+        left -= 1;
         worker = next;
     }
 }
@@ -278,7 +282,7 @@ impl<E: Trees> SlotTable<E> {
 
     /// A worker claims an identity at this place on a path, or learns what is known there. It waits only for a worker that doesn't come to wait for it. Refused with TooDeep where the path is too
     /// long, also with the height that is known there, or where workers would wait in a ring; and with OutOfMemory. No claim is made then, and the worker waits for nothing.
-    #[tactic(auto, using(crate::proofs::Claims::claims))]
+    #[tactic(auto, using(crate::proofs::Waits::claims))]
     pub fn try_claim(
         &mut self,
         worker: WorkerNumber,

@@ -3,7 +3,7 @@
 ghost use Rattle.std.specs.{Prelude.{◌≡◌, ◌≤◌, ◌<◌, ◌+◌, ◌*◌, ◌∷◌, ◌++◌, [], IfOk, IfErr, OnErr, max, length, vec_len, vec_capacity}, Arc.arc_value};
 ghost use Rattle.pagable_world.specs.Plain.{above, longest_path};
 ghost use Rattle.{pagable_world.specs.{Workers.{place_below, settle, give_known}, World.was_refused}, pagable_walk.specs.Tasks.{AwaitsLow, Gives, IsPlain, TakesNext, fault_of, place_of, raised}};
-ghost use Rattle.pagable_walk.specs.{Tasks.{todo_of, todos, waiting_todo, waits_as}, Due.due, Failing.{back_of, fails}, Found.keys_of, Slots.written_of};
+ghost use Rattle.pagable_walk.specs.{Tasks.{back_of, fails, todo_of, todos, waiting_todo, waits_as}, Due.due, Slots.{keys_of, written_of}};
 
 use crate::tasks::{Done, Node, Task, Waiting};
 use crate::{PageOutError, Trees};

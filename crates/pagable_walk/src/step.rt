@@ -2,7 +2,7 @@
 
 ghost use Rattle.std.specs.Prelude.{◌≡◌, ◌∷◌, ◌<◌, ◌≤◌, ◌+◌, ◌*◌};
 ghost use Rattle.pagable_loads.specs.Telling.{Acts, ActsThen, as_caller, values_at};
-ghost use Rattle.pagable_walk.specs.{Due.{LeadsOn, IfGoes, due, far}, Table.shelf_of, Tasks.{IsWay, todo_of, todos}, Turns.{Closes, TurnsTo, StepsTo, acting_then, plan}, Walking.RunsTo};
+ghost use Rattle.pagable_walk.specs.{Due.{LeadsOn, IfGoes, due, far}, Table.shelf_of, Tasks.{IsWay, todo_of, todos}, Turns.{Closes, TurnsTo, StepsTo, RunsTo, acting_then, plan}};
 
 use crate::ending::{end, finish, publish, release, set_key};
 use crate::stack::fail;

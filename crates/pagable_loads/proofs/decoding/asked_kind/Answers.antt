@@ -1,4 +1,4 @@
-use Rattle.pagable_loads.proofs.NextStep.{asks_nothing}
+use Rattle.pagable_loads.proofs.Needed.{asks_nothing}
 use Rattle.pagable_loads.proofs.decoding.asked_kind.Goals as goal
 
 pub returns-in_default : goal.returns-in_default

@@ -1,5 +1,5 @@
-use Rattle.{std.{proofs.{Common.{ap, arith, length, subst, sym, ◌∙◌}, lemmas.Option.slice_get-get_or}, specs.Arc.arc_value}, pagable_loads.{specs.Lending.LendsEach, proofs.Stepped.{tells_all, tells_both, tells_map}}}
-use Rattle.pagable_loads.proofs.Lent.{none_lent, longer, more_lent, all_lent}
+use Rattle.{std.{proofs.{Common.{ap, arith, length, rules, subst, sym, ◌∙◌}, lemmas.Option.slice_get-get_or}, specs.Arc.arc_value}, pagable_loads.{specs.Got.LendsEach, proofs.Stepped.{tells_all, tells_both, tells_map}}}
+use Rattle.pagable_loads.proofs.Lent.{none_lent, more_lent, all_lent}
 use Rattle.pagable_loads.proofs.reading.lend.Goals as goal
 
 pub returns-then-not-is_any_read_at_once-clause-lends : goal.returns-then-not-is_any_read_at_once-clause-lends
@@ -13,8 +13,8 @@ pub loop-reference-preserved : goal.loop-reference-preserved
 loop-reference-preserved g c =
     let l = c.loop-reference in
     record {
-      long = longer l.reference-index l.lent.items _ c.in_ok-value.value c.in_ok-push.ensures.items l.invariant.long;
-      lent = tells_both (λ s to lends. more_lent arc_value s c.args.got.now l.reference-index _ l.lent.items _ c.in_ok-value.value c.in_ok-push.ensures.items l.invariant.long (slice_get-get_or c.args.got.now l.reference-index _ c.loop-reference-test.true) to lends) l.invariant.lent c.in_ok-value.ensures.lends;
+      long = search rules;
+      lent = tells_both (λ s to lends. rw c.in_ok-push.ensures.items (more_lent arc_value s c.args.got.now l.reference-index _ l.lent.items c.in_ok-value.value l.invariant.long (slice_get-get_or c.args.got.now l.reference-index _ c.loop-reference-test.true) to lends)) l.invariant.lent c.in_ok-value.ensures.lends;
     }
 
 pub returns-clause-lends : goal.returns-clause-lends
