@@ -8,7 +8,7 @@ ghost use Rattle.pagable_model.specs.{Gives.memory_or, Keys.optional_order, Keys
 ghost use Rattle.pagable_model.specs.{declared.error.Error.Error as Refusal, declared.numbers.ArcRef.ArcRef as Reference};
 
 use crate::boxes::PagableBoxDeserialize;
-use crate::impls::thin::Thin;
+use crate::impls::holders::Thin;
 use crate::keys::{PagableKey, PagableOrdKey};
 use crate::traits::{Carried, PagableDeserialize, PagableSerialize};
 use pagable_codec::env::Env;

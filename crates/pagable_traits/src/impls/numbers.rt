@@ -5,7 +5,7 @@ ghost use Rattle.std.specs.{Int.w8, Int.w16, Int.w32, Int.w64, Int.w128};
 ghost use Rattle.pagable_model.specs.{Meaning.{number, integer, none, flag as flag_meaning}, Shape.{unsigned, signed, flag, letter, nothing}};
 ghost use Rattle.pagable_traits.specs.{Meanings.{exactly}, OwnCauses.{writes_never}};
 
-use crate::alike::CarriedAs;
+use crate::alike::{CarriedAs, ReadAs};
 use crate::traits::{Carried, OneMeaning, PagableDeserialize, PagableSerialize};
 use pagable_codec::{Env, PagableDeserializer, PagableSerializer, Reader};
 use pagable_flavors::Error;
@@ -148,12 +148,9 @@ impl<E: Env> PagableSerialize<E> for usize {
     }
 }
 
-impl<'de, E: Env> PagableDeserialize<'de, E> for usize {
-    fn pagable_deserialize<D: PagableDeserializer<E>>(
-        _alloc: Global,
-        deserializer: &mut D,
-    ) -> Result<Self, Error> {
-        deserializer.serde().read_usize()
+impl ReadAs for usize {
+    fn of_other(value: u64) -> Self {
+        value as usize
     }
 }
 

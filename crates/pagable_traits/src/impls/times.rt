@@ -1,5 +1,5 @@
 //! Spans of time.
-#![tactic(auto, using(pagable_codec::proofs::Writing::parts, crate::proofs::Times::writes_span))]
+#![tactic(auto, using(pagable_codec::proofs::Writing::parts, crate::proofs::Basics::writes_span))]
 
 ghost use Rattle.std.specs.Prelude.{◌≡◌, ◌++◌, ◌<◌, ◌^◌, OnOk, IfErr};
 ghost use Rattle.pagable_model.specs.{Basic.{duration_at, duration_form}, Gives.{Gives, never, memory, Extends}, Shape.duration, Track.{left, GoesOn}, Spans.{of_span, seconds_of, nanos_of}};
@@ -25,7 +25,7 @@ fn write_span(span: Duration, writer: &mut PagableVecFlavor) -> Result<(), Error
 }
 
 // Reads seconds and nanoseconds, of which whole seconds are carried over: BadDuration where the seconds overflow.
-#[tactic(auto, unfolding(pagable_model::specs::Basic::duration_at), using(crate::proofs::Times::span_overflows, crate::proofs::Times::span_read))]
+#[tactic(auto, unfolding(pagable_model::specs::Basic::duration_at), using(crate::proofs::Basics::span_overflows, crate::proofs::Basics::span_read))]
 fn read_span<R: Reader>(reader: &mut R) -> Result<Duration, Error>
     ensures gives { Gives never (λ d. ((seconds_of d, nanos_of d), left (R.track reader.new))) result (duration_at (left (R.track reader.old))) }
     ensures goes { GoesOn (R.track reader.old) (R.track reader.new) }

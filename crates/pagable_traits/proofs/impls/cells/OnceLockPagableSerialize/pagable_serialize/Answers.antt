@@ -1,4 +1,4 @@
-use Rattle.pagable_traits.proofs.{Cells.held_means, Parts.{ok_along, err_along, some_along, refused_along}}
+use Rattle.pagable_traits.proofs.{Joined.held_means, Parts.{ok_along, err_along, some_along, refused_along}}
 use Rattle.pagable_traits.proofs.impls.cells.OnceLockPagableSerialize.pagable_serialize.Goals as goal
 
 pub returns-clause-ok : goal.returns-clause-ok

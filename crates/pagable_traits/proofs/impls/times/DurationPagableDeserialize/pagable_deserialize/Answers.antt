@@ -1,4 +1,4 @@
-use Rattle.pagable_traits.proofs.Times.{gives_span}
+use Rattle.pagable_traits.proofs.Basics.{gives_span}
 use Rattle.pagable_traits.proofs.impls.times.DurationPagableDeserialize.pagable_deserialize.Goals as goal
 
 pub returns-clause-gives : goal.returns-clause-gives
