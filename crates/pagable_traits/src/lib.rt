@@ -2,21 +2,15 @@
 #![tactic(auto)]
 
 pub mod alike;
-pub mod boxes;
-pub mod eager;
 pub mod impls;
-pub mod in_node;
 pub mod keys;
 pub mod laws;
 pub mod one_form;
 pub mod traits;
 
-pub use boxes::PagableBoxDeserialize;
-pub use eager::{EagerlyCarried, PagableEagerDeserialize, PagableEagerSerialize};
 pub use impls::holders::Thin;
 pub use impls::lists::serialize_slice;
 pub use impls::texts::{PathText, serialize_str};
-pub use in_node::InNode;
 pub use keys::{PagableKey, PagableOrdKey};
 pub use one_form::Canonical;
 pub use pagable_codec::{
@@ -25,5 +19,7 @@ pub use pagable_codec::{
     SessionValue, WorkerNumber,
 };
 pub use traits::{
-    Carried, OneMeaning, Pagable, PagableDeserialize, PagableDeserializeOwned, PagableSerialize,
+    Carried, EagerlyCarried, InNode, OneMeaning, Pagable, PagableBoxDeserialize,
+    PagableDeserialize, PagableDeserializeOwned, PagableEagerDeserialize, PagableEagerSerialize,
+    PagableSerialize,
 };
