@@ -80,9 +80,7 @@ module _ (n : Nesting) where
 
 -- a number that 64 bits with a sign hold is whole
 pub whole_number : (x : Num) (z : ℤ) → as_i64 x ≡ Some z → of_data (number x) ≡ variant 2 (integer z)
-whole_number (kit.unsigned n) z e = grind arith
-whole_number (kit.negative y) z e = let same : y ≡ z = cc in ap (λ (u : ℤ). variant 2 (integer u)) same
-whole_number (kit.float x) z e = absurd cc
+whole_number x z e = grind arith
 
 number-within : (n : Nesting) (z : ℤ) {m : Meaning ArcRef} {b : List ℕ} {k : List ArcRef} → FormAt n json m b k → m ≡ variant 2 (integer z) → IsSigned w64 z
 number-within n z f e = grind arith
@@ -201,8 +199,7 @@ module _ {X : Type 0} (M : X → Meaning ArcRef → Type 0) (has : (x : X) → S
 
       longer : (n : Nesting) (e : Error) → ((n : Nesting) (m : Meaning ArcRef) → NoForm (deeper n) whole m → NoForm n json (variant case m)) → Wraps M ys (MeansList M ys) (deeper n) whole item
           → long_or_no_memory count e → Refused (Is of_data d) n json e
-      longer n e lack wraps (inl h) = refuses n e lack (refuses-long wraps has count counted e h.0)
-      longer n e lack wraps (inr h) = memory_refuses e _ n json h
+      longer n e lack wraps h = grind (arith, refuses n e lack, refuses-long wraps has count counted, memory_refuses)
 
 pub arrays : (vs : List Value) (count : ℕ) → count ≡ length vs → HoldsBelow 4 count (all (MeanAll (Is of_value) vs) json) (array (items_view vs))
 arrays vs count counted =

@@ -1,6 +1,5 @@
 //! The carried types.
 
-pub mod cells;
 pub mod collecting;
 pub mod holders;
 pub mod json_reading;
@@ -9,4 +8,3 @@ pub mod lists;
 pub mod maps;
 pub mod numbers;
 pub mod texts;
-pub mod times;

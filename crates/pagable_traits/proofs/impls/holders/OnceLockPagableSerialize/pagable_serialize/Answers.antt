@@ -1,5 +1,5 @@
 use Rattle.pagable_traits.proofs.{Joined.held_means, Parts.{ok_along, err_along, some_along, refused_along}}
-use Rattle.pagable_traits.proofs.impls.cells.OnceLockPagableSerialize.pagable_serialize.Goals as goal
+use Rattle.pagable_traits.proofs.impls.holders.OnceLockPagableSerialize.pagable_serialize.Goals as goal
 
 pub returns-clause-ok : goal.returns-clause-ok
 returns-clause-ok g c = ok_along _ c.pagable_serialize.ensures.ok (λ w. some_along _ _ _ _ w (held_means g.T.Carried.means.of c.get-held.result))

@@ -1,5 +1,5 @@
 use Rattle.pagable_traits.proofs.Basics.{gives_span}
-use Rattle.pagable_traits.proofs.impls.times.DurationPagableDeserialize.pagable_deserialize.Goals as goal
+use Rattle.pagable_traits.proofs.impls.numbers.DurationPagableDeserialize.pagable_deserialize.Goals as goal
 
 pub returns-clause-gives : goal.returns-clause-gives
 returns-clause-gives g c =
