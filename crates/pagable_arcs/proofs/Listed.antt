@@ -1,7 +1,7 @@
--- The references of values that hold others, one after the other.
+-- The references of values that hold others, one after the other; and that a value that was made of a reference means what the reference means.
 use Rattle.std.proofs.{Common.{◌≡◌, ◌∙◌, ◌<◌, ◌≤◌, ◌+◌, ℕ, length, slice_index_or, List, [], ◌∷◌, ◌++◌, sym, ap, append_assoc, Result, Ok, Err}, lemmas.List.{append-nil, drop_all, drop_more}}
 use Rattle.std.specs.Prelude.{map, drop, OnOk}
-use Rattle.pagable_model.specs.{Meaning.{Meaning, pair, sequence}, References.references_in, Shape.Shape, Writing.{Nesting, Out, WritesSome}, declared.error.Error.Error}
+use Rattle.pagable_model.specs.{Meaning.{Meaning, pair, reference, sequence}, References.references_in, Standing.{Gave, Is}, Shape.Shape, Writing.{Nesting, Out, WritesSome}, declared.error.Error.Error}
 use Rattle.pagable_model.specs.declared.numbers.ArcRef.{ArcRef}
 use Rattle.pagable_arcs.specs.Refers.{ListsInOrder}
 
@@ -31,5 +31,9 @@ pub written_listed : {X : Type 0} (r : Result X Error) (M : Meaning ArcRef → T
     → OnOk r (new.refs ≡ old.refs ++ references_in own)
 written_listed (Ok x) M own n s old new single order w = written-listed M own n s old new single order w
 written_listed (Err e) M own n s old new single order w = tt
+
+-- what is read as a reference is read as what stands for it
+pub gave_held : {X R : Type 0} (held : X → ArcRef) (x : X) (r : ArcRef) (after : R) (read : Result (Meaning ArcRef × R) Error) → held x ≡ r → Gave (Is reference r) after read → Gave (Is (λ y. reference (held y)) x) after read
+gave_held held x r after read e g = record { m = g.m; is = g.is ∙ ap reference (sym e); gave = g.gave }
 
 pub ruleset parts = (append-nil)

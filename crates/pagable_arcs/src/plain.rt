@@ -102,7 +102,7 @@ impl<E: Env, const KIND: u32> PagableSerialize<E> for OfKind<KIND> {
 }
 
 impl<'de, E: Env, const KIND: u32> PagableDeserialize<'de, E> for OfKind<KIND> {
-    #[tactic(auto, using(crate::proofs::Meant::meant))]
+    #[tactic(auto, using(crate::proofs::Listed::gave_held))]
     fn pagable_deserialize<D: PagableDeserializer<E>>(
         _alloc: Global,
         deserializer: &mut D,

@@ -1,4 +1,5 @@
 //! The references in a value, listed.
+#![tactic(auto, using(crate::proofs::Listed::parts), unfolding(pagable_model::specs::References::references_in))]
 
 ghost use Rattle.std.specs.Prelude.{◌≡◌, ◌++◌, map, OnOk, IfOk, IfErr};
 ghost use Rattle.pagable_model.specs.{Gives.memory, Meaning.sequence, References.references_in};
@@ -26,7 +27,6 @@ pub trait Refers<E: Env>: OneMeaning<E> {
 }
 
 impl<E: Env, T: OfNode<E>> Refers<E> for PagableArc<T> {
-    #[tactic(auto, using(crate::proofs::Listed::parts), unfolding(pagable_model::specs::References::references_in))]
     fn list_references(&self, list: &mut Vec<ArcRef>) -> Result<(), Error> {
         list.push(self.reference::<E>())?;
         Ok(())
@@ -36,7 +36,6 @@ impl<E: Env, T: OfNode<E>> Refers<E> for PagableArc<T> {
 }
 
 impl<E: Env, T: OfNode<E>, const PINS: bool> Refers<E> for HoldingArc<T, PINS> {
-    #[tactic(auto, using(crate::proofs::Listed::parts), unfolding(pagable_model::specs::References::references_in))]
     fn list_references(&self, list: &mut Vec<ArcRef>) -> Result<(), Error> {
         list.push(self.reference::<E>())?;
         Ok(())
@@ -46,7 +45,6 @@ impl<E: Env, T: OfNode<E>, const PINS: bool> Refers<E> for HoldingArc<T, PINS> {
 }
 
 impl<E: Env, const KIND: u32> Refers<E> for OfKind<KIND> {
-    #[tactic(auto, using(crate::proofs::Listed::parts), unfolding(pagable_model::specs::References::references_in))]
     fn list_references(&self, list: &mut Vec<ArcRef>) -> Result<(), Error> {
         list.push(self.reference())?;
         Ok(())
@@ -64,7 +62,6 @@ impl<'a, E: Env, T: Refers<E>> Refers<E> for &'a T {
 }
 
 impl<E: Env> Refers<E> for String {
-    #[tactic(auto, using(crate::proofs::Listed::parts), unfolding(pagable_model::specs::References::references_in))]
     fn list_references(&self, _list: &mut Vec<ArcRef>) -> Result<(), Error> {
         Ok(())
     }
@@ -73,7 +70,6 @@ impl<E: Env> Refers<E> for String {
 }
 
 impl<E: Env, T: Refers<E>> Refers<E> for Option<T> {
-    #[tactic(auto, using(crate::proofs::Listed::parts), unfolding(pagable_model::specs::References::references_in))]
     fn list_references(&self, list: &mut Vec<ArcRef>) -> Result<(), Error> {
         match self {
             None => Ok(()),

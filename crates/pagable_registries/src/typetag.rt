@@ -43,7 +43,7 @@ pub trait PagableTagged<E: Env>: Sized {
         ensures same_levels { S.levels serializer.new ≡ S.levels serializer.old };
 
     /// Writes the tag and then the body, whichever tags are registered. TooLong for a tag above 4,294,967,295 bytes.
-    #[tactic(auto, using(pagable_traits::proofs::InTurn::writes, pagable_traits::proofs::Parts::only_parts, pagable_codec::proofs::Writing::grows_trans, crate::proofs::Tagged::writes))]
+    #[tactic(auto, using(pagable_traits::proofs::Walks::writes, pagable_traits::proofs::Parts::only_parts, pagable_codec::proofs::Writing::grows_trans, crate::proofs::Tagged::writes))]
     final fn serialize_tagged<S: PagableSerializer<E>>(
         &self,
         serializer: &mut S,

@@ -6,13 +6,10 @@ use Rattle.pagable_traits.proofs.Reordered.{Reordered, no-items, same-front, two
 use Rattle.std.specs.declared.cmp.Ordering.TheVariants as answers
 
 equal-by : (o : Ordering) → is_eq o ≡ true → o ≡ answers.Equal
-equal-by answers.Equal e = refl
-equal-by _ e = cc
+equal-by o e = grind arith
 
 unequal-back : (o p : Ordering) → p ≡ ordering_reverse o → is_eq o ≡ false → is_eq p ≡ false
-unequal-back answers.Less p e h = rw e refl
-unequal-back answers.Equal p e h = cc
-unequal-back answers.Greater p e h = rw e refl
+unequal-back o p e h = grind arith
 
 above : {K : Type 0} (cmp : K → K → Ordering) → IsTotalOrder cmp → (a b : K) → cmp a b ≡ answers.Less → cmp b a ≡ answers.Greater
 above cmp total a b lt = total.antisymm b a ∙ ap ordering_reverse lt

@@ -1,7 +1,11 @@
--- How a basic value is read and written: all that its reader and its writer owe, from what the reader or the writer of its bytes tells.
-use Rattle.pagable_traits.proofs.Words.{to_z-of_z, never, ℤ, Bool, String, string_bytes, ◌≡◌, ℕ, ◌++◌, List, [], refl, Result, Ok, Err, inl, inr, OnOk, IfErr, Error, ArcRef, bool_at, char_at, text_at}
+-- How a basic value is read and written, a span of time among them: all that its reader and its writer owe, from what the reader or the writer of its bytes tells.
+use Rattle.pagable_traits.proofs.Words.{to_z-of_z, never, ℤ, Bool, String, string_bytes, ◌≡◌, ℕ, ◌++◌, List, [], refl, Result, Ok, Err, OnOk, IfErr, Error, ArcRef, bool_at, char_at, text_at}
 use Rattle.pagable_traits.proofs.Words.{Gives, Extends, memory, Meaning, number, integer, Read, unsigned_at, signed_at, Rest, Context, bytes_of, read, read_with, Shape, signed, Out, Nesting, FormAt}
 use Rattle.pagable_traits.proofs.Words.{WritesSome, Refused, Grows, Answer, GivesSome, Is, writes_is, writes_bytes, grows_bytes, refused_memory}
+use Rattle.pagable_traits.proofs.Words.{◌+◌, ◌*◌, ◌≤◌, ◌^◌, arith, ap, ◌∙◌, w32, w64, handles_at}
+use Rattle.std.{proofs.{Common.◌/◌, lemmas.Bool.le-ltb, lemmas.Nat.mod_below}, specs.{Duration.as_nanos, declared.time.Duration.Duration}}
+use Rattle.pagable_model.specs.{Basic.{nanos_of_second, duration_form, duration_at}, Carried.of_duration, Form.duration-form, Shape.duration, Spans.{seconds_of, nanos_of, of_span}}
+use Rattle.pagable_model.specs.declared.error.Error.TheVariants as errors
 use Rattle.std.{specs.Int.{Width, w8}, specs.Char.IsScalar, proofs.Common.{◌<◌, rules, FitsSigned, to_z, of_z}}
 use Rattle.pagable_codec.proofs.Writing.{writes_unsigned, writes_signed, writes_flag, writes_letter}
 use Rattle.pagable_model.specs.{Basic.{bool_form, char_form}, Numbers.{bound, IsSigned, unsigned_form, signed_form}, Meaning.{text, flag}, Shape.{unsigned, letter, flag as flag_shape}}
@@ -11,9 +15,7 @@ use Rattle.pagable_model.specs.{Shape.text as text_shape, Track.{Track, left}}
 
 pub gives_bytes : {X Y : Type 0} (own : Error → Type 0) (view : X → Y) (meaning : Y → Meaning ArcRef) (at : List ℕ → Read Y) (r : Result X Error) (rest : Rest Answer) (after : List ℕ) → Gives own (λ x. (view x, after)) r (at rest.bytes)
     → GivesSome own (Is (λ x. meaning (view x))) (record rest { bytes = after }) r (bytes_of at meaning rest)
-gives_bytes own view meaning at (Ok x) rest after h = record { m = meaning (view x); is = refl; gave = rw h refl }
-gives_bytes own view meaning at (Err e) rest after (inl h) = inl (rw h refl)
-gives_bytes own view meaning at (Err e) rest after (inr h) = inr h
+gives_bytes own view meaning at r rest after h = grind arith
 
 -- by what a deserializer says of itself with another reader
 module _ (context : Context Answer ArcRef) (rest last : Rest Answer) (given used : Track) (same : rest.bytes ≡ left given) (moved : last ≡ record rest { bytes = left used }) where
@@ -89,3 +91,26 @@ module _ (n : Nesting) (old new : Out) (given bytes : List ℕ) (same : given �
   wrote_letter c scalar is = rw grown (writes_letter n c old bytes scalar (rw same at is))
 
 pub ruleset write_steps = (wrote_unsigned, wrote_signed, wrote_flag, wrote_letter)
+
+-- ---- spans of time
+
+pub writes_span : {X : Type 0} (r : Result X Error) (d : Duration) (n : Nesting) (old last : Out) (now w : List ℕ) → now ≡ old.bytes → last ≡ record old { bytes = w } → seconds_of d < 2 ^ 64
+    → OnOk r (w ≡ now ++ duration_form (seconds_of d) (nanos_of d)) → OnOk r (WritesSome (Is of_span d) n duration old last)
+writes_span (Ok x) d n old last now w e f lt h =
+    let below : nanos_of d < nanos_of_second = mod_below (as_nanos d) nanos_of_second (omega arith) in
+    rw f (writes_is of_span d n duration old _ (writes_bytes n duration (of_span d) old w (duration_form (seconds_of d) (nanos_of d)) (h ∙ ap (λ (b : List ℕ). b ++ duration_form (seconds_of d) (nanos_of d)) e) (duration-form _ (seconds_of d) (nanos_of d) lt below)))
+writes_span (Err e) d n old last now w same f lt h = tt
+
+pub gives_span : (levels : ℕ) (parts : ℕ → Shape) (r : Result Duration Error) (rest last : Rest Answer) (bytes after : List ℕ) → rest.bytes ≡ bytes → last ≡ record rest { bytes = after } → Gives never (λ d. ((seconds_of d, nanos_of d), after)) r (duration_at bytes)
+    → GivesSome never (Is of_span) last r (read (handles_at levels parts) duration rest)
+unfolding read read_with
+gives_span levels parts r rest last bytes after e f h = rw f (gives_bytes never (λ d. (seconds_of d, nanos_of d)) (λ p. of_duration p.0 p.1) duration_at r rest after (rw e h))
+
+pub span_overflows : (bytes mid after : List ℕ) (s n : ℕ) → unsigned_at w64 bytes ≡ Ok (s, mid) → unsigned_at w32 mid ≡ Ok (n, after) → 2 ^ 64 ≤ s + n / nanos_of_second → duration_at bytes ≡ Err errors.BadDuration
+unfolding duration_at
+span_overflows bytes mid after s n g h le = rw (g, h, le-ltb (s + n / nanos_of_second) (2 ^ 64) le) refl
+
+pub span_read : (d : Duration) (bytes mid after : List ℕ) (s n : ℕ) → unsigned_at w64 bytes ≡ Ok (s, mid) → unsigned_at w32 mid ≡ Ok (n, after) → s + n / nanos_of_second < 2 ^ 64 → as_nanos d ≡ s * nanos_of_second + n
+    → duration_at bytes ≡ Ok ((seconds_of d, nanos_of d), after)
+unfolding duration_at
+span_read d bytes mid after s n g h lt e = grind arith

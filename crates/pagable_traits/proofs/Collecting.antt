@@ -1,5 +1,5 @@
 -- Items that are put in one after another as they are read.
-use Rattle.pagable_traits.proofs.Words.{◌≡◌, subst, List, [], ◌∷◌, ◌++◌, length, refl, sym, ap, ◌∙◌, append_assoc, ℕ, zero, suc, Result, Ok, Err, inl, inr, append-nil, Error, ArcRef, ◌>>=◌, Meaning}
+use Rattle.pagable_traits.proofs.Words.{◌≡◌, subst, List, [], ◌∷◌, ◌++◌, length, refl, sym, ap, ◌∙◌, append_assoc, ℕ, zero, suc, Result, Ok, Err, append-nil, Error, ArcRef, ◌>>=◌, Meaning}
 use Rattle.pagable_traits.proofs.Words.{put_all, Shape, list, Rest, Gets, Context, items, counted, seen, read, read_with, GivesSome, MeanAll, mean-none, MeansList, PutInTurn, Collected, arith}
 use Rattle.pagable_traits.proofs.Items.{mean-length, mean_last}
 use Rattle.std.specs.{Prelude.{IfOk, vec_len}, declared.vec.Vec.Vec}
@@ -34,14 +34,11 @@ collected_list M now ms c = rw (put-in-turn (λ ys y. ys ++ y ∷ []) [] c.xs no
 -- ---- what was read, seen as a whole
 
 pub gives_along : {X Y R : Type 0} (own : Error → Type 0) (P Q : X → Y → Type 0) (last : R) (r : Result X Error) (read : Result (Y × R) Error) → ((x : X) (y : Y) → P x y → Q x y) → GivesSome own P last r read → GivesSome own Q last r read
-gives_along own P Q last (Ok x) read f g = record { m = g.m; is = f x g.m g.is; gave = g.gave }
-gives_along own P Q last (Err e) read f h = h
+gives_along own P Q last r read f g = grind arith
 
 pub gives-seen : {X Y Z R : Type 0} (own : Error → Type 0) (P : X → Y → Type 0) (Q : X → Z → Type 0) (view : Y → Z) (last : R) (r : Result X Error) (part : Result (Y × R) Error)
     → ((x : X) (y : Y) → P x y → Q x (view y)) → GivesSome own P last r part → GivesSome own Q last r (part >>= λ y. Ok (view y.0, y.1))
-gives-seen own P Q view last (Ok x) part f g = record { m = view g.m; is = f x g.m g.is; gave = rw g.gave refl }
-gives-seen own P Q view last (Err e) part f (inl h) = inl (rw h refl)
-gives-seen own P Q view last (Err e) part f (inr h) = inr h
+gives-seen own P Q view last r part f g = grind arith
 
 -- a whole whose items were counted
 pub reads_items : {X A : Type 0} (own : Error → Type 0) (P : X → List (Meaning ArcRef) → Type 0) (Q : X → Meaning ArcRef → Type 0) (view : List (Meaning ArcRef) → Meaning ArcRef) → ((x : X) (ms : List (Meaning ArcRef)) → P x ms → Q x (view ms)) → (r : Result X Error) (get : Gets A (Meaning ArcRef)) (rest last : Rest A)
@@ -54,22 +51,10 @@ unfolding read read_with
 reads_list own M r held context s rest last h = grind (arith, reads_items, collected_list)
 
 -- there are as many as were asked for
-abbrev got : {A X : Type 0} → Result (List X × Rest A) Error → List X
-got (Ok o) = o.0
-got (Err e) = []
-
 items-length : {A X : Type 0} (get : Gets A X) (n : ℕ) (rest after : Rest A) (xs : List X) → items get n rest ≡ Ok (xs, after) → length xs ≡ n
 unfolding items
-items-length {A} {X} get zero rest after xs e = ap (λ (r : Result (List X × Rest A) Error). length (got r)) (sym e)
-items-length {A} {X} get (suc n) rest after xs e = first (λ r a ys k. items-length get n r a ys k) (get rest) refl
-  where
-    second : ((r a : Rest A) (ys : List X) → items get n r ≡ Ok (ys, a) → length ys ≡ n) → (o : Result (List X × Rest A) Error) (f : X × Rest A) → items get n f.1 ≡ o → ◌>>=◌ {B = List X × Rest A} o (λ others. Ok (f.0 ∷ others.0, others.1)) ≡ Ok (xs, after) → length xs ≡ suc n
-    second later (Ok others) f was k = ap (λ (r : Result (List X × Rest A) Error). length (got r)) (sym k) ∙ ap (λ (i : ℕ). suc i) (later f.1 others.1 others.0 was)
-    second later (Err x) f was k = cc
-
-    first : ((r a : Rest A) (ys : List X) → items get n r ≡ Ok (ys, a) → length ys ≡ n) → (o : Result (X × Rest A) Error) → get rest ≡ o → length xs ≡ suc n
-    first later (Ok f) was = second later (items get n f.1) f refl (rw was at e)
-    first later (Err x) was = let k = rw was at e in cc
+items-length get zero rest after xs e = grind arith
+items-length get (suc n) rest after xs e = grind (arith, items-length get n)
 
 pub list_length : {T Z A : Type 0} (own : Error → Type 0) (M : T → Meaning ArcRef → Type 0) (r : Result (Vec T Z) Error) (get : Gets A (Meaning ArcRef)) (count : ℕ) (rest last : Rest A) → GivesSome own (λ v. Collected M (λ ys y zs. zs ≡ ys ++ y ∷ []) v.items) last r (items get count rest) → IfOk r (λ v. vec_len v ≡ count)
 list_length own M (Ok v) get count rest last g = v.ok.0 ∙ sym (mean-length (collected_list M v.items g.m g.is)) ∙ items-length get count rest last g.m g.gave

@@ -4,8 +4,7 @@ use Rattle.pagable_traits.proofs.Words.{IsDistinct, keys_of, lookup, set_value, 
 use Rattle.pagable_traits.proofs.Words.{put_sorted, AllAfter, Apart, Differ, Shape, both, of_entries, Entries, more-entries, Rest, Context, counted, read, read_with, Nesting, FormAt, FormsAt}
 use Rattle.pagable_traits.proofs.{Words.{kind_of_arc, GivesSome, PutInTurn, Collected, MeansPair, arith}, Maps.{EntriesMean, entries-of-pairs, pairs-of-entries, same-entries, forms-of-entries}}
 use Rattle.pagable_traits.proofs.{Maps.{entries-mean, entries-written, reads-entries}, Reordered.{Reordered, no-items, same-front, two-turned, and-then, reordered, reordered-back, reordered-length}}
-use Rattle.pagable_traits.proofs.{Reordered.apart-with, Anywhere.{OtherKey, other-back, put-late, any-order, in-order-reordered, put-value}, Items.sequence-same, Walks.Wraps, Placed.IsSameOf}
-use Rattle.pagable_traits.proofs.Placed.{differ}
+use Rattle.pagable_traits.proofs.{Reordered.apart-with, Anywhere.{OtherKey, other-back, put-late, any-order, in-order-reordered, put-value}, Items.sequence-same, Walks.Wraps, Maps.{IsSameOf, differ}}
 use Rattle.std.{proofs.Common.MatchOption, proofs.lemmas.Map.Text.is_eq-slice_cmp, specs.Cmp.Lexicographic.on_texts}
 use Rattle.pagable_model.specs.{Meaning.plain, Keys.{code, code_order}, Shape.hash_map, Carried.of_hash_map, Form.hash-map-form, Hashed.{PutsAnywhere, MeansHashMap}}
 

@@ -1,7 +1,10 @@
--- Items one after another, as the loops write and read them.
-use Rattle.pagable_traits.proofs.Words.{◌≡◌, ℕ, suc, ◌+◌, ◌-◌, ◌<◌, ◌≤◌, subst, List, [], ◌∷◌, ◌++◌, length, take, get_or, arith, refl, sym, ap, ◌∙◌, append_assoc, Result, Ok, Err, inl, inr}
+-- Items one after another, as the loops write and read them, and without their count.
+use Rattle.pagable_traits.proofs.Words.{◌≡◌, ℕ, suc, ◌+◌, ◌-◌, ◌<◌, ◌≤◌, subst, List, [], ◌∷◌, ◌++◌, length, take, get_or, arith, refl, sym, ap, ◌∙◌, append_assoc, Result, Ok, Err, inl}
 use Rattle.pagable_traits.proofs.Words.{append-nil, ◌⊎◌, Error, ArcRef, ◌>>=◌, longest, memory_or, Meaning, sequence, Shape, list, Forms, list-form, no-forms, more-forms, Rest, Gets, items, read, Out}
 use Rattle.pagable_traits.proofs.Words.{Nesting, FormAt, FormsAt, WritesSome, WritesSomeAll, Grows, kind_of_arc, NoForm, NoForms, MeanAll, mean-none, mean-more, then}
+use Rattle.pagable_traits.proofs.{Words.{Result, IfErr, long_or, NoFormOfSome, Refused, RefusedAll, Meanings, MeansList, items_have_meanings, some}, Parts.{ok_along, err_along}}
+use Rattle.pagable_model.specs.{Shape.{array, run}, Form.{array-form, run-form}}
+use Rattle.pagable_model.specs.declared.error.Error.TheVariants as errors
 use Rattle.std.proofs.lemmas.List.{take_more}
 use Rattle.pagable_model.specs.Form.{Form}
 use Rattle.pagable_codec.proofs.Writing.{out_is}
@@ -58,20 +61,12 @@ no-tail n s m ms h b k (more-forms l s' m' ms' c d j i f g) = h d i g
 
 pub sequence-same : (xs ys : List (Meaning ArcRef)) → sequence xs ≡ sequence ys → xs ≡ ys
 sequence-same [] [] e = refl
-sequence-same (x ∷ xs) (y ∷ ys) e =
-    let tails : sequence xs ≡ sequence ys = cc in
-    let heads : x ≡ y = cc in
-    let same = sequence-same xs ys tails in
-    rw (heads, same) refl
+sequence-same (x ∷ xs) (y ∷ ys) e = grind (arith, sequence-same xs ys)
 sequence-same _ _ e = cc
 
 -- forms of items are forms of the items of the same sequence
 pub split-same : (n : Nesting) {s : Shape} {xs ms : List (Meaning ArcRef)} {c : List ℕ} {k : List ArcRef} → sequence xs ≡ sequence ms → length xs ≤ longest → FormsAt n s xs c k → (length ms ≤ longest) × ((c : List ℕ) × FormsAt n s ms c k)
-split-same n {s} {xs} {ms} {c} {k} e le f =
-    let same : xs ≡ ms = sequence-same xs ms e in (
-      let P : List (Meaning ArcRef) → Type 0 = λ x. length x ≤ longest in subst P same le,
-      (c, let Q : List (Meaning ArcRef) → Type 0 = λ x. FormsAt n s x c k in subst Q same f),
-    )
+split-same n {s} {xs} {ms} {c} {k} e le f = let same : xs ≡ ms = sequence-same xs ms e in rw (← same) (le, (c, f))
 
 pub list-parts : (n : Nesting) {s : Shape} {m : Meaning ArcRef} {b : List ℕ} {k : List ArcRef} (ms : List (Meaning ArcRef)) → FormAt n (list s) m b k → m ≡ sequence ms → (length ms ≤ longest) × ((c : List ℕ) × FormsAt n s ms c k)
 list-parts n ms (list-form l s xs c k le f) e = split-same n e le f
@@ -83,8 +78,7 @@ abbrev pub with_front : {A X : Type 0} → List X → Result (List X × Rest A) 
 with_front front read = read >>= λ x. Ok (front ++ x.0, x.1)
 
 regroup : {A X : Type 0} (front : List X) (m : X) (read : Result (List X × Rest A) Error) → with_front front (read >>= λ x. Ok (m ∷ x.0, x.1)) ≡ with_front (front ++ m ∷ []) read
-regroup {A} {X} front m (Ok x) = ap (λ (ms : List X). Ok (ms, x.1)) (simp append_assoc)
-regroup front m (Err e) = refl
+regroup front m read = grind (arith, append_assoc)
 
 pub starts : {A X : Type 0} (get : Gets A X) (count : ℕ) (rest : Rest A) → with_front [] (items get (count - 0) rest) ≡ items get count rest
 starts {A} {X} get count rest = grind arith
@@ -100,15 +94,65 @@ goes_on get front count i rest m after total lt h so_far =
 pub ends : {A X : Type 0} (own : Error → Type 0) (get : Gets A X) (e : Error) (front : List X) (count i : ℕ) (rest : Rest A) (total : Result (List X × Rest A) Error) → i < count → (get rest ≡ Err e) ⊎ own e
     → with_front front (items get (count - i) rest) ≡ total → (total ≡ Err e) ⊎ memory_or own e
 unfolding items
-ends own get e front count i rest total lt (inl h) so_far =
-    let k : count - i ≡ suc (count - (i + 1)) = omega arith in
-    let one : with_front front (items get (count - i) rest) ≡ Err e = rw (k, h) refl in
-    inl (sym so_far ∙ one)
-ends own get e front count i rest total lt (inr h) so_far = inr (inr h)
+ends own get e front count i rest total lt h so_far = let k : count - i ≡ suc (count - (i + 1)) = omega arith in grind arith
 
 pub is_done : {A X : Type 0} (get : Gets A X) (front : List X) (count i : ℕ) (rest : Rest A) (total : Result (List X × Rest A) Error) → count ≤ i → with_front front (items get (count - i) rest) ≡ total → total ≡ Ok (front, rest)
 unfolding items
-is_done {A} {X} get front count i rest total le so_far =
-    let k : count - i ≡ 0 = omega arith in
-    let one : with_front front (items get (count - i) rest) ≡ Ok (front, rest) = rw k (ap (λ (ms : List X). Ok (ms, rest)) (append-nil front)) in
-    sym so_far ∙ one
+is_done get front count i rest total le so_far = let k : count - i ≡ 0 = omega arith in grind (arith, append-nil)
+
+-- ---- a shape whose forms are those of the items
+
+module _ {T : Type 0} (M : T → Meaning ArcRef → Type 0) (xs : List T) (n : Nesting) (whole s : Shape) where
+  writes-row : (old new : Out) → ((ms : List (Meaning ArcRef)) (b : List ℕ) (k : List ArcRef) → length ms ≡ length xs → FormsAt n s ms b k → FormAt n whole (sequence ms) b k)
+      → WritesSomeAll (MeanAll M xs) n s old new → WritesSome (MeansList M xs) n whole old new
+  writes-row old new join v = record {
+    m = sequence v.ms;
+    is = record { ms = v.ms; each = v.is; is = refl };
+    wrote = record { bytes = v.wrote.bytes; refs = v.wrote.refs; form = join _ _ _ (mean-length v.is) v.wrote.form; grown = v.wrote.grown };
+  }
+
+  refused-row : {Z : Type 0} (r : Result Z Error) → ((ms : List (Meaning ArcRef)) (b : List ℕ) (k : List ArcRef) → FormAt n whole (sequence ms) b k → FormsAt n s ms b k)
+      → IfErr r (RefusedAll (MeanAll M xs) n s) → IfErr r (Refused (MeansList M xs) n whole)
+  refused-row r parts h = err_along r h (λ e k fault. let no = k fault in record { m = sequence no.ms; is = record { ms = no.ms; each = no.is; is = refl }; no_form = λ b k f. no.no_forms b k (parts _ b k f) })
+
+-- ---- arrays
+
+array-parts : (n : Nesting) {count : ℕ} {s : Shape} {m : Meaning ArcRef} {b : List ℕ} {k : List ArcRef} (ms : List (Meaning ArcRef)) → FormAt n (array count s) m b k → m ≡ sequence ms
+    → FormsAt n s ms b k
+array-parts n ms (array-form l count s' xs b' k' le f) e = let Q : List (Meaning ArcRef) → Type 0 = λ x. FormsAt n s' x b' k' in subst Q (sequence-same xs ms e) f
+
+pub writes_array : {T : Type 0} (M : T → Meaning ArcRef → Type 0) (xs : List T) (count : ℕ) (n : Nesting) (s : Shape) (old new : Out) → length xs ≡ count → WritesSomeAll (MeanAll M xs) n s old new
+    → WritesSome (MeansList M xs) n (array count s) old new
+writes_array M xs count n s old new e v = writes-row M xs n (array count s) s old new (λ ms b k same f. array-form _ count s ms b k (same ∙ e) f) v
+
+pub refused_array : {Z T : Type 0} (r : Result Z Error) (M : T → Meaning ArcRef → Type 0) (xs : List T) (count : ℕ) (n : Nesting) (s : Shape) → IfErr r (RefusedAll (MeanAll M xs) n s)
+    → IfErr r (Refused (MeansList M xs) n (array count s))
+refused_array r M xs count n s h = refused-row M xs n (array count s) s r (λ ms b k f. array-parts n ms f refl) h
+
+-- ---- runs
+
+pub writes_run : {T : Type 0} (M : T → Meaning ArcRef → Type 0) (xs : List T) (n : Nesting) (s : Shape) (old new : Out) → length xs ≤ longest → WritesSomeAll (MeanAll M xs) n s old new → WritesSome (MeansList M xs) n (run s) old new
+writes_run M xs n s old new le v = writes-row M xs n (run s) s old new (λ ms b k same f. run-form _ s ms b k (rw same le) f) v
+
+run-parts : (n : Nesting) {s : Shape} {m : Meaning ArcRef} {b : List ℕ} {k : List ArcRef} (ms : List (Meaning ArcRef)) → FormAt n (run s) m b k → m ≡ sequence ms → (length ms ≤ longest) × FormsAt n s ms b k
+run-parts n {s} {m} {b} {k} ms (run-form l s' xs b' k' le f) e =
+    let P : List (Meaning ArcRef) → Type 0 = λ x. (length x ≤ longest) × FormsAt n s' x b' k' in
+    subst P (sequence-same xs ms e) (le, f)
+
+pub refused_run : {Z T : Type 0} (r : Result Z Error) (M : T → Meaning ArcRef → Type 0) (xs : List T) (n : Nesting) (s : Shape) → IfErr r (RefusedAll (MeanAll M xs) n s)
+    → IfErr r (Refused (MeansList M xs) n (run s))
+refused_run r M xs n s h = refused-row M xs n (run s) s r (λ ms b k f. (run-parts n ms f refl).1) h
+
+-- a run that is too long has no form
+pub no_long_run : {T : Type 0} (M : Meanings T) (xs : List T) (n : Nesting) (s : Shape) → longest < length xs → NoFormOfSome (MeansList M.of xs) n (run s)
+no_long_run M xs n s lt =
+    let all = items_have_meanings M.of (some M) xs in
+    let long : longest < length all.0 = rw (mean-length all.1) lt in
+    record { m = sequence all.0; is = record { ms = all.0; each = all.1; is = refl }; no_form = λ b k f. omega (arith, (run-parts n all.0 f refl).0) }
+
+pub long_refuses : (part : Error → Type 0) → long_or part errors.TooLong
+long_refuses part = inl refl
+
+pub ruleset arrays = (ok_along, err_along, writes_array, refused_array)
+
+pub ruleset runs = (ok_along, err_along, writes_run, refused_run, no_long_run, long_refuses)

@@ -1,9 +1,10 @@
--- Options, successes and failures, and tuples: what writing a flag and a part adds, and what values that are alike mean.
-use Rattle.pagable_traits.proofs.Words.{◌≡◌, ℕ, List, [], ◌++◌, length, ◌∙◌, Result, Ok, Err, Option, Some, ap, ◌≤◌, OnOk, IfErr, Bool, true, false, Error, ArcRef, bool_form, longest, text_form}
-use Rattle.pagable_traits.proofs.Words.{MeansOption, means-some, MeansPair, MeansResult, means-ok, means-err, Meaning, present, success, failure, Shape, optional, outcome, text-form, some-form}
+-- Options, successes and failures, tuples, and cells: what writing a flag and a part adds, and what values that are alike mean.
+use Rattle.pagable_traits.proofs.Words.{◌≡◌, ℕ, List, [], ◌++◌, length, ◌∙◌, Result, Ok, Err, Option, Some, None, ap, ◌≤◌, OnOk, IfErr, Bool, true, false, Error, ArcRef, bool_form, longest, text_form}
+use Rattle.pagable_traits.proofs.Words.{MeansOption, means-none, means-some, MeansPair, MeansResult, means-ok, means-err, Meaning, present, success, failure, Shape, optional, outcome, text-form, some-form}
 use Rattle.pagable_traits.proofs.{Words.{err-form, ok-form, Is, Out, Nesting, WritesSome, added, grows_trans, memory_refuses, refused_memory, NoForm, Refused, writes_is, writes_bytes}, Parts.ok_along}
 use Rattle.pagable_traits.proofs.{Words.{FormAt, Grows}, Parts.{err_along, some_along, refused_along, writes_absent, writes_whole, refuses_whole, writes_both, first_refused, second_refused}}
-use Rattle.std.specs.Str.{IsUtf8}
+use Rattle.std.specs.{Borrow.Bor, Str.IsUtf8}
+use Rattle.pagable_model.specs.Cells.{MeansOnce}
 use Rattle.pagable_model.specs.Meaning as meanings
 use Rattle.pagable_model.specs.Shape as shapes
 
@@ -77,6 +78,13 @@ module _ {T X : Type 0} (M : T → Meaning ArcRef → Type 0) (N : X → Meaning
 pub pair_along : {A B C D : Type 0} (M : A → Meaning ArcRef → Type 0) (N : B → Meaning ArcRef → Type 0) (M' : C → Meaning ArcRef → Type 0) (N' : D → Meaning ArcRef → Type 0) (p : A × B) (q : C × D)
     → ((m : Meaning ArcRef) → M p.0 m → M' q.0 m) → ((m : Meaning ArcRef) → N p.1 m → N' q.1 m) → (m : Meaning ArcRef) → MeansPair M N p m → MeansPair M' N' q m
 pair_along M N M' N' p q f g m h = record { first = h.first; second = h.second; is_first = f h.first h.is_first; is_second = g h.second h.is_second; is = h.is }
+
+-- ---- cells: what is written of what one was seen to hold is written of the cell, whatever else it may hold
+
+-- what lent values mean, they mean themselves
+pub held_means : {T : Type 0} (M : T → Meaning ArcRef → Type 0) (held : Option (Bor T)) (m : Meaning ArcRef) → MeansOption (λ x. M x.now) held m → MeansOnce M m
+held_means M _ _ means-none = record { held = None; means = means-none }
+held_means M _ _ (means-some x m is) = record { held = Some x.now; means = means-some x.now m is }
 
 pub ruleset steps = (ok_along, err_along, grows_trans, memory_refuses, refused_memory)
 

@@ -7,7 +7,7 @@ use Rattle.pagable_traits.{specs.JsonSteps.part_of, proofs.{JsonWritten.{items-a
 use Rattle.pagable_traits.proofs.{Maps.{sorted-map-put, reads-entries}, Collecting.gives-seen}
 use Rattle.std.{proofs.lemmas.Bool.ne_eqb, specs.Prelude.negsuc}
 use Rattle.serde_json.specs.{Data.number, Find.of_integer}
-use Rattle.pagable_model.specs.Reading.{JsonCase, json_case, below}
+use Rattle.pagable_model.specs.Reading.{json_case, below}
 use Rattle.pagable_codec.specs.{declared.env.Env.Ghosts as Environments, declared.deserializer.PagableDeserializer.Ghosts as Deserializers}
 use Rattle.serde_json.specs.declared.value.Value as values
 use Rattle.pagable_model.specs.declared.error.Error.TheVariants as errors
@@ -77,6 +77,4 @@ module _ {D E R N H K V : Type 0} (env : Environments E N H K V) (d : Deserializ
       → Reads env d ObjectOf (λ x. items (read (record x { levels = x.levels + 1 }) (both text json)) count) b c r → Reads env d (Is of_value) (part_of object_case) a c r
   object-read {a} {b} {c} {count} {r} told moves same_env same_levels lt q = grind (arith, object-gives)
 
-pub ruleset parts = (moves_trans, is-flag, is-text, is-whole, to_z-of_z)
-
-pub ruleset cases = (moves_trans, null-read, no-case)
+pub ruleset cases = (moves_trans, null-read, no-case, is-flag, is-text, is-whole, to_z-of_z)

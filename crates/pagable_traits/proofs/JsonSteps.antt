@@ -22,8 +22,7 @@ module _ {S E N H K V : Type 0} (env : Environments E N H K V) (s : Serializers 
   -- the second after the first
   pub wrote-then : {X Y : Type 0} {P Q W : Piece} {first second causes : Error → Type 0} {a b c : S} {x : X} (r : Result Y Error) → Wrote env s P first a b (Ok x) → Wrote env s Q second b c r
       → ((n : Nesting) (old mid new : Out) → P.wrote n old mid → Q.wrote n mid new → W.wrote n old new) → ((n : Nesting) (e : Error) → Q.lacks n e → second e → W.lacks n e) → ((e : Error) → second e → causes e) → Wrote env s W causes a c r
-  wrote-then (Ok y) p q joins lacks only = record { ok = joins _ _ _ _ p.ok (rw (p.same_levels, p.same_env) at q.ok); refused = tt; only = tt; err = grows_trans _ _ _ p.err q.err; same_env = q.same_env ∙ p.same_env; same_levels = q.same_levels ∙ p.same_levels }
-  wrote-then (Err e) p q joins lacks only = record { ok = tt; refused = lacks _ e (rw (p.same_levels, p.same_env) at q.refused) q.only; only = only e q.only; err = grows_trans _ _ _ p.err q.err; same_env = q.same_env ∙ p.same_env; same_levels = q.same_levels ∙ p.same_levels }
+  wrote-then r p q joins lacks only = grind (arith, grows_trans)
 
   -- where nothing was refused
   pub wrote-nothing : {P : Piece} {causes : Error → Type 0} {a : S} → P.wrote (nested_in env s a) (s.out a) (s.out a) → Wrote env s P causes a a (let r : Result (Unit {0}) Error = Ok tt in r)
@@ -39,9 +38,7 @@ module _ {S E N H K V : Type 0} (env : Environments E N H K V) (s : Serializers 
   -- the second was refused
   pub wrote-then-err : {X Y Z : Type 0} {P Q W : Piece} {first second causes : Error → Type 0} {a b c : S} {x : X} {e : Error} (r : Result Y Error) → IsErrAnd r (λ f. f ≡ e) → Wrote env s P first a b (Ok x) → Wrote env s Q second b c (let p : Result Z Error = Err e in p)
       → ((n : Nesting) (old mid : Out) → P.wrote n old mid → Q.lacks n e → second e → W.lacks n e) → (second e → causes e) → Wrote env s W causes a c r
-  wrote-then-err r is p q lacks only =
-      let h = err_from_is_err_and r is in
-      rw (h.1, h.2) (record { ok = tt; refused = lacks _ _ _ p.ok (rw (p.same_levels, p.same_env) at q.refused) q.only; only = only q.only; err = grows_trans _ _ _ p.err q.err; same_env = q.same_env ∙ p.same_env; same_levels = q.same_levels ∙ p.same_levels })
+  wrote-then-err r is p q lacks only = grind (arith, grows_trans)
 
   -- a refusal that is handed on
   pub wrote-err : {X Y : Type 0} {P W : Piece} {first causes : Error → Type 0} {a b : S} {e : Error} (r : Result Y Error) → IsErrAnd r (λ f. f ≡ e) → Wrote env s P first a b (let p : Result X Error = Err e in p) → ((n : Nesting) → P.lacks n e → first e → W.lacks n e)

@@ -6,7 +6,7 @@ use Rattle.pagable_traits.proofs.Words.{pair_has_meaning, Meaning, integer, pair
 use Rattle.pagable_traits.proofs.Words.{signed-form, flag-form, text-form, Is, SomeMeaning, Out, Nesting, FormAt, WritesSome, added, NoForm, Refused, Grows, then, memory_refuses, grows_trans}
 use Rattle.pagable_traits.proofs.{Words.{grows_refl, refused_memory, to_z-of_z, bool_form, false, of_data, of_value, of_key, Piece, Wrote, bytes, all}, Maps.{IsOrderOf, key_order, wraps_sorted_map}}
 use Rattle.pagable_traits.proofs.{Maps.Written, Parts.{ok_along, err_along, writes_whole, refuses_whole}, Walks.{Wraps, wraps_list, writes-counted, refuses-long, refuses-items}, JsonSteps.deeper}
-use Rattle.pagable_traits.{proofs.JsonSteps.{below, wrote-err}, specs.{JsonData.{json_items, json_members, long_or_no_memory}, JsonSteps.{front, value as form}}}
+use Rattle.pagable_traits.{proofs.JsonSteps.{below, wrote-err}, specs.{JsonData.{long_or_no_memory}, JsonSteps.{front, value as form}}}
 use Rattle.std.{proofs.{lemmas.Bool.lt-ltb, Common.BTreeMap}, specs.{Prelude.nat_lt, String.string_cmp_total}}
 use Rattle.serde_json.{proofs.Views.{view-Array, view-Object}, specs.{Data.{Num, Data, null, boolean, number, string, array, object}, View.{items_view, members_view}, declared.value.Value.the_lemmas}}
 use Rattle.serde_json.specs.declared.number.Number.{Number}
@@ -80,13 +80,13 @@ module _ (n : Nesting) where
 
 -- a number that 64 bits with a sign hold is whole
 pub whole_number : (x : Num) (z : ℤ) → as_i64 x ≡ Some z → of_data (number x) ≡ variant 2 (integer z)
-whole_number (kit.unsigned n) z e = grind arith
-whole_number (kit.negative y) z e = let same : y ≡ z = cc in ap (λ (u : ℤ). variant 2 (integer u)) same
-whole_number (kit.float x) z e = absurd cc
+whole_number x z e = grind arith
 
 number-within : (n : Nesting) (z : ℤ) {m : Meaning ArcRef} {b : List ℕ} {k : List ArcRef} → FormAt n json m b k → m ≡ variant 2 (integer z) → IsSigned w64 z
-number-within n z (json-number-form l y within) e = let same : y ≡ z = cc in let P : ℤ → Type 0 = λ u. IsSigned w64 u in subst P same within
-number-within n z f e = absurd cc
+number-within n z f e = grind arith
+
+no-float : (n : Nesting) (x : _) → (as_i64 (kit.float x) ≡ (let o : Option ℤ = None in o)) → NoForm n json (of_data (number (kit.float x)))
+no-float n x e b k f = grind arith
 
 -- a number that they don't hold has no form
 no-number : (n : Nesting) (x : Num) → (as_i64 x ≡ (let o : Option ℤ = None in o)) → NoForm n json (of_data (number x))
@@ -96,11 +96,7 @@ no-number n (kit.unsigned y) e b k f =
     let some : as_i64 (kit.unsigned y) ≡ Some (pos y) = rw same refl in
     absurd cc
 no-number n (kit.negative z) e b k f = absurd cc
-no-number n (kit.float x) e b k f = go f refl
-  where
-    go : {m : Meaning ArcRef} {b : List ℕ} {k : List ArcRef} → FormAt n json m b k → m ≡ of_data (number (kit.float x)) → ⊥
-    go (json-number-form l y within) e = absurd cc
-    go f e = absurd cc
+no-number n (kit.float x) e b k f = no-float n x e b k f
 
 pub refuses-number : (n : Nesting) (x : Num) (e : Error) → (as_i64 x ≡ (let o : Option ℤ = None in o)) → Refused (Is of_data (number x)) n json e
 refuses-number n x e h = λ fault. record { m = of_data (number x); is = refl; no_form = no-number n x h }
@@ -111,35 +107,26 @@ pub json-memory : (e : Error) → memory e → json_causes e
 json-memory e h = inr (inr (inr h))
 
 pub json-text : (e : Error) → long_or memory e → json_causes e
-json-text e (inl h) = inl h
-json-text e (inr h) = json-memory e h
+json-text e h = grind arith
 
 pub json-long : (len : ℕ) (e : Error) → long_or_no_memory len e → json_causes e
-json-long len e (inl h) = inl h.1
-json-long len e (inr h) = json-memory e h
+json-long len e h = grind arith
 
 pub json-deep : (e : Error) → e ≡ errors.TooDeep → json_causes e
 json-deep e h = inr (inl h)
 
 -- a count is refused as its length is, or by want of memory
 pub counts : (len : ℕ) (e : Error) → long_or_memory len e → long_or_no_memory len e
-counts len e (inl h) = inl h
-counts len e (inr h) = inr h.1
+counts len e h = grind arith
 
 -- what the items and the members of a value mean
 pub items-mean : (vs : List Value) → of_data (array (items_view vs)) ≡ variant 4 (sequence (map of_value vs))
-items-mean vs = ap (λ (m : Meaning ArcRef). variant 4 m) (all vs)
-  where
-    all : (vs : List Value) → (let m : Meaning ArcRef = Rattle.pagable_model.specs.Json.of_items (json_items (items_view vs)) in m) ≡ sequence (map of_value vs)
-    all [] = refl
-    all (v ∷ vs) = ap (λ (m : Meaning ArcRef). pair (of_value v) m) (all vs)
+items-mean [] = grind arith
+items-mean (v ∷ vs) = grind (arith, items-mean vs)
 
 pub members-mean : (es : List (String Global × Value)) → of_data (object (members_view es)) ≡ variant 5 (sequence (map (λ e. pair (of_key e.0) (of_value e.1)) es))
-members-mean es = ap (λ (m : Meaning ArcRef). variant 5 m) (all es)
-  where
-    all : (es : List (String Global × Value)) → (let m : Meaning ArcRef = Rattle.pagable_model.specs.Json.of_members (json_members (members_view es)) in m) ≡ sequence (map (λ e. pair (of_key e.0) (of_value e.1)) es)
-    all [] = refl
-    all (e ∷ es) = ap (λ (m : Meaning ArcRef). pair (pair (of_key e.0) (of_value e.1)) m) (all es)
+members-mean [] = grind arith
+members-mean (e ∷ es) = grind (arith, members-mean es)
 
 pub items-are : (vs : List Value) (m : Meaning ArcRef) → MeansList (Is of_value) vs m → variant 4 m ≡ of_data (array (items_view vs))
 items-are vs m h = ap (λ (x : Meaning ArcRef). variant 4 x) (list_single (Is of_value) of_value (λ v n is. is) vs m h) ∙ sym (items-mean vs)
@@ -212,8 +199,7 @@ module _ {X : Type 0} (M : X → Meaning ArcRef → Type 0) (has : (x : X) → S
 
       longer : (n : Nesting) (e : Error) → ((n : Nesting) (m : Meaning ArcRef) → NoForm (deeper n) whole m → NoForm n json (variant case m)) → Wraps M ys (MeansList M ys) (deeper n) whole item
           → long_or_no_memory count e → Refused (Is of_data d) n json e
-      longer n e lack wraps (inl h) = refuses n e lack (refuses-long wraps has count counted e h.0)
-      longer n e lack wraps (inr h) = memory_refuses e _ n json h
+      longer n e lack wraps h = grind (arith, refuses n e lack, refuses-long wraps has count counted, memory_refuses)
 
 pub arrays : (vs : List Value) (count : ℕ) → count ≡ length vs → HoldsBelow 4 count (all (MeanAll (Is of_value) vs) json) (array (items_view vs))
 arrays vs count counted =
@@ -262,8 +248,7 @@ module _ {S E N H K V : Type 0} (env : Environments E N H K V) (s : Serializers 
 
   pub count-wrote : {X Y : Type 0} {x y z : S} {u : X} (case count : ℕ) (r : Result Y Error) → Wrote env s (bytes (unsigned_form w64 case)) memory x y (Ok u) → OnOk r (s.out z ≡ added (s.out y) (length_form count) []) → OnOk r (count ≤ longest) → IfErr r (long_or_memory count) → Grows (s.out y) (s.out z)
       → s.environment z ≡ s.environment y → s.levels z ≡ s.levels y → Wrote env s (front case count) (long_or_no_memory count) x z r
-  count-wrote case count (Ok v) p ok within only err same_env same_levels = record { ok = (within, rw p.ok at ok); refused = tt; only = tt; err = grows_trans _ _ _ p.err err; same_env = same_env ∙ p.same_env; same_levels = same_levels ∙ p.same_levels }
-  count-wrote case count (Err e) p ok within only err same_env same_levels = record { ok = tt; refused = tt; only = counts count e only; err = grows_trans _ _ _ p.err err; same_env = same_env ∙ p.same_env; same_levels = same_levels ∙ p.same_levels }
+  count-wrote case count r p ok within only err same_env same_levels = grind (arith, grows_trans, counts)
 
 pub ruleset cases = (null-value, as-value, seen-flag, seen-number, seen-text, seen-array, seen-object)
 

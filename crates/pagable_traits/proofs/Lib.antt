@@ -2,17 +2,12 @@ mod Words
 pub mod Basics
 pub mod Parts
 pub mod Items
-pub mod Slices
 pub mod Collecting
 pub mod Walks
 pub mod Maps
-pub mod Placed
 pub mod Sets
 pub mod Held
-pub mod Times
-pub mod InTurn
 pub mod Joined
-pub mod Cells
 pub mod Reordered
 pub mod Anywhere
 pub mod Hashed

@@ -1,12 +1,16 @@
--- Entries of maps: what they mean as pairs, and what putting in, writing and reading them gives.
+-- Entries of maps, sorted or in order of arrival: what they mean as pairs, and what putting in, writing and reading them gives.
 use Rattle.pagable_traits.proofs.Words.{◌≡◌, ℕ, zero, suc, ◌-◌, ◌<◌, ◌≤◌, List, [], ◌∷◌, ◌++◌, length, map, arith, refl, sym, ap, ◌∙◌, append_assoc, Result, Ok, Err, length-map, append-nil}
 use Rattle.pagable_traits.proofs.Words.{AllByRecursion, IsStrictlySortedBy, keys_of, Ordering, ordering_reverse, IsTotalOrder, insert_entry, Error, ArcRef, ◌>>=◌, longest, Meaning, pair, sequence}
 use Rattle.pagable_traits.proofs.Words.{entry, Entry, KeyOrder, ordered, put_all, put_sorted, AllAfter, Apart, Shape, both, sorted_map, of_entries, Forms, Entries, no-forms, more-forms, more-entries}
 use Rattle.pagable_traits.proofs.Words.{both-form, sorted-map-form, Rest, Gets, Context, deepest, items, counted, seen, read, read_with, Out, Nesting, FormAt, FormsAt, WritesSome, WritesSomeAll}
 use Rattle.pagable_traits.proofs.{Words.{kind_of_arc, Refused, RefusedAll, GivesSome, SomeMeaning, Collected, MeanAll, mean-none, mean-more, MeansList, MeansPair}, Items.{split-same, writes_no_items}}
-use Rattle.pagable_traits.proofs.{Items.writes-next, Collecting.put-in-turn, Walks.{Splits, Wraps, wraps-sequence, refuses-among}}
-use Rattle.pagable_model.specs.{Keys.Ascends, Form.no-entries, Reading.two}
+use Rattle.pagable_traits.proofs.{Items.writes-next, Collecting.put-in-turn, Walks.{Wraps, wraps-sequence, refuses-among}}
+use Rattle.pagable_model.specs.{Basic.length_at, Keys.Ascends, Form.no-entries, Reading.{bytes_of, two}}
+use Rattle.pagable_traits.proofs.Words.{Bool, false, IsDistinct, same_key, Differ}
+use Rattle.std.specs.Cmp.{IsEquivalence}
+use Rattle.pagable_model.specs.{Keys.put_placed, Shape.placed_map, Form.placed-map-form}
 use Rattle.std.specs.declared.cmp.Ordering.TheVariants as answers
+use Rattle.indexmap.specs.IndexMap as placed_maps
 
 -- ---- entries and the pairs that they are
 
@@ -36,13 +40,7 @@ pairs-of-entries M N _ _ h = absurd h
 
 pub same-entries : (ds es : List (Entry ArcRef)) → map entry ds ≡ map entry es → ds ≡ es
 same-entries [] [] e = refl
-same-entries (x ∷ xs) (y ∷ ys) e =
-    let tails : map entry xs ≡ map entry ys = cc in
-    let heads : entry x ≡ entry y = cc in
-    let firsts : x.0 ≡ y.0 = cc in
-    let seconds : x.1 ≡ y.1 = cc in
-    let rest = same-entries xs ys tails in
-    rw (firsts, seconds, rest) refl
+same-entries (x ∷ xs) (y ∷ ys) e = grind (arith, same-entries xs ys)
 same-entries _ _ e = cc
 
 -- ---- forms of pairs are forms of entries, and back
@@ -81,57 +79,30 @@ entries-written M N each f =
 abbrev pub viewed : {A X Y : Type 0} → (X → Y) → Result (X × Rest A) Error → Result (Y × Rest A) Error
 viewed view read = read >>= λ o. Ok (view o.0, o.1)
 
-abbrev first-of : {A X : Type 0} → X → Result (List X × Rest A) Error → Result (List X × Rest A) Error
-first-of x read = read >>= λ others. Ok (x ∷ others.0, others.1)
-
-view-last : {A X Y : Type 0} (view : X → Y) (x : X) (r : Result (List X × Rest A) Error) → first-of (view x) (viewed (map view) r) ≡ viewed (map view) (first-of x r)
-view-last view x (Ok o) = refl
-view-last view x (Err e) = refl
-
-view-step : {A X Y : Type 0} (view : X → Y) (whole : Gets A (List Y)) (part : Gets A (List X)) → ((rest : Rest A) → whole rest ≡ viewed (map view) (part rest)) → (r : Result (X × Rest A) Error)
-    → (viewed view r >>= λ first. first-of first.0 (whole first.1)) ≡ viewed (map view) (r >>= λ first. first-of first.0 (part first.1))
-view-step view whole part same (Ok f) = rw (same f.1) (view-last view f.0 (part f.1))
-view-step view whole part same (Err e) = refl
-
 items-seen : {A X Y : Type 0} (view : X → Y) (whole : Gets A Y) (part : Gets A X) → ((rest : Rest A) → whole rest ≡ viewed view (part rest)) → (n : ℕ) (rest : Rest A) → items whole n rest ≡ viewed (map view) (items part n rest)
 unfolding items
 items-seen view whole part same zero rest = refl
-items-seen view whole part same (suc n) rest = rw (same rest) (view-step view (items whole n) (items part n) (items-seen view whole part same n) (part rest))
+items-seen view whole part same (suc n) rest = rw (same rest) (grind (arith, items-seen view whole part same n))
 
 pair-read : {A : Type 0} (context : Context A ArcRef) (s t : Shape) (rest : Rest A) → read context (both s t) rest ≡ viewed entry (two (read context s) (read context t) rest)
 unfolding read read_with
 pair-read context s t rest = refl
 
-pairs-read : {A : Type 0} (context : Context A ArcRef) (s t : Shape) (count : ℕ) (rest : Rest A) → items (read context (both s t)) count rest ≡ viewed (map entry) (items (two (read context s) (read context t)) count rest)
-pairs-read context s t count rest = items-seen entry (read context (both s t)) (two (read context s) (read context t)) (pair-read context s t) count rest
+pairs-read : {A : Type 0} (context : Context A ArcRef) (s t : Shape) (rest : Rest A) → counted (read context (both s t)) rest ≡ viewed (map entry) (counted (two (read context s) (read context t)) rest)
+pairs-read {A} context s t rest = after (bytes_of length_at (λ n. n) rest)
+  where
+    after : (r : Result (ℕ × Rest A) Error) → (r >>= λ n. items (read context (both s t)) n.0 n.1) ≡ viewed (map entry) (r >>= λ n. items (two (read context s) (read context t)) n.0 n.1)
+    after (Ok n) = items-seen entry (read context (both s t)) (two (read context s) (read context t)) (pair-read context s t) n.0 n.1
+    after (Err e) = refl
 
-abbrev given : {X : Type 0} → X → Result X Error → X
-given other (Ok x) = x
-given other (Err e) = other
-
-were-entries : {A : Type 0} (r : Result (List (Entry ArcRef) × Rest A) Error) (ms : List (Meaning ArcRef)) (after : Rest A) → viewed (map entry) r ≡ Ok (ms, after) → (es : List (Entry ArcRef)) × (ms ≡ map entry es) × (r ≡ Ok (es, after))
-were-entries {A} (Ok o) ms after e = grind arith
-were-entries (Err x) ms after e = cc
-
-was-refused : {A : Type 0} (r : Result (List (Entry ArcRef) × Rest A) Error) (e : Error) → viewed (map entry) r ≡ Err e → r ≡ Err e
-was-refused (Ok o) x e = cc
-was-refused (Err y) x e = cc
-
--- entries that were read as pairs
-read-entries : {A : Type 0} (context : Context A ArcRef) (s t : Shape) (count : ℕ) (rest after : Rest A) (ms : List (Meaning ArcRef)) → items (read context (both s t)) count rest ≡ Ok (ms, after)
-    → (es : List (Entry ArcRef)) × (ms ≡ map entry es) × (items (two (read context s) (read context t)) count rest ≡ Ok (es, after))
-read-entries context s t count rest after ms e = were-entries (items (two (read context s) (read context t)) count rest) ms after (sym (pairs-read context s t count rest) ∙ e)
-
-entries-refused : {A : Type 0} (context : Context A ArcRef) (s t : Shape) (count : ℕ) (rest : Rest A) (x : Error) → items (read context (both s t)) count rest ≡ Err x → items (two (read context s) (read context t)) count rest ≡ Err x
-entries-refused context s t count rest x e = was-refused (items (two (read context s) (read context t)) count rest) x (sym (pairs-read context s t count rest) ∙ e)
-
-not-both : {X : Type 0} (e : Error) (x : X) → (let r : Result X Error = Err e in r) ≡ Ok x → ⊥
-not-both e x h = cc
+gives-viewed : {X Y Z W A : Type 0} (own : Error → Type 0) (P : X → Z → Type 0) (Q : X → W → Type 0) (view : Y → Z) (whole : Y → W) → ((x : X) (y : Y) → P x (view y) → Q x (whole y)) → (last : Rest A) (r : Result X Error) (part : Result (Y × Rest A) Error)
+    → GivesSome own P last r (viewed view part) → GivesSome own Q last r (viewed whole part)
+gives-viewed own P Q view whole f last r part g = grind arith
 
 -- a whole whose entries were counted
 pub reads-entries : {X A : Type 0} (own : Error → Type 0) (P : X → List (Meaning ArcRef) → Type 0) (Q : X → Meaning ArcRef → Type 0) (view : List (Entry ArcRef) → Meaning ArcRef) → ((x : X) (es : List (Entry ArcRef)) → P x (map entry es) → Q x (view es)) → (r : Result X Error) (context : Context A ArcRef) (s t : Shape) (rest last : Rest A)
     → GivesSome own P last r (counted (read context (both s t)) rest) → GivesSome own Q last r (seen view (counted (two (read context s) (read context t))) rest)
-reads-entries {X} {A} own P Q view f r context s t rest last h = grind (arith, read-entries, not-both, entries-refused)
+reads-entries own P Q view f r context s t rest last h = gives-viewed own P Q (map entry) view f last r (counted (two (read context s) (read context t)) rest) (rw (pairs-read context s t rest) at h)
 
 -- ---- writing entries one after another
 
@@ -190,9 +161,6 @@ module _ {K V : Type 0} (M : K → Meaning ArcRef → Type 0) (N : V → Meaning
 sorted-map-parts : (n : Nesting) {order : KeyOrder} {s t : Shape} {m : Meaning ArcRef} {b : List ℕ} {k : List ArcRef} (ms : List (Meaning ArcRef)) → FormAt n (sorted_map order s t) m b k → m ≡ sequence ms → (length ms ≤ longest) × ((c : List ℕ) × FormsAt n (both s t) ms c k)
 sorted-map-parts n ms (sorted-map-form l o s t es c k le asc f) e = let short : length (map entry es) ≤ longest = rw (length-map es entry) le in split-same n e short (forms-of-entries f)
 
-pub sorted-map-splits : (n : Nesting) (order : KeyOrder) (s t : Shape) → Splits n (sorted_map order s t) (both s t)
-sorted-map-splits n order s t = record { parts = λ ms b k f. sorted-map-parts n ms f refl }
-
 -- the order of a key's values is that of their meanings
 pub record IsOrderOf {K : Type 0} (M : K → Meaning ArcRef → Type 0) (cmp : K → K → Ordering) (order : KeyOrder) : Type 0 where
   pub agrees : (x y : K) (m n : Meaning ArcRef) → M x m → M y n → cmp x y ≡ ordered order m n
@@ -224,7 +192,7 @@ ascends M N cmp order is _ _ h sorted = absurd h
 
 pub wraps_sorted_map : {K V : Type 0} (M : K → Meaning ArcRef → Type 0) (N : V → Meaning ArcRef → Type 0) (cmp : K → K → Ordering) (order : KeyOrder) → IsOrderOf M cmp order → (xs : List (K × V)) (n : Nesting) (s t : Shape) → IsStrictlySortedBy cmp (keys_of xs)
     → Wraps (MeansPair M N) xs (MeansList (MeansPair M N) xs) n (sorted_map order s t) (both s t)
-wraps_sorted_map M N cmp order is xs n s t sorted = wraps-sequence (MeansPair M N) xs n (sorted_map order s t) (both s t) (sorted-map-splits n order s t) (λ ms b k each le f.
+wraps_sorted_map M N cmp order is xs n s t sorted = wraps-sequence (MeansPair M N) xs n (sorted_map order s t) (both s t) (λ ms b k f. sorted-map-parts n ms f refl) (λ ms b k each le f.
     let w = entries-written M N each f in
     rw (w.is, length-map w.es entry) (sorted-map-form _ order s t w.es b k (rw (← w.long) le) (ascends M N cmp order is xs w.es w.mean sorted) w.form))
 
@@ -238,3 +206,48 @@ pub reads_sorted_map : {X K V A : Type 0} (own : Error → Type 0) (M : K → Me
 unfolding read read_with
 reads_sorted_map own M N cmp order is r held context s t rest last h =
     reads-entries own (λ x. Collected (MeansPair M N) (λ ys y zs. zs ≡ insert_entry cmp ys y.0 y.1) (held x)) (λ x. MeansList (MeansPair M N) (held x)) (λ es. of_entries (put_all (put_sorted order) [] es)) (λ x es p. sorted-map-put M N cmp order is (held x) es p) r context s t rest last h
+
+-- ---- maps in order of arrival
+
+placed-map-parts : (n : Nesting) {s t : Shape} {m : Meaning ArcRef} {b : List ℕ} {k : List ArcRef} (ms : List (Meaning ArcRef)) → FormAt n (placed_map s t) m b k → m ≡ sequence ms → (length ms ≤ longest) × ((c : List ℕ) × FormsAt n (both s t) ms c k)
+placed-map-parts n ms (placed-map-form l s t es c k le differ f) e = let short : length (map entry es) ≤ longest = rw (length-map es entry) le in split-same n e short (forms-of-entries f)
+
+-- the sameness of a key's values is that of their meanings
+pub record IsSameOf {K : Type 0} (M : K → Meaning ArcRef → Type 0) (eq : K → K → Bool) : Type 0 where
+  pub agrees : (x y : K) (m n : Meaning ArcRef) → M x m → M y n → eq x y ≡ same_key m n
+  pub symm : (x y : K) → eq x y ≡ eq y x
+
+pub key_same : {K : Type 0} (M : K → Meaning ArcRef → Type 0) (meaning : K → Meaning ArcRef) → ((x : K) (m : Meaning ArcRef) → M x m → m ≡ meaning x) → (eq : K → K → Bool)
+    → ((x y : K) → eq x y ≡ same_key (meaning x) (meaning y)) → IsEquivalence eq → IsSameOf M eq
+key_same M meaning single eq is laws = record { agrees = λ x y m n first second. rw (single x m first, single y n second) (is x y); symm = laws.symm }
+
+put-in-place : {K V : Type 0} (M : K → Meaning ArcRef → Type 0) (N : V → Meaning ArcRef → Type 0) (eq : K → K → Bool) → IsSameOf M eq → (xs : List (K × V)) (es : List (Entry ArcRef)) (x : K × V) (e : Entry ArcRef) → EntriesMean M N xs es → M x.0 e.0 → N x.1 e.1
+    → EntriesMean M N (placed_maps.insert_entry eq xs x.0 x.1) (put_placed es e)
+unfolding EntriesMean
+put-in-place M N eq is [] [] x e h first second = (first, second, tt)
+put-in-place M N eq is (y ∷ xs) (f ∷ es) x e h first second = grind (arith, put-in-place M N eq is xs es x e h.2 first second)
+put-in-place M N eq is _ _ x e h first second = absurd h
+
+apart-from-all : {K V : Type 0} (M : K → Meaning ArcRef → Type 0) (N : V → Meaning ArcRef → Type 0) (eq : K → K → Bool) → IsSameOf M eq → (x : K × V) (e : Entry ArcRef) → M x.0 e.0 → (xs : List (K × V)) (es : List (Entry ArcRef)) → EntriesMean M N xs es
+    → AllByRecursion (λ y. eq x.0 y ≡ false) (keys_of xs) → AllAfter (λ (d f : Entry ArcRef). same_key d.0 f.0 ≡ false) e es
+unfolding EntriesMean AllAfter
+apart-from-all M N eq is x e first [] [] h other = tt
+apart-from-all M N eq is x e first (y ∷ xs) (f ∷ es) h other = (sym (is.agrees y.0 x.0 f.0 e.0 h.0 first) ∙ is.symm y.0 x.0 ∙ other.0, apart-from-all M N eq is x e first xs es h.2 other.1)
+apart-from-all M N eq is x e first _ _ h other = absurd h
+
+pub differ : {K V : Type 0} (M : K → Meaning ArcRef → Type 0) (N : V → Meaning ArcRef → Type 0) (eq : K → K → Bool) → IsSameOf M eq → (xs : List (K × V)) (es : List (Entry ArcRef)) → EntriesMean M N xs es → IsDistinct eq (keys_of xs) → Differ es
+unfolding EntriesMean IsDistinct Apart
+differ M N eq is [] [] h distinct = tt
+differ M N eq is (x ∷ xs) (e ∷ es) h distinct = (apart-from-all M N eq is x e h.0 xs es h.2 distinct.0, differ M N eq is xs es h.2 distinct.1)
+differ M N eq is _ _ h distinct = absurd h
+
+pub wraps_placed_map : {K V : Type 0} (M : K → Meaning ArcRef → Type 0) (N : V → Meaning ArcRef → Type 0) (eq : K → K → Bool) → IsSameOf M eq → (xs : List (K × V)) (n : Nesting) (s t : Shape) → IsDistinct eq (keys_of xs) → Wraps (MeansPair M N) xs (MeansList (MeansPair M N) xs) n (placed_map s t) (both s t)
+wraps_placed_map M N eq is xs n s t distinct = wraps-sequence (MeansPair M N) xs n (placed_map s t) (both s t) (λ ms b k f. placed-map-parts n ms f refl) (λ ms b k each le f.
+    let w = entries-written M N each f in
+    rw (w.is, length-map w.es entry) (placed-map-form _ s t w.es b k (rw (← w.long) le) (differ M N eq is xs w.es w.mean distinct) w.form))
+
+pub reads_placed_map : {X K V A : Type 0} (own : Error → Type 0) (M : K → Meaning ArcRef → Type 0) (N : V → Meaning ArcRef → Type 0) (eq : K → K → Bool) → IsSameOf M eq → (r : Result X Error) (held : X → List (K × V)) (context : Context A ArcRef) (s t : Shape) (rest last : Rest A)
+    → GivesSome own (λ x. Collected (MeansPair M N) (λ ys y zs. zs ≡ placed_maps.insert_entry eq ys y.0 y.1) (held x)) last r (counted (read context (both s t)) rest) → GivesSome own (λ x. MeansList (MeansPair M N) (held x)) last r (read context (placed_map s t) rest)
+unfolding read read_with
+reads_placed_map own M N eq is r held context s t rest last h =
+    reads-entries own (λ x. Collected (MeansPair M N) (λ ys y zs. zs ≡ placed_maps.insert_entry eq ys y.0 y.1) (held x)) (λ x. MeansList (MeansPair M N) (held x)) (λ es. of_entries (put_all put_placed [] es)) (λ x es p. map-put M N (λ ys y. placed_maps.insert_entry eq ys y.0 y.1) put_placed (put-in-place M N eq is) (held x) es p) r context s t rest last h

@@ -1,7 +1,7 @@
 -- Values that hold others: what writing their parts one after another adds.
-use Rattle.pagable_traits.proofs.Words.{◌≡◌, false, List, [], ◌∷◌, ◌++◌, refl, Result, Ok, Err, None, inl, inr, OnOk, IfErr, Error, ArcRef, ℕ, bool_form, memory_or, long_or, long_or_memory, Meaning}
+use Rattle.pagable_traits.proofs.Words.{◌≡◌, false, List, [], ◌∷◌, ◌++◌, refl, Result, Ok, Err, None, inr, OnOk, IfErr, Error, ArcRef, ℕ, bool_form, memory_or, long_or, long_or_memory, Meaning}
 use Rattle.pagable_traits.proofs.Words.{pair, absent, Shape, optional, both, both-form, Out, Nesting, FormAt, WritesSome, added, NoForm, Refused, SomeMeaning, Meanings, some, MeansOption}
-use Rattle.pagable_traits.proofs.Words.{means-none, MeansPair, then}
+use Rattle.pagable_traits.proofs.Words.{arith, means-none, MeansPair, then}
 use Rattle.pagable_model.specs.Form.{none-form}
 
 -- ---- results
@@ -34,8 +34,7 @@ pub only_parts : {X : Type 0} (r : Result X Error) (part : Error → Type 0) →
 only_parts r part h = err_along r h (only-part part)
 
 pub only-count : (len : ℕ) (part : Error → Type 0) (e : Error) → long_or_memory len e → long_or (memory_or part) e
-only-count len part e (inl h) = inl h.1
-only-count len part e (inr h) = inr (inl h.1)
+only-count len part e h = grind arith
 
 -- ---- a value that may be absent
 

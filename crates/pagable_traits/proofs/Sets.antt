@@ -1,9 +1,9 @@
 -- Sets: what putting in, writing and reading their items gives.
-use Rattle.pagable_traits.proofs.Words.{◌≡◌, ℕ, ◌≤◌, Bool, true, false, subst, List, [], ◌∷◌, ◌++◌, length, refl, sym, ap, ◌∙◌, Result, AllByRecursion, IsDistinct, IsStrictlySortedBy, Ordering}
-use Rattle.pagable_traits.proofs.Words.{match_ordering, ordering_reverse, Error, ArcRef, longest, Meaning, sequence, KeyOrder, ordered, same_key, put_all, AllAfter, Apart, Shape, Rest, Context}
+use Rattle.pagable_traits.proofs.Words.{arith, ◌≡◌, ℕ, ◌≤◌, Bool, false, List, [], length, refl, sym, ap, ◌∙◌, Result, AllByRecursion, IsDistinct, IsStrictlySortedBy, Ordering}
+use Rattle.pagable_traits.proofs.Words.{ordering_reverse, Error, ArcRef, longest, Meaning, sequence, KeyOrder, ordered, same_key, put_all, AllAfter, Apart, Shape, Rest, Context}
 use Rattle.pagable_traits.proofs.{Words.{counted, read, read_with, Nesting, FormAt, FormsAt, GivesSome, Collected, MeanAll, mean-none, mean-more, MeansList}, Items.split-same, Collecting.put-in-turn}
-use Rattle.pagable_traits.proofs.{Collecting.reads_items, Walks.{Splits, Wraps, wraps-sequence}, Maps.IsOrderOf, Placed.IsSameOf}
-use Rattle.std.specs.{Prelude.{if◌then◌else◌, ◌||◌}, List.list_any, BTreeSet.insert_key}
+use Rattle.pagable_traits.proofs.{Collecting.reads_items, Walks.{Wraps, wraps-sequence}, Maps.{IsOrderOf, IsSameOf}}
+use Rattle.std.specs.{BTreeSet.insert_key}
 use Rattle.pagable_model.specs.{Keys.{put_sorted_item, put_placed_item, ItemsAscend, ItemsDiffer}, Shape.{sorted_set, placed_set}, Form.{sorted-set-form, placed-set-form}}
 use Rattle.std.specs.declared.cmp.Ordering.TheVariants as answers
 use Rattle.indexmap.specs.IndexSet as placed
@@ -13,14 +13,8 @@ use Rattle.indexmap.specs.IndexSet as placed
 sorted-set-parts : (n : Nesting) {order : KeyOrder} {s : Shape} {m : Meaning ArcRef} {b : List ℕ} {k : List ArcRef} (ms : List (Meaning ArcRef)) → FormAt n (sorted_set order s) m b k → m ≡ sequence ms → (length ms ≤ longest) × ((c : List ℕ) × FormsAt n s ms c k)
 sorted-set-parts n ms (sorted-set-form l o s xs c k le asc f) e = split-same n e le f
 
-pub sorted-set-splits : (n : Nesting) (order : KeyOrder) (s : Shape) → Splits n (sorted_set order s) s
-sorted-set-splits n order s = record { parts = λ ms b k f. sorted-set-parts n ms f refl }
-
 placed-set-parts : (n : Nesting) {s : Shape} {m : Meaning ArcRef} {b : List ℕ} {k : List ArcRef} (ms : List (Meaning ArcRef)) → FormAt n (placed_set s) m b k → m ≡ sequence ms → (length ms ≤ longest) × ((c : List ℕ) × FormsAt n s ms c k)
 placed-set-parts n ms (placed-set-form l s xs c k le differ f) e = split-same n e le f
-
-pub placed-set-splits : (n : Nesting) (s : Shape) → Splits n (placed_set s) s
-placed-set-splits n s = record { parts = λ ms b k f. placed-set-parts n ms f refl }
 
 -- ---- putting in
 
@@ -41,13 +35,7 @@ module _ {K : Type 0} (M : K → Meaning ArcRef → Type 0) (put : List K → K 
 
 put-item : {K : Type 0} (M : K → Meaning ArcRef → Type 0) (cmp : K → K → Ordering) (order : KeyOrder) → IsOrderOf M cmp order → (x : K) (m : Meaning ArcRef) → M x m → {xs : List K} {ms : List (Meaning ArcRef)} → MeanAll M xs ms → MeanAll M (insert_key cmp xs x) (insert_key (ordered order) ms m)
 put-item M cmp order is x m h mean-none = mean-more x m [] [] h mean-none
-put-item M cmp order is x m h (mean-more y f xs ms g t) = rw (is.agrees x y m f h g) (by_case (put-item M cmp order is x m h t) (ordered order m f))
-  where
-    by_case : MeanAll M (insert_key cmp xs x) (insert_key (ordered order) ms m) → (o : Ordering)
-        → MeanAll M (match_ordering o (x ∷ y ∷ xs) (y ∷ xs) (y ∷ insert_key cmp xs x)) (match_ordering o (m ∷ f ∷ ms) (f ∷ ms) (f ∷ insert_key (ordered order) ms m))
-    by_case tail answers.Less = mean-more x m (y ∷ xs) (f ∷ ms) h (mean-more y f xs ms g t)
-    by_case tail answers.Equal = mean-more y f xs ms g t
-    by_case tail answers.Greater = mean-more y f (insert_key cmp xs x) (insert_key (ordered order) ms m) g tail
+put-item M cmp order is x m h (mean-more y f xs ms g t) = grind (arith, mean-more, put-item M cmp order is x m h t)
 
 below-items : {K : Type 0} (M : K → Meaning ArcRef → Type 0) (cmp : K → K → Ordering) (order : KeyOrder) → IsOrderOf M cmp order → (x : K) (m : Meaning ArcRef) → M x m → {ys : List K} {ns : List (Meaning ArcRef)} → MeanAll M ys ns → AllByRecursion (λ y. cmp x y ≡ answers.Less) ys
     → AllAfter (λ (a b : Meaning ArcRef). ordered order a b ≡ answers.Greater) m ns
@@ -61,7 +49,7 @@ items-ascend M cmp order is mean-none sorted = tt
 items-ascend M cmp order is (mean-more x m xs ms h t) sorted = (below-items M cmp order is x m h t sorted.0, items-ascend M cmp order is t sorted.1)
 
 pub wraps_sorted_set : {K : Type 0} (M : K → Meaning ArcRef → Type 0) (cmp : K → K → Ordering) (order : KeyOrder) → IsOrderOf M cmp order → (xs : List K) (n : Nesting) (s : Shape) → IsStrictlySortedBy cmp xs → Wraps M xs (MeansList M xs) n (sorted_set order s) s
-wraps_sorted_set M cmp order is xs n s sorted = wraps-sequence M xs n (sorted_set order s) s (sorted-set-splits n order s) (λ ms b k each le f. sorted-set-form _ order s ms b k le (items-ascend M cmp order is each sorted) f)
+wraps_sorted_set M cmp order is xs n s sorted = wraps-sequence M xs n (sorted_set order s) s (λ ms b k f. sorted-set-parts n ms f refl) (λ ms b k each le f. sorted-set-form _ order s ms b k le (items-ascend M cmp order is each sorted) f)
 
 pub reads_sorted_set : {X K A : Type 0} (own : Error → Type 0) (M : K → Meaning ArcRef → Type 0) (cmp : K → K → Ordering) (order : KeyOrder) → IsOrderOf M cmp order → (r : Result X Error) (held : X → List K) (context : Context A ArcRef) (s : Shape) (rest last : Rest A)
     → GivesSome own (λ x. Collected M (λ ys y zs. zs ≡ insert_key cmp ys y) (held x)) last r (counted (read context s) rest) → GivesSome own (λ x. MeansList M (held x)) last r (read context (sorted_set order s) rest)
@@ -72,21 +60,9 @@ reads_sorted_set own M cmp order is r held context s rest last h =
 
 -- ---- sets in order of arrival
 
--- an item that is put in is looked for from the front
-inserted : {K : Type 0} (y : K) (xs : List K) (x : K) (here later : Bool) → (if here || later then y ∷ xs else (y ∷ xs) ++ x ∷ []) ≡ (if here then y ∷ xs else y ∷ (if later then xs else xs ++ x ∷ []))
-inserted y xs x true later = refl
-inserted y xs x false true = refl
-inserted y xs x false false = refl
-
 place-item : {K : Type 0} (M : K → Meaning ArcRef → Type 0) (eq : K → K → Bool) → IsSameOf M eq → (x : K) (m : Meaning ArcRef) → M x m → {xs : List K} {ms : List (Meaning ArcRef)} → MeanAll M xs ms → MeanAll M (placed.insert_key eq xs x) (put_placed_item ms m)
 place-item M eq is x m h mean-none = mean-more x m [] [] h mean-none
-place-item {K} M eq is x m h (mean-more y f xs ms g t) =
-    let P : List K → Type 0 = λ ys. MeanAll M ys (put_placed_item (f ∷ ms) m) in
-    subst P (sym (inserted y xs x (eq x y) (list_any (eq x) xs))) (rw (is.agrees x y m f h g) (by_case (place-item M eq is x m h t) (same_key m f)))
-  where
-    by_case : MeanAll M (placed.insert_key eq xs x) (put_placed_item ms m) → (same : Bool) → MeanAll M (if same then y ∷ xs else y ∷ placed.insert_key eq xs x) (if same then f ∷ ms else f ∷ put_placed_item ms m)
-    by_case tail true = mean-more y f xs ms g t
-    by_case tail false = mean-more y f (placed.insert_key eq xs x) (put_placed_item ms m) g tail
+place-item M eq is x m h (mean-more y f xs ms g t) = grind (arith, mean-more, place-item M eq is x m h t)
 
 apart-items : {K : Type 0} (M : K → Meaning ArcRef → Type 0) (eq : K → K → Bool) → IsSameOf M eq → (x : K) (m : Meaning ArcRef) → M x m → {ys : List K} {ns : List (Meaning ArcRef)} → MeanAll M ys ns → AllByRecursion (λ y. eq x y ≡ false) ys → AllAfter (λ (a b : Meaning ArcRef). same_key a b ≡ false) m ns
 unfolding AllAfter
@@ -99,7 +75,7 @@ items-differ M eq is mean-none distinct = tt
 items-differ M eq is (mean-more x m xs ms h t) distinct = (apart-items M eq is x m h t distinct.0, items-differ M eq is t distinct.1)
 
 pub wraps_placed_set : {K : Type 0} (M : K → Meaning ArcRef → Type 0) (eq : K → K → Bool) → IsSameOf M eq → (xs : List K) (n : Nesting) (s : Shape) → IsDistinct eq xs → Wraps M xs (MeansList M xs) n (placed_set s) s
-wraps_placed_set M eq is xs n s distinct = wraps-sequence M xs n (placed_set s) s (placed-set-splits n s) (λ ms b k each le f. placed-set-form _ s ms b k le (items-differ M eq is each distinct) f)
+wraps_placed_set M eq is xs n s distinct = wraps-sequence M xs n (placed_set s) s (λ ms b k f. placed-set-parts n ms f refl) (λ ms b k each le f. placed-set-form _ s ms b k le (items-differ M eq is each distinct) f)
 
 pub reads_placed_set : {X K A : Type 0} (own : Error → Type 0) (M : K → Meaning ArcRef → Type 0) (eq : K → K → Bool) → IsSameOf M eq → (r : Result X Error) (held : X → List K) (context : Context A ArcRef) (s : Shape) (rest last : Rest A)
     → GivesSome own (λ x. Collected M (λ ys y zs. zs ≡ placed.insert_key eq ys y) (held x)) last r (counted (read context s) rest) → GivesSome own (λ x. MeansList M (held x)) last r (read context (placed_set s) rest)

@@ -1,9 +1,11 @@
--- Items that a walk yields: what writing each, after their count, makes of the whole that holds them.
+-- Items that a walk yields: what writing each, after their count, makes of the whole that holds them, and what its writer owes.
 use Rattle.pagable_traits.proofs.Words.{◌≡◌, ℕ, ◌<◌, ◌≤◌, List, [], ◌∷◌, ◌++◌, length, map, take, get_or, suc, subst, arith, refl, sym, ◌∙◌, Option, Some, Result, Ok, Err, inl, inr, Bor, OnOk, IfErr}
 use Rattle.pagable_traits.proofs.Words.{Error, ArcRef, longest, length_form, Meaning, sequence, Shape, list, list-form, Out, Nesting, FormAt, FormsAt, WritesSome, WritesSomeAll, added, NoFormOfSome}
 use Rattle.pagable_traits.proofs.Words.{NoFormsOfSome, Refused, RefusedAll, SomeMeaning, MeanAll, mean-none, mean-more, MeansList, MeansPair, items_have_meanings, then, memory_refuses, WritesEach}
 use Rattle.pagable_traits.proofs.{Words.{WritesCounted, RefusedAmong, RefusedCounted}, Items.{mean-length, no-head, no-tail, list-parts}}
 use Rattle.std.{proofs.{lemmas.Iterator.{YieldsList, YieldsList-from_slice, items_from_drains}, lemmas.Iterator.Consumers.YieldsList-from_rest, Common.drop, Math.Seq.split_at}, specs.Iterator.Yields}
+use Rattle.pagable_traits.proofs.{Words.{Grows, grows_trans}, Parts.{only-count, only-part, ok_along, err_along}}
+use Rattle.pagable_codec.specs.declared.serializer.PagableSerializer.{Ghosts as Serializers}
 use Rattle.std.specs.{Iterator.AlwaysYields, Map.Iter.{TakesFirst, deref, deref_pair}, Slice.Iter.{iter_rest, iter_steps}}
 
 -- ---- what a walk shows
@@ -63,26 +65,16 @@ refuses_item {T} M has xs i x n s e lt is h =
     let Q : T → Type 0 = λ y. Refused (M y) n s e in
     subst P (sym (split_at xs i x lt)) (refuses-among M has (take i xs) (get_or xs i x) (drop (suc i) xs) n s e (subst Q is h))
 
-each-written : {W T X : Type 0} {next : W → Option T → W → Type 0} {M : T → Meaning ArcRef → Type 0} {walk : W} {N : X → Meaning ArcRef → Type 0} {ys : List X} → Shows next M walk N ys → (n : Nesting) (s : Shape) (old new : Out) → WritesEach next M walk n s old new → WritesSomeAll (MeanAll N ys) n s old new
+pub each-written : {W T X : Type 0} {next : W → Option T → W → Type 0} {M : T → Meaning ArcRef → Type 0} {walk : W} {N : X → Meaning ArcRef → Type 0} {ys : List X} → Shows next M walk N ys → (n : Nesting) (s : Shape) (old new : Out) → WritesEach next M walk n s old new → WritesSomeAll (MeanAll N ys) n s old new
 each-written {M = M} {N = N} {ys = ys} shows n s old new w =
     let all : map shows.view w.xs ≡ ys = items_from_drains w.xs (w.all.1.0, w.all.1.1, λ _. (w.all.0, w.all.1.2)) shows.road in
     record { ms = w.wrote.ms; is = rw all at (mean-shown M N shows.view shows.means w.wrote.is); wrote = w.wrote.wrote }
 
-pub written_each : {W T X Y : Type 0} (r : Result Y Error) {next : W → Option T → W → Type 0} {M : T → Meaning ArcRef → Type 0} {walk : W} {N : X → Meaning ArcRef → Type 0} {ys : List X} → Shows next M walk N ys → (n : Nesting) (s : Shape) (old new : Out) → OnOk r (WritesEach next M walk n s old new)
-    → OnOk r (WritesSomeAll (MeanAll N ys) n s old new)
-written_each (Ok y) shows n s old new w = each-written shows n s old new w
-written_each (Err e) shows n s old new w = tt
-
-each-refused : {W T X : Type 0} {next : W → Option T → W → Type 0} {M : T → Meaning ArcRef → Type 0} {walk : W} {N : X → Meaning ArcRef → Type 0} {ys : List X} → Shows next M walk N ys → ((y : X) → SomeMeaning (N y)) → (n : Nesting) (s : Shape) (e : Error) → RefusedAmong next M walk n s e → RefusedAll (MeanAll N ys) n s e
+pub each-refused : {W T X : Type 0} {next : W → Option T → W → Type 0} {M : T → Meaning ArcRef → Type 0} {walk : W} {N : X → Meaning ArcRef → Type 0} {ys : List X} → Shows next M walk N ys → ((y : X) → SomeMeaning (N y)) → (n : Nesting) (s : Shape) (e : Error) → RefusedAmong next M walk n s e → RefusedAll (MeanAll N ys) n s e
 each-refused {next = next} {walk = walk} {N = N} {ys = ys} shows has n s e h =
     let cut = cut-at next shows.view walk h.yields.0 h.after ys h.before h.x shows.road.runs h.yields.1 h.yields.2 in
     let one : Refused (N (shows.view h.x)) n s e = λ fault. let no = h.refused fault in record { m = no.m; is = shows.means h.x no.m no.is; no_form = no.no_form } in
     rw cut.1 (refuses-among N has (map shows.view h.before) (shows.view h.x) cut.0 n s e one)
-
-pub refused_each : {W T X Y : Type 0} (r : Result Y Error) {next : W → Option T → W → Type 0} {M : T → Meaning ArcRef → Type 0} {walk : W} {N : X → Meaning ArcRef → Type 0} {ys : List X} → Shows next M walk N ys → ((y : X) → SomeMeaning (N y)) → (n : Nesting) (s : Shape) → IfErr r (RefusedAmong next M walk n s)
-    → IfErr r (RefusedAll (MeanAll N ys) n s)
-refused_each (Ok y) shows has n s h = tt
-refused_each (Err e) shows has n s h = each-refused shows has n s e h
 
 -- ---- items after their count
 
@@ -91,16 +83,12 @@ pub record Wraps {X : Type 0} (N : X → Meaning ArcRef → Type 0) (ys : List X
   pub joins : (ms : List (Meaning ArcRef)) (b : List ℕ) (k : List ArcRef) → MeanAll N ys ms → length ms ≤ longest → FormsAt n item ms b k → (m : Meaning ArcRef) × Whole m × FormAt n whole m (length_form (length ms) ++ b) k
   pub splits : (ms : List (Meaning ArcRef)) → MeanAll N ys ms → (m : Meaning ArcRef) × Whole m × ((b : List ℕ) (k : List ArcRef) → FormAt n whole m b k → (length ms ≤ longest) × ((c : List ℕ) × (j : List ArcRef) × FormsAt n item ms c j))
 
--- a form of the shape is a length and forms of items
-pub record Splits (n : Nesting) (whole item : Shape) : Type 0 where
-  pub parts : (ms : List (Meaning ArcRef)) (b : List ℕ) (k : List ArcRef) → FormAt n whole (sequence ms) b k → (length ms ≤ longest) × ((c : List ℕ) × FormsAt n item ms c k)
-
 -- the meaning of the whole is the sequence of those of its items
-pub wraps-sequence : {X : Type 0} (N : X → Meaning ArcRef → Type 0) (ys : List X) (n : Nesting) (whole item : Shape) → Splits n whole item
+pub wraps-sequence : {X : Type 0} (N : X → Meaning ArcRef → Type 0) (ys : List X) (n : Nesting) (whole item : Shape) → ((ms : List (Meaning ArcRef)) (b : List ℕ) (k : List ArcRef) → FormAt n whole (sequence ms) b k → (length ms ≤ longest) × ((c : List ℕ) × FormsAt n item ms c k))
     → ((ms : List (Meaning ArcRef)) (b : List ℕ) (k : List ArcRef) → MeanAll N ys ms → length ms ≤ longest → FormsAt n item ms b k → FormAt n whole (sequence ms) (length_form (length ms) ++ b) k) → Wraps N ys (MeansList N ys) n whole item
 wraps-sequence N ys n whole item split join = record {
   joins = λ ms b k each le f. (sequence ms, record { ms = ms; each = each; is = refl }, join ms b k each le f);
-  splits = λ ms each. (sequence ms, record { ms = ms; each = each; is = refl }, λ b k f. let p = split.parts ms b k f in (p.0, (p.1.0, k, p.1.1)));
+  splits = λ ms each. (sequence ms, record { ms = ms; each = each; is = refl }, λ b k f. let p = split ms b k f in (p.0, (p.1.0, k, p.1.1)));
 }
 
 pub writes-counted : {X : Type 0} {N : X → Meaning ArcRef → Type 0} {ys : List X} {Whole : Meaning ArcRef → Type 0} {n : Nesting} {whole item : Shape} → Wraps N ys Whole n whole item → (old mid new : Out) (count : ℕ) → count ≡ length ys → mid ≡ added old (length_form count) [] → count ≤ longest
@@ -135,11 +123,30 @@ refuses-items wraps e h = λ fault.
 
 pub refused_counted : {W T X Y : Type 0} (r : Result Y Error) {next : W → Option T → W → Type 0} {M : T → Meaning ArcRef → Type 0} {walk : W} {N : X → Meaning ArcRef → Type 0} {ys : List X} {Whole : Meaning ArcRef → Type 0} {n : Nesting} {whole item : Shape} (count : ℕ)
     → Shows next M walk N ys → Wraps N ys Whole n whole item → ((y : X) → SomeMeaning (N y)) → count ≡ length ys → IfErr r (RefusedCounted next M walk count n item) → IfErr r (Refused Whole n whole)
-refused_counted (Ok y) count shows wraps has all h = tt
-refused_counted (Err e) count shows wraps has all (inl (inl h)) = refuses-long wraps has count all e h.0
-refused_counted (Err e) {Whole = Whole} {n = n} {whole = whole} count shows wraps has all (inl (inr h)) = memory_refuses e Whole n whole h.1
-refused_counted (Err e) {n = n} {item = item} count shows wraps has all (inr h) = refuses-items wraps e (each-refused shows has n item e h)
+refused_counted r count shows wraps has all h = grind (arith, refuses-long wraps has count all, memory_refuses, refuses-items wraps, each-refused shows has)
 
 -- a list
 pub wraps_list : {X : Type 0} (N : X → Meaning ArcRef → Type 0) (ys : List X) (n : Nesting) (s : Shape) → Wraps N ys (MeansList N ys) n (list s) s
-wraps_list N ys n s = wraps-sequence N ys n (list s) s (record { parts = λ ms b k f. list-parts n ms f refl }) (λ ms b k each le f. list-form _ s ms b k le f)
+wraps_list N ys n s = wraps-sequence N ys n (list s) s (λ ms b k f. list-parts n ms f refl) (λ ms b k each le f. list-form _ s ms b k le f)
+
+-- ---- what the writers of values owe: the writer of the whole owes what its last call owes
+
+module _ {S E N H K V : Type 0} (s : Serializers S E N H K V) where
+  -- what a writer owes: where it succeeds, and of its refusals
+  abbrev pub Owes : {X : Type 0} → (ok : Type 0) (lacks causes : Error → Type 0) → S → S → Result X Error → Type 0
+  Owes ok lacks causes old new r = record { ok : OnOk r ok; refused : IfErr r lacks; only : IfErr r causes; err : Grows (s.out old) (s.out new); same_env : s.environment new ≡ s.environment old; same_levels : s.levels new ≡ s.levels old }
+
+  -- of the whole, by what its writer's last call owes
+  pub owed : {Y : Type 0} (r : Result Y Error) (P Q : Type 0) (lacks lacks' causes : Error → Type 0) {a b : S} → Owes P lacks causes a b r → OnOk r Q → IfErr r lacks' → Owes Q lacks' causes a b r
+  owed r P Q lacks lacks' causes told ok refused = record { ok = ok; refused = refused; only = told.only; err = told.err; same_env = told.same_env; same_levels = told.same_levels }
+
+  -- of the whole whose items a walk yields
+  pub owed-counted : {W T X Y : Type 0} {next : W → Option T → W → Type 0} {M : T → Meaning ArcRef → Type 0} {walk : W} {N : X → Meaning ArcRef → Type 0} {ys : List X}
+      {Whole : Meaning ArcRef → Type 0} {n : Nesting} {whole item : Shape} {a b : S} (causes : Error → Type 0) (r : Result Y Error) (count : ℕ)
+      → Shows next M walk N ys → Wraps N ys Whole n whole item → ((y : X) → SomeMeaning (N y)) → count ≡ length ys
+      → Owes (WritesCounted next M walk count n item (s.out a) (s.out b)) (RefusedCounted next M walk count n item) causes a b r
+      → Owes (WritesSome Whole n whole (s.out a) (s.out b)) (Refused Whole n whole) causes a b r
+  owed-counted {a = a} {b = b} causes r count shows wraps has all told =
+      owed r _ _ _ _ _ told (written_counted r count (s.out a) (s.out b) shows wraps all told.ok) (refused_counted r count shows wraps has all told.refused)
+
+pub ruleset writes = (ok_along, err_along, grows_trans, only-count, only-part)

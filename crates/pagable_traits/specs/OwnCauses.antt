@@ -1,5 +1,5 @@
 -- The causes that a type's readers and writers have of their own, each with what is asked of it.
-use Rattle.std.specs.Prelude.{◌≡◌, Bool, true}
+use Rattle.std.specs.Prelude.{◌≡◌, true}
 use Rattle.pagable_model.specs.{declared.error.Error.Error, Refusals.{is_own_reading, may_refuse_writing}, Gives.{never, memory, memory_or, either, long_or, deep_or, json_causes}}
 use Rattle.pagable_model.specs.Causes.{deep_or_may_refuse_writing, never_is_own_reading}
 use Rattle.pagable_model.specs.Causes.{either_is_own_reading, either_may_refuse_writing, json_may_refuse_writing, long_or_may_refuse_writing, memory_is_own_reading, memory_may_refuse_writing}

@@ -11,8 +11,8 @@ ghost use Rattle.pagable_model.specs.KeyParts.{option_is_ordered, result_is_orde
 ghost use Rattle.pagable_model.specs.OneForm.{basic_refers_to_nothing};
 ghost use Rattle.pagable_traits.specs.KeyLaws.{IsKey, number_key, text_key, key_alike, key_seen, option_key, pair_key, result_key, list_key, entries_key};
 
+use crate::impls::holders::Thin;
 use crate::impls::texts::PathText;
-use crate::impls::thin::Thin;
 use crate::traits::OneMeaning;
 use pagable_codec::env::Env;
 use smallvec::SmallVec;

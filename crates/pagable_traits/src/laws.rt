@@ -7,10 +7,9 @@ ghost use Rattle.std.specs.{Prelude.◌≡◌, Prelude.◌↔◌, Prelude.◌/�
 ghost use Rattle.pagable_model.specs.{Gives.memory_or, Keys.optional_order, Keys.outcome_order, Keys.pair_order, Keys.list_order, Meaning.Meaning, Hashed.MeansHashMap, Carried.of_duration};
 ghost use Rattle.pagable_model.specs.{declared.error.Error.Error as Refusal, declared.numbers.ArcRef.ArcRef as Reference};
 
-use crate::boxes::PagableBoxDeserialize;
-use crate::impls::thin::Thin;
+use crate::impls::holders::Thin;
 use crate::keys::{PagableKey, PagableOrdKey};
-use crate::traits::{Carried, PagableDeserialize, PagableSerialize};
+use crate::traits::{Carried, PagableBoxDeserialize, PagableDeserialize, PagableSerialize};
 use pagable_codec::env::Env;
 use smallvec::SmallVec;
 use std::boxed::BoxedSlice;

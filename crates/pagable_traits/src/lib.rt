@@ -2,28 +2,24 @@
 #![tactic(auto)]
 
 pub mod alike;
-pub mod boxes;
-pub mod eager;
 pub mod impls;
-pub mod in_node;
 pub mod keys;
 pub mod laws;
 pub mod one_form;
-pub mod owned;
 pub mod traits;
 
-pub use boxes::PagableBoxDeserialize;
-pub use eager::{EagerlyCarried, PagableEagerDeserialize, PagableEagerSerialize};
+pub use impls::holders::Thin;
 pub use impls::lists::serialize_slice;
 pub use impls::texts::{PathText, serialize_str};
-pub use impls::thin::Thin;
-pub use in_node::InNode;
 pub use keys::{PagableKey, PagableOrdKey};
 pub use one_form::Canonical;
-pub use owned::{Pagable, PagableDeserializeOwned};
 pub use pagable_codec::{
     ArcRef, Env, HandleNumber, Identity, KeyHash, Kind, LoadNumber, NodeNumber, NodeSet, OfNode,
     PagableCursor, PagableDeserializer, PagableSerializer, Reader, SessionContext, SessionMap,
     SessionValue, WorkerNumber,
 };
-pub use traits::{Carried, OneMeaning, PagableDeserialize, PagableSerialize};
+pub use traits::{
+    Carried, EagerlyCarried, InNode, OneMeaning, Pagable, PagableBoxDeserialize,
+    PagableDeserialize, PagableDeserializeOwned, PagableEagerDeserialize, PagableEagerSerialize,
+    PagableSerialize,
+};

@@ -3,8 +3,8 @@
 ghost use Rattle.std.specs.Prelude.{refl};
 ghost use Rattle.pagable_model.specs.OneForm.{HasOneFormThroughout, basic_has_one_form, over_has_one_form, run_has_one_form, two_has_one_form};
 
+use crate::impls::holders::Thin;
 use crate::impls::texts::PathText;
-use crate::impls::thin::Thin;
 use crate::keys::{PagableKey, PagableOrdKey};
 use crate::traits::OneMeaning;
 use indexmap::{IndexMap, IndexSet};

@@ -1,10 +1,10 @@
-//! The types that can be written and read.
+//! The types that can be written and read, also into a box, eagerly, and as the values of nodes.
 
-ghost use Rattle.std.specs.Prelude.{◌≡◌, OnOk, IfErr};
-ghost use Rattle.pagable_model.specs.{Shape.Shape, Writing.{nesting, WritesSome, Refused, Grows}, Reading.read, Standing.{handles_at, MovesOn, GivesSome}};
-ghost use Rattle.pagable_traits.specs.{Meanings.{Meanings, AreSingle}, OwnCauses.{ReadCauses, WriteCauses, reads_never, writes_memory}};
+ghost use Rattle.std.specs.Prelude.{◌≡◌, OnOk, IfErr, Some};
+ghost use Rattle.pagable_model.specs.{Gives.memory_or, Shape.Shape, Writing.{nesting, WritesSome, Refused, Grows}, Reading.read, Standing.{handles_at, MovesOn, GivesSome}, declared.error.Error.Error as Refusal};
+ghost use Rattle.pagable_traits.specs.{InNodes.Holds, Meanings.{Meanings, AreSingle}, OwnCauses.{ReadCauses, WriteCauses, reads_never, reads_memory_or, writes_memory}};
 
-use pagable_codec::{Env, PagableDeserializer, PagableSerializer};
+use pagable_codec::{Env, NodeSet, OfNode, PagableDeserializer, PagableSerializer};
 use pagable_flavors::Error;
 use std::alloc::Global;
 
@@ -55,4 +55,122 @@ pub trait PagableDeserialize<'de, E: Env>: Carried<E> + Sized {
 /// A type of which each value has exactly one meaning.
 pub trait OneMeaning<E: Env>: Carried<E> {
     ghost single: { AreSingle Self.Carried.means };
+}
+
+/// A type whose values are read without borrowing from the input: each type that is read at `'static`. It is a mark;
+/// what reads such a type asks `PagableDeserialize` or `Pagable` beside it, at a lifetime of its own.
+pub trait PagableDeserializeOwned<E: Env>: Carried<E> {}
+
+impl<E: Env, T: PagableDeserialize<'static, E>> PagableDeserializeOwned<E> for T {}
+
+/// A type whose values are written, and read without borrowing from the input. A function that is to write and to read
+/// them asks it at a lifetime of its own, and so at whatever lifetime its caller likes.
+pub trait Pagable<'de, E: Env>: PagableSerialize<E>
+    + PagableDeserialize<'de, E>
+    + PagableDeserializeOwned<E> {}
+
+impl<
+    'de,
+    E: Env,
+    T: PagableSerialize<E> + PagableDeserialize<'de, E> + PagableDeserializeOwned<E>,
+> Pagable<'de, E> for T {}
+
+/// A type whose values can be read into a box.
+pub trait PagableBoxDeserialize<'de, E: Env>: Carried<E> + Sized {
+    // The refusals of a reading beside the faults of the input and those of references.
+    ghost box_causes: { ReadCauses };
+
+    /// Reads the value at the front of what is left into a box, and leaves the rest. A refusal is the first fault from
+    /// the front, that of a reference included, or a cause of the type's own; then the place is between the old one and
+    /// the ends, and as many levels are entered as before.
+    fn deserialize_box<D: PagableDeserializer<E>>(
+        alloc: Global,
+        deserializer: &mut D,
+    ) -> Result<Box<Self>, Error>
+        ensures gives { GivesSome box_causes.are (λ b. Self.means.of b.value) (D.rest deserializer.new) result
+            (read (handles_at (D.levels deserializer.old) (E.parts (D.environment deserializer.old))) (Self.shape (D.environment deserializer.old)) (D.rest deserializer.old)) }
+        ensures moves { MovesOn (D.standing deserializer.old) (D.standing deserializer.new) }
+        ensures same_env { D.environment deserializer.new ≡ D.environment deserializer.old }
+        ensures same_levels { D.levels deserializer.new ≡ D.levels deserializer.old };
+}
+
+/// Want of memory for the box is a cause beside those of the value.
+impl<'de, E: Env, T: PagableDeserialize<'de, E> + Drop> PagableBoxDeserialize<'de, E> for T {
+    ghost box_causes = { reads_memory_or T.read_causes };
+
+    fn deserialize_box<D: PagableDeserializer<E>>(
+        alloc: Global,
+        deserializer: &mut D,
+    ) -> Result<Box<Self>, Error> {
+        PagableDeserialize::<E>::pagable_deserialize(alloc, deserializer)
+    }
+}
+
+// ---- eagerly: a caller's own values without references, beside the way that the same values are carried
+
+/// How the values of a type are written and read eagerly. They hold no reference.
+pub trait EagerlyCarried<E: Env> {
+    ghost eager_shape: { E → Shape };
+
+    // What a value may mean.
+    ghost eager_means: { Meanings Self };
+}
+
+/// A type whose values can be written eagerly.
+pub trait PagableEagerSerialize<E: Env>: EagerlyCarried<E> {
+    // All refusals of a writing, those among them that say that a value has no form.
+    ghost eager_write_causes: { WriteCauses };
+
+    /// Appends a form of the value, which has no reference. Refusals are those of `PagableSerialize`; what stood before
+    /// still stands, and as many levels are entered as before.
+    fn eager_pagable_serialize<S: PagableSerializer<E>>(
+        &self,
+        serializer: &mut S,
+    ) -> Result<(), Error>
+        ensures ok { OnOk result (WritesSome (Self.eager_means.of self.now) (nesting (S.levels serializer.old) (E.parts (S.environment serializer.old))) (Self.eager_shape (S.environment serializer.old)) (S.out serializer.old) (S.out serializer.new)) }
+        ensures no_references { (S.out serializer.new).refs ≡ (S.out serializer.old).refs }
+        ensures refused { IfErr result (Refused (Self.eager_means.of self.now) (nesting (S.levels serializer.old) (E.parts (S.environment serializer.old))) (Self.eager_shape (S.environment serializer.old))) }
+        ensures only { IfErr result eager_write_causes.are }
+        ensures err { Grows (S.out serializer.old) (S.out serializer.new) }
+        ensures same_env { S.environment serializer.new ≡ S.environment serializer.old }
+        ensures same_levels { S.levels serializer.new ≡ S.levels serializer.old };
+}
+
+/// A type whose values can be read eagerly.
+pub trait PagableEagerDeserialize<'de, E: Env>: EagerlyCarried<E> + Sized {
+    // The refusals of a reading beside the faults of the input.
+    ghost eager_read_causes: { ReadCauses };
+
+    /// Reads the value at the front of what is left, and leaves the rest, all references among it. Refusals are those of
+    /// `PagableDeserialize`.
+    fn eager_pagable_deserialize<D: PagableDeserializer<E>>(
+        alloc: Global,
+        deserializer: &mut D,
+    ) -> Result<Self, Error>
+        ensures gives { GivesSome eager_read_causes.are Self.eager_means.of (D.rest deserializer.new) result
+            (read (handles_at (D.levels deserializer.old) (E.parts (D.environment deserializer.old))) (Self.eager_shape (D.environment deserializer.old)) (D.rest deserializer.old)) }
+        ensures no_references { (D.rest deserializer.new).refs ≡ (D.rest deserializer.old).refs }
+        ensures moves { MovesOn (D.standing deserializer.old) (D.standing deserializer.new) }
+        ensures same_env { D.environment deserializer.new ≡ D.environment deserializer.old }
+        ensures same_levels { D.levels deserializer.new ≡ D.levels deserializer.old };
+}
+
+/// A value type of an environment whose nodes are spelled, and mean, as its values are: it is read without borrowing from
+/// the input, so at `'static`.
+pub trait InNode<E: Env>: OfNode<E>
+    + Carried<E>
+    + PagableSerialize<E>
+    + PagableDeserialize<'static, E>
+where
+    E::Node: NodeSet<E>,
+{
+    // The node of a value is of this type and means what the value means, and a node without one is of another type.
+    ghost holds: { (n : E.Node) → Holds Self.Carried.means.of Self.OfNode.TYPE (E.Node.type_of n) (E.Node.means n) (Self.OfNode.held n) };
+
+    ghost shape_is: { (e : E) → E.Node.shape_of e Self.OfNode.TYPE ≡ Some (Self.Carried.shape e) };
+
+    // A node of this type is refused by the type's own causes, and when it is read, for want of memory for its place.
+    ghost writes_as: { (e : Refusal) → E.Node.write_causes Self.OfNode.TYPE e → Self.PagableSerialize.write_causes.are e };
+
+    ghost reads_as: { (e : Refusal) → E.Node.read_causes Self.OfNode.TYPE e → memory_or Self.PagableDeserialize.read_causes.are e };
 }

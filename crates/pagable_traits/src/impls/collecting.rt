@@ -1,11 +1,13 @@
-//! What items are put into one after another as they are read: lists, maps and sets.
+//! Items of lists, maps and sets, one after another: what they are put into as they are read, and those that a walk yields
+//! as they are written.
 
-ghost use Rattle.std.specs.Prelude.{◌≡◌, ℕ, List, [], length, min, OnOk, IfOk, IfErr};
-ghost use Rattle.pagable_model.specs.{Gives.memory, Gives.memory_or, Reading.items, Reading.counted, Reading.read, Standing.handles_at, Standing.MovesOn, Standing.GivesSome, Collected.Collected};
+ghost use Rattle.std.specs.{Iterator.IsFinite, Prelude.{◌≡◌, ℕ, List, [], length, min, OnOk, IfOk, IfErr}};
+ghost use Rattle.pagable_model.specs.{Collected.Collected, Gives.{memory, memory_or, long_or}, Reading.{items, counted, read}, Standing.{handles_at, MovesOn, GivesSome}, Writing.{nesting, Grows}};
+ghost use Rattle.pagable_traits.specs.Walks.{WritesEach, WritesCounted, RefusedAmong, RefusedCounted};
 
-use crate::traits::PagableDeserialize;
-use pagable_codec::parts::{places_for, read_count};
-use pagable_codec::{Env, PagableDeserializer};
+use crate::traits::{PagableDeserialize, PagableSerialize};
+use pagable_codec::parts::{places_for, read_count, write_count};
+use pagable_codec::{Env, PagableDeserializer, PagableSerializer};
 use pagable_flavors::Error;
 use std::alloc::Global;
 
@@ -91,4 +93,48 @@ pub fn read_collected<
 {
     let count = read_count(deserializer)?;
     collect_items(alloc, count, deserializer)
+}
+
+/// Writes each item that a walk yields, without their count. A refusal is that of the first item that is refused.
+pub fn write_each<
+    E: Env,
+    T: PagableSerialize<E> + Drop,
+    W: Iterator<Item = T>,
+    S: PagableSerializer<E>,
+>(walk: W, serializer: &mut S) -> Result<(), Error>
+    requires can { W.can_next walk }
+    requires ends { IsFinite (W.remaining walk) }
+    ensures ok { OnOk result (WritesEach W.next_gives T.means.of walk (nesting (S.levels serializer.old) (E.parts (S.environment serializer.old))) (T.shape (S.environment serializer.old)) (S.out serializer.old) (S.out serializer.new)) }
+    ensures refused { IfErr result (RefusedAmong W.next_gives T.means.of walk (nesting (S.levels serializer.old) (E.parts (S.environment serializer.old))) (T.shape (S.environment serializer.old))) }
+    ensures only { IfErr result T.write_causes.are }
+    ensures err { Grows (S.out serializer.old) (S.out serializer.new) }
+    ensures same_env { S.environment serializer.new ≡ S.environment serializer.old }
+    ensures same_levels { S.levels serializer.new ≡ S.levels serializer.old }
+{
+    for item in walk {
+        item.pagable_serialize(serializer)?;
+    }
+    Ok(())
+}
+
+/// Writes a count, and then each item that a walk yields. TooLong where the count is above 4,294,967,295, before any
+/// item; else the first item's refusal, or want of memory.
+#[tactic(auto, using(crate::proofs::Walks::writes))]
+pub fn write_counted<
+    E: Env,
+    T: PagableSerialize<E> + Drop,
+    W: Iterator<Item = T>,
+    S: PagableSerializer<E>,
+>(count: usize, walk: W, serializer: &mut S) -> Result<(), Error>
+    requires can { W.can_next walk }
+    requires ends { IsFinite (W.remaining walk) }
+    ensures ok { OnOk result (WritesCounted W.next_gives T.means.of walk count (nesting (S.levels serializer.old) (E.parts (S.environment serializer.old))) (T.shape (S.environment serializer.old)) (S.out serializer.old) (S.out serializer.new)) }
+    ensures refused { IfErr result (RefusedCounted W.next_gives T.means.of walk count (nesting (S.levels serializer.old) (E.parts (S.environment serializer.old))) (T.shape (S.environment serializer.old))) }
+    ensures only { IfErr result (long_or (memory_or T.write_causes.are)) }
+    ensures err { Grows (S.out serializer.old) (S.out serializer.new) }
+    ensures same_env { S.environment serializer.new ≡ S.environment serializer.old }
+    ensures same_levels { S.levels serializer.new ≡ S.levels serializer.old }
+{
+    write_count(count, serializer)?;
+    write_each(walk, serializer)
 }

@@ -1,9 +1,10 @@
-//! Values that hold one or two others: `Option`, `Result`, `Box` and pairs; values that are lent; and marks of a type, of
-//! which there is nothing to write.
+//! Values that hold others: `Option`, `Result`, `Box` and tuples, of which those of three to five values are written and read
+//! as their first value and the tuple of the others; values that are lent; a header with a list behind it; marks of a
+//! type, of which there is nothing to write; and cells.
 
-ghost use Rattle.pagable_model.specs.{Shape.{optional, outcome, both}};
-ghost use Rattle.pagable_traits.specs.Meanings.{options, results, pairs, options_single, results_single, pairs_single};
-ghost use Rattle.pagable_traits.specs.OwnCauses.{reads_memory_or, reads_either, writes_memory_or, writes_either, writes_never};
+ghost use Rattle.pagable_model.specs.{Carried.{atomic_i64, once_lock, thin}, Cells.{MeansAtomic, MeansOnce, atomic_has_meaning, once_has_meaning}, Shape.{optional, outcome, both}};
+ghost use Rattle.pagable_traits.specs.Meanings.{lists, options, results, pairs, seen_by, lists_single, options_single, results_single, pairs_single};
+ghost use Rattle.pagable_traits.specs.OwnCauses.{reads_memory_or, reads_either, writes_memory_or, writes_either, writes_long_or, writes_never};
 
 use crate::alike::{CarriedAs, ReadAs};
 use crate::impls::maps::write_entry;
@@ -13,6 +14,8 @@ use pagable_codec::{Env, PagableDeserializer, PagableSerializer};
 use pagable_flavors::Error;
 use std::alloc::Global;
 use std::marker::PhantomData;
+use std::sync::OnceLock;
+use std::sync::atomic::{AtomicI64, Ordering};
 
 impl<E: Env, T: Carried<E>> Carried<E> for Option<T> {
     ghost shape = { λ e. optional (T.shape e) };
@@ -195,5 +198,208 @@ impl<E: Env, T> PagableSerialize<E> for PhantomData<T> {
 
     fn pagable_serialize<S: PagableSerializer<E>>(&self, serializer: &mut S) -> Result<(), Error> {
         PagableSerialize::<E>::pagable_serialize(&(), serializer)
+    }
+}
+
+/// A header and a list, which stands for what a thin pointer leads to. It is written as the pair of both.
+#[derive(Debug, PartialEq, Eq, PartialOrd, Ord, Hash, Drop)]
+pub struct Thin<H, T> {
+    pub header: H,
+    pub items: Vec<T>,
+}
+
+impl<E: Env, H: Carried<E>, T: Carried<E>> Carried<E> for Thin<H, T> {
+    ghost shape = { λ e. thin (H.shape e) (T.shape e) };
+
+    ghost means = { seen_by (λ t. (t.header, t.items)) (pairs H.means (seen_by (λ v. v.items) (lists T.means))) };
+}
+
+impl<E: Env, H: OneMeaning<E>, T: OneMeaning<E>> OneMeaning<E> for Thin<H, T> {
+    ghost single = { λ t. pairs_single H.Carried.means (seen_by (λ v. v.items) (lists T.Carried.means)) H.single (λ v. lists_single T.Carried.means T.single v.items) (t.header, t.items) };
+}
+
+impl<E: Env, H: PagableSerialize<E>, T: PagableSerialize<E>> PagableSerialize<E> for Thin<H, T> {
+    ghost write_causes = { writes_either H.write_causes (writes_long_or (writes_memory_or T.write_causes)) };
+
+    fn pagable_serialize<S: PagableSerializer<E>>(&self, serializer: &mut S) -> Result<(), Error> {
+        write_entry(&self.header, &self.items, serializer)
+    }
+}
+
+impl<
+    'de,
+    E: Env,
+    H: PagableDeserialize<'de, E> + Drop,
+    T: PagableDeserialize<'de, E> + Drop,
+> PagableDeserialize<'de, E> for Thin<H, T> {
+    ghost read_causes = { reads_either H.read_causes (reads_memory_or T.read_causes) };
+
+    fn pagable_deserialize<D: PagableDeserializer<E>>(
+        alloc: Global,
+        deserializer: &mut D,
+    ) -> Result<Self, Error> {
+        match PagableDeserialize::pagable_deserialize(alloc, deserializer) {
+            Ok((header, items)) => Ok(Thin { header, items }),
+            Err(refusal) => Err(refusal),
+        }
+    }
+}
+
+impl<A, B, C> CarriedAs for (A, B, C) {
+    type Other = (A, (B, C));
+
+    ghost other = { λ p. (p.0, (p.1, p.2)) };
+}
+
+impl<A, B, C> ReadAs for (A, B, C) {
+    fn of_other(value: (A, (B, C))) -> Self {
+        let (first, (second, third)) = value;
+        (first, second, third)
+    }
+}
+
+impl<A, B, C, D> CarriedAs for (A, B, C, D) {
+    type Other = (A, (B, (C, D)));
+
+    ghost other = { λ p. (p.0, (p.1, (p.2, p.3))) };
+}
+
+impl<A, B, C, D> ReadAs for (A, B, C, D) {
+    fn of_other(value: (A, (B, (C, D)))) -> Self {
+        let (first, (second, (third, fourth))) = value;
+        (first, second, third, fourth)
+    }
+}
+
+impl<A, B, C, D, F> CarriedAs for (A, B, C, D, F) {
+    type Other = (A, (B, (C, (D, F))));
+
+    ghost other = { λ p. (p.0, (p.1, (p.2, (p.3, p.4)))) };
+}
+
+impl<A, B, C, D, F> ReadAs for (A, B, C, D, F) {
+    fn of_other(value: (A, (B, (C, (D, F))))) -> Self {
+        let (first, (second, (third, (fourth, fifth)))) = value;
+        (first, second, third, fourth, fifth)
+    }
+}
+
+impl<
+    E: Env,
+    A: PagableSerialize<E>,
+    B: PagableSerialize<E>,
+    C: PagableSerialize<E>,
+> PagableSerialize<E> for (A, B, C) {
+    ghost write_causes = { writes_either A.write_causes (writes_either B.write_causes C.write_causes) };
+
+    #[tactic(auto, using(crate::proofs::Joined::alike))]
+    fn pagable_serialize<S: PagableSerializer<E>>(&self, serializer: &mut S) -> Result<(), Error> {
+        write_entry(&self.0, &(&self.1, &self.2), serializer)
+    }
+}
+
+impl<
+    E: Env,
+    A: PagableSerialize<E>,
+    B: PagableSerialize<E>,
+    C: PagableSerialize<E>,
+    D: PagableSerialize<E>,
+> PagableSerialize<E> for (A, B, C, D) {
+    ghost write_causes = { writes_either A.write_causes (writes_either B.write_causes (writes_either C.write_causes D.write_causes)) };
+
+    #[tactic(auto, using(crate::proofs::Joined::alike))]
+    fn pagable_serialize<S: PagableSerializer<E>>(&self, serializer: &mut S) -> Result<(), Error> {
+        write_entry(&self.0, &(&self.1, &(&self.2, &self.3)), serializer)
+    }
+}
+
+impl<
+    E: Env,
+    A: PagableSerialize<E>,
+    B: PagableSerialize<E>,
+    C: PagableSerialize<E>,
+    D: PagableSerialize<E>,
+    F: PagableSerialize<E>,
+> PagableSerialize<E> for (A, B, C, D, F) {
+    ghost write_causes = { writes_either A.write_causes (writes_either B.write_causes (writes_either C.write_causes (writes_either D.write_causes F.write_causes))) };
+
+    #[tactic(auto, using(crate::proofs::Joined::alike))]
+    fn pagable_serialize<S: PagableSerializer<E>>(&self, serializer: &mut S) -> Result<(), Error> {
+        write_entry(
+            &self.0,
+            &(&self.1, &(&self.2, &(&self.3, &self.4))),
+            serializer,
+        )
+    }
+}
+
+// ---- cells: an atomic number, and a value that is written once. Another thread may write to a cell while it is looked at, so
+// no contract knows what one holds, and each means whatever it may hold.
+
+impl<E: Env> Carried<E> for AtomicI64 {
+    ghost shape = { λ e. atomic_i64 };
+
+    ghost means = { record { of = λ x. MeansAtomic; meaning = λ x. atomic_has_meaning.0; is = λ x. atomic_has_meaning.1 } };
+}
+
+impl<E: Env> PagableSerialize<E> for AtomicI64 {
+    /// Appends the number that it holds when it is looked at, as an `i64`.
+    fn pagable_serialize<S: PagableSerializer<E>>(&self, serializer: &mut S) -> Result<(), Error> {
+        let held = self.load(Ordering::SeqCst);
+        PagableSerialize::<E>::pagable_serialize(&held, serializer)
+    }
+}
+
+impl<'de, E: Env> PagableDeserialize<'de, E> for AtomicI64 {
+    fn pagable_deserialize<D: PagableDeserializer<E>>(
+        alloc: Global,
+        deserializer: &mut D,
+    ) -> Result<Self, Error> {
+        match PagableDeserialize::<E>::pagable_deserialize(alloc, deserializer) {
+            Ok(held) => Ok(AtomicI64::new(held)),
+            Err(refusal) => Err(refusal),
+        }
+    }
+}
+
+/// A handle that is put into such a lock after the lock's node was made is no reference of that node's value: the pager
+/// knows the references that a value had when it came.
+impl<E: Env, T: Carried<E>> Carried<E> for OnceLock<T> {
+    ghost shape = { λ e. once_lock (T.shape e) };
+
+    ghost means = { record { of = λ x. MeansOnce T.means.of; meaning = λ x. (once_has_meaning T.means.of).0; is = λ x. (once_has_meaning T.means.of).1 } };
+}
+
+impl<E: Env, T: PagableSerialize<E>> PagableSerialize<E> for OnceLock<T> {
+    ghost write_causes = { writes_memory_or T.write_causes };
+
+    /// Appends the value that it holds when it is looked at, or that it holds none, as an `Option`. It doesn't wait for a
+    /// thread that is writing: until that is done the lock holds none.
+    fn pagable_serialize<S: PagableSerializer<E>>(&self, serializer: &mut S) -> Result<(), Error> {
+        let held = self.get();
+        PagableSerialize::<E>::pagable_serialize(&held, serializer)
+    }
+}
+
+/// The lock that holds this value, or none.
+fn lock_of<T: Drop>(held: Option<T>) -> OnceLock<T> {
+    match held {
+        Some(value) => OnceLock::from(value),
+        None => OnceLock::new(),
+    }
+}
+
+impl<'de, E: Env, T: PagableDeserialize<'de, E> + Drop> PagableDeserialize<'de, E> for OnceLock<T> {
+    ghost read_causes = { T.read_causes };
+
+    /// Reads an `Option`. The lock is set exactly where there was a value, and no thread has seen it yet.
+    fn pagable_deserialize<D: PagableDeserializer<E>>(
+        alloc: Global,
+        deserializer: &mut D,
+    ) -> Result<Self, Error> {
+        match PagableDeserialize::<E>::pagable_deserialize(alloc, deserializer) {
+            Ok(held) => Ok(lock_of(held)),
+            Err(refusal) => Err(refusal),
+        }
     }
 }

@@ -1,18 +1,39 @@
-//! How JSON values are read: the case, and then its part. Arrays and objects are one level further down, which is
+//! JSON values, and how they are read: the case, and then its part. Arrays and objects are one level further down, which is
 //! entered after their length was read.
 
 ghost use Rattle.std.{specs.Prelude.◌≡◌, specs.Int.w64};
-ghost use Rattle.pagable_model.specs.{Reading.{bytes_of, items as items_at, read, seen, flag_case, number_case, text_case, array_case, object_case}, Gives.{Gives, never}, Lifted.MeansPair, Meaning.{sequence, variant}};
+ghost use Rattle.pagable_model.specs.{Reading.{bytes_of, items as items_at, read, seen, array_case, object_case}, Gives.{Gives, never}, Lifted.MeansPair, Meaning.{sequence, variant}};
 ghost use Rattle.pagable_model.specs.{Numbers.unsigned_at, Shape.{both, json, text}, Standing.{Is, MovesOn}};
-ghost use Rattle.pagable_traits.specs.{JsonData.{of_key, of_value}, JsonSteps.{Reads, part_of, ObjectOf}};
+ghost use Rattle.pagable_traits.specs.{JsonData.{of_key, of_value}, JsonSteps.{Reads, part_of, ObjectOf}, Meanings.exactly, OwnCauses.reads_memory};
 
-use crate::traits::PagableDeserialize;
+use crate::traits::{Carried, OneMeaning, PagableDeserialize};
 use pagable_codec::parts::{places_for, read_count, read_flag};
 use pagable_codec::{Env, PagableDeserializer, Reader};
 use pagable_flavors::Error;
 use serde_json::Value;
 use std::alloc::Global;
 use std::collections::BTreeMap;
+
+impl<E: Env> Carried<E> for Value {
+    ghost shape = { λ e. json };
+
+    ghost means = { exactly of_value };
+}
+
+impl<E: Env> OneMeaning<E> for Value {
+    ghost single = { λ v m is. is };
+}
+
+impl<'de, E: Env> PagableDeserialize<'de, E> for Value {
+    ghost read_causes = { reads_memory };
+
+    fn pagable_deserialize<D: PagableDeserializer<E>>(
+        alloc: Global,
+        deserializer: &mut D,
+    ) -> Result<Self, Error> {
+        read_value(alloc, deserializer)
+    }
+}
 
 // Reads the number of a case.
 #[tactic(auto, using(pagable_codec::proofs::Reading::part_read))]
@@ -23,46 +44,6 @@ fn read_case<E: Env, D: PagableDeserializer<E>>(deserializer: &mut D) -> Result<
     ensures same_levels { D.levels deserializer.new ≡ D.levels deserializer.old }
 {
     deserializer.serde().read_usize()
-}
-
-// Reads a flag after its case.
-#[tactic(auto, unfolding(pagable_model::specs::Reading::read, pagable_model::specs::Reading::read_with), using(crate::proofs::JsonRead::parts))]
-fn flag_part<E: Env, D: PagableDeserializer<E>>(
-    alloc: Global,
-    deserializer: &mut D,
-) -> Result<Value, Error>
-    ensures { Reads E.Env D.PagableDeserializer (Is of_value) (part_of flag_case) deserializer.old deserializer.new result }
-{
-    let flag = bool::pagable_deserialize(alloc, deserializer)?;
-    Ok(Value::Bool(flag))
-}
-
-// Reads a number after its case: JsonNumber where its flag says that it is a float.
-#[tactic(auto, unfolding(pagable_model::specs::Reading::read, pagable_model::specs::Reading::read_with), using(crate::proofs::JsonRead::parts))]
-fn number_part<E: Env, D: PagableDeserializer<E>>(
-    alloc: Global,
-    deserializer: &mut D,
-) -> Result<Value, Error>
-    ensures { Reads E.Env D.PagableDeserializer (Is of_value) (part_of number_case) deserializer.old deserializer.new result }
-{
-    let float = read_flag(deserializer)?;
-    if float {
-        return Err(Error::JsonNumber);
-    }
-    let whole = i64::pagable_deserialize(alloc, deserializer)?;
-    Ok(Value::from(whole))
-}
-
-// Reads a text after its case.
-#[tactic(auto, unfolding(pagable_model::specs::Reading::read, pagable_model::specs::Reading::read_with), using(crate::proofs::JsonRead::parts))]
-fn text_part<E: Env, D: PagableDeserializer<E>>(
-    alloc: Global,
-    deserializer: &mut D,
-) -> Result<Value, Error>
-    ensures { Reads E.Env D.PagableDeserializer (Is of_value) (part_of text_case) deserializer.old deserializer.new result }
-{
-    let text = String::pagable_deserialize(alloc, deserializer)?;
-    Ok(Value::String(text))
 }
 
 /// Reads a JSON value. JsonCase where the case is above 5, JsonNumber where a number is a float, TooDeep for an array or
@@ -78,9 +59,21 @@ pub fn read_value<E: Env, D: PagableDeserializer<E>>(
     let case = read_case(deserializer)?;
     match case {
         0 => Ok(Value::Null),
-        1 => flag_part(alloc, deserializer),
-        2 => number_part(alloc, deserializer),
-        3 => text_part(alloc, deserializer),
+        1 => {
+            let flag = bool::pagable_deserialize(alloc, deserializer)?;
+            Ok(Value::Bool(flag))
+        }
+        2 => {
+            if read_flag(deserializer)? {
+                return Err(Error::JsonNumber);
+            }
+            let whole = i64::pagable_deserialize(alloc, deserializer)?;
+            Ok(Value::from(whole))
+        }
+        3 => {
+            let text = String::pagable_deserialize(alloc, deserializer)?;
+            Ok(Value::String(text))
+        }
         4 => array_part(alloc, deserializer),
         5 => object_part(alloc, deserializer),
         _ => Err(Error::JsonCase),

@@ -4,13 +4,21 @@
 ghost use Rattle.std.{specs.Int.w64, specs.String.string_bytes};
 ghost use Rattle.pagable_model.specs.{Gives.{memory, json_causes}, Lifted.{MeanAll, MeansPair}, Numbers.unsigned_form, Shape.{both, json, text}, Standing.Is};
 ghost use Rattle.serde_json.specs.{Data.{boolean, number, string, array, object}, View.{number_view, items_view, members_view}};
-ghost use Rattle.pagable_traits.specs.{JsonData.{of_data, of_value, of_key, long_or_no_memory}, JsonSteps.{Wrote, bytes, front, value as form, all}};
+ghost use Rattle.pagable_traits.specs.{JsonData.{of_data, of_value, of_key, long_or_no_memory}, JsonSteps.{Wrote, bytes, front, value as form, all}, OwnCauses.writes_json};
 
 use crate::traits::PagableSerialize;
 use pagable_codec::{Env, PagableSerializer, parts};
 use pagable_flavors::Error;
 use serde_json::{Number, Value};
 use std::collections::BTreeMap;
+
+impl<E: Env> PagableSerialize<E> for Value {
+    ghost write_causes = { writes_json };
+
+    fn pagable_serialize<S: PagableSerializer<E>>(&self, serializer: &mut S) -> Result<(), Error> {
+        write_value(self, serializer)
+    }
+}
 
 // Writes the number of a case.
 #[tactic(auto, using(pagable_codec::proofs::Writing::parts, pagable_codec::proofs::Adding::steps, crate::proofs::Parts::err_along))]

@@ -5,8 +5,9 @@ ghost use Rattle.pagable_model.specs.{Writing.{nesting, WritesSome, WritesSomeAl
 ghost use Rattle.pagable_model.specs.{Standing.{handles_at, MovesOn, GivesSome}, Lifted.{MeanAll, MeansList}};
 ghost use Rattle.pagable_traits.specs.{Meanings.{seen_by, lists, lists_single}, OwnCauses.{reads_memory_or, writes_memory_or, writes_long_or}};
 
-use crate::impls::collecting::{Collects, collect_items, read_collected};
-use crate::impls::walks::{write_counted, write_each};
+use crate::impls::collecting::{
+    Collects, collect_items, read_collected, write_counted, write_each,
+};
 use crate::traits::{Carried, OneMeaning, PagableDeserialize, PagableSerialize};
 use pagable_codec::{Env, PagableDeserializer, PagableSerializer};
 use pagable_flavors::Error;
@@ -178,7 +179,7 @@ impl<'a, E: Env, T: OneMeaning<E>> OneMeaning<E> for &'a [T] {
 impl<'a, E: Env, T: PagableSerialize<E>> PagableSerialize<E> for &'a [T] {
     ghost write_causes = { writes_long_or T.write_causes };
 
-    #[tactic(auto, using(pagable_codec::proofs::Writing::parts, crate::proofs::Slices::runs))]
+    #[tactic(auto, using(pagable_codec::proofs::Writing::parts, crate::proofs::Items::runs))]
     fn pagable_serialize<S: PagableSerializer<E>>(&self, serializer: &mut S) -> Result<(), Error> {
         if self.len() > LONGEST {
             return Err(Error::TooLong);
@@ -233,7 +234,7 @@ impl<E: Env, T: OneMeaning<E>, const N: usize> OneMeaning<E> for [T; N] {
 impl<E: Env, T: PagableSerialize<E>, const N: usize> PagableSerialize<E> for [T; N] {
     ghost write_causes = { T.write_causes };
 
-    #[tactic(auto, using(crate::proofs::Slices::arrays))]
+    #[tactic(auto, using(crate::proofs::Items::arrays))]
     fn pagable_serialize<S: PagableSerializer<E>>(&self, serializer: &mut S) -> Result<(), Error> {
         write_items(self.as_slice(), serializer)
     }

@@ -1,17 +1,22 @@
-//! Maps.
+//! Maps and sets: in order of their keys, in order of arrival, and in no order.
 
-ghost use Rattle.std.{specs.Prelude.{◌≡◌, OnOk, IfErr}, specs.BTreeMap.insert_entry};
-ghost use Rattle.pagable_model.specs.{Lifted.MeansPair, Gives.either, Shape.{both, sorted_map}, Writing.{nesting, WritesSome, Refused, Grows}};
-ghost use Rattle.pagable_traits.specs.{Meanings.{seen_by, lists, pairs, lists_single, pairs_single}, OwnCauses.{reads_memory_or, reads_either, writes_memory_or, writes_either, writes_long_or}};
+ghost use Rattle.std.specs.{Prelude.{◌≡◌, ◌≤◌, OnOk, IfErr}, BTreeMap.insert_entry, BTreeSet.insert_key, HashMap.spare};
+ghost use Rattle.indexmap.specs.IndexMap as placed_maps;
+ghost use Rattle.indexmap.specs.IndexSet as placed_sets;
+ghost use Rattle.pagable_model.specs.{Lifted.MeansPair, Gives.either, Hashed.PutsAnywhere, Writing.{nesting, WritesSome, Refused, Grows}};
+ghost use Rattle.pagable_model.specs.Shape.{both, hash_map, placed_map, placed_set, sorted_map, sorted_set};
+ghost use Rattle.pagable_traits.specs.Meanings.{seen_by, lists, pairs, hash_maps, lists_single, pairs_single, hash_maps_single};
+ghost use Rattle.pagable_traits.specs.OwnCauses.{reads_memory_or, reads_either, writes_memory_or, writes_either, writes_long_or};
 
-use crate::impls::collecting::{Collects, read_collected};
-use crate::impls::walks::write_counted;
-use crate::keys::PagableOrdKey;
+use crate::impls::collecting::{Collects, read_collected, write_counted};
+use crate::keys::{PagableKey, PagableOrdKey};
 use crate::traits::{Carried, OneMeaning, PagableDeserialize, PagableSerialize};
+use indexmap::{IndexMap, IndexSet};
 use pagable_codec::{Env, PagableDeserializer, PagableSerializer};
 use pagable_flavors::Error;
 use std::alloc::Global;
-use std::collections::BTreeMap;
+use std::collections::{BTreeMap, BTreeSet, HashMap};
+use std::hash::Hash;
 
 /// Writes a key and its value, one after the other. A refusal is the key's, or else the value's.
 #[tactic(auto, using(crate::proofs::Joined::pairs))]
@@ -65,7 +70,8 @@ impl<E: Env, K: PagableOrdKey<E> + PagableSerialize<E>, V: PagableSerialize<E>> 
     ghost write_causes = { writes_long_or (writes_memory_or (writes_either K.write_causes V.write_causes)) };
 
     fn pagable_serialize<S: PagableSerializer<E>>(&self, serializer: &mut S) -> Result<(), Error> {
-        write_counted(self.len(), self.iter(), serializer)
+        let entries = self.iter();
+        write_counted(self.len(), entries, serializer)
     }
 }
 
@@ -75,6 +81,220 @@ impl<
     K: PagableOrdKey<E> + PagableDeserialize<'de, E> + Drop,
     V: PagableDeserialize<'de, E> + Drop,
 > PagableDeserialize<'de, E> for BTreeMap<K, V> {
+    ghost read_causes = { reads_memory_or (reads_either K.read_causes V.read_causes) };
+
+    fn pagable_deserialize<D: PagableDeserializer<E>>(
+        alloc: Global,
+        deserializer: &mut D,
+    ) -> Result<Self, Error> {
+        read_collected(alloc, deserializer)
+    }
+}
+
+/// An item that is there already changes nothing.
+impl<T: Ord + Drop> Collects<T> for BTreeSet<T> {
+    ghost held = { λ s. s.keys };
+
+    ghost puts = { λ ys y zs. zs ≡ insert_key T.cmp ys y };
+
+    ghost has_room = { λ s n. Unit {0} };
+
+    fn with_places(alloc: Global, _places: usize) -> Result<Self, Error> {
+        Ok(BTreeSet::new(alloc))
+    }
+
+    fn put_in(&mut self, item: T) -> Result<(), Error> {
+        self.insert(item)?;
+        Ok(())
+    }
+}
+
+impl<E: Env, T: PagableOrdKey<E>> Carried<E> for BTreeSet<T> {
+    ghost shape = { λ e. sorted_set T.order (T.shape e) };
+
+    ghost means = { seen_by (λ s. s.keys) (lists T.means) };
+}
+
+impl<E: Env, T: PagableOrdKey<E>> OneMeaning<E> for BTreeSet<T> {
+    ghost single = { λ s. lists_single T.Carried.means T.single s.keys };
+}
+
+impl<E: Env, T: PagableOrdKey<E> + PagableSerialize<E>> PagableSerialize<E> for BTreeSet<T> {
+    ghost write_causes = { writes_long_or (writes_memory_or T.write_causes) };
+
+    fn pagable_serialize<S: PagableSerializer<E>>(&self, serializer: &mut S) -> Result<(), Error> {
+        write_counted(self.len(), self.iter(), serializer)
+    }
+}
+
+impl<'de, E: Env, T: PagableOrdKey<E> + PagableDeserialize<'de, E> + Drop> PagableDeserialize<
+    'de,
+    E,
+> for BTreeSet<T> {
+    ghost read_causes = { reads_memory_or T.read_causes };
+
+    fn pagable_deserialize<D: PagableDeserializer<E>>(
+        alloc: Global,
+        deserializer: &mut D,
+    ) -> Result<Self, Error> {
+        read_collected(alloc, deserializer)
+    }
+}
+
+/// An entry whose key is there already gives its value to the key that stands, in its place.
+impl<K: Eq + Hash + Drop, V: Drop> Collects<(K, V)> for IndexMap<K, V> {
+    ghost held = { λ m. m.entries };
+
+    ghost puts = { λ es e fs. fs ≡ placed_maps.insert_entry K.eq es e.0 e.1 };
+
+    ghost has_room = { λ m n. n ≤ placed_maps.spare m };
+
+    fn with_places(alloc: Global, places: usize) -> Result<Self, Error> {
+        Ok(IndexMap::with_capacity(alloc, places)?)
+    }
+
+    fn put_in(&mut self, item: (K, V)) -> Result<(), Error> {
+        let (key, value) = item;
+        self.insert_full(key, value)?;
+        Ok(())
+    }
+}
+
+impl<E: Env, K: PagableKey<E> + Hash, V: Carried<E>> Carried<E> for IndexMap<K, V> {
+    ghost shape = { λ e. placed_map (K.shape e) (V.shape e) };
+
+    ghost means = { seen_by (λ m. m.entries) (lists (pairs K.means V.means)) };
+}
+
+impl<E: Env, K: PagableKey<E> + Hash, V: OneMeaning<E>> OneMeaning<E> for IndexMap<K, V> {
+    ghost single = { λ m. lists_single (pairs K.Carried.means V.Carried.means) (pairs_single K.Carried.means V.Carried.means K.single V.single) m.entries };
+}
+
+impl<
+    E: Env,
+    K: PagableKey<E> + Hash + PagableSerialize<E>,
+    V: PagableSerialize<E>,
+> PagableSerialize<E> for IndexMap<K, V> {
+    ghost write_causes = { writes_long_or (writes_memory_or (writes_either K.write_causes V.write_causes)) };
+
+    fn pagable_serialize<S: PagableSerializer<E>>(&self, serializer: &mut S) -> Result<(), Error> {
+        write_counted(self.len(), self.iter(), serializer)
+    }
+}
+
+impl<
+    'de,
+    E: Env,
+    K: PagableKey<E> + Hash + PagableDeserialize<'de, E> + Drop,
+    V: PagableDeserialize<'de, E> + Drop,
+> PagableDeserialize<'de, E> for IndexMap<K, V> {
+    ghost read_causes = { reads_memory_or (reads_either K.read_causes V.read_causes) };
+
+    fn pagable_deserialize<D: PagableDeserializer<E>>(
+        alloc: Global,
+        deserializer: &mut D,
+    ) -> Result<Self, Error> {
+        read_collected(alloc, deserializer)
+    }
+}
+
+/// An item that is there already changes nothing, its place included.
+impl<T: Eq + Hash + Drop> Collects<T> for IndexSet<T> {
+    ghost held = { λ s. s.keys };
+
+    ghost puts = { λ ys y zs. zs ≡ placed_sets.insert_key T.eq ys y };
+
+    ghost has_room = { λ s n. n ≤ placed_sets.spare s };
+
+    fn with_places(alloc: Global, places: usize) -> Result<Self, Error> {
+        Ok(IndexSet::with_capacity(alloc, places)?)
+    }
+
+    fn put_in(&mut self, item: T) -> Result<(), Error> {
+        self.insert_full(item)?;
+        Ok(())
+    }
+}
+
+impl<E: Env, T: PagableKey<E> + Hash> Carried<E> for IndexSet<T> {
+    ghost shape = { λ e. placed_set (T.shape e) };
+
+    ghost means = { seen_by (λ s. s.keys) (lists T.means) };
+}
+
+impl<E: Env, T: PagableKey<E> + Hash> OneMeaning<E> for IndexSet<T> {
+    ghost single = { λ s. lists_single T.Carried.means T.single s.keys };
+}
+
+impl<E: Env, T: PagableKey<E> + Hash + PagableSerialize<E>> PagableSerialize<E> for IndexSet<T> {
+    ghost write_causes = { writes_long_or (writes_memory_or T.write_causes) };
+
+    fn pagable_serialize<S: PagableSerializer<E>>(&self, serializer: &mut S) -> Result<(), Error> {
+        write_counted(self.len(), self.iter(), serializer)
+    }
+}
+
+impl<'de, E: Env, T: PagableKey<E> + Hash + PagableDeserialize<'de, E> + Drop> PagableDeserialize<
+    'de,
+    E,
+> for IndexSet<T> {
+    ghost read_causes = { reads_memory_or T.read_causes };
+
+    fn pagable_deserialize<D: PagableDeserializer<E>>(
+        alloc: Global,
+        deserializer: &mut D,
+    ) -> Result<Self, Error> {
+        read_collected(alloc, deserializer)
+    }
+}
+
+/// An entry whose key is there already gives its value to the key that stands.
+impl<K: Eq + Hash + Drop, V: Drop> Collects<(K, V)> for HashMap<K, V> {
+    ghost held = { λ m. m.entries };
+
+    ghost puts = { λ es e fs. PutsAnywhere K.eq es e fs };
+
+    ghost has_room = { λ m n. n ≤ spare m };
+
+    fn with_places(alloc: Global, places: usize) -> Result<Self, Error> {
+        Ok(HashMap::with_capacity(alloc, places)?)
+    }
+
+    fn put_in(&mut self, item: (K, V)) -> Result<(), Error> {
+        self.insert(item.0, item.1)?;
+        Ok(())
+    }
+}
+
+/// A map means its entries whatever their order, so equal maps mean the same. It may be written in any order.
+impl<E: Env, K: PagableKey<E> + Hash, V: Carried<E>> Carried<E> for HashMap<K, V> {
+    ghost shape = { λ e. hash_map (K.shape e) (V.shape e) };
+
+    ghost means = { seen_by (λ m. m.entries) (hash_maps K.means V.means) };
+}
+
+impl<E: Env, K: PagableKey<E> + Hash, V: OneMeaning<E>> OneMeaning<E> for HashMap<K, V> {
+    ghost single = { λ m. hash_maps_single K.Carried.means V.Carried.means K.single V.single m.entries };
+}
+
+impl<
+    E: Env,
+    K: PagableKey<E> + Hash + PagableSerialize<E>,
+    V: PagableSerialize<E>,
+> PagableSerialize<E> for HashMap<K, V> {
+    ghost write_causes = { writes_long_or (writes_memory_or (writes_either K.write_causes V.write_causes)) };
+
+    fn pagable_serialize<S: PagableSerializer<E>>(&self, serializer: &mut S) -> Result<(), Error> {
+        write_counted(self.len(), self.iter(), serializer)
+    }
+}
+
+impl<
+    'de,
+    E: Env,
+    K: PagableKey<E> + Hash + PagableDeserialize<'de, E> + Drop,
+    V: PagableDeserialize<'de, E> + Drop,
+> PagableDeserialize<'de, E> for HashMap<K, V> {
     ghost read_causes = { reads_memory_or (reads_either K.read_causes V.read_causes) };
 
     fn pagable_deserialize<D: PagableDeserializer<E>>(

@@ -1,4 +1,4 @@
-use Rattle.pagable_traits.proofs.{Placed.key_same, Hashed.hash_maps_mean_alike}
+use Rattle.pagable_traits.proofs.{Maps.key_same, Hashed.hash_maps_mean_alike}
 use Rattle.pagable_traits.proofs.laws.hash_map_is_carried.Goals as goal
 
 pub returns-clause-any_order : goal.returns-clause-any_order

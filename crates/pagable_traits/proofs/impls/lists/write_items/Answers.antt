@@ -1,8 +1,8 @@
-use Rattle.pagable_traits.proofs.{Words.some, Walks.shows_slice, Walks.written_each, Walks.refused_each, InTurn.owed}
+use Rattle.pagable_traits.proofs.{Words.some, Parts.{ok_along, err_along}, Walks.{each-refused, each-written, owed, shows_slice}}
 use Rattle.pagable_traits.proofs.impls.lists.write_items.Goals as goal
 
 pub returns : goal.returns
 returns g c =
-    owed g.S.PagableSerializer c.write_each.result _ _ _ _ _ c.write_each.ensures
-    (written_each c.write_each.result (shows_slice g.T.Carried.means.of c.args.values.now c.iter.ensures.rest) _ _ _ _ c.write_each.ensures.ok)
-    (refused_each c.write_each.result (shows_slice g.T.Carried.means.of c.args.values.now c.iter.ensures.rest) (some g.T.Carried.means) _ _ c.write_each.ensures.refused)
+    let shows = shows_slice g.T.Carried.means.of c.args.values.now c.iter.ensures.rest in
+    owed g.S.PagableSerializer c.write_each.result _ _ _ _ _ c.write_each.ensures (ok_along c.write_each.result c.write_each.ensures.ok (λ w. each-written shows _ _ _ _ w))
+    (err_along c.write_each.result c.write_each.ensures.refused (λ e h. each-refused shows (some g.T.Carried.means) _ _ e h))

@@ -1,7 +1,0 @@
-use Rattle.pagable_traits.proofs.{Placed.key_same, Placed.reads_placed_map}
-use Rattle.pagable_traits.proofs.impls.placed.IndexMapPagableDeserialize.pagable_deserialize.Goals as goal
-
-pub returns-clause-gives : goal.returns-clause-gives
-returns-clause-gives g c =
-    let same = key_same g.K.Carried.means.of g.K.Carried.means.meaning g.met.K.OneMeaning.single g.K.PartialEq.eq g.met.K.PagableKey.key.same g.met.K.Eq.laws in
-    reads_placed_map _ g.K.Carried.means.of g.V.Carried.means.of g.K.PartialEq.eq same c.read_collected.result (λ x. x.entries) _ _ _ _ _ c.read_collected.ensures.gives
