@@ -9,8 +9,8 @@ use Rattle.{pagable_world.specs.declared.handles.Owner.Owner, pagable_laws.proof
 use Rattle.pagable_laws.proofs.SparingSteps.{none-shorter, Spares, spares-then}
 use Rattle.pagable_loads.proofs.Stepped.{acts_all, acts_from, acts_map, acts_same, acts_then, tells_map}
 use Rattle.{pagable_loads.specs.{Telling.{Acting, as_caller}, Working.{StartsEntry, RefusesEntry}}, pagable_walk.proofs.{Pinning.same-shelf, Turning.{alike, plain-fits}}}
-use Rattle.{pagable_laws.proofs.Answered.{item-answered, entry-answered}, pagable_walk.specs.{Over.{PagesItem, PagesList, PagesEntry, Skipped, SkipsEntry, PagesAt, HasPaged}, Slots.no_claims, Tasks.IsPlain}}
-use Rattle.pagable_walk.specs.{Tasks.todo_of, Turns.{Fits, plain, RunsTo, Walked}, declared.{results.Trees.Ghosts, table.PageOutError.PageOutError, tasks.Task.Task}}
+use Rattle.{pagable_laws.proofs.Answered.{item-answered, entry-answered}, pagable_walk.specs.{Over.{PagesItem, PagesList, PagesEntry, Skipped, SkipsEntry, PagesAt, HasPaged}, Slots.no_claims}}
+use Rattle.pagable_walk.specs.{Tasks.{IsPlain, todo_of}, Turns.{Fits, plain, RunsTo, Walked}, declared.{results.Trees.Ghosts, table.PageOutError.PageOutError, tasks.Task.Task}}
 
 -- whoever acts for the caller does so again after a worker
 pub is-caller : {E : Type 0} (acting : Acting E) → acting.me ≡ Owner.Caller → as_caller acting ≡ acting
@@ -88,6 +88,7 @@ module _ {N E : Type 0} (v : Values N) where
         let e : h ≡ k = cc (takes.step.0, listed) in
         subst (λ x. Skipped v s place x t) e (record { mid = mid; told = told; takes = rw mine at takes; releases = rw mine at releases });
   }
+
   pub at-past : (place : ℕ) (s : PagerState N E) → length s.core.list ≤ place → PagesAt v place (Ok tt) s s
   at-past place s past = record { done = λ whole within. absurd (omega (arith, past, within)) }
 

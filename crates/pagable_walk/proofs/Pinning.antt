@@ -54,7 +54,7 @@ pin-pins w w' me r h k low stands c =
 pub at-once-pins : (w w' : Core) (me : Owner) (r : ArcRef) (through k : HandleNumber) → HandlesAreWhole w → StandsAt w r r.handle → PinsAtOnce w me r through k w' → HoldsPin w' me r k
 at-once-pins w w' me r through k whole stands does = elim does [
   | inl (is, same, clone) ↦ clone-pins w w' me r k whole stands is clone
-  | inr (is, (mid, clone, pin)) ↦ pin-pins mid w' me r through k (low-handle w mid clone.made.0.node clone.made.0.mode me (low-whole whole) clone.made.3) (clone-stands whole r through stands clone) pin
+  | inr (is, (mid, copy, pin)) ↦ pin-pins mid w' me r through k (low-handle w mid copy.made.0.node copy.made.0.mode me (low-whole whole) copy.made.3) (clone-stands whole r through stands copy) pin
 ]
 
 -- ---- a load that has begun

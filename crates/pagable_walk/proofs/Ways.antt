@@ -1,6 +1,6 @@
 -- A path that leads to what is done next goes on so.
-use Rattle.std.proofs.Common.{ℕ, zero, suc, ◌≡◌, ◌≤◌, ◌+◌, Bool, List, [], ◌∷◌, ◌++◌, length, drop, refl, sym, ap, ◌∙◌, subst, arith, Some, slice_get, if◌then◌else◌}
-use Rattle.{std.{proofs.lemmas.{Bool.Decides.nat_tests, List.length-append, Option.{none-some, slice_get_within}}, specs.Prelude.{max, None, Option}}, pagable_model.specs.declared.numbers.ArcRef.ArcRef}
+use Rattle.std.proofs.Common.{ℕ, zero, suc, ◌≡◌, ◌≤◌, ◌+◌, Bool, List, [], ◌∷◌, ◌++◌, length, drop, refl, sym, ap, ◌∙◌, subst, arith, None, Option, Some, slice_get, if◌then◌else◌}
+use Rattle.{std.{proofs.lemmas.{Bool.Decides.nat_tests, List.length-append, Option.{none-some, slice_get_within}}, specs.Prelude.max}, pagable_model.specs.declared.numbers.ArcRef.ArcRef}
 use Rattle.{pagable_world.specs.{World.{to_finish, to_item, Written}, Plain.{above, is_eager, longest_path}, Workers.{give, give_known, next_start, settle}}, pagable_walk.specs.Tasks.Awaits}
 use Rattle.{pagable_world.specs.World.{Open, Todo}, pagable_walk.{specs.{Tasks.{AwaitsLow, Gives, IsWay, TakesNext, waits_as}, declared.tasks.Node.Node}, proofs.Waits.some-same}}
 
