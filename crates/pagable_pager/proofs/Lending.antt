@@ -6,7 +6,7 @@ use Rattle.pagable_pager.proofs.Words.{IsNext, BeginCall, GetsKnown, LazyCall, A
 use Rattle.pagable_pager.proofs.Words.{stands-alike, stands-fell, among-found, row-pins, same_some, pinned-here, StartsPin, begun_is, IsMade, PagerView, Telling, core_in, state_in, nat_tests}
 use Rattle.pagable_pager.proofs.Words.{Bool, refl, false, if◌then◌else◌, type_of, owner_value, row_of, with_node, with_cached, next_node, is_named_by, AreUpTo, stands-new, named-among, adopted}
 use Rattle.{pagable_loads.specs.declared.starting.PinStart.PinStart, pagable_world.specs.declared.{answers.Beginning.Beginning, calls.Want.Want}, either.specs.declared.Either.Either}
-use Rattle.{pagable_laws.proofs.Outlasting.{low-changed, low-whole, new-handle}, pagable_steps.proofs.Spared.not-load, pagable_pager.specs.Calling.{Calls, CallsLess}}
+use Rattle.{pagable_laws.proofs.{Outlasting.{low-changed, low-whole, new-handle}, ReadingSteps.cached-rows}, pagable_steps.proofs.Spared.not-load, pagable_pager.specs.View.{Calls, CallsLess}}
 use Rattle.std.proofs.lemmas.Bool.{false_from_ne_true}
 
 -- what a call does to a pager of which no value comes
@@ -46,22 +46,12 @@ module _ {w : Core} (whole : HandlesAreWhole w) where
     -- of a new node
     born_live : (l : LoadNumber) (kind : Kind) (key : ℕ) (own : OptionalDataKey) (references : List ArcRef) → Alike (adopted w l kind key own references) w'
         → Stands w'.last.handle w'.rows (w.last.handle + 1) (row_of (w.last.handle + 1) (next_node w) (mode_of kind.0) (Owner.Load l))
-    born_live l kind key own references a = by w.closed a
-      where
-        born : Core
-        born = with_node w (type_of kind.0) own references
-
-        made : Core
-        made = with_handle born (next_node w) (mode_of kind.0) (Owner.Load l)
-
-        few : AreUpTo w.last.handle born.rows
-        few = low-changed w.last.handle w.rows (λ x. is_named_by references x.number.0) (λ x. record x { owner = owner_value (w.last.node + 1) }) (λ x. refl) (low-whole whole)
-
-        by : (b : Bool) → Alike (if b then made else with_cached made kind key (next_node w)) w' → Stands w'.last.handle w'.rows (w.last.handle + 1)
-            (row_of (w.last.handle + 1) (next_node w) (mode_of kind.0) (Owner.Load l))
-        by true a = stands-alike {w = made} a (stands-new w.last.handle born.rows (row_of (w.last.handle + 1) (next_node w) (mode_of kind.0) (Owner.Load l)) few refl)
-        by false a =
-            stands-alike {w = with_cached made kind key (next_node w)} a (stands-new w.last.handle born.rows (row_of (w.last.handle + 1) (next_node w) (mode_of kind.0) (Owner.Load l)) few refl)
+    born_live l kind key own references a =
+        let born : Core = with_node w (type_of kind.0) own references in
+        let few = low-changed w.last.handle w.rows (λ x. is_named_by references x.number.0) (λ x. record x { owner = owner_value (w.last.node + 1) }) (λ x. refl) (low-whole whole) in
+        let made = new-handle born (next_node w) (mode_of kind.0) (Owner.Load l) few in
+        let rows = cached-rows (with_handle born (next_node w) (mode_of kind.0) (Owner.Load l)) kind key (next_node w) in
+        stands-alike a (record { live = rw rows.0 made.live; only = rw rows.0 made.only; given = rw rows.1 made.given })
 
     live_at : {row : HandleRow} (k : HandleNumber) → IsNext k w → Stands w'.last.handle w'.rows (w.last.handle + 1) row → IsSome (row_at w' k)
     live_at k next s = found_some (ap (λ n. find_row n w'.rows) next.above ∙ s.live)

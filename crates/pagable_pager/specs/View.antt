@@ -108,3 +108,13 @@ abbrev pub is_at_work : Core → Owner → Bool
 is_at_work w Owner.Caller = true
 is_at_work w (Owner.Worker v) = w.workers v.0
 is_at_work w _ = false
+
+-- a call's step in the plain world, by which values, storage and environment stay
+pub record Calls {N S E : Type 0} (tells : Telling S) (old : PagerView N S E) (makes : Core → Core → Type 0) (new : PagerView N S E) : Type 0 where
+  pub step : makes (core_in tells old) (core_in tells new)
+  pub only : OnlyTables old new
+
+-- the same, where values may go
+pub record CallsLess {N S E : Type 0} (tells : Telling S) (old : PagerView N S E) (makes : Core → Core → Type 0) (new : PagerView N S E) : Type 0 where
+  pub step : makes (core_in tells old) (core_in tells new)
+  pub only : OnlyLess old new

@@ -3,8 +3,7 @@
 ghost use Rattle.std.specs.Prelude.{◌≡◌, true, ◌<◌, ◌≤◌, length, IfSome, IfNone, IfOk, IfErr};
 ghost use Rattle.pagable_world.specs.{Kinds.{is_loose, loose_kind, HasKinds, HasNoKinds}, World.key_at};
 ghost use Rattle.{pagable_world.specs.{Cascade.FallsAnyhow, Calls.Looks, Workers.{claim_fault, is_workers_at, WorkerEnds}, Events.IsEntry}, pagable_tables.specs.Giving.{BeginsWorker, TakesWorker}};
-ghost use Rattle.{pagable_loads.specs.Working.TakesReference, pagable_pager.specs.{Clones.PinsClone, Made.{TakesEntry, LeavesEntry}, View.{core_in, telling, OnlyTables, is_at_work}, Calling.Calls}};
-ghost use Rattle.pagable_pager.specs.Calling.{CallsLess};
+ghost use Rattle.{pagable_loads.specs.Working.TakesReference, pagable_pager.specs.{Made.{PinsClone, TakesEntry, LeavesEntry}, View.{core_in, telling, OnlyTables, is_at_work, Calls, CallsLess}}};
 
 use crate::pager::Pager;
 use pagable_codec::{Env, NodeSet};
