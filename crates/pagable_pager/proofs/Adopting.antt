@@ -2,7 +2,7 @@
 use Rattle.pagable_pager.proofs.Words.{◌≡◌, ℕ, ◌+◌, ◌<◌, List, ap, sym, subst, ◌∙◌, refl, Option, Some, None, Ok, Err, nat_eq, inl, arith, ◌≢◌, not, Result, IfOk, IfErr, IfSome, IfNone, get}
 use Rattle.pagable_pager.proofs.Words.{OptionalDataKey, ArcRef, Kind, LoadNumber, HandleNumber, Owner, Error, if_there, is_owner, Core, OpenLoad, Alike, usable, Refused, load_fault, closed_fault}
 use Rattle.pagable_pager.proofs.Words.{refused_if, adopted, adopt_fault, AdoptCall, Adopts, IsNewNode, Moves, adopted_known, stayed, spares-alike, Tables, counts_at, IsWhole, Sheds, AreLater}
-use Rattle.pagable_pager.proofs.Words.{OnlyRoom, earlier-first, told-later, still, PagerView, Telling, Spelling, ValuesByNode, IsPager, OnlyLess, core_in, state_in, value_in, values_of, nat_tests}
+use Rattle.pagable_pager.proofs.Words.{OnlyRoom, earlier, earlier-first, told-later, still, PagerView, Telling, Spelling, ValuesByNode, IsPager, OnlyLess, core_in, state_in, value_in, values_of, nat_tests}
 use Rattle.pagable_pager.proofs.Words.{greatest, plain_of, first_key, next-past, early-past, refused-memory, refused-new, adopted-past, Blob, Bool, false, core_of, adopts-new as made-new}
 use Rattle.{pagable_pager.proofs.{Shed.{shed, in-step}, Births.{told, moved-in}, Shut.{adopts-bare, bare-alike}}, pagable_tables.specs.{Asking.early_fault, Doing.Does}}
 use Rattle.{pagable_world.specs.Calls.{IsNext, birth_fault}, pagable_steps.proofs.Births.adopts-new}
@@ -34,11 +34,11 @@ module _ {N S E : Type 0} (tells : Telling S) (g : Spelling N E) (p : PagerView 
       stays-so (subst (λ (x : Tables). Alike (core_in tells p) (core_in tells (record p { tables = x; values = values }))) (sym same) (still (core_in tells p)))
   found-so me l kind key u rs (Err e) known given same refused = stays-so refused.stays
 
--- why what a load has read becomes no node, where its references weren't had
-pub unlisted-gone : (w : Core) (me : Owner) (l : LoadNumber) (kind : Kind) (key u : ℕ) (rs : List ArcRef) → w.loads l.0 ≡ None → Refused (adopt_fault w me l kind key u rs) (closed_fault w l) (Unit {0}) w Error.NoSuchHandle w
-unlisted-gone w me l kind key u rs gone =
+-- why what a load has read neither becomes a node nor ends the load, where its references weren't had
+pub unlisted-gone : (w : Core) (me : Owner) (l : LoadNumber) (later : Option Error) → w.loads l.0 ≡ None → Refused (earlier (load_fault w me l) later) (closed_fault w l) (Unit {0}) w Error.NoSuchHandle w
+unlisted-gone w me l later gone =
     let is : load_fault w me l ≡ Some Error.NoSuchHandle = ap (if_there (λ (load : OpenLoad). refused_if (not (is_owner me load.owner)) Error.NotYours) (Some Error.NoSuchHandle)) gone in
-    record { why = inl (earlier-first (load_fault w me l) _ Error.NoSuchHandle is (λ f late. omega (arith))); stays = still w }
+    record { why = inl (earlier-first (load_fault w me l) later Error.NoSuchHandle is (λ f late. omega (arith))); stays = still w }
 
 -- fewer values are there, and no other
 pub less-moves : {N S E : Type 0} (tells : Telling S) {comes : ℕ → N → Type 0} (p q : PagerView N S E) → OnlyLess p q → Moves comes (state_in tells p) (state_in tells q)

@@ -109,9 +109,6 @@ pub owned-open : {w : Core} {me : Owner} {l : LoadNumber} {load : OpenLoad} → 
 owned-open o = ap (if_there (λ (load : OpenLoad). None) (Some Error.NoSuchHandle)) o.stands_open
 
 -- why a load doesn't end with a value whose references weren't had
-pub unread-gone : (w : Core) (me : Owner) (l : LoadNumber) (t : ℕ) (refs : List ArcRef) → w.loads l.0 ≡ None → Refused (end_fault w me l t refs) (closed_fault w l) (Unit {0}) w Error.NoSuchHandle w
-unread-gone w me l t refs gone = grind (arith, nat_tests, earlier-first, still)
-
 pub unread-open : (w : Core) (l : LoadNumber) (load : OpenLoad) (cause : Option Error) → w.loads l.0 ≡ Some load → Refused cause (closed_fault w l) (Unit {0}) w Error.OutOfMemory w
 unread-open w l load cause is = record { why = inr (refl, ap (if_there (λ (load : OpenLoad). None) (Some Error.NoSuchHandle)) is, tt); stays = still w }
 

@@ -1,9 +1,9 @@
 //! Nodes that come, what loads have read becomes nodes, and loads of cells that end with a value.
 
 ghost use Rattle.std.specs.{Prelude.{◌≡◌, ◌≢◌, ◌<◌, ℕ, Some, IfOk, IfErr, OnOk, OnErr, true, not, nat_eq, List, Bool, Option, None, IfSome, IfNone}, Arc.arc_value, HashMap.{get, spare}};
-ghost use Rattle.pagable_world.specs.{Kinds.is_pinning, Calls.{BirthCall, AwayBirthCall}, Pager.{IsNewNode, IsCellOf, Moves}, Refusals.{load_fault, closed_fault, Refused}, Plain.Blob};
-ghost use Rattle.pagable_world.specs.{World.{Core, usable}, LoadCalls.{adopt_fault, end_fault, AdoptCall, Adopts, EndCall, EndRefused, Installs}};
-ghost use Rattle.pagable_pager.specs.{View.{core_in, state_in, telling, value_in, OnlyTables, OnlyLess, is_at_work}, Puts.PutsIn};
+ghost use Rattle.pagable_world.specs.{Kinds.is_pinning, Calls.{BirthCall, AwayBirthCall}, Pager.{IsNewNode, IsCellOf, Moves}, Refusals.{load_fault, closed_fault, earlier, Refused}, Plain.{Blob, Error}};
+ghost use Rattle.pagable_world.specs.{World.{Core, usable}, LoadCalls.{adopt_fault, AdoptCall, Adopts, EndCall, EndRefused, Installs}};
+ghost use Rattle.pagable_pager.specs.View.{core_in, state_in, telling, value_in, OnlyTables, OnlyLess, PutsIn, is_at_work};
 ghost use Rattle.{pagable_model.specs.declared.numbers.{ArcRef.ArcRef, Kind.Kind}, pagable_tables.specs.{Asking.early_fault, ByNumber.counts_at, Core.{core_of, plain_of, IsWhole}}};
 ghost use Rattle.pagable_tables.specs.{Falling.Sheds, Later.AreLater, Ready.{IsReady, HasPlace, Unends}};
 
@@ -272,11 +272,7 @@ where
 
     /// Why a load's value neither becomes a node nor ends the load, where its references can't be listed: the load isn't open, or memory is wanting.
     fn unlisted(&self, me: Owner, load: LoadNumber) -> Error
-        ensures adopts { (kind : Kind) (key node_type : ℕ) (references : List ArcRef) → Refused
-            (adopt_fault (core_in (telling S.stored S.is_closed S.failed) self.now) me load kind key node_type references)
-            (closed_fault (core_in (telling S.stored S.is_closed S.failed) self.now) load) (Unit {0}) (core_in (telling S.stored S.is_closed S.failed) self.now) result
-            (core_in (telling S.stored S.is_closed S.failed) self.now) }
-        ensures ends { (node_type : ℕ) (references : List ArcRef) → Refused (end_fault (core_in (telling S.stored S.is_closed S.failed) self.now) me load node_type references)
+        ensures { (later : Option Error) → Refused (earlier (load_fault (core_in (telling S.stored S.is_closed S.failed) self.now) me load) later)
             (closed_fault (core_in (telling S.stored S.is_closed S.failed) self.now) load) (Unit {0}) (core_in (telling S.stored S.is_closed S.failed) self.now) result
             (core_in (telling S.stored S.is_closed S.failed) self.now) }
     {
