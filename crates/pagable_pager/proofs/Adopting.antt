@@ -7,10 +7,6 @@ use Rattle.pagable_pager.proofs.Words.{greatest, plain_of, first_key, next-past,
 use Rattle.{pagable_pager.proofs.{Shed.{shed, in-step}, Births.{told, moved-in}, Shut.{adopts-bare, bare-alike}}, pagable_tables.specs.{Asking.early_fault, Doing.Does}}
 use Rattle.{pagable_world.specs.Calls.{IsNext, birth_fault}, pagable_steps.proofs.Births.adopts-new}
 
--- the new node has the next number
-pub adopted-node : (w : Core) {w' : Core} (l : LoadNumber) (kind : Kind) (key : ℕ) (own : OptionalDataKey) (rs : List ArcRef) → Alike (adopted w l kind key own rs) w' → w'.last.node ≡ w.last.node + 1
-adopted-node w l kind key own rs a = grind (arith, nat_tests)
-
 module _ {N S E : Type 0} (tells : Telling S) (g : Spelling N E) (p : PagerView N S E) (is : IsPager tells g p) (t : Tables) (values : ValuesByNode N)
     (whole : IsWhole t) (later : AreLater t) (sheds : Sheds (counts_at p.tables.holdings.nodes) (get nat_eq p.values) (counts_at t.holdings.nodes) (get nat_eq values)) where
   abbrev after : PagerView N S E
@@ -60,9 +56,6 @@ module _ {N S E : Type 0} {tells : Telling S} {g : Spelling N E} {p q : PagerVie
   fresh-in : (stored : ℕ → Option Blob) (closed : Bool) (failures : ℕ) → early_fault (core_of p.tables stored closed failures) me l kind (g.type_of x) rs ≡ None
   fresh-in stored closed failures = subst (λ (v : PagerView N S E). early_fault (core_of v.tables stored closed failures) me l kind (g.type_of x) rs ≡ None) (sym viewed) (fresh stored closed failures)
 
-  fresh-here : early_fault (core_in tells p) me l kind (g.type_of x) rs ≡ None
-  fresh-here = fresh-in (tells.stored p.storage) (tells.closed p.storage) (tells.failed p.storage)
-
   unknown-in : usable (plain_of p.tables) kind.0 key ≡ None
   unknown-in = subst (λ (v : PagerView N S E). usable (plain_of v.tables) kind.0 key ≡ None) (sym viewed) unknown
 
@@ -81,23 +74,20 @@ module _ {N S E : Type 0} {tells : Telling S} {g : Spelling N E} {p q : PagerVie
 
   pub new-refused : {w' : Core} {e : Error} → Refused (birth_fault (core_in tells p)) (birth_fault (core_in tells p)) (Unit {0}) (core_in tells p) e w'
       → AdoptCall (core_in tells p) me l kind key x (g.type_of x) (g.refs_of x) (Err (e, x)) w'
-  new-refused r = not-adopted refl (refused-new (core_in tells p) me l kind key (g.type_of x) rs fresh-here unknown-in r)
+  new-refused r = not-adopted refl (refused-new (core_in tells p) me l kind key (g.type_of x) rs (fresh-in _ _ _) unknown-in r)
 
   module _ {t1 : Tables} (mid : ValuesByNode N) (room : Does p.tables OnlyRoom t1) where
-    plain-room : OnlyRoom (plain_of p.tables) (plain_of t1)
-    plain-room = room.does (λ key. None) false 0
-
     here-room : OnlyRoom (core_in tells p) (core_in tells (record p { tables = t1; values = mid }))
     here-room = room.does (tells.stored p.storage) (tells.closed p.storage) (tells.failed p.storage)
 
     pub new-asked : early_fault (plain_of t1) me l kind (g.type_of x) rs ≡ None
-    new-asked = early-past me l kind (g.type_of x) rs plain-room ∙ fresh-in (λ key. None) false 0
+    new-asked = early-past me l kind (g.type_of x) rs (room.does (λ key. None) false 0) ∙ fresh-in (λ key. None) false 0
 
     pub new-unknown : usable (plain_of t1) kind.0 key ≡ None
-    new-unknown = ap (λ (u : Core). usable u kind.0 key) plain-room.same ∙ unknown-in
+    new-unknown = ap (λ (u : Core). usable u kind.0 key) (room.does (λ key. None) false 0).same ∙ unknown-in
 
     pub new-memory : {y : N} → y ≡ x → AdoptCall (core_in tells p) me l kind key x (g.type_of x) (g.refs_of x) (Err (Error.OutOfMemory, y)) (core_in tells (record p { tables = t1; values = mid }))
-    new-memory back = not-adopted back (refused-memory (core_in tells p) me l kind key (g.type_of x) rs fresh-here here-room)
+    new-memory back = not-adopted back (refused-memory (core_in tells p) me l kind key (g.type_of x) rs (fresh-in _ _ _) here-room)
 
     module _ (same : (n : ℕ) → value_in mid n ≡ value_in p.values n) (t2 : Tables) (values : ValuesByNode N) {y : N} (shared : y ≡ x) (here : value_in values t2.last_node ≡ Some y)
         (others : (n : ℕ) → n ≢ t2.last_node → value_in values n ≡ value_in mid n) {k : HandleNumber} {lists : Bool} (opens : lists ≡ not (tells.closed p.storage)) (left : t1.last_node < greatest)
@@ -113,11 +103,11 @@ module _ {N S E : Type 0} {tells : Telling S} {g : Spelling N E} {p q : PagerVie
       adopts : Adopts (core_in tells p) me l kind key (g.type_of x) (g.refs_of x) k (core_in tells learned)
       adopts =
           subst (λ z. Adopts (core_in tells p) me l kind key (g.type_of x) z k (core_in tells learned)) listed
-          (made-new (core_in tells p) me l kind key (g.type_of x) rs fresh-here unknown-in k (subst (λ (u : Core). u.last.node < greatest) here-room.same left)
+          (made-new (core_in tells p) me l kind key (g.type_of x) rs (fresh-in _ _ _) unknown-in k (subst (λ (u : Core). u.last.node < greatest) here-room.same left)
           (next-past here-room (next (tells.stored p.storage) (tells.closed p.storage) (tells.failed p.storage))) leaves)
 
       last : t2.last_node ≡ p.tables.last_node + 1
-      last = adopted-node (core_in tells p) l kind key (first_key kind.0 key) rs leaves
+      last = let a = leaves in grind (arith, nat_tests)
 
       pub new-told : AdoptCall (core_in tells p) me l kind key x (g.type_of x) (g.refs_of x) (Ok k) (core_in tells learned) × Moves (λ n z. (z ≡ x) × IsNewNode (core_in tells p) n)
           (state_in tells p) (state_in tells learned)

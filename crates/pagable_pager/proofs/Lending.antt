@@ -35,9 +35,6 @@ stored_key r c = grind (arith, nat_tests)
 
 -- ---- the handle that a load gets is live
 
-found_some : {X : Type 0} {o : Option X} {x : X} → o ≡ Some x → IsSome o
-found_some e = ap is_some e
-
 pub made_so : {w : Core} {kind : Kind} {h : HandleNumber} {n : NodeNumber} → Looks w h (λ m row. m ≡ row.node) (Ok n) → IsMade w kind (record { kind = kind; node = n; handle = h })
 made_so {w} {kind} {h} {n} l = grind (arith, nat_tests, found-number)
 
@@ -54,7 +51,7 @@ module _ {w : Core} (whole : HandlesAreWhole w) where
         stands-alike a (record { live = rw rows.0 made.live; only = rw rows.0 made.only; given = rw rows.1 made.given })
 
     live_at : {row : HandleRow} (k : HandleNumber) → IsNext k w → Stands w'.last.handle w'.rows (w.last.handle + 1) row → IsSome (row_at w' k)
-    live_at k next s = found_some (ap (λ n. find_row n w'.rows) next.above ∙ s.live)
+    live_at k next s = ap is_some (ap (λ n. find_row n w'.rows) next.above ∙ s.live)
 
     pub known_live : {l : LoadNumber} {kind : Kind} {key : ℕ} {k : HandleNumber} → GetsKnown w l kind key k w' → IsSome (row_at w' k)
     known_live {l} {kind} {k = k} c =

@@ -98,11 +98,8 @@ module _ {N S E : Type 0} {tells : Telling S} {g : Spelling N E} {p : PagerView 
   pub ended-told : EndCall w me l x (g.type_of x) (g.refs_of x) (Ok k) w' × Moves (λ n y. (y ≡ x) × IsCellOf w l n) (state_in tells p) (state_in tells p')
   ended-told = (record { installs = (r.row.node, r.row.number, may, was); refused = tt }, record { each = comes; environment = refl })
 
-own-self : (o : Owner) → is_owner o o ≡ true
-own-self o = grind (arith, nat_tests)
-
 pub owner-owns : {w : Core} {me : Owner} {l : LoadNumber} {load : OpenLoad} → OwnsLoad w me l load → load_fault w me l ≡ None
-owner-owns {me = me} o = grind (arith, nat_tests, own-self)
+owner-owns {me = me} o = let a : is_owner me me ≡ true = grind (arith, nat_tests) in grind (arith, nat_tests)
 
 -- an own load is open
 pub owned-open : {w : Core} {me : Owner} {l : LoadNumber} {load : OpenLoad} → OwnsLoad w me l load → closed_fault w l ≡ None

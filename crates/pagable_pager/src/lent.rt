@@ -124,9 +124,7 @@ where
     }
 
     fn load_key(&mut self, key: DataKey) -> Result<LoadNumber, Error> {
-        let begun = self.pager.load_key_by(self.me, key);
-        self.pager.is_whole();
-        match begun {
+        match settled(self.pager.load_key_by(self.me, key), self.pager) {
             Ok(Beginning::Load(load, _)) => Ok(load),
             Ok(Beginning::InMemory) => unreachable!(),
             Err(e) => Err(e),
@@ -135,8 +133,7 @@ where
 
     fn load_root(&mut self, alloc: Global, load: LoadNumber) -> Result<Arc<PagableData>, Error> {
         let found = self.pager.load_fetch_by(self.me, alloc, load, Want::Root);
-        self.pager.is_whole();
-        match found {
+        match settled(found, self.pager) {
             Ok(Either::Right(blob)) => Ok(blob),
             Ok(Either::Left(_)) => unreachable!(),
             Err(e) => Err(e),
@@ -245,9 +242,7 @@ where
 
     #[tactic(auto, using(crate::proofs::Lending::entering))]
     fn worker_listed(&mut self, place: usize) -> Result<(WorkerNumber, ArcRef), Error> {
-        let begun = self.pager.worker_listed(place);
-        self.pager.is_whole();
-        match begun {
+        match settled(self.pager.worker_listed(place), self.pager) {
             Ok((worker, reference)) => {
                 self.me = Owner::Worker(worker);
                 Ok((worker, reference))
