@@ -231,8 +231,7 @@ where
     }
 
     fn worker_begin(&mut self) -> Result<WorkerNumber, Error> {
-        let begun = self.pager.worker_begin();
-        self.pager.is_whole();
+        let begun = settled(self.pager.worker_begin(), self.pager);
         let Ok(worker) = begun else {
             return begun;
         };

@@ -122,11 +122,7 @@ where
             Ok(None) => {}
             Err(e) => return Err(e),
         }
-        let blob = match self.fetch(alloc, key) {
-            Ok(blob) => blob,
-            Err(e) => return Err(e),
-        };
-        Ok(Either::Right(blob))
+        Ok(Either::Right(self.fetch(alloc, key)?))
     }
 
     /// What a load asks for: the blob of its own key; of a reference a handle of the node that the cache gives, which the load owns, or else the blob. Refused with NoSuchHandle and NotYours; with

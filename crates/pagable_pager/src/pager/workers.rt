@@ -111,8 +111,7 @@ where
     // The clone through which an owner takes a reference is pinned, or a load of its cell begins.
     fn pin_clone(&mut self, me: Owner, through: HandleNumber) -> Result<Taken, Error>
         requires { is_at_work (core_in (telling S.stored S.is_closed S.failed) self.old) me ≡ true }
-        ensures step { PinsClone (core_in (telling S.stored S.is_closed S.failed) self.old) me through result (core_in (telling S.stored S.is_closed S.failed) self.new) }
-        ensures only { OnlyTables self.old self.new }
+        ensures { Calls (telling S.stored S.is_closed S.failed) self.old (λ w w'. PinsClone w me through result w') self.new }
     {
         let start = self.begin_pin_by(me, through)?;
         let taken = match start {
