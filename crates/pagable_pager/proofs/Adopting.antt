@@ -1,10 +1,10 @@
 -- What a load has read becomes a node, and what becomes of the pager then.
-use Rattle.pagable_pager.proofs.Words.{◌≡◌, ℕ, ◌+◌, ◌<◌, List, ap, sym, subst, ◌∙◌, refl, Option, Some, None, Ok, Err, nat_eq, inl, arith, ◌≢◌, not, Result, IfOk, IfErr, IfSome, IfNone, get}
-use Rattle.pagable_pager.proofs.Words.{OptionalDataKey, ArcRef, Kind, LoadNumber, HandleNumber, Owner, Error, if_there, is_owner, Core, OpenLoad, Alike, usable, Refused, load_fault, closed_fault}
-use Rattle.pagable_pager.proofs.Words.{refused_if, adopted, adopt_fault, AdoptCall, Adopts, IsNewNode, Moves, adopted_known, stayed, spares-alike, Tables, counts_at, IsWhole, Sheds, AreLater}
-use Rattle.pagable_pager.proofs.Words.{OnlyRoom, earlier, earlier-first, told-later, still, PagerView, Telling, Spelling, ValuesByNode, IsPager, OnlyLess, core_in, state_in, value_in, values_of, nat_tests}
-use Rattle.pagable_pager.proofs.Words.{greatest, plain_of, first_key, next-past, early-past, refused-memory, refused-new, adopted-past, Blob, Bool, false, core_of, adopts-new as made-new}
-use Rattle.{pagable_pager.proofs.{Shed.{shed, in-step}, Births.{told, moved-in}, Shut.{adopts-bare, bare-alike}}, pagable_tables.specs.{Asking.early_fault, Doing.Does}}
+use Rattle.pagable_pager.proofs.Words.{◌≡◌, ℕ, ◌+◌, ◌<◌, List, ap, sym, subst, ◌∙◌, refl, Option, Some, None, Ok, Err, nat_eq, inl, arith, ◌≢◌, not, Result, IfOk, IfErr, IfSome, IfNone, get, ArcRef}
+use Rattle.pagable_pager.proofs.Words.{Kind, LoadNumber, HandleNumber, Owner, Error, if_there, is_owner, Core, OpenLoad, Alike, usable, Refused, load_fault, closed_fault, refused_if, adopted}
+use Rattle.pagable_pager.proofs.Words.{adopt_fault, AdoptCall, Adopts, IsNewNode, Moves, adopted_known, stayed, spares-alike, Tables, counts_at, IsWhole, Sheds, AreLater, OnlyRoom, earlier}
+use Rattle.pagable_pager.proofs.Words.{earlier-first, told-later, still, PagerView, Telling, Spelling, ValuesByNode, IsPager, OnlyLess, core_in, state_in, value_in, values_of, nat_tests, greatest}
+use Rattle.pagable_pager.proofs.Words.{plain_of, first_key, next-past, early-past, refused-memory, refused-new, adopted-past, Blob, Bool, false, core_of, adopts-new as made-new}
+use Rattle.{pagable_pager.proofs.{Shed.{shed, in-step}, Births.{told, moved-in, only-room}, Shut.{adopts-bare, bare-alike}}, pagable_tables.specs.{Asking.early_fault, Doing.Does}}
 use Rattle.{pagable_world.specs.Calls.{IsNext, birth_fault}, pagable_steps.proofs.Births.adopts-new}
 
 module _ {N S E : Type 0} (tells : Telling S) (g : Spelling N E) (p : PagerView N S E) (is : IsPager tells g p) (t : Tables) (values : ValuesByNode N)
@@ -16,16 +16,12 @@ module _ {N S E : Type 0} (tells : Telling S) (g : Spelling N E) (p : PagerView 
   pub stays-so : Alike (core_in tells p) (core_in tells after) → IsPager tells g after
   stays-so a = shed tells g p is t values whole later sheds (λ shut. bare-alike a (is.state.whole.shut shut)) (λ left. stayed is.state (spares-alike a) left)
 
-  -- and so does what was read and dropped
-  pub known-so : {me : Owner} {l : LoadNumber} {kind : Kind} {key u n : ℕ} {rs : List ArcRef} {k : HandleNumber} → Adopts (core_in tells p) me l kind key u rs k (core_in tells after)
-      → usable (core_in tells p) kind.0 key ≡ Some n → IsPager tells g after
-  known-so a known = shed tells g p is t values whole later sheds (λ shut. adopts-bare shut (is.state.whole.shut shut) a) (λ left. adopted_known is.state left a known)
-
   pub found-so : (me : Owner) (l : LoadNumber) (kind : Kind) (key u : ℕ) (rs : List ArcRef) (r : Result (Option HandleNumber) Error)
       → IfOk r (λ found. IfSome found (λ k. Adopts (core_in tells p) me l kind key u rs k (core_in tells after))) → IfOk r (λ found. IfSome found (λ k. (n : ℕ) × (usable (core_in tells p) kind.0 key ≡ Some n)))
       → IfOk r (λ found. IfNone found (t ≡ p.tables))
       → IfErr r (λ e. Refused (adopt_fault (core_in tells p) me l kind key u rs) (load_fault (core_in tells p) me l) (Unit {0}) (core_in tells p) e (core_in tells after)) → IsPager tells g after
-  found-so me l kind key u rs (Ok (Some k)) known given same refused = known-so known given.1
+  found-so me l kind key u rs (Ok (Some k)) known given same refused =
+      shed tells g p is t values whole later sheds (λ shut. adopts-bare shut (is.state.whole.shut shut) known) (λ left. adopted_known is.state left known given.1)
   found-so me l kind key u rs (Ok None) known given same refused =
       stays-so (subst (λ (x : Tables). Alike (core_in tells p) (core_in tells (record p { tables = x; values = values }))) (sym same) (still (core_in tells p)))
   found-so me l kind key u rs (Err e) known given same refused = stays-so refused.stays
@@ -77,9 +73,6 @@ module _ {N S E : Type 0} {tells : Telling S} {g : Spelling N E} {p q : PagerVie
   new-refused r = not-adopted refl (refused-new (core_in tells p) me l kind key (g.type_of x) rs (fresh-in _ _ _) unknown-in r)
 
   module _ {t1 : Tables} (mid : ValuesByNode N) (room : Does p.tables OnlyRoom t1) where
-    here-room : OnlyRoom (core_in tells p) (core_in tells (record p { tables = t1; values = mid }))
-    here-room = room.does (tells.stored p.storage) (tells.closed p.storage) (tells.failed p.storage)
-
     pub new-asked : early_fault (plain_of t1) me l kind (g.type_of x) rs ≡ None
     new-asked = early-past me l kind (g.type_of x) rs (room.does (λ key. None) false 0) ∙ fresh-in (λ key. None) false 0
 
@@ -87,7 +80,7 @@ module _ {N S E : Type 0} {tells : Telling S} {g : Spelling N E} {p q : PagerVie
     new-unknown = ap (λ (u : Core). usable u kind.0 key) (room.does (λ key. None) false 0).same ∙ unknown-in
 
     pub new-memory : {y : N} → y ≡ x → AdoptCall (core_in tells p) me l kind key x (g.type_of x) (g.refs_of x) (Err (Error.OutOfMemory, y)) (core_in tells (record p { tables = t1; values = mid }))
-    new-memory back = not-adopted back (refused-memory (core_in tells p) me l kind key (g.type_of x) rs (fresh-in _ _ _) here-room)
+    new-memory back = not-adopted back (refused-memory (core_in tells p) me l kind key (g.type_of x) rs (fresh-in _ _ _) (only-room is mid room))
 
     module _ (same : (n : ℕ) → value_in mid n ≡ value_in p.values n) (t2 : Tables) (values : ValuesByNode N) {y : N} (shared : y ≡ x) (here : value_in values t2.last_node ≡ Some y)
         (others : (n : ℕ) → n ≢ t2.last_node → value_in values n ≡ value_in mid n) {k : HandleNumber} {lists : Bool} (opens : lists ≡ not (tells.closed p.storage)) (left : t1.last_node < greatest)
@@ -98,13 +91,13 @@ module _ {N S E : Type 0} {tells : Telling S} {g : Spelling N E} {p q : PagerVie
       learned = record p { tables = t2; values = values }
 
       leaves : Alike (adopted (core_in tells p) l kind key (first_key kind.0 key) rs) (core_in tells learned)
-      leaves = adopted-past l kind key (first_key kind.0 key) rs here-room (comes (tells.stored p.storage) (tells.closed p.storage) (tells.failed p.storage) opens)
+      leaves = adopted-past l kind key (first_key kind.0 key) rs (only-room is mid room) (comes (tells.stored p.storage) (tells.closed p.storage) (tells.failed p.storage) opens)
 
       adopts : Adopts (core_in tells p) me l kind key (g.type_of x) (g.refs_of x) k (core_in tells learned)
       adopts =
           subst (λ z. Adopts (core_in tells p) me l kind key (g.type_of x) z k (core_in tells learned)) listed
-          (made-new (core_in tells p) me l kind key (g.type_of x) rs (fresh-in _ _ _) unknown-in k (subst (λ (u : Core). u.last.node < greatest) here-room.same left)
-          (next-past here-room (next (tells.stored p.storage) (tells.closed p.storage) (tells.failed p.storage))) leaves)
+          (made-new (core_in tells p) me l kind key (g.type_of x) rs (fresh-in _ _ _) unknown-in k (subst (λ (u : Core). u.last.node < greatest) (only-room is mid room).same left)
+          (next-past (only-room is mid room) (next (tells.stored p.storage) (tells.closed p.storage) (tells.failed p.storage))) leaves)
 
       last : t2.last_node ≡ p.tables.last_node + 1
       last = let a = leaves in grind (arith, nat_tests)

@@ -1,10 +1,10 @@
 -- What a lent pager's calls tell as those of an access.
-use Rattle.pagable_pager.proofs.Words.{AskCall, from_cache, AsksFor, FewerValues, OnlyTables, SameValues, value_in, ValuesByNode, Refers, AdoptCall, TakesLazily, AdoptsValue, ◌≡◌, ℕ, ◌+◌, true}
-use Rattle.pagable_pager.proofs.Words.{List, [], Option, Some, Result, Ok, Err, inl, inr, ap, sym, subst, ◌∙◌, arith, IsSome, is_some, IfOk, option_map, OptionalDataKey, Error, ArcRef}
-use Rattle.pagable_pager.proofs.Words.{HandleNumber, Kind, LoadNumber, NodeNumber, HandleRow, Owner, Blob, find_row, mode_of, Core, Reading, Values, Alike, row_at, Looks, StoreCall, with_handle}
-use Rattle.pagable_pager.proofs.Words.{IsNext, BeginCall, GetsKnown, LazyCall, Adopts, first_key, reading_of_load, HandlesAreWhole, WellFormed, Told, Called, found-number, good, Stands}
-use Rattle.pagable_pager.proofs.Words.{stands-alike, stands-fell, among-found, row-pins, same_some, pinned-here, StartsPin, begun_is, IsMade, PagerView, Telling, core_in, state_in, nat_tests}
-use Rattle.pagable_pager.proofs.Words.{Bool, refl, false, if◌then◌else◌, type_of, owner_value, row_of, with_node, with_cached, next_node, is_named_by, AreUpTo, stands-new, named-among, adopted}
+use Rattle.pagable_pager.proofs.Words.{AskCall, from_cache, AsksFor, FewerValues, SameValues, value_in, ValuesByNode, Refers, AdoptCall, TakesLazily, AdoptsValue, ◌≡◌, ℕ, ◌+◌, List, [], Some, Result}
+use Rattle.pagable_pager.proofs.Words.{Ok, Err, inl, inr, ap, sym, subst, ◌∙◌, arith, IsSome, is_some, IfOk, option_map, OptionalDataKey, Error, ArcRef, HandleNumber, Kind, LoadNumber, NodeNumber}
+use Rattle.pagable_pager.proofs.Words.{HandleRow, Owner, Blob, find_row, mode_of, Core, Reading, Values, Alike, row_at, Looks, StoreCall, with_handle, IsNext, BeginCall, GetsKnown, LazyCall, Adopts}
+use Rattle.pagable_pager.proofs.Words.{first_key, reading_of_load, HandlesAreWhole, WellFormed, Told, Called, found-number, good, Stands, stands-alike, stands-fell, among-found, row-pins, same_some}
+use Rattle.pagable_pager.proofs.Words.{pinned-here, StartsPin, begun_is, IsMade, PagerView, Telling, core_in, state_in, nat_tests, refl, false, type_of, owner_value, row_of, with_node, next_node}
+use Rattle.pagable_pager.proofs.Words.{is_named_by, named-among, adopted}
 use Rattle.{pagable_loads.specs.declared.starting.PinStart.PinStart, pagable_world.specs.declared.{answers.Beginning.Beginning, calls.Want.Want}, either.specs.declared.Either.Either}
 use Rattle.{pagable_laws.proofs.{Outlasting.{low-changed, low-whole, new-handle}, ReadingSteps.cached-rows}, pagable_steps.proofs.Spared.not-load, pagable_pager.specs.View.{Calls, CallsLess}}
 use Rattle.std.proofs.lemmas.Bool.{false_from_ne_true}
@@ -21,9 +21,6 @@ module _ {N S E : Type 0} (tells : Telling S) (v : E → Values N) (p q : PagerV
   -- where no value goes either
   pub all_there : SameValues p q → FewerValues p q
   all_there only = record { values = λ n x has. subst (λ (values : ValuesByNode N). value_in values n ≡ Some x) only.values has; environment = only.environment }
-
-  same_there : OnlyTables p q → FewerValues p q
-  same_there only = all_there (record { values = only.values; environment = only.environment })
 
 -- a call by which values may go
 pub told_less : {N S E : Type 0} {tells : Telling S} (v : E → Values N) {p q : PagerView N S E} {makes : Core → Core → Type 0} → CallsLess tells p makes q → WellFormed (v q.environment)
@@ -105,7 +102,7 @@ pub told_lazy : {N S E : Type 0} {tells : Telling S} (v : E → Values N) {p q :
     (r : Result ArcRef Error) → HandlesAreWhole (core_in tells p) → Calls tells p (λ w w'. LazyCall w me l kind key made w') q → Refers (core_in tells q) kind made r → WellFormed (v q.environment)
     (state_in tells q) → Told (Some (state_in tells p)) (Some (state_in tells q)) (λ s t. Called (v p.environment) (λ w'. TakesLazily s.core me l kind key r w') s t)
 told_lazy {tells = tells} v {p} {q} {me} {l} {kind} {key} made r handles call refers whole =
-    told_fewer tells v p q (λ w w'. TakesLazily w me l kind key r w') (lazy_refers handles (core_in tells q) made r call.step refers) (same_there tells v p q call.only) whole
+    told_fewer tells v p q (λ w w'. TakesLazily w me l kind key r w') (lazy_refers handles (core_in tells q) made r call.step refers) (all_there tells v p q (record { values = call.only.values; environment = call.only.environment })) whole
 
 -- ---- how a pin begins
 
