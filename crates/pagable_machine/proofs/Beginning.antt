@@ -25,8 +25,7 @@ module _ {X : Type 0} {g : Ghosts X} where
   -- the tables with one more, which has no claim
   shelf-added : (tables : List (SlotTable X g)) (new : SlotTable X g) → SameShelf no_shelf (shelf_of new) → (t : ℕ)
       → SameShelf (updated (length tables + 1) no_shelf (shelf_at tables) t) (shelf_at (tables ++ new ∷ []) t)
-  shelf-added tables new empty zero = grind (arith, nat_tests, at-end, elsewhere, not-same, same-number)
-  shelf-added tables new empty (suc n) = grind (arith, nat_tests, at-end, elsewhere, not-same, same-number)
+  shelf-added tables new empty x3 = grind (arith, nat_tests, at-end, elsewhere, not-same, same-number)
 
   module _ {N B W E : Type 0} (m : Seen N B W) (s : PagerState N E) (h : Holding g) (new : SlotTable X g) (serving : IsServing s.core h) (was : WellFormed m.values s) where
     abbrev with_table : Holding g
@@ -40,7 +39,7 @@ module _ {X : Type 0} {g : Ghosts X} where
           made = (
             number,
             still s.core,
-            are-these s.core h.readings (readings_in h.readings s.core) (λ l load is. as-before serving.readings on l load is),
+            are-these s.core h.readings (readings_in h.readings s.core) (λ l load is. as-before serving.readings (same {me = Owner.Caller} s.core) l load is),
             record {
               same_shelves = λ q. subst (λ n. SameShelf (updated n no_shelf (shelf_at h.tables) q) (shelf_at (h.tables ++ new ∷ []) q)) (sym number) (shelf-added h.tables new empty q);
               last_is = length-append h.tables (new ∷ []) ∙ sym number;
@@ -50,9 +49,6 @@ module _ {X : Type 0} {g : Ghosts X} where
           refused = tt;
         })
         (record { each = λ n x is. inl is; environment = refl }) tt serving.readings
-      where
-        on : Leaves Owner.Caller s.core.workers s.core s.core
-        on = same s.core
 
 -- ---- a worker
 

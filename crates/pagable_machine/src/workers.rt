@@ -1,11 +1,11 @@
 //! Tables of page-out, workers on them, and a worker's step.
 
-ghost use Rattle.std.specs.{Prelude.{◌≡◌, ◌<◌, ◌⊎◌, ℕ, Some, IfOk, IfErr, OnOk, OnErr, true, false, ◌≤◌, ◌∷◌, length, is_some}, HashMap.spare};
+ghost use Rattle.std.specs.{Prelude.{◌≡◌, ◌<◌, ◌⊎◌, ℕ, Some, IfOk, IfErr, OnOk, true, false, ◌≤◌, ◌∷◌, length, is_some}, HashMap.spare};
 ghost use Rattle.pagable_world.specs.Kinds.{identity_of, owner_worker};
 ghost use Rattle.pagable_world.specs.{World.{Alike, of_entry, of_item}, Access.{Called, WorkerStarts}, declared.events.{EventReply.EventReply, Event.Event}, Events.steps_after};
 ghost use Rattle.{pagable_loads.specs.{Telling.values_at, Working.{RefusesEntry, StartsEntry}}, pagable_pager.specs.View.{core_in, state_in, telling}, pagable_walk.specs.Slots.written_of};
 ghost use Rattle.{pagable_walk.specs.{Table.shelf_of, Tasks.{IsWay, todo_of, todos}, Turns.{StepsTo, answer_in, plan}}, pagable_machine.specs.Walking.{IsBegun, is_table, IsAfter, WalksOn, has_task}};
-ghost use Rattle.pagable_machine.specs.{Walking.{task_in, todo_left}, Keeping.KeepsOne, Driving.{Drives, IsInStep, kept_at, over}};
+ghost use Rattle.pagable_machine.specs.{Walking.{task_in, todo_left}, Driving.{Drives, IsInStep, kept_at, over}};
 
 use crate::held::{Begun, Held, Walk};
 use crate::list;
@@ -67,26 +67,6 @@ fn ready<E: Trees>(
     }
     reserve(walks)?;
     Ok(())
-}
-
-// What a worker has to do is kept of it, if it has begun.
-fn keep<E: Trees>(
-    walks: &mut IndexMap<u64, Walk<E>>,
-    begun: Result<WorkerNumber, Error>,
-    walk: Walk<E>,
-) -> Result<WorkerNumber, Error>
-    requires { 0 < spare walks.old }
-    ensures begun { result ≡ begun }
-    ensures keeps { IfOk begun (λ n. KeepsOne (kept_at walks.old) n.0 (Some walk) (kept_at walks.new)) }
-    ensures stays { OnErr begun ((q : ℕ) → kept_at walks.new q ≡ kept_at walks.old q) }
-{
-    match begun {
-        Ok(worker) => {
-            put(walks, worker.0, walk);
-            Ok(worker)
-        }
-        Err(e) => Err(e),
-    }
 }
 
 // What a worker for an item has to do. Refused by want of memory alone.
@@ -184,8 +164,13 @@ where
         Ok(walk) => walk,
         Err(e) => return Err(e),
     };
-    let begun = begin(pager);
-    keep(&mut held.walks, begun, walk)
+    match begin(pager) {
+        Ok(worker) => {
+            put(&mut held.walks, worker.0, walk);
+            Ok(worker)
+        }
+        Err(e) => Err(e),
+    }
 }
 
 /// A worker on a table begins, for the entry at this place of the list, counted from 0. Refused with NoSuchHandle where there is no such table or no such place, with
