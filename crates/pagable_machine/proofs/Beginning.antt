@@ -1,7 +1,7 @@
 -- Tables and workers that begin.
 use Rattle.pagable_machine.proofs.Words.{still, nat_tests, common_steps, rules, ◌≡◌, ◌≢◌, ℕ, zero, suc, ◌+◌, true, List, [], ◌∷◌, ◌++◌, Option, Some, Ok, inl, inr, refl, sym, ap, subst, ◌∙◌}
 use Rattle.pagable_machine.proofs.Words.{length, arith, is_some, slice_get, length-append, WorkerNumber, Event, TableNumber, updated, is_owner, Alike, Core, SameShelf, Seen, Happens, IsTable, Starts}
-use Rattle.pagable_machine.proofs.Words.{no_shelf, with_worker, step_of, Moves, PagerState, WellFormed, world_of, same-number, Ghosts, SlotTable, Task, shelf_of, Walk, Holding}
+use Rattle.pagable_machine.proofs.Words.{no_shelf, with_worker, step_of, Moves, PagerState, WellFormed, world_of, same-number, Ghosts, SlotTable, shelf_of, Walk, Holding}
 use Rattle.pagable_machine.proofs.{Words.{IsServing, KeepsOne, Makes, machine_of, readings_in, IsBegun, IsWalkKept, shelf_at}, Keeping.{are-these, as-before, at-one, kept-on, makes, makes-with}}
 use Rattle.{pagable_machine.proofs.{Keeping.{not-same, one-serves, updated-at}, Leaving.{Leaves, same}, Passing.{Passes, event-passes}}, pagable_walk.proofs.Turning.plain-fits}
 use Rattle.pagable_world.specs.declared.{handles.Owner.Owner, events.EventReply.EventReply}

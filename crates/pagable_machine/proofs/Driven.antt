@@ -1,6 +1,6 @@
 -- Each event of tables and workers, by what the pager and what is kept say of it.
-use Rattle.pagable_machine.proofs.Words.{still, ◌≡◌, ℕ, ◌+◌, ◌<◌, ◌≤◌, true, false, List, [], ◌∷◌, ◌++◌, Option, Some, None, Ok, Err, ◌⊎◌, inl, inr, refl, sym, subst}
-use Rattle.pagable_machine.proofs.Words.{◌∙◌, length, arith, is_none, is_some, option_map, Global, Arc, Vec, nat_tests, SerializedData, Error, ArcRef, HandleNumber, WorkerNumber, TableNumber}
+use Rattle.pagable_machine.proofs.Words.{still, ◌≡◌, ℕ, ◌+◌, ◌<◌, ◌≤◌, true, false, List, [], ◌∷◌, ◌++◌, Option, Some, Ok, Err, ◌⊎◌, inl, inr, refl, sym, subst}
+use Rattle.pagable_machine.proofs.Words.{length, arith, is_none, is_some, option_map, Global, Arc, Vec, nat_tests, SerializedData, Error, ArcRef, HandleNumber, WorkerNumber, TableNumber}
 use Rattle.pagable_machine.proofs.Words.{WorkerReply, HandleRow, Blob, if_there, HasNoKinds, identity_of, Alike, SameShelf, Seen, Values, Walking, Written, of_entry, of_item, Called}
 use Rattle.pagable_machine.proofs.Words.{WorkerStarts, IsEntry, IsNoTable, IsTable, entry_task, no_shelf, with_entry_taken, PagerState, WellFormed, world_of, RefusesEntry, StartsEntry, PagerView}
 use Rattle.pagable_machine.proofs.Words.{Telling, state_in, Ghosts, SlotTable, written_of, shelf_of, plain, Held, Walk, Holding, KeepsOne, Makes, machine_of, IsBegun, WalksOn, has_task, is_table}

@@ -1,14 +1,13 @@
 -- A worker's step, and the table that it writes in its place.
-use Rattle.pagable_machine.proofs.Words.{nat_tests, common_steps, rules, ◌≡◌, ◌≢◌, ℕ, zero, suc, ◌≤◌, ◌==◌, Bool, true, false, List, [], ◌∷◌, Option, Some, None, Ok, inl, inr, if◌then◌else◌, refl}
+use Rattle.pagable_machine.proofs.Words.{nat_tests, common_steps, rules, ◌≡◌, ◌≢◌, ℕ, suc, ◌≤◌, ◌==◌, Bool, true, false, List, [], ◌∷◌, Option, Some, None, Ok, inl, inr, if◌then◌else◌, refl}
 use Rattle.pagable_machine.proofs.Words.{sym, ap, subst, ◌∙◌, length, arith, is_none, is_some, option_map, Arc, Global, SerializedData, WorkerNumber, Took, WorkerAnswer, WorkerReply, Blob, if_there}
 use Rattle.pagable_machine.proofs.Words.{updated, is_owner, owner_worker, Core, SameShelf, Seen, Shelf, Todo, Values, Written, Site, WalkDoes, answer_after, is_counted, Ends, Happens, WorkerSteps}
 use Rattle.pagable_machine.proofs.Words.{no_shelf, steps_after, PagerState, TodoBrings, WellFormed, world_of, same-number, Ghosts, SlotTable, Task, Turn, Waiting, shelf_of, todo_of, todos, LeavesFit}
 use Rattle.pagable_machine.proofs.Words.{TaskFits, answer_in, plain, plain_took, plan, Walk, Holding, IsServing, KeepsOne, Makes, machine_of, readings_in, plain_moved, IsWalkKept, SetsTable, WalksOn}
 use Rattle.pagable_machine.proofs.{Words.{shelf_at, task_in, todo_left, walking_of}, Keeping.{are-these, as-before, at-one, kept-on, makes-with, not-same, one-serves, updated-at}}
 use Rattle.{pagable_machine.proofs.{Leaving.{Leaves, leaves-so, end-leaves, works_after}, Passing.{Passes, event-passes}}, pagable_laws.proofs.{Effects.owned-mine, ReadingSteps.{FrontMine, walk-goes}}}
-use Rattle.{pagable_world.specs.declared.events.{EventReply.EventReply, Event.Event}, pagable_walk.specs.{Found.keys_of, Slots.written_of, Tasks.waits_as, Turns.Stepped, declared.tasks.Node.Node}}
+use Rattle.{pagable_world.specs.declared.events.{EventReply.EventReply, Event.Event}, pagable_walk.specs.Turns.Stepped}
 use Rattle.pagable_machine.proofs.Words.{◌<◌, slice_get, set, get_or-set_same, get_or-set_other, length-set, slice_get_read, slice_get_cases, slice_get_past}
-use Rattle.std.specs.Arc.{arc_value}
 
 -- ---- a table of a list is written in its place
 

@@ -2,7 +2,7 @@
 
 ghost use Rattle.std.specs.{Prelude.{◌≡◌, ◌<◌, ◌⊎◌, ℕ, Some, IfOk, IfErr, OnOk, true, false, ◌≤◌, ◌∷◌, length, is_some}, HashMap.spare};
 ghost use Rattle.pagable_world.specs.Kinds.{identity_of, owner_worker};
-ghost use Rattle.pagable_world.specs.{World.{Alike, of_entry, of_item}, Access.{Called, WorkerStarts}, declared.events.{EventReply.EventReply, Event.Event}, Events.steps_after};
+ghost use Rattle.pagable_world.specs.{World.{Alike, of_entry, of_item}, Access.{Called, WorkerStarts}, declared.events.{EventReply.EventReply, Event.Event}};
 ghost use Rattle.{pagable_loads.specs.{Telling.values_at, Working.{RefusesEntry, StartsEntry}}, pagable_pager.specs.View.{core_in, state_in, telling}, pagable_walk.specs.Slots.written_of};
 ghost use Rattle.{pagable_walk.specs.{Table.shelf_of, Tasks.{IsWay, todo_of, todos}, Turns.{StepsTo, answer_in, plan}}, pagable_machine.specs.Walking.{IsBegun, is_table, IsAfter, WalksOn, has_task}};
 ghost use Rattle.pagable_machine.specs.{Walking.{task_in, todo_left}, Driving.{Drives, IsInStep, kept_at, over}};
@@ -44,13 +44,6 @@ where
     Ok(TableNumber(held.tables.len() as u64))
 }
 
-// Whether there is such a table.
-fn is_table<E: Trees>(tables: &Vec<SlotTable<E>>, table: TableNumber) -> bool
-    ensures { result ≡ is_table table.0 tables.now.items }
-{
-    0 < table.0 && table.0 <= tables.len() as u64
-}
-
 // A place for a worker more, on a table that there is. Refused with NoSuchHandle and OutOfMemory.
 fn ready<E: Trees>(
     walks: &mut IndexMap<u64, Walk<E>>,
@@ -62,7 +55,7 @@ fn ready<E: Trees>(
     ensures room { OnOk result (0 < spare walks.new) }
     ensures refused { IfErr result (λ e. ((e ≡ Error.NoSuchHandle) × (is_table table.0 tables.now.items ≡ false)) ⊎ ((e ≡ Error.OutOfMemory) × (is_table table.0 tables.now.items ≡ true))) }
 {
-    if !is_table(tables, table) {
+    if !(0 < table.0 && table.0 <= tables.len() as u64) {
         return Err(Error::NoSuchHandle);
     }
     reserve(walks)?;
@@ -272,17 +265,6 @@ fn task_left<E: Trees>(turn: Turn<E>) -> Option<Task<E>>
     }
 }
 
-// How many steps a worker has made after one more.
-fn count(steps: u64, counted: bool) -> u64
-    ensures { result ≡ steps_after steps counted }
-{
-    if counted {
-        steps.saturating_add(1)
-    } else {
-        steps
-    }
-}
-
 // What a step came to is kept of the worker, and answered.
 fn settle<E: Trees>(walk: &mut Walk<E>, moved: Moved<E>) -> WorkerReply<Arc<SerializedData>>
     ensures after { IsAfter walk.old moved walk.new }
@@ -291,7 +273,11 @@ fn settle<E: Trees>(walk: &mut Walk<E>, moved: Moved<E>) -> WorkerReply<Arc<Seri
 {
     let answer = answer_of(&moved.turn);
     walk.answer = answer_of(&moved.turn);
-    let steps = count(walk.steps, moved.counted);
+    let steps = if moved.counted {
+        walk.steps.saturating_add(1)
+    } else {
+        walk.steps
+    };
     walk.steps = steps;
     walk.task = task_left(moved.turn);
     WorkerReply {
