@@ -27,7 +27,8 @@ module _ {N S E : Type 0} (tells : Telling S) (g : Spelling N E) (p : PagerView 
   found-so me l kind key u rs (Err e) known given same refused = stays-so refused.stays
 
 -- why what a load has read neither becomes a node nor ends the load, where its references weren't had
-pub unlisted-gone : (w : Core) (me : Owner) (l : LoadNumber) (later : Option Error) → w.loads l.0 ≡ None → Refused (earlier (load_fault w me l) later) (closed_fault w l) (Unit {0}) w Error.NoSuchHandle w
+pub unlisted-gone : (w : Core) (me : Owner) (l : LoadNumber) (later : Option Error) → w.loads l.0 ≡ None
+    → Refused (earlier (load_fault w me l) later) (closed_fault w l) (Unit {0}) w Error.NoSuchHandle w
 unlisted-gone w me l later gone =
     let is : load_fault w me l ≡ Some Error.NoSuchHandle = ap (if_there (λ (load : OpenLoad). refused_if (not (is_owner me load.owner)) Error.NotYours) (Some Error.NoSuchHandle)) gone in
     record { why = inl (earlier-first (load_fault w me l) later Error.NoSuchHandle is (λ f late. omega (arith))); stays = still w }

@@ -102,7 +102,8 @@ pub told_lazy : {N S E : Type 0} {tells : Telling S} (v : E → Values N) {p q :
     (r : Result ArcRef Error) → HandlesAreWhole (core_in tells p) → Calls tells p (λ w w'. LazyCall w me l kind key made w') q → Refers (core_in tells q) kind made r → WellFormed (v q.environment)
     (state_in tells q) → Told (Some (state_in tells p)) (Some (state_in tells q)) (λ s t. Called (v p.environment) (λ w'. TakesLazily s.core me l kind key r w') s t)
 told_lazy {tells = tells} v {p} {q} {me} {l} {kind} {key} made r handles call refers whole =
-    told_fewer tells v p q (λ w w'. TakesLazily w me l kind key r w') (lazy_refers handles (core_in tells q) made r call.step refers) (all_there tells v p q (record { values = call.only.values; environment = call.only.environment })) whole
+    told_fewer tells v p q (λ w w'. TakesLazily w me l kind key r w') (lazy_refers handles (core_in tells q) made r call.step refers)
+    (all_there tells v p q (record { values = call.only.values; environment = call.only.environment })) whole
 
 -- ---- how a pin begins
 

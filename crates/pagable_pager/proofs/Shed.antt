@@ -15,7 +15,8 @@ whole-over t stored closed failures whole shut =
     let l = is.loads in
     let handles : pager.HandlesAreWhole (core_of t stored closed failures) = search rules in
     let owners : pager.OwnersAreThere (core_of t stored closed failures) = search rules in
-    let loads : pager.LoadsAreWhole (core_of t stored closed failures) = record { numbered = l.numbered; owned = l.owned; roots = λ n load node k q there root. let r = l.roots n load node k q there root in record { typed = r.typed; begun = r.begun; given = r.given } } in
+    let loads : pager.LoadsAreWhole (core_of t stored closed failures) =
+    record { numbered = l.numbered; owned = l.owned; roots = λ n load node k q e root. let r = l.roots n load node k q e root in record { typed = r.typed; begun = r.begun; given = r.given } } in
     record {
       handles = handles;
       owners_there = owners;

@@ -3,8 +3,8 @@ use Rattle.std.specs.{Arc.arc_value, declared.{sync.Arc.Arc, hash.{FoldHasher.Fo
 use Rattle.std.specs.Prelude.{◌≡◌, Bool, true, false, if◌then◌else◌, List, Option, Some, None, is_some, nat_eq}
 use Rattle.{either.specs.declared.Either.Either, pagable_model.specs.declared.numbers.ArcRef.ArcRef}
 use Rattle.{pagable_model.specs.declared.numbers.HandleNumber.HandleNumber, pagable_world.specs.{Plain.{Blob, Error, Meaning, Shape, updated}, declared.handles.Owner.Owner, World.{Core, Values}}}
-use Rattle.{pagable_world.specs.{LoadCalls.{Given, from_cache, from_store}, Pager.{PagerState, WellFormed}}, pagable_tables.specs.{declared.tables.Tables.Tables, ByNumber.counts_at, Falling.{has_value, pins_in}}}
-use Rattle.pagable_tables.specs.{Core.core_of, Later.AreLater}
+use Rattle.{pagable_world.specs.{LoadCalls.{Given, from_cache, from_store}, Pager.{PagerState, WellFormed}}, pagable_tables.specs.{declared.tables.Tables.Tables, ByNumber.counts_at}}
+use Rattle.pagable_tables.specs.{Core.core_of, Falling.{has_value, pins_in}, Later.AreLater}
 use Rattle.pagable_tables.specs.Core as tables
 
 abbrev pub ValuesByNode : Type 0 → Type 0

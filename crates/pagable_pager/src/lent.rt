@@ -194,7 +194,10 @@ where
         load: LoadNumber,
         value: E::Node,
     ) -> Result<HandleNumber, (Error, Option<E::Node>)> {
-        settled(self.pager.load_end_by(self.me, alloc, load, value), self.pager)
+        settled(
+            self.pager.load_end_by(self.me, alloc, load, value),
+            self.pager,
+        )
     }
 
     fn load_take(&mut self, load: LoadNumber, named: &[HandleNumber]) -> Result<(), Error> {
@@ -227,7 +230,10 @@ where
     }
 
     fn schedule_for_paging(&mut self, handle: HandleNumber) -> Result<(), Error> {
-        settled(self.pager.schedule_for_paging_by(self.me, handle), self.pager)
+        settled(
+            self.pager.schedule_for_paging_by(self.me, handle),
+            self.pager,
+        )
     }
 
     fn worker_begin(&mut self) -> Result<WorkerNumber, Error> {

@@ -1,8 +1,8 @@
 //! Nodes that come, what loads have read becomes nodes, and loads of cells that end with a value.
 
 ghost use Rattle.std.specs.{Prelude.{◌≡◌, ◌≢◌, ◌<◌, ℕ, Some, IfOk, IfErr, OnOk, OnErr, true, not, nat_eq, List, Bool, Option, None, IfSome, IfNone}, Arc.arc_value, HashMap.{get, spare}};
-ghost use Rattle.pagable_world.specs.{Kinds.is_pinning, Calls.{BirthCall, AwayBirthCall}, Pager.{IsNewNode, IsCellOf, Moves}, Refusals.{load_fault, closed_fault, earlier, Refused}, Plain.{Blob, Error}};
-ghost use Rattle.pagable_world.specs.{World.{Core, usable}, LoadCalls.{adopt_fault, AdoptCall, Adopts, EndCall, EndRefused, Installs}};
+ghost use Rattle.pagable_world.specs.{Kinds.is_pinning, Calls.{BirthCall, AwayBirthCall}, Pager.{IsNewNode, IsCellOf, Moves}, Refusals.{load_fault, closed_fault, earlier, Refused}};
+ghost use Rattle.pagable_world.specs.{Plain.{Blob, Error}, World.{Core, usable}, LoadCalls.{adopt_fault, AdoptCall, Adopts, EndCall, EndRefused, Installs}};
 ghost use Rattle.pagable_pager.specs.View.{core_in, state_in, telling, value_in, OnlyTables, OnlyLess, PutsIn, is_at_work};
 ghost use Rattle.{pagable_model.specs.declared.numbers.{ArcRef.ArcRef, Kind.Kind}, pagable_tables.specs.{Asking.early_fault, ByNumber.counts_at, Core.{core_of, plain_of, IsWhole}}};
 ghost use Rattle.pagable_tables.specs.{Falling.Sheds, Later.AreLater, Ready.{IsReady, HasPlace, Unends}};

@@ -1,8 +1,8 @@
 //! The list of cells that wait for page-out, the cache of nodes by the kind and key under which they were read, room for what comes, and what lets go.
 
 ghost use Rattle.std.specs.Prelude.{◌≡◌, true, length};
-ghost use Rattle.{pagable_world.specs.Calls.{ScheduleCall, TakeCall, OfferCall, RecallCall, ClearCall, ReserveCall, room_of}, pagable_pager.specs.View.core_in};
-ghost use Rattle.{pagable_world.specs.{Calls.{ReleaseCall, UnpinCall, SetKeyCall}, LoadCalls.{DropCall, HandOverCall}}, pagable_pager.specs.View.{telling, OnlyTables, OnlyLess, is_at_work, Calls, CallsLess}};
+ghost use Rattle.pagable_world.specs.{Calls.{ScheduleCall, TakeCall, OfferCall, RecallCall, ClearCall, ReserveCall, ReleaseCall, UnpinCall, SetKeyCall, room_of}, LoadCalls.{DropCall, HandOverCall}};
+ghost use Rattle.pagable_pager.specs.View.{core_in, telling, OnlyTables, OnlyLess, is_at_work, Calls, CallsLess};
 
 use crate::pager::Pager;
 use pagable_codec::{Env, NodeSet};
