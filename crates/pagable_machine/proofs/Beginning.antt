@@ -1,7 +1,7 @@
 -- Tables and workers that begin.
 use Rattle.pagable_machine.proofs.Words.{still, nat_tests, common_steps, rules, ◌≡◌, ◌≢◌, ℕ, zero, suc, ◌+◌, true, List, [], ◌∷◌, ◌++◌, Option, Some, Ok, inl, inr, refl, sym, ap, subst, ◌∙◌}
 use Rattle.pagable_machine.proofs.Words.{length, arith, is_some, slice_get, length-append, WorkerNumber, Event, TableNumber, updated, is_owner, Alike, Core, SameShelf, Seen, Happens, IsTable, Starts}
-use Rattle.pagable_machine.proofs.Words.{no_shelf, with_worker, step_of, Moves, PagerState, WellFormed, world_of, same-number, Ghosts, SlotTable, Task, shelf_of, Walk, Holding}
+use Rattle.pagable_machine.proofs.Words.{no_shelf, with_worker, step_of, Moves, PagerState, WellFormed, world_of, same-number, Ghosts, SlotTable, shelf_of, Walk, Holding}
 use Rattle.pagable_machine.proofs.{Words.{IsServing, KeepsOne, Makes, machine_of, readings_in, IsBegun, IsWalkKept, shelf_at}, Keeping.{are-these, as-before, at-one, kept-on, makes, makes-with}}
 use Rattle.{pagable_machine.proofs.{Keeping.{not-same, one-serves, updated-at}, Leaving.{Leaves, same}, Passing.{Passes, event-passes}}, pagable_walk.proofs.Turning.plain-fits}
 use Rattle.pagable_world.specs.declared.{handles.Owner.Owner, events.EventReply.EventReply}
@@ -25,8 +25,7 @@ module _ {X : Type 0} {g : Ghosts X} where
   -- the tables with one more, which has no claim
   shelf-added : (tables : List (SlotTable X g)) (new : SlotTable X g) → SameShelf no_shelf (shelf_of new) → (t : ℕ)
       → SameShelf (updated (length tables + 1) no_shelf (shelf_at tables) t) (shelf_at (tables ++ new ∷ []) t)
-  shelf-added tables new empty zero = grind (arith, nat_tests, at-end, elsewhere, not-same, same-number)
-  shelf-added tables new empty (suc n) = grind (arith, nat_tests, at-end, elsewhere, not-same, same-number)
+  shelf-added tables new empty x3 = grind (arith, nat_tests, at-end, elsewhere, not-same, same-number)
 
   module _ {N B W E : Type 0} (m : Seen N B W) (s : PagerState N E) (h : Holding g) (new : SlotTable X g) (serving : IsServing s.core h) (was : WellFormed m.values s) where
     abbrev with_table : Holding g
@@ -40,7 +39,7 @@ module _ {X : Type 0} {g : Ghosts X} where
           made = (
             number,
             still s.core,
-            are-these s.core h.readings (readings_in h.readings s.core) (λ l load is. as-before serving.readings on l load is),
+            are-these s.core h.readings (readings_in h.readings s.core) (λ l load is. as-before serving.readings (same {me = Owner.Caller} s.core) l load is),
             record {
               same_shelves = λ q. subst (λ n. SameShelf (updated n no_shelf (shelf_at h.tables) q) (shelf_at (h.tables ++ new ∷ []) q)) (sym number) (shelf-added h.tables new empty q);
               last_is = length-append h.tables (new ∷ []) ∙ sym number;
@@ -50,9 +49,6 @@ module _ {X : Type 0} {g : Ghosts X} where
           refused = tt;
         })
         (record { each = λ n x is. inl is; environment = refl }) tt serving.readings
-      where
-        on : Leaves Owner.Caller s.core.workers s.core s.core
-        on = same s.core
 
 -- ---- a worker
 

@@ -1,10 +1,10 @@
 -- Each event of tables and workers, by what the pager and what is kept say of it.
-use Rattle.pagable_machine.proofs.Words.{Result, IfOk, IfErr, OnErr, still, ◌≡◌, ℕ, ◌+◌, ◌<◌, ◌≤◌, true, false, List, [], ◌∷◌, ◌++◌, Option, Some, None, Ok, Err, ◌⊎◌, inl, inr, refl, sym, subst}
-use Rattle.pagable_machine.proofs.Words.{◌∙◌, length, arith, is_none, is_some, option_map, Global, Arc, Vec, nat_tests, SerializedData, Error, ArcRef, HandleNumber, WorkerNumber, TableNumber}
+use Rattle.pagable_machine.proofs.Words.{still, ◌≡◌, ℕ, ◌+◌, ◌<◌, ◌≤◌, true, false, List, [], ◌∷◌, ◌++◌, Option, Some, Ok, Err, ◌⊎◌, inl, inr, refl, sym, subst}
+use Rattle.pagable_machine.proofs.Words.{length, arith, is_none, is_some, option_map, Global, Arc, Vec, nat_tests, SerializedData, Error, ArcRef, HandleNumber, WorkerNumber, TableNumber}
 use Rattle.pagable_machine.proofs.Words.{WorkerReply, HandleRow, Blob, if_there, HasNoKinds, identity_of, Alike, SameShelf, Seen, Values, Walking, Written, of_entry, of_item, Called}
 use Rattle.pagable_machine.proofs.Words.{WorkerStarts, IsEntry, IsNoTable, IsTable, entry_task, no_shelf, with_entry_taken, PagerState, WellFormed, world_of, RefusesEntry, StartsEntry, PagerView}
 use Rattle.pagable_machine.proofs.Words.{Telling, state_in, Ghosts, SlotTable, written_of, shelf_of, plain, Held, Walk, Holding, KeepsOne, Makes, machine_of, IsBegun, WalksOn, has_task, is_table}
-use Rattle.pagable_machine.proofs.{Words.{walking_of, Answer, ByNumber, Drives, Given, IsInStep, holding, kept_at, over}, Keeping.{KeepsAll, refuses, stays}, Happening.keeps-after}
+use Rattle.pagable_machine.proofs.{Words.{walking_of, Answer, ByNumber, Drives, Given, IsInStep, holding, kept_at, over}, Keeping.{KeepsAll, refuses, stays}}
 use Rattle.pagable_machine.proofs.{Beginning.{starts-so, table-made, worker-made}, Stepping.worker-moved, Leaving.{entry-leaves, item-leaves}}
 use Rattle.pagable_world.specs.declared.events.{EventReply.EventReply, Event.Event}
 use Rattle.pagable_world.specs.World as world
@@ -95,20 +95,11 @@ module _ {X : Type 0} {g : Ghosts X} {N S E : Type 0} (v : E → Values N) (tell
           cause : ((e ≡ Error.NoSuchHandle) × (IsNoTable u t ⊎ (length s.core.list ≤ i)))
               ⊎ ((e ≡ Error.WrongKind) × IsTable u t × ((q : HandleNumber) × (row : HandleRow) × (type : ℕ) × IsEntry s.core i q row type × HasNoKinds type))
               ⊎ ((e ≡ Error.OutOfMemory) × IsTable u t × (i < length s.core.list))
-          cause = elim why [
-            | inl (is, inl none) ↦ inl (is, inl (none-is t.0 held.tables.items none))
-            | inl (is, inr past) ↦ inl (is, inr past)
-            | inr (there, within, inl is) ↦ inr (inr (is, there-is t.0 held.tables.items there, within))
-            | inr (there, within, inr (is, entry)) ↦ inr (inl (is, there-is t.0 held.tables.items there, entry))
-          ]
+          cause = grind (arith, nat_tests, none-is, there-is)
 
     pub entry-refused : (e : Error) (i : ℕ) → is_table t.0 held.tables.items ≡ true → i < length s.core.list → RefusesEntry (v old.environment) s i e s'
         → ((q : ℕ) → kept_at walks' q ≡ kept_at held.walks q) → Happens (Event.WorkerListed t i) (EventReply.WorkerMade (Err e)) new left
-    entry-refused e i there within r same_walks = listed-refused e r.stays same_walks i (elim r.why [
-      | inl (is, past) ↦ inl (is, inr past)
-      | inr (inl (is, entry)) ↦ inr (there, within, inr (is, entry))
-      | inr (inr is) ↦ inr (there, within, inl is)
-    ])
+    entry-refused e i there within r same_walks = listed-refused e r.stays same_walks i (grind (arith, nat_tests))
 
     module _ (n : WorkerNumber) (k : Walk X g) (there : is_table t.0 held.tables.items ≡ true) (keeps : KeepsOne (kept_at held.walks) n.0 (Some k) (kept_at walks')) where
       pub listed-started : (i : ℕ) (r : ArcRef) → StartsEntry (v old.environment) s i n r s' → IsBegun t (of_entry r.handle (identity_of r)) k
@@ -135,22 +126,17 @@ module _ {X : Type 0} {g : Ghosts X} {N S E : Type 0} (v : E → Values N) (tell
                 }) starts.begins.moves;
           }
 
-    -- by what the begin of a worker answers
-    pub item-begun : (mid : ByNumber (Walk X g)) → ((q : ℕ) → kept_at mid q ≡ kept_at held.walks q) → (item : SerializedData) (k : Walk X g) (r : Result WorkerNumber Error)
-        → is_table t.0 held.tables.items ≡ true → IsBegun t (of_item (written_of item)) k → IfOk r (λ n. WorkerStarts (v old.environment) s.core s n.0 s')
-        → IfErr r (λ e. (e ≡ Error.OutOfMemory) × Called (v old.environment) (λ w'. Alike s.core w') s s') → IfOk r (λ n. KeepsOne (kept_at mid) n.0 (Some k) (kept_at walks'))
-        → OnErr r ((q : ℕ) → kept_at walks' q ≡ kept_at mid q) → Happens (Event.WorkerItem t item) (EventReply.WorkerMade r) new left
-    item-begun mid as_was item k (Ok n) there begun starts refused keeps _ =
-        let formed = starts.begins.whole in
-        let on = item-leaves starts.begins.step in
-        let table = there-is t.0 held.tables.items there in
-        let task = of_item (written_of item) in
-        let own = keeps-after as_was keeps in
-        record {
-          makes = worker-made m s s' h serving was formed on t task n k table starts.next begun own (Event.WorkerItem t (written_of item)) (λ q. refl)
-              (record { starts = starts-so m s s' h serving was formed on t task n k table starts.next begun own s.core starts.begins.step; refused = tt }) starts.begins.moves;
-        }
-    item-begun mid as_was item k (Err e) there begun starts refused keeps same = item-refused e refused.1 (λ q. same q ∙ as_was q) item (inr (refused.0, there))
+      pub item-started : (item : SerializedData) → WorkerStarts (v old.environment) s.core s n.0 s' → IsBegun t (of_item (written_of item)) k
+          → Happens (Event.WorkerItem t item) (EventReply.WorkerMade (Ok n)) new left
+      item-started item starts begun =
+          let formed = starts.begins.whole in
+          let on = item-leaves starts.begins.step in
+          let table = there-is t.0 held.tables.items there in
+          let task = of_item (written_of item) in
+          record {
+            makes = worker-made m s s' h serving was formed on t task n k table starts.next begun keeps (Event.WorkerItem t (written_of item)) (λ q. refl)
+                (record { starts = starts-so m s s' h serving was formed on t task n k table starts.next begun keeps s.core starts.begins.step; refused = tt }) starts.begins.moves;
+          }
 
   -- ---- a worker's step
 
@@ -164,8 +150,7 @@ module _ {X : Type 0} {g : Ghosts X} {N S E : Type 0} (v : E → Values N) (tell
       }
     where
       by : (found : Option (Walk X g)) → kept_at held.walks n.0 ≡ found → has_task found ≡ false → if_there (λ (walking : Walking). is_some walking.answer) true (option_map walking_of found) ≡ true
-      by None is none = refl
-      by (Some k) is none = answered k (serving.walks n.0 k is).either none
+      by found is none = grind (arith, nat_tests, answered)
 
   pub step-drives : (n : WorkerNumber) (k k' : Walk X g) (reply : WorkerReply (Arc SerializedData Global)) (tables' : Vec (SlotTable X g) Global) (walks' : ByNumber (Walk X g))
       → kept_at held.walks n.0 ≡ Some k

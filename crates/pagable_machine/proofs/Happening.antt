@@ -107,8 +107,7 @@ module _ {X : Type 0} {g : Ghosts X} {N S E : Type 0} (v : E → Values N) (tell
   key-none-drives key t (Err e) why serves formed as_was =
       record { makes = key-refused m s s' h (kept_at kept') serving was (whole-still serves.moves formed) key t e serves.step serves.moves (forgets-none s'.core as_was) }
   key-none-drives key t (Ok Beginning.InMemory) why serves formed as_was = absurd serves.step.does.begins
-  key-none-drives key t (Ok (Beginning.Load l k)) (inl (e, is)) serves formed as_was = absurd (cc)
-  key-none-drives key t (Ok (Beginning.Load l k)) (inr is) serves formed as_was = absurd (cc)
+  key-none-drives key t (Ok (Beginning.Load l k)) why serves formed as_was = absurd (elim why [ inl (e, is) ↦ cc | inr is ↦ cc ])
 
   module _ (l : LoadNumber) (key : ℕ) (t : Option ℕ) (reads : ReadsAs s.core l key t) where
     pub step-drives : (kept1 kept2 : Readings) (reply : LoadReply N) → IsPrepared (kept_at kept) l key t (kept_at kept1) → KeptStep (v old.environment) (kept_at kept1) l.0 reply (kept_at kept2) s s'

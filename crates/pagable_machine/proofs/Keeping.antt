@@ -4,7 +4,7 @@ use Rattle.pagable_machine.proofs.Words.{refl, sym, ap, subst, ◌∙◌, arith,
 use Rattle.pagable_machine.proofs.Words.{updated, is_owner, Alike, Core, Last, OpenLoad, Reading, Walking, of_key, Seen, Values, fresh, step_of, CallStep, Happens, Stays, WorkStays}
 use Rattle.pagable_machine.proofs.Words.{EventBrings, HandlesAreWhole, IsMachineWhole, IsReadingWhole, IsWalkingWhole, Moves, PagerState, ReplyWrites, WellFormed, world_of, same_some, same-number}
 use Rattle.pagable_machine.proofs.Words.{self-number, reading_of, Ghosts, Walk, AllKept, Forgets, Holding, IsKept, IsServing, KeepsOne, Kept, Makes, ReadsFor, machine_of, readings_in, work_of}
-use Rattle.pagable_machine.proofs.{Words.{IsWalkKept, walking_of}, Leaving.{Leaves, call-leaves, like}, Passing.{Passes, event-passes}, Fitting.walk-on}
+use Rattle.pagable_machine.proofs.{Words.{IsWalkKept, walking_of}, Leaving.{Leaves, call-leaves, like}, Passing.{Passes, event-passes, walk-on}}
 use Rattle.pagable_loads.specs.declared.reading.Reading.{Reading as Own}
 use Rattle.pagable_world.specs.Events.{ReadingsAre}
 
@@ -62,7 +62,7 @@ machine-whole {X} {g} v s h formed serving =
     record {
       pager = formed;
       readings = λ l reading is. of l reading (s.core.loads l) refl (h.readings l) refl is;
-      walkings = λ n walking is. of-walk n walking (h.walks n) refl is;
+      walkings = of-walk;
       all_there = λ n is. let there = serving.all_there n is in grind (arith, nat_tests);
     }
   where
@@ -75,11 +75,8 @@ machine-whole {X} {g} v s h formed serving =
         let r = k.reads load e in
         subst (λ x. IsReadingWhole s.core l x) (same_some _ _ is) (record { number = k.number; load = load; open_load = e; owned = r.owned; typed = r.typed })
 
-    of-walk : (n : ℕ) (walking : Walking) (found : Option (Walk X g)) → h.walks n ≡ found → option_map walking_of found ≡ Some walking → IsWalkingWhole s.core (work_of h s.core) n walking
-    of-walk n walking None e is = absurd (cc)
-    of-walk n walking (Some k) e is =
-        let kept = serving.walks n k e in
-        subst (λ x. IsWalkingWhole s.core (work_of h s.core) n x) (same_some _ _ is) (record { table = kept.table; at_work = kept.at_work })
+    of-walk : (n : ℕ) (walking : Walking) → option_map walking_of (h.walks n) ≡ Some walking → IsWalkingWhole s.core (work_of h s.core) n walking
+    of-walk n walking is = let k = serving.walks n in grind (arith, nat_tests, same_some, serving.walks, k)
 
 -- ---- events
 
@@ -212,9 +209,6 @@ module _ {X : Type 0} {g : Ghosts X} {N B W E : Type 0} (m : Seen N B W) (s s' :
   pub refuses : (event : Event N B W) (reply : EventReply N B W) → ((v : ℕ) → step_of v event reply ≡ []) → Happens m (world_of (machine_of s h)) event reply (world_of (machine_of s' h'))
       → Moves (λ n x. ⊥) s s' → ReplyWrites m s reply → Makes m s h event reply s' h'
   refuses event reply none happens moves writes =
-      makes m s s' serving was formed (of-same _ _ (ap length keeps.tables)) keeps.walks on event reply none happens
+      makes m s s' serving was formed (let e : length h'.tables ≡ length h.tables = ap length keeps.tables in omega (arith, e)) keeps.walks on event reply none happens
       (record { each = λ n x is. elim (moves.each n x is) [ inl there ↦ inl there | inr came ↦ absurd came.1 ]; environment = moves.environment }) writes
       (kept-on serving.readings on (λ l own is. inl (sym (keeps.readings l) ∙ is)))
-    where
-      of-same : (a b : ℕ) → b ≡ a → a ≤ b
-      of-same a b is = omega arith

@@ -1,13 +1,10 @@
 mod Words
 pub mod Leaving
 pub mod Passing
-pub mod Fitting
 pub mod Keeping
 pub mod Loading
 pub mod Beginning
 pub mod Stepping
 pub mod Happening
-pub mod Seeing
 pub mod Running
 pub mod Driven
-mod Setting

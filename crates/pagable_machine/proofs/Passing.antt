@@ -3,6 +3,8 @@ use Rattle.pagable_machine.proofs.Words.{◌≡◌, ℕ, ◌<◌, ◌≤◌, ◌
 use Rattle.pagable_machine.proofs.Words.{one, is_handle, is_owned_by, is_owner, owner_worker, Cell, Core, OpenLoad, Seen, World, CloseCall, is_listed, shut, Happens, step_of, IsWhole, OwnersAreThere}
 use Rattle.pagable_machine.proofs.Words.{Change, nothing_felt, event-goes, Goes, RowsGo, fell-anyhow, quiet-goes, Stands, Free, Spares, then-fell, event-spares, counted, one-true, same-number}
 use Rattle.{pagable_machine.proofs.Words.worker-apart, pagable_world.specs.declared.{handles.Owner.Owner, calls.{Reply.Reply, Call.Call}}}
+use Rattle.pagable_machine.proofs.Words.{common_steps, rules, ArcRef, HandleNumber, HandlesAreWhole, StandsAt, stands-whole, Ghosts, Task, HoldsPin, IsLoading, IsOfKind, TaskFits, Walk, IsWalkKept}
+use Rattle.pagable_loads.specs.declared.reading.Reading.{Reading as Own}
 
 -- the worker's handles and open loads are as they were, and handles and nodes that are there stay what they are
 pub record Passes (v : ℕ) (w w' : Core) : Type 0 where
@@ -59,3 +61,44 @@ event-passes m v u u' whole (Event.Call Call.Close) (EventReply.CallReply (Reply
 event-passes m v u u' whole (Event.Call Call.Close) (EventReply.CallReply reply) others h loads = absurd h.step.does
 event-passes m v u u' whole (Event.Call Call.Close) reply others h loads = absurd h
 event-passes m v u u' whole event reply others h loads = by-goes v u.core u'.core (event-goes m u u' event reply tt h).goes (event-spares m v u u' whole.owners_there event reply others tt h) loads
+
+-- what a machine keeps of a worker stays in step with the pager through each event that the worker doesn't make
+module _ {v : ℕ} {w w' : Core} (whole : HandlesAreWhole w) (passes : Passes v w w') where
+  stands-on : {r : ArcRef} {h : HandleNumber} → StandsAt w r h → StandsAt w' r h
+  stands-on {r} {h} s =
+      record {
+        node_given = let a = s.node_given in let b = passes.nodes in omega (arith, a, b);
+        given = let a = s.given in let b = passes.handles in omega (arith, a, b);
+        is = λ row live. let was = passes.rows h.0 row live s.given in let old = s.is was.was was.live in (sym was.at ∙ old.0, λ kind. was.loose (old.1 kind));
+      }
+
+  kind-on : {r : ArcRef} → IsOfKind w r → IsOfKind w' r
+  kind-on {r} k = first_of (grind (arith, common_steps, nat_tests), search (rules))
+
+  load-on : {r : ArcRef} {through : HandleNumber} {own : Own} → IsLoading w v r through own → IsLoading w' v r through own
+  load-on l =
+      record {
+        is = record {
+          load = l.is.load;
+          owned = record { stands_open = passes.loads _ _ l.is.owned.stands_open l.is.owned.own; own = l.is.owned.own };
+          key = l.is.key;
+          sort = l.is.sort;
+        };
+        for_cell = l.for_cell;
+        t = l.t;
+        root = l.root;
+      }
+
+  pin-on : {r : ArcRef} {k : HandleNumber} → HoldsPin w (owner_worker v) r k → HoldsPin w' (owner_worker v) r k
+  pin-on {r} {k} p =
+      let s = passes.spares.each k.0 p.pins.row p.own (stands-whole whole k.0 p.pins.row p.pins.live) in
+      record { pins = record { row = p.pins.row; live = s.live; at = p.pins.at; pins = p.pins.pins }; own = p.own }
+
+  fits-on : {X : Type 0} {g : Ghosts X} (task : Task X g) → TaskFits v w task → TaskFits v w' task
+  fits-on (Task.Pin r place) (stands, kind) = (stands-on stands, kind-on kind)
+  fits-on (Task.Load r place through own) (kind, loading) = (kind-on kind, load-on loading)
+  fits-on (Task.Write r place through pin) (kind, holds) = (kind-on kind, pin-on holds)
+  fits-on task fits = tt
+
+  pub walk-on : {X : Type 0} {g : Ghosts X} {last last' : ℕ} {k : Walk X g} → last ≤ last' → w'.workers v ≡ w.workers v → IsWalkKept w last v k → IsWalkKept w' last' v k
+  walk-on more same k = first_of (grind (arith, common_steps, nat_tests), grind (arith, nat_tests, fits-on), search (rules, fits-on))

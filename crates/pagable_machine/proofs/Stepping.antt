@@ -1,5 +1,5 @@
--- A worker's step.
-use Rattle.pagable_machine.proofs.Words.{nat_tests, common_steps, rules, ◌≡◌, ◌≢◌, ℕ, zero, suc, ◌≤◌, ◌==◌, Bool, true, false, List, [], ◌∷◌, Option, Some, None, Ok, inl, inr, if◌then◌else◌, refl}
+-- A worker's step, and the table that it writes in its place.
+use Rattle.pagable_machine.proofs.Words.{nat_tests, common_steps, rules, ◌≡◌, ◌≢◌, ℕ, suc, ◌≤◌, ◌==◌, Bool, true, false, List, [], ◌∷◌, Option, Some, None, Ok, inl, inr, if◌then◌else◌, refl}
 use Rattle.pagable_machine.proofs.Words.{sym, ap, subst, ◌∙◌, length, arith, is_none, is_some, option_map, Arc, Global, SerializedData, WorkerNumber, Took, WorkerAnswer, WorkerReply, Blob, if_there}
 use Rattle.pagable_machine.proofs.Words.{updated, is_owner, owner_worker, Core, SameShelf, Seen, Shelf, Todo, Values, Written, Site, WalkDoes, answer_after, is_counted, Ends, Happens, WorkerSteps}
 use Rattle.pagable_machine.proofs.Words.{no_shelf, steps_after, PagerState, TodoBrings, WellFormed, world_of, same-number, Ghosts, SlotTable, Task, Turn, Waiting, shelf_of, todo_of, todos, LeavesFit}
@@ -8,16 +8,26 @@ use Rattle.pagable_machine.proofs.{Words.{shelf_at, task_in, todo_left, walking_
 use Rattle.{pagable_machine.proofs.{Leaving.{Leaves, leaves-so, end-leaves, works_after}, Passing.{Passes, event-passes}}, pagable_laws.proofs.{Effects.owned-mine, ReadingSteps.{FrontMine, walk-goes}}}
 use Rattle.{pagable_world.specs.declared.events.{EventReply.EventReply, Event.Event}, pagable_walk.specs.{Slots.{keys_of, written_of}, Tasks.waits_as, Turns.Stepped, declared.tasks.Node.Node}}
 use Rattle.std.specs.Arc.{arc_value}
+use Rattle.pagable_machine.proofs.Words.{◌<◌, slice_get, set, get_or-set_same, get_or-set_other, length-set, slice_get_read, slice_get_cases, slice_get_past}
+
+-- ---- a table of a list is written in its place
+
+others-stay : {Y : Type 0} (xs : List Y) (i q : ℕ) (y : Y) → q ≢ i → slice_get (set xs i y) q ≡ slice_get xs q
+others-stay xs i q y other = grind (arith, nat_tests, get_or-set_other, length-set, set, slice_get_cases, slice_get_past, slice_get_read)
+
+pub set-at : {X : Type 0} {g : Ghosts X} (tables tables' : List (SlotTable X g)) (place : ℕ) (table : SlotTable X g) → place < length tables → tables' ≡ set tables place table
+    → SetsTable tables place table tables'
+set-at {X} {g} tables tables' place table within is = subst (λ (list : List (SlotTable X g)). SetsTable tables place table list) (sym is) (record {
+  len = length-set tables place table;
+  here = slice_get_read (set tables place table) _ place table refl (subst (λ n. place < n) (sym (length-set tables place table)) within) (sym (get_or-set_same tables place table table within));
+  others = λ q other. others-stay tables place q table other;
+})
+
+-- ---- the step
 
 -- the load that it goes on with is its own
 front-mine : {X : Type 0} {g : Ghosts X} (n : ℕ) (w : Core) (task : Task X g) (below : List Todo) → TaskFits n w task → FrontMine w (owner_worker n) (todo_of task ∷ below)
-front-mine n w (Task.Load r place through own) below (kind, loading) = owned-mine loading.is.owned
-front-mine n w (Task.Finish k) below fits = by k.node
-  where
-    by : (node : Option Node) → FrontMine w (owner_worker n) (waits_as node (written_of (arc_value k.written)) (keys_of k.children.items) ∷ below)
-    by None = tt
-    by (Some q) = tt
-front-mine n w task below fits = tt
+front-mine n w x2 below fits = grind (arith, nat_tests, owned-mine)
 
 module _ {X : Type 0} {g : Ghosts X} where
   -- what is left to be done is the plan
@@ -33,8 +43,7 @@ module _ {X : Type 0} {g : Ghosts X} where
   -- the shelf of a table that is set, and of the others
   shelf-set : (tables tables' : List (SlotTable X g)) (place : ℕ) (table : SlotTable X g) (after : Shelf) → SetsTable tables place table tables' → SameShelf after (shelf_of table) → (t : ℕ)
       → SameShelf (updated (suc place) after (shelf_at tables) t) (shelf_at tables' t)
-  shelf-set tables tables' place table after sets same zero = first_of (grind (arith, common_steps, nat_tests), grind (arith, nat_tests, same-number), search (rules, same-number))
-  shelf-set tables tables' place table after sets same (suc q) =
+  shelf-set tables tables' place table after sets same x7 =
       first_of (grind (arith, common_steps, nat_tests), grind (arith, nat_tests, same-number, not-same), search (rules, same-number, not-same))
 
 apart : (q n : ℕ) → q ≢ n → (q == n) ≡ false

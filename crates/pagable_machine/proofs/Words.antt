@@ -19,7 +19,7 @@ pub use Rattle.pagable_world.specs.Events.{with_worker, IsEntry, IsNoTable, entr
 pub use Rattle.pagable_world.specs.{Events.{reading_of_root, step_fault, Ends, WorkerSteps, steps_after}, Kinds.{is_owner, HasNoKinds, identity_of, owner_worker, is_handle}}
 pub use Rattle.pagable_world.specs.{Kinds.is_owned_by, LoadCalls.{DropCall, LoadCloses}, Loads.gone_on, Order.step_of, Pager.{Moves, PagerState, WellFormed, world_of}}
 pub use Rattle.pagable_world.specs.Pager.{HandlesAreWhole, CallBrings, EventBrings, IsMachineWhole, IsReadingWhole, IsWalkingWhole, ReplyWrites, FitsRoot, IsWhole, OwnersAreThere}
-pub use Rattle.pagable_world.specs.{Pager.{MachineState, TodoBrings}, Plain.{updated, Blob, if_there, SameAt, or_else, one}, Refusals.{load_fault, OwnsLoad, earlier, refused_if}}
+pub use Rattle.pagable_world.specs.{Pager.{MachineState, TodoBrings}, Plain.{updated, Blob, if_there, SameAt, or_else, one}, Refusals.{load_fault, OwnsLoad}}
 pub use Rattle.pagable_world.specs.{Runs.{Moment, AreMoments, HasRun}, Workers.{fresh, Site, WalkDoes, answer_after, is_counted}, World.{Alike, Core, SameShelf, Seen, Values}}
 pub use Rattle.pagable_world.specs.World.{Walking, Written, of_entry, of_item, Last, OpenLoad, Reading, of_key, Frame, Root, of_cell, one_more, Cell, World, Shelf, Todo}
 pub use Rattle.pagable_world.specs.declared.{answers.Beginning.Beginning, calls.Call.Call, calls.Reply.Reply, events.Event.Event, events.EventReply.EventReply}
@@ -29,6 +29,6 @@ pub use Rattle.std.proofs.Common.{rules, ◌≡◌, ◌≢◌, ℕ, zero, suc, �
 pub use Rattle.std.proofs.{Common.{Bool, false, None, Err, ◌⊎◌, ◌==◌, if◌then◌else◌, ◌&&◌, map, vec_len, ◌-◌}, Math.ListN.set, Math.Path.fun_ext, lemmas.Bool.and_parts}
 pub use Rattle.std.proofs.lemmas.{Bool.Decides.nat_tests, Grind.common_steps, List.{length-append, append-nil, append_assoc, map-append, length-map, get_or-set_same}}
 pub use Rattle.std.proofs.lemmas.{List.{get_or-set_other, length-set}, Map.Made.lookup-map_values, Option.{slice_get-map, slice_get_read, slice_get_cases, slice_get_past}}
-pub use Rattle.std.specs.{Map.lookup, Option.option_map, Prelude.{is_some, slice_get, Result, IfOk, IfErr, OnErr, is_none, not, nat_lt, nat_eq}, Vec.vec_capacity}
+pub use Rattle.std.specs.{Map.lookup, Option.option_map, Prelude.{is_some, slice_get, Result, is_none, nat_lt, nat_eq}, Vec.vec_capacity}
 pub use Rattle.std.specs.declared.{alloc.Global.Global, sync.Arc.Arc, vec.Vec.Vec}
 unfoldable pub use Rattle.pagable_world.specs.Runs.{state_after}

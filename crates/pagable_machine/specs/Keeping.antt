@@ -4,7 +4,7 @@ use Rattle.pagable_model.specs.declared.error.Error.{Error}
 use Rattle.{pagable_model.specs.declared.numbers.LoadNumber.LoadNumber, pagable_world.specs.{World.{Core, OpenLoad, Reading, Seen, Values, Work, one_more}, declared.events.Event.Event}}
 use Rattle.pagable_world.specs.{declared.{events.{EventReply.EventReply, LoadAnswer.LoadAnswer, LoadReply.LoadReply}, handles.Owner.Owner}, Plain.if_there, Refusals.{Refused, spent}}
 use Rattle.{pagable_world.specs.{Access.ReadingStep, Workers.fresh, Pager.{FitsRoot, MachineState, PagerState}, Runs.Does}, pagable_walk.specs.declared.results.Trees.Ghosts}
-use Rattle.{pagable_walk.specs.declared.table.SlotTable.SlotTable, pagable_machine.specs.{declared.held.Walk.Walk, Walking.{IsWalkKept, shelf_at, walking_of}}}
+use Rattle.{pagable_walk.specs.declared.table.SlotTable.SlotTable, pagable_machine.specs.{declared.{held.Walk.Walk, readings.Unread.Unread}, Walking.{IsWalkKept, shelf_at, walking_of}}}
 use Rattle.pagable_loads.specs.{declared.reading.Reading.Reading as Own, Frames.{IsLoadOf, is_cell, reading_of}, Stepping.IsSameLoad}
 
 -- what is kept of loads, by their numbers
@@ -97,3 +97,8 @@ rest_after (Some answer) own = None
 -- no load of a key begins, and nothing changes
 abbrev pub BeginsNoKey : Core → Error → Type 0
 BeginsNoKey w e = Refused (spent w.last.load) (spent w.last.load) (Unit {0}) w e w
+
+-- why an open load isn't read: it is of a cell of a type, or of no cell
+abbrev pub IsUnread : Option ℕ → Unread → Type 0
+IsUnread t Unread.NoPlace = (type : ℕ) × (t ≡ Some type)
+IsUnread t Unread.Untyped = t ≡ None

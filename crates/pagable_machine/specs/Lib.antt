@@ -2,4 +2,3 @@ pub mod Serving
 pub mod Walking
 pub mod Keeping
 pub mod Driving
-pub mod Unread

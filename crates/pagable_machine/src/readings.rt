@@ -2,7 +2,7 @@
 
 ghost use Rattle.std.specs.{Prelude.{◌≡◌, ◌≢◌, ◌<◌, ℕ, Some, None, IsSome, IfErr, OnOk, OnErr, is_some, Result}, HashMap.spare};
 ghost use Rattle.pagable_machine.specs.Driving.{kept_at, Drives, IsInStep, over};
-ghost use Rattle.{pagable_machine.specs.{Keeping.{IsPrepared, KeepsOne, rest_after, Stepped}, Unread.IsUnread}, pagable_model.specs.declared.error.Error.Error};
+ghost use Rattle.{pagable_machine.specs.Keeping.{IsPrepared, IsUnread, KeepsOne, rest_after, Stepped}, pagable_model.specs.declared.error.Error.Error};
 ghost use Rattle.pagable_world.specs.{LoadCalls.DropCall, Pager.Moves, Access.Told, declared.{handles.Owner.Owner, events.{EventReply.EventReply, Event.Event}}};
 ghost use Rattle.{pagable_loads.specs.Telling.values_at, pagable_pager.specs.View.{core_in, state_in, telling}};
 

@@ -1,11 +1,11 @@
 //! Tables of page-out, workers on them, and a worker's step.
 
-ghost use Rattle.std.specs.{Prelude.{◌≡◌, ◌<◌, ◌⊎◌, ℕ, Some, IfOk, IfErr, OnOk, OnErr, true, false, ◌≤◌, ◌∷◌, length, is_some}, HashMap.spare};
+ghost use Rattle.std.specs.{Prelude.{◌≡◌, ◌<◌, ◌⊎◌, ℕ, Some, IfOk, IfErr, OnOk, true, false, ◌≤◌, ◌∷◌, length, is_some}, HashMap.spare};
 ghost use Rattle.pagable_world.specs.Kinds.{identity_of, owner_worker};
-ghost use Rattle.pagable_world.specs.{World.{Alike, of_entry, of_item}, Access.{Called, WorkerStarts}, declared.events.{EventReply.EventReply, Event.Event}, Events.steps_after};
+ghost use Rattle.pagable_world.specs.{World.{Alike, of_entry, of_item}, Access.{Called, WorkerStarts}, declared.events.{EventReply.EventReply, Event.Event}};
 ghost use Rattle.{pagable_loads.specs.{Telling.values_at, Working.{RefusesEntry, StartsEntry}}, pagable_pager.specs.View.{core_in, state_in, telling}, pagable_walk.specs.Slots.written_of};
 ghost use Rattle.{pagable_walk.specs.{Table.shelf_of, Tasks.{IsWay, todo_of, todos}, Turns.{StepsTo, answer_in, plan}}, pagable_machine.specs.Walking.{IsBegun, is_table, IsAfter, WalksOn, has_task}};
-ghost use Rattle.pagable_machine.specs.{Walking.{task_in, todo_left}, Keeping.KeepsOne, Driving.{Drives, IsInStep, kept_at, over}};
+ghost use Rattle.pagable_machine.specs.{Walking.{task_in, todo_left}, Driving.{Drives, IsInStep, kept_at, over}};
 
 use crate::held::{Begun, Held, Walk};
 use crate::list;
@@ -44,13 +44,6 @@ where
     Ok(TableNumber(held.tables.len() as u64))
 }
 
-// Whether there is such a table.
-fn is_table<E: Trees>(tables: &Vec<SlotTable<E>>, table: TableNumber) -> bool
-    ensures { result ≡ is_table table.0 tables.now.items }
-{
-    0 < table.0 && table.0 <= tables.len() as u64
-}
-
 // A place for a worker more, on a table that there is. Refused with NoSuchHandle and OutOfMemory.
 fn ready<E: Trees>(
     walks: &mut IndexMap<u64, Walk<E>>,
@@ -62,31 +55,11 @@ fn ready<E: Trees>(
     ensures room { OnOk result (0 < spare walks.new) }
     ensures refused { IfErr result (λ e. ((e ≡ Error.NoSuchHandle) × (is_table table.0 tables.now.items ≡ false)) ⊎ ((e ≡ Error.OutOfMemory) × (is_table table.0 tables.now.items ≡ true))) }
 {
-    if !is_table(tables, table) {
+    if !(0 < table.0 && table.0 <= tables.len() as u64) {
         return Err(Error::NoSuchHandle);
     }
     reserve(walks)?;
     Ok(())
-}
-
-// What a worker has to do is kept of it, if it has begun.
-fn keep<E: Trees>(
-    walks: &mut IndexMap<u64, Walk<E>>,
-    begun: Result<WorkerNumber, Error>,
-    walk: Walk<E>,
-) -> Result<WorkerNumber, Error>
-    requires { 0 < spare walks.old }
-    ensures begun { result ≡ begun }
-    ensures keeps { IfOk begun (λ n. KeepsOne (kept_at walks.old) n.0 (Some walk) (kept_at walks.new)) }
-    ensures stays { OnErr begun ((q : ℕ) → kept_at walks.new q ≡ kept_at walks.old q) }
-{
-    match begun {
-        Ok(worker) => {
-            put(walks, worker.0, walk);
-            Ok(worker)
-        }
-        Err(e) => Err(e),
-    }
 }
 
 // What a worker for an item has to do. Refused by want of memory alone.
@@ -184,8 +157,13 @@ where
         Ok(walk) => walk,
         Err(e) => return Err(e),
     };
-    let begun = begin(pager);
-    keep(&mut held.walks, begun, walk)
+    match begin(pager) {
+        Ok(worker) => {
+            put(&mut held.walks, worker.0, walk);
+            Ok(worker)
+        }
+        Err(e) => Err(e),
+    }
 }
 
 /// A worker on a table begins, for the entry at this place of the list, counted from 0. Refused with NoSuchHandle where there is no such table or no such place, with
@@ -287,17 +265,6 @@ fn task_left<E: Trees>(turn: Turn<E>) -> Option<Task<E>>
     }
 }
 
-// How many steps a worker has made after one more.
-fn count(steps: u64, counted: bool) -> u64
-    ensures { result ≡ steps_after steps counted }
-{
-    if counted {
-        steps.saturating_add(1)
-    } else {
-        steps
-    }
-}
-
 // What a step came to is kept of the worker, and answered.
 fn settle<E: Trees>(walk: &mut Walk<E>, moved: Moved<E>) -> WorkerReply<Arc<SerializedData>>
     ensures after { IsAfter walk.old moved walk.new }
@@ -306,7 +273,11 @@ fn settle<E: Trees>(walk: &mut Walk<E>, moved: Moved<E>) -> WorkerReply<Arc<Seri
 {
     let answer = answer_of(&moved.turn);
     walk.answer = answer_of(&moved.turn);
-    let steps = count(walk.steps, moved.counted);
+    let steps = if moved.counted {
+        walk.steps.saturating_add(1)
+    } else {
+        walk.steps
+    };
     walk.steps = steps;
     walk.task = task_left(moved.turn);
     WorkerReply {

@@ -1,15 +1,11 @@
 -- What a load has read becomes a node, and what becomes of the pager then.
-use Rattle.pagable_pager.proofs.Words.{◌≡◌, ℕ, ◌+◌, ◌<◌, List, ap, sym, subst, ◌∙◌, refl, Option, Some, None, Ok, Err, nat_eq, inl, arith, ◌≢◌, not, Result, IfOk, IfErr, IfSome, IfNone, get}
-use Rattle.pagable_pager.proofs.Words.{OptionalDataKey, ArcRef, Kind, LoadNumber, HandleNumber, Owner, Error, if_there, is_owner, Core, OpenLoad, Alike, usable, Refused, load_fault, closed_fault}
-use Rattle.pagable_pager.proofs.Words.{refused_if, adopted, adopt_fault, AdoptCall, Adopts, IsNewNode, Moves, adopted_known, stayed, spares-alike, Tables, counts_at, IsWhole, Sheds, AreLater}
-use Rattle.pagable_pager.proofs.Words.{OnlyRoom, earlier-first, told-later, still, PagerView, Telling, Spelling, ValuesByNode, IsPager, OnlyLess, core_in, state_in, value_in, values_of, nat_tests}
-use Rattle.pagable_pager.proofs.Words.{greatest, plain_of, first_key, next-past, early-past, refused-memory, refused-new, adopted-past, Blob, Bool, false, core_of, adopts-new as made-new}
-use Rattle.{pagable_pager.proofs.{Shed.{shed, in-step}, Births.{told, moved-in}, Shut.{adopts-bare, bare-alike}}, pagable_tables.specs.{Asking.early_fault, Doing.Does}}
+use Rattle.pagable_pager.proofs.Words.{◌≡◌, ℕ, ◌+◌, ◌<◌, List, ap, sym, subst, ◌∙◌, refl, Option, Some, None, Ok, Err, nat_eq, inl, arith, ◌≢◌, not, Result, IfOk, IfErr, IfSome, IfNone, get, ArcRef}
+use Rattle.pagable_pager.proofs.Words.{Kind, LoadNumber, HandleNumber, Owner, Error, if_there, is_owner, Core, OpenLoad, Alike, usable, Refused, load_fault, closed_fault, refused_if, adopted}
+use Rattle.pagable_pager.proofs.Words.{adopt_fault, AdoptCall, Adopts, IsNewNode, Moves, adopted_known, stayed, spares-alike, Tables, counts_at, IsWhole, Sheds, AreLater, OnlyRoom, earlier}
+use Rattle.pagable_pager.proofs.Words.{earlier-first, told-later, still, PagerView, Telling, Spelling, ValuesByNode, IsPager, OnlyLess, core_in, state_in, value_in, values_of, nat_tests, greatest}
+use Rattle.pagable_pager.proofs.Words.{plain_of, first_key, next-past, early-past, refused-memory, refused-new, adopted-past, Blob, Bool, false, core_of, adopts-new as made-new}
+use Rattle.{pagable_pager.proofs.{Shed.{shed, in-step}, Births.{told, moved-in, only-room}, Shut.{adopts-bare, bare-alike}}, pagable_tables.specs.{Asking.early_fault, Doing.Does}}
 use Rattle.{pagable_world.specs.Calls.{IsNext, birth_fault}, pagable_steps.proofs.Births.adopts-new}
-
--- the new node has the next number
-pub adopted-node : (w : Core) {w' : Core} (l : LoadNumber) (kind : Kind) (key : ℕ) (own : OptionalDataKey) (rs : List ArcRef) → Alike (adopted w l kind key own rs) w' → w'.last.node ≡ w.last.node + 1
-adopted-node w l kind key own rs a = grind (arith, nat_tests)
 
 module _ {N S E : Type 0} (tells : Telling S) (g : Spelling N E) (p : PagerView N S E) (is : IsPager tells g p) (t : Tables) (values : ValuesByNode N)
     (whole : IsWhole t) (later : AreLater t) (sheds : Sheds (counts_at p.tables.holdings.nodes) (get nat_eq p.values) (counts_at t.holdings.nodes) (get nat_eq values)) where
@@ -20,25 +16,22 @@ module _ {N S E : Type 0} (tells : Telling S) (g : Spelling N E) (p : PagerView 
   pub stays-so : Alike (core_in tells p) (core_in tells after) → IsPager tells g after
   stays-so a = shed tells g p is t values whole later sheds (λ shut. bare-alike a (is.state.whole.shut shut)) (λ left. stayed is.state (spares-alike a) left)
 
-  -- and so does what was read and dropped
-  pub known-so : {me : Owner} {l : LoadNumber} {kind : Kind} {key u n : ℕ} {rs : List ArcRef} {k : HandleNumber} → Adopts (core_in tells p) me l kind key u rs k (core_in tells after)
-      → usable (core_in tells p) kind.0 key ≡ Some n → IsPager tells g after
-  known-so a known = shed tells g p is t values whole later sheds (λ shut. adopts-bare shut (is.state.whole.shut shut) a) (λ left. adopted_known is.state left a known)
-
   pub found-so : (me : Owner) (l : LoadNumber) (kind : Kind) (key u : ℕ) (rs : List ArcRef) (r : Result (Option HandleNumber) Error)
       → IfOk r (λ found. IfSome found (λ k. Adopts (core_in tells p) me l kind key u rs k (core_in tells after))) → IfOk r (λ found. IfSome found (λ k. (n : ℕ) × (usable (core_in tells p) kind.0 key ≡ Some n)))
       → IfOk r (λ found. IfNone found (t ≡ p.tables))
       → IfErr r (λ e. Refused (adopt_fault (core_in tells p) me l kind key u rs) (load_fault (core_in tells p) me l) (Unit {0}) (core_in tells p) e (core_in tells after)) → IsPager tells g after
-  found-so me l kind key u rs (Ok (Some k)) known given same refused = known-so known given.1
+  found-so me l kind key u rs (Ok (Some k)) known given same refused =
+      shed tells g p is t values whole later sheds (λ shut. adopts-bare shut (is.state.whole.shut shut) known) (λ left. adopted_known is.state left known given.1)
   found-so me l kind key u rs (Ok None) known given same refused =
       stays-so (subst (λ (x : Tables). Alike (core_in tells p) (core_in tells (record p { tables = x; values = values }))) (sym same) (still (core_in tells p)))
   found-so me l kind key u rs (Err e) known given same refused = stays-so refused.stays
 
--- why what a load has read becomes no node, where its references weren't had
-pub unlisted-gone : (w : Core) (me : Owner) (l : LoadNumber) (kind : Kind) (key u : ℕ) (rs : List ArcRef) → w.loads l.0 ≡ None → Refused (adopt_fault w me l kind key u rs) (closed_fault w l) (Unit {0}) w Error.NoSuchHandle w
-unlisted-gone w me l kind key u rs gone =
+-- why what a load has read neither becomes a node nor ends the load, where its references weren't had
+pub unlisted-gone : (w : Core) (me : Owner) (l : LoadNumber) (later : Option Error) → w.loads l.0 ≡ None
+    → Refused (earlier (load_fault w me l) later) (closed_fault w l) (Unit {0}) w Error.NoSuchHandle w
+unlisted-gone w me l later gone =
     let is : load_fault w me l ≡ Some Error.NoSuchHandle = ap (if_there (λ (load : OpenLoad). refused_if (not (is_owner me load.owner)) Error.NotYours) (Some Error.NoSuchHandle)) gone in
-    record { why = inl (earlier-first (load_fault w me l) _ Error.NoSuchHandle is (λ f late. omega (arith))); stays = still w }
+    record { why = inl (earlier-first (load_fault w me l) later Error.NoSuchHandle is (λ f late. omega (arith))); stays = still w }
 
 -- fewer values are there, and no other
 pub less-moves : {N S E : Type 0} (tells : Telling S) {comes : ℕ → N → Type 0} (p q : PagerView N S E) → OnlyLess p q → Moves comes (state_in tells p) (state_in tells q)
@@ -60,9 +53,6 @@ module _ {N S E : Type 0} {tells : Telling S} {g : Spelling N E} {p q : PagerVie
   fresh-in : (stored : ℕ → Option Blob) (closed : Bool) (failures : ℕ) → early_fault (core_of p.tables stored closed failures) me l kind (g.type_of x) rs ≡ None
   fresh-in stored closed failures = subst (λ (v : PagerView N S E). early_fault (core_of v.tables stored closed failures) me l kind (g.type_of x) rs ≡ None) (sym viewed) (fresh stored closed failures)
 
-  fresh-here : early_fault (core_in tells p) me l kind (g.type_of x) rs ≡ None
-  fresh-here = fresh-in (tells.stored p.storage) (tells.closed p.storage) (tells.failed p.storage)
-
   unknown-in : usable (plain_of p.tables) kind.0 key ≡ None
   unknown-in = subst (λ (v : PagerView N S E). usable (plain_of v.tables) kind.0 key ≡ None) (sym viewed) unknown
 
@@ -81,23 +71,17 @@ module _ {N S E : Type 0} {tells : Telling S} {g : Spelling N E} {p q : PagerVie
 
   pub new-refused : {w' : Core} {e : Error} → Refused (birth_fault (core_in tells p)) (birth_fault (core_in tells p)) (Unit {0}) (core_in tells p) e w'
       → AdoptCall (core_in tells p) me l kind key x (g.type_of x) (g.refs_of x) (Err (e, x)) w'
-  new-refused r = not-adopted refl (refused-new (core_in tells p) me l kind key (g.type_of x) rs fresh-here unknown-in r)
+  new-refused r = not-adopted refl (refused-new (core_in tells p) me l kind key (g.type_of x) rs (fresh-in _ _ _) unknown-in r)
 
   module _ {t1 : Tables} (mid : ValuesByNode N) (room : Does p.tables OnlyRoom t1) where
-    plain-room : OnlyRoom (plain_of p.tables) (plain_of t1)
-    plain-room = room.does (λ key. None) false 0
-
-    here-room : OnlyRoom (core_in tells p) (core_in tells (record p { tables = t1; values = mid }))
-    here-room = room.does (tells.stored p.storage) (tells.closed p.storage) (tells.failed p.storage)
-
     pub new-asked : early_fault (plain_of t1) me l kind (g.type_of x) rs ≡ None
-    new-asked = early-past me l kind (g.type_of x) rs plain-room ∙ fresh-in (λ key. None) false 0
+    new-asked = early-past me l kind (g.type_of x) rs (room.does (λ key. None) false 0) ∙ fresh-in (λ key. None) false 0
 
     pub new-unknown : usable (plain_of t1) kind.0 key ≡ None
-    new-unknown = ap (λ (u : Core). usable u kind.0 key) plain-room.same ∙ unknown-in
+    new-unknown = ap (λ (u : Core). usable u kind.0 key) (room.does (λ key. None) false 0).same ∙ unknown-in
 
     pub new-memory : {y : N} → y ≡ x → AdoptCall (core_in tells p) me l kind key x (g.type_of x) (g.refs_of x) (Err (Error.OutOfMemory, y)) (core_in tells (record p { tables = t1; values = mid }))
-    new-memory back = not-adopted back (refused-memory (core_in tells p) me l kind key (g.type_of x) rs fresh-here here-room)
+    new-memory back = not-adopted back (refused-memory (core_in tells p) me l kind key (g.type_of x) rs (fresh-in _ _ _) (only-room is mid room))
 
     module _ (same : (n : ℕ) → value_in mid n ≡ value_in p.values n) (t2 : Tables) (values : ValuesByNode N) {y : N} (shared : y ≡ x) (here : value_in values t2.last_node ≡ Some y)
         (others : (n : ℕ) → n ≢ t2.last_node → value_in values n ≡ value_in mid n) {k : HandleNumber} {lists : Bool} (opens : lists ≡ not (tells.closed p.storage)) (left : t1.last_node < greatest)
@@ -108,16 +92,16 @@ module _ {N S E : Type 0} {tells : Telling S} {g : Spelling N E} {p q : PagerVie
       learned = record p { tables = t2; values = values }
 
       leaves : Alike (adopted (core_in tells p) l kind key (first_key kind.0 key) rs) (core_in tells learned)
-      leaves = adopted-past l kind key (first_key kind.0 key) rs here-room (comes (tells.stored p.storage) (tells.closed p.storage) (tells.failed p.storage) opens)
+      leaves = adopted-past l kind key (first_key kind.0 key) rs (only-room is mid room) (comes (tells.stored p.storage) (tells.closed p.storage) (tells.failed p.storage) opens)
 
       adopts : Adopts (core_in tells p) me l kind key (g.type_of x) (g.refs_of x) k (core_in tells learned)
       adopts =
           subst (λ z. Adopts (core_in tells p) me l kind key (g.type_of x) z k (core_in tells learned)) listed
-          (made-new (core_in tells p) me l kind key (g.type_of x) rs fresh-here unknown-in k (subst (λ (u : Core). u.last.node < greatest) here-room.same left)
-          (next-past here-room (next (tells.stored p.storage) (tells.closed p.storage) (tells.failed p.storage))) leaves)
+          (made-new (core_in tells p) me l kind key (g.type_of x) rs (fresh-in _ _ _) unknown-in k (subst (λ (u : Core). u.last.node < greatest) (only-room is mid room).same left)
+          (next-past (only-room is mid room) (next (tells.stored p.storage) (tells.closed p.storage) (tells.failed p.storage))) leaves)
 
       last : t2.last_node ≡ p.tables.last_node + 1
-      last = adopted-node (core_in tells p) l kind key (first_key kind.0 key) rs leaves
+      last = let a = leaves in grind (arith, nat_tests)
 
       pub new-told : AdoptCall (core_in tells p) me l kind key x (g.type_of x) (g.refs_of x) (Ok k) (core_in tells learned) × Moves (λ n z. (z ≡ x) × IsNewNode (core_in tells p) n)
           (state_in tells p) (state_in tells learned)

@@ -21,7 +21,7 @@ module _ {N S E : Type 0} {tells : Telling S} {g : Spelling N E} {p : PagerView 
     abbrev roomy : PagerView N S E
     roomy = record p { tables = t1; values = mid }
 
-    only-room : OnlyRoom (core_in tells p) (core_in tells roomy)
+    pub only-room : OnlyRoom (core_in tells p) (core_in tells roomy)
     only-room = room.does (tells.stored p.storage) (tells.closed p.storage) (tells.failed p.storage)
 
     -- memory is wanting

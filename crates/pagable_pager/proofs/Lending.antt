@@ -1,12 +1,12 @@
 -- What a lent pager's calls tell as those of an access.
-use Rattle.pagable_pager.proofs.Words.{AskCall, from_cache, AsksFor, FewerValues, OnlyTables, SameValues, value_in, ValuesByNode, Refers, AdoptCall, TakesLazily, AdoptsValue, ◌≡◌, ℕ, ◌+◌, true}
-use Rattle.pagable_pager.proofs.Words.{List, [], Option, Some, Result, Ok, Err, inl, inr, ap, sym, subst, ◌∙◌, arith, IsSome, is_some, IfOk, option_map, OptionalDataKey, Error, ArcRef}
-use Rattle.pagable_pager.proofs.Words.{HandleNumber, Kind, LoadNumber, NodeNumber, HandleRow, Owner, Blob, find_row, mode_of, Core, Reading, Values, Alike, row_at, Looks, StoreCall, with_handle}
-use Rattle.pagable_pager.proofs.Words.{IsNext, BeginCall, GetsKnown, LazyCall, Adopts, first_key, reading_of_load, HandlesAreWhole, WellFormed, Told, Called, found-number, good, Stands}
-use Rattle.pagable_pager.proofs.Words.{stands-alike, stands-fell, among-found, row-pins, same_some, pinned-here, StartsPin, begun_is, IsMade, PagerView, Telling, core_in, state_in, nat_tests}
-use Rattle.pagable_pager.proofs.Words.{Bool, refl, false, if◌then◌else◌, type_of, owner_value, row_of, with_node, with_cached, next_node, is_named_by, AreUpTo, stands-new, named-among, adopted}
+use Rattle.pagable_pager.proofs.Words.{AskCall, from_cache, AsksFor, FewerValues, SameValues, value_in, ValuesByNode, Refers, AdoptCall, TakesLazily, AdoptsValue, ◌≡◌, ℕ, ◌+◌, List, [], Some, Result}
+use Rattle.pagable_pager.proofs.Words.{Ok, Err, inl, inr, ap, sym, subst, ◌∙◌, arith, IsSome, is_some, IfOk, option_map, OptionalDataKey, Error, ArcRef, HandleNumber, Kind, LoadNumber, NodeNumber}
+use Rattle.pagable_pager.proofs.Words.{HandleRow, Owner, Blob, find_row, mode_of, Core, Reading, Values, Alike, row_at, Looks, StoreCall, with_handle, IsNext, BeginCall, GetsKnown, LazyCall, Adopts}
+use Rattle.pagable_pager.proofs.Words.{first_key, reading_of_load, HandlesAreWhole, WellFormed, Told, Called, found-number, good, Stands, stands-alike, stands-fell, among-found, row-pins, same_some}
+use Rattle.pagable_pager.proofs.Words.{pinned-here, StartsPin, begun_is, IsMade, PagerView, Telling, core_in, state_in, nat_tests, refl, false, type_of, owner_value, row_of, with_node, next_node}
+use Rattle.pagable_pager.proofs.Words.{is_named_by, named-among, adopted}
 use Rattle.{pagable_loads.specs.declared.starting.PinStart.PinStart, pagable_world.specs.declared.{answers.Beginning.Beginning, calls.Want.Want}, either.specs.declared.Either.Either}
-use Rattle.{pagable_laws.proofs.Outlasting.{low-changed, low-whole, new-handle}, pagable_steps.proofs.Owning.not-load, pagable_pager.specs.Calling.{Calls, CallsLess}}
+use Rattle.{pagable_laws.proofs.{Outlasting.{low-changed, low-whole, new-handle}, ReadingSteps.cached-rows}, pagable_steps.proofs.Owning.not-load, pagable_pager.specs.View.{Calls, CallsLess}}
 use Rattle.std.proofs.lemmas.Bool.{false_from_ne_true}
 
 -- what a call does to a pager of which no value comes
@@ -22,9 +22,6 @@ module _ {N S E : Type 0} (tells : Telling S) (v : E → Values N) (p q : PagerV
   pub all_there : SameValues p q → FewerValues p q
   all_there only = record { values = λ n x has. subst (λ (values : ValuesByNode N). value_in values n ≡ Some x) only.values has; environment = only.environment }
 
-  same_there : OnlyTables p q → FewerValues p q
-  same_there only = all_there (record { values = only.values; environment = only.environment })
-
 -- a call by which values may go
 pub told_less : {N S E : Type 0} {tells : Telling S} (v : E → Values N) {p q : PagerView N S E} {makes : Core → Core → Type 0} → CallsLess tells p makes q → WellFormed (v q.environment)
     (state_in tells q) → Told (Some (state_in tells p)) (Some (state_in tells q)) (λ s t. Called (v p.environment) (λ w'. makes s.core w') s t)
@@ -35,9 +32,6 @@ stored_key r c = grind (arith, nat_tests)
 
 -- ---- the handle that a load gets is live
 
-found_some : {X : Type 0} {o : Option X} {x : X} → o ≡ Some x → IsSome o
-found_some e = ap is_some e
-
 pub made_so : {w : Core} {kind : Kind} {h : HandleNumber} {n : NodeNumber} → Looks w h (λ m row. m ≡ row.node) (Ok n) → IsMade w kind (record { kind = kind; node = n; handle = h })
 made_so {w} {kind} {h} {n} l = grind (arith, nat_tests, found-number)
 
@@ -46,25 +40,15 @@ module _ {w : Core} (whole : HandlesAreWhole w) where
     -- of a new node
     born_live : (l : LoadNumber) (kind : Kind) (key : ℕ) (own : OptionalDataKey) (references : List ArcRef) → Alike (adopted w l kind key own references) w'
         → Stands w'.last.handle w'.rows (w.last.handle + 1) (row_of (w.last.handle + 1) (next_node w) (mode_of kind.0) (Owner.Load l))
-    born_live l kind key own references a = by w.closed a
-      where
-        born : Core
-        born = with_node w (type_of kind.0) own references
-
-        made : Core
-        made = with_handle born (next_node w) (mode_of kind.0) (Owner.Load l)
-
-        few : AreUpTo w.last.handle born.rows
-        few = low-changed w.last.handle w.rows (λ x. is_named_by references x.number.0) (λ x. record x { owner = owner_value (w.last.node + 1) }) (λ x. refl) (low-whole whole)
-
-        by : (b : Bool) → Alike (if b then made else with_cached made kind key (next_node w)) w' → Stands w'.last.handle w'.rows (w.last.handle + 1)
-            (row_of (w.last.handle + 1) (next_node w) (mode_of kind.0) (Owner.Load l))
-        by true a = stands-alike {w = made} a (stands-new w.last.handle born.rows (row_of (w.last.handle + 1) (next_node w) (mode_of kind.0) (Owner.Load l)) few refl)
-        by false a =
-            stands-alike {w = with_cached made kind key (next_node w)} a (stands-new w.last.handle born.rows (row_of (w.last.handle + 1) (next_node w) (mode_of kind.0) (Owner.Load l)) few refl)
+    born_live l kind key own references a =
+        let born : Core = with_node w (type_of kind.0) own references in
+        let few = low-changed w.last.handle w.rows (λ x. is_named_by references x.number.0) (λ x. record x { owner = owner_value (w.last.node + 1) }) (λ x. refl) (low-whole whole) in
+        let made = new-handle born (next_node w) (mode_of kind.0) (Owner.Load l) few in
+        let rows = cached-rows (with_handle born (next_node w) (mode_of kind.0) (Owner.Load l)) kind key (next_node w) in
+        stands-alike a (record { live = rw rows.0 made.live; only = rw rows.0 made.only; given = rw rows.1 made.given })
 
     live_at : {row : HandleRow} (k : HandleNumber) → IsNext k w → Stands w'.last.handle w'.rows (w.last.handle + 1) row → IsSome (row_at w' k)
-    live_at k next s = found_some (ap (λ n. find_row n w'.rows) next.above ∙ s.live)
+    live_at k next s = ap is_some (ap (λ n. find_row n w'.rows) next.above ∙ s.live)
 
     pub known_live : {l : LoadNumber} {kind : Kind} {key : ℕ} {k : HandleNumber} → GetsKnown w l kind key k w' → IsSome (row_at w' k)
     known_live {l} {kind} {k = k} c =
@@ -118,7 +102,8 @@ pub told_lazy : {N S E : Type 0} {tells : Telling S} (v : E → Values N) {p q :
     (r : Result ArcRef Error) → HandlesAreWhole (core_in tells p) → Calls tells p (λ w w'. LazyCall w me l kind key made w') q → Refers (core_in tells q) kind made r → WellFormed (v q.environment)
     (state_in tells q) → Told (Some (state_in tells p)) (Some (state_in tells q)) (λ s t. Called (v p.environment) (λ w'. TakesLazily s.core me l kind key r w') s t)
 told_lazy {tells = tells} v {p} {q} {me} {l} {kind} {key} made r handles call refers whole =
-    told_fewer tells v p q (λ w w'. TakesLazily w me l kind key r w') (lazy_refers handles (core_in tells q) made r call.step refers) (same_there tells v p q call.only) whole
+    told_fewer tells v p q (λ w w'. TakesLazily w me l kind key r w') (lazy_refers handles (core_in tells q) made r call.step refers)
+    (all_there tells v p q (record { values = call.only.values; environment = call.only.environment })) whole
 
 -- ---- how a pin begins
 

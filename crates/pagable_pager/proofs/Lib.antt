@@ -3,10 +3,7 @@ pub mod Spared
 pub mod Stored
 pub mod Shed
 pub mod Shut
-pub mod Closed
-pub mod Empty
 pub mod Seen
-pub mod Asking
 pub mod Putting
 pub mod Births
 pub mod Adopting

@@ -1,10 +1,10 @@
 -- A value comes to a load's cell, and others go with their nodes.
-use Rattle.pagable_pager.proofs.Words.{rules, ◌≡◌, ℕ, ◌&&◌, Bool, true, false, Ok, Err, refl, ap, sym, ◌∙◌, subst, Some, None, Option, List, if◌then◌else◌, inl, inr, nat_eq, arith, ◌≢◌, ◌⊎◌}
-use Rattle.pagable_pager.proofs.Words.{Result, is_some, nat_lt, get, cases_eq, nat_tests, ArcRef, NodeNumber, Owner, HandleNumber, LoadNumber, Error, if_there, updated, Core, OpenLoad, Alike}
-use Rattle.pagable_pager.proofs.Words.{is_here, OwnsLoad, Refused, load_fault, closed_fault, DropCall, EndCall, EndRefused, Installs, MayEnd, end_fault, held, is_owner, IsCellOf, Moves}
-use Rattle.pagable_pager.proofs.Words.{WellFormed, row-held, installed_away, installed_there, Ending, Tables, counts_at, Sheds, has_value, IsWhole, plain_of, AreLater, IsReady, IsVain, IsWider}
-use Rattle.pagable_pager.proofs.Words.{ShedsBeside, has_come, installs-wider, may-wider, not-so, so-then, earlier-first, still, end_refused, spared, spares-alike, PagerView, Telling, Spelling}
-use Rattle.pagable_pager.proofs.Words.{ValuesByNode, IsPager, core_in, state_in, value_in, values_of, PutsIn, with_value}
+use Rattle.pagable_pager.proofs.Words.{rules, ◌≡◌, ℕ, ◌&&◌, Bool, true, false, Ok, Err, refl, ap, sym, ◌∙◌, subst, Some, None, Option, List, if◌then◌else◌, inl, inr, nat_eq, arith, ◌≢◌, ◌⊎◌, Result}
+use Rattle.pagable_pager.proofs.Words.{is_some, nat_lt, get, cases_eq, nat_tests, ArcRef, NodeNumber, Owner, HandleNumber, LoadNumber, Error, if_there, updated, Core, OpenLoad, Alike, is_here}
+use Rattle.pagable_pager.proofs.Words.{OwnsLoad, Refused, load_fault, closed_fault, DropCall, EndCall, EndRefused, Installs, MayEnd, held, is_owner, IsCellOf, Moves, WellFormed, row-held}
+use Rattle.pagable_pager.proofs.Words.{installed_away, installed_there, Ending, Tables, counts_at, Sheds, has_value, IsWhole, plain_of, AreLater, IsReady, IsVain, IsWider, ShedsBeside, has_come}
+use Rattle.pagable_pager.proofs.Words.{installs-wider, may-wider, not-so, so-then, still, end_refused, spared, spares-alike, PagerView, Telling, Spelling, ValuesByNode, IsPager, core_in, state_in}
+use Rattle.pagable_pager.proofs.Words.{value_in, values_of, PutsIn, with_value}
 use Rattle.pagable_pager.proofs.{Shed.{here-in, here-told, less, shed, some-map, left-map, in-step, whole-over}, Shut.{bare-alike, end-refused-bare, installed-bare}}
 use Rattle.pagable_world.specs.Pager as pager
 
@@ -98,20 +98,10 @@ module _ {N S E : Type 0} {tells : Telling S} {g : Spelling N E} {p : PagerView 
   pub ended-told : EndCall w me l x (g.type_of x) (g.refs_of x) (Ok k) w' × Moves (λ n y. (y ≡ x) × IsCellOf w l n) (state_in tells p) (state_in tells p')
   ended-told = (record { installs = (r.row.node, r.row.number, may, was); refused = tt }, record { each = comes; environment = refl })
 
-own-self : (o : Owner) → is_owner o o ≡ true
-own-self o = grind (arith, nat_tests)
-
 pub owner-owns : {w : Core} {me : Owner} {l : LoadNumber} {load : OpenLoad} → OwnsLoad w me l load → load_fault w me l ≡ None
-owner-owns {me = me} o = grind (arith, nat_tests, own-self)
-
--- an own load is open
-pub owned-open : {w : Core} {me : Owner} {l : LoadNumber} {load : OpenLoad} → OwnsLoad w me l load → closed_fault w l ≡ None
-owned-open o = ap (if_there (λ (load : OpenLoad). None) (Some Error.NoSuchHandle)) o.stands_open
+owner-owns {me = me} o = let a : is_owner me me ≡ true = grind (arith, nat_tests) in grind (arith, nat_tests)
 
 -- why a load doesn't end with a value whose references weren't had
-pub unread-gone : (w : Core) (me : Owner) (l : LoadNumber) (t : ℕ) (refs : List ArcRef) → w.loads l.0 ≡ None → Refused (end_fault w me l t refs) (closed_fault w l) (Unit {0}) w Error.NoSuchHandle w
-unread-gone w me l t refs gone = grind (arith, nat_tests, earlier-first, still)
-
 pub unread-open : (w : Core) (l : LoadNumber) (load : OpenLoad) (cause : Option Error) → w.loads l.0 ≡ Some load → Refused cause (closed_fault w l) (Unit {0}) w Error.OutOfMemory w
 unread-open w l load cause is = record { why = inr (refl, ap (if_there (λ (load : OpenLoad). None) (Some Error.NoSuchHandle)) is, tt); stays = still w }
 
@@ -139,7 +129,9 @@ module _ {N S E : Type 0} {tells : Telling S} {g : Spelling N E} {p : PagerView 
 
   pub no-room : {me : Owner} {l : LoadNumber} {x y : N} {u t : ℕ} {qs refs : List ArcRef} {r : Ending} → y ≡ x → IsReady (core_in tells (record p { tables = t1 })) me l u qs r
       → EndCall (core_in tells p) me l x t refs (Err (Error.OutOfMemory, Some y)) (core_in tells kept-so)
-  no-room back ready = record { installs = tt; refused = (back, record { why = inr (refl, owned-open (may-wider wider ready.may).owned, tt); stays = stays-alike }) }
+  no-room back ready =
+      let there = (may-wider wider ready.may).owned.stands_open in
+      record { installs = tt; refused = (back, record { why = inr (refl, ap (if_there (λ (load : OpenLoad). None) (Some Error.NoSuchHandle)) there, tt); stays = stays-alike }) }
 
 -- the load doesn't end with the value
 module _ {N S E : Type 0} {tells : Telling S} {g : Spelling N E} {p : PagerView N S E} (is : IsPager tells g p) (t1 t2 : Tables) (values : ValuesByNode N)

@@ -1,8 +1,8 @@
 -- Values that went with their nodes leave the pager in step.
-use Rattle.pagable_pager.proofs.Words.{◌≡◌, ℕ, ◌&&◌, Bool, true, [], refl, ap, sym, ◌∙◌, Some, None, Option, if◌then◌else◌, nat_eq, arith, ◌⊎◌, is_some, nat_lt, not, nat_tests, option_map}
+use Rattle.pagable_pager.proofs.Words.{rules, ◌≡◌, ℕ, ◌&&◌, Bool, true, [], refl, ap, sym, ◌∙◌, Some, None, Option, if◌then◌else◌, nat_eq, arith, ◌⊎◌, is_some, nat_lt, not, nat_tests, option_map}
 use Rattle.pagable_pager.proofs.Words.{arc_value, get, has_key, is_pinning, mode_of, pins, Blob, Core, is_here, usable, WellFormed, entered-of, Leaves, known-here, Counts, Tables, counts_at}
 use Rattle.pagable_pager.proofs.Words.{AreKept, Sheds, has_value, pins_in, cell_in, key_in, AreLater, IsWhole, core_of, plain_of, PagerView, Telling, Spelling, ValuesByNode, OnlyLess, IsPager}
-use Rattle.{pagable_pager.{proofs.{Words.{core_in, state_in, value_in, values_of}, Shut.IsBare}, specs.Calling.CallsLess}, pagable_tables.specs.Doing.DoesShed}
+use Rattle.{pagable_pager.{proofs.{Words.{core_in, state_in, value_in, values_of}, Shut.IsBare}, specs.View.CallsLess}, pagable_tables.specs.Doing.DoesShed}
 use Rattle.pagable_world.specs.Pager as pager
 
 -- the plain world is whole, whatever is stored, if nothing is listed or known once the storage is closed
@@ -13,10 +13,14 @@ whole-over t stored closed failures whole shut =
     let h = is.handles in
     let o = is.owners_there in
     let l = is.loads in
+    let handles : pager.HandlesAreWhole (core_of t stored closed failures) = search rules in
+    let owners : pager.OwnersAreThere (core_of t stored closed failures) = search rules in
+    let loads : pager.LoadsAreWhole (core_of t stored closed failures) =
+    record { numbered = l.numbered; owned = l.owned; roots = λ n load node k q e root. let r = l.roots n load node k q e root in record { typed = r.typed; begun = r.begun; given = r.given } } in
     record {
-      handles = record { ordered = h.ordered; numbered = h.numbered; nodes_numbered = h.nodes_numbered; within = h.within; live = h.live; uniform = h.uniform; unkeyed = h.unkeyed; places = h.places };
-      owners_there = record { listed = o.listed; waiting = o.waiting; loads = o.loads; workers = o.workers };
-      loads = record { numbered = l.numbered; owned = l.owned; roots = λ n load node k q there root. let r = l.roots n load node k q there root in record { typed = r.typed; begun = r.begun; given = r.given } };
+      handles = handles;
+      owners_there = owners;
+      loads = loads;
       cache = λ kind key n known. let c = is.cache kind key n known in record { given = c.given; typed = c.typed; shares = c.shares };
       workers_numbered = is.workers_numbered;
       shut = shut;

@@ -1,7 +1,8 @@
--- What the storage is asked leaves the pager in step.
+-- What the storage is asked, and its close, leave the pager in step.
 use Rattle.pagable_pager.proofs.Words.{rules, ◌≡◌, ℕ, ◌≤◌, false, refl, Some, Result, IfOk, IfErr, OnOk, OnErr, Adds, RefusesFetch, RefusesStore, Core, seen_as, Blob, Error, Asked, FetchCall}
 use Rattle.pagable_pager.proofs.Words.{StoreCall, still, told-whole, arith, nat_tests, Spares, spared, stores, PagerView, Telling, Spelling, IsPager, core_in, state_in, values_of}
-use Rattle.{pagable_steps.proofs.Owning.asked as spares-asked, pagable_world.specs.Pager.IsWhole}
+use Rattle.pagable_pager.proofs.Words.{true, None, Ok, nat_eq, get, CloseCall, closed, Tables, counts_at, Sheds, AreLater, IsWhole as AreWhole, core_of, FewerValues, ValuesByNode}
+use Rattle.{pagable_pager.proofs.{Shed.{leaves, less, in-step, whole-over}, Shut.bare-fell}, pagable_steps.proofs.Owning.asked as spares-asked, pagable_world.specs.Pager.IsWhole}
 
 module _ {N S E : Type 0} {tells : Telling S} {g : Spelling N E} {p : PagerView N S E} (is : IsPager tells g p) (s : S) (stays : tells.closed s ≡ tells.closed p.storage)
     (more : tells.failed p.storage ≤ tells.failed s) where
@@ -32,3 +33,23 @@ module _ {N S E : Type 0} {tells : Telling S} {g : Spelling N E} {p : PagerView 
 -- the blob, as it is seen
 pub fetch-call : {X : Type 0} (see : X → Blob) (w w' : Core) (key : ℕ) (r : Result X Error) → Asked w w' → IfOk r (λ x. w.stored key ≡ Some (see x)) → IfErr r (RefusesFetch key (w.stored key) w.failures w'.failures) → FetchCall w key (seen_as see r) w'
 fetch-call see w w' key r asks found only = grind (arith, nat_tests)
+
+-- what the storage tells is that it is empty and closed
+module _ {N S E : Type 0} {tells : Telling S} {g : Spelling N E} {p : PagerView N S E} (is : IsPager tells g p) (s : S) (t : Tables) (values : ValuesByNode N)
+    (empty : (key : ℕ) → tells.stored s key ≡ None) (shut : tells.closed s ≡ true) (call : CloseCall (core_in tells p) (Ok tt) (core_of t (λ key. None) true (tells.failed s))) (whole : AreWhole t)
+    (sheds : Sheds (counts_at p.tables.holdings.nodes) (get nat_eq p.values) (counts_at t.holdings.nodes) (get nat_eq values)) where
+  abbrev new : PagerView N S E
+  new = record p { tables = t; values = values; storage = s }
+
+  shut-call : CloseCall (core_in tells p) (Ok tt) (core_in tells new)
+  shut-call = grind (arith, nat_tests, closed)
+
+  pub shut-told : CloseCall (core_in tells p) (Ok tt) (core_in tells new) × FewerValues p new
+  shut-told = (shut-call, record { values = less tells g p is t values sheds; environment = refl })
+
+  -- it is in step
+  pub shut-pager : AreLater t → IsPager tells g new
+  shut-pager later =
+      let bare = bare-fell shut-call.falls.falls refl (refl, λ kind key. refl) in
+      let left = leaves tells g p is t values whole sheds (whole-over t (tells.stored p.storage) (tells.closed p.storage) (tells.failed p.storage) whole (λ shut. bare)) in
+      in-step new whole later (λ shut. bare) (λ counted core. closed is.state (record { swept = left.swept; counted = counted; whole = core }) shut-call)

@@ -1,6 +1,6 @@
 -- A worker comes, for an entry of the list or without one, and takes a reference.
-use Rattle.pagable_pager.proofs.Words.{◌≡◌, subst, Bool, true, Ok, Err, sym, Result, Error, ArcRef, HandleNumber, Owner, is_loose, Core, Looks, CloneCall, RowIs, Taken, TakesReference, PinsClone}
-use Rattle.pagable_pager.proofs.Words.{◌+◌, ◌==◌, if◌then◌else◌, Some, ap, arith, ℕ, nat_tests, WorkerNumber, with_worker, Spares, with-worker, starts-listed, spares-alike, ArePlaced, MayHold}
+use Rattle.pagable_pager.proofs.Words.{◌≡◌, subst, true, Ok, Err, sym, Result, Error, ArcRef, HandleNumber, Owner, is_loose, Core, Looks, CloneCall, RowIs, Taken, TakesReference, PinsClone, ◌+◌}
+use Rattle.pagable_pager.proofs.Words.{◌==◌, if◌then◌else◌, Some, ap, arith, ℕ, nat_tests, WorkerNumber, with_worker, Spares, with-worker, starts-listed, spares-alike, ArePlaced, MayHold}
 use Rattle.pagable_pager.proofs.Words.{BeginsWorker, TakesWorker, take-whole, settles, alike-whole, roomy-whole, worker-whole, HandleRow, Kind, ◌∙◌, same_some, TakesEntry, loose_kind, HasKinds}
 use Rattle.{pagable_pager.proofs.Words.{IsEntry, with_entry_taken, Alike}, pagable_world.specs.{declared.handles.Owner.Owner, Pager.IsWhole}}
 
@@ -42,11 +42,8 @@ entry-starts {w} {w'} {place} {type} {row} {n} e (is, kinds) t =
     }
 
 -- a reference that was claimed is taken by its worker
-pub sort_so : {w : Core} {h : HandleNumber} {loose : Bool} → Looks w h (λ b row. b ≡ is_loose row.mode) (Ok loose) → RowIs w h loose
-sort_so l = record { row = l.found.0; live = l.found.1; sort = sym l.found.2 }
-
-pub then_pins : {w mid w' : Core} {me : Owner} {r : ArcRef} {through : HandleNumber} (result : Result Taken Error) → RowIs w r.handle true → CloneCall w me r.handle (Ok through) mid
-    → PinsClone mid me through result w' → TakesReference w me r result w'
-then_pins result sort c s = grind (arith, nat_tests)
+pub then_pins : {w mid w' : Core} {me : Owner} {r : ArcRef} {through : HandleNumber} (result : Result Taken Error) → Looks w r.handle (λ b row. b ≡ is_loose row.mode) (Ok true)
+    → CloneCall w me r.handle (Ok through) mid → PinsClone mid me through result w' → TakesReference w me r result w'
+then_pins {w = w} {r = r} result l c s = let sort : RowIs w r.handle true = record { row = l.found.0; live = l.found.1; sort = sym l.found.2 } in grind (arith, nat_tests)
 
 pub ruleset starting = (nat_tests, entry-starts)

@@ -1,10 +1,10 @@
 -- What contracts see of a pager, and the plain state that it tells.
 use Rattle.std.specs.{Arc.arc_value, declared.{sync.Arc.Arc, hash.{FoldHasher.FoldHasher, BuildHasherDefault.BuildHasherDefault}}, Global.Global, HashMap.{HashMap, get}, Option.option_map, Prelude.ℕ}
-use Rattle.std.specs.Prelude.{◌≡◌, Bool, true, false, List, Option, Some, nat_eq}
+use Rattle.std.specs.Prelude.{◌≡◌, Bool, true, false, if◌then◌else◌, List, Option, Some, None, is_some, nat_eq}
 use Rattle.{either.specs.declared.Either.Either, pagable_model.specs.declared.numbers.ArcRef.ArcRef}
-use Rattle.{pagable_model.specs.declared.numbers.HandleNumber.HandleNumber, pagable_world.specs.{Plain.{Blob, Error, Meaning, Shape}, declared.handles.Owner.Owner, World.{Core, Values}}}
-use Rattle.{pagable_world.specs.{LoadCalls.{Given, from_cache, from_store}, Pager.{PagerState, WellFormed}}, pagable_tables.specs.{declared.tables.Tables.Tables, ByNumber.counts_at, Falling.pins_in}}
-use Rattle.pagable_tables.specs.{Core.core_of, Later.AreLater}
+use Rattle.{pagable_model.specs.declared.numbers.HandleNumber.HandleNumber, pagable_world.specs.{Plain.{Blob, Error, Meaning, Shape, updated}, declared.handles.Owner.Owner, World.{Core, Values}}}
+use Rattle.{pagable_world.specs.{LoadCalls.{Given, from_cache, from_store}, Pager.{PagerState, WellFormed}}, pagable_tables.specs.{declared.tables.Tables.Tables, ByNumber.counts_at}}
+use Rattle.pagable_tables.specs.{Core.core_of, Falling.{has_value, pins_in}, Later.AreLater}
 use Rattle.pagable_tables.specs.Core as tables
 
 abbrev pub ValuesByNode : Type 0 → Type 0
@@ -20,6 +20,16 @@ pub record PagerView (N S E : Type 0) : Type 0 where
 -- the value of a node
 abbrev pub value_in : {N : Type 0} → ValuesByNode N → ℕ → Option N
 value_in values n = option_map arc_value (get nat_eq values n)
+
+-- the values, with this one at its node if it comes
+abbrev pub with_value : {N : Type 0} → Bool → ℕ → N → (ℕ → Option N) → ℕ → Option N
+with_value true n x values = updated n (Some x) values
+with_value false n x values = values
+
+-- Where each value was with its node, those are there afterwards that their nodes still have, with this one if it comes.
+pub record PutsIn {N : Type 0} (comes : Bool) (n : ℕ) (x : N) (t : Tables) (old : ValuesByNode N) (t' : Tables) (new : ValuesByNode N) : Type 0 where
+  pub left : ((m : ℕ) → is_some (value_in old m) ≡ has_value (counts_at t.holdings.nodes m)) → (m : ℕ)
+      → value_in new m ≡ (if has_value (counts_at t'.holdings.nodes m) then with_value comes n x (value_in old) m else None)
 
 -- What a storage tells: what it holds under each key, whether it was closed, and how often it failed.
 pub record Telling (S : Type 0) : Type 0 where
@@ -108,3 +118,13 @@ abbrev pub is_at_work : Core → Owner → Bool
 is_at_work w Owner.Caller = true
 is_at_work w (Owner.Worker v) = w.workers v.0
 is_at_work w _ = false
+
+-- a call's step in the plain world, by which values, storage and environment stay
+pub record Calls {N S E : Type 0} (tells : Telling S) (old : PagerView N S E) (makes : Core → Core → Type 0) (new : PagerView N S E) : Type 0 where
+  pub step : makes (core_in tells old) (core_in tells new)
+  pub only : OnlyTables old new
+
+-- the same, where values may go
+pub record CallsLess {N S E : Type 0} (tells : Telling S) (old : PagerView N S E) (makes : Core → Core → Type 0) (new : PagerView N S E) : Type 0 where
+  pub step : makes (core_in tells old) (core_in tells new)
+  pub only : OnlyLess old new

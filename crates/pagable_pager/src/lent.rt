@@ -1,7 +1,7 @@
 //! A pager that is lent, as an access, and as that of a page-out worker.
 
 ghost use Rattle.std.specs.Prelude.{◌≡◌, true};
-ghost use Rattle.pagable_pager.specs.View.{core_in, telling, is_at_work};
+ghost use Rattle.{pagable_pager.specs.View.{core_in, state_in, telling, spelling, values_of, is_at_work}, pagable_world.specs.Pager.WellFormed};
 
 use crate::pager::Pager;
 use either::Either;
@@ -58,6 +58,18 @@ where
     }
 }
 
+// What a call has answered, with what is true of the pager after it.
+fn settled<E: Env, S: PagableStorage<E>, X: Drop>(answer: X, pager: &Pager<E, S>) -> X
+where
+    E::Node: NodeSet<E>,
+    ensures same { result ≡ answer }
+    ensures whole { WellFormed (values_of (spelling E.Node.type_of E.Node.refs_of E.Node.means E.Node.read_causes E.Node.write_causes E.Node.shape_of E.parts E.Hash.digest) pager.now.environment)
+        (state_in (telling S.stored S.is_closed S.failed) pager.now) }
+{
+    pager.is_whole();
+    answer
+}
+
 impl<'a, E: Env, S: PagableStorage<E>> Access<E> for Lent<'a, E, S>
 where
     E::Node: NodeSet<E>,
@@ -75,21 +87,15 @@ where
     }
 
     fn clone(&mut self, handle: HandleNumber) -> Result<HandleNumber, Error> {
-        let cloned = self.pager.clone_by(self.me, handle);
-        self.pager.is_whole();
-        cloned
+        settled(self.pager.clone_by(self.me, handle), self.pager)
     }
 
     fn pin(&mut self, handle: HandleNumber) -> Result<Pinning, Error> {
-        let pinned = self.pager.pin_by(self.me, handle);
-        self.pager.is_whole();
-        pinned
+        settled(self.pager.pin_by(self.me, handle), self.pager)
     }
 
     fn begin_pin(&mut self, handle: HandleNumber) -> Result<PinStart, Error> {
-        let begun = self.pager.begin_pin_by(self.me, handle);
-        self.pager.is_whole();
-        begun
+        settled(self.pager.begin_pin_by(self.me, handle), self.pager)
     }
 
     fn share(&self, handle: HandleNumber) -> Result<Option<Arc<E::Node>>, Error> {
@@ -98,39 +104,27 @@ where
 
     #[tactic(auto, using(crate::proofs::Lending::stored_key))]
     fn store(&mut self, alloc: Global, blob: PagableData) -> Result<DataKey, Error> {
-        let stored = self.pager.store(alloc, blob);
-        self.pager.is_whole();
-        stored
+        settled(self.pager.store(alloc, blob), self.pager)
     }
 
     fn set_data_key(&mut self, handle: HandleNumber, key: DataKey) -> Result<(), Error> {
-        let set = self.pager.set_data_key_by(self.me, handle, key);
-        self.pager.is_whole();
-        set
+        settled(self.pager.set_data_key_by(self.me, handle, key), self.pager)
     }
 
     fn unpin(&mut self, handle: HandleNumber) -> Result<(), Error> {
-        let unpinned = self.pager.unpin_by(self.me, handle);
-        self.pager.is_whole();
-        unpinned
+        settled(self.pager.unpin_by(self.me, handle), self.pager)
     }
 
     fn release(&mut self, handle: HandleNumber) -> Result<(), Error> {
-        let released = self.pager.release_by(self.me, handle);
-        self.pager.is_whole();
-        released
+        settled(self.pager.release_by(self.me, handle), self.pager)
     }
 
     fn load_begin(&mut self, handle: HandleNumber) -> Result<Beginning, Error> {
-        let begun = self.pager.load_begin_by(self.me, handle);
-        self.pager.is_whole();
-        begun
+        settled(self.pager.load_begin_by(self.me, handle), self.pager)
     }
 
     fn load_key(&mut self, key: DataKey) -> Result<LoadNumber, Error> {
-        let begun = self.pager.load_key_by(self.me, key);
-        self.pager.is_whole();
-        match begun {
+        match settled(self.pager.load_key_by(self.me, key), self.pager) {
             Ok(Beginning::Load(load, _)) => Ok(load),
             Ok(Beginning::InMemory) => unreachable!(),
             Err(e) => Err(e),
@@ -139,8 +133,7 @@ where
 
     fn load_root(&mut self, alloc: Global, load: LoadNumber) -> Result<Arc<PagableData>, Error> {
         let found = self.pager.load_fetch_by(self.me, alloc, load, Want::Root);
-        self.pager.is_whole();
-        match found {
+        match settled(found, self.pager) {
             Ok(Either::Right(blob)) => Ok(blob),
             Ok(Either::Left(_)) => unreachable!(),
             Err(e) => Err(e),
@@ -201,21 +194,18 @@ where
         load: LoadNumber,
         value: E::Node,
     ) -> Result<HandleNumber, (Error, Option<E::Node>)> {
-        let ended = self.pager.load_end_by(self.me, alloc, load, value);
-        self.pager.is_whole();
-        ended
+        settled(
+            self.pager.load_end_by(self.me, alloc, load, value),
+            self.pager,
+        )
     }
 
     fn load_take(&mut self, load: LoadNumber, named: &[HandleNumber]) -> Result<(), Error> {
-        let taken = self.pager.load_take_by(self.me, load, named);
-        self.pager.is_whole();
-        taken
+        settled(self.pager.load_take_by(self.me, load, named), self.pager)
     }
 
     fn load_drop(&mut self, load: LoadNumber) -> Result<(), Error> {
-        let dropped = self.pager.load_drop_by(self.me, load);
-        self.pager.is_whole();
-        dropped
+        settled(self.pager.load_drop_by(self.me, load), self.pager)
     }
 }
 
@@ -231,9 +221,7 @@ where
     }
 
     fn take_reference(&mut self, reference: ArcRef) -> Result<Taken, Error> {
-        let taken = self.pager.take_reference(self.me, reference);
-        self.pager.is_whole();
-        taken
+        settled(self.pager.take_reference(self.me, reference), self.pager)
     }
 
     fn give_up(&mut self, worker: WorkerNumber, node: NodeNumber) {
@@ -242,14 +230,14 @@ where
     }
 
     fn schedule_for_paging(&mut self, handle: HandleNumber) -> Result<(), Error> {
-        let scheduled = self.pager.schedule_for_paging_by(self.me, handle);
-        self.pager.is_whole();
-        scheduled
+        settled(
+            self.pager.schedule_for_paging_by(self.me, handle),
+            self.pager,
+        )
     }
 
     fn worker_begin(&mut self) -> Result<WorkerNumber, Error> {
-        let begun = self.pager.worker_begin();
-        self.pager.is_whole();
+        let begun = settled(self.pager.worker_begin(), self.pager);
         let Ok(worker) = begun else {
             return begun;
         };
@@ -259,9 +247,7 @@ where
 
     #[tactic(auto, using(crate::proofs::Lending::entering))]
     fn worker_listed(&mut self, place: usize) -> Result<(WorkerNumber, ArcRef), Error> {
-        let begun = self.pager.worker_listed(place);
-        self.pager.is_whole();
-        match begun {
+        match settled(self.pager.worker_listed(place), self.pager) {
             Ok((worker, reference)) => {
                 self.me = Owner::Worker(worker);
                 Ok((worker, reference))
@@ -286,8 +272,6 @@ where
     }
 
     fn take_pending(&mut self, place: usize) -> Option<HandleNumber> {
-        let taken = self.pager.take_pending_by(self.me, place);
-        self.pager.is_whole();
-        taken
+        settled(self.pager.take_pending_by(self.me, place), self.pager)
     }
 }

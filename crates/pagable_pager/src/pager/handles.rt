@@ -3,7 +3,7 @@
 ghost use Rattle.std.specs.{Prelude.{◌≡◌, IsSome, true, Some, false}, Option.option_map};
 ghost use Rattle.pagable_world.specs.{World.{row_at, Reading, is_here}, Calls.{CloneCall, PinCall, LoosenCall, CountCall}};
 ghost use Rattle.{pagable_world.specs.{Calls.{KeyCall, AwayCall, NodeCall, TypeCall}, declared.handles.HandleRow.HandleRow, Events.reading_of_load}, pagable_loads.specs.Telling.IsMade};
-ghost use Rattle.{pagable_loads.specs.Starting.{StartsPin, is_unpinned_at}, pagable_pager.specs.{View.{core_in, telling, OnlyTables, is_at_work}, Made.Refers, Calling.Calls}};
+ghost use Rattle.{pagable_loads.specs.Starting.{StartsPin, is_unpinned_at}, pagable_pager.specs.{View.{core_in, telling, Calls, OnlyTables, is_at_work}, Made.Refers}};
 
 use crate::pager::Pager;
 use pagable_codec::{Env, NodeSet};
@@ -170,8 +170,7 @@ where
     fn pin_here(&mut self, me: Owner, handle: HandleNumber) -> Result<PinStart, Error>
         requires at_work { is_at_work (core_in (telling S.stored S.is_closed S.failed) self.old) me ≡ true }
         requires here { (row : HandleRow) → row_at (core_in (telling S.stored S.is_closed S.failed) self.old) handle ≡ Some row → is_here (core_in (telling S.stored S.is_closed S.failed) self.old) row.node.0 ≡ true }
-        ensures step { StartsPin (core_in (telling S.stored S.is_closed S.failed) self.old) me handle result (core_in (telling S.stored S.is_closed S.failed) self.new) }
-        ensures only { OnlyTables self.old self.new }
+        ensures { Calls (telling S.stored S.is_closed S.failed) self.old (λ w w'. StartsPin w me handle result w') self.new }
     {
         let was_unpinned = self.is_unpinned(handle);
         match self.pin_by(me, handle) {
@@ -196,8 +195,7 @@ where
         handle: HandleNumber,
     ) -> Result<PinStart, Error>
         requires { is_at_work (core_in (telling S.stored S.is_closed S.failed) self.old) me ≡ true }
-        ensures step { StartsPin (core_in (telling S.stored S.is_closed S.failed) self.old) me handle result (core_in (telling S.stored S.is_closed S.failed) self.new) }
-        ensures only { OnlyTables self.old self.new }
+        ensures { Calls (telling S.stored S.is_closed S.failed) self.old (λ w w'. StartsPin w me handle result w') self.new }
     {
         match self.is_paged_out(handle) {
             Ok(true) => self.begin_load(me, handle),

@@ -3,7 +3,7 @@
 ghost use Rattle.std.specs.{Prelude.{◌≡◌, IfOk, IfNone, true, IfErr, Some, nat_lt}, Arc.arc_value};
 ghost use Rattle.{pagable_core.specs.Data.blob_of, pagable_world.specs.World.{seen_as, greatest}};
 ghost use Rattle.{pagable_world.specs.{LoadCalls.{AskCall, BeginCall, BeginKeyCall, LazyCall}, Refusals.load_fault}, pagable_tables.specs.{Asking.AsksKnown, Core.root_in}};
-ghost use Rattle.pagable_pager.specs.{View.{core_in, telling, given_as, OnlyTables, OnlyStorage, SameValues, is_at_work}, Opened.{ReadsAs, type_of_root}, Calling.Calls};
+ghost use Rattle.pagable_pager.specs.{View.{core_in, telling, given_as, OnlyTables, OnlyStorage, SameValues, is_at_work, Calls}, Opened.{ReadsAs, type_of_root}};
 
 use crate::pager::Pager;
 use either::Either;
@@ -105,7 +105,7 @@ where
     }
 
     /// The node, or else the blob, of a reference.
-    #[tactic(auto, using(crate::proofs::Asking::asked_known))]
+    #[tactic(auto, using(crate::proofs::Spared::asked_known))]
     fn fetch_nested(
         &mut self,
         me: Owner,
@@ -122,11 +122,7 @@ where
             Ok(None) => {}
             Err(e) => return Err(e),
         }
-        let blob = match self.fetch(alloc, key) {
-            Ok(blob) => blob,
-            Err(e) => return Err(e),
-        };
-        Ok(Either::Right(blob))
+        Ok(Either::Right(self.fetch(alloc, key)?))
     }
 
     /// What a load asks for: the blob of its own key; of a reference a handle of the node that the cache gives, which the load owns, or else the blob. Refused with NoSuchHandle and NotYours; with

@@ -3,8 +3,7 @@
 ghost use Rattle.std.specs.Prelude.{◌≡◌, true, ◌<◌, ◌≤◌, length, IfSome, IfNone, IfOk, IfErr};
 ghost use Rattle.pagable_world.specs.{Kinds.{is_loose, loose_kind, HasKinds, HasNoKinds}, World.key_at};
 ghost use Rattle.{pagable_world.specs.{Cascade.FallsAnyhow, Calls.Looks, Workers.{claim_fault, is_workers_at, WorkerEnds}, Events.IsEntry}, pagable_tables.specs.Giving.{BeginsWorker, TakesWorker}};
-ghost use Rattle.{pagable_loads.specs.Working.TakesReference, pagable_pager.specs.{Clones.PinsClone, Made.{TakesEntry, LeavesEntry}, View.{core_in, telling, OnlyTables, is_at_work}, Calling.Calls}};
-ghost use Rattle.pagable_pager.specs.Calling.{CallsLess};
+ghost use Rattle.{pagable_loads.specs.Working.TakesReference, pagable_pager.specs.{Made.{PinsClone, TakesEntry, LeavesEntry}, View.{core_in, telling, OnlyTables, is_at_work, Calls, CallsLess}}};
 
 use crate::pager::Pager;
 use pagable_codec::{Env, NodeSet};
@@ -112,8 +111,7 @@ where
     // The clone through which an owner takes a reference is pinned, or a load of its cell begins.
     fn pin_clone(&mut self, me: Owner, through: HandleNumber) -> Result<Taken, Error>
         requires { is_at_work (core_in (telling S.stored S.is_closed S.failed) self.old) me ≡ true }
-        ensures step { PinsClone (core_in (telling S.stored S.is_closed S.failed) self.old) me through result (core_in (telling S.stored S.is_closed S.failed) self.new) }
-        ensures only { OnlyTables self.old self.new }
+        ensures { Calls (telling S.stored S.is_closed S.failed) self.old (λ w w'. PinsClone w me through result w') self.new }
     {
         let start = self.begin_pin_by(me, through)?;
         let taken = match start {

@@ -1,4 +1,4 @@
-use Rattle.pagable_machine.proofs.{Driven.item-refused, Driven.item-begun, Driven.nothing-done, Words.inr, Words.values_at}
+use Rattle.pagable_machine.proofs.{Driven.{item-refused, item-started, nothing-done}, Happening.keeps-after, Words.{inr, values_at}}
 use Rattle.pagable_machine.proofs.workers.worker_item.Goals as goal
 
 pub returns-in-Err : goal.returns-in-Err
@@ -11,7 +11,12 @@ returns-in-Err-item_walk g c =
     item-refused (values_at g.E.Node.NodeSet g.E.Env g.E.Hash.KeyHash) _ _ c.args.pager.now _ c.requires c.is_whole.ensures c.ready.new.walks c.args.table _ (nothing-done _ c.is_whole.ensures)
     c.ready.ensures.same c.args.item (inr (c.in-Err-item_walk.ensures.only, c.in_default.ensures.there))
 
-pub returns : goal.returns
-returns g c =
-    rw c.keep.ensures.begun (item-begun (values_at g.E.Node.NodeSet g.E.Env g.E.Hash.KeyHash) _ _ _ _ c.requires c.is_whole.ensures c.keep.new.walks c.args.table c.ready.new.walks c.ready.ensures.same
-    c.args.item c.in-Ok.walk c.begin-begun.result c.in_default.ensures.there c.in-Ok.ensures.begun c.begin-begun.ensures.begins c.begin-begun.ensures.refused c.keep.ensures.keeps c.keep.ensures.stays)
+pub returns-in-Ok-begin : goal.returns-in-Ok-begin
+returns-in-Ok-begin g c =
+    item-started (values_at g.E.Node.NodeSet g.E.Env g.E.Hash.KeyHash) _ _ _ _ c.requires c.is_whole.ensures c.put.new.kept c.args.table c.in-Ok-begin.worker c.in-Ok.walk
+    c.in_default.ensures.there (keeps-after c.ready.ensures.same c.put.ensures) c.args.item c.in-Ok-begin.ensures.begins c.in-Ok.ensures.begun
+
+pub returns-in-Err-begin : goal.returns-in-Err-begin
+returns-in-Err-begin g c =
+    item-refused (values_at g.E.Node.NodeSet g.E.Env g.E.Hash.KeyHash) _ _ _ _ c.requires c.is_whole.ensures c.ready.new.walks c.args.table _ c.in-Err-begin.ensures.refused.1
+    c.ready.ensures.same c.args.item (inr (c.in-Err-begin.ensures.refused.0, c.in_default.ensures.there))

@@ -2,4 +2,4 @@ use Rattle.pagable_pager.proofs.{Lending.told_less, Words.{rules, values_at}}
 use Rattle.pagable_pager.proofs.lent.LentAccess.load_take.Goals as goal
 
 pub returns : goal.returns
-returns g c = record { step = told_less (λ e. values_at g.E.Node.NodeSet g.E.Env g.E.Hash.KeyHash e) c.load_take_by-taken.ensures c.is_whole.ensures; acting = search rules }
+returns g c = rw c.settled.ensures.same (record { step = told_less (λ e. values_at g.E.Node.NodeSet g.E.Env g.E.Hash.KeyHash e) c.load_take_by.ensures c.settled.ensures.whole; acting = search rules })

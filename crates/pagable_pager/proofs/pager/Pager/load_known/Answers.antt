@@ -1,4 +1,4 @@
-use Rattle.pagable_pager.proofs.{Asking.known-spares, Asking.known-bare, Shed.whole-over, Spared.called}
+use Rattle.pagable_pager.proofs.{Shed.whole-over, Spared.{known-spares, known-bare, called}}
 use Rattle.pagable_pager.proofs.pager.Pager.load_known.Goals as goal
 
 pub invariant_of-self : goal.invariant_of-self

@@ -1,4 +1,4 @@
-use Rattle.pagable_pager.proofs.{Empty.is-new, Words.refl, Words.telling}
+use Rattle.pagable_pager.proofs.{Seen.is-new, Words.refl, Words.telling}
 use Rattle.pagable_pager.proofs.pager.Pager.new.Goals as goal
 
 pub returns-clause-empty : goal.returns-clause-empty

@@ -1,5 +1,5 @@
 use Rattle.pagable_pager.proofs.{Words.{sym, subst, ap, ◌∙◌, Some, None, false, PutsIn}, Putting.{puts, drops, beside-there}}
-use Rattle.pagable_pager.proofs.pager.installs.finish.Goals as goal
+use Rattle.pagable_pager.proofs.pager.births.finish.Goals as goal
 
 pub returns-then-ending-clause-puts : goal.returns-then-ending-clause-puts
 returns-then-ending-clause-puts g c =

@@ -1,5 +1,5 @@
 use Rattle.pagable_pager.proofs.{Putting.vain, Words.subst, Words.refl, Words.core_of, Words.Unends, Words.told-later}
-use Rattle.pagable_pager.proofs.pager.installs.give_back.Goals as goal
+use Rattle.pagable_pager.proofs.pager.births.give_back.Goals as goal
 
 pub returns-in-InVain-clause-refused : goal.returns-in-InVain-clause-refused
 returns-in-InVain-clause-refused g c w node_type references stored closed failures e u =
