@@ -61,12 +61,6 @@ held-few n rows = omega (arith, ones rows, sum_by-le-sum_by (handle_of n) (λ h.
 abbrev pub turned : HandleRow → HandleRow
 turned x = record x { mode = Mode.LoosePinned }
 
-pin-turned : (x : HandleRow) → pin_of x.node.0 (turned x) ≡ 1
-pin-turned x = grind (arith, nat_tests)
-
-pin-turned-other : (n : ℕ) (x : HandleRow) → n ≢ x.node.0 → pin_of n (turned x) ≡ 0
-pin-turned-other n x other = grind (arith, nat_tests)
-
 module _ (at at' : ℕ → Option Counts) (refs refs' : ℕ → List ArcRef) (rows rows' : List HandleRow) (top : ℕ) (x : HandleRow) (c : Counts)
     (fits : Fits at refs rows top [] owns_nothing) (is : at x.node.0 ≡ Some c)
     (sums : (f : HandleRow → ℕ) → sum_by f rows' + f x ≡ sum_by f rows + f (turned x))
@@ -76,7 +70,7 @@ module _ (at at' : ℕ → Option Counts) (refs refs' : ℕ → List ArcRef) (ro
   turn-right = grind (arith, nat_tests)
 
   pub turn-fits : Fits at' refs' rows' top [] owns_nothing
-  turn-fits = grind (arith, nat_tests, cases_eq, pin-here, pin-turned, pin-other, pin-turned-other, named, turn-right, not-zero at x.node.0 c fits.from_one is)
+  turn-fits = grind (arith, nat_tests, cases_eq, pin-here, pin-other, named, turn-right, not-zero at x.node.0 c fits.from_one is)
 
   pub turn-cells : SameAt (λ n. cell_in (at n)) (λ n. cell_in (at' n))
   turn-cells n = grind (arith, nat_tests)

@@ -1,7 +1,7 @@
 -- The list gives up all that it owns, while no cell is listed.
-use Rattle.pagable_tables.proofs.Words.{◌≡◌, ℕ, ◌+◌, ◌<◌, ◌&&◌, ◌++◌, Bool, false, not, List, [], ◌∷◌, filter, map, refl, ap, sym, ◌∙◌, subst, arith, Option, Some, None, nat_tests}
+use Rattle.pagable_tables.proofs.Words.{◌≡◌, ℕ, ◌<◌, ◌&&◌, ◌++◌, Bool, false, not, List, [], ◌∷◌, filter, map, refl, ap, sym, ◌∙◌, arith, Option, Some, None, nat_tests}
 use Rattle.pagable_tables.proofs.Words.{append-nil, sum_by-cons, sum_by-le-sum_by, HandleNumber, HandleRow, Owner, one, times, if_there, is_at, is_handle, is_owned_by, find_row, held, Core}
-use Rattle.pagable_tables.proofs.{Words.{FallsAnyhow, is_owned_in, is_listed, Holdings, SoFar, IsApart}, Alive.none-found, Begun.shut-then, Left.and_one, keeps.Rows.{found-among, only-row}}
+use Rattle.pagable_tables.proofs.{Words.{is_owned_in, is_listed, Holdings, SoFar, IsApart}, Alive.none-found, Begun.shut-then, Left.and_one, keeps.Rows.{found-among, only-row}}
 use Rattle.pagable_world.specs.Pager as pager
 
 pub no-entries : (es : List HandleRow) → ((n : ℕ) → 0 < held n es → ⊥) → es ≡ []
@@ -43,8 +43,3 @@ owned-listed {w} whole q = split (find_row q w.rows) refl
         let a = only-row (λ y. one (lists q y)) w.rows h whole.handles.ordered there (λ y other. grind (arith, nat_tests)) in
         let d = whole.owners_there.listed q in
         grind (arith, nat_tests)
-
--- the cache is told anew
-pub cache-anew : (before u w' : Core) (given : ℕ → Bool) (cache : ℕ → ℕ → Option ℕ) → ((kind key : ℕ) → w'.cache kind key ≡ cache kind key) → FallsAnyhow before u given w'
-    → FallsAnyhow before u given (record w' { cache = cache })
-cache-anew before u w' given cache same falls = subst (λ c. FallsAnyhow before u given (record w' { cache = c })) (λ i kind key. same kind key i) falls

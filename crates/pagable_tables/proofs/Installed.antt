@@ -5,7 +5,7 @@ use Rattle.pagable_tables.proofs.Words.{spent, load_fault, references_fault, May
 use Rattle.pagable_tables.proofs.Words.{◌&&◌, Bool, true, false, ◌++◌, length, inl, inr, if◌then◌else◌, ◌≢◌, Result, option_map, AllPairs, sum_by_push, Mode, Blob, Among, one, times, changed}
 use Rattle.pagable_tables.proofs.Words.{find_row, pins, sharing, is_handle, is_owner, is_owned_by, is_pin, is_share, owner_value, IsHandleBefore, Last, Alike, Falls, nobody, moved, row_of}
 use Rattle.pagable_tables.proofs.Words.{is_named_by, with_handle, with_mode, without_load, with_pin, Installs, Holdings, Counts, LoadRow, load_at, cell_in, has_value, is_valued, pins_in, with_tables}
-use Rattle.pagable_tables.proofs.{Words.{is_plain_pin, SoFar, core_of, load_in, MayHold, IsWider, has_come}, Coming.turned, keeps.EndCalls.both-none, Newer.{OnlyNewer, owned-mode, newer-then}}
+use Rattle.pagable_tables.proofs.{Words.{is_plain_pin, SoFar, core_of, load_in, MayHold, OnlyRoom, has_come}, Coming.turned, keeps.EndCalls.both-none, Newer.{OnlyNewer, owned-mode, newer-then}}
 use Rattle.pagable_tables.proofs.{Newer.{newer-moved, newer-mode, newer-handle, newer-falls}, Worlds.fault-by, Begun.{begins, begun}, Taken.{load-closed, owned-given, moved-times, owned-moved}}
 use Rattle.pagable_tables.proofs.{Taken.no-load, Joined.{moved-turned, turned-sum}, Named.{moved-nobody, named-none}, Regiven.{found-first, owned, passes-here, passes-none}, Stays.seen-before}
 use Rattle.pagable_tables.proofs.{Stays.{stays-pinned, not-named, same-value}, keeps.HandleCalls.{named-unlisted, moved-to-value}, keeps.Comes.{not-list, not-a-value}, keeps.LoadCalls.may-hold}
@@ -255,10 +255,10 @@ module _ (t t1 : Tables) (stored : ℕ → Option Blob) (closed : Bool) (failure
           grind (arith, nat_tests, same-value, sum_by_push, same, a.rows, a.cells n, was.steady.fits.pinned n, whole.steady.fits.pinned n)
 
 -- what is true with more places is true without them
-pub may-wider : {w v : Core} {me : Owner} {l : LoadNumber} {node : NodeNumber} {h : HandleNumber} {t : ℕ} {refs : List ArcRef} → IsWider w v → MayEnd v me l node h t refs → MayEnd w me l node h t refs
+pub may-wider : {w v : Core} {me : Owner} {l : LoadNumber} {node : NodeNumber} {h : HandleNumber} {t : ℕ} {refs : List ArcRef} → OnlyRoom w v → MayEnd v me l node h t refs → MayEnd w me l node h t refs
 may-wider {w} {v} {me} {l} {node} {h} {t} {refs} wider may = grind (arith, nat_tests, references-placed)
 
-pub installs-wider : {w v w' : Core} {me : Owner} {l : LoadNumber} {node : NodeNumber} {h k : HandleNumber} {refs : List ArcRef} → IsWider w v → Installs v me l node h k refs w' → Installs w me l node h k refs w'
+pub installs-wider : {w v w' : Core} {me : Owner} {l : LoadNumber} {node : NodeNumber} {h k : HandleNumber} {refs : List ArcRef} → OnlyRoom w v → Installs v me l node h k refs w' → Installs w me l node h k refs w'
 installs-wider {w} {v} {w'} {me} {l} {node} {h} {k} {refs} wider installs =
     let i : Installs (record w { places = v.places }) me l node h k refs w' = subst (λ u. Installs u me l node h k refs w') wider.same installs in
     let before : Core = record w { places = v.places } in

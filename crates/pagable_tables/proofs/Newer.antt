@@ -2,8 +2,8 @@
 use Rattle.pagable_tables.proofs.Words.{◌≡◌, ℕ, ◌+◌, ◌<◌, ◌≤◌, ◌++◌, ◌∷◌, [], Bool, true, false, not, List, refl, ap, sym, ◌∙◌, arith, Option, Some, None, inl, inr, ◌⊎◌, ◌≢◌, Result, Ok, Err, is_some}
 use Rattle.pagable_tables.proofs.Words.{option_map, cases_eq, Error, HandleNumber, LoadNumber, NodeNumber, HandleRow, Owner, Mode, Kind, ArcRef, OptionalDataKey, if_there, type_of, changed, is_handle}
 use Rattle.pagable_tables.proofs.Words.{is_owner, is_owned_by, owner_value, find_row, mode_of, Core, Last, Alike, Falls, only_handle, with_handle, with_node, next_node, with_cached_if_open}
-use Rattle.pagable_tables.proofs.Words.{is_named_by, moved, with_mode, UnpinCall, ReleaseCall, SetKeyCall, ScheduleCall, OfferCall, CloseCall, is_owned_in, adopted, first_key, Adopts, DropCall}
-use Rattle.pagable_tables.proofs.Words.{LazyCall, LoadRow, Tables, load_at, plain_of, load_in, Makes, AreLater, nat_tests, Among, subst, owner_worker, reach_at, InReach, IsNoLess, Reach, IndexMap}
+use Rattle.pagable_tables.proofs.Words.{is_named_by, moved, with_mode, UnpinCall, SetKeyCall, ScheduleCall, OfferCall, CloseCall, is_owned_in, adopted, first_key, Adopts, DropCall}
+use Rattle.pagable_tables.proofs.Words.{LoadRow, Tables, load_at, plain_of, load_in, Makes, AreLater, nat_tests, Among, subst, owner_worker, reach_at, InReach, IsNoLess, Reach, IndexMap}
 use Rattle.pagable_tables.proofs.{Words.worker_at, Regiven.{owned, passes-here, passes-left, no-entry, unlisting}, Taken.owned-moved, Bits.{and-left, had, there-is}, Worlds.owner-same}
 use Rattle.pagable_tables.proofs.keeps.Rows.{found-among, found-push}
 use Rattle.pagable_world.specs.Pager as pager
@@ -182,22 +182,12 @@ pub newer-adopted : (w : Core) (l : LoadNumber) (kind : Kind) (key : ℕ) (own_k
 newer-adopted w l kind key own_key references =
     newer-then (newer-node w (type_of kind.0) own_key references (mode_of kind.0) (Owner.Load l)) (newer-cached (with_handle (with_node w (type_of kind.0) own_key references) (next_node w) (mode_of kind.0) (Owner.Load l)) kind key (next_node w))
 
-pub lazy-newer : {w w' : Core} (me : Owner) (l : LoadNumber) (kind : Kind) (key : ℕ) (r : Result HandleNumber Error) → LazyCall w me l kind key r w' → OnlyNewer w w'
-lazy-newer {w} me l kind key (Ok k) call = elim call.makes.3 [
-  | inl gets ↦ newer-then (newer-handle w (record { 0 = gets.n }) (mode_of kind.0) (Owner.Load l)) (newer-alike gets.leaves)
-  | inr (none, left, next, leaves) ↦ newer-then (newer-adopted w l kind key (OptionalDataKey.Some key) []) (newer-alike leaves)
-]
-lazy-newer me l kind key (Err e) call = newer-alike call.refused.stays
-
 pub unpin-newer : {w w' : Core} (me : Owner) (h : HandleNumber) (r : Result (Unit {0}) Error) → UnpinCall w me h r w' → OnlyNewer w w'
 unpin-newer {w} me h r call = elim call.does [
   | inl refused ↦ newer-alike refused.stays
   | inr (row, own, inl (mode, told, stays)) ↦ newer-alike stays
   | inr (row, own, inr (mode, falls)) ↦ newer-then (newer-mode w h Mode.LooseUnpinned) (newer-falls falls)
 ]
-
-pub release-newer : {w w' : Core} (me : Owner) (h : HandleNumber) (r : Result (Unit {0}) Error) → ReleaseCall w me h r w' → OnlyNewer w w'
-release-newer me h r call = elim call.does [ inl refused ↦ newer-alike refused.stays | inr (row, own, falls) ↦ newer-falls falls ]
 
 pub set-key-newer : {w w' : Core} (me : Owner) (h : HandleNumber) (key : ℕ) (r : Result (Unit {0}) Error) → SetKeyCall w me h key r w' → OnlyNewer w w'
 set-key-newer me h key r call = elim call.does [

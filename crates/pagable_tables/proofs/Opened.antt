@@ -61,19 +61,12 @@ owner-self o = grind (arith, nat_tests)
 pub no-fault : (w : Core) (me : Owner) (h : HandleNumber) (fits : Mode → Bool) (row : HandleRow) → row_at w h ≡ Some row → is_owner me row.owner ≡ true → fits row.mode ≡ true → handle_fault w me h fits ≡ None
 no-fault w me h fits row found own fit = grind (arith, nat_tests)
 
-numbers-late : (so : Bool) (m n : ℕ) (f : Error) → where_so so (earlier (spent m) (spent n)) ≡ Some f → 3 ≤ rank f
+pub numbers-late : (so : Bool) (m n : ℕ) (f : Error) → where_so so (earlier (spent m) (spent n)) ≡ Some f → 3 ≤ rank f
 numbers-late so m n f is = grind (arith, nat_tests)
-
-pub begin-first : (w : Core) (me : Owner) (h : HandleNumber) (fits : Mode → Bool) (e : Error) (so : Bool) (m n : ℕ)
-    → handle_fault w me h fits ≡ Some e → earlier (handle_fault w me h fits) (where_so so (earlier (spent m) (spent n))) ≡ Some e
-begin-first w me h fits e so m n is = handle-first w me h fits e _ is (numbers-late so m n)
-
-pub unspent : (last : ℕ) → last < greatest → spent last ≡ None
-unspent last lt = grind (arith, nat_tests)
 
 -- while numbers are left only memory can be wanting
 pub only-memory : (last : ℕ) (e : Error) {A B : Type 0} → last < greatest → (spent last ≡ Some e) ⊎ ((e ≡ Error.OutOfMemory) × A × B) → e ≡ Error.OutOfMemory
-only-memory last e lt x3 = grind (arith, nat_tests, unspent)
+only-memory last e lt x3 = grind (arith, nat_tests)
 
 pub no-begin-fault : (w : Core) (me : Owner) (h : HandleNumber) (so : Bool) → handle_fault w me h is_loose ≡ None → w.last.load < greatest → w.last.handle < greatest → earlier (handle_fault w me h is_loose) (where_so so (earlier (spent w.last.load) (spent w.last.handle))) ≡ None
 no-begin-fault w me h so none load handle = grind (arith, nat_tests)
@@ -89,13 +82,9 @@ load-low w me l e is = grind (arith, nat_tests)
 pub no-load-fault : (w : Core) (me : Owner) (l : LoadNumber) (load : OpenLoad) → OwnsLoad w me l load → load_fault w me l ≡ None
 no-load-fault w me l load own = grind (arith, nat_tests, owner-self)
 
--- a load that may be used, or is another's, is open
-pub open-by : (w : Core) (me : Owner) (l : LoadNumber) → load_fault w me l ≢ Some Error.NoSuchHandle → closed_fault w l ≡ None
-open-by w me l other = grind (arith, nat_tests)
-
 -- memory may be told to be wanting where it was asked for only of an own load
 pub told-later : {cause : Option Error} {full : Type 0} {w w' : Core} {e : Error} (me : Owner) (l : LoadNumber) → Refused cause (load_fault w me l) full w e w' → Refused cause (closed_fault w l) full w e w'
-told-later {cause} {full} {w} {w'} {e} me l r = grind (arith, nat_tests, open-by)
+told-later {cause} {full} {w} {w'} {e} me l r = grind (arith, nat_tests)
 
 -- one load more, and the others stay
 pub load-comes : (at at' : ℕ → Option LoadRow) (l : ℕ) (row : LoadRow) → at' l ≡ Some row → ((q : ℕ) → q ≢ l → at' q ≡ at q) → (q : ℕ) → option_map load_in (at' q) ≡ updated l (Some (load_in row)) (λ q. option_map load_in (at q)) q

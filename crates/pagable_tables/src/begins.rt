@@ -27,9 +27,7 @@ pub fn load_key(t: &mut Tables, me: Owner, key: DataKey) -> Result<Beginning, Er
         root: LoadRoot::Key,
         since: t.holdings.last_handle,
     };
-    let Ok(()) = loads::open(&mut t.loads, load, row) else {
-        return Err(Error::OutOfMemory);
-    };
+    loads::open(&mut t.loads, load, row)?;
     t.last_load = load;
     Ok(Beginning::Load(LoadNumber(load), key))
 }

@@ -76,9 +76,7 @@ fn open_cell(
         root: LoadRoot::Cell(at.row.node, node_type, at.row.number),
         since: t.holdings.last_handle,
     };
-    let Ok(()) = loads::open(&mut t.loads, load.0, row) else {
-        return Err(Error::OutOfMemory);
-    };
+    loads::open(&mut t.loads, load.0, row)?;
     match come(
         &mut t.holdings,
         at.row.node,
@@ -105,26 +103,19 @@ pub fn load_begin(t: &mut Tables, me: Owner, handle: HandleNumber) -> Result<Beg
     requires owner { MayOwnLoad (plain_of t.old) me }
     ensures { Does t.old (λ w w'. BeginCall w me handle result w') t.new }
 {
-    let at = match own(t, me, handle) {
-        Ok(at) => at,
-        Err(e) => return Err(e),
-    };
+    let at = own(t, me, handle)?;
     if !is_loose(at.row.mode) {
         return Err(Error::WrongMode);
     }
-    let Some(counts) = nodes::counts_of(&t.holdings.nodes, at.row.node.0) else {
-        unreachable!();
-    };
+    let counts = nodes::counts_of(&t.holdings.nodes, at.row.node.0).unwrap();
     let Some(key) = key_away(counts) else {
         return Ok(Beginning::InMemory);
     };
     if t.last_load == u64::MAX || t.holdings.last_handle == u64::MAX {
         return Err(Error::NumbersSpent);
     }
-    match open_cell(t, me, at, counts.node_type, key) {
-        Ok(load) => Ok(Beginning::Load(load, key)),
-        Err(e) => Err(e),
-    }
+    let load = open_cell(t, me, at, counts.node_type, key)?;
+    Ok(Beginning::Load(load, key))
 }
 
 /// A handle of the load's, of the node that the cache gives for a kind and a key; or None where it gives none, and what stands under the key has to be read. It is
@@ -141,9 +132,6 @@ pub fn load_known(
     ensures does { Does t.old (λ w w'. AsksKnown w me load kind key result w') t.new }
     ensures none { IfOk result (λ found. IfNone found (t.new ≡ t.old)) }
 {
-    let _row = match load_row(t, me, load) {
-        Ok(row) => row,
-        Err(e) => return Err(e),
-    };
+    let _row = load_row(t, me, load)?;
     cache_get(t, Owner::Load(load), kind, key)
 }

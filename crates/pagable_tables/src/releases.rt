@@ -51,9 +51,6 @@ pub fn release<N: Drop>(
     requires free { is_owner owners.List me ≡ false }
     ensures { DoesShed lists t.old values.old (λ w w'. ReleaseCall w me handle result w') t.new values.new }
 {
-    let at = match own(t, me, handle) {
-        Ok(at) => at,
-        Err(e) => return Err(e),
-    };
+    let at = own(t, me, handle)?;
     give_back(&mut t.holdings, values, at, lists)
 }

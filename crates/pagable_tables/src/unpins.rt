@@ -26,10 +26,7 @@ pub fn unpin<N: Drop>(
     requires plain { is_valued me ≡ false }
     ensures { DoesShed lists t.old values.old (λ w w'. UnpinCall w me handle result w') t.new values.new }
 {
-    let at = match own(t, me, handle) {
-        Ok(at) => at,
-        Err(e) => return Err(e),
-    };
+    let at = own(t, me, handle)?;
     match at.row.mode {
         Mode::LooseUnpinned => Ok(()),
         Mode::LoosePinned => {

@@ -1,12 +1,12 @@
 -- Calls by which a load goes on or ends, and the close of the storage, keep the world whole.
 use Rattle.pagable_tables.proofs.Words.{◌&&◌, ◌+◌, ◌<◌, ◌==◌, ◌∙◌, ◌∷◌, ◌≡◌, AdoptCall, AllPairs, Among, ArcRef, ArePlaced, Bool, CloseCall, Core, DropCall, EndCall, Err, Error, Falls, HandOverCall}
-use Rattle.pagable_tables.proofs.Words.{HandleNumber, HandleRow, IsEntryWhole, IsHandleBefore, IsWhole, Kind, LazyCall, List, LoadCloses, LoadNumber, MayHold, MayOwnLoad, Mode, NodeNumber, None, Ok}
+use Rattle.pagable_tables.proofs.Words.{HandleNumber, HandleRow, IsEntryWhole, IsHandleBefore, IsWhole, Kind, List, LoadCloses, LoadNumber, MayHold, MayOwnLoad, Mode, NodeNumber, None, Ok}
 use Rattle.pagable_tables.proofs.Words.{OpenLoad, Option, OptionalDataKey, Owner, Owns, OwnsLoad, Result, Some, [], adopted, ap, arith, cell_fault, earlier, false, first_key, greatest, has_key}
-use Rattle.pagable_tables.proofs.Words.{if_there, if◌then◌else◌, inl, inr, is_handle, is_in, is_loose, is_loose_kind, is_named_by, is_owned_by, is_owned_in, is_owner, is_shared, is_some, load_fault}
+use Rattle.pagable_tables.proofs.Words.{if_there, if◌then◌else◌, inl, inr, is_handle, is_in, is_loose, is_named_by, is_owned_by, is_owned_in, is_owner, is_shared, is_some, load_fault}
 use Rattle.pagable_tables.proofs.Words.{mode_of, moved, named_fault, nat_tests, next_node, not, numbers_of, owner_value, references_fault, refl, row_of, shut, subst, sym, true, type_of, updated}
 use Rattle.pagable_tables.proofs.{Words.{with_cached, with_handle, with_mode, with_node, with_pin, without_load, ℕ}, Handed.{found-there, one-fault}, Worlds.{fault-by, owner-same}}
 use Rattle.pagable_tables.proofs.keeps.{CacheCalls.{cached-whole, known-whole, mode-shared}, Comes.{handle-on, not-list}, Fallen.{alike-opened, falls-lost, falls-opened, opened}, HandleCalls.IsMine}
-use Rattle.pagable_tables.proofs.keeps.HandleCalls.{born-whole, mine-of, moved-number, moved-on, moved-to-holder, moved-to-value, named-own, named-unlisted, no-references, pin-comes, pin-on}
+use Rattle.pagable_tables.proofs.keeps.HandleCalls.{born-whole, mine-of, moved-number, moved-on, moved-to-holder, moved-to-value, named-own, named-unlisted, pin-comes, pin-on}
 use Rattle.pagable_tables.proofs.keeps.{Kept.{alike-rows, is-in, may-own}, LoadCalls.may-hold, Rows.{among-both, among-changed, among-last, among-one, found-among, found-so, once}, Told.GoesOn}
 use Rattle.pagable_tables.proofs.keeps.Told.{alike-whole, roomy, roomy-whole, settles, stays-on, then-on}
 
@@ -197,18 +197,6 @@ module _ (w : Core) (whole : IsWhole (opened w)) (l : LoadNumber) (kind : Kind) 
       at : (b : Bool) → IsWhole (roomy (opened (if b then made else with_cached made kind key (next_node w))))
       at true = now-whole
       at false = cached-whole {w = now} kind key (next_node w) now-whole refl new-entry
-
-loose-plain : (kind : ℕ) → is_loose_kind kind ≡ true → is_shared (mode_of kind) ≡ true → ⊥
-loose-plain kind loose shared = grind (arith, nat_tests, mode-shared)
-
-pub lazy-whole : {w w' : Core} (me : Owner) (l : LoadNumber) (kind : Kind) (key : ℕ) (r : Result HandleNumber Error) → IsWhole (opened w) → LazyCall w me l kind key r w' → ArePlaced (opened w')
-    → IsWhole (opened w')
-lazy-whole {w} me l kind key (Ok k) whole call placed = let (load, owns, loose, makes) = call.makes in elim makes [
-  | inl gets ↦ settles (known-whole kind key gets.n (Owner.Load l) whole gets.known (load-holds load owns) gets.next.is_left) (alike-opened gets.leaves) placed
-  | inr (none, node_left, next, leaves) ↦ settles (adopted-whole w whole l kind key (OptionalDataKey.Some key) [] (load-holds load owns) (no-references (opened w) (Owner.Load l)) node_left next.is_left
-      (λ shared. absurd (loose-plain kind.0 loose shared))) (alike-opened leaves) placed
-]
-lazy-whole me l kind key (Err e) whole call placed = alike-whole whole (alike-opened call.refused.stays) placed
 
 shared-keyless : (kind key : ℕ) → is_shared (mode_of kind) ≡ true → has_key (first_key kind key) ≡ false
 shared-keyless kind key shared = grind (arith, nat_tests, mode-shared)

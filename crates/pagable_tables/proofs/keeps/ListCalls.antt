@@ -1,6 +1,6 @@
 -- Calls by which handles go to the list, come from it or fall keep the world whole.
 use Rattle.pagable_tables.proofs.Words.{◌&&◌, ◌++◌, ◌+◌, ◌<◌, ◌==◌, ◌∙◌, ◌∷◌, ◌≡◌, Among, ArePlaced, Bool, Cell, Core, Err, Error, HandleNumber, HandleRow, IsWhole, MayHold, Mode, None, Ok, Option}
-use Rattle.pagable_tables.proofs.Words.{OptionalDataKey, Owner, ReleaseCall, Result, ScheduleCall, SetKeyCall, Some, TakeCall, UnpinCall, [], ap, arith, false, get_or, get_or_from_slice_get, if_there}
+use Rattle.pagable_tables.proofs.Words.{OptionalDataKey, Owner, Result, ScheduleCall, SetKeyCall, Some, TakeCall, UnpinCall, [], ap, arith, false, get_or, get_or_from_slice_get, if_there}
 use Rattle.pagable_tables.proofs.Words.{if◌then◌else◌, inl, inr, is_owned_by, is_owner, is_shared, is_some, is_unpinned, moved, nat_tests, one, only_handle, refl, slice_get, slice_get_within}
 use Rattle.pagable_tables.proofs.{Words.{sum_by-remove, sum_by_push, sym, times, true, with_key, ℕ}, Bits.{and-all, and-zero}, keeps.{Comes.not-list, Fallen.{alike-opened, falls-opened, falls-whole}}}
 use Rattle.pagable_tables.proofs.keeps.{Fallen.opened, HandleCalls.{lists, loose-unshared, moved-so}, Kept.{HasLike, alike-rows, holder-in, is-in, keeps-whole, keyed_in, loads-stay, stays-old}}
@@ -84,12 +84,6 @@ take-whole {w} {w'} me i (Some h) whole holder call placed = settles taken call.
         moved-so whole (only_handle h) me (remove w.list i) still (λ x there e. holder-in w x.mode me holder)
         (λ closed. let f : None ≡ Some h = ap (λ l. slice_get l i) (sym (whole.shut closed).0) ∙ call.0 in absurd (cc))
 take-whole me i None whole holder call placed = alike-whole whole call.1 placed
-
-pub release-whole : {w w' : Core} (me : Owner) (h : HandleNumber) (r : Result (Unit {0}) Error) → IsWhole (opened w) → ReleaseCall w me h r w' → ArePlaced (opened w') → IsWhole (opened w')
-release-whole {w} me h r whole call placed = elim call.does [
-  | inl refused ↦ alike-whole whole (alike-opened refused.stays) placed
-  | inr (row, owns, falls) ↦ falls-opened (roomy-whole whole) (stays-on w) falls placed
-]
 
 pub unpin-whole : {w w' : Core} (me : Owner) (h : HandleNumber) (r : Result (Unit {0}) Error) → IsWhole (opened w) → UnpinCall w me h r w' → ArePlaced (opened w') → IsWhole (opened w')
 unpin-whole me h r whole call placed = elim call.does [

@@ -1,7 +1,7 @@
 use Rattle.pagable_tables.proofs.Words.{ap, sym, ◌∙◌, false, not, None, is_some, core_of, plain_of, subst, Suits, Owner, mode_of, with_handle, Alike, Mode, length, arith, ◌+◌, AllPairs}
 use Rattle.pagable_tables.proofs.{Words.{IsHandleBefore, refl, Falls, is_named_by, Tables, has_value, counts_at}, Adoptions.{not-adopted, adopts-known, adopts-whole, refused-known, fitting, eager}}
 use Rattle.pagable_tables.proofs.{Stays.{named-loaded, not-named}, Ended.{stays-first, sheds-still}}
-use Rattle.pagable_tables.proofs.{Adoptions.owner-of, Begun.not-closed, Newer.{adopt-newer, later-on}, keeps.CacheCalls.known-suits, keeps.Placed.whole-so, Stays.{begun-made, swapped, loaded-append}}
+use Rattle.pagable_tables.proofs.{Adoptions.owner-of, Begun.not-closed, Worlds.failed, Newer.{adopt-newer, later-on}, keeps.CacheCalls.known-suits, keeps.Placed.whole-so, Stays.{begun-made, swapped, loaded-append}}
 use Rattle.pagable_tables.proofs.adopting.adopt_if_known.Goals as goal
 
 pub returns-in-Some-clause-refused : goal.returns-in-Some-clause-refused
@@ -17,8 +17,8 @@ pub make-requires-clause-holder : goal.make-requires-clause-holder
 make-requires-clause-holder g c =
     ap is_some (owner-of (plain_of c.args.t.now) c.args.me c.args.load c.args.kind c.args.key c.args.node_type c.args.references.now (sym (c.adopt_fault.ensures (λ key. None) false 0) ∙ c.in_default.is)).1.stands_open
 
-pub returns-in-Ok-clause-known : goal.returns-in-Ok-clause-known
-returns-in-Ok-clause-known g c stored closed failures e =
+pub returns-clause-known : goal.returns-clause-known
+returns-clause-known g c stored closed failures e =
     let t = c.args.t.now in
     let l = c.args.load in
     let kind = c.args.kind in
@@ -30,40 +30,40 @@ returns-in-Ok-clause-known g c stored closed failures e =
     let t1 = c.make.new.t in
     let u = with_handle w node mode owner in
     let good = sym (c.adopt_fault.ensures stored closed failures) ∙ c.in_default.is in
-    let m = (c.in-Ok.ensures.does.does stored closed failures).made in
+    let m = (c.in_ok-handle.ensures.does.does stored closed failures).made in
     let a : Alike u (core_of t1 stored closed failures) = subst (λ (mode : Mode). Alike (with_handle w node mode owner) (core_of t1 stored closed failures)) c.mode_of.ensures m.1 in
-    let some = c.give_named.ensures.falls u u (begun-made t t1 stored closed failures node mode owner c.in-Ok.ensures.does.whole a c.args.lists e) (let b = ap length a.rows in omega arith)
+    let some = c.give_named.ensures.falls u u (begun-made t t1 stored closed failures node mode owner c.in_ok-handle.ensures.does.whole a c.args.lists e) (let b = ap length a.rows in omega arith)
     (λ q named. loaded-append l q w.rows _ (named-loaded w l rs (fitting w c.args.me l kind c.args.key c.args.node_type rs good) q named)) in
     let kept = not-named (plain_of t) l rs c.requires.whole.core.handles
     (fitting (plain_of t) c.args.me l kind c.args.key c.args.node_type rs (sym (c.adopt_fault.ensures (λ key. None) false 0) ∙ c.in_default.is)) (t.holdings.last_handle + 1) (omega arith) in
-    let falls = swapped w node mode owner (subst (AllPairs IsHandleBefore) a.rows c.in-Ok.ensures.does.whole.core.handles.ordered) refl some.falls kept in
+    let falls = swapped w node mode owner (subst (AllPairs IsHandleBefore) a.rows c.in_ok-handle.ensures.does.whole.core.handles.ordered) refl some.falls kept in
     let anew : Falls w u (is_named_by rs) some.told (core_of (record t1 { holdings = c.give_named.new.t }) stored closed failures) =
-    subst (λ (z : Tables). Falls w u (is_named_by rs) some.told (core_of (record z { holdings = c.give_named.new.t }) stored closed failures)) (sym c.in-Ok.ensures.same) falls in
-    adopts-known w c.args.me l kind c.args.key c.args.node_type rs good node c.in-Ok.handle (sym (c.in-Some-usable_of.ensures stored closed failures)) m.0 (record { told = some.told; falls = anew })
+    subst (λ (z : Tables). Falls w u (is_named_by rs) some.told (core_of (record z { holdings = c.give_named.new.t }) stored closed failures)) (sym c.in_ok-handle.ensures.same) falls in
+    adopts-known w c.args.me l kind c.args.key c.args.node_type rs good node c.in_ok-handle.handle (sym (c.in-Some-usable_of.ensures stored closed failures)) m.0 (record { told = some.told; falls = anew })
 
-pub returns-in-Ok-clause-whole : goal.returns-in-Ok-clause-whole
-returns-in-Ok-clause-whole g c =
+pub returns-clause-whole : goal.returns-clause-whole
+returns-clause-whole g c =
     whole-so c.give_named.ensures.steady
-    (adopts-whole c.args.me c.args.load c.args.kind c.args.key c.args.node_type c.args.references.now c.in-Ok.handle c.requires.whole.core (returns-in-Ok-clause-known g c (λ key. None) (not c.args.lists) 0 (not-closed c.args.lists)))
+    (adopts-whole c.args.me c.args.load c.args.kind c.args.key c.args.node_type c.args.references.now c.in_ok-handle.handle c.requires.whole.core (returns-clause-known g c (λ key. None) (not c.args.lists) 0 (not-closed c.args.lists)))
 
-pub returns-in-Ok-clause-later : goal.returns-in-Ok-clause-later
-returns-in-Ok-clause-later g c =
-    let n = adopt-newer c.args.me c.args.load c.args.kind c.args.key c.args.node_type c.args.references.now c.in-Ok.handle (returns-in-Ok-clause-known g c (λ key. None) (not c.args.lists) 0 (not-closed c.args.lists)) in
-    later-on c.requires.later n (ap (λ (u : Tables). u.loads) c.in-Ok.ensures.same) (ap (λ (u : Tables). u.workers) c.in-Ok.ensures.same)
+pub returns-clause-later : goal.returns-clause-later
+returns-clause-later g c =
+    let n = adopt-newer c.args.me c.args.load c.args.kind c.args.key c.args.node_type c.args.references.now c.in_ok-handle.handle (returns-clause-known g c (λ key. None) (not c.args.lists) 0 (not-closed c.args.lists)) in
+    later-on c.requires.later n (ap (λ (u : Tables). u.loads) c.in_ok-handle.ensures.same) (ap (λ (u : Tables). u.workers) c.in_ok-handle.ensures.same)
 
-pub returns-in-Err-clause-refused : goal.returns-in-Err-clause-refused
-returns-in-Err-clause-refused g c stored closed failures =
-    refused-known (core_of c.args.t.now stored closed failures) c.args.me c.args.load c.args.kind c.args.key c.args.node_type c.args.references.now (sym (c.adopt_fault.ensures stored closed failures) ∙ c.in_default.is)
-    c.in-Some-usable_of.node.0 (sym (c.in-Some-usable_of.ensures stored closed failures)) (c.in-Err.ensures.does.does stored closed failures).refused
+pub returns-in_err-handle-clause-refused : goal.returns-in_err-handle-clause-refused
+returns-in_err-handle-clause-refused g c stored closed failures =
+    rw (failed c.from_residual.result c.from_residual.ensures.1) (refused-known (core_of c.args.t.now stored closed failures) c.args.me c.args.load c.args.kind c.args.key c.args.node_type c.args.references.now (sym (c.adopt_fault.ensures stored closed failures) ∙ c.in_default.is)
+    c.in-Some-usable_of.node.0 (sym (c.in-Some-usable_of.ensures stored closed failures)) (c.in_err-handle.ensures.does.does stored closed failures).refused)
 
-pub returns-in-Ok-clause-sheds : goal.returns-in-Ok-clause-sheds
-returns-in-Ok-clause-sheds g c =
+pub returns-clause-sheds : goal.returns-clause-sheds
+returns-clause-sheds g c =
     let valued = c.requires.valued c.in-Some-usable_of.node.0 (sym (c.in-Some-usable_of.ensures (λ key. None) false 0))
     (eager (plain_of c.args.t.now) c.args.me c.args.load c.args.kind c.args.key c.args.node_type c.args.references.now (sym (c.adopt_fault.ensures (λ key. None) false 0) ∙ c.in_default.is)) in
-    stays-first (λ n. c.in-Ok.ensures.values n (λ eq. ap (λ k. has_value (counts_at c.args.t.now.holdings.nodes k)) eq ∙ valued)) c.give_named.ensures.sheds
+    stays-first (λ n. c.in_ok-handle.ensures.values n (λ eq. ap (λ k. has_value (counts_at c.args.t.now.holdings.nodes k)) eq ∙ valued)) c.give_named.ensures.sheds
 
-pub returns-in-Err-clause-sheds : goal.returns-in-Err-clause-sheds
-returns-in-Err-clause-sheds g c =
+pub returns-in_err-handle-clause-sheds : goal.returns-in_err-handle-clause-sheds
+returns-in_err-handle-clause-sheds g c =
     let valued = c.requires.valued c.in-Some-usable_of.node.0 (sym (c.in-Some-usable_of.ensures (λ key. None) false 0))
     (eager (plain_of c.args.t.now) c.args.me c.args.load c.args.kind c.args.key c.args.node_type c.args.references.now (sym (c.adopt_fault.ensures (λ key. None) false 0) ∙ c.in_default.is)) in
-    stays-first (λ n. c.in-Err.ensures.values n (λ eq. ap (λ k. has_value (counts_at c.args.t.now.holdings.nodes k)) eq ∙ valued)) (sheds-still c.make.new.t.holdings _ c.in-Err.ensures.does.whole.steady)
+    stays-first (λ n. c.in_err-handle.ensures.values n (λ eq. ap (λ k. has_value (counts_at c.args.t.now.holdings.nodes k)) eq ∙ valued)) (sheds-still c.make.new.t.holdings _ c.in_err-handle.ensures.does.whole.steady)

@@ -1,5 +1,35 @@
-use Rattle.pagable_tables.proofs.{Words.{ap, live, refl}, Nothing.{nothing-later, nothing-whole}}
+use Rattle.pagable_tables.proofs.Words.{worker_at, AreLater, ◌≡◌, ℕ, [], ap, refl, subst, arith, None, nat_eq, get, HandleRow, Among, nat_tests, Core, NodeRow, Tables, live, AreSound, counts_at, load_at}
+use Rattle.pagable_tables.proofs.{Words.{known_at, cell_in, IsFalling, owns_nothing, plain_of, option_map}, Regiven.passes-none}
+use Rattle.pagable_tables.specs.Core.{IsWhole}
 use Rattle.pagable_tables.proofs.start.new.Goals as goal
+
+-- tables of nothing are whole
+module _ (t : Tables) (sound : AreSound t.holdings.handles) (rows : t.holdings.handles.places.items ≡ []) (found : (n : ℕ) → get nat_eq t.holdings.nodes n ≡ None) (list : t.holdings.list.items ≡ [])
+    (cache : (kind key : ℕ) → known_at t.cache kind key ≡ None) (loads : (l : ℕ) → load_at t.loads l ≡ None) (workers : (v : ℕ) → worker_at t.workers v ≡ None)
+    (last : (t.holdings.top ≡ 0) × (t.holdings.last_handle ≡ 0) × (t.last_node ≡ 0) × (t.last_load ≡ 0)) where
+  none : (n : ℕ) → counts_at t.holdings.nodes n ≡ None
+  none n = ap (option_map (λ (r : NodeRow). r.counts)) (found n)
+
+  empty : live t.holdings.handles.places.items ≡ []
+  empty = ap live rows
+
+  steady : IsFalling t.holdings [] owns_nothing
+  steady = grind (arith, nat_tests, none, empty)
+
+  abbrev w : Core
+  w = plain_of t
+
+  nobody : (h : HandleRow) → Among w.rows h → ⊥
+  nobody h among = let a = subst (λ rs. Among rs h) empty among in absurd (cc)
+
+  no-cell : (n : ℕ) → w.cells n ≡ None
+  no-cell n = ap cell_in (none n)
+
+  nothing-whole : IsWhole t
+  nothing-whole = grind (arith, nat_tests, steady, empty, nobody, none, no-cell)
+
+nothing-later : (t : Tables) → live t.holdings.handles.places.items ≡ [] → ((l : ℕ) → load_at t.loads l ≡ None) → ((v : ℕ) → worker_at t.workers v ≡ None) → AreLater t
+nothing-later t none loads workers = grind (arith, nat_tests, passes-none)
 
 pub returns-clause-later : goal.returns-clause-later
 returns-clause-later c = nothing-later _ (ap live c.empty.ensures.places) (λ l. rw c.new-4.ensures.empty refl) (λ v. rw c.new-5.ensures.empty refl)
