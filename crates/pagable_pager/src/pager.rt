@@ -18,7 +18,7 @@ use pagable_codec::{Env, NodeSet};
 use pagable_core::PagableStorage;
 use pagable_model::{Error, HandleNumber};
 use pagable_tables::tables::Tables;
-use pagable_tables::{lookups, start};
+use pagable_tables::{lookups, tables};
 use std::alloc::Global;
 use std::marker::Model;
 use std::sync::Arc;
@@ -63,7 +63,7 @@ where
         ensures environment { result.environment ≡ env }
     {
         Pager {
-            tables: start::new(alloc),
+            tables: tables::new(alloc),
             values: IndexMap::new(alloc),
             storage,
             env,

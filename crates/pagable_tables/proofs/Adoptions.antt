@@ -1,12 +1,11 @@
 -- What a load asks and reads: why it can't become a node, and what becomes of it.
 use Rattle.pagable_tables.proofs.Words.{◌≡◌, ℕ, ◌<◌, ◌≤◌, Bool, true, false, if◌then◌else◌, refl, ap, ◌∙◌, arith, Ok, Err, Some, None, inl, inr, not, is_some, Result, [], Error, HandleNumber}
-use Rattle.pagable_tables.proofs.Words.{LoadNumber, NodeNumber, Kind, Owner, Mode, is_loose_kind, is_shared, mode_of, Core, OpenLoad, greatest, usable, Alike, rank, earlier, refused_if, spent, load_fault}
-use Rattle.pagable_tables.proofs.Words.{OwnsLoad, Refused, birth_fault, node_fault, lazy_fault, adopted, LazyCall, OptionalDataKey, Makes, nat_tests, ◌==◌, List, Option, ArcRef, type_of}
-use Rattle.pagable_tables.proofs.Words.{or_else, references_fault, AreHandlesFull, FallsAnyhow, with_handle, is_named_by, adopt_fault, first_key, Adopts, early_fault, OnlyRoom, ArePlaced}
-use Rattle.pagable_tables.proofs.{Words.{◌&&◌, ◌≢◌, ◌⊎◌, with_cached}, Opened.{earlier-first, load-low, no-load-fault, late, kind-late}}
-use Rattle.pagable_tables.proofs.{Opened.{references-low}, Worlds.{still, usable-same}, Readied.{fault-by, room-alike}, keeps.{EndCalls.{adopt-whole, both-none}, Fallen.opened}}
+use Rattle.pagable_tables.proofs.Words.{LoadNumber, NodeNumber, Kind, Owner, Mode, is_loose_kind, is_shared, mode_of, Core, OpenLoad, greatest, usable, Alike, rank, earlier, refused_if, spent}
+use Rattle.pagable_tables.proofs.Words.{load_fault, OwnsLoad, Refused, birth_fault, node_fault, lazy_fault, adopted, LazyCall, OptionalDataKey, Makes, nat_tests, ◌==◌, List, Option, ArcRef, type_of}
+use Rattle.pagable_tables.proofs.Words.{or_else, references_fault, AreHandlesFull, FallsAnyhow, with_handle, is_named_by, adopt_fault, first_key, Adopts, early_fault, OnlyRoom, ◌&&◌, ◌≢◌}
+use Rattle.pagable_tables.proofs.{Words.{◌⊎◌, with_cached}, Opened.{earlier-first, load-low, no-load-fault, late, kind-late, references-low}, Readied.{fault-by, room-alike}}
+use Rattle.pagable_tables.proofs.{Worlds.{still, usable-same}, keeps.{EndCalls.both-none}}
 use Rattle.pagable_world.specs.Calls.{IsNext}
-use Rattle.pagable_world.specs.Pager as pager
 
 pub node-late : (w : Core) (kind : Kind) (key : ℕ) (f : Error) → node_fault w kind key ≡ Some f → 4 ≤ rank f
 node-late w kind key f is = grind (arith, nat_tests)
@@ -123,10 +122,6 @@ early-past {w} {w'} me l kind node_type refs o =
     ap (λ (u : Core). early_fault u me l kind node_type refs) o.same
     ∙ ap (λ x. earlier (load_fault w me l) (earlier (refused_if (is_loose_kind kind.0) Error.WrongMode) (earlier (refused_if (not (node_type == type_of kind.0)) Error.WrongKind) x)))
     (fault-by w (record w { places = w'.places }) (Owner.Load l) [] refs)
-
--- it keeps the world whole
-pub adopts-whole : {w w' : Core} (me : Owner) (l : LoadNumber) (kind : Kind) (key node_type : ℕ) (refs : List ArcRef) (k : HandleNumber) → pager.IsWhole (opened w) → Adopts w me l kind key node_type refs k w' → ArePlaced (opened w') → pager.IsWhole (opened w')
-adopts-whole {w} {w'} me l kind key node_type refs k whole a placed = adopt-whole {N = Unit {0}} me l kind key tt node_type refs (Ok k) whole (record { adopts = a; refused = tt }) placed
 
 -- the cache of the second world learns what that of the first does
 module _ (w w' : Core) (kind : Kind) (key : ℕ) (n : NodeNumber) (cache : ℕ → ℕ → Option ℕ) (a : Alike w w') (here : cache kind.0 key ≡ Some n.0) (others : (k q : ℕ) → (k ≢ kind.0) ⊎ (q ≢ key) → cache k q ≡ w'.cache k q) where

@@ -1,7 +1,7 @@
 -- Calls that leave the tables whole, as their steps leave the plain world.
-use Rattle.pagable_tables.proofs.Words.{◌≡◌, ◌≤◌, ◌+◌, ℕ, Bool, not, None, [], Option, ap, sym, subst, vec_capacity, IndexMap, get, nat_eq, Blob, Core, Tables, Sheds, IsFalling, owns_nothing, AreSound, IsNext}
-use Rattle.pagable_tables.proofs.{Words.{OnlyRoom, AreLater, live, counts_at, refs_at, known_at, core_of, plain_of, ArePlaced, false}, Begun.not-closed, Ended.sheds-still, Newer.{OnlyNewer, later-on, newer-alike}, keeps.Placed.whole-so}
-use Rattle.pagable_tables.proofs.Words.{nat_tests, Handles, NodeRow, NodeNumber, refl, arith}
+use Rattle.pagable_tables.proofs.Words.{◌≡◌, ◌≤◌, ◌+◌, ℕ, Bool, not, None, [], Option, ap, sym, subst, vec_capacity, IndexMap, get, nat_eq, Blob, Core, Tables, Sheds, IsFalling, owns_nothing}
+use Rattle.pagable_tables.proofs.Words.{AreSound, IsNext, OnlyRoom, AreLater, live, counts_at, refs_at, known_at, core_of, plain_of, ArePlaced, false, nat_tests, Handles, NodeRow, NodeNumber, refl}
+use Rattle.pagable_tables.proofs.{Words.arith, Begun.not-closed, Ended.sheds-still, Newer.{OnlyNewer, later-on, newer-alike}, keeps.Placed.whole-so}
 use Rattle.pagable_tables.{proofs.{Readied.room-alike, keeps.Told.alike-whole}, specs.{Becoming.Widens, Core.IsWhole, Doing.{Does, DoesShed}}}
 use Rattle.pagable_world.specs.Pager as pager
 

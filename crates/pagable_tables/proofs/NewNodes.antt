@@ -1,8 +1,8 @@
 -- A birth, by what it is made of; and why references are refused before a number that is spent.
 use Rattle.pagable_tables.proofs.Words.{◌≡◌, ℕ, ◌<◌, List, [], ap, ◌∙◌, subst, arith, Ok, Some, None, nat_tests, OptionalDataKey, Error, ArcRef, HandleNumber, Owner, Mode, Core, Alike, greatest}
-use Rattle.pagable_tables.proofs.Words.{earlier, references_fault, birth_fault, with_handle, with_node, next_node, AwayBirthCall, IsWhole, ArePlaced, MayHold, key_in, Bears, true, false, is_shared, has_key}
-use Rattle.pagable_tables.proofs.Opened.{earlier-first, spent-late, late, references-low}
-use Rattle.pagable_tables.proofs.{Words.OnlyRoom, keeps.{Comes.not-list, HandleCalls.{born-whole, no-references}, Told.settles}, Newer.{OnlyNewer, newer-then, newer-alike, newer-node}, Readied.{next-past, born-past}}
+use Rattle.pagable_tables.proofs.Words.{earlier, references_fault, birth_fault, with_handle, with_node, next_node, AwayBirthCall, IsWhole, ArePlaced, MayHold, key_in, Bears, true, false, is_shared}
+use Rattle.pagable_tables.proofs.{Words.{has_key, OnlyRoom}, Newer.{OnlyNewer, newer-then, newer-alike, newer-node}, Opened.{earlier-first, spent-late, late, references-low}}
+use Rattle.pagable_tables.proofs.{Readied.{next-past, born-past}, keeps.{Comes.not-list, HandleCalls.{born-whole, no-references}, Told.settles}}
 
 -- a cause that tells of a reference comes before a number that is spent
 pub references-first : (w : Core) (me : Owner) (rs : List ArcRef) (e : Error) → references_fault w me [] rs ≡ Some e → earlier (references_fault w me [] rs) (birth_fault w) ≡ Some e

@@ -1,8 +1,8 @@
 -- What loads own is what they owned, or has come since.
 use Rattle.pagable_tables.proofs.Words.{◌≡◌, ℕ, ◌+◌, ◌<◌, ◌≤◌, ◌++◌, ◌∷◌, [], Bool, true, false, not, List, refl, ap, sym, ◌∙◌, arith, Option, Some, None, inl, inr, ◌⊎◌, ◌≢◌, Result, Ok, Err, is_some}
-use Rattle.pagable_tables.proofs.Words.{option_map, cases_eq, Error, HandleNumber, LoadNumber, NodeNumber, HandleRow, Owner, Mode, Kind, ArcRef, OptionalDataKey, if_there, type_of, changed, is_handle}
-use Rattle.pagable_tables.proofs.Words.{is_owner, is_owned_by, owner_value, find_row, mode_of, Core, Last, Alike, Falls, only_handle, with_handle, with_node, next_node, with_cached_if_open}
-use Rattle.pagable_tables.proofs.Words.{is_named_by, moved, with_mode, UnpinCall, SetKeyCall, ScheduleCall, OfferCall, CloseCall, is_owned_in, adopted, first_key, Adopts, DropCall}
+use Rattle.pagable_tables.proofs.Words.{option_map, cases_eq, Error, HandleNumber, LoadNumber, NodeNumber, HandleRow, Owner, Mode, ArcRef, OptionalDataKey, if_there, changed, is_handle}
+use Rattle.pagable_tables.proofs.Words.{is_owner, is_owned_by, owner_value, find_row, Core, Last, Alike, Falls, only_handle, with_handle, with_node, next_node}
+use Rattle.pagable_tables.proofs.Words.{is_named_by, moved, with_mode, UnpinCall, SetKeyCall, ScheduleCall, CloseCall, is_owned_in, DropCall}
 use Rattle.pagable_tables.proofs.Words.{LoadRow, Tables, load_at, plain_of, load_in, Makes, AreLater, nat_tests, Among, subst, owner_worker, reach_at, InReach, IsNoLess, Reach, IndexMap}
 use Rattle.pagable_tables.proofs.{Words.worker_at, Regiven.{owned, passes-here, passes-left, no-entry, unlisting}, Taken.owned-moved, Bits.{and-left, had, there-is}, Worlds.owner-same}
 use Rattle.pagable_tables.proofs.keeps.Rows.{found-among, found-push}
@@ -170,17 +170,10 @@ pub makes-newer : {w w' : Core} (node : NodeNumber) (mode : Mode) (owner : Owner
 makes-newer {w} node mode owner (Ok k) m = newer-then (newer-handle w node mode owner) (newer-alike m.made.1)
 makes-newer node mode owner (Err e) m = newer-alike m.refused.stays
 
-newer-cached : (w : Core) (kind : Kind) (key : ℕ) (n : NodeNumber) → OnlyNewer w (with_cached_if_open w kind key n)
-newer-cached w kind key n = grind (arith, nat_tests)
-
 -- a node comes with its references and a handle
 pub newer-node : (w : Core) (node_type : ℕ) (own_key : OptionalDataKey) (references : List ArcRef) (mode : Mode) (owner : Owner) → OnlyNewer w (with_handle (with_node w node_type own_key references) (next_node w) mode owner)
 newer-node w node_type own_key references mode owner =
     newer-then (newer-moved w (is_named_by references) (owner_value (w.last.node + 1)) refl) (newer-handle (with_node w node_type own_key references) (next_node w) mode owner)
-
-pub newer-adopted : (w : Core) (l : LoadNumber) (kind : Kind) (key : ℕ) (own_key : OptionalDataKey) (references : List ArcRef) → OnlyNewer w (adopted w l kind key own_key references)
-newer-adopted w l kind key own_key references =
-    newer-then (newer-node w (type_of kind.0) own_key references (mode_of kind.0) (Owner.Load l)) (newer-cached (with_handle (with_node w (type_of kind.0) own_key references) (next_node w) (mode_of kind.0) (Owner.Load l)) kind key (next_node w))
 
 pub unpin-newer : {w w' : Core} (me : Owner) (h : HandleNumber) (r : Result (Unit {0}) Error) → UnpinCall w me h r w' → OnlyNewer w w'
 unpin-newer {w} me h r call = elim call.does [
@@ -196,26 +189,12 @@ set-key-newer me h key r call = elim call.does [
   | inr (row, own, inr (loose, falls)) ↦ newer-falls falls
 ]
 
-pub adopt-newer : {w w' : Core} (me : Owner) (l : LoadNumber) (kind : Kind) (key node_type : ℕ) (refs : List ArcRef) (k : HandleNumber) → Adopts w me l kind key node_type refs k w' → OnlyNewer w w'
-adopt-newer {w} me l kind key node_type refs k a = elim a.makes [
-  | inl (n, is, falls) ↦ newer-then (newer-handle w (record { 0 = n }) (mode_of kind.0) (Owner.Load l)) (newer-falls falls.falls)
-  | inr (none, left, leaves) ↦ newer-then (newer-adopted w l kind key (first_key kind.0 key) refs) (newer-alike leaves)
-]
-
 pub schedule-newer : {w w' : Core} (me : Owner) (h : HandleNumber) (r : Result (Unit {0}) Error) → ScheduleCall w me h r w' → OnlyNewer w w'
 schedule-newer {w} me h (Ok u) call = elim call.moves.2 [
   | inl (stands_open, leaves) ↦ newer-then (newer-moved w (only_handle h) Owner.List refl) (newer-alike leaves)
   | inr (shut, falls) ↦ newer-falls falls.falls
 ]
 schedule-newer me h (Err e) call = newer-alike call.refused.stays
-
-pub offer-newer : {w w' : Core} (me : Owner) (kind : Kind) (key : ℕ) (h : HandleNumber) (r : Result (Option HandleNumber) Error) → OfferCall w me kind key h r w' → OnlyNewer w w'
-offer-newer {w} me kind key h (Ok None) call = newer-alike call.answers.3.2
-offer-newer {w} me kind key h (Ok (Some k)) call = elim call.answers.3 [
-  | inl (shut, same, leaves) ↦ newer-alike leaves
-  | inr (stands_open, (n, is, next, falls)) ↦ newer-then (newer-handle w (record { 0 = n }) (mode_of kind.0) me) (newer-falls falls.falls)
-]
-offer-newer me kind key h (Err e) call = newer-alike call.refused.stays
 
 pub close-newer : {w w' : Core} (r : Result (Unit {0}) Error) → CloseCall w r w' → OnlyNewer w w'
 close-newer r call = newer-falls call.falls.falls

@@ -115,12 +115,6 @@ pub fn new_away(
     ensures { Does t.old (λ w w'. AwayBirthCall w me node_type key result w') t.new }
 {
     make_ready(t)?;
-    Ok(bear(
-        t,
-        me,
-        node_type,
-        key.get(),
-        Vec::new(alloc),
-        Mode::LooseUnpinned,
-    ))
+    let mode = Mode::LooseUnpinned;
+    Ok(bear(t, me, node_type, key.get(), Vec::new(alloc), mode))
 }

@@ -60,15 +60,9 @@ pub fn load_drop<N: Drop>(
     let row = load_row(t, me, load)?;
     loads::close(&mut t.loads, load.0);
     let since = row.since;
+    let giving = Giving::Load(load);
     let reach = Reach { since, beside: 0 };
-    give_all(
-        &mut t.holdings,
-        values,
-        &t.loads,
-        Giving::Load(load),
-        reach,
-        lists,
-    )
+    give_all(&mut t.holdings, values, &t.loads, giving, reach, lists)
 }
 
 /// Why a load of a key can't hand over the handles that are named, if it can't.
@@ -105,14 +99,8 @@ pub fn load_take<N: Drop>(
     loads::close(&mut t.loads, load.0);
     hand_each(&mut t.holdings.handles, named, me);
     let since = row.since;
+    let giving = Giving::Load(load);
     let reach = Reach { since, beside: 0 };
-    let _ = give_all(
-        &mut t.holdings,
-        values,
-        &t.loads,
-        Giving::Load(load),
-        reach,
-        lists,
-    );
+    let _ = give_all(&mut t.holdings, values, &t.loads, giving, reach, lists);
     Ok(())
 }

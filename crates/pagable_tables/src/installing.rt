@@ -190,14 +190,8 @@ pub fn install<N: Drop>(
     join(&mut t.holdings, node, references, ending.is_away);
     loads::close(&mut t.loads, load.0);
     let since = ending.load.since;
+    let giving = Giving::Load(load);
     let reach = Reach { since, beside: 0 };
-    let _ = give_all(
-        &mut t.holdings,
-        values,
-        &t.loads,
-        Giving::Load(load),
-        reach,
-        lists,
-    );
+    let _ = give_all(&mut t.holdings, values, &t.loads, giving, reach, lists);
     handle
 }

@@ -3,7 +3,7 @@
 ghost use Rattle.std.specs.{Prelude.{◌≡◌, ℕ, Bool, Option, Some, IfSome, IfNone, IfOk, IfErr, false}, Option.option_map};
 ghost use Rattle.pagable_model.specs.declared.numbers.NodeNumber.{NodeNumber};
 ghost use Rattle.pagable_world.specs.{Plain.{Blob, type_of}, Kinds.fits_mode, World.{usable, type_at}, Refusals.Owns, Calls.{RecallCall, offer_fault}};
-ghost use Rattle.pagable_tables.specs.{Asking.Offered, Core.{core_of, plain_of, IsWhole, MayHold}, Doing.Does};
+ghost use Rattle.pagable_tables.specs.{Asking.Offered, Core.{core_of, plain_of, IsWhole, MayHold}, Later.AreLater, Doing.Does};
 
 use crate::kinds::{fits_mode, is_of, is_pinned_kind, mode_of};
 use crate::lookups::is_here;
@@ -79,6 +79,7 @@ pub fn cache_put(
     ensures loads { t.new.loads ≡ t.old.loads }
     ensures workers { t.new.workers ≡ t.old.workers }
     ensures whole { IsWhole t.new }
+    ensures later { AreLater t.old → AreLater t.new }
 {
     let row = offered(t, me, kind, handle)?;
     let Some(node) = usable_of(t, kind, key) else {

@@ -1,8 +1,8 @@
-//! Loads of cells that begin, and whose an open load is.
+//! Loads that begin, of a key or a cell, and whose an open load is.
 
 ghost use Rattle.std.specs.Prelude.{◌≡◌, ◌<◌, ℕ, Bool, Option, Some, [], IfOk, IfErr, IfNone, IfSome, slice_get, true, false};
 ghost use Rattle.pagable_world.specs.{Plain.Blob, Kinds.is_in_memory, World.greatest};
-ghost use Rattle.pagable_world.specs.{World.{of_cell, Alike}, Pager.MayOwnLoad, Refusals.{load_fault, OwnsLoad}, Calls.with_handle, LoadCalls.{BeginCall, IsNextLoad, with_load}};
+ghost use Rattle.pagable_world.specs.{World.{of_cell, Alike}, Pager.MayOwnLoad, Refusals.{load_fault, OwnsLoad}, Calls.with_handle, LoadCalls.{BeginCall, BeginKeyCall, IsNextLoad, with_load}};
 ghost use Rattle.pagable_tables.specs.{Live.alive, ByNumber.load_at, Falling.{key_in, IsFalling, owns_nothing}, Core.{core_of, plain_of, IsWhole, load_in}, Asking.AsksKnown, Later.AreLater};
 ghost use Rattle.pagable_tables.specs.Doing.{Does};
 ghost use Rattle.pagable_model.specs.declared.data_key.OptionalDataKey.TheVariants as optional;
@@ -134,4 +134,26 @@ pub fn load_known(
 {
     let _row = load_row(t, me, load)?;
     cache_get(t, Owner::Load(load), kind, key)
+}
+
+/// A load of a key.
+pub fn load_key(t: &mut Tables, me: Owner, key: DataKey) -> Result<Beginning, Error>
+    requires whole { IsWhole t.old }
+    requires later { AreLater t.old }
+    requires owner { MayOwnLoad (plain_of t.old) me }
+    ensures { Does t.old (λ w w'. BeginKeyCall w me key result w') t.new }
+{
+    if t.last_load == u64::MAX {
+        return Err(Error::NumbersSpent);
+    }
+    let load = t.last_load + 1;
+    let row = LoadRow {
+        owner: me,
+        key,
+        root: LoadRoot::Key,
+        since: t.holdings.last_handle,
+    };
+    loads::open(&mut t.loads, load, row)?;
+    t.last_load = load;
+    Ok(Beginning::Load(LoadNumber(load), key))
 }

@@ -1,9 +1,9 @@
 -- Calls on the cache and on room keep the world whole.
-use Rattle.pagable_tables.proofs.Words.{Among, HandleRow, ◌&&◌, ◌<◌, ◌==◌, ◌∙◌, ◌≡◌, ArePlaced, Bool, ClearCall, Core, Err, Error, HandleNumber, IsEntryWhole, IsWhole, Kind, MayHold, Mode, NodeNumber}
-use Rattle.pagable_tables.proofs.Words.{None, OfferCall, Ok, Option, Owner, RecallCall, ReserveCall, Result, Some, Suits, arith, false, fits_mode, greatest, if◌then◌else◌, inl, inr, is_shared}
+use Rattle.pagable_tables.proofs.Words.{Among, HandleRow, ◌&&◌, ◌<◌, ◌==◌, ◌∙◌, ◌≡◌, ArePlaced, Bool, ClearCall, Core, Error, HandleNumber, IsEntryWhole, IsWhole, Kind, MayHold, Mode, NodeNumber}
+use Rattle.pagable_tables.proofs.Words.{Option, Owner, RecallCall, ReserveCall, Result, Some, Suits, arith, false, fits_mode, greatest, if◌then◌else◌, is_shared}
 use Rattle.pagable_tables.proofs.{Words.{is_shared_kind, is_some, mode_of, nat_tests, refl, true, usable, with_cached, with_known, ℕ}, keeps.Kept.{GoOn, alike-rows, is-in, keeps-whole, loads-stay}}
-use Rattle.pagable_tables.proofs.keeps.{Kept.{same-rows, there-then}, Comes.{beside, handle-on, suits-like}, Fallen.falls-whole, Rows.{counted, found-among}, Told.{alike-whole, roomy, roomy-whole}}
-use Rattle.pagable_tables.proofs.keeps.Told.{settles, told-whole}
+use Rattle.pagable_tables.proofs.keeps.{Kept.{same-rows, there-then}, Comes.{beside, suits-like}, Rows.{counted, found-among}, Told.{alike-whole, roomy, roomy-whole}}
+use Rattle.pagable_tables.proofs.{Words.{Alike, Owns, type_at, type_of}, keeps.Told.{settles, told-whole}}
 
 pub clear-whole : {w w' : Core} (r : Result (Unit {0}) Error) → IsWhole w → ClearCall w r w' → ArePlaced w' → IsWhole w'
 clear-whole {w} {w'} r whole call placed = let a = call.leaves in
@@ -47,18 +47,12 @@ cached-whole {w} kind key n whole stands_open entry =
     at : (k q m : ℕ) (a b : Bool) → (k == kind.0) ≡ a → (if a && b then Some n.0 else w.cache k q) ≡ Some m → IsEntryWhole w k m
     at k q m b3 b4 e is = grind (arith, nat_tests)
 
-pub offer-whole : {w w' : Core} (me : Owner) (kind : Kind) (key : ℕ) (h : HandleNumber) (r : Result (Option HandleNumber) Error) → IsWhole w → MayHold w me → OfferCall w me kind key h r w'
-    → ArePlaced w' → IsWhole w'
-offer-whole {w} me kind key h (Ok None) whole holder call placed =
-    let (row, owns, typed, offers) = call.answers in
-    let (stands_open, none, leaves) = offers in
+-- the cache learns the node of an own handle
+pub learns-whole : {w w' : Core} (me : Owner) (kind : Kind) (key : ℕ) (h : HandleNumber) (row : HandleRow) → IsWhole w → w.closed ≡ false → Owns w me h (fits_mode kind.0) row
+    → type_at w row.node.0 ≡ Some (type_of kind.0) → Alike (with_cached w kind key row.node) w' → ArePlaced w' → IsWhole w'
+learns-whole {w} me kind key h row whole stands_open owns typed leaves placed =
     let there = (found-among h.0 w.rows row owns.live).0 in
     let given = (whole.handles.nodes_numbered row.node.0 (there-then whole row there)).1 in
     let shares = λ (x : HandleRow) (among : Among w.rows x) (at : x.node.0 ≡ row.node.0). (alike-rows whole).same x row among there at ∙ fits-shared kind.0 row.mode owns.as_asked in
     let entry : IsEntryWhole w kind.0 row.node.0 = grind (arith, nat_tests) in
     settles (roomy-whole (cached-whole kind key row.node whole stands_open entry)) leaves placed
-offer-whole {w} me kind key h (Ok (Some k)) whole holder call placed = elim call.answers.3 [
-  | inl (closed, same, stays) ↦ alike-whole whole stays placed
-  | inr (stands_open, (n, is, next, falls)) ↦ falls-whole (known-whole kind key n me whole is holder next.is_left) (handle-on w (record { 0 = n }) (mode_of kind.0) me) falls.falls placed
-]
-offer-whole me kind key h (Err e) whole holder call placed = alike-whole whole call.refused.stays placed

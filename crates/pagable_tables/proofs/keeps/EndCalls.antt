@@ -1,14 +1,14 @@
 -- Calls by which a load goes on or ends, and the close of the storage, keep the world whole.
-use Rattle.pagable_tables.proofs.Words.{◌&&◌, ◌+◌, ◌<◌, ◌==◌, ◌∙◌, ◌∷◌, ◌≡◌, AdoptCall, AllPairs, Among, ArcRef, ArePlaced, Bool, CloseCall, Core, DropCall, EndCall, Err, Error, Falls, HandOverCall}
+use Rattle.pagable_tables.proofs.Words.{◌&&◌, ◌+◌, ◌<◌, ◌==◌, ◌∙◌, ◌∷◌, ◌≡◌, AllPairs, Among, ArcRef, ArePlaced, Bool, CloseCall, Core, DropCall, EndCall, Err, Error, Falls, HandOverCall}
 use Rattle.pagable_tables.proofs.Words.{HandleNumber, HandleRow, IsEntryWhole, IsHandleBefore, IsWhole, Kind, List, LoadCloses, LoadNumber, MayHold, MayOwnLoad, Mode, NodeNumber, None, Ok}
-use Rattle.pagable_tables.proofs.Words.{OpenLoad, Option, OptionalDataKey, Owner, Owns, OwnsLoad, Result, Some, [], adopted, ap, arith, cell_fault, earlier, false, first_key, greatest, has_key}
-use Rattle.pagable_tables.proofs.Words.{if_there, if◌then◌else◌, inl, inr, is_handle, is_in, is_loose, is_named_by, is_owned_by, is_owned_in, is_owner, is_shared, is_some, load_fault}
+use Rattle.pagable_tables.proofs.Words.{OpenLoad, Option, OptionalDataKey, Owner, Owns, Result, Some, [], adopted, ap, arith, cell_fault, earlier, false, greatest, has_key}
+use Rattle.pagable_tables.proofs.Words.{if_there, if◌then◌else◌, inl, inr, is_handle, is_in, is_loose, is_named_by, is_owned_by, is_owned_in, is_owner, is_shared, load_fault}
 use Rattle.pagable_tables.proofs.Words.{mode_of, moved, named_fault, nat_tests, next_node, not, numbers_of, owner_value, references_fault, refl, row_of, shut, subst, sym, true, type_of, updated}
 use Rattle.pagable_tables.proofs.{Words.{with_cached, with_handle, with_mode, with_node, with_pin, without_load, ℕ}, Handed.{found-there, one-fault}, Worlds.{fault-by, owner-same}}
-use Rattle.pagable_tables.proofs.keeps.{CacheCalls.{cached-whole, known-whole, mode-shared}, Comes.{handle-on, not-list}, Fallen.{alike-opened, falls-lost, falls-opened, opened}, HandleCalls.IsMine}
+use Rattle.pagable_tables.proofs.keeps.{CacheCalls.{cached-whole, mode-shared}, Comes.{not-list}, Fallen.{alike-opened, falls-lost, opened}, HandleCalls.IsMine}
 use Rattle.pagable_tables.proofs.keeps.HandleCalls.{born-whole, mine-of, moved-number, moved-on, moved-to-holder, moved-to-value, named-own, named-unlisted, pin-comes, pin-on}
 use Rattle.pagable_tables.proofs.keeps.{Kept.{alike-rows, is-in, may-own}, LoadCalls.may-hold, Rows.{among-both, among-changed, among-last, among-one, found-among, found-so, once}, Told.GoesOn}
-use Rattle.pagable_tables.proofs.keeps.Told.{alike-whole, roomy, roomy-whole, settles, stays-on, then-on}
+use Rattle.pagable_tables.proofs.keeps.Told.{alike-whole, roomy, roomy-whole, stays-on, then-on}
 
 -- ---- a load closes
 
@@ -162,10 +162,6 @@ close-whole {w} {w'} r whole call placed =
       shut = λ closed. absurd (cc);
     }) call.falls.falls placed
 
--- an open load may hold
-load-holds : {w : Core} {me : Owner} {l : LoadNumber} (load : _) → OwnsLoad w me l load → MayHold w (Owner.Load l)
-load-holds load owns = ap is_some owns.stands_open
-
 -- ---- a node that was read
 
 module _ (w : Core) (whole : IsWhole (opened w)) (l : LoadNumber) (kind : Kind) (key : ℕ) (own : OptionalDataKey) (refs : List ArcRef) (holder : MayHold w (Owner.Load l))
@@ -197,20 +193,3 @@ module _ (w : Core) (whole : IsWhole (opened w)) (l : LoadNumber) (kind : Kind) 
       at : (b : Bool) → IsWhole (roomy (opened (if b then made else with_cached made kind key (next_node w))))
       at true = now-whole
       at false = cached-whole {w = now} kind key (next_node w) now-whole refl new-entry
-
-shared-keyless : (kind key : ℕ) → is_shared (mode_of kind) ≡ true → has_key (first_key kind key) ≡ false
-shared-keyless kind key shared = grind (arith, nat_tests, mode-shared)
-
-pub adopt-whole : {N : Type 0} {w w' : Core} (me : Owner) (l : LoadNumber) (kind : Kind) (key : ℕ) (x : N) (node_type : ℕ) (refs : List ArcRef) (r : Result HandleNumber (Error × N))
-    → IsWhole (opened w)
-    → AdoptCall w me l kind key x node_type refs r w' → ArePlaced (opened w') → IsWhole (opened w')
-adopt-whole {N} {w} me l kind key x node_type refs (Ok k) whole call placed =
-    let a = call.adopts in
-    elim a.makes [
-      | inl (n, is, falls) ↦
-          falls-opened (known-whole kind key n (Owner.Load l) whole is (load-holds a.load a.owned) a.next.is_left) (handle-on w (record { 0 = n }) (mode_of kind.0) (Owner.Load l)) falls.falls placed
-      | inr (none, node_left, leaves) ↦
-          settles (adopted-whole w whole l kind key (first_key kind.0 key) refs (load-holds a.load a.owned) (fault-by w (opened w) (Owner.Load l) [] refs ∙ a.good) node_left a.next.is_left
-          (shared-keyless kind.0 key)) (alike-opened leaves) placed
-    ]
-adopt-whole me l kind key x node_type refs (Err e) whole call placed = alike-whole whole (alike-opened call.refused.1.stays) placed

@@ -1,5 +1,6 @@
-use Rattle.pagable_tables.proofs.Words.{◌≡◌, ℕ, Bool, Blob, None, false, true, ◌+◌, ◌/◌, ap, sym, ◌∙◌, subst, Some, Option, not, IndexMap, NodeNumber, Owner, Last, Alike, adopted, mode_of, with_handle, with_node}
-use Rattle.pagable_tables.proofs.{Words.{next_node, key_in, core_of, option_map, inl, inr, is_shared, has_key}, Adoptions.{learned, if-open}, Begun.not-closed, keeps.{EndCalls.adopted-whole, Fallen.alike-opened, Placed.whole-so, Told.settles}}
+use Rattle.pagable_tables.proofs.Words.{◌≡◌, ℕ, Bool, Blob, None, false, true, ◌+◌, ◌/◌, ap, sym, ◌∙◌, subst, Some, Option, not, IndexMap, NodeNumber, Owner, Last, Alike, adopted, mode_of}
+use Rattle.pagable_tables.proofs.{Words.{with_handle, with_node, next_node, key_in, core_of, option_map, inl, inr, is_shared, has_key}, Adoptions.{learned, if-open}, Begun.not-closed}
+use Rattle.pagable_tables.proofs.keeps.{EndCalls.adopted-whole, Fallen.alike-opened, Placed.whole-so, Told.settles}
 use Rattle.pagable_tables.proofs.adopting.learn_new.Goals as goal
 
 abbrev number : Option NodeNumber → Option ℕ

@@ -1,6 +1,6 @@
-use Rattle.pagable_tables.proofs.Words.{◌<◌, [], arith, ap, sym, ◌∙◌, subst, false, inl, inr, None, OptionalDataKey, Core, Alike, greatest, Owner, adopted, core_of, plain_of, load_in, Suits}
-use Rattle.pagable_tables.proofs.{Words.{key_in, not, is_loose_kind}, Adoptions.{unshared-loose, not-own, kind-or-node-late, lazy-not-loose, lazy-known, lazy-not-new, lazy-new}, NewNodes.{key-is, none-named}, Readied.{adopted-past, next-past}}
-use Rattle.pagable_tables.proofs.{keeps.CacheCalls.known-suits, Doing.{nothing-does, does-then}, Worlds.failed}
+use Rattle.pagable_tables.proofs.Words.{◌<◌, [], arith, ap, sym, ◌∙◌, subst, false, inl, inr, None, OptionalDataKey, Core, Alike, greatest, Owner, adopted, core_of, plain_of, load_in, Suits, key_in}
+use Rattle.pagable_tables.proofs.{Words.{not, is_loose_kind}, Adoptions.{unshared-loose, not-own, kind-or-node-late, lazy-not-loose, lazy-known, lazy-not-new, lazy-new}}
+use Rattle.pagable_tables.proofs.{Doing.{nothing-does, does-then}, NewNodes.{key-is, none-named}, Readied.{adopted-past, next-past}, Worlds.failed, keeps.CacheCalls.known-suits}
 use Rattle.pagable_tables.proofs.adopting.load_lazy.Goals as goal
 
 pub returns-in_err-_row : goal.returns-in_err-_row

@@ -1,8 +1,10 @@
-use Rattle.pagable_tables.proofs.{Words.{sym, subst, ◌∙◌, false, None, earlier, Refused, birth_fault, core_of, arith, nat_tests}, NewNodes.references-first, Readied.{room-fault, weaker}, Worlds.{failed, still}}
+use Rattle.pagable_tables.proofs.{Words.{sym, subst, ◌∙◌, false, None, earlier, Refused, birth_fault, core_of, arith, nat_tests}, NewNodes.references-first, Readied.{room-fault, weaker}}
+use Rattle.pagable_tables.proofs.Worlds.{failed, still}
 use Rattle.pagable_tables.proofs.births.prepare.Goals as goal
 
 pub returns-in_err-check_references-clause-refused : goal.returns-in_err-check_references-clause-refused
-returns-in_err-check_references-clause-refused c stored closed failures = rw (failed c.from_residual.result c.from_residual.ensures.1) (grind (arith, nat_tests, references-first, still, c.in_err-check_references.ensures.fault))
+returns-in_err-check_references-clause-refused c stored closed failures = rw (failed c.from_residual.result c.from_residual.ensures.1)
+    (grind (arith, nat_tests, references-first, still, c.in_err-check_references.ensures.fault))
 
 pub returns-clause-fit : goal.returns-clause-fit
 returns-clause-fit c = room-fault c.args.me c.args.references.now (c.make_ready.ensures.does.does (λ key. None) false 0) ∙ c.in_ok-check_references.ensures.fit (λ key. None) false 0

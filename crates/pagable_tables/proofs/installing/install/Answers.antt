@@ -1,8 +1,9 @@
-use Rattle.pagable_tables.proofs.Words.{◌≡◌, ◌<◌, ◌+◌, ◌++◌, ◌∷◌, [], Bool, List, true, sum_by, refl, ap, sym, ◌∙◌, subst, arith, false, not, inl, inr, None, Ok, Owner, Mode, changed, one, is_handle, is_pin}
-use Rattle.pagable_tables.proofs.Words.{owner_value, is_here, cases_Bool, ArcRef, Falls, Holdings, IsFalling, owns_nothing, Tables, moved, is_named_by, row_of, live, counts_at, refs_at, load_at, has_value, cell_in}
-use Rattle.pagable_tables.proofs.{Words.{core_of, plain_of, nat_tests, references_fault, without_load, with_pin, is_owned_in, FallsAnyhow, ◌&&◌, ◌⊎◌, Core, LoadNumber, HandleRow, Result, Error, option_map, load_in}, Coming.rows-told, GivenAll.bare}
-use Rattle.pagable_tables.proofs.{Coming.{some-held, turned}, Doing.lazily-by, Fitting.{fits-same, pins-le-held}, Installed.{no-wanting, ended, has-come, install-newer, pins-here, none-moves, not-so, so-then, ready-owner}, Joined.joined-fits}
-use Rattle.pagable_tables.proofs.{Joined.owns-none, Newer.{closed-still, later-so}, Stays.not-named, keeps.Comes.not-a-value, keeps.EndCalls.end-whole, keeps.HandleCalls.no-references, keeps.LoadCalls.may-hold}
+use Rattle.pagable_tables.proofs.Words.{◌≡◌, ◌<◌, ◌+◌, ◌++◌, ◌∷◌, [], Bool, List, true, sum_by, refl, ap, sym, ◌∙◌, subst, arith, false, not, inl, inr, None, Ok, Owner, Mode, changed, one, is_handle}
+use Rattle.pagable_tables.proofs.Words.{is_pin, owner_value, is_here, cases_Bool, ArcRef, Falls, Holdings, IsFalling, owns_nothing, Tables, moved, is_named_by, row_of, live, counts_at, refs_at}
+use Rattle.pagable_tables.proofs.Words.{load_at, has_value, cell_in, core_of, plain_of, nat_tests, references_fault, without_load, with_pin, is_owned_in, FallsAnyhow, ◌&&◌, ◌⊎◌, Core, LoadNumber}
+use Rattle.pagable_tables.proofs.{Words.{HandleRow, Result, Error, option_map, load_in}, Coming.{rows-told, some-held, turned}, Doing.lazily-by, Fitting.{fits-same, pins-le-held}, GivenAll.bare}
+use Rattle.pagable_tables.proofs.{Installed.{no-wanting, ended, has-come, install-newer, pins-here, none-moves, not-so, so-then, ready-owner}, Joined.{joined-fits, owns-none}}
+use Rattle.pagable_tables.proofs.{Newer.{closed-still, later-so}, Stays.not-named, keeps.{Comes.not-a-value, EndCalls.end-whole, HandleCalls.no-references, LoadCalls.may-hold}}
 use Rattle.pagable_tables.specs.Becoming.{coming}
 use Rattle.pagable_tables.proofs.installing.install.Goals as goal
 

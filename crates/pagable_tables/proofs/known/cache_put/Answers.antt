@@ -1,6 +1,6 @@
-use Rattle.pagable_tables.proofs.Words.{◌≡◌, ◌∙◌, ℕ, ap, sym, refl, false, None, Ok, inl, inr, arith, NodeNumber, fits_mode, Owns, offer_fault, recall_fault, nat_tests, OfferCall, core_of}
-use Rattle.pagable_tables.proofs.{Words.{plain_of, option_map}, Opened.{offer-last, learned, recalls, not-recalled}, Worlds.{failed, same-cache}, keeps.Placed.whole-so, keeps.Told.told-whole}
-use Rattle.pagable_tables.proofs.keeps.CacheCalls.{known-suits, offer-whole}
+use Rattle.pagable_tables.proofs.Words.{◌≡◌, ◌∙◌, ℕ, ap, sym, refl, false, None, inl, inr, arith, NodeNumber, fits_mode, Owns, offer_fault, recall_fault, nat_tests, core_of}
+use Rattle.pagable_tables.proofs.{Words.{option_map}, Opened.{offer-last, learned, recalls, not-recalled}, Worlds.{failed, same-cache}, keeps.Placed.whole-so, keeps.Told.told-whole}
+use Rattle.pagable_tables.proofs.keeps.CacheCalls.{known-suits, learns-whole}
 use Rattle.pagable_tables.proofs.known.cache_put.Goals as goal
 
 pub make-requires-clause-suits : goal.make-requires-clause-suits
@@ -32,13 +32,17 @@ returns-in_default-clause-offered c stored failures =
 
 pub returns-in_default-clause-whole : goal.returns-in_default-clause-whole
 returns-in_default-clause-whole c =
-    let w = c.requires.whole in
     let (row, owns, typed, learns) = (returns-in_default-clause-offered c (λ key. None) 0).answers in
-    let call : OfferCall (plain_of c.args.t.now) c.args.me c.args.kind c.args.key c.args.handle (Ok None) _ = record { answers = (row, owns, typed, (refl, learns.0, learns.1)); refused = tt } in
-    whole-so w.steady (offer-whole c.args.me c.args.kind c.args.key c.args.handle (Ok None) w.core c.requires.holder call)
+    whole-so c.requires.whole.steady (learns-whole c.args.me c.args.kind c.args.key c.args.handle row c.requires.whole.core refl owns typed learns.1)
 
 pub returns-in_err-learn-clause-whole : goal.returns-in_err-learn-clause-whole
 returns-in_err-learn-clause-whole c =
     let w = c.requires.whole in
     let same = λ (kind key : ℕ). ap (option_map (λ (n : NodeNumber). n.0)) (c.in_err-learn.ensures.err kind key) in
     whole-so w.steady (told-whole w.core refl (λ n. refl) refl (λ kind key n is. sym (same kind key) ∙ is) refl (λ l. refl) (λ v. refl) refl)
+
+pub returns-in_default-clause-later : goal.returns-in_default-clause-later
+returns-in_default-clause-later c l = record { given = l.given; since = l.since; begun = l.begun; reach = l.reach; loads = l.loads }
+
+pub returns-in_err-learn-clause-later : goal.returns-in_err-learn-clause-later
+returns-in_err-learn-clause-later c l = record { given = l.given; since = l.since; begun = l.begun; reach = l.reach; loads = l.loads }

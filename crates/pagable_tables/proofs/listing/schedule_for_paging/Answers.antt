@@ -1,6 +1,6 @@
 use Rattle.pagable_tables.proofs.Words.{◌∙◌, ap, refl, false, inl, inr, arith, rules, Ok, None, not, is_unpinned, is_valued, plain_of, core_of, nat_tests}
-use Rattle.pagable_tables.proofs.{keeps.Comes.not-a-value, keeps.Fallen.falls-opened, keeps.Told.{stays-on, roomy-whole, alike-whole}, keeps.ListCalls.schedule-whole}
-use Rattle.pagable_tables.proofs.{keeps.Placed.whole-so, Begun.{begun-whole, not-closed, shut-then, open-then}, Named.alike-listed, Worlds.{failed, still, owner-same}, Newer.{later-on, schedule-newer}}
+use Rattle.pagable_tables.proofs.{Begun.{begun-whole, not-closed, shut-then, open-then}, Named.alike-listed, Newer.{later-on, schedule-newer}, Worlds.{failed, still, owner-same}}
+use Rattle.pagable_tables.proofs.keeps.{Comes.not-a-value, Fallen.falls-opened, ListCalls.schedule-whole, Placed.whole-so, Told.{stays-on, roomy-whole, alike-whole}}
 use Rattle.pagable_tables.proofs.listing.schedule_for_paging.Goals as goal
 
 pub returns-in_err-at-clause-scheduled : goal.returns-in_err-at-clause-scheduled

@@ -1,6 +1,6 @@
-use Rattle.pagable_tables.proofs.Words.{◌≡◌, arith, ap, sym, ◌∙◌, None, Some, inl, inr, false, rules, not, OptionalDataKey, HandleRow, if_there, is_loose, is_in_memory}
-use Rattle.pagable_tables.proofs.{Words.{is_here, Cell, Owns, is_handle_here, live, counts_at, cell_in, key_in, core_of}}
-use Rattle.pagable_tables.proofs.{Worlds.{failed, still, owner-same}, Opened.{handle-first, numbers-late, no-fault, no-begin-fault, here-told}, Doing.{does-by, nothing-does}, keeps.LoadCalls.begin-whole}
+use Rattle.pagable_tables.proofs.Words.{◌≡◌, arith, ap, sym, ◌∙◌, None, Some, inl, inr, false, rules, not, OptionalDataKey, HandleRow, if_there, is_loose, is_in_memory, is_here, Cell, Owns}
+use Rattle.pagable_tables.proofs.{Words.{is_handle_here, live, counts_at, cell_in, key_in, core_of}, Doing.{does-by, nothing-does}}
+use Rattle.pagable_tables.proofs.{Opened.{handle-first, numbers-late, no-fault, no-begin-fault, here-told}, Worlds.{failed, still, owner-same}, keeps.LoadCalls.begin-whole}
 use Rattle.pagable_tables.proofs.loading.load_begin.Goals as goal
 
 pub returns-in_err-at : goal.returns-in_err-at

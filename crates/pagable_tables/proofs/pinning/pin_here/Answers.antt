@@ -7,7 +7,8 @@ pub make-requires-clause-suits : goal.make-requires-clause-suits
 make-requires-clause-suits c = grind (arith, nat_tests, found-among, loose-unshared, c.requires.owns.live, c.requires.owns.as_asked)
 
 pub returns-in_err-handle-clause-does : goal.returns-in_err-handle-clause-does
-returns-in_err-handle-clause-does c = rw (failed c.from_residual.result c.from_residual.ensures.1) (does-as c.in_err-handle.ensures.does (λ stored closed failures made. record { pinned = tt; refused = made.refused }))
+returns-in_err-handle-clause-does c = rw (failed c.from_residual.result c.from_residual.ensures.1)
+    (does-as c.in_err-handle.ensures.does (λ stored closed failures made. record { pinned = tt; refused = made.refused }))
 
 pub unreachable-requires : goal.unreachable-requires
 unreachable-requires c =

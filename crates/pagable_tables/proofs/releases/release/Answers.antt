@@ -1,5 +1,5 @@
-use Rattle.pagable_tables.proofs.{Words.{◌≡◌, ℕ, Bool, Option, Blob, None, not, Falls, only_handle, plain_of, refl, inl, inr, arith, any_mode, core_of}, Begun.{begun-whole, not-closed}, Doing.{nothing-shed, sheds-so}}
-use Rattle.pagable_tables.proofs.{keeps.{Fallen.falls-opened, Told.{roomy-whole, stays-on}}, Worlds.{failed, still, owner-same}, Newer.newer-falls}
+use Rattle.pagable_tables.proofs.{Words.{◌≡◌, ℕ, Bool, Option, Blob, None, not, Falls, only_handle, plain_of, refl, inl, inr, arith, any_mode, core_of}, Begun.{begun-whole, not-closed}}
+use Rattle.pagable_tables.proofs.{Doing.{nothing-shed, sheds-so}, Newer.newer-falls, Worlds.{failed, still, owner-same}, keeps.{Fallen.falls-opened, Told.{roomy-whole, stays-on}}}
 use Rattle.pagable_tables.proofs.releases.release.Goals as goal
 
 pub returns-in_err-at : goal.returns-in_err-at

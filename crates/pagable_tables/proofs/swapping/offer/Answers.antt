@@ -1,6 +1,7 @@
-use Rattle.pagable_tables.proofs.Words.{not, ◌≡◌, ◌+◌, false, None, Ok, Some, inr, refl, ap, sym, subst, arith, IfSome, length, nat_tests, mode_of, with_known, Falls, only_handle, Tables, core_of}
-use Rattle.pagable_tables.proofs.{Words.{plain_of, AllPairs, IsHandleBefore, true}, Begun.{open-then, not-closed}, Worlds.failed, Stays.{found-again, begun-made, swapped, values-made, values-still}}
-use Rattle.pagable_tables.proofs.{Ended.{stays-first, sheds-still}, keeps.{CacheCalls.offer-whole, Comes.{not-a-value, not-list}, Placed.whole-so, Rows.found-among}, Newer.{later-on, offer-newer}}
+use Rattle.pagable_tables.proofs.Words.{◌≡◌, ◌+◌, false, None, inr, refl, ap, sym, subst, arith, IfSome, length, nat_tests, mode_of, with_known, Falls, only_handle, Tables, core_of}
+use Rattle.pagable_tables.proofs.{Words.{plain_of, AllPairs, IsHandleBefore, true}, Begun.{begun-whole, open-then}, Ended.{stays-first, sheds-still}, Newer.{later-on, newer-falls}}
+use Rattle.pagable_tables.proofs.{Stays.{found-again, begun-made, swapped, values-made, values-still}, Worlds.failed}
+use Rattle.pagable_tables.proofs.keeps.{Comes.{not-a-value, not-list}, Fallen.falls-opened, Placed.whole-so, Rows.found-among, Told.{roomy-whole, stays-on}}
 use Rattle.pagable_tables.proofs.swapping.offer.Goals as goal
 
 pub give_number-requires-clause-there : goal.give_number-requires-clause-there
@@ -27,7 +28,10 @@ returns-clause-offered g c stored closed failures e =
 
 pub returns-clause-whole : goal.returns-clause-whole
 returns-clause-whole g c =
-    whole-so c.give_number.ensures.steady (offer-whole c.args.me c.args.kind c.args.key c.args.handle (Ok (Some c.in-Some.known)) c.requires.whole.core c.requires.holder (returns-clause-offered g c (λ key. None) false 0 c.if-not-lists.false))
+    let t1 = c.cache_put.new.t in
+    let w1 = c.cache_put.ensures.whole in
+    let fell = c.give_number.ensures.falls (plain_of t1) (plain_of t1) (begun-whole t1 (λ key. None) false true 0 w1 refl) (omega arith) in
+    whole-so c.give_number.ensures.steady (falls-opened (roomy-whole w1.core) (stays-on (plain_of t1)) fell.falls)
 
 pub returns-clause-sheds : goal.returns-clause-sheds
 returns-clause-sheds g c there =
@@ -47,19 +51,11 @@ returns-in_default-clause-sheds g c there =
 
 pub returns-in_err-known-clause-offered : goal.returns-in_err-known-clause-offered
 returns-in_err-known-clause-offered g c stored closed failures e =
-    rw (failed c.from_residual-in_err-known.result c.from_residual-in_err-known.ensures.1) (rw (open-then c.args.lists closed c.if-not-lists.false e) (record { answers = tt; refused = (c.in_err-known.ensures.offered stored failures).refused }))
+    rw (failed c.from_residual-in_err-known.result c.from_residual-in_err-known.ensures.1)
+    (rw (open-then c.args.lists closed c.if-not-lists.false e) (record { answers = tt; refused = (c.in_err-known.ensures.offered stored failures).refused }))
 
 pub returns-clause-later : goal.returns-clause-later
 returns-clause-later g c later =
-    later-on later (offer-newer c.args.me c.args.kind c.args.key c.args.handle _ (returns-clause-offered g c (λ key. None) (not c.args.lists) 0 (not-closed c.args.lists)))
-    c.cache_put.ensures.loads c.cache_put.ensures.workers
-
-pub returns-in_default-clause-later : goal.returns-in_default-clause-later
-returns-in_default-clause-later g c later =
-    later-on later (offer-newer c.args.me c.args.kind c.args.key c.args.handle _ (returns-in_default-clause-offered g c (λ key. None) (not c.args.lists) 0 (not-closed c.args.lists)))
-    c.cache_put.ensures.loads c.cache_put.ensures.workers
-
-pub returns-in_err-known-clause-later : goal.returns-in_err-known-clause-later
-returns-in_err-known-clause-later g c later =
-    later-on later (offer-newer c.args.me c.args.kind c.args.key c.args.handle _ (returns-in_err-known-clause-offered g c (λ key. None) (not c.args.lists) 0 (not-closed c.args.lists)))
-    c.cache_put.ensures.loads c.cache_put.ensures.workers
+    let t1 = c.cache_put.new.t in
+    let fell = c.give_number.ensures.falls (plain_of t1) (plain_of t1) (begun-whole t1 (λ key. None) false true 0 c.cache_put.ensures.whole refl) (omega arith) in
+    later-on (c.in_ok-known.ensures.later later) (newer-falls fell.falls) refl refl

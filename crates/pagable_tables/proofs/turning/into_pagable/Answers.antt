@@ -2,7 +2,8 @@ use Rattle.pagable_tables.proofs.{Words.{rules, is_pinned}, Doing.{does-as, noth
 use Rattle.pagable_tables.proofs.turning.into_pagable.Goals as goal
 
 pub returns-in_err-at : goal.returns-in_err-at
-returns-in_err-at c = rw (failed c.from_residual.result c.from_residual.ensures.1) (nothing-does c.requires (λ stored closed failures. record { turned = tt; refused = (c.in_err-at.ensures.fault stored closed failures is_pinned, still _) }))
+returns-in_err-at c = rw (failed c.from_residual.result c.from_residual.ensures.1)
+    (nothing-does c.requires (λ stored closed failures. record { turned = tt; refused = (c.in_err-at.ensures.fault stored closed failures is_pinned, still _) }))
 
 pub returns : goal.returns
 returns c =

@@ -1,5 +1,5 @@
-use Rattle.pagable_tables.proofs.{Words.{◌+◌, ◌≡◌, arith, refl, ap, sym, ◌∙◌, Some, not, one, live, counts_at, plain_of, Mode, Counts}, Alive.{changed-known, row-live}, Coming.{turn-fits, turn-cells, turned}}
-use Rattle.pagable_tables.proofs.{Worlds.alike, keeps.{Told.settles, HandleCalls.pins-whole}, Doing.does-so, Newer.{newer-alike, newer-mode, newer-then}}
+use Rattle.pagable_tables.proofs.{Words.{◌+◌, ◌≡◌, arith, refl, ap, sym, ◌∙◌, Some, not, one, live, counts_at, plain_of, Mode, Counts}, Alive.{changed-known, row-live}}
+use Rattle.pagable_tables.proofs.{Coming.{turn-fits, turn-cells, turned}, Doing.does-so, Newer.{newer-alike, newer-mode, newer-then}, Worlds.alike, keeps.{HandleCalls.pins-whole, Told.settles}}
 use Rattle.pagable_tables.proofs.turning.turn.Goals as goal
 
 pub returns-clause-does : goal.returns-clause-does

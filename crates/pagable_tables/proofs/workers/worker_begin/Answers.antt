@@ -4,7 +4,8 @@ use Rattle.pagable_tables.proofs.workers.worker_begin.Goals as goal
 
 pub returns-in_err-open-clause-does : goal.returns-in_err-open-clause-does
 returns-in_err-open-clause-does c =
-    rw (failed c.from_residual.result c.from_residual.ensures.1) (does-by (λ stored closed failures. grind (arith, nat_tests, same-cache, c.in_err-open.ensures.err)) c.requires.steady (λ begun. alike-whole c.requires.core begun.refused.1)
+    rw (failed c.from_residual.result c.from_residual.ensures.1)
+    (does-by (λ stored closed failures. grind (arith, nat_tests, same-cache, c.in_err-open.ensures.err)) c.requires.steady (λ begun. alike-whole c.requires.core begun.refused.1)
     (λ begun later. later-less later (newer-alike begun.refused.1) (λ l load is. is) (record { wider = λ v q in-reach. grind (arith, nat_tests, c.in_err-open.ensures.err); before = λ v. grind (arith, nat_tests, c.in_err-open.ensures.err) })))
 
 pub returns-clause-does : goal.returns-clause-does

@@ -1,6 +1,6 @@
-use Rattle.pagable_tables.proofs.Words.{◌∙◌, ap, sym, subst, refl, Falls, InReach, worker_at, arith, option_map, without_worker, is_workers, load_at, core_of, plain_of, load_in, with_tables, gives_row, Giving}
-use Rattle.pagable_tables.proofs.{Doing.sheds-by, Taken.{begun-less, passes-given, in-reach, loads-anew, worker-gone, load-leaves, left-was}, Newer.{newer-falls, later-less, less-one}}
-use Rattle.pagable_tables.proofs.keeps.WorkerCalls.{worker-end-whole}
+use Rattle.pagable_tables.proofs.Words.{◌∙◌, ap, sym, subst, refl, Falls, InReach, worker_at, arith, option_map, without_worker, is_workers, load_at, core_of, plain_of, load_in, with_tables}
+use Rattle.pagable_tables.proofs.{Words.{gives_row, Giving}, Doing.sheds-by, Newer.{newer-falls, later-less, less-one}}
+use Rattle.pagable_tables.proofs.{Taken.{begun-less, passes-given, in-reach, loads-anew, worker-gone, load-leaves, left-was}, keeps.WorkerCalls.worker-end-whole}
 use Rattle.pagable_tables.proofs.workers.worker_end.Goals as goal
 
 pub returns : goal.returns

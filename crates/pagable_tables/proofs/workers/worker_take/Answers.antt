@@ -16,4 +16,5 @@ returns c =
     }
 
 pub returns-in_err-worker : goal.returns-in_err-worker
-returns-in_err-worker c = rw (failed c.from_residual.result c.from_residual.ensures.1) (does-as c.in_err-worker.ensures.does (λ stored closed failures begun. record { taken = tt; refused = begun.refused }))
+returns-in_err-worker c = rw (failed c.from_residual.result c.from_residual.ensures.1)
+    (does-as c.in_err-worker.ensures.does (λ stored closed failures begun. record { taken = tt; refused = begun.refused }))

@@ -1,7 +1,7 @@
-use Rattle.pagable_tables.proofs.Words.{worker_at, AreLater, ◌≡◌, ℕ, [], ap, refl, subst, arith, None, nat_eq, get, HandleRow, Among, nat_tests, Core, NodeRow, Tables, live, AreSound, counts_at, load_at}
-use Rattle.pagable_tables.proofs.{Words.{known_at, cell_in, IsFalling, owns_nothing, plain_of, option_map}, Regiven.passes-none}
+use Rattle.pagable_tables.proofs.Words.{worker_at, AreLater, ◌≡◌, ℕ, [], ap, refl, subst, arith, None, nat_eq, get, HandleRow, Among, nat_tests, Core, NodeRow, Tables, live, AreSound, counts_at}
+use Rattle.pagable_tables.proofs.{Words.{load_at, known_at, cell_in, IsFalling, owns_nothing, plain_of, option_map}, Regiven.passes-none}
 use Rattle.pagable_tables.specs.Core.{IsWhole}
-use Rattle.pagable_tables.proofs.start.new.Goals as goal
+use Rattle.pagable_tables.proofs.tables.new.Goals as goal
 
 -- tables of nothing are whole
 module _ (t : Tables) (sound : AreSound t.holdings.handles) (rows : t.holdings.handles.places.items ≡ []) (found : (n : ℕ) → get nat_eq t.holdings.nodes n ≡ None) (list : t.holdings.list.items ≡ [])

@@ -1,6 +1,6 @@
 use Rattle.pagable_tables.proofs.{Words.{◌+◌, ◌∙◌, refl, sym, arith, Ok, inl, Beginning, load_at, nat_tests}, Opened.{load-comes, none-yet}, Worlds.{failed, same-cache}}
 use Rattle.pagable_tables.proofs.{Doing.does-by, keeps.LoadCalls.begin-key-whole, keeps.Told.alike-whole, Newer.{later-opened, later-so, newer-alike}}
-use Rattle.pagable_tables.proofs.begins.load_key.Goals as goal
+use Rattle.pagable_tables.proofs.loading.load_key.Goals as goal
 
 pub returns : goal.returns
 returns c =
@@ -13,5 +13,6 @@ returns c =
 
 pub returns-in_err-open : goal.returns-in_err-open
 returns-in_err-open c =
-    rw (failed c.from_residual.result c.from_residual.ensures.1) (does-by (λ stored closed failures. grind (arith, nat_tests, same-cache, c.in_err-open.ensures.err)) c.requires.whole.steady (λ begins. alike-whole c.requires.whole.core begins.refused.stays)
+    rw (failed c.from_residual.result c.from_residual.ensures.1)
+    (does-by (λ stored closed failures. grind (arith, nat_tests, same-cache, c.in_err-open.ensures.err)) c.requires.whole.steady (λ begins. alike-whole c.requires.whole.core begins.refused.stays)
     (λ begins later. later-so later (newer-alike begins.refused.stays) (λ l load is. sym (c.in_err-open.ensures.err l) ∙ is) refl))
