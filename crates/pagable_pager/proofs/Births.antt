@@ -1,7 +1,7 @@
 -- A node that comes with its value, or room that was made for one, leaves the pager in step.
 use Rattle.pagable_pager.proofs.Words.{◌≡◌, ℕ, ◌==◌, ◌<◌, ◌+◌, false, if◌then◌else◌, Ok, Err, [], refl, ap, sym, subst, ◌∙◌, Some, None, inr, arith, ◌≢◌, List, Result, nat_tests, cases_eq, true}
 use Rattle.pagable_pager.proofs.Words.{ArcRef, HandleNumber, Owner, Mode, Error, is_pinning, Core, greatest, references_fault, BirthCall, AwayBirthCall, IsNewNode, Moves, same_some, born, spared}
-use Rattle.pagable_pager.proofs.Words.{spares-alike, Tables, BearsValue, OnlyRoom, plain_of, room-alike, room-fault, fault-by, next-past, born-past, PagerView, Telling, Spelling, ValuesByNode}
+use Rattle.pagable_pager.proofs.Words.{spares-alike, Tables, Bears, OnlyRoom, plain_of, room-alike, room-fault, fault-by, next-past, born-past, PagerView, Telling, Spelling, ValuesByNode}
 use Rattle.{pagable_pager.proofs.{Words.{IsPager, core_in, state_in, value_in, values_of, Last}, Shed.in-step, Shut.{IsBare, bare-alike}, Spared.caller-free}, pagable_tables.specs.Doing.Does}
 
 -- nothing comes to the list or the cache with a cell that is away
@@ -10,7 +10,7 @@ away-bare r c b = grind (arith, nat_tests, bare-alike)
 
 -- a birth in a world where room was made before
 birth-past : {N : Type 0} {w w1 w' : Core} {x : N} (me : Owner) (t t' : ℕ) (rs rs' : List ArcRef) (mode : Mode) (k : HandleNumber) → OnlyRoom w w1 → references_fault w me [] rs ≡ None
-    → w1.last.node < greatest → t ≡ t' → rs ≡ rs' → BearsValue w1 me t rs mode k w' → BirthCall w me x t' rs' mode (Ok k) w'
+    → w1.last.node < greatest → t ≡ t' → rs ≡ rs' → Bears w1 me t 0 rs mode k w' → BirthCall w me x t' rs' mode (Ok k) w'
 birth-past {N} {w} {w1} {w'} {x} me t t' rs rs' mode k room fit left typed named b = grind (arith, nat_tests, born-past, next-past)
 
 module _ {N S E : Type 0} {tells : Telling S} {g : Spelling N E} {p : PagerView N S E} (is : IsPager tells g p) where
@@ -54,7 +54,7 @@ module _ {N S E : Type 0} {tells : Telling S} {g : Spelling N E} {p : PagerView 
         moved-in last = let a = told last in grind (arith, nat_tests, cases_eq, none-yet, same_some)
 
         -- a node of the caller's
-        module _ {mode : Mode} {k : HandleNumber} {node_type : ℕ} {rs qs : List ArcRef} (bears : Does t1 (λ w w'. BearsValue w Owner.Caller node_type rs mode k w') t2) (left : t1.last_node < greatest)
+        module _ {mode : Mode} {k : HandleNumber} {node_type : ℕ} {rs qs : List ArcRef} (bears : Does t1 (λ w w'. Bears w Owner.Caller node_type 0 rs mode k w') t2) (left : t1.last_node < greatest)
             (fit : references_fault (plain_of t1) Owner.Caller [] qs ≡ None) (read : qs ≡ rs) (typed : node_type ≡ g.type_of x) (named : rs ≡ g.refs_of x) where
           birth : BirthCall (core_in tells p) Owner.Caller x (g.type_of x) (g.refs_of x) mode (Ok k) (core_in tells after)
           birth =

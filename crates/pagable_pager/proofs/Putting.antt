@@ -1,10 +1,10 @@
 -- A value comes to a load's cell, and others go with their nodes.
-use Rattle.pagable_pager.proofs.Words.{rules, ◌≡◌, ℕ, ◌&&◌, Bool, true, false, Ok, Err, refl, ap, sym, ◌∙◌, subst, Some, None, Option, List, if◌then◌else◌, inl, inr, nat_eq, arith, ◌≢◌, ◌⊎◌, Result}
-use Rattle.pagable_pager.proofs.Words.{is_some, nat_lt, get, cases_eq, nat_tests, ArcRef, NodeNumber, Owner, HandleNumber, LoadNumber, Error, if_there, updated, Core, OpenLoad, Alike, is_here}
-use Rattle.pagable_pager.proofs.Words.{OwnsLoad, Refused, load_fault, closed_fault, DropCall, EndCall, EndRefused, Installs, MayEnd, held, is_owner, IsCellOf, Moves, WellFormed, row-held}
-use Rattle.pagable_pager.proofs.Words.{installed_away, installed_there, Ending, Tables, counts_at, Sheds, has_value, IsWhole, plain_of, AreLater, IsReady, IsVain, IsWider, ShedsBeside, has_come}
-use Rattle.pagable_pager.proofs.Words.{installs-wider, may-wider, not-so, so-then, still, end_refused, spared, spares-alike, PagerView, Telling, Spelling, ValuesByNode, IsPager, core_in, state_in}
-use Rattle.pagable_pager.proofs.Words.{value_in, values_of, PutsIn, with_value}
+use Rattle.pagable_pager.proofs.Words.{rules, ◌≡◌, ℕ, ◌&&◌, Bool, true, false, Ok, Err, refl, ap, sym, ◌∙◌, subst, Some, None, Option, List, if◌then◌else◌, inl, inr, nat_eq, arith, ◌≢◌, ◌⊎◌}
+use Rattle.pagable_pager.proofs.Words.{Result, is_some, nat_lt, get, cases_eq, nat_tests, ArcRef, NodeNumber, Owner, HandleNumber, LoadNumber, Error, if_there, updated, Core, OpenLoad, Alike}
+use Rattle.pagable_pager.proofs.Words.{is_here, OwnsLoad, Refused, load_fault, closed_fault, DropCall, EndCall, EndRefused, Installs, MayEnd, end_fault, held, is_owner, IsCellOf, Moves}
+use Rattle.pagable_pager.proofs.Words.{WellFormed, row-held, installed_away, installed_there, Ending, Tables, counts_at, Sheds, has_value, IsWhole, plain_of, AreLater, IsReady, IsVain, OnlyRoom, room-alike}
+use Rattle.pagable_pager.proofs.Words.{ShedsBeside, has_come, installs-wider, may-wider, not-so, so-then, earlier-first, still, end_refused, spared, spares-alike, PagerView, Telling, Spelling}
+use Rattle.pagable_pager.proofs.Words.{ValuesByNode, IsPager, core_in, state_in, value_in, values_of, PutsIn, with_value}
 use Rattle.pagable_pager.proofs.{Shed.{here-in, here-told, less, shed, some-map, left-map, in-step, whole-over}, Shut.{bare-alike, end-refused-bare, installed-bare}}
 use Rattle.pagable_world.specs.Pager as pager
 
@@ -42,7 +42,7 @@ ready-told {w} {me} {l} {t} {t'} {refs} {refs'} {r} typed named is = subst (λ k
 -- the pager after a load has ended with a pin
 module _ {N S E : Type 0} {tells : Telling S} {g : Spelling N E} {p : PagerView N S E} (is : IsPager tells g p) (x : N) (t1 t2 : Tables) (values : ValuesByNode N) {me : Owner} {l : LoadNumber}
     {node_type : ℕ} {qs rs : List ArcRef} {r : Ending} {k : HandleNumber} (typed : node_type ≡ g.type_of x) (read : qs ≡ rs) (listed : rs ≡ g.refs_of x)
-    (wider : IsWider (core_in tells p) (core_in tells (record p { tables = t1 }))) (nodes : t1.holdings.nodes ≡ p.tables.holdings.nodes)
+    (wider : OnlyRoom (core_in tells p) (core_in tells (record p { tables = t1 }))) (nodes : t1.holdings.nodes ≡ p.tables.holdings.nodes)
     (prepared : IsReady (core_in tells (record p { tables = t1 })) me l node_type qs r) (installed : Installs (core_in tells (record p { tables = t1 })) me l r.row.node r.row.number k rs
     (core_in tells (record p { tables = t2; values = values }))) (whole2 : IsWhole t2) (later2 : AreLater t2) (puts : PutsIn r.is_away r.row.node.0 x t1 p.values t2 values) where
   abbrev w : Core
@@ -110,17 +110,14 @@ pub vain : {N : Type 0} {w v w' : Core} {me : Owner} {l : LoadNumber} {t : ℕ} 
     → EndRefused w me l x t refs e None w'
 vain {w = w} {v} {w'} {me} {l} x r (is, same) drop = grind (arith, nat_tests, owner-owns)
 
-pub wider-alike : {w v : Core} → IsWider w v → Alike w v
-wider-alike {w} {v} wider = grind (arith, nat_tests, still)
-
 -- memory is wanting for the value
 module _ {N S E : Type 0} {tells : Telling S} {g : Spelling N E} {p : PagerView N S E} (is : IsPager tells g p) (t1 t2 : Tables) (values : ValuesByNode N)
-    (wider : IsWider (core_in tells p) (core_in tells (record p { tables = t1 }))) (same : t2 ≡ t1) (kept : (n : ℕ) → value_in values n ≡ value_in p.values n) (whole2 : IsWhole t2) (later2 : AreLater t2) where
+    (wider : OnlyRoom (core_in tells p) (core_in tells (record p { tables = t1 }))) (same : t2 ≡ t1) (kept : (n : ℕ) → value_in values n ≡ value_in p.values n) (whole2 : IsWhole t2) (later2 : AreLater t2) where
   abbrev kept-so : PagerView N S E
   kept-so = record p { tables = t2; values = values }
 
   stays-alike : Alike (core_in tells p) (core_in tells kept-so)
-  stays-alike = subst (λ (t : Tables). Alike (core_in tells p) (core_in tells (record p { tables = t; values = values }))) (sym same) (wider-alike wider)
+  stays-alike = subst (λ (t : Tables). Alike (core_in tells p) (core_in tells (record p { tables = t; values = values }))) (sym same) (room-alike wider)
 
   pub stays-so : IsPager tells g kept-so
   stays-so =

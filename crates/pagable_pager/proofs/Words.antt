@@ -13,8 +13,8 @@ pub use Rattle.pagable_tables.proofs.{Adoptions.{refused-memory, refused-new}, E
 pub use Rattle.pagable_tables.proofs.{Readied.{room-alike, room-fault, fault-by, next-past, born-past, adopted-past}, Stays.eager-pins, Worlds.still, keeps.CacheCalls.{clear-whole, recall-whole}}
 pub use Rattle.pagable_tables.proofs.keeps.{CacheCalls.reserve-whole, HandleCalls.{clone-whole, loosen-whole, pin-whole}, ListCalls.take-whole, LoadCalls.{begin-whole, begin-key-whole}}
 pub use Rattle.pagable_tables.{proofs.keeps.{Placed.placed, Told.{told-whole, settles, alike-whole, roomy-whole}, WorkerCalls.worker-whole}, specs.{Asking.AsksKnown, Bearing.OnlyRoom}}
-pub use Rattle.pagable_tables.specs.{Bearing.BearsValue, ByNumber.{counts_at, load_at, known_at}, Core.{IsWhole, core_of, plain_of, load_in, ArePlaced, MayHold}, Falling.{Sheds, cell_in, pins_in}}
-pub use Rattle.pagable_tables.specs.{Falling.{has_value, AreKept, key_in}, Giving.{BeginsWorker, TakesWorker}, Later.AreLater, Ready.{IsReady, IsVain, IsWider, ShedsBeside, Unends, has_come}}
+pub use Rattle.pagable_tables.specs.{Bearing.Bears, ByNumber.{counts_at, load_at, known_at}, Core.{IsWhole, core_of, plain_of, load_in, ArePlaced, MayHold}, Falling.{Sheds, cell_in, pins_in}}
+pub use Rattle.pagable_tables.specs.{Falling.{has_value, AreKept, key_in}, Giving.{BeginsWorker, TakesWorker}, Later.AreLater, Ready.{IsReady, IsVain, ShedsBeside, Unends, has_come}}
 pub use Rattle.{pagable_tables.specs.declared.{installing.Ending.Ending, rows.Counts.Counts, tables.Tables.Tables}, pagable_world.specs.{Access.{Told, Called}, Calls.{BirthCall, AwayBirthCall}}}
 pub use Rattle.pagable_world.specs.Calls.{CloseCall, Looks, StoreCall, row_of, with_handle, with_node, next_node, is_named_by, IsNext, with_cached_if_open, ReleaseCall, UnpinCall}
 pub use Rattle.pagable_world.specs.{Calls.{SetKeyCall, ScheduleCall, OfferCall, Asked, FetchCall, CloneCall}, Cascade.Falls, Events.{reading_of_load, with_worker, IsEntry, with_entry_taken}}

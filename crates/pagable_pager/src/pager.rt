@@ -16,7 +16,7 @@ use pagable_codec::{Env, NodeSet};
 use pagable_core::{PagableData, PagableStorage};
 use pagable_model::{DataKey, Error, HandleNumber};
 use pagable_tables::tables::Tables;
-use pagable_tables::{closing, lookups, start};
+use pagable_tables::{closing, lookups, tables};
 use std::alloc::Global;
 use std::marker::Model;
 use std::sync::Arc;
@@ -61,7 +61,7 @@ where
         ensures environment { result.environment ≡ env }
     {
         Pager {
-            tables: start::new(alloc),
+            tables: tables::new(alloc),
             values: IndexMap::new(alloc),
             storage,
             env,

@@ -1,12 +1,11 @@
 -- What a load asks and reads: why it can't become a node, and what becomes of it.
 use Rattle.pagable_tables.proofs.Words.{◌≡◌, ℕ, ◌<◌, ◌≤◌, Bool, true, false, if◌then◌else◌, refl, ap, ◌∙◌, arith, Ok, Err, Some, None, inl, inr, not, is_some, Result, [], Error, HandleNumber}
-use Rattle.pagable_tables.proofs.Words.{LoadNumber, NodeNumber, Kind, Owner, Mode, is_loose_kind, mode_of, Core, OpenLoad, greatest, usable, Alike, rank, earlier, refused_if, spent, load_fault}
-use Rattle.pagable_tables.proofs.Words.{OwnsLoad, Refused, birth_fault, node_fault, lazy_fault, adopted, LazyCall, OptionalDataKey, key_in, Makes, nat_tests, ◌==◌, List, Option, ArcRef, Blob, type_of}
-use Rattle.pagable_tables.proofs.Words.{or_else, references_fault, AreHandlesFull, FallsAnyhow, with_handle, is_named_by, adopt_fault, first_key, Adopts, early_fault, OnlyRoom, Tables, ArePlaced}
-use Rattle.pagable_tables.proofs.{Words.{core_of, plain_of, ◌&&◌, ◌≢◌, ◌⊎◌, with_cached, is_usable, RecallCall, AsksKnown}, Opened.{earlier-first, load-low, no-load-fault, late, kind-late}}
-use Rattle.pagable_tables.proofs.{Opened.{references-low, spent-late}, Worlds.{still, usable-same}, Readied.{fault-by, room-alike}, keeps.{EndCalls.{adopt-whole, both-none}, Fallen.opened}}
+use Rattle.pagable_tables.proofs.Words.{LoadNumber, NodeNumber, Kind, Owner, Mode, is_loose_kind, is_shared, mode_of, Core, OpenLoad, greatest, usable, Alike, rank, earlier, refused_if, spent}
+use Rattle.pagable_tables.proofs.Words.{load_fault, OwnsLoad, Refused, birth_fault, node_fault, lazy_fault, adopted, LazyCall, OptionalDataKey, Makes, nat_tests, ◌==◌, List, Option, ArcRef, type_of}
+use Rattle.pagable_tables.proofs.Words.{or_else, references_fault, AreHandlesFull, FallsAnyhow, with_handle, is_named_by, adopt_fault, first_key, Adopts, early_fault, OnlyRoom, ◌&&◌, ◌≢◌}
+use Rattle.pagable_tables.proofs.{Words.{◌⊎◌, with_cached}, Opened.{earlier-first, load-low, no-load-fault, late, kind-late, references-low}, Readied.{fault-by, room-alike}}
+use Rattle.pagable_tables.proofs.{Worlds.{still, usable-same}, keeps.{EndCalls.both-none}}
 use Rattle.pagable_world.specs.Calls.{IsNext}
-use Rattle.pagable_world.specs.Pager as pager
 
 pub node-late : (w : Core) (kind : Kind) (key : ℕ) (f : Error) → node_fault w kind key ≡ Some f → 4 ≤ rank f
 node-late w kind key f is = grind (arith, nat_tests)
@@ -15,12 +14,9 @@ pub kind-or-node-late : (w : Core) (b : Bool) (kind : Kind) (key : ℕ) (f : Err
 kind-or-node-late w b kind key f is = late (refused_if b Error.WrongKind) (node_fault w kind key) 3 (kind-late b) (λ g e. let a = node-late w kind key g e in omega arith) f is
 
 -- what refuses the load itself comes first
-not-own : {before : Option Error} {wanting : Type 0} (w : Core) (me : Owner) (l : LoadNumber) (rest : Option Error) (e : Error) → load_fault w me l ≡ Some e
+pub not-own : {before : Option Error} {wanting : Type 0} (w : Core) (me : Owner) (l : LoadNumber) (rest : Option Error) (e : Error) → load_fault w me l ≡ Some e
     → ((f : Error) → rest ≡ Some f → 3 ≤ rank f) → Refused (earlier (load_fault w me l) rest) before wanting w e w
 not-own w me l rest e is late = record { why = inl (earlier-first (load_fault w me l) rest e is (λ f g. let a = load-low w me l e is in let b = late f g in omega arith)); stays = still w }
-
-pub lazy-not-own : (w : Core) (me : Owner) (l : LoadNumber) (kind : Kind) (key : ℕ) (e : Error) → load_fault w me l ≡ Some e → LazyCall w me l kind key (Err e) w
-lazy-not-own w me l kind key e is = record { makes = tt; refused = not-own w me l _ e is (kind-or-node-late w (not (is_loose_kind kind.0)) kind key) }
 
 module _ (w : Core) (me : Owner) (l : LoadNumber) (load : OpenLoad) (kind : Kind) (key : ℕ) (own : OwnsLoad w me l load) where
   pub lazy-not-loose : is_loose_kind kind.0 ≡ false → LazyCall w me l kind key (Err Error.WrongKind) w
@@ -44,9 +40,8 @@ module _ (w : Core) (me : Owner) (l : LoadNumber) (load : OpenLoad) (kind : Kind
       pub lazy-new : (k : HandleNumber) {w' : Core} → w.last.node < greatest → IsNext k w → Alike (adopted w l kind key (OptionalDataKey.Some key) []) w' → LazyCall w me l kind key (Ok k) w'
       lazy-new k node_left next made = record { makes = (load, own, loose, inr (none, node_left, next, made)); refused = tt }
 
--- the number of a key
-pub key-there : (n : ℕ) → 0 < n → key_in n ≡ OptionalDataKey.Some n
-key-there x0 lt = grind (arith, nat_tests)
+pub unshared-loose : (kind : ℕ) → is_loose_kind kind ≡ true → is_shared (mode_of kind) ≡ false
+unshared-loose kind loose = grind (arith, nat_tests)
 
 abbrev Early : Option Error → Type 0
 Early a = (e : Error) → a ≡ Some e → rank e ≤ 3
@@ -128,17 +123,6 @@ early-past {w} {w'} me l kind node_type refs o =
     ∙ ap (λ x. earlier (load_fault w me l) (earlier (refused_if (is_loose_kind kind.0) Error.WrongMode) (earlier (refused_if (not (node_type == type_of kind.0)) Error.WrongKind) x)))
     (fault-by w (record w { places = w'.places }) (Owner.Load l) [] refs)
 
--- nor is the storage
-pub early-stored : (t : Tables) (stored : ℕ → Option Blob) (closed : Bool) (failures : ℕ) (me : Owner) (l : LoadNumber) (kind : Kind) (node_type : ℕ) (refs : List ArcRef)
-    → early_fault (core_of t stored closed failures) me l kind node_type refs ≡ early_fault (plain_of t) me l kind node_type refs
-early-stored t stored closed failures me l kind node_type refs =
-    ap (λ x. earlier (load_fault (plain_of t) me l) (earlier (refused_if (is_loose_kind kind.0) Error.WrongMode) (earlier (refused_if (not (node_type == type_of kind.0)) Error.WrongKind) x)))
-    (fault-by (plain_of t) (core_of t stored closed failures) (Owner.Load l) [] refs)
-
--- it keeps the world whole
-pub adopts-whole : {w w' : Core} (me : Owner) (l : LoadNumber) (kind : Kind) (key node_type : ℕ) (refs : List ArcRef) (k : HandleNumber) → pager.IsWhole (opened w) → Adopts w me l kind key node_type refs k w' → ArePlaced (opened w') → pager.IsWhole (opened w')
-adopts-whole {w} {w'} me l kind key node_type refs k whole a placed = adopt-whole {N = Unit {0}} me l kind key tt node_type refs (Ok k) whole (record { adopts = a; refused = tt }) placed
-
 -- the cache of the second world learns what that of the first does
 module _ (w w' : Core) (kind : Kind) (key : ℕ) (n : NodeNumber) (cache : ℕ → ℕ → Option ℕ) (a : Alike w w') (here : cache kind.0 key ≡ Some n.0) (others : (k q : ℕ) → (k ≢ kind.0) ⊎ (q ≢ key) → cache k q ≡ w'.cache k q) where
   abbrev known : ℕ → ℕ → Option ℕ
@@ -153,9 +137,3 @@ module _ (w w' : Core) (kind : Kind) (key : ℕ) (n : NodeNumber) (cache : ℕ �
 -- the cache learns while the storage is open
 pub if-open : (closed : Bool) (w w' : Core) (kind : Kind) (key : ℕ) (n : NodeNumber) → (closed ≡ true → Alike w w') → (closed ≡ false → Alike (with_cached w kind key n) w') → Alike (if closed then w else with_cached w kind key n) w'
 if-open x0 w w' kind key n shut stands = grind (arith, nat_tests)
-
-pub recalls-asked : (w : Core) (me : Owner) (l : LoadNumber) (load : OpenLoad) (kind : Kind) (key : ℕ) (r : Result (Option HandleNumber) Error) (w' : Core) → OwnsLoad w me l load → RecallCall w (Owner.Load l) kind key r w' → AsksKnown w me l kind key r w'
-recalls-asked w me l load kind key r w' own call = grind (arith, nat_tests)
-
-pub not-asked : (w : Core) (me : Owner) (l : LoadNumber) (kind : Kind) (key : ℕ) (e : Error) → load_fault w me l ≡ Some e → AsksKnown w me l kind key (Err e) w
-not-asked w me l kind key e is = record { gives = tt; refused = not-own w me l _ e is (λ f late. let b = spent-late w.last.handle (is_usable w kind key) f late in omega arith) }

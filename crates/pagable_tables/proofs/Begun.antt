@@ -1,7 +1,7 @@
 -- Where handles begin to be given up: nothing has gone so far.
 use Rattle.pagable_tables.proofs.Words.{◌≡◌, ℕ, ◌+◌, ◌≤◌, ◌&&◌, Bool, false, not, List, [], ◌∷◌, length, refl, ap, sym, ◌∙◌, subst, arith, Option, None, true, nat_tests, append-nil, sum_by-cons}
-use Rattle.pagable_tables.proofs.Words.{Error, ArcRef, HandleRow, Blob, one, times, is_at, is_share, held, sharing, Core, greatest, HasRoom, IsWithin, MustList, TellsListing, nobody, Tables, Counts}
-use Rattle.pagable_tables.proofs.Words.{Holdings, live, counts_at, refs_at, Fits, IsFalling, cell_in, is_valued, owns, owns_nothing, with_tables, told_by, is_plain_pin, Begins, SoFar, core_of}
+use Rattle.pagable_tables.proofs.Words.{Error, HandleRow, Blob, one, times, is_at, is_share, held, sharing, Core, greatest, HasRoom, IsWithin, MustList, TellsListing, nobody, Tables}
+use Rattle.pagable_tables.proofs.Words.{Holdings, live, counts_at, IsFalling, cell_in, is_valued, owns, owns_nothing, with_tables, told_by, is_plain_pin, Begins, SoFar, core_of}
 use Rattle.pagable_tables.{proofs.{Coming.owned-by-none, Left.all-kept}, specs.Core.IsWhole}
 
 -- why a cell isn't listed is told aside
@@ -9,12 +9,8 @@ pub aside : (t : Holdings) (u : Option Error) (stack : List ℕ) (extra : ℕ �
 aside t u stack extra w = record { sound = w.sound; next = w.next; fits = w.fits }
 
 -- a handle that no value owns weighs nothing there
-pub fits-unowned : (at : ℕ → Option Counts) (refs : ℕ → List ArcRef) (rows : List HandleRow) (top : ℕ) (stack : List ℕ) (x : HandleRow) → is_valued x.owner ≡ false
-    → Fits at refs rows top stack owns_nothing → Fits at refs rows top stack (owns x)
-fits-unowned at refs rows top stack x plain fits = grind (arith, nat_tests, owned-by-none)
-
 pub unowned : (t : Holdings) (x : HandleRow) (stack : List ℕ) → is_valued x.owner ≡ false → IsFalling t stack owns_nothing → IsFalling t stack (owns x)
-unowned t x stack plain w = record { sound = w.sound; next = w.next; fits = fits-unowned (counts_at t.nodes) (refs_at t.nodes) (live t.handles.places.items) t.top stack x plain w.fits }
+unowned t x stack plain w = record { sound = w.sound; next = w.next; fits = grind (arith, nat_tests, owned-by-none, w.fits) }
 
 share-plain : (n : ℕ) (rows : List HandleRow) → sharing n rows + times (is_plain_pin n) rows ≤ held n rows
 share-plain n [] = omega arith

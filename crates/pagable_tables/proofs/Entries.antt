@@ -34,8 +34,3 @@ owned-listed {w} whole q = split (find_row q w.rows) refl
     split (Some h) e =
         let (there, number) = found-among q w.rows h e in
         grind (arith, nat_tests, only-row (λ y. one (of_list q y)) w.rows h whole.handles.ordered there (λ y other. grind (arith, nat_tests)), whole.owners_there.listed q)
-
--- the cache is told anew
-pub cache-anew : (before u w' : Core) (given : ℕ → Bool) (cache : ℕ → ℕ → Option ℕ) → ((kind key : ℕ) → w'.cache kind key ≡ cache kind key) → FallsAnyhow before u given w'
-    → FallsAnyhow before u given (record w' { cache = cache })
-cache-anew before u w' given cache same falls = subst (λ c. FallsAnyhow before u given (record w' { cache = c })) (λ i kind key. same kind key i) falls

@@ -1,7 +1,7 @@
 -- Handles that are named come to another owner, one after the other.
 use Rattle.pagable_tables.proofs.Words.{◌≡◌, ℕ, ◌+◌, ◌<◌, ◌==◌, ◌||◌, true, false, List, [], ◌∷◌, length, get_or, drop, refl, ap, sym, ◌∙◌, arith, suc, zero, Option, Some, None, not, nat_tests}
 use Rattle.pagable_tables.proofs.Words.{HandleNumber, at_drop_more, at_drop_all, Error, HandleRow, Owner, is_in, if_there, is_owner, find_row, Core, named_fault, refused_if, earlier, seen, named_at}
-use Rattle.pagable_tables.proofs.Words.{◌≤◌, Bool, if◌then◌else◌, map, only_handle, moved, numbers_of, is_valued, IsNamed}
+use Rattle.pagable_tables.proofs.Words.{◌++◌, take, take-suc, add-one, Bool, if◌then◌else◌, map, only_handle, moved, numbers_of}
 
 pub in-none : (hs : List HandleNumber) (q : ℕ) → is_in (seen hs 0) q ≡ false
 unfolding is_in seen
@@ -49,27 +49,32 @@ pub moved-unless : (s : ℕ → Bool) (o : Owner) (rows : List HandleRow) → ((
 moved-unless s o [] none = refl
 moved-unless s o (x ∷ xs) none = ap (λ r. x ∷ r) (moved-unless s o xs none) ∙ sym (ap (λ b. (if b then record x { owner = o } else x) ∷ moved s o xs) (none x.number.0))
 
-pub none-moved : (hs : List HandleNumber) (o : Owner) (rows : List HandleRow) → rows ≡ moved (is_in (seen hs 0)) o rows
-none-moved hs o rows = moved-unless (is_in (seen hs 0)) o rows (in-none hs)
+-- nothing is moved where none is named
+pub none-moved : (o : Owner) (rows : List HandleRow) → moved (is_in []) o rows ≡ rows
+unfolding is_in
+none-moved o rows = sym (moved-unless (is_in []) o rows (λ q. refl))
 
 abbrev to : (ℕ → Bool) → Owner → HandleRow → HandleRow
 to s o row = if s row.number.0 then record row { owner = o } else row
 
-to-number : (s : ℕ → Bool) (o : Owner) (x : HandleRow) → (to s o x).number.0 ≡ x.number.0
-to-number s o x = grind (arith, nat_tests)
-
 twice : (s : ℕ → Bool) (h : HandleNumber) (o : Owner) (x : HandleRow) → to (only_handle h) o (to s o x) ≡ to (λ q. h.0 == q || s q) o x
 twice s h o x = grind (arith, nat_tests)
 
-moved-twice : (s : ℕ → Bool) (h : HandleNumber) (o : Owner) (rows : List HandleRow) → moved (only_handle h) o (moved s o rows) ≡ moved (λ q. h.0 == q || s q) o rows
+pub moved-twice : (s : ℕ → Bool) (h : HandleNumber) (o : Owner) (rows : List HandleRow) → moved (only_handle h) o (moved s o rows) ≡ moved (λ q. h.0 == q || s q) o rows
 moved-twice s h o [] = refl
 moved-twice s h o (x ∷ xs) = ap (λ r. to (only_handle h) o (to s o x) ∷ r) (moved-twice s h o xs) ∙ ap (λ y. y ∷ moved (λ q. h.0 == q || s q) o xs) (twice s h o x)
 
+in-push : (hs : List HandleNumber) (h : HandleNumber) (q : ℕ) → is_in (numbers_of (hs ++ h ∷ [])) q ≡ (h.0 == q || is_in (numbers_of hs) q)
+unfolding is_in
+in-push [] h q = refl
+in-push (x ∷ xs) h q = grind (arith, nat_tests, in-push xs h q)
+
 -- one more is moved
-pub one-moved : (hs : List HandleNumber) (p : ℕ) (o : Owner) (rows rows' rows'' : List HandleRow) (h : HandleNumber) → h.0 ≡ named_at hs p → rows' ≡ moved (is_in (seen hs p)) o rows → rows'' ≡ moved (only_handle h) o rows' → rows'' ≡ moved (is_in (seen hs (p + 1))) o rows
-one-moved hs p o rows rows' rows'' h same is next =
-    next ∙ ap (moved (only_handle h) o) is ∙ moved-twice (is_in (seen hs p)) h o rows
-    ∙ moved-same (λ q. h.0 == q || is_in (seen hs p) q) (is_in (seen hs (p + 1))) o rows (λ q. ap (λ m. m == q || is_in (seen hs p) q) same ∙ sym (in-more hs p q))
+pub moved-one : (hs : List HandleNumber) (i : ℕ) (d : HandleNumber) (o : Owner) (rows : List HandleRow) → i < length hs
+    → moved (only_handle (get_or hs i d)) o (moved (is_in (numbers_of (take i hs))) o rows) ≡ moved (is_in (numbers_of (take (i + 1) hs))) o rows
+moved-one hs i d o rows lt =
+    moved-twice (is_in (numbers_of (take i hs))) (get_or hs i d) o rows
+    ∙ moved-same _ (is_in (numbers_of (take (i + 1) hs))) o rows (λ q. sym (ap (λ l. is_in (numbers_of l) q) (ap (λ n. take n hs) (add-one i) ∙ take-suc hs i d lt) ∙ in-push (take i hs) (get_or hs i d) q))
 
 -- what is found of moved rows
 pub found-there : (f : HandleRow → HandleRow) → ((h : HandleRow) → (f h).number.0 ≡ h.number.0) → (q : ℕ) (rows : List HandleRow) (row : HandleRow) → find_row q rows ≡ Some row
@@ -77,45 +82,5 @@ pub found-there : (f : HandleRow → HandleRow) → ((h : HandleRow) → (f h).n
 unfolding find_row
 found-there f same q [] row is = absurd (cc)
 found-there f same q (x ∷ xs) row is = grind (arith, nat_tests, found-there f same q xs row)
-
-still-plain : (s : ℕ → Bool) (o : Owner) (x : HandleRow) → is_valued o ≡ false → is_valued x.owner ≡ false → is_valued (to s o x).owner ≡ false
-still-plain s o x plain none = grind (arith, nat_tests)
-
--- a handle that is named stays so while others move
-pub named-still : (hs : List HandleNumber) (p q : ℕ) (o : Owner) (rows rows' : List HandleRow) → rows' ≡ moved (is_in (seen hs p)) o rows → is_valued o ≡ false → IsNamed rows q → IsNamed rows' q
-named-still hs p q o rows rows' is plain n =
-    record {
-      row = to (is_in (seen hs p)) o n.row;
-      found = ap (find_row q) is ∙ found-there (to (is_in (seen hs p)) o) (to-number (is_in (seen hs p)) o) q rows n.row n.found;
-      plain = still-plain (is_in (seen hs p)) o n.row plain n.plain;
-    }
-
--- all that were seen
-or-none : (b : Bool) → (b || false) ≡ b
-or-none x0 = grind (arith, nat_tests)
-
-seen-so-far : (hs : List HandleNumber) (q n : ℕ) → n ≤ length hs → (is_in (seen hs n) q || is_in (numbers_of (drop n hs)) q) ≡ is_in (numbers_of hs) q
-unfolding is_in
-seen-so-far hs q zero le = ap (λ b. b || is_in (numbers_of hs) q) (in-none hs q)
-seen-so-far hs q (suc n) le =
-    let e : suc n ≡ n + 1 = omega arith in
-    let a = seen-so-far hs q n (omega arith) in
-    let b = at_drop_more (λ xs. is_in (numbers_of xs) q) hs n (record { 0 = 0 }) (omega arith) in
-    let d = in-more hs n q in
-    ap (λ m. is_in (seen hs m) q || is_in (numbers_of (drop m hs)) q) e ∙ ap (λ s. s || is_in (numbers_of (drop (n + 1) hs)) q) d ∙ swap (named_at hs n == q) (is_in (seen hs n) q) (is_in (numbers_of (drop (n + 1) hs)) q)
-    ∙ sym (ap (λ s. is_in (seen hs n) q || s) b) ∙ a
-  where
-    swap : (a b c : Bool) → ((a || b) || c) ≡ (b || (a || c))
-    swap a b c = grind (arith, nat_tests)
-
-pub seen-all : (hs : List HandleNumber) (q : ℕ) → is_in (seen hs (length hs)) q ≡ is_in (numbers_of hs) q
-unfolding is_in
-seen-all hs q =
-    sym (or-none (is_in (seen hs (length hs)) q))
-    ∙ sym (ap (λ b. is_in (seen hs (length hs)) q || b) (at_drop_all (λ xs. is_in (numbers_of xs) q) hs (length hs) (omega arith)))
-    ∙ seen-so-far hs q (length hs) (omega arith)
-
-pub all-moved : (hs : List HandleNumber) (p : ℕ) (o : Owner) (rows rows' : List HandleRow) → p ≡ length hs → rows' ≡ moved (is_in (seen hs p)) o rows → rows' ≡ moved (is_in (numbers_of hs)) o rows
-all-moved hs p o rows rows' end is = is ∙ ap (λ p. moved (is_in (seen hs p)) o rows) end ∙ moved-same (is_in (seen hs (length hs))) (is_in (numbers_of hs)) o rows (seen-all hs)
 
 pub ruleset handing = (nat_tests, in-none, in-more, in-there, last-named, all-named, none-moved)

@@ -233,10 +233,10 @@ module _ (t t1 : Tables) (stored : ℕ → Option Blob) (closed : Bool) (failure
           grind (arith, nat_tests, sum_by_push, same, a.rows, a.cells n, was.steady.fits.pinned n, whole.steady.fits.pinned n)
 
 -- what is true with more places is true without them
-pub may-wider : {w v : Core} {me : Owner} {l : LoadNumber} {node : NodeNumber} {h : HandleNumber} {t : ℕ} {refs : List ArcRef} → IsWider w v → MayEnd v me l node h t refs → MayEnd w me l node h t refs
+pub may-wider : {w v : Core} {me : Owner} {l : LoadNumber} {node : NodeNumber} {h : HandleNumber} {t : ℕ} {refs : List ArcRef} → OnlyRoom w v → MayEnd v me l node h t refs → MayEnd w me l node h t refs
 may-wider {w} {v} {me} {l} {node} {h} {t} {refs} wider may = grind (arith, nat_tests, references-placed)
 
-pub installs-wider : {w v w' : Core} {me : Owner} {l : LoadNumber} {node : NodeNumber} {h k : HandleNumber} {refs : List ArcRef} → IsWider w v → Installs v me l node h k refs w' → Installs w me l node h k refs w'
+pub installs-wider : {w v w' : Core} {me : Owner} {l : LoadNumber} {node : NodeNumber} {h k : HandleNumber} {refs : List ArcRef} → OnlyRoom w v → Installs v me l node h k refs w' → Installs w me l node h k refs w'
 installs-wider {w} {v} {w'} {me} {l} {node} {h} {k} {refs} wider installs =
     let i : Installs (record w { places = v.places }) me l node h k refs w' = subst (λ u. Installs u me l node h k refs w') wider.same installs in
     let before : Core = record w { places = v.places } in

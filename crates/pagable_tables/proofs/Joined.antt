@@ -1,11 +1,8 @@
 -- What a value refers to comes with it to a node that is there, has no value and is pinned.
 use Rattle.pagable_tables.proofs.Words.{◌≡◌, ℕ, ◌+◌, ◌<◌, Bool, false, List, [], ◌∷◌, ◌++◌, sum_by, refl, ap, sym, ◌∙◌, subst, arith, Option, None, inl, inr, ◌≢◌, cases_eq, nat_tests, sum_by_push}
 use Rattle.pagable_tables.proofs.Words.{OptionalDataKey, ArcRef, HandleRow, Owner, changed, if_there, pins, is_at, is_pin, is_handle, is_in_memory, owner_value, IsHandleBefore, Cell, Core}
-use Rattle.pagable_tables.proofs.{Words.{references_fault, moved, is_named_by, Counts, Fits, Right, cell_in, pins_in, falls_in, is_valued, named, owns_nothing, AllPairs}, Born.{others-own, own-own}}
+use Rattle.pagable_tables.proofs.{Words.{references_fault, moved, is_named_by, Counts, Fits, cell_in, is_valued, named, owns_nothing, AllPairs}, Born.{others-own, own-own}}
 use Rattle.pagable_tables.proofs.{Coming.{turned, owned-by-none}, Fitting.is_owned, Taken.moved-times, keeps.Rows.sum-map}
-
-right-pinned : (o : Option Counts) (refs refs' : List ArcRef) → 0 < pins_in o → falls_in o ≡ false → Right o refs → Right o refs'
-right-pinned o refs refs' some stands right = grind (arith, nat_tests)
 
 -- the value of a node that isn't in memory owns nothing
 pub owns-none : (at : ℕ → Option Counts) (refs : ℕ → List ArcRef) (rows : List HandleRow) (top n : ℕ) → Fits at refs rows top [] owns_nothing
@@ -55,6 +52,6 @@ module _ (w : Core) (me : Owner) (n : ℕ) (rs : List ArcRef) (ordered : AllPair
         ];
         chain = fits.chain;
         marked = fits.marked;
-        right = λ m. grind (arith, nat_tests, cases_eq, right-pinned);
+        right = λ m. grind (arith, nat_tests, cases_eq);
         from_one = fits.from_one;
       }

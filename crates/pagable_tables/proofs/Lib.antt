@@ -17,10 +17,8 @@ mod Named
 mod Born
 pub mod Readied
 mod NewNodes
-mod Unpinning
 mod KeyPut
 mod Handed
-mod Nothing
 mod Taken
 pub mod Newer
 pub mod Stays

@@ -1,7 +1,7 @@
 -- Handles that references name come to another owner.
 use Rattle.pagable_tables.proofs.Words.{Bool, SameAt, ◌≡◌, ℕ, ◌+◌, ◌<◌, ◌≤◌, ◌==◌, ◌||◌, true, false, List, [], ◌∷◌, ◌++◌, take, drop, drop-cons, get_or, length, add-one, refl, ap, sym, ◌∙◌, arith}
 use Rattle.pagable_tables.proofs.Words.{Some, None, nat_tests, ◌≢◌, drop_all, take-suc, Error, ArcRef, HandleNumber, HandleRow, Owner, is_in, or_else, find_row, Core, reference_fault}
-use Rattle.pagable_tables.proofs.{Words.{references_fault, only_handle, moved, is_named_by, Alike, HasRoom, suc, zero, take_all}, Handed.moved-unless, Coming.owned-by, Worlds.same-cache}
+use Rattle.pagable_tables.proofs.{Words.{references_fault, only_handle, moved, is_named_by, Alike, HasRoom, suc, zero, take_all}, Handed.{moved-same, moved-twice, moved-unless}, Worlds.same-cache}
 
 -- no row has the number
 pub moved-none : (h : HandleNumber) (owner : Owner) (rows : List HandleRow) → find_row h.0 rows ≡ None → moved (only_handle h) owner rows ≡ rows
@@ -21,17 +21,6 @@ unfolding is_named_by
 named-push [] r q = refl
 named-push (x ∷ xs) r q = grind (arith, nat_tests, named-push xs r q)
 
--- one more
-moved-push : (rs : List ArcRef) (r : ArcRef) (owner : Owner) (rows : List HandleRow) → moved (only_handle r.handle) owner (moved (is_named_by rs) owner rows) ≡ moved (is_named_by (rs ++ r ∷ [])) owner rows
-moved-push rs r owner [] = refl
-moved-push rs r owner (x ∷ xs) = grind (arith, nat_tests, named-push, owned-by, moved-push rs r owner xs)
-
-pub moved-take : (rs : List ArcRef) (i : ℕ) (d : ArcRef) (owner : Owner) (rows : List HandleRow) → i < length rs
-    → moved (only_handle (get_or rs i d).handle) owner (moved (is_named_by (take i rs)) owner rows) ≡ moved (is_named_by (take (i + 1) rs)) owner rows
-moved-take rs i d owner rows lt =
-    let a : take i rs ++ get_or rs i d ∷ [] ≡ take (i + 1) rs = sym (take-suc rs i d lt) ∙ ap (λ n. take n rs) (sym (add-one i)) in
-    moved-push (take i rs) (get_or rs i d) owner rows ∙ ap (λ l. moved (is_named_by l) owner rows) a
-
 pub named-in : (rs : List ArcRef) (i : ℕ) (d : ArcRef) (q : ℕ) → i < length rs → (get_or rs i d).handle.0 ≡ q → is_named_by rs q ≡ true
 unfolding is_named_by
 named-in [] i d q lt is = absurd (omega arith)
@@ -40,6 +29,11 @@ named-in (r ∷ rs) (suc i) d q lt is = let a = named-in rs i d q (omega arith) 
 
 pub named-take : (rs : List ArcRef) (i : ℕ) (d : ArcRef) (q : ℕ) → i < length rs → is_named_by (take (i + 1) rs) q ≡ ((get_or rs i d).handle.0 == q) || is_named_by (take i rs) q
 named-take rs i d q lt = ap (λ l. is_named_by l q) (ap (λ n. take n rs) (add-one i) ∙ take-suc rs i d lt) ∙ named-push (take i rs) (get_or rs i d) q
+
+-- one more
+pub moved-take : (rs : List ArcRef) (i : ℕ) (d : ArcRef) (owner : Owner) (rows : List HandleRow) → i < length rs
+    → moved (only_handle (get_or rs i d).handle) owner (moved (is_named_by (take i rs)) owner rows) ≡ moved (is_named_by (take (i + 1) rs)) owner rows
+moved-take rs i d owner rows lt = moved-twice (is_named_by (take i rs)) (get_or rs i d).handle owner rows ∙ moved-same _ (is_named_by (take (i + 1) rs)) owner rows (λ q. sym (named-take rs i d q lt))
 
 pub named-other : (rs : List ArcRef) (i : ℕ) (d : ArcRef) (q : ℕ) → (get_or rs i d).handle.0 ≢ q → i < length rs → is_named_by (take i rs) q ≡ false → is_named_by (take (i + 1) rs) q ≡ false
 named-other rs i d q other lt before =

@@ -1,8 +1,8 @@
 -- A birth, by what it is made of; and why references are refused before a number that is spent.
 use Rattle.pagable_tables.proofs.Words.{◌≡◌, ℕ, ◌<◌, List, [], ap, ◌∙◌, subst, arith, Ok, Some, None, nat_tests, OptionalDataKey, Error, ArcRef, HandleNumber, Owner, Mode, Core, Alike, greatest}
-use Rattle.pagable_tables.proofs.Words.{earlier, references_fault, birth_fault, with_handle, with_node, next_node, AwayBirthCall, IsWhole, ArePlaced, MayHold, Counts, key_in, Bears}
-use Rattle.pagable_tables.proofs.Opened.{earlier-first, spent-late, late, references-low}
-use Rattle.pagable_tables.proofs.{Words.{BearsValue, OnlyRoom}, keeps.HandleCalls.{birth-whole, no-references}, Newer.{OnlyNewer, newer-then, newer-alike, newer-node}, Readied.{next-past, born-past}}
+use Rattle.pagable_tables.proofs.Words.{earlier, references_fault, birth_fault, with_handle, with_node, next_node, AwayBirthCall, IsWhole, ArePlaced, MayHold, key_in, Bears, true, false, is_shared}
+use Rattle.pagable_tables.proofs.{Words.{has_key, OnlyRoom}, Newer.{OnlyNewer, newer-then, newer-alike, newer-node}, Opened.{earlier-first, spent-late, late, references-low}}
+use Rattle.pagable_tables.proofs.{Readied.{next-past, born-past}, keeps.{Comes.not-list, HandleCalls.{born-whole, no-references}, Told.settles}}
 
 -- a cause that tells of a reference comes before a number that is spent
 pub references-first : (w : Core) (me : Owner) (rs : List ArcRef) (e : Error) → references_fault w me [] rs ≡ Some e → earlier (references_fault w me [] rs) (birth_fault w) ≡ Some e
@@ -11,28 +11,22 @@ references-first w me rs e is = grind (arith, nat_tests, earlier-first, referenc
 pub none-named : (w : Core) (me : Owner) (rs : List ArcRef) → rs ≡ [] → references_fault w me [] rs ≡ None
 none-named w me rs is = ap (references_fault w me []) is ∙ no-references w me
 
-key-is : (k : ℕ) → 0 < k → key_in k ≡ OptionalDataKey.Some k
+-- the number of a key
+pub key-is : (k : ℕ) → 0 < k → key_in k ≡ OptionalDataKey.Some k
 key-is x0 some = grind (arith, nat_tests)
 
-module _ (w : Core) (me : Owner) (node_type : ℕ) (c : Counts) (rs : List ArcRef) (mode : Mode) (w' : Core) (typed : c.node_type ≡ node_type) where
-  abbrev born : ℕ → OptionalDataKey → Core
-  born t k = with_handle (with_node w t k rs) (next_node w) mode me
-
-  alike-as : (k : OptionalDataKey) → key_in c.key ≡ k → Alike (born c.node_type (key_in c.key)) w' → Alike (born node_type k) w'
-  alike-as k is a = subst (λ t. Alike (born t k) w') typed (subst (λ k. Alike (born c.node_type k) w') is a)
-
-  -- of a value, with no key
-  pub value-born : (k : HandleNumber) → c.key ≡ 0 → Bears w me c rs mode k w' → BearsValue w me node_type rs mode k w'
-  value-born k none b = record { next = record { above = b.next.above; is_left = b.next.is_left }; leaves = alike-as OptionalDataKey.None (ap key_in none) b.leaves }
-
 -- of a cell that is away, where room was made before
-pub away-born : {w w1 : Core} (me : Owner) (node_type : ℕ) (c : Counts) (w' : Core) (key : ℕ) (k : HandleNumber) → OnlyRoom w w1 → w1.last.node < greatest → c.node_type ≡ node_type → c.key ≡ key → 0 < key
-    → Bears w1 me c [] Mode.LooseUnpinned k w' → AwayBirthCall w me node_type key (Ok k) w'
-away-born {w} {w1} me node_type c w' key k room left typed is some b = grind (arith, nat_tests, alike-as, key-is, next-past, born-past)
+pub away-born : {w w1 w' : Core} (me : Owner) (node_type key n : ℕ) (rs : List ArcRef) (k : HandleNumber) → OnlyRoom w w1 → w1.last.node < greatest → n ≡ key → 0 < n → rs ≡ []
+    → Bears w1 me node_type n rs Mode.LooseUnpinned k w' → AwayBirthCall w me node_type key (Ok k) w'
+away-born {w} {w1} {w'} me node_type key n rs k room left is some none b =
+    let leaves = subst (λ o. Alike (with_handle (with_node w1 node_type o []) (next_node w1) Mode.LooseUnpinned me) w') (key-is n some ∙ ap (λ n. OptionalDataKey.Some n) is)
+    (subst (λ l. Alike (with_handle (with_node w1 node_type (key_in n) l) (next_node w1) Mode.LooseUnpinned me) w') none b.leaves) in
+    record { made = (subst (λ (u : Core). u.last.node < greatest) room.same left, next-past room b.next, born-past node_type (OptionalDataKey.Some key) [] Mode.LooseUnpinned me room leaves); refused = tt }
 
-pub value-whole : {w w' : Core} (me : Owner) (node_type : ℕ) (rs : List ArcRef) (mode : Mode) (k : HandleNumber) → IsWhole w → MayHold w me → references_fault w me [] rs ≡ None → w.last.node < greatest
-    → BearsValue w me node_type rs mode k w' → ArePlaced w' → IsWhole w'
-value-whole me node_type rs mode k whole holder fit left b = birth-whole me (tt {0}) node_type rs mode (Ok k) whole holder (record { made = (fit, left, b.next, b.leaves); refused = tt })
+pub bears-whole : {w w' : Core} (me : Owner) (node_type key : ℕ) (rs : List ArcRef) (mode : Mode) (k : HandleNumber) → IsWhole w → MayHold w me → references_fault w me [] rs ≡ None → w.last.node < greatest
+    → (is_shared mode ≡ true → has_key (key_in key) ≡ false) → Bears w me node_type key rs mode k w' → ArePlaced w' → IsWhole w'
+bears-whole {w} me node_type key rs mode k whole holder fit left unkeyed b placed =
+    settles (born-whole whole node_type (key_in key) rs mode me me (not-list w me holder) fit holder left b.next.is_left unkeyed) b.leaves placed
 
-pub bears-newer : {w w' : Core} (me : Owner) (c : Counts) (rs : List ArcRef) (mode : Mode) (k : HandleNumber) → Bears w me c rs mode k w' → OnlyNewer w w'
-bears-newer {w} me c rs mode k b = newer-then (newer-node w c.node_type (key_in c.key) rs mode me) (newer-alike b.leaves)
+pub bears-newer : {w w' : Core} (me : Owner) (node_type key : ℕ) (rs : List ArcRef) (mode : Mode) (k : HandleNumber) → Bears w me node_type key rs mode k w' → OnlyNewer w w'
+bears-newer {w} me node_type key rs mode k b = newer-then (newer-node w node_type (key_in key) rs mode me) (newer-alike b.leaves)

@@ -156,26 +156,12 @@ pub newer-node : (w : Core) (node_type : ℕ) (own_key : OptionalDataKey) (refer
 newer-node w node_type own_key references mode owner =
     newer-then (newer-moved w (is_named_by references) (owner_value (w.last.node + 1)) refl) (newer-handle (with_node w node_type own_key references) (next_node w) mode owner)
 
-pub newer-adopted : (w : Core) (l : LoadNumber) (kind : Kind) (key : ℕ) (own_key : OptionalDataKey) (references : List ArcRef) → OnlyNewer w (adopted w l kind key own_key references)
-newer-adopted w l kind key own_key references =
-    newer-then (newer-node w (type_of kind.0) own_key references (mode_of kind.0) (Owner.Load l)) (grind (arith, nat_tests))
-
-pub lazy-newer : {w w' : Core} (me : Owner) (l : LoadNumber) (kind : Kind) (key : ℕ) (r : Result HandleNumber Error) → LazyCall w me l kind key r w' → OnlyNewer w w'
-lazy-newer {w} me l kind key (Ok k) call = elim call.makes.3 [
-  | inl gets ↦ newer-then (newer-handle w (record { 0 = gets.n }) (mode_of kind.0) (Owner.Load l)) (newer-alike gets.leaves)
-  | inr (none, left, next, leaves) ↦ newer-then (newer-adopted w l kind key (OptionalDataKey.Some key) []) (newer-alike leaves)
-]
-lazy-newer me l kind key (Err e) call = newer-alike call.refused.stays
-
 pub unpin-newer : {w w' : Core} (me : Owner) (h : HandleNumber) (r : Result (Unit {0}) Error) → UnpinCall w me h r w' → OnlyNewer w w'
 unpin-newer {w} me h r call = elim call.does [
   | inl refused ↦ newer-alike refused.stays
   | inr (row, own, inl (mode, told, stays)) ↦ newer-alike stays
   | inr (row, own, inr (mode, falls)) ↦ newer-then (newer-mode w h Mode.LooseUnpinned) (newer-falls falls)
 ]
-
-pub release-newer : {w w' : Core} (me : Owner) (h : HandleNumber) (r : Result (Unit {0}) Error) → ReleaseCall w me h r w' → OnlyNewer w w'
-release-newer me h r call = elim call.does [ inl refused ↦ newer-alike refused.stays | inr (row, own, falls) ↦ newer-falls falls ]
 
 pub set-key-newer : {w w' : Core} (me : Owner) (h : HandleNumber) (key : ℕ) (r : Result (Unit {0}) Error) → SetKeyCall w me h key r w' → OnlyNewer w w'
 set-key-newer me h key r call = elim call.does [
@@ -184,26 +170,12 @@ set-key-newer me h key r call = elim call.does [
   | inr (row, own, inr (loose, falls)) ↦ newer-falls falls
 ]
 
-pub adopt-newer : {w w' : Core} (me : Owner) (l : LoadNumber) (kind : Kind) (key node_type : ℕ) (refs : List ArcRef) (k : HandleNumber) → Adopts w me l kind key node_type refs k w' → OnlyNewer w w'
-adopt-newer {w} me l kind key node_type refs k a = elim a.makes [
-  | inl (n, is, falls) ↦ newer-then (newer-handle w (record { 0 = n }) (mode_of kind.0) (Owner.Load l)) (newer-falls falls.falls)
-  | inr (none, left, leaves) ↦ newer-then (newer-adopted w l kind key (first_key kind.0 key) refs) (newer-alike leaves)
-]
-
 pub schedule-newer : {w w' : Core} (me : Owner) (h : HandleNumber) (r : Result (Unit {0}) Error) → ScheduleCall w me h r w' → OnlyNewer w w'
 schedule-newer {w} me h (Ok u) call = elim call.moves.2 [
   | inl (stands_open, leaves) ↦ newer-then (newer-moved w (only_handle h) Owner.List refl) (newer-alike leaves)
   | inr (shut, falls) ↦ newer-falls falls.falls
 ]
 schedule-newer me h (Err e) call = newer-alike call.refused.stays
-
-pub offer-newer : {w w' : Core} (me : Owner) (kind : Kind) (key : ℕ) (h : HandleNumber) (r : Result (Option HandleNumber) Error) → OfferCall w me kind key h r w' → OnlyNewer w w'
-offer-newer {w} me kind key h (Ok None) call = newer-alike call.answers.3.2
-offer-newer {w} me kind key h (Ok (Some k)) call = elim call.answers.3 [
-  | inl (shut, same, leaves) ↦ newer-alike leaves
-  | inr (stands_open, (n, is, next, falls)) ↦ newer-then (newer-handle w (record { 0 = n }) (mode_of kind.0) me) (newer-falls falls.falls)
-]
-offer-newer me kind key h (Err e) call = newer-alike call.refused.stays
 
 pub close-newer : {w w' : Core} (r : Result (Unit {0}) Error) → CloseCall w r w' → OnlyNewer w w'
 close-newer r call = newer-falls call.falls.falls

@@ -57,12 +57,8 @@ owner-self o = grind (arith, nat_tests)
 pub no-fault : (w : Core) (me : Owner) (h : HandleNumber) (fits : Mode → Bool) (row : HandleRow) → row_at w h ≡ Some row → is_owner me row.owner ≡ true → fits row.mode ≡ true → handle_fault w me h fits ≡ None
 no-fault w me h fits row found own fit = grind (arith, nat_tests)
 
-numbers-late : (so : Bool) (m n : ℕ) (f : Error) → where_so so (earlier (spent m) (spent n)) ≡ Some f → 3 ≤ rank f
+pub numbers-late : (so : Bool) (m n : ℕ) (f : Error) → where_so so (earlier (spent m) (spent n)) ≡ Some f → 3 ≤ rank f
 numbers-late so m n f is = grind (arith, nat_tests)
-
-pub begin-first : (w : Core) (me : Owner) (h : HandleNumber) (fits : Mode → Bool) (e : Error) (so : Bool) (m n : ℕ)
-    → handle_fault w me h fits ≡ Some e → earlier (handle_fault w me h fits) (where_so so (earlier (spent m) (spent n))) ≡ Some e
-begin-first w me h fits e so m n is = handle-first w me h fits e _ is (numbers-late so m n)
 
 -- while numbers are left only memory can be wanting
 pub only-memory : (last : ℕ) (e : Error) {A B : Type 0} → last < greatest → (spent last ≡ Some e) ⊎ ((e ≡ Error.OutOfMemory) × A × B) → e ≡ Error.OutOfMemory

@@ -1,14 +1,9 @@
 -- A world with more room, and a node that is born in it.
-use Rattle.pagable_tables.proofs.Words.{◌≡◌, ℕ, ◌+◌, ◌<◌, ◌≤◌, true, false, if◌then◌else◌, List, [], ap, ◌∙◌, subst, arith, Option, None, Bool, vec_capacity, nat_tests, OptionalDataKey, Error, ArcRef}
-use Rattle.pagable_tables.proofs.Words.{HandleNumber, Kind, LoadNumber, Owner, Mode, Blob, type_of, mode_of, Core, Places, Alike, HasRoom, greatest, earlier, spent, references_fault, Refused}
-use Rattle.pagable_tables.proofs.Words.{with_handle, with_node, with_cached, next_node, adopted, Tables, OnlyRoom, counts_at, refs_at, known_at, live, AreSound, core_of, plain_of, AreLater}
-use Rattle.pagable_tables.{proofs.{Newer.{newer-alike, later-on}, keeps.Told.alike-whole, keeps.Placed.whole-so}, specs.Core.IsWhole}
+use Rattle.pagable_tables.proofs.Words.{◌≡◌, ℕ, ◌<◌, true, false, if◌then◌else◌, List, [], ap, ◌∙◌, subst, arith, Option, None, Bool, nat_tests, OptionalDataKey, Error, ArcRef}
+use Rattle.pagable_tables.proofs.Words.{HandleNumber, Kind, LoadNumber, Owner, Mode, type_of, mode_of, Core, Places, Alike, HasRoom, greatest, earlier, spent, references_fault, Refused}
+use Rattle.pagable_tables.proofs.Words.{with_handle, with_node, with_cached, next_node, adopted, OnlyRoom}
 use Rattle.pagable_world.specs.Calls.{IsNext}
-use Rattle.pagable_tables.specs.Live as places
 pub use Rattle.pagable_tables.proofs.Worlds.{fault-by}
-
-pub room-then : {a b c : Core} → OnlyRoom a b → OnlyRoom b c → OnlyRoom a c
-room-then {a} {b} {c} p q = grind (arith, nat_tests)
 
 pub room-alike : {w w' : Core} → OnlyRoom w w' → Alike w w'
 room-alike {w} {w'} o = grind (arith, nat_tests)
@@ -26,24 +21,6 @@ born-past {w} {w1} {w'} node_type key rs mode me o a = grind (arith, nat_tests, 
 
 pub room-fault : {w w' : Core} (me : Owner) (rs : List ArcRef) → OnlyRoom w w' → references_fault w' me [] rs ≡ references_fault w me [] rs
 room-fault {w} {w'} me rs o = ap (λ (u : Core). references_fault u me [] rs) o.same ∙ fault-by w (record w { places = w'.places }) me [] rs
-
--- tables that tell the same rows, counts and known nodes
-pub more-room : (t t' : Tables) → live t'.holdings.handles.places.items ≡ live t.holdings.handles.places.items → ((n : ℕ) → counts_at t'.holdings.nodes n ≡ counts_at t.holdings.nodes n)
-    → ((kind key : ℕ) → known_at t'.cache kind key ≡ known_at t.cache kind key)
-    → t' ≡ record t { holdings = record t.holdings { handles = t'.holdings.handles; nodes = t'.holdings.nodes }; cache = t'.cache }
-    → vec_capacity t.holdings.handles.places ≤ vec_capacity t'.holdings.handles.places
-    → (stored : ℕ → Option Blob) (closed : Bool) (failures : ℕ) → OnlyRoom (core_of t stored closed failures) (core_of t' stored closed failures)
-more-room t t' rows counts known same capacity stored closed failures = grind (arith, nat_tests)
-
--- they stay whole
-pub room-whole : (t t' : Tables) → IsWhole t → AreSound t'.holdings.handles → places.IsNext (t'.holdings.last_handle + 1) t'.holdings.handles.places.items
-    → live t'.holdings.handles.places.items ≡ live t.holdings.handles.places.items → ((n : ℕ) → counts_at t'.holdings.nodes n ≡ counts_at t.holdings.nodes n)
-    → ((n : ℕ) → refs_at t'.holdings.nodes n ≡ refs_at t.holdings.nodes n) → t'.holdings.top ≡ t.holdings.top → OnlyRoom (plain_of t) (plain_of t') → IsWhole t'
-room-whole t t' whole sound next rows counts refs top room =
-    whole-so {t = t'} (record { sound = sound; next = next; fits = grind (arith, nat_tests) }) (alike-whole whole.core (room-alike room))
-
-pub room-newer : {t t' : Tables} → OnlyRoom (plain_of t) (plain_of t') → t'.loads ≡ t.loads → t'.workers ≡ t.workers → AreLater t → AreLater t'
-room-newer {t} {t'} room loads workers later = later-on later (newer-alike (room-alike room)) loads workers
 
 -- a new node that the cache knows from now on
 pub adopted-past : {w w1 w' : Core} (l : LoadNumber) (kind : Kind) (key : ℕ) (own : OptionalDataKey) (rs : List ArcRef) → OnlyRoom w w1 → Alike (adopted w1 l kind key own rs) w' → Alike (adopted w l kind key own rs) w'

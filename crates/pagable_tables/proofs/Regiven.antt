@@ -1,22 +1,16 @@
 -- What was given is told by another set. Handles of a load that are left are those that it had and that haven't gone.
 use Rattle.pagable_tables.proofs.Words.{IsWithin, IsClosed, is_keyed, held}
-use Rattle.pagable_tables.proofs.Words.{◌≡◌, ℕ, ◌≤◌, ◌==◌, ◌&&◌, ◌||◌, Bool, true, false, not, if◌then◌else◌, List, [], ◌∷◌, ◌++◌, refl, ap, sym, ◌∙◌, arith, ◌+◌, nat_tests, LoadNumber, HandleRow}
-use Rattle.pagable_tables.proofs.{Words.{Owner, one, is_handle, is_owner, is_owned_by, find_row, Core, left_rows, AreNewEntries, is_owned_in, Holdings, live, SoFar, passes_in}, Left.and_one}
-use Rattle.pagable_tables.proofs.{Next.within-less, Bits.{and-false, had}}
-
-less-unless : (a g b : Bool) → (a ≡ true → (b || g) ≡ true) → one (a && not g) ≤ one (b && not g)
-less-unless x0 x1 x2 h = grind (arith, nat_tests)
-
-less-where : (a b s : Bool) → (a ≡ true → b ≡ true) → one (a && not s) ≤ one (b && not s)
-less-where a b s h = grind (arith, nat_tests)
+use Rattle.pagable_tables.proofs.Words.{◌≡◌, ℕ, ◌==◌, ◌&&◌, ◌||◌, Bool, true, false, not, if◌then◌else◌, List, [], ◌∷◌, ◌++◌, refl, ap, sym, ◌∙◌, arith, ◌+◌, nat_tests, LoadNumber, HandleRow}
+use Rattle.pagable_tables.proofs.{Words.{Owner, is_handle, is_owner, is_owned_by, find_row, Core, left_rows, AreNewEntries, is_owned_in, Holdings, live, SoFar, passes_in}, Left.and_one}
+use Rattle.pagable_tables.proofs.{Next.within-less, Bits.had}
 
 -- a set that has what was given, and no more but what has gone
 pub regiven : (before w : Core) (given given' : ℕ → Bool) (lists : Bool) (t : Holdings) (f : SoFar before w given lists t) → ((r : ℕ) → given' r ≡ true → (given r || f.gone r) ≡ true) → ((r : ℕ) → given r ≡ true → given' r ≡ true) → SoFar before w given' lists t
 regiven before w given given' lists t f less more =
-    let holds : IsWithin w.rows given' f.gone = within-less given' f.gone given f.gone w.rows (λ r. less-unless (given' r) (f.gone r) (given r) (less r)) f.holds in
+    let holds : IsWithin w.rows given' f.gone = within-less given' f.gone given f.gone w.rows (λ r. let h = less r in grind (arith, nat_tests)) f.holds in
     let least : (s : ℕ → Bool) (final : List HandleRow) → ((n : ℕ) → held n (live t.handles.places.items) ≡ 0 → held n final ≡ 0) → IsWithin w.rows given' s
     → IsClosed w.rows (is_keyed w) final s → IsWithin w.rows f.gone s =
-    λ s final bare has closed. f.least s final bare (within-less given s given' s w.rows (λ r. less-where (given r) (given' r) (s r) (more r)) has) closed in
+    λ s final bare has closed. f.least s final bare (within-less given s given' s w.rows (λ r. let h = more r in grind (arith, nat_tests)) has) closed in
     grind (arith, nat_tests)
 
 -- whether this one owns the handle of this number
@@ -41,7 +35,7 @@ module _ (test : HandleRow → Bool) (q : ℕ) where
 
   -- what has gone isn't found, and all else is
   pub found-left : (gone : ℕ → Bool) (rows : List HandleRow) → passes_in test (left_rows gone rows) q ≡ (not (gone q) && passes_in test rows q)
-  found-left gone [] = passes-none ∙ sym (ap (λ b. not (gone q) && b) passes-none ∙ and-false (not (gone q)))
+  found-left gone [] = grind (arith, nat_tests, passes-none)
   found-left gone (x ∷ xs) = grind (arith, nat_tests, passes-here, found-left gone xs)
 
   pub found-first : (rows more : List HandleRow) → passes_in test more q ≡ false → passes_in test (rows ++ more) q ≡ passes_in test rows q

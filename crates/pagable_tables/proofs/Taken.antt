@@ -2,10 +2,11 @@
 use Rattle.pagable_tables.proofs.Words.{◌≡◌, ℕ, ◌<◌, ◌==◌, ◌&&◌, Bool, true, false, not, if◌then◌else◌, List, [], ◌∷◌, length, refl, ap, sym, ◌∙◌, subst, arith, Option, None, inl, inr, nat_tests}
 use Rattle.pagable_tables.proofs.Words.{sum_by-cons, HandleNumber, LoadNumber, HandleRow, Owner, Blob, one, times, is_in, is_handle, is_owner, is_owned_by, is_pin, is_share, find_row, pins, Core}
 use Rattle.pagable_tables.proofs.Words.{HasRoom, MayOwnLoad, load_fault, named_fault, nobody, moved, without_load, numbers_of, hand_over_fault, Tables, Holdings, live, is_valued, with_tables}
-use Rattle.pagable_tables.proofs.Words.{is_plain_pin, SoFar, core_of, named_at, IsNamed, ◌≤◌, Some, ◌≢◌, Result, option_map, Error, updated, if_there, OpenLoad, Falls, is_owned_in, LoadRow, passes_in}
-use Rattle.pagable_tables.proofs.Words.{load_in, ◌+◌, Ok, TakeCall, is_workers_load, with_worker, left_load, NodeNumber, Giving, gives_row, AreLater, InReach, Reach, reach_at, worker_at, is_some}
-use Rattle.pagable_tables.proofs.{Words.{plain_of, cases_Bool, ◌||◌, load_at, refused_if}, Begun.{begins, begun}, Handed.{seen-all, in-there}, Regiven.owned, keeps.Comes.not-list}
-use Rattle.pagable_tables.proofs.{keeps.EndCalls.{both-none, handed-mine, handed-unlisted, asker-owns}, keeps.LoadCalls.may-hold, keeps.HandleCalls.moved-to-holder, keeps.Rows.found-among}
+use Rattle.pagable_tables.proofs.Words.{is_plain_pin, SoFar, core_of, Among, AllPairs, IsHandleBefore, Handles, Becomes, IsFalling, owns_nothing, Fits, counts_at, refs_at, is_at, sum_by, ◌≤◌, Some}
+use Rattle.pagable_tables.proofs.Words.{◌≢◌, Result, option_map, Error, updated, if_there, OpenLoad, Falls, is_owned_in, LoadRow, passes_in, load_in, ◌+◌, Ok, TakeCall, is_workers_load, with_worker}
+use Rattle.pagable_tables.proofs.Words.{left_load, NodeNumber, Giving, gives_row, AreLater, InReach, Reach, reach_at, worker_at, is_some, plain_of, cases_Bool, ◌||◌, load_at, refused_if}
+use Rattle.pagable_tables.proofs.{Begun.{begins, begun}, Coming.{owned-by-none, rows-told}, Fitting.is_owned, Regiven.owned}
+use Rattle.pagable_tables.proofs.keeps.{Comes.not-list, EndCalls.{both-none, handed-mine, handed-unlisted, asker-owns}, HandleCalls.moved-to-holder, LoadCalls.may-hold, Rows.{found-among, once, sum-map}}
 use Rattle.pagable_tables.{proofs.{Bits.{and-left, there-is}, Opened.owner-self}, specs.{Core.IsWhole, Giving.TakesWorker}}
 use Rattle.pagable_world.specs.Workers.{is_load_of}
 use Rattle.pagable_model.specs.declared.numbers.WorkerNumber.{WorkerNumber}
@@ -31,16 +32,14 @@ abbrev pub moved-less : Core → LoadNumber → (ℕ → Bool) → Owner → Cor
 moved-less w l s o = record (without_load w l) { rows = moved s o w.rows }
 
 -- nothing has gone of it
-pub begun-moved : (t : Tables) (h : Holdings) (l : LoadNumber) (s : ℕ → Bool) (o : Owner) (stored : ℕ → Option Blob) (closed lists : Bool) (failures : ℕ) → IsWhole t → lists ≡ not closed
-    → h ≡ record t.holdings { handles = h.handles } → live h.handles.places.items ≡ moved s o (live t.holdings.handles.places.items) → HasRoom (core_of t stored closed failures).places (with_tables (core_of t stored closed failures) h).places
+pub begun-moved : (t : Tables) (h : Handles) (l : LoadNumber) (s : ℕ → Bool) (o : Owner) (stored : ℕ → Option Blob) (closed lists : Bool) (failures : ℕ) → IsWhole t → lists ≡ not closed → Becomes t.holdings.handles (moved s o (live t.holdings.handles.places.items)) h
     → ((q : ℕ) → times (λ (h : HandleNumber). h.0 == q) t.holdings.list.items ≡ times (λ h. is_handle q h && is_owned_by Owner.List h) (moved s o (live t.holdings.handles.places.items)))
-    → SoFar (core_of t stored closed failures) (moved-less (core_of t stored closed failures) l s o) nobody lists (record h { unlisted = None })
-begun-moved t h l s o stored closed lists failures whole e same rows room listed =
+    → SoFar (core_of t stored closed failures) (moved-less (core_of t stored closed failures) l s o) nobody lists (record t.holdings { handles = h; unlisted = None })
+begun-moved t h l s o stored closed lists failures whole e is listed =
     let w = core_of t stored closed failures in
     let u = moved-less w l s o in
     let b = begins t stored closed lists failures whole e in
-    subst (λ (k : Holdings). SoFar w u nobody lists (record k { unlisted = None })) (sym same)
-    (begun w u lists (record t.holdings { handles = h.handles; unlisted = None })
+    begun w u lists (record t.holdings { handles = h; unlisted = None })
     (record {
       open_storage = b.open_storage;
       fewer = λ n. let a = b.fewer n in let m = moved-times (is_pin n) s o w.rows (λ x. refl) in omega arith;
@@ -48,8 +47,28 @@ begun-moved t h l s o stored closed lists failures whole e same rows room listed
       uniform = λ n. elim (b.uniform n) [ inl none ↦ inl none | inr none ↦ inr (moved-times (is_plain_pin n) s o w.rows (λ x. refl) ∙ none) ];
       listed = λ q. let a = listed q in omega arith;
     })
-    rows refl refl whole.core.handles.within.0 (record { handles = room.handles; entries = omega arith }) (λ n. refl) refl
-    (λ n must. let a = must.pinned in let z = must.unpinned in let r = ap (pins n) rows in let m = moved-times (is_pin n) s o w.rows (λ x. refl) in absurd (omega arith)))
+    is.rows refl refl whole.core.handles.within.0 (record { handles = let a = is.capacity in omega arith; entries = omega arith }) (λ n. refl) refl
+    (λ n must. let a = must.pinned in let z = must.unpinned in let r = ap (pins n) is.rows in let m = moved-times (is_pin n) s o w.rows (λ x. refl) in absurd (omega arith))
+
+same-owned : (s : Bool) (o : Owner) (x : HandleRow) (n q : ℕ) → is_valued o ≡ false → (s ≡ true → is_valued x.owner ≡ false) → is_owned n q (if s then record x { owner = o } else x) ≡ is_owned n q x
+same-owned true o x n q plain free = owned-by-none n q (record x { owner = o }) plain ∙ sym (owned-by-none n q x (free refl))
+same-owned false o x n q plain free = refl
+
+-- handles move, and none that is a value's
+pub moved-stands : (t : Holdings) (h : Handles) (s : ℕ → Bool) (o : Owner) → IsFalling t [] owns_nothing → is_valued o ≡ false → ((x : HandleRow) → Among (live t.handles.places.items) x → s x.number.0 ≡ true → is_valued x.owner ≡ false)
+    → Becomes t.handles (moved s o (live t.handles.places.items)) h → IsFalling (record t { handles = h }) [] owns_nothing
+moved-stands t h s o w plain free is =
+    let rows = live t.handles.places.items in
+    let fits : Fits (counts_at t.nodes) (refs_at t.nodes) (moved s o rows) t.top [] owns_nothing = record {
+      pinned = λ n. w.fits.pinned n ∙ sym (moved-times (is_pin n) s o rows (λ x. refl));
+      holding = λ n. w.fits.holding n ∙ sym (moved-times (is_at n) s o rows (λ x. refl));
+      owned = λ n q. w.fits.owned n q ∙ sym (sum-map (is_owned n q) (is_owned n q) (λ x. if s x.number.0 then record x { owner = o } else x) rows (λ x among. same-owned (s x.number.0) o x n q plain (free x among)));
+      chain = w.fits.chain;
+      marked = w.fits.marked;
+      right = w.fits.right;
+      from_one = w.fits.from_one;
+    } in
+    record { sound = is.sound; next = is.next (t.last_handle + 1) w.next; fits = rows-told (counts_at t.nodes) (refs_at t.nodes) (moved s o rows) (live h.places.items) t.top is.rows fits }
 
 -- what is true where a load may hand over
 pub record MayHand (w : Core) (me : Owner) (l : LoadNumber) (hs : List HandleNumber) : Type 0 where
@@ -60,11 +79,13 @@ pub record MayHand (w : Core) (me : Owner) (l : LoadNumber) (hs : List HandleNum
 pub may-hand : {w : Core} → pager.IsWhole w → (me : Owner) (l : LoadNumber) (hs : List HandleNumber) → hand_over_fault w me l hs ≡ None → MayHand w me l hs
 may-hand {w} whole me l hs good = grind (arith, nat_tests, both-none, asker-owns)
 
-pub named-there : (w : Core) (l : LoadNumber) (hs : List HandleNumber) → named_fault w (Owner.Load l) [] hs ≡ None → (place : ℕ) → place < length hs → IsNamed w.rows (named_at hs place)
-named-there w l hs good place lt =
-    let q = named_at hs place in
-    let m = handed-mine w (Owner.Load l) [] hs good q (sym (seen-all hs q) ∙ in-there hs (length hs) place q lt refl) in
-    record { row = m.row; found = m.live; plain = ap is_valued m.own }
+-- what is handed over isn't a value's
+pub handed-free : (w : Core) → AllPairs IsHandleBefore w.rows → (l : LoadNumber) (hs : List HandleNumber) → named_fault w (Owner.Load l) [] hs ≡ None → (x : HandleRow) → Among w.rows x
+    → is_in (numbers_of hs) x.number.0 ≡ true → is_valued x.owner ≡ false
+handed-free w ordered l hs good x among named =
+    let m = handed-mine w (Owner.Load l) [] hs good x.number.0 named in
+    let a = found-among x.number.0 w.rows m.row m.live in
+    ap (λ (r : HandleRow). is_valued r.owner) (once w.rows ordered x m.row among a.0 (sym a.1)) ∙ ap is_valued m.own
 
 -- who may use a load began it
 pub yours : (found : Option LoadRow) (me : Owner) (row : LoadRow) → found ≡ Some row → if_there (λ (load : OpenLoad). refused_if (not (is_owner me load.owner)) Error.NotYours) (Some Error.NoSuchHandle) (option_map load_in found) ≡ None → is_owner me row.owner ≡ true
@@ -122,12 +143,9 @@ in-reach t whole later v q is = let (row, e, passes) = there-is (gives_row w (Gi
     of-load (Owner.Load l) own of = lent l (load_at t.loads l.0) refl own of
     of-load _ own of = absurd (cc)
 
--- loads and workers are told anew
+-- loads are told anew
 pub loads-anew : (before u w' : Core) (given : ℕ → Bool) (r : Result (Unit {0}) Error) (loads : ℕ → Option OpenLoad) → ((q : ℕ) → w'.loads q ≡ loads q) → Falls before u given r w' → Falls before u given r (record w' { loads = loads })
 loads-anew before u w' given r loads same falls = subst (λ l. Falls before u given r (record w' { loads = l })) (λ i q. same q i) falls
-
-pub workers-anew : (before u w' : Core) (given : ℕ → Bool) (r : Result (Unit {0}) Error) (workers : ℕ → Bool) → ((v : ℕ) → w'.workers v ≡ workers v) → Falls before u given r w' → Falls before u given r (record w' { workers = workers })
-workers-anew before u w' given r workers same falls = subst (λ v. Falls before u given r (record w' { workers = v })) (λ i q. same q i) falls
 
 -- one more is at work, or one less
 pub one-more-works : (at at' : ℕ → Option Reach) (v : ℕ) (reach : Reach) → at' v ≡ Some reach → ((q : ℕ) → q ≢ v → at' q ≡ at q) → (q : ℕ) → is_some (at' q) ≡ updated v true (λ u. is_some (at u)) q

@@ -1,7 +1,8 @@
 -- Two worlds that are told alike.
 use Rattle.pagable_tables.proofs.Words.{ap, refl, [], ◌∷◌, ArcRef, or_else, reference_fault, references_fault}
 use Rattle.pagable_tables.proofs.Words.{true, ◌≡◌, ℕ, ◌&&◌, List, arith, Option, Some, None, if◌then◌else◌, not, Result, Error, HandleNumber, Owner, nat_tests, CloneCall}
-use Rattle.pagable_tables.proofs.Words.{Makes, is_pinned_kind, if_there, SameAt, pins, is_in_memory, is_owner, Core, Cell, SameCache, Alike, HasRoom, row_at, HandleRow}
+use Rattle.std.specs.Result.{IsErrAnd}
+use Rattle.pagable_tables.proofs.Words.{Ok, Err, Makes, is_pinned_kind, if_there, SameAt, pins, is_in_memory, is_owner, Core, Cell, SameCache, Alike, HasRoom, row_at, HandleRow}
 
 -- what an entry of the cache gives where its node is this cell
 abbrev pub use-of : List HandleRow → ℕ → ℕ → Option Cell → Option ℕ
@@ -26,6 +27,11 @@ alike w w' rows cells places same = grind (arith, nat_tests, same-cache)
 pub clones : (w : Core) (me : Owner) (h : HandleNumber) (row : HandleRow) (r : Result HandleNumber Error) (w' : Core) → row_at w h ≡ Some row → Makes w row.node row.mode me r w'
     → CloneCall w me h r w'
 clones w me h row r w' is m = grind (arith, nat_tests)
+
+-- what is answered where a call within was refused
+pub failed : {T E : Type 0} {e : E} (r : Result T E) → IsErrAnd r (λ y. y ≡ e) → r ≡ Err e
+failed (Err e) is = ap (λ y. Err y) is
+failed (Ok x) is = absurd is
 
 -- who passes the test is the same owner
 pub owner-same : (a b : Owner) → is_owner a b ≡ true → b ≡ a

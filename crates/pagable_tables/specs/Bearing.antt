@@ -3,8 +3,7 @@ use Rattle.std.specs.Prelude.{ℕ, ◌≡◌, ◌<◌, List}
 use Rattle.indexmap.specs.IndexMap.{spare}
 use Rattle.pagable_model.specs.{declared.numbers.ArcRef.ArcRef, declared.numbers.HandleNumber.HandleNumber}
 use Rattle.pagable_world.specs.{declared.handles.Owner.Owner, declared.rows.Mode.Mode, World.{Core, Alike, HasRoom, greatest}, Calls.{IsNext, with_handle, with_node, next_node}}
-use Rattle.pagable_tables.specs.{declared.rows.Counts.Counts, declared.tables.Tables.Tables, Falling.key_in, Live.room}
-use Rattle.pagable_model.specs.declared.data_key.OptionalDataKey.TheVariants as optional
+use Rattle.pagable_tables.specs.{declared.tables.Tables.Tables, Falling.key_in, Live.room}
 
 -- numbers are left for a node and a handle, and there is room for both
 pub record IsReady (t : Tables) : Type 0 where
@@ -18,12 +17,7 @@ pub record OnlyRoom (w w' : Core) : Type 0 where
   pub same : w' ≡ record w { places = w'.places }
   pub more : HasRoom w.places w'.places
 
--- A new node with these counts, whose value has these references, which are known to be right, and one handle of it.
-pub record Bears (w : Core) (me : Owner) (c : Counts) (references : List ArcRef) (mode : Mode) (k : HandleNumber) (w' : Core) : Type 0 where
+-- A new node of this type with this key, 0 for none, whose value has these references, which are known to be right, and one handle of it.
+pub record Bears (w : Core) (me : Owner) (node_type key : ℕ) (references : List ArcRef) (mode : Mode) (k : HandleNumber) (w' : Core) : Type 0 where
   pub next : IsNext k w
-  pub leaves : Alike (with_handle (with_node w c.node_type (key_in c.key) references) (next_node w) mode me) w'
-
--- the same, of a value that is handed in, with no key
-pub record BearsValue (w : Core) (me : Owner) (node_type : ℕ) (references : List ArcRef) (mode : Mode) (k : HandleNumber) (w' : Core) : Type 0 where
-  pub next : IsNext k w
-  pub leaves : Alike (with_handle (with_node w node_type optional.None references) (next_node w) mode me) w'
+  pub leaves : Alike (with_handle (with_node w node_type (key_in key) references) (next_node w) mode me) w'

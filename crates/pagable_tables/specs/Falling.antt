@@ -2,7 +2,7 @@
 use Rattle.std.specs.Prelude.{ℕ, zero, suc, ◌≡◌, ◌+◌, ◌*◌, ◌-◌, ◌<◌, ◌≤◌, ◌≢◌, ◌==◌, ◌&&◌, ◌||◌, ◌⊎◌, ◌++◌, Bool, true, false, not, if◌then◌else◌, List, [], ◌∷◌, length, sum_by, Option, Some, None, is_some, nat_lt, Result, Ok, Err, IfErr, IfSome, vec_capacity}
 use Rattle.pagable_model.specs.{declared.data_key.OptionalDataKey.OptionalDataKey, declared.error.Error.Error, declared.numbers.ArcRef.ArcRef, declared.numbers.NodeNumber.NodeNumber}
 use Rattle.pagable_world.specs.{declared.handles.HandleRow.HandleRow, declared.rows.Mode.Mode, declared.handles.Owner.Owner, Plain.one, Plain.times, Kinds.held, Kinds.pins}
-use Rattle.pagable_world.specs.{Kinds.{is_handle, is_owned_by, owner_value}, World.{greatest, Cell}, Calls.row_of, Cascade.{left_rows, only_handle}, Plain.changed}
+use Rattle.pagable_world.specs.{Kinds.{is_handle, is_owned_by, owner_value}, World.{greatest, Cell}, Calls.row_of, Cascade.{left_rows, only_handle}, Plain.{changed, SameAt, updated, if_there}}
 use Rattle.pagable_tables.specs.{declared.rows.Counts.Counts, declared.handles.Handles.Handles, declared.holdings.Holdings.Holdings, Live.{live, AreSound, IsNext}, ByNumber.{counts_at, refs_at}, Becoming.Becomes}
 use Rattle.pagable_model.specs.declared.data_key.OptionalDataKey.TheVariants as optional
 use Rattle.pagable_model.specs.declared.error.Error.TheVariants as errors
@@ -263,3 +263,11 @@ pub record Sheds {X : Type 0} (at : ℕ → Option Counts) (old : ℕ → Option
 abbrev pub is_node : Option NodeNumber → ℕ → Bool
 is_node None n = false
 is_node (Some m) n = n == m.0
+
+-- The counts of a node that gets a key: it falls if nothing pins it.
+abbrev pub keyed : Counts → ℕ → ℕ → Counts
+keyed c key top = record c { key = key; is_falling = c.pins == 0; next = if c.pins == 0 then top else c.next }
+
+-- the cells, with this key at one
+abbrev pub GetsKey : (ℕ → Option Counts) → (ℕ → Option Counts) → ℕ → ℕ → Type 0
+GetsKey old new n key = SameAt (updated n (if_there (λ (cell : Cell). Some (record cell { key = optional.Some key })) None (cell_in (old n))) (λ m. cell_in (old m))) (λ m. cell_in (new m))

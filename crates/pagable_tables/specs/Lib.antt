@@ -4,13 +4,10 @@ pub mod Falling
 pub mod Onward
 pub mod Core
 pub mod Owning
-pub mod Lowering
 pub mod Later
 pub mod Asking
-pub mod Offering
 pub mod Bearing
 pub mod Ready
 pub mod Giving
 pub mod Doing
 pub mod Becoming
-pub mod Joining

@@ -1,9 +1,9 @@
 -- Handles that come to another owner, one after the other where they are named, or are pinned.
-use Rattle.std.specs.Prelude.{[], Result, IfOk, IfErr, ℕ, zero, suc, ◌≡◌, false, Some, List, ◌∷◌, get_or}
+use Rattle.std.specs.Prelude.{[], Result, IfOk, IfErr, ℕ, zero, suc, List, ◌∷◌, get_or}
 use Rattle.pagable_model.specs.{declared.error.Error.Error, declared.numbers.HandleNumber.HandleNumber}
 use Rattle.pagable_world.specs.{World.{Core, Alike}, Calls.{with_handle, with_mode, IsNext}, Refusals.{spent, Refused, AreHandlesFull}, declared.handles.HandleRow.HandleRow}
-use Rattle.pagable_world.specs.{declared.handles.Owner.Owner, Kinds.find_row}
-use Rattle.pagable_tables.specs.{declared.handles.Handles.Handles, declared.holdings.Holdings.Holdings, Falling.{IsFalling, owns_nothing, is_valued}}
+use Rattle.pagable_world.specs.declared.handles.Owner.{Owner}
+use Rattle.pagable_tables.specs.{declared.handles.Handles.Handles, declared.holdings.Holdings.Holdings, Falling.{IsFalling, owns_nothing}}
 use Rattle.pagable_world.specs.declared.rows.Mode.TheVariants as modes
 
 -- nothing falls in the holdings with these handles
@@ -23,9 +23,3 @@ named_at hs place = (get_or hs place (record { 0 = 0 })).0
 unfoldable pub seen : List HandleNumber → ℕ → List ℕ
 seen hs zero = []
 seen hs (suc place) = named_at hs place ∷ seen hs place
-
--- the handle of this number is there, and no value owns it
-pub record IsNamed (rows : List HandleRow) (q : ℕ) : Type 0 where
-  pub row : HandleRow
-  pub found : find_row q rows ≡ Some row
-  pub plain : is_valued row.owner ≡ false

@@ -2,16 +2,11 @@
 use Rattle.std.specs.Prelude.{ℕ, ◌≡◌, ◌≤◌, ◌<◌, ◌==◌, Bool, true, not, if◌then◌else◌, List, Option, Some, is_some}
 use Rattle.pagable_model.specs.{declared.error.Error.Error, declared.numbers.ArcRef.ArcRef, declared.numbers.HandleNumber.HandleNumber, declared.numbers.LoadNumber.LoadNumber}
 use Rattle.pagable_model.specs.{declared.numbers.NodeNumber.NodeNumber}
-use Rattle.pagable_world.specs.{declared.handles.Owner.Owner, Kinds.is_loose, Kinds.any_mode, World.Core, World.HasRoom, World.greatest, World.is_here, Refusals.Owns, Refusals.Refused}
+use Rattle.pagable_world.specs.{declared.handles.Owner.Owner, Kinds.is_loose, Kinds.any_mode, World.Core, World.greatest, World.is_here, Refusals.Owns, Refusals.Refused}
 use Rattle.pagable_world.specs.{Refusals.load_fault, Refusals.handle_fault, LoadCalls.MayEnd, LoadCalls.end_fault}
 use Rattle.pagable_tables.specs.{declared.installing.Ending.Ending, declared.installing.Unended.Unended, declared.rows.Counts.Counts, declared.tables.Tables.Tables, ByNumber.load_at}
 use Rattle.pagable_tables.specs.{Live.room, Falling.has_value, Falling.AreLeft}
 use Rattle.pagable_tables.specs.declared.installing.Unended.TheVariants as unended
-
--- the same world, with no fewer places
-pub record IsWider (w w' : Core) : Type 0 where
-  pub same : w' ≡ record w { places = w'.places }
-  pub more : HasRoom w.places w'.places
 
 -- The load may end with a value of this type and these references, and the handle by which it was begun can be pinned.
 pub record IsReady (w : Core) (me : Owner) (l : LoadNumber) (node_type : ℕ) (references : List ArcRef) (e : Ending) : Type 0 where

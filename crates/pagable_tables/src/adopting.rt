@@ -1,14 +1,14 @@
 //! What a load reads becomes nodes.
 
 ghost use Rattle.std.specs.Prelude.{nat_eq, ◌≡◌, ℕ, ◌⊎◌, ◌<◌, ◌≤◌, length, [], Bool, Option, IfOk, IfErr, IfSome, IfNone, OnOk, Some, None, not, true, false};
-ghost use Rattle.pagable_world.specs.{Plain.{Blob, is_loose_kind}, Kinds.{is_pinning, mode_of}, Cascade.{FallsAnyhow, nobody}, World.{Core, Alike, usable}, Refusals.{load_fault, references_fault}};
+ghost use Rattle.pagable_world.specs.{Plain.{Blob, is_loose_kind}, Kinds.{is_pinning, is_shared, mode_of}, Cascade.{FallsAnyhow, nobody}, World.{Core, Alike, usable}, Refusals.{load_fault, references_fault}};
 ghost use Rattle.pagable_world.specs.{Refusals.Refused, Calls.{IsNext, is_named_by, birth_fault}, LoadCalls.{adopt_fault, adopted, first_key, is_owned_in, Adopts, LazyCall}};
 ghost use Rattle.pagable_tables.specs.{Live.live, Onward.{with_tables, SoFar}, Falling.{has_value, IsFalling, owns_nothing, key_in, Sheds}, Bearing.{IsReady, OnlyRoom}, ByNumber.counts_at};
 ghost use Rattle.pagable_tables.specs.{Core.{core_of, plain_of, IsWhole, MayHold}, Later.AreLater, Asking.early_fault, Doing.Does};
 ghost use Rattle.indexmap.specs.IndexMap.{get, spare};
 ghost use Rattle.pagable_world.specs.declared.handles.Owner.TheVariants as owners;
 
-use crate::births::{bear, first_counts, make_ready};
+use crate::births::{bear, make_ready};
 use crate::cascade::fall;
 use crate::ending::give_next;
 use crate::holdings::Holdings;
@@ -35,12 +35,8 @@ pub fn make_ready_to_learn(t: &mut Tables) -> Result<(), Error>
     ensures loads { t.new.loads ≡ t.old.loads }
     ensures workers { t.new.workers ≡ t.old.workers }
 {
-    if let Err(e) = make_ready(t) {
-        return Err(e);
-    }
-    let Ok(()) = cache::reserve(&mut t.cache) else {
-        return Err(Error::OutOfMemory);
-    };
+    make_ready(t)?;
+    cache::reserve(&mut t.cache)?;
     Ok(())
 }
 
@@ -59,16 +55,11 @@ fn learn_new(
     requires learns { 0 < spare t.old.cache }
     requires holder { MayHold (plain_of t.old) (owners.Load load) }
     requires fit { references_fault (plain_of t.old) (owners.Load load) [] references.items ≡ None }
-    requires bare { (own_key ≡ 0) ⊎ (references.items ≡ []) ⊎ (is_pinning (mode_of kind.0) ≡ true) }
-    ensures next { (stored : ℕ → Option Blob) (closed : Bool) (failures : ℕ) → IsNext result (core_of t.old stored closed failures) }
-    ensures adopted { (stored : ℕ → Option Blob) (closed : Bool) (failures : ℕ) → lists ≡ not closed → Alike (adopted (core_of t.old stored closed failures) load kind key (key_in own_key) references.items) (core_of t.new stored closed failures) }
-    ensures steady { IsFalling t.new.holdings [] owns_nothing }
-    ensures loads { t.new.loads ≡ t.old.loads }
-    ensures workers { t.new.workers ≡ t.old.workers }
+    requires bare { (own_key ≡ 0) ⊎ ((is_shared (mode_of kind.0) ≡ false) × ((references.items ≡ []) ⊎ (is_pinning (mode_of kind.0) ≡ true))) }
+    ensures { Does t.old (λ w w'. IsNext result w × (lists ≡ not w.closed → Alike (adopted w load kind key (key_in own_key) references.items) w')) t.new }
 {
-    let mode = mode_of(kind);
-    let counts = first_counts(kind.0 / 3, own_key, mode);
-    let handle = bear(t, Owner::Load(load), counts, references, mode);
+    let me = Owner::Load(load);
+    let handle = bear(t, me, kind.0 / 3, own_key, references, mode_of(kind));
     cache::learn_if(&mut t.cache, lists, kind, key, NodeNumber(t.last_node));
     handle
 }
@@ -88,20 +79,15 @@ pub fn load_lazy(
     requires later { AreLater t.old }
     ensures { Does t.old (λ w w'. lists ≡ not w.closed → LazyCall w me load kind key result w') t.new }
 {
-    let _row = match load_row(t, me, load) {
-        Ok(row) => row,
-        Err(e) => return Err(e),
-    };
+    let _row = load_row(t, me, load)?;
     if !is_loose_kind(kind) {
         return Err(Error::WrongKind);
     }
     if let Some(node) = usable_of(t, kind, key) {
         return make(t, node, mode_of(kind), Owner::Load(load));
     }
-    match make_ready_to_learn(t) {
-        Ok(()) => Ok(learn_new(t, load, kind, key, key.get(), Vec::new(alloc), lists)),
-        Err(e) => Err(e),
-    }
+    make_ready_to_learn(t)?;
+    Ok(learn_new(t, load, kind, key, key.get(), Vec::new(alloc), lists))
 }
 
 /// Why what a load has read can't become a node, apart from numbers and memory.
@@ -124,6 +110,7 @@ fn adopt_fault(
 }
 
 /// The handles that the references name are given up, with all that goes with them. The load owns them.
+#[tactic(auto, using(crate::proofs::Ended::shedding))]
 fn give_named<N: Drop>(
     t: &mut Holdings,
     values: &mut IndexMap<u64, Arc<N>>,
@@ -146,7 +133,7 @@ fn give_named<N: Drop>(
 /// The number of the key that a node of this kind has from the first, 0 for none: a cell's is the one that it was read under.
 fn first_key(kind: Kind, key: DataKey) -> u128
     ensures key { key_in result ≡ first_key kind.0 key }
-    ensures bare { (result ≡ 0) ⊎ (is_pinning (mode_of kind.0) ≡ true) }
+    ensures bare { (result ≡ 0) ⊎ ((is_shared (mode_of kind.0) ≡ false) × (is_pinning (mode_of kind.0) ≡ true)) }
 {
     if is_pinned_kind(kind) { key.get() } else { 0 }
 }
@@ -185,13 +172,9 @@ pub fn adopt_if_known<N: Drop>(
     let Some(node) = usable_of(t, kind, key) else {
         return Ok(None);
     };
-    match make(t, node, mode_of(kind), Owner::Load(load)) {
-        Ok(handle) => {
-            give_named(&mut t.holdings, values, load, references, lists);
-            Ok(Some(handle))
-        }
-        Err(e) => Err(e),
-    }
+    let handle = make(t, node, mode_of(kind), Owner::Load(load))?;
+    give_named(&mut t.holdings, values, load, references, lists);
+    Ok(Some(handle))
 }
 
 /// What a load has read becomes a new node with a handle of the load's, which the cache knows from now on. `adopt_if_known` found no cause against it and no node in

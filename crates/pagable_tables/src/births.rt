@@ -1,8 +1,8 @@
 //! Nodes that come.
 
 ghost use Rattle.std.specs.Prelude.{true, ◌≡◌, ℕ, ◌⊎◌, [], Bool, Option, None, false, IfErr, OnOk};
-ghost use Rattle.pagable_world.specs.{Plain.{Blob, one}, Kinds.is_pinning, Refusals.{earlier, references_fault, Refused}, Calls.{AwayBirthCall, birth_fault}};
-ghost use Rattle.pagable_tables.specs.{Falling.{IsFalling, owns_nothing}, Bearing.{Bears, BearsValue, IsReady, OnlyRoom}, Core.{core_of, plain_of, IsWhole, MayHold}, Doing.Does};
+ghost use Rattle.pagable_world.specs.{Plain.{Blob, one}, Kinds.{is_pinning, is_shared}, Refusals.{earlier, references_fault, Refused}, Calls.{AwayBirthCall, birth_fault}};
+ghost use Rattle.pagable_tables.specs.{Bearing.{Bears, IsReady, OnlyRoom}, Core.{core_of, plain_of, IsWhole, MayHold}, Doing.Does};
 
 use crate::holdings::pins;
 use crate::moving::hand_over_all;
@@ -16,7 +16,7 @@ use pagable_world::handles::{HandleRow, Owner};
 use std::alloc::Global;
 
 /// The counts of a new node, which one handle of this mode holds.
-pub fn first_counts(node_type: u32, key: u128, mode: Mode) -> Counts
+fn first_counts(node_type: u32, key: u128, mode: Mode) -> Counts
     ensures { result ≡ record { node_type = node_type; key = key; pins = one (is_pinning mode); holds = 1; is_falling = false; next = 0 } }
 {
     let pins = if pins(mode) { 1 } else { 0 };
@@ -41,12 +41,8 @@ pub fn make_ready(t: &mut Tables) -> Result<(), Error>
     if t.last_node == u64::MAX || t.holdings.last_handle == u64::MAX {
         return Err(Error::NumbersSpent);
     }
-    let Ok(()) = handles::reserve(&mut t.holdings.handles, 1) else {
-        return Err(Error::OutOfMemory);
-    };
-    let Ok(()) = nodes::reserve(&mut t.holdings.nodes) else {
-        return Err(Error::OutOfMemory);
-    };
+    handles::reserve(&mut t.holdings.handles, 1)?;
+    nodes::reserve(&mut t.holdings.nodes)?;
     Ok(())
 }
 
@@ -59,33 +55,29 @@ pub fn prepare(t: &mut Tables, me: Owner, references: &[ArcRef]) -> Result<(), E
     ensures does { Does t.old OnlyRoom t.new }
     ensures refused { (stored : ℕ → Option Blob) (closed : Bool) (failures : ℕ) → IfErr result (λ e. Refused (earlier (references_fault (core_of t.old stored closed failures) me [] references.now) (birth_fault (core_of t.old stored closed failures))) None (Unit {0}) (core_of t.old stored closed failures) e (core_of t.new stored closed failures)) }
 {
-    if let Err(e) = check_references(t, me, references) {
-        return Err(e);
-    }
-    match make_ready(t) {
-        Ok(()) => Ok(()),
-        Err(e) => Err(e),
-    }
+    check_references(t, me, references)?;
+    make_ready(t)?;
+    Ok(())
 }
 
-/// A new node with this key, 0 for none, whose value has these references, and one handle of it. All was made ready for it, so it isn't refused.
+/// A new node with this key, 0 for none, whose value has these references, whose handles move to it, and one handle of it. All was made ready for it, so it isn't refused.
 pub fn bear(
     t: &mut Tables,
     me: Owner,
-    counts: Counts,
+    node_type: u32,
+    key: u128,
     references: Vec<ArcRef>,
     mode: Mode,
 ) -> HandleNumber
     requires whole { IsWhole t.old }
     requires ready { IsReady t.old }
     requires holder { MayHold (plain_of t.old) me }
-    requires counts { counts ≡ record counts { pins = one (is_pinning mode); holds = 1; is_falling = false; next = 0 } }
     requires fit { references_fault (plain_of t.old) me [] references.items ≡ None }
-    requires bare { (counts.key ≡ 0) ⊎ (references.items ≡ []) ⊎ (is_pinning mode ≡ true) }
-    ensures born { (stored : ℕ → Option Blob) (closed : Bool) (failures : ℕ) → Bears (core_of t.old stored closed failures) me counts references.items mode result (core_of t.new stored closed failures) }
-    ensures steady { IsFalling t.new.holdings [] owns_nothing }
+    requires bare { (key ≡ 0) ⊎ ((is_shared mode ≡ false) × ((references.items ≡ []) ⊎ (is_pinning mode ≡ true))) }
+    ensures does { Does t.old (λ w w'. Bears w me node_type key references.items mode result w') t.new }
     ensures same { t.new ≡ record t.old { holdings = t.new.holdings; last_node = t.new.last_node } }
 {
+    let counts = first_counts(node_type, key, mode);
     let node = NodeNumber(t.last_node + 1);
     let number = HandleNumber(t.holdings.last_handle + 1);
     hand_over_all(&mut t.holdings.handles, &references, Owner::Value(node));
@@ -110,23 +102,6 @@ pub fn bear(
     number
 }
 
-/// A new node of a value with these references, whose handles move to it, and one handle of it. `prepare` made all ready for it, so it isn't refused.
-pub fn bear_value(
-    t: &mut Tables,
-    me: Owner,
-    node_type: u32,
-    references: Vec<ArcRef>,
-    mode: Mode,
-) -> HandleNumber
-    requires whole { IsWhole t.old }
-    requires ready { IsReady t.old }
-    requires holder { MayHold (plain_of t.old) me }
-    requires fit { references_fault (plain_of t.old) me [] references.items ≡ None }
-    ensures { Does t.old (λ w w'. BearsValue w me node_type references.items mode result w') t.new }
-{
-    bear(t, me, first_counts(node_type, 0, mode), references, mode)
-}
-
 /// A new cell that has a key and no value, with one unpinned handle. It is refused where a number is spent, or by memory.
 pub fn new_away(
     t: &mut Tables,
@@ -139,11 +114,7 @@ pub fn new_away(
     requires holder { MayHold (plain_of t.old) me }
     ensures { Does t.old (λ w w'. AwayBirthCall w me node_type key result w') t.new }
 {
-    match make_ready(t) {
-        Ok(()) => {
-            let counts = first_counts(node_type, key.get(), Mode::LooseUnpinned);
-            Ok(bear(t, me, counts, Vec::new(alloc), Mode::LooseUnpinned))
-        }
-        Err(e) => Err(e),
-    }
+    make_ready(t)?;
+    let mode = Mode::LooseUnpinned;
+    Ok(bear(t, me, node_type, key.get(), Vec::new(alloc), mode))
 }

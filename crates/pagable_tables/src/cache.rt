@@ -16,10 +16,7 @@ pub fn known_of(
 ) -> Option<NodeNumber>
     ensures { result ≡ known_at cache.now kind.0 key }
 {
-    match cache.get(&(kind.0, key)) {
-        Some(node) => Some(*node),
-        None => None,
-    }
+    cache.get(&(kind.0, key)).copied()
 }
 
 /// Room for one more entry.

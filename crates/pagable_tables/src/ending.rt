@@ -12,7 +12,7 @@ use crate::holdings::Holdings;
 use crate::loading::load_row;
 use crate::moving::{hand_each, named_fault};
 use crate::references::{cell_fault, earlier, load_fault};
-use crate::rows::{LoadRow, Reach};
+use crate::rows::Reach;
 use crate::tables::Tables;
 use crate::turning::is_owner;
 use crate::{handles, loads};
@@ -44,24 +44,6 @@ pub fn give_next<N: Drop>(
     shed(t, values, at, lists);
 }
 
-/// All that the load owns is given up, with all that goes with it. NumbersSpent or OutOfMemory where a cell that had to be listed isn't.
-pub fn give_up_load<N: Drop>(
-    t: &mut Holdings,
-    values: &mut IndexMap<u64, Arc<N>>,
-    loads: &IndexMap<u64, LoadRow>,
-    load: LoadNumber,
-    since: u64,
-    lists: bool,
-) -> Result<(), Error>
-    requires { IsFalling t.old [] owns_nothing }
-    ensures steady { IsFalling t.new [] owns_nothing }
-    ensures falls { (before w : Core) → SoFar before w nobody lists (record t.old { unlisted = None }) → length (live t.old.handles.places.items) ≤ length w.rows → ((q : ℕ) → is_owned_in w (owners.Load load) q ≡ true → (since < q) × (q ≤ t.old.last_handle)) → Falls before w (is_owned_in w (owners.Load load)) result (with_tables w t.new) }
-    ensures sheds { Sheds (counts_at t.old.nodes) (get nat_eq values.old) (counts_at t.new.nodes) (get nat_eq values.new) }
-{
-    let reach = Reach { since, beside: 0 };
-    give_all(t, values, loads, Giving::Load(load), reach, lists)
-}
-
 /// An open load is given up, with all that it owns. NoSuchHandle where none is open, NotYours where another began it. NumbersSpent or OutOfMemory where a cell that
 /// had to be listed isn't.
 pub fn load_drop<N: Drop>(
@@ -75,13 +57,12 @@ pub fn load_drop<N: Drop>(
     requires later { AreLater t.old }
     ensures { DoesShed lists t.old values.old (λ w w'. DropCall w me load result w') t.new values.new }
 {
-    let row = match load_row(t, me, load) {
-        Ok(row) => row,
-        Err(e) => return Err(e),
-    };
+    let row = load_row(t, me, load)?;
     loads::close(&mut t.loads, load.0);
-    let loads = &t.loads;
-    give_up_load(&mut t.holdings, values, loads, load, row.since, lists)
+    let since = row.since;
+    let giving = Giving::Load(load);
+    let reach = Reach { since, beside: 0 };
+    give_all(&mut t.holdings, values, &t.loads, giving, reach, lists)
 }
 
 /// Why a load of a key can't hand over the handles that are named, if it can't.
@@ -116,8 +97,10 @@ pub fn load_take<N: Drop>(
         unreachable!();
     };
     loads::close(&mut t.loads, load.0);
-    hand_each(&mut t.holdings, named, me);
-    let loads = &t.loads;
-    let _ = give_up_load(&mut t.holdings, values, loads, load, row.since, lists);
+    hand_each(&mut t.holdings.handles, named, me);
+    let since = row.since;
+    let giving = Giving::Load(load);
+    let reach = Reach { since, beside: 0 };
+    let _ = give_all(&mut t.holdings, values, &t.loads, giving, reach, lists);
     Ok(())
 }

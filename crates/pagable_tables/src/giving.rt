@@ -156,6 +156,7 @@ fn last_given(
 
 /// Handles are given up, from the last to the first, with all that goes with them: all of these, which are in this reach. NumbersSpent or OutOfMemory where a cell
 /// that had to be listed isn't.
+#[tactic(auto, using(crate::proofs::Ended::shedding))]
 pub fn give_all<N: Drop>(
     t: &mut Holdings,
     values: &mut IndexMap<u64, Arc<N>>,

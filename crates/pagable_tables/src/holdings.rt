@@ -34,10 +34,7 @@ pub struct Holdings {
 pub fn pins(mode: Mode) -> bool
     ensures { result ≡ is_pinning mode }
 {
-    match mode {
-        Mode::LoosePinned | Mode::Pinned | Mode::Shared => true,
-        Mode::LooseUnpinned => false,
-    }
+    !matches!(mode, Mode::LooseUnpinned)
 }
 
 /// A place for one more entry of the list. It is refused only where there is none.

@@ -4,16 +4,16 @@ ghost use Rattle.std.specs.Prelude.{◌≡◌, ◌≤◌, ◌<◌, ℕ, Bool, Op
 ghost use Rattle.{indexmap.specs.IndexMap.get, pagable_world.specs.Plain.{Blob, if_there}};
 ghost use Rattle.pagable_world.specs.{Kinds.is_loose, World.{Alike, OpenLoad, greatest}, Calls.{IsNext, with_handle, with_mode}, LoadCalls.{root_fault, end_fault, is_owned_in, Installs}};
 ghost use Rattle.{pagable_world.specs.Refusals.{where_so, spent, Owns}, pagable_tables.specs.{ByNumber.{counts_at, load_at}, Live.{room, AreSound}, Core.{core_of, plain_of, IsWhole, MayHold}}};
-ghost use Rattle.pagable_tables.specs.{Later.AreLater, Ready.{IsWider, IsReady, HasPlace, Unends, ShedsBeside}, Doing.Does, Joining.Joins};
+ghost use Rattle.pagable_tables.specs.{Later.AreLater, Bearing.OnlyRoom, Ready.{IsReady, HasPlace, Unends, ShedsBeside}, Doing.Does, Becoming.Joins};
 ghost use Rattle.pagable_world.specs.declared.rows.Mode.TheVariants as modes;
 
-use crate::ending::give_up_load;
+use crate::giving::{Giving, give_all};
 use crate::holdings::Holdings;
 use crate::lookups::is_here;
 use crate::moving::hand_over_all;
 use crate::pinning::pin_here;
 use crate::references::{earlier, load_fault, references_fault, refused_if};
-use crate::rows::{LoadRoot, LoadRow};
+use crate::rows::{LoadRoot, LoadRow, Reach};
 use crate::tables::Tables;
 use crate::turning::{is_owner, own};
 use crate::{handles, loads, nodes};
@@ -142,38 +142,14 @@ pub fn prepare_end(
     ensures place { IfOk result (λ e. HasPlace t.new load e) }
     ensures unended { IfErr result (λ u. (stored : ℕ → Option Blob) (closed : Bool) (failures : ℕ)
         → Unends (core_of t.old stored closed failures) me load node_type references.now u (core_of t.new stored closed failures)) }
-    ensures wider { (stored : ℕ → Option Blob) (closed : Bool) (failures : ℕ) → IsWider (core_of t.old stored closed failures) (core_of t.new stored closed failures) }
-    ensures whole { IsWhole t.new }
-    ensures later { AreLater t.old → AreLater t.new }
+    ensures does { Does t.old OnlyRoom t.new }
     ensures nodes { t.new.holdings.nodes ≡ t.old.holdings.nodes }
 {
-    let ending = match ending_of(t, me, load, node_type, references) {
-        Ok(ending) => ending,
-        Err(e) => return Err(e),
-    };
+    let ending = ending_of(t, me, load, node_type, references)?;
     let Ok(()) = handles::reserve(&mut t.holdings.handles, 1) else {
         return Err(Unended::Refused(Error::OutOfMemory));
     };
     Ok(ending)
-}
-
-/// A Pinned handle of this loose handle's node, for which there are room and a number; and the handle pins too from now on.
-fn pin_ready(t: &mut Tables, me: Owner, row: HandleRow) -> HandleNumber
-    requires whole { IsWhole t.old }
-    requires holder { MayHold (plain_of t.old) me }
-    requires owns { Owns (plain_of t.old) me row.number is_loose row }
-    requires left { t.old.holdings.last_handle < greatest }
-    requires place { 1 ≤ room t.old.holdings.handles }
-    ensures next { (stored : ℕ → Option Blob) (closed : Bool) (failures : ℕ) → IsNext result (core_of t.old stored closed failures) }
-    ensures pinned { (stored : ℕ → Option Blob) (closed : Bool) (failures : ℕ)
-        → Alike (with_handle (with_mode (core_of t.old stored closed failures) row.number modes.LoosePinned) row.node modes.Pinned me) (core_of t.new stored closed failures) }
-    ensures whole { IsWhole t.new }
-    ensures same { t.new ≡ record t.old { holdings = t.new.holdings } }
-{
-    match pin_here(t, me, row) {
-        Ok(handle) => handle,
-        Err(_) => unreachable!(),
-    }
 }
 
 /// What a value refers to comes to its node with its handles, if it is to. Else nothing changes.
@@ -207,12 +183,15 @@ pub fn install<N: Drop>(
     ensures does { Does t.old (λ w w'. lists ≡ not w.closed → Installs w me load ending.row.node ending.row.number result references.items w') t.new }
     ensures sheds { ShedsBeside ending.row.node (counts_at t.old.holdings.nodes) (get nat_eq values.old) (counts_at t.new.holdings.nodes) (get nat_eq values.new) }
 {
-    let handle = pin_ready(t, me, ending.row);
+    let Ok(handle) = pin_here(t, me, ending.row) else {
+        unreachable!();
+    };
     let node = ending.row.node;
     join(&mut t.holdings, node, references, ending.is_away);
     loads::close(&mut t.loads, load.0);
     let since = ending.load.since;
-    let loads = &t.loads;
-    let _ = give_up_load(&mut t.holdings, values, loads, load, since, lists);
+    let giving = Giving::Load(load);
+    let reach = Reach { since, beside: 0 };
+    let _ = give_all(&mut t.holdings, values, &t.loads, giving, reach, lists);
     handle
 }

@@ -2,7 +2,7 @@
 
 ghost use Rattle.std.specs.Prelude.{◌≡◌, ℕ, ◌<◌, ◌≤◌, [], List, length, IsSome};
 ghost use Rattle.pagable_world.specs.Calls.{SetKeyCall};
-ghost use Rattle.pagable_tables.specs.{Core.IsWhole, ByNumber.counts_at, Falling.{IsFalling, owns_nothing, ValueStays}, Lowering.{keyed, GetsKey}, Doing.DoesShed};
+ghost use Rattle.pagable_tables.specs.{Core.IsWhole, ByNumber.counts_at, Falling.{IsFalling, owns_nothing, ValueStays, keyed, GetsKey}, Doing.DoesShed};
 
 use crate::cascade::fall;
 use crate::holdings::{Holdings, top_after};
@@ -40,9 +40,7 @@ fn put_key(t: &mut Holdings, node: u64, key: u128)
     ensures values { (n : ℕ) → ValueStays (counts_at t.old.nodes n) (counts_at t.new.nodes n) }
     ensures falling { (stack : List ℕ) × IsFalling t.new stack owns_nothing × (length stack ≤ 1) }
 {
-    let Some(counts) = nodes::counts_of(&t.nodes, node) else {
-        unreachable!();
-    };
+    let counts = nodes::counts_of(&t.nodes, node).unwrap();
     let with_key = counts_keyed(counts, key, t.top);
     nodes::set_counts(&mut t.nodes, node, with_key);
     t.top = top_after(false, with_key.is_falling, node, t.top);
@@ -62,10 +60,7 @@ pub fn set_data_key<N: Drop>(
     requires whole { IsWhole t.old }
     ensures { DoesShed lists t.old values.old (λ w w'. SetKeyCall w me handle key result w') t.new values.new }
 {
-    let at = match own(t, me, handle) {
-        Ok(at) => at,
-        Err(e) => return Err(e),
-    };
+    let at = own(t, me, handle)?;
     if !is_loose(at.row.mode) {
         return Ok(());
     }

@@ -12,20 +12,14 @@ use pagable_world::Mode;
 pub fn is_loose(mode: Mode) -> bool
     ensures { result ≡ is_loose mode }
 {
-    match mode {
-        Mode::LoosePinned | Mode::LooseUnpinned => true,
-        Mode::Pinned | Mode::Shared => false,
-    }
+    matches!(mode, Mode::LoosePinned | Mode::LooseUnpinned)
 }
 
 /// Whether a handle of this mode is loose and pins nothing.
 pub fn is_unpinned(mode: Mode) -> bool
     ensures { result ≡ is_unpinned mode }
 {
-    match mode {
-        Mode::LooseUnpinned => true,
-        Mode::LoosePinned | Mode::Pinned | Mode::Shared => false,
-    }
+    matches!(mode, Mode::LooseUnpinned)
 }
 
 /// Whether a reference of this kind is a pin.

@@ -3,7 +3,7 @@
 ghost use Rattle.std.specs.{Prelude.{◌≡◌, ℕ, Bool, Option, Some, IfSome, IfNone, IfOk, IfErr, false}, Option.option_map};
 ghost use Rattle.pagable_model.specs.declared.numbers.NodeNumber.{NodeNumber};
 ghost use Rattle.pagable_world.specs.{Plain.{Blob, type_of}, Kinds.fits_mode, World.{usable, type_at}, Refusals.Owns, Calls.{RecallCall, offer_fault}};
-ghost use Rattle.pagable_tables.specs.{Offering.Offered, Core.{core_of, plain_of, IsWhole, MayHold}, Doing.Does};
+ghost use Rattle.pagable_tables.specs.{Asking.Offered, Core.{core_of, plain_of, IsWhole, MayHold}, Later.AreLater, Doing.Does};
 
 use crate::kinds::{fits_mode, is_of, is_pinned_kind, mode_of};
 use crate::lookups::is_here;
@@ -19,9 +19,7 @@ pub fn usable_of(t: &Tables, kind: Kind, key: DataKey) -> Option<NodeNumber>
     requires { IsWhole t.now }
     ensures { (stored : ℕ → Option Blob) (closed : Bool) (failures : ℕ) → option_map (λ (n : NodeNumber). n.0) result ≡ usable (core_of t.now stored closed failures) kind.0 key }
 {
-    let Some(node) = cache::known_of(&t.cache, kind, key) else {
-        return None;
-    };
+    let node = cache::known_of(&t.cache, kind, key)?;
     let counts = nodes::counts_of(&t.holdings.nodes, node.0);
     if counts.is_none() || is_pinned_kind(kind) && !is_here(counts) {
         return None;
@@ -45,10 +43,7 @@ pub fn cache_get(
     let Some(node) = usable_of(t, kind, key) else {
         return Ok(None);
     };
-    match make(t, node, mode_of(kind), me) {
-        Ok(handle) => Ok(Some(handle)),
-        Err(e) => Err(e),
-    }
+    Ok(Some(make(t, node, mode_of(kind), me)?))
 }
 
 /// The row of an own handle that may stand under this kind.
@@ -58,10 +53,7 @@ pub fn offered(t: &Tables, me: Owner, kind: Kind, handle: HandleNumber) -> Resul
     ensures typed { IfOk result (λ row. type_at (plain_of t.now) row.node.0 ≡ Some (type_of kind.0)) }
     ensures fault { IfErr result (λ e. (stored : ℕ → Option Blob) (closed : Bool) (failures key : ℕ) → offer_fault (core_of t.now stored closed failures) me kind key handle ≡ Some e) }
 {
-    let at = match own(t, me, handle) {
-        Ok(at) => at,
-        Err(e) => return Err(e),
-    };
+    let at = own(t, me, handle)?;
     if !fits_mode(kind, at.row.mode) {
         return Err(Error::WrongMode);
     }
@@ -87,19 +79,12 @@ pub fn cache_put(
     ensures loads { t.new.loads ≡ t.old.loads }
     ensures workers { t.new.workers ≡ t.old.workers }
     ensures whole { IsWhole t.new }
+    ensures later { AreLater t.old → AreLater t.new }
 {
-    let row = match offered(t, me, kind, handle) {
-        Ok(row) => row,
-        Err(e) => return Err(e),
-    };
+    let row = offered(t, me, kind, handle)?;
     let Some(node) = usable_of(t, kind, key) else {
-        let Ok(()) = cache::learn(&mut t.cache, kind, key, row.node) else {
-            return Err(Error::OutOfMemory);
-        };
+        cache::learn(&mut t.cache, kind, key, row.node)?;
         return Ok(None);
     };
-    match make(t, node, mode_of(kind), me) {
-        Ok(known) => Ok(Some(known)),
-        Err(e) => Err(e),
-    }
+    Ok(Some(make(t, node, mode_of(kind), me)?))
 }

@@ -3,7 +3,6 @@
 #![tactic(auto)]
 
 pub mod adopting;
-pub mod begins;
 pub mod births;
 pub mod cache;
 pub mod cascade;
@@ -28,9 +27,7 @@ pub mod places;
 pub mod references;
 pub mod releases;
 pub mod rows;
-pub mod start;
 pub mod swapping;
 pub mod tables;
 pub mod turning;
-pub mod unpins;
 pub mod workers;

@@ -37,10 +37,7 @@ pub fn schedule_for_paging<N: Drop>(
     ensures sheds { Sheds (counts_at t.old.holdings.nodes) (get nat_eq values.old) (counts_at t.new.holdings.nodes) (get nat_eq values.new) }
     ensures later { AreLater t.old → AreLater t.new }
 {
-    let at = match own(t, me, handle) {
-        Ok(at) => at,
-        Err(e) => return Err(e),
-    };
+    let at = own(t, me, handle)?;
     if !is_unpinned(at.row.mode) {
         return Err(Error::WrongMode);
     }
@@ -48,9 +45,7 @@ pub fn schedule_for_paging<N: Drop>(
         let _ = give_back(&mut t.holdings, values, at, lists);
         return Ok(());
     }
-    let Ok(()) = make_place(&mut t.holdings.list) else {
-        return Err(Error::OutOfMemory);
-    };
+    make_place(&mut t.holdings.list)?;
     t.holdings.list.push(handle).unwrap();
     hand_over(&mut t.holdings.handles, at, Owner::List);
     Ok(())

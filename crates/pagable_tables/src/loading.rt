@@ -1,8 +1,8 @@
-//! Loads of cells that begin, and whose an open load is.
+//! Loads that begin, of a key or a cell, and whose an open load is.
 
 ghost use Rattle.std.specs.Prelude.{◌≡◌, ◌<◌, ℕ, Bool, Option, Some, [], IfOk, IfErr, IfNone, IfSome, slice_get, true, false};
 ghost use Rattle.pagable_world.specs.{Plain.Blob, Kinds.is_in_memory, World.greatest};
-ghost use Rattle.pagable_world.specs.{World.{of_cell, Alike}, Pager.MayOwnLoad, Refusals.{load_fault, OwnsLoad}, Calls.with_handle, LoadCalls.{BeginCall, IsNextLoad, with_load}};
+ghost use Rattle.pagable_world.specs.{World.{of_cell, Alike}, Pager.MayOwnLoad, Refusals.{load_fault, OwnsLoad}, Calls.with_handle, LoadCalls.{BeginCall, BeginKeyCall, IsNextLoad, with_load}};
 ghost use Rattle.pagable_tables.specs.{Live.alive, ByNumber.load_at, Falling.{key_in, IsFalling, owns_nothing}, Core.{core_of, plain_of, IsWhole, load_in}, Asking.AsksKnown, Later.AreLater};
 ghost use Rattle.pagable_tables.specs.Doing.{Does};
 ghost use Rattle.pagable_model.specs.declared.data_key.OptionalDataKey.TheVariants as optional;
@@ -76,9 +76,7 @@ fn open_cell(
         root: LoadRoot::Cell(at.row.node, node_type, at.row.number),
         since: t.holdings.last_handle,
     };
-    let Ok(()) = loads::open(&mut t.loads, load.0, row) else {
-        return Err(Error::OutOfMemory);
-    };
+    loads::open(&mut t.loads, load.0, row)?;
     match come(
         &mut t.holdings,
         at.row.node,
@@ -105,26 +103,19 @@ pub fn load_begin(t: &mut Tables, me: Owner, handle: HandleNumber) -> Result<Beg
     requires owner { MayOwnLoad (plain_of t.old) me }
     ensures { Does t.old (λ w w'. BeginCall w me handle result w') t.new }
 {
-    let at = match own(t, me, handle) {
-        Ok(at) => at,
-        Err(e) => return Err(e),
-    };
+    let at = own(t, me, handle)?;
     if !is_loose(at.row.mode) {
         return Err(Error::WrongMode);
     }
-    let Some(counts) = nodes::counts_of(&t.holdings.nodes, at.row.node.0) else {
-        unreachable!();
-    };
+    let counts = nodes::counts_of(&t.holdings.nodes, at.row.node.0).unwrap();
     let Some(key) = key_away(counts) else {
         return Ok(Beginning::InMemory);
     };
     if t.last_load == u64::MAX || t.holdings.last_handle == u64::MAX {
         return Err(Error::NumbersSpent);
     }
-    match open_cell(t, me, at, counts.node_type, key) {
-        Ok(load) => Ok(Beginning::Load(load, key)),
-        Err(e) => Err(e),
-    }
+    let load = open_cell(t, me, at, counts.node_type, key)?;
+    Ok(Beginning::Load(load, key))
 }
 
 /// A handle of the load's, of the node that the cache gives for a kind and a key; or None where it gives none, and what stands under the key has to be read. It is
@@ -141,9 +132,28 @@ pub fn load_known(
     ensures does { Does t.old (λ w w'. AsksKnown w me load kind key result w') t.new }
     ensures none { IfOk result (λ found. IfNone found (t.new ≡ t.old)) }
 {
-    let _row = match load_row(t, me, load) {
-        Ok(row) => row,
-        Err(e) => return Err(e),
-    };
+    let _row = load_row(t, me, load)?;
     cache_get(t, Owner::Load(load), kind, key)
+}
+
+/// A load of a key.
+pub fn load_key(t: &mut Tables, me: Owner, key: DataKey) -> Result<Beginning, Error>
+    requires whole { IsWhole t.old }
+    requires later { AreLater t.old }
+    requires owner { MayOwnLoad (plain_of t.old) me }
+    ensures { Does t.old (λ w w'. BeginKeyCall w me key result w') t.new }
+{
+    if t.last_load == u64::MAX {
+        return Err(Error::NumbersSpent);
+    }
+    let load = t.last_load + 1;
+    let row = LoadRow {
+        owner: me,
+        key,
+        root: LoadRoot::Key,
+        since: t.holdings.last_handle,
+    };
+    loads::open(&mut t.loads, load, row)?;
+    t.last_load = load;
+    Ok(Beginning::Load(LoadNumber(load), key))
 }

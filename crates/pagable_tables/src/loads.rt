@@ -12,10 +12,7 @@ use std::alloc::AllocError;
 pub fn load_of(loads: &IndexMap<u64, LoadRow>, load: u64) -> Option<LoadRow>
     ensures { result ≡ load_at loads.now load }
 {
-    match loads.get(&load) {
-        Some(row) => Some(*row),
-        None => None,
-    }
+    loads.get(&load).copied()
 }
 
 /// A row comes, under a number that is free.

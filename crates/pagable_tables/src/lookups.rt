@@ -14,33 +14,16 @@ use crate::{handles, kinds, nodes};
 use pagable_model::{DataKey, Error, HandleNumber, NodeNumber, OptionalDataKey};
 use pagable_world::handles::HandleRow;
 
-/// The key of this number, if it is one.
-fn key_of_number(number: u128) -> OptionalDataKey
-    ensures { result ≡ key_in number }
-{
-    match DataKey::new(number) {
-        Some(key) => OptionalDataKey::Some(key),
-        None => OptionalDataKey::None,
-    }
-}
-
 /// The key of a node of these counts.
 pub fn key_in(counts: Option<Counts>) -> OptionalDataKey
     ensures { result ≡ if_there (λ (cell : Cell). cell.key) optional.None (cell_in counts) }
 {
     match counts {
-        Some(c) => key_of_number(c.key),
+        Some(c) => match DataKey::new(c.key) {
+            Some(key) => OptionalDataKey::Some(key),
+            None => OptionalDataKey::None,
+        },
         None => OptionalDataKey::None,
-    }
-}
-
-/// How many handles pin a node of these counts.
-fn pins_in(counts: Option<Counts>) -> u64
-    ensures { result ≡ pins_in counts }
-{
-    match counts {
-        Some(c) => c.pins,
-        None => 0,
     }
 }
 
@@ -84,9 +67,12 @@ pub fn count(t: &Tables, handle: HandleNumber) -> Result<u64, Error>
     requires { IsWhole t.now }
     ensures { (stored : ℕ → Option Blob) (closed : Bool) (failures : ℕ) → CountCall (core_of t.now stored closed failures) handle result }
 {
-    match handles::look(&t.holdings.handles, handle) {
-        Some(at) => Ok(pins_in(nodes::counts_of(&t.holdings.nodes, at.row.node.0))),
-        None => Err(Error::NoSuchHandle),
+    let Some(at) = handles::look(&t.holdings.handles, handle) else {
+        return Err(Error::NoSuchHandle);
+    };
+    match nodes::counts_of(&t.holdings.nodes, at.row.node.0) {
+        Some(c) => Ok(c.pins),
+        None => Ok(0),
     }
 }
 
@@ -127,10 +113,7 @@ pub fn is_loose(t: &Tables, handle: HandleNumber) -> Result<bool, Error>
 pub fn node_live(t: &Tables, node: NodeNumber) -> Option<u32>
     ensures { (stored : ℕ → Option Blob) (closed : Bool) (failures : ℕ) → TypeCall (core_of t.now stored closed failures) node result }
 {
-    match nodes::counts_of(&t.holdings.nodes, node.0) {
-        Some(counts) => Some(counts.node_type),
-        None => None,
-    }
+    Some(nodes::counts_of(&t.holdings.nodes, node.0)?.node_type)
 }
 
 /// The handle at this place of the list, with type and key of its cell. None past the end.
@@ -148,10 +131,8 @@ pub fn entry(t: &Tables, place: usize) -> Option<(HandleRow, u32, OptionalDataKe
     let Some(at) = handles::look(&t.holdings.handles, handle) else {
         unreachable!();
     };
-    let Some(counts) = nodes::counts_of(&t.holdings.nodes, at.row.node.0) else {
-        unreachable!();
-    };
-    Some((at.row, counts.node_type, key_of_number(counts.key)))
+    let counts = nodes::counts_of(&t.holdings.nodes, at.row.node.0);
+    Some((at.row, counts.unwrap().node_type, key_in(counts)))
 }
 
 /// The cells that wait for page-out, by the handles that the list owns.

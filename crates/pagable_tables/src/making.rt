@@ -22,7 +22,7 @@ pub fn places_taken(places: &[Place]) -> usize
 }
 
 /// The counts after one handle more.
-fn counts_more(counts: Counts, pinning: bool) -> Counts
+pub fn counts_more(counts: Counts, pinning: bool) -> Counts
     requires pins { counts.pins < 2 ^ 63 }
     requires holds { counts.holds < 2 ^ 63 }
     ensures { result ≡ record counts { pins = counts.pins + one pinning; holds = counts.holds + 1 } }
@@ -54,9 +54,7 @@ pub fn come(
     ensures values { (n : ℕ) → (n ≡ node.0 → has_value (counts_at t.old.nodes n) ≡ true) → ValueStays (counts_at t.old.nodes n) (counts_at t.new.nodes n) }
     ensures steady { IsFalling t.new [] owns_nothing }
 {
-    let Some(counts) = nodes::counts_of(&t.nodes, node.0) else {
-        unreachable!();
-    };
+    let counts = nodes::counts_of(&t.nodes, node.0).unwrap();
     if t.last_handle == u64::MAX {
         return Err(Error::NumbersSpent);
     }
@@ -68,9 +66,7 @@ pub fn come(
         mode,
         owner,
     };
-    let Ok(()) = handles::push(&mut t.handles, row) else {
-        return Err(Error::OutOfMemory);
-    };
+    handles::push(&mut t.handles, row)?;
     t.last_handle = number.0;
     let more = counts_more(counts, pins(mode));
     nodes::set_counts(&mut t.nodes, node.0, more);

@@ -1,9 +1,9 @@
 //! Handles that come to another owner, by references or by their numbers.
 
-ghost use Rattle.std.specs.Prelude.{◌≡◌, ℕ, slice_get, Some, vec_capacity, false, ◌<◌, ◌≤◌, ◌||◌, [], length, not};
+ghost use Rattle.std.specs.Prelude.{◌≡◌, ℕ, slice_get, Some, false, ◌<◌, ◌≤◌, ◌||◌, [], length, not};
 ghost use Rattle.pagable_world.specs.{Cascade.only_handle, Calls.{moved, is_named_by}, Plain.{is_in, if_there}, Kinds.{is_owner, find_row}, Refusals.{named_fault, refused_if}, LoadCalls.numbers_of};
 ghost use Rattle.pagable_world.specs.{declared.handles.HandleRow.HandleRow, World.Core};
-ghost use Rattle.pagable_tables.specs.{Falling.{is_valued, IsFalling, owns_nothing}, Owning.{StandsWith, seen, named_at, IsNamed}, Live.{live, alive, AreSound}, declared.holdings.Holdings.Holdings};
+ghost use Rattle.pagable_tables.specs.{Falling.is_valued, Owning.{StandsWith, seen, named_at}, Live.{live, alive, AreSound}, declared.holdings.Holdings.Holdings};
 ghost use Rattle.pagable_tables.specs.Becoming.{Becomes};
 ghost use Rattle.pagable_model.specs.declared.error.Error.TheVariants as errors;
 
@@ -32,9 +32,8 @@ fn hand_over_live(handles: &mut Handles, handle: HandleNumber, owner: Owner)
     requires { AreSound handles.old }
     ensures { Becomes handles.old (moved (only_handle handle) owner (live handles.old.places.items)) handles.new }
 {
-    match handles::look(handles, handle) {
-        Some(at) => hand_over(handles, at, owner),
-        None => {}
+    if let Some(at) = handles::look(handles, handle) {
+        hand_over(handles, at, owner);
     }
 }
 
@@ -94,21 +93,13 @@ pub fn named_fault(handles: &Handles, owner: Owner, named: &[HandleNumber]) -> O
     fault
 }
 
-/// The handles that are named come to another owner. Each is there, and none is a value's.
+/// The live handles of these numbers have this owner from now on.
 #[tactic(auto, using(crate::proofs::Handed::handing))]
-pub fn hand_each(t: &mut Holdings, named: &[HandleNumber], owner: Owner)
-    requires steady { IsFalling t.old [] owns_nothing }
-    requires plain { is_valued owner ≡ false }
-    requires there { (place : ℕ) → place < length named.now → IsNamed (live t.old.handles.places.items) (named_at named.now place) }
-    ensures rows { live t.new.handles.places.items ≡ moved (is_in (numbers_of named.now)) owner (live t.old.handles.places.items) }
-    ensures same { t.new ≡ record t.old { handles = t.new.handles } }
-    ensures capacity { vec_capacity t.new.handles.places ≡ vec_capacity t.old.handles.places }
-    ensures steady { IsFalling t.new [] owns_nothing }
+pub fn hand_each(handles: &mut Handles, named: &[HandleNumber], owner: Owner)
+    requires { AreSound handles.old }
+    ensures { Becomes handles.old (moved (is_in (numbers_of named.now)) owner (live handles.old.places.items)) handles.new }
 {
-    for place in 0..named.len() {
-        let Some(at) = handles::look(&t.handles, named[place]) else {
-            unreachable!();
-        };
-        hand_over(&mut t.handles, at, owner);
+    for handle in named {
+        hand_over_live(handles, *handle, owner);
     }
 }

@@ -13,10 +13,7 @@ use std::alloc::AllocError;
 pub fn counts_of(nodes: &IndexMap<u64, NodeRow>, node: u64) -> Option<Counts>
     ensures { result ≡ counts_at nodes.now node }
 {
-    match nodes.get(&node) {
-        Some(row) => Some(row.counts),
-        None => None,
-    }
+    Some(nodes.get(&node)?.counts)
 }
 
 /// Other counts for a node.
@@ -26,11 +23,8 @@ pub fn set_counts(nodes: &mut IndexMap<u64, NodeRow>, node: u64, counts: Counts)
     ensures others { (q : ℕ) → q ≢ node → counts_at nodes.new q ≡ counts_at nodes.old q }
     ensures refs { (q : ℕ) → refs_at nodes.new q ≡ refs_at nodes.old q }
 {
-    match nodes.get_mut(&node) {
-        Some(row) => {
-            row.counts = counts;
-        }
-        None => {}
+    if let Some(row) = nodes.get_mut(&node) {
+        row.counts = counts;
     }
 }
 
@@ -41,10 +35,7 @@ pub fn pop_reference(nodes: &mut IndexMap<u64, NodeRow>, node: u64) -> Option<Ar
     ensures here { refs_at nodes.old node ≡ refs_at nodes.new node ++ option_to_list result }
     ensures none { IfNone result (refs_at nodes.new node ≡ []) }
 {
-    match nodes.get_mut(&node) {
-        Some(row) => row.references.pop(),
-        None => None,
-    }
+    nodes.get_mut(&node)?.references.pop()
 }
 
 /// A node is gone.
@@ -88,10 +79,7 @@ pub fn set_references(nodes: &mut IndexMap<u64, NodeRow>, node: u64, references:
     ensures here { refs_at nodes.new node ≡ references.items }
     ensures others { (q : ℕ) → q ≢ node → refs_at nodes.new q ≡ refs_at nodes.old q }
 {
-    match nodes.get_mut(&node) {
-        Some(row) => {
-            row.references = references;
-        }
-        None => {}
+    if let Some(row) = nodes.get_mut(&node) {
+        row.references = references;
     }
 }

@@ -22,10 +22,7 @@ pub fn pin_here(t: &mut Tables, me: Owner, row: HandleRow) -> Result<HandleNumbe
     ensures does { Does t.old (λ w w'. PinsHere w me row result w') t.new }
     ensures same { t.new ≡ record t.old { holdings = t.new.holdings } }
 {
-    let handle = match make(t, row.node, Mode::Pinned, me) {
-        Ok(handle) => handle,
-        Err(e) => return Err(e),
-    };
+    let handle = make(t, row.node, Mode::Pinned, me)?;
     let Some(at) = handles::look(&t.holdings.handles, row.number) else {
         unreachable!();
     };
@@ -39,10 +36,7 @@ pub fn pin(t: &mut Tables, me: Owner, handle: HandleNumber) -> Result<Pinning, E
     requires holder { MayHold (plain_of t.old) me }
     ensures { Does t.old (λ w w'. PinCall w me handle result w') t.new }
 {
-    let at = match own(t, me, handle) {
-        Ok(at) => at,
-        Err(e) => return Err(e),
-    };
+    let at = own(t, me, handle)?;
     if !is_loose(at.row.mode) {
         return Err(Error::WrongMode);
     }
@@ -53,8 +47,5 @@ pub fn pin(t: &mut Tables, me: Owner, handle: HandleNumber) -> Result<Pinning, E
             OptionalDataKey::None => unreachable!(),
         }
     }
-    match pin_here(t, me, at.row) {
-        Ok(handle) => Ok(Pinning::Pinned(handle)),
-        Err(e) => Err(e),
-    }
+    Ok(Pinning::Pinned(pin_here(t, me, at.row)?))
 }

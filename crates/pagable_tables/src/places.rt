@@ -17,21 +17,13 @@ pub fn room(t: &Tables) -> usize
     handles::room_of(&t.holdings.handles).min(entries)
 }
 
-/// Room for so many more entries of the list, if it can be had.
-fn grow_list(list: &mut Vec<HandleNumber>, more: usize)
-    ensures items { list.new.items ≡ list.old.items }
-    ensures capacity { vec_capacity list.old ≤ vec_capacity list.new }
-{
-    let _ = list.reserve(more);
-}
-
 /// Room for so many more handles and entries, or as much as can be had.
 fn grow(t: &mut Tables, more: usize)
     requires { IsWhole t.old }
     ensures { Does t.old Alike t.new }
 {
     let _ = handles::reserve(&mut t.holdings.handles, more);
-    grow_list(&mut t.holdings.list, more);
+    let _ = t.holdings.list.reserve(more);
 }
 
 /// Makes places ready for so many more handles and entries, if it can.

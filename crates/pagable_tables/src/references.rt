@@ -57,13 +57,6 @@ fn row_fault(t: &Tables, row: HandleRow, reference: ArcRef, is_anothers: bool) -
     None
 }
 
-/// Whether a handle of this owner is another's, or was named before.
-fn is_anothers(me: Owner, owner: Owner, is_seen: bool) -> bool
-    ensures { result ≡ (not (is_owner me owner) || is_seen) }
-{
-    !is_owner(me, owner) || is_seen
-}
-
 /// Why a reference of a value is refused, where its handle was named before or wasn't.
 fn fault_of(t: &Tables, me: Owner, reference: ArcRef, is_seen: bool) -> Option<Error>
     requires { IsWhole t.now }
@@ -72,8 +65,7 @@ fn fault_of(t: &Tables, me: Owner, reference: ArcRef, is_seen: bool) -> Option<E
     let Some(at) = handles::look(&t.holdings.handles, reference.handle) else {
         return Some(Error::NoSuchHandle);
     };
-    let is_anothers = is_anothers(me, at.row.owner, is_seen);
-    row_fault(t, at.row, reference, is_anothers)
+    row_fault(t, at.row, reference, !is_owner(me, at.row.owner) | is_seen)
 }
 
 /// Why what a reference names can't be claimed for page-out, whoever owns its handle.
@@ -111,10 +103,7 @@ pub fn references_fault(t: &Tables, me: Owner, references: &[ArcRef]) -> Option<
     requires { IsWhole t.now }
     ensures { (stored : ℕ → Option Blob) (closed : Bool) (failures : ℕ) → result ≡ references_fault (core_of t.now stored closed failures) me [] references.now }
 {
-    match check_references(t, me, references) {
-        Ok(()) => None,
-        Err(e) => Some(e),
-    }
+    check_references(t, me, references).err()
 }
 
 /// The place of a refusal in the order: nothing has the number; it is another's; its mode doesn't fit; its type doesn't; no number is left; all others.
@@ -153,13 +142,7 @@ pub fn load_fault(row: Option<LoadRow>, me: Owner) -> Option<Error>
     ensures { result ≡ if_there (λ (load : OpenLoad). refused_if (not (is_owner me load.owner)) errors.NotYours) (Some errors.NoSuchHandle) (option_map load_in row) }
 {
     match row {
-        Some(row) => {
-            if is_owner(me, row.owner) {
-                None
-            } else {
-                Some(Error::NotYours)
-            }
-        }
+        Some(row) => refused_if(!is_owner(me, row.owner), Error::NotYours),
         None => Some(Error::NoSuchHandle),
     }
 }
@@ -168,12 +151,9 @@ pub fn load_fault(row: Option<LoadRow>, me: Owner) -> Option<Error>
 pub fn cell_fault(row: Option<LoadRow>) -> Option<Error>
     ensures { result ≡ if_there (λ (load : OpenLoad). cell_fault load.root) None (option_map load_in row) }
 {
-    match row {
-        Some(row) => match row.root {
-            LoadRoot::Cell(_, _, _) => Some(Error::WrongMode),
-            LoadRoot::Key => None,
-        },
-        None => None,
+    match row?.root {
+        LoadRoot::Cell(_, _, _) => Some(Error::WrongMode),
+        LoadRoot::Key => None,
     }
 }
 

@@ -1,18 +1,19 @@
-//! Handles that are given up.
+//! Handles that are given up, and loose ones that let their pins go.
 
 ghost use Rattle.std.specs.Prelude.{◌≡◌, ◌≤◌, [], length, None, false, slice_get, Some, nat_eq};
-ghost use Rattle.pagable_world.specs.{Kinds.is_owner, World.Core, Calls.ReleaseCall, Cascade.{Falls, nobody, only_handle}};
+ghost use Rattle.pagable_world.specs.{Kinds.is_owner, World.Core, Calls.{ReleaseCall, UnpinCall}, Cascade.{Falls, nobody, only_handle}};
 ghost use Rattle.pagable_tables.specs.{Live.{live, alive}, ByNumber.counts_at, Falling.{IsFalling, is_valued, owns_nothing, Sheds}, Onward.{with_tables, SoFar}, Core.IsWhole, Doing.DoesShed};
 ghost use Rattle.indexmap.specs.IndexMap.{get};
 ghost use Rattle.pagable_world.specs.declared.handles.Owner.TheVariants as owners;
 
 use crate::cascade::{fall, shed};
-use crate::holdings::Holdings;
+use crate::holdings::{Holdings, give_up};
 use crate::rows::HandleAt;
 use crate::tables::Tables;
 use crate::turning::own;
 use indexmap::IndexMap;
 use pagable_model::{Error, HandleNumber};
+use pagable_world::Mode;
 use pagable_world::handles::Owner;
 use std::sync::Arc;
 
@@ -51,9 +52,30 @@ pub fn release<N: Drop>(
     requires free { is_owner owners.List me ≡ false }
     ensures { DoesShed lists t.old values.old (λ w w'. ReleaseCall w me handle result w') t.new values.new }
 {
-    let at = match own(t, me, handle) {
-        Ok(at) => at,
-        Err(e) => return Err(e),
-    };
+    let at = own(t, me, handle)?;
     give_back(&mut t.holdings, values, at, lists)
+}
+
+/// An own loose handle lets its pin go, or has none. NumbersSpent or OutOfMemory where a cell that had to be listed isn't.
+pub fn unpin<N: Drop>(
+    t: &mut Tables,
+    values: &mut IndexMap<u64, Arc<N>>,
+    me: Owner,
+    handle: HandleNumber,
+    lists: bool,
+) -> Result<(), Error>
+    requires whole { IsWhole t.old }
+    requires plain { is_valued me ≡ false }
+    ensures { DoesShed lists t.old values.old (λ w w'. UnpinCall w me handle result w') t.new values.new }
+{
+    let at = own(t, me, handle)?;
+    match at.row.mode {
+        Mode::LooseUnpinned => Ok(()),
+        Mode::LoosePinned => {
+            t.holdings.unlisted = None;
+            give_up(&mut t.holdings, at, true, lists);
+            fall(&mut t.holdings, values, lists)
+        }
+        Mode::Pinned | Mode::Shared => Err(Error::WrongMode),
+    }
 }

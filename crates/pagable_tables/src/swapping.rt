@@ -54,17 +54,12 @@ pub fn offer<N: Drop>(
     ensures later { AreLater t.old → AreLater t.new }
 {
     if !lists {
-        return match offered(t, me, kind, handle) {
-            Ok(_) => Ok(Some(handle)),
-            Err(e) => Err(e),
-        };
+        offered(t, me, kind, handle)?;
+        return Ok(Some(handle));
     }
-    match cache_put(t, me, kind, key, handle) {
-        Ok(Some(known)) => {
-            give_number(&mut t.holdings, values, handle);
-            Ok(Some(known))
-        }
-        Ok(None) => Ok(None),
-        Err(e) => Err(e),
-    }
+    let Some(known) = cache_put(t, me, kind, key, handle)? else {
+        return Ok(None);
+    };
+    give_number(&mut t.holdings, values, handle);
+    Ok(Some(known))
 }

@@ -8,7 +8,7 @@ ghost use Rattle.pagable_world.specs.declared.rows.Mode.TheVariants as modes;
 ghost use Rattle.pagable_world.specs.declared.handles.Owner.TheVariants as owners;
 
 use crate::holdings::pins;
-use crate::making::places_taken;
+use crate::making::{counts_more, places_taken};
 use crate::rows::{Counts, HandleAt};
 use crate::tables::Tables;
 use crate::{handles, nodes};
@@ -34,10 +34,7 @@ pub fn is_owner(a: Owner, b: Owner) -> bool
 fn is_pinned(mode: Mode) -> bool
     ensures { result ≡ is_pinned mode }
 {
-    match mode {
-        Mode::Pinned => true,
-        Mode::LoosePinned | Mode::LooseUnpinned | Mode::Shared => false,
-    }
+    matches!(mode, Mode::Pinned)
 }
 
 /// The own handle of this number, with its place.
@@ -58,19 +55,6 @@ pub fn own(t: &Tables, me: Owner, handle: HandleNumber) -> Result<HandleAt, Erro
     Ok(at)
 }
 
-/// The counts after a pin more of a handle that was there.
-fn counts_pinned(counts: Counts, was_pinning: bool) -> Counts
-    requires pins { counts.pins < 2 ^ 63 + 1 }
-    ensures { result ≡ record counts { pins = counts.pins + one (not was_pinning) } }
-{
-    let pins = if was_pinning {
-        counts.pins
-    } else {
-        counts.pins + 1
-    };
-    Counts { pins, ..counts }
-}
-
 /// The handle at this place is loose and pins its node from now on.
 #[tactic(auto, using(crate::proofs::Coming::counting))]
 pub fn turn(t: &mut Tables, at: HandleAt)
@@ -81,16 +65,17 @@ pub fn turn(t: &mut Tables, at: HandleAt)
     ensures does { Does t.old (λ w w'. Alike (with_mode w at.row.number modes.LoosePinned) w') t.new }
     ensures same { t.new ≡ record t.old { holdings = t.new.holdings } }
 {
-    let Some(counts) = nodes::counts_of(&t.holdings.nodes, at.row.node.0) else {
-        unreachable!();
-    };
+    let counts = nodes::counts_of(&t.holdings.nodes, at.row.node.0).unwrap();
     places_taken(&t.holdings.handles.places);
     let row = HandleRow {
         mode: Mode::LoosePinned,
         ..at.row
     };
     handles::set(&mut t.holdings.handles, at, row);
-    let pinned = counts_pinned(counts, pins(at.row.mode));
+    let pinned = Counts {
+        holds: counts.holds,
+        ..counts_more(counts, !pins(at.row.mode))
+    };
     nodes::set_counts(&mut t.holdings.nodes, at.row.node.0, pinned);
 }
 
@@ -99,10 +84,7 @@ pub fn into_pagable(t: &mut Tables, me: Owner, handle: HandleNumber) -> Result<H
     requires { IsWhole t.old }
     ensures { Does t.old (λ w w'. LoosenCall w me handle result w') t.new }
 {
-    let at = match own(t, me, handle) {
-        Ok(at) => at,
-        Err(e) => return Err(e),
-    };
+    let at = own(t, me, handle)?;
     if !is_pinned(at.row.mode) {
         return Err(Error::WrongMode);
     }

@@ -33,9 +33,7 @@ pub fn worker_begin(t: &mut Tables) -> Result<WorkerNumber, Error>
         since: t.holdings.last_handle,
         beside: 0,
     };
-    let Ok(()) = loads::open(&mut t.workers, worker, reach) else {
-        return Err(Error::OutOfMemory);
-    };
+    loads::open(&mut t.workers, worker, reach)?;
     t.last_worker = worker;
     Ok(WorkerNumber(worker))
 }
@@ -46,10 +44,7 @@ pub fn worker_take(t: &mut Tables, place: usize) -> Result<WorkerNumber, Error>
     requires within { place < length t.old.holdings.list.items }
     ensures { Does t.old (λ w w'. TakesWorker w place result w') t.new }
 {
-    let worker = match worker_begin(t) {
-        Ok(worker) => worker,
-        Err(e) => return Err(e),
-    };
+    let worker = worker_begin(t)?;
     let _ = take_pending(t, Owner::Worker(worker), place);
     Ok(worker)
 }
@@ -58,13 +53,11 @@ pub fn worker_take(t: &mut Tables, place: usize) -> Result<WorkerNumber, Error>
 fn reach_of(workers: &IndexMap<u64, Reach>, worker: WorkerNumber) -> Reach
     ensures { result ≡ reach_at workers.now worker.0 }
 {
-    match workers.get(&worker.0) {
-        Some(reach) => *reach,
-        None => Reach {
-            since: 0,
-            beside: 0,
-        },
-    }
+    let nothing = Reach {
+        since: 0,
+        beside: 0,
+    };
+    workers.get(&worker.0).copied().unwrap_or(nothing)
 }
 
 /// A worker gives up all handles that it has at a node, with all that goes with them.

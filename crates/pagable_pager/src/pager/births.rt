@@ -147,10 +147,11 @@ where
             Ok(value) => value,
             Err(node) => return Err((Error::OutOfMemory, node)),
         };
-        let handle = births::bear_value(
+        let handle = births::bear(
             &mut self.tables,
             Owner::Caller,
             node_type,
+            0,
             references,
             mode,
         );

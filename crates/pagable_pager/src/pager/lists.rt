@@ -8,7 +8,7 @@ use crate::pager::Pager;
 use pagable_codec::{Env, NodeSet};
 use pagable_core::PagableStorage;
 use pagable_model::{DataKey, Error, HandleNumber, Kind, LoadNumber};
-use pagable_tables::{ending, keys, known, listing, lookups, places, releases, swapping, unpins};
+use pagable_tables::{ending, keys, known, listing, lookups, places, releases, swapping};
 use pagable_world::handles::Owner;
 
 impl<E: Env, S: PagableStorage<E>> Pager<E, S>
@@ -130,7 +130,7 @@ where
         ensures { CallsLess (telling S.stored S.is_closed S.failed) self.old (λ w w'. UnpinCall w me handle result w') self.new }
     {
         let lists = !self.storage.has_closed();
-        unpins::unpin(&mut self.tables, &mut self.values, me, handle, lists)
+        releases::unpin(&mut self.tables, &mut self.values, me, handle, lists)
     }
 
     /// A handle is given up; a pinning one lets its pin go as `unpin` does. A node without handles is gone, and its value with all handles that it owns, and so on.

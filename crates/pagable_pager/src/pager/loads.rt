@@ -11,7 +11,7 @@ use pagable_codec::{Env, NodeSet};
 use pagable_core::{PagableData, PagableStorage};
 use pagable_model::{DataKey, Error, HandleNumber, Kind, LoadNumber};
 use pagable_tables::rows::LoadRoot;
-use pagable_tables::{adopting, begins, loading};
+use pagable_tables::{adopting, loading};
 use pagable_world::handles::Owner;
 use pagable_world::{Beginning, Want};
 use std::alloc::Global;
@@ -44,7 +44,7 @@ where
         requires { is_at_work (core_in (telling S.stored S.is_closed S.failed) self.old) me ≡ true }
         ensures { Calls (telling S.stored S.is_closed S.failed) self.old (λ w w'. BeginKeyCall w me key result w') self.new }
     {
-        begins::load_key(&mut self.tables, me, key)
+        loading::load_key(&mut self.tables, me, key)
     }
 
     /// A load of a loose handle's cell, with an unpinned clone of the handle; or InMemory, where the value needn't be read. Refused with NoSuchHandle, NotYours,

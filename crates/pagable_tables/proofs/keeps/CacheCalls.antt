@@ -40,19 +40,13 @@ cached-whole {w} kind key n whole stands_open entry =
     at : (k q m : ℕ) (a b : Bool) → (k == kind.0) ≡ a → (if a && b then Some n.0 else w.cache k q) ≡ Some m → IsEntryWhole w k m
     at k q m b3 b4 e is = grind (arith, nat_tests)
 
-pub offer-whole : {w w' : Core} (me : Owner) (kind : Kind) (key : ℕ) (h : HandleNumber) (r : Result (Option HandleNumber) Error) → IsWhole (opened w) → MayHold w me → OfferCall w me kind key h r w'
-    → ArePlaced (opened w') → IsWhole (opened w')
-offer-whole {w} me kind key h (Ok None) whole holder call placed =
-    let (row, owns, typed, offers) = call.answers in
-    let (stands_open, none, leaves) = offers in
+-- the cache learns the node of an own handle
+pub learns-whole : {w w' : Core} (me : Owner) (kind : Kind) (key : ℕ) (h : HandleNumber) (row : HandleRow) → IsWhole w → w.closed ≡ false → Owns w me h (fits_mode kind.0) row
+    → type_at w row.node.0 ≡ Some (type_of kind.0) → Alike (with_cached w kind key row.node) w' → ArePlaced w' → IsWhole w'
+learns-whole {w} me kind key h row whole stands_open owns typed leaves placed =
     let there = (found-among h.0 w.rows row owns.live).0 in
     let given = (whole.handles.nodes_numbered row.node.0 (there-then whole row there)).1 in
     let fits : is_shared row.mode ≡ is_shared_kind kind.0 = grind (arith, nat_tests, owns.as_asked) in
     let shares = λ (x : HandleRow) (among : Among w.rows x) (at : x.node.0 ≡ row.node.0). (alike-rows whole).same x row among there at ∙ fits in
-    let entry : IsEntryWhole (opened w) kind.0 row.node.0 = grind (arith, nat_tests) in
-    settles (roomy-whole (cached-whole {w = opened w} kind key row.node whole refl entry)) (alike-opened leaves) placed
-offer-whole {w} me kind key h (Ok (Some k)) whole holder call placed = elim call.answers.3 [
-  | inl (closed, same, stays) ↦ alike-whole whole (alike-opened stays) placed
-  | inr (stands_open, (n, is, next, falls)) ↦ falls-opened (known-whole kind key n me whole is holder next.is_left) (handle-on w (record { 0 = n }) (mode_of kind.0) me) falls.falls placed
-]
-offer-whole me kind key h (Err e) whole holder call placed = alike-whole whole (alike-opened call.refused.stays) placed
+    let entry : IsEntryWhole w kind.0 row.node.0 = grind (arith, nat_tests) in
+    settles (roomy-whole (cached-whole kind key row.node whole stands_open entry)) leaves placed

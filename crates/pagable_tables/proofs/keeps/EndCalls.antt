@@ -5,10 +5,10 @@ use Rattle.pagable_tables.proofs.Words.{OpenLoad, Option, OptionalDataKey, Owner
 use Rattle.pagable_tables.proofs.Words.{if_there, if◌then◌else◌, inl, inr, is_handle, is_in, is_loose, is_loose_kind, is_named_by, is_owned_by, is_owned_in, is_owner, is_shared, is_some, load_fault}
 use Rattle.pagable_tables.proofs.Words.{mode_of, moved, named_fault, nat_tests, next_node, not, numbers_of, owner_value, references_fault, refl, row_of, shut, subst, sym, true, type_of}
 use Rattle.pagable_tables.proofs.{Words.{with_cached, with_handle, with_mode, with_node, with_pin, without_load, ℕ}, Handed.{found-there, one-fault}, Worlds.{fault-by, owner-same}}
-use Rattle.pagable_tables.proofs.keeps.{CacheCalls.{cached-whole, known-whole, mode-shared}, Comes.{handle-on, not-list}, Fallen.{alike-opened, falls-lost, falls-opened, opened}, HandleCalls.IsMine}
-use Rattle.pagable_tables.proofs.keeps.HandleCalls.{born-whole, mine-of, moved-number, moved-on, moved-to-holder, moved-to-value, named-own, named-unlisted, no-references, pin-comes, pin-on}
+use Rattle.pagable_tables.proofs.keeps.{CacheCalls.{cached-whole, mode-shared}, Comes.{not-list}, Fallen.{alike-opened, falls-lost, opened}, HandleCalls.IsMine}
+use Rattle.pagable_tables.proofs.keeps.HandleCalls.{born-whole, mine-of, moved-number, moved-on, moved-to-holder, moved-to-value, named-own, named-unlisted, pin-comes, pin-on}
 use Rattle.pagable_tables.proofs.keeps.{Kept.{alike-rows, is-in, may-own}, LoadCalls.may-hold, Rows.{among-both, among-changed, among-last, among-one, found-among, found-so, once}, Told.GoesOn}
-use Rattle.pagable_tables.proofs.keeps.Told.{alike-whole, roomy, roomy-whole, settles, stays-on, then-on}
+use Rattle.pagable_tables.proofs.keeps.Told.{alike-whole, roomy, roomy-whole, stays-on, then-on}
 
 -- ---- a load closes
 
@@ -151,10 +151,6 @@ close-whole {w} {w'} r whole call placed =
       workers = λ v is. is;
     }) call.falls.falls placed
 
--- an open load may hold
-load-holds : {w : Core} {me : Owner} {l : LoadNumber} (load : _) → OwnsLoad w me l load → MayHold w (Owner.Load l)
-load-holds load owns = ap is_some owns.stands_open
-
 -- ---- a node that was read
 
 module _ (w : Core) (whole : IsWhole (opened w)) (l : LoadNumber) (kind : Kind) (key : ℕ) (own : OptionalDataKey) (refs : List ArcRef) (holder : MayHold w (Owner.Load l))
@@ -183,29 +179,3 @@ module _ (w : Core) (whole : IsWhole (opened w)) (l : LoadNumber) (kind : Kind) 
       at : (b : Bool) → IsWhole (roomy (opened (if b then made else with_cached made kind key (next_node w))))
       at true = now-whole
       at false = cached-whole {w = roomy (opened made)} kind key (next_node w) now-whole refl new-entry
-
-loose-plain : (kind : ℕ) → is_loose_kind kind ≡ true → is_shared (mode_of kind) ≡ true → ⊥
-loose-plain kind loose shared = grind (arith, nat_tests, mode-shared)
-
-pub lazy-whole : {w w' : Core} (me : Owner) (l : LoadNumber) (kind : Kind) (key : ℕ) (r : Result HandleNumber Error) → IsWhole (opened w) → LazyCall w me l kind key r w' → ArePlaced (opened w')
-    → IsWhole (opened w')
-lazy-whole {w} me l kind key (Ok k) whole call placed = let (load, owns, loose, makes) = call.makes in elim makes [
-  | inl gets ↦ settles (known-whole kind key gets.n (Owner.Load l) whole gets.known (load-holds load owns) gets.next.is_left) (alike-opened gets.leaves) placed
-  | inr (none, node_left, next, leaves) ↦ settles (adopted-whole w whole l kind key (OptionalDataKey.Some key) [] (load-holds load owns) (no-references (opened w) (Owner.Load l)) node_left next.is_left
-      (λ shared. absurd (loose-plain kind.0 loose shared))) (alike-opened leaves) placed
-]
-lazy-whole me l kind key (Err e) whole call placed = alike-whole whole (alike-opened call.refused.stays) placed
-
-pub adopt-whole : {N : Type 0} {w w' : Core} (me : Owner) (l : LoadNumber) (kind : Kind) (key : ℕ) (x : N) (node_type : ℕ) (refs : List ArcRef) (r : Result HandleNumber (Error × N))
-    → IsWhole (opened w)
-    → AdoptCall w me l kind key x node_type refs r w' → ArePlaced (opened w') → IsWhole (opened w')
-adopt-whole {N} {w} me l kind key x node_type refs (Ok k) whole call placed =
-    let a = call.adopts in
-    elim a.makes [
-      | inl (n, is, falls) ↦
-          falls-opened (known-whole kind key n (Owner.Load l) whole is (load-holds a.load a.owned) a.next.is_left) (handle-on w (record { 0 = n }) (mode_of kind.0) (Owner.Load l)) falls.falls placed
-      | inr (none, node_left, leaves) ↦
-          settles (adopted-whole w whole l kind key (first_key kind.0 key) refs (load-holds a.load a.owned) (fault-by w (opened w) (Owner.Load l) [] refs ∙ a.good) node_left a.next.is_left
-          (λ shared. grind (arith, nat_tests, mode-shared))) (alike-opened leaves) placed
-    ]
-adopt-whole me l kind key x node_type refs (Err e) whole call placed = alike-whole whole (alike-opened call.refused.1.stays) placed

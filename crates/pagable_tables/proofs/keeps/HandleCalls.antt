@@ -140,19 +140,6 @@ module _ {w : Core} (whole : IsWhole w) (node_type : ℕ) (key : OptionalDataKey
       grown-whole (moved-to-value whole (is_named_by refs) (named-unlisted whole from refs other good) (w.last.node + 1)) (row_of (w.last.handle + 1) (next_node w) mode me) cells (w.last.node + 1)
       refl left (omega arith) (omega arith) (grind (arith, nat_tests)) (λ n old. grind (arith, nat_tests)) (inr (omega arith, omega arith, λ is. grind (arith, nat_tests, unkeyed is))) holder
 
-pub birth-whole : {N : Type 0} {w w' : Core} (me : Owner) (x : N) (node_type : ℕ) (refs : List ArcRef) (mode : Mode) (r : Result HandleNumber (Error × N)) → IsWhole w → MayHold w me
-    → BirthCall w me x node_type refs mode r w' → ArePlaced w' → IsWhole w'
-birth-whole {N} {w} me x node_type refs mode (Ok k) whole holder call placed =
-    let (good, node_left, next, leaves) = call.made in
-    settles (born-whole whole node_type OptionalDataKey.None refs mode me me (not-list w me holder) good holder node_left next.is_left (λ is. refl)) leaves placed
-birth-whole me x node_type refs mode (Err e) whole holder call placed = alike-whole whole call.refused.1.stays placed
-
 pub no-references : (w : Core) (owner : Owner) → references_fault w owner [] [] ≡ None
 unfolding references_fault
 no-references w owner = refl
-
-pub away-birth-whole : {w w' : Core} (me : Owner) (node_type key : ℕ) (r : Result HandleNumber Error) → IsWhole w → MayHold w me → AwayBirthCall w me node_type key r w' → ArePlaced w' → IsWhole w'
-away-birth-whole {w} me node_type key (Ok k) whole holder call placed =
-    let (node_left, next, leaves) = call.made in
-    settles (born-whole whole node_type (OptionalDataKey.Some key) [] Mode.LooseUnpinned me me (not-list w me holder) (no-references w me) holder node_left next.is_left (λ is. absurd (cc))) leaves placed
-away-birth-whole me node_type key (Err e) whole holder call placed = alike-whole whole call.refused.stays placed

@@ -48,12 +48,6 @@ take-whole {w} {w'} me i (Some h) whole holder call placed =
         grind (arith, nat_tests, less q, lists-moved whole h row me among number q, whole.owners_there.listed q)
 take-whole me i None whole holder call placed = alike-whole whole call.1 placed
 
-pub release-whole : {w w' : Core} (me : Owner) (h : HandleNumber) (r : Result (Unit {0}) Error) → IsWhole (opened w) → ReleaseCall w me h r w' → ArePlaced (opened w') → IsWhole (opened w')
-release-whole {w} me h r whole call placed = elim call.does [
-  | inl refused ↦ alike-whole whole (alike-opened refused.stays) placed
-  | inr (row, owns, falls) ↦ falls-opened (roomy-whole whole) (stays-on w) falls placed
-]
-
 pub unpin-whole : {w w' : Core} (me : Owner) (h : HandleNumber) (r : Result (Unit {0}) Error) → IsWhole (opened w) → UnpinCall w me h r w' → ArePlaced (opened w') → IsWhole (opened w')
 unpin-whole me h r whole call placed = elim call.does [
   | inl refused ↦ alike-whole whole (alike-opened refused.stays) placed

@@ -1,7 +1,8 @@
 use Rattle.pagable_tables.proofs.Words.{ap, sym, ◌∙◌, false, not, None, is_some, core_of, plain_of, subst, Suits, Owner, mode_of, with_handle, Alike, Mode, length, arith, ◌+◌, AllPairs}
-use Rattle.pagable_tables.proofs.{Words.{IsHandleBefore, refl, Falls, is_named_by, Tables, has_value, counts_at}, Adoptions.{not-adopted, adopts-known, adopts-whole, refused-known, fitting, eager}}
-use Rattle.pagable_tables.proofs.{Stays.{named-loaded, not-named}, Ended.{stays-first, sheds-still}}
-use Rattle.pagable_tables.proofs.{Adoptions.owner-of, Begun.not-closed, Newer.{adopt-newer, later-on}, keeps.CacheCalls.known-suits, keeps.Placed.whole-so, Stays.{begun-made, swapped, loaded-append}}
+use Rattle.pagable_tables.proofs.{Words.{IsHandleBefore, refl, Falls, is_named_by, Tables, has_value, counts_at}, Adoptions.{not-adopted, adopts-known, refused-known, fitting, eager, owner-of}}
+use Rattle.pagable_tables.proofs.{Begun.{begun-whole, not-closed}, Doing.listing, Ended.{stays-first, sheds-still}, Newer.{later-on, newer-falls}, Regiven.owned}
+use Rattle.pagable_tables.proofs.{Stays.{named-loaded, not-named, begun-made, swapped, loaded-append}, Worlds.failed}
+use Rattle.pagable_tables.proofs.keeps.{CacheCalls.known-suits, Fallen.falls-opened, Placed.whole-so, Told.{roomy-whole, stays-on}}
 use Rattle.pagable_tables.proofs.adopting.adopt_if_known.Goals as goal
 
 pub returns-in-Some-clause-refused : goal.returns-in-Some-clause-refused
@@ -17,53 +18,56 @@ pub make-requires-clause-holder : goal.make-requires-clause-holder
 make-requires-clause-holder g c =
     ap is_some (owner-of (plain_of c.args.t.now) c.args.me c.args.load c.args.kind c.args.key c.args.node_type c.args.references.now (sym (c.adopt_fault.ensures (λ key. None) false 0) ∙ c.in_default.is)).1.stands_open
 
-pub returns-in-Ok-clause-known : goal.returns-in-Ok-clause-known
-returns-in-Ok-clause-known g c stored closed failures e =
+pub returns : goal.returns
+returns g c =
     let t = c.args.t.now in
+    let me = c.args.me in
     let l = c.args.load in
     let kind = c.args.kind in
     let rs = c.args.references.now in
     let node = c.in-Some-usable_of.node in
-    let w = core_of t stored closed failures in
     let owner = Owner.Load l in
-    let mode = mode_of kind.0 in
     let t1 = c.make.new.t in
-    let u = with_handle w node mode owner in
-    let good = sym (c.adopt_fault.ensures stored closed failures) ∙ c.in_default.is in
-    let m = (c.in-Ok.ensures.does.does stored closed failures).made in
-    let a : Alike u (core_of t1 stored closed failures) = subst (λ (mode : Mode). Alike (with_handle w node mode owner) (core_of t1 stored closed failures)) c.mode_of.ensures m.1 in
-    let some = c.give_named.ensures.falls u u (begun-made t t1 stored closed failures node mode owner c.in-Ok.ensures.does.whole a c.args.lists e) (let b = ap length a.rows in omega arith)
-    (λ q named. loaded-append l q w.rows _ (named-loaded w l rs (fitting w c.args.me l kind c.args.key c.args.node_type rs good) q named)) in
-    let kept = not-named (plain_of t) l rs c.requires.whole.core.handles
-    (fitting (plain_of t) c.args.me l kind c.args.key c.args.node_type rs (sym (c.adopt_fault.ensures (λ key. None) false 0) ∙ c.in_default.is)) (t.holdings.last_handle + 1) (omega arith) in
-    let falls = swapped w node mode owner (subst (AllPairs IsHandleBefore) a.rows c.in-Ok.ensures.does.whole.core.handles.ordered) refl some.falls kept in
-    let anew : Falls w u (is_named_by rs) some.told (core_of (record t1 { holdings = c.give_named.new.t }) stored closed failures) =
-    subst (λ (z : Tables). Falls w u (is_named_by rs) some.told (core_of (record z { holdings = c.give_named.new.t }) stored closed failures)) (sym c.in-Ok.ensures.same) falls in
-    adopts-known w c.args.me l kind c.args.key c.args.node_type rs good node c.in-Ok.handle (sym (c.in-Some-usable_of.ensures stored closed failures)) m.0 (record { told = some.told; falls = anew })
+    let made = c.in_ok-handle.ensures.does in
+    let p = plain_of t in
+    let free = sym (c.adopt_fault.ensures (λ key. None) false 0) ∙ c.in_default.is in
+    let fit = fitting p me l kind c.args.key c.args.node_type rs free in
+    let valued = c.requires.valued node.0 (sym (c.in-Some-usable_of.ensures (λ key. None) false 0)) (eager p me l kind c.args.key c.args.node_type rs free) in
+    let rows = (made.does (λ key. None) (not c.args.lists) 0).made.1.rows in
+    let fell = c.give_named.ensures.falls (listing c.args.lists t1) (listing c.args.lists t1) (begun-whole t1 (λ key. None) (not c.args.lists) c.args.lists 0 made.whole (not-closed c.args.lists)) (omega arith)
+    (λ q named. ap (owned owner q) rows ∙ loaded-append l q p.rows _ (named-loaded p l rs fit q named)) in
+    record {
+      known = λ stored closed failures e.
+          (let w = core_of t stored closed failures in
+          let u = with_handle w node (mode_of kind.0) owner in
+          let good = sym (c.adopt_fault.ensures stored closed failures) ∙ c.in_default.is in
+          let m = (made.does stored closed failures).made in
+          let a : Alike u (core_of t1 stored closed failures) = subst (λ (mode : Mode). Alike (with_handle w node mode owner) (core_of t1 stored closed failures)) c.mode_of.ensures m.1 in
+          let some = c.give_named.ensures.falls u u (begun-made t t1 stored closed failures node (mode_of kind.0) owner made.whole a c.args.lists e) (let b = ap length a.rows in omega arith)
+          (λ q named. loaded-append l q w.rows _ (named-loaded w l rs (fitting w me l kind c.args.key c.args.node_type rs good) q named)) in
+          let kept = not-named p l rs c.requires.whole.core.handles fit (t.holdings.last_handle + 1) (omega arith) in
+          let falls = swapped w node (mode_of kind.0) owner (subst (AllPairs IsHandleBefore) a.rows made.whole.core.handles.ordered) refl some.falls kept in
+          let anew : Falls w u (is_named_by rs) some.told (core_of (record t1 { holdings = c.give_named.new.t }) stored closed failures) =
+          subst (λ (z : Tables). Falls w u (is_named_by rs) some.told (core_of (record z { holdings = c.give_named.new.t }) stored closed failures)) (sym c.in_ok-handle.ensures.same) falls in
+          adopts-known w me l kind c.args.key c.args.node_type rs good node c.in_ok-handle.handle (sym (c.in-Some-usable_of.ensures stored closed failures)) m.0 (record { told = some.told; falls = anew }));
+      fresh = λ stored closed failures. tt;
+      given = (node.0, sym (c.in-Some-usable_of.ensures (λ key. None) false 0));
+      unknown = tt;
+      same = tt;
+      kept = tt;
+      refused = λ stored closed failures. tt;
+      whole = whole-so c.give_named.ensures.steady (falls-opened (roomy-whole made.whole.core) (stays-on (plain_of t1)) fell.falls);
+      later = later-on (made.later c.requires.later) (newer-falls fell.falls) refl refl;
+      sheds = stays-first (λ n. c.in_ok-handle.ensures.values n (λ eq. ap (λ k. has_value (counts_at t.holdings.nodes k)) eq ∙ valued)) c.give_named.ensures.sheds;
+    }
 
-pub returns-in-Ok-clause-whole : goal.returns-in-Ok-clause-whole
-returns-in-Ok-clause-whole g c =
-    whole-so c.give_named.ensures.steady
-    (adopts-whole c.args.me c.args.load c.args.kind c.args.key c.args.node_type c.args.references.now c.in-Ok.handle c.requires.whole.core (returns-in-Ok-clause-known g c (λ key. None) (not c.args.lists) 0 (not-closed c.args.lists)))
+pub returns-in_err-handle-clause-refused : goal.returns-in_err-handle-clause-refused
+returns-in_err-handle-clause-refused g c stored closed failures =
+    rw (failed c.from_residual.result c.from_residual.ensures.1) (refused-known (core_of c.args.t.now stored closed failures) c.args.me c.args.load c.args.kind c.args.key c.args.node_type c.args.references.now (sym (c.adopt_fault.ensures stored closed failures) ∙ c.in_default.is)
+    c.in-Some-usable_of.node.0 (sym (c.in-Some-usable_of.ensures stored closed failures)) (c.in_err-handle.ensures.does.does stored closed failures).refused)
 
-pub returns-in-Ok-clause-later : goal.returns-in-Ok-clause-later
-returns-in-Ok-clause-later g c =
-    let n = adopt-newer c.args.me c.args.load c.args.kind c.args.key c.args.node_type c.args.references.now c.in-Ok.handle (returns-in-Ok-clause-known g c (λ key. None) (not c.args.lists) 0 (not-closed c.args.lists)) in
-    later-on c.requires.later n (ap (λ (u : Tables). u.loads) c.in-Ok.ensures.same) (ap (λ (u : Tables). u.workers) c.in-Ok.ensures.same)
-
-pub returns-in-Err-clause-refused : goal.returns-in-Err-clause-refused
-returns-in-Err-clause-refused g c stored closed failures =
-    refused-known (core_of c.args.t.now stored closed failures) c.args.me c.args.load c.args.kind c.args.key c.args.node_type c.args.references.now (sym (c.adopt_fault.ensures stored closed failures) ∙ c.in_default.is)
-    c.in-Some-usable_of.node.0 (sym (c.in-Some-usable_of.ensures stored closed failures)) (c.in-Err.ensures.does.does stored closed failures).refused
-
-pub returns-in-Ok-clause-sheds : goal.returns-in-Ok-clause-sheds
-returns-in-Ok-clause-sheds g c =
+pub returns-in_err-handle-clause-sheds : goal.returns-in_err-handle-clause-sheds
+returns-in_err-handle-clause-sheds g c =
     let valued = c.requires.valued c.in-Some-usable_of.node.0 (sym (c.in-Some-usable_of.ensures (λ key. None) false 0))
     (eager (plain_of c.args.t.now) c.args.me c.args.load c.args.kind c.args.key c.args.node_type c.args.references.now (sym (c.adopt_fault.ensures (λ key. None) false 0) ∙ c.in_default.is)) in
-    stays-first (λ n. c.in-Ok.ensures.values n (λ eq. ap (λ k. has_value (counts_at c.args.t.now.holdings.nodes k)) eq ∙ valued)) c.give_named.ensures.sheds
-
-pub returns-in-Err-clause-sheds : goal.returns-in-Err-clause-sheds
-returns-in-Err-clause-sheds g c =
-    let valued = c.requires.valued c.in-Some-usable_of.node.0 (sym (c.in-Some-usable_of.ensures (λ key. None) false 0))
-    (eager (plain_of c.args.t.now) c.args.me c.args.load c.args.kind c.args.key c.args.node_type c.args.references.now (sym (c.adopt_fault.ensures (λ key. None) false 0) ∙ c.in_default.is)) in
-    stays-first (λ n. c.in-Err.ensures.values n (λ eq. ap (λ k. has_value (counts_at c.args.t.now.holdings.nodes k)) eq ∙ valued)) (sheds-still c.make.new.t.holdings _ c.in-Err.ensures.does.whole.steady)
+    stays-first (λ n. c.in_err-handle.ensures.values n (λ eq. ap (λ k. has_value (counts_at c.args.t.now.holdings.nodes k)) eq ∙ valued)) (sheds-still c.make.new.t.holdings _ c.in_err-handle.ensures.does.whole.steady)

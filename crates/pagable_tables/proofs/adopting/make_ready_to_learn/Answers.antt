@@ -1,18 +1,18 @@
-use Rattle.pagable_tables.proofs.{Words.{◌<◌, refl, ap, subst, inr, arith, Core, greatest, Tables}, Doing.learns-does, Readied.{room-alike, not-spent}}
+use Rattle.pagable_tables.proofs.{Words.{◌<◌, refl, ap, subst, inr, arith, Core, greatest, Tables}, Doing.learns-does, Readied.{room-alike, not-spent}, Worlds.failed}
 use Rattle.pagable_tables.proofs.adopting.make_ready_to_learn.Goals as goal
 
-pub returns-in_default-reserve-clause-does : goal.returns-in_default-reserve-clause-does
-returns-in_default-reserve-clause-does c = learns-does c.args.t.now c.make_ready.new.t c.reserve.new.cache c.make_ready.ensures.does c.reserve.ensures.known
+pub returns-in_err-reserve-clause-does : goal.returns-in_err-reserve-clause-does
+returns-in_err-reserve-clause-does c = learns-does c.args.t.now c.make_ready.new.t c.reserve.new.cache c.make_ready.ensures.does c.reserve.ensures.known
 
-pub returns-in_default-reserve-clause-refused : goal.returns-in_default-reserve-clause-refused
-returns-in_default-reserve-clause-refused c stored closed failures =
-    let ready = c.in_default.ensures.ready in
+pub returns-in_err-reserve-clause-refused : goal.returns-in_err-reserve-clause-refused
+returns-in_err-reserve-clause-refused c stored closed failures =
+    let ready = c.in_ok-make_ready.ensures.ready in
     let node : c.args.t.now.last_node < greatest = subst (λ (t : Tables). t.last_node < greatest) c.make_ready.ensures.same ready.node_left in
     let handle : c.args.t.now.holdings.last_handle < greatest = omega (arith, ready.handle_left, (ap (λ (u : Core). u.last.handle) (c.make_ready.ensures.does.does stored closed failures).same)) in
-    record {
+    rw (failed c.from_residual-in_err-reserve.result c.from_residual-in_err-reserve.ensures.1) (record {
       why = inr (refl, not-spent c.args.t.now.last_node c.args.t.now.holdings.last_handle node handle, tt);
-      stays = room-alike ((returns-in_default-reserve-clause-does c).does stored closed failures);
-    }
+      stays = room-alike ((returns-in_err-reserve-clause-does c).does stored closed failures);
+    })
 
 pub returns-clause-does : goal.returns-clause-does
 returns-clause-does c = learns-does c.args.t.now c.make_ready.new.t c.reserve.new.cache c.make_ready.ensures.does c.reserve.ensures.known

@@ -1,9 +1,11 @@
-use Rattle.pagable_tables.proofs.{Words.{◌≡◌, ◌+◌, ◌++◌, ◌∷◌, [], refl, ap, ◌∙◌, arith, None, HandleRow, owner_value, moved, is_named_by, live, counts_at, refs_at, plain_of}, Born.born-fits}
-use Rattle.pagable_tables.proofs.{Born.no-node, Coming.rows-told, keeps.Comes.not-a-value}
+use Rattle.pagable_tables.proofs.Words.{◌≡◌, ◌+◌, ◌++◌, ◌∷◌, [], refl, ap, ◌∙◌, arith, inl, inr, None, Some, HandleRow, owner_value, moved, is_named_by, live, counts_at, refs_at, plain_of, key_in}
+use Rattle.pagable_tables.proofs.{Words.{has_key, nat_tests, rules}, Born.{born-fits, no-node}, Coming.rows-told, Doing.does-so, NewNodes.{bears-newer, bears-whole}, Worlds.same-cache}
+use Rattle.pagable_tables.proofs.keeps.Comes.{not-a-value}
+use Rattle.std.proofs.lemmas.Grind.{common_steps}
 use Rattle.pagable_tables.proofs.births.bear.Goals as goal
 
-pub returns-clause-steady : goal.returns-clause-steady
-returns-clause-steady c =
+pub returns-clause-does : goal.returns-clause-does
+returns-clause-does c =
     let u = c.args.t.now in
     let t = u.holdings in
     let me = c.args.me in
@@ -14,10 +16,14 @@ returns-clause-steady c =
     let n = u.last_node + 1 in
     let x : HandleRow = record { number = record { 0 = t.last_handle + 1 }; node = record { 0 = n }; mode = c.args.mode; owner = me } in
     let added = c.in-Ok-add.ensures in
+    let here = added.here ∙ ap Some c.first_counts-counts.ensures in
     let free : at n ≡ None = no-node (at n) u.last_node (w.core.handles.nodes_numbered n) in
     let named = ap (λ l. moved (is_named_by l) (owner_value n) (live t.handles.places.items)) c.deref.ensures.value in
     let rows = c.in-Ok.ensures.rows ∙ ap (λ l. l ++ x ∷ []) (c.hand_over_all.ensures.rows ∙ named) in
     let unvalued = not-a-value (plain_of u) me c.requires.holder in
-    let fits = born-fits (plain_of u) me rs w.core.handles.ordered c.requires.fit unvalued at (counts_at c.add.new.nodes) refs (refs_at c.add.new.nodes) t.top x c.args.counts w.steady.fits refl
-    c.requires.counts c.requires.bare (omega arith) free added.here added.others added.refs added.other_refs in
-    record { sound = c.push.ensures.sound; next = c.in-Ok.ensures.next; fits = rows-told (counts_at c.add.new.nodes) (refs_at c.add.new.nodes) _ _ t.top rows fits }
+    let fits = born-fits (plain_of u) me rs w.core.handles.ordered c.requires.fit unvalued at (counts_at c.add.new.nodes) refs (refs_at c.add.new.nodes) t.top x _ w.steady.fits refl
+    refl (elim c.requires.bare [ inl none ↦ inl none | inr so ↦ inr so.1 ]) (omega arith) free here added.others added.refs added.other_refs in
+    does-so (λ stored closed failures. first_of (search rules, grind (arith, common_steps), grind (arith, nat_tests, same-cache)))
+    (record { sound = c.push.ensures.sound; next = c.in-Ok.ensures.next; fits = rows-told (counts_at c.add.new.nodes) (refs_at c.add.new.nodes) _ _ t.top rows fits })
+    (bears-whole me c.args.node_type c.args.key rs c.args.mode _ w.core c.requires.holder c.requires.fit c.requires.ready.node_left (elim c.requires.bare [ inl none ↦ λ is. ap (λ k. has_key (key_in k)) none | inr so ↦ λ is. absurd (let a = so.0 in cc) ]))
+    (bears-newer me c.args.node_type c.args.key rs c.args.mode _) refl refl

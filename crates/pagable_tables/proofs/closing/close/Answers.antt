@@ -1,5 +1,5 @@
 use Rattle.pagable_tables.proofs.Words.{refl, None, false, Ok, Owner, arith, inl, not, shut, is_listed, is_owned_by, core_of, plain_of, with_tables, Holdings, FallsAnyhow, Falls, NodeNumber, ap, option_map, sym, subst}
-use Rattle.pagable_tables.proofs.{Begun.{begins, begun}, Entries.{owned-listed, cache-anew}, Newer.{close-newer, later-on}, Taken.passes-given, keeps.{EndCalls.close-whole, Placed.whole-so}}
+use Rattle.pagable_tables.proofs.{Begun.{begins, begun}, Entries.owned-listed, Newer.{close-newer, later-on}, Taken.passes-given, keeps.{EndCalls.close-whole, Placed.whole-so}}
 use Rattle.pagable_tables.proofs.closing.close.Goals as goal
 
 pub give_all-requires-clause-steady : goal.give_all-requires-clause-steady
@@ -23,8 +23,7 @@ returns-clause-closed g c stored closed failures failures' le =
     record {
       told = refl;
       fails = le;
-      falls = cache-anew w u (with_tables u c.give_all.new.t) (is_listed w) (core_of (record t { cache = c.forget.new.cache }) stored closed failures).cache
-          (λ kind key. sym (ap (option_map (λ (n : NodeNumber). n.0)) (c.forget.ensures kind key))) listed;
+      falls = subst (λ known. FallsAnyhow w u (is_listed w) (record (with_tables u c.give_all.new.t) { cache = known })) (λ i kind key. sym (ap (option_map (λ (n : NodeNumber). n.0)) (c.forget.ensures kind key)) i) listed;
     }
 
 pub returns-clause-whole : goal.returns-clause-whole

@@ -1,7 +1,8 @@
 use Rattle.pagable_tables.proofs.Words.{◌≡◌, ℕ, ◌&&◌, false, not, length, arith, ap, sym, ◌∙◌, subst, Some, None, Error, Owner, is_in, if_there, is_owner, OpenLoad, Falls, refused_if, is_owned_in}
-use Rattle.pagable_tables.proofs.{Words.{refl, numbers_of, is_owned_by, [], load_at, core_of, plain_of, load_in, with_tables, Holdings, Sheds, counts_at, get, nat_eq, option_map}, Taken.{moved-less, begun-moved, owned-moved, no-load, may-hand}}
-use Rattle.pagable_tables.proofs.{Taken.{named-there, still-listed, yours, MayHand, load-closed, owned-given, loads-anew}, Bits.and-left, keeps.Comes.not-a-value, keeps.LoadCalls.may-hold, Doing.sheds-by}
-use Rattle.pagable_tables.proofs.{keeps.EndCalls.hand-over-whole, Newer.{newer-falls, later-handed, closed-still}, keeps.EndCalls.handed-mine, Opened.owner-self}
+use Rattle.pagable_tables.proofs.{Words.{refl, numbers_of, is_owned_by, [], load_at, core_of, plain_of, load_in, with_tables, option_map, inl}, Bits.and-left, Doing.sheds-by, GivenAll.bare}
+use Rattle.pagable_tables.proofs.{Newer.{newer-falls, later-handed, closed-still}, Opened.owner-self}
+use Rattle.pagable_tables.proofs.Taken.{moved-less, begun-moved, owned-moved, no-load, may-hand, handed-free, moved-stands, still-listed, yours, MayHand, load-closed, owned-given, loads-anew}
+use Rattle.pagable_tables.proofs.keeps.{Comes.not-a-value, EndCalls.{hand-over-whole, handed-mine}, LoadCalls.may-hold}
 use Rattle.pagable_tables.proofs.ending.load_take.Goals as goal
 
 pub unreachable-requires : goal.unreachable-requires
@@ -11,12 +12,13 @@ unreachable-requires g c =
     let gone = ap (λ o. if_there (λ (load : OpenLoad). refused_if (not (is_owner c.args.me load.owner)) Error.NotYours) (Some Error.NoSuchHandle) (option_map load_in o)) (sym c.load_of.ensures ∙ c.in_default-load_of.is) in
     absurd (let a = sym gone ∙ can.own in cc)
 
-pub hand_each-requires : goal.hand_each-requires
-hand_each-requires g c =
+pub give_all-requires-clause-steady : goal.give_all-requires-clause-steady
+give_all-requires-clause-steady g c =
     let w = plain_of c.args.t.now in
     let hs = c.args.named.now in
     let can : MayHand w c.args.me c.args.load hs = may-hand c.requires.whole.core c.args.me c.args.load hs (sym (c.hand_over_fault.ensures (λ key. None) false 0) ∙ c.in_default.is) in
-    record { steady = c.requires.whole.steady; plain = not-a-value w c.args.me (may-hold w c.args.me can.may); there = named-there w c.args.load hs can.named }
+    let free = handed-free w c.requires.whole.core.handles.ordered c.args.load hs can.named in
+    moved-stands c.args.t.now.holdings c.hand_each.new.handles (is_in (numbers_of hs)) c.args.me c.requires.whole.steady (not-a-value w c.args.me (may-hold w c.args.me can.may)) free c.hand_each.ensures
 
 pub returns : goal.returns
 returns g c =
@@ -31,29 +33,28 @@ returns g c =
     sheds-by
     (λ stored closed failures e.
     let w = core_of t stored closed failures in
-    let w' = core_of (record t { holdings = c.give_up_load.new.t; loads = c.close.new.rows }) stored closed failures in
+    let w' = core_of (record t { holdings = c.give_all.new.t; loads = c.close.new.rows }) stored closed failures in
     let u = moved-less w l s me in
     let left : (q : ℕ) → is_owned_in u (Owner.Load l) q ≡ (is_owned_in w (Owner.Load l) q && not (s q)) = λ q. owned-moved s me (Owner.Load l) q w.rows (no-load p me l can.may) in
-    let so-far = begun-moved t c.hand_each.new.t l s me stored closed c.args.lists failures c.requires.whole e c.hand_each.ensures.same c.hand_each.ensures.rows
-    (record { handles = (let a = c.hand_each.ensures.capacity in omega arith); entries = (let a = ap (λ (k : Holdings). (with_tables w k).places.entries) c.hand_each.ensures.same in omega arith) })
+    let so-far = begun-moved t c.hand_each.new.handles l s me stored closed c.args.lists failures c.requires.whole e c.hand_each.ensures
     (still-listed c.requires.whole.core me l hs can) in
-    let falls = c.give_up_load.ensures.falls w u so-far (let a = ap length c.hand_each.ensures.rows in omega arith)
+    let falls = c.give_all.ensures.falls w u (bare (λ m. option_map load_in (load_at c.close.new.rows m))) (λ m. refl) so-far (let a = ap length c.hand_each.ensures.rows in omega arith)
     (λ q own. let mine = and-left (is_owned_in w (Owner.Load l) q) (not (s q)) (sym (left q) ∙ own) in let g = owned-given p (Owner.Load l) q c.requires.whole.core.handles mine in
-    (c.requires.later.since l.0 c.in-Some-load_of.row q row mine, omega arith)) in
+    let after = c.requires.later.since l.0 c.in-Some-load_of.row q row mine in ((omega arith, inl after), omega arith)) in
     record {
       hands = (
         sym (c.hand_over_fault.ensures stored closed failures) ∙ c.in_default.is,
         record {
-          told = c.give_up_load.result;
-          falls = loads-anew w u (with_tables u c.give_up_load.new.t) (λ q. is_owned_in w (Owner.Load l) q && not (s q)) c.give_up_load.result w'.loads
+          told = c.give_all.result;
+          falls = loads-anew w u (with_tables u c.give_all.new.t) (λ q. is_owned_in w (Owner.Load l) q && not (s q)) c.give_all.result w'.loads
               (load-closed (load_at t.loads) (load_at c.close.new.rows) l.0 c.close.ensures.gone c.close.ensures.others)
-              (subst (λ given. Falls w u given c.give_up_load.result (with_tables u c.give_up_load.new.t)) (λ i q. left q i) falls);
+              (subst (λ given. Falls w u given c.give_all.result (with_tables u c.give_all.new.t)) (λ i q. left q i) falls);
         },
       );
       refused = tt;
     })
-    c.give_up_load.ensures.steady (hand-over-whole me l hs _ c.requires.whole.core)
+    c.give_all.ensures.steady (hand-over-whole me l hs _ c.requires.whole.core)
     (λ hands later. later-handed t later s me (λ m. no-load p me m can.may) _ refl l c.in-Some-load_of.row row (yours (load_at t.loads l.0) me _ row can.own)
     (λ q is. let o : Owner = Owner.Load l in let m = handed-mine p o [] hs can.named q is in ap (if_there (is_owned_by o) false) m.live ∙ ap (is_owner o) m.own ∙ owner-self o) (newer-falls hands.hands.1.falls)
     (closed-still (load_at t.loads) (load_at c.close.new.rows) l.0 c.close.ensures.gone c.close.ensures.others) refl)
-    (subst (λ (h : Holdings). Sheds (counts_at h.nodes) (get nat_eq c.args.values.now) (counts_at c.give_up_load.new.t.nodes) (get nat_eq c.give_up_load.new.values)) c.hand_each.ensures.same c.give_up_load.ensures.sheds)
+    c.give_all.ensures.sheds

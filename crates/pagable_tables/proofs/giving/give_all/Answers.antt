@@ -40,6 +40,3 @@ returns-clause-falls g c before u w loads f few between =
     let i = c.loop-at.invariant in
     c.fall.ensures.falls before u _ (all-past before u w c.args.lists c.args.giving (λ is. (c.requires.listed is).0) c.args.reach (λ q e. (between q e).0) c.loop-at.t c.loop-at.left
     (λ q in-reach below. c.in_default.ensures.none w q loads in-reach below) (i.2 before u w loads f few between))
-
-pub returns-clause-sheds : goal.returns-clause-sheds
-returns-clause-sheds g c = sheds-then c.loop-at.invariant.3 c.fall.ensures.sheds

@@ -1,9 +1,10 @@
-use Rattle.pagable_tables.proofs.Words.{◌≡◌, ◌<◌, ◌+◌, ◌++◌, ◌∷◌, [], Bool, List, true, sum_by, refl, ap, sym, ◌∙◌, subst, arith, false, not, inl, inr, None, Ok, Owner, Mode, changed, one, is_handle, is_pin}
-use Rattle.pagable_tables.proofs.Words.{owner_value, is_here, cases_Bool, ArcRef, Falls, Holdings, IsFalling, owns_nothing, Tables, moved, is_named_by, row_of, live, counts_at, refs_at, load_at, has_value, cell_in}
-use Rattle.pagable_tables.proofs.{Words.{core_of, plain_of, nat_tests, references_fault, without_load, with_pin, is_owned_in, FallsAnyhow, ◌&&◌, ◌⊎◌, Core, LoadNumber, HandleRow, Result, Error}, Coming.rows-told}
-use Rattle.pagable_tables.proofs.{Coming.{some-held, turned}, Doing.lazily-by, Fitting.{fits-same, pins-le-held}, Installed.{ended, has-come, install-newer, pins-here, none-moves, not-so, so-then, ready-owner}, Joined.joined-fits}
-use Rattle.pagable_tables.proofs.{Joined.owns-none, Newer.{closed-still, later-so}, Stays.not-named, keeps.Comes.not-a-value, keeps.EndCalls.end-whole, keeps.HandleCalls.no-references, keeps.LoadCalls.may-hold}
-use Rattle.pagable_tables.specs.Joining.{coming}
+use Rattle.pagable_tables.proofs.Words.{◌≡◌, ◌<◌, ◌+◌, ◌++◌, ◌∷◌, [], Bool, List, true, sum_by, refl, ap, sym, ◌∙◌, subst, arith, false, not, inl, inr, None, Ok, Owner, Mode, changed, one, is_handle}
+use Rattle.pagable_tables.proofs.Words.{is_pin, owner_value, is_here, cases_Bool, ArcRef, Falls, Holdings, IsFalling, owns_nothing, Tables, moved, is_named_by, row_of, live, counts_at, refs_at}
+use Rattle.pagable_tables.proofs.Words.{load_at, has_value, cell_in, core_of, plain_of, nat_tests, references_fault, without_load, with_pin, is_owned_in, FallsAnyhow, ◌&&◌, ◌⊎◌, Core, LoadNumber}
+use Rattle.pagable_tables.proofs.{Words.{HandleRow, Result, Error, option_map, load_in}, Coming.{rows-told, some-held, turned}, Doing.lazily-by, Fitting.{fits-same, pins-le-held}, GivenAll.bare}
+use Rattle.pagable_tables.proofs.{Installed.{no-wanting, ended, has-come, install-newer, pins-here, none-moves, not-so, so-then, ready-owner}, Joined.{joined-fits, owns-none}}
+use Rattle.pagable_tables.proofs.{Newer.{closed-still, later-so}, Stays.not-named, keeps.{Comes.not-a-value, EndCalls.end-whole, HandleCalls.no-references, LoadCalls.may-hold}}
+use Rattle.pagable_tables.specs.Becoming.{coming}
 use Rattle.pagable_tables.proofs.installing.install.Goals as goal
 
 -- references that don't come are as good
@@ -20,25 +21,28 @@ falls-so : (b : Bool) (w : Core) (me : Owner) (l : LoadNumber) (row : HandleRow)
 falls-so true w me l row rs r w' away falls = inl (not-so _ (sym away), record { told = r; falls = falls })
 falls-so false w me l row rs r w' away falls = inr (so-then _ (sym away), record { told = r; falls = none-moves w l row me r w' falls })
 
-pub pin_ready-handle-requires : goal.pin_ready-handle-requires
-pin_ready-handle-requires g c =
+pub pin_here-requires : goal.pin_here-requires
+pin_here-requires g c =
     let r = c.requires.ready (λ key. None) false 0 in
     let holder = may-hold (plain_of c.args.t.now) c.args.me (ready-owner c.args.t.now c.args.me c.args.load c.args.node_type c.args.references.items c.args.ending c.requires.whole r) in
-    record { whole = c.requires.whole; holder = holder; owns = r.owned; left = r.left; place = c.requires.place.place }
+    record { whole = c.requires.whole; holder = holder; owns = r.owned }
+
+pub unreachable-requires : goal.unreachable-requires
+unreachable-requires g c = no-wanting c.args.t.now _ c.requires.whole.steady.sound (c.requires.ready (λ key. None) false 0).left c.requires.place.place (c.in_default.ensures.does.does (λ key. None) false 0).refused.why
 
 pub join-requires-clause-live : goal.join-requires-clause-live
 join-requires-clause-live g c =
-    let t1 = c.pin_ready-handle.new.t in
+    let t1 = c.pin_here.new.t in
     let n = c.args.ending.row.node.0 in
-    let d = c.pin_ready-handle.ensures.whole.steady.fits.holding n in
-    let p = pins-here c.args.t.now t1 (λ key. None) false 0 c.args.ending.row c.args.me (c.pin_ready-handle.ensures.pinned (λ key. None) false 0) in
+    let d = c.in-Ok.ensures.does.whole.steady.fits.holding n in
+    let p = pins-here c.args.t.now t1 (λ key. None) false 0 c.args.ending.row c.args.me (c.in-Ok.ensures.does.does (λ key. None) false 0).pinned.1 in
     let q = pins-le-held n (live t1.holdings.handles.places.items) in
     some-held (counts_at t1.holdings.nodes n) (omega arith)
 
-pub give_up_load-requires : goal.give_up_load-requires
-give_up_load-requires g c =
+pub give_all-requires-clause-steady : goal.give_all-requires-clause-steady
+give_all-requires-clause-steady g c =
     let t = c.args.t.now in
-    let t1 = c.pin_ready-handle.new.t in
+    let t1 = c.pin_here.new.t in
     let me = c.args.me in
     let l = c.args.load in
     let row = c.args.ending.row in
@@ -46,11 +50,11 @@ give_up_load-requires g c =
     let rs = c.args.references.items in
     let p = plain_of t in
     let was = c.requires.whole in
-    let whole = c.pin_ready-handle.ensures.whole in
+    let whole = c.in-Ok.ensures.does.whole in
     let j = c.join.ensures in
     let k = c.join.new.t in
     let r = c.requires.ready (λ key. None) false 0 in
-    let a = c.pin_ready-handle.ensures.pinned (λ key. None) false 0 in
+    let a = (c.in-Ok.ensures.does.does (λ key. None) false 0).pinned.1 in
     let x = row_of (t.holdings.last_handle + 1) row.node Mode.Pinned me in
     elim (cases_Bool c.args.ending.is_away) [
       | inr here ↦ subst (λ (h : Holdings). IsFalling h [] owns_nothing) (sym (j.none here)) whole.steady
@@ -77,33 +81,33 @@ give_up_load-requires g c =
 pub returns-clause-does : goal.returns-clause-does
 returns-clause-does g c =
     let t = c.args.t.now in
-    let t1 = c.pin_ready-handle.new.t in
+    let t1 = c.pin_here.new.t in
     let me = c.args.me in
     let l = c.args.load in
     let row = c.args.ending.row in
     let rs = c.args.references.items in
     let b = c.args.ending.is_away in
     let p = c.requires.ready (λ key. None) false 0 in
-    let same = c.pin_ready-handle.ensures.same in
+    let same = c.in-Ok.ensures.same in
     let j = c.join.ensures in
     lazily-by
     (λ stored closed failures e.
     let w = core_of t stored closed failures in
     let r = c.requires.ready stored closed failures in
-    let next = c.pin_ready-handle.ensures.next stored closed failures in
+    let next = (c.in-Ok.ensures.does.does stored closed failures).pinned.0 in
     record {
       row = row;
       owned = r.owned;
       at = refl;
       next = record { above = next.above; is_left = next.is_left };
-      falls = falls-so b w me l row rs c.give_up_load.result _ r.away
-          (ended t t1 stored closed c.args.lists failures c.requires.whole c.pin_ready-handle.ensures.whole e row p.owned.live me (ready-owner t me l c.args.node_type rs c.args.ending c.requires.whole p) l (coming b rs)
-          (good-so b (plain_of t) (Owner.Load l) rs p.may.good) (c.pin_ready-handle.ensures.pinned stored closed failures) same c.join.new.t j.handles.rows (ap (λ (h : Holdings). h.list) j.same) (ap (λ (h : Holdings). h.last_handle) j.same)
-          j.handles.capacity (λ m. ap cell_in (j.counts m)) c.args.ending.load.since c.give_up_load.new.t (load_at c.close.new.rows)
-          c.give_up_load.result c.give_up_load.ensures.falls (λ q own. c.requires.later.since l.0 c.args.ending.load q c.requires.place.load own) c.close.ensures.gone c.close.ensures.others);
+      falls = falls-so b w me l row rs c.give_all.result _ r.away
+          (ended t t1 stored closed c.args.lists failures c.requires.whole c.in-Ok.ensures.does.whole e row p.owned.live me (ready-owner t me l c.args.node_type rs c.args.ending c.requires.whole p) l (coming b rs)
+          (good-so b (plain_of t) (Owner.Load l) rs p.may.good) (c.in-Ok.ensures.does.does stored closed failures).pinned.1 same c.join.new.t j.handles.rows (ap (λ (h : Holdings). h.list) j.same) (ap (λ (h : Holdings). h.last_handle) j.same)
+          j.handles.capacity (λ m. ap cell_in (j.counts m)) c.args.ending.load.since c.give_all.new.t (load_at c.close.new.rows)
+          c.give_all.result (λ before v f few between. c.give_all.ensures.falls before v (bare (λ m. option_map load_in (load_at c.close.new.rows m))) (λ m. refl) f few (λ q own. let b = between q own in let after = b.0 in ((omega arith, inl after), b.1))) (λ q own. c.requires.later.since l.0 c.args.ending.load q c.requires.place.load own) c.close.ensures.gone c.close.ensures.others);
     })
-    c.give_up_load.ensures.steady
-    (λ i. end-whole {N = Unit {0}} me l tt c.args.node_type rs (Ok c.pin_ready-handle.result) c.requires.whole.core
+    c.give_all.ensures.steady
+    (λ i. end-whole {N = Unit {0}} me l tt c.args.node_type rs (Ok c.in-Ok.handle) c.requires.whole.core
     (record { installs = (row.node, row.number, (c.requires.ready (λ key. None) (not c.args.lists) 0).may, i); refused = tt }))
     (λ i later. later-so later (install-newer me l _ _ _ _ i) (λ m load is. closed-still (load_at t.loads) (load_at c.close.new.rows) l.0 c.close.ensures.gone
     (λ q other. c.close.ensures.others q other ∙ ap (λ (u : Tables). load_at u.loads q) same) m load is) (ap (λ (u : Tables). u.workers) same))
@@ -113,8 +117,8 @@ returns-clause-sheds g c =
     let t = c.args.t.now in
     let p = c.requires.ready (λ key. None) (not c.args.lists) 0 in
     record {
-      left = λ kept. c.give_up_load.ensures.sheds.left (λ n falls. kept n
+      left = λ kept. c.give_all.ensures.sheds.left (λ n falls. kept n
           ∙ sym (ap has_value (c.join.ensures.counts n)
-          ∙ has-come t c.pin_ready-handle.new.t (λ key. None) (not c.args.lists) 0 c.requires.whole c.pin_ready-handle.ensures.whole c.args.ending.row p.owned.live c.args.me
-          (c.pin_ready-handle.ensures.pinned (λ key. None) (not c.args.lists) 0) n));
+          ∙ has-come t c.pin_here.new.t (λ key. None) (not c.args.lists) 0 c.requires.whole c.in-Ok.ensures.does.whole c.args.ending.row p.owned.live c.args.me
+          (c.in-Ok.ensures.does.does (λ key. None) (not c.args.lists) 0).pinned.1 n));
     }

@@ -1,19 +1,19 @@
 use Rattle.pagable_tables.proofs.{Words.{refl, sym, ◌∙◌, inl, inr, any_mode, subst, GetsKey, counts_at, nobody, core_of}, Doing.{nothing-shed, sheds-so}}
-use Rattle.pagable_tables.proofs.{Ended.stays-first, KeyPut.keyed-on, Worlds.{still, owner-same}, keeps.ListCalls.set-key-whole, Newer.set-key-newer}
+use Rattle.pagable_tables.proofs.{Ended.stays-first, KeyPut.keyed-on, Worlds.{failed, still, owner-same}, keeps.ListCalls.set-key-whole, Newer.set-key-newer}
 use Rattle.pagable_tables.proofs.keys.set_data_key.Goals as goal
 
-pub returns-in-Err : goal.returns-in-Err
-returns-in-Err g c =
-    nothing-shed c.requires.whole (λ stored closed failures e. record { does = inl (record { e = c.in-Err.e; why = c.in-Err.ensures.fault stored closed failures any_mode; told = refl; stays = still _ }) })
+pub returns-in_err-at : goal.returns-in_err-at
+returns-in_err-at g c =
+    rw (failed c.from_residual.result c.from_residual.ensures.1) (nothing-shed c.requires.whole (λ stored closed failures e. record { does = inl (record { e = c.in_err-at.field-0.0; why = c.in_err-at.ensures.fault stored closed failures any_mode; told = refl; stays = still _ }) }))
 
 pub returns : goal.returns
 returns g c =
-    let row = c.in-Ok.at.row in
+    let row = c.in_ok-at.at.row in
     sheds-so
     (λ stored closed failures e. record {
       does = inr (
         row,
-        record { live = c.in-Ok.ensures.found; own = owner-same c.args.me row.owner c.in-Ok.ensures.owner; as_asked = refl },
+        record { live = c.in_ok-at.ensures.found; own = owner-same c.args.me row.owner c.in_ok-at.ensures.owner; as_asked = refl },
         inr (
           sym c.is_loose.ensures ∙ c.if-not-is_loose.false,
           c.fall.ensures.falls (core_of c.args.t.now stored closed failures) _ nobody

@@ -1,20 +1,20 @@
 use Rattle.pagable_tables.proofs.Words.{◌∙◌, ap, refl, false, inl, inr, arith, rules, Ok, None, not, is_unpinned, is_valued, plain_of, core_of, nat_tests}
-use Rattle.pagable_tables.proofs.{keeps.Comes.not-a-value, keeps.Fallen.falls-opened, keeps.Told.{stays-on, roomy-whole, alike-whole}, keeps.ListCalls.schedule-whole}
-use Rattle.pagable_tables.proofs.{keeps.Placed.whole-so, Begun.{begun-whole, not-closed, shut-then, open-then}, Named.alike-listed, Worlds.{still, owner-same}, Newer.{later-on, schedule-newer}}
+use Rattle.pagable_tables.proofs.{Begun.{begun-whole, not-closed, shut-then, open-then}, Named.alike-listed, Newer.{later-on, schedule-newer}, Worlds.{failed, still, owner-same}}
+use Rattle.pagable_tables.proofs.keeps.{Comes.not-a-value, Fallen.falls-opened, ListCalls.schedule-whole, Placed.whole-so, Told.{stays-on, roomy-whole, alike-whole}}
 use Rattle.pagable_tables.proofs.listing.schedule_for_paging.Goals as goal
 
-pub returns-in-Err-clause-scheduled : goal.returns-in-Err-clause-scheduled
-returns-in-Err-clause-scheduled g c stored closed failures e = record { moves = tt; refused = record { why = inl (c.in-Err.ensures.fault stored closed failures is_unpinned); stays = still _ } }
+pub returns-in_err-at-clause-scheduled : goal.returns-in_err-at-clause-scheduled
+returns-in_err-at-clause-scheduled g c stored closed failures e = rw (failed c.from_residual.result c.from_residual.ensures.1) record { moves = tt; refused = record { why = inl (c.in_err-at.ensures.fault stored closed failures is_unpinned); stays = still _ } }
 
 pub returns-then-not-lists-clause-scheduled : goal.returns-then-not-lists-clause-scheduled
 returns-then-not-lists-clause-scheduled g c stored closed failures e =
-    let row = c.in-Ok.at.row in
+    let row = c.in_ok-at.at.row in
     let w = core_of c.args.t.now stored closed failures in
-    let falls = rw c.in-Ok.ensures.number at (c.give_back.ensures.falls w w (begun-whole c.args.t.now stored closed c.args.lists failures c.requires.whole e) (omega arith)) in
+    let falls = rw c.in_ok-at.ensures.number at (c.give_back.ensures.falls w w (begun-whole c.args.t.now stored closed c.args.lists failures c.requires.whole e) (omega arith)) in
     record {
       moves = (
         row,
-        record { live = c.in-Ok.ensures.found; own = owner-same c.args.me row.owner c.in-Ok.ensures.owner; as_asked = search rules },
+        record { live = c.in_ok-at.ensures.found; own = owner-same c.args.me row.owner c.in_ok-at.ensures.owner; as_asked = search rules },
         inr (shut-then c.args.lists closed c.if-not-lists.true e, record { told = c.give_back.result; falls = falls }),
       );
       refused = tt;
@@ -29,18 +29,18 @@ returns-then-not-lists-clause-whole g c =
 
 pub returns-clause-scheduled : goal.returns-clause-scheduled
 returns-clause-scheduled g c stored closed failures e =
-    grind (arith, nat_tests, owner-same, open-then, alike-listed, c.in-Ok.ensures.found, c.in-Ok.ensures.owner, c.if-not-lists.false, c.hand_over.ensures.becomes.rows, c.in-Ok.ensures.number)
+    grind (arith, nat_tests, owner-same, open-then, alike-listed, c.in_ok-at.ensures.found, c.in_ok-at.ensures.owner, c.if-not-lists.false, c.hand_over.ensures.becomes.rows, c.in_ok-at.ensures.number)
 
 pub returns-clause-whole : goal.returns-clause-whole
 returns-clause-whole g c =
-    let row = c.in-Ok.at.row in
+    let row = c.in_ok-at.at.row in
     let w = c.requires.whole.steady in
-    let unvalued = ap is_valued (owner-same c.args.me row.owner c.in-Ok.ensures.owner) ∙ not-a-value (plain_of c.args.t.now) c.args.me c.requires.holder in
+    let unvalued = ap is_valued (owner-same c.args.me row.owner c.in_ok-at.ensures.owner) ∙ not-a-value (plain_of c.args.t.now) c.args.me c.requires.holder in
     let steady = c.hand_over.ensures.stands (record c.args.t.now.holdings { list = c.push.new.self }) unvalued refl (record { sound = w.sound; next = w.next; fits = w.fits }) in
     whole-so steady (schedule-whole c.args.me c.args.handle (Ok tt) c.requires.whole.core c.requires.holder (returns-clause-scheduled g c (λ key. None) false 0 c.if-not-lists.false))
 
-pub returns-in_default-clause-whole : goal.returns-in_default-clause-whole
-returns-in_default-clause-whole g c =
+pub returns-in_err-make_place-clause-whole : goal.returns-in_err-make_place-clause-whole
+returns-in_err-make_place-clause-whole g c =
     let w = c.requires.whole.steady in
     whole-so (record { sound = w.sound; next = w.next; fits = w.fits }) (alike-whole c.requires.whole.core (alike-listed (plain_of c.args.t.now) _ refl c.make_place.ensures.items (record { handles = omega arith; entries = c.make_place.ensures.capacity }) refl))
 

@@ -1,45 +1,45 @@
-use Rattle.pagable_tables.proofs.Words.{◌≡◌, arith, ap, sym, ◌∙◌, None, Some, inl, inr, false, rules, not, OptionalDataKey, HandleRow, if_there, is_loose, is_in_memory}
-use Rattle.pagable_tables.proofs.{Words.{is_here, Cell, Owns, is_handle_here, live, counts_at, cell_in, key_in, core_of}}
-use Rattle.pagable_tables.proofs.{Worlds.{still, owner-same}, Opened.{begin-first, no-fault, no-begin-fault, here-told}, Doing.{does-by, nothing-does}, keeps.LoadCalls.begin-whole}
+use Rattle.pagable_tables.proofs.Words.{◌≡◌, arith, ap, sym, ◌∙◌, None, Some, inl, inr, false, rules, not, OptionalDataKey, HandleRow, if_there, is_loose, is_in_memory, is_here, Cell, Owns}
+use Rattle.pagable_tables.proofs.{Words.{is_handle_here, live, counts_at, cell_in, key_in, core_of}, Doing.{does-by, nothing-does}}
+use Rattle.pagable_tables.proofs.{Opened.{handle-first, numbers-late, no-fault, no-begin-fault, here-told}, Worlds.{failed, still, owner-same}, keeps.LoadCalls.begin-whole}
 use Rattle.pagable_tables.proofs.loading.load_begin.Goals as goal
 
-pub returns-in-Err : goal.returns-in-Err
-returns-in-Err c =
+pub returns-in_err-at : goal.returns-in_err-at
+returns-in_err-at c =
     let t = c.args.t.now in
-    nothing-does c.requires.whole
+    rw (failed c.from_residual.result c.from_residual.ensures.1) (nothing-does c.requires.whole
     (λ stored closed failures.
     let w = core_of t stored closed failures in
-    record { begins = tt; refused = record { why = inl (begin-first w c.args.me c.args.handle is_loose c.in-Err.e (not (is_handle_here w c.args.handle)) t.last_load t.holdings.last_handle (c.in-Err.ensures.fault stored closed failures is_loose)); stays = still w } })
+    record { begins = tt; refused = record { why = inl (handle-first w c.args.me c.args.handle is_loose _ _ (c.in_err-at.ensures.fault stored closed failures is_loose) (numbers-late (not (is_handle_here w c.args.handle)) t.last_load t.holdings.last_handle)); stays = still w } }))
 
-pub returns-in-Ok-open_cell : goal.returns-in-Ok-open_cell
-returns-in-Ok-open_cell c =
+pub returns : goal.returns
+returns c =
     let t = c.args.t.now in
-    let row = c.in-Ok.at.row in
-    let y = c.in-Some.counts in
-    let is : counts_at t.holdings.nodes row.node.0 ≡ Some y = sym c.counts_of.ensures ∙ c.in-Some.is in
-    let key = ap (λ o. if_there (λ (cell : Cell). cell.key) OptionalDataKey.None (cell_in o)) is ∙ c.in-Some-key_away.ensures.key in
+    let row = c.in_ok-at.at.row in
+    let y = c.unwrap-counts.result in
+    let is : counts_at t.holdings.nodes row.node.0 ≡ Some y = sym c.counts_of.ensures ∙ c.unwrap-counts.ensures in
+    let key = ap (λ o. if_there (λ (cell : Cell). cell.key) OptionalDataKey.None (cell_in o)) is ∙ c.in-Some.ensures.key in
     let typed = ap (λ o. if_there (λ (cell : Cell). Some cell.node_type) None (cell_in o)) is in
     does-by
     (λ stored closed failures.
     let w = core_of t stored closed failures in
-    let own : Owns w c.args.me c.args.handle is_loose row = record { live = c.in-Ok.ensures.found; own = owner-same c.args.me row.owner c.in-Ok.ensures.owner; as_asked = search rules } in
+    let own : Owns w c.args.me c.args.handle is_loose row = record { live = c.in_ok-at.ensures.found; own = owner-same c.args.me row.owner c.in_ok-at.ensures.owner; as_asked = search rules } in
     let told : is_here w row.node.0 ≡ is_in_memory y.pins (key_in y.key) = here-told (counts_at t.holdings.nodes) (live t.holdings.handles.places.items) row.node.0 y (c.requires.whole.steady.fits.pinned row.node.0) is in
-    let opened = rw c.in-Ok.ensures.number at (c.in-Ok-open_cell.ensures.opened stored closed failures) in
-    record { begins = (row, own, (told ∙ c.in-Some-key_away.ensures.away, key, c.in-Ok-open_cell.ensures.next stored closed failures, omega arith, (y.node_type, typed, opened))); refused = tt })
+    let opened = rw c.in_ok-at.ensures.number at (c.in_ok-load.ensures.opened stored closed failures) in
+    record { begins = (row, own, (told ∙ c.in-Some.ensures.away, key, c.in_ok-load.ensures.next stored closed failures, omega arith, (y.node_type, typed, opened))); refused = tt })
     c.open_cell.ensures.steady (begin-whole c.args.me c.args.handle _ c.requires.whole.core c.requires.owner) (λ begins later. c.open_cell.ensures.later)
 
-pub returns-in-Err-open_cell : goal.returns-in-Err-open_cell
-returns-in-Err-open_cell c =
+pub returns-in_err-load : goal.returns-in_err-load
+returns-in_err-load c =
     let t = c.args.t.now in
-    let row = c.in-Ok.at.row in
-    let y = c.in-Some.counts in
-    let is : counts_at t.holdings.nodes row.node.0 ≡ Some y = sym c.counts_of.ensures ∙ c.in-Some.is in
-    does-by
+    let row = c.in_ok-at.at.row in
+    let y = c.unwrap-counts.result in
+    let is : counts_at t.holdings.nodes row.node.0 ≡ Some y = sym c.counts_of.ensures ∙ c.unwrap-counts.ensures in
+    rw (failed c.from_residual-in_err-load.result c.from_residual-in_err-load.ensures.1) (does-by
     (λ stored closed failures.
     let w = core_of t stored closed failures in
     let told : is_here w row.node.0 ≡ is_in_memory y.pins (key_in y.key) = here-told (counts_at t.holdings.nodes) (live t.holdings.handles.places.items) row.node.0 y (c.requires.whole.steady.fits.pinned row.node.0) is in
-    let away = ap (if_there (λ (r : HandleRow). is_here w r.node.0) false) c.in-Ok.ensures.found ∙ told ∙ c.in-Some-key_away.ensures.away in
-    let none = no-fault w c.args.me c.args.handle is_loose row c.in-Ok.ensures.found c.in-Ok.ensures.owner (search rules) in
+    let away = ap (if_there (λ (r : HandleRow). is_here w r.node.0) false) c.in_ok-at.ensures.found ∙ told ∙ c.in-Some.ensures.away in
+    let none = no-fault w c.args.me c.args.handle is_loose row c.in_ok-at.ensures.found c.in_ok-at.ensures.owner (search rules) in
     let before = no-begin-fault w c.args.me c.args.handle (not (is_handle_here w c.args.handle)) none (search rules) (search rules) in
-    record { begins = tt; refused = record { why = inr (c.in-Err-open_cell.ensures.refused, before, away); stays = c.in-Err-open_cell.ensures.stays stored closed failures } })
-    c.open_cell.ensures.steady (begin-whole c.args.me c.args.handle _ c.requires.whole.core c.requires.owner) (λ begins later. c.open_cell.ensures.later)
+    record { begins = tt; refused = record { why = inr (c.in_err-load.ensures.refused, before, away); stays = c.in_err-load.ensures.stays stored closed failures } })
+    c.open_cell.ensures.steady (begin-whole c.args.me c.args.handle _ c.requires.whole.core c.requires.owner) (λ begins later. c.open_cell.ensures.later))

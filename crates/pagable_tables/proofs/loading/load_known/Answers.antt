@@ -1,10 +1,14 @@
-use Rattle.pagable_tables.proofs.{Words.load_in, Adoptions.{recalls-asked, not-asked}, Doing.{does-as, nothing-does}}
+use Rattle.pagable_tables.proofs.{Words.{arith, nat_tests, core_of, where_so, spent, is_usable}, Adoptions.not-own, Opened.{no-load-fault, spent-late}, Doing.{does-as, nothing-does}, Worlds.failed}
 use Rattle.pagable_tables.proofs.loading.load_known.Goals as goal
 
-pub returns-in-Err-clause-does : goal.returns-in-Err-clause-does
-returns-in-Err-clause-does c = nothing-does c.requires.whole (λ stored closed failures. not-asked _ c.args.me c.args.load c.args.kind c.args.key c.in-Err.e (c.in-Err.ensures.fault stored closed failures))
+pub returns-in_err-_row-clause-does : goal.returns-in_err-_row-clause-does
+returns-in_err-_row-clause-does c =
+    rw (failed c.from_residual.result c.from_residual.ensures.1) (nothing-does c.requires.whole (λ stored closed failures. let w = core_of c.args.t.now stored closed failures in record {
+      gives = tt;
+      refused = not-own w c.args.me c.args.load (where_so (is_usable w c.args.kind c.args.key) (spent w.last.handle)) _ (c.in_err-_row.ensures.fault stored closed failures) (λ f so. let b = spent-late w.last.handle (is_usable w c.args.kind c.args.key) f so in omega arith);
+    }))
 
 pub returns-clause-does : goal.returns-clause-does
 returns-clause-does c =
     does-as c.cache_get.ensures.does
-    (λ stored closed failures. recalls-asked _ c.args.me c.args.load (load_in c.in-Ok.row) c.args.kind c.args.key c.cache_get.result _ (c.in-Ok.ensures.own stored closed failures))
+    (λ stored closed failures call. let own = c.in_ok-_row.ensures.own stored closed failures in grind (arith, nat_tests, no-load-fault))

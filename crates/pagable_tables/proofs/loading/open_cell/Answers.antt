@@ -2,11 +2,11 @@ use Rattle.pagable_tables.proofs.{Words.{◌+◌, ◌∙◌, refl, arith, None, 
 use Rattle.pagable_tables.proofs.{Opened.only-memory, Newer.{newer-alike, newer-handle, newer-then, later-so, later-opened, closed-still}}
 use Rattle.pagable_tables.proofs.loading.open_cell.Goals as goal
 
-pub returns-in-Ok-come-clause-opened : goal.returns-in-Ok-come-clause-opened
-returns-in-Ok-come-clause-opened c stored closed failures =
+pub returns-in-Ok-clause-opened : goal.returns-in-Ok-clause-opened
+returns-in-Ok-clause-opened c stored closed failures =
     let t = c.args.t.now in
-    let a = (c.in-Ok-come.ensures.made (core_of (record t { holdings = c.come.new.t; loads = c.open.new.rows; last_load = t.last_load + 1 }) stored closed failures)).made.1 in
-    grind (arith, nat_tests, load-comes, c.in-Ok.ensures.here, c.in-Ok.ensures.others)
+    let a = (c.in-Ok.ensures.made (core_of (record t { holdings = c.come.new.t; loads = c.open.new.rows; last_load = t.last_load + 1 }) stored closed failures)).made.1 in
+    grind (arith, nat_tests, load-comes, c.in_ok-open.ensures.here, c.in_ok-open.ensures.others)
 
 pub returns-in-Err-clause-refused : goal.returns-in-Err-clause-refused
 returns-in-Err-clause-refused c = let t = c.args.t.now in only-memory t.holdings.last_handle c.in-Err.e c.requires.handle (c.in-Err.ensures.made (core_of t (λ q. None) false 0)).refused.why
@@ -16,17 +16,17 @@ returns-in-Err-clause-stays c stored closed failures =
     let t = c.args.t.now in
     let l = t.last_load + 1 in
     let a = (c.in-Err.ensures.made (core_of (record t { holdings = c.come.new.t; loads = c.close.new.rows }) stored closed failures)).refused.stays in
-    grind (arith, nat_tests, load-goes, none-yet, c.requires.whole.core.loads.numbered, c.in-Ok.ensures.others, c.close.ensures.gone, c.close.ensures.others)
+    grind (arith, nat_tests, load-goes, none-yet, c.requires.whole.core.loads.numbered, c.in_ok-open.ensures.others, c.close.ensures.gone, c.close.ensures.others)
 
-pub returns-in-Ok-come-clause-later : goal.returns-in-Ok-come-clause-later
-returns-in-Ok-come-clause-later c =
+pub returns-in-Ok-clause-later : goal.returns-in-Ok-clause-later
+returns-in-Ok-clause-later c =
     let t = c.args.t.now in
     let l = t.last_load + 1 in
     let w = plain_of t in
-    let n = newer-then (newer-handle w c.args.at.row.node Mode.LooseUnpinned (Owner.Load (record { 0 = l }))) (newer-alike (returns-in-Ok-come-clause-opened c (λ key. None) false 0)) in
-    later-opened c.requires.whole.core c.requires.later n l _ (none-yet (load_at t.loads l) t.last_load (λ some. (c.requires.whole.core.loads.numbered l some).1)) c.in-Ok.ensures.here refl c.in-Ok.ensures.others refl
+    let n = newer-then (newer-handle w c.args.at.row.node Mode.LooseUnpinned (Owner.Load (record { 0 = l }))) (newer-alike (returns-in-Ok-clause-opened c (λ key. None) false 0)) in
+    later-opened c.requires.whole.core c.requires.later n l _ (none-yet (load_at t.loads l) t.last_load (λ some. (c.requires.whole.core.loads.numbered l some).1)) c.in_ok-open.ensures.here refl c.in_ok-open.ensures.others refl
 
 pub returns-in-Err-clause-later : goal.returns-in-Err-clause-later
 returns-in-Err-clause-later c =
     later-so c.requires.later (newer-alike (returns-in-Err-clause-stays c (λ key. None) false 0))
-    (closed-still (load_at c.args.t.now.loads) (load_at c.close.new.rows) (c.args.t.now.last_load + 1) c.close.ensures.gone (λ q other. c.close.ensures.others q other ∙ c.in-Ok.ensures.others q other)) refl
+    (closed-still (load_at c.args.t.now.loads) (load_at c.close.new.rows) (c.args.t.now.last_load + 1) c.close.ensures.gone (λ q other. c.close.ensures.others q other ∙ c.in_ok-open.ensures.others q other)) refl

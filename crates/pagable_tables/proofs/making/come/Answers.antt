@@ -11,9 +11,9 @@ pub returns : goal.returns
 returns c =
     let t = c.args.t.now in
     let m = c.args.node.0 in
-    let y = c.in-Some.counts in
+    let y = c.unwrap-counts.result in
     let x : HandleRow = record { number = record { 0 = t.last_handle + 1 }; node = c.args.node; mode = c.args.mode; owner = c.args.owner } in
-    let is : counts_at t.nodes m ≡ Some y = sym c.counts_of.ensures ∙ c.in-Some.is in
+    let is : counts_at t.nodes m ≡ Some y = sym c.counts_of.ensures ∙ c.unwrap-counts.ensures in
     let e = c.set_counts.ensures in
     let fits = c.requires.steady.fits in
     let here : counts_at c.set_counts.new.nodes m ≡ Some (record y { pins = y.pins + one (is_pinning x.mode); holds = y.holds + 1 }) =
@@ -22,7 +22,7 @@ returns c =
       made = λ w. record {
         made = (
           record { above = refl; is_left = search rules },
-          alike _ _ c.in-Ok.ensures.rows (come-cells _ _ _ _ _ t.top x y fits is here e.others e.refs c.requires.owner) (record { handles = c.push.ensures.capacity; entries = omega arith }) refl,
+          alike _ _ c.in_ok-push.ensures.rows (come-cells _ _ _ _ _ t.top x y fits is here e.others e.refs c.requires.owner) (record { handles = c.push.ensures.capacity; entries = omega arith }) refl,
         );
         refused = tt;
       };
@@ -34,7 +34,7 @@ returns c =
       ];
       steady = record {
         sound = c.push.ensures.sound;
-        next = c.in-Ok.ensures.next;
-        fits = rows-told _ _ _ _ t.top c.in-Ok.ensures.rows (come-fits _ _ _ _ _ t.top x y fits is here e.others e.refs c.requires.owner);
+        next = c.in_ok-push.ensures.next;
+        fits = rows-told _ _ _ _ t.top c.in_ok-push.ensures.rows (come-fits _ _ _ _ _ t.top x y fits is here e.others e.refs c.requires.owner);
       };
     }

@@ -1,35 +1,36 @@
 use Rattle.pagable_tables.proofs.Words.{◌≡◌, ◌∙◌, ℕ, ap, subst, false, Some, None, is_owner, is_shared, is_owned_by, Alike, with_mode, HandleRow, Owner, Mode, Tables, core_of, plain_of, arith}
 use Rattle.pagable_tables.proofs.{Words.nat_tests, Stays.{pinned-alike, found-again}, keeps.Comes.not-list, keeps.HandleCalls.loose-unshared, keeps.Rows.found-among}
-use Rattle.pagable_tables.proofs.Doing.{does-as}
+use Rattle.pagable_tables.proofs.{Doing.does-as, Worlds.failed}
 use Rattle.pagable_tables.proofs.pinning.pin_here.Goals as goal
 
 pub make-requires-clause-suits : goal.make-requires-clause-suits
 make-requires-clause-suits c = grind (arith, nat_tests, found-among, loose-unshared, c.requires.owns.live, c.requires.owns.as_asked)
 
-pub returns-in-Err-clause-does : goal.returns-in-Err-clause-does
-returns-in-Err-clause-does c = does-as c.in-Err.ensures.does (λ stored closed failures made. record { pinned = tt; refused = made.refused })
+pub returns-in_err-handle-clause-does : goal.returns-in_err-handle-clause-does
+returns-in_err-handle-clause-does c = rw (failed c.from_residual.result c.from_residual.ensures.1)
+    (does-as c.in_err-handle.ensures.does (λ stored closed failures made. record { pinned = tt; refused = made.refused }))
 
 pub unreachable-requires : goal.unreachable-requires
 unreachable-requires c =
-    let again = found-again c.args.row.number.0 _ _ _ c.args.row None c.requires.owns.live ((c.in-Ok.ensures.does.does (λ key. None) false 0).made.1.rows) c.in_default.ensures.none in
+    let again = found-again c.args.row.number.0 _ _ _ c.args.row None c.requires.owns.live ((c.in_ok-handle.ensures.does.does (λ key. None) false 0).made.1.rows) c.in_default.ensures.none in
     absurd (cc)
 
 pub turn-requires-clause-unshared : goal.turn-requires-clause-unshared
 turn-requires-clause-unshared c =
-    let again = found-again c.args.row.number.0 _ _ _ c.args.row (Some c.in-Some.at.row) c.requires.owns.live ((c.in-Ok.ensures.does.does (λ key. None) false 0).made.1.rows) c.in-Some.ensures.found in
+    let again = found-again c.args.row.number.0 _ _ _ c.args.row (Some c.in-Some.at.row) c.requires.owns.live ((c.in_ok-handle.ensures.does.does (λ key. None) false 0).made.1.rows) c.in-Some.ensures.found in
     let same : c.in-Some.at.row ≡ c.args.row = cc in
     ap (λ (row : HandleRow). is_shared row.mode) same ∙ loose-unshared c.args.row.mode c.requires.owns.as_asked
 
 pub turn-requires-clause-unlisted : goal.turn-requires-clause-unlisted
 turn-requires-clause-unlisted c =
-    let again = found-again c.args.row.number.0 _ _ _ c.args.row (Some c.in-Some.at.row) c.requires.owns.live ((c.in-Ok.ensures.does.does (λ key. None) false 0).made.1.rows) c.in-Some.ensures.found in
+    let again = found-again c.args.row.number.0 _ _ _ c.args.row (Some c.in-Some.at.row) c.requires.owns.live ((c.in_ok-handle.ensures.does.does (λ key. None) false 0).made.1.rows) c.in-Some.ensures.found in
     let same : c.in-Some.at.row ≡ c.args.row = cc in
     ap (is_owned_by Owner.List) same ∙ ap (is_owner Owner.List) c.requires.owns.own ∙ not-list (plain_of c.args.t.now) c.args.me c.requires.holder
 
 pub returns-clause-does : goal.returns-clause-does
 returns-clause-does c =
     let row = c.args.row in
-    let made = c.in-Ok.ensures.does in
+    let made = c.in_ok-handle.ensures.does in
     let turns = c.turn.ensures.does in
     let numbered = c.requires.whole.core.handles.numbered row (found-among row.number.0 (plain_of c.args.t.now).rows row c.requires.owns.live).0 in
     record {
@@ -39,7 +40,7 @@ returns-clause-does c =
           let u = core_of c.make.new.t stored closed failures in
           let w' = core_of c.turn.new.t stored closed failures in
           let turned = subst (λ q. Alike (with_mode u q Mode.LoosePinned) w') c.in-Some.ensures.number (turns.does stored closed failures) in
-          let same = λ (kind key : ℕ). ap (λ (u : Tables). cache u kind key) c.turn.ensures.same ∙ ap (λ (u : Tables). cache u kind key) c.in-Ok.ensures.same in
+          let same = λ (kind key : ℕ). ap (λ (u : Tables). cache u kind key) c.turn.ensures.same ∙ ap (λ (u : Tables). cache u kind key) c.in_ok-handle.ensures.same in
           record { pinned = (record { above = m.made.0.above; is_left = m.made.0.is_left }, pinned-alike (core_of c.args.t.now stored closed failures) u w' row.number row.node c.args.me numbered.1 same m.made.1 turned); refused = tt });
       whole = turns.whole;
       later = λ later. turns.later (made.later later);

@@ -6,7 +6,7 @@ returns c =
     let t = c.args.t.now.holdings in
     let w = c.requires in
     does-so
-    (λ stored closed failures. grind (arith, nat_tests, same-cache, c.reserve.ensures.widens.rows, c.grow_list.ensures.items, c.reserve.ensures.widens.capacity, c.grow_list.ensures.capacity))
+    (λ stored closed failures. grind (arith, nat_tests, same-cache, c.reserve.ensures.widens.rows, c.reserve-2.ensures.items, c.reserve.ensures.widens.capacity, c.reserve-2.ensures.capacity))
     (record {
       sound = c.reserve.ensures.widens.sound;
       next = c.reserve.ensures.widens.next (t.last_handle + 1) w.steady.next;

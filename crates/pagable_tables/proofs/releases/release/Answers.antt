@@ -1,18 +1,20 @@
-use Rattle.pagable_tables.proofs.{Words.{refl, inl, inr, arith, any_mode, core_of}, Begun.begun-whole, Doing.{nothing-shed, sheds-so}}
-use Rattle.pagable_tables.proofs.{keeps.ListCalls.release-whole, Worlds.{still, owner-same}, Newer.release-newer}
+use Rattle.pagable_tables.proofs.{Words.{◌≡◌, ℕ, Bool, Option, Blob, None, not, Falls, only_handle, plain_of, refl, inl, inr, arith, any_mode, core_of}, Begun.{begun-whole, not-closed}}
+use Rattle.pagable_tables.proofs.{Doing.{nothing-shed, sheds-so}, Newer.newer-falls, Worlds.{failed, still, owner-same}, keeps.{Fallen.falls-opened, Told.{roomy-whole, stays-on}}}
 use Rattle.pagable_tables.proofs.releases.release.Goals as goal
 
-pub returns-in-Err : goal.returns-in-Err
-returns-in-Err g c =
-    nothing-shed c.requires.whole (λ stored closed failures e. record { does = inl (record { e = c.in-Err.e; why = c.in-Err.ensures.fault stored closed failures any_mode; told = refl; stays = still _ }) })
+pub returns-in_err-at : goal.returns-in_err-at
+returns-in_err-at g c =
+    rw (failed c.from_residual.result c.from_residual.ensures.1) (nothing-shed c.requires.whole (λ stored closed failures e. record { does = inl (record { e = c.in_err-at.field-0.0; why = c.in_err-at.ensures.fault stored closed failures any_mode; told = refl; stays = still _ }) }))
 
 pub returns : goal.returns
 returns g c =
-    let row = c.in-Ok.at.row in
-    sheds-so
-    (λ stored closed failures e.
-    let w = core_of c.args.t.now stored closed failures in
-    let falls = rw c.in-Ok.ensures.number at (c.give_back.ensures.falls w w (begun-whole c.args.t.now stored closed c.args.lists failures c.requires.whole e) (omega arith)) in
-    record { does = inr (row, record { live = c.in-Ok.ensures.found; own = owner-same c.args.me row.owner c.in-Ok.ensures.owner; as_asked = refl }, falls) })
-    c.give_back.ensures.steady (release-whole c.args.me c.args.handle c.give_back.result c.requires.whole.core) (release-newer c.args.me c.args.handle c.give_back.result) refl refl
+    let t = c.args.t.now in
+    let row = c.in_ok-at.at.row in
+    let is = c.requires.whole.core in
+    let falls : (stored : ℕ → Option Blob) (closed : Bool) (failures : ℕ) → c.args.lists ≡ not closed
+    → Falls (core_of t stored closed failures) (core_of t stored closed failures) (only_handle c.args.handle) c.give_back.result (core_of (record t { holdings = c.give_back.new.t }) stored closed failures) =
+    λ stored closed failures e. rw c.in_ok-at.ensures.number at (c.give_back.ensures.falls _ _ (begun-whole t stored closed c.args.lists failures c.requires.whole e) (omega arith)) in
+    let fell = falls (λ key. None) (not c.args.lists) 0 (not-closed c.args.lists) in
+    sheds-so (λ stored closed failures e. record { does = inr (row, record { live = c.in_ok-at.ensures.found; own = owner-same c.args.me row.owner c.in_ok-at.ensures.owner; as_asked = refl }, falls stored closed failures e) })
+    c.give_back.ensures.steady (λ call. falls-opened (roomy-whole is) (stays-on (plain_of t)) fell) (λ call. newer-falls fell) refl refl
     c.give_back.ensures.sheds

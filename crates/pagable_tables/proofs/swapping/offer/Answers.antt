@@ -1,16 +1,17 @@
-use Rattle.pagable_tables.proofs.Words.{not, ◌≡◌, ◌+◌, false, None, Ok, Some, inr, refl, ap, sym, subst, arith, IfSome, length, nat_tests, mode_of, with_known, Falls, only_handle, Tables, core_of}
-use Rattle.pagable_tables.proofs.{Words.{plain_of, AllPairs, IsHandleBefore, true}, Begun.{open-then, not-closed}, Stays.{found-again, begun-made, swapped, values-made, values-still}}
-use Rattle.pagable_tables.proofs.{Ended.{stays-first, sheds-still}, keeps.{CacheCalls.offer-whole, Comes.{not-a-value, not-list}, Placed.whole-so, Rows.found-among}, Newer.{later-on, offer-newer}}
+use Rattle.pagable_tables.proofs.Words.{◌≡◌, ◌+◌, false, None, inr, refl, ap, sym, subst, arith, IfSome, length, nat_tests, mode_of, with_known, Falls, only_handle, Tables, core_of}
+use Rattle.pagable_tables.proofs.{Words.{plain_of, AllPairs, IsHandleBefore, true}, Begun.{begun-whole, open-then}, Ended.{stays-first, sheds-still}, Newer.{later-on, newer-falls}}
+use Rattle.pagable_tables.proofs.{Stays.{found-again, begun-made, swapped, values-made, values-still}, Worlds.failed}
+use Rattle.pagable_tables.proofs.keeps.{Comes.{not-a-value, not-list}, Fallen.falls-opened, Placed.whole-so, Rows.found-among, Told.{roomy-whole, stays-on}}
 use Rattle.pagable_tables.proofs.swapping.offer.Goals as goal
 
 pub give_number-requires-clause-there : goal.give_number-requires-clause-there
 give_number-requires-clause-there g c =
-    let (row, owns, typed, (n, known, next, alike)) = (rw c.in-Ok-Some.field-0-is at (c.in-Ok-Some.ensures.offered (λ key. None) 0)).answers in
+    let (row, owns, typed, (n, known, next, alike)) = (rw c.in-Some.is at (c.in_ok-known.ensures.offered (λ key. None) 0)).answers in
     grind (arith, nat_tests, found-again, not-a-value, not-list, c.requires.holder)
 
-pub returns-in-Ok-Some-clause-offered : goal.returns-in-Ok-Some-clause-offered
-returns-in-Ok-Some-clause-offered g c stored closed failures e =
-    let (row, owns, typed, (n, known, next, alike)) = (rw c.in-Ok-Some.field-0-is at (c.in-Ok-Some.ensures.offered stored failures)).answers in
+pub returns-clause-offered : goal.returns-clause-offered
+returns-clause-offered g c stored closed failures e =
+    let (row, owns, typed, (n, known, next, alike)) = (rw c.in-Some.is at (c.in_ok-known.ensures.offered stored failures)).answers in
     let t = c.args.t.now in
     let t1 = c.cache_put.new.t in
     let w = core_of t stored false failures in
@@ -22,44 +23,39 @@ returns-in-Ok-Some-clause-offered g c stored closed failures e =
     let falls = swapped w (record { 0 = n }) (mode_of c.args.kind.0) c.args.me (subst (AllPairs IsHandleBefore) alike.rows c.cache_put.ensures.whole.core.handles.ordered)
     (not-a-value (plain_of t) c.args.me c.requires.holder) fell.falls spared in
     let anew : Falls w u (only_handle c.args.handle) fell.told (core_of (record t1 { holdings = c.give_number.new.t }) stored false failures) =
-    subst (λ (z : Tables). Falls w u (only_handle c.args.handle) fell.told (core_of (record z { holdings = c.give_number.new.t }) stored false failures)) (sym (subst (λ f. IfSome f (λ k. t1 ≡ record t { holdings = t1.holdings })) c.in-Ok-Some.field-0-is c.in-Ok-Some.ensures.known)) falls in
+    subst (λ (z : Tables). Falls w u (only_handle c.args.handle) fell.told (core_of (record z { holdings = c.give_number.new.t }) stored false failures)) (sym (subst (λ f. IfSome f (λ k. t1 ≡ record t { holdings = t1.holdings })) c.in-Some.is c.in_ok-known.ensures.known)) falls in
     rw (open-then c.args.lists closed c.if-not-lists.false e) (record { answers = (row, owns, typed, inr (refl, (n, known, next, record { told = fell.told; falls = anew }))); refused = tt })
 
-pub returns-in-Ok-Some-clause-whole : goal.returns-in-Ok-Some-clause-whole
-returns-in-Ok-Some-clause-whole g c =
-    whole-so c.give_number.ensures.steady (offer-whole c.args.me c.args.kind c.args.key c.args.handle (Ok (Some c.in-Ok-Some.known)) c.requires.whole.core c.requires.holder (returns-in-Ok-Some-clause-offered g c (λ key. None) false 0 c.if-not-lists.false))
+pub returns-clause-whole : goal.returns-clause-whole
+returns-clause-whole g c =
+    let t1 = c.cache_put.new.t in
+    let w1 = c.cache_put.ensures.whole in
+    let fell = c.give_number.ensures.falls (plain_of t1) (plain_of t1) (begun-whole t1 (λ key. None) false true 0 w1 refl) (omega arith) in
+    whole-so c.give_number.ensures.steady (falls-opened (roomy-whole w1.core) (stays-on (plain_of t1)) fell.falls)
 
-pub returns-in-Ok-Some-clause-sheds : goal.returns-in-Ok-Some-clause-sheds
-returns-in-Ok-Some-clause-sheds g c there =
-    let (row, owns, typed, (n, known, next, alike)) = (rw c.in-Ok-Some.field-0-is at (c.in-Ok-Some.ensures.offered (λ key. None) 0)).answers in
+pub returns-clause-sheds : goal.returns-clause-sheds
+returns-clause-sheds g c there =
+    let (row, owns, typed, (n, known, next, alike)) = (rw c.in-Some.is at (c.in_ok-known.ensures.offered (λ key. None) 0)).answers in
     stays-first (values-made c.args.t.now c.cache_put.new.t (λ key. None) false 0 (record { 0 = n })
     (mode_of c.args.kind.0) c.args.me c.cache_put.ensures.whole alike c.requires.whole (there n known)) c.give_number.ensures.sheds
 
-pub returns-in-Ok-None-clause-offered : goal.returns-in-Ok-None-clause-offered
-returns-in-Ok-None-clause-offered g c stored closed failures e =
-    let (row, owns, typed, learned) = (rw c.in-Ok-None.field-0-is at (c.in-Ok-None.ensures.offered stored failures)).answers in
+pub returns-in_default-clause-offered : goal.returns-in_default-clause-offered
+returns-in_default-clause-offered g c stored closed failures e =
+    let (row, owns, typed, learned) = (rw c.in_default.is at (c.in_ok-known.ensures.offered stored failures)).answers in
     rw (open-then c.args.lists closed c.if-not-lists.false e) (record { answers = (row, owns, typed, (refl, learned.0, learned.1)); refused = tt })
 
-pub returns-in-Ok-None-clause-sheds : goal.returns-in-Ok-None-clause-sheds
-returns-in-Ok-None-clause-sheds g c there =
-    let learned = (rw c.in-Ok-None.field-0-is at (c.in-Ok-None.ensures.offered (λ key. None) 0)).answers.3.1 in
+pub returns-in_default-clause-sheds : goal.returns-in_default-clause-sheds
+returns-in_default-clause-sheds g c there =
+    let learned = (rw c.in_default.is at (c.in_ok-known.ensures.offered (λ key. None) 0)).answers.3.1 in
     stays-first (values-still c.args.t.now c.cache_put.new.t c.requires.whole c.cache_put.ensures.whole learned.rows learned.cells) (sheds-still c.cache_put.new.t.holdings _ c.cache_put.ensures.whole.steady)
 
-pub returns-in-Err-cache_put-clause-offered : goal.returns-in-Err-cache_put-clause-offered
-returns-in-Err-cache_put-clause-offered g c stored closed failures e =
-    rw (open-then c.args.lists closed c.if-not-lists.false e) (record { answers = tt; refused = (c.in-Err-cache_put.ensures.offered stored failures).refused })
+pub returns-in_err-known-clause-offered : goal.returns-in_err-known-clause-offered
+returns-in_err-known-clause-offered g c stored closed failures e =
+    rw (failed c.from_residual-in_err-known.result c.from_residual-in_err-known.ensures.1)
+    (rw (open-then c.args.lists closed c.if-not-lists.false e) (record { answers = tt; refused = (c.in_err-known.ensures.offered stored failures).refused }))
 
-pub returns-in-Ok-Some-clause-later : goal.returns-in-Ok-Some-clause-later
-returns-in-Ok-Some-clause-later g c later =
-    later-on later (offer-newer c.args.me c.args.kind c.args.key c.args.handle _ (returns-in-Ok-Some-clause-offered g c (λ key. None) (not c.args.lists) 0 (not-closed c.args.lists)))
-    c.cache_put.ensures.loads c.cache_put.ensures.workers
-
-pub returns-in-Ok-None-clause-later : goal.returns-in-Ok-None-clause-later
-returns-in-Ok-None-clause-later g c later =
-    later-on later (offer-newer c.args.me c.args.kind c.args.key c.args.handle _ (returns-in-Ok-None-clause-offered g c (λ key. None) (not c.args.lists) 0 (not-closed c.args.lists)))
-    c.cache_put.ensures.loads c.cache_put.ensures.workers
-
-pub returns-in-Err-cache_put-clause-later : goal.returns-in-Err-cache_put-clause-later
-returns-in-Err-cache_put-clause-later g c later =
-    later-on later (offer-newer c.args.me c.args.kind c.args.key c.args.handle _ (returns-in-Err-cache_put-clause-offered g c (λ key. None) (not c.args.lists) 0 (not-closed c.args.lists)))
-    c.cache_put.ensures.loads c.cache_put.ensures.workers
+pub returns-clause-later : goal.returns-clause-later
+returns-clause-later g c later =
+    let t1 = c.cache_put.new.t in
+    let fell = c.give_number.ensures.falls (plain_of t1) (plain_of t1) (begun-whole t1 (λ key. None) false true 0 c.cache_put.ensures.whole refl) (omega arith) in
+    later-on (c.in_ok-known.ensures.later later) (newer-falls fell.falls) refl refl

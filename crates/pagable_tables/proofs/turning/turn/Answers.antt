@@ -1,16 +1,16 @@
-use Rattle.pagable_tables.proofs.{Words.{◌+◌, ◌≡◌, arith, refl, ap, sym, ◌∙◌, Some, not, one, live, counts_at, plain_of, Mode}, Alive.{changed-known, row-live}, Coming.{turn-fits, turn-cells, turned}}
-use Rattle.pagable_tables.proofs.{Worlds.alike, keeps.{Told.settles, HandleCalls.pins-whole}, Doing.does-so, Newer.{newer-alike, newer-mode, newer-then}}
+use Rattle.pagable_tables.proofs.{Words.{◌+◌, ◌≡◌, arith, refl, ap, sym, ◌∙◌, Some, not, one, live, counts_at, plain_of, Mode, Counts}, Alive.{changed-known, row-live}}
+use Rattle.pagable_tables.proofs.{Coming.{turn-fits, turn-cells, turned}, Doing.does-so, Newer.{newer-alike, newer-mode, newer-then}, Worlds.alike, keeps.{HandleCalls.pins-whole, Told.settles}}
 use Rattle.pagable_tables.proofs.turning.turn.Goals as goal
 
 pub returns-clause-does : goal.returns-clause-does
 returns-clause-does c =
     let t = c.args.t.now.holdings in
     let x = c.args.at.row in
-    let y = c.in-Some.counts in
+    let y = c.unwrap-counts.result in
     let w = c.requires.whole in
-    let is : counts_at t.nodes x.node.0 ≡ Some y = sym c.counts_of.ensures ∙ c.in-Some.is in
+    let is : counts_at t.nodes x.node.0 ≡ Some y = sym c.counts_of.ensures ∙ c.unwrap-counts.ensures in
     let e = c.set_counts.ensures in
-    let here = e.here ∙ ap Some (c.counts_pinned-pinned.ensures ∙ ap (λ p. record y { pins = y.pins + one (not p) }) c.pins.ensures) in
+    let here = e.here ∙ ap (λ (k : Counts). Some (record k { holds = y.holds })) (c.counts_more.ensures ∙ ap (λ p. record y { pins = y.pins + one (not p); holds = y.holds + 1 }) c.pins.ensures) in
     does-so
     (λ stored closed failures. alike _ _ (c.set.ensures.becomes.rows ∙ changed-known t.handles.places.items c.args.at.place x w.steady.sound.ordered c.requires.place turned)
     (turn-cells _ _ _ _ _ (live c.set.new.handles.places.items) _ x y w.steady.fits is c.set.ensures.sums here e.others e.refs) (record { handles = omega arith; entries = omega arith }) refl)

@@ -1,19 +1,20 @@
 use Rattle.pagable_tables.{proofs.{Words.{core_of, refl}, Taken.{begun-core, takes-worker}}}
-use Rattle.pagable_tables.proofs.Doing.{does-as}
+use Rattle.pagable_tables.proofs.{Doing.does-as, Worlds.failed}
 use Rattle.pagable_tables.proofs.workers.worker_take.Goals as goal
 
 pub returns : goal.returns
 returns c =
     let t = c.args.t.now in
     let t1 = c.worker_begin.new.t in
-    let e = c.in-Ok.ensures in
+    let e = c.in_ok-worker.ensures in
     let taken = c.take_pending.ensures in
     record {
-      does = λ stored closed failures. takes-worker (core_of t stored closed failures) (core_of t1 stored closed failures) _ c.args.place c.in-Ok.worker c.take_pending.result
+      does = λ stored closed failures. takes-worker (core_of t stored closed failures) (core_of t1 stored closed failures) _ c.args.place c.in_ok-worker.worker c.take_pending.result
           (begun-core t t1 stored closed failures c.worker_begin.ensures.same e.number.1 e.more) e.number.0 c.requires.within (taken.taken stored closed failures);
       whole = taken.whole;
       later = λ later. taken.later (λ m. refl) (c.worker_begin.ensures.does.later later);
     }
 
-pub returns-in-Err : goal.returns-in-Err
-returns-in-Err c = does-as c.worker_begin.ensures.does (λ stored closed failures begun. record { taken = tt; refused = (rw c.in-Err.is at begun).refused })
+pub returns-in_err-worker : goal.returns-in_err-worker
+returns-in_err-worker c = rw (failed c.from_residual.result c.from_residual.ensures.1)
+    (does-as c.in_err-worker.ensures.does (λ stored closed failures begun. record { taken = tt; refused = begun.refused }))

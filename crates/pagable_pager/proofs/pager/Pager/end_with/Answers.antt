@@ -16,23 +16,23 @@ finish-requires-clause-ready g c stored closed failures = ready-told refl c.dere
 
 pub invariant_of-self-in-Err-finish : goal.invariant_of-self-in-Err-finish
 invariant_of-self-in-Err-finish g c =
-    stays-so c.self.invariant c.prepare_end.new.t c.finish.new.tables c.finish.new.values (c.prepare_end.ensures.wider _ _ _) c.in-Err-finish.ensures.tables c.in-Err-finish.ensures.kept
+    stays-so c.self.invariant c.prepare_end.new.t c.finish.new.tables c.finish.new.values (c.prepare_end.ensures.does.does _ _ _) c.in-Err-finish.ensures.tables c.in-Err-finish.ensures.kept
     c.finish.ensures.whole c.finish.ensures.later
 
 pub returns-in-Err-finish-clause-step : goal.returns-in-Err-finish-clause-step
 returns-in-Err-finish-clause-step g c =
-    rw (← c.self.view_is) (no-room c.self.invariant c.prepare_end.new.t c.finish.new.tables c.finish.new.values (c.prepare_end.ensures.wider _ _ _) c.in-Err-finish.ensures.tables
+    rw (← c.self.view_is) (no-room c.self.invariant c.prepare_end.new.t c.finish.new.tables c.finish.new.values (c.prepare_end.ensures.does.does _ _ _) c.in-Err-finish.ensures.tables
     c.in-Err-finish.ensures.kept c.finish.ensures.whole c.finish.ensures.later c.in-Err-finish.ensures.back (c.in-Ok.ensures.ready _ _ _))
 
 pub invariant_of-self-2 : goal.invariant_of-self-2
 invariant_of-self-2 g c =
     ended-so c.self.invariant c.args.value c.prepare_end.new.t c.finish.new.tables c.finish.new.values c.node_type-node_type.ensures.value c.deref.ensures.value c.requires
-    (c.prepare_end.ensures.wider _ _ _) c.prepare_end.ensures.nodes (c.in-Ok.ensures.ready _ _ _) (c.in-Ok-finish.ensures.installs _ _ _ (told-open c.has_closed-lists.ensures))
+    (c.prepare_end.ensures.does.does _ _ _) c.prepare_end.ensures.nodes (c.in-Ok.ensures.ready _ _ _) (c.in-Ok-finish.ensures.installs _ _ _ (told-open c.has_closed-lists.ensures))
     c.finish.ensures.whole c.finish.ensures.later c.in-Ok-finish.ensures.puts
 
 pub returns : goal.returns
 returns g c =
     let ended = ended-told c.self.invariant c.args.value c.prepare_end.new.t c.finish.new.tables c.finish.new.values c.node_type-node_type.ensures.value c.deref.ensures.value c.requires
-    (c.prepare_end.ensures.wider _ _ _) c.prepare_end.ensures.nodes (c.in-Ok.ensures.ready _ _ _) (c.in-Ok-finish.ensures.installs _ _ _ (told-open c.has_closed-lists.ensures))
+    (c.prepare_end.ensures.does.does _ _ _) c.prepare_end.ensures.nodes (c.in-Ok.ensures.ready _ _ _) (c.in-Ok-finish.ensures.installs _ _ _ (told-open c.has_closed-lists.ensures))
     c.finish.ensures.whole c.finish.ensures.later c.in-Ok-finish.ensures.puts in
     rw (← c.self.view_is) (record { step = ended.0; moves = ended.1 })
