@@ -4,6 +4,11 @@ use Rattle.pagable_tables.proofs.Words.{None, OfferCall, Ok, Option, Owner, Reca
 use Rattle.pagable_tables.proofs.{Words.{is_shared_kind, mode_of, nat_tests, refl, usable, with_cached, with_known, ℕ}, keeps.Kept.{GoOn, alike-rows, is-in, keeps-whole, loads-stay}}
 use Rattle.pagable_tables.proofs.keeps.{Kept.{same-rows, there-then}, Comes.{beside, handle-on, suits-like}, Fallen.{alike-opened, falls-opened, opened}, Rows.{counted, found-among}}
 use Rattle.pagable_tables.proofs.keeps.Told.{alike-whole, roomy, roomy-whole, settles, told-whole}
+use Rattle.pagable_tables.proofs.Words.{Owns}
+use Rattle.pagable_tables.proofs.Words.{fits_mode}
+use Rattle.pagable_tables.proofs.Words.{type_at}
+use Rattle.pagable_tables.proofs.Words.{type_of}
+use Rattle.pagable_tables.proofs.Words.{Alike}
 
 pub clear-whole : {w w' : Core} (r : Result (Unit {0}) Error) → IsWhole w → ClearCall w r w' → ArePlaced w' → IsWhole w'
 clear-whole {w} {w'} r whole call placed = let a = call.leaves in

@@ -2,7 +2,7 @@
 use Rattle.pagable_tables.proofs.Words.{Among, ◌+◌, ◌<◌, ◌∙◌, ◌≡◌, ArePlaced, BeginCall, BeginKeyCall, Beginning, Core, Err, Error, HandleNumber, HandleRow, IsRootWhole, IsWhole}
 use Rattle.pagable_tables.proofs.Words.{MayHold, MayOwnLoad, Mode, NodeNumber, Ok, OpenLoad, Owner, Result, Root, Some, ap, arith, greatest, is_some, nat_tests, of_cell}
 use Rattle.pagable_tables.proofs.{Words.{of_key, refl, updated, with_load, ℕ}, keeps.Kept.{GoOn, IsIn, in-still, is-in, keeps-whole, loads-stay, may-own, same-rows}}
-use Rattle.pagable_tables.proofs.{keeps.{Kept.there-then, Comes.beside, HandleCalls.loose-unshared, Rows.found-among, Told.{alike-whole, roomy-whole, settles}}, Unpinning.updated-here}
+use Rattle.pagable_tables.proofs.{keeps.{Kept.there-then, Comes.beside, HandleCalls.loose-unshared, Rows.found-among, Told.{alike-whole, roomy-whole, settles}}, Bits.updated-here}
 
 -- ---- one load more
 
