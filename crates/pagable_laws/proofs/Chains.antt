@@ -33,7 +33,7 @@ module _ {N E B W : Type 0} (m : Seen N B W) (s : MachineState N E) (trees : ℕ
         let P : Event N B W → EventReply N B W → Type 0 = λ e r. IsWellAsked m.values s trees e r in
         let asked : AsksWell m.values s.pager trees call answer = subst (λ r. P (Event.Call call) r) replied (subst (λ e. P e reply) called well) in
         let f = call-fits lawful settled whole.pager whole'.pager stands.pager c call answer goes asked feels in
-        (f.after, subst (λ e. ChangeFits m.values c (EventBrings m.values (world_of s) e) s.pager s'.pager trees f.after) (sym called) f.fits)
+        (f.0, subst (λ e. ChangeFits m.values c (EventBrings m.values (world_of s) e) s.pager s'.pager trees f.0) (sym called) f.1)
     event-fits lawful readable s' settled whole whole' ready event reply goes well (by-reading c reading answer frames stepped opens feels steps) =
         let g = going-of reading (is-reading-of (world_of s) event reading stepped) in
         let f = reading-fits lawful readable settled whole.pager whole'.pager stands.pager reading g.fits (given-nodes reading.frames g.held) goes

@@ -1,6 +1,5 @@
 -- What tables and to-do lists hold of trees goes on as long as what is stored and each node's tree stay; and what a change of a table comes to.
-use Rattle.pagable_laws.proofs.Words.{nat_tests, ◌≡◌, ℕ, ◌≤◌, Bool, List, [], ◌∷◌, inl, inr, Option, Some, None, if◌then◌else◌, refl, sym, ap, subst, ◌∙◌, arith, nat_eq, KeyRef, IsFollowed}
-use Rattle.pagable_laws.proofs.Words.{number-followed, integer-followed, text-followed, pattern-followed, none-followed, pair-followed, variant-followed, reference-followed, ArcRef, Identity, Blob}
+use Rattle.pagable_laws.proofs.Words.{nat_tests, ◌≡◌, ℕ, ◌≤◌, Bool, List, [], ◌∷◌, inl, inr, Option, Some, None, if◌then◌else◌, refl, sym, ap, subst, ◌∙◌, arith, nat_eq, ArcRef, Identity, Blob}
 use Rattle.pagable_laws.proofs.Words.{Meaning, Tree, Among, if_there, identity_of, Shelf, Slot, failed, Written, Todo, to_finish, Task, Values, IsPublished, is_open_outcome, with_outcome, with_failed}
 use Rattle.pagable_laws.proofs.Words.{AreKeysOf, Ground, FollowsTo, number-follows, integer-follows, text-follows, pattern-follows, none-follows, pair-follows, variant-follows, reference-follows}
 use Rattle.pagable_laws.proofs.Words.{WroteTree, KeyStands, BlobStands, SlotFits, KeysSoFar, Waits, Above, HasBlob, Walks, SlotsFit, ◌==◌, true, ◌++◌, length, Ok, drop, blob_of, HandleNumber, type_of}
@@ -9,7 +8,7 @@ use Rattle.pagable_laws.proofs.Words.{claim_fault, next_start, give, give_known,
 use Rattle.pagable_laws.proofs.Words.{PagerState, MachineState, world_of, IsMachineWhole, IsIdle, Represents, TookWrites, ReplyWrites, HoldsSettled, ReadsItsTypes, ground_of, WorkFits, IsDone, AllLow}
 use Rattle.pagable_laws.proofs.{Words.{IsLow, IsAttained, Placed, HasRoom, is_eager, longest_path, max, above, suc, ◌+◌}, Standing.{ShelfGrows, some-same, published-stays, PutsSlot, put-cases}}
 use Rattle.pagable_laws.proofs.{Standing.{puts-slot, changes-slot, HasClaim, AllStand}, Following.{IdentityStands, key-stands, wrote}, Coming.{StandsIn, EventTurns, same-grow, turns-grow, turns-keep}}
-use Rattle.std.proofs.Common.{rules}
+use Rattle.{pagable_laws.proofs.Trees.followed-all, std.proofs.Common.rules}
 
 -- ---- what is stored stays, and each node keeps its tree
 
@@ -21,12 +20,6 @@ pub record GroundGoes (g g' : Ground) : Type 0 where
 -- keys that are known stay known
 abbrev pub KeepsKeys : Shelf → Shelf → Type 0
 KeepsKeys shelf shelf' = (i : Identity) (key height : ℕ) → IsPublished shelf i key height → IsPublished shelf' i key height
-
-followed-on : {P Q : ℕ → ℕ → Meaning KeyRef → Type 0} → ((t k : ℕ) (m : Meaning KeyRef) → P t k m → Q t k m) → {x : Meaning KeyRef} {a : Meaning ⊥} → IsFollowed P x a → IsFollowed Q x a
-followed-on to (pair-followed x y a b h g) = pair-followed x y a b (followed-on to h) (followed-on to g)
-followed-on to (variant-followed n x a h) = variant-followed n x a (followed-on to h)
-followed-on to (reference-followed r x a p h) = reference-followed r x a (to _ _ x p) (followed-on to h)
-followed-on to x0 = grind (arith, nat_tests, number-followed, integer-followed, text-followed, pattern-followed, none-followed)
 
 follows-on : {trees trees' : ℕ → Tree} {rs : List ArcRef} → ((r : ArcRef) → Among rs r → trees' r.node.0 ≡ trees r.node.0) → {x : Meaning ArcRef} {a : Meaning ⊥}
     → FollowsTo trees rs x a → FollowsTo trees' rs x a
@@ -58,7 +51,7 @@ module _ {shelf shelf' : Shelf} (keys : KeepsKeys shelf shelf') where
 
 module _ {N : Type 0} (v : Values N) {g g' : Ground} (goes : GroundGoes g g') where
   stands-on : {t : Tree} {key : ℕ} → KeyStands v g.stored t key → KeyStands v g'.stored t key
-  stands-on {t} {key} h = search (rules, followed-on)
+  stands-on {t} {key} h = search (rules, followed-all)
 
   pub wrote-on : {n : ℕ} {written : Written} → n ≤ g.last → WroteTree v.types g n written → WroteTree v.types g' n written
   wrote-on {n} {written} given w =

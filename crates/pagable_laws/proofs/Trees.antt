@@ -47,6 +47,10 @@ module _ {P Q : ℕ → ℕ → Meaning KeyRef → Type 0} (C : ℕ → Type 0) 
   followed-on c (reference-followed r x a p h) = reference-followed r x a (on (type_of r.kind) r.key x c.0 p) (followed-on c.1 h)
   followed-on c h = search (number-followed, integer-followed, text-followed, pattern-followed, none-followed)
 
+-- so it is where it says so of all
+pub followed-all : {P Q : ℕ → ℕ → Meaning KeyRef → Type 0} → ((t key : ℕ) (m : Meaning KeyRef) → P t key m → Q t key m) → {m : Meaning KeyRef} {a : Meaning ⊥} → IsFollowed P m a → IsFollowed Q m a
+followed-all on {a = a} h = followed-on (λ t. Unit {0}) (λ t key m all p. on t key m p) (each-type (λ t. tt) a) h
+
 module _ {store : ℕ → Option Blob} {types : Types} where
   same-reading : {type key : ℕ} {m n : Meaning KeyRef} → ReadsAs store types type key m → ReadsAs store types type key n → m ≡ n
   same-reading {type} {key} {m} {n} h g = grind (arith, nat_tests)
