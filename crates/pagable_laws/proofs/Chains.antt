@@ -96,14 +96,15 @@ module _ {N E B W : Type 0} (m : Seen N B W) (lawful : IsLawful m.values) (reada
       let turns = event-turns m (world_of s) (world_of x.after) on.work (λ v w there. (on.whole.walkings v w there).table.1) x.event x.reply does.step.happens in
       let fits = fits-on m s x.after trees f.0 (record { kept = g.goes.stored; last = g.goes.nodes; trees = f.1.same }) on.fits on.whole on.stands.pager
       on.settled readable lawful on.work x.event x.reply turns does.writes in
-      let held = held-on m s x.after x.event x.reply turns on.whole premised.stays_open does on.held in
+      let work = turns-stand m turns on.work in
+      let held = held-on m s x.after x.event x.reply turns on.whole premised.stays_open does work on.held in
       let pins = pins-hold m (world_of s) (world_of x.after) x.event x.reply on.whole.pager.whole.handles does.step.happens in
       let keys = keys-right m s x.after trees f.0 on.fits fits on.whole does.whole stands on.held held x.event x.reply does.step.happens in
       let so : IsRight m.values s trees x.event x.reply x.after f.0 = search (rules, pin-gives, reads-give) in
       record {
         trees' = f.0;
         after = record { keeps = f.1.same; stands = stands; so = so };
-        on = record { whole = does.whole; work = turns-stand m turns on.work; settled = premised.settled; stands = stands; readings = readings; fits = fits; held = held };
+        on = record { whole = does.whole; work = work; settled = premised.settled; stands = stands; readings = readings; fits = fits; held = held };
       }
 
   stay : (s : MachineState N E) (trees : ℕ → Tree) (moments : List (Moment N E B W)) → IsGoingOn m.values s trees → AreMoments m s moments → TreesAlong m (IsRight m.values) s trees moments

@@ -1,8 +1,8 @@
 -- Heights that are known are those of trees: so no key is answered of what leads down too long a path, or to a value that has no form; and why a claim is too deep.
 use Rattle.pagable_laws.proofs.Words.{nat_tests, ◌≡◌, ℕ, ◌<◌, ◌≤◌, List, refl, sym, subst, ◌∙◌, arith, max, Some, pair, variant, followed, longest_path, above, height, deepest_path, ArcRef, Identity}
 use Rattle.pagable_laws.proofs.Words.{Meaning, Tree, Took, WorkerAnswer, identity_of, Shelf, Todo, Task, of_item, of_entry, Values, Seen, Site, Does, IsPublished, MachineState, world_of, IsLongBelow}
-use Rattle.pagable_laws.proofs.Words.{IsTooDeepTask, Ground, FollowsTo, pair-follows, variant-follows, reference-follows, Waits, Walks, WorkFits, Bool, true, false, ap, inl, inr, TreeForm, tree}
-use Rattle.pagable_laws.proofs.Words.{type_of, Among, Written, kids_of, Reaches, refers, refers-on, in-first, in-rest, in-part, HasNoForm, LeadsToNoForm, IsFormlessTask, ground_of, WroteTree}
+use Rattle.pagable_laws.proofs.Words.{IsTooDeepTask, Ground, FollowsTo, pair-leads, variant-leads, reference-leads, followed-leads, Waits, Walks, WorkFits, Bool, true, false, ap, inl, inr, TreeForm}
+use Rattle.pagable_laws.proofs.Words.{tree, type_of, Among, Written, kids_of, Reaches, refers, refers-on, in-first, in-rest, in-part, HasNoForm, LeadsToNoForm, IsFormlessTask, ground_of, WroteTree}
 use Rattle.pagable_laws.proofs.Words.{BlobStands, IsDone, ◌⊎◌, [], ◌∷◌, Ok, Err, Event, EventReply, Error, to_start, Walking, IsLawful, Happens, IsMetFailure, IsMachineWhole, IsIdle, StandsFor}
 use Rattle.pagable_laws.proofs.Words.{ReadsItsTypes, HoldsSettled, Moment, AreMoments, Fact, TreesAlong, KeyIsShallow, ShallowLaw, MetDepthAlone, DepthIsTold, ToldDepthLaw, WaitsForAsker, ClaimIsDeep}
 use Rattle.pagable_laws.proofs.Words.{DeepClaimLaw, IsLow, AllLow, if◌then◌else◌, suc, zero, ◌+◌, Claims, Core, Expects, IsAttained, IsTooDeep, Types, is_eager, is_identity, kind_of_arc, place_over}
@@ -41,9 +41,10 @@ module _ (trees : ℕ → Tree) (rs : List ArcRef) (whole : Meaning ⊥) where
   parts-along : {own : Meaning ArcRef} {n : Meaning ⊥} → FollowsTo trees rs own n → height n ≤ height whole → deepest_path n ≤ deepest_path whole → size n ≤ size whole
       → Along ⊥ (SamePart trees whole) own own
   unfolding height deepest_path size
-  parts-along (pair-follows x y a b f g) h d s = pair-along _ _ _ _ (parts-along f (omega arith) (omega arith) (omega arith)) (parts-along g (omega arith) (omega arith) (omega arith))
-  parts-along (variant-follows i x a f) h d s = variant-along _ _ _ (parts-along f h d s)
-  parts-along (reference-follows r a among is) h d s = grind (arith, reference-along, size)
+  parts-along (pair-leads x y a b f g) h d s = pair-along _ _ _ _ (parts-along f (omega arith) (omega arith) (omega arith)) (parts-along g (omega arith) (omega arith) (omega arith))
+  parts-along (variant-leads i x a f) h d s = variant-along _ _ _ (parts-along f h d s)
+  parts-along (reference-leads r a among is) h d s = grind (arith, reference-along, size)
+  parts-along (followed-leads kind x a none f) h d s = absurd none
   parts-along x0 h d s = grind (arith, nat_tests, number-along, integer-along, text-along, pattern-along, none-along)
 
 part-of : {types : Types} {g : Ground} {n : ℕ} {written : Written} → WroteTree types g n written → (r : ArcRef) → Among written.references r → Part g.trees (g.trees n).meaning r
@@ -171,9 +172,9 @@ module _ {N E : Type 0} (v : Values N) (s : MachineState N E) (trees : ℕ → T
   shallow : (limit : ℕ) (rs : List ArcRef) → limit ≤ longest_path → AllLow shelf limit rs → {own : Meaning ArcRef} {n : Meaning ⊥} → FollowsTo trees rs own n → (m : Meaning ⊥) → n ≡ m
       → IsShallow limit m
   unfolding height deepest_path
-  shallow limit rs le lows (pair-follows x y a b h g) (pair c d) e = grind (arith, nat_tests, shallow limit rs le lows h c (cc), shallow limit rs le lows g d (cc))
-  shallow limit rs le lows (variant-follows i x a h) (variant j c) e = grind (arith, nat_tests, shallow limit rs le lows h c (cc))
-  shallow limit rs le lows (reference-follows r a among is) (followed kind c) e =
+  shallow limit rs le lows (pair-leads x y a b h g) (pair c d) e = grind (arith, nat_tests, shallow limit rs le lows h c (cc), shallow limit rs le lows g d (cc))
+  shallow limit rs le lows (variant-leads i x a h) (variant j c) e = grind (arith, nat_tests, shallow limit rs le lows h c (cc))
+  shallow limit rs le lows (reference-leads r a among is) (followed kind c) e =
       let l = lows r among in
       let k = known (identity_of r) l.key l.below l.known in
       let kinds : kind ≡ r.kind.0 = cc in
@@ -181,6 +182,7 @@ module _ {N E : Type 0} (v : Values N) (s : MachineState N E) (trees : ℕ → T
       let p = shallow l.below k.written.references k.stands.within k.stands.low k.wrote.follows c (is ∙ meanings) in
       let one : above kind (height c) ≤ limit = subst (λ k. above k (height c) ≤ limit) (sym kinds) (le_trans (above-grows r.kind.0 (height c) l.below p.top) l.within) in
       record { top = one; deepest = let u = p.deepest in omega arith }
+  shallow limit rs le lows (followed-leads kind x a none h) m e = absurd none
   shallow limit rs le lows follows x5 e = grind (arith, nat_tests)
 
   -- so is the tree of an identity whose key is known
@@ -215,24 +217,25 @@ module _ {N E : Type 0} (v : Values N) (s : MachineState N E) (trees : ℕ → T
   -- and so has each that it reaches
   below-has-form : (rs : List ArcRef) → ((r : ArcRef) → Among rs r → (key : ℕ) × ((height : ℕ) × IsPublished shelf (identity_of r) key height))
       → {own : Meaning ArcRef} {m n : Meaning ⊥} {u : Tree} → FollowsTo trees rs own m → Reaches n u → n ≡ m → HasNoForm v.types u → ⊥
-  below-has-form rs each (reference-follows r a among is) (refers kind b) e formless =
+  below-has-form rs each (reference-leads r a among is) (refers kind b) e formless =
       let p = each r among in
       let k = known (identity_of r) p.0 p.1.0 p.1.1 in
       let kinds : kind ≡ r.kind.0 = cc in
       let meanings : b ≡ a = cc in
       let same : tree (type_of kind) b ≡ trees r.node.0 = tree_is _ _ _ _ (ap type_of kinds ∙ sym k.typed) (meanings ∙ sym is) in
       has-form (identity_of r) k (subst (λ x. HasNoForm v.types x) same formless)
-  below-has-form rs each (reference-follows r a among is) (refers-on kind b u reach) e formless =
+  below-has-form rs each (reference-leads r a among is) (refers-on kind b u reach) e formless =
       let p = each r among in
       let k = known (identity_of r) p.0 p.1.0 p.1.1 in
       let meanings : b ≡ a = cc in
       below-has-form k.written.references (each-below k) k.wrote.follows reach (meanings ∙ sym is) formless
-  below-has-form rs each (pair-follows x y a b h g) (in-first c d u reach) e formless = below-has-form rs each h reach (cc) formless
-  below-has-form rs each (pair-follows x y a b h g) (in-rest c d u reach) e formless = below-has-form rs each g reach (cc) formless
-  below-has-form rs each (variant-follows i x a h) (in-part n c u reach) e formless = below-has-form rs each h reach (cc) formless
-  below-has-form rs each (reference-follows r a among is) reach e formless = absurd (cc)
-  below-has-form rs each (pair-follows x y a b h g) reach e formless = absurd (cc)
-  below-has-form rs each (variant-follows i x a h) reach e formless = absurd (cc)
+  below-has-form rs each (pair-leads x y a b h g) (in-first c d u reach) e formless = below-has-form rs each h reach (cc) formless
+  below-has-form rs each (pair-leads x y a b h g) (in-rest c d u reach) e formless = below-has-form rs each g reach (cc) formless
+  below-has-form rs each (variant-leads i x a h) (in-part n c u reach) e formless = below-has-form rs each h reach (cc) formless
+  below-has-form rs each (reference-leads r a among is) reach e formless = absurd (cc)
+  below-has-form rs each (pair-leads x y a b h g) reach e formless = absurd (cc)
+  below-has-form rs each (variant-leads i x a h) reach e formless = absurd (cc)
+  below-has-form rs each (followed-leads kind x a none h) reach e formless = absurd none
   below-has-form rs each follows reach e formless = more-held reach e refl
 
   has-forms : (i : Identity) (key height : ℕ) → IsPublished shelf i key height → LeadsToNoForm v.types (trees i.node.0) → ⊥

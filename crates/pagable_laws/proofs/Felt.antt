@@ -8,24 +8,10 @@ use Rattle.pagable_laws.proofs.Words.{none-leads, pair-leads, variant-leads, fol
 use Rattle.pagable_laws.proofs.Words.{type_at, Moves, ReadsNodeTree, KeyFits, Change, CoreGoes, SameNode, ChangeFits, ◌+◌, ◌==◌, if◌then◌else◌, Owner, Call, Reply, updated, is_pinned_kind, is_here}
 use Rattle.pagable_laws.proofs.Words.{first_key, SameTrees, CallBrings, IsNewNode, AsksWell, nothing_felt, sets_key, knows_node, bears_node, bears_known, StaysAway, AreGood, CallFeels, feels-nothing}
 use Rattle.pagable_laws.proofs.Words.{feels-birth, feels-away, feels-key, feels-known, feels-adopted, feels-lazy, feels-end, List, [], ◌∷◌, LoadAnswer, Reading, Frame, ReadsRoot, ReadingBrings}
-use Rattle.pagable_laws.proofs.{Words.{IsCellOf, FramesFit, ReadingFits, ReadsItsTypes, TakesWell, FramesGiven, ReadingFeels, gets-lazy, makes-node, ◌++◌}, Trees.{same_some, tree_is, one_tree}}
-use Rattle.pagable_laws.proofs.{Decoding.{among-left, among-right, meant-refs, decodes}, Following.{one-node, given-of, cell-of, held-of}, Fitting.{tree-stays, node-stays, first-fits}}
+use Rattle.pagable_laws.proofs.{Words.{IsCellOf, FramesFit, ReadingFits, ReadsItsTypes, TakesWell, FramesGiven, ReadingFeels, gets-lazy, makes-node}, Trees.{same_some, tree_is, one_tree}}
+use Rattle.pagable_laws.proofs.{Decoding.{meant-refs, decodes}, Following.{one-node, given-of, cell-of, held-of, halves, leads-on, stands-leads}, Related.along-rename, Fitting.tree-stays}
+use Rattle.pagable_laws.proofs.Fitting.{node-stays, first-fits}
 use Rattle.{pagable_laws.proofs.{Coming.updated-at, ReadingSteps.{old-node, new-node}, Taking.{root-key, node-decoded}}, std.proofs.Common.rules}
-
--- what is so of each of both lists is so of each of the one, and of the other
-halves : {X : Type 0} {P : X → Type 0} (xs ys : List X) → ((x : X) → Among (xs ++ ys) x → P x) → ((x : X) → Among xs x → P x) × ((x : X) → Among ys x → P x)
-halves xs ys h = (λ x among. h x (among-left xs ys among.0 x among.1), λ x among. h x (among-right xs ys among.0 x among.1))
-
--- ---- other trees, the same at the nodes that are referred to
-
-module _ {trees trees' : ℕ → Tree} where
-  pub leads-on : {x : Meaning ArcRef} {a : Meaning ⊥} → LeadsTo trees x a → ((r : ArcRef) → Among (references_in x) r → trees' r.node.0 ≡ trees r.node.0) → LeadsTo trees' x a
-  unfolding references_in
-  leads-on (pair-leads x y a b f g) h = let p = halves (references_in x) (references_in y) h in pair-leads x y a b (leads-on f p.0) (leads-on g p.1)
-  leads-on (variant-leads i x a f) h = variant-leads i x a (leads-on f h)
-  leads-on (followed-leads kind x a f) h = followed-leads kind x a (leads-on f h)
-  leads-on (reference-leads r a typed meant) h = let same = h r (zero, refl) in reference-leads r a (ap (λ (t : Tree). t.type) same ∙ typed) (ap (λ (t : Tree). t.meaning) same ∙ meant)
-  leads-on l h = search (number-leads, integer-leads, text-leads, pattern-leads, none-leads)
 
 -- a meaning whose references' nodes have trees of their kinds' types leads to one
 pub led : {trees : ℕ → Tree} (x : Meaning ArcRef) → ((r : ArcRef) → Among (references_in x) r → (trees r.node.0).type ≡ type_of r.kind.0) → (a : Meaning ⊥) × LeadsTo trees x a
@@ -42,7 +28,7 @@ led (pair x y) h =
     (pair left.0 right.0, pair-leads x y left.0 right.0 left.1 right.1)
 led (variant i x) h = let l = led x h in (variant i l.0, variant-leads i x l.0 l.1)
 led {trees} (reference r) h = (followed r.kind.0 (trees r.node.0).meaning, reference-leads r _ (h r (zero, refl)) refl)
-led (followed kind x) h = let l = led x h in (followed kind l.0, followed-leads kind x l.0 l.1)
+led (followed kind x) h = let l = led x h in (followed kind l.0, followed-leads kind x l.0 tt l.1)
 
 -- ---- from what the pager stands for to what its values lead to
 
@@ -54,7 +40,8 @@ own-refs lawful x own means r among = meant-refs _ _ (λ is. sym (lawful.refers 
 pub value-on : {N : Type 0} {v : Values N} → IsLawful v → (last : ℕ) {trees trees' : ℕ → Tree} {x : N} {t : Tree} → SameTrees last trees trees'
     → ((r : ArcRef) → Among (v.references x) r → r.node.0 ≤ last) → ValueLeads v trees x t → ValueLeads v trees' x t
 value-on lawful last {x = x} same few l =
-    record { own = l.own; typed = l.typed; means = l.means; leads = leads-on l.leads (λ r among. same r.node.0 (few r (own-refs lawful x l.own l.means r among))) }
+    record { own = l.own; typed = l.typed; means = l.means; leads = leads-on l.leads
+        (λ r among typed. let e = same r.node.0 (few r (own-refs lawful x l.own l.means r among)) in (ap (λ (t : Tree). t.type) e ∙ typed, e)) }
 
 module _ {N E : Type 0} {v : Values N} {s : PagerState N E} {trees : ℕ → Tree} (lawful : IsLawful v) where
   module _ (settled : HoldsSettled v s) (well : WellFormed v s) (stands : Represents v s trees) where
@@ -63,21 +50,12 @@ module _ {N E : Type 0} {v : Values N} {s : PagerState N E} {trees : ℕ → Tre
         → ((trees r.node.0).type ≡ type_of r.kind.0) × ((trees r.node.0).meaning ≡ b)
     node-tree owner r b good node = grind (arith, nat_tests, given-of, same_some, one-node)
 
-    stands-leads : {x : Meaning ArcRef} {a : Meaning ⊥} → MeaningStands v s x a
-        → ((r : ArcRef) → Among (references_in x) r → (b : Meaning ⊥) → NodeStands v s r.node.0 (tree (type_of r.kind.0) b)
-        → ((trees r.node.0).type ≡ type_of r.kind.0) × ((trees r.node.0).meaning ≡ b)) → LeadsTo trees x a
-    unfolding references_in
-    stands-leads (pair-stands x y a b f g) h = let p = halves (references_in x) (references_in y) h in pair-leads x y a b (stands-leads f p.0) (stands-leads g p.1)
-    stands-leads (variant-stands i x a f) h = variant-leads i x a (stands-leads f h)
-    stands-leads (followed-stands kind x a f) h = followed-leads kind x a (stands-leads f h)
-    stands-leads (reference-stands r a node) h = let is = h r (zero, refl) a node in reference-leads r a is.0 is.1
-    stands-leads l h = search (number-leads, integer-leads, text-leads, pattern-leads, none-leads)
-
     -- a value whose references are good, and which stands for a tree, leads to it
     pub value-leads : (x : N) (own : Meaning ArcRef) (t : Tree) (owner : _) → v.node_type x ≡ t.type → v.means x own → MeaningStands v s own t.meaning
         → ((r : ArcRef) → Among (v.references x) r → IsReference s.core owner r) → ValueLeads v trees x t
     value-leads x own t owner typed means meant good =
-        record { own = own; typed = typed; means = means; leads = stands-leads meant (λ r among b node. node-tree owner r b (good r (own-refs lawful x own means r among)) node) }
+        record { own = own; typed = typed; means = means; leads = stands-leads meant (along-rename (λ r. r) own)
+            (λ r among c same b node. node-tree owner r b (good r (own-refs lawful x own means r among)) node) }
 
     -- so does each value in memory; and each key reads as its node's tree
     node-leads : {n : ℕ} {t : Tree} → NodeStands v s n t → t ≡ trees n → NodeLeads v s trees n
@@ -125,7 +103,7 @@ module _ {N E : Type 0} {v : Values N} {s : PagerState N E} {trees : ℕ → Tre
       let e2 : d ≡ b = cc in
       pair-stands x y a b (stand c f e1 p.0) (stand d g e2 p.1)
   stand (variant j c) (variant-leads i x a f) e h = let same : c ≡ a = cc in variant-stands i x a (stand c f same h)
-  stand (followed j c) (followed-leads kind x a f) e h = let same : c ≡ a = cc in followed-stands kind x a (stand c f same h)
+  stand (followed j c) (followed-leads kind x a n f) e h = let same : c ≡ a = cc in followed-stands kind x a (stand c f same h)
   stand (followed j c) (reference-leads r a typed meant) e h =
       let same : c ≡ (trees r.node.0).meaning = (let f : c ≡ a = cc in f ∙ sym meant) in
       reference-stands r a (subst (λ (t : Tree). NodeStands v s r.node.0 t) (tree_is _ _ _ _ typed meant) (node-by r.node.0 (h r (zero, refl)) (λ z l k. stand c l same k)))

@@ -32,9 +32,6 @@ le-more a b = omega arith
 pub next-above : (q last : ℕ) → q ≡ last + 1 → last < q
 next-above q last next = omega arith
 
-le-then : {a b c : ℕ} → a ≤ b → b ≤ c → a ≤ c
-le-then le more = omega arith
-
 -- ---- rows
 
 pub rows-self : (last : ℕ) (rows rows' : List HandleRow) → rows' ≡ rows → RowsGo last rows rows'
@@ -113,7 +110,7 @@ rows-left last rows gone q row found few = record { was = row; live = (found-lef
 -- ---- quiet steps
 
 pub quiet-then : {w m w' : Core} → Quiet w m → Quiet m w' → Quiet w w'
-quiet-then {w} {m} {w'} a b = search (rules, rows-then, le-then, a.cells, b.cells, a.stored, b.stored, a.loads, b.loads, a.cache, b.cache, a.shut, b.shut)
+quiet-then {w} {m} {w'} a b = search (rules, rows-then, le_trans, a.cells, b.cells, a.stored, b.stored, a.loads, b.loads, a.cache, b.cache, a.shut, b.shut)
 
 pub le-of : (a b : ℕ) → b ≡ a → a ≤ b
 le-of a b is = omega arith
@@ -159,7 +156,7 @@ pub quiet-goes : (c : Change) {w w' : Core} → Quiet w w' → Goes c w w'
 quiet-goes c q = grind arith
 
 pub goes-quiet : {c : Change} {w m w' : Core} → Goes c w m → Quiet m w' → Goes c w w'
-goes-quiet {c} {w} {m} {w'} a b = search (rules, rows-then, le-then, a.cells, b.cells, a.stored, b.stored, a.loads, b.loads, a.cache, b.cache, a.shut, b.shut)
+goes-quiet {c} {w} {m} {w'} a b = search (rules, rows-then, le_trans, a.cells, b.cells, a.stored, b.stored, a.loads, b.loads, a.cache, b.cache, a.shut, b.shut)
 
 -- at a number, or elsewhere
 pub at-updated : {X : Type 0} (m : ℕ) (x : Option X) (f : ℕ → Option X) (n : ℕ) (y : X) → updated m x f n ≡ Some y → ((n ≡ m) × (x ≡ Some y)) ⊎ (f n ≡ Some y)

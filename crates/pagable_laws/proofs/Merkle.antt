@@ -300,9 +300,6 @@ module _ {types : Types} where
 
 -- ---- one key
 
-key_is : (hash : List ℕ → List ℕ) (b c keys keys2 : List ℕ) → b ≡ c → keys ≡ keys2 → key_of hash (blob_of b keys) ≡ key_of hash (blob_of c keys2)
-key_is hash b c keys keys2 e f = rw (e, f) refl
-
 module _ {hash : List ℕ → List ℕ} {types : Types} where
   mutual
     same-key : {t u : Tree} {k l : ℕ} → KeyOf hash types t k → KeyOf hash types u l → IsCanonicalTree types t → t ≡ u → k ≡ l
@@ -310,7 +307,7 @@ module _ {hash : List ℕ → List ℕ} {types : Types} where
         let shapes : s ≡ s2 = same_some _ _ (sym is ∙ ap (λ (x : Tree). types.nodes x.type) e ∙ is2) in
         let g2 = let P : Shape → Tree → Type 0 = λ z x. TreeForm types z x.meaning c kids2 in subst (λ (x : Tree). P s x) (sym e) (subst (λ (z : Shape). P z u) (sym shapes) g) in
         let forms = one-form f g2 (can.0 s is) refl in
-        key_is hash _ _ _ _ forms.0 (same-keys h h2 (canonical-kids s t.meaning b kids can.1 f).1 forms.1)
+        rw (forms.0, same-keys h h2 (canonical-kids s t.meaning b kids can.1 f).1 forms.1) refl
 
     same-keys : {kids kids2 others : List Kid} {keys keys2 : List ℕ} → KeysOf hash types kids keys → KeysOf hash types kids2 keys2 → AllTwo (CanonicalKid types) kids others
         → kids ≡ kids2 → keys ≡ keys2

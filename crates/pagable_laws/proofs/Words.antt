@@ -69,11 +69,11 @@ pub use Rattle.pagable_laws.specs.DeepLaws.{ShallowLaw, MetDepthAlone, DepthIsTo
 pub use Rattle.pagable_laws.specs.{DeepLaws.DeepLoadLaw, FallLaws.{PinsAreAFilter, OwnsNothing, IsGivenAlone, TwoLevelsFall, LoneIsListed}, FormLaws.{rest, at, IsNatural, IsReadOver, IsRenamed}}
 pub use Rattle.pagable_laws.specs.FormLaws.{IsReadThrough, KeepsForms, with_more, IsLocal, IsUsed, IsLasting, IsReadAgain, LooksUp, no-references, more-references, CanonicalHasOneForm}
 pub use Rattle.pagable_laws.specs.{FormLaws.{HasOnePreimage, IsPrefixFree}, KeyLaws.{FloatHasNoForm, WholeIsBounded, IsOneKeyMeaning, IsAnyOrder}, KeyRuns.{StandsAt, KeyIsSet}}
-pub use Rattle.pagable_laws.specs.{KeyRuns.{is_publishing, HasHandle, KeysHeld, Holds, KeysAreRight}, TwoLevels.{ArePremised, TwoLevelsMeetTheHeadline, Sample, sample, sample_type}}
+pub use Rattle.pagable_laws.specs.{KeyRuns.{HasHandle, KeysHeld, Holds, KeysAreRight}, TwoLevels.{ArePremised, TwoLevelsMeetTheHeadline, Sample, sample, sample_type}}
 pub use Rattle.pagable_laws.specs.{TwoLevels.{sample_references, machine}, DeepLaws.{IsBeginOf, HasBegun, SoundLaw}, PageOutLaws.{IsLow, AllLow, IsAttained, place_over, HasRoom, Placed}}
-pub use Rattle.pagable_laws.specs.PageOutLaws.{ground_of, Walks, WorkFits, Ground, WroteTree, BlobStands, SlotFits, Expects, Above, HasBlob, SlotsFit, FollowsTo, number-follows, integer-follows}
-pub use Rattle.pagable_laws.specs.{PageOutLaws.{text-follows, pattern-follows, none-follows, pair-follows, variant-follows, reference-follows, KeyStands, IsOfEntry, IsDone}, ReadLaws.Needs}
-pub use Rattle.pagable_laws.specs.ReadLaws.{KeepsStored, FramesGiven, ValueLeads, LeadsTo, number-leads, integer-leads, text-leads, pattern-leads, none-leads, pair-leads, variant-leads}
+pub use Rattle.pagable_laws.specs.PageOutLaws.{ground_of, Walks, WorkFits, Ground, WroteTree, BlobStands, SlotFits, Expects, Above, HasBlob, SlotsFit}
+pub use Rattle.pagable_laws.specs.{PageOutLaws.{KeyStands, IsOfEntry, IsDone}, ReadLaws.{Needs, KeepsStored, FramesGiven, ValueLeads, LeadsBy, LeadsTo, FollowsTo}}
+pub use Rattle.pagable_laws.specs.ReadLaws.{number-leads, integer-leads, text-leads, pattern-leads, none-leads, pair-leads, variant-leads}
 pub use Rattle.pagable_laws.specs.{ReadLaws.{followed-leads, reference-leads, Decoded, FramesHeld, GotStands}, Rows.{only_cat, chain, no_parts, cats}, FallLaws.{ChainsJoin, NewIsWhole}}
 pub use Rattle.pagable_laws.specs.{FallLaws.NextIsOneOf, SmallWorlds.{no_work, two_rows, are_two, outer, first, first_node, lone, lone_listed, lone_unlisted}, TreeLaws.{IsOneKey, IsOneItemKey}}
 pub use Rattle.pagable_laws.specs.{TreeLaws.{IsStoredKey, IsTreeReadable, IsKeyOfOneTree, StaysInside, IsCanonicalInside, IsOneTree, IsLongestPath}, TreeSteps.ChangeFits, TreeSteps.Change}
@@ -81,4 +81,4 @@ pub use Rattle.pagable_laws.specs.TreeSteps.{nothing_felt, bears_known, ReadingF
 pub use Rattle.pagable_laws.specs.TreeSteps.{CoreGoes, EventFeels, by-call, by-reading, by-key, by-nothing, KeepsReadings, KeysAreReady, knows_node, bears_node, StaysAway, AreGood}
 pub use Rattle.pagable_laws.specs.TreeSteps.{CallFeels, feels-nothing, feels-birth, feels-away, feels-key, feels-known, feels-adopted, feels-lazy, feels-end, HandsOver, ReadHolds}
 pub use Rattle.pagable_laws.specs.TreeSteps.{IsSteppedReading, StepsReading, BeginsWell, GetsRow, HasPin, PinHolds, NodeLeads, Sets, Knows, Bears, SameNode, NewNode}
-unfoldable pub use Rattle.pagable_laws.specs.{KeyRuns.AllHold, PageOutLaws.{KeysSoFar, Waits}, TwoLevels.value_at}
+unfoldable pub use Rattle.pagable_laws.specs.{KeyRuns.{AllHold, WaitsHeld}, PageOutLaws.{KeysSoFar, Waits}, TwoLevels.value_at}
