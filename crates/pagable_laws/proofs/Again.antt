@@ -271,14 +271,14 @@ same_ok x y e = cc
 abbrev pub itself : {A : Type 0} → Look A A
 itself kind a = Ok a
 
-looks-itself : {A : Type 0} {kind_of : A → ℕ} (k u : List A) → Looked itself kind_of (k ++ u) k (Ok u)
-looks-itself [] u = all-looked u
-looks-itself (a ∷ k) u = one-looked a (k ++ u) a k (Ok u) refl (looks-itself k u)
+pub looks-itself : {A : Type 0} {kind_of : A → ℕ} (k : List A) → LooksUp itself kind_of k k
+looks-itself [] = no-references
+looks-itself (a ∷ k) = more-references a k a k refl (looks-itself k)
 
 pub prefix_free : {A : Type 0} (parts : ℕ → Shape) (s : Shape) → Throughout IsReadable parts s → IsPrefixFree A parts s
 prefix_free {A} parts s t kind_of left m n b c x y k l u v f g e h =
-    let first = form-again x f (looks-itself k u) t in
-    let second = form-again y g (looks-itself l v) t in
+    let first = form-again x f (looked-by u (looks-itself k)) t in
+    let second = form-again y g (looked-by v (looks-itself l)) t in
     let inputs : rest (b ++ x) (k ++ u) ≡ rest (c ++ y) (l ++ v) = rw (e, h) refl in
     let both : (m, rest x u) ≡ (n, rest y v) = same_ok _ _ (sym first ∙ ap (λ (i : Rest A). read_at itself parts left s i) inputs ∙ second) in
     let same_bytes : x ≡ y = ap (λ (p : Meaning A × Rest A). p.1.bytes) both in

@@ -269,10 +269,7 @@ work-right {N} {E} {B} {W} m s moments whole idle chain =
     replied : List (EventReply N B W)
     replied = replies_of moments
 
-    All : Type 0
-    All = Arrives m s end happened replied
-
-    worker : All → (n : ℕ) (walking : Walking) → end.work.walkings n ≡ Some walking → WorkerIsRight m.written_of (world_of end) n walking (steps_of n happened replied)
+    worker : Arrives m s end happened replied → (n : ℕ) (walking : Walking) → end.work.walkings n ≡ Some walking → WorkerIsRight m.written_of (world_of end) n walking (steps_of n happened replied)
     worker all n walking there =
         let nobody : HasGone m.written_of n s.work.shelves (s.work.walkings n) [] = subst (λ o. HasGone m.written_of n s.work.shelves o []) (sym (idle.walkings n)) refl in
         let went : Went m.written_of n (end.work.shelves walking.table) walking (steps_of n happened replied) =

@@ -6,18 +6,14 @@ use Rattle.pagable_laws.proofs.Words.{pair-followed, variant-followed, reference
 use Rattle.pagable_laws.proofs.Words.{ArcRef, Identity, Meaning, Shape, Tree, tree, Types, type_of, Among, if_there, one, times, HandleRow, identity_of, held, is_handle, is_owned_by, owner_value}
 use Rattle.pagable_laws.proofs.Words.{Core, Shelf, Slot, Outcome, published, Written, Values, IsLawful, digest, type_at, IsPublished, PagerState, WellFormed, HandlesAreWhole, NodeStands, here, away}
 use Rattle.pagable_laws.proofs.Words.{MeaningStands, number-stands, integer-stands, text-stands, pattern-stands, none-stands, pair-stands, variant-stands, followed-stands, reference-stands}
-use Rattle.pagable_laws.proofs.Words.{Represents, IsWrittenOf, kids_of, HoldsSettled, ReadsItsTypes, AreKeysOf, rest, LooksUp, no-references, more-references, Ground, FollowsTo, LeadsBy, number-leads}
-use Rattle.pagable_laws.proofs.{Words.{integer-leads, text-leads, pattern-leads, none-leads, pair-leads, variant-leads, followed-leads, reference-leads, zero, WroteTree, KeyStands, ◌++◌}, Along.Along}
-use Rattle.pagable_laws.proofs.{Along.{pair-along, variant-along, reference-along, followed-along, AllTwo, no-two, more-two}, Again.read_again, Related.{keeps_forms, no_cause, Out, both-looked-up}}
-use Rattle.pagable_laws.proofs.{Related.read_par, Sums.{same-number, sum-le, sum-zero}, Trees.{same_some, one_tree}, Decoding.{among-left, among-right}}
+use Rattle.pagable_laws.proofs.Words.{Represents, IsWrittenOf, kids_of, HoldsSettled, ReadsItsTypes, AreKeysOf, rest, Ground, FollowsTo, LeadsBy, number-leads, integer-leads, text-leads}
+use Rattle.pagable_laws.proofs.{Words.{pattern-leads, none-leads, pair-leads, variant-leads, followed-leads, reference-leads, zero, WroteTree, KeyStands, ◌++◌}, Along.{Along, pair-along}}
+use Rattle.pagable_laws.proofs.{Along.{variant-along, reference-along, followed-along, AllTwo, no-two, more-two}, Again.{looks-itself, read_again}, Related.{keeps_forms, no_cause, Out}}
+use Rattle.pagable_laws.proofs.{Related.{both-looked-up, read_par}, Sums.{same-number, sum-le, sum-zero}, Trees.{same_some, one_tree}, Decoding.{among-left, among-right}}
 
 -- ---- the references in a form's meaning are those of the form, and none is followed
 
 module _ {A : Type 0} where
-  itself : (kind_of : A → ℕ) (k : List A) → LooksUp (λ kind (a : A). Ok a) kind_of k k
-  itself kind_of [] = no-references
-  itself kind_of (a ∷ k) = more-references a k a k refl (itself kind_of k)
-
   each-among : (P : A → Type 0) (k : List A) → ((a : A) → Among k a → P a) → AllTwo (λ a b. P a) k k
   each-among P [] h = no-two
   each-among P (a ∷ k) h = more-two a a k k (h a (0, refl)) (each-among P k (λ b among. h b (suc among.0, among.1)))
@@ -29,7 +25,7 @@ module _ {A : Type 0} where
   pub references-among : {kind_of : A → ℕ} {parts : ℕ → Shape} {s : Shape} {m : Meaning A} {b : List ℕ} {k : List A} → Throughout IsReadable parts s
       → Form A kind_of parts deepest s m b k → (n : Meaning A) × Along ⊥ (λ a c. Among k a) m n
   references-among {kind_of} {parts} {s} {m} {b} {k} can f =
-      let whole = read_again parts s can 0 (λ kind a. Ok a) kind_of m b [] k k [] (itself kind_of k) f in
+      let whole = read_again parts s can 0 (λ kind a. Ok a) kind_of m b [] k k [] (looks-itself k) f in
       let par = read_par {E = no_cause} {F = ⊥} {S = λ a c. Among k a} {R = λ a c. Among k a} (λ kind a. Ok a) (λ kind a. Ok a) (λ kind a c s. both-looked-up a c s) 0 s (inr can) in
       along-out (par.out (rest b k) (rest b k) (record { bytes = refl; refs = each-among (λ a. Among k a) k (λ a among. among) })) (rw (append-nil, append-nil) at whole)
 

@@ -133,14 +133,11 @@ pub only-rows : {w : Core} {rows : List HandleRow} {list : List HandleNumber} {l
     → Quiet w (record w { rows = rows; list = list; last = record w.last { handle = last } })
 only-rows go le = parts le (le-self _) (λ n cell is. is) (λ l load is. is) (λ kind key n is. is) go
 
-if-some : {X : Type 0} (b : Bool) (x : Option X) (y : X) → (if b then x else None) ≡ Some y → x ≡ Some y
-if-some x0 x y is = grind (arith, nat_tests)
-
 pub fell : {before w w' : Core} {given : ℕ → Bool} {r : _} → Falls before w given r w' → Quiet w w'
 fell {before} {w} {w'} f = quiet-then {m = fallen w f.gone f.entries} falls (alike f.leaves)
   where
     falls : Quiet w (fallen w f.gone f.entries)
-    falls = parts (le-more _ _) (le-self _) (λ n cell is. if-some _ (w.cells n) cell is) (λ l load is. is) (λ kind key n is. is)
+    falls = parts (le-more _ _) (le-self _) (λ n cell is. grind (arith, nat_tests)) (λ l load is. is) (λ kind key n is. is)
         (rows-then w.last.handle w.last.handle w.rows (left_rows f.gone w.rows) _ (le-of _ _ refl) (rows-left w.last.handle w.rows f.gone)
         (rows-more w.last.handle (left_rows f.gone w.rows) f.entries (λ q few. none-in-new w.last.handle q f.entries f.new few)))
 

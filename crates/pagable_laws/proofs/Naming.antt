@@ -1,14 +1,14 @@
 -- A handle that stands for a reference goes on to stand for it, and so does a clone of it; a key that was set stays.
 use Rattle.pagable_laws.proofs.Words.{◌≡◌, ℕ, ◌+◌, ◌≤◌, true, List, [], ◌∷◌, ◌++◌, inl, inr, Some, None, Ok, refl, sym, ap, subst, ◌∙◌, arith, nat_tests, ArcRef, HandleNumber, type_of, is_loose_kind}
 use Rattle.pagable_laws.proofs.Words.{HandleRow, Owner, find_row, is_loose, fits_mode, has_key, Core, Cell, Todo, to_start, to_item, to_publish, to_release, to_fail, row_at, type_at, row_of}
-use Rattle.pagable_laws.proofs.Words.{CloneCall, claim_fault, HandlesAreWhole, Change, StandsAt, KeyIsSet, Holds, AllHold, WaitsHeld, Ends, false, of_item, of_entry, ◌⊎◌, Option, drop, length}
-use Rattle.pagable_laws.proofs.Words.{OptionalDataKey, Pinning, Beginning, Claim, PinStep, Took, Identity, NodeNumber, above, if_there, any_mode, identity_of, owner_worker, Shelf, Slot, no_result}
-use Rattle.pagable_laws.proofs.Words.{published, Written, Open, to_pin, to_load, to_write, to_finish, to_set, Task, SameShelf, Seen, with_key, SetKeyCall, Site, first_todo, Does, PinsAtOnce}
-use Rattle.pagable_laws.proofs.Words.{IsPublished, next_start, settle, give, give_known, with_changed_slot, with_outcome, Owns, WorkerAnswer, HasHandle, nothing_felt, WorkerNumber, Tree, Event}
-use Rattle.pagable_laws.proofs.Words.{EventReply, WorkerReply, Walking, World, Values, WorkerSteps, MachineState, world_of, IsMachineWhole, IsIdle, ReadsItsTypes, KeepsOpen, KeysAreReady, KeysHeld}
-use Rattle.pagable_laws.proofs.{Words.{WorkFits, step_of}, Goes.{Goes, Kept, found-number, fell, goes-quiet, quiet-goes}, Outlasting.{stands-new, among-found, Stands, stands-whole, stands-alike}}
-use Rattle.pagable_laws.proofs.{Outlasting.stands-fell, Following.given-of, Answering.sets-key, Called.{pins, begin-goes}, Standing.{put-cases, is-same}, ReadingSteps.{ends-quiet, event-goes}}
-use Rattle.pagable_laws.proofs.{ReadingSteps.{works-free, walk-goes}, Stepping.keys-same, SparingSteps.{Spares, event-spares}, Trees.same_some, Coming.{StandsIn, updated-at, EventTurns, turns-keep}}
+use Rattle.pagable_laws.proofs.Words.{CloneCall, claim_fault, HandlesAreWhole, Change, StandsAt, KeyIsSet, Holds, AllHold, WaitsHeld, Ends, false, of_item, of_entry, ◌⊎◌, Option, OptionalDataKey}
+use Rattle.pagable_laws.proofs.Words.{Pinning, Beginning, Claim, PinStep, Took, Identity, NodeNumber, above, if_there, any_mode, identity_of, owner_worker, Shelf, Slot, no_result, published, to_pin}
+use Rattle.pagable_laws.proofs.Words.{to_load, to_write, to_finish, to_set, Task, SameShelf, Seen, with_key, SetKeyCall, Site, first_todo, Does, PinsAtOnce, IsPublished, next_start, give, give_known}
+use Rattle.pagable_laws.proofs.Words.{with_changed_slot, with_outcome, Owns, WorkerAnswer, HasHandle, nothing_felt, WorkerNumber, Tree, Event, EventReply, WorkerReply, Walking, World, Values}
+use Rattle.pagable_laws.proofs.{Words.{WorkerSteps, MachineState, world_of, IsMachineWhole, IsIdle, ReadsItsTypes, KeepsOpen, KeysAreReady, KeysHeld, WorkFits, step_of}, Goes.{Goes, Kept}}
+use Rattle.pagable_laws.proofs.{Goes.{found-number, fell, goes-quiet, quiet-goes}, Outlasting.{stands-new, among-found, Stands, stands-whole, stands-alike, stands-fell}, Following.given-of}
+use Rattle.pagable_laws.proofs.{Answering.sets-key, Called.{pins, begin-goes}, Standing.{put-cases, is-same}, ReadingSteps.{ends-quiet, event-goes, works-free, walk-goes}, Stepping.keys-same}
+use Rattle.pagable_laws.proofs.{SparingSteps.{Spares, event-spares}, Trees.same_some, Coming.{StandsIn, updated-at, EventTurns, turns-keep}}
 use Rattle.{pagable_world.specs.Runs.Does as DoesMoment, std.proofs.Common.rules}
 
 -- ---- what stays
@@ -102,23 +102,14 @@ module _ {w : Core} (whole : HandlesAreWhole w) where
 -- ---- lists
 
 module _ (w : Core) (v : ℕ) where
-  settled : (o : Open) (below : List Todo) → StandsAt w o.reference o.through → WaitsHeld w below → AllHold w v (settle (to_finish o ∷ below))
-  unfolding AllHold WaitsHeld
-  settled o below h waits = by (drop (length o.keys) o.written.references)
-    where
-      by : (rs : List ArcRef) → AllHold w v (next_start o.place rs ++ to_finish o ∷ below)
-      by x0 = grind (arith, nat_tests)
-
-  pub item-settled : (written : Written) (keys : List ℕ) (below : List Todo) → WaitsHeld w below → AllHold w v (settle (to_item written keys ∷ below))
-  unfolding AllHold WaitsHeld
-  item-settled written keys below waits = by (drop (length keys) written.references)
-    where
-      by : (rs : List ArcRef) → AllHold w v (next_start 0 rs ++ to_item written keys ∷ below)
-      by x0 = grind (arith, nat_tests)
+  started : (place : ℕ) (rs : List ArcRef) (x : Todo) (below : List Todo) → Holds w v x → WaitsHeld w below → WaitsHeld w (x ∷ below) → AllHold w v (next_start place rs ++ x ∷ below)
+  unfolding AllHold
+  started place [] x below h waits all = (h, waits)
+  started place (r ∷ rs) x below h waits all = (tt, all)
 
   given : (r : ArcRef) (key height : ℕ) (below : List Todo) → WaitsHeld w below → AllHold w v (give r key height below)
   unfolding AllHold WaitsHeld
-  given r key height x3 waits = grind (arith, nat_tests, settled, item-settled, above)
+  given r key height x3 waits = grind (arith, nat_tests, started, above)
 
   known : (r : ArcRef) (key height : ℕ) (below : List Todo) → WaitsHeld w below → AllHold w v (give_known r key height below)
   unfolding AllHold WaitsHeld
@@ -208,7 +199,7 @@ module _ {N B W : Type 0} (m : Seen N B W) (v : ℕ) (s s' : Site) (whole : Hand
   stepped (to_write r place through ∷ below) (Took.Write i (Ok out)) e (is, p) f (h, waits) =
       let t = p.writes in
       leaves t.list_is
-      (settled s'.core v (record { reference = r; place = place; through = through; written = m.written_of out; keys = []; height = 0 }) below (stands-on f h) (waits-on f below waits))
+      (started s'.core v place (m.written_of out).references _ below (stands-on f h) (waits-on f below waits) (stands-on f h, waits-on f below waits))
       (changed-reveals s.shelf s'.shelf KeyThere (identity_of r) (λ slot. record slot { written = Some (m.written_of out) }) t.table_is (λ old key height is. inl is))
   stepped (to_finish o ∷ below) (Took.Store i (Ok key)) e (is, p) f (h, waits) = let t = p.goes in stays t.table_stays.slots t.list_is (stands-on f h, waits-on f below waits)
   stepped (to_set r through key height ∷ below) (Took.SetKey i (Ok u)) e (is, p) f (h, waits) = let t = p.goes in
@@ -237,7 +228,7 @@ module _ {N B W : Type 0} (m : Seen N B W) (u u' : World) {c : Change} (goes : G
 
   first-hold : (n : ℕ) (task : Task) → AllHold u'.core n (first_todo task)
   unfolding AllHold WaitsHeld
-  first-hold n (of_item written) = item-settled u'.core n written [] [] tt
+  first-hold n (of_item written) = started u'.core n 0 written.references (to_item written []) [] tt tt tt
   first-hold n (of_entry h i) = (tt, tt)
 
   a-step : StandsIn u' → (k : WorkerNumber) (r : WorkerReply W) (s : WorkerSteps m u k r u') → SlotsHeld s.after.shelf × AllHold u'.core k.0 s.after.todo
