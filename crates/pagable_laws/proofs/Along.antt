@@ -130,10 +130,8 @@ module _ {A B : Type 0} {F : Type 0} {R : A → B → Type 0} where
 
   pub lifted-along : (m : Meaning ⊥) → F ⊎ HasNoReference m → Along F R (lifted m) (lifted m)
   unfolding rename HasNoReference
-  lifted-along (pair a b) (inl f) = pair-along _ _ _ _ (lifted-along a (inl f)) (lifted-along b (inl f))
-  lifted-along (pair a b) (inr h) = pair-along _ _ _ _ (lifted-along a (inr h.0)) (lifted-along b (inr h.1))
-  lifted-along (variant n a) (inl f) = variant-along _ _ _ (lifted-along a (inl f))
-  lifted-along (variant n a) (inr h) = variant-along _ _ _ (lifted-along a (inr h))
+  lifted-along (pair a b) h = pair-along _ _ _ _ (lifted-along a (grind (arith, nat_tests))) (lifted-along b (grind (arith, nat_tests)))
+  lifted-along (variant n a) h = variant-along _ _ _ (lifted-along a h)
   lifted-along (reference a) h = absurd a
   lifted-along (followed kind a) (inl f) = followed-along _ _ _ f (lifted-along a (inl f))
   lifted-along (followed kind a) (inr h) = absurd h

@@ -1,8 +1,8 @@
 -- Heights that are known are those of trees: so no key is answered of what leads down too long a path, or to a value that has no form; and why a claim is too deep.
 use Rattle.pagable_laws.proofs.Words.{nat_tests, ◌≡◌, ℕ, ◌<◌, ◌≤◌, List, refl, sym, subst, ◌∙◌, arith, max, Some, pair, variant, followed, longest_path, above, height, deepest_path, ArcRef, Identity}
 use Rattle.pagable_laws.proofs.Words.{Meaning, Tree, Took, WorkerAnswer, identity_of, Shelf, Todo, Task, of_item, of_entry, Values, Seen, Site, Does, IsPublished, MachineState, world_of, IsLongBelow}
-use Rattle.pagable_laws.proofs.Words.{IsTooDeepTask, Ground, FollowsTo, pair-leads, variant-leads, reference-leads, followed-leads, Waits, Walks, WorkFits, Bool, true, false, ap, inl, inr, TreeForm}
-use Rattle.pagable_laws.proofs.Words.{tree, type_of, Among, Written, kids_of, Reaches, refers, refers-on, in-first, in-rest, in-part, HasNoForm, LeadsToNoForm, IsFormlessTask, ground_of, WroteTree}
+use Rattle.pagable_laws.proofs.Words.{IsTooDeepTask, Ground, FollowsTo, pair-leads, variant-leads, reference-leads, followed-leads, Waits, Walks, WorkFits, Bool, true, ap, inl, inr, TreeForm, tree}
+use Rattle.pagable_laws.proofs.Words.{type_of, Among, Written, kids_of, Reaches, refers, refers-on, in-first, in-rest, in-part, HasNoForm, LeadsToNoForm, IsFormlessTask, ground_of, WroteTree}
 use Rattle.pagable_laws.proofs.Words.{BlobStands, IsDone, ◌⊎◌, [], ◌∷◌, Ok, Err, Event, EventReply, Error, to_start, Walking, IsLawful, Happens, IsMetFailure, IsMachineWhole, IsIdle, StandsFor}
 use Rattle.pagable_laws.proofs.Words.{ReadsItsTypes, HoldsSettled, Moment, AreMoments, Fact, TreesAlong, KeyIsShallow, ShallowLaw, MetDepthAlone, DepthIsTold, ToldDepthLaw, WaitsForAsker, ClaimIsDeep}
 use Rattle.pagable_laws.proofs.Words.{DeepClaimLaw, IsLow, AllLow, if◌then◌else◌, suc, zero, ◌+◌, Claims, Core, Expects, IsAttained, IsTooDeep, Types, is_eager, is_identity, kind_of_arc, place_over}
@@ -68,16 +68,6 @@ record IsShallow (limit : ℕ) (m : Meaning ⊥) : Type 0 where
 
 above-grows : (kind a b : ℕ) → a ≤ b → above kind a ≤ above kind b
 above-grows kind a b le = grind (arith, nat_tests)
-
--- whether anything stands in the meaning that may refer
-abbrev holds_more : Meaning ⊥ → Bool
-holds_more (pair a b) = true
-holds_more (variant n a) = true
-holds_more (followed kind a) = true
-holds_more m = false
-
-more-held : {m n : Meaning ⊥} {u : Tree} → Reaches n u → n ≡ m → holds_more m ≡ false → ⊥
-more-held x0 e x2 = grind (arith, nat_tests)
 
 module _ {N E : Type 0} (v : Values N) (s : MachineState N E) (trees : ℕ → Tree) (fit : WorkFits v s trees) (t : ℕ) where
   abbrev shelf : Shelf
@@ -216,31 +206,28 @@ module _ {N E : Type 0} (v : Values N) (s : MachineState N E) (trees : ℕ → T
 
   -- and so has each that it reaches
   below-has-form : (rs : List ArcRef) → ((r : ArcRef) → Among rs r → (key : ℕ) × ((height : ℕ) × IsPublished shelf (identity_of r) key height))
-      → {own : Meaning ArcRef} {m n : Meaning ⊥} {u : Tree} → FollowsTo trees rs own m → Reaches n u → n ≡ m → HasNoForm v.types u → ⊥
-  below-has-form rs each (reference-leads r a among is) (refers kind b) e formless =
+      → {own : Meaning ArcRef} {m n : Meaning ⊥} {u : Tree} → Reaches n u → FollowsTo trees rs own m → n ≡ m → HasNoForm v.types u → ⊥
+  below-has-form rs each (refers kind b) (reference-leads r a among is) e formless =
       let p = each r among in
       let k = known (identity_of r) p.0 p.1.0 p.1.1 in
       let kinds : kind ≡ r.kind.0 = cc in
       let meanings : b ≡ a = cc in
       let same : tree (type_of kind) b ≡ trees r.node.0 = tree_is _ _ _ _ (ap type_of kinds ∙ sym k.typed) (meanings ∙ sym is) in
       has-form (identity_of r) k (subst (λ x. HasNoForm v.types x) same formless)
-  below-has-form rs each (reference-leads r a among is) (refers-on kind b u reach) e formless =
+  below-has-form rs each (refers-on kind b u reach) (reference-leads r a among is) e formless =
       let p = each r among in
       let k = known (identity_of r) p.0 p.1.0 p.1.1 in
       let meanings : b ≡ a = cc in
-      below-has-form k.written.references (each-below k) k.wrote.follows reach (meanings ∙ sym is) formless
-  below-has-form rs each (pair-leads x y a b h g) (in-first c d u reach) e formless = below-has-form rs each h reach (cc) formless
-  below-has-form rs each (pair-leads x y a b h g) (in-rest c d u reach) e formless = below-has-form rs each g reach (cc) formless
-  below-has-form rs each (variant-leads i x a h) (in-part n c u reach) e formless = below-has-form rs each h reach (cc) formless
-  below-has-form rs each (reference-leads r a among is) reach e formless = absurd (cc)
-  below-has-form rs each (pair-leads x y a b h g) reach e formless = absurd (cc)
-  below-has-form rs each (variant-leads i x a h) reach e formless = absurd (cc)
-  below-has-form rs each (followed-leads kind x a none h) reach e formless = absurd none
-  below-has-form rs each follows reach e formless = more-held reach e refl
+      below-has-form k.written.references (each-below k) reach k.wrote.follows (meanings ∙ sym is) formless
+  below-has-form rs each (in-first c d u reach) (pair-leads x y a b h g) e formless = below-has-form rs each reach h (cc) formless
+  below-has-form rs each (in-rest c d u reach) (pair-leads x y a b h g) e formless = below-has-form rs each reach g (cc) formless
+  below-has-form rs each (in-part n c u reach) (variant-leads i x a h) e formless = below-has-form rs each reach h (cc) formless
+  below-has-form rs each reach (followed-leads kind x a none h) e formless = absurd none
+  below-has-form rs each reach follows e formless = absurd (cc)
 
   has-forms : (i : Identity) (key height : ℕ) → IsPublished shelf i key height → LeadsToNoForm v.types (trees i.node.0) → ⊥
   has-forms i key height p (inl formless) = has-form i (known i key height p) formless
-  has-forms i key height p (inr (u, reach, formless)) = let k = known i key height p in below-has-form k.written.references (each-below k) k.wrote.follows reach refl formless
+  has-forms i key height p (inr (u, reach, formless)) = let k = known i key height p in below-has-form k.written.references (each-below k) reach k.wrote.follows refl formless
 
   -- a task that has come to a key is of no value that has no form
   pub task-has-forms : (task : Task) (key : ℕ) → IsDone v shelf task key → IsFormlessTask v.types trees task → ⊥

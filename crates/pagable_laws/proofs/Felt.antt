@@ -108,11 +108,7 @@ module _ {N E : Type 0} {v : Values N} {s : PagerState N E} {trees : ℕ → Tre
       let same : c ≡ (trees r.node.0).meaning = (let f : c ≡ a = cc in f ∙ sym meant) in
       reference-stands r a (subst (λ (t : Tree). NodeStands v s r.node.0 t) (tree_is _ _ _ _ typed meant) (node-by r.node.0 (h r (zero, refl)) (λ z l k. stand c l same k)))
   stand m (number-leads i) e h = number-stands i
-  stand m (integer-leads z) e h = integer-stands z
-  stand m (text-leads t) e h = text-stands t
-  stand m (pattern-leads t) e h = pattern-stands t
-  stand m none-leads e h = none-stands
-  stand m l e h = absurd (cc)
+  stand m l e h = first_of (search (integer-stands, text-stands, pattern-stands, none-stands), cc)
 
 pub either-side : (n last : ℕ) → (n ≤ last) ⊎ (last < n)
 either-side n last = grind (arith, nat_tests)
