@@ -49,12 +49,8 @@ module _ {N E : Type 0} {v : Values N} {s : PagerState N E} (settled : HoldsSett
         let same : r2 ≡ r = cc in
         let moved = let P : ArcRef → Type 0 = λ q. NodeStands v s q.node.0 (tree (type_of q.kind.0) b) in subst P same h2 in
         rw (same, one-node h moved refl) refl
-    one-meaning (number-stands i) (number-stands j) e = let same : i ≡ j = cc in rw same refl
-    one-meaning (integer-stands i) (integer-stands j) e = let same : i ≡ j = cc in rw same refl
-    one-meaning (text-stands i) (text-stands j) e = let same : i ≡ j = cc in rw same refl
-    one-meaning (pattern-stands i) (pattern-stands j) e = let same : i ≡ j = cc in rw same refl
-    one-meaning none-stands none-stands e = refl
-    one-meaning h g e = absurd (cc)
+    one-meaning h (number-stands j) e = cc
+    one-meaning h g e = cc
 
 -- ---- what is live
 
@@ -202,10 +198,8 @@ module _ {N : Type 0} {v : Values N} {g : Ground} {shelf : Shelf} (right : (i : 
 
   -- the keys that are known of references are those of what they lead to
   pub keys-of : (rs : List ArcRef) (keys : List ℕ) → AreKeysOf shelf rs keys → KeysOf v.hash v.types (kids_of g.trees rs) keys
-  keys-of [] [] known = no-keys
-  keys-of [] (k ∷ ks) known = absurd known
-  keys-of (r ∷ rs) [] known = absurd known
   keys-of (r ∷ rs) (k ∷ ks) ((h, p), known) = more-keys _ _ k ks (kid-key r k h p) (keys-of rs ks known)
+  keys-of x0 x1 known = grind (arith, nat_tests, no-keys)
 
   follows-keys : (rs : List ArcRef) (keys : List ℕ) → AreKeysOf shelf rs keys → {x : Meaning ArcRef} {a : Meaning ⊥} → FollowsTo g.trees rs x a
       → IsFollowed (StoredAs g.stored v.types) (rename (keyed_by shelf) x) a
