@@ -50,15 +50,8 @@ module _ {A : Type 0} {kind_of : A → ℕ} {parts : ℕ → Shape} where
 
     pub one-form : {left left2 : ℕ} {s : Shape} {m n : Meaning A} {b c : List ℕ} {k l : List A} → Form A kind_of parts left s m b k → Form A kind_of parts left2 s n c l
         → Throughout IsCanonical parts s → m ≡ n → (b ≡ c) × (k ≡ l)
-    one-form (nothing-form left) (nothing-form left2) r e = (refl, refl)
-    one-form (unsigned-form left w n h) (unsigned-form left2 w2 n2 h2) r e = let same : n ≡ n2 = cc in (ap (unsigned_form w) same, refl)
-    one-form (signed-form left w z h) (signed-form left2 w2 z2 h2) r e = let same : z ≡ z2 = cc in (ap (signed_form w) same, refl)
     one-form (flag-form left b) (flag-form left2 b2) r e = (ap bool_form (same-flag b b2 e), refl)
-    one-form (text-form left t u h) (text-form left2 t2 u2 h2) r e = let same : t ≡ t2 = cc in (ap text_form same, refl)
-    one-form (letter-form left x u) (letter-form left2 x2 u2) r e = let same : x ≡ x2 = cc in (ap char_form same, refl)
     one-form (duration-form left x y h g) (duration-form left2 x2 y2 h2 g2) r e = let seconds : x ≡ x2 = cc in let nanos : y ≡ y2 = cc in (rw (seconds, nanos) refl, refl)
-    one-form (pattern-form left t u h) (pattern-form left2 t2 u2 h2) r e = let same : t ≡ t2 = cc in (ap text_form same, refl)
-    one-form (none-form left s) (none-form left2 s2) r e = (refl, refl)
     one-form (some-form left s m b k h) (some-form left2 s2 m2 b2 k2 h2) r e = grown (1 ∷ []) _ _ _ _ (one-form h h2 (narrowed r (λ p. p) (λ n d l. l)) cc)
     one-form (err-form left s t m b k h) (err-form left2 s2 t2 m2 b2 k2 h2) r e = grown (0 ∷ []) _ _ _ _ (one-form h h2 (narrowed r (λ p. p.1) (λ n d l. l.1)) cc)
     one-form (ok-form left s t m b k h) (ok-form left2 s2 t2 m2 b2 k2 h2) r e = grown (1 ∷ []) _ _ _ _ (one-form h h2 (narrowed r (λ p. p.0) (λ n d l. l.0)) cc)
@@ -88,10 +81,7 @@ module _ {A : Type 0} {kind_of : A → ℕ} {parts : ℕ → Shape} where
         (rw (cases, rest.0) refl, rest.1)
     one-form (reference-form left kind a q) (reference-form left2 kind2 a2 q2) r e = let same : a ≡ a2 = cc in (refl, ap (λ (x : A). x ∷ []) same)
     one-form (nested-form left less n m b k p h) (nested-form left2 less2 n2 m2 b2 k2 p2 h2) r e = one-form h h2 (part_of r) e
-    one-form (json-null-form left) (json-null-form left2) r e = (refl, refl)
     one-form (json-flag-form left b) (json-flag-form left2 b2) r e = grind (arith, nat_tests, same-flag)
-    one-form (json-number-form left z h) (json-number-form left2 z2 h2) r e = let same : z ≡ z2 = cc in (rw same refl, refl)
-    one-form (json-text-form left t u h) (json-text-form left2 t2 u2 h2) r e = let same : t ≡ t2 = cc in (rw same refl, refl)
     one-form (json-array-form left less ms b k p le h) (json-array-form left2 less2 ms2 b2 k2 p2 le2 h2) r e =
         let part : sequence ms ≡ sequence ms2 = cc in
         let same = same-items ms ms2 part in
@@ -100,6 +90,7 @@ module _ {A : Type 0} {kind_of : A → ℕ} {parts : ℕ → Shape} where
         let part : of_entries es ≡ of_entries es2 = cc in
         let same = same-entries es es2 part in
         grown (5 ∷ []) _ _ _ _ (counted _ _ _ _ _ _ same (one-entries h h2 (of_text tt) (of_json tt) same))
+    one-form x0 (nothing-form left) r e = grind (arith, nat_tests)
     one-form x0 x1 r e = grind (arith, nat_tests, here)
 
     pub one-forms : {left left2 : ℕ} {s : Shape} {ms ns : List (Meaning A)} {b c : List ℕ} {k l : List A} → Forms A kind_of parts left s ms b k → Forms A kind_of parts left2 s ns c l
