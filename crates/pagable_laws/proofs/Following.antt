@@ -5,11 +5,11 @@ use Rattle.pagable_laws.proofs.Words.{IsReadable, Throughout, Kid, kid, kind_of_
 use Rattle.pagable_laws.proofs.Words.{pair-followed, variant-followed, reference-followed, unfolded, TreeForm, blob_of, KeyOf, key-of, KeysOf, no-keys, more-keys, kind_of_ref, key_of_ref, StoredAs}
 use Rattle.pagable_laws.proofs.Words.{ArcRef, Identity, Meaning, Shape, Tree, tree, Types, type_of, Among, if_there, one, times, HandleRow, identity_of, held, is_handle, is_owned_by, owner_value}
 use Rattle.pagable_laws.proofs.Words.{Core, Shelf, Slot, Outcome, published, Written, Values, IsLawful, digest, type_at, IsPublished, PagerState, WellFormed, HandlesAreWhole, NodeStands, here, away}
-use Rattle.pagable_laws.proofs.Words.{MeaningStands, number-stands, integer-stands, text-stands, pattern-stands, none-stands, pair-stands, variant-stands, followed-stands, reference-stands}
-use Rattle.pagable_laws.proofs.Words.{Represents, IsWrittenOf, kids_of, HoldsSettled, ReadsItsTypes, AreKeysOf, rest, Ground, FollowsTo, LeadsBy, number-leads, integer-leads, text-leads}
-use Rattle.pagable_laws.proofs.{Words.{pattern-leads, none-leads, pair-leads, variant-leads, followed-leads, reference-leads, zero, WroteTree, KeyStands, ◌++◌}, Along.{Along, pair-along}}
-use Rattle.pagable_laws.proofs.{Along.{variant-along, reference-along, followed-along, AllTwo, no-two, more-two}, Again.{looks-itself, read_again}, Related.{keeps_forms, no_cause, Out}}
-use Rattle.pagable_laws.proofs.{Related.{both-looked-up, read_par}, Sums.{same-number, sum-le, sum-zero}, Trees.{same_some, one_tree}, Decoding.{among-left, among-right}}
+use Rattle.pagable_laws.proofs.Words.{MeaningStands, number-stands, pair-stands, variant-stands, followed-stands, reference-stands, Represents, IsWrittenOf, kids_of, HoldsSettled, ReadsItsTypes}
+use Rattle.pagable_laws.proofs.Words.{AreKeysOf, rest, Ground, FollowsTo, LeadsBy, number-leads, integer-leads, text-leads, pattern-leads, none-leads, pair-leads, variant-leads, followed-leads}
+use Rattle.pagable_laws.proofs.{Words.{reference-leads, zero, WroteTree, KeyStands, ◌++◌}, Along.{Along, pair-along, variant-along, reference-along, followed-along, AllTwo, no-two, more-two}}
+use Rattle.pagable_laws.proofs.{Again.{looks-itself, read_again}, Related.{keeps_forms, no_cause, Out, both-looked-up, read_par}, Sums.{same-number, sum-le, sum-zero}, Trees.{same_some, one_tree}}
+use Rattle.pagable_laws.proofs.Decoding.{among-left, among-right}
 
 -- ---- the references in a form's meaning are those of the form, and none is followed
 

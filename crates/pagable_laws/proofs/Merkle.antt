@@ -1,17 +1,16 @@
 -- A tree of canonical types has one key, a stored tree has the key that it stands under, and keys tell trees apart.
-use Rattle.pagable_laws.proofs.Words.{arith, nat_tests, ◌≡◌, ℕ, suc, Bool, List, [], ◌∷◌, ◌++◌, length, refl, sym, ap, ◌∙◌, subst, unsigned_form, signed_form, bool_form, length_form, text_form}
-use Rattle.pagable_laws.proofs.Words.{char_form, Meaning, sequence, Entry, of_entries, Shape, Form, Forms, Entries, nothing-form, unsigned-form, signed-form, flag-form, text-form, letter-form}
-use Rattle.pagable_laws.proofs.Words.{duration-form, pattern-form, none-form, some-form, err-form, ok-form, list-form, run-form, array-form, both-form, sorted-map-form, placed-map-form, hash-map-form}
-use Rattle.pagable_laws.proofs.Words.{sorted-set-form, placed-set-form, static-form, tagged-form, case-form, reference-form, nested-form, json-null-form, json-flag-form, json-number-form}
-use Rattle.pagable_laws.proofs.Words.{json-text-form, json-array-form, json-object-form, no-forms, more-forms, no-entries, more-entries, LiesIn, IsCanonical, Throughout, CanonicalHasOneForm, true}
-use Rattle.pagable_laws.proofs.Words.{pair, variant, followed, code_order, Tree, Types, type_of, Kid, unfolded, KeyOf, key-of, KeysOf, no-keys, more-keys, EachType, StaysInside, IsCanonicalInside}
-use Rattle.pagable_laws.proofs.Words.{zero, ◌+◌, ◌*◌, ◌/◌, ◌%◌, ◌^◌, ◌<◌, ◌≤◌, div-div-eq-div-mul, pow-suc, length-append, Blob, preimage, cut, HasOnePreimage, inl, inr, if◌then◌else◌, cases_lt}
-use Rattle.pagable_laws.proofs.Words.{is_eager, height, HasPath, IsLongestPath, map, Option, Ok, append-nil, read, read_typed, key_of, KeyRef, tree, key_ref, ReadsAs, IsFollowed, pair-followed}
-use Rattle.pagable_laws.proofs.Words.{variant-followed, reference-followed, blob_context, rest_of, kind_of_kid, tree_of_kid, TreeForm, blob_of, kind_of_ref, key_of_ref, StoredAs, HasOwnKeys}
-use Rattle.pagable_laws.proofs.{Words.{SharesNoKey, IsCanonicalType, IsCanonicalTree, IsReadableType, rest, IsOneKey, IsOneItemKey, IsStoredKey, IsTreeReadable, IsKeyOfOneTree}, Again.here}
-use Rattle.pagable_laws.proofs.{Again.{narrowed, part_of, of_json, of_text, lower, form-again, Looked, all-looked, one-looked}, Along.{Along, EntryAlong, lifted-along, number-along, integer-along}}
-use Rattle.pagable_laws.proofs.{Along.{text-along, pattern-along, none-along, pair-along, variant-along, reference-along, AllTwo, no-two, more-two, form-along}, Related.{flag-same, sequence-two}}
-use Rattle.pagable_laws.proofs.{Related.{entries-two, sorted-two}, Trees.{same_some, same_result, tree_is, one-followed, followed-on}}
+use Rattle.pagable_laws.proofs.Words.{arith, nat_tests, ◌≡◌, ℕ, suc, Bool, List, [], ◌∷◌, ◌++◌, length, refl, sym, ap, ◌∙◌, subst, length_form, Meaning, sequence, Entry, of_entries, Shape, Form}
+use Rattle.pagable_laws.proofs.Words.{Forms, Entries, nothing-form, flag-form, duration-form, some-form, err-form, ok-form, list-form, run-form, array-form, both-form, sorted-map-form}
+use Rattle.pagable_laws.proofs.Words.{placed-map-form, hash-map-form, sorted-set-form, placed-set-form, static-form, tagged-form, case-form, reference-form, nested-form, json-flag-form}
+use Rattle.pagable_laws.proofs.Words.{json-array-form, json-object-form, no-forms, more-forms, no-entries, more-entries, LiesIn, IsCanonical, Throughout, CanonicalHasOneForm, true, pair, variant}
+use Rattle.pagable_laws.proofs.Words.{followed, code_order, Tree, Types, type_of, Kid, unfolded, KeyOf, key-of, KeysOf, no-keys, more-keys, EachType, StaysInside, IsCanonicalInside, zero, ◌+◌, ◌*◌}
+use Rattle.pagable_laws.proofs.Words.{◌/◌, ◌%◌, ◌^◌, ◌<◌, ◌≤◌, div-div-eq-div-mul, pow-suc, length-append, Blob, preimage, cut, HasOnePreimage, inl, inr, if◌then◌else◌, cases_lt, is_eager, height}
+use Rattle.pagable_laws.proofs.Words.{HasPath, IsLongestPath, map, Option, Ok, append-nil, read, read_typed, KeyRef, tree, key_ref, ReadsAs, IsFollowed, pair-followed, variant-followed}
+use Rattle.pagable_laws.proofs.Words.{reference-followed, blob_context, rest_of, kind_of_kid, tree_of_kid, TreeForm, blob_of, kind_of_ref, key_of_ref, StoredAs, HasOwnKeys, SharesNoKey}
+use Rattle.pagable_laws.proofs.{Words.{IsCanonicalType, IsCanonicalTree, IsReadableType, rest, IsOneKey, IsOneItemKey, IsStoredKey, IsTreeReadable, IsKeyOfOneTree}, Again.{here, narrowed, part_of}}
+use Rattle.pagable_laws.proofs.{Again.{of_json, of_text, lower, form-again, Looked, all-looked, one-looked}, Along.{Along, EntryAlong, lifted-along, number-along, integer-along, text-along}}
+use Rattle.pagable_laws.proofs.{Along.{pattern-along, none-along, pair-along, variant-along, reference-along, AllTwo, no-two, more-two, form-along}, Related.{flag-same, sequence-two, entries-two}}
+use Rattle.pagable_laws.proofs.{Related.sorted-two, Trees.{same_some, same_result, tree_is, one-followed, followed-on}}
 use Rattle.pagable_model.specs.{Canonical.IsClosed}
 use Rattle.std.{specs.Int.{byte_at, bytes_low_first, to_le_bytes, w64, w128}, specs.List.{flat_map, AllByRecursion as Each}, proofs.Common.rules}
 use Rattle.pagable_model.specs.Meaning as meanings
@@ -50,8 +49,6 @@ module _ {A : Type 0} {kind_of : A → ℕ} {parts : ℕ → Shape} where
 
     pub one-form : {left left2 : ℕ} {s : Shape} {m n : Meaning A} {b c : List ℕ} {k l : List A} → Form A kind_of parts left s m b k → Form A kind_of parts left2 s n c l
         → Throughout IsCanonical parts s → m ≡ n → (b ≡ c) × (k ≡ l)
-    one-form (flag-form left b) (flag-form left2 b2) r e = (ap bool_form (same-flag b b2 e), refl)
-    one-form (duration-form left x y h g) (duration-form left2 x2 y2 h2 g2) r e = let seconds : x ≡ x2 = cc in let nanos : y ≡ y2 = cc in (rw (seconds, nanos) refl, refl)
     one-form (some-form left s m b k h) (some-form left2 s2 m2 b2 k2 h2) r e = grown (1 ∷ []) _ _ _ _ (one-form h h2 (narrowed r (λ p. p) (λ n d l. l)) cc)
     one-form (err-form left s t m b k h) (err-form left2 s2 t2 m2 b2 k2 h2) r e = grown (0 ∷ []) _ _ _ _ (one-form h h2 (narrowed r (λ p. p.1) (λ n d l. l.1)) cc)
     one-form (ok-form left s t m b k h) (ok-form left2 s2 t2 m2 b2 k2 h2) r e = grown (1 ∷ []) _ _ _ _ (one-form h h2 (narrowed r (λ p. p.0) (λ n d l. l.0)) cc)
@@ -81,7 +78,6 @@ module _ {A : Type 0} {kind_of : A → ℕ} {parts : ℕ → Shape} where
         (rw (cases, rest.0) refl, rest.1)
     one-form (reference-form left kind a q) (reference-form left2 kind2 a2 q2) r e = let same : a ≡ a2 = cc in (refl, ap (λ (x : A). x ∷ []) same)
     one-form (nested-form left less n m b k p h) (nested-form left2 less2 n2 m2 b2 k2 p2 h2) r e = one-form h h2 (part_of r) e
-    one-form (json-flag-form left b) (json-flag-form left2 b2) r e = grind (arith, nat_tests, same-flag)
     one-form (json-array-form left less ms b k p le h) (json-array-form left2 less2 ms2 b2 k2 p2 le2 h2) r e =
         let part : sequence ms ≡ sequence ms2 = cc in
         let same = same-items ms ms2 part in
@@ -91,7 +87,7 @@ module _ {A : Type 0} {kind_of : A → ℕ} {parts : ℕ → Shape} where
         let same = same-entries es es2 part in
         grown (5 ∷ []) _ _ _ _ (counted _ _ _ _ _ _ same (one-entries h h2 (of_text tt) (of_json tt) same))
     one-form x0 (nothing-form left) r e = grind (arith, nat_tests)
-    one-form x0 x1 r e = grind (arith, nat_tests, here)
+    one-form x0 x1 r e = grind (arith, nat_tests, here, same-flag)
 
     pub one-forms : {left left2 : ℕ} {s : Shape} {ms ns : List (Meaning A)} {b c : List ℕ} {k l : List A} → Forms A kind_of parts left s ms b k → Forms A kind_of parts left2 s ns c l
         → Throughout IsCanonical parts s → ms ≡ ns → (b ≡ c) × (k ≡ l)

@@ -1,7 +1,7 @@
 -- One key spells one tree, and one tree of canonical types has one key.
-use Rattle.pagable_laws.proofs.Words.{arith, nat_tests, ◌≡◌, ℕ, Option, Some, Result, Ok, refl, Error, Meaning, Rest, Blob, KeyRef, Types, tree, ReadsAs, IsFollowed, number-followed}
-use Rattle.pagable_laws.proofs.Words.{integer-followed, text-followed, pattern-followed, none-followed, pair-followed, variant-followed, reference-followed, IsOneTree, EachType, pair, variant}
-use Rattle.pagable_laws.proofs.Words.{followed, type_of, sym, subst}
+use Rattle.pagable_laws.proofs.Words.{arith, nat_tests, ◌≡◌, ℕ, Option, Some, Result, Ok, refl, Error, Meaning, Rest, Blob, KeyRef, Types, tree, ReadsAs, IsFollowed, number-followed, integer-followed}
+use Rattle.pagable_laws.proofs.Words.{text-followed, pattern-followed, none-followed, pair-followed, variant-followed, reference-followed, IsOneTree, EachType, pair, variant, followed, type_of, sym}
+use Rattle.pagable_laws.proofs.Words.{subst}
 use Rattle.std.proofs.{Common.rules}
 
 pub same_some : {X : Type 0} (x y : X) → Some x ≡ Some y → x ≡ y
