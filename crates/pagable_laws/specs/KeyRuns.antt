@@ -1,7 +1,7 @@
 -- What workers hold of the references that they have claimed, and which cells have a key: an invariant of runs in which the storage isn't closed.
 use Rattle.std.specs.Prelude.{ℕ, ◌≡◌, ◌≤◌, true, List, [], ◌∷◌, Some}
 use Rattle.pagable_world.specs.{Plain.{ArcRef, HandleNumber, Identity, Tree, is_loose_kind}, declared.handles.HandleRow.HandleRow, declared.events.Event.Event, declared.events.EventReply.EventReply}
-use Rattle.pagable_world.specs.{Kinds.{is_loose, has_key, owner_worker}, World.{Core, Cell, Todo, to_start, to_pin, to_load, to_write, to_finish, to_item, to_set, to_publish, to_release, to_fail}}
+use Rattle.pagable_world.specs.{Kinds.{is_loose, has_key, owner_worker}, World.{Core, Cell, Todo, to_pin, to_load, to_write, to_finish, to_item, to_set, to_publish}}
 use Rattle.pagable_world.specs.{World.{Walking, World, row_at, Values}, Workers.IsPublished, Pager.MachineState, Headline.{PublishIsKey, AnswerIsKey, AnswerLeavesAll}}
 
 -- The handle stands for the reference, both of which were given: while it is live it is of the reference's node, and loose where the reference's kind is.
@@ -25,16 +25,13 @@ pub record HasHandle (w : Core) (v n : ℕ) : Type 0 where
 
 -- what the worker holds of a reference that it has claimed, and what it has come to and still has when its key is published
 abbrev pub Holds : Core → ℕ → Todo → Type 0
-Holds w v (to_start r place) = Unit {0}
 Holds w v (to_pin r place) = StandsAt w r r.handle
 Holds w v (to_load r place through reading) = StandsAt w r through
 Holds w v (to_write r place through) = StandsAt w r through
 Holds w v (to_finish o) = StandsAt w o.reference o.through
-Holds w v (to_item written keys) = Unit {0}
 Holds w v (to_set r through key height) = StandsAt w r through
 Holds w v (to_publish r key height) = (is_loose_kind r.kind.0 ≡ true → KeyIsSet w r.node.0) × HasHandle w v r.node.0
-Holds w v (to_release r key height) = Unit {0}
-Holds w v (to_fail fault back) = Unit {0}
+Holds w v _ = Unit {0}
 
 -- nothing waits but written nodes, of which the same is held, and an item
 unfoldable pub WaitsHeld : Core → List Todo → Type 0
