@@ -1,9 +1,9 @@
 -- A handle that stands for a reference goes on to stand for it, and so does a clone of it; a key that was set stays.
 use Rattle.pagable_laws.proofs.Words.{◌≡◌, ℕ, ◌+◌, ◌≤◌, true, List, [], ◌∷◌, ◌++◌, inl, inr, Some, None, Ok, refl, sym, ap, subst, ◌∙◌, arith, nat_tests, ArcRef, HandleNumber, type_of, is_loose_kind}
-use Rattle.pagable_laws.proofs.Words.{HandleRow, Owner, find_row, is_loose, fits_mode, has_key, Core, Cell, Todo, to_start, to_item, to_publish, to_release, to_fail, row_at, type_at, row_of}
-use Rattle.pagable_laws.proofs.Words.{CloneCall, claim_fault, HandlesAreWhole, Change, StandsAt, KeyIsSet, Holds, AllHold, WaitsHeld, Ends, false, of_item, of_entry, ◌⊎◌, Option, OptionalDataKey}
-use Rattle.pagable_laws.proofs.Words.{Pinning, Beginning, Claim, PinStep, Took, Identity, NodeNumber, above, if_there, any_mode, identity_of, owner_worker, Shelf, Slot, no_result, published, to_pin}
-use Rattle.pagable_laws.proofs.Words.{to_load, to_write, to_finish, to_set, Task, SameShelf, Seen, with_key, SetKeyCall, Site, first_todo, Does, PinsAtOnce, IsPublished, next_start, give, give_known}
+use Rattle.pagable_laws.proofs.Words.{HandleRow, Owner, find_row, is_loose, fits_mode, has_key, Core, Cell, Todo, to_start, to_item, to_publish, to_release, row_at, type_at, row_of, CloneCall}
+use Rattle.pagable_laws.proofs.Words.{claim_fault, HandlesAreWhole, Change, StandsAt, KeyIsSet, Holds, AllHold, WaitsHeld, Ends, false, of_item, of_entry, ◌⊎◌, Option, OptionalDataKey, Pinning}
+use Rattle.pagable_laws.proofs.Words.{Beginning, Claim, PinStep, Took, Identity, NodeNumber, above, if_there, any_mode, identity_of, owner_worker, Shelf, Slot, no_result, published, to_pin, to_load}
+use Rattle.pagable_laws.proofs.Words.{to_write, to_finish, to_set, Task, SameShelf, Seen, with_key, SetKeyCall, Site, first_todo, Does, PinsAtOnce, IsPublished, next_start, give, give_known}
 use Rattle.pagable_laws.proofs.Words.{with_changed_slot, with_outcome, Owns, WorkerAnswer, HasHandle, nothing_felt, WorkerNumber, Tree, Event, EventReply, WorkerReply, Walking, World, Values}
 use Rattle.pagable_laws.proofs.{Words.{WorkerSteps, MachineState, world_of, IsMachineWhole, IsIdle, ReadsItsTypes, KeepsOpen, KeysAreReady, KeysHeld, WorkFits, step_of}, Goes.{Goes, Kept}}
 use Rattle.pagable_laws.proofs.{Goes.{found-number, fell, goes-quiet, quiet-goes}, Outlasting.{stands-new, among-found, Stands, stands-whole, stands-alike, stands-fell}, Following.given-of}
@@ -48,12 +48,8 @@ module _ {c : Change} {w w' : Core} (goes : Goes c w w') where
   all-on v keeps (x ∷ below) (h, waits) = (of x h, waits-on below waits)
     where
       of : (x : Todo) → Holds w v x → Holds w' v x
-      of (to_start r place) h = tt
-      of (to_item written keys) h = tt
       of (to_publish r key height) h = (λ kind. key-on (h.0 kind), keeps r.node.0 h.1)
-      of (to_release r key height) h = tt
-      of (to_fail fault back) h = tt
-      of _ h = stands-on h
+      of _ h = search (rules, stands-on)
 
 -- ---- what is claimed
 
