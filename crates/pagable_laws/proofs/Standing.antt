@@ -401,14 +401,11 @@ module _ (v : ℕ) (task : Task) (shelf shelf' : Shelf) where
       record {
         changes = fails-own v shelf shelf' same;
         all = tt;
-        covers = λ i slot there own still. let a = all-failed v shelf shelf' same i slot there own in absurd (closed slot a still);
+        covers = λ i slot there own still. true-false (ap is_open_outcome still) (all-failed v shelf shelf' same i slot there own);
         unfailed = λ nothing clean. absurd (cc);
         done = λ a is. refl;
         met = λ i slot none there. some-none there ((same.slots i ∙ ap (λ o. if_there (λ (slot : Slot). Some (if nat_eq slot.worker v then with_outcome failed slot else slot)) None o) none));
       }
-    where
-      closed : (slot : Slot) → is_open_outcome slot.outcome ≡ false → slot.outcome ≡ no_result → ⊥
-      closed slot a still = let b = ap is_open_outcome still in true-false b a
 
 -- What stands of all workers and tables goes on to stand, by what an event does to them.
 
