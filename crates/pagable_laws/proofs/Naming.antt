@@ -5,10 +5,10 @@ use Rattle.pagable_laws.proofs.Words.{claim_fault, HandlesAreWhole, Change, Stan
 use Rattle.pagable_laws.proofs.Words.{Beginning, Claim, PinStep, Took, Identity, NodeNumber, above, if_there, any_mode, identity_of, owner_worker, Shelf, Slot, no_result, published, to_pin, to_load}
 use Rattle.pagable_laws.proofs.Words.{to_write, to_finish, to_set, Task, SameShelf, Seen, with_key, SetKeyCall, Site, first_todo, Does, PinsAtOnce, IsPublished, next_start, give, give_known}
 use Rattle.pagable_laws.proofs.Words.{with_changed_slot, with_outcome, Owns, WorkerAnswer, HasHandle, nothing_felt, WorkerNumber, Tree, Event, EventReply, WorkerReply, Walking, World, Values}
-use Rattle.pagable_laws.proofs.{Words.{WorkerSteps, MachineState, world_of, IsMachineWhole, IsIdle, ReadsItsTypes, KeepsOpen, KeysAreReady, KeysHeld, WorkFits, step_of}, Goes.{Goes, Kept}}
-use Rattle.pagable_laws.proofs.{Goes.{found-number, fell, goes-quiet, quiet-goes}, Outlasting.{stands-new, among-found, Stands, stands-whole, stands-alike, stands-fell}, Following.given-of}
-use Rattle.pagable_laws.proofs.{Answering.sets-key, Called.{pins, begin-goes}, Standing.{put-cases, is-same}, ReadingSteps.{ends-quiet, event-goes, works-free, walk-goes}, Stepping.keys-same}
-use Rattle.pagable_laws.proofs.{SparingSteps.{Spares, event-spares}, Trees.same_some, Coming.{StandsIn, updated-at, EventTurns, turns-keep}}
+use Rattle.pagable_laws.proofs.{Words.{WorkerSteps, MachineState, world_of, IsMachineWhole, IsIdle, ReadsItsTypes, KeepsOpen, KeysAreReady, KeysHeld, WorkFits, step_of}, Goes.{Goes, found-number}}
+use Rattle.pagable_laws.proofs.{Goes.{fell, goes-quiet, quiet-goes}, Outlasting.{stands-new, among-found, Stands, stands-whole, stands-alike, stands-fell}, Following.given-of, Answering.sets-key}
+use Rattle.pagable_laws.proofs.{Called.{pins, begin-goes}, Standing.{put-cases, is-same}, ReadingSteps.{ends-quiet, event-goes, works-free, walk-goes}, Stepping.keys-same, SparingSteps.Spares}
+use Rattle.pagable_laws.proofs.{SparingSteps.event-spares, Trees.same_some, Coming.{StandsIn, updated-at, EventTurns, turns-keep}}
 use Rattle.{pagable_world.specs.Runs.Does as DoesMoment, std.proofs.Common.rules}
 
 -- ---- what stays
@@ -27,13 +27,10 @@ module _ {c : Change} {w w' : Core} (goes : Goes c w w') where
       record {
         given = let a = s.given in let b = goes.nodes in omega arith;
         keyed = λ cell live. elim (goes.cells n cell live) [
-          | inl k ↦ kept cell k (s.keyed k.was k.live)
+          | inl k ↦ elim k.key [ inl same ↦ ap has_key same ∙ s.keyed k.was k.live | inr (key, sets, is) ↦ ap has_key is ]
           | inr (next, bears) ↦ let a = s.given in absurd (omega arith)
         ];
       }
-    where
-      kept : (cell : Cell) (k : Kept c w n cell) → has_key k.was.key ≡ true → has_key cell.key ≡ true
-      kept cell k had = elim k.key [ inl same ↦ ap has_key same ∙ had | inr (key, sets, is) ↦ ap has_key is ]
 
   pub waits-on : (todo : List Todo) → WaitsHeld w todo → WaitsHeld w' todo
   unfolding WaitsHeld
