@@ -1,7 +1,7 @@
 -- What tables and to-do lists hold of trees goes on as long as what is stored and each node's tree stay; and what a change of a table comes to.
 use Rattle.pagable_laws.proofs.Words.{nat_tests, ◌≡◌, ℕ, ◌≤◌, Bool, List, [], ◌∷◌, inl, inr, Option, Some, None, if◌then◌else◌, refl, sym, ap, subst, ◌∙◌, arith, nat_eq, ArcRef, Identity, Blob, Tree}
-use Rattle.pagable_laws.proofs.Words.{Among, if_there, identity_of, Shelf, Slot, failed, Written, Todo, to_finish, Task, Values, IsPublished, is_open_outcome, with_outcome, with_failed, AreKeysOf}
-use Rattle.pagable_laws.proofs.Words.{Ground, FollowsTo, WroteTree, KeyStands, BlobStands, SlotFits, KeysSoFar, Waits, Above, HasBlob, Walks, SlotsFit, ◌==◌, true, ◌++◌, length, Ok, drop, blob_of}
+use Rattle.pagable_laws.proofs.Words.{Among, identity_of, Shelf, Slot, failed, Written, Todo, to_finish, Task, Values, IsPublished, is_open_outcome, with_outcome, with_failed, AreKeysOf, Ground}
+use Rattle.pagable_laws.proofs.Words.{FollowsTo, WroteTree, KeyStands, BlobStands, SlotFits, KeysSoFar, Waits, Above, HasBlob, Walks, SlotsFit, ◌==◌, true, ◌++◌, length, Ok, drop, blob_of}
 use Rattle.pagable_laws.proofs.Words.{HandleNumber, type_of, Claim, Took, no_result, published, Open, Fault, to_start, to_write, to_item, to_set, to_publish, to_release, to_fail, Seen, digest, Stores}
 use Rattle.pagable_laws.proofs.Words.{Site, Does, claim_fault, next_start, give, give_known, open_node, with_wait, answer_after, Expects, Event, EventReply, of_item, of_entry, IsLawful, first_todo}
 use Rattle.pagable_laws.proofs.Words.{Ends, step_of, PagerState, MachineState, world_of, IsMachineWhole, IsIdle, Represents, TookWrites, ReplyWrites, HoldsSettled, ReadsItsTypes, ground_of, WorkFits}
@@ -101,14 +101,10 @@ module _ {N : Type 0} {v : Values N} {g g' : Ground} {shelf shelf' : Shelf} (goe
     failed-fits i slot x2 x3 fit = grind (arith, nat_tests)
 
     pub slots-failed : ((i : Identity) → shelf'.slots i ≡ (with_failed shelf n).slots i) → SlotsFit v g' shelf'
-    slots-failed same i slot' now = of (shelf.slots i) refl (sym (same i) ∙ now)
-      where
-        of : (old : Option Slot) → shelf.slots i ≡ old → if_there (λ (slot : Slot). Some (if nat_eq slot.worker n then with_outcome failed slot else slot)) None old ≡ Some slot'
-            → SlotFits v g' shelf' i slot'
-        of None none is = absurd (cc)
-        of (Some slot) there is =
-            subst (λ (z : Slot). SlotFits v g' shelf' i z) (some-same refl is)
-            (failed-fits i slot (nat_eq slot.worker n) (is_open_outcome slot.outcome) (slot-on v goes (keys-grow more) (fits i slot there)))
+    slots-failed same i slot' now =
+        let is = sym (same i) ∙ now in
+        let c : (old : Slot) × (shelf.slots i ≡ Some old) × ((if nat_eq old.worker n then with_outcome failed old else old) ≡ slot') = grind (arith, nat_tests) in
+        subst (λ (z : Slot). SlotFits v g' shelf' i z) c.2 (failed-fits i c.0 (nat_eq c.0.worker n) (is_open_outcome c.0.outcome) (slot-on v goes (keys-grow more) (fits i c.0 c.1)))
 
 module _ {N : Type 0} {v : Values N} {g g' : Ground} {shelf : Shelf} (shelf' : Shelf) (goes : GroundGoes g g') (more : ShelfGrows shelf shelf') (fits : SlotsFit v g shelf) where
   pub walks-on : (task : Task) (todo : List Todo) → Walks v g shelf task todo → Walks v g' shelf' task todo
