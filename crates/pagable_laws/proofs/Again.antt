@@ -1,14 +1,14 @@
 -- A form is read again, whatever follows it, and is refused where one of its references is.
-use Rattle.pagable_laws.proofs.Words.{arith, nat_tests, ℕ, zero, suc, Shape, json, nested, LiesIn, Within, Throughout, ◌≡◌, ◌^◌, ◌<◌, refl, Ok, List, ◌++◌, ℤ, le-leb, varint, varint_at}
-use Rattle.pagable_laws.proofs.Words.{varint_limit, bound, unsigned_form, unsigned_at, unsigned_of, signed_from, IsSigned, signed_form, signed_at, ◌+◌, ◌/◌, ◌%◌, ◌≤◌, Bool, false, [], ◌∷◌, length}
-use Rattle.pagable_laws.proofs.Words.{append_assoc, ltb, le-ltb, lt-ltb, take_at, drop_at, length-append, append-nil, is_utf8-from_IsUtf8, IsUtf8-encode, chars-encodes, length-encode, bool_form}
-use Rattle.pagable_laws.proofs.Words.{bool_at, longest, length_form, length_at, text_form, text_at, char_form, char_at, nanos_of_second, duration_form, duration_at, sym, ap, ◌∙◌, Ordering}
-use Rattle.pagable_laws.proofs.Words.{Meaning, KeyOrder, Entry, ordered, same_key, put_all, put_sorted, put_placed, put_sorted_item, put_placed_item, AllAfter, Apart, Ascends, ItemsAscend, Differ}
-use Rattle.pagable_laws.proofs.Words.{ItemsDiffer, inl, inr, text_order, Look, Gets, items, two, subst, read_with, below, read, Form, Forms, Entries, unsigned-form, signed-form, flag-form}
-use Rattle.pagable_laws.proofs.Words.{text-form, letter-form, duration-form, pattern-form, some-form, err-form, ok-form, list-form, run-form, array-form, both-form, sorted-map-form}
-use Rattle.pagable_laws.proofs.Words.{placed-map-form, hash-map-form, sorted-set-form, placed-set-form, static-form, tagged-form, case-form, reference-form, nested-form, json-flag-form}
-use Rattle.pagable_laws.proofs.Words.{json-number-form, json-text-form, json-array-form, json-object-form, no-forms, more-forms, no-entries, more-entries, IsReadable, HasNoCase, IsReadAgain, rest}
-use Rattle.pagable_laws.proofs.Words.{LooksUp, no-references, more-references, Err, Error, Result, append_cancel_right, Rest, IsPrefixFree, ◌>>=◌}
+use Rattle.pagable_laws.proofs.Words.{arith, nat_tests, ℕ, zero, suc, Shape, json, nested, LiesIn, Within, Throughout, ◌≡◌, ◌^◌, ◌<◌, refl, Ok, List, ◌++◌, ℤ, le-leb, varint, varint_at, varint_limit}
+use Rattle.pagable_laws.proofs.Words.{bound, unsigned_form, unsigned_at, unsigned_of, signed_from, IsSigned, signed_form, signed_at, ◌+◌, ◌/◌, ◌%◌, ◌≤◌, Bool, false, [], ◌∷◌, length, append_assoc}
+use Rattle.pagable_laws.proofs.Words.{ltb, le-ltb, lt-ltb, take_at, drop_at, length-append, append-nil, is_utf8-from_IsUtf8, IsUtf8-encode, chars-encodes, length-encode, bool_form, bool_at, longest}
+use Rattle.pagable_laws.proofs.Words.{length_form, length_at, text_form, text_at, char_form, char_at, nanos_of_second, duration_form, duration_at, sym, ap, ◌∙◌, Ordering, Meaning, KeyOrder, Entry}
+use Rattle.pagable_laws.proofs.Words.{ordered, same_key, put_all, put_sorted, put_placed, put_sorted_item, put_placed_item, AllAfter, Apart, Ascends, ItemsAscend, Differ, ItemsDiffer, inl, inr}
+use Rattle.pagable_laws.proofs.Words.{text_order, Look, Gets, items, two, subst, read_with, below, read, Form, Forms, Entries, unsigned-form, signed-form, flag-form, text-form, letter-form}
+use Rattle.pagable_laws.proofs.Words.{duration-form, pattern-form, some-form, err-form, ok-form, list-form, run-form, array-form, both-form, sorted-map-form, placed-map-form, hash-map-form}
+use Rattle.pagable_laws.proofs.Words.{sorted-set-form, placed-set-form, static-form, tagged-form, case-form, reference-form, nested-form, json-flag-form, json-number-form, json-text-form}
+use Rattle.pagable_laws.proofs.Words.{json-array-form, json-object-form, no-forms, more-forms, no-entries, more-entries, IsReadable, HasNoCase, IsReadAgain, rest, LooksUp, no-references}
+use Rattle.pagable_laws.proofs.Words.{more-references, Err, Error, Result, append_cancel_right, Rest, IsPrefixFree, ◌>>=◌}
 use Rattle.pagable_model.specs.{Shape.text}
 use Rattle.std.{specs.Int.{Width, w32, w64}, specs.Char.{IsScalar, encode_utf8, len_utf8}, specs.Str.{IsUtf8, chars}}
 
@@ -108,57 +108,36 @@ duration-again seconds nanos rest h l =
 
 -- ---- items that are apart are put in at the end, one after another
 
--- x comes after each of acc
-unfoldable pub After : {X : Type 0} → (X → X → Type 0) → X → List X → Type 0
-After R x [] = Unit {0}
-After R x (y ∷ ys) = R x y × After R x ys
-
-unfoldable pub AllAfterThose : {X : Type 0} → (X → X → Type 0) → List X → List X → Type 0
-AllAfterThose R acc [] = Unit {0}
-AllAfterThose R acc (x ∷ xs) = After R x acc × AllAfterThose R acc xs
-
-after_end : {X : Type 0} (R : X → X → Type 0) (y x : X) (acc : List X) → After R y acc → R y x → After R y (acc ++ x ∷ [])
-unfolding After
-after_end R y x [] h r = (r, tt)
-after_end R y x (z ∷ acc) h r = (h.0, after_end R y x acc h.1 r)
-
-pub all_after_end : {X : Type 0} (R : X → X → Type 0) (acc : List X) (x : X) (xs : List X) → AllAfterThose R acc xs → AllAfter R x xs → AllAfterThose R (acc ++ x ∷ []) xs
-unfolding AllAfterThose AllAfter
-all_after_end R acc x [] h g = tt
-all_after_end R acc x (y ∷ ys) h g = (after_end R y x acc h.0 g.0, all_after_end R acc x ys h.1 g.1)
-
-pub after_none : {X : Type 0} (R : X → X → Type 0) (xs : List X) → AllAfterThose R [] xs
-unfolding AllAfterThose After
-after_none R [] = tt
-after_none R (x ∷ xs) = (tt, after_none R xs)
+-- what stands in a list that is apart comes after each that stands before it
+last-after : {X : Type 0} (R : X → X → Type 0) (y x : X) (acc xs : List X) → AllAfter R y (acc ++ x ∷ xs) → R x y
+unfolding AllAfter
+last-after R y x [] xs h = h.0
+last-after R y x (z ∷ acc) xs h = last-after R y x acc xs h.1
 
 -- where one that is put in goes behind each that it comes after, each does
 module _ {X : Type 0} (put : List X → X → List X) (R : X → X → Type 0) (start : (x : X) → put [] x ≡ x ∷ []) (later : (y x : X) (acc : List X) → R x y → put (y ∷ acc) x ≡ y ∷ put acc x) where
-  put_end : (acc : List X) (x : X) → After R x acc → put acc x ≡ acc ++ x ∷ []
-  unfolding After
-  put_end [] x h = start x
-  put_end (y ∷ acc) x h = later y x acc h.0 ∙ ap (λ (ys : List X). y ∷ ys) (put_end acc x h.1)
+  put_end : (acc : List X) (x : X) (xs : List X) → Apart R (acc ++ x ∷ xs) → put acc x ≡ acc ++ x ∷ []
+  unfolding Apart
+  put_end [] x xs h = start x
+  put_end (y ∷ acc) x xs h = later y x acc (last-after R y x acc xs h.0) ∙ ap (λ (ys : List X). y ∷ ys) (put_end acc x xs h.1)
 
-  put_on : (acc xs : List X) → AllAfterThose R acc xs → Apart R xs → put_all put acc xs ≡ acc ++ xs
-  unfolding put_all AllAfterThose Apart
-  put_on acc [] h g = sym (append-nil acc)
-  put_on acc (x ∷ xs) h g = rw (put_end acc x h.0) (put_on (acc ++ x ∷ []) xs (all_after_end R acc x xs h.1 g.0) g.1 ∙ append_assoc acc (x ∷ []) xs)
-
-  put_apart : (xs : List X) → Apart R xs → put_all put [] xs ≡ xs
-  put_apart xs h = put_on [] xs (after_none R xs) h
+  put_on : (acc xs : List X) → Apart R (acc ++ xs) → put_all put acc xs ≡ acc ++ xs
+  unfolding put_all
+  put_on acc [] h = sym (append-nil acc)
+  put_on acc (x ∷ xs) h = rw (put_end acc x xs h) (put_on (acc ++ x ∷ []) xs (rw append_assoc h) ∙ append_assoc acc (x ∷ []) xs)
 
 module _ {A : Type 0} where
   pub ascending-kept : (order : KeyOrder) (es : List (Entry A)) → Ascends order es → put_all (put_sorted order) [] es ≡ es
-  ascending-kept order es h = put_apart (put_sorted order) (λ e f. ordered order e.0 f.0 ≡ Ordering.Greater) (λ e. refl) (λ f e acc r. rw r refl) es h
+  ascending-kept order es h = put_on (put_sorted order) (λ e f. ordered order e.0 f.0 ≡ Ordering.Greater) (λ e. refl) (λ f e acc r. rw r refl) [] es h
 
   pub ascending_items-kept : (order : KeyOrder) (ms : List (Meaning A)) → ItemsAscend order ms → put_all (put_sorted_item order) [] ms ≡ ms
-  ascending_items-kept order ms h = put_apart (put_sorted_item order) (λ m n. ordered order m n ≡ Ordering.Greater) (λ m. refl) (λ n m acc r. rw r refl) ms h
+  ascending_items-kept order ms h = put_on (put_sorted_item order) (λ m n. ordered order m n ≡ Ordering.Greater) (λ m. refl) (λ n m acc r. rw r refl) [] ms h
 
   pub differing-kept : (es : List (Entry A)) → Differ es → put_all put_placed [] es ≡ es
-  differing-kept es h = put_apart put_placed (λ e f. same_key e.0 f.0 ≡ false) (λ e. refl) (λ f e acc r. rw r refl) es h
+  differing-kept es h = put_on put_placed (λ e f. same_key e.0 f.0 ≡ false) (λ e. refl) (λ f e acc r. rw r refl) [] es h
 
   pub differing_items-kept : (ms : List (Meaning A)) → ItemsDiffer ms → put_all put_placed_item [] ms ≡ ms
-  differing_items-kept ms h = put_apart put_placed_item (λ m n. same_key m n ≡ false) (λ m. refl) (λ n m acc r. rw r refl) ms h
+  differing_items-kept ms h = put_on put_placed_item (λ m n. same_key m n ≡ false) (λ m. refl) (λ n m acc r. rw r refl) [] ms h
 
 -- ---- a form is read again, whatever follows it
 
@@ -292,14 +271,14 @@ same_ok x y e = cc
 abbrev pub itself : {A : Type 0} → Look A A
 itself kind a = Ok a
 
-looks-itself : {A : Type 0} {kind_of : A → ℕ} (k u : List A) → Looked itself kind_of (k ++ u) k (Ok u)
-looks-itself [] u = all-looked u
-looks-itself (a ∷ k) u = one-looked a (k ++ u) a k (Ok u) refl (looks-itself k u)
+pub looks-itself : {A : Type 0} {kind_of : A → ℕ} (k : List A) → LooksUp itself kind_of k k
+looks-itself [] = no-references
+looks-itself (a ∷ k) = more-references a k a k refl (looks-itself k)
 
 pub prefix_free : {A : Type 0} (parts : ℕ → Shape) (s : Shape) → Throughout IsReadable parts s → IsPrefixFree A parts s
 prefix_free {A} parts s t kind_of left m n b c x y k l u v f g e h =
-    let first = form-again x f (looks-itself k u) t in
-    let second = form-again y g (looks-itself l v) t in
+    let first = form-again x f (looked-by u (looks-itself k)) t in
+    let second = form-again y g (looked-by v (looks-itself l)) t in
     let inputs : rest (b ++ x) (k ++ u) ≡ rest (c ++ y) (l ++ v) = rw (e, h) refl in
     let both : (m, rest x u) ≡ (n, rest y v) = same_ok _ _ (sym first ∙ ap (λ (i : Rest A). read_at itself parts left s i) inputs ∙ second) in
     let same_bytes : x ≡ y = ap (λ (p : Meaning A × Rest A). p.1.bytes) both in

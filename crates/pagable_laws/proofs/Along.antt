@@ -1,12 +1,12 @@
 -- A form goes along: where each reference is replaced by one of the same kind, the bytes are a form of what results.
 use Rattle.pagable_laws.proofs.Words.{nat_tests, ◌≡◌, ℕ, ℤ, Bool, true, false, List, [], ◌∷◌, ◌++◌, length, ◌⊎◌, inl, inr, refl, sym, ap, ◌∙◌, arith, Ordering, is_eq-slice_cmp, Meaning, number}
 use Rattle.pagable_laws.proofs.Words.{integer, text, pattern, none, pair, variant, reference, followed, sequence, plain, lifted, rename, Entry, KeyOrder, ordered, same_key, code, code_order}
-use Rattle.pagable_laws.proofs.Words.{text_order, put_all, put_sorted, Apart, AllAfter, Ascends, Differ, of_entries, of_hash_map, Shape, Form, Forms, Entries}
-use Rattle.pagable_laws.proofs.Words.{nothing-form, unsigned-form, signed-form, flag-form, text-form, letter-form, duration-form, pattern-form, none-form, some-form, err-form, ok-form, list-form}
-use Rattle.pagable_laws.proofs.Words.{run-form, array-form, both-form, sorted-map-form, placed-map-form, hash-map-form, sorted-set-form, placed-set-form, static-form, tagged-form, case-form}
-use Rattle.pagable_laws.proofs.Words.{reference-form, nested-form, json-null-form, json-flag-form, json-number-form, json-text-form, json-array-form, json-object-form, no-forms, more-forms}
-use Rattle.pagable_laws.proofs.{Words.{no-entries, more-entries, HasNoReference, Among, references_in, zero, suc, subst}, Again.{After, AllAfterThose, after_none}}
-use Rattle.std.specs.{declared.cmp.Ordering.Ordering, Ordering.{match_ordering, eq_by_cmp}}
+use Rattle.pagable_laws.proofs.Words.{text_order, put_all, put_sorted, Apart, AllAfter, Ascends, Differ, of_entries, of_hash_map, Shape, Form, Forms, Entries, nothing-form, unsigned-form, signed-form}
+use Rattle.pagable_laws.proofs.Words.{flag-form, text-form, letter-form, duration-form, pattern-form, none-form, some-form, err-form, ok-form, list-form, run-form, array-form, both-form}
+use Rattle.pagable_laws.proofs.Words.{sorted-map-form, placed-map-form, hash-map-form, sorted-set-form, placed-set-form, static-form, tagged-form, case-form, reference-form, nested-form}
+use Rattle.pagable_laws.proofs.Words.{json-null-form, json-flag-form, json-number-form, json-text-form, json-array-form, json-object-form, no-forms, more-forms, no-entries, more-entries}
+use Rattle.pagable_laws.proofs.Words.{HasNoReference, Among, references_in, zero, suc, subst, ◌≤◌, longest, length_form}
+use Rattle.std.specs.{declared.cmp.Ordering.Ordering, Ordering.{match_ordering, eq_by_cmp}, List.AllByRecursion as Each}
 use Rattle.pagable_model.specs.Meaning as meanings
 
 -- the same meaning but for its references, which are as R says; references that are followed already stand in it only if F
@@ -74,16 +74,23 @@ pub record Made {X Y B : Type 0} (V : X → Y → Type 0) (make : List Y → Mea
 abbrev pub apart : {A : Type 0} → Entry A → Entry A → Type 0
 apart e f = same_key e.0 f.0 ≡ false
 
+-- it differs from all of these
+abbrev Differs : {A : Type 0} → List (Entry A) → Entry A → Type 0
+Differs acc x = Each (apart x) acc
+
 -- what differs from all that is there, and from what is put in, differs from all that is there then
-after_put : {A : Type 0} (x e : Entry A) (acc : List (Entry A)) → After apart x acc → apart x e → After apart x (put_sorted code_order acc e)
-unfolding After
+after_put : {A : Type 0} (x e : Entry A) (acc : List (Entry A)) → Differs acc x → apart x e → Differs (put_sorted code_order acc e) x
 after_put x e [] h d = (d, tt)
 after_put {A} x e (f ∷ acc) h d = grind (arith, nat_tests, ordered, after_put x e acc h.1 d)
 
-those_put : {A : Type 0} (e : Entry A) (acc es : List (Entry A)) → AllAfterThose apart acc es → AllAfter apart e es → AllAfterThose apart (put_sorted code_order acc e) es
-unfolding AllAfterThose AllAfter
+those_put : {A : Type 0} (e : Entry A) (acc es : List (Entry A)) → Each (Differs acc) es → AllAfter apart e es → Each (Differs (put_sorted code_order acc e)) es
+unfolding AllAfter
 those_put e acc [] h d = tt
 those_put e acc (x ∷ es) h d = (after_put x e acc h.0 d.0, those_put e acc es h.1 d.1)
+
+none_there : {A : Type 0} (es : List (Entry A)) → Each (Differs []) es
+none_there [] = tt
+none_there (e ∷ es) = (tt, none_there es)
 
 -- entries that fs is along with, when one was put into them
 record Unput {A B : Type 0} (F : Type 0) (R : A → B → Type 0) (acc : List (Entry A)) (e : Entry A) (fs : List (Entry B)) : Type 0 where
@@ -123,10 +130,8 @@ module _ {A B : Type 0} {F : Type 0} {R : A → B → Type 0} where
 
   pub lifted-along : (m : Meaning ⊥) → F ⊎ HasNoReference m → Along F R (lifted m) (lifted m)
   unfolding rename HasNoReference
-  lifted-along (pair a b) (inl f) = pair-along _ _ _ _ (lifted-along a (inl f)) (lifted-along b (inl f))
-  lifted-along (pair a b) (inr h) = pair-along _ _ _ _ (lifted-along a (inr h.0)) (lifted-along b (inr h.1))
-  lifted-along (variant n a) (inl f) = variant-along _ _ _ (lifted-along a (inl f))
-  lifted-along (variant n a) (inr h) = variant-along _ _ _ (lifted-along a (inr h))
+  lifted-along (pair a b) h = pair-along _ _ _ _ (lifted-along a (grind (arith, nat_tests))) (lifted-along b (grind (arith, nat_tests)))
+  lifted-along (variant n a) h = variant-along _ _ _ (lifted-along a h)
   lifted-along (reference a) h = absurd a
   lifted-along (followed kind a) (inl f) = followed-along _ _ _ f (lifted-along a (inl f))
   lifted-along (followed kind a) (inr h) = absurd h
@@ -149,8 +154,7 @@ module _ {A B : Type 0} {F : Type 0} {R : A → B → Type 0} where
   same_order : {e x : Entry A} {f y : Entry B} {o : Ordering} → EntryAlong F R e f → EntryAlong F R x y → ordered code_order e.0 x.0 ≡ o → ordered code_order f.0 y.0 ≡ o
   same_order r s q = rw (← plain-along r.key, ← plain-along s.key) q
 
-  unput : (acc : List (Entry A)) (e : Entry A) {fs : List (Entry B)} → After apart e acc → AllTwo (EntryAlong F R) (put_sorted code_order acc e) fs → Unput F R acc e fs
-  unfolding After
+  unput : (acc : List (Entry A)) (e : Entry A) {fs : List (Entry B)} → Differs acc e → AllTwo (EntryAlong F R) (put_sorted code_order acc e) fs → Unput F R acc e fs
   unput [] e h (more-two x f xs ys r no-two) = record { before = []; entry = f; each = no-two; one = r; put = refl }
   unput (x ∷ acc) e h a = at (λ gs g. unput acc e {fs = gs} h.1 g) (ordered code_order e.0 x.0) refl a
     where
@@ -170,9 +174,9 @@ module _ {A B : Type 0} {F : Type 0} {R : A → B → Type 0} where
                 (ap (λ (z : List (Entry B)). y ∷ z) rest.put);
           }
 
-  unput_all : (es acc : List (Entry A)) {fs : List (Entry B)} → AllAfterThose apart acc es → Apart apart es → AllTwo (EntryAlong F R) (put_all (put_sorted code_order) acc es) fs
+  unput_all : (es acc : List (Entry A)) {fs : List (Entry B)} → Each (Differs acc) es → Apart apart es → AllTwo (EntryAlong F R) (put_all (put_sorted code_order) acc es) fs
       → UnputAll F R acc es fs
-  unfolding AllAfterThose Apart put_all
+  unfolding Apart put_all
   unput_all [] acc {fs} h d a = record { before = fs; entries = []; first = a; each = no-two; put = refl }
   unput_all (e ∷ es) acc h d a =
       let rest = unput_all es (put_sorted code_order acc e) (those_put e acc es h.1 d.0) d.1 a in
@@ -183,9 +187,10 @@ module _ {A B : Type 0} {F : Type 0} {R : A → B → Type 0} where
   pub hash_map-along : (es : List (Entry A)) {n : Meaning B} → Differ es → Along F R (of_hash_map es) n → Made (EntryAlong F R) of_hash_map es n
   hash_map-along es d a =
       let sorted = entries-along _ a in
-      let back = unput_all es [] (after_none apart es) d sorted.each in
+      let back = unput_all es [] (none_there es) d sorted.each in
       record { items = back.entries; each = back.each; whole = sorted.whole ∙ ap of_entries (sym (grind (arith, nat_tests))) }
 
+  -- what is said of plain keys or items goes over
   pub ascend-two : (order : KeyOrder) {es : List (Entry A)} {fs : List (Entry B)} → AllTwo (EntryAlong F R) es fs → Ascends order es → Ascends order fs
   ascend-two order h a = apart-two _ _ (λ x x2 y y2 v w r. rw (← plain-along v.key, ← plain-along w.key) r) h a
 
@@ -209,6 +214,13 @@ module _ {A B : Type 0} {F : Type 0} {R : A → B → Type 0} where
 
 -- ---- forms
 
+-- what is written with its count goes along, in front of which this stands
+counted : {A B X Y : Type 0} {R : A → B → Type 0} {V : X → Y → Type 0} {make : List Y → Meaning B} {xs : List X} {n : Meaning B} {H : List B → Type 0} {k : List A} {kind_of : B → ℕ}
+    {parts : ℕ → Shape} {left : ℕ} {s : Shape} (front : List ℕ) (wrap : Meaning B → Meaning B) (b : List ℕ) (q : Made V make xs n) → length xs ≤ longest → To R k H
+    → ((refs : List B) → length q.items ≤ longest → H refs → Form B kind_of parts left s (wrap (make q.items)) (front ++ (length_form (length q.items) ++ b)) refs)
+    → To R k (λ refs. Form B kind_of parts left s (wrap n) (front ++ (length_form (length xs) ++ b)) refs)
+counted front wrap b q le p f = let long = length-two q.each in rw (q.whole, long) (then_to p (λ refs h. f refs (rw long at le) h))
+
 module _ {A B : Type 0} {F : Type 0} {R : A → B → Type 0} {kind_of : A → ℕ} {kind_of2 : B → ℕ} {parts : ℕ → Shape} (kinds : (a : A) (b : B) → R a b → kind_of2 b ≡ kind_of a) where
   mutual
     pub form-along : {left : ℕ} {s : Shape} {m : Meaning A} {n : Meaning B} {b : List ℕ} {k : List A} → Form A kind_of parts left s m b k → Along F R m n
@@ -225,9 +237,7 @@ module _ {A B : Type 0} {F : Type 0} {R : A → B → Type 0} {kind_of : A → �
     form-along (some-form left s m b k h) (variant-along n x y a) = then_to (form-along h a) (λ refs f. some-form left s y b refs f)
     form-along (err-form left s t m b k h) (variant-along n x y a) = then_to (form-along h a) (λ refs f. err-form left s t y b refs f)
     form-along (ok-form left s t m b k h) (variant-along n x y a) = then_to (form-along h a) (λ refs f. ok-form left s t y b refs f)
-    form-along (list-form left s ms b k le h) a =
-        let q = sequence-along ms a in let long = length-two q.each in
-        rw (q.whole, long) (then_to (forms-along h q.each) (λ refs f. list-form left s q.items b refs (rw long at le) f))
+    form-along (list-form left s ms b k le h) a = let q = sequence-along ms a in counted [] (λ m. m) b q le (forms-along h q.each) (λ refs l f. list-form left s q.items b refs l f)
     form-along (run-form left s ms b k le h) a =
         let q = sequence-along ms a in rw q.whole (then_to (forms-along h q.each) (λ refs f. run-form left s q.items b refs (rw (length-two q.each) at le) f))
     form-along (array-form left n s ms b k e h) a =
@@ -237,22 +247,17 @@ module _ {A B : Type 0} {F : Type 0} {R : A → B → Type 0} {kind_of : A → �
         let q = form-along g d in
         record { refs = p.refs ++ q.refs; each = append-two p.each q.each; form = both-form left s t u v b c p.refs q.refs p.form q.form }
     form-along (sorted-map-form left o s t es b k le up h) a =
-        let q = entries-along es a in let long = length-two q.each in
-        rw (q.whole, long) (then_to (entries_form-along h q.each) (λ refs f. sorted-map-form left o s t q.items b refs (rw long at le) (ascend-two o q.each up) f))
+        let q = entries-along es a in counted [] (λ m. m) b q le (entries_form-along h q.each) (λ refs l f. sorted-map-form left o s t q.items b refs l (ascend-two o q.each up) f)
     form-along (placed-map-form left s t es b k le up h) a =
-        let q = entries-along es a in let long = length-two q.each in
-        rw (q.whole, long) (then_to (entries_form-along h q.each) (λ refs f. placed-map-form left s t q.items b refs (rw long at le) (differ-two q.each up) f))
+        let q = entries-along es a in counted [] (λ m. m) b q le (entries_form-along h q.each) (λ refs l f. placed-map-form left s t q.items b refs l (differ-two q.each up) f)
     form-along (hash-map-form left s t es b k le up h) a =
-        let q = hash_map-along es up a in let long = length-two q.each in
-        rw (q.whole, long) (then_to (entries_form-along h q.each) (λ refs f. hash-map-form left s t q.items b refs (rw long at le) (differ-two q.each up) f))
+        let q = hash_map-along es up a in counted [] (λ m. m) b q le (entries_form-along h q.each) (λ refs l f. hash-map-form left s t q.items b refs l (differ-two q.each up) f)
     form-along (sorted-set-form left o s ms b k le up h) a =
-        let q = sequence-along ms a in let long = length-two q.each in
-        rw (q.whole, long) (then_to (forms-along h q.each) (λ refs f. sorted-set-form left o s q.items b refs (rw long at le)
-        ((apart-two {V = Along F R} _ _ (λ x x2 y y2 v w r. rw (← plain-along v, ← plain-along w) r) q.each up)) f))
+        let q = sequence-along ms a in counted [] (λ m. m) b q le (forms-along h q.each) (λ refs l f. sorted-set-form left o s q.items b refs l
+        (apart-two {V = Along F R} _ _ (λ x x2 y y2 v w r. rw (← plain-along v, ← plain-along w) r) q.each up) f)
     form-along (placed-set-form left s ms b k le up h) a =
-        let q = sequence-along ms a in let long = length-two q.each in
-        rw (q.whole, long) (then_to (forms-along h q.each) (λ refs f. placed-set-form left s q.items b refs (rw long at le)
-        ((apart-two {V = Along F R} _ _ (λ x x2 y y2 v w r. rw (← plain-along v, ← plain-along w) r) q.each up)) f))
+        let q = sequence-along ms a in counted [] (λ m. m) b q le (forms-along h q.each) (λ refs l f. placed-set-form left s q.items b refs l
+        (apart-two {V = Along F R} _ _ (λ x x2 y y2 v w r. rw (← plain-along v, ← plain-along w) r) q.each up) f)
     form-along (static-form left registry i m lt e) a = rw (lifted-same m a) (to_nothing (static-form left registry i m lt e))
     form-along (tagged-form left written known body tag m b k u le h) (pair-along x y c d (text-along t) a) =
         then_to (form-along h a) (λ refs f. tagged-form left written known body tag d b refs u le f)
@@ -265,11 +270,10 @@ module _ {A B : Type 0} {F : Type 0} {R : A → B → Type 0} {kind_of : A → �
     form-along (json-number-form left z h) (variant-along n x y (integer-along i)) = to_nothing (json-number-form left z h)
     form-along (json-text-form left t u h) (variant-along n x y (text-along i)) = to_nothing (json-text-form left t u h)
     form-along (json-array-form left less ms b k e le h) (variant-along n x y a) =
-        let q = sequence-along ms a in let long = length-two q.each in
-        rw (q.whole, long) (then_to (forms-along h q.each) (λ refs f. json-array-form left less q.items b refs e (rw long at le) f))
+        let q = sequence-along ms a in counted (4 ∷ []) (λ m. variant 4 m) b q le (forms-along h q.each) (λ refs l f. json-array-form left less q.items b refs e l f)
     form-along (json-object-form left less es b k e le up h) (variant-along n x y a) =
-        let q = entries-along es a in let long = length-two q.each in
-        rw (q.whole, long) (then_to (entries_form-along h q.each) (λ refs f. json-object-form left less q.items b refs e (rw long at le) (ascend-two text_order q.each up) f))
+        let q = entries-along es a in
+        counted (5 ∷ []) (λ m. variant 5 m) b q le (entries_form-along h q.each) (λ refs l f. json-object-form left less q.items b refs e l (ascend-two text_order q.each up) f)
 
     pub forms-along : {left : ℕ} {s : Shape} {ms : List (Meaning A)} {ns : List (Meaning B)} {b : List ℕ} {k : List A} → Forms A kind_of parts left s ms b k → AllTwo (Along F R) ms ns
         → To R k (λ refs. Forms B kind_of2 parts left s ns b refs)

@@ -1,11 +1,11 @@
 -- What follows for keys: each that is published is its tree's, each that is answered is its task's, and what a worker met that answers one is left paged out.
-use Rattle.pagable_laws.proofs.Words.{longest_path, arith, nat_tests, ◌≡◌, ℕ, true, List, [], ◌∷◌, Some, Ok, Err, sym, ap, subst, ◌∙◌, is_some, OptionalDataKey, KeyOfItem, ArcRef, Identity}
-use Rattle.pagable_laws.proofs.Words.{is_loose_kind, Tree, HandleNumber, ReadsTree, WorkerNumber, if_there, Event, EventReply, Took, WorkerAnswer, WorkerReply, identity_of, Core, key_at, Shelf, Slot}
-use Rattle.pagable_laws.proofs.Words.{Written, Todo, to_item, to_set, to_publish, to_release, to_fail, Task, of_item, of_entry, Walking, Values, Seen, Site, Does, IsPublished, answer_after}
-use Rattle.pagable_laws.proofs.Words.{WorkerSteps, Happens, PagerState, MachineState, world_of, kids_of, HandlesAreWhole, IsMachineWhole, Represents, StandsFor, ReadsItsTypes, Meets, meets-of-item}
-use Rattle.pagable_laws.proofs.Words.{meets-entry, meets-below, AreKeysOf, IsLeftPagedOut, HasKeyOf, LeavesAll, IsKeyOfTask, Ground, ground_of, IsOfEntry, Waits, Walks, WorkFits, IsDone, KeyIsSet}
-use Rattle.pagable_laws.proofs.{Words.{AllHold, HasHandle, KeysHeld, KeysAreRight, has_key}, Merkle.{one_key, one_item_key, tree_readable}, Trees.{same_some, each-type}, Following.IdentityStands}
-use Rattle.pagable_laws.proofs.{Following.{known-of, keys-of, tree-form, cell-of}, Taking.row-held, Coming.updated-at, Stepping.{done-on, keys-same, all-known, all-low, stands-for}}
+use Rattle.pagable_laws.proofs.Words.{to_publish, Identity, longest_path, arith, nat_tests, ◌≡◌, ℕ, true, List, [], ◌∷◌, Option, Some, Ok, Err, refl, sym, ap, subst, ◌∙◌, is_some, OptionalDataKey}
+use Rattle.pagable_laws.proofs.Words.{KeyOfItem, ArcRef, is_loose_kind, Tree, HandleNumber, ReadsTree, WorkerNumber, if_there, Event, EventReply, Took, WorkerAnswer, WorkerReply, identity_of, has_key}
+use Rattle.pagable_laws.proofs.Words.{Core, Cell, key_at, Shelf, Slot, Written, Todo, to_item, to_set, to_release, to_fail, Task, of_item, of_entry, Walking, Values, Seen, Site, Does, IsPublished}
+use Rattle.pagable_laws.proofs.Words.{answer_after, WorkerSteps, Happens, PagerState, MachineState, world_of, kids_of, HandlesAreWhole, IsMachineWhole, Represents, StandsFor, ReadsItsTypes, Meets}
+use Rattle.pagable_laws.proofs.Words.{meets-of-item, meets-entry, meets-below, AreKeysOf, IsLeftPagedOut, HasKeyOf, LeavesAll, IsKeyOfTask, Ground, ground_of, IsOfEntry, Waits, Walks, WorkFits}
+use Rattle.pagable_laws.proofs.{Words.{IsDone, KeyIsSet, AllHold, HasHandle, KeysHeld, KeysAreRight}, Merkle.{one_key, one_item_key, tree_readable}, Trees.{same_some, each-type}}
+use Rattle.pagable_laws.proofs.{Following.{IdentityStands, known-of, keys-of, tree-form, cell-of}, Taking.row-held, Coming.updated-at, Stepping.{done-on, keys-same, all-known, all-low, stands-for}}
 
 -- ---- one step of a worker
 
@@ -82,11 +82,14 @@ has-key-of : {N E : Type 0} (v : Values N) (s : PagerState N E) (trees : ℕ →
 has-key-of v s trees n whole stands set live = let k = key-known s.core n set live in record { key = k.0; set = k.1; reads = (grind (arith, nat_tests)) }
 
 -- a cell whose key is published has one by then
-set-by-then : {N B W : Type 0} (m : Seen N B W) (n : ℕ) (s s' : Site) (todo : List Todo) (i : Identity) (key height : ℕ) → Does m n s todo (Took.Publish i key height) s' → AllHold s.core todo
-    → ((r : ArcRef) (k h : ℕ) (below : List Todo) → todo ≡ to_publish r k h ∷ below → is_some (s.core.cells r.node.0) ≡ true) → is_loose_kind i.kind.0 ≡ true
+set-by-then : {N B W : Type 0} (m : Seen N B W) (n : ℕ) (s s' : Site) (todo : List Todo) (i : Identity) (key height : ℕ) → Does m n s todo (Took.Publish i key height) s' → AllHold s.core n todo
+    → ((k : ℕ) → HasHandle s.core n k → is_some (s.core.cells k) ≡ true) → is_loose_kind i.kind.0 ≡ true
     → (set : ℕ) × (key_at s.core i.node.0 ≡ OptionalDataKey.Some set)
 unfolding AllHold
-set-by-then m n s s' x4 i key height x8 all live kind = grind (arith, nat_tests, key-known)
+set-by-then m n s s' (to_publish r k h ∷ below) i key height does all live kind =
+    subst (λ (j : Identity). (set : ℕ) × (key_at s.core j.node.0 ≡ OptionalDataKey.Some set)) (sym does.0)
+    (key-known s.core r.node.0 (all.0.0 (subst (λ (j : Identity). is_loose_kind j.kind.0 ≡ true) does.0 kind)) (live r.node.0 all.0.1))
+set-by-then m n s s' todo i key height does all live kind = absurd does
 
 module _ {N B W E : Type 0} (m : Seen N B W) (s s' : MachineState N E) (trees trees' : ℕ → Tree) (before : WorkFits m.values s trees) (after : WorkFits m.values s' trees')
     (earlier : IsMachineWhole m.values s) (whole : IsMachineWhole m.values s')
@@ -124,8 +127,7 @@ module _ {N B W E : Type 0} (m : Seen N B W) (s s' : MachineState N E) (trees tr
         publishes = λ i key height e.
             let does = subst (λ (k : Took W). Does m n.0 (site n reply w) w.walking.todo k w.after) e w.does.does in (
               (grind (arith, nat_tests)),
-              set-by-then m n.0 (site n reply w) w.after w.walking.todo i key height does (held_before.walks n.0 w.walking w.at)
-                  (λ r k h below is. lives (held_before.publishing n.0 w.walking r k h below w.at is)),
+              set-by-then m n.0 (site n reply w) w.after w.walking.todo i key height does (held_before.walks n.0 w.walking w.at) (λ k. lives),
             );
         key = λ walking key there e. is-after n reply w (λ x. IsKeyOfTask m.values trees' x.task key)
             (is-key m.values s' trees' after w.walking.table w.walking.task key (done n reply w key e)) walking there;

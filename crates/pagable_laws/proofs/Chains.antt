@@ -1,7 +1,7 @@
 -- Each event keeps trees: what it brings fits some trees afterwards, for which the machine stands then, with all that its loads read.
 use Rattle.pagable_laws.proofs.Words.{◌≡◌, ℕ, List, [], sym, subst, Event, EventReply, Tree, Among, Reading, Values, Seen, IsLawful, MachineState, world_of, IsMachineWhole, StandsFor}
 use Rattle.pagable_laws.proofs.Words.{EventBrings, IsReadingOf, HoldsSettled, ReadsItsTypes, TakesWell, AsksWell, IsWellAsked, Change, CoreGoes, IsSteppedReading, EventFeels, by-call, by-reading}
-use Rattle.pagable_laws.proofs.Words.{by-key, arith, nat_tests, by-nothing, KeysAreReady, ChangeFits, ◌+◌, ◌≤◌, Option, Some, None, refl, ◌∙◌, ◌∷◌, HandleNumber, IsIdle, IsPremised, Moment}
+use Rattle.pagable_laws.proofs.Words.{by-key, arith, nat_tests, by-nothing, KeysAreReady, IsFresh, ChangeFits, ◌+◌, ◌≤◌, Option, Some, refl, ◌∙◌, ◌∷◌, HandleNumber, IsIdle, IsPremised, Moment}
 use Rattle.pagable_laws.proofs.Words.{AreMoments, TreesAfter, TreesAlong, GivesTree, PinGives, IsRight, HasPin, PinHolds, WorkFits, KeysHeld, ◌==◌, ◌&&◌, Bool, true, false, ap, Ok, is_some}
 use Rattle.pagable_laws.proofs.Words.{sum_by-append, sum_by-cons, Identity, WorkerNumber, one, times, Took, WorkerReply, Shelf, Slot, Walking, World, Happens, WorkerSteps, step_of, steps_of}
 use Rattle.pagable_laws.proofs.Words.{is_claim_of, is_on_table, claims_made, ◌++◌, append_assoc, is_none, WorkerAnswer, HandleRow, Owner, owner_worker, is_owner, state_after, events_of, replies_of}
@@ -29,7 +29,7 @@ module _ {N E B W : Type 0} (m : Seen N B W) (s : MachineState N E) (trees : ℕ
         let P : Event N B W → EventReply N B W → Type 0 = λ e r. IsWellAsked m.values s trees e r in
         let asked : AsksWell m.values s.pager trees call answer = subst (λ r. P (Event.Call call) r) replied (subst (λ e. P e reply) called well) in
         let f = call-fits lawful settled whole.pager whole'.pager stands.pager c call answer goes asked feels in
-        (f.after, subst (λ e. ChangeFits m.values c (EventBrings m.values (world_of s) e) s.pager s'.pager trees f.after) (sym called) f.fits)
+        (f.0, subst (λ e. ChangeFits m.values c (EventBrings m.values (world_of s) e) s.pager s'.pager trees f.0) (sym called) f.1)
     event-fits lawful readable s' settled whole whole' ready event reply goes well (by-reading c reading answer frames stepped opens feels steps) =
         let g = going-of s trees readings reading (is-reading-of (world_of s) event reading stepped) in
         let f = reading-fits lawful readable settled whole.pager whole'.pager stands.pager reading g.fits (given-nodes reading.frames g.held) goes
@@ -92,14 +92,15 @@ module _ {N E B W : Type 0} (m : Seen N B W) (lawful : IsLawful m.values) (reada
       let turns = event-turns m (world_of s) (world_of x.after) on.work (λ v w there. (on.whole.walkings v w there).table.1) x.event x.reply does.step.happens in
       let fits = fits-on m s x.after trees f.0 (record { kept = g.goes.stored; last = g.goes.nodes; trees = f.1.same }) on.fits on.whole on.stands.pager
       on.settled readable lawful on.work x.event x.reply turns does.writes in
-      let held = held-on m s x.after x.event x.reply turns on.whole premised.stays_open does on.held in
+      let work = turns-stand m turns on.work in
+      let held = held-on m s x.after x.event x.reply turns on.whole premised.stays_open does work on.held in
       let pins = pins-hold m (world_of s) (world_of x.after) x.event x.reply on.whole.pager.whole.handles does.step.happens in
       let keys = keys-right m s x.after trees f.0 on.fits fits on.whole does.whole stands on.held held x.event x.reply does.step.happens in
       let so : IsRight m.values s trees x.event x.reply x.after f.0 = search (rules, pin-gives, reads-give) in
       record {
         trees' = f.0;
         after = record { keeps = f.1.same; stands = stands; so = so };
-        on = record { whole = does.whole; work = turns-stand m turns on.work; settled = premised.settled; stands = stands; readings = readings; fits = fits; held = held };
+        on = record { whole = does.whole; work = work; settled = premised.settled; stands = stands; readings = readings; fits = fits; held = held };
       }
 
   stay : (s : MachineState N E) (trees : ℕ → Tree) (moments : List (Moment N E B W)) → IsGoingOn m.values s trees → AreMoments m s moments → TreesAlong m (IsRight m.values) s trees moments
@@ -225,11 +226,10 @@ owner-is n x1 is = grind (arith, nat_tests)
 
 module _ {N E B W : Type 0} (m : Seen N B W) (s : MachineState N E) (work : StandsIn (world_of s)) (whole : IsMachineWhole m.values s) where
   is-met : (t : ℕ) (i : Identity) → is_some ((s.work.shelves t).slots i) ≡ true → TableMeets (world_of s) t i
-  is-met t i is = by ((s.work.shelves t).slots i) refl is
-    where
-      by : (o : Option Slot) → (s.work.shelves t).slots i ≡ o → is_some o ≡ true → TableMeets (world_of s) t i
-      by None e is = absurd (cc)
-      by (Some slot) e is = let a = work.slots t i slot e in record { n = slot.worker; walking = a.walking; there = a.there; on_table = a.on_table; meets = a.meets }
+  is-met t i is =
+      let c : (slot : Slot) × ((s.work.shelves t).slots i ≡ Some slot) = grind (arith, nat_tests) in
+      let a = work.slots t i c.0 c.1 in
+      record { n = c.0.worker; walking = a.walking; there = a.there; on_table = a.on_table; meets = a.meets }
 
   has-let-go : (n : ℕ) (walking : Walking) (answer : WorkerAnswer) → s.work.walkings n ≡ Some walking → walking.answer ≡ Some answer → HasLetGo (world_of s) n (s.work.shelves walking.table)
   unfolding is_open_in
@@ -264,10 +264,7 @@ work-right {N} {E} {B} {W} m s moments whole idle chain =
     replied : List (EventReply N B W)
     replied = replies_of moments
 
-    All : Type 0
-    All = Arrives m s end happened replied
-
-    worker : All → (n : ℕ) (walking : Walking) → end.work.walkings n ≡ Some walking → WorkerIsRight m.written_of (world_of end) n walking (steps_of n happened replied)
+    worker : Arrives m s end happened replied → (n : ℕ) (walking : Walking) → end.work.walkings n ≡ Some walking → WorkerIsRight m.written_of (world_of end) n walking (steps_of n happened replied)
     worker all n walking there =
         let nobody : HasGone m.written_of n s.work.shelves (s.work.walkings n) [] = subst (λ o. HasGone m.written_of n s.work.shelves o []) (sym (idle.walkings n)) refl in
         let went : Went m.written_of n (end.work.shelves walking.table) walking (steps_of n happened replied) =

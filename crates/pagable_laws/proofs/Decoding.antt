@@ -139,7 +139,7 @@ module _ {N E : Type 0} {v : Values N} {s : PagerState N E} {trees : ℕ → Tre
       let right = leads-stands g (λ r among. h r (among-right (references_in x) (references_in y) among.0 r among.1)) in
       pair-stands x y a b left right
   leads-stands (variant-leads i x a f) h = variant-stands i x a (leads-stands f h)
-  leads-stands (followed-leads kind x a f) h = followed-stands kind x a (leads-stands f h)
+  leads-stands (followed-leads kind x a n f) h = followed-stands kind x a (leads-stands f h)
   leads-stands (reference-leads r a typed meant) h = reference-stands r a (subst (λ (t : Tree). NodeStands v s r.node.0 t) (tree_is _ _ _ _ typed meant) (h r (zero, refl)))
   leads-stands l h = search (number-stands, integer-stands, text-stands, pattern-stands, none-stands)
 

@@ -1,19 +1,15 @@
 -- Heights that are known are those of trees: so no key is answered of what leads down too long a path, or to a value that has no form; and why a claim is too deep.
-use Rattle.pagable_laws.proofs.Words.{nat_tests, ◌≡◌, ℕ, ◌<◌, ◌≤◌, List, refl, sym, subst, ◌∙◌, arith, max, Some, pair, variant, followed, longest_path, above, height, deepest_path}
-use Rattle.pagable_laws.proofs.Words.{ArcRef, Identity, Meaning, Tree, Took, WorkerAnswer, identity_of, Shelf, Todo, Task, of_item, of_entry, Values, Seen, Site, Does, IsPublished}
-use Rattle.pagable_laws.proofs.Words.{MachineState, world_of, IsLongBelow, IsTooDeepTask, Ground, FollowsTo, pair-follows, variant-follows, reference-follows, Waits, Walks, WorkFits, Bool, true}
-use Rattle.pagable_laws.proofs.Words.{false, ap, inl, inr, TreeForm, tree, type_of, Among, Written, kids_of, Reaches, refers, refers-on, in-first, in-rest, in-part, HasNoForm, LeadsToNoForm}
-use Rattle.pagable_laws.proofs.Words.{IsFormlessTask, ground_of, WroteTree, IsDone, ◌⊎◌, [], ◌∷◌, Ok, Err, Event, EventReply, Error, to_start, Walking, IsLawful, Happens, IsMetFailure}
-use Rattle.pagable_laws.proofs.Words.{IsMachineWhole, IsIdle, StandsFor, ReadsItsTypes, HoldsSettled, Moment, AreMoments, Fact, TreesAlong, KeyIsShallow, ShallowLaw, MetDepthAlone, DepthIsTold}
-use Rattle.pagable_laws.proofs.{Words.{ToldDepthLaw, WaitsForAsker, ClaimIsDeep, DeepClaimLaw}, Words.{IsLow, AllLow}}
-use Rattle.pagable_laws.proofs.{Trees.{same_some, tree_is}, Following.{known-of, tree-form}, Coming.{StandsIn, updated-at}, Answering.answered}
-use Rattle.pagable_laws.proofs.{Chains.{headline_law, IsGoingOn, idle-goes, goes}, Standing.{AllStand, Covers}}
-use Rattle.pagable_laws.proofs.Along.{Along, each-two, form-along}
+use Rattle.pagable_laws.proofs.Words.{nat_tests, ◌≡◌, ℕ, ◌<◌, ◌≤◌, List, refl, sym, subst, ◌∙◌, arith, max, Some, pair, variant, followed, longest_path, above, height, deepest_path, ArcRef, Identity}
+use Rattle.pagable_laws.proofs.Words.{Meaning, Tree, Took, WorkerAnswer, identity_of, Shelf, Todo, Task, of_item, of_entry, Values, Seen, Site, Does, IsPublished, MachineState, world_of, IsLongBelow}
+use Rattle.pagable_laws.proofs.Words.{IsTooDeepTask, Ground, FollowsTo, pair-leads, variant-leads, reference-leads, followed-leads, Waits, Walks, WorkFits, Bool, true, ap, inl, inr, TreeForm, tree}
+use Rattle.pagable_laws.proofs.Words.{type_of, Among, Written, kids_of, Reaches, refers, refers-on, in-first, in-rest, in-part, HasNoForm, LeadsToNoForm, IsFormlessTask, ground_of, WroteTree}
+use Rattle.pagable_laws.proofs.Words.{BlobStands, IsDone, ◌⊎◌, [], ◌∷◌, Ok, Err, Event, EventReply, Error, to_start, Walking, IsLawful, Happens, IsMetFailure, IsMachineWhole, IsIdle, StandsFor}
+use Rattle.pagable_laws.proofs.Words.{ReadsItsTypes, HoldsSettled, Moment, AreMoments, Fact, TreesAlong, KeyIsShallow, ShallowLaw, MetDepthAlone, DepthIsTold, ToldDepthLaw, WaitsForAsker, ClaimIsDeep}
+use Rattle.pagable_laws.proofs.Words.{DeepClaimLaw, IsLow, AllLow, if◌then◌else◌, suc, zero, ◌+◌, Claims, Core, Expects, IsAttained, IsTooDeep, Types, is_eager, is_identity, kind_of_arc, place_over}
+use Rattle.pagable_laws.proofs.{Words.{to_finish, to_item}, Trees.{same_some, tree_is}, Following.{known-of, tree-form}, Coming.{StandsIn, updated-at}, Answering.answered, Chains.headline_law}
+use Rattle.pagable_laws.proofs.{Chains.{IsGoingOn, idle-goes, goes}, Standing.{AllStand, Covers, is-same, is_open_in}, Along.{Along, each-two, form-along, number-along, integer-along, text-along}}
+use Rattle.pagable_laws.proofs.{Along.{pattern-along, none-along, pair-along, variant-along, reference-along}, Stepping.next-among}
 use Rattle.std.proofs.{Common.le_trans, lemmas.Bool.or_cases}
-use Rattle.pagable_laws.proofs.Along.{number-along, integer-along, text-along, pattern-along, none-along, pair-along, variant-along, reference-along}
-use Rattle.pagable_laws.proofs.Words.{if◌then◌else◌, suc, zero, ◌+◌, ◌⊎◌, Claims, Core, Expects, IsAttained, IsTooDeep, Types, is_eager, is_identity, kind_of_arc, place_over, to_finish, to_item}
-use Rattle.pagable_laws.proofs.Standing.{is-same, is_open_in}
-use Rattle.pagable_laws.proofs.Stepping.{next-among}
 
 -- ---- what a tree's references lead to is part of it
 
@@ -45,9 +41,10 @@ module _ (trees : ℕ → Tree) (rs : List ArcRef) (whole : Meaning ⊥) where
   parts-along : {own : Meaning ArcRef} {n : Meaning ⊥} → FollowsTo trees rs own n → height n ≤ height whole → deepest_path n ≤ deepest_path whole → size n ≤ size whole
       → Along ⊥ (SamePart trees whole) own own
   unfolding height deepest_path size
-  parts-along (pair-follows x y a b f g) h d s = pair-along _ _ _ _ (parts-along f (omega arith) (omega arith) (omega arith)) (parts-along g (omega arith) (omega arith) (omega arith))
-  parts-along (variant-follows i x a f) h d s = variant-along _ _ _ (parts-along f h d s)
-  parts-along (reference-follows r a among is) h d s = grind (arith, reference-along, size)
+  parts-along (pair-leads x y a b f g) h d s = pair-along _ _ _ _ (parts-along f (omega arith) (omega arith) (omega arith)) (parts-along g (omega arith) (omega arith) (omega arith))
+  parts-along (variant-leads i x a f) h d s = variant-along _ _ _ (parts-along f h d s)
+  parts-along (reference-leads r a among is) h d s = grind (arith, reference-along, size)
+  parts-along (followed-leads kind x a none f) h d s = absurd none
   parts-along x0 h d s = grind (arith, nat_tests, number-along, integer-along, text-along, pattern-along, none-along)
 
 part-of : {types : Types} {g : Ground} {n : ℕ} {written : Written} → WroteTree types g n written → (r : ArcRef) → Among written.references r → Part g.trees (g.trees n).meaning r
@@ -72,19 +69,22 @@ record IsShallow (limit : ℕ) (m : Meaning ⊥) : Type 0 where
 above-grows : (kind a b : ℕ) → a ≤ b → above kind a ≤ above kind b
 above-grows kind a b le = grind (arith, nat_tests)
 
--- whether anything stands in the meaning that may refer
-abbrev holds_more : Meaning ⊥ → Bool
-holds_more (pair a b) = true
-holds_more (variant n a) = true
-holds_more (followed kind a) = true
-holds_more m = false
-
-more-held : {m n : Meaning ⊥} {u : Tree} → Reaches n u → n ≡ m → holds_more m ≡ false → ⊥
-more-held x0 e x2 = grind (arith, nat_tests)
-
 module _ {N E : Type 0} (v : Values N) (s : MachineState N E) (trees : ℕ → Tree) (fit : WorkFits v s trees) (t : ℕ) where
   abbrev shelf : Shelf
   shelf = s.work.shelves t
+
+  -- what was written of an identity whose key is known, under which it stands
+  pub record Known (i : Identity) (key height : ℕ) : Type 0 where
+    pub written : Written
+    pub wrote : WroteTree v.types (ground_of s trees) i.node.0 written
+    pub typed : (trees i.node.0).type ≡ type_of i.kind.0
+    pub stands : BlobStands v (ground_of s trees) shelf i.node.0 written key height
+
+  pub known : (i : Identity) (key height : ℕ) → IsPublished shelf i key height → Known i key height
+  known i key height p =
+      let f = fit.slots t i p.slot p.claimed in
+      let b = f.publishes key height p.known in
+      record { written = b.0; wrote = f.writes b.0 b.1; typed = f.typed; stands = b.2 }
 
   -- a height that references add is no more than that of the tree
   attained-height : (n : ℕ) (i : Identity) (h : ℕ) → size (trees i.node.0).meaning ≤ n → (written : Written) → WroteTree v.types (ground_of s trees) i.node.0 written
@@ -94,18 +94,14 @@ module _ {N E : Type 0} (v : Values N) (s : MachineState N E) (trees : ℕ → T
   attained-height zero i h few written w (inr a) = let part = part-of w a.r a.among in absurd (omega arith)
   attained-height (suc n) i h few written w (inr a) =
       let part = part-of w a.r a.among in
-      let f = fit.slots t (identity_of a.r) a.known.slot a.known.claimed in
-      let b = f.publishes a.key a.below a.known.known in
-      let below = attained-height n (identity_of a.r) a.below (omega arith) b.0 (f.writes b.0 b.1) b.2.attained in
+      let k = known (identity_of a.r) a.key a.below a.known in
+      let below = attained-height n (identity_of a.r) a.below (omega arith) k.written k.wrote k.stands.attained in
       let u = grows-by (is_eager a.r.kind.0) a.below (height (trees a.r.node.0).meaning) (height (trees i.node.0).meaning) below part.top in
       omega arith
 
   -- so is one that is known
   at-most-height : (i : Identity) (key h : ℕ) → IsPublished shelf i key h → h ≤ height (trees i.node.0).meaning
-  at-most-height i key h p =
-      let f = fit.slots t i p.slot p.claimed in
-      let b = f.publishes key h p.known in
-      attained-height (size (trees i.node.0).meaning) i h (omega arith) b.0 (f.writes b.0 b.1) b.2.attained
+  at-most-height i key h p = let k = known i key h p in attained-height (size (trees i.node.0).meaning) i h (omega arith) k.written k.wrote k.stands.attained
 
   -- a path that is too long from the reference's place is one of the task's
   leads-down : (n : ℕ) (task : Task) (r : ArcRef) (below : List Todo) → Expects task r below → Waits shelf task below → AllStand shelf n task below
@@ -166,25 +162,22 @@ module _ {N E : Type 0} (v : Values N) (s : MachineState N E) (trees : ℕ → T
   shallow : (limit : ℕ) (rs : List ArcRef) → limit ≤ longest_path → AllLow shelf limit rs → {own : Meaning ArcRef} {n : Meaning ⊥} → FollowsTo trees rs own n → (m : Meaning ⊥) → n ≡ m
       → IsShallow limit m
   unfolding height deepest_path
-  shallow limit rs le lows (pair-follows x y a b h g) (pair c d) e = grind (arith, nat_tests, shallow limit rs le lows h c (cc), shallow limit rs le lows g d (cc))
-  shallow limit rs le lows (variant-follows i x a h) (variant j c) e = grind (arith, nat_tests, shallow limit rs le lows h c (cc))
-  shallow limit rs le lows (reference-follows r a among is) (followed kind c) e =
+  shallow limit rs le lows (pair-leads x y a b h g) (pair c d) e = grind (arith, nat_tests, shallow limit rs le lows h c (cc), shallow limit rs le lows g d (cc))
+  shallow limit rs le lows (variant-leads i x a h) (variant j c) e = grind (arith, nat_tests, shallow limit rs le lows h c (cc))
+  shallow limit rs le lows (reference-leads r a among is) (followed kind c) e =
       let l = lows r among in
-      let f = fit.slots t (identity_of r) l.known.slot l.known.claimed in
-      let b = f.publishes l.key l.below l.known.known in
+      let k = known (identity_of r) l.key l.below l.known in
       let kinds : kind ≡ r.kind.0 = cc in
       let meanings : a ≡ c = cc in
-      let p = shallow l.below b.0.references b.2.within b.2.low (f.writes b.0 b.1).follows c (is ∙ meanings) in
+      let p = shallow l.below k.written.references k.stands.within k.stands.low k.wrote.follows c (is ∙ meanings) in
       let one : above kind (height c) ≤ limit = subst (λ k. above k (height c) ≤ limit) (sym kinds) (le_trans (above-grows r.kind.0 (height c) l.below p.top) l.within) in
       record { top = one; deepest = let u = p.deepest in omega arith }
+  shallow limit rs le lows (followed-leads kind x a none h) m e = absurd none
   shallow limit rs le lows follows x5 e = grind (arith, nat_tests)
 
   -- so is the tree of an identity whose key is known
   shallow-tree : (i : Identity) (key h : ℕ) → IsPublished shelf i key h → IsShallow h (trees i.node.0).meaning
-  shallow-tree i key h p =
-      let f = fit.slots t i p.slot p.claimed in
-      let b = f.publishes key h p.known in
-      shallow h b.0.references b.2.within b.2.low (f.writes b.0 b.1).follows (trees i.node.0).meaning refl
+  shallow-tree i key h p = let k = known i key h p in shallow h k.written.references k.stands.within k.stands.low k.wrote.follows (trees i.node.0).meaning refl
 
   -- a reference that is low leads to no path that is too long
   not-long : (r : ArcRef) → IsLow shelf longest_path r → IsLongBelow r.kind.0 (trees r.node.0).meaning → ⊥
@@ -200,52 +193,41 @@ module _ {N E : Type 0} (v : Values N) (s : MachineState N E) (trees : ℕ → T
 
   -- ---- and the tree has a form, and so has each that it reaches
 
-  -- what was written of an identity whose key is known, and that the keys of its references are
-  pub record Known (i : Identity) : Type 0 where
-    pub written : Written
-    pub wrote : WroteTree v.types (ground_of s trees) i.node.0 written
-    pub typed : (trees i.node.0).type ≡ type_of i.kind.0
-    pub below : (r : ArcRef) → Among written.references r → (key : ℕ) × ((height : ℕ) × IsPublished shelf (identity_of r) key height)
-
-  pub known : (i : Identity) (key height : ℕ) → IsPublished shelf i key height → Known i
-  known i key height p =
-      let f = fit.slots t i p.slot p.claimed in
-      let b = f.publishes key height p.known in
-      record { written = b.0; wrote = f.writes b.0 b.1; typed = f.typed; below = known-of shelf b.0.references b.2.keys b.2.known }
-
   -- its own value has a form
-  has-form : (i : Identity) → Known i → HasNoForm v.types (trees i.node.0) → ⊥
+  has-form : (i : Identity) {key height : ℕ} → Known i key height → HasNoForm v.types (trees i.node.0) → ⊥
   has-form i k formless =
       let same : k.wrote.shape ≡ formless.shape = same_some _ _ (sym k.wrote.is ∙ formless.is) in
       let kids = kids_of trees k.written.references in
       formless.none_within k.written.bytes kids (subst (λ x. TreeForm v.types x (trees i.node.0).meaning k.written.bytes kids) same (tree-form k.wrote))
 
+  -- of each of its references a key is known
+  each-below : {i : Identity} {key height : ℕ} (k : Known i key height) (r : ArcRef) → Among k.written.references r → (q : ℕ) × ((h : ℕ) × IsPublished shelf (identity_of r) q h)
+  each-below k r among = known-of shelf k.written.references k.stands.keys k.stands.known r among
+
   -- and so has each that it reaches
   below-has-form : (rs : List ArcRef) → ((r : ArcRef) → Among rs r → (key : ℕ) × ((height : ℕ) × IsPublished shelf (identity_of r) key height))
-      → {own : Meaning ArcRef} {m n : Meaning ⊥} {u : Tree} → FollowsTo trees rs own m → Reaches n u → n ≡ m → HasNoForm v.types u → ⊥
-  below-has-form rs each (reference-follows r a among is) (refers kind b) e formless =
+      → {own : Meaning ArcRef} {m n : Meaning ⊥} {u : Tree} → Reaches n u → FollowsTo trees rs own m → n ≡ m → HasNoForm v.types u → ⊥
+  below-has-form rs each (refers kind b) (reference-leads r a among is) e formless =
       let p = each r among in
       let k = known (identity_of r) p.0 p.1.0 p.1.1 in
       let kinds : kind ≡ r.kind.0 = cc in
       let meanings : b ≡ a = cc in
       let same : tree (type_of kind) b ≡ trees r.node.0 = tree_is _ _ _ _ (ap type_of kinds ∙ sym k.typed) (meanings ∙ sym is) in
       has-form (identity_of r) k (subst (λ x. HasNoForm v.types x) same formless)
-  below-has-form rs each (reference-follows r a among is) (refers-on kind b u reach) e formless =
+  below-has-form rs each (refers-on kind b u reach) (reference-leads r a among is) e formless =
       let p = each r among in
       let k = known (identity_of r) p.0 p.1.0 p.1.1 in
       let meanings : b ≡ a = cc in
-      below-has-form k.written.references k.below k.wrote.follows reach (meanings ∙ sym is) formless
-  below-has-form rs each (pair-follows x y a b h g) (in-first c d u reach) e formless = below-has-form rs each h reach (cc) formless
-  below-has-form rs each (pair-follows x y a b h g) (in-rest c d u reach) e formless = below-has-form rs each g reach (cc) formless
-  below-has-form rs each (variant-follows i x a h) (in-part n c u reach) e formless = below-has-form rs each h reach (cc) formless
-  below-has-form rs each (reference-follows r a among is) reach e formless = absurd (cc)
-  below-has-form rs each (pair-follows x y a b h g) reach e formless = absurd (cc)
-  below-has-form rs each (variant-follows i x a h) reach e formless = absurd (cc)
-  below-has-form rs each follows reach e formless = more-held reach e refl
+      below-has-form k.written.references (each-below k) reach k.wrote.follows (meanings ∙ sym is) formless
+  below-has-form rs each (in-first c d u reach) (pair-leads x y a b h g) e formless = below-has-form rs each reach h (cc) formless
+  below-has-form rs each (in-rest c d u reach) (pair-leads x y a b h g) e formless = below-has-form rs each reach g (cc) formless
+  below-has-form rs each (in-part n c u reach) (variant-leads i x a h) e formless = below-has-form rs each reach h (cc) formless
+  below-has-form rs each reach (followed-leads kind x a none h) e formless = absurd none
+  below-has-form rs each reach follows e formless = absurd (cc)
 
   has-forms : (i : Identity) (key height : ℕ) → IsPublished shelf i key height → LeadsToNoForm v.types (trees i.node.0) → ⊥
   has-forms i key height p (inl formless) = has-form i (known i key height p) formless
-  has-forms i key height p (inr (u, reach, formless)) = let k = known i key height p in below-has-form k.written.references k.below k.wrote.follows reach refl formless
+  has-forms i key height p (inr (u, reach, formless)) = let k = known i key height p in below-has-form k.written.references (each-below k) reach k.wrote.follows refl formless
 
   -- a task that has come to a key is of no value that has no form
   pub task-has-forms : (task : Task) (key : ℕ) → IsDone v shelf task key → IsFormlessTask v.types trees task → ⊥

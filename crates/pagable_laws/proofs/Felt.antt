@@ -9,22 +9,9 @@ use Rattle.pagable_laws.proofs.Words.{type_at, Moves, ReadsNodeTree, KeyFits, Ch
 use Rattle.pagable_laws.proofs.Words.{first_key, SameTrees, CallBrings, IsNewNode, AsksWell, nothing_felt, sets_key, knows_node, bears_node, bears_known, StaysAway, AreGood, CallFeels, feels-nothing}
 use Rattle.pagable_laws.proofs.Words.{feels-birth, feels-away, feels-key, feels-known, feels-adopted, feels-lazy, feels-end, List, [], ◌∷◌, LoadAnswer, Reading, Frame, ReadsRoot, ReadingBrings}
 use Rattle.pagable_laws.proofs.{Words.{IsCellOf, FramesFit, ReadingFits, ReadsItsTypes, TakesWell, FramesGiven, ReadingFeels, gets-lazy, makes-node}, Trees.{same_some, tree_is, one_tree}}
-use Rattle.pagable_laws.proofs.{Decoding.{among-left, among-right, meant-refs, decodes}, Following.{one-node, given-of, cell-of, held-of}, Fitting.{tree-stays, node-stays, first-fits}}
+use Rattle.pagable_laws.proofs.{Decoding.{meant-refs, decodes}, Following.{one-node, given-of, cell-of, held-of, halves, leads-on, stands-leads}, Related.along-rename, Fitting.tree-stays}
+use Rattle.pagable_laws.proofs.Fitting.{node-stays, first-fits}
 use Rattle.{pagable_laws.proofs.{Coming.updated-at, ReadingSteps.{old-node, new-node}, Taking.{root-key, node-decoded}}, std.proofs.Common.rules}
-
--- ---- other trees, the same at the nodes that are referred to
-
-module _ {trees trees' : ℕ → Tree} where
-  pub leads-on : {x : Meaning ArcRef} {a : Meaning ⊥} → LeadsTo trees x a → ((r : ArcRef) → Among (references_in x) r → trees' r.node.0 ≡ trees r.node.0) → LeadsTo trees' x a
-  unfolding references_in
-  leads-on (pair-leads x y a b f g) h =
-      let left = leads-on f (λ r among. h r (among-left (references_in x) (references_in y) among.0 r among.1)) in
-      let right = leads-on g (λ r among. h r (among-right (references_in x) (references_in y) among.0 r among.1)) in
-      pair-leads x y a b left right
-  leads-on (variant-leads i x a f) h = variant-leads i x a (leads-on f h)
-  leads-on (followed-leads kind x a f) h = followed-leads kind x a (leads-on f h)
-  leads-on (reference-leads r a typed meant) h = let same = h r (zero, refl) in reference-leads r a (ap (λ (t : Tree). t.type) same ∙ typed) (ap (λ (t : Tree). t.meaning) same ∙ meant)
-  leads-on l h = search (number-leads, integer-leads, text-leads, pattern-leads, none-leads)
 
 -- a meaning whose references' nodes have trees of their kinds' types leads to one
 pub led : {trees : ℕ → Tree} (x : Meaning ArcRef) → ((r : ArcRef) → Among (references_in x) r → (trees r.node.0).type ≡ type_of r.kind.0) → (a : Meaning ⊥) × LeadsTo trees x a
@@ -35,12 +22,13 @@ led (text t) h = (text t, text-leads t)
 led (pattern t) h = (pattern t, pattern-leads t)
 led none h = (none, none-leads)
 led (pair x y) h =
-    let left = led x (λ r among. h r (among-left (references_in x) (references_in y) among.0 r among.1)) in
-    let right = led y (λ r among. h r (among-right (references_in x) (references_in y) among.0 r among.1)) in
+    let p = halves (references_in x) (references_in y) h in
+    let left = led x p.0 in
+    let right = led y p.1 in
     (pair left.0 right.0, pair-leads x y left.0 right.0 left.1 right.1)
 led (variant i x) h = let l = led x h in (variant i l.0, variant-leads i x l.0 l.1)
 led {trees} (reference r) h = (followed r.kind.0 (trees r.node.0).meaning, reference-leads r _ (h r (zero, refl)) refl)
-led (followed kind x) h = let l = led x h in (followed kind l.0, followed-leads kind x l.0 l.1)
+led (followed kind x) h = let l = led x h in (followed kind l.0, followed-leads kind x l.0 tt l.1)
 
 -- ---- from what the pager stands for to what its values lead to
 
@@ -52,7 +40,8 @@ own-refs lawful x own means r among = meant-refs _ _ (λ is. sym (lawful.refers 
 pub value-on : {N : Type 0} {v : Values N} → IsLawful v → (last : ℕ) {trees trees' : ℕ → Tree} {x : N} {t : Tree} → SameTrees last trees trees'
     → ((r : ArcRef) → Among (v.references x) r → r.node.0 ≤ last) → ValueLeads v trees x t → ValueLeads v trees' x t
 value-on lawful last {x = x} same few l =
-    record { own = l.own; typed = l.typed; means = l.means; leads = leads-on l.leads (λ r among. same r.node.0 (few r (own-refs lawful x l.own l.means r among))) }
+    record { own = l.own; typed = l.typed; means = l.means; leads = leads-on l.leads
+        (λ r among typed. let e = same r.node.0 (few r (own-refs lawful x l.own l.means r among)) in (ap (λ (t : Tree). t.type) e ∙ typed, e)) }
 
 module _ {N E : Type 0} {v : Values N} {s : PagerState N E} {trees : ℕ → Tree} (lawful : IsLawful v) where
   module _ (settled : HoldsSettled v s) (well : WellFormed v s) (stands : Represents v s trees) where
@@ -61,24 +50,12 @@ module _ {N E : Type 0} {v : Values N} {s : PagerState N E} {trees : ℕ → Tre
         → ((trees r.node.0).type ≡ type_of r.kind.0) × ((trees r.node.0).meaning ≡ b)
     node-tree owner r b good node = grind (arith, nat_tests, given-of, same_some, one-node)
 
-    stands-leads : {x : Meaning ArcRef} {a : Meaning ⊥} → MeaningStands v s x a
-        → ((r : ArcRef) (b : Meaning ⊥) → Among (references_in x) r → NodeStands v s r.node.0 (tree (type_of r.kind.0) b)
-        → ((trees r.node.0).type ≡ type_of r.kind.0) × ((trees r.node.0).meaning ≡ b)) → LeadsTo trees x a
-    unfolding references_in
-    stands-leads (pair-stands x y a b f g) h =
-        let left = stands-leads f (λ r c among. h r c (among-left (references_in x) (references_in y) among.0 r among.1)) in
-        let right = stands-leads g (λ r c among. h r c (among-right (references_in x) (references_in y) among.0 r among.1)) in
-        pair-leads x y a b left right
-    stands-leads (variant-stands i x a f) h = variant-leads i x a (stands-leads f h)
-    stands-leads (followed-stands kind x a f) h = followed-leads kind x a (stands-leads f h)
-    stands-leads (reference-stands r a node) h = let is = h r a (zero, refl) node in reference-leads r a is.0 is.1
-    stands-leads l h = search (number-leads, integer-leads, text-leads, pattern-leads, none-leads)
-
     -- a value whose references are good, and which stands for a tree, leads to it
     pub value-leads : (x : N) (own : Meaning ArcRef) (t : Tree) (owner : _) → v.node_type x ≡ t.type → v.means x own → MeaningStands v s own t.meaning
         → ((r : ArcRef) → Among (v.references x) r → IsReference s.core owner r) → ValueLeads v trees x t
     value-leads x own t owner typed means meant good =
-        record { own = own; typed = typed; means = means; leads = stands-leads meant (λ r b among node. node-tree owner r b (good r (own-refs lawful x own means r among)) node) }
+        record { own = own; typed = typed; means = means; leads = stands-leads meant (along-rename (λ r. r) own)
+            (λ r among c same b node. node-tree owner r b (good r (own-refs lawful x own means r among)) node) }
 
     -- so does each value in memory; and each key reads as its node's tree
     node-leads : {n : ℕ} {t : Tree} → NodeStands v s n t → t ≡ trees n → NodeLeads v s trees n
@@ -121,22 +98,17 @@ module _ {N E : Type 0} {v : Values N} {s : PagerState N E} {trees : ℕ → Tre
   stand : (m : Meaning ⊥) {own : Meaning ArcRef} {a : Meaning ⊥} → LeadsTo trees own a → m ≡ a → AreLive s.core own → MeaningStands v s own a
   unfolding references_in
   stand (pair c d) (pair-leads x y a b f g) e h =
-      let first : AreLive s.core x = λ r among. h r (among-left (references_in x) (references_in y) among.0 r among.1) in
-      let second : AreLive s.core y = λ r among. h r (among-right (references_in x) (references_in y) among.0 r among.1) in
+      let p = halves (references_in x) (references_in y) h in
       let e1 : c ≡ a = cc in
       let e2 : d ≡ b = cc in
-      pair-stands x y a b (stand c f e1 first) (stand d g e2 second)
+      pair-stands x y a b (stand c f e1 p.0) (stand d g e2 p.1)
   stand (variant j c) (variant-leads i x a f) e h = let same : c ≡ a = cc in variant-stands i x a (stand c f same h)
-  stand (followed j c) (followed-leads kind x a f) e h = let same : c ≡ a = cc in followed-stands kind x a (stand c f same h)
+  stand (followed j c) (followed-leads kind x a n f) e h = let same : c ≡ a = cc in followed-stands kind x a (stand c f same h)
   stand (followed j c) (reference-leads r a typed meant) e h =
       let same : c ≡ (trees r.node.0).meaning = (let f : c ≡ a = cc in f ∙ sym meant) in
       reference-stands r a (subst (λ (t : Tree). NodeStands v s r.node.0 t) (tree_is _ _ _ _ typed meant) (node-by r.node.0 (h r (zero, refl)) (λ z l k. stand c l same k)))
   stand m (number-leads i) e h = number-stands i
-  stand m (integer-leads z) e h = integer-stands z
-  stand m (text-leads t) e h = text-stands t
-  stand m (pattern-leads t) e h = pattern-stands t
-  stand m none-leads e h = none-stands
-  stand m l e h = absurd (cc)
+  stand m l e h = first_of (search (integer-stands, text-stands, pattern-stands, none-stands), cc)
 
 pub either-side : (n last : ℕ) → (n ≤ last) ⊎ (last < n)
 either-side n last = grind (arith, nat_tests)
@@ -254,11 +226,6 @@ module _ {N E : Type 0} {v : Values N} {s s' : PagerState N E} {trees : ℕ → 
 
   -- ---- calls
 
-  -- the trees after a call, which fit what it brings
-  pub record Fits (c : Change) (comes : ℕ → N → Type 0) : Type 0 where
-    pub after : ℕ → Tree
-    pub fits : ChangeFits v c comes s s' trees after
-
   birth-tree : (x : N) (owner : Owner) → AreGood s.core owner (v.references x) → (t : Tree) × (t.type ≡ v.node_type x) × ValueLeads v trees x t
   birth-tree x owner good =
       let some = lawful.some x in
@@ -266,30 +233,28 @@ module _ {N E : Type 0} {v : Values N} {s s' : PagerState N E} {trees : ℕ → 
       same_some _ _ (sym (stands.typed r.node.0 (given-of well.whole.handles r.node.0 is).0) ∙ is)) in
       (tree (v.node_type x) l.0, refl, record { own = some.0; typed = refl; means = some.1; leads = l.1 })
 
-  so : {c : Change} {comes : ℕ → N → Type 0} {after : ℕ → Tree} → ChangeFits v c comes s s' trees after → Fits c comes
-  so {after = after} f = record { after = after; fits = f }
-
+  -- some trees after a call fit what it brings
   pub call-fits : {B : Type 0} (c : Change) (call : Call N B) (reply : Reply N B) → CoreGoes c s.core s'.core → AsksWell v s trees call reply
-      → CallFeels v s.core Owner.Caller call reply s'.core c → Fits c (CallBrings s.core call)
-  call-fits c call reply goes asked (feels-nothing stays) = so (fits-nothing _ (λ n x brings unset is. absurd (none-comes n x goes unset is (stays n x brings))))
+      → CallFeels v s.core Owner.Caller call reply s'.core c → (after : ℕ → Tree) × ChangeFits v c (CallBrings s.core call) s s' trees after
+  call-fits c call reply goes asked (feels-nothing stays) = (_, fits-nothing _ (λ n x brings unset is. absurd (none-comes n x goes unset is (stays n x brings))))
   call-fits c call reply goes asked (feels-birth x brought good) =
       let born = birth-tree x Owner.Caller good in
-      so (fits-born born.0 _ _ OptionalDataKey.None born.1 (λ key is. absurd (cc))
+      (_, fits-born born.0 _ _ OptionalDataKey.None born.1 (λ key is. absurd (cc))
       (λ n y brings unset is. value-born born.0 _ n y x goes is (brought n y brings).0 (brought n y brings).1 (good-given Owner.Caller x good) born.2))
-  call-fits c call reply goes asked (feels-away t key k) = so (fits-born asked.read _ _ (OptionalDataKey.Some key) asked.typed
+  call-fits c call reply goes asked (feels-away t key k) = (_, fits-born asked.read _ _ (OptionalDataKey.Some key) asked.typed
       (λ q is. let e : key ≡ q = cc in subst (λ z. ReadsTree s'.core.stored v.types z asked.read) e (tree-stays goes.stored asked.reads)) (λ n y brings unset is. absurd brings))
-  call-fits c call reply goes asked (feels-key h key row owns) = so (fits-key _ row.node.0 key (λ n y brings. brings) (tree-stays goes.stored (asked row owns)))
+  call-fits c call reply goes asked (feels-key h key row owns) = (_, fits-key _ row.node.0 key (λ n y brings. brings) (tree-stays goes.stored (asked row owns)))
   call-fits c call reply goes asked (feels-known kind key h row owns typed) =
       let live = given-of well.whole.handles row.node.0 typed in
       let is_typed : (trees row.node.0).type ≡ type_of kind.0 = same_some _ _ (sym (stands.typed row.node.0 live.0) ∙ typed) in
-      so (fits-known _ kind.0 key row.node.0 (λ n y brings. brings) (record { typed = is_typed; reads = tree-stays goes.stored (asked row owns) }))
+      (_, fits-known _ kind.0 key row.node.0 (λ n y brings. brings) (record { typed = is_typed; reads = tree-stays goes.stored (asked row owns) }))
   call-fits c call reply goes asked (feels-adopted l kind key x k typed good) =
       let leads = value-leads lawful settled well stands x asked.stands.own asked.read (Owner.Load l) asked.stands.typed asked.stands.means asked.stands.stands good in
-      so (fits-born-known asked.read _ kind.0 key (first_key kind.0 key) (sym asked.stands.typed ∙ typed) (λ q is. first-of (is_pinned_kind kind.0) key q is) (tree-stays goes.stored asked.reads)
+      (_, fits-born-known asked.read _ kind.0 key (first_key kind.0 key) (sym asked.stands.typed ∙ typed) (λ q is. first-of (is_pinned_kind kind.0) key q is) (tree-stays goes.stored asked.reads)
       (λ n y brings unset is. value-born asked.read _ n y x goes is brings.0 brings.1 (good-given (Owner.Load l) x good) leads))
   call-fits c call reply goes asked (feels-lazy l kind key k) =
-      so (fits-born-known asked.read _ kind.0 key (OptionalDataKey.Some key) asked.typed (λ q is. cc) (tree-stays goes.stored asked.reads) (λ n y brings unset is. absurd brings))
-  call-fits c call reply goes asked (feels-end l x k good) = so (fits-nothing _ (λ n y brings unset is.
+      (_, fits-born-known asked.read _ kind.0 key (OptionalDataKey.Some key) asked.typed (λ q is. cc) (tree-stays goes.stored asked.reads) (λ n y brings unset is. absurd brings))
+  call-fits c call reply goes asked (feels-end l x k good) = (_, fits-nothing _ (λ n y brings unset is.
       let meant = asked n brings.1 in
       let leads = value-leads lawful settled well stands x meant.own (trees n) (Owner.Load l) meant.typed meant.means meant.stands good in
       subst (λ z. ValueLeads v trees z (trees n)) (sym brings.0) leads))

@@ -1,8 +1,7 @@
 -- What a load reads goes on fitting, whatever it gets.
 use Rattle.pagable_laws.proofs.Words.{nat_tests, ◌≡◌, ℕ, zero, suc, ◌≤◌, List, [], ◌∷◌, ◌++◌, Option, Some, ◌⊎◌, inl, inr, refl, sym, ap, ◌∙◌, subst, arith, slice_get, length, length-append}
 use Rattle.pagable_laws.proofs.Words.{HandleRow, ArcRef, Kind, Blob, Types, Tree, type_of, ReadsTree, Among, Frame, Next, asks, next_in, need_at, need_of, needs_nested, needs_lazy, root_frame}
-use Rattle.pagable_laws.proofs.{Words.{nested_frame, with_got, ReadsNodeTree, FrameFits, FramesFit, SameTrees, Needs, KeepsStored, FramesGiven, slice_get_within}, Decoding.asks_next, Trees.each-type}
-use Rattle.pagable_laws.proofs.Trees.{followed-on}
+use Rattle.pagable_laws.proofs.{Words.{nested_frame, with_got, ReadsNodeTree, FrameFits, FramesFit, SameTrees, Needs, KeepsStored, FramesGiven}, Decoding.asks_next, Trees.followed-all}
 
 -- ---- what is asked
 
@@ -19,7 +18,7 @@ module _ {stored stored' : ℕ → Option Blob} {types : Types} (kept : KeepsSto
   -- what a key reads as stays
   pub tree-stays : {key : ℕ} {t : Tree} → ReadsTree stored types key t → ReadsTree stored' types key t
   tree-stays {t = t} h =
-      record { own = h.own; reads = grind (arith, nat_tests); follows = followed-on (λ n. Unit {0}) (λ n key m all r. grind (arith, nat_tests)) (each-type (λ n. tt) t.meaning) h.follows }
+      record { own = h.own; reads = grind (arith, nat_tests); follows = followed-all (λ n key m r. grind (arith, nat_tests)) h.follows }
 
   pub node-stays : {trees trees' : ℕ → Tree} {key t n : ℕ} → trees' n ≡ trees n → ReadsNodeTree types stored trees key t n → ReadsNodeTree types stored' trees' key t n
   node-stays {key = key} same h = record { typed = ap (λ (z : Tree). z.type) same ∙ h.typed; reads = subst (λ (z : Tree). ReadsTree stored' types key z) (sym same) (tree-stays h.reads) }

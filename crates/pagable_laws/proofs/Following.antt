@@ -1,23 +1,19 @@
 -- A form of a node's value is one of its tree: over its references it is followed to their nodes' trees, and with their keys it stands under the tree's own.
-use Rattle.pagable_laws.proofs.Words.{◌≡◌, ℕ, suc, ◌+◌, ◌<◌, ◌≤◌, ◌==◌, ◌&&◌, Bool, true, false, List, [], ◌∷◌, map, Option, Some, Result, Ok, refl, sym, ap, subst, ◌∙◌, inr, arith, is_some}
-use Rattle.pagable_laws.proofs.Words.{nat_lt, slice_get, nat_tests, append-nil, sum_by-cons, get_or_from_slice_get, slice_get_within, Error, reference, rename, references_in, Rest, deepest, Form}
-use Rattle.pagable_laws.proofs.Words.{kind_of_arc, IsReadable, Throughout, Kid, kid, kind_of_kid, KeyRef, key_ref, IsFollowed, number-followed, integer-followed, text-followed, pattern-followed}
-use Rattle.pagable_laws.proofs.Words.{none-followed, pair-followed, variant-followed, reference-followed, unfolded, TreeForm, blob_of, KeyOf, key-of, KeysOf, no-keys, more-keys, kind_of_ref}
-use Rattle.pagable_laws.proofs.Words.{key_of_ref, StoredAs, ArcRef, Identity, Meaning, Shape, Tree, tree, Types, type_of, Among, if_there, one, times, HandleRow, identity_of, held, is_handle}
-use Rattle.pagable_laws.proofs.Words.{is_owned_by, owner_value, Core, Shelf, Slot, Outcome, published, Written, Values, IsLawful, digest, type_at, IsPublished, PagerState, WellFormed}
-use Rattle.pagable_laws.proofs.Words.{HandlesAreWhole, NodeStands, here, away, MeaningStands, number-stands, integer-stands, text-stands, pattern-stands, none-stands, pair-stands, variant-stands}
-use Rattle.pagable_laws.proofs.Words.{followed-stands, reference-stands, Represents, IsWrittenOf, kids_of, HoldsSettled, ReadsItsTypes, AreKeysOf, rest, LooksUp, no-references, more-references}
-use Rattle.pagable_laws.proofs.Words.{Ground, FollowsTo, number-follows, integer-follows, text-follows, pattern-follows, none-follows, pair-follows, variant-follows, reference-follows, WroteTree}
-use Rattle.pagable_laws.proofs.{Words.KeyStands, Along.{Along, pair-along, variant-along, reference-along, followed-along, AllTwo, no-two, more-two}, Again.read_again, Related.keeps_forms}
-use Rattle.pagable_laws.proofs.{Related.{no_cause, Out, both-looked-up, read_par}, Sums.{same-number, sum-le, sum-zero}, Trees.{same_some, one_tree}}
+use Rattle.pagable_laws.proofs.Words.{◌≡◌, ℕ, suc, ◌+◌, ◌<◌, ◌≤◌, ◌==◌, ◌&&◌, Bool, true, false, List, [], ◌∷◌, map, Option, Some, Result, Ok, refl, sym, ap, subst, ◌∙◌, inr, arith, is_some, nat_lt}
+use Rattle.pagable_laws.proofs.Words.{slice_get, nat_tests, append-nil, sum_by-cons, get_or_from_slice_get, slice_get_within, Error, reference, rename, references_in, Rest, deepest, Form, kind_of_arc}
+use Rattle.pagable_laws.proofs.Words.{IsReadable, Throughout, Kid, kid, kind_of_kid, KeyRef, key_ref, IsFollowed, number-followed, integer-followed, text-followed, pattern-followed, none-followed}
+use Rattle.pagable_laws.proofs.Words.{pair-followed, variant-followed, reference-followed, unfolded, TreeForm, blob_of, KeyOf, key-of, KeysOf, no-keys, more-keys, kind_of_ref, key_of_ref, StoredAs}
+use Rattle.pagable_laws.proofs.Words.{ArcRef, Identity, Meaning, Shape, Tree, tree, Types, type_of, Among, if_there, one, times, HandleRow, identity_of, held, is_handle, is_owned_by, owner_value}
+use Rattle.pagable_laws.proofs.Words.{Core, Shelf, Slot, Outcome, published, Written, Values, IsLawful, digest, type_at, IsPublished, PagerState, WellFormed, HandlesAreWhole, NodeStands, here, away}
+use Rattle.pagable_laws.proofs.Words.{MeaningStands, number-stands, pair-stands, variant-stands, followed-stands, reference-stands, Represents, IsWrittenOf, kids_of, HoldsSettled, ReadsItsTypes}
+use Rattle.pagable_laws.proofs.Words.{AreKeysOf, rest, Ground, FollowsTo, LeadsBy, number-leads, integer-leads, text-leads, pattern-leads, none-leads, pair-leads, variant-leads, followed-leads}
+use Rattle.pagable_laws.proofs.{Words.{reference-leads, zero, WroteTree, KeyStands, ◌++◌}, Along.{Along, pair-along, variant-along, reference-along, followed-along, AllTwo, no-two, more-two}}
+use Rattle.pagable_laws.proofs.{Again.{looks-itself, read_again}, Related.{keeps_forms, no_cause, Out, both-looked-up, read_par}, Sums.{same-number, sum-le, sum-zero}, Trees.{same_some, one_tree}}
+use Rattle.pagable_laws.proofs.Decoding.{among-left, among-right}
 
 -- ---- the references in a form's meaning are those of the form, and none is followed
 
 module _ {A : Type 0} where
-  itself : (kind_of : A → ℕ) (k : List A) → LooksUp (λ kind (a : A). Ok a) kind_of k k
-  itself kind_of [] = no-references
-  itself kind_of (a ∷ k) = more-references a k a k refl (itself kind_of k)
-
   each-among : (P : A → Type 0) (k : List A) → ((a : A) → Among k a → P a) → AllTwo (λ a b. P a) k k
   each-among P [] h = no-two
   each-among P (a ∷ k) h = more-two a a k k (h a (0, refl)) (each-among P k (λ b among. h b (suc among.0, among.1)))
@@ -29,7 +25,7 @@ module _ {A : Type 0} where
   pub references-among : {kind_of : A → ℕ} {parts : ℕ → Shape} {s : Shape} {m : Meaning A} {b : List ℕ} {k : List A} → Throughout IsReadable parts s
       → Form A kind_of parts deepest s m b k → (n : Meaning A) × Along ⊥ (λ a c. Among k a) m n
   references-among {kind_of} {parts} {s} {m} {b} {k} can f =
-      let whole = read_again parts s can 0 (λ kind a. Ok a) kind_of m b [] k k [] (itself kind_of k) f in
+      let whole = read_again parts s can 0 (λ kind a. Ok a) kind_of m b [] k k [] (looks-itself k) f in
       let par = read_par {E = no_cause} {F = ⊥} {S = λ a c. Among k a} {R = λ a c. Among k a} (λ kind a. Ok a) (λ kind a. Ok a) (λ kind a c s. both-looked-up a c s) 0 s (inr can) in
       along-out (par.out (rest b k) (rest b k) (record { bytes = refl; refs = each-among (λ a. Among k a) k (λ a among. among) })) (rw (append-nil, append-nil) at whole)
 
@@ -53,12 +49,8 @@ module _ {N E : Type 0} {v : Values N} {s : PagerState N E} (settled : HoldsSett
         let same : r2 ≡ r = cc in
         let moved = let P : ArcRef → Type 0 = λ q. NodeStands v s q.node.0 (tree (type_of q.kind.0) b) in subst P same h2 in
         rw (same, one-node h moved refl) refl
-    one-meaning (number-stands i) (number-stands j) e = let same : i ≡ j = cc in rw same refl
-    one-meaning (integer-stands i) (integer-stands j) e = let same : i ≡ j = cc in rw same refl
-    one-meaning (text-stands i) (text-stands j) e = let same : i ≡ j = cc in rw same refl
-    one-meaning (pattern-stands i) (pattern-stands j) e = let same : i ≡ j = cc in rw same refl
-    one-meaning none-stands none-stands e = refl
-    one-meaning h g e = absurd (cc)
+    one-meaning h (number-stands j) e = cc
+    one-meaning h g e = cc
 
 -- ---- what is live
 
@@ -103,14 +95,34 @@ handles-once {w} whole q = rows-once q w.rows (λ i j a b lt at there.
 pub one-less : (a b : Bool) → one (a && b) ≤ one a
 one-less x0 x1 = grind (arith, nat_tests)
 
-module _ {N E : Type 0} {v : Values N} {s : PagerState N E} {trees : ℕ → Tree} (rs : List ArcRef)
-    (heads : (r : ArcRef) (b : Meaning ⊥) → Among rs r → NodeStands v s r.node.0 (tree (type_of r.kind.0) b) → (trees r.node.0).meaning ≡ b) where
-  follows-to : {x n : Meaning ArcRef} {a : Meaning ⊥} → MeaningStands v s x a → Along ⊥ (λ r c. Among rs r) x n → FollowsTo trees rs x a
-  follows-to (pair-stands x y a b h g) (pair-along x2 y2 a2 b2 k l) = pair-follows x y a b (follows-to h k) (follows-to g l)
-  follows-to (variant-stands i x a h) (variant-along j x2 a2 k) = variant-follows i x a (follows-to h k)
-  follows-to (followed-stands i x a h) (followed-along j x2 a2 f k) = absurd f
-  follows-to (reference-stands r a h) (reference-along r2 c among) = reference-follows r a among (heads r a among h)
-  follows-to f h = search (number-follows, integer-follows, text-follows, pattern-follows, none-follows)
+-- ---- what a meaning leads to
+
+-- what is so of each of both lists is so of each of the one, and of the other
+pub halves : {X : Type 0} {P : X → Type 0} (xs ys : List X) → ((x : X) → Among (xs ++ ys) x → P x) → ((x : X) → Among xs x → P x) × ((x : X) → Among ys x → P x)
+halves xs ys h = (λ x among. h x (among-left xs ys among.0 x among.1), λ x among. h x (among-right xs ys among.0 x among.1))
+
+-- it leads there with other trees, the same at the nodes that are referred to
+pub leads-on : {F : Type 0} {P Q : ArcRef → Type 0} {trees trees' : ℕ → Tree} {x : Meaning ArcRef} {a : Meaning ⊥} → LeadsBy F P trees x a
+    → ((r : ArcRef) → Among (references_in x) r → P r → Q r × (trees' r.node.0 ≡ trees r.node.0)) → LeadsBy F Q trees' x a
+unfolding references_in
+leads-on (pair-leads x y a b f g) h = let p = halves (references_in x) (references_in y) h in pair-leads x y a b (leads-on f p.0) (leads-on g p.1)
+leads-on (variant-leads i x a f) h = variant-leads i x a (leads-on f h)
+leads-on (followed-leads kind x a n f) h = followed-leads kind x a n (leads-on f h)
+leads-on (reference-leads r a p meant) h = let q = h r (zero, refl) p in reference-leads r a q.0 (ap (λ (t : Tree). t.meaning) q.1 ∙ meant)
+leads-on l h = search (number-leads, integer-leads, text-leads, pattern-leads, none-leads)
+
+-- what it stands for it leads to, where what the node of each reference stands for is the node's tree
+pub stands-leads : {N E : Type 0} {v : Values N} {s : PagerState N E} {trees : ℕ → Tree} {F : Type 0} {P : ArcRef → Type 0} {R : ArcRef → ArcRef → Type 0} {x n : Meaning ArcRef} {a : Meaning ⊥}
+    → MeaningStands v s x a → Along F R x n
+    → ((r : ArcRef) → Among (references_in x) r → (c : ArcRef) → R r c → (b : Meaning ⊥) → NodeStands v s r.node.0 (tree (type_of r.kind.0) b) → P r × ((trees r.node.0).meaning ≡ b))
+    → LeadsBy F P trees x a
+unfolding references_in
+stands-leads (pair-stands x y a b f g) (pair-along x2 y2 a2 b2 k l) h =
+    let p = halves (references_in x) (references_in y) h in pair-leads x y a b (stands-leads f k p.0) (stands-leads g l p.1)
+stands-leads (variant-stands i x a f) (variant-along j x2 a2 k) h = variant-leads i x a (stands-leads f k h)
+stands-leads (followed-stands i x a f) (followed-along j x2 a2 n k) h = followed-leads i x a n (stands-leads f k h)
+stands-leads (reference-stands r a node) (reference-along r2 c same) h = let is = h r (zero, refl) c same a node in reference-leads r a is.0 is.1
+stands-leads f k h = search (number-leads, integer-leads, text-leads, pattern-leads, none-leads)
 
 module _ {N E : Type 0} {v : Values N} {s : PagerState N E} {trees : ℕ → Tree} (represents : Represents v s trees) (whole : WellFormed v s) (settled : HoldsSettled v s)
     (reads : ReadsItsTypes v.types) (lawful : IsLawful v) where
@@ -143,7 +155,7 @@ module _ {N E : Type 0} {v : Values N} {s : PagerState N E} {trees : ℕ → Tre
       let of-value : (r : ArcRef) → Among written.references r → Among (v.references w.x) r = λ r among. subst (λ (rs : List ArcRef). Among rs r) w.listed among in
       let alone = references-among (reads (trees n).type w.form.shape shape_is) w.form.form in
       let follows : FollowsTo trees written.references w.form.own (trees n).meaning =
-      follows-to written.references (λ r b among stands. (refers n w.x r w.held (of-value r among)).1 b stands) meant alone.1 in
+      stands-leads meant alone.1 (λ r own c among b stands. (among, (refers n w.x r w.held (of-value r among)).1 b stands)) in
       let given : (r : ArcRef) → Among written.references r → r.node.0 ≤ s.core.last.node = λ r among. (refers n w.x r w.held (of-value r among)).0 in
       search (shape_is, w.form.form, follows, given, names-once n w.x w.form.own w.held w.form.means)
   wrote-of n written t is (away n2 key t2 none_there keyed fits) w = let f = w.held in absurd (cc)
@@ -186,30 +198,30 @@ module _ {N : Type 0} {v : Values N} {g : Ground} {shelf : Shelf} (right : (i : 
 
   -- the keys that are known of references are those of what they lead to
   pub keys-of : (rs : List ArcRef) (keys : List ℕ) → AreKeysOf shelf rs keys → KeysOf v.hash v.types (kids_of g.trees rs) keys
-  keys-of [] [] known = no-keys
-  keys-of [] (k ∷ ks) known = absurd known
-  keys-of (r ∷ rs) [] known = absurd known
   keys-of (r ∷ rs) (k ∷ ks) ((h, p), known) = more-keys _ _ k ks (kid-key r k h p) (keys-of rs ks known)
+  keys-of x0 x1 known = grind (arith, nat_tests, no-keys)
 
   follows-keys : (rs : List ArcRef) (keys : List ℕ) → AreKeysOf shelf rs keys → {x : Meaning ArcRef} {a : Meaning ⊥} → FollowsTo g.trees rs x a
       → IsFollowed (StoredAs g.stored v.types) (rename (keyed_by shelf) x) a
   unfolding rename
-  follows-keys rs keys known (pair-follows x y a b h k) = pair-followed _ _ a b (follows-keys rs keys known h) (follows-keys rs keys known k)
-  follows-keys rs keys known (variant-follows i x a h) = variant-followed i _ a (follows-keys rs keys known h)
-  follows-keys rs keys known (reference-follows r a among is) =
+  follows-keys rs keys known (pair-leads x y a b h k) = pair-followed _ _ a b (follows-keys rs keys known h) (follows-keys rs keys known k)
+  follows-keys rs keys known (variant-leads i x a h) = variant-followed i _ a (follows-keys rs keys known h)
+  follows-keys rs keys known (reference-leads r a among is) =
       let p = known-of shelf rs keys known r among in
       let stands = right (identity_of r) p.0 p.1.0 p.1.1 in
       let P : ℕ → ℕ → Type 0 = λ t k. StoredAs g.stored v.types t k stands.right.stands.own in
       reference-followed (keyed_by shelf r) stands.right.stands.own a
       (subst (λ k. P (type_of r.kind.0) k) (sym (known-key shelf r p.0 p.1.0 p.1.1)) (subst (λ t. P t p.0) stands.typed stands.right.stands.stands))
       (subst (λ m. IsFollowed (StoredAs g.stored v.types) stands.right.stands.own m) is stands.right.stands.follows)
+  follows-keys rs keys known (followed-leads kind x a none h) = absurd none
   follows-keys rs keys known h = search (number-followed, integer-followed, text-followed, pattern-followed, none-followed)
 
 renamed-kids : (trees : ℕ → Tree) (rs : List ArcRef) {x : Meaning ArcRef} {a : Meaning ⊥} → FollowsTo trees rs x a → rename (λ (r : ArcRef). kid r.kind.0 (trees r.node.0).meaning) x ≡ unfolded a
 unfolding rename unfolded
-renamed-kids trees rs (pair-follows x y a b h k) = rw (renamed-kids trees rs h, renamed-kids trees rs k) refl
-renamed-kids trees rs (variant-follows i x a h) = rw (renamed-kids trees rs h) refl
-renamed-kids trees rs (reference-follows r a among is) = ap (λ (m : Meaning ⊥). let z : Meaning Kid = reference (kid r.kind.0 m) in z) is
+renamed-kids trees rs (pair-leads x y a b h k) = rw (renamed-kids trees rs h, renamed-kids trees rs k) refl
+renamed-kids trees rs (variant-leads i x a h) = rw (renamed-kids trees rs h) refl
+renamed-kids trees rs (reference-leads r a among is) = ap (λ (m : Meaning ⊥). let z : Meaning Kid = reference (kid r.kind.0 m) in z) is
+renamed-kids trees rs (followed-leads kind x a none h) = absurd none
 renamed-kids trees rs _ = refl
 
 -- what was written is a form of the node's tree

@@ -32,9 +32,6 @@ le-more a b = omega arith
 pub next-above : (q last : ℕ) → q ≡ last + 1 → last < q
 next-above q last next = omega arith
 
-le-then : {a b c : ℕ} → a ≤ b → b ≤ c → a ≤ c
-le-then le more = omega arith
-
 -- ---- rows
 
 pub rows-self : (last : ℕ) (rows rows' : List HandleRow) → rows' ≡ rows → RowsGo last rows rows'
@@ -113,7 +110,7 @@ rows-left last rows gone q row found few = record { was = row; live = (found-lef
 -- ---- quiet steps
 
 pub quiet-then : {w m w' : Core} → Quiet w m → Quiet m w' → Quiet w w'
-quiet-then {w} {m} {w'} a b = search (rules, rows-then, le-then, a.cells, b.cells, a.stored, b.stored, a.loads, b.loads, a.cache, b.cache, a.shut, b.shut)
+quiet-then {w} {m} {w'} a b = search (rules, rows-then, le_trans, a.cells, b.cells, a.stored, b.stored, a.loads, b.loads, a.cache, b.cache, a.shut, b.shut)
 
 pub le-of : (a b : ℕ) → b ≡ a → a ≤ b
 le-of a b is = omega arith
@@ -136,14 +133,11 @@ pub only-rows : {w : Core} {rows : List HandleRow} {list : List HandleNumber} {l
     → Quiet w (record w { rows = rows; list = list; last = record w.last { handle = last } })
 only-rows go le = parts le (le-self _) (λ n cell is. is) (λ l load is. is) (λ kind key n is. is) go
 
-if-some : {X : Type 0} (b : Bool) (x : Option X) (y : X) → (if b then x else None) ≡ Some y → x ≡ Some y
-if-some x0 x y is = grind (arith, nat_tests)
-
 pub fell : {before w w' : Core} {given : ℕ → Bool} {r : _} → Falls before w given r w' → Quiet w w'
 fell {before} {w} {w'} f = quiet-then {m = fallen w f.gone f.entries} falls (alike f.leaves)
   where
     falls : Quiet w (fallen w f.gone f.entries)
-    falls = parts (le-more _ _) (le-self _) (λ n cell is. if-some _ (w.cells n) cell is) (λ l load is. is) (λ kind key n is. is)
+    falls = parts (le-more _ _) (le-self _) (λ n cell is. grind (arith, nat_tests)) (λ l load is. is) (λ kind key n is. is)
         (rows-then w.last.handle w.last.handle w.rows (left_rows f.gone w.rows) _ (le-of _ _ refl) (rows-left w.last.handle w.rows f.gone)
         (rows-more w.last.handle (left_rows f.gone w.rows) f.entries (λ q few. none-in-new w.last.handle q f.entries f.new few)))
 
@@ -159,7 +153,7 @@ pub quiet-goes : (c : Change) {w w' : Core} → Quiet w w' → Goes c w w'
 quiet-goes c q = grind arith
 
 pub goes-quiet : {c : Change} {w m w' : Core} → Goes c w m → Quiet m w' → Goes c w w'
-goes-quiet {c} {w} {m} {w'} a b = search (rules, rows-then, le-then, a.cells, b.cells, a.stored, b.stored, a.loads, b.loads, a.cache, b.cache, a.shut, b.shut)
+goes-quiet {c} {w} {m} {w'} a b = search (rules, rows-then, le_trans, a.cells, b.cells, a.stored, b.stored, a.loads, b.loads, a.cache, b.cache, a.shut, b.shut)
 
 -- at a number, or elsewhere
 pub at-updated : {X : Type 0} (m : ℕ) (x : Option X) (f : ℕ → Option X) (n : ℕ) (y : X) → updated m x f n ≡ Some y → ((n ≡ m) × (x ≡ Some y)) ⊎ (f n ≡ Some y)

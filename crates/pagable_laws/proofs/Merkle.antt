@@ -1,17 +1,16 @@
 -- A tree of canonical types has one key, a stored tree has the key that it stands under, and keys tell trees apart.
-use Rattle.pagable_laws.proofs.Words.{arith, nat_tests, ◌≡◌, ℕ, suc, Bool, List, [], ◌∷◌, ◌++◌, length, refl, sym, ap, ◌∙◌, subst, unsigned_form, signed_form, bool_form, length_form, text_form}
-use Rattle.pagable_laws.proofs.Words.{char_form, Meaning, sequence, Entry, of_entries, Shape, Form, Forms, Entries, nothing-form, unsigned-form, signed-form, flag-form, text-form, letter-form}
-use Rattle.pagable_laws.proofs.Words.{duration-form, pattern-form, none-form, some-form, err-form, ok-form, list-form, run-form, array-form, both-form, sorted-map-form, placed-map-form, hash-map-form}
-use Rattle.pagable_laws.proofs.Words.{sorted-set-form, placed-set-form, static-form, tagged-form, case-form, reference-form, nested-form, json-null-form, json-flag-form, json-number-form}
-use Rattle.pagable_laws.proofs.Words.{json-text-form, json-array-form, json-object-form, no-forms, more-forms, no-entries, more-entries, LiesIn, IsCanonical, Throughout, CanonicalHasOneForm, true}
-use Rattle.pagable_laws.proofs.Words.{false, pair, variant, reference, followed, lifted, rename, code_order, ordered, put_all, put_sorted, of_hash_map, Tree, Types, type_of, Kid, unfolded, KeyOf}
-use Rattle.pagable_laws.proofs.Words.{key-of, KeysOf, no-keys, more-keys, EachType, StaysInside, IsCanonicalInside, zero, ◌+◌, ◌*◌, ◌/◌, ◌%◌, ◌^◌, ◌<◌, ◌≤◌, div-div-eq-div-mul, pow-suc, length-append}
-use Rattle.pagable_laws.proofs.Words.{Blob, preimage, cut, HasOnePreimage, inl, inr, if◌then◌else◌, cases_lt, is_eager, height, HasPath, IsLongestPath, map, Option, Ok, append-nil, read, read_typed}
-use Rattle.pagable_laws.proofs.Words.{key_of, KeyRef, tree, key_ref, ReadsAs, IsFollowed, pair-followed, variant-followed, reference-followed, blob_context, rest_of, kind_of_kid, tree_of_kid}
-use Rattle.pagable_laws.proofs.Words.{TreeForm, blob_of, kind_of_ref, key_of_ref, StoredAs, HasOwnKeys, SharesNoKey, IsCanonicalType, IsCanonicalTree, IsReadableType, rest, IsOneKey, IsOneItemKey}
-use Rattle.pagable_laws.proofs.{Words.{IsStoredKey, IsTreeReadable, IsKeyOfOneTree}, Again.{here, narrowed, part_of, of_json, of_text, lower, form-again, Looked, all-looked, one-looked}, Along.Along}
-use Rattle.pagable_laws.proofs.Along.{number-along, integer-along, text-along, pattern-along, none-along, pair-along, variant-along, reference-along, AllTwo, no-two, more-two, form-along}
-use Rattle.pagable_laws.proofs.Trees.{same_some, same_result, tree_is, one-followed, followed-on}
+use Rattle.pagable_laws.proofs.Words.{arith, nat_tests, ◌≡◌, ℕ, suc, Bool, List, [], ◌∷◌, ◌++◌, length, refl, sym, ap, ◌∙◌, subst, length_form, Meaning, sequence, Entry, of_entries, Shape, Form}
+use Rattle.pagable_laws.proofs.Words.{Forms, Entries, nothing-form, flag-form, duration-form, some-form, err-form, ok-form, list-form, run-form, array-form, both-form, sorted-map-form}
+use Rattle.pagable_laws.proofs.Words.{placed-map-form, hash-map-form, sorted-set-form, placed-set-form, static-form, tagged-form, case-form, reference-form, nested-form, json-flag-form}
+use Rattle.pagable_laws.proofs.Words.{json-array-form, json-object-form, no-forms, more-forms, no-entries, more-entries, LiesIn, IsCanonical, Throughout, CanonicalHasOneForm, true, pair, variant}
+use Rattle.pagable_laws.proofs.Words.{followed, code_order, Tree, Types, type_of, Kid, unfolded, KeyOf, key-of, KeysOf, no-keys, more-keys, EachType, StaysInside, IsCanonicalInside, zero, ◌+◌, ◌*◌}
+use Rattle.pagable_laws.proofs.Words.{◌/◌, ◌%◌, ◌^◌, ◌<◌, ◌≤◌, div-div-eq-div-mul, pow-suc, length-append, Blob, preimage, cut, HasOnePreimage, inl, inr, if◌then◌else◌, cases_lt, is_eager, height}
+use Rattle.pagable_laws.proofs.Words.{HasPath, IsLongestPath, map, Option, Ok, append-nil, read, read_typed, KeyRef, tree, key_ref, ReadsAs, IsFollowed, pair-followed, variant-followed}
+use Rattle.pagable_laws.proofs.Words.{reference-followed, blob_context, rest_of, kind_of_kid, tree_of_kid, TreeForm, blob_of, kind_of_ref, key_of_ref, StoredAs, HasOwnKeys, SharesNoKey}
+use Rattle.pagable_laws.proofs.{Words.{IsCanonicalType, IsCanonicalTree, IsReadableType, rest, IsOneKey, IsOneItemKey, IsStoredKey, IsTreeReadable, IsKeyOfOneTree}, Again.{here, narrowed, part_of}}
+use Rattle.pagable_laws.proofs.{Again.{of_json, of_text, lower, form-again, Looked, all-looked, one-looked}, Along.{Along, EntryAlong, lifted-along, number-along, integer-along, text-along}}
+use Rattle.pagable_laws.proofs.{Along.{pattern-along, none-along, pair-along, variant-along, reference-along, AllTwo, no-two, more-two, form-along}, Related.{flag-same, sequence-two, entries-two}}
+use Rattle.pagable_laws.proofs.{Related.sorted-two, Trees.{same_some, same_result, tree_is, one-followed, followed-on}}
 use Rattle.pagable_model.specs.{Canonical.IsClosed}
 use Rattle.std.{specs.Int.{byte_at, bytes_low_first, to_le_bytes, w64, w128}, specs.List.{flat_map, AllByRecursion as Each}, proofs.Common.rules}
 use Rattle.pagable_model.specs.Meaning as meanings
@@ -50,15 +49,6 @@ module _ {A : Type 0} {kind_of : A → ℕ} {parts : ℕ → Shape} where
 
     pub one-form : {left left2 : ℕ} {s : Shape} {m n : Meaning A} {b c : List ℕ} {k l : List A} → Form A kind_of parts left s m b k → Form A kind_of parts left2 s n c l
         → Throughout IsCanonical parts s → m ≡ n → (b ≡ c) × (k ≡ l)
-    one-form (nothing-form left) (nothing-form left2) r e = (refl, refl)
-    one-form (unsigned-form left w n h) (unsigned-form left2 w2 n2 h2) r e = let same : n ≡ n2 = cc in (ap (unsigned_form w) same, refl)
-    one-form (signed-form left w z h) (signed-form left2 w2 z2 h2) r e = let same : z ≡ z2 = cc in (ap (signed_form w) same, refl)
-    one-form (flag-form left b) (flag-form left2 b2) r e = (ap bool_form (same-flag b b2 e), refl)
-    one-form (text-form left t u h) (text-form left2 t2 u2 h2) r e = let same : t ≡ t2 = cc in (ap text_form same, refl)
-    one-form (letter-form left x u) (letter-form left2 x2 u2) r e = let same : x ≡ x2 = cc in (ap char_form same, refl)
-    one-form (duration-form left x y h g) (duration-form left2 x2 y2 h2 g2) r e = let seconds : x ≡ x2 = cc in let nanos : y ≡ y2 = cc in (rw (seconds, nanos) refl, refl)
-    one-form (pattern-form left t u h) (pattern-form left2 t2 u2 h2) r e = let same : t ≡ t2 = cc in (ap text_form same, refl)
-    one-form (none-form left s) (none-form left2 s2) r e = (refl, refl)
     one-form (some-form left s m b k h) (some-form left2 s2 m2 b2 k2 h2) r e = grown (1 ∷ []) _ _ _ _ (one-form h h2 (narrowed r (λ p. p) (λ n d l. l)) cc)
     one-form (err-form left s t m b k h) (err-form left2 s2 t2 m2 b2 k2 h2) r e = grown (0 ∷ []) _ _ _ _ (one-form h h2 (narrowed r (λ p. p.1) (λ n d l. l.1)) cc)
     one-form (ok-form left s t m b k h) (ok-form left2 s2 t2 m2 b2 k2 h2) r e = grown (1 ∷ []) _ _ _ _ (one-form h h2 (narrowed r (λ p. p.0) (λ n d l. l.0)) cc)
@@ -88,10 +78,6 @@ module _ {A : Type 0} {kind_of : A → ℕ} {parts : ℕ → Shape} where
         (rw (cases, rest.0) refl, rest.1)
     one-form (reference-form left kind a q) (reference-form left2 kind2 a2 q2) r e = let same : a ≡ a2 = cc in (refl, ap (λ (x : A). x ∷ []) same)
     one-form (nested-form left less n m b k p h) (nested-form left2 less2 n2 m2 b2 k2 p2 h2) r e = one-form h h2 (part_of r) e
-    one-form (json-null-form left) (json-null-form left2) r e = (refl, refl)
-    one-form (json-flag-form left b) (json-flag-form left2 b2) r e = grind (arith, nat_tests, same-flag)
-    one-form (json-number-form left z h) (json-number-form left2 z2 h2) r e = let same : z ≡ z2 = cc in (rw same refl, refl)
-    one-form (json-text-form left t u h) (json-text-form left2 t2 u2 h2) r e = let same : t ≡ t2 = cc in (rw same refl, refl)
     one-form (json-array-form left less ms b k p le h) (json-array-form left2 less2 ms2 b2 k2 p2 le2 h2) r e =
         let part : sequence ms ≡ sequence ms2 = cc in
         let same = same-items ms ms2 part in
@@ -100,7 +86,8 @@ module _ {A : Type 0} {kind_of : A → ℕ} {parts : ℕ → Shape} where
         let part : of_entries es ≡ of_entries es2 = cc in
         let same = same-entries es es2 part in
         grown (5 ∷ []) _ _ _ _ (counted _ _ _ _ _ _ same (one-entries h h2 (of_text tt) (of_json tt) same))
-    one-form x0 x1 r e = grind (arith, nat_tests, here)
+    one-form x0 (nothing-form left) r e = grind (arith, nat_tests)
+    one-form x0 x1 r e = grind (arith, nat_tests, here, same-flag)
 
     pub one-forms : {left left2 : ℕ} {s : Shape} {ms ns : List (Meaning A)} {b c : List ℕ} {k l : List A} → Forms A kind_of parts left s ms b k → Forms A kind_of parts left2 s ns c l
         → Throughout IsCanonical parts s → ms ≡ ns → (b ≡ c) × (k ≡ l)
@@ -124,52 +111,9 @@ canonical_one kind_of parts s r left m b c k l f g = one-form f g r refl
 
 -- ---- a tree of a closed set of types reaches types of the set alone
 
--- P of each reference in the meaning
-EachRef : {A : Type 0} → (A → Type 0) → Meaning A → Type 0
-EachRef P (pair a b) = EachRef P a × EachRef P b
-EachRef P (variant n a) = EachRef P a
-EachRef P (reference a) = P a
-EachRef P (followed kind a) = EachRef P a
-EachRef P _ = Unit {0}
-
 each_split : {X : Type 0} (P : X → Type 0) (xs ys : List X) → Each P (xs ++ ys) → Each P xs × Each P ys
 each_split P [] ys h = (tt, h)
 each_split P (x ∷ xs) ys h = let s = each_split P xs ys h.1 in ((h.0, s.0), s.1)
-
-module _ {A : Type 0} (P : A → Type 0) where
-  abbrev EachEntry : Entry A → Type 0
-  EachEntry e = EachRef P e.0 × EachRef P e.1
-
-  lifted_refs : (m : Meaning ⊥) → EachRef P (lifted m)
-  unfolding EachRef rename
-  lifted_refs (pair a b) = (lifted_refs a, lifted_refs b)
-  lifted_refs (variant n a) = lifted_refs a
-  lifted_refs (followed kind a) = lifted_refs a
-  lifted_refs x0 = grind (arith, nat_tests)
-
-  sequence_refs : (ms : List (Meaning A)) → Each (EachRef P) ms → EachRef P (sequence ms)
-  unfolding EachRef
-  sequence_refs [] h = tt
-  sequence_refs (m ∷ ms) h = (h.0, sequence_refs ms h.1)
-
-  entries_refs : (es : List (Entry A)) → Each EachEntry es → EachRef P (of_entries es)
-  unfolding EachRef
-  entries_refs [] h = tt
-  entries_refs (e ∷ es) h = (h.0, entries_refs es h.1)
-
-  put_refs : (acc : List (Entry A)) (e : Entry A) → Each EachEntry acc → EachEntry e → Each EachEntry (put_sorted code_order acc e)
-  put_refs [] e h g = (g, tt)
-  put_refs (x ∷ acc) e h g = grind (arith, nat_tests, ordered, put_refs acc e h.1 g)
-
-  put_all_refs : (es acc : List (Entry A)) → Each EachEntry acc → Each EachEntry es → Each EachEntry (put_all (put_sorted code_order) acc es)
-  unfolding put_all
-  put_all_refs [] acc h g = h
-  put_all_refs (e ∷ es) acc h g = put_all_refs es (put_sorted code_order acc e) (put_refs acc e h g.0) g.1
-
-  hash_refs : (es : List (Entry A)) → Each EachEntry es → EachRef P (of_hash_map es)
-  hash_refs es h = entries_refs _ (put_all_refs es [] tt h)
-
--- ---- forms
 
 -- all that the shape refers to is in the set
 abbrev Inside : (ℕ → Type 0) → (ℕ → Shape) → Shape → Type 0
@@ -177,45 +121,47 @@ Inside nodes parts s = Throughout (LiesIn nodes (λ n. Unit {0})) parts s
 
 module _ {A : Type 0} {kind_of : A → ℕ} {parts : ℕ → Shape} (nodes : ℕ → Type 0) (P Q : A → Type 0) (both : (a : A) → nodes (type_of (kind_of a)) → P a → Q a) where
   mutual
-    unfolding EachRef LiesIn
+    unfolding LiesIn
 
-    form-refs : {left : ℕ} {s : Shape} {m : Meaning A} {b : List ℕ} {k : List A} → Form A kind_of parts left s m b k → Inside nodes parts s → Each P k → EachRef Q m
-    form-refs (flag-form left true) t h = tt
-    form-refs (flag-form left false) t h = tt
-    form-refs (duration-form left x y l g) t h = (tt, tt)
-    form-refs (some-form left s m b k f) t h = form-refs f (lower nodes (λ n d l. l) t) h
-    form-refs (err-form left s s2 m b k f) t h = form-refs f (lower nodes (λ n d l. l.1) t) h
-    form-refs (ok-form left s s2 m b k f) t h = form-refs f (lower nodes (λ n d l. l.0) t) h
-    form-refs (list-form left s ms b k l f) t h = sequence_refs Q ms (forms-refs f (lower nodes (λ n d l. l) t) h)
-    form-refs (run-form left s ms b k l f) t h = sequence_refs Q ms (forms-refs f (lower nodes (λ n d l. l) t) h)
-    form-refs (array-form left n s ms b k e f) t h = sequence_refs Q ms (forms-refs f (lower nodes (λ n d l. l) t) h)
-    form-refs (both-form left s s2 m n b c k l f g) t h = (form-refs f (lower nodes (λ n d l. l.0) t) (each_split P k l h).0, form-refs g (lower nodes (λ n d l. l.1) t) (each_split P k l h).1)
-    form-refs (sorted-map-form left o s s2 es b k l up f) t h = entries_refs Q es (entries_form-refs f (lower nodes (λ n d l. l.0) t) (lower nodes (λ n d l. l.1) t) h)
-    form-refs (placed-map-form left s s2 es b k l up f) t h = entries_refs Q es (entries_form-refs f (lower nodes (λ n d l. l.0) t) (lower nodes (λ n d l. l.1) t) h)
-    form-refs (hash-map-form left s s2 es b k l up f) t h = hash_refs Q es (entries_form-refs f (lower nodes (λ n d l. l.0) t) (lower nodes (λ n d l. l.1) t) h)
-    form-refs (sorted-set-form left o s ms b k l up f) t h = sequence_refs Q ms (forms-refs f (lower nodes (λ n d l. l) t) h)
-    form-refs (placed-set-form left s ms b k l up f) t h = sequence_refs Q ms (forms-refs f (lower nodes (λ n d l. l) t) h)
-    form-refs (static-form left registry i m l e) t h = lifted_refs Q m
-    form-refs (tagged-form left written known body tag m b k u l f) t h = (tt, form-refs f (lower nodes (λ n d l. l.0 tag) t) h)
-    form-refs (case-form left w known part n m b k l is f) t h = form-refs f (lower nodes (λ nodes d l. l n is) t) h
-    form-refs (reference-form left kind a e) t h = both a (let here_is = here t in rw e here_is) h.0
+    -- Q of each reference in the meaning
+    form-refs : {left : ℕ} {s : Shape} {m : Meaning A} {b : List ℕ} {k : List A} → Form A kind_of parts left s m b k → Inside nodes parts s → Each P k → Along (Unit {0}) (λ a c. Q a) m m
+    form-refs (flag-form left b) t h = flag-same b
+    form-refs (duration-form left x y l g) t h = pair-along _ _ _ _ (number-along x) (number-along y)
+    form-refs (some-form left s m b k f) t h = variant-along _ _ _ (form-refs f (lower nodes (λ n d l. l) t) h)
+    form-refs (err-form left s s2 m b k f) t h = variant-along _ _ _ (form-refs f (lower nodes (λ n d l. l.1) t) h)
+    form-refs (ok-form left s s2 m b k f) t h = variant-along _ _ _ (form-refs f (lower nodes (λ n d l. l.0) t) h)
+    form-refs (list-form left s ms b k l f) t h = sequence-two (forms-refs f (lower nodes (λ n d l. l) t) h)
+    form-refs (run-form left s ms b k l f) t h = sequence-two (forms-refs f (lower nodes (λ n d l. l) t) h)
+    form-refs (array-form left n s ms b k e f) t h = sequence-two (forms-refs f (lower nodes (λ n d l. l) t) h)
+    form-refs (both-form left s s2 m n b c k l f g) t h =
+        let p = each_split P k l h in pair-along _ _ _ _ (form-refs f (lower nodes (λ n d l. l.0) t) p.0) (form-refs g (lower nodes (λ n d l. l.1) t) p.1)
+    form-refs (sorted-map-form left o s s2 es b k l up f) t h = entries-two (entries_form-refs f (lower nodes (λ n d l. l.0) t) (lower nodes (λ n d l. l.1) t) h)
+    form-refs (placed-map-form left s s2 es b k l up f) t h = entries-two (entries_form-refs f (lower nodes (λ n d l. l.0) t) (lower nodes (λ n d l. l.1) t) h)
+    form-refs (hash-map-form left s s2 es b k l up f) t h = sorted-two code_order (entries_form-refs f (lower nodes (λ n d l. l.0) t) (lower nodes (λ n d l. l.1) t) h)
+    form-refs (sorted-set-form left o s ms b k l up f) t h = sequence-two (forms-refs f (lower nodes (λ n d l. l) t) h)
+    form-refs (placed-set-form left s ms b k l up f) t h = sequence-two (forms-refs f (lower nodes (λ n d l. l) t) h)
+    form-refs (static-form left registry i m l e) t h = lifted-along m (inl tt)
+    form-refs (tagged-form left written known body tag m b k u l f) t h = pair-along _ _ _ _ (text-along tag) (form-refs f (lower nodes (λ n d l. l.0 tag) t) h)
+    form-refs (case-form left w known part n m b k l is f) t h = variant-along _ _ _ (form-refs f (lower nodes (λ nodes d l. l n is) t) h)
+    form-refs (reference-form left kind a e) t h = reference-along a a (both a (let here_is = here t in rw e here_is) h.0)
     form-refs (nested-form left less n m b k e f) t h = form-refs f (part_of t) h
-    form-refs (json-flag-form left true) t h = tt
-    form-refs (json-flag-form left false) t h = tt
-    form-refs (json-array-form left less ms b k e l f) t h = sequence_refs Q ms (forms-refs f (of_json tt) h)
-    form-refs (json-object-form left less es b k e l up f) t h = entries_refs Q es (entries_form-refs f (of_text tt) (of_json tt) h)
-    form-refs _ t h = tt
+    form-refs (json-flag-form left b) t h = variant-along _ _ _ (flag-same b)
+    form-refs (json-array-form left less ms b k e l f) t h = variant-along _ _ _ (sequence-two (forms-refs f (of_json tt) h))
+    form-refs (json-object-form left less es b k e l up f) t h = variant-along _ _ _ (entries-two (entries_form-refs f (of_text tt) (of_json tt) h))
+    form-refs _ t h = search (variant-along, number-along, integer-along, text-along, pattern-along, none-along)
 
-    forms-refs : {left : ℕ} {s : Shape} {ms : List (Meaning A)} {b : List ℕ} {k : List A} → Forms A kind_of parts left s ms b k → Inside nodes parts s → Each P k → Each (EachRef Q) ms
-    forms-refs (no-forms left s) t h = tt
-    forms-refs (more-forms left s m ms b c k l f g) t h = (form-refs f t (each_split P k l h).0, forms-refs g t (each_split P k l h).1)
+    forms-refs : {left : ℕ} {s : Shape} {ms : List (Meaning A)} {b : List ℕ} {k : List A} → Forms A kind_of parts left s ms b k → Inside nodes parts s → Each P k
+        → AllTwo (Along (Unit {0}) (λ a c. Q a)) ms ms
+    forms-refs (no-forms left s) t h = no-two
+    forms-refs (more-forms left s m ms b c k l f g) t h = let p = each_split P k l h in more-two m m ms ms (form-refs f t p.0) (forms-refs g t p.1)
 
     entries_form-refs : {left : ℕ} {s s2 : Shape} {es : List (Entry A)} {b : List ℕ} {k : List A} → Entries A kind_of parts left s s2 es b k → Inside nodes parts s
-        → Inside nodes parts s2 → Each P k → Each (EachEntry Q) es
-    entries_form-refs (no-entries left s s2) t u h = tt
+        → Inside nodes parts s2 → Each P k → AllTwo (EntryAlong (Unit {0}) (λ a c. Q a)) es es
+    entries_form-refs (no-entries left s s2) t u h = no-two
     entries_form-refs (more-entries left s s2 m n es b c d j k l f g e) t u h =
-        let rest = (each_split P j (k ++ l) h).1 in
-        ((form-refs f t (each_split P j (k ++ l) h).0, form-refs g u (each_split P k l rest).0), entries_form-refs e t u (each_split P k l rest).1)
+        let p = each_split P j (k ++ l) h in
+        let q = each_split P k l p.1 in
+        more-two (m, n) (m, n) es es (record { key = form-refs f t p.0; value = form-refs g u q.0 }) (entries_form-refs e t u q.1)
 
 -- ---- trees
 
@@ -227,10 +173,11 @@ module _ (hash : List ℕ → List ℕ) (types : Types) (nodes : ℕ → Type 0)
   abbrev Found : Kid → Type 0
   Found k = nodes (type_of k.kind) × EachType nodes k.meaning
 
-  types_of : (m : Meaning ⊥) → EachRef Found (unfolded m) → EachType nodes m
-  unfolding EachRef EachType unfolded
-  types_of (pair a b) h = (types_of a h.0, types_of b h.1)
-  types_of (variant n a) h = types_of a h
+  types_of : (m : Meaning ⊥) {n : Meaning Kid} → Along (Unit {0}) (λ k l. Found k) (unfolded m) n → EachType nodes m
+  unfolding EachType unfolded
+  types_of (pair a b) (pair-along x y c d h g) = (types_of a h, types_of b g)
+  types_of (variant i a) (variant-along j x c h) = types_of a h
+  types_of (followed kind a) (reference-along k l found) = found
   types_of x0 h = grind (arith, nat_tests)
 
   mutual
@@ -340,9 +287,6 @@ module _ {types : Types} where
 
 -- ---- one key
 
-key_is : (hash : List ℕ → List ℕ) (b c keys keys2 : List ℕ) → b ≡ c → keys ≡ keys2 → key_of hash (blob_of b keys) ≡ key_of hash (blob_of c keys2)
-key_is hash b c keys keys2 e f = rw (e, f) refl
-
 module _ {hash : List ℕ → List ℕ} {types : Types} where
   mutual
     same-key : {t u : Tree} {k l : ℕ} → KeyOf hash types t k → KeyOf hash types u l → IsCanonicalTree types t → t ≡ u → k ≡ l
@@ -350,7 +294,7 @@ module _ {hash : List ℕ → List ℕ} {types : Types} where
         let shapes : s ≡ s2 = same_some _ _ (sym is ∙ ap (λ (x : Tree). types.nodes x.type) e ∙ is2) in
         let g2 = let P : Shape → Tree → Type 0 = λ z x. TreeForm types z x.meaning c kids2 in subst (λ (x : Tree). P s x) (sym e) (subst (λ (z : Shape). P z u) (sym shapes) g) in
         let forms = one-form f g2 (can.0 s is) refl in
-        key_is hash _ _ _ _ forms.0 (same-keys h h2 (canonical-kids s t.meaning b kids can.1 f).1 forms.1)
+        rw (forms.0, same-keys h h2 (canonical-kids s t.meaning b kids can.1 f).1 forms.1) refl
 
     same-keys : {kids kids2 others : List Kid} {keys keys2 : List ℕ} → KeysOf hash types kids keys → KeysOf hash types kids2 keys2 → AllTwo (CanonicalKid types) kids others
         → kids ≡ kids2 → keys ≡ keys2

@@ -1,14 +1,14 @@
 -- A handle that stands for a reference goes on to stand for it, and so does a clone of it; a key that was set stays.
 use Rattle.pagable_laws.proofs.Words.{◌≡◌, ℕ, ◌+◌, ◌≤◌, true, List, [], ◌∷◌, ◌++◌, inl, inr, Some, None, Ok, refl, sym, ap, subst, ◌∙◌, arith, nat_tests, ArcRef, HandleNumber, type_of, is_loose_kind}
-use Rattle.pagable_laws.proofs.Words.{HandleRow, Owner, find_row, is_loose, fits_mode, has_key, Core, Cell, Todo, to_start, to_item, to_publish, to_release, to_fail, row_at, type_at, row_of}
-use Rattle.pagable_laws.proofs.Words.{CloneCall, claim_fault, HandlesAreWhole, Change, StandsAt, KeyIsSet, Holds, AllHold, false, ◌⊎◌, Option, drop, length, OptionalDataKey, Pinning, Beginning, Claim}
-use Rattle.pagable_laws.proofs.Words.{PinStep, Took, Identity, NodeNumber, above, if_there, any_mode, identity_of, owner_worker, Shelf, Slot, no_result, published, Written, Open, to_pin, to_load}
-use Rattle.pagable_laws.proofs.Words.{to_write, to_finish, to_set, Task, SameShelf, Seen, with_key, SetKeyCall, Site, GoesTo, first_todo, answer_after, Does, PinsAtOnce, IsPublished, next_start}
-use Rattle.pagable_laws.proofs.Words.{settle, give, give_known, with_changed_slot, with_outcome, Owns, WorkerAnswer, is_publishing, HasHandle, nothing_felt, WorkerNumber, Tree, Event, EventReply}
-use Rattle.pagable_laws.proofs.Words.{WorkerReply, Walking, World, Values, WorkerSteps, MachineState, world_of, IsMachineWhole, IsIdle, ReadsItsTypes, KeepsOpen, KeysAreReady, KeysHeld, WorkFits}
-use Rattle.pagable_laws.proofs.{Words.{new_walking, step_of, TableNumber}, Goes.{Goes, Kept, found-number, fell, goes-quiet, quiet-goes}, Outlasting.{stands-new, among-found, Stands, stands-whole}}
-use Rattle.pagable_laws.proofs.{Outlasting.{stands-alike, stands-fell}, Following.given-of, Answering.sets-key, Called.{pins, begin-goes}, Standing.{put-cases, is-same}, ReadingSteps.ends-quiet}
-use Rattle.pagable_laws.proofs.{ReadingSteps.{event-goes, works-free, walk-goes}, Stepping.keys-same, SparingSteps.{Spares, event-spares}, Trees.same_some, Coming.{updated-at, EventTurns, turns-keep}}
+use Rattle.pagable_laws.proofs.Words.{HandleRow, Owner, find_row, is_loose, fits_mode, has_key, Core, Cell, Todo, to_start, to_item, to_publish, to_release, row_at, type_at, row_of, CloneCall}
+use Rattle.pagable_laws.proofs.Words.{claim_fault, HandlesAreWhole, Change, StandsAt, KeyIsSet, Holds, AllHold, WaitsHeld, Ends, false, of_item, of_entry, ◌⊎◌, Option, OptionalDataKey, Pinning}
+use Rattle.pagable_laws.proofs.Words.{Beginning, Claim, PinStep, Took, Identity, NodeNumber, above, if_there, any_mode, identity_of, owner_worker, Shelf, Slot, no_result, published, to_pin, to_load}
+use Rattle.pagable_laws.proofs.Words.{to_write, to_finish, to_set, Task, SameShelf, Seen, with_key, SetKeyCall, Site, first_todo, Does, PinsAtOnce, IsPublished, next_start, give, give_known}
+use Rattle.pagable_laws.proofs.Words.{with_changed_slot, with_outcome, Owns, WorkerAnswer, HasHandle, nothing_felt, WorkerNumber, Tree, Event, EventReply, WorkerReply, Walking, World, Values}
+use Rattle.pagable_laws.proofs.{Words.{WorkerSteps, MachineState, world_of, IsMachineWhole, IsIdle, ReadsItsTypes, KeepsOpen, KeysAreReady, KeysHeld, WorkFits, step_of}, Goes.{Goes, found-number}}
+use Rattle.pagable_laws.proofs.{Goes.{fell, goes-quiet, quiet-goes}, Outlasting.{stands-new, among-found, Stands, stands-whole, stands-alike, stands-fell}, Following.given-of, Answering.sets-key}
+use Rattle.pagable_laws.proofs.{Called.{pins, begin-goes}, Standing.{put-cases, is-same}, ReadingSteps.{ends-quiet, event-goes, works-free, walk-goes}, Stepping.keys-same, SparingSteps.Spares}
+use Rattle.pagable_laws.proofs.{SparingSteps.event-spares, Trees.same_some, Coming.{StandsIn, updated-at, EventTurns, turns-keep}}
 use Rattle.{pagable_world.specs.Runs.Does as DoesMoment, std.proofs.Common.rules}
 
 -- ---- what stays
@@ -27,26 +27,26 @@ module _ {c : Change} {w w' : Core} (goes : Goes c w w') where
       record {
         given = let a = s.given in let b = goes.nodes in omega arith;
         keyed = λ cell live. elim (goes.cells n cell live) [
-          | inl k ↦ kept cell k (s.keyed k.was k.live)
+          | inl k ↦ elim k.key [ inl same ↦ ap has_key same ∙ s.keyed k.was k.live | inr (key, sets, is) ↦ ap has_key is ]
           | inr (next, bears) ↦ let a = s.given in absurd (omega arith)
         ];
       }
-    where
-      kept : (cell : Cell) (k : Kept c w n cell) → has_key k.was.key ≡ true → has_key cell.key ≡ true
-      kept cell k had = elim k.key [ inl same ↦ ap has_key same ∙ had | inr (key, sets, is) ↦ ap has_key is ]
 
-  holds-on : (x : Todo) → Holds w x → Holds w' x
-  holds-on (to_start r place) h = tt
-  holds-on (to_item written keys) h = tt
-  holds-on (to_publish r key height) h = λ kind. key-on (h kind)
-  holds-on (to_release r key height) h = tt
-  holds-on (to_fail fault back) h = tt
-  holds-on _ h = stands-on h
+  pub waits-on : (todo : List Todo) → WaitsHeld w todo → WaitsHeld w' todo
+  unfolding WaitsHeld
+  waits-on (to_finish o ∷ below) (h, waits) = (stands-on h, waits-on below waits)
+  waits-on (to_item written keys ∷ below) waits = waits-on below waits
+  waits-on x0 waits = grind (arith, nat_tests)
 
-  pub all-on : (todo : List Todo) → AllHold w todo → AllHold w' todo
+  -- where the worker keeps handles
+  pub all-on : (v : ℕ) → ((n : ℕ) → HasHandle w v n → HasHandle w' v n) → (todo : List Todo) → AllHold w v todo → AllHold w' v todo
   unfolding AllHold
-  all-on [] all = tt
-  all-on (x ∷ below) (h, quiet, all) = (holds-on x h, quiet, all-on below all)
+  all-on v keeps [] all = tt
+  all-on v keeps (x ∷ below) (h, waits) = (of x h, waits-on below waits)
+    where
+      of : (x : Todo) → Holds w v x → Holds w' v x
+      of (to_publish r key height) h = (λ kind. key-on (h.0 kind), keeps r.node.0 h.1)
+      of _ h = search (rules, stands-on)
 
 -- ---- what is claimed
 
@@ -94,34 +94,19 @@ module _ {w : Core} (whole : HandlesAreWhole w) where
 
 -- ---- lists
 
-module _ (w : Core) where
-  started : (place : ℕ) (rs : List ArcRef) (todo : List Todo) → is_publishing todo ≡ false → AllHold w todo → AllHold w (next_start place rs ++ todo)
+module _ (w : Core) (v : ℕ) where
+  started : (place : ℕ) (rs : List ArcRef) (x : Todo) (below : List Todo) → Holds w v x → WaitsHeld w below → WaitsHeld w (x ∷ below) → AllHold w v (next_start place rs ++ x ∷ below)
   unfolding AllHold
-  started place x1 todo quiet all = grind (arith, nat_tests)
+  started place [] x below h waits all = (h, waits)
+  started place (r ∷ rs) x below h waits all = (tt, all)
 
-  settled : (o : Open) (below : List Todo) → AllHold w (to_finish o ∷ below) → AllHold w (settle (to_finish o ∷ below))
-  settled o below all = started o.place (drop (length o.keys) o.written.references) (to_finish o ∷ below) refl all
+  given : (r : ArcRef) (key height : ℕ) (below : List Todo) → WaitsHeld w below → AllHold w v (give r key height below)
+  unfolding AllHold WaitsHeld
+  given r key height x3 waits = grind (arith, nat_tests, started, above)
 
-  given : (r : ArcRef) (key height : ℕ) (todo : List Todo) → AllHold w todo → AllHold w (give r key height todo)
-  unfolding AllHold
-  given r key height x3 all = grind (arith, nat_tests, settled, above, started)
-
-  known : (r : ArcRef) (key height : ℕ) (todo : List Todo) → AllHold w todo → AllHold w (give_known r key height todo)
-  unfolding AllHold
-  known r key height x3 all = grind (arith, nat_tests, given)
-
-  pub item-started : (written : Written) → AllHold w (settle (to_item written [] ∷ []))
-  unfolding AllHold
-  item-started written = started 0 (drop 0 written.references) (to_item written [] ∷ []) refl (tt, refl, tt)
-
-started-quiet : (place : ℕ) (rs : List ArcRef) (todo : List Todo) → is_publishing todo ≡ false → is_publishing (next_start place rs ++ todo) ≡ false
-started-quiet place x1 todo quiet = grind (arith, nat_tests)
-
-given-quiet : (r : ArcRef) (key height : ℕ) (todo : List Todo) → is_publishing todo ≡ false → is_publishing (give r key height todo) ≡ false
-given-quiet r key height x3 quiet = grind (arith, nat_tests, started-quiet)
-
-known-quiet : (r : ArcRef) (key height : ℕ) (todo : List Todo) → is_publishing todo ≡ false → is_publishing (give_known r key height todo) ≡ false
-known-quiet r key height x3 quiet = grind (arith, nat_tests, given-quiet)
+  known : (r : ArcRef) (key height : ℕ) (below : List Todo) → WaitsHeld w below → AllHold w v (give_known r key height below)
+  unfolding AllHold WaitsHeld
+  known r key height x3 waits = grind (arith, nat_tests, given)
 
 -- ---- keys that are set
 
@@ -169,33 +154,17 @@ module _ {N B W : Type 0} (m : Seen N B W) (v : ℕ) (s s' : Site) (whole : Hand
   abbrev pub KeyThere : Identity → Type 0
   KeyThere i = is_loose_kind i.kind.0 ≡ true → KeyIsSet s'.core i.node.0
 
-  -- what a step leaves to be held, of what node the worker has a handle where it publishes next, and which keys it makes known
-  pub record Leaves (step : Took W) : Type 0 where
-    pub all : AllHold s'.core s'.todo
-    pub front : (r : ArcRef) (key height : ℕ) (below : List Todo) → s'.todo ≡ to_publish r key height ∷ below → HasHandle s'.core v r.node.0 × (answer_after s.todo step ≡ None)
+  -- what a step leaves to be held, and which keys it makes known
+  pub record Leaves : Type 0 where
+    pub all : AllHold s'.core v s'.todo
     pub reveals : Reveals s.shelf s'.shelf KeyThere
 
-  leaves : {step : Took W} {next : List Todo} → s'.todo ≡ next → is_publishing next ≡ false → AllHold s'.core next → Reveals s.shelf s'.shelf KeyThere → Leaves step
-  leaves e quiet all reveals = grind (arith, nat_tests, is_publishing)
+  leaves : {next : List Todo} → s'.todo ≡ next → AllHold s'.core v next → Reveals s.shelf s'.shelf KeyThere → Leaves
+  leaves e all reveals = record { all = subst (λ x. AllHold s'.core v x) (sym e) all; reveals = reveals }
 
   -- the table stays
-  stays : {step : Took W} → ((i : Identity) → s'.shelf.slots i ≡ s.shelf.slots i) → {next : List Todo} → s'.todo ≡ next → is_publishing next ≡ false → AllHold s'.core next → Leaves step
-  stays same e quiet all = leaves e quiet all (same-reveals s.shelf s'.shelf KeyThere same)
-
-  -- a key is set, and is published next
-  sets : (i : Identity) (u : Unit {0}) (r : ArcRef) (through : HandleNumber) (key height : ℕ) (below : List Todo) → s.todo ≡ to_set r through key height ∷ below
-      → StandsAt s.core r through → SetKeyCall s.core (owner_worker v) through key (Ok u) s'.core
-      → GoesTo s (to_publish r key height ∷ below) s' → is_publishing below ≡ false → AllHold s'.core below → Leaves (Took.SetKey i (Ok u))
-  unfolding AllHold
-  sets i u r through key height below e stands call t quiet all =
-      record {
-        all = subst (λ x. AllHold s'.core x) (sym t.list_is) (key-set v r through key u stands call, quiet, all);
-        front = λ r2 k2 h2 b2 is. (
-          (let e = sym t.list_is ∙ is in let f : r ≡ r2 = cc in subst (λ (x : ArcRef). HasHandle s'.core v x.node.0) f (still-held v r through key u whole stands call)),
-          ap (λ x. let P : Took W → Option WorkerAnswer = answer_after x in P (Took.SetKey i (Ok u))) e,
-        );
-        reveals = same-reveals s.shelf s'.shelf KeyThere t.table_stays.slots;
-      }
+  stays : ((i : Identity) → s'.shelf.slots i ≡ s.shelf.slots i) → {next : List Todo} → s'.todo ≡ next → AllHold s'.core v next → Leaves
+  stays same e all = leaves e all (same-reveals s.shelf s'.shelf KeyThere same)
 
   pinned-stands : (r : ArcRef) (through k : HandleNumber) → StandsAt s.core r r.handle → PinsAtOnce s.core (owner_worker v) r through k s'.core → StandsAt s'.core r through
   pinned-stands r through k stands does = elim does [
@@ -203,35 +172,35 @@ module _ {N B W : Type 0} (m : Seen N B W) (v : ℕ) (s s' : Site) (whole : Hand
     | inr (row, (mid, clone, pin)) ↦ stands-on (pins {lists = false} {Asks = Unit {0}} {Leaves = Unit {0}} {c = nothing_felt} (works-free v) (Ok (Pinning.Pinned k)) pin).goes (clone-stands whole r through stands clone)
   ]
 
-  stepped : {c : Change} (todo : List Todo) (step : Took W) → s.todo ≡ todo → Does m v s todo step s' → Goes c s.core s'.core → AllHold s.core todo → Leaves step
-  unfolding AllHold
-  stepped (to_start r place ∷ below) (Took.Claim i (Ok Claim.Claimed)) e (is, c) f (h, quiet, all) =
+  stepped : {c : Change} (todo : List Todo) (step : Took W) → s.todo ≡ todo → Does m v s todo step s' → Goes c s.core s'.core → AllHold s.core v todo → Leaves
+  unfolding AllHold WaitsHeld
+  stepped (to_start r place ∷ below) (Took.Claim i (Ok Claim.Claimed)) e (is, c) f (h, waits) =
       let t = c.finds.1.2 in
       let new : Slot = record { worker = v; written = None; outcome = no_result } in
-      leaves t.list_is refl (stands-on f (claimed-stands whole r c.finds.0), quiet, all-on f below all)
-      (grind (arith, put-cases, known))
-  stepped (to_start r place ∷ below) (Took.Claim i (Ok (Claim.Known key height))) e (is, c) f (h, quiet, all) = let t = c.finds.1.2 in
-      stays t.table_is.slots t.list_is (known-quiet r key height below quiet) (known s'.core r key height below (all-on f below all))
-  stepped (to_start r place ∷ below) (Took.Claim i (Ok Claim.Waiting)) e (is, c) f (h, quiet, all) = let t = c.finds.1.2 in stays t.table_is.slots (t.list_is ∙ e) refl (tt, quiet, all-on f below all)
-  stepped (to_pin r place ∷ below) (Took.Pin i (Ok (PinStep.Held k))) e (is, p) f (h, quiet, all) = let t = p.pins.2 in
-      stays t.table_stays.slots t.list_is refl (pinned-stands r p.pins.0 k h p.pins.1, quiet, all-on f below all)
-  stepped (to_pin r place ∷ below) (Took.Pin i (Ok (PinStep.LoadBegun l))) e (is, p) f (h, quiet, all) = let t = p.pins.2 in
-      stays t.table_stays.slots t.list_is refl (stands-on (begin-goes (Ok (Beginning.Load l p.pins.1.1.1)) p.pins.1.1.3) (clone-stands whole r p.pins.0 h p.pins.1.1.2), quiet, all-on f below all)
-  stepped (to_load r place through reading ∷ below) (Took.Pin i (Ok (PinStep.Held k))) e (is, p) f (h, quiet, all) = let t = p.goes.1 in
-      stays t.table_stays.slots t.list_is refl (stands-on f h, quiet, all-on f below all)
-  stepped (to_load r place through reading ∷ below) (Took.Pin i (Ok PinStep.LoadWent)) e (is, p) f (h, quiet, all) = let t = p.goes.2 in
-      stays t.table_stays.slots t.list_is refl (stands-on f h, quiet, all-on f below all)
-  stepped (to_write r place through ∷ below) (Took.Write i (Ok out)) e (is, p) f (h, quiet, all) =
+      leaves t.list_is (stands-on f (claimed-stands whole r c.finds.0), waits-on f below waits) (grind (arith, put-cases, known))
+  stepped (to_start r place ∷ below) (Took.Claim i (Ok (Claim.Known key height))) e (is, c) f (h, waits) = let t = c.finds.1.2 in
+      stays t.table_is.slots t.list_is (known s'.core v r key height below (waits-on f below waits))
+  stepped (to_start r place ∷ below) (Took.Claim i (Ok Claim.Waiting)) e (is, c) f (h, waits) = let t = c.finds.1.2 in stays t.table_is.slots (t.list_is ∙ e) (tt, waits-on f below waits)
+  stepped (to_pin r place ∷ below) (Took.Pin i (Ok (PinStep.Held k))) e (is, p) f (h, waits) = let t = p.pins.2 in
+      stays t.table_stays.slots t.list_is (pinned-stands r p.pins.0 k h p.pins.1, waits-on f below waits)
+  stepped (to_pin r place ∷ below) (Took.Pin i (Ok (PinStep.LoadBegun l))) e (is, p) f (h, waits) = let t = p.pins.2 in
+      stays t.table_stays.slots t.list_is (stands-on (begin-goes (Ok (Beginning.Load l p.pins.1.1.1)) p.pins.1.1.3) (clone-stands whole r p.pins.0 h p.pins.1.1.2), waits-on f below waits)
+  stepped (to_load r place through reading ∷ below) (Took.Pin i (Ok (PinStep.Held k))) e (is, p) f (h, waits) = let t = p.goes.1 in
+      stays t.table_stays.slots t.list_is (stands-on f h, waits-on f below waits)
+  stepped (to_load r place through reading ∷ below) (Took.Pin i (Ok PinStep.LoadWent)) e (is, p) f (h, waits) = let t = p.goes.2 in
+      stays t.table_stays.slots t.list_is (stands-on f h, waits-on f below waits)
+  stepped (to_write r place through ∷ below) (Took.Write i (Ok out)) e (is, p) f (h, waits) =
       let t = p.writes in
-      leaves t.list_is (started-quiet place (m.written_of out).references _ refl)
-      (settled s'.core (record { reference = r; place = place; through = through; written = m.written_of out; keys = []; height = 0 }) below (stands-on f h, quiet, all-on f below all))
+      leaves t.list_is
+      (started s'.core v place (m.written_of out).references _ below (stands-on f h) (waits-on f below waits) (stands-on f h, waits-on f below waits))
       (changed-reveals s.shelf s'.shelf KeyThere (identity_of r) (λ slot. record slot { written = Some (m.written_of out) }) t.table_is (λ old key height is. inl is))
-  stepped (to_finish o ∷ below) (Took.Store i (Ok key)) e (is, p) f (h, quiet, all) = let t = p.goes in stays t.table_stays.slots t.list_is refl (stands-on f h, quiet, all-on f below all)
-  stepped (to_set r through key height ∷ below) (Took.SetKey i (Ok u)) e (is, p) f (h, quiet, all) = sets i u r through key height below e h p.sets p.goes quiet (all-on f below all)
-  stepped (to_publish r key height ∷ below) (Took.Publish i k q) e (is, same_key, same_height, t) f (h, quiet, all) =
-      leaves t.list_is refl (tt, quiet, all-on f below all) (changed-reveals s.shelf s'.shelf KeyThere (identity_of r) (with_outcome (published key height)) t.table_is (λ old k2 h2 known. inr (λ kind. key-on f (h kind))))
-  stepped (to_release r key height ∷ below) (Took.Release i) e (is, falls, t) f (h, quiet, all) = stays t.table_stays.slots t.list_is (given-quiet r key height below quiet)
-      (given s'.core r key height below (all-on f below all))
+  stepped (to_finish o ∷ below) (Took.Store i (Ok key)) e (is, p) f (h, waits) = let t = p.goes in stays t.table_stays.slots t.list_is (stands-on f h, waits-on f below waits)
+  stepped (to_set r through key height ∷ below) (Took.SetKey i (Ok u)) e (is, p) f (h, waits) = let t = p.goes in
+      stays t.table_stays.slots t.list_is ((key-set v r through key u h p.sets, still-held v r through key u whole h p.sets), waits-on f below waits)
+  stepped (to_publish r key height ∷ below) (Took.Publish i k q) e (is, same_key, same_height, t) f (h, waits) =
+      leaves t.list_is (tt, waits-on f below waits)
+      (changed-reveals s.shelf s'.shelf KeyThere (identity_of r) (with_outcome (published key height)) t.table_is (λ old k2 h2 known. inr (λ kind. key-on f (h.0 kind))))
+  stepped (to_release r key height ∷ below) (Took.Release i) e (is, falls, t) f (h, waits) = stays t.table_stays.slots t.list_is (given s'.core v r key height below (waits-on f below waits))
   stepped _ step e does f all = grind (arith, nat_tests, stays, leaves, of-some, known)
 
 -- ---- together
@@ -240,7 +209,7 @@ module _ {N B W : Type 0} (m : Seen N B W) (v : ℕ) (s s' : Site) (whole : Hand
 
 -- it is so where nobody works yet
 pub held-at-first : {N E : Type 0} (s : MachineState N E) → IsIdle s → KeysHeld (world_of s)
-held-at-first s idle = record { walks = λ n walking is. let f = idle.walkings n in absurd (cc); publishing = λ n walking r key height below is front. let f = idle.walkings n in absurd (cc); slots = λ t i key height p kind. let f = p.claimed in let g = idle.shelves t i in absurd (cc) }
+held-at-first s idle = record { walks = λ n walking is. let f = idle.walkings n in absurd (cc); slots = λ t i key height p kind. let f = p.claimed in let g = idle.shelves t i in absurd (cc) }
 
 -- a handle that a step spares is there still
 handle-on : {w w' : Core} {v n : ℕ} → HandlesAreWhole w → Spares (owner_worker v) w w' → HasHandle w v n → HasHandle w' v n
@@ -250,18 +219,14 @@ module _ {N B W : Type 0} (m : Seen N B W) (u u' : World) {c : Change} (goes : G
   abbrev SlotsHeld : Shelf → Type 0
   SlotsHeld shelf = (i : Identity) (key height : ℕ) → IsPublished shelf i key height → is_loose_kind i.kind.0 ≡ true → KeyIsSet u'.core i.node.0
 
-  abbrev WalkHolds : ℕ → Walking → Type 0
-  WalkHolds n w = AllHold u'.core w.todo × ((r : ArcRef) (key height : ℕ) (below : List Todo) → w.todo ≡ to_publish r key height ∷ below → HasHandle u'.core n r.node.0)
+  first-hold : (n : ℕ) (task : Task) → AllHold u'.core n (first_todo task)
+  unfolding AllHold WaitsHeld
+  first-hold n (of_item written) = started u'.core n 0 written.references (to_item written []) [] tt tt tt
+  first-hold n (of_entry h i) = (tt, tt)
 
-  first-hold : (task : Task) → AllHold u'.core (first_todo task)
+  a-step : StandsIn u' → (k : WorkerNumber) (r : WorkerReply W) (s : WorkerSteps m u k r u') → SlotsHeld s.after.shelf × AllHold u'.core k.0 s.after.todo
   unfolding AllHold
-  first-hold x0 = grind (arith, nat_tests, item-started)
-
-  first-holds : (n : ℕ) (t : TableNumber) (task : Task) → WalkHolds n (new_walking t task)
-  first-holds n t task = (first-hold task, λ r key height below front. let f : true ≡ false = sym (ap is_publishing front) ∙ (grind (arith, nat_tests, started-quiet)) in absurd (cc))
-
-  a-step : (k : WorkerNumber) (r : WorkerReply W) (s : WorkerSteps m u k r u') → SlotsHeld s.after.shelf × WalkHolds k.0 (record s.walking { todo = s.after.todo; steps = r.steps; answer = r.answer })
-  a-step k r s =
+  a-step work k r s =
       let w : Walking = s.walking in
       let site : Site = record { core = u.core; shelf = u.work.shelves w.table; todo = w.todo } in
       let l = stepped m k.0 site s.after whole w.todo r.took refl s.does.does (walk-goes m k.0 site s.after w.todo r.took s.does.does).goes (held.walks k.0 w s.at) in
@@ -270,28 +235,34 @@ module _ {N B W : Type 0} (m : Seen N B W) (u u' : World) {c : Change} (goes : G
           | inl was ↦ key-on goes (held.slots w.table i key height was kind)
           | inr set ↦ key-on ends (set kind)
         ],
-        (all-on ends s.after.todo l.all, λ q key height below is. mine (l.front q key height below is)),
+        after (all-on ends) l.all r.answer s.ends refl,
       )
     where
-      -- its answer is none yet, so what it has stays
-      mine : {n : ℕ} → HasHandle s.after.core k.0 n × (answer_after s.walking.todo r.took ≡ None) → HasHandle u'.core k.0 n
-      mine f = grind (arith, nat_tests, find_row)
+      now : Walking
+      now = record s.walking { todo = s.after.todo; steps = r.steps; answer = r.answer }
 
-  keys-hold : (event : Event N B W) (reply : EventReply N B W) → EventTurns m u event reply u' → ((n : ℕ) → step_of n event reply ≡ [] → Spares (owner_worker n) u.core u'.core) → KeysHeld u'
-  keys-hold event reply turns spares =
-      let h = turns-keep m turns SlotsHeld (λ n shelf w. WalkHolds n w) (λ a b same slots i key height p. slots i key height (keys-same (λ j. sym (same j)) i key height p))
+      -- where it has answered nothing is left to be done, and where it hasn't it keeps what it has
+      after : ((v : ℕ) → ((n : ℕ) → HasHandle s.after.core v n → HasHandle u'.core v n) → (todo : List Todo) → AllHold s.after.core v todo → AllHold u'.core v todo)
+          → AllHold s.after.core k.0 s.after.todo → (a : Option WorkerAnswer) → Ends a k.0 s.after.core u'.core → r.answer ≡ a → AllHold u'.core k.0 s.after.todo
+      after on all None e none = on k.0 (λ n h. (grind (arith, nat_tests, find_row))) s.after.todo all
+      after on all (Some a) e is =
+          subst (λ todo. AllHold u'.core k.0 todo) (sym ((work.workers k.0 now (s.work.same_walkings k.0 ∙ updated-at k.0 (Some now) u.work.walkings)).done a is)) tt
+
+  keys-hold : (event : Event N B W) (reply : EventReply N B W) → EventTurns m u event reply u' → StandsIn u' → ((n : ℕ) → step_of n event reply ≡ [] → Spares (owner_worker n) u.core u'.core)
+      → KeysHeld u'
+  keys-hold event reply turns work spares =
+      let h = turns-keep m turns SlotsHeld (λ n shelf w. AllHold u'.core n w.todo) (λ a b same slots i key height p. slots i key height (keys-same (λ j. sym (same j)) i key height p))
       (λ a b more slots n w all. all)
       (λ t shelf more same i key height p kind. key-on goes (held.slots t i key height (keys-same (λ j. sym (same j)) i key height p) kind))
-      (λ n w none there. (all-on goes w.todo (held.walks n w there), λ r key height below front. handle-on whole (spares n none) (held.publishing n w r key height below there front)))
-      (λ n shelf t task. first-holds n t task) (λ k r s one more. a-step k r s) in
-      record { walks = λ n w there. (h.walks n w there).0; publishing = λ n w r key height below there. (h.walks n w there).1 r key height below; slots = h.slots }
+      (λ n w none there. all-on goes n (λ q. handle-on whole (spares n none)) w.todo (held.walks n w there)) (λ n shelf t task. first-hold n task) (λ k r s one more. a-step work k r s) in
+      record { walks = h.walks; slots = h.slots }
 
 -- and after each event of a whole machine that doesn't close the storage
 pub held-on : {N B W E : Type 0} (m : Seen N B W) (s s' : MachineState N E) (event : Event N B W) (reply : EventReply N B W) → EventTurns m (world_of s) event reply (world_of s')
-    → IsMachineWhole m.values s → KeepsOpen event → DoesMoment m s event reply s' → KeysHeld (world_of s) → KeysHeld (world_of s')
-held-on m s s' event reply turns whole stays does held =
+    → IsMachineWhole m.values s → KeepsOpen event → DoesMoment m s event reply s' → StandsIn (world_of s') → KeysHeld (world_of s) → KeysHeld (world_of s')
+held-on m s s' event reply turns whole stays does work held =
     let happens = does.step.happens in
-    keys-hold m (world_of s) (world_of s') (event-goes m (world_of s) (world_of s') event reply stays happens).goes held whole.pager.whole.handles event reply turns
+    keys-hold m (world_of s) (world_of s') (event-goes m (world_of s) (world_of s') event reply stays happens).goes held whole.pager.whole.handles event reply turns work
     (λ n others. event-spares m n (world_of s) (world_of s') whole.pager.whole.owners_there event reply others stays happens)
 
 -- ---- what is set

@@ -1,7 +1,7 @@
 -- Each stage once: what is still to be done of it, with what was done, is at most what was claimed.
 use Rattle.pagable_laws.proofs.Words.{◌≡◌, ℕ, ◌+◌, ◌≤◌, ◌==◌, ◌&&◌, Bool, List, [], ◌∷◌, ◌++◌, refl, sym, subst, arith, Ok, Err, Some, nat_le, nat_tests, sum_by-cons, ArcRef, Identity, one, times}
 use Rattle.pagable_laws.proofs.Words.{Claim, PinStep, Took, identity_of, Open, Todo, to_start, to_pin, to_load, to_write, to_finish, to_item, to_set, to_publish, to_release, to_fail, Fault, Option}
-use Rattle.pagable_laws.proofs.Words.{HandleNumber, false, Task, Written, is_identity, next_start, give, first_todo, Follows, Leads, InOrder, OnceEach, is_claim_of, is_later_of}
+use Rattle.pagable_laws.proofs.{Words.{HandleNumber, false, Task, Written, is_identity, next_start, give, first_todo, Follows, Leads, InOrder, OnceEach, is_claim_of, is_later_of}, Standing.AllWait}
 
 -- ---- numbers
 
@@ -25,18 +25,11 @@ left k i (to_publish r key height) = from k 5 (is_identity i (identity_of r))
 left k i (to_release r key height) = from k 6 (is_identity i (identity_of r))
 left k i _ = 0
 
--- what waits below: nodes, and an item
-unfoldable OnlyWaits : List Todo → Type 0
-OnlyWaits [] = Unit {0}
-OnlyWaits (to_finish o ∷ below) = OnlyWaits below
-OnlyWaits (to_item written keys ∷ below) = OnlyWaits below
-OnlyWaits _ = ⊥
-
 -- something is done above what waits, and a reference is started for what waits for it
 abbrev IsWay : List Todo → Type 0
 IsWay [] = Unit {0}
 IsWay (to_start r place ∷ []) = ⊥
-IsWay (x ∷ below) = OnlyWaits below
+IsWay (x ∷ below) = AllWait below
 
 module _ (k : ℕ) (i : Identity) where
   unfoldable all-left : List Todo → ℕ
@@ -48,17 +41,17 @@ module _ (k : ℕ) (i : Identity) where
     same : all-left todo ≡ n
     way : IsWay todo
 
-  started-node : (place : ℕ) (rs : List ArcRef) (o : Open) (below : List Todo) → OnlyWaits below → Keeps (all-left (to_finish o ∷ below)) (next_start place rs ++ to_finish o ∷ below)
-  unfolding OnlyWaits all-left
+  started-node : (place : ℕ) (rs : List ArcRef) (o : Open) (below : List Todo) → AllWait below → Keeps (all-left (to_finish o ∷ below)) (next_start place rs ++ to_finish o ∷ below)
+  unfolding AllWait all-left
   started-node place x1 o below more = grind (arith, nat_tests, plus-none)
 
-  started-item : (place : ℕ) (rs : List ArcRef) (written : Written) (keys : List ℕ) (below : List Todo) → OnlyWaits below
+  started-item : (place : ℕ) (rs : List ArcRef) (written : Written) (keys : List ℕ) (below : List Todo) → AllWait below
       → Keeps (all-left below) (next_start place rs ++ to_item written keys ∷ below)
-  unfolding OnlyWaits all-left
+  unfolding AllWait all-left
   started-item place x1 written keys below more = grind (arith, nat_tests, plus-none)
 
-  given : (r : ArcRef) (key height : ℕ) (below : List Todo) → OnlyWaits below → Keeps (all-left below) (give r key height below)
-  unfolding OnlyWaits all-left
+  given : (r : ArcRef) (key height : ℕ) (below : List Todo) → AllWait below → Keeps (all-left below) (give r key height below)
+  unfolding AllWait all-left
   given r key height x3 waits = grind (arith, nat_tests, started-node)
 
   -- whether the reference is of the identity
@@ -83,12 +76,12 @@ module _ (k : ℕ) (i : Identity) where
     way : IsWay next
 
   failed : {next : List Todo} {fault : Fault} {back : Option HandleNumber} (todo : List Todo) → next ≡ to_fail fault back ∷ [] → Goes false false todo next
-  unfolding OnlyWaits all-left
+  unfolding AllWait all-left
   failed todo e = rw e (record { less = omega arith; way = tt })
 
   module _ {W : Type 0} (f : W → Written) where
     goes : (todo : List Todo) (step : Took W) (next : List Todo) → IsWay todo → Follows f todo step next → Goes (is_later_of k i step) (is_claim_of i step) todo next
-    unfolding OnlyWaits all-left
+    unfolding AllWait all-left
     goes (to_start r place ∷ []) step next way follows = absurd way
     goes (to_start r place ∷ x ∷ xs) (Took.Claim j (Ok Claim.Claimed)) next way (is, e) = rw (is, e) (record { less = claims-it r (all-left (x ∷ xs)); way = way })
     goes (to_start r place ∷ x ∷ xs) (Took.Claim j (Ok (Claim.Known key height))) next way (is, e) = grind (arith, nat_tests, given)
@@ -140,7 +133,7 @@ module _ (k : ℕ) (i : Identity) where
 
     -- the entry of a listed cell, which may be known already
     entry : (r : ArcRef) (place : ℕ) (steps : List (Took W)) (last : List Todo) → Leads f (to_start r place ∷ []) steps last → times (is_claim_of i) steps ≤ 1 → times (is_later_of k i) steps ≤ 1
-    unfolding OnlyWaits all-left
+    unfolding AllWait all-left
     entry r place [] last leads few = omega arith
     entry r place (Took.Claim j (Ok Claim.Claimed) ∷ steps) last (mid, (is, e), leads) few =
         let few_left : one (at r) + times (is_claim_of i) steps ≤ 1 = subst (λ j. one (is_identity i j) + times (is_claim_of i) steps ≤ 1) is
@@ -154,7 +147,7 @@ module _ (k : ℕ) (i : Identity) where
     entry r place (step ∷ steps) last (mid, follows, leads) few = absurd follows
 
     at-once : (task : Task) (steps : List (Took W)) (last : List Todo) → Leads f (first_todo task) steps last → times (is_claim_of i) steps ≤ 1 → times (is_later_of k i) steps ≤ 1
-    unfolding OnlyWaits all-left
+    unfolding AllWait all-left
     at-once x0 steps last leads few = grind (arith, nat_tests, started-item, bounded, along, plus-none, entry)
 
 -- what the automaton accepts, with no identity claimed twice, has each stage at most once after its claim

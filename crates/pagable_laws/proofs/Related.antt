@@ -181,7 +181,7 @@ module _ {A B : Type 0} {F : Type 0} {R : A → B → Type 0} where
   entries-two no-two = none-along
   entries-two (more-two e f es fs h g) = pair-along _ _ _ _ (pair-along _ _ _ _ h.key h.value) (entries-two g)
 
-  sorted-two : (order : KeyOrder) {es : List (Entry A)} {fs : List (Entry B)} → AllTwo (EntryAlong F R) es fs
+  pub sorted-two : (order : KeyOrder) {es : List (Entry A)} {fs : List (Entry B)} → AllTwo (EntryAlong F R) es fs
       → Along F R (of_entries (put_all (put_sorted order) [] es)) (of_entries (put_all (put_sorted order) [] fs))
   sorted-two order h = entries-two (put_all-two _ _ one-two (λ x u y w acc acc2 v g k l. search (rules, more-two, plain-along)) h no-two)
 
@@ -342,7 +342,7 @@ pub data OutLook {A B : Type 0} (E : Error → Type 0) (R : A → B → Type 0) 
   both-not : (e : Error) → OutLook E R (Err e) (Err e)
   first-not : (e : Error) (r : Result B Error) → E e → OutLook E R (Err e) r
 
-flag-same : {C D F : Type 0} {R : C → D → Type 0} (b : Bool) → Along F R (meanings.flag b) (meanings.flag b)
+pub flag-same : {C D F : Type 0} {R : C → D → Type 0} (b : Bool) → Along F R (meanings.flag b) (meanings.flag b)
 flag-same x0 = grind (arith, nat_tests, variant-along, none-along)
 
 -- readers of parts below that are related

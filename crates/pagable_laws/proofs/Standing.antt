@@ -131,13 +131,12 @@ is_open_in i (x ∷ todo) = is_open_of i x || is_open_in i todo
 unfoldable pub AllWait : List Todo → Type 0
 AllWait [] = Unit {0}
 AllWait (to_finish o ∷ below) = AllWait below
-AllWait (to_item written keys ∷ below) = Unit {0}
+AllWait (to_item written keys ∷ below) = AllWait below
 AllWait (x ∷ below) = ⊥
 
 -- below what is done next they do, so that no load comes to the front when that is done
 abbrev pub WaitsWell : List Todo → Type 0
 WaitsWell [] = Unit {0}
-WaitsWell (to_item written keys ∷ below) = Unit {0}
 WaitsWell (to_fail fault back ∷ below) = Unit {0}
 WaitsWell (x ∷ below) = AllWait below
 
@@ -360,17 +359,13 @@ module _ (v : ℕ) (task : Task) (shelf shelf' : Shelf) where
         below-stays (identity_of r) new-slot below puts changes free rest,
       ) (grind (arith, nat_tests, put-cases, identity_of, new-slot, open-self, is_open_in, or_right, is_identity))
 
-  -- a worker's own open slot
-  abbrev wrote : Slot → Written → Slot
-  wrote slot written = record slot { written = Some written }
-
   -- the value is written
   pub written-goes : (r : ArcRef) (place : ℕ) (through : HandleNumber) (written : Written) (below : List Todo) → AllStand shelf v task (to_write r place through ∷ below)
       → CoversBy v task shelf (to_write r place through ∷ below)
       → SameShelf (with_changed_slot shelf (identity_of r) (λ slot. record slot { written = Some written })) shelf' → Goes v task shelf None shelf' (open_node r place through written below)
   unfolding AllStand is_open_in
   written-goes r place through written below ((meets, c), apart, rest) covers same =
-      let new : Slot = wrote c.slot written in
+      let new : Slot = record c.slot { written = Some written } in
       let puts : PutsSlot shelf.slots shelf'.slots (identity_of r) new = changes-slot shelf shelf' (identity_of r) c.slot (λ slot. record slot { written = Some written }) c.claimed same in
       let changes : Changes v shelf shelf' = puts-own v shelf shelf' (identity_of r) c.slot new puts c.claimed c.own (grind (arith, nat_tests, some-none)) in
       let meets_now : Meets shelf' task (identity_of r) = meets-grow shelf shelf' task (identity_of r) (grows v shelf shelf' changes) meets in
@@ -406,14 +401,11 @@ module _ (v : ℕ) (task : Task) (shelf shelf' : Shelf) where
       record {
         changes = fails-own v shelf shelf' same;
         all = tt;
-        covers = λ i slot there own still. let a = all-failed v shelf shelf' same i slot there own in absurd (closed slot a still);
+        covers = λ i slot there own still. true-false (ap is_open_outcome still) (all-failed v shelf shelf' same i slot there own);
         unfailed = λ nothing clean. absurd (cc);
         done = λ a is. refl;
         met = λ i slot none there. some-none there ((same.slots i ∙ ap (λ o. if_there (λ (slot : Slot). Some (if nat_eq slot.worker v then with_outcome failed slot else slot)) None o) none));
       }
-    where
-      closed : (slot : Slot) → is_open_outcome slot.outcome ≡ false → slot.outcome ≡ no_result → ⊥
-      closed slot a still = let b = ap is_open_outcome still in true-false b a
 
 -- What stands of all workers and tables goes on to stand, by what an event does to them.
 

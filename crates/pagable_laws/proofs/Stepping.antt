@@ -1,15 +1,14 @@
 -- What tables and to-do lists hold of trees goes on as long as what is stored and each node's tree stay; and what a change of a table comes to.
-use Rattle.pagable_laws.proofs.Words.{nat_tests, ◌≡◌, ℕ, ◌≤◌, Bool, List, [], ◌∷◌, inl, inr, Option, Some, None, if◌then◌else◌, refl, sym, ap, subst, ◌∙◌, arith, nat_eq, KeyRef, IsFollowed}
-use Rattle.pagable_laws.proofs.Words.{number-followed, integer-followed, text-followed, pattern-followed, none-followed, pair-followed, variant-followed, reference-followed, ArcRef, Identity, Blob}
-use Rattle.pagable_laws.proofs.Words.{Meaning, Tree, Among, if_there, identity_of, Shelf, Slot, failed, Written, Todo, to_finish, Task, Values, IsPublished, is_open_outcome, with_outcome, with_failed}
-use Rattle.pagable_laws.proofs.Words.{AreKeysOf, Ground, FollowsTo, number-follows, integer-follows, text-follows, pattern-follows, none-follows, pair-follows, variant-follows, reference-follows}
-use Rattle.pagable_laws.proofs.Words.{WroteTree, KeyStands, BlobStands, SlotFits, KeysSoFar, Waits, Above, HasBlob, Walks, SlotsFit, ◌==◌, true, ◌++◌, length, Ok, drop, blob_of, HandleNumber, type_of}
-use Rattle.pagable_laws.proofs.Words.{Claim, Took, no_result, published, Open, Fault, to_start, to_write, to_item, to_set, to_publish, to_release, to_fail, Seen, digest, Stores, Site, Does}
-use Rattle.pagable_laws.proofs.Words.{claim_fault, next_start, give, give_known, open_node, with_wait, answer_after, Expects, Event, EventReply, of_item, of_entry, IsLawful, first_todo, Ends, step_of}
-use Rattle.pagable_laws.proofs.Words.{PagerState, MachineState, world_of, IsMachineWhole, IsIdle, Represents, TookWrites, ReplyWrites, HoldsSettled, ReadsItsTypes, ground_of, WorkFits, IsDone, AllLow}
-use Rattle.pagable_laws.proofs.{Words.{IsLow, IsAttained, Placed, HasRoom, is_eager, longest_path, max, above, suc, ◌+◌}, Standing.{ShelfGrows, some-same, published-stays, PutsSlot, put-cases}}
-use Rattle.pagable_laws.proofs.{Standing.{puts-slot, changes-slot, HasClaim, AllStand}, Following.{IdentityStands, key-stands, wrote}, Coming.{StandsIn, EventTurns, same-grow, turns-grow, turns-keep}}
-use Rattle.std.proofs.Common.{rules}
+use Rattle.pagable_laws.proofs.Words.{nat_tests, ◌≡◌, ℕ, ◌≤◌, Bool, List, [], ◌∷◌, inl, inr, Option, Some, None, if◌then◌else◌, refl, sym, ap, subst, ◌∙◌, arith, nat_eq, ArcRef, Identity, Blob, Tree}
+use Rattle.pagable_laws.proofs.Words.{Among, identity_of, Shelf, Slot, failed, Written, Todo, to_finish, Task, Values, IsPublished, is_open_outcome, with_outcome, with_failed, AreKeysOf, Ground}
+use Rattle.pagable_laws.proofs.Words.{FollowsTo, WroteTree, KeyStands, BlobStands, SlotFits, KeysSoFar, Waits, Above, HasBlob, Walks, SlotsFit, ◌==◌, true, ◌++◌, length, Ok, drop, blob_of}
+use Rattle.pagable_laws.proofs.Words.{HandleNumber, type_of, Claim, Took, no_result, published, Open, Fault, to_start, to_write, to_item, to_set, to_publish, to_release, to_fail, Seen, digest, Stores}
+use Rattle.pagable_laws.proofs.Words.{Site, Does, claim_fault, next_start, give, give_known, open_node, with_wait, answer_after, Expects, Event, EventReply, of_item, of_entry, IsLawful, first_todo}
+use Rattle.pagable_laws.proofs.Words.{Ends, step_of, PagerState, MachineState, world_of, IsMachineWhole, IsIdle, Represents, TookWrites, ReplyWrites, HoldsSettled, ReadsItsTypes, ground_of, WorkFits}
+use Rattle.pagable_laws.proofs.{Words.{IsDone, AllLow, IsLow, IsAttained, Placed, HasRoom, is_eager, longest_path, max, above, suc, ◌+◌}, Standing.{ShelfGrows, some-same, published-stays, PutsSlot}}
+use Rattle.pagable_laws.proofs.{Standing.{put-cases, puts-slot, changes-slot, HasClaim, AllStand}, Following.{IdentityStands, key-stands, leads-on, wrote}, Coming.{StandsIn, EventTurns, same-grow}}
+use Rattle.pagable_laws.proofs.Coming.{turns-grow, turns-keep}
+use Rattle.{pagable_laws.proofs.Trees.followed-all, std.proofs.Common.rules}
 
 -- ---- what is stored stays, and each node keeps its tree
 
@@ -21,19 +20,6 @@ pub record GroundGoes (g g' : Ground) : Type 0 where
 -- keys that are known stay known
 abbrev pub KeepsKeys : Shelf → Shelf → Type 0
 KeepsKeys shelf shelf' = (i : Identity) (key height : ℕ) → IsPublished shelf i key height → IsPublished shelf' i key height
-
-followed-on : {P Q : ℕ → ℕ → Meaning KeyRef → Type 0} → ((t k : ℕ) (m : Meaning KeyRef) → P t k m → Q t k m) → {x : Meaning KeyRef} {a : Meaning ⊥} → IsFollowed P x a → IsFollowed Q x a
-followed-on to (pair-followed x y a b h g) = pair-followed x y a b (followed-on to h) (followed-on to g)
-followed-on to (variant-followed n x a h) = variant-followed n x a (followed-on to h)
-followed-on to (reference-followed r x a p h) = reference-followed r x a (to _ _ x p) (followed-on to h)
-followed-on to x0 = grind (arith, nat_tests, number-followed, integer-followed, text-followed, pattern-followed, none-followed)
-
-follows-on : {trees trees' : ℕ → Tree} {rs : List ArcRef} → ((r : ArcRef) → Among rs r → trees' r.node.0 ≡ trees r.node.0) → {x : Meaning ArcRef} {a : Meaning ⊥}
-    → FollowsTo trees rs x a → FollowsTo trees' rs x a
-follows-on same (pair-follows x y a b h g) = pair-follows x y a b (follows-on same h) (follows-on same g)
-follows-on same (variant-follows i x a h) = variant-follows i x a (follows-on same h)
-follows-on same (reference-follows r a among is) = reference-follows r a among (ap (λ (t : Tree). t.meaning) (same r among) ∙ is)
-follows-on same x0 = grind (arith, nat_tests, number-follows, integer-follows, text-follows, pattern-follows, none-follows)
 
 module _ {shelf shelf' : Shelf} (keys : KeepsKeys shelf shelf') where
   pub keys-on : (rs : List ArcRef) (ks : List ℕ) → AreKeysOf shelf rs ks → AreKeysOf shelf' rs ks
@@ -58,14 +44,14 @@ module _ {shelf shelf' : Shelf} (keys : KeepsKeys shelf shelf') where
 
 module _ {N : Type 0} (v : Values N) {g g' : Ground} (goes : GroundGoes g g') where
   stands-on : {t : Tree} {key : ℕ} → KeyStands v g.stored t key → KeyStands v g'.stored t key
-  stands-on {t} {key} h = search (rules, followed-on)
+  stands-on {t} {key} h = search (rules, followed-all)
 
   pub wrote-on : {n : ℕ} {written : Written} → n ≤ g.last → WroteTree v.types g n written → WroteTree v.types g' n written
   wrote-on {n} {written} given w =
       let same = goes.trees n given in
       let inside : (r : ArcRef) → Among written.references r → r.node.0 ≤ g'.last = λ r among. let le = w.given r among in let more = goes.last in omega arith in
       let follows : FollowsTo g'.trees written.references w.own (g'.trees n).meaning =
-      follows-on (λ r among. goes.trees r.node.0 (w.given r among)) (subst (λ (t : Tree). FollowsTo g.trees written.references w.own t.meaning) (sym same) w.follows) in
+      leads-on (subst (λ (t : Tree). FollowsTo g.trees written.references w.own t.meaning) (sym same) w.follows) (λ r own among. (among, goes.trees r.node.0 (w.given r among))) in
       search (ap (λ (t : Tree). v.types.nodes t.type) same ∙ w.is, w.form, inside, follows, w.once)
 
   module _ {shelf shelf' : Shelf} (keys : KeepsKeys shelf shelf') where
@@ -115,14 +101,10 @@ module _ {N : Type 0} {v : Values N} {g g' : Ground} {shelf shelf' : Shelf} (goe
     failed-fits i slot x2 x3 fit = grind (arith, nat_tests)
 
     pub slots-failed : ((i : Identity) → shelf'.slots i ≡ (with_failed shelf n).slots i) → SlotsFit v g' shelf'
-    slots-failed same i slot' now = of (shelf.slots i) refl (sym (same i) ∙ now)
-      where
-        of : (old : Option Slot) → shelf.slots i ≡ old → if_there (λ (slot : Slot). Some (if nat_eq slot.worker n then with_outcome failed slot else slot)) None old ≡ Some slot'
-            → SlotFits v g' shelf' i slot'
-        of None none is = absurd (cc)
-        of (Some slot) there is =
-            subst (λ (z : Slot). SlotFits v g' shelf' i z) (some-same refl is)
-            (failed-fits i slot (nat_eq slot.worker n) (is_open_outcome slot.outcome) (slot-on v goes (keys-grow more) (fits i slot there)))
+    slots-failed same i slot' now =
+        let is = sym (same i) ∙ now in
+        let c : (old : Slot) × (shelf.slots i ≡ Some old) × ((if nat_eq old.worker n then with_outcome failed old else old) ≡ slot') = grind (arith, nat_tests) in
+        subst (λ (z : Slot). SlotFits v g' shelf' i z) c.2 (failed-fits i c.0 (nat_eq c.0.worker n) (is_open_outcome c.0.outcome) (slot-on v goes (keys-grow more) (fits i c.0 c.1)))
 
 module _ {N : Type 0} {v : Values N} {g g' : Ground} {shelf : Shelf} (shelf' : Shelf) (goes : GroundGoes g g') (more : ShelfGrows shelf shelf') (fits : SlotsFit v g shelf) where
   pub walks-on : (task : Task) (todo : List Todo) → Walks v g shelf task todo → Walks v g' shelf' task todo

@@ -1,7 +1,7 @@
 -- One key spells one tree, and one tree of canonical types has one key.
-use Rattle.pagable_laws.proofs.Words.{arith, nat_tests, ◌≡◌, ℕ, Option, Some, Result, Ok, refl, Error, Meaning, Rest, Blob, KeyRef, Types, tree, ReadsAs, IsFollowed, number-followed}
-use Rattle.pagable_laws.proofs.Words.{integer-followed, text-followed, pattern-followed, none-followed, pair-followed, variant-followed, reference-followed, IsOneTree, EachType, pair, variant}
-use Rattle.pagable_laws.proofs.Words.{followed, type_of, sym, subst}
+use Rattle.pagable_laws.proofs.Words.{arith, nat_tests, ◌≡◌, ℕ, Option, Some, Result, Ok, refl, Error, Meaning, Rest, Blob, KeyRef, Types, tree, ReadsAs, IsFollowed, number-followed, integer-followed}
+use Rattle.pagable_laws.proofs.Words.{text-followed, pattern-followed, none-followed, pair-followed, variant-followed, reference-followed, IsOneTree, EachType, pair, variant, followed, type_of, sym}
+use Rattle.pagable_laws.proofs.Words.{subst}
 use Rattle.std.proofs.{Common.rules}
 
 pub same_some : {X : Type 0} (x y : X) → Some x ≡ Some y → x ≡ y
@@ -25,18 +25,14 @@ each-type all x1 = grind (arith, nat_tests)
 module _ {P Q : ℕ → ℕ → Meaning KeyRef → Type 0} (C : ℕ → Type 0) (same : (t key : ℕ) (m n : Meaning KeyRef) → C t → P t key m → Q t key n → m ≡ n) where
   pub one-followed : {m n : Meaning KeyRef} {a b : Meaning ⊥} → EachType C a → IsFollowed P m a → IsFollowed Q n b → m ≡ n → a ≡ b
   unfolding EachType
-  one-followed c (number-followed x) (number-followed y) e = let is : x ≡ y = cc in rw is refl
-  one-followed c (integer-followed x) (integer-followed y) e = let is : x ≡ y = cc in rw is refl
-  one-followed c (text-followed x) (text-followed y) e = let is : x ≡ y = cc in rw is refl
-  one-followed c (pattern-followed x) (pattern-followed y) e = let is : x ≡ y = cc in rw is refl
-  one-followed c none-followed none-followed e = refl
   one-followed c (pair-followed x y a b h g) (pair-followed x2 y2 a2 b2 h2 g2) e = rw (one-followed c.0 h h2 cc, one-followed c.1 g g2 cc) refl
   one-followed c (variant-followed x m a h) (variant-followed y n b h2) e = let is : x ≡ y = cc in rw (is, one-followed c h h2 cc) refl
   one-followed c (reference-followed r x a p h) (reference-followed r2 x2 a2 p2 h2) e =
       let is : r ≡ r2 = cc in
       let p3 = let R : KeyRef → Type 0 = λ q. Q (type_of q.kind) q.key x2 in subst R (sym is) p2 in
       rw (is, one-followed c.1 h h2 (same _ _ _ _ c.0 p p3)) refl
-  one-followed c h g e = absurd cc
+  one-followed c h (number-followed y) e = cc
+  one-followed c h g e = cc
 
 -- what P says of each reference, Q says
 module _ {P Q : ℕ → ℕ → Meaning KeyRef → Type 0} (C : ℕ → Type 0) (on : (t key : ℕ) (m : Meaning KeyRef) → C t → P t key m → Q t key m) where
@@ -46,6 +42,10 @@ module _ {P Q : ℕ → ℕ → Meaning KeyRef → Type 0} (C : ℕ → Type 0) 
   followed-on c (variant-followed n x a h) = variant-followed n x a (followed-on c h)
   followed-on c (reference-followed r x a p h) = reference-followed r x a (on (type_of r.kind) r.key x c.0 p) (followed-on c.1 h)
   followed-on c h = search (number-followed, integer-followed, text-followed, pattern-followed, none-followed)
+
+-- so it is where it says so of all
+pub followed-all : {P Q : ℕ → ℕ → Meaning KeyRef → Type 0} → ((t key : ℕ) (m : Meaning KeyRef) → P t key m → Q t key m) → {m : Meaning KeyRef} {a : Meaning ⊥} → IsFollowed P m a → IsFollowed Q m a
+followed-all on {a = a} h = followed-on (λ t. Unit {0}) (λ t key m all p. on t key m p) (each-type (λ t. tt) a) h
 
 module _ {store : ℕ → Option Blob} {types : Types} where
   same-reading : {type key : ℕ} {m n : Meaning KeyRef} → ReadsAs store types type key m → ReadsAs store types type key n → m ≡ n

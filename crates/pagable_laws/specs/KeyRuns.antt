@@ -1,7 +1,7 @@
 -- What workers hold of the references that they have claimed, and which cells have a key: an invariant of runs in which the storage isn't closed.
-use Rattle.std.specs.Prelude.{ℕ, ◌≡◌, ◌≤◌, Bool, true, false, List, [], ◌∷◌, Some}
+use Rattle.std.specs.Prelude.{ℕ, ◌≡◌, ◌≤◌, true, List, [], ◌∷◌, Some}
 use Rattle.pagable_world.specs.{Plain.{ArcRef, HandleNumber, Identity, Tree, is_loose_kind}, declared.handles.HandleRow.HandleRow, declared.events.Event.Event, declared.events.EventReply.EventReply}
-use Rattle.pagable_world.specs.{Kinds.{is_loose, has_key, owner_worker}, World.{Core, Cell, Todo, to_start, to_pin, to_load, to_write, to_finish, to_item, to_set, to_publish, to_release, to_fail}}
+use Rattle.pagable_world.specs.{Kinds.{is_loose, has_key, owner_worker}, World.{Core, Cell, Todo, to_pin, to_load, to_write, to_finish, to_item, to_set, to_publish}}
 use Rattle.pagable_world.specs.{World.{Walking, World, row_at, Values}, Workers.IsPublished, Pager.MachineState, Headline.{PublishIsKey, AnswerIsKey, AnswerLeavesAll}}
 
 -- The handle stands for the reference, both of which were given: while it is live it is of the reference's node, and loose where the reference's kind is.
@@ -15,26 +15,6 @@ pub record KeyIsSet (w : Core) (n : ℕ) : Type 0 where
   pub given : n ≤ w.last.node
   pub keyed : (cell : Cell) → w.cells n ≡ Some cell → has_key cell.key ≡ true
 
--- what a worker holds of a reference that it has claimed, and what it has come to when its key is published
-abbrev pub Holds : Core → Todo → Type 0
-Holds w (to_pin r place) = StandsAt w r r.handle
-Holds w (to_load r place through reading) = StandsAt w r through
-Holds w (to_write r place through) = StandsAt w r through
-Holds w (to_finish o) = StandsAt w o.reference o.through
-Holds w (to_set r through key height) = StandsAt w r through
-Holds w (to_publish r key height) = is_loose_kind r.kind.0 ≡ true → KeyIsSet w r.node.0
-Holds w todo = Unit {0}
-
--- whether a key is about to be published
-abbrev pub is_publishing : List Todo → Bool
-is_publishing (to_publish r key height ∷ below) = true
-is_publishing todo = false
-
--- of all that is to be done; nothing is published but what stands at the front
-unfoldable pub AllHold : Core → List Todo → Type 0
-AllHold w [] = Unit {0}
-AllHold w (x ∷ below) = Holds w x × (is_publishing below ≡ false) × AllHold w below
-
 -- the worker has a handle of the node
 pub record HasHandle (w : Core) (v n : ℕ) : Type 0 where
   pub h : HandleNumber
@@ -43,11 +23,31 @@ pub record HasHandle (w : Core) (v n : ℕ) : Type 0 where
   pub own : row.owner ≡ owner_worker v
   pub at : row.node.0 ≡ n
 
--- So do all workers, one that is about to publish a key has a handle of its node, and each cell whose key was published by a loose reference has a key.
+-- what the worker holds of a reference that it has claimed, and what it has come to and still has when its key is published
+abbrev pub Holds : Core → ℕ → Todo → Type 0
+Holds w v (to_pin r place) = StandsAt w r r.handle
+Holds w v (to_load r place through reading) = StandsAt w r through
+Holds w v (to_write r place through) = StandsAt w r through
+Holds w v (to_finish o) = StandsAt w o.reference o.through
+Holds w v (to_set r through key height) = StandsAt w r through
+Holds w v (to_publish r key height) = (is_loose_kind r.kind.0 ≡ true → KeyIsSet w r.node.0) × HasHandle w v r.node.0
+Holds w v _ = Unit {0}
+
+-- nothing waits but written nodes, of which the same is held, and an item
+unfoldable pub WaitsHeld : Core → List Todo → Type 0
+WaitsHeld w [] = Unit {0}
+WaitsHeld w (to_finish o ∷ below) = StandsAt w o.reference o.through × WaitsHeld w below
+WaitsHeld w (to_item written keys ∷ below) = WaitsHeld w below
+WaitsHeld w (x ∷ below) = ⊥
+
+-- of all that is to be done
+unfoldable pub AllHold : Core → ℕ → List Todo → Type 0
+AllHold w v [] = Unit {0}
+AllHold w v (x ∷ below) = Holds w v x × WaitsHeld w below
+
+-- So do all workers, and each cell whose key was published by a loose reference has a key.
 pub record KeysHeld (u : World) : Type 0 where
-  pub walks : (n : ℕ) (walking : Walking) → u.work.walkings n ≡ Some walking → AllHold u.core walking.todo
-  pub publishing : (n : ℕ) (walking : Walking) (r : ArcRef) (key height : ℕ) (below : List Todo) → u.work.walkings n ≡ Some walking → walking.todo ≡ to_publish r key height ∷ below
-      → HasHandle u.core n r.node.0
+  pub walks : (n : ℕ) (walking : Walking) → u.work.walkings n ≡ Some walking → AllHold u.core n walking.todo
   pub slots : (t : ℕ) (i : Identity) (key height : ℕ) → IsPublished (u.work.shelves t) i key height → is_loose_kind i.kind.0 ≡ true → KeyIsSet u.core i.node.0
 
 -- What keys are of one event: each that is published is its tree's, and a cell had one by then; each that is answered is its task's, and what was met then is left paged out, with keys of its cells.

@@ -1,11 +1,11 @@
 -- What tables and workers hold of a page-out, by trees: an invariant of runs, and what follows from it of published and answered keys.
-use Rattle.std.specs.Prelude.{ℕ, ℤ, ◌≡◌, ◌≤◌, ◌==◌, ◌+◌, ◌⊎◌, List, [], ◌∷◌, drop, length, Option, Some}
-use Rattle.pagable_model.specs.{Meaning.{number, integer, text, pattern, none, pair, variant, reference, followed}, Reading.deepest, References.references_in, Form.Form, Writing.kind_of_arc}
+use Rattle.std.specs.Prelude.{ℕ, ◌≡◌, ◌≤◌, ◌==◌, ◌+◌, ◌⊎◌, List, [], ◌∷◌, drop, length, Option, Some}
+use Rattle.pagable_model.specs.{Reading.deepest, References.references_in, Form.Form, Writing.kind_of_arc}
 use Rattle.pagable_model.specs.{Merkle.{blob_of, KeyOf, StoredTree}, Shape.Shape}
 use Rattle.pagable_world.specs.{Plain.{ArcRef, Identity, Blob, Meaning, Tree, Types, type_of, Among, times, above, longest_path}, Kinds.identity_of}
 use Rattle.pagable_world.specs.World.{Shelf, Slot, published, Written, Todo, to_start, to_pin}
 use Rattle.pagable_world.specs.{World.{to_load, to_write, to_finish, to_item, to_set, to_publish, to_release, to_fail, Task, of_item, of_entry, Walking, Values, digest}, Workers.{IsPublished, place_below}}
-use Rattle.pagable_world.specs.{Pager.MachineState, Headline.AreKeysOf}
+use Rattle.{pagable_world.specs.{Pager.MachineState, Headline.AreKeysOf}, pagable_laws.specs.ReadLaws.FollowsTo}
 
 -- what is stored, the last node, and the trees of nodes
 pub record Ground : Type 0 where
@@ -20,17 +20,6 @@ ground_of s trees = record { stored = s.pager.core.stored; last = s.pager.core.l
 pub record KeyStands {N : Type 0} (v : Values N) (stored : ℕ → Option Blob) (t : Tree) (key : ℕ) : Type 0 where
   pub is_key : KeyOf v.hash v.types t key
   pub stands : StoredTree stored v.types key t
-
--- A meaning whose references are some of these, and the same where each is followed to its node's tree. Nothing in it is followed already.
-pub data FollowsTo (trees : ℕ → Tree) (rs : List ArcRef) : Meaning ArcRef → Meaning ⊥ → Type 0 where
-  number-follows : (i : ℕ) → FollowsTo trees rs (number i) (number i)
-  integer-follows : (z : ℤ) → FollowsTo trees rs (integer z) (integer z)
-  text-follows : (t : List ℕ) → FollowsTo trees rs (text t) (text t)
-  pattern-follows : (t : List ℕ) → FollowsTo trees rs (pattern t) (pattern t)
-  none-follows : FollowsTo trees rs none none
-  pair-follows : (x y : Meaning ArcRef) (a b : Meaning ⊥) → FollowsTo trees rs x a → FollowsTo trees rs y b → FollowsTo trees rs (pair x y) (pair a b)
-  variant-follows : (i : ℕ) (x : Meaning ArcRef) (a : Meaning ⊥) → FollowsTo trees rs x a → FollowsTo trees rs (variant i x) (variant i a)
-  reference-follows : (r : ArcRef) (a : Meaning ⊥) → Among rs r → (trees r.node.0).meaning ≡ a → FollowsTo trees rs (reference r) (followed r.kind.0 a)
 
 -- What was written is a form of the node's tree over its references, whose nodes were all given. The value that it is a form of names no handle twice.
 pub record WroteTree (types : Types) (g : Ground) (n : ℕ) (written : Written) : Type 0 where

@@ -4,17 +4,25 @@ use Rattle.pagable_model.specs.Meaning.{number, integer, text, pattern, none, pa
 use Rattle.pagable_world.specs.{Plain.{ArcRef, Kind, Blob, LoadNumber, Meaning, Tree, Types, ReadsTree, type_of, Among}, World.{Core, Frame, Values, row_at}, Loads.{need_of, needs_nested, needs_lazy}}
 use Rattle.pagable_world.specs.{declared.handles.Owner.Owner, declared.handles.HandleRow.HandleRow, Kinds.fits_mode}
 
--- the meaning leads to this one, where each node has its tree: each reference is followed to its node's tree, which is of the kind's type
-pub data LeadsTo (trees : ℕ → Tree) : Meaning ArcRef → Meaning ⊥ → Type 0 where
-  number-leads : (i : ℕ) → LeadsTo trees (number i) (number i)
-  integer-leads : (z : ℤ) → LeadsTo trees (integer z) (integer z)
-  text-leads : (t : List ℕ) → LeadsTo trees (text t) (text t)
-  pattern-leads : (t : List ℕ) → LeadsTo trees (pattern t) (pattern t)
-  none-leads : LeadsTo trees none none
-  pair-leads : (x y : Meaning ArcRef) (a b : Meaning ⊥) → LeadsTo trees x a → LeadsTo trees y b → LeadsTo trees (pair x y) (pair a b)
-  variant-leads : (i : ℕ) (x : Meaning ArcRef) (a : Meaning ⊥) → LeadsTo trees x a → LeadsTo trees (variant i x) (variant i a)
-  followed-leads : (kind : ℕ) (x : Meaning ArcRef) (a : Meaning ⊥) → LeadsTo trees x a → LeadsTo trees (followed kind x) (followed kind a)
-  reference-leads : (r : ArcRef) (a : Meaning ⊥) → (trees r.node.0).type ≡ type_of r.kind.0 → (trees r.node.0).meaning ≡ a → LeadsTo trees (reference r) (followed r.kind.0 a)
+-- The meaning leads to this one: each reference, of which P is so, is followed to its node's tree. One that is followed already stands in it only if F.
+pub data LeadsBy (F : Type 0) (P : ArcRef → Type 0) (trees : ℕ → Tree) : Meaning ArcRef → Meaning ⊥ → Type 0 where
+  number-leads : (i : ℕ) → LeadsBy F P trees (number i) (number i)
+  integer-leads : (z : ℤ) → LeadsBy F P trees (integer z) (integer z)
+  text-leads : (t : List ℕ) → LeadsBy F P trees (text t) (text t)
+  pattern-leads : (t : List ℕ) → LeadsBy F P trees (pattern t) (pattern t)
+  none-leads : LeadsBy F P trees none none
+  pair-leads : (x y : Meaning ArcRef) (a b : Meaning ⊥) → LeadsBy F P trees x a → LeadsBy F P trees y b → LeadsBy F P trees (pair x y) (pair a b)
+  variant-leads : (i : ℕ) (x : Meaning ArcRef) (a : Meaning ⊥) → LeadsBy F P trees x a → LeadsBy F P trees (variant i x) (variant i a)
+  followed-leads : (kind : ℕ) (x : Meaning ArcRef) (a : Meaning ⊥) → F → LeadsBy F P trees x a → LeadsBy F P trees (followed kind x) (followed kind a)
+  reference-leads : (r : ArcRef) (a : Meaning ⊥) → P r → (trees r.node.0).meaning ≡ a → LeadsBy F P trees (reference r) (followed r.kind.0 a)
+
+-- so it does where each node is of the reference's kind's type
+abbrev pub LeadsTo : (ℕ → Tree) → Meaning ArcRef → Meaning ⊥ → Type 0
+LeadsTo trees = LeadsBy (Unit {0}) (λ r. (trees r.node.0).type ≡ type_of r.kind.0) trees
+
+-- so it does where its references are some of these, and nothing in it is followed already
+abbrev pub FollowsTo : (ℕ → Tree) → List ArcRef → Meaning ArcRef → Meaning ⊥ → Type 0
+FollowsTo trees rs = LeadsBy ⊥ (λ r. Among rs r) trees
 
 -- a value leads to the tree
 pub record ValueLeads {N : Type 0} (v : Values N) (trees : ℕ → Tree) (x : N) (t : Tree) : Type 0 where
