@@ -2,6 +2,7 @@
 use Rattle.pagable_laws.proofs.Words.{nat_tests, ◌≡◌, ℕ, zero, suc, ◌≤◌, List, [], ◌∷◌, ◌++◌, Option, Some, ◌⊎◌, inl, inr, refl, sym, ap, ◌∙◌, subst, arith, slice_get, length, length-append}
 use Rattle.pagable_laws.proofs.Words.{HandleRow, ArcRef, Kind, Blob, Types, Tree, type_of, ReadsTree, Among, Frame, Next, asks, next_in, need_at, need_of, needs_nested, needs_lazy, root_frame}
 use Rattle.pagable_laws.proofs.{Words.{nested_frame, with_got, ReadsNodeTree, FrameFits, FramesFit, SameTrees, Needs, KeepsStored, FramesGiven}, Decoding.asks_next, Trees.followed-all}
+use Rattle.pagable_laws.proofs.Words.{slice_get_within}
 
 -- ---- what is asked
 

@@ -10,7 +10,7 @@ use Rattle.pagable_laws.proofs.Words.{AsksInVain, Result, Pinning, Beginning, Cl
 use Rattle.pagable_laws.proofs.Words.{GivesBack, next_start, give, give_known, fresh, TodoBrings, sets_key, false, if◌then◌else◌, updated, if_there, EventReply, TableNumber, WorkerAnswer, only_handle}
 use Rattle.pagable_laws.proofs.Words.{Cell, Task, type_at, key_at, without_worker, WorkerEnds, answer_after, Stays, KeyStarted, Starts, new_walking, Ends, Happens, with_worker, IsNewNode, EventBrings}
 use Rattle.pagable_laws.proofs.Words.{KeepsOpen, LeavesCache, SameNode, NewNode, StaysAway, KeepsReadings, EventFeels, by-call, by-reading, by-key, by-nothing, Blob, StoreCall, digest, AreGood}
-use Rattle.pagable_laws.proofs.{Words.{OwnersAreThere, step_of, Among, CloneCall, Needs, GetsKnown, with_got, world_of, or_else, reading_of_load}, Goes.{found-left, none-in-new, at-updated, Quiet}}
+use Rattle.pagable_laws.proofs.{Words.{OwnersAreThere, step_of, Among, CloneCall, Needs, GetsKnown, with_got, world_of, or_else}, Goes.{found-left, none-in-new, at-updated, Quiet}}
 use Rattle.pagable_laws.proofs.{Goes.{Goes, NotLoads, quiet-then, goes-quiet, alike, fell-anyhow, KnowsNext, parts, le-self, rows-self, next-above}, Effects.{Effect, IsMine, IsApart, IsHeldFor}}
 use Rattle.pagable_laws.proofs.Effects.{Lasts, Spares, none, moves, fell, with-key, stays, one-then, entry, no-one, none-named, released-free, ended-free, worker-apart, stays-alike, spares-then}
 use Rattle.pagable_laws.proofs.{Effects.{stays-fell, then-alike, then-fell, held-fell}, Called.{hands-over, ends-load, noted, asks, closes, gets-known as was-known, adopts, adopts-known, schedules}}
@@ -18,6 +18,7 @@ use Rattle.pagable_laws.proofs.{Called.{clones, pins, begins, begins-key, stores
 use Rattle.{pagable_laws.proofs.{Outlasting.{low-whole, stands-new, find-both}, Sums.self-number, Trees.same_some, Standing.{AllWait, WaitsWell}}, pagable_world.specs.Loads.{Does as LoadDoes, Meets}}
 use Rattle.std.proofs.Common.{rules}
 use Rattle.pagable_world.specs.Workers as workers
+use Rattle.pagable_world.specs.Events.{reading_of_load}
 
 -- ---- what is found at a new number
 
