@@ -1,9 +1,9 @@
 -- A value comes to a load's cell, and others go with their nodes.
 use Rattle.pagable_pager.proofs.Words.{rules, ◌≡◌, ℕ, ◌&&◌, Bool, true, false, Ok, Err, refl, ap, sym, ◌∙◌, subst, Some, None, Option, List, if◌then◌else◌, inl, inr, nat_eq, arith, ◌≢◌, ◌⊎◌}
 use Rattle.pagable_pager.proofs.Words.{Result, is_some, nat_lt, get, cases_eq, nat_tests, ArcRef, NodeNumber, Owner, HandleNumber, LoadNumber, Error, if_there, updated, Core, OpenLoad, Alike}
-use Rattle.pagable_pager.proofs.Words.{is_here, OwnsLoad, Refused, load_fault, closed_fault, DropCall, EndCall, EndRefused, Installs, MayEnd, end_fault, held, is_owner, IsCellOf, Moves}
+use Rattle.pagable_pager.proofs.Words.{is_here, OwnsLoad, Refused, load_fault, closed_fault, DropCall, EndCall, EndRefused, Installs, MayEnd, held, is_owner, IsCellOf, Moves}
 use Rattle.pagable_pager.proofs.Words.{WellFormed, row-held, installed_away, installed_there, Ending, Tables, counts_at, Sheds, has_value, IsWhole, plain_of, AreLater, IsReady, IsVain, OnlyRoom, room-alike}
-use Rattle.pagable_pager.proofs.Words.{ShedsBeside, has_come, installs-wider, may-wider, not-so, so-then, earlier-first, still, end_refused, spared, spares-alike, PagerView, Telling, Spelling}
+use Rattle.pagable_pager.proofs.Words.{ShedsBeside, has_come, installs-wider, may-wider, not-so, so-then, still, end_refused, spared, spares-alike, PagerView, Telling, Spelling}
 use Rattle.pagable_pager.proofs.Words.{ValuesByNode, IsPager, core_in, state_in, value_in, values_of, PutsIn, with_value}
 use Rattle.pagable_pager.proofs.{Shed.{here-in, here-told, less, shed, some-map, left-map, in-step, whole-over}, Shut.{bare-alike, end-refused-bare, installed-bare}}
 use Rattle.pagable_world.specs.Pager as pager

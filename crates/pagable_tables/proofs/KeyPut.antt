@@ -3,9 +3,6 @@ use Rattle.pagable_tables.proofs.Words.{◌≡◌, ℕ, ◌<◌, ◌==◌, Bool,
 use Rattle.pagable_tables.proofs.Words.{cases_eq, nat_tests, ArcRef, HandleRow, Counts, Fits, Right, is_new, named, owns_nothing, keyed, None, NodeNumber, Blob, with_key}
 use Rattle.pagable_tables.{proofs.{Words.{Core, nobody, Tables, Holdings, counts_at, GetsKey, SoFar, core_of}, Coming.{is-free, not-zero}, Begun.{begins, begun}}, specs.Core.IsWhole}
 
-pub key-top : (b : Bool) (n top : ℕ) → (if is_new false b then n else top) ≡ (if b then n else top)
-key-top x0 n top = grind (arith, nat_tests)
-
 module _ (at at' : ℕ → Option Counts) (refs refs' : ℕ → List ArcRef) (rows : List HandleRow) (top n : ℕ) (c : Counts) (key : ℕ) (fits : Fits at refs rows top [] owns_nothing)
     (is : at n ≡ Some c) (some : 0 < key)
     (here : at' n ≡ Some (keyed c key top)) (others : (m : ℕ) → m ≢ n → at' m ≡ at m) (same : (m : ℕ) → refs' m ≡ refs m) where
