@@ -302,15 +302,15 @@ module _ (w : Core) (owner : Owner) where
   fine seen [] good new once = refl
   fine seen (r ∷ rs) good new once =
       let rest = fine (r.handle.0 ∷ seen) rs (λ q among. good q (suc among.0, among.1)) (λ q among.
-          let n = new q (suc among.0, among.1) in
-          let a = once q.handle.0 in
-          let b = sum_by-cons (λ (x : ArcRef). one (x.handle.0 == q.handle.0)) r rs in
-          let c = at-most-sum (λ (x : ArcRef). one (x.handle.0 == q.handle.0)) rs q among in
-          let d : one (q.handle.0 == q.handle.0) ≡ 1 = ap one (self-number q.handle.0) in
-          elim (cases_Bool (r.handle.0 == q.handle.0)) [
-            | inl e ↦ absurd (let z : one (r.handle.0 == q.handle.0) ≡ 1 = ap one e in omega (arith, a, b, c, d, z))
-            | inr e ↦ rw (e, n) refl
-          ])
+      let n = new q (suc among.0, among.1) in
+      let a = once q.handle.0 in
+      let b = sum_by-cons (λ (x : ArcRef). one (x.handle.0 == q.handle.0)) r rs in
+      let c = at-most-sum (λ (x : ArcRef). one (x.handle.0 == q.handle.0)) rs q among in
+      let d : one (q.handle.0 == q.handle.0) ≡ 1 = ap one (self-number q.handle.0) in
+      elim (cases_Bool (r.handle.0 == q.handle.0)) [
+        | inl e ↦ absurd (let z : one (r.handle.0 == q.handle.0) ≡ 1 = ap one e in omega (arith, a, b, c, d, z))
+        | inr e ↦ rw (e, n) refl
+      ])
       (λ q. let a = once q in let b = sum_by-cons (λ (x : ArcRef). one (x.handle.0 == q)) r rs in omega (arith, a, b)) in
       let first : reference_fault w owner seen r ≡ None = let is = good r (zero, refl) in let isnt = new r (zero, refl) in grind (arith, self-number) in
       rw first rest

@@ -90,13 +90,13 @@ module _ {me : Owner} {lists : Bool} {Asks Leaves : Type 0} {c : Change} where
     installed : {w w' : Core} {t : ℕ} {references : List ArcRef} {k : HandleNumber} (l : LoadNumber) (p : NodeNumber) (h : HandleNumber) → MayEnd w me l p h t references
         → Installs w me l p h k references w' → Effect me lists Asks Leaves false c w w'
     installed {w} {w'} {references = references} l p h may i =
-      let closed : Effect me lists Asks Leaves true c w (without_load w l) = shuts (none w) l (λ own. owned-mine may.owned) in
-      elim i.falls [
-      | inl (away, f) ↦ fell
-          (handle (turned (moves closed (is_named_by references) (owner_value p.0) w.list (λ l is. absurd (cc)) (load-named w l references (good w (Owner.Load l) [] references may.good)))
-          h Mode.LoosePinned refl (own-handle h i.row i.owned) pinned-free) p Mode.Pinned me) f.falls (but (is_owned_in w (Owner.Load l)) (is_named_by references) (load-owns w l))
-      | inr (there, f) ↦ fell (handle (turned closed h Mode.LoosePinned refl (own-handle h i.row i.owned) own-free) p Mode.Pinned me) f.falls (load-owns w l)
-    ]
+        let closed : Effect me lists Asks Leaves true c w (without_load w l) = shuts (none w) l (λ own. owned-mine may.owned) in
+        elim i.falls [
+          | inl (away, f) ↦ fell
+              (handle (turned (moves closed (is_named_by references) (owner_value p.0) w.list (λ l is. absurd (cc)) (load-named w l references (good w (Owner.Load l) [] references may.good)))
+              h Mode.LoosePinned refl (own-handle h i.row i.owned) pinned-free) p Mode.Pinned me) f.falls (but (is_owned_in w (Owner.Load l)) (is_named_by references) (load-owns w l))
+          | inr (there, f) ↦ fell (handle (turned closed h Mode.LoosePinned refl (own-handle h i.row i.owned) own-free) p Mode.Pinned me) f.falls (load-owns w l)
+        ]
       where
         own-free : (r : HandleRow) → find_row h.0 w.rows ≡ Some r → NotLoads r.owner
         own-free r found = subst NotLoads (sym (ap (λ (x : HandleRow). x.owner) (same_some _ _ (sym found ∙ i.owned.live)) ∙ i.owned.own)) free

@@ -74,14 +74,14 @@ module _ (kind key n : ℕ) where
   pub held-fell : {w m w' : Core} {given : ℕ → Bool} {r : Result (Unit {0}) Error} → m.rows ≡ w.rows → Falls w m given r w' → IsHeldFor w'.rows → IsHeldFor w.rows
   held-fell {w} {m} {w'} same f h = let g : IsHeldFor (left_rows f.gone m.rows ++ f.entries) = subst IsHeldFor f.leaves.rows h in
       elim (among-either (left_rows f.gone m.rows) f.entries g.live.0 g.row g.live.1) [
-    | inl left ↦ record { row = g.row; live = subst (λ rows. Among rows g.row) same (among-kept _ m.rows g.row left); at = g.at; pins_it = g.pins_it }
-    | inr new ↦
-        let le = at-most-sum (λ x. one (is_at n x)) f.entries g.row new in
-        let some : 0 < held n f.entries = let e : one (is_at n g.row) ≡ 1 = ap one (at-row g.row g.at) in omega (arith, e, le) in
-        let p = counted (λ x. one (is_pin n x)) w.rows (f.only n some).0.pinned in
-        let both = and_parts (p.0.node.0 == n) (is_pinning p.0.mode) (one-true _ p.2) in
-        record { row = p.0; live = p.1; at = same-number _ _ both.0; pins_it = λ is. both.1 }
-  ]
+        | inl left ↦ record { row = g.row; live = subst (λ rows. Among rows g.row) same (among-kept _ m.rows g.row left); at = g.at; pins_it = g.pins_it }
+        | inr new ↦
+            let le = at-most-sum (λ x. one (is_at n x)) f.entries g.row new in
+            let some : 0 < held n f.entries = let e : one (is_at n g.row) ≡ 1 = ap one (at-row g.row g.at) in omega (arith, e, le) in
+            let p = counted (λ x. one (is_pin n x)) w.rows (f.only n some).0.pinned in
+            let both = and_parts (p.0.node.0 == n) (is_pinning p.0.mode) (one-true _ p.2) in
+            record { row = p.0; live = p.1; at = same-number _ _ both.0; pins_it = λ is. both.1 }
+      ]
 
   -- ---- cells
 
@@ -295,8 +295,13 @@ module _ {me : Owner} {lists : Bool} {Asks Leaves : Type 0} where
 
   pub none : {c : Change} (w : Core) → Effect me lists Asks Leaves true c w w
   none {c} w =
-      record { goes = quiet-goes c (quiet-self w); spares = λ mine o. record { each = λ q row own s. s };
-        lasts = λ k kind key n e h still. e; workers = λ v. refl; others = λ own l load is few other. is }
+      record {
+        goes = quiet-goes c (quiet-self w);
+        spares = λ mine o. record { each = λ q row own s. s };
+        lasts = λ k kind key n e h still. e;
+        workers = λ v. refl;
+        others = λ own l load is few other. is;
+      }
 
   module _ {c : Change} {w m : Core} (d : Effect me lists Asks Leaves true c w m) where
     -- the entry is there in the middle
@@ -313,8 +318,10 @@ module _ {me : Owner} {lists : Bool} {Asks Leaves : Type 0} where
 
     pub turned : (h : HandleNumber) (mode : Mode) → is_loose mode ≡ true → Ours me lists w (only_handle h) → ((r : HandleRow) → find_row h.0 m.rows ≡ Some r → NotLoads r.owner) → Effect me lists Asks Leaves true c w (with_mode m h mode)
     turned h mode is free safe = rowed (only-rows (rows-mode m.last.handle m.rows h mode is safe) (le-self _))
-        (λ mine o. record { each = λ q row own s. let r = (d.spares mine o).each q row own s in
-        unchanged mine (is_handle h.0) (λ x. record x { mode = mode }) (λ x. refl) (ap (λ n. n == h.0) (row-number mine r) ∙ (free mine o).each q row own s) r })
+        (λ mine o. record {
+          each = λ q row own s. let r = (d.spares mine o).each q row own s in
+              unchanged mine (is_handle h.0) (λ x. record x { mode = mode }) (λ x. refl) (ap (λ n. n == h.0) (row-number mine r) ∙ (free mine o).each q row own s) r;
+        })
 
     pub moves : (set : ℕ → Bool) (owner : Owner) (list : List HandleNumber) → NotLoads owner → Ours me lists w set → Effect me lists Asks Leaves true c w (record m { rows = moved set owner m.rows; list = list })
     moves set owner list safe free = rowed (only-rows (rows-moved m.last.handle m.rows set owner safe) (le-self _))

@@ -40,8 +40,13 @@ own-refs lawful x own means r among = meant-refs _ _ (λ is. sym (lawful.refers 
 pub value-on : {N : Type 0} {v : Values N} → IsLawful v → (last : ℕ) {trees trees' : ℕ → Tree} {x : N} {t : Tree} → SameTrees last trees trees'
     → ((r : ArcRef) → Among (v.references x) r → r.node.0 ≤ last) → ValueLeads v trees x t → ValueLeads v trees' x t
 value-on lawful last {x = x} same few l =
-    record { own = l.own; typed = l.typed; means = l.means; leads = leads-on l.leads
-        (λ r among typed. let e = same r.node.0 (few r (own-refs lawful x l.own l.means r among)) in (ap (λ (t : Tree). t.type) e ∙ typed, e)) }
+    record {
+      own = l.own;
+      typed = l.typed;
+      means = l.means;
+      leads = leads-on l.leads
+          (λ r among typed. let e = same r.node.0 (few r (own-refs lawful x l.own l.means r among)) in (ap (λ (t : Tree). t.type) e ∙ typed, e));
+    }
 
 module _ {N E : Type 0} {v : Values N} {s : PagerState N E} {trees : ℕ → Tree} (lawful : IsLawful v) where
   module _ (settled : HoldsSettled v s) (well : WellFormed v s) (stands : Represents v s trees) where
@@ -54,8 +59,13 @@ module _ {N E : Type 0} {v : Values N} {s : PagerState N E} {trees : ℕ → Tre
     pub value-leads : (x : N) (own : Meaning ArcRef) (t : Tree) (owner : _) → v.node_type x ≡ t.type → v.means x own → MeaningStands v s own t.meaning
         → ((r : ArcRef) → Among (v.references x) r → IsReference s.core owner r) → ValueLeads v trees x t
     value-leads x own t owner typed means meant good =
-        record { own = own; typed = typed; means = means; leads = stands-leads meant (along-rename (λ r. r) own)
-            (λ r among c same b node. node-tree owner r b (good r (own-refs lawful x own means r among)) node) }
+        record {
+          own = own;
+          typed = typed;
+          means = means;
+          leads = stands-leads meant (along-rename (λ r. r) own)
+              (λ r among c same b node. node-tree owner r b (good r (own-refs lawful x own means r among)) node);
+        }
 
     -- so does each value in memory; and each key reads as its node's tree
     node-leads : {n : ℕ} {t : Tree} → NodeStands v s n t → t ≡ trees n → NodeLeads v s trees n
@@ -238,26 +248,36 @@ module _ {N E : Type 0} {v : Values N} {s s' : PagerState N E} {trees : ℕ → 
       → CallFeels v s.core Owner.Caller call reply s'.core c → (after : ℕ → Tree) × ChangeFits v c (CallBrings s.core call) s s' trees after
   call-fits c call reply goes asked (feels-nothing stays) = (_, fits-nothing _ (λ n x brings unset is. absurd (none-comes n x goes unset is (stays n x brings))))
   call-fits c call reply goes asked (feels-birth x brought good) =
-      let born = birth-tree x Owner.Caller good in
-      (_, fits-born born.0 _ _ OptionalDataKey.None born.1 (λ key is. absurd (cc))
-      (λ n y brings unset is. value-born born.0 _ n y x goes is (brought n y brings).0 (brought n y brings).1 (good-given Owner.Caller x good) born.2))
-  call-fits c call reply goes asked (feels-away t key k) = (_, fits-born asked.read _ _ (OptionalDataKey.Some key) asked.typed
-      (λ q is. let e : key ≡ q = cc in subst (λ z. ReadsTree s'.core.stored v.types z asked.read) e (tree-stays goes.stored asked.reads)) (λ n y brings unset is. absurd brings))
+      let born = birth-tree x Owner.Caller good in (
+        _,
+        fits-born born.0 _ _ OptionalDataKey.None born.1 (λ key is. absurd (cc))
+            (λ n y brings unset is. value-born born.0 _ n y x goes is (brought n y brings).0 (brought n y brings).1 (good-given Owner.Caller x good) born.2),
+      )
+  call-fits c call reply goes asked (feels-away t key k) = (
+    _,
+    fits-born asked.read _ _ (OptionalDataKey.Some key) asked.typed
+        (λ q is. let e : key ≡ q = cc in subst (λ z. ReadsTree s'.core.stored v.types z asked.read) e (tree-stays goes.stored asked.reads)) (λ n y brings unset is. absurd brings),
+  )
   call-fits c call reply goes asked (feels-key h key row owns) = (_, fits-key _ row.node.0 key (λ n y brings. brings) (tree-stays goes.stored (asked row owns)))
   call-fits c call reply goes asked (feels-known kind key h row owns typed) =
       let live = given-of well.whole.handles row.node.0 typed in
       let is_typed : (trees row.node.0).type ≡ type_of kind.0 = same_some _ _ (sym (stands.typed row.node.0 live.0) ∙ typed) in
       (_, fits-known _ kind.0 key row.node.0 (λ n y brings. brings) (record { typed = is_typed; reads = tree-stays goes.stored (asked row owns) }))
   call-fits c call reply goes asked (feels-adopted l kind key x k typed good) =
-      let leads = value-leads lawful settled well stands x asked.stands.own asked.read (Owner.Load l) asked.stands.typed asked.stands.means asked.stands.stands good in
-      (_, fits-born-known asked.read _ kind.0 key (first_key kind.0 key) (sym asked.stands.typed ∙ typed) (λ q is. first-of (is_pinned_kind kind.0) key q is) (tree-stays goes.stored asked.reads)
-      (λ n y brings unset is. value-born asked.read _ n y x goes is brings.0 brings.1 (good-given (Owner.Load l) x good) leads))
+      let leads = value-leads lawful settled well stands x asked.stands.own asked.read (Owner.Load l) asked.stands.typed asked.stands.means asked.stands.stands good in (
+        _,
+        fits-born-known asked.read _ kind.0 key (first_key kind.0 key) (sym asked.stands.typed ∙ typed) (λ q is. first-of (is_pinned_kind kind.0) key q is) (tree-stays goes.stored asked.reads)
+            (λ n y brings unset is. value-born asked.read _ n y x goes is brings.0 brings.1 (good-given (Owner.Load l) x good) leads),
+      )
   call-fits c call reply goes asked (feels-lazy l kind key k) =
       (_, fits-born-known asked.read _ kind.0 key (OptionalDataKey.Some key) asked.typed (λ q is. cc) (tree-stays goes.stored asked.reads) (λ n y brings unset is. absurd brings))
-  call-fits c call reply goes asked (feels-end l x k good) = (_, fits-nothing _ (λ n y brings unset is.
-      let meant = asked n brings.1 in
-      let leads = value-leads lawful settled well stands x meant.own (trees n) (Owner.Load l) meant.typed meant.means meant.stands good in
-      subst (λ z. ValueLeads v trees z (trees n)) (sym brings.0) leads))
+  call-fits c call reply goes asked (feels-end l x k good) = (
+    _,
+    fits-nothing _ (λ n y brings unset is.
+        let meant = asked n brings.1 in
+        let leads = value-leads lawful settled well stands x meant.own (trees n) (Owner.Load l) meant.typed meant.means meant.stands good in
+        subst (λ z. ValueLeads v trees z (trees n)) (sym brings.0) leads),
+  )
 
 at-front : (frames : List Frame) (a : Frame) (xs : List Frame) → frames ≡ a ∷ xs → Among frames a
 at-front frames a xs e = subst (λ fs. Among fs a) (sym e) (zero, refl)

@@ -426,8 +426,10 @@ module _ {N B W E : Type 0} (m : Seen N B W) where
       next-stage : Stages s (x ∷ xs) → Stages x.after xs
       next-stage stages k c l at step = elim (stages (suc k) c l at step) [
         | inl h ↦ by h.i h.a h.before h.at h.begins
-        | inr (ready, own) ↦ inr (turn-ready m lawful readable s x.after trees on whole' l x.event x.reply is (own 0 x (omega arith) refl) ready,
-            λ i a lt there. own (suc i) a (omega (arith, lt)) there)
+        | inr (ready, own) ↦ inr (
+          turn-ready m lawful readable s x.after trees on whole' l x.event x.reply is (own 0 x (omega arith) refl) ready,
+          λ i a lt there. own (suc i) a (omega (arith, lt)) there,
+        )
       ]
         where
           by : (i : ℕ) (a : Moment N E B W) → i < suc k → slice_get (x ∷ xs) i ≡ Some a → IsBeginOf l.0 a.event a.reply → Stage x.after l xs k
@@ -436,8 +438,11 @@ module _ {N B W E : Type 0} (m : Seen N B W) where
               let same : a ≡ x = cc in
               let here = subst (λ (y : Moment N E B W). IsBeginOf l.0 y.event y.reply) same begins in
               let turn = begin-turn l.0 x.event x.reply here in
-              inr (begin-ready m s x.after on.whole whole' l x.event x.reply here is, λ j b lt later. together 0 (suc j) (suc k) x b c (omega arith) (omega (arith, lt)) refl later at
-              (λ nobody. let e : of_load l.0 ≡ of_nobody = sym turn ∙ nobody in cc) (ap (λ (v : Event N B W). turn_of v c.reply) step ∙ sym turn) ∙ turn)
+              inr (
+                begin-ready m s x.after on.whole whole' l x.event x.reply here is,
+                λ j b lt later. together 0 (suc j) (suc k) x b c (omega arith) (omega (arith, lt)) refl later at
+                    (λ nobody. let e : of_load l.0 ≡ of_nobody = sym turn ∙ nobody in cc) (ap (λ (v : Event N B W). turn_of v c.reply) step ∙ sym turn) ∙ turn,
+              )
 
       load-sound : Stages s (x ∷ xs) → (trees' : ℕ → Tree) (event : Event N B W) (reply : EventReply N B W) → x.event ≡ event
           → Happens m (world_of s) event reply (world_of x.after) → LoadIsSound s trees event reply x.after trees'

@@ -20,7 +20,7 @@ outlasts rows keyed entries given gone least q free kept h among is =
     outlast rows keyed entries given gone (λ p. p == q) least
     (λ x there goes. false_from_ne_true (x.number.0 == q) (λ e. let s = same-number x.number.0 q e in cc))
     (λ n x there own lost. false_from_ne_true (x.number.0 == q) (λ e.
-        let o = free x there (same-number x.number.0 q e) in let no : is_owner (owner_value n) x.owner ≡ false = grind (arith, nat_tests) in cc))
+    let o = free x there (same-number x.number.0 q e) in let no : is_owner (owner_value n) x.owner ≡ false = grind (arith, nat_tests) in cc))
     h among (ap (λ p. p == q) is ∙ self-number q)
 
 -- ---- the one row of a number

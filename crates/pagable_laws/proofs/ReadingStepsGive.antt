@@ -229,8 +229,11 @@ IsBounded types u reading = (reading.load.0 ≤ u.core.last.load) × ((load : Op
 
 fresh-bounded : (types : Types) (u : World) (reading : Reading) → IsFresh u.core reading → IsBounded types u reading
 unfolding Owes
-fresh-bounded types u reading new = (new.2, λ load is_open more kept many longest under.
-    (2 * many + 2, subst (λ fs. Owes types more many fs (2 * many + 2)) (sym new.0) refl, let none = new.1 in omega (arith, none)))
+fresh-bounded types u reading new = (
+  new.2,
+  λ load is_open more kept many longest under.
+      (2 * many + 2, subst (λ fs. Owes types more many fs (2 * many + 2)) (sym new.0) refl, let none = new.1 in omega (arith, none)),
+)
 
 abbrev AllBounded : Types → World → Type 0
 AllBounded types u = (reading : Reading) → IsReadingOf u.work reading → IsBounded types u reading

@@ -52,11 +52,11 @@ fewer (x ∷ xs) ys le =
     let lt = slice_get_within ys y.1.0 y.0 y.1.1 in
     let same : (get_or ys y.1.0 y.0).0 ≡ x.0 = ap (λ (h : HandleNumber). h.0) (get_or_from_slice_get ys y.1.0 y.0 y.0 y.1.1) ∙ same-number _ _ (one-true _ y.2) in
     let rest = fewer xs (remove ys y.1.0) (λ q.
-        let a = le q in
-        let b = sum_by-cons (λ h. one (has q h)) x xs in
-        let c = sum_by-remove (λ h. one (has q h)) ys y.1.0 y.0 lt in
-        let e : one (has q (get_or ys y.1.0 y.0)) ≡ one (has q x) = ap (λ n. one (n == q)) same in
-        omega (arith, a, b, c, e)) in
+    let a = le q in
+    let b = sum_by-cons (λ h. one (has q h)) x xs in
+    let c = sum_by-remove (λ h. one (has q h)) ys y.1.0 y.0 lt in
+    let e : one (has q (get_or ys y.1.0 y.0)) ≡ one (has q x) = ap (λ n. one (n == q)) same in
+    omega (arith, a, b, c, e)) in
     let shorter = length-remove ys y.1.0 lt in
     omega (arith, rest, shorter)
 

@@ -176,8 +176,14 @@ sum-without q (h ∷ hs) = grind (arith, nat_tests, sum-without q hs)
 -- a number is used once, so what weighs only at the number weighs at its row alone
 pub only-row : (f : HandleRow → ℕ) (ss : List Place) (i : ℕ) (row : HandleRow) → AllPairs IsBefore ss → slice_get ss i ≡ Some (alive row)
     → ((h : HandleRow) → f h ≤ one (is_handle row.number.0 h)) → sum_by f (live ss) ≡ f row
-only-row f ss i row ordered at less = grind (arith, nat_tests, ap (sum_by f) (live-kill ss i row ordered at),
-    sum_by-le-sum_by f (λ h. one (is_handle row.number.0 h)) (without row.number.0 (live ss)) less, sum-without row.number.0 (live ss), sum-live-set)
+only-row f ss i row ordered at less = grind (
+  arith,
+  nat_tests,
+  ap (sum_by f) (live-kill ss i row ordered at),
+  sum_by-le-sum_by f (λ h. one (is_handle row.number.0 h)) (without row.number.0 (live ss)) less,
+  sum-without row.number.0 (live ss),
+  sum-live-set,
+)
 
 -- all rows up to a smaller one are smaller
 pub smaller-up : {A : Type 0} (f : A → ℕ) (xs : List A) (m q : ℕ) (e : A) → AllPairs (λ a b. f a < f b) xs → m < length xs → f (get_or xs m e) < q → (k : ℕ) (d : A) → k < m + 1 → f (get_or xs k d) < q
@@ -201,8 +207,14 @@ rises-set f xs i x y ordered at same j k d less within =
 -- places are in order and counted after one of them changes
 pub sound-set : (old new : Handles) (i : ℕ) (row : HandleRow) (p : Place) → AreSound old → slice_get old.places.items i ≡ Some (alive row) → p.row.number.0 ≡ row.number.0
     → new.places.items ≡ set old.places.items i p → new.dead + one p.is_live ≡ old.dead + 1 → AreSound new
-sound-set old new i row p sound at same is dead = grind (arith, nat_tests, rises-set (λ (s : Place). s.row.number.0) old.places.items i (alive row) p sound.ordered at same,
-    ap (λ ss. length (live ss)) is, length-set, length-live-set)
+sound-set old new i row p sound at same is dead = grind (
+  arith,
+  nat_tests,
+  rises-set (λ (s : Place). s.row.number.0) old.places.items i (alive row) p sound.ordered at same,
+  ap (λ ss. length (live ss)) is,
+  length-set,
+  length-live-set,
+)
 
 -- a row more, above all that are there
 pub ordered-push : (ss : List Place) (row : HandleRow) → AllPairs IsBefore ss → IsNext row.number.0 ss → AllPairs IsBefore (ss ++ alive row ∷ [])

@@ -32,8 +32,11 @@ module _ (before w : Core) (given : ℕ → Bool) (lists : Bool) (t : Holdings) 
   pub closed : IsClosed w.rows (is_keyed w) f.entries f.gone
   closed n lost =
       let fell = down n (is_keyed w n) refl lost in
-      omega (arith, none-owned n (live t.handles.places.items) (λ q. none-left (counts_at t.nodes) (refs_at t.nodes) (live t.handles.places.items) t.top whole.fits n q fell),
-          counted f (is_owned_by (owner_value n)))
+      omega (
+        arith,
+        none-owned n (live t.handles.places.items) (λ q. none-left (counts_at t.nodes) (refs_at t.nodes) (live t.handles.places.items) t.top whole.fits n q fell),
+        counted f (is_owned_by (owner_value n)),
+      )
 
   leaves : Alike (fallen w f.gone f.entries) (with_tables w t)
   leaves = grind (arith, nat_tests, stands, same-cache, live, fallen)

@@ -29,8 +29,13 @@ pub owned-listed : {w : Core} → pager.IsWhole w → (q : ℕ) → is_owned_in 
 owned-listed {w} whole q = split (find_row q w.rows) refl
   where
     split : (found : Option HandleRow) → find_row q w.rows ≡ found → if_there (is_owned_by Owner.List) false found ≡ is_listed w q
-    split None e = grind (arith, nat_tests, none-found q w.rows e, sum_by-le-sum_by (λ h. one (of_list q h)) (λ h. one (is_handle q h)) w.rows (λ h. grind (arith, nat_tests)),
-        whole.owners_there.listed q)
+    split None e = grind (
+      arith,
+      nat_tests,
+      none-found q w.rows e,
+      sum_by-le-sum_by (λ h. one (of_list q h)) (λ h. one (is_handle q h)) w.rows (λ h. grind (arith, nat_tests)),
+      whole.owners_there.listed q,
+    )
     split (Some h) e =
         let (there, number) = found-among q w.rows h e in
         grind (arith, nat_tests, only-row (λ y. one (of_list q y)) w.rows h whole.handles.ordered there (λ y other. grind (arith, nat_tests)), whole.owners_there.listed q)

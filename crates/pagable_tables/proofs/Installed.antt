@@ -150,8 +150,13 @@ module _ (t t1 : Tables) (stored : ℕ → Option Blob) (closed lists : Bool) (f
         (λ n must. let p = must.pinned in let z = must.unpinned in let r = ap (pins n) (rows ∙ come) in absurd (omega arith))
 
     owned-pinned : (q : ℕ) → is_owned_in u (Owner.Load l) q ≡ given q
-    owned-pinned q = found-first (is_owned_by (Owner.Load l)) q mid (x ∷ []) (grind (arith, nat_tests, passes-here, passes-none,
-        no-load (plain_of t) me l may)) ∙ owned-mode (Owner.Load l) q (is_handle h.0) Mode.LoosePinned rows0 ∙ owned-moved s o (Owner.Load l) q w.rows refl
+    owned-pinned q = found-first (is_owned_by (Owner.Load l)) q mid (x ∷ []) (grind (
+      arith,
+      nat_tests,
+      passes-here,
+      passes-none,
+      no-load (plain_of t) me l may,
+    )) ∙ owned-mode (Owner.Load l) q (is_handle h.0) Mode.LoosePinned rows0 ∙ owned-moved s o (Owner.Load l) q w.rows refl
 
     ordered : AllPairs IsHandleBefore u.rows
     ordered = grind (arith, nat_tests, come, ordered-map)
@@ -161,8 +166,12 @@ module _ (t t1 : Tables) (stored : ℕ → Option Blob) (closed lists : Bool) (f
       where
         to-before : (n : ℕ) → pins n w'.rows ≡ 0 → (pins n u.rows ≡ pins n w.rows) × (sharing n u.rows ≡ sharing n w.rows)
         to-before n none =
-            let stays = stays-pinned (record w { rows = mid }) u w' given r x refl ordered unvalued (grind (arith, nat_tests, and-left,
-                owned-given (plain_of t) (Owner.Load l) (t.holdings.last_handle + 1) was.core.handles)) falls n none in
+            let stays = stays-pinned (record w { rows = mid }) u w' given r x refl ordered unvalued (grind (
+              arith,
+              nat_tests,
+              and-left,
+              owned-given (plain_of t) (Owner.Load l) (t.holdings.last_handle + 1) was.core.handles,
+            )) falls n none in
             let more = sum_by_push (λ y. one (is_pin n y)) mid x in
             let z : one (is_pin n x) ≡ 0 = (let b = stays.0 in omega arith) in
             let other : (row.node.0 == n) ≡ false = grind (arith, nat_tests) in (

@@ -93,14 +93,24 @@ none-of p q [] = refl
 none-of p q (x ∷ xs) = grind (arith, nat_tests, none-of p q xs)
 
 pub none-listed : {old new : Handles} {x : HandleRow} → Leaves old x false new → is_owned_by Owner.List x ≡ false → times (of_list x.number.0) (live old.places.items) ≡ 0
-none-listed {old} {x = x} leaves owner = grind (arith, nat_tests, leaves.sums (λ h. one (of_list x.number.0 h)), ap (times (of_list x.number.0)) leaves.becomes.rows,
-    times-left (of_list x.number.0) (only_handle x.number) (live old.places.items), none-of (is_owned_by Owner.List) x.number.0 (live old.places.items))
+none-listed {old} {x = x} leaves owner = grind (
+  arith,
+  nat_tests,
+  leaves.sums (λ h. one (of_list x.number.0 h)),
+  ap (times (of_list x.number.0)) leaves.becomes.rows,
+  times-left (of_list x.number.0) (only_handle x.number) (live old.places.items),
+  none-of (is_owned_by Owner.List) x.number.0 (live old.places.items),
+)
 
 pub none-entered : (q last : ℕ) (rows left entries : List HandleRow) → rows ≡ left ++ entries → AreNewEntries last entries → times (of_list q) rows ≡ 0 → times (is_handle q) entries ≡ 0
 none-entered q last rows left entries is new none =
     let e = entries-none (of_other q) (λ h mode owner. let l : is_owned_by Owner.List h ≡ true = ap (is_owner Owner.List) owner in grind (arith, nat_tests)) last entries new in
-    omega (arith, ap (times (of_list q)) is, sum_by-append (λ h. one (of_list q h)) left entries,
-        sum-most (λ h. one (is_handle q h)) (λ h. one (of_list q h)) (λ h. one (of_other q h)) entries (λ h. bits (is_handle q h) (is_owned_by Owner.List h)))
+    omega (
+      arith,
+      ap (times (of_list q)) is,
+      sum_by-append (λ h. one (of_list q h)) left entries,
+      sum-most (λ h. one (is_handle q h)) (λ h. one (of_list q h)) (λ h. one (of_other q h)) entries (λ h. bits (is_handle q h) (is_owned_by Owner.List h)),
+    )
   where
     bits : (a b : Bool) → one a ≤ one (a && b) + one (a && not b)
     bits a b = grind (arith, nat_tests)

@@ -10,8 +10,11 @@ use Rattle.pagable_tables.proofs.{Left.{none-listed, of_list, ones, times-left, 
 rows-leaves : (rows entries before left : List HandleRow) (gone : ℕ → Bool) (x : HandleRow) → left ≡ left_rows (only_handle x.number) before → before ≡ left_rows gone rows ++ entries
     → times (is_handle x.number.0) entries ≡ 0 → left ≡ left_rows (and_one gone x.number.0) rows ++ entries
 rows-leaves rows entries before left gone x leaves is none =
-    let split : left_rows (only_handle x.number) (left_rows gone rows ++ entries) ≡ left_rows (only_handle x.number) (left_rows gone rows) ++ left_rows (only_handle x.number) entries = grind (arith,
-        nat_tests, filter-append) in
+    let split : left_rows (only_handle x.number) (left_rows gone rows ++ entries) ≡ left_rows (only_handle x.number) (left_rows gone rows) ++ left_rows (only_handle x.number) entries = grind (
+      arith,
+      nat_tests,
+      filter-append,
+    ) in
     leaves ∙ ap (left_rows (only_handle x.number)) is ∙ split ∙ ap (λ r. r ++ left_rows (only_handle x.number) entries) (left-more gone x.number.0 rows)
     ∙ ap (λ r. left_rows (and_one gone x.number.0) rows ++ r) (left-none x.number.0 entries none)
 
@@ -106,9 +109,19 @@ module _ {before w : Core} {given : ℕ → Bool} {lists stays : Bool} {t popped
       let w' = and_parts lists (is_listing g.counts x.mode) want in
       let l = listing-is g.counts x.mode w'.1 in
       let n = x.node.0 in
-      grind (arith, nat_tests, open-then, one-pin want, left n, no-more f (is_pin n) (λ h mode owner. grind (arith, nat_tests)), f.begins.fewer n,
-          no-more f (is_plain_pin n) (λ h mode owner. grind (arith, nat_tests)),
-          here (is_plain_pin n), cell-keyed (counts_at t.nodes n) g.counts (w.cells n) is (f.cells n), f.begins.uniform n)
+      grind (
+        arith,
+        nat_tests,
+        open-then,
+        one-pin want,
+        left n,
+        no-more f (is_pin n) (λ h mode owner. grind (arith, nat_tests)),
+        f.begins.fewer n,
+        no-more f (is_plain_pin n) (λ h mode owner. grind (arith, nat_tests)),
+        here (is_plain_pin n),
+        cell-keyed (counts_at t.nodes n) g.counts (w.cells n) is (f.cells n),
+        f.begins.uniform n,
+      )
 
   -- a cell must be listed: its last pin had gone before, or it has gone now
   must-before : (n : ℕ) → MustList before w (with_tables w new) n → MustList before w (with_tables w t) n ⊎ ((n ≡ x.node.0) × (wanted ≡ true))
@@ -116,8 +129,18 @@ module _ {before w : Core} {given : ℕ → Bool} {lists stays : Bool} {t popped
       elim (cases_Bool (is_pin n x)) [
         | inr other ↦ let a = left n in let z = must.unpinned in let k = ap one other in
             inl (record { pinned = must.pinned; unpinned = omega arith; unkeyed = must.unkeyed; unshared = must.unshared; stands_open = must.stands_open })
-        | inl pin ↦ inr (grind (arith, nat_tests, no-more f (is_share n) (λ h mode owner. let m : is_shared h.mode ≡ false = ap is_shared mode in grind (arith, nat_tests)), here (is_share n),
-            must.unshared, ap one pin, left n, must.unpinned, is, cell-keyed))
+        | inl pin ↦ inr (grind (
+          arith,
+          nat_tests,
+          no-more f (is_share n) (λ h mode owner. let m : is_shared h.mode ≡ false = ap is_shared mode in grind (arith, nat_tests)),
+          here (is_share n),
+          must.unshared,
+          ap one pin,
+          left n,
+          must.unpinned,
+          is,
+          cell-keyed,
+        ))
       ]
 
   must-kept : (n : ℕ) → MustList before w (with_tables w t) n → MustList before w (with_tables w new) n
@@ -150,11 +173,33 @@ module _ {before w : Core} {given : ℕ → Bool} {lists stays : Bool} {t popped
       by (Some e) is tells =
           let a = tells.not_all in
           told-so (Some e) (elim (which g.listed wanted) [ inl s ↦ kept (Some e) is s | inr n ↦ (late (Some e) is n.0 n.1).2 ])
-          (record { all = tt; not_all = (a.0, must-kept a.0 a.1, omega (arith, held-more a.0, other a.0 a.1.unpinned, a.2), refusal-kept w t new e a.3 (omega (arith, last)) (omega (arith,
-              ap length added, length-append t.list.items came))) })
+          (record {
+            all = tt;
+            not_all = (
+              a.0,
+              must-kept a.0 a.1,
+              omega (arith, held-more a.0, other a.0 a.1.unpinned, a.2),
+              refusal-kept w t new e a.3 (omega (arith, last)) (omega (
+                arith,
+                ap length added,
+                length-append t.list.items came,
+              )),
+            );
+          })
       by None is tells = elim (which g.listed wanted) [
-        | inl s ↦ told-so None (kept None is s) (record { all = λ n must. let t = tells.all n in grind (arith, nat_tests, held-more, must-before, other, cases_Bool g.listed, entry,
-            none-held); not_all = tt })
+        | inl s ↦ told-so None (kept None is s) (record {
+          all = λ n must. let t = tells.all n in grind (
+            arith,
+            nat_tests,
+            held-more,
+            must-before,
+            other,
+            cases_Bool g.listed,
+            entry,
+            none-held,
+          );
+          not_all = tt;
+        })
         | inr (none, want) ↦
             let y = late None is none want in
             let l = ap (λ b. if b then one (is_at x.node.0 (entry (t.last_handle + 1) x.node)) else 0) none in

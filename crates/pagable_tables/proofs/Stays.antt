@@ -27,8 +27,14 @@ module _ (rows : List HandleRow) (keyed : ℕ → Bool) (entries : List HandleRo
   closed-less : IsClosed rows keyed entries less
   closed-less n e =
       sum-none (λ h. one (is_owned_by (owner_value n) h && is_outside less h)) rows (λ h among.
-      grind (arith, nat_tests, least.closed n (loses n e), at-most-sum (λ h. one (is_owned_by (owner_value n) h && is_outside s h)) rows h among, once rows ordered h x among there,
-          no-value n x.owner plain))
+      grind (
+        arith,
+        nat_tests,
+        least.closed n (loses n e),
+        at-most-sum (λ h. one (is_owned_by (owner_value n) h && is_outside s h)) rows h among,
+        once rows ordered h x among there,
+        no-value n x.owner plain,
+      ))
 
   pub not-least : s x.number.0 ≡ false
   not-least =
@@ -53,8 +59,16 @@ stays-pinned w u w' given r x rows ordered plain kept falls n none = split (is_p
     stands = not-least u.rows (is_keyed u) falls.entries given falls.gone falls.set ordered x among plain kept
 
     split : (b : Bool) → is_pin n x ≡ b → (pins n u.rows ≡ pins n w.rows) × (sharing n u.rows ≡ sharing n w.rows)
-    split true e = grind (arith, nat_tests, at-most-sum (λ h. one (is_pin n h && not (falls.gone h.number.0))) u.rows x among, times-left (is_pin n) falls.gone u.rows, ap (pins n) falls.leaves.rows,
-        sum_by-append (λ h. one (is_pin n h)) (left_rows falls.gone u.rows) falls.entries, among, stands)
+    split true e = grind (
+      arith,
+      nat_tests,
+      at-most-sum (λ h. one (is_pin n h && not (falls.gone h.number.0))) u.rows x among,
+      times-left (is_pin n) falls.gone u.rows,
+      ap (pins n) falls.leaves.rows,
+      sum_by-append (λ h. one (is_pin n h)) (left_rows falls.gone u.rows) falls.entries,
+      among,
+      stands,
+    )
     split false e = grind (arith, nat_tests, sum_by_push)
 
 pub eager-pins : (kind : ℕ) → is_loose_kind kind ≡ false → is_pinning (mode_of kind) ≡ true

@@ -41,7 +41,7 @@ module _ {w : Core} (whole : IsWhole w) (x : HandleRow) (cells : ℕ → Option 
   grown-whole =
       let on = grown-on in
       let listed : (q : ℕ) → times (λ (h : HandleNumber). h.0 == q) w.list ≡ times (of_list q) grown.rows = λ q.
-          grind (arith, nat_tests, sum_by_push (λ h. one (of_list q h)) w.rows x, whole.owners_there.listed q, not-list w x.owner holder) in
+      grind (arith, nat_tests, sum_by_push (λ h. one (of_list q h)) w.rows x, whole.owners_there.listed q, not-list w x.owner holder) in
       let owners : (h : HandleRow) → Among grown.rows h → IsIn w h.mode h.owner = λ h among. elim (among-both w.rows (x ∷ []) h among) [
         | inl old ↦ is-in whole h old
         | inr new ↦ subst (λ (y : HandleRow). IsIn w y.mode y.owner) (sym (among-one x h new)) (holder-in w x.mode x.owner holder)

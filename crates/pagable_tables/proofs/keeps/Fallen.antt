@@ -86,8 +86,16 @@ module _ {before : Core} (m u : Core) {w' : Core} {given : ℕ → Bool} {r : Re
   no-row q is kept = sum-none (λ h. one (of_list q h)) m.rows (λ h among. let g = within-goes m.rows given f.gone h f.set.holds among in let o = lists-only q h in grind (arith, nat_tests))
 
   still-listed : (q : ℕ) → times (λ (h : HandleNumber). h.0 == q) (filter (λ (h : HandleNumber). not (f.gone h.0)) u.list) ≡ times (of_list q) left
-  still-listed q = grind (arith, nat_tests, one-left (λ (h : HandleNumber). h.0) (λ h. h.0 == q) q (in-list q) f.gone (f.gone q) refl u.list,
-      one-left (λ (h : HandleRow). h.number.0) (of_list q) q (lists-only q) f.gone (f.gone q) refl m.rows, lost.listed q, no-row q, in-list, lists-only)
+  still-listed q = grind (
+    arith,
+    nat_tests,
+    one-left (λ (h : HandleNumber). h.0) (λ h. h.0 == q) q (in-list q) f.gone (f.gone q) refl u.list,
+    one-left (λ (h : HandleRow). h.number.0) (of_list q) q (lists-only q) f.gone (f.gone q) refl m.rows,
+    lost.listed q,
+    no-row q,
+    in-list,
+    lists-only,
+  )
 
   fallen-whole : IsWhole after
   fallen-whole =
@@ -96,8 +104,13 @@ module _ {before : Core} (m u : Core) {w' : Core} {given : ℕ → Bool} {r : Re
         within = let (a, b, c) = whole.handles.within in (f.within, b, c);
         places = (omega arith, omega arith);
         listed = λ q.
-            omega (arith, sum_by-append (λ (h : HandleNumber). one (h.0 == q)) (filter (λ (h : HandleNumber). not (f.gone h.0)) u.list) (map (λ (h : HandleRow). h.number) f.entries),
-                sum_by-append (λ h. one (of_list q h)) left f.entries, still-listed q, entries-listed q m.last.handle f.entries f.new);
+            omega (
+              arith,
+              sum_by-append (λ (h : HandleNumber). one (h.0 == q)) (filter (λ (h : HandleNumber). not (f.gone h.0)) u.list) (map (λ (h : HandleRow). h.number) f.entries),
+              sum_by-append (λ h. one (of_list q h)) left f.entries,
+              still-listed q,
+              entries-listed q m.last.handle f.entries f.new,
+            );
         owners = each-row (λ h. IsIn after h.mode h.owner)
             (λ h old kept. elim (lost.owners h old) [ inl there ↦ there | inr gives ↦ let g : true ≡ false = sym (within-goes m.rows given f.gone h f.set.holds old gives) ∙ kept in absurd (cc) ])
             (λ h like e. subst (IsIn after h.mode) (sym e.owner) e.mode);

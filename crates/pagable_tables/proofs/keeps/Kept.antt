@@ -137,9 +137,15 @@ pub alike-rows : {w : Core} → IsWhole w → AreAlike w.rows
 alike-rows {w} whole = record {
   same = λ x y there here same.
       let n = y.node.0 in
-      grind (arith, nat_tests, whole.handles.uniform n, at-most-sum (λ h. one (is_share n h)) w.rows x there, at-most-sum (λ h. one (is_share n h)) w.rows y here,
-          sum-less (λ h. one (is_share n h)) (λ h. one (is_at n h)) w.rows x (λ h. grind (arith, nat_tests)) there,
-          sum-less (λ h. one (is_share n h)) (λ h. one (is_at n h)) w.rows y (λ h. grind (arith, nat_tests)) here);
+      grind (
+        arith,
+        nat_tests,
+        whole.handles.uniform n,
+        at-most-sum (λ h. one (is_share n h)) w.rows x there,
+        at-most-sum (λ h. one (is_share n h)) w.rows y here,
+        sum-less (λ h. one (is_share n h)) (λ h. one (is_at n h)) w.rows x (λ h. grind (arith, nat_tests)) there,
+        sum-less (λ h. one (is_share n h)) (λ h. one (is_at n h)) w.rows y (λ h. grind (arith, nat_tests)) here,
+      );
 }
 
 uniform-rows : (n : ℕ) (rows : List HandleRow) → AreAlike rows → (k : ℕ) → sharing n rows ≡ k → (sharing n rows ≡ 0) ⊎ (sharing n rows ≡ held n rows)
@@ -161,8 +167,13 @@ module _ {w u : Core} (whole : IsWhole w) (k : Keeps w u) where
       let h = whole.handles in
       record {
         ordered = k.on.ordered;
-        numbered = λ x among. elim (k.on.rows x among) [ inl old ↦ (let n = h.numbered old.row old.there in let b = old.number in let c = k.on.last in (omega arith,
-            omega arith)) | inr new ↦ (let a = new.above in let b = new.few in (omega arith, omega arith)) ];
+        numbered = λ x among. elim (k.on.rows x among) [
+          | inl old ↦ (let n = h.numbered old.row old.there in let b = old.number in let c = k.on.last in (
+            omega arith,
+            omega arith,
+          ))
+          | inr new ↦ (let a = new.above in let b = new.few in (omega arith, omega arith))
+        ];
         nodes_numbered = λ n some. let (x, among, at) = row-then n u.rows (u.cells n) (k.on.live n) some in let l = like x among in let c = k.on.last in grind (arith, nat_tests, given);
         within = k.within;
         live = k.on.live;

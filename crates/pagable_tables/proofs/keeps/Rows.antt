@@ -94,15 +94,27 @@ found-among q (h ∷ hs) row found = at (found-among q hs row) (is_handle q h) r
 
 -- one row has a number
 pub once : (rows : List HandleRow) → AllPairs IsHandleBefore rows → (a b : HandleRow) → Among rows a → Among rows b → a.number.0 ≡ b.number.0 → a ≡ b
-once rows ordered a b (i, at) (j, there) same = grind (arith, nat_tests, ap (λ (h : HandleRow). h.number.0) (get_or_from_slice_get rows i a a at),
-    ap (λ (h : HandleRow). h.number.0) (get_or_from_slice_get rows j b a there), slice_get_within rows i a at, slice_get_within rows j b there, get_or_from_slice_get, cases_order)
+once rows ordered a b (i, at) (j, there) same = grind (
+  arith,
+  nat_tests,
+  ap (λ (h : HandleRow). h.number.0) (get_or_from_slice_get rows i a a at),
+  ap (λ (h : HandleRow). h.number.0) (get_or_from_slice_get rows j b a there),
+  slice_get_within rows i a at,
+  slice_get_within rows j b there,
+  get_or_from_slice_get,
+  cases_order,
+)
 
 -- the order stays where numbers do, and where a greater number comes
 pub ordered-map : (to : HandleRow → HandleRow) (rows : List HandleRow) → ((h : HandleRow) → (to h).number.0 ≡ h.number.0) → AllPairs IsHandleBefore rows → AllPairs IsHandleBefore (map to rows)
 ordered-map to rows same ordered j k d less lt =
     let n = length-map rows to in
-    omega (arith, ap (λ (h : HandleRow). h.number.0) (get_or-map to rows j d d (omega arith)), ap (λ (h : HandleRow). h.number.0) (get_or-map to rows k d d (omega arith)),
-        ordered j k d less (omega arith))
+    omega (
+      arith,
+      ap (λ (h : HandleRow). h.number.0) (get_or-map to rows j d d (omega arith)),
+      ap (λ (h : HandleRow). h.number.0) (get_or-map to rows k d d (omega arith)),
+      ordered j k d less (omega arith),
+    )
 
 pub ordered-push : (rows : List HandleRow) (row : HandleRow) → ((h : HandleRow) → Among rows h → h.number.0 < row.number.0) → AllPairs IsHandleBefore rows → AllPairs IsHandleBefore (rows ++ row ∷ [])
 ordered-push rows row above ordered = all_pairs_push IsHandleBefore rows row ordered (λ k d lt. above (get_or rows k d) (k, slice_get-get_or rows k d lt))
@@ -130,8 +142,13 @@ changed-sum f to (x ∷ xs) row ordered (zero, is) same =
     grind (arith, nat_tests, sum_by-cons f x xs, sum_by-cons f (to x) (map to xs))
 changed-sum f to (x ∷ xs) row ordered (suc i, is) same =
     let less = first-less x xs ordered row (i, is) in
-    omega (arith, sum_by-cons f x xs, sum_by-cons f (to x) (map to xs), same x (grind (arith, nat_tests)),
-        changed-sum f to xs row (λ j k d less lt. ordered (suc j) (suc k) d (omega arith) (omega arith)) (i, is) same)
+    omega (
+      arith,
+      sum_by-cons f x xs,
+      sum_by-cons f (to x) (map to xs),
+      same x (grind (arith, nat_tests)),
+      changed-sum f to xs row (λ j k d less lt. ordered (suc j) (suc k) d (omega arith) (omega arith)) (i, is) same,
+    )
 
 -- what is counted of one number is counted of its row
 pub only-row : (f : HandleRow → ℕ) (rows : List HandleRow) (row : HandleRow) → AllPairs IsHandleBefore rows → Among rows row → ((x : HandleRow) → (x.number.0 == row.number.0) ≡ false → f x ≡ 0)
@@ -182,8 +199,14 @@ entry-is last x1 h new x4 = grind (arith, nat_tests)
 pub entries-listed : (q last : ℕ) (entries : List HandleRow) → AreNewEntries last entries
     → times (λ (h : HandleNumber). h.0 == q) (map (λ (h : HandleRow). h.number) entries) ≡ times (λ h. is_handle q h && is_owned_by Owner.List h) entries
 entries-listed q last [] new = refl
-entries-listed q last (x ∷ xs) new = grind (arith, nat_tests, entries-listed q (last + 1) xs new.3,
-    sum_by-cons (λ (h : HandleNumber). one (h.0 == q)) x.number (map (λ (h : HandleRow). h.number) xs), sum_by-cons (λ h. one (is_handle q h && is_owned_by Owner.List h)) x xs, and-all)
+entries-listed q last (x ∷ xs) new = grind (
+  arith,
+  nat_tests,
+  entries-listed q (last + 1) xs new.3,
+  sum_by-cons (λ (h : HandleNumber). one (h.0 == q)) x.number (map (λ (h : HandleRow). h.number) xs),
+  sum_by-cons (λ h. one (is_handle q h && is_owned_by Owner.List h)) x xs,
+  and-all,
+)
 
 pub ordered-entries : (last : ℕ) (rows entries : List HandleRow) → ((h : HandleRow) → Among rows h → h.number.0 ≤ last) → AreNewEntries last entries → AllPairs IsHandleBefore rows
     → AllPairs IsHandleBefore (rows ++ entries)
