@@ -5,7 +5,7 @@ use Rattle.pagable_model.specs.{declared.error.Error.Error, declared.numbers.Arc
 use Rattle.pagable_model.specs.{Gives.memory, Lengths.long_or_memory, Meaning.{Meaning, pattern}, Numbers.varint_at, Reading.{Rest, bytes_of}, Refusals.is_reading_fault, Standing.{Answer, GivesSome}}
 use Rattle.pagable_model.specs.{Standing.Is, Steps.◌>>=◌, Writing.{Out, Nesting, FormAt, WritesSome, NoForm, Refused}}
 use Rattle.pagable_codec.proofs.Writing.{writes_is, writes_bytes, memory_refuses}
-use Rattle.pagable_traits.proofs.Basics.{gives_bytes}
+use Rattle.pagable_traits.proofs.{Basics.gives_bytes, Parts.err_along}
 use Rattle.pagable_model.specs.declared.error.Error.TheVariants as errors
 use Rattle.pagable_model.specs.Shape as shapes
 
@@ -23,13 +23,11 @@ no-pattern n t lt b k f = go f refl
     go : {m : Meaning ArcRef} {b : List ℕ} {k : List ArcRef} → FormAt n shapes.pattern m b k → m ≡ pattern t → ⊥
     go (pattern-form l u v le) e = let same : u ≡ t = cc in omega (arith, ap length same)
 
-refuses-pattern : (n : Nesting) (t : List ℕ) (e : Error) → long_or_memory (length t) e → Refused (Is pattern t) n shapes.pattern e
-refuses-pattern n t e (inl h) = λ fault. record { m = pattern t; is = refl; no_form = no-pattern n t h.0 }
-refuses-pattern n t e (inr h) = memory_refuses e (Is pattern t) n shapes.pattern h.1
-
 pub refused_pattern : {Y : Type 0} (r : Result Y Error) (t : List ℕ) (n : Nesting) → IfErr r (long_or_memory (length t)) → IfErr r (Refused (Is pattern t) n shapes.pattern)
-refused_pattern (Ok y) t n h = tt
-refused_pattern (Err e) t n h = refuses-pattern n t e h
+refused_pattern r t n h = err_along r h (λ e k. elim k [
+  | inl long ↦ λ fault. record { m = pattern t; is = refl; no_form = no-pattern n t long.0 }
+  | inr short ↦ memory_refuses e (Is pattern t) n shapes.pattern short.1
+])
 
 -- ---- reading
 

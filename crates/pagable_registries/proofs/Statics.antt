@@ -14,8 +14,6 @@ values_more f vs xs i x lt e so_far =
     let last : take (i + 1) xs ≡ take i xs ++ x ∷ [] = rw (take_more xs i x lt, ← e) refl in
     rw (last, map-append f (take i xs) (x ∷ []), so_far) refl
 
-pub ruleset values = (values_more)
-
 pub ruleset lengths = (length-map)
 
 -- ---- the least index of an equal value
@@ -62,5 +60,3 @@ pub writes_static : {X : Type 0} (meaning : X → Meaning ArcRef) (x : X) (regis
     → WritesSome (Is meaning x) n (static_value registry) old (record old { bytes = w })
 writes_static meaning x registry i m n old w is e lt grown =
     record { m = meaning x; is = refl; wrote = rw is (writes_bytes n (static_value registry) (lifted m) old w (unsigned_form w32 i) grown (static-form _ registry i m lt e)) }
-
-pub ruleset writing = (writes_static)
