@@ -1,6 +1,6 @@
 -- Tagged values: what writing a tag and a body adds, and what reading by the registered reader gives.
 use Rattle.std.proofs.Common.{◌≡◌, ℕ, zero, suc, ◌+◌, ◌<◌, ◌≤◌, Bool, true, false, List, [], ◌∷◌, ◌++◌, length, get_or, map, Result, Some, Ok, Err, refl, sym, ap, subst, ◌∙◌, arith, inl, inr}
-use Rattle.std.proofs.{lemmas.Bool.cases_lt, lemmas.List.{length-map, map-id}, lemmas.Option.{slice_get_read, slice_get-map, slice_get_within}, lemmas.Slice.Eq.bytes_eq-Decides, lemmas.Result.err_from_is_err_and}
+use Rattle.std.proofs.{lemmas.Bool.Decides.nat_tests, lemmas.List.{length-map, map-id}, lemmas.Option.{slice_get_read, slice_get-map, slice_get_within}, lemmas.Slice.Eq.bytes_eq-Decides, lemmas.Result.err_from_is_err_and}
 use Rattle.std.specs.{Prelude.{IfErr, IsErrAnd, ◌⊎◌}, Str.{IsUtf8, bytes_eq}, List.slice_get}
 use Rattle.pagable_model.specs.{declared.error.Error.Error, declared.numbers.ArcRef.ArcRef, Steps.◌>>=◌, Basic.{longest, text_form, text_at}, Canonical.{HasNoCase, IsReadable, LiesIn, Within}}
 use Rattle.pagable_model.specs.{Canonical.Throughout, Gives.{Gives, memory, memory_or}, Reading.{Rest, Context, read, read_with, bytes_of}, Carried.{of_tagged, is_registered, body_of, tagged_by}}
@@ -28,14 +28,7 @@ writes_tagged M tag n written known body old mid new u le e w = record {
 
 -- a tagged value has no form where a tag that fits has no form of the body
 no-tagged : (n : Nesting) (written : List ℕ → Shape) (known : List ℕ → Bool) (body : List ℕ → Shape) (tag : List ℕ) (x : Meaning ArcRef) → (length tag ≤ longest → NoForm n (written tag) x) → NoForm n (tagged written known body) (of_tagged tag x)
-no-tagged n written known body tag x h b k f = go f refl
-  where
-    go : {m : Meaning ArcRef} {b : List ℕ} {k : List ArcRef} → FormAt n (tagged written known body) m b k → m ≡ of_tagged tag x → ⊥
-    go (tagged-form l w' k' b' t y c k u le f) e =
-        let tags : t ≡ tag = cc in
-        let bodies : y ≡ x = cc in
-        let P : List ℕ → Type 0 = λ z. length z ≤ longest in
-        h (subst P tags le) c k (rw (← tags, ← bodies) f)
+no-tagged n written known body tag x h b k (tagged-form l w' k' b' t y c k2 u le f) = h le c k2 f
 
 pub refused_body : {Z : Type 0} (r : Result Z Error) (M : Meaning ArcRef → Type 0) (tag : List ℕ) (n : Nesting) (written : List ℕ → Shape) (known : List ℕ → Bool) (body : List ℕ → Shape)
     → IfErr r (Refused M n (written tag)) → IfErr r (Refused (MeansTagged tag M) n (tagged written known body))
@@ -68,17 +61,7 @@ pub none_past : {R F : Type 0} (view : R → List ℕ × F) (tag : List ℕ) (xs
 none_past view tag xs i le j r past stands = absurd (omega (arith, le, past, slice_get_within (map view xs) j r stands, length-map xs view))
 
 pub none_from_less : {R F : Type 0} (view : R → List ℕ × F) (tag : List ℕ) (xs : List R) (i k : ℕ) (x : R) → k + 1 ≡ i → k < length xs → x ≡ get_or xs k x → bytes_eq tag (view x).0 ≡ false → NoneFrom tag (map view xs) i → NoneFrom tag (map view xs) k
-none_from_less {R} {F} view tag xs i k x s lt e differs from j r le stands = go (cases_lt k j)
-  where
-    go : (k < j) ⊎ (j ≤ k) → bytes_eq tag r.0 ≡ false
-    go (inl less) = from j r (omega (arith, s, less)) stands
-    go (inr more) =
-        let here : j ≡ k = omega (arith, le, more) in
-        let at_k : slice_get (map view xs) k ≡ Some r = rw (sym here) stands in
-        let at_x = at_place view xs k x lt e in
-        let is : view x ≡ r = cc in
-        let P : List ℕ × F → Type 0 = λ y. bytes_eq tag y.0 ≡ false in
-        subst P is differs
+none_from_less view tag xs i k x s lt e differs from j r le stands = let at = at_place view xs k x lt e in let later = from j r in grind (arith, nat_tests, at, later, differs, stands, s, le)
 
 pub is_last : {R F : Type 0} (view : R → List ℕ × F) (tag : List ℕ) (xs : List R) (i k : ℕ) (x : R) → k + 1 ≡ i → k < length xs → x ≡ get_or xs k x → bytes_eq tag (view x).0 ≡ true → NoneFrom tag (map view xs) i → IsLastFor tag (map view xs) (view x).1
 is_last {R} {F} view tag xs i k x s lt e equal from =
@@ -121,9 +104,7 @@ read-unknown context written grammar env readers tag rest mid e none = rw (e, no
 -- a tag as bytes give it
 pub text_is_read : {X : Type 0} (bytes_in : X → List ℕ) (r : Result X Error) (rest last : Rest Answer) (bytes after : List ℕ) → rest.bytes ≡ bytes → last ≡ record rest { bytes = after } → Gives memory (λ t. (bytes_in t, after)) r (text_at bytes)
     → Gives memory (λ t. (bytes_in t, last)) r (bytes_of text_at (λ t. t) rest)
-text_is_read bytes_in (Ok x) rest last bytes after e f h = rw (f, e, h) refl
-text_is_read bytes_in (Err x) rest last bytes after e f (inl h) = inl (rw (e, h) refl)
-text_is_read bytes_in (Err x) rest last bytes after e f (inr h) = inr h
+text_is_read bytes_in r rest last bytes after e f h = grind (arith, nat_tests, e, f, h)
 
 module _ {D E R N H K V : Type 0} (d : Deserializers D E R N H K V) where
   -- what a reader of a part or of the whole owes
@@ -179,11 +160,8 @@ module _ {D E R N H K V T F : Type 0} (env : Environments E N H K V) (d : Deseri
 
 -- a registered tag is read by its own registration
 own-registration : (rs : List (List ℕ × Shape)) (i : ℕ) (tag : List ℕ) (s : Shape) → HasDistinctTags rs → slice_get rs i ≡ Some (tag, s) → (is_registered rs tag ≡ true) × (body_of rs tag ≡ s)
-own-registration rs i tag s distinct stands = rw (map-id rs) at (is-last (λ x. x) rs tag (tag, s) i stands (is-same tag) (λ j r less there. differs j r less there (bytes_eq tag r.0) refl))
-  where
-    differs : (j : ℕ) (r : List ℕ × Shape) → i < j → slice_get rs j ≡ Some r → (b : Bool) → bytes_eq tag r.0 ≡ b → bytes_eq tag r.0 ≡ false
-    differs j r less there true e = let same = distinct i j (tag, s) r stands there e in absurd (omega (arith, less, same))
-    differs j r less there false e = e
+own-registration rs i tag s distinct stands =
+    rw (map-id rs) at (is-last (λ x. x) rs tag (tag, s) i stands (is-same tag) (λ j r less there. let one = distinct i j (tag, s) r stands there in grind (arith, nat_tests, one, less)))
 
 registered-place : (rs : List (List ℕ × Shape)) (tag : List ℕ) → is_registered rs tag ≡ true → (i : ℕ) × (slice_get rs i ≡ Some (tag, body_of rs tag))
 registered-place [] tag e = absurd cc
