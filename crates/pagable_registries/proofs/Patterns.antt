@@ -1,11 +1,11 @@
 -- Patterns: how the text of one is written and read, and why it is refused.
-use Rattle.std.{proofs.Common.{String, ◌≡◌, ℕ, zero, suc, ◌<◌, ◌≤◌, List, [], ◌∷◌, ◌++◌, length, Bool, true, false, arith, refl, sym, ap, subst, ◌∙◌, Result, Ok, Err, inl, inr}, specs.Prelude.◌≢◌}
+use Rattle.std.{proofs.lemmas.Bool.Decides.nat_tests, proofs.Common.{String, ◌≡◌, ℕ, zero, suc, ◌<◌, ◌≤◌, List, [], ◌∷◌, ◌++◌, length, Bool, true, false, arith, refl, ap, ◌∙◌, Result, Ok, Err, inl, inr}, specs.Prelude.◌≢◌}
 use Rattle.std.specs.{Prelude.{OnOk, IfErr, nat_le, nat_lt, if◌then◌else◌}, Str.{IsUtf8, is_utf8}, String.string_bytes}
 use Rattle.pagable_model.specs.{declared.error.Error.Error, declared.numbers.ArcRef.ArcRef, Basic.{longest, text_form, length_at, bytes_at, checked_text, text_at}, Form.pattern-form, Gives.Gives}
 use Rattle.pagable_model.specs.{Gives.memory, Lengths.long_or_memory, Meaning.{Meaning, pattern}, Numbers.varint_at, Reading.{Rest, bytes_of}, Refusals.is_reading_fault, Standing.{Answer, GivesSome}}
 use Rattle.pagable_model.specs.{Standing.Is, Steps.◌>>=◌, Writing.{Out, Nesting, FormAt, WritesSome, NoForm, Refused}}
 use Rattle.pagable_codec.proofs.Writing.{writes_is, writes_bytes, memory_refuses}
-use Rattle.pagable_traits.proofs.Basics.{gives_bytes}
+use Rattle.pagable_traits.proofs.{Basics.gives_bytes, Parts.err_along}
 use Rattle.pagable_model.specs.declared.error.Error.TheVariants as errors
 use Rattle.pagable_model.specs.Shape as shapes
 
@@ -18,18 +18,13 @@ writes_pattern (Err y) t n old last now w e f utf8 short h = tt
 
 -- a pattern that is too long has no form
 no-pattern : (n : Nesting) (t : List ℕ) → longest < length t → NoForm n shapes.pattern (pattern t)
-no-pattern n t lt b k f = go f refl
-  where
-    go : {m : Meaning ArcRef} {b : List ℕ} {k : List ArcRef} → FormAt n shapes.pattern m b k → m ≡ pattern t → ⊥
-    go (pattern-form l u v le) e = let same : u ≡ t = cc in omega (arith, ap length same)
-
-refuses-pattern : (n : Nesting) (t : List ℕ) (e : Error) → long_or_memory (length t) e → Refused (Is pattern t) n shapes.pattern e
-refuses-pattern n t e (inl h) = λ fault. record { m = pattern t; is = refl; no_form = no-pattern n t h.0 }
-refuses-pattern n t e (inr h) = memory_refuses e (Is pattern t) n shapes.pattern h.1
+no-pattern n t lt b k (pattern-form l u v le) = omega (arith, lt, le)
 
 pub refused_pattern : {Y : Type 0} (r : Result Y Error) (t : List ℕ) (n : Nesting) → IfErr r (long_or_memory (length t)) → IfErr r (Refused (Is pattern t) n shapes.pattern)
-refused_pattern (Ok y) t n h = tt
-refused_pattern (Err e) t n h = refuses-pattern n t e h
+refused_pattern r t n h = err_along r h (λ e k. elim k [
+  | inl long ↦ λ fault. record { m = pattern t; is = refl; no_form = no-pattern n t long.0 }
+  | inr short ↦ memory_refuses e (Is pattern t) n shapes.pattern short.1
+])
 
 -- ---- reading
 
@@ -61,11 +56,7 @@ faults-text bytes =
     (faults-after (varint_at 9 1 bytes) _ (faults-varint 9 1 bytes) (λ n. faults-if (nat_le n.0 longest) _ _ tt refl))
     (λ n. faults-after (bytes_at n.0 n.1) checked_text (faults-if (nat_lt (length n.1) n.0) _ _ refl tt) (λ t. faults-if (is_utf8 t.0) _ _ tt refl))
 
-fault-is-not : (e : Error) → is_reading_fault e ≡ true → e ≢ errors.RegexRefused
-fault-is-not e fault is = let none : is_reading_fault e ≡ false = (let P : Error → Type 0 = λ x. is_reading_fault x ≡ false in subst P (sym is) refl) in absurd cc
-
 -- want of memory, or a fault of the input: a text is never refused as a pattern is
 pub text_not_refused : {X : Type 0} (view : X → List ℕ × List ℕ) (r : Result X Error) (bytes : List ℕ) → Gives memory view r (text_at bytes) → IfErr r (λ e. e ≢ errors.RegexRefused)
 text_not_refused view (Ok x) bytes h = tt
-text_not_refused view (Err e) bytes (inl h) = let fault = faults-text bytes in fault-is-not e (rw h at fault)
-text_not_refused view (Err e) bytes (inr h) = λ is. let same : errors.OutOfMemory ≡ errors.RegexRefused = sym h ∙ is in absurd cc
+text_not_refused view (Err e) bytes h = λ is. let fault = faults-text bytes in grind (arith, nat_tests, h, fault, is)

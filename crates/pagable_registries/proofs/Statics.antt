@@ -1,6 +1,6 @@
 -- Values in a registry, by their index.
-use Rattle.std.proofs.{Common.{◌≡◌, ℕ, zero, suc, ◌+◌, ◌<◌, ◌≤◌, Bool, false, List, [], ◌∷◌, ◌++◌, length, get_or, map, Some, Ok, Err, refl, sym, subst, ◌∙◌, arith, inl, inr}, lemmas.List.take_more}
-use Rattle.std.{proofs.{lemmas.List.{map-append, length-map}, lemmas.Bool.cases_lt, lemmas.Option.{slice_get_read, get_or_from_slice_get}}, specs.{Prelude.{IsTrue, ◌⊎◌, take}, Int.w32}}
+use Rattle.std.proofs.{Common.{◌≡◌, ℕ, zero, suc, ◌+◌, ◌<◌, ◌≤◌, Bool, false, List, [], ◌∷◌, ◌++◌, length, get_or, map, Some, Ok, Err, refl, arith}, lemmas.List.take_more}
+use Rattle.std.{proofs.{lemmas.List.{map-append, length-map}, lemmas.Bool.Decides.nat_tests, lemmas.Option.{slice_get_read, get_or_from_slice_get}}, specs.{Prelude.{IsTrue, ◌⊎◌, take}, Int.w32}}
 use Rattle.std.specs.List.{slice_get}
 use Rattle.pagable_model.specs.{Reading.registered, declared.numbers.ArcRef.ArcRef, Numbers.{bound, unsigned_form}, Meaning.{Meaning, lifted}, Shape.static_value, Form.static-form, Standing.Is}
 use Rattle.pagable_model.specs.{Writing.{Out, Nesting, WritesSome}, Statics.{HasEqual, NoEqualBelow}}
@@ -14,8 +14,6 @@ values_more f vs xs i x lt e so_far =
     let last : take (i + 1) xs ≡ take i xs ++ x ∷ [] = rw (take_more xs i x lt, ← e) refl in
     rw (last, map-append f (take i xs) (x ∷ []), so_far) refl
 
-pub ruleset values = (values_more)
-
 pub ruleset lengths = (length-map)
 
 -- ---- the least index of an equal value
@@ -24,16 +22,7 @@ pub none_below : {T : Type 0} (same : T → T → Bool) (value : T) (xs : List T
 none_below same value xs j known lt stands = absurd (omega (arith, lt))
 
 pub below_more : {T : Type 0} (same : T → T → Bool) (value : T) (xs : List T) (i : ℕ) (x : T) → x ≡ get_or xs i x → same value x ≡ false → NoEqualBelow same value xs i → NoEqualBelow same value xs (i + 1)
-below_more {T} same value xs i x e differs below j known lt stands = go (cases_lt j i)
-  where
-    go : (j < i) ⊎ (i ≤ j) → same value known ≡ false
-    go (inl less) = below j known less stands
-    go (inr le) =
-        let here : j ≡ i = omega (arith, lt, le) in
-        let at_i : slice_get xs i ≡ Some known = rw (sym here) stands in
-        let is : x ≡ known = e ∙ get_or_from_slice_get xs i known x at_i in
-        let P : T → Type 0 = λ y. same value y ≡ false in
-        subst P is differs
+below_more same value xs i x e differs below j known lt stands = let less = below j known in let here = get_or_from_slice_get xs i known x in grind (arith, nat_tests, less, here, e, differs, lt, stands)
 
 pub is_equal : {T : Type 0} (same : T → T → Bool) (value : T) (xs : List T) (i : ℕ) (x : T) → i < length xs → x ≡ get_or xs i x → IsTrue (same value x) → HasEqual same value xs i
 is_equal same value xs i x lt e equal = record { known = x; stands = slice_get_read xs (length xs) i x refl lt e; equal = equal }
@@ -52,8 +41,7 @@ registered_at f (y ∷ ys) (suc i) x e = registered_at f ys i x e
 
 pub unregistered_at : {X : Type 0} (f : X → Meaning ⊥) (xs : List X) (i : ℕ) → length xs ≤ i → registered (map f xs) i ≡ Err errors.BadStaticIndex
 unregistered_at f [] i le = refl
-unregistered_at f (y ∷ ys) zero le = absurd (omega (arith, le))
-unregistered_at f (y ∷ ys) (suc i) le = unregistered_at f ys i (omega (arith, le))
+unregistered_at f (y ∷ ys) i le = grind (arith, nat_tests, unregistered_at f ys)
 
 pub ruleset steps = (registered_at, unregistered_at)
 
@@ -62,5 +50,3 @@ pub writes_static : {X : Type 0} (meaning : X → Meaning ArcRef) (x : X) (regis
     → WritesSome (Is meaning x) n (static_value registry) old (record old { bytes = w })
 writes_static meaning x registry i m n old w is e lt grown =
     record { m = meaning x; is = refl; wrote = rw is (writes_bytes n (static_value registry) (lifted m) old w (unsigned_form w32 i) grown (static-form _ registry i m lt e)) }
-
-pub ruleset writing = (writes_static)

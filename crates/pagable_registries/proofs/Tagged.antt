@@ -1,6 +1,6 @@
 -- Tagged values: what writing a tag and a body adds, and what reading by the registered reader gives.
-use Rattle.std.proofs.Common.{◌≡◌, ℕ, zero, suc, ◌+◌, ◌<◌, ◌≤◌, Bool, true, false, List, [], ◌∷◌, ◌++◌, length, get_or, map, Result, Some, None, Ok, Err, refl, sym, ap, subst, ◌∙◌, arith, inl, inr}
-use Rattle.std.proofs.{lemmas.Bool.cases_lt, lemmas.List.length-map, lemmas.Option.{slice_get_read, slice_get-map, slice_get_within}, lemmas.Slice.Eq.bytes_eq-Decides, lemmas.Result.err_from_is_err_and}
+use Rattle.std.proofs.Common.{◌≡◌, ℕ, zero, suc, ◌+◌, ◌<◌, ◌≤◌, Bool, true, false, List, [], ◌∷◌, ◌++◌, length, get_or, map, Result, Some, Ok, Err, refl, sym, ap, subst, ◌∙◌, arith, inl, inr}
+use Rattle.std.proofs.{lemmas.Bool.Decides.nat_tests, lemmas.List.{length-map, map-id}, lemmas.Option.{slice_get_read, slice_get-map, slice_get_within}, lemmas.Slice.Eq.bytes_eq-Decides, lemmas.Result.err_from_is_err_and}
 use Rattle.std.specs.{Prelude.{IfErr, IsErrAnd, ◌⊎◌}, Str.{IsUtf8, bytes_eq}, List.slice_get}
 use Rattle.pagable_model.specs.{declared.error.Error.Error, declared.numbers.ArcRef.ArcRef, Steps.◌>>=◌, Basic.{longest, text_form, text_at}, Canonical.{HasNoCase, IsReadable, LiesIn, Within}}
 use Rattle.pagable_model.specs.{Canonical.Throughout, Gives.{Gives, memory, memory_or}, Reading.{Rest, Context, read, read_with, bytes_of}, Carried.{of_tagged, is_registered, body_of, tagged_by}}
@@ -26,35 +26,25 @@ writes_tagged M tag n written known body old mid new u le e w = record {
   };
 }
 
--- a form of a tagged value has a tag that fits, and a form of the body
-tagged-parts : (n : Nesting) (written : List ℕ → Shape) (known : List ℕ → Bool) (body : List ℕ → Shape) (tag : List ℕ) (x : Meaning ArcRef) {m : Meaning ArcRef} {b : List ℕ} {k : List ArcRef} → FormAt n (tagged written known body) m b k → m ≡ of_tagged tag x
-    → (length tag ≤ longest) × ((c : List ℕ) × FormAt n (written tag) x c k)
-tagged-parts n written known body tag x (tagged-form l w' k' b' t y c k u le f) e =
-    let tags : t ≡ tag = cc in
-    let bodies : y ≡ x = cc in (
-      let P : List ℕ → Type 0 = λ z. length z ≤ longest in subst P tags le,
-      (c, rw (← tags, ← bodies) f),
-    )
-
-no-body : (n : Nesting) (written : List ℕ → Shape) (known : List ℕ → Bool) (body : List ℕ → Shape) (tag : List ℕ) (x : Meaning ArcRef) → NoForm n (written tag) x → NoForm n (tagged written known body) (of_tagged tag x)
-no-body n written known body tag x h b k f = let p = (tagged-parts n written known body tag x f refl).1 in h p.0 k p.1
-
-no-tag : (n : Nesting) (written : List ℕ → Shape) (known : List ℕ → Bool) (body : List ℕ → Shape) (tag : List ℕ) (x : Meaning ArcRef) → longest < length tag → NoForm n (tagged written known body) (of_tagged tag x)
-no-tag n written known body tag x lt b k f = omega (arith, lt, (tagged-parts n written known body tag x f refl).0)
+-- a tagged value has no form where a tag that fits has no form of the body
+no-tagged : (n : Nesting) (written : List ℕ → Shape) (known : List ℕ → Bool) (body : List ℕ → Shape) (tag : List ℕ) (x : Meaning ArcRef) → (length tag ≤ longest → NoForm n (written tag) x) → NoForm n (tagged written known body) (of_tagged tag x)
+no-tagged n written known body tag x h b k (tagged-form l w' k' b' t y c k2 u le f) = h le c k2 f
 
 pub refused_body : {Z : Type 0} (r : Result Z Error) (M : Meaning ArcRef → Type 0) (tag : List ℕ) (n : Nesting) (written : List ℕ → Shape) (known : List ℕ → Bool) (body : List ℕ → Shape)
     → IfErr r (Refused M n (written tag)) → IfErr r (Refused (MeansTagged tag M) n (tagged written known body))
 refused_body r M tag n written known body h = err_along r h (λ e k fault.
-    let no = k fault in record { m = of_tagged tag no.m; is = record { body = no.m; is_body = no.is; is = refl }; no_form = no-body n written known body tag no.m no.no_form })
-
-refuses-tag : {T : Type 0} (M : Meanings T) (x : T) (tag : List ℕ) (n : Nesting) (written : List ℕ → Shape) (known : List ℕ → Bool) (body : List ℕ → Shape) (e : Error)
-    → long_or_memory (length tag) e → Refused (MeansTagged tag (M.of x)) n (tagged written known body) e
-refuses-tag M x tag n written known body e (inl h) = λ fault. record { m = of_tagged tag (M.meaning x); is = record { body = M.meaning x; is_body = M.is x; is = refl }; no_form = no-tag n written known body tag (M.meaning x) h.0 }
-refuses-tag M x tag n written known body e (inr h) = memory_refuses e (MeansTagged tag (M.of x)) n (tagged written known body) h.1
+    let no = k fault in record { m = of_tagged tag no.m; is = record { body = no.m; is_body = no.is; is = refl }; no_form = no-tagged n written known body tag no.m (λ le. no.no_form) })
 
 pub refused_tag : {Z T : Type 0} (r : Result Z Error) (M : Meanings T) (x : T) (tag : List ℕ) (n : Nesting) (written : List ℕ → Shape) (known : List ℕ → Bool) (body : List ℕ → Shape)
     → IfErr r (long_or_memory (length tag)) → IfErr r (Refused (MeansTagged tag (M.of x)) n (tagged written known body))
-refused_tag r M x tag n written known body h = err_along r h (λ e k. refuses-tag M x tag n written known body e k)
+refused_tag r M x tag n written known body h = err_along r h (λ e k. elim k [
+  | inl long ↦ λ fault. record {
+    m = of_tagged tag (M.meaning x);
+    is = record { body = M.meaning x; is_body = M.is x; is = refl };
+    no_form = no-tagged n written known body tag (M.meaning x) (λ le. omega (arith, le, long.0));
+  }
+  | inr short ↦ memory_refuses e (MeansTagged tag (M.of x)) n (tagged written known body) short.1
+])
 
 pub ruleset writes = (ok_along, writes_tagged, refused_body)
 
@@ -64,29 +54,14 @@ pub ruleset writes = (ok_along, writes_tagged, refused_body)
 abbrev pub NoneFrom : {F : Type 0} → List ℕ → List (List ℕ × F) → ℕ → Type 0
 NoneFrom {F} tag readers i = (j : ℕ) (r : List ℕ × F) → i ≤ j → slice_get readers j ≡ Some r → bytes_eq tag r.0 ≡ false
 
-some-none : {X : Type 0} {x : X} → Some x ≡ None → ⊥
-some-none e = cc
-
 at_place : {R F : Type 0} (view : R → List ℕ × F) (xs : List R) (i : ℕ) (x : R) → i < length xs → x ≡ get_or xs i x → slice_get (map view xs) i ≡ Some (view x)
 at_place view xs i x lt e = slice_get-map view xs i ∙ rw (slice_get_read xs (length xs) i x refl lt e) refl
-
-some-same : {X : Type 0} {x y : X} → Some x ≡ Some y → x ≡ y
-some-same e = cc
 
 pub none_past : {R F : Type 0} (view : R → List ℕ × F) (tag : List ℕ) (xs : List R) (i : ℕ) → length xs ≤ i → NoneFrom tag (map view xs) i
 none_past view tag xs i le j r past stands = absurd (omega (arith, le, past, slice_get_within (map view xs) j r stands, length-map xs view))
 
 pub none_from_less : {R F : Type 0} (view : R → List ℕ × F) (tag : List ℕ) (xs : List R) (i k : ℕ) (x : R) → k + 1 ≡ i → k < length xs → x ≡ get_or xs k x → bytes_eq tag (view x).0 ≡ false → NoneFrom tag (map view xs) i → NoneFrom tag (map view xs) k
-none_from_less {R} {F} view tag xs i k x s lt e differs from j r le stands = go (cases_lt k j)
-  where
-    go : (k < j) ⊎ (j ≤ k) → bytes_eq tag r.0 ≡ false
-    go (inl less) = from j r (omega (arith, s, less)) stands
-    go (inr more) =
-        let here : j ≡ k = omega (arith, le, more) in
-        let at_k : slice_get (map view xs) k ≡ Some r = rw (sym here) stands in
-        let is : view x ≡ r = some-same (sym (at_place view xs k x lt e) ∙ at_k) in
-        let P : List ℕ × F → Type 0 = λ y. bytes_eq tag y.0 ≡ false in
-        subst P is differs
+none_from_less view tag xs i k x s lt e differs from j r le stands = let at = at_place view xs k x lt e in let later = from j r in grind (arith, nat_tests, at, later, differs, stands, s, le)
 
 pub is_last : {R F : Type 0} (view : R → List ℕ × F) (tag : List ℕ) (xs : List R) (i k : ℕ) (x : R) → k + 1 ≡ i → k < length xs → x ≡ get_or xs k x → bytes_eq tag (view x).0 ≡ true → NoneFrom tag (map view xs) i → IsLastFor tag (map view xs) (view x).1
 is_last {R} {F} view tag xs i k x s lt e equal from =
@@ -99,68 +74,42 @@ is_last {R} {F} view tag xs i k x s lt e equal from =
 is-same : (tag : List ℕ) → bytes_eq tag tag ≡ true
 is-same tag = (bytes_eq-Decides tag tag).1 refl
 
-not-registered : (rs : List (List ℕ × Shape)) (tag : List ℕ) → ((j : ℕ) (r : List ℕ × Shape) → slice_get rs j ≡ Some r → bytes_eq tag r.0 ≡ false) → is_registered rs tag ≡ false
-not-registered [] tag h = refl
-not-registered (r ∷ rs) tag h = rw (not-registered rs tag (λ j x e. h (suc j) x e)) (h 0 r refl)
+not-registered : {X : Type 0} (f : X → List ℕ × Shape) (xs : List X) (tag : List ℕ) → ((j : ℕ) (x : X) → slice_get xs j ≡ Some x → bytes_eq tag (f x).0 ≡ false) → is_registered (map f xs) tag ≡ false
+not-registered f [] tag h = refl
+not-registered f (x ∷ xs) tag h = rw (not-registered f xs tag (λ j y e. h (suc j) y e)) (h 0 x refl)
 
-is-last : (rs : List (List ℕ × Shape)) (tag : List ℕ) (s : Shape) (place : ℕ) → slice_get rs place ≡ Some (tag, s) → ((j : ℕ) (r : List ℕ × Shape) → place < j → slice_get rs j ≡ Some r → bytes_eq tag r.0 ≡ false) → (is_registered rs tag ≡ true) × (body_of rs tag ≡ s)
-is-last [] tag s place e last = absurd (some-none (sym e))
-is-last (r ∷ rs) tag s zero e last =
-    let same : r ≡ (tag, s) = some-same e in
-    let none = not-registered rs tag (λ j x stands. last (suc j) x (omega arith) stands) in
-    (rw (none, same) (is-same tag), rw (none, same) refl)
-is-last (r ∷ rs) tag s (suc place) e last =
-    let p = is-last rs tag s place e (λ j x less stands. last (suc j) x (omega (arith, less)) stands) in
+is-last : {X : Type 0} (f : X → List ℕ × Shape) (xs : List X) (tag : List ℕ) (x : X) (place : ℕ) → slice_get xs place ≡ Some x → bytes_eq tag (f x).0 ≡ true → ((j : ℕ) (y : X) → place < j → slice_get xs j ≡ Some y → bytes_eq tag (f y).0 ≡ false)
+    → (is_registered (map f xs) tag ≡ true) × (body_of (map f xs) tag ≡ (f x).1)
+is-last f [] tag x place e equal last = absurd cc
+is-last f (y ∷ ys) tag x zero e equal last =
+    let same : y ≡ x = cc in
+    let none = not-registered f ys tag (λ j z stands. last (suc j) z (omega arith) stands) in
+    (rw (none, same) equal, rw (none, same) refl)
+is-last f (y ∷ ys) tag x (suc place) e equal last =
+    let p = is-last f ys tag x place e equal (λ j z less stands. last (suc j) z (omega (arith, less)) stands) in
     (rw p.0 refl, rw p.0 p.1)
-
--- the same of readers and what each reads
-grammar-at : {F V : Type 0} (grammar : F → V → Shape) (e : V) (readers : List (List ℕ × F)) (j : ℕ) (tag : List ℕ) (s : Shape) → slice_get (grammars grammar e readers) j ≡ Some (tag, s) → (f : F) × ((slice_get readers j ≡ Some (tag, f)) × (grammar f e ≡ s))
-grammar-at grammar e [] j tag s h = absurd (some-none (sym h))
-grammar-at {F} grammar e (r ∷ rs) zero tag s h =
-    let same : (r.0, grammar r.1 e) ≡ (tag, s) = some-same h in
-    let tags : r.0 ≡ tag = ap (λ (p : List ℕ × Shape). p.0) same in
-    let P : List ℕ → Type 0 = λ t. (slice_get (r ∷ rs) 0 ≡ Some (t, r.1)) in
-    (r.1, (subst P tags refl, ap (λ (p : List ℕ × Shape). p.1) same))
-grammar-at grammar e (r ∷ rs) (suc j) tag s h = grammar-at grammar e rs j tag s h
-
-pub unknown_tag : {F V : Type 0} (grammar : F → V → Shape) (e : V) (readers : List (List ℕ × F)) (tag : List ℕ) → NoneFor tag readers → is_registered (grammars grammar e readers) tag ≡ false
-unknown_tag grammar e readers tag none = not-registered (grammars grammar e readers) tag (λ j r stands. let p = grammar-at grammar e readers j r.0 r.1 stands in none j (r.0, p.0) p.1.0)
-
-pub known_tag : {F V : Type 0} (grammar : F → V → Shape) (e : V) (readers : List (List ℕ × F)) (tag : List ℕ) (f : F) → IsLastFor tag readers f → (is_registered (grammars grammar e readers) tag ≡ true) × (body_of (grammars grammar e readers) tag ≡ grammar f e)
-known_tag {F} grammar e readers tag f l =
-    let at : slice_get (grammars grammar e readers) l.place ≡ Some (tag, grammar f e) = slice_get-map (λ r. (r.0, grammar r.1 e)) readers l.place ∙ rw l.stands refl in
-    is-last (grammars grammar e readers) tag (grammar f e) l.place at (λ j r less stands. let p = grammar-at grammar e readers j r.0 r.1 stands in l.last j (r.0, p.0) less p.1.0)
 
 -- ---- reading
 
 read-known : {A B F V : Type 0} (context : Context A B) (written : List ℕ → Shape) (grammar : F → V → Shape) (env : V) (readers : List (List ℕ × F)) (tag : List ℕ) (f : F) (rest mid : Rest A) → bytes_of text_at (λ t. t) rest ≡ Ok (tag, mid) → IsLastFor tag readers f
     → read context (tagged_by written (grammars grammar env readers)) rest ≡ (read context (grammar f env) mid >>= λ y. Ok (of_tagged tag y.0, y.1))
 unfolding read read_with
-read-known context written grammar env readers tag f rest mid e last = let p = known_tag grammar env readers tag f last in rw (e, p.0, p.1) refl
+read-known context written grammar env readers tag f rest mid e last = let p = is-last (λ r. (r.0, grammar r.1 env)) readers tag (tag, f) last.place last.stands (is-same tag) last.last in rw (e, p.0, p.1) refl
 
 read-unknown : {A B F V : Type 0} (context : Context A B) (written : List ℕ → Shape) (grammar : F → V → Shape) (env : V) (readers : List (List ℕ × F)) (tag : List ℕ) (rest mid : Rest A) → bytes_of text_at (λ t. t) rest ≡ Ok (tag, mid) → NoneFor tag readers
     → read context (tagged_by written (grammars grammar env readers)) rest ≡ Err errors.UnknownTag
 unfolding read read_with
-read-unknown context written grammar env readers tag rest mid e none = rw (e, unknown_tag grammar env readers tag none) refl
+read-unknown context written grammar env readers tag rest mid e none = rw (e, not-registered (λ r. (r.0, grammar r.1 env)) readers tag none) refl
 
 -- a tag as bytes give it
 pub text_is_read : {X : Type 0} (bytes_in : X → List ℕ) (r : Result X Error) (rest last : Rest Answer) (bytes after : List ℕ) → rest.bytes ≡ bytes → last ≡ record rest { bytes = after } → Gives memory (λ t. (bytes_in t, after)) r (text_at bytes)
     → Gives memory (λ t. (bytes_in t, last)) r (bytes_of text_at (λ t. t) rest)
-text_is_read bytes_in (Ok x) rest last bytes after e f h = rw (f, e, h) refl
-text_is_read bytes_in (Err x) rest last bytes after e f (inl h) = inl (rw (e, h) refl)
-text_is_read bytes_in (Err x) rest last bytes after e f (inr h) = inr h
+text_is_read bytes_in r rest last bytes after e f h = grind (arith, nat_tests, e, f, h)
 
 module _ {D E R N H K V : Type 0} (d : Deserializers D E R N H K V) where
   -- what a reader of a part or of the whole owes
   abbrev pub Tells : Type 0 → D → D → Type 0
   Tells gives old new = record { gives : gives; moves : MovesOn (d.standing old) (d.standing new); same_env : d.environment new ≡ d.environment old; same_levels : d.levels new ≡ d.levels old }
-
-  tells : {P Q : Type 0} {a b : D} → Tells P a b → Q → Tells Q a b
-  tells t gives = record { gives = gives; moves = t.moves; same_env = t.same_env; same_levels = t.same_levels }
-
-  -- what follows a part that was read
-  then-tells : {P Q : Type 0} {a b c : D} → MovesOn (d.standing a) (d.standing b) → d.environment b ≡ d.environment a → d.levels b ≡ d.levels a → Tells P b c → (P → Q) → Tells Q a c
-  then-tells moves same_env same_levels told f = record { gives = f told.gives; moves = moves_trans _ _ _ moves told.moves; same_env = told.same_env ∙ same_env; same_levels = told.same_levels ∙ same_levels }
 
 module _ {D E R N H K V T F : Type 0} (env : Environments E N H K V) (d : Deserializers D E R N H K V) (own : Error → Type 0) (tag_of : T → List ℕ) (M : T → Meaning ArcRef → Type 0) (grammar : F → E → Shape) where
   -- what a reader of a tagged value owes
@@ -171,14 +120,14 @@ module _ {D E R N H K V T F : Type 0} (env : Environments E N H K V) (d : Deseri
   pub unknown_read : {a b : D} {tag : List ℕ} (readers known : List (List ℕ × F)) (named : List ℕ) → Tells d (bytes_of text_at (λ t. t) (d.rest a) ≡ Ok (tag, d.rest b)) a b → named ≡ tag
       → known ≡ readers → NoneFor named known → TellsTagged readers a b (Err errors.UnknownTag)
   unknown_read {a} {b} {tag} readers known named told same all none =
-      tells d told (λ written. inl (read-unknown _ written grammar (d.environment a) readers tag _ _ told.gives (rw (same, all) at none)))
+      record { gives = λ written. inl (read-unknown _ written grammar (d.environment a) readers tag _ _ told.gives (rw (same, all) at none)); moves = told.moves; same_env = told.same_env; same_levels = told.same_levels }
 
   -- what the reader of a body tells, after the tag
   abbrev pub TellsBody : (gives of_tag : Type 0) → D → D → Type 0
   TellsBody gives of_tag old new = record { gives : gives; of_tag : of_tag; moves : MovesOn (d.standing old) (d.standing new); same_env : d.environment new ≡ d.environment old; same_levels : d.levels new ≡ d.levels old }
 
   after-tag : {P Q X Y : Type 0} {a b c : D} → Tells d P a b → TellsBody X Y b c → (X → Q) → Tells d Q a c
-  after-tag first told f = then-tells d first.moves first.same_env first.same_levels (record { gives = told.gives; moves = told.moves; same_env = told.same_env; same_levels = told.same_levels }) f
+  after-tag first told f = record { gives = f told.gives; moves = moves_trans _ _ _ first.moves told.moves; same_env = told.same_env ∙ first.same_env; same_levels = told.same_levels ∙ first.same_levels }
 
   -- the body is refused
   pub no_body_read : {Y : Type 0} {a b c : D} {tag : List ℕ} {e : Error} (readers known : List (List ℕ × F)) (named : List ℕ) (f : F) (r : Result T Error) → IsErrAnd r (λ x. x ≡ e)
@@ -211,11 +160,8 @@ module _ {D E R N H K V T F : Type 0} (env : Environments E N H K V) (d : Deseri
 
 -- a registered tag is read by its own registration
 own-registration : (rs : List (List ℕ × Shape)) (i : ℕ) (tag : List ℕ) (s : Shape) → HasDistinctTags rs → slice_get rs i ≡ Some (tag, s) → (is_registered rs tag ≡ true) × (body_of rs tag ≡ s)
-own-registration rs i tag s distinct stands = is-last rs tag s i stands (λ j r less there. differs j r less there (bytes_eq tag r.0) refl)
-  where
-    differs : (j : ℕ) (r : List ℕ × Shape) → i < j → slice_get rs j ≡ Some r → (b : Bool) → bytes_eq tag r.0 ≡ b → bytes_eq tag r.0 ≡ false
-    differs j r less there true e = let same = distinct i j (tag, s) r stands there e in absurd (omega (arith, less, same))
-    differs j r less there false e = e
+own-registration rs i tag s distinct stands =
+    rw (map-id rs) at (is-last (λ x. x) rs tag (tag, s) i stands (is-same tag) (λ j r less there. let one = distinct i j (tag, s) r stands there in grind (arith, nat_tests, one, less)))
 
 registered-place : (rs : List (List ℕ × Shape)) (tag : List ℕ) → is_registered rs tag ≡ true → (i : ℕ) × (slice_get rs i ≡ Some (tag, body_of rs tag))
 registered-place [] tag e = absurd cc

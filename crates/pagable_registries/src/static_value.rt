@@ -156,7 +156,7 @@ impl<T> Model for StaticValueRegistry<T> {
 }
 
 /// The values of the entries, in their order.
-#[tactic(auto, using(crate::proofs::Statics::values))]
+#[tactic(auto, using(crate::proofs::Statics::values_more))]
 fn values_of<T: Copy>(alloc: Global, entries: &[StaticValueEntry<T>]) -> Result<Vec<T>, AllocError>
     ensures { IfOk result (λ v. v.items ≡ map (λ e. e.value) entries.now) }
 {
@@ -298,7 +298,7 @@ impl<E: Env, T: HasStaticValueRegistry<E>> PagableSerialize<E> for StaticValue<T
 
     /// Appends the index. Unregistered exactly where the environment's registry has no equal value under it, and else
     /// refused by want of memory alone.
-    #[tactic(auto, using(pagable_codec::proofs::Writing::parts, crate::proofs::Statics::writing))]
+    #[tactic(auto, using(pagable_codec::proofs::Writing::parts, crate::proofs::Statics::writes_static))]
     fn pagable_serialize<S: PagableSerializer<E>>(&self, serializer: &mut S) -> Result<(), Error>
         ensures ok { OnOk result (WritesSome (Is (λ v. lifted (T.plain v.0.value)) self.now) (nesting (S.levels serializer.old) (E.parts (S.environment serializer.old))) (static_value (meanings_of T.plain (T.known (S.environment serializer.old)))) (S.out serializer.old) (S.out serializer.new)) }
         ensures refused { IfErr result (Refused (Is (λ v. lifted (T.plain v.0.value)) self.now) (nesting (S.levels serializer.old) (E.parts (S.environment serializer.old))) (static_value (meanings_of T.plain (T.known (S.environment serializer.old))))) }
