@@ -1,5 +1,5 @@
 -- The refusals of a storage that fails once.
-use Rattle.std.{proofs.Common.{◌≡◌, ◌+◌, ◌-◌, ◌^◌, ◌<◌, ◌≤◌, ℕ, Bool, true, false, min, arith, rules, Option, Result, Ok, Err, inl, inr}, proofs.lemmas.Bool.cases_lt, specs.Prelude.{IfErr, ◌⊎◌}}
+use Rattle.std.{proofs.Common.{◌≡◌, ◌+◌, ◌-◌, ◌^◌, ◌<◌, ◌≤◌, ℕ, Bool, true, false, min, arith, rules, Option, Result, Err, inl, inr}, proofs.lemmas.Bool.cases_lt, specs.Prelude.{IfErr, ◌⊎◌}}
 use Rattle.pagable_model.specs.{Blob.Blob, Stored.{HasFailed, RefusesFetch, RefusesStore, RefusesFlush}, declared.error.Error.Error}
 use Rattle.pagable_examples.specs.Failing.{own_failures, failures_of}
 use Rattle.pagable_model.specs.declared.error.Error.TheVariants as errors
