@@ -1,9 +1,9 @@
 -- Expressions: a number, or two expressions one level further down.
-use Rattle.std.{proofs.Common.{◌≡◌, ℕ, ◌+◌, ◌-◌, ◌<◌, ◌≤◌, Bool, true, false, [], ◌∷◌, ◌++◌, ◌∙◌, arith, refl, Result, Ok, Err, inl, inr}, specs.Int.w64, specs.Prelude.{List, OnOk, IfErr, ◌⊎◌}}
+use Rattle.std.{proofs.Common.{◌≡◌, ℕ, ◌+◌, ◌-◌, ◌<◌, ◌≤◌, Bool, true, false, [], ◌∷◌, ◌++◌, ◌∙◌, arith, refl, Result, Ok, Err, inl, inr}, specs.Int.w64, specs.Prelude.{List, cond, OnOk, IfErr, ◌⊎◌}}
 use Rattle.pagable.proofs.{Joined.{flagged, no-failure, no-success}, Parts.{refused_second, refuses_first, where_ok, writes_pair}, Reading.{moves_trans, moves_refl}, Writing.{grows_trans, grows_same}}
 use Rattle.pagable.specs.{ArcRef.ArcRef, Basic.{bool_at, bool_form}, Error.Error, Form.{ok-form, err-form}, Gives.{never, memory, deep_or}, Lifted.MeansPair, Meaning.{Meaning, number, pair, success}}
 use Rattle.pagable.specs.{Meaning.failure, Reading.{Rest, deepest, read, read_with, bytes_of}, Shape.{Shape, both, unsigned, nested}}
-use Rattle.pagable.specs.Standing.{Answer, Standing, MovesOn, GivesSome, Gave, Is, SomeMeaning, handles_at}
+use Rattle.pagable.specs.Standing.{Answer, Standing, MovesOn, GivesSome, Gave, Is, handles_at}
 use Rattle.pagable.specs.Writing.{Out, nesting, WritesSome, Grows, added, Refused}
 use Rattle.pagable_examples.proofs.Levels.{writes-down, refused-down, refused-deep, reads-deep, reads-down}
 use Rattle.pagable_examples.specs.{declared.expression.Expression.{Expression, Number}, Expressions.{node, nodes, of_expression, IsWritten, IsRead, IsSum}}
@@ -87,16 +87,13 @@ module _ (x y value : Expression) (is : of_expression value ≡ failure (pair (o
   sum-means : (m : Meaning ArcRef) → MeansPair (Is of_expression) (Is of_expression) (x, y) m → failure m ≡ of_expression value
   sum-means m h = rw (h.is, h.is_first, h.is_second, is) refl
 
-  has : (z : Expression) → SomeMeaning (Is of_expression z)
-  has z = (of_expression z, refl)
-
   pub left_unwritten : {X E : Type 0} (e : Error) {levels between after : ℕ} {old mid new : Out} {env env_mid env_after : E}
       → record { ok : mid ≡ added old (bool_form false) []; only : Unit {0}; err : Grows old mid; same_env : env_mid ≡ env; same_levels : between ≡ levels }
       → IsWritten {X = X} (Is of_expression x) (nested 0) (Err e) between after mid new env_mid env_after → IsWritten {X = X} (Is of_expression value) node (Err e) levels after old new env env_after
   left_unwritten {X = X} e f w =
       as-written (flagged {Y = X} (Err e) (MeansPair (Is of_expression) (Is of_expression) (x, y)) (Is of_expression value) _ (both (nested 0) (nested 0)) node false failure (deep_or memory) (deep_or memory)
       sum-means (λ m b k form. err-form _ _ _ m b k form) (no-failure _ _ _) (λ e h. h) f.ok
-      (record { ok = tt; refused = refuses_first (Is of_expression) (Is of_expression) has (x, y) _ _ _ e (rw f.same_levels at w.refused); only = w.only; err = w.err; same_env = w.same_env ∙ f.same_env; same_levels = w.same_levels ∙ f.same_levels }))
+      (record { ok = tt; refused = refuses_first (Is of_expression) (Is of_expression) (λ z. (of_expression z, refl)) (x, y) _ _ _ e (rw f.same_levels at w.refused); only = w.only; err = w.err; same_env = w.same_env ∙ f.same_env; same_levels = w.same_levels ∙ f.same_levels }))
 
   pub sum_written : {X Y E : Type 0} (d : Y) (r : Result X Error) {levels between midway after : ℕ} {old mid half new : Out} {env env_mid env_half env_after : E}
       → record { ok : mid ≡ added old (bool_form false) []; only : Unit {0}; err : Grows old mid; same_env : env_mid ≡ env; same_levels : between ≡ levels }
@@ -108,7 +105,7 @@ module _ (x y value : Expression) (is : of_expression value ≡ failure (pair (o
       sum-means (λ m b k form. err-form _ _ _ m b k form) (no-failure _ _ _) (λ e h. h) f.ok
       (record {
         ok = where_ok r _ _ (writes_pair (Is of_expression) (Is of_expression) (x, y) _ _ _ _ _ _ (rw f.same_levels at v.ok)) (rw levels at w.ok);
-        refused = refused_second r (Is of_expression) (Is of_expression) has (x, y) _ _ _ (rw levels at w.refused);
+        refused = refused_second r (Is of_expression) (Is of_expression) (λ z. (of_expression z, refl)) (x, y) _ _ _ (rw levels at w.refused);
         only = w.only;
         err = grows_trans _ _ _ v.err w.err;
         same_env = w.same_env ∙ v.same_env ∙ f.same_env;
@@ -117,27 +114,23 @@ module _ (x y value : Expression) (is : of_expression value ≡ failure (pair (o
 
 -- ---- reading a node
 
+-- the refusal of the flag, and of the first part after it, is one of the whole
 pub flag_refused : (levels : ℕ) (rest : Rest Answer) (e : Error) → (bytes_of bool_at (λ b. b) rest ≡ Err e) ⊎ never e → (read (handles_at levels nodes) node rest ≡ Err e) ⊎ memory e
 unfolding read read_with
 flag_refused levels rest e (inl h) = inl (rw h refl)
 flag_refused levels rest e (inr h) = absurd h
 
-pub number_refused : (levels : ℕ) (rest mid : Rest Answer) (e : Error) → bytes_of bool_at (λ b. b) rest ≡ Ok (true, mid) → (read (handles_at levels nodes) (unsigned w64) mid ≡ Err e) ⊎ never e
-    → (read (handles_at levels nodes) node rest ≡ Err e) ⊎ memory e
+pub first_refused : (P : Error → Type 0) → ((e : Error) → P e → memory e) → (is_number : Bool) (levels : ℕ) (rest mid : Rest Answer) (e : Error) → bytes_of bool_at (λ b. b) rest ≡ Ok (is_number, mid)
+    → (read (handles_at levels nodes) (cond is_number (unsigned w64) (nested 0)) mid ≡ Err e) ⊎ P e → (read (handles_at levels nodes) node rest ≡ Err e) ⊎ memory e
 unfolding read read_with
-number_refused levels rest mid e h (inl f) = inl (rw (h, f) refl)
-number_refused levels rest mid e h (inr own) = absurd own
+first_refused P own true levels rest mid e h (inl f) = inl (rw (h, f) refl)
+first_refused P own false levels rest mid e h (inl f) = inl (rw (h, f) refl)
+first_refused P own _ levels rest mid e h (inr o) = inr (own e o)
 
 pub gave_number : (x levels : ℕ) (rest mid after : Rest Answer) → bytes_of bool_at (λ b. b) rest ≡ Ok (true, mid) → Gave (Is number x) after (read (handles_at levels nodes) (unsigned w64) mid)
     → Gave (Is of_expression (Number x)) after (read (handles_at levels nodes) node rest)
 unfolding read read_with
 gave_number x levels rest mid after h g = record { m = success g.m; is = rw g.is refl; gave = rw (h, g.gave) refl }
-
-pub left_refused : (levels : ℕ) (rest mid : Rest Answer) (e : Error) → bytes_of bool_at (λ b. b) rest ≡ Ok (false, mid) → (read (handles_at levels nodes) (nested 0) mid ≡ Err e) ⊎ memory e
-    → (read (handles_at levels nodes) node rest ≡ Err e) ⊎ memory e
-unfolding read read_with
-left_refused levels rest mid e h (inl f) = inl (rw (h, f) refl)
-left_refused levels rest mid e h (inr own) = inr own
 
 pub right_refused : (x : Expression) (levels : ℕ) (rest mid last : Rest Answer) (e : Error) → bytes_of bool_at (λ b. b) rest ≡ Ok (false, mid)
     → Gave (Is of_expression x) last (read (handles_at levels nodes) (nested 0) mid) → (read (handles_at levels nodes) (nested 0) last ≡ Err e) ⊎ memory e

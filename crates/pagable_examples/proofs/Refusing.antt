@@ -1,5 +1,5 @@
 -- The refusals of a storage that fails once.
-use Rattle.std.{proofs.Common.{◌≡◌, ◌+◌, ◌-◌, ◌^◌, ◌<◌, ◌≤◌, ℕ, Bool, true, false, min, arith, Option, Result, Ok, Err, inl, inr}, proofs.lemmas.Bool.cases_lt, specs.Prelude.{IfErr, ◌⊎◌}}
+use Rattle.std.{proofs.Common.{◌≡◌, ◌+◌, ◌-◌, ◌^◌, ◌<◌, ◌≤◌, ℕ, Bool, true, false, min, arith, rules, Option, Result, Err, inl, inr}, proofs.lemmas.Bool.cases_lt, specs.Prelude.{IfErr, ◌⊎◌}}
 use Rattle.pagable_model.specs.{Blob.Blob, Stored.{HasFailed, RefusesFetch, RefusesStore, RefusesFlush}, declared.error.Error.Error}
 use Rattle.pagable_examples.specs.Failing.{own_failures, failures_of}
 use Rattle.pagable_model.specs.declared.error.Error.TheVariants as errors
@@ -22,31 +22,16 @@ passed-on failed before after (inr h) = inr (omega (arith, h.0, h.1), omega (ari
 module _ {X : Type 0} (failed : Bool) (before after : ℕ) where
   pub fetch_refused : (r : Result X Error) (key : ℕ) (found : Option Blob) → IfErr r (RefusesFetch key found before after)
       → IfErr r (RefusesFetch key found (failures_of failed before) (failures_of failed after))
-  fetch_refused (Err (errors.NoData k)) key found h = h
-  fetch_refused (Err errors.OutOfMemory) key found h = h
   fetch_refused (Err (errors.Storage code)) key found h = passed-on failed before after h
-  fetch_refused (Err _) key found h = absurd h
-  fetch_refused (Ok x) key found h = tt
+  fetch_refused _ key found h = search rules
 
   pub store_refused : (r : Result X Error) (blob : Blob) (found : Option Blob) (closed : Bool) → IfErr r (RefusesStore blob found closed before after)
       → IfErr r (RefusesStore blob found closed (failures_of failed before) (failures_of failed after))
-  store_refused (Err errors.KeyTaken) blob found closed h = h
-  store_refused (Err errors.Closed) blob found closed h = h
-  store_refused (Err errors.OutOfMemory) blob found closed h = h
   store_refused (Err (errors.Storage code)) blob found closed h = passed-on failed before after h
-  store_refused (Err _) blob found closed h = absurd h
-  store_refused (Ok x) blob found closed h = tt
+  store_refused _ blob found closed h = search rules
 
   pub flush_refused : (r : Result X Error) → IfErr r (RefusesFlush before after) → IfErr r (RefusesFlush (failures_of failed before) (failures_of failed after))
-  flush_refused (Err errors.OutOfMemory) h = h
   flush_refused (Err (errors.Storage code)) h = passed-on failed before after h
-  flush_refused (Err _) h = absurd h
-  flush_refused (Ok x) h = tt
+  flush_refused _ h = search rules
 
-pub own_later : (inner : ℕ) (before after : Bool) → before ≡ false → after ≡ true → failures_of before inner ≤ failures_of after inner
-own_later inner before after is_not is = rw (is_not, is) (omega arith)
-
-pub passed_later : (failed : Bool) (before after : ℕ) → before ≤ after → failures_of failed before ≤ failures_of failed after
-passed_later failed before after le = omega arith
-
-pub ruleset refusing = (own_failure, own_later, passed_later, fetch_refused, store_refused, flush_refused)
+pub ruleset refusing = (own_failure, fetch_refused, store_refused, flush_refused)

@@ -13,9 +13,8 @@ abbrev pub dog : List ℕ
 dog = 68 ∷ 111 ∷ 103 ∷ []
 
 abbrev pub tag_of : Animal → List ℕ
-tag_of animals.Cat = cat
-tag_of (animals.OldCat lives) = cat
 tag_of (animals.Dog age) = dog
+tag_of _ = cat
 
 -- a dog's age is written, and nothing of a cat
 abbrev pub written : List ℕ → Shape
@@ -30,11 +29,9 @@ abbrev pub animal_means : Meanings Animal
 animal_means = record { of = λ x. MeansTagged (tag_of x) (Is body_of x); meaning = λ x. of_tagged (tag_of x) (body_of x); is = λ x. record { body = body_of x; is_body = refl; is = refl } }
 
 abbrev pub tag_read : AnimalReader → List ℕ
-tag_read readers.Cat = cat
-tag_read readers.OldCat = cat
 tag_read readers.Dog = dog
+tag_read _ = cat
 
 abbrev pub grammar_of : AnimalReader → Shape
 grammar_of readers.Cat = nothing
-grammar_of readers.OldCat = unsigned w8
-grammar_of readers.Dog = unsigned w8
+grammar_of _ = unsigned w8

@@ -21,9 +21,8 @@ texts_apart xs ys e = cc
 
 pub numbers_apart : (xs ys : List ℕ) → of_numbers xs ≡ of_numbers ys → xs ≡ ys
 numbers_apart [] [] e = refl
-numbers_apart [] (y ∷ ys) e = cc
-numbers_apart (x ∷ xs) [] e = cc
 numbers_apart (x ∷ xs) (y ∷ ys) e = let rest : of_numbers xs ≡ of_numbers ys = cc in let same = numbers_apart xs ys rest in cc
+numbers_apart _ _ e = cc
 
 pub text_refers_to_nothing : (xs : List ℕ) → HasNoReference (of_text xs)
 unfolding HasNoReference

@@ -62,6 +62,7 @@ impl PagableSerialize<Linked> for Bundle {
 impl<'de> PagableDeserialize<'de, Linked> for Bundle {
     ghost read_causes = { bundle_reads };
 
+    #[tactic(auto, using(std::proofs::lemmas::Result::err_from_is_err_and))]
     fn pagable_deserialize<D: PagableDeserializer<Linked>>(
         alloc: Global,
         deserializer: &mut D,

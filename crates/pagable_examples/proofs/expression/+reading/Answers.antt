@@ -1,6 +1,6 @@
-use Rattle.std.proofs.{Common.◌∙◌, lemmas.Result.err_from_is_err_and}
-use Rattle.pagable.proofs.Reading.{moves_trans}
-use Rattle.pagable_examples.proofs.Expressions.{deep_unread, read_down, flag_refused, gave_number, left_refused, number_refused, right_refused, sum_gives, then_read}
+use Rattle.std.proofs.{Common.{◌∙◌, true, false}, lemmas.Result.err_from_is_err_and}
+use Rattle.pagable.{proofs.Reading.moves_trans, specs.Gives.{never, memory}}
+use Rattle.pagable_examples.proofs.Expressions.{deep_unread, read_down, flag_refused, gave_number, first_refused, right_refused, sum_gives, then_read}
 use Rattle.pagable_examples.proofs.expression.+reading.Goals as goal
 
 pub read_below-returns-in_err-enter : goal.read_below-returns-in_err-enter
@@ -25,7 +25,8 @@ read_node-returns-in_err-number g t c =
     let p = err_from_is_err_and c.from_residual-in_err-number.result c.from_residual-in_err-number.ensures.1 in
     let f = c.in_ok-read_flag.ensures in
     let n = c.in_err-number.ensures in
-    rw (p.1, p.2) (then_read f.moves f.same_env f.same_levels n.moves n.same_env n.same_levels (number_refused _ _ _ _ (rw c.if-branch.true at f.gives) (rw f.same_levels at n.gives)))
+    rw (p.1, p.2) (then_read f.moves f.same_env f.same_levels n.moves n.same_env n.same_levels
+    (first_refused never (λ e none. absurd none) true _ _ _ _ (rw c.if-branch.true at f.gives) (rw f.same_levels at n.gives)))
 
 pub read_node-returns-then-branch : goal.read_node-returns-then-branch
 read_node-returns-then-branch g t c =
@@ -38,7 +39,8 @@ read_node-returns-in_err-left g t c =
     let p = err_from_is_err_and c.from_residual-in_err-left.result c.from_residual-in_err-left.ensures.1 in
     let f = c.in_ok-read_flag.ensures in
     let n = c.in_err-left.ensures in
-    rw (p.1, p.2) (then_read f.moves f.same_env f.same_levels n.moves n.same_env n.same_levels (left_refused _ _ _ _ (rw c.if-branch.false at f.gives) (rw f.same_levels at n.gives)))
+    rw (p.1, p.2) (then_read f.moves f.same_env f.same_levels n.moves n.same_env n.same_levels
+    (first_refused memory (λ e own. own) false _ _ _ _ (rw c.if-branch.false at f.gives) (rw f.same_levels at n.gives)))
 
 pub read_node-returns-in_err-right : goal.read_node-returns-in_err-right
 read_node-returns-in_err-right g t c =
