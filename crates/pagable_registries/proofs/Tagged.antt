@@ -125,7 +125,9 @@ module _ {D E R N H K V T F : Type 0} (env : Environments E N H K V) (d : Deseri
   unknown_read {a} {b} {tag} readers known named told same all none =
       record {
         gives = λ written. inl (read-unknown _ written grammar (d.environment a) readers tag _ _ told.gives (rw (same, all) at none));
-        moves = told.moves; same_env = told.same_env; same_levels = told.same_levels;
+        moves = told.moves;
+        same_env = told.same_env;
+        same_levels = told.same_levels;
       }
 
   -- what the reader of a body tells, after the tag
