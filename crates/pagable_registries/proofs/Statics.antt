@@ -1,6 +1,6 @@
 -- Values in a registry, by their index.
 use Rattle.std.proofs.{Common.{◌≡◌, ℕ, zero, suc, ◌+◌, ◌<◌, ◌≤◌, Bool, false, List, [], ◌∷◌, ◌++◌, length, get_or, map, Some, Ok, Err, refl, arith}, lemmas.List.take_more}
-use Rattle.std.{proofs.{lemmas.List.{map-append, length-map}, lemmas.Bool.Decides.nat_tests, lemmas.Option.{slice_get_read, get_or_from_slice_get}}, specs.{Prelude.{IsTrue, ◌⊎◌, take}, Int.w32}}
+use Rattle.std.{proofs.{lemmas.List.{map-append, length-map}, lemmas.Bool.Decides.nat_tests, lemmas.Option.{slice_get_read, get_or_from_slice_get}}, specs.{Prelude.{IsTrue, take}, Int.w32}}
 use Rattle.std.specs.List.{slice_get}
 use Rattle.pagable_model.specs.{Reading.registered, declared.numbers.ArcRef.ArcRef, Numbers.{bound, unsigned_form}, Meaning.{Meaning, lifted}, Shape.static_value, Form.static-form, Standing.Is}
 use Rattle.pagable_model.specs.{Writing.{Out, Nesting, WritesSome}, Statics.{HasEqual, NoEqualBelow}}
@@ -22,7 +22,8 @@ pub none_below : {T : Type 0} (same : T → T → Bool) (value : T) (xs : List T
 none_below same value xs j known lt stands = absurd (omega (arith, lt))
 
 pub below_more : {T : Type 0} (same : T → T → Bool) (value : T) (xs : List T) (i : ℕ) (x : T) → x ≡ get_or xs i x → same value x ≡ false → NoEqualBelow same value xs i → NoEqualBelow same value xs (i + 1)
-below_more same value xs i x e differs below j known lt stands = let less = below j known in let here = get_or_from_slice_get xs i known x in grind (arith, nat_tests, less, here, e, differs, lt, stands)
+below_more same value xs i x e differs below j known lt stands =
+    let less = below j known in let here = get_or_from_slice_get xs i known x in grind (arith, nat_tests, less, here, e, differs, lt, stands)
 
 pub is_equal : {T : Type 0} (same : T → T → Bool) (value : T) (xs : List T) (i : ℕ) (x : T) → i < length xs → x ≡ get_or xs i x → IsTrue (same value x) → HasEqual same value xs i
 is_equal same value xs i x lt e equal = record { known = x; stands = slice_get_read xs (length xs) i x refl lt e; equal = equal }

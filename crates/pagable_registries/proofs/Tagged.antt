@@ -1,10 +1,10 @@
 -- Tagged values: what writing a tag and a body adds, and what reading by the registered reader gives.
 use Rattle.std.proofs.Common.{◌≡◌, ℕ, zero, suc, ◌+◌, ◌<◌, ◌≤◌, Bool, true, false, List, [], ◌∷◌, ◌++◌, length, get_or, map, Result, Some, Ok, Err, refl, sym, ap, subst, ◌∙◌, arith, inl, inr}
-use Rattle.std.proofs.{lemmas.Bool.Decides.nat_tests, lemmas.List.{length-map, map-id}, lemmas.Option.{slice_get_read, slice_get-map, slice_get_within}, lemmas.Slice.Eq.bytes_eq-Decides, lemmas.Result.err_from_is_err_and}
-use Rattle.std.specs.{Prelude.{IfErr, IsErrAnd, ◌⊎◌}, Str.{IsUtf8, bytes_eq}, List.slice_get}
+use Rattle.std.proofs.{lemmas.List.{length-map, map-id}, lemmas.Option.{slice_get_read, slice_get-map, slice_get_within}, lemmas.Slice.Eq.bytes_eq-Decides, lemmas.Result.err_from_is_err_and}
+use Rattle.std.{specs.{Prelude.{IfErr, IsErrAnd, ◌⊎◌}, Str.{IsUtf8, bytes_eq}, List.slice_get}, proofs.lemmas.Bool.Decides.nat_tests}
 use Rattle.pagable_model.specs.{declared.error.Error.Error, declared.numbers.ArcRef.ArcRef, Steps.◌>>=◌, Basic.{longest, text_form, text_at}, Canonical.{HasNoCase, IsReadable, LiesIn, Within}}
 use Rattle.pagable_model.specs.{Canonical.Throughout, Gives.{Gives, memory, memory_or}, Reading.{Rest, Context, read, read_with, bytes_of}, Carried.{of_tagged, is_registered, body_of, tagged_by}}
-use Rattle.pagable_model.specs.{Meaning.Meaning, Shape.{Shape, tagged, cases}, Form.tagged-form, Standing.{Answer, SomeMeaning, Gave, GivesSome, MovesOn}, Writing.{Out, Nesting, FormAt, WritesSome, NoForm, Refused}}
+use Rattle.pagable_model.specs.{Meaning.Meaning, Shape.{Shape, tagged, cases}, Form.tagged-form, Standing.{Answer, SomeMeaning, Gave, GivesSome, MovesOn}, Writing.{Out, Nesting, WritesSome, NoForm, Refused}}
 use Rattle.pagable_model.specs.{Writing.added, Lengths.long_or_memory, Tagged.{MeansTagged, IsLastFor, NoneFor, grammars, HasDistinctTags, ReadsWhatIsWritten}}
 use Rattle.pagable_codec.proofs.{Reading.moves_trans, Writing.{then, memory_refuses}}
 use Rattle.pagable_codec.specs.{declared.env.Env.Ghosts as Environments, declared.deserializer.PagableDeserializer.Ghosts as Deserializers}
@@ -27,7 +27,8 @@ writes_tagged M tag n written known body old mid new u le e w = record {
 }
 
 -- a tagged value has no form where a tag that fits has no form of the body
-no-tagged : (n : Nesting) (written : List ℕ → Shape) (known : List ℕ → Bool) (body : List ℕ → Shape) (tag : List ℕ) (x : Meaning ArcRef) → (length tag ≤ longest → NoForm n (written tag) x) → NoForm n (tagged written known body) (of_tagged tag x)
+no-tagged : (n : Nesting) (written : List ℕ → Shape) (known : List ℕ → Bool) (body : List ℕ → Shape) (tag : List ℕ) (x : Meaning ArcRef)
+    → (length tag ≤ longest → NoForm n (written tag) x) → NoForm n (tagged written known body) (of_tagged tag x)
 no-tagged n written known body tag x h b k (tagged-form l w' k' b' t y c k2 u le f) = h le c k2 f
 
 pub refused_body : {Z : Type 0} (r : Result Z Error) (M : Meaning ArcRef → Type 0) (tag : List ℕ) (n : Nesting) (written : List ℕ → Shape) (known : List ℕ → Bool) (body : List ℕ → Shape)
@@ -78,7 +79,8 @@ not-registered : {X : Type 0} (f : X → List ℕ × Shape) (xs : List X) (tag :
 not-registered f [] tag h = refl
 not-registered f (x ∷ xs) tag h = rw (not-registered f xs tag (λ j y e. h (suc j) y e)) (h 0 x refl)
 
-is-last : {X : Type 0} (f : X → List ℕ × Shape) (xs : List X) (tag : List ℕ) (x : X) (place : ℕ) → slice_get xs place ≡ Some x → bytes_eq tag (f x).0 ≡ true → ((j : ℕ) (y : X) → place < j → slice_get xs j ≡ Some y → bytes_eq tag (f y).0 ≡ false)
+is-last : {X : Type 0} (f : X → List ℕ × Shape) (xs : List X) (tag : List ℕ) (x : X) (place : ℕ)
+    → slice_get xs place ≡ Some x → bytes_eq tag (f x).0 ≡ true → ((j : ℕ) (y : X) → place < j → slice_get xs j ≡ Some y → bytes_eq tag (f y).0 ≡ false)
     → (is_registered (map f xs) tag ≡ true) × (body_of (map f xs) tag ≡ (f x).1)
 is-last f [] tag x place e equal last = absurd cc
 is-last f (y ∷ ys) tag x zero e equal last =
@@ -94,7 +96,8 @@ is-last f (y ∷ ys) tag x (suc place) e equal last =
 read-known : {A B F V : Type 0} (context : Context A B) (written : List ℕ → Shape) (grammar : F → V → Shape) (env : V) (readers : List (List ℕ × F)) (tag : List ℕ) (f : F) (rest mid : Rest A) → bytes_of text_at (λ t. t) rest ≡ Ok (tag, mid) → IsLastFor tag readers f
     → read context (tagged_by written (grammars grammar env readers)) rest ≡ (read context (grammar f env) mid >>= λ y. Ok (of_tagged tag y.0, y.1))
 unfolding read read_with
-read-known context written grammar env readers tag f rest mid e last = let p = is-last (λ r. (r.0, grammar r.1 env)) readers tag (tag, f) last.place last.stands (is-same tag) last.last in rw (e, p.0, p.1) refl
+read-known context written grammar env readers tag f rest mid e last =
+    let p = is-last (λ r. (r.0, grammar r.1 env)) readers tag (tag, f) last.place last.stands (is-same tag) last.last in rw (e, p.0, p.1) refl
 
 read-unknown : {A B F V : Type 0} (context : Context A B) (written : List ℕ → Shape) (grammar : F → V → Shape) (env : V) (readers : List (List ℕ × F)) (tag : List ℕ) (rest mid : Rest A) → bytes_of text_at (λ t. t) rest ≡ Ok (tag, mid) → NoneFor tag readers
     → read context (tagged_by written (grammars grammar env readers)) rest ≡ Err errors.UnknownTag
@@ -120,14 +123,20 @@ module _ {D E R N H K V T F : Type 0} (env : Environments E N H K V) (d : Deseri
   pub unknown_read : {a b : D} {tag : List ℕ} (readers known : List (List ℕ × F)) (named : List ℕ) → Tells d (bytes_of text_at (λ t. t) (d.rest a) ≡ Ok (tag, d.rest b)) a b → named ≡ tag
       → known ≡ readers → NoneFor named known → TellsTagged readers a b (Err errors.UnknownTag)
   unknown_read {a} {b} {tag} readers known named told same all none =
-      record { gives = λ written. inl (read-unknown _ written grammar (d.environment a) readers tag _ _ told.gives (rw (same, all) at none)); moves = told.moves; same_env = told.same_env; same_levels = told.same_levels }
+      record {
+        gives = λ written. inl (read-unknown _ written grammar (d.environment a) readers tag _ _ told.gives (rw (same, all) at none));
+        moves = told.moves;
+        same_env = told.same_env;
+        same_levels = told.same_levels;
+      }
 
   -- what the reader of a body tells, after the tag
   abbrev pub TellsBody : (gives of_tag : Type 0) → D → D → Type 0
   TellsBody gives of_tag old new = record { gives : gives; of_tag : of_tag; moves : MovesOn (d.standing old) (d.standing new); same_env : d.environment new ≡ d.environment old; same_levels : d.levels new ≡ d.levels old }
 
   after-tag : {P Q X Y : Type 0} {a b c : D} → Tells d P a b → TellsBody X Y b c → (X → Q) → Tells d Q a c
-  after-tag first told f = record { gives = f told.gives; moves = moves_trans _ _ _ first.moves told.moves; same_env = told.same_env ∙ first.same_env; same_levels = told.same_levels ∙ first.same_levels }
+  after-tag first told f =
+      record { gives = f told.gives; moves = moves_trans _ _ _ first.moves told.moves; same_env = told.same_env ∙ first.same_env; same_levels = told.same_levels ∙ first.same_levels }
 
   -- the body is refused
   pub no_body_read : {Y : Type 0} {a b c : D} {tag : List ℕ} {e : Error} (readers known : List (List ℕ × F)) (named : List ℕ) (f : F) (r : Result T Error) → IsErrAnd r (λ x. x ≡ e)
