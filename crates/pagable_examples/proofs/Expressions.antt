@@ -1,27 +1,15 @@
 -- Expressions: a number, or two expressions one level further down.
 use Rattle.std.{proofs.Common.{◌≡◌, ℕ, ◌+◌, ◌-◌, ◌<◌, ◌≤◌, Bool, true, false, [], ◌∷◌, ◌++◌, ◌∙◌, arith, refl, Result, Ok, Err, inl, inr}, specs.Int.w64, specs.Prelude.{List, cond, OnOk, IfErr, ◌⊎◌}}
-use Rattle.pagable.proofs.{Joined.{flagged, no-failure, no-success}, Parts.{refused_second, refuses_first, where_ok, writes_pair}, Reading.{moves_trans, moves_refl}, Writing.{grows_trans, grows_same}}
+use Rattle.pagable.proofs.{Joined.{flagged, no-failure, no-success}, Parts.{refused_second, refuses_first, where_ok, writes_pair}, Reading.{moves_trans}, Writing.{grows_trans}}
 use Rattle.pagable.specs.{ArcRef.ArcRef, Basic.{bool_at, bool_form}, Error.Error, Form.{ok-form, err-form}, Gives.{never, memory, deep_or}, Lifted.MeansPair, Meaning.{Meaning, number, pair, success}}
 use Rattle.pagable.specs.{Meaning.failure, Reading.{Rest, deepest, read, read_with, bytes_of}, Shape.{Shape, both, unsigned, nested}}
 use Rattle.pagable.specs.Standing.{Answer, Standing, MovesOn, GivesSome, Gave, Is, handles_at}
 use Rattle.pagable.specs.Writing.{Out, nesting, WritesSome, Grows, added, Refused}
-use Rattle.pagable_examples.proofs.Levels.{writes-down, refused-down, refused-deep, reads-deep, reads-down}
+use Rattle.pagable_examples.proofs.Levels.{writes-down, refused-down, reads-down}
 use Rattle.pagable_examples.specs.{declared.expression.Expression.{Expression, Number}, Expressions.{node, nodes, of_expression, IsWritten, IsRead, IsSum}}
 use Rattle.pagable.specs.Error.TheVariants as errors
 
 -- ---- one level down
-
-pub deep_unwritten : {X E : Type 0} (x : Expression) (e : Error) (levels after : ℕ) (old new : Out) (env env_after : E) → (e ≡ errors.TooDeep) × (deepest ≤ levels) × (after ≡ levels)
-    → new ≡ old → env_after ≡ env
-    → IsWritten {X = X} (Is of_expression x) (nested 0) (Err e) levels after old new env env_after
-deep_unwritten x e levels after old new env env_after h out same = record {
-  ok = tt;
-  refused = refused-deep nodes 0 e (Is of_expression x) (of_expression x) levels refl h.1;
-  only = inl h.0;
-  err = grows_same old new out;
-  same_env = same;
-  same_levels = h.2;
-}
 
 pub written_down : {X E : Type 0} (x : Expression) (r : Result X Error) (levels inner after last : ℕ) (old a b new : Out) (env env_a env_b env_new : E)
     → (inner ≡ levels + 1) × (levels < deepest) → a ≡ old → env_a ≡ env
@@ -37,16 +25,6 @@ written_down x r levels inner after last old a b new env env_a env_b env_new h o
       same_env = same_up ∙ w.same_env ∙ same;
       same_levels = omega (arith, back, one, up);
     }
-
-pub deep_unread : {E : Type 0} (e : Error) (levels after : ℕ) (rest last : Rest Answer) (old new : Standing) (env env_after : E)
-    → (e ≡ errors.TooDeep) × (deepest ≤ levels) × (after ≡ levels) → new ≡ old → env_after ≡ env
-    → IsRead (nested 0) (Err e) levels after rest last old new env env_after
-deep_unread e levels after rest last old new env env_after h standing same = record {
-  gives = inl (rw h.0 (reads-deep nodes 0 levels rest h.1));
-  moves = rw standing (moves_refl old);
-  same_env = same;
-  same_levels = h.2;
-}
 
 pub read_down : {E : Type 0} (r : Result Expression Error) (levels inner after last : ℕ) (rest rest_a rest_b rest_new : Rest Answer) (old a b new : Standing) (env env_a env_b env_new : E)
     → (inner ≡ levels + 1) × (levels < deepest) → rest_a ≡ rest → a ≡ old → env_a ≡ env

@@ -79,7 +79,6 @@ impl<E: Env, S: PagableStorage<E>> PagableStorage<E> for FailingStorage<S> {
         self.inner.flush()
     }
 
-    #[tactic(auto, using(crate::proofs::Refusing::refusing))]
     fn close(&mut self) {
         self.inner.close();
     }

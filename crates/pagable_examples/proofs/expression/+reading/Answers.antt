@@ -1,12 +1,14 @@
-use Rattle.std.proofs.{Common.{◌∙◌, true, false}, lemmas.Result.err_from_is_err_and}
-use Rattle.pagable.{proofs.Reading.moves_trans, specs.Gives.{never, memory}}
-use Rattle.pagable_examples.proofs.Expressions.{deep_unread, read_down, flag_refused, gave_number, first_refused, right_refused, sum_gives, then_read}
+use Rattle.std.proofs.{Common.{◌∙◌, true, false, inl}, lemmas.Result.err_from_is_err_and}
+use Rattle.pagable.{proofs.Reading.{moves_refl, moves_trans}, specs.Gives.{never, memory}}
+use Rattle.pagable_examples.{proofs.Levels.reads-deep, specs.Expressions.nodes}
+use Rattle.pagable_examples.proofs.Expressions.{read_down, flag_refused, gave_number, first_refused, right_refused, sum_gives, then_read}
 use Rattle.pagable_examples.proofs.expression.+reading.Goals as goal
 
 pub read_below-returns-in_err-enter : goal.read_below-returns-in_err-enter
 read_below-returns-in_err-enter g t c =
     let p = err_from_is_err_and c.from_residual.result c.from_residual.ensures.1 in
-    rw (p.1, p.2) (deep_unread _ _ _ _ _ _ _ _ _ c.in_err-enter.ensures.err c.in_err-enter.ensures.same_standing c.in_err-enter.ensures.same_env)
+    let h = c.in_err-enter.ensures in
+    rw (p.1, p.2) (record { gives = inl (rw h.err.0 (reads-deep nodes 0 _ _ h.err.1)); moves = rw h.same_standing (moves_refl _); same_env = h.same_env; same_levels = h.err.2 })
 
 pub read_below-returns : goal.read_below-returns
 read_below-returns g t c =

@@ -1,11 +1,14 @@
-use Rattle.std.proofs.{Common.refl, lemmas.Result.err_from_is_err_and}
-use Rattle.pagable_examples.proofs.Expressions.{deep_unwritten, written_down, number_written, left_unwritten, sum_written}
+use Rattle.std.proofs.{Common.{refl, inl}, lemmas.Result.err_from_is_err_and}
+use Rattle.pagable.proofs.Writing.{grows_same}
+use Rattle.pagable_examples.{proofs.Levels.refused-deep, specs.Expressions.nodes}
+use Rattle.pagable_examples.proofs.Expressions.{written_down, number_written, left_unwritten, sum_written}
 use Rattle.pagable_examples.proofs.expression.+writing.Goals as goal
 
 pub write_below-returns-in_err-enter : goal.write_below-returns-in_err-enter
 write_below-returns-in_err-enter g t c =
     let p = err_from_is_err_and c.from_residual.result c.from_residual.ensures.1 in
-    rw (p.1, p.2) (deep_unwritten _ _ _ _ _ _ _ _ c.in_err-enter.ensures.err c.in_err-enter.ensures.same_out c.in_err-enter.ensures.same_env)
+    let h = c.in_err-enter.ensures in
+    rw (p.1, p.2) (record { ok = tt; refused = refused-deep nodes 0 _ _ _ _ refl h.err.1; only = inl h.err.0; err = grows_same _ _ h.same_out; same_env = h.same_env; same_levels = h.err.2 })
 
 pub write_below-returns : goal.write_below-returns
 write_below-returns g t c =
