@@ -327,12 +327,6 @@ fits-at-first v s trees idle = record { slots = λ t i slot is. let f = idle.she
 
 -- ---- an event
 
--- what a worker wrote in its step is of the node
-took-writes : {N B W E : Type 0} (m : Seen N B W) (s : PagerState N E) (n : ℕ) (event : Event N B W) (reply : EventReply N B W) (taken : Took W) → step_of n event reply ≡ taken ∷ []
-    → ReplyWrites m s reply
-    → TookWrites m.values m.written_of s taken
-took-writes m s n x3 x4 taken is writes = grind (arith, nat_tests)
-
 module _ {N B W E : Type 0} (m : Seen N B W) (s s' : MachineState N E) (trees trees' : ℕ → Tree) (goes : GroundGoes (ground_of s trees) (ground_of s' trees')) (fit : WorkFits m.values s trees)
     (whole : IsMachineWhole m.values s) (represents : Represents m.values s.pager trees) (settled : HoldsSettled m.values s.pager) (reads : ReadsItsTypes m.values.types)
     (lawful : IsLawful m.values) where
@@ -360,7 +354,7 @@ module _ {N B W E : Type 0} (m : Seen N B W) (s s' : MachineState N E) (trees tr
       λ none key b is. (let e = subst (λ a. Ends a k.0 w.after.core s'.pager.core) (w.answers ∙ none) w.ends in e.stored key ∙ is) in
       let d = stepped m k.0 w.walking.task (record { core = s.pager.core; shelf = s.work.shelves w.walking.table; todo = w.walking.todo }) w.after goes more (fit.slots w.walking.table) claimable
       r.took (λ i out is. wrote represents whole.pager settled reads lawful i.node.0 (m.written_of out)
-      (subst (λ (t : Took W). TookWrites m.values m.written_of s.pager t) is (took-writes m s.pager turns.who event reply r.took one writes)))
+      (subst (λ (t : Took W). TookWrites m.values m.written_of s.pager t) is (grind (arith, nat_tests))))
       ends w.walking.todo refl r.took refl w.does.does (work.workers k.0 w.walking w.at).all (fit.walks k.0 w.walking w.at) in
       (d.slots, d.walks)) in
       record { slots = h.slots; walks = h.walks }
