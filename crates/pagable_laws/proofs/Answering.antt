@@ -1,7 +1,7 @@
 -- What follows for keys: each that is published is its tree's, each that is answered is its task's, and what a worker met that answers one is left paged out.
-use Rattle.pagable_laws.proofs.Words.{to_publish, Identity, longest_path, arith, nat_tests, ◌≡◌, ℕ, true, List, [], ◌∷◌, Option, Some, Ok, Err, refl, sym, ap, subst, ◌∙◌, is_some, OptionalDataKey}
+use Rattle.pagable_laws.proofs.Words.{to_publish, Identity, longest_path, arith, nat_tests, ◌≡◌, ℕ, true, List, [], ◌∷◌, Some, Ok, Err, sym, ap, subst, ◌∙◌, is_some, OptionalDataKey}
 use Rattle.pagable_laws.proofs.Words.{KeyOfItem, ArcRef, is_loose_kind, Tree, HandleNumber, ReadsTree, WorkerNumber, if_there, Event, EventReply, Took, WorkerAnswer, WorkerReply, identity_of, has_key}
-use Rattle.pagable_laws.proofs.Words.{Core, Cell, key_at, Shelf, Slot, Written, Todo, to_item, to_set, to_release, to_fail, Task, of_item, of_entry, Walking, Values, Seen, Site, Does, IsPublished}
+use Rattle.pagable_laws.proofs.Words.{Core, key_at, Shelf, Slot, Written, Todo, to_item, to_set, to_release, to_fail, Task, of_item, of_entry, Walking, Values, Seen, Site, Does, IsPublished}
 use Rattle.pagable_laws.proofs.Words.{answer_after, WorkerSteps, Happens, PagerState, MachineState, world_of, kids_of, HandlesAreWhole, IsMachineWhole, Represents, StandsFor, ReadsItsTypes, Meets}
 use Rattle.pagable_laws.proofs.Words.{meets-of-item, meets-entry, meets-below, AreKeysOf, IsLeftPagedOut, HasKeyOf, LeavesAll, IsKeyOfTask, Ground, ground_of, IsOfEntry, Waits, Walks, WorkFits}
 use Rattle.pagable_laws.proofs.{Words.{IsDone, KeyIsSet, AllHold, HasHandle, KeysHeld, KeysAreRight}, Merkle.{one_key, one_item_key, tree_readable}, Trees.{same_some, each-type}}

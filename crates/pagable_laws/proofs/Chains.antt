@@ -1,10 +1,10 @@
 -- Each event keeps trees: what it brings fits some trees afterwards, for which the machine stands then, with all that its loads read.
 use Rattle.pagable_laws.proofs.Words.{◌≡◌, ℕ, List, [], sym, subst, Event, EventReply, Tree, Among, Reading, Values, Seen, IsLawful, MachineState, world_of, IsMachineWhole, StandsFor}
 use Rattle.pagable_laws.proofs.Words.{EventBrings, IsReadingOf, HoldsSettled, ReadsItsTypes, TakesWell, AsksWell, IsWellAsked, Change, CoreGoes, IsSteppedReading, EventFeels, by-call, by-reading}
-use Rattle.pagable_laws.proofs.Words.{by-key, arith, nat_tests, by-nothing, KeysAreReady, IsFresh, ChangeFits, ◌+◌, ◌≤◌, Option, Some, refl, ◌∙◌, ◌∷◌, HandleNumber, IsIdle, IsPremised, Moment}
+use Rattle.pagable_laws.proofs.Words.{by-key, arith, nat_tests, by-nothing, KeysAreReady, ChangeFits, ◌+◌, ◌≤◌, Option, Some, refl, ◌∙◌, ◌∷◌, HandleNumber, IsIdle, IsPremised, Moment}
 use Rattle.pagable_laws.proofs.Words.{AreMoments, TreesAfter, TreesAlong, GivesTree, PinGives, IsRight, HasPin, PinHolds, WorkFits, KeysHeld, ◌==◌, ◌&&◌, Bool, true, false, ap, Ok, is_some}
 use Rattle.pagable_laws.proofs.Words.{sum_by-append, sum_by-cons, Identity, WorkerNumber, one, times, Took, WorkerReply, Shelf, Slot, Walking, World, Happens, WorkerSteps, step_of, steps_of}
-use Rattle.pagable_laws.proofs.Words.{is_claim_of, is_on_table, claims_made, ◌++◌, append_assoc, is_none, WorkerAnswer, HandleRow, Owner, owner_worker, is_owner, state_after, events_of, replies_of}
+use Rattle.pagable_laws.proofs.Words.{is_claim_of, is_on_table, claims_made, ◌++◌, append_assoc, is_none, WorkerAnswer, HandleRow, owner_worker, is_owner, state_after, events_of, replies_of}
 use Rattle.pagable_laws.proofs.{Words.{InOrder, TableMeets, HasLetGo, StepsAreWithin, WorkerIsRight, WorkIsRight, HeadlineLaw}, Felt.{reading-fits, none-comes, fits-nothing, fits-key, call-fits}}
 use Rattle.pagable_laws.proofs.{Felt.trees-go-on, Fitting.tree-stays, ReadingSteps.{is-reading-of, event-goes, readings-on}, Trees.same_some, Answering.keys-right, Coming.{waits-well, StandsIn}}
 use Rattle.pagable_laws.proofs.{Coming.{event-turns, turns-stand, idle-stands, updated-at, EventTurns, Went, HasGone, goes-on}, Naming.{held-at-first, held-on, keys-ready}, Outlasting.pins-hold}

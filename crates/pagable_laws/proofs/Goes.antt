@@ -1,6 +1,6 @@
 -- What a step does to the plain world as far as trees feel it, with no premise: the parts of which the summary of each call is made.
 use Rattle.pagable_laws.proofs.Words.{◌≡◌, ℕ, ◌+◌, ◌<◌, ◌≤◌, ◌==◌, ◌&&◌, Bool, true, false, List, [], ◌∷◌, ◌++◌, refl, ap, sym, subst, ◌∙◌, inl, inr, arith, Option, Some, None, ◌⊎◌, if◌then◌else◌}
-use Rattle.pagable_laws.proofs.Words.{nat_tests, Blob, ArcRef, Kind, type_of, HandleNumber, LoadNumber, NodeNumber, OptionalDataKey, changed, updated, if_there, HandleRow, Owner, Mode, find_row}
+use Rattle.pagable_laws.proofs.Words.{nat_tests, Blob, ArcRef, Kind, type_of, HandleNumber, LoadNumber, NodeNumber, OptionalDataKey, changed, updated, HandleRow, Owner, Mode, find_row}
 use Rattle.pagable_laws.proofs.Words.{is_handle, mode_of, is_loose, Core, Cell, OpenLoad, Root, Alike, type_at, key_at, AreNewEntries, Falls, FallsAnyhow, fallen, left_rows, row_of, with_handle}
 use Rattle.pagable_laws.proofs.{Words.{with_node, with_key, with_cached, next_node, moved, with_load, adopted, Change, nothing_felt, sets_key, bears_known, Knows, Bears, BeginsWell}, Sums.same-number}
 use Rattle.std.proofs.Common.{le_trans, rules}

@@ -1,6 +1,6 @@
 -- Two kinds or keys never get one identity through one cache, and one kind and key gets the same for as long as its node is held.
-use Rattle.pagable_laws.proofs.Words.{◌≡◌, ℕ, zero, suc, ◌+◌, ◌≤◌, true, false, List, [], ◌∷◌, Some, None, inl, inr, refl, sym, ap, subst, ◌∙◌, arith, nat_tests, OptionalDataKey, Owner, Mode, Kind}
-use Rattle.pagable_laws.proofs.Words.{ArcRef, LoadNumber, type_of, Among, is_pinned_kind, mode_of, fits_mode, is_pinning, Core, Last, Alike, Seen, usable, with_handle, with_node, next_node, GetsKnown}
+use Rattle.pagable_laws.proofs.Words.{◌≡◌, ℕ, zero, suc, ◌+◌, ◌≤◌, false, List, [], ◌∷◌, Some, None, inl, inr, refl, sym, ap, subst, ◌∙◌, arith, nat_tests, OptionalDataKey, Owner, Kind}
+use Rattle.pagable_laws.proofs.Words.{ArcRef, LoadNumber, type_of, Among, mode_of, Core, Last, Alike, Seen, usable, with_handle, with_node, next_node, GetsKnown}
 use Rattle.pagable_laws.proofs.Words.{adopted, first_key, MachineState, world_of, IsWhole, IsMachineWhole, Moment, AreMoments, state_after, GetsReference, IsFilledByReading, LeavesCache, StaysAlive}
 use Rattle.pagable_laws.proofs.{Words.{OneIdentityLaw, Change, nothing_felt, GetsRow}, Goes.{Goes, KnowsNext, quiet-then, quiet-goes, goes-quiet, alike, a-handle, fell-anyhow, adopts}}
 use Rattle.pagable_laws.proofs.{Called.gets-known, Outlasting.among-found, ReadingSteps.{cached-rows, got-known, got-fallen, got-born, is-cached, event-goes}, Sums.self-number, Effects.IsEntered}

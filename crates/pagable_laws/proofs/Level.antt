@@ -10,7 +10,7 @@ use Rattle.pagable_laws.proofs.Words.{is_in, identity_of, Shelf, Written, Todo, 
 use Rattle.pagable_laws.proofs.Words.{with_key, CloneCall, StoreCall, WalkDoes, claim_fault, is_workers_at, nothing-form, reference-form, without_worker, is_workers, AreMoments, Walking, Ends}
 use Rattle.pagable_laws.proofs.Words.{is_counted, steps_after, TookWrites, SameShelf, no_shelf, IsMachineWhole, IsReadingWhole, owner_worker, ◌⊎◌, LoadAnswer, Frame, BeginCall, ReadingDoes}
 use Rattle.pagable_laws.proofs.Words.{root_frame, IsClosed, IsWithin, with_mode, UnpinCall, named_fault, answers_from, ReadsRoot, IsCellOf, Event, EventReply, one_more, load_fault, reading_at}
-use Rattle.pagable_laws.proofs.Words.{reading_after, ReadingsAre, ReadingBrings, world_of, WorkStays, OnlyCore, Beginning, MachineState, fresh, references_in, SameReferences, IsReadable, LiesIn}
+use Rattle.pagable_laws.proofs.Words.{reading_after, ReadingsAre, ReadingBrings, world_of, WorkStays, OnlyCore, Beginning, MachineState, fresh, references_in, IsReadable, LiesIn}
 use Rattle.pagable_laws.proofs.Words.{Throughout, none-followed, rest_of, Tree, tree, IsLawful, ReadsItsTypes, KeepsOpen, FallsAnyhow, HandOverCall, LazyCall, EndCall, SetKeyCall, PinsAtOnce}
 use Rattle.pagable_laws.proofs.{Words.{ReadsAsType, IsWellAsked, IsPremised, state_after, TwoLevelsMeetTheHeadline}, GoodReferences.good, Trees.same_some, Existing.and-false, Joining.new_whole}
 use Rattle.pagable_laws.proofs.{Chains.headline_law, Few.{updated-past, alike-self, falls-so, AreAlone, falls-alone, Few, Passes, whole-so, none-cached}}

@@ -1,7 +1,7 @@
 -- A handle that stands for a reference goes on to stand for it, and so does a clone of it; a key that was set stays.
 use Rattle.pagable_laws.proofs.Words.{◌≡◌, ℕ, ◌+◌, ◌≤◌, true, List, [], ◌∷◌, ◌++◌, inl, inr, Some, None, Ok, refl, sym, ap, subst, ◌∙◌, arith, nat_tests, ArcRef, HandleNumber, type_of, is_loose_kind}
-use Rattle.pagable_laws.proofs.Words.{HandleRow, Owner, find_row, is_loose, fits_mode, has_key, Core, Cell, Todo, to_start, to_item, to_publish, to_release, row_at, type_at, row_of, CloneCall}
-use Rattle.pagable_laws.proofs.Words.{claim_fault, HandlesAreWhole, Change, StandsAt, KeyIsSet, Holds, AllHold, WaitsHeld, Ends, false, of_item, of_entry, ◌⊎◌, Option, OptionalDataKey, Pinning}
+use Rattle.pagable_laws.proofs.Words.{HandleRow, Owner, find_row, is_loose, fits_mode, has_key, Core, Todo, to_start, to_item, to_publish, to_release, row_at, type_at, row_of, CloneCall}
+use Rattle.pagable_laws.proofs.Words.{claim_fault, HandlesAreWhole, Change, StandsAt, KeyIsSet, Holds, AllHold, WaitsHeld, Ends, false, of_item, of_entry, ◌⊎◌, Option, Pinning}
 use Rattle.pagable_laws.proofs.Words.{Beginning, Claim, PinStep, Took, Identity, NodeNumber, above, if_there, any_mode, identity_of, owner_worker, Shelf, Slot, no_result, published, to_pin, to_load}
 use Rattle.pagable_laws.proofs.Words.{to_write, to_finish, to_set, Task, SameShelf, Seen, with_key, SetKeyCall, Site, first_todo, Does, PinsAtOnce, IsPublished, next_start, give, give_known}
 use Rattle.pagable_laws.proofs.Words.{with_changed_slot, with_outcome, Owns, WorkerAnswer, HasHandle, nothing_felt, WorkerNumber, Tree, Event, EventReply, WorkerReply, Walking, World, Values}

@@ -2,9 +2,9 @@
 -- blob that lies too deep, or to one that enters a level too many.
 use Rattle.pagable_laws.proofs.Words.{nat_tests, ◌≡◌, ℕ, suc, ◌+◌, ◌≤◌, true, List, [], ◌∷◌, length, Option, Some, sym, ap, subst, ◌∙◌, inl, inr, if◌then◌else◌, arith, slice_get, blob_of, Error}
 use Rattle.pagable_laws.proofs.Words.{ArcRef, Kind, Identity, Blob, Meaning, Tree, type_of, is_eager, above, longest_path, identity_of, Shelf, Written, Frame, Values, reads, asks, next_in, need_of}
-use Rattle.pagable_laws.proofs.Words.{is_broken, IsPublished, MachineState, world_of, FramesFit, ReadsItsTypes, AreKeysOf, WorkFits, Needs, ◌==◌, Bool, false, ◌⊎◌, None, Err, refl, Result, not, Want}
-use Rattle.pagable_laws.proofs.Words.{Owner, HandleNumber, LoadNumber, NodeNumber, Types, any_mode, Core, OpenLoad, of_cell, Reading, Seen, IsLawful, earlier, where_so, refused_if, spent}
-use Rattle.pagable_laws.proofs.Words.{handle_fault, references_fault, load_fault, AreHandlesFull, Refused, FetchCall, AskCall, ask_fault, is_known, node_fault, needs_nested, needs_lazy, IsDecoded}
+use Rattle.pagable_laws.proofs.Words.{is_broken, IsPublished, MachineState, world_of, FramesFit, ReadsItsTypes, AreKeysOf, WorkFits, Needs, ◌==◌, Bool, false, ◌⊎◌, None, Err, refl, not, Want}
+use Rattle.pagable_laws.proofs.Words.{Owner, HandleNumber, LoadNumber, NodeNumber, Types, any_mode, Core, OpenLoad, of_cell, Reading, Seen, IsLawful, earlier, refused_if}
+use Rattle.pagable_laws.proofs.Words.{handle_fault, references_fault, load_fault, AreHandlesFull, Refused, AskCall, ask_fault, is_known, node_fault, needs_nested, needs_lazy, IsDecoded}
 use Rattle.pagable_laws.proofs.Words.{RefusesBlob, RefusesNode, RefusesRoot, IsOfKey, Fails, reading_at, FitsRoot, IsOfChance, IsPagedOutAs, IsLoadOfPagedOut, Ok, Mode, LoadAnswer, LoadReply, Event}
 use Rattle.pagable_laws.proofs.Words.{EventReply, or_else, LoadSteps, Happens, IsOfHandles, LoadIsFaultless, FaultlessLaw, ◌<◌, Took, owner_worker, Todo, Walking, named_fault, handles_of, after_kinds}
 use Rattle.pagable_laws.proofs.Words.{LeadsDown, is-there, goes-down, ReadsTooDeep, IsReadingOf, of_worker, LoadIsDeep, DeepLoadLaw, AllLow, IsFresh, LazyCall, RefusesNested, reference_fault}

@@ -4,7 +4,7 @@ use Rattle.pagable_laws.proofs.Words.{Among, identity_of, Shelf, Slot, failed, W
 use Rattle.pagable_laws.proofs.Words.{FollowsTo, WroteTree, KeyStands, BlobStands, SlotFits, KeysSoFar, Waits, Above, HasBlob, Walks, SlotsFit, ◌==◌, true, ◌++◌, length, Ok, drop, blob_of}
 use Rattle.pagable_laws.proofs.Words.{HandleNumber, type_of, Claim, Took, no_result, published, Open, Fault, to_start, to_write, to_item, to_set, to_publish, to_release, to_fail, Seen, digest, Stores}
 use Rattle.pagable_laws.proofs.Words.{Site, Does, claim_fault, next_start, give, give_known, open_node, with_wait, answer_after, Expects, Event, EventReply, of_item, of_entry, IsLawful, first_todo}
-use Rattle.pagable_laws.proofs.Words.{Ends, step_of, PagerState, MachineState, world_of, IsMachineWhole, IsIdle, Represents, TookWrites, ReplyWrites, HoldsSettled, ReadsItsTypes, ground_of, WorkFits}
+use Rattle.pagable_laws.proofs.Words.{Ends, MachineState, world_of, IsMachineWhole, IsIdle, Represents, TookWrites, ReplyWrites, HoldsSettled, ReadsItsTypes, ground_of, WorkFits}
 use Rattle.pagable_laws.proofs.{Words.{IsDone, AllLow, IsLow, IsAttained, Placed, HasRoom, is_eager, longest_path, max, above, suc, ◌+◌}, Standing.{ShelfGrows, some-same, published-stays, PutsSlot}}
 use Rattle.pagable_laws.proofs.{Standing.{put-cases, puts-slot, changes-slot, HasClaim, AllStand}, Following.{IdentityStands, key-stands, leads-on, wrote}, Coming.{StandsIn, EventTurns, same-grow}}
 use Rattle.pagable_laws.proofs.Coming.{turns-grow, turns-keep}
