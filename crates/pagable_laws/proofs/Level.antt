@@ -423,12 +423,6 @@ loads-asked : ArePremised (two.at_work two.answered) (two.loads ++ two.counts 2)
 unfolding two.walked value_at preimage find_row is_named_by grammar.read grammar.read_with answers_from
 loads-asked = grind (arith, nat_tests, asked, child-reads)
 
-births-asked : (xs : List two.Happening) → ArePremised (two.at_work two.begun) xs → ArePremised two.new_one (two.births ++ xs)
-births-asked xs rest = (asked _ _ tt (λ trees. tt), (asked _ _ tt (λ trees. tt), (asked _ _ tt (λ trees. tt), (asked _ _ tt (λ trees. tt), rest))))
-
-runs : AreMoments two.sample_seen two.new_one (two.moments 2)
-runs = births-do _ (pages 15 two.begun (two.loads ++ two.counts 2) births-good.3.0 begun-asks (loads-do, loads-asked)).0
-
 -- what comes later is a chain
 later : (s : MachineState two.Sample (Unit {0})) (xs ys : List two.Happening) → AreMoments two.sample_seen s (xs ++ ys) → AreMoments two.sample_seen (state_after s xs) ys
 unfolding state_after
@@ -453,7 +447,9 @@ headline_met =
       idle = new.idle _ _ tt;
       stands = λ trees. new.stands _ _ tt trees;
       settled = λ n x is. two-settled x;
-      premised = births-asked _ (pages 15 two.begun (two.loads ++ two.counts 2) births-good.3.0 begun-asks (loads-do, loads-asked)).1;
-      headline = headline_law (Unit {0}) two.sample_seen two.new_one (two.moments 2) (new.whole _ _ tt) (new.idle _ _ tt) runs;
+      premised = (asked _ _ tt (λ trees. tt), (asked _ _ tt (λ trees. tt), (asked _ _ tt (λ trees. tt),
+          (asked _ _ tt (λ trees. tt), (pages 15 two.begun (two.loads ++ two.counts 2) births-good.3.0 begun-asks (loads-do, loads-asked)).1))));
+      headline = headline_law (Unit {0}) two.sample_seen two.new_one (two.moments 2) (new.whole _ _ tt) (new.idle _ _ tt)
+          (births-do _ (pages 15 two.begun (two.loads ++ two.counts 2) births-good.3.0 begun-asks (loads-do, loads-asked)).0);
       no_other = no-other;
     }
