@@ -2,9 +2,8 @@ use Rattle.pagable_tables.proofs.Words.{◌≡◌, ◌<◌, ◌+◌, ◌++◌, �
 use Rattle.pagable_tables.proofs.Words.{is_pin, owner_value, is_here, cases_Bool, ArcRef, Falls, Holdings, IsFalling, owns_nothing, Tables, moved, is_named_by, row_of, live, counts_at, refs_at}
 use Rattle.pagable_tables.proofs.Words.{load_at, has_value, cell_in, core_of, plain_of, nat_tests, references_fault, without_load, with_pin, is_owned_in, FallsAnyhow, ◌&&◌, ◌⊎◌, Core, LoadNumber}
 use Rattle.pagable_tables.proofs.{Words.{HandleRow, Result, Error, option_map, load_in}, Coming.{rows-told, some-held, turned}, Doing.lazily-by, Fitting.{fits-same, pins-le-held}, GivenAll.bare}
-use Rattle.pagable_tables.proofs.{Installed.{no-wanting, ended, has-come, install-newer, pins-here, none-moves, not-so, so-then, ready-owner}, Joined.{joined-fits, owns-none}}
-use Rattle.pagable_tables.proofs.{Newer.{closed-still, later-so}, Stays.not-named, keeps.{Comes.not-a-value, EndCalls.end-whole, HandleCalls.no-references, LoadCalls.may-hold}}
-use Rattle.pagable_tables.specs.Becoming.{coming}
+use Rattle.pagable_tables.proofs.{Installed.{no-wanting, ended, has-come, install-newer, pins-here, none-moves, not-so, so-then, ready-owner}, Born.{joined-fits, owns-none}, Newer.closed-still}
+use Rattle.pagable_tables.{proofs.{Newer.later-so, Stays.not-named, keeps.{Comes.not-a-value, EndCalls.end-whole, HandleCalls.no-references, LoadCalls.may-hold}}, specs.Becoming.coming}
 use Rattle.pagable_tables.proofs.installing.install.Goals as goal
 
 -- references that don't come are as good
