@@ -118,3 +118,5 @@ module _ {D E R N H K V : Type 0} (env : Environments E N H K V) (d : Deserializ
     pub all-read : {Z W : Type 0} (z : Z) (view : List (Meaning ArcRef) → W) {L : Z → W → Type 0} {whole : Context Answer ArcRef → Gets Answer W} → count ≤ i → SoFar P get count i a b → ((ms : List (Meaning ArcRef)) → P ms → L z (view ms)) → whole (context_in env d a) (d.rest a) ≡ viewed view (items (get (context_in env d a)) count (d.rest a))
         → Reads env d L whole a b (let r : Result Z Error = Ok z in r)
     all-read z view le so means same = grind (arith, is_done)
+
+pub ruleset no_memory = (read-no-memory, moves_trans)
