@@ -7,8 +7,8 @@ use Rattle.pagable_steps.proofs.Words.{is_here, usable, row_of, moved, with_node
 use Rattle.pagable_steps.proofs.Words.{PagerState, IsWhole, WellFormed, Stands, AreGood, NotValues, good, or-none, named-among, stands-whole, stands-changed, found-number, among-changed, self-number}
 use Rattle.pagable_steps.proofs.Words.{same-number, sum-le, one-less, and_parts, NodeNumber, updated, is_owned_by, is_owner, is_loose, is_in_memory, key_at, Owns, with_mode, without_load, is_owned_in}
 use Rattle.pagable_steps.proofs.Owning.{At, Has, among-named, same-value, holds_value, settled, sits, not-load, gets-known, OwnsAlike, Spares, owns-then, owns-handle, pinned-here, sits-on, spared}
-use Rattle.pagable_steps.proofs.Owning.{spares-alike, spares-cached, sum-mapped, AreFree, Keeps, Sweeps, spares-keeps, spares-then, spares-same, spares-handle, mode-owns, mode-others, mode-here}
-use Rattle.pagable_steps.proofs.{Words.{with_pin, MayEnd, Installs, NotLoads, row-held, found}, Owning.turned, Falling.{fell, fell-from, load-free}}
+use Rattle.pagable_steps.proofs.Owning.{spares-alike, spares-cached, AreFree, Keeps, Sweeps, spares-keeps, spares-then, spares-same, spares-handle, mode-owns, mode-others, mode-here}
+use Rattle.pagable_steps.proofs.{Words.{with_pin, MayEnd, Installs, NotLoads, row-held, found}, Owning.{turned, owns-changed, owns-same, rowed, moved-pins}, Falling.{fell, fell-from, load-free}}
 
 unseen : (w : Core) (owner : Owner) (seen : List ℕ) (r : ArcRef) → reference_fault w owner seen r ≡ None → is_in seen r.handle.0 ≡ false
 unseen w owner seen r none = grind (arith, nat_tests)
@@ -53,29 +53,17 @@ module _ {N E : Type 0} {v : Values N} {s : PagerState N E} (is : WellFormed v s
   right : AreGood w me references
   right = good w me [] references fine
 
-  same-pin : (n : ℕ) (h : HandleRow) (b : Bool) → one (is_pin n (if b then to h else h)) ≡ one (is_pin n h)
-  same-pin n h b = grind (arith, nat_tests)
-
   others : (n : ℕ) → (n == p) ≡ false → OwnsAlike n w given
-  others n other = record {
-    typed = typed;
-    spares = record {
-      each = λ q row own s.
-          effects.moved-free (owner_value n) (is_named_by references) (owner_value p) ((effects.named-free (owner_value n) w me references (free (record { 0 = n })) right).each q row own s) s;
-    };
-    owned = λ h among own. let a = among-changed (λ x. if named x then to x else x) w.rows h among in by a.0 a.1 h own (named a.0) a.2;
-  }
-    where
-      by : (x : HandleRow) → Among w.rows x → (h : HandleRow) → h.owner ≡ owner_value n → (b : Bool) → h ≡ (if b then to x else x) → Among w.rows h
-      by x among h own true is = absurd (let same : p ≡ n = same-value h.owner own (ap (λ (y : HandleRow). y.owner) is) in grind (arith, nat_tests))
-      by x among h own false is = subst (Among w.rows) (sym is) among
+  others n other =
+      let apart : owner_value p ≡ owner_value n → ⊥ = λ own. let same = same-value (owner_value p) refl own in let e = self-number p in grind (arith, nat_tests) in
+      let before = rowed is.whole (is_named_by references) (λ m. effects.named-free (Owner.Value m) w me references (free m) right) in
+      owns-then (owns-changed w named to (λ h. refl) n (λ h among is. (before h among is (record { 0 = n }), apart)) {list = w.list}) (owns-same refl refl typed)
 
   owned : (h : HandleRow) → Among given.rows h → h.owner ≡ owner_value p → named h ≡ true
-  owned h among own = let a = among-changed (λ x. if named x then to x else x) w.rows h among in by a.0 a.1 (named a.0) refl a.2
-    where
-      by : (x : HandleRow) → Among w.rows x → (b : Bool) → named x ≡ b → h ≡ (if b then to x else x) → named h ≡ true
-      by x there true e same = ap named same ∙ e
-      by x there false e same = absurd (subst (At v w p) no_value (sits is p) x there (ap (λ (y : HandleRow). y.owner) (sym same) ∙ own))
+  owned h among own =
+      let a = among-changed (λ x. if named x then to x else x) w.rows h among in
+      let none = subst (At v w p) no_value (sits is p) a.0 a.1 in
+      grind (arith, nat_tests)
 
   new : (x : N) → v.references x ≡ references → type_at given p ≡ Some (v.node_type x) → Has v given p x
   unfolding is_in
@@ -83,22 +71,19 @@ module _ {N E : Type 0} {v : Values N} {s : PagerState N E} (is : WellFormed v s
     typed = its_type;
     names = λ r among.
         let a = right r (subst (λ rs. Among rs r) same among) in
-        let is : named a.row ≡ true = ap (is_named_by references) (found-number r.handle.0 w.rows a.row a.live) ∙ among-named references r (subst (λ rs. Among rs r) same among) in
-        let s = stands-changed named to (λ h. refl) (stands-whole whole.handles r.handle.0 a.row a.live) in
-        let stands = subst (λ b. Stands w.last.handle given.rows r.handle.0 (if b then to a.row else a.row)) is s in
+        let hit : named a.row ≡ true = ap (is_named_by references) (found-number r.handle.0 w.rows a.row a.live) ∙ among-named references r (subst (λ rs. Among rs r) same among) in
+        let s = stands-changed named to (λ h. refl) (stands-whole is.whole.handles r.handle.0 a.row a.live) in
+        let stands = subst (λ b. Stands w.last.handle given.rows r.handle.0 (if b then to a.row else a.row)) hit s in
         record { row = to a.row; stands = stands; at = a.at; owned = refl; fits = a.fits; typed = typed _ _ a.typed };
     once = λ q. subst (λ (rs : List ArcRef). times (λ (r : ArcRef). r.handle.0 == q) rs ≤ 1) (sym same) (named-once w me [] references q fine);
-    owned = λ h among own. let c = named-among (v.references x) h.number.0 (ap (λ rs. is_named_by rs h.number.0) same ∙ owned h among own) in record { r = c.0; among = c.1; is = c.2 };
+    owned = λ h among own. named-among (v.references x) h.number.0 (ap (λ rs. is_named_by rs h.number.0) same ∙ owned h among own);
   }
-    where
-      whole : IsWhole w
-      whole = is.whole
 
   pub receives : Receives v w given s.values references p
   receives = record {
     all = λ o here n. at o here n (n == p) refl;
     value = new;
-    pins = λ n. sum-mapped _ _ _ w.rows (λ h among. same-pin n h (named h));
+    pins = moved-pins w.rows (is_named_by references) (owner_value p);
     named = owned;
     before = others;
   }
@@ -136,10 +121,7 @@ module _ {N E : Type 0} {v : Values N} {s : PagerState N E} (s' : PagerState N E
   no-value = grind (arith, nat_tests)
 
   receives-it : Receives v s.core bearing s.values references next
-  receives-it = receives is free references fine next bearing.cells s.core.loads next typed no-value
-    where
-      typed : (n u : ℕ) → type_at s.core n ≡ Some u → type_at bearing n ≡ Some u
-      typed n u has = grind (arith, nat_tests, no-cell)
+  receives-it = receives is free references fine next bearing.cells s.core.loads next (λ n u has. grind (arith, nat_tests, no-cell)) no-value
 
   pins-made : (n : ℕ) → pins n made.rows ≡ pins n s.core.rows + one ((next == n) && is_pinning mode)
   pins-made n = sum_by_push (λ h. one (is_pin n h)) bearing.rows (row_of (s.core.last.handle + 1) (next_node s.core) mode me) ∙ ap (λ p. p + one ((next == n) && is_pinning mode)) (receives-it.pins n)
@@ -167,10 +149,8 @@ module _ {N E : Type 0} {v : Values N} {s : PagerState N E} (s' : PagerState N E
   comes-with : (x : N) → v.node_type x ≡ t → v.references x ≡ references → is_pinning mode ≡ true → ((n : ℕ) → s'.values n ≡ (if n == next then Some x else s.values n))
       → ((n : ℕ) → s'.counts n ≡ pins n s'.core.rows) → IsWhole s'.core → WellFormed v s'
   comes-with x is_typed named pinning =
-      comes (Some x) (receives-it.value x named (ap (λ c. if_there (λ (cell : Cell). Some cell.node_type) None c) new-cell ∙ ap (λ u. Some u) (sym is_typed))) (sym (pinned-here made next pinned))
-    where
-      pinned : 0 < pins next made.rows
-      pinned = let p = pins-made next in let q = self-number next in grind (arith, nat_tests)
+      comes (Some x) (receives-it.value x named (ap (λ c. if_there (λ (cell : Cell). Some cell.node_type) None c) new-cell ∙ ap (λ u. Some u) (sym is_typed))) 
+      (sym (pinned-here made next (let p = pins-made next in let q = self-number next in grind (arith, nat_tests))))
 
   -- and without
   comes-away : (key : ℕ) → own ≡ OptionalDataKey.Some key → references ≡ [] → is_pinning mode ≡ false → ((n : ℕ) → s'.values n ≡ s.values n)

@@ -17,19 +17,13 @@ use Rattle.pagable_steps.proofs.Words.{IsWhole, same-number, counted, good, NotV
 -- what passes the test passes it
 passes : {X : Type 0} (test : X → Bool) (xs : List X) (x : X) → Among (filter test xs) x → test x ≡ true
 passes test [] x among = absurd (cc)
-passes {X} test (y ∷ ys) x among = at (λ a. passes test ys x a) (test y) refl among
-  where
-    at : (Among (filter test ys) x → test x ≡ true) → (b : Bool) → test y ≡ b → Among (cond b (y ∷ filter test ys) (filter test ys)) x → test x ≡ true
-    at rest true e (suc i, is) = rest (i, is)
-    at rest b e among = grind (arith, nat_tests)
+passes test (y ∷ ys) x (zero, is) = grind (arith, nat_tests, filter, cond, passes test ys x)
+passes test (y ∷ ys) x (suc i, is) = grind (arith, nat_tests, filter, cond, passes test ys x)
 
 times-left : (t : HandleRow → Bool) (gone : ℕ → Bool) (rows : List HandleRow) → times t (left_rows gone rows) ≡ times (λ h. t h && is_outside gone h) rows
 times-left t gone [] = refl
 times-left t gone (x ∷ xs) =
-    let more = sum_by-cons (λ h. one (t h)) x (left_rows gone xs) in
-    let all = sum_by-cons (λ h. one (t h && is_outside gone h)) x xs in
-    let rest = times-left t gone xs in
-    grind (arith, nat_tests)
+    grind (arith, nat_tests, sum_by-cons (λ h. one (t h)) x (left_rows gone xs), sum_by-cons (λ h. one (t h && is_outside gone h)) x xs, times-left t gone xs)
 
 -- the list owns new entries
 listed : (last : ℕ) (entries : List HandleRow) → AreNewEntries last entries → (h : HandleRow) → Among entries h → h.owner ≡ Owner.List
@@ -46,25 +40,19 @@ module _ {before w w' : Core} {given : ℕ → Bool} {r : _} (f : Falls before w
       let h = counts (is_at n) in
       let p = counts (is_pin n) in
       let none = no-pins n w.last.handle f.entries f.new in
-      let fewer = sum-le (λ h. one (is_pin n h && is_outside f.gone h)) (λ h. one (is_at n h && is_outside f.gone h)) w.rows (λ h among. pin-at (is_at n h) _ (is_outside f.gone h)) in
+      let fewer = sum-le (λ h. one (is_pin n h && is_outside f.gone h)) (λ h. one (is_at n h && is_outside f.gone h)) w.rows (λ h among. grind (arith, nat_tests)) in
       let cells : w'.cells n ≡ (if nat_lt 0 (held n w'.rows) then Some cell else None) = f.leaves.cells n ∙ rw (f.leaves.rows, live) refl in
       grind (arith, nat_tests)
     where
       counts : (t : HandleRow → Bool) → times t w'.rows ≡ times (λ h. t h && is_outside f.gone h) w.rows + times t f.entries
       counts t = ap (times t) f.leaves.rows ∙ (sum_by-append (λ h. one (t h)) (left_rows f.gone w.rows) f.entries ∙ ap (λ k. k + times t f.entries) (times-left t f.gone w.rows))
 
-      pin-at : (a b c : Bool) → one ((a && b) && c) ≤ one (a && c)
-      pin-at a b c = grind (arith, nat_tests)
-
   -- a row that a value owns was there, and isn't gone
   was : (n : ℕ) (h : HandleRow) → Among w'.rows h → h.owner ≡ owner_value n → Among w.rows h × (f.gone h.number.0 ≡ false)
   was n h (i, at) own = elim (among-either (left_rows f.gone w.rows) f.entries i h (subst (λ rows. slice_get rows i ≡ Some h) f.leaves.rows at)) [
-    | inl left ↦ (among-kept _ w.rows h left, outside (f.gone h.number.0) (passes _ w.rows h left))
+    | inl left ↦ (among-kept _ w.rows h left, (let p = passes _ w.rows h left in grind (arith, nat_tests)))
     | inr new ↦ absurd (let e : Owner.List ≡ owner_value n = sym (listed w.last.handle f.entries f.new h new) ∙ own in cc)
   ]
-    where
-      outside : (b : Bool) → not b ≡ true → b ≡ false
-      outside b e = grind (arith, nat_tests)
 
   left : {q : ℕ} {row : HandleRow} → f.gone q ≡ false → Stands w.last.handle w.rows q row → Stands w'.last.handle w'.rows q row
   left {q} {row} kept s =
@@ -185,13 +173,7 @@ unpin-keeps {w} whole h row none owns pinned = record { owns = mode-owns w h Mod
 
 -- a node gets a key
 keyed-keeps : (w : Core) (node : NodeNumber) (key : ℕ) → Keeps w (with_key w node key)
-keyed-keeps w node key = record { owns = λ n. owns-same refl refl typed; held = held }
-  where
-    typed : (p t : ℕ) → type_at w p ≡ Some t → type_at (with_key w node key) p ≡ Some t
-    typed p t is = grind (arith, nat_tests)
-
-    held : (n : ℕ) → holds_value (with_key w node key) n ≡ true → holds_value w n ≡ true
-    held n is = grind (arith, nat_tests)
+keyed-keeps w node key = record { owns = λ n. owns-same refl refl (λ p t is. grind (arith, nat_tests)); held = λ n is. grind (arith, nat_tests) }
 
 -- ---- the calls
 
