@@ -1,11 +1,11 @@
 -- A value comes to a node that had none: the handles that it names move to it, and it owns each once. And calls by which a node comes, with its value or without one.
 use Rattle.pagable_laws.proofs.Effects as effects
-use Rattle.pagable_steps.proofs.Words.{◌≡◌, ℕ, ◌+◌, ◌<◌, ◌≤◌, ◌==◌, ◌&&◌, ◌||◌, Bool, true, false, List, [], ◌∷◌, Option, Some, None, Ok, Err, inl, inr, refl, ap, sym, subst, ◌∙◌, if◌then◌else◌}
+use Rattle.pagable_steps.proofs.Words.{◌≡◌, ℕ, ◌+◌, ◌≤◌, ◌==◌, ◌&&◌, ◌||◌, Bool, true, false, List, [], ◌∷◌, Option, Some, None, Ok, Err, inl, inr, refl, ap, sym, subst, ◌∙◌, if◌then◌else◌}
 use Rattle.pagable_steps.proofs.Words.{arith, Result, is_some, not, nat_lt, nat_tests, sum_by-cons, sum_by_push, OptionalDataKey, HandleRow, Owner, Mode, Error, ArcRef, Kind, HandleNumber, LoadNumber}
 use Rattle.pagable_steps.proofs.Words.{Among, is_in, one, times, if_there, type_of, is_loose_kind, is_pinning, is_pin, is_at, owner_value, held, mode_of, pins, Core, Cell, OpenLoad, Values, type_at}
 use Rattle.pagable_steps.proofs.Words.{is_here, usable, row_of, moved, with_node, with_handle, next_node, reference_fault, references_fault, is_named_by, BirthCall, AwayBirthCall, Adopts, LazyCall}
 use Rattle.pagable_steps.proofs.Words.{PagerState, IsWhole, WellFormed, Stands, AreGood, NotValues, good, or-none, named-among, stands-whole, stands-changed, found-number, among-changed, self-number}
-use Rattle.pagable_steps.proofs.Words.{same-number, sum-le, one-less, and_parts, NodeNumber, updated, is_owned_by, is_owner, is_loose, is_in_memory, key_at, Owns, with_mode, without_load, is_owned_in}
+use Rattle.pagable_steps.proofs.Words.{same-number, sum-le, one-less, and_parts, NodeNumber, updated, is_owned_by, is_owner, is_loose, Owns, with_mode, without_load, is_owned_in}
 use Rattle.pagable_steps.proofs.Owning.{At, Has, among-named, same-value, holds_value, settled, sits, not-load, gets-known, OwnsAlike, Spares, owns-then, owns-handle, pinned-here, sits-on, spared}
 use Rattle.pagable_steps.proofs.Owning.{spares-alike, spares-cached, AreFree, Keeps, Sweeps, spares-keeps, spares-then, spares-same, spares-handle, mode-owns, mode-others, mode-here}
 use Rattle.pagable_steps.proofs.{Words.{with_pin, MayEnd, Installs, NotLoads, row-held, found}, Owning.{turned, owns-changed, owns-same, rowed, moved-pins}, Falling.{fell, fell-from, load-free}}
@@ -265,7 +265,7 @@ module _ {N E : Type 0} {v : Values N} {s : PagerState N E} (is : WellFormed v s
 
     -- each node that is in memory has a value
     there : (n : ℕ) → holds_value (with_pin closed-given h node me) n ≡ true → is_some (values n) ≡ true
-    there n holds = at (n == node.0) refl
+    there n holds = let v = is.valued n in let p = same-pins in grind (arith, nat_tests)
       where
         same-pins : (n == node.0) ≡ false → pins n (with_pin closed-given h node me).rows ≡ pins n s.core.rows
         same-pins e =
@@ -275,10 +275,6 @@ module _ {N E : Type 0} {v : Values N} {s : PagerState N E} (is : WellFormed v s
             let c = takes-it.pins n in
             let d : one (is_pin n (row_of (s.core.last.handle + 1) node Mode.Pinned me)) ≡ 0 = rw apart refl in
             omega (arith, a, b, c, d)
-
-        at : (b : Bool) → (n == node.0) ≡ b → is_some (if b then Some x else s.values n) ≡ true
-        at true e = refl
-        at false e = is.valued n ∙ (ap (λ p. is_some (s.core.cells n) && is_in_memory p (key_at s.core n)) (sym (same-pins e)) ∙ holds)
 
     -- what goes is no value's
     none-goes : AreFree (with_pin closed-given h node me) (λ q. is_owned_in s.core (Owner.Load l) q && not (is_named_by (v.references x) q))

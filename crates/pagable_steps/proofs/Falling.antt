@@ -2,12 +2,12 @@
 use Rattle.pagable_laws.proofs.Effects as effects
 use Rattle.std.proofs.lemmas.Bool.{false_from_ne_true}
 use Rattle.pagable_steps.proofs.Owning.{At, Has, AreFree, Keeps, Leaves, Spares, settled, sits, holds_value, same-value, owned-test, among-named, sits-on, stayed, spares-keeps, spares-then}
-use Rattle.pagable_steps.proofs.Words.{◌≡◌, ℕ, suc, zero, ◌+◌, ◌<◌, ◌≤◌, ◌&&◌, Bool, true, false, List, [], ◌∷◌, Option, Some, None, inl, inr, refl, ap, sym, subst, ◌∙◌, if◌then◌else◌, arith, is_some}
+use Rattle.pagable_steps.proofs.Words.{◌≡◌, ℕ, suc, zero, ◌+◌, ◌<◌, ◌&&◌, Bool, true, false, List, [], ◌∷◌, Option, Some, None, inl, inr, refl, ap, sym, subst, ◌∙◌, if◌then◌else◌, arith, is_some}
 use Rattle.pagable_steps.proofs.Words.{not, nat_lt, cond, and_parts, nat_tests, sum_by-cons, sum_by-append, HandleRow, Owner, ArcRef, Among, one, times, if_there, filter, is_at, is_pin, is_owned_by}
 use Rattle.pagable_steps.proofs.Words.{owner_value, held, Core, Cell, Values, type_at, is_here, is_outside, owned_outside, loses_value, AreNewEntries, is_keyed, left_rows, Falls, PagerState}
 use Rattle.pagable_steps.proofs.Words.{WellFormed, is_named_by, Stands, stands-alike, stands-more, among-kept, among-found, found-number, found-kept, none-in-new, le-more, same-owner, sum-le}
-use Rattle.pagable_steps.proofs.Words.{at-most-sum, row-held, fell-away, outlast, fallen, named-among, ◌==◌, ◌||◌, Ok, Err, Result, Error, Mode, Kind, HandleNumber, LoadNumber, NodeNumber, is_in}
-use Rattle.pagable_steps.proofs.Words.{find_row, is_owner, owner_worker, is_in_memory, is_pinning, Alike, key_at, usable, FallsAnyhow, UnpinCall, ReleaseCall, SetKeyCall, ScheduleCall, OfferCall}
+use Rattle.pagable_steps.proofs.Words.{at-most-sum, row-held, fell-away, outlast, fallen, named-among, ◌||◌, Ok, Err, Result, Error, Mode, Kind, HandleNumber, LoadNumber, NodeNumber, is_in}
+use Rattle.pagable_steps.proofs.Words.{find_row, is_owner, owner_worker, is_pinning, Alike, usable, FallsAnyhow, UnpinCall, ReleaseCall, SetKeyCall, ScheduleCall, OfferCall}
 use Rattle.pagable_steps.proofs.Words.{CloseCall, Owns, with_mode, with_key, is_owned_in, numbers_of, Adopts, EndCall, HandOverCall, DropCall, LoadCloses, is_workers_at, is_load_of, WorkerEnds}
 use Rattle.pagable_steps.proofs.Owning.{spares-same, spares-alike, spares-moved, owns-same, mode-owns, mode-others, row-here, rowed, own-free, listed-free, schedules, offers, spares-known, not-load}
 use Rattle.pagable_steps.proofs.Words.{IsWhole, same-number, counted, good, NotValues, neither, stands-whole, among-either, no-pins, slice_get}
@@ -129,14 +129,10 @@ module _ {before w w' : Core} {given : ℕ → Bool} {r : _} (f : Falls before w
 pub fell-from : {N E : Type 0} {v : Values N} {m : Core} {values : ℕ → Option N} → ((n : ℕ) → At v m n (values n)) → ((n : ℕ) → holds_value m n ≡ true → is_some (values n) ≡ true)
     → {before : Core} {given : ℕ → Bool} {r : _} (s' : PagerState N E) → Falls before m given r s'.core → AreFree m given → Leaves values s' → WellFormed v s'
 fell-from {N} {v = v} {m} {values} at there s' f free l =
-    settled s' (λ n. subst (At v s'.core n) (sym (l.swept n)) (at-left f v values at free n)) (λ n. ap is_some (l.swept n) ∙ by n (holds_value s'.core n) refl) l.counted l.whole
+    settled s' (λ n. subst (At v s'.core n) (sym (l.swept n)) (at-left f v values at free n)) (λ n. ap is_some (l.swept n) ∙ (let t = there n in let w = was-there n in grind (arith, nat_tests))) l.counted l.whole
   where
     was-there : (n : ℕ) → holds_value s'.core n ≡ true → holds_value m n ≡ true
     was-there n is = let c = same-cell f n (and_parts (is_some (s'.core.cells n)) (is_here s'.core n) is).0 in let g = fell-away f n in grind (arith, nat_tests)
-
-    by : (n : ℕ) (b : Bool) → holds_value s'.core n ≡ b → is_some (if b then values n else None) ≡ b
-    by n true is = there n (was-there n is)
-    by n false is = refl
 
 -- The handles go from a world where values stand as they stood, and none of them is a value's.
 pub fell : {N E : Type 0} {v : Values N} {s s' : PagerState N E} {before m : Core} {given : ℕ → Bool} {r : _} → WellFormed v s → Keeps s.core m → Falls before m given r s'.core → AreFree s.core given
@@ -160,16 +156,16 @@ module _ {w : Core} (whole : IsWhole w) where
 -- an own handle pins no more
 unpin-keeps : {w : Core} {me : Owner} {fits : Mode → Bool} → IsWhole w → (h : HandleNumber) (row : HandleRow) → NotValues me → Owns w me h fits row → row.mode ≡ Mode.LoosePinned
     → Keeps w (with_mode w h Mode.LooseUnpinned)
-unpin-keeps {w} whole h row none owns pinned = record { owns = mode-owns w h Mode.LooseUnpinned row stands (subst NotValues (sym owns.own) none); held = λ n is. at n (row.node.0 == n) refl is }
+unpin-keeps {w} whole h row none owns pinned = record { owns = mode-owns w h Mode.LooseUnpinned row stands (subst NotValues (sym owns.own) none); held = held }
   where
     stands : Stands w.last.handle w.rows h.0 row
     stands = stands-whole whole.handles h.0 row owns.live
 
-    at : (n : ℕ) (b : Bool) → (row.node.0 == n) ≡ b → holds_value (with_mode w h Mode.LooseUnpinned) n ≡ true → holds_value w n ≡ true
-    at n true e is =
-        let here = subst (λ k. is_here w k ≡ true) (same-number _ _ e) (row-here w h row owns.live (ap is_pinning pinned)) in
-        rw ((and_parts (is_some (w.cells n)) _ is).0, here) refl
-    at n false e is = ap (λ p. is_some (w.cells n) && is_in_memory p (key_at w n)) (sym (mode-others w h Mode.LooseUnpinned row stands n e)) ∙ is
+    held : (n : ℕ) → holds_value (with_mode w h Mode.LooseUnpinned) n ≡ true → holds_value w n ≡ true
+    held n is =
+        let here = row-here w h row owns.live (ap is_pinning pinned) in
+        let other = mode-others w h Mode.LooseUnpinned row stands n in
+        grind (arith, nat_tests, same-number)
 
 -- a node gets a key
 keyed-keeps : (w : Core) (node : NodeNumber) (key : ℕ) → Keeps w (with_key w node key)

@@ -4,11 +4,11 @@ use Rattle.pagable_laws.proofs.Effects as effects
 use Rattle.std.proofs.lemmas.Bool.{false_from_ne_true}
 use Rattle.pagable_steps.proofs.Words.{◌≡◌, ℕ, suc, ◌<◌, ◌≤◌, ◌==◌, ◌&&◌, Bool, true, List, [], ◌∷◌, Option, Some, None, refl, ap, sym, subst, ◌∙◌, arith, is_some, and_parts, nat_tests, HandleRow}
 use Rattle.pagable_steps.proofs.Words.{Owner, ArcRef, Among, one, times, is_handle, is_owner, is_owned_by, owner_value, fits_mode, type_of, pins, Core, Values, type_at, is_here, PagerState, IsWhole}
-use Rattle.pagable_steps.proofs.Words.{WellFormed, HandlesAreWhole, Stands, stands-whole, among-found, found-number, once, same-owner, same-number, sum_by-cons, is_named_by, self-number, at-most-sum}
+use Rattle.pagable_steps.proofs.Words.{WellFormed, HandlesAreWhole, Stands, stands-whole, among-found, found-number, same-owner, same-number, sum_by-cons, is_named_by, self-number, at-most-sum}
 use Rattle.pagable_steps.proofs.Words.{sum-le, sum-zero, counted, one-true, ◌+◌, false, sum_by, map, inl, inr, if◌then◌else◌, nat_lt, sum_by_push, Mode, OptionalDataKey, HandleNumber, NodeNumber}
 use Rattle.pagable_steps.proofs.Words.{SameAt, changed, if_there, is_pin, is_pinning, is_in_memory, Cell, Last, Alike, row_at, key_at, row_of, with_handle, with_mode, with_cached, moved, Kind}
 use Rattle.pagable_steps.proofs.Words.{stands-changed, among-changed, NotValues, row-pins, found-after, Ok, Err, Result, not, slice_get, Beginning, Pinning, Want, Error, Blob, LoadNumber}
-use Rattle.pagable_steps.proofs.Words.{WorkerNumber, is_shared_kind, is_loose_kind, is_pinned_kind, is_at, is_pinned, is_shared, is_share, mode_of, held, usable, only_handle, Owns, with_known}
+use Rattle.pagable_steps.proofs.Words.{WorkerNumber, is_shared_kind, is_loose_kind, is_pinned_kind, is_at, is_shared, is_share, mode_of, usable, only_handle, Owns, with_known}
 use Rattle.pagable_steps.proofs.Words.{CloneCall, PinCall, LoosenCall, ScheduleCall, TakeCall, ReserveCall, RecallCall, OfferCall, ClearCall, Asked, StoreCall, with_worker, with_entry_taken}
 use Rattle.pagable_steps.proofs.Words.{BeginCall, BeginKeyCall, GetsKnown, Given, from_cache, AskCall, IsEntered, entered-of, among-either, handles-once, one-less, only-one, found}
 
@@ -309,11 +309,8 @@ module _ (w : Core) (h : HandleNumber) (mode : Mode) (row : HandleRow) (stands :
 
   -- other nodes are pinned as often
   pub mode-others : (n : ℕ) → (row.node.0 == n) ≡ false → pins n (with_mode w h mode).rows ≡ pins n w.rows
-  mode-others n other = sum-mapped _ _ _ w.rows (λ x among. at x among (is_handle h.0 x) refl)
-    where
-      at : (x : HandleRow) → Among w.rows x → (b : Bool) → is_handle h.0 x ≡ b → one (is_pin n (if b then to x else x)) ≡ one (is_pin n x)
-      at x among false e = refl
-      at x among true e = let f : (x.node.0 == n) ≡ false = ap (λ (y : HandleRow). y.node.0 == n) (is-row x among e) ∙ other in rw f refl
+  mode-others n other =
+      sum-mapped (λ x. if is_handle h.0 x then to x else x) (λ x. one (is_pin n x)) (λ x. one (is_pin n x)) w.rows (λ x among. (let r = is-row x among in grind (arith, nat_tests)))
 
   -- its own is pinned, if the mode is one that pins
   pub mode-here : is_pinning mode ≡ true → is_here (with_mode w h mode) row.node.0 ≡ true
@@ -322,11 +319,10 @@ module _ (w : Core) (h : HandleNumber) (mode : Mode) (row : HandleRow) (stands :
       row-here (with_mode w h mode) h (to row) (found-after (is_handle h.0) to (λ x. refl) h.0 w.rows row stands.live ∙ ap (λ b. Some (if b then to row else row)) number) pinning
 
   pub spares-mode : NotValues row.owner → is_pinning mode ≡ true → is_here w row.node.0 ≡ true → Spares w (with_mode w h mode)
-  spares-mode free pinning here = record { owns = mode-owns free; holds = λ n. at n (row.node.0 == n) refl }
-    where
-      at : (n : ℕ) (b : Bool) → (row.node.0 == n) ≡ b → holds_value (with_mode w h mode) n ≡ holds_value w n
-      at n true is = ap (λ b. is_some (w.cells n) && b) (subst (λ k. is_here (with_mode w h mode) k ≡ is_here w k) (same-number _ _ is) (mode-here pinning ∙ sym here))
-      at n false is = ap (λ p. is_some (w.cells n) && is_in_memory p (key_at w n)) (mode-others n is)
+  spares-mode free pinning here = record {
+    owns = mode-owns free;
+    holds = λ n. (let m = mode-here pinning in let o = mode-others n in let s = same-number row.node.0 n in grind (arith, nat_tests));
+  }
 
 -- ---- calls by which no value comes or goes
 
@@ -426,12 +422,9 @@ module _ {w : Core} (whole : IsWhole w) where
       entered : IsEntered kind key n w.cache w.cells
       entered = entered-of kind key n w known
 
-      some-held : is_some (w.cells n) ≡ true → is_some (w.cells n) ≡ nat_lt 0 (held n w.rows) → 0 < held n w.rows
-      some-held there live = grind (arith, nat_tests)
-
       shared : is_shared_kind kind ≡ true → is_here w n ≡ true
       shared is =
-          let holds = counted (λ h. one (is_at n h)) w.rows (some-held entered.there (whole.handles.live n)) in
+          let holds = counted (λ h. one (is_at n h)) w.rows (let there = entered.there in let live = whole.handles.live n in grind (arith, nat_tests)) in
           let at : (holds.0.node.0 == n) ≡ true = one-true _ holds.2 in
           let shares : is_shared holds.0.mode ≡ true = (whole.cache kind key n entered.entry).shares holds.0 holds.1 (same-number _ _ at) ∙ is in
           let one_share : one (is_share n holds.0) ≡ 1 = rw (at, shares) refl in
@@ -460,11 +453,8 @@ module _ {w : Core} (whole : IsWhole w) where
   offers {h = h} (Ok (Some k)) back c = elim c.answers.3 [
     | inl (closed, same, a) ↦ spares-alike a
     | inr (open_still, (n, known, next, f)) ↦
-        absurd (above-last _ _ _ (ap (λ (x : HandleNumber). x.0) (back k refl)) next.above (stands-whole whole.handles h.0 c.answers.0 c.answers.1.live).given)
+        absurd (omega (arith, ap (λ (x : HandleNumber). x.0) (back k refl), next.above, (stands-whole whole.handles h.0 c.answers.0 c.answers.1.live).given))
   ]
-    where
-      above-last : (a b last : ℕ) → a ≡ b → a ≡ last + 1 → b ≤ last → ⊥
-      above-last a b last same next few = absurd (omega arith)
   offers x0 back c = grind (arith, nat_tests, spares-same, spares-alike)
 
   -- ---- loads
