@@ -139,11 +139,9 @@ module _ {N E : Type 0} {v : Values N} {s : PagerState N E} (s' : PagerState N E
       → ((n : ℕ) → s'.counts n ≡ pins n s'.core.rows) → IsWhole s'.core → WellFormed v s'
   comes o new here values =
       settled s' (λ n. subst (At v s'.core n) (sym (values n)) (sits-on v (owns-then (owns-handle bearing (next_node s.core) mode me free n) (like.owns n)) _ (receives-it.all o new n)))
-      (λ n. ap is_some (values n) ∙ (valued n (n == next) refl ∙ sym (like.holds n)))
-    where
-      valued : (n : ℕ) (b : Bool) → (n == next) ≡ b → is_some (if b then o else s.values n) ≡ holds_value made n
-      valued n true e = here ∙ (sym holds-new ∙ ap (holds_value made) (sym (same-number n next e)))
-      valued n false e = is.valued n ∙ sym (others-hold n e)
+      (λ n.
+      let valued : is_some (if n == next then o else s.values n) ≡ holds_value made n = let v = is.valued n in let h = holds-new in grind (arith, nat_tests, others-hold, same-number) in
+      ap is_some (values n) ∙ (valued ∙ sym (like.holds n)))
 
   -- with its value
   comes-with : (x : N) → v.node_type x ≡ t → v.references x ≡ references → is_pinning mode ≡ true → ((n : ℕ) → s'.values n ≡ (if n == next then Some x else s.values n))

@@ -2,7 +2,7 @@
 use Rattle.pagable_laws.proofs.Effects as effects
 use Rattle.std.proofs.lemmas.Bool.{false_from_ne_true}
 use Rattle.pagable_steps.proofs.Owning.{At, Has, AreFree, Keeps, Leaves, Spares, settled, sits, holds_value, same-value, owned-test, among-named, sits-on, stayed, spares-keeps, spares-then}
-use Rattle.pagable_steps.proofs.Words.{◌≡◌, ℕ, suc, zero, ◌+◌, ◌<◌, ◌&&◌, Bool, true, false, List, [], ◌∷◌, Option, Some, None, inl, inr, refl, ap, sym, subst, ◌∙◌, if◌then◌else◌, arith, is_some}
+use Rattle.pagable_steps.proofs.Words.{◌≡◌, ℕ, suc, ◌+◌, ◌<◌, ◌&&◌, Bool, true, false, List, [], ◌∷◌, Option, Some, None, inl, inr, refl, ap, sym, subst, ◌∙◌, if◌then◌else◌, arith, is_some}
 use Rattle.pagable_steps.proofs.Words.{not, nat_lt, cond, and_parts, nat_tests, sum_by-cons, sum_by-append, HandleRow, Owner, ArcRef, Among, one, times, if_there, filter, is_at, is_pin, is_owned_by}
 use Rattle.pagable_steps.proofs.Words.{owner_value, held, Core, Cell, Values, type_at, is_here, is_outside, owned_outside, loses_value, AreNewEntries, is_keyed, left_rows, Falls, PagerState}
 use Rattle.pagable_steps.proofs.Words.{WellFormed, is_named_by, Stands, stands-alike, stands-more, among-kept, among-found, found-number, found-kept, none-in-new, le-more, same-owner, sum-le}
@@ -17,8 +17,7 @@ use Rattle.pagable_steps.proofs.Words.{IsWhole, same-number, counted, good, NotV
 -- what passes the test passes it
 passes : {X : Type 0} (test : X → Bool) (xs : List X) (x : X) → Among (filter test xs) x → test x ≡ true
 passes test [] x among = absurd (cc)
-passes test (y ∷ ys) x (zero, is) = grind (arith, nat_tests, filter, cond, passes test ys x)
-passes test (y ∷ ys) x (suc i, is) = grind (arith, nat_tests, filter, cond, passes test ys x)
+passes test (y ∷ ys) x among = grind (arith, nat_tests, filter, cond, passes test ys x)
 
 times-left : (t : HandleRow → Bool) (gone : ℕ → Bool) (rows : List HandleRow) → times t (left_rows gone rows) ≡ times (λ h. t h && is_outside gone h) rows
 times-left t gone [] = refl
@@ -129,7 +128,8 @@ module _ {before w w' : Core} {given : ℕ → Bool} {r : _} (f : Falls before w
 pub fell-from : {N E : Type 0} {v : Values N} {m : Core} {values : ℕ → Option N} → ((n : ℕ) → At v m n (values n)) → ((n : ℕ) → holds_value m n ≡ true → is_some (values n) ≡ true)
     → {before : Core} {given : ℕ → Bool} {r : _} (s' : PagerState N E) → Falls before m given r s'.core → AreFree m given → Leaves values s' → WellFormed v s'
 fell-from {N} {v = v} {m} {values} at there s' f free l =
-    settled s' (λ n. subst (At v s'.core n) (sym (l.swept n)) (at-left f v values at free n)) (λ n. ap is_some (l.swept n) ∙ (let t = there n in let w = was-there n in grind (arith, nat_tests))) l.counted l.whole
+    settled s' (λ n. subst (At v s'.core n) (sym (l.swept n)) (at-left f v values at free n))
+    (λ n. ap is_some (l.swept n) ∙ (let t = there n in let w = was-there n in grind (arith, nat_tests))) l.counted l.whole
   where
     was-there : (n : ℕ) → holds_value s'.core n ≡ true → holds_value m n ≡ true
     was-there n is = let c = same-cell f n (and_parts (is_some (s'.core.cells n)) (is_here s'.core n) is).0 in let g = fell-away f n in grind (arith, nat_tests)

@@ -8,7 +8,7 @@ use Rattle.pagable_steps.proofs.Words.{WellFormed, HandlesAreWhole, Stands, stan
 use Rattle.pagable_steps.proofs.Words.{sum-le, sum-zero, counted, one-true, ◌+◌, false, sum_by, map, inl, inr, if◌then◌else◌, nat_lt, sum_by_push, Mode, OptionalDataKey, HandleNumber, NodeNumber}
 use Rattle.pagable_steps.proofs.Words.{SameAt, changed, if_there, is_pin, is_pinning, is_in_memory, Cell, Last, Alike, row_at, key_at, row_of, with_handle, with_mode, with_cached, moved, Kind}
 use Rattle.pagable_steps.proofs.Words.{stands-changed, among-changed, NotValues, row-pins, found-after, Ok, Err, Result, not, slice_get, Beginning, Pinning, Want, Error, Blob, LoadNumber}
-use Rattle.pagable_steps.proofs.Words.{WorkerNumber, is_shared_kind, is_loose_kind, is_pinned_kind, is_at, is_shared, is_share, mode_of, usable, only_handle, Owns, with_known}
+use Rattle.pagable_steps.proofs.Words.{WorkerNumber, is_shared_kind, is_loose_kind, is_at, is_shared, is_share, mode_of, usable, only_handle, Owns, with_known}
 use Rattle.pagable_steps.proofs.Words.{CloneCall, PinCall, LoosenCall, ScheduleCall, TakeCall, ReserveCall, RecallCall, OfferCall, ClearCall, Asked, StoreCall, with_worker, with_entry_taken}
 use Rattle.pagable_steps.proofs.Words.{BeginCall, BeginKeyCall, GetsKnown, Given, from_cache, AskCall, IsEntered, entered-of, among-either, handles-once, one-less, only-one, found}
 
@@ -110,11 +110,8 @@ settled {N} {v = v} s all valued counts whole = record {
     has : (n : ℕ) (x : N) → s.values n ≡ Some x → Has v s.core n x
     has n x e = subst (At v s.core n) e (all n)
 
-    both-once : (a b : ℕ) → a ≤ 1 → b ≤ 1 → (0 < a → 0 < b) → (0 < b → 0 < a) → a ≡ b
-    both-once a b le le' up down = grind arith
-
     inside : (n : ℕ) (x : N) (q : ℕ) → Has v s.core n x → times (λ (r : ArcRef). r.handle.0 == q) (v.references x) ≡ times (owns n q) s.core.rows
-    inside n x q a = both-once _ _ (a.once q) (owns-once whole.handles n q) up down
+    inside n x q a = let le = a.once q in let few = owns-once whole.handles n q in let more = up in let less = down in grind arith
       where
         up : 0 < times (λ (r : ArcRef). r.handle.0 == q) (v.references x) → 0 < times (owns n q) s.core.rows
         up some =
@@ -253,11 +250,8 @@ module _ (w : Core) (node : NodeNumber) (mode : Mode) (me : Owner) (free : NotVa
   pub spares-handle : (is_pinning mode ≡ true → is_here w node.0 ≡ true) → Spares w (with_handle w node mode me)
   spares-handle may = record {
     owns = owns-handle;
-    holds = λ n. ap (λ p. is_some (w.cells n) && is_in_memory p (key_at w n)) (sum_by_push (λ h. one (is_pin n h)) w.rows new) ∙ (grind (arith, nat_tests, here-at));
+    holds = λ n. ap (λ p. is_some (w.cells n) && is_in_memory p (key_at w n)) (sum_by_push (λ h. one (is_pin n h)) w.rows new) ∙ (let f = same-number node.0 n in grind (arith, nat_tests));
   }
-    where
-      here-at : (n : ℕ) → (node.0 == n) ≡ true → is_pinning mode ≡ true → is_here w n ≡ true
-      here-at n same pinning = subst (λ m. is_here w m ≡ true) (same-number _ _ same) (may pinning)
 
   pub spares-made : {w' : Core} → (is_pinning mode ≡ true → is_here w node.0 ≡ true) → Alike (with_handle w node mode me) w' → Spares w w'
   spares-made may a = spares-then (spares-handle may) (spares-alike a)
@@ -348,13 +342,12 @@ stores (Ok key) c = let a = c.stores.1.leaves in spares-same a.rows a.cells (ap 
 stores (Err e) c = asked c.refused.0
 
 pub begins : {w w' : Core} {me : Owner} {h : HandleNumber} (r : Result Beginning Error) → BeginCall w me h r w' → Spares w w'
-begins (Ok Beginning.InMemory) c = spares-alike c.begins.2.1
 begins {w} (Ok (Beginning.Load l key)) c =
     let row : HandleRow = c.begins.0 in
     let a = c.begins.2.4.2 in
     spares-then
     (spares-handle w row.node Mode.LooseUnpinned (Owner.Load l) (not-load l) (λ is. absurd (let e : false ≡ true = is in cc))) (spares-same a.rows a.cells (ap (λ (l : Last). l.handle) a.last))
-begins (Err e) c = spares-alike c.refused.stays
+begins x0 c = grind (arith, nat_tests, spares-alike)
 
 pub begins-key : {w w' : Core} {me : Owner} {key : ℕ} (r : Result Beginning Error) → BeginKeyCall w me key r w' → Spares w w'
 begins-key (Ok (Beginning.Load l k)) c = let a = c.begins.2 in spares-same a.rows a.cells (ap (λ (l : Last). l.handle) a.last)
@@ -432,12 +425,9 @@ module _ {w : Core} (whole : IsWhole w) where
           let unkeyed = whole.handles.unkeyed n (omega (arith, one_share, le)) in
           grind (arith, nat_tests)
 
-      pinned : is_pinned_kind kind ≡ true → is_here w n ≡ true
-      pinned is = grind (arith, nat_tests, entered, not, is_some, is_here)
-
       by : (a : Bool) → is_shared_kind kind ≡ a → (b : Bool) → is_loose_kind kind ≡ b
           → is_pinning (if a then Mode.Shared else if b then Mode.LooseUnpinned else Mode.Pinned) ≡ true → is_here w n ≡ true
-      by x0 e x2 f pinning = grind (arith, nat_tests, shared, pinned)
+      by x0 e x2 f pinning = grind (arith, nat_tests, shared, entered, not, is_some, is_here)
 
   -- a handle of such a node
   pub spares-known : {owner : Owner} (kind : Kind) (key n : ℕ) → NotValues owner → usable w kind.0 key ≡ Some n → Spares w (with_known w kind n owner)
