@@ -3,15 +3,12 @@ use Rattle.pagable_laws.proofs.Effects as effects
 use Rattle.pagable_steps.proofs.Words.{◌≡◌, ℕ, ◌+◌, ◌≤◌, ◌==◌, ◌&&◌, ◌||◌, Bool, true, false, List, [], ◌∷◌, Option, Some, None, Ok, Err, inl, inr, refl, ap, sym, subst, ◌∙◌, if◌then◌else◌}
 use Rattle.pagable_steps.proofs.Words.{arith, Result, is_some, not, nat_lt, nat_tests, sum_by-cons, sum_by_push, OptionalDataKey, HandleRow, Owner, Mode, Error, ArcRef, Kind, HandleNumber, LoadNumber}
 use Rattle.pagable_steps.proofs.Words.{Among, is_in, one, times, if_there, type_of, is_loose_kind, is_pinning, is_pin, is_at, owner_value, held, mode_of, pins, Core, Cell, OpenLoad, Values, type_at}
-use Rattle.pagable_steps.proofs.Words.{is_here, usable, row_of, moved, with_node, with_handle, next_node, reference_fault, references_fault, is_named_by, BirthCall, AwayBirthCall, Adopts, LazyCall}
+use Rattle.pagable_steps.proofs.Words.{is_here, usable, row_of, moved, with_node, with_handle, next_node, references_fault, is_named_by, BirthCall, AwayBirthCall, Adopts, LazyCall}
 use Rattle.pagable_steps.proofs.Words.{PagerState, IsWhole, WellFormed, Stands, AreGood, NotValues, good, or-none, named-among, stands-whole, stands-changed, found-number, among-changed, self-number}
 use Rattle.pagable_steps.proofs.Words.{same-number, sum-le, one-less, and_parts, NodeNumber, updated, is_owned_by, is_owner, is_loose, Owns, with_mode, without_load, is_owned_in}
 use Rattle.pagable_steps.proofs.Owning.{At, Has, among-named, same-value, holds_value, settled, sits, not-load, gets-known, OwnsAlike, Spares, owns-then, owns-handle, pinned-here, sits-on, spared}
 use Rattle.pagable_steps.proofs.Owning.{spares-alike, spares-cached, AreFree, Keeps, Sweeps, spares-keeps, spares-then, spares-same, spares-handle, mode-owns, mode-others, mode-here}
 use Rattle.pagable_steps.proofs.{Words.{with_pin, MayEnd, Installs, NotLoads, row-held, found}, Owning.{turned, owns-changed, owns-same, rowed, moved-pins}, Falling.{fell, fell-from, load-free}}
-
-unseen : (w : Core) (owner : Owner) (seen : List ℕ) (r : ArcRef) → reference_fault w owner seen r ≡ None → is_in seen r.handle.0 ≡ false
-unseen w owner seen r none = grind (arith, nat_tests)
 
 -- references that nothing is to be said against name each handle once at most, and none that was seen
 named-once : (w : Core) (owner : Owner) (seen : List ℕ) (rs : List ArcRef) (q : ℕ) → references_fault w owner seen rs ≡ None → times (λ (r : ArcRef). r.handle.0 == q) rs ≤ one (not (is_in seen q))
@@ -19,7 +16,7 @@ unfolding references_fault is_in
 named-once w owner seen [] q none = omega arith
 named-once w owner seen (r ∷ rs) q none =
     let both = or-none _ _ none in
-    at (r.handle.0 == q) (is_in seen q) (λ e. ap (is_in seen) (sym (same-number _ _ e)) ∙ unseen w owner seen r both.0) (named-once w owner (r.handle.0 ∷ seen) rs q both.1)
+    at (r.handle.0 == q) (is_in seen q) (λ e. ap (is_in seen) (sym (same-number _ _ e)) ∙ (let f = both.0 in grind (arith, nat_tests))) (named-once w owner (r.handle.0 ∷ seen) rs q both.1)
     (sum_by-cons (λ (x : ArcRef). one (x.handle.0 == q)) r rs)
   where
     at : (b c : Bool) → (b ≡ true → c ≡ false) → {k m : ℕ} → k ≤ one (not (b || c)) → m ≡ one b + k → m ≤ one (not c)
@@ -126,21 +123,15 @@ module _ {N E : Type 0} {v : Values N} {s : PagerState N E} (s' : PagerState N E
   pins-made : (n : ℕ) → pins n made.rows ≡ pins n s.core.rows + one ((next == n) && is_pinning mode)
   pins-made n = sum_by_push (λ h. one (is_pin n h)) bearing.rows (row_of (s.core.last.handle + 1) (next_node s.core) mode me) ∙ ap (λ p. p + one ((next == n) && is_pinning mode)) (receives-it.pins n)
 
-  others-hold : (n : ℕ) → (n == next) ≡ false → holds_value made n ≡ holds_value s.core n
-  others-hold n other = let p = pins-made n in grind (arith, nat_tests)
-
   new-cell : bearing.cells next ≡ Some (record { node_type = t; key = own })
   new-cell = ap (λ b. if b then Some (record { node_type = t; key = own }) else s.core.cells next) (self-number next)
-
-  holds-new : holds_value made next ≡ is_here made next
-  holds-new = ap (λ c. is_some c && is_here made next) new-cell
 
   comes : (o : Option N) → At v bearing next o → is_some o ≡ is_here made next → ((n : ℕ) → s'.values n ≡ (if n == next then o else s.values n))
       → ((n : ℕ) → s'.counts n ≡ pins n s'.core.rows) → IsWhole s'.core → WellFormed v s'
   comes o new here values =
       settled s' (λ n. subst (At v s'.core n) (sym (values n)) (sits-on v (owns-then (owns-handle bearing (next_node s.core) mode me free n) (like.owns n)) _ (receives-it.all o new n)))
       (λ n.
-      let valued : is_some (if n == next then o else s.values n) ≡ holds_value made n = let v = is.valued n in let h = holds-new in grind (arith, nat_tests, others-hold, same-number) in
+      let valued : is_some (if n == next then o else s.values n) ≡ holds_value made n = let v = is.valued n in let h = new-cell in let p = pins-made n in grind (arith, nat_tests, same-number) in
       ap is_some (values n) ∙ (valued ∙ sym (like.holds n)))
 
   -- with its value
