@@ -59,12 +59,9 @@ unfolding varint_limit varint varint_at
 varint-again zero last n rest h l = rw (le-leb n last (omega arith)) refl
 varint-again (suc more) last n rest h l = grind (arith, nat_tests, varint-again more last)
 
-limits : (varint_limit 2 3 ≡ 65536) × (varint_limit 4 15 ≡ 2 ^ 32) × (varint_limit 9 1 ≡ 2 ^ 64) × (varint_limit 18 3 ≡ 2 ^ 128)
-unfolding varint_limit
-limits = (refl, refl, refl, refl)
-
 pub unsigned-again : (w : Width) (n : ℕ) (rest : List ℕ) → n < bound w → unsigned_at w (unsigned_form w n ++ rest) ≡ Ok (n, rest)
-unsigned-again x0 n rest h = grind (arith, nat_tests, varint-again, limits)
+unfolding varint_limit
+unsigned-again x0 n rest h = grind (arith, nat_tests, varint-again)
 
 -- a number with a sign is one without, and back
 pub signed-back : (w : Width) (z : ℤ) → IsSigned w z → signed_from w (unsigned_of w z) ≡ z
@@ -264,9 +261,6 @@ read_again parts s t levels look kind_of m b x k r y u f = form-again x f (looke
 
 -- ---- no form of one meaning begins a form of another
 
-same_ok : {X E : Type 0} (x y : X) → (let r : Result X E = Ok x in r) ≡ Ok y → x ≡ y
-same_ok x y e = cc
-
 -- each reference stands for itself
 abbrev pub itself : {A : Type 0} → Look A A
 itself kind a = Ok a
@@ -280,7 +274,7 @@ prefix_free {A} parts s t kind_of left m n b c x y k l u v f g e h =
     let first = form-again x f (looked-by u (looks-itself k)) t in
     let second = form-again y g (looked-by v (looks-itself l)) t in
     let inputs : rest (b ++ x) (k ++ u) ≡ rest (c ++ y) (l ++ v) = rw (e, h) refl in
-    let both : (m, rest x u) ≡ (n, rest y v) = same_ok _ _ (sym first ∙ ap (λ (i : Rest A). read_at itself parts left s i) inputs ∙ second) in
+    let both : (m, rest x u) ≡ (n, rest y v) = cc in
     let same_bytes : x ≡ y = ap (λ (p : Meaning A × Rest A). p.1.bytes) both in
     let same_refs : u ≡ v = ap (λ (p : Meaning A × Rest A). p.1.refs) both in (
       ap (λ (p : Meaning A × Rest A). p.0) both,

@@ -11,9 +11,6 @@ record Answered {W : Type 0} (C : Type 0) (n : ℕ) (shelf : Shelf) (steps : Lis
   others : (i : Identity) (slot : Slot) → shelf'.slots i ≡ Some slot → nat_eq slot.worker n ≡ false → shelf.slots i ≡ Some slot
   met : C → IsMetFailure shelf' n steps answer
 
-others-were : (n : ℕ) (shelf shelf' : Shelf) → Changes n shelf shelf' → (i : Identity) (slot : Slot) → shelf'.slots i ≡ Some slot → nat_eq slot.worker n ≡ false → shelf.slots i ≡ Some slot
-others-were n shelf shelf' changes i slot there other = grind (arith, nat_tests, some-same)
-
 -- what the list fails with was met, and none of the worker's claims has failed
 abbrev Met : {W : Type 0} → ℕ → Shelf → List (Took W) → List Todo → Type 0
 Met n shelf past todo = HasNoFailed shelf n × FailsMet n shelf past todo
@@ -35,7 +32,7 @@ module _ {N E B W : Type 0} (m : Seen N B W) (n : ℕ) (task : Task) (C : Type 0
       record {
         own = λ i slot there own.
             let none : (slot.outcome ≡ no_result → false ≡ true) = λ still. subst (λ t. Covers s'.shelf n t) (g.done answer is) g.covers i slot there own still in grind (arith, nat_tests);
-        others = others-were n s.shelf s'.shelf g.changes;
+        others = λ i slot there other. grind (arith, nat_tests, some-same);
         met = λ c. answered n s'.shelf (past ++ step ∷ []) todo step answer is (fails-stay n s.shelf s'.shelf past (step ∷ []) todo grown (met c).1);
       }
   at-answer (worker-goes-on todo next step steps answer s mid s' w is more) past all covers met =
@@ -54,7 +51,7 @@ module _ {N E B W : Type 0} (m : Seen N B W) (n : ℕ) (task : Task) (C : Type 0
       let a = at-answer more (past ++ step ∷ []) g.all g.covers on in
       record {
         own = a.own;
-        others = λ i slot there other. others-were n s.shelf mid.shelf g.changes i slot (a.others i slot there other) other;
+        others = λ i slot there other. grind (arith, nat_tests, some-same);
         met = λ c. subst (λ past. IsMetFailure s'.shelf n past answer) (append_assoc past (step ∷ []) steps) (a.met c);
       }
 

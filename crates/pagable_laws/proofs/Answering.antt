@@ -1,7 +1,7 @@
 -- What follows for keys: each that is published is its tree's, each that is answered is its task's, and what a worker met that answers one is left paged out.
-use Rattle.pagable_laws.proofs.Words.{to_publish, Identity, longest_path, arith, nat_tests, ◌≡◌, ℕ, true, List, [], ◌∷◌, Option, Some, Ok, Err, refl, sym, ap, subst, ◌∙◌, is_some, OptionalDataKey}
+use Rattle.pagable_laws.proofs.Words.{to_publish, Identity, longest_path, arith, nat_tests, ◌≡◌, ℕ, true, List, [], ◌∷◌, Some, Ok, Err, sym, ap, subst, ◌∙◌, is_some, OptionalDataKey}
 use Rattle.pagable_laws.proofs.Words.{KeyOfItem, ArcRef, is_loose_kind, Tree, HandleNumber, ReadsTree, WorkerNumber, if_there, Event, EventReply, Took, WorkerAnswer, WorkerReply, identity_of, has_key}
-use Rattle.pagable_laws.proofs.Words.{Core, Cell, key_at, Shelf, Slot, Written, Todo, to_item, to_set, to_release, to_fail, Task, of_item, of_entry, Walking, Values, Seen, Site, Does, IsPublished}
+use Rattle.pagable_laws.proofs.Words.{Core, key_at, Shelf, Slot, Written, Todo, to_item, to_set, to_release, to_fail, Task, of_item, of_entry, Walking, Values, Seen, Site, Does, IsPublished}
 use Rattle.pagable_laws.proofs.Words.{answer_after, WorkerSteps, Happens, PagerState, MachineState, world_of, kids_of, HandlesAreWhole, IsMachineWhole, Represents, StandsFor, ReadsItsTypes, Meets}
 use Rattle.pagable_laws.proofs.Words.{meets-of-item, meets-entry, meets-below, AreKeysOf, IsLeftPagedOut, HasKeyOf, LeavesAll, IsKeyOfTask, Ground, ground_of, IsOfEntry, Waits, Walks, WorkFits}
 use Rattle.pagable_laws.proofs.{Words.{IsDone, KeyIsSet, AllHold, HasHandle, KeysHeld, KeysAreRight}, Merkle.{one_key, one_item_key, tree_readable}, Trees.{same_some, each-type}}
@@ -117,9 +117,6 @@ module _ {N B W E : Type 0} (m : Seen N B W) (s s' : MachineState N E) (trees tr
             has-key-of m.values s'.pager trees' i.node.0 whole.pager.whole.handles stands.pager (held.slots t i p.0 p.1.0 p.1.1 kind) live;
       }
 
-  lives : {n k : ℕ} → HasHandle s.pager.core n k → is_some (s.pager.core.cells k) ≡ true
-  lives h = subst (λ k. is_some (s.pager.core.cells k) ≡ true) h.at (cell-of earlier.pager.whole.handles h.row.node.0 (row-held s.pager.core h.h h.row h.live))
-
   pub keys-right : (event : Event N B W) (reply : EventReply N B W) → Happens m (world_of s) event reply (world_of s') → KeysAreRight m.values s trees event reply s' trees'
   keys-right (Event.WorkerStep n) (EventReply.WorkerMoved (Ok reply)) is =
       let w = is.moves in
@@ -127,7 +124,8 @@ module _ {N B W E : Type 0} (m : Seen N B W) (s s' : MachineState N E) (trees tr
         publishes = λ i key height e.
             let does = subst (λ (k : Took W). Does m n.0 (site n reply w) w.walking.todo k w.after) e w.does.does in (
               (grind (arith, nat_tests)),
-              set-by-then m n.0 (site n reply w) w.after w.walking.todo i key height does (held_before.walks n.0 w.walking w.at) (λ k. lives),
+              set-by-then m n.0 (site n reply w) w.after w.walking.todo i key height does (held_before.walks n.0 w.walking w.at)
+                  (λ k. λ h. subst (λ k. is_some (s.pager.core.cells k) ≡ true) h.at (cell-of earlier.pager.whole.handles h.row.node.0 (row-held s.pager.core h.h h.row h.live))),
             );
         key = λ walking key there e. is-after n reply w (λ x. IsKeyOfTask m.values trees' x.task key)
             (is-key m.values s' trees' after w.walking.table w.walking.task key (done n reply w key e)) walking there;

@@ -81,10 +81,6 @@ answered : (g : ArcRef) (o : Option ArcRef) (kind : ℕ) → o ≡ Some g → g.
 unfolding look_kind
 answered g o kind is same = grind (arith, self-number)
 
-unanswered : (o : Option ArcRef) (kind : ℕ) → o ≡ None → look_kind kind (answer_of o) ≡ Err (Error.Storage kind)
-unfolding look_kind
-unanswered o kind is = rw is refl
-
 -- the references are these, and the first of them were got
 -- what is looked up of references, the first of which were got: all, or the first of those that are left is refused
 abbrev found-of : List ArcRef → Result (List Answer) Error
@@ -93,9 +89,9 @@ found-of (q ∷ more) = Err (Error.Storage q.kind.0)
 
 looked : (front back done left : List ArcRef) (keys : List ℕ) → kinds_of back ≡ kinds_of done → length keys ≡ length (done ++ left)
     → Looked look_kind own_kind (answers_from (front ++ back) (length front) keys) (map kind_of_arc (done ++ left)) (found-of left)
-unfolding answers_from
+unfolding answers_from look_kind
 looked front [] [] [] [] same few = all-looked []
-looked front [] [] (q ∷ more) (key ∷ keys) same few = not-looked _ _ _ _ _ (unanswered _ q.kind.0 (slice_get_past (front ++ []) (length front) (omega (arith, length-append front []))))
+looked front [] [] (q ∷ more) (key ∷ keys) same few = not-looked _ _ _ _ _ (rw (slice_get_past (front ++ []) (length front) (omega (arith, length-append front []))) refl)
 looked front (g ∷ back) (d ∷ done) left (key ∷ keys) same few =
     let one : g.kind.0 ≡ d.kind.0 = cc in
     let others : kinds_of back ≡ kinds_of done = cc in

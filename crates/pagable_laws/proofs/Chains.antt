@@ -1,10 +1,10 @@
 -- Each event keeps trees: what it brings fits some trees afterwards, for which the machine stands then, with all that its loads read.
 use Rattle.pagable_laws.proofs.Words.{◌≡◌, ℕ, List, [], sym, subst, Event, EventReply, Tree, Among, Reading, Values, Seen, IsLawful, MachineState, world_of, IsMachineWhole, StandsFor}
 use Rattle.pagable_laws.proofs.Words.{EventBrings, IsReadingOf, HoldsSettled, ReadsItsTypes, TakesWell, AsksWell, IsWellAsked, Change, CoreGoes, IsSteppedReading, EventFeels, by-call, by-reading}
-use Rattle.pagable_laws.proofs.Words.{by-key, arith, nat_tests, by-nothing, KeysAreReady, IsFresh, ChangeFits, ◌+◌, ◌≤◌, Option, Some, refl, ◌∙◌, ◌∷◌, HandleNumber, IsIdle, IsPremised, Moment}
+use Rattle.pagable_laws.proofs.Words.{by-key, arith, nat_tests, by-nothing, KeysAreReady, ChangeFits, ◌+◌, ◌≤◌, Option, Some, refl, ◌∙◌, ◌∷◌, HandleNumber, IsIdle, IsPremised, Moment}
 use Rattle.pagable_laws.proofs.Words.{AreMoments, TreesAfter, TreesAlong, GivesTree, PinGives, IsRight, HasPin, PinHolds, WorkFits, KeysHeld, ◌==◌, ◌&&◌, Bool, true, false, ap, Ok, is_some}
 use Rattle.pagable_laws.proofs.Words.{sum_by-append, sum_by-cons, Identity, WorkerNumber, one, times, Took, WorkerReply, Shelf, Slot, Walking, World, Happens, WorkerSteps, step_of, steps_of}
-use Rattle.pagable_laws.proofs.Words.{is_claim_of, is_on_table, claims_made, ◌++◌, append_assoc, is_none, WorkerAnswer, HandleRow, Owner, owner_worker, is_owner, state_after, events_of, replies_of}
+use Rattle.pagable_laws.proofs.Words.{is_claim_of, is_on_table, claims_made, ◌++◌, append_assoc, is_none, WorkerAnswer, HandleRow, owner_worker, is_owner, state_after, events_of, replies_of}
 use Rattle.pagable_laws.proofs.{Words.{InOrder, TableMeets, HasLetGo, StepsAreWithin, WorkerIsRight, WorkIsRight, HeadlineLaw}, Felt.{reading-fits, none-comes, fits-nothing, fits-key, call-fits}}
 use Rattle.pagable_laws.proofs.{Felt.trees-go-on, Fitting.tree-stays, ReadingSteps.{is-reading-of, event-goes, readings-on}, Trees.same_some, Answering.keys-right, Coming.{waits-well, StandsIn}}
 use Rattle.pagable_laws.proofs.{Coming.{event-turns, turns-stand, idle-stands, updated-at, EventTurns, Went, HasGone, goes-on}, Naming.{held-at-first, held-on, keys-ready}, Outlasting.pins-hold}
@@ -221,9 +221,6 @@ module _ {N E B W : Type 0} (m : Seen N B W) where
           let l = keeps v k.now k.there in
           record { now = l.now; there = l.there; table = l.table ∙ k.table; task = l.task ∙ k.task }
 
-owner-is : (n : ℕ) (o : Owner) → is_owner (owner_worker n) o ≡ true → o ≡ owner_worker n
-owner-is n x1 is = grind (arith, nat_tests)
-
 module _ {N E B W : Type 0} (m : Seen N B W) (s : MachineState N E) (work : StandsIn (world_of s)) (whole : IsMachineWhole m.values s) where
   is-met : (t : ℕ) (i : Identity) → is_some ((s.work.shelves t).slots i) ≡ true → TableMeets (world_of s) t i
   is-met t i is =
@@ -234,7 +231,7 @@ module _ {N E B W : Type 0} (m : Seen N B W) (s : MachineState N E) (work : Stan
   has-let-go : (n : ℕ) (walking : Walking) (answer : WorkerAnswer) → s.work.walkings n ≡ Some walking → walking.answer ≡ Some answer → HasLetGo (world_of s) n (s.work.shelves walking.table)
   unfolding is_open_in
   has-let-go n walking answer there is =
-      grind (arith, nat_tests, own, stands, sum-zero, false_from_ne_true, true-false, owner-is, rests)
+      grind (arith, nat_tests, own, stands, sum-zero, false_from_ne_true, true-false, rests)
     where
       stands : WalkingStands (s.work.shelves walking.table) n walking
       stands = work.workers n walking there
@@ -243,7 +240,7 @@ module _ {N E B W : Type 0} (m : Seen N B W) (s : MachineState N E) (work : Stan
       rests = (whole.walkings n walking there).at_work ∙ ap is_none is
 
       own : (h : HandleRow) → Among s.pager.core.rows h → (b : Bool) → is_owner (owner_worker n) h.owner ≡ b → one (is_owner (owner_worker n) h.owner) ≡ 0
-      own h among true e = true-false (whole.pager.whole.owners_there.workers h n among (owner-is n h.owner e)) rests
+      own h among true e = true-false (whole.pager.whole.owners_there.workers h n among (grind (arith, nat_tests))) rests
       own h among false e = ap one e
 
 -- all that steps have come to, and that each step of a load was within its bound

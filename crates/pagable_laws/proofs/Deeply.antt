@@ -54,9 +54,6 @@ part-of {g = g} {n} {written} w r among =
 
 -- ---- heights
 
-grows-by : (e : Bool) (a b c : ℕ) → a ≤ b → (if e then b + 1 else 0) ≤ c → (if e then a + 1 else 0) ≤ c
-grows-by x0 a b c le few = grind (arith, nat_tests)
-
 -- a height and a depth go up with the place
 climbs : (e : Bool) (place h d top deep : ℕ) → (if e then h + 1 else 0) ≤ top → d ≤ deep → h ≤ d → longest_path < max ((if e then place + 1 else 0) + h) d → longest_path < max (place + top) deep
 climbs x0 place h d top deep le few within long = grind (arith, nat_tests)
@@ -65,9 +62,6 @@ climbs x0 place h d top deep le few within long = grind (arith, nat_tests)
 record IsShallow (limit : ℕ) (m : Meaning ⊥) : Type 0 where
   top : height m ≤ limit
   deepest : deepest_path m ≤ longest_path
-
-above-grows : (kind a b : ℕ) → a ≤ b → above kind a ≤ above kind b
-above-grows kind a b le = grind (arith, nat_tests)
 
 module _ {N E : Type 0} (v : Values N) (s : MachineState N E) (trees : ℕ → Tree) (fit : WorkFits v s trees) (t : ℕ) where
   abbrev shelf : Shelf
@@ -96,12 +90,8 @@ module _ {N E : Type 0} (v : Values N) (s : MachineState N E) (trees : ℕ → T
       let part = part-of w a.r a.among in
       let k = known (identity_of a.r) a.key a.below a.known in
       let below = attained-height n (identity_of a.r) a.below (omega arith) k.written k.wrote k.stands.attained in
-      let u = grows-by (is_eager a.r.kind.0) a.below (height (trees a.r.node.0).meaning) (height (trees i.node.0).meaning) below part.top in
+      let u : (if (is_eager a.r.kind.0) then a.below + 1 else 0) ≤ (height (trees i.node.0).meaning) = grind (arith, nat_tests) in
       omega arith
-
-  -- so is one that is known
-  at-most-height : (i : Identity) (key h : ℕ) → IsPublished shelf i key h → h ≤ height (trees i.node.0).meaning
-  at-most-height i key h p = let k = known i key h p in attained-height (size (trees i.node.0).meaning) i h (omega arith) k.written k.wrote k.stands.attained
 
   -- a path that is too long from the reference's place is one of the task's
   leads-down : (n : ℕ) (task : Task) (r : ArcRef) (below : List Todo) → Expects task r below → Waits shelf task below → AllStand shelf n task below
@@ -148,7 +138,8 @@ module _ {N E : Type 0} (v : Values N) (s : MachineState N E) (trees : ℕ → T
     where
       by : IsTooDeep shelf n (identity_of r) place → IsTooDeepTask trees task ⊎ WaitsForAsker shelf n (identity_of r)
       by (inl long) = inl (grind (arith, nat_tests, leads-down))
-      by (inr (inl (key, h, p, long))) = inl (grind (arith, nat_tests, leads-down, at-most-height (identity_of r) key h p))
+      by (inr (inl (key, h, p, long))) = inl (grind (arith, nat_tests, leads-down,
+          (let k = known (identity_of r) key h p in attained-height (size (trees (identity_of r).node.0).meaning) (identity_of r) h (omega arith) k.written k.wrote k.stands.attained)))
       by (inr (inr (slot, still, back))) = inr (record {
         slot = slot;
         still = still;
@@ -170,7 +161,7 @@ module _ {N E : Type 0} (v : Values N) (s : MachineState N E) (trees : ℕ → T
       let kinds : kind ≡ r.kind.0 = cc in
       let meanings : a ≡ c = cc in
       let p = shallow l.below k.written.references k.stands.within k.stands.low k.wrote.follows c (is ∙ meanings) in
-      let one : above kind (height c) ≤ limit = subst (λ k. above k (height c) ≤ limit) (sym kinds) (le_trans (above-grows r.kind.0 (height c) l.below p.top) l.within) in
+      let one : above kind (height c) ≤ limit = subst (λ k. above k (height c) ≤ limit) (sym kinds) (le_trans (grind (arith, nat_tests)) l.within) in
       record { top = one; deepest = let u = p.deepest in omega arith }
   shallow limit rs le lows (followed-leads kind x a none h) m e = absurd none
   shallow limit rs le lows follows x5 e = grind (arith, nat_tests)
@@ -183,7 +174,7 @@ module _ {N E : Type 0} (v : Values N) (s : MachineState N E) (trees : ℕ → T
   not-long : (r : ArcRef) → IsLow shelf longest_path r → IsLongBelow r.kind.0 (trees r.node.0).meaning → ⊥
   not-long r l long =
       let p = shallow-tree (identity_of r) l.key l.below l.known in
-      let u = above-grows r.kind.0 (height (trees r.node.0).meaning) l.below p.top in
+      let u : above r.kind.0 (height (trees r.node.0).meaning) ≤ above r.kind.0 l.below = grind (arith, nat_tests) in
       let d = p.deepest in
       absurd (omega arith)
 

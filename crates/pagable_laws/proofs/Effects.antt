@@ -30,9 +30,6 @@ module _ (kind key n : ℕ) where
   abbrev of_node : Core → Option Cell → Option ℕ
   of_node w c = if_there (λ (x : Cell). if is_pinned_kind kind && not (is_in_memory (pins n w.rows) x.key) then None else Some n) None c
 
-  at-node : (w : Core) → w.cache kind key ≡ Some n → usable w kind key ≡ of_node w (w.cells n)
-  at-node w entry = ap (λ o. if_there (λ m. if_there (λ (x : Cell). if is_pinned_kind kind && not (is_in_memory (pins m w.rows) x.key) then None else Some m) None (w.cells m)) None o) entry
-
   at-row : (row : HandleRow) → row.node.0 ≡ n → (row.node.0 == n) ≡ true
   at-row row at = ap (λ (x : ℕ). x == n) at ∙ self-number n
 
@@ -46,7 +43,7 @@ module _ (kind key n : ℕ) where
       above-none 0 (pins n rows) (is_pin n h.row) (rw (e, p) refl) (at-most-sum (λ x. one (is_pin n x)) rows h.row h.live)
 
   pub can-use : (w : Core) → IsEntered w.cache w.cells → IsHeldFor w.rows → usable w kind key ≡ Some n
-  can-use w e h = grind (arith, nat_tests, at-node, pins, pinned)
+  can-use w e h = grind (arith, nat_tests, pins, pinned, if_there, is_pinned_kind, is_in_memory)
 
   pub entered-of : (w : Core) → usable w kind key ≡ Some n → IsEntered w.cache w.cells
   entered-of w is = grind (arith, nat_tests)
@@ -124,15 +121,11 @@ both-none x0 x1 is = grind (arith, nat_tests)
 
 -- where nothing is said against handles that are named, each is live and the owner's
 module _ (w : Core) (owner : Owner) where
-  named-one : (seen : List ℕ) (h : HandleNumber)
-      → if_there (λ (row : HandleRow). refused_if (not (is_owner owner row.owner) || is_in seen h.0) Error.NotYours) (Some Error.NoSuchHandle) (row_at w h) ≡ None → Has w owner h
-  named-one seen h none = grind (arith, nat_tests)
-
   pub named : (seen : List ℕ) (hs : List HandleNumber) → named_fault w owner seen hs ≡ None → (h : HandleNumber) → is_in (numbers_of hs) h.0 ≡ true → Has w owner h
   unfolding named_fault is_in
   named seen [] none h is = absurd (cc)
   named seen (x ∷ hs) none h is = elim (cases_Bool (x.0 == h.0)) [
-    | inl e ↦ subst (λ z. Has w owner z) (ap (λ n. let k : HandleNumber = record { 0 = n } in k) (same-number _ _ e)) (named-one seen x (both-none _ _ none).0)
+    | inl e ↦ subst (λ z. Has w owner z) (ap (λ n. let k : HandleNumber = record { 0 = n } in k) (same-number _ _ e)) (grind (arith, nat_tests))
     | inr e ↦ named (x.0 ∷ seen) hs (both-none _ _ none).1 h (rw e at is)
   ]
 
@@ -227,11 +220,8 @@ pub record IsOther (me : Owner) (lists : Bool) (w : Core) (mine : Owner) : Type 
 abbrev pub IsMine : Core → Owner → LoadNumber → Type 0
 IsMine w me l = (load : OpenLoad) → w.loads l.0 ≡ Some load → is_owner me load.owner ≡ true
 
-own-self : (o : Owner) → is_owner o o ≡ true
-own-self x0 = grind (arith, nat_tests, self-number)
-
 pub owned-mine : {w : Core} {me : Owner} {l : LoadNumber} {load : OpenLoad} → OwnsLoad w me l load → IsMine w me l
-owned-mine {me = me} o load is = ap (is_owner me) (ap (λ (x : OpenLoad). x.owner) (same_some _ _ (sym is ∙ o.stands_open)) ∙ o.own) ∙ own-self me
+owned-mine {me = me} o load is = ap (is_owner me) (ap (λ (x : OpenLoad). x.owner) (same_some _ _ (sym is ∙ o.stands_open)) ∙ o.own) ∙ (grind (arith, nat_tests, self-number))
 
 -- What a step of the asker's does: up to what falls then, or to its end. It is felt as this change; each handle stays that isn't the asker's; where the cache is left to
 -- itself it goes on to give what it gave, as long as the node is held; the same work, and loads that aren't the asker's stay, where what it asks is so.

@@ -56,14 +56,11 @@ module _ (rows : List HandleRow) (keyed : ℕ → Bool) (entries : List HandleRo
       let c = at-most-sum (follows (lost s) h.number.0) rows h among in
       grind (arith, nat_tests)
 
-  shrinks : (s : ℕ → Bool) (h : HandleRow) → outside (more s) h ≤ outside s h
-  shrinks s h = grind (arith, nat_tests)
-
   -- where no more follows, the set is closed
   closed-if : (s : ℕ → Bool) → sum_by (outside (more s)) rows ≡ sum_by (outside s) rows → IsClosed rows keyed entries s
   closed-if s same n goes =
       let each : (h : HandleRow) → Among rows h → owned_out s n h + outside (more s) h ≤ outside s h =
-      λ h among. grind (arith, nat_tests, comes, shrinks) in
+      λ h among. grind (arith, nat_tests, comes) in
       let a = sum-le (λ h. owned_out s n h + outside (more s) h) (outside s) rows each in
       let b = sum-plus (owned_out s n) (outside (more s)) rows in
       omega arith
@@ -115,7 +112,7 @@ module _ (rows : List HandleRow) (keyed : ℕ → Bool) (entries : List HandleRo
               sym (ap t number) ∙ it
 
   less : (s : ℕ → Bool) → sum_by (outside (more s)) rows ≤ sum_by (outside s) rows
-  less s = sum-le (outside (more s)) (outside s) rows (λ h among. shrinks s h)
+  less s = sum-le (outside (more s)) (outside s) rows (λ h among. grind (arith, nat_tests))
 
   -- a set that is in each closed one is the least once it is closed itself; until then it grows
   grows : (given : ℕ → Bool) (k : ℕ) (s : ℕ → Bool) → sum_by (outside s) rows ≤ k → IsWithin rows given s
@@ -137,15 +134,10 @@ module _ (rows : List HandleRow) (keyed : ℕ → Bool) (entries : List HandleRo
   pub least_is_one : (given s t : ℕ → Bool) (h : HandleRow) → IsLeast rows keyed entries given s → IsLeast rows keyed entries given t → Among rows h → s h.number.0 ≡ t h.number.0
   least_is_one given s t h a b among = grind (arith, nat_tests, inside s t h (a.least t b.holds b.closed) among, inside t s h (b.least s a.holds a.closed) among)
 
--- where no value owns a handle, every set is closed
-closed-alone : (rows : List HandleRow) (keyed : ℕ → Bool) (entries : List HandleRow) (s : ℕ → Bool) → OwnsNothing rows → IsClosed rows keyed entries s
-closed-alone rows keyed entries s nothing n goes =
-    let none : sum_by (λ h. one (is_owner (owner_value n) h.owner)) rows ≡ 0 = nothing n in
-    grind (arith, nat_tests, and_parts, sum-le)
-
 -- so the given handles are the least set, and no more fall
 pub given-least : (rows : List HandleRow) (keyed : ℕ → Bool) (entries : List HandleRow) (given : ℕ → Bool) → OwnsNothing rows → IsLeast rows keyed entries given given
-given-least rows keyed entries given nothing = record { holds = within-self rows keyed entries given; closed = closed-alone rows keyed entries given nothing; least = λ t holds closed. holds }
+given-least rows keyed entries given nothing = record { holds = within-self rows keyed entries given; closed = λ n goes. let none : sum_by
+    (λ h. one (is_owner (owner_value n) h.owner)) rows ≡ 0 = nothing n in grind (arith, nat_tests, and_parts, sum-le); least = λ t holds closed. holds }
 
 pub given_alone : IsGivenAlone
 given_alone rows keyed entries given s h nothing least among = least_is_one rows keyed entries given s given h least (given-least rows keyed entries given nothing) among
@@ -164,11 +156,8 @@ both-least = record { holds = refl; closed = grind (arith, nat_tests, and-false)
         let fallen : owned_outside two_rows t 1 ≡ 0 = closed 1 goes in
         omega arith
 
-outer-not : ¬ IsLeast two_rows are_two [] outer outer
-outer-not least = let fallen = least.closed 1 refl in absurd (omega arith)
-
 pub two_fall : TwoLevelsFall
-two_fall = record { falls = both-least; not_less = outer-not }
+two_fall = record { falls = both-least; not_less = λ least. let fallen = least.closed 1 refl in absurd (omega arith) }
 
 -- ---- a lone cell is listed
 
@@ -190,10 +179,6 @@ fell stored =
       leaves = grind (arith, nat_tests);
     }
 
-lone-unpinned : (stored : ℕ → Option Blob) → UnpinCall (lone stored) Owner.Caller first (Ok tt) (lone_listed stored)
-unfolding find_row
-lone-unpinned stored = record { does = inr (row_of 1 first_node Mode.LoosePinned Owner.Caller, record { live = refl; own = refl; as_asked = refl }, inr (refl, fell stored)) }
-
 not-unlisted : (stored : ℕ → Option Blob) → ¬ UnpinCall (lone stored) Owner.Caller first (Ok tt) (lone_unlisted stored)
 not-unlisted stored call = elim call.does [
   | inl refused ↦ absurd (cc)
@@ -208,4 +193,6 @@ not-unlisted stored call = elim call.does [
         omega arith
 
 pub is_listed : LoneIsListed
-is_listed = record { listed = lone-unpinned; not_unlisted = not-unlisted }
+unfolding find_row
+is_listed = record { listed = λ stored. record { does = inr (row_of 1 first_node Mode.LoosePinned Owner.Caller, record { live = refl; own = refl; as_asked = refl }, inr (refl, fell stored)) };
+    not_unlisted = not-unlisted }

@@ -5,7 +5,7 @@ use Rattle.pagable_laws.proofs.Words.{none, pair, variant, reference, followed, 
 use Rattle.pagable_laws.proofs.Words.{key_at, IsReference, PagerState, WellFormed, NodeStands, here, away, MeaningStands, number-stands, integer-stands, text-stands, pattern-stands, none-stands}
 use Rattle.pagable_laws.proofs.Words.{pair-stands, variant-stands, followed-stands, reference-stands, Represents, HoldsSettled, LeadsTo, number-leads, integer-leads, text-leads, arith, pattern-leads}
 use Rattle.pagable_laws.proofs.Words.{none-leads, pair-leads, variant-leads, followed-leads, reference-leads, ValueLeads, NodeLeads, ◌≤◌, ◌⊎◌, inl, inr, NodeNumber, HandleNumber, OpenLoad, of_cell}
-use Rattle.pagable_laws.proofs.Words.{type_at, Moves, ReadsNodeTree, KeyFits, Change, CoreGoes, SameNode, ChangeFits, ◌+◌, ◌==◌, if◌then◌else◌, Owner, Call, Reply, updated, is_pinned_kind, is_here}
+use Rattle.pagable_laws.proofs.Words.{Moves, ReadsNodeTree, KeyFits, Change, CoreGoes, SameNode, ChangeFits, ◌+◌, ◌==◌, if◌then◌else◌, Owner, Call, Reply, updated, is_pinned_kind, is_here}
 use Rattle.pagable_laws.proofs.Words.{first_key, SameTrees, CallBrings, IsNewNode, AsksWell, nothing_felt, sets_key, knows_node, bears_node, bears_known, StaysAway, AreGood, CallFeels, feels-nothing}
 use Rattle.pagable_laws.proofs.Words.{feels-birth, feels-away, feels-key, feels-known, feels-adopted, feels-lazy, feels-end, List, [], ◌∷◌, LoadAnswer, Reading, Frame, ReadsRoot, ReadingBrings}
 use Rattle.pagable_laws.proofs.{Words.{IsCellOf, FramesFit, ReadingFits, ReadsItsTypes, TakesWell, FramesGiven, ReadingFeels, gets-lazy, makes-node}, Trees.{same_some, tree_is, one_tree}}
@@ -144,9 +144,6 @@ module _ {N E : Type 0} {v : Values N} {c : Change} {comes : ℕ → N → Type 
   leads-again : (n : ℕ) → 0 < held n s'.core.rows → NodeLeads v s' trees' n
   leads-again n live = search (rules, cell-of, either-side, keyed-old, old-node goes, new-node goes well.whole.handles, arith, nat_tests, moved-value)
 
-  typed-again : (n : ℕ) → 0 < held n s'.core.rows → type_at s'.core n ≡ Some (trees' n).type
-  typed-again n live = grind (arith, nat_tests, old-node goes, new-node goes well.whole.handles)
-
   loads-again : (l : ℕ) (load : OpenLoad) (node : NodeNumber) (t : ℕ) (h : HandleNumber) → s'.core.loads l ≡ Some load → load.root ≡ of_cell node t h
       → ReadsNodeTree v.types s'.core.stored trees' load.key t node.0
   loads-again l load node t h is root = elim (goes.loads l load is) [
@@ -165,7 +162,7 @@ module _ {N E : Type 0} {v : Values N} {c : Change} {comes : ℕ → N → Type 
   pub trees-go-on : Represents v s' trees'
   trees-go-on = record {
     stands = λ n live. node-by lawful well' leads-again n live (λ z l k. stand lawful well' leads-again (trees' n).meaning l refl k);
-    typed = typed-again;
+    typed = λ n live. grind (arith, nat_tests, old-node goes, new-node goes well.whole.handles);
     loads = loads-again;
     cache = cache-again;
   }
@@ -213,18 +210,15 @@ module _ {N E : Type 0} {v : Values N} {s s' : PagerState N E} {trees : ℕ → 
     abbrev more : ℕ → Tree
     more = updated (last + 1) t0 trees
 
-    more-at : more (last + 1) ≡ t0
-    more-at = updated-at (last + 1) t0 trees
-
     -- a node is born of this type and key, of a tree as which the key reads if it has one
     pub fits-born : (comes : ℕ → N → Type 0) (t : ℕ) (own : OptionalDataKey) → t0.type ≡ t → ((key : ℕ) → own ≡ OptionalDataKey.Some key → ReadsTree s'.core.stored v.types key t0)
         → ((n : ℕ) (x : N) → comes n x → s.values n ≡ None → s'.values n ≡ Some x → ValueLeads v more x (more n)) → ChangeFits v (bears_node t own) comes s s' trees more
-    fits-born comes t own typed reads fit = grind (arith, nat_tests, with-below, more-at)
+    fits-born comes t own typed reads fit = grind (arith, nat_tests, with-below, updated-at)
 
     pub fits-born-known : (comes : ℕ → N → Type 0) (k q : ℕ) (own : OptionalDataKey) → t0.type ≡ type_of k → ((key : ℕ) → own ≡ OptionalDataKey.Some key → key ≡ q)
         → ReadsTree s'.core.stored v.types q t0
         → ((n : ℕ) (x : N) → comes n x → s.values n ≡ None → s'.values n ≡ Some x → ValueLeads v more x (more n)) → ChangeFits v (bears_known k q own) comes s s' trees more
-    fits-born-known comes k q own typed same_key reads fit = grind (arith, nat_tests, with-below, more-at)
+    fits-born-known comes k q own typed same_key reads fit = grind (arith, nat_tests, with-below, updated-at)
 
     -- the value of the node that is born leads to that tree
     pub value-born : (c : Change) (n : ℕ) (x y : N) → CoreGoes c s.core s'.core → s'.values n ≡ Some x → x ≡ y → IsNewNode s.core n
@@ -232,7 +226,7 @@ module _ {N E : Type 0} {v : Values N} {s s' : PagerState N E} {trees : ℕ → 
     value-born c n x y goes is same new few l =
         let next : n ≡ last + 1 = (new-node goes well.whole.handles n new (live-after n x is)).next in
         let led_to : ValueLeads v more y t0 = value-on lawful last (with-below last t0 trees) few l in
-        subst (λ z. ValueLeads v more z (more n)) (sym same) (subst (λ z. ValueLeads v more y z) (sym (ap more next ∙ more-at)) led_to)
+        subst (λ z. ValueLeads v more z (more n)) (sym same) (subst (λ z. ValueLeads v more y z) (sym (ap more next ∙ (updated-at (last + 1) t0 trees))) led_to)
 
   -- ---- calls
 

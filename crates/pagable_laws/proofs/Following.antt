@@ -64,9 +64,6 @@ module _ {w : Core} (whole : HandlesAreWhole w) (n : ℕ) where
   pub given-of : {t : ℕ} → type_at w n ≡ Some t → (0 < held n w.rows) × (n ≤ w.last.node)
   given-of {t} is = let there : is_some (w.cells n) ≡ true = grind arith in (held-of there, (whole.nodes_numbered n there).1)
 
-first-true : (a b : Bool) → (a && b) ≡ true → a ≡ true
-first-true x0 b is = grind (arith, nat_tests)
-
 -- ---- what was written
 
 -- no two rows have one number
@@ -162,7 +159,7 @@ module _ {N E : Type 0} {v : Values N} {s : PagerState N E} {trees : ℕ → Tre
 
   -- what a worker writes of a node
   pub wrote : (n : ℕ) (written : Written) → IsWrittenOf v s n written → WroteTree v.types (record { stored = s.core.stored; last = s.core.last.node; trees = trees }) n written
-  wrote n written w = grind (arith, held-of, first-true, wrote-of)
+  wrote n written w = grind (arith, held-of, wrote-of)
 
 -- ---- its tree's form and key
 
@@ -193,12 +190,10 @@ pub record IdentityStands {N : Type 0} (v : Values N) (g : Ground) (i : Identity
   pub right : KeyStands v g.stored (g.trees i.node.0) key
 
 module _ {N : Type 0} {v : Values N} {g : Ground} {shelf : Shelf} (right : (i : Identity) (k h : ℕ) → IsPublished shelf i k h → IdentityStands v g i k) where
-  kid-key : (r : ArcRef) (k h : ℕ) → IsPublished shelf (identity_of r) k h → KeyOf v.hash v.types (tree (type_of r.kind.0) (g.trees r.node.0).meaning) k
-  kid-key r k h p = let is = right (identity_of r) k h p in subst (λ (t : ℕ). KeyOf v.hash v.types (tree t (g.trees r.node.0).meaning) k) is.typed is.right.is_key
-
   -- the keys that are known of references are those of what they lead to
   pub keys-of : (rs : List ArcRef) (keys : List ℕ) → AreKeysOf shelf rs keys → KeysOf v.hash v.types (kids_of g.trees rs) keys
-  keys-of (r ∷ rs) (k ∷ ks) ((h, p), known) = more-keys _ _ k ks (kid-key r k h p) (keys-of rs ks known)
+  keys-of (r ∷ rs) (k ∷ ks) ((h, p), known) = more-keys _ _ k ks (let is = right (identity_of r) k h p in subst
+      (λ (t : ℕ). KeyOf v.hash v.types (tree t (g.trees r.node.0).meaning) k) is.typed is.right.is_key) (keys-of rs ks known)
   keys-of x0 x1 known = grind (arith, nat_tests, no-keys)
 
   follows-keys : (rs : List ArcRef) (keys : List ℕ) → AreKeysOf shelf rs keys → {x : Meaning ArcRef} {a : Meaning ⊥} → FollowsTo g.trees rs x a

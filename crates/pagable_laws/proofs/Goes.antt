@@ -1,6 +1,6 @@
 -- What a step does to the plain world as far as trees feel it, with no premise: the parts of which the summary of each call is made.
 use Rattle.pagable_laws.proofs.Words.{◌≡◌, ℕ, ◌+◌, ◌<◌, ◌≤◌, ◌==◌, ◌&&◌, Bool, true, false, List, [], ◌∷◌, ◌++◌, refl, ap, sym, subst, ◌∙◌, inl, inr, arith, Option, Some, None, ◌⊎◌, if◌then◌else◌}
-use Rattle.pagable_laws.proofs.Words.{nat_tests, Blob, ArcRef, Kind, type_of, HandleNumber, LoadNumber, NodeNumber, OptionalDataKey, changed, updated, if_there, HandleRow, Owner, Mode, find_row}
+use Rattle.pagable_laws.proofs.Words.{nat_tests, Blob, ArcRef, Kind, type_of, HandleNumber, LoadNumber, NodeNumber, OptionalDataKey, changed, updated, HandleRow, Owner, Mode, find_row}
 use Rattle.pagable_laws.proofs.Words.{is_handle, mode_of, is_loose, Core, Cell, OpenLoad, Root, Alike, type_at, key_at, AreNewEntries, Falls, FallsAnyhow, fallen, left_rows, row_of, with_handle}
 use Rattle.pagable_laws.proofs.{Words.{with_node, with_key, with_cached, next_node, moved, with_load, adopted, Change, nothing_felt, sets_key, bears_known, Knows, Bears, BeginsWell}, Sums.same-number}
 use Rattle.std.proofs.Common.{le_trans, rules}
@@ -76,9 +76,6 @@ rows-moved last rows s owner free q row found few =
     let c = found-changed (λ (r : HandleRow). s r.number.0) (λ row. record row { owner = owner }) (λ r. refl) q rows row found in
     record { was = c.was; live = c.live; at = grind (arith, nat_tests); mine = λ l mine. grind (arith, nat_tests, free); loose = λ was. grind (arith, nat_tests) }
 
-other-number : (q n last : ℕ) → q ≤ last → n ≡ last + 1 → (n == q) ≡ false
-other-number q n last few next = grind (arith, nat_tests)
-
 -- handles that come at the end have greater numbers
 pub rows-more : (last : ℕ) (rows more : List HandleRow) → ((q : ℕ) → q ≤ last → find_row q more ≡ None) → RowsGo last rows (rows ++ more)
 unfolding find_row
@@ -92,20 +89,17 @@ rows-more last (h ∷ hs) more new q row found few = at (λ f. rows-more last hs
 pub none-in-new : (last q : ℕ) (entries : List HandleRow) → AreNewEntries last entries → q ≤ last → find_row q entries ≡ None
 unfolding find_row
 none-in-new last q [] new few = refl
-none-in-new last q (h ∷ hs) (number, mode, owner, new) few = let a : is_handle q h ≡ false = other-number q h.number.0 last few number in rw a (none-in-new (last + 1) q hs new (omega arith))
+none-in-new last q (h ∷ hs) (number, mode, owner, new) few = let a : is_handle q h ≡ false = grind (arith, nat_tests) in rw a (none-in-new (last + 1) q hs new (omega arith))
 
 pub none-in-next : (last q : ℕ) (h : HandleRow) → h.number.0 ≡ last + 1 → q ≤ last → find_row q (h ∷ []) ≡ None
 unfolding find_row
-none-in-next last q h next few = let a : is_handle q h ≡ false = other-number q h.number.0 last few next in rw a refl
+none-in-next last q h next few = let a : is_handle q h ≡ false = grind (arith, nat_tests) in rw a refl
 
 -- what is left was there
 pub found-left : (gone : ℕ → Bool) (q : ℕ) (rows : List HandleRow) (row : HandleRow) → find_row q (left_rows gone rows) ≡ Some row → (find_row q rows ≡ Some row) × (gone q ≡ false)
 unfolding find_row
 found-left gone q [] row found = absurd (cc)
 found-left gone q (h ∷ hs) row found = grind (arith, nat_tests, is_handle, find_row, left_rows, false, true, same-number, found-left gone q hs row)
-
-pub rows-left : (last : ℕ) (rows : List HandleRow) (gone : ℕ → Bool) → RowsGo last rows (left_rows gone rows)
-rows-left last rows gone q row found few = record { was = row; live = (found-left gone q rows row found).0; at = refl; mine = λ l is. refl; loose = λ is. is }
 
 -- ---- quiet steps
 
@@ -138,7 +132,8 @@ fell {before} {w} {w'} f = quiet-then {m = fallen w f.gone f.entries} falls (ali
   where
     falls : Quiet w (fallen w f.gone f.entries)
     falls = parts (le-more _ _) (le-self _) (λ n cell is. grind (arith, nat_tests)) (λ l load is. is) (λ kind key n is. is)
-        (rows-then w.last.handle w.last.handle w.rows (left_rows f.gone w.rows) _ (le-of _ _ refl) (rows-left w.last.handle w.rows f.gone)
+        (rows-then w.last.handle w.last.handle w.rows (left_rows f.gone w.rows) _ (le-of _ _ refl)
+            (λ q row found few. record { was = row; live = (found-left f.gone q w.rows row found).0; at = refl; mine = λ l is. refl; loose = λ is. is })
         (rows-more w.last.handle (left_rows f.gone w.rows) f.entries (λ q few. none-in-new w.last.handle q f.entries f.new few)))
 
 pub fell-anyhow : {before w w' : Core} {given : ℕ → Bool} → FallsAnyhow before w given w' → Quiet w w'
@@ -162,12 +157,8 @@ at-updated m x f n y is = grind (arith, same-number)
 pub born : (c : Change) (w : Core) (t : ℕ) (key : OptionalDataKey) (references : List ArcRef) → Bears c t key → Goes c w (with_node w t key references)
 born c w t key references bears = grind (arith, le-more, le-self, at-updated, rows-moved)
 
-keyed-cell : (w : Core) (m : ℕ) (key : ℕ) (cell : Cell) (found : Option Cell) → w.cells m ≡ found
-    → if_there (λ (x : Cell). Some (record x { key = OptionalDataKey.Some key })) None found ≡ Some cell → Kept (sets_key m key) w m cell
-keyed-cell w m key cell x4 there is = grind (arith, nat_tests)
-
 pub keyed : (w : Core) (node : NodeNumber) (key : ℕ) → Goes (sets_key node.0 key) w (with_key w node key)
-keyed w node key = grind (arith, le-self, at-updated, keyed-cell, rows-self)
+keyed w node key = grind (arith, le-self, at-updated, rows-self)
 
 pub begun : (c : Change) (w : Core) (key : ℕ) (root : Root) (me : Owner) → BeginsWell w (record { owner = me; key = key; root = root }) → Goes c w (with_load w key root me)
 begun c w key root me well =
@@ -218,11 +209,8 @@ goes-then {w} {m} {w'} a b =
     both n t key None there typed own = let e : type_at m n ≡ None = rw there refl in absurd (cc)
     both n t key (Some cell) there typed own = let k = was n cell there in let e = same-key k in grind (arith, nat_tests)
 
-at-cached : (k q m kind key n : ℕ) (old : Option ℕ) (b d : Bool) → (kind == k) ≡ b → (key == q) ≡ d → (if b && d then Some m else old) ≡ Some n → ((kind ≡ k) × (key ≡ q) × (n ≡ m)) ⊎ (old ≡ Some n)
-at-cached k q m kind key n old x7 x8 e f is = grind (arith, nat_tests, same-number)
-
 pub goes-known : {c : Change} {w m : Core} → Goes c w m → (kind : Kind) (key : ℕ) (n : NodeNumber) → Knows c w kind.0 key n.0 → Goes c w (with_cached m kind key n)
-goes-known {c} {w} {m} a kind key n knows = grind (arith, at-cached)
+goes-known {c} {w} {m} a kind key n knows = grind (arith, same-number)
 
 pub goes-known-if : {c : Change} {w m : Core} → Goes c w m → (kind : Kind) (key : ℕ) (n : NodeNumber) → Knows c w kind.0 key n.0 → (b : Bool) → Goes c w (if b then m else with_cached m kind key n)
 goes-known-if a kind key n knows x5 = grind (arith, nat_tests, goes-known)

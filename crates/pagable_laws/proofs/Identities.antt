@@ -1,6 +1,6 @@
 -- Two kinds or keys never get one identity through one cache, and one kind and key gets the same for as long as its node is held.
-use Rattle.pagable_laws.proofs.Words.{◌≡◌, ℕ, zero, suc, ◌+◌, ◌≤◌, true, false, List, [], ◌∷◌, Some, None, inl, inr, refl, sym, ap, subst, ◌∙◌, arith, nat_tests, OptionalDataKey, Owner, Mode, Kind}
-use Rattle.pagable_laws.proofs.Words.{ArcRef, LoadNumber, type_of, Among, is_pinned_kind, mode_of, fits_mode, is_pinning, Core, Last, Alike, Seen, usable, with_handle, with_node, next_node, GetsKnown}
+use Rattle.pagable_laws.proofs.Words.{◌≡◌, ℕ, zero, suc, ◌+◌, ◌≤◌, false, List, [], ◌∷◌, Some, None, inl, inr, refl, sym, ap, subst, ◌∙◌, arith, nat_tests, OptionalDataKey, Owner, Kind}
+use Rattle.pagable_laws.proofs.Words.{ArcRef, LoadNumber, type_of, Among, mode_of, Core, Last, Alike, Seen, usable, with_handle, with_node, next_node, GetsKnown}
 use Rattle.pagable_laws.proofs.Words.{adopted, first_key, MachineState, world_of, IsWhole, IsMachineWhole, Moment, AreMoments, state_after, GetsReference, IsFilledByReading, LeavesCache, StaysAlive}
 use Rattle.pagable_laws.proofs.{Words.{OneIdentityLaw, Change, nothing_felt, GetsRow}, Goes.{Goes, KnowsNext, quiet-then, quiet-goes, goes-quiet, alike, a-handle, fell-anyhow, adopts}}
 use Rattle.pagable_laws.proofs.{Called.gets-known, Outlasting.among-found, ReadingSteps.{cached-rows, got-known, got-fallen, got-born, is-cached, event-goes}, Sums.self-number, Effects.IsEntered}
@@ -18,12 +18,8 @@ data Got (w : Core) (kind : Kind) (key n : ℕ) (w' : Core) : Type 0 where
   got-new : usable w kind.0 key ≡ None → n ≡ w.last.node + 1 → (l : LoadNumber) (own : OptionalDataKey) (references : List ArcRef) → Alike (adopted w l kind key own references) w'
       → Got w kind key n w'
 
--- a mode that fits a kind of pins is that of a pin
-pinning-by : (kind : ℕ) (mode : Mode) → fits_mode kind mode ≡ true → is_pinned_kind kind ≡ true → is_pinning mode ≡ true
-pinning-by kind x1 fits is = grind (arith, nat_tests)
-
 held-by : {w w' : Core} {n : ℕ} {row : _} (kind : Kind) (key : ℕ) → GetsRow w w' kind n row → IsHeldFor kind.0 key n w'.rows
-held-by {w' = w'} {row = row} kind key g = record { row = row; live = among-found row.number.0 w'.rows row g.live; at = g.at; pins_it = pinning-by kind.0 row.mode g.fits }
+held-by {w' = w'} {row = row} kind key g = record { row = row; live = among-found row.number.0 w'.rows row g.live; at = g.at; pins_it = λ is. grind (arith, nat_tests) }
 
 -- what is got, with its row
 record Gotten (w : Core) (kind : Kind) (key n : ℕ) (w' : Core) : Type 0 where
@@ -108,7 +104,7 @@ module _ {N B W E : Type 0} (m : Seen N B W) (kind : Kind) (key n : ℕ) where
   unfolding state_after
   used-along s [] chain leaves alive e h = can-use kind.0 key n s.pager.core e h
   used-along s (x ∷ xs) (does, more) leaves (a, alive) e h =
-      let h' : IsHeldFor kind.0 key n x.after.pager.core.rows = record { row = a.row; live = a.live; at = a.at; pins_it = pinning-by kind.0 a.row.mode a.fits } in
+      let h' : IsHeldFor kind.0 key n x.after.pager.core.rows = record { row = a.row; live = a.live; at = a.at; pins_it = λ is. grind (arith, nat_tests) } in
       let l = event-lasts kind.0 key n m (world_of s) (world_of x.after) x.event x.reply (leaves x (zero, refl)) does.step.happens in
       used-along x.after xs more (λ y (i, is). leaves y (suc i, is)) alive (l.lasts e h h') h'
 

@@ -10,7 +10,7 @@ use Rattle.pagable_laws.proofs.Words.{is_in, identity_of, Shelf, Written, Todo, 
 use Rattle.pagable_laws.proofs.Words.{with_key, CloneCall, StoreCall, WalkDoes, claim_fault, is_workers_at, nothing-form, reference-form, without_worker, is_workers, AreMoments, Walking, Ends}
 use Rattle.pagable_laws.proofs.Words.{is_counted, steps_after, TookWrites, SameShelf, no_shelf, IsMachineWhole, IsReadingWhole, owner_worker, ◌⊎◌, LoadAnswer, Frame, BeginCall, ReadingDoes}
 use Rattle.pagable_laws.proofs.Words.{root_frame, IsClosed, IsWithin, with_mode, UnpinCall, named_fault, answers_from, ReadsRoot, IsCellOf, Event, EventReply, one_more, load_fault, reading_at}
-use Rattle.pagable_laws.proofs.Words.{reading_after, ReadingsAre, ReadingBrings, world_of, WorkStays, OnlyCore, Beginning, MachineState, fresh, references_in, SameReferences, IsReadable, LiesIn}
+use Rattle.pagable_laws.proofs.Words.{reading_after, ReadingsAre, ReadingBrings, world_of, WorkStays, OnlyCore, Beginning, MachineState, fresh, references_in, IsReadable, LiesIn}
 use Rattle.pagable_laws.proofs.Words.{Throughout, none-followed, rest_of, Tree, tree, IsLawful, ReadsItsTypes, KeepsOpen, FallsAnyhow, HandOverCall, LazyCall, EndCall, SetKeyCall, PinsAtOnce}
 use Rattle.pagable_laws.proofs.{Words.{ReadsAsType, IsWellAsked, IsPremised, state_after, TwoLevelsMeetTheHeadline}, GoodReferences.good, Trees.same_some, Existing.and-false, Joining.new_whole}
 use Rattle.pagable_laws.proofs.{Chains.headline_law, Few.{updated-past, alike-self, falls-so, AreAlone, falls-alone, Few, Passes, whole-so, none-cached}}
@@ -295,11 +295,6 @@ begins =
     let next : IsNextLoad (two.load_number 1) two.evicted = record { above = refl; is_left = omega arith } in
     record { begins = (row, record { live = refl; own = refl; as_asked = refl }, (refl, refl, next, omega arith, (0, refl, alike-self two.loading))); refused = tt }
 
--- a load fetches the blob of its own key
-fetches : (w : Core) (l t : ℕ) (load : OpenLoad) (blob : Blob) → w.loads l ≡ Some load → load.owner ≡ Owner.Caller → w.stored load.key ≡ Some blob
-    → ReadingDoes two.sample w Owner.Caller (fresh (two.load_number l) t) None (root_frame load.key t blob ∷ []) w
-fetches w l t load blob stands_open own stored = grind (arith, nat_tests, alike-self)
-
 cell_load : OpenLoad
 cell_load = record { owner = Owner.Caller; key = 24; root = of_cell (two.node 2) 0 (two.handle 2) }
 
@@ -315,13 +310,8 @@ gets-child =
     record { makes = (cell_load, record { stands_open = refl; own = refl }, refl, inr (refl, omega arith, record { above = refl; is_left = omega arith }, alike-self two.child_got)); refused = tt } in
     record { does = inr (inr (inr (inl (record { kind = record { 0 = 4 }; key = 8; k = two.handle 8; row = row; needs = refl; asked = asked; made = refl; goes = refl })))) }
 
--- it ends with a pin, by the value that was read of its one blob
-reads-parent : ReadsRoot two.sample two.parent_read (two.parent (two.to_leaf 3 8))
-unfolding grammar.read grammar.read_with answers_from
-reads-parent = grind (arith, nat_tests)
-
 ends-pinned : ReadingDoes two.sample two.child_got Owner.Caller two.parent_read (Some (LoadAnswer.Pinned (two.handle 9))) [] two.loaded
-unfolding two.walked value_at is_named_by find_row preimage references_fault is_in cell_load
+unfolding two.walked value_at is_named_by find_row preimage references_fault is_in cell_load grammar.read grammar.read_with answers_from
 ends-pinned =
     let row = row_of 2 (two.node 2) Mode.LooseUnpinned Owner.Caller in
     let x = two.parent (two.to_leaf 3 8) in
@@ -337,7 +327,7 @@ ends-pinned =
       );
       refused = tt;
     } in
-    record { does = (record { x = x; reads_root = reads-parent; of_cell_load = record { load = cell_load; open_load = refl; sort = tt }; ended = ended }, refl) }
+    record { does = (record { x = x; reads_root = grind (arith, nat_tests); of_cell_load = record { load = cell_load; open_load = refl; sort = tt }; ended = ended }, refl) }
 
 -- the caller gets the child's value
 reads-out : ReadingDoes two.sample two.key_loading Owner.Caller two.child_fetched (Some (LoadAnswer.Read two.leaf)) [] two.read_back
@@ -370,7 +360,7 @@ loads-do =
     does _ _ _ two.evicted [] _ done None (only-core two.answered.core two.evicted _ done _ (record { does = evicts })) (λ n x is. absurd (cc)) tt loads-good.0 (refl, refl) tt
     ⨾ does _ _ _ two.loading [] _ done None (only-core two.evicted two.loading _ done _ begins) (λ n x is. inl is) tt loads-good.1 (refl, refl) tt
     ⨾ reads-step two.loading two.loading [] [] None (Some two.parent_fetched) 1 1 (fresh (two.load_number 1) 0) two.parent_fetched.frames None refl refl
-    (fetches two.loading 1 0 cell_load two.parent_blob refl refl refl) refl (reads-on two.loading two.parent_fetched (λ l. None) refl (λ l e. refl)) (λ n x is. inl is) loads-good.1 (refl, refl)
+    (grind (arith, nat_tests, alike-self)) refl (reads-on two.loading two.parent_fetched (λ l. None) refl (λ l e. refl)) (λ n x is. inl is) loads-good.1 (refl, refl)
     (record { number = refl; load = cell_load; open_load = refl; owned = refl; typed = refl })
     ⨾ reads-step two.loading two.child_got [] [] (Some two.parent_fetched) (Some two.parent_read) 1 2 two.parent_fetched two.parent_read.frames None refl refl gets-child refl
     (reads-on two.child_got two.parent_read (two.reads (Some two.parent_fetched)) refl (λ l e. rw e refl)) (λ n x is. inl is) loads-good.2 (refl, refl)
@@ -385,7 +375,7 @@ loads-do =
     }) (λ n x is. inl is) tt loads-good.4 (refl, refl) (record { number = refl; load = key_load; open_load = refl; owned = refl; typed = tt })
     ⨾ reads-step two.key_loading two.key_loading two.last_values two.last_values (Some (fresh (two.load_number 2) 1)) (Some two.child_fetched) 2 1 (fresh (two.load_number 2) 1)
     two.child_fetched.frames None refl refl
-    (fetches two.key_loading 2 1 key_load two.leaf_blob refl refl refl) refl (reads-on two.key_loading two.child_fetched (two.reads (Some (fresh (two.load_number 2) 1))) refl (λ l e. rw e refl))
+    (grind (arith, nat_tests, alike-self)) refl (reads-on two.key_loading two.child_fetched (two.reads (Some (fresh (two.load_number 2) 1))) refl (λ l e. rw e refl))
     (λ n x is. inl is) loads-good.4 (refl, refl) (record { number = refl; load = key_load; open_load = refl; owned = refl; typed = tt })
     ⨾ reads-step two.key_loading two.read_back two.last_values two.last_values (Some two.child_fetched) None 2 2 two.child_fetched [] (Some (LoadAnswer.Read two.leaf)) refl refl reads-out refl
     (grind (arith, nat_tests, none-there)) (λ n x is. inl is) loads-good.5 (refl, refl) tt
@@ -401,20 +391,17 @@ loads-do =
     cell_of n is = record { load = cell_load; node = two.node 2; t = 0; h = two.handle 2; open_load = refl; root = refl; is = sym is }
 
     parent-comes : (n : ℕ) (x : two.Sample) → value_at two.last_values n ≡ Some x → (value_at [] n ≡ Some x) ⊎ ((value_at [] n ≡ None) × ReadingBrings two.sample two.child_got two.parent_read n x)
-    parent-comes n x is = let (at, read) = back n x is in inr (refl, inr (subst (λ y. ReadsRoot two.sample two.parent_read y) (sym read) reads-parent, cell_of n at))
+    parent-comes n x is = let (at, read) = back n x is in inr (refl, inr (subst (λ y. ReadsRoot two.sample two.parent_read y) (sym read) (grind (arith, nat_tests)), cell_of n at))
 
 -- ---- values
-
-refers_same : (x : two.Sample) → SameReferences (two.sample_references x) (references_in (two.sample_meaning x))
-unfolding references_in
-refers_same x0 test = grind (arith, nat_tests)
 
 shaped : (x : two.Sample) → (shape : shapes.Shape) × (two.sample_types.nodes (two.sample.node_type x) ≡ Some shape)
 shaped two.leaf = (shapes.nothing, refl)
 shaped (two.parent r) = (shapes.reference 4, refl)
 
 pub lawful : IsLawful two.sample
-lawful = grind (arith, nat_tests, refers_same, shaped)
+unfolding references_in
+lawful = grind (arith, nat_tests, shaped)
 
 pub reads-types : ReadsItsTypes two.sample_types
 unfolding IsReadable LiesIn
@@ -435,12 +422,6 @@ child-reads s stored = record {
 loads-asked : ArePremised (two.at_work two.answered) (two.loads ++ two.counts 2)
 unfolding two.walked value_at preimage find_row is_named_by grammar.read grammar.read_with answers_from
 loads-asked = grind (arith, nat_tests, asked, child-reads)
-
-births-asked : (xs : List two.Happening) → ArePremised (two.at_work two.begun) xs → ArePremised two.new_one (two.births ++ xs)
-births-asked xs rest = (asked _ _ tt (λ trees. tt), (asked _ _ tt (λ trees. tt), (asked _ _ tt (λ trees. tt), (asked _ _ tt (λ trees. tt), rest))))
-
-runs : AreMoments two.sample_seen two.new_one (two.moments 2)
-runs = births-do _ (pages 15 two.begun (two.loads ++ two.counts 2) births-good.3.0 begun-asks (loads-do, loads-asked)).0
 
 -- what comes later is a chain
 later : (s : MachineState two.Sample (Unit {0})) (xs ys : List two.Happening) → AreMoments two.sample_seen s (xs ++ ys) → AreMoments two.sample_seen (state_after s xs) ys
@@ -466,7 +447,9 @@ headline_met =
       idle = new.idle _ _ tt;
       stands = λ trees. new.stands _ _ tt trees;
       settled = λ n x is. two-settled x;
-      premised = births-asked _ (pages 15 two.begun (two.loads ++ two.counts 2) births-good.3.0 begun-asks (loads-do, loads-asked)).1;
-      headline = headline_law (Unit {0}) two.sample_seen two.new_one (two.moments 2) (new.whole _ _ tt) (new.idle _ _ tt) runs;
+      premised = (asked _ _ tt (λ trees. tt), (asked _ _ tt (λ trees. tt), (asked _ _ tt (λ trees. tt),
+          (asked _ _ tt (λ trees. tt), (pages 15 two.begun (two.loads ++ two.counts 2) births-good.3.0 begun-asks (loads-do, loads-asked)).1))));
+      headline = headline_law (Unit {0}) two.sample_seen two.new_one (two.moments 2) (new.whole _ _ tt) (new.idle _ _ tt)
+          (births-do _ (pages 15 two.begun (two.loads ++ two.counts 2) births-good.3.0 begun-asks (loads-do, loads-asked)).0);
       no_other = no-other;
     }

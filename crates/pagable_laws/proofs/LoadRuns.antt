@@ -102,16 +102,12 @@ module _ {N E : Type 0} {v : Values N} (lawful : IsLawful v) (readable : ReadsIt
           keyed = λ load is. grind (arith, nat_tests, same_some);
         }
 
--- a reading that has begun
-is-fresh : (l : LoadNumber) (o : Option OpenLoad) (reading : Reading) → reading_of_load l o ≡ Some reading → (t : ℕ) × (reading ≡ fresh l t)
-is-fresh l x1 reading is = grind (arith, nat_tests, same_some)
-
 pub pin_law : {N E : Type 0} (v : Values N) → PinLaw E v
 pin_law v s mid s' h k reading x row run well starts asks live held lawful readable settled trees stands =
     let c = starts.begins in
     let b = c.step.begins.2 in
     let first = begun lawful readable s mid trees well settled stands (begin-goes _ c.step) c.moves c.whole in
-    let f = is-fresh reading.load (mid.core.loads reading.load.0) reading starts.is in
+    let f : (t : ℕ) × (reading ≡ fresh reading.load t) = grind (arith, nat_tests, same_some) in
     let u = under lawful readable s mid trees well settled stands (begin-goes _ c.step) c.moves c.whole (with_handle s.core c.step.begins.0.node Mode.LooseUnpinned (Owner.Load reading.load)) reading.load f.0 starts.key (of_cell c.step.begins.0.node b.4.0 h) b.2.above b.4.2 in
     let r = comes lawful readable run asks trees starts.key (subst (λ z. Under v mid trees starts.key z) (sym f.1) u) in
     let after = after-then first r.after in

@@ -1,5 +1,5 @@
 -- A tree of canonical types has one key, a stored tree has the key that it stands under, and keys tell trees apart.
-use Rattle.pagable_laws.proofs.Words.{arith, nat_tests, ◌≡◌, ℕ, suc, Bool, List, [], ◌∷◌, ◌++◌, length, refl, sym, ap, ◌∙◌, subst, length_form, Meaning, sequence, Entry, of_entries, Shape, Form}
+use Rattle.pagable_laws.proofs.Words.{arith, nat_tests, ◌≡◌, ℕ, suc, List, [], ◌∷◌, ◌++◌, length, refl, sym, ap, ◌∙◌, subst, length_form, Meaning, sequence, Entry, of_entries, Shape, Form}
 use Rattle.pagable_laws.proofs.Words.{Forms, Entries, nothing-form, flag-form, duration-form, some-form, err-form, ok-form, list-form, run-form, array-form, both-form, sorted-map-form}
 use Rattle.pagable_laws.proofs.Words.{placed-map-form, hash-map-form, sorted-set-form, placed-set-form, static-form, tagged-form, case-form, reference-form, nested-form, json-flag-form}
 use Rattle.pagable_laws.proofs.Words.{json-array-form, json-object-form, no-forms, more-forms, no-entries, more-entries, LiesIn, IsCanonical, Throughout, CanonicalHasOneForm, true, pair, variant}
@@ -26,9 +26,6 @@ pub same-entries : {A : Type 0} (es fs : List (Entry A)) → of_entries es ≡ o
 same-entries [] [] e = refl
 same-entries {A} (x ∷ es) (f ∷ fs) e = grind (arith, nat_tests, same-entries es fs)
 same-entries _ _ e = cc
-
-same-flag : {A : Type 0} (b d : Bool) → (let m : Meaning A = meanings.flag b in m) ≡ meanings.flag d → b ≡ d
-same-flag x0 x1 e = grind (arith, nat_tests)
 
 -- parts that are the same, after a front that is the same
 grown : {A : Type 0} (a b c : List ℕ) (k l : List A) → (b ≡ c) × (k ≡ l) → (a ++ b ≡ a ++ c) × (k ≡ l)
@@ -87,7 +84,7 @@ module _ {A : Type 0} {kind_of : A → ℕ} {parts : ℕ → Shape} where
         let same = same-entries es es2 part in
         grown (5 ∷ []) _ _ _ _ (counted _ _ _ _ _ _ same (one-entries h h2 (of_text tt) (of_json tt) same))
     one-form x0 (nothing-form left) r e = grind (arith, nat_tests)
-    one-form x0 x1 r e = grind (arith, nat_tests, here, same-flag)
+    one-form x0 x1 r e = grind (arith, nat_tests, here)
 
     pub one-forms : {left left2 : ℕ} {s : Shape} {ms ns : List (Meaning A)} {b c : List ℕ} {k l : List A} → Forms A kind_of parts left s ms b k → Forms A kind_of parts left2 s ns c l
         → Throughout IsCanonical parts s → ms ≡ ns → (b ≡ c) × (k ≡ l)
@@ -242,9 +239,6 @@ one_preimage a b h g e =
 
 -- ---- the height of a tree is the length of its longest path
 
-above-some : (b : Bool) (n h : ℕ) → suc n ≤ (if b then h + 1 else 0) → (b ≡ true) × (n ≤ h)
-above-some x0 n h le = grind (arith, nat_tests)
-
 path-to : (m : Meaning ⊥) (n : ℕ) → HasPath n m → n ≤ height m
 unfolding HasPath height
 path-to (pair a b) n (inl h) = let p = path-to a n h in omega arith
@@ -257,7 +251,7 @@ path-from : (m : Meaning ⊥) (n : ℕ) → n ≤ height m → HasPath n m
 unfolding HasPath height
 path-from (pair a b) n h = elim (cases_lt (height a) n) [ inl lt ↦ inr (path-from b n (omega arith)) | inr le ↦ inl (path-from a n le) ]
 path-from (variant x a) n h = path-from a n h
-path-from (followed kind a) (suc n) h = let p = above-some (is_eager kind) n (height a) h in (p.0, path-from a n p.1)
+path-from (followed kind a) (suc n) h = let p : ((is_eager kind) ≡ true) × (n ≤ (height a)) = grind (arith, nat_tests) in (p.0, path-from a n p.1)
 path-from x0 x1 h = grind (arith, nat_tests)
 
 pub longest_path : IsLongestPath

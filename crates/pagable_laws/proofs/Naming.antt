@@ -1,7 +1,7 @@
 -- A handle that stands for a reference goes on to stand for it, and so does a clone of it; a key that was set stays.
 use Rattle.pagable_laws.proofs.Words.{◌≡◌, ℕ, ◌+◌, ◌≤◌, true, List, [], ◌∷◌, ◌++◌, inl, inr, Some, None, Ok, refl, sym, ap, subst, ◌∙◌, arith, nat_tests, ArcRef, HandleNumber, type_of, is_loose_kind}
-use Rattle.pagable_laws.proofs.Words.{HandleRow, Owner, find_row, is_loose, fits_mode, has_key, Core, Cell, Todo, to_start, to_item, to_publish, to_release, row_at, type_at, row_of, CloneCall}
-use Rattle.pagable_laws.proofs.Words.{claim_fault, HandlesAreWhole, Change, StandsAt, KeyIsSet, Holds, AllHold, WaitsHeld, Ends, false, of_item, of_entry, ◌⊎◌, Option, OptionalDataKey, Pinning}
+use Rattle.pagable_laws.proofs.Words.{HandleRow, Owner, find_row, is_loose, fits_mode, has_key, Core, Todo, to_start, to_item, to_publish, to_release, row_at, type_at, row_of, CloneCall}
+use Rattle.pagable_laws.proofs.Words.{claim_fault, HandlesAreWhole, Change, StandsAt, KeyIsSet, Holds, AllHold, WaitsHeld, Ends, false, of_item, of_entry, ◌⊎◌, Option, Pinning}
 use Rattle.pagable_laws.proofs.Words.{Beginning, Claim, PinStep, Took, Identity, NodeNumber, above, if_there, any_mode, identity_of, owner_worker, Shelf, Slot, no_result, published, to_pin, to_load}
 use Rattle.pagable_laws.proofs.Words.{to_write, to_finish, to_set, Task, SameShelf, Seen, with_key, SetKeyCall, Site, first_todo, Does, PinsAtOnce, IsPublished, next_start, give, give_known}
 use Rattle.pagable_laws.proofs.Words.{with_changed_slot, with_outcome, Owns, WorkerAnswer, HasHandle, nothing_felt, WorkerNumber, Tree, Event, EventReply, WorkerReply, Walking, World, Values}
@@ -110,12 +110,9 @@ module _ (w : Core) (v : ℕ) where
 
 -- ---- keys that are set
 
-cell-keyed : (key : ℕ) (found : Option Cell) (cell : Cell) → if_there (λ (x : Cell). Some (record x { key = OptionalDataKey.Some key })) None found ≡ Some cell → has_key cell.key ≡ true
-cell-keyed key x1 cell is = grind (arith, nat_tests)
-
 key-set : {w w' : Core} (v : ℕ) (r : ArcRef) (through : HandleNumber) (key : ℕ) (u : Unit {0}) → StandsAt w r through → SetKeyCall w (owner_worker v) through key (Ok u) w'
     → is_loose_kind r.kind.0 ≡ true → KeyIsSet w' r.node.0
-key-set {w} {w'} v r through key u s call kind = grind (arith, goes-quiet, fell, given, cell-keyed, updated-at)
+key-set {w} {w'} v r through key u s call kind = grind (arith, goes-quiet, fell, given, updated-at)
 
 -- the worker has the handle still through which it has set a key
 still-held : {w w' : Core} (v : ℕ) (r : ArcRef) (through : HandleNumber) (key : ℕ) (u : Unit {0}) → HandlesAreWhole w → StandsAt w r through
@@ -211,10 +208,6 @@ module _ {N B W : Type 0} (m : Seen N B W) (v : ℕ) (s s' : Site) (whole : Hand
 pub held-at-first : {N E : Type 0} (s : MachineState N E) → IsIdle s → KeysHeld (world_of s)
 held-at-first s idle = record { walks = λ n walking is. let f = idle.walkings n in absurd (cc); slots = λ t i key height p kind. let f = p.claimed in let g = idle.shelves t i in absurd (cc) }
 
--- a handle that a step spares is there still
-handle-on : {w w' : Core} {v n : ℕ} → HandlesAreWhole w → Spares (owner_worker v) w w' → HasHandle w v n → HasHandle w' v n
-handle-on whole spares h = let s = spares.each h.h.0 h.row h.own (stands-whole whole h.h.0 h.row h.live) in record { h = h.h; row = h.row; live = s.live; own = h.own; at = h.at }
-
 module _ {N B W : Type 0} (m : Seen N B W) (u u' : World) {c : Change} (goes : Goes c u.core u'.core) (held : KeysHeld u) (whole : HandlesAreWhole u.core) where
   abbrev SlotsHeld : Shelf → Type 0
   SlotsHeld shelf = (i : Identity) (key height : ℕ) → IsPublished shelf i key height → is_loose_kind i.kind.0 ≡ true → KeyIsSet u'.core i.node.0
@@ -254,7 +247,8 @@ module _ {N B W : Type 0} (m : Seen N B W) (u u' : World) {c : Change} (goes : G
       let h = turns-keep m turns SlotsHeld (λ n shelf w. AllHold u'.core n w.todo) (λ a b same slots i key height p. slots i key height (keys-same (λ j. sym (same j)) i key height p))
       (λ a b more slots n w all. all)
       (λ t shelf more same i key height p kind. key-on goes (held.slots t i key height (keys-same (λ j. sym (same j)) i key height p) kind))
-      (λ n w none there. all-on goes n (λ q. handle-on whole (spares n none)) w.todo (held.walks n w there)) (λ n shelf t task. first-hold n task) (λ k r s one more. a-step work k r s) in
+      (λ n w none there. all-on goes n (λ q. λ h. let s = (spares n none).each h.h.0 h.row h.own (stands-whole whole h.h.0 h.row h.live) in
+          record { h = h.h; row = h.row; live = s.live; own = h.own; at = h.at }) w.todo (held.walks n w there)) (λ n shelf t task. first-hold n task) (λ k r s one more. a-step work k r s) in
       record { walks = h.walks; slots = h.slots }
 
 -- and after each event of a whole machine that doesn't close the storage

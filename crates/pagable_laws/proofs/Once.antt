@@ -99,16 +99,13 @@ module _ (k : ℕ) (i : Identity) where
     goes (to_release r key height ∷ below) (Took.Release j) next way (is, e) = grind (arith, nat_tests, given, ends)
     goes _ step next way follows = grind (arith, nat_tests, failed)
 
-    claim-cons : (step : Took W) (steps : List (Took W)) → times (is_claim_of i) (step ∷ steps) ≡ one (is_claim_of i step) + times (is_claim_of i) steps
-    claim-cons step steps = sum_by-cons (λ s. one (is_claim_of i s)) step steps
-
     along : (todo : List Todo) (steps : List (Took W)) (last : List Todo) → IsWay todo → Leads f todo steps last
         → times (is_later_of k i) steps + all-left last ≤ times (is_claim_of i) steps + all-left todo
     along todo [] last way is = subst (λ t. 0 + all-left t ≤ 0 + all-left todo) (sym is) (omega arith)
     along todo (step ∷ steps) last way (mid, follows, leads) =
         let a = goes todo step mid way follows in
         let later = sum_by-cons (λ s. one (is_later_of k i s)) step steps in
-        let claim = claim-cons step steps in
+        let claim = sum_by-cons (λ s. one (is_claim_of i s)) step steps in
         let more = along mid steps last a.way leads in
         omega arith
 
@@ -122,7 +119,7 @@ module _ (k : ℕ) (i : Identity) where
     once-more step steps is few = grind (arith, nat_tests)
 
     few-claims : (step : Took W) (steps : List (Took W)) → times (is_claim_of i) (step ∷ steps) ≤ 1 → one (is_claim_of i step) + times (is_claim_of i) steps ≤ 1
-    few-claims step steps few = subst (λ n. n ≤ 1) (claim-cons step steps) few
+    few-claims step steps few = subst (λ n. n ≤ 1) (sum_by-cons (λ s. one (is_claim_of i s)) step steps) few
 
     fewer : (s : ℕ) → 0 + s ≤ 1 → s ≤ 1
     fewer s few = omega arith

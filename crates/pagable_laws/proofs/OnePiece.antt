@@ -24,9 +24,6 @@ AllBelow n frames = (frame : Frame) (r : ArcRef) → Among frames frame → Amon
 in-rest : (frame : Frame) (frames : List Frame) (i j : ℕ) (r : ArcRef) → GotAt frames i j r → GotAt (frame ∷ frames) (suc i) j r
 in-rest frame frames i j r g = record { frame = g.frame; at = g.at; there = g.there }
 
-rest-of : {frame : Frame} {frames : List Frame} {i j : ℕ} {r : ArcRef} → GotAt (frame ∷ frames) (suc i) j r → GotAt frames i j r
-rest-of g = record { frame = g.frame; at = g.at; there = g.there }
-
 none-new : {frame : Frame} {frames : List Frame} {j : ℕ} {r : ArcRef} → frame.got ≡ [] → GotAt (frame ∷ frames) 0 j r → ⊥
 none-new {frame} {j = j} {r} none g =
     let same : frame ≡ g.frame = let e = g.at in cc in
@@ -36,12 +33,10 @@ pub once-new : (frame : Frame) (frames : List Frame) → frame.got ≡ [] → Go
 once-new frame frames none o = record { once = by }
   where
     by : (i j k l : ℕ) (r q : ArcRef) → GotAt (frame ∷ frames) i j r → GotAt (frame ∷ frames) k l q → r.handle.0 ≡ q.handle.0 → (i ≡ k) × (j ≡ l)
-    by (suc i) j (suc k) l r q a b same = let e = o.once i j k l r q (rest-of a) (rest-of b) same in (ap suc e.0, e.1)
+    by (suc i) j (suc k) l r q a b same = let e = o.once i j k l r q (record { frame = a.frame; at = a.at; there = a.there }) (record { frame = b.frame; at = b.at; there = b.there }) same in
+        (ap suc e.0, e.1)
     by zero j k l r q a b same = absurd (none-new none a)
     by i j zero l r q a b same = absurd (none-new none b)
-
-pub once-none : (frames : List Frame) → frames ≡ [] → GotOnce frames
-once-none frames none = record { once = λ i j k l r q a b same. absurd (let e = subst (λ fs. slice_get fs i ≡ Some a.frame) none a.at in cc) }
 
 pub once-got : (frames : List Frame) (kind : Kind) (row : HandleRow) → AllBelow row.number.0 frames → GotOnce frames → GotOnce (with_got kind row frames)
 once-got [] kind row small o = o
@@ -55,10 +50,6 @@ once-got (top ∷ below) kind row small o = record { once = λ i j k l r q a b s
     by i j k l r q same (inl a) (inr b) = absurd (old-isnt i j k l r q same a b)
     by i j k l r q same (inr a) (inl b) = absurd (old-isnt k l i j q r (sym same) b a)
     by i j k l r q same (inr a) (inr b) = (a.0 ∙ sym b.0, a.1 ∙ sym b.1)
-
--- so those of the innermost blob are apart
-pub once-apart : (frame : Frame) (below : List Frame) → GotOnce (frame ∷ below) → AreApart frame.got
-once-apart frame below o i j r q at there same = (o.once 0 i 0 j r q (record { frame = frame; at = refl; there = at }) (record { frame = frame; at = refl; there = there }) same).1
 
 -- ---- rows
 
@@ -264,7 +255,7 @@ module _ {N B W E : Type 0} (m : Seen N B W) (s s' : MachineState N E) (whole : 
 
   nothing-ready : (l : LoadNumber) (load : OpenLoad) (frames : List Frame) → frames ≡ []
       → ((node : NodeNumber) (t : ℕ) (h : HandleNumber) → load.root ≡ of_cell node t h → Has w' Owner.Caller h) → LoadReady w' l load frames
-  nothing-ready l load frames none begun = grind (arith, nat_tests, once-none)
+  nothing-ready l load frames none begun = grind (arith, nat_tests, slice_get)
 
   -- what has just begun has read nothing
   begun-empty : (l : LoadNumber) (reading : Reading) (readings : ℕ → Option Reading) → ReadingsAre readings (world_of s') → ((r : Reading) → readings l.0 ≡ Some r → r.frames ≡ [])
@@ -381,7 +372,9 @@ module _ {N B W E : Type 0} (m : Seen N B W) (lawful : IsLawful m.values) (reada
 
       once : (q : ℕ) → times (λ (r : ArcRef). r.handle.0 == q) (m.values.references x) ≤ 1
       once q =
-          let few = reads-once m.values.types frame.node_type frame.blob form.refs frame.got form.form form.kinds (once-apart frame below (subst GotOnce is ready.once)) decoded.own decoded.read q in
+          let few = reads-once m.values.types frame.node_type frame.blob form.refs frame.got form.form form.kinds
+              (λ i j r q at there same. ((subst GotOnce is ready.once).once 0 i 0 j r q (record { frame = frame; at = refl; there = at })
+                  (record { frame = frame; at = refl; there = there }) same).1) decoded.own decoded.read q in
           omega (arith, lawful.refers x decoded.own decoded.means (λ r. r.handle.0 == q), few)
 
   sound : (l : LoadNumber) (reply : LoadReply N) → LoadSteps m.values (world_of s) l reply (world_of s') → Ready s l → (load : OpenLoad) (e : Error)

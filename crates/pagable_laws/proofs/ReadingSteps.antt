@@ -4,9 +4,9 @@ use Rattle.pagable_laws.proofs.Words.{NodeNumber, OptionalDataKey, type_of, Hand
 use Rattle.pagable_laws.proofs.Words.{with_node, with_cached_if_open, with_known, next_node, is_named_by, moved, adopted, HandlesAreWhole, GetsRow, sym, inl, Option, None, Ok, Err, is_some}
 use Rattle.pagable_laws.proofs.Words.{WorkerNumber, LoadAnswer, LoadReply, WorkerReply, PinStep, Took, Event, owner_worker, Frame, Reading, Todo, to_load, Walking, World, Seen, Values, ReadingDoes}
 use Rattle.pagable_laws.proofs.Words.{gone_on, Site, ReadingsAre, reading_at, reading_after, LoadSteps, WorkerSteps, IsWhole, IsReadingOf, of_caller, of_worker, IsSteppedReading, MachineState}
-use Rattle.pagable_laws.proofs.Words.{IsMachineWhole, StepsReading, IsFresh, Error, OpenLoad, EndCall, HandOverCall, first_key, Fails, RefusesRoot, LoadIs, IsOfCell, IsOfKey, handles_of, GetsLazy}
-use Rattle.pagable_laws.proofs.Words.{MakesNode, Change, nothing_felt, bears_known, ReadingFeels, reads-root, reads-blob, gets-known, gets-lazy, makes-known, makes-node, reading-ends, Want, AskCall}
-use Rattle.pagable_laws.proofs.Words.{AsksInVain, Result, Pinning, Beginning, Claim, is_loose, to_start, to_pin, to_set, to_release, to_fail, SetKeyCall, Does, PinsAtOnce, PinsByLoad, PinRefused}
+use Rattle.pagable_laws.proofs.Words.{IsMachineWhole, StepsReading, IsFresh, Error, OpenLoad, first_key, Fails, GetsLazy}
+use Rattle.pagable_laws.proofs.Words.{MakesNode, Change, nothing_felt, bears_known, ReadingFeels, reads-root, reads-blob, gets-known, gets-lazy, makes-known, makes-node, reading-ends}
+use Rattle.pagable_laws.proofs.Words.{Result, Pinning, Beginning, Claim, is_loose, to_start, to_pin, to_set, to_release, to_fail, SetKeyCall, Does, PinsAtOnce, PinsByLoad, PinRefused}
 use Rattle.pagable_laws.proofs.Words.{GivesBack, next_start, give, give_known, fresh, TodoBrings, sets_key, false, if◌then◌else◌, updated, if_there, EventReply, TableNumber, WorkerAnswer, only_handle}
 use Rattle.pagable_laws.proofs.Words.{Cell, Task, type_at, key_at, without_worker, WorkerEnds, answer_after, Stays, KeyStarted, Starts, new_walking, Ends, Happens, with_worker, IsNewNode, EventBrings}
 use Rattle.pagable_laws.proofs.Words.{KeepsOpen, LeavesCache, SameNode, NewNode, StaysAway, KeepsReadings, EventFeels, by-call, by-reading, by-key, by-nothing, Blob, StoreCall, digest, AreGood}
@@ -52,10 +52,6 @@ module _ {w w' : Core} (whole : HandlesAreWhole w) (kind : Kind) (k : HandleNumb
       gets (moved (is_named_by references) (owner_value (w.last.node + 1)) w.rows) (next_node w) (Owner.Load l)
       (low-changed w.last.handle w.rows (λ h. is_named_by references h.number.0) (λ h. record h { owner = owner_value (w.last.node + 1) }) (λ h. refl) (low-whole whole)) (omega (arith, few))
       (subst (λ rows. find_row k.0 rows ≡ Some row) (a.rows ∙ rows.0) made)
-
--- it is so in a world that is alike
-pub gets-alike : {w m w' : Core} {kind : Kind} {n : ℕ} {row : HandleRow} → GetsRow w m kind n row → Alike m w' → GetsRow w w' kind n row
-gets-alike {row = row} g a = grind (arith, nat_tests)
 
 -- what can be used is in the cache
 pub is-cached : (w : Core) (kind key n : ℕ) → usable w kind key ≡ Some n → w.cache kind key ≡ Some n
@@ -171,19 +167,8 @@ module _ {N : Type 0} (v : Values N) (w : Core) (me : Owner) (reading : Reading)
   abbrev Notes : Type 0
   Notes = (f : ℕ) × Alike (record w { failures = f }) u
 
-  asks-in-vain : (want : Want) (load : OpenLoad) → AsksInVain w load want e u → Notes
-  asks-in-vain x0 load vain = grind (arith, nat_tests)
-
-  ask-refused : (want : Want) → AskCall w me reading.load want (Err e) u → Notes
-  ask-refused want c = elim c.refused [ inl refused ↦ (w.failures, refused.stays) | inr (load, owned, vain) ↦ asks-in-vain want load vain ]
-
-  refused-root : (root : RefusesRoot v w me reading e u)
-      → (LoadIs w reading IsOfCell × EndCall w me reading.load root.x (v.node_type root.x) (v.references root.x) (Err (e, Some root.x)) u)
-      ⊎ (LoadIs w reading IsOfKey × HandOverCall w me reading.load (handles_of (v.references root.x)) (Err e) u) → Notes
-  refused-root root x1 = grind (arith, nat_tests)
-
   pub meets : Meets v w me reading e u → Notes
-  meets does = search (rules, ask-refused, refused-root)
+  meets does = search (rules)
 
 module _ {N B W : Type 0} (m : Seen N B W) (w : Core) (me : Owner) (free : NotLoads me) (w' : Core) (reading : Reading) where
   abbrev RF : Option (LoadAnswer N) → List Frame → Type 0
@@ -261,10 +246,10 @@ pub feels-alike : {N : Type 0} {v : Values N} {w u w' : Core} {reading : Reading
     → ReadingFeels v w reading answer frames u c → Alike u w' → ReadingFeels v w reading answer frames w' c
 feels-alike (reads-root load blob none_read at stored answer is) a = reads-root load blob none_read at stored answer is
 feels-alike (reads-blob kind key blob needs stored answer is) a = reads-blob kind key blob needs stored answer is
-feels-alike (gets-known kind key n row needs known got answer is) a = gets-known kind key n row needs known (gets-alike got a) answer is
-feels-alike (gets-lazy kind key row needs got answer is) a = gets-lazy kind key row needs (gets-alike got a) answer is
-feels-alike (makes-known x reads n row known got answer is) a = makes-known x reads n row known (gets-alike got a) answer is
-feels-alike (makes-node x reads row got answer is) a = makes-node x reads row (gets-alike got a) answer is
+feels-alike (gets-known kind key n row needs known got answer is) a = gets-known kind key n row needs known (grind (arith, nat_tests)) answer is
+feels-alike (gets-lazy kind key row needs got answer is) a = gets-lazy kind key row needs (grind (arith, nat_tests)) answer is
+feels-alike (makes-known x reads n row known got answer is) a = makes-known x reads n row known (grind (arith, nat_tests)) answer is
+feels-alike (makes-node x reads row got answer is) a = makes-node x reads row (grind (arith, nat_tests)) answer is
 feels-alike (reading-ends end answer is) a = reading-ends end answer is
 
 pub reading-knows : {N : Type 0} {v : Values N} {w w' : Core} {reading : Reading} {answer : Option (LoadAnswer N)} {frames : List Frame} {c : Change}

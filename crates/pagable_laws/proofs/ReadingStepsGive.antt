@@ -4,7 +4,7 @@ use Rattle.pagable_laws.proofs.Words.{LoadAnswer, Core, Frame, Reading, World, V
 use Rattle.pagable_laws.proofs.Words.{makes-node, reading-ends, EventFeels, nat_tests, ◌&&◌, true, false, Ok, ap, not, is_in, Owner, Seen, moved, numbers_of, HandOverCall, is_owned_in, handles_of}
 use Rattle.pagable_laws.proofs.Words.{Happens, HandlesAreWhole, HandsOver, ◌<◌, slice_get-get_or, Blob, NodeNumber, Tree, Types, type_of, LoadReply, held, OpenLoad, type_at, IsLawful, IsReference}
 use Rattle.pagable_laws.proofs.Words.{ReadsRoot, LoadSteps, MachineState, world_of, IsMachineWhole, IsReadingOf, StandsFor, SameTrees, FrameFits, FramesFit, ReadsItsTypes, ReadIsRight, ReadGives, ◌+◌}
-use Rattle.pagable_laws.proofs.Words.{◌*◌, ◌≤◌, ◌⊎◌, is_eager, asks, next_in, need_of, needs_nested, needs_lazy, to_adopt, root_frame, after_kinds, Unfolds, unfolds, UnfoldsFrom, KeepsStored, IsSome}
+use Rattle.pagable_laws.proofs.Words.{◌*◌, ◌≤◌, ◌⊎◌, is_eager, asks, next_in, need_of, needs_nested, needs_lazy, to_adopt, root_frame, after_kinds, Unfolds, unfolds, UnfoldsFrom, KeepsStored}
 use Rattle.pagable_laws.proofs.Words.{Call, Reply, one_more, gone_on, IsIdle, KeepsOpen, IsWithinBound, StepIsWithin, PagerState, Represents, WellFormed, LoadsHaveStepsLeft, IsFresh, slice_get_within}
 use Rattle.pagable_laws.proofs.{Words.{HandleNumber, named_fault, hand_over_fault}, Fitting.{first-fits, frames-stay, asked}, ReadingSteps.{readings-on, caller-free, reading-feels, reading-stands}}
 use Rattle.pagable_laws.proofs.{ReadingSteps.{AllWaitWell, EventGoes, event-goes, reading-open}, Goes.{found-number, IsShut, Goes}, Outlasting.{Stands, stands-whole, stands-changed, stands-fell}}
@@ -13,9 +13,6 @@ use Rattle.{pagable_laws.proofs.{Apart.kinds-pushed, Trees.same_some, Effects.na
 pub use Rattle.pagable_laws.proofs.Effects.{both-none as neither}
 
 -- A load of a key that answers a value hands over the value's references: each was the load's, and is the caller's then.
-
-named-none : (w : Core) (l : LoadNumber) (hs : List HandleNumber) → hand_over_fault w Owner.Caller l hs ≡ None → named_fault w (Owner.Load l) [] hs ≡ None
-named-none w l hs none = grind (arith, nat_tests, neither)
 
 in-numbers : (rs : List ArcRef) (r : ArcRef) → Among rs r → is_in (numbers_of (handles_of rs)) r.handle.0 ≡ true
 unfolding is_in
@@ -30,7 +27,7 @@ hands {w} {w'} l references whole c =
       each = λ r among.
           let hs = handles_of references in
           let numbered = in-numbers references r among in
-          let n = named w (Owner.Load l) [] hs (named-none w l hs c.hands.0) r.handle numbered in
+          let n = named w (Owner.Load l) [] hs (grind (arith, nat_tests, neither)) r.handle numbered in
           let stood = stands-changed (λ (row : HandleRow). is_in (numbers_of hs) row.number.0) (λ row. record row { owner = Owner.Caller }) (λ h. refl) (stands-whole whole r.handle.0 n.row n.live) in
           let moves : is_in (numbers_of hs) n.row.number.0 ≡ true = ap (is_in (numbers_of hs)) (found-number r.handle.0 w.rows n.row n.live) ∙ numbered in
           let now : Stands w.last.handle (moved (is_in (numbers_of hs)) Owner.Caller w.rows) r.handle.0 (record n.row { owner = Owner.Caller }) = rw moves at stood in
@@ -200,23 +197,14 @@ abbrev pub Bounded : Types → (ℕ → Option Blob) → ℕ → Reading → Typ
 Bounded types store key reading = (more : ℕ → Option Blob) → KeepsStored store more → (many longest : ℕ) → Unfolds types more reading.node_type key many longest
     → (owed : ℕ) × Owes types more many reading.frames owed × (reading.steps + owed ≤ 2 * many + 2)
 
-bounded-on : {types : Types} {store later : ℕ → Option Blob} {key : ℕ} (reading : Reading) → KeepsStored store later → Bounded types store key reading → Bounded types later key reading
-bounded-on reading kept b more after many longest under = b more (λ q x is. after q x (kept q x is)) many longest under
-
-few-more : (n : ℕ) → one_more n ≤ n + 1
-few-more n = omega arith
-
 bounded-step : {N : Type 0} {v : Values N} {w w' : Core} {c : Change} (reading : Reading) (load : OpenLoad) (frames : List Frame) → w.loads reading.load.0 ≡ Some load
     → Bounded v.types w.stored load.key reading → ReadingFeels v w reading None frames w' c → Bounded v.types w.stored load.key (gone_on reading frames)
-bounded-step reading load frames open_load b feels more kept many longest under = search (rules, owes-less, few-more)
-
-ended-some : {X : Type 0} (answer : Option X) → (answer ≡ None → ⊥) → IsSome answer
-ended-some x0 x1 = grind (arith, nat_tests)
+bounded-step reading load frames open_load b feels more kept many longest under = search (rules, owes-less)
 
 is-within : {N : Type 0} {types : Types} {store : ℕ → Option Blob} {key : ℕ} (reading : Reading) (frames : List Frame) (reply : LoadReply N) → Bounded types store key reading
     → (reply.ended ≡ None → Bounded types store key (gone_on reading frames)) → reply.steps ≡ one_more reading.steps
     → IsWithinBound types store reading.node_type key reply
-is-within {types = types} {store} {key} reading frames reply b after counts many longest under = search (rules, owes-some, few-more, ended-some)
+is-within {types = types} {store} {key} reading frames reply b after counts many longest under = search (rules, owes-some)
 
 -- ---- the machine's loads
 
@@ -261,7 +249,8 @@ module _ {N E B W : Type 0} (m : Seen N B W) (s s' : MachineState N E) (whole : 
     kept-bounded reading b =
         let few = b.0 in
         let more = goes.loads_last in
-        (omega (arith, few, more), λ load is_open. bounded-on reading goes.stored (b.1 load (was-open goes reading.load.0 load b.0 is_open)))
+        (omega (arith, few, more), λ load is_open. λ more after many longest under. (b.1 load (was-open goes reading.load.0 load b.0 is_open)) more
+            (λ q x is. after q x (goes.stored q x is)) many longest under)
 
     went-bounded : (reading : Reading) (frames : List Frame) → IsReadingOf u.work reading ⊎ IsFresh u.core reading → ReadingFeels m.values u.core reading None frames u'.core c
         → IsBounded m.values.types u' (gone_on reading frames)

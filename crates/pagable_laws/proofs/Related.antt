@@ -60,12 +60,9 @@ module _ {I : Type 0} {plus : I → I → I} {end : I} (joins : Joins plus end) 
     unfolding Comes
     after i p a x3 x4 = grind (arith, nat_tests)
 
-    then_comes : (i : I) (first : Result (A × I) Error) → Comes plus get i first → Comes plus whole i (first >>= λ p. f p.0 p.1)
-    unfolding Comes
-    then_comes i x1 x2 = grind (arith, nat_tests, after)
-
     pub and_then : Tame plus whole
-    and_then = record { comes = λ i. rw (is i) (then_comes i (get i) (h.comes i)) }
+    unfolding Comes
+    and_then = record { comes = λ i. rw (is i) (grind (arith, nat_tests, after)) }
 
 -- ---- bytes
 

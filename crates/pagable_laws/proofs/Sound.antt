@@ -2,9 +2,9 @@
 -- blob that lies too deep, or to one that enters a level too many.
 use Rattle.pagable_laws.proofs.Words.{nat_tests, ◌≡◌, ℕ, suc, ◌+◌, ◌≤◌, true, List, [], ◌∷◌, length, Option, Some, sym, ap, subst, ◌∙◌, inl, inr, if◌then◌else◌, arith, slice_get, blob_of, Error}
 use Rattle.pagable_laws.proofs.Words.{ArcRef, Kind, Identity, Blob, Meaning, Tree, type_of, is_eager, above, longest_path, identity_of, Shelf, Written, Frame, Values, reads, asks, next_in, need_of}
-use Rattle.pagable_laws.proofs.Words.{is_broken, IsPublished, MachineState, world_of, FramesFit, ReadsItsTypes, AreKeysOf, WorkFits, Needs, ◌==◌, Bool, false, ◌⊎◌, None, Err, refl, Result, not, Want}
-use Rattle.pagable_laws.proofs.Words.{Owner, HandleNumber, LoadNumber, NodeNumber, Types, any_mode, Core, OpenLoad, of_cell, Reading, Seen, IsLawful, earlier, where_so, refused_if, spent}
-use Rattle.pagable_laws.proofs.Words.{handle_fault, references_fault, load_fault, AreHandlesFull, Refused, FetchCall, AskCall, ask_fault, is_known, node_fault, needs_nested, needs_lazy, IsDecoded}
+use Rattle.pagable_laws.proofs.Words.{is_broken, IsPublished, MachineState, world_of, FramesFit, ReadsItsTypes, AreKeysOf, WorkFits, Needs, ◌==◌, Bool, false, ◌⊎◌, None, Err, refl, not, Want}
+use Rattle.pagable_laws.proofs.Words.{Owner, HandleNumber, LoadNumber, NodeNumber, Types, any_mode, Core, OpenLoad, of_cell, Reading, Seen, IsLawful, earlier, refused_if}
+use Rattle.pagable_laws.proofs.Words.{handle_fault, references_fault, load_fault, AreHandlesFull, Refused, AskCall, ask_fault, is_known, node_fault, needs_nested, needs_lazy, IsDecoded}
 use Rattle.pagable_laws.proofs.Words.{RefusesBlob, RefusesNode, RefusesRoot, IsOfKey, Fails, reading_at, FitsRoot, IsOfChance, IsPagedOutAs, IsLoadOfPagedOut, Ok, Mode, LoadAnswer, LoadReply, Event}
 use Rattle.pagable_laws.proofs.Words.{EventReply, or_else, LoadSteps, Happens, IsOfHandles, LoadIsFaultless, FaultlessLaw, ◌<◌, Took, owner_worker, Todo, Walking, named_fault, handles_of, after_kinds}
 use Rattle.pagable_laws.proofs.Words.{LeadsDown, is-there, goes-down, ReadsTooDeep, IsReadingOf, of_worker, LoadIsDeep, DeepLoadLaw, AllLow, IsFresh, LazyCall, RefusesNested, reference_fault}
@@ -165,14 +165,8 @@ only-node P w kind key p e is = grind (arith, nat_tests, only-if P, only-earlier
 only-refused : {P : Error → Type 0} {cause before : Option Error} {full : Type 0} {w w' : Core} (e : Error) → Refused cause before full w e w' → Only P cause → P Error.OutOfMemory → P e
 only-refused {P} e r by memory = elim r.why [ inl is ↦ by e is | inr wanting ↦ subst P (sym wanting.0) memory ]
 
-where-chance : (b : Bool) (n : ℕ) → Only IsOfChance (where_so b (spent n))
-where-chance x0 n e is = grind (arith, nat_tests, only-if IsOfChance)
-
 never : (b : Bool) (f e : Error) → b ≡ false → refused_if b f ≡ Some e → ⊥
 never _ f e is so = cc
-
-same-type : (a b : ℕ) → a ≡ b → not (a == b) ≡ false
-same-type a b is = ap (λ x. not (x == b)) is ∙ ap not (self-number b)
 
 -- ---- the load
 
@@ -250,17 +244,14 @@ module _ {N B W E : Type 0} (m : Seen N B W) (s : MachineState N E) (trees : ℕ
 
     -- ---- asking
 
-    vain-chance : (want : Want) (key : ℕ) (blob : Blob) (mid : Core) (e : Error) → w.stored key ≡ Some blob → (let r : Result Blob Error = Err e in FetchCall w key r mid) → IsOfChance e
-    vain-chance want key blob mid e is f = (grind (arith, nat_tests))
-
     ask-chance : (want : Want) (mid : Core) (e : Error)
         → Refused (ask_fault w Owner.Caller reading.load want) (ask_fault w Owner.Caller reading.load want) ((is_known w want ≡ true) × AreHandlesFull w) w e mid → IsOfChance e
-    ask-chance want mid e r = only-refused {P = IsOfChance} e r (only-earlier _ _ (no-load-fault _) (where-chance (is_known w want) w.last.handle)) tt
+    ask-chance want mid e r = only-refused {P = IsOfChance} e r (only-earlier _ _ (no-load-fault _) (λ e is. grind (arith, nat_tests, only-if IsOfChance))) tt
 
     nested-asked : (kind : Kind) (key : ℕ) (blob : Blob) (mid : Core) (e : Error) → w.stored key ≡ Some blob → AskCall w Owner.Caller reading.load (Want.Nested kind key) (Err e) mid → IsOfChance e
     nested-asked kind key blob mid e is c = elim c.refused [
       | inl r ↦ ask-chance (Want.Nested kind key) mid e r
-      | inr (other, owned, vain) ↦ vain-chance (Want.Nested kind key) key blob mid e is vain.1
+      | inr (other, owned, vain) ↦ (grind (arith, nat_tests))
     ]
 
     -- ---- the causes
@@ -280,7 +271,7 @@ module _ {N B W E : Type 0} (m : Seen N B W) (s : MachineState N E) (trees : ℕ
         let n = r.reads_node in
         let right : (is_eager n.top.kind.0 ≡ true) × (n.top.node_type ≡ type_of n.top.kind.0) = grind (arith, nat_tests, fits, going, adopted-over) in
         only-refused {P = C} e r.adopted.refused.1 (only-earlier _ _ (no-load-fault _) (only-earlier _ _ (λ f so. absurd (never _ Error.WrongMode f (grind (arith, nat_tests)) so))
-        (only-earlier _ _ (λ f so. absurd (never _ Error.WrongKind f (same-type (v.node_type r.x) (type_of n.top.kind.0) (n.decoded.typed ∙ right.1)) so))
+        (only-earlier _ _ (λ f so. absurd (never _ Error.WrongKind f (ap (λ x. not (x == (type_of n.top.kind.0))) (n.decoded.typed ∙ right.1) ∙ ap not (self-number (type_of n.top.kind.0))) so))
         (only-earlier _ _ (λ f a. by-references n.top n.below r.x n.frames n.decoded (form-of n.top n.below n.frames r.x n.decoded) a)
         (λ f a. by-chance (only-node IsOfChance w n.top.kind n.top.key tt f a)))))) (by-chance tt)
 
@@ -291,7 +282,7 @@ module _ {N B W E : Type 0} (m : Seen N B W) (s : MachineState N E) (trees : ℕ
           let same : is.load ≡ load = same_some _ _ (sym is.open_load ∙ (ap (λ (x : LoadNumber). w.loads x.0) number ∙ open_load)) in
           absurd (subst IsOfKey (ap (λ (x : OpenLoad). x.root) same ∙ paged.3) is.sort)
       | inl (is, ended) ↦ only-refused {P = C} e ended.refused.1 (only-earlier _ _ (no-load-fault _) (only-earlier _ _
-          (λ f a. by-chance (grind (arith, nat_tests, number, fits, of-type, either, never, same-type, where-chance)))
+          (λ f a. by-chance (grind (arith, nat_tests, number, fits, of-type, either, never, only-if IsOfChance, self-number)))
           (λ f a. by-references r.reads_root.root [] r.x r.reads_root.frames r.reads_root.decoded (form-of r.reads_root.root [] r.reads_root.frames r.x r.reads_root.decoded) a)))
           (by-chance tt)
     ]
@@ -303,7 +294,7 @@ module _ {N B W E : Type 0} (m : Seen N B W) (s : MachineState N E) (trees : ℕ
         by-handle c.node (v.node_type r.x) c.h (ap (λ (x : OpenLoad). x.root) (sym same) ∙ c.may.of_node) c.why
     cause w' e (inl gives) = elim gives.meets [
       | inl (refuses, a) ↦ by-chance (of-blob e refuses)
-      | inr (inl (first, asked)) ↦ by-chance (grind (arith, nat_tests, ask-chance, same_some, number, vain-chance, found))
+      | inr (inl (first, asked)) ↦ by-chance (grind (arith, nat_tests, ask-chance, same_some, number, found))
       | inr (inr (inl (kind, key, needs, inl asked))) ↦ let n = need-there kind key (inl needs) in by-chance (nested-asked kind key n.0 gives.mid e n.1 asked)
       | inr (inr (inl (kind, key, needs, inr (blob, is, deep, asked)))) ↦ absurd (let n = (need-there kind key (inl needs)).2 (front reading.frames kind key needs) in omega arith)
       | inr (inr (inr (inl (kind, key, needs, asked)))) ↦ by-chance (of-lazy gives.mid e kind key needs asked)

@@ -31,11 +31,8 @@ some-same is other = cc
 pub some-none : {X A : Type 0} {x : X} {a : Option X} → a ≡ Some x → a ≡ None → A
 some-none is other = absurd (cc)
 
-grows-self : (slot : Slot) → SlotGrows slot slot
-grows-self slot = record { worker = refl; written = λ w is. is; outcome = λ closed. refl }
-
 pub grows : (v : ℕ) (shelf shelf' : Shelf) → Changes v shelf shelf' → ShelfGrows shelf shelf'
-grows v shelf shelf' changes i slot there = grind (arith, grows-self, some-none, some-same)
+grows v shelf shelf' changes i slot there = grind (arith, some-none, some-same)
 
 -- what another claimed stays as it is
 pub others-stay : (v u : ℕ) (shelf shelf' : Shelf) → Changes v shelf shelf' → nat_eq u v ≡ false → (i : Identity) (slot : Slot) → shelf.slots i ≡ Some slot → slot.worker ≡ u
@@ -90,20 +87,12 @@ pub puts-own : (v : ℕ) (shelf shelf' : Shelf) (i : Identity) (old slot : Slot)
     → SlotGrows old slot → Changes v shelf shelf'
 puts-own v shelf shelf' i old slot puts there of_it more = put-by v shelf shelf' i slot puts (is-changed old slot there of_it refl more)
 
--- a first result stays
-pub outcome-grows : (outcome : Outcome) (slot : Slot) → SlotGrows slot (with_outcome outcome slot)
-outcome-grows outcome slot = grind (arith, grows-self)
-
-pub all-failed : (v : ℕ) (shelf shelf' : Shelf) → SameShelf (with_failed shelf v) shelf' → (i : Identity) (slot : Slot) → shelf'.slots i ≡ Some slot → slot.worker ≡ v
-    → is_open_outcome slot.outcome ≡ false
-all-failed v shelf shelf' same i slot there own = grind (arith, some-same)
-
 pub fails-own : (v : ℕ) (shelf shelf' : Shelf) → SameShelf (with_failed shelf v) shelf' → Changes v shelf shelf'
 fails-own v shelf shelf' same i = by (shelf.slots i) refl (same.slots i)
   where
     of-slot : (slot : Slot) → shelf.slots i ≡ Some slot → (b : Bool) → nat_eq slot.worker v ≡ b → shelf'.slots i ≡ Some (if b then with_outcome failed slot else slot)
         → SlotChanges v (shelf.slots i) (shelf'.slots i)
-    of-slot slot there true own is = is-changed slot (with_outcome failed slot) there (grind (arith, nat_tests)) is (outcome-grows failed slot)
+    of-slot slot there true own is = is-changed slot (with_outcome failed slot) there (grind (arith, nat_tests)) is (grind arith)
     of-slot slot there false own is = stays (is ∙ sym there)
 
     by : (o : Option Slot) → shelf.slots i ≡ o → shelf'.slots i ≡ if_there (λ (slot : Slot). Some (if nat_eq slot.worker v then with_outcome failed slot else slot)) None o
@@ -210,17 +199,9 @@ pub record WorkStands (shelves : ℕ → Shelf) (walkings : ℕ → Option Walki
 
 -- below what is done next written nodes and an item wait again after a step
 
-settle-waits : (todo : List Todo) → AllWait todo → WaitsWell (settle todo)
-unfolding AllWait
-settle-waits x0 waits = grind (arith, nat_tests)
-
 pub follows-waits : {W : Type 0} (f : W → Written) (todo : List Todo) (step : Took W) (next : List Todo) → Follows f todo step next → WaitsWell todo → WaitsWell next
 unfolding AllWait
-follows-waits f x1 x2 next x4 waits = grind (arith, nat_tests, settle-waits)
-
-pub first-waits : (task : Task) → WaitsWell (first_todo task)
-unfolding AllWait
-first-waits x0 = grind (arith, nat_tests, settle-waits)
+follows-waits f x1 x2 next x4 waits = grind (arith, nat_tests)
 
 -- A worker's step keeps what stands of its to-do list and of its table.
 
@@ -326,16 +307,7 @@ module _ (v : ℕ) (task : Task) where
 
 -- Each kind of a worker's step: what it does to its list and to the slots.
 
--- what is open about the identity itself
-open-self : (i j : Identity) (rest : Bool) → j ≡ i → (is_identity j i || rest) ≡ true
-open-self i j rest is = subst (λ k. (is_identity k i || rest) ≡ true) (sym is) (or_left (is_identity i i) rest (is-self i))
-
 module _ (v : ℕ) (task : Task) (shelf shelf' : Shelf) where
-  -- what is to be done below stands where the slot of another claim changes
-  below-stays : (i : Identity) (slot : Slot) (below : List Todo) → PutsSlot shelf.slots shelf'.slots i slot → Changes v shelf shelf' → is_open_in i below ≡ false
-      → AllStand shelf v task below → AllStand shelf' v task below
-  below-stays i slot below puts changes apart all = grind (arith, nat_tests, all-stay, false_from_ne_true, true-false, is-same)
-
   abbrev new-slot : Slot
   new-slot = record { worker = v; written = None; outcome = no_result }
 
@@ -356,8 +328,8 @@ module _ (v : ℕ) (task : Task) (shelf shelf' : Shelf) where
       own-goes (identity_of r) new-slot _ puts changes meets_now refl (
         (meets_now, record { slot = new-slot; claimed = puts.at; own = refl; no_result_yet = refl; written_so = refl }),
         (λ i is. subst (λ k. is_open_in k below ≡ false) (is-same i (identity_of r) is) free),
-        below-stays (identity_of r) new-slot below puts changes free rest,
-      ) (grind (arith, nat_tests, put-cases, identity_of, new-slot, open-self, is_open_in, or_right, is_identity))
+        (grind (arith, nat_tests, all-stay, false_from_ne_true, true-false, is-same)),
+      ) (grind (arith, nat_tests, put-cases, identity_of, new-slot, is_open_in, or_right, is_identity, or_left, is-self))
 
   -- the value is written
   pub written-goes : (r : ArcRef) (place : ℕ) (through : HandleNumber) (written : Written) (below : List Todo) → AllStand shelf v task (to_write r place through ∷ below)
@@ -374,8 +346,8 @@ module _ (v : ℕ) (task : Task) (shelf shelf' : Shelf) where
       own-goes (identity_of r) new _ puts changes meets_now (ap is_failed c.no_result_yet) (settles v task shelf' o below (
         (meets_now, record { slot = new; claimed = puts.at; own = c.own; no_result_yet = c.no_result_yet; written_so = refl }),
         apart,
-        below-stays (identity_of r) new below puts changes free rest,
-      )) (grind (arith, nat_tests, or_right, started-open, put-cases, open-self))
+        (grind (arith, nat_tests, all-stay, false_from_ne_true, true-false, is-same)),
+      )) (grind (arith, nat_tests, or_right, started-open, put-cases, is_identity, or_left, is-self))
 
   -- key and height are published
   pub published-goes : (r : ArcRef) (key height : ℕ) (below : List Todo) → AllStand shelf v task (to_publish r key height ∷ below) → CoversBy v task shelf (to_publish r key height ∷ below)
@@ -384,14 +356,14 @@ module _ (v : ℕ) (task : Task) (shelf shelf' : Shelf) where
   published-goes r key height below ((meets, c), apart, rest) covers same =
       let new : Slot = with_outcome (published key height) c.slot in
       let puts : PutsSlot shelf.slots shelf'.slots (identity_of r) new = changes-slot shelf shelf' (identity_of r) c.slot (with_outcome (published key height)) c.claimed same in
-      let changes : Changes v shelf shelf' = puts-own v shelf shelf' (identity_of r) c.slot new puts c.claimed c.own (outcome-grows (published key height) c.slot) in
+      let changes : Changes v shelf shelf' = puts-own v shelf shelf' (identity_of r) c.slot new puts c.claimed c.own (grind arith) in
       let meets_now : Meets shelf' task (identity_of r) = meets-grow shelf shelf' task (identity_of r) (grows v shelf shelf' changes) meets in
       let free : is_open_in (identity_of r) below ≡ false = apart (identity_of r) (is-self (identity_of r)) in
       let known : new.outcome ≡ published key height = (cc) in
       own-goes (identity_of r) new _ puts changes meets_now (ap is_failed known) (
         (meets_now, record { slot = new; claimed = puts.at; known = known }),
         (λ i is. absurd (cc)),
-        below-stays (identity_of r) new below puts changes free rest,
+        (grind (arith, nat_tests, all-stay, false_from_ne_true, true-false, is-same)),
       ) (grind (arith, nat_tests, put-cases, or_cases, true-false, is-same, is-self))
 
   -- all goes
@@ -401,7 +373,7 @@ module _ (v : ℕ) (task : Task) (shelf shelf' : Shelf) where
       record {
         changes = fails-own v shelf shelf' same;
         all = tt;
-        covers = λ i slot there own still. true-false (ap is_open_outcome still) (all-failed v shelf shelf' same i slot there own);
+        covers = λ i slot there own still. true-false (ap is_open_outcome still) (grind (arith, some-same));
         unfailed = λ nothing clean. absurd (cc);
         done = λ a is. refl;
         met = λ i slot none there. some-none there ((same.slots i ∙ ap (λ o. if_there (λ (slot : Slot). Some (if nat_eq slot.worker v then with_outcome failed slot else slot)) None o) none));
@@ -491,6 +463,7 @@ module _ (shelves shelves' : ℕ → Shelf) (walkings walkings' : ℕ → Option
   -- a worker starts
   pub is-started : (v : ℕ) (new : Walking) → last < v → new.todo ≡ first_todo new.task → new.answer ≡ None → walkings' v ≡ Some new
       → ((u : ℕ) → nat_eq u v ≡ false → walkings' u ≡ walkings u) → Turned v shelves shelves' walkings walkings'
+  unfolding AllWait
   is-started v new above first none at others =
       record {
         changes = λ t. same-slots v (shelves t) (shelves' t) (same t);
@@ -502,7 +475,7 @@ module _ (shelves shelves' : ℕ → Shelf) (walkings walkings' : ℕ → Option
           covers = λ i slot is own still. absurd (unclaimed v new.table i slot above is own);
           unfailed = λ nothing i slot is own. absurd (unclaimed v new.table i slot above is own);
           done = λ answer is. some-none is none;
-          waits = subst (λ todo. WaitsWell todo) (sym first) (first-waits new.task);
+          waits = subst (λ todo. WaitsWell todo) (sym first) (grind (arith, nat_tests));
         });
       }
 

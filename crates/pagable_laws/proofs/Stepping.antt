@@ -4,7 +4,7 @@ use Rattle.pagable_laws.proofs.Words.{Among, identity_of, Shelf, Slot, failed, W
 use Rattle.pagable_laws.proofs.Words.{FollowsTo, WroteTree, KeyStands, BlobStands, SlotFits, KeysSoFar, Waits, Above, HasBlob, Walks, SlotsFit, ◌==◌, true, ◌++◌, length, Ok, drop, blob_of}
 use Rattle.pagable_laws.proofs.Words.{HandleNumber, type_of, Claim, Took, no_result, published, Open, Fault, to_start, to_write, to_item, to_set, to_publish, to_release, to_fail, Seen, digest, Stores}
 use Rattle.pagable_laws.proofs.Words.{Site, Does, claim_fault, next_start, give, give_known, open_node, with_wait, answer_after, Expects, Event, EventReply, of_item, of_entry, IsLawful, first_todo}
-use Rattle.pagable_laws.proofs.Words.{Ends, step_of, PagerState, MachineState, world_of, IsMachineWhole, IsIdle, Represents, TookWrites, ReplyWrites, HoldsSettled, ReadsItsTypes, ground_of, WorkFits}
+use Rattle.pagable_laws.proofs.Words.{Ends, MachineState, world_of, IsMachineWhole, IsIdle, Represents, TookWrites, ReplyWrites, HoldsSettled, ReadsItsTypes, ground_of, WorkFits}
 use Rattle.pagable_laws.proofs.{Words.{IsDone, AllLow, IsLow, IsAttained, Placed, HasRoom, is_eager, longest_path, max, above, suc, ◌+◌}, Standing.{ShelfGrows, some-same, published-stays, PutsSlot}}
 use Rattle.pagable_laws.proofs.{Standing.{put-cases, puts-slot, changes-slot, HasClaim, AllStand}, Following.{IdentityStands, key-stands, leads-on, wrote}, Coming.{StandsIn, EventTurns, same-grow}}
 use Rattle.pagable_laws.proofs.Coming.{turns-grow, turns-keep}
@@ -327,12 +327,6 @@ fits-at-first v s trees idle = record { slots = λ t i slot is. let f = idle.she
 
 -- ---- an event
 
--- what a worker wrote in its step is of the node
-took-writes : {N B W E : Type 0} (m : Seen N B W) (s : PagerState N E) (n : ℕ) (event : Event N B W) (reply : EventReply N B W) (taken : Took W) → step_of n event reply ≡ taken ∷ []
-    → ReplyWrites m s reply
-    → TookWrites m.values m.written_of s taken
-took-writes m s n x3 x4 taken is writes = grind (arith, nat_tests)
-
 module _ {N B W E : Type 0} (m : Seen N B W) (s s' : MachineState N E) (trees trees' : ℕ → Tree) (goes : GroundGoes (ground_of s trees) (ground_of s' trees')) (fit : WorkFits m.values s trees)
     (whole : IsMachineWhole m.values s) (represents : Represents m.values s.pager trees) (settled : HoldsSettled m.values s.pager) (reads : ReadsItsTypes m.values.types)
     (lawful : IsLawful m.values) where
@@ -360,7 +354,7 @@ module _ {N B W E : Type 0} (m : Seen N B W) (s s' : MachineState N E) (trees tr
       λ none key b is. (let e = subst (λ a. Ends a k.0 w.after.core s'.pager.core) (w.answers ∙ none) w.ends in e.stored key ∙ is) in
       let d = stepped m k.0 w.walking.task (record { core = s.pager.core; shelf = s.work.shelves w.walking.table; todo = w.walking.todo }) w.after goes more (fit.slots w.walking.table) claimable
       r.took (λ i out is. wrote represents whole.pager settled reads lawful i.node.0 (m.written_of out)
-      (subst (λ (t : Took W). TookWrites m.values m.written_of s.pager t) is (took-writes m s.pager turns.who event reply r.took one writes)))
+      (subst (λ (t : Took W). TookWrites m.values m.written_of s.pager t) is (grind (arith, nat_tests))))
       ends w.walking.todo refl r.took refl w.does.does (work.workers k.0 w.walking w.at).all (fit.walks k.0 w.walking w.at) in
       (d.slots, d.walks)) in
       record { slots = h.slots; walks = h.walks }

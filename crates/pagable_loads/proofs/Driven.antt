@@ -1,6 +1,5 @@
 -- A load's steps, one after another up to its end.
-use Rattle.std.proofs.{Common.{arith, rules, ◌≡◌, List, Some, None, refl, ap, sym, subst, ◌∙◌}, lemmas.Bool.Decides.nat_tests}
-use Rattle.{std.proofs.lemmas.Grind.common_steps, pagable_model.specs.declared.numbers.{LoadNumber.LoadNumber}}
+use Rattle.std.proofs.{Common.{arith, rules, ◌≡◌, List, Some, None, refl, subst}, lemmas.{Bool.Decides.nat_tests, Grind.common_steps}}
 use Rattle.pagable_world.specs.{declared.{events.LoadAnswer.LoadAnswer, handles.Owner.Owner}, World.{Core, Frame, Reading, Values, one_more}, Loads.{GoesOn, gone_on}}
 use Rattle.{pagable_world.specs.{Pager.PagerState, Access.{LoadRun, load-ends, load-goes-on}}, pagable_loads.proofs.Stepped.acts_then}
 use Rattle.pagable_loads.specs.{Frames.{IsLoadOf, frames_of, reading_of}, Stepping.{IsSameLoad, Steps, Runs, HasGone}, declared.reading.Reading.Reading as Own}
@@ -19,10 +18,7 @@ module _ {N E : Type 0} (v : Values N) (me : Owner) where
         same = rw (is_same.load, is_same.node_type, is_same.steps, is) refl
 
         still : IsLoadOf s.core me own → IsLoadOf t.core me next
-        still o =
-            let n = gone.open_still o in
-            let stays = goes_open v me m.core t.core (reading_of now) frames (step.does n).does.does in
-            record { load = n.load; owned = grind (arith, nat_tests); key = n.key ∙ sym is_same.key; sort = n.sort ∙ sym is_same.for_cell }
+        still o = grind (arith, nat_tests, goes_open)
 
     pub ends_so : (answer : LoadAnswer N) (frames : List Frame) → Steps v me now m (Some answer) frames t → Runs v me own s answer t
     ends_so answer frames step = first_of (grind (arith, common_steps, nat_tests), grind (arith, nat_tests, load-ends), search (rules, load-ends))

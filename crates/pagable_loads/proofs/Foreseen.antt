@@ -98,10 +98,7 @@ module _ (types : Types) (t : ℕ) (blob : Blob) where
 -- a row that was found by stand-ins, the last of which is asked for after all others
 pub row_found : (types : Types) (f : Frame) (fs frames : List Frame) (row xs noted : List ArcRef) (last : ArcRef) (b : Bool) → frames ≡ f ∷ fs
     → row ≡ xs ++ last ∷ [] → xs ++ last ∷ [] ≡ f.got ++ noted → b ≡ true → AskedIf types f.node_type f.blob xs last.kind.0 b → IsAhead types frames row
-row_found types f fs frames row xs noted last b there is split found asked =
-    let told : AskedIf types f.node_type f.blob xs last.kind.0 true = subst (AskedIf types f.node_type f.blob xs last.kind.0) found asked in
-    let of_row : kinds_of row ≡ kinds_of xs ++ last.kind.0 ∷ [] = ap kinds_of is ∙ kinds_joined xs (last ∷ []) in
-    record { is = inr (f, fs, there, record { ahead = kinds_of noted; split = ap kinds_of (is ∙ split) ∙ kinds_joined f.got noted; each = λ got k more e. row_asked types f.node_type f.blob xs last.kind told.0 told.1 got k more (sym of_row ∙ e) }) }
+row_found types f fs frames row xs noted last b there is split found asked = grind (arith, nat_tests, kinds_joined, row_asked)
 
 -- what stands in the row behind what was got
 next_in_row : (row got : List ArcRef) (r : ArcRef) (ahead : List ℕ) → kinds_of row ≡ kinds_of got ++ ahead → slice_get row (length got) ≡ Some r → (more : List ℕ) × (ahead ≡ r.kind.0 ∷ more)

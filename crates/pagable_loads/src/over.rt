@@ -15,6 +15,7 @@ use std::alloc::Global;
 use std::sync::Arc;
 
 // Pins a loose handle's cell, and says whether the handle pinned nothing before.
+#[tactic(auto, using(crate::proofs::Stepped::acts_map, crate::proofs::Pinned::start_refused))]
 fn pin_first<E: Env, A: Access<E>>(
     access: &mut A,
     alloc: Global,
@@ -80,6 +81,7 @@ where
 
 /// Reads a key as a value of this type, with all that it refers to and that is read together with it; the handles of its references are the caller's, as the
 /// access is. Refused as the begin of a load and its steps refuse it, and then nothing is left of it.
+#[tactic(auto, using(crate::proofs::Stepped::acts_map, crate::proofs::Pinned::key_refused))]
 pub fn read_over<E: Env, A: Access<E>>(
     access: &mut A,
     alloc: Global,

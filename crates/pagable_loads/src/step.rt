@@ -17,6 +17,7 @@ use std::alloc::Global;
 
 impl Reading {
     // The root's blob comes.
+    #[tactic(auto, using(crate::proofs::Stepped::acts_map, crate::proofs::Stepped::root_refused))]
     fn step_root<E: Env, A: Access<E>>(
         &mut self,
         access: &mut A,
@@ -98,6 +99,7 @@ impl Reading {
     }
 
     // What the innermost blob was read as becomes a node for the blob below it.
+    #[tactic(auto, using(crate::proofs::Lowering::node_leads))]
     fn step_adopt<E: Env, A: Access<E>>(
         &mut self,
         access: &mut A,
@@ -155,6 +157,7 @@ impl Reading {
     }
 
     // The caller gets the value that was read, with its handles.
+    #[tactic(auto, using(crate::proofs::Stepped::acts_map, crate::proofs::Stepped::hands_over))]
     fn step_hand_over<E: Env, A: Access<E>>(
         &mut self,
         access: &mut A,

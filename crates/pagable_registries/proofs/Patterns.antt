@@ -6,7 +6,6 @@ use Rattle.pagable_model.specs.{Gives.memory, Lengths.long_or_memory, Meaning.{p
 use Rattle.pagable_model.specs.{Standing.Is, Steps.◌>>=◌, Writing.{Out, Nesting, WritesSome, NoForm, Refused}}
 use Rattle.pagable_codec.proofs.Writing.{writes_is, writes_bytes, memory_refuses}
 use Rattle.pagable_traits.proofs.{Basics.gives_bytes, Parts.err_along}
-use Rattle.pagable_model.specs.declared.error.Error.TheVariants as errors
 use Rattle.pagable_model.specs.Shape as shapes
 
 -- ---- writing
@@ -57,6 +56,6 @@ faults-text bytes =
     (λ n. faults-after (bytes_at n.0 n.1) checked_text (faults-if (nat_lt (length n.1) n.0) _ _ refl tt) (λ t. faults-if (is_utf8 t.0) _ _ tt refl))
 
 -- want of memory, or a fault of the input: a text is never refused as a pattern is
-pub text_not_refused : {X : Type 0} (view : X → List ℕ × List ℕ) (r : Result X Error) (bytes : List ℕ) → Gives memory view r (text_at bytes) → IfErr r (λ e. e ≢ errors.RegexRefused)
+pub text_not_refused : {X : Type 0} (view : X → List ℕ × List ℕ) (r : Result X Error) (bytes : List ℕ) → Gives memory view r (text_at bytes) → IfErr r (λ e. e ≢ Error.RegexRefused)
 text_not_refused view (Ok x) bytes h = tt
 text_not_refused view (Err e) bytes h = λ is. let fault = faults-text bytes in grind (arith, nat_tests, h, fault, is)

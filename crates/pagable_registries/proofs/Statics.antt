@@ -3,9 +3,8 @@ use Rattle.std.proofs.{Common.{◌≡◌, ℕ, zero, suc, ◌+◌, ◌<◌, ◌�
 use Rattle.std.{proofs.{lemmas.List.{map-append, length-map}, lemmas.Bool.Decides.nat_tests, lemmas.Option.{slice_get_read, get_or_from_slice_get}}, specs.{Prelude.{IsTrue, take}, Int.w32}}
 use Rattle.std.specs.List.{slice_get}
 use Rattle.pagable_model.specs.{Reading.registered, declared.numbers.ArcRef.ArcRef, Numbers.{bound, unsigned_form}, Meaning.{Meaning, lifted}, Shape.static_value, Form.static-form, Standing.Is}
-use Rattle.pagable_model.specs.{Writing.{Out, Nesting, WritesSome}, Statics.{HasEqual, NoEqualBelow}}
+use Rattle.pagable_model.specs.{Writing.{Out, Nesting, WritesSome}, Statics.{HasEqual, NoEqualBelow}, declared.error.Error.Error}
 use Rattle.pagable_codec.proofs.Writing.{writes_bytes}
-use Rattle.pagable_model.specs.declared.error.Error.TheVariants as errors
 
 -- ---- the values of entries
 
@@ -40,7 +39,7 @@ registered_at f [] i x e = absurd cc
 registered_at f (y ∷ ys) zero x e = let same : y ≡ x = cc in rw same refl
 registered_at f (y ∷ ys) (suc i) x e = registered_at f ys i x e
 
-pub unregistered_at : {X : Type 0} (f : X → Meaning ⊥) (xs : List X) (i : ℕ) → length xs ≤ i → registered (map f xs) i ≡ Err errors.BadStaticIndex
+pub unregistered_at : {X : Type 0} (f : X → Meaning ⊥) (xs : List X) (i : ℕ) → length xs ≤ i → registered (map f xs) i ≡ Err Error.BadStaticIndex
 unregistered_at f [] i le = refl
 unregistered_at f (y ∷ ys) i le = grind (arith, nat_tests, unregistered_at f ys)
 

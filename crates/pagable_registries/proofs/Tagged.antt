@@ -9,7 +9,6 @@ use Rattle.pagable_model.specs.{Writing.added, Lengths.long_or_memory, Tagged.{M
 use Rattle.pagable_codec.proofs.{Reading.moves_trans, Writing.{then, memory_refuses}}
 use Rattle.pagable_codec.specs.{declared.env.Env.Ghosts as Environments, declared.deserializer.PagableDeserializer.Ghosts as Deserializers}
 use Rattle.pagable_traits.{proofs.Parts.{ok_along, err_along}, specs.{JsonSteps.context_in, Meanings.Meanings}}
-use Rattle.pagable_model.specs.declared.error.Error.TheVariants as errors
 
 -- ---- writing
 
@@ -100,7 +99,7 @@ read-known context written grammar env readers tag f rest mid e last =
     let p = is-last (λ r. (r.0, grammar r.1 env)) readers tag (tag, f) last.place last.stands (is-same tag) last.last in rw (e, p.0, p.1) refl
 
 read-unknown : {A B F V : Type 0} (context : Context A B) (written : List ℕ → Shape) (grammar : F → V → Shape) (env : V) (readers : List (List ℕ × F)) (tag : List ℕ) (rest mid : Rest A) → bytes_of text_at (λ t. t) rest ≡ Ok (tag, mid) → NoneFor tag readers
-    → read context (tagged_by written (grammars grammar env readers)) rest ≡ Err errors.UnknownTag
+    → read context (tagged_by written (grammars grammar env readers)) rest ≡ Err Error.UnknownTag
 unfolding read read_with
 read-unknown context written grammar env readers tag rest mid e none = rw (e, not-registered (λ r. (r.0, grammar r.1 env)) readers tag none) refl
 
@@ -121,7 +120,7 @@ module _ {D E R N H K V T F : Type 0} (env : Environments E N H K V) (d : Deseri
 
   -- no reader is registered
   pub unknown_read : {a b : D} {tag : List ℕ} (readers known : List (List ℕ × F)) (named : List ℕ) → Tells d (bytes_of text_at (λ t. t) (d.rest a) ≡ Ok (tag, d.rest b)) a b → named ≡ tag
-      → known ≡ readers → NoneFor named known → TellsTagged readers a b (Err errors.UnknownTag)
+      → known ≡ readers → NoneFor named known → TellsTagged readers a b (Err Error.UnknownTag)
   unknown_read {a} {b} {tag} readers known named told same all none =
       record {
         gives = λ written. inl (read-unknown _ written grammar (d.environment a) readers tag _ _ told.gives (rw (same, all) at none));

@@ -1,17 +1,14 @@
 -- A value comes to a node that had none: the handles that it names move to it, and it owns each once. And calls by which a node comes, with its value or without one.
 use Rattle.pagable_laws.proofs.Effects as effects
-use Rattle.pagable_steps.proofs.Words.{◌≡◌, ℕ, ◌+◌, ◌<◌, ◌≤◌, ◌==◌, ◌&&◌, ◌||◌, Bool, true, false, List, [], ◌∷◌, Option, Some, None, Ok, Err, inl, inr, refl, ap, sym, subst, ◌∙◌, if◌then◌else◌}
+use Rattle.pagable_steps.proofs.Words.{◌≡◌, ℕ, ◌+◌, ◌≤◌, ◌==◌, ◌&&◌, ◌||◌, Bool, true, false, List, [], ◌∷◌, Option, Some, None, Ok, Err, inl, inr, refl, ap, sym, subst, ◌∙◌, if◌then◌else◌}
 use Rattle.pagable_steps.proofs.Words.{arith, Result, is_some, not, nat_lt, nat_tests, sum_by-cons, sum_by_push, OptionalDataKey, HandleRow, Owner, Mode, Error, ArcRef, Kind, HandleNumber, LoadNumber}
 use Rattle.pagable_steps.proofs.Words.{Among, is_in, one, times, if_there, type_of, is_loose_kind, is_pinning, is_pin, is_at, owner_value, held, mode_of, pins, Core, Cell, OpenLoad, Values, type_at}
-use Rattle.pagable_steps.proofs.Words.{is_here, usable, row_of, moved, with_node, with_handle, next_node, reference_fault, references_fault, is_named_by, BirthCall, AwayBirthCall, Adopts, LazyCall}
+use Rattle.pagable_steps.proofs.Words.{is_here, usable, row_of, moved, with_node, with_handle, next_node, references_fault, is_named_by, BirthCall, AwayBirthCall, Adopts, LazyCall}
 use Rattle.pagable_steps.proofs.Words.{PagerState, IsWhole, WellFormed, Stands, AreGood, NotValues, good, or-none, named-among, stands-whole, stands-changed, found-number, among-changed, self-number}
-use Rattle.pagable_steps.proofs.Words.{same-number, sum-le, one-less, and_parts, NodeNumber, updated, is_owned_by, is_owner, is_loose, is_in_memory, key_at, Owns, with_mode, without_load, is_owned_in}
+use Rattle.pagable_steps.proofs.Words.{same-number, sum-le, one-less, and_parts, NodeNumber, updated, is_owned_by, is_owner, is_loose, Owns, with_mode, without_load, is_owned_in}
 use Rattle.pagable_steps.proofs.Owning.{At, Has, among-named, same-value, holds_value, settled, sits, not-load, gets-known, OwnsAlike, Spares, owns-then, owns-handle, pinned-here, sits-on, spared}
-use Rattle.pagable_steps.proofs.Owning.{spares-alike, spares-cached, sum-mapped, AreFree, Keeps, Sweeps, spares-keeps, spares-then, spares-same, spares-handle, mode-owns, mode-others, mode-here}
-use Rattle.pagable_steps.proofs.{Words.{with_pin, MayEnd, Installs, NotLoads, row-held, found}, Owning.turned, Falling.{fell, fell-from, load-free}}
-
-unseen : (w : Core) (owner : Owner) (seen : List ℕ) (r : ArcRef) → reference_fault w owner seen r ≡ None → is_in seen r.handle.0 ≡ false
-unseen w owner seen r none = grind (arith, nat_tests)
+use Rattle.pagable_steps.proofs.Owning.{spares-alike, spares-cached, AreFree, Keeps, Sweeps, spares-keeps, spares-then, spares-same, spares-handle, mode-owns, mode-others, mode-here}
+use Rattle.pagable_steps.proofs.{Words.{with_pin, MayEnd, Installs, NotLoads, row-held, found}, Owning.{turned, owns-changed, owns-same, rowed, moved-pins}, Falling.{fell, fell-from, load-free}}
 
 -- references that nothing is to be said against name each handle once at most, and none that was seen
 named-once : (w : Core) (owner : Owner) (seen : List ℕ) (rs : List ArcRef) (q : ℕ) → references_fault w owner seen rs ≡ None → times (λ (r : ArcRef). r.handle.0 == q) rs ≤ one (not (is_in seen q))
@@ -19,7 +16,7 @@ unfolding references_fault is_in
 named-once w owner seen [] q none = omega arith
 named-once w owner seen (r ∷ rs) q none =
     let both = or-none _ _ none in
-    at (r.handle.0 == q) (is_in seen q) (λ e. ap (is_in seen) (sym (same-number _ _ e)) ∙ unseen w owner seen r both.0) (named-once w owner (r.handle.0 ∷ seen) rs q both.1)
+    at (r.handle.0 == q) (is_in seen q) (λ e. ap (is_in seen) (sym (same-number _ _ e)) ∙ (let f = both.0 in grind (arith, nat_tests))) (named-once w owner (r.handle.0 ∷ seen) rs q both.1)
     (sum_by-cons (λ (x : ArcRef). one (x.handle.0 == q)) r rs)
   where
     at : (b c : Bool) → (b ≡ true → c ≡ false) → {k m : ℕ} → k ≤ one (not (b || c)) → m ≡ one b + k → m ≤ one (not c)
@@ -53,29 +50,17 @@ module _ {N E : Type 0} {v : Values N} {s : PagerState N E} (is : WellFormed v s
   right : AreGood w me references
   right = good w me [] references fine
 
-  same-pin : (n : ℕ) (h : HandleRow) (b : Bool) → one (is_pin n (if b then to h else h)) ≡ one (is_pin n h)
-  same-pin n h b = grind (arith, nat_tests)
-
   others : (n : ℕ) → (n == p) ≡ false → OwnsAlike n w given
-  others n other = record {
-    typed = typed;
-    spares = record {
-      each = λ q row own s.
-          effects.moved-free (owner_value n) (is_named_by references) (owner_value p) ((effects.named-free (owner_value n) w me references (free (record { 0 = n })) right).each q row own s) s;
-    };
-    owned = λ h among own. let a = among-changed (λ x. if named x then to x else x) w.rows h among in by a.0 a.1 h own (named a.0) a.2;
-  }
-    where
-      by : (x : HandleRow) → Among w.rows x → (h : HandleRow) → h.owner ≡ owner_value n → (b : Bool) → h ≡ (if b then to x else x) → Among w.rows h
-      by x among h own true is = absurd (let same : p ≡ n = same-value h.owner own (ap (λ (y : HandleRow). y.owner) is) in grind (arith, nat_tests))
-      by x among h own false is = subst (Among w.rows) (sym is) among
+  others n other =
+      let apart : owner_value p ≡ owner_value n → ⊥ = λ own. let same = same-value (owner_value p) refl own in let e = self-number p in grind (arith, nat_tests) in
+      let before = rowed is.whole (is_named_by references) (λ m. effects.named-free (Owner.Value m) w me references (free m) right) in
+      owns-then (owns-changed w named to (λ h. refl) n (λ h among is. (before h among is (record { 0 = n }), apart)) {list = w.list}) (owns-same refl refl typed)
 
   owned : (h : HandleRow) → Among given.rows h → h.owner ≡ owner_value p → named h ≡ true
-  owned h among own = let a = among-changed (λ x. if named x then to x else x) w.rows h among in by a.0 a.1 (named a.0) refl a.2
-    where
-      by : (x : HandleRow) → Among w.rows x → (b : Bool) → named x ≡ b → h ≡ (if b then to x else x) → named h ≡ true
-      by x there true e same = ap named same ∙ e
-      by x there false e same = absurd (subst (At v w p) no_value (sits is p) x there (ap (λ (y : HandleRow). y.owner) (sym same) ∙ own))
+  owned h among own =
+      let a = among-changed (λ x. if named x then to x else x) w.rows h among in
+      let none = subst (At v w p) no_value (sits is p) a.0 a.1 in
+      grind (arith, nat_tests)
 
   new : (x : N) → v.references x ≡ references → type_at given p ≡ Some (v.node_type x) → Has v given p x
   unfolding is_in
@@ -83,22 +68,19 @@ module _ {N E : Type 0} {v : Values N} {s : PagerState N E} (is : WellFormed v s
     typed = its_type;
     names = λ r among.
         let a = right r (subst (λ rs. Among rs r) same among) in
-        let is : named a.row ≡ true = ap (is_named_by references) (found-number r.handle.0 w.rows a.row a.live) ∙ among-named references r (subst (λ rs. Among rs r) same among) in
-        let s = stands-changed named to (λ h. refl) (stands-whole whole.handles r.handle.0 a.row a.live) in
-        let stands = subst (λ b. Stands w.last.handle given.rows r.handle.0 (if b then to a.row else a.row)) is s in
+        let hit : named a.row ≡ true = ap (is_named_by references) (found-number r.handle.0 w.rows a.row a.live) ∙ among-named references r (subst (λ rs. Among rs r) same among) in
+        let s = stands-changed named to (λ h. refl) (stands-whole is.whole.handles r.handle.0 a.row a.live) in
+        let stands = subst (λ b. Stands w.last.handle given.rows r.handle.0 (if b then to a.row else a.row)) hit s in
         record { row = to a.row; stands = stands; at = a.at; owned = refl; fits = a.fits; typed = typed _ _ a.typed };
     once = λ q. subst (λ (rs : List ArcRef). times (λ (r : ArcRef). r.handle.0 == q) rs ≤ 1) (sym same) (named-once w me [] references q fine);
-    owned = λ h among own. let c = named-among (v.references x) h.number.0 (ap (λ rs. is_named_by rs h.number.0) same ∙ owned h among own) in record { r = c.0; among = c.1; is = c.2 };
+    owned = λ h among own. named-among (v.references x) h.number.0 (ap (λ rs. is_named_by rs h.number.0) same ∙ owned h among own);
   }
-    where
-      whole : IsWhole w
-      whole = is.whole
 
   pub receives : Receives v w given s.values references p
   receives = record {
     all = λ o here n. at o here n (n == p) refl;
     value = new;
-    pins = λ n. sum-mapped _ _ _ w.rows (λ h among. same-pin n h (named h));
+    pins = moved-pins w.rows (is_named_by references) (owner_value p);
     named = owned;
     before = others;
   }
@@ -136,41 +118,28 @@ module _ {N E : Type 0} {v : Values N} {s : PagerState N E} (s' : PagerState N E
   no-value = grind (arith, nat_tests)
 
   receives-it : Receives v s.core bearing s.values references next
-  receives-it = receives is free references fine next bearing.cells s.core.loads next typed no-value
-    where
-      typed : (n u : ℕ) → type_at s.core n ≡ Some u → type_at bearing n ≡ Some u
-      typed n u has = grind (arith, nat_tests, no-cell)
+  receives-it = receives is free references fine next bearing.cells s.core.loads next (λ n u has. grind (arith, nat_tests, no-cell)) no-value
 
   pins-made : (n : ℕ) → pins n made.rows ≡ pins n s.core.rows + one ((next == n) && is_pinning mode)
   pins-made n = sum_by_push (λ h. one (is_pin n h)) bearing.rows (row_of (s.core.last.handle + 1) (next_node s.core) mode me) ∙ ap (λ p. p + one ((next == n) && is_pinning mode)) (receives-it.pins n)
 
-  others-hold : (n : ℕ) → (n == next) ≡ false → holds_value made n ≡ holds_value s.core n
-  others-hold n other = let p = pins-made n in grind (arith, nat_tests)
-
   new-cell : bearing.cells next ≡ Some (record { node_type = t; key = own })
   new-cell = ap (λ b. if b then Some (record { node_type = t; key = own }) else s.core.cells next) (self-number next)
-
-  holds-new : holds_value made next ≡ is_here made next
-  holds-new = ap (λ c. is_some c && is_here made next) new-cell
 
   comes : (o : Option N) → At v bearing next o → is_some o ≡ is_here made next → ((n : ℕ) → s'.values n ≡ (if n == next then o else s.values n))
       → ((n : ℕ) → s'.counts n ≡ pins n s'.core.rows) → IsWhole s'.core → WellFormed v s'
   comes o new here values =
       settled s' (λ n. subst (At v s'.core n) (sym (values n)) (sits-on v (owns-then (owns-handle bearing (next_node s.core) mode me free n) (like.owns n)) _ (receives-it.all o new n)))
-      (λ n. ap is_some (values n) ∙ (valued n (n == next) refl ∙ sym (like.holds n)))
-    where
-      valued : (n : ℕ) (b : Bool) → (n == next) ≡ b → is_some (if b then o else s.values n) ≡ holds_value made n
-      valued n true e = here ∙ (sym holds-new ∙ ap (holds_value made) (sym (same-number n next e)))
-      valued n false e = is.valued n ∙ sym (others-hold n e)
+      (λ n.
+      let valued : is_some (if n == next then o else s.values n) ≡ holds_value made n = let v = is.valued n in let h = new-cell in let p = pins-made n in grind (arith, nat_tests, same-number) in
+      ap is_some (values n) ∙ (valued ∙ sym (like.holds n)))
 
   -- with its value
   comes-with : (x : N) → v.node_type x ≡ t → v.references x ≡ references → is_pinning mode ≡ true → ((n : ℕ) → s'.values n ≡ (if n == next then Some x else s.values n))
       → ((n : ℕ) → s'.counts n ≡ pins n s'.core.rows) → IsWhole s'.core → WellFormed v s'
   comes-with x is_typed named pinning =
-      comes (Some x) (receives-it.value x named (ap (λ c. if_there (λ (cell : Cell). Some cell.node_type) None c) new-cell ∙ ap (λ u. Some u) (sym is_typed))) (sym (pinned-here made next pinned))
-    where
-      pinned : 0 < pins next made.rows
-      pinned = let p = pins-made next in let q = self-number next in grind (arith, nat_tests)
+      comes (Some x) (receives-it.value x named (ap (λ c. if_there (λ (cell : Cell). Some cell.node_type) None c) new-cell ∙ ap (λ u. Some u) (sym is_typed))) 
+      (sym (pinned-here made next (let p = pins-made next in let q = self-number next in grind (arith, nat_tests))))
 
   -- and without
   comes-away : (key : ℕ) → own ≡ OptionalDataKey.Some key → references ≡ [] → is_pinning mode ≡ false → ((n : ℕ) → s'.values n ≡ s.values n)
@@ -285,7 +254,7 @@ module _ {N E : Type 0} {v : Values N} {s : PagerState N E} (is : WellFormed v s
 
     -- each node that is in memory has a value
     there : (n : ℕ) → holds_value (with_pin closed-given h node me) n ≡ true → is_some (values n) ≡ true
-    there n holds = at (n == node.0) refl
+    there n holds = let v = is.valued n in let p = same-pins in grind (arith, nat_tests)
       where
         same-pins : (n == node.0) ≡ false → pins n (with_pin closed-given h node me).rows ≡ pins n s.core.rows
         same-pins e =
@@ -295,10 +264,6 @@ module _ {N E : Type 0} {v : Values N} {s : PagerState N E} (is : WellFormed v s
             let c = takes-it.pins n in
             let d : one (is_pin n (row_of (s.core.last.handle + 1) node Mode.Pinned me)) ≡ 0 = rw apart refl in
             omega (arith, a, b, c, d)
-
-        at : (b : Bool) → (n == node.0) ≡ b → is_some (if b then Some x else s.values n) ≡ true
-        at true e = refl
-        at false e = is.valued n ∙ (ap (λ p. is_some (s.core.cells n) && is_in_memory p (key_at s.core n)) (sym (same-pins e)) ∙ holds)
 
     -- what goes is no value's
     none-goes : AreFree (with_pin closed-given h node me) (λ q. is_owned_in s.core (Owner.Load l) q && not (is_named_by (v.references x) q))

@@ -2,12 +2,12 @@
 use Rattle.pagable_laws.proofs.Effects as effects
 use Rattle.std.proofs.lemmas.Bool.{false_from_ne_true}
 use Rattle.pagable_steps.proofs.Owning.{At, Has, AreFree, Keeps, Leaves, Spares, settled, sits, holds_value, same-value, owned-test, among-named, sits-on, stayed, spares-keeps, spares-then}
-use Rattle.pagable_steps.proofs.Words.{◌≡◌, ℕ, suc, zero, ◌+◌, ◌<◌, ◌≤◌, ◌&&◌, Bool, true, false, List, [], ◌∷◌, Option, Some, None, inl, inr, refl, ap, sym, subst, ◌∙◌, if◌then◌else◌, arith, is_some}
+use Rattle.pagable_steps.proofs.Words.{◌≡◌, ℕ, suc, ◌+◌, ◌<◌, ◌&&◌, Bool, true, false, List, [], ◌∷◌, Option, Some, None, inl, inr, refl, ap, sym, subst, ◌∙◌, if◌then◌else◌, arith, is_some}
 use Rattle.pagable_steps.proofs.Words.{not, nat_lt, cond, and_parts, nat_tests, sum_by-cons, sum_by-append, HandleRow, Owner, ArcRef, Among, one, times, if_there, filter, is_at, is_pin, is_owned_by}
 use Rattle.pagable_steps.proofs.Words.{owner_value, held, Core, Cell, Values, type_at, is_here, is_outside, owned_outside, loses_value, AreNewEntries, is_keyed, left_rows, Falls, PagerState}
 use Rattle.pagable_steps.proofs.Words.{WellFormed, is_named_by, Stands, stands-alike, stands-more, among-kept, among-found, found-number, found-kept, none-in-new, le-more, same-owner, sum-le}
-use Rattle.pagable_steps.proofs.Words.{at-most-sum, row-held, fell-away, outlast, fallen, named-among, ◌==◌, ◌||◌, Ok, Err, Result, Error, Mode, Kind, HandleNumber, LoadNumber, NodeNumber, is_in}
-use Rattle.pagable_steps.proofs.Words.{find_row, is_owner, owner_worker, is_in_memory, is_pinning, Alike, key_at, usable, FallsAnyhow, UnpinCall, ReleaseCall, SetKeyCall, ScheduleCall, OfferCall}
+use Rattle.pagable_steps.proofs.Words.{at-most-sum, row-held, fell-away, outlast, fallen, named-among, ◌||◌, Ok, Err, Result, Error, Mode, Kind, HandleNumber, LoadNumber, NodeNumber, is_in}
+use Rattle.pagable_steps.proofs.Words.{find_row, is_owner, owner_worker, is_pinning, Alike, usable, FallsAnyhow, UnpinCall, ReleaseCall, SetKeyCall, ScheduleCall, OfferCall}
 use Rattle.pagable_steps.proofs.Words.{CloseCall, Owns, with_mode, with_key, is_owned_in, numbers_of, Adopts, EndCall, HandOverCall, DropCall, LoadCloses, is_workers_at, is_load_of, WorkerEnds}
 use Rattle.pagable_steps.proofs.Owning.{spares-same, spares-alike, spares-moved, owns-same, mode-owns, mode-others, row-here, rowed, own-free, listed-free, schedules, offers, spares-known, not-load}
 use Rattle.pagable_steps.proofs.Words.{IsWhole, same-number, counted, good, NotValues, neither, stands-whole, among-either, no-pins, slice_get}
@@ -17,19 +17,12 @@ use Rattle.pagable_steps.proofs.Words.{IsWhole, same-number, counted, good, NotV
 -- what passes the test passes it
 passes : {X : Type 0} (test : X → Bool) (xs : List X) (x : X) → Among (filter test xs) x → test x ≡ true
 passes test [] x among = absurd (cc)
-passes {X} test (y ∷ ys) x among = at (λ a. passes test ys x a) (test y) refl among
-  where
-    at : (Among (filter test ys) x → test x ≡ true) → (b : Bool) → test y ≡ b → Among (cond b (y ∷ filter test ys) (filter test ys)) x → test x ≡ true
-    at rest true e (suc i, is) = rest (i, is)
-    at rest b e among = grind (arith, nat_tests)
+passes test (y ∷ ys) x among = grind (arith, nat_tests, filter, cond, passes test ys x)
 
 times-left : (t : HandleRow → Bool) (gone : ℕ → Bool) (rows : List HandleRow) → times t (left_rows gone rows) ≡ times (λ h. t h && is_outside gone h) rows
 times-left t gone [] = refl
 times-left t gone (x ∷ xs) =
-    let more = sum_by-cons (λ h. one (t h)) x (left_rows gone xs) in
-    let all = sum_by-cons (λ h. one (t h && is_outside gone h)) x xs in
-    let rest = times-left t gone xs in
-    grind (arith, nat_tests)
+    grind (arith, nat_tests, sum_by-cons (λ h. one (t h)) x (left_rows gone xs), sum_by-cons (λ h. one (t h && is_outside gone h)) x xs, times-left t gone xs)
 
 -- the list owns new entries
 listed : (last : ℕ) (entries : List HandleRow) → AreNewEntries last entries → (h : HandleRow) → Among entries h → h.owner ≡ Owner.List
@@ -46,25 +39,19 @@ module _ {before w w' : Core} {given : ℕ → Bool} {r : _} (f : Falls before w
       let h = counts (is_at n) in
       let p = counts (is_pin n) in
       let none = no-pins n w.last.handle f.entries f.new in
-      let fewer = sum-le (λ h. one (is_pin n h && is_outside f.gone h)) (λ h. one (is_at n h && is_outside f.gone h)) w.rows (λ h among. pin-at (is_at n h) _ (is_outside f.gone h)) in
+      let fewer = sum-le (λ h. one (is_pin n h && is_outside f.gone h)) (λ h. one (is_at n h && is_outside f.gone h)) w.rows (λ h among. grind (arith, nat_tests)) in
       let cells : w'.cells n ≡ (if nat_lt 0 (held n w'.rows) then Some cell else None) = f.leaves.cells n ∙ rw (f.leaves.rows, live) refl in
       grind (arith, nat_tests)
     where
       counts : (t : HandleRow → Bool) → times t w'.rows ≡ times (λ h. t h && is_outside f.gone h) w.rows + times t f.entries
       counts t = ap (times t) f.leaves.rows ∙ (sum_by-append (λ h. one (t h)) (left_rows f.gone w.rows) f.entries ∙ ap (λ k. k + times t f.entries) (times-left t f.gone w.rows))
 
-      pin-at : (a b c : Bool) → one ((a && b) && c) ≤ one (a && c)
-      pin-at a b c = grind (arith, nat_tests)
-
   -- a row that a value owns was there, and isn't gone
   was : (n : ℕ) (h : HandleRow) → Among w'.rows h → h.owner ≡ owner_value n → Among w.rows h × (f.gone h.number.0 ≡ false)
   was n h (i, at) own = elim (among-either (left_rows f.gone w.rows) f.entries i h (subst (λ rows. slice_get rows i ≡ Some h) f.leaves.rows at)) [
-    | inl left ↦ (among-kept _ w.rows h left, outside (f.gone h.number.0) (passes _ w.rows h left))
+    | inl left ↦ (among-kept _ w.rows h left, (let p = passes _ w.rows h left in grind (arith, nat_tests)))
     | inr new ↦ absurd (let e : Owner.List ≡ owner_value n = sym (listed w.last.handle f.entries f.new h new) ∙ own in cc)
   ]
-    where
-      outside : (b : Bool) → not b ≡ true → b ≡ false
-      outside b e = grind (arith, nat_tests)
 
   left : {q : ℕ} {row : HandleRow} → f.gone q ≡ false → Stands w.last.handle w.rows q row → Stands w'.last.handle w'.rows q row
   left {q} {row} kept s =
@@ -141,14 +128,11 @@ module _ {before w w' : Core} {given : ℕ → Bool} {r : _} (f : Falls before w
 pub fell-from : {N E : Type 0} {v : Values N} {m : Core} {values : ℕ → Option N} → ((n : ℕ) → At v m n (values n)) → ((n : ℕ) → holds_value m n ≡ true → is_some (values n) ≡ true)
     → {before : Core} {given : ℕ → Bool} {r : _} (s' : PagerState N E) → Falls before m given r s'.core → AreFree m given → Leaves values s' → WellFormed v s'
 fell-from {N} {v = v} {m} {values} at there s' f free l =
-    settled s' (λ n. subst (At v s'.core n) (sym (l.swept n)) (at-left f v values at free n)) (λ n. ap is_some (l.swept n) ∙ by n (holds_value s'.core n) refl) l.counted l.whole
+    settled s' (λ n. subst (At v s'.core n) (sym (l.swept n)) (at-left f v values at free n))
+    (λ n. ap is_some (l.swept n) ∙ (let t = there n in let w = was-there n in grind (arith, nat_tests))) l.counted l.whole
   where
     was-there : (n : ℕ) → holds_value s'.core n ≡ true → holds_value m n ≡ true
     was-there n is = let c = same-cell f n (and_parts (is_some (s'.core.cells n)) (is_here s'.core n) is).0 in let g = fell-away f n in grind (arith, nat_tests)
-
-    by : (n : ℕ) (b : Bool) → holds_value s'.core n ≡ b → is_some (if b then values n else None) ≡ b
-    by n true is = there n (was-there n is)
-    by n false is = refl
 
 -- The handles go from a world where values stand as they stood, and none of them is a value's.
 pub fell : {N E : Type 0} {v : Values N} {s s' : PagerState N E} {before m : Core} {given : ℕ → Bool} {r : _} → WellFormed v s → Keeps s.core m → Falls before m given r s'.core → AreFree s.core given
@@ -172,26 +156,20 @@ module _ {w : Core} (whole : IsWhole w) where
 -- an own handle pins no more
 unpin-keeps : {w : Core} {me : Owner} {fits : Mode → Bool} → IsWhole w → (h : HandleNumber) (row : HandleRow) → NotValues me → Owns w me h fits row → row.mode ≡ Mode.LoosePinned
     → Keeps w (with_mode w h Mode.LooseUnpinned)
-unpin-keeps {w} whole h row none owns pinned = record { owns = mode-owns w h Mode.LooseUnpinned row stands (subst NotValues (sym owns.own) none); held = λ n is. at n (row.node.0 == n) refl is }
+unpin-keeps {w} whole h row none owns pinned = record { owns = mode-owns w h Mode.LooseUnpinned row stands (subst NotValues (sym owns.own) none); held = held }
   where
     stands : Stands w.last.handle w.rows h.0 row
     stands = stands-whole whole.handles h.0 row owns.live
 
-    at : (n : ℕ) (b : Bool) → (row.node.0 == n) ≡ b → holds_value (with_mode w h Mode.LooseUnpinned) n ≡ true → holds_value w n ≡ true
-    at n true e is =
-        let here = subst (λ k. is_here w k ≡ true) (same-number _ _ e) (row-here w h row owns.live (ap is_pinning pinned)) in
-        rw ((and_parts (is_some (w.cells n)) _ is).0, here) refl
-    at n false e is = ap (λ p. is_some (w.cells n) && is_in_memory p (key_at w n)) (sym (mode-others w h Mode.LooseUnpinned row stands n e)) ∙ is
+    held : (n : ℕ) → holds_value (with_mode w h Mode.LooseUnpinned) n ≡ true → holds_value w n ≡ true
+    held n is =
+        let here = row-here w h row owns.live (ap is_pinning pinned) in
+        let other = mode-others w h Mode.LooseUnpinned row stands n in
+        grind (arith, nat_tests, same-number)
 
 -- a node gets a key
 keyed-keeps : (w : Core) (node : NodeNumber) (key : ℕ) → Keeps w (with_key w node key)
-keyed-keeps w node key = record { owns = λ n. owns-same refl refl typed; held = held }
-  where
-    typed : (p t : ℕ) → type_at w p ≡ Some t → type_at (with_key w node key) p ≡ Some t
-    typed p t is = grind (arith, nat_tests)
-
-    held : (n : ℕ) → holds_value (with_key w node key) n ≡ true → holds_value w n ≡ true
-    held n is = grind (arith, nat_tests)
+keyed-keeps w node key = record { owns = λ n. owns-same refl refl (λ p t is. grind (arith, nat_tests)); held = λ n is. grind (arith, nat_tests) }
 
 -- ---- the calls
 

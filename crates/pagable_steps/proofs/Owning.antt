@@ -4,11 +4,11 @@ use Rattle.pagable_laws.proofs.Effects as effects
 use Rattle.std.proofs.lemmas.Bool.{false_from_ne_true}
 use Rattle.pagable_steps.proofs.Words.{◌≡◌, ℕ, suc, ◌<◌, ◌≤◌, ◌==◌, ◌&&◌, Bool, true, List, [], ◌∷◌, Option, Some, None, refl, ap, sym, subst, ◌∙◌, arith, is_some, and_parts, nat_tests, HandleRow}
 use Rattle.pagable_steps.proofs.Words.{Owner, ArcRef, Among, one, times, is_handle, is_owner, is_owned_by, owner_value, fits_mode, type_of, pins, Core, Values, type_at, is_here, PagerState, IsWhole}
-use Rattle.pagable_steps.proofs.Words.{WellFormed, HandlesAreWhole, Stands, stands-whole, among-found, found-number, once, same-owner, same-number, sum_by-cons, is_named_by, self-number, at-most-sum}
+use Rattle.pagable_steps.proofs.Words.{WellFormed, HandlesAreWhole, Stands, stands-whole, among-found, found-number, same-owner, same-number, sum_by-cons, is_named_by, self-number, at-most-sum}
 use Rattle.pagable_steps.proofs.Words.{sum-le, sum-zero, counted, one-true, ◌+◌, false, sum_by, map, inl, inr, if◌then◌else◌, nat_lt, sum_by_push, Mode, OptionalDataKey, HandleNumber, NodeNumber}
 use Rattle.pagable_steps.proofs.Words.{SameAt, changed, if_there, is_pin, is_pinning, is_in_memory, Cell, Last, Alike, row_at, key_at, row_of, with_handle, with_mode, with_cached, moved, Kind}
 use Rattle.pagable_steps.proofs.Words.{stands-changed, among-changed, NotValues, row-pins, found-after, Ok, Err, Result, not, slice_get, Beginning, Pinning, Want, Error, Blob, LoadNumber}
-use Rattle.pagable_steps.proofs.Words.{WorkerNumber, is_shared_kind, is_loose_kind, is_pinned_kind, is_at, is_pinned, is_shared, is_share, mode_of, held, usable, only_handle, Owns, with_known}
+use Rattle.pagable_steps.proofs.Words.{WorkerNumber, is_shared_kind, is_loose_kind, is_at, is_shared, is_share, mode_of, usable, only_handle, Owns, with_known}
 use Rattle.pagable_steps.proofs.Words.{CloneCall, PinCall, LoosenCall, ScheduleCall, TakeCall, ReserveCall, RecallCall, OfferCall, ClearCall, Asked, StoreCall, with_worker, with_entry_taken}
 use Rattle.pagable_steps.proofs.Words.{BeginCall, BeginKeyCall, GetsKnown, Given, from_cache, AskCall, IsEntered, entered-of, among-either, handles-once, one-less, only-one, found}
 
@@ -21,18 +21,12 @@ pub record Refers (w : Core) (n : ℕ) (r : ArcRef) : Type 0 where
   pub fits : fits_mode r.kind.0 row.mode ≡ true
   pub typed : type_at w r.node.0 ≡ Some (type_of r.kind.0)
 
--- a reference to this handle is one of them
-pub record IsNamed (references : List ArcRef) (h : HandleRow) : Type 0 where
-  pub r : ArcRef
-  pub among : Among references r
-  pub is : r.handle.0 ≡ h.number.0
-
 -- the value of the node is of its type, and owns what it refers to
 pub record Has {N : Type 0} (v : Values N) (w : Core) (n : ℕ) (x : N) : Type 0 where
   pub typed : type_at w n ≡ Some (v.node_type x)
   pub names : (r : ArcRef) → Among (v.references x) r → Refers w n r
   pub once : (q : ℕ) → times (λ (r : ArcRef). r.handle.0 == q) (v.references x) ≤ 1
-  pub owned : (h : HandleRow) → Among w.rows h → h.owner ≡ owner_value n → IsNamed (v.references x) h
+  pub owned : (h : HandleRow) → Among w.rows h → h.owner ≡ owner_value n → (r : ArcRef) × Among (v.references x) r × (r.handle.0 ≡ h.number.0)
 
 -- what is so of a node with this value, or without one
 abbrev pub At : {N : Type 0} → Values N → Core → ℕ → Option N → Type 0
@@ -97,7 +91,7 @@ module _ {N E : Type 0} {v : Values N} {s : PagerState N E} (is : WellFormed v s
         owned = λ h among own.
             let some = some-there (owns n h.number.0) s.core.rows h among (owns-test n h.number.0 h refl own) in
             let c = there-some (λ (r : ArcRef). r.handle.0 == h.number.0) (v.references x) (subst (λ k. 0 < k) (sym (is.inside n x h.number.0 e)) some) in
-            record { r = c.0; among = c.1; is = same-number _ _ c.2 };
+            (c.0, c.1, same-number _ _ c.2);
       }
 
 -- and nothing else of values
@@ -109,21 +103,15 @@ settled {N} {v = v} s all valued counts whole = record {
   valued = valued;
   typed = λ n x e. (has n x e).typed;
   inside = λ n x q e. inside n x q (has n x e);
-  bare = λ n e. none-there (is_owned_by (owner_value n)) s.core.rows (λ h among own. bare n e h among (same-owner (owner_value n) h.owner own));
+  bare = λ n e. none-there (is_owned_by (owner_value n)) s.core.rows (λ h among own. subst (At v s.core n) e (all n) h among (same-owner (owner_value n) h.owner own));
   references = λ n x r e among. let a = (has n x e).names r among in record { row = a.row; live = a.stands.live; at = a.at; owned = a.owned; fits = a.fits; typed = a.typed };
 }
   where
     has : (n : ℕ) (x : N) → s.values n ≡ Some x → Has v s.core n x
     has n x e = subst (At v s.core n) e (all n)
 
-    bare : (n : ℕ) → s.values n ≡ None → At v s.core n None
-    bare n e = subst (At v s.core n) e (all n)
-
-    both-once : (a b : ℕ) → a ≤ 1 → b ≤ 1 → (0 < a → 0 < b) → (0 < b → 0 < a) → a ≡ b
-    both-once a b le le' up down = grind arith
-
     inside : (n : ℕ) (x : N) (q : ℕ) → Has v s.core n x → times (λ (r : ArcRef). r.handle.0 == q) (v.references x) ≡ times (owns n q) s.core.rows
-    inside n x q a = both-once _ _ (a.once q) (owns-once whole.handles n q) up down
+    inside n x q a = let le = a.once q in let few = owns-once whole.handles n q in let more = up in let less = down in grind arith
       where
         up : 0 < times (λ (r : ArcRef). r.handle.0 == q) (v.references x) → 0 < times (owns n q) s.core.rows
         up some =
@@ -137,7 +125,7 @@ settled {N} {v = v} s all valued counts whole = record {
             let c = there-some (owns n q) s.core.rows some in
             let both = and_parts (is_handle q c.0) (is_owned_by (owner_value n) c.0) c.2 in
             let named = a.owned c.0 c.1 (same-owner (owner_value n) c.0.owner both.1) in
-            some-there (λ (r : ArcRef). r.handle.0 == q) (v.references x) named.r named.among (ap (λ m. m == q) named.is ∙ both.0)
+            some-there (λ (r : ArcRef). r.handle.0 == q) (v.references x) named.0 named.1 (ap (λ m. m == q) named.2 ∙ both.0)
 
 -- what the value of the node owns stays as it is, and nodes their types
 pub record OwnsAlike (n : ℕ) (w m : Core) : Type 0 where
@@ -229,10 +217,7 @@ spared v s s' is spares same =
     settled s' (λ n. subst (At v s'.core n) (sym (same n)) (sits-on v (spares.owns n) (s.values n) (sits is n))) (λ n. ap is_some (same n) ∙ is.valued n ∙ sym (spares.holds n))
 
 pub stayed : {N E : Type 0} {v : Values N} {s s' : PagerState N E} → WellFormed v s → Spares s.core s'.core → Leaves s.values s' → WellFormed v s'
-stayed {N} {v = v} {s} {s'} is spares left = spared v s s' is spares (λ n. left.swept n ∙ at (s.values n) _ (is.valued n ∙ sym (spares.holds n))) left.counted left.whole
-  where
-    at : (o : Option N) (b : Bool) → is_some o ≡ b → (if b then o else None) ≡ o
-    at x0 x1 e = grind (arith, nat_tests)
+stayed {N} {v = v} {s} {s'} is spares left = spared v s s' is spares (λ n. left.swept n ∙ (let e = is.valued n ∙ sym (spares.holds n) in grind (arith, nat_tests))) left.counted left.whole
 
 -- ---- one more handle
 
@@ -265,49 +250,44 @@ module _ (w : Core) (node : NodeNumber) (mode : Mode) (me : Owner) (free : NotVa
   pub spares-handle : (is_pinning mode ≡ true → is_here w node.0 ≡ true) → Spares w (with_handle w node mode me)
   spares-handle may = record {
     owns = owns-handle;
-    holds = λ n. ap (λ p. is_some (w.cells n) && is_in_memory p (key_at w n)) (sum_by_push (λ h. one (is_pin n h)) w.rows new) ∙ (grind (arith, nat_tests, here-at));
+    holds = λ n. ap (λ p. is_some (w.cells n) && is_in_memory p (key_at w n)) (sum_by_push (λ h. one (is_pin n h)) w.rows new) ∙ (let f = same-number node.0 n in grind (arith, nat_tests));
   }
-    where
-      here-at : (n : ℕ) → (node.0 == n) ≡ true → is_pinning mode ≡ true → is_here w n ≡ true
-      here-at n same pinning = subst (λ m. is_here w m ≡ true) (same-number _ _ same) (may pinning)
 
   pub spares-made : {w' : Core} → (is_pinning mode ≡ true → is_here w node.0 ≡ true) → Alike (with_handle w node mode me) w' → Spares w w'
   spares-made may a = spares-then (spares-handle may) (spares-alike a)
 
 -- ---- rows that change
 
--- those that change are no value's, before and afterwards
-module _ (w : Core) (test : HandleRow → Bool) (f : HandleRow → HandleRow) (numbers : (h : HandleRow) → (f h).number ≡ h.number)
-    (free : (h : HandleRow) → Among w.rows h → test h ≡ true → NotValues h.owner × NotValues (f h).owner) where
-  pub owns-changed : {list : List HandleNumber} (n : ℕ) → OwnsAlike n w (record w { rows = changed test f w.rows; list = list })
-  owns-changed n = record {
+-- those that change aren't this value's, before or afterwards
+module _ (w : Core) (test : HandleRow → Bool) (f : HandleRow → HandleRow) (numbers : (h : HandleRow) → (f h).number ≡ h.number) (n : ℕ)
+    (free : (h : HandleRow) → Among w.rows h → test h ≡ true → (h.owner ≡ owner_value n → ⊥) × ((f h).owner ≡ owner_value n → ⊥)) where
+  pub owns-changed : {list : List HandleNumber} → OwnsAlike n w (record w { rows = changed test f w.rows; list = list })
+  owns-changed = record {
     typed = λ p t is. is;
     spares = record {
-      each = λ q row own s. subst (λ x. Stands w.last.handle (changed test f w.rows) q x) (kept row (among-found q w.rows row s.live) own (test row) refl) (stands-changed test f numbers s);
+      each = λ q row own s.
+          let no = free row (among-found q w.rows row s.live) in
+          let e : (if test row then f row else row) ≡ row = grind (arith, nat_tests) in
+          subst (λ x. Stands w.last.handle (changed test f w.rows) q x) e (stands-changed test f numbers s);
     };
-    owned = λ h among own. let a = among-changed (λ x. if test x then f x else x) w.rows h among in back a.0 a.1 h own (test a.0) refl a.2;
+    owned = λ h among own.
+        let a = among-changed (λ x. if test x then f x else x) w.rows h among in
+        let no = free a.0 a.1 in
+        let e : a.0 ≡ h = grind (arith, nat_tests) in
+        subst (Among w.rows) e a.1;
   }
-    where
-      kept : (row : HandleRow) → Among w.rows row → row.owner ≡ owner_value n → (b : Bool) → test row ≡ b → (if b then f row else row) ≡ row
-      kept row among own true is = absurd ((free row among is).0 (record { 0 = n }) own)
-      kept row among own false is = refl
 
-      back : (x : HandleRow) → Among w.rows x → (h : HandleRow) → h.owner ≡ owner_value n → (b : Bool) → test x ≡ b → h ≡ (if b then f x else x) → Among w.rows h
-      back x among h own true is e = absurd ((free x among is).1 (record { 0 = n }) (ap (λ (y : HandleRow). y.owner) (sym e) ∙ own))
-      back x among h own false is e = subst (Among w.rows) (sym e) among
+-- handles that move pin as before
+pub moved-pins : (rows : List HandleRow) (set : ℕ → Bool) (owner : Owner) (n : ℕ) → pins n (moved set owner rows) ≡ pins n rows
+moved-pins rows set owner n =
+    sum-mapped (λ h. if set h.number.0 then record h { owner = owner } else h) (λ h. one (is_pin n h)) (λ h. one (is_pin n h)) rows (λ h among. grind (arith, nat_tests))
 
 -- handles that aren't values' move to another who is none
 pub spares-moved : (w : Core) (set : ℕ → Bool) (owner : Owner) {list : List HandleNumber} → NotValues owner → AreFree w set → Spares w (record w { rows = moved set owner w.rows; list = list })
 spares-moved w set owner free before = record {
-  owns = owns-changed w (λ h. set h.number.0) to (λ h. refl) (λ h among is. (before h among is, free));
-  holds = λ n. ap (λ p. is_some (w.cells n) && is_in_memory p (key_at w n)) (sum-mapped _ _ _ w.rows (λ h among. same-pin n h (set h.number.0)));
+  owns = λ n. owns-changed w (λ h. set h.number.0) (λ h. record h { owner = owner }) (λ h. refl) n (λ h among is. (before h among is (record { 0 = n }), free (record { 0 = n })));
+  holds = λ n. ap (λ p. is_some (w.cells n) && is_in_memory p (key_at w n)) (moved-pins w.rows set owner n);
 }
-  where
-    to : HandleRow → HandleRow
-    to h = record h { owner = owner }
-
-    same-pin : (n : ℕ) (h : HandleRow) (b : Bool) → one (is_pin n (if b then to h else h)) ≡ one (is_pin n h)
-    same-pin n h b = grind (arith, nat_tests)
 
 -- the one row of a handle that isn't a value's takes another mode
 module _ (w : Core) (h : HandleNumber) (mode : Mode) (row : HandleRow) (stands : Stands w.last.handle w.rows h.0 row) where
@@ -318,15 +298,13 @@ module _ (w : Core) (h : HandleNumber) (mode : Mode) (row : HandleRow) (stands :
   is-row x among is = stands.only x among (same-number _ _ is)
 
   pub mode-owns : NotValues row.owner → (n : ℕ) → OwnsAlike n w (with_mode w h mode)
-  mode-owns free = owns-changed w (is_handle h.0) to (λ x. refl) (λ x among is. let f = subst (λ (y : HandleRow). NotValues y.owner) (sym (is-row x among is)) free in (f, f))
+  mode-owns free n =
+      owns-changed w (is_handle h.0) to (λ x. refl) n (λ x among is. let f = subst (λ (y : HandleRow). NotValues y.owner) (sym (is-row x among is)) free (record { 0 = n }) in (f, f))
 
   -- other nodes are pinned as often
   pub mode-others : (n : ℕ) → (row.node.0 == n) ≡ false → pins n (with_mode w h mode).rows ≡ pins n w.rows
-  mode-others n other = sum-mapped _ _ _ w.rows (λ x among. at x among (is_handle h.0 x) refl)
-    where
-      at : (x : HandleRow) → Among w.rows x → (b : Bool) → is_handle h.0 x ≡ b → one (is_pin n (if b then to x else x)) ≡ one (is_pin n x)
-      at x among false e = refl
-      at x among true e = let f : (x.node.0 == n) ≡ false = ap (λ (y : HandleRow). y.node.0 == n) (is-row x among e) ∙ other in rw f refl
+  mode-others n other =
+      sum-mapped (λ x. if is_handle h.0 x then to x else x) (λ x. one (is_pin n x)) (λ x. one (is_pin n x)) w.rows (λ x among. (let r = is-row x among in grind (arith, nat_tests)))
 
   -- its own is pinned, if the mode is one that pins
   pub mode-here : is_pinning mode ≡ true → is_here (with_mode w h mode) row.node.0 ≡ true
@@ -335,11 +313,10 @@ module _ (w : Core) (h : HandleNumber) (mode : Mode) (row : HandleRow) (stands :
       row-here (with_mode w h mode) h (to row) (found-after (is_handle h.0) to (λ x. refl) h.0 w.rows row stands.live ∙ ap (λ b. Some (if b then to row else row)) number) pinning
 
   pub spares-mode : NotValues row.owner → is_pinning mode ≡ true → is_here w row.node.0 ≡ true → Spares w (with_mode w h mode)
-  spares-mode free pinning here = record { owns = mode-owns free; holds = λ n. at n (row.node.0 == n) refl }
-    where
-      at : (n : ℕ) (b : Bool) → (row.node.0 == n) ≡ b → holds_value (with_mode w h mode) n ≡ holds_value w n
-      at n true is = ap (λ b. is_some (w.cells n) && b) (subst (λ k. is_here (with_mode w h mode) k ≡ is_here w k) (same-number _ _ is) (mode-here pinning ∙ sym here))
-      at n false is = ap (λ p. is_some (w.cells n) && is_in_memory p (key_at w n)) (mode-others n is)
+  spares-mode free pinning here = record {
+    owns = mode-owns free;
+    holds = λ n. (let m = mode-here pinning in let o = mode-others n in let s = same-number row.node.0 n in grind (arith, nat_tests));
+  }
 
 -- ---- calls by which no value comes or goes
 
@@ -365,13 +342,12 @@ stores (Ok key) c = let a = c.stores.1.leaves in spares-same a.rows a.cells (ap 
 stores (Err e) c = asked c.refused.0
 
 pub begins : {w w' : Core} {me : Owner} {h : HandleNumber} (r : Result Beginning Error) → BeginCall w me h r w' → Spares w w'
-begins (Ok Beginning.InMemory) c = spares-alike c.begins.2.1
 begins {w} (Ok (Beginning.Load l key)) c =
     let row : HandleRow = c.begins.0 in
     let a = c.begins.2.4.2 in
     spares-then
     (spares-handle w row.node Mode.LooseUnpinned (Owner.Load l) (not-load l) (λ is. absurd (let e : false ≡ true = is in cc))) (spares-same a.rows a.cells (ap (λ (l : Last). l.handle) a.last))
-begins (Err e) c = spares-alike c.refused.stays
+begins x0 c = grind (arith, nat_tests, spares-alike)
 
 pub begins-key : {w w' : Core} {me : Owner} {key : ℕ} (r : Result Beginning Error) → BeginKeyCall w me key r w' → Spares w w'
 begins-key (Ok (Beginning.Load l k)) c = let a = c.begins.2 in spares-same a.rows a.cells (ap (λ (l : Last). l.handle) a.last)
@@ -416,10 +392,7 @@ module _ {w : Core} (whole : IsWhole w) where
     loosens {h = h} (Ok k) c =
         let row : HandleRow = c.turned.0 in
         let owns = c.turned.1 in
-        spares-then (turned h row owns (row-here w h row owns.live (pins-mode row.mode owns.as_asked))) (spares-alike c.turned.3)
-      where
-        pins-mode : (mode : Mode) → is_pinned mode ≡ true → is_pinning mode ≡ true
-        pins-mode mode is = grind (arith, nat_tests)
+        spares-then (turned h row owns (row-here w h row owns.live (let m = owns.as_asked in grind (arith, nat_tests)))) (spares-alike c.turned.3)
     loosens (Err e) c = spares-alike c.refused.1
 
     pub schedules : {w' : Core} {h : HandleNumber} → w.closed ≡ false → (r : Result (Unit {0}) Error) → ScheduleCall w me h r w' → Spares w w'
@@ -442,12 +415,9 @@ module _ {w : Core} (whole : IsWhole w) where
       entered : IsEntered kind key n w.cache w.cells
       entered = entered-of kind key n w known
 
-      some-held : is_some (w.cells n) ≡ true → is_some (w.cells n) ≡ nat_lt 0 (held n w.rows) → 0 < held n w.rows
-      some-held there live = grind (arith, nat_tests)
-
       shared : is_shared_kind kind ≡ true → is_here w n ≡ true
       shared is =
-          let holds = counted (λ h. one (is_at n h)) w.rows (some-held entered.there (whole.handles.live n)) in
+          let holds = counted (λ h. one (is_at n h)) w.rows (let there = entered.there in let live = whole.handles.live n in grind (arith, nat_tests)) in
           let at : (holds.0.node.0 == n) ≡ true = one-true _ holds.2 in
           let shares : is_shared holds.0.mode ≡ true = (whole.cache kind key n entered.entry).shares holds.0 holds.1 (same-number _ _ at) ∙ is in
           let one_share : one (is_share n holds.0) ≡ 1 = rw (at, shares) refl in
@@ -455,12 +425,9 @@ module _ {w : Core} (whole : IsWhole w) where
           let unkeyed = whole.handles.unkeyed n (omega (arith, one_share, le)) in
           grind (arith, nat_tests)
 
-      pinned : is_pinned_kind kind ≡ true → is_here w n ≡ true
-      pinned is = grind (arith, nat_tests, entered, not, is_some, is_here)
-
       by : (a : Bool) → is_shared_kind kind ≡ a → (b : Bool) → is_loose_kind kind ≡ b
           → is_pinning (if a then Mode.Shared else if b then Mode.LooseUnpinned else Mode.Pinned) ≡ true → is_here w n ≡ true
-      by x0 e x2 f pinning = grind (arith, nat_tests, shared, pinned)
+      by x0 e x2 f pinning = grind (arith, nat_tests, shared, entered, not, is_some, is_here)
 
   -- a handle of such a node
   pub spares-known : {owner : Owner} (kind : Kind) (key n : ℕ) → NotValues owner → usable w kind.0 key ≡ Some n → Spares w (with_known w kind n owner)
@@ -476,11 +443,8 @@ module _ {w : Core} (whole : IsWhole w) where
   offers {h = h} (Ok (Some k)) back c = elim c.answers.3 [
     | inl (closed, same, a) ↦ spares-alike a
     | inr (open_still, (n, known, next, f)) ↦
-        absurd (above-last _ _ _ (ap (λ (x : HandleNumber). x.0) (back k refl)) next.above (stands-whole whole.handles h.0 c.answers.0 c.answers.1.live).given)
+        absurd (omega (arith, ap (λ (x : HandleNumber). x.0) (back k refl), next.above, (stands-whole whole.handles h.0 c.answers.0 c.answers.1.live).given))
   ]
-    where
-      above-last : (a b last : ℕ) → a ≡ b → a ≡ last + 1 → b ≤ last → ⊥
-      above-last a b last same next few = absurd (omega arith)
   offers x0 back c = grind (arith, nat_tests, spares-same, spares-alike)
 
   -- ---- loads

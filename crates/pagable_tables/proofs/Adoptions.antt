@@ -2,10 +2,9 @@
 use Rattle.pagable_tables.proofs.Words.{◌≡◌, ℕ, ◌<◌, ◌≤◌, Bool, true, false, if◌then◌else◌, refl, ap, ◌∙◌, arith, Ok, Err, Some, None, inl, inr, not, is_some, Result, [], Error, HandleNumber}
 use Rattle.pagable_tables.proofs.Words.{LoadNumber, NodeNumber, Kind, Owner, Mode, is_loose_kind, is_shared, mode_of, Core, OpenLoad, greatest, usable, Alike, rank, earlier, refused_if, spent}
 use Rattle.pagable_tables.proofs.Words.{load_fault, OwnsLoad, Refused, birth_fault, node_fault, lazy_fault, adopted, LazyCall, OptionalDataKey, Makes, nat_tests, ◌==◌, List, Option, ArcRef, type_of}
-use Rattle.pagable_tables.proofs.Words.{or_else, references_fault, AreHandlesFull, FallsAnyhow, with_handle, is_named_by, adopt_fault, first_key, Adopts, early_fault, OnlyRoom, ◌&&◌, ◌≢◌}
-use Rattle.pagable_tables.proofs.{Words.{◌⊎◌, with_cached}, Opened.{earlier-first, load-low, no-load-fault, late, kind-late, references-low}, Readied.{fault-by, room-alike}}
-use Rattle.pagable_tables.proofs.{Worlds.{still, usable-same}, keeps.{EndCalls.both-none}}
-use Rattle.pagable_world.specs.Calls.{IsNext}
+use Rattle.pagable_tables.proofs.Words.{or_else, references_fault, AreHandlesFull, FallsAnyhow, with_handle, is_named_by, adopt_fault, first_key, Adopts, early_fault, OnlyRoom, ◌&&◌, ◌≢◌, ◌⊎◌}
+use Rattle.pagable_tables.proofs.{Words.with_cached, Opened.{earlier-first, load-low, no-load-fault, late, kind-late, references-low}, Readied.{fault-by, room-alike}, Worlds.{still, usable-same}}
+use Rattle.{pagable_tables.proofs.keeps.EndCalls.both-none, pagable_world.specs.Calls.IsNext}
 
 pub node-late : (w : Core) (kind : Kind) (key : ℕ) (f : Error) → node_fault w kind key ≡ Some f → 4 ≤ rank f
 node-late w kind key f is = grind (arith, nat_tests)

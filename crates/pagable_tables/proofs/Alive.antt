@@ -3,8 +3,7 @@ use Rattle.pagable_tables.proofs.Words.{◌≡◌, ℕ, ◌+◌, ◌<◌, ◌≤
 use Rattle.pagable_tables.proofs.Words.{arith, Some, None, slice_get, nat_tests, sum_by-cons, All-set, ◌⊎◌, cases_eq, get_or_default, get_or_from_slice_get, slice_get_within, sum_by-set}
 use Rattle.pagable_tables.proofs.Words.{get_or-le-sum_by, sum_by-le-sum_by, HandleRow, one, changed, find_row, is_handle, left_rows, IsNext, live, alive, is_live_place, IsBefore, Place, AreSound}
 use Rattle.pagable_tables.proofs.Words.{Handles, All-push, all_pairs_push, length-append, slice_get-get_or, AllPairs, times, take, get_or-set_other, length-set, get_or-set_at, drop, ◌≢◌}
-use Rattle.pagable_tables.proofs.Left.{left-none, ones}
-use Rattle.std.proofs.lemmas.List.{get_or-take, get_or-drop, length-take-le, length-drop, set_split, set-get_or}
+use Rattle.{pagable_tables.proofs.Left.{left-none, ones}, std.proofs.lemmas.List.{get_or-take, get_or-drop, length-take-le, length-drop, set_split, set-get_or}}
 
 -- the rows but for one number
 abbrev without : ℕ → List HandleRow → List HandleRow

@@ -2,7 +2,7 @@
 use Rattle.pagable_tables.proofs.Words.{sum_by, ◌≡◌, ℕ, ◌+◌, ◌<◌, ◌≤◌, false, List, [], ◌∷◌, ◌++◌, length, ap, sym, ◌∙◌, subst, arith, Option, Some, None, inl, inr, ◌≢◌, not, IsSome, nat_tests}
 use Rattle.pagable_tables.proofs.Words.{cases_eq, sum_by_push, ArcRef, HandleRow, Owner, Mode, one, SameAt, held, is_pinning, is_owner, owner_value, Counts, holds_in, falls_in, Right, Fits}
 use Rattle.pagable_tables.proofs.Words.{owns_nothing, named, is_valued, cell_in, ◌==◌, ◌&&◌, true, get_or, slice_get, get_or-le-sum_by, sum_by-le-sum_by, HandleNumber, times, find_row, is_handle}
-use Rattle.pagable_tables.proofs.{Words.{is_owned_by, Place, live, alive, IsBefore, AllPairs, is_at, slice_get-get_or}, Fitting.{pin_of, handle_of, is_owned, pin-here, held-here, pins-le-held}}
+use Rattle.pagable_tables.proofs.{Words.{is_owned_by, Place, live, alive, IsBefore, AllPairs, is_at, slice_get-get_or}, Fitting.{handle_of, is_owned, pin-here, held-here, pins-le-held}}
 use Rattle.pagable_tables.proofs.{Alive.{length-live-le, none-found, only-row, row-le-live}, Bits.one-le, Left.ones}
 
 pub no-value : (n : ℕ) (o : Owner) → is_valued o ≡ false → is_owner (owner_value n) o ≡ false

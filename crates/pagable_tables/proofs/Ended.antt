@@ -1,10 +1,9 @@
 -- Where no node falls any more, all has gone that had to go, and no more. Values that go as nodes fall.
-use Rattle.pagable_tables.proofs.Words.{IsLeast, ◌≡◌, ℕ, ◌+◌, ◌≤◌, ◌&&◌, Bool, true, false, if◌then◌else◌, List, [], ◌∷◌, sum_by, refl, ap, sym, ◌∙◌, subst, arith, inl, inr, Option, None, ◌⊎◌}
-use Rattle.pagable_tables.proofs.Words.{is_some, nat_lt, nat_eq, Result, nat_tests, sum_by-cons, Error, OptionalDataKey, ArcRef, HandleRow, one, times, if_there, is_at, is_pin, is_owned_by}
-use Rattle.pagable_tables.proofs.Words.{owner_value, held, pins, has_key, Core, Cell, greatest, Alike, IsClosed, is_keyed, MustList, TellsListing, CannotList, IsListRefusal, Falls, fallen}
-use Rattle.pagable_tables.proofs.Words.{pins_outside, held_outside, Counts, Holdings, live, counts_at, refs_at, Fits, IsFalling, Right, holds_in, falls_in, keyed_in, cell_in, HasFallen, owns}
-use Rattle.pagable_tables.proofs.{Words.{owns_nothing, with_tables, told_by, SoFar, length, is_valued, valued, ValueStays, Sheds, has_value, sum_by-le-sum_by}, Left.{entries-none, ones}}
-use Rattle.pagable_tables.proofs.{Telling.counted, Fitting.first-waits, Bits.one-le, Worlds.same-cache}
+use Rattle.pagable_tables.proofs.Words.{IsLeast, ◌≡◌, ℕ, ◌≤◌, ◌&&◌, Bool, true, false, if◌then◌else◌, List, [], ◌∷◌, sum_by, refl, ap, sym, ◌∙◌, arith, inl, Option, None, ◌⊎◌, is_some, nat_eq}
+use Rattle.pagable_tables.proofs.Words.{nat_tests, sum_by-cons, Error, ArcRef, HandleRow, one, times, is_at, is_pin, is_owned_by, owner_value, held, Core, Alike, IsClosed, is_keyed, CannotList}
+use Rattle.pagable_tables.proofs.Words.{IsListRefusal, Falls, fallen, pins_outside, held_outside, Counts, Holdings, live, counts_at, refs_at, Fits, IsFalling, falls_in, HasFallen, owns, owns_nothing}
+use Rattle.pagable_tables.proofs.{Words.{with_tables, told_by, SoFar, length, is_valued, valued, ValueStays, Sheds, has_value, sum_by-le-sum_by}, Left.{entries-none, ones}, Entries.counted}
+use Rattle.pagable_tables.proofs.{Fitting.first-waits, Bits.one-le, Worlds.same-cache}
 
 stands : (at : ℕ → Option Counts) (refs : ℕ → List ArcRef) (rows : List HandleRow) (top : ℕ) → Fits at refs rows top [] owns_nothing → (n : ℕ) → falls_in (at n) ≡ false
 stands at refs rows top fits n = let a = fits.marked n in grind (arith, nat_tests)

@@ -1,8 +1,63 @@
--- The list gives up all that it owns, while no cell is listed.
-use Rattle.pagable_tables.proofs.Words.{◌≡◌, ℕ, ◌<◌, ◌++◌, Bool, false, not, List, [], ◌∷◌, filter, map, refl, ap, sym, ◌∙◌, subst, arith, Option, Some, None, nat_tests}
-use Rattle.pagable_tables.proofs.Words.{append-nil, sum_by-cons, sum_by-le-sum_by, HandleNumber, HandleRow, Owner, one, times, if_there, is_at, is_handle, is_owned_by, find_row, held, Core}
-use Rattle.pagable_tables.proofs.{Words.{FallsAnyhow, is_owned_in, is_listed, Holdings, SoFar, IsApart}, Alive.none-found, Begun.shut-then, Left.{and_one, of_list}, keeps.Rows.{found-among, only-row}}
+-- What is known of handles and cells once a handle has gone: what still counts, which handle is a last pin, and why an entry did not come. And the list gives up all that it owns.
+use Rattle.pagable_tables.proofs.Words.{◌≡◌, ℕ, ◌+◌, ◌≤◌, ◌&&◌, Bool, true, false, not, if◌then◌else◌, List, refl, ap, ◌∙◌, arith, Option, Some, inl, inr, is_some, nat_lt, nat_eq, nat_tests}
+use Rattle.pagable_tables.proofs.Words.{sum_by-append, OptionalDataKey, HandleRow, one, times, if_there, is_at, is_pin, is_owned_by, owner_value, held, pins, has_key, Core, Cell, IsWithin, IsClosed}
+use Rattle.pagable_tables.proofs.Words.{is_keyed, is_outside, left_rows, held_outside, pins_outside, Counts, Holdings, live, counts_at, cell_in, HasFallen, SoFar, ◌⊎◌, Owner, Mode, is_shared}
+use Rattle.pagable_tables.proofs.Words.{is_pinning, is_listing, with_tables, length, Error, IsListRefusal, ◌<◌, ◌++◌, [], ◌∷◌, filter, map, sym, None, append-nil, sum_by-cons, sum_by-le-sum_by}
+use Rattle.pagable_tables.proofs.{Words.{HandleNumber, is_handle, find_row, is_owned_in, is_listed, IsApart}, Left.{times-left, entries-none, times-le, sum-most, and_one, of_list}}
+use Rattle.pagable_tables.proofs.{Alive.none-found, Begun.shut-then, keeps.Rows.{found-among, only-row}}
 use Rattle.pagable_world.specs.Pager as pager
+
+-- what is outside the one set is outside the other, or between them
+cut : (f : HandleRow → Bool) (gone s : ℕ → Bool) (rows : List HandleRow) → times (λ h. f h && not (s h.number.0)) rows
+    ≤ times (λ h. f h && not (gone h.number.0)) rows + times (λ h. gone h.number.0 && not (s h.number.0)) rows
+cut f gone s rows = grind (arith, nat_tests, sum-most)
+
+module _ {before w : Core} {given : ℕ → Bool} {lists : Bool} {t : Holdings} (f : SoFar before w given lists t) where
+  pub counted : (p : HandleRow → Bool) → times p (live t.handles.places.items) ≡ times (λ h. p h && not (f.gone h.number.0)) w.rows + times p f.entries
+  counted p = ap (times p) f.rows ∙ sum_by-append (λ h. one (p h)) (left_rows f.gone w.rows) f.entries ∙ ap (λ k. k + times p f.entries) (times-left p f.gone w.rows)
+
+  -- what no new entry is, is in the tables no more often than at first
+  pub no-more : (p : HandleRow → Bool) → ((h : HandleRow) → h.mode ≡ Mode.LooseUnpinned → h.owner ≡ Owner.List → p h ≡ false) → times p (live t.handles.places.items) ≤ times p w.rows
+  no-more p none = grind (arith, nat_tests, sum_by-append, entries-none, times-left, times-le)
+
+module _ {before w : Core} {given : ℕ → Bool} {lists : Bool} {t : Holdings} (f : SoFar before w given lists t) (s : ℕ → Bool) (within : IsWithin w.rows f.gone s) where
+  lost : (final : List HandleRow) (n : ℕ) (keyed : Bool) → is_keyed w n ≡ keyed → (held n (live t.handles.places.items) ≡ 0 → held n final ≡ 0)
+      → HasFallen (counts_at t.nodes) (live t.handles.places.items) n
+      → (if keyed then nat_eq (pins_outside w.rows s n) 0 else nat_eq (held n final) 0 && nat_eq (held_outside w.rows s n) 0) ≡ true
+  lost final n true e bare down =
+      let d : pins n (live t.handles.places.items) ≤ held n (live t.handles.places.items) = times-le (is_pin n) (is_at n) (live t.handles.places.items) (λ h. grind (arith, nat_tests)) in
+      grind (arith, nat_tests, counted f (is_pin n), cut (is_pin n) f.gone s w.rows)
+  lost final n false e bare (inl none) = grind (arith, nat_tests, counted f (is_at n), cut (is_at n) f.gone s w.rows)
+  lost final n false e bare (inr both) = let c = f.cells n in let k = both.0 in absurd (grind (arith, nat_tests))
+
+  -- no handle outside the set is left that the value owned
+  pub forced : (final : List HandleRow) (n : ℕ) → (held n (live t.handles.places.items) ≡ 0 → held n final ≡ 0) → HasFallen (counts_at t.nodes) (live t.handles.places.items) n
+      → IsClosed w.rows (is_keyed w) final s
+      → times (λ h. is_owned_by (owner_value n) h && is_outside s h) (live t.handles.places.items) ≡ 0
+  forced final n bare down closed =
+      let none = closed n (lost final n (is_keyed w n) refl bare down) in
+      let a = counted f (λ h. is_owned_by (owner_value n) h && is_outside s h) in
+      let b = entries-none (λ h. is_owned_by (owner_value n) h && is_outside s h) (λ h mode owner. grind (arith, nat_tests)) w.last.handle f.entries f.new in
+      let d = times-le (λ h. (is_owned_by (owner_value n) h && is_outside s h) && not (f.gone h.number.0)) (λ h. is_owned_by (owner_value n) h && is_outside s h)
+      w.rows (λ h. grind (arith, nat_tests)) in
+      omega arith
+
+-- what a listing handle is: the last pin of a cell without a key
+pub listing-is : (c : Counts) (m : Mode) → is_listing c m ≡ true → (is_pinning m ≡ true) × (is_shared m ≡ false) × (c.pins ≡ 1) × (nat_lt 0 c.key ≡ false)
+listing-is c m e = grind (arith, nat_tests)
+
+pub cell-keyed : (o : Option Counts) (c : Counts) (cell : Option Cell) → o ≡ Some c → (is_some o ≡ true → cell_in o ≡ cell)
+    → has_key (if_there (λ (c : Cell). c.key) OptionalDataKey.None cell) ≡ nat_lt 0 c.key
+cell-keyed o c cell is same = grind (arith, nat_tests)
+
+-- a cause stays
+pub refusal-kept : (w : Core) (t new : Holdings) (e : Error) → IsListRefusal w (with_tables w t) e → t.last_handle ≤ new.last_handle → length t.list.items ≤ length new.list.items
+    → IsListRefusal w (with_tables w new) e
+refusal-kept w t new e r last list = grind (arith, nat_tests)
+
+-- an entry came or none was wanted; or one was and didn't come
+pub which : (listed wanted : Bool) → ((listed ≡ true) ⊎ (wanted ≡ false)) ⊎ ((listed ≡ false) × (wanted ≡ true))
+which listed wanted = grind (arith, nat_tests)
 
 pub no-entries : (es : List HandleRow) → ((n : ℕ) → 0 < held n es → ⊥) → es ≡ []
 no-entries [] none = refl

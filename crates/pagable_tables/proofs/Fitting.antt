@@ -1,8 +1,8 @@
 -- A handle is given up: handles and nodes fit again.
 use Rattle.pagable_tables.proofs.Words.{◌≡◌, ℕ, ◌+◌, ◌-◌, ◌<◌, ◌≤◌, ◌==◌, ◌&&◌, ◌||◌, Bool, true, false, if◌then◌else◌, List, [], ◌∷◌, ◌++◌, length, sum_by, ap, sym, ◌∙◌, subst, arith, Option, Some}
-use Rattle.pagable_tables.proofs.Words.{None, inl, inr, ◌⊎◌, ◌≢◌, not, nat_tests, cases_eq, sum_by-cons, sum_by-le-sum_by, sum_by_push, ArcRef, HandleRow, Owner, one, held, pins, is_pin, is_at}
-use Rattle.pagable_tables.proofs.Words.{is_pinning, is_handle, is_owner, owner_value, Counts, pins_in, holds_in, falls_in, next_in, keyed_in, Chain, is_right, Right, is_fallen_by, after, is_new, Fits}
-use Rattle.pagable_tables.proofs.Words.{entry, owns, owns_nothing, named, often, unpinned, CellsStay, HasFallen, Holdings, IsFalling, live, counts_at, is_bare, has_value, landed}
+use Rattle.pagable_tables.proofs.Words.{None, inl, inr, ◌⊎◌, ◌≢◌, not, nat_tests, cases_eq, sum_by-cons, sum_by-le-sum_by, sum_by_push, ArcRef, HandleRow, one, held, pins, is_pin, is_at}
+use Rattle.pagable_tables.proofs.Words.{is_pinning, is_handle, owner_value, Counts, pins_in, holds_in, falls_in, next_in, keyed_in, Chain, Right, is_fallen_by, after, is_new, Fits}
+use Rattle.pagable_tables.proofs.Words.{entry, owns, owns_nothing, named, often, unpinned, CellsStay, HasFallen, Holdings, IsFalling, live, counts_at, has_value, landed}
 
 -- 1 for a handle that pins the node, for one of it, for the handle q that its value owns, and for the handle q
 abbrev pub pin_of : ℕ → HandleRow → ℕ

@@ -3,8 +3,7 @@ use Rattle.pagable_tables.proofs.Words.{nat_lt, ◌≡◌, ℕ, ◌<◌, ◌≤�
 use Rattle.pagable_tables.proofs.Words.{Owner, if_there, is_owner, find_row, Core, OpenLoad, nobody, Giving, Holdings, live, is_valued, SoFar, gives_row, passes_in, ◌+◌, if◌then◌else◌, List, ◌∷◌, suc}
 use Rattle.pagable_tables.proofs.Words.{length, get_or, slice_get, AllPairs, slice_get-get_or, is_handle, Place, alive, IsBefore, take, ArcRef, LoadNumber, is_named_by, is_owned_in, ◌⊎◌, ◌≢◌, inl}
 use Rattle.pagable_tables.proofs.{Words.{inr, InReach, Reach}, Regiven.{regiven, passes-here, passes-left, passes-none, no-entry, and_owned}, Alive.{le_or_lt, row-live, smaller-up}, Named.named-take}
-use Rattle.pagable_tables.proofs.{Named.named-none, Bits.{had, and-left}, Coming.list-owner, Entries.none-came}
-use Rattle.pagable_tables.specs.Giving.{gives}
+use Rattle.pagable_tables.{proofs.{Named.named-none, Bits.{had, and-left}, Coming.list-owner, Entries.none-came}, specs.Giving.gives}
 
 -- a world of these loads alone
 abbrev pub bare : (ℕ → Option OpenLoad) → Core

@@ -6,8 +6,8 @@ use Rattle.pagable_tables.proofs.Words.{◌&&◌, Bool, true, false, length, inl
 use Rattle.pagable_tables.proofs.Words.{find_row, pins, sharing, is_handle, is_owned_by, is_pin, is_share, owner_value, IsHandleBefore, Last, Alike, Falls, nobody, moved, row_of}
 use Rattle.pagable_tables.proofs.Words.{is_named_by, with_handle, with_mode, without_load, with_pin, Installs, Holdings, LoadRow, load_at, cell_in, has_value, is_valued, with_tables}
 use Rattle.pagable_tables.proofs.{Words.{is_plain_pin, SoFar, core_of, load_in, MayHold, OnlyRoom, has_come}, Coming.turned, Newer.{OnlyNewer, owned-mode, newer-then, newer-moved, newer-mode}}
-use Rattle.pagable_tables.proofs.{Newer.{newer-handle, newer-falls}, Worlds.fault-by, Begun.{begins, begun}, Taken.{load-closed, owned-given, moved-times, owned-moved, no-load}, Joined.moved-turned}
-use Rattle.pagable_tables.proofs.{Joined.turned-sum, Named.{moved-nobody, named-none}, Regiven.{found-first, passes-here, passes-none}, Stays.{seen-before, stays-pinned, not-named}}
+use Rattle.pagable_tables.proofs.{Newer.{newer-handle, newer-falls}, Worlds.fault-by, Begun.{begins, begun}, Taken.{load-closed, owned-given, moved-times, owned-moved, no-load}, Born.moved-turned}
+use Rattle.pagable_tables.proofs.{Born.turned-sum, Named.{moved-nobody, named-none}, Regiven.{found-first, passes-here, passes-none}, Stays.{seen-before, stays-pinned, not-named}}
 use Rattle.pagable_tables.proofs.keeps.{EndCalls.both-none, HandleCalls.{named-unlisted, moved-to-value}, Comes.{not-a-value}, LoadCalls.may-hold}
 use Rattle.pagable_tables.{proofs.{keeps.Rows.{among-map, found-among, once, ordered-map, sum-map}, Bits.{and-left, and-all}}, specs.Core.IsWhole}
 

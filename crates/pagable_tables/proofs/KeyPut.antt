@@ -1,6 +1,6 @@
 -- A node gets a key: handles and nodes fit again, and nothing else has gone or come so far.
-use Rattle.pagable_tables.proofs.Words.{◌≡◌, ℕ, ◌<◌, ◌==◌, Bool, false, if◌then◌else◌, List, [], ◌∷◌, refl, ap, sym, ◌∙◌, subst, arith, inl, inr, Option, Some, ◌≢◌, not}
-use Rattle.pagable_tables.proofs.Words.{cases_eq, nat_tests, ArcRef, HandleRow, Counts, Fits, Right, is_new, named, owns_nothing, keyed, None, NodeNumber, Blob, with_key}
+use Rattle.pagable_tables.proofs.Words.{◌≡◌, ℕ, ◌<◌, ◌==◌, Bool, if◌then◌else◌, List, [], ◌∷◌, refl, ap, sym, ◌∙◌, subst, arith, inl, inr, Option, Some, ◌≢◌, not}
+use Rattle.pagable_tables.proofs.Words.{cases_eq, nat_tests, ArcRef, HandleRow, Counts, Fits, Right, named, owns_nothing, keyed, None, NodeNumber, Blob, with_key}
 use Rattle.pagable_tables.{proofs.{Words.{Core, nobody, Tables, Holdings, counts_at, GetsKey, SoFar, core_of}, Coming.{is-free, not-zero}, Begun.{begins, begun}}, specs.Core.IsWhole}
 
 module _ (at at' : ℕ → Option Counts) (refs refs' : ℕ → List ArcRef) (rows : List HandleRow) (top n : ℕ) (c : Counts) (key : ℕ) (fits : Fits at refs rows top [] owns_nothing)

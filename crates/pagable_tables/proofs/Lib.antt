@@ -8,7 +8,6 @@ pub mod Entries
 mod Coming
 mod Ended
 pub mod Opened
-mod Telling
 mod Next
 pub mod Begun
 pub mod keeps
@@ -23,7 +22,6 @@ mod Taken
 pub mod Newer
 pub mod Stays
 pub mod Adoptions
-mod Joined
 pub mod Installed
 mod GivenAll
 mod Doing

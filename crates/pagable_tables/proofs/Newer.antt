@@ -1,8 +1,8 @@
 -- What loads own is what they owned, or has come since.
 use Rattle.pagable_tables.proofs.Words.{◌≡◌, ℕ, ◌+◌, ◌<◌, ◌≤◌, ◌∷◌, [], Bool, true, false, not, List, refl, ap, sym, ◌∙◌, arith, Option, Some, None, inl, inr, ◌⊎◌, ◌≢◌, Result, Ok, Err, is_some}
-use Rattle.pagable_tables.proofs.Words.{option_map, cases_eq, Error, HandleNumber, LoadNumber, NodeNumber, HandleRow, Owner, Mode, Kind, ArcRef, OptionalDataKey, type_of, changed, is_handle, is_owner}
-use Rattle.pagable_tables.proofs.Words.{is_owned_by, owner_value, find_row, mode_of, Core, Last, Alike, Falls, only_handle, with_handle, with_node, next_node, is_named_by, moved}
-use Rattle.pagable_tables.proofs.Words.{with_mode, UnpinCall, ReleaseCall, SetKeyCall, ScheduleCall, OfferCall, CloseCall, is_owned_in, adopted, first_key, Adopts, DropCall, LazyCall, LoadRow, Tables}
+use Rattle.pagable_tables.proofs.Words.{option_map, cases_eq, Error, HandleNumber, LoadNumber, NodeNumber, HandleRow, Owner, Mode, ArcRef, OptionalDataKey, changed, is_handle, is_owner}
+use Rattle.pagable_tables.proofs.Words.{is_owned_by, owner_value, find_row, Core, Last, Alike, Falls, only_handle, with_handle, with_node, next_node, is_named_by, moved}
+use Rattle.pagable_tables.proofs.Words.{with_mode, UnpinCall, SetKeyCall, ScheduleCall, CloseCall, is_owned_in, DropCall, LoadRow, Tables}
 use Rattle.pagable_tables.proofs.{Words.{load_at, plain_of, load_in, Makes, AreLater, nat_tests, Among, subst, owner_worker, reach_at, InReach, IsNoLess, Reach, IndexMap, worker_at}, Regiven.owned}
 use Rattle.pagable_tables.proofs.{Regiven.{passes-here, passes-left, no-entry, unlisting}, Taken.owned-moved, Bits.{and-left, had, there-is}, Worlds.owner-same, keeps.Rows.{found-among, found-push}}
 use Rattle.pagable_world.specs.Pager as pager

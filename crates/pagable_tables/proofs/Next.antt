@@ -5,7 +5,7 @@ use Rattle.pagable_tables.proofs.Words.{append-nil, append_assoc, arith, cell_in
 use Rattle.pagable_tables.proofs.Words.{is_keyed, is_outside, is_owned_by, is_owner, is_pin, is_some, left_rows, length, length-append, live, map-append, nat_tests, not, one, only_handle, owner_value}
 use Rattle.pagable_tables.proofs.Words.{owns_nothing, pins, pins_in, refl, subst, sum_by-append, sum_by-le-sum_by, sym, times, told_by, true, with_tables, ℕ, Cell, None, and_parts, cases_Bool, entry}
 use Rattle.pagable_tables.proofs.{Words.{is_listing, is_plain_pin, is_share, is_shared}, Bits.one-le, Left.{and_one, sum-most, entries-more, kept-more, left-more, left-none, none-entered}}
-use Rattle.pagable_tables.proofs.{Left.{none-listed, of_list, ones, times-left, gives-sums, with-entry}, Telling.{cell-keyed, forced, listing-is, no-more, refusal-kept, which}, Begun.open-then}
+use Rattle.pagable_tables.proofs.{Left.{none-listed, of_list, ones, times-left, gives-sums, with-entry}, Entries.{cell-keyed, forced, listing-is, no-more, refusal-kept, which}, Begun.open-then}
 
 rows-leaves : (rows entries before left : List HandleRow) (gone : ℕ → Bool) (x : HandleRow) → left ≡ left_rows (only_handle x.number) before → before ≡ left_rows gone rows ++ entries
     → times (is_handle x.number.0) entries ≡ 0 → left ≡ left_rows (and_one gone x.number.0) rows ++ entries

@@ -1,8 +1,7 @@
 -- A world with more room, and a node that is born in it.
-use Rattle.pagable_tables.proofs.Words.{◌≡◌, ℕ, ◌<◌, true, false, if◌then◌else◌, List, [], ap, ◌∙◌, subst, arith, Option, None, Bool, nat_tests, OptionalDataKey, Error, ArcRef}
-use Rattle.pagable_tables.proofs.Words.{HandleNumber, Kind, LoadNumber, Owner, Mode, type_of, mode_of, Core, Places, Alike, HasRoom, greatest, earlier, spent, references_fault, Refused}
-use Rattle.pagable_tables.proofs.Words.{with_handle, with_node, with_cached, next_node, adopted, OnlyRoom}
-use Rattle.pagable_world.specs.Calls.{IsNext}
+use Rattle.pagable_tables.proofs.Words.{◌≡◌, ℕ, ◌<◌, true, false, if◌then◌else◌, List, [], ap, ◌∙◌, subst, arith, Option, None, Bool, nat_tests, OptionalDataKey, Error, ArcRef, HandleNumber, Kind}
+use Rattle.pagable_tables.proofs.Words.{LoadNumber, Owner, Mode, type_of, mode_of, Core, Places, Alike, HasRoom, greatest, earlier, spent, references_fault, Refused, with_handle, with_node}
+use Rattle.{pagable_tables.proofs.Words.{with_cached, next_node, adopted, OnlyRoom}, pagable_world.specs.Calls.IsNext}
 pub use Rattle.pagable_tables.proofs.Worlds.{fault-by}
 
 pub room-alike : {w w' : Core} → OnlyRoom w w' → Alike w w'

@@ -1,8 +1,7 @@
 -- What was given is told by another set. Handles of a load that are left are those that it had and that haven't gone.
-use Rattle.pagable_tables.proofs.Words.{IsWithin, IsClosed, is_keyed, held}
-use Rattle.pagable_tables.proofs.Words.{◌≡◌, ℕ, ◌==◌, ◌&&◌, ◌||◌, Bool, true, false, not, if◌then◌else◌, List, [], ◌∷◌, ◌++◌, refl, ap, sym, ◌∙◌, arith, ◌+◌, nat_tests, LoadNumber, HandleRow}
-use Rattle.pagable_tables.proofs.{Words.{Owner, is_handle, is_owner, is_owned_by, find_row, Core, left_rows, AreNewEntries, is_owned_in, Holdings, live, SoFar, passes_in}, Left.and_one}
-use Rattle.pagable_tables.proofs.{Next.within-less, Bits.had}
+use Rattle.pagable_tables.proofs.Words.{IsWithin, IsClosed, is_keyed, held, ◌≡◌, ℕ, ◌==◌, ◌&&◌, ◌||◌, Bool, true, false, not, if◌then◌else◌, List, [], ◌∷◌, ◌++◌, refl, ap, sym, ◌∙◌, arith, ◌+◌}
+use Rattle.pagable_tables.proofs.Words.{nat_tests, LoadNumber, HandleRow, Owner, is_handle, is_owner, is_owned_by, find_row, Core, left_rows, AreNewEntries, is_owned_in, Holdings, live, SoFar}
+use Rattle.pagable_tables.proofs.{Words.passes_in, Left.and_one, Next.within-less, Bits.had}
 
 -- a set that has what was given, and no more but what has gone
 pub regiven : (before w : Core) (given given' : ℕ → Bool) (lists : Bool) (t : Holdings) (f : SoFar before w given lists t) → ((r : ℕ) → given' r ≡ true → (given r || f.gone r) ≡ true) → ((r : ℕ) → given r ≡ true → given' r ≡ true) → SoFar before w given' lists t

@@ -1,12 +1,11 @@
 -- A handle that comes stays, while others that are given go with all that follows.
 use Rattle.pagable_tables.proofs.Words.{◌≡◌, ℕ, ◌<◌, ◌≤◌, ◌==◌, ◌&&◌, ◌++◌, Bool, true, false, not, if◌then◌else◌, List, [], ◌∷◌, refl, ap, sym, ◌∙◌, subst, arith, None, nat_eq, Result, AllPairs}
-use Rattle.pagable_tables.proofs.Words.{nat_tests, sum_by-le-sum_by, sum_by_push, sum_by-append, Error, HandleRow, Among, one, times, is_loose_kind, mode_of, is_at, is_pin, is_pinning}
-use Rattle.pagable_tables.proofs.Words.{is_owned_by, owner_value, held, pins, sharing, Core, Places, HasRoom, IsHandleBefore, HandlesAreWhole, references_fault, is_owned_in, ArcRef, IsLeast}
-use Rattle.pagable_tables.proofs.Words.{IsClosed, loses_value, pins_outside, held_outside, is_outside, is_keyed, left_rows, Falls, is_named_by, is_valued, LoadNumber, Mode, Owner, ◌+◌, Option}
-use Rattle.pagable_tables.proofs.Words.{NodeNumber, Blob, is_handle, HandleNumber, Last, Alike, nobody, row_of, with_handle, Tables, live, counts_at, ValueStays, cell_in, has_value, SoFar, core_of}
-use Rattle.pagable_tables.proofs.{Words.{Some, changed, find_row, with_mode}, Coming.no-value, Regiven.{owned, passes-here, passes-none}, Left.times-left, Taken.owned-given, Opened.owner-self}
-use Rattle.pagable_tables.proofs.{Begun.{begins, begun}, Ended.none-falls-in, Worlds.same-cache, keeps.{HandleCalls.named-mine, Rows.{at-most-sum, once, among-last, sum-none}}}
-use Rattle.pagable_tables.specs.Core.{IsWhole}
+use Rattle.pagable_tables.proofs.Words.{nat_tests, sum_by-le-sum_by, sum_by_push, sum_by-append, Error, HandleRow, Among, one, times, is_loose_kind, mode_of, is_at, is_pin, is_pinning, is_owned_by}
+use Rattle.pagable_tables.proofs.Words.{owner_value, held, pins, sharing, Core, Places, HasRoom, IsHandleBefore, HandlesAreWhole, references_fault, is_owned_in, ArcRef, IsLeast, IsClosed, loses_value}
+use Rattle.pagable_tables.proofs.Words.{pins_outside, held_outside, is_outside, is_keyed, left_rows, Falls, is_named_by, is_valued, LoadNumber, Mode, Owner, ◌+◌, Option, NodeNumber, Blob, is_handle}
+use Rattle.pagable_tables.proofs.Words.{HandleNumber, Last, Alike, nobody, row_of, with_handle, Tables, live, counts_at, ValueStays, cell_in, has_value, SoFar, core_of, Some, changed, find_row}
+use Rattle.pagable_tables.proofs.{Words.with_mode, Coming.no-value, Regiven.{owned, passes-here, passes-none}, Left.times-left, Taken.owned-given, Opened.owner-self, Begun.{begins, begun}}
+use Rattle.pagable_tables.{proofs.{Ended.none-falls-in, Worlds.same-cache, keeps.{HandleCalls.named-mine, Rows.{at-most-sum, once, among-last, sum-none}}}, specs.Core.IsWhole}
 
 -- what isn't given and isn't a value's isn't in the least set
 module _ (rows : List HandleRow) (keyed : ℕ → Bool) (entries : List HandleRow) (given s : ℕ → Bool) (least : IsLeast rows keyed entries given s) (ordered : AllPairs IsHandleBefore rows)

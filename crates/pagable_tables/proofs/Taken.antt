@@ -1,15 +1,13 @@
 -- A load is closed or hands handles over, or a worker leaves, and what they still own is given up.
 use Rattle.pagable_tables.proofs.Words.{◌≡◌, ℕ, ◌<◌, ◌==◌, ◌&&◌, Bool, true, false, not, if◌then◌else◌, List, [], ◌∷◌, length, refl, ap, sym, ◌∙◌, subst, arith, Option, None, inl, inr, nat_tests}
 use Rattle.pagable_tables.proofs.Words.{sum_by-cons, HandleNumber, LoadNumber, HandleRow, Owner, Blob, one, times, is_in, is_handle, is_owner, is_owned_by, is_pin, is_share, find_row, pins, Core}
-use Rattle.pagable_tables.proofs.Words.{HasRoom, MayOwnLoad, load_fault, named_fault, nobody, moved, without_load, numbers_of, hand_over_fault, Tables, Holdings, live, is_valued, with_tables}
-use Rattle.pagable_tables.proofs.Words.{is_plain_pin, SoFar, core_of, Among, AllPairs, IsHandleBefore, Handles, Becomes, IsFalling, owns_nothing, Fits, counts_at, refs_at, is_at, sum_by, ◌≤◌, Some}
-use Rattle.pagable_tables.proofs.Words.{◌≢◌, Result, option_map, Error, updated, if_there, OpenLoad, Falls, is_owned_in, LoadRow, passes_in, load_in, ◌+◌, Ok, TakeCall, is_workers_load, with_worker}
-use Rattle.pagable_tables.proofs.Words.{left_load, NodeNumber, Giving, gives_row, AreLater, InReach, Reach, reach_at, worker_at, is_some, plain_of, cases_Bool, ◌||◌, load_at, refused_if}
-use Rattle.pagable_tables.proofs.{Begun.{begins, begun}, Coming.{owned-by-none, rows-told}, Fitting.is_owned, Regiven.owned}
-use Rattle.pagable_tables.proofs.keeps.{Comes.not-list, EndCalls.{both-none, handed-mine, handed-unlisted, asker-owns}, HandleCalls.moved-to-holder, LoadCalls.may-hold, Rows.{found-among, once, sum-map}}
-use Rattle.pagable_tables.{proofs.{Bits.{and-left, there-is}, Opened.owner-self}, specs.{Core.IsWhole, Giving.TakesWorker}}
-use Rattle.pagable_world.specs.Workers.{is_load_of}
-use Rattle.pagable_model.specs.declared.numbers.WorkerNumber.{WorkerNumber}
+use Rattle.pagable_tables.proofs.Words.{MayOwnLoad, load_fault, named_fault, nobody, moved, without_load, numbers_of, hand_over_fault, Tables, Holdings, live, is_valued, is_plain_pin, SoFar, core_of}
+use Rattle.pagable_tables.proofs.Words.{Among, AllPairs, IsHandleBefore, Handles, Becomes, IsFalling, owns_nothing, Fits, counts_at, refs_at, is_at, ◌≤◌, Some, ◌≢◌, Result, option_map, Error, updated}
+use Rattle.pagable_tables.proofs.Words.{if_there, OpenLoad, Falls, is_owned_in, LoadRow, passes_in, load_in, ◌+◌, Ok, TakeCall, is_workers_load, with_worker, left_load, NodeNumber, Giving, gives_row}
+use Rattle.pagable_tables.proofs.{Words.{AreLater, InReach, Reach, reach_at, worker_at, is_some, plain_of, cases_Bool, ◌||◌, load_at, refused_if}, Begun.{begins, begun}, Coming.owned-by-none}
+use Rattle.pagable_tables.proofs.{Coming.rows-told, Fitting.is_owned, Regiven.owned, keeps.{Comes.not-list, EndCalls.{both-none, handed-mine, handed-unlisted, asker-owns}}}
+use Rattle.pagable_tables.{proofs.{keeps.{HandleCalls.moved-to-holder, LoadCalls.may-hold, Rows.{found-among, once, sum-map}}, Bits.{and-left, there-is}, Opened.owner-self}, specs.Core.IsWhole}
+use Rattle.{pagable_tables.specs.Giving.TakesWorker, pagable_world.specs.Workers.is_load_of, pagable_model.specs.declared.numbers.WorkerNumber.WorkerNumber}
 use Rattle.pagable_world.specs.Pager as pager
 
 -- what is counted of handles whoever owns them

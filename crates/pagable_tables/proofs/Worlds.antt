@@ -1,8 +1,7 @@
 -- Two worlds that are told alike.
-use Rattle.pagable_tables.proofs.Words.{ap, refl, [], ◌∷◌, ArcRef, or_else, reference_fault, references_fault}
-use Rattle.pagable_tables.proofs.Words.{true, ◌≡◌, ℕ, ◌&&◌, List, arith, Option, Some, None, if◌then◌else◌, not, Result, Error, HandleNumber, Owner, nat_tests, CloneCall}
-use Rattle.std.specs.Result.{IsErrAnd}
-use Rattle.pagable_tables.proofs.Words.{Ok, Err, Makes, is_pinned_kind, if_there, SameAt, pins, is_in_memory, is_owner, Core, Cell, SameCache, Alike, HasRoom, row_at, HandleRow}
+use Rattle.pagable_tables.proofs.Words.{ap, refl, [], ◌∷◌, ArcRef, or_else, reference_fault, references_fault, true, ◌≡◌, ℕ, ◌&&◌, List, arith, Option, Some, None, if◌then◌else◌, not, Result, Error}
+use Rattle.pagable_tables.proofs.Words.{HandleNumber, Owner, nat_tests, CloneCall, Ok, Err, Makes, is_pinned_kind, if_there, SameAt, pins, is_in_memory, is_owner, Core, Cell, SameCache, Alike}
+use Rattle.{pagable_tables.proofs.Words.{HasRoom, row_at, HandleRow}, std.specs.Result.IsErrAnd}
 
 -- what an entry of the cache gives where its node is this cell
 abbrev pub use-of : List HandleRow → ℕ → ℕ → Option Cell → Option ℕ

@@ -1,23 +1,19 @@
 -- What a load asks of the tables. And a handle is offered to the cache, while the storage is open.
-use Rattle.std.specs.Prelude.{ℕ, ◌≡◌, ◌==◌, ◌⊎◌, not, true, false, List, [], Option, Some, None, Result, IfOk, IfErr}
-use Rattle.pagable_model.specs.{declared.error.Error.Error, declared.numbers.ArcRef.ArcRef, declared.numbers.HandleNumber.HandleNumber, declared.numbers.Kind.Kind}
-use Rattle.pagable_model.specs.{declared.numbers.LoadNumber.LoadNumber}
-use Rattle.pagable_world.specs.Refusals.{Owns, OwnsLoad, earlier, refused_if, load_fault, references_fault, Refused, AreHandlesFull}
-use Rattle.pagable_world.specs.{declared.handles.HandleRow.HandleRow, declared.handles.Owner.Owner, Kinds.fits_mode, Plain.is_loose_kind, Plain.type_of, World.{Core, OpenLoad, Alike, usable, type_at}, Calls.{Recalls, IsNext, with_cached, with_known, offer_fault}, LoadCalls.ask_fault, LoadCalls.is_known}
-use Rattle.pagable_model.specs.declared.error.Error.TheVariants as errors
-use Rattle.pagable_world.specs.declared.handles.Owner.TheVariants as owners
-use Rattle.pagable_world.specs.declared.calls.Want.TheVariants as wants
+use Rattle.{std.specs.Prelude.{ℕ, ◌≡◌, ◌==◌, ◌⊎◌, not, true, false, List, [], Option, Some, None, Result, IfOk, IfErr}, pagable_model.specs.declared.{error.Error.Error, numbers.ArcRef.ArcRef}}
+use Rattle.{pagable_model.specs.declared.numbers.{HandleNumber.HandleNumber, Kind.Kind, LoadNumber.LoadNumber}, pagable_world.specs.Refusals.{Owns, OwnsLoad, earlier, refused_if, load_fault}}
+use Rattle.pagable_world.specs.{Refusals.{references_fault, Refused, AreHandlesFull}, declared.handles.{HandleRow.HandleRow, Owner.Owner}, Kinds.fits_mode, Plain.{is_loose_kind, type_of}, World.Core}
+use Rattle.pagable_world.specs.{World.{OpenLoad, Alike, usable, type_at}, Calls.{Recalls, IsNext, with_cached, with_known, offer_fault}, LoadCalls.{ask_fault, is_known}, declared.calls.Want.Want}
 
 -- The load of a reference gets a handle of the node that the cache gives; or None where it gives none, and the storage has to be asked.
 pub record AsksKnown (w : Core) (me : Owner) (l : LoadNumber) (kind : Kind) (key : ℕ) (r : Result (Option HandleNumber) Error) (w' : Core) : Type 0 where
-  pub gives : IfOk r (λ found. (load : OpenLoad) × OwnsLoad w me l load × Recalls w (owners.Load l) kind key found w')
-  pub refused : IfErr r (λ e. Refused (ask_fault w me l (wants.Nested kind key)) (ask_fault w me l (wants.Nested kind key)) ((is_known w (wants.Nested kind key) ≡ true) × AreHandlesFull w) w e w')
+  pub gives : IfOk r (λ found. (load : OpenLoad) × OwnsLoad w me l load × Recalls w (Owner.Load l) kind key found w')
+  pub refused : IfErr r (λ e. Refused (ask_fault w me l (Want.Nested kind key)) (ask_fault w me l (Want.Nested kind key)) ((is_known w (Want.Nested kind key) ≡ true) × AreHandlesFull w) w e w')
 
 -- why what a load has read can't become a node, apart from numbers and memory
 abbrev pub early_fault : Core → Owner → LoadNumber → Kind → ℕ → List ArcRef → Option Error
 early_fault w me l kind node_type references =
-    earlier (load_fault w me l) (earlier (refused_if (is_loose_kind kind.0) errors.WrongMode) (earlier (refused_if (not (node_type == type_of kind.0)) errors.WrongKind)
-    (references_fault w (owners.Load l) [] references)))
+    earlier (load_fault w me l) (earlier (refused_if (is_loose_kind kind.0) Error.WrongMode) (earlier (refused_if (not (node_type == type_of kind.0)) Error.WrongKind)
+    (references_fault w (Owner.Load l) [] references)))
 
 -- the cache learns the row's node; or a handle of the node that it gives is made
 abbrev pub Learns : Core → Owner → Kind → ℕ → HandleRow → Option HandleNumber → Core → Type 0

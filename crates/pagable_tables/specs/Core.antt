@@ -1,17 +1,14 @@
 -- The plain world that the tables tell, and when they are whole.
 use Rattle.std.specs.{Prelude.{ℕ, ◌≡◌, ◌≤◌, Bool, true, false, [], length, Option, None, is_some, Result, IfOk, IfErr, vec_capacity}, Option.option_map}
-use Rattle.pagable_model.specs.{declared.error.Error.Error, declared.numbers.HandleNumber.HandleNumber, declared.numbers.NodeNumber.NodeNumber}
-use Rattle.pagable_world.specs.{Plain.{Blob, Among}, declared.handles.HandleRow.HandleRow, declared.handles.Owner.Owner, declared.rows.Mode.Mode, Kinds.is_shared, World.{Core, OpenLoad, Root}}
-use Rattle.pagable_world.specs.{World.{of_cell, of_key, Alike}, Calls.{with_handle, IsNext}, Refusals.{spent, Refused, AreHandlesFull}}
-use Rattle.pagable_tables.specs.{declared.rows.LoadRow.LoadRow, declared.rows.LoadRoot.LoadRoot, declared.tables.Tables.Tables, Live.live, ByNumber.{counts_at, load_at, known_at, worker_at}, Falling.cell_in}
-use Rattle.pagable_tables.specs.Falling.{IsFalling, owns_nothing}
-use Rattle.pagable_world.specs.declared.handles.Owner.TheVariants as owners
+use Rattle.{pagable_model.specs.declared.{error.Error.Error, numbers.{HandleNumber.HandleNumber, NodeNumber.NodeNumber}}, pagable_world.specs.Plain.{Blob, Among}}
+use Rattle.pagable_world.specs.{declared.{handles.{HandleRow.HandleRow, Owner.Owner}, rows.Mode.Mode}, Kinds.is_shared, World.{Core, OpenLoad, Root, of_cell, of_key, Alike}, Calls.with_handle}
+use Rattle.{pagable_world.specs.{Calls.IsNext, Refusals.{spent, Refused, AreHandlesFull}}, pagable_tables.specs.{declared.{rows.{LoadRow.LoadRow, LoadRoot.LoadRoot}, tables.Tables.Tables}, Live.live}}
+use Rattle.pagable_tables.specs.{ByNumber.{counts_at, load_at, known_at, worker_at}, Falling.{cell_in, IsFalling, owns_nothing}}
 use Rattle.pagable_world.specs.Pager as pager
-use Rattle.pagable_tables.specs.declared.rows.LoadRoot.TheVariants as roots
 
 abbrev pub root_in : LoadRoot → Root
-root_in (roots.Cell node t h) = of_cell node t h
-root_in roots.Key = of_key
+root_in (LoadRoot.Cell node t h) = of_cell node t h
+root_in LoadRoot.Key = of_key
 
 abbrev pub load_in : LoadRow → OpenLoad
 load_in row = record { owner = row.owner; key = row.key; root = root_in row.root }
@@ -49,11 +46,11 @@ pub record ArePlaced (w : Core) : Type 0 where
 
 -- who may get a handle: the caller, a worker that is at work, or an open load
 abbrev pub MayHold : Core → Owner → Type 0
-MayHold w owners.Caller = Unit {0}
-MayHold w (owners.Worker v) = w.workers v.0 ≡ true
-MayHold w (owners.Load l) = is_some (w.loads l.0) ≡ true
-MayHold w (owners.Value n) = ⊥
-MayHold w owners.List = ⊥
+MayHold w Owner.Caller = Unit {0}
+MayHold w (Owner.Worker v) = w.workers v.0 ≡ true
+MayHold w (Owner.Load l) = is_some (w.loads l.0) ≡ true
+MayHold w (Owner.Value n) = ⊥
+MayHold w Owner.List = ⊥
 
 -- A handle of this mode may come beside those that the node has: all of them are Shared, or none is.
 pub record Suits (w : Core) (node : NodeNumber) (mode : Mode) : Type 0 where

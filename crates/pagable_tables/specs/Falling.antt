@@ -4,10 +4,6 @@ use Rattle.pagable_model.specs.{declared.data_key.OptionalDataKey.OptionalDataKe
 use Rattle.pagable_world.specs.{declared.handles.HandleRow.HandleRow, declared.rows.Mode.Mode, declared.handles.Owner.Owner, Plain.one, Plain.times, Kinds.held, Kinds.pins}
 use Rattle.pagable_world.specs.{Kinds.{is_handle, is_owned_by, owner_value}, World.{greatest, Cell}, Calls.row_of, Cascade.{left_rows, only_handle}, Plain.{changed, SameAt, updated, if_there}}
 use Rattle.pagable_tables.specs.{declared.rows.Counts.Counts, declared.handles.Handles.Handles, declared.holdings.Holdings.Holdings, Live.{live, AreSound, IsNext}, ByNumber.{counts_at, refs_at}, Becoming.Becomes}
-use Rattle.pagable_model.specs.declared.data_key.OptionalDataKey.TheVariants as optional
-use Rattle.pagable_model.specs.declared.error.Error.TheVariants as errors
-use Rattle.pagable_world.specs.declared.rows.Mode.TheVariants as modes
-use Rattle.pagable_world.specs.declared.handles.Owner.TheVariants as owners
 
 abbrev pub pins_in : Option Counts → ℕ
 pins_in None = 0
@@ -31,7 +27,7 @@ keyed_in (Some c) = nat_lt 0 c.key
 
 -- a new entry of the list
 abbrev pub entry : ℕ → NodeNumber → HandleRow
-entry q node = row_of q node modes.LooseUnpinned owners.List
+entry q node = row_of q node Mode.LooseUnpinned Owner.List
 
 abbrev pub entries_of : Bool → ℕ → NodeNumber → List HandleRow
 entries_of listed q node = if listed then entry q node ∷ [] else []
@@ -55,10 +51,10 @@ Right (Some c) refs = is_right c (is_bare refs) ≡ true
 
 -- whether the last pin of a cell without a key goes with a handle of this mode
 abbrev pub is_listing : Counts → Mode → Bool
-is_listing c modes.LoosePinned = c.pins == 1 && not (nat_lt 0 c.key)
-is_listing c modes.LooseUnpinned = false
-is_listing c modes.Pinned = c.pins == 1 && not (nat_lt 0 c.key)
-is_listing c modes.Shared = false
+is_listing c Mode.LoosePinned = c.pins == 1 && not (nat_lt 0 c.key)
+is_listing c Mode.LooseUnpinned = false
+is_listing c Mode.Pinned = c.pins == 1 && not (nat_lt 0 c.key)
+is_listing c Mode.Shared = false
 
 -- The counts after a handle has left, or stayed without its pin, and perhaps an entry came. A node falls from now on where its last handle went, or its last pin and
 -- it has a key.
@@ -106,8 +102,8 @@ pub record IsFalling (t : Holdings) (stack : List ℕ) (extra : ℕ → ℕ → 
 
 -- why no entry can come: no number is left, or no place
 abbrev pub IsUnlisted : Holdings → Error → Type 0
-IsUnlisted t errors.NumbersSpent = greatest ≤ t.last_handle
-IsUnlisted t errors.OutOfMemory = (t.last_handle < greatest) × ((vec_capacity t.handles.places ≤ length (live t.handles.places.items)) ⊎ (vec_capacity t.list ≤ length t.list.items))
+IsUnlisted t Error.NumbersSpent = greatest ≤ t.last_handle
+IsUnlisted t Error.OutOfMemory = (t.last_handle < greatest) × ((vec_capacity t.handles.places ≤ length (live t.handles.places.items)) ⊎ (vec_capacity t.list ≤ length t.list.items))
 IsUnlisted t e = ⊥
 
 -- places are never fewer
@@ -150,7 +146,7 @@ pub record MayList (old : Holdings) (node : NodeNumber) (wanted listed : Bool) (
 
 -- the row of a loose handle without its pin
 abbrev pub unpinned : HandleRow → HandleRow
-unpinned x = record x { mode = modes.LooseUnpinned }
+unpinned x = record x { mode = Mode.LooseUnpinned }
 
 -- the handle of the row x leaves, or it stays without its pin
 pub record Leaves (old : Handles) (x : HandleRow) (stays : Bool) (new : Handles) : Type 0 where
@@ -160,8 +156,8 @@ pub record Leaves (old : Handles) (x : HandleRow) (stays : Bool) (new : Handles)
 
 -- the key of this number, if it is one
 abbrev pub key_in : ℕ → OptionalDataKey
-key_in zero = optional.None
-key_in (suc n) = optional.Some (suc n)
+key_in zero = OptionalDataKey.None
+key_in (suc n) = OptionalDataKey.Some (suc n)
 
 -- a node by its type and key
 abbrev pub cell_in : Option Counts → Option Cell
@@ -219,7 +215,7 @@ HasFallen at rows n = (held n rows ≡ 0) ⊎ ((keyed_in (at n) ≡ true) × (pi
 
 -- how many handles values own
 abbrev pub is_valued : Owner → Bool
-is_valued (owners.Value n) = true
+is_valued (Owner.Value n) = true
 is_valued o = false
 
 abbrev pub valued : List HandleRow → ℕ
@@ -270,4 +266,4 @@ keyed c key top = record c { key = key; is_falling = c.pins == 0; next = if c.pi
 
 -- the cells, with this key at one
 abbrev pub GetsKey : (ℕ → Option Counts) → (ℕ → Option Counts) → ℕ → ℕ → Type 0
-GetsKey old new n key = SameAt (updated n (if_there (λ (cell : Cell). Some (record cell { key = optional.Some key })) None (cell_in (old n))) (λ m. cell_in (old m))) (λ m. cell_in (new m))
+GetsKey old new n key = SameAt (updated n (if_there (λ (cell : Cell). Some (record cell { key = OptionalDataKey.Some key })) None (cell_in (old n))) (λ m. cell_in (old m))) (λ m. cell_in (new m))

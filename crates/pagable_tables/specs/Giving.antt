@@ -1,20 +1,16 @@
 -- Handles that are given up together, and workers that begin.
 use Rattle.std.specs.{Prelude.{ℕ, ◌≡◌, ◌+◌, ◌<◌, ◌≤◌, ◌⊎◌, ◌==◌, ◌&&◌, ◌||◌, Bool, false, if◌then◌else◌, List, Option, Some, None, Result, IfOk, IfErr, slice_get}, Option.option_map}
-use Rattle.indexmap.specs.IndexMap.{IndexMap}
-use Rattle.pagable_model.specs.{declared.error.Error.Error, declared.numbers.HandleNumber.HandleNumber, declared.numbers.NodeNumber.NodeNumber, declared.numbers.WorkerNumber.WorkerNumber}
-use Rattle.pagable_world.specs.{declared.handles.HandleRow.HandleRow, declared.handles.Owner.Owner, Plain.if_there, Kinds.{is_owner, owner_worker, find_row}, World.{Core, Alike}, Workers.is_load_of}
-use Rattle.pagable_world.specs.Events.{with_worker, with_entry_taken}
-use Rattle.pagable_tables.specs.{declared.giving.Giving.Giving, declared.rows.{LoadRow.LoadRow, Reach.Reach}, ByNumber.{load_at, reach_at}, Core.load_in}
-use Rattle.pagable_model.specs.declared.error.Error.TheVariants as errors
-use Rattle.pagable_world.specs.declared.handles.Owner.TheVariants as owners
-use Rattle.pagable_tables.specs.declared.giving.Giving.TheVariants as givings
+use Rattle.{indexmap.specs.IndexMap.IndexMap, pagable_model.specs.declared.{error.Error.Error, numbers.{HandleNumber.HandleNumber, NodeNumber.NodeNumber, WorkerNumber.WorkerNumber}}}
+use Rattle.pagable_world.specs.{declared.handles.{HandleRow.HandleRow, Owner.Owner}, Plain.if_there, Kinds.{is_owner, owner_worker, find_row}, World.{Core, Alike}, Workers.is_load_of}
+use Rattle.{pagable_world.specs.Events.{with_worker, with_entry_taken}, pagable_tables.specs.{declared.{giving.Giving.Giving, rows.{LoadRow.LoadRow, Reach.Reach}}, ByNumber.{load_at, reach_at}}}
+use Rattle.pagable_tables.specs.Core.{load_in}
 
 -- whether a handle of this owner at this node is given up
 abbrev pub gives : Core → Giving → Owner → NodeNumber → Bool
-gives w (givings.Load l) owner node = is_owner (owners.Load l) owner
-gives w (givings.AtNode v n) owner node = is_owner (owners.Worker v) owner && node.0 == n.0
-gives w (givings.Worker v) owner node = is_owner (owners.Worker v) owner || is_load_of w v.0 owner
-gives w givings.Listed owner node = is_owner owners.List owner
+gives w (Giving.Load l) owner node = is_owner (Owner.Load l) owner
+gives w (Giving.AtNode v n) owner node = is_owner (Owner.Worker v) owner && node.0 == n.0
+gives w (Giving.Worker v) owner node = is_owner (Owner.Worker v) owner || is_load_of w v.0 owner
+gives w Giving.Listed owner node = is_owner Owner.List owner
 
 abbrev pub gives_row : Core → Giving → HandleRow → Bool
 gives_row w giving row = gives w giving row.owner row.node
@@ -47,9 +43,9 @@ pub record IsNoLess {S : Type 0} (workers workers' : IndexMap ℕ Reach S) : Typ
 -- one worker more is at work; or memory is wanting
 pub record BeginsWorker (w : Core) (r : Result WorkerNumber Error) (w' : Core) : Type 0 where
   pub begun : IfOk r (λ v. (v.0 ≡ w.last.worker + 1) × Alike (with_worker w) w')
-  pub refused : IfErr r (λ e. (e ≡ errors.OutOfMemory) × Alike w w')
+  pub refused : IfErr r (λ e. (e ≡ Error.OutOfMemory) × Alike w w')
 
 -- the same, for an entry of the list, which moves to the worker
 pub record TakesWorker (w : Core) (place : ℕ) (r : Result WorkerNumber Error) (w' : Core) : Type 0 where
   pub taken : IfOk r (λ v. (h : HandleNumber) × (slice_get w.list place ≡ Some h) × (v.0 ≡ w.last.worker + 1) × Alike (with_worker (with_entry_taken w place h v)) w')
-  pub refused : IfErr r (λ e. (e ≡ errors.OutOfMemory) × Alike w w')
+  pub refused : IfErr r (λ e. (e ≡ Error.OutOfMemory) × Alike w w')

@@ -1,10 +1,8 @@
 -- What has gone and what has come since handles began to be given up: before a call, in the world that it has made directly, and in the tables.
 use Rattle.std.specs.Prelude.{ℕ, ◌≡◌, ◌≢◌, ◌+◌, ◌<◌, ◌≤◌, ◌==◌, ◌&&◌, ◌||◌, ◌⊎◌, ◌++◌, Bool, true, not, List, length, map, filter, Option, Some, None, is_some, Result, Ok, Err, vec_capacity}
-use Rattle.pagable_model.specs.{declared.error.Error.Error, declared.numbers.HandleNumber.HandleNumber}
-use Rattle.pagable_world.specs.{declared.handles.HandleRow.HandleRow, Plain.times, Kinds.{is_shared, is_pin, is_handle, is_owned_by, held, pins, sharing}, World.{Core, greatest, HasRoom}}
-use Rattle.pagable_world.specs.{Cascade.{IsWithin, IsClosed, AreNewEntries, is_keyed, left_rows, MustList, TellsListing}}
-use Rattle.pagable_tables.specs.{declared.holdings.Holdings.Holdings, Live.live, ByNumber.counts_at, Falling.cell_in}
-use Rattle.pagable_world.specs.declared.handles.Owner.TheVariants as owners
+use Rattle.{pagable_model.specs.declared.{error.Error.Error, numbers.HandleNumber.HandleNumber}, pagable_world.specs.{declared.handles.HandleRow.HandleRow, Plain.times, Kinds.{is_shared, is_pin}}}
+use Rattle.pagable_world.specs.{Kinds.{is_handle, is_owned_by, held, pins, sharing}, World.{Core, greatest, HasRoom}, Cascade.{IsWithin, IsClosed, AreNewEntries, is_keyed, left_rows, MustList}}
+use Rattle.{pagable_world.specs.{Cascade.TellsListing, declared.handles.Owner.Owner}, pagable_tables.specs.{declared.holdings.Holdings.Holdings, Live.live, ByNumber.counts_at, Falling.cell_in}}
 
 -- the world with the handles, nodes and list of the tables
 abbrev pub with_tables : Core → Holdings → Core
@@ -35,7 +33,7 @@ pub record Begins (before w : Core) (lists : Bool) : Type 0 where
   pub shared : (n : ℕ) → sharing n w.rows ≤ sharing n before.rows
   pub uniform : (n : ℕ) → (sharing n before.rows ≡ 0) ⊎ (times (is_plain_pin n) w.rows ≡ 0)
   -- the list has no handle but its own, each at most once
-  pub listed : (q : ℕ) → times (λ (h : HandleNumber). h.0 == q) w.list ≤ times (λ h. is_handle q h && is_owned_by owners.List h) w.rows
+  pub listed : (q : ℕ) → times (λ (h : HandleNumber). h.0 == q) w.list ≤ times (λ h. is_handle q h && is_owned_by Owner.List h) w.rows
 
 -- The given handles have gone from the world w, with more that had to; the tables hold what is left and what came.
 pub record SoFar (before w : Core) (given : ℕ → Bool) (lists : Bool) (t : Holdings) : Type 0 where

@@ -1,10 +1,7 @@
 -- Handles that come to another owner, one after the other where they are named, or are pinned.
-use Rattle.std.specs.Prelude.{[], Result, IfOk, IfErr, ℕ, zero, suc, List, ◌∷◌, get_or}
-use Rattle.pagable_model.specs.{declared.error.Error.Error, declared.numbers.HandleNumber.HandleNumber}
-use Rattle.pagable_world.specs.{World.{Core, Alike}, Calls.{with_handle, with_mode, IsNext}, Refusals.{spent, Refused, AreHandlesFull}, declared.handles.HandleRow.HandleRow}
-use Rattle.pagable_world.specs.declared.handles.Owner.{Owner}
-use Rattle.pagable_tables.specs.{declared.handles.Handles.Handles, declared.holdings.Holdings.Holdings, Falling.{IsFalling, owns_nothing}}
-use Rattle.pagable_world.specs.declared.rows.Mode.TheVariants as modes
+use Rattle.{std.specs.Prelude.{[], Result, IfOk, IfErr, ℕ, zero, suc, List, ◌∷◌, get_or}, pagable_model.specs.declared.{error.Error.Error, numbers.HandleNumber.HandleNumber}}
+use Rattle.pagable_world.specs.{World.{Core, Alike}, Calls.{with_handle, with_mode, IsNext}, Refusals.{spent, Refused, AreHandlesFull}, declared.{handles.HandleRow.HandleRow, rows.Mode.Mode}}
+use Rattle.{pagable_world.specs.declared.handles.Owner.Owner, pagable_tables.specs.{declared.{handles.Handles.Handles, holdings.Holdings.Holdings}, Falling.{IsFalling, owns_nothing}}}
 
 -- nothing falls in the holdings with these handles
 abbrev pub StandsWith : Holdings → Handles → Type 0
@@ -12,7 +9,7 @@ StandsWith t handles = IsFalling (record t { handles = handles }) [] owns_nothin
 
 -- A Pinned handle of the row's node is made, and the row's handle pins too. While numbers and places are left it succeeds.
 pub record PinsHere (w : Core) (me : Owner) (row : HandleRow) (r : Result HandleNumber Error) (w' : Core) : Type 0 where
-  pub pinned : IfOk r (λ k. IsNext k w × Alike (with_handle (with_mode w row.number modes.LoosePinned) row.node modes.Pinned me) w')
+  pub pinned : IfOk r (λ k. IsNext k w × Alike (with_handle (with_mode w row.number Mode.LoosePinned) row.node Mode.Pinned me) w')
   pub refused : IfErr r (λ e. Refused (spent w.last.handle) (spent w.last.handle) (AreHandlesFull w) w e w')
 
 -- the handle at a place

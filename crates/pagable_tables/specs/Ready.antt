@@ -1,12 +1,8 @@
 -- Loads of cells that can end.
-use Rattle.std.specs.Prelude.{ℕ, ◌≡◌, ◌≤◌, ◌<◌, ◌==◌, Bool, true, not, if◌then◌else◌, List, Option, Some, is_some}
-use Rattle.pagable_model.specs.{declared.error.Error.Error, declared.numbers.ArcRef.ArcRef, declared.numbers.HandleNumber.HandleNumber, declared.numbers.LoadNumber.LoadNumber}
-use Rattle.pagable_model.specs.{declared.numbers.NodeNumber.NodeNumber}
-use Rattle.pagable_world.specs.{declared.handles.Owner.Owner, Kinds.is_loose, Kinds.any_mode, World.Core, World.greatest, World.is_here, Refusals.Owns, Refusals.Refused}
-use Rattle.pagable_world.specs.{Refusals.load_fault, Refusals.handle_fault, LoadCalls.MayEnd, LoadCalls.end_fault}
-use Rattle.pagable_tables.specs.{declared.installing.Ending.Ending, declared.installing.Unended.Unended, declared.rows.Counts.Counts, declared.tables.Tables.Tables, ByNumber.load_at}
-use Rattle.pagable_tables.specs.{Live.room, Falling.has_value, Falling.AreLeft}
-use Rattle.pagable_tables.specs.declared.installing.Unended.TheVariants as unended
+use Rattle.{std.specs.Prelude.{ℕ, ◌≡◌, ◌≤◌, ◌<◌, ◌==◌, Bool, true, not, if◌then◌else◌, List, Option, Some, is_some}, pagable_model.specs.declared.{error.Error.Error, numbers.ArcRef.ArcRef}}
+use Rattle.{pagable_model.specs.declared.numbers.{HandleNumber.HandleNumber, LoadNumber.LoadNumber, NodeNumber.NodeNumber}, pagable_world.specs.{declared.handles.Owner.Owner, Kinds.is_loose}}
+use Rattle.pagable_world.specs.{Kinds.any_mode, World.{Core, greatest, is_here}, Refusals.{Owns, Refused, load_fault, handle_fault}, LoadCalls.{MayEnd, end_fault}}
+use Rattle.pagable_tables.specs.{declared.{installing.{Ending.Ending, Unended.Unended}, rows.Counts.Counts, tables.Tables.Tables}, ByNumber.load_at, Live.room, Falling.{has_value, AreLeft}}
 
 -- The load may end with a value of this type and these references, and the handle by which it was begun can be pinned.
 pub record IsReady (w : Core) (me : Owner) (l : LoadNumber) (node_type : ℕ) (references : List ArcRef) (e : Ending) : Type 0 where
@@ -29,8 +25,8 @@ pub record IsVain (w : Core) (me : Owner) (l : LoadNumber) (node_type : ℕ) (re
 
 -- why a load doesn't end with a value
 abbrev pub Unends : Core → Owner → LoadNumber → ℕ → List ArcRef → Unended → Core → Type 0
-Unends w me l node_type references (unended.Refused e) w' = Refused (end_fault w me l node_type references) (load_fault w me l) (Unit {0}) w e w'
-Unends w me l node_type references (unended.InVain e) w' = IsVain w me l node_type references e × (w' ≡ w)
+Unends w me l node_type references (Unended.Refused e) w' = Refused (end_fault w me l node_type references) (load_fault w me l) (Unit {0}) w e w'
+Unends w me l node_type references (Unended.InVain e) w' = IsVain w me l node_type references e × (w' ≡ w)
 
 -- whether the node is there and has its value, where this one has got one
 abbrev pub has_come : (ℕ → Option Counts) → NodeNumber → ℕ → Bool

@@ -1,10 +1,8 @@
 //! What follows when handles are given up, to its end.
 
-ghost use Rattle.std.specs.Prelude.{◌≡◌, ℕ, ◌+◌, ◌*◌, ◌≤◌, ◌==◌, ◌||◌, ◌⊎◌, [], List, length, Bool, false, if◌then◌else◌, nat_eq, None, slice_get, Some};
-ghost use Rattle.pagable_world.specs.{Kinds.is_owner, World.Core, Cascade.Falls};
-ghost use Rattle.pagable_tables.specs.{Live.{live, alive, AreSound}, ByNumber.counts_at, Falling.{IsFalling, is_valued, owns_nothing, Sheds, is_node}, Onward.{with_tables, told_by, SoFar, IsApart}};
-ghost use Rattle.indexmap.specs.IndexMap.{get};
-ghost use Rattle.pagable_world.specs.declared.handles.Owner.TheVariants as owners;
+ghost use Rattle.{std.specs.Prelude.{◌≡◌, ℕ, ◌+◌, ◌*◌, ◌≤◌, ◌==◌, ◌||◌, ◌⊎◌, [], List, length, Bool, false, if◌then◌else◌, nat_eq, None, slice_get, Some}, pagable_world.specs.Kinds.is_owner};
+ghost use Rattle.{pagable_world.specs.{World.Core, Cascade.Falls, declared.handles.Owner.Owner}, pagable_tables.specs.{Live.{live, alive, AreSound}, ByNumber.counts_at, Falling.IsFalling}};
+ghost use Rattle.{pagable_tables.specs.{Falling.{is_valued, owns_nothing, Sheds, is_node}, Onward.{with_tables, told_by, SoFar, IsApart}}, indexmap.specs.IndexMap.get};
 
 use crate::handles::Handles;
 use crate::holdings;
@@ -63,7 +61,7 @@ pub fn shed<N: Drop>(
     ensures steady { IsFalling t.new [] owns_nothing }
     ensures fewer { length (live t.new.handles.places.items) ≤ length (live t.old.handles.places.items) }
     ensures so_far { (before w : Core) (given : ℕ → Bool) (f : SoFar before w given lists t.old) → length (live t.old.handles.places.items) ≤ length w.rows
-        → (is_owner owners.List at.row.owner ≡ false) ⊎ IsApart before w given lists t.old f at.row.number.0 → SoFar before w (λ q. given q || q == at.row.number.0) lists t.new }
+        → (is_owner Owner.List at.row.owner ≡ false) ⊎ IsApart before w given lists t.old f at.row.number.0 → SoFar before w (λ q. given q || q == at.row.number.0) lists t.new }
     ensures unlisting { lists ≡ false → t.new.list.items ≡ t.old.list.items }
     ensures sheds { Sheds (counts_at t.old.nodes) (get nat_eq values.old) (counts_at t.new.nodes) (get nat_eq values.new) }
 {

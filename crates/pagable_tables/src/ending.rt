@@ -1,10 +1,8 @@
 //! Loads that end: what they still own is given up.
 
-ghost use Rattle.std.specs.Prelude.{◌≡◌, ℕ, ◌<◌, ◌≤◌, ◌==◌, ◌||◌, [], length, Bool, true, None, Option, nat_eq, ◌&&◌};
-ghost use Rattle.pagable_world.specs.{Plain.Blob, World.Core, Cascade.{Falls, nobody}, LoadCalls.{is_owned_in, hand_over_fault, DropCall, HandOverCall}};
-ghost use Rattle.pagable_tables.specs.{Live.live, ByNumber.counts_at, Falling.{IsFalling, owns_nothing, Sheds}, Onward.{with_tables, SoFar}, Core.{core_of, IsWhole}, Later.AreLater, Doing.DoesShed};
-ghost use Rattle.indexmap.specs.IndexMap.{get};
-ghost use Rattle.pagable_world.specs.declared.handles.Owner.TheVariants as owners;
+ghost use Rattle.{std.specs.Prelude.{◌≡◌, ℕ, ◌<◌, ◌≤◌, ◌==◌, ◌||◌, [], length, Bool, true, None, Option, nat_eq, ◌&&◌}, pagable_world.specs.{Plain.Blob, World.Core, Cascade.{Falls, nobody}}};
+ghost use Rattle.{pagable_world.specs.{LoadCalls.{is_owned_in, hand_over_fault, DropCall, HandOverCall}, declared.handles.Owner.Owner}, pagable_tables.specs.{Live.live, ByNumber.counts_at}};
+ghost use Rattle.{pagable_tables.specs.{Falling.{IsFalling, owns_nothing, Sheds}, Onward.{with_tables, SoFar}, Core.{core_of, IsWhole}, Later.AreLater, Doing.DoesShed}, indexmap.specs.IndexMap.get};
 
 use crate::cascade::shed;
 use crate::giving::{Giving, give_all};
@@ -32,7 +30,7 @@ pub fn give_next<N: Drop>(
     requires { IsFalling t.old [] owns_nothing }
     ensures steady { IsFalling t.new [] owns_nothing }
     ensures fewer { length (live t.new.handles.places.items) ≤ length (live t.old.handles.places.items) }
-    ensures so_far { (before w : Core) (given : ℕ → Bool) → SoFar before w given lists t.old → length (live t.old.handles.places.items) ≤ length w.rows → SoFar before w (λ q. given q || (q == handle.0 && is_owned_in w (owners.Load load) q)) lists t.new }
+    ensures so_far { (before w : Core) (given : ℕ → Bool) → SoFar before w given lists t.old → length (live t.old.handles.places.items) ≤ length w.rows → SoFar before w (λ q. given q || (q == handle.0 && is_owned_in w (Owner.Load load) q)) lists t.new }
     ensures sheds { Sheds (counts_at t.old.nodes) (get nat_eq values.old) (counts_at t.new.nodes) (get nat_eq values.new) }
 {
     let Some(at) = handles::look(&t.handles, handle) else {

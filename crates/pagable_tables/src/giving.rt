@@ -1,11 +1,8 @@
 //! Handles that are given up together: all that a load owns, a worker, or the list.
 
-ghost use Rattle.std.specs.Prelude.{◌≡◌, ℕ, ◌<◌, ◌≤◌, [], length, slice_get, Some, None, IfSome, IfNone, true, false, nat_eq};
-ghost use Rattle.indexmap.specs.IndexMap.{get};
-ghost use Rattle.pagable_world.specs.{Kinds.find_row, World.Core, Cascade.{Falls, nobody}, Workers.is_load_of};
-ghost use Rattle.pagable_tables.specs.{Live.{live, alive, AreSound}, ByNumber.counts_at, Falling.{IsFalling, owns_nothing, Sheds}, Onward.{with_tables, SoFar}, Giving.{gives_row, passes_in, InReach}};
-ghost use Rattle.pagable_tables.specs.Giving.{LoadsAre};
-ghost use Rattle.pagable_tables.specs.declared.giving.Giving.TheVariants as givings;
+ghost use Rattle.{std.specs.Prelude.{◌≡◌, ℕ, ◌<◌, ◌≤◌, [], length, slice_get, Some, None, IfSome, IfNone, true, false, nat_eq}, indexmap.specs.IndexMap.get, pagable_world.specs.Kinds.find_row};
+ghost use Rattle.{pagable_world.specs.{World.Core, Cascade.{Falls, nobody}, Workers.is_load_of}, pagable_tables.specs.{Live.{live, alive, AreSound}, ByNumber.counts_at, Falling.IsFalling}};
+ghost use Rattle.pagable_tables.specs.{Falling.{owns_nothing, Sheds}, Onward.{with_tables, SoFar}, Giving.{gives_row, passes_in, InReach, LoadsAre}, declared.giving.Giving.Giving};
 
 use crate::cascade::{fall, shed};
 use crate::handles::Handles;
@@ -166,7 +163,7 @@ pub fn give_all<N: Drop>(
     lists: bool,
 ) -> Result<(), Error>
     requires steady { IsFalling t.old [] owns_nothing }
-    requires listed { giving ≡ givings.Listed → (lists ≡ false) × (t.old.list.items ≡ []) }
+    requires listed { giving ≡ Giving.Listed → (lists ≡ false) × (t.old.list.items ≡ []) }
     ensures steady { IsFalling t.new [] owns_nothing }
     ensures falls { (before u w : Core) → LoadsAre loads.now w → SoFar before u nobody lists (record t.old { unlisted = None }) → length (live t.old.handles.places.items) ≤ length u.rows
         → ((q : ℕ) → passes_in (gives_row w giving) u.rows q ≡ true → InReach reach q × (q ≤ t.old.last_handle)) → Falls before u (passes_in (gives_row w giving) u.rows) result (with_tables u t.new) }

@@ -2,9 +2,8 @@
 //! that goes with them.
 
 ghost use Rattle.std.specs.Prelude.{◌≡◌, ◌≢◌, ℕ, ◌+◌, ◌-◌, ◌<◌, ◌≤◌, [], if◌then◌else◌, List, slice_get, Some, None, OnOk, OnErr, true, vec_len, vec_capacity, ◌&&◌, ◌^◌, false};
-ghost use Rattle.pagable_world.specs.{Plain.one, Kinds.is_pinning};
-ghost use Rattle.pagable_tables.specs.{Falling.{Lists, MayList, Leaves, is_listing, is_valued, after, is_new, IsFalling, GivesUp, landed, Settles, Steps, owns, owns_nothing}, Live.{alive, AreSound, IsNext}};
-ghost use Rattle.pagable_tables.specs.ByNumber.{refs_at, counts_at};
+ghost use Rattle.{pagable_world.specs.{Plain.one, Kinds.is_pinning}, pagable_tables.specs.Falling.{Lists, MayList, Leaves, is_listing, is_valued, after, is_new, IsFalling, GivesUp, landed, Settles}};
+ghost use Rattle.pagable_tables.specs.{Falling.{Steps, owns, owns_nothing}, Live.{alive, AreSound, IsNext}, ByNumber.{refs_at, counts_at}};
 
 use crate::handles::Handles;
 use crate::making::places_taken;

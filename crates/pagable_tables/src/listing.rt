@@ -1,11 +1,8 @@
 //! The list of cells that wait for page-out: entries come and are taken.
 
-ghost use Rattle.std.specs.Prelude.{◌≡◌, ◌<◌, ℕ, Bool, Option, is_some, nat_eq, not, true, false, length};
-ghost use Rattle.pagable_world.specs.{Plain.Blob, Calls.{ScheduleCall, TakeCall}, Kinds.{is_owner, owner_worker}};
-ghost use Rattle.indexmap.specs.IndexMap.{get};
-ghost use Rattle.pagable_tables.specs.{ByNumber.{counts_at, reach_at, worker_at}, Falling.Sheds, Giving.{InReach, IsNoLess}, Later.AreLater, Core.{core_of, plain_of, IsWhole, MayHold}};
-ghost use Rattle.pagable_model.specs.declared.numbers.LoadNumber.{LoadNumber};
-ghost use Rattle.pagable_world.specs.declared.handles.Owner.TheVariants as owners;
+ghost use Rattle.{std.specs.Prelude.{◌≡◌, ◌<◌, ℕ, Bool, Option, is_some, nat_eq, not, true, false, length}, pagable_world.specs.{Plain.Blob, Calls.{ScheduleCall, TakeCall}, Kinds.is_owner}};
+ghost use Rattle.{pagable_world.specs.{Kinds.owner_worker, declared.handles.Owner.Owner}, indexmap.specs.IndexMap.get, pagable_tables.specs.{ByNumber.{counts_at, reach_at, worker_at}, Falling.Sheds}};
+ghost use Rattle.{pagable_tables.specs.{Giving.{InReach, IsNoLess}, Later.AreLater, Core.{core_of, plain_of, IsWhole, MayHold}}, pagable_model.specs.declared.numbers.LoadNumber.LoadNumber};
 
 use crate::handles;
 use crate::holdings::make_place;
@@ -74,7 +71,7 @@ pub fn take_pending(t: &mut Tables, me: Owner, place: usize) -> Option<HandleNum
     requires holder { MayHold (plain_of t.old) me }
     ensures taken { (stored : ℕ → Option Blob) (closed : Bool) (failures : ℕ) → TakeCall (core_of t.old stored closed failures) me place result (core_of t.new stored closed failures) }
     ensures whole { IsWhole t.new }
-    ensures later { ((m : LoadNumber) → is_owner (owners.Load m) me ≡ false) → AreLater t.old → AreLater t.new }
+    ensures later { ((m : LoadNumber) → is_owner (Owner.Load m) me ≡ false) → AreLater t.old → AreLater t.new }
 {
     if place >= t.holdings.list.len() {
         return None;

@@ -1,13 +1,10 @@
 //! Loads that begin, of a key or a cell, and whose an open load is.
 
-ghost use Rattle.std.specs.Prelude.{◌≡◌, ◌<◌, ℕ, Bool, Option, Some, [], IfOk, IfErr, IfNone, IfSome, slice_get, true, false};
-ghost use Rattle.pagable_world.specs.{Plain.Blob, Kinds.is_in_memory, World.greatest};
-ghost use Rattle.pagable_world.specs.{World.{of_cell, Alike}, Pager.MayOwnLoad, Refusals.{load_fault, OwnsLoad}, Calls.with_handle, LoadCalls.{BeginCall, BeginKeyCall, IsNextLoad, with_load}};
-ghost use Rattle.pagable_tables.specs.{Live.alive, ByNumber.load_at, Falling.{key_in, IsFalling, owns_nothing}, Core.{core_of, plain_of, IsWhole, load_in}, Asking.AsksKnown, Later.AreLater};
-ghost use Rattle.pagable_tables.specs.Doing.{Does};
+ghost use Rattle.{std.specs.Prelude.{◌≡◌, ◌<◌, ℕ, Bool, Option, Some, [], IfOk, IfErr, IfNone, IfSome, slice_get, true, false}, pagable_world.specs.{Plain.Blob, Kinds.is_in_memory, World.greatest}};
+ghost use Rattle.pagable_world.specs.{World.{of_cell, Alike}, declared.{handles.Owner.Owner, rows.Mode.Mode}, Pager.MayOwnLoad, Refusals.{load_fault, OwnsLoad}, Calls.with_handle};
+ghost use Rattle.{pagable_world.specs.LoadCalls.{BeginCall, BeginKeyCall, IsNextLoad, with_load}, pagable_tables.specs.{Live.alive, ByNumber.load_at, Falling.{key_in, IsFalling, owns_nothing}}};
+ghost use Rattle.pagable_tables.specs.{Core.{core_of, plain_of, IsWhole, load_in}, Asking.AsksKnown, Later.AreLater, Doing.Does};
 ghost use Rattle.pagable_model.specs.declared.data_key.OptionalDataKey.TheVariants as optional;
-ghost use Rattle.pagable_world.specs.declared.handles.Owner.TheVariants as owners;
-ghost use Rattle.pagable_world.specs.declared.rows.Mode.TheVariants as modes;
 ghost use Rattle.pagable_model.specs.declared.error.Error.TheVariants as errors;
 
 use crate::kinds::is_loose;
@@ -63,7 +60,7 @@ fn open_cell(
     requires load { t.old.last_load < greatest }
     requires handle { t.old.holdings.last_handle < greatest }
     ensures next { IfOk result (λ l. (stored : ℕ → Option Blob) (closed : Bool) (failures : ℕ) → IsNextLoad l (core_of t.old stored closed failures)) }
-    ensures opened { IfOk result (λ l. (stored : ℕ → Option Blob) (closed : Bool) (failures : ℕ) → Alike (with_load (with_handle (core_of t.old stored closed failures) at.row.node modes.LooseUnpinned (owners.Load l)) key (of_cell at.row.node node_type at.row.number) me) (core_of t.new stored closed failures)) }
+    ensures opened { IfOk result (λ l. (stored : ℕ → Option Blob) (closed : Bool) (failures : ℕ) → Alike (with_load (with_handle (core_of t.old stored closed failures) at.row.node Mode.LooseUnpinned (Owner.Load l)) key (of_cell at.row.node node_type at.row.number) me) (core_of t.new stored closed failures)) }
     ensures refused { IfErr result (λ e. e ≡ errors.OutOfMemory) }
     ensures stays { IfErr result (λ e. (stored : ℕ → Option Blob) (closed : Bool) (failures : ℕ) → Alike (core_of t.old stored closed failures) (core_of t.new stored closed failures)) }
     ensures steady { IsFalling t.new.holdings [] owns_nothing }

@@ -1,11 +1,9 @@
 //! What is asked of handles and nodes. Nothing changes by that.
 
 ghost use Rattle.std.specs.{Prelude.{◌≡◌, ℕ, ◌≤◌, length, Bool, Option, Some, None, IfNone, IfSome, if◌then◌else◌}, Option.option_map};
-ghost use Rattle.pagable_model.specs.declared.data_key.OptionalDataKey.{OptionalDataKey};
-ghost use Rattle.pagable_world.specs.{Plain.{Blob, if_there}, Kinds.{is_in_memory, is_loose, is_pinning}, World.{Cell, key_at}, Events.IsEntry, Calls.{Looks, CountCall, KeyCall, AwayCall, NodeCall}};
-ghost use Rattle.pagable_world.specs.Calls.{TypeCall};
-ghost use Rattle.pagable_tables.specs.{Falling.{pins_in, cell_in, key_in}, Core.{core_of, IsWhole}, ByNumber.counts_at};
-ghost use Rattle.pagable_model.specs.declared.data_key.OptionalDataKey.TheVariants as optional;
+ghost use Rattle.{pagable_model.specs.declared.data_key.OptionalDataKey.OptionalDataKey, pagable_world.specs.{Plain.{Blob, if_there}, Kinds.{is_in_memory, is_loose, is_pinning}, World.Cell}};
+ghost use Rattle.{pagable_world.specs.{World.key_at, Events.IsEntry, Calls.{Looks, CountCall, KeyCall, AwayCall, NodeCall, TypeCall}}, pagable_tables.specs.Falling.{pins_in, cell_in, key_in}};
+ghost use Rattle.pagable_tables.specs.{Core.{core_of, IsWhole}, ByNumber.counts_at};
 
 use crate::holdings::pins;
 use crate::rows::Counts;
@@ -16,7 +14,7 @@ use pagable_world::handles::HandleRow;
 
 /// The key of a node of these counts.
 pub fn key_in(counts: Option<Counts>) -> OptionalDataKey
-    ensures { result ≡ if_there (λ (cell : Cell). cell.key) optional.None (cell_in counts) }
+    ensures { result ≡ if_there (λ (cell : Cell). cell.key) OptionalDataKey.None (cell_in counts) }
 {
     match counts {
         Some(c) => match DataKey::new(c.key) {
@@ -29,7 +27,7 @@ pub fn key_in(counts: Option<Counts>) -> OptionalDataKey
 
 /// Whether a node of these counts has its value in memory.
 pub fn is_here(counts: Option<Counts>) -> bool
-    ensures { result ≡ is_in_memory (pins_in counts) (if_there (λ (cell : Cell). cell.key) optional.None (cell_in counts)) }
+    ensures { result ≡ is_in_memory (pins_in counts) (if_there (λ (cell : Cell). cell.key) OptionalDataKey.None (cell_in counts)) }
 {
     match counts {
         Some(c) => c.pins > 0 || c.key == 0,

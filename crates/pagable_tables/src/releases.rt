@@ -1,10 +1,8 @@
 //! Handles that are given up, and loose ones that let their pins go.
 
-ghost use Rattle.std.specs.Prelude.{◌≡◌, ◌≤◌, [], length, None, false, slice_get, Some, nat_eq};
-ghost use Rattle.pagable_world.specs.{Kinds.is_owner, World.Core, Calls.{ReleaseCall, UnpinCall}, Cascade.{Falls, nobody, only_handle}};
-ghost use Rattle.pagable_tables.specs.{Live.{live, alive}, ByNumber.counts_at, Falling.{IsFalling, is_valued, owns_nothing, Sheds}, Onward.{with_tables, SoFar}, Core.IsWhole, Doing.DoesShed};
-ghost use Rattle.indexmap.specs.IndexMap.{get};
-ghost use Rattle.pagable_world.specs.declared.handles.Owner.TheVariants as owners;
+ghost use Rattle.{std.specs.Prelude.{◌≡◌, ◌≤◌, [], length, None, false, slice_get, Some, nat_eq}, pagable_world.specs.{Kinds.is_owner, World.Core, Calls.{ReleaseCall, UnpinCall}, Cascade.Falls}};
+ghost use Rattle.{pagable_world.specs.{Cascade.{nobody, only_handle}, declared.handles.Owner.Owner}, pagable_tables.specs.{Live.{live, alive}, ByNumber.counts_at, Falling.{IsFalling, is_valued}}};
+ghost use Rattle.{pagable_tables.specs.{Falling.{owns_nothing, Sheds}, Onward.{with_tables, SoFar}, Core.IsWhole, Doing.DoesShed}, indexmap.specs.IndexMap.get};
 
 use crate::cascade::{fall, shed};
 use crate::holdings::{Holdings, give_up};
@@ -28,7 +26,7 @@ pub fn give_back<N: Drop>(
     requires steady { IsFalling t.old [] owns_nothing }
     requires place { slice_get t.old.handles.places.items at.place ≡ Some (alive at.row) }
     requires plain { is_valued at.row.owner ≡ false }
-    requires free { is_owner owners.List at.row.owner ≡ false }
+    requires free { is_owner Owner.List at.row.owner ≡ false }
     ensures steady { IsFalling t.new [] owns_nothing }
     ensures falls { (before w : Core) → SoFar before w nobody lists (record t.old { unlisted = None }) → length (live t.old.handles.places.items) ≤ length w.rows
         → Falls before w (only_handle at.row.number) result (with_tables w t.new) }
@@ -49,7 +47,7 @@ pub fn release<N: Drop>(
 ) -> Result<(), Error>
     requires whole { IsWhole t.old }
     requires plain { is_valued me ≡ false }
-    requires free { is_owner owners.List me ≡ false }
+    requires free { is_owner Owner.List me ≡ false }
     ensures { DoesShed lists t.old values.old (λ w w'. ReleaseCall w me handle result w') t.new values.new }
 {
     let at = own(t, me, handle)?;

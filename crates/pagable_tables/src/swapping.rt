@@ -1,12 +1,9 @@
 //! A handle that is offered to the cache, and is given up where the cache gives a node already.
 
-ghost use Rattle.std.specs.Prelude.{◌≡◌, ℕ, ◌≤◌, [], length, Bool, Option, None, Some, not, true, false, nat_eq};
-ghost use Rattle.pagable_world.specs.{declared.handles.HandleRow.HandleRow, Plain.Blob, Kinds.{find_row, is_owner, is_pinning, mode_of}, World.{Core, usable}, Calls.OfferCall, Cascade.FallsAnyhow};
-ghost use Rattle.pagable_world.specs.Cascade.{nobody, only_handle};
+ghost use Rattle.{std.specs.Prelude.{◌≡◌, ℕ, ◌≤◌, [], length, Bool, Option, None, Some, not, true, false, nat_eq}, pagable_world.specs.{declared.handles.HandleRow.HandleRow, Plain.Blob}};
+ghost use Rattle.pagable_world.specs.{Kinds.{find_row, is_owner, is_pinning, mode_of}, World.{Core, usable}, Calls.OfferCall, Cascade.{FallsAnyhow, nobody, only_handle}, declared.handles.Owner.Owner};
 ghost use Rattle.pagable_tables.specs.{Live.live, ByNumber.counts_at, Falling.{IsFalling, has_value, is_valued, owns_nothing, Sheds}, Onward.{with_tables, SoFar}, Later.AreLater, Core.core_of};
-ghost use Rattle.pagable_tables.specs.Core.{plain_of, IsWhole, MayHold};
-ghost use Rattle.indexmap.specs.IndexMap.{get};
-ghost use Rattle.pagable_world.specs.declared.handles.Owner.TheVariants as owners;
+ghost use Rattle.{pagable_tables.specs.Core.{plain_of, IsWhole, MayHold}, indexmap.specs.IndexMap.get};
 
 use crate::handles;
 use crate::holdings::Holdings;
@@ -21,7 +18,7 @@ use std::sync::Arc;
 /// The live handle of this number is given up, with all that goes with it.
 fn give_number<N: Drop>(t: &mut Holdings, values: &mut IndexMap<u64, Arc<N>>, handle: HandleNumber)
     requires steady { IsFalling t.old [] owns_nothing }
-    requires there { (row : HandleRow) × (find_row handle.0 (live t.old.handles.places.items) ≡ Some row) × (is_valued row.owner ≡ false) × (is_owner owners.List row.owner ≡ false) }
+    requires there { (row : HandleRow) × (find_row handle.0 (live t.old.handles.places.items) ≡ Some row) × (is_valued row.owner ≡ false) × (is_owner Owner.List row.owner ≡ false) }
     ensures steady { IsFalling t.new [] owns_nothing }
     ensures falls { (before w : Core) → SoFar before w nobody true (record t.old { unlisted = None })
         → length (live t.old.handles.places.items) ≤ length w.rows → FallsAnyhow before w (only_handle handle) (with_tables w t.new) }

@@ -1,11 +1,8 @@
 //! Handles that are pinned from now on, with or without another handle beside.
 
-ghost use Rattle.std.specs.Prelude.{◌≡◌, ℕ, ◌<◌, ◌^◌, ◌+◌, Bool, Option, not, slice_get, Some, IfOk, IfErr, true, false};
-ghost use Rattle.pagable_world.specs.{declared.rows.Mode.Mode, Plain.{Blob, one}};
-ghost use Rattle.pagable_world.specs.{Kinds.{is_owner, is_owned_by, is_pinned, is_shared, find_row}, World.Alike, Refusals.handle_fault, Calls.{LoosenCall, with_mode}};
+ghost use Rattle.{std.specs.Prelude.{◌≡◌, ℕ, ◌<◌, ◌^◌, ◌+◌, Bool, Option, not, slice_get, Some, IfOk, IfErr, true, false}, pagable_world.specs.{declared.rows.Mode.Mode, Plain.{Blob, one}}};
+ghost use Rattle.pagable_world.specs.{declared.handles.Owner.Owner, Kinds.{is_owner, is_owned_by, is_pinned, is_shared, find_row}, World.Alike, Refusals.handle_fault, Calls.{LoosenCall, with_mode}};
 ghost use Rattle.pagable_tables.specs.{Live.{live, alive}, Core.{core_of, IsWhole}, Doing.Does};
-ghost use Rattle.pagable_world.specs.declared.rows.Mode.TheVariants as modes;
-ghost use Rattle.pagable_world.specs.declared.handles.Owner.TheVariants as owners;
 
 use crate::holdings::pins;
 use crate::making::{counts_more, places_taken};
@@ -61,8 +58,8 @@ pub fn turn(t: &mut Tables, at: HandleAt)
     requires whole { IsWhole t.old }
     requires place { slice_get t.old.holdings.handles.places.items at.place ≡ Some (alive at.row) }
     requires unshared { is_shared at.row.mode ≡ false }
-    requires unlisted { is_owned_by owners.List at.row ≡ false }
-    ensures does { Does t.old (λ w w'. Alike (with_mode w at.row.number modes.LoosePinned) w') t.new }
+    requires unlisted { is_owned_by Owner.List at.row ≡ false }
+    ensures does { Does t.old (λ w w'. Alike (with_mode w at.row.number Mode.LoosePinned) w') t.new }
     ensures same { t.new ≡ record t.old { holdings = t.new.holdings } }
 {
     let counts = nodes::counts_of(&t.holdings.nodes, at.row.node.0).unwrap();

@@ -3,18 +3,17 @@ use Rattle.pagable_traits.proofs.Words.{◌≡◌, Bool, true, false, List, [], 
 use Rattle.pagable_traits.proofs.Words.{IsTotalOrder, insert_entry, put_all, AllAfter, Apart, arith}
 use Rattle.std.specs.Cmp.{alike_right}
 use Rattle.pagable_traits.proofs.Reordered.{Reordered, no-items, same-front, two-turned, and-then, reordered-same, after-reordered, apart-reordered}
-use Rattle.std.specs.declared.cmp.Ordering.TheVariants as answers
 
-equal-by : (o : Ordering) → is_eq o ≡ true → o ≡ answers.Equal
+equal-by : (o : Ordering) → is_eq o ≡ true → o ≡ Ordering.Equal
 equal-by o e = grind arith
 
 unequal-back : (o p : Ordering) → p ≡ ordering_reverse o → is_eq o ≡ false → is_eq p ≡ false
 unequal-back o p e h = grind arith
 
-above : {K : Type 0} (cmp : K → K → Ordering) → IsTotalOrder cmp → (a b : K) → cmp a b ≡ answers.Less → cmp b a ≡ answers.Greater
+above : {K : Type 0} (cmp : K → K → Ordering) → IsTotalOrder cmp → (a b : K) → cmp a b ≡ Ordering.Less → cmp b a ≡ Ordering.Greater
 above cmp total a b lt = total.antisymm b a ∙ ap ordering_reverse lt
 
-below : {K : Type 0} (cmp : K → K → Ordering) → IsTotalOrder cmp → (a b : K) → cmp a b ≡ answers.Greater → cmp b a ≡ answers.Less
+below : {K : Type 0} (cmp : K → K → Ordering) → IsTotalOrder cmp → (a b : K) → cmp a b ≡ Ordering.Greater → cmp b a ≡ Ordering.Less
 below cmp total a b gt = total.antisymm b a ∙ ap ordering_reverse gt
 
 module _ {K V : Type 0} (cmp : K → K → Ordering) (total : IsTotalOrder cmp) where
@@ -34,7 +33,7 @@ module _ {K V : Type 0} (cmp : K → K → Ordering) (total : IsTotalOrder cmp) 
 
   -- ---- two entries with different keys
 
-  turn-less : (acc : List (K × V)) (a b : K × V) → cmp a.0 b.0 ≡ answers.Less → put_key (put_key acc a) b ≡ put_key (put_key acc b) a
+  turn-less : (acc : List (K × V)) (a b : K × V) → cmp a.0 b.0 ≡ Ordering.Less → put_key (put_key acc a) b ≡ put_key (put_key acc b) a
   turn-less [] a b lt = rw (lt, above cmp total a.0 b.0 lt) refl
   turn-less (y ∷ ys) a b lt = grind (arith, above, below, turn-less ys a b lt)
 
@@ -60,9 +59,9 @@ module _ {K V : Type 0} (cmp : K → K → Ordering) (total : IsTotalOrder cmp) 
   put-reordered (y ∷ ys) e other = by_case (put-reordered ys e other.1) (cmp e.0 y.0) refl
     where
       by_case : Reordered (e ∷ ys) (put_key ys e) → (o : Ordering) → cmp e.0 y.0 ≡ o → Reordered (e ∷ y ∷ ys) (match_ordering o ((e.0, e.1) ∷ y ∷ ys) ((y.0, e.1) ∷ ys) (y ∷ put_key ys e))
-      by_case later answers.Less f = reordered-same (e ∷ y ∷ ys)
-      by_case later answers.Equal f = let t : is_eq (cmp e.0 y.0) ≡ true = ap is_eq f in let u : is_eq (cmp e.0 y.0) ≡ false = other-back y e other.0 in cc
-      by_case later answers.Greater f = and-then _ (y ∷ e ∷ ys) _ (two-turned e y ys) (same-front y _ _ later)
+      by_case later Ordering.Less f = reordered-same (e ∷ y ∷ ys)
+      by_case later Ordering.Equal f = let t : is_eq (cmp e.0 y.0) ≡ true = ap is_eq f in let u : is_eq (cmp e.0 y.0) ≡ false = other-back y e other.0 in cc
+      by_case later Ordering.Greater f = and-then _ (y ∷ e ∷ ys) _ (two-turned e y ys) (same-front y _ _ later)
 
   -- entries with different keys are all there once they are put in order
   pub in-order-reordered : (es : List (K × V)) → Apart OtherKey es → Reordered es (in_order es)
@@ -76,11 +75,11 @@ module _ {K V : Type 0} (cmp : K → K → Ordering) (total : IsTotalOrder cmp) 
 
   -- ---- a value that is replaced
 
-  put-again : (acc : List (K × V)) (a : K × V) (k : K) (v : V) → cmp k a.0 ≡ answers.Equal → put_key (put_key acc a) (k, v) ≡ put_key acc (a.0, v)
+  put-again : (acc : List (K × V)) (a : K × V) (k : K) (v : V) → cmp k a.0 ≡ Ordering.Equal → put_key (put_key acc a) (k, v) ≡ put_key acc (a.0, v)
   put-again [] a k v same = rw same refl
   put-again (y ∷ ys) a k v same = grind (arith, put-again ys a k v same)
 
-  same-after : (k : K) (v : V) (y : K × V) → cmp k y.0 ≡ answers.Equal → (xs : List (K × V)) → AllAfter OtherKey y xs → AllAfter OtherKey (k, v) xs
+  same-after : (k : K) (v : V) (y : K × V) → cmp k y.0 ≡ Ordering.Equal → (xs : List (K × V)) → AllAfter OtherKey y xs → AllAfter OtherKey (k, v) xs
   unfolding AllAfter
   same-after k v y same [] h = tt
   same-after k v y same (x ∷ xs) h = (ap is_eq (alike_right total k y.0 x.0 same) ∙ h.0, same-after k v y same xs h.1)
@@ -93,6 +92,6 @@ module _ {K V : Type 0} (cmp : K → K → Ordering) (total : IsTotalOrder cmp) 
     where
       by_case : (is_some (lookup test ys) ≡ true → put_all put_key (put_key acc y) (set_value test ys v) ≡ put_key (put_all put_key (put_key acc y) ys) (k, v)) → (b : Bool) → test y.0 ≡ b → put_all put_key acc (set_value test (y ∷ ys) v) ≡ put_key (put_all put_key acc (y ∷ ys)) (k, v)
       by_case rest true e =
-          let same : cmp k y.0 ≡ answers.Equal = equal-by (cmp k y.0) (agrees y.0 ∙ e) in
+          let same : cmp k y.0 ≡ Ordering.Equal = equal-by (cmp k y.0) (agrees y.0 ∙ e) in
           rw e (ap (λ (zs : List (K × V)). put_all put_key zs ys) (sym (put-again acc y k v same)) ∙ put-late (put_key acc y) (k, v) ys (same-after k v y same ys apart.0))
       by_case rest false e = let later : is_some (lookup test ys) ≡ true = rw e at found in rw e (rest later)

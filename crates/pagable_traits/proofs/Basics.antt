@@ -5,7 +5,6 @@ use Rattle.pagable_traits.proofs.Words.{WritesSome, Refused, Grows, Answer, Give
 use Rattle.pagable_traits.proofs.Words.{◌+◌, ◌*◌, ◌≤◌, ◌^◌, arith, ap, ◌∙◌, w32, w64, handles_at}
 use Rattle.std.{proofs.{Common.◌/◌, lemmas.Bool.le-ltb, lemmas.Nat.mod_below}, specs.{Duration.as_nanos, declared.time.Duration.Duration}}
 use Rattle.pagable_model.specs.{Basic.{nanos_of_second, duration_form, duration_at}, Carried.of_duration, Form.duration-form, Shape.duration, Spans.{seconds_of, nanos_of, of_span}}
-use Rattle.pagable_model.specs.declared.error.Error.TheVariants as errors
 use Rattle.std.{specs.Int.{Width, w8}, specs.Char.IsScalar, proofs.Common.{◌<◌, rules, FitsSigned, to_z, of_z}}
 use Rattle.pagable_codec.proofs.Writing.{writes_unsigned, writes_signed, writes_flag, writes_letter}
 use Rattle.pagable_model.specs.{Basic.{bool_form, char_form}, Numbers.{bound, IsSigned, unsigned_form, signed_form}, Meaning.{text, flag}, Shape.{unsigned, letter, flag as flag_shape}}
@@ -106,7 +105,7 @@ pub gives_span : (levels : ℕ) (parts : ℕ → Shape) (r : Result Duration Err
 unfolding read read_with
 gives_span levels parts r rest last bytes after e f h = rw f (gives_bytes never (λ d. (seconds_of d, nanos_of d)) (λ p. of_duration p.0 p.1) duration_at r rest after (rw e h))
 
-pub span_overflows : (bytes mid after : List ℕ) (s n : ℕ) → unsigned_at w64 bytes ≡ Ok (s, mid) → unsigned_at w32 mid ≡ Ok (n, after) → 2 ^ 64 ≤ s + n / nanos_of_second → duration_at bytes ≡ Err errors.BadDuration
+pub span_overflows : (bytes mid after : List ℕ) (s n : ℕ) → unsigned_at w64 bytes ≡ Ok (s, mid) → unsigned_at w32 mid ≡ Ok (n, after) → 2 ^ 64 ≤ s + n / nanos_of_second → duration_at bytes ≡ Err Error.BadDuration
 unfolding duration_at
 span_overflows bytes mid after s n g h le = rw (g, h, le-ltb (s + n / nanos_of_second) (2 ^ 64) le) refl
 

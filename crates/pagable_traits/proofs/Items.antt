@@ -4,7 +4,6 @@ use Rattle.pagable_traits.proofs.Words.{append-nil, ◌⊎◌, Error, ArcRef, �
 use Rattle.pagable_traits.proofs.Words.{Nesting, FormAt, FormsAt, WritesSome, WritesSomeAll, Grows, kind_of_arc, NoForm, NoForms, MeanAll, mean-none, mean-more, then}
 use Rattle.pagable_traits.proofs.{Words.{Result, IfErr, long_or, NoFormOfSome, Refused, RefusedAll, Meanings, MeansList, items_have_meanings, some}, Parts.{ok_along, err_along}}
 use Rattle.pagable_model.specs.{Shape.{array, run}, Form.{array-form, run-form}}
-use Rattle.pagable_model.specs.declared.error.Error.TheVariants as errors
 use Rattle.std.proofs.lemmas.List.{take_more}
 use Rattle.pagable_model.specs.Form.{Form}
 use Rattle.pagable_codec.proofs.Writing.{out_is}
@@ -150,7 +149,7 @@ no_long_run M xs n s lt =
     let long : longest < length all.0 = rw (mean-length all.1) lt in
     record { m = sequence all.0; is = record { ms = all.0; each = all.1; is = refl }; no_form = λ b k f. omega (arith, (run-parts n all.0 f refl).0) }
 
-pub long_refuses : (part : Error → Type 0) → long_or part errors.TooLong
+pub long_refuses : (part : Error → Type 0) → long_or part Error.TooLong
 long_refuses part = inl refl
 
 pub ruleset arrays = (ok_along, err_along, writes_array, refused_array)

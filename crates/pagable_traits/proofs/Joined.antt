@@ -2,7 +2,7 @@
 use Rattle.pagable_traits.proofs.Words.{◌≡◌, ℕ, List, [], ◌++◌, length, ◌∙◌, Result, Ok, Err, Option, Some, None, ap, ◌≤◌, OnOk, IfErr, Bool, true, false, Error, ArcRef, bool_form, longest, text_form}
 use Rattle.pagable_traits.proofs.Words.{MeansOption, means-none, means-some, MeansPair, MeansResult, means-ok, means-err, Meaning, present, success, failure, Shape, optional, outcome, text-form, some-form}
 use Rattle.pagable_traits.proofs.{Words.{err-form, ok-form, Is, Out, Nesting, WritesSome, added, grows_trans, memory_refuses, refused_memory, NoForm, Refused, writes_is, writes_bytes}, Parts.ok_along}
-use Rattle.pagable_traits.proofs.{Words.{FormAt, Grows}, Parts.{err_along, some_along, refused_along, writes_absent, writes_whole, refuses_whole, writes_both, first_refused, second_refused}}
+use Rattle.pagable_traits.proofs.{Words.{FormAt, Grows, some}, Parts.{err_along, some_along, refused_along, writes_absent, writes_whole, refuses_whole, writes_both, first_refused, refused_second}}
 use Rattle.std.specs.{Borrow.Bor, Str.IsUtf8}
 use Rattle.pagable_model.specs.Cells.{MeansOnce}
 use Rattle.pagable_model.specs.Meaning as meanings
@@ -94,4 +94,4 @@ pub ruleset writes_result = (steps, writes_success, writes_failure, refused_succ
 
 pub ruleset alike = (ok_along, err_along, some_along, refused_along, pair_along)
 
-pub ruleset pairs = (ok_along, err_along, grows_trans, writes_both, first_refused, second_refused)
+pub ruleset pairs = (ok_along, err_along, grows_trans, writes_both, first_refused, refused_second, some)

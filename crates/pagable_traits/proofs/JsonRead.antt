@@ -10,10 +10,9 @@ use Rattle.serde_json.specs.{Data.number, Find.of_integer}
 use Rattle.pagable_model.specs.Reading.{json_case, below}
 use Rattle.pagable_codec.specs.{declared.env.Env.Ghosts as Environments, declared.deserializer.PagableDeserializer.Ghosts as Deserializers}
 use Rattle.serde_json.specs.declared.value.Value as values
-use Rattle.pagable_model.specs.declared.error.Error.TheVariants as errors
 use Rattle.pagable_model.specs.Meaning as meanings
 
-pub no-case : (n : ℕ) → 5 < n → json_case n ≡ Err errors.JsonCase
+pub no-case : (n : ℕ) → 5 < n → json_case n ≡ Err Error.JsonCase
 no-case n lt = rw (ne_eqb n 0 (λ e. omega arith), ne_eqb n 1 (λ e. omega arith), ne_eqb n 2 (λ e. omega arith), ne_eqb n 3 (λ e. omega arith), ne_eqb n 4 (λ e. omega arith), ne_eqb n 5 (λ e. omega arith)) refl
 
 whole-means : (z : ℤ) → of_data (number (of_integer z)) ≡ variant 2 (integer z)
@@ -40,11 +39,11 @@ module _ (c : Context Answer ArcRef) (rest : Rest Answer) where
 
 module _ (levels : ℕ) (parts : ℕ → Shape) (rest : Rest Answer) where
   module _ (count : ℕ) (mid : Rest Answer) (counted : bytes_of length_at (λ n. n) rest ≡ Ok (count, mid)) where
-    pub array-deep : deepest ≤ levels → part_at levels parts array_case rest ≡ Err errors.TooDeep
+    pub array-deep : deepest ≤ levels → part_at levels parts array_case rest ≡ Err Error.TooDeep
     unfolding below
     array-deep le = let left : deepest - levels ≡ 0 = omega arith in rw (left, counted) refl
 
-    pub object-deep : deepest ≤ levels → part_at levels parts object_case rest ≡ Err errors.TooDeep
+    pub object-deep : deepest ≤ levels → part_at levels parts object_case rest ≡ Err Error.TooDeep
     unfolding below
     object-deep le = let left : deepest - levels ≡ 0 = omega arith in rw (left, counted) refl
 

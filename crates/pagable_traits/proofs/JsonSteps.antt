@@ -4,7 +4,6 @@ use Rattle.pagable_traits.proofs.Words.{memory, memory_or, Meaning, Context, Get
 use Rattle.pagable_traits.proofs.{Words.{grows_trans, moves_trans, Piece, Wrote, Reads, nested_in, context_in}, Items.{with_front, starts, goes_on, ends, is_done}, Maps.viewed}
 use Rattle.pagable_traits.specs.JsonSteps.{value}
 use Rattle.pagable_codec.specs.{declared.env.Env.Ghosts as Environments, declared.serializer.PagableSerializer.Ghosts as Serializers, declared.deserializer.PagableDeserializer.Ghosts as Deserializers}
-use Rattle.pagable_model.specs.declared.error.Error.TheVariants as errors
 
 -- one level further down, where a level is left
 abbrev pub deeper : Nesting → Nesting
@@ -51,8 +50,8 @@ module _ {S E N H K V : Type 0} (env : Environments E N H K V) (s : Serializers 
   wrote-below {X} {P} {causes} {a} {b} {c} {d} r down out_in env_in p up out_out env_out = grind arith
 
   -- no level was left
-  pub wrote-deep : {X Y : Type 0} {P W : Piece} {first causes : Error → Type 0} {a b c : S} {x : X} {e : Error} (r : Result Y Error) → IsErrAnd r (λ f. f ≡ e) → Wrote env s P first a b (Ok x) → (e ≡ errors.TooDeep) × (deepest ≤ s.levels b) × (s.levels c ≡ s.levels b) → s.out c ≡ s.out b → s.environment c ≡ s.environment b
-      → ((n : Nesting) → deepest ≤ n.levels → W.lacks n e) → (e ≡ errors.TooDeep → causes e) → Wrote env s W causes a c r
+  pub wrote-deep : {X Y : Type 0} {P W : Piece} {first causes : Error → Type 0} {a b c : S} {x : X} {e : Error} (r : Result Y Error) → IsErrAnd r (λ f. f ≡ e) → Wrote env s P first a b (Ok x) → (e ≡ Error.TooDeep) × (deepest ≤ s.levels b) × (s.levels c ≡ s.levels b) → s.out c ≡ s.out b → s.environment c ≡ s.environment b
+      → ((n : Nesting) → deepest ≤ n.levels → W.lacks n e) → (e ≡ Error.TooDeep → causes e) → Wrote env s W causes a c r
   wrote-deep r is p deep out_in env_in lacks only = grind arith
 
 -- what is seen as it is
@@ -82,7 +81,7 @@ module _ {D E R N H K V : Type 0} (env : Environments E N H K V) (d : Deserializ
 
   -- no level was left
   pub read-deep : {Z W : Type 0} {a b c : D} {e : Error} (r : Result Z Error) {L : Z → W → Type 0} {whole : Context Answer ArcRef → Gets Answer W} → IsErrAnd r (λ f. f ≡ e) → MovesOn (d.standing a) (d.standing b) → d.environment b ≡ d.environment a → d.levels b ≡ d.levels a
-      → (e ≡ errors.TooDeep) × (deepest ≤ d.levels b) × (d.levels c ≡ d.levels b) → d.standing c ≡ d.standing b → d.environment c ≡ d.environment b → (deepest ≤ d.levels a → whole (context_in env d a) (d.rest a) ≡ Err errors.TooDeep) → Reads env d L whole a c r
+      → (e ≡ Error.TooDeep) × (deepest ≤ d.levels b) × (d.levels c ≡ d.levels b) → d.standing c ≡ d.standing b → d.environment c ≡ d.environment b → (deepest ≤ d.levels a → whole (context_in env d a) (d.rest a) ≡ Err Error.TooDeep) → Reads env d L whole a c r
   read-deep r is moves same_env same_levels deep standing_in env_in same = grind arith
 
   -- of this many, those before the index were read, and they mean this
@@ -119,3 +118,5 @@ module _ {D E R N H K V : Type 0} (env : Environments E N H K V) (d : Deserializ
     pub all-read : {Z W : Type 0} (z : Z) (view : List (Meaning ArcRef) → W) {L : Z → W → Type 0} {whole : Context Answer ArcRef → Gets Answer W} → count ≤ i → SoFar P get count i a b → ((ms : List (Meaning ArcRef)) → P ms → L z (view ms)) → whole (context_in env d a) (d.rest a) ≡ viewed view (items (get (context_in env d a)) count (d.rest a))
         → Reads env d L whole a b (let r : Result Z Error = Ok z in r)
     all-read z view le so means same = grind (arith, is_done)
+
+pub ruleset no_memory = (read-no-memory, moves_trans)

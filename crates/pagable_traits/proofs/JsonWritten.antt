@@ -15,7 +15,6 @@ use Rattle.pagable_model.specs.{Lifted.{list_single, pair_single}, Keyed.text_is
 use Rattle.pagable_codec.specs.{declared.env.Env.Ghosts as Environments, declared.serializer.PagableSerializer.Ghosts as Serializers}
 use Rattle.serde_json.specs.Data as kit
 use Rattle.serde_json.specs.declared.value.Value as values
-use Rattle.pagable_model.specs.declared.error.Error.TheVariants as errors
 use Rattle.pagable_model.specs.Meaning as meanings
 
 -- a case below 128 is its byte
@@ -112,7 +111,7 @@ json-text e h = grind arith
 pub json-long : (len : ℕ) (e : Error) → long_or_no_memory len e → json_causes e
 json-long len e h = grind arith
 
-pub json-deep : (e : Error) → e ≡ errors.TooDeep → json_causes e
+pub json-deep : (e : Error) → e ≡ Error.TooDeep → json_causes e
 json-deep e h = inr (inl h)
 
 -- a count is refused as its length is, or by want of memory

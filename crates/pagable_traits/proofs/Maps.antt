@@ -9,7 +9,6 @@ use Rattle.pagable_model.specs.{Basic.length_at, Keys.Ascends, Form.no-entries, 
 use Rattle.pagable_traits.proofs.Words.{Bool, false, IsDistinct, same_key, Differ}
 use Rattle.std.specs.Cmp.{IsEquivalence}
 use Rattle.pagable_model.specs.{Keys.put_placed, Shape.placed_map, Form.placed-map-form}
-use Rattle.std.specs.declared.cmp.Ordering.TheVariants as answers
 use Rattle.indexmap.specs.IndexMap as placed_maps
 
 -- ---- entries and the pairs that they are
@@ -178,7 +177,7 @@ put-in-order M N cmp order is (y ∷ xs) (f ∷ es) x e h first second = grind (
 put-in-order M N cmp order is _ _ x e h first second = absurd h
 
 below-all : {K V : Type 0} (M : K → Meaning ArcRef → Type 0) (N : V → Meaning ArcRef → Type 0) (cmp : K → K → Ordering) (order : KeyOrder) → IsOrderOf M cmp order → (x : K × V) (e : Entry ArcRef) → M x.0 e.0 → (xs : List (K × V)) (es : List (Entry ArcRef)) → EntriesMean M N xs es
-    → AllByRecursion (λ y. cmp x.0 y ≡ answers.Less) (keys_of xs) → AllAfter (λ (d f : Entry ArcRef). ordered order d.0 f.0 ≡ answers.Greater) e es
+    → AllByRecursion (λ y. cmp x.0 y ≡ Ordering.Less) (keys_of xs) → AllAfter (λ (d f : Entry ArcRef). ordered order d.0 f.0 ≡ Ordering.Greater) e es
 unfolding EntriesMean AllAfter
 below-all M N cmp order is x e first [] [] h lt = tt
 below-all M N cmp order is x e first (y ∷ xs) (f ∷ es) h lt = grind (arith, below-all M N cmp order is x e first xs es h.2 lt.1)

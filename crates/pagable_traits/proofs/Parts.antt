@@ -97,7 +97,3 @@ refused_second r M N has p n s t h = err_along r h (λ e k fault.
 pub first_refused : {X A B : Type 0} (r : Result X Error) (M : A → Meaning ArcRef → Type 0) (N : Meanings B) (x : A) (y : B) (n : Nesting) (s t : Shape) → IfErr r (Refused (M x) n s)
     → IfErr r (Refused (MeansPair M N.of (x, y)) n (both s t))
 first_refused r M N x y n s t h = err_along r h (λ e k. refuses_first M N.of (some N) (x, y) n s t e k)
-
-pub second_refused : {X A B : Type 0} (r : Result X Error) (M : Meanings A) (N : B → Meaning ArcRef → Type 0) (x : A) (y : B) (n : Nesting) (s t : Shape) → IfErr r (Refused (N y) n t)
-    → IfErr r (Refused (MeansPair M.of N (x, y)) n (both s t))
-second_refused r M N x y n s t h = refused_second r M.of N (some M) (x, y) n s t h

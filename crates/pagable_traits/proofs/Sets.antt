@@ -5,7 +5,6 @@ use Rattle.pagable_traits.proofs.{Words.{counted, read, read_with, Nesting, Form
 use Rattle.pagable_traits.proofs.{Collecting.reads_items, Walks.{Wraps, wraps-sequence}, Maps.{IsOrderOf, IsSameOf}}
 use Rattle.std.specs.{BTreeSet.insert_key}
 use Rattle.pagable_model.specs.{Keys.{put_sorted_item, put_placed_item, ItemsAscend, ItemsDiffer}, Shape.{sorted_set, placed_set}, Form.{sorted-set-form, placed-set-form}}
-use Rattle.std.specs.declared.cmp.Ordering.TheVariants as answers
 use Rattle.indexmap.specs.IndexSet as placed
 
 -- ---- refusals
@@ -37,8 +36,8 @@ put-item : {K : Type 0} (M : K → Meaning ArcRef → Type 0) (cmp : K → K →
 put-item M cmp order is x m h mean-none = mean-more x m [] [] h mean-none
 put-item M cmp order is x m h (mean-more y f xs ms g t) = grind (arith, mean-more, put-item M cmp order is x m h t)
 
-below-items : {K : Type 0} (M : K → Meaning ArcRef → Type 0) (cmp : K → K → Ordering) (order : KeyOrder) → IsOrderOf M cmp order → (x : K) (m : Meaning ArcRef) → M x m → {ys : List K} {ns : List (Meaning ArcRef)} → MeanAll M ys ns → AllByRecursion (λ y. cmp x y ≡ answers.Less) ys
-    → AllAfter (λ (a b : Meaning ArcRef). ordered order a b ≡ answers.Greater) m ns
+below-items : {K : Type 0} (M : K → Meaning ArcRef → Type 0) (cmp : K → K → Ordering) (order : KeyOrder) → IsOrderOf M cmp order → (x : K) (m : Meaning ArcRef) → M x m → {ys : List K} {ns : List (Meaning ArcRef)} → MeanAll M ys ns → AllByRecursion (λ y. cmp x y ≡ Ordering.Less) ys
+    → AllAfter (λ (a b : Meaning ArcRef). ordered order a b ≡ Ordering.Greater) m ns
 unfolding AllAfter
 below-items M cmp order is x m first mean-none lt = tt
 below-items M cmp order is x m first (mean-more y n ys ns h t) lt = (sym (is.agrees y x n m h first) ∙ is.antisymm y x ∙ ap ordering_reverse lt.0, below-items M cmp order is x m first t lt.1)

@@ -1,9 +1,10 @@
 -- Waits come to an end after each change of a table.
-use Rattle.std.proofs.{Common.{arith, ℕ, ◌≡◌, Bool, true, false, if◌then◌else◌, Option, Some, None, ◌⊎◌, inl, inr, refl, sym, ap, ◌∙◌, subst, nat_eq}, lemmas.Option.none-some}
+use Rattle.std.proofs.{Common.{arith, ℕ, zero, suc, ◌<◌, ◌≡◌, Bool, true, false, if◌then◌else◌, Option, Some, None, ◌⊎◌, inl, inr, refl, sym, ap, ◌∙◌, subst, nat_eq}, lemmas.Option.none-some}
 use Rattle.pagable_world.specs.{Workers.{is_open_outcome, with_outcome, IsOpenSlot, ComesToEnd, works, may-go-on, waits-on, with_slot, with_wait}, Plain.{Identity, SameAt, if_there}, World.Outcome}
 use Rattle.{std.proofs.lemmas.{Bool.Decides.nat_tests, Grind.{common_steps, merely}}, pagable_world.specs.World.{Slot, Shelf, SameShelf, is_identity}, pagable_walk.specs.Slots.Changes}
 use Rattle.pagable_walk.{proofs.{Held.{same-as, same-identity}, Waits.{some-same, open-is, closed}}, specs.Slots.{open_worker, WaitsFor, Ends, ends-at, EachEnds, claimed_by, SlotIs, SameSlots}}
-use mathlib.Core.Logic.{∥∥₁_map}
+use mathlib.Core.{HLevel.Σ_prop_path, Logic.{∥∥₁_map, ∥∥₁_elim, ∥∥₁_prop}}
+use native.Mathlib.Nat.{ℕ_set}
 
 module _ (s s' : Shelf) (h : (u w : ℕ) → WaitsFor s' u w → WaitsFor s u w ⊎ Ends s' w) where
   ends-still : {u : ℕ} → Ends s u → Ends s' u
@@ -74,5 +75,47 @@ module _ (old new : Identity → Option Slot) (i : Identity) (f : Slot → Slot)
 -- a slot that gets an outcome
 pub outcome-less : (o : Outcome) → is_open_outcome o ≡ false → (x : Slot) (w : ℕ) → open_worker (Some (with_outcome o x)) ≡ Some w → open_worker (Some x) ≡ Some w
 outcome-less o h x w e = grind (arith, nat_tests)
+
+-- ---- how many waits lead on from a worker
+
+-- so many, and no more
+abbrev Long : Shelf → ℕ → ℕ → Type 0
+Long s zero u = (w : ℕ) → WaitsFor s u w → ⊥
+Long s (suc n) u = (w : ℕ) × WaitsFor s u w × Long s n w
+
+module _ (s : Shelf) where
+  -- it waits for one alone
+  one-alone : (u w x : ℕ) → WaitsFor s u w → WaitsFor s u x → w ≡ x
+  one-alone u w x a b = some-same (sym a.still ∙ ap (λ k. open_worker (s.slots k)) (some-same (sym a.waits ∙ b.waits)) ∙ b.still)
+
+  same-long : (n m u : ℕ) → Long s n u → Long s m u → n ≡ m
+  same-long zero zero u a b = refl
+  same-long zero (suc m) u a b = absurd (a b.0 b.1)
+  same-long (suc n) zero u a b = absurd (b a.0 a.1)
+  same-long (suc n) (suc m) u a b = ap suc (same-long n m a.0 a.2 (subst (Long s m) (one-alone u b.0 a.0 b.1 a.1) b.2))
+
+  for-or-not : (u : ℕ) (i : Identity) → s.waits u ≡ Some i → (o : Option ℕ) → open_worker (s.slots i) ≡ o → ((w : ℕ) → WaitsFor s u w → ⊥) ⊎ ((w : ℕ) × WaitsFor s u w)
+  for-or-not u i e None h = inl (λ w f. none-some w (sym h ∙ ap (λ k. open_worker (s.slots k)) (some-same (sym e ∙ f.waits)) ∙ f.still))
+  for-or-not u i e (Some w) h = inr (w, record { i = i; waits = e; still = h })
+
+  waits-or-not : (u : ℕ) (o : Option Identity) → s.waits u ≡ o → ((w : ℕ) → WaitsFor s u w → ⊥) ⊎ ((w : ℕ) × WaitsFor s u w)
+  waits-or-not u None e = inl (λ w f. none-some f.i (sym e ∙ f.waits))
+  waits-or-not u (Some i) e = for-or-not u i e (open_worker (s.slots i)) refl
+
+  long : {u : ℕ} → Ends s u → (n : ℕ) × Long s n u
+  long (ends-at u f) = elim (waits-or-not u (s.waits u) refl) [ inl none ↦ (zero, none) | inr at ↦ let l = long (f at.0 at.1) in (suc l.0, (at.0, at.1, l.1)) ]
+
+  pub how-long : EachEnds s → (u : ℕ) → (n : ℕ) × ∥ Long s n u ∥₁
+  how-long ends u =
+      let one : (x y : (n : ℕ) × ∥ Long s n u ∥₁) → x ≡ y = λ x y. Σ_prop_path (λ n. ∥∥₁_prop) (∥∥₁_elim x.1 (ℕ_set _ _) (λ a. ∥∥₁_elim y.1 (ℕ_set _ _) (λ b. same-long x.0 y.0 u a b))) in
+      ∥∥₁_elim (ends u) one (λ e. let l = long e in (l.0, ∣ l.1 ∣₁))
+
+  -- fewer than from one that waits for it
+  pub nearer : (ends : EachEnds s) (u w : ℕ) → WaitsFor s u w → (how-long ends w).0 < (how-long ends u).0
+  nearer ends u w e =
+      let n = how-long ends u in
+      let m = how-long ends w in
+      let is : n.0 ≡ suc m.0 = ∥∥₁_elim n.1 (ℕ_set _ _) (λ a. ∥∥₁_elim m.1 (ℕ_set _ _) (λ b. same-long n.0 (suc m.0) u a (w, e, b))) in
+      omega (arith, is)
 
 pub ruleset empty = (nat_tests, common_steps, no-waits, none-some)

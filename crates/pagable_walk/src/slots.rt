@@ -2,7 +2,7 @@
 
 ghost use Rattle.std.specs.{Arc.arc_value, Prelude.{◌≡◌, ℕ, Some, OnOk, OnErr, IfOk, None, IfErr}};
 ghost use Rattle.{pagable_model.specs.declared.numbers.Identity.Identity as Named, pagable_world.specs.Workers.{with_outcome, with_slot, with_wait, IsOpenSlot, ComesToEnd, with_changed_slot}};
-ghost use Rattle.{pagable_world.specs.{Workers.with_failed, World.{published, failed, Slot, SameShelf}}, pagable_walk.specs.Slots.{written_of, claimed_by, slot_of, IsNamed, slots_in, AreNamed, shelf_in}};
+ghost use Rattle.{pagable_world.specs.{Workers.with_failed, World.{published, failed, Slot, SameShelf}}, pagable_walk.specs.Slots.{written_of, claimed_by, slot_of, IsNamed, slots_in, AreNamed}};
 ghost use Rattle.pagable_walk.specs.{Slots.{Stands, SlotIs, SameSlots, Leads, Changes, FailsAt, failed_by, after_failure, with_written, no_claims, Judges, ClaimsThere}, Table.shelf_of};
 ghost use Rattle.pagable_walk.specs.Table.{found_as, IsFoundOf};
 
@@ -181,38 +181,26 @@ pub fn fail_all<E: Trees>(slots: &mut IndexMap<(u32, u64), ArcSerSlot<E>>, worke
     }
 }
 
-/// Whether the worker `start` waits for one that waits, and so on, for the worker `asker`. As no workers wait in a ring, no more waits lead there than there are: where they did,
-/// the claim would be refused as one for which memory is wanting.
-pub fn comes_back<E: Trees>(
-    slots: &IndexMap<(u32, u64), ArcSerSlot<E>>,
-    waits: &IndexMap<u64, Identity>,
-    asker: u64,
-    start: u64,
-) -> Result<bool, AllocError>
-    requires { AreNamed slots.now }
-    ensures { IfOk result (Leads (shelf_in slots.now waits.now) asker start) }
-{
-    let mut left = waits.len();
-    let mut worker = start;
-    loop {
-        if worker == asker {
-            return Ok(true);
-        }
-        let Some(identity) = waits.get(&worker) else {
-            return Ok(false);
-        };
-        let Standing::Open(next) = look_up(slots, *identity) else {
-            return Ok(false);
-        };
-        if left == 0 {
-            return Err(AllocError);
-        }
-        left -= 1;
-        worker = next;
-    }
-}
-
 impl<E: Trees> SlotTable<E> {
+    /// Whether the worker `start` waits for one that waits, and so on, for the worker `asker`. As no workers wait in a ring, that comes to an end.
+    pub fn comes_back(&self, asker: u64, start: u64) -> bool
+        ensures { Leads (shelf_of self.now) asker start result }
+    {
+        let mut worker = start;
+        loop {
+            if worker == asker {
+                return true;
+            }
+            let Some(identity) = self.waits.get(&worker) else {
+                return false;
+            };
+            let Standing::Open(next) = look_up(&self.slots, *identity) else {
+                return false;
+            };
+            worker = next;
+        }
+    }
+
     // What a claim of an identity at this place on a path would find.
     fn judge(&self, worker: WorkerNumber, identity: Identity, place: u64) -> Result<Found<E>, Error>
         ensures judges { Judges worker.0 (shelf_of self.now) identity place (found_as result) }
@@ -231,7 +219,7 @@ impl<E: Trees> SlotTable<E> {
                 Ok(Found::Known(found))
             }
             Standing::Open(other) => {
-                if comes_back(&self.slots, &self.waits, worker.0, other)? {
+                if self.comes_back(worker.0, other) {
                     return Err(Error::TooDeep);
                 }
                 Ok(Found::Waiting)

@@ -1,14 +1,8 @@
 -- Calls on the cache and on room keep the world whole.
-use Rattle.pagable_tables.proofs.Words.{Among, HandleRow, ◌&&◌, ◌<◌, ◌==◌, ◌∙◌, ◌≡◌, ArePlaced, Bool, ClearCall, Core, Err, Error, HandleNumber, IsEntryWhole, IsWhole, Kind, MayHold, NodeNumber}
-use Rattle.pagable_tables.proofs.Words.{None, OfferCall, Ok, Option, Owner, RecallCall, ReserveCall, Result, Some, Suits, arith, false, greatest, if◌then◌else◌, inl, inr, is_shared}
-use Rattle.pagable_tables.proofs.{Words.{is_shared_kind, mode_of, nat_tests, refl, usable, with_cached, with_known, ℕ}, keeps.Kept.{GoOn, alike-rows, is-in, keeps-whole, loads-stay}}
-use Rattle.pagable_tables.proofs.keeps.{Kept.{same-rows, there-then}, Comes.{beside, handle-on, suits-like}, Fallen.{alike-opened, falls-opened, opened}, Rows.{counted, found-among}}
-use Rattle.pagable_tables.proofs.keeps.Told.{alike-whole, roomy, roomy-whole, settles, told-whole}
-use Rattle.pagable_tables.proofs.Words.{Owns}
-use Rattle.pagable_tables.proofs.Words.{fits_mode}
-use Rattle.pagable_tables.proofs.Words.{type_at}
-use Rattle.pagable_tables.proofs.Words.{type_of}
-use Rattle.pagable_tables.proofs.Words.{Alike}
+use Rattle.pagable_tables.proofs.Words.{Among, HandleRow, ◌&&◌, ◌<◌, ◌==◌, ◌∙◌, ◌≡◌, ArePlaced, Bool, ClearCall, Core, Error, HandleNumber, IsEntryWhole, IsWhole, Kind, MayHold, NodeNumber, Option}
+use Rattle.pagable_tables.proofs.Words.{Owner, RecallCall, ReserveCall, Result, Some, Suits, arith, false, greatest, if◌then◌else◌, is_shared, is_shared_kind, mode_of, nat_tests, refl, usable}
+use Rattle.pagable_tables.proofs.{Words.{with_cached, with_known, ℕ, Owns, fits_mode, type_at, type_of, Alike}, keeps.Kept.{GoOn, alike-rows, is-in, keeps-whole, loads-stay, same-rows, there-then}}
+use Rattle.pagable_tables.proofs.keeps.{Comes.{beside, suits-like}, Rows.{counted, found-among}, Told.{alike-whole, roomy, roomy-whole, settles, told-whole}}
 
 pub clear-whole : {w w' : Core} (r : Result (Unit {0}) Error) → IsWhole w → ClearCall w r w' → ArePlaced w' → IsWhole w'
 clear-whole {w} {w'} r whole call placed = let a = call.leaves in

@@ -1,14 +1,13 @@
 -- Calls by which a load goes on or ends, and the close of the storage, keep the world whole.
-use Rattle.pagable_tables.proofs.Words.{◌&&◌, ◌+◌, ◌<◌, ◌==◌, ◌∙◌, ◌∷◌, ◌≡◌, AdoptCall, AllPairs, Among, ArcRef, ArePlaced, Bool, CloseCall, Core, DropCall, EndCall, Err, Error, Falls, HandOverCall}
-use Rattle.pagable_tables.proofs.Words.{HandleNumber, HandleRow, IsEntryWhole, IsHandleBefore, IsWhole, Kind, LazyCall, List, LoadCloses, LoadNumber, MayHold, MayOwnLoad, Mode, NodeNumber, None, Ok}
-use Rattle.pagable_tables.proofs.Words.{OpenLoad, Option, OptionalDataKey, Owner, Owns, OwnsLoad, Result, Some, [], adopted, ap, arith, cell_fault, earlier, false, first_key, greatest, has_key}
-use Rattle.pagable_tables.proofs.Words.{if_there, if◌then◌else◌, inl, inr, is_handle, is_in, is_loose, is_loose_kind, is_named_by, is_owned_by, is_owned_in, is_owner, is_shared, is_some, load_fault}
-use Rattle.pagable_tables.proofs.Words.{mode_of, moved, named_fault, nat_tests, next_node, not, numbers_of, owner_value, references_fault, refl, row_of, shut, subst, sym, true, type_of}
-use Rattle.pagable_tables.proofs.{Words.{with_cached, with_handle, with_mode, with_node, with_pin, without_load, ℕ}, Handed.{found-there, one-fault}, Worlds.{fault-by, owner-same}}
-use Rattle.pagable_tables.proofs.keeps.{CacheCalls.{cached-whole, mode-shared}, Comes.{not-list}, Fallen.{alike-opened, falls-lost, opened}, HandleCalls.IsMine}
-use Rattle.pagable_tables.proofs.keeps.HandleCalls.{born-whole, mine-of, moved-number, moved-on, moved-to-holder, moved-to-value, named-own, named-unlisted, pin-comes, pin-on}
-use Rattle.pagable_tables.proofs.keeps.{Kept.{alike-rows, is-in, may-own}, LoadCalls.may-hold, Rows.{among-both, among-changed, among-last, among-one, found-among, found-so, once}, Told.GoesOn}
-use Rattle.pagable_tables.proofs.keeps.Told.{alike-whole, roomy, roomy-whole, stays-on, then-on}
+use Rattle.pagable_tables.proofs.Words.{◌&&◌, ◌+◌, ◌<◌, ◌==◌, ◌∙◌, ◌∷◌, ◌≡◌, AllPairs, Among, ArcRef, ArePlaced, Bool, CloseCall, Core, DropCall, EndCall, Err, Error, Falls, HandOverCall}
+use Rattle.pagable_tables.proofs.Words.{HandleNumber, HandleRow, IsEntryWhole, IsHandleBefore, IsWhole, Kind, List, LoadCloses, LoadNumber, MayHold, MayOwnLoad, Mode, NodeNumber, None, Ok, OpenLoad}
+use Rattle.pagable_tables.proofs.Words.{Option, OptionalDataKey, Owner, Owns, Result, Some, [], adopted, ap, arith, cell_fault, earlier, false, greatest, has_key, if_there, if◌then◌else◌, inl, inr}
+use Rattle.pagable_tables.proofs.Words.{is_handle, is_in, is_loose, is_named_by, is_owned_by, is_owned_in, is_owner, is_shared, load_fault, mode_of, moved, named_fault, nat_tests, next_node, not}
+use Rattle.pagable_tables.proofs.Words.{numbers_of, owner_value, references_fault, refl, row_of, shut, subst, sym, true, type_of, with_cached, with_handle, with_mode, with_node, with_pin}
+use Rattle.pagable_tables.proofs.{Words.{without_load, ℕ}, Handed.{found-there, one-fault}, Worlds.{fault-by, owner-same}, keeps.{CacheCalls.{cached-whole, mode-shared}, Comes.not-list}}
+use Rattle.pagable_tables.proofs.keeps.{Fallen.{alike-opened, falls-lost, opened}, HandleCalls.{IsMine, born-whole, mine-of, moved-number, moved-on, moved-to-holder, moved-to-value, named-own}}
+use Rattle.pagable_tables.proofs.keeps.{HandleCalls.{named-unlisted, pin-comes, pin-on}, Kept.{alike-rows, is-in, may-own}, LoadCalls.may-hold, Rows.{among-both, among-changed, among-last, among-one}}
+use Rattle.pagable_tables.proofs.keeps.{Rows.{found-among, found-so, once}, Told.{GoesOn, alike-whole, roomy, roomy-whole, stays-on, then-on}}
 
 -- ---- a load closes
 

@@ -1,5 +1,5 @@
 -- Calls by which a handle comes, moves or is pinned, or a node comes, keep the world whole.
-use Rattle.pagable_tables.proofs.Words.{◌&&◌, ◌+◌, ◌<◌, ◌==◌, ◌||◌, ◌∙◌, ◌∷◌, ◌≡◌, Among, ArcRef, ArePlaced, AwayBirthCall, BirthCall, Bool, Cell, CloneCall, Core, Err, Error, HandleNumber, HandleRow}
+use Rattle.pagable_tables.proofs.Words.{◌&&◌, ◌+◌, ◌<◌, ◌==◌, ◌||◌, ◌∙◌, ◌∷◌, ◌≡◌, Among, ArcRef, ArePlaced, Bool, Cell, CloneCall, Core, Err, Error, HandleNumber, HandleRow}
 use Rattle.pagable_tables.proofs.Words.{IsWhole, List, LoosenCall, Makes, MayHold, Mode, NodeNumber, None, Ok, Option, OptionalDataKey, Owner, Owns, PinCall, Pinning, Result, Some, Suits, [], ap}
 use Rattle.pagable_tables.proofs.Words.{arith, false, find_row, greatest, has_key, if◌then◌else◌, inr, is_handle, is_loose, is_named_by, is_owned_by, is_owner, is_pinned, is_shared, moved, nat_tests}
 use Rattle.pagable_tables.proofs.Words.{next_node, one, or_else, owner_value, reference_fault, references_fault, refl, row_at, row_of, subst, sym, times, true, updated, with_handle, with_mode}

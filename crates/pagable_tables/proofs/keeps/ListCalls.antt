@@ -1,10 +1,9 @@
 -- Calls by which handles go to the list, come from it or fall keep the world whole.
-use Rattle.pagable_tables.proofs.Words.{◌&&◌, ◌++◌, ◌+◌, ◌<◌, ◌==◌, ◌∙◌, ◌∷◌, ◌≡◌, Among, ArePlaced, Core, Err, Error, HandleNumber, HandleRow, IsWhole, MayHold, Mode, None, Ok, Option}
-use Rattle.pagable_tables.proofs.Words.{Owner, ReleaseCall, Result, ScheduleCall, SetKeyCall, Some, TakeCall, UnpinCall, [], ap, arith, false, get_or_from_slice_get}
-use Rattle.pagable_tables.proofs.Words.{if◌then◌else◌, inl, inr, is_owned_by, is_owner, is_shared, moved, nat_tests, one, only_handle, refl, slice_get, slice_get_within}
-use Rattle.pagable_tables.proofs.{Words.{sum_by-remove, sum_by_push, sym, times, true, with_key, ℕ}, Left.of_list, keeps.{Comes.not-list, Fallen.{alike-opened, falls-opened}}}
-use Rattle.pagable_tables.proofs.keeps.{Fallen.opened, HandleCalls.{loose-unshared, moved-so}, Kept.{alike-rows, holder-in, is-in, keeps-whole, loads-stay, stays-old}}
-use Rattle.pagable_tables.proofs.keeps.{Rows.{changed-sum, counted, found-among, once}, Told.{alike-whole, moded-on, moded-whole, roomy-whole, settles, stays-on}}
+use Rattle.pagable_tables.proofs.Words.{◌&&◌, ◌++◌, ◌+◌, ◌<◌, ◌==◌, ◌∙◌, ◌∷◌, ◌≡◌, Among, ArePlaced, Core, Err, Error, HandleNumber, HandleRow, IsWhole, MayHold, Mode, None, Ok, Option, Owner, Result}
+use Rattle.pagable_tables.proofs.Words.{ScheduleCall, SetKeyCall, Some, TakeCall, UnpinCall, [], ap, arith, false, get_or_from_slice_get, if◌then◌else◌, inl, inr, is_owned_by, is_owner, is_shared}
+use Rattle.pagable_tables.proofs.{Words.{moved, nat_tests, one, only_handle, refl, slice_get, slice_get_within, sum_by-remove, sum_by_push, sym, times, true, with_key, ℕ}, Left.of_list}
+use Rattle.pagable_tables.proofs.keeps.{Comes.not-list, Fallen.{alike-opened, falls-opened, opened}, HandleCalls.{loose-unshared, moved-so}, Kept.{alike-rows, holder-in, is-in, keeps-whole}}
+use Rattle.pagable_tables.proofs.keeps.{Kept.{loads-stay, stays-old}, Rows.{changed-sum, counted, found-among, once}, Told.{alike-whole, moded-on, moded-whole, roomy-whole, settles, stays-on}}
 use Rattle.std.specs.List.{remove}
 
 -- The handle h of this row alone moves: what the list's handles of a number are then.

@@ -1,5 +1,5 @@
 -- A world that is told alike, or whose rows are changed one by one, stays whole, while rows and list are in their places.
-use Rattle.pagable_tables.proofs.{keeps.Kept.{GoOn, HasLike, IsIn, IsOld, is-in, keeps-whole, loads-stay, may-own, same-rows, stays-old}, Words.{◌&&◌, ◌==◌, ◌∙◌, ◌≡◌, Alike}}
+use Rattle.pagable_tables.proofs.{keeps.Kept.{GoOn, HasLike, IsIn, IsOld, is-in, keeps-whole, loads-stay, same-rows, stays-old}, Words.{◌&&◌, ◌==◌, ◌∙◌, ◌≡◌, Alike}}
 use Rattle.pagable_tables.proofs.Words.{Among, ArePlaced, Bool, Core, HandleNumber, HandleRow, IsWhole, List, Mode, NodeNumber, Owner, SameAt, Some, [], ap, arith, changed, false}
 use Rattle.pagable_tables.proofs.Words.{if◌then◌else◌, inl, is_at, is_handle, is_loose, is_owned_by, is_shared, length, nat_lt, nat_tests, one, refl, row_at, subst, sym, times, true}
 use Rattle.pagable_tables.proofs.{Words.{with_mode, ℕ}, keeps.Rows.{among-changed, among-to, each-changed, found-among, once, ordered-map, sum-map}}

@@ -1,8 +1,7 @@
 -- A worker that begins or ends keeps the world whole.
-use Rattle.pagable_tables.proofs.{keeps.Kept.{GoOn, IsIn, in-still, is-in, keeps-whole, loads-stay, same-rows}, Words.{◌+◌, ◌||◌, ◌≡◌, ◌≤◌, Among, ArePlaced, Core, HandleRow, IsWhole}}
-use Rattle.pagable_tables.proofs.Words.{ap, arith, false, if_there, inl, is_owner, is_workers, nat_tests, owner_worker}
-use Rattle.pagable_tables.proofs.{Words.{refl, true, with_worker, without_worker, ℕ}, keeps.{Fallen.{falls-lost, opened}, Rows.found-so, Told.{roomy-whole, stays-on}}}
-use Rattle.pagable_world.specs.Workers.{WorkerEnds, is_load_of}
+use Rattle.pagable_tables.proofs.{keeps.Kept.{GoOn, IsIn, in-still, is-in, keeps-whole, loads-stay, same-rows}, Words.{◌+◌, ◌||◌, ◌≡◌, ◌≤◌, Among, ArePlaced, Core, HandleRow, IsWhole, ap, arith}}
+use Rattle.pagable_tables.proofs.{Words.{false, if_there, inl, is_owner, is_workers, nat_tests, owner_worker, refl, true, with_worker, without_worker, ℕ}, keeps.Fallen.{falls-lost, opened}}
+use Rattle.{pagable_tables.proofs.keeps.{Rows.found-so, Told.{roomy-whole, stays-on}}, pagable_world.specs.Workers.{WorkerEnds, is_load_of}}
 
 -- ---- one worker more
 

@@ -98,6 +98,7 @@ fn array_part<E: Env, D: PagableDeserializer<E>>(
 
 // Reads an array of this many items. As many places as bytes are left are reserved at most.
 #[cycle(reading_json)]
+#[tactic(auto, using(crate::proofs::JsonSteps::no_memory))]
 fn read_items<E: Env, D: PagableDeserializer<E>>(
     alloc: Global,
     count: usize,
@@ -132,6 +133,7 @@ fn object_part<E: Env, D: PagableDeserializer<E>>(
 
 // Reads an object of this many members and puts each in: a later value of a repeated key stands.
 #[cycle(reading_json)]
+#[tactic(auto, using(crate::proofs::JsonSteps::no_memory))]
 fn read_members<E: Env, D: PagableDeserializer<E>>(
     alloc: Global,
     count: usize,

@@ -1,8 +1,5 @@
-use Rattle.pagable_loads.proofs.{Pinned.{start_pinned, start_refused, load_pinned, load_failed}, Stepped.{acts_map, acts_then}}
+use Rattle.pagable_loads.proofs.{Pinned.{start_pinned, load_pinned, load_failed}, Stepped.{acts_map, acts_then}}
 use Rattle.pagable_loads.proofs.over.pin_first.Goals as goal
-
-pub returns-in-Err : goal.returns-in-Err
-returns-in-Err g c = acts_map c.in-Err.ensures (start_refused _ _ c.requires.caller c.args.handle c.in-Err.e)
 
 pub returns-in-Pinned : goal.returns-in-Pinned
 returns-in-Pinned g c = acts_map (rw c.in-Pinned.is at c.in-Ok.ensures) (start_pinned _ _ c.requires.caller c.args.handle c.in-Pinned.pinned c.in-Pinned.was_unpinned)

@@ -1,8 +1,5 @@
-use Rattle.pagable_loads.proofs.{Pinned.{key_refused, key_read, key_failed}, Stepped.{acts_map, acts_then}}
+use Rattle.pagable_loads.proofs.{Pinned.{key_read, key_failed}, Stepped.acts_then}
 use Rattle.pagable_loads.proofs.over.read_over.Goals as goal
-
-pub returns-in-Err : goal.returns-in-Err
-returns-in-Err g c = acts_map c.in-Err.ensures (key_refused _ _ c.requires.caller c.args.key c.args.node_type c.in-Err.e)
 
 pub returns-in-Read : goal.returns-in-Read
 returns-in-Read g c =

@@ -1,7 +1,6 @@
 use Rattle.pagable_tables.proofs.Words.{◌≡◌, ◌+◌, ◌++◌, ◌∷◌, [], refl, ap, ◌∙◌, arith, inl, inr, None, Some, HandleRow, owner_value, moved, is_named_by, live, counts_at, refs_at, plain_of, key_in}
 use Rattle.pagable_tables.proofs.{Words.{has_key, nat_tests, rules}, Born.{born-fits, no-node}, Coming.rows-told, Doing.does-so, NewNodes.{bears-newer, bears-whole}, Worlds.same-cache}
-use Rattle.pagable_tables.proofs.keeps.Comes.{not-a-value}
-use Rattle.std.proofs.lemmas.Grind.{common_steps}
+use Rattle.{pagable_tables.proofs.keeps.Comes.not-a-value, std.proofs.lemmas.Grind.common_steps}
 use Rattle.pagable_tables.proofs.births.bear.Goals as goal
 
 pub returns-clause-does : goal.returns-clause-does

@@ -1,8 +1,7 @@
 use Rattle.pagable_tables.proofs.Words.{◌≡◌, ℕ, ◌&&◌, false, not, length, arith, ap, sym, ◌∙◌, subst, Some, None, Error, Owner, is_in, if_there, is_owner, OpenLoad, Falls, refused_if, is_owned_in}
 use Rattle.pagable_tables.proofs.{Words.{refl, numbers_of, is_owned_by, [], load_at, core_of, plain_of, load_in, with_tables, option_map, inl}, Bits.and-left, Doing.sheds-by, GivenAll.bare}
-use Rattle.pagable_tables.proofs.{Newer.{newer-falls, later-handed, closed-still}, Opened.owner-self}
-use Rattle.pagable_tables.proofs.Taken.{moved-less, begun-moved, owned-moved, no-load, may-hand, handed-free, moved-stands, still-listed, yours, MayHand, load-closed, owned-given, loads-anew}
-use Rattle.pagable_tables.proofs.keeps.{Comes.not-a-value, EndCalls.{hand-over-whole, handed-mine}, LoadCalls.may-hold}
+use Rattle.pagable_tables.proofs.{Newer.{newer-falls, later-handed, closed-still}, Opened.owner-self, Taken.{moved-less, begun-moved, owned-moved, no-load, may-hand, handed-free, moved-stands}}
+use Rattle.pagable_tables.proofs.{Taken.{still-listed, yours, MayHand, load-closed, owned-given, loads-anew}, keeps.{Comes.not-a-value, EndCalls.{hand-over-whole, handed-mine}, LoadCalls.may-hold}}
 use Rattle.pagable_tables.proofs.ending.load_take.Goals as goal
 
 pub unreachable-requires : goal.unreachable-requires

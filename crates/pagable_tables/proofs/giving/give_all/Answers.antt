@@ -37,6 +37,5 @@ loop-at-preserved g c =
 
 pub returns-clause-falls : goal.returns-clause-falls
 returns-clause-falls g c before u w loads f few between =
-    let i = c.loop-at.invariant in
     c.fall.ensures.falls before u _ (all-past before u w c.args.lists c.args.giving (λ is. (c.requires.listed is).0) c.args.reach (λ q e. (between q e).0) c.loop-at.t c.loop-at.left
-    (λ q in-reach below. c.in_default.ensures.none w q loads in-reach below) (i.2 before u w loads f few between))
+    (λ q in-reach below. c.in_default.ensures.none w q loads in-reach below) (c.loop-at.invariant.2 before u w loads f few between))

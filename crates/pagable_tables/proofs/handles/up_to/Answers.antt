@@ -1,5 +1,4 @@
-use Rattle.std.proofs.{Common.{leb, leb-true, leb-false, rules}, lemmas.List.Sorted.{IsPartitionPoint-from_clause, IsPartitionedBy-leb}}
-use Rattle.std.specs.List.Sorted.{IsNonDecreasingBy}
+use Rattle.std.{proofs.{Common.{leb, leb-true, leb-false, rules}, lemmas.List.Sorted.{IsPartitionPoint-from_clause, IsPartitionedBy-leb}}, specs.List.Sorted.IsNonDecreasingBy}
 use Rattle.pagable_tables.proofs.Words.{◌≡◌, ◌<◌, ◌≤◌, ◌⊎◌, inl, inr, ℕ, List, arith, ap, Place, AllPairs, IsBefore, get_or}
 use Rattle.pagable_tables.proofs.handles.up_to.Goals as goal
 

@@ -33,8 +33,7 @@ give_up-requires-clause-falling c =
     let e = c.in-Some.ensures in
     let f = c.in-Some-look.ensures in
     let number = ap (λ (n : HandleNumber). n.0) f.number in
-    let k = taken t (record t { nodes = c.pop_reference.new.nodes }) s.0 c.in-Some.reference c.in-Some-look.at.place c.in-Some-look.at.row s.2 e.here e.others e.counts f.place number in
-    (t.top ∷ s.0, k.1)
+    (t.top ∷ s.0, (taken t (record t { nodes = c.pop_reference.new.nodes }) s.0 c.in-Some.reference c.in-Some-look.at.place c.in-Some-look.at.row s.2 e.here e.others e.counts f.place number).1)
 
 pub unreachable-requires : goal.unreachable-requires
 unreachable-requires c =

@@ -16,10 +16,9 @@ unreachable-requires-in_default-root c =
 
 pub returns-in-Ok-clause-ready : goal.returns-in-Ok-clause-ready
 returns-in-Ok-clause-ready c stored closed failures =
-    let t = c.args.t.now in
     let me = c.args.me in
     let l = c.args.load in
-    let w = core_of t stored closed failures in
+    let w = core_of c.args.t.now stored closed failures in
     let none : end_fault w me l c.args.node_type c.args.references.now ≡ None = sym (c.end_fault.ensures stored closed failures) ∙ c.in_default.is in
     let load = load_in c.in-Some-load_of.row in
     let is : w.loads l.0 ≡ Some load = ap (option_map load_in) (sym c.load_of.ensures ∙ c.in-Some-load_of.is) in

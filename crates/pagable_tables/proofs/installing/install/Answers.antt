@@ -2,9 +2,8 @@ use Rattle.pagable_tables.proofs.Words.{◌≡◌, ◌<◌, ◌+◌, ◌++◌, �
 use Rattle.pagable_tables.proofs.Words.{is_pin, owner_value, is_here, cases_Bool, ArcRef, Falls, Holdings, IsFalling, owns_nothing, Tables, moved, is_named_by, row_of, live, counts_at, refs_at}
 use Rattle.pagable_tables.proofs.Words.{load_at, has_value, cell_in, core_of, plain_of, nat_tests, references_fault, without_load, with_pin, is_owned_in, FallsAnyhow, ◌&&◌, ◌⊎◌, Core, LoadNumber}
 use Rattle.pagable_tables.proofs.{Words.{HandleRow, Result, Error, option_map, load_in}, Coming.{rows-told, some-held, turned}, Doing.lazily-by, Fitting.{fits-same, pins-le-held}, GivenAll.bare}
-use Rattle.pagable_tables.proofs.{Installed.{no-wanting, ended, has-come, install-newer, pins-here, none-moves, not-so, so-then, ready-owner}, Joined.{joined-fits, owns-none}}
-use Rattle.pagable_tables.proofs.{Newer.{closed-still, later-so}, Stays.not-named, keeps.{Comes.not-a-value, EndCalls.end-whole, HandleCalls.no-references, LoadCalls.may-hold}}
-use Rattle.pagable_tables.specs.Becoming.{coming}
+use Rattle.pagable_tables.proofs.{Installed.{no-wanting, ended, has-come, install-newer, pins-here, none-moves, not-so, so-then, ready-owner}, Born.{joined-fits, owns-none}, Newer.closed-still}
+use Rattle.pagable_tables.{proofs.{Newer.later-so, Stays.not-named, keeps.{Comes.not-a-value, EndCalls.end-whole, HandleCalls.no-references, LoadCalls.may-hold}}, specs.Becoming.coming}
 use Rattle.pagable_tables.proofs.installing.install.Goals as goal
 
 -- references that don't come are as good
@@ -92,7 +91,6 @@ returns-clause-does g c =
     let j = c.join.ensures in
     lazily-by
     (λ stored closed failures e.
-    let w = core_of t stored closed failures in
     let r = c.requires.ready stored closed failures in
     let next = (c.in-Ok.ensures.does.does stored closed failures).pinned.0 in
     record {
@@ -100,7 +98,7 @@ returns-clause-does g c =
       owned = r.owned;
       at = refl;
       next = record { above = next.above; is_left = next.is_left };
-      falls = falls-so b w me l row rs c.give_all.result _ r.away
+      falls = falls-so b (core_of t stored closed failures) me l row rs c.give_all.result _ r.away
           (ended t t1 stored closed c.args.lists failures c.requires.whole c.in-Ok.ensures.does.whole e row p.owned.live me (ready-owner t me l c.args.node_type rs c.args.ending c.requires.whole p) l (coming b rs)
           (good-so b (plain_of t) (Owner.Load l) rs p.may.good) (c.in-Ok.ensures.does.does stored closed failures).pinned.1 same c.join.new.t j.handles.rows (ap (λ (h : Holdings). h.list) j.same) (ap (λ (h : Holdings). h.last_handle) j.same)
           j.handles.capacity (λ m. ap cell_in (j.counts m)) c.args.ending.load.since c.give_all.new.t (load_at c.close.new.rows)
@@ -114,11 +112,10 @@ returns-clause-does g c =
 
 pub returns-clause-sheds : goal.returns-clause-sheds
 returns-clause-sheds g c =
-    let t = c.args.t.now in
     let p = c.requires.ready (λ key. None) (not c.args.lists) 0 in
     record {
       left = λ kept. c.give_all.ensures.sheds.left (λ n falls. kept n
           ∙ sym (ap has_value (c.join.ensures.counts n)
-          ∙ has-come t c.pin_here.new.t (λ key. None) (not c.args.lists) 0 c.requires.whole c.in-Ok.ensures.does.whole c.args.ending.row p.owned.live c.args.me
+          ∙ has-come c.args.t.now c.pin_here.new.t (λ key. None) (not c.args.lists) 0 c.requires.whole c.in-Ok.ensures.does.whole c.args.ending.row p.owned.live c.args.me
           (c.in-Ok.ensures.does.does (λ key. None) (not c.args.lists) 0).pinned.1 n));
     }

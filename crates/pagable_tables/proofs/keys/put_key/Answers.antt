@@ -3,11 +3,10 @@ use Rattle.pagable_tables.proofs.keys.put_key.Goals as goal
 
 pub returns-clause-falling : goal.returns-clause-falling
 returns-clause-falling c =
-    let t = c.args.t.now in
     let n = c.args.node in
     let b = c.unwrap-counts.result.pins == 0 in
     let e = c.set_counts.ensures in
-    let top : c.top_after-t.result ≡ (if b then n else t.top) = grind (arith, nat_tests, c.top_after-t.ensures, c.counts_keyed-with_key.ensures) in (
+    let top : c.top_after-t.result ≡ (if b then n else c.args.t.now.top) = grind (arith, nat_tests, c.top_after-t.ensures, c.counts_keyed-with_key.ensures) in (
       if b then n ∷ [] else [],
       record {
         sound = c.requires.steady.sound;

@@ -1,6 +1,5 @@
-use Rattle.pagable_tables.proofs.Words.{◌≡◌, ◌∙◌, ℕ, ap, sym, refl, false, None, inl, inr, arith, NodeNumber, fits_mode, Owns, offer_fault, recall_fault, nat_tests, core_of}
-use Rattle.pagable_tables.proofs.{Words.{option_map}, Opened.{offer-last, learned, recalls, not-recalled}, Worlds.{failed, same-cache}, keeps.Placed.whole-so, keeps.Told.told-whole}
-use Rattle.pagable_tables.proofs.keeps.CacheCalls.{known-suits, learns-whole}
+use Rattle.pagable_tables.proofs.Words.{◌≡◌, ◌∙◌, ℕ, ap, sym, refl, false, None, inl, inr, arith, NodeNumber, fits_mode, Owns, offer_fault, recall_fault, nat_tests, core_of, option_map}
+use Rattle.pagable_tables.proofs.{Opened.{offer-last, learned, recalls, not-recalled}, Worlds.{failed, same-cache}, keeps.{Placed.whole-so, Told.told-whole, CacheCalls.{known-suits, learns-whole}}}
 use Rattle.pagable_tables.proofs.known.cache_put.Goals as goal
 
 pub make-requires-clause-suits : goal.make-requires-clause-suits

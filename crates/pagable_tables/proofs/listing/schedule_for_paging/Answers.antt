@@ -23,9 +23,8 @@ returns-then-not-lists-clause-scheduled g c stored closed failures e =
 pub returns-then-not-lists-clause-whole : goal.returns-then-not-lists-clause-whole
 returns-then-not-lists-clause-whole g c =
     let w = core_of c.args.t.now (λ key. None) (not c.args.lists) 0 in
-    let is = c.requires.whole.core in
     let falls = c.give_back.ensures.falls w w (begun-whole c.args.t.now (λ key. None) (not c.args.lists) c.args.lists 0 c.requires.whole (not-closed c.args.lists)) (omega arith) in
-    whole-so c.give_back.ensures.steady (falls-opened (roomy-whole is) (stays-on (plain_of c.args.t.now)) falls)
+    whole-so c.give_back.ensures.steady (falls-opened (roomy-whole c.requires.whole.core) (stays-on (plain_of c.args.t.now)) falls)
 
 pub returns-clause-scheduled : goal.returns-clause-scheduled
 returns-clause-scheduled g c stored closed failures e =
@@ -33,9 +32,8 @@ returns-clause-scheduled g c stored closed failures e =
 
 pub returns-clause-whole : goal.returns-clause-whole
 returns-clause-whole g c =
-    let row = c.in_ok-at.at.row in
     let w = c.requires.whole.steady in
-    let unvalued = ap is_valued (owner-same c.args.me row.owner c.in_ok-at.ensures.owner) ∙ not-a-value (plain_of c.args.t.now) c.args.me c.requires.holder in
+    let unvalued = ap is_valued (owner-same c.args.me c.in_ok-at.at.row.owner c.in_ok-at.ensures.owner) ∙ not-a-value (plain_of c.args.t.now) c.args.me c.requires.holder in
     let steady = c.hand_over.ensures.stands (record c.args.t.now.holdings { list = c.push.new.self }) unvalued refl (record { sound = w.sound; next = w.next; fits = w.fits }) in
     whole-so steady (schedule-whole c.args.me c.args.handle (Ok tt) c.requires.whole.core c.requires.holder (returns-clause-scheduled g c (λ key. None) false 0 c.if-not-lists.false))
 

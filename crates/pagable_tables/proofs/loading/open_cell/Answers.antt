@@ -22,8 +22,7 @@ pub returns-in-Ok-clause-later : goal.returns-in-Ok-clause-later
 returns-in-Ok-clause-later c =
     let t = c.args.t.now in
     let l = t.last_load + 1 in
-    let w = plain_of t in
-    let n = newer-then (newer-handle w c.args.at.row.node Mode.LooseUnpinned (Owner.Load (record { 0 = l }))) (newer-alike (returns-in-Ok-clause-opened c (λ key. None) false 0)) in
+    let n = newer-then (newer-handle (plain_of t) c.args.at.row.node Mode.LooseUnpinned (Owner.Load (record { 0 = l }))) (newer-alike (returns-in-Ok-clause-opened c (λ key. None) false 0)) in
     later-opened c.requires.whole.core c.requires.later n l _ (none-yet (load_at t.loads l) t.last_load (λ some. (c.requires.whole.core.loads.numbered l some).1)) c.in_ok-open.ensures.here refl c.in_ok-open.ensures.others refl
 
 pub returns-in-Err-clause-later : goal.returns-in-Err-clause-later

@@ -1,6 +1,5 @@
-use Rattle.pagable_tables.proofs.Words.{Bool, true, inl, inr, ◌+◌, ◌≡◌, arith, refl, ap, sym, ◌∙◌, Some, rules, one, is_pinning, HandleRow, counts_at, falls_in}
-use Rattle.pagable_tables.proofs.{Words.{has_value, ValueStays, Counts, cases_eq, nat_tests}, Coming.{come-fits, come-cells, rows-told}}
-use Rattle.pagable_tables.proofs.Worlds.{alike}
+use Rattle.pagable_tables.proofs.Words.{Bool, true, inl, inr, ◌+◌, ◌≡◌, arith, refl, ap, sym, ◌∙◌, Some, rules, one, is_pinning, HandleRow, counts_at, falls_in, has_value, ValueStays, Counts}
+use Rattle.pagable_tables.proofs.{Words.{cases_eq, nat_tests}, Coming.{come-fits, come-cells, rows-told}, Worlds.alike}
 use Rattle.pagable_tables.proofs.making.come.Goals as goal
 
 -- a handle more takes no value, and brings none where it is

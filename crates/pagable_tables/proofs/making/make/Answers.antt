@@ -4,10 +4,9 @@ use Rattle.pagable_tables.proofs.making.make.Goals as goal
 pub come-requires-clause-live : goal.come-requires-clause-live
 come-requires-clause-live c =
     let n = c.args.node.0 in
-    let t = c.args.t.now in
     let d = c.requires.whole.steady.fits.holding n in
     let e = suits-held c.requires.whole.core c.args.node c.args.mode c.requires.suits in
-    some-held (counts_at t.holdings.nodes n) (omega arith)
+    some-held (counts_at c.args.t.now.holdings.nodes n) (omega arith)
 
 pub returns-clause-does : goal.returns-clause-does
 returns-clause-does c =

@@ -1,6 +1,5 @@
 use Rattle.pagable_tables.proofs.Words.{◌≡◌, ◌∙◌, ℕ, ap, subst, false, Some, None, is_owner, is_shared, is_owned_by, Alike, with_mode, HandleRow, Owner, Mode, Tables, core_of, plain_of, arith}
-use Rattle.pagable_tables.proofs.{Words.nat_tests, Stays.{pinned-alike, found-again}, keeps.Comes.not-list, keeps.HandleCalls.loose-unshared, keeps.Rows.found-among}
-use Rattle.pagable_tables.proofs.{Doing.does-as, Worlds.failed}
+use Rattle.pagable_tables.proofs.{Words.nat_tests, Stays.{pinned-alike, found-again}, keeps.{Comes.not-list, HandleCalls.loose-unshared, Rows.found-among}, Doing.does-as, Worlds.failed}
 use Rattle.pagable_tables.proofs.pinning.pin_here.Goals as goal
 
 pub make-requires-clause-suits : goal.make-requires-clause-suits

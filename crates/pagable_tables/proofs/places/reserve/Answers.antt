@@ -1,5 +1,4 @@
-use Rattle.pagable_tables.proofs.Words.{◌<◌, ◌≤◌, refl, subst, rules}
-use Rattle.pagable_tables.proofs.Doing.{does-as}
+use Rattle.pagable_tables.proofs.{Words.{◌<◌, ◌≤◌, refl, subst, rules}, Doing.does-as}
 use Rattle.pagable_tables.proofs.places.reserve.Goals as goal
 
 pub returns-then-room-more : goal.returns-then-room-more

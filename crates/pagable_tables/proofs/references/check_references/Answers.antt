@@ -1,5 +1,4 @@
-use Rattle.pagable_tables.proofs.{Words.{ℕ, Bool, Option, get_or, sym, ◌∙◌, arith, ◌∷◌, ArcRef, Blob, core_of}, Named.{seen-more, named-other, fault-some}}
-use Rattle.pagable_tables.proofs.Named.{fault-none}
+use Rattle.pagable_tables.proofs.{Words.{ℕ, Bool, Option, get_or, sym, ◌∙◌, arith, ◌∷◌, ArcRef, Blob, core_of}, Named.{seen-more, named-other, fault-some, fault-none}}
 use Rattle.pagable_tables.proofs.references.check_references.Goals as goal
 
 abbrev blank : ArcRef

@@ -1,6 +1,5 @@
 use Rattle.pagable_tables.proofs.Words.{◌≡◌, ◌∙◌, ap, filter, not, rules, nat_eq, Option, Some, None, Bool, true, false, if◌then◌else◌, refl, is_owner, owner_worker, LoadRow, left_load}
-use Rattle.std.{specs.Map.lookup, proofs.{lemmas.Cmp.nat_eq_equiv, lemmas.Map.Entries.{option_filter, lookup-filter-values}}}
-use Rattle.indexmap.proofs.CallerLemmas.{filter-RetainsPairs}
+use Rattle.{std.{proofs.lemmas.{Cmp.nat_eq_equiv, Map.Entries.{option_filter, lookup-filter-values}}, specs.Map.lookup}, indexmap.proofs.CallerLemmas.filter-RetainsPairs}
 use Rattle.pagable_tables.proofs.workers.close_loads.Goals as goal
 
 kept : (b : Bool) (row : LoadRow) → (if not b then Some row else None) ≡ (if b then None else Some row)

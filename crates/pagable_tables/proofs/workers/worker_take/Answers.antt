@@ -1,5 +1,4 @@
-use Rattle.pagable_tables.{proofs.{Words.{core_of, refl}, Taken.{begun-core, takes-worker}}}
-use Rattle.pagable_tables.proofs.{Doing.does-as, Worlds.failed}
+use Rattle.pagable_tables.proofs.{Words.{core_of, refl}, Taken.{begun-core, takes-worker}, Doing.does-as, Worlds.failed}
 use Rattle.pagable_tables.proofs.workers.worker_take.Goals as goal
 
 pub returns : goal.returns

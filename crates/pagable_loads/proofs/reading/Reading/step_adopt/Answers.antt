@@ -1,4 +1,4 @@
-use Rattle.{std.proofs.Common.[], pagable_loads.{specs.Frames.{frame_of, onto}, proofs.{Stepped.{acts_map, adopt_comes, adopt_refused}, Lowering.node_leads}}}
+use Rattle.pagable_loads.proofs.Stepped.{acts_map, adopt_comes, adopt_refused}
 use Rattle.pagable_loads.proofs.reading.Reading.step_adopt.Goals as goal
 
 pub returns-in-Ok-clause-acts : goal.returns-in-Ok-clause-acts
@@ -8,6 +8,3 @@ returns-in-Ok-clause-acts g c =
 pub returns-clause-acts : goal.returns-clause-acts
 returns-clause-acts g c =
     acts_map c.in-Err.ensures (adopt_refused _ _ _ c.args.self.now c.args.value c.requires.node c.in_ok-top.top c.in_ok-top.under _ c.in_ok-top.ensures.ok.frames (c.in-Err.e, c.in-Err._value) _)
-
-pub returns-in-Ok-clause-leads : goal.returns-in-Ok-clause-leads
-returns-in-Ok-clause-leads g c = node_leads (frame_of c.in_ok-top.top) (frame_of c.in_ok-top.under) (onto [] c.take_two.new.self.below.items) c.in-Ok.reference c.in_ok-top.ensures.ok.frames c.put_got.ensures.gets

@@ -1,10 +1,5 @@
-use Rattle.{pagable_loads.proofs.Stepped.{acts_map, hands_over, hand_over_refused}, std.proofs.Common.{refl, ap, ◌∙◌}, pagable_world.specs.Loads.handles_of}
+use Rattle.{pagable_loads.proofs.Stepped.{acts_map, hand_over_refused}, std.proofs.Common.{ap, ◌∙◌}, pagable_world.specs.Loads.handles_of}
 use Rattle.pagable_loads.proofs.reading.Reading.step_hand_over.Goals as goal
-
-pub returns-in-Ok-clause-acts : goal.returns-in-Ok-clause-acts
-returns-in-Ok-clause-acts g c =
-    let named = c.as_slice-2.ensures.value ∙ c.in_ok-named.ensures.ok ∙ ap handles_of (c.as_slice.ensures.value ∙ c.in_ok-references.ensures.ok) in
-    acts_map c.in-Ok.ensures (hands_over _ _ _ c.args.self.now c.args.value c.requires.root c.requires.sort _ named _ refl)
 
 pub returns-in-Err-clause-acts : goal.returns-in-Err-clause-acts
 returns-in-Err-clause-acts g c =

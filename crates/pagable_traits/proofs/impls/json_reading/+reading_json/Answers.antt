@@ -1,4 +1,4 @@
-use Rattle.pagable_traits.proofs.{Words.{◌≡◌, refl, rules, ◌∙◌, insert_entry, MeansPair, mean-none, variant, sequence, Is, string_cmp, moves_trans, of_value, of_key}, JsonSteps.read-no-memory}
+use Rattle.pagable_traits.proofs.{Words.{◌≡◌, refl, rules, insert_entry, MeansPair, mean-none, variant, sequence, Is, string_cmp, of_value, of_key}}
 use Rattle.pagable_traits.proofs.{JsonSteps.{read-then, read-below, read-deep, none-so-far, one-more, refused-so-far, all-read, seen-same}, JsonRead.{array-deep, array-seen, is-array, object-deep}}
 use Rattle.pagable_traits.proofs.{JsonRead.object-read, Collecting.{collected_none, collected_more}, Items.mean_last}
 use Rattle.pagable_codec.proofs.Reading.{moves_refl}
@@ -43,18 +43,9 @@ read_items-loop-index-preserved g t c =
     one-more g.E.Env g.D.PagableDeserializer _ _ _ c.loop-index-test.true c.loop-index.invariant c.in_ok-value.ensures
     (λ ms m each is. rw c.in_ok-push.ensures.items (mean_last (Is of_value) c.loop-index.values.items ms c.in_ok-value.value m each is))
 
-pub read_items-returns-in_err-values : goal.read_items-returns-in_err-values
-read_items-returns-in_err-values g t c = let placed = c.places_for-places.ensures in read-no-memory g.E.Env g.D.PagableDeserializer c.from_residual.result c.from_residual.ensures.1 placed.moves placed.same_env placed.same_levels
-
 pub read_items-returns-in_err-value : goal.read_items-returns-in_err-value
 read_items-returns-in_err-value g t c =
     refused-so-far g.E.Env g.D.PagableDeserializer _ _ _ c.from_residual-in_err-value.result c.from_residual-in_err-value.ensures.1 c.loop-index-test.true c.loop-index.invariant c.in_err-value.ensures (λ h. rw h refl)
-
-pub read_items-returns-in_err-push : goal.read_items-returns-in_err-push
-read_items-returns-in_err-push g t c =
-    let so = c.loop-index.invariant in
-    let told = c.in_ok-value.ensures in
-    read-no-memory g.E.Env g.D.PagableDeserializer c.from_residual-in_err-push.result c.from_residual-in_err-push.ensures.1 (moves_trans _ _ _ so.moves told.moves) (told.same_env ∙ so.same_env) (told.same_levels ∙ so.same_levels)
 
 pub read_items-returns : goal.read_items-returns
 read_items-returns g t c = all-read g.E.Env g.D.PagableDeserializer _ _ _ (values.Array c.loop-index.values) (λ ms. variant 4 (sequence ms)) c.loop-index-test.false c.loop-index.invariant (λ ms each. is-array c.loop-index.values ms each) refl
@@ -71,12 +62,6 @@ read_members-loop-index-preserved g t c =
 pub read_members-returns-in_err-member : goal.read_members-returns-in_err-member
 read_members-returns-in_err-member g t c =
     refused-so-far g.E.Env g.D.PagableDeserializer _ _ _ c.from_residual.result c.from_residual.ensures.1 c.loop-index-test.true c.loop-index.invariant c.in_err-member.ensures (λ h. h)
-
-pub read_members-returns-in_err-insert : goal.read_members-returns-in_err-insert
-read_members-returns-in_err-insert g t c =
-    let so = c.loop-index.invariant in
-    let told = c.in_ok-member.ensures in
-    read-no-memory g.E.Env g.D.PagableDeserializer c.from_residual-in_err-insert.result c.from_residual-in_err-insert.ensures.1 (moves_trans _ _ _ so.moves told.moves) (told.same_env ∙ so.same_env) (told.same_levels ∙ so.same_levels)
 
 pub read_members-returns : goal.read_members-returns
 read_members-returns g t c =

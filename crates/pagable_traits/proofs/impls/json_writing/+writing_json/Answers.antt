@@ -1,7 +1,7 @@
 use Rattle.pagable_traits.proofs.{Words.{refl, sym, rules, ◌∙◌, Result, Ok, Err, Error, memory, long_or, MeansPair, both, json, text, Is, of_key, of_value}, Maps.{written-fewer, written-none}}
 use Rattle.pagable_traits.proofs.{Maps.{written-more, written-all, written-refused}, JsonSteps.{as-form, wrote-then, wrote-err, wrote-nothing, wrote-more, wrote-is, wrote-then-err, wrote-below}}
 use Rattle.pagable_traits.proofs.{JsonSteps.wrote-deep, JsonWritten.{as-value, seen-object, value-has, member-has, arrays, objects, json-text, json-long, json-deep}, Items.writes_no_items}
-use Rattle.pagable_traits.{proofs.{Items.writes_item, Walks.refuses_item, Parts.{writes_both, first_refused, second_refused}}, specs.Meanings.exactly}
+use Rattle.pagable_traits.{proofs.{Items.writes_item, Walks.refuses_item, Parts.{writes_pair, first_refused, refused_second}}, specs.Meanings.exactly}
 use Rattle.pagable_traits.proofs.impls.json_writing.+writing_json.Goals as goal
 
 pub write_value-returns-in-Object : goal.write_value-returns-in-Object
@@ -87,5 +87,5 @@ write_member-returns g t c =
     let w = c.in_ok-pagable_serialize.ensures in
     let r : Result (Unit {0}) Error = Ok tt in
     wrote-then g.E.Env g.S.PagableSerializer c.write_value.result (as-form g.E.Env g.S.PagableSerializer (Is of_key c.args.key.now) text (long_or memory) r w.ok w.refused w.only w.err w.same_env w.same_levels) c.write_value.ensures
-    (λ n old mid new v u. writes_both (Is of_key) (Is of_value) c.args.key.now c.args.value.now n text json old mid new v u)
-    (λ n e l h. second_refused {X = Unit {0}} (Err e) (exactly of_key) (Is of_value) c.args.key.now c.args.value.now n text json l) (λ e h. h)
+    (λ n old mid new v u. writes_pair (Is of_key) (Is of_value) (c.args.key.now, c.args.value.now) n text json old mid new v u)
+    (λ n e l h. refused_second {X = Unit {0}} (Err e) (Is of_key) (Is of_value) (λ k. (of_key k, refl)) (c.args.key.now, c.args.value.now) n text json l) (λ e h. h)
