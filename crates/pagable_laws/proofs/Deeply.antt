@@ -138,8 +138,12 @@ module _ {N E : Type 0} (v : Values N) (s : MachineState N E) (trees : ℕ → T
     where
       by : IsTooDeep shelf n (identity_of r) place → IsTooDeepTask trees task ⊎ WaitsForAsker shelf n (identity_of r)
       by (inl long) = inl (grind (arith, nat_tests, leads-down))
-      by (inr (inl (key, h, p, long))) = inl (grind (arith, nat_tests, leads-down,
-          (let k = known (identity_of r) key h p in attained-height (size (trees (identity_of r).node.0).meaning) (identity_of r) h (omega arith) k.written k.wrote k.stands.attained)))
+      by (inr (inl (key, h, p, long))) = inl (grind (
+        arith,
+        nat_tests,
+        leads-down,
+        (let k = known (identity_of r) key h p in attained-height (size (trees (identity_of r).node.0).meaning) (identity_of r) h (omega arith) k.written k.wrote k.stands.attained),
+      ))
       by (inr (inr (slot, still, back))) = inr (record {
         slot = slot;
         still = still;

@@ -136,8 +136,12 @@ module _ (rows : List HandleRow) (keyed : ℕ → Bool) (entries : List HandleRo
 
 -- so the given handles are the least set, and no more fall
 pub given-least : (rows : List HandleRow) (keyed : ℕ → Bool) (entries : List HandleRow) (given : ℕ → Bool) → OwnsNothing rows → IsLeast rows keyed entries given given
-given-least rows keyed entries given nothing = record { holds = within-self rows keyed entries given; closed = λ n goes. let none : sum_by
-    (λ h. one (is_owner (owner_value n) h.owner)) rows ≡ 0 = nothing n in grind (arith, nat_tests, and_parts, sum-le); least = λ t holds closed. holds }
+given-least rows keyed entries given nothing = record {
+  holds = within-self rows keyed entries given;
+  closed = λ n goes. let none : sum_by
+      (λ h. one (is_owner (owner_value n) h.owner)) rows ≡ 0 = nothing n in grind (arith, nat_tests, and_parts, sum-le);
+  least = λ t holds closed. holds;
+}
 
 pub given_alone : IsGivenAlone
 given_alone rows keyed entries given s h nothing least among = least_is_one rows keyed entries given s given h least (given-least rows keyed entries given nothing) among
@@ -194,5 +198,7 @@ not-unlisted stored call = elim call.does [
 
 pub is_listed : LoneIsListed
 unfolding find_row
-is_listed = record { listed = λ stored. record { does = inr (row_of 1 first_node Mode.LoosePinned Owner.Caller, record { live = refl; own = refl; as_asked = refl }, inr (refl, fell stored)) };
-    not_unlisted = not-unlisted }
+is_listed = record {
+  listed = λ stored. record { does = inr (row_of 1 first_node Mode.LoosePinned Owner.Caller, record { live = refl; own = refl; as_asked = refl }, inr (refl, fell stored)) };
+  not_unlisted = not-unlisted;
+}

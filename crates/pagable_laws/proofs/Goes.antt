@@ -133,7 +133,7 @@ fell {before} {w} {w'} f = quiet-then {m = fallen w f.gone f.entries} falls (ali
     falls : Quiet w (fallen w f.gone f.entries)
     falls = parts (le-more _ _) (le-self _) (λ n cell is. grind (arith, nat_tests)) (λ l load is. is) (λ kind key n is. is)
         (rows-then w.last.handle w.last.handle w.rows (left_rows f.gone w.rows) _ (le-of _ _ refl)
-            (λ q row found few. record { was = row; live = (found-left f.gone q w.rows row found).0; at = refl; mine = λ l is. refl; loose = λ is. is })
+        (λ q row found few. record { was = row; live = (found-left f.gone q w.rows row found).0; at = refl; mine = λ l is. refl; loose = λ is. is })
         (rows-more w.last.handle (left_rows f.gone w.rows) f.entries (λ q few. none-in-new w.last.handle q f.entries f.new few)))
 
 pub fell-anyhow : {before w w' : Core} {given : ℕ → Bool} → FallsAnyhow before w given w' → Quiet w w'

@@ -447,8 +447,16 @@ headline_met =
       idle = new.idle _ _ tt;
       stands = λ trees. new.stands _ _ tt trees;
       settled = λ n x is. two-settled x;
-      premised = (asked _ _ tt (λ trees. tt), (asked _ _ tt (λ trees. tt), (asked _ _ tt (λ trees. tt),
-          (asked _ _ tt (λ trees. tt), (pages 15 two.begun (two.loads ++ two.counts 2) births-good.3.0 begun-asks (loads-do, loads-asked)).1))));
+      premised = (
+        asked _ _ tt (λ trees. tt),
+        (
+          asked _ _ tt (λ trees. tt),
+          (
+            asked _ _ tt (λ trees. tt),
+            (asked _ _ tt (λ trees. tt), (pages 15 two.begun (two.loads ++ two.counts 2) births-good.3.0 begun-asks (loads-do, loads-asked)).1),
+          ),
+        ),
+      );
       headline = headline_law (Unit {0}) two.sample_seen two.new_one (two.moments 2) (new.whole _ _ tt) (new.idle _ _ tt)
           (births-do _ (pages 15 two.begun (two.loads ++ two.counts 2) births-good.3.0 begun-asks (loads-do, loads-asked)).0);
       no_other = no-other;

@@ -248,7 +248,7 @@ module _ {N B W : Type 0} (m : Seen N B W) (u u' : World) {c : Change} (goes : G
       (λ a b more slots n w all. all)
       (λ t shelf more same i key height p kind. key-on goes (held.slots t i key height (keys-same (λ j. sym (same j)) i key height p) kind))
       (λ n w none there. all-on goes n (λ q. λ h. let s = (spares n none).each h.h.0 h.row h.own (stands-whole whole h.h.0 h.row h.live) in
-          record { h = h.h; row = h.row; live = s.live; own = h.own; at = h.at }) w.todo (held.walks n w there)) (λ n shelf t task. first-hold n task) (λ k r s one more. a-step work k r s) in
+      record { h = h.h; row = h.row; live = s.live; own = h.own; at = h.at }) w.todo (held.walks n w there)) (λ n shelf t task. first-hold n task) (λ k r s one more. a-step work k r s) in
       record { walks = h.walks; slots = h.slots }
 
 -- and after each event of a whole machine that doesn't close the storage

@@ -373,8 +373,8 @@ module _ {N B W E : Type 0} (m : Seen N B W) (lawful : IsLawful m.values) (reada
       once : (q : ℕ) → times (λ (r : ArcRef). r.handle.0 == q) (m.values.references x) ≤ 1
       once q =
           let few = reads-once m.values.types frame.node_type frame.blob form.refs frame.got form.form form.kinds
-              (λ i j r q at there same. ((subst GotOnce is ready.once).once 0 i 0 j r q (record { frame = frame; at = refl; there = at })
-                  (record { frame = frame; at = refl; there = there }) same).1) decoded.own decoded.read q in
+          (λ i j r q at there same. ((subst GotOnce is ready.once).once 0 i 0 j r q (record { frame = frame; at = refl; there = at })
+          (record { frame = frame; at = refl; there = there }) same).1) decoded.own decoded.read q in
           omega (arith, lawful.refers x decoded.own decoded.means (λ r. r.handle.0 == q), few)
 
   sound : (l : LoadNumber) (reply : LoadReply N) → LoadSteps m.values (world_of s) l reply (world_of s') → Ready s l → (load : OpenLoad) (e : Error)

@@ -248,9 +248,11 @@ module _ {N E B W : Type 0} (m : Seen N B W) (s s' : MachineState N E) (whole : 
     kept-bounded : (reading : Reading) → IsBounded m.values.types u reading → IsBounded m.values.types u' reading
     kept-bounded reading b =
         let few = b.0 in
-        let more = goes.loads_last in
-        (omega (arith, few, more), λ load is_open. λ more after many longest under. (b.1 load (was-open goes reading.load.0 load b.0 is_open)) more
-            (λ q x is. after q x (goes.stored q x is)) many longest under)
+        let more = goes.loads_last in (
+          omega (arith, few, more),
+          λ load is_open. λ more after many longest under. (b.1 load (was-open goes reading.load.0 load b.0 is_open)) more
+              (λ q x is. after q x (goes.stored q x is)) many longest under,
+        )
 
     went-bounded : (reading : Reading) (frames : List Frame) → IsReadingOf u.work reading ⊎ IsFresh u.core reading → ReadingFeels m.values u.core reading None frames u'.core c
         → IsBounded m.values.types u' (gone_on reading frames)
