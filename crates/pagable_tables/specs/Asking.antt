@@ -1,5 +1,6 @@
 -- What a load asks of the tables. And a handle is offered to the cache, while the storage is open.
-use Rattle.{std.specs.Prelude.{ℕ, ◌≡◌, ◌==◌, ◌⊎◌, not, true, false, List, [], Option, Some, None, Result, IfOk, IfErr}, pagable_model.specs.declared.{error.Error.Error, numbers.ArcRef.ArcRef}}
+use Rattle.std.specs.Prelude.{ℕ, ◌≡◌, ◌==◌, ◌⊎◌, not, true, false, List, [], Option, Some, None, Result, IfOk, IfErr}
+use Rattle.pagable_model.specs.declared.{error.Error.Error, numbers.ArcRef.ArcRef}
 use Rattle.{pagable_model.specs.declared.numbers.{HandleNumber.HandleNumber, Kind.Kind, LoadNumber.LoadNumber}, pagable_world.specs.Refusals.{Owns, OwnsLoad, earlier, refused_if, load_fault}}
 use Rattle.pagable_world.specs.{Refusals.{references_fault, Refused, AreHandlesFull}, declared.handles.{HandleRow.HandleRow, Owner.Owner}, Kinds.fits_mode, Plain.{is_loose_kind, type_of}, World.Core}
 use Rattle.pagable_world.specs.{World.{OpenLoad, Alike, usable, type_at}, Calls.{Recalls, IsNext, with_cached, with_known, offer_fault}, LoadCalls.{ask_fault, is_known}, declared.calls.Want.Want}

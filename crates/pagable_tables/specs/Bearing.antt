@@ -1,5 +1,6 @@
 -- Nodes that come.
-use Rattle.{std.specs.Prelude.{ℕ, ◌≡◌, ◌<◌, List}, indexmap.specs.IndexMap.spare, pagable_model.specs.declared.numbers.{ArcRef.ArcRef, HandleNumber.HandleNumber}}
+use Rattle.std.specs.Prelude.{ℕ, ◌≡◌, ◌<◌, List}
+use Rattle.{indexmap.specs.IndexMap.spare, pagable_model.specs.declared.numbers.{ArcRef.ArcRef, HandleNumber.HandleNumber}}
 use Rattle.pagable_world.specs.{declared.{handles.Owner.Owner, rows.Mode.Mode}, World.{Core, Alike, HasRoom, greatest}, Calls.{IsNext, with_handle, with_node, next_node}}
 use Rattle.pagable_tables.specs.{declared.tables.Tables.Tables, Falling.key_in, Live.room}
 

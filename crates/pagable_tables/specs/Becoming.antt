@@ -1,5 +1,6 @@
 -- What handles become as a call changes them, in order and counted as they were. What a value refers to comes to its node with its handles, where the node has no value.
-use Rattle.{std.specs.Prelude.{ℕ, ◌≡◌, ◌≢◌, ◌≤◌, Bool, true, false, if◌then◌else◌, List, [], vec_capacity}, pagable_model.specs.declared.numbers.{ArcRef.ArcRef, NodeNumber.NodeNumber}}
+use Rattle.std.specs.Prelude.{ℕ, ◌≡◌, ◌≢◌, ◌≤◌, Bool, true, false, if◌then◌else◌, List, [], vec_capacity}
+use Rattle.pagable_model.specs.declared.numbers.{ArcRef.ArcRef, NodeNumber.NodeNumber}
 use Rattle.{pagable_world.specs.{declared.handles.HandleRow.HandleRow, Calls.{moved, is_named_by}, Kinds.owner_value}, pagable_tables.specs.declared.handles.Handles.Handles}
 use Rattle.pagable_tables.specs.{declared.holdings.Holdings.Holdings, Live.{live, AreSound, IsNext}, ByNumber.{counts_at, refs_at}}
 

@@ -1,5 +1,6 @@
 -- What a call of the tables does: its step in the plain world, and what it keeps.
-use Rattle.{std.specs.Prelude.{ℕ, ◌≡◌, Bool, not, Option, nat_eq}, indexmap.specs.IndexMap.{IndexMap, get}, pagable_world.specs.{Plain.Blob, World.Core}}
+use Rattle.std.specs.Prelude.{ℕ, ◌≡◌, Bool, not, Option, nat_eq}
+use Rattle.{indexmap.specs.IndexMap.{IndexMap, get}, pagable_world.specs.{Plain.Blob, World.Core}}
 use Rattle.pagable_tables.specs.{declared.tables.Tables.Tables, ByNumber.counts_at, Falling.Sheds, Core.{core_of, IsWhole}, Later.AreLater}
 
 -- The plain world makes the step, whatever is stored. The tables are whole, and what loads and workers own has come since they began, if it had.

@@ -1,5 +1,6 @@
 -- What loads and workers own has come since they began.
-use Rattle.{std.specs.Prelude.{ℕ, ◌≡◌, ◌<◌, ◌≤◌, true, Some}, pagable_world.specs.{Kinds.{is_owner, owner_worker}, LoadCalls.is_owned_in, declared.handles.Owner.Owner}}
+use Rattle.std.specs.Prelude.{ℕ, ◌≡◌, ◌<◌, ◌≤◌, true, Some}
+use Rattle.pagable_world.specs.{Kinds.{is_owner, owner_worker}, LoadCalls.is_owned_in, declared.handles.Owner.Owner}
 use Rattle.pagable_tables.specs.{declared.{rows.LoadRow.LoadRow, tables.Tables.Tables}, ByNumber.{load_at, reach_at}, Core.plain_of, Giving.InReach}
 
 pub record AreLater (t : Tables) : Type 0 where

@@ -1,5 +1,6 @@
 -- Handles that come to another owner, one after the other where they are named, or are pinned.
-use Rattle.{std.specs.Prelude.{[], Result, IfOk, IfErr, ℕ, zero, suc, List, ◌∷◌, get_or}, pagable_model.specs.declared.{error.Error.Error, numbers.HandleNumber.HandleNumber}}
+use Rattle.std.specs.Prelude.{[], Result, IfOk, IfErr, ℕ, zero, suc, List, ◌∷◌, get_or}
+use Rattle.pagable_model.specs.declared.{error.Error.Error, numbers.HandleNumber.HandleNumber}
 use Rattle.pagable_world.specs.{World.{Core, Alike}, Calls.{with_handle, with_mode, IsNext}, Refusals.{spent, Refused, AreHandlesFull}, declared.{handles.HandleRow.HandleRow, rows.Mode.Mode}}
 use Rattle.{pagable_world.specs.declared.handles.Owner.Owner, pagable_tables.specs.{declared.{handles.Handles.Handles, holdings.Holdings.Holdings}, Falling.{IsFalling, owns_nothing}}}
 

@@ -1,5 +1,6 @@
 -- Loads of cells that can end.
-use Rattle.{std.specs.Prelude.{ℕ, ◌≡◌, ◌≤◌, ◌<◌, ◌==◌, Bool, true, not, if◌then◌else◌, List, Option, Some, is_some}, pagable_model.specs.declared.{error.Error.Error, numbers.ArcRef.ArcRef}}
+use Rattle.std.specs.Prelude.{ℕ, ◌≡◌, ◌≤◌, ◌<◌, ◌==◌, Bool, true, not, if◌then◌else◌, List, Option, Some, is_some}
+use Rattle.pagable_model.specs.declared.{error.Error.Error, numbers.ArcRef.ArcRef}
 use Rattle.{pagable_model.specs.declared.numbers.{HandleNumber.HandleNumber, LoadNumber.LoadNumber, NodeNumber.NodeNumber}, pagable_world.specs.{declared.handles.Owner.Owner, Kinds.is_loose}}
 use Rattle.pagable_world.specs.{Kinds.any_mode, World.{Core, greatest, is_here}, Refusals.{Owns, Refused, load_fault, handle_fault}, LoadCalls.{MayEnd, end_fault}}
 use Rattle.pagable_tables.specs.{declared.{installing.{Ending.Ending, Unended.Unended}, rows.Counts.Counts, tables.Tables.Tables}, ByNumber.load_at, Live.room, Falling.{has_value, AreLeft}}

@@ -1,6 +1,7 @@
 //! The cache: which node is known under a kind and a key. It owns nothing.
 
-ghost use Rattle.{std.specs.Prelude.{true, false, ◌≡◌, ◌≢◌, ℕ, ◌⊎◌, Some, None, OnOk, OnErr, IsOk, ◌<◌, Option}, indexmap.specs.IndexMap.spare, pagable_tables.specs.ByNumber.known_at};
+ghost use Rattle.std.specs.Prelude.{true, false, ◌≡◌, ◌≢◌, ℕ, ◌⊎◌, Some, None, OnOk, OnErr, IsOk, ◌<◌, Option};
+ghost use Rattle.{indexmap.specs.IndexMap.spare, pagable_tables.specs.ByNumber.known_at};
 
 use indexmap::IndexMap;
 use pagable_model::{DataKey, Kind, NodeNumber};

@@ -1,6 +1,7 @@
 //! The close of the storage, as far as tables go: nothing is listed or known any more.
 
-ghost use Rattle.{std.specs.Prelude.{ℕ, ◌≤◌, Bool, true, None, Option, Ok, nat_eq}, pagable_world.specs.{Plain.Blob, Calls.CloseCall}, indexmap.specs.IndexMap.get};
+ghost use Rattle.std.specs.Prelude.{ℕ, ◌≤◌, Bool, true, None, Option, Ok, nat_eq};
+ghost use Rattle.{pagable_world.specs.{Plain.Blob, Calls.CloseCall}, indexmap.specs.IndexMap.get};
 ghost use Rattle.pagable_tables.specs.{ByNumber.counts_at, Falling.Sheds, Core.{core_of, IsWhole}, Later.AreLater};
 
 use crate::cache;

@@ -1,6 +1,7 @@
 //! Loads that end: what they still own is given up.
 
-ghost use Rattle.{std.specs.Prelude.{◌≡◌, ℕ, ◌<◌, ◌≤◌, ◌==◌, ◌||◌, [], length, Bool, true, None, Option, nat_eq, ◌&&◌}, pagable_world.specs.{Plain.Blob, World.Core, Cascade.{Falls, nobody}}};
+ghost use Rattle.std.specs.Prelude.{◌≡◌, ℕ, ◌<◌, ◌≤◌, ◌==◌, ◌||◌, [], length, Bool, true, None, Option, nat_eq, ◌&&◌};
+ghost use Rattle.pagable_world.specs.{Plain.Blob, World.Core, Cascade.{Falls, nobody}};
 ghost use Rattle.{pagable_world.specs.{LoadCalls.{is_owned_in, hand_over_fault, DropCall, HandOverCall}, declared.handles.Owner.Owner}, pagable_tables.specs.{Live.live, ByNumber.counts_at}};
 ghost use Rattle.{pagable_tables.specs.{Falling.{IsFalling, owns_nothing, Sheds}, Onward.{with_tables, SoFar}, Core.{core_of, IsWhole}, Later.AreLater, Doing.DoesShed}, indexmap.specs.IndexMap.get};
 

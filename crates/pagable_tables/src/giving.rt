@@ -1,6 +1,7 @@
 //! Handles that are given up together: all that a load owns, a worker, or the list.
 
-ghost use Rattle.{std.specs.Prelude.{◌≡◌, ℕ, ◌<◌, ◌≤◌, [], length, slice_get, Some, None, IfSome, IfNone, true, false, nat_eq}, indexmap.specs.IndexMap.get, pagable_world.specs.Kinds.find_row};
+ghost use Rattle.std.specs.Prelude.{◌≡◌, ℕ, ◌<◌, ◌≤◌, [], length, slice_get, Some, None, IfSome, IfNone, true, false, nat_eq};
+ghost use Rattle.{indexmap.specs.IndexMap.get, pagable_world.specs.Kinds.find_row};
 ghost use Rattle.{pagable_world.specs.{World.Core, Cascade.{Falls, nobody}, Workers.is_load_of}, pagable_tables.specs.{Live.{live, alive, AreSound}, ByNumber.counts_at, Falling.IsFalling}};
 ghost use Rattle.pagable_tables.specs.{Falling.{owns_nothing, Sheds}, Onward.{with_tables, SoFar}, Giving.{gives_row, passes_in, InReach, LoadsAre}, declared.giving.Giving.Giving};
 

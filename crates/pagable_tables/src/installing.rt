@@ -1,6 +1,7 @@
 //! Loads of cells that end with a value.
 
-ghost use Rattle.{std.specs.Prelude.{◌≡◌, ◌≤◌, ◌<◌, ℕ, Bool, Option, None, IfOk, IfErr, not, nat_eq, IsSome}, indexmap.specs.IndexMap.get, pagable_world.specs.Plain.{Blob, if_there}};
+ghost use Rattle.std.specs.Prelude.{◌≡◌, ◌≤◌, ◌<◌, ℕ, Bool, Option, None, IfOk, IfErr, not, nat_eq, IsSome};
+ghost use Rattle.{indexmap.specs.IndexMap.get, pagable_world.specs.Plain.{Blob, if_there}};
 ghost use Rattle.pagable_world.specs.{Kinds.is_loose, World.{Alike, OpenLoad, greatest}, Calls.{IsNext, with_handle, with_mode}, LoadCalls.{root_fault, end_fault, is_owned_in, Installs}};
 ghost use Rattle.{pagable_world.specs.Refusals.{where_so, spent, Owns}, pagable_tables.specs.{ByNumber.{counts_at, load_at}, Live.{room, AreSound}, Core.{core_of, plain_of, IsWhole, MayHold}}};
 ghost use Rattle.pagable_tables.specs.{Later.AreLater, Bearing.OnlyRoom, Ready.{IsReady, HasPlace, Unends, ShedsBeside}, Doing.Does, Becoming.Joins};

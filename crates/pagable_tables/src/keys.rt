@@ -1,6 +1,7 @@
 //! Cells that get keys.
 
-ghost use Rattle.{std.specs.Prelude.{◌≡◌, ℕ, ◌<◌, ◌≤◌, [], List, length, IsSome}, pagable_world.specs.Calls.SetKeyCall, pagable_tables.specs.{Core.IsWhole, ByNumber.counts_at, Falling.IsFalling}};
+ghost use Rattle.std.specs.Prelude.{◌≡◌, ℕ, ◌<◌, ◌≤◌, [], List, length, IsSome};
+ghost use Rattle.{pagable_world.specs.Calls.SetKeyCall, pagable_tables.specs.{Core.IsWhole, ByNumber.counts_at, Falling.IsFalling}};
 ghost use Rattle.pagable_tables.specs.{Falling.{owns_nothing, ValueStays, keyed, GetsKey}, Doing.DoesShed};
 
 use crate::cascade::fall;

@@ -1,6 +1,7 @@
 //! What is asked of modes and kinds.
 
-ghost use Rattle.{std.specs.Prelude.{◌≡◌, Some, None}, pagable_world.specs.{Plain.{is_loose_kind, is_pinned_kind, type_of, if_there}, Kinds.{is_loose, is_unpinned, mode_of, fits_mode}}};
+ghost use Rattle.std.specs.Prelude.{◌≡◌, Some, None};
+ghost use Rattle.pagable_world.specs.{Plain.{is_loose_kind, is_pinned_kind, type_of, if_there}, Kinds.{is_loose, is_unpinned, mode_of, fits_mode}};
 ghost use Rattle.{pagable_world.specs.{Refusals.is_type, World.Cell}, pagable_tables.specs.Falling.cell_in};
 
 use crate::rows::Counts;

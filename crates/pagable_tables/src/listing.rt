@@ -1,6 +1,7 @@
 //! The list of cells that wait for page-out: entries come and are taken.
 
-ghost use Rattle.{std.specs.Prelude.{◌≡◌, ◌<◌, ℕ, Bool, Option, is_some, nat_eq, not, true, false, length}, pagable_world.specs.{Plain.Blob, Calls.{ScheduleCall, TakeCall}, Kinds.is_owner}};
+ghost use Rattle.std.specs.Prelude.{◌≡◌, ◌<◌, ℕ, Bool, Option, is_some, nat_eq, not, true, false, length};
+ghost use Rattle.pagable_world.specs.{Plain.Blob, Calls.{ScheduleCall, TakeCall}, Kinds.is_owner};
 ghost use Rattle.{pagable_world.specs.{Kinds.owner_worker, declared.handles.Owner.Owner}, indexmap.specs.IndexMap.get, pagable_tables.specs.{ByNumber.{counts_at, reach_at, worker_at}, Falling.Sheds}};
 ghost use Rattle.{pagable_tables.specs.{Giving.{InReach, IsNoLess}, Later.AreLater, Core.{core_of, plain_of, IsWhole, MayHold}}, pagable_model.specs.declared.numbers.LoadNumber.LoadNumber};
 

@@ -1,6 +1,7 @@
 //! Loads that begin, of a key or a cell, and whose an open load is.
 
-ghost use Rattle.{std.specs.Prelude.{◌≡◌, ◌<◌, ℕ, Bool, Option, Some, [], IfOk, IfErr, IfNone, IfSome, slice_get, true, false}, pagable_world.specs.{Plain.Blob, Kinds.is_in_memory, World.greatest}};
+ghost use Rattle.std.specs.Prelude.{◌≡◌, ◌<◌, ℕ, Bool, Option, Some, [], IfOk, IfErr, IfNone, IfSome, slice_get, true, false};
+ghost use Rattle.pagable_world.specs.{Plain.Blob, Kinds.is_in_memory, World.greatest};
 ghost use Rattle.pagable_world.specs.{World.{of_cell, Alike}, declared.{handles.Owner.Owner, rows.Mode.Mode}, Pager.MayOwnLoad, Refusals.{load_fault, OwnsLoad}, Calls.with_handle};
 ghost use Rattle.{pagable_world.specs.LoadCalls.{BeginCall, BeginKeyCall, IsNextLoad, with_load}, pagable_tables.specs.{Live.alive, ByNumber.load_at, Falling.{key_in, IsFalling, owns_nothing}}};
 ghost use Rattle.pagable_tables.specs.{Core.{core_of, plain_of, IsWhole, load_in}, Asking.AsksKnown, Later.AreLater, Doing.Does};

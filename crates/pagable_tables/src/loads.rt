@@ -1,6 +1,7 @@
 //! Rows by their numbers: of open loads, and of workers at work.
 
-ghost use Rattle.{std.specs.Prelude.{◌≡◌, ℕ, ◌≢◌, Some, None, OnOk, OnErr, nat_eq}, indexmap.specs.IndexMap.get, pagable_tables.specs.ByNumber.load_at};
+ghost use Rattle.std.specs.Prelude.{◌≡◌, ℕ, ◌≢◌, Some, None, OnOk, OnErr, nat_eq};
+ghost use Rattle.{indexmap.specs.IndexMap.get, pagable_tables.specs.ByNumber.load_at};
 
 use crate::rows::LoadRow;
 use indexmap::IndexMap;

@@ -1,6 +1,7 @@
 //! Handles that come to live nodes.
 
-ghost use Rattle.{std.specs.Prelude.{◌≡◌, ℕ, ◌<◌, ◌^◌, ◌+◌, [], IsSome, true, false, length}, pagable_world.specs.{Plain.one, World.Core, Calls.CloneCall}, pagable_tables.specs.ByNumber.counts_at};
+ghost use Rattle.std.specs.Prelude.{◌≡◌, ℕ, ◌<◌, ◌^◌, ◌+◌, [], IsSome, true, false, length};
+ghost use Rattle.{pagable_world.specs.{Plain.one, World.Core, Calls.CloneCall}, pagable_tables.specs.ByNumber.counts_at};
 ghost use Rattle.pagable_tables.specs.{Falling.{is_valued, has_value, IsFalling, ValueStays, owns_nothing}, Onward.with_tables, Core.{plain_of, IsWhole, MayHold, Suits, Makes}, Doing.Does};
 
 use crate::holdings::{Holdings, pins};

@@ -1,6 +1,7 @@
 //! Handles that come to another owner, by references or by their numbers.
 
-ghost use Rattle.{std.specs.Prelude.{◌≡◌, ℕ, slice_get, Some, false, ◌<◌, ◌≤◌, ◌||◌, [], length, not}, pagable_world.specs.{Cascade.only_handle, Calls.{moved, is_named_by}, Plain.{is_in, if_there}}};
+ghost use Rattle.std.specs.Prelude.{◌≡◌, ℕ, slice_get, Some, false, ◌<◌, ◌≤◌, ◌||◌, [], length, not};
+ghost use Rattle.pagable_world.specs.{Cascade.only_handle, Calls.{moved, is_named_by}, Plain.{is_in, if_there}};
 ghost use Rattle.pagable_world.specs.{Kinds.{is_owner, find_row}, Refusals.{named_fault, refused_if}, LoadCalls.numbers_of, declared.handles.HandleRow.HandleRow, World.Core};
 ghost use Rattle.pagable_tables.specs.{Falling.is_valued, Owning.{StandsWith, seen, named_at}, Live.{live, alive, AreSound}, declared.holdings.Holdings.Holdings, Becoming.Becomes};
 ghost use Rattle.pagable_model.specs.declared.error.Error.TheVariants as errors;

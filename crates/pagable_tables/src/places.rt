@@ -1,6 +1,7 @@
 //! Room for handles and for entries of the list; and the cache forgets all.
 
-ghost use Rattle.{std.specs.Prelude.{◌≡◌, ℕ, ◌≤◌, Bool, Option, vec_capacity}, pagable_world.specs.{Plain.Blob, World.Alike, Calls.{ReserveCall, ClearCall, room_of}}};
+ghost use Rattle.std.specs.Prelude.{◌≡◌, ℕ, ◌≤◌, Bool, Option, vec_capacity};
+ghost use Rattle.pagable_world.specs.{Plain.Blob, World.Alike, Calls.{ReserveCall, ClearCall, room_of}};
 ghost use Rattle.pagable_tables.specs.{Core.{core_of, IsWhole}, Doing.Does};
 
 use crate::tables::Tables;

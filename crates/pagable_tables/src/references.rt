@@ -1,6 +1,7 @@
 //! Why calls are refused: the references of a value that is handed in, and which of several causes is told.
 
-ghost use Rattle.{std.specs.{Prelude.{◌≡◌, ◌||◌, not, ℕ, Bool, List, Option, Some, None, OnOk, IfErr, [], ◌<◌, false}, Option.option_map}, pagable_world.specs.Plain.{Blob, is_in, if_there}};
+ghost use Rattle.std.specs.{Prelude.{◌≡◌, ◌||◌, not, ℕ, Bool, List, Option, Some, None, OnOk, IfErr, [], ◌<◌, false}, Option.option_map};
+ghost use Rattle.pagable_world.specs.Plain.{Blob, is_in, if_there};
 ghost use Rattle.pagable_world.specs.{Kinds.is_owner, Refusals.{refused_if, row_fault, reference_fault, references_fault, rank, earlier}, Workers.claim_fault, Calls.is_named_by, World.OpenLoad};
 ghost use Rattle.{pagable_world.specs.LoadCalls.cell_fault, pagable_tables.specs.Core.{core_of, IsWhole, load_in}};
 ghost use Rattle.pagable_model.specs.declared.error.Error.TheVariants as errors;

@@ -1,6 +1,7 @@
 //! Handles that are given up, and loose ones that let their pins go.
 
-ghost use Rattle.{std.specs.Prelude.{◌≡◌, ◌≤◌, [], length, None, false, slice_get, Some, nat_eq}, pagable_world.specs.{Kinds.is_owner, World.Core, Calls.{ReleaseCall, UnpinCall}, Cascade.Falls}};
+ghost use Rattle.std.specs.Prelude.{◌≡◌, ◌≤◌, [], length, None, false, slice_get, Some, nat_eq};
+ghost use Rattle.pagable_world.specs.{Kinds.is_owner, World.Core, Calls.{ReleaseCall, UnpinCall}, Cascade.Falls};
 ghost use Rattle.{pagable_world.specs.{Cascade.{nobody, only_handle}, declared.handles.Owner.Owner}, pagable_tables.specs.{Live.{live, alive}, ByNumber.counts_at, Falling.{IsFalling, is_valued}}};
 ghost use Rattle.{pagable_tables.specs.{Falling.{owns_nothing, Sheds}, Onward.{with_tables, SoFar}, Core.IsWhole, Doing.DoesShed}, indexmap.specs.IndexMap.get};
 

@@ -1,6 +1,7 @@
 //! A handle that is offered to the cache, and is given up where the cache gives a node already.
 
-ghost use Rattle.{std.specs.Prelude.{◌≡◌, ℕ, ◌≤◌, [], length, Bool, Option, None, Some, not, true, false, nat_eq}, pagable_world.specs.{declared.handles.HandleRow.HandleRow, Plain.Blob}};
+ghost use Rattle.std.specs.Prelude.{◌≡◌, ℕ, ◌≤◌, [], length, Bool, Option, None, Some, not, true, false, nat_eq};
+ghost use Rattle.pagable_world.specs.{declared.handles.HandleRow.HandleRow, Plain.Blob};
 ghost use Rattle.pagable_world.specs.{Kinds.{find_row, is_owner, is_pinning, mode_of}, World.{Core, usable}, Calls.OfferCall, Cascade.{FallsAnyhow, nobody, only_handle}, declared.handles.Owner.Owner};
 ghost use Rattle.pagable_tables.specs.{Live.live, ByNumber.counts_at, Falling.{IsFalling, has_value, is_valued, owns_nothing, Sheds}, Onward.{with_tables, SoFar}, Later.AreLater, Core.core_of};
 ghost use Rattle.{pagable_tables.specs.Core.{plain_of, IsWhole, MayHold}, indexmap.specs.IndexMap.get};

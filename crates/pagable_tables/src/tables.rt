@@ -1,6 +1,7 @@
 //! The tables together.
 
-ghost use Rattle.{std.specs.Prelude.{◌≡◌, ℕ, [], None}, pagable_tables.specs.{ByNumber.{counts_at, load_at, known_at, worker_at}, Core.IsWhole, Later.AreLater}};
+ghost use Rattle.std.specs.Prelude.{◌≡◌, ℕ, [], None};
+ghost use Rattle.pagable_tables.specs.{ByNumber.{counts_at, load_at, known_at, worker_at}, Core.IsWhole, Later.AreLater};
 
 use crate::handles;
 use crate::holdings::Holdings;

@@ -1,6 +1,7 @@
 //! Handles that are pinned from now on, with or without another handle beside.
 
-ghost use Rattle.{std.specs.Prelude.{◌≡◌, ℕ, ◌<◌, ◌^◌, ◌+◌, Bool, Option, not, slice_get, Some, IfOk, IfErr, true, false}, pagable_world.specs.{declared.rows.Mode.Mode, Plain.{Blob, one}}};
+ghost use Rattle.std.specs.Prelude.{◌≡◌, ℕ, ◌<◌, ◌^◌, ◌+◌, Bool, Option, not, slice_get, Some, IfOk, IfErr, true, false};
+ghost use Rattle.pagable_world.specs.{declared.rows.Mode.Mode, Plain.{Blob, one}};
 ghost use Rattle.pagable_world.specs.{declared.handles.Owner.Owner, Kinds.{is_owner, is_owned_by, is_pinned, is_shared, find_row}, World.Alike, Refusals.handle_fault, Calls.{LoosenCall, with_mode}};
 ghost use Rattle.pagable_tables.specs.{Live.{live, alive}, Core.{core_of, IsWhole}, Doing.Does};
 

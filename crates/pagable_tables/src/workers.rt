@@ -1,6 +1,7 @@
 //! Page-out workers: they begin, give up what they have at a node, and end.
 
-ghost use Rattle.{std.specs.Prelude.{◌≡◌, ◌<◌, ◌+◌, ℕ, length, IfOk, is_some, not, true}, pagable_world.specs.{Plain.updated, Kinds.{is_owner, owner_worker}, Cascade.FallsAnyhow, Workers.WorkerEnds}};
+ghost use Rattle.std.specs.Prelude.{◌≡◌, ◌<◌, ◌+◌, ℕ, length, IfOk, is_some, not, true};
+ghost use Rattle.pagable_world.specs.{Plain.updated, Kinds.{is_owner, owner_worker}, Cascade.FallsAnyhow, Workers.WorkerEnds};
 ghost use Rattle.{pagable_world.specs.Workers.is_workers_at, pagable_tables.specs.{ByNumber.{load_at, reach_at, worker_at}, Core.IsWhole, Giving.{BeginsWorker, TakesWorker, LeavesOthers}}};
 ghost use Rattle.pagable_tables.specs.{Later.AreLater, Doing.{DoesShed, Does}};
 
