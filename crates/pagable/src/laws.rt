@@ -5,9 +5,10 @@ ghost use Rattle.pagable_traits.specs.ReadBack.{IsReadThroughout};
 
 use pagable_traits::{Carried, Env};
 
-/// The forms of a type are read again where its shape is one that is read throughout, as the lemmas of `ReadBack` show it shape by shape: whatever
-/// follows a form, reading gives what was written and leaves what follows, and no form of one meaning begins a form of another. So where a value of the type is read from a form of another,
-/// by the contract of `pagable_deserialize`, it means the same.
+/// The forms of a type are read again where its shape is one that is read throughout, as `carried_types_are_read` and its
+/// like say of each type that is read: whatever follows a form, reading gives what was written and leaves what follows, and
+/// no form of one meaning begins a form of another. So where a value of the type is read from a form of another, by the
+/// contract of `pagable_deserialize`, it means the same.
 pub fn forms_are_read_again<A, B, E: Env, T: Carried<E>>()
     ensures again { (e : E) → IsReadThroughout (E.parts e) (T.shape e) → IsReadAgain A B (E.parts e) (T.shape e) }
     ensures prefix_free { (e : E) → IsReadThroughout (E.parts e) (T.shape e) → IsPrefixFree A (E.parts e) (T.shape e) }

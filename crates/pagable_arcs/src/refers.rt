@@ -1,16 +1,17 @@
 //! The references in a value, listed.
 #![tactic(auto, using(crate::proofs::Listed::parts), unfolding(pagable_model::specs::References::references_in))]
 
-ghost use Rattle.std.specs.Prelude.{◌≡◌, ◌++◌, map, OnOk, IfOk, IfErr};
+ghost use Rattle.std.specs.Prelude.{◌≡◌, ◌++◌, ◌∷◌, [], map, OnOk, IfOk, IfErr};
 ghost use Rattle.pagable_model.specs.{Gives.memory, Meaning.sequence, References.references_in};
 ghost use Rattle.pagable_arcs.specs.{References.{holding_kind, loose_kind}, Refers.{ListsInOrder, both_in_order, list_in_order, optional_in_order, reference_in_order, text_in_order}};
+ghost use Rattle.pagable_traits.specs.ReadBack.AreRead;
 
 use crate::holding::HoldingArc;
 use crate::loose::PagableArc;
 use crate::plain::OfKind;
 use pagable_codec::{ArcRef, Env, OfNode};
 use pagable_flavors::Error;
-use pagable_traits::OneMeaning;
+use pagable_traits::{Carried, OneMeaning};
 use std::alloc::Global;
 
 /// A type whose values tell their references. A type with a hash map in it is none, since its entries are written in any
@@ -118,3 +119,9 @@ impl<E: Env, T: Refers<E>> Refers<E> for Vec<T> {
 
     ghost in_order = { λ e. list_in_order (E.parts e) (T.Carried.shape e) (T.in_order e) };
 }
+
+/// References are read throughout, as `carried_types_are_read` of `pagable_traits` says it of other types.
+#[tactic(auto, using(crate::specs::References::reference_is_read))]
+pub fn references_are_read<E: Env, T: OfNode<E>, const PINS: bool, const KIND: u32>()
+    ensures { (e : E) → AreRead (E.parts e) (⟦<HoldingArc<T, PINS> as Carried<E>>⟧.shape e ∷ ⟦<PagableArc<T> as Carried<E>>⟧.shape e ∷ ⟦<OfKind<KIND> as Carried<E>>⟧.shape e ∷ []) }
+{}

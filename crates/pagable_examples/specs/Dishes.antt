@@ -1,6 +1,7 @@
--- What a dish means: its name and its weight, one after the other. So it means one thing, and may be a key.
-use Rattle.std.specs.{Prelude.refl, String.string_bytes}
+-- What a dish means: its name and its weight, one after the other. So it means one thing, and may be a key; and it is read again.
+use Rattle.std.specs.{Int.w16, Prelude.{ℕ, refl}, String.string_bytes}
 use Rattle.pagable.specs.{Meaning.number, Meaning.text, Meanings.{AreSingle, Meanings, exactly, pairs, seen_by}}
+use Rattle.pagable.specs.{ReadBack.{IsReadThroughout, basic_is_read, two_is_read}, Shape.{Shape, both, text as text_shape, unsigned}}
 use Rattle.pagable_examples.specs.declared.dish.Dish.{Dish}
 
 abbrev pub dish_means : Meanings Dish
@@ -8,3 +9,6 @@ dish_means = seen_by (λ d. (d.name, d.grams)) (pairs (exactly (λ s. text (stri
 
 pub dish_single : AreSingle dish_means
 dish_single d m h = rw (h.is, h.is_first, h.is_second) refl
+
+pub dish_is_read : (parts : ℕ → Shape) → IsReadThroughout parts (both text_shape (unsigned w16))
+dish_is_read parts = two_is_read (refl, refl) (basic_is_read tt) (basic_is_read tt)

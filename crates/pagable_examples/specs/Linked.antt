@@ -1,11 +1,11 @@
 -- What links and bundles mean and refer to, and what the nodes that hold them do.
 use Rattle.std.{proofs.Common.arith, specs.Prelude.{◌≡◌, ◌<◌, ◌^◌, refl, true, false, ℕ, zero, suc, List, Option, Some, None}, specs.Arc.arc_value, specs.Global.Vec}
 use Rattle.pagable_examples.specs.{declared.linked.LinkedNode.LinkedNode, declared.linked.bundle.Bundle.Bundle, declared.linked.chain.Chain.Chain}
-use Rattle.pagable_arcs.specs.{References.{holding_means, loose_means, reads_unlent, reference_has_one_form}, Plain.plain_means}
+use Rattle.pagable_arcs.specs.{References.{holding_means, loose_means, reads_unlent, reference_has_one_form, reference_is_read}, Plain.plain_means}
 use Rattle.pagable_arcs.specs.Refers.{ListsInOrder, both_in_order, list_in_order, optional_in_order, reference_in_order}
 use Rattle.pagable.specs.OwnCauses.{ReadCauses, WriteCauses, reads_either, reads_memory_or, reads_never, writes_either, writes_long_or, writes_memory, writes_memory_or}
 use Rattle.pagable.specs.Meanings.{AreSingle, Meanings, exactly, lists, lists_single, options, options_single, pairs, pairs_single, seen_by, some}
-use Rattle.pagable.specs.{InNodes.{Holds, holds-none, holds-value}, OneForm.{over_has_one_form, two_has_one_form}}
+use Rattle.pagable.specs.{InNodes.{Holds, holds-none, holds-value}, OneForm.{over_has_one_form, two_has_one_form}, ReadBack.{IsReadThroughout, over_is_read, two_is_read}}
 use Rattle.pagable_model.specs.{Meaning.Meaning, OneForm.HasOneFormThroughout, References.{references_in, SameReferences}, Refusals.{is_own_reading, may_refuse_writing}}
 use Rattle.pagable_model.specs.{Shape.{Shape, both, list, nothing, optional, reference}, Standing.SomeMeaning, declared.error.Error.Error, declared.numbers.ArcRef.ArcRef}
 use Rattle.pagable_examples.specs.declared.linked.LinkedNode.TheVariants as nodes
@@ -53,6 +53,9 @@ in-bundle P pairs lists = pairs (list (reference 3)) (both (list (reference 1)) 
 
 pub bundle_has_one_form : HasOneFormThroughout no_parts bundle_shape
 bundle_has_one_form = in-bundle (HasOneFormThroughout no_parts) (λ s t. two_has_one_form (refl, refl)) (λ kind. over_has_one_form refl (reference_has_one_form no_parts kind))
+
+pub bundle_is_read : IsReadThroughout no_parts bundle_shape
+bundle_is_read = in-bundle (IsReadThroughout no_parts) (λ s t. two_is_read (refl, refl)) (λ kind. over_is_read refl (reference_is_read no_parts kind))
 
 pub bundle_in_order : ListsInOrder no_parts bundle_shape
 bundle_in_order = in-bundle (ListsInOrder no_parts) (both_in_order no_parts) (λ kind. list_in_order no_parts (reference kind) (reference_in_order no_parts kind))

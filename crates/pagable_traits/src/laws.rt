@@ -3,18 +3,25 @@
 //! value. A type's shape, what it means and why it is refused stand at its impls (`shape`, `means`, `write_causes`,
 //! `read_causes`).
 
-ghost use Rattle.std.specs.{Prelude.◌≡◌, Prelude.◌↔◌, Prelude.◌/◌, Prelude.◌%◌, Prelude.IsPermutation, HashMap.IsUnique, Duration.as_nanos, declared.time.Duration.Duration as Span};
+ghost use Rattle.std.specs.{Prelude.{◌≡◌, ◌↔◌, ◌/◌, ◌%◌, ◌∷◌, [], IsPermutation}, HashMap.IsUnique, Duration.as_nanos, declared.time.Duration.Duration as Span};
 ghost use Rattle.pagable_model.specs.{Gives.memory_or, Keys.optional_order, Keys.outcome_order, Keys.pair_order, Keys.list_order, Meaning.Meaning, Hashed.MeansHashMap, Carried.of_duration};
 ghost use Rattle.pagable_model.specs.{declared.error.Error.Error as Refusal, declared.numbers.ArcRef.ArcRef as Reference};
+ghost use Rattle.pagable_traits.specs.ReadBack.{AreRead, IsReadThroughout};
 
+use crate::alike::CarriedAs;
 use crate::impls::holders::Thin;
+use crate::impls::texts::PathText;
 use crate::keys::{PagableKey, PagableOrdKey};
 use crate::traits::{Carried, PagableBoxDeserialize, PagableDeserialize, PagableSerialize};
+use indexmap::{IndexMap, IndexSet};
 use pagable_codec::env::Env;
+use serde_json::Value;
 use smallvec::SmallVec;
-use std::boxed::BoxedSlice;
+use std::boxed::{BoxedSlice, BoxedStr};
 use std::collections::{BTreeMap, BTreeSet, HashMap};
 use std::hash::Hash;
+use std::sync::OnceLock;
+use std::sync::atomic::AtomicI64;
 use std::time::Duration;
 
 /// A value that is read into a box is refused as it is, or by want of memory.
@@ -71,4 +78,32 @@ pub fn lists_are_ordered<E: Env, K: PagableOrdKey<E>, V: PagableOrdKey<E>, const
     ensures set { ⟦<BTreeSet<K> as PagableOrdKey<E>>⟧.order ≡ list_order K.PagableOrdKey.order }
     ensures entries { ⟦<BTreeMap<K, V> as PagableOrdKey<E>>⟧.order ≡ list_order (pair_order K.PagableOrdKey.order V.PagableOrdKey.order) }
     ensures header { ⟦<Thin<K, V> as PagableOrdKey<E>>⟧.order ≡ pair_order K.PagableOrdKey.order (list_order V.PagableOrdKey.order) }
+{}
+
+/// Every type that is read is read throughout where those that it is made of are: then its forms are read again, whatever follows
+/// them, in all parts of a value that lie in one blob (`forms_are_read_again` of `pagable`). `O` stands for a type that is carried as `T`,
+/// as boxes, loans and tuples are.
+pub fn carried_types_are_read<
+    E: Env,
+    T: Carried<E>,
+    X: Carried<E>,
+    K: PagableOrdKey<E> + Hash,
+    O: CarriedAs<Other = T>,
+    const N: usize,
+>()
+    ensures numbers { (e : E) → AreRead (E.parts e) (⟦<u8 as Carried<E>>⟧.shape e ∷ ⟦<u16 as Carried<E>>⟧.shape e ∷ ⟦<u32 as Carried<E>>⟧.shape e
+        ∷ ⟦<u64 as Carried<E>>⟧.shape e ∷ ⟦<u128 as Carried<E>>⟧.shape e ∷ ⟦<i8 as Carried<E>>⟧.shape e ∷ ⟦<i16 as Carried<E>>⟧.shape e
+        ∷ ⟦<i32 as Carried<E>>⟧.shape e ∷ ⟦<i64 as Carried<E>>⟧.shape e ∷ ⟦<i128 as Carried<E>>⟧.shape e ∷ ⟦<AtomicI64 as Carried<E>>⟧.shape e ∷ []) }
+    ensures basic { (e : E) → AreRead (E.parts e) (⟦<() as Carried<E>>⟧.shape e ∷ ⟦<bool as Carried<E>>⟧.shape e ∷ ⟦<char as Carried<E>>⟧.shape e
+        ∷ ⟦<String as Carried<E>>⟧.shape e ∷ ⟦<BoxedStr as Carried<E>>⟧.shape e ∷ ⟦<PathText as Carried<E>>⟧.shape e
+        ∷ ⟦<Duration as Carried<E>>⟧.shape e ∷ ⟦<Value as Carried<E>>⟧.shape e ∷ []) }
+    ensures over { (e : E) → IsReadThroughout (E.parts e) (T.shape e) → AreRead (E.parts e) (⟦<Option<T> as Carried<E>>⟧.shape e
+        ∷ ⟦<OnceLock<T> as Carried<E>>⟧.shape e ∷ ⟦<Vec<T> as Carried<E>>⟧.shape e ∷ ⟦<SmallVec<T, N> as Carried<E>>⟧.shape e
+        ∷ ⟦<[T; N] as Carried<E>>⟧.shape e ∷ ⟦<BoxedSlice<T> as Carried<E>>⟧.shape e ∷ []) }
+    ensures alike { (e : E) → IsReadThroughout (E.parts e) (T.shape e) → IsReadThroughout (E.parts e) (⟦<O as Carried<E>>⟧.shape e) }
+    ensures sets { (e : E) → IsReadThroughout (E.parts e) (K.shape e) → AreRead (E.parts e) (⟦<BTreeSet<K> as Carried<E>>⟧.shape e ∷ ⟦<IndexSet<K> as Carried<E>>⟧.shape e ∷ []) }
+    ensures two { (e : E) → IsReadThroughout (E.parts e) (T.shape e) → IsReadThroughout (E.parts e) (X.shape e)
+        → AreRead (E.parts e) (⟦<Result<T, X> as Carried<E>>⟧.shape e ∷ ⟦<(T, X) as Carried<E>>⟧.shape e ∷ ⟦<Thin<T, X> as Carried<E>>⟧.shape e ∷ []) }
+    ensures maps { (e : E) → IsReadThroughout (E.parts e) (K.shape e) → IsReadThroughout (E.parts e) (T.shape e)
+        → AreRead (E.parts e) (⟦<BTreeMap<K, T> as Carried<E>>⟧.shape e ∷ ⟦<IndexMap<K, T> as Carried<E>>⟧.shape e ∷ ⟦<HashMap<K, T> as Carried<E>>⟧.shape e ∷ []) }
 {}

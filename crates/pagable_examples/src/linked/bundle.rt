@@ -1,6 +1,7 @@
 //! Bundles: references of each sort to values of other types.
 
-ghost use Rattle.pagable_examples.specs.Linked.{bundle_has_one_form, bundle_in_order, bundle_means, bundle_reads, bundle_shape, bundle_single, bundle_writes};
+ghost use Rattle.pagable.specs.ReadBack.IsReadThroughout;
+ghost use Rattle.pagable_examples.specs.Linked.{bundle_has_one_form, bundle_in_order, bundle_means, bundle_reads, bundle_shape, bundle_single, bundle_writes, no_parts};
 
 use crate::linked::Linked;
 use crate::linked::chain::{ArcLink, Link};
@@ -76,3 +77,9 @@ impl<'de> PagableDeserialize<'de, Linked> for Bundle {
         })
     }
 }
+
+/// The forms of a bundle are read again, since those of references are.
+#[tactic(auto, using(crate::specs::Linked::bundle_is_read))]
+pub fn bundles_are_read()
+    ensures { (e : Linked) → IsReadThroughout no_parts (⟦<Bundle as Carried<Linked>>⟧.shape e) }
+{}
