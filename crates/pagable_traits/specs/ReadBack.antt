@@ -1,5 +1,5 @@
 -- Why the forms of the carried types are read again.
-use Rattle.std.specs.{Prelude.{ℕ, List, [], ◌∷◌}, List.AllByRecursion}
+use Rattle.std.specs.{Prelude.{ℕ, List}, List.AllByRecursion}
 use Rattle.pagable_model.specs.{Canonical.{IsReadable, LiesIn, Throughout}, Keyed.{throughout-alone, throughout-over, throughout-two}}
 use Rattle.pagable_model.specs.{OneForm.{IsBasic, IsOver, IsOfTwo, any, basic-follows, over-follows, two-follows}, Shape.{Shape, hash_map}}
 
@@ -20,14 +20,6 @@ pub hash_map_is_read : {parts : ℕ → Shape} {s t : Shape} → IsReadThroughou
 unfolding IsReadable LiesIn
 hash_map_is_read {parts} {s} {t} h k = throughout-two IsReadable parts s t (hash_map s t) (λ c d. (c, d)) (λ those l m. (l, m)) h k
 
--- each of these shapes is read throughout: all are basic, or made of this one
+-- each of these shapes is read throughout
 abbrev pub AreRead : (ℕ → Shape) → List Shape → Type 0
 AreRead parts shapes = AllByRecursion (IsReadThroughout parts) shapes
-
-pub basics_are_read : {parts : ℕ → Shape} (shapes : List Shape) → AllByRecursion IsBasic shapes → AreRead parts shapes
-basics_are_read [] h = tt
-basics_are_read (s ∷ ss) h = (basic_is_read h.0, basics_are_read ss h.1)
-
-pub overs_are_read : {parts : ℕ → Shape} {s : Shape} (shapes : List Shape) → AllByRecursion (IsOver s) shapes → IsReadThroughout parts s → AreRead parts shapes
-overs_are_read [] h is_read = tt
-overs_are_read (t ∷ ts) h is_read = (over_is_read h.0 is_read, overs_are_read ts h.1 is_read)

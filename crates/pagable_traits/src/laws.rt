@@ -83,6 +83,7 @@ pub fn lists_are_ordered<E: Env, K: PagableOrdKey<E>, V: PagableOrdKey<E>, const
 /// Every type that is read is read throughout where those that it is made of are: then its forms are read again, whatever follows
 /// them, in all parts of a value that lie in one blob (`forms_are_read_again` of `pagable`). `O` stands for a type that is carried as `T`,
 /// as boxes, loans and tuples are.
+#[tactic(auto, using(crate::specs::ReadBack::basic_is_read))]
 pub fn carried_types_are_read<
     E: Env,
     T: Carried<E>,
