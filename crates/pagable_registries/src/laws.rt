@@ -8,7 +8,7 @@ ghost use Rattle.pagable_registries.specs.declared.static_value.StaticValue.{Sta
 ghost use Rattle.pagable_model.specs.Meaning as meanings;
 ghost use Rattle.pagable_model.specs.Shape as shapes;
 ghost use Rattle.pagable_model.specs.declared.error.Error.TheVariants as refusals;
-ghost use Rattle.pagable_traits.specs.ReadBack.IsReadThroughout;
+ghost use Rattle.pagable_traits.specs.ReadBack.{IsReadThroughout};
 
 use crate::saved_regex::SavedRegex;
 use crate::static_value::{HasStaticValueRegistry, StaticValue};
