@@ -3,11 +3,11 @@
 use Rattle.pagable_laws.proofs.Words.{nat_tests, ◌≡◌, ℕ, suc, ◌+◌, List, [], ◌∷◌, ◌++◌, map, length, Result, refl, ap, inl, arith, Option, Some, None, slice_get, Error, Rest, read_typed, Answer}
 use Rattle.pagable_laws.proofs.Words.{answer_at, handles_at, ArcRef, Kind, Blob, Shape, Types, Meaning, answer_of, answers_from, reads, asks, is_faulty, next_by, next_of, some_of, after_kinds, sym}
 use Rattle.pagable_laws.proofs.Words.{◌∙◌, ◌≤◌, ◌==◌, true, Ok, Err, subst, length-append, append_assoc, slice_get-get_or, append-nil, ◌>>=◌, rename, read, deepest, references_in, Form, kind_of_arc}
-use Rattle.pagable_laws.proofs.Words.{IsReadable, Throughout, is_eager, times, Frame, Next, next_in, rest, at, zero, false, inr, if◌then◌else◌, sum_by-cons, Owner, Among, is_in, one, Core}
+use Rattle.pagable_laws.proofs.Words.{IsReadable, Throughout, is_eager, times, Frame, Next, next_in, rest, at, zero, false, inr, if◌then◌else◌, sum_by-cons, Owner, Among, is_in, one, Core, cases_lt}
 use Rattle.pagable_laws.proofs.{Words.{reference_fault, references_fault, IsReference}, Related.{no_cause, Out, both-given, both-refused, first-refused, OutLook, both-looked-up, both-not, read_par}}
 use Rattle.pagable_laws.proofs.{Related.{renamed, keeps_forms}, Along.{Along, AllTwo, no-two, more-two, refs-two, each-two}, Again.{form-again, Looked, all-looked, one-looked, not-looked}}
-use Rattle.{pagable_laws.proofs.{Sums.{self-number, same-number, at-most-sum, counted, one-true}, Decoding.read-gives}, pagable_world.specs.Loads.read_with, std.proofs.lemmas.Option.slice_get_past}
-use Rattle.std.proofs.lemmas.{List.length-map, Bool.cases_Bool}
+use Rattle.{pagable_laws.proofs.Sums.{self-number, same-number, at-most-sum, counted, one-true}, pagable_world.specs.Loads.read_with, std.proofs.lemmas.Option.slice_get_past}
+use Rattle.std.proofs.lemmas.{List.{length-map, map-append}, Bool.cases_Bool}
 
 abbrev pub kinds_of : List ArcRef → List ℕ
 kinds_of got = map (λ (r : ArcRef). r.kind.0) got
@@ -44,8 +44,7 @@ by-alike key (both-refused e) isnt = refl
 by-alike key (first-refused e r c) isnt = absurd c
 
 as-many : (got : List ArcRef) → length (some_of (kinds_of got)) ≡ length got
-as-many [] = refl
-as-many (r ∷ rs) = let a = as-many rs in omega (arith, a)
+as-many got = length-map (kinds_of got) _ ∙ length-map got _
 
 next-alike : (types : Types) (t : ℕ) (blob : Blob) (got : List ArcRef) → ((own : Meaning ArcRef) → next_of types t blob got ≡ reads own → ⊥)
     → after_kinds types t blob (kinds_of got) ≡ next_of types t blob got
@@ -60,8 +59,7 @@ pub faulty-by-kinds : (types : Types) (t : ℕ) (blob : Blob) (got : List ArcRef
 faulty-by-kinds types t blob got e is = next-alike types t blob got (λ own o. let f : reads own ≡ is_faulty e = sym o ∙ is in cc) ∙ is
 
 pub kinds-pushed : (got : List ArcRef) (r : ArcRef) → kinds_of (got ++ r ∷ []) ≡ kinds_of got ++ r.kind.0 ∷ []
-kinds-pushed [] r = refl
-kinds-pushed (x ∷ xs) r = ap (λ (ks : List ℕ). x.kind.0 ∷ ks) (kinds-pushed xs r)
+kinds-pushed got r = map-append (λ (q : ArcRef). q.kind.0) got (r ∷ [])
 
 -- ---- what is answered
 
@@ -81,34 +79,25 @@ answered : (g : ArcRef) (o : Option ArcRef) (kind : ℕ) → o ≡ Some g → g.
 unfolding look_kind
 answered g o kind is same = grind (arith, self-number)
 
--- the references are these, and the first of them were got
--- what is looked up of references, the first of which were got: all, or the first of those that are left is refused
-abbrev found-of : List ArcRef → Result (List Answer) Error
-found-of [] = Ok []
-found-of (q ∷ more) = Err (Error.Storage q.kind.0)
-
-looked : (front back done left : List ArcRef) (keys : List ℕ) → kinds_of back ≡ kinds_of done → length keys ≡ length (done ++ left)
-    → Looked look_kind own_kind (answers_from (front ++ back) (length front) keys) (map kind_of_arc (done ++ left)) (found-of left)
+-- what is looked up of references, the first of which were got: the first of those that are left is refused
+looked : (front back done : List ArcRef) (q : ArcRef) (more : List ArcRef) (keys : List ℕ) → kinds_of back ≡ kinds_of done → length keys ≡ length (done ++ q ∷ more)
+    → Looked look_kind own_kind (answers_from (front ++ back) (length front) keys) (map kind_of_arc (done ++ q ∷ more)) (Err (Error.Storage q.kind.0))
 unfolding answers_from look_kind
-looked front [] [] [] [] same few = all-looked []
-looked front [] [] (q ∷ more) (key ∷ keys) same few = not-looked _ _ _ _ _ (rw (slice_get_past (front ++ []) (length front) (omega (arith, length-append front []))) refl)
-looked front (g ∷ back) (d ∷ done) left (key ∷ keys) same few =
+looked front [] [] q more (key ∷ keys) same few = not-looked _ _ _ _ _ (rw (slice_get_past (front ++ []) (length front) (omega (arith, length-append front []))) refl)
+looked front (g ∷ back) (d ∷ done) q more (key ∷ keys) same few =
     let one : g.kind.0 ≡ d.kind.0 = cc in
     let others : kinds_of back ≡ kinds_of done = cc in
-    let tail = looked (front ++ g ∷ []) back done left keys others (omega arith) in
-    let moved = subst (λ gs. Looked look_kind own_kind (answers_from gs (length (front ++ g ∷ [])) keys) (map kind_of_arc (done ++ left)) (found-of left)) (append_assoc front (g ∷ []) back) tail in
+    let all = map kind_of_arc (done ++ q ∷ more) in
+    let tail = looked (front ++ g ∷ []) back done q more keys others (omega arith) in
+    let moved = subst (λ gs. Looked look_kind own_kind (answers_from gs (length (front ++ g ∷ [])) keys) all (Err (Error.Storage q.kind.0))) (append_assoc front (g ∷ []) back) tail in
     one-looked _ _ _ _ _ (answered g (slice_get (front ++ g ∷ back) (length front)) d.kind.0 (at-place front g back) one)
-    (subst (λ n. Looked look_kind own_kind (answers_from (front ++ g ∷ back) n keys) (map kind_of_arc (done ++ left)) (found-of left)) (length-append front (g ∷ [])) moved)
-looked front x1 x2 x3 x4 same few = grind (arith, nat_tests)
+    (subst (λ n. Looked look_kind own_kind (answers_from (front ++ g ∷ back) n keys) all (Err (Error.Storage q.kind.0))) (length-append front (g ∷ [])) moved)
+looked front x1 x2 q more x4 same few = grind (arith, nat_tests)
 
 -- ---- what comes next
 
 err-of : {X Y R : Type 0} (f : X × R → Y × R) (r : Result (X × R) Error) (e : Error) → (r >>= λ x. Ok (f x)) ≡ Err e → r ≡ Err e
 err-of f x1 e is = grind (arith, nat_tests)
-
-ok-of : {X Y R : Type 0} (f : X × R → Y × R) (r : Result (X × R) Error) (y : Y × R) → (r >>= λ x. Ok (f x)) ≡ Ok y → (x : X × R) × (r ≡ Ok x)
-ok-of f (Ok x) y is = (x, refl)
-ok-of f (Err d) y is = absurd (cc)
 
 -- A blob that is a form of a value of the type, which names no handle twice: its bytes, and a key for each reference.
 pub record IsFormOf (types : Types) (t : ℕ) (blob : Blob) (refs : List ArcRef) : Type 0 where
@@ -137,7 +126,7 @@ module _ (types : Types) (t : ℕ) (blob : Blob) (refs : List ArcRef) (f : IsFor
   asks-next got done q more split same =
       let few : length blob.keys ≡ length (done ++ q ∷ more) = f.as_many ∙ ap length split in
       let stops = subst (λ (rs : List ArcRef). Looked look_kind own_kind (answers_from got 0 blob.keys) (map kind_of_arc rs) (Err (Error.Storage q.kind.0))) (sym split)
-      (looked [] got done (q ∷ more) blob.keys same few) in
+      (looked [] got done q more blob.keys same few) in
       let stopped = form-again [] kinds-form stops f.can in
       let refused : read (at 0 look_kind types.parts) f.shape (input got) ≡ Err (Error.Storage q.kind.0) = rw append-nil at stopped in
       let first = err-of _ (read (handles_at 0 types.parts) f.shape (input got)) (Error.Storage q.kind.0) (sym (renamed kind_of_arc answer_at 0 types.parts f.shape (input got)) ∙ refused) in
@@ -146,16 +135,64 @@ module _ (types : Types) (t : ℕ) (blob : Blob) (refs : List ArcRef) (f : IsFor
       let gotten : length got ≡ length done = sym (length-map got kind) ∙ ap length same ∙ length-map done kind in
       (_, there, ap (λ r. next_by (slice_get blob.keys (length got)) r) (by-shape got ∙ first) ∙ ap (λ o. next_by o (Err (Error.Storage q.kind.0))) (ap (slice_get blob.keys) gotten ∙ there))
 
-  -- with all of them it is read
-  reads-all : (got : List ArcRef) → kinds_of got ≡ kinds_of refs → (own : Meaning ArcRef) × (next_of types t blob got ≡ reads own)
-  unfolding read look_kind
-  reads-all got same =
-      let looks = subst (λ (rs : List ArcRef). Looked look_kind own_kind (answers_from got 0 blob.keys) (map kind_of_arc rs) (Ok [])) (append-nil refs)
-      (looked [] got refs [] blob.keys same (f.as_many ∙ ap length (sym (append-nil refs)))) in
-      let again = form-again [] kinds-form looks f.can in
-      let given : read (at 0 look_kind types.parts) f.shape (input got) ≡ Ok (rename kind_of_arc f.own, rest [] []) = rw append-nil at again in
-      let first = ok-of _ (read (handles_at 0 types.parts) f.shape (input got)) _ (sym (renamed kind_of_arc answer_at 0 types.parts f.shape (input got)) ∙ given) in
-      (first.0.0, ap (λ r. next_by (slice_get blob.keys (length got)) r) (by-shape got ∙ first.1))
+-- the one was got in the place of the other
+record InPlace (got refs : List ArcRef) (g r : ArcRef) : Type 0 where
+  place : ℕ
+  of_got : slice_get got place ≡ Some g
+  of_refs : slice_get refs place ≡ Some r
+
+-- a reference is read as its own kind
+own_look : ℕ → ArcRef → Result ArcRef Error
+own_look kind r = if r.kind.0 == kind then Ok r else Err Error.WrongKind
+
+looks-own : (rs : List ArcRef) → Looked own_look kind_of_arc rs rs (Ok [])
+unfolding own_look
+looks-own [] = all-looked []
+looks-own (r ∷ rs) = one-looked r rs r rs (Ok []) (let e = self-number r.kind.0 in rw e refl) (looks-own rs)
+
+kind-at : (got refs : List ArcRef) → kinds_of got ≡ kinds_of refs → (place : ℕ) (r : ArcRef) → slice_get refs place ≡ Some r → (g : ArcRef) × (slice_get got place ≡ Some g) × (g.kind.0 ≡ r.kind.0)
+kind-at got [] same place r is = absurd (cc)
+kind-at [] (x ∷ refs) same place r is = absurd (cc)
+kind-at (g ∷ got) (x ∷ refs) same zero r is = (g, refl, cc)
+kind-at (g ∷ got) (x ∷ refs) same (suc place) r is = kind-at got refs (cc) place r is
+
+-- what is given alike is given
+given-alike : {A B : Type 0} {S : A → B → Type 0} {R : ArcRef → ArcRef → Type 0} {m : Meaning ArcRef} {after : Rest B} {first : Result (Meaning ArcRef × Rest A) Error}
+    {second : Result (Meaning ArcRef × Rest B) Error} → Out no_cause S (Along ⊥ R) first second → second ≡ Ok (m, after)
+    → (own : Meaning ArcRef) × (left : Rest A) × (first ≡ Ok (own, left)) × Along ⊥ R own m
+given-alike {B = B} {R = R} {m = m} {after = after} (both-given p q v s) e = (p.0, p.1, refl, subst (λ n. Along ⊥ R p.0 n) (let f : q ≡ (m, after) = cc in ap (λ (z : Meaning ArcRef × Rest B). z.0) f) v)
+given-alike (both-refused e) is = absurd (cc)
+given-alike (first-refused e r c) is = absurd c
+
+module _ (types : Types) (t : ℕ) (blob : Blob) (refs got : List ArcRef) (f : IsFormOf types t blob refs) (same : kinds_of got ≡ kinds_of refs) where
+  abbrev Answers : Answer → ArcRef → Type 0
+  Answers a r = (kind : ℕ) → OutLook no_cause (InPlace got refs) (a kind) (own_look kind r)
+
+  all-answer : (place : ℕ) (rs : List ArcRef) (keys : List ℕ) → ((i : ℕ) → slice_get rs i ≡ slice_get refs (place + i)) → length keys ≡ length rs → AllTwo Answers (answers_from got place keys) rs
+  unfolding answers_from own_look
+  all-answer place [] [] at few = no-two
+  all-answer place (r ∷ rs) (k ∷ ks) at few =
+      let start : place + 0 ≡ place = omega arith in
+      let there : slice_get refs place ≡ Some r = ap (slice_get refs) (sym start) ∙ sym (at 0) in
+      let g = kind-at got refs same place r there in
+      let here = subst (λ o. Answers (λ kind. answer_of o kind) r) (sym g.1) (grind (arith, both-looked-up, both-not)) in
+      more-two _ r _ rs here (all-answer (place + 1) rs ks (λ i. let next : place + suc i ≡ place + 1 + i = omega arith in at (suc i) ∙ ap (slice_get refs) next) (omega arith))
+  all-answer place _ _ at few = absurd (omega arith)
+
+  -- with all of them it is read, and refers in each place to what was got there
+  reads-all : (own : Meaning ArcRef) × (next_of types t blob got ≡ reads own) × Along ⊥ (InPlace got refs) own f.own
+  unfolding read
+  reads-all =
+      let par = read_par {E = no_cause} {F = ⊥} {S = Answers} {R = InPlace got refs} answer_at own_look (λ kind a r h. h kind) 0 f.shape (inr f.can) in
+      let whole : read (record { levels = 0; look = own_look; parts = types.parts }) f.shape (rest blob.bytes refs) ≡ Ok (f.own, rest [] []) =
+      rw append-nil at (form-again [] f.form (looks-own refs) f.can) in
+      let out = par.out (rest blob.bytes (answers_from got 0 blob.keys)) (rest blob.bytes refs) (record { bytes = refl; refs = all-answer 0 refs blob.keys (λ i. ap (slice_get refs) (let e : i ≡ 0 + i = omega arith in e)) f.as_many }) in
+      let (own, left, given, along) = given-alike out whole in
+      (own, ap (λ r. next_by (slice_get blob.keys (length got)) r) (by-shape types t blob refs f got ∙ given), along)
+
+  -- so does whatever it is read as
+  in-place : (own : Meaning ArcRef) → next_of types t blob got ≡ reads own → Along ⊥ (InPlace got refs) own f.own
+  in-place own is = let (read, next, along) = reads-all in let e : read ≡ own = (let f : reads read ≡ reads own = sym next ∙ is in cc) in subst (λ m. Along ⊥ (InPlace got refs) m f.own) e along
 
 -- ---- what was got
 
@@ -185,7 +222,7 @@ pub data NextOf (blob : Blob) (refs : List ArcRef) (next : Next) : Type 0 where
 module _ (types : Types) (t : ℕ) (blob : Blob) (refs : List ArcRef) (f : IsFormOf types t blob refs) where
   ahead : (got done left : List ArcRef) → refs ≡ done ++ left → kinds_of got ≡ kinds_of done → Ahead types t blob refs got
   ahead got done [] split same =
-      let all = same ∙ ap kinds_of (sym (split ∙ append-nil done)) in let w = reads-all types t blob refs f got all in all-done w.0 w.1 all
+      let all = same ∙ ap kinds_of (sym (split ∙ append-nil done)) in let w = reads-all types t blob refs got f all in all-done w.0 w.1 all
   ahead got done (q ∷ left) split same = let a = asks-next types t blob refs f got done q left split same in one-left done left q a.0 split same a.1 a.2
 
   comes-to : {got : List ArcRef} → GotAsked types t blob got → Ahead types t blob refs got
@@ -215,54 +252,7 @@ module _ (types : Types) (t : ℕ) (blob : Blob) (refs : List ArcRef) (f : IsFor
 abbrev pub AreApart : List ArcRef → Type 0
 AreApart got = (i j : ℕ) (r q : ArcRef) → slice_get got i ≡ Some r → slice_get got j ≡ Some q → r.handle.0 ≡ q.handle.0 → i ≡ j
 
--- the one was got in the place of the other
-record InPlace (got refs : List ArcRef) (g r : ArcRef) : Type 0 where
-  place : ℕ
-  of_got : slice_get got place ≡ Some g
-  of_refs : slice_get refs place ≡ Some r
-
--- a reference is read as its own kind
-own_look : ℕ → ArcRef → Result ArcRef Error
-own_look kind r = if r.kind.0 == kind then Ok r else Err Error.WrongKind
-
-looks-own : (rs : List ArcRef) → Looked own_look kind_of_arc rs rs (Ok [])
-unfolding own_look
-looks-own [] = all-looked []
-looks-own (r ∷ rs) = one-looked r rs r rs (Ok []) (let e = self-number r.kind.0 in rw e refl) (looks-own rs)
-
-kind-at : (got refs : List ArcRef) → kinds_of got ≡ kinds_of refs → (place : ℕ) (r : ArcRef) → slice_get refs place ≡ Some r → (g : ArcRef) × (slice_get got place ≡ Some g) × (g.kind.0 ≡ r.kind.0)
-kind-at got [] same place r is = absurd (cc)
-kind-at [] (x ∷ refs) same place r is = absurd (cc)
-kind-at (g ∷ got) (x ∷ refs) same zero r is = (g, refl, cc)
-kind-at (g ∷ got) (x ∷ refs) same (suc place) r is = kind-at got refs (cc) place r is
-
 module _ (types : Types) (t : ℕ) (blob : Blob) (refs got : List ArcRef) (f : IsFormOf types t blob refs) (same : kinds_of got ≡ kinds_of refs) where
-  abbrev Answers : Answer → ArcRef → Type 0
-  Answers a r = (kind : ℕ) → OutLook no_cause (InPlace got refs) (a kind) (own_look kind r)
-
-  all-answer : (place : ℕ) (rs : List ArcRef) (keys : List ℕ) → ((i : ℕ) → slice_get rs i ≡ slice_get refs (place + i)) → length keys ≡ length rs → AllTwo Answers (answers_from got place keys) rs
-  unfolding answers_from own_look
-  all-answer place [] [] at few = no-two
-  all-answer place (r ∷ rs) (k ∷ ks) at few =
-      let start : place + 0 ≡ place = omega arith in
-      let there : slice_get refs place ≡ Some r = ap (slice_get refs) (sym start) ∙ sym (at 0) in
-      let g = kind-at got refs same place r there in
-      let here = subst (λ o. Answers (λ kind. answer_of o kind) r) (sym g.1) (grind (arith, both-looked-up, both-not)) in
-      more-two _ r _ rs here (all-answer (place + 1) rs ks (λ i. let next : place + suc i ≡ place + 1 + i = omega arith in at (suc i) ∙ ap (slice_get refs) next) (omega arith))
-  all-answer place _ _ at few = absurd (omega arith)
-
-  -- what is read refers in each place to what was got there
-  in-place : (own : Meaning ArcRef) → next_of types t blob got ≡ reads own → Along ⊥ (InPlace got refs) own f.own
-  unfolding read
-  in-place own is =
-      let given = read-gives _ _ own is in
-      let par = read_par {E = no_cause} {F = ⊥} {S = Answers} {R = InPlace got refs} answer_at own_look (λ kind a r h. h kind) 0 f.shape (inr f.can) in
-      let whole : read (record { levels = 0; look = own_look; parts = types.parts }) f.shape (rest blob.bytes refs) ≡ Ok (f.own, rest [] []) =
-      rw append-nil at (form-again [] f.form (looks-own refs) f.can) in
-      let shaped : read_with types t blob got ≡ read (handles_at 0 types.parts) f.shape (rest blob.bytes (answers_from got 0 blob.keys)) = rw f.is refl in
-      let out = par.out (rest blob.bytes (answers_from got 0 blob.keys)) (rest blob.bytes refs) (record { bytes = refl; refs = grind (arith, nat_tests, all-answer, slice_get) }) in
-      grind (arith, nat_tests, out)
-
   -- ---- references, one by one
 
   module _ (apart : AreApart got) where
@@ -278,16 +268,14 @@ module _ (types : Types) (t : ℕ) (blob : Blob) (refs got : List ArcRef) (f : I
 
     -- what is read names no handle twice
     pub reads-once : (own : Meaning ArcRef) → next_of types t blob got ≡ reads own → (q : ℕ) → times (λ (r : ArcRef). r.handle.0 == q) (references_in own) ≤ 1
-    reads-once own is q = at (times (λ (r : ArcRef). r.handle.0 == q) (references_in own)) refl
-      where
-        at : (n : ℕ) → times (λ (r : ArcRef). r.handle.0 == q) (references_in own) ≡ n → times (λ (r : ArcRef). r.handle.0 == q) (references_in own) ≤ 1
-        at zero e = omega (arith, e)
-        at (suc n) e =
-            let two = refs-two (in-place own is) in
-            let some = counted (λ (r : ArcRef). one (r.handle.0 == q)) (references_in own) (omega (arith, e)) in
-            let r = each-two two some.0 some.1 in
-            let le = no-more q r.0 some.0 r.1 (same-number some.0.handle.0 q (one-true _ some.2)) two in
-            omega (arith, le, f.once r.0.handle.0)
+    reads-once own is q = elim (cases_lt 0 (times (λ (r : ArcRef). r.handle.0 == q) (references_in own))) [
+      | inr none ↦ omega arith
+      | inl some ↦
+          let two = refs-two (in-place types t blob refs got f same own is) in
+          let (g, among, named) = counted (λ (r : ArcRef). one (r.handle.0 == q)) (references_in own) some in
+          let (r, place) = each-two two g among in
+          omega (arith, no-more q r g place (same-number g.handle.0 q (one-true _ named)) two, f.once r.handle.0)
+    ]
 
 -- ---- nothing is said against references that are good and apart
 

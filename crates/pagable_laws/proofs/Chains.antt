@@ -114,10 +114,6 @@ module _ {N E B W : Type 0} (m : Seen N B W) (lawful : IsLawful m.values) (reada
 slots-stay : (shelf shelf' : Shelf) → ShelfGrows shelf shelf' → (i : Identity) → one (is_some (shelf.slots i)) ≤ one (is_some (shelf'.slots i))
 slots-stay shelf shelf' more i = grind (arith, nat_tests)
 
--- none more than there was
-none-more : (a b : ℕ) → a ≤ b → a + 0 ≤ b
-none-more a b le = omega arith
-
 -- the claims of one event
 abbrev pub claim_made : {N B W : Type 0} → (ℕ → Option Walking) → ℕ → Identity → Event N B W → EventReply N B W → ℕ
 claim_made walkings t i (Event.WorkerStep v) (EventReply.WorkerMoved (Ok reply)) = one (is_on_table t (walkings v.0) && is_claim_of i reply.took)
@@ -145,7 +141,7 @@ module _ {N B W : Type 0} (walkings : ℕ → Option Walking) (t : ℕ) (i : Ide
 
     step-claims : {v : WorkerNumber} (reply : WorkerReply W) → WorkerSteps m u v reply u'
         → one (is_some ((u.work.shelves t).slots i)) + one (is_on_table t (walkings v.0) && is_claim_of i reply.took) ≤ one (is_some ((u'.work.shelves t).slots i))
-    step-claims {v = v} reply s = grind (arith, nat_tests, on, none-more, is-still, after, slots-stay, puts-slot, is-same)
+    step-claims {v = v} reply s = grind (arith, nat_tests, on, is-still, after, slots-stay, puts-slot, is-same)
       where
         w : Walking
         w = s.walking
@@ -158,12 +154,9 @@ module _ {N B W : Type 0} (walkings : ℕ → Option Walking) (t : ℕ) (i : Ide
 
     pub event-claims : (event : Event N B W) (reply : EventReply N B W) → Happens m u event reply u'
         → one (is_some ((u.work.shelves t).slots i)) + claim_made walkings t i event reply ≤ one (is_some ((u'.work.shelves t).slots i))
-    event-claims x0 x1 h = grind (arith, nat_tests, step-claims, none-more, is-still)
+    event-claims x0 x1 h = grind (arith, nat_tests, step-claims, is-still)
 
 -- ---- together
-
-first-then : (a b c d x y : ℕ) → x ≡ b + c → a + b ≤ d → d + c ≤ y → a + x ≤ y
-first-then a b c d x y is first more = omega arith
 
 module _ {N E B W : Type 0} (m : Seen N B W) where
   -- what a chain of these events comes to
@@ -179,17 +172,7 @@ module _ {N E B W : Type 0} (m : Seen N B W) where
   arrives : (s : MachineState N E) (moments : List (Moment N E B W)) → AreMoments m s moments → IsMachineWhole m.values s → StandsIn (world_of s) → LoadsStand m.values.types (world_of s)
       → Arrives s (state_after s moments) (events_of moments) (replies_of moments) × StepsAreWithin m.values s moments
   unfolding state_after steps_of claims_made
-  arrives s [] chain whole work loads = (
-    record {
-      work = work;
-      whole = whole;
-      loads = loads;
-      keeps = λ v w there. record { now = w; there = there; table = refl; task = refl };
-      gone = λ n past gone. subst (λ k. HasGone m.written_of n s.work.shelves (s.work.walkings n) k) (sym (append-nil past)) gone;
-      claims = λ t i. omega arith;
-    },
-    tt,
-  )
+  arrives s [] chain whole work loads = (grind (arith, nat_tests, append-nil), tt)
   arrives s (x ∷ xs) (does, chain) whole work loads =
       let turns : EventTurns m (world_of s) x.event x.reply (world_of x.after) =
       event-turns m (world_of s) (world_of x.after) work (λ v w there. (whole.walkings v w there).table.1) x.event x.reply does.step.happens in
@@ -206,9 +189,9 @@ module _ {N E B W : Type 0} (m : Seen N B W) where
               (append_assoc past (step_of n x.event x.reply) (steps_of n (events_of xs) (replies_of xs)))
               (rest.gone n (past ++ step_of n x.event x.reply) (goes-on m (world_of s) (world_of x.after) x.event x.reply work turns n past gone));
           claims = λ q i.
-              first-then _ _ _ _ _ _ (claims-cons last q i x.event x.reply (events_of xs) (replies_of xs))
-              (event-claims last q i m (world_of s) (world_of x.after) (λ p. grows turns.who (s.work.shelves p) (x.after.work.shelves p) (t.changes p))
-              (λ v w there. after turns.who t rest.keeps v w there) x.event x.reply does.step.happens) (rest.claims q i);
+              let each = event-claims last q i m (world_of s) (world_of x.after) (λ p. grows turns.who (s.work.shelves p) (x.after.work.shelves p) (t.changes p))
+              (λ v w there. after turns.who t rest.keeps v w there) x.event x.reply does.step.happens in
+              omega (arith, claims-cons last q i x.event x.reply (events_of xs) (replies_of xs), each, rest.claims q i);
         },
         (step-within m s x.after whole loads x.event x.reply does.step.happens, within),
       )
@@ -240,8 +223,7 @@ module _ {N E B W : Type 0} (m : Seen N B W) (s : MachineState N E) (work : Stan
       rests = (whole.walkings n walking there).at_work ∙ ap is_none is
 
       own : (h : HandleRow) → Among s.pager.core.rows h → (b : Bool) → is_owner (owner_worker n) h.owner ≡ b → one (is_owner (owner_worker n) h.owner) ≡ 0
-      own h among true e = true-false (whole.pager.whole.owners_there.workers h n among (grind (arith, nat_tests))) rests
-      own h among false e = ap one e
+      own h among x2 e = grind (arith, nat_tests, true-false, whole.pager.whole.owners_there.workers h n among, rests)
 
 -- all that steps have come to, and that each step of a load was within its bound
 work-right : {N E B W : Type 0} (m : Seen N B W) (s : MachineState N E) (moments : List (Moment N E B W)) → IsMachineWhole m.values s → IsIdle s → AreMoments m s moments

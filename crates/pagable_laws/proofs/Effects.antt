@@ -5,7 +5,7 @@ use Rattle.pagable_laws.proofs.Words.{and_parts, nat_tests, OptionalDataKey, Han
 use Rattle.pagable_laws.proofs.Words.{Cell, Alike, usable, Falls, left_rows, fallen, suc, zero, false, [], ◌∷◌, sym, slice_get, Owner, Mode, ArcRef, HandleNumber, LoadNumber, NodeNumber, changed}
 use Rattle.pagable_laws.proofs.Words.{find_row, is_handle, is_owner, is_owned_by, owner_worker, nobody, only_handle, Owns, with_handle, with_mode, moved, is_named_by, is_owned_in, OwnersAreThere}
 use Rattle.pagable_laws.proofs.Words.{AreGood, Blob, Kind, is_in, named_fault, numbers_of, owner_value, with_cached, with_node, without_load, ◌+◌, row_of, is_load_of, is_workers, is_workers_at}
-use Rattle.pagable_laws.proofs.{Words.{OpenLoad, earlier, Change, nothing_felt, sets_key, Knows, Bears, Root, with_load, with_key, is_loose, ◌||◌, refused_if, row_at}, Sums.{same-number, self-number}}
+use Rattle.pagable_laws.proofs.{Words.{OpenLoad, earlier, Change, nothing_felt, sets_key, Knows, Bears, Root, with_load, with_key, is_loose}, Sums.{same-number, self-number}}
 use Rattle.pagable_laws.proofs.{Sums.{at-most-sum, counted, one-true}, Decoding.among-either, Trees.same_some, GoodReferences.same-owner, Outlasting.{among-kept, NotValues, Stands, stands-alike}}
 use Rattle.pagable_laws.proofs.{Outlasting.{stands-changed, stands-fell, stands-more, Has}, Goes.{found-number, le-more, none-in-next, Goes, Quiet, IsShut, NotLoads, rows-self, rows-mode, rows-moved}}
 use Rattle.pagable_laws.proofs.Goes.{alike, parts, quiet-self, only-rows, a-handle, quiet-goes, goes-quiet, born, keyed, goes-then, goes-known, le-self, fell as quiet-fell}
@@ -37,10 +37,7 @@ module _ (kind key n : ℕ) where
   above-none a b t is le = let e : one t ≡ 1 = ap one is in grind (arith, nat_tests)
 
   pinned : (rows : List HandleRow) → IsHeldFor rows → is_pinned_kind kind ≡ true → nat_lt 0 (pins n rows) ≡ true
-  pinned rows h is =
-      let e = at-row h.row h.at in
-      let p = h.pins_it is in
-      above-none 0 (pins n rows) (is_pin n h.row) (rw (e, p) refl) (at-most-sum (λ x. one (is_pin n x)) rows h.row h.live)
+  pinned rows h is = let e = at-row h.row h.at in let le = at-most-sum (λ x. one (is_pin n x)) rows h.row h.live in grind (arith, nat_tests, above-none)
 
   pub can-use : (w : Core) → IsEntered w.cache w.cells → IsHeldFor w.rows → usable w kind key ≡ Some n
   can-use w e h = grind (arith, nat_tests, pins, pinned, if_there, is_pinned_kind, is_in_memory)
@@ -183,15 +180,12 @@ module _ (mine : Owner) where
   pub listed-free : is_owner Owner.List mine ≡ false → {w : Core} → OwnersAreThere w → (i : ℕ) (h : HandleNumber) → slice_get w.list i ≡ Some h → Free w (only_handle h)
   listed-free unlisted {w} there i h at = record {
     each = λ q row own s. false_from_ne_true (q == h.0) (λ e.
-        let same : h.0 ≡ q = sym (same-number q h.0 e) in
-        let here : one (h.0 == q) ≡ 1 = ap (λ n. one (n == q)) same ∙ ap one (self-number q) in
+        let here : one (h.0 == q) ≡ 1 = ap (λ n. one (n == q)) (sym (same-number q h.0 e)) ∙ ap one (self-number q) in
         let most = at-most-sum (λ (x : HandleNumber). one (x.0 == q)) w.list h (i, at) in
         let as_many = there.listed q in
-        let owned = counted (λ (x : HandleRow). one (is_handle q x && is_owned_by Owner.List x)) w.rows (omega (arith, here, most, as_many)) in
-        let both = and_parts (is_handle q owned.0) (is_owned_by Owner.List owned.0) (one-true _ owned.2) in
-        let it = s.only owned.0 owned.1 (same-number _ _ both.0) in
-        let f : is_owner Owner.List mine ≡ true = sym (ap (λ (x : HandleRow). is_owner Owner.List x.owner) it ∙ ap (is_owner Owner.List) own) ∙ both.1 in
-        cc);
+        let (x, among, some) = counted (λ (x : HandleRow). one (is_handle q x && is_owned_by Owner.List x)) w.rows (omega (arith, here, most, as_many)) in
+        let it = s.only x among in
+        grind (arith, nat_tests, one-true, same-number));
   }
 
   -- handles that a load hands over aren't the owner's
@@ -199,14 +193,8 @@ module _ (mine : Owner) where
       → (q : ℕ) (row : HandleRow) → row.owner ≡ mine → Stands w.last.handle w.rows q row → is_in (numbers_of hs) q ≡ false
   unfolding named_fault is_in
   handed-free apart w l [] seen none q row own s = refl
-  handed-free apart w l (h ∷ hs) seen none q row own s = by (λ rest. handed-free apart w l hs (h.0 ∷ seen) rest q row own s) (h.0 == q) refl (both-none _ _ none)
-    where
-      by : (named_fault w (Owner.Load l) (h.0 ∷ seen) hs ≡ None → is_in (numbers_of hs) q ≡ false) → (b : Bool) → (h.0 == q) ≡ b
-          → (if_there (λ (x : HandleRow). refused_if (not (is_owner (Owner.Load l) x.owner) || is_in seen h.0) Error.NotYours) (Some Error.NoSuchHandle) (row_at w h) ≡ None)
-          × (named_fault w (Owner.Load l) (h.0 ∷ seen) hs ≡ None)
-          → (b || is_in (numbers_of hs) q) ≡ false
-      by more false e (first, rest) = more rest
-      by more true e (first, rest) = grind (arith, nat_tests, same-number, apart)
+  handed-free apart w l (h ∷ hs) seen none q row own s =
+      let (first, rest) = both-none _ _ none in let more = handed-free apart w l hs (h.0 ∷ seen) rest q row own s in grind (arith, nat_tests, same-number, apart)
 
 -- ---- what a step does
 
@@ -284,14 +272,7 @@ module _ {me : Owner} {lists : Bool} {Asks Leaves : Type 0} where
   -- ---- what is done directly
 
   pub none : {c : Change} (w : Core) → Effect me lists Asks Leaves true c w w
-  none {c} w =
-      record {
-        goes = quiet-goes c (quiet-self w);
-        spares = λ mine o. record { each = λ q row own s. s };
-        lasts = λ k kind key n e h still. e;
-        workers = λ v. refl;
-        others = λ own l load is few other. is;
-      }
+  none {c} w = grind (arith, nat_tests, quiet-self, quiet-goes)
 
   module _ {c : Change} {w m : Core} (d : Effect me lists Asks Leaves true c w m) where
     -- the entry is there in the middle

@@ -5,7 +5,7 @@ use Rattle.pagable_laws.proofs.Words.{none, pair, variant, reference, followed, 
 use Rattle.pagable_laws.proofs.Words.{key_at, IsReference, PagerState, WellFormed, NodeStands, here, away, MeaningStands, number-stands, integer-stands, text-stands, pattern-stands, none-stands}
 use Rattle.pagable_laws.proofs.Words.{pair-stands, variant-stands, followed-stands, reference-stands, Represents, HoldsSettled, LeadsTo, number-leads, integer-leads, text-leads, arith, pattern-leads}
 use Rattle.pagable_laws.proofs.Words.{none-leads, pair-leads, variant-leads, followed-leads, reference-leads, ValueLeads, NodeLeads, ◌≤◌, ◌⊎◌, inl, inr, NodeNumber, HandleNumber, OpenLoad, of_cell}
-use Rattle.pagable_laws.proofs.Words.{Moves, ReadsNodeTree, KeyFits, Change, CoreGoes, SameNode, ChangeFits, ◌+◌, ◌==◌, if◌then◌else◌, Owner, Call, Reply, updated, is_pinned_kind, is_here}
+use Rattle.pagable_laws.proofs.Words.{Moves, ReadsNodeTree, KeyFits, Change, CoreGoes, SameNode, ChangeFits, ◌+◌, ◌==◌, if◌then◌else◌, Owner, Call, Reply, updated, is_pinned_kind}
 use Rattle.pagable_laws.proofs.Words.{first_key, SameTrees, CallBrings, IsNewNode, AsksWell, nothing_felt, sets_key, knows_node, bears_node, bears_known, StaysAway, AreGood, CallFeels, feels-nothing}
 use Rattle.pagable_laws.proofs.Words.{feels-birth, feels-away, feels-key, feels-known, feels-adopted, feels-lazy, feels-end, List, [], ◌∷◌, LoadAnswer, Reading, Frame, ReadsRoot, ReadingBrings}
 use Rattle.pagable_laws.proofs.{Words.{IsCellOf, FramesFit, ReadingFits, ReadsItsTypes, TakesWell, FramesGiven, ReadingFeels, gets-lazy, makes-node}, Trees.{same_some, tree_is, one_tree}}
@@ -187,12 +187,9 @@ module _ {N E : Type 0} {v : Values N} {s s' : PagerState N E} {trees : ℕ → 
   pub live-after : (n : ℕ) (x : N) → s'.values n ≡ Some x → is_some (s'.core.cells n) ≡ true
   live-after n x is = cell-of well'.whole.handles n (given-of well'.whole.handles n (well'.typed n x is)).0
 
-  came : (n : ℕ) (x : N) → s'.values n ≡ Some x → is_here s'.core n ≡ true
-  came n x is = grind (arith, live-after)
-
   -- where nothing is born and no value can come to an old node, none comes
   pub none-comes : (n : ℕ) (x : N) → CoreGoes nothing_felt s.core s'.core → s.values n ≡ None → s'.values n ≡ Some x → IsNewNode s.core n ⊎ StaysAway s.core s'.core n → ⊥
-  none-comes n x goes x3 is x5 = grind (arith, nat_tests, live-after, either-side, came, old-node goes, new-node goes well.whole.handles)
+  none-comes n x goes x3 is x5 = grind (arith, nat_tests, live-after, either-side, old-node goes, new-node goes well.whole.handles)
 
   -- nothing is felt, and what comes to an old node fits
   pub fits-nothing : (comes : ℕ → N → Type 0) → ((n : ℕ) (x : N) → comes n x → s.values n ≡ None → s'.values n ≡ Some x → ValueLeads v trees x (trees n))

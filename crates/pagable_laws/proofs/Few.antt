@@ -132,10 +132,7 @@ Rises low (h ∷ hs) = (nat_lt low h.number.0 ≡ true) × Rises h.number.0 hs
 ordered : (low : ℕ) (rows : List HandleRow) → Rises low rows → AllPairs IsHandleBefore rows × All (λ (h : HandleRow). low < h.number.0) rows
 ordered low [] ok = (λ i j d lt within. absurd (omega arith), λ j d within. absurd (omega arith))
 ordered low (h ∷ hs) (first, more) =
-    let rest = ordered h.number.0 hs more in (AllPairs-cons IsHandleBefore h hs rest.1 rest.0, at (grind (arith, nat_tests)) rest.1)
-  where
-    at : low < h.number.0 → All (λ (x : HandleRow). h.number.0 < x.number.0) hs → All (λ (x : HandleRow). low < x.number.0) (h ∷ hs)
-    at first others x2 d within = grind (arith, nat_tests)
+    let rest = ordered h.number.0 hs more in (AllPairs-cons IsHandleBefore h hs rest.1 rest.0, let others = rest.1 in λ i d within. grind (arith, nat_tests))
 
 -- a handle's number was given, and its owner is there
 abbrev pub OwnerThere : Core → Owner → Type 0
@@ -221,11 +218,7 @@ module _ (w : Core) (vs : List (Option Sample)) (few : Few w) (p : Passes w vs) 
   inside n x q is = let a = by-number 9 (λ q. nat_eq (refers x q) (owns w n q)) (λ q. true) (value n x is).1 past q in grind (arith, nat_tests)
     where
       past : (q : ℕ) → 9 < q → nat_eq (refers x q) (owns w n q) ≡ true
-      past q lt =
-          let a : refers x q ≡ 0 = none-pass (λ (r : ArcRef). nat_le r.handle.0 9 ≡ true) (λ r. r.handle.0 == q) (sample_references x) (value n x is).2 (λ r ok. grind (arith, nat_tests)) in
-          let b : owns w n q ≡ 0 = none-pass (RowThere w) (λ h. is_handle q h && is_owned_by (owner_value n) h) w.rows p.handles.there
-          (λ h ok. let c = ok.1 in let d : is_handle q h ≡ false = grind (arith, nat_tests) in rw d refl) in
-          rw (a, b) refl
+      past q lt = let refs = (value n x is).2 in let there = p.handles.there in grind (arith, nat_tests, none-pass)
 
   pub whole-so : WellFormed sample (machine w vs no_work).pager
   whole-so =
@@ -236,8 +229,7 @@ module _ (w : Core) (vs : List (Option Sample)) (few : Few w) (p : Passes w vs) 
             ordered = (ordered 0 w.rows p.handles.rise).0;
             numbered = λ h among. let (a, b, c) = row h among in (grind (arith, nat_tests), grind (arith, nat_tests));
             nodes_numbered = grind (arith, nat_tests, number, and_parts);
-            within = let a : w.last.handle ≤ 9 = grind (arith, nat_tests) in let b : w.last.node ≤ 3 = grind (arith, nat_tests) in let c : w.last.load ≤ 3 = grind (arith, nat_tests) in
-                (omega arith, omega arith, omega arith);
+            within = grind (arith, nat_tests);
             live = λ n. (number n).1;
             uniform = λ n. inl (unshared w.rows p.handles.low n);
             unkeyed = λ n some. let a = unshared w.rows p.handles.low n in absurd (omega arith);

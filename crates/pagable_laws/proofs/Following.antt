@@ -1,5 +1,5 @@
 -- A form of a node's value is one of its tree: over its references it is followed to their nodes' trees, and with their keys it stands under the tree's own.
-use Rattle.pagable_laws.proofs.Words.{◌≡◌, ℕ, suc, ◌+◌, ◌<◌, ◌≤◌, ◌==◌, ◌&&◌, Bool, true, false, List, [], ◌∷◌, map, Option, Some, Result, Ok, refl, sym, ap, subst, ◌∙◌, inr, arith, is_some, nat_lt}
+use Rattle.pagable_laws.proofs.Words.{◌≡◌, ℕ, suc, ◌+◌, ◌<◌, ◌≤◌, ◌==◌, ◌&&◌, Bool, true, List, [], ◌∷◌, map, Option, Some, Result, Ok, refl, sym, ap, subst, ◌∙◌, inr, arith, is_some, nat_lt}
 use Rattle.pagable_laws.proofs.Words.{slice_get, nat_tests, append-nil, sum_by-cons, get_or_from_slice_get, slice_get_within, Error, reference, rename, references_in, Rest, deepest, Form, kind_of_arc}
 use Rattle.pagable_laws.proofs.Words.{IsReadable, Throughout, Kid, kid, kind_of_kid, KeyRef, key_ref, IsFollowed, number-followed, integer-followed, text-followed, pattern-followed, none-followed}
 use Rattle.pagable_laws.proofs.Words.{pair-followed, variant-followed, reference-followed, unfolded, TreeForm, blob_of, KeyOf, key-of, KeysOf, no-keys, more-keys, kind_of_ref, key_of_ref, StoredAs}
@@ -70,24 +70,16 @@ module _ {w : Core} (whole : HandlesAreWhole w) (n : ℕ) where
 rows-once : (q : ℕ) (rows : List HandleRow) → ((i j : ℕ) (a b : HandleRow) → i < j → slice_get rows i ≡ Some a → slice_get rows j ≡ Some b → a.number.0 < b.number.0) → times (is_handle q) rows ≤ 1
 rows-once q [] apart = omega arith
 rows-once q (h ∷ hs) apart =
-    at (is_handle q h) refl (rows-once q hs (λ i j a b lt x y. apart (suc i) (suc j) a b (omega (arith, lt)) x y)) (sum_by-cons (λ (x : HandleRow). one (is_handle q x)) h hs)
-  where
-    off : h.number.0 ≡ q → (x : HandleRow) (i : ℕ) → slice_get hs i ≡ Some x → (b : Bool) → is_handle q x ≡ b → one (is_handle q x) ≡ 0
-    off same x i there false e = ap one e
-    off same x i there true e = absurd (let lt = apart 0 (suc i) h x (omega arith) refl there in let is = same-number x.number.0 q e in omega (arith, lt, is, same))
-
-    at : (b : Bool) → is_handle q h ≡ b → times (is_handle q) hs ≤ 1 → times (is_handle q) (h ∷ hs) ≡ one (is_handle q h) + times (is_handle q) hs → times (is_handle q) (h ∷ hs) ≤ 1
-    at b e le sum = grind (arith, nat_tests, sum-zero, one, off, same-number)
+    let rest = rows-once q hs (λ i j a b lt x y. apart (suc i) (suc j) a b (omega (arith, lt)) x y) in
+    let sum = sum_by-cons (λ (x : HandleRow). one (is_handle q x)) h hs in
+    let off : h.number.0 ≡ q → times (is_handle q) hs ≡ 0 = λ same. sum-zero (λ x. one (is_handle q x)) hs (λ x (i, there). let lt = apart 0 (suc i) h x (omega arith) refl there in grind (arith, nat_tests, same-number)) in
+    grind (arith, nat_tests, one, same-number)
 
 pub handles-once : {w : Core} → HandlesAreWhole w → (q : ℕ) → times (is_handle q) w.rows ≤ 1
 handles-once {w} whole q = rows-once q w.rows (λ i j a b lt at there.
     let n = get_or_from_slice_get w.rows i a a at in
     let k = get_or_from_slice_get w.rows j b a there in
-    let o = whole.ordered i j a lt (slice_get_within w.rows j b there) in
-    less _ _ (ap (λ (h : HandleRow). h.number.0) n) (ap (λ (h : HandleRow). h.number.0) k) o)
-  where
-    less : (x y : ℕ) {m n : ℕ} → x ≡ m → y ≡ n → x < y → m < n
-    less x y a b lt = omega (arith, a, b, lt)
+    rw (n, k) at (whole.ordered i j a lt (slice_get_within w.rows j b there)))
 
 pub one-less : (a b : Bool) → one (a && b) ≤ one a
 one-less x0 x1 = grind (arith, nat_tests)

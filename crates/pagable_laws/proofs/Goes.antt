@@ -1,7 +1,7 @@
 -- What a step does to the plain world as far as trees feel it, with no premise: the parts of which the summary of each call is made.
-use Rattle.pagable_laws.proofs.Words.{◌≡◌, ℕ, ◌+◌, ◌<◌, ◌≤◌, ◌==◌, ◌&&◌, Bool, true, false, List, [], ◌∷◌, ◌++◌, refl, ap, sym, subst, ◌∙◌, inl, inr, arith, Option, Some, None, ◌⊎◌, if◌then◌else◌}
+use Rattle.pagable_laws.proofs.Words.{◌≡◌, ℕ, ◌+◌, ◌<◌, ◌≤◌, Bool, true, false, List, [], ◌∷◌, ◌++◌, refl, ap, sym, subst, ◌∙◌, inl, inr, arith, Option, Some, None, ◌⊎◌, if◌then◌else◌}
 use Rattle.pagable_laws.proofs.Words.{nat_tests, Blob, ArcRef, Kind, type_of, HandleNumber, LoadNumber, NodeNumber, OptionalDataKey, changed, updated, HandleRow, Owner, Mode, find_row}
-use Rattle.pagable_laws.proofs.Words.{is_handle, mode_of, is_loose, Core, Cell, OpenLoad, Root, Alike, type_at, key_at, AreNewEntries, Falls, FallsAnyhow, fallen, left_rows, row_of, with_handle}
+use Rattle.pagable_laws.proofs.Words.{is_handle, mode_of, is_loose, Core, Cell, OpenLoad, Root, Alike, AreNewEntries, Falls, FallsAnyhow, fallen, left_rows, row_of, with_handle}
 use Rattle.pagable_laws.proofs.{Words.{with_node, with_key, with_cached, next_node, moved, with_load, adopted, Change, nothing_felt, sets_key, bears_known, Knows, Bears, BeginsWell}, Sums.same-number}
 use Rattle.std.proofs.Common.{le_trans, rules}
 pub use Rattle.pagable_laws.specs.TreeSteps.{Was, RowsGo, IsShut, Kept, CoreGoes as Goes}
@@ -80,11 +80,8 @@ rows-moved last rows s owner free q row found few =
 pub rows-more : (last : ℕ) (rows more : List HandleRow) → ((q : ℕ) → q ≤ last → find_row q more ≡ None) → RowsGo last rows (rows ++ more)
 unfolding find_row
 rows-more last [] more new q row found few = let none = new q few in absurd (cc)
-rows-more last (h ∷ hs) more new q row found few = at (λ f. rows-more last hs more new q row f few) (is_handle q h) refl found
-  where
-    at : (find_row q (hs ++ more) ≡ Some row → Was hs q row) → (b : Bool) → is_handle q h ≡ b → (if b then Some h else find_row q (hs ++ more)) ≡ Some row → Was (h ∷ hs) q row
-    at back true is found = let e : h ≡ row = cc in record { was = h; live = rw is refl; at = ap (λ (r : HandleRow). r.node) e; mine = λ l mine. e; loose = λ was. ap is_loose (sym (ap (λ (r : HandleRow). r.mode) e)) ∙ was }
-    at back false is found = let w = back found in record { was = w.was; live = rw is w.live; at = w.at; mine = w.mine; loose = w.loose }
+rows-more last (h ∷ hs) more new q row found few =
+    let back : find_row q (hs ++ more) ≡ Some row → Was hs q row = λ f. rows-more last hs more new q row f few in grind (arith, nat_tests, is_handle, find_row)
 
 pub none-in-new : (last q : ℕ) (entries : List HandleRow) → AreNewEntries last entries → q ≤ last → find_row q entries ≡ None
 unfolding find_row
@@ -169,45 +166,29 @@ begun c w key root me well =
     ] in
     grind (arith, nat_tests, le-self, le-more, rows-self, loads)
 
+-- where nothing is felt, a cell was there as it is
+was-there : {w m : Core} → Goes nothing_felt w m → (n : ℕ) (cell : Cell) → m.cells n ≡ Some cell → w.cells n ≡ Some cell
+was-there {w} a n cell is = elim (a.cells n cell is) [
+  | inl k ↦ elim k.key [
+    | inl same ↦
+        k.live ∙ ap (λ (t : ℕ). let c : Cell = record { node_type = t; key = k.was.key } in Some c) (sym k.typed)
+        ∙ ap (λ (q : OptionalDataKey). let c : Cell = record { node_type = cell.node_type; key = q } in Some c) (sym same)
+    | inr (key, none, set) ↦ absurd none
+  ]
+  | inr (next, bears) ↦ absurd bears
+]
+
 -- two steps of which nothing is felt: the cells that the first leaves are those that a load that the second begins is of
 pub goes-then : {w m w' : Core} → Goes nothing_felt w m → Goes nothing_felt m w' → Goes nothing_felt w w'
 goes-then {w} {m} {w'} a b =
-    let cells : (n : ℕ) (cell : Cell) → w'.cells n ≡ Some cell → Kept nothing_felt w n cell ⊎ ((n ≡ w.last.node + 1) × Bears nothing_felt cell.node_type cell.key) = λ n cell is.
-    elim (b.cells n cell is) [ inl k ↦ inl (kept n cell k (was n k.was k.live)) | inr (next, bears) ↦ absurd bears ] in
-    let loads : (l : ℕ) (load : OpenLoad) → w'.loads l ≡ Some load → (w.loads l ≡ Some load) ⊎ ((w.last.load < l) × BeginsWell w load) = λ l load is. elim (b.loads l load is) [
-      | inl there ↦ a.loads l load there
-      | inr (above, well) ↦ inr (let c = a.loads_last in omega arith, λ node t h root. let k = well node t h root in both node.0 t load.key (m.cells node.0) refl k.0 k.1)
-    ] in
+    let cells : (n : ℕ) (cell : Cell) → w'.cells n ≡ Some cell → Kept nothing_felt w n cell ⊎ ((n ≡ w.last.node + 1) × Bears nothing_felt cell.node_type cell.key) =
+    λ n cell is. inl (record { was = cell; live = was-there a n cell (was-there b n cell is); typed = refl; key = inl refl }) in
+    let begins : (load : OpenLoad) → BeginsWell m load → BeginsWell w load = λ load well node t h root. let k = well node t h root in let was = was-there a node.0 in grind (arith, nat_tests) in
+    let loads : (l : ℕ) (load : OpenLoad) → w'.loads l ≡ Some load → (w.loads l ≡ Some load) ⊎ ((w.last.load < l) × BeginsWell w load) = λ l load is.
+    elim (b.loads l load is) [ inl there ↦ a.loads l load there | inr (above, well) ↦ inr (let c = a.loads_last in omega arith, begins load well) ] in
     let cache : (kind key n : ℕ) → w'.cache kind key ≡ Some n → (w.cache kind key ≡ Some n) ⊎ Knows nothing_felt w kind key n = λ kind key n is.
     elim (b.cache kind key n is) [ inl there ↦ a.cache kind key n there | inr known ↦ absurd known ] in
-    let rows = rows-then w.last.handle m.last.handle w.rows m.rows w'.rows a.handles a.rows b.rows in
-    search (
-      le_trans a.nodes b.nodes,
-      le_trans a.handles b.handles,
-      le_trans a.loads_last b.loads_last,
-      le_trans a.workers_last b.workers_last,
-      cells,
-      loads,
-      cache,
-      rows,
-      a.stored,
-      b.stored,
-      a.shut,
-      b.shut,
-    )
-  where
-    same-key : {u : Core} {n : ℕ} {cell : Cell} → (k : Kept nothing_felt u n cell) → cell.key ≡ k.was.key
-    same-key k = elim k.key [ inl same ↦ same | inr (key, none, is) ↦ absurd none ]
-
-    was : (n : ℕ) (cell : Cell) → m.cells n ≡ Some cell → Kept nothing_felt w n cell
-    was n cell is = elim (a.cells n cell is) [ inl k ↦ k | inr (next, bears) ↦ absurd bears ]
-
-    kept : (n : ℕ) (cell : Cell) → (k : Kept nothing_felt m n cell) → Kept nothing_felt w n k.was → Kept nothing_felt w n cell
-    kept n cell k j = record { was = j.was; live = j.live; typed = k.typed ∙ j.typed; key = inl (same-key k ∙ same-key j) }
-
-    both : (n t key : ℕ) (found : Option Cell) → m.cells n ≡ found → type_at m n ≡ Some t → key_at m n ≡ OptionalDataKey.Some key → (type_at w n ≡ Some t) × (key_at w n ≡ OptionalDataKey.Some key)
-    both n t key None there typed own = let e : type_at m n ≡ None = rw there refl in absurd (cc)
-    both n t key (Some cell) there typed own = let k = was n cell there in let e = same-key k in grind (arith, nat_tests)
+    search (rules, rows-then, le_trans, cells, loads, cache, a.stored, b.stored, a.shut, b.shut)
 
 pub goes-known : {c : Change} {w m : Core} → Goes c w m → (kind : Kind) (key : ℕ) (n : NodeNumber) → Knows c w kind.0 key n.0 → Goes c w (with_cached m kind key n)
 goes-known {c} {w} {m} a kind key n knows = grind (arith, same-number)

@@ -40,9 +40,6 @@ whole-at w vs shelf walking reading (few, p) walks reads =
 pub few-fallen : (w : Core) (gone : ℕ → Bool) → Few w → Few (fallen w gone [])
 few-fallen w gone few = (λ n lt. let e = few.0 n lt in grind (arith, nat_tests), few.1, few.2, few.3)
 
-few-ended : (answer : Option WorkerAnswer) (w : Core) → Few w → Few (two.ended answer w)
-few-ended x0 w few = grind (arith, nat_tests, few-fallen, updated-past)
-
 -- ---- each step
 
 pub same-shelf : (s : Shelf) → SameShelf s s
@@ -81,15 +78,11 @@ Asks w s (to_release r key height ∷ below) = AreAlone w w (is_workers_at w 1 r
 Asks w s (to_item written keys ∷ below) = CanStore w written keys
 Asks w s todo = ⊥
 
-claims-it : (w : Core) (s : Shelf) (r : _) (place : ℕ) (below : List Todo) → nat_le place 0 ≡ true → claim_fault w r ≡ None → s.slots (identity_of r) ≡ None
-    → let a = two.next_step w s (to_start r place ∷ below) in Walks w s (to_start r place ∷ below) a.0 a.1 a.2 a.3
-claims-it w s r place below first good free = grind (arith, nat_tests, alike-self, same-shelf)
-
 stored-so : (w : Core) (blob : Blob) → w.closed ≡ false → w.stored (digest two.sample blob) ≡ None → StoreCall (digest two.sample) w blob (Ok (digest two.sample blob)) (two.with_blob w blob)
 stored-so w blob is_open free = grind (arith, nat_tests, alike-self)
 
 does-so : (w : Core) (s : Shelf) (todo : List Todo) → Asks w s todo → let a = two.next_step w s todo in Walks w s todo a.0 a.1 a.2 a.3
-does-so w s (to_start r place ∷ below) (first, good, free) = claims-it w s r place below first good free
+does-so w s (to_start r place ∷ below) (first, good, free) = grind (arith, nat_tests, alike-self, same-shelf)
 does-so w s (to_pin r place ∷ below) (live, clone_live, here, few) =
     let left : w.last.handle ≤ 6 = grind (arith, nat_tests) in
     let row = row_of r.handle.0 r.node Mode.LoosePinned (owner_at w r.handle) in
@@ -110,8 +103,9 @@ does-so w s (to_release r key height ∷ below) alone = search (same-shelf, fall
 does-so w s (to_item written keys ∷ below) (all, is_open, free) = search (stored-so w (blob_of written.bytes keys), same-shelf)
 does-so w s todo ok = absurd ok
 
-few-next : (w : Core) (s : Shelf) (todo : List Todo) → Few w → let a = two.next_step w s todo in Few a.1
-few-next w s x2 few = grind (arith, nat_tests, few-fallen)
+-- the pager has few of each after the step, and after its answer
+few-next : (w : Core) (s : Shelf) (todo : List Todo) (answer : Option WorkerAnswer) → Few w → let a = two.next_step w s todo in Few (two.ended answer a.1)
+few-next w s x2 x3 few = grind (arith, nat_tests, few-fallen, updated-past)
 
 -- what is written is a form of the value
 writes-so : (w : Core) (s : Shelf) (work : _) (todo : List Todo) → Asks w s todo → let a = two.next_step w s todo in TookWrites two.sample (λ w. w) (two.machine w two.two_values work).pager a.0
@@ -171,7 +165,7 @@ pages : (n : ℕ) (x : two.Working) (xs : List two.Happening) → Few x.core →
 unfolding two.page_out two.walked AllAsk
 pages zero x xs few ok rest = rest
 pages (suc n) x xs few (works, asks, counts, ends, passes, at_work, ok) rest =
-    let a = two.next_step x.core x.shelf x.todo in let y = two.next x in let few_then = few-ended y.answer a.1 (few-next x.core x.shelf x.todo few) in
+    let a = two.next_step x.core x.shelf x.todo in let y = two.next x in let few_then = few-next x.core x.shelf x.todo y.answer few in
     let (moments, premised) = pages n y xs few_then ok rest in (
       does _ _ _ y.core two.two_values y.shelf (Some (two.walking y)) None (record {
         moves = record {
@@ -243,7 +237,7 @@ births-do xs rest =
     }) (λ n x is. inl is) tt births-good.0 refl tt
     ⨾ does _ _ _ two.child_born _ no_shelf None None
     (only-core _ two.child_born _ None _ (record { does = record { made = (refl, omega arith, record { above = refl; is_left = omega arith }, alike-self two.child_born); refused = tt } }))
-    leaf-comes tt births-good.1 refl tt
+    (grind (arith, nat_tests)) tt births-good.1 refl tt
     ⨾ does _ _ _ two.both_born _ no_shelf None None
     (only-core _ two.both_born _ None _ (record { does = record { made = (refl, omega arith, record { above = refl; is_left = omega arith }, alike-self two.both_born); refused = tt } }))
     parent-comes tt births-good.2 refl tt
@@ -259,9 +253,6 @@ births-do xs rest =
     }) (λ n x is. inl is) tt births-good.3 (refl, refl) tt
     ⨾ rest
   where
-    leaf-comes : (n : ℕ) (x : two.Sample) → value_at (None ∷ Some two.leaf ∷ []) n ≡ Some x → (value_at [] n ≡ Some x) ⊎ ((value_at [] n ≡ None) × ((x ≡ two.leaf) × (0 < n)))
-    leaf-comes x0 x is = grind (arith, nat_tests)
-
     parent-comes : (n : ℕ) (x : two.Sample) → value_at two.two_values n ≡ Some x
         → (value_at (None ∷ Some two.leaf ∷ []) n ≡ Some x) ⊎ ((value_at (None ∷ Some two.leaf ∷ []) n ≡ None) × ((x ≡ two.parent two.to_child) × (1 < n)))
     parent-comes x0 x is = grind (arith, nat_tests)
@@ -439,7 +430,7 @@ no-other n all =
 pub headline_met : TwoLevelsMeetTheHeadline
 unfolding value_at
 headline_met =
-    let new = new_whole (Unit {0}) two.sample in
+    let new = new_whole (Unit {0}) two.sample in let worked = pages 15 two.begun (two.loads ++ two.counts 2) births-good.3.0 begun-asks (loads-do, loads-asked) in
     record {
       lawful = lawful;
       types = reads-types;
@@ -447,17 +438,7 @@ headline_met =
       idle = new.idle _ _ tt;
       stands = λ trees. new.stands _ _ tt trees;
       settled = λ n x is. two-settled x;
-      premised = (
-        asked _ _ tt (λ trees. tt),
-        (
-          asked _ _ tt (λ trees. tt),
-          (
-            asked _ _ tt (λ trees. tt),
-            (asked _ _ tt (λ trees. tt), (pages 15 two.begun (two.loads ++ two.counts 2) births-good.3.0 begun-asks (loads-do, loads-asked)).1),
-          ),
-        ),
-      );
-      headline = headline_law (Unit {0}) two.sample_seen two.new_one (two.moments 2) (new.whole _ _ tt) (new.idle _ _ tt)
-          (births-do _ (pages 15 two.begun (two.loads ++ two.counts 2) births-good.3.0 begun-asks (loads-do, loads-asked)).0);
+      premised = asked _ _ tt (λ trees. tt) ⨾ asked _ _ tt (λ trees. tt) ⨾ asked _ _ tt (λ trees. tt) ⨾ asked _ _ tt (λ trees. tt) ⨾ worked.1;
+      headline = headline_law (Unit {0}) two.sample_seen two.new_one (two.moments 2) (new.whole _ _ tt) (new.idle _ _ tt) (births-do _ worked.0);
       no_other = no-other;
     }

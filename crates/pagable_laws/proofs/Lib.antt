@@ -37,3 +37,4 @@ mod Sound
 mod Apart
 mod OnePiece
 mod LoadRuns
+mod Laws

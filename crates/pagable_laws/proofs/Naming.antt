@@ -88,8 +88,6 @@ module _ {w : Core} (whole : HandlesAreWhole w) where
         is = grind (arith, nat_tests, find_row, among-found, found-number, above, is_loose);
       }
 
--- Workers go on holding what they hold.
-
 -- ---- what workers hold they hold after each event, and each cell whose key was published by a loose reference has a key
 
 -- ---- lists
@@ -97,8 +95,7 @@ module _ {w : Core} (whole : HandlesAreWhole w) where
 module _ (w : Core) (v : ℕ) where
   started : (place : ℕ) (rs : List ArcRef) (x : Todo) (below : List Todo) → Holds w v x → WaitsHeld w below → WaitsHeld w (x ∷ below) → AllHold w v (next_start place rs ++ x ∷ below)
   unfolding AllHold
-  started place [] x below h waits all = (h, waits)
-  started place (r ∷ rs) x below h waits all = (tt, all)
+  started place x1 x below h waits all = grind (arith, nat_tests)
 
   given : (r : ArcRef) (key height : ℕ) (below : List Todo) → WaitsHeld w below → AllHold w v (give r key height below)
   unfolding AllHold WaitsHeld
@@ -109,10 +106,6 @@ module _ (w : Core) (v : ℕ) where
   known r key height x3 waits = grind (arith, nat_tests, given)
 
 -- ---- keys that are set
-
-key-set : {w w' : Core} (v : ℕ) (r : ArcRef) (through : HandleNumber) (key : ℕ) (u : Unit {0}) → StandsAt w r through → SetKeyCall w (owner_worker v) through key (Ok u) w'
-    → is_loose_kind r.kind.0 ≡ true → KeyIsSet w' r.node.0
-key-set {w} {w'} v r through key u s call kind = grind (arith, goes-quiet, fell, given, updated-at)
 
 -- the worker has the handle still through which it has set a key
 still-held : {w w' : Core} (v : ℕ) (r : ArcRef) (through : HandleNumber) (key : ℕ) (u : Unit {0}) → HandlesAreWhole w → StandsAt w r through
@@ -193,14 +186,12 @@ module _ {N B W : Type 0} (m : Seen N B W) (v : ℕ) (s s' : Site) (whole : Hand
       (changed-reveals s.shelf s'.shelf KeyThere (identity_of r) (λ slot. record slot { written = Some (m.written_of out) }) t.table_is (λ old key height is. inl is))
   stepped (to_finish o ∷ below) (Took.Store i (Ok key)) e (is, p) f (h, waits) = let t = p.goes in stays t.table_stays.slots t.list_is (stands-on f h, waits-on f below waits)
   stepped (to_set r through key height ∷ below) (Took.SetKey i (Ok u)) e (is, p) f (h, waits) = let t = p.goes in
-      stays t.table_stays.slots t.list_is ((key-set v r through key u h p.sets, still-held v r through key u whole h p.sets), waits-on f below waits)
+      let sets = p.sets in stays t.table_stays.slots t.list_is ((grind (arith, nat_tests, goes-quiet, fell, updated-at), still-held v r through key u whole h p.sets), waits-on f below waits)
   stepped (to_publish r key height ∷ below) (Took.Publish i k q) e (is, same_key, same_height, t) f (h, waits) =
       leaves t.list_is (tt, waits-on f below waits)
       (changed-reveals s.shelf s'.shelf KeyThere (identity_of r) (with_outcome (published key height)) t.table_is (λ old k2 h2 known. inr (λ kind. key-on f (h.0 kind))))
   stepped (to_release r key height ∷ below) (Took.Release i) e (is, falls, t) f (h, waits) = stays t.table_stays.slots t.list_is (given s'.core v r key height below (waits-on f below waits))
   stepped _ step e does f all = grind (arith, nat_tests, stays, leaves, of-some, known)
-
--- ---- together
 
 -- ---- what workers hold
 

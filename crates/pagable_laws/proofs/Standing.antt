@@ -486,13 +486,7 @@ pub is-stepped : (v : ℕ) (shelves shelves' : ℕ → Shelf) (walkings walkings
     → HasNoFailed (shelves w.table) v → WaitsWell now.todo
     → Goes v w.task (shelves w.table) now.answer (shelves' w.table) now.todo → Turned v shelves shelves' walkings walkings'
 is-stepped v shelves shelves' walkings walkings' w now at at_now same_table same_task others elsewhere clean waits goes =
-    record {
-      changes = λ t. change t (nat_eq t w.table) refl;
-      others = others;
-      own = λ x there. let e = some-same at there in record { now = now; there = at_now; table = same_table ∙ ap (λ (y : Walking). y.table) e; task = same_task ∙ ap (λ (y : Walking). y.task) e };
-      met = λ t i slot none there. grind (arith, nat_tests, same-worker, some-none);
-      stands = grind (arith, nat_tests, some-same);
-    }
+    let changes : (t : ℕ) → Changes v (shelves t) (shelves' t) = λ t. change t (nat_eq t w.table) refl in grind (arith, nat_tests, same-worker, some-none, some-same, changes)
   where
     change : (t : ℕ) (b : Bool) → nat_eq t w.table ≡ b → Changes v (shelves t) (shelves' t)
     change t true e = subst (λ n. Changes v (shelves n) (shelves' n)) (sym (same-worker t w.table e)) goes.changes

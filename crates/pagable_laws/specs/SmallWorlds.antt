@@ -1,7 +1,7 @@
 -- Small worlds over any storage, to see that the definitions are met, and what they refuse.
 use Rattle.std.specs.Prelude.{ℕ, ◌==◌, ◌||◌, Bool, false, List, [], ◌∷◌, Option, Some, None}
 use Rattle.pagable_world.specs.{Plain.{HandleNumber, NodeNumber, Blob, updated, OptionalDataKey}, declared.rows.Mode.Mode, declared.handles.Owner.Owner, declared.handles.HandleRow.HandleRow}
-use Rattle.pagable_world.specs.{World.{Core, Places, Work}, Calls.row_of, Events.no_shelf, Pager.{PagerState, MachineState}}
+use Rattle.pagable_world.specs.{World.{Core, Places, Work}, Calls.row_of, Events.no_shelf, Pager.MachineState}
 
 -- nothing but what a storage holds, with these places
 abbrev pub empty : (ℕ → Option Blob) → Places → Core
@@ -19,15 +19,12 @@ empty stored places = record {
   places = places;
 }
 
--- a new pager over a storage and an environment, and a machine for which nobody works
-abbrev pub new_pager : {N E : Type 0} → (ℕ → Option Blob) → Places → E → PagerState N E
-new_pager stored places env = record { core = empty stored places; counts = λ n. 0; values = λ n. None; environment = env }
-
+-- a new machine over a storage and an environment, for which nobody works
 abbrev pub no_work : Work
 no_work = record { shelves = λ t. no_shelf; last_table = 0; readings = λ l. None; walkings = λ v. None }
 
 abbrev pub new_machine : {N E : Type 0} → (ℕ → Option Blob) → Places → E → MachineState N E
-new_machine stored places env = record { pager = new_pager stored places env; work = no_work }
+new_machine stored places env = record { pager = record { core = empty stored places; counts = λ n. 0; values = λ n. None; environment = env }; work = no_work }
 
 -- the first numbers
 abbrev pub first : HandleNumber

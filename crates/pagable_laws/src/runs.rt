@@ -1,4 +1,5 @@
 //! The laws of runs: what holds of every chain of moments, however loads and workers take turns.
+#![tactic(auto, using(crate::proofs::Laws::run_laws))]
 
 ghost use Rattle.pagable_world.specs.Access.{PinLaw, ReadLaw};
 ghost use Rattle.pagable_world.specs.Headline.{HeadlineLaw};
@@ -8,43 +9,36 @@ ghost use Rattle.pagable_laws.specs.DeepLaws.{ShallowLaw, ToldDepthLaw, DeepClai
 use crate::world::SeenAs;
 
 /// The headline holds of every chain that begins at a whole machine for which nobody works yet.
-#[tactic(auto, using(crate::proofs::Chains::headline_law))]
 pub fn headline<N: SeenAs<B, W>, B, W, E>()
     ensures { HeadlineLaw E N.seen }
 {}
 
 /// No worker answers a key of what leads down a path that is too long, or to a value that has no form.
-#[tactic(auto, using(crate::proofs::Deeply::shallow_law))]
 pub fn keys_are_shallow<N: SeenAs<B, W>, B, W, E>()
     ensures { ShallowLaw E N.seen }
 {}
 
 /// A worker answers TooDeep of what leads down a path that is too long, or to a value that has no form, where it meets no other refusal on its way.
-#[tactic(auto, using(crate::proofs::Deeply::told_depth_law))]
 pub fn depth_is_told<N: SeenAs<B, W>, B, W, E>()
     ensures { ToldDepthLaw E N.seen }
 {}
 
 /// A claim is refused as too deep only where its task leads down a path that is too long, or another worker is at it and waits for this one.
-#[tactic(auto, using(crate::proofs::Deeply::deep_claim_law))]
 pub fn deep_claims_have_a_cause<N: SeenAs<B, W>, B, W, E>()
     ensures { DeepClaimLaw E N.seen }
 {}
 
 /// A load is refused as too deep only where the reading of its key comes to a blob that lies too deep, or to one that enters a level too many.
-#[tactic(auto, using(crate::proofs::Sound::deep_load_law))]
 pub fn deep_loads_have_a_cause<N: SeenAs<B, W>, B, W, E>()
     ensures { DeepLoadLaw E N.seen }
 {}
 
 /// A load of a cell whose key a page-out set is refused by chance or by a handle: never by a blob that it reads, by a key or by a path.
-#[tactic(auto, using(crate::proofs::Sound::faultless_law))]
 pub fn loads_are_faultless<N: SeenAs<B, W>, B, W, E>()
     ensures { FaultlessLaw E N.seen }
 {}
 
 /// A load of a cell whose key a page-out set is refused by chance alone, where each load begins in the chain and is done in one piece.
-#[tactic(auto, using(crate::proofs::OnePiece::sound_law))]
 pub fn loads_are_sound<N: SeenAs<B, W>, B, W, E>()
     ensures { SoundLaw E N.seen }
 {}
@@ -60,7 +54,6 @@ pub fn pins_stand<N: SeenAs<B, W>, B, W, E>()
 {}
 
 /// The value that a load of a key reads stands for the tree that the key reads as, and its references are the caller's.
-#[tactic(auto, using(crate::proofs::LoadRuns::read_law))]
 pub fn readings_stand<N: SeenAs<B, W>, B, W, E>()
     ensures { ReadLaw E N.seen.values }
 {}

@@ -1,4 +1,5 @@
 //! The laws of the definitions of values: each is the contract of a function that does nothing.
+#![tactic(auto, using(crate::proofs::Laws::value_laws, crate::proofs::Laws::form_laws))]
 
 ghost use Rattle.std.specs.Prelude.{ℕ};
 ghost use Rattle.pagable_model.specs.Canonical.{IsReadable, Throughout};
@@ -8,25 +9,21 @@ ghost use Rattle.pagable_laws.specs.KeyLaws.{IsOneMeaning, IsOneKeyMeaning, IsAn
 ghost use Rattle.pagable_laws.specs.TreeLaws.{IsOneTree, IsOneKey, IsOneItemKey, IsStoredKey, IsTreeReadable, IsKeyOfOneTree, IsLongestPath, StaysInside, IsCanonicalInside};
 
 /// A form of a shape that is read throughout is read again, whatever follows it.
-#[tactic(auto, using(crate::proofs::Again::read_again))]
 pub fn is_read_again<A, B>()
     ensures { (parts : ℕ → Shape) (s : Shape) → Throughout IsReadable parts s → IsReadAgain A B parts s }
 {}
 
 /// No form of one meaning begins a form of another.
-#[tactic(auto, using(crate::proofs::Again::prefix_free))]
 pub fn is_prefix_free<A>()
     ensures { (parts : ℕ → Shape) (s : Shape) → Throughout IsReadable parts s → IsPrefixFree A parts s }
 {}
 
 /// A meaning of a canonical shape has at most one form.
-#[tactic(auto, using(crate::proofs::Merkle::canonical_one))]
 pub fn canonical_has_one_form<A>()
     ensures { CanonicalHasOneForm A }
 {}
 
 /// Different blobs have different preimages.
-#[tactic(auto, using(crate::proofs::Merkle::one_preimage))]
 pub fn has_one_preimage()
     ensures { HasOnePreimage }
 {}
@@ -37,7 +34,6 @@ pub fn is_one_tree()
 {}
 
 /// A tree of canonical types has at most one key.
-#[tactic(auto, using(crate::proofs::Merkle::one_key))]
 pub fn is_one_key()
     ensures { IsOneKey }
 {}
@@ -53,7 +49,6 @@ pub fn is_stored_key()
 {}
 
 /// A tree that is stored, each value as a form under its key, reads back.
-#[tactic(auto, using(crate::proofs::Merkle::tree_readable))]
 pub fn is_tree_readable()
     ensures { IsTreeReadable }
 {}
@@ -64,55 +59,46 @@ pub fn is_key_of_one_tree()
 {}
 
 /// What is read of a front is read of the whole, whatever follows.
-#[tactic(auto, using(crate::proofs::Related::local))]
 pub fn is_local<A, B>()
     ensures { IsLocal A B }
 {}
 
 /// What was used reads alone, and leaves nothing.
-#[tactic(auto, using(crate::proofs::Related::used))]
 pub fn is_used<A, B>()
     ensures { IsUsed A B }
 {}
 
 /// A fault stays the first fault whatever follows, unless it is that the input ends.
-#[tactic(auto, using(crate::proofs::Related::lasting))]
 pub fn is_lasting<A, B>()
     ensures { IsLasting A B }
 {}
 
 /// Reading does the same whatever stands for references.
-#[tactic(auto, using(crate::proofs::Related::natural))]
 pub fn is_natural<A, B, C, D>()
     ensures { IsNatural A B C D }
 {}
 
 /// Reading over what stands for references is reading with what it stands for.
-#[tactic(auto, using(crate::proofs::Related::read_over))]
 pub fn is_read_over<A, B, C>()
     ensures { IsReadOver A B C }
 {}
 
 /// Reading with what is looked up renamed is renaming what is read.
-#[tactic(auto, using(crate::proofs::Related::renamed))]
 pub fn is_renamed<A, B, D>()
     ensures { IsRenamed A B D }
 {}
 
 /// What is read is read by whoever finds all that was found.
-#[tactic(auto, using(crate::proofs::Related::read_through))]
 pub fn is_read_through<A, B, C, D>()
     ensures { IsReadThrough A B C D }
 {}
 
 /// A form of a value that holds references of one sort is one of the same value with references of another sort.
-#[tactic(auto, using(crate::proofs::Related::keeps_forms))]
 pub fn keeps_forms<A, B>()
     ensures { KeepsForms A B }
 {}
 
 /// The height of a tree is the length of its longest path.
-#[tactic(auto, using(crate::proofs::Merkle::longest_path))]
 pub fn is_longest_path()
     ensures { IsLongestPath }
 {}
@@ -123,31 +109,26 @@ pub fn is_one_meaning()
 {}
 
 /// Keys are the same exactly if they mean the same.
-#[tactic(auto, using(crate::proofs::AnyOrder::one_key_meaning))]
 pub fn is_one_key_meaning<A>()
     ensures { IsOneKeyMeaning A }
 {}
 
 /// The entries of a hash map have one meaning in whatever order they come.
-#[tactic(auto, using(crate::proofs::AnyOrder::any_order))]
 pub fn is_any_order<A>()
     ensures { IsAnyOrder A }
 {}
 
 /// A JSON float has no form, whatever its value.
-#[tactic(auto, using(crate::proofs::AnyOrder::float_none))]
 pub fn float_has_no_form<A>()
     ensures { FloatHasNoForm A }
 {}
 
 /// A whole JSON number that has a form is one of 64 bits with a sign.
-#[tactic(auto, using(crate::proofs::AnyOrder::whole_bounded))]
 pub fn whole_is_bounded<A>()
     ensures { WholeIsBounded A }
 {}
 
 /// A tree of a closed set of types that has a key reaches types of the set alone.
-#[tactic(auto, using(crate::proofs::Merkle::stays_inside))]
 pub fn stays_inside()
     ensures { StaysInside }
 {}

@@ -1,4 +1,5 @@
 //! The laws of the definitions of the pager's world: each is the contract of a function that does nothing.
+#![tactic(auto, using(crate::proofs::Laws::world_laws))]
 
 ghost use Rattle.pagable_world.specs.World.{Seen};
 ghost use Rattle.pagable_laws.specs.FallLaws.{IsThere, IsOne, IsGivenAlone, PinsAreAFilter, TwoLevelsFall, LoneIsListed, ChainsJoin, NewIsWhole, NextIsOneOf};
@@ -11,7 +12,6 @@ pub trait SeenAs<B, W>: Sized {
 }
 
 /// There is a least set of handles that fall with given ones.
-#[tactic(auto, using(crate::proofs::Existing::least_is_there))]
 pub fn least_set_is_there()
     ensures { IsThere }
 {}
@@ -27,43 +27,36 @@ pub fn given_fall_alone()
 {}
 
 /// The number of pins is the length of the list of the node's pinning handles.
-#[tactic(auto, using(crate::proofs::Sums::pins_filter))]
 pub fn pins_are_a_filter()
     ensures { PinsAreAFilter }
 {}
 
 /// A value of two levels falls whole.
-#[tactic(auto, using(crate::proofs::Existing::two_fall))]
 pub fn two_levels_fall()
     ensures { TwoLevelsFall }
 {}
 
 /// Unpinning a lone cell without a key lists it.
-#[tactic(auto, using(crate::proofs::Existing::is_listed))]
 pub fn lone_is_listed()
     ensures { LoneIsListed }
 {}
 
 /// A chain goes on with another.
-#[tactic(auto, using(crate::proofs::Joining::chains_join))]
 pub fn chains_join<N: SeenAs<B, W>, B, W, E>()
     ensures { ChainsJoin E N.seen }
 {}
 
 /// A new machine is whole, and stands for whatever trees.
-#[tactic(auto, using(crate::proofs::Joining::new_whole))]
 pub fn new_is_whole<N: SeenAs<B, W>, B, W, E>()
     ensures { NewIsWhole E N.seen.values }
 {}
 
 /// A blob is read, asks for one reference or is refused: at most one of these.
-#[tactic(auto, using(crate::proofs::Joining::next_is_one))]
 pub fn next_is_one()
     ensures { NextIsOneOf }
 {}
 
 /// The headline is met with all that it asks by a chain of two levels: births, a page-out, an eviction, and loads of a cell and of a key.
-#[tactic(auto, using(crate::proofs::Level::headline_met))]
 pub fn two_levels_meet_the_headline()
     ensures { TwoLevelsMeetTheHeadline }
 {}

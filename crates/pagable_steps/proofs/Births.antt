@@ -1,6 +1,6 @@
 -- A value comes to a node that had none: the handles that it names move to it, and it owns each once. And calls by which a node comes, with its value or without one.
 use Rattle.pagable_laws.proofs.Effects as effects
-use Rattle.pagable_steps.proofs.Words.{◌≡◌, ℕ, ◌+◌, ◌≤◌, ◌==◌, ◌&&◌, ◌||◌, Bool, true, false, List, [], ◌∷◌, Option, Some, None, Ok, Err, inl, inr, refl, ap, sym, subst, ◌∙◌, if◌then◌else◌}
+use Rattle.pagable_steps.proofs.Words.{◌≡◌, ℕ, ◌+◌, ◌≤◌, ◌==◌, ◌&&◌, Bool, true, false, List, [], ◌∷◌, Option, Some, None, Ok, Err, inl, inr, refl, ap, sym, subst, ◌∙◌, if◌then◌else◌}
 use Rattle.pagable_steps.proofs.Words.{arith, Result, is_some, not, nat_lt, nat_tests, sum_by-cons, sum_by_push, OptionalDataKey, HandleRow, Owner, Mode, Error, ArcRef, Kind, HandleNumber, LoadNumber}
 use Rattle.pagable_steps.proofs.Words.{Among, is_in, one, times, if_there, type_of, is_loose_kind, is_pinning, is_pin, is_at, owner_value, held, mode_of, pins, Core, Cell, OpenLoad, Values, type_at}
 use Rattle.pagable_steps.proofs.Words.{is_here, usable, row_of, moved, with_node, with_handle, next_node, references_fault, is_named_by, BirthCall, AwayBirthCall, Adopts, LazyCall}
@@ -15,12 +15,10 @@ named-once : (w : Core) (owner : Owner) (seen : List ℕ) (rs : List ArcRef) (q 
 unfolding references_fault is_in
 named-once w owner seen [] q none = omega arith
 named-once w owner seen (r ∷ rs) q none =
-    let both = or-none _ _ none in
-    at (r.handle.0 == q) (is_in seen q) (λ e. ap (is_in seen) (sym (same-number _ _ e)) ∙ (let f = both.0 in grind (arith, nat_tests))) (named-once w owner (r.handle.0 ∷ seen) rs q both.1)
-    (sum_by-cons (λ (x : ArcRef). one (x.handle.0 == q)) r rs)
-  where
-    at : (b c : Bool) → (b ≡ true → c ≡ false) → {k m : ℕ} → k ≤ one (not (b || c)) → m ≡ one b + k → m ≤ one (not c)
-    at b c new rest sum = grind (arith, nat_tests)
+    let (first, others) = or-none _ _ none in
+    let rest = named-once w owner (r.handle.0 ∷ seen) rs q others in
+    let sum = sum_by-cons (λ (x : ArcRef). one (x.handle.0 == q)) r rs in
+    grind (arith, nat_tests, same-number)
 
 -- What names handles may come as a value to the node p, to which they moved.
 pub record Receives {N : Type 0} (v : Values N) (w given : Core) (values : ℕ → Option N) (references : List ArcRef) (p : ℕ) : Type 0 where

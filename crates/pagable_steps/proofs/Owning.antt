@@ -8,9 +8,9 @@ use Rattle.pagable_steps.proofs.Words.{WellFormed, HandlesAreWhole, Stands, stan
 use Rattle.pagable_steps.proofs.Words.{sum-le, sum-zero, counted, one-true, ◌+◌, false, sum_by, map, inl, inr, if◌then◌else◌, nat_lt, sum_by_push, Mode, OptionalDataKey, HandleNumber, NodeNumber}
 use Rattle.pagable_steps.proofs.Words.{SameAt, changed, if_there, is_pin, is_pinning, is_in_memory, Cell, Last, Alike, row_at, key_at, row_of, with_handle, with_mode, with_cached, moved, Kind}
 use Rattle.pagable_steps.proofs.Words.{stands-changed, among-changed, NotValues, row-pins, found-after, Ok, Err, Result, not, slice_get, Beginning, Pinning, Want, Error, Blob, LoadNumber}
-use Rattle.pagable_steps.proofs.Words.{WorkerNumber, is_shared_kind, is_loose_kind, is_at, is_shared, is_share, mode_of, usable, only_handle, Owns, with_known}
+use Rattle.pagable_steps.proofs.Words.{WorkerNumber, is_shared_kind, is_at, is_shared, is_share, mode_of, usable, only_handle, Owns, with_known}
 use Rattle.pagable_steps.proofs.Words.{CloneCall, PinCall, LoosenCall, ScheduleCall, TakeCall, ReserveCall, RecallCall, OfferCall, ClearCall, Asked, StoreCall, with_worker, with_entry_taken}
-use Rattle.pagable_steps.proofs.Words.{BeginCall, BeginKeyCall, GetsKnown, Given, from_cache, AskCall, IsEntered, entered-of, among-either, handles-once, one-less, only-one, found}
+use Rattle.pagable_steps.proofs.Words.{BeginCall, BeginKeyCall, GetsKnown, Given, AskCall, IsEntered, entered-of, among-either, handles-once, one-less, only-one, found}
 
 -- the reference names the one row of a handle that the node's value owns
 pub record Refers (w : Core) (n : ℕ) (r : ArcRef) : Type 0 where
@@ -164,11 +164,7 @@ spares-keeps s = record { owns = s.owns; held = λ n is. sym (s.holds n) ∙ is 
 
 module _ {n : ℕ} where
   pub owns-then : {w m w' : Core} → OwnsAlike n w m → OwnsAlike n m w' → OwnsAlike n w w'
-  owns-then a b = record {
-    typed = λ p t is. b.typed p t (a.typed p t is);
-    spares = effects.spares-then (owner_value n) a.spares b.spares;
-    owned = λ h among own. a.owned h (b.owned h among own) own;
-  }
+  owns-then a b = let spares = effects.spares-then (owner_value n) a.spares b.spares in search (a.typed, b.typed, spares, a.owned, b.owned)
 
   -- rows are the same
   pub owns-same : {w m : Core} → m.rows ≡ w.rows → m.last.handle ≡ w.last.handle → ((p t : ℕ) → type_at w p ≡ Some t → type_at m p ≡ Some t) → OwnsAlike n w m
@@ -206,8 +202,7 @@ spares-alike a = spares-same a.rows a.cells (ap (λ (l : Last). l.handle) a.last
 
 -- the cache may learn a node
 pub spares-cached : {m w' : Core} (kind : Kind) (key : ℕ) (n : NodeNumber) (b : Bool) → Alike (if b then m else with_cached m kind key n) w' → Spares m w'
-spares-cached kind key n true a = spares-alike a
-spares-cached kind key n false a = spares-same a.rows a.cells (ap (λ (l : Last). l.handle) a.last)
+spares-cached kind key n x3 a = grind (arith, nat_tests, spares-alike, spares-same)
 
 -- ---- the pager afterwards
 
@@ -338,8 +333,7 @@ pub asked : {w w' : Core} → Asked w w' → Spares w w'
 asked a = spares-same a.leaves.rows a.leaves.cells (ap (λ (l : Last). l.handle) a.leaves.last)
 
 pub stores : {digest : Blob → ℕ} {w w' : Core} {blob : Blob} (r : Result ℕ Error) → StoreCall digest w blob r w' → Spares w w'
-stores (Ok key) c = let a = c.stores.1.leaves in spares-same a.rows a.cells (ap (λ (l : Last). l.handle) a.last)
-stores (Err e) c = asked c.refused.0
+stores x0 c = grind (arith, nat_tests, asked, spares-same)
 
 pub begins : {w w' : Core} {me : Owner} {h : HandleNumber} (r : Result Beginning Error) → BeginCall w me h r w' → Spares w w'
 begins {w} (Ok (Beginning.Load l key)) c =
@@ -350,8 +344,7 @@ begins {w} (Ok (Beginning.Load l key)) c =
 begins x0 c = grind (arith, nat_tests, spares-alike)
 
 pub begins-key : {w w' : Core} {me : Owner} {key : ℕ} (r : Result Beginning Error) → BeginKeyCall w me key r w' → Spares w w'
-begins-key (Ok (Beginning.Load l k)) c = let a = c.begins.2 in spares-same a.rows a.cells (ap (λ (l : Last). l.handle) a.last)
-begins-key x0 c = grind (arith, nat_tests, spares-alike)
+begins-key x0 c = grind (arith, nat_tests, spares-alike, spares-same)
 
 module _ {w : Core} (whole : IsWhole w) where
   -- ---- handles
@@ -410,7 +403,7 @@ module _ {w : Core} (whole : IsWhole w) where
 
   -- where a handle is made that pins, the node's value is in memory
   pub known-here : (kind key n : ℕ) → usable w kind key ≡ Some n → is_pinning (mode_of kind) ≡ true → is_here w n ≡ true
-  known-here kind key n known pinning = by (is_shared_kind kind) refl (is_loose_kind kind) refl pinning
+  known-here kind key n known pinning = grind (arith, nat_tests, shared, entered, not, is_some, is_here)
     where
       entered : IsEntered kind key n w.cache w.cells
       entered = entered-of kind key n w known
@@ -424,10 +417,6 @@ module _ {w : Core} (whole : IsWhole w) where
           let le = at-most-sum (λ h. one (is_share n h)) w.rows holds.0 holds.1 in
           let unkeyed = whole.handles.unkeyed n (omega (arith, one_share, le)) in
           grind (arith, nat_tests)
-
-      by : (a : Bool) → is_shared_kind kind ≡ a → (b : Bool) → is_loose_kind kind ≡ b
-          → is_pinning (if a then Mode.Shared else if b then Mode.LooseUnpinned else Mode.Pinned) ≡ true → is_here w n ≡ true
-      by x0 e x2 f pinning = grind (arith, nat_tests, shared, entered, not, is_some, is_here)
 
   -- a handle of such a node
   pub spares-known : {owner : Owner} (kind : Kind) (key n : ℕ) → NotValues owner → usable w kind.0 key ≡ Some n → Spares w (with_known w kind n owner)
@@ -453,5 +442,4 @@ module _ {w : Core} (whole : IsWhole w) where
   gets-known {l = l} {kind} {key} g = spares-then (spares-known kind key g.n (not-load l) g.known) (spares-alike g.leaves)
 
   pub asks : {w' : Core} {me : Owner} {l : LoadNumber} {want : Want} (r : Result Given Error) → AskCall w me l want r w' → Spares w w'
-  asks {want = Want.Nested kind key} (Ok (from_cache k)) c = gets-known c.gives.2
-  asks x0 c = grind (arith, nat_tests, asked, spares-alike)
+  asks x0 c = grind (arith, nat_tests, asked, spares-alike, gets-known)

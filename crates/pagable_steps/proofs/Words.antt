@@ -4,7 +4,7 @@ pub use Rattle.std.proofs.{Common.{inl, inr, Ok, Err, map}, lemmas.Bool.and_part
 pub use Rattle.std.specs.Prelude.{filter, is_some, not, nat_lt, Result, slice_get, cond}
 pub use Rattle.pagable_world.specs.Calls.{row_of, moved, with_node, next_node, with_handle, with_mode, with_key, with_cached, BirthCall, AwayBirthCall, UnpinCall, ReleaseCall, SetKeyCall}
 pub use Rattle.pagable_world.specs.Kinds.{is_handle, is_owned_by, owner_value, is_pin, is_pinning, pins, is_in_memory, is_owner, held, is_loose, mode_of, owner_worker, is_at, is_pinned, is_shared}
-pub use Rattle.pagable_world.specs.LoadCalls.{without_load, is_owned_in, with_pin, MayEnd, Installs, BeginCall, BeginKeyCall, GetsKnown, Given, from_cache, AskCall, Adopts, LazyCall, numbers_of}
+pub use Rattle.pagable_world.specs.LoadCalls.{without_load, is_owned_in, with_pin, MayEnd, Installs, BeginCall, BeginKeyCall, GetsKnown, Given, AskCall, Adopts, LazyCall, numbers_of}
 pub use Rattle.pagable_world.specs.Plain.{OptionalDataKey, ArcRef, SameAt, Among, one, times, if_there, NodeNumber, HandleNumber, LoadNumber, updated, Error, Kind, type_of, is_shared_kind}
 pub use Rattle.pagable_world.specs.Calls.{ScheduleCall, OfferCall, CloseCall, CloneCall, PinCall, LoosenCall, with_known, TakeCall, ReserveCall, RecallCall, ClearCall, Asked, StoreCall}
 pub use Rattle.pagable_world.specs.Cascade.{is_outside, owned_outside, loses_value, is_keyed, left_rows, Falls, FallsAnyhow, only_handle, AreNewEntries, fallen}
