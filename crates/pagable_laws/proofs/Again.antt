@@ -1,15 +1,15 @@
 -- A form is read again, whatever follows it, and is refused where one of its references is.
-use Rattle.pagable_laws.proofs.Words.{arith, nat_tests, ℕ, zero, suc, Shape, json, nested, LiesIn, Within, Throughout, ◌≡◌, ◌^◌, ◌<◌, refl, Ok, List, ◌++◌, ℤ, le-leb, varint, varint_at, varint_limit}
-use Rattle.pagable_laws.proofs.Words.{bound, unsigned_form, unsigned_at, unsigned_of, signed_from, IsSigned, signed_form, signed_at, ◌+◌, ◌/◌, ◌%◌, ◌≤◌, Bool, false, [], ◌∷◌, length, append_assoc}
-use Rattle.pagable_laws.proofs.Words.{ltb, le-ltb, lt-ltb, take_at, drop_at, length-append, append-nil, is_utf8-from_IsUtf8, IsUtf8-encode, chars-encodes, length-encode, bool_form, bool_at, longest}
+use Rattle.pagable_laws.proofs.Words.{arith, nat_tests, ℕ, zero, suc, Shape, nested, LiesIn, Within, Throughout, ◌≡◌, ◌^◌, ◌<◌, refl, Ok, List, ◌++◌, ℤ, le-leb, varint, varint_at, varint_limit, bound}
+use Rattle.pagable_laws.proofs.Words.{unsigned_form, unsigned_at, unsigned_of, signed_from, IsSigned, signed_form, signed_at, ◌+◌, ◌/◌, ◌%◌, ◌≤◌, Bool, false, [], ◌∷◌, length, append_assoc, ltb}
+use Rattle.pagable_laws.proofs.Words.{le-ltb, lt-ltb, take_at, drop_at, length-append, append-nil, is_utf8-from_IsUtf8, IsUtf8-encode, chars-encodes, length-encode, bool_form, bool_at, longest}
 use Rattle.pagable_laws.proofs.Words.{length_form, length_at, text_form, text_at, char_form, char_at, nanos_of_second, duration_form, duration_at, sym, ap, ◌∙◌, Ordering, Meaning, KeyOrder, Entry}
 use Rattle.pagable_laws.proofs.Words.{ordered, same_key, put_all, put_sorted, put_placed, put_sorted_item, put_placed_item, AllAfter, Apart, Ascends, ItemsAscend, Differ, ItemsDiffer, inl, inr}
-use Rattle.pagable_laws.proofs.Words.{text_order, Look, Gets, items, two, subst, read_with, below, read, Form, Forms, Entries, unsigned-form, signed-form, flag-form, text-form, letter-form}
-use Rattle.pagable_laws.proofs.Words.{duration-form, pattern-form, some-form, err-form, ok-form, list-form, run-form, array-form, both-form, sorted-map-form, placed-map-form, hash-map-form}
-use Rattle.pagable_laws.proofs.Words.{sorted-set-form, placed-set-form, static-form, tagged-form, case-form, reference-form, nested-form, json-flag-form, json-number-form, json-text-form}
+use Rattle.pagable_laws.proofs.Words.{text_order, Look, Gets, items, two, subst, read_with, below, read, Form, Forms, Entries, some-form, err-form, ok-form, list-form, run-form, array-form, both-form}
+use Rattle.pagable_laws.proofs.Words.{sorted-map-form, placed-map-form, hash-map-form, sorted-set-form, placed-set-form, static-form, tagged-form, case-form, reference-form, nested-form}
 use Rattle.pagable_laws.proofs.Words.{json-array-form, json-object-form, no-forms, more-forms, no-entries, more-entries, IsReadable, HasNoCase, IsReadAgain, rest, LooksUp, no-references}
-use Rattle.pagable_laws.proofs.Words.{more-references, Err, Error, Result, append_cancel_right, Rest, IsPrefixFree, ◌>>=◌}
-use Rattle.pagable_model.specs.{Shape.text}
+use Rattle.pagable_laws.proofs.Words.{more-references, Err, Error, Result, append_cancel_right, Rest, IsPrefixFree, ◌>>=◌, unsigned-form, signed-form, flag-form, text-form, letter-form, duration-form}
+use Rattle.pagable_laws.proofs.Words.{pattern-form, json-flag-form, json-number-form, json-text-form}
+use Rattle.pagable_model.specs.Keyed.{throughout-alone, throughout-over}
 use Rattle.std.{specs.Int.{Width, w32, w64}, specs.Char.{IsScalar, encode_utf8, len_utf8}, specs.Str.{IsUtf8, chars}}
 
 -- ---- from what holds throughout a shape to what holds throughout the shapes in it
@@ -26,12 +26,7 @@ module _ {P : Shape → Type 0} {parts : ℕ → Shape} where
 
   -- of a shape in it
   pub narrowed : {s t : Shape} → Throughout P parts s → (P s → P t) → Under s t → Throughout P parts t
-  unfolding Within
-  narrowed {s} {t} h p l = record { within = steps }
-    where
-      steps : (n : ℕ) → Within P parts n t
-      steps zero = p (h.within 0)
-      steps (suc n) = (p (h.within 0), l _ _ (h.within (suc n)).1)
+  narrowed {s} {t} h p l = throughout-over P parts s t p (λ those. l (λ n. Unit {0}) those) h
 
   -- of a numbered part
   pub part_of : {n : ℕ} → Throughout P parts (nested n) → Throughout P parts (parts n)
@@ -39,13 +34,8 @@ module _ {P : Shape → Type 0} {parts : ℕ → Shape} where
   part_of h = record { within = λ steps. (h.within (suc steps)).1 }
 
   -- of a shape that contains nothing
-  pub of_json : P json → Throughout P parts json
-  unfolding Within LiesIn
-  of_json p = grind (arith, nat_tests)
-
-  pub of_text : P text → Throughout P parts text
-  unfolding Within LiesIn
-  of_text p = grind (arith, nat_tests)
+  pub alone : {s : Shape} → ((nodes those : ℕ → Type 0) → LiesIn nodes those s) → P s → Throughout P parts s
+  alone {s} l p = throughout-alone P parts s p (λ those. l (λ n. Unit {0}) those)
 
 -- of what the shape refers to
 pub lower : (nodes : ℕ → Type 0) {parts : ℕ → Shape} {s t : Shape} → Under s t → Throughout (LiesIn nodes (λ n. Unit {0})) parts s → Throughout (LiesIn nodes (λ n. Unit {0})) parts t
@@ -64,11 +54,9 @@ unfolding varint_limit
 unsigned-again x0 n rest h = grind (arith, nat_tests, varint-again)
 
 -- a number with a sign is one without, and back
-pub signed-back : (w : Width) (z : ℤ) → IsSigned w z → signed_from w (unsigned_of w z) ≡ z
-signed-back x0 z h = grind (arith, nat_tests)
-
 pub signed-again : (w : Width) (z : ℤ) (rest : List ℕ) → IsSigned w z → signed_at w (signed_form w z ++ rest) ≡ Ok (z, rest)
-signed-again w z rest h = rw (unsigned-again w (unsigned_of w z) rest (grind (arith, nat_tests)), signed-back w z h) refl
+signed-again w z rest h =
+    let back : signed_from w (unsigned_of w z) ≡ z = grind (arith, nat_tests) in rw (unsigned-again w (unsigned_of w z) rest (grind (arith, nat_tests)), back) refl
 
 -- ---- flags, lengths, texts, characters and durations are read again
 
@@ -84,16 +72,12 @@ pub text-again : (t rest : List ℕ) → IsUtf8 t → length t ≤ longest → t
 unfolding text_at
 text-again t x1 u h = grind (arith, nat_tests, ltb, rest, le-ltb, length-append, append_assoc, length-again, take_at, drop_at, is_utf8-from_IsUtf8)
 
-len-small : (c : ℕ) → len_utf8 c ≤ 4
-len-small c = grind arith
-
-chars-one : (c : ℕ) → IsScalar c → chars (encode_utf8 c) ≡ c ∷ []
-chars-one c s = rw (← append-nil (encode_utf8 c)) (chars-encodes (c ∷ []) (rw s refl))
-
 pub char-again : (c : ℕ) (rest : List ℕ) → IsScalar c → char_at (char_form c ++ rest) ≡ Ok (c, rest)
 unfolding char_at
 char-again c rest s =
-    rw (text-again (encode_utf8 c) rest (IsUtf8-encode c s) (omega (arith, length-encode c, len-small c)), chars-one c s) refl
+    let small : len_utf8 c ≤ 4 = grind arith in
+    let one : chars (encode_utf8 c) ≡ c ∷ [] = rw (← append-nil (encode_utf8 c)) (chars-encodes (c ∷ []) (rw s refl)) in
+    rw (text-again (encode_utf8 c) rest (IsUtf8-encode c s) (omega (arith, length-encode c, small)), one) refl
 
 pub duration-again : (seconds nanos : ℕ) (rest : List ℕ) → seconds < 2 ^ 64 → nanos < nanos_of_second → duration_at (duration_form seconds nanos ++ rest) ≡ Ok ((seconds, nanos), rest)
 unfolding duration_at
@@ -230,9 +214,9 @@ module _ {A B : Type 0} {look : Look A B} {kind_of : B → ℕ} {parts : ℕ →
     form-again x (json-flag-form left b) u t = rw (none-left u, bool-again b x) refl
     form-again x (json-number-form left z h) u t = rw (none-left u, signed-again w64 z x h) refl
     form-again x (json-text-form left b h le) u t = rw (none-left u, text-again b x h le) refl
-    form-again x (json-array-form left less ms b k e le h) u t = rw (e, append_assoc, length-again (length ms) (b ++ x) le, forms-again x h u (of_json tt), bind-then) refl
+    form-again x (json-array-form left less ms b k e le h) u t = rw (e, append_assoc, length-again (length ms) (b ++ x) le, forms-again x h u (alone (λ n d. tt) tt), bind-then) refl
     form-again x (json-object-form left less es b k e le up h) u t =
-        rw (e, append_assoc, length-again (length es) (b ++ x) le, entries-again x h u (of_text tt) (of_json tt), bind-then, ascending-kept text_order es up) refl
+        rw (e, append_assoc, length-again (length es) (b ++ x) le, entries-again x h u (alone (λ n d. tt) tt) (alone (λ n d. tt) tt), bind-then, ascending-kept text_order es up) refl
     form-again x _ u t = rw (none-left u) refl
 
     pub forms-again : (x : List ℕ) {r : List A} {c : Result (List A) Error} {left : ℕ} {s : Shape} {ms : List (Meaning B)} {b : List ℕ} {k : List B} → Forms B kind_of parts left s ms b k

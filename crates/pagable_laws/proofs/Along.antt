@@ -100,14 +100,6 @@ record Unput {A B : Type 0} (F : Type 0) (R : A → B → Type 0) (acc : List (E
   one : EntryAlong F R e entry
   put : put_sorted code_order before entry ≡ fs
 
--- and when several were put in, one after another
-record UnputAll {A B : Type 0} (F : Type 0) (R : A → B → Type 0) (acc es : List (Entry A)) (fs : List (Entry B)) : Type 0 where
-  before : List (Entry B)
-  entries : List (Entry B)
-  first : AllTwo (EntryAlong F R) acc before
-  each : AllTwo (EntryAlong F R) es entries
-  put : put_all (put_sorted code_order) before entries ≡ fs
-
 -- references that k goes along with, over which G is so
 pub record To {A B : Type 0} (R : A → B → Type 0) (k : List A) (G : List B → Type 0) : Type 0 where
   pub refs : List B
@@ -174,21 +166,22 @@ module _ {A B : Type 0} {F : Type 0} {R : A → B → Type 0} where
                 (ap (λ (z : List (Entry B)). y ∷ z) rest.put);
           }
 
+  -- and when several were put in, one after another
   unput_all : (es acc : List (Entry A)) {fs : List (Entry B)} → Each (Differs acc) es → Apart apart es → AllTwo (EntryAlong F R) (put_all (put_sorted code_order) acc es) fs
-      → UnputAll F R acc es fs
+      → (before entries : List (Entry B)) × AllTwo (EntryAlong F R) acc before × AllTwo (EntryAlong F R) es entries × (put_all (put_sorted code_order) before entries ≡ fs)
   unfolding Apart put_all
-  unput_all [] acc {fs} h d a = record { before = fs; entries = []; first = a; each = no-two; put = refl }
+  unput_all [] acc {fs} h d a = (fs, [], a, no-two, refl)
   unput_all (e ∷ es) acc h d a =
       let rest = unput_all es (put_sorted code_order acc e) (those_put e acc es h.1 d.0) d.1 a in
-      let one = unput acc e h.0 rest.first in
-      let put = ap (λ (z : List (Entry B)). put_all (put_sorted code_order) z rest.entries) one.put ∙ rest.put in
-      search (one.each, more-two e one.entry es rest.entries one.one rest.each, put)
+      let one = unput acc e h.0 rest.2 in
+      let put = ap (λ (z : List (Entry B)). put_all (put_sorted code_order) z rest.1) one.put ∙ rest.4 in
+      (one.before, one.entry ∷ rest.1, one.each, more-two e one.entry es rest.1 one.one rest.3, put)
 
   pub hash_map-along : (es : List (Entry A)) {n : Meaning B} → Differ es → Along F R (of_hash_map es) n → Made (EntryAlong F R) of_hash_map es n
   hash_map-along es d a =
       let sorted = entries-along _ a in
       let back = unput_all es [] (none_there es) d sorted.each in
-      record { items = back.entries; each = back.each; whole = sorted.whole ∙ ap of_entries (sym (grind (arith, nat_tests))) }
+      record { items = back.1; each = back.3; whole = sorted.whole ∙ ap of_entries (sym (grind (arith, nat_tests))) }
 
   -- what is said of plain keys or items goes over
   pub ascend-two : (order : KeyOrder) {es : List (Entry A)} {fs : List (Entry B)} → AllTwo (EntryAlong F R) es fs → Ascends order es → Ascends order fs

@@ -1,8 +1,8 @@
 -- JSON numbers that have no form, and the entries of a hash map in whatever order they come.
 use Rattle.pagable_laws.proofs.Words.{arith, nat_tests, ◌≡◌, ℕ, ℤ, List, refl, IsSigned, Meaning, Shape, json, Form, whole, of_json, FloatHasNoForm, WholeIsBounded, cond, []}
-use Rattle.pagable_laws.proofs.Words.{◌∷◌, map, Option, None, sym, ap, ◌∙◌, Ordering, T, bytes_eq-Decides, is_eq-slice_cmp, exact_bytes, pair, variant, reference, followed, plain}
+use Rattle.pagable_laws.proofs.Words.{◌∷◌, map, Option, None, sym, ap, ◌∙◌, T, bytes_eq-Decides, is_eq-slice_cmp, exact_bytes, pair, variant, reference, followed, plain}
 use Rattle.pagable_laws.proofs.Words.{rename, lifted, Entry, code, code_order, put_all, put_sorted, last_value, one-meaning, of_entries, IsOneKeyMeaning, IsAnyOrder}
-use Rattle.std.{specs.Int.w64, specs.Option.option_or, specs.declared.cmp.Ordering.Ordering, specs.Ordering.{eq_by_cmp}, specs.Cmp.IsTotalOrder}
+use Rattle.std.{specs.Int.w64, specs.Option.option_or, specs.Ordering.{eq_by_cmp}, specs.Cmp.IsTotalOrder}
 use Rattle.std.{specs.Cmp.Lexicographic.on_texts, specs.FinMap.Entries.{put, find, is_sorted, is_sorted-put, find-put, same_entries}}
 
 module _ {A : Type 0} {kind_of : A → ℕ} {parts : ℕ → Shape} where
@@ -26,9 +26,6 @@ plain_lifted _ _ = refl
 order_total : IsTotalOrder code_order
 order_total = on_texts code
 
-order_exact : (a b : Meaning ⊥) → code_order a b ≡ Ordering.Equal → a ≡ b
-order_exact a b e = one-meaning a b (exact_bytes (code a) (code b) e)
-
 module _ {X : Type 0} where
   put_in : List (Meaning ⊥ × X) → Meaning ⊥ × X → List (Meaning ⊥ × X)
   put_in acc e = put code_order e.0 e.1 acc
@@ -43,10 +40,6 @@ module _ {X : Type 0} where
   all_found q acc [] = refl
   all_found q acc (e ∷ es) =
       grind (arith, nat_tests, put, code_order, option_or, last_value, find-put, order_total, find, eq_by_cmp, cond, is_eq-slice_cmp, code, all_found q (put code_order e.0 e.1 acc) es)
-
-  same_put : (es fs : List (Meaning ⊥ × X)) → ((q : Meaning ⊥) → last_value q es ≡ last_value q fs) → put_all put_in [] es ≡ put_all put_in [] fs
-  same_put es fs h = same_entries code_order order_total order_exact _ _ (all_sorted [] es tt) (all_sorted [] fs tt)
-      (λ q. all_found q [] es ∙ ap (λ (o : Option X). option_or o None) (h q) ∙ sym (all_found q [] fs))
 
 all_along : {X U : Type 0} (u : X → U) (put_x : List X → X → List X) (put_u : List U → U → List U) → ((acc : List X) (x : X) → put_u (map u acc) (u x) ≡ map u (put_x acc x))
     → (acc xs : List X) → put_all put_u (map u acc) (map u xs) ≡ map u (put_all put_x acc xs)
@@ -65,10 +58,12 @@ module _ {A : Type 0} where
 
 pub any_order : {A : Type 0} → IsAnyOrder A
 unfolding one_key
-any_order es fs h =
+any_order {A} es fs h =
     let put_es = all_along one_key put_in (put_sorted code_order) put_along [] es in
     let put_fs = all_along one_key put_in (put_sorted code_order) put_along [] fs in
-    ap of_entries (put_es ∙ ap (map one_key) (same_put es fs h) ∙ sym put_fs)
+    let same = same_entries code_order order_total (λ a b e. one-meaning a b (exact_bytes (code a) (code b) e)) _ _ (all_sorted [] es tt) (all_sorted [] fs tt)
+    (λ q. all_found q [] es ∙ ap (λ (o : Option (Meaning A)). option_or o None) (h q) ∙ sym (all_found q [] fs)) in
+    ap of_entries (put_es ∙ ap (map one_key) same ∙ sym put_fs)
 
 -- ---- two keys that are the same
 

@@ -40,13 +40,8 @@ module _ {types : Types} {stored : ℕ → Option Blob} {trees : ℕ → Tree} w
       record {
         is = h.is;
         few = let a = length-append frame.got (q ∷ []) in let b = slice_get_within frame.blob.keys (length frame.got) key next in omega (arith, a, b);
-        got = λ place k r is at. at-place place k r at (pushed frame.got q place r is);
+        got = λ place k r is at. elim (pushed frame.got q place r is) [ inl old ↦ h.got place k r old at | inr new ↦ let same : k ≡ key = cc in rw (same, ← new.1) read ];
       }
-    where
-      at-place : (place k : ℕ) (r : ArcRef) → slice_get frame.blob.keys place ≡ Some k → (slice_get frame.got place ≡ Some r) ⊎ ((place ≡ length frame.got) × (q ≡ r))
-          → ReadsNodeTree types stored trees k (type_of r.kind.0) r.node.0
-      at-place place k r at (inl old) = h.got place k r old at
-      at-place place k r at (inr new) = grind (arith, nat_tests)
 
 -- ---- all frames
 
@@ -103,26 +98,6 @@ module _ (types : Types) (root_key root_type : ℕ) where
 
 -- ---- what holds of each reference that was got
 
--- the reference was got for this blob, in this place
-pub record GotAt (frames : List Frame) (i j : ℕ) (r : ArcRef) : Type 0 where
-  pub frame : Frame
-  pub at : slice_get frames i ≡ Some frame
-  pub there : slice_get frame.got j ≡ Some r
-
-abbrev pub GotLast : Frame → Kind → HandleRow → ℕ → ℕ → ArcRef → Type 0
-GotLast top kind row i j r = (i ≡ 0) × (j ≡ length top.got) × (record { kind = kind; node = row.node; handle = row.number } ≡ r)
-
--- what was got by now was got before, or last
-pub got-before : (top : Frame) (below : List Frame) (kind : Kind) (row : HandleRow) (i j : ℕ) (r : ArcRef) → GotAt (with_got kind row (top ∷ below)) i j r
-    → GotAt (top ∷ below) i j r ⊎ GotLast top kind row i j r
-got-before top below kind row (suc i) j r g = inl (record { frame = g.frame; at = g.at; there = g.there })
-got-before top below kind row zero j r g =
-    let grown : record top { got = top.got ++ record { kind = kind; node = row.node; handle = row.number } ∷ [] } ≡ g.frame = let e = g.at in cc in
-    elim (pushed top.got _ j r (subst (λ (f : Frame). slice_get f.got j ≡ Some r) (sym grown) g.there)) [
-      | inl old ↦ inl (record { frame = top; at = refl; there = old })
-      | inr last ↦ inr (refl, last.0, last.1)
-    ]
-
 abbrev pub AllGot : (ArcRef → Type 0) → List Frame → Type 0
 AllGot P frames = (frame : Frame) (r : ArcRef) → Among frames frame → Among frame.got r → P r
 
@@ -136,7 +111,7 @@ module _ (P : ArcRef → Type 0) where
 
   pub all-more : (frames : List Frame) (kind : Kind) (row : HandleRow) → P (record { kind = kind; node = row.node; handle = row.number }) → AllGot P frames → AllGot P (with_got kind row frames)
   all-more [] kind row new all frame r (i, is) got = absurd (cc)
-  all-more (top ∷ below) kind row new all frame r (i, is) (j, there) = elim (got-before top below kind row i j r (record { frame = frame; at = is; there = there })) [
-    | inl old ↦ all old.frame r (i, old.at) (j, old.there)
-    | inr last ↦ subst P last.2 new
-  ]
+  all-more (top ∷ below) kind row new all frame r (suc i, is) got = all frame r (suc i, is) got
+  all-more (top ∷ below) kind row new all frame r (zero, is) (j, there) =
+      let grown : record top { got = top.got ++ record { kind = kind; node = row.node; handle = row.number } ∷ [] } ≡ frame = cc in
+      elim (pushed top.got _ j r (subst (λ (f : Frame). slice_get f.got j ≡ Some r) (sym grown) there)) [ inl old ↦ all top r (zero, refl) (j, old) | inr last ↦ subst P last.1 new ]

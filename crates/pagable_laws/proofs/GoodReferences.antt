@@ -24,9 +24,6 @@ module _ (w : Core) (owner : Owner) where
 pub alike-away : {w w' : Core} → Alike w w' → (n : ℕ) → StaysAway w w' n
 alike-away {w} {w'} a n = grind (arith, alike)
 
-pin : ℕ → HandleRow → ℕ
-pin n h = one (is_pin n h)
-
 pins-left : (n : ℕ) (gone : ℕ → Bool) (rows more : List HandleRow) (k : ℕ) → pins n more ≡ 0 → pins n (left_rows gone rows ++ more) ≤ pins n rows
 pins-left n gone [] more k none = grind arith
 pins-left n gone (h ∷ hs) more k none = at (gone h.number.0) (pins-left n gone hs more k none) (sum_by-cons (λ x. one (is_pin n x)) h hs)

@@ -1,44 +1,27 @@
 -- A tree of canonical types has one key, a stored tree has the key that it stands under, and keys tell trees apart.
 use Rattle.pagable_laws.proofs.Words.{arith, nat_tests, ◌≡◌, ℕ, suc, List, [], ◌∷◌, ◌++◌, length, refl, sym, ap, ◌∙◌, subst, length_form, Meaning, sequence, Entry, of_entries, Shape, Form}
-use Rattle.pagable_laws.proofs.Words.{Forms, Entries, nothing-form, flag-form, duration-form, some-form, err-form, ok-form, list-form, run-form, array-form, both-form, sorted-map-form}
-use Rattle.pagable_laws.proofs.Words.{placed-map-form, hash-map-form, sorted-set-form, placed-set-form, static-form, tagged-form, case-form, reference-form, nested-form, json-flag-form}
+use Rattle.pagable_laws.proofs.Words.{Forms, Entries, nothing-form, some-form, err-form, ok-form, list-form, run-form, array-form, both-form, sorted-map-form}
+use Rattle.pagable_laws.proofs.Words.{placed-map-form, hash-map-form, sorted-set-form, placed-set-form, static-form, tagged-form, case-form, reference-form, nested-form}
 use Rattle.pagable_laws.proofs.Words.{json-array-form, json-object-form, no-forms, more-forms, no-entries, more-entries, LiesIn, IsCanonical, Throughout, CanonicalHasOneForm, true, pair, variant}
-use Rattle.pagable_laws.proofs.Words.{followed, code_order, Tree, Types, type_of, Kid, unfolded, KeyOf, key-of, KeysOf, no-keys, more-keys, EachType, StaysInside, IsCanonicalInside, zero, ◌+◌, ◌*◌}
-use Rattle.pagable_laws.proofs.Words.{◌/◌, ◌%◌, ◌^◌, ◌<◌, ◌≤◌, div-div-eq-div-mul, pow-suc, length-append, Blob, preimage, cut, HasOnePreimage, inl, inr, if◌then◌else◌, cases_lt, is_eager, height}
+use Rattle.pagable_laws.proofs.Words.{followed, code_order, Tree, Types, type_of, Kid, unfolded, KeyOf, key-of, KeysOf, no-keys, more-keys, EachType, StaysInside, IsCanonicalInside, zero, ◌*◌}
+use Rattle.pagable_laws.proofs.Words.{◌/◌, ◌%◌, ◌^◌, ◌<◌, ◌≤◌, div-div-eq-div-mul, pow-suc, length-append, Blob, preimage, cut, HasOnePreimage, inl, inr, cases_lt, is_eager, height}
 use Rattle.pagable_laws.proofs.Words.{HasPath, IsLongestPath, map, Option, Ok, append-nil, read, read_typed, KeyRef, tree, key_ref, ReadsAs, IsFollowed, pair-followed, variant-followed}
 use Rattle.pagable_laws.proofs.Words.{reference-followed, blob_context, rest_of, kind_of_kid, tree_of_kid, TreeForm, blob_of, kind_of_ref, key_of_ref, StoredAs, HasOwnKeys, SharesNoKey}
 use Rattle.pagable_laws.proofs.{Words.{IsCanonicalType, IsCanonicalTree, IsReadableType, rest, IsOneKey, IsOneItemKey, IsStoredKey, IsTreeReadable, IsKeyOfOneTree}, Again.{here, narrowed, part_of}}
-use Rattle.pagable_laws.proofs.{Again.{of_json, of_text, lower, form-again, Looked, all-looked, one-looked}, Along.{Along, EntryAlong, lifted-along, number-along, integer-along, text-along}}
+use Rattle.pagable_laws.proofs.{Again.{alone, lower, form-again, Looked, all-looked, one-looked}, Along.{Along, EntryAlong, lifted-along, number-along, integer-along, text-along}}
 use Rattle.pagable_laws.proofs.{Along.{pattern-along, none-along, pair-along, variant-along, reference-along, AllTwo, no-two, more-two, form-along}, Related.{flag-same, sequence-two, entries-two}}
 use Rattle.pagable_laws.proofs.{Related.sorted-two, Trees.{same_some, same_result, tree_is, one-followed, followed-on}}
 use Rattle.pagable_model.specs.{Canonical.IsClosed}
 use Rattle.std.{specs.Int.{byte_at, bytes_low_first, to_le_bytes, w64, w128}, specs.List.{flat_map, AllByRecursion as Each}, proofs.Common.rules}
-use Rattle.pagable_model.specs.Meaning as meanings
 
 -- ---- a meaning of a canonical shape has at most one form
 
-pub same-items : {A : Type 0} (xs ys : List (Meaning A)) → sequence xs ≡ sequence ys → xs ≡ ys
-same-items [] [] e = refl
-same-items (x ∷ xs) (y ∷ ys) e = grind (arith, nat_tests, same-items xs ys)
-same-items _ _ e = cc
-
-pub same-entries : {A : Type 0} (es fs : List (Entry A)) → of_entries es ≡ of_entries fs → es ≡ fs
-same-entries [] [] e = refl
-same-entries {A} (x ∷ es) (f ∷ fs) e = grind (arith, nat_tests, same-entries es fs)
-same-entries _ _ e = cc
-
--- parts that are the same, after a front that is the same
-grown : {A : Type 0} (a b c : List ℕ) (k l : List A) → (b ≡ c) × (k ≡ l) → (a ++ b ≡ a ++ c) × (k ≡ l)
-grown a b c k l h = (ap (λ (x : List ℕ). a ++ x) h.0, h.1)
-
+-- parts that are the same, one after the other
 joined : {A : Type 0} (a b c d : List ℕ) (j k l i : List A) → (a ≡ b) × (j ≡ k) → (c ≡ d) × (l ≡ i) → (a ++ c ≡ b ++ d) × (j ++ l ≡ k ++ i)
 joined a b c d j k l i h g = (rw (h.0, g.0) refl, rw (h.1, g.1) refl)
 
-counted : {A X : Type 0} (xs ys : List X) (b c : List ℕ) (k l : List A) → xs ≡ ys → (b ≡ c) × (k ≡ l) → (length_form (length xs) ++ b ≡ length_form (length ys) ++ c) × (k ≡ l)
-counted xs ys b c k l e h = (rw (e, h.0) refl, h.1)
-
-abbrev pairing : {A : Type 0} → Meaning A → Meaning A → Entry A
-pairing m n = (m, n)
+counted : {A : Type 0} (m n : ℕ) (b c : List ℕ) (k l : List A) → (b ≡ c) × (k ≡ l) × (m ≡ n) → (length_form m ++ b ≡ length_form n ++ c) × (k ≡ l)
+counted m n b c k l h = (rw (h.0, h.2) refl, h.1)
 
 module _ {A : Type 0} {kind_of : A → ℕ} {parts : ℕ → Shape} where
   mutual
@@ -46,23 +29,20 @@ module _ {A : Type 0} {kind_of : A → ℕ} {parts : ℕ → Shape} where
 
     pub one-form : {left left2 : ℕ} {s : Shape} {m n : Meaning A} {b c : List ℕ} {k l : List A} → Form A kind_of parts left s m b k → Form A kind_of parts left2 s n c l
         → Throughout IsCanonical parts s → m ≡ n → (b ≡ c) × (k ≡ l)
-    one-form (some-form left s m b k h) (some-form left2 s2 m2 b2 k2 h2) r e = grown (1 ∷ []) _ _ _ _ (one-form h h2 (narrowed r (λ p. p) (λ n d l. l)) cc)
-    one-form (err-form left s t m b k h) (err-form left2 s2 t2 m2 b2 k2 h2) r e = grown (0 ∷ []) _ _ _ _ (one-form h h2 (narrowed r (λ p. p.1) (λ n d l. l.1)) cc)
-    one-form (ok-form left s t m b k h) (ok-form left2 s2 t2 m2 b2 k2 h2) r e = grown (1 ∷ []) _ _ _ _ (one-form h h2 (narrowed r (λ p. p.0) (λ n d l. l.0)) cc)
-    one-form (list-form left s ms b k le h) (list-form left2 s2 ms2 b2 k2 le2 h2) r e =
-        let same = same-items ms ms2 e in counted _ _ _ _ _ _ same (one-forms h h2 (narrowed r (λ p. p) (λ n d l. l)) same)
-    one-form (run-form left s ms b k le h) (run-form left2 s2 ms2 b2 k2 le2 h2) r e = one-forms h h2 (narrowed r (λ p. p) (λ n d l. l)) (same-items ms ms2 e)
-    one-form (array-form left n s ms b k q h) (array-form left2 n2 s2 ms2 b2 k2 q2 h2) r e = one-forms h h2 (narrowed r (λ p. p) (λ n d l. l)) (same-items ms ms2 e)
+    one-form (some-form left s m b k h) (some-form left2 s2 m2 b2 k2 h2) r e = joined (1 ∷ []) (1 ∷ []) _ _ [] [] _ _ (refl, refl) (one-form h h2 (narrowed r (λ p. p) (λ n d l. l)) cc)
+    one-form (err-form left s t m b k h) (err-form left2 s2 t2 m2 b2 k2 h2) r e = joined (0 ∷ []) (0 ∷ []) _ _ [] [] _ _ (refl, refl) (one-form h h2 (narrowed r (λ p. p.1) (λ n d l. l.1)) cc)
+    one-form (ok-form left s t m b k h) (ok-form left2 s2 t2 m2 b2 k2 h2) r e = joined (1 ∷ []) (1 ∷ []) _ _ [] [] _ _ (refl, refl) (one-form h h2 (narrowed r (λ p. p.0) (λ n d l. l.0)) cc)
+    one-form (list-form left s ms b k le h) (list-form left2 s2 ms2 b2 k2 le2 h2) r e = counted _ _ _ _ _ _ (one-forms h h2 (narrowed r (λ p. p) (λ n d l. l)) e)
+    one-form (run-form left s ms b k le h) (run-form left2 s2 ms2 b2 k2 le2 h2) r e = let o = one-forms h h2 (narrowed r (λ p. p) (λ n d l. l)) e in (o.0, o.1)
+    one-form (array-form left n s ms b k q h) (array-form left2 n2 s2 ms2 b2 k2 q2 h2) r e = let o = one-forms h h2 (narrowed r (λ p. p) (λ n d l. l)) e in (o.0, o.1)
     one-form (both-form left s t m n b c k l h g) (both-form left2 s2 t2 m2 n2 b2 c2 k2 l2 h2 g2) r e =
         joined _ _ _ _ _ _ _ _ (one-form h h2 (narrowed r (λ p. p.0) (λ n d l. l.0)) cc) (one-form g g2 (narrowed r (λ p. p.1) (λ n d l. l.1)) cc)
-    one-form (sorted-map-form left o s t es b k le up h) (sorted-map-form left2 o2 s2 t2 es2 b2 k2 le2 up2 h2) r e = let same = same-entries es es2 e in
-        counted _ _ _ _ _ _ same (one-entries h h2 (narrowed r (λ p. p.0) (λ n d l. l.0)) (narrowed r (λ p. p.1) (λ n d l. l.1)) same)
-    one-form (placed-map-form left s t es b k le up h) (placed-map-form left2 s2 t2 es2 b2 k2 le2 up2 h2) r e = let same = same-entries es es2 e in
-        counted _ _ _ _ _ _ same (one-entries h h2 (narrowed r (λ p. p.0) (λ n d l. l.0)) (narrowed r (λ p. p.1) (λ n d l. l.1)) same)
-    one-form (sorted-set-form left o s ms b k le up h) (sorted-set-form left2 o2 s2 ms2 b2 k2 le2 up2 h2) r e = let same = same-items ms ms2 e in
-        counted _ _ _ _ _ _ same (one-forms h h2 (narrowed r (λ p. p) (λ n d l. l)) same)
-    one-form (placed-set-form left s ms b k le up h) (placed-set-form left2 s2 ms2 b2 k2 le2 up2 h2) r e = let same = same-items ms ms2 e in
-        counted _ _ _ _ _ _ same (one-forms h h2 (narrowed r (λ p. p) (λ n d l. l)) same)
+    one-form (sorted-map-form left o s t es b k le up h) (sorted-map-form left2 o2 s2 t2 es2 b2 k2 le2 up2 h2) r e =
+        counted _ _ _ _ _ _ (one-entries h h2 (narrowed r (λ p. p.0) (λ n d l. l.0)) (narrowed r (λ p. p.1) (λ n d l. l.1)) e)
+    one-form (placed-map-form left s t es b k le up h) (placed-map-form left2 s2 t2 es2 b2 k2 le2 up2 h2) r e =
+        counted _ _ _ _ _ _ (one-entries h h2 (narrowed r (λ p. p.0) (λ n d l. l.0)) (narrowed r (λ p. p.1) (λ n d l. l.1)) e)
+    one-form (sorted-set-form left o s ms b k le up h) (sorted-set-form left2 o2 s2 ms2 b2 k2 le2 up2 h2) r e = counted _ _ _ _ _ _ (one-forms h h2 (narrowed r (λ p. p) (λ n d l. l)) e)
+    one-form (placed-set-form left s ms b k le up h) (placed-set-form left2 s2 ms2 b2 k2 le2 up2 h2) r e = counted _ _ _ _ _ _ (one-forms h h2 (narrowed r (λ p. p) (λ n d l. l)) e)
     one-form (tagged-form left written known body tag m b k u h f) (tagged-form left2 written2 known2 body2 tag2 m2 b2 k2 u2 h2 f2) r e =
         let tags : tag ≡ tag2 = cc in
         let f3 = let P : List ℕ → Type 0 = λ t. Form A kind_of parts left2 (written t) m2 b2 k2 in subst P (sym tags) f2 in
@@ -76,31 +56,29 @@ module _ {A : Type 0} {kind_of : A → ℕ} {parts : ℕ → Shape} where
     one-form (reference-form left kind a q) (reference-form left2 kind2 a2 q2) r e = let same : a ≡ a2 = cc in (refl, ap (λ (x : A). x ∷ []) same)
     one-form (nested-form left less n m b k p h) (nested-form left2 less2 n2 m2 b2 k2 p2 h2) r e = one-form h h2 (part_of r) e
     one-form (json-array-form left less ms b k p le h) (json-array-form left2 less2 ms2 b2 k2 p2 le2 h2) r e =
-        let part : sequence ms ≡ sequence ms2 = cc in
-        let same = same-items ms ms2 part in
-        grown (4 ∷ []) _ _ _ _ (counted _ _ _ _ _ _ same (one-forms h h2 (of_json tt) same))
+        joined (4 ∷ []) (4 ∷ []) _ _ [] [] _ _ (refl, refl) (counted _ _ _ _ _ _ (one-forms h h2 (alone (λ n d. tt) tt) cc))
     one-form (json-object-form left less es b k p le up h) (json-object-form left2 less2 es2 b2 k2 p2 le2 up2 h2) r e =
-        let part : of_entries es ≡ of_entries es2 = cc in
-        let same = same-entries es es2 part in
-        grown (5 ∷ []) _ _ _ _ (counted _ _ _ _ _ _ same (one-entries h h2 (of_text tt) (of_json tt) same))
+        joined (5 ∷ []) (5 ∷ []) _ _ [] [] _ _ (refl, refl) (counted _ _ _ _ _ _ (one-entries h h2 (alone (λ n d. tt) tt) (alone (λ n d. tt) tt) cc))
     one-form x0 (nothing-form left) r e = grind (arith, nat_tests)
     one-form x0 x1 r e = grind (arith, nat_tests, here)
 
     pub one-forms : {left left2 : ℕ} {s : Shape} {ms ns : List (Meaning A)} {b c : List ℕ} {k l : List A} → Forms A kind_of parts left s ms b k → Forms A kind_of parts left2 s ns c l
-        → Throughout IsCanonical parts s → ms ≡ ns → (b ≡ c) × (k ≡ l)
-    one-forms (no-forms left s) (no-forms left2 s2) r e = (refl, refl)
-    one-forms (more-forms left s m ms b c k l h g) (more-forms left2 s2 m2 ms2 b2 c2 k2 l2 h2 g2) r e = joined _ _ _ _ _ _ _ _ (one-form h h2 r cc) (one-forms g g2 r cc)
+        → Throughout IsCanonical parts s → sequence ms ≡ sequence ns → (b ≡ c) × (k ≡ l) × (length ms ≡ length ns)
+    one-forms (no-forms left s) (no-forms left2 s2) r e = (refl, refl, refl)
+    one-forms (more-forms left s m ms b c k l h g) (more-forms left2 s2 m2 ms2 b2 c2 k2 l2 h2 g2) r e =
+        let o = one-form h h2 r cc in
+        let p = one-forms g g2 r cc in
+        (rw (o.0, p.0) refl, rw (o.1, p.1) refl, ap suc p.2)
     one-forms f g r e = absurd cc
 
     pub one-entries : {left left2 : ℕ} {s t : Shape} {es fs : List (Entry A)} {b c : List ℕ} {k l : List A} → Entries A kind_of parts left s t es b k → Entries A kind_of parts left2 s t fs c l
-        → Throughout IsCanonical parts s → Throughout IsCanonical parts t → es ≡ fs → (b ≡ c) × (k ≡ l)
-    one-entries (no-entries left s t) (no-entries left2 s2 t2) r q e = (refl, refl)
+        → Throughout IsCanonical parts s → Throughout IsCanonical parts t → of_entries es ≡ of_entries fs → (b ≡ c) × (k ≡ l) × (length es ≡ length fs)
+    one-entries (no-entries left s t) (no-entries left2 s2 t2) r q e = (refl, refl, refl)
     one-entries (more-entries left s t m n es b c d j k l h g f) (more-entries left2 s2 t2 m2 n2 es2 b2 c2 d2 j2 k2 l2 h2 g2 f2) r q e =
-        let heads : pairing m n ≡ pairing m2 n2 = cc in
-        let keys : m ≡ m2 = ap (λ (x : Entry A). x.0) heads in
-        let values : n ≡ n2 = ap (λ (x : Entry A). x.1) heads in
-        let tails : es ≡ es2 = cc in
-        joined _ _ _ _ _ _ _ _ (one-form h h2 r keys) (joined _ _ _ _ _ _ _ _ (one-form g g2 q values) (one-entries f f2 r q tails))
+        let o = one-form h h2 r cc in
+        let p = one-form g g2 q cc in
+        let i = one-entries f f2 r q cc in
+        (rw (o.0, p.0, i.0) refl, rw (o.1, p.1, i.1) refl, ap suc i.2)
     one-entries f g r q e = absurd cc
 
 pub canonical_one : {A : Type 0} → CanonicalHasOneForm A
@@ -122,8 +100,6 @@ module _ {A : Type 0} {kind_of : A → ℕ} {parts : ℕ → Shape} (nodes : ℕ
 
     -- Q of each reference in the meaning
     form-refs : {left : ℕ} {s : Shape} {m : Meaning A} {b : List ℕ} {k : List A} → Form A kind_of parts left s m b k → Inside nodes parts s → Each P k → Along (Unit {0}) (λ a c. Q a) m m
-    form-refs (flag-form left b) t h = flag-same b
-    form-refs (duration-form left x y l g) t h = pair-along _ _ _ _ (number-along x) (number-along y)
     form-refs (some-form left s m b k f) t h = variant-along _ _ _ (form-refs f (lower nodes (λ n d l. l) t) h)
     form-refs (err-form left s s2 m b k f) t h = variant-along _ _ _ (form-refs f (lower nodes (λ n d l. l.1) t) h)
     form-refs (ok-form left s s2 m b k f) t h = variant-along _ _ _ (form-refs f (lower nodes (λ n d l. l.0) t) h)
@@ -142,10 +118,9 @@ module _ {A : Type 0} {kind_of : A → ℕ} {parts : ℕ → Shape} (nodes : ℕ
     form-refs (case-form left w known part n m b k l is f) t h = variant-along _ _ _ (form-refs f (lower nodes (λ nodes d l. l n is) t) h)
     form-refs (reference-form left kind a e) t h = reference-along a a (both a (let here_is = here t in rw e here_is) h.0)
     form-refs (nested-form left less n m b k e f) t h = form-refs f (part_of t) h
-    form-refs (json-flag-form left b) t h = variant-along _ _ _ (flag-same b)
-    form-refs (json-array-form left less ms b k e l f) t h = variant-along _ _ _ (sequence-two (forms-refs f (of_json tt) h))
-    form-refs (json-object-form left less es b k e l up f) t h = variant-along _ _ _ (entries-two (entries_form-refs f (of_text tt) (of_json tt) h))
-    form-refs _ t h = search (variant-along, number-along, integer-along, text-along, pattern-along, none-along)
+    form-refs (json-array-form left less ms b k e l f) t h = variant-along _ _ _ (sequence-two (forms-refs f (alone (λ n d. tt) tt) h))
+    form-refs (json-object-form left less es b k e l up f) t h = variant-along _ _ _ (entries-two (entries_form-refs f (alone (λ n d. tt) tt) (alone (λ n d. tt) tt) h))
+    form-refs _ t h = search (variant-along, pair-along, flag-same, number-along, integer-along, text-along, pattern-along, none-along)
 
     forms-refs : {left : ℕ} {s : Shape} {ms : List (Meaning A)} {b : List ℕ} {k : List A} → Forms A kind_of parts left s ms b k → Inside nodes parts s → Each P k
         → AllTwo (Along (Unit {0}) (λ a c. Q a)) ms ms
@@ -162,15 +137,15 @@ module _ {A : Type 0} {kind_of : A → ℕ} {parts : ℕ → Shape} (nodes : ℕ
 
 -- ---- trees
 
-module _ (hash : List ℕ → List ℕ) (types : Types) (nodes : ℕ → Type 0) (closed : IsClosed types nodes) where
-  -- the kid reaches types of the set alone, if its own is one
+-- what is so of the types of the set is so of each type that a tree of one of them reaches
+module _ (hash : List ℕ → List ℕ) (types : Types) (nodes M : ℕ → Type 0) (closed : IsClosed types nodes) (all : (n : ℕ) → nodes n → M n) where
   abbrev Kept : Kid → Type 0
-  Kept k = nodes (type_of k.kind) → EachType nodes k.meaning
+  Kept k = nodes (type_of k.kind) → EachType M k.meaning
 
   abbrev Found : Kid → Type 0
-  Found k = nodes (type_of k.kind) × EachType nodes k.meaning
+  Found k = M (type_of k.kind) × EachType M k.meaning
 
-  types_of : (m : Meaning ⊥) {n : Meaning Kid} → Along (Unit {0}) (λ k l. Found k) (unfolded m) n → EachType nodes m
+  types_of : (m : Meaning ⊥) {n : Meaning Kid} → Along (Unit {0}) (λ k l. Found k) (unfolded m) n → EachType M m
   unfolding EachType unfolded
   types_of (pair a b) (pair-along x y c d h g) = (types_of a h, types_of b g)
   types_of (variant i a) (variant-along j x c h) = types_of a h
@@ -178,25 +153,18 @@ module _ (hash : List ℕ → List ℕ) (types : Types) (nodes : ℕ → Type 0)
   types_of x0 h = grind (arith, nat_tests)
 
   mutual
-    stays : {t : Tree} {key : ℕ} → KeyOf hash types t key → nodes t.type → EachType nodes t.meaning
-    stays (key-of t s bytes kids keys is f h) inside = types_of t.meaning (form-refs nodes Kept Found (λ k n g. (n, g n)) f (closed t.type s inside is) (all_stay h))
+    stays : {t : Tree} {key : ℕ} → KeyOf hash types t key → nodes t.type → EachType M t.meaning
+    stays (key-of t s bytes kids keys is f h) inside = types_of t.meaning (form-refs nodes Kept Found (λ k n g. (all (type_of k.kind) n, g n)) f (closed t.type s inside is) (all_stay h))
 
     all_stay : {kids : List Kid} {keys : List ℕ} → KeysOf hash types kids keys → Each Kept kids
     all_stay no-keys = tt
     all_stay (more-keys k kids key keys h g) = (λ n. stays h n, all_stay g)
 
 pub stays_inside : StaysInside
-stays_inside hash types nodes t key closed inside h = stays hash types (λ n. nodes n ≡ true) closed h inside
-
-each_along : {N M : ℕ → Type 0} (f : (n : ℕ) → N n → M n) (m : Meaning ⊥) → EachType N m → EachType M m
-unfolding EachType
-each_along f (pair a b) h = (each_along f a h.0, each_along f b h.1)
-each_along f (variant n a) h = each_along f a h
-each_along f (followed kind a) h = (f (type_of kind) h.0, each_along f a h.1)
-each_along f x1 h = grind (arith, nat_tests)
+stays_inside hash types nodes t key closed inside h = stays hash types (λ n. nodes n ≡ true) (λ n. nodes n ≡ true) closed (λ n i. i) h inside
 
 pub canonical_inside : IsCanonicalInside
-canonical_inside hash types nodes t key closed all inside h = (all t.type inside, each_along all t.meaning (stays_inside hash types nodes t key closed inside h))
+canonical_inside hash types nodes t key closed all inside h = (all t.type inside, stays hash types (λ n. nodes n ≡ true) (IsCanonicalType types) closed all h inside)
 
 -- ---- different blobs have different preimages
 
@@ -239,23 +207,19 @@ one_preimage a b h g e =
 
 -- ---- the height of a tree is the length of its longest path
 
-path-to : (m : Meaning ⊥) (n : ℕ) → HasPath n m → n ≤ height m
-unfolding HasPath height
-path-to (pair a b) n (inl h) = let p = path-to a n h in omega arith
-path-to (pair a b) n (inr h) = let p = path-to b n h in omega arith
-path-to (variant x a) n h = path-to a n h
-path-to (followed kind a) (suc n) (eager, h) = grind (arith, nat_tests, path-to a n h)
-path-to x0 x1 x2 = grind (arith, nat_tests)
-
-path-from : (m : Meaning ⊥) (n : ℕ) → n ≤ height m → HasPath n m
-unfolding HasPath height
-path-from (pair a b) n h = elim (cases_lt (height a) n) [ inl lt ↦ inr (path-from b n (omega arith)) | inr le ↦ inl (path-from a n le) ]
-path-from (variant x a) n h = path-from a n h
-path-from (followed kind a) (suc n) h = let p : ((is_eager kind) ≡ true) × (n ≤ (height a)) = grind (arith, nat_tests) in (p.0, path-from a n p.1)
-path-from x0 x1 h = grind (arith, nat_tests)
-
 pub longest_path : IsLongestPath
-longest_path m n = (path-to m n, path-from m n)
+unfolding HasPath height
+longest_path (pair a b) n =
+    let p = longest_path a n in
+    let q = longest_path b n in (
+      λ h. elim h [ inl x ↦ let le = p.0 x in omega arith | inr y ↦ let le = q.0 y in omega arith ],
+      λ h. elim (cases_lt (height a) n) [ inl lt ↦ inr (q.1 (omega arith)) | inr le ↦ inl (p.1 le) ],
+    )
+longest_path (variant x a) n = longest_path a n
+longest_path (followed kind a) (suc n) =
+    let p = longest_path a n in
+    (λ (eager, h). let le = p.0 h in grind (arith, nat_tests), λ h. let e : ((is_eager kind) ≡ true) × (n ≤ (height a)) = grind (arith, nat_tests) in (e.0, p.1 e.1))
+longest_path x0 x1 = (λ h. grind (arith, nat_tests), λ h. grind (arith, nat_tests))
 
 -- ---- what a tree's references are
 
@@ -363,14 +327,11 @@ module _ {store other : ℕ → Option Blob} {types : Types} (shares : SharesNoK
       same_result _ m n _ _ first.reads (moved ∙ second.reads)
 
 pub key_of_one_tree : IsKeyOfOneTree
-key_of_one_tree hash store other types t u k l first second shares type can readable h g = (to, from)
-  where
-    to : k ≡ l → t ≡ u
-    to e =
-        let stands = let P : ℕ → ℕ → Type 0 = λ n key. StoredAs other types n key g.own in subst (λ (n : ℕ). P n k) (sym type) (subst (λ (key : ℕ). P u.type key) (sym e) g.stands) in
-        tree_is _ _ _ _ type (one-followed (IsReadableType types) (λ t key m n can p q. same-stored shares can p q) readable.1 h.follows g.follows (same-stored shares readable.0 h.stands stands))
-
-    from : t ≡ u → k ≡ l
-    from e =
-        let two = let P : Tree → Type 0 = λ x. KeyOf hash types x l in subst P (sym e) (stored_key hash other types u l second g) in
-        one_key hash types t k l can (stored_key hash store types t k first h) two
+key_of_one_tree hash store other types t u k l first second shares type can readable h g = (
+  λ e.
+      let stands = let P : ℕ → ℕ → Type 0 = λ n key. StoredAs other types n key g.own in subst (λ (n : ℕ). P n k) (sym type) (subst (λ (key : ℕ). P u.type key) (sym e) g.stands) in
+      tree_is _ _ _ _ type (one-followed (IsReadableType types) (λ t key m n can p q. same-stored shares can p q) readable.1 h.follows g.follows (same-stored shares readable.0 h.stands stands)),
+  λ e.
+      let two = let P : Tree → Type 0 = λ x. KeyOf hash types x l in subst P (sym e) (stored_key hash other types u l second g) in
+      one_key hash types t k l can (stored_key hash store types t k first h) two,
+)

@@ -1,6 +1,6 @@
 -- Each stage once: what is still to be done of it, with what was done, is at most what was claimed.
-use Rattle.pagable_laws.proofs.Words.{◌≡◌, ℕ, ◌+◌, ◌≤◌, ◌==◌, ◌&&◌, Bool, List, [], ◌∷◌, ◌++◌, refl, sym, subst, arith, Ok, Err, Some, nat_le, nat_tests, sum_by-cons, ArcRef, Identity, one, times}
-use Rattle.pagable_laws.proofs.Words.{Claim, PinStep, Took, identity_of, Open, Todo, to_start, to_pin, to_load, to_write, to_finish, to_item, to_set, to_publish, to_release, to_fail, Fault, Option}
+use Rattle.pagable_laws.proofs.Words.{◌≡◌, ℕ, ◌+◌, ◌≤◌, ◌==◌, ◌&&◌, Bool, List, [], ◌∷◌, ◌++◌, refl, sym, subst, arith, Ok, nat_le, nat_tests, sum_by-cons, ArcRef, Identity, one, times}
+use Rattle.pagable_laws.proofs.Words.{Claim, PinStep, Took, identity_of, Todo, to_start, to_pin, to_load, to_write, to_finish, to_set, to_publish, to_release, to_fail, Fault, Option}
 use Rattle.pagable_laws.proofs.{Words.{HandleNumber, false, Task, Written, is_identity, next_start, give, first_todo, Follows, Leads, InOrder, OnceEach, is_claim_of, is_later_of}, Standing.AllWait}
 
 -- ---- numbers
@@ -41,31 +41,20 @@ module _ (k : ℕ) (i : Identity) where
     same : all-left todo ≡ n
     way : IsWay todo
 
-  started-node : (place : ℕ) (rs : List ArcRef) (o : Open) (below : List Todo) → AllWait below → Keeps (all-left (to_finish o ∷ below)) (next_start place rs ++ to_finish o ∷ below)
+  started : (place : ℕ) (rs : List ArcRef) (x : Todo) (below : List Todo) → AllWait (x ∷ below) → Keeps (all-left (x ∷ below)) (next_start place rs ++ x ∷ below)
   unfolding AllWait all-left
-  started-node place x1 o below more = grind (arith, nat_tests, plus-none)
-
-  started-item : (place : ℕ) (rs : List ArcRef) (written : Written) (keys : List ℕ) (below : List Todo) → AllWait below
-      → Keeps (all-left below) (next_start place rs ++ to_item written keys ∷ below)
-  unfolding AllWait all-left
-  started-item place x1 written keys below more = grind (arith, nat_tests, plus-none)
+  started place x1 x2 below more = grind (arith, nat_tests, plus-none)
 
   given : (r : ArcRef) (key height : ℕ) (below : List Todo) → AllWait below → Keeps (all-left below) (give r key height below)
   unfolding AllWait all-left
-  given r key height x3 waits = grind (arith, nat_tests, started-node)
+  given r key height x3 waits = grind (arith, nat_tests, started)
 
   -- whether the reference is of the identity
   abbrev at : ArcRef → Bool
   at r = is_identity i (identity_of r)
 
-  claims-it : (r : ArcRef) (n : ℕ) → 0 + (from k 0 (at r) + n) ≤ one (at r) + (0 + n)
-  claims-it r n = grind (arith, nat_tests)
-
   goes-up : (p : ℕ) (r : ArcRef) (m n : ℕ) → m ≡ from k (p + 1) (at r) + n → one (k == p && at r) + m ≤ 0 + (from k p (at r) + n)
   goes-up p r m n is = grind (arith, nat_tests)
-
-  skips : (r : ArcRef) (n : ℕ) → one (k == 1 && at r) + (from k 2 (at r) + n) ≤ 0 + (from k 0 (at r) + n)
-  skips r n = grind (arith, nat_tests)
 
   ends : (p : ℕ) (r : ArcRef) (m n : ℕ) → m ≤ n → one (k == p && at r) + m ≤ 0 + (from k p (at r) + n)
   ends p r m n few = grind (arith, nat_tests)
@@ -83,18 +72,15 @@ module _ (k : ℕ) (i : Identity) where
     goes : (todo : List Todo) (step : Took W) (next : List Todo) → IsWay todo → Follows f todo step next → Goes (is_later_of k i step) (is_claim_of i step) todo next
     unfolding AllWait all-left
     goes (to_start r place ∷ []) step next way follows = absurd way
-    goes (to_start r place ∷ x ∷ xs) (Took.Claim j (Ok Claim.Claimed)) next way (is, e) = rw (is, e) (record { less = claims-it r (all-left (x ∷ xs)); way = way })
+    goes (to_start r place ∷ x ∷ xs) (Took.Claim j (Ok Claim.Claimed)) next way (is, e) = rw (is, e) (record { less = grind (arith, nat_tests); way = way })
     goes (to_start r place ∷ x ∷ xs) (Took.Claim j (Ok (Claim.Known key height))) next way (is, e) = grind (arith, nat_tests, given)
     goes (to_start r place ∷ x ∷ xs) (Took.Claim j (Ok Claim.Waiting)) next way (is, e) = rw e (record { less = omega arith; way = way })
-    goes (to_pin r place ∷ below) (Took.Pin j (Ok (PinStep.Held h))) next way (is, (through, e)) = rw (is, e) (record { less = skips r (all-left below); way = way })
+    goes (to_pin r place ∷ below) (Took.Pin j (Ok (PinStep.Held h))) next way (is, (through, e)) = rw (is, e) (record { less = grind (arith, nat_tests); way = way })
     goes (to_pin r place ∷ below) (Took.Pin j (Ok (PinStep.LoadBegun l))) next way (is, (through, e)) = rw (is, e) (record { less = goes-up 0 r _ (all-left below) refl; way = way })
     goes (to_load r place through reading ∷ below) x1 next way x4 = grind (arith, nat_tests, goes-up, failed)
-    goes (to_write r place through ∷ below) (Took.Write j (Ok out)) next way (is, e) = grind (arith, nat_tests, started-node, goes-up)
-    goes (to_write r place through ∷ below) (Took.Write j (Err fault)) next way (is, e) = rw (is, e) (record { less = ends 2 r 0 (all-left below) (omega arith); way = tt })
-    goes (to_finish o ∷ below) (Took.Store (Some j) (Ok key)) next way (is, e) = rw (is, e) (record { less = goes-up 3 o.reference _ (all-left below) refl; way = way })
-    goes (to_finish o ∷ below) (Took.Store (Some j) (Err fault)) next way (is, e) = rw (is, e) (record { less = ends 3 o.reference 0 (all-left below) (omega arith); way = tt })
-    goes (to_set r through key height ∷ below) (Took.SetKey j (Ok u)) next way (is, e) = rw (is, e) (record { less = goes-up 4 r _ (all-left below) refl; way = way })
-    goes (to_set r through key height ∷ below) (Took.SetKey j (Err fault)) next way (is, e) = rw (is, e) (record { less = ends 4 r 0 (all-left below) (omega arith); way = tt })
+    goes (to_write r place through ∷ below) x1 next way x4 = grind (arith, nat_tests, started, goes-up, ends)
+    goes (to_finish o ∷ below) x1 next way x4 = grind (arith, nat_tests, goes-up, ends)
+    goes (to_set r through key height ∷ below) x1 next way x4 = grind (arith, nat_tests, goes-up, ends)
     goes (to_publish r key height ∷ below) (Took.Publish j q h) next way (is, same_key, same_height, e) = rw (is, e) (record { less = goes-up 5 r _ (all-left below) refl; way = way })
     goes (to_release r key height ∷ below) (Took.Release j) next way (is, e) = grind (arith, nat_tests, given, ends)
     goes _ step next way follows = grind (arith, nat_tests, failed)
@@ -121,9 +107,6 @@ module _ (k : ℕ) (i : Identity) where
     few-claims : (step : Took W) (steps : List (Took W)) → times (is_claim_of i) (step ∷ steps) ≤ 1 → one (is_claim_of i step) + times (is_claim_of i) steps ≤ 1
     few-claims step steps few = subst (λ n. n ≤ 1) (sum_by-cons (λ s. one (is_claim_of i s)) step steps) few
 
-    fewer : (s : ℕ) → 0 + s ≤ 1 → s ≤ 1
-    fewer s few = omega arith
-
     -- what is left to be done is no more than was claimed
     bounded : (t d s n c : ℕ) → t + d ≤ s + n → n ≤ c → c + s ≤ 1 → t ≤ 1
     bounded t d s n c less few most = omega arith
@@ -138,14 +121,13 @@ module _ (k : ℕ) (i : Identity) where
         grind (arith, nat_tests, once-more, bounded, along)
     entry r place (Took.Claim j (Ok (Claim.Known key height)) ∷ steps) last (mid, (is, e), leads) few = grind (arith, nat_tests, once-more, after-release)
     entry r place (Took.Claim j (Ok Claim.Waiting) ∷ steps) last (mid, (is, e), leads) few =
-        grind (arith, nat_tests, once-more, fewer, few-claims, entry r place steps last (subst (λ m. Leads f m steps last) e leads) (fewer _ (few-claims (Took.Claim j (Ok Claim.Waiting)) steps few)))
-    entry r place (Took.Claim j (Ok Claim.AlreadyFailed) ∷ steps) last (mid, (is, e), leads) few = grind (arith, nat_tests, once-more, bounded, along, few-claims)
-    entry r place (Took.Claim j (Err fault) ∷ steps) last (mid, (is, e), leads) few = grind (arith, nat_tests, once-more, bounded, along, few-claims)
-    entry r place (step ∷ steps) last (mid, follows, leads) few = absurd follows
+        let less : times (is_claim_of i) steps ≤ 1 = let c = few-claims (Took.Claim j (Ok Claim.Waiting)) steps few in omega arith in
+        grind (arith, nat_tests, once-more, entry r place steps last (subst (λ m. Leads f m steps last) e leads) less)
+    entry r place (step ∷ steps) last (mid, follows, leads) few = grind (arith, nat_tests, once-more, bounded, along, few-claims)
 
     at-once : (task : Task) (steps : List (Took W)) (last : List Todo) → Leads f (first_todo task) steps last → times (is_claim_of i) steps ≤ 1 → times (is_later_of k i) steps ≤ 1
     unfolding AllWait all-left
-    at-once x0 steps last leads few = grind (arith, nat_tests, started-item, bounded, along, plus-none, entry)
+    at-once x0 steps last leads few = grind (arith, nat_tests, started, bounded, along, plus-none, entry)
 
 -- what the automaton accepts, with no identity claimed twice, has each stage at most once after its claim
 pub once_each : {W : Type 0} (f : W → Written) (task : Task) (steps : List (Took W)) → InOrder f task steps → ((i : Identity) → times (is_claim_of i) steps ≤ 1) → OnceEach steps

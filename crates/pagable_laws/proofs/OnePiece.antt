@@ -3,11 +3,11 @@
 use Rattle.pagable_laws.proofs.Words.{nat_tests, ◌≡◌, ℕ, zero, suc, ◌+◌, ◌<◌, false, List, [], ◌∷◌, Some, inl, inr, refl, sym, ap, subst, ◌∙◌, arith, HandleRow, Owner, ArcRef, Kind, HandleNumber}
 use Rattle.pagable_laws.proofs.Words.{LoadNumber, NodeNumber, OptionalDataKey, Among, type_of, mode_of, Core, OpenLoad, of_cell, Frame, Alike, row_at, row_of, with_handle, with_node, next_node}
 use Rattle.pagable_laws.proofs.Words.{is_named_by, Asked, adopted, GetsKnown, with_got, owner_value, HandlesAreWhole, Tree, find_row, Reading, Values, IsLawful, GoesOn, GetsLazy, MakesNode, FramesFit}
-use Rattle.pagable_laws.proofs.Words.{ReadsItsTypes, FramesHeld, slice_get, ◌⊎◌, root_frame, ◌≤◌, ◌==◌, Option, None, Ok, Err, is_some, Error, Mode, Beginning, Call, Reply, LoadAnswer, LoadReply}
-use Rattle.pagable_laws.proofs.Words.{Event, EventReply, if_there, is_in, times, updated, held, Seen, IsReference, references_fault, BeginCall, IsDecoded, gone_on, ReadingsAre, reading_at}
-use Rattle.pagable_laws.proofs.Words.{reading_after, LoadSteps, Stays, Happens, MachineState, world_of, IsMachineWhole, FrameFits, Moment, of_load, of_nobody, turn_of, StandTogether, IsOfChance}
+use Rattle.pagable_laws.proofs.Words.{ReadsItsTypes, FramesHeld, slice_get, ◌⊎◌, root_frame, ◌==◌, Option, None, Ok, Err, is_some, Error, Mode, Beginning, Call, Reply, LoadAnswer, LoadReply}
+use Rattle.pagable_laws.proofs.Words.{Bool, Event, EventReply, if_there, is_in, updated, held, Seen, IsReference, references_fault, BeginCall, IsDecoded, gone_on, ReadingsAre, reading_at}
+use Rattle.pagable_laws.proofs.Words.{reading_after, LoadSteps, Stays, Happens, MachineState, world_of, IsMachineWhole, Moment, of_load, of_nobody, turn_of, StandTogether, IsOfChance}
 use Rattle.pagable_laws.proofs.{Words.{IsLoadOfPagedOut, LoadIsSound, IsBeginOf, HasBegun, SoundLaw}, Outlasting.{Stands, low-changed, stands-alike, NotValues, stands-whole, stands-fell, new-handle}}
-use Rattle.pagable_laws.proofs.{Outlasting.{low-whole, Has, has-alike}, Apart.{AreApart, fine, reads-once}, Fitting.{AllGot, all-new, all-more, first-fits, GotAt, GotLast, got-before}}
+use Rattle.pagable_laws.proofs.{Outlasting.{low-whole, Has, has-alike}, Apart.{AreApart, fine, reads-once}, Fitting.{AllGot, all-new, all-more, first-fits, pushed}}
 use Rattle.pagable_laws.proofs.{Goes.found-number, ReadingSteps.{cached-rows, reading-stands, reading-number, reading-open}, Effects.{with-one, moved-free, named-among}, Decoding.decodes}
 use Rattle.pagable_laws.proofs.{GoodReferences.good, Trees.same_some, Coming.updated-at, Chains.{IsGoingOn, idle-goes}, Taking.{row-held, Going, going-of}, ReadingStepsGive.got-typed, Sound.by-chance}
 use Rattle.{pagable_laws.proofs.{Sound.{by-references, by-handle, IsForm, load-cause}, Deeply.along-with}, std.proofs.lemmas.Bool.false_from_ne_true, pagable_world.specs.Loads.Does}
@@ -15,41 +15,30 @@ use Rattle.{pagable_laws.proofs.{Sound.{by-references, by-handle, IsForm, load-c
 -- ---- each handle once
 
 -- each handle was got in one place
-pub record GotOnce (frames : List Frame) : Type 0 where
-  pub once : (i j k l : ℕ) (r q : ArcRef) → GotAt frames i j r → GotAt frames k l q → r.handle.0 ≡ q.handle.0 → (i ≡ k) × (j ≡ l)
+abbrev GotOnce : List Frame → Type 0
+GotOnce [] = Unit {0}
+GotOnce (frame ∷ below) = AreApart frame.got × ((r : ArcRef) → Among frame.got r → AllGot (λ q. q.handle.0 ≡ r.handle.0 → ⊥) below) × GotOnce below
 
-abbrev pub AllBelow : ℕ → List Frame → Type 0
-AllBelow n frames = (frame : Frame) (r : ArcRef) → Among frames frame → Among frame.got r → r.handle.0 < n
+abbrev AllBelow : ℕ → List Frame → Type 0
+AllBelow n frames = AllGot (λ r. r.handle.0 < n) frames
 
-in-rest : (frame : Frame) (frames : List Frame) (i j : ℕ) (r : ArcRef) → GotAt frames i j r → GotAt (frame ∷ frames) (suc i) j r
-in-rest frame frames i j r g = record { frame = g.frame; at = g.at; there = g.there }
+once-new : (frame : Frame) (frames : List Frame) → frame.got ≡ [] → GotOnce frames → GotOnce (frame ∷ frames)
+once-new frame frames none o = rw none (λ j l r q at. absurd (cc), λ r (j, at). absurd (cc), o)
 
-none-new : {frame : Frame} {frames : List Frame} {j : ℕ} {r : ArcRef} → frame.got ≡ [] → GotAt (frame ∷ frames) 0 j r → ⊥
-none-new {frame} {j = j} {r} none g =
-    let same : frame ≡ g.frame = let e = g.at in cc in
-    let e = subst (λ rs. slice_get rs j ≡ Some r) (ap (λ (f : Frame). f.got) (sym same) ∙ none) g.there in cc
-
-pub once-new : (frame : Frame) (frames : List Frame) → frame.got ≡ [] → GotOnce frames → GotOnce (frame ∷ frames)
-once-new frame frames none o = record { once = by }
-  where
-    by : (i j k l : ℕ) (r q : ArcRef) → GotAt (frame ∷ frames) i j r → GotAt (frame ∷ frames) k l q → r.handle.0 ≡ q.handle.0 → (i ≡ k) × (j ≡ l)
-    by (suc i) j (suc k) l r q a b same = let e = o.once i j k l r q (record { frame = a.frame; at = a.at; there = a.there }) (record { frame = b.frame; at = b.at; there = b.there }) same in
-        (ap suc e.0, e.1)
-    by zero j k l r q a b same = absurd (none-new none a)
-    by i j zero l r q a b same = absurd (none-new none b)
-
-pub once-got : (frames : List Frame) (kind : Kind) (row : HandleRow) → AllBelow row.number.0 frames → GotOnce frames → GotOnce (with_got kind row frames)
+once-got : (frames : List Frame) (kind : Kind) (row : HandleRow) → AllBelow row.number.0 frames → GotOnce frames → GotOnce (with_got kind row frames)
 once-got [] kind row small o = o
-once-got (top ∷ below) kind row small o = record { once = λ i j k l r q a b same. by i j k l r q same (got-before top below kind row i j r a) (got-before top below kind row k l q b) }
-  where
-    old-isnt : (i j k l : ℕ) (r q : ArcRef) → r.handle.0 ≡ q.handle.0 → GotAt (top ∷ below) i j r → GotLast top kind row k l q → ⊥
-    old-isnt i j k l r q same a (first, at, is) = let lt = small a.frame r (i, a.at) (j, a.there) in let e = ap (λ (g : ArcRef). g.handle.0) is in omega (arith, lt, e, same)
-
-    by : (i j k l : ℕ) (r q : ArcRef) → r.handle.0 ≡ q.handle.0 → GotAt (top ∷ below) i j r ⊎ GotLast top kind row i j r → GotAt (top ∷ below) k l q ⊎ GotLast top kind row k l q → (i ≡ k) × (j ≡ l)
-    by i j k l r q same (inl a) (inl b) = o.once i j k l r q a b same
-    by i j k l r q same (inl a) (inr b) = absurd (old-isnt i j k l r q same a b)
-    by i j k l r q same (inr a) (inl b) = absurd (old-isnt k l i j q r (sym same) b a)
-    by i j k l r q same (inr a) (inr b) = (a.0 ∙ sym b.0, a.1 ∙ sym b.1)
+once-got (top ∷ below) kind row small o =
+    let new : ArcRef = record { kind = kind; node = row.node; handle = row.number } in
+    -- one of the old ones isn't the new one
+    let old-isnt : (frame : Frame) (r q : ArcRef) → Among (top ∷ below) frame → Among frame.got r → new ≡ q → r.handle.0 ≡ q.handle.0 → ⊥ = λ frame r q among got is same.
+    let lt = small frame r among got in let e = ap (λ (g : ArcRef). g.handle.0) is in omega (arith, lt, e, same) in (
+      λ j l r q at there same. elim (pushed top.got new j r at) [
+        | inl a ↦ elim (pushed top.got new l q there) [ inl b ↦ o.0 j l r q a b same | inr b ↦ absurd (old-isnt top r q (zero, refl) (j, a) b.1 same) ]
+        | inr a ↦ elim (pushed top.got new l q there) [ inl b ↦ absurd (old-isnt top q r (zero, refl) (l, b) a.1 (sym same)) | inr b ↦ a.0 ∙ sym b.0 ]
+      ],
+      λ r (j, at) frame q (i, is) got same. elim (pushed top.got new j r at) [ inl a ↦ o.1 r (j, a) frame q (i, is) got same | inr a ↦ old-isnt frame q r (suc i, is) got a.1 same ],
+      o.2,
+    )
 
 -- ---- rows
 
@@ -103,117 +92,95 @@ module _ {N : Type 0} (v : Values N) (lawful : IsLawful v) (readable : ReadsItsT
   abbrev l : LoadNumber
   l = reading.load
 
-  -- what stands of a handle goes on to stand
-  abbrev Keeps : ℕ → Type 0
-  Keeps q = (row : HandleRow) → NotValues row.owner → Stands w.last.handle w.rows q row → Stands w'.last.handle w'.rows q row
+  -- what stands of a handle that isn't named goes on to stand
+  abbrev Keeps : (ℕ → Bool) → Type 0
+  Keeps named = (q : ℕ) (row : HandleRow) → named q ≡ false → NotValues row.owner → Stands w.last.handle w.rows q row → Stands w'.last.handle w'.rows q row
 
-  abbrev CallersKept : Type 0
-  CallersKept = (h : HandleNumber) → Has w Owner.Caller h → Keeps h.0
+  has-on : (named : ℕ → Bool) → Keeps named → (owner : Owner) → NotValues owner → (h : HandleNumber) → named h.0 ≡ false → Has w owner h → Has w' owner h
+  has-on named keeps owner own h free has =
+      let s = keeps h.0 has.row free (subst NotValues (sym has.own) own) (stands-whole whole h.0 has.row has.live) in record { row = has.row; live = s.live; own = has.own }
 
-  abbrev LivesKept : List Frame → Type 0
-  LivesKept fs = AllGot (λ r. Keeps r.handle.0) fs
-
-  has-on : (owner : Owner) → NotValues owner → (h : HandleNumber) → Keeps h.0 → Has w owner h → Has w' owner h
-  has-on owner free h keeps has = let s = keeps has.row (subst NotValues (sym has.own) free) (stands-whole whole h.0 has.row has.live) in record { row = has.row; live = s.live; own = has.own }
-
-  begun-on : CallersKept → (node : NodeNumber) (t : ℕ) (h : HandleNumber) → load.root ≡ of_cell node t h → Has w' Owner.Caller h
-  begun-on kept node t h root = let has = ready.begun node t h root in has-on Owner.Caller (λ n is. absurd (cc)) h (kept h has) has
-
-  abbrev Live : Core → List Frame → Type 0
-  Live u fs = AllGot (λ r. Has u (Owner.Load l) r.handle) fs
-
-  live-on : (fs : List Frame) → LivesKept fs → Live w fs → Live w' fs
-  live-on fs kept live frame r among got = has-on (Owner.Load l) (λ n is. absurd (cc)) r.handle (kept frame r among got) (live frame r among got)
+  -- what these frames have got, and the handle that began the load, stay
+  still-ready : (named : ℕ → Bool) → Keeps named → (fs : List Frame) → ((h : HandleNumber) → Has w Owner.Caller h → named h.0 ≡ false) → AllGot (λ r. named r.handle.0 ≡ false) fs
+      → AllGot (λ r. Has w (Owner.Load l) r.handle) fs → GotOnce fs → LoadReady w' l load fs
+  still-ready named keeps fs callers frees live once = record {
+    begun = λ node t h root. let has = ready.begun node t h root in has-on named keeps Owner.Caller (λ n is. absurd (cc)) h (callers h has) has;
+    live = λ frame r among got. has-on named keeps (Owner.Load l) (λ n is. absurd (cc)) r.handle (frees frame r among got) (live frame r among got);
+    once = once;
+  }
 
   small : AllBelow (w.last.handle + 1) reading.frames
   small frame r among got = let g = (held frame r among got).given in omega (arith, g)
 
   -- a handle was got
   got-ready : (fs : List Frame) (kind : Kind) (row : HandleRow) (k : HandleNumber) (new : HandleRow) → row_at w' k ≡ Some row → k.0 ≡ w.last.handle + 1
-      → Stands w'.last.handle w'.rows (w.last.handle + 1) new → new.owner ≡ Owner.Load l
-      → LivesKept fs → CallersKept → Live w fs → GotOnce fs → AllBelow (w.last.handle + 1) fs → LoadReady w' l load (with_got kind row fs)
-  got-ready fs kind row k new made next s own kept callers live once below =
+      → Stands w'.last.handle w'.rows (w.last.handle + 1) new → new.owner ≡ Owner.Load l → AllBelow (w.last.handle + 1) fs → LoadReady w' l load fs → LoadReady w' l load (with_got kind row fs)
+  got-ready fs kind row k new made next s own below still =
       let same : row ≡ new = same_some _ _ (sym made ∙ ap (λ n. find_row n w'.rows) next ∙ s.live) in
       let number = found-number k.0 w'.rows row made in
       let there : row_at w' row.number ≡ Some row = ap (λ n. find_row n w'.rows) number ∙ made in
       let owned : row.owner ≡ Owner.Load l = ap (λ (x : HandleRow). x.owner) same ∙ own in
-      let once' = once-got fs kind row (λ frame r among got. let lt = below frame r among got in omega (arith, lt, number, next)) once in
-      search (begun-on callers, all-more (λ r. Has w' (Owner.Load l) r.handle) fs kind row (record { row = row; live = there; own = owned }) (live-on fs kept live), once')
+      record {
+        begun = still.begun;
+        live = all-more (λ r. Has w' (Owner.Load l) r.handle) fs kind row (record { row = row; live = there; own = owned }) still.live;
+        once = once-got fs kind row (λ frame r among got. let lt = below frame r among got in omega (arith, lt, number, next)) still.once;
+      }
+
+  -- where no handle is given up
+  all-ready : Keeps (λ q. false) → LoadReady w' l load reading.frames
+  all-ready keeps = still-ready (λ q. false) keeps reading.frames (λ h has. refl) (λ frame r among got. refl) ready.live ready.once
 
   known-ready : (kind : Kind) (key : ℕ) (k : HandleNumber) (row : HandleRow) → GetsKnown w l kind key k w' → row_at w' k ≡ Some row → LoadReady w' l load (with_got kind row reading.frames)
   known-ready kind key k row c made =
       let new = stands-alike c.leaves (new-handle w (record { 0 = c.n }) (mode_of kind.0) (Owner.Load l) (low-whole whole)) in
-      got-ready reading.frames kind row k _ made c.next.above new refl (λ frame r among got x free s. known-keeps w w' c s)
-      (λ h has y free s. known-keeps w w' c s) ready.live ready.once small
+      got-ready reading.frames kind row k _ made c.next.above new refl small (all-ready (λ q x free own s. known-keeps w w' c s))
 
   lazy-ready : (frames : List Frame) (g : GetsLazy v.types w Owner.Caller reading frames w') → LoadReady w' l load (with_got g.kind g.row reading.frames)
   unfolding is_named_by
   lazy-ready frames g = elim g.asked.makes.3 [
     | inl c ↦ known-ready g.kind g.key g.k g.row c g.made
     | inr (none, few, next, a) ↦
-        got-ready reading.frames g.kind g.row g.k _ g.made next.above (adopted-new w w' l g.kind g.key (OptionalDataKey.Some g.key) [] whole a) refl
-        (λ frame r among got x free s. adopted-keeps w w' l g.kind g.key (OptionalDataKey.Some g.key) [] a refl s)
-        (λ h has y free s. adopted-keeps w w' l g.kind g.key (OptionalDataKey.Some g.key) [] a refl s)
-        ready.live ready.once small
+        got-ready reading.frames g.kind g.row g.k _ g.made next.above (adopted-new w w' l g.kind g.key (OptionalDataKey.Some g.key) [] whole a) refl small
+        (all-ready (λ q x free own s. adopted-keeps w w' l g.kind g.key (OptionalDataKey.Some g.key) [] a refl s))
   ]
 
   -- what was read became a node: its references go, and what was got for the blobs below stays
   node-ready : (frames : List Frame) (g : MakesNode v w Owner.Caller reading frames w') → LoadReady w' l load (with_got g.reads_node.top.kind g.row g.reads_node.below)
-  node-ready frames g = elim c.makes [
-    | inl (n, usable, f) ↦ by _ (stands-fell f.falls (λ m e. cc) new-free (new-handle w (record { 0 = n }) (mode_of top.kind.0) (Owner.Load l) (low-whole whole))) refl
-        (λ q free x no s. stands-fell f.falls no free (with-one w (record { 0 = n }) (mode_of top.kind.0) (Owner.Load l) s))
-    | inr (none, few, a) ↦ by _ (adopted-new w w' l top.kind top.key _ (v.references g.x) whole a) refl
-        (λ q free x no s. adopted-keeps w w' l top.kind top.key _ (v.references g.x) a free s)
-  ]
-    where
-      open g use {reads_node as reads}
-      open reads use {top, below, frames as is}
-      open g.adopted use {adopts as c}
-
-      was_got : (r : ArcRef) → Among (v.references g.x) r → Among top.got r
-      was_got =
-          let here = subst (λ fs. FramesFit v.types w.stored trees root_key root_type fs) is fit in
-          (decodes lawful readable top g.x (first-fits v.types root_key root_type w.stored trees top below here) reads.decoded).got
-
-      now : LoadReady w l load (top ∷ below)
-      now = subst (λ fs. LoadReady w l load fs) is ready
-
-      small_all : AllBelow (w.last.handle + 1) (top ∷ below)
-      small_all = subst (λ fs. AllBelow (w.last.handle + 1) fs) is small
-
-      got-twice : (frame : Frame) (r g : ArcRef) → Among below frame → Among frame.got r → Among top.got g → g.handle.0 ≡ r.handle.0 → ⊥
-      got-twice frame r g (i, is) (j, at) (k, there) same =
-          let e = (now.once.once (suc i) j 0 k r g (record { frame = frame; at = is; there = at }) (record { frame = top; at = refl; there = there }) (sym same)).0 in cc
-
-      caller-free : (h : HandleNumber) → Has w Owner.Caller h → is_named_by (v.references g.x) h.0 ≡ false
-      caller-free h has = not-named (v.references g.x) h.0 (λ x named same.
-          let a = good w (Owner.Load l) [] (v.references g.x) c.good x named in
-          let same_row : a.row ≡ has.row = same_some _ _ (sym a.live ∙ ap (λ n. find_row n w.rows) same ∙ has.live) in
-          let e : Owner.Load l ≡ Owner.Caller = sym a.owned ∙ ap (λ (y : HandleRow). y.owner) same_row ∙ has.own in cc)
-
-      below-once : GotOnce below
-      below-once = record { once = λ i j k n r q a b same. let e = now.once.once (suc i) j (suc k) n r q (in-rest top below i j r a) (in-rest top below k n q b) same in let f = e.0 in (cc, e.1) }
-
+  node-ready frames g =
+      let top = g.reads_node.top in
+      let below = g.reads_node.below in
+      let is = g.reads_node.frames in
+      let c = g.adopted.adopts in
+      let refs = v.references g.x in
+      let here = subst (λ fs. FramesFit v.types w.stored trees root_key root_type fs) is fit in
+      let was_got = (decodes lawful readable top g.x (first-fits v.types root_key root_type w.stored trees top below here) g.reads_node.decoded).got in
+      let now = subst (λ fs. LoadReady w l load fs) is ready in
+      let small_all = subst (λ fs. AllBelow (w.last.handle + 1) fs) is small in
+      let caller-free : (h : HandleNumber) → Has w Owner.Caller h → is_named_by refs h.0 ≡ false = λ h has. not-named refs h.0 (λ x named same.
+      let a = good w (Owner.Load l) [] refs c.good x named in
+      let same_row : a.row ≡ has.row = same_some _ _ (sym a.live ∙ ap (λ n. find_row n w.rows) same ∙ has.live) in
+      let e : Owner.Load l ≡ Owner.Caller = sym a.owned ∙ ap (λ (y : HandleRow). y.owner) same_row ∙ has.own in cc) in
       -- no reference names the handle that comes
-      new-free : is_named_by (v.references g.x) (w.last.handle + 1) ≡ false
-      new-free = not-named (v.references g.x) (w.last.handle + 1) (λ x named same. let lt = small_all top x (zero, refl) (was_got x named) in omega (arith, lt, same))
-
-      by : (new : HandleRow) → Stands w'.last.handle w'.rows (w.last.handle + 1) new → new.owner ≡ Owner.Load l → ((q : ℕ) → is_named_by (v.references g.x) q ≡ false → Keeps q)
-          → LoadReady w' l load (with_got top.kind g.row below)
-      by new s own keeps = got-ready below top.kind g.row g.k new g.made c.next.above s own (λ frame r among got. keeps r.handle.0
-          (not-named (v.references g.x) r.handle.0 (λ x named same. got-twice frame r x among got (was_got x named) same)))
-          (λ h has. keeps h.0 (caller-free h has)) (λ frame r (i, e) got. now.live frame r (suc i, e) got)
-          below-once (λ frame r (i, e) got. small_all frame r (suc i, e) got)
+      let new-free : is_named_by refs (w.last.handle + 1) ≡ false = not-named refs (w.last.handle + 1)
+      (λ x named same. let lt = small_all top x (zero, refl) (was_got x named) in omega (arith, lt, same)) in
+      let by : (new : HandleRow) → Stands w'.last.handle w'.rows (w.last.handle + 1) new → new.owner ≡ Owner.Load l → Keeps (is_named_by refs) → LoadReady w' l load (with_got top.kind g.row below) =
+      λ new s own keeps. got-ready below top.kind g.row g.k new g.made c.next.above s own (λ frame r (i, e) got. small_all frame r (suc i, e) got)
+      (still-ready (is_named_by refs) keeps below caller-free
+      (λ frame r among got. not-named refs r.handle.0 (λ x named same. now.once.1 x (was_got x named) frame r among got (sym same)))
+      (λ frame r (i, e) got. now.live frame r (suc i, e) got) now.once.2) in
+      elim c.makes [
+        | inl (n, usable, f) ↦ by _ (stands-fell f.falls (λ m e. cc) new-free (new-handle w (record { 0 = n }) (mode_of top.kind.0) (Owner.Load l) (low-whole whole))) refl
+            (λ q x free no s. stands-fell f.falls no free (with-one w (record { 0 = n }) (mode_of top.kind.0) (Owner.Load l) s))
+        | inr (none, few, a) ↦ by _ (adopted-new w w' l top.kind top.key _ refs whole a) refl (λ q x free no s. adopted-keeps w w' l top.kind top.key _ refs a free s)
+      ]
 
   -- ---- all steps
 
   -- a blob was read
   asked-ready : Asked w w' → (frame : Frame) → frame.got ≡ [] → LoadReady w' l load (frame ∷ reading.frames)
-  asked-ready a frame none = record {
-    begun = begun-on (λ h has row free s. asked-keeps w w' a s);
-    live = all-new (λ r. Has w' (Owner.Load l) r.handle) frame reading.frames none (live-on reading.frames (λ f r among got row free s. asked-keeps w w' a s) ready.live);
-    once = once-new frame reading.frames none ready.once;
-  }
+  asked-ready a frame none =
+      let still = all-ready (λ q row free own s. asked-keeps w w' a s) in
+      search (still.begun, all-new (λ r. Has w' (Owner.Load l) r.handle) frame reading.frames none still.live, once-new frame reading.frames none still.once)
 
   pub goes-ready : (frames : List Frame) → GoesOn v w Owner.Caller reading frames w' → LoadReady w' l load frames
   goes-ready frames (inl g) =
@@ -246,17 +213,6 @@ module _ {N B W E : Type 0} (m : Seen N B W) (s s' : MachineState N E) (whole : 
   abbrev w' : Core
   w' = s'.pager.core
 
-  -- a load of a number that wasn't given yet isn't read
-  unread : (l : LoadNumber) (reading : Reading) → w.last.load < l.0 → s.work.readings l.0 ≡ Some reading → ⊥
-  unread l reading above is =
-      let r = whole.readings l.0 reading is in
-      let few = (whole.pager.whole.loads.numbered l.0 (ap is_some r.open_load)).1 in
-      omega (arith, above, few)
-
-  nothing-ready : (l : LoadNumber) (load : OpenLoad) (frames : List Frame) → frames ≡ []
-      → ((node : NodeNumber) (t : ℕ) (h : HandleNumber) → load.root ≡ of_cell node t h → Has w' Owner.Caller h) → LoadReady w' l load frames
-  nothing-ready l load frames none begun = grind (arith, nat_tests, slice_get)
-
   -- what has just begun has read nothing
   begun-empty : (l : LoadNumber) (reading : Reading) (readings : ℕ → Option Reading) → ReadingsAre readings (world_of s') → ((r : Reading) → readings l.0 ≡ Some r → r.frames ≡ [])
       → reading_at (world_of s') l ≡ Some reading → reading.frames ≡ []
@@ -271,10 +227,15 @@ module _ {N B W E : Type 0} (m : Seen N B W) (s s' : MachineState N E) (whole : 
       let there : w'.loads l.0 ≡ Some (record { owner = Owner.Caller; key = key; root = of_cell row.node g.2.4.0 h }) = grind (arith, nat_tests, updated-at) in
       let is : record { owner = Owner.Caller; key = key; root = of_cell row.node g.2.4.0 h } ≡ load = same_some _ _ (sym there ∙ open_load) in
       let st = stands-alike a (with-one w row.node Mode.LooseUnpinned (Owner.Load k) (stands-whole whole.pager.whole.handles h.0 row g.1.live)) in
-      nothing-ready l load reading.frames (begun-empty l reading s.work.readings are (λ r e. absurd (unread l r (omega (arith, same, next)) e)) at)
-      (λ node t q root.
-      let hs : h ≡ q = cc in
-      record { row = row; live = subst (λ (x : HandleNumber). row_at w' x ≡ Some row) hs st.live; own = g.1.own })
+      -- a load of a number that wasn't given yet isn't read
+      let unread : (r : Reading) → s.work.readings l.0 ≡ Some r → r.frames ≡ [] = λ r e.
+      let few = (whole.pager.whole.loads.numbered l.0 (ap is_some (whole.readings l.0 r e).open_load)).1 in absurd (omega (arith, same, next, few)) in
+      rw (begun-empty l reading s.work.readings are unread at) (record {
+        begun = λ node t q root.
+            let hs : h ≡ q = cc in record { row = row; live = subst (λ (x : HandleNumber). row_at w' x ≡ Some row) hs st.live; own = g.1.own };
+        live = λ frame r among got. absurd (let e = among.1 in cc);
+        once = tt;
+      })
 
   begin-ready : (l : LoadNumber) (event : Event N B W) (reply : EventReply N B W) → IsBeginOf l.0 event reply → Happens m (world_of s) event reply (world_of s') → Ready s' l
   begin-ready l (Event.LoadStart h) (EventReply.Started (Ok (Beginning.Load k key))) is x = by-call h k l key x.step x.readings is
@@ -305,23 +266,15 @@ module _ {N B W E : Type 0} (m : Seen N B W) (lawful : IsLawful m.values) (reada
   step-ready : (l : LoadNumber) (reply : LoadReply N) → LoadSteps m.values (world_of s) l reply (world_of s') → Ready s l → Ready s' l
   step-ready l reply x ready reading load at open_load = by reply.ended refl
     where
-      number : x.reading.load ≡ l
-      number = reading-number s on.whole l x.reading x.at
-
-      open_load' : core.loads l.0 ≡ Some load
-      open_load' = was-open l reply x load open_load
-
-      a : Going m.values s.pager trees x.reading
-      a = is-at l x.reading x.at
-
-      before : LoadReady core x.reading.load load x.reading.frames
-      before = subst (λ k. LoadReady core k load x.reading.frames) (sym number) (ready x.reading load x.at open_load')
-
       by : (answer : Option (LoadAnswer N)) → reply.ended ≡ answer → LoadReady s'.pager.core l load reading.frames
-      by (Some end) e = grind (arith, nat_tests, closes, number)
+      by (Some end) e = grind (arith, nat_tests, closes, reading-number s on.whole l x.reading x.at)
       by None e =
+          let number = reading-number s on.whole l x.reading x.at in
+          let was = was-open l reply x load open_load in
+          let a = is-at l x.reading x.at in
+          let before = subst (λ k. LoadReady core k load x.reading.frames) (sym number) (ready x.reading load x.at was) in
           let go = subst (λ o. Does m.values core Owner.Caller x.reading o x.frames s'.pager.core) e x.does.does in
-          let fits = a.fits load (reading-open s on.whole l x.reading x.at open_load') in
+          let fits = a.fits load (reading-open s on.whole l x.reading x.at was) in
           let after = goes-ready m.values lawful readable core s'.pager.core x.reading load trees load.key x.reading.node_type on.whole.pager.whole.handles before a.held fits x.frames go in
           let now : s'.work.readings l.0 ≡ Some (gone_on x.reading x.frames) =
           x.readings l.0 ∙ ap (λ (o : Option OpenLoad). if_there (λ (z : OpenLoad). updated l.0 (reading_after reply.ended x.reading x.frames) s.work.readings l.0) None o) open_load
@@ -349,33 +302,20 @@ module _ {N B W E : Type 0} (m : Seen N B W) (lawful : IsLawful m.values) (reada
       → (decoded : IsDecoded m.values frame x) → IsForm m.values frame → references_fault core (Owner.Load reading.load) [] (m.values.references x) ≡ None
   unfolding is_in
   references-fine l reading load at open_load ready frame below x is decoded form =
-      fine core (Owner.Load reading.load) [] (m.values.references x) good-one (λ r among. refl) once
-    where
-      a : Going m.values s.pager trees reading
-      a = is-at l reading at
-
-      fits : FrameFits m.values.types core.stored trees frame
-      fits = first-fits m.values.types load.key reading.node_type core.stored trees frame below
-          (subst (λ fs. FramesFit m.values.types core.stored trees load.key reading.node_type fs) is (a.fits load (reading-open s on.whole l reading at open_load)))
-
-      front : Among reading.frames frame
-      front = subst (λ fs. Among fs frame) (sym is) (zero, refl)
-
-      good-one : (r : ArcRef) → Among (m.values.references x) r → IsReference core (Owner.Load reading.load) r
-      good-one r among =
-          let got = (decodes lawful readable frame x fits decoded).got r among in
-          let b = ready.live frame r front got in
-          let own : b.row.owner ≡ Owner.Load reading.load = b.own ∙ ap (λ (k : LoadNumber). Owner.Load k) (sym (reading-number s on.whole l reading at)) in
-          let stood = (a.held frame r front got).is b.row b.live own in
-          let live = subst (λ (n : NodeNumber). 0 < held n.0 core.rows) stood.0 (row-held core r.handle b.row b.live) in
-          record { row = b.row; live = b.live; at = stood.0; owned = own; fits = stood.1; typed = on.stands.pager.typed r.node.0 live ∙ ap (λ (n : ℕ). Some n) (got-typed frame fits r got) }
-
-      once : (q : ℕ) → times (λ (r : ArcRef). r.handle.0 == q) (m.values.references x) ≤ 1
-      once q =
-          let few = reads-once m.values.types frame.node_type frame.blob form.refs frame.got form.form form.kinds
-          (λ i j r q at there same. ((subst GotOnce is ready.once).once 0 i 0 j r q (record { frame = frame; at = refl; there = at })
-          (record { frame = frame; at = refl; there = there }) same).1) decoded.own decoded.read q in
-          omega (arith, lawful.refers x decoded.own decoded.means (λ r. r.handle.0 == q), few)
+      let a = is-at l reading at in
+      let fits = first-fits m.values.types load.key reading.node_type core.stored trees frame below
+      (subst (λ fs. FramesFit m.values.types core.stored trees load.key reading.node_type fs) is (a.fits load (reading-open s on.whole l reading at open_load))) in
+      let front : Among reading.frames frame = subst (λ fs. Among fs frame) (sym is) (zero, refl) in
+      let good-one : (r : ArcRef) → Among (m.values.references x) r → IsReference core (Owner.Load reading.load) r = λ r among.
+      let got = (decodes lawful readable frame x fits decoded).got r among in
+      let b = ready.live frame r front got in
+      let own : b.row.owner ≡ Owner.Load reading.load = b.own ∙ ap (λ (k : LoadNumber). Owner.Load k) (sym (reading-number s on.whole l reading at)) in
+      let stood = (a.held frame r front got).is b.row b.live own in
+      let live = subst (λ (n : NodeNumber). 0 < held n.0 core.rows) stood.0 (row-held core r.handle b.row b.live) in
+      record { row = b.row; live = b.live; at = stood.0; owned = own; fits = stood.1; typed = on.stands.pager.typed r.node.0 live ∙ ap (λ (n : ℕ). Some n) (got-typed frame fits r got) } in
+      fine core (Owner.Load reading.load) [] (m.values.references x) good-one (λ r among. refl) (λ q.
+      let few = reads-once m.values.types frame.node_type frame.blob form.refs frame.got form.form form.kinds (subst GotOnce is ready.once).0 decoded.own decoded.read q in
+      omega (arith, lawful.refers x decoded.own decoded.means (λ r. r.handle.0 == q), few))
 
   sound : (l : LoadNumber) (reply : LoadReply N) → LoadSteps m.values (world_of s) l reply (world_of s') → Ready s l → (load : OpenLoad) (e : Error)
       → core.loads l.0 ≡ Some load → IsLoadOfPagedOut s load

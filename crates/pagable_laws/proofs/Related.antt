@@ -1,7 +1,7 @@
 -- Reading does the same whatever stands for references: two readers over related inputs give related meanings. And readers of which a fault stays whatever follows, what is
 -- read of a front is read of the whole, and what was used reads alone.
-use Rattle.pagable_laws.proofs.Words.{nat_tests, ◌≡◌, ℕ, zero, suc, ◌+◌, ◌-◌, ◌*◌, ◌/◌, ◌%◌, ◌^◌, Bool, true, List, [], ◌∷◌, ◌++◌, length, take, Result, Ok, Err, ◌⊎◌, if◌then◌else◌, inl, inr, refl}
-use Rattle.pagable_laws.proofs.Words.{sym, arith, append_assoc, cases_lt, le-ltb, lt-ltb, length-append, take-append-drop, length-take-le, nat_le, nat_lt, Error, ◌>>=◌, Read, byte_at, varint_at}
+use Rattle.pagable_laws.proofs.Words.{◌==◌, nat_tests, ◌≡◌, ℕ, zero, suc, ◌+◌, ◌-◌, ◌*◌, ◌/◌, ◌%◌, ◌^◌, Bool, true, List, [], ◌∷◌, ◌++◌, length, take, Result, Ok, Err, ◌⊎◌, if◌then◌else◌, inl, inr}
+use Rattle.pagable_laws.proofs.Words.{refl, sym, arith, append_assoc, cases_lt, le-ltb, lt-ltb, length-append, take-append-drop, length-take-le, nat_le, nat_lt, Error, ◌>>=◌, Read, byte_at, varint_at}
 use Rattle.pagable_laws.proofs.Words.{unsigned_at, signed_from, signed_at, longest, length_at, bytes_at, text_at, bool_at, one_char, char_at, carried, duration_at, nanos_of_second, Some, None, subst}
 use Rattle.pagable_laws.proofs.Words.{Meaning, none, variant, sequence, entry, absent, present, success, failure, lifted, Entry, KeyOrder, code_order, text_order, put_all, put_sorted, put_placed}
 use Rattle.pagable_laws.proofs.Words.{put_sorted_item, put_placed_item, of_entries, of_tagged, of_hash_map, Shape, nothing, unsigned, signed, flag, letter, duration, json, optional, outcome, list}
@@ -10,9 +10,9 @@ use Rattle.pagable_laws.proofs.Words.{two, choose, items, counted, registered, D
 use Rattle.pagable_laws.proofs.Words.{read_with, below, LiesIn, deepest, read, IsReadable, HasNoReference, Throughout, ap, ◌∙◌, Context, rest, with_more, IsLocal, IsUsed, IsLasting, map, pair}
 use Rattle.pagable_laws.proofs.{Words.{followed, rename, Form, at, IsNatural, IsReadOver, IsRenamed, IsReadThrough, KeepsForms, take_at, drop_at, append-nil}, Along.{Along, number-along}}
 use Rattle.pagable_laws.proofs.Along.{integer-along, text-along, pattern-along, none-along, pair-along, variant-along, reference-along, lifted-along, plain-along, AllTwo, no-two, more-two, EntryAlong}
-use Rattle.pagable_laws.proofs.{Along.{followed-along, form-along}, Again.{Under, here, narrowed, part_of, of_json, of_text}}
-use Rattle.std.{proofs.Common.rules, proofs.lemmas.List.map-id, specs.Int.{Width, w8, w16, w32, w64, w128}, specs.Str.{is_utf8, chars}, specs.List.AllByRecursion}
-use mathlib.Core.Path.{fun_ext}
+use Rattle.pagable_laws.proofs.{Along.{followed-along, form-along}, Again.{Under, here, narrowed, part_of, alone}}
+use Rattle.std.{proofs.Common.rules, proofs.lemmas.{List.map-id, Bool.cases_Bool}, specs.Int.{Width, w8, w32, w64}, specs.Str.{is_utf8, chars}, specs.List.AllByRecursion}
+use Rattle.pagable_model.specs.Numbers.{more_of, last_of}
 use Rattle.pagable_model.specs.Meaning as meanings
 use Rattle.pagable_model.specs.Shape as shapes
 
@@ -64,6 +64,12 @@ module _ {I : Type 0} {plus : I → I → I} {end : I} (joins : Joins plus end) 
     unfolding Comes
     and_then = record { comes = λ i. rw (is i) (grind (arith, nat_tests, after)) }
 
+  -- one whose value is tested, and seen by view
+  pub tested : {A B : Type 0} {get : I → Result (A × I) Error} {whole : I → Result (B × I) Error} (pass : A → Bool) (view : A → B) (e : Error)
+      → ((i : I) → whole i ≡ (get i >>= λ p. if pass p.0 then Ok (view p.0, p.1) else Err e)) → Tame plus get → Tame plus whole
+  tested {B = B} {whole = whole} pass view e is h =
+      and_then (λ v i. if pass v then Ok (view v, i) else Err e) whole is h (λ v. either (pass v) (gives (view v)) (refuses B e))
+
 -- ---- bytes
 
 abbrev pub more_bytes : List ℕ → List ℕ → List ℕ
@@ -92,14 +98,9 @@ bytes_tame n = record {
   ];
 }
 
-last_is : (last : ℕ) (bs : List ℕ) → varint_at zero last bs ≡ (byte_at bs >>= λ p. if nat_le p.0 last then Ok p else Err Error.BadVarint)
-unfolding varint_at
-last_is last x1 = grind (arith, nat_tests)
-
 varint_tame : (more last : ℕ) → TameBytes (varint_at more last)
 unfolding varint_at
-varint_tame zero last = and_then bytes_join (λ b bs. if nat_le b last then Ok (b, bs) else Err Error.BadVarint) _ (last_is last) byte_tame
-    (λ b. either bytes_join (nat_le b last) (gives bytes_join b) (refuses bytes_join ℕ Error.BadVarint))
+varint_tame zero last = tested bytes_join (λ b. nat_le b last) (λ b. b) Error.BadVarint (grind (arith, nat_tests)) byte_tame
 varint_tame (suc more) last =
     and_then bytes_join (λ b bs. if nat_lt b 128 then Ok (b, bs) else (varint_at more last bs >>= λ high. Ok (b - 128 + 128 * high.0, high.1))) _ (grind (arith, nat_tests)) byte_tame
     (λ b. either bytes_join (nat_lt b 128) (gives bytes_join b)
@@ -107,35 +108,24 @@ varint_tame (suc more) last =
 
 pub unsigned_tame : (w : Width) → TameBytes (unsigned_at w)
 unsigned_tame w8 = byte_tame
-unsigned_tame w16 = varint_tame 2 3
-unsigned_tame w32 = varint_tame 4 15
-unsigned_tame w64 = varint_tame 9 1
-unsigned_tame w128 = varint_tame 18 3
+unsigned_tame w = varint_tame (more_of w) (last_of w)
 
 pub signed_tame : (w : Width) → TameBytes (signed_at w)
 signed_tame w = and_then bytes_join (λ n bs. Ok (signed_from w n, bs)) _ (λ bs. refl) (unsigned_tame w) (λ n. gives bytes_join (signed_from w n))
 
-bool_comes : (bs : List ℕ) → Comes more_bytes bool_at bs (bool_at bs)
-unfolding Comes bool_at
-bool_comes [] = inl (inl refl)
-bool_comes (zero ∷ bs) = record { used = 0 ∷ []; whole = refl; reads = λ y. refl }
-bool_comes (suc zero ∷ bs) = record { used = 1 ∷ []; whole = refl; reads = λ y. refl }
-bool_comes (suc (suc n) ∷ bs) = inr (λ x. refl)
-
 pub bool_tame : TameBytes bool_at
-bool_tame = record { comes = bool_comes }
+unfolding bool_at
+bool_tame = tested bytes_join (λ b. nat_le b 1) (λ b. b == 1) Error.BadBool (grind (arith, nat_tests)) byte_tame
 
 pub length_tame : TameBytes length_at
 unfolding length_at
-length_tame = and_then bytes_join (λ n bs. if nat_le n longest then Ok (n, bs) else Err Error.TooLong) _ (λ bs. refl) (unsigned_tame w64)
-    (λ n. either bytes_join (nat_le n longest) (gives bytes_join n) (refuses bytes_join ℕ Error.TooLong))
+length_tame = tested bytes_join (λ n. nat_le n longest) (λ n. n) Error.TooLong (λ bs. refl) (unsigned_tame w64)
 
 pub text_tame : TameBytes text_at
 unfolding text_at
 text_tame =
     and_then bytes_join (λ n bs. bytes_at n bs >>= λ t. if is_utf8 t.0 then Ok t else Err Error.BadUtf8) _ (λ bs. refl) length_tame
-    (λ n. and_then bytes_join (λ t bs. if is_utf8 t then Ok (t, bs) else Err Error.BadUtf8) _ (λ bs. refl) (bytes_tame n)
-    (λ t. either bytes_join (is_utf8 t) (gives bytes_join t) (refuses bytes_join (List ℕ) Error.BadUtf8)))
+    (λ n. tested bytes_join is_utf8 (λ t. t) Error.BadUtf8 (λ bs. refl) (bytes_tame n))
 
 one_tame : (cs : List ℕ) → TameBytes (one_char cs)
 one_tame (c ∷ []) = gives bytes_join c
@@ -149,8 +139,7 @@ pub duration_tame : TameBytes duration_at
 unfolding duration_at
 duration_tame =
     and_then bytes_join (λ s bs. unsigned_at w32 bs >>= λ n. carried s n.0 n.1) _ (λ bs. refl) (unsigned_tame w64)
-    (λ s. and_then bytes_join (λ n bs. carried s n bs) _ (λ bs. refl) (unsigned_tame w32)
-    (λ n. either bytes_join (nat_lt (s + n / nanos_of_second) (2 ^ 64)) (gives bytes_join (s + n / nanos_of_second, n % nanos_of_second)) (refuses bytes_join (ℕ × ℕ) Error.BadDuration)))
+    (λ s. tested bytes_join (λ n. nat_lt (s + n / nanos_of_second) (2 ^ 64)) (λ n. (s + n / nanos_of_second, n % nanos_of_second)) Error.BadDuration (λ bs. refl) (unsigned_tame w32))
 
 -- ---- what is put into maps and sets
 
@@ -214,9 +203,8 @@ module _ {A : Type 0} where
   pub joins : Joins more ended
   joins = record { assoc = λ a b c. rw (append_assoc a.bytes b.bytes c.bytes, append_assoc a.refs b.refs c.refs) refl; start = λ a. refl }
 
-  -- a reader that does the same
-  pub likewise : {X : Type 0} {get get2 : Gets A X} → TameGets get → ((i : Rest A) → get2 i ≡ get i) → TameGets get2
-  likewise h is = subst (λ g. TameGets g) (sym (fun_ext is)) h
+  seen_tame : {X Y U : Type 0} {get : Gets A Y} (view : X → Y → U) → TameGets get → (v : X) → TameGets (λ i. seen (view v) get i)
+  seen_tame view h v = and_then joins (λ y i. Ok (view v y, i)) _ (λ i. refl) h (λ y. gives joins (view v y))
 
 module _ {A X Y : Type 0} (read : List ℕ → Read X) (view : X → Y) (h : TameBytes read) where
   bytes_come : (i : Rest A) (first : Read X) → Comes more_bytes read i.bytes first → Comes more (bytes_of read view) i
@@ -239,9 +227,6 @@ module _ {A B : Type 0} (look : Look A B) where
           → Comes more (λ i. reference_at look kind i.refs i) (rest bytes (a ∷ refs)) (r >>= λ b. let z : Result (Meaning B × Rest A) Error = Ok (meanings.reference b, rest bytes refs) in z)
       by (Ok b) e = record { used = rest [] (a ∷ []); whole = refl; reads = λ y. rw e refl }
       by (Err f) e = inr (λ x. rw e refl)
-
-  reference_tame : (kind : ℕ) → TameGets (λ i. reference_at look kind i.refs i)
-  reference_tame kind = record { comes = λ i. reference_comes kind i.bytes i.refs }
 
 -- as many bytes, and what stands for references as S says
 pub record SameRest {A B : Type 0} (S : A → B → Type 0) (r : Rest A) (q : Rest B) : Type 0 where
@@ -275,22 +260,15 @@ module _ {A B : Type 0} {E : Error → Type 0} {S : A → B → Type 0} where
   refuses_par {X} V e = record { out = λ r q s. both-refused e; tame = refuses joins X e }
 
   -- one after the other
-  module _ {X Y U W : Type 0} {V : X → Y → Type 0} {V2 : U → W → Type 0} {get : Gets A X} {get2 : Gets B Y} (f : X → Gets A U) (g : Y → Gets B W) (whole : Gets A U) (whole2 : Gets B W)
-      (is : (i : Rest A) → whole i ≡ (get i >>= λ p. f p.0 p.1)) (is2 : (i : Rest B) → whole2 i ≡ (get2 i >>= λ p. g p.0 p.1)) (h : Par E S V get get2)
+  module _ {X Y U W : Type 0} {V : X → Y → Type 0} {V2 : U → W → Type 0} {get : Gets A X} {get2 : Gets B Y} (f : X → Gets A U) (g : Y → Gets B W) (h : Par E S V get get2)
       (k : (v : X) (w : Y) → V v w → Par E S V2 (f v) (g w)) (t : (v : X) → TameGets (f v)) where
-    pub then_par : Par E S V2 whole whole2
-    then_par = record { out = λ r q s. rw (is, is2) (bind-out _ _ (h.out r q s) (λ p o v t. (k p.0 o.0 v).out p.1 o.1 t)); tame = and_then joins f whole is h.tame t }
+    pub then_par : Par E S V2 (λ i. get i >>= λ p. f p.0 p.1) (λ i. get2 i >>= λ p. g p.0 p.1)
+    then_par = record { out = λ r q s. bind-out _ _ (h.out r q s) (λ p o v t. (k p.0 o.0 v).out p.1 o.1 t); tame = and_then joins f _ (λ i. refl) h.tame t }
 
   -- one after the other, where both give the same first
-  module _ {X U W : Type 0} {V2 : U → W → Type 0} {get : Gets A X} {get2 : Gets B X} {f : X → Gets A U} {g : X → Gets B W} {whole : Gets A U} {whole2 : Gets B W}
-      (is : (i : Rest A) → whole i ≡ (get i >>= λ p. f p.0 p.1)) (is2 : (i : Rest B) → whole2 i ≡ (get2 i >>= λ p. g p.0 p.1)) (h : Par E S (λ (v w : X). v ≡ w) get get2)
-      (k : (v : X) → Par E S V2 (f v) (g v)) where
-    pub then_same : Par E S V2 whole whole2
-    then_same = then_par f g whole whole2 is is2 h (λ v w e. let P : X → Type 0 = λ z. Par E S V2 (f v) (g z) in subst P e (k v)) (λ v. (k v).tame)
-
-  pub likewise_par : {X Y : Type 0} {V : X → Y → Type 0} {get whole : Gets A X} {get2 whole2 : Gets B Y} → Par E S V get get2 → ((i : Rest A) → whole i ≡ get i)
-      → ((i : Rest B) → whole2 i ≡ get2 i) → Par E S V whole whole2
-  likewise_par h is is2 = record { out = λ r q s. rw (is, is2) (h.out r q s); tame = likewise h.tame is }
+  pub then_same : {X U W : Type 0} {V2 : U → W → Type 0} {get : Gets A X} {get2 : Gets B X} {f : X → Gets A U} {g : X → Gets B W} → Par E S (λ (v w : X). v ≡ w) get get2
+      → ((v : X) → Par E S V2 (f v) (g v)) → Par E S V2 (λ i. get i >>= λ p. f p.0 p.1) (λ i. get2 i >>= λ p. g p.0 p.1)
+  then_same {X} {V2 = V2} {f = f} {g} h k = then_par f g h (λ v w e. let P : X → Type 0 = λ z. Par E S V2 (f v) (g z) in subst P e (k v)) (λ v. (k v).tame)
 
   pub bytes_par : {X Y Z : Type 0} {V : X → Y → Type 0} (read : List ℕ → Read Z) → TameBytes read → (view : Z → X) (view2 : Z → Y) → ((z : Z) → V (view z) (view2 z))
       → Par E S V (bytes_of read view) (bytes_of read view2)
@@ -301,28 +279,25 @@ module _ {A B : Type 0} {E : Error → Type 0} {S : A → B → Type 0} where
 
   pub seen_par : {X Y U W : Type 0} {V : X → Y → Type 0} {V2 : U → W → Type 0} {get : Gets A X} {get2 : Gets B Y} (view : X → U) (view2 : Y → W)
       → ((v : X) (w : Y) → V v w → V2 (view v) (view2 w)) → Par E S V get get2 → Par E S V2 (seen view get) (seen view2 get2)
-  seen_par view view2 k h = then_par (λ v i. Ok (view v, i)) (λ w i. Ok (view2 w, i)) _ _ (λ i. refl) (λ i. refl) h (λ v w r. gives_par (view v) (view2 w) (k v w r)) (λ v. gives joins (view v))
+  seen_par view view2 k h = then_par (λ v i. Ok (view v, i)) (λ w i. Ok (view2 w, i)) h (λ v w r. gives_par (view v) (view2 w) (k v w r)) (λ v. gives joins (view v))
 
   -- what is read first says which of two is read then
   known_par : {X Y Z : Type 0} {V : X → Y → Type 0} (read : List ℕ → Read Z) → TameBytes read → (known : Z → Bool) {get other : Z → Gets A X} {get2 other2 : Z → Gets B Y}
-      {whole : Gets A X} {whole2 : Gets B Y}
-      → ((i : Rest A) → whole i ≡ (bytes_of read (λ z. z) i >>= λ p. choose (known p.0) (get p.0) (other p.0) p.1))
-      → ((i : Rest B) → whole2 i ≡ (bytes_of read (λ z. z) i >>= λ p. choose (known p.0) (get2 p.0) (other2 p.0) p.1))
-      → ((z : Z) → known z ≡ true → Par E S V (get z) (get2 z)) → ((z : Z) → Par E S V (other z) (other2 z)) → Par E S V whole whole2
-  known_par read t known {get} {other} {get2} {other2} is is2 h g =
-      then_same {f = λ z. choose (known z) (get z) (other z)} {g = λ z. choose (known z) (get2 z) (other2 z)} is is2 (bytes_same read t) (λ z. (grind (arith, nat_tests, likewise_par)))
+      → ((z : Z) → known z ≡ true → Par E S V (get z) (get2 z)) → ((z : Z) → Par E S V (other z) (other2 z))
+      → Par E S V (λ i. bytes_of read (λ z. z) i >>= λ p. choose (known p.0) (get p.0) (other p.0) p.1) (λ i. bytes_of read (λ z. z) i >>= λ p. choose (known p.0) (get2 p.0) (other2 p.0) p.1)
+  known_par read t known {get} {other} {get2} {other2} h g =
+      then_same {f = λ z. choose (known z) (get z) (other z)} {g = λ z. choose (known z) (get2 z) (other2 z)} (bytes_same read t)
+      (λ z. elim (cases_Bool (known z)) [ inl e ↦ rw e (h z e) | inr e ↦ rw e (g z) ])
 
   pub items_par : {X Y : Type 0} {V : X → Y → Type 0} {get : Gets A X} {get2 : Gets B Y} → Par E S V get get2 → (n : ℕ) → Par E S (AllTwo V) (items get n) (items get2 n)
   unfolding items
   items_par h zero = gives_par [] [] no-two
   items_par {X} {Y} {V} {get} {get2} h (suc n) =
-      then_par (λ v i. items get n i >>= λ others. Ok (v ∷ others.0, others.1)) (λ w i. items get2 n i >>= λ others. Ok (w ∷ others.0, others.1)) _ _ (λ i. refl) (λ i. refl) h
-      (λ v w r. then_par (λ vs i. Ok (v ∷ vs, i)) (λ ws i. Ok (w ∷ ws, i)) _ _ (λ i. refl) (λ i. refl) (items_par h n)
-      (λ vs ws rs. gives_par (v ∷ vs) (w ∷ ws) (more-two v w vs ws r rs)) (λ vs. gives joins (v ∷ vs)))
-      (λ v. and_then joins (λ others i. Ok (v ∷ others, i)) _ (λ i. refl) (items_par h n).tame (λ others. gives joins (v ∷ others)))
+      let o = items_par h n in
+      then_par (λ v. seen (λ vs. v ∷ vs) (items get n)) (λ w. seen (λ ws. w ∷ ws) (items get2 n)) h (λ v w r. seen_par _ _ (λ vs ws rs. more-two v w vs ws r rs) o) (seen_tame (λ v vs. v ∷ vs) o.tame)
 
   pub counted_par : {X Y : Type 0} {V : X → Y → Type 0} {get : Gets A X} {get2 : Gets B Y} → Par E S V get get2 → Par E S (AllTwo V) (counted get) (counted get2)
-  counted_par h = then_same (λ i. refl) (λ i. refl) (bytes_same length_at length_tame) (λ n. items_par h n)
+  counted_par h = then_same (bytes_same length_at length_tame) (λ n. items_par h n)
 
 -- ---- values
 
@@ -348,26 +323,18 @@ pub data DeeperPar {A B C D : Type 0} (E : Error → Type 0) (F : Type 0) (S : A
   one-deeper : (get : Shape → Gets A (Meaning C)) (get2 : Shape → Gets B (Meaning D)) → ((s : Shape) → Covers F parts s → Par E S (Along F R) (get s) (get2 s))
       → DeeperPar E F S R parts (Some get) (Some get2)
 
-registered-one : {F : Type 0} (registry : List (Meaning ⊥)) → F ⊎ AllByRecursion HasNoReference registry → (i : ℕ) (m : Meaning ⊥) → registered registry i ≡ Ok m → F ⊎ HasNoReference m
-registered-one registry (inl f) i m e = inl f
-registered-one [] (inr h) i m e = cc
-registered-one (x ∷ registry) (inr h) zero m e = let same : x ≡ m = cc in inr (subst HasNoReference same h.0)
-registered-one (x ∷ registry) (inr h) (suc i) m e = registered-one registry (inr h.1) i m e
-
 module _ {A B C D : Type 0} {E : Error → Type 0} {F : Type 0} {S : A → B → Type 0} {R : C → D → Type 0} where
   entry_par : {get : Gets A (Meaning C)} {get2 : Gets B (Meaning D)} {other : Gets A (Meaning C)} {other2 : Gets B (Meaning D)} → Par E S (Along F R) get get2 → Par E S (Along F R) other other2
       → Par E S (EntryAlong F R) (two get other) (two get2 other2)
   entry_par {get} {get2} {other} {other2} h g =
-      then_par (λ v i. other i >>= λ y. Ok ((v, y.0), y.1)) (λ v i. other2 i >>= λ y. Ok ((v, y.0), y.1)) _ _ (λ i. refl) (λ i. refl) h
-      (λ m n r. then_par (λ w i. Ok ((m, w), i)) (λ w i. Ok ((n, w), i)) _ _ (λ i. refl) (λ i. refl) g (λ x y q. gives_par (m, x) (n, y) (record { key = r; value = q }))
-      (λ w. gives joins (m, w)))
-      (λ v. and_then joins (λ w i. Ok ((v, w), i)) _ (λ i. refl) g.tame (λ w. gives joins (v, w)))
+      then_par (λ v. seen (λ y. (v, y)) other) (λ v. seen (λ y. (v, y)) other2) h (λ m n r. seen_par _ _ (λ x y q. record { key = r; value = q }) g) (seen_tame (λ v y. (v, y)) g.tame)
 
-  registered_par : (registry : List (Meaning ⊥)) → F ⊎ AllByRecursion HasNoReference registry → (n : ℕ) (c : Result (Meaning ⊥) Error) → registered registry n ≡ c
-      → Par E S (Along F R) (λ (i : Rest A). c >>= λ m. let z : Result (Meaning C × Rest A) Error = Ok (lifted m, i) in z)
-      (λ (i : Rest B). c >>= λ m. let z : Result (Meaning D × Rest B) Error = Ok (lifted m, i) in z)
-  registered_par registry h n (Ok m) e = gives_par (lifted m) (lifted m) (lifted-along m (registered-one registry h n m e))
-  registered_par registry h n (Err f) e = refuses_par (Along F R) f
+  registered_par : (registry : List (Meaning ⊥)) → F ⊎ AllByRecursion HasNoReference registry → (n : ℕ)
+      → Par E S (Along F R) (λ (i : Rest A). registered registry n >>= λ m. let z : Result (Meaning C × Rest A) Error = Ok (lifted m, i) in z)
+      (λ (i : Rest B). registered registry n >>= λ m. let z : Result (Meaning D × Rest B) Error = Ok (lifted m, i) in z)
+  registered_par [] h n = refuses_par (Along F R) Error.BadStaticIndex
+  registered_par (m ∷ ms) h zero = gives_par (lifted m) (lifted m) (lifted-along m (elim h [ inl f ↦ inl f | inr all ↦ inr all.0 ]))
+  registered_par (m ∷ ms) h (suc n) = registered_par ms (elim h [ inl f ↦ inl f | inr all ↦ inr all.1 ]) n
 
   look_par : {r : Rest A} {q : Rest B} {x : Result C Error} {y : Result D Error} → SameRest S r q → OutLook E R x y
       → Out E S (Along F R) (x >>= λ c. let z : Result (Meaning C × Rest A) Error = Ok (meanings.reference c, r) in z)
@@ -380,89 +347,83 @@ module _ {A B C D : Type 0} {E : Error → Type 0} {F : Type 0} {S : A → B →
     reference_out kind r q e (more-two a b k l s h) = look_par (record { bytes = e; refs = h }) (alike kind a b s)
 
     reference_par : (kind : ℕ) → Par E S (Along F R) (λ i. reference_at look kind i.refs i) (λ i. reference_at look2 kind i.refs i)
-    reference_par kind = record { out = λ r q s. reference_out kind r q s.bytes s.refs; tame = reference_tame look kind }
+    reference_par kind = record { out = λ r q s. reference_out kind r q s.bytes s.refs; tame = record { comes = λ i. reference_comes look kind i.bytes i.refs } }
 
   module _ {parts : ℕ → Shape} where
     enter_par : {X Y : Type 0} {V : X → Y → Type 0} {d : Deeper A C} {d2 : Deeper B D} (part : (Shape → Gets A (Meaning C)) → Gets A X) (part2 : (Shape → Gets B (Meaning D)) → Gets B Y)
         → DeeperPar E F S R parts d d2
         → ((get : Shape → Gets A (Meaning C)) (get2 : Shape → Gets B (Meaning D)) → ((s : Shape) → Covers F parts s → Par E S (Along F R) (get s) (get2 s)) → Par E S V (part get) (part2 get2))
-        → Par E S V (enter d part) (enter d2 part2)
-    enter_par {X} {Y} {V} part part2 no-deeper k = likewise_par (refuses_par V Error.TooDeep) (λ i. refl) (λ i. refl)
-    enter_par part part2 (one-deeper get get2 h) k = likewise_par (k get get2 h) (λ i. refl) (λ i. refl)
+        → Par E S V (λ i. enter d part i) (λ i. enter d2 part2 i)
+    enter_par {X} {Y} {V} part part2 no-deeper k = refuses_par V Error.TooDeep
+    enter_par part part2 (one-deeper get get2 h) k = k get get2 h
 
-    json_par : {d : Deeper A C} {d2 : Deeper B D} → DeeperPar E F S R parts d d2 → (case : JsonCase) → Par E S (Along F R) (json_part d case) (json_part d2 case)
-    unfolding IsReadable
-    json_par h null_case = likewise_par (gives_par _ _ (variant-along _ _ _ none-along)) (λ i. refl) (λ i. refl)
-    json_par h flag_case = likewise_par (bytes_par bool_at bool_tame _ _ (λ b. variant-along _ _ _ (flag-same b))) (λ i. refl) (λ i. refl)
+    json_par : {d : Deeper A C} {d2 : Deeper B D} → DeeperPar E F S R parts d d2 → (case : JsonCase) → Par E S (Along F R) (λ i. json_part d case i) (λ i. json_part d2 case i)
+    unfolding IsReadable LiesIn
+    json_par h null_case = gives_par _ _ (variant-along _ _ _ none-along)
+    json_par h flag_case = bytes_par bool_at bool_tame _ _ (λ b. variant-along _ _ _ (flag-same b))
     json_par h number_case =
-        known_par bool_at bool_tame (λ float. float) (λ i. refl) (λ i. refl) (λ float e. refuses_par (Along F R) Error.JsonNumber)
+        known_par bool_at bool_tame (λ float. float) (λ float e. refuses_par (Along F R) Error.JsonNumber)
         (λ float. bytes_par (signed_at w64) (signed_tame w64) _ _ (λ z. variant-along _ _ _ (integer-along z)))
-    json_par h text_case = likewise_par (bytes_par text_at text_tame _ _ (λ t. variant-along _ _ _ (text-along t))) (λ i. refl) (λ i. refl)
+    json_par h text_case = bytes_par text_at text_tame _ _ (λ t. variant-along _ _ _ (text-along t))
     json_par {d} {d2} h array_case =
         then_same {f = λ count. enter d (λ get. seen (λ ms. variant 4 (sequence ms)) (items (get json) count))}
-        {g = λ count. enter d2 (λ get. seen (λ ms. variant 4 (sequence ms)) (items (get json) count))} (λ i. refl) (λ i. refl) (bytes_same length_at length_tame)
-        (λ count. enter_par _ _ h (λ get get2 g. seen_par _ _ (λ ms ns r. variant-along _ _ _ (sequence-two r)) (items_par (g json (inr (of_json tt))) count)))
+        {g = λ count. enter d2 (λ get. seen (λ ms. variant 4 (sequence ms)) (items (get json) count))} (bytes_same length_at length_tame)
+        (λ count. enter_par _ _ h (λ get get2 g. seen_par _ _ (λ ms ns r. variant-along _ _ _ (sequence-two r)) (items_par (g json (inr (alone (λ n d. tt) tt))) count)))
     json_par {d} {d2} h object_case =
         then_same {f = λ count. enter d (λ get. seen (λ es. variant 5 (of_entries (put_all (put_sorted text_order) [] es))) (items (two (get shapes.text) (get json)) count))}
-        {g = λ count. enter d2 (λ get. seen (λ es. variant 5 (of_entries (put_all (put_sorted text_order) [] es))) (items (two (get shapes.text) (get json)) count))} (λ i. refl)
-        (λ i. refl) (bytes_same length_at length_tame)
-        (λ count. enter_par _ _ h
-        (λ get get2 g. seen_par _ _ (λ es fs r. variant-along _ _ _ (sorted-two text_order r)) (items_par (entry_par (g shapes.text (inr (of_text tt))) (g json (inr (of_json tt)))) count)))
+        {g = λ count. enter d2 (λ get. seen (λ es. variant 5 (of_entries (put_all (put_sorted text_order) [] es))) (items (two (get shapes.text) (get json)) count))}
+        (bytes_same length_at length_tame)
+        (λ count. enter_par _ _ h (λ get get2 g. seen_par _ _ (λ es fs r. variant-along _ _ _ (sorted-two text_order r))
+        (items_par (entry_par (g shapes.text (inr (alone (λ n d. tt) tt))) (g json (inr (alone (λ n d. tt) tt)))) count)))
 
     json_cases : {d : Deeper A C} {d2 : Deeper B D} → DeeperPar E F S R parts d d2 → (c : Result JsonCase Error)
         → Par E S (Along F R) (λ i. c >>= λ case. json_part d case i) (λ i. c >>= λ case. json_part d2 case i)
-    json_cases h (Ok case) = likewise_par (json_par h case) (λ i. refl) (λ i. refl)
+    json_cases h (Ok case) = json_par h case
     json_cases h (Err e) = refuses_par (Along F R) e
 
     module _ (look : Look A C) (look2 : Look B D) (alike : (kind : ℕ) (a : A) (b : B) → S a b → OutLook E R (look kind a) (look2 kind b)) where
-      pub with_par : {d : Deeper A C} {d2 : Deeper B D} → DeeperPar E F S R parts d d2 → (s : Shape) → Covers F parts s → Par E S (Along F R) (read_with look parts d s) (read_with look2 parts d2 s)
+      pub with_par : {d : Deeper A C} {d2 : Deeper B D} → DeeperPar E F S R parts d d2 → (s : Shape) → Covers F parts s
+          → Par E S (Along F R) (λ i. read_with look parts d s i) (λ i. read_with look2 parts d2 s i)
       unfolding read_with IsReadable LiesIn
-      with_par h nothing t = likewise_par (gives_par none none none-along) (λ i. refl) (λ i. refl)
-      with_par h (unsigned w) t = likewise_par (bytes_par (unsigned_at w) (unsigned_tame w) _ _ (λ n. number-along n)) (λ i. refl) (λ i. refl)
-      with_par h (signed w) t = likewise_par (bytes_par (signed_at w) (signed_tame w) _ _ (λ z. integer-along z)) (λ i. refl) (λ i. refl)
-      with_par h flag t = likewise_par (bytes_par bool_at bool_tame _ _ flag-same) (λ i. refl) (λ i. refl)
-      with_par h shapes.text t = likewise_par (bytes_par text_at text_tame _ _ (λ b. text-along b)) (λ i. refl) (λ i. refl)
-      with_par h letter t = likewise_par (bytes_par char_at char_tame _ _ (λ c. number-along c)) (λ i. refl) (λ i. refl)
-      with_par h duration t = likewise_par (bytes_par duration_at duration_tame _ _ (λ p. pair-along _ _ _ _ (number-along p.0) (number-along p.1))) (λ i. refl) (λ i. refl)
-      with_par h shapes.pattern t = likewise_par (bytes_par text_at text_tame _ _ (λ b. pattern-along b)) (λ i. refl) (λ i. refl)
-      with_par {d} {d2} h json t =
-          then_same (λ i. refl) (λ i. refl) (bytes_same (unsigned_at w64) (unsigned_tame w64)) (λ n. json_cases h (json_case n))
+      with_par h nothing t = gives_par none none none-along
+      with_par h (unsigned w) t = bytes_par (unsigned_at w) (unsigned_tame w) _ _ (λ n. number-along n)
+      with_par h (signed w) t = bytes_par (signed_at w) (signed_tame w) _ _ (λ z. integer-along z)
+      with_par h flag t = bytes_par bool_at bool_tame _ _ flag-same
+      with_par h shapes.text t = bytes_par text_at text_tame _ _ (λ b. text-along b)
+      with_par h letter t = bytes_par char_at char_tame _ _ (λ c. number-along c)
+      with_par h duration t = bytes_par duration_at duration_tame _ _ (λ p. pair-along _ _ _ _ (number-along p.0) (number-along p.1))
+      with_par h shapes.pattern t = bytes_par text_at text_tame _ _ (λ b. pattern-along b)
+      with_par {d} {d2} h json t = then_same (bytes_same (unsigned_at w64) (unsigned_tame w64)) (λ n. json_cases h (json_case n))
       with_par h (optional s) t =
-          known_par bool_at bool_tame (λ some. some) (λ i. refl) (λ i. refl) (λ some e. seen_par present present (λ m n r. variant-along _ _ _ r) (with_par h s (over (λ p. p) (λ n d l. l) t)))
+          known_par bool_at bool_tame (λ some. some) (λ some e. seen_par present present (λ m n r. variant-along _ _ _ r) (with_par h s (over (λ p. p) (λ n d l. l) t)))
           (λ some. gives_par absent absent (variant-along _ _ _ none-along))
       with_par h (outcome s s2) t =
-          known_par bool_at bool_tame (λ ok. ok) (λ i. refl) (λ i. refl) (λ ok e. seen_par success success (λ m n r. variant-along _ _ _ r) (with_par h s (over (λ p. p.0) (λ n d l. l.0) t)))
+          known_par bool_at bool_tame (λ ok. ok) (λ ok e. seen_par success success (λ m n r. variant-along _ _ _ r) (with_par h s (over (λ p. p.0) (λ n d l. l.0) t)))
           (λ ok. seen_par failure failure (λ m n r. variant-along _ _ _ r) (with_par h s2 (over (λ p. p.1) (λ n d l. l.1) t)))
-      with_par h (list s) t = likewise_par (seen_par sequence sequence (λ ms ns r. sequence-two r) (counted_par (with_par h s (over (λ p. p) (λ n d l. l) t)))) (λ i. refl) (λ i. refl)
-      with_par h (run s) t = likewise_par (refuses_par (Along F R) Error.WrongKind) (λ i. refl) (λ i. refl)
-      with_par h (array n s) t = likewise_par (seen_par sequence sequence (λ ms ns r. sequence-two r) (items_par (with_par h s (over (λ p. p) (λ n d l. l) t)) n)) (λ i. refl) (λ i. refl)
-      with_par h (both s s2) t =
-          likewise_par (seen_par entry entry (λ e f r. pair-along _ _ _ _ r.key r.value)
-          (entry_par (with_par h s (over (λ p. p.0) (λ n d l. l.0) t)) (with_par h s2 (over (λ p. p.1) (λ n d l. l.1) t))))
-          (λ i. refl) (λ i. refl)
-      with_par h (sorted_map order s s2) t =
-          likewise_par (seen_par _ _ (λ es fs r. sorted-two order r)
-          (counted_par (entry_par (with_par h s (over (λ p. p.0) (λ n d l. l.0) t)) (with_par h s2 (over (λ p. p.1) (λ n d l. l.1) t))))) (λ i. refl) (λ i. refl)
+      with_par h (list s) t = seen_par sequence sequence (λ ms ns r. sequence-two r) (counted_par (with_par h s (over (λ p. p) (λ n d l. l) t)))
+      with_par h (run s) t = refuses_par (Along F R) Error.WrongKind
+      with_par h (array n s) t = seen_par sequence sequence (λ ms ns r. sequence-two r) (items_par (with_par h s (over (λ p. p) (λ n d l. l) t)) n)
+      with_par h (both s s2) t = seen_par entry entry (λ e f r. pair-along _ _ _ _ r.key r.value)
+          (entry_par (with_par h s (over (λ p. p.0) (λ n d l. l.0) t)) (with_par h s2 (over (λ p. p.1) (λ n d l. l.1) t)))
+      with_par h (sorted_map order s s2) t = seen_par _ _ (λ es fs r. sorted-two order r)
+          (counted_par (entry_par (with_par h s (over (λ p. p.0) (λ n d l. l.0) t)) (with_par h s2 (over (λ p. p.1) (λ n d l. l.1) t))))
       with_par h (placed_map s s2) t =
-          likewise_par (seen_par _ _ (λ es fs r. placed-two r) (counted_par (entry_par (with_par h s (over (λ p. p.0) (λ n d l. l.0) t)) (with_par h s2 (over (λ p. p.1) (λ n d l. l.1) t)))))
-          (λ i. refl) (λ i. refl)
-      with_par h (hash_map s s2) t =
-          likewise_par (seen_par of_hash_map of_hash_map (λ es fs r. sorted-two code_order r)
-          (counted_par (entry_par (with_par h s (over (λ p. p.0) (λ n d l. l.0) t)) (with_par h s2 (over (λ p. p.1) (λ n d l. l.1) t))))) (λ i. refl) (λ i. refl)
-      with_par h (sorted_set order s) t =
-          likewise_par (seen_par _ _ (λ ms ns r. sorted_items-two order r) (counted_par (with_par h s (over (λ p. p) (λ n d l. l) t)))) (λ i. refl) (λ i. refl)
-      with_par h (placed_set s) t = likewise_par (seen_par _ _ (λ ms ns r. placed_items-two r) (counted_par (with_par h s (over (λ p. p) (λ n d l. l) t)))) (λ i. refl) (λ i. refl)
+          seen_par _ _ (λ es fs r. placed-two r) (counted_par (entry_par (with_par h s (over (λ p. p.0) (λ n d l. l.0) t)) (with_par h s2 (over (λ p. p.1) (λ n d l. l.1) t))))
+      with_par h (hash_map s s2) t = seen_par of_hash_map of_hash_map (λ es fs r. sorted-two code_order r)
+          (counted_par (entry_par (with_par h s (over (λ p. p.0) (λ n d l. l.0) t)) (with_par h s2 (over (λ p. p.1) (λ n d l. l.1) t))))
+      with_par h (sorted_set order s) t = seen_par _ _ (λ ms ns r. sorted_items-two order r) (counted_par (with_par h s (over (λ p. p) (λ n d l. l) t)))
+      with_par h (placed_set s) t = seen_par _ _ (λ ms ns r. placed_items-two r) (counted_par (with_par h s (over (λ p. p) (λ n d l. l) t)))
       with_par h (static_value registry) t =
-          then_same (λ i. refl) (λ i. refl) (bytes_same (unsigned_at w32) (unsigned_tame w32)) (λ n. registered_par registry (grind (arith, nat_tests, here)) n (registered registry n) refl)
+          then_same (bytes_same (unsigned_at w32) (unsigned_tame w32)) (λ n. registered_par registry (grind (arith, nat_tests, here)) n)
       with_par h (tagged written known body) t =
-          known_par text_at text_tame known (λ i. refl) (λ i. refl)
+          known_par text_at text_tame known
           (λ tag e. seen_par (of_tagged tag) (of_tagged tag) (λ m n r. pair-along _ _ _ _ (text-along tag) r) (with_par h (body tag) (over (λ p. p.1 tag e) (λ n d l. l.1 tag e) t)))
           (λ tag. refuses_par (Along F R) Error.UnknownTag)
       with_par h (cases w known part) t =
-          known_par (unsigned_at w) (unsigned_tame w) known (λ i. refl) (λ i. refl)
+          known_par (unsigned_at w) (unsigned_tame w) known
           (λ n e. seen_par (variant n) (variant n) (λ x y r. variant-along _ _ _ r) (with_par h (part n) (over (λ p. p n e) (λ nodes d l. l n e) t))) (λ n. refuses_par (Along F R) Error.UnknownTag)
-      with_par h (shapes.reference kind) t = likewise_par (reference_par look look2 alike kind) (λ i. refl) (λ i. refl)
-      with_par h (nested n) t = likewise_par (enter_par _ _ h (λ get get2 g. g (parts n) (grind (arith, nat_tests, part_of)))) (λ i. refl) (λ i. refl)
+      with_par h (shapes.reference kind) t = reference_par look look2 alike kind
+      with_par h (nested n) t = enter_par _ _ h (λ get get2 g. g (parts n) (grind (arith, nat_tests, part_of)))
 
       below_par : (left : ℕ) → DeeperPar E F S R parts (below look parts left) (below look2 parts left)
       unfolding below
@@ -472,7 +433,7 @@ module _ {A B C D : Type 0} {E : Error → Type 0} {F : Type 0} {S : A → B →
       pub read_par : (levels : ℕ) (s : Shape) → Covers F parts s
           → Par E S (Along F R) (read (record { levels = levels; look = look; parts = parts }) s) (read (record { levels = levels; look = look2; parts = parts }) s)
       unfolding read
-      read_par levels s t = likewise_par (with_par (below_par (deepest - levels)) s t) (λ i. refl) (λ i. refl)
+      read_par levels s t = with_par (below_par (deepest - levels)) s t
 
 -- ---- reading is local: what is read of a front is read of the whole, a fault stays, and what was used reads alone
 
@@ -481,14 +442,12 @@ looked-same : {B : Type 0} (r : Result B Error) → OutLook any_cause (λ b c. U
 looked-same (Ok b) = both-looked-up b b tt
 looked-same (Err e) = both-not e
 
-read_tame : {A B : Type 0} (context : Context A B) (s : Shape) → TameGets (read context s)
-read_tame {A} {B} context s =
-    let alike : (kind : ℕ) (a b : A) → a ≡ b → OutLook any_cause (λ c d. Unit {0}) (context.look kind a) (context.look kind b) = λ kind a b is. rw is (looked-same (context.look kind b)) in
-    let par = read_par {E = any_cause} {F = Unit {0}} {S = λ a b. a ≡ b} {R = λ c d. Unit {0}} {parts = context.parts} context.look context.look alike context.levels s (inl tt) in par.tame
-
 -- what comes of an input that is read so
 comes-of : {A B : Type 0} (context : Context A B) (s : Shape) (input : Rest A) {r : Result (Meaning B × Rest A) Error} → read context s input ≡ r → Comes more (read context s) input r
-comes-of context s input e = subst (Comes more (read context s) input) e ((read_tame context s).comes input)
+comes-of {A} {B} context s input e =
+    let alike : (k : ℕ) (a b : A) → a ≡ b → OutLook any_cause (λ (c d : B). Unit {0}) (context.look k a) (context.look k b) = λ k a b is. rw is (looked-same (context.look k b)) in
+    let par = read_par {E = any_cause} {F = Unit {0}} {S = λ a b. a ≡ b} {R = λ c d. Unit {0}} {parts = context.parts} context.look context.look alike context.levels s (inl tt) in
+    subst (Comes more (read context s) input) e (par.tame.comes input)
 
 pub local : {A B : Type 0} → IsLocal A B
 unfolding Comes

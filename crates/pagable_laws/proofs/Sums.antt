@@ -33,13 +33,10 @@ pub sum-plus : {X : Type 0} (f g : X → ℕ) (xs : List X) → sum_by (λ x. f 
 sum-plus f g [] = refl
 sum-plus f g (x ∷ xs) = search (rules, sum_by-cons, sum-plus f g xs)
 
-zeros : {X : Type 0} (xs : List X) → sum_by (λ (x : X). 0) xs ≡ 0
-zeros [] = refl
-zeros {X} (x ∷ xs) = let a = zeros xs in let b = sum_by-cons (λ (y : X). 0) x xs in omega arith
-
 -- zero at each element
 pub sum-zero : {X : Type 0} (f : X → ℕ) (xs : List X) → ((x : X) → Among xs x → f x ≡ 0) → sum_by f xs ≡ 0
-sum-zero {X} f xs h = let a = sum-le f (λ (x : X). 0) xs (λ x among. let b = h x among in omega arith) in let b = zeros xs in omega arith
+sum-zero f [] h = refl
+sum-zero f (x ∷ xs) h = let a = h x (zero, refl) in let b = sum-zero f xs (λ y among. h y (suc among.0, among.1)) in let c = sum_by-cons f x xs in omega arith
 
 pick : {X : Type 0} (f : X → ℕ) (x : X) (xs : List X) (n : ℕ) → f x ≡ n → (f x ≡ 0 → (y : X) × Among xs y × (0 < f y)) → (y : X) × Among (x ∷ xs) y × (0 < f y)
 pick f x xs zero e rest = let r = rest e in (r.0, (suc r.1.0, r.1.1), r.2)

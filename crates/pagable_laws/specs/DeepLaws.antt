@@ -123,11 +123,7 @@ pub record HasBegun {N E B W : Type 0} (moments : List (Moment N E B W)) (n k : 
   pub at : slice_get moments i ≡ Some a
   pub begins : IsBeginOf n a.event a.reply
 
--- each load that makes a step has begun in the chain, before that
-abbrev pub AllHaveBegun : {N E B W : Type 0} → List (Moment N E B W) → Type 0
-AllHaveBegun {N} {E} {B} {W} moments = (k : ℕ) (c : Moment N E B W) (l : LoadNumber) → slice_get moments k ≡ Some c → c.event ≡ Event.LoadStep l → HasBegun moments l.0 k
-
--- A load of a cell whose key a page-out set is refused by chance alone, where each load begins in the chain and is done in one piece.
+-- A load of a cell whose key a page-out set is refused by chance alone, where each load that makes a step has begun in the chain, before that, and is done in one piece.
 abbrev pub SoundLaw : {N B W : Type 0} → (E : Type 0) → Seen N B W → Type 0
 SoundLaw {N} {B} {W} E m =
     (start : MachineState N E) (moments : List (Moment N E B W)) (trees : ℕ → Tree)
@@ -135,7 +131,7 @@ SoundLaw {N} {B} {W} E m =
     → IsIdle start
     → AreMoments m start moments
     → StandTogether moments
-    → AllHaveBegun moments
+    → ((k : ℕ) (c : Moment N E B W) (l : LoadNumber) → slice_get moments k ≡ Some c → c.event ≡ Event.LoadStep l → HasBegun moments l.0 k)
     → StandsFor m.values start trees
     → IsLawful m.values
     → ReadsItsTypes m.values.types
