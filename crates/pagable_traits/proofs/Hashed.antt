@@ -2,7 +2,7 @@
 use Rattle.pagable_traits.proofs.Words.{◌≡◌, ℕ, ◌≤◌, Bool, true, false, subst, List, [], ◌∷◌, ◌++◌, length, map, refl, sym, ap, ◌∙◌, Option, Some, None, is_some, Result, IsPermutation, length-map}
 use Rattle.pagable_traits.proofs.Words.{IsDistinct, keys_of, lookup, set_value, Ordering, is_eq, IsTotalOrder, Error, ArcRef, longest, length_form, Meaning, entry, Entry, ordered, same_key, put_all}
 use Rattle.pagable_traits.proofs.Words.{put_sorted, AllAfter, Apart, Differ, Shape, both, of_entries, Entries, more-entries, Rest, Context, counted, read, read_with, Nesting, FormAt, FormsAt}
-use Rattle.pagable_traits.proofs.{Words.{kind_of_arc, GivesSome, PutInTurn, Collected, MeansPair, arith}, Maps.{EntriesMean, entries-of-pairs, pairs-of-entries, same-entries, forms-of-entries}}
+use Rattle.pagable_traits.proofs.{Words.{kind_of_arc, GivesSome, PutInTurn, Collected, MeansPair, arith}, Maps.{Alike, alike-none, alike-more, EntryMeans, EntriesMean, entry-more, entries-of-pairs, pairs-of-entries, same-entries, forms-of-entries}}
 use Rattle.pagable_traits.proofs.{Maps.{entries-mean, entries-written, reads-entries}, Reordered.{Reordered, no-items, same-front, two-turned, and-then, reordered, reordered-back, reordered-length}}
 use Rattle.pagable_traits.proofs.{Reordered.apart-with, Anywhere.{OtherKey, other-back, put-late, any-order, in-order-reordered, put-value}, Items.sequence-same, Walks.Wraps, Maps.{IsSameOf, differ}}
 use Rattle.std.{proofs.Common.MatchOption, proofs.lemmas.Map.Text.is_eq-slice_cmp, specs.Cmp.Lexicographic.on_texts}
@@ -23,17 +23,14 @@ others es = apart-with (λ d e. same_key d.0 e.0 ≡ false) (OtherKey of_keys to
 
 -- ---- entries in another order mean the same, and their forms are those of the others in another order
 
-mean-reordered : {K V : Type 0} (M : K → Meaning ArcRef → Type 0) (N : V → Meaning ArcRef → Type 0) {xs ys : List (K × V)} → Reordered xs ys → (es : List (Entry ArcRef)) → EntriesMean M N xs es → (fs : List (Entry ArcRef)) × EntriesMean M N ys fs × Reordered es fs
-unfolding EntriesMean
-mean-reordered M N no-items [] h = ([], tt, no-items)
-mean-reordered M N (same-front x xs ys k) (e ∷ es) h = let r = mean-reordered M N k es h.2 in (e ∷ r.0, (h.0, h.1, r.1), same-front e _ _ r.2)
-mean-reordered M N (two-turned x y xs) (e ∷ []) h = absurd h.2
-mean-reordered M N (two-turned x y xs) (e ∷ f ∷ es) h = (f ∷ e ∷ es, (h.2.0, h.2.1, (h.0, h.1, h.2.2)), two-turned e f es)
-mean-reordered M N (and-then xs ys zs k l) es h =
-    let r = mean-reordered M N k es h in
-    let s = mean-reordered M N l r.0 r.1 in
+alike-reordered : {X Y : Type 0} (P : X → Y → Type 0) {xs zs : List X} → Reordered xs zs → {ys : List Y} → Alike P xs ys → (ws : List Y) × Alike P zs ws × Reordered ys ws
+alike-reordered P no-items alike-none = ([], alike-none, no-items)
+alike-reordered P (same-front x xs zs k) (alike-more x2 y xs2 ys h t) = let r = alike-reordered P k t in (y ∷ r.0, alike-more x y zs r.0 h r.1, same-front y _ _ r.2)
+alike-reordered P (two-turned x z xs) (alike-more x2 y xs2 ys h (alike-more z2 w xs3 ws g t)) = (w ∷ y ∷ ws, alike-more z w _ _ g (alike-more x y xs ws h t), two-turned y w ws)
+alike-reordered P (and-then xs vs zs k l) h =
+    let r = alike-reordered P k h in
+    let s = alike-reordered P l r.1 in
     (s.0, s.1, and-then _ _ _ r.2 s.2)
-mean-reordered M N _ _ h = absurd h
 
 entries-reordered : {parts : ℕ → Shape} {left : ℕ} {s t : Shape} {ds es : List (Entry ArcRef)} {b : List ℕ} {k : List ArcRef} → Reordered ds es → Entries ArcRef kind_of_arc parts left s t ds b k → (c : List ℕ) × (j : List ArcRef) × Entries ArcRef kind_of_arc parts left s t es c j
 entries-reordered {b = b} {k = k} no-items f = (b, k, f)
@@ -46,9 +43,9 @@ pub hash_maps_mean_alike : {K V : Type 0} (M : K → Meaning ArcRef → Type 0) 
 hash_maps_mean_alike M N eq is xs ys m distinct moved means =
     let es = entries-of-pairs M N means.each in
     let same : means.es ≡ es.0 = same-entries means.es es.0 es.1 in
-    let r = mean-reordered M N (reordered xs ys moved) es.0 es.2 in
+    let r = alike-reordered (EntryMeans M N) (reordered xs ys moved) es.2 in
     let apart = others es.0 (differ M N eq is xs es.0 es.2 distinct) in
-    record { es = r.0; each = pairs-of-entries M N ys r.0 r.1; is = means.is ∙ ap of_hash_map same ∙ ap of_entries (any-order of_keys total r.2 [] apart) }
+    record { es = r.0; each = pairs-of-entries M N r.1; is = means.is ∙ ap of_hash_map same ∙ ap of_entries (any-order of_keys total r.2 [] apart) }
 
 -- ---- writing
 
@@ -84,19 +81,15 @@ wraps_hash_map M N eq is xs n s t distinct = record {
 
 -- ---- putting in
 
-set-means : {K V : Type 0} (M : K → Meaning ArcRef → Type 0) (N : V → Meaning ArcRef → Type 0) (eq : K → K → Bool) → IsSameOf M eq → (xs : List (K × V)) (es : List (Entry ArcRef)) (x : K × V) (e : Entry ArcRef) → EntriesMean M N xs es → M x.0 e.0 → N x.1 e.1
+set-means : {K V : Type 0} (M : K → Meaning ArcRef → Type 0) (N : V → Meaning ArcRef → Type 0) (eq : K → K → Bool) → IsSameOf M eq → (x : K × V) (e : Entry ArcRef) → M x.0 e.0 → N x.1 e.1 → {xs : List (K × V)} {es : List (Entry ArcRef)} → EntriesMean M N xs es
     → EntriesMean M N (set_value (eq x.0) xs x.1) (set_value (same_key e.0) es e.1)
-unfolding EntriesMean
-set-means M N eq is [] [] x e h first second = tt
-set-means M N eq is (y ∷ xs) (f ∷ es) x e h first second = grind (arith, set-means M N eq is xs es x e h.2 first second)
-set-means M N eq is _ _ x e h first second = absurd h
+set-means M N eq is x e first second alike-none = alike-none
+set-means M N eq is x e first second (alike-more y f xs es g t) = grind (arith, entry-more M N, set-means M N eq is x e first second t)
 
-found-alike : {K V : Type 0} (M : K → Meaning ArcRef → Type 0) (N : V → Meaning ArcRef → Type 0) (eq : K → K → Bool) → IsSameOf M eq → (xs : List (K × V)) (es : List (Entry ArcRef)) (x : K) (e : Meaning ArcRef) → EntriesMean M N xs es → M x e
+found-alike : {K V : Type 0} (M : K → Meaning ArcRef → Type 0) (N : V → Meaning ArcRef → Type 0) (eq : K → K → Bool) → IsSameOf M eq → (x : K) (e : Meaning ArcRef) → M x e → {xs : List (K × V)} {es : List (Entry ArcRef)} → EntriesMean M N xs es
     → is_some (lookup (same_key e) es) ≡ is_some (lookup (eq x) xs)
-unfolding EntriesMean
-found-alike M N eq is [] [] x e h first = refl
-found-alike {K} {V} M N eq is (y ∷ xs) (f ∷ es) x e h first = grind (arith, found-alike M N eq is xs es x e h.2 first)
-found-alike M N eq is _ _ x e h first = absurd h
+found-alike M N eq is x e first alike-none = refl
+found-alike M N eq is x e first (alike-more y f xs es g t) = grind (arith, found-alike M N eq is x e first t)
 
 other-key : (a b : Meaning ArcRef) → same_key a b ≡ false → same_key b a ≡ false
 other-key a b h = sym (ties-alike b a) ∙ other-back {V = Meaning ArcRef} of_keys total (a, a) (b, b) (ties-alike a b ∙ h)
@@ -115,40 +108,39 @@ record InOrder {K V : Type 0} (M : K → Meaning ArcRef → Type 0) (N : V → M
 -- one more entry is put in wherever it stands
 one-more : {K V : Type 0} (M : K → Meaning ArcRef → Type 0) (N : V → Meaning ArcRef → Type 0) (eq : K → K → Bool) → IsSameOf M eq → (xs ys : List (K × V)) (es : List (Entry ArcRef)) (x : K × V) (e : Entry ArcRef) → IsDistinct eq (keys_of xs) → EntriesMean M N xs es → M x.0 e.0 → N x.1 e.1
     → PutsAnywhere eq xs x ys → InOrder M N ys (put_sorted code_order (put_all (put_sorted code_order) [] es) e)
-unfolding EntriesMean Apart put_all
+unfolding Apart put_all
 one-more {K} {V} M N eq is xs ys es x e distinct mean first second puts = by_case (lookup (eq x.0) xs) refl puts.1
   where
     by_case : (o : Option V) → lookup (eq x.0) xs ≡ o → MatchOption o (IsPermutation (x ∷ xs) ys) (λ _. ys ≡ set_value (eq x.0) xs x.1) → InOrder M N ys (put_sorted code_order (put_all (put_sorted code_order) [] es) e)
     by_case None p moved =
-        let r = mean-reordered M N (reordered (x ∷ xs) ys moved) (e ∷ es) (first, second, mean) in
-        let none : is_some (lookup (same_key e.0) es) ≡ false = found-alike M N eq is xs es x.0 e.0 mean first ∙ ap is_some p in
+        let r = alike-reordered (EntryMeans M N) (reordered (x ∷ xs) ys moved) (entry-more M N x e xs es first second mean) in
+        let none : is_some (lookup (same_key e.0) es) ≡ false = found-alike M N eq is x.0 e.0 first mean ∙ ap is_some p in
         let apart = others (e ∷ es) (none-apart e es none, differ M N eq is xs es mean distinct) in
         record { fs = r.0; mean = r.1; is = sym (any-order of_keys total r.2 [] apart) ∙ put-late of_keys total [] e es apart.0 }
     by_case (Some v) p set =
-        let found : is_some (lookup (same_key e.0) es) ≡ true = found-alike M N eq is xs es x.0 e.0 mean first ∙ ap is_some p in
+        let found : is_some (lookup (same_key e.0) es) ≡ true = found-alike M N eq is x.0 e.0 first mean ∙ ap is_some p in
         let apart = others es (differ M N eq is xs es mean distinct) in
-        let there : EntriesMean M N ys (set_value (same_key e.0) es e.1) = rw set (set-means M N eq is xs es x e mean first second) in
+        let there : EntriesMean M N ys (set_value (same_key e.0) es e.1) = rw set (set-means M N eq is x e first second mean) in
         record { fs = set_value (same_key e.0) es e.1; mean = there; is = put-value of_keys total (same_key e.0) e.0 e.1 (λ q. ties-alike e.0 q) [] es apart found }
 
 -- and so are all
-all-more : {K V : Type 0} (M : K → Meaning ArcRef → Type 0) (N : V → Meaning ArcRef → Type 0) (eq : K → K → Bool) → IsSameOf M eq → (acc xs now : List (K × V)) (ds es : List (Entry ArcRef)) → IsDistinct eq (keys_of acc) → EntriesMean M N acc ds → EntriesMean M N xs es
+all-more : {K V : Type 0} (M : K → Meaning ArcRef → Type 0) (N : V → Meaning ArcRef → Type 0) (eq : K → K → Bool) → IsSameOf M eq → (acc now : List (K × V)) (ds : List (Entry ArcRef)) {xs : List (K × V)} {es : List (Entry ArcRef)} → IsDistinct eq (keys_of acc) → EntriesMean M N acc ds → EntriesMean M N xs es
     → PutInTurn (λ old x new. PutsAnywhere eq old x new) acc xs now → InOrder M N now (put_all (put_sorted code_order) (put_all (put_sorted code_order) [] ds) es)
-unfolding EntriesMean PutInTurn put_all
-all-more M N eq is acc [] now ds [] distinct mean h same = record { fs = ds; mean = rw same mean; is = refl }
-all-more {K} {V} M N eq is acc (x ∷ xs) now ds (e ∷ es) distinct mean h turn =
+unfolding PutInTurn put_all
+all-more M N eq is acc now ds distinct mean alike-none same = record { fs = ds; mean = rw same mean; is = refl }
+all-more {K} {V} M N eq is acc now ds distinct mean (alike-more x e xs es h t) turn =
     let one = one-more M N eq is acc turn.0 ds x e distinct mean h.0 h.1 turn.1 in
-    let rest = all-more M N eq is turn.0 xs now one.fs es turn.1.0 one.mean h.2 turn.2 in
+    let rest = all-more M N eq is turn.0 now one.fs turn.1.0 one.mean t turn.2 in
     let P : List (Entry ArcRef) → Type 0 = λ zs. InOrder M N now (put_all (put_sorted code_order) zs es) in
     subst P one.is rest
-all-more M N eq is acc _ now ds _ distinct mean h _ = absurd h
 
 -- ---- reading
 
 hash-map-put : {K V : Type 0} (M : K → Meaning ArcRef → Type 0) (N : V → Meaning ArcRef → Type 0) (eq : K → K → Bool) → IsSameOf M eq → (now : List (K × V)) (es : List (Entry ArcRef)) → Collected (MeansPair M N) (λ old x new. PutsAnywhere eq old x new) now (map entry es) → MeansHashMap M N now (of_hash_map es)
-unfolding EntriesMean IsDistinct put_all
+unfolding IsDistinct put_all
 hash-map-put M N eq is now es c =
-    let put = all-more M N eq is [] c.xs now [] es tt tt (entries-mean M N es c.each) c.is in
-    record { es = put.fs; each = pairs-of-entries M N now put.fs put.mean; is = ap of_entries (sym put.is) }
+    let put = all-more M N eq is [] now [] tt alike-none (entries-mean M N es c.each) c.is in
+    record { es = put.fs; each = pairs-of-entries M N put.mean; is = ap of_entries (sym put.is) }
 
 pub reads_hash_map : {X K V A : Type 0} (own : Error → Type 0) (M : K → Meaning ArcRef → Type 0) (N : V → Meaning ArcRef → Type 0) (eq : K → K → Bool) → IsSameOf M eq → (r : Result X Error) (held : X → List (K × V)) (context : Context A ArcRef) (s t : Shape) (rest last : Rest A)
     → GivesSome own (λ x. Collected (MeansPair M N) (λ old y new. PutsAnywhere eq old y new) (held x)) last r (counted (read context (both s t)) rest) → GivesSome own (λ x. MeansHashMap M N (held x)) last r (read context (hash_map s t) rest)

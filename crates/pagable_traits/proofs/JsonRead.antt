@@ -73,7 +73,7 @@ module _ (levels : ℕ) (parts : ℕ → Shape) (rest : Rest Answer) where
 module _ {D E R N H K V : Type 0} (env : Environments E N H K V) (d : Deserializers D E R N H K V) where
   -- members one level further down, after their count
   pub object-read : {a b c : D} {count : ℕ} {r : Result Value Error} → bytes_of length_at (λ n. n) (d.rest a) ≡ Ok (count, d.rest b) → MovesOn (d.standing a) (d.standing b) → d.environment b ≡ d.environment a → d.levels b ≡ d.levels a → d.levels b < deepest
-      → Reads env d ObjectOf (λ x. items (read (record x { levels = x.levels + 1 }) (both text json)) count) b c r → Reads env d (Is of_value) (part_of object_case) a c r
+      → Reads env d memory ObjectOf (λ x. items (read (record x { levels = x.levels + 1 }) (both text json)) count) b c r → Reads env d memory (Is of_value) (part_of object_case) a c r
   object-read {a} {b} {c} {count} {r} told moves same_env same_levels lt q = grind (arith, object-gives)
 
 pub ruleset cases = (moves_trans, null-read, no-case, is-flag, is-text, is-whole, to_z-of_z)

@@ -1,6 +1,6 @@
 -- One step after another: what each of two functions that write or read owes, both owe.
 use Rattle.pagable_traits.proofs.Words.{◌≡◌, ℕ, ◌<◌, ◌≤◌, ◌+◌, ◌-◌, [], ◌∷◌, ◌++◌, List, arith, refl, ◌∙◌, Result, Ok, Err, inl, inr, err_from_is_err_and, OnOk, IfErr, ◌⊎◌, IsErrAnd, Error, ArcRef}
-use Rattle.pagable_traits.proofs.Words.{memory, memory_or, Meaning, Context, Gets, Rest, deepest, items, Shape, Answer, MovesOn, Out, Nesting, nesting, WritesSome, Refused, Grows, grows_refl}
+use Rattle.pagable_traits.proofs.Words.{memory, memory_or, subst, read, GivesSome, Meaning, Context, Gets, Rest, deepest, items, Shape, Answer, MovesOn, Out, Nesting, nesting, WritesSome, Refused, Grows, grows_refl}
 use Rattle.pagable_traits.proofs.{Words.{grows_trans, moves_trans, Piece, Wrote, Reads, nested_in, context_in}, Items.{with_front, starts, goes_on, ends, is_done}, Maps.viewed}
 use Rattle.pagable_traits.specs.JsonSteps.{value}
 use Rattle.pagable_codec.specs.{declared.env.Env.Ghosts as Environments, declared.serializer.PagableSerializer.Ghosts as Serializers, declared.deserializer.PagableDeserializer.Ghosts as Deserializers}
@@ -61,27 +61,40 @@ seen-same (Err e) = refl
 
 module _ {D E R N H K V : Type 0} (env : Environments E N H K V) (d : Deserializers D E R N H K V) where
   -- a part was refused
-  pub read-err : {Y Z W own : Type 0} {a b : D} {part : Result (Y × Rest Answer) Error} {e : Error} (r : Result Z Error) {L : Z → W → Type 0} {whole : Context Answer ArcRef → Gets Answer W} → IsErrAnd r (λ f. f ≡ e) → (part ≡ Err e) ⊎ own → MovesOn (d.standing a) (d.standing b)
-      → d.environment b ≡ d.environment a → d.levels b ≡ d.levels a → (own → memory e) → (part ≡ Err e → whole (context_in env d a) (d.rest a) ≡ Err e) → Reads env d L whole a b r
-  read-err {Y} {Z} {W} {own} {a} {b} {part} {e} r {L} {whole} is g moves same_env same_levels may same = grind arith
+  pub read-err : {Y Z W own : Type 0} {causes : Error → Type 0} {a b : D} {part : Result (Y × Rest Answer) Error} {e : Error} (r : Result Z Error) {L : Z → W → Type 0} {whole : Context Answer ArcRef → Gets Answer W} → IsErrAnd r (λ f. f ≡ e) → (part ≡ Err e) ⊎ own → MovesOn (d.standing a) (d.standing b)
+      → d.environment b ≡ d.environment a → d.levels b ≡ d.levels a → (own → causes e) → (part ≡ Err e → whole (context_in env d a) (d.rest a) ≡ Err e) → Reads env d causes L whole a b r
+  read-err {Y} {Z} {W} {own} {causes} {a} {b} {part} {e} r {L} {whole} is g moves same_env same_levels may same = grind arith
 
   -- want of memory, wherever the deserializer stands
-  pub read-no-memory : {Z W : Type 0} {a b : D} (r : Result Z Error) {L : Z → W → Type 0} {whole : Context Answer ArcRef → Gets Answer W} → IsErrAnd r memory → MovesOn (d.standing a) (d.standing b) → d.environment b ≡ d.environment a → d.levels b ≡ d.levels a → Reads env d L whole a b r
+  pub read-no-memory : {Z W : Type 0} {a b : D} (r : Result Z Error) {L : Z → W → Type 0} {whole : Context Answer ArcRef → Gets Answer W} → IsErrAnd r memory → MovesOn (d.standing a) (d.standing b) → d.environment b ≡ d.environment a → d.levels b ≡ d.levels a → Reads env d memory L whole a b r
   read-no-memory r is moves same_env same_levels = let q = err_from_is_err_and r is in rw q.1 (record { gives = inr q.2; moves = moves; same_env = same_env; same_levels = same_levels })
 
+  -- the same beside the causes of the items
+  pub read-no-room : {Z W : Type 0} {own : Error → Type 0} {a b : D} {e : Error} (r : Result Z Error) {L : Z → W → Type 0} {whole : Context Answer ArcRef → Gets Answer W} → IsErrAnd r (λ f. f ≡ e) → memory e → MovesOn (d.standing a) (d.standing b) → d.environment b ≡ d.environment a → d.levels b ≡ d.levels a
+      → Reads env d (memory_or own) L whole a b r
+  read-no-room r is lack moves same_env same_levels = let q = err_from_is_err_and r is in rw (q.1, q.2) (record { gives = inr (inl lack); moves = moves; same_env = same_env; same_levels = same_levels })
+
+  -- a value, as its reader has these clauses, by its shape in an environment that is the same
+  pub as-read : {X : Type 0} (own : Error → Type 0) (M : X → Meaning ArcRef → Type 0) (r : Result X Error) {b c : D} (shape : E → Shape) {e : E} → d.environment b ≡ e
+      → record { gives : GivesSome own M (d.rest c) r (read (context_in env d b) (shape (d.environment b)) (d.rest b)); moves : MovesOn (d.standing b) (d.standing c); same_env : d.environment c ≡ d.environment b; same_levels : d.levels c ≡ d.levels b }
+      → Reads env d own M (λ x. read x (shape e)) b c r
+  as-read own M r {b} {c} shape same told =
+      let P : E → Type 0 = λ e. GivesSome own M (d.rest c) r (read (context_in env d b) (shape e) (d.rest b)) in
+      record { gives = subst P same told.gives; moves = told.moves; same_env = told.same_env; same_levels = told.same_levels }
+
   -- a part was read, and what follows it
-  pub read-then : {Z W : Type 0} {L : Z → W → Type 0} {next whole : Context Answer ArcRef → Gets Answer W} {a b c : D} {r : Result Z Error} → MovesOn (d.standing a) (d.standing b) → d.environment b ≡ d.environment a → d.levels b ≡ d.levels a → Reads env d L next b c r
-      → whole (context_in env d a) (d.rest a) ≡ next (context_in env d a) (d.rest b) → Reads env d L whole a c r
+  pub read-then : {Z W : Type 0} {causes : Error → Type 0} {L : Z → W → Type 0} {next whole : Context Answer ArcRef → Gets Answer W} {a b c : D} {r : Result Z Error} → MovesOn (d.standing a) (d.standing b) → d.environment b ≡ d.environment a → d.levels b ≡ d.levels a → Reads env d causes L next b c r
+      → whole (context_in env d a) (d.rest a) ≡ next (context_in env d a) (d.rest b) → Reads env d causes L whole a c r
   read-then moves same_env same_levels q same = record { gives = rw same (rw (same_levels, same_env) at q.gives); moves = moves_trans _ _ _ moves q.moves; same_env = q.same_env ∙ same_env; same_levels = q.same_levels ∙ same_levels }
 
   -- a level was entered, a part was read, and the level was left
-  pub read-below : {Z W : Type 0} {L : Z → W → Type 0} {get : Context Answer ArcRef → Gets Answer W} {a b c z : D} {r : Result Z Error} → (d.levels b ≡ d.levels a + 1) × (d.levels a < deepest) → d.standing b ≡ d.standing a → d.rest b ≡ d.rest a → d.environment b ≡ d.environment a → Reads env d L get b c r
-      → d.levels z ≡ d.levels c - 1 → d.standing z ≡ d.standing c → d.rest z ≡ d.rest c → d.environment z ≡ d.environment c → Reads env d L (λ x. get (record x { levels = x.levels + 1 })) a z r
+  pub read-below : {Z W : Type 0} {causes : Error → Type 0} {L : Z → W → Type 0} {get : Context Answer ArcRef → Gets Answer W} {a b c z : D} {r : Result Z Error} → (d.levels b ≡ d.levels a + 1) × (d.levels a < deepest) → d.standing b ≡ d.standing a → d.rest b ≡ d.rest a → d.environment b ≡ d.environment a → Reads env d causes L get b c r
+      → d.levels z ≡ d.levels c - 1 → d.standing z ≡ d.standing c → d.rest z ≡ d.rest c → d.environment z ≡ d.environment c → Reads env d causes L (λ x. get (record x { levels = x.levels + 1 })) a z r
   read-below down standing_in rest_in env_in p up standing_out rest_out env_out = grind arith
 
   -- no level was left
-  pub read-deep : {Z W : Type 0} {a b c : D} {e : Error} (r : Result Z Error) {L : Z → W → Type 0} {whole : Context Answer ArcRef → Gets Answer W} → IsErrAnd r (λ f. f ≡ e) → MovesOn (d.standing a) (d.standing b) → d.environment b ≡ d.environment a → d.levels b ≡ d.levels a
-      → (e ≡ Error.TooDeep) × (deepest ≤ d.levels b) × (d.levels c ≡ d.levels b) → d.standing c ≡ d.standing b → d.environment c ≡ d.environment b → (deepest ≤ d.levels a → whole (context_in env d a) (d.rest a) ≡ Err Error.TooDeep) → Reads env d L whole a c r
+  pub read-deep : {Z W : Type 0} {causes : Error → Type 0} {a b c : D} {e : Error} (r : Result Z Error) {L : Z → W → Type 0} {whole : Context Answer ArcRef → Gets Answer W} → IsErrAnd r (λ f. f ≡ e) → MovesOn (d.standing a) (d.standing b) → d.environment b ≡ d.environment a → d.levels b ≡ d.levels a
+      → (e ≡ Error.TooDeep) × (deepest ≤ d.levels b) × (d.levels c ≡ d.levels b) → d.standing c ≡ d.standing b → d.environment c ≡ d.environment b → (deepest ≤ d.levels a → whole (context_in env d a) (d.rest a) ≡ Err Error.TooDeep) → Reads env d causes L whole a c r
   read-deep r is moves same_env same_levels deep standing_in env_in same = grind arith
 
   -- of this many, those before the index were read, and they mean this
@@ -95,7 +108,7 @@ module _ {D E R N H K V : Type 0} (env : Environments E N H K V) (d : Deserializ
   none-so-far get count {a} h rest moves same_env same_levels = record { gives = ([], h, rw rest (starts (get (context_in env d a)) count (d.rest a))); moves = moves; same_env = same_env; same_levels = same_levels }
 
   module _ {P : List (Meaning ArcRef) → Type 0} (get : Context Answer ArcRef → Gets Answer (Meaning ArcRef)) (count i : ℕ) {a b : D} where
-    pub one-more : {X : Type 0} {M : X → Meaning ArcRef → Type 0} {Q : List (Meaning ArcRef) → Type 0} {c : D} {x : X} → i < count → SoFar P get count i a b → Reads env d M get b c (Ok x) → ((ms : List (Meaning ArcRef)) (m : Meaning ArcRef) → P ms → M x m → Q (ms ++ m ∷ [])) → SoFar Q get count (i + 1) a c
+    pub one-more : {X : Type 0} {own : Error → Type 0} {M : X → Meaning ArcRef → Type 0} {Q : List (Meaning ArcRef) → Type 0} {c : D} {x : X} → i < count → SoFar P get count i a b → Reads env d own M get b c (Ok x) → ((ms : List (Meaning ArcRef)) (m : Meaning ArcRef) → P ms → M x m → Q (ms ++ m ∷ [])) → SoFar Q get count (i + 1) a c
     one-more lt so q also =
         let g = rw (so.same_levels, so.same_env) at q.gives in
         record {
@@ -105,18 +118,19 @@ module _ {D E R N H K V : Type 0} (env : Environments E N H K V) (d : Deserializ
           same_levels = q.same_levels ∙ so.same_levels;
         }
 
-    pub refused-so-far : {X Z W : Type 0} {M : X → Meaning ArcRef → Type 0} {c : D} {e : Error} (r : Result Z Error) {L : Z → W → Type 0} {whole : Context Answer ArcRef → Gets Answer W} → IsErrAnd r (λ f. f ≡ e) → i < count → SoFar P get count i a b → Reads env d M get b c (let p : Result X Error = Err e in p)
-        → (items (get (context_in env d a)) count (d.rest a) ≡ Err e → whole (context_in env d a) (d.rest a) ≡ Err e) → Reads env d L whole a c r
-    refused-so-far {e = e} r is lt so q same =
-        read-err r is (ends memory (get (context_in env d a)) e so.gives.0 count i (d.rest b) _ lt (rw (so.same_levels, so.same_env) at q.gives) so.gives.2)
-        (moves_trans _ _ _ so.moves q.moves) (q.same_env ∙ so.same_env) (q.same_levels ∙ so.same_levels) (either-memory e) same
-      where
-        either-memory : (e : Error) → memory_or memory e → memory e
-        either-memory e (inl h) = h
-        either-memory e (inr h) = h
+    pub refused-so-far : {X Z W : Type 0} {own causes : Error → Type 0} {M : X → Meaning ArcRef → Type 0} {c : D} {e : Error} (r : Result Z Error) {L : Z → W → Type 0} {whole : Context Answer ArcRef → Gets Answer W} → IsErrAnd r (λ f. f ≡ e) → i < count → SoFar P get count i a b → Reads env d own M get b c (let p : Result X Error = Err e in p)
+        → (memory_or own e → causes e) → (items (get (context_in env d a)) count (d.rest a) ≡ Err e → whole (context_in env d a) (d.rest a) ≡ Err e) → Reads env d causes L whole a c r
+    refused-so-far {own = own} {e = e} r is lt so q may same =
+        read-err r is (ends own (get (context_in env d a)) e so.gives.0 count i (d.rest b) _ lt (rw (so.same_levels, so.same_env) at q.gives) so.gives.2)
+        (moves_trans _ _ _ so.moves q.moves) (q.same_env ∙ so.same_env) (q.same_levels ∙ so.same_levels) may same
 
-    pub all-read : {Z W : Type 0} (z : Z) (view : List (Meaning ArcRef) → W) {L : Z → W → Type 0} {whole : Context Answer ArcRef → Gets Answer W} → count ≤ i → SoFar P get count i a b → ((ms : List (Meaning ArcRef)) → P ms → L z (view ms)) → whole (context_in env d a) (d.rest a) ≡ viewed view (items (get (context_in env d a)) count (d.rest a))
-        → Reads env d L whole a b (let r : Result Z Error = Ok z in r)
+    pub all-read : {Z W : Type 0} {causes : Error → Type 0} (z : Z) (view : List (Meaning ArcRef) → W) {L : Z → W → Type 0} {whole : Context Answer ArcRef → Gets Answer W} → count ≤ i → SoFar P get count i a b → ((ms : List (Meaning ArcRef)) → P ms → L z (view ms)) → whole (context_in env d a) (d.rest a) ≡ viewed view (items (get (context_in env d a)) count (d.rest a))
+        → Reads env d causes L whole a b (let r : Result Z Error = Ok z in r)
     all-read z view le so means same = grind (arith, is_done)
+
+-- causes of items and want of memory, where want of memory is the items' own cause
+pub either-memory : (e : Error) → memory_or memory e → memory e
+either-memory e (inl h) = h
+either-memory e (inr h) = h
 
 pub ruleset no_memory = (read-no-memory, moves_trans)

@@ -4,7 +4,7 @@ use Rattle.pagable_traits.proofs.Words.{Global, Vec, OnOk, IfErr, ℤ, pos, Bool
 use Rattle.pagable_traits.proofs.Words.{longest, length_form, text_form, of_entries, memory, long_or, json_causes, text_order, long_or_memory, MeanAll, MeansList, MeansPair, items_have_meanings}
 use Rattle.pagable_traits.proofs.Words.{pair_has_meaning, Meaning, integer, pair, variant, sequence, none, deepest, Shape, json, list, both, sorted_map, signed, flag, text, list-form, sorted-map-form}
 use Rattle.pagable_traits.proofs.Words.{signed-form, flag-form, text-form, Is, SomeMeaning, Out, Nesting, FormAt, WritesSome, added, NoForm, Refused, Grows, then, memory_refuses, grows_trans}
-use Rattle.pagable_traits.proofs.{Words.{grows_refl, refused_memory, to_z-of_z, bool_form, false, of_data, of_value, of_key, Piece, Wrote, bytes, all}, Maps.{IsOrderOf, key_order, wraps_sorted_map}}
+use Rattle.pagable_traits.proofs.{Words.{grows_refl, refused_memory, to_z-of_z, bool_form, false, ordered, ordering_reverse, of_data, of_value, of_key, Piece, Wrote, bytes, all}, Maps.{IsOrderOf, key_like, wraps_sorted_map}}
 use Rattle.pagable_traits.proofs.{Maps.Written, Parts.{ok_along, err_along, writes_whole, refuses_whole}, Walks.{Wraps, wraps_list, writes-counted, refuses-long, refuses-items}, JsonSteps.deeper}
 use Rattle.pagable_traits.{proofs.JsonSteps.{below, wrote-err}, specs.{JsonData.{long_or_no_memory}, JsonSteps.{front, value as form}}}
 use Rattle.std.{proofs.{lemmas.Bool.lt-ltb, Common.BTreeMap}, specs.{Prelude.nat_lt, String.string_cmp_total}}
@@ -158,7 +158,7 @@ seen-object v members is = rw is (view-Object members)
 
 -- the order of the keys is that of their bytes
 pub keys-in-order : IsOrderOf (Is of_key) string_cmp text_order
-keys-in-order = key_order (Is of_key) of_key (λ k m is. is) string_cmp text_order (λ x y. text_is_ordered (string_bytes x) (string_bytes y)) string_cmp_total
+keys-in-order = key_like (Is of_key) of_key (λ k m is. is) string_cmp (ordered text_order) ordering_reverse (λ x y. text_is_ordered (string_bytes x) (string_bytes y)) string_cmp_total.antisymm
 
 pub value-has : (v : Value) → SomeMeaning (Is of_value v)
 value-has v = (of_value v, refl)

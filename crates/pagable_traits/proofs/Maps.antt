@@ -1,13 +1,12 @@
 -- Entries of maps, sorted or in order of arrival: what they mean as pairs, and what putting in, writing and reading them gives.
 use Rattle.pagable_traits.proofs.Words.{◌≡◌, ℕ, zero, suc, ◌-◌, ◌<◌, ◌≤◌, List, [], ◌∷◌, ◌++◌, length, map, arith, refl, sym, ap, ◌∙◌, append_assoc, Result, Ok, Err, length-map, append-nil}
-use Rattle.pagable_traits.proofs.Words.{AllByRecursion, IsStrictlySortedBy, keys_of, Ordering, ordering_reverse, IsTotalOrder, insert_entry, Error, ArcRef, ◌>>=◌, longest, Meaning, pair, sequence}
+use Rattle.pagable_traits.proofs.Words.{AllByRecursion, IsStrictlySortedBy, keys_of, Ordering, ordering_reverse, insert_entry, Error, ArcRef, ◌>>=◌, longest, Meaning, pair, sequence}
 use Rattle.pagable_traits.proofs.Words.{entry, Entry, KeyOrder, ordered, put_all, put_sorted, AllAfter, Apart, Shape, both, sorted_map, of_entries, Forms, Entries, no-forms, more-forms, more-entries}
 use Rattle.pagable_traits.proofs.Words.{both-form, sorted-map-form, Rest, Gets, Context, deepest, items, counted, seen, read, read_with, Out, Nesting, FormAt, FormsAt, WritesSome, WritesSomeAll}
 use Rattle.pagable_traits.proofs.{Words.{kind_of_arc, Refused, RefusedAll, GivesSome, SomeMeaning, Collected, MeanAll, mean-none, mean-more, MeansList, MeansPair}, Items.{split-same, writes_no_items}}
 use Rattle.pagable_traits.proofs.{Items.writes-next, Collecting.put-in-turn, Walks.{Wraps, wraps-sequence, refuses-among}}
 use Rattle.pagable_model.specs.{Basic.length_at, Keys.Ascends, Form.no-entries, Reading.{bytes_of, two}}
-use Rattle.pagable_traits.proofs.Words.{Bool, false, IsDistinct, same_key, Differ}
-use Rattle.std.specs.Cmp.{IsEquivalence}
+use Rattle.pagable_traits.proofs.Words.{Bool, false, IsDistinct, same_key, Differ, subst}
 use Rattle.pagable_model.specs.{Keys.put_placed, Shape.placed_map, Form.placed-map-form}
 use Rattle.indexmap.specs.IndexMap as placed_maps
 
@@ -16,26 +15,30 @@ use Rattle.indexmap.specs.IndexMap as placed_maps
 cons-is : {X : Type 0} (x y : X) (xs ys : List X) → x ≡ y → xs ≡ ys → x ∷ xs ≡ y ∷ ys
 cons-is x y xs ys e f = rw (e, f) refl
 
+-- these stand for those, one for each, and P holds of each two
+pub data Alike {X Y : Type 0} (P : X → Y → Type 0) : List X → List Y → Type 0 where
+  alike-none : Alike P [] []
+  alike-more : (x : X) (y : Y) (xs : List X) (ys : List Y) → P x y → Alike P xs ys → Alike P (x ∷ xs) (y ∷ ys)
+
 -- each entry's key and value mean these
-unfoldable pub EntriesMean : {K V : Type 0} → (K → Meaning ArcRef → Type 0) → (V → Meaning ArcRef → Type 0) → List (K × V) → List (Entry ArcRef) → Type 0
-EntriesMean M N [] [] = Unit {0}
-EntriesMean M N [] (e ∷ es) = ⊥
-EntriesMean M N (x ∷ xs) [] = ⊥
-EntriesMean M N (x ∷ xs) (e ∷ es) = M x.0 e.0 × N x.1 e.1 × EntriesMean M N xs es
+abbrev pub EntryMeans : {K V : Type 0} → (K → Meaning ArcRef → Type 0) → (V → Meaning ArcRef → Type 0) → K × V → Entry ArcRef → Type 0
+EntryMeans M N x e = M x.0 e.0 × N x.1 e.1
+
+abbrev pub EntriesMean : {K V : Type 0} → (K → Meaning ArcRef → Type 0) → (V → Meaning ArcRef → Type 0) → List (K × V) → List (Entry ArcRef) → Type 0
+EntriesMean M N xs es = Alike (EntryMeans M N) xs es
+
+pub entry-more : {K V : Type 0} (M : K → Meaning ArcRef → Type 0) (N : V → Meaning ArcRef → Type 0) (x : K × V) (e : Entry ArcRef) (xs : List (K × V)) (es : List (Entry ArcRef)) → M x.0 e.0 → N x.1 e.1 → EntriesMean M N xs es → EntriesMean M N (x ∷ xs) (e ∷ es)
+entry-more M N x e xs es first second all = alike-more x e xs es (first, second) all
 
 pub entries-of-pairs : {K V : Type 0} (M : K → Meaning ArcRef → Type 0) (N : V → Meaning ArcRef → Type 0) {xs : List (K × V)} {ms : List (Meaning ArcRef)} → MeanAll (MeansPair M N) xs ms → (es : List (Entry ArcRef)) × (ms ≡ map entry es) × EntriesMean M N xs es
-unfolding EntriesMean
-entries-of-pairs M N mean-none = ([], refl, tt)
+entries-of-pairs M N mean-none = ([], refl, alike-none)
 entries-of-pairs M N (mean-more x m xs ms h t) =
     let rest = entries-of-pairs M N t in
-    ((h.first, h.second) ∷ rest.0, cons-is _ _ _ _ h.is rest.1, (h.is_first, h.is_second, rest.2))
+    ((h.first, h.second) ∷ rest.0, cons-is _ _ _ _ h.is rest.1, entry-more M N x (h.first, h.second) xs rest.0 h.is_first h.is_second rest.2)
 
-pub pairs-of-entries : {K V : Type 0} (M : K → Meaning ArcRef → Type 0) (N : V → Meaning ArcRef → Type 0) (xs : List (K × V)) (es : List (Entry ArcRef)) → EntriesMean M N xs es → MeanAll (MeansPair M N) xs (map entry es)
-unfolding EntriesMean
-pairs-of-entries M N [] [] h = mean-none
-pairs-of-entries M N (x ∷ xs) (e ∷ es) h =
-    mean-more x (entry e) xs (map entry es) (record { first = e.0; second = e.1; is_first = h.0; is_second = h.1; is = refl }) (pairs-of-entries M N xs es h.2)
-pairs-of-entries M N _ _ h = absurd h
+pub pairs-of-entries : {K V : Type 0} (M : K → Meaning ArcRef → Type 0) (N : V → Meaning ArcRef → Type 0) {xs : List (K × V)} {es : List (Entry ArcRef)} → EntriesMean M N xs es → MeanAll (MeansPair M N) xs (map entry es)
+pairs-of-entries M N alike-none = mean-none
+pairs-of-entries M N (alike-more x e xs es h t) = mean-more x (entry e) xs (map entry es) (record { first = e.0; second = e.1; is_first = h.0; is_second = h.1; is = refl }) (pairs-of-entries M N t)
 
 pub same-entries : (ds es : List (Entry ArcRef)) → map entry ds ≡ map entry es → ds ≡ es
 same-entries [] [] e = refl
@@ -57,7 +60,10 @@ forms-of-entries (more-entries d s t x y es b1 b2 c j1 j2 l f g rest) =
 
 -- these pairs mean these entries
 pub entries-mean : {K V : Type 0} (M : K → Meaning ArcRef → Type 0) (N : V → Meaning ArcRef → Type 0) {xs : List (K × V)} (es : List (Entry ArcRef)) → MeanAll (MeansPair M N) xs (map entry es) → EntriesMean M N xs es
-entries-mean M N {xs} es h = grind (arith, entries-of-pairs, same-entries)
+entries-mean {K} {V} M N {xs} es h =
+    let p = entries-of-pairs M N h in
+    let P : List (Entry ArcRef) → Type 0 = λ zs. EntriesMean M N xs zs in
+    subst P (sym (same-entries es p.0 p.1)) p.2
 
 -- pairs that were written are entries that were written
 pub record EntriesWritten {K V : Type 0} (M : K → Meaning ArcRef → Type 0) (N : V → Meaning ArcRef → Type 0) (n : Nesting) (s t : Shape) (xs : List (K × V)) (ms : List (Meaning ArcRef)) (b : List ℕ) (k : List ArcRef) : Type 0 where
@@ -137,68 +143,83 @@ written-refused {T} M has n s all left rest x a b e v f h =
 
 -- ---- putting in
 
--- one more entry on each side leaves them alike
-module _ {K V : Type 0} (M : K → Meaning ArcRef → Type 0) (N : V → Meaning ArcRef → Type 0) (put : List (K × V) → K × V → List (K × V)) (put' : List (Entry ArcRef) → Entry ArcRef → List (Entry ArcRef))
-    (one : (xs : List (K × V)) (es : List (Entry ArcRef)) (x : K × V) (e : Entry ArcRef) → EntriesMean M N xs es → M x.0 e.0 → N x.1 e.1 → EntriesMean M N (put xs x) (put' es e)) where
-  put-all-alike : (acc xs : List (K × V)) (ds es : List (Entry ArcRef)) → EntriesMean M N acc ds → EntriesMean M N xs es → EntriesMean M N (put_all put acc xs) (put_all put' ds es)
-  unfolding EntriesMean put_all
-  put-all-alike acc [] ds [] so_far h = so_far
-  put-all-alike acc (x ∷ xs) ds (e ∷ es) so_far h = put-all-alike (put acc x) xs (put' ds e) es (one acc ds x e so_far h.0 h.1) h.2
-  put-all-alike acc _ ds _ so_far h = absurd h
+-- one more on each side leaves them alike
+module _ {X Y : Type 0} (P : X → Y → Type 0) (put : List X → X → List X) (put' : List Y → Y → List Y) (one : (xs : List X) (ys : List Y) (x : X) (y : Y) → Alike P xs ys → P x y → Alike P (put xs x) (put' ys y)) where
+  put-alike : (acc : List X) (ds : List Y) → Alike P acc ds → {xs : List X} {ys : List Y} → Alike P xs ys → Alike P (put_all put acc xs) (put_all put' ds ys)
+  unfolding put_all
+  put-alike acc ds so_far alike-none = so_far
+  put-alike acc ds so_far (alike-more x y xs ys p t) = put-alike (put acc x) (put' ds y) (one acc ds x y so_far p) t
 
-  -- what was put in entry by entry
-  pub map-put : (now : List (K × V)) (es : List (Entry ArcRef)) → Collected (MeansPair M N) (λ ys x zs. zs ≡ put ys x) now (map entry es)
-      → MeansList (MeansPair M N) now (of_entries (put_all put' [] es))
-  unfolding EntriesMean
-  map-put now es c =
-      let all = put-all-alike [] c.xs [] es tt (entries-mean M N es c.each) in
-      let each : EntriesMean M N now (put_all put' [] es) = rw (put-in-turn put [] c.xs now c.is) all in
-      record { ms = map entry (put_all put' [] es); each = pairs-of-entries M N now (put_all put' [] es) each; is = refl }
+  -- what was put in one by one means what those are named that were put in beside them
+  pub put-means : (Q : X → Meaning ArcRef → Type 0) (names : List Y → List (Meaning ArcRef)) → ((xs : List X) (ys : List Y) → MeanAll Q xs (names ys) → Alike P xs ys) → ((xs : List X) (ys : List Y) → Alike P xs ys → MeanAll Q xs (names ys))
+      → (now : List X) (ys : List Y) → Collected Q (λ old x new. new ≡ put old x) now (names ys) → MeansList Q now (sequence (names (put_all put' [] ys)))
+  put-means Q names into back now ys c =
+      let all : Alike P now (put_all put' [] ys) = rw (put-in-turn put [] c.xs now c.is) (put-alike [] [] alike-none (into c.xs ys c.each)) in
+      record { ms = names (put_all put' [] ys); each = back now (put_all put' [] ys) all; is = refl }
+
+pub map-put : {K V : Type 0} (M : K → Meaning ArcRef → Type 0) (N : V → Meaning ArcRef → Type 0) (put : List (K × V) → K × V → List (K × V)) (put' : List (Entry ArcRef) → Entry ArcRef → List (Entry ArcRef))
+    → ((x : K × V) (e : Entry ArcRef) → M x.0 e.0 → N x.1 e.1 → (xs : List (K × V)) (es : List (Entry ArcRef)) → EntriesMean M N xs es → EntriesMean M N (put xs x) (put' es e))
+    → (now : List (K × V)) (es : List (Entry ArcRef)) → Collected (MeansPair M N) (λ ys x zs. zs ≡ put ys x) now (map entry es) → MeansList (MeansPair M N) now (of_entries (put_all put' [] es))
+map-put M N put put' one now es c =
+    put-means (EntryMeans M N) put put' (λ xs es x e all h. one x e h.0 h.1 xs es all) (MeansPair M N) (map entry) (λ xs es h. entries-mean M N es h) (λ xs es h. pairs-of-entries M N h) now es c
+
+-- what f says of two values, g says of their meanings; turned round, both say flip of it
+pub record IsLike {K O : Type 0} (M : K → Meaning ArcRef → Type 0) (f : K → K → O) (g : Meaning ArcRef → Meaning ArcRef → O) (flip : O → O) : Type 0 where
+  pub agrees : (x y : K) (m n : Meaning ArcRef) → M x m → M y n → f x y ≡ g m n
+  pub flips : (x y : K) → f x y ≡ flip (f y x)
+
+pub key_like : {K O : Type 0} (M : K → Meaning ArcRef → Type 0) (meaning : K → Meaning ArcRef) → ((x : K) (m : Meaning ArcRef) → M x m → m ≡ meaning x) → (f : K → K → O) (g : Meaning ArcRef → Meaning ArcRef → O) (flip : O → O)
+    → ((x y : K) → f x y ≡ g (meaning x) (meaning y)) → ((x y : K) → f x y ≡ flip (f y x)) → IsLike M f g flip
+key_like M meaning single f g flip is flips = record { agrees = λ x y m n first second. rw (single x m first, single y n second) (is x y); flips = flips }
+
+-- the order of a key's values is that of their meanings, and their sameness
+abbrev pub IsOrderOf : {K : Type 0} → (K → Meaning ArcRef → Type 0) → (K → K → Ordering) → KeyOrder → Type 0
+IsOrderOf M cmp order = IsLike M cmp (ordered order) ordering_reverse
+
+abbrev pub IsSameOf : {K : Type 0} → (K → Meaning ArcRef → Type 0) → (K → K → Bool) → Type 0
+IsSameOf M eq = IsLike M eq same_key (λ b. b)
+
+-- where f says one thing of each two keys, g says the same of what they mean, turned round
+module _ {K X Y O : Type 0} {M : K → Meaning ArcRef → Type 0} {f : K → K → O} {g : Meaning ArcRef → Meaning ArcRef → O} {flip : O → O} (is : IsLike M f g flip) (o : O) (P : X → Y → Type 0) (key : X → K) (keys : List X → List K) (splits : (x : X) (xs : List X) → keys (x ∷ xs) ≡ key x ∷ keys xs)
+    (name : Y → Meaning ArcRef) (means : (x : X) (y : Y) → P x y → M (key x) (name y)) where
+  after-alike : (x : X) (y : Y) → P x y → {xs : List X} {ys : List Y} → Alike P xs ys → AllByRecursion (λ k. f (key x) k ≡ o) (keys xs) → AllAfter (λ a b. g (name a) (name b) ≡ flip o) y ys
+  unfolding AllAfter
+  after-alike x y p alike-none h = tt
+  after-alike x y p (alike-more z w xs ys q t) h =
+      let s : AllByRecursion (λ k. f (key x) k ≡ o) (key z ∷ keys xs) = rw (splits z xs) at h in
+      (sym (is.agrees (key z) (key x) (name w) (name y) (means z w q) (means x y p)) ∙ is.flips (key z) (key x) ∙ ap flip s.0, after-alike x y p t s.1)
+
+  pub apart-alike : (Whole : List K → Type 0) → ((k : K) (ks : List K) → Whole (k ∷ ks) → AllByRecursion (λ q. f k q ≡ o) ks × Whole ks) → {xs : List X} {ys : List Y} → Alike P xs ys → Whole (keys xs) → Apart (λ a b. g (name a) (name b) ≡ flip o) ys
+  unfolding Apart
+  apart-alike Whole parts alike-none h = tt
+  apart-alike Whole parts (alike-more x y xs ys p t) h =
+      let s = parts (key x) (keys xs) (rw (splits x xs) at h) in
+      (after-alike x y p t s.0, apart-alike Whole parts t s.1)
 
 -- ---- sorted maps
 
 sorted-map-parts : (n : Nesting) {order : KeyOrder} {s t : Shape} {m : Meaning ArcRef} {b : List ℕ} {k : List ArcRef} (ms : List (Meaning ArcRef)) → FormAt n (sorted_map order s t) m b k → m ≡ sequence ms → (length ms ≤ longest) × ((c : List ℕ) × FormsAt n (both s t) ms c k)
 sorted-map-parts n ms (sorted-map-form l o s t es c k le asc f) e = let short : length (map entry es) ≤ longest = rw (length-map es entry) le in split-same n e short (forms-of-entries f)
 
--- the order of a key's values is that of their meanings
-pub record IsOrderOf {K : Type 0} (M : K → Meaning ArcRef → Type 0) (cmp : K → K → Ordering) (order : KeyOrder) : Type 0 where
-  pub agrees : (x y : K) (m n : Meaning ArcRef) → M x m → M y n → cmp x y ≡ ordered order m n
-  pub antisymm : (x y : K) → cmp x y ≡ ordering_reverse (cmp y x)
+put-in-order : {K V : Type 0} (M : K → Meaning ArcRef → Type 0) (N : V → Meaning ArcRef → Type 0) (cmp : K → K → Ordering) (order : KeyOrder) → IsOrderOf M cmp order → (x : K × V) (e : Entry ArcRef) → M x.0 e.0 → N x.1 e.1 → {xs : List (K × V)} {es : List (Entry ArcRef)} → EntriesMean M N xs es
+    → EntriesMean M N (insert_entry cmp xs x.0 x.1) (put_sorted order es e)
+put-in-order M N cmp order is x e first second alike-none = entry-more M N x e [] [] first second alike-none
+put-in-order M N cmp order is x e first second (alike-more y f xs es g t) = grind (arith, entry-more M N, put-in-order M N cmp order is x e first second t)
 
-pub key_order : {K : Type 0} (M : K → Meaning ArcRef → Type 0) (meaning : K → Meaning ArcRef) → ((x : K) (m : Meaning ArcRef) → M x m → m ≡ meaning x) → (cmp : K → K → Ordering) (order : KeyOrder)
-    → ((x y : K) → cmp x y ≡ ordered order (meaning x) (meaning y)) → IsTotalOrder cmp → IsOrderOf M cmp order
-key_order M meaning single cmp order is total = record { agrees = λ x y m n first second. rw (single x m first, single y n second) (is x y); antisymm = total.antisymm }
-
-put-in-order : {K V : Type 0} (M : K → Meaning ArcRef → Type 0) (N : V → Meaning ArcRef → Type 0) (cmp : K → K → Ordering) (order : KeyOrder) → IsOrderOf M cmp order → (xs : List (K × V)) (es : List (Entry ArcRef)) (x : K × V) (e : Entry ArcRef)
-    → EntriesMean M N xs es → M x.0 e.0 → N x.1 e.1 → EntriesMean M N (insert_entry cmp xs x.0 x.1) (put_sorted order es e)
-unfolding EntriesMean
-put-in-order M N cmp order is [] [] x e h first second = (first, second, tt)
-put-in-order M N cmp order is (y ∷ xs) (f ∷ es) x e h first second = grind (arith, put-in-order M N cmp order is xs es x e h.2 first second)
-put-in-order M N cmp order is _ _ x e h first second = absurd h
-
-below-all : {K V : Type 0} (M : K → Meaning ArcRef → Type 0) (N : V → Meaning ArcRef → Type 0) (cmp : K → K → Ordering) (order : KeyOrder) → IsOrderOf M cmp order → (x : K × V) (e : Entry ArcRef) → M x.0 e.0 → (xs : List (K × V)) (es : List (Entry ArcRef)) → EntriesMean M N xs es
-    → AllByRecursion (λ y. cmp x.0 y ≡ Ordering.Less) (keys_of xs) → AllAfter (λ (d f : Entry ArcRef). ordered order d.0 f.0 ≡ Ordering.Greater) e es
-unfolding EntriesMean AllAfter
-below-all M N cmp order is x e first [] [] h lt = tt
-below-all M N cmp order is x e first (y ∷ xs) (f ∷ es) h lt = grind (arith, below-all M N cmp order is x e first xs es h.2 lt.1)
-below-all M N cmp order is x e first _ _ h lt = absurd h
-
-ascends : {K V : Type 0} (M : K → Meaning ArcRef → Type 0) (N : V → Meaning ArcRef → Type 0) (cmp : K → K → Ordering) (order : KeyOrder) → IsOrderOf M cmp order → (xs : List (K × V)) (es : List (Entry ArcRef)) → EntriesMean M N xs es → IsStrictlySortedBy cmp (keys_of xs) → Ascends order es
-unfolding EntriesMean IsStrictlySortedBy Apart
-ascends M N cmp order is [] [] h sorted = tt
-ascends M N cmp order is (x ∷ xs) (e ∷ es) h sorted = (below-all M N cmp order is x e h.0 xs es h.2 sorted.0, ascends M N cmp order is xs es h.2 sorted.1)
-ascends M N cmp order is _ _ h sorted = absurd h
+ascends : {K V : Type 0} (M : K → Meaning ArcRef → Type 0) (N : V → Meaning ArcRef → Type 0) (cmp : K → K → Ordering) (order : KeyOrder) → IsOrderOf M cmp order → {xs : List (K × V)} {es : List (Entry ArcRef)} → EntriesMean M N xs es → IsStrictlySortedBy cmp (keys_of xs) → Ascends order es
+unfolding IsStrictlySortedBy
+ascends {K} {V} M N cmp order is all sorted = apart-alike is Ordering.Less (EntryMeans M N) (λ (x : K × V). x.0) keys_of (λ x xs. refl) (λ (e : Entry ArcRef). e.0) (λ x e h. h.0) (IsStrictlySortedBy cmp) (λ k ks h. h) all sorted
 
 pub wraps_sorted_map : {K V : Type 0} (M : K → Meaning ArcRef → Type 0) (N : V → Meaning ArcRef → Type 0) (cmp : K → K → Ordering) (order : KeyOrder) → IsOrderOf M cmp order → (xs : List (K × V)) (n : Nesting) (s t : Shape) → IsStrictlySortedBy cmp (keys_of xs)
     → Wraps (MeansPair M N) xs (MeansList (MeansPair M N) xs) n (sorted_map order s t) (both s t)
 wraps_sorted_map M N cmp order is xs n s t sorted = wraps-sequence (MeansPair M N) xs n (sorted_map order s t) (both s t) (λ ms b k f. sorted-map-parts n ms f refl) (λ ms b k each le f.
     let w = entries-written M N each f in
-    rw (w.is, length-map w.es entry) (sorted-map-form _ order s t w.es b k (rw (← w.long) le) (ascends M N cmp order is xs w.es w.mean sorted) w.form))
+    rw (w.is, length-map w.es entry) (sorted-map-form _ order s t w.es b k (rw (← w.long) le) (ascends M N cmp order is w.mean sorted) w.form))
 
 pub sorted-map-put : {K V : Type 0} (M : K → Meaning ArcRef → Type 0) (N : V → Meaning ArcRef → Type 0) (cmp : K → K → Ordering) (order : KeyOrder) → IsOrderOf M cmp order
     → (now : List (K × V)) (es : List (Entry ArcRef))
     → Collected (MeansPair M N) (λ ys x zs. zs ≡ insert_entry cmp ys x.0 x.1) now (map entry es) → MeansList (MeansPair M N) now (of_entries (put_all (put_sorted order) [] es))
-sorted-map-put M N cmp order is now es c = map-put M N (λ ys x. insert_entry cmp ys x.0 x.1) (put_sorted order) (put-in-order M N cmp order is) now es c
+sorted-map-put M N cmp order is now es c = map-put M N (λ ys x. insert_entry cmp ys x.0 x.1) (put_sorted order) (λ x e first second xs es all. put-in-order M N cmp order is x e first second all) now es c
 
 pub reads_sorted_map : {X K V A : Type 0} (own : Error → Type 0) (M : K → Meaning ArcRef → Type 0) (N : V → Meaning ArcRef → Type 0) (cmp : K → K → Ordering) (order : KeyOrder) → IsOrderOf M cmp order → (r : Result X Error) (held : X → List (K × V)) (context : Context A ArcRef) (s t : Shape) (rest last : Rest A)
     → GivesSome own (λ x. Collected (MeansPair M N) (λ ys y zs. zs ≡ insert_entry cmp ys y.0 y.1) (held x)) last r (counted (read context (both s t)) rest) → GivesSome own (λ x. MeansList (MeansPair M N) (held x)) last r (read context (sorted_map order s t) rest)
@@ -211,34 +232,14 @@ reads_sorted_map own M N cmp order is r held context s t rest last h =
 placed-map-parts : (n : Nesting) {s t : Shape} {m : Meaning ArcRef} {b : List ℕ} {k : List ArcRef} (ms : List (Meaning ArcRef)) → FormAt n (placed_map s t) m b k → m ≡ sequence ms → (length ms ≤ longest) × ((c : List ℕ) × FormsAt n (both s t) ms c k)
 placed-map-parts n ms (placed-map-form l s t es c k le differ f) e = let short : length (map entry es) ≤ longest = rw (length-map es entry) le in split-same n e short (forms-of-entries f)
 
--- the sameness of a key's values is that of their meanings
-pub record IsSameOf {K : Type 0} (M : K → Meaning ArcRef → Type 0) (eq : K → K → Bool) : Type 0 where
-  pub agrees : (x y : K) (m n : Meaning ArcRef) → M x m → M y n → eq x y ≡ same_key m n
-  pub symm : (x y : K) → eq x y ≡ eq y x
-
-pub key_same : {K : Type 0} (M : K → Meaning ArcRef → Type 0) (meaning : K → Meaning ArcRef) → ((x : K) (m : Meaning ArcRef) → M x m → m ≡ meaning x) → (eq : K → K → Bool)
-    → ((x y : K) → eq x y ≡ same_key (meaning x) (meaning y)) → IsEquivalence eq → IsSameOf M eq
-key_same M meaning single eq is laws = record { agrees = λ x y m n first second. rw (single x m first, single y n second) (is x y); symm = laws.symm }
-
-put-in-place : {K V : Type 0} (M : K → Meaning ArcRef → Type 0) (N : V → Meaning ArcRef → Type 0) (eq : K → K → Bool) → IsSameOf M eq → (xs : List (K × V)) (es : List (Entry ArcRef)) (x : K × V) (e : Entry ArcRef) → EntriesMean M N xs es → M x.0 e.0 → N x.1 e.1
+put-in-place : {K V : Type 0} (M : K → Meaning ArcRef → Type 0) (N : V → Meaning ArcRef → Type 0) (eq : K → K → Bool) → IsSameOf M eq → (x : K × V) (e : Entry ArcRef) → M x.0 e.0 → N x.1 e.1 → {xs : List (K × V)} {es : List (Entry ArcRef)} → EntriesMean M N xs es
     → EntriesMean M N (placed_maps.insert_entry eq xs x.0 x.1) (put_placed es e)
-unfolding EntriesMean
-put-in-place M N eq is [] [] x e h first second = (first, second, tt)
-put-in-place M N eq is (y ∷ xs) (f ∷ es) x e h first second = grind (arith, put-in-place M N eq is xs es x e h.2 first second)
-put-in-place M N eq is _ _ x e h first second = absurd h
-
-apart-from-all : {K V : Type 0} (M : K → Meaning ArcRef → Type 0) (N : V → Meaning ArcRef → Type 0) (eq : K → K → Bool) → IsSameOf M eq → (x : K × V) (e : Entry ArcRef) → M x.0 e.0 → (xs : List (K × V)) (es : List (Entry ArcRef)) → EntriesMean M N xs es
-    → AllByRecursion (λ y. eq x.0 y ≡ false) (keys_of xs) → AllAfter (λ (d f : Entry ArcRef). same_key d.0 f.0 ≡ false) e es
-unfolding EntriesMean AllAfter
-apart-from-all M N eq is x e first [] [] h other = tt
-apart-from-all M N eq is x e first (y ∷ xs) (f ∷ es) h other = (sym (is.agrees y.0 x.0 f.0 e.0 h.0 first) ∙ is.symm y.0 x.0 ∙ other.0, apart-from-all M N eq is x e first xs es h.2 other.1)
-apart-from-all M N eq is x e first _ _ h other = absurd h
+put-in-place M N eq is x e first second alike-none = entry-more M N x e [] [] first second alike-none
+put-in-place M N eq is x e first second (alike-more y f xs es g t) = grind (arith, entry-more M N, put-in-place M N eq is x e first second t)
 
 pub differ : {K V : Type 0} (M : K → Meaning ArcRef → Type 0) (N : V → Meaning ArcRef → Type 0) (eq : K → K → Bool) → IsSameOf M eq → (xs : List (K × V)) (es : List (Entry ArcRef)) → EntriesMean M N xs es → IsDistinct eq (keys_of xs) → Differ es
-unfolding EntriesMean IsDistinct Apart
-differ M N eq is [] [] h distinct = tt
-differ M N eq is (x ∷ xs) (e ∷ es) h distinct = (apart-from-all M N eq is x e h.0 xs es h.2 distinct.0, differ M N eq is xs es h.2 distinct.1)
-differ M N eq is _ _ h distinct = absurd h
+unfolding IsDistinct
+differ {K} {V} M N eq is xs es all distinct = apart-alike is false (EntryMeans M N) (λ (x : K × V). x.0) keys_of (λ x xs. refl) (λ (e : Entry ArcRef). e.0) (λ x e h. h.0) (IsDistinct eq) (λ k ks h. h) all distinct
 
 pub wraps_placed_map : {K V : Type 0} (M : K → Meaning ArcRef → Type 0) (N : V → Meaning ArcRef → Type 0) (eq : K → K → Bool) → IsSameOf M eq → (xs : List (K × V)) (n : Nesting) (s t : Shape) → IsDistinct eq (keys_of xs) → Wraps (MeansPair M N) xs (MeansList (MeansPair M N) xs) n (placed_map s t) (both s t)
 wraps_placed_map M N eq is xs n s t distinct = wraps-sequence (MeansPair M N) xs n (placed_map s t) (both s t) (λ ms b k f. placed-map-parts n ms f refl) (λ ms b k each le f.
@@ -249,4 +250,4 @@ pub reads_placed_map : {X K V A : Type 0} (own : Error → Type 0) (M : K → Me
     → GivesSome own (λ x. Collected (MeansPair M N) (λ ys y zs. zs ≡ placed_maps.insert_entry eq ys y.0 y.1) (held x)) last r (counted (read context (both s t)) rest) → GivesSome own (λ x. MeansList (MeansPair M N) (held x)) last r (read context (placed_map s t) rest)
 unfolding read read_with
 reads_placed_map own M N eq is r held context s t rest last h =
-    reads-entries own (λ x. Collected (MeansPair M N) (λ ys y zs. zs ≡ placed_maps.insert_entry eq ys y.0 y.1) (held x)) (λ x. MeansList (MeansPair M N) (held x)) (λ es. of_entries (put_all put_placed [] es)) (λ x es p. map-put M N (λ ys y. placed_maps.insert_entry eq ys y.0 y.1) put_placed (put-in-place M N eq is) (held x) es p) r context s t rest last h
+    reads-entries own (λ x. Collected (MeansPair M N) (λ ys y zs. zs ≡ placed_maps.insert_entry eq ys y.0 y.1) (held x)) (λ x. MeansList (MeansPair M N) (held x)) (λ es. of_entries (put_all put_placed [] es)) (λ x es p. map-put M N (λ ys y. placed_maps.insert_entry eq ys y.0 y.1) put_placed (λ x e first second xs es all. put-in-place M N eq is x e first second all) (held x) es p) r context s t rest last h

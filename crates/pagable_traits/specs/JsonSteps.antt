@@ -1,8 +1,8 @@
--- What the functions that write and read JSON values owe: the clauses that the traits of values have, in one record.
+-- What functions that write and read values owe: the clauses that the traits of values have, in one record.
 use Rattle.std.specs.{Prelude.{◌≡◌, ◌≤◌, ℕ, List, [], Result, OnOk, IfErr, String}, BTreeMap.{BTreeMap, insert_entry}, Int.w64, String.string_cmp, declared.alloc.Global.Global}
 use Rattle.serde_json.specs.declared.value.Value.{Value}
 use Rattle.pagable_model.specs.{Standing.{Answer, GivesSome, Is, MovesOn, handles_at}, Writing.{Out, Nesting, nesting, added, WritesSome, WritesSomeAll, Refused, RefusedAll, Grows}}
-use Rattle.pagable_model.specs.{declared.error.Error.Error, declared.numbers.ArcRef.ArcRef, Collected.Collected, Lifted.MeansPair, Basic.{longest, length_form}, Gives.memory, Meaning.Meaning}
+use Rattle.pagable_model.specs.{declared.error.Error.Error, declared.numbers.ArcRef.ArcRef, Collected.Collected, Lifted.MeansPair, Basic.{longest, length_form}, Meaning.Meaning}
 use Rattle.pagable_model.specs.{Numbers.unsigned_form, Reading.{Context, Gets, JsonCase}, Shape.Shape}
 use Rattle.pagable_traits.specs.JsonData.{of_key, of_value, part_at}
 use Rattle.pagable_codec.specs.{declared.env.Env.Ghosts as Environments, declared.serializer.PagableSerializer.Ghosts as Serializers}
@@ -45,8 +45,8 @@ module _ {D E R N H K V : Type 0} (env : Environments E N H K V) (d : Deserializ
   context_in x = handles_at (d.levels x) (env.parts (d.environment x))
 
   -- as PagableDeserialize says it of a value
-  pub record Reads {X Y : Type 0} (means : X → Y → Type 0) (get : Context Answer ArcRef → Gets Answer Y) (old new : D) (result : Result X Error) : Type 0 where
-    pub gives : GivesSome memory means (d.rest new) result (get (context_in old) (d.rest old))
+  pub record Reads {X Y : Type 0} (causes : Error → Type 0) (means : X → Y → Type 0) (get : Context Answer ArcRef → Gets Answer Y) (old new : D) (result : Result X Error) : Type 0 where
+    pub gives : GivesSome causes means (d.rest new) result (get (context_in old) (d.rest old))
     pub moves : MovesOn (d.standing old) (d.standing new)
     pub same_env : d.environment new ≡ d.environment old
     pub same_levels : d.levels new ≡ d.levels old

@@ -2,8 +2,8 @@
 //! as they are written.
 
 ghost use Rattle.std.specs.{Iterator.IsFinite, Prelude.{◌≡◌, ℕ, List, [], length, min, OnOk, IfOk, IfErr}};
-ghost use Rattle.pagable_model.specs.{Collected.Collected, Gives.{memory, memory_or, long_or}, Reading.{items, counted, read}, Standing.{handles_at, MovesOn, GivesSome}, Writing.{nesting, Grows}};
-ghost use Rattle.pagable_traits.specs.Walks.{WritesEach, WritesCounted, RefusedAmong, RefusedCounted};
+ghost use Rattle.pagable_model.specs.{Collected.Collected, Gives.{memory, memory_or, long_or}, Reading.{items, counted, read}, Standing.MovesOn, Writing.{nesting, Grows}};
+ghost use Rattle.pagable_traits.specs.{JsonSteps.Reads, Walks.{WritesEach, WritesCounted, RefusedAmong, RefusedCounted}};
 
 use crate::traits::{PagableDeserialize, PagableSerialize};
 use pagable_codec::parts::{places_for, read_count, write_count};
@@ -62,11 +62,7 @@ pub fn collect_items<
     C: Collects<T> + Drop,
     D: PagableDeserializer<E>,
 >(alloc: Global, count: usize, deserializer: &mut D) -> Result<C, Error>
-    ensures gives { GivesSome (memory_or T.read_causes.are) (λ c. Collected T.means.of C.puts (C.held c)) (D.rest deserializer.new) result
-        (items (read (handles_at (D.levels deserializer.old) (E.parts (D.environment deserializer.old))) (T.shape (D.environment deserializer.old))) count (D.rest deserializer.old)) }
-    ensures moves { MovesOn (D.standing deserializer.old) (D.standing deserializer.new) }
-    ensures same_env { D.environment deserializer.new ≡ D.environment deserializer.old }
-    ensures same_levels { D.levels deserializer.new ≡ D.levels deserializer.old }
+    ensures { Reads E.Env D.PagableDeserializer (memory_or T.read_causes.are) (λ c. Collected T.means.of C.puts (C.held c)) (λ x. items (read x (T.shape (D.environment deserializer.old))) count) deserializer.old deserializer.new result }
 {
     let mut collected: C = with_room(alloc, count, deserializer)?;
     for index in 0..count {
@@ -85,11 +81,7 @@ pub fn read_collected<
     C: Collects<T> + Drop,
     D: PagableDeserializer<E>,
 >(alloc: Global, deserializer: &mut D) -> Result<C, Error>
-    ensures gives { GivesSome (memory_or T.read_causes.are) (λ c. Collected T.means.of C.puts (C.held c)) (D.rest deserializer.new) result
-        (counted (read (handles_at (D.levels deserializer.old) (E.parts (D.environment deserializer.old))) (T.shape (D.environment deserializer.old))) (D.rest deserializer.old)) }
-    ensures moves { MovesOn (D.standing deserializer.old) (D.standing deserializer.new) }
-    ensures same_env { D.environment deserializer.new ≡ D.environment deserializer.old }
-    ensures same_levels { D.levels deserializer.new ≡ D.levels deserializer.old }
+    ensures { Reads E.Env D.PagableDeserializer (memory_or T.read_causes.are) (λ c. Collected T.means.of C.puts (C.held c)) (λ x. counted (read x (T.shape (D.environment deserializer.old)))) deserializer.old deserializer.new result }
 {
     let count = read_count(deserializer)?;
     collect_items(alloc, count, deserializer)

@@ -2,7 +2,7 @@
 //! entered after their length was read.
 
 ghost use Rattle.std.{specs.Prelude.◌≡◌, specs.Int.w64};
-ghost use Rattle.pagable_model.specs.{Reading.{bytes_of, items as items_at, read, seen, array_case, object_case}, Gives.{Gives, never}, Lifted.MeansPair, Meaning.{sequence, variant}};
+ghost use Rattle.pagable_model.specs.{Reading.{bytes_of, items as items_at, read, seen, array_case, object_case}, Gives.{Gives, memory, never}, Lifted.MeansPair, Meaning.{sequence, variant}};
 ghost use Rattle.pagable_model.specs.{Numbers.unsigned_at, Shape.{both, json, text}, Standing.{Is, MovesOn}};
 ghost use Rattle.pagable_traits.specs.{JsonData.{of_key, of_value}, JsonSteps.{Reads, part_of, ObjectOf}, Meanings.exactly, OwnCauses.reads_memory};
 
@@ -54,7 +54,7 @@ pub fn read_value<E: Env, D: PagableDeserializer<E>>(
     alloc: Global,
     deserializer: &mut D,
 ) -> Result<Value, Error>
-    ensures { Reads E.Env D.PagableDeserializer (Is of_value) (λ c. read c json) deserializer.old deserializer.new result }
+    ensures { Reads E.Env D.PagableDeserializer memory (Is of_value) (λ c. read c json) deserializer.old deserializer.new result }
 {
     let case = read_case(deserializer)?;
     match case {
@@ -87,7 +87,7 @@ fn array_part<E: Env, D: PagableDeserializer<E>>(
     alloc: Global,
     deserializer: &mut D,
 ) -> Result<Value, Error>
-    ensures { Reads E.Env D.PagableDeserializer (Is of_value) (part_of array_case) deserializer.old deserializer.new result }
+    ensures { Reads E.Env D.PagableDeserializer memory (Is of_value) (part_of array_case) deserializer.old deserializer.new result }
 {
     let count = read_count(deserializer)?;
     deserializer.enter()?;
@@ -104,7 +104,7 @@ fn read_items<E: Env, D: PagableDeserializer<E>>(
     count: usize,
     deserializer: &mut D,
 ) -> Result<Value, Error>
-    ensures { Reads E.Env D.PagableDeserializer (Is of_value) (λ c. seen (λ ms. variant 4 (sequence ms)) (items_at (read c json) count)) deserializer.old deserializer.new result }
+    ensures { Reads E.Env D.PagableDeserializer memory (Is of_value) (λ c. seen (λ ms. variant 4 (sequence ms)) (items_at (read c json) count)) deserializer.old deserializer.new result }
 {
     let places = places_for(count, deserializer);
     let mut values = Vec::with_capacity(alloc, places)?;
@@ -122,7 +122,7 @@ fn object_part<E: Env, D: PagableDeserializer<E>>(
     alloc: Global,
     deserializer: &mut D,
 ) -> Result<Value, Error>
-    ensures { Reads E.Env D.PagableDeserializer (Is of_value) (part_of object_case) deserializer.old deserializer.new result }
+    ensures { Reads E.Env D.PagableDeserializer memory (Is of_value) (part_of object_case) deserializer.old deserializer.new result }
 {
     let count = read_count(deserializer)?;
     deserializer.enter()?;
@@ -139,7 +139,7 @@ fn read_members<E: Env, D: PagableDeserializer<E>>(
     count: usize,
     deserializer: &mut D,
 ) -> Result<Value, Error>
-    ensures { Reads E.Env D.PagableDeserializer ObjectOf (λ c. items_at (read c (both text json)) count) deserializer.old deserializer.new result }
+    ensures { Reads E.Env D.PagableDeserializer memory ObjectOf (λ c. items_at (read c (both text json)) count) deserializer.old deserializer.new result }
 {
     let mut members = BTreeMap::new(alloc);
     for index in 0..count {
@@ -157,7 +157,7 @@ fn read_member<E: Env, D: PagableDeserializer<E>>(
     alloc: Global,
     deserializer: &mut D,
 ) -> Result<(String, Value), Error>
-    ensures { Reads E.Env D.PagableDeserializer (MeansPair (Is of_key) (Is of_value)) (λ c. read c (both text json)) deserializer.old deserializer.new result }
+    ensures { Reads E.Env D.PagableDeserializer memory (MeansPair (Is of_key) (Is of_value)) (λ c. read c (both text json)) deserializer.old deserializer.new result }
 {
     let key = String::pagable_deserialize(alloc, deserializer)?;
     let value = read_value(alloc, deserializer)?;

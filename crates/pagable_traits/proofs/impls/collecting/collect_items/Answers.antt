@@ -1,51 +1,34 @@
-use Rattle.pagable_traits.proofs.{Words.{inl, inr, ◌∙◌, ◌++◌, ◌∷◌, [], err_from_is_err_and, moves_trans}, Items.{starts, goes_on, ends, is_done}, Collecting.{collected_none, collected_more}}
+use Rattle.pagable_traits.proofs.{JsonSteps.{none-so-far, one-more, refused-so-far, all-read, as-read, read-no-room, seen-same}, Collecting.{collected_none, collected_more}, Words.{Ok, Err, ◌∙◌, moves_trans}}
 use Rattle.pagable_traits.proofs.impls.collecting.collect_items.Goals as goal
+
+pub returns-in_err-collected : goal.returns-in_err-collected
+returns-in_err-collected g c =
+    let made = c.in_err-collected.ensures in
+    read-no-room g.E.Env g.D.PagableDeserializer c.from_residual.result c.from_residual.ensures.1 made.only made.moves made.same_env made.same_levels
 
 pub loop-index-init : goal.loop-index-init
 loop-index-init g c =
-    record {
-      gives = ([], collected_none g.T.Carried.means.of g.C.Collects.puts _ c.in_ok-collected.ensures.empty, rw c.in_ok-collected.ensures.same_rest (starts _ _ _));
-      moves = c.in_ok-collected.ensures.moves;
-      same_env = c.in_ok-collected.ensures.same_env;
-      same_levels = c.in_ok-collected.ensures.same_levels;
-    }
+    let made = c.in_ok-collected.ensures in
+    none-so-far g.E.Env g.D.PagableDeserializer _ _ (collected_none g.T.Carried.means.of g.C.Collects.puts _ made.empty) made.same_rest made.moves made.same_env made.same_levels
 
 pub loop-index-preserved : goal.loop-index-preserved
 loop-index-preserved g c =
-    let i = c.loop-index.invariant in
-    let gave = rw (i.same_levels, i.same_env) at c.in_ok-value.ensures.gives in
-    record {
-      gives = (
-        i.gives.0 ++ gave.m ∷ [],
-        collected_more g.T.Carried.means.of g.C.Collects.puts _ _ i.gives.0 c.in_ok-value.value gave.m i.gives.1 gave.is c.in_ok-put_in.ensures.ok,
-        goes_on _ i.gives.0 _ _ _ gave.m _ _ c.loop-index-test.true gave.gave i.gives.2,
-      );
-      moves = moves_trans _ _ _ i.moves c.in_ok-value.ensures.moves;
-      same_env = c.in_ok-value.ensures.same_env ∙ i.same_env;
-      same_levels = c.in_ok-value.ensures.same_levels ∙ i.same_levels;
-    }
+    let so = c.loop-index.invariant in
+    one-more g.E.Env g.D.PagableDeserializer _ _ _ c.loop-index-test.true so
+    (as-read g.E.Env g.D.PagableDeserializer g.T.PagableDeserialize.read_causes.are g.T.Carried.means.of (Ok c.in_ok-value.value) g.T.Carried.shape so.same_env c.in_ok-value.ensures)
+    (λ ms m each is. collected_more g.T.Carried.means.of g.C.Collects.puts _ _ ms c.in_ok-value.value m each is c.in_ok-put_in.ensures.ok)
 
 pub returns-in_err-value : goal.returns-in_err-value
 returns-in_err-value g c =
-    let p = err_from_is_err_and c.from_residual-in_err-value.result c.from_residual-in_err-value.ensures.1 in
-    let i = c.loop-index.invariant in
-    let told = c.in_err-value.ensures in
-    rw (p.1, p.2) (record {
-      gives = ends g.T.PagableDeserialize.read_causes.are _ _ i.gives.0 _ _ _ _ c.loop-index-test.true (rw (i.same_levels, i.same_env) at told.gives) i.gives.2;
-      moves = moves_trans _ _ _ i.moves told.moves;
-      same_env = told.same_env ∙ i.same_env;
-      same_levels = told.same_levels ∙ i.same_levels;
-    })
-
-pub returns : goal.returns
-returns g c =
-    let i = c.loop-index.invariant in
-    let gave = is_done _ i.gives.0 _ _ _ _ c.loop-index-test.false i.gives.2 in
-    record { gives = record { m = i.gives.0; is = i.gives.1; gave = gave }; moves = i.moves; same_env = i.same_env; same_levels = i.same_levels }
+    let so = c.loop-index.invariant in
+    refused-so-far g.E.Env g.D.PagableDeserializer _ _ _ c.from_residual-in_err-value.result c.from_residual-in_err-value.ensures.1 c.loop-index-test.true so
+    (as-read g.E.Env g.D.PagableDeserializer g.T.PagableDeserialize.read_causes.are g.T.Carried.means.of (Err c.in_err-value.field-0.0) g.T.Carried.shape so.same_env c.in_err-value.ensures) (λ h. h) (λ h. h)
 
 pub returns-in_err-put_in : goal.returns-in_err-put_in
 returns-in_err-put_in g c =
-    let p = err_from_is_err_and c.from_residual-in_err-put_in.result c.from_residual-in_err-put_in.ensures.1 in
-    let i = c.loop-index.invariant in
+    let so = c.loop-index.invariant in
     let told = c.in_ok-value.ensures in
-    rw (p.1, p.2) (record { gives = inr (inl c.in_err-put_in.ensures.only); moves = moves_trans _ _ _ i.moves told.moves; same_env = told.same_env ∙ i.same_env; same_levels = told.same_levels ∙ i.same_levels })
+    read-no-room g.E.Env g.D.PagableDeserializer c.from_residual-in_err-put_in.result c.from_residual-in_err-put_in.ensures.1 c.in_err-put_in.ensures.only (moves_trans _ _ _ so.moves told.moves) (told.same_env ∙ so.same_env) (told.same_levels ∙ so.same_levels)
+
+pub returns : goal.returns
+returns g c = all-read g.E.Env g.D.PagableDeserializer _ _ _ c.loop-index.collected (λ ms. ms) c.loop-index-test.false c.loop-index.invariant (λ ms each. each) (seen-same _)

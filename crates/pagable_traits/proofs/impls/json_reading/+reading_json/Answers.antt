@@ -1,5 +1,5 @@
 use Rattle.pagable_traits.proofs.{Words.{◌≡◌, refl, rules, insert_entry, MeansPair, mean-none, variant, sequence, Is, string_cmp, of_value, of_key}}
-use Rattle.pagable_traits.proofs.{JsonSteps.{read-then, read-below, read-deep, none-so-far, one-more, refused-so-far, all-read, seen-same}, JsonRead.{array-deep, array-seen, is-array, object-deep}}
+use Rattle.pagable_traits.proofs.{JsonSteps.{read-then, read-below, read-deep, none-so-far, one-more, refused-so-far, all-read, seen-same, either-memory}, JsonRead.{array-deep, array-seen, is-array, object-deep}}
 use Rattle.pagable_traits.proofs.{JsonRead.object-read, Collecting.{collected_none, collected_more}, Items.mean_last}
 use Rattle.pagable_codec.proofs.Reading.{moves_refl}
 use Rattle.serde_json.specs.declared.value.Value as values
@@ -45,7 +45,7 @@ read_items-loop-index-preserved g t c =
 
 pub read_items-returns-in_err-value : goal.read_items-returns-in_err-value
 read_items-returns-in_err-value g t c =
-    refused-so-far g.E.Env g.D.PagableDeserializer _ _ _ c.from_residual-in_err-value.result c.from_residual-in_err-value.ensures.1 c.loop-index-test.true c.loop-index.invariant c.in_err-value.ensures (λ h. rw h refl)
+    refused-so-far g.E.Env g.D.PagableDeserializer _ _ _ c.from_residual-in_err-value.result c.from_residual-in_err-value.ensures.1 c.loop-index-test.true c.loop-index.invariant c.in_err-value.ensures (either-memory _) (λ h. rw h refl)
 
 pub read_items-returns : goal.read_items-returns
 read_items-returns g t c = all-read g.E.Env g.D.PagableDeserializer _ _ _ (values.Array c.loop-index.values) (λ ms. variant 4 (sequence ms)) c.loop-index-test.false c.loop-index.invariant (λ ms each. is-array c.loop-index.values ms each) refl
@@ -61,7 +61,7 @@ read_members-loop-index-preserved g t c =
 
 pub read_members-returns-in_err-member : goal.read_members-returns-in_err-member
 read_members-returns-in_err-member g t c =
-    refused-so-far g.E.Env g.D.PagableDeserializer _ _ _ c.from_residual.result c.from_residual.ensures.1 c.loop-index-test.true c.loop-index.invariant c.in_err-member.ensures (λ h. h)
+    refused-so-far g.E.Env g.D.PagableDeserializer _ _ _ c.from_residual.result c.from_residual.ensures.1 c.loop-index-test.true c.loop-index.invariant c.in_err-member.ensures (either-memory _) (λ h. h)
 
 pub read_members-returns : goal.read_members-returns
 read_members-returns g t c =

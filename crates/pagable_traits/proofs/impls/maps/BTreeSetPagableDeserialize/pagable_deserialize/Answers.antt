@@ -1,7 +1,7 @@
-use Rattle.pagable_traits.proofs.{Maps.key_order, Sets.reads_sorted_set}
+use Rattle.pagable_traits.proofs.{Words.{ordered, ordering_reverse}, Maps.key_like, Sets.reads_sorted_set}
 use Rattle.pagable_traits.proofs.impls.maps.BTreeSetPagableDeserialize.pagable_deserialize.Goals as goal
 
 pub returns-clause-gives : goal.returns-clause-gives
 returns-clause-gives g c =
-    let same = key_order g.T.Carried.means.of g.T.Carried.means.meaning g.met.T.OneMeaning.single g.T.Ord.cmp g.T.PagableOrdKey.order g.met.T.PagableOrdKey.is_order g.met.T.Ord.total in
+    let same = key_like g.T.Carried.means.of g.T.Carried.means.meaning g.met.T.OneMeaning.single g.T.Ord.cmp (ordered g.T.PagableOrdKey.order) ordering_reverse g.met.T.PagableOrdKey.is_order g.met.T.Ord.total.antisymm in
     reads_sorted_set _ g.T.Carried.means.of g.T.Ord.cmp g.T.PagableOrdKey.order same c.read_collected.result (λ x. x.keys) _ _ _ _ c.read_collected.ensures.gives

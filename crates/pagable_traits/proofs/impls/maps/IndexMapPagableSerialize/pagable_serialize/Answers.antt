@@ -1,9 +1,9 @@
-use Rattle.pagable_traits.proofs.{Words.{some, pairs}, Walks.shows_entries, Maps.{key_same, wraps_placed_map}, Walks.owed-counted}
+use Rattle.pagable_traits.proofs.{Words.{some, pairs, same_key}, Walks.shows_entries, Maps.{key_like, wraps_placed_map}, Walks.owed-counted}
 use Rattle.pagable_traits.proofs.impls.maps.IndexMapPagableSerialize.pagable_serialize.Goals as goal
 
 pub returns : goal.returns
 returns g c =
-    let same = key_same g.K.Carried.means.of g.K.Carried.means.meaning g.met.K.OneMeaning.single g.K.PartialEq.eq g.met.K.PagableKey.key.same g.met.K.Eq.laws in
+    let same = key_like g.K.Carried.means.of g.K.Carried.means.meaning g.met.K.OneMeaning.single g.K.PartialEq.eq same_key (λ b. b) g.met.K.PagableKey.key.same g.met.K.Eq.laws.symm in
     let shows = shows_entries g.K.Carried.means.of g.V.Carried.means.of c.args.self.now.entries c.iter.ensures.rest in
     owed-counted g.S.PagableSerializer _ c.write_counted.result c.len.result shows
     (wraps_placed_map g.K.Carried.means.of g.V.Carried.means.of g.K.PartialEq.eq same _ _ _ _ c.len.ensures.unique)

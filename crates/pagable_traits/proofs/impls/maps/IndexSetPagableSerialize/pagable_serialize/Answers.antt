@@ -1,9 +1,9 @@
-use Rattle.pagable_traits.proofs.{Words.some, Walks.shows_items, Maps.key_same, Sets.wraps_placed_set, Walks.owed-counted}
+use Rattle.pagable_traits.proofs.{Words.{some, same_key}, Walks.shows_items, Maps.key_like, Sets.wraps_placed_set, Walks.owed-counted}
 use Rattle.pagable_traits.proofs.impls.maps.IndexSetPagableSerialize.pagable_serialize.Goals as goal
 
 pub returns : goal.returns
 returns g c =
-    let same = key_same g.T.Carried.means.of g.T.Carried.means.meaning g.met.T.OneMeaning.single g.T.PartialEq.eq g.met.T.PagableKey.key.same g.met.T.Eq.laws in
+    let same = key_like g.T.Carried.means.of g.T.Carried.means.meaning g.met.T.OneMeaning.single g.T.PartialEq.eq same_key (λ b. b) g.met.T.PagableKey.key.same g.met.T.Eq.laws.symm in
     let shows = shows_items g.T.Carried.means.of c.args.self.now.keys c.iter.ensures.rest in
     owed-counted g.S.PagableSerializer _ c.write_counted.result c.len.result shows
     (wraps_placed_set g.T.Carried.means.of g.T.PartialEq.eq same _ _ _ c.len.ensures.unique) (some g.T.Carried.means) c.len.ensures.len c.write_counted.ensures
