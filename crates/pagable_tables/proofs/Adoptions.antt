@@ -1,16 +1,13 @@
 -- What a load asks and reads: why it can't become a node, and what becomes of it.
 use Rattle.pagable_tables.proofs.Words.{◌≡◌, ℕ, ◌<◌, ◌≤◌, Bool, true, false, if◌then◌else◌, refl, ap, ◌∙◌, arith, Ok, Err, Some, None, inl, inr, not, is_some, Result, [], Error, HandleNumber}
-use Rattle.pagable_tables.proofs.Words.{LoadNumber, NodeNumber, Kind, Owner, Mode, is_loose_kind, is_shared, mode_of, Core, OpenLoad, greatest, usable, Alike, rank, earlier, refused_if, spent}
+use Rattle.pagable_tables.proofs.Words.{LoadNumber, NodeNumber, Kind, Owner, Mode, is_loose_kind, mode_of, Core, OpenLoad, greatest, usable, Alike, rank, earlier, refused_if, spent}
 use Rattle.pagable_tables.proofs.Words.{load_fault, OwnsLoad, Refused, birth_fault, node_fault, lazy_fault, adopted, LazyCall, OptionalDataKey, Makes, nat_tests, ◌==◌, List, Option, ArcRef, type_of}
 use Rattle.pagable_tables.proofs.Words.{or_else, references_fault, AreHandlesFull, FallsAnyhow, with_handle, is_named_by, adopt_fault, first_key, Adopts, early_fault, OnlyRoom, ◌&&◌, ◌≢◌, ◌⊎◌}
-use Rattle.pagable_tables.proofs.{Words.with_cached, Opened.{earlier-first, load-low, no-load-fault, late, kind-late, references-low}, Readied.{fault-by, room-alike}, Worlds.{still, usable-same}}
+use Rattle.pagable_tables.proofs.{Words.with_cached, Opened.{earlier-first, load-low, no-load-fault, late, references-low}, Readied.{fault-by, room-alike}, Worlds.{still, usable-same}}
 use Rattle.{pagable_tables.proofs.keeps.EndCalls.both-none, pagable_world.specs.Calls.IsNext}
 
 pub node-late : (w : Core) (kind : Kind) (key : ℕ) (f : Error) → node_fault w kind key ≡ Some f → 4 ≤ rank f
 node-late w kind key f is = grind (arith, nat_tests)
-
-pub kind-or-node-late : (w : Core) (b : Bool) (kind : Kind) (key : ℕ) (f : Error) → earlier (refused_if b Error.WrongKind) (node_fault w kind key) ≡ Some f → 3 ≤ rank f
-kind-or-node-late w b kind key f is = late (refused_if b Error.WrongKind) (node_fault w kind key) 3 (kind-late b) (λ g e. let a = node-late w kind key g e in omega arith) f is
 
 -- what refuses the load itself comes first
 pub not-own : {before : Option Error} {wanting : Type 0} (w : Core) (me : Owner) (l : LoadNumber) (rest : Option Error) (e : Error) → load_fault w me l ≡ Some e
@@ -39,9 +36,6 @@ module _ (w : Core) (me : Owner) (l : LoadNumber) (load : OpenLoad) (kind : Kind
       pub lazy-new : (k : HandleNumber) {w' : Core} → w.last.node < greatest → IsNext k w → Alike (adopted w l kind key (OptionalDataKey.Some key) []) w' → LazyCall w me l kind key (Ok k) w'
       lazy-new k node_left next made = record { makes = (load, own, loose, inr (none, node_left, next, made)); refused = tt }
 
-pub unshared-loose : (kind : ℕ) → is_loose_kind kind ≡ true → is_shared (mode_of kind) ≡ false
-unshared-loose kind loose = grind (arith, nat_tests)
-
 abbrev Early : Option Error → Type 0
 Early a = (e : Error) → a ≡ Some e → rank e ≤ 3
 
@@ -56,13 +50,6 @@ next c d n early late = grind (arith, nat_tests)
 
 last-of : (a b c d n : Option Error) → Early a → Early b → Early c → Early d → Late n → earlier a (earlier b (earlier c (earlier d n))) ≡ or_else (earlier a (earlier b (earlier c d))) n
 last-of a b c d n ea eb ec ed late = grind (arith, nat_tests, earlier, first, next)
-
--- the load is an own open one where it has no fault
-owns-then : (w : Core) (me : Owner) (l : LoadNumber) → load_fault w me l ≡ None → (load : OpenLoad) × OwnsLoad w me l load
-owns-then w me l none = grind (arith, nat_tests)
-
-not-so : (b : Bool) (e : Error) → refused_if b e ≡ None → b ≡ false
-not-so x0 e is = grind (arith, nat_tests)
 
 module _ (w : Core) (me : Owner) (l : LoadNumber) (kind : Kind) (key node_type : ℕ) (refs : List ArcRef) where
   abbrev early : Option Error
@@ -83,17 +70,17 @@ module _ (w : Core) (me : Owner) (l : LoadNumber) (kind : Kind) (key node_type :
     fitting = parts.3
 
     pub eager : is_loose_kind kind.0 ≡ false
-    eager = not-so (is_loose_kind kind.0) Error.WrongMode parts.1
+    eager = let loose = parts.1 in grind (arith, nat_tests)
 
     pub owner-of : (load : OpenLoad) × OwnsLoad w me l load
-    owner-of = owns-then w me l parts.0
+    owner-of = let own = parts.0 in grind (arith, nat_tests)
 
     -- memory is wanting
     pub refused-memory : {w' : Core} → OnlyRoom w w' → Refused (adopt_fault w me l kind key node_type refs) (load_fault w me l) (Unit {0}) w Error.OutOfMemory w'
     refused-memory room = record { why = inr (refl, parts.0, tt); stays = room-alike room }
 
     typed : node_type ≡ type_of kind.0
-    typed = let a = not-so (not (node_type == type_of kind.0)) Error.WrongKind parts.2 in grind (arith, nat_tests)
+    typed = let a = parts.2 in grind (arith, nat_tests)
 
     left : adopt_fault w me l kind key node_type refs ≡ node_fault w kind key
     left = cause ∙ ap (λ f. or_else f (node_fault w kind key)) good

@@ -1,8 +1,8 @@
 -- A node comes, and the handles that its value refers to are the value's. And it comes with its handles to a node that is there, has no value and is pinned.
 use Rattle.pagable_tables.proofs.Words.{◌≡◌, ℕ, ◌+◌, ◌<◌, Bool, false, List, [], ◌∷◌, ◌++◌, sum_by, refl, ap, sym, ◌∙◌, subst, arith, Option, None, inl, inr, ◌≢◌, cases_eq, nat_tests, sum_by_push}
 use Rattle.pagable_tables.proofs.Words.{OptionalDataKey, ArcRef, HandleRow, Owner, changed, if_there, pins, is_at, is_pin, is_handle, is_in_memory, owner_value, IsHandleBefore, Cell, Core}
-use Rattle.pagable_tables.proofs.Words.{references_fault, moved, is_named_by, Counts, Fits, cell_in, is_valued, named, owns_nothing, AllPairs, ◌≤◌, ◌==◌, ◌&&◌, ◌||◌, true, map, Some, if◌then◌else◌}
-use Rattle.pagable_tables.proofs.{Words.{◌⊎◌, is_some, sum_by-cons, Mode, Among, is_in, one, find_row, held, is_pinning, reference_fault, Right, is_right, is_bare, pins_in, falls_in}, Coming.turned}
+use Rattle.pagable_tables.proofs.Words.{references_fault, moved, is_named_by, Counts, Fits, cell_in, is_valued, named, owns_nothing, AllPairs, ◌≤◌, ◌==◌, ◌&&◌, true, map, Some, if◌then◌else◌}
+use Rattle.pagable_tables.proofs.{Words.{◌⊎◌, is_some, sum_by-cons, Mode, Among, is_in, one, find_row, is_pinning, reference_fault, Right, is_right, is_bare, pins_in, falls_in}, Coming.turned}
 use Rattle.pagable_tables.proofs.{Coming.{owned-by-none, owned-by}, Fitting.{is_owned, pin_of, handle_of, pin-here, held-here}, Taken.moved-times, keeps.Rows.{sum-map, found-so, found-among}}
 use Rattle.pagable_tables.proofs.{keeps.{Rows.{sum-none, at-most-sum, only-row}, HandleCalls.{named-mine, or-none}}, Bits.and-zero}
 
@@ -17,12 +17,8 @@ unfolding references_fault is_named_by is_in
 once-named w me seen [] fit q = refl
 once-named w me seen (r ∷ rs) fit q =
     let rest = (or-none (reference_fault w me seen r) _ fit).1 in
-    sum_by-cons (λ (x : ArcRef). one (x.handle.0 == q)) r rs
-    ∙ by (r.handle.0 == q) refl (is_named_by rs q) refl (once-named w me (r.handle.0 ∷ seen) rs rest q) (unseen w me (r.handle.0 ∷ seen) rs rest q)
-  where
-    by : (b : Bool) → (r.handle.0 == q) ≡ b → (d : Bool) → is_named_by rs q ≡ d → named q rs ≡ one (is_named_by rs q) → (is_named_by rs q ≡ true → ((r.handle.0 == q) || is_in seen q) ≡ false)
-        → one b + named q rs ≡ one (b || is_named_by rs q)
-    by b same d is once new = grind (arith, nat_tests)
+    let once = once-named w me (r.handle.0 ∷ seen) rs rest q in let new = unseen w me (r.handle.0 ∷ seen) rs rest q in
+    grind (arith, nat_tests, sum_by-cons (λ (x : ArcRef). one (x.handle.0 == q)) r rs)
 
 module _ (w : Core) (me : Owner) (n : ℕ) (rs : List ArcRef) (ordered : AllPairs IsHandleBefore w.rows) (fit : references_fault w me [] rs ≡ None) (unvalued : is_valued me ≡ false) where
   abbrev to : HandleRow → HandleRow
@@ -56,13 +52,7 @@ module _ (w : Core) (me : Owner) (n : ℕ) (rs : List ArcRef) (ordered : AllPair
 
   pub own-own : (q : ℕ) → sum_by (is_owned n q) w.rows ≡ 0 → sum_by (is_owned n q) (map to w.rows) ≡ named q rs
   own-own q before =
-      sum-map (is_owned n q) (both q) to w.rows (λ h among. by h among (is_named_by rs h.number.0) refl (is_handle q h) refl) ∙ sum-both q (is_named_by rs q) refl ∙ sym (once-named w me [] rs fit q)
-    where
-      by : (h : HandleRow) → Among w.rows h → (b : Bool) → is_named_by rs h.number.0 ≡ b → (d : Bool) → is_handle q h ≡ d → is_owned n q (if b then owned-by (owner_value n) h else h) ≡ both q h
-      by h among true is true here = grind (arith, nat_tests)
-      by h among true is false other = rw other refl
-      by h among false is true here = grind (arith, nat_tests, at-most-sum (is_owned n q) w.rows h among)
-      by h among false is false other = rw other refl
+      sum-map (is_owned n q) (both q) to w.rows (λ h among. grind (arith, nat_tests, at-most-sum (is_owned n q) w.rows h among)) ∙ sum-both q (is_named_by rs q) refl ∙ sym (once-named w me [] rs fit q)
 
 -- the counts of a new node are right, where it has no key, or its value refers to nothing, or it is pinned
 right-new : (c : Counts) (mode : Mode) (rs : List ArcRef) → c ≡ record c { pins = one (is_pinning mode); holds = 1; is_falling = false; next = 0 }
@@ -88,14 +78,11 @@ module _ (w : Core) (me : Owner) (rs : List ArcRef) (ordered : AllPairs IsHandle
   not-x : (m q : ℕ) → is_owned m q x ≡ 0
   not-x m q = owned-by-none m q x (ap is_valued owner ∙ unvalued)
 
-  pins-given : (m : ℕ) → pins m rows' ≡ pins m w.rows + pin_of m x
-  pins-given m = let s = same-weight w me n rs ordered fit unvalued (pin_of m) (λ h. refl) in let l = sum_by_push (pin_of m) given x in omega arith
-
-  held-given : (m : ℕ) → held m rows' ≡ held m w.rows + handle_of m x
-  held-given m = let s = same-weight w me n rs ordered fit unvalued (handle_of m) (λ h. refl) in let l = sum_by_push (handle_of m) given x in omega arith
+  given-weight : (f : HandleRow → ℕ) → ((h : HandleRow) → f (owned-by (owner_value n) h) ≡ f h) → sum_by f rows' ≡ sum_by f w.rows + f x
+  given-weight f same = let s = same-weight w me n rs ordered fit unvalued f same in let l = sum_by_push f given x in omega arith
 
   pinned-here : pins_in (at' n) ≡ pins n rows'
-  pinned-here = grind (arith, nat_tests, pins-given, pin-here)
+  pinned-here = grind (arith, nat_tests, given-weight (pin_of n) (λ h. refl), pin-here)
 
   owned-here : (q : ℕ) → named q (refs' n) + owns_nothing n q ≡ sum_by (is_owned n q) rows'
   owned-here q =
@@ -112,14 +99,11 @@ module _ (w : Core) (me : Owner) (rs : List ArcRef) (ordered : AllPairs IsHandle
   right-here : Right (at' n) (refs' n)
   right-here = subst (λ o. Right o (refs' n)) (sym here) (subst (λ r. Right (Some c) r) (sym refers) (right-new c x.mode rs new bare))
 
-  real' : 0 ≢ n
-  real' z = absurd (omega arith)
-
   pub born-fits : Fits at' refs' rows' top [] owns_nothing
   born-fits =
       record {
-        pinned = λ m. grind (arith, nat_tests, cases_eq, pinned-here, pins-given);
-        holding = λ m. grind (arith, nat_tests, cases_eq, held-here, held-given);
+        pinned = λ m. grind (arith, nat_tests, cases_eq, pinned-here, given-weight (pin_of m) (λ h. refl));
+        holding = λ m. grind (arith, nat_tests, cases_eq, held-here, given-weight (handle_of m) (λ h. refl));
         owned = λ m q. elim (cases_eq m n) [
           | inl e ↦ subst (λ k. named q (refs' k) + owns_nothing k q ≡ sum_by (is_owned k q) rows') (sym e) (owned-here q)
           | inr e ↦
@@ -131,7 +115,7 @@ module _ (w : Core) (me : Owner) (rs : List ArcRef) (ordered : AllPairs IsHandle
           | inl e ↦ subst (λ k. Right (at' k) (refs' k)) (sym e) right-here
           | inr e ↦ subst (λ o. Right o (refs' m)) (sym (others m e)) (subst (λ r. Right (at m) r) (sym (same m e)) (fits.right m))
         ];
-        from_one = others 0 real' ∙ fits.from_one;
+        from_one = others 0 (λ z. absurd (omega arith)) ∙ fits.from_one;
       }
 
 -- no node has a number that wasn't given yet
@@ -178,12 +162,8 @@ module _ (w : Core) (me : Owner) (n : ℕ) (rs : List ArcRef) (ordered : AllPair
       record {
         pinned = λ m. fits.pinned m ∙ sym (moved-times (is_pin m) (is_named_by rs) (owner_value n) before (λ y. refl));
         holding = λ m. fits.holding m ∙ sym (moved-times (is_at m) (is_named_by rs) (owner_value n) before (λ y. refl));
-        owned = λ m q. elim (cases_eq m n) [
-          | inl e ↦ subst (λ k. named q (refs' k) + owns_nothing k q ≡ sum_by (is_owned k q) joined-rows) (sym e)
-              (let a = own-own w me n rs ordered fit unvalued q (none q) in let b = own-after n q in let d = ap (named q) refers in omega arith)
-          | inr e ↦
-              omega (arith, others-own w me n rs ordered fit unvalued m q e, own-after m q, own-before m q, ap (named q) (same m e))
-        ];
+        owned = λ m q. let own = own-own w me n rs ordered fit unvalued q (none q) in
+            grind (arith, nat_tests, cases_eq, own-after m q, own-before m q, others-own w me n rs ordered fit unvalued m q);
         chain = fits.chain;
         marked = fits.marked;
         right = λ m. grind (arith, nat_tests, cases_eq);

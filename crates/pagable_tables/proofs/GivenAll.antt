@@ -1,8 +1,8 @@
 -- Handles are given up together, those that pass a test or that references name.
-use Rattle.pagable_tables.proofs.Words.{nat_lt, ◌≡◌, ℕ, ◌<◌, ◌≤◌, ◌-◌, ◌==◌, ◌&&◌, ◌||◌, Bool, true, false, not, [], Option, Some, None, refl, ap, sym, ◌∙◌, arith, nat_tests, NodeNumber, HandleRow}
-use Rattle.pagable_tables.proofs.Words.{Owner, if_there, is_owner, find_row, Core, OpenLoad, nobody, Giving, Holdings, live, is_valued, SoFar, gives_row, passes_in, ◌+◌, if◌then◌else◌, List, ◌∷◌, suc}
-use Rattle.pagable_tables.proofs.Words.{length, get_or, slice_get, AllPairs, slice_get-get_or, is_handle, Place, alive, IsBefore, take, ArcRef, LoadNumber, is_named_by, is_owned_in, ◌⊎◌, ◌≢◌, inl}
-use Rattle.pagable_tables.proofs.{Words.{inr, InReach, Reach}, Regiven.{regiven, passes-here, passes-left, passes-none, no-entry, and_owned}, Alive.{le_or_lt, row-live, smaller-up}, Named.named-take}
+use Rattle.pagable_tables.proofs.Words.{nat_lt, ◌≡◌, ℕ, ◌<◌, ◌≤◌, ◌-◌, ◌==◌, ◌&&◌, ◌||◌, Bool, true, false, not, [], Option, Some, None, ap, sym, ◌∙◌, arith, nat_tests, NodeNumber, HandleRow}
+use Rattle.pagable_tables.proofs.Words.{Owner, if_there, is_owner, find_row, Core, OpenLoad, nobody, Giving, Holdings, live, is_valued, SoFar, gives_row, passes_in, ◌+◌, List, ◌∷◌, suc}
+use Rattle.pagable_tables.proofs.Words.{length, get_or, slice_get, AllPairs, slice_get-get_or, Place, alive, IsBefore, take, ArcRef, LoadNumber, is_named_by, is_owned_in, ◌⊎◌, ◌≢◌, inl}
+use Rattle.pagable_tables.proofs.{Words.{cases_eq, inr, InReach, Reach}, Regiven.{regiven, passes-here, passes-left, passes-none, no-entry, and_owned}, Alive.{le_or_lt, row-live, smaller-up}, Named.named-take}
 use Rattle.pagable_tables.{proofs.{Named.named-none, Bits.{had, and-left}, Coming.list-owner, Entries.none-came}, specs.Giving.gives}
 
 -- a world of these loads alone
@@ -32,9 +32,6 @@ unlisting w x1 other h is = grind (arith, nat_tests)
 listed-or : (giving : Giving) → (giving ≡ Giving.Listed) ⊎ (giving ≢ Giving.Listed)
 listed-or x1 = grind (arith, nat_tests)
 
-went : (g o : Bool) → (not g && o) ≡ false → o ≡ true → g ≡ true
-went g o e is = grind (arith, nat_tests)
-
 -- what has been given, while those up to a number are left
 abbrev pub past_of : Core → Core → Giving → ℕ → ℕ → Bool
 past_of u w giving left q = nat_lt left q && passes_in (gives_row w giving) u.rows q
@@ -55,22 +52,13 @@ module _ (before u w : Core) (lists : Bool) (giving : Giving) (shut : giving ≡
       ])
 
   pub none-past : (t : Holdings) (left : ℕ) → ((q : ℕ) → passes q ≡ true → q ≤ left) → SoFar before u nobody lists t → SoFar before u (past left) lists t
-  none-past t left up f = regiven before u nobody (past left) lists t f (λ r e. absurd (above r e)) (λ r e. absurd (cc))
-    where
-      above : (r : ℕ) → past left r ≡ true → ⊥
-      above r e = let p : passes r ≡ true = grind (arith, nat_tests) in let a = up r p in grind (arith, nat_tests)
+  none-past t left up f = regiven before u nobody (past left) lists t f (λ r e. let u = up r in grind (arith, nat_tests)) (λ r e. absurd (cc))
 
   -- what is given of the numbers that are left and isn't there has gone
   onto : (t : Holdings) (left : ℕ) (s : ℕ → Bool) → ((r : ℕ) → s r ≡ true → passes r ≡ true) → ((r : ℕ) → past left r ≡ true → s r ≡ true)
       → ((r : ℕ) → s r ≡ true → r ≤ left → passes_in (gives_row w giving) (live t.handles.places.items) r ≡ false) → SoFar before u (past left) lists t → SoFar before u s lists t
-  onto t left s up over none f = regiven before u (past left) s lists t f (λ r e. less r e (nat_lt left r) refl) over
-    where
-      less : (r : ℕ) → s r ≡ true → (b : Bool) → nat_lt left r ≡ b → (past left r || f.gone r) ≡ true
-      less r e true is = let p = up r e in grind (arith, nat_tests)
-      less r e false is =
-          let below : r ≤ left = grind (arith, nat_tests) in
-          let g : f.gone r ≡ true = went (f.gone r) (passes r) (sym (told t (past left) f r) ∙ none r e below) (up r e) in
-          grind (arith, nat_tests)
+  onto t left s up over none f =
+      regiven before u (past left) s lists t f (λ r e. let p = up r e in let n = none r e in let g = told t (past left) f r in grind (arith, nat_tests)) over
 
   -- one more is given, the last of those that are left
   pub one-past : (t new : Holdings) (left : ℕ) (x : HandleRow) → 0 < x.number.0 → x.number.0 ≤ left → find_row x.number.0 (live t.handles.places.items) ≡ Some x → gives_row w giving x ≡ true
@@ -80,14 +68,10 @@ module _ (before u w : Core) (lists : Bool) (giving : Giving) (shut : giving ≡
       let n = x.number.0 in
       let narrowed = onto t left (past n) (λ r e. grind (arith, nat_tests)) (λ r e. grind (arith, nat_tests))
       (λ r e. none r (within r (let p : passes r ≡ true = grind (arith, nat_tests) in p)) (let l : n < r = grind (arith, nat_tests) in l)) f in
-      regiven before u (λ q. past n q || q == n) (past (n - 1)) lists new (gives (past n) narrowed) (λ r e. grind (arith, nat_tests)) (λ r e. more r e (r == n) refl)
+      regiven before u (λ q. past n q || q == n) (past (n - 1)) lists new (gives (past n) narrowed) (λ r e. grind (arith, nat_tests)) (λ r e. let p = here in grind (arith, nat_tests, cases_eq r n))
     where
       here : passes x.number.0 ≡ true
       here = had (f.gone x.number.0) _ (sym (told t (past left) f x.number.0) ∙ ap (if_there (gives_row w giving) false) found ∙ is)
-
-      more : (r : ℕ) → (past x.number.0 r || r == x.number.0) ≡ true → (b : Bool) → (r == x.number.0) ≡ b → past (x.number.0 - 1) r ≡ true
-      more r e true same = let m : r ≡ x.number.0 = grind (arith, nat_tests) in let p : passes r ≡ true = ap passes m ∙ here in grind (arith, nat_tests)
-      more r e false same = grind (arith, nat_tests)
 
   pub all-past : (t : Holdings) (left : ℕ) → ((q : ℕ) → InReach reach q → q ≤ left → passes_in (gives_row w giving) (live t.handles.places.items) q ≡ false)
       → SoFar before u (past left) lists t → SoFar before u passes lists t
@@ -96,15 +80,8 @@ module _ (before u w : Core) (lists : Bool) (giving : Giving) (shut : giving ≡
 none-passes : (test : HandleRow → Bool) (q : ℕ) (ss : List Place) → ((k : ℕ) (d : Place) → k < length ss → (get_or ss k d).row.number.0 ≡ q → (get_or ss k d).is_live ≡ true → test (get_or ss k d).row ≡ false)
     → passes_in test (live ss) q ≡ false
 none-passes test q [] h = passes-none test q
-none-passes test q (s ∷ ss) h = by s.is_live refl (none-passes test q ss (λ k d lt e. h (suc k) d (omega arith) e))
-  where
-    here : s.is_live ≡ true → (b : Bool) → is_handle q s.row ≡ b → passes_in test (live ss) q ≡ false → (if b then test s.row else passes_in test (live ss) q) ≡ false
-    here e true is rest = h 0 s (omega arith) (grind (arith, nat_tests)) e
-    here e false is rest = rest
-
-    by : (b : Bool) → s.is_live ≡ b → passes_in test (live ss) q ≡ false → passes_in test (if b then s.row ∷ live ss else live ss) q ≡ false
-    by true e rest = passes-here test q s.row (live ss) ∙ here e (is_handle q s.row) refl rest
-    by false e rest = rest
+none-passes test q (s ∷ ss) h =
+    let rest = none-passes test q ss (λ k d lt e. h (suc k) d (omega arith) e) in let first = h 0 s (omega arith) in grind (arith, nat_tests, passes-here)
 
 -- below a place numbers are smaller, and from there on those that pass are too great
 pub none-from : (test : HandleRow → Bool) (ss : List Place) (p q left : ℕ) → ((k : ℕ) (d : Place) → k < p → (get_or ss k d).row.number.0 < q) → q ≤ left

@@ -54,15 +54,9 @@ pub none-moved : (o : Owner) (rows : List HandleRow) → moved (is_in []) o rows
 unfolding is_in
 none-moved o rows = sym (moved-unless (is_in []) o rows (λ q. refl))
 
-abbrev to : (ℕ → Bool) → Owner → HandleRow → HandleRow
-to s o row = if s row.number.0 then record row { owner = o } else row
-
-twice : (s : ℕ → Bool) (h : HandleNumber) (o : Owner) (x : HandleRow) → to (only_handle h) o (to s o x) ≡ to (λ q. h.0 == q || s q) o x
-twice s h o x = grind (arith, nat_tests)
-
 pub moved-twice : (s : ℕ → Bool) (h : HandleNumber) (o : Owner) (rows : List HandleRow) → moved (only_handle h) o (moved s o rows) ≡ moved (λ q. h.0 == q || s q) o rows
 moved-twice s h o [] = refl
-moved-twice s h o (x ∷ xs) = ap (λ r. to (only_handle h) o (to s o x) ∷ r) (moved-twice s h o xs) ∙ ap (λ y. y ∷ moved (λ q. h.0 == q || s q) o xs) (twice s h o x)
+moved-twice s h o (x ∷ xs) = grind (arith, nat_tests, moved-twice s h o xs)
 
 in-push : (hs : List HandleNumber) (h : HandleNumber) (q : ℕ) → is_in (numbers_of (hs ++ h ∷ [])) q ≡ (h.0 == q || is_in (numbers_of hs) q)
 unfolding is_in

@@ -1,7 +1,7 @@
 -- A load of a cell ends with a pin, and gives up what it still owns. The pin stays, so that cells are listed as of the world before.
-use Rattle.pagable_tables.proofs.Words.{◌≡◌, ℕ, ◌<◌, ◌==◌, List, [], ◌∷◌, refl, ap, sym, ◌∙◌, subst, arith, Option, Some, None, ◌⊎◌, ◌≤◌, ◌+◌, not, vec_capacity, nat_tests, Error, ArcRef}
-use Rattle.pagable_tables.proofs.Words.{HandleNumber, LoadNumber, NodeNumber, HandleRow, Owner, if_there, Core, OpenLoad, Places, of_cell, of_key, greatest, AreHandlesFull, refused_if, where_so}
-use Rattle.pagable_tables.proofs.Words.{spent, load_fault, references_fault, MayOwnLoad, root_fault, end_fault, is_owned_in, MayEnd, Tables, live, room, AreSound, counts_at, plain_of, Ending, IsReady}
+use Rattle.pagable_tables.proofs.Words.{◌≡◌, ℕ, ◌<◌, ◌==◌, List, [], ◌∷◌, refl, ap, sym, ◌∙◌, subst, arith, Option, Some, None, ◌≤◌, ◌+◌, not, vec_capacity, nat_tests, Error, ArcRef}
+use Rattle.pagable_tables.proofs.Words.{HandleNumber, LoadNumber, NodeNumber, HandleRow, Owner, if_there, Core, OpenLoad, Places, of_cell, of_key, refused_if, where_so}
+use Rattle.pagable_tables.proofs.Words.{spent, load_fault, references_fault, MayOwnLoad, root_fault, end_fault, is_owned_in, MayEnd, Tables, live, counts_at, plain_of, Ending, IsReady}
 use Rattle.pagable_tables.proofs.Words.{◌&&◌, Bool, true, false, length, inl, inr, if◌then◌else◌, ◌≢◌, Result, option_map, AllPairs, sum_by_push, Mode, Blob, Among, one, times, changed}
 use Rattle.pagable_tables.proofs.Words.{find_row, pins, sharing, is_handle, is_owned_by, is_pin, is_share, owner_value, IsHandleBefore, Last, Alike, Falls, nobody, moved, row_of}
 use Rattle.pagable_tables.proofs.Words.{is_named_by, with_handle, with_mode, without_load, with_pin, Installs, Holdings, LoadRow, load_at, cell_in, has_value, is_valued, with_tables}
@@ -40,16 +40,6 @@ module _ (w : Core) (me : Owner) (l : LoadNumber) (node_type : ℕ) (refs : List
 -- references are as good where there are other places
 pub references-placed : (w : Core) (places : Places) (owner : Owner) (seen : List ℕ) (refs : List ArcRef) → references_fault (record w { places = places }) owner seen refs ≡ references_fault w owner seen refs
 references-placed w places = fault-by w (record w { places = places })
-
--- neither number nor place is wanting
-pub no-wanting : (t : Tables) (e : Error) → AreSound t.holdings.handles → t.holdings.last_handle < greatest → 1 ≤ room t.holdings.handles
-    → (spent t.holdings.last_handle ≡ Some e) ⊎ ((e ≡ Error.OutOfMemory) × (spent t.holdings.last_handle ≡ None) × AreHandlesFull (plain_of t)) → ⊥
-no-wanting t e sound left place h = grind (arith, nat_tests)
-
--- a load that can end can where there are other places
-pub ready-placed : (w : Core) (places : Places) (rows : List HandleRow) (me : Owner) (l : LoadNumber) (node_type : ℕ) (refs : List ArcRef) (e : Ending) → rows ≡ w.rows → IsReady w me l node_type refs e
-    → IsReady (record w { rows = rows; places = places }) me l node_type refs e
-ready-placed w places rows me l node_type refs e same r = grind (arith, nat_tests, references-placed)
 
 -- who ends a load may own one
 pub ready-owner : (t : Tables) (me : Owner) (l : LoadNumber) (node_type : ℕ) (refs : List ArcRef) (e : Ending) → IsWhole t → IsReady (plain_of t) me l node_type refs e → MayOwnLoad (plain_of t) me
@@ -200,12 +190,6 @@ so-then x0 e = grind (arith, nat_tests)
 pub not-so : (b : Bool) → not b ≡ true → b ≡ false
 not-so x0 e = grind (arith, nat_tests)
 
--- t1 is t with the pins
-module _ (t t1 : Tables) (stored : ℕ → Option Blob) (closed : Bool) (failures : ℕ) (row : HandleRow) (me : Owner)
-    (a : Alike (with_handle (with_mode (core_of t stored closed failures) row.number Mode.LoosePinned) row.node Mode.Pinned me) (core_of t1 stored closed failures)) where
-  pub pins-here : 0 < pins row.node.0 (live t1.holdings.handles.places.items)
-  pins-here = grind (arith, nat_tests, sum_by_push, live)
-
 -- where no reference is named no handle moves
 pub none-moves : (w : Core) (l : LoadNumber) (row : HandleRow) (me : Owner) (r : Result (Unit {0}) Error) (w' : Core)
     → Falls w (with_pin (record (without_load w l) { rows = moved (is_named_by []) (owner_value row.node.0) w.rows }) row.number row.node me) (λ q. is_owned_in w (Owner.Load l) q && not (is_named_by [] q)) r w'
@@ -227,12 +211,16 @@ install-newer {w} {w'} me l node h k refs i = elim i.falls [
     pinned : (v : Core) {before w' : Core} {given : ℕ → Bool} {r : Result (Unit {0}) Error} → Falls before (with_pin v h node me) given r w' → OnlyNewer v w'
     pinned v falls = newer-then (newer-mode v h Mode.LoosePinned) (newer-then (newer-handle (with_mode v h Mode.LoosePinned) node Mode.Pinned me) (newer-falls falls))
 
--- whose value is in memory then, where the pinned cell has got one
-module _ (t t1 : Tables) (stored : ℕ → Option Blob) (closed : Bool) (failures : ℕ) (was : IsWhole t) (whole : IsWhole t1) (row : HandleRow)
-    (found : find_row row.number.0 (live t.holdings.handles.places.items) ≡ Some row) (me : Owner)
+-- t1 is t with the pins
+module _ (t t1 : Tables) (stored : ℕ → Option Blob) (closed : Bool) (failures : ℕ) (row : HandleRow) (me : Owner)
     (a : Alike (with_handle (with_mode (core_of t stored closed failures) row.number Mode.LoosePinned) row.node Mode.Pinned me) (core_of t1 stored closed failures)) where
-  pub has-come : (n : ℕ) → has_value (counts_at t1.holdings.nodes n) ≡ has_come (counts_at t.holdings.nodes) row.node n
-  has-come n = by (n == row.node.0) refl
+  pub pins-here : 0 < pins row.node.0 (live t1.holdings.handles.places.items)
+  pins-here = grind (arith, nat_tests, sum_by_push, live)
+
+  -- whose value is in memory then, where the pinned cell has got one
+  pub has-come : IsWhole t → IsWhole t1 → find_row row.number.0 (live t.holdings.handles.places.items) ≡ Some row → (n : ℕ)
+      → has_value (counts_at t1.holdings.nodes n) ≡ has_come (counts_at t.holdings.nodes) row.node n
+  has-come was whole found n = by (n == row.node.0) refl
     where
       by : (b : Bool) → (n == row.node.0) ≡ b → has_value (counts_at t1.holdings.nodes n) ≡ (if b then true else has_value (counts_at t.holdings.nodes n))
       by true is = grind (arith, nat_tests, pins-here)

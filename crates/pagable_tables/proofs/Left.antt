@@ -1,7 +1,7 @@
 -- Rows that are left when a set of handles goes, counted and listed, and handles that leave.
-use Rattle.pagable_tables.proofs.Words.{◌≡◌, ℕ, ◌+◌, ◌≤◌, ◌==◌, ◌&&◌, ◌||◌, Bool, true, false, not, if◌then◌else◌, List, [], ◌∷◌, ◌++◌, length, filter, refl, ap, ◌∙◌, arith, nat_tests, sum_by-cons}
+use Rattle.pagable_tables.proofs.Words.{◌≡◌, ℕ, ◌+◌, ◌≤◌, ◌==◌, ◌&&◌, ◌||◌, Bool, true, false, not, if◌then◌else◌, List, [], ◌∷◌, ◌++◌, length, filter, refl, ap, arith, nat_tests, sum_by-cons}
 use Rattle.pagable_tables.proofs.Words.{sum_by-le-sum_by, HandleNumber, HandleRow, Owner, Mode, one, times, is_handle, left_rows, AreNewEntries, sum_by, append-nil, sum_by_push, NodeNumber, Holdings}
-use Rattle.pagable_tables.proofs.{Words.{live, entry, entries_of, unpinned, Handles, Leaves, GivesUp, sum_by-append, is_owned_by, is_owner, only_handle}, Bits.{and-zero}}
+use Rattle.pagable_tables.proofs.{Words.{live, entry, entries_of, unpinned, Handles, Leaves, GivesUp, sum_by-append, is_owned_by, is_owner, only_handle}}
 
 -- a sum is at most two others where each of its parts is
 pub sum-most : {X : Type 0} (f g h : X → ℕ) (xs : List X) → ((x : X) → f x ≤ g x + h x) → sum_by f xs ≤ sum_by g xs + sum_by h xs
@@ -15,13 +15,8 @@ and_one gone q r = gone r || r == q
 -- what is counted of the left is counted of all that aren't in the set
 pub times-left : (f : HandleRow → Bool) (gone : ℕ → Bool) (rows : List HandleRow) → times f (left_rows gone rows) ≡ times (λ h. f h && not (gone h.number.0)) rows
 times-left f gone [] = refl
-times-left f gone (x ∷ xs) = split (times-left f gone xs) (gone x.number.0) refl
-  where
-    split : times f (left_rows gone xs) ≡ times (λ h. f h && not (gone h.number.0)) xs → (b : Bool) → gone x.number.0 ≡ b
-        → times f (left_rows gone (x ∷ xs)) ≡ times (λ h. f h && not (gone h.number.0)) (x ∷ xs)
-    split rest true e = grind (arith, nat_tests, sum_by-cons, and-zero)
-    split rest false e =
-        grind (arith, nat_tests, sum_by-cons (λ h. one (f h && not (gone h.number.0))) x xs, sum_by-cons (λ h. one (f h)) x (left_rows gone xs))
+times-left f gone (x ∷ xs) =
+    grind (arith, nat_tests, times-left f gone xs, sum_by-cons (λ h. one (f h && not (gone h.number.0))) x xs, sum_by-cons (λ h. one (f h)) x (left_rows gone xs))
 
 pub times-le : (f g : HandleRow → Bool) (rows : List HandleRow) → ((h : HandleRow) → one (f h) ≤ one (g h)) → times f rows ≤ times g rows
 times-le f g rows h = sum_by-le-sum_by (λ x. one (f x)) (λ x. one (g x)) rows h
@@ -35,9 +30,7 @@ left-more gone q (x ∷ xs) = grind (arith, nat_tests, left-more gone q xs)
 pub left-none : (q : ℕ) (rows : List HandleRow) → times (is_handle q) rows ≡ 0 → left_rows (λ r. r == q) rows ≡ rows
 left-none q [] none = refl
 left-none q (x ∷ xs) none =
-    let a = sum_by-cons (λ h. one (is_handle q h)) x xs in
-    let e : (x.number.0 == q) ≡ false = grind (arith, nat_tests) in
-    ap (λ b. if not b then x ∷ left_rows (λ r. r == q) xs else left_rows (λ r. r == q) xs) e ∙ ap (λ r. x ∷ r) (left-none q xs (omega arith))
+    let a = sum_by-cons (λ h. one (is_handle q h)) x xs in let rest = left-none q xs (omega arith) in grind (arith, nat_tests)
 
 -- rows are as many as a sum of ones
 pub ones : (rows : List HandleRow) → sum_by (λ (h : HandleRow). 1) rows ≡ length rows
@@ -54,14 +47,7 @@ pub kept-more : (gone : ℕ → Bool) (q : ℕ) (list : List HandleNumber) → t
     → filter (λ (h : HandleNumber). not (and_one gone q h.0)) list ≡ filter (λ (h : HandleNumber). not (gone h.0)) list
 kept-more gone q [] none = refl
 kept-more gone q (x ∷ xs) none =
-    let a = sum_by-cons (λ (h : HandleNumber). one (h.0 == q)) x xs in
-    let e : (x.0 == q) ≡ false = grind (arith, nat_tests) in
-    let same : not (and_one gone q x.0) ≡ not (gone x.0) = ap (λ b. not (gone x.0 || b)) e ∙ ap not (or-false (gone x.0)) in
-    ap (λ b. if b then x ∷ filter (λ (h : HandleNumber). not (and_one gone q h.0)) xs else filter (λ (h : HandleNumber). not (and_one gone q h.0)) xs) same
-    ∙ ap (λ r. if not (gone x.0) then x ∷ r else r) (kept-more gone q xs (omega arith))
-  where
-    or-false : (b : Bool) → (b || false) ≡ b
-    or-false b0 = grind (arith, nat_tests)
+    let a = sum_by-cons (λ (h : HandleNumber). one (h.0 == q)) x xs in let rest = kept-more gone q xs (omega arith) in grind (arith, nat_tests)
 
 -- new entries pin nothing, and only the list owns them
 pub entries-none : (f : HandleRow → Bool) → ((h : HandleRow) → h.mode ≡ Mode.LooseUnpinned → h.owner ≡ Owner.List → f h ≡ false) → (last : ℕ) (entries : List HandleRow)
@@ -109,8 +95,5 @@ none-entered q last rows left entries is new none =
       arith,
       ap (times (of_list q)) is,
       sum_by-append (λ h. one (of_list q h)) left entries,
-      sum-most (λ h. one (is_handle q h)) (λ h. one (of_list q h)) (λ h. one (of_other q h)) entries (λ h. bits (is_handle q h) (is_owned_by Owner.List h)),
+      sum-most (λ h. one (is_handle q h)) (λ h. one (of_list q h)) (λ h. one (of_other q h)) entries (λ h. grind (arith, nat_tests)),
     )
-  where
-    bits : (a b : Bool) → one a ≤ one (a && b) + one (a && not b)
-    bits a b = grind (arith, nat_tests)

@@ -10,13 +10,7 @@ use Rattle.pagable_tables.proofs.{Left.{none-listed, of_list, ones, times-left, 
 rows-leaves : (rows entries before left : List HandleRow) (gone : ℕ → Bool) (x : HandleRow) → left ≡ left_rows (only_handle x.number) before → before ≡ left_rows gone rows ++ entries
     → times (is_handle x.number.0) entries ≡ 0 → left ≡ left_rows (and_one gone x.number.0) rows ++ entries
 rows-leaves rows entries before left gone x leaves is none =
-    let split : left_rows (only_handle x.number) (left_rows gone rows ++ entries) ≡ left_rows (only_handle x.number) (left_rows gone rows) ++ left_rows (only_handle x.number) entries = grind (
-      arith,
-      nat_tests,
-      filter-append,
-    ) in
-    leaves ∙ ap (left_rows (only_handle x.number)) is ∙ split ∙ ap (λ r. r ++ left_rows (only_handle x.number) entries) (left-more gone x.number.0 rows)
-    ∙ ap (λ r. left_rows (and_one gone x.number.0) rows ++ r) (left-none x.number.0 entries none)
+    grind (arith, nat_tests, filter-append, left-more gone x.number.0 rows, left-none x.number.0 entries)
 
 list-kept : (gone : ℕ → Bool) (q : ℕ) (rows : List HandleRow) (list : List HandleNumber) → times (λ (h : HandleNumber). h.0 == q) list ≤ times (of_list q) rows
     → times (λ h. of_list q h && not (gone h.number.0)) rows ≡ 0

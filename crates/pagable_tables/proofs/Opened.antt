@@ -1,13 +1,8 @@
 -- Why calls are refused, and which of several causes is told. Loads that are opened and closed again, and what is offered to the cache.
-use Rattle.pagable_tables.proofs.Words.{◌≡◌, ℕ, ◌<◌, ◌≤◌, Bool, true, List, arith, Option, Some, None, ◌≢◌, ◌⊎◌, nat_tests, Error, OptionalDataKey, HandleNumber, LoadNumber, HandleRow, Owner, Mode}
-use Rattle.pagable_tables.proofs.Words.{if_there, is_owner, is_loose, is_in_memory, pins, Core, Cell, OpenLoad, greatest, row_at, rank, earlier, where_so, refused_if, spent, handle_fault, load_fault}
-use Rattle.pagable_tables.proofs.Words.{closed_fault, OwnsLoad, Refused, Counts, LoadRow, pins_in, cell_in, key_in, load_in, option_map, or_else, not, if◌then◌else◌, reference_fault}
-use Rattle.pagable_tables.proofs.Words.{references_fault, fits_mode, type_of, type_at, ArcRef, [], ◌∷◌, ◌==◌, ◌+◌, is_some, updated, ◌&&◌, NodeNumber, Kind, is_usable}
-use Rattle.pagable_tables.proofs.Words.{offer_fault, ap, subst, Ok, Err, mode_of, usable, Alike, with_handle, recall_fault, RecallCall, Makes}
-
--- a load that wasn't open comes and goes
-pub load-goes : (at at' at'' : ℕ → Option LoadRow) (l : ℕ) → at l ≡ None → ((q : ℕ) → q ≢ l → at' q ≡ at q) → at'' l ≡ None → ((q : ℕ) → q ≢ l → at'' q ≡ at' q) → (q : ℕ) → option_map load_in (at'' q) ≡ option_map load_in (at q)
-load-goes at at' at'' l none others gone others' q = grind (arith, nat_tests)
+use Rattle.pagable_tables.proofs.Words.{◌≡◌, ℕ, ◌≤◌, Bool, true, List, arith, Option, Some, None, ◌≢◌, ◌⊎◌, nat_tests, Error, OptionalDataKey, HandleNumber, LoadNumber, HandleRow, Owner, Mode}
+use Rattle.pagable_tables.proofs.Words.{if_there, is_owner, is_in_memory, pins, Core, Cell, OpenLoad, rank, earlier, where_so, refused_if, spent, handle_fault, load_fault, closed_fault, OwnsLoad}
+use Rattle.pagable_tables.proofs.Words.{Refused, Counts, LoadRow, pins_in, cell_in, key_in, load_in, option_map, or_else, not, if◌then◌else◌, reference_fault, references_fault, ArcRef, [], ◌∷◌, ◌==◌}
+use Rattle.pagable_tables.proofs.Words.{◌+◌, is_some, ◌&&◌, NodeNumber, Kind, subst, Ok, Err, mode_of, usable, Alike, with_handle, RecallCall, Makes}
 
 -- of two causes the first is told unless the other comes before it
 pub earlier-first : (a x : Option Error) (e : Error) → a ≡ Some e → ((f : Error) → x ≡ Some f → rank e ≤ rank f) → earlier a x ≡ Some e
@@ -53,20 +48,6 @@ handle-first w me h fits e x is late = grind (arith, nat_tests, earlier-first, f
 pub owner-self : (o : Owner) → is_owner o o ≡ true
 owner-self o = grind (arith, nat_tests)
 
--- an own handle that fits has no fault
-pub no-fault : (w : Core) (me : Owner) (h : HandleNumber) (fits : Mode → Bool) (row : HandleRow) → row_at w h ≡ Some row → is_owner me row.owner ≡ true → fits row.mode ≡ true → handle_fault w me h fits ≡ None
-no-fault w me h fits row found own fit = grind (arith, nat_tests)
-
-pub numbers-late : (so : Bool) (m n : ℕ) (f : Error) → where_so so (earlier (spent m) (spent n)) ≡ Some f → 3 ≤ rank f
-numbers-late so m n f is = grind (arith, nat_tests)
-
--- while numbers are left only memory can be wanting
-pub only-memory : (last : ℕ) (e : Error) {A B : Type 0} → last < greatest → (spent last ≡ Some e) ⊎ ((e ≡ Error.OutOfMemory) × A × B) → e ≡ Error.OutOfMemory
-only-memory last e lt x3 = grind (arith, nat_tests)
-
-pub no-begin-fault : (w : Core) (me : Owner) (h : HandleNumber) (so : Bool) → handle_fault w me h is_loose ≡ None → w.last.load < greatest → w.last.handle < greatest → earlier (handle_fault w me h is_loose) (where_so so (earlier (spent w.last.load) (spent w.last.handle))) ≡ None
-no-begin-fault w me h so none load handle = grind (arith, nat_tests)
-
 -- whether a node of these counts has its value in memory
 pub here-told : (at : ℕ → Option Counts) (rows : List HandleRow) (n : ℕ) (c : Counts) → pins_in (at n) ≡ pins n rows → at n ≡ Some c → is_in_memory (pins n rows) (if_there (λ (cell : Cell). cell.key) OptionalDataKey.None (cell_in (at n))) ≡ is_in_memory c.pins (key_in c.key)
 here-told at rows n c pinned is = grind (arith, nat_tests)
@@ -82,28 +63,9 @@ no-load-fault w me l load own = grind (arith, nat_tests, owner-self)
 pub told-later : {cause : Option Error} {full : Type 0} {w w' : Core} {e : Error} (me : Owner) (l : LoadNumber) → Refused cause (load_fault w me l) full w e w' → Refused cause (closed_fault w l) full w e w'
 told-later {cause} {full} {w} {w'} {e} me l r = grind (arith, nat_tests)
 
--- one load more, and the others stay
-pub load-comes : (at at' : ℕ → Option LoadRow) (l : ℕ) (row : LoadRow) → at' l ≡ Some row → ((q : ℕ) → q ≢ l → at' q ≡ at q) → (q : ℕ) → option_map load_in (at' q) ≡ updated l (Some (load_in row)) (λ q. option_map load_in (at q)) q
-load-comes at at' l row here others q = grind (arith, nat_tests)
-
 -- no load has a number that wasn't given yet
 pub none-yet : (o : Option LoadRow) (last : ℕ) → (is_some (option_map load_in o) ≡ true → last + 1 ≤ last) → o ≡ None
 none-yet x0 last h = grind (arith, nat_tests)
-
-module _ (w : Core) (me : Owner) (kind : Kind) (key : ℕ) (h : HandleNumber) where
-  abbrev last-fault : Option Error
-  last-fault = where_so (not w.closed && is_usable w kind key) (spent w.last.handle)
-
-  last-late : (f : Error) → last-fault ≡ Some f → 4 ≤ rank f
-  last-late = spent-late w.last.handle (not w.closed && is_usable w kind key)
-
-  -- a handle that can't be used is refused first
-  pub offer-first : (e : Error) → handle_fault w me h (fits_mode kind.0) ≡ Some e → offer_fault w me kind key h ≡ Some e
-  offer-first e is = search (arith, handle-first, late, kind-late, last-late)
-
-  -- where handle and type are as asked, the last cause is left
-  pub offer-last : (row : HandleRow) → handle_fault w me h (fits_mode kind.0) ≡ None → row_at w h ≡ Some row → type_at w row.node.0 ≡ Some (type_of kind.0) → offer_fault w me kind key h ≡ last-fault
-  offer-last row none at typed = grind (arith, nat_tests)
 
 -- the cache knows the node under the kind and the key, and all else as before
 pub learned : (known known' : ℕ → ℕ → Option NodeNumber) (kind key : ℕ) (n : NodeNumber) → known' kind key ≡ Some n → ((k q : ℕ) → (k ≢ kind) ⊎ (q ≢ key) → known' k q ≡ known k q)
@@ -112,14 +74,8 @@ learned known known' kind key n here others k q = grind (arith, nat_tests)
 
 module _ (w : Core) (me : Owner) (kind : Kind) (key : ℕ) (node : NodeNumber) (mode : Mode) (w' : Core)
     (is : usable w kind.0 key ≡ Some node.0) (fits : mode ≡ mode_of kind.0) where
-  so : is_usable w kind key ≡ true
-  so = ap is_some is
-
-  cause : recall_fault w kind key ≡ spent w.last.handle
-  cause = ap (λ b. where_so b (spent w.last.handle)) so
-
   pub recalls : (k : HandleNumber) → Makes w node mode me (Ok k) w' → RecallCall w me kind key (Ok (Some k)) w'
   recalls k m = record { answers = (node.0, is, m.made.0, subst (λ x. Alike (with_handle w node x me) w') fits m.made.1); refused = tt }
 
   pub not-recalled : (e : Error) → Makes w node mode me (Err e) w' → RecallCall w me kind key (Err e) w'
-  not-recalled e m = grind (arith, nat_tests, cause, so)
+  not-recalled e m = grind (arith, nat_tests, is)

@@ -1,6 +1,6 @@
 -- What was given is told by another set. Handles of a load that are left are those that it had and that haven't gone.
 use Rattle.pagable_tables.proofs.Words.{IsWithin, IsClosed, is_keyed, held, ◌≡◌, ℕ, ◌==◌, ◌&&◌, ◌||◌, Bool, true, false, not, if◌then◌else◌, List, [], ◌∷◌, ◌++◌, refl, ap, sym, ◌∙◌, arith, ◌+◌}
-use Rattle.pagable_tables.proofs.Words.{nat_tests, LoadNumber, HandleRow, Owner, is_handle, is_owner, is_owned_by, find_row, Core, left_rows, AreNewEntries, is_owned_in, Holdings, live, SoFar}
+use Rattle.pagable_tables.proofs.Words.{nat_tests, cases_eq, LoadNumber, HandleRow, Owner, is_handle, is_owner, is_owned_by, find_row, Core, left_rows, AreNewEntries, is_owned_in, Holdings, live, SoFar}
 use Rattle.pagable_tables.proofs.{Words.passes_in, Left.and_one, Next.within-less, Bits.had}
 
 -- a set that has what was given, and no more but what has gone
@@ -55,22 +55,9 @@ and_owned w l given n q = given q || (q == n && is_owned_in w (Owner.Load l) q)
 
 -- the load doesn't have the handle now
 pub given-none : (before w : Core) (given : ℕ → Bool) (lists : Bool) (t : Holdings) (l : LoadNumber) (n : ℕ) → SoFar before w given lists t → owned (Owner.Load l) n (live t.handles.places.items) ≡ false → SoFar before w (and_owned w l given n) lists t
-given-none before w given lists t l n f none = regiven before w given (and_owned w l given n) lists t f less (λ r e. first (given r) _ e)
-  where
-    first : (a b : Bool) → a ≡ true → (a || b) ≡ true
-    first a b e = grind (arith, nat_tests)
-
-    went : (g o v : Bool) → (not g && o) ≡ false → (v || o) ≡ true → (v || g) ≡ true
-    went g o v h e = grind (arith, nat_tests)
-
-    less : (r : ℕ) → and_owned w l given n r ≡ true → (given r || f.gone r) ≡ true
-    less r e = split (r == n) refl
-      where
-        split : (b : Bool) → (r == n) ≡ b → (given r || f.gone r) ≡ true
-        split true h =
-            let m : n ≡ r = grind (arith, nat_tests) in
-            went (f.gone r) (is_owned_in w (Owner.Load l) r) (given r) (sym (passes-so-far before w given lists t f (is_owned_by (Owner.Load l)) (unlisting (Owner.Load l) refl) r) ∙ ap (λ q. owned (Owner.Load l) q (live t.handles.places.items)) (sym m) ∙ none) (sym (ap (λ b. given r || (b && is_owned_in w (Owner.Load l) r)) h) ∙ e)
-        split false h = grind (arith, nat_tests)
+given-none before w given lists t l n f none =
+    let left = passes-so-far before w given lists t f (is_owned_by (Owner.Load l)) (unlisting (Owner.Load l) refl) n in
+    regiven before w given (and_owned w l given n) lists t f (λ r e. grind (arith, nat_tests, cases_eq r n)) (λ r e. grind (arith, nat_tests))
 
 -- the load had the handle, and it was given
 pub given-one : (before w : Core) (given : ℕ → Bool) (lists : Bool) (t new : Holdings) (l : LoadNumber) (n : ℕ) → SoFar before w given lists t → owned (Owner.Load l) n (live t.handles.places.items) ≡ true → SoFar before w (and_one given n) lists new → SoFar before w (and_owned w l given n) lists new

@@ -3,10 +3,10 @@ use Rattle.pagable_tables.proofs.Words.{◌≡◌, ℕ, ◌<◌, ◌==◌, ◌&&
 use Rattle.pagable_tables.proofs.Words.{sum_by-cons, HandleNumber, LoadNumber, HandleRow, Owner, Blob, one, times, is_in, is_handle, is_owner, is_owned_by, is_pin, is_share, find_row, pins, Core}
 use Rattle.pagable_tables.proofs.Words.{MayOwnLoad, load_fault, named_fault, nobody, moved, without_load, numbers_of, hand_over_fault, Tables, Holdings, live, is_valued, is_plain_pin, SoFar, core_of}
 use Rattle.pagable_tables.proofs.Words.{Among, AllPairs, IsHandleBefore, Handles, Becomes, IsFalling, owns_nothing, Fits, counts_at, refs_at, is_at, ◌≤◌, Some, ◌≢◌, Result, option_map, Error, updated}
-use Rattle.pagable_tables.proofs.Words.{if_there, OpenLoad, Falls, is_owned_in, LoadRow, passes_in, load_in, ◌+◌, Ok, TakeCall, is_workers_load, with_worker, left_load, NodeNumber, Giving, gives_row}
-use Rattle.pagable_tables.proofs.{Words.{AreLater, InReach, Reach, reach_at, worker_at, is_some, plain_of, cases_Bool, ◌||◌, load_at, refused_if}, Begun.{begins, begun}, Coming.owned-by-none}
+use Rattle.pagable_tables.proofs.Words.{if_there, OpenLoad, Falls, is_owned_in, LoadRow, passes_in, load_in, ◌+◌, Ok, TakeCall, is_workers_load, with_worker, Giving, gives_row}
+use Rattle.pagable_tables.proofs.{Words.{AreLater, InReach, Reach, reach_at, is_some, plain_of, cases_Bool, ◌||◌, load_at}, Begun.{begins, begun}, Coming.owned-by-none}
 use Rattle.pagable_tables.proofs.{Coming.rows-told, Fitting.is_owned, Regiven.owned, keeps.{Comes.not-list, EndCalls.{both-none, handed-mine, handed-unlisted, asker-owns}}}
-use Rattle.pagable_tables.{proofs.{keeps.{HandleCalls.moved-to-holder, LoadCalls.may-hold, Rows.{found-among, once, sum-map}}, Bits.{and-left, there-is}, Opened.owner-self}, specs.Core.IsWhole}
+use Rattle.pagable_tables.{proofs.{keeps.{HandleCalls.moved-to-holder, LoadCalls.may-hold, Rows.{found-among, once, sum-map}}, Bits.{there-is}, Opened.owner-self}, specs.Core.IsWhole}
 use Rattle.{pagable_tables.specs.Giving.TakesWorker, pagable_world.specs.Workers.is_load_of, pagable_model.specs.declared.numbers.WorkerNumber.WorkerNumber}
 use Rattle.pagable_world.specs.Pager as pager
 
@@ -85,10 +85,6 @@ handed-free w ordered l hs good x among named =
     let a = found-among x.number.0 w.rows m.row m.live in
     ap (λ (r : HandleRow). is_valued r.owner) (once w.rows ordered x m.row among a.0 (sym a.1)) ∙ ap is_valued m.own
 
--- who may use a load began it
-pub yours : (found : Option LoadRow) (me : Owner) (row : LoadRow) → found ≡ Some row → if_there (λ (load : OpenLoad). refused_if (not (is_owner me load.owner)) Error.NotYours) (Some Error.NoSuchHandle) (option_map load_in found) ≡ None → is_owner me row.owner ≡ true
-yours found me row is none = grind (arith, nat_tests)
-
 -- the list has what it had
 pub still-listed : {w : Core} → pager.IsWhole w → (me : Owner) (l : LoadNumber) (hs : List HandleNumber) → MayHand w me l hs
     → (q : ℕ) → times (λ (h : HandleNumber). h.0 == q) w.list ≡ times (λ h. is_handle q h && is_owned_by Owner.List h) (moved (is_in (numbers_of hs)) me w.rows)
@@ -119,10 +115,6 @@ passes-given test w q whole passes =
 pub owned-given : (w : Core) (o : Owner) (q : ℕ) → pager.HandlesAreWhole w → is_owned_in w o q ≡ true → q ≤ w.last.handle
 owned-given w o q whole own = (passes-given (is_owned_by o) w q whole own).1
 
--- what a worker has at a node is its own
-pub at-node : (w : Core) (v : WorkerNumber) (n : NodeNumber) (q : ℕ) → passes_in (gives_row w (Giving.AtNode v n)) w.rows q ≡ true → is_owned_in w (Owner.Worker v) q ≡ true
-at-node w v n q is = grind (arith, nat_tests, and-left)
-
 -- all that a worker gives up when it ends is in its reach
 pub in-reach : (t : Tables) → IsWhole t → AreLater t → (v : WorkerNumber) (q : ℕ) → passes_in (gives_row (plain_of t) (Giving.Worker v)) (plain_of t).rows q ≡ true → InReach (reach_at t.workers v.0) q
 in-reach t whole later v q is = let (row, e, passes) = there-is (gives_row w (Giving.Worker v)) (find_row q w.rows) is in elim (cases_Bool (is_owner (Owner.Worker v) row.owner)) [
@@ -151,19 +143,6 @@ one-more-works at at' v reach here others q = grind (arith, nat_tests)
 
 pub worker-gone : (at at' : ℕ → Option Reach) (v : ℕ) → at' v ≡ None → ((q : ℕ) → q ≢ v → at' q ≡ at q) → (q : ℕ) → updated v false (λ u. is_some (at u)) q ≡ is_some (at' q)
 worker-gone at at' v gone others q = grind (arith, nat_tests)
-
--- what is told of loads once those of a worker are closed
-pub load-leaves : (v : ℕ) (row : Option LoadRow) → (if is_workers_load v (option_map load_in row) then None else option_map load_in row) ≡ option_map load_in (left_load v row)
-load-leaves v row = grind (arith, nat_tests)
-
--- a load that is left was open
-pub left-was : (v : ℕ) (row : Option LoadRow) (load : LoadRow) → left_load v row ≡ Some load → row ≡ Some load
-left-was v row load is = grind (arith, nat_tests)
-
--- the world of tables that have one worker more
-pub begun-core : (t t1 : Tables) (stored : ℕ → Option Blob) (closed : Bool) (failures : ℕ) → t1 ≡ record t { workers = t1.workers; last_worker = t1.last_worker } → t1.last_worker ≡ t.last_worker + 1
-    → ((q : ℕ) → is_some (worker_at t1.workers q) ≡ updated (t.last_worker + 1) true (λ v. is_some (worker_at t.workers v)) q) → core_of t1 stored closed failures ≡ with_worker (core_of t stored closed failures)
-begun-core t t1 stored closed failures same last more = grind (arith, nat_tests)
 
 -- the entry moves to it
 pub takes-worker : (w w1 w' : Core) (place : ℕ) (v : WorkerNumber) (found : Option HandleNumber) → w1 ≡ with_worker w → v.0 ≡ w.last.worker + 1 → place < length w.list → TakeCall w1 (Owner.Worker v) place found w' → TakesWorker w place (Ok v) w'

@@ -1,12 +1,12 @@
 //! Nodes that come.
 
 ghost use Rattle.std.specs.Prelude.{true, ◌≡◌, ℕ, ◌⊎◌, [], Bool, Option, None, false, IfErr, OnOk};
-ghost use Rattle.pagable_world.specs.{Plain.{Blob, one}, Kinds.{is_pinning, is_shared}, Refusals.{earlier, references_fault, Refused}, Calls.{AwayBirthCall, birth_fault}};
+ghost use Rattle.pagable_world.specs.{Plain.Blob, Kinds.{is_pinning, is_shared}, Refusals.{earlier, references_fault, Refused}, Calls.{AwayBirthCall, birth_fault}};
 ghost use Rattle.pagable_tables.specs.{Bearing.{Bears, IsReady, OnlyRoom}, Core.{core_of, plain_of, IsWhole, MayHold}, Doing.Does};
 
 use crate::holdings::pins;
 use crate::moving::hand_over_all;
-use crate::references::check_references;
+use crate::references::references_fault;
 use crate::rows::{Counts, NodeRow};
 use crate::tables::Tables;
 use crate::{handles, nodes};
@@ -14,21 +14,6 @@ use pagable_model::{ArcRef, DataKey, Error, HandleNumber, NodeNumber};
 use pagable_world::Mode;
 use pagable_world::handles::{HandleRow, Owner};
 use std::alloc::Global;
-
-/// The counts of a new node, which one handle of this mode holds.
-fn first_counts(node_type: u32, key: u128, mode: Mode) -> Counts
-    ensures { result ≡ record { node_type = node_type; key = key; pins = one (is_pinning mode); holds = 1; is_falling = false; next = 0 } }
-{
-    let pins = if pins(mode) { 1 } else { 0 };
-    Counts {
-        node_type,
-        key,
-        pins,
-        holds: 1,
-        is_falling: false,
-        next: 0,
-    }
-}
 
 /// Makes room for a handle and a node, and changes nothing else. NumbersSpent where no number is left for one of them, OutOfMemory where there is no room.
 pub fn make_ready(t: &mut Tables) -> Result<(), Error>
@@ -55,7 +40,9 @@ pub fn prepare(t: &mut Tables, me: Owner, references: &[ArcRef]) -> Result<(), E
     ensures does { Does t.old OnlyRoom t.new }
     ensures refused { (stored : ℕ → Option Blob) (closed : Bool) (failures : ℕ) → IfErr result (λ e. Refused (earlier (references_fault (core_of t.old stored closed failures) me [] references.now) (birth_fault (core_of t.old stored closed failures))) None (Unit {0}) (core_of t.old stored closed failures) e (core_of t.new stored closed failures)) }
 {
-    check_references(t, me, references)?;
+    if let Some(e) = references_fault(t, me, references) {
+        return Err(e);
+    }
     make_ready(t)?;
     Ok(())
 }
@@ -77,7 +64,14 @@ pub fn bear(
     ensures does { Does t.old (λ w w'. Bears w me node_type key references.items mode result w') t.new }
     ensures same { t.new ≡ record t.old { holdings = t.new.holdings; last_node = t.new.last_node } }
 {
-    let counts = first_counts(node_type, key, mode);
+    let counts = Counts {
+        node_type,
+        key,
+        pins: pins(mode) as u64,
+        holds: 1,
+        is_falling: false,
+        next: 0,
+    };
     let node = NodeNumber(t.last_node + 1);
     let number = HandleNumber(t.holdings.last_handle + 1);
     hand_over_all(&mut t.holdings.handles, &references, Owner::Value(node));

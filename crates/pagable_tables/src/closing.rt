@@ -11,8 +11,7 @@ use crate::tables::Tables;
 use indexmap::IndexMap;
 use std::sync::Arc;
 
-/// The storage is closed: the list gives up all entries, with all that goes with them, and the cache forgets all that it knows. No cell is listed by that. It takes
-/// no memory.
+/// The storage is closed: the list gives up its entries, with all that goes with them, and the cache forgets all. No cell is listed by that. It takes no memory.
 pub fn close<N: Drop>(t: &mut Tables, values: &mut IndexMap<u64, Arc<N>>)
     requires whole { IsWhole t.old }
     ensures closed { (stored : ℕ → Option Blob) (closed : Bool) (failures failures' : ℕ) → failures ≤ failures' → CloseCall (core_of t.old stored closed failures) (Ok tt) (core_of t.new (λ key. None) true failures') }

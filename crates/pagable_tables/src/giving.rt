@@ -63,13 +63,7 @@ fn is_given(loads: &IndexMap<u64, LoadRow>, giving: Giving, place: Place, left: 
     ensures yes { result ≡ true → (place.is_live ≡ true) × (place.row.number.0 ≤ left) × ((w : Core) → LoadsAre loads.now w → gives_row w giving place.row ≡ true) }
     ensures no { result ≡ false → (w : Core) → LoadsAre loads.now w → place.is_live ≡ true → gives_row w giving place.row ≡ true → left < place.row.number.0 }
 {
-    if !place.is_live {
-        return false;
-    }
-    if place.row.number.0 > left {
-        return false;
-    }
-    gives(loads, giving, place.row)
+    place.is_live && place.row.number.0 <= left && gives(loads, giving, place.row)
 }
 
 /// The last handle that is given up, of a number above `since` and not above `left`.
@@ -152,8 +146,7 @@ fn last_given(
     }
 }
 
-/// Handles are given up, from the last to the first, with all that goes with them: all of these, which are in this reach. NumbersSpent or OutOfMemory where a cell
-/// that had to be listed isn't.
+/// All these handles, which are in this reach, are given up, from the last to the first, with all that goes with them. It is refused as `fall` is.
 #[tactic(auto, using(crate::proofs::Ended::shedding))]
 pub fn give_all<N: Drop>(
     t: &mut Holdings,

@@ -139,11 +139,7 @@ fn counts_after(counts: Counts, pinning: bool, stays: bool, listed: bool, top: u
     requires small { counts.holds < 2 ^ 63 }
     ensures { result ≡ after counts pinning stays listed top }
 {
-    let pins = if pinning {
-        counts.pins - 1
-    } else {
-        counts.pins
-    };
+    let pins = counts.pins - pinning as u64;
     let holds = holds_after(counts.holds, stays, listed);
     if !counts.is_falling && (holds == 0 || (pinning && pins == 0 && counts.key != 0)) {
         return Counts {
@@ -228,8 +224,7 @@ fn settle(t: &mut Holdings)
     land(&mut t.nodes, node, counts);
 }
 
-/// One step of what follows when handles are given up: the first node that falls gives up a handle, or it is done, and then it is answered: its value
-/// has gone.
+/// One step of what follows when handles are given up: the first node that falls gives up a handle, or it is done, its value has gone, and it is answered.
 pub fn step(t: &mut Holdings, lists: bool) -> Option<NodeNumber>
     requires falling { (stack : List ℕ) × IsFalling t.old stack owns_nothing }
     requires some { t.old.top ≢ 0 }

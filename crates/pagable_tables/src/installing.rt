@@ -5,14 +5,13 @@ ghost use Rattle.{indexmap.specs.IndexMap.get, pagable_world.specs.Plain.{Blob, 
 ghost use Rattle.pagable_world.specs.{Kinds.is_loose, World.{Alike, OpenLoad, greatest}, Calls.{IsNext, with_handle, with_mode}, LoadCalls.{root_fault, end_fault, is_owned_in, Installs}};
 ghost use Rattle.{pagable_world.specs.Refusals.{where_so, spent, Owns}, pagable_tables.specs.{ByNumber.{counts_at, load_at}, Live.{room, AreSound}, Core.{core_of, plain_of, IsWhole, MayHold}}};
 ghost use Rattle.pagable_tables.specs.{Later.AreLater, Bearing.OnlyRoom, Ready.{IsReady, HasPlace, Unends, ShedsBeside}, Doing.Does, Becoming.Joins};
-ghost use Rattle.pagable_world.specs.declared.rows.Mode.TheVariants as modes;
 
 use crate::giving::{Giving, give_all};
 use crate::holdings::Holdings;
 use crate::lookups::is_here;
 use crate::moving::hand_over_all;
 use crate::pinning::pin_here;
-use crate::references::{earlier, load_fault, references_fault, refused_if};
+use crate::references::{earlier, load_fault, references_fault};
 use crate::rows::{LoadRoot, LoadRow, Reach};
 use crate::tables::Tables;
 use crate::turning::{is_owner, own};
@@ -39,41 +38,28 @@ pub enum Unended {
     InVain(Error),
 }
 
-/// Whether this owner has the handle.
-fn is_owned(t: &Tables, owner: Owner, handle: HandleNumber) -> bool
-    requires { IsWhole t.now }
-    ensures { (stored : ℕ → Option Blob) (closed : Bool) (failures : ℕ) → result ≡ is_owned_in (core_of t.now stored closed failures) owner handle.0 }
-{
-    match handles::look(&t.holdings.handles, handle) {
-        Some(at) => is_owner(owner, at.row.owner),
-        None => false,
-    }
-}
-
 /// Why no handle can be made for a pin, if this owner has the handle: no number is left.
+#[tactic(auto, using(std::proofs::lemmas::Bool::Decides::nat_tests))]
 fn number_fault(t: &Tables, me: Owner, handle: HandleNumber) -> Option<Error>
     requires { IsWhole t.now }
     ensures { (stored : ℕ → Option Blob) (closed : Bool) (failures : ℕ)
         → result ≡ where_so (is_owned_in (core_of t.now stored closed failures) me handle.0) (spent t.now.holdings.last_handle) }
 {
+    let at = handles::look(&t.holdings.handles, handle)?;
     let is_spent = t.holdings.last_handle == u64::MAX;
-    refused_if(is_owned(t, me, handle) && is_spent, Error::NumbersSpent)
+    (is_owner(me, at.row.owner) && is_spent).then_some(Error::NumbersSpent)
 }
 
-/// Why a load can't end with a value of this type, if it is open: it is of a key, or of a cell of another type; or no number is left for a pin of a handle that the caller
-/// still has.
+/// Why a load can't end with a value of this type, if it is open: it is of a key, or of a cell of another type; or of numbers (`number_fault`).
 fn root_fault(t: &Tables, me: Owner, load: LoadNumber, node_type: u32) -> Option<Error>
     requires { IsWhole t.now }
     ensures { (stored : ℕ → Option Blob) (closed : Bool) (failures : ℕ)
         → result ≡ if_there (λ (load : OpenLoad). root_fault (core_of t.now stored closed failures) me node_type load.root) None ((core_of t.now stored closed failures).loads load.0) }
 {
-    let Some(row) = loads::load_of(&t.loads, load.0) else {
-        return None;
-    };
-    let LoadRoot::Cell(_, cell_type, handle) = row.root else {
+    let LoadRoot::Cell(_, cell_type, handle) = loads::load_of(&t.loads, load.0)?.root else {
         return Some(Error::WrongMode);
     };
-    let typed = refused_if(node_type != cell_type, Error::WrongKind);
+    let typed = (node_type != cell_type).then_some(Error::WrongKind);
     earlier(typed, number_fault(t, me, handle))
 }
 

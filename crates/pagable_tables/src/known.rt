@@ -27,8 +27,7 @@ pub fn usable_of(t: &Tables, kind: Kind, key: DataKey) -> Option<NodeNumber>
     Some(node)
 }
 
-/// A handle of the node that the cache gives for a kind and a key, in the kind's mode; or None where it gives none. It is refused only where no number is
-/// left, or no place.
+/// A handle of the node that the cache gives for a kind and a key, in the kind's mode; or None where it gives none. It is refused as `make` is.
 pub fn cache_get(
     t: &mut Tables,
     me: Owner,
@@ -76,8 +75,6 @@ pub fn cache_put(
     requires holder { MayHold (plain_of t.old) me }
     ensures offered { (stored : ℕ → Option Blob) (failures : ℕ) → Offered (core_of t.old stored false failures) me kind key handle result (core_of t.new stored false failures) }
     ensures known { IfOk result (λ found. IfSome found (λ k. t.new ≡ record t.old { holdings = t.new.holdings })) }
-    ensures loads { t.new.loads ≡ t.old.loads }
-    ensures workers { t.new.workers ≡ t.old.workers }
     ensures whole { IsWhole t.new }
     ensures later { AreLater t.old → AreLater t.new }
 {

@@ -40,10 +40,8 @@ pub fn node_of(t: &Tables, handle: HandleNumber) -> Result<NodeNumber, Error>
     requires { IsWhole t.now }
     ensures { (stored : ℕ → Option Blob) (closed : Bool) (failures : ℕ) → NodeCall (core_of t.now stored closed failures) handle result }
 {
-    match handles::look(&t.holdings.handles, handle) {
-        Some(at) => Ok(at.row.node),
-        None => Err(Error::NoSuchHandle),
-    }
+    let at = handles::look(&t.holdings.handles, handle).ok_or(Error::NoSuchHandle)?;
+    Ok(at.row.node)
 }
 
 /// The node of a handle that pins it, or None where it pins nothing.
@@ -51,13 +49,8 @@ pub fn pinned_node(t: &Tables, handle: HandleNumber) -> Result<Option<NodeNumber
     requires { IsWhole t.now }
     ensures { (stored : ℕ → Option Blob) (closed : Bool) (failures : ℕ) → Looks (core_of t.now stored closed failures) handle (λ node row. node ≡ (if is_pinning row.mode then Some row.node else None)) result }
 {
-    let Some(at) = handles::look(&t.holdings.handles, handle) else {
-        return Err(Error::NoSuchHandle);
-    };
-    if pins(at.row.mode) {
-        return Ok(Some(at.row.node));
-    }
-    Ok(None)
+    let at = handles::look(&t.holdings.handles, handle).ok_or(Error::NoSuchHandle)?;
+    Ok(pins(at.row.mode).then_some(at.row.node))
 }
 
 /// How many handles pin the node of a handle.
@@ -65,9 +58,7 @@ pub fn count(t: &Tables, handle: HandleNumber) -> Result<u64, Error>
     requires { IsWhole t.now }
     ensures { (stored : ℕ → Option Blob) (closed : Bool) (failures : ℕ) → CountCall (core_of t.now stored closed failures) handle result }
 {
-    let Some(at) = handles::look(&t.holdings.handles, handle) else {
-        return Err(Error::NoSuchHandle);
-    };
+    let at = handles::look(&t.holdings.handles, handle).ok_or(Error::NoSuchHandle)?;
     match nodes::counts_of(&t.holdings.nodes, at.row.node.0) {
         Some(c) => Ok(c.pins),
         None => Ok(0),
@@ -79,10 +70,8 @@ pub fn key(t: &Tables, handle: HandleNumber) -> Result<OptionalDataKey, Error>
     requires { IsWhole t.now }
     ensures { (stored : ℕ → Option Blob) (closed : Bool) (failures : ℕ) → KeyCall (core_of t.now stored closed failures) handle result }
 {
-    match handles::look(&t.holdings.handles, handle) {
-        Some(at) => Ok(key_in(nodes::counts_of(&t.holdings.nodes, at.row.node.0))),
-        None => Err(Error::NoSuchHandle),
-    }
+    let at = handles::look(&t.holdings.handles, handle).ok_or(Error::NoSuchHandle)?;
+    Ok(key_in(nodes::counts_of(&t.holdings.nodes, at.row.node.0)))
 }
 
 /// Whether the value of the node of a handle has to be read first.
@@ -90,10 +79,8 @@ pub fn is_paged_out(t: &Tables, handle: HandleNumber) -> Result<bool, Error>
     requires { IsWhole t.now }
     ensures { (stored : ℕ → Option Blob) (closed : Bool) (failures : ℕ) → AwayCall (core_of t.now stored closed failures) handle result }
 {
-    match handles::look(&t.holdings.handles, handle) {
-        Some(at) => Ok(!is_here(nodes::counts_of(&t.holdings.nodes, at.row.node.0))),
-        None => Err(Error::NoSuchHandle),
-    }
+    let at = handles::look(&t.holdings.handles, handle).ok_or(Error::NoSuchHandle)?;
+    Ok(!is_here(nodes::counts_of(&t.holdings.nodes, at.row.node.0)))
 }
 
 /// Whether a handle is loose.
@@ -101,10 +88,8 @@ pub fn is_loose(t: &Tables, handle: HandleNumber) -> Result<bool, Error>
     requires { IsWhole t.now }
     ensures { (stored : ℕ → Option Blob) (closed : Bool) (failures : ℕ) → Looks (core_of t.now stored closed failures) handle (λ loose row. loose ≡ is_loose row.mode) result }
 {
-    match handles::look(&t.holdings.handles, handle) {
-        Some(at) => Ok(kinds::is_loose(at.row.mode)),
-        None => Err(Error::NoSuchHandle),
-    }
+    let at = handles::look(&t.holdings.handles, handle).ok_or(Error::NoSuchHandle)?;
+    Ok(kinds::is_loose(at.row.mode))
 }
 
 /// The type of a node, or None where the node is gone.

@@ -26,13 +26,8 @@ pub fn counts_more(counts: Counts, pinning: bool) -> Counts
     requires holds { counts.holds < 2 ^ 63 }
     ensures { result ≡ record counts { pins = counts.pins + one pinning; holds = counts.holds + 1 } }
 {
-    let pins = if pinning {
-        counts.pins + 1
-    } else {
-        counts.pins
-    };
     Counts {
-        pins,
+        pins: counts.pins + pinning as u64,
         holds: counts.holds + 1,
         ..counts
     }

@@ -1,6 +1,6 @@
 //! Why calls are refused: the references of a value that is handed in, and which of several causes is told.
 
-ghost use Rattle.std.specs.{Prelude.{◌≡◌, ◌||◌, not, ℕ, Bool, List, Option, Some, None, OnOk, IfErr, [], ◌<◌, false}, Option.option_map};
+ghost use Rattle.std.specs.{Prelude.{◌≡◌, ◌||◌, not, ℕ, Bool, List, Option, Some, None, [], ◌<◌, false}, Option.option_map};
 ghost use Rattle.pagable_world.specs.Plain.{Blob, is_in, if_there};
 ghost use Rattle.pagable_world.specs.{Kinds.is_owner, Refusals.{refused_if, row_fault, reference_fault, references_fault, rank, earlier}, Workers.claim_fault, Calls.is_named_by, World.OpenLoad};
 ghost use Rattle.{pagable_world.specs.LoadCalls.cell_fault, pagable_tables.specs.Core.{core_of, IsWhole, load_in}};
@@ -79,31 +79,22 @@ pub fn claim_fault(t: &Tables, reference: ArcRef) -> Option<Error>
     }
 }
 
-/// Refuses the references of a value that is handed in by the cause of the first that has one.
+/// Why the references of a value that is handed in are refused: the cause of the first that has one.
 #[tactic(auto, using(crate::proofs::Named::naming))]
-pub fn check_references(t: &Tables, me: Owner, references: &[ArcRef]) -> Result<(), Error>
+pub fn references_fault(t: &Tables, me: Owner, references: &[ArcRef]) -> Option<Error>
     requires { IsWhole t.now }
-    ensures fit { OnOk result ((stored : ℕ → Option Blob) (closed : Bool) (failures : ℕ) → references_fault (core_of t.now stored closed failures) me [] references.now ≡ None) }
-    ensures fault { IfErr result (λ e. (stored : ℕ → Option Blob) (closed : Bool) (failures : ℕ) → references_fault (core_of t.now stored closed failures) me [] references.now ≡ Some e) }
+    ensures { (stored : ℕ → Option Blob) (closed : Bool) (failures : ℕ) → result ≡ references_fault (core_of t.now stored closed failures) me [] references.now }
 {
     let mut highest = 0;
     for i in 0..references.len() {
         let reference = references[i];
         let is_seen = is_seen(&references[..i], highest, reference.handle);
         if let Some(e) = fault_of(t, me, reference, is_seen) {
-            return Err(e);
+            return Some(e);
         }
         highest = highest.max(reference.handle.0);
     }
-    Ok(())
-}
-
-/// The same, as a cause that there may be.
-pub fn references_fault(t: &Tables, me: Owner, references: &[ArcRef]) -> Option<Error>
-    requires { IsWhole t.now }
-    ensures { (stored : ℕ → Option Blob) (closed : Bool) (failures : ℕ) → result ≡ references_fault (core_of t.now stored closed failures) me [] references.now }
-{
-    check_references(t, me, references).err()
+    None
 }
 
 /// The place of a refusal in the order: nothing has the number; it is another's; its mode doesn't fit; its type doesn't; no number is left; all others.
@@ -142,7 +133,7 @@ pub fn load_fault(row: Option<LoadRow>, me: Owner) -> Option<Error>
     ensures { result ≡ if_there (λ (load : OpenLoad). refused_if (not (is_owner me load.owner)) errors.NotYours) (Some errors.NoSuchHandle) (option_map load_in row) }
 {
     match row {
-        Some(row) => refused_if(!is_owner(me, row.owner), Error::NotYours),
+        Some(row) => (!is_owner(me, row.owner)).then_some(Error::NotYours),
         None => Some(Error::NoSuchHandle),
     }
 }

@@ -1,13 +1,11 @@
 //! A handle that is offered to the cache, and is given up where the cache gives a node already.
 
-ghost use Rattle.std.specs.Prelude.{◌≡◌, ℕ, ◌≤◌, [], length, Bool, Option, None, Some, not, true, false, nat_eq};
-ghost use Rattle.pagable_world.specs.{declared.handles.HandleRow.HandleRow, Plain.Blob};
-ghost use Rattle.pagable_world.specs.{Kinds.{find_row, is_owner, is_pinning, mode_of}, World.{Core, usable}, Calls.OfferCall, Cascade.{FallsAnyhow, nobody, only_handle}, declared.handles.Owner.Owner};
-ghost use Rattle.pagable_tables.specs.{Live.live, ByNumber.counts_at, Falling.{IsFalling, has_value, is_valued, owns_nothing, Sheds}, Onward.{with_tables, SoFar}, Later.AreLater, Core.core_of};
+ghost use Rattle.std.specs.Prelude.{◌≡◌, ℕ, Bool, Option, Some, not, true, nat_eq};
+ghost use Rattle.pagable_world.specs.{Plain.Blob, Kinds.{is_pinning, mode_of}, World.usable, Calls.OfferCall};
+ghost use Rattle.pagable_tables.specs.{ByNumber.counts_at, Falling.{has_value, Sheds}, Later.AreLater, Core.core_of};
 ghost use Rattle.{pagable_tables.specs.Core.{plain_of, IsWhole, MayHold}, indexmap.specs.IndexMap.get};
 
 use crate::handles;
-use crate::holdings::Holdings;
 use crate::known::{cache_put, offered};
 use crate::releases::give_back;
 use crate::tables::Tables;
@@ -15,21 +13,6 @@ use indexmap::IndexMap;
 use pagable_model::{DataKey, Error, HandleNumber, Kind};
 use pagable_world::handles::Owner;
 use std::sync::Arc;
-
-/// The live handle of this number is given up, with all that goes with it.
-fn give_number<N: Drop>(t: &mut Holdings, values: &mut IndexMap<u64, Arc<N>>, handle: HandleNumber)
-    requires steady { IsFalling t.old [] owns_nothing }
-    requires there { (row : HandleRow) × (find_row handle.0 (live t.old.handles.places.items) ≡ Some row) × (is_valued row.owner ≡ false) × (is_owner Owner.List row.owner ≡ false) }
-    ensures steady { IsFalling t.new [] owns_nothing }
-    ensures falls { (before w : Core) → SoFar before w nobody true (record t.old { unlisted = None })
-        → length (live t.old.handles.places.items) ≤ length w.rows → FallsAnyhow before w (only_handle handle) (with_tables w t.new) }
-    ensures sheds { Sheds (counts_at t.old.nodes) (get nat_eq values.old) (counts_at t.new.nodes) (get nat_eq values.new) }
-{
-    let Some(at) = handles::look(&t.handles, handle) else {
-        unreachable!();
-    };
-    let _ = give_back(t, values, at, true);
-}
 
 /// The cache learns a handle's node, while cells are listed. Where it gives a node already, a handle of that is answered, and the one that was offered is given
 /// up. While none are listed the handle itself is answered. It is refused as `cache_put` is.
@@ -58,6 +41,9 @@ pub fn offer<N: Drop>(
     let Some(known) = cache_put(t, me, kind, key, handle)? else {
         return Ok(None);
     };
-    give_number(&mut t.holdings, values, handle);
+    let Some(at) = handles::look(&t.holdings.handles, handle) else {
+        unreachable!();
+    };
+    let _ = give_back(&mut t.holdings, values, at, true);
     Ok(Some(known))
 }

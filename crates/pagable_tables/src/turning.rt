@@ -2,7 +2,7 @@
 
 ghost use Rattle.std.specs.Prelude.{◌≡◌, ℕ, ◌<◌, ◌^◌, ◌+◌, Bool, Option, not, slice_get, Some, IfOk, IfErr, true, false};
 ghost use Rattle.pagable_world.specs.{declared.rows.Mode.Mode, Plain.{Blob, one}};
-ghost use Rattle.pagable_world.specs.{declared.handles.Owner.Owner, Kinds.{is_owner, is_owned_by, is_pinned, is_shared, find_row}, World.Alike, Refusals.handle_fault, Calls.{LoosenCall, with_mode}};
+ghost use Rattle.pagable_world.specs.{declared.handles.Owner.Owner, Kinds.{is_owner, is_owned_by, is_shared, find_row}, World.Alike, Refusals.handle_fault, Calls.{LoosenCall, with_mode}};
 ghost use Rattle.pagable_tables.specs.{Live.{live, alive}, Core.{core_of, IsWhole}, Doing.Does};
 
 use crate::holdings::pins;
@@ -26,13 +26,6 @@ pub fn is_owner(a: Owner, b: Owner) -> bool
         (Owner::Worker(v), Owner::Worker(u)) => u.0 == v.0,
         _ => false,
     }
-}
-
-/// Whether a handle of this mode is a Pinned one.
-fn is_pinned(mode: Mode) -> bool
-    ensures { result ≡ is_pinned mode }
-{
-    matches!(mode, Mode::Pinned)
 }
 
 /// The own handle of this number, with its place.
@@ -83,9 +76,9 @@ pub fn into_pagable(t: &mut Tables, me: Owner, handle: HandleNumber) -> Result<H
     ensures { Does t.old (λ w w'. LoosenCall w me handle result w') t.new }
 {
     let at = own(t, me, handle)?;
-    if !is_pinned(at.row.mode) {
+    let Mode::Pinned = at.row.mode else {
         return Err(Error::WrongMode);
-    }
+    };
     turn(t, at);
     Ok(at.row.number)
 }

@@ -1,5 +1,5 @@
 use Rattle.pagable_tables.proofs.Words.{◌<◌, [], arith, ap, sym, ◌∙◌, subst, false, inl, inr, None, OptionalDataKey, Core, Alike, greatest, Owner, adopted, core_of, plain_of, load_in, Suits, key_in}
-use Rattle.pagable_tables.proofs.{Words.{not, is_loose_kind}, Adoptions.{unshared-loose, not-own, kind-or-node-late, lazy-not-loose, lazy-known, lazy-not-new, lazy-new}}
+use Rattle.pagable_tables.proofs.{Words.{not, is_loose_kind, nat_tests}, Opened.{late, kind-late}, Adoptions.{not-own, node-late, lazy-not-loose, lazy-known, lazy-not-new, lazy-new}}
 use Rattle.pagable_tables.proofs.{Doing.{nothing-does, does-then}, NewNodes.{key-is, none-named}, Readied.{adopted-past, next-past}, Worlds.failed, keeps.CacheCalls.known-suits}
 use Rattle.pagable_tables.proofs.adopting.load_lazy.Goals as goal
 
@@ -7,7 +7,7 @@ pub returns-in_err-_row : goal.returns-in_err-_row
 returns-in_err-_row c =
     rw (failed c.from_residual.result c.from_residual.ensures.1) (nothing-does c.requires.whole (λ stored closed failures e. let w = core_of c.args.t.now stored closed failures in record {
       makes = tt;
-      refused = not-own w c.args.me c.args.load _ _ (c.in_err-_row.ensures.fault stored closed failures) (kind-or-node-late w (not (is_loose_kind c.args.kind.0)) c.args.kind c.args.key);
+      refused = not-own w c.args.me c.args.load _ _ (c.in_err-_row.ensures.fault stored closed failures) (late _ _ 3 (kind-late (not (is_loose_kind c.args.kind.0))) (λ f is. let a = node-late w c.args.kind c.args.key f is in omega arith));
     }))
 
 pub returns-then-not-is_loose_kind : goal.returns-then-not-is_loose_kind
@@ -46,7 +46,7 @@ returns c =
     (adopted-past l c.args.kind c.args.key (OptionalDataKey.Some c.args.key) [] room two))
 
 pub learn_new-requires-clause-bare : goal.learn_new-requires-clause-bare
-learn_new-requires-clause-bare c = inr (unshared-loose c.args.kind.0 (sym c.if-not-is_loose_kind.ensures), inl c.new.ensures.items)
+learn_new-requires-clause-bare c = inr ((let loose = c.if-not-is_loose_kind.ensures in grind (arith, nat_tests)), inl c.new.ensures.items)
 
 pub returns-in_err-make_ready_to_learn : goal.returns-in_err-make_ready_to_learn
 returns-in_err-make_ready_to_learn c =

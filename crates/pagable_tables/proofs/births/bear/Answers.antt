@@ -1,5 +1,5 @@
-use Rattle.pagable_tables.proofs.Words.{◌≡◌, ◌+◌, ◌++◌, ◌∷◌, [], refl, ap, ◌∙◌, arith, inl, inr, None, Some, HandleRow, owner_value, moved, is_named_by, live, counts_at, refs_at, plain_of, key_in}
-use Rattle.pagable_tables.proofs.{Words.{has_key, nat_tests, rules}, Born.{born-fits, no-node}, Coming.rows-told, Doing.does-so, NewNodes.{bears-newer, bears-whole}, Worlds.same-cache}
+use Rattle.pagable_tables.proofs.Words.{◌≡◌, ◌+◌, ◌++◌, ◌∷◌, [], refl, ap, ◌∙◌, arith, inl, inr, None, Some, HandleRow, owner_value, Counts, one, is_pinning, moved, is_named_by, live, counts_at, refs_at, plain_of, key_in}
+use Rattle.pagable_tables.proofs.{Words.{false, has_key, nat_tests, rules}, Born.{born-fits, no-node}, Coming.rows-told, Doing.does-so, NewNodes.{bears-newer, bears-whole}, Worlds.same-cache}
 use Rattle.{pagable_tables.proofs.keeps.Comes.not-a-value, std.proofs.lemmas.Grind.common_steps}
 use Rattle.pagable_tables.proofs.births.bear.Goals as goal
 
@@ -15,7 +15,8 @@ returns-clause-does c =
     let n = u.last_node + 1 in
     let x : HandleRow = record { number = record { 0 = t.last_handle + 1 }; node = record { 0 = n }; mode = c.args.mode; owner = me } in
     let added = c.in-Ok-add.ensures in
-    let here = added.here ∙ ap Some c.first_counts-counts.ensures in
+    let is : Counts = record { node_type = c.args.node_type; key = c.args.key; pins = one (is_pinning c.args.mode); holds = 1; is_falling = false; next = 0 } in
+    let here : counts_at c.add.new.nodes n ≡ Some is = grind (arith, nat_tests, added.here, c.pins.ensures) in
     let free : at n ≡ None = no-node (at n) u.last_node (w.core.handles.nodes_numbered n) in
     let named = ap (λ l. moved (is_named_by l) (owner_value n) (live t.handles.places.items)) c.deref.ensures.value in
     let rows = c.in-Ok.ensures.rows ∙ ap (λ l. l ++ x ∷ []) (c.hand_over_all.ensures.rows ∙ named) in

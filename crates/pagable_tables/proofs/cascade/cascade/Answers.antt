@@ -1,12 +1,6 @@
-use Rattle.pagable_tables.proofs.{Words.{◌≡◌, ℕ, Bool, true, false, Option, Some, arith, ◌∙◌, ◌≢◌, IfSome, nat_tests, NodeNumber, Steps, has_value, is_node, counts_at}, Ended.{lasts-on, none-falls}}
+use Rattle.pagable_tables.proofs.{Words.{true, arith, ◌∙◌, nat_tests, Steps, is_node, counts_at}, Ended.{lasts-on, none-falls}}
 use Rattle.pagable_tables.proofs.{Ended.ended, Next.steps-on}
 use Rattle.pagable_tables.proofs.cascade.cascade.Goals as goal
-
-not-node : (r : Option NodeNumber) (n : ℕ) → is_node r n ≡ false → r ≢ Some (record { 0 = n })
-not-node x0 n other eq = absurd (grind (arith, nat_tests))
-
-gone-node : (at : ℕ → Bool) (r : Option NodeNumber) (n : ℕ) → IfSome r (λ m. at m.0 ≡ false) → is_node r n ≡ true → at n ≡ false
-gone-node at x1 n gone is = grind (arith, nat_tests)
 
 pub fall-preserved : goal.fall-preserved
 fall-preserved g c =
@@ -20,8 +14,8 @@ fall-preserved g c =
       λ before w given f. steps-on before w given c.args.lists c.fall.t c.step-done.new.t i.0 c.step-done.result
           (c.fall.invariant.1 before w given f) i.1 c.fall-test.true s,
       λ kept n. lasts-on (is_node c.step-done.result n) (counts_at c.fall.t.nodes n)
-          (counts_at c.step-done.new.t.nodes n) _ _ _ (c.let_go.ensures n) (λ other. s.values n (not-node c.step-done.result n other))
-          (gone-node (λ m. has_value (counts_at c.step-done.new.t.nodes m)) c.step-done.result n s.gone) (c.fall.invariant.2 kept n),
+          (counts_at c.step-done.new.t.nodes n) _ _ _ (c.let_go.ensures n) (λ other. s.values n (λ eq. absurd (grind (arith, nat_tests))))
+          (λ is. let gone = s.gone in grind (arith, nat_tests)) (c.fall.invariant.2 kept n),
       omega arith,
       λ none. s.unlisting none ∙ c.fall.invariant.4 none,
     )

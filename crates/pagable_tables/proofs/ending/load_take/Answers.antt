@@ -1,7 +1,7 @@
 use Rattle.pagable_tables.proofs.Words.{◌≡◌, ℕ, ◌&&◌, false, not, length, arith, ap, sym, ◌∙◌, subst, Some, None, Error, Owner, is_in, if_there, is_owner, OpenLoad, Falls, refused_if, is_owned_in}
-use Rattle.pagable_tables.proofs.{Words.{refl, numbers_of, is_owned_by, [], load_at, core_of, plain_of, load_in, with_tables, option_map, inl}, Bits.and-left, Doing.sheds-by, GivenAll.bare}
+use Rattle.pagable_tables.proofs.{Words.{nat_tests, refl, numbers_of, is_owned_by, [], load_at, core_of, plain_of, load_in, with_tables, option_map, inl}, Bits.and-left, Doing.sheds-by, GivenAll.bare}
 use Rattle.pagable_tables.proofs.{Newer.{newer-falls, later-handed, closed-still}, Opened.owner-self, Taken.{moved-less, begun-moved, owned-moved, no-load, may-hand, handed-free, moved-stands}}
-use Rattle.pagable_tables.proofs.{Taken.{still-listed, yours, MayHand, load-closed, owned-given, loads-anew}, keeps.{Comes.not-a-value, EndCalls.{hand-over-whole, handed-mine}, LoadCalls.may-hold}}
+use Rattle.pagable_tables.proofs.{Taken.{still-listed, MayHand, load-closed, owned-given, loads-anew}, keeps.{Comes.not-a-value, EndCalls.{hand-over-whole, handed-mine}, LoadCalls.may-hold}}
 use Rattle.pagable_tables.proofs.ending.load_take.Goals as goal
 
 pub unreachable-requires : goal.unreachable-requires
@@ -53,7 +53,7 @@ returns g c =
       refused = tt;
     })
     c.give_all.ensures.steady (hand-over-whole me l hs _ c.requires.whole.core)
-    (λ hands later. later-handed t later s me (λ m. no-load p me m can.may) _ refl l c.in-Some-load_of.row row (yours (load_at t.loads l.0) me _ row can.own)
+    (λ hands later. later-handed t later s me (λ m. no-load p me m can.may) _ refl l c.in-Some-load_of.row row (let own = can.own in grind (arith, nat_tests, row))
     (λ q is. let o : Owner = Owner.Load l in let m = handed-mine p o [] hs can.named q is in ap (if_there (is_owned_by o) false) m.live ∙ ap (is_owner o) m.own ∙ owner-self o) (newer-falls hands.hands.1.falls)
     (closed-still (load_at t.loads) (load_at c.close.new.rows) l.0 c.close.ensures.gone c.close.ensures.others) refl)
     c.give_all.ensures.sheds

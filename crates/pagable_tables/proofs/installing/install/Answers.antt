@@ -2,7 +2,7 @@ use Rattle.pagable_tables.proofs.Words.{◌≡◌, ◌<◌, ◌+◌, ◌++◌, �
 use Rattle.pagable_tables.proofs.Words.{is_pin, owner_value, is_here, cases_Bool, ArcRef, Falls, Holdings, IsFalling, owns_nothing, Tables, moved, is_named_by, row_of, live, counts_at, refs_at}
 use Rattle.pagable_tables.proofs.Words.{load_at, has_value, cell_in, core_of, plain_of, nat_tests, references_fault, without_load, with_pin, is_owned_in, FallsAnyhow, ◌&&◌, ◌⊎◌, Core, LoadNumber}
 use Rattle.pagable_tables.proofs.{Words.{HandleRow, Result, Error, option_map, load_in}, Coming.{rows-told, some-held, turned}, Doing.lazily-by, Fitting.{fits-same, pins-le-held}, GivenAll.bare}
-use Rattle.pagable_tables.proofs.{Installed.{no-wanting, ended, has-come, install-newer, pins-here, none-moves, not-so, so-then, ready-owner}, Born.{joined-fits, owns-none}, Newer.closed-still}
+use Rattle.pagable_tables.proofs.{Installed.{ended, has-come, install-newer, pins-here, none-moves, not-so, so-then, ready-owner}, Born.{joined-fits, owns-none}, Newer.closed-still}
 use Rattle.pagable_tables.{proofs.{Newer.later-so, Stays.not-named, keeps.{Comes.not-a-value, EndCalls.end-whole, HandleCalls.no-references, LoadCalls.may-hold}}, specs.Becoming.coming}
 use Rattle.pagable_tables.proofs.installing.install.Goals as goal
 
@@ -27,7 +27,10 @@ pin_here-requires g c =
     record { whole = c.requires.whole; holder = holder; owns = r.owned }
 
 pub unreachable-requires : goal.unreachable-requires
-unreachable-requires g c = no-wanting c.args.t.now _ c.requires.whole.steady.sound (c.requires.ready (λ key. None) false 0).left c.requires.place.place (c.in_default.ensures.does.does (λ key. None) false 0).refused.why
+unreachable-requires g c =
+    let sound = c.requires.whole.steady.sound in
+    let left = (c.requires.ready (λ key. None) false 0).left in
+    let why = (c.in_default.ensures.does.does (λ key. None) false 0).refused.why in grind (arith, nat_tests, c.requires.place.place)
 
 pub join-requires-clause-live : goal.join-requires-clause-live
 join-requires-clause-live g c =
@@ -116,6 +119,6 @@ returns-clause-sheds g c =
     record {
       left = λ kept. c.give_all.ensures.sheds.left (λ n falls. kept n
           ∙ sym (ap has_value (c.join.ensures.counts n)
-          ∙ has-come c.args.t.now c.pin_here.new.t (λ key. None) (not c.args.lists) 0 c.requires.whole c.in-Ok.ensures.does.whole c.args.ending.row p.owned.live c.args.me
-          (c.in-Ok.ensures.does.does (λ key. None) (not c.args.lists) 0).pinned.1 n));
+          ∙ has-come c.args.t.now c.pin_here.new.t (λ key. None) (not c.args.lists) 0 c.args.ending.row c.args.me
+          (c.in-Ok.ensures.does.does (λ key. None) (not c.args.lists) 0).pinned.1 c.requires.whole c.in-Ok.ensures.does.whole p.owned.live n));
     }

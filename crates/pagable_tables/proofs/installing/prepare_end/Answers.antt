@@ -1,5 +1,10 @@
-use Rattle.pagable_tables.proofs.{Words.{refl, arith, core_of, nat_tests}, Installed.ready-placed, Doing.widens-does, Worlds.alike, Opened.no-load-fault}
+use Rattle.pagable_tables.proofs.{Words.{◌≡◌, ℕ, List, Core, Places, HandleRow, Owner, LoadNumber, ArcRef, Ending, IsReady, refl, arith, core_of, nat_tests}, Installed.references-placed, Doing.widens-does, Worlds.alike, Opened.no-load-fault}
 use Rattle.pagable_tables.proofs.installing.prepare_end.Goals as goal
+
+-- a load that can end can where there are other places
+ready-placed : (w : Core) (places : Places) (rows : List HandleRow) (me : Owner) (l : LoadNumber) (node_type : ℕ) (refs : List ArcRef) (e : Ending) → rows ≡ w.rows → IsReady w me l node_type refs e
+    → IsReady (record w { rows = rows; places = places }) me l node_type refs e
+ready-placed w places rows me l node_type refs e same r = grind (arith, nat_tests, references-placed)
 
 pub returns-in_default-clause-unended : goal.returns-in_default-clause-unended
 returns-in_default-clause-unended c stored closed failures =

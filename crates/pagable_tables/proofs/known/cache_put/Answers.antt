@@ -1,5 +1,5 @@
 use Rattle.pagable_tables.proofs.Words.{◌≡◌, ◌∙◌, ℕ, ap, sym, refl, false, None, inl, inr, arith, NodeNumber, fits_mode, Owns, offer_fault, recall_fault, nat_tests, core_of, option_map}
-use Rattle.pagable_tables.proofs.{Opened.{offer-last, learned, recalls, not-recalled}, Worlds.{failed, same-cache}, keeps.{Placed.whole-so, Told.told-whole, CacheCalls.{known-suits, learns-whole}}}
+use Rattle.pagable_tables.proofs.{Opened.{learned, recalls, not-recalled}, Worlds.{failed, same-cache}, keeps.{Placed.whole-so, Told.told-whole, CacheCalls.{known-suits, learns-whole}}}
 use Rattle.pagable_tables.proofs.known.cache_put.Goals as goal
 
 pub make-requires-clause-suits : goal.make-requires-clause-suits
@@ -22,7 +22,7 @@ returns-in_err-make-clause-offered c stored failures =
     let owns : Owns w c.args.me c.args.handle (fits_mode c.args.kind.0) c.in_ok-row.row = record { live = o.live; own = o.own; as_asked = o.as_asked } in
     let is = sym (c.in-Some.ensures stored false failures) in
     let call = not-recalled w c.args.me c.args.kind c.args.key c.in-Some.node c.mode_of.result _ is c.mode_of.ensures _ (c.in_err-make.ensures.does.does stored false failures) in
-    let cause : offer_fault w c.args.me c.args.kind c.args.key c.args.handle ≡ recall_fault w c.args.kind c.args.key = grind (arith, nat_tests, offer-last, c.in_ok-row.ensures.typed) in
+    let cause : offer_fault w c.args.me c.args.kind c.args.key c.args.handle ≡ recall_fault w c.args.kind c.args.key = grind (arith, nat_tests, c.in_ok-row.ensures.typed) in
     rw (failed c.from_residual-in_err-make.result c.from_residual-in_err-make.ensures.1) record { answers = tt; refused = record { why = elim call.refused.why [ inl a ↦ inl (cause ∙ a) | inr b ↦ inr (b.0, cause ∙ b.1, (refl, inr b.2.1)) ]; stays = call.refused.stays } }
 
 pub returns-in_default-clause-offered : goal.returns-in_default-clause-offered

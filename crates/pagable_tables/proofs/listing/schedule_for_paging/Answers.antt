@@ -1,6 +1,6 @@
 use Rattle.pagable_tables.proofs.Words.{◌∙◌, ap, refl, false, inl, inr, arith, rules, Ok, None, not, is_unpinned, is_valued, plain_of, core_of, nat_tests}
 use Rattle.pagable_tables.proofs.{Begun.{begun-whole, not-closed, shut-then, open-then}, Named.alike-listed, Newer.{later-on, schedule-newer}, Worlds.{failed, still, owner-same}}
-use Rattle.pagable_tables.proofs.keeps.{Comes.not-a-value, Fallen.falls-opened, ListCalls.schedule-whole, Placed.whole-so, Told.{stays-on, roomy-whole, alike-whole}}
+use Rattle.pagable_tables.proofs.keeps.{Comes.not-a-value, ListCalls.schedule-whole, Placed.whole-so, Told.alike-whole}
 use Rattle.pagable_tables.proofs.listing.schedule_for_paging.Goals as goal
 
 pub returns-in_err-at-clause-scheduled : goal.returns-in_err-at-clause-scheduled
@@ -22,9 +22,8 @@ returns-then-not-lists-clause-scheduled g c stored closed failures e =
 
 pub returns-then-not-lists-clause-whole : goal.returns-then-not-lists-clause-whole
 returns-then-not-lists-clause-whole g c =
-    let w = core_of c.args.t.now (λ key. None) (not c.args.lists) 0 in
-    let falls = c.give_back.ensures.falls w w (begun-whole c.args.t.now (λ key. None) (not c.args.lists) c.args.lists 0 c.requires.whole (not-closed c.args.lists)) (omega arith) in
-    whole-so c.give_back.ensures.steady (falls-opened (roomy-whole c.requires.whole.core) (stays-on (plain_of c.args.t.now)) falls)
+    whole-so c.give_back.ensures.steady (schedule-whole c.args.me c.args.handle (Ok tt) c.requires.whole.core c.requires.holder
+    (returns-then-not-lists-clause-scheduled g c (λ key. None) (not c.args.lists) 0 (not-closed c.args.lists)))
 
 pub returns-clause-scheduled : goal.returns-clause-scheduled
 returns-clause-scheduled g c stored closed failures e =

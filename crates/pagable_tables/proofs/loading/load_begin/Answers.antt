@@ -1,7 +1,11 @@
-use Rattle.pagable_tables.proofs.Words.{◌≡◌, arith, ap, sym, ◌∙◌, None, Some, inl, inr, false, rules, not, OptionalDataKey, HandleRow, if_there, is_loose, is_in_memory, is_here, Cell, Owns}
-use Rattle.pagable_tables.proofs.{Words.{is_handle_here, live, counts_at, cell_in, key_in, core_of}, Doing.{does-by, nothing-does}}
-use Rattle.pagable_tables.proofs.{Opened.{handle-first, numbers-late, no-fault, no-begin-fault, here-told}, Worlds.{failed, still, owner-same}, keeps.LoadCalls.begin-whole}
+use Rattle.pagable_tables.proofs.Words.{◌≡◌, arith, ap, sym, ◌∙◌, None, Some, inl, inr, false, rules, OptionalDataKey, HandleRow, if_there, is_loose, is_in_memory, is_here, Cell, Owns}
+use Rattle.pagable_tables.proofs.{Words.{◌≤◌, ℕ, Bool, Error, not, earlier, is_handle_here, rank, spent, where_so, true, nat_tests, live, counts_at, cell_in, key_in, core_of}, Doing.{does-by, nothing-does}}
+use Rattle.pagable_tables.proofs.{Opened.{handle-first, here-told}, Worlds.{failed, still, owner-same}, keeps.LoadCalls.begin-whole}
+use Rattle.pagable_world.specs.LoadCalls.{begin_fault}
 use Rattle.pagable_tables.proofs.loading.load_begin.Goals as goal
+
+numbers-late : (so : Bool) (m n : ℕ) (f : Error) → where_so so (earlier (spent m) (spent n)) ≡ Some f → 3 ≤ rank f
+numbers-late so m n f is = grind (arith, nat_tests)
 
 pub returns-in_err-at : goal.returns-in_err-at
 returns-in_err-at c =
@@ -39,7 +43,7 @@ returns-in_err-load c =
     let w = core_of t stored closed failures in
     let told : is_here w row.node.0 ≡ is_in_memory y.pins (key_in y.key) = here-told (counts_at t.holdings.nodes) (live t.holdings.handles.places.items) row.node.0 y (c.requires.whole.steady.fits.pinned row.node.0) is in
     let away = ap (if_there (λ (r : HandleRow). is_here w r.node.0) false) c.in_ok-at.ensures.found ∙ told ∙ c.in-Some.ensures.away in
-    let none = no-fault w c.args.me c.args.handle is_loose row c.in_ok-at.ensures.found c.in_ok-at.ensures.owner (search rules) in
-    let before = no-begin-fault w c.args.me c.args.handle (not (is_handle_here w c.args.handle)) none (search rules) (search rules) in
+    let loose : is_loose row.mode ≡ true = search rules in
+    let before : begin_fault w c.args.me c.args.handle ≡ None = grind (arith, nat_tests, c.in_ok-at.ensures.found, c.in_ok-at.ensures.owner) in
     record { begins = tt; refused = record { why = inr (c.in_err-load.ensures.refused, before, away); stays = c.in_err-load.ensures.stays stored closed failures } })
     c.open_cell.ensures.steady (begin-whole c.args.me c.args.handle _ c.requires.whole.core c.requires.owner) (λ begins later. c.open_cell.ensures.later))

@@ -1,4 +1,4 @@
-use Rattle.pagable_tables.proofs.{Words.{◌+◌, ◌∙◌, refl, sym, arith, Ok, inl, Beginning, load_at, nat_tests}, Opened.{load-comes, none-yet}, Worlds.{failed, same-cache}}
+use Rattle.pagable_tables.proofs.{Words.{◌+◌, ◌∙◌, refl, sym, arith, Ok, inl, Beginning, load_at, nat_tests}, Opened.none-yet, Worlds.{failed, same-cache}}
 use Rattle.pagable_tables.proofs.{Doing.does-by, keeps.LoadCalls.begin-key-whole, keeps.Told.alike-whole, Newer.{later-opened, later-so, newer-alike}}
 use Rattle.pagable_tables.proofs.loading.load_key.Goals as goal
 
@@ -6,7 +6,7 @@ pub returns : goal.returns
 returns c =
     let t = c.args.t.now in
     let l = t.last_load + 1 in
-    does-by (λ stored closed failures. grind (arith, nat_tests, same-cache, load-comes, c.in_ok-open.ensures.here, c.in_ok-open.ensures.others)) c.requires.whole.steady
+    does-by (λ stored closed failures. grind (arith, nat_tests, same-cache, c.in_ok-open.ensures.here, c.in_ok-open.ensures.others)) c.requires.whole.steady
     (begin-key-whole c.args.me c.args.key (Ok (Beginning.Load (record { 0 = l }) c.args.key)) c.requires.whole.core c.requires.owner)
     (λ begins later. later-opened c.requires.whole.core later (record { last = omega arith; kept = λ o q gives own. inl own }) l _ (none-yet (load_at t.loads l) t.last_load (λ some. (c.requires.whole.core.loads.numbered l some).1))
     c.in_ok-open.ensures.here refl c.in_ok-open.ensures.others refl)

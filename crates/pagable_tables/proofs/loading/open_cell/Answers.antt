@@ -1,22 +1,22 @@
-use Rattle.pagable_tables.proofs.{Words.{◌+◌, ◌∙◌, refl, arith, None, false, load_at, Owner, Mode, core_of, plain_of, nat_tests}, Opened.{load-comes, none-yet, load-goes}}
-use Rattle.pagable_tables.proofs.{Opened.only-memory, Newer.{newer-alike, newer-handle, newer-then, later-so, later-opened, closed-still}}
+use Rattle.pagable_tables.proofs.{Words.{◌+◌, ◌∙◌, refl, arith, None, false, load_at, Owner, Mode, core_of, plain_of, nat_tests}, Opened.none-yet}
+use Rattle.pagable_tables.proofs.{Newer.{newer-alike, newer-handle, newer-then, later-so, later-opened, closed-still}}
 use Rattle.pagable_tables.proofs.loading.open_cell.Goals as goal
 
 pub returns-in-Ok-clause-opened : goal.returns-in-Ok-clause-opened
 returns-in-Ok-clause-opened c stored closed failures =
     let t = c.args.t.now in
     let a = (c.in-Ok.ensures.made (core_of (record t { holdings = c.come.new.t; loads = c.open.new.rows; last_load = t.last_load + 1 }) stored closed failures)).made.1 in
-    grind (arith, nat_tests, load-comes, c.in_ok-open.ensures.here, c.in_ok-open.ensures.others)
+    grind (arith, nat_tests, c.in_ok-open.ensures.here, c.in_ok-open.ensures.others)
 
 pub returns-in-Err-clause-refused : goal.returns-in-Err-clause-refused
-returns-in-Err-clause-refused c = let t = c.args.t.now in only-memory t.holdings.last_handle c.in-Err.e c.requires.handle (c.in-Err.ensures.made (core_of t (λ q. None) false 0)).refused.why
+returns-in-Err-clause-refused c = let why = (c.in-Err.ensures.made (plain_of c.args.t.now)).refused.why in grind (arith, nat_tests, c.requires.handle)
 
 pub returns-in-Err-clause-stays : goal.returns-in-Err-clause-stays
 returns-in-Err-clause-stays c stored closed failures =
     let t = c.args.t.now in
     let l = t.last_load + 1 in
     let a = (c.in-Err.ensures.made (core_of (record t { holdings = c.come.new.t; loads = c.close.new.rows }) stored closed failures)).refused.stays in
-    grind (arith, nat_tests, load-goes, none-yet, c.requires.whole.core.loads.numbered, c.in_ok-open.ensures.others, c.close.ensures.gone, c.close.ensures.others)
+    grind (arith, nat_tests, none-yet, c.requires.whole.core.loads.numbered, c.in_ok-open.ensures.others, c.close.ensures.gone, c.close.ensures.others)
 
 pub returns-in-Ok-clause-later : goal.returns-in-Ok-clause-later
 returns-in-Ok-clause-later c =

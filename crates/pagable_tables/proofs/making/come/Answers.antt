@@ -1,10 +1,6 @@
-use Rattle.pagable_tables.proofs.Words.{Bool, true, inl, inr, ◌+◌, ◌≡◌, arith, refl, ap, sym, ◌∙◌, Some, rules, one, is_pinning, HandleRow, counts_at, falls_in, has_value, ValueStays, Counts}
+use Rattle.pagable_tables.proofs.Words.{◌+◌, ◌≡◌, arith, refl, ap, sym, ◌∙◌, Some, rules, one, is_pinning, HandleRow, counts_at}
 use Rattle.pagable_tables.proofs.{Words.{cases_eq, nat_tests}, Coming.{come-fits, come-cells, rows-told}, Worlds.alike}
 use Rattle.pagable_tables.proofs.making.come.Goals as goal
-
--- a handle more takes no value, and brings none where it is
-come-value : (y : Counts) (b : Bool) → has_value (Some y) ≡ true → ValueStays (Some y) (Some (record y { pins = y.pins + one b; holds = y.holds + 1 }))
-come-value y b some falls = (falls, grind (arith, nat_tests))
 
 pub returns : goal.returns
 returns c =
@@ -25,12 +21,7 @@ returns c =
         );
         refused = tt;
       };
-      values = λ n some. elim (cases_eq n m) [
-        | inl eq ↦
-            let has : has_value (Some y) ≡ true = sym (ap has_value is) ∙ ap (λ k. has_value (counts_at t.nodes k)) (sym eq) ∙ some eq in
-            rw (eq, is, here) (come-value y (is_pinning c.args.mode) has)
-        | inr ne ↦ λ falls. (ap falls_in (sym (e.others n ne)) ∙ falls, ap has_value (e.others n ne))
-      ];
+      values = λ n some falls. grind (arith, nat_tests, cases_eq n m, e.others n);
       steady = record {
         sound = c.push.ensures.sound;
         next = c.in_ok-push.ensures.next;

@@ -1,4 +1,4 @@
-use Rattle.pagable_tables.proofs.Words.{◌≡◌, ◌∙◌, ℕ, ap, subst, false, Some, None, is_owner, is_shared, is_owned_by, Alike, with_mode, HandleRow, Owner, Mode, Tables, core_of, plain_of, arith}
+use Rattle.pagable_tables.proofs.Words.{◌∙◌, ℕ, ap, subst, false, Some, None, Alike, with_mode, Mode, Tables, core_of, plain_of, arith}
 use Rattle.pagable_tables.proofs.{Words.nat_tests, Stays.{pinned-alike, found-again}, keeps.{Comes.not-list, HandleCalls.loose-unshared, Rows.found-among}, Doing.does-as, Worlds.failed}
 use Rattle.pagable_tables.proofs.pinning.pin_here.Goals as goal
 
@@ -17,14 +17,12 @@ unreachable-requires c =
 pub turn-requires-clause-unshared : goal.turn-requires-clause-unshared
 turn-requires-clause-unshared c =
     let again = found-again c.args.row.number.0 _ _ _ c.args.row (Some c.in-Some.at.row) c.requires.owns.live ((c.in_ok-handle.ensures.does.does (λ key. None) false 0).made.1.rows) c.in-Some.ensures.found in
-    let same : c.in-Some.at.row ≡ c.args.row = cc in
-    ap (λ (row : HandleRow). is_shared row.mode) same ∙ loose-unshared c.args.row.mode c.requires.owns.as_asked
+    grind (arith, nat_tests, loose-unshared, c.requires.owns.as_asked)
 
 pub turn-requires-clause-unlisted : goal.turn-requires-clause-unlisted
 turn-requires-clause-unlisted c =
     let again = found-again c.args.row.number.0 _ _ _ c.args.row (Some c.in-Some.at.row) c.requires.owns.live ((c.in_ok-handle.ensures.does.does (λ key. None) false 0).made.1.rows) c.in-Some.ensures.found in
-    let same : c.in-Some.at.row ≡ c.args.row = cc in
-    ap (is_owned_by Owner.List) same ∙ ap (is_owner Owner.List) c.requires.owns.own ∙ not-list (plain_of c.args.t.now) c.args.me c.requires.holder
+    grind (arith, nat_tests, not-list (plain_of c.args.t.now) c.args.me c.requires.holder, c.requires.owns.own)
 
 pub returns-clause-does : goal.returns-clause-does
 returns-clause-does c =

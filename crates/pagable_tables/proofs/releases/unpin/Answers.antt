@@ -1,6 +1,6 @@
 use Rattle.pagable_tables.proofs.Words.{◌&&◌, ◌∙◌, ◌≡◌, ◌≢◌, ◌≤◌, Begins, Blob, Bool, Core, HandleRow, Holdings, IsFalling, Mode, None, Option, Owner, Owns, SoFar, Tables, [], ap, append-nil, arith}
 use Rattle.pagable_tables.proofs.Words.{core_of, false, if◌then◌else◌, inl, inr, is_handle, is_loose, is_owned_by, is_owner, is_pin, is_share, is_valued, length, length-map, live, nat_tests, nobody}
-use Rattle.pagable_tables.proofs.{Words.{not, one, owns, owns_nothing, refl, sym, times, true, unpinned, with_mode, ℕ, is_listing, and_parts, is_plain_pin, GivesUp}, Begun.{aside, begun-whole}}
+use Rattle.pagable_tables.proofs.{Words.{not, one, owns, owns_nothing, refl, sym, times, true, unpinned, with_mode, ℕ, is_plain_pin, GivesUp}, Begun.{aside, begun-whole}}
 use Rattle.pagable_tables.proofs.{Begun.{none-within, unowned}, Doing.{nothing-shed, sheds-so}, Ended.stays-first, Left.{all-kept, ones, gives-sums}, Newer.unpin-newer, Next.entered-on}
 use Rattle.pagable_tables.{proofs.{Entries.listing-is, Worlds.{failed, still, owner-same}, keeps.ListCalls.unpin-whole}, specs.Core.IsWhole}
 use Rattle.pagable_tables.proofs.releases.unpin.Goals as goal
@@ -26,10 +26,7 @@ module _ (T : Tables) (stored : ℕ → Option Blob) (closed lists : Bool) (fail
         open_storage = opened;
         fewer = λ n. less (is_pin n) (grind (arith, nat_tests));
         shared = λ n. less (is_share n) (grind (arith, nat_tests));
-        uniform = λ n. elim (f.begins.uniform n) [
-          | inl none ↦ inl none
-          | inr none ↦ let a = less (is_plain_pin n) (grind (arith, nat_tests)) in inr (omega arith)
-        ];
+        uniform = λ n. let a = less (is_plain_pin n) (grind (arith, nat_tests)) in grind (arith, nat_tests, f.begins.uniform n);
         listed = λ q. let a = g.leaves.sums (λ h. one (is_handle q h && is_owned_by Owner.List h)) in
             let b = ap (times (λ h. is_handle q h && is_owned_by Owner.List h)) g.leaves.becomes.rows in let d = f.begins.listed q in omega arith;
       }
@@ -40,12 +37,8 @@ module _ (T : Tables) (stored : ℕ → Option Blob) (closed lists : Bool) (fail
       let b = ones (live new.handles.places.items) in
       let d = ones old.rows in
       let k = g.keyed refl whole.steady.fits.chain falls in
-      let none : one g.listed ≡ 0 = unlisted g.listed g.comes.only in
+      let none : one g.listed ≡ 0 = grind (arith, nat_tests, g.comes.only, listing-is g.counts x.mode) in
       omega arith
-    where
-      unlisted : (listed : Bool) → (listed ≡ true → (lists && is_listing g.counts x.mode) ≡ true) → one listed ≡ 0
-      unlisted false only = refl
-      unlisted true only = let l = listing-is g.counts x.mode (and_parts lists (is_listing g.counts x.mode) (only refl)).1 in let k = g.keyed refl whole.steady.fits.chain falls in absurd (cc (l.3, k))
 
   lowered-on : SoFar old now nobody lists new
   lowered-on =

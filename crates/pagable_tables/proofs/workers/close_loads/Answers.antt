@@ -1,14 +1,10 @@
-use Rattle.pagable_tables.proofs.Words.{◌≡◌, ◌∙◌, ap, filter, not, rules, nat_eq, Option, Some, None, Bool, true, false, if◌then◌else◌, refl, is_owner, owner_worker, LoadRow, left_load}
+use Rattle.pagable_tables.proofs.Words.{◌≡◌, ◌∙◌, ap, arith, nat_tests, filter, not, rules, nat_eq, Option, Some, None, refl, is_owner, owner_worker, LoadRow, left_load}
 use Rattle.{std.{proofs.lemmas.{Cmp.nat_eq_equiv, Map.Entries.{option_filter, lookup-filter-values}}, specs.Map.lookup}, indexmap.proofs.CallerLemmas.filter-RetainsPairs}
 use Rattle.pagable_tables.proofs.workers.close_loads.Goals as goal
 
-kept : (b : Bool) (row : LoadRow) → (if not b then Some row else None) ≡ (if b then None else Some row)
-kept true row = refl
-kept false row = refl
-
 filtered : (v : _) (row : Option LoadRow) → option_filter (λ (row : LoadRow). not (is_owner (owner_worker v) row.owner)) row ≡ left_load v row
 filtered v None = refl
-filtered v (Some row) = kept (is_owner (owner_worker v) row.owner) row
+filtered v (Some row) = grind (arith, nat_tests)
 
 pub returns : goal.returns
 returns c l =

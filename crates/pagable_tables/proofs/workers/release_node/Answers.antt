@@ -1,4 +1,4 @@
-use Rattle.pagable_tables.proofs.{Words.{refl, sym, subst, InReach, arith, core_of, plain_of, gives_row, Giving}, Begun.begun-whole, Doing.{sheds-so}, Taken.{passes-given, at-node}, Newer.newer-falls}
+use Rattle.pagable_tables.proofs.{Words.{refl, sym, subst, InReach, arith, nat_tests, core_of, plain_of, gives_row, Giving}, Begun.begun-whole, Doing.{sheds-so}, Taken.passes-given, Bits.and-left, Newer.newer-falls}
 use Rattle.pagable_tables.proofs.{keeps.Fallen.falls-opened, keeps.Told.{stays-on, roomy-whole}}
 use Rattle.pagable_tables.proofs.workers.release_node.Goals as goal
 
@@ -13,7 +13,7 @@ returns g c =
       told = c.give_all.result;
       falls = c.give_all.ensures.falls w w w (λ l. refl) (begun-whole t stored closed c.args.lists failures c.requires.whole e) (omega arith)
           (λ q gives. (
-            subst (λ r. InReach r q) (sym c.reach_of-reach.ensures) (c.requires.later.reach c.args.worker.0 q (at-node w c.args.worker c.args.node q gives)),
+            subst (λ r. InReach r q) (sym c.reach_of-reach.ensures) (c.requires.later.reach c.args.worker.0 q (grind (arith, nat_tests, and-left))),
             (passes-given (gives_row w (Giving.AtNode c.args.worker c.args.node)) (plain_of t) q is.handles gives).1,
           ));
     })

@@ -1,7 +1,11 @@
-use Rattle.pagable_tables.proofs.Words.{◌∙◌, ap, sym, subst, refl, Falls, InReach, worker_at, arith, option_map, without_worker, is_workers, load_at, core_of, plain_of, load_in, with_tables}
-use Rattle.pagable_tables.proofs.{Words.{gives_row, Giving}, Doing.sheds-by, Newer.{newer-falls, later-less, less-one}}
-use Rattle.pagable_tables.proofs.{Taken.{begun-less, passes-given, in-reach, loads-anew, worker-gone, load-leaves, left-was}, keeps.WorkerCalls.worker-end-whole}
+use Rattle.pagable_tables.proofs.Words.{◌∙◌, sym, subst, refl, Falls, InReach, worker_at, arith, without_worker, is_workers, load_at, core_of, plain_of, with_tables}
+use Rattle.pagable_tables.proofs.{Words.{◌≡◌, ℕ, Option, Some, LoadRow, left_load, gives_row, Giving, nat_tests}, Doing.sheds-by, Newer.{newer-falls, later-less, less-one}}
+use Rattle.pagable_tables.proofs.{Taken.{begun-less, passes-given, in-reach, loads-anew, worker-gone}, keeps.WorkerCalls.worker-end-whole}
 use Rattle.pagable_tables.proofs.workers.worker_end.Goals as goal
+
+-- a load that is left was open
+left-was : (v : ℕ) (row : Option LoadRow) (load : LoadRow) → left_load v row ≡ Some load → row ≡ Some load
+left-was v row load is = grind (arith, nat_tests)
 
 pub returns : goal.returns
 returns g c =
@@ -16,7 +20,7 @@ returns g c =
     let w' = core_of (record t { holdings = h; loads = c.close_loads.new.loads; workers = c.close.new.rows }) stored closed failures in
     let falls = c.give_all.ensures.falls w u w (λ l. refl) (begun-less t u.loads u.workers stored closed c.args.lists failures c.requires.whole e) (omega arith)
     (λ q is. (subst (λ r. InReach r q) (sym c.reach_of-reach.ensures) (in-reach t c.requires.whole c.requires.later c.args.worker q is), (passes-given (gives_row w (Giving.Worker c.args.worker)) (plain_of t) q c.requires.whole.core.handles is).1)) in
-    let loads = loads-anew w u (with_tables u h) (is_workers w v) r w'.loads (λ l. load-leaves v (load_at t.loads l) ∙ ap (option_map load_in) (sym (c.close_loads.ensures l))) falls in
+    let loads = loads-anew w u (with_tables u h) (is_workers w v) r w'.loads (λ l. let left = c.close_loads.ensures l in grind (arith, nat_tests)) falls in
     record { told = r; falls = subst (λ s. Falls w u (is_workers w v) r (record (with_tables u h) { loads = w'.loads; workers = s })) (λ i q. worker-gone (worker_at t.workers) (worker_at c.close.new.rows) v c.close.ensures.gone c.close.ensures.others q i) loads })
     c.give_all.ensures.steady (worker-end-whole v c.requires.whole.core)
     (λ ends later. later-less later (newer-falls ends.falls) (λ l load is. left-was v (load_at t.loads l) load (sym (c.close_loads.ensures l) ∙ is)) (less-one t.workers c.close.new.rows v c.close.ensures.gone c.close.ensures.others))

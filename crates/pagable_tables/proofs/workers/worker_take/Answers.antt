@@ -1,4 +1,4 @@
-use Rattle.pagable_tables.proofs.{Words.{core_of, refl}, Taken.{begun-core, takes-worker}, Doing.does-as, Worlds.failed}
+use Rattle.pagable_tables.proofs.{Words.{core_of, refl, arith, nat_tests}, Taken.takes-worker, Doing.does-as, Worlds.failed}
 use Rattle.pagable_tables.proofs.workers.worker_take.Goals as goal
 
 pub returns : goal.returns
@@ -9,7 +9,7 @@ returns c =
     let taken = c.take_pending.ensures in
     record {
       does = λ stored closed failures. takes-worker (core_of t stored closed failures) (core_of t1 stored closed failures) _ c.args.place c.in_ok-worker.worker c.take_pending.result
-          (begun-core t t1 stored closed failures c.worker_begin.ensures.same e.number.1 e.more) e.number.0 c.requires.within (taken.taken stored closed failures);
+          (let same = c.worker_begin.ensures.same in let more = e.more in let last = e.number.1 in grind (arith, nat_tests)) e.number.0 c.requires.within (taken.taken stored closed failures);
       whole = taken.whole;
       later = λ later. taken.later (λ m. refl) (c.worker_begin.ensures.does.later later);
     }

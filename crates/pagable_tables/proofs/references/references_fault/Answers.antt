@@ -1,5 +1,5 @@
 use Rattle.pagable_tables.proofs.{Words.{ℕ, Bool, Option, get_or, sym, ◌∙◌, arith, ◌∷◌, ArcRef, Blob, core_of}, Named.{seen-more, named-other, fault-some, fault-none}}
-use Rattle.pagable_tables.proofs.references.check_references.Goals as goal
+use Rattle.pagable_tables.proofs.references.references_fault.Goals as goal
 
 abbrev blank : ArcRef
 blank = record { kind = record { 0 = 0 }; node = record { 0 = 0 }; handle = record { 0 = 0 } }
@@ -17,8 +17,8 @@ loop-i-preserved c =
       rest = λ stored closed failures. l.invariant.rest stored closed failures ∙ fault-none (core_of c.args.t.now stored closed failures) c.args.me l.invariant.seen rs l.i blank (omega arith) (none stored closed failures);
     }
 
-pub returns-in-Some-clause-fault : goal.returns-in-Some-clause-fault
-returns-in-Some-clause-fault c stored closed failures =
+pub returns-in-Some : goal.returns-in-Some
+returns-in-Some c stored closed failures =
     let l = c.loop-i in
     let fault = sym (c.fault_of.ensures stored closed failures l.invariant.seen (l.invariant.same _ ∙ sym c.is_seen-is_seen.ensures)) ∙ c.in-Some.is in
-    l.invariant.rest stored closed failures ∙ fault-some (core_of c.args.t.now stored closed failures) c.args.me l.invariant.seen c.args.references.now l.i _ c.in-Some.e (omega arith) fault
+    sym (l.invariant.rest stored closed failures ∙ fault-some (core_of c.args.t.now stored closed failures) c.args.me l.invariant.seen c.args.references.now l.i _ c.in-Some.e (omega arith) fault)

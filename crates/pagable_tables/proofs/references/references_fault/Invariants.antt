@@ -1,5 +1,5 @@
 use Rattle.pagable_tables.proofs.Words.{◌≡◌, ◌<◌, ℕ, Bool, false, Option, List, [], take, drop, Blob, is_in, references_fault, is_named_by, core_of}
-use Rattle.pagable_tables.proofs.references.check_references.Given as goal
+use Rattle.pagable_tables.proofs.references.references_fault.Given as goal
 
 abbrev pub invariant-loop-i : goal.invariant-loop-i
 invariant-loop-i l =
