@@ -1,8 +1,8 @@
 -- References that nothing is to be said against name handles of their owner, as they should. A handle that is given up doesn't bring a value back.
-use Rattle.pagable_laws.proofs.Words.{◌≡◌, ℕ, suc, ◌+◌, ◌≤◌, Bool, true, List, [], ◌∷◌, ◌++◌, cond, refl, arith, Option, None, not, nat_tests, sum_by-cons, ArcRef, or_else, one, Owner, HandleRow}
+use Rattle.pagable_laws.proofs.Words.{inl, inr, ◌≡◌, ℕ, suc, ◌+◌, ◌≤◌, Bool, true, List, [], ◌∷◌, ◌++◌, refl, arith, Option, None, nat_tests, sum_by-cons, ArcRef, or_else, one, Owner, HandleRow}
 use Rattle.pagable_laws.proofs.{Words.{is_owner, pins, is_pin, Core, Alike, AreNewEntries, Falls, left_rows, reference_fault, references_fault, IsReference, AreGood, StaysAway}, Sums.same-number}
 use Rattle.pagable_laws.proofs.Goes.{alike, fell}
-use Rattle.std.proofs.Common.{rules}
+use Rattle.std.proofs.{Common.rules, lemmas.Bool.cases_Bool}
 
 pub or-none : {X : Type 0} (a b : Option X) → or_else a b ≡ None → (a ≡ None) × (b ≡ None)
 or-none x0 b is = grind (arith, nat_tests)
@@ -24,15 +24,13 @@ module _ (w : Core) (owner : Owner) where
 pub alike-away : {w w' : Core} → Alike w w' → (n : ℕ) → StaysAway w w' n
 alike-away {w} {w'} a n = grind (arith, alike)
 
-pins-left : (n : ℕ) (gone : ℕ → Bool) (rows more : List HandleRow) (k : ℕ) → pins n more ≡ 0 → pins n (left_rows gone rows ++ more) ≤ pins n rows
-pins-left n gone [] more k none = grind arith
-pins-left n gone (h ∷ hs) more k none = at (gone h.number.0) (pins-left n gone hs more k none) (sum_by-cons (λ x. one (is_pin n x)) h hs)
-    (sum_by-cons (λ x. one (is_pin n x)) h (left_rows gone hs ++ more))
-  where
-    at : (b : Bool) → pins n (left_rows gone hs ++ more) ≤ pins n hs → pins n (h ∷ hs) ≡ one (is_pin n h) + pins n hs
-        → pins n (h ∷ left_rows gone hs ++ more) ≡ one (is_pin n h) + pins n (left_rows gone hs ++ more)
-        → pins n (cond (not b) (h ∷ left_rows gone hs) (left_rows gone hs) ++ more) ≤ pins n (h ∷ hs)
-    at x0 le a b = grind (arith, nat_tests)
+pins-left : (n : ℕ) (gone : ℕ → Bool) (rows more : List HandleRow) → pins n more ≡ 0 → pins n (left_rows gone rows ++ more) ≤ pins n rows
+pins-left n gone [] more none = grind arith
+pins-left n gone (h ∷ hs) more none =
+    let rest = pins-left n gone hs more none in
+    let all = sum_by-cons (λ x. one (is_pin n x)) h hs in
+    let left = sum_by-cons (λ x. one (is_pin n x)) h (left_rows gone hs ++ more) in
+    elim (cases_Bool (gone h.number.0)) [ inl e ↦ rw e (omega arith) | inr e ↦ rw e (omega arith) ]
 
 pub no-pins : (n last : ℕ) (entries : List HandleRow) → AreNewEntries last entries → pins n entries ≡ 0
 no-pins n last [] new = refl

@@ -223,25 +223,22 @@ longest_path x0 x1 = (λ h. grind (arith, nat_tests), λ h. grind (arith, nat_te
 
 -- ---- what a tree's references are
 
--- the kid itself, of canonical types
-record CanonicalKid (types : Types) (x y : Kid) : Type 0 where
-  same : x ≡ y
-  canonical : IsCanonicalTree types (tree_of_kid x)
+-- a kid of canonical types, and one of its kind
+abbrev CanonicalKid : Types → Kid → Kid → Type 0
+CanonicalKid types x y = (kind_of_kid y ≡ kind_of_kid x) × IsCanonicalTree types (tree_of_kid x)
 
-module _ {types : Types} where
+module _ (types : Types) where
   canonical-along : (m : Meaning ⊥) → EachType (IsCanonicalType types) m → Along ⊥ (CanonicalKid types) (unfolded m) (unfolded m)
   unfolding EachType unfolded
   canonical-along (pair a b) h = pair-along _ _ _ _ (canonical-along a h.0) (canonical-along b h.1)
   canonical-along (variant n a) h = variant-along _ _ _ (canonical-along a h)
-  canonical-along x0 h = grind (arith, nat_tests, reference-along, number-along, integer-along, text-along, pattern-along, none-along)
-
-  same_kind : (x y : Kid) → CanonicalKid types x y → kind_of_kid y ≡ kind_of_kid x
-  same_kind x y h = ap kind_of_kid (sym h.same)
+  canonical-along (followed kind a) h = reference-along _ _ (refl, h)
+  canonical-along x0 h = grind (arith, nat_tests, number-along, integer-along, text-along, pattern-along, none-along)
 
   -- the references in a form of a tree's value are of canonical types where the tree's are
   canonical-kids : (s : Shape) (m : Meaning ⊥) (bytes : List ℕ) (kids : List Kid) → EachType (IsCanonicalType types) m → TreeForm types s m bytes kids
       → (others : List Kid) × AllTwo (CanonicalKid types) kids others
-  canonical-kids s m bytes kids h f = let p = form-along same_kind f (canonical-along m h) in (p.refs, p.each)
+  canonical-kids s m bytes kids h f = let p = form-along {R = CanonicalKid types} (λ x y k. k.0) f (canonical-along m h) in (p.refs, p.each)
 
 -- ---- one key
 
@@ -252,7 +249,7 @@ module _ {hash : List ℕ → List ℕ} {types : Types} where
         let shapes : s ≡ s2 = same_some _ _ (sym is ∙ ap (λ (x : Tree). types.nodes x.type) e ∙ is2) in
         let g2 = let P : Shape → Tree → Type 0 = λ z x. TreeForm types z x.meaning c kids2 in subst (λ (x : Tree). P s x) (sym e) (subst (λ (z : Shape). P z u) (sym shapes) g) in
         let forms = one-form f g2 (can.0 s is) refl in
-        rw (forms.0, same-keys h h2 (canonical-kids s t.meaning b kids can.1 f).1 forms.1) refl
+        rw (forms.0, same-keys h h2 (canonical-kids types s t.meaning b kids can.1 f).1 forms.1) refl
 
     same-keys : {kids kids2 others : List Kid} {keys keys2 : List ℕ} → KeysOf hash types kids keys → KeysOf hash types kids2 keys2 → AllTwo (CanonicalKid types) kids others
         → kids ≡ kids2 → keys ≡ keys2
@@ -262,7 +259,7 @@ module _ {hash : List ℕ → List ℕ} {types : Types} where
     same-keys (more-keys x xs k ks h g) (more-keys x2 xs2 k2 ks2 h2 g2) (more-two y z ys zs c cs) e =
         let heads : x ≡ x2 = cc in
         let tails : xs ≡ xs2 = cc in
-        rw (same-key h h2 c.canonical (ap tree_of_kid heads), same-keys g g2 cs tails) refl
+        rw (same-key h h2 c.1 (ap tree_of_kid heads), same-keys g g2 cs tails) refl
 
 pub one_key : IsOneKey
 one_key hash types t k l can h g = same-key h g can refl

@@ -2,7 +2,7 @@
 -- read of a front is read of the whole, and what was used reads alone.
 use Rattle.pagable_laws.proofs.Words.{◌==◌, nat_tests, ◌≡◌, ℕ, zero, suc, ◌+◌, ◌-◌, ◌*◌, ◌/◌, ◌%◌, ◌^◌, Bool, true, List, [], ◌∷◌, ◌++◌, length, take, Result, Ok, Err, ◌⊎◌, if◌then◌else◌, inl, inr}
 use Rattle.pagable_laws.proofs.Words.{refl, sym, arith, append_assoc, cases_lt, le-ltb, lt-ltb, length-append, take-append-drop, length-take-le, nat_le, nat_lt, Error, ◌>>=◌, Read, byte_at, varint_at}
-use Rattle.pagable_laws.proofs.Words.{unsigned_at, signed_from, signed_at, longest, length_at, bytes_at, text_at, bool_at, one_char, char_at, carried, duration_at, nanos_of_second, Some, None, subst}
+use Rattle.pagable_laws.proofs.Words.{unsigned_at, signed_from, signed_at, longest, length_at, bytes_at, text_at, bool_at, char_at, carried, duration_at, nanos_of_second, Some, None, subst}
 use Rattle.pagable_laws.proofs.Words.{Meaning, none, variant, sequence, entry, absent, present, success, failure, lifted, Entry, KeyOrder, code_order, text_order, put_all, put_sorted, put_placed}
 use Rattle.pagable_laws.proofs.Words.{put_sorted_item, put_placed_item, of_entries, of_tagged, of_hash_map, Shape, nothing, unsigned, signed, flag, letter, duration, json, optional, outcome, list}
 use Rattle.pagable_laws.proofs.Words.{run, array, both, sorted_map, placed_map, hash_map, sorted_set, placed_set, static_value, tagged, cases, nested, Rest, Look, Gets, bytes_of, reference_at, seen}
@@ -11,7 +11,7 @@ use Rattle.pagable_laws.proofs.Words.{read_with, below, LiesIn, deepest, read, I
 use Rattle.pagable_laws.proofs.{Words.{followed, rename, Form, at, IsNatural, IsReadOver, IsRenamed, IsReadThrough, KeepsForms, take_at, drop_at, append-nil}, Along.{Along, number-along}}
 use Rattle.pagable_laws.proofs.Along.{integer-along, text-along, pattern-along, none-along, pair-along, variant-along, reference-along, lifted-along, plain-along, AllTwo, no-two, more-two, EntryAlong}
 use Rattle.pagable_laws.proofs.{Along.{followed-along, form-along}, Again.{Under, here, narrowed, part_of, alone}}
-use Rattle.std.{proofs.Common.rules, proofs.lemmas.{List.map-id, Bool.cases_Bool}, specs.Int.{Width, w8, w32, w64}, specs.Str.{is_utf8, chars}, specs.List.AllByRecursion}
+use Rattle.std.{proofs.Common.{rules, get_or}, proofs.lemmas.{List.map-id, Bool.cases_Bool}, specs.Int.{Width, w8, w32, w64}, specs.Str.{is_utf8, chars}, specs.List.AllByRecursion}
 use Rattle.pagable_model.specs.Numbers.{more_of, last_of}
 use Rattle.pagable_model.specs.Meaning as meanings
 use Rattle.pagable_model.specs.Shape as shapes
@@ -127,13 +127,9 @@ text_tame =
     and_then bytes_join (λ n bs. bytes_at n bs >>= λ t. if is_utf8 t.0 then Ok t else Err Error.BadUtf8) _ (λ bs. refl) length_tame
     (λ n. tested bytes_join is_utf8 (λ t. t) Error.BadUtf8 (λ bs. refl) (bytes_tame n))
 
-one_tame : (cs : List ℕ) → TameBytes (one_char cs)
-one_tame (c ∷ []) = gives bytes_join c
-one_tame _ = refuses bytes_join ℕ Error.BadChar
-
 pub char_tame : TameBytes char_at
 unfolding char_at
-char_tame = and_then bytes_join (λ t bs. one_char (chars t) bs) _ (λ bs. refl) text_tame (λ t. one_tame (chars t))
+char_tame = tested bytes_join (λ t. length (chars t) == 1) (λ t. get_or (chars t) 0 0) Error.BadChar (grind (arith, nat_tests)) text_tame
 
 pub duration_tame : TameBytes duration_at
 unfolding duration_at
