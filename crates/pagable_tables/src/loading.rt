@@ -25,9 +25,7 @@ pub fn load_row(t: &Tables, me: Owner, load: LoadNumber) -> Result<LoadRow, Erro
     ensures own { IfOk result (λ row. (stored : ℕ → Option Blob) (closed : Bool) (failures : ℕ) → OwnsLoad (core_of t.now stored closed failures) me load (load_in row)) }
     ensures fault { IfErr result (λ e. (stored : ℕ → Option Blob) (closed : Bool) (failures : ℕ) → load_fault (core_of t.now stored closed failures) me load ≡ Some e) }
 {
-    let Some(row) = loads::load_of(&t.loads, load.0) else {
-        return Err(Error::NoSuchHandle);
-    };
+    let row = loads::load_of(&t.loads, load.0).ok_or(Error::NoSuchHandle)?;
     if !is_owner(me, row.owner) {
         return Err(Error::NotYours);
     }

@@ -37,9 +37,7 @@ pub fn own(t: &Tables, me: Owner, handle: HandleNumber) -> Result<HandleAt, Erro
     ensures owner { IfOk result (λ at. is_owner me at.row.owner ≡ true) }
     ensures fault { IfErr result (λ e. (stored : ℕ → Option Blob) (closed : Bool) (failures : ℕ) (fits : Mode → Bool) → handle_fault (core_of t.now stored closed failures) me handle fits ≡ Some e) }
 {
-    let Some(at) = handles::look(&t.holdings.handles, handle) else {
-        return Err(Error::NoSuchHandle);
-    };
+    let at = handles::look(&t.holdings.handles, handle).ok_or(Error::NoSuchHandle)?;
     if !is_owner(me, at.row.owner) {
         return Err(Error::NotYours);
     }
