@@ -186,13 +186,7 @@ module _ {N B W E : Type 0} (m : Seen N B W) (s : MachineState N E) (trees : ℕ
 
   module _ (l : LoadNumber) (reading : Reading) (load : OpenLoad) (at : reading_at (world_of s) l ≡ Some reading) (may : load_fault w Owner.Caller l ≡ None)
       (open_load : w.loads l.0 ≡ Some load) (paged : IsLoadOfPagedOut s load) where
-    abbrev node : NodeNumber
-    node = paged.0
-
-    abbrev t : ℕ
-    t = paged.1
-
-    abbrev out : IsPagedOutAs s node.0 load.key
+    abbrev out : IsPagedOutAs s paged.0.0 load.key
     out = paged.4
 
     -- what is read of it
@@ -205,9 +199,9 @@ module _ {N B W E : Type 0} (m : Seen N B W) (s : MachineState N E) (trees : ℕ
     fits : FramesFit v.types w.stored trees load.key reading.node_type reading.frames
     fits = going.fits load (reading-open s on.whole l reading at open_load)
 
-    of-type : reading.node_type ≡ t
+    of-type : reading.node_type ≡ paged.1
     of-type =
-        let there : (s.work.readings l.0 ≡ Some reading → reading.node_type ≡ t) = λ is.
+        let there : (s.work.readings l.0 ≡ Some reading → reading.node_type ≡ paged.1) = λ is.
         let a = on.whole.readings l.0 reading is in
         subst (λ root. FitsRoot root reading) (ap (λ (x : OpenLoad). x.root) (same_some _ _ (sym a.open_load ∙ open_load)) ∙ paged.3) a.typed in
         grind (arith, nat_tests, there)
@@ -215,7 +209,7 @@ module _ {N B W E : Type 0} (m : Seen N B W) (s : MachineState N E) (trees : ℕ
     -- the tree that it reads
     typed : (trees out.i.node.0).type ≡ reading.node_type
     typed =
-        let r = on.stands.pager.loads l.0 load node t paged.2 open_load paged.3 in
+        let r = on.stands.pager.loads l.0 load paged.0 paged.1 paged.2 open_load paged.3 in
         ap (λ n. (trees n).type) out.of_node ∙ r.typed ∙ sym of-type
 
     found : (blob : Blob) × (w.stored load.key ≡ Some blob)
