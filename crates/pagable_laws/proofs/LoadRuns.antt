@@ -1,8 +1,8 @@
 -- A load from its begin to its end keeps trees: what it pins stands for its node's tree, and what it reads for the tree that its key reads as.
 use Rattle.pagable_laws.proofs.Words.{◌≡◌, ℕ, ◌+◌, ◌≤◌, List, [], Option, Some, None, inl, inr, refl, sym, ap, subst, ◌∙◌, arith, nat_tests, Core, Last, Alike, Root, of_cell, of_key, OpenLoad, Frame}
-use Rattle.pagable_laws.proofs.Words.{Reading, Written, Values, Seen, IsLawful, PagerState, WellFormed, Moves, ReadingBrings, Represents, FramesFit, SameTrees, with_handle}
-use Rattle.pagable_laws.proofs.Words.{ReadIsRight, held, with_load, EndsRead, gone_on, Blob, LoadNumber, Tree, ReadsItsTypes, HoldsSettled, TakesWell, fresh, LoadAnswer, ChangeFits, nothing_felt}
-use Rattle.pagable_laws.proofs.{Words.{ReadingFeels, Owner, Mode, false}, Felt.{reading-fits, fits-nothing, trees-go-on}, Goes.Goes, ReadingSteps.{ReadingFelt, caller-free, reading-feels}}
+use Rattle.pagable_laws.proofs.Words.{Reading, Written, Values, Seen, IsLawful, PagerState, WellFormed, Moves, Represents, FramesFit, SameTrees, with_handle}
+use Rattle.pagable_laws.proofs.Words.{ReadIsRight, held, with_load, gone_on, Blob, LoadNumber, Tree, ReadsItsTypes, HoldsSettled, TakesWell, fresh, LoadAnswer, nothing_felt}
+use Rattle.pagable_laws.proofs.{Words.{ReadingFeels, Owner, Mode, false}, Felt.{reading-fits, fits-nothing, trees-go-on}, Goes.Goes, ReadingSteps.{caller-free, reading-feels}}
 use Rattle.pagable_laws.proofs.{ReadingStepsGive.{hands, read-right}, Taking.{Going, going-new, going-step, given-nodes, was-open, row-held, stands-here}, Trees.same_some, Called.{begins, begins-key}}
 use Rattle.{pagable_laws.proofs.Called.begin-goes, pagable_world.specs.{Access.{ReadingStep, LoadRun, load-ends, load-goes-on, LoadAsksWell, PinLaw, ReadLaw}, Loads.Does}}
 use Rattle.pagable_world.specs.Events.{reading_of_load}
