@@ -59,10 +59,6 @@ module _ {N B W : Type 0} (m : Seen N B W) (v : ℕ) (task : Task) (s s' : Site)
 
 -- ---- together
 
--- no number of a worker is taken back
-abbrev NoFewer : Core → Core → Type 0
-NoFewer w w' = w.last.worker ≤ w'.last.worker
-
 abbrev pub StandsIn : World → Type 0
 StandsIn u = WorkStands u.work.shelves u.work.walkings u.core.last.worker
 
@@ -114,12 +110,12 @@ goes-same v task shelf mid shelf' answer todo same g =
 
 module _ {N B W : Type 0} (m : Seen N B W) (u u' : World) (work : StandsIn u) where
   module _ (event : Event N B W) (reply : EventReply N B W) where
-    quiet : ((n : ℕ) → step_of n event reply ≡ []) → NoFewer u.core u'.core → SameSlots u.work.shelves u'.work.shelves → ((v : ℕ) → u'.work.walkings v ≡ u.work.walkings v)
+    quiet : ((n : ℕ) → step_of n event reply ≡ []) → u.core.last.worker ≤ u'.core.last.worker → SameSlots u.work.shelves u'.work.shelves → ((v : ℕ) → u'.work.walkings v ≡ u.work.walkings v)
         → EventTurns m u event reply u'
     quiet no_step last same stay =
         grind (arith, nat_tests, is-quiet)
 
-    by-work : ((n : ℕ) → step_of n event reply ≡ []) → NoFewer u.core u'.core → WorkStays u.work u'.work → EventTurns m u event reply u'
+    by-work : ((n : ℕ) → step_of n event reply ≡ []) → u.core.last.worker ≤ u'.core.last.worker → WorkStays u.work u'.work → EventTurns m u event reply u'
     by-work no_step last w = quiet no_step last (λ t i. (w.shelves t).slots i) w.walkings
 
     unchanged : ((n : ℕ) → step_of n event reply ≡ []) → Stays u u' → EventTurns m u event reply u'
@@ -157,7 +153,7 @@ module _ {N B W : Type 0} (m : Seen N B W) (u u' : World) (work : StandsIn u) wh
             ((w.same_shelves t.0).slots i ∙ (ap (λ (s : Shelf). s.slots i) (updated-at t.0 no_shelf u.work.shelves) ∙ nothing i ((u.work.shelves t.0).slots i) refl))
         same q i false e = (w.same_shelves q).slots i ∙ ap (λ (s : Shelf). s.slots i) (updated-off t.0 no_shelf u.work.shelves q e)
 
-  call-last : (call : Call N B) (r : Reply N B) → CallStep m u.core Owner.Caller call r u'.core → NoFewer u.core u'.core
+  call-last : (call : Call N B) (r : Reply N B) → CallStep m u.core Owner.Caller call r u'.core → u.core.last.worker ≤ u'.core.last.worker
   call-last x0 x1 c = grind (arith, nat_tests, le-of, calls-go, caller-free)
 
   stepped : (v : WorkerNumber) (reply : WorkerReply W) → WorkerSteps m u v reply u' → EventTurns m u (Event.WorkerStep v) (EventReply.WorkerMoved (Ok reply)) u'
@@ -171,7 +167,7 @@ module _ {N B W : Type 0} (m : Seen N B W) (u u' : World) (work : StandsIn u) wh
       let shelf_is : (i : Identity) → (u'.work.shelves w.table).slots i ≡ s.after.shelf.slots i =
       λ i. (s.work.same_shelves w.table).slots i ∙ ap (λ (x : Shelf). x.slots i) (updated-at w.table s.after.shelf u.work.shelves) in
       let site : Site = record { core = u.core; shelf = u.work.shelves w.table; todo = w.todo } in
-      let kept : NoFewer u.core s.after.core = (walk-goes m v.0 site s.after w.todo reply.took s.does.does).goes.workers_last in
+      let kept : u.core.last.worker ≤ s.after.core.last.worker = (walk-goes m v.0 site s.after w.todo reply.took s.does.does).goes.workers_last in
       let last : u'.core.last.worker ≡ s.after.core.last.worker = (grind (arith, nat_tests)) in
       record {
         who = v.0;

@@ -151,29 +151,23 @@ given_alone rows keyed entries given s h nothing least among = least_is_one rows
 pub and-false : (b : Bool) → one (b && false) ≡ 0
 and-false x0 = grind (arith, nat_tests)
 
-both-least : IsLeast two_rows are_two [] outer both
-both-least = record { holds = refl; closed = grind (arith, nat_tests, and-false); least = least }
-  where
-    least : (t : ℕ → Bool) → IsWithin two_rows outer t → IsClosed two_rows are_two [] t → IsWithin two_rows both t
-    least t holds closed =
-        let goes : loses_value two_rows are_two [] t 1 ≡ true = grind (arith, nat_tests) in
-        let fallen : owned_outside two_rows t 1 ≡ 0 = closed 1 goes in
-        omega arith
-
 pub two_fall : TwoLevelsFall
-two_fall = record { falls = both-least; not_less = λ least. let fallen = least.closed 1 refl in absurd (omega arith) }
+two_fall = record {
+  falls = record {
+    holds = refl;
+    closed = grind (arith, nat_tests, and-false);
+    least = λ t holds closed. let fallen : owned_outside two_rows t 1 ≡ 0 = closed 1 (grind (arith, nat_tests)) in omega arith;
+  };
+  not_less = λ least. let fallen = least.closed 1 refl in absurd (omega arith);
+}
 
 -- ---- a lone cell is listed
-
--- the entry that comes
-abbrev came : List HandleRow
-came = row_of 2 first_node Mode.LooseUnpinned Owner.List ∷ []
 
 fell : (stored : ℕ → Option Blob) → Falls (lone stored) (with_mode (lone stored) first Mode.LooseUnpinned) nobody (Ok tt) (lone_listed stored)
 fell stored =
     record {
       gone = nobody;
-      entries = came;
+      entries = row_of 2 first_node Mode.LooseUnpinned Owner.List ∷ [];
       set = given-least _ _ _ nobody (omega arith);
       new = (refl, refl, refl, tt);
       only = λ n some. ((grind (arith, nat_tests, first)), (grind (arith, nat_tests)));
@@ -187,14 +181,11 @@ not-unlisted : (stored : ℕ → Option Blob) → ¬ UnpinCall (lone stored) Own
 not-unlisted stored call = elim call.does [
   | inl refused ↦ absurd (cc)
   | inr (row, own, inl (is, told, alike)) ↦ let pins_are : pins 1 (lone_unlisted stored).rows ≡ pins 1 (lone stored).rows = ap (pins 1) alike.rows in absurd (omega arith)
-  | inr (row, own, inr (is, falls)) ↦ unlisted falls
+  | inr (row, own, inr (is, falls)) ↦
+      let last : 1 ≡ 1 + length falls.entries = ap (λ (l : Last). l.handle) falls.leaves.last in
+      let few : held 1 falls.entries ≤ length falls.entries = grind (arith, nat_tests, sum_by-cons, one-small) in
+      absurd (omega arith)
 ]
-  where
-    unlisted : Falls (lone stored) (with_mode (lone stored) first Mode.LooseUnpinned) nobody (Ok tt) (lone_unlisted stored) → ⊥
-    unlisted falls =
-        let last : 1 ≡ 1 + length falls.entries = ap (λ (l : Last). l.handle) falls.leaves.last in
-        let few : held 1 falls.entries ≤ length falls.entries = grind (arith, nat_tests, sum_by-cons, one-small) in
-        omega arith
 
 pub is_listed : LoneIsListed
 unfolding find_row

@@ -163,12 +163,8 @@ pub caller-free : NotLoads Owner.Caller
 caller-free l is = absurd (cc)
 
 -- a refusal that a load meets changes nothing, but that a failure of the storage may be noted
-module _ {N : Type 0} (v : Values N) (w : Core) (me : Owner) (reading : Reading) (u : Core) (e : Error) where
-  abbrev Notes : Type 0
-  Notes = (f : ℕ) × Alike (record w { failures = f }) u
-
-  pub meets : Meets v w me reading e u → Notes
-  meets does = search (rules)
+meets : {N : Type 0} (v : Values N) (w : Core) (me : Owner) (reading : Reading) (u : Core) (e : Error) → Meets v w me reading e u → (f : ℕ) × Alike (record w { failures = f }) u
+meets v w me reading u e does = search (rules)
 
 module _ {N B W : Type 0} (m : Seen N B W) (w : Core) (me : Owner) (free : NotLoads me) (w' : Core) (reading : Reading) where
   abbrev RF : Option (LoadAnswer N) → List Frame → Type 0
@@ -185,61 +181,46 @@ module _ {N B W : Type 0} (m : Seen N B W) (w : Core) (me : Owner) (free : NotLo
   knew kind key k row load opened needs c made goes = on nothing_felt load opened (was-known c) (λ whole. gets-known kind key c.n row needs (is-cached w kind.0 key c.n c.known)
       (got-known whole kind k row made c.next.above c.n (Owner.Load reading.load) c.leaves) refl goes)
 
-  gets-unread : (frames : List Frame) → GetsLazy m.values.types w me reading frames w' → RF None frames
-  gets-unread frames g = elim g.asked.makes.3 [
-    | inl k ↦ knew g.kind g.key g.k g.row g.asked.makes.0 g.asked.makes.1.stands_open (inr g.needs) k g.made g.goes
-    | inr (unknown, few, next, a) ↦ on (bears_known g.kind.0 g.key (OptionalDataKey.Some g.key)) g.asked.makes.0 g.asked.makes.1.stands_open
-        (adopts reading.load g.kind g.key (OptionalDataKey.Some g.key) [] unknown (none-named w (Owner.Load reading.load)) a)
-        (λ whole. gets-lazy g.kind g.key g.row g.needs (got-born whole g.kind g.k g.row g.made next.above reading.load g.key (OptionalDataKey.Some g.key) [] a) refl g.goes)
-  ]
-
   makes : (frames : List Frame) → MakesNode m.values w me reading frames w' → RF None frames
-  makes frames g = elim c.makes [
-    | inl (n, usable, f) ↦ on nothing_felt c.load c.owned.stands_open (adopts-known reading.load r.top.kind n (m.values.references g.x) right f)
-        (λ whole. makes-known g.x r n g.row (is-cached w r.top.kind.0 r.top.key n usable) (got-fallen whole r.top.kind g.k g.row g.made c.next.above n (Owner.Load reading.load) f) refl g.goes)
-    | inr (unknown, few, a) ↦ on (bears_known r.top.kind.0 r.top.key (first_key r.top.kind.0 r.top.key)) c.load c.owned.stands_open
-        (adopts reading.load r.top.kind r.top.key (first_key r.top.kind.0 r.top.key) (m.values.references g.x) unknown right a)
-        (λ whole. makes-node g.x r g.row (got-born whole r.top.kind g.k g.row g.made c.next.above reading.load r.top.key (first_key r.top.kind.0 r.top.key) (m.values.references g.x) a) refl g.goes)
-  ]
-    where
-      open g use {reads_node as r}
-      open g.adopted use {adopts as c}
+  makes frames g =
+      let r = g.reads_node in
+      let c = g.adopted.adopts in
+      let right = good w (Owner.Load reading.load) [] (m.values.references g.x) c.good in elim c.makes [
+        | inl (n, usable, f) ↦ on nothing_felt c.load c.owned.stands_open (adopts-known reading.load r.top.kind n (m.values.references g.x) right f)
+            (λ whole. makes-known g.x r n g.row (is-cached w r.top.kind.0 r.top.key n usable) (got-fallen whole r.top.kind g.k g.row g.made c.next.above n (Owner.Load reading.load) f) refl g.goes)
+        | inr (unknown, few, a) ↦ on (bears_known r.top.kind.0 r.top.key (first_key r.top.kind.0 r.top.key)) c.load c.owned.stands_open
+            (adopts reading.load r.top.kind r.top.key (first_key r.top.kind.0 r.top.key) (m.values.references g.x) unknown right a)
+            (λ whole. makes-node g.x r g.row (got-born whole r.top.kind g.k g.row g.made c.next.above reading.load r.top.key (first_key r.top.kind.0 r.top.key) (m.values.references g.x) a) refl g.goes)
+      ]
 
-      right : AreGood w (Owner.Load reading.load) (m.values.references g.x)
-      right = good w (Owner.Load reading.load) [] (m.values.references g.x) c.good
-
-  abbrev Over : Type 0
-  Over = Effect me false (IsMine w me reading.load) (Unit {0}) false nothing_felt w w'
-
-  fails : (e : Error) → Fails m.values w me reading e w' → Over
-  fails e does = elim does [
-    | inl gives ↦
-        let a = meets m.values w me reading gives.mid e gives.meets in
-        one-then (λ kind key n h. subst (IsHeldFor kind key n) (sym a.1.rows) h) (λ mine load is. mine load (sym (a.1.loads reading.load.0) ∙ is)) (noted a.0 a.1)
-        (closes reading.load (λ mine. mine) gives.closes)
-    | inr ended ↦ ends-load free reading.load (Err (e, None)) ended.ended
-  ]
-
-  ended : (end : LoadAnswer N) (frames : List Frame) → frames ≡ [] → Over → RF (Some end) frames
+  ended : (end : LoadAnswer N) (frames : List Frame) → frames ≡ [] → Effect me false (IsMine w me reading.load) (Unit {0}) false nothing_felt w w' → RF (Some end) frames
   ended end frames none e = record { change = nothing_felt; does = e; opens = λ is. absurd (cc); feels = λ whole. reading-ends end refl none }
 
-  by-does : (answer : Option (LoadAnswer N)) (frames : List Frame) → LoadDoes m.values w me reading answer frames w' → RF answer frames
-  by-does None frames does = elim does [
+  pub reading-feels : (answer : Option (LoadAnswer N)) (frames : List Frame) → ReadingDoes m.values w me reading answer frames w' → RF answer frames
+  reading-feels None frames d = elim d.does [
     | inl g ↦
         let same : g.asked.gives.0 ≡ g.load = same_some _ _ (sym g.asked.gives.1.stands_open ∙ g.open_load) in
         on nothing_felt g.load g.open_load (asks _ g.asked)
         (λ whole. reads-root g.load g.blob g.first g.open_load (subst (λ (x : OpenLoad). w.stored x.key ≡ Some g.blob) same g.asked.gives.2.found) refl g.goes)
     | inr (inl g) ↦ knew g.kind g.key g.k g.row g.asked.gives.0 g.asked.gives.1.stands_open (inl g.needs) g.asked.gives.2 g.made g.goes
     | inr (inr (inl g)) ↦ on nothing_felt g.asked.gives.0 g.asked.gives.1.stands_open (asks _ g.asked) (λ whole. reads-blob g.kind g.key g.blob g.needs g.asked.gives.2.1.found refl g.goes)
-    | inr (inr (inr (inl lazy))) ↦ gets-unread frames lazy
+    | inr (inr (inr (inl g))) ↦ elim g.asked.makes.3 [
+      | inl k ↦ knew g.kind g.key g.k g.row g.asked.makes.0 g.asked.makes.1.stands_open (inr g.needs) k g.made g.goes
+      | inr (unknown, few, next, a) ↦ on (bears_known g.kind.0 g.key (OptionalDataKey.Some g.key)) g.asked.makes.0 g.asked.makes.1.stands_open
+          (adopts reading.load g.kind g.key (OptionalDataKey.Some g.key) [] unknown (none-named w (Owner.Load reading.load)) a)
+          (λ whole. gets-lazy g.kind g.key g.row g.needs (got-born whole g.kind g.k g.row g.made next.above reading.load g.key (OptionalDataKey.Some g.key) [] a) refl g.goes)
+    ]
     | inr (inr (inr (inr made))) ↦ makes frames made
   ]
-  by-does (Some (LoadAnswer.Pinned k)) frames does = ended (LoadAnswer.Pinned k) frames does.1 (ends-load free reading.load (Ok k) does.0.ended)
-  by-does (Some (LoadAnswer.Read x)) frames does = ended (LoadAnswer.Read x) frames does.1 (hands-over free reading.load _ (Ok tt) does.0.handed)
-  by-does (Some (LoadAnswer.Refused e)) frames does = ended (LoadAnswer.Refused e) frames does.1 (fails e does.0)
-
-  pub reading-feels : (answer : Option (LoadAnswer N)) (frames : List Frame) → ReadingDoes m.values w me reading answer frames w' → RF answer frames
-  reading-feels answer frames does = by-does answer frames does.does
+  reading-feels (Some (LoadAnswer.Pinned k)) frames d = ended (LoadAnswer.Pinned k) frames d.does.1 (ends-load free reading.load (Ok k) d.does.0.ended)
+  reading-feels (Some (LoadAnswer.Read x)) frames d = ended (LoadAnswer.Read x) frames d.does.1 (hands-over free reading.load _ (Ok tt) d.does.0.handed)
+  reading-feels (Some (LoadAnswer.Refused e)) frames d = ended (LoadAnswer.Refused e) frames d.does.1 (elim d.does.0 [
+    | inl gives ↦
+        let a = meets m.values w me reading gives.mid e gives.meets in
+        one-then (λ kind key n h. subst (IsHeldFor kind key n) (sym a.1.rows) h) (λ mine load is. mine load (sym (a.1.loads reading.load.0) ∙ is)) (noted a.0 a.1)
+        (closes reading.load (λ mine. mine) gives.closes)
+    | inr ended ↦ ends-load free reading.load (Err (e, None)) ended.ended
+  ])
 
 -- it is felt so in a world that is alike
 pub feels-alike : {N : Type 0} {v : Values N} {w u w' : Core} {reading : Reading} {answer : Option (LoadAnswer N)} {frames : List Frame} {c : Change}
@@ -485,9 +466,6 @@ module _ {N B W : Type 0} (m : Seen N B W) (u u' : World) where
     knows = λ whole leaves k q n known. absurd known;
   }
 
-  load-starts : (h : HandleNumber) (r : Result Beginning Error) → Happens m u (Event.LoadStart h) (EventReply.Started r) u' → EG (Event.LoadStart h) (EventReply.Started r)
-  load-starts h r is = event-rests (λ n x b. absurd b) (keeps-all u u' is.readings is.work.walkings) (begins r is.step)
-
   key-starts : (key t : ℕ) (r : Result Beginning Error) → KeyStarted u key t r u' → EG (Event.LoadKey key t) (EventReply.Started r)
   key-starts key t (Err e) is = event-rests (λ n x b. absurd b) (keeps-all u u' is.refused is.work.walkings) (begins-key (Err e) is.step)
   key-starts key t (Ok Beginning.InMemory) is = absurd is.step.begins
@@ -495,14 +473,6 @@ module _ {N B W : Type 0} (m : Seen N B W) (u u' : World) where
       let next = is.step.begins.1.above in
       let last = ap (λ (x : Last). x.load) is.step.begins.2.last in
       event-rests (λ n x b. absurd b) (keeps-begun u u' t l is.begun (omega (arith, next, last)) is.work.walkings) (begins-key (Ok (Beginning.Load l k)) is.step)
-
-  load-steps : (l : LoadNumber) (reply : LoadReply N) → Happens m u (Event.LoadStep l) (EventReply.LoadMoved (Ok reply)) u' → EG (Event.LoadStep l) (EventReply.LoadMoved (Ok reply))
-  load-steps l reply is =
-      let x = is.moves in
-      let f = reading-feels m u.core Owner.Caller caller-free u'.core x.reading reply.ended x.frames x.does in
-      felt f.does (λ left. tt)
-      (λ whole well. by-reading f.change x.reading reply.ended x.frames (x.at, reading-stands u whole l x.reading x.at) f.opens (f.feels whole.handles) (steps-load x))
-      (λ whole leaves. reading-knows (f.feels whole.handles))
 
   module _ (k : WorkerNumber) (reply : WorkerReply W) (s : WorkerSteps m u k reply u') where
     abbrev site : Site
@@ -544,11 +514,18 @@ module _ {N B W : Type 0} (m : Seen N B W) (u u' : World) where
   event-goes (Event.Call call) (EventReply.CallReply r) open_still is =
       let g = calls-go m u.core Owner.Caller caller-free u'.core call r open_still is.step.does in
       felt g.does (λ left. left) (λ whole well. by-call g.change call r refl refl g.feels (keeps-all u u' is.readings is.work.walkings)) (λ whole leaves. call-knows W g.feels leaves)
+  event-goes (Event.LoadStep l) (EventReply.LoadMoved (Ok reply)) open_still is =
+      let x = is.moves in
+      let f = reading-feels m u.core Owner.Caller caller-free u'.core x.reading reply.ended x.frames x.does in
+      felt f.does (λ left. tt)
+      (λ whole well. by-reading f.change x.reading reply.ended x.frames (x.at, reading-stands u whole l x.reading x.at) f.opens (f.feels whole.handles) (steps-load x))
+      (λ whole leaves. reading-knows (f.feels whole.handles))
+  event-goes (Event.LoadStart h) (EventReply.Started r) open_still is = event-rests (λ n x b. absurd b) (keeps-all u u' is.readings is.work.walkings) (begins r is.step)
   event-goes Event.TableNew (EventReply.TableMade (Ok t)) open_still is = let x = is.made in event-rests (λ n x b. absurd b) (keeps-all u u' x.2 x.3.same_walkings) (stays x.1)
   event-goes (Event.WorkerItem t item) (EventReply.WorkerMade (Ok v)) open_still is = starts (λ n x b. b) t _ u.core v (none u.core) is.starts
   event-goes (Event.WorkerListed t i) (EventReply.WorkerMade (Ok v)) open_still is = let x = is.starts in
       starts (λ n x b. b) t _ _ v (moves (none u.core) (only_handle x.0) (Owner.Worker v) _ (λ l is. absurd (cc)) (entry refl i x.0 x.3.listed)) x.5
-  event-goes event reply open_still is = grind (arith, nat_tests, same, load-starts, key-starts, load-steps, worker-steps)
+  event-goes event reply open_still is = grind (arith, nat_tests, same, key-starts, worker-steps)
 
 -- ---- the plain world, as trees feel it
 

@@ -254,28 +254,20 @@ module _ {N E B W : Type 0} (m : Seen N B W) (s s' : MachineState N E) (whole : 
               (λ q x is. after q x (goes.stored q x is)) many longest under,
         )
 
-    went-bounded : (reading : Reading) (frames : List Frame) → IsReadingOf u.work reading ⊎ IsFresh u.core reading → ReadingFeels m.values u.core reading None frames u'.core c
-        → IsBounded m.values.types u' (gone_on reading frames)
-    went-bounded reading frames stands feels =
-        let before = bounded-of all reading stands in kept-bounded (gone_on reading frames) (before.0, λ load was. bounded-step reading load frames was (before.1 load was) feels)
-
   -- all loads go on so
   all-on : {event : Event N B W} {reply : EventReply N B W} {c : Change} → Goes c u.core u'.core → AllBounded m.values.types u → EventFeels m.values u event reply u' c → AllBounded m.values.types u'
   all-on goes all = readings-on (λ r. IsBounded m.values.types u' r) (λ r is. kept-bounded goes all r (all r is)) (fresh-bounded m.values.types u')
-      (λ r frames load stands at feels. went-bounded goes all r frames stands feels)
+      (λ r frames load stands at feels. let before = bounded-of all r stands in kept-bounded goes all (gone_on r frames) (before.0, λ load was. bounded-step r load frames was (before.1 load was) feels))
 
   -- a load that makes a step was bounded, and is where it goes on
   module _ (all : AllBounded m.values.types u) {l : LoadNumber} {reply : LoadReply N} (x : LoadSteps m.values u l reply u') (load : OpenLoad) (open_load : u.core.loads l.0 ≡ Some load) where
-    is-open : u.core.loads x.reading.load.0 ≡ Some load
-    is-open = reading-open s whole l x.reading x.at open_load
-
-    was-bounded : Bounded m.values.types u.core.stored load.key x.reading
-    was-bounded = (bounded-of all x.reading (reading-stands u whole.pager.whole l x.reading x.at)).1 load is-open
-
-    now-bounded : reply.ended ≡ None → Bounded m.values.types u.core.stored load.key (gone_on x.reading x.frames)
-    now-bounded none =
+    steps-within : IsWithinBound m.values.types u.core.stored x.reading.node_type load.key reply
+    steps-within =
+        let is_open = reading-open s whole l x.reading x.at open_load in
+        let was : Bounded m.values.types u.core.stored load.key x.reading = (bounded-of all x.reading (reading-stands u whole.pager.whole l x.reading x.at)).1 load is_open in
         let f = reading-feels m u.core Owner.Caller caller-free u'.core x.reading reply.ended x.frames x.does in
-        bounded-step x.reading load x.frames is-open was-bounded (subst (λ a. ReadingFeels m.values u.core x.reading a x.frames u'.core f.change) none (f.feels whole.pager.whole.handles))
+        is-within x.reading x.frames reply was (λ none. bounded-step x.reading load x.frames is_open was
+        (subst (λ a. ReadingFeels m.values u.core x.reading a x.frames u'.core f.change) none (f.feels whole.pager.whole.handles))) x.counts
 
   pub event-on : (event : Event N B W) (reply : EventReply N B W) → Happens m u event reply u' → AllWaitWell u → LoadsStand m.values.types u → LoadsStand m.values.types u'
   event-on event reply h waits stands = elim (keeps-open event) [
@@ -296,8 +288,7 @@ module _ {N E B W : Type 0} (m : Seen N B W) (s s' : MachineState N E) (whole : 
   step-within (inl shut) (Event.LoadStep l) (EventReply.LoadMoved (Ok reply)) h = λ reading load at open_load many longest under. absurd (nothing-unfolds shut.1 under)
   step-within (inr all) (Event.LoadStep l) (EventReply.LoadMoved (Ok reply)) h = λ reading load at open_load.
       let same : h.moves.reading ≡ reading = same_some _ _ (sym h.moves.at ∙ at) in
-      subst (λ (r : Reading). IsWithinBound m.values.types u.core.stored r.node_type load.key reply) same
-      (is-within h.moves.reading h.moves.frames reply (was-bounded all h.moves load open_load) (now-bounded all h.moves load open_load) h.moves.counts)
+      subst (λ (r : Reading). IsWithinBound m.values.types u.core.stored r.node_type load.key reply) same (steps-within all h.moves load open_load)
   step-within stands event reply h = tt
 
 pub idle-bounded : {N E : Type 0} (types : Types) (s : MachineState N E) → IsIdle s → LoadsStand types (world_of s)

@@ -186,13 +186,7 @@ module _ {N B W E : Type 0} (m : Seen N B W) (s : MachineState N E) (trees : ℕ
 
   module _ (l : LoadNumber) (reading : Reading) (load : OpenLoad) (at : reading_at (world_of s) l ≡ Some reading) (may : load_fault w Owner.Caller l ≡ None)
       (open_load : w.loads l.0 ≡ Some load) (paged : IsLoadOfPagedOut s load) where
-    abbrev node : NodeNumber
-    node = paged.0
-
-    abbrev t : ℕ
-    t = paged.1
-
-    abbrev out : IsPagedOutAs s node.0 load.key
+    abbrev out : IsPagedOutAs s paged.0.0 load.key
     out = paged.4
 
     -- what is read of it
@@ -205,9 +199,9 @@ module _ {N B W E : Type 0} (m : Seen N B W) (s : MachineState N E) (trees : ℕ
     fits : FramesFit v.types w.stored trees load.key reading.node_type reading.frames
     fits = going.fits load (reading-open s on.whole l reading at open_load)
 
-    of-type : reading.node_type ≡ t
+    of-type : reading.node_type ≡ paged.1
     of-type =
-        let there : (s.work.readings l.0 ≡ Some reading → reading.node_type ≡ t) = λ is.
+        let there : (s.work.readings l.0 ≡ Some reading → reading.node_type ≡ paged.1) = λ is.
         let a = on.whole.readings l.0 reading is in
         subst (λ root. FitsRoot root reading) (ap (λ (x : OpenLoad). x.root) (same_some _ _ (sym a.open_load ∙ open_load)) ∙ paged.3) a.typed in
         grind (arith, nat_tests, there)
@@ -215,7 +209,7 @@ module _ {N B W E : Type 0} (m : Seen N B W) (s : MachineState N E) (trees : ℕ
     -- the tree that it reads
     typed : (trees out.i.node.0).type ≡ reading.node_type
     typed =
-        let r = on.stands.pager.loads l.0 load node t paged.2 open_load paged.3 in
+        let r = on.stands.pager.loads l.0 load paged.0 paged.1 paged.2 open_load paged.3 in
         ap (λ n. (trees n).type) out.of_node ∙ r.typed ∙ sym of-type
 
     found : (blob : Blob) × (w.stored load.key ≡ Some blob)
@@ -372,18 +366,15 @@ module _ (types : Types) (stored : ℕ → Option Blob) where
       goes-down t key c (n + 1) (longer + 1) (type_of kind.0) child b ks k (omega (arith, e)) at step own (goes-further blob kinds kind child more is next eager)
 
   module _ (trees : ℕ → Tree) (root_key root_type : ℕ) where
-    -- what a frame says of its blob
-    record IsDown (frame : Frame) (n : ℕ) : Type 0 where
-      down : LeadsDown types stored root_type root_key n frame.node_type frame.key
-      is : stored frame.key ≡ Some frame.blob
-
-    down-to : (frame : Frame) (below : List Frame) → FramesFit types stored trees root_key root_type (frame ∷ below) → FramesAsked types (frame ∷ below) → IsDown frame (length below)
+    -- the path comes down to each frame's blob, which is stored
+    down-to : (frame : Frame) (below : List Frame) → FramesFit types stored trees root_key root_type (frame ∷ below) → FramesAsked types (frame ∷ below)
+        → LeadsDown types stored root_type root_key (length below) frame.node_type frame.key × (stored frame.key ≡ Some frame.blob)
     unfolding FramesFit FramesAsked
     down-to frame [] (fits, key, of_type) got = grind (arith, nat_tests, is-there)
     down-to frame (under ∷ rest) (fits, of_type, next, more) (got, eager, next2, more_asked) =
         let u = down-to under rest more more_asked in
         let step = asks-by-kinds types under.node_type under.blob under.got frame.kind frame.key next in
-        let d = goes-further under.blob (kinds_of under.got) frame.kind frame.key u.down u.is step eager in
+        let d = goes-further under.blob (kinds_of under.got) frame.kind frame.key u.0 u.1 step eager in
         let long : length rest + 1 ≡ length (under ∷ rest) = omega arith in
         grind (arith, nat_tests)
 
@@ -394,7 +385,7 @@ module _ (types : Types) (stored : ℕ → Option Blob) where
     of-path (top ∷ below) fits got kind key blob needs is long =
         let d = down-to top below fits got in
         let step = asks-by-kinds types top.node_type top.blob top.got kind key (asked below (next_in types top) kind key (inl needs)) in
-        let further = goes-further top.blob (kinds_of top.got) kind key d.down d.is step (eager-nested below (next_in types top) kind key needs) in
+        let further = goes-further top.blob (kinds_of top.got) kind key d.0 d.1 step (eager-nested below (next_in types top) kind key needs) in
         record { n = length below + 1; last_type = type_of kind.0; last = key; blob = blob; down = further; is = is; deep = inl (omega (arith, long)) }
 
 -- ---- a load's step
