@@ -1,7 +1,7 @@
 -- A worker's steps up to its answer: none of its own claims waits any more, and what another claimed is as it was.
 use Rattle.pagable_laws.proofs.Words.{◌≡◌, ℕ, nat_eq, nat_tests, arith, true, false, List, [], ◌∷◌, ◌++◌, append_assoc, None, Some, Ok, refl, sym, subst, Identity, HandleNumber, Slot, Shelf}
 use Rattle.pagable_laws.proofs.Words.{no_result, Todo, Task, of_item, of_entry, Written, Took, Claim, WorkerAnswer, Seen, Site, Does, answer_after, first_todo, is_open_outcome, IsMetFailure}
-use Rattle.pagable_laws.proofs.{Words.{FailedElsewhere, inl, inr}, Standing.{is_open_in, AllStand, Covers, HasNoFailed, Changes, first-stands, some-none, some-same, Goes, grows, same-worker}}
+use Rattle.pagable_laws.proofs.{Words.{FailedElsewhere, inl, inr}, Standing.{is_open_in, AllStand, Covers, HasNoFailed, first-stands, some-none, some-same, Goes, grows, same-worker}}
 use Rattle.pagable_laws.proofs.{Coming.{stands-on, goes-same, FailsMet, follows-met, fails-stay, first-met, failed-stays, failed-elsewhere, answered}, Joining.steps_follow, Decoding.among-right}
 use Rattle.{pagable_world.specs.Access.{AccessState, AllHaveResults, WorkerRun, WalkStep, worker-ends, worker-goes-on}, std.proofs.lemmas.Bool.cases_Bool}
 

@@ -2,8 +2,8 @@
 use Rattle.pagable_laws.proofs.Words.{◌≡◌, ℕ, Bool, true, false, List, refl, Option, Some, Result, Ok, Err, Error, Kind, Blob, HandleNumber, LoadNumber, NodeNumber, Owner, HandleRow, Mode, Want}
 use Rattle.pagable_laws.proofs.Words.{Pinning, Beginning, OptionalDataKey, Core, of_cell, Alike, with_handle, moved, CloneCall, PinCall, Asked, StoreCall, without_load, BeginCall, BeginKeyCall, Given}
 use Rattle.pagable_laws.proofs.Words.{arith, nat_tests, AskCall, GetsKnown, LoadCloses, nothing_felt, [], inl, inr, None, ◌⊎◌, ArcRef, Call, Reply, Event, find_row, owner_value, Seen, Values}
-use Rattle.pagable_laws.proofs.Words.{only_handle, next_node, is_named_by, BirthCall, UnpinCall, ReleaseCall, SetKeyCall, ScheduleCall, TakeCall, RecallCall, OfferCall, AdoptCall, LazyCall, EndCall}
-use Rattle.pagable_laws.proofs.Words.{Installs, HandOverCall, DropCall, first_key, CallBrings, IsNewNode, KeepsOpen, LeavesCache, Change, sets_key, knows_node, bears_node, bears_known, CallFeels}
+use Rattle.pagable_laws.proofs.Words.{only_handle, next_node, is_named_by, BirthCall, ReleaseCall, SetKeyCall, ScheduleCall, RecallCall, OfferCall, AdoptCall, LazyCall, EndCall}
+use Rattle.pagable_laws.proofs.Words.{Installs, HandOverCall, first_key, CallBrings, IsNewNode, KeepsOpen, LeavesCache, Change, sets_key, knows_node, bears_node, bears_known, CallFeels}
 use Rattle.pagable_laws.proofs.Words.{feels-nothing, feels-birth, feels-away, feels-key, feels-known, feels-adopted, feels-lazy, feels-end, StaysAway, with_known, usable, adopted, AreGood}
 use Rattle.pagable_laws.proofs.{Words.{FallsAnyhow, of_key, is_owned_in, is_in, numbers_of, subst, sym, ap, ◌∙◌}, Goes.{NotLoads, a-handle, quiet-goes, goes-then, begun, found-changed, KnowsNext}}
 use Rattle.pagable_laws.proofs.{Goes.Goes, Effects.{Effect, IsMine, none, handle, turned, moves, cached, cached-if, opens, shuts, like, fell, own-mode, node, with-key, beside, forgets, stays}}

@@ -2,10 +2,9 @@
 use Rattle.pagable_laws.proofs.Words.{◌≡◌, ℕ, suc, zero, ◌+◌, ◌<◌, ◌≤◌, ◌==◌, ◌&&◌, ◌||◌, Bool, true, false, List, sum_by, refl, ap, sym, ◌∙◌, arith, nat_lt, not, nat_tests, cases_lt, inl, inr}
 use Rattle.pagable_laws.proofs.Words.{and_parts, one, Among, Owner, HandleRow, is_owner, is_owned_by, owner_value, is_at, is_pin, is_outside, loses_value, IsClosed, IsWithin, IsLeast, OwnsNothing}
 use Rattle.pagable_laws.proofs.Words.{IsGivenAlone, [], ◌∷◌, length, Option, Ok, sum_by-cons, Blob, Mode, pins, held, find_row, Last, owned_outside, Falls, nobody, row_of, with_mode, UnpinCall}
-use Rattle.pagable_laws.proofs.Words.{two_rows, are_two, outer, first, first_node, lone, lone_listed, lone_unlisted, TwoLevelsFall, LoneIsListed}
+use Rattle.pagable_laws.proofs.Words.{two_rows, first, first_node, lone, lone_listed, lone_unlisted, TwoLevelsFall, LoneIsListed}
 use Rattle.pagable_laws.proofs.Sums.{same-number, one-true, sum-le, at-most-sum, sum-plus, sum-zero, counted, one-small}
 use Rattle.std.proofs.lemmas.Bool.{false_from_ne_true}
-use Rattle.pagable_laws.specs.SmallWorlds.{both}
 
 -- 1 for a handle outside the set; one of the node, one that pins it, one that its value owns; and one of the one set and not of the other
 abbrev outside : (ℕ → Bool) → HandleRow → ℕ

@@ -1,5 +1,5 @@
 -- A form of a node's value is one of its tree: over its references it is followed to their nodes' trees, and with their keys it stands under the tree's own.
-use Rattle.pagable_laws.proofs.Words.{◌≡◌, ℕ, suc, ◌+◌, ◌<◌, ◌≤◌, ◌==◌, ◌&&◌, Bool, true, List, [], ◌∷◌, map, Option, Some, Result, Ok, refl, sym, ap, subst, ◌∙◌, inr, arith, is_some, nat_lt}
+use Rattle.pagable_laws.proofs.Words.{◌≡◌, ℕ, suc, ◌<◌, ◌≤◌, ◌==◌, ◌&&◌, Bool, true, List, [], ◌∷◌, map, Option, Some, Result, Ok, refl, sym, ap, subst, ◌∙◌, inr, arith, is_some, nat_lt}
 use Rattle.pagable_laws.proofs.Words.{slice_get, nat_tests, append-nil, sum_by-cons, get_or_from_slice_get, slice_get_within, Error, reference, rename, references_in, Rest, deepest, Form, kind_of_arc}
 use Rattle.pagable_laws.proofs.Words.{IsReadable, Throughout, Kid, kid, kind_of_kid, KeyRef, key_ref, IsFollowed, number-followed, integer-followed, text-followed, pattern-followed, none-followed}
 use Rattle.pagable_laws.proofs.Words.{pair-followed, variant-followed, reference-followed, unfolded, TreeForm, blob_of, KeyOf, key-of, KeysOf, no-keys, more-keys, kind_of_ref, key_of_ref, StoredAs}

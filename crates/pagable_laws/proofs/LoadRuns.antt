@@ -3,9 +3,8 @@ use Rattle.pagable_laws.proofs.Words.{◌≡◌, ℕ, ◌+◌, ◌≤◌, List, 
 use Rattle.pagable_laws.proofs.Words.{Reading, Written, Values, Seen, IsLawful, PagerState, WellFormed, Moves, Represents, FramesFit, SameTrees, with_handle}
 use Rattle.pagable_laws.proofs.Words.{ReadIsRight, held, with_load, gone_on, Blob, LoadNumber, Tree, ReadsItsTypes, HoldsSettled, TakesWell, fresh, LoadAnswer, nothing_felt}
 use Rattle.pagable_laws.proofs.{Words.{ReadingFeels, Owner, Mode, false}, Felt.{reading-fits, fits-nothing, trees-go-on}, Goes.Goes, ReadingSteps.{caller-free, reading-feels}}
-use Rattle.pagable_laws.proofs.{ReadingStepsGive.{hands, read-right}, Taking.{Going, going-new, going-step, given-nodes, was-open, row-held, stands-here}, Trees.same_some, Called.{begins, begins-key}}
+use Rattle.pagable_laws.proofs.{ReadingStepsGive.{hands, read-right}, Taking.{Going, going-new, going-step, given-nodes, was-open, row-held, stands-here}, Trees.same_some, Called.{begins-key}}
 use Rattle.{pagable_laws.proofs.Called.begin-goes, pagable_world.specs.{Access.{ReadingStep, LoadRun, load-ends, load-goes-on, LoadAsksWell, PinLaw, ReadLaw}, Loads.Does}}
-use Rattle.pagable_world.specs.Events.{reading_of_load}
 
 abbrev seen : {N : Type 0} → Values N → Seen N Blob Written
 seen v = record { values = v; blob_of = λ b. b; written_of = λ w. w }

@@ -4,20 +4,19 @@ use Rattle.pagable_laws.proofs.Words.{NodeNumber, OptionalDataKey, type_of, Hand
 use Rattle.pagable_laws.proofs.Words.{with_node, with_cached_if_open, with_known, next_node, is_named_by, moved, adopted, HandlesAreWhole, GetsRow, sym, inl, Option, None, Ok, Err, is_some}
 use Rattle.pagable_laws.proofs.Words.{WorkerNumber, LoadAnswer, LoadReply, WorkerReply, PinStep, Took, Event, owner_worker, Frame, Reading, Todo, to_load, Walking, World, Seen, Values, ReadingDoes}
 use Rattle.pagable_laws.proofs.Words.{gone_on, Site, ReadingsAre, reading_at, reading_after, LoadSteps, WorkerSteps, IsWhole, IsReadingOf, of_caller, of_worker, IsSteppedReading, MachineState}
-use Rattle.pagable_laws.proofs.Words.{IsMachineWhole, StepsReading, IsFresh, Error, OpenLoad, first_key, Fails, GetsLazy}
+use Rattle.pagable_laws.proofs.Words.{IsMachineWhole, StepsReading, IsFresh, Error, OpenLoad, first_key}
 use Rattle.pagable_laws.proofs.Words.{MakesNode, Change, nothing_felt, bears_known, ReadingFeels, reads-root, reads-blob, gets-known, gets-lazy, makes-known, makes-node, reading-ends}
 use Rattle.pagable_laws.proofs.Words.{Result, Pinning, Beginning, Claim, is_loose, to_start, to_pin, to_set, to_release, to_fail, SetKeyCall, Does, PinsAtOnce, PinsByLoad, PinRefused}
-use Rattle.pagable_laws.proofs.Words.{GivesBack, next_start, give, give_known, fresh, TodoBrings, sets_key, false, if◌then◌else◌, updated, if_there, EventReply, TableNumber, WorkerAnswer, only_handle}
+use Rattle.pagable_laws.proofs.Words.{GivesBack, next_start, give, give_known, fresh, TodoBrings, sets_key, false, updated, if_there, EventReply, TableNumber, WorkerAnswer, only_handle}
 use Rattle.pagable_laws.proofs.Words.{Cell, Task, type_at, key_at, without_worker, WorkerEnds, answer_after, Stays, KeyStarted, Starts, new_walking, Ends, Happens, with_worker, IsNewNode, EventBrings}
-use Rattle.pagable_laws.proofs.Words.{KeepsOpen, LeavesCache, SameNode, NewNode, StaysAway, KeepsReadings, EventFeels, by-call, by-reading, by-key, by-nothing, Blob, StoreCall, digest, AreGood}
+use Rattle.pagable_laws.proofs.Words.{KeepsOpen, LeavesCache, SameNode, NewNode, StaysAway, KeepsReadings, EventFeels, by-call, by-reading, by-key, by-nothing, Blob, StoreCall, digest}
 use Rattle.pagable_laws.proofs.{Words.{OwnersAreThere, step_of, Among, CloneCall, Needs, GetsKnown, with_got, world_of, or_else}, Goes.{found-left, none-in-new, at-updated, Quiet}}
 use Rattle.pagable_laws.proofs.{Goes.{Goes, NotLoads, quiet-then, goes-quiet, alike, fell-anyhow, KnowsNext, parts, le-self, rows-self, next-above}, Effects.{Effect, IsMine, IsApart, IsHeldFor}}
 use Rattle.pagable_laws.proofs.Effects.{Lasts, Spares, none, moves, fell, with-key, stays, one-then, entry, no-one, none-named, released-free, ended-free, worker-apart, stays-alike, spares-then}
 use Rattle.pagable_laws.proofs.{Effects.{stays-fell, then-alike, then-fell, held-fell}, Called.{hands-over, ends-load, noted, asks, closes, gets-known as was-known, adopts, adopts-known, schedules}}
 use Rattle.pagable_laws.proofs.{Called.{clones, pins, begins, begins-key, stores, calls-go, call-knows}, Decoding.among-left, GoodReferences.{good, alike-away}, Outlasting.{AreUpTo, low-changed}}
-use Rattle.{pagable_laws.proofs.{Outlasting.{low-whole, stands-new, find-both}, Sums.self-number, Trees.same_some, Standing.{AllWait, WaitsWell}}, pagable_world.specs.Loads.{Does as LoadDoes, Meets}}
+use Rattle.{pagable_laws.proofs.{Outlasting.{low-whole, stands-new, find-both}, Sums.self-number, Trees.same_some, Standing.{AllWait, WaitsWell}}, pagable_world.specs.Loads.{Meets}}
 use Rattle.std.proofs.Common.{rules}
-use Rattle.pagable_world.specs.Workers as workers
 use Rattle.pagable_world.specs.Events.{reading_of_load}
 
 -- ---- what is found at a new number

@@ -6,7 +6,7 @@ use Rattle.pagable_laws.proofs.Words.{Happens, HandlesAreWhole, HandsOver, ◌<�
 use Rattle.pagable_laws.proofs.Words.{ReadsRoot, LoadSteps, MachineState, world_of, IsMachineWhole, IsReadingOf, StandsFor, SameTrees, FrameFits, FramesFit, ReadsItsTypes, ReadIsRight, ReadGives, ◌+◌}
 use Rattle.pagable_laws.proofs.Words.{◌*◌, ◌≤◌, ◌⊎◌, is_eager, asks, next_in, need_of, needs_nested, needs_lazy, to_adopt, root_frame, after_kinds, Unfolds, unfolds, UnfoldsFrom, KeepsStored}
 use Rattle.pagable_laws.proofs.Words.{Call, Reply, one_more, gone_on, IsIdle, KeepsOpen, IsWithinBound, StepIsWithin, PagerState, Represents, WellFormed, LoadsHaveStepsLeft, IsFresh, slice_get_within}
-use Rattle.pagable_laws.proofs.{Words.{HandleNumber, named_fault, hand_over_fault}, Fitting.{first-fits, frames-stay, asked}, ReadingSteps.{readings-on, caller-free, reading-feels, reading-stands}}
+use Rattle.pagable_laws.proofs.{Fitting.{first-fits, frames-stay, asked}, ReadingSteps.{readings-on, caller-free, reading-feels, reading-stands}}
 use Rattle.pagable_laws.proofs.{ReadingSteps.{AllWaitWell, EventGoes, event-goes, reading-open}, Goes.{found-number, IsShut, Goes}, Outlasting.{Stands, stands-whole, stands-changed, stands-fell}}
 use Rattle.pagable_laws.proofs.{Sums.self-number, Decoding.decodes, Taking.{row-held, root-right, adopted-over, Going, given-nodes, eager-nested, going-of, was-open}, Apart.{kinds_of, asks-by-kinds}}
 use Rattle.{pagable_laws.proofs.{Apart.kinds-pushed, Trees.same_some, Effects.named}, pagable_world.specs.{Loads.Does as LoadDoes, Runs.Does}, std.proofs.Common.rules}
