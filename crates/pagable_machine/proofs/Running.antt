@@ -1,6 +1,6 @@
 -- A run goes on by one event more, and the headline holds of it after whatever came before.
 use Rattle.pagable_machine.proofs.Words.{◌≡◌, List, [], ◌∷◌, ◌++◌, length, map, refl, ap, sym, ◌∙◌, subst, append-nil, append_assoc, map-append, Event, EventReply, Seen, MachineState, Moment}
-use Rattle.pagable_machine.proofs.Words.{AreMoments, HasRun, state_after, headline_law, Telling, Spelling, values_of, Ghosts, plain, plain_answer, plain_event, Answer, Drives, Given, IsInStep}
+use Rattle.pagable_machine.proofs.Words.{AreMoments, HasRun, state_after, headline_law, Telling, Values, Ghosts, plain, plain_answer, plain_event, Answer, Drives, Given, IsInStep}
 use Rattle.{pagable_machine.proofs.Words.{MachineView, Over, Runs, machine_in, view_of}, pagable_world.specs.Runs.Does, std.proofs.lemmas.List.nil_from_length}
 use Rattle.pagable_machine.proofs.Words.{ℕ, zero, suc, Option, Some, None, slice_get, nat_eq, lookup, fun_ext, length-map, lookup-map_values, slice_get-map, option_map, if_there, Shelf, no_shelf}
 use Rattle.pagable_machine.proofs.Words.{state_in, SlotTable, is_same, slot_of, shelf_of, machine_of, shelf_at, walking_of, claims_at, claims_of, holding, table_view}
@@ -68,12 +68,12 @@ module _ {N E B W : Type 0} (m : Seen N B W) where
         chain = joins old run.moments (x ∷ []) run.chain (subst (λ s. Does m s event reply new) (sym run.ends) does, tt);
       }
 
-module _ {N S E X : Type 0} {t : Ghosts X} (tells : Telling S) (g : Spelling N E) (old : MachineView N S E) where
+module _ {N S E X : Type 0} {t : Ghosts X} (tells : Telling S) (v : E → Values N) (old : MachineView N S E) where
   -- the events so far have happened, and the others are left
   pub record SoFar (all rest : List (Given N)) (replies : List (Answer N)) (now : Over N S E t) : Type 0 where
     pub done : List (Given N)
     pub left : done ++ rest ≡ all
-    pub run : HasRun (plain (values_of g old.pager.environment)) (machine_in tells old) (map plain_event done) (map plain_answer replies) (raw_in tells now)
+    pub run : HasRun (plain (v old.pager.environment)) (machine_in tells old) (map plain_event done) (map plain_answer replies) (raw_in tells now)
     pub environment : now.pager.environment ≡ old.pager.environment
     pub in_step : IsInStep tells now
 
@@ -82,15 +82,15 @@ module _ {N S E X : Type 0} {t : Ghosts X} (tells : Telling S) (g : Spelling N E
       record {
         done = [];
         left = refl;
-        run = subst (λ x. HasRun (plain (values_of g old.pager.environment)) (machine_in tells old) [] [] x) (ap (machine_in tells) is ∙ view-is tells now) (no-run _ _);
+        run = subst (λ x. HasRun (plain (v old.pager.environment)) (machine_in tells old) [] [] x) (ap (machine_in tells) is ∙ view-is tells now) (no-run _ _);
         environment = ap (λ (x : MachineView N S E). x.pager.environment) (sym is);
         in_step = in_step;
       }
 
   pub one-more : (all rest : List (Given N)) (event : Given N) (replies : List (Answer N)) (reply : Answer N) (mid new : Over N S E t)
-      → SoFar all (event ∷ rest) replies mid → Drives (values_of g mid.pager.environment) tells mid event reply new → SoFar all rest (replies ++ reply ∷ []) new
+      → SoFar all (event ∷ rest) replies mid → Drives (v mid.pager.environment) tells mid event reply new → SoFar all rest (replies ++ reply ∷ []) new
   one-more all rest event replies reply mid new so made =
-      let does = subst (λ e. Does (plain (values_of g e)) (raw_in tells mid) (plain_event event) (plain_answer reply) (raw_in tells new)) so.environment made.makes.does in
+      let does = subst (λ e. Does (plain (v e)) (raw_in tells mid) (plain_event event) (plain_answer reply) (raw_in tells new)) so.environment made.makes.does in
       let more = run-more _ _ _ _ _ _ (plain_event event) (plain_answer reply) so.run does in
       record {
         done = so.done ++ event ∷ [];
@@ -101,10 +101,10 @@ module _ {N S E X : Type 0} {t : Ghosts X} (tells : Telling S) (g : Spelling N E
       }
 
   pub all-ran : (all rest : List (Given N)) (replies : List (Answer N)) (new : Over N S E t)
-      → length rest ≡ 0 → SoFar all rest replies new → Runs (values_of g old.pager.environment) tells old all replies (view_of new.pager new.held)
+      → length rest ≡ 0 → SoFar all rest replies new → Runs (v old.pager.environment) tells old all replies (view_of new.pager new.held)
   all-ran all rest replies new none so =
       let is : so.done ≡ all = sym (append-nil so.done) ∙ ap (λ xs. so.done ++ xs) (sym (nil_from_length rest none)) ∙ so.left in
-      let m = plain (values_of g old.pager.environment) in
+      let m = plain (v old.pager.environment) in
       let run = subst (λ xs. HasRun m (machine_in tells old) (map plain_event xs) (map plain_answer replies) (machine_in tells (view_of new.pager new.held))) is
       (subst (λ x. HasRun m (machine_in tells old) (map plain_event so.done) (map plain_answer replies) x) (sym (view-is tells new)) so.run) in
       record {

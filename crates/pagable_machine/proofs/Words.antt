@@ -10,8 +10,8 @@ pub use Rattle.pagable_machine.specs.{Keeping.{rest_after, AllKept, IsKept, Read
 pub use Rattle.pagable_machine.specs.{Serving.plain_moved, Walking.{IsBegun, IsWalkKept, shelf_at, WalksOn, has_task, is_table, walking_of, SetsTable, task_in, todo_left}}
 pub use Rattle.{pagable_machine.specs.declared.held.Held.Held, pagable_machine.specs.declared.held.Walk.Walk, pagable_model.specs.declared.error.Error.Error}
 pub use Rattle.pagable_model.specs.declared.numbers.{ArcRef.ArcRef, HandleNumber.HandleNumber, LoadNumber.LoadNumber, WorkerNumber.WorkerNumber}
-pub use Rattle.pagable_pager.{proofs.Putting.owner-owns, specs.Opened.{ReadsAs, type_of_root}, specs.View.{PagerView, Telling, state_in, OnlyLess, core_in, Spelling, values_of}}
-pub use Rattle.{pagable_pager.specs.View.{spelling, telling}, pagable_tables.proofs.Worlds.still, pagable_walk.specs.Slots.{written_of, is_same, slot_of}}
+pub use Rattle.pagable_pager.{proofs.Putting.owner-owns, specs.Opened.{ReadsAs, type_of_root}, specs.View.{PagerView, Telling, state_in, OnlyLess, core_in}}
+pub use Rattle.{pagable_pager.specs.View.telling, pagable_tables.proofs.Worlds.still, pagable_walk.specs.Slots.{written_of, is_same, slot_of}}
 pub use Rattle.pagable_walk.specs.{Table.shelf_of, Tasks.{todo_of, todos}, Turns.{TaskFits, plain, HoldsPin, IsLoading, IsOfKind, LeavesFit, answer_in, plain_took, plan}}
 pub use Rattle.pagable_walk.specs.declared.{results.Trees.Ghosts, table.SlotTable.SlotTable, tasks.Task.Task, tasks.Turn.Turn, tasks.Waiting.Waiting}
 pub use Rattle.pagable_world.specs.{Access.{Called, WorkerStarts, ReadingStep}, Calls.{CloseCall, is_listed, shut}, Cascade.fallen, Events.{Happens, IsTable, Starts, no_shelf}}

@@ -1,8 +1,8 @@
 -- Values that went with their nodes leave the pager in step.
 use Rattle.pagable_pager.proofs.Words.{rules, ◌≡◌, ℕ, ◌&&◌, Bool, true, [], refl, ap, sym, ◌∙◌, Some, None, Option, if◌then◌else◌, nat_eq, arith, ◌⊎◌, is_some, nat_lt, not, nat_tests, option_map}
 use Rattle.pagable_pager.proofs.Words.{arc_value, get, has_key, is_pinning, mode_of, pins, Blob, Core, is_here, usable, WellFormed, entered-of, Leaves, known-here, Counts, Tables, counts_at}
-use Rattle.pagable_pager.proofs.Words.{AreKept, Sheds, has_value, pins_in, cell_in, key_in, AreLater, IsWhole, core_of, plain_of, PagerView, Telling, Spelling, ValuesByNode, OnlyLess, IsPager}
-use Rattle.{pagable_pager.{proofs.{Words.{core_in, state_in, value_in, values_of}, Shut.IsBare}, specs.View.CallsLess}, pagable_tables.specs.Doing.DoesShed}
+use Rattle.pagable_pager.proofs.Words.{AreKept, Sheds, has_value, pins_in, cell_in, key_in, AreLater, IsWhole, core_of, plain_of, PagerView, Telling, Values, ValuesByNode, OnlyLess, IsPager}
+use Rattle.{pagable_pager.{proofs.{Words.{core_in, state_in, value_in}, Shut.IsBare}, specs.View.CallsLess}, pagable_tables.specs.Doing.DoesShed}
 use Rattle.pagable_world.specs.Pager as pager
 
 -- the plain world is whole, whatever is stored, if nothing is listed or known once the storage is closed
@@ -27,9 +27,9 @@ whole-over t stored closed failures whole shut =
     }
 
 -- tables that are whole leave the pager in step, where the plain state stays well-formed
-pub in-step : {N S E : Type 0} {tells : Telling S} {g : Spelling N E} (q : PagerView N S E) → IsWhole q.tables → AreLater q.tables → (tells.closed q.storage ≡ true → IsBare (core_in tells q))
-    → (((n : ℕ) → pins_in (counts_at q.tables.holdings.nodes n) ≡ pins n (core_in tells q).rows) → pager.IsWhole (core_in tells q) → WellFormed (values_of g q.environment) (state_in tells q))
-    → IsPager tells g q
+pub in-step : {N S E : Type 0} {tells : Telling S} {says : E → Values N} (q : PagerView N S E) → IsWhole q.tables → AreLater q.tables → (tells.closed q.storage ≡ true → IsBare (core_in tells q))
+    → (((n : ℕ) → pins_in (counts_at q.tables.holdings.nodes n) ≡ pins n (core_in tells q).rows) → pager.IsWhole (core_in tells q) → WellFormed (says q.environment) (state_in tells q))
+    → IsPager tells says q
 in-step {tells = tells} q whole later bare state =
     record { tables = whole; later = later; state = state whole.steady.fits.pinned (whole-over q.tables (tells.stored q.storage) (tells.closed q.storage) (tells.failed q.storage) whole bare) }
 
@@ -46,7 +46,7 @@ some-map f o = grind (arith, nat_tests)
 pub left-map : {X Y : Type 0} (f : X → Y) (b : Bool) (old new : Option X) → ((new ≡ old) ⊎ (new ≡ None)) → is_some new ≡ b → option_map f new ≡ (if b then option_map f old else None)
 left-map f b old new which some = grind (arith, nat_tests)
 
-module _ {N S E : Type 0} (tells : Telling S) (g : Spelling N E) (p : PagerView N S E) (is : IsPager tells g p) where
+module _ {N S E : Type 0} (tells : Telling S) (says : E → Values N) (p : PagerView N S E) (is : IsPager tells says p) where
   pub here-in : (n : ℕ) → (is_some ((core_in tells p).cells n) && is_here (core_in tells p) n) ≡ has_value (counts_at p.tables.holdings.nodes n)
   here-in n = here-told (counts_at p.tables.holdings.nodes n) (core_in tells p) n refl (sym (is.tables.steady.fits.pinned n))
 
@@ -69,7 +69,7 @@ module _ {N S E : Type 0} (tells : Telling S) (g : Spelling N E) (p : PagerView 
   -- what is left leaves the pager in step
   pub shed : (t : Tables) (values : ValuesByNode N) → IsWhole t → AreLater t → Sheds (counts_at p.tables.holdings.nodes) (get nat_eq p.values) (counts_at t.holdings.nodes) (get nat_eq values)
       → ((core_in tells p).closed ≡ true → (t.holdings.list.items ≡ []) × ((kind key : ℕ) → (plain_of t).cache kind key ≡ None))
-      → (Leaves (value_in p.values) (state_in tells (record p { tables = t; values = values })) → WellFormed (values_of g p.environment) (state_in tells (record p { tables = t; values = values }))) → IsPager tells g (record p { tables = t; values = values })
+      → (Leaves (value_in p.values) (state_in tells (record p { tables = t; values = values })) → WellFormed (says p.environment) (state_in tells (record p { tables = t; values = values }))) → IsPager tells says (record p { tables = t; values = values })
   shed t values whole later sheds shut state = record { tables = whole; later = later; state = state (leaves t values whole sheds (whole-over t (tells.stored p.storage) (tells.closed p.storage) (tells.failed p.storage) whole shut)) }
 
   -- no value came
@@ -80,7 +80,7 @@ module _ {N S E : Type 0} (tells : Telling S) (g : Spelling N E) (p : PagerView 
   pub shed-by : {lists : Bool} {step : Core → Core → Type 0} (t : Tables) (values : ValuesByNode N) → DoesShed lists p.tables p.values step t values → lists ≡ not (tells.closed p.storage)
       → (step (core_in tells p) (core_in tells (record p { tables = t; values = values })) → (core_in tells p).closed ≡ true → (t.holdings.list.items ≡ []) × ((kind key : ℕ) → (plain_of t).cache kind key ≡ None))
       → (step (core_in tells p) (core_in tells (record p { tables = t; values = values })) → Leaves (value_in p.values) (state_in tells (record p { tables = t; values = values }))
-      → WellFormed (values_of g p.environment) (state_in tells (record p { tables = t; values = values }))) → IsPager tells g (record p { tables = t; values = values })
+      → WellFormed (says p.environment) (state_in tells (record p { tables = t; values = values }))) → IsPager tells says (record p { tables = t; values = values })
   shed-by t values call opens bare state =
       let step = call.does (tells.stored p.storage) (tells.closed p.storage) (tells.failed p.storage) opens in
       shed t values call.whole (call.later is.later) call.sheds (bare step) (state step)

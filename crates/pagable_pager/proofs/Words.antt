@@ -4,7 +4,7 @@ pub use Rattle.{pagable_laws.proofs.{Outlasting.among-found, SparingSteps.{named
 pub use Rattle.pagable_loads.specs.{Starting.StartsPin, Telling.{AsksFor, TakesLazily, AdoptsValue, IsMade, values_at}, Working.TakesReference, declared.working.Taken.Taken}
 pub use Rattle.pagable_model.specs.{Blob.key_of, Stored.{Adds, RefusesFetch, RefusesStore}, declared.{data_key.OptionalDataKey.OptionalDataKey, numbers.{ArcRef.ArcRef, HandleNumber.HandleNumber}}}
 pub use Rattle.{pagable_model.specs.declared.numbers.{Kind.Kind, LoadNumber.LoadNumber, NodeNumber.NodeNumber, WorkerNumber.WorkerNumber}, pagable_pager.specs.{Made.PinsClone, Made.Refers}}
-pub use Rattle.pagable_pager.specs.{Made.TakesEntry, View.{PutsIn, with_value, PagerView, Telling, Spelling, ValuesByNode, IsPager, OnlyLess, core_in, state_in, value_in, values_of}}
+pub use Rattle.pagable_pager.specs.{Made.TakesEntry, View.{PutsIn, with_value, PagerView, Telling, ValuesByNode, IsPager, OnlyLess, core_in, state_in, value_in}}
 pub use Rattle.{pagable_pager.specs.View.{is_at_work, FewerValues, OnlyTables, SameValues, telling}, pagable_steps.proofs.{Births.{born, lazily, born-away}, Falling.{adopted_known, closed}}}
 pub use Rattle.pagable_steps.proofs.{Falling.{end_refused, dropped, handed_over, offered, released, worker_released, scheduled, key_set, unpinned, worker_ended}, Births.installed_away}
 pub use Rattle.pagable_steps.proofs.{Births.installed_there, Owning.{pinned-here, stayed, Leaves, Spares, spared, spares-alike, clones, loosens, pins-it, known-here, with-worker}}

@@ -2,7 +2,7 @@
 use Rattle.std.specs.Prelude.{ℕ, ◌≡◌, ◌+◌, ◌⊎◌, Result, Ok, Err, IfOk, IfErr, IsSome}
 use Rattle.pagable_model.specs.declared.{error.Error.Error, numbers.{ArcRef.ArcRef, HandleNumber.HandleNumber, Kind.Kind}}
 use Rattle.{pagable_model.specs.declared.numbers.WorkerNumber.WorkerNumber, pagable_world.specs.{World.{Core, Alike, row_at}, declared.handles.HandleRow.HandleRow, Kinds.{loose_kind, HasKinds}}}
-use Rattle.{pagable_world.specs.Events.{IsEntry, with_entry_taken, with_worker}, pagable_loads.specs.{Telling.IsMade, Working.EntryFault}}
+use Rattle.{pagable_world.specs.Events.{IsEntry, with_entry_taken, with_worker}, pagable_loads.specs.Telling.IsMade}
 use Rattle.{pagable_world.specs.{declared.{answers.{Pinning.Pinning, Beginning.Beginning}, handles.Owner.Owner}, Calls.PinCall, LoadCalls.BeginCall}, pagable_loads.specs.declared.working.Taken.Taken}
 
 -- the reference stands for the handle that was made
@@ -21,11 +21,6 @@ pub record TakesEntry (w : Core) (place : ℕ) (n : WorkerNumber) (r : ArcRef) (
   pub is : r ≡ record { kind = record { 0 = loose_kind type }; node = row.node; handle = h }
   pub next : n.0 ≡ w.last.worker + 1
   pub leaves : Alike (with_worker (with_entry_taken w place h n)) w'
-
--- no worker comes for the entry, and nothing changes
-pub record LeavesEntry (w : Core) (place : ℕ) (e : Error) (w' : Core) : Type 0 where
-  pub why : EntryFault w place e
-  pub stays : Alike w w'
 
 abbrev pub Pins : Core → Owner → HandleNumber → Taken → Core → Type 0
 Pins w me through (Taken.Held h k) w' = (through ≡ h) × PinCall w me through (Ok (Pinning.Pinned k)) w'

@@ -1,8 +1,8 @@
 -- What contracts see of a pager, and the plain state that it tells.
 use Rattle.std.specs.{Arc.arc_value, declared.{sync.Arc.Arc, hash.{FoldHasher.FoldHasher, BuildHasherDefault.BuildHasherDefault}}, Global.Global, HashMap.{HashMap, get}, Option.option_map, Prelude.ℕ}
-use Rattle.std.specs.Prelude.{◌≡◌, Bool, true, false, if◌then◌else◌, List, Option, Some, None, is_some, nat_eq}
-use Rattle.{either.specs.declared.Either.Either, pagable_model.specs.declared.numbers.ArcRef.ArcRef}
-use Rattle.{pagable_model.specs.declared.numbers.HandleNumber.HandleNumber, pagable_world.specs.{Plain.{Blob, Error, Meaning, Shape, updated}, declared.handles.Owner.Owner, World.{Core, Values}}}
+use Rattle.std.specs.Prelude.{◌≡◌, Bool, true, false, if◌then◌else◌, Option, Some, None, is_some, nat_eq}
+use Rattle.either.specs.declared.Either.{Either}
+use Rattle.{pagable_model.specs.declared.numbers.HandleNumber.HandleNumber, pagable_world.specs.{Plain.{Blob, updated}, declared.handles.Owner.Owner, World.{Core, Values}}}
 use Rattle.{pagable_world.specs.{LoadCalls.{Given, from_cache, from_store}, Pager.{PagerState, WellFormed}}, pagable_tables.specs.{declared.tables.Tables.Tables, ByNumber.counts_at}}
 use Rattle.pagable_tables.specs.{Core.core_of, Falling.{has_value, pins_in}, Later.AreLater}
 use Rattle.pagable_tables.specs.Core as tables
@@ -47,38 +47,11 @@ state_in tells p = record { core = core_in tells p; counts = λ n. pins_in (coun
 abbrev pub telling : {S : Type 0} → (S → ℕ → Option Blob) → (S → Bool) → (S → ℕ) → Telling S
 telling stored closed failed = record { stored = stored; closed = closed; failed = failed }
 
--- What an environment's values are: their types and references, what they may mean, and why reading and writing may be refused; and how they are spelled.
-pub record Spelling (N E : Type 0) : Type 1 where
-  pub type_of : N → ℕ
-  pub refs_of : N → List ArcRef
-  pub means : N → Meaning ArcRef → Type 0
-  pub read_causes : ℕ → Error → Type 0
-  pub write_causes : ℕ → Error → Type 0
-  pub shape_of : E → ℕ → Option Shape
-  pub parts : E → ℕ → Shape
-  pub hash : List ℕ → List ℕ
-
-abbrev pub values_of : {N E : Type 0} → Spelling N E → E → Values N
-values_of g e =
-    record {
-      node_type = g.type_of;
-      references = g.refs_of;
-      means = g.means;
-      read_causes = g.read_causes;
-      write_causes = g.write_causes;
-      types = record { nodes = g.shape_of e; parts = g.parts e };
-      hash = g.hash;
-    }
-
-abbrev pub spelling : {N E : Type 0} → (N → ℕ) → (N → List ArcRef) → (N → Meaning ArcRef → Type 0) → (ℕ → Error → Type 0) → (ℕ → Error → Type 0) → (E → ℕ → Option Shape) → (E → ℕ → Shape) → (List ℕ → List ℕ) → Spelling N E
-spelling type_of refs_of means read_causes write_causes shape_of parts hash =
-    record { type_of = type_of; refs_of = refs_of; means = means; read_causes = read_causes; write_causes = write_causes; shape_of = shape_of; parts = parts; hash = hash }
-
--- the tables are whole, what loads own has come since they began, and the plain state
-pub record IsPager {N S E : Type 0} (tells : Telling S) (g : Spelling N E) (p : PagerView N S E) : Type 0 where
+-- the tables are whole, what loads own has come since they began, and the plain state is well-formed for what the environment says of values
+pub record IsPager {N S E : Type 0} (tells : Telling S) (says : E → Values N) (p : PagerView N S E) : Type 0 where
   pub tables : tables.IsWhole p.tables
   pub later : AreLater p.tables
-  pub state : WellFormed (values_of g p.environment) (state_in tells p)
+  pub state : WellFormed (says p.environment) (state_in tells p)
 
 -- values, storage and environment are the same
 pub record OnlyTables {N S E : Type 0} (old new : PagerView N S E) : Type 0 where

@@ -54,10 +54,8 @@ where
         ensures step { RecallCall (core_in (telling S.stored S.is_closed S.failed) self.old.pager.now) Owner.Caller kind key (seen_as (λ cell. cell.handle) result) (core_in (telling S.stored S.is_closed S.failed) self.new.pager.now) }
         ensures only { OnlyTables self.old.pager.now self.new.pager.now }
     {
-        match self.pager.cache_get(kind, key) {
-            Ok(handle) => Ok(ArcCell { kind, key, handle }),
-            Err(e) => Err(e),
-        }
+        let handle = self.pager.cache_get(kind, key)?;
+        Ok(ArcCell { kind, key, handle })
     }
 
     /// The cache learns a handle's node, or another handle is answered, as by the pager's call of this name; refused as that.

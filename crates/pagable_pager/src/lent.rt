@@ -1,7 +1,7 @@
 //! A pager that is lent, as an access, and as that of a page-out worker.
 
 ghost use Rattle.std.specs.Prelude.{◌≡◌, true};
-ghost use Rattle.{pagable_pager.specs.View.{core_in, state_in, telling, spelling, values_of, is_at_work}, pagable_world.specs.Pager.WellFormed};
+ghost use Rattle.{pagable_loads.specs.Telling.values_at, pagable_pager.specs.View.{core_in, state_in, telling, is_at_work}, pagable_world.specs.Pager.WellFormed};
 
 use crate::pager::Pager;
 use either::Either;
@@ -63,8 +63,7 @@ fn settled<E: Env, S: PagableStorage<E>, X: Drop>(answer: X, pager: &Pager<E, S>
 where
     E::Node: NodeSet<E>,
     ensures same { result ≡ answer }
-    ensures whole { WellFormed (values_of (spelling E.Node.type_of E.Node.refs_of E.Node.means E.Node.read_causes E.Node.write_causes E.Node.shape_of E.parts E.Hash.digest) pager.now.environment)
-        (state_in (telling S.stored S.is_closed S.failed) pager.now) }
+    ensures whole { WellFormed (values_at E.Node.NodeSet E.Env E.Hash.KeyHash pager.now.environment) (state_in (telling S.stored S.is_closed S.failed) pager.now) }
 {
     pager.is_whole();
     answer
@@ -237,10 +236,7 @@ where
     }
 
     fn worker_begin(&mut self) -> Result<WorkerNumber, Error> {
-        let begun = settled(self.pager.worker_begin(), self.pager);
-        let Ok(worker) = begun else {
-            return begun;
-        };
+        let worker = settled(self.pager.worker_begin(), self.pager)?;
         self.me = Owner::Worker(worker);
         Ok(worker)
     }

@@ -1,10 +1,11 @@
 //! The pager: values in memory, in step with tables of who holds them, over a storage of blobs.
 
 ghost use Rattle.std.specs.{Prelude.◌≡◌, Arc.arc_value, Option.option_map};
-ghost use Rattle.{pagable_world.specs.{World.seen_as, Pager.{IsNew, ValueCall, WellFormed}}, pagable_loads.specs.Starting.Shares};
+ghost use Rattle.{pagable_world.specs.{World.seen_as, Pager.{IsNew, ValueCall, WellFormed}}, pagable_loads.specs.{Starting.Shares, Telling.values_at}};
 ghost use Rattle.{pagable_core.specs.Data.blob_of, pagable_model.specs.Blob.key_of, pagable_world.specs.Calls.{FetchCall, StoreCall, FlushCall, CloseCall}};
-ghost use Rattle.pagable_pager.specs.View.{core_in, state_in, telling, spelling, values_of, OnlyStorage, FewerValues};
+ghost use Rattle.pagable_pager.specs.View.{core_in, state_in, telling, OnlyStorage, FewerValues};
 
+// What ends in `_by` is the call of that name for an owner, who is the caller or a worker at work.
 pub mod births;
 pub mod handles;
 pub mod lists;
@@ -38,7 +39,7 @@ where
     E::Node: NodeSet<E>,
 {
     ghost use Rattle.std.specs.Coded.{codes};
-    ghost use Rattle.{pagable_pager.specs.View.{PagerView, IsPager, telling, spelling}, indexmap.specs.Layout.hash_map_code};
+    ghost use Rattle.{pagable_loads.specs.Telling.values_at, pagable_pager.specs.View.{PagerView, IsPager, telling}, indexmap.specs.Layout.hash_map_code};
 
     ghost Value = { PagerView E.Node S E };
 
@@ -46,7 +47,7 @@ where
 
     ghost view = { λ p. record { tables = p.tables; values = p.values; storage = p.storage; environment = p.env } };
 
-    ghost invariant = { λ p. IsPager (telling S.stored S.is_closed S.failed) (spelling E.Node.type_of E.Node.refs_of E.Node.means E.Node.read_causes E.Node.write_causes E.Node.shape_of E.parts E.Hash.digest)
+    ghost invariant = { λ p. IsPager (telling S.stored S.is_closed S.failed) (values_at E.Node.NodeSet E.Env E.Hash.KeyHash)
         (record { tables = p.tables; values = p.values; storage = p.storage; environment = p.env }) };
 }
 
@@ -116,8 +117,7 @@ where
 
     /// What is true of every pager: each kept count is the number of pinning handles, a value is in memory exactly while its node is pinned or has no key, and it owns the handles of its references.
     pub fn is_whole(&self)
-        ensures { WellFormed (values_of (spelling E.Node.type_of E.Node.refs_of E.Node.means E.Node.read_causes E.Node.write_causes E.Node.shape_of E.parts E.Hash.digest) self.now.environment)
-            (state_in (telling S.stored S.is_closed S.failed) self.now) }
+        ensures { WellFormed (values_at E.Node.NodeSet E.Env E.Hash.KeyHash self.now.environment) (state_in (telling S.stored S.is_closed S.failed) self.now) }
     {
         let _tables = &self.tables;
     }

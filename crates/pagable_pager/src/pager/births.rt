@@ -300,7 +300,6 @@ where
         self.load_adopt_by(Owner::Caller, alloc, load, kind, key, node)
     }
 
-    /// The same for this owner.
     pub(crate) fn load_adopt_by(
         &mut self,
         me: Owner,
@@ -372,7 +371,6 @@ where
         self.load_end_by(Owner::Caller, alloc, load, value)
     }
 
-    /// The same for this owner.
     pub(crate) fn load_end_by(
         &mut self,
         me: Owner,

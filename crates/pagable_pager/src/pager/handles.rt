@@ -6,11 +6,11 @@ ghost use Rattle.{pagable_world.specs.{Calls.{KeyCall, AwayCall, NodeCall, TypeC
 ghost use Rattle.{pagable_loads.specs.Starting.{StartsPin, is_unpinned_at}, pagable_pager.specs.{View.{core_in, telling, Calls, OnlyTables, is_at_work}, Made.Refers}};
 
 use crate::pager::Pager;
+use crate::pager::loads::cell_type;
 use pagable_codec::{Env, NodeSet};
 use pagable_core::PagableStorage;
 use pagable_loads::PinStart;
 use pagable_model::{ArcRef, Error, HandleNumber, Kind, LoadNumber, NodeNumber, OptionalDataKey};
-use pagable_tables::rows::LoadRoot;
 use pagable_tables::{handles, kinds, loads, lookups, making, pinning, turning};
 use pagable_world::handles::Owner;
 use pagable_world::{Beginning, Pinning};
@@ -27,7 +27,6 @@ where
         self.clone_by(Owner::Caller, handle)
     }
 
-    /// The same for this owner.
     pub(crate) fn clone_by(
         &mut self,
         me: Owner,
@@ -56,7 +55,6 @@ where
         self.pin_by(Owner::Caller, handle)
     }
 
-    /// The same for this owner.
     pub(crate) fn pin_by(&mut self, me: Owner, handle: HandleNumber) -> Result<Pinning, Error>
         requires { is_at_work (core_in (telling S.stored S.is_closed S.failed) self.old) me ≡ true }
         ensures { Calls (telling S.stored S.is_closed S.failed) self.old (λ w w'. PinCall w me handle result w') self.new }
@@ -140,13 +138,8 @@ where
     pub fn load_type(&self, load: LoadNumber) -> Option<u32>
         ensures { result ≡ option_map (λ (r : Reading). r.node_type) (reading_of_load load ((core_in (telling S.stored S.is_closed S.failed) self.now).loads load.0)) }
     {
-        match loads::load_of(&self.tables.loads, load.0) {
-            Some(row) => match row.root {
-                LoadRoot::Cell(_, node_type, _) => Some(node_type),
-                LoadRoot::Key => None,
-            },
-            None => None,
-        }
+        let row = loads::load_of(&self.tables.loads, load.0)?;
+        cell_type(row.root)
     }
 
     /// A load of the cell of a handle, whose value isn't in memory if there is one.
@@ -188,7 +181,6 @@ where
         self.begin_pin_by(Owner::Caller, handle)
     }
 
-    /// The same for this owner.
     pub(crate) fn begin_pin_by(
         &mut self,
         me: Owner,
@@ -199,8 +191,7 @@ where
     {
         match self.is_paged_out(handle) {
             Ok(true) => self.begin_load(me, handle),
-            Ok(false) => self.pin_here(me, handle),
-            Err(_) => self.pin_here(me, handle),
+            Ok(false) | Err(_) => self.pin_here(me, handle),
         }
     }
 }

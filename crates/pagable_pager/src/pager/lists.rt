@@ -23,7 +23,6 @@ where
         self.take_pending_by(Owner::Caller, place)
     }
 
-    /// The same for this owner.
     pub(crate) fn take_pending_by(&mut self, me: Owner, place: usize) -> Option<HandleNumber>
         requires { is_at_work (core_in (telling S.stored S.is_closed S.failed) self.old) me ≡ true }
         ensures { Calls (telling S.stored S.is_closed S.failed) self.old (λ w w'. TakeCall w me place result w') self.new }
@@ -40,7 +39,6 @@ where
         self.schedule_for_paging_by(Owner::Caller, handle)
     }
 
-    /// The same for this owner.
     pub(crate) fn schedule_for_paging_by(
         &mut self,
         me: Owner,
@@ -124,7 +122,6 @@ where
         self.unpin_by(Owner::Caller, handle)
     }
 
-    /// The same for this owner.
     pub(crate) fn unpin_by(&mut self, me: Owner, handle: HandleNumber) -> Result<(), Error>
         requires { is_at_work (core_in (telling S.stored S.is_closed S.failed) self.old) me ≡ true }
         ensures { CallsLess (telling S.stored S.is_closed S.failed) self.old (λ w w'. UnpinCall w me handle result w') self.new }
@@ -142,7 +139,6 @@ where
         self.release_by(Owner::Caller, handle)
     }
 
-    /// The same for this owner.
     pub(crate) fn release_by(&mut self, me: Owner, handle: HandleNumber) -> Result<(), Error>
         requires { is_at_work (core_in (telling S.stored S.is_closed S.failed) self.old) me ≡ true }
         ensures { CallsLess (telling S.stored S.is_closed S.failed) self.old (λ w w'. ReleaseCall w me handle result w') self.new }
@@ -160,7 +156,6 @@ where
         self.set_data_key_by(Owner::Caller, handle, key)
     }
 
-    /// The same for this owner.
     pub(crate) fn set_data_key_by(
         &mut self,
         me: Owner,
@@ -183,7 +178,6 @@ where
         self.load_drop_by(Owner::Caller, load)
     }
 
-    /// The same for this owner.
     pub(crate) fn load_drop_by(&mut self, me: Owner, load: LoadNumber) -> Result<(), Error>
         requires { is_at_work (core_in (telling S.stored S.is_closed S.failed) self.old) me ≡ true }
         ensures { CallsLess (telling S.stored S.is_closed S.failed) self.old (λ w w'. DropCall w me load result w') self.new }
@@ -201,7 +195,6 @@ where
         self.load_take_by(Owner::Caller, load, named)
     }
 
-    /// The same for this owner.
     pub(crate) fn load_take_by(
         &mut self,
         me: Owner,

@@ -18,7 +18,7 @@ use std::alloc::Global;
 use std::sync::Arc;
 
 /// The type of the cell's value, where it is a load of one.
-fn cell_type(root: LoadRoot) -> Option<u32>
+pub(crate) fn cell_type(root: LoadRoot) -> Option<u32>
     ensures { result ≡ type_of_root (root_in root) }
 {
     match root {
@@ -39,7 +39,6 @@ where
         self.load_key_by(Owner::Caller, key)
     }
 
-    /// The same for this owner.
     pub(crate) fn load_key_by(&mut self, me: Owner, key: DataKey) -> Result<Beginning, Error>
         requires { is_at_work (core_in (telling S.stored S.is_closed S.failed) self.old) me ≡ true }
         ensures { Calls (telling S.stored S.is_closed S.failed) self.old (λ w w'. BeginKeyCall w me key result w') self.new }
@@ -56,7 +55,6 @@ where
         self.load_begin_by(Owner::Caller, handle)
     }
 
-    /// The same for this owner.
     pub(crate) fn load_begin_by(
         &mut self,
         me: Owner,
@@ -139,7 +137,6 @@ where
         self.load_fetch_by(Owner::Caller, alloc, load, want)
     }
 
-    /// The same for this owner.
     pub(crate) fn load_fetch_by(
         &mut self,
         me: Owner,
@@ -172,7 +169,6 @@ where
         self.load_lazy_by(Owner::Caller, alloc, load, kind, key)
     }
 
-    /// The same for this owner.
     pub(crate) fn load_lazy_by(
         &mut self,
         me: Owner,

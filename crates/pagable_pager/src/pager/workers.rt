@@ -1,9 +1,9 @@
 //! What page-out workers ask of the pager.
 
 ghost use Rattle.std.specs.Prelude.{◌≡◌, true, ◌<◌, ◌≤◌, length, IfSome, IfNone, IfOk, IfErr};
-ghost use Rattle.pagable_world.specs.{Kinds.{is_loose, loose_kind, HasKinds, HasNoKinds}, World.key_at};
+ghost use Rattle.pagable_world.specs.{Kinds.{is_loose, loose_kind, HasKinds, HasNoKinds}, World.{Alike, key_at}};
 ghost use Rattle.{pagable_world.specs.{Cascade.FallsAnyhow, Calls.Looks, Workers.{claim_fault, is_workers_at, WorkerEnds}, Events.IsEntry}, pagable_tables.specs.Giving.{BeginsWorker, TakesWorker}};
-ghost use Rattle.{pagable_loads.specs.Working.TakesReference, pagable_pager.specs.{Made.{PinsClone, TakesEntry, LeavesEntry}, View.{core_in, telling, OnlyTables, is_at_work, Calls, CallsLess}}};
+ghost use Rattle.{pagable_loads.specs.Working.{EntryFault, TakesReference}, pagable_pager.specs.{Made.{PinsClone, TakesEntry}, View.{core_in, telling, OnlyTables, is_at_work, Calls, CallsLess}}};
 
 use crate::pager::Pager;
 use pagable_codec::{Env, NodeSet};
@@ -74,7 +74,7 @@ where
     #[tactic(auto, using(crate::proofs::Working::starting))]
     pub(crate) fn worker_listed(&mut self, place: usize) -> Result<(WorkerNumber, ArcRef), Error>
         ensures begins { IfOk result (λ b. TakesEntry (core_in (telling S.stored S.is_closed S.failed) self.old) place b.0 b.1 (core_in (telling S.stored S.is_closed S.failed) self.new)) }
-        ensures refused { IfErr result (λ e. LeavesEntry (core_in (telling S.stored S.is_closed S.failed) self.old) place e (core_in (telling S.stored S.is_closed S.failed) self.new)) }
+        ensures refused { IfErr result (λ e. EntryFault (core_in (telling S.stored S.is_closed S.failed) self.old) place e × Alike (core_in (telling S.stored S.is_closed S.failed) self.old) (core_in (telling S.stored S.is_closed S.failed) self.new)) }
         ensures only { OnlyTables self.old self.new }
     {
         let Some((row, node_type, _)) = self.entry(place) else {

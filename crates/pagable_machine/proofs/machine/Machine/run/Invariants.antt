@@ -1,15 +1,13 @@
-use Rattle.pagable_machine.proofs.{Running.SoFar, Words.◌+◌, Words.◌≤◌, Words.length, Words.vec_len, Words.vec_capacity, Words.spelling, Words.telling, Words.over}
+use Rattle.pagable_machine.proofs.{Running.SoFar, Words.◌+◌, Words.◌≤◌, Words.length, Words.vec_len, Words.vec_capacity, Words.values_at, Words.telling, Words.over}
 use Rattle.pagable_machine.proofs.machine.Machine.run.Given as goal
 
 -- the events so far have happened, and there is room for the replies to the rest
 abbrev pub invariant-loop-event : goal.invariant-loop-event
 invariant-loop-event g l =
     let tells = telling g.S.PagableStorage.stored g.S.PagableStorage.is_closed g.S.PagableStorage.failed in
-    let says = spelling g.E.Node.NodeSet.type_of g.E.Node.NodeSet.refs_of g.E.Node.NodeSet.means g.E.Node.NodeSet.read_causes g.E.Node.NodeSet.write_causes g.E.Node.NodeSet.shape_of g.E.Env.parts
-    g.E.Hash.KeyHash.digest in
     record {
       room : length l.rest.items + vec_len l.replies ≤ vec_capacity l.replies;
-      run : SoFar tells says l.fn.self l.fn.events.items l.rest.items l.replies.items (over l.self-inside.pager l.self-inside.held);
+      run : SoFar tells (λ e. values_at g.E.Node.NodeSet g.E.Env g.E.Hash.KeyHash e) l.fn.self l.fn.events.items l.rest.items l.replies.items (over l.self-inside.pager l.self-inside.held);
     }
 
 abbrev pub decreases-loop-event : goal.decreases-loop-event
