@@ -1,7 +1,7 @@
 //! What follows when handles are given up, to its end.
 
 ghost use Rattle.std.specs.Prelude.{◌≡◌, ℕ, ◌+◌, ◌*◌, ◌≤◌, ◌==◌, ◌||◌, ◌⊎◌, [], List, length, Bool, false, if◌then◌else◌, nat_eq, None, slice_get, Some};
-ghost use Rattle.pagable_world.specs.Kinds.is_owner;
+ghost use Rattle.pagable_world.specs.Kinds.{is_owner};
 ghost use Rattle.{pagable_world.specs.{World.Core, Cascade.Falls, declared.handles.Owner.Owner}, pagable_tables.specs.{Live.{live, alive, AreSound}, ByNumber.counts_at, Falling.IsFalling}};
 ghost use Rattle.{pagable_tables.specs.{Falling.{is_valued, owns_nothing, Sheds, is_node}, Onward.{with_tables, told_by, SoFar, IsApart}}, indexmap.specs.IndexMap.get};
 

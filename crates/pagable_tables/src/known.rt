@@ -1,7 +1,7 @@
 //! What the cache gives and learns.
 
 ghost use Rattle.std.specs.{Prelude.{◌≡◌, ℕ, Bool, Option, Some, IfSome, IfNone, IfOk, IfErr, false}, Option.option_map};
-ghost use Rattle.pagable_model.specs.declared.numbers.NodeNumber.NodeNumber;
+ghost use Rattle.pagable_model.specs.declared.numbers.NodeNumber.{NodeNumber};
 ghost use Rattle.{pagable_world.specs.{Plain.{Blob, type_of}, Kinds.fits_mode, World.{usable, type_at}, Refusals.Owns, Calls.{RecallCall, offer_fault}}, pagable_tables.specs.Asking.Offered};
 ghost use Rattle.pagable_tables.specs.{Core.{core_of, plain_of, IsWhole, MayHold}, Later.AreLater, Doing.Does};
 

@@ -1,7 +1,7 @@
 //! The nodes by their numbers, seen as two functions of a number: what is counted of each, and what its value refers to.
 
 ghost use Rattle.std.specs.{Prelude.{◌≡◌, ℕ, ◌≢◌, ◌++◌, [], Some, None, IsSome, IfNone, OnOk, OnErr, IsOk, ◌<◌, ◌∷◌}, Option.option_to_list};
-ghost use Rattle.indexmap.specs.IndexMap.spare;
+ghost use Rattle.indexmap.specs.IndexMap.{spare};
 ghost use Rattle.pagable_tables.specs.ByNumber.{counts_at, refs_at};
 
 use crate::rows::{Counts, NodeRow};

@@ -1,6 +1,6 @@
 //! Pins of loose handles.
 
-ghost use Rattle.std.specs.Prelude.◌≡◌;
+ghost use Rattle.std.specs.Prelude.{◌≡◌};
 ghost use Rattle.{pagable_world.specs.{Kinds.is_loose, Refusals.Owns, Calls.PinCall}, pagable_tables.specs.{Owning.PinsHere, Core.{plain_of, IsWhole, MayHold}, Doing.Does}};
 
 use crate::kinds::is_loose;
