@@ -1,9 +1,10 @@
 -- The live rows after a place changes, and how halving finds one.
-use Rattle.pagable_tables.proofs.Words.{◌≡◌, ℕ, ◌+◌, ◌<◌, ◌≤◌, ◌==◌, Bool, true, false, if◌then◌else◌, List, [], ◌∷◌, ◌++◌, length, get_or, set, suc, zero, sum_by, filter, refl, ap, sym, subst, ◌∙◌}
-use Rattle.pagable_tables.proofs.Words.{arith, Some, None, slice_get, nat_tests, sum_by-cons, All-set, ◌⊎◌, cases_eq, get_or_default, get_or_from_slice_get, slice_get_within, sum_by-set}
-use Rattle.pagable_tables.proofs.Words.{get_or-le-sum_by, sum_by-le-sum_by, HandleRow, one, changed, find_row, is_handle, left_rows, IsNext, live, alive, is_live_place, IsBefore, Place, AreSound}
-use Rattle.pagable_tables.proofs.Words.{Handles, All-push, all_pairs_push, length-append, slice_get-get_or, AllPairs, times, take, get_or-set_other, length-set, get_or-set_at, drop, ◌≢◌}
-use Rattle.{pagable_tables.proofs.Left.{left-none, ones}, std.proofs.lemmas.List.{get_or-take, get_or-drop, length-take-le, length-drop, set_split, set-get_or}}
+use Rattle.pagable_tables.proofs.Words.{◌≡◌, ℕ, ◌+◌, ◌<◌, ◌≤◌, ◌==◌, true, false, if◌then◌else◌, List, [], ◌∷◌, ◌++◌, length, get_or, set, suc, zero, sum_by, filter, refl, ap, sym, subst, ◌∙◌, arith}
+use Rattle.pagable_tables.proofs.Words.{Some, None, slice_get, nat_tests, sum_by-cons, All-set, ◌⊎◌, cases_eq, get_or_default, get_or_from_slice_get, slice_get_within, sum_by-set, sum_by-le-sum_by}
+use Rattle.pagable_tables.proofs.Words.{HandleRow, one, changed, find_row, is_handle, left_rows, IsNext, live, alive, is_live_place, IsBefore, Place, AreSound, Handles, All-push, all_pairs_push}
+use Rattle.pagable_tables.proofs.{Words.{length-append, slice_get-get_or, AllPairs, times, take, get_or-set_other, length-set, get_or-set_at, drop, ◌≢◌, map-append, filter-append}, Left.left-none}
+use Rattle.pagable_tables.proofs.Left.{ones}
+use Rattle.std.proofs.lemmas.List.{get_or-take, get_or-drop, length-take-le, length-drop, set_split, set-get_or}
 
 -- the rows but for one number
 abbrev without : ℕ → List HandleRow → List HandleRow
@@ -39,10 +40,7 @@ weigh f s = if s.is_live then f s.row else 0
 
 pub sum-live : (f : HandleRow → ℕ) (ss : List Place) → sum_by f (live ss) ≡ sum_by (weigh f) ss
 sum-live f [] = refl
-sum-live f (s ∷ ss) = by s.is_live (sum-live f ss) ∙ sym (sum_by-cons (weigh f) s ss)
-  where
-    by : (b : Bool) → sum_by f (live ss) ≡ sum_by (weigh f) ss → sum_by f (if b then s.row ∷ live ss else live ss) ≡ (if b then f s.row else 0) + sum_by (weigh f) ss
-    by b0 h = grind (arith, nat_tests, sum_by-cons)
+sum-live f (s ∷ ss) = grind (arith, nat_tests, sum-live f ss, sum_by-cons (weigh f) s ss, sum_by-cons f s.row (live ss))
 
 live-append : (xs ys : List Place) → live (xs ++ ys) ≡ live xs ++ live ys
 live-append [] ys = refl
@@ -63,12 +61,10 @@ changed-none q f (x ∷ xs) none = let a = sum_by-cons (λ h. one (is_handle q h
 
 changed-one : (q : ℕ) (f : HandleRow → HandleRow) (xs ys : List HandleRow) (x : HandleRow) → x.number.0 ≡ q → times (is_handle q) xs ≡ 0 → times (is_handle q) ys ≡ 0
     → changed (is_handle q) f (xs ++ x ∷ ys) ≡ xs ++ f x ∷ ys
-changed-one q f [] ys x here below above = grind (arith, nat_tests, changed-none q f ys)
-changed-one q f (y ∷ xs) ys x here below above = let a = sum_by-cons (λ h. one (is_handle q h)) y xs in grind (arith, nat_tests, changed-one q f xs ys x)
+changed-one q f xs ys x here below above = grind (arith, nat_tests, map-append, changed-none q f xs, changed-none q f ys)
 
 left-one : (q : ℕ) (xs ys : List HandleRow) (x : HandleRow) → x.number.0 ≡ q → times (is_handle q) xs ≡ 0 → times (is_handle q) ys ≡ 0 → without q (xs ++ x ∷ ys) ≡ xs ++ ys
-left-one q [] ys x here below above = grind (arith, nat_tests, left-none q ys)
-left-one q (y ∷ xs) ys x here below above = let a = sum_by-cons (λ h. one (is_handle q h)) y xs in grind (arith, nat_tests, left-one q xs ys x)
+left-one q xs ys x here below above = grind (arith, nat_tests, filter-append, left-none q xs, left-none q ys)
 
 find-one : (q : ℕ) (xs ys : List HandleRow) (x : HandleRow) → x.number.0 ≡ q → times (is_handle q) xs ≡ 0 → find_row q (xs ++ x ∷ ys) ≡ Some x
 unfolding find_row
@@ -134,9 +130,7 @@ sum-live-set f ss i row new at =
     omega (arith, sum_by-set (weigh f) ss i new (alive row) (slice_get_within ss i (alive row) at), sum-live f ss, sum-live f (set ss i new))
 
 pub row-le-live : (f : HandleRow → ℕ) (ss : List Place) (i : ℕ) (row : HandleRow) → slice_get ss i ≡ Some (alive row) → f row ≤ sum_by f (live ss)
-row-le-live f ss i row at =
-    let is : weigh f (get_or ss i (alive row)) ≡ weigh f (alive row) = ap (weigh f) (get_or_from_slice_get ss i (alive row) (alive row) at) in
-    omega (arith, get_or-le-sum_by (weigh f) ss i (alive row) (slice_get_within ss i (alive row) at), sum-live f ss)
+row-le-live f ss i row at = omega (arith, sum-live-set f ss i row (record { row = row; is_live = false }) at)
 
 pub length-live-set : (ss : List Place) (i : ℕ) (row : HandleRow) (new : Place) → slice_get ss i ≡ Some (alive row) → length (live (set ss i new)) + 1 ≡ length (live ss) + one new.is_live
 length-live-set ss i row new at =
@@ -146,10 +140,7 @@ length-live-set ss i row new at =
 pub none-live : (q : ℕ) (ss : List Place) → ((k : ℕ) (d : Place) → k < length ss → (get_or ss k d).row.number.0 ≡ q → (get_or ss k d).is_live ≡ false) → find_row q (live ss) ≡ None
 unfolding find_row
 none-live q [] h = refl
-none-live q (s ∷ ss) h = by s.is_live refl (none-live q ss (λ k d lt e. h (suc k) d (omega arith) e))
-  where
-    by : (b : Bool) → s.is_live ≡ b → find_row q (live ss) ≡ None → find_row q (if b then s.row ∷ live ss else live ss) ≡ None
-    by b e rest = grind (arith, nat_tests)
+none-live q (s ∷ ss) h = let a = h 0 s (omega arith) in grind (arith, nat_tests, none-live q ss (λ k d lt e. h (suc k) d (omega arith) e))
 
 pub row-got : (ss : List Place) (i : ℕ) (p : Place) (q : ℕ) → AllPairs IsBefore ss → slice_get ss i ≡ Some p → p.is_live ≡ true → p.row.number.0 ≡ q → find_row q (live ss) ≡ Some p.row
 row-got ss i p q ordered at is number = subst (λ n. find_row n (live ss) ≡ Some p.row) number (row-live ss i p.row ordered (at ∙ ap (λ b. Some (record { row = p.row; is_live = b })) is))

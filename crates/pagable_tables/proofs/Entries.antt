@@ -1,10 +1,10 @@
 -- What is known of handles and cells once a handle has gone: what still counts, which handle is a last pin, and why an entry did not come. And the list gives up all that it owns.
-use Rattle.pagable_tables.proofs.Words.{◌≡◌, ℕ, ◌+◌, ◌≤◌, ◌&&◌, Bool, true, false, not, if◌then◌else◌, List, refl, ap, ◌∙◌, arith, Option, Some, inl, inr, is_some, nat_lt, nat_eq, nat_tests}
-use Rattle.pagable_tables.proofs.Words.{sum_by-append, OptionalDataKey, HandleRow, one, times, if_there, is_at, is_pin, is_owned_by, owner_value, held, pins, has_key, Core, Cell, IsWithin, IsClosed}
-use Rattle.pagable_tables.proofs.Words.{is_keyed, is_outside, left_rows, held_outside, pins_outside, Counts, Holdings, live, counts_at, cell_in, HasFallen, SoFar, ◌⊎◌, Owner, Mode, is_shared}
-use Rattle.pagable_tables.proofs.Words.{is_pinning, is_listing, with_tables, length, Error, IsListRefusal, ◌<◌, ◌++◌, [], ◌∷◌, filter, map, sym, None, append-nil, sum_by-cons, sum_by-le-sum_by}
-use Rattle.pagable_tables.proofs.{Words.{HandleNumber, is_handle, find_row, is_owned_in, is_listed, IsApart}, Left.{times-left, entries-none, times-le, sum-most, and_one, of_list}}
-use Rattle.pagable_tables.proofs.{Alive.none-found, Begun.shut-then, keeps.Rows.{found-among, only-row}}
+use Rattle.pagable_tables.proofs.Words.{◌≡◌, ℕ, ◌+◌, ◌≤◌, ◌&&◌, Bool, true, false, not, if◌then◌else◌, List, refl, ap, ◌∙◌, arith, Option, Some, is_some, nat_lt, nat_eq, nat_tests, sum_by-append}
+use Rattle.pagable_tables.proofs.Words.{OptionalDataKey, HandleRow, one, times, if_there, is_at, is_pin, is_owned_by, owner_value, held, pins, has_key, Core, Cell, IsWithin, IsClosed, is_keyed}
+use Rattle.pagable_tables.proofs.Words.{is_outside, left_rows, held_outside, pins_outside, Counts, Holdings, live, counts_at, cell_in, HasFallen, SoFar, ◌⊎◌, Owner, Mode, is_shared, is_pinning}
+use Rattle.pagable_tables.proofs.Words.{is_listing, with_tables, length, Error, IsListRefusal, ◌<◌, ◌++◌, [], ◌∷◌, filter, map, sym, None, append-nil, sum_by-cons, sum_by-le-sum_by, HandleNumber}
+use Rattle.pagable_tables.proofs.{Words.{is_handle, find_row, is_owned_in, is_listed, IsApart}, Left.{times-left, entries-none, times-le, sum-most, and_one, of_list}, Alive.none-found}
+use Rattle.pagable_tables.proofs.{Begun.shut-then, keeps.Rows.{found-among, only-row}}
 use Rattle.pagable_world.specs.Pager as pager
 
 -- what is outside the one set is outside the other, or between them
@@ -24,11 +24,9 @@ module _ {before w : Core} {given : ℕ → Bool} {lists : Bool} {t : Holdings} 
   lost : (final : List HandleRow) (n : ℕ) (keyed : Bool) → is_keyed w n ≡ keyed → (held n (live t.handles.places.items) ≡ 0 → held n final ≡ 0)
       → HasFallen (counts_at t.nodes) (live t.handles.places.items) n
       → (if keyed then nat_eq (pins_outside w.rows s n) 0 else nat_eq (held n final) 0 && nat_eq (held_outside w.rows s n) 0) ≡ true
-  lost final n true e bare down =
+  lost final n b0 e bare down =
       let d : pins n (live t.handles.places.items) ≤ held n (live t.handles.places.items) = times-le (is_pin n) (is_at n) (live t.handles.places.items) (λ h. grind (arith, nat_tests)) in
-      grind (arith, nat_tests, counted f (is_pin n), cut (is_pin n) f.gone s w.rows)
-  lost final n false e bare (inl none) = grind (arith, nat_tests, counted f (is_at n), cut (is_at n) f.gone s w.rows)
-  lost final n false e bare (inr both) = let c = f.cells n in let k = both.0 in absurd (grind (arith, nat_tests))
+      grind (arith, nat_tests, counted f (is_pin n), cut (is_pin n) f.gone s w.rows, counted f (is_at n), cut (is_at n) f.gone s w.rows, f.cells n)
 
   -- no handle outside the set is left that the value owned
   pub forced : (final : List HandleRow) (n : ℕ) → (held n (live t.handles.places.items) ≡ 0 → held n final ≡ 0) → HasFallen (counts_at t.nodes) (live t.handles.places.items) n

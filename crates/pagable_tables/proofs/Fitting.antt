@@ -1,8 +1,8 @@
 -- A handle is given up: handles and nodes fit again.
-use Rattle.pagable_tables.proofs.Words.{◌≡◌, ℕ, ◌+◌, ◌-◌, ◌<◌, ◌≤◌, ◌==◌, ◌&&◌, ◌||◌, Bool, true, false, if◌then◌else◌, List, [], ◌∷◌, ◌++◌, length, sum_by, ap, sym, ◌∙◌, subst, arith, Option, Some}
-use Rattle.pagable_tables.proofs.Words.{None, inl, inr, ◌⊎◌, ◌≢◌, not, nat_tests, cases_eq, sum_by-cons, sum_by-le-sum_by, sum_by_push, ArcRef, HandleRow, one, held, pins, is_pin, is_at}
-use Rattle.pagable_tables.proofs.Words.{is_pinning, is_handle, owner_value, Counts, pins_in, holds_in, falls_in, next_in, keyed_in, Chain, Right, is_fallen_by, after, is_new, Fits}
-use Rattle.pagable_tables.proofs.Words.{entry, owns, owns_nothing, named, often, unpinned, CellsStay, HasFallen, Holdings, IsFalling, live, counts_at, has_value, landed}
+use Rattle.pagable_tables.proofs.Words.{◌≡◌, ℕ, ◌+◌, ◌-◌, ◌<◌, ◌≤◌, ◌==◌, ◌&&◌, Bool, true, false, if◌then◌else◌, List, [], ◌∷◌, ◌++◌, length, sum_by, ap, sym, ◌∙◌, subst, arith, Option, Some, None}
+use Rattle.pagable_tables.proofs.Words.{◌≢◌, nat_tests, cases_eq, sum_by-cons, sum_by-le-sum_by, sum_by_push, ArcRef, HandleRow, one, held, pins, is_pin, is_at, is_pinning, is_handle, owner_value}
+use Rattle.pagable_tables.proofs.Words.{Counts, pins_in, holds_in, falls_in, next_in, Chain, Right, is_fallen_by, after, is_new, Fits, entry, owns, owns_nothing, named, often, unpinned, HasFallen}
+use Rattle.pagable_tables.proofs.Words.{Holdings, IsFalling, live, counts_at, has_value, landed}
 
 -- 1 for a handle that pins the node, for one of it, for the handle q that its value owns, and for the handle q
 abbrev pub pin_of : ℕ → HandleRow → ℕ
@@ -31,9 +31,6 @@ pin-here x = grind (arith, nat_tests)
 pub held-here : (x : HandleRow) → handle_of x.node.0 x ≡ 1
 held-here x = grind (arith, nat_tests)
 
-is-new : (w g : Bool) → is_new w (w || (not w && g)) ≡ (not w && g)
-is-new w g = grind (arith, nat_tests)
-
 in-none : (n : ℕ) (stack : List ℕ) (m : ℕ) → often n stack ≡ 0 → 0 < often m stack → m ≢ n
 in-none n stack m none some e = let a = ap (λ k. often k stack) e in absurd (omega arith)
 
@@ -57,14 +54,7 @@ module _ (at at' : ℕ → Option Counts) (refs refs' : ℕ → List ArcRef) (ro
   given-chain x1 e = grind (arith, nat_tests, chain-frame, in-none)
 
   given-marked : (b : Bool) → now_falls ≡ b → (n : ℕ) → often n (if b then x.node.0 ∷ stack else stack) ≡ one (falls_in (at' n))
-  given-marked true e n =
-      elim (cases_eq n x.node.0) [
-        | inl same' ↦
-            let goal : often x.node.0 (x.node.0 ∷ stack) ≡ one (falls_in (at' x.node.0)) = let a = sum_by-cons (λ y. one (y == x.node.0)) x.node.0 stack in grind (arith, nat_tests) in
-            subst (λ m. often m (x.node.0 ∷ stack) ≡ one (falls_in (at' m))) (sym same') goal
-        | inr other ↦ let a = sum_by-cons (λ y. one (y == n)) x.node.0 stack in let b = fits.marked n in let d = ap (λ o. one (falls_in o)) (others n other) in grind (arith, nat_tests)
-      ]
-  given-marked false e n = grind (arith, nat_tests, cases_eq)
+  given-marked b0 e n = let a = sum_by-cons (λ y. one (y == n)) x.node.0 stack in let b = fits.marked n in let d = others n in grind (arith, nat_tests, cases_eq n x.node.0)
 
   given-right : (n : ℕ) → Right (at' n) (refs' n)
   given-right n = grind (arith, nat_tests)
@@ -72,12 +62,9 @@ module _ (at at' : ℕ → Option Counts) (refs refs' : ℕ → List ArcRef) (ro
   pub given-fits : (b : Bool) → now_falls ≡ b → Fits at' refs' rows' (if b then x.node.0 else top) (if b then x.node.0 ∷ stack else stack) owns_nothing
   given-fits b e = grind (arith, nat_tests, given-owned, given-chain, given-marked, given-right, given-one)
 
-  pub given-cells : CellsStay at at'
-  given-cells n some' = grind (arith, nat_tests)
-
 pub new-top : (c : Counts) (pinning stays listed : Bool) (top node : ℕ) → (b : Bool) → is_fallen_by c pinning (c.pins - one pinning) ((if stays then c.holds else c.holds - 1) + one listed) ≡ b
     → (if is_new c.is_falling (after c pinning stays listed top).is_falling then node else top) ≡ (if b then node else top)
-new-top c pinning stays listed top node b e = ap (λ (t : Bool). if t then node else top) (is-new c.is_falling _ ∙ e)
+new-top c pinning stays listed top node b e = grind (arith, nat_tests)
 
 pub long-if : (b : Bool) (n : ℕ) (stack : List ℕ) → length (if b then n ∷ stack else stack) ≤ length stack + 1
 long-if x0 n stack = grind (arith, nat_tests)
@@ -102,16 +89,12 @@ top-there t stack some w none =
 pub pins-le-held : (n : ℕ) (rows : List HandleRow) → pins n rows ≤ held n rows
 pins-le-held n rows = sum_by-le-sum_by (pin_of n) (handle_of n) rows (λ h. grind (arith, nat_tests))
 
-landed-as : (c : Counts) → c.pins ≤ c.holds → (pins_in (landed c) ≡ c.pins) × (holds_in (landed c) ≡ c.holds) × (falls_in (landed c) ≡ false) × Right (landed c) []
-landed-as c few = (grind (arith, nat_tests), grind (arith, nat_tests), grind (arith, nat_tests), grind (arith, nat_tests))
-
 -- the first node that waits is done: it is gone, or waits no more
 module _ (at at' : ℕ → Option Counts) (refs refs' : ℕ → List ArcRef) (rows : List HandleRow) (n : ℕ) (ns : List ℕ) (c : Counts)
     (fits : Fits at refs rows n (n ∷ ns) owns_nothing) (is : at n ≡ Some c) (here : at' n ≡ landed c) (bare : refs n ≡ [])
     (others : (m : ℕ) → m ≢ n → at' m ≡ at m) (same : (m : ℕ) → refs' m ≡ refs m) (one' : n ≢ 0) where
   once : often n ns ≡ 0
-  once =
-      grind (arith, nat_tests, sum_by-cons (λ y. one (y == n)) n ns)
+  once = grind (arith, nat_tests, sum_by-cons (λ y. one (y == n)) n ns)
 
   pub done-gone : has_value (at' n) ≡ false
   done-gone =
@@ -120,11 +103,9 @@ module _ (at at' : ℕ → Option Counts) (refs refs' : ℕ → List ArcRef) (ro
 
   pub done-fits : Fits at' refs' rows c.next ns owns_nothing
   done-fits =
-      let l = landed-as c (omega (arith, fits.pinned n, fits.holding n, ap pins_in is, ap holds_in is, pins-le-held n rows)) in
-      let pins' = ap pins_in here ∙ l.0 in
-      let holds' = ap holds_in here ∙ l.1 in
-      let free = ap falls_in here ∙ l.2 in
-      let right' : Right (at' n) (refs' n) = rw (here, same, bare) l.3 in
+      let few : c.pins ≤ c.holds = omega (arith, fits.pinned n, fits.holding n, ap pins_in is, ap holds_in is, pins-le-held n rows) in
+      let l : (pins_in (at' n) ≡ c.pins) × (holds_in (at' n) ≡ c.holds) × (falls_in (at' n) ≡ false) × Right (at' n) (refs' n) =
+      rw (here, same, bare) (grind (arith, nat_tests), grind (arith, nat_tests), grind (arith, nat_tests), grind (arith, nat_tests)) in
       record {
         pinned = λ m. grind (arith, nat_tests, cases_eq);
         holding = λ m. grind (arith, nat_tests, cases_eq);
@@ -158,11 +139,7 @@ module _ (at at' : ℕ → Option Counts) (refs refs' : ℕ → List ArcRef) (ro
 
   taken-right : (m : ℕ) → Right (at' m) (refs' m)
   taken-right m =
-      elim (cases_eq m n) [
-        | inl e ↦ subst (λ k. Right (at' k) (refs' k)) (sym e) (subst (λ o. Right o (refs' n)) (sym (same n))
-            (still (at n) (refs n) (refs' n) (first-waits at refs rows n ns owns_nothing fits) (fits.right n)))
-        | inr e ↦ subst (λ o. Right o (refs' m)) (sym (same m)) (subst (λ r. Right (at m) r) (sym (others m e)) (fits.right m))
-      ]
+      let w = first-waits at refs rows n ns owns_nothing fits in let r = fits.right m in grind (arith, nat_tests, cases_eq m n, still)
 
   -- where the row is that one, the tables fit but for it
   pub taken-fits : (x : HandleRow) → ((m r : ℕ) → is_owned m r x ≡ one (n == m && p.handle.0 == r)) → Fits at' refs' rows n (n ∷ ns) (λ m r. is_owned m r x)
@@ -175,11 +152,6 @@ fits-same at at' refs refs' rows top stack fits same refs-same = grind (arith, n
 
 pub fallen : (at : ℕ → Option Counts) (refs : ℕ → List ArcRef) (rows : List HandleRow) (n : ℕ) (ns : List ℕ) → Fits at refs rows n (n ∷ ns) owns_nothing → HasFallen at rows n
 fallen at refs rows n ns fits =
-    let w = first-waits at refs rows n ns owns_nothing fits in let r = fits.right n in
-    let gone : (holds_in (at n) ≡ 0) ⊎ ((keyed_in (at n) ≡ true) × (pins_in (at n) ≡ 0)) = grind (arith, nat_tests) in
-    elim gone [
-      | inl none ↦ inl (sym (fits.holding n) ∙ none)
-      | inr both ↦ inr (both.0, sym (fits.pinned n) ∙ both.1)
-    ]
+    let w = first-waits at refs rows n ns owns_nothing fits in let r = fits.right n in let p = fits.pinned n in let h = fits.holding n in grind (arith, nat_tests)
 
 pub ruleset landing = (nat_tests, cases_eq)

@@ -1,10 +1,10 @@
 -- What loads own is what they owned, or has come since.
-use Rattle.pagable_tables.proofs.Words.{◌≡◌, ℕ, ◌+◌, ◌<◌, ◌≤◌, ◌∷◌, [], Bool, true, false, not, List, refl, ap, sym, ◌∙◌, arith, Option, Some, None, inl, inr, ◌⊎◌, ◌≢◌, Result, Ok, Err, is_some}
-use Rattle.pagable_tables.proofs.Words.{option_map, cases_eq, Error, HandleNumber, LoadNumber, NodeNumber, HandleRow, Owner, Mode, ArcRef, OptionalDataKey, changed, is_handle, is_owner}
-use Rattle.pagable_tables.proofs.Words.{is_owned_by, owner_value, find_row, Core, Last, Alike, Falls, only_handle, with_handle, with_node, next_node, is_named_by, moved}
-use Rattle.pagable_tables.proofs.Words.{with_mode, UnpinCall, SetKeyCall, ScheduleCall, CloseCall, is_owned_in, DropCall, LoadRow, Tables}
-use Rattle.pagable_tables.proofs.{Words.{load_at, plain_of, load_in, Makes, AreLater, nat_tests, Among, subst, owner_worker, reach_at, InReach, IsNoLess, Reach, IndexMap, worker_at}, Regiven.owned}
-use Rattle.pagable_tables.proofs.{Regiven.{passes-here, passes-left, no-entry, unlisting}, Taken.owned-moved, Bits.{and-left, had, there-is}, Worlds.owner-same, keeps.Rows.{found-among, found-push}}
+use Rattle.pagable_tables.proofs.Words.{◌≡◌, ℕ, ◌+◌, ◌<◌, ◌≤◌, ◌∷◌, [], Bool, true, false, not, List, refl, ap, sym, ◌∙◌, arith, Option, Some, None, inl, inr, ◌⊎◌, ◌≢◌, Result, is_some, option_map}
+use Rattle.pagable_tables.proofs.Words.{cases_eq, Error, HandleNumber, LoadNumber, NodeNumber, HandleRow, Owner, Mode, ArcRef, OptionalDataKey, changed, is_handle, is_owner, is_owned_by, owner_value}
+use Rattle.pagable_tables.proofs.Words.{find_row, Core, Last, Alike, Falls, only_handle, with_handle, with_node, next_node, is_named_by, moved, with_mode, UnpinCall, SetKeyCall, ScheduleCall}
+use Rattle.pagable_tables.proofs.Words.{CloseCall, is_owned_in, DropCall, LoadRow, Tables, load_at, plain_of, load_in, Makes, AreLater, nat_tests, Among, subst, owner_worker, reach_at, InReach}
+use Rattle.pagable_tables.proofs.{Words.{IsNoLess, Reach, IndexMap, worker_at, Ok, Err}, Regiven.{owned, passes-here, passes-left, no-entry, unlisting}, Taken.owned-moved, Bits.{and-left, had}}
+use Rattle.pagable_tables.proofs.{Bits.there-is, Worlds.owner-same, keeps.Rows.{found-among, found-push}}
 use Rattle.pagable_world.specs.Pager as pager
 
 -- loads and workers give up what they have together
@@ -58,11 +58,7 @@ later-by {t} {t'} later last loads less own work =
       given = λ l load is. let a = later.given l load (loads l load is) in omega arith;
       since = λ l load q is has. let o = own l q has in let s = later.since l load q (loads l load is) in let a = later.given l load (loads l load is) in grind (arith, nat_tests);
       begun = λ v. let a = later.begun v in let b = less.before v in omega arith;
-      reach = λ v q has. elim (work v q has) [
-        | inl had ↦ less.wider v q (later.reach v q had)
-        | inr (inl past) ↦ (let a = later.begun v in let b = less.before v in (omega arith, inl (omega arith)))
-        | inr (inr in-reach) ↦ in-reach
-      ];
+      reach = λ v q has. let o = work v q has in let a = later.begun v in let b = less.before v in let c = less.wider v q in let d = later.reach v q in grind (arith, nat_tests);
       loads = λ v l load is owns. let a = later.loads v l load (loads l load is) owns in let b = less.before v in omega arith;
     }
 
@@ -122,20 +118,14 @@ later-begun {t} {t'} whole later same v new here others =
     subst AreLater (sym same) (record {
       given = later.given;
       since = later.since;
-      begun = λ m. elim (cases_eq m v) [ inl e ↦ (let a = now m e in omega arith) | inr e ↦ (let a = ap (λ (r : Reach). r.since) (others m e) in let b = later.begun m in omega arith) ];
+      begun = λ m. grind (arith, nat_tests, cases_eq m v, here, others, later.begun);
       reach = λ m q own. elim (cases_eq m v) [
         | inl e ↦ absurd (none-owned (plain_of t) (owner_worker m) q (λ h among of. at-rest m e (whole.owners_there.workers h m among of)) own)
         | inr e ↦ subst (λ r. InReach r q) (sym (others m e)) (later.reach m q own)
       ];
-      loads = λ m l load is owns. elim (cases_eq m v) [
-        | inl e ↦ absurd (at-rest m e (working m load.owner owns (whole.loads.owned l (load_in load) (ap (option_map load_in) is))))
-        | inr e ↦ (let a = ap (λ (r : Reach). r.since) (others m e) in let b = later.loads m l load is owns in omega arith)
-      ];
+      loads = λ m l load is owns. let works = working m load.owner owns (whole.loads.owned l (load_in load) (ap (option_map load_in) is)) in grind (arith, nat_tests, cases_eq m v, at-rest, others, later.loads);
     })
   where
-    now : (m : ℕ) → m ≡ v → (reach_at t'.workers m).since ≡ t.holdings.last_handle
-    now m e = ap (λ k. (reach_at t'.workers k).since) e ∙ ap (λ (r : Reach). r.since) here
-
     at-rest : (m : ℕ) → m ≡ v → (plain_of t).workers m ≡ true → ⊥
     at-rest m e is = let a = whole.workers_numbered m is in absurd (omega arith)
 
@@ -148,8 +138,7 @@ pub drop-newer : {w w' : Core} (me : Owner) (l : LoadNumber) (r : Result (Unit {
 drop-newer me l r call = elim call.does [ inl refused ↦ newer-alike refused.stays | inr (load, own, falls) ↦ newer-falls falls ]
 
 pub makes-newer : {w w' : Core} (node : NodeNumber) (mode : Mode) (owner : Owner) (r : Result HandleNumber Error) → Makes w node mode owner r w' → OnlyNewer w w'
-makes-newer {w} node mode owner (Ok k) m = newer-then (newer-handle w node mode owner) (newer-alike m.made.1)
-makes-newer node mode owner (Err e) m = newer-alike m.refused.stays
+makes-newer {w} node mode owner r m = grind (arith, nat_tests, newer-handle w node mode owner, newer-alike, newer-then)
 
 -- a node comes with its references and a handle
 pub newer-node : (w : Core) (node_type : ℕ) (own_key : OptionalDataKey) (references : List ArcRef) (mode : Mode) (owner : Owner) → OnlyNewer w (with_handle (with_node w node_type own_key references) (next_node w) mode owner)
@@ -183,14 +172,11 @@ close-newer r call = newer-falls call.falls.falls
 -- ---- handles that come to a worker
 
 module _ (t : Tables) (later : AreLater t) (s : ℕ → Bool) (me : Owner) (other : (l : LoadNumber) → is_owner (Owner.Load l) me ≡ false) (rows : List HandleRow) (are : rows ≡ moved s me (plain_of t).rows) where
-  abbrev now : Owner → ℕ → Bool
-  now o q = owned o q rows
-
-  pub load-kept : (l q : ℕ) → now (Owner.Load (record { 0 = l })) q ≡ true → owned (Owner.Load (record { 0 = l })) q (plain_of t).rows ≡ true
+  pub load-kept : (l q : ℕ) → owned (Owner.Load (record { 0 = l })) q rows ≡ true → owned (Owner.Load (record { 0 = l })) q (plain_of t).rows ≡ true
   load-kept l q own = let o : Owner = Owner.Load (record { 0 = l }) in and-left (owned o q (plain_of t).rows) (not (s q)) (sym (ap (owned o q) are ∙ owned-moved s me o q (plain_of t).rows (other (record { 0 = l }))) ∙ own)
 
   -- what a worker owns then it owned, or it has moved
-  pub worker-kept : (v q : ℕ) → now (owner_worker v) q ≡ true → (owned (owner_worker v) q (plain_of t).rows ≡ true) ⊎ ((is_owner (owner_worker v) me ≡ true) × (s q ≡ true))
+  pub worker-kept : (v q : ℕ) → owned (owner_worker v) q rows ≡ true → (owned (owner_worker v) q (plain_of t).rows ≡ true) ⊎ ((is_owner (owner_worker v) me ≡ true) × (s q ≡ true))
   worker-kept v q own = grind (arith, nat_tests, and-left, owned-moved, owned-unmoved)
 
   -- a load of the same owner hands handles of its own to it and is closed: they came after the worker began
@@ -198,13 +184,10 @@ module _ (t : Tables) (later : AreLater t) (s : ℕ → Bool) (me : Owner) (othe
       → IsNewer rows (plain_of t').rows t.holdings.last_handle t'.holdings.last_handle → ((m : ℕ) (load : LoadRow) → load_at t'.loads m ≡ Some load → load_at t.loads m ≡ Some load) → t'.workers ≡ t.workers → AreLater t'
   later-handed {t'} l row here mine its newer loads same =
       later-by later newer.last loads (still-reaches same) (λ m q own. elim (newer.kept (Owner.Load (record { 0 = m })) q refl own) [ inl had ↦ inl (load-kept m q had) | inr past ↦ inr past ])
-      (λ v q own. elim (newer.kept (owner_worker v) q refl own) [
-        | inl had ↦ elim (worker-kept v q had) [ inl was ↦ inl was | inr (is, gone) ↦ inr (inr (subst (λ u. InReach (reach_at u v) q) (sym same) (after v q is gone))) ]
-        | inr past ↦ inr (inl past)
-      ])
+      (λ (v q : ℕ) (own : owned (owner_worker v) q (plain_of t').rows ≡ true). let k = newer.kept (owner_worker v) q refl own in let a = after v q in let b = worker-kept v q in grind (arith, nat_tests))
     where
-      after : (v q : ℕ) → is_owner (owner_worker v) me ≡ true → s q ≡ true → InReach (reach_at t.workers v) q
-      after v q is gone = grind (arith, nat_tests, later.since l.0 row q here (its q gone), later.loads v l.0 row here (ap (is_owner (owner_worker v)) (owner-same me row.owner mine) ∙ is), owner-same)
+      after : (v q : ℕ) → is_owner (owner_worker v) me ≡ true → s q ≡ true → InReach (reach_at t'.workers v) q
+      after v q is gone = subst (λ u. InReach (reach_at u v) q) (sym same) (grind (arith, nat_tests, later.since l.0 row q here (its q gone), later.loads v l.0 row here (ap (is_owner (owner_worker v)) (owner-same me row.owner mine) ∙ is), owner-same))
 
 pub handle-is : (h : HandleNumber) (q : ℕ) → only_handle h q ≡ true → h.0 ≡ q
 handle-is h q is = grind (arith, nat_tests)

@@ -1,11 +1,12 @@
 -- A handle that comes stays, while others that are given go with all that follows.
-use Rattle.pagable_tables.proofs.Words.{◌≡◌, ℕ, ◌<◌, ◌≤◌, ◌==◌, ◌&&◌, ◌++◌, Bool, true, false, not, if◌then◌else◌, List, [], ◌∷◌, refl, ap, sym, ◌∙◌, subst, arith, None, nat_eq, Result, AllPairs}
-use Rattle.pagable_tables.proofs.Words.{nat_tests, sum_by-le-sum_by, sum_by_push, sum_by-append, Error, HandleRow, Among, one, times, is_loose_kind, mode_of, is_at, is_pin, is_pinning, is_owned_by}
-use Rattle.pagable_tables.proofs.Words.{owner_value, held, pins, sharing, Core, Places, HasRoom, IsHandleBefore, HandlesAreWhole, references_fault, is_owned_in, ArcRef, IsLeast, IsClosed, loses_value}
-use Rattle.pagable_tables.proofs.Words.{pins_outside, held_outside, is_outside, is_keyed, left_rows, Falls, is_named_by, is_valued, LoadNumber, Mode, Owner, ◌+◌, Option, NodeNumber, Blob, is_handle}
-use Rattle.pagable_tables.proofs.Words.{HandleNumber, Last, Alike, nobody, row_of, with_handle, Tables, live, counts_at, ValueStays, cell_in, has_value, SoFar, core_of, Some, changed, find_row}
-use Rattle.pagable_tables.proofs.{Words.with_mode, Coming.no-value, Regiven.{owned, passes-here, passes-none}, Left.times-left, Taken.owned-given, Opened.owner-self, Begun.{begins, begun}}
-use Rattle.pagable_tables.{proofs.{Ended.none-falls-in, Worlds.same-cache, keeps.{HandleCalls.named-mine, Rows.{at-most-sum, once, among-last, sum-none}}}, specs.Core.IsWhole}
+use Rattle.pagable_tables.proofs.Words.{◌≡◌, ℕ, ◌<◌, ◌≤◌, ◌==◌, ◌&&◌, ◌++◌, Bool, true, false, not, if◌then◌else◌, List, [], ◌∷◌, refl, ap, sym, ◌∙◌, subst, arith, None, Result, AllPairs, nat_tests}
+use Rattle.pagable_tables.proofs.Words.{sum_by-le-sum_by, sum_by_push, sum_by-append, Error, HandleRow, Among, one, times, is_loose_kind, mode_of, is_at, is_pin, is_pinning, is_owned_by, owner_value}
+use Rattle.pagable_tables.proofs.Words.{pins, sharing, Core, Places, HasRoom, IsHandleBefore, HandlesAreWhole, references_fault, is_owned_in, ArcRef, IsLeast, IsClosed, loses_value, is_outside}
+use Rattle.pagable_tables.proofs.Words.{is_keyed, left_rows, Falls, is_named_by, is_valued, LoadNumber, Mode, Owner, ◌+◌, Option, NodeNumber, Blob, is_handle, HandleNumber, Last, Alike, nobody}
+use Rattle.pagable_tables.proofs.{Words.{row_of, with_handle, Tables, live, counts_at, ValueStays, cell_in, has_value, SoFar, core_of, Some, changed, find_row, with_mode, cases_Bool}, Coming.no-value}
+use Rattle.pagable_tables.proofs.{Regiven.{owned, passes-here, passes-none}, Left.times-left, Taken.owned-given, Opened.owner-self, Begun.{begins, begun}, Ended.none-falls-in, Worlds.same-cache}
+use Rattle.pagable_tables.proofs.keeps.{HandleCalls.named-mine, Rows.{at-most-sum, once, among-last, sum-none}}
+use Rattle.pagable_tables.specs.Core.{IsWhole}
 
 -- what isn't given and isn't a value's isn't in the least set
 module _ (rows : List HandleRow) (keyed : ℕ → Bool) (entries : List HandleRow) (given s : ℕ → Bool) (least : IsLeast rows keyed entries given s) (ordered : AllPairs IsHandleBefore rows)
@@ -17,11 +18,7 @@ module _ (rows : List HandleRow) (keyed : ℕ → Bool) (entries : List HandleRo
   fewer f = grind (arith, nat_tests, sum_by-le-sum_by)
 
   loses : (n : ℕ) → loses_value rows keyed entries less n ≡ true → loses_value rows keyed entries s n ≡ true
-  loses n e = split (keyed n) e
-    where
-      split : (b : Bool) → (if b then nat_eq (pins_outside rows less n) 0 else nat_eq (held n entries) 0 && nat_eq (held_outside rows less n) 0) ≡ true → (if b then nat_eq (pins_outside rows s n) 0 else nat_eq (held n entries) 0 && nat_eq (held_outside rows s n) 0) ≡ true
-      split true e = let a = fewer (is_pin n) in grind (arith, nat_tests)
-      split false e = let a = fewer (is_at n) in grind (arith, nat_tests)
+  loses n e = let a = fewer (is_pin n) in let b = fewer (is_at n) in grind (arith, nat_tests, cases_Bool (keyed n))
 
   closed-less : IsClosed rows keyed entries less
   closed-less n e =
@@ -49,26 +46,22 @@ module _ {b w u w' : Core} {given : ℕ → Bool} {r : Result (Unit {0}) Error} 
 pub stays-pinned : (w u w' : Core) (given : ℕ → Bool) (r : Result (Unit {0}) Error) (x : HandleRow) → u.rows ≡ w.rows ++ x ∷ [] → AllPairs IsHandleBefore u.rows
     → is_valued x.owner ≡ false → given x.number.0 ≡ false → Falls u u given r w'
     → (n : ℕ) → pins n w'.rows ≡ 0 → (pins n u.rows ≡ pins n w.rows) × (sharing n u.rows ≡ sharing n w.rows)
-stays-pinned w u w' given r x rows ordered plain kept falls n none = split (is_pin n x) refl
+stays-pinned w u w' given r x rows ordered plain kept falls n none = grind (
+  arith,
+  nat_tests,
+  at-most-sum (λ h. one (is_pin n h && not (falls.gone h.number.0))) u.rows x among,
+  times-left (is_pin n) falls.gone u.rows,
+  ap (pins n) falls.leaves.rows,
+  sum_by-append (λ h. one (is_pin n h)) (left_rows falls.gone u.rows) falls.entries,
+  stands,
+  sum_by_push,
+)
   where
     among : Among u.rows x
     among = subst (λ l. Among l x) (sym rows) (among-last w.rows x)
 
     stands : falls.gone x.number.0 ≡ false
     stands = not-least u.rows (is_keyed u) falls.entries given falls.gone falls.set ordered x among plain kept
-
-    split : (b : Bool) → is_pin n x ≡ b → (pins n u.rows ≡ pins n w.rows) × (sharing n u.rows ≡ sharing n w.rows)
-    split true e = grind (
-      arith,
-      nat_tests,
-      at-most-sum (λ h. one (is_pin n h && not (falls.gone h.number.0))) u.rows x among,
-      times-left (is_pin n) falls.gone u.rows,
-      ap (pins n) falls.leaves.rows,
-      sum_by-append (λ h. one (is_pin n h)) (left_rows falls.gone u.rows) falls.entries,
-      among,
-      stands,
-    )
-    split false e = grind (arith, nat_tests, sum_by_push)
 
 pub eager-pins : (kind : ℕ) → is_loose_kind kind ≡ false → is_pinning (mode_of kind) ≡ true
 eager-pins kind eager = grind (arith, nat_tests)

@@ -1,7 +1,7 @@
 -- Calls on the cache and on room keep the world whole.
-use Rattle.pagable_tables.proofs.Words.{Among, HandleRow, ◌&&◌, ◌<◌, ◌==◌, ◌∙◌, ◌≡◌, ArePlaced, Bool, ClearCall, Core, Error, HandleNumber, IsEntryWhole, IsWhole, Kind, MayHold, NodeNumber, Option}
-use Rattle.pagable_tables.proofs.Words.{Owner, RecallCall, ReserveCall, Result, Some, Suits, arith, false, greatest, if◌then◌else◌, is_shared, is_shared_kind, mode_of, nat_tests, refl, usable}
-use Rattle.pagable_tables.proofs.{Words.{with_cached, with_known, ℕ, Owns, fits_mode, type_at, type_of, Alike}, keeps.Kept.{GoOn, alike-rows, is-in, keeps-whole, loads-stay, same-rows, there-then}}
+use Rattle.pagable_tables.proofs.Words.{Among, HandleRow, ◌<◌, ◌∙◌, ◌≡◌, ArePlaced, ClearCall, Core, Error, HandleNumber, IsEntryWhole, IsWhole, Kind, MayHold, NodeNumber, Option, Owner, RecallCall}
+use Rattle.pagable_tables.proofs.Words.{ReserveCall, Result, Some, Suits, arith, false, greatest, is_shared, is_shared_kind, mode_of, nat_tests, refl, usable, with_cached, with_known, ℕ, Owns}
+use Rattle.pagable_tables.proofs.{Words.{fits_mode, type_at, type_of, Alike, ◌&&◌, ◌==◌, Bool, if◌then◌else◌}, keeps.Kept.{GoOn, alike-rows, is-in, keeps-whole, loads-stay, same-rows, there-then}}
 use Rattle.pagable_tables.proofs.keeps.{Comes.{beside, suits-like}, Rows.{counted, found-among}, Told.{alike-whole, roomy, roomy-whole, settles, told-whole}}
 
 pub clear-whole : {w w' : Core} (r : Result (Unit {0}) Error) → IsWhole w → ClearCall w r w' → ArePlaced w' → IsWhole w'
@@ -46,6 +46,6 @@ learns-whole {w} me kind key h row whole stands_open owns typed leaves placed =
     let there = (found-among h.0 w.rows row owns.live).0 in
     let given = (whole.handles.nodes_numbered row.node.0 (there-then whole row there)).1 in
     let fits : is_shared row.mode ≡ is_shared_kind kind.0 = grind (arith, nat_tests, owns.as_asked) in
-    let shares = λ (x : HandleRow) (among : Among w.rows x) (at : x.node.0 ≡ row.node.0). (alike-rows whole).same x row among there at ∙ fits in
+    let shares = λ (x : HandleRow) (among : Among w.rows x) (at : x.node.0 ≡ row.node.0). alike-rows whole x row among there at ∙ fits in
     let entry : IsEntryWhole w kind.0 row.node.0 = grind (arith, nat_tests) in
     settles (roomy-whole (cached-whole kind key row.node whole stands_open entry)) leaves placed

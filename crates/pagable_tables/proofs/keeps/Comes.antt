@@ -1,7 +1,7 @@
 -- A handle comes, under the next number.
 use Rattle.pagable_tables.proofs.Words.{◌++◌, ◌+◌, ◌<◌, ◌==◌, ◌∙◌, ◌∷◌, ◌≡◌, ◌≢◌, ◌≤◌, ◌⊎◌, Cell, Core, HandleRow, IsWhole, MayHold, Mode, NodeNumber, Option, Owner, Suits, [], ap, arith, false}
-use Rattle.pagable_tables.proofs.Words.{greatest, held, inl, inr, is_at, is_owner, is_shared, is_some, is_valued, nat_tests, one, refl, row_of, subst, Among, HandleNumber, times, sum_by_push}
-use Rattle.pagable_tables.proofs.{Words.{sym, true, with_handle, ℕ}, Left.of_list, keeps.Kept.{GoOn, HasLike, IsIn, IsNew, held-some, holder-in, is-in, keeps-whole, keyed_in, loads-stay, stays-old}}
+use Rattle.pagable_tables.proofs.Words.{greatest, held, inl, inr, is_at, is_owner, is_shared, is_some, is_valued, nat_tests, one, refl, row_of, subst, Among, HandleNumber, times, sum_by_push, sym}
+use Rattle.pagable_tables.proofs.{Words.{true, with_handle, ℕ}, Left.of_list, keeps.Kept.{GoOn, HasLike, IsIn, IsNew, held-some, holder-in, is-in, keeps-whole, keyed_in, loads-stay, stays-old}}
 use Rattle.pagable_tables.proofs.keeps.{Kept.{there-then, type_in}, Rows.{among-both, among-more, among-one, ordered-push}, Told.{GoesOn, roomy}}
 
 -- who may hold is neither the list nor a value
@@ -11,9 +11,6 @@ not-list w o may = grind (arith, nat_tests)
 pub not-a-value : (w : Core) (o : Owner) → MayHold w o → is_valued o ≡ false
 not-a-value w o may = grind (arith, nat_tests)
 
-pub not-the-list : (w : Core) (o : Owner) → MayHold w o → o ≡ Owner.List → ⊥
-not-the-list w o may is = subst (MayHold w) is may
-
 -- Of a node that is there, or of a new one.
 module _ {w : Core} (whole : IsWhole w) (x : HandleRow) (cells : ℕ → Option Cell) (last : ℕ) (number : x.number.0 ≡ w.last.handle + 1) (left : w.last.handle < greatest)
     (more : w.last.node ≤ last) (few : last ≤ greatest) (there : is_some (cells x.node.0) ≡ true) (same : (n : ℕ) → (n ≢ x.node.0) ⊎ (n ≤ w.last.node) → cells n ≡ w.cells n)
@@ -22,12 +19,10 @@ module _ {w : Core} (whole : IsWhole w) (x : HandleRow) (cells : ℕ → Option 
   abbrev grown : Core
   grown = roomy (record w { rows = w.rows ++ x ∷ []; cells = cells; last = record w.last { node = last; handle = w.last.handle + 1 } })
 
-  come : IsNew w grown (is_shared x.mode) x
-  come = record { above = omega arith; few = omega arith; like = elim like [ inl old ↦ inl old | inr new ↦ inr (new.0, new.1, refl, new.2) ] }
-
-  grown-on : GoOn w grown
-  grown-on =
-      record {
+  pub grown-whole : IsWhole grown
+  grown-whole =
+      let come : IsNew w grown (is_shared x.mode) x = record { above = omega arith; few = omega arith; like = elim like [ inl old ↦ inl old | inr new ↦ inr (new.0, new.1, refl, new.2) ] } in
+      let on : GoOn w grown = record {
         last = (omega arith, more, omega arith);
         ordered = ordered-push w.rows x (λ y among. let a = whole.handles.numbered y among in omega arith) whole.handles.ordered;
         fresh = is_shared x.mode;
@@ -35,11 +30,7 @@ module _ {w : Core} (whole : IsWhole w) (x : HandleRow) (cells : ℕ → Option 
         live = λ n. grind (arith, nat_tests, sum_by_push (λ h. one (is_at n h)) w.rows x, same n);
         typed = λ n t given is. sym (ap type_in (same n (inr given))) ∙ is;
         keyed = λ n like given none. ap keyed_in (same n (inr given)) ∙ none;
-      }
-
-  pub grown-whole : IsWhole grown
-  grown-whole =
-      let on = grown-on in
+      } in
       let listed : (q : ℕ) → times (λ (h : HandleNumber). h.0 == q) w.list ≡ times (of_list q) grown.rows = λ q.
       grind (arith, nat_tests, sum_by_push (λ h. one (of_list q h)) w.rows x, whole.owners_there.listed q, not-list w x.owner holder) in
       let owners : (h : HandleRow) → Among grown.rows h → IsIn w h.mode h.owner = λ h among. elim (among-both w.rows (x ∷ []) h among) [

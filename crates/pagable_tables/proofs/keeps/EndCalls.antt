@@ -1,13 +1,13 @@
 -- Calls by which a load goes on or ends, and the close of the storage, keep the world whole.
 use Rattle.pagable_tables.proofs.Words.{◌&&◌, ◌+◌, ◌<◌, ◌==◌, ◌∙◌, ◌∷◌, ◌≡◌, AllPairs, Among, ArcRef, ArePlaced, Bool, CloseCall, Core, DropCall, EndCall, Err, Error, Falls, HandOverCall}
-use Rattle.pagable_tables.proofs.Words.{HandleNumber, HandleRow, IsEntryWhole, IsHandleBefore, IsWhole, Kind, List, LoadCloses, LoadNumber, MayHold, MayOwnLoad, Mode, NodeNumber, None, Ok, OpenLoad}
-use Rattle.pagable_tables.proofs.Words.{Option, OptionalDataKey, Owner, Owns, Result, Some, [], adopted, ap, arith, cell_fault, earlier, false, greatest, has_key, if_there, if◌then◌else◌, inl, inr}
-use Rattle.pagable_tables.proofs.Words.{is_handle, is_in, is_loose, is_named_by, is_owned_by, is_owned_in, is_owner, is_shared, load_fault, mode_of, moved, named_fault, nat_tests, next_node, not}
-use Rattle.pagable_tables.proofs.Words.{numbers_of, owner_value, references_fault, refl, row_of, shut, subst, sym, true, type_of, with_cached, with_handle, with_mode, with_node, with_pin}
-use Rattle.pagable_tables.proofs.{Words.{without_load, ℕ}, Handed.{found-there, one-fault}, Worlds.{fault-by, owner-same}, keeps.{CacheCalls.{cached-whole, mode-shared}, Comes.not-list}}
-use Rattle.pagable_tables.proofs.keeps.{Fallen.{alike-opened, falls-lost, opened}, HandleCalls.{IsMine, born-whole, mine-of, moved-number, moved-on, moved-to-holder, moved-to-value, named-own}}
-use Rattle.pagable_tables.proofs.keeps.{HandleCalls.{named-unlisted, pin-comes, pin-on}, Kept.{alike-rows, is-in, may-own}, LoadCalls.may-hold, Rows.{among-both, among-changed, among-last, among-one}}
-use Rattle.pagable_tables.proofs.keeps.{Rows.{found-among, found-so, once}, Told.{GoesOn, alike-whole, roomy, roomy-whole, stays-on, then-on}}
+use Rattle.pagable_tables.proofs.Words.{HandleNumber, HandleRow, IsHandleBefore, IsWhole, Kind, List, LoadCloses, LoadNumber, MayHold, MayOwnLoad, Mode, NodeNumber, None, Ok, OpenLoad, Option}
+use Rattle.pagable_tables.proofs.Words.{OptionalDataKey, Owner, Owns, Result, Some, [], adopted, ap, arith, cell_fault, earlier, false, greatest, has_key, if_there, if◌then◌else◌, inl, inr, is_handle}
+use Rattle.pagable_tables.proofs.Words.{is_in, is_loose, is_named_by, is_owned_by, is_owned_in, is_owner, is_shared, load_fault, mode_of, moved, named_fault, nat_tests, next_node, not, numbers_of}
+use Rattle.pagable_tables.proofs.Words.{owner_value, references_fault, refl, row_of, shut, subst, sym, true, type_of, with_cached, with_handle, with_mode, with_node, with_pin, without_load, ℕ}
+use Rattle.pagable_tables.proofs.{Handed.{found-there, one-fault}, Worlds.{fault-by, owner-same}, keeps.{CacheCalls.{cached-whole, mode-shared}, Comes.not-list, Fallen.{alike-opened, falls-lost}}}
+use Rattle.pagable_tables.proofs.keeps.{Fallen.opened, HandleCalls.{IsMine, born-whole, mine-of, moved-on, moved-to-holder, moved-to-value, named-own, named-unlisted, pin-comes, pin-on}}
+use Rattle.pagable_tables.proofs.keeps.{Kept.{alike-rows, is-in, may-own}, LoadCalls.may-hold, Rows.{among-both, among-changed, among-last, among-one, found-among, found-so, once}, Told.GoesOn}
+use Rattle.pagable_tables.proofs.keeps.Told.{alike-whole, roomy, roomy-whole, stays-on, then-on}
 
 -- ---- a load closes
 
@@ -91,7 +91,7 @@ end-whole {N} {w} {w'} me l x node_type refs (Ok k) whole call placed =
         let mine = named-own whole (Owner.Load l) refs (fault-by w (opened w) (Owner.Load l) [] refs ∙ good) row (found-among h.0 w.rows row owns.live).0 in
         let none = not-load w me l may in
         let spared : is_named_by refs row.number.0 ≡ false = grind (arith, nat_tests) in
-        let same = found-there (λ y. if is_named_by refs y.number.0 then record y { owner = owner_value node.0 } else y) (moved-number whole (is_named_by refs) (owner_value node.0)) in
+        let same = found-there (λ y. if is_named_by refs y.number.0 then record y { owner = owner_value node.0 } else y) (λ y. grind (arith, nat_tests)) in
         record {
           live = same h.0 w.rows row owns.live ∙ ap (λ b. Some (if b then record row { owner = owner_value node.0 } else row)) spared;
           own = owns.own;
@@ -161,20 +161,16 @@ module _ (w : Core) (whole : IsWhole (opened w)) (l : LoadNumber) (kind : Kind) 
   now-whole : IsWhole (roomy (opened made))
   now-whole = born-whole whole (type_of kind.0) own refs (mode_of kind.0) (Owner.Load l) (Owner.Load l) refl good holder node_left left unkeyed
 
-  new-entry : IsEntryWhole (roomy (opened made)) kind.0 (w.last.node + 1)
-  new-entry =
-      record {
-        given = omega arith;
-        typed = λ t is. grind (arith, nat_tests);
-        shares = λ h among at.
-            (alike-rows now-whole).same h (row_of (w.last.handle + 1) (next_node w) (mode_of kind.0) (Owner.Load l)) among
-            (among-last (moved (is_named_by refs) (owner_value (w.last.node + 1)) w.rows) _) at
-            ∙ mode-shared kind.0;
-      }
-
   pub adopted-whole : IsWhole (roomy (opened (adopted w l kind key own refs)))
   adopted-whole = at w.closed
     where
       at : (b : Bool) → IsWhole (roomy (opened (if b then made else with_cached made kind key (next_node w))))
       at true = now-whole
-      at false = cached-whole {w = roomy (opened made)} kind key (next_node w) now-whole refl new-entry
+      at false = cached-whole {w = roomy (opened made)} kind key (next_node w) now-whole refl (record {
+        given = omega arith;
+        typed = λ t is. grind (arith, nat_tests);
+        shares = λ h among at.
+            alike-rows now-whole h (row_of (w.last.handle + 1) (next_node w) (mode_of kind.0) (Owner.Load l)) among
+            (among-last (moved (is_named_by refs) (owner_value (w.last.node + 1)) w.rows) _) at
+            ∙ mode-shared kind.0;
+      })

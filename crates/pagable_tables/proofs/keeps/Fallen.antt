@@ -1,9 +1,9 @@
 -- The world is whole once handles have fallen, but for what a closed storage has lost.
-use Rattle.pagable_tables.proofs.Words.{◌&&◌, ◌<◌, ◌==◌, ◌∙◌, ◌≡◌, ◌⊎◌, Alike, AllPairs-filter, Among, ArePlaced, Bool, Core, Error, Falls, HandleNumber, HandleRow, IsHandleBefore, IsWhole}
-use Rattle.pagable_tables.proofs.Words.{List, MayOwnLoad, OpenLoad, Result, Some, ap, arith, fallen, false, filter, held, inl, inr, is_at, is_pin, is_pinning, is_share}
-use Rattle.pagable_tables.proofs.{Words.{is_shared, is_some, left_rows, length, map, nat_tests, not, one, refl, subst, sum_by-append, sym, times, true, ℕ}, Bits.not-so, Left.of_list}
-use Rattle.pagable_tables.proofs.keeps.{Kept.{GoOn, HasLike, IsIn, IsNew, IsOld, at-then, held-some, is-in, keeps-whole, stays-old, there-then}, Rows.{IsEntry, among-both}}
-use Rattle.pagable_tables.proofs.keeps.{Rows.{among-left, at-most-sum, counted, entries-listed, entry-is, one-left, ordered-entries, sum-none, within-goes}, Told.{GoesOn, roomy, told-whole}}
+use Rattle.pagable_tables.proofs.Words.{◌&&◌, ◌<◌, ◌==◌, ◌∙◌, ◌≡◌, ◌⊎◌, Alike, AllPairs-filter, Among, ArePlaced, Bool, Core, Error, Falls, HandleNumber, HandleRow, IsHandleBefore, IsWhole, List}
+use Rattle.pagable_tables.proofs.Words.{MayOwnLoad, OpenLoad, Result, Some, ap, arith, fallen, false, filter, held, inl, inr, is_at, is_pin, is_pinning, is_share, is_shared, is_some, left_rows}
+use Rattle.pagable_tables.proofs.{Words.{length, map, nat_tests, not, one, refl, subst, sum_by-append, sym, times, true, ℕ}, Bits.not-so, Left.of_list, keeps.Kept.{GoOn, HasLike, IsIn, IsNew, IsOld}}
+use Rattle.pagable_tables.proofs.keeps.{Kept.{at-then, held-some, is-in, keeps-whole, stays-old, there-then}, Rows.{IsEntry, among-both, among-left, at-most-sum, counted, entries-listed, entry-is}}
+use Rattle.pagable_tables.proofs.keeps.{Rows.{one-left, ordered-entries, sum-none, within-goes}, Told.{GoesOn, roomy, told-whole}}
 
 -- the world while its storage is taken to be open
 abbrev pub opened : Core → Core
@@ -58,9 +58,23 @@ module _ {before : Core} (m u : Core) {w' : Core} {given : ℕ → Bool} {r : Re
       subst (λ k. is_some (m.cells k) ≡ true) (at-then n found.0 found.2) (each-row (λ h. is_some (m.cells h.node.0) ≡ true) (λ h old kept. there-then whole h old)
       (λ h like e. subst (λ k. is_some (m.cells k) ≡ true) like.at (there-then whole like.row like.there)) found.0 found.1)
 
-  after-on : GoOn (roomy (opened m)) after
-  after-on =
-      record {
+  -- a given handle that stays isn't the list's
+  no-row : (q : ℕ) → given q ≡ true → f.gone q ≡ false → times (of_list q) m.rows ≡ 0
+  no-row q is kept = sum-none (λ h. one (of_list q h)) m.rows (λ h among. let g = within-goes m.rows given f.gone h f.set.holds among in let o : of_list q h ≡ true → h.number.0 ≡ q = λ is. grind (arith, nat_tests) in grind (arith, nat_tests))
+
+  still-listed : (q : ℕ) → times (λ (h : HandleNumber). h.0 == q) (filter (λ (h : HandleNumber). not (f.gone h.0)) u.list) ≡ times (of_list q) left
+  still-listed q = grind (
+    arith,
+    nat_tests,
+    one-left (λ (h : HandleNumber). h.0) (λ h. h.0 == q) q (λ h is. grind (arith, nat_tests)) f.gone (f.gone q) refl u.list,
+    one-left (λ (h : HandleRow). h.number.0) (of_list q) q (λ h is. grind (arith, nat_tests)) f.gone (f.gone q) refl m.rows,
+    lost.listed q,
+    no-row q,
+  )
+
+  fallen-whole : IsWhole after
+  fallen-whole =
+      let on : GoOn (roomy (opened m)) after = record {
         last = (omega arith, omega arith, omega arith);
         ordered = ordered-entries m.last.handle left f.entries (λ x among. (whole.handles.numbered x (was x among).0).1) f.new
             (AllPairs-filter IsHandleBefore (λ (x : HandleRow). not (f.gone x.number.0)) m.rows whole.handles.ordered);
@@ -73,34 +87,9 @@ module _ {before : Core} (m u : Core) {w' : Core} {given : ℕ → Bool} {r : Re
         live = λ n. grind (arith, nat_tests, there);
         typed = λ n t given is. grind (arith, nat_tests);
         keyed = λ n like given none. grind (arith, nat_tests);
-      }
-
-  lists-only : (q : ℕ) (h : HandleRow) → of_list q h ≡ true → h.number.0 ≡ q
-  lists-only q h is = grind (arith, nat_tests)
-
-  in-list : (q : ℕ) (x : HandleNumber) → (x.0 == q) ≡ true → x.0 ≡ q
-  in-list q x is = grind (arith, nat_tests)
-
-  -- a given handle that stays isn't the list's
-  no-row : (q : ℕ) → given q ≡ true → f.gone q ≡ false → times (of_list q) m.rows ≡ 0
-  no-row q is kept = sum-none (λ h. one (of_list q h)) m.rows (λ h among. let g = within-goes m.rows given f.gone h f.set.holds among in let o = lists-only q h in grind (arith, nat_tests))
-
-  still-listed : (q : ℕ) → times (λ (h : HandleNumber). h.0 == q) (filter (λ (h : HandleNumber). not (f.gone h.0)) u.list) ≡ times (of_list q) left
-  still-listed q = grind (
-    arith,
-    nat_tests,
-    one-left (λ (h : HandleNumber). h.0) (λ h. h.0 == q) q (in-list q) f.gone (f.gone q) refl u.list,
-    one-left (λ (h : HandleRow). h.number.0) (of_list q) q (lists-only q) f.gone (f.gone q) refl m.rows,
-    lost.listed q,
-    no-row q,
-    in-list,
-    lists-only,
-  )
-
-  fallen-whole : IsWhole after
-  fallen-whole =
+      } in
       keeps-whole whole (record {
-        on = after-on;
+        on = on;
         within = let (a, b, c) = whole.handles.within in (f.within, b, c);
         places = (omega arith, omega arith);
         listed = λ q.

@@ -1,10 +1,10 @@
 -- Calls by which a handle comes, moves or is pinned, or a node comes, keep the world whole.
-use Rattle.pagable_tables.proofs.Words.{◌&&◌, ◌+◌, ◌<◌, ◌==◌, ◌||◌, ◌∙◌, ◌∷◌, ◌≡◌, Among, ArcRef, ArePlaced, Bool, Cell, CloneCall, Core, Err, Error, HandleNumber, HandleRow}
-use Rattle.pagable_tables.proofs.Words.{IsWhole, List, LoosenCall, Makes, MayHold, Mode, NodeNumber, None, Ok, Option, OptionalDataKey, Owner, Owns, PinCall, Pinning, Result, Some, Suits, [], ap}
-use Rattle.pagable_tables.proofs.Words.{arith, false, find_row, greatest, has_key, if◌then◌else◌, inr, is_handle, is_loose, is_named_by, is_owned_by, is_owner, is_pinned, is_shared, moved, nat_tests}
-use Rattle.pagable_tables.proofs.Words.{next_node, one, or_else, owner_value, reference_fault, references_fault, refl, row_at, row_of, subst, sym, times, true, updated, with_handle, with_mode}
-use Rattle.pagable_tables.proofs.{Words.{with_node, with_pin, ℕ}, Left.of_list, keeps.{Comes.{beside, grown-whole, handle-on, not-list, not-the-list, suits-like}, Kept.{HasLike, IsIn, holder-in}}}
-use Rattle.pagable_tables.proofs.keeps.{Rows.{each-changed, found-among, once, sum-map}, Told.{GoesOn, alike-whole, moded-on, moded-whole, roomy, settles, then-on, turned-on, turned-whole}}
+use Rattle.pagable_tables.proofs.Words.{◌+◌, ◌<◌, ◌==◌, ◌||◌, ◌∙◌, ◌∷◌, ◌≡◌, Among, ArcRef, ArePlaced, Bool, Cell, CloneCall, Core, Error, HandleNumber, HandleRow, IsWhole, List, LoosenCall, Makes}
+use Rattle.pagable_tables.proofs.Words.{MayHold, Mode, NodeNumber, None, Option, OptionalDataKey, Owner, Owns, PinCall, Pinning, Result, Some, Suits, [], ap, arith, false, find_row, greatest, has_key}
+use Rattle.pagable_tables.proofs.Words.{inr, is_loose, is_named_by, is_owned_by, is_owner, is_pinned, is_shared, moved, nat_tests, next_node, or_else, owner_value, reference_fault, references_fault}
+use Rattle.pagable_tables.proofs.{Words.{refl, row_at, row_of, subst, sym, times, true, updated, with_handle, with_mode, with_node, with_pin, ℕ, Ok, Err}, Left.of_list, keeps.Comes.beside}
+use Rattle.pagable_tables.proofs.keeps.{Comes.{grown-whole, handle-on, not-list, suits-like}, Kept.{HasLike, IsIn, holder-in}, Rows.{found-among, once}, Told.{GoesOn, alike-whole, roomy, settles}}
+use Rattle.pagable_tables.proofs.keeps.Told.{then-on, turned-on, turned-whole, moded, turned-still}
 
 module _ {w : Core} (whole : IsWhole w) (s : ℕ → Bool) (owner : Owner) where
   abbrev moves : HandleRow → Bool
@@ -13,31 +13,25 @@ module _ {w : Core} (whole : IsWhole w) (s : ℕ → Bool) (owner : Owner) where
   abbrev to-owner : HandleRow → HandleRow
   to-owner x = record x { owner = owner }
 
-  pub moved-number : (x : HandleRow) → (if moves x then to-owner x else x).number.0 ≡ x.number.0
-  moved-number x = each-changed moves to-owner (λ y. y.number.0 ≡ x.number.0) x (λ e. refl) (λ e. refl)
-
   pub moved-on : GoesOn w (record w { rows = moved s owner w.rows })
-  moved-on = turned-on whole moves to-owner w.list (λ x. refl) (λ x. refl) (λ x among e. refl) (λ x among e was. was)
+  moved-on = turned-on whole moves to-owner (λ x. refl) (λ x. refl) (λ x among e. refl) (λ x among e was. was)
 
   -- with the list that fits; the new owner is there
   pub moved-so : (list : List HandleNumber) → ((q : ℕ) → times (λ (h : HandleNumber). h.0 == q) list ≡ times (of_list q) (moved s owner w.rows))
       → ((x : HandleRow) → Among w.rows x → s x.number.0 ≡ true → IsIn w x.mode owner) → (w.closed ≡ true → list ≡ []) → IsWhole (roomy (record w { rows = moved s owner w.rows; list = list }))
-  moved-so list listed there none = turned-whole whole moves to-owner list (λ x. refl) (λ x. refl) (λ x among e. refl) (λ x among e was. was) listed there none
+  moved-so = turned-whole whole moves to-owner (λ x. refl) (λ x. refl) (λ x among e. refl) (λ x among e was. was)
 
-  -- what the list has of a number stays where none of its handles moves, nor to it
-  pub still-lists : ((x : HandleRow) → Among w.rows x → s x.number.0 ≡ true → is_owned_by Owner.List x ≡ false) → is_owner Owner.List owner ≡ false → (q : ℕ)
-      → times (λ (h : HandleNumber). h.0 == q) w.list ≡ times (of_list q) (moved s owner w.rows)
-  still-lists mine other q = whole.owners_there.listed q ∙ sym (sum-map (λ x. one (of_list q x)) (λ x. one (of_list q x)) (λ x. if moves x then to-owner x else x) w.rows
-      (λ x among. each-changed moves to-owner (λ y. one (of_list q y) ≡ one (of_list q x)) x
-      (λ e. ap (λ b. one (is_handle q x && b)) (other ∙ sym (mine x among e))) (λ e. refl)))
-
--- to the value of a node, or to one who may hold
+-- to the value of a node, or to one who may hold, where none is the list's
 module _ {w : Core} (whole : IsWhole w) (s : ℕ → Bool) (mine : (x : HandleRow) → Among w.rows x → s x.number.0 ≡ true → is_owned_by Owner.List x ≡ false) where
+  moved-free : (owner : Owner) → is_owner Owner.List owner ≡ false → ((mode : Mode) → IsIn w mode owner) → IsWhole (roomy (record w { rows = moved s owner w.rows }))
+  moved-free owner other there =
+      turned-still whole (moves whole s owner) (to-owner whole s owner) (λ x. refl) (λ x. refl) (λ x among e. refl) (λ x among e was. was) (λ x among e. other ∙ sym (mine x among e)) (λ x among e. there x.mode)
+
   pub moved-to-value : (n : ℕ) → IsWhole (roomy (record w { rows = moved s (owner_value n) w.rows }))
-  moved-to-value n = moved-so whole s (owner_value n) w.list (still-lists whole s (owner_value n) mine refl) (λ x among e. tt) (λ so. (whole.shut so).0)
+  moved-to-value n = moved-free (owner_value n) refl (λ mode. tt)
 
   pub moved-to-holder : (owner : Owner) → is_owner Owner.List owner ≡ false → MayHold w owner → IsWhole (roomy (record w { rows = moved s owner w.rows }))
-  moved-to-holder owner other holder = moved-so whole s owner w.list (still-lists whole s owner mine other) (λ x among e. holder-in w x.mode owner holder) (λ so. (whole.shut so).0)
+  moved-to-holder owner other holder = moved-free owner other (λ mode. holder-in w mode owner holder)
 
 pub makes-whole : {w w' : Core} (node : NodeNumber) (mode : Mode) (owner : Owner) (r : Result HandleNumber Error) → IsWhole w → Suits w node mode → MayHold w owner → Makes w node mode owner r w'
     → ArePlaced w' → IsWhole w'
@@ -55,20 +49,18 @@ clone-whole me h (Err e) whole holder call placed = alike-whole whole call.refus
 -- a handle that is loose or Pinned, and not the list's, is loose and pins
 pub pins-whole : {w : Core} (h : HandleNumber) (row : HandleRow) → IsWhole w → row_at w h ≡ Some row → is_shared row.mode ≡ false → is_owned_by Owner.List row ≡ false
     → IsWhole (roomy (with_mode w h Mode.LoosePinned))
-pins-whole h row whole live unshared other = moded-whole whole h row Mode.LoosePinned live (sym unshared) (λ loose. refl) (λ is. grind (arith, nat_tests))
+pins-whole h row whole live unshared other = (moded whole h row Mode.LoosePinned live (sym unshared) (λ loose. refl) (λ is. grind (arith, nat_tests))).0
 
-pub is-pinned : (mode : Mode) → is_pinned mode ≡ true → mode ≡ Mode.Pinned
-is-pinned x0 is = grind (arith, nat_tests)
+pinned-unshared : (mode : Mode) → is_pinned mode ≡ true → is_shared mode ≡ false
+pinned-unshared x0 is = grind (arith, nat_tests)
 
 -- a Pinned handle isn't the list's
 pub pinned-unlisted : {w : Core} (h : HandleNumber) (row : HandleRow) → IsWhole w → row_at w h ≡ Some row → is_pinned row.mode ≡ true → is_owned_by Owner.List row ≡ false
-pinned-unlisted {w} h row whole live pinned = grind (arith, nat_tests, whole.owners_there.waiting row (found-among h.0 w.rows row live).0, is-pinned)
+pinned-unlisted {w} h row whole live pinned = grind (arith, nat_tests, whole.owners_there.waiting row (found-among h.0 w.rows row live).0)
 
 pub loosen-whole : {w w' : Core} (me : Owner) (h : HandleNumber) (r : Result HandleNumber Error) → IsWhole w → LoosenCall w me h r w' → ArePlaced w' → IsWhole w'
 loosen-whole me h (Ok k) whole call placed =
-    let row = call.turned.0 in
-    let owns = call.turned.1 in
-    settles (pins-whole h row whole owns.live (ap is_shared (is-pinned row.mode owns.as_asked)) (pinned-unlisted h row whole owns.live owns.as_asked)) call.turned.3 placed
+    let (row, owns, is, turned) = call.turned in search (arith, settles, pins-whole, pinned-unlisted, pinned-unshared)
 loosen-whole me h (Err e) whole call placed = alike-whole whole call.refused.1 placed
 
 pub loose-unshared : (mode : Mode) → is_loose mode ≡ true → is_shared mode ≡ false
@@ -79,16 +71,15 @@ module _ {w : Core} (h : HandleNumber) (row : HandleRow) (me : Owner) (whole : I
   loosely : is_shared Mode.LoosePinned ≡ is_shared row.mode
   loosely = sym (loose-unshared row.mode owns.as_asked)
 
-  with-loose : GoesOn w (with_mode w h Mode.LoosePinned)
-  with-loose = moded-on whole h row Mode.LoosePinned owns.live loosely (λ loose. refl) (λ is. absurd (not-the-list w me holder (sym owns.own ∙ is)))
+  with-loose : IsWhole (roomy (with_mode w h Mode.LoosePinned)) × GoesOn w (with_mode w h Mode.LoosePinned)
+  with-loose = moded whole h row Mode.LoosePinned owns.live loosely (λ loose. refl) (λ is. absurd (let f : true ≡ false = ap (is_owner Owner.List) (sym is ∙ owns.own) ∙ not-list w me holder in cc))
 
   pub pin-comes : w.last.handle < greatest → IsWhole (roomy (with_pin w h row.node me))
   pin-comes left =
-      beside (pins-whole h row whole owns.live (sym loosely) (ap (is_owner Owner.List) owns.own ∙ not-list w me holder)) row.node Mode.Pinned me
-      (subst (HasLike (with_mode w h Mode.LoosePinned).rows row.node.0) (sym loosely) (with-loose.like row (found-among h.0 w.rows row owns.live).0)) holder left
+      beside with-loose.0 row.node Mode.Pinned me (subst (HasLike (with_mode w h Mode.LoosePinned).rows row.node.0) (sym loosely) (with-loose.1.like row (found-among h.0 w.rows row owns.live).0)) holder left
 
   pub pin-on : GoesOn w (with_pin w h row.node me)
-  pin-on = then-on with-loose (handle-on (with_mode w h Mode.LoosePinned) row.node Mode.Pinned me)
+  pin-on = then-on with-loose.1 (handle-on (with_mode w h Mode.LoosePinned) row.node Mode.Pinned me)
 
 pub pin-whole : {w w' : Core} (me : Owner) (h : HandleNumber) (r : Result Pinning Error) → IsWhole w → MayHold w me → PinCall w me h r w' → ArePlaced w' → IsWhole w'
 pin-whole me h x2 whole holder call placed = grind (arith, nat_tests, settles, pin-comes, alike-whole)

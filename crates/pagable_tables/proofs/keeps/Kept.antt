@@ -1,8 +1,8 @@
 -- A change of a whole world, as small as a row, an entry or a load: what has to be shown of it, and that the world is whole then.
-use Rattle.pagable_tables.proofs.Words.{◌&&◌, ◌<◌, ◌==◌, ◌∙◌, ◌∷◌, ◌≡◌, ◌≤◌, ◌⊎◌, AllPairs, Among, Bool, Cell, Core, HandleNumber, HandleRow, HandlesAreWhole, IsEntryWhole, IsHandleBefore}
-use Rattle.pagable_tables.proofs.Words.{IsRootWhole, IsWhole, List, MayHold, MayOwnLoad, Mode, NodeNumber, None, OpenLoad, Option, OptionalDataKey, Owner, SameAt, Some, [], arith, false}
-use Rattle.pagable_tables.proofs.Words.{greatest, has_key, held, if_there, inl, inr, is_at, is_handle, is_loose, is_owned_by, is_share, is_shared, is_some, length, nat_lt, nat_tests}
-use Rattle.pagable_tables.proofs.{Words.{of_cell, one, refl, sharing, subst, suc, sum_by, sum_by-cons, sym, times, true, ℕ}, keeps.Rows.{at-most-sum, counted, found-among, found-so, sum-less}}
+use Rattle.pagable_tables.proofs.Words.{◌&&◌, ◌<◌, ◌==◌, ◌∙◌, ◌≡◌, ◌≤◌, ◌⊎◌, AllPairs, Among, Bool, Cell, Core, HandleNumber, HandleRow, HandlesAreWhole, IsEntryWhole, IsHandleBefore, IsRootWhole}
+use Rattle.pagable_tables.proofs.Words.{IsWhole, List, MayHold, MayOwnLoad, Mode, NodeNumber, None, OpenLoad, Option, OptionalDataKey, Owner, SameAt, Some, [], arith, false, greatest, has_key, held}
+use Rattle.pagable_tables.proofs.Words.{if_there, inl, inr, is_at, is_handle, is_loose, is_owned_by, is_share, is_shared, is_some, length, nat_lt, nat_tests, of_cell, one, refl, sharing, subst, sym}
+use Rattle.pagable_tables.proofs.{Words.{times, true, ℕ, ap, LoadNumber}, keeps.Rows.{at-most-sum, counted, found-among, found-so, sum-less, same-sum}}
 
 abbrev pub type_in : Option Cell → Option ℕ
 type_in cell = if_there (λ (cell : Cell). Some cell.node_type) None cell
@@ -62,13 +62,11 @@ IsIn w mode (Owner.Worker v) = w.workers v.0 ≡ true
 IsIn w mode _ = Unit {0}
 
 pub is-in : {w : Core} → IsWhole w → (h : HandleRow) → Among w.rows h → IsIn w h.mode h.owner
-is-in {w} whole h among = of h.owner refl
-  where
-    of : (o : Owner) → h.owner ≡ o → IsIn w h.mode o
-    of Owner.List is = whole.owners_there.waiting h among is
-    of (Owner.Load l) is = whole.owners_there.loads h l among is
-    of (Owner.Worker v) is = whole.owners_there.workers h v.0 among is
-    of _ is = tt
+is-in {w} whole h among =
+    let a = whole.owners_there.waiting h among in
+    let b = λ (l : LoadNumber). whole.owners_there.loads h l among in
+    let c = λ (v : ℕ). whole.owners_there.workers h v among in
+    grind (arith, nat_tests)
 
 -- where loads stay open and workers at work
 pub in-still : (w u : Core) → ((l : ℕ) → is_some (w.loads l) ≡ true → is_some (u.loads l) ≡ true) → ((v : ℕ) → w.workers v ≡ true → u.workers v ≡ true) → (mode : Mode) (o : Owner)
@@ -105,10 +103,6 @@ pub record Keeps (w u : Core) : Type 0 where
   pub workers : (v : ℕ) → u.workers v ≡ true → v ≤ u.last.worker
   pub shut : u.closed ≡ true → (u.list ≡ []) × ((kind key : ℕ) → u.cache kind key ≡ None)
 
-same-sum : {X : Type 0} (f g : X → ℕ) (xs : List X) → ((x : X) → Among xs x → f x ≡ g x) → sum_by f xs ≡ sum_by g xs
-same-sum f g [] h = refl
-same-sum f g (x ∷ xs) h = grind (arith, nat_tests, sum_by-cons, same-sum f g xs (λ y among. h y (suc among.0, among.1)))
-
 pub at-then : (n : ℕ) (h : HandleRow) → 0 < one (is_at n h) → h.node.0 ≡ n
 at-then n h some = grind (arith, nat_tests)
 
@@ -122,34 +116,25 @@ held-some n rows h among e = let a = at-most-sum (λ x. one (is_at n x)) rows h 
 pub there-then : {w : Core} → IsWhole w → (h : HandleRow) → Among w.rows h → is_some (w.cells h.node.0) ≡ true
 there-then {w} whole h among = let a = held-some h.node.0 w.rows h among refl in let b : nat_lt 0 (held h.node.0 w.rows) ≡ true = grind (arith, nat_tests) in whole.handles.live h.node.0 ∙ b
 
--- a node that is there has a row
-pub row-then : (n : ℕ) (rows : List HandleRow) (cell : Option Cell) → is_some cell ≡ nat_lt 0 (held n rows) → is_some cell ≡ true → (h : HandleRow) × Among rows h × (h.node.0 ≡ n)
-row-then n rows cell live some = grind (arith, nat_tests, counted, at-then)
-
 -- rows of one node are all Shared, or none is
-pub record AreAlike (rows : List HandleRow) : Type 0 where
-  pub same : (x y : HandleRow) → Among rows x → Among rows y → x.node.0 ≡ y.node.0 → is_shared x.mode ≡ is_shared y.mode
+abbrev pub AreAlike : List HandleRow → Type 0
+AreAlike rows = (x y : HandleRow) → Among rows x → Among rows y → x.node.0 ≡ y.node.0 → is_shared x.mode ≡ is_shared y.mode
 
-shared-count : (n : ℕ) (rows : List HandleRow) (x : HandleRow) (b : Bool) → Among rows x → x.node.0 ≡ n → is_shared x.mode ≡ b → one (is_share n x) ≡ one b
-shared-count n rows x b among e is = grind (arith, nat_tests)
+-- a row is Shared exactly where one of its node is
+shared-by : {w : Core} → IsWhole w → (x : HandleRow) → Among w.rows x → is_shared x.mode ≡ nat_lt 0 (sharing x.node.0 w.rows)
+shared-by {w} whole x among = grind (
+  arith,
+  nat_tests,
+  whole.handles.uniform x.node.0,
+  at-most-sum (λ h. one (is_share x.node.0 h)) w.rows x among,
+  sum-less (λ h. one (is_share x.node.0 h)) (λ h. one (is_at x.node.0 h)) w.rows x (λ h. grind (arith, nat_tests)) among,
+)
 
 pub alike-rows : {w : Core} → IsWhole w → AreAlike w.rows
-alike-rows {w} whole = record {
-  same = λ x y there here same.
-      let n = y.node.0 in
-      grind (
-        arith,
-        nat_tests,
-        whole.handles.uniform n,
-        at-most-sum (λ h. one (is_share n h)) w.rows x there,
-        at-most-sum (λ h. one (is_share n h)) w.rows y here,
-        sum-less (λ h. one (is_share n h)) (λ h. one (is_at n h)) w.rows x (λ h. grind (arith, nat_tests)) there,
-        sum-less (λ h. one (is_share n h)) (λ h. one (is_at n h)) w.rows y (λ h. grind (arith, nat_tests)) here,
-      );
-}
+alike-rows {w} whole x y there here same = shared-by whole x there ∙ ap (λ n. nat_lt 0 (sharing n w.rows)) same ∙ sym (shared-by whole y here)
 
 uniform-rows : (n : ℕ) (rows : List HandleRow) → AreAlike rows → (k : ℕ) → sharing n rows ≡ k → (sharing n rows ≡ 0) ⊎ (sharing n rows ≡ held n rows)
-uniform-rows n rows alike x4 is = grind (arith, nat_tests, counted, share-then, same-sum)
+uniform-rows n rows alike x4 is = grind (arith, nat_tests, counted, share-then, same-sum, alike)
 
 module _ {w u : Core} (whole : IsWhole w) (k : Keeps w u) where
   given : (n : ℕ) (shared : Bool) → HasLike w.rows n shared → (0 < n) × (n ≤ w.last.node)
@@ -158,9 +143,6 @@ module _ {w u : Core} (whole : IsWhole w) (k : Keeps w u) where
   like : (h : HandleRow) → Among u.rows h → HasLike w.rows h.node.0 (is_shared h.mode)
       ⊎ ((w.last.node < h.node.0) × (h.node.0 ≤ u.last.node) × (is_shared h.mode ≡ k.on.fresh) × (k.on.fresh ≡ true → keyed_in (u.cells h.node.0) ≡ false))
   like h among = let r = k.on.rows h among in grind (arith, nat_tests)
-
-  alike : AreAlike u.rows
-  alike = record { same = λ x y there here same. let a = like x there in let b = like y here in let s = (alike-rows whole).same in grind (arith, nat_tests, given, s) }
 
   handles : HandlesAreWhole u
   handles =
@@ -174,25 +156,24 @@ module _ {w u : Core} (whole : IsWhole w) (k : Keeps w u) where
           ))
           | inr new ↦ (let a = new.above in let b = new.few in (omega arith, omega arith))
         ];
-        nodes_numbered = λ n some. let (x, among, at) = row-then n u.rows (u.cells n) (k.on.live n) some in let l = like x among in let c = k.on.last in grind (arith, nat_tests, given);
+        nodes_numbered = λ n some.
+            let (x, among, counts) = counted (λ h. one (is_at n h)) u.rows (let l = k.on.live n in grind (arith, nat_tests)) in
+            let at = at-then n x counts in let l = like x among in let c = k.on.last in grind (arith, nat_tests, given);
         within = k.within;
         live = k.on.live;
-        uniform = λ n. uniform-rows n u.rows alike (sharing n u.rows) refl;
-        unkeyed = λ n some. keyless n (counted (λ h. one (is_share n h)) u.rows some);
+        uniform = λ n. uniform-rows n u.rows (λ x y there here same. let a = like x there in let b = like y here in grind (arith, nat_tests, given, alike-rows whole)) (sharing n u.rows) refl;
+        unkeyed = λ n some. let (x, among, counts) = counted (λ h. one (is_share n h)) u.rows some in let (at, is) = share-then n x counts in subst (λ m. keyed_in (u.cells m) ≡ false) at (keyless x among is);
         places = k.places;
       }
     where
-      keyless : (n : ℕ) → (h : HandleRow) × Among u.rows h × (0 < one (is_share n h)) → keyed_in (u.cells n) ≡ false
-      keyless n found =
-          let x = share-then n found.0 found.2 in
-          subst (λ m. keyed_in (u.cells m) ≡ false) x.0 (elim (like found.0 found.1) [
-            | inl old ↦
-                let b : HasLike w.rows found.0.node.0 true = record { row = old.row; there = old.there; at = old.at; same = old.same ∙ x.1 } in
-                let c = at-most-sum (λ h. one (is_share found.0.node.0 h)) w.rows old.row old.there in
-                let d = shared-count found.0.node.0 w.rows old.row true old.there old.at (old.same ∙ x.1) in
-                k.on.keyed found.0.node.0 b (given found.0.node.0 true b).1 (whole.handles.unkeyed found.0.node.0 (omega arith))
-            | inr new ↦ new.3 (sym new.2 ∙ x.1)
-          ])
+      keyless : (x : HandleRow) → Among u.rows x → is_shared x.mode ≡ true → keyed_in (u.cells x.node.0) ≡ false
+      keyless x among is = elim (like x among) [
+        | inl old ↦
+            let b : HasLike w.rows x.node.0 true = record { row = old.row; there = old.there; at = old.at; same = old.same ∙ is } in
+            let c = sym (shared-by whole old.row old.there) ∙ b.same in
+            k.on.keyed x.node.0 b (given x.node.0 true b).1 (whole.handles.unkeyed x.node.0 (subst (λ m. 0 < sharing m w.rows) old.at (grind (arith, nat_tests))))
+        | inr new ↦ new.3 (sym new.2 ∙ is)
+      ]
 
   root : (node : NodeNumber) (t : ℕ) (h : HandleNumber) → IsRootWhole w node t h → IsRootWhole u node t h
   root node t h r =
@@ -202,9 +183,6 @@ module _ {w u : Core} (whole : IsWhole w) (k : Keeps w u) where
         begun = λ row is. let found = found-among h.0 u.rows row is in let old = k.on.rows row found.0 in grind (arith, nat_tests, so);
         given = let a = r.given in let b = k.on.last in (omega arith, omega arith);
       }
-
-  entry : (kind n : ℕ) → IsEntryWhole w kind n → IsEntryWhole u kind n
-  entry kind n e = grind (arith, nat_tests, like, k.on.typed)
 
   pub keeps-whole : IsWhole u
   keeps-whole =
@@ -221,7 +199,7 @@ module _ {w u : Core} (whole : IsWhole w) (k : Keeps w u) where
           owned = λ l load is. (k.loads l load is).0;
           roots = λ l load node t h is of. root node t h (elim (k.loads l load is).1 [ inl was ↦ whole.loads.roots l load node t h was of | inr new ↦ new.root node t h of ]);
         };
-        cache = λ kind key n is. entry kind n (k.cache kind key n is);
+        cache = λ kind key n is. let e = k.cache kind key n is in grind (arith, nat_tests, like, k.on.typed);
         workers_numbered = k.workers;
         shut = k.shut;
       }

@@ -3,7 +3,7 @@ use Rattle.pagable_tables.proofs.Words.{◌&&◌, ◌++◌, ◌+◌, ◌<◌, �
 use Rattle.pagable_tables.proofs.Words.{ScheduleCall, SetKeyCall, Some, TakeCall, UnpinCall, [], ap, arith, false, get_or_from_slice_get, if◌then◌else◌, inl, inr, is_owned_by, is_owner, is_shared}
 use Rattle.pagable_tables.proofs.{Words.{moved, nat_tests, one, only_handle, refl, slice_get, slice_get_within, sum_by-remove, sum_by_push, sym, times, true, with_key, ℕ}, Left.of_list}
 use Rattle.pagable_tables.proofs.keeps.{Comes.not-list, Fallen.{alike-opened, falls-opened, opened}, HandleCalls.{loose-unshared, moved-so}, Kept.{alike-rows, holder-in, is-in, keeps-whole}}
-use Rattle.pagable_tables.proofs.keeps.{Kept.{loads-stay, stays-old}, Rows.{changed-sum, counted, found-among, once}, Told.{alike-whole, moded-on, moded-whole, roomy-whole, settles, stays-on}}
+use Rattle.pagable_tables.proofs.keeps.{Kept.{loads-stay, stays-old}, Rows.{changed-sum, counted, found-among, once}, Told.{alike-whole, roomy-whole, settles, stays-on, moded}}
 use Rattle.std.specs.List.{remove}
 
 -- The handle h of this row alone moves: what the list's handles of a number are then.
@@ -53,8 +53,8 @@ unpin-whole me h r whole call placed = elim call.does [
   | inr (row, owns, inl stays) ↦ alike-whole whole (alike-opened stays.2) placed
   | inr (row, owns, inr (pinned, falls)) ↦
       let unshared : is_shared Mode.LooseUnpinned ≡ is_shared row.mode = ap is_shared (sym pinned) in
-      falls-opened (moded-whole whole h row Mode.LooseUnpinned owns.live unshared (λ loose. refl) (λ is. refl))
-      (moded-on whole h row Mode.LooseUnpinned owns.live unshared (λ loose. refl) (λ is. refl)) falls placed
+      let turned = moded whole h row Mode.LooseUnpinned owns.live unshared (λ loose. refl) (λ is. refl) in
+      falls-opened turned.0 turned.1 falls placed
 ]
 
 -- ---- a key

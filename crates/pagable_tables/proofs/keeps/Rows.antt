@@ -1,8 +1,9 @@
 -- Rows, one by one and counted, as they come and change, and what is left as handles go.
-use Rattle.pagable_tables.proofs.Words.{◌&&◌, ◌++◌, ◌+◌, ◌<◌, ◌==◌, ◌∙◌, ◌∷◌, ◌≡◌, ◌≤◌, ◌⊎◌, AllPairs, Among, AreNewEntries, Bool, HandleNumber, HandleRow, IsHandleBefore, IsWithin, List, Mode}
-use Rattle.pagable_tables.proofs.Words.{None, Option, Owner, Some, [], all_pairs_push, ap, append-nil, append_assoc, arith, cases_order, changed, false, filter, find_row, get_or, get_or-map}
-use Rattle.pagable_tables.proofs.Words.{get_or_from_slice_get, if◌then◌else◌, inl, inr, is_handle, is_owned_by, length, length-map, map, nat_tests, not, one, refl, slice_get-get_or}
-use Rattle.pagable_tables.proofs.{Words.{slice_get_within, subst, suc, sum_by, sum_by-cons, sum_by-le-sum_by, sym, times, true, zero, ℕ}, Alive.none-found, Bits.and-all}
+use Rattle.pagable_tables.proofs.Words.{◌&&◌, ◌++◌, ◌+◌, ◌<◌, ◌==◌, ◌∙◌, ◌∷◌, ◌≡◌, ◌≤◌, ◌⊎◌, AllPairs, Among, AreNewEntries, Bool, HandleNumber, HandleRow, IsHandleBefore, IsWithin, List, Mode, None}
+use Rattle.pagable_tables.proofs.Words.{Option, Owner, Some, [], all_pairs_push, ap, append-nil, append_assoc, arith, changed, false, filter, find_row, get_or, get_or-map, get_or_from_slice_get}
+use Rattle.pagable_tables.proofs.Words.{if◌then◌else◌, inl, inr, is_handle, is_owned_by, length, length-map, map, nat_tests, not, one, refl, slice_get-get_or, slice_get_within, subst, suc, sum_by}
+use Rattle.pagable_tables.proofs.{Words.{sum_by-cons, sum_by-le-sum_by, sym, times, true, zero, ℕ, All-filter, cases_eq, get_or-le-sum_by}, Alive.none-found, Bits.and-all}
+use Rattle.std.proofs.lemmas.List.Elements.{filter_passes}
 
 -- ---- one by one
 
@@ -26,21 +27,12 @@ pub among-map : {X : Type 0} (f : X → X) (xs : List X) (x : X) → Among (map 
 among-map f (y ∷ ys) x (suc i, is) = let r = among-map f ys x (i, is) in (r.0, (suc r.1.0, r.1.1), r.2)
 among-map f x1 x x3 = grind (arith, nat_tests)
 
-among-cond : {X : Type 0} (test : X → Bool) (b : Bool) (y : X) (ys zs : List X) (x : X) → test y ≡ b → Among (if b then y ∷ ys else ys) x → (Among ys x → Among zs x × (test x ≡ true))
-    → Among (y ∷ zs) x × (test x ≡ true)
-among-cond test true y ys zs x so (zero, is) rest = let e : y ≡ x = cc in ((zero, is), ap test (sym e) ∙ so)
-among-cond test true y ys zs x so (suc i, is) rest = let a = rest (i, is) in ((suc a.0.0, a.0.1), a.1)
-among-cond test false y ys zs x so a rest = let b = rest a in ((suc b.0.0, b.0.1), b.1)
-
 -- what is left was there, and passes the test
 pub among-left : {X : Type 0} (test : X → Bool) (xs : List X) (x : X) → Among (filter test xs) x → Among xs x × (test x ≡ true)
-among-left test [] x a = absurd (cc)
-among-left test (y ∷ ys) x a = among-cond test (test y) y (filter test ys) ys x refl a (among-left test ys x)
-
--- and each that was there is there changed
-pub among-to : {X : Type 0} (f : X → X) (xs : List X) (x : X) → Among xs x → Among (map f xs) (f x)
-among-to f (y ∷ ys) x (suc i, is) = let r = among-to f ys x (i, is) in (suc r.0, r.1)
-among-to f x1 x x3 = grind (arith, nat_tests)
+among-left test xs x (i, is) =
+    let lt = slice_get_within (filter test xs) i x is in
+    let there = All-filter test (λ y. Among xs y) xs (λ k d less. (k, slice_get-get_or xs k d less)) i x lt in
+    subst (λ y. Among xs y × (test y ≡ true)) (get_or_from_slice_get (filter test xs) i x x is) (there, filter_passes test xs i x lt)
 
 -- what both cases give of a row to which f may be done
 pub each-changed : {X : Type 0} (test : X → Bool) (f : X → X) (P : X → Type 0) (x : X) → (test x ≡ true → P (f x)) → (test x ≡ false → P x) → P (if test x then f x else x)
@@ -55,22 +47,25 @@ among-changed test f P xs x among does stays = grind (arith, nat_tests, among-ma
 
 -- each element is part of the sum
 pub at-most-sum : {X : Type 0} (f : X → ℕ) (xs : List X) (x : X) → Among xs x → f x ≤ sum_by f xs
-at-most-sum f (y ∷ ys) x (suc i, is) = grind (arith, nat_tests, sum_by-cons, at-most-sum f ys x)
-at-most-sum f x1 x x3 = grind (arith, nat_tests, sum_by-cons)
+at-most-sum f xs x (i, is) = subst (λ y. f y ≤ sum_by f xs) (get_or_from_slice_get xs i x x is) (get_or-le-sum_by f xs i x (slice_get_within xs i x is))
 
 -- a sum above zero has an element that counts
 pub counted : {X : Type 0} (f : X → ℕ) (xs : List X) → 0 < sum_by f xs → (x : X) × Among xs x × (0 < f x)
 counted f [] some = absurd (omega arith)
-counted {X} f (x ∷ xs) some = pick (f x) refl (λ z. let c = sum_by-cons f x xs in counted f xs (omega arith))
-  where
-    pick : (n : ℕ) → f x ≡ n → (f x ≡ 0 → (y : X) × Among xs y × (0 < f y)) → (y : X) × Among (x ∷ xs) y × (0 < f y)
-    pick zero e rest = let r = rest e in (r.0, (suc r.1.0, r.1.1), r.2)
-    pick (suc n) e rest = (x, (zero, refl), omega arith)
+counted f (x ∷ xs) some = elim (cases_eq (f x) 0) [
+  | inl none ↦ let c = sum_by-cons f x xs in let r = counted f xs (omega arith) in (r.0, (suc r.1.0, r.1.1), r.2)
+  | inr more ↦ (x, (zero, refl), omega arith)
+]
 
 -- smaller at each element and less at one, so less in sum
 pub sum-less : {X : Type 0} (f g : X → ℕ) (xs : List X) (x : X) → ((y : X) → f y ≤ g y) → Among xs x → f x < g x → sum_by f xs < sum_by g xs
 sum-less f g (y ∷ ys) x le (suc i, is) lt = grind (arith, nat_tests, sum_by-le-sum_by, sum_by-cons, sum-less f g ys x le (i, is) lt)
 sum-less f g x2 x le x5 lt = grind (arith, nat_tests, sum_by-le-sum_by, sum_by-cons)
+
+-- two sums that are the same at each element
+pub same-sum : {X : Type 0} (f g : X → ℕ) (xs : List X) → ((x : X) → Among xs x → f x ≡ g x) → sum_by f xs ≡ sum_by g xs
+same-sum f g [] h = refl
+same-sum f g (x ∷ xs) h = grind (arith, nat_tests, sum_by-cons, same-sum f g xs (λ y among. h y (suc among.0, among.1)))
 
 -- the sum after each element changed
 pub sum-map : {X : Type 0} (f g : X → ℕ) (to : X → X) (xs : List X) → ((x : X) → Among xs x → f (to x) ≡ g x) → sum_by f (map to xs) ≡ sum_by g xs
@@ -94,27 +89,14 @@ found-among q (h ∷ hs) row found = at (found-among q hs row) (is_handle q h) r
 
 -- one row has a number
 pub once : (rows : List HandleRow) → AllPairs IsHandleBefore rows → (a b : HandleRow) → Among rows a → Among rows b → a.number.0 ≡ b.number.0 → a ≡ b
-once rows ordered a b (i, at) (j, there) same = grind (
-  arith,
-  nat_tests,
-  ap (λ (h : HandleRow). h.number.0) (get_or_from_slice_get rows i a a at),
-  ap (λ (h : HandleRow). h.number.0) (get_or_from_slice_get rows j b a there),
-  slice_get_within rows i a at,
-  slice_get_within rows j b there,
-  get_or_from_slice_get,
-  cases_order,
-)
+once rows ordered a b (i, at) (j, there) same =
+    let p = ordered i j a in
+    let q = ordered j i a in
+    grind (arith, nat_tests, get_or_from_slice_get rows i a a at, get_or_from_slice_get rows j b a there, slice_get_within rows i a at, slice_get_within rows j b there, cases_eq i j)
 
 -- the order stays where numbers do, and where a greater number comes
 pub ordered-map : (to : HandleRow → HandleRow) (rows : List HandleRow) → ((h : HandleRow) → (to h).number.0 ≡ h.number.0) → AllPairs IsHandleBefore rows → AllPairs IsHandleBefore (map to rows)
-ordered-map to rows same ordered j k d less lt =
-    let n = length-map rows to in
-    omega (
-      arith,
-      ap (λ (h : HandleRow). h.number.0) (get_or-map to rows j d d (omega arith)),
-      ap (λ (h : HandleRow). h.number.0) (get_or-map to rows k d d (omega arith)),
-      ordered j k d less (omega arith),
-    )
+ordered-map to rows same ordered j k d less lt = grind (arith, nat_tests, length-map rows to, get_or-map to rows j d d, get_or-map to rows k d d, ordered j k d less, same)
 
 pub ordered-push : (rows : List HandleRow) (row : HandleRow) → ((h : HandleRow) → Among rows h → h.number.0 < row.number.0) → AllPairs IsHandleBefore rows → AllPairs IsHandleBefore (rows ++ row ∷ [])
 ordered-push rows row above ordered = all_pairs_push IsHandleBefore rows row ordered (λ k d lt. above (get_or rows k d) (k, slice_get-get_or rows k d lt))
@@ -133,33 +115,27 @@ first-less x xs ordered y (j, at) =
     let less : x.number.0 < (get_or xs j x).number.0 = ordered 0 (suc j) x (omega arith) (omega arith) in
     omega arith
 
+-- two sums that are the same but at one row
+apart-sum : (f g : HandleRow → ℕ) (rows : List HandleRow) (row : HandleRow) → AllPairs IsHandleBefore rows → Among rows row → ((x : HandleRow) → (x.number.0 == row.number.0) ≡ false → f x ≡ g x)
+    → sum_by f rows + g row ≡ sum_by g rows + f row
+apart-sum f g [] row ordered among same = let a = among.1 in absurd (cc)
+apart-sum f g (x ∷ xs) row ordered (zero, is) same =
+    let c = same-sum f g xs (λ y among. same y (let less = first-less x xs ordered y among in grind (arith, nat_tests))) in
+    grind (arith, nat_tests, sum_by-cons f x xs, sum_by-cons g x xs)
+apart-sum f g (x ∷ xs) row ordered (suc i, is) same =
+    let less = first-less x xs ordered row (i, is) in
+    let rest = apart-sum f g xs row (λ j k d less lt. ordered (suc j) (suc k) d (omega arith) (omega arith)) (i, is) same in
+    omega (arith, sum_by-cons f x xs, sum_by-cons g x xs, same x (grind (arith, nat_tests)))
+
 -- what changes one row changes the sum by what it changes there
 pub changed-sum : (f : HandleRow → ℕ) (to : HandleRow → HandleRow) (rows : List HandleRow) (row : HandleRow) → AllPairs IsHandleBefore rows → Among rows row
     → ((x : HandleRow) → (x.number.0 == row.number.0) ≡ false → f (to x) ≡ f x) → sum_by f (map to rows) + f row ≡ sum_by f rows + f (to row)
-changed-sum f to [] row ordered among same = let a = among.1 in absurd (cc)
-changed-sum f to (x ∷ xs) row ordered (zero, is) same =
-    let c = sum-map f f to xs (λ y among. same y (let less = first-less x xs ordered y among in grind (arith, nat_tests))) in
-    grind (arith, nat_tests, sum_by-cons f x xs, sum_by-cons f (to x) (map to xs))
-changed-sum f to (x ∷ xs) row ordered (suc i, is) same =
-    let less = first-less x xs ordered row (i, is) in
-    omega (
-      arith,
-      sum_by-cons f x xs,
-      sum_by-cons f (to x) (map to xs),
-      same x (grind (arith, nat_tests)),
-      changed-sum f to xs row (λ j k d less lt. ordered (suc j) (suc k) d (omega arith) (omega arith)) (i, is) same,
-    )
+changed-sum f to rows row ordered among same = omega (arith, sum-map f (λ x. f (to x)) to rows (λ x there. refl), apart-sum (λ x. f (to x)) f rows row ordered among same)
 
 -- what is counted of one number is counted of its row
 pub only-row : (f : HandleRow → ℕ) (rows : List HandleRow) (row : HandleRow) → AllPairs IsHandleBefore rows → Among rows row → ((x : HandleRow) → (x.number.0 == row.number.0) ≡ false → f x ≡ 0)
     → sum_by f rows ≡ f row
-only-row f [] row ordered among none = let a = among.1 in absurd (cc)
-only-row f (x ∷ xs) row ordered (zero, is) none =
-    let c = sum-none f xs (λ y among. none y (let less = first-less x xs ordered y among in grind (arith, nat_tests))) in
-    grind (arith, nat_tests, sum_by-cons f x xs)
-only-row f (x ∷ xs) row ordered (suc i, is) none =
-    let less = first-less x xs ordered row (i, is) in
-    omega (arith, sum_by-cons f x xs, none x (grind (arith, nat_tests)), only-row f xs row (λ j k d less lt. ordered (suc j) (suc k) d (omega arith) (omega arith)) (i, is) none)
+only-row f rows row ordered among none = omega (arith, sum-none (λ (x : HandleRow). 0) rows (λ x there. refl), apart-sum f (λ x. 0) rows row ordered among none)
 
 -- a row that stands there is found
 pub found-so : (q : ℕ) (rows : List HandleRow) (row : HandleRow) → AllPairs IsHandleBefore rows → Among rows row → row.number.0 ≡ q → find_row q rows ≡ Some row

@@ -1,6 +1,6 @@
 use Rattle.pagable_tables.proofs.Words.{cases_eq, nat_tests, false, Bool, ◌+◌, ◌-◌, ◌≡◌, ◌≤◌, ℕ, arith, refl, ap, sym, ◌∙◌, subst, Some, ◌∷◌, if◌then◌else◌, ◌≢◌, one, is_pinning, live, counts_at}
 use Rattle.pagable_tables.proofs.Words.{refs_at, Fits, pins_in, after, is_fallen_by, ValueStays, owns_nothing, Counts, HandleRow, Holdings, MayList, sum_by, unpinned, entry, nat_lt, true}
-use Rattle.pagable_tables.proofs.{Alive.row-le-live, Coming.owned-by-none, Left.with-entry, Fitting.{given-fits, given-cells, new-top, long-if, pin-here, held-here, pin_of}}
+use Rattle.pagable_tables.proofs.{Alive.row-le-live, Coming.owned-by-none, Left.with-entry, Fitting.{given-fits, new-top, long-if, pin-here, held-here, pin_of}}
 use Rattle.pagable_tables.proofs.holdings.give_up.Goals as goal
 
 -- a handle that leaves takes no value with it at once
@@ -50,7 +50,7 @@ returns c stack w =
       between = mid;
       comes = subst (λ w. MayList gap x.node w listed mid) c.wants_entry-wanted.ensures c.enlist_if-listed.ensures;
       same = refl;
-      cells = given-cells _ at' _ refs' _ rows' old.top stack x counts stays listed (old.last_handle + 1) w.fits is plain sums here others same some live';
+      cells = λ m there. grind (arith, nat_tests, cases_eq m n, is, here, others m);
       values = λ m. grind (arith, nat_tests, cases_eq, after-value);
       more = if b then n ∷ stack else stack;
       falling = record {

@@ -14,15 +14,12 @@ no-value x0 k m = grind (arith, nat_tests)
 module _ (t mid : Holdings) (ns : List ℕ) (p : ArcRef) (i : ℕ) (x : HandleRow) (w : IsFalling t (t.top ∷ ns) owns_nothing) (popped : refs_at t.nodes t.top ≡ refs_at mid.nodes t.top ++ p ∷ [])
     (others : (m : ℕ) → m ≢ t.top → refs_at mid.nodes m ≡ refs_at t.nodes m) (same : (m : ℕ) → counts_at mid.nodes m ≡ counts_at t.nodes m)
     (at : slice_get t.handles.places.items i ≡ Some (alive x)) (number : x.number.0 ≡ p.handle.0) where
-  its-owner : is_owned t.top p.handle.0 x ≡ 1
-  its-owner =
-      let a = taken-owned (counts_at t.nodes) (counts_at mid.nodes) (refs_at t.nodes) (refs_at mid.nodes) (live t.handles.places.items) t.top ns p w.fits popped others same in
-      let o = only-row (is_owned t.top p.handle.0) t.handles.places.items i x w.sound.ordered at (λ h. grind (arith, nat_tests)) in
-      grind (arith, nat_tests)
-
   taken : (x.owner ≡ owner_value t.top) × IsFalling (record t { nodes = mid.nodes }) (t.top ∷ ns) (owns x)
   taken =
-      let o = owner-is t.top p.handle.0 x its-owner in
+      let a = taken-owned (counts_at t.nodes) (counts_at mid.nodes) (refs_at t.nodes) (refs_at mid.nodes) (live t.handles.places.items) t.top ns p w.fits popped others same in
+      let b = only-row (is_owned t.top p.handle.0) t.handles.places.items i x w.sound.ordered at (λ h. grind (arith, nat_tests)) in
+      let its : is_owned t.top p.handle.0 x ≡ 1 = grind (arith, nat_tests) in
+      let o = owner-is t.top p.handle.0 x its in
       let fits = taken-fits (counts_at t.nodes) (counts_at mid.nodes) (refs_at t.nodes) (refs_at mid.nodes) (live t.handles.places.items) t.top ns p w.fits popped others same x o.1 in
       (o.0, record { sound = w.sound; next = w.next; fits = fits })
 
