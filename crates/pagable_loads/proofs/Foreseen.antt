@@ -1,12 +1,12 @@
 -- From one reading with stand-ins to what a blob asks for ahead.
-use Rattle.std.proofs.Common.{◌≡◌, ℕ, ◌+◌, ◌<◌, ◌≤◌, ◌⊎◌, drop, Bool, true, false, if◌then◌else◌, List, [], ◌∷◌, ◌++◌}
+use Rattle.std.proofs.Common.{◌≡◌, ℕ, ◌+◌, ◌<◌, ◌≤◌, ◌⊎◌, drop, false, if◌then◌else◌, List, [], ◌∷◌, ◌++◌}
 use Rattle.std.proofs.Common.{length, Option, Some, None, Result, Ok, Err, inl, inr, refl, ap, sym, subst, ◌∙◌, arith}
 use Rattle.std.proofs.{Common.{slice_get, ◌==◌}, lemmas.{Option.{slice_get_cases, slice_get_within, slice_get-get_or}, Bool.Decides.nat_tests}}
 use Rattle.std.proofs.lemmas.List.{append_assoc, at_drop_all, at_drop_more, length-append, length-map, map-append}
 use Rattle.pagable_model.specs.{declared.{error.Error.Error, numbers.{ArcRef.ArcRef, Kind.Kind}}, Blob.Blob, Meaning.Meaning, Reading.Rest, Standing.Answer, Deep.is_eager}
 use Rattle.pagable_world.specs.{Plain.Types, World.Frame, Loads.{asks, answer_of, answers_from, next_by}}
 use Rattle.{pagable_world.specs.Loads.{next_of, read_with, need_at, need_of, needs_nested, needs_lazy}, pagable_loads.specs.Ahead.kinds_of}
-use Rattle.pagable_loads.{specs.Ahead.{AsksNext, Foresees, IsAhead, AskedIf, RowTells, GotMore, Kept}, proofs.Traced.{End, done, faulty, Answered, Goes, Trace, typed_traced}}
+use Rattle.pagable_loads.{specs.Ahead.{AsksNext, Foresees, IsAhead, RowTells, GotMore, Kept}, proofs.Traced.{End, done, faulty, Answered, Goes, Trace, typed_traced}}
 
 -- ---- lists
 
@@ -96,9 +96,9 @@ module _ (types : Types) (t : ℕ) (blob : Blob) where
       record { key = _; there = there; next = ap (next_by (slice_get blob.keys (length got))) stop ∙ ap (λ o. next_by o (Err (Error.Storage k))) there }
 
 -- a row that was found by stand-ins, the last of which is asked for after all others
-pub row_found : (types : Types) (f : Frame) (fs frames : List Frame) (row xs noted : List ArcRef) (last : ArcRef) (b : Bool) → frames ≡ f ∷ fs
-    → row ≡ xs ++ last ∷ [] → xs ++ last ∷ [] ≡ f.got ++ noted → b ≡ true → AskedIf types f.node_type f.blob xs last.kind.0 b → IsAhead types frames row
-row_found types f fs frames row xs noted last b there is split found asked = grind (arith, nat_tests, kinds_joined, row_asked)
+pub row_found : (types : Types) (f : Frame) (fs frames : List Frame) (row xs noted : List ArcRef) (last : ArcRef) (kind : Kind) (key : ℕ) → frames ≡ f ∷ fs → row ≡ xs ++ last ∷ []
+    → xs ++ last ∷ [] ≡ f.got ++ noted → kind.0 ≡ last.kind.0 → next_of types f.node_type f.blob xs ≡ asks kind key → IsAhead types frames row
+row_found types f fs frames row xs noted last kind key there is split same next = grind (arith, nat_tests, kinds_joined, row_asked)
 
 -- what stands in the row behind what was got
 next_in_row : (row got : List ArcRef) (r : ArcRef) (ahead : List ℕ) → kinds_of row ≡ kinds_of got ++ ahead → slice_get row (length got) ≡ Some r → (more : List ℕ) × (ahead ≡ r.kind.0 ∷ more)

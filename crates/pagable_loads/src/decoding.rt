@@ -1,7 +1,7 @@
 //! A blob is read from its front, with the references that were got so far.
 
-ghost use Rattle.std.specs.Prelude.{◌≡◌, IfOk, IfSome, IfNone, false, length, slice_get};
-ghost use Rattle.{pagable_core.specs.Data.blob_of, pagable_loads.specs.Decoding.{Decodes, ReadsWith, Asks, is_asking}};
+ghost use Rattle.std.specs.Prelude.{◌≡◌, IfOk, length, slice_get};
+ghost use Rattle.{pagable_core.specs.Data.blob_of, pagable_loads.specs.Decoding.{Decodes, ReadsWith, Asks}};
 ghost use Rattle.pagable_loads.specs.Telling.{values_at};
 
 use crate::got::GotReferences;
@@ -57,17 +57,6 @@ fn asked<N: Drop>(blob: &PagableData, got: &[ArcRef], kind: u32) -> Decoded<N>
     Decoded::Wants(Kind(kind), arcs[place])
 }
 
-// The kind as which a reference that wasn't got is asked for, if this refusal tells it.
-fn asked_kind(e: &Error) -> Option<u32>
-    ensures some { IfSome result (λ kind. e.now ≡ Error.Storage kind) }
-    ensures none { IfNone result (is_asking e.now ≡ false) }
-{
-    match e {
-        Error::Storage(kind) => Some(*kind),
-        _ => None,
-    }
-}
-
 /// Reads a blob from its front as a value of this type, with the references that were got for it so far, whose values are lent by their places. Nothing that
 /// its reader did on an earlier way is trusted: what it asks for next is told by the blob alone.
 pub fn decode<E: Env>(
@@ -84,9 +73,7 @@ where
 {
     match read_got(env, alloc, blob, node_type, got, lent) {
         Ok(value) => Decoded::Read(value),
-        Err(e) => match asked_kind(&e) {
-            Some(kind) => asked(blob, got, kind),
-            None => Decoded::Refused(e),
-        },
+        Err(Error::Storage(kind)) => asked(blob, got, kind),
+        Err(e) => Decoded::Refused(e),
     }
 }
