@@ -1,7 +1,6 @@
 //! Page-out of what values refer to: the claims of a table, and a worker's walk over them with a stack of tasks.
 #![tactic(auto)]
 
-pub mod ending;
 pub mod over;
 pub mod results;
 pub mod slots;

@@ -1,27 +1,28 @@
-//! A worker's turns at a reference that it has come to: it claims what the reference names, pins it, by a load where it is needed, and writes its value.
+//! What a worker's turns are made of: it claims what a reference names, writes its value, stores the blob of what it has written, and gives an entry back.
 
-ghost use Rattle.std.specs.{Prelude.{◌≡◌, ◌≤◌, ◌+◌, ◌*◌, ◌∷◌, ℕ, List, length, ◌<◌, IfOk, IfErr, OnOk, vec_len, vec_capacity}, Arc.arc_value};
-ghost use Rattle.pagable_world.specs.Plain.{longest_path};
-ghost use Rattle.pagable_world.specs.{Plain.type_of, Workers.{claim_fault, is_counted_claim, Claims}, World.{Core, Shelf, Todo, to_start, to_pin, to_load, seen_as, to_write, to_finish}, Kinds.identity_of};
-ghost use Rattle.{pagable_loads.specs.{Frames.reading_of, Telling.{Acts, Tells, values_at}, Working.fault_in}, pagable_walk.specs.{Due.{due, most, LeadsOn}, Table.{shelf_of, found_as}, Tasks.Awaits}};
-ghost use Rattle.pagable_walk.specs.{Tasks.{IsWay, todo_of, todos, waiting_todo}, Turns.{site, claim_todo, ClaimFits, ClaimLeaves, TurnsTo, plan}, Results.HasFormOf, Slots.written_of, Writing.IsForm};
-ghost use Rattle.pagable_walk.specs.Writing.{WriteRefused, Finds, Forms, just_open};
+ghost use Rattle.std.specs.{Prelude.{◌≡◌, ◌≤◌, ◌+◌, ◌*◌, ◌∷◌, List, length, ◌<◌, IfOk, IfErr, OnOk, vec_len, vec_capacity}, Arc.arc_value};
+ghost use Rattle.{pagable_core.specs.Data.blob_of, pagable_model.specs.{Blob.key_of, Merkle.blob_of as blob_over}, pagable_world.specs.Plain.{longest_path, type_of}};
+ghost use Rattle.pagable_world.specs.{Workers.{claim_fault, is_counted_claim, Claims}, World.{Core, Todo, to_start, seen_as, to_finish, answer_of_fault}, Kinds.identity_of};
+ghost use Rattle.{pagable_loads.specs.{Telling.{Acts, Tells, values_at}, Working.fault_in}, pagable_walk.specs.{Due.{due, most}, Table.{shelf_of, found_as}, Tasks.Awaits}};
+ghost use Rattle.pagable_walk.specs.{Tasks.{IsWay, fault_of, todo_of, todos, waiting_todo}, Turns.{site, claim_todo, ClaimFits, ClaimLeaves}, Results.HasFormOf, Slots.{keys_of, written_of}};
+ghost use Rattle.pagable_walk.specs.Writing.{WriteRefused, Finds, Forms, GoesBack, IsForm, IsStored, Stores, just_open, named_by};
 
-use crate::stack::{fail, give_known, refuse, settle};
-use crate::tasks::{Done, Moved, Node, Task, Turn, Waiting, named};
-use crate::{Found, PageOutError, SlotTable, Trees};
+use crate::stack::{fail, give_known, refuse};
+use crate::tasks::{Done, Node, Task, Turn, Waiting, named};
+use crate::{Found, PageOutError, SlotResult, SlotTable, Trees};
 use pagable_codec::{Env, NodeSet, SessionContext};
-use pagable_core::{SerializedData, SerializerForPaging};
-use pagable_loads::{Reading, Taken, WorkerAccess};
-use pagable_model::{ArcRef, Error, HandleNumber, WorkerNumber};
-use pagable_world::{Claim, LoadAnswer, PinStep, Took};
+use pagable_core::{PagableData, SerializedData, SerializerForPaging};
+use pagable_loads::WorkerAccess;
+use pagable_model::{ArcRef, DataKey, Error, HandleNumber, Identity, WorkerNumber};
+use pagable_world::{Claim, WorkerAnswer};
 use std::alloc::Global;
+use std::marker::PhantomData;
 use std::sync::Arc;
 
 // A claim of what a reference names, at this place on the path. `checked` is why the reference itself can't be claimed. It is refused so first, and then as `try_claim`.
 // A claim that is refused leaves the claims as they were, and the worker waits for nothing.
 #[tactic(auto, using(crate::proofs::Turning::claiming))]
-fn claim<E: Trees>(
+pub(crate) fn claim<E: Trees>(
     table: &mut SlotTable<E>,
     worker: WorkerNumber,
     reference: ArcRef,
@@ -43,7 +44,7 @@ fn claim<E: Trees>(
 }
 
 // What a claim found, with key and height alone of a result.
-fn found<E: Trees>(claim: &Result<Found<E>, Error>) -> Result<Claim, Error>
+pub(crate) fn found<E: Trees>(claim: &Result<Found<E>, Error>) -> Result<Claim, Error>
     ensures { result ≡ found_as claim.now }
 {
     match claim {
@@ -56,7 +57,7 @@ fn found<E: Trees>(claim: &Result<Found<E>, Error>) -> Result<Claim, Error>
 }
 
 // Whether a claim counts: it does unless it waits.
-fn counts(found: &Result<Claim, Error>) -> bool
+pub(crate) fn counts(found: &Result<Claim, Error>) -> bool
     ensures { result ≡ is_counted_claim found.now }
 {
     match found {
@@ -67,7 +68,7 @@ fn counts(found: &Result<Claim, Error>) -> bool
 
 // What is done after a claim.
 #[tactic(auto, using(crate::proofs::Ways::ways))]
-fn after_claim<E: Trees>(
+pub(crate) fn after_claim<E: Trees>(
     path: &mut Vec<Waiting<E>>,
     reference: ArcRef,
     place: u64,
@@ -86,123 +87,6 @@ fn after_claim<E: Trees>(
         Ok(Found::Waiting) => Task::Start(reference, place),
         Ok(Found::AlreadyFailed) => fail(path, PageOutError::AlreadyFailed, Some(reference.handle)),
         Err(e) => refuse(path, &e, Some(reference.handle)),
-    }
-}
-
-/// Claims what a reference names, at this place on the path.
-pub fn start<E: Env, A: WorkerAccess<E>>(
-    access: &A,
-    table: &mut SlotTable<E>,
-    worker: WorkerNumber,
-    path: &mut Vec<Waiting<E>>,
-    reference: ArcRef,
-    place: u64,
-) -> Moved<E>
-where
-    E::Node: NodeSet<E>,
-    requires { Awaits (todos path.old.items) reference place }
-    ensures way { IsWay (plan result.turn path.new.items) }
-    ensures leads { LeadsOn (to_start reference place ∷ todos path.old.items) result.turn (plan result.turn path.new.items) }
-    ensures step { Tells (A.told access.now) (λ s. TurnsTo (values_at E.Node.NodeSet E.Env E.Hash.KeyHash (A.acting access.now).environment) (A.acting access.now).me worker.0 (shelf_of table.old) (Task.Start reference place) (todos path.old.items) (shelf_of table.new) result (plan result.turn path.new.items) s s) }
-{
-    let checked = access.check_reference(reference);
-    let claim = claim(table, worker, reference, place, checked);
-    let found = found(&claim);
-    Moved {
-        counted: counts(&found),
-        took: Took::Claim(named(reference), found),
-        turn: Turn::Goes(after_claim(path, reference, place, claim)),
-    }
-}
-
-/// Pins what was claimed, or begins a load of it.
-pub fn pin<E: Env, A: WorkerAccess<E>>(
-    access: &mut A,
-    alloc: Global,
-    path: &mut Vec<Waiting<E>>,
-    reference: ArcRef,
-    place: u64,
-) -> Moved<E>
-where
-    E::Node: NodeSet<E>,
-    requires way { Awaits (todos path.old.items) reference place }
-    requires near { place ≤ longest_path }
-    ensures way { IsWay (plan result.turn path.new.items) }
-    ensures leads { LeadsOn (to_pin reference place ∷ todos path.old.items) result.turn (plan result.turn path.new.items) }
-    ensures acts { (n : ℕ) (shelf : Shelf) → Acts A.told A.acting access.old access.new (λ a. TurnsTo (values_at E.Node.NodeSet E.Env E.Hash.KeyHash a.environment) a.me n shelf (Task.Pin reference place) (todos path.old.items) shelf result (plan result.turn path.new.items)) }
-{
-    let identity = named(reference);
-    let taken = match access.take_reference(reference) {
-        Ok(taken) => taken,
-        Err(e) => {
-            return Moved {
-                turn: Turn::Goes(refuse(path, &e, Some(reference.handle))),
-                took: Took::Pin(identity, Err(e)),
-                counted: true,
-            };
-        }
-    };
-    match taken {
-        Taken::Held(through, pin) => Moved {
-            took: Took::Pin(identity, Ok(PinStep::Held(pin))),
-            turn: Turn::Goes(Task::Write(reference, place, through, pin)),
-            counted: true,
-        },
-        Taken::Begun(through, load, key) => {
-            let reading = Reading::new(alloc, load, key, reference.kind.0 / 3, true);
-            Moved {
-                took: Took::Pin(identity, Ok(PinStep::LoadBegun(load))),
-                turn: Turn::Goes(Task::Load(reference, place, through, reading)),
-                counted: true,
-            }
-        }
-    }
-}
-
-/// Makes the next step of the load of what was claimed.
-pub fn load<E: Env, A: WorkerAccess<E>>(
-    access: &mut A,
-    alloc: Global,
-    path: &mut Vec<Waiting<E>>,
-    reference: ArcRef,
-    place: u64,
-    through: HandleNumber,
-    mut reading: Reading,
-) -> Moved<E>
-where
-    E::Node: NodeSet<E>,
-    requires way { Awaits (todos path.old.items) reference place }
-    requires near { place ≤ longest_path }
-    ensures way { IsWay (plan result.turn path.new.items) }
-    ensures leads { LeadsOn (to_load reference place through (reading_of reading) ∷ todos path.old.items) result.turn (plan result.turn path.new.items) }
-    ensures acts { (n : ℕ) (shelf : Shelf) → Acts A.told A.acting access.old access.new (λ a. TurnsTo (values_at E.Node.NodeSet E.Env E.Hash.KeyHash a.environment) a.me n shelf (Task.Load reference place through reading) (todos path.old.items) shelf result (plan result.turn path.new.items)) }
-{
-    let identity = named(reference);
-    match reading.step(access, alloc) {
-        None => Moved {
-            took: Took::Pin(identity, Ok(PinStep::LoadWent)),
-            turn: Turn::Goes(Task::Load(reference, place, through, reading)),
-            counted: false,
-        },
-        Some(LoadAnswer::Pinned(pin)) => Moved {
-            took: Took::Pin(identity, Ok(PinStep::Held(pin))),
-            turn: Turn::Goes(Task::Write(reference, place, through, pin)),
-            counted: false,
-        },
-        Some(LoadAnswer::Refused(e)) => Moved {
-            turn: Turn::Goes(refuse(path, &e, Some(reference.handle))),
-            took: Took::Pin(identity, Err(e)),
-            counted: false,
-        },
-        Some(LoadAnswer::Read(_value)) => Moved {
-            took: Took::Pin(identity, Err(Error::WrongMode)),
-            turn: Turn::Goes(fail(
-                path,
-                PageOutError::Failed(Error::WrongMode),
-                Some(reference.handle),
-            )),
-            counted: false,
-        },
     }
 }
 
@@ -301,7 +185,7 @@ fn kept<E: Trees>(
 }
 
 // The written node with what was written of it, twice, for a path that has room for it then.
-fn prepare<E: Env, A: WorkerAccess<E>>(
+pub(crate) fn prepare<E: Env, A: WorkerAccess<E>>(
     access: &A,
     alloc: Global,
     path: &mut Vec<Waiting<E>>,
@@ -328,39 +212,86 @@ where
     }
 }
 
-/// Writes the value that is pinned, and comes to its references.
-pub fn write<E: Env, A: WorkerAccess<E>>(
-    access: &A,
+// The blob of what was written over the results of its references. Refused by want of memory alone.
+fn blob<E: Trees>(
     alloc: Global,
-    table: &mut SlotTable<E>,
-    path: &mut Vec<Waiting<E>>,
-    reference: ArcRef,
-    place: u64,
-    through: HandleNumber,
-    pin: HandleNumber,
-) -> Moved<E>
+    written: &SerializedData,
+    children: &[SlotResult<E>],
+) -> Result<PagableData, Error>
+    ensures blob { IfOk result (λ blob. blob_of blob ≡ blob_over (written_of written.now).bytes (keys_of children.now)) }
+    ensures only { IfErr result (λ e. e ≡ Error.OutOfMemory) }
+{
+    let arcs: Vec<DataKey> = children.iter().map(|found| found.key).collect(alloc)?;
+    let bytes = Vec::from_slice(alloc, written.bytes.as_slice())?;
+    Ok(PagableData { bytes, arcs })
+}
+
+// Stores the blob of what was written over the results of its references.
+pub(crate) fn store<E: Env, A: WorkerAccess<E>>(
+    access: &mut A,
+    alloc: Global,
+    written: &SerializedData,
+    children: &[SlotResult<E>],
+) -> Result<DataKey, Error>
 where
     E::Node: NodeSet<E>,
-    requires way { Awaits (todos path.old.items) reference place }
-    requires near { place ≤ longest_path }
-    ensures way { IsWay (plan result.turn path.new.items) }
-    ensures leads { LeadsOn (to_write reference place through ∷ todos path.old.items) result.turn (plan result.turn path.new.items) }
-    ensures step { (n : ℕ) → Tells (A.told access.now) (λ s. TurnsTo (values_at E.Node.NodeSet E.Env E.Hash.KeyHash (A.acting access.now).environment) (A.acting access.now).me n (shelf_of table.old) (Task.Write reference place through pin) (todos path.old.items) (shelf_of table.new) result (plan result.turn path.new.items) s s) }
+    ensures key { IfOk result (λ key. key ≡ key_of E.Hash.digest (blob_over (written_of written.now).bytes (keys_of children.now))) }
+    ensures acts { Acts A.told A.acting access.old access.new (λ a s t. Stores (values_at E.Node.NodeSet E.Env E.Hash.KeyHash a.environment) s (blob_over (written_of written.now).bytes (keys_of children.now)) result t) }
 {
-    let identity = named(reference);
-    match prepare(access, alloc, path, reference, place, through, pin) {
-        Ok((waiting, shared, told)) => {
-            table.set_written(identity, shared);
-            Moved {
-                took: Took::Write(identity, Ok(told)),
-                turn: Turn::Goes(settle(path, waiting)),
-                counted: true,
-            }
-        }
-        Err(e) => Moved {
-            turn: Turn::Goes(refuse(path, &e, None)),
-            took: Took::Write(identity, Err(e)),
-            counted: true,
-        },
+    let blob = blob(alloc, written, children)?;
+    access.store(alloc, blob)
+}
+
+// What a node's blob names.
+pub(crate) fn named_by(node: &Option<Node>) -> Option<Identity>
+    ensures { result ≡ named_by node.now }
+{
+    match node {
+        Some(node) => Some(named(node.reference)),
+        None => None,
+    }
+}
+
+// The result of a node whose blob was stored is known: its key is set next. That of an item is answered.
+pub(crate) fn stored<E: Env>(waiting: Waiting<E>, key: DataKey) -> Turn<E>
+where
+    E::Node: NodeSet<E>,
+    requires all { length (keys_of waiting.children.items) ≡ length (written_of (arc_value waiting.written)).references }
+    requires key { key ≡ key_of E.Hash.digest (blob_over (written_of (arc_value waiting.written)).bytes (keys_of waiting.children.items)) }
+    ensures { IsStored waiting.node key result }
+{
+    let Some(node) = waiting.node else {
+        return Turn::Answers(WorkerAnswer::Key(key));
+    };
+    let reference = node.reference;
+    let found = SlotResult {
+        identity: named(reference),
+        key,
+        height: node.height,
+        of: PhantomData,
+    };
+    Turn::Goes(Task::SetKey(Done { reference, found }, node.through))
+}
+
+// An entry goes back to the list, as far as the list can take it.
+#[tactic(auto, using(crate::proofs::Closing::backs))]
+pub(crate) fn give_back<E: Env, A: WorkerAccess<E>>(access: &mut A, back: Option<HandleNumber>)
+where
+    E::Node: NodeSet<E>,
+    ensures { Acts A.told A.acting access.old access.new (λ a s t. GoesBack (values_at E.Node.NodeSet E.Env E.Hash.KeyHash a.environment) a.me back s t) }
+{
+    let Some(entry) = back else {
+        return;
+    };
+    let _told = access.schedule_for_paging(entry);
+}
+
+// What a failed walk answers.
+pub(crate) fn answer(why: PageOutError) -> WorkerAnswer
+    ensures { result ≡ answer_of_fault (fault_of why) }
+{
+    match why {
+        PageOutError::Failed(e) => WorkerAnswer::Failed(e),
+        PageOutError::AlreadyFailed => WorkerAnswer::AlreadyFailed,
     }
 }
