@@ -1,8 +1,7 @@
 -- What a machine keeps of loads, tables and workers, and when it is in step with its pager; and what one event does to both.
 use Rattle.std.specs.{Prelude.{ℕ, ◌≡◌, ◌≢◌, ◌≤◌, ◌⊎◌, true, List, length, Option, Some, None, is_some}, Option.option_map}
-use Rattle.pagable_model.specs.declared.error.Error.{Error}
 use Rattle.{pagable_model.specs.declared.numbers.LoadNumber.LoadNumber, pagable_world.specs.{World.{Core, OpenLoad, Reading, Seen, Values, Work, one_more}, declared.events.Event.Event}}
-use Rattle.pagable_world.specs.{declared.{events.{EventReply.EventReply, LoadAnswer.LoadAnswer, LoadReply.LoadReply}, handles.Owner.Owner}, Plain.if_there, Refusals.{Refused, spent}}
+use Rattle.pagable_world.specs.{declared.{events.{EventReply.EventReply, LoadAnswer.LoadAnswer, LoadReply.LoadReply}, handles.Owner.Owner}, Plain.if_there}
 use Rattle.{pagable_world.specs.{Access.ReadingStep, Workers.fresh, Pager.{FitsRoot, MachineState, PagerState}, Runs.Does}, pagable_walk.specs.declared.results.Trees.Ghosts}
 use Rattle.{pagable_walk.specs.declared.table.SlotTable.SlotTable, pagable_machine.specs.{declared.{held.Walk.Walk, readings.Unread.Unread}, Walking.{IsWalkKept, shelf_at, walking_of}}}
 use Rattle.pagable_loads.specs.{declared.reading.Reading.Reading as Own, Frames.{IsLoadOf, is_cell, reading_of}, Stepping.IsSameLoad}
@@ -93,10 +92,6 @@ pub record KeptStep {N E : Type 0} (v : Values N) (kept : Kept) (l : ℕ) (reply
 abbrev pub rest_after : {N : Type 0} → Option (LoadAnswer N) → Option Own → Option Own
 rest_after None own = own
 rest_after (Some answer) own = None
-
--- no load of a key begins, and nothing changes
-abbrev pub BeginsNoKey : Core → Error → Type 0
-BeginsNoKey w e = Refused (spent w.last.load) (spent w.last.load) (Unit {0}) w e w
 
 -- why an open load isn't read: it is of a cell of a type, or of no cell
 abbrev pub IsUnread : Option ℕ → Unread → Type 0

@@ -1,8 +1,7 @@
 //! Each event of the machine: a step of the plain world that leaves the machine whole.
 
-ghost use Rattle.std.specs.{Prelude.{◌≡◌, ◌⊎◌, ◌<◌, ℕ, Ok, Err, IfErr, IfSome, IfNone, OnOk}, HashMap.spare};
-ghost use Rattle.{pagable_model.specs.declared.error.Error.Error, pagable_loads.specs.Telling.values_at};
-ghost use Rattle.{pagable_pager.specs.View.{core_in, telling}, pagable_machine.specs.{Keeping.{BeginsNoKey, Forgets}, Driving.{Drives, IsInStep, kept_at, over}}};
+ghost use Rattle.pagable_loads.specs.Telling.{values_at};
+ghost use Rattle.{pagable_pager.specs.View.{core_in, telling}, pagable_machine.specs.{Keeping.Forgets, Driving.{Drives, IsInStep, kept_at, over}}};
 
 use crate::calls;
 use crate::held::Held;
@@ -83,35 +82,6 @@ where
     begun
 }
 
-// A place for what is kept of a load of a key, where a load can begin. Refused with NumbersSpent and OutOfMemory.
-fn key_place<E: Env, S: PagableStorage<E>>(
-    pager: &Pager<E, S>,
-    readings: &mut IndexMap<u64, Reading>,
-) -> Result<(), Error>
-where
-    E::Node: NodeSet<E>,
-    ensures same { (q : ℕ) → kept_at readings.new q ≡ kept_at readings.old q }
-    ensures room { OnOk result (0 < spare readings.new) }
-    ensures refused { IfErr result (λ e. BeginsNoKey (core_in (telling S.stored S.is_closed S.failed) pager.now) e) }
-{
-    if !pager.has_load_number() {
-        return Err(Error::NumbersSpent);
-    }
-    reserve(readings)?;
-    Ok(())
-}
-
-// The load that has begun, if one has.
-fn begun_load(begun: &Result<Beginning, Error>) -> Option<LoadNumber>
-    ensures some { IfSome result (λ l. (k : ℕ) × (begun.now ≡ Ok (Beginning.Load l k))) }
-    ensures none { IfNone result (((e : Error) × (begun.now ≡ Err e)) ⊎ (begun.now ≡ Ok Beginning.InMemory)) }
-{
-    match begun {
-        Ok(Beginning::Load(load, _)) => Some(*load),
-        _ => None,
-    }
-}
-
 // A load of a key begins, which is read as a value of this type.
 fn load_key<E: Env, S: PagableStorage<E>>(
     pager: &mut Pager<E, S>,
@@ -127,22 +97,22 @@ where
         (over pager.old held.old) (Event.LoadKey key node_type) (EventReply.Started result) (over pager.new held.new) }
 {
     pager.is_whole();
-    match key_place(pager, &mut held.readings) {
-        Ok(()) => {}
-        Err(e) => return Err(e),
+    if !pager.has_load_number() {
+        return Err(Error::NumbersSpent);
+    }
+    if reserve(&mut held.readings).is_err() {
+        return Err(Error::OutOfMemory);
     }
     let begun = pager.load_key(key);
     pager.is_whole();
-    match begun_load(&begun) {
-        Some(load) => {
-            put(
-                &mut held.readings,
-                load.0,
-                Reading::new(alloc, load, key, node_type, false),
-            );
-            begun
+    match begun {
+        Ok(Beginning::Load(load, of)) => {
+            let own = Reading::new(alloc, load, key, node_type, false);
+            put(&mut held.readings, load.0, own);
+            Ok(Beginning::Load(load, of))
         }
-        None => begun,
+        Ok(Beginning::InMemory) => unreachable!(),
+        Err(e) => Err(e),
     }
 }
 

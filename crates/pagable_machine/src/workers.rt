@@ -4,8 +4,8 @@ ghost use Rattle.std.specs.{Prelude.{◌≡◌, ◌<◌, ◌⊎◌, ℕ, Some, I
 ghost use Rattle.pagable_world.specs.Kinds.{identity_of, owner_worker};
 ghost use Rattle.pagable_world.specs.{World.{Alike, of_entry, of_item}, Access.{Called, WorkerStarts}, declared.events.{EventReply.EventReply, Event.Event}};
 ghost use Rattle.{pagable_loads.specs.{Telling.values_at, Working.{RefusesEntry, StartsEntry}}, pagable_pager.specs.View.{core_in, state_in, telling}, pagable_walk.specs.Slots.written_of};
-ghost use Rattle.{pagable_walk.specs.{Table.shelf_of, Tasks.{IsWay, todo_of, todos}, Turns.{StepsTo, answer_in, plan}}, pagable_machine.specs.Walking.{IsBegun, is_table, IsAfter, WalksOn, has_task}};
-ghost use Rattle.pagable_machine.specs.{Walking.{task_in, todo_left}, Driving.{Drives, IsInStep, kept_at, over}};
+ghost use Rattle.pagable_walk.specs.{Table.shelf_of, Tasks.{IsWay, todo_of, todos}, Turns.{StepsTo, answer_in, plan}};
+ghost use Rattle.pagable_machine.specs.{Walking.{IsBegun, IsIn, IsPast, IsAfter, WalksOn, has_task, task_in, todo_left}, Driving.{Drives, IsInStep, kept_at, over}};
 
 use crate::held::{Begun, Held, Walk};
 use crate::list;
@@ -51,9 +51,9 @@ fn ready<E: Trees>(
     table: TableNumber,
 ) -> Result<(), Error>
     ensures same { (q : ℕ) → kept_at walks.new q ≡ kept_at walks.old q }
-    ensures there { OnOk result (is_table table.0 tables.now.items ≡ true) }
+    ensures there { OnOk result (IsIn table.0 tables.now.items) }
     ensures room { OnOk result (0 < spare walks.new) }
-    ensures refused { IfErr result (λ e. ((e ≡ Error.NoSuchHandle) × (is_table table.0 tables.now.items ≡ false)) ⊎ ((e ≡ Error.OutOfMemory) × (is_table table.0 tables.now.items ≡ true))) }
+    ensures refused { IfErr result (λ e. ((e ≡ Error.NoSuchHandle) × IsPast table.0 tables.now.items) ⊎ ((e ≡ Error.OutOfMemory) × IsIn table.0 tables.now.items)) }
 {
     if !(0 < table.0 && table.0 <= tables.len() as u64) {
         return Err(Error::NoSuchHandle);
@@ -245,23 +245,13 @@ where
     step_by(&mut lent, alloc, table, worker, path, task)
 }
 
-// The worker's answer, if a step came to one.
-fn answer_of<E: Trees>(turn: &Turn<E>) -> Option<WorkerAnswer>
-    ensures { result ≡ answer_in turn.now }
+// What is to be done after a step, or the worker's answer, as the step came to one of them.
+fn parts<E: Trees>(turn: Turn<E>) -> (Option<Task<E>>, Option<WorkerAnswer>)
+    ensures { result ≡ (task_in turn, answer_in turn) }
 {
     match turn {
-        Turn::Goes(_) => None,
-        Turn::Answers(answer) => Some(*answer),
-    }
-}
-
-// What is to be done after a step, if there is more.
-fn task_left<E: Trees>(turn: Turn<E>) -> Option<Task<E>>
-    ensures { result ≡ task_in turn }
-{
-    match turn {
-        Turn::Goes(task) => Some(task),
-        Turn::Answers(_) => None,
+        Turn::Goes(task) => (Some(task), None),
+        Turn::Answers(answer) => (None, Some(answer)),
     }
 }
 
@@ -271,15 +261,15 @@ fn settle<E: Trees>(walk: &mut Walk<E>, moved: Moved<E>) -> WorkerReply<Arc<Seri
     ensures path { walk.new.path ≡ walk.old.path }
     ensures reply { result ≡ record { took = moved.took; answer = answer_in moved.turn; steps = walk.new.steps } }
 {
-    let answer = answer_of(&moved.turn);
-    walk.answer = answer_of(&moved.turn);
+    let (task, answer) = parts(moved.turn);
+    walk.task = task;
+    walk.answer = answer;
     let steps = if moved.counted {
         walk.steps.saturating_add(1)
     } else {
         walk.steps
     };
     walk.steps = steps;
-    walk.task = task_left(moved.turn);
     WorkerReply {
         took: moved.took,
         answer,
