@@ -245,13 +245,23 @@ where
     step_by(&mut lent, alloc, table, worker, path, task)
 }
 
-// What is to be done after a step, or the worker's answer, as the step came to one of them.
-fn parts<E: Trees>(turn: Turn<E>) -> (Option<Task<E>>, Option<WorkerAnswer>)
-    ensures { result ≡ (task_in turn, answer_in turn) }
+// The worker's answer, if a step came to one.
+fn answer_of<E: Trees>(turn: &Turn<E>) -> Option<WorkerAnswer>
+    ensures { result ≡ answer_in turn.now }
 {
     match turn {
-        Turn::Goes(task) => (Some(task), None),
-        Turn::Answers(answer) => (None, Some(answer)),
+        Turn::Goes(_) => None,
+        Turn::Answers(answer) => Some(*answer),
+    }
+}
+
+// What is to be done after a step, if there is more.
+fn task_left<E: Trees>(turn: Turn<E>) -> Option<Task<E>>
+    ensures { result ≡ task_in turn }
+{
+    match turn {
+        Turn::Goes(task) => Some(task),
+        Turn::Answers(_) => None,
     }
 }
 
@@ -261,15 +271,15 @@ fn settle<E: Trees>(walk: &mut Walk<E>, moved: Moved<E>) -> WorkerReply<Arc<Seri
     ensures path { walk.new.path ≡ walk.old.path }
     ensures reply { result ≡ record { took = moved.took; answer = answer_in moved.turn; steps = walk.new.steps } }
 {
-    let (task, answer) = parts(moved.turn);
-    walk.task = task;
-    walk.answer = answer;
+    let answer = answer_of(&moved.turn);
+    walk.answer = answer_of(&moved.turn);
     let steps = if moved.counted {
         walk.steps.saturating_add(1)
     } else {
         walk.steps
     };
     walk.steps = steps;
+    walk.task = task_left(moved.turn);
     WorkerReply {
         took: moved.took,
         answer,
