@@ -47,9 +47,6 @@ module _ {me : Owner} {lists : Bool} {Asks Leaves : Type 0} {c : Change} where
   pub closes : {w w' : Core} (l : LoadNumber) {r : Result (Unit {0}) Error} → (Asks → IsMine w me l) → LoadCloses w l r w' → Effect me lists Asks Leaves false c w w'
   closes {w = w} l mine f = fell (shuts (none w) l mine) f (load-owns w l)
 
-  pub drops : {w w' : Core} (l : LoadNumber) (r : Result (Unit {0}) Error) → DropCall w me l r w' → Effect me lists Asks Leaves false c w w'
-  drops l r x = elim x.does [ inl refused ↦ stays refused.stays | inr (load, owned, closing) ↦ closes l (λ own. owned-mine owned) closing ]
-
   -- one that is known is left, and what the other one refers to is given up
   pub adopts-known : {w w' : Core} (l : LoadNumber) (kind : Kind) (n : ℕ) (references : List ArcRef) → AreGood w (Owner.Load l) references
       → FallsAnyhow w (with_known w kind n (Owner.Load l)) (is_named_by references) w' → Effect me lists Asks Leaves false c w w'
@@ -60,23 +57,12 @@ module _ {me : Owner} {lists : Bool} {Asks Leaves : Type 0} {c : Change} where
     pins {w = w} {h = h} (Ok (Pinning.Pinned k)) x = like (handle (own-mode free w h x.pins.0 x.pins.1 Mode.LoosePinned refl) _ Mode.Pinned me) x.pins.2.2
     pins x0 x = grind (arith, nat_tests, same)
 
-    pub unpins : {w w' : Core} (h : HandleNumber) (r : Result (Unit {0}) Error) → UnpinCall w me h r w' → Effect me lists Asks Leaves false c w w'
-    unpins {w = w} h r x = elim x.does [
-      | inl refused ↦ stays refused.stays
-      | inr (row, owns, inl (mode, told, a)) ↦ stays a
-      | inr (row, owns, inr (mode, f)) ↦ fell (own-mode free w h row owns Mode.LooseUnpinned refl) f no-one
-    ]
-
     pub schedules : {w w' : Core} (h : HandleNumber) (r : Result (Unit {0}) Error) → ScheduleCall w me h r w' → Effect me lists Asks Leaves false c w w'
     schedules {w = w} h (Ok u) x = elim x.moves.2 [
       | inl (open_still, a) ↦ like (moves (none w) (only_handle h) Owner.List _ (λ l is. absurd (cc)) (own-handle h x.moves.0 x.moves.1)) a
       | inr (closed, f) ↦ fell (none w) f.falls (own-handle h x.moves.0 x.moves.1)
     ]
     schedules h (Err e) x = stays x.refused.stays
-
-    pub takes : lists ≡ true → {w w' : Core} (i : ℕ) (h : Option HandleNumber) → TakeCall w me i h w' → Effect me lists Asks Leaves false c w w'
-    takes taken {w = w} i (Some h) x = like (moves (none w) (only_handle h) me _ free (entry taken i h x.0)) x.1
-    takes taken i None x = stays x.1
 
     pub hands-over : {w w' : Core} (l : LoadNumber) (hs : List HandleNumber) (r : Result (Unit {0}) Error) → HandOverCall w me l hs r w' → Effect me lists Asks Leaves false c w w'
     hands-over {w = w} l hs (Ok u) x =
@@ -116,9 +102,6 @@ module _ {me : Owner} {lists : Bool} {Asks Leaves : Type 0} {c : Change} where
   releases {w = w} h r x = elim x.does [ inl refused ↦ stays refused.stays | inr (row, owns, f) ↦ fell (none w) f (own-handle h row owns) ]
 
 module _ {me : Owner} {lists : Bool} {Asks Leaves : Type 0} where
-  unfelt : {w w' : Core} → Alike w w' → Effect me lists Asks Leaves false nothing_felt w w'
-  unfelt a = stays a
-
   pub begins : {w w' : Core} {h : HandleNumber} (r : Result Beginning Error) → BeginCall w me h r w' → Effect me lists Asks Leaves false nothing_felt w w'
   begins {w} {w'} {h} (Ok (Beginning.Load l key)) x =
       let row : HandleRow = x.begins.0 in
@@ -127,11 +110,11 @@ module _ {me : Owner} {lists : Bool} {Asks Leaves : Type 0} where
       like (opens (handle (none w) row.node Mode.LooseUnpinned (Owner.Load l)) key (of_cell row.node a.4.0 h)
       (goes-then (quiet-goes nothing_felt (a-handle w row.node Mode.LooseUnpinned (Owner.Load l)))
       (begun nothing_felt made key (of_cell row.node a.4.0 h) me (λ node t k root. let typed = a.4.1 in let own = a.1 in grind (arith, nat_tests))))) a.4.2
-  begins x0 x = grind (arith, nat_tests, unfelt)
+  begins x0 x = grind (arith, nat_tests, same {me = me} {lists = lists} {Asks = Asks} {Leaves = Leaves})
 
   pub begins-key : {w w' : Core} {key : ℕ} (r : Result Beginning Error) → BeginKeyCall w me key r w' → Effect me lists Asks Leaves false nothing_felt w w'
   begins-key {w} {key = key} (Ok (Beginning.Load l k)) x = like (opens (none w) key of_key (begun nothing_felt w key of_key me (λ node t h is. absurd (cc)))) x.begins.2
-  begins-key x0 x = grind (arith, nat_tests, unfelt)
+  begins-key x0 x = grind (arith, nat_tests, same {me = me} {lists = lists} {Asks = Asks} {Leaves = Leaves})
 
   -- a node that a load adopts, which the cache gets to know while the storage is open
   pub adopts : {w w' : Core} (l : LoadNumber) (kind : Kind) (key : ℕ) (own : OptionalDataKey) (references : List ArcRef) → usable w kind.0 key ≡ None → AreGood w (Owner.Load l) references
@@ -154,14 +137,12 @@ module _ {N B W : Type 0} (m : Seen N B W) (w : Core) (me : Owner) (free : NotLo
   abbrev CG : Call N B → Reply N B → Type 0
   CG call reply = CallGoes m w me call reply w'
 
-  abbrev Does-so : Call N B → Change → Type 0
-  Does-so call c = Effect me true (Unit {0}) (LeavesCache {N = N} {B = B} {W = W} (Event.Call call)) false c w w'
-
-  so : {call : Call N B} {reply : Reply N B} (c : Change) → Does-so call c → CallFeels m.values w me call reply w' c → CG call reply
+  so : {call : Call N B} {reply : Reply N B} (c : Change) → Effect me true (Unit {0}) (LeavesCache {N = N} {B = B} {W = W} (Event.Call call)) false c w w' → CallFeels m.values w me call reply w' c → CG call reply
   so c does feels = record { change = c; does = does; feels = feels }
 
   -- nothing is felt, and the call brings no value
-  quiet : {call : Call N B} {reply : Reply N B} → ((n : ℕ) (x : N) → CallBrings w call n x → IsNewNode w n ⊎ StaysAway w w' n) → Does-so call nothing_felt → CG call reply
+  quiet : {call : Call N B} {reply : Reply N B} → ((n : ℕ) (x : N) → CallBrings w call n x → IsNewNode w n ⊎ StaysAway w w' n)
+      → Effect me true (Unit {0}) (LeavesCache {N = N} {B = B} {W = W} (Event.Call call)) false nothing_felt w w' → CG call reply
   quiet brings s = so nothing_felt s (feels-nothing brings)
 
   unmoved : Alike w w' → Effect me true (Unit {0}) (Unit {0}) false nothing_felt w w'
@@ -229,11 +210,16 @@ module _ {N B W : Type 0} (m : Seen N B W) (w : Core) (me : Owner) (free : NotLo
       (like (handle (node w t (OptionalDataKey.Some key) [] (refl, refl) (own-named w [] (none-named w me))) (next_node w) Mode.LooseUnpinned me) c.made.2) (feels-away t key k)
   calls-go (Call.Clone h) (Reply.Handle r) still c = quiet (λ n x b. absurd b) (clones r c)
   calls-go (Call.Pin h) (Reply.Pin r) still c = quiet (λ n x b. absurd b) (pins free r c)
-  calls-go (Call.Unpin h) (Reply.Done r) still c = quiet (λ n x b. absurd b) (unpins free h r c)
+  calls-go (Call.Unpin h) (Reply.Done r) still c = quiet (λ n x b. absurd b) (elim c.does [
+    | inl refused ↦ stays refused.stays
+    | inr (row, owns, inl (mode, told, a)) ↦ stays a
+    | inr (row, owns, inr (mode, f)) ↦ fell (own-mode free w h row owns Mode.LooseUnpinned refl) f no-one
+  ])
   calls-go (Call.Release h) (Reply.Done r) still c = quiet (λ n x b. absurd b) (releases h r c)
   calls-go (Call.IntoPagable h) (Reply.Handle (Ok k)) still c = quiet (λ n x b. absurd b) (like (own-mode free w h c.turned.0 c.turned.1 Mode.LoosePinned refl) c.turned.3)
   calls-go (Call.ScheduleForPaging h) (Reply.Done r) still c = quiet (λ n x b. absurd b) (schedules free h r c)
-  calls-go (Call.TakePending i) (Reply.Taken h) still c = quiet (λ n x b. absurd b) (takes free refl i h c)
+  calls-go (Call.TakePending i) (Reply.Taken (Some h)) still c = quiet (λ n x b. absurd b) (like (moves (none w) (only_handle h) me _ free (entry refl i h c.0)) c.1)
+  calls-go (Call.TakePending i) (Reply.Taken None) still c = quiet (λ n x b. absurd b) (stays c.1)
   calls-go (Call.CacheGet kind key) (Reply.FromCache r) still c = quiet (λ n x b. absurd b) (recalls r c)
   calls-go Call.CacheClear (Reply.Done r) still c = quiet (λ n x b. absurd b) (like (forgets w (λ leaves. leaves)) c.leaves)
   calls-go (Call.Store b) (Reply.Stored r) still c = quiet (λ n x b. absurd b) (stores r c)
@@ -241,7 +227,8 @@ module _ {N B W : Type 0} (m : Seen N B W) (w : Core) (me : Owner) (free : NotLo
   calls-go (Call.LoadKey key) (Reply.Begun r) still c = quiet (λ n x b. absurd b) (begins-key r c)
   calls-go (Call.LoadFetch l want) (Reply.LoadFound r) still c = quiet (λ n x b. absurd b) (asks _ c)
   calls-go (Call.LoadTake l hs) (Reply.Done r) still c = quiet (λ n x b. absurd b) (hands-over free l hs.items r c)
-  calls-go (Call.LoadDrop l) (Reply.Done r) still c = quiet (λ n x b. absurd b) (drops l r c)
+  calls-go (Call.LoadDrop l) (Reply.Done r) still c = quiet (λ n x b. absurd b)
+      (elim c.does [ inl refused ↦ stays refused.stays | inr (load, owned, closing) ↦ closes l (λ own. owned-mine owned) closing ])
   calls-go _ reply still c = grind (arith, nat_tests, quiet, unmoved, asked, births, sets, offers, adopting, lazily, load-ends)
 
 -- the cache gets to know an old node only where the caller puts it there

@@ -25,17 +25,14 @@ module _ {N B W : Type 0} (m : Seen N B W) (v : ℕ) (task : Task) (s s' : Site)
   unfolding AllStand is_open_in
   known r place key height [] (meets, apart, rest) covers is same = plain v task s.shelf s'.shelf same None (to_release r key height ∷ []) (λ a is. absurd (cc))
       ((meets, is), (λ i no. absurd (cc)), tt) covers
-  known r place key height (x ∷ below) (meets, apart, rest) covers is same =
-      plain v task s.shelf s'.shelf same None (give r key height (x ∷ below)) (λ a is. absurd (cc)) (gives v task s.shelf r key height (x ∷ below) rest)
-      (λ i slot there own still. given-open v task s.shelf i r key height (x ∷ below) ∙ covers i slot there own still)
+  known r place key height (x ∷ below) (meets, apart, rest) covers is same = grind (arith, nat_tests, plain, gives, given-open)
 
   released : (r : ArcRef) (key height : ℕ) (below : List Todo) → AllStand s.shelf v task (to_release r key height ∷ below) → CoversBy v task s.shelf (to_release r key height ∷ below)
       → ((i : Identity) → s'.shelf.slots i ≡ s.shelf.slots i) → (step : Took W) → Goes v task s.shelf (answer_after (to_release r key height ∷ below) step) s'.shelf (give r key height below)
   unfolding AllStand is_open_in
-  released r key height [] (stands, apart, rest) covers same step = plain v task s.shelf s'.shelf same _ [] (λ a is. refl) tt covers
-  released r key height (x ∷ below) (stands, apart, rest) covers same step =
-      plain v task s.shelf s'.shelf same None (give r key height (x ∷ below)) (λ a is. absurd (cc)) (gives v task s.shelf r key height (x ∷ below) rest)
-      (λ i slot there own still. given-open v task s.shelf i r key height (x ∷ below) ∙ covers i slot there own still)
+  released r key height below (stands, apart, rest) covers same step =
+      plain v task s.shelf s'.shelf same _ (give r key height below) (λ a is. grind (arith, nat_tests)) (gives v task s.shelf r key height below rest)
+      (λ i slot there own still. given-open v task s.shelf i r key height below ∙ covers i slot there own still)
 
   go : (todo : List Todo) → s.todo ≡ todo → AllStand s.shelf v task todo → Covers s.shelf v todo → (step : Took W) → Does m v s todo step s'
       → Goes v task s.shelf (answer_after todo step) s'.shelf s'.todo
@@ -58,10 +55,6 @@ module _ {N B W : Type 0} (m : Seen N B W) (v : ℕ) (task : Task) (s s' : Site)
   stands-on all covers step does = go s.todo refl all covers step does
 
 -- ---- together
-
--- no number of a worker is taken back
-abbrev NoFewer : Core → Core → Type 0
-NoFewer w w' = w.last.worker ≤ w'.last.worker
 
 abbrev pub StandsIn : World → Type 0
 StandsIn u = WorkStands u.work.shelves u.work.walkings u.core.last.worker
@@ -94,32 +87,21 @@ updated-at n x f = let a : (n == n) ≡ true = grind (arith, nat_tests) in ap (�
 updated-off : {X : Type 0} (n : ℕ) (x : X) (f : ℕ → X) (q : ℕ) → nat_eq q n ≡ false → updated n x f q ≡ f q
 updated-off n x f q e = let a : (q == n) ≡ false = grind (arith, nat_tests) in ap (λ b. if b then x else f q) a
 
--- the steps of a worker of this number, where another made one
-own-step : {X : Type 0} (x : X) (v n : ℕ) (b : Bool) → (v == n) ≡ b → (if v == n then x ∷ [] else []) ≡ (if b then x ∷ [] else [])
-own-step x v n b e = ap (λ t. if t then x ∷ [] else []) e
-
 -- the same slots do as well
 pub goes-same : (v : ℕ) (task : Task) (shelf mid shelf' : Shelf) (answer : Option WorkerAnswer) (todo : List Todo) → ((i : Identity) → shelf'.slots i ≡ mid.slots i)
     → Goes v task shelf answer mid todo → Goes v task shelf answer shelf' todo
 goes-same v task shelf mid shelf' answer todo same g =
     let more : ShelfGrows mid shelf' = grows v mid shelf' (same-slots v mid shelf' same) in
-    record {
-      changes = λ i. subst (λ o. SlotChanges v (shelf.slots i) o) (sym (same i)) (g.changes i);
-      all = all-stay v task mid shelf' more todo (λ i is slot there own. same i ∙ there) g.all;
-      covers = λ i slot there own still. g.covers i slot (sym (same i) ∙ there) own still;
-      unfailed = λ none clean i slot there own. g.unfailed none clean i slot (sym (same i) ∙ there) own;
-      done = g.done;
-      met = λ i slot none there. meets-grow mid shelf' task i more (g.met i slot none (sym (same i) ∙ there));
-    }
+    grind (arith, all-stay, meets-grow)
 
 module _ {N B W : Type 0} (m : Seen N B W) (u u' : World) (work : StandsIn u) where
   module _ (event : Event N B W) (reply : EventReply N B W) where
-    quiet : ((n : ℕ) → step_of n event reply ≡ []) → NoFewer u.core u'.core → SameSlots u.work.shelves u'.work.shelves → ((v : ℕ) → u'.work.walkings v ≡ u.work.walkings v)
+    quiet : ((n : ℕ) → step_of n event reply ≡ []) → u.core.last.worker ≤ u'.core.last.worker → SameSlots u.work.shelves u'.work.shelves → ((v : ℕ) → u'.work.walkings v ≡ u.work.walkings v)
         → EventTurns m u event reply u'
     quiet no_step last same stay =
         grind (arith, nat_tests, is-quiet)
 
-    by-work : ((n : ℕ) → step_of n event reply ≡ []) → NoFewer u.core u'.core → WorkStays u.work u'.work → EventTurns m u event reply u'
+    by-work : ((n : ℕ) → step_of n event reply ≡ []) → u.core.last.worker ≤ u'.core.last.worker → WorkStays u.work u'.work → EventTurns m u event reply u'
     by-work no_step last w = quiet no_step last (λ t i. (w.shelves t).slots i) w.walkings
 
     unchanged : ((n : ℕ) → step_of n event reply ≡ []) → Stays u u' → EventTurns m u event reply u'
@@ -157,9 +139,6 @@ module _ {N B W : Type 0} (m : Seen N B W) (u u' : World) (work : StandsIn u) wh
             ((w.same_shelves t.0).slots i ∙ (ap (λ (s : Shelf). s.slots i) (updated-at t.0 no_shelf u.work.shelves) ∙ nothing i ((u.work.shelves t.0).slots i) refl))
         same q i false e = (w.same_shelves q).slots i ∙ ap (λ (s : Shelf). s.slots i) (updated-off t.0 no_shelf u.work.shelves q e)
 
-  call-last : (call : Call N B) (r : Reply N B) → CallStep m u.core Owner.Caller call r u'.core → NoFewer u.core u'.core
-  call-last x0 x1 c = grind (arith, nat_tests, le-of, calls-go, caller-free)
-
   stepped : (v : WorkerNumber) (reply : WorkerReply W) → WorkerSteps m u v reply u' → EventTurns m u (Event.WorkerStep v) (EventReply.WorkerMoved (Ok reply)) u'
   stepped v reply s =
       let w = s.walking in
@@ -171,7 +150,7 @@ module _ {N B W : Type 0} (m : Seen N B W) (u u' : World) (work : StandsIn u) wh
       let shelf_is : (i : Identity) → (u'.work.shelves w.table).slots i ≡ s.after.shelf.slots i =
       λ i. (s.work.same_shelves w.table).slots i ∙ ap (λ (x : Shelf). x.slots i) (updated-at w.table s.after.shelf u.work.shelves) in
       let site : Site = record { core = u.core; shelf = u.work.shelves w.table; todo = w.todo } in
-      let kept : NoFewer u.core s.after.core = (walk-goes m v.0 site s.after w.todo reply.took s.does.does).goes.workers_last in
+      let kept : u.core.last.worker ≤ s.after.core.last.worker = (walk-goes m v.0 site s.after w.todo reply.took s.does.does).goes.workers_last in
       let last : u'.core.last.worker ≡ s.after.core.last.worker = (grind (arith, nat_tests)) in
       record {
         who = v.0;
@@ -183,31 +162,23 @@ module _ {N B W : Type 0} (m : Seen N B W) (u u' : World) (work : StandsIn u) wh
             (subst (λ a. Goes v.0 w.task (u.work.shelves w.table) a s.after.shelf s.after.todo) (sym s.answers) goes));
         last = omega arith;
         small = let few = work.numbered v.0 w s.at in omega arith;
-        others = λ n other. own-step reply.took v.0 n false (grind (arith, nat_tests));
-        own = steps v reply refl (own-step reply.took v.0 v.0 true (grind (arith, nat_tests))) s;
+        others = λ n other. grind (arith, nat_tests);
+        own = steps v reply refl (grind (arith, nat_tests)) s;
       }
 
   pub event-turns : KnowsTables u → (event : Event N B W) (reply : EventReply N B W) → Happens m u event reply u' → EventTurns m u event reply u'
-  event-turns tables (Event.Call call) (EventReply.CallReply r) h = by-work _ _ (λ n. refl) (call-last call r h.step) h.work
+  event-turns tables (Event.Call call) (EventReply.CallReply r) h = let c = h.step in by-work _ _ (λ n. refl) (grind (arith, nat_tests, le-of, calls-go, caller-free)) h.work
   event-turns tables (Event.LoadStart q) (EventReply.Started r) h = by-work _ _ (λ n. refl) (calling.begin-goes r h.step).workers_last h.work
   event-turns tables (Event.LoadKey key t) (EventReply.Started r) h =
       by-work _ _ (λ n. refl) (calling.begins-key {lists = false} {Asks = Unit {0}} {Leaves = Unit {0}} r h.step).goes.workers_last h.work
   event-turns tables (Event.LoadStep l) (EventReply.LoadMoved (Ok r)) h = let x = h.moves in
       by-work _ _ (λ n. refl) (reading-feels m u.core Owner.Caller caller-free u'.core x.reading r.ended x.frames x.does).does.goes.workers_last x.work
-  event-turns tables Event.TableNew (EventReply.TableMade (Ok t)) h = tabled _ _ (λ n. refl) tables t h.made.0 h.made.1 h.made.3
-  event-turns tables (Event.WorkerItem t item) (EventReply.WorkerMade (Ok v)) h = starts _ _ (λ n. refl) t _ u.core v refl h.starts
-  event-turns tables (Event.WorkerListed t i) (EventReply.WorkerMade (Ok v)) h = starts _ _ (λ n. refl) t _ _ v refl h.starts.5
-  event-turns tables (Event.WorkerStep v) (EventReply.WorkerMoved (Ok reply)) h = stepped v reply h.moves
-  event-turns tables x1 x2 h = grind (arith, nat_tests, by-work, unchanged)
+  event-turns tables x1 x2 h = grind (arith, nat_tests, by-work, unchanged, tabled, starts, stepped)
 
 -- what stands goes on to stand
 pub turns-stand : {N B W : Type 0} (m : Seen N B W) {u u' : World} {event : Event N B W} {reply : EventReply N B W} → EventTurns m u event reply u' → StandsIn u → StandsIn u'
 turns-stand m {u} {u'} turns work =
     work-stands turns.who u.work.shelves u'.work.shelves u.work.walkings u'.work.walkings turns.turned u.core.last.worker u'.core.last.worker turns.last turns.small work
-
--- one of two: at the number, or elsewhere
-at-number : {X : Type 0} (P : X → Type 0) (k : ℕ) (x : X) (f : ℕ → X) (q : ℕ) → P x → P (f q) → P (updated k x f q)
-at-number P k x f q here there = grind (arith, nat_tests)
 
 abbrev SameAs : Shelf → Shelf → Type 0
 SameAs a b = (i : Identity) → b.slots i ≡ a.slots i
@@ -255,8 +226,7 @@ module _ {N B W : Type 0} (m : Seen N B W) {u u' : World} {event : Event N B W} 
             λ i. (s.work.same_shelves w.table).slots i ∙ ap (λ (z : Shelf). z.slots i) (updated-at w.table s.after.shelf u.work.shelves) in
             let d = step k r s one (λ i slot there. let a = turns-grow w.table i slot there in (a.0, sym (table i) ∙ a.1, a.2)) in
             all-hold
-            (λ t. at-number (λ shelf. SameAs shelf (u'.work.shelves t) → Slots (u'.work.shelves t)) w.table s.after.shelf u.work.shelves t (λ same. alike s.after.shelf (u'.work.shelves t) same d.0)
-            (stays-so t) (s.work.same_shelves t).slots)
+            (λ t. let same = (s.work.same_shelves t).slots in grind (arith, nat_tests, alike s.after.shelf (u'.work.shelves t), d.0, stays-so t))
             (λ x there. subst (Of turns.who) (some-same at_now there)
             (subst (λ n. Of n now) at (onward s.after.shelf (u'.work.shelves w.table) (same-grow s.after.shelf (u'.work.shelves w.table) table) d.0 k.0 now d.1)))
 
@@ -291,22 +261,15 @@ started-due : (place : ℕ) (rs : List ArcRef) (x : Todo) (below : List Todo) �
 unfolding all-due
 started-due place x1 x below = grind (arith, nat_tests)
 
-settled-node : (o : Open) (k : ℕ) (below : List Todo) → length o.keys ≡ k
-    → all-due (next_start o.place (drop (length o.keys) o.written.references) ++ to_finish o ∷ below) ≤ 4 + (length o.written.references - k) + all-due below
-unfolding all-due
-settled-node o k below few = grind (arith, started-due, length-drop)
-
-settled-item : (written : Written) (keys : List ℕ) (k : ℕ) (below : List Todo) → length keys ≡ k
-    → all-due (next_start 0 (drop (length keys) written.references) ++ to_item written keys ∷ below) ≤ 2 + (length written.references - k) + all-due below
-unfolding all-due
-settled-item written keys k below few = grind (arith, started-due, length-drop)
-
 given-due : (r : ArcRef) (key height : ℕ) (below : List Todo) → all-due (give r key height below) ≤ all-due below
 unfolding all-due
-given-due r key height (to_finish o ∷ below) =
-    settled-node (record o { keys = o.keys ++ key ∷ []; height = max o.height (above r.kind.0 height) }) (length o.keys + 1) below (length-append o.keys (key ∷ []))
-given-due r key height (to_item written keys ∷ below) = settled-item written (keys ++ key ∷ []) (length keys + 1) below (length-append keys (key ∷ []))
+given-due r key height (to_finish o ∷ below) = grind (arith, started-due, length-drop, length-append)
+given-due r key height (to_item written keys ∷ below) = grind (arith, started-due, length-drop, length-append)
 given-due r key height x3 = grind (arith, nat_tests)
+
+first-due : (written : Written) (below : List Todo) → all-due (next_start 0 written.references ++ to_item written [] ∷ below) ≤ 2 + length written.references + all-due below
+unfolding all-due
+first-due written below = grind (arith, started-due)
 
 module _ {W : Type 0} (f : W → Written) where
   -- one step pays for itself: out of what was due, of its claim, or of the references that it wrote
@@ -314,7 +277,7 @@ module _ {W : Type 0} (f : W → Written) where
       → one (is_counted todo step) + all-due next ≤ 8 * one (is_claim step) + references_written f step + all-due todo
   unfolding all-due
   pays (to_start r place ∷ x ∷ xs) (Took.Claim j (Ok (Claim.Known key height))) next (is, e) = rw e (let le = given-due r key height (x ∷ xs) in omega (arith, le))
-  pays (to_write r place through ∷ below) (Took.Write j (Ok out)) next (is, e) = grind (arith, settled-node)
+  pays (to_write r place through ∷ below) (Took.Write j (Ok out)) next (is, e) = grind (arith, started-due, length-drop)
   pays (to_release r key height ∷ below) (Took.Release j) next (is, e) = rw e (let le = given-due r key height below in omega (arith, le))
   pays _ step next follows = grind (arith, nat_tests, given-due)
 
@@ -333,8 +296,9 @@ pub failed-stays : (n : ℕ) (shelf shelf' : Shelf) (i : Identity) → ShelfGrow
 failed-stays n shelf shelf' i more was = grind arith
 
 module _ {W : Type 0} (n : ℕ) where
-  pub met-stays : (shelf shelf' : Shelf) (past more : List (Took W)) (answer : WorkerAnswer) → ShelfGrows shelf shelf' → IsMetFailure shelf n past answer → IsMetFailure shelf' n (past ++ more) answer
-  met-stays shelf shelf' past more x4 grown x6 = grind (arith, nat_tests, λ (x : Took W) (a : Among past x). among-left past more a.0 x a.1, failed-stays)
+  pub met-stays : (shelf shelf' : Shelf) (past more : List (Took W)) (answer : WorkerAnswer) → ShelfGrows shelf shelf' → ((x : Took W) → Among past x → Among more x)
+      → IsMetFailure shelf n past answer → IsMetFailure shelf' n more answer
+  met-stays shelf shelf' past more x4 grown on x7 = grind (arith, nat_tests, on, failed-stays)
 
   -- ---- what is to be done
 
@@ -344,11 +308,12 @@ module _ {W : Type 0} (n : ℕ) where
   FailsMet shelf past (to_fail fault back ∷ below) = IsMetFailure shelf n past (answer_of_fault fault) × FailsMet shelf past below
   FailsMet shelf past (x ∷ below) = FailsMet shelf past below
 
-  pub fails-stay : (shelf shelf' : Shelf) (past more : List (Took W)) (todo : List Todo) → ShelfGrows shelf shelf' → FailsMet shelf past todo → FailsMet shelf' (past ++ more) todo
+  pub fails-stay : (shelf shelf' : Shelf) (past more : List (Took W)) (todo : List Todo) → ShelfGrows shelf shelf' → ((x : Took W) → Among past x → Among more x)
+      → FailsMet shelf past todo → FailsMet shelf' more todo
   unfolding FailsMet
-  fails-stay shelf shelf' past more [] grown met = tt
-  fails-stay shelf shelf' past more (to_fail fault back ∷ below) grown (met, rest) = grind (arith, nat_tests, met-stays, fails-stay shelf shelf' past more below grown rest)
-  fails-stay shelf shelf' past more (x ∷ below) grown met = fails-stay shelf shelf' past more below grown met
+  fails-stay shelf shelf' past more [] grown on met = tt
+  fails-stay shelf shelf' past more (to_fail fault back ∷ below) grown on (met, rest) = (met-stays shelf shelf' past more _ grown on met, fails-stay shelf shelf' past more below grown on rest)
+  fails-stay shelf shelf' past more (x ∷ below) grown on met = fails-stay shelf shelf' past more below grown on met
 
   module _ (shelf : Shelf) (past : List (Took W)) where
     started : (place : ℕ) (rs : List ArcRef) (todo : List Todo) → FailsMet shelf past todo → FailsMet shelf past (next_start place rs ++ todo)
@@ -375,14 +340,7 @@ module _ {W : Type 0} (n : ℕ) where
         → ((i : Identity) → step ≡ Took.Claim i (Ok Claim.AlreadyFailed) → FailedElsewhere shelf n i) → FailsMet shelf past todo → FailsMet shelf past next
     unfolding FailsMet
     follows-met f (to_start r place ∷ below) (Took.Claim j (Ok Claim.AlreadyFailed)) next (is, e) among already met = rw e ((j, among, already j refl), tt)
-    follows-met f (to_start r place ∷ below) (Took.Claim j (Err fault)) next (is, e) among already met = rw e (refused _ fault among refl)
-    follows-met f (to_pin r place ∷ below) (Took.Pin j (Err fault)) next (is, e) among already met = rw e (refused _ fault among refl)
-    follows-met f (to_load r place through reading ∷ below) (Took.Pin j (Err fault)) next (is, e) among already met = rw e (refused _ fault among refl)
-    follows-met f (to_write r place through ∷ below) (Took.Write j (Err fault)) next (is, e) among already met = rw e (refused _ fault among refl)
-    follows-met f (to_finish o ∷ below) (Took.Store (Some j) (Err fault)) next (is, e) among already met = rw e (refused _ fault among refl)
-    follows-met f (to_item written keys ∷ below) (Took.Store None (Err fault)) next e among already met = rw e (refused _ fault among refl)
-    follows-met f (to_set r through key height ∷ below) (Took.SetKey j (Err fault)) next (is, e) among already met = rw e (refused _ fault among refl)
-    follows-met f _ step next follows among already met = grind (arith, nat_tests, on, given, started, drop)
+    follows-met f _ step next follows among already met = grind (arith, nat_tests, on, given, started, drop, refused step)
 
     -- the answer is what the list was about to fail with, or a key
     pub answered : (todo : List Todo) (step : Took W) (answer : WorkerAnswer) → answer_after todo step ≡ Some answer → FailsMet shelf past todo → IsMetFailure shelf n past answer
@@ -408,19 +366,10 @@ leads-more : {W : Type 0} (f : W → Written) (todo : List Todo) (past : List (T
 leads-more f todo [] mid step last is follows = (last, subst (λ t. Follows f t step last) is follows, refl)
 leads-more f todo (x ∷ past) mid step last (next, first, leads) follows = (next, first, leads-more f next past mid step last leads follows)
 
-counted : (n : ℕ) (b : Bool) → steps_after n b ≤ n + one b
-counted n x1 = grind (arith, nat_tests)
-
 -- where a claim finds one that has failed, it is another's
 pub failed-elsewhere : {N B W : Type 0} (m : Seen N B W) (v : ℕ) (s s' : Site) (todo : List Todo) (i : Identity) → Does m v s todo (Took.Claim i (Ok Claim.AlreadyFailed)) s'
     → HasNoFailed s.shelf v → FailedElsewhere s.shelf v i
-failed-elsewhere m v s s' (to_start r place ∷ below) i (is, c) clean =
-    let found = c.finds.1.1 in
-    let claimed = ap s.shelf.slots is ∙ found.1 in
-    let other : (found.0.worker == v) ≡ false =
-    false_from_ne_true (found.0.worker == v) (λ e. let a = clean i found.0 claimed (same-worker found.0.worker v e) in let b = ap is_failed found.2 in cc) in
-    record { slot = found.0; claimed = claimed; of_another = other; is_failed = found.2 }
-failed-elsewhere m v s s' todo i does clean = absurd does
+failed-elsewhere m v s s' todo i does clean = grind (arith, nat_tests, same-worker, is_failed)
 
 module _ {N B W : Type 0} (m : Seen N B W) (u u' : World) (grow : (t : ℕ) → ShelfGrows (u.work.shelves t) (u'.work.shelves t)) where
   abbrev f : W → Written
@@ -434,12 +383,10 @@ module _ {N B W : Type 0} (m : Seen N B W) (u u' : World) (grow : (t : ℕ) → 
       by : (o : Option Walking) → HasGone f n u.work.shelves o past → HasGone f n u'.work.shelves o past
       by None gone = gone
       by (Some w) gone =
-          let more = grow w.table in
           record {
             leads = gone.leads;
-            fails = subst (λ k. FailsMet n (u'.work.shelves w.table) k w.todo) (append-nil past) (fails-stay n (u.work.shelves w.table) (u'.work.shelves w.table) past [] w.todo more gone.fails);
-            met = λ answer is. subst (λ k. IsMetFailure (u'.work.shelves w.table) n k answer) (append-nil past)
-                (met-stays n (u.work.shelves w.table) (u'.work.shelves w.table) past [] answer more (gone.met answer is));
+            fails = fails-stay n (u.work.shelves w.table) (u'.work.shelves w.table) past past w.todo (grow w.table) (λ x among. among) gone.fails;
+            met = λ answer is. met-stays n (u.work.shelves w.table) (u'.work.shelves w.table) past past answer (grow w.table) (λ x among. among) (gone.met answer is);
             within = gone.within;
           }
 
@@ -447,7 +394,7 @@ module _ {N B W : Type 0} (m : Seen N B W) (u u' : World) (grow : (t : ℕ) → 
       → HasGone f n u.work.shelves (u.work.walkings n) past
       → HasGone f n u'.work.shelves (u'.work.walkings n) (past ++ taken)
   unfolding all-due
-  begun n t task past taken none nobody new gone = search (rules, f, new_walking, fails, first-met, settled-item, append-nil)
+  begun n t task past taken none nobody new gone = search (rules, f, new_walking, fails, first-met, first-due, append-nil)
 
   went-on : StandsIn u → (k : WorkerNumber) (reply : WorkerReply W) (past : List (Took W)) → WorkerSteps m u k reply u' → HasGone f k.0 u.work.shelves (u.work.walkings k.0) past
       → HasGone f k.0 u'.work.shelves (u'.work.walkings k.0) (past ++ reply.took ∷ [])
@@ -460,7 +407,7 @@ module _ {N B W : Type 0} (m : Seen N B W) (u u' : World) (grow : (t : ℕ) → 
       let new : u'.work.walkings k.0 ≡ Some now = s.work.same_walkings k.0 ∙ updated-at k.0 (Some now) u.work.walkings in
       let was : Went f k.0 shelf w past = subst (λ o. HasGone f k.0 u.work.shelves o past) s.at gone in
       let follows = steps_follow m k.0 site s.after reply.took s.does in
-      let fails = fails-stay k.0 shelf shelf' past (reply.took ∷ []) w.todo (grow w.table) was.fails in
+      let fails = fails-stay k.0 shelf shelf' past (past ++ reply.took ∷ []) w.todo (grow w.table) (λ x (i, at). among-left past (reply.took ∷ []) i x at) was.fails in
       let already : (i : Identity) → reply.took ≡ Took.Claim i (Ok Claim.AlreadyFailed) → FailedElsewhere shelf' k.0 i = λ i is. failed-stays k.0 shelf shelf' i (grow w.table)
       (failed-elsewhere m k.0 site s.after w.todo i (subst (λ step. Does m k.0 site w.todo step s.after) is s.does.does) ((work.workers k.0 w s.at).unfailed s.at_work)) in
       let on : Went f k.0 shelf' now (past ++ reply.took ∷ []) = record {
@@ -468,7 +415,7 @@ module _ {N B W : Type 0} (m : Seen N B W) (u u' : World) (grow : (t : ℕ) → 
         fails = follows-met k.0 shelf' (past ++ reply.took ∷ []) f w.todo reply.took s.after.todo follows (among-right past (reply.took ∷ []) 0 reply.took refl) already fails;
         met = λ answer is. answered k.0 shelf' (past ++ reply.took ∷ []) w.todo reply.took answer (sym s.answers ∙ is) fails;
         within = within-after f w.task w.todo s.after.todo w.steps reply.steps past reply.took
-            (subst (λ n. n ≤ w.steps + one (is_counted w.todo reply.took)) (sym s.counts) (counted w.steps (is_counted w.todo reply.took))) follows was.within;
+            (let counts = s.counts in grind (arith, nat_tests)) follows was.within;
       } in
       subst (λ o. HasGone f k.0 u'.work.shelves o (past ++ reply.took ∷ [])) (sym new) on
 

@@ -32,10 +32,6 @@ owner_goes lost _ = false
 abbrev follows : (ℕ → Bool) → ℕ → HandleRow → ℕ
 follows lost q h = one (h.number.0 == q && owner_goes lost h.owner)
 
--- the set, and what follows from it
-abbrev grown : List HandleRow → (ℕ → Bool) → List HandleRow → (ℕ → Bool) → ℕ → Bool
-grown rows keyed entries s q = s q || nat_lt 0 (sum_by (follows (loses_value rows keyed entries s) q) rows)
-
 owned-by : (lost : ℕ → Bool) (n : ℕ) (o : Owner) → is_owner (owner_value n) o ≡ true → lost n ≡ true → owner_goes lost o ≡ true
 owned-by lost n x2 is goes = grind (arith, nat_tests)
 
@@ -46,8 +42,9 @@ module _ (rows : List HandleRow) (keyed : ℕ → Bool) (entries : List HandleRo
   abbrev lost : (ℕ → Bool) → ℕ → Bool
   lost s n = loses_value rows keyed entries s n
 
+  -- the set, and what follows from it
   abbrev more : (ℕ → Bool) → ℕ → Bool
-  more s = grown rows keyed entries s
+  more s q = s q || nat_lt 0 (sum_by (follows (lost s) q) rows)
 
   -- a handle that a value owns that goes is in the greater set
   comes : (s : ℕ → Bool) (h : HandleRow) (n : ℕ) → Among rows h → is_owner (owner_value n) h.owner ≡ true → lost s n ≡ true → more s h.number.0 ≡ true
@@ -111,18 +108,15 @@ module _ (rows : List HandleRow) (keyed : ℕ → Bool) (entries : List HandleRo
               let it : t x.number.0 ≡ true = grind (arith, nat_tests) in
               sym (ap t number) ∙ it
 
-  less : (s : ℕ → Bool) → sum_by (outside (more s)) rows ≤ sum_by (outside s) rows
-  less s = sum-le (outside (more s)) (outside s) rows (λ h among. grind (arith, nat_tests))
-
   -- a set that is in each closed one is the least once it is closed itself; until then it grows
   grows : (given : ℕ → Bool) (k : ℕ) (s : ℕ → Bool) → sum_by (outside s) rows ≤ k → IsWithin rows given s
       → ((t : ℕ → Bool) → IsWithin rows given t → IsClosed rows keyed entries t → IsWithin rows s t)
       → (s : ℕ → Bool) × IsLeast rows keyed entries given s
-  grows given zero s few holds least = (s, record { holds = holds; closed = closed-if s (let l = less s in omega arith); least = least })
+  grows given zero s few holds least = (s, record { holds = holds; closed = closed-if s (let l = sum-le (outside (more s)) (outside s) rows (λ h among. grind (arith, nat_tests)) in omega arith); least = least })
   grows given (suc k) s few holds least = elim (cases_lt (sum_by (outside (more s)) rows) (sum_by (outside s) rows)) [
     | inl fewer ↦ grows given k (more s) (omega arith)
         (sum-zero (only_in given (more s)) rows (λ h among. let a = at-most-sum (only_in given s) rows h among in grind (arith, nat_tests))) (λ t h c. stays s t (least t h c) c)
-    | inr enough ↦ (s, record { holds = holds; closed = closed-if s (let l = less s in omega arith); least = least })
+    | inr enough ↦ (s, record { holds = holds; closed = closed-if s (let l = sum-le (outside (more s)) (outside s) rows (λ h among. grind (arith, nat_tests)) in omega arith); least = least })
   ]
 
   pub within-self : (given : ℕ → Bool) → IsWithin rows given given
@@ -151,29 +145,23 @@ given_alone rows keyed entries given s h nothing least among = least_is_one rows
 pub and-false : (b : Bool) → one (b && false) ≡ 0
 and-false x0 = grind (arith, nat_tests)
 
-both-least : IsLeast two_rows are_two [] outer both
-both-least = record { holds = refl; closed = grind (arith, nat_tests, and-false); least = least }
-  where
-    least : (t : ℕ → Bool) → IsWithin two_rows outer t → IsClosed two_rows are_two [] t → IsWithin two_rows both t
-    least t holds closed =
-        let goes : loses_value two_rows are_two [] t 1 ≡ true = grind (arith, nat_tests) in
-        let fallen : owned_outside two_rows t 1 ≡ 0 = closed 1 goes in
-        omega arith
-
 pub two_fall : TwoLevelsFall
-two_fall = record { falls = both-least; not_less = λ least. let fallen = least.closed 1 refl in absurd (omega arith) }
+two_fall = record {
+  falls = record {
+    holds = refl;
+    closed = grind (arith, nat_tests, and-false);
+    least = λ t holds closed. let fallen : owned_outside two_rows t 1 ≡ 0 = closed 1 (grind (arith, nat_tests)) in omega arith;
+  };
+  not_less = λ least. let fallen = least.closed 1 refl in absurd (omega arith);
+}
 
 -- ---- a lone cell is listed
-
--- the entry that comes
-abbrev came : List HandleRow
-came = row_of 2 first_node Mode.LooseUnpinned Owner.List ∷ []
 
 fell : (stored : ℕ → Option Blob) → Falls (lone stored) (with_mode (lone stored) first Mode.LooseUnpinned) nobody (Ok tt) (lone_listed stored)
 fell stored =
     record {
       gone = nobody;
-      entries = came;
+      entries = row_of 2 first_node Mode.LooseUnpinned Owner.List ∷ [];
       set = given-least _ _ _ nobody (omega arith);
       new = (refl, refl, refl, tt);
       only = λ n some. ((grind (arith, nat_tests, first)), (grind (arith, nat_tests)));
@@ -187,14 +175,11 @@ not-unlisted : (stored : ℕ → Option Blob) → ¬ UnpinCall (lone stored) Own
 not-unlisted stored call = elim call.does [
   | inl refused ↦ absurd (cc)
   | inr (row, own, inl (is, told, alike)) ↦ let pins_are : pins 1 (lone_unlisted stored).rows ≡ pins 1 (lone stored).rows = ap (pins 1) alike.rows in absurd (omega arith)
-  | inr (row, own, inr (is, falls)) ↦ unlisted falls
+  | inr (row, own, inr (is, falls)) ↦
+      let last : 1 ≡ 1 + length falls.entries = ap (λ (l : Last). l.handle) falls.leaves.last in
+      let few : held 1 falls.entries ≤ length falls.entries = grind (arith, nat_tests, sum_by-cons, one-small) in
+      absurd (omega arith)
 ]
-  where
-    unlisted : Falls (lone stored) (with_mode (lone stored) first Mode.LooseUnpinned) nobody (Ok tt) (lone_unlisted stored) → ⊥
-    unlisted falls =
-        let last : 1 ≡ 1 + length falls.entries = ap (λ (l : Last). l.handle) falls.leaves.last in
-        let few : held 1 falls.entries ≤ length falls.entries = grind (arith, nat_tests, sum_by-cons, one-small) in
-        omega arith
 
 pub is_listed : LoneIsListed
 unfolding find_row

@@ -28,61 +28,45 @@ after-then : {N E : Type 0} {v : Values N} {s m t : PagerState N E} {trees mid a
 after-then a b = record { same = λ n within. b.same n (let c = a.nodes in omega (arith, within, c)) ∙ a.same n within; nodes = let c = a.nodes in let d = b.nodes in omega (arith, c, d); stands = b.stands }
 
 module _ {N E : Type 0} {v : Values N} (lawful : IsLawful v) (readable : ReadsItsTypes v.types) where
-  module _ (s s' : PagerState N E) (trees : ℕ → Tree) (key : ℕ) (reading : Reading) (answer : Option (LoadAnswer N)) (frames : List Frame) (u : Under v s trees key reading) (settled' : HoldsSettled v s') (takes : TakesWell v s reading)
-      (step : ReadingStep v Owner.Caller reading s answer frames s') where
-    felt : ReadingFelt v s.core Owner.Caller reading answer frames s'.core
-    felt = reading-feels (seen v) s.core Owner.Caller caller-free s'.core reading answer frames step.does
+  -- what a step comes to: a load that goes on is so again, and the value that it answers is that of its key
+  record Stepped (s : PagerState N E) (trees : ℕ → Tree) (key : ℕ) (reading : Reading) (answer : Option (LoadAnswer N)) (frames : List Frame) (s' : PagerState N E) : Type 0 where
+    pub trees' : ℕ → Tree
+    pub after : After v s trees s' trees'
+    pub still : answer ≡ None → Under v s' trees' key (gone_on reading frames)
+    pub right : (x : N) → answer ≡ Some (LoadAnswer.Read x) → ReadIsRight v s' key x
 
-    feels : ReadingFeels v s.core reading answer frames s'.core felt.change
-    feels = felt.feels u.well.whole.handles
-
-    fit : (after : ℕ → Tree) × ChangeFits v felt.change (ReadingBrings v s.core reading) s s' trees after
-    fit = reading-fits lawful readable u.settled u.well step.whole u.stands reading u.going.fits (given-nodes reading.frames u.going.held) felt.does.goes takes felt.opens feels
-
-    went : After v s trees s' fit.0
-    went = record { same = fit.1.same; nodes = felt.does.goes.nodes; stands = trees-go-on lawful u.settled u.well step.whole u.stands step.moves felt.does.goes fit.1 }
-
-    -- the load goes on
-    still : answer ≡ None → Under v s' fit.0 key (gone_on reading frames)
-    still none =
-        let load = felt.opens none in
-        let going = going-step u.well step.whole u.stands felt.does.goes fit.1 reading frames load.0 load.1 u.going
-        (subst (λ (o : Option (LoadAnswer N)). ReadingFeels v s.core reading o frames s'.core felt.change) none feels) in
-        let keyed : (other : OpenLoad) → s'.core.loads reading.load.0 ≡ Some other → other.key ≡ key = λ other there.
-        u.keyed other (was-open felt.does.goes reading.load.0 other u.going.within there) in
-        search (settled', step.whole, went.stands, going, keyed)
-
-    -- the value that it answers is that of its key
-    module _ (x : N) (is : answer ≡ Some (LoadAnswer.Read x)) where
-      read : EndsRead v s.core Owner.Caller reading x s'.core
-      read = let d = subst (λ (o : Option (LoadAnswer N)). Does v s.core Owner.Caller reading o frames s'.core) is step.does.does in d.0
-
-      right : ReadIsRight v s' key x
-      right =
-          let handed = hands reading.load (v.references x) u.well.whole.handles read.handed in
-          let load = read.of_key_load in
-          subst (λ q. ReadIsRight v s' q x) (u.keyed load.load load.open_load)
-          (read-right lawful readable s s' trees fit.0 fit.1.same felt.does.goes.stored step.whole went.stands reading u.going load.load load.open_load x read.reads_root handed)
+  stepped : (s s' : PagerState N E) (trees : ℕ → Tree) (key : ℕ) (reading : Reading) (answer : Option (LoadAnswer N)) (frames : List Frame) → Under v s trees key reading → HoldsSettled v s' → TakesWell v s reading
+      → ReadingStep v Owner.Caller reading s answer frames s' → Stepped s trees key reading answer frames s'
+  stepped s s' trees key reading answer frames u settled' takes step =
+      let felt = reading-feels (seen v) s.core Owner.Caller caller-free s'.core reading answer frames step.does in
+      let feels = felt.feels u.well.whole.handles in
+      let fit = reading-fits lawful readable u.settled u.well step.whole u.stands reading u.going.fits (given-nodes reading.frames u.going.held) felt.does.goes takes felt.opens feels in
+      let stands = trees-go-on lawful u.settled u.well step.whole u.stands step.moves felt.does.goes fit.1 in
+      record {
+        trees' = fit.0;
+        after = record { same = fit.1.same; nodes = felt.does.goes.nodes; stands = stands };
+        still = λ none.
+            let load = felt.opens none in
+            let going = going-step u.well step.whole u.stands felt.does.goes fit.1 reading frames load.0 load.1 u.going
+            (subst (λ (o : Option (LoadAnswer N)). ReadingFeels v s.core reading o frames s'.core felt.change) none feels) in
+            record { settled = settled'; well = step.whole; stands = stands; going = going; keyed = λ other there. u.keyed other (was-open felt.does.goes reading.load.0 other u.going.within there) };
+        right = λ x is.
+            let read = (subst (λ (o : Option (LoadAnswer N)). Does v s.core Owner.Caller reading o frames s'.core) is step.does.does).0 in
+            let load = read.of_key_load in
+            subst (λ q. ReadIsRight v s' q x) (u.keyed load.load load.open_load)
+            (read-right lawful readable s s' trees fit.0 fit.1.same felt.does.goes.stored step.whole stands reading u.going load.load load.open_load x read.reads_root
+            (hands reading.load (v.references x) u.well.whole.handles read.handed));
+      }
 
   -- ---- all steps
 
-  -- what a run comes to
-  record Comes (s : PagerState N E) (trees : ℕ → Tree) (key : ℕ) (answer : LoadAnswer N) (s' : PagerState N E) : Type 0 where
-    pub trees' : ℕ → Tree
-    pub after : After v s trees s' trees'
-    pub right : (x : N) → answer ≡ LoadAnswer.Read x → ReadIsRight v s' key x
-
-  comes : {reading : Reading} {s s' : PagerState N E} {answer : LoadAnswer N} (run : LoadRun v Owner.Caller reading s answer s') → LoadAsksWell run → (trees : ℕ → Tree) (key : ℕ) → Under v s trees key reading → Comes s trees key answer s'
+  comes : {reading : Reading} {s s' : PagerState N E} {answer : LoadAnswer N} (run : LoadRun v Owner.Caller reading s answer s') → LoadAsksWell run → (trees : ℕ → Tree) (key : ℕ) → Under v s trees key reading → Stepped s trees key reading (Some answer) [] s'
   unfolding LoadAsksWell
-  comes (load-ends reading answer s s' step) asks trees key u =
-      record {
-        trees' = (fit s s' trees key reading (Some answer) [] u asks.0 asks.1 step).0;
-        after = went s s' trees key reading (Some answer) [] u asks.0 asks.1 step;
-        right = λ x is. right s s' trees key reading (Some answer) [] u asks.0 asks.1 step x (ap (λ (a : LoadAnswer N). Some a) is);
-      }
+  comes (load-ends reading answer s s' step) asks trees key u = stepped s s' trees key reading (Some answer) [] u asks.0 asks.1 step
   comes (load-goes-on reading frames answer s mid s' step more) asks trees key u =
-      let rest = comes more asks.2 (fit s mid trees key reading None frames u asks.0 asks.1 step).0 key (still s mid trees key reading None frames u asks.0 asks.1 step refl) in
-      record { trees' = rest.trees'; after = after-then (went s mid trees key reading None frames u asks.0 asks.1 step) rest.after; right = rest.right }
+      let a = stepped s mid trees key reading None frames u asks.0 asks.1 step in
+      let rest = comes more asks.2 a.trees' key (a.still refl) in
+      record { trees' = rest.trees'; after = after-then a.after rest.after; still = λ none. absurd (cc); right = rest.right }
 
   -- ---- its begin
 

@@ -5,7 +5,7 @@ use Rattle.pagable_laws.proofs.Words.{HandleRow, find_row, is_handle, is_owner, 
 use Rattle.pagable_laws.proofs.Words.{ArcRef, Identity, LoadNumber, Mode, Event, EventReply, LoadAnswer, Took, Call, Reply, Pinning, PinStep, is_pinning, is_loose, owner_worker, World, Seen, Todo}
 use Rattle.pagable_laws.proofs.Words.{to_pin, is_named_by, CloneCall, PinCall, with_pin, without_load, is_owned_in, EndCall, Site, PinsAtOnce, answer_after, Happens, HasPin, to_load, row_at}
 use Rattle.pagable_laws.proofs.{Words.{FallsAnyhow, row_of, with_handle, with_mode, moved, PinHolds}, Decoding.among-either, Existing.outlast, Goes.{le-more, found-number, none-in-new}}
-use Rattle.{pagable_laws.proofs.{Sums.{same-number, self-number}, Trees.same_some}, pagable_world.specs.Loads.Does, std.{specs.List.AllPairs, proofs.{lemmas.Bool.false_from_ne_true, Common.rules}}}
+use Rattle.{pagable_laws.proofs.{Sums.{same-number, self-number}, Trees.same_some}, pagable_world.specs.Loads.Does, std.{specs.List.AllPairs, proofs.{lemmas.Bool.{cases_Bool, false_from_ne_true}, Common.rules}}}
 use Rattle.pagable_world.specs.Workers as workers
 
 -- no value's
@@ -31,29 +31,15 @@ pub record Stands (last : ℕ) (rows : List HandleRow) (q : ℕ) (row : HandleRo
   pub only : (h : HandleRow) → Among rows h → h.number.0 ≡ q → h ≡ row
   pub given : q ≤ last
 
-find-front : (q : ℕ) (h : HandleRow) (hs : List HandleRow) → is_handle q h ≡ true → find_row q (h ∷ hs) ≡ Some h
-unfolding find_row
-find-front q h hs is = rw is refl
-
-find-later : (q : ℕ) (h : HandleRow) (hs : List HandleRow) → is_handle q h ≡ false → find_row q (h ∷ hs) ≡ find_row q hs
-unfolding find_row
-find-later q h hs is = rw is refl
-
--- what holds where the row stands in front, and goes over to longer lists
-found-by : (q : ℕ) (row : HandleRow) (P : List HandleRow → Type 0) → ((h : HandleRow) (hs : List HandleRow) → is_handle q h ≡ true → h ≡ row → P (h ∷ hs))
-    → ((h : HandleRow) (hs : List HandleRow) → is_handle q h ≡ false → P hs → P (h ∷ hs))
-    → (rows : List HandleRow) → find_row q rows ≡ Some row → P rows
-unfolding find_row
-found-by q row P front later [] found = absurd (cc)
-found-by q row P front later (h ∷ hs) found = grind (arith, nat_tests, found-by q row P front later hs)
-
 pub find-both : (q : ℕ) (xs ys : List HandleRow) → find_row q (xs ++ ys) ≡ or_else (find_row q xs) (find_row q ys)
 unfolding find_row
 find-both q [] ys = refl
 find-both q (h ∷ hs) ys = grind (arith, nat_tests, find-both q hs ys)
 
 pub among-found : (q : ℕ) (rows : List HandleRow) (row : HandleRow) → find_row q rows ≡ Some row → Among rows row
-among-found q rows row found = found-by q row (λ xs. Among xs row) (λ h hs is e. (zero, ap (λ (x : HandleRow). Some x) e)) (λ h hs is a. (suc a.0, a.1)) rows found
+unfolding find_row
+among-found q [] row found = absurd (cc)
+among-found q (h ∷ hs) row found = elim (cases_Bool (is_handle q h)) [ inl e ↦ (zero, rw e at found) | inr e ↦ let a = among-found q hs row (rw e at found) in (suc a.0, a.1) ]
 
 -- where nothing is found, nothing has the number
 pub none-found : (q : ℕ) (rows : List HandleRow) (h : HandleRow) → find_row q rows ≡ None → Among rows h → h.number.0 ≡ q → ⊥
@@ -117,10 +103,9 @@ module _ (test : HandleRow → Bool) (f : HandleRow → HandleRow) (same : (h : 
   after-number h = grind (arith, nat_tests)
 
   pub found-after : (q : ℕ) (rows : List HandleRow) (row : HandleRow) → find_row q rows ≡ Some row → find_row q (changed test f rows) ≡ Some (after row)
-  found-after q rows row found =
-      found-by q row (λ xs. find_row q (changed test f xs) ≡ Some (after row))
-      (λ h hs is e. find-front q (after h) _ (grind (arith, nat_tests, after-number)) ∙ ap (λ (x : HandleRow). Some (after x)) e)
-      (λ h hs is a. find-later q (after h) _ (grind (arith, nat_tests, after-number)) ∙ a) rows found
+  unfolding find_row
+  found-after q [] row found = absurd (cc)
+  found-after q (h ∷ hs) row found = grind (arith, nat_tests, is_handle, find_row, changed, true, false, after-number, found-after q hs row)
 
   pub stands-changed : {last : ℕ} {rows : List HandleRow} {q : ℕ} {row : HandleRow} → Stands last rows q row → Stands last (changed test f rows) q (after row)
   stands-changed {last} {rows} {q} {row} s =
@@ -147,10 +132,11 @@ pub only-one : (row h : HandleRow) → Among (row ∷ []) h → h ≡ row
 only-one row h x2 = grind (arith, nat_tests)
 
 pub stands-new : (last : ℕ) (rows : List HandleRow) (row : HandleRow) → AreUpTo last rows → row.number.0 ≡ last + 1 → Stands (last + 1) (rows ++ row ∷ []) row.number.0 row
+unfolding find_row
 stands-new last rows row few next =
     let none = none-above last row.number.0 rows few (omega arith) in
     record {
-      live = find-both row.number.0 rows (row ∷ []) ∙ (ap (λ x. or_else x (find_row row.number.0 (row ∷ []))) none ∙ find-front row.number.0 row [] (self-number row.number.0));
+      live = find-both row.number.0 rows (row ∷ []) ∙ rw (none, self-number row.number.0) refl;
       only = λ h (i, at) is. elim (among-either rows (row ∷ []) i h at) [ inl a ↦ absurd (none-found row.number.0 rows h none a is) | inr b ↦ only-one row h b ];
       given = omega arith;
     }
@@ -158,9 +144,9 @@ stands-new last rows row few next =
 -- ---- a cascade
 
 pub found-kept : (gone : ℕ → Bool) (q : ℕ) (rows : List HandleRow) (row : HandleRow) → gone q ≡ false → find_row q rows ≡ Some row → find_row q (left_rows gone rows) ≡ Some row
-found-kept gone q rows row kept found = found-by q row (λ xs. find_row q (left_rows gone xs) ≡ Some row) (λ h hs is e.
-    let stays : gone h.number.0 ≡ false = ap gone (same-number _ _ is) ∙ kept in rw stays (find-front q h _ is ∙ ap (λ (x : HandleRow). Some x) e))
-    (λ h hs is a. grind (arith, nat_tests, find-later)) rows found
+unfolding find_row
+found-kept gone q [] row kept found = absurd (cc)
+found-kept gone q (h ∷ hs) row kept found = grind (arith, nat_tests, is_handle, find_row, left_rows, true, false, same-number, found-kept gone q hs row kept)
 
 pub among-kept : {X : Type 0} (test : X → Bool) (xs : List X) (x : X) → Among (filter test xs) x → Among xs x
 among-kept test [] x among = among
@@ -247,12 +233,8 @@ not-loose x0 is = grind (arith, nat_tests)
 
 pub low-handle : (w m : Core) (node : NodeNumber) (mode : Mode) (owner : Owner) → AreLow w → Alike (with_handle w node mode owner) m → AreLow m
 low-handle w m node mode owner low a h among =
-    let last : m.last.handle ≡ w.last.handle + 1 = ap (λ (l : Last). l.handle) a.last in
     let there : Among (w.rows ++ row_of (w.last.handle + 1) node mode owner ∷ []) h = subst (λ rows. Among rows h) a.rows among in
-    elim (among-either w.rows (row_of (w.last.handle + 1) node mode owner ∷ []) there.0 h there.1) [
-      | inl old ↦ let le = low h old in omega (arith, last, le)
-      | inr new ↦ let e = ap (λ (r : HandleRow). r.number.0) (only-one _ h new) in omega (arith, last, e)
-    ]
+    grind (arith, nat_tests, among-either w.rows (row_of (w.last.handle + 1) node mode owner ∷ []) there.0 h there.1, only-one, low h)
 
 module _ {N B W : Type 0} (m : Seen N B W) (v : ℕ) (s s' : Site) (low : AreLow s.core) where
   at-once : (r : ArcRef) (through k : HandleNumber) → PinsAtOnce s.core (owner_worker v) r through k s'.core → HasPin s'.core k

@@ -59,18 +59,9 @@ is-cached w kind key n is = grind (arith, nat_tests)
 
 -- A load's step in the machine: which reading makes it, and that no other goes on by it.
 
--- what stands among the readings afterwards
-pub reading-was : (readings : ℕ → Option Reading) (u' : World) → ReadingsAre readings u' → (q : ℕ) (after : Reading) → u'.work.readings q ≡ Some after
-    → (readings q ≡ Some after) × (is_some (u'.core.loads q) ≡ true)
-reading-was readings u' are q after is = grind (arith, nat_tests)
-
 -- a reading that makes a step is the machine's, or has just begun at an open load
 pub reading-stands : (u : World) → IsWhole u.core → (l : LoadNumber) (reading : Reading) → reading_at u l ≡ Some reading → IsReadingOf u.work reading ⊎ IsFresh u.core reading
-reading-stands u whole l reading at = by (u.work.readings l.0) refl at
-  where
-    by : (o : Option Reading) → u.work.readings l.0 ≡ o → or_else o (reading_of_load l (u.core.loads l.0)) ≡ Some reading → IsReadingOf u.work reading ⊎ IsFresh u.core reading
-    by None none at = grind (arith, nat_tests)
-    by (Some r) is at = inl (of_caller l.0 (is ∙ at))
+reading-stands u whole l reading at = grind (arith, nat_tests, of_caller)
 
 -- it is of the load with this number
 pub reading-number : {N E : Type 0} {v : Values N} (s : MachineState N E) → IsMachineWhole v s → (l : LoadNumber) (reading : Reading) → reading_at (world_of s) l ≡ Some reading → reading.load ≡ l
@@ -93,21 +84,15 @@ read-after : {readings : ℕ → Option Reading} {walkings : ℕ → Option Walk
     → ((n : ℕ) (walking : Walking) (after : Reading) → walkings n ≡ Some walking → (u.work.walkings n ≡ Some walking) ⊎ (front_reading walking.todo ≡ Some after → New after))
     → (after : Reading) → IsReadingOf u'.work after → IsReadingOf u.work after ⊎ New after
 read-after {readings} u u' New are same callers workers after (of_caller q is) =
-    elim (callers q after (reading-was readings u' are q after is).0) [ inl old ↦ inl (of_caller q old) | inr new ↦ inr new ]
-read-after u u' New are same callers workers after (of_worker n place walking r through below there todo) = elim (workers n walking after (sym (same n) ∙ there)) [
-  | inl old ↦ inl (of_worker n place walking r through below old todo)
-  | inr new ↦ inr (new (ap front_reading todo))
-]
+    elim (callers q after (grind (arith, nat_tests))) [ inl old ↦ inl (of_caller q old) | inr new ↦ inr new ]
+read-after u u' New are same callers workers after (of_worker n place walking r through below there todo) = grind (arith, nat_tests, workers n walking after (sym (same n) ∙ there), of_worker)
 
 -- ---- a load of the caller's
 
 module _ {N : Type 0} {v : Values N} {u u' : World} {l : LoadNumber} {reply : LoadReply N} (s : LoadSteps v u l reply u') where
-  went : (answer : Option (LoadAnswer N)) (after : Reading) → reading_after answer s.reading s.frames ≡ Some after → (answer ≡ None) × (after ≡ gone_on s.reading s.frames)
-  went x0 after e = grind (arith, nat_tests, same_some)
-
   pub steps-load : StepsReading u s.reading reply.ended s.frames u'
   steps-load = read-after u u' (λ after. (reply.ended ≡ None) × (after ≡ gone_on s.reading s.frames)) s.readings s.work.walkings (λ q after is.
-      elim (at-updated l.0 (reading_after reply.ended s.reading s.frames) u.work.readings q after is) [ inl (here, e) ↦ inr (went reply.ended after e) | inr old ↦ inl old ])
+      elim (at-updated l.0 (reading_after reply.ended s.reading s.frames) u.work.readings q after is) [ inl (here, e) ↦ inr (grind (arith, nat_tests, same_some)) | inr old ↦ inl old ])
       (λ n w after there. inl there)
 
 -- ---- a load of a worker's
@@ -123,10 +108,7 @@ module _ {N B W : Type 0} {m : Seen N B W} {u u' : World} {k : WorkerNumber} {re
   pub steps-worker : {me : Owner} {reading : Reading} (t : LoadsTodo m.values me (record { core = u.core; shelf = u.work.shelves s.walking.table; todo = s.walking.todo }) s.after reading)
       → StepsReading u reading t.answer t.frames u'
   steps-worker {reading = reading} t = read-after u u' (λ after. (t.answer ≡ None) × (after ≡ gone_on reading t.frames)) s.readings s.work.same_walkings (λ q after is. inl is) (λ n w after there.
-      elim (at-updated k.0 (Some (record s.walking { todo = s.after.todo; steps = reply.steps; answer = reply.answer })) u.work.walkings n w there) [
-        | inl (here, e) ↦ inr (λ front. t.next after (ap (λ (x : Walking). front_reading x.todo) (same_some _ _ e) ∙ front))
-        | inr old ↦ inl old
-      ])
+      grind (arith, nat_tests, at-updated k.0 (Some (record s.walking { todo = s.after.todo; steps = reply.steps; answer = reply.answer })) u.work.walkings, same_some, t.next))
 
 -- the reading that makes the step is the machine's, or has just begun
 pub is-reading-of : {N B W : Type 0} (u : World) (event : Event N B W) (reading : Reading) → IsSteppedReading u event reading → IsReadingOf u.work reading ⊎ IsFresh u.core reading
@@ -140,15 +122,13 @@ pub readings-on : {N B W : Type 0} {v : Values N} {u u' : World} {event : Event 
     → ((reading : Reading) (frames : List Frame) (load : OpenLoad) → IsReadingOf u.work reading ⊎ IsFresh u.core reading → u.core.loads reading.load.0 ≡ Some load
     → ReadingFeels v u.core reading None frames u'.core c → P (gone_on reading frames))
     → EventFeels v u event reply u' c → (reading : Reading) → IsReadingOf u'.work reading → P reading
-readings-on P old fresh gone (by-call c call answer called replied feels keeps) reading is = elim (keeps reading is) [ inl was ↦ old reading was | inr new ↦ fresh reading new ]
-readings-on P old fresh gone (by-key k key row happened sets keeps) reading is = elim (keeps reading is) [ inl was ↦ old reading was | inr new ↦ fresh reading new ]
-readings-on P old fresh gone (by-nothing stays keeps) reading is = elim (keeps reading is) [ inl was ↦ old reading was | inr new ↦ fresh reading new ]
 readings-on {v = v} {u} {u'} {event} P old fresh gone (by-reading c before answer frames stepped opens feels steps) reading is = elim (steps reading is) [
   | inl was ↦ old reading was
   | inr (none, same) ↦
       let load = opens none in
       subst P (sym same) (gone before frames load.0 (is-reading-of u event before stepped) load.1 (subst (λ a. ReadingFeels v u.core before a frames u'.core c) none feels))
 ]
+readings-on P old fresh gone feels reading is = grind (arith, nat_tests, old, fresh)
 
 -- A load's step, as trees feel it: one change, what it does to the plain world with it, and how the load's own blobs grow.
 
@@ -163,12 +143,8 @@ pub caller-free : NotLoads Owner.Caller
 caller-free l is = absurd (cc)
 
 -- a refusal that a load meets changes nothing, but that a failure of the storage may be noted
-module _ {N : Type 0} (v : Values N) (w : Core) (me : Owner) (reading : Reading) (u : Core) (e : Error) where
-  abbrev Notes : Type 0
-  Notes = (f : ℕ) × Alike (record w { failures = f }) u
-
-  pub meets : Meets v w me reading e u → Notes
-  meets does = search (rules)
+meets : {N : Type 0} (v : Values N) (w : Core) (me : Owner) (reading : Reading) (u : Core) (e : Error) → Meets v w me reading e u → (f : ℕ) × Alike (record w { failures = f }) u
+meets v w me reading u e does = search (rules)
 
 module _ {N B W : Type 0} (m : Seen N B W) (w : Core) (me : Owner) (free : NotLoads me) (w' : Core) (reading : Reading) where
   abbrev RF : Option (LoadAnswer N) → List Frame → Type 0
@@ -185,61 +161,46 @@ module _ {N B W : Type 0} (m : Seen N B W) (w : Core) (me : Owner) (free : NotLo
   knew kind key k row load opened needs c made goes = on nothing_felt load opened (was-known c) (λ whole. gets-known kind key c.n row needs (is-cached w kind.0 key c.n c.known)
       (got-known whole kind k row made c.next.above c.n (Owner.Load reading.load) c.leaves) refl goes)
 
-  gets-unread : (frames : List Frame) → GetsLazy m.values.types w me reading frames w' → RF None frames
-  gets-unread frames g = elim g.asked.makes.3 [
-    | inl k ↦ knew g.kind g.key g.k g.row g.asked.makes.0 g.asked.makes.1.stands_open (inr g.needs) k g.made g.goes
-    | inr (unknown, few, next, a) ↦ on (bears_known g.kind.0 g.key (OptionalDataKey.Some g.key)) g.asked.makes.0 g.asked.makes.1.stands_open
-        (adopts reading.load g.kind g.key (OptionalDataKey.Some g.key) [] unknown (none-named w (Owner.Load reading.load)) a)
-        (λ whole. gets-lazy g.kind g.key g.row g.needs (got-born whole g.kind g.k g.row g.made next.above reading.load g.key (OptionalDataKey.Some g.key) [] a) refl g.goes)
-  ]
-
   makes : (frames : List Frame) → MakesNode m.values w me reading frames w' → RF None frames
-  makes frames g = elim c.makes [
-    | inl (n, usable, f) ↦ on nothing_felt c.load c.owned.stands_open (adopts-known reading.load r.top.kind n (m.values.references g.x) right f)
-        (λ whole. makes-known g.x r n g.row (is-cached w r.top.kind.0 r.top.key n usable) (got-fallen whole r.top.kind g.k g.row g.made c.next.above n (Owner.Load reading.load) f) refl g.goes)
-    | inr (unknown, few, a) ↦ on (bears_known r.top.kind.0 r.top.key (first_key r.top.kind.0 r.top.key)) c.load c.owned.stands_open
-        (adopts reading.load r.top.kind r.top.key (first_key r.top.kind.0 r.top.key) (m.values.references g.x) unknown right a)
-        (λ whole. makes-node g.x r g.row (got-born whole r.top.kind g.k g.row g.made c.next.above reading.load r.top.key (first_key r.top.kind.0 r.top.key) (m.values.references g.x) a) refl g.goes)
-  ]
-    where
-      open g use {reads_node as r}
-      open g.adopted use {adopts as c}
+  makes frames g =
+      let r = g.reads_node in
+      let c = g.adopted.adopts in
+      let right = good w (Owner.Load reading.load) [] (m.values.references g.x) c.good in elim c.makes [
+        | inl (n, usable, f) ↦ on nothing_felt c.load c.owned.stands_open (adopts-known reading.load r.top.kind n (m.values.references g.x) right f)
+            (λ whole. makes-known g.x r n g.row (is-cached w r.top.kind.0 r.top.key n usable) (got-fallen whole r.top.kind g.k g.row g.made c.next.above n (Owner.Load reading.load) f) refl g.goes)
+        | inr (unknown, few, a) ↦ on (bears_known r.top.kind.0 r.top.key (first_key r.top.kind.0 r.top.key)) c.load c.owned.stands_open
+            (adopts reading.load r.top.kind r.top.key (first_key r.top.kind.0 r.top.key) (m.values.references g.x) unknown right a)
+            (λ whole. makes-node g.x r g.row (got-born whole r.top.kind g.k g.row g.made c.next.above reading.load r.top.key (first_key r.top.kind.0 r.top.key) (m.values.references g.x) a) refl g.goes)
+      ]
 
-      right : AreGood w (Owner.Load reading.load) (m.values.references g.x)
-      right = good w (Owner.Load reading.load) [] (m.values.references g.x) c.good
-
-  abbrev Over : Type 0
-  Over = Effect me false (IsMine w me reading.load) (Unit {0}) false nothing_felt w w'
-
-  fails : (e : Error) → Fails m.values w me reading e w' → Over
-  fails e does = elim does [
-    | inl gives ↦
-        let a = meets m.values w me reading gives.mid e gives.meets in
-        one-then (λ kind key n h. subst (IsHeldFor kind key n) (sym a.1.rows) h) (λ mine load is. mine load (sym (a.1.loads reading.load.0) ∙ is)) (noted a.0 a.1)
-        (closes reading.load (λ mine. mine) gives.closes)
-    | inr ended ↦ ends-load free reading.load (Err (e, None)) ended.ended
-  ]
-
-  ended : (end : LoadAnswer N) (frames : List Frame) → frames ≡ [] → Over → RF (Some end) frames
+  ended : (end : LoadAnswer N) (frames : List Frame) → frames ≡ [] → Effect me false (IsMine w me reading.load) (Unit {0}) false nothing_felt w w' → RF (Some end) frames
   ended end frames none e = record { change = nothing_felt; does = e; opens = λ is. absurd (cc); feels = λ whole. reading-ends end refl none }
 
-  by-does : (answer : Option (LoadAnswer N)) (frames : List Frame) → LoadDoes m.values w me reading answer frames w' → RF answer frames
-  by-does None frames does = elim does [
+  pub reading-feels : (answer : Option (LoadAnswer N)) (frames : List Frame) → ReadingDoes m.values w me reading answer frames w' → RF answer frames
+  reading-feels None frames d = elim d.does [
     | inl g ↦
         let same : g.asked.gives.0 ≡ g.load = same_some _ _ (sym g.asked.gives.1.stands_open ∙ g.open_load) in
         on nothing_felt g.load g.open_load (asks _ g.asked)
         (λ whole. reads-root g.load g.blob g.first g.open_load (subst (λ (x : OpenLoad). w.stored x.key ≡ Some g.blob) same g.asked.gives.2.found) refl g.goes)
     | inr (inl g) ↦ knew g.kind g.key g.k g.row g.asked.gives.0 g.asked.gives.1.stands_open (inl g.needs) g.asked.gives.2 g.made g.goes
     | inr (inr (inl g)) ↦ on nothing_felt g.asked.gives.0 g.asked.gives.1.stands_open (asks _ g.asked) (λ whole. reads-blob g.kind g.key g.blob g.needs g.asked.gives.2.1.found refl g.goes)
-    | inr (inr (inr (inl lazy))) ↦ gets-unread frames lazy
+    | inr (inr (inr (inl g))) ↦ elim g.asked.makes.3 [
+      | inl k ↦ knew g.kind g.key g.k g.row g.asked.makes.0 g.asked.makes.1.stands_open (inr g.needs) k g.made g.goes
+      | inr (unknown, few, next, a) ↦ on (bears_known g.kind.0 g.key (OptionalDataKey.Some g.key)) g.asked.makes.0 g.asked.makes.1.stands_open
+          (adopts reading.load g.kind g.key (OptionalDataKey.Some g.key) [] unknown (none-named w (Owner.Load reading.load)) a)
+          (λ whole. gets-lazy g.kind g.key g.row g.needs (got-born whole g.kind g.k g.row g.made next.above reading.load g.key (OptionalDataKey.Some g.key) [] a) refl g.goes)
+    ]
     | inr (inr (inr (inr made))) ↦ makes frames made
   ]
-  by-does (Some (LoadAnswer.Pinned k)) frames does = ended (LoadAnswer.Pinned k) frames does.1 (ends-load free reading.load (Ok k) does.0.ended)
-  by-does (Some (LoadAnswer.Read x)) frames does = ended (LoadAnswer.Read x) frames does.1 (hands-over free reading.load _ (Ok tt) does.0.handed)
-  by-does (Some (LoadAnswer.Refused e)) frames does = ended (LoadAnswer.Refused e) frames does.1 (fails e does.0)
-
-  pub reading-feels : (answer : Option (LoadAnswer N)) (frames : List Frame) → ReadingDoes m.values w me reading answer frames w' → RF answer frames
-  reading-feels answer frames does = by-does answer frames does.does
+  reading-feels (Some (LoadAnswer.Pinned k)) frames d = ended (LoadAnswer.Pinned k) frames d.does.1 (ends-load free reading.load (Ok k) d.does.0.ended)
+  reading-feels (Some (LoadAnswer.Read x)) frames d = ended (LoadAnswer.Read x) frames d.does.1 (hands-over free reading.load _ (Ok tt) d.does.0.handed)
+  reading-feels (Some (LoadAnswer.Refused e)) frames d = ended (LoadAnswer.Refused e) frames d.does.1 (elim d.does.0 [
+    | inl gives ↦
+        let a = meets m.values w me reading gives.mid e gives.meets in
+        one-then (λ kind key n h. subst (IsHeldFor kind key n) (sym a.1.rows) h) (λ mine load is. mine load (sym (a.1.loads reading.load.0) ∙ is)) (noted a.0 a.1)
+        (closes reading.load (λ mine. mine) gives.closes)
+    | inr ended ↦ ends-load free reading.load (Err (e, None)) ended.ended
+  ])
 
 -- it is felt so in a world that is alike
 pub feels-alike : {N : Type 0} {v : Values N} {w u w' : Core} {reading : Reading} {answer : Option (LoadAnswer N)} {frames : List Frame} {c : Change}
@@ -277,8 +238,7 @@ unfolding AllWait
 given r key height x3 well = grind (arith, nat_tests, started)
 
 given-known : (r : ArcRef) (key height : ℕ) (below : List Todo) → AllWait below → front_reading (give_known r key height below) ≡ None
-given-known r key height [] well = refl
-given-known r key height (x ∷ below) well = given r key height (x ∷ below) well
+given-known r key height x3 well = grind (arith, nat_tests, given)
 
 -- ---- the step
 
@@ -383,14 +343,10 @@ module _ {N B W : Type 0} (m : Seen N B W) (v : ℕ) (s s' : Site) where
   pub walk-goes : (todo : List Todo) (step : Took W) → Does m v s todo step s' → WF todo
   walk-goes (to_start r place ∷ below) (Took.Claim i (Ok Claim.Waiting)) (is, c) = let t = c.finds.1.2 in
       quiet (λ n x b. b) (λ front well. no-load s' _ (t.list_is ∙ front) refl) (stays t.pager_stays)
-  walk-goes (to_pin r place ∷ below) (Took.Pin i (Ok (PinStep.Held k))) (is, p) = rests _ (λ n x b. b) p.pins.2.list_is (λ well. refl) (at-once v r p.pins.0 k p.pins.1)
-  walk-goes (to_pin r place ∷ below) (Took.Pin i (Ok (PinStep.LoadBegun l))) (is, p) = load-begins r place _ below p.pins.0 l p.pins.1 p.pins.2.list_is
-  walk-goes (to_pin r place ∷ below) (Took.Pin i (Err f)) (is, p) = rests _ (λ n x b. b) p.refused.1.list_is (λ well. refl) (pin-refused v r f p.refused.0)
-  walk-goes (to_set r through key height ∷ below) (Took.SetKey i (Ok u)) (is, p) = sets r through key height below _ (Ok u) p.sets p.goes.list_is refl
-  walk-goes (to_set r through key height ∷ below) (Took.SetKey i (Err f)) (is, p) = sets r through key height below _ (Err f) p.sets p.refused.list_is refl
+  walk-goes (to_set r through key height ∷ below) (Took.SetKey i told) (is, p) = grind (arith, nat_tests, sets)
   walk-goes (to_release r key height ∷ below) (Took.Release i) (is, falls, g) = rests _ (λ n x b. b) g.list_is (given r key height below) (fell (none s.core) falls.falls (λ mine o. released-free mine o.apart v o.other s.core r.node.0))
   walk-goes (to_fail fault back ∷ below) Took.Fail (gives, shelf, list_is) = rests _ (λ n x b. b) list_is (λ well. refl) (gives-back v back gives)
-  walk-goes _ step does = grind (arith, nat_tests, rests, unmoved, stored, given-known, loads-on, started)
+  walk-goes _ step does = grind (arith, nat_tests, rests, unmoved, stored, given-known, loads-on, started, at-once, pin-refused, load-begins)
 
 -- What trees feel of each event that doesn't close the storage.
 
@@ -425,17 +381,11 @@ module _ (u u' : World) where
   -- one worker is another afterwards, and has at most begun a load
   keeps-but : ReadingsAre u.work.readings u' → (k : ℕ) (now : Walking) → ((n : ℕ) → u'.work.walkings n ≡ updated k (Some now) u.work.walkings n)
       → ((reading : Reading) → front_reading now.todo ≡ Some reading → IsFresh u'.core reading) → KeepsReadings u u'
-  keeps-but are k now same anew = read-after u u' (λ r. IsFresh u'.core r) are same (λ q r is. inl is) (λ n w r there. elim (at-updated k (Some now) u.work.walkings n w there) [
-    | inl (here, e) ↦ inr (λ front. anew r (ap (λ (x : Walking). front_reading x.todo) (same_some _ _ e) ∙ front))
-    | inr old ↦ inl old
-  ])
+  keeps-but are k now same anew = read-after u u' (λ r. IsFresh u'.core r) are same (λ q r is. inl is) (λ n w r there. grind (arith, nat_tests, at-updated k (Some now) u.work.walkings, same_some, anew))
 
   keeps-begun : (t : ℕ) (l : LoadNumber) → ReadingsAre (updated l.0 (Some (fresh l t)) u.work.readings) u' → l.0 ≤ u'.core.last.load
       → ((n : ℕ) → u'.work.walkings n ≡ u.work.walkings n) → KeepsReadings u u'
-  keeps-begun t l are within same = read-after u u' (λ r. IsFresh u'.core r) are same (λ q r is. elim (at-updated l.0 (Some (fresh l t)) u.work.readings q r is) [
-    | inl (here, e) ↦ let f : fresh l t ≡ r = same_some _ _ e in inr (subst (λ x. IsFresh u'.core x) f (refl, refl, within))
-    | inr old ↦ inl old
-  ]) (λ n w r there. inl there)
+  keeps-begun t l are within same = read-after u u' (λ r. IsFresh u'.core r) are same (λ q r is. grind (arith, nat_tests, at-updated l.0 (Some (fresh l t)) u.work.readings, same_some)) (λ n w r there. inl there)
 
 -- ---- events
 
@@ -485,24 +435,12 @@ module _ {N B W : Type 0} (m : Seen N B W) (u u' : World) where
     knows = λ whole leaves k q n known. absurd known;
   }
 
-  load-starts : (h : HandleNumber) (r : Result Beginning Error) → Happens m u (Event.LoadStart h) (EventReply.Started r) u' → EG (Event.LoadStart h) (EventReply.Started r)
-  load-starts h r is = event-rests (λ n x b. absurd b) (keeps-all u u' is.readings is.work.walkings) (begins r is.step)
-
   key-starts : (key t : ℕ) (r : Result Beginning Error) → KeyStarted u key t r u' → EG (Event.LoadKey key t) (EventReply.Started r)
-  key-starts key t (Err e) is = event-rests (λ n x b. absurd b) (keeps-all u u' is.refused is.work.walkings) (begins-key (Err e) is.step)
-  key-starts key t (Ok Beginning.InMemory) is = absurd is.step.begins
   key-starts key t (Ok (Beginning.Load l k)) is =
       let next = is.step.begins.1.above in
       let last = ap (λ (x : Last). x.load) is.step.begins.2.last in
       event-rests (λ n x b. absurd b) (keeps-begun u u' t l is.begun (omega (arith, next, last)) is.work.walkings) (begins-key (Ok (Beginning.Load l k)) is.step)
-
-  load-steps : (l : LoadNumber) (reply : LoadReply N) → Happens m u (Event.LoadStep l) (EventReply.LoadMoved (Ok reply)) u' → EG (Event.LoadStep l) (EventReply.LoadMoved (Ok reply))
-  load-steps l reply is =
-      let x = is.moves in
-      let f = reading-feels m u.core Owner.Caller caller-free u'.core x.reading reply.ended x.frames x.does in
-      felt f.does (λ left. tt)
-      (λ whole well. by-reading f.change x.reading reply.ended x.frames (x.at, reading-stands u whole l x.reading x.at) f.opens (f.feels whole.handles) (steps-load x))
-      (λ whole leaves. reading-knows (f.feels whole.handles))
+  key-starts key t r is = grind (arith, nat_tests, event-rests, keeps-all, begins-key)
 
   module _ (k : WorkerNumber) (reply : WorkerReply W) (s : WorkerSteps m u k reply u') where
     abbrev site : Site
@@ -544,11 +482,18 @@ module _ {N B W : Type 0} (m : Seen N B W) (u u' : World) where
   event-goes (Event.Call call) (EventReply.CallReply r) open_still is =
       let g = calls-go m u.core Owner.Caller caller-free u'.core call r open_still is.step.does in
       felt g.does (λ left. left) (λ whole well. by-call g.change call r refl refl g.feels (keeps-all u u' is.readings is.work.walkings)) (λ whole leaves. call-knows W g.feels leaves)
+  event-goes (Event.LoadStep l) (EventReply.LoadMoved (Ok reply)) open_still is =
+      let x = is.moves in
+      let f = reading-feels m u.core Owner.Caller caller-free u'.core x.reading reply.ended x.frames x.does in
+      felt f.does (λ left. tt)
+      (λ whole well. by-reading f.change x.reading reply.ended x.frames (x.at, reading-stands u whole l x.reading x.at) f.opens (f.feels whole.handles) (steps-load x))
+      (λ whole leaves. reading-knows (f.feels whole.handles))
+  event-goes (Event.LoadStart h) (EventReply.Started r) open_still is = event-rests (λ n x b. absurd b) (keeps-all u u' is.readings is.work.walkings) (begins r is.step)
   event-goes Event.TableNew (EventReply.TableMade (Ok t)) open_still is = let x = is.made in event-rests (λ n x b. absurd b) (keeps-all u u' x.2 x.3.same_walkings) (stays x.1)
   event-goes (Event.WorkerItem t item) (EventReply.WorkerMade (Ok v)) open_still is = starts (λ n x b. b) t _ u.core v (none u.core) is.starts
   event-goes (Event.WorkerListed t i) (EventReply.WorkerMade (Ok v)) open_still is = let x = is.starts in
       starts (λ n x b. b) t _ _ v (moves (none u.core) (only_handle x.0) (Owner.Worker v) _ (λ l is. absurd (cc)) (entry refl i x.0 x.3.listed)) x.5
-  event-goes event reply open_still is = grind (arith, nat_tests, same, load-starts, key-starts, load-steps, worker-steps)
+  event-goes event reply open_still is = grind (arith, nat_tests, same, key-starts, worker-steps)
 
 -- ---- the plain world, as trees feel it
 
@@ -559,14 +504,11 @@ module _ {c : Change} {w w' : Core} (g : Goes c w w') where
   key-is : (n : ℕ) (x : Core) (cell : Cell) → x.cells n ≡ Some cell → key_at x n ≡ cell.key
   key-is n x cell is = ap (λ (y : Option Cell). if_there (λ (z : Cell). z.key) OptionalDataKey.None y) is
 
-  there-is : (n : ℕ) → is_some (w'.cells n) ≡ true → (cell : Cell) × (w'.cells n ≡ Some cell)
-  there-is n there = grind (arith, nat_tests)
-
   pub old-node : (n : ℕ) → n ≤ w.last.node → is_some (w'.cells n) ≡ true → SameNode c w w' n
-  old-node n few there = let (cell, is) = there-is n there in let k = g.cells n cell is in grind (arith, nat_tests, type-is, key-is, now)
+  old-node n few there = grind (arith, nat_tests, type-is, key-is, g.cells n)
 
   pub new-node : HandlesAreWhole w → (n : ℕ) → w.last.node < n → is_some (w'.cells n) ≡ true → NewNode c w w' n
-  new-node whole n above there = let (cell, is) = there-is n there in elim (g.cells n cell is) [
+  new-node whole n above there = let (cell, is) : (cell : Cell) × (w'.cells n ≡ Some cell) = grind (arith, nat_tests) in elim (g.cells n cell is) [
     | inl kept ↦ absurd (let few = (whole.nodes_numbered n (ap is_some kept.live)).1 in omega (arith, few, above))
     | inr (next, bears) ↦ record { t = cell.node_type; own = cell.key; born = bears; next = next; typed = type-is n w' cell is; key = key-is n w' cell is }
   ]

@@ -157,8 +157,7 @@ module _ (types : Types) (store : ℕ → Option Blob) (many : ℕ) where
   owes-got : (frames : List Frame) (kind : Kind) (key owed : ℕ) (row : HandleRow) → (need_of types frames ≡ needs_nested kind key) ⊎ (need_of types frames ≡ needs_lazy kind key)
       → Owes types store many frames owed → OwesLess types store many (with_got kind row frames) owed
   unfolding Owes Waits
-  owes-got [] kind key owed row (inl needs) o = absurd (cc)
-  owes-got [] kind key owed row (inr needs) o = absurd (cc)
+  owes-got [] kind key owed row needs o = grind (arith, nat_tests)
   owes-got (top ∷ below) kind key owed row needs o =
       let t = takes o.from kind key (asks-by-kinds types top.node_type top.blob top.got kind key (asked below (next_in types top) kind key needs)) in
       let s = o.sum in
@@ -179,14 +178,9 @@ pub owes-less : {N : Type 0} {v : Values N} {w w' : Core} (store : ℕ → Optio
     → (reading : Reading) (load : OpenLoad) (frames : List Frame) (many longest owed : ℕ) {c : Change} → w.loads reading.load.0 ≡ Some load
     → Unfolds v.types store reading.node_type load.key many longest → Owes v.types store many reading.frames owed → ReadingFeels v w reading None frames w' c → OwesLess v.types store many frames owed
 owes-less {v = v} {w} store kept reading load frames many longest owed open_load under o (reads-root l blob none_read at stored answer is) = search (rules, reads-root, owes-root)
-owes-less {v = v} store kept reading load frames many longest owed open_load under o (reads-blob kind key blob needs stored answer is) = grind (arith, nat_tests, owes-blob)
 owes-less {v = v} store kept reading load frames many longest owed open_load under o (gets-known kind key n row needs known got answer is) =
     subst (λ fs. OwesLess v.types store many fs owed) (sym is) (owes-got v.types store many reading.frames kind key owed row needs o)
-owes-less {v = v} store kept reading load frames many longest owed open_load under o (gets-lazy kind key row needs got answer is) =
-    subst (λ fs. OwesLess v.types store many fs owed) (sym is) (owes-got v.types store many reading.frames kind key owed row (inr needs) o)
-owes-less {v = v} store kept reading load frames many longest owed open_load under o (makes-known x r n row known got answer is) = search (rules, makes-known, owes-made)
-owes-less {v = v} store kept reading load frames many longest owed open_load under o (makes-node x r row got answer is) = search (rules, makes-node, owes-made)
-owes-less store kept reading load frames many longest owed open_load under o (reading-ends end answer is) = absurd (cc)
+owes-less {v = v} store kept reading load frames many longest owed open_load under o feels = grind (arith, nat_tests, owes-got, owes-made, owes-blob)
 
 -- Each step of a load of the caller's is within its bound, and one that is open has a step left, along every chain.
 
@@ -200,11 +194,6 @@ Bounded types store key reading = (more : ℕ → Option Blob) → KeepsStored s
 bounded-step : {N : Type 0} {v : Values N} {w w' : Core} {c : Change} (reading : Reading) (load : OpenLoad) (frames : List Frame) → w.loads reading.load.0 ≡ Some load
     → Bounded v.types w.stored load.key reading → ReadingFeels v w reading None frames w' c → Bounded v.types w.stored load.key (gone_on reading frames)
 bounded-step reading load frames open_load b feels more kept many longest under = search (rules, owes-less)
-
-is-within : {N : Type 0} {types : Types} {store : ℕ → Option Blob} {key : ℕ} (reading : Reading) (frames : List Frame) (reply : LoadReply N) → Bounded types store key reading
-    → (reply.ended ≡ None → Bounded types store key (gone_on reading frames)) → reply.steps ≡ one_more reading.steps
-    → IsWithinBound types store reading.node_type key reply
-is-within {types = types} {store} {key} reading frames reply b after counts many longest under = search (rules, owes-some)
 
 -- ---- the machine's loads
 
@@ -254,28 +243,21 @@ module _ {N E B W : Type 0} (m : Seen N B W) (s s' : MachineState N E) (whole : 
               (λ q x is. after q x (goes.stored q x is)) many longest under,
         )
 
-    went-bounded : (reading : Reading) (frames : List Frame) → IsReadingOf u.work reading ⊎ IsFresh u.core reading → ReadingFeels m.values u.core reading None frames u'.core c
-        → IsBounded m.values.types u' (gone_on reading frames)
-    went-bounded reading frames stands feels =
-        let before = bounded-of all reading stands in kept-bounded (gone_on reading frames) (before.0, λ load was. bounded-step reading load frames was (before.1 load was) feels)
-
   -- all loads go on so
   all-on : {event : Event N B W} {reply : EventReply N B W} {c : Change} → Goes c u.core u'.core → AllBounded m.values.types u → EventFeels m.values u event reply u' c → AllBounded m.values.types u'
   all-on goes all = readings-on (λ r. IsBounded m.values.types u' r) (λ r is. kept-bounded goes all r (all r is)) (fresh-bounded m.values.types u')
-      (λ r frames load stands at feels. went-bounded goes all r frames stands feels)
+      (λ r frames load stands at feels. let before = bounded-of all r stands in kept-bounded goes all (gone_on r frames) (before.0, λ load was. bounded-step r load frames was (before.1 load was) feels))
 
   -- a load that makes a step was bounded, and is where it goes on
   module _ (all : AllBounded m.values.types u) {l : LoadNumber} {reply : LoadReply N} (x : LoadSteps m.values u l reply u') (load : OpenLoad) (open_load : u.core.loads l.0 ≡ Some load) where
-    is-open : u.core.loads x.reading.load.0 ≡ Some load
-    is-open = reading-open s whole l x.reading x.at open_load
-
-    was-bounded : Bounded m.values.types u.core.stored load.key x.reading
-    was-bounded = (bounded-of all x.reading (reading-stands u whole.pager.whole l x.reading x.at)).1 load is-open
-
-    now-bounded : reply.ended ≡ None → Bounded m.values.types u.core.stored load.key (gone_on x.reading x.frames)
-    now-bounded none =
+    steps-within : IsWithinBound m.values.types u.core.stored x.reading.node_type load.key reply
+    steps-within =
+        let is_open = reading-open s whole l x.reading x.at open_load in
+        let was : Bounded m.values.types u.core.stored load.key x.reading = (bounded-of all x.reading (reading-stands u whole.pager.whole l x.reading x.at)).1 load is_open in
         let f = reading-feels m u.core Owner.Caller caller-free u'.core x.reading reply.ended x.frames x.does in
-        bounded-step x.reading load x.frames is-open was-bounded (subst (λ a. ReadingFeels m.values u.core x.reading a x.frames u'.core f.change) none (f.feels whole.pager.whole.handles))
+        let after : reply.ended ≡ None → Bounded m.values.types u.core.stored load.key (gone_on x.reading x.frames) = λ none. bounded-step x.reading load x.frames is_open was
+        (subst (λ a. ReadingFeels m.values u.core x.reading a x.frames u'.core f.change) none (f.feels whole.pager.whole.handles)) in
+        let counts = x.counts in λ many longest under. search (rules, owes-some)
 
   pub event-on : (event : Event N B W) (reply : EventReply N B W) → Happens m u event reply u' → AllWaitWell u → LoadsStand m.values.types u → LoadsStand m.values.types u'
   event-on event reply h waits stands = elim (keeps-open event) [
@@ -284,9 +266,7 @@ module _ {N E B W : Type 0} (m : Seen N B W) (s s' : MachineState N E) (whole : 
   ]
     where
       shut-by : (r : EventReply N B W) → Happens m u (let e : Event N B W = Event.Call Call.Close in e) r u' → IsShut u'.core
-      shut-by (EventReply.CallReply (Reply.Done r)) c = let l = c.step.does.falls.falls.leaves in (l.closed, l.stored)
-      shut-by (EventReply.CallReply r) c = absurd c.step.does
-      shut-by r c = absurd c
+      shut-by r c = grind (arith, nat_tests)
 
       on : EventGoes m u event reply u' → LoadsStand m.values.types u → LoadsStand m.values.types u'
       on g (inl shut) = inl (g.goes.shut shut)
@@ -296,8 +276,7 @@ module _ {N E B W : Type 0} (m : Seen N B W) (s s' : MachineState N E) (whole : 
   step-within (inl shut) (Event.LoadStep l) (EventReply.LoadMoved (Ok reply)) h = λ reading load at open_load many longest under. absurd (nothing-unfolds shut.1 under)
   step-within (inr all) (Event.LoadStep l) (EventReply.LoadMoved (Ok reply)) h = λ reading load at open_load.
       let same : h.moves.reading ≡ reading = same_some _ _ (sym h.moves.at ∙ at) in
-      subst (λ (r : Reading). IsWithinBound m.values.types u.core.stored r.node_type load.key reply) same
-      (is-within h.moves.reading h.moves.frames reply (was-bounded all h.moves load open_load) (now-bounded all h.moves load open_load) h.moves.counts)
+      subst (λ (r : Reading). IsWithinBound m.values.types u.core.stored r.node_type load.key reply) same (steps-within all h.moves load open_load)
   step-within stands event reply h = tt
 
 pub idle-bounded : {N E : Type 0} (types : Types) (s : MachineState N E) → IsIdle s → LoadsStand types (world_of s)

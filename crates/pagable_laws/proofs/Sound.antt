@@ -31,7 +31,7 @@ key-at shelf (q ∷ rs) (k ∷ ks) all (suc place) r key is at = key-at shelf rs
 key-at shelf x1 x2 all x4 r key is at = grind (arith, nat_tests)
 
 above-eager : (kind h limit : ℕ) → is_eager kind ≡ true → above kind h ≤ limit → h + 1 ≤ limit
-above-eager kind h limit is le = let e : (if is_eager kind then h + 1 else 0) ≡ h + 1 = ap (λ b. if b then h + 1 else 0) is in omega (arith, e, le)
+above-eager kind h limit is le = grind (arith, nat_tests)
 
 module _ {N E : Type 0} (v : Values N) (s : MachineState N E) (trees : ℕ → Tree) (fit : WorkFits v s trees) (readable : ReadsItsTypes v.types) (table : ℕ) where
   abbrev shelf : Shelf
@@ -186,13 +186,7 @@ module _ {N B W E : Type 0} (m : Seen N B W) (s : MachineState N E) (trees : ℕ
 
   module _ (l : LoadNumber) (reading : Reading) (load : OpenLoad) (at : reading_at (world_of s) l ≡ Some reading) (may : load_fault w Owner.Caller l ≡ None)
       (open_load : w.loads l.0 ≡ Some load) (paged : IsLoadOfPagedOut s load) where
-    abbrev node : NodeNumber
-    node = paged.0
-
-    abbrev t : ℕ
-    t = paged.1
-
-    abbrev out : IsPagedOutAs s node.0 load.key
+    abbrev out : IsPagedOutAs s paged.0.0 load.key
     out = paged.4
 
     -- what is read of it
@@ -205,9 +199,9 @@ module _ {N B W E : Type 0} (m : Seen N B W) (s : MachineState N E) (trees : ℕ
     fits : FramesFit v.types w.stored trees load.key reading.node_type reading.frames
     fits = going.fits load (reading-open s on.whole l reading at open_load)
 
-    of-type : reading.node_type ≡ t
+    of-type : reading.node_type ≡ paged.1
     of-type =
-        let there : (s.work.readings l.0 ≡ Some reading → reading.node_type ≡ t) = λ is.
+        let there : (s.work.readings l.0 ≡ Some reading → reading.node_type ≡ paged.1) = λ is.
         let a = on.whole.readings l.0 reading is in
         subst (λ root. FitsRoot root reading) (ap (λ (x : OpenLoad). x.root) (same_some _ _ (sym a.open_load ∙ open_load)) ∙ paged.3) a.typed in
         grind (arith, nat_tests, there)
@@ -215,7 +209,7 @@ module _ {N B W E : Type 0} (m : Seen N B W) (s : MachineState N E) (trees : ℕ
     -- the tree that it reads
     typed : (trees out.i.node.0).type ≡ reading.node_type
     typed =
-        let r = on.stands.pager.loads l.0 load node t paged.2 open_load paged.3 in
+        let r = on.stands.pager.loads l.0 load paged.0 paged.1 paged.2 open_load paged.3 in
         ap (λ n. (trees n).type) out.of_node ∙ r.typed ∙ sym of-type
 
     found : (blob : Blob) × (w.stored load.key ≡ Some blob)
@@ -232,10 +226,6 @@ module _ {N B W E : Type 0} (m : Seen N B W) (s : MachineState N E) (trees : ℕ
     need-there kind key needs =
         let n = needed v s trees on.fits readable out.t load.key reading.node_type out.i out.height out.known typed reading.frames fits going.asked kind key needs in
         (n.blob, n.is, n.short)
-
-    -- the front of what is needed
-    front : (frames : List Frame) (kind : Kind) (key : ℕ) → need_of v.types frames ≡ needs_nested kind key → is_eager kind.0 ≡ true
-    front x0 kind key is = grind (arith, nat_tests, eager-nested)
 
     form-of : (frame : Frame) (below : List Frame) → reading.frames ≡ frame ∷ below → (x : N) → IsDecoded v frame x → IsForm v frame
     form-of frame below is x decoded =
@@ -260,10 +250,6 @@ module _ {N B W E : Type 0} (m : Seen N B W) (s : MachineState N E) (trees : ℕ
     of-blob e (inl is) = absurd (not-broken v s trees on.fits readable out.t load.key reading.node_type out.i out.height out.known typed reading.frames fits going.asked e is)
     of-blob e (inr (inl (top, below, is, causes))) = (grind (arith, nat_tests))
     of-blob e (inr (inr memory)) = (subst IsOfChance (sym memory) tt)
-
-    of-lazy : (mid : Core) (e : Error) (kind : Kind) (key : ℕ) → need_of v.types reading.frames ≡ needs_lazy kind key → LazyCall w Owner.Caller reading.load kind key (Err e) mid → IsOfChance e
-    of-lazy mid e kind key needs c = only-refused {P = IsOfChance} e c.refused
-        (only-earlier _ _ (no-load-fault _) (only-earlier _ _ (λ f so. absurd (never _ Error.WrongKind f (grind (arith, nat_tests)) so)) (only-node IsOfChance w kind key tt))) tt
 
     of-node : (mid : Core) (e : Error) → RefusesNode v w Owner.Caller reading e mid → C e
     unfolding FramesFit FramesAsked
@@ -296,28 +282,25 @@ module _ {N B W E : Type 0} (m : Seen N B W) (s : MachineState N E) (trees : ℕ
       | inl (refuses, a) ↦ by-chance (of-blob e refuses)
       | inr (inl (first, asked)) ↦ by-chance (grind (arith, nat_tests, ask-chance, same_some, number, found))
       | inr (inr (inl (kind, key, needs, inl asked))) ↦ let n = need-there kind key (inl needs) in by-chance (nested-asked kind key n.0 gives.mid e n.1 asked)
-      | inr (inr (inl (kind, key, needs, inr (blob, is, deep, asked)))) ↦ absurd (let n = (need-there kind key (inl needs)).2 (front reading.frames kind key needs) in omega arith)
-      | inr (inr (inr (inl (kind, key, needs, asked)))) ↦ by-chance (of-lazy gives.mid e kind key needs asked)
+      | inr (inr (inl (kind, key, needs, inr (blob, is, deep, asked)))) ↦ absurd (let n = (need-there kind key (inl needs)).2 (grind (arith, nat_tests, eager-nested)) in omega arith)
+      | inr (inr (inr (inl (kind, key, needs, c)))) ↦ by-chance (only-refused {P = IsOfChance} e c.refused
+          (only-earlier _ _ (no-load-fault _) (only-earlier _ _ (λ f so. absurd (never _ Error.WrongKind f (grind (arith, nat_tests)) so)) (only-node IsOfChance w kind key tt))) tt)
       | inr (inr (inr (inr (inl node)))) ↦ of-node gives.mid e node
       | inr (inr (inr (inr (inr root)))) ↦ of-root gives.mid e root
     ]
 
 -- ---- what is told of handles
 
-by-row : (w : Core) (r : ArcRef) (b : Bool) (row : HandleRow) → Only IsOfHandles (row_fault w r (refused_if b Error.NotYours) row)
-by-row w r b row e is = grind (arith, nat_tests)
-
 of-reference : (w : Core) (owner : Owner) (seen : List ℕ) (r : ArcRef) → Only IsOfHandles (reference_fault w owner seen r)
-of-reference w owner seen r e is = grind (arith, nat_tests, by-row)
-
-only-else : {P : Error → Type 0} (a b : Option Error) → Only P a → Only P b → Only P (or_else a b)
-only-else None b first second e is = second e is
-only-else (Some f) b first second e is = first e is
+of-reference w owner seen r e is = grind (arith, nat_tests)
 
 pub by-all : (w : Core) (owner : Owner) (seen : List ℕ) (rs : List ArcRef) → Only IsOfHandles (references_fault w owner seen rs)
 unfolding references_fault
 by-all w owner seen [] e is = absurd (cc)
-by-all w owner seen (r ∷ rs) e is = only-else {P = IsOfHandles} _ _ (of-reference w owner seen r) (by-all w owner (r.handle.0 ∷ seen) rs) e is
+by-all w owner seen (r ∷ rs) e is = elim (cases_Bool (is_some (reference_fault w owner seen r))) [
+  | inl there ↦ of-reference w owner seen r e (grind (arith, nat_tests))
+  | inr none ↦ by-all w owner (r.handle.0 ∷ seen) rs e (grind (arith, nat_tests))
+]
 
 pub by-handle-row : (w : Core) (me : Owner) (h : HandleNumber) (fits : Mode → Bool) (e : Error) → handle_fault w me h fits ≡ Some e → IsOfHandles e
 by-handle-row w me h fits e is = grind (arith, nat_tests)
@@ -372,18 +355,15 @@ module _ (types : Types) (stored : ℕ → Option Blob) where
       goes-down t key c (n + 1) (longer + 1) (type_of kind.0) child b ks k (omega (arith, e)) at step own (goes-further blob kinds kind child more is next eager)
 
   module _ (trees : ℕ → Tree) (root_key root_type : ℕ) where
-    -- what a frame says of its blob
-    record IsDown (frame : Frame) (n : ℕ) : Type 0 where
-      down : LeadsDown types stored root_type root_key n frame.node_type frame.key
-      is : stored frame.key ≡ Some frame.blob
-
-    down-to : (frame : Frame) (below : List Frame) → FramesFit types stored trees root_key root_type (frame ∷ below) → FramesAsked types (frame ∷ below) → IsDown frame (length below)
+    -- the path comes down to each frame's blob, which is stored
+    down-to : (frame : Frame) (below : List Frame) → FramesFit types stored trees root_key root_type (frame ∷ below) → FramesAsked types (frame ∷ below)
+        → LeadsDown types stored root_type root_key (length below) frame.node_type frame.key × (stored frame.key ≡ Some frame.blob)
     unfolding FramesFit FramesAsked
     down-to frame [] (fits, key, of_type) got = grind (arith, nat_tests, is-there)
     down-to frame (under ∷ rest) (fits, of_type, next, more) (got, eager, next2, more_asked) =
         let u = down-to under rest more more_asked in
         let step = asks-by-kinds types under.node_type under.blob under.got frame.kind frame.key next in
-        let d = goes-further under.blob (kinds_of under.got) frame.kind frame.key u.down u.is step eager in
+        let d = goes-further under.blob (kinds_of under.got) frame.kind frame.key u.0 u.1 step eager in
         let long : length rest + 1 ≡ length (under ∷ rest) = omega arith in
         grind (arith, nat_tests)
 
@@ -394,7 +374,7 @@ module _ (types : Types) (stored : ℕ → Option Blob) where
     of-path (top ∷ below) fits got kind key blob needs is long =
         let d = down-to top below fits got in
         let step = asks-by-kinds types top.node_type top.blob top.got kind key (asked below (next_in types top) kind key (inl needs)) in
-        let further = goes-further top.blob (kinds_of top.got) kind key d.down d.is step (eager-nested below (next_in types top) kind key needs) in
+        let further = goes-further top.blob (kinds_of top.got) kind key d.0 d.1 step (eager-nested below (next_in types top) kind key needs) in
         record { n = length below + 1; last_type = type_of kind.0; last = key; blob = blob; down = further; is = is; deep = inl (omega (arith, long)) }
 
 -- ---- a load's step
@@ -407,9 +387,6 @@ module _ {N B W : Type 0} (m : Seen N B W) (lawful : IsLawful m.values) (w : Cor
 
   not-asked : (want : Want) (u : Core) → AskCall w me reading.load want (Err Error.TooDeep) u → ⊥
   not-asked want u c = grind (arith, not-refused, only-earlier {P = NotDeep}, only-load, only-if NotDeep)
-
-  nested-deep : (u : Core) → RefusesNested m.values.types w me reading Error.TooDeep u → Deep
-  nested-deep u x1 = grind (arith, nat_tests, not-asked, of-path)
 
   by-references-not : (x : N) → Only NotDeep (references_fault w (Owner.Load reading.load) [] (m.values.references x))
   by-references-not x e is deep = subst IsOfHandles deep (by-all w (Owner.Load reading.load) [] (m.values.references x) e is)
@@ -427,7 +404,7 @@ module _ {N B W : Type 0} (m : Seen N B W) (lawful : IsLawful m.values) (w : Cor
   fails-deep w' (inl gives) = elim gives.meets [
     | inl (refuses, a) ↦ (grind (arith, nat_tests, down-to, kinds_of, faulty-by-kinds, next_in))
     | inr (inl (first, c)) ↦ absurd (not-asked Want.Root gives.mid c)
-    | inr (inr (inl nested)) ↦ nested-deep gives.mid nested
+    | inr (inr (inl nested)) ↦ (grind (arith, nat_tests, not-asked, of-path))
     | inr (inr (inr (inl (kind, key, needs, c)))) ↦
         absurd (not-refused c.refused (only-earlier _ _ (only-load w me reading.load) (only-earlier _ _ (only-if NotDeep _ Error.WrongKind (λ e. cc)) (only-node NotDeep w kind key (λ e. cc)))))
     | inr (inr (inr (inr (inl node)))) ↦

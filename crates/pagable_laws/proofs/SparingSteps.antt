@@ -61,11 +61,7 @@ fewer (x ∷ xs) ys le =
     omega (arith, rest, shorter)
 
 pub found : {w : Core} → HandlesAreWhole w → (q : ℕ) (x : HandleRow) → Among w.rows x → x.number.0 ≡ q → find_row q w.rows ≡ Some x
-found {w} whole q x among is = by (find_row q w.rows) refl
-  where
-    by : (f : Option HandleRow) → find_row q w.rows ≡ f → find_row q w.rows ≡ Some x
-    by None e = absurd (none-found q w.rows x e among is)
-    by (Some r) e = e ∙ ap (λ (y : HandleRow). Some y) (once w.rows whole.ordered r x (among-found q w.rows r e) among (found-number q w.rows r e ∙ sym is))
+found {w} whole q x among is = grind (arith, nat_tests, none-found q w.rows x, once w.rows whole.ordered, among-found q w.rows, found-number q w.rows)
 
 pub none-shorter : {w w' : Core} → IsWhole w → IsWhole w' → Spares Owner.List w w' → length w.list ≤ length w'.list
 none-shorter {w} {w'} whole whole' spares = fewer w.list w'.list (λ q. each q (times (own q) w.rows) refl)
@@ -78,8 +74,7 @@ none-shorter {w} {w'} whole whole' spares = fewer w.list w'.list (λ q. each q (
     each q (suc n) e =
         let x = counted (λ h. one (own q h)) w.rows (omega (arith, e)) in
         let both = and_parts (is_handle q x.0) (is_owned_by Owner.List x.0) (one-true _ x.2) in
-        let mine : x.0.owner ≡ Owner.List = same-owner Owner.List x.0.owner both.1 in
-        let s = spares.each q x.0 mine (stands-whole whole.handles q x.0 (found whole.handles q x.0 x.1 (same-number _ _ both.0))) in
+        let s = spares.each q x.0 (same-owner Owner.List x.0.owner both.1) (stands-whole whole.handles q x.0 (found whole.handles q x.0 x.1 (same-number _ _ both.0))) in
         let there = at-most-sum (λ h. one (own q h)) w'.rows x.0 (among-found q w'.rows x.0 s.live) in
         let few = handles-once whole.handles q in
         let le = sum-le (λ h. one (own q h)) (λ h. one (is_handle q h)) w.rows (λ h among. one-less (is_handle q h) (is_owned_by Owner.List h)) in

@@ -11,39 +11,28 @@ use Rattle.pagable_laws.proofs.{Decoding.read_stands, Apart.{none-got, one-got, 
 -- ---- a live handle's node
 
 pub row-held : (w : Core) (k : HandleNumber) (row : HandleRow) → row_at w k ≡ Some row → 0 < held row.node.0 w.rows
-row-held w k row is =
-    let a = at-most-sum (λ h. one (is_at row.node.0 h)) w.rows row (among-found k.0 w.rows row is) in
-    let b : one (is_at row.node.0 row) ≡ 1 = rw (self-number row.node.0) refl in
-    omega (arith, a, b)
+row-held w k row is = let a = at-most-sum (λ h. one (is_at row.node.0 h)) w.rows row (among-found k.0 w.rows row is) in grind (arith, nat_tests, self-number)
 
 pub row-pins : (w : Core) (k : HandleNumber) (row : HandleRow) → row_at w k ≡ Some row → is_pinning row.mode ≡ true → 0 < pins row.node.0 w.rows
-row-pins w k row is pinning =
-    let a = at-most-sum (λ h. one (is_pin row.node.0 h)) w.rows row (among-found k.0 w.rows row is) in
-    let b : one (is_pin row.node.0 row) ≡ 1 = rw (self-number row.node.0, pinning) refl in
-    omega (arith, a, b)
+row-pins w k row is pinning = let a = at-most-sum (λ h. one (is_pin row.node.0 h)) w.rows row (among-found k.0 w.rows row is) in grind (arith, nat_tests, self-number)
 
 pub row-given : {w : Core} → HandlesAreWhole w → (k : HandleNumber) (row : HandleRow) → row_at w k ≡ Some row → row.node.0 ≤ w.last.node
 row-given {w} whole k row is = (whole.nodes_numbered row.node.0 (cell-of whole row.node.0 (row-held w k row is))).1
 
 -- ---- a pin gives its tree
 
-some-value : {N : Type 0} (o : Option N) → is_some o ≡ true → (x : N) × (o ≡ Some x)
-some-value x0 is = grind (arith, nat_tests)
-
 module _ {N E : Type 0} {v : Values N} {s : PagerState N E} where
   pub stands-here : {n : ℕ} {t : Tree} {x : N} → NodeStands v s n t → s.values n ≡ Some x → ValueStands v s x t
   stands-here x0 is = grind (arith, nat_tests)
 
-  valued-here : WellFormed v s → (n : ℕ) → is_some (s.core.cells n) ≡ true → 0 < pins n s.core.rows → is_some (s.values n) ≡ true
-  valued-here whole n live pinned = let a : nat_lt 0 (pins n s.core.rows) ≡ true = grind (arith, nat_tests) in whole.valued n ∙ rw (live, a) refl
-
 -- each handle that pins gives the tree that its node was made with
 pub pin_stands : {N E : Type 0} {v : Values N} (s : PagerState N E) (trees : ℕ → Tree) (k : HandleNumber) (row : HandleRow) → WellFormed v s → Represents v s trees → row_at s.core k ≡ Some row
     → is_pinning row.mode ≡ true → GivesTree v s trees k
-pin_stands s trees k row whole represents live pinning =
+pin_stands {N} s trees k row whole represents live pinning =
     let held_there = row-held s.core k row live in
-    let there = valued-here whole row.node.0 (cell-of whole.whole.handles row.node.0 held_there) (row-pins s.core k row live pinning) in
-    let x = some-value (s.values row.node.0) there in
+    let a : nat_lt 0 (pins row.node.0 s.core.rows) ≡ true = (let p = row-pins s.core k row live pinning in grind (arith, nat_tests)) in
+    let there : is_some (s.values row.node.0) ≡ true = whole.valued row.node.0 ∙ rw (cell-of whole.whole.handles row.node.0 held_there, a) refl in
+    let x : (x : N) × (s.values row.node.0 ≡ Some x) = grind (arith, nat_tests) in
     record { row = row; x = x.0; live = live; held = x.1; stands = stands-here (represents.stands row.node.0 held_there) x.1 }
 
 -- ---- what a load has got is what its blobs asked for, and goes on to be so
@@ -72,10 +61,6 @@ module _ (types : Types) where
   pub made-asked : (top : Frame) (below : List Frame) (row : HandleRow) → FramesAsked types (top ∷ below) → FramesAsked types (with_got top.kind row below)
   unfolding FramesAsked
   made-asked top x1 row x3 = grind (arith, nat_tests, with-asked)
-
-  pub none-asked : (frames : List Frame) → frames ≡ [] → FramesAsked types frames
-  unfolding FramesAsked
-  none-asked x0 is = grind (arith, nat_tests)
 
   pub root-asked : (key t : ℕ) (blob : _) → FramesAsked types (root_frame key t blob ∷ [])
   unfolding FramesAsked
@@ -123,15 +108,8 @@ pub given-nodes : {w : Core} {l : LoadNumber} (frames : List Frame) → FramesHe
 given-nodes frames held frame r among got = (held frame r among got).node_given
 
 module _ {N : Type 0} {v : Values N} {w w' : Core} {trees trees' : ℕ → Tree} where
-  known-reads : {c : Change} → AtStep v c w w' trees trees' → (kind : Kind) (key n : ℕ) (row : HandleRow) → w.cache kind.0 key ≡ Some n → row.node.0 ≡ n
-      → ReadsNodeTree v.types w'.stored trees' key (type_of kind.0) row.node.0
-  known-reads h kind key n row known at =
-      let few = (h.before.cache kind.0 key n known).given in
-      subst (λ m. ReadsNodeTree v.types w'.stored trees' key (type_of kind.0) m) (sym at) (node-stays h.goes.stored (h.same n few) (h.cache kind.0 key n known))
-
-  born-reads : {c : Change} → AtStep v c w w' trees trees' → (kind : Kind) (key : ℕ) (own : OptionalDataKey) (row : HandleRow) → c ≡ bears_known kind.0 key own → row.node.0 ≡ w.last.node + 1
-      → ReadsNodeTree v.types w'.stored trees' key (type_of kind.0) row.node.0
-  born-reads h kind key own row is at = subst (λ m. ReadsNodeTree v.types w'.stored trees' key (type_of kind.0) m) (sym at) (h.born kind.0 key own is)
+  known-reads : {c : Change} → AtStep v c w w' trees trees' → (kind : Kind) (key n : ℕ) → w.cache kind.0 key ≡ Some n → ReadsNodeTree v.types w'.stored trees' key (type_of kind.0) n
+  known-reads h kind key n known = node-stays h.goes.stored (h.same n (h.before.cache kind.0 key n known).given) (h.cache kind.0 key n known)
 
   module _ (l : LoadNumber) (k t : ℕ) {c : Change} (h : AtStep v c w w' trees trees') where
     abbrev Now : List Frame → Type 0
@@ -142,14 +120,16 @@ module _ {N : Type 0} {v : Values N} {w w' : Core} {trees trees' : ℕ → Tree}
     fit-still frames f = search (frames-stay, h.goes.stored, h.same, given-nodes, f.held, f.fit, frames-on, h.goes, f.asked)
 
     fit-got : (frames : List Frame) (kind : Kind) (key n : ℕ) (row : HandleRow) → Needs v.types frames kind key → GetsRow w w' kind n row
-        → ReadsNodeTree v.types w'.stored trees' key (type_of kind.0) row.node.0 → Now frames → Now (with_got kind row frames)
-    fit-got frames kind key n row needs got read f =
+        → ReadsNodeTree v.types w'.stored trees' key (type_of kind.0) n → Now frames → Now (with_got kind row frames)
+    fit-got frames kind key n row needs got reads_n f =
+        let read = subst (λ m. ReadsNodeTree v.types w'.stored trees' key (type_of kind.0) m) (sym got.at) reads_n in
         let held = all-more (GotStands w' l) frames kind row (got-new l kind n row h.after.handles got) f.held in
         search (needed-fits v.types k t w'.stored trees' frames kind key row f.fit needs read, held, needed-asked v.types frames kind key row f.asked needs)
 
     fit-made : (reading : Reading) (x : N) (made : ReadsNode v reading x) (n : ℕ) (row : HandleRow) → GetsRow w w' made.top.kind n row
-        → ReadsNodeTree v.types w'.stored trees' made.top.key (type_of made.top.kind.0) row.node.0 → Now reading.frames → Now (with_got made.top.kind row made.below)
-    fit-made reading x made n row got read f =
+        → ReadsNodeTree v.types w'.stored trees' made.top.key (type_of made.top.kind.0) n → Now reading.frames → Now (with_got made.top.kind row made.below)
+    fit-made reading x made n row got reads_n f =
+        let read = subst (λ m. ReadsNodeTree v.types w'.stored trees' made.top.key (type_of made.top.kind.0) m) (sym got.at) reads_n in
         let g = subst Now made.frames f in
         let held = all-more (GotStands w' l) made.below made.top.kind row (got-new l made.top.kind n row h.after.handles got) (λ frame r among there. g.held frame r (suc among.0, among.1) there) in
         search (made-fits v.types k t w'.stored trees' made.top made.below row g.fit read, held, made-asked v.types made.top made.below row g.asked)
@@ -163,13 +143,13 @@ module _ {N : Type 0} {v : Values N} {w w' : Core} {trees trees' : ℕ → Tree}
       let held = all-new (GotStands w' reading.load) (nested_frame kind key blob) reading.frames refl g.held in
       subst (FitOf v w' trees' reading load) (sym is) (search (fit, held, nested-asked v.types reading.frames kind key blob g.asked needs))
   felt-after reading load frames h open_load (gets-known kind key n row needs known got answer is) g =
-      subst (FitOf v w' trees' reading load) (sym is) (fit-got reading.load load.key reading.node_type h reading.frames kind key n row needs got (known-reads h kind key n row known got.at) g)
+      subst (FitOf v w' trees' reading load) (sym is) (fit-got reading.load load.key reading.node_type h reading.frames kind key n row needs got (known-reads h kind key n known) g)
   felt-after reading load frames h open_load (gets-lazy kind key row needs got answer is) g =
-      subst (FitOf v w' trees' reading load) (sym is) (fit-got reading.load load.key reading.node_type h reading.frames kind key _ row (inr needs) got (born-reads h kind key _ row refl got.at) g)
+      subst (FitOf v w' trees' reading load) (sym is) (fit-got reading.load load.key reading.node_type h reading.frames kind key _ row (inr needs) got (h.born kind.0 key _ refl) g)
   felt-after reading load frames h open_load (makes-known x made n row known got answer is) g =
-      subst (FitOf v w' trees' reading load) (sym is) (fit-made reading.load load.key reading.node_type h reading x made n row got (known-reads h made.top.kind made.top.key n row known got.at) g)
+      subst (FitOf v w' trees' reading load) (sym is) (fit-made reading.load load.key reading.node_type h reading x made n row got (known-reads h made.top.kind made.top.key n known) g)
   felt-after reading load frames h open_load (makes-node x made row got answer is) g =
-      subst (FitOf v w' trees' reading load) (sym is) (fit-made reading.load load.key reading.node_type h reading x made _ row got (born-reads h made.top.kind made.top.key _ row refl got.at) g)
+      subst (FitOf v w' trees' reading load) (sym is) (fit-made reading.load load.key reading.node_type h reading x made _ row got (h.born made.top.kind.0 made.top.key _ refl) g)
   felt-after reading load frames h open_load (reading-ends end answer is) g = absurd (cc)
 
 -- ---- a reading, where the pager stands for trees
@@ -182,8 +162,8 @@ pub record Going {N E : Type 0} (v : Values N) (s : PagerState N E) (trees : ℕ
 
 -- one that has just begun
 pub going-new : {N E : Type 0} {v : Values N} (s : PagerState N E) (trees : ℕ → Tree) (reading : Reading) → reading.frames ≡ [] → reading.load.0 ≤ s.core.last.load → Going v s trees reading
-unfolding FramesFit
-going-new {v = v} s trees reading none within = search (none, all-none, none-asked)
+unfolding FramesFit FramesAsked
+going-new {v = v} s trees reading none within = search (none, all-none, within)
 
 -- one that makes a step: the machine's, or one that has just begun
 pub going-of : {N E : Type 0} {v : Values N} (s : MachineState N E) (trees : ℕ → Tree) → ((reading : Reading) → IsReadingOf s.work reading → Going v s.pager trees reading) → (reading : Reading)
