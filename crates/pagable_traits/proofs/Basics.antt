@@ -1,14 +1,14 @@
 -- How a basic value is read and written, a span of time among them: all that its reader and its writer owe, from what the reader or the writer of its bytes tells.
 use Rattle.pagable_traits.proofs.Words.{to_z-of_z, never, ℤ, Bool, String, string_bytes, ◌≡◌, ℕ, ◌++◌, List, [], refl, Result, Ok, Err, OnOk, IfErr, Error, ArcRef, bool_at, char_at, text_at}
 use Rattle.pagable_traits.proofs.Words.{Gives, Extends, memory, Meaning, number, integer, Read, unsigned_at, signed_at, Rest, Context, bytes_of, read, read_with, Shape, signed, Out, Nesting, FormAt}
-use Rattle.pagable_traits.proofs.Words.{WritesSome, Refused, Grows, Answer, GivesSome, Is, writes_is, writes_bytes, grows_bytes, refused_memory}
-use Rattle.pagable_traits.proofs.Words.{◌+◌, ◌*◌, ◌≤◌, ◌^◌, arith, ap, ◌∙◌, w32, w64, handles_at}
+use Rattle.pagable_traits.proofs.Words.{WritesSome, Refused, Grows, Answer, Gave, GivesSome, ◌⊎◌, Is, writes_is, writes_bytes, grows_bytes, refused_memory}
+use Rattle.pagable_traits.proofs.Words.{◌+◌, ◌*◌, ◌≤◌, ◌^◌, arith, w32, w64}
 use Rattle.std.{proofs.{Common.◌/◌, lemmas.Bool.le-ltb, lemmas.Nat.mod_below}, specs.{Duration.as_nanos, declared.time.Duration.Duration}}
 use Rattle.pagable_model.specs.{Basic.{nanos_of_second, duration_form, duration_at}, Carried.of_duration, Form.duration-form, Shape.duration, Spans.{seconds_of, nanos_of, of_span}}
 use Rattle.std.{specs.Int.{Width, w8}, specs.Char.IsScalar, proofs.Common.{◌<◌, rules, FitsSigned, to_z, of_z}}
 use Rattle.pagable_codec.proofs.Writing.{writes_unsigned, writes_signed, writes_flag, writes_letter}
 use Rattle.pagable_model.specs.{Basic.{bool_form, char_form}, Numbers.{bound, IsSigned, unsigned_form, signed_form}, Meaning.{text, flag}, Shape.{unsigned, letter, flag as flag_shape}}
-use Rattle.pagable_model.specs.{Shape.text as text_shape, Track.{Track, left}}
+use Rattle.pagable_model.specs.{Track.{Track, left}}
 
 -- ---- reading
 
@@ -16,34 +16,46 @@ pub gives_bytes : {X Y : Type 0} (own : Error → Type 0) (view : X → Y) (mean
     → GivesSome own (Is (λ x. meaning (view x))) (record rest { bytes = after }) r (bytes_of at meaning rest)
 gives_bytes own view meaning at r rest after h = grind arith
 
--- by what a deserializer says of itself with another reader
-module _ (context : Context Answer ArcRef) (rest last : Rest Answer) (given used : Track) (same : rest.bytes ≡ left given) (moved : last ≡ record rest { bytes = left used }) where
+-- whatever else is left beside the bytes
+module _ (context : Context Answer ArcRef) (rest : Rest Answer) (given used : Track) (same : rest.bytes ≡ left given) where
   reads : {X Y : Type 0} (own : Error → Type 0) (view : X → Y) (meaning : Y → Meaning ArcRef) (at : List ℕ → Read Y) (r : Result X Error) → Gives own (λ x. (view x, left used)) r (at (left given))
-      → GivesSome own (Is (λ x. meaning (view x))) last r (bytes_of at meaning rest)
-  reads own view meaning at r told = rw moved (gives_bytes own view meaning at r rest (left used) (rw same told))
+      → GivesSome own (Is (λ x. meaning (view x))) (record rest { bytes = left used }) r (bytes_of at meaning rest)
+  reads own view meaning at r told = gives_bytes own view meaning at r rest (left used) (rw same told)
 
-  pub reads_unsigned : (w : Width) (r : Result ℕ Error) → Gives never (λ n. (n, left used)) r (unsigned_at w (left given)) → GivesSome never (Is number) last r (read context (unsigned w) rest)
+  pub reads_unsigned : (w : Width) (r : Result ℕ Error) → Gives never (λ n. (n, left used)) r (unsigned_at w (left given)) → GivesSome never (Is number) (record rest { bytes = left used }) r (read context (unsigned w) rest)
   unfolding read read_with
   reads_unsigned w r told = reads never (λ n. n) number (unsigned_at w) r told
 
-  pub reads_signed : (w : Width) (r : Result ℤ Error) → Gives never (λ z. (z, left used)) r (signed_at w (left given)) → GivesSome never (Is integer) last r (read context (signed w) rest)
+  pub reads_signed : (w : Width) (r : Result ℤ Error) → Gives never (λ z. (z, left used)) r (signed_at w (left given)) → GivesSome never (Is integer) (record rest { bytes = left used }) r (read context (signed w) rest)
   unfolding read read_with
   reads_signed w r told = reads never (λ z. z) integer (signed_at w) r told
 
-  pub reads_flag : (r : Result Bool Error) → Gives never (λ b. (b, left used)) r (bool_at (left given)) → GivesSome never (Is flag) last r (read context flag_shape rest)
+  pub reads_flag : (r : Result Bool Error) → Gives never (λ b. (b, left used)) r (bool_at (left given)) → GivesSome never (Is flag) (record rest { bytes = left used }) r (read context flag_shape rest)
   unfolding read read_with
   reads_flag r told = reads never (λ b. b) flag bool_at r told
 
-  pub reads_letter : (r : Result ℕ Error) → Gives never (λ l. (l, left used)) r (char_at (left given)) → GivesSome never (Is number) last r (read context letter rest)
+  pub reads_letter : (r : Result ℕ Error) → Gives never (λ l. (l, left used)) r (char_at (left given)) → GivesSome never (Is number) (record rest { bytes = left used }) r (read context letter rest)
   unfolding read read_with
   reads_letter r told = reads never (λ l. l) number char_at r told
 
-  pub reads_text : {Z : Type 0} (r : Result (String Z) Error) → Gives memory (λ t. (string_bytes t, left used)) r (text_at (left given))
-      → GivesSome memory (Is (λ t. text (string_bytes t))) last r (read context text_shape rest)
+  pub gives_span : (r : Result Duration Error) → Gives never (λ d. ((seconds_of d, nanos_of d), left used)) r (duration_at (left given)) → GivesSome never (Is of_span) (record rest { bytes = left used }) r (read context duration rest)
   unfolding read read_with
-  reads_text r told = reads memory string_bytes text text_at r told
+  gives_span r told = reads never (λ d. (seconds_of d, nanos_of d)) (λ p. of_duration p.0 p.1) duration_at r told
+
+-- by what a deserializer says of itself with another reader
+pub reads_text : {Z : Type 0} (r : Result (String Z) Error) (rest last : Rest Answer) (bytes after : List ℕ) → rest.bytes ≡ bytes → last ≡ record rest { bytes = after } → Gives memory (λ t. (string_bytes t, after)) r (text_at bytes)
+    → GivesSome memory (Is (λ t. text (string_bytes t))) last r (bytes_of text_at text rest)
+reads_text r rest last bytes after e f h = rw f (gives_bytes memory string_bytes text text_at r rest after (rw e h))
 
 pub ruleset read_steps = (reads_unsigned, reads_signed, reads_flag, reads_letter)
+
+-- what is read whatever else is left, is read by a deserializer
+module _ (context : Context Answer ArcRef) (s : Shape) (rest : Rest Answer) (given : List ℕ) (same : rest.bytes ≡ given) where
+  pub basic_read : (M : Meaning ArcRef → Type 0) (last : Rest Answer) (used : List ℕ) → last ≡ record rest { bytes = used } → ((c : Context Answer ArcRef) (front : Rest Answer) → front.bytes ≡ given → Gave M (record front { bytes = used }) (read c s front)) → Gave M last (read context s rest)
+  basic_read M last used moved h = rw moved (h context rest same)
+
+  pub basic_refused : (e : Error) → ((c : Context Answer ArcRef) (front : Rest Answer) → front.bytes ≡ given → (read c s front ≡ Err e) ⊎ never e) → (read context s rest ≡ Err e) ⊎ never e
+  basic_refused e h = h context rest same
 
 -- ---- writing
 
@@ -75,35 +87,34 @@ is-signed : (w : Width) (z : ℤ) → FitsSigned w z → IsSigned w z
 is-signed w8 z h = search rules
 is-signed _ z h = search rules
 
--- the same of each basic value
-module _ (n : Nesting) (old new : Out) (given bytes : List ℕ) (same : given ≡ old.bytes) (grown : new ≡ record old { bytes = bytes }) where
-  pub wrote_unsigned : (w : Width) (x limit : ℕ) → bytes ≡ given ++ unsigned_form w x → x < limit → limit ≡ bound w → WritesSome (Is number x) n (unsigned w) old new
-  wrote_unsigned w x limit is lt e = rw grown (writes_unsigned n w x old bytes (rw e at lt) (rw same at is))
+-- the same of each basic value, after whatever references
+module _ (n : Nesting) (old : Out) (given bytes : List ℕ) (same : given ≡ old.bytes) where
+  pub wrote_unsigned : (w : Width) (x limit : ℕ) → bytes ≡ given ++ unsigned_form w x → x < limit → limit ≡ bound w → WritesSome (Is number x) n (unsigned w) old (record old { bytes = bytes })
+  wrote_unsigned w x limit is lt e = writes_unsigned n w x old bytes (rw e at lt) (rw same at is)
 
-  pub wrote_signed : (w : Width) (z : ℤ) → FitsSigned w z → bytes ≡ given ++ signed_form w (to_z w (of_z w z)) → WritesSome (Is integer z) n (signed w) old new
-  wrote_signed w z fits is = rw grown (writes_signed n w z old bytes (is-signed w z fits) (rw (to_z-of_z w z fits, same) at is))
+  pub wrote_signed : (w : Width) (z : ℤ) → FitsSigned w z → bytes ≡ given ++ signed_form w (to_z w (of_z w z)) → WritesSome (Is integer z) n (signed w) old (record old { bytes = bytes })
+  wrote_signed w z fits is = writes_signed n w z old bytes (is-signed w z fits) (rw (to_z-of_z w z fits, same) at is)
 
-  pub wrote_flag : (b : Bool) → bytes ≡ given ++ bool_form b → WritesSome (Is flag b) n flag_shape old new
-  wrote_flag b is = rw grown (writes_flag n b old bytes (rw same at is))
+  pub wrote_flag : (b : Bool) → bytes ≡ given ++ bool_form b → WritesSome (Is flag b) n flag_shape old (record old { bytes = bytes })
+  wrote_flag b is = writes_flag n b old bytes (rw same at is)
 
-  pub wrote_letter : (c : ℕ) → IsScalar c → bytes ≡ given ++ char_form c → WritesSome (Is number c) n letter old new
-  wrote_letter c scalar is = rw grown (writes_letter n c old bytes scalar (rw same at is))
+  pub wrote_letter : (c : ℕ) → IsScalar c → bytes ≡ given ++ char_form c → WritesSome (Is number c) n letter old (record old { bytes = bytes })
+  wrote_letter c scalar is = writes_letter n c old bytes scalar (rw same at is)
+
+  pub writes_span : {X : Type 0} (r : Result X Error) (d : Duration) → seconds_of d < 2 ^ 64 → OnOk r (bytes ≡ given ++ duration_form (seconds_of d) (nanos_of d)) → OnOk r (WritesSome (Is of_span d) n duration old (record old { bytes = bytes }))
+  writes_span (Ok x) d lt h =
+      let below : nanos_of d < nanos_of_second = mod_below (as_nanos d) nanos_of_second (omega arith) in
+      writes_is of_span d n duration old _ (writes_bytes n duration (of_span d) old bytes (duration_form (seconds_of d) (nanos_of d)) (rw same at h) (duration-form _ (seconds_of d) (nanos_of d) lt below))
+  writes_span (Err e) d lt h = tt
 
 pub ruleset write_steps = (wrote_unsigned, wrote_signed, wrote_flag, wrote_letter)
 
+-- what is written after whatever references, is written by a serializer
+pub wrote_basic : {Y : Type 0} (r : Result Y Error) (M : Meaning ArcRef → Type 0) (n : Nesting) (s : Shape) (old new : Out) (given bytes : List ℕ) → given ≡ old.bytes → new ≡ record old { bytes = bytes }
+    → ((n : Nesting) (before : Out) → given ≡ before.bytes → OnOk r (WritesSome M n s before (record before { bytes = bytes }))) → OnOk r (WritesSome M n s old new)
+wrote_basic r M n s old new given bytes same grown h = rw grown (h n old same)
+
 -- ---- spans of time
-
-pub writes_span : {X : Type 0} (r : Result X Error) (d : Duration) (n : Nesting) (old last : Out) (now w : List ℕ) → now ≡ old.bytes → last ≡ record old { bytes = w } → seconds_of d < 2 ^ 64
-    → OnOk r (w ≡ now ++ duration_form (seconds_of d) (nanos_of d)) → OnOk r (WritesSome (Is of_span d) n duration old last)
-writes_span (Ok x) d n old last now w e f lt h =
-    let below : nanos_of d < nanos_of_second = mod_below (as_nanos d) nanos_of_second (omega arith) in
-    rw f (writes_is of_span d n duration old _ (writes_bytes n duration (of_span d) old w (duration_form (seconds_of d) (nanos_of d)) (h ∙ ap (λ (b : List ℕ). b ++ duration_form (seconds_of d) (nanos_of d)) e) (duration-form _ (seconds_of d) (nanos_of d) lt below)))
-writes_span (Err e) d n old last now w same f lt h = tt
-
-pub gives_span : (levels : ℕ) (parts : ℕ → Shape) (r : Result Duration Error) (rest last : Rest Answer) (bytes after : List ℕ) → rest.bytes ≡ bytes → last ≡ record rest { bytes = after } → Gives never (λ d. ((seconds_of d, nanos_of d), after)) r (duration_at bytes)
-    → GivesSome never (Is of_span) last r (read (handles_at levels parts) duration rest)
-unfolding read read_with
-gives_span levels parts r rest last bytes after e f h = rw f (gives_bytes never (λ d. (seconds_of d, nanos_of d)) (λ p. of_duration p.0 p.1) duration_at r rest after (rw e h))
 
 pub span_overflows : (bytes mid after : List ℕ) (s n : ℕ) → unsigned_at w64 bytes ≡ Ok (s, mid) → unsigned_at w32 mid ≡ Ok (n, after) → 2 ^ 64 ≤ s + n / nanos_of_second → duration_at bytes ≡ Err Error.BadDuration
 unfolding duration_at

@@ -2,8 +2,9 @@
 #![tactic(auto, using(pagable_codec::proofs::Writing::parts, crate::proofs::Basics::read_steps, crate::proofs::Basics::write_steps))]
 
 ghost use Rattle.std.specs.{Int.{w8, w16, w32, w64, w128}, Prelude.{◌≡◌, ◌++◌, ◌<◌, ◌^◌, OnOk, IfErr}};
-ghost use Rattle.pagable_model.specs.{Meaning.{number, integer, none, flag as flag_meaning}, Shape.{unsigned, signed, flag, letter, nothing, duration}};
+ghost use Rattle.pagable_model.specs.{Meaning.{Meaning, number, integer, none, flag as flag_meaning}, Shape.{Shape, unsigned, signed, flag, letter, nothing, duration}};
 ghost use Rattle.pagable_model.specs.{Basic.{duration_at, duration_form}, Gives.{Gives, never, memory, Extends}, Track.{left, GoesOn}, Spans.{of_span, seconds_of, nanos_of}};
+ghost use Rattle.pagable_model.specs.{Reading.{Context, Rest, read}, Standing.{Answer, GivesSome, Is}, Writing.{Nesting, Out, WritesSome}, declared.numbers.ArcRef.ArcRef as Reference};
 ghost use Rattle.pagable_traits.specs.{Meanings.{exactly}, OwnCauses.{writes_never}};
 
 use crate::alike::{CarriedAs, ReadAs};
@@ -13,128 +14,140 @@ use pagable_flavors::{Error, PagableVecFlavor};
 use std::alloc::Global;
 use std::time::Duration;
 
-impl<E: Env> Carried<E> for u8 {
-    ghost shape = { λ e. unsigned w8 };
+/// A type whose values are bytes alone, the same in each environment.
+pub trait Basic: Sized {
+    // How values are spelled, and what each means.
+    ghost spelled: { Shape };
 
-    ghost means = { exactly number };
+    ghost meaning: { Self → Meaning Reference };
+
+    /// Appends a form of the value. Refused by want of memory alone.
+    fn write_basic(&self, writer: &mut PagableVecFlavor) -> Result<(), Error>
+        ensures ok { (n : Nesting) (before : Out) → writer.old ≡ before.bytes → OnOk result (WritesSome (Is meaning self.now) n spelled before (record before { bytes = writer.new })) }
+        ensures only { IfErr result memory }
+        ensures err { Extends writer.old writer.new };
+
+    /// Reads the value at the front of what is left, and leaves the rest. A refusal is the first fault from the front.
+    fn read_basic<R: Reader>(reader: &mut R) -> Result<Self, Error>
+        ensures gives { (context : Context Answer Reference) (rest : Rest Answer) → rest.bytes ≡ left (R.track reader.old) → GivesSome never (Is meaning) (record rest { bytes = left (R.track reader.new) }) result (read context spelled rest) }
+        ensures goes { GoesOn (R.track reader.old) (R.track reader.new) };
 }
 
-impl<E: Env> OneMeaning<E> for u8 {
-    ghost single = { λ x m is. is };
+/// A value of a basic type by itself: as this the type's values are carried.
+pub struct Alone<T> {
+    pub value: T,
 }
 
-impl<E: Env> PagableSerialize<E> for u8 {
-    fn pagable_serialize<S: PagableSerializer<E>>(&self, serializer: &mut S) -> Result<(), Error> {
-        serializer.serde().write_u8(*self)
-    }
+impl<E: Env, T: Basic> Carried<E> for Alone<T> {
+    ghost shape = { λ e. T.spelled };
+
+    ghost means = { exactly (λ a. T.meaning a.value) };
 }
 
-impl<'de, E: Env> PagableDeserialize<'de, E> for u8 {
+impl<E: Env, T: Basic> OneMeaning<E> for Alone<T> {
+    ghost single = { λ a m is. is };
+}
+
+impl<'de, E: Env, T: Basic> PagableDeserialize<'de, E> for Alone<T> {
+    #[tactic(auto, using(crate::proofs::Basics::basic_read, crate::proofs::Basics::basic_refused))]
     fn pagable_deserialize<D: PagableDeserializer<E>>(
         _alloc: Global,
         deserializer: &mut D,
     ) -> Result<Self, Error> {
-        deserializer.serde().read_u8()
+        match T::read_basic(deserializer.serde()) {
+            Ok(value) => Ok(Alone { value }),
+            Err(refusal) => Err(refusal),
+        }
     }
 }
 
-impl<E: Env> Carried<E> for u16 {
-    ghost shape = { λ e. unsigned w16 };
+impl<T: Basic> CarriedAs for T {
+    type Other = Alone<T>;
 
-    ghost means = { exactly number };
+    ghost other = { λ x. record { value = x } };
 }
 
-impl<E: Env> OneMeaning<E> for u16 {
-    ghost single = { λ x m is. is };
+impl<T: Basic> ReadAs for T {
+    fn of_other(value: Alone<T>) -> Self {
+        let Alone { value: held } = value;
+        held
+    }
 }
 
-impl<E: Env> PagableSerialize<E> for u16 {
+impl<E: Env, T: Basic> PagableSerialize<E> for T {
+    #[tactic(auto, using(pagable_codec::proofs::Writing::parts, crate::proofs::Basics::wrote_basic))]
     fn pagable_serialize<S: PagableSerializer<E>>(&self, serializer: &mut S) -> Result<(), Error> {
-        serializer.serde().write_u16(*self)
+        self.write_basic(serializer.serde())
     }
 }
 
-impl<'de, E: Env> PagableDeserialize<'de, E> for u16 {
-    fn pagable_deserialize<D: PagableDeserializer<E>>(
-        _alloc: Global,
-        deserializer: &mut D,
-    ) -> Result<Self, Error> {
-        deserializer.serde().read_u16()
+impl Basic for u8 {
+    ghost spelled = { unsigned w8 };
+
+    ghost meaning = { number };
+
+    fn write_basic(&self, writer: &mut PagableVecFlavor) -> Result<(), Error> {
+        writer.write_u8(*self)
+    }
+
+    fn read_basic<R: Reader>(reader: &mut R) -> Result<Self, Error> {
+        reader.read_u8()
     }
 }
 
-impl<E: Env> Carried<E> for u32 {
-    ghost shape = { λ e. unsigned w32 };
+impl Basic for u16 {
+    ghost spelled = { unsigned w16 };
 
-    ghost means = { exactly number };
-}
+    ghost meaning = { number };
 
-impl<E: Env> OneMeaning<E> for u32 {
-    ghost single = { λ x m is. is };
-}
+    fn write_basic(&self, writer: &mut PagableVecFlavor) -> Result<(), Error> {
+        writer.write_u16(*self)
+    }
 
-impl<E: Env> PagableSerialize<E> for u32 {
-    fn pagable_serialize<S: PagableSerializer<E>>(&self, serializer: &mut S) -> Result<(), Error> {
-        serializer.serde().write_u32(*self)
+    fn read_basic<R: Reader>(reader: &mut R) -> Result<Self, Error> {
+        reader.read_u16()
     }
 }
 
-impl<'de, E: Env> PagableDeserialize<'de, E> for u32 {
-    fn pagable_deserialize<D: PagableDeserializer<E>>(
-        _alloc: Global,
-        deserializer: &mut D,
-    ) -> Result<Self, Error> {
-        deserializer.serde().read_u32()
+impl Basic for u32 {
+    ghost spelled = { unsigned w32 };
+
+    ghost meaning = { number };
+
+    fn write_basic(&self, writer: &mut PagableVecFlavor) -> Result<(), Error> {
+        writer.write_u32(*self)
+    }
+
+    fn read_basic<R: Reader>(reader: &mut R) -> Result<Self, Error> {
+        reader.read_u32()
     }
 }
 
-impl<E: Env> Carried<E> for u64 {
-    ghost shape = { λ e. unsigned w64 };
+impl Basic for u64 {
+    ghost spelled = { unsigned w64 };
 
-    ghost means = { exactly number };
-}
+    ghost meaning = { number };
 
-impl<E: Env> OneMeaning<E> for u64 {
-    ghost single = { λ x m is. is };
-}
+    fn write_basic(&self, writer: &mut PagableVecFlavor) -> Result<(), Error> {
+        writer.write_u64(*self)
+    }
 
-impl<E: Env> PagableSerialize<E> for u64 {
-    fn pagable_serialize<S: PagableSerializer<E>>(&self, serializer: &mut S) -> Result<(), Error> {
-        serializer.serde().write_u64(*self)
+    fn read_basic<R: Reader>(reader: &mut R) -> Result<Self, Error> {
+        reader.read_u64()
     }
 }
 
-impl<'de, E: Env> PagableDeserialize<'de, E> for u64 {
-    fn pagable_deserialize<D: PagableDeserializer<E>>(
-        _alloc: Global,
-        deserializer: &mut D,
-    ) -> Result<Self, Error> {
-        deserializer.serde().read_u64()
+impl Basic for u128 {
+    ghost spelled = { unsigned w128 };
+
+    ghost meaning = { number };
+
+    fn write_basic(&self, writer: &mut PagableVecFlavor) -> Result<(), Error> {
+        writer.write_u128(*self)
     }
-}
 
-impl<E: Env> Carried<E> for u128 {
-    ghost shape = { λ e. unsigned w128 };
-
-    ghost means = { exactly number };
-}
-
-impl<E: Env> OneMeaning<E> for u128 {
-    ghost single = { λ x m is. is };
-}
-
-impl<E: Env> PagableSerialize<E> for u128 {
-    fn pagable_serialize<S: PagableSerializer<E>>(&self, serializer: &mut S) -> Result<(), Error> {
-        serializer.serde().write_u128(*self)
-    }
-}
-
-impl<'de, E: Env> PagableDeserialize<'de, E> for u128 {
-    fn pagable_deserialize<D: PagableDeserializer<E>>(
-        _alloc: Global,
-        deserializer: &mut D,
-    ) -> Result<Self, Error> {
-        deserializer.serde().read_u128()
+    fn read_basic<R: Reader>(reader: &mut R) -> Result<Self, Error> {
+        reader.read_u128()
     }
 }
 
@@ -156,178 +169,101 @@ impl ReadAs for usize {
     }
 }
 
-impl<E: Env> Carried<E> for i8 {
-    ghost shape = { λ e. signed w8 };
+impl Basic for i8 {
+    ghost spelled = { signed w8 };
 
-    ghost means = { exactly integer };
-}
+    ghost meaning = { integer };
 
-impl<E: Env> OneMeaning<E> for i8 {
-    ghost single = { λ x m is. is };
-}
+    fn write_basic(&self, writer: &mut PagableVecFlavor) -> Result<(), Error> {
+        writer.write_i8(*self)
+    }
 
-impl<E: Env> PagableSerialize<E> for i8 {
-    fn pagable_serialize<S: PagableSerializer<E>>(&self, serializer: &mut S) -> Result<(), Error> {
-        serializer.serde().write_i8(*self)
+    fn read_basic<R: Reader>(reader: &mut R) -> Result<Self, Error> {
+        reader.read_i8()
     }
 }
 
-impl<'de, E: Env> PagableDeserialize<'de, E> for i8 {
-    fn pagable_deserialize<D: PagableDeserializer<E>>(
-        _alloc: Global,
-        deserializer: &mut D,
-    ) -> Result<Self, Error> {
-        deserializer.serde().read_i8()
+impl Basic for i16 {
+    ghost spelled = { signed w16 };
+
+    ghost meaning = { integer };
+
+    fn write_basic(&self, writer: &mut PagableVecFlavor) -> Result<(), Error> {
+        writer.write_i16(*self)
+    }
+
+    fn read_basic<R: Reader>(reader: &mut R) -> Result<Self, Error> {
+        reader.read_i16()
     }
 }
 
-impl<E: Env> Carried<E> for i16 {
-    ghost shape = { λ e. signed w16 };
+impl Basic for i32 {
+    ghost spelled = { signed w32 };
 
-    ghost means = { exactly integer };
-}
+    ghost meaning = { integer };
 
-impl<E: Env> OneMeaning<E> for i16 {
-    ghost single = { λ x m is. is };
-}
+    fn write_basic(&self, writer: &mut PagableVecFlavor) -> Result<(), Error> {
+        writer.write_i32(*self)
+    }
 
-impl<E: Env> PagableSerialize<E> for i16 {
-    fn pagable_serialize<S: PagableSerializer<E>>(&self, serializer: &mut S) -> Result<(), Error> {
-        serializer.serde().write_i16(*self)
+    fn read_basic<R: Reader>(reader: &mut R) -> Result<Self, Error> {
+        reader.read_i32()
     }
 }
 
-impl<'de, E: Env> PagableDeserialize<'de, E> for i16 {
-    fn pagable_deserialize<D: PagableDeserializer<E>>(
-        _alloc: Global,
-        deserializer: &mut D,
-    ) -> Result<Self, Error> {
-        deserializer.serde().read_i16()
+impl Basic for i64 {
+    ghost spelled = { signed w64 };
+
+    ghost meaning = { integer };
+
+    fn write_basic(&self, writer: &mut PagableVecFlavor) -> Result<(), Error> {
+        writer.write_i64(*self)
+    }
+
+    fn read_basic<R: Reader>(reader: &mut R) -> Result<Self, Error> {
+        reader.read_i64()
     }
 }
 
-impl<E: Env> Carried<E> for i32 {
-    ghost shape = { λ e. signed w32 };
+impl Basic for i128 {
+    ghost spelled = { signed w128 };
 
-    ghost means = { exactly integer };
-}
+    ghost meaning = { integer };
 
-impl<E: Env> OneMeaning<E> for i32 {
-    ghost single = { λ x m is. is };
-}
+    fn write_basic(&self, writer: &mut PagableVecFlavor) -> Result<(), Error> {
+        writer.write_i128(*self)
+    }
 
-impl<E: Env> PagableSerialize<E> for i32 {
-    fn pagable_serialize<S: PagableSerializer<E>>(&self, serializer: &mut S) -> Result<(), Error> {
-        serializer.serde().write_i32(*self)
+    fn read_basic<R: Reader>(reader: &mut R) -> Result<Self, Error> {
+        reader.read_i128()
     }
 }
 
-impl<'de, E: Env> PagableDeserialize<'de, E> for i32 {
-    fn pagable_deserialize<D: PagableDeserializer<E>>(
-        _alloc: Global,
-        deserializer: &mut D,
-    ) -> Result<Self, Error> {
-        deserializer.serde().read_i32()
+impl Basic for bool {
+    ghost spelled = { flag };
+
+    ghost meaning = { flag_meaning };
+
+    fn write_basic(&self, writer: &mut PagableVecFlavor) -> Result<(), Error> {
+        writer.write_bool(*self)
+    }
+
+    fn read_basic<R: Reader>(reader: &mut R) -> Result<Self, Error> {
+        reader.read_bool()
     }
 }
 
-impl<E: Env> Carried<E> for i64 {
-    ghost shape = { λ e. signed w64 };
+impl Basic for char {
+    ghost spelled = { letter };
 
-    ghost means = { exactly integer };
-}
+    ghost meaning = { number };
 
-impl<E: Env> OneMeaning<E> for i64 {
-    ghost single = { λ x m is. is };
-}
-
-impl<E: Env> PagableSerialize<E> for i64 {
-    fn pagable_serialize<S: PagableSerializer<E>>(&self, serializer: &mut S) -> Result<(), Error> {
-        serializer.serde().write_i64(*self)
+    fn write_basic(&self, writer: &mut PagableVecFlavor) -> Result<(), Error> {
+        writer.write_char(*self)
     }
-}
 
-impl<'de, E: Env> PagableDeserialize<'de, E> for i64 {
-    fn pagable_deserialize<D: PagableDeserializer<E>>(
-        _alloc: Global,
-        deserializer: &mut D,
-    ) -> Result<Self, Error> {
-        deserializer.serde().read_i64()
-    }
-}
-
-impl<E: Env> Carried<E> for i128 {
-    ghost shape = { λ e. signed w128 };
-
-    ghost means = { exactly integer };
-}
-
-impl<E: Env> OneMeaning<E> for i128 {
-    ghost single = { λ x m is. is };
-}
-
-impl<E: Env> PagableSerialize<E> for i128 {
-    fn pagable_serialize<S: PagableSerializer<E>>(&self, serializer: &mut S) -> Result<(), Error> {
-        serializer.serde().write_i128(*self)
-    }
-}
-
-impl<'de, E: Env> PagableDeserialize<'de, E> for i128 {
-    fn pagable_deserialize<D: PagableDeserializer<E>>(
-        _alloc: Global,
-        deserializer: &mut D,
-    ) -> Result<Self, Error> {
-        deserializer.serde().read_i128()
-    }
-}
-
-impl<E: Env> Carried<E> for bool {
-    ghost shape = { λ e. flag };
-
-    ghost means = { exactly flag_meaning };
-}
-
-impl<E: Env> OneMeaning<E> for bool {
-    ghost single = { λ x m is. is };
-}
-
-impl<E: Env> PagableSerialize<E> for bool {
-    fn pagable_serialize<S: PagableSerializer<E>>(&self, serializer: &mut S) -> Result<(), Error> {
-        serializer.serde().write_bool(*self)
-    }
-}
-
-impl<'de, E: Env> PagableDeserialize<'de, E> for bool {
-    fn pagable_deserialize<D: PagableDeserializer<E>>(
-        _alloc: Global,
-        deserializer: &mut D,
-    ) -> Result<Self, Error> {
-        deserializer.serde().read_bool()
-    }
-}
-
-impl<E: Env> Carried<E> for char {
-    ghost shape = { λ e. letter };
-
-    ghost means = { exactly number };
-}
-
-impl<E: Env> OneMeaning<E> for char {
-    ghost single = { λ x m is. is };
-}
-
-impl<E: Env> PagableSerialize<E> for char {
-    fn pagable_serialize<S: PagableSerializer<E>>(&self, serializer: &mut S) -> Result<(), Error> {
-        serializer.serde().write_char(*self)
-    }
-}
-
-impl<'de, E: Env> PagableDeserialize<'de, E> for char {
-    fn pagable_deserialize<D: PagableDeserializer<E>>(
-        _alloc: Global,
-        deserializer: &mut D,
-    ) -> Result<Self, Error> {
-        deserializer.serde().read_char()
+    fn read_basic<R: Reader>(reader: &mut R) -> Result<Self, Error> {
+        reader.read_char()
     }
 }
 
@@ -387,28 +323,18 @@ fn read_span<R: Reader>(reader: &mut R) -> Result<Duration, Error>
     Ok(Duration::new(seconds, nanos))
 }
 
-impl<E: Env> Carried<E> for Duration {
-    ghost shape = { λ e. duration };
+impl Basic for Duration {
+    ghost spelled = { duration };
 
-    ghost means = { exactly of_span };
-}
+    ghost meaning = { of_span };
 
-impl<E: Env> OneMeaning<E> for Duration {
-    ghost single = { λ d m is. is };
-}
-
-impl<E: Env> PagableSerialize<E> for Duration {
-    #[tactic(auto, using(pagable_codec::proofs::Writing::parts, crate::proofs::Basics::writes_span))]
-    fn pagable_serialize<S: PagableSerializer<E>>(&self, serializer: &mut S) -> Result<(), Error> {
-        write_span(*self, serializer.serde())
+    #[tactic(auto, using(crate::proofs::Basics::writes_span))]
+    fn write_basic(&self, writer: &mut PagableVecFlavor) -> Result<(), Error> {
+        write_span(*self, writer)
     }
-}
 
-impl<'de, E: Env> PagableDeserialize<'de, E> for Duration {
-    fn pagable_deserialize<D: PagableDeserializer<E>>(
-        _alloc: Global,
-        deserializer: &mut D,
-    ) -> Result<Self, Error> {
-        read_span(deserializer.serde())
+    #[tactic(auto, using(crate::proofs::Basics::gives_span))]
+    fn read_basic<R: Reader>(reader: &mut R) -> Result<Self, Error> {
+        read_span(reader)
     }
 }
