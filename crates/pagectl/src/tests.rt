@@ -1,5 +1,5 @@
 //! Tests of `serve`, and of the crates below where they are no data of `vectors`: cells that change, references, registries, types of
-//! one's own, sessions, storages and regular expressions. They stand in one crate, since a crate with tests is proved twice.
+//! one's own, sessions and regular expressions. They stand in one crate, since a crate with tests is proved twice.
 
 mod cells;
 mod equal;
@@ -12,5 +12,4 @@ mod references;
 mod registries;
 mod session;
 mod sha256;
-mod storage;
 mod written;

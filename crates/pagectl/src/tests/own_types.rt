@@ -1,9 +1,9 @@
-//! Types of one's own of `pagable_examples` that are no data of `vectors`: each value is written, and read again.
+//! Types of one's own of `pagable_examples` that are no data of `vectors`: each value is written, and read again. And a storage that fails.
 
 use crate::tests::equal::equal;
 use crate::tests::written::is_written;
-use pagable::{PagableDeserialize, PagableSerialize};
-use pagable_examples::{Dish, Sheet, Size, quick_start};
+use pagable::{Error, InMemoryBlobs, PagableDeserialize, PagableSerialize, PagableStorage};
+use pagable_examples::{Dish, FailingStorage, Sheet, Size, quick_start};
 use row_values::carried::read;
 use std::alloc::Global;
 use std::process::Abort;
@@ -37,4 +37,14 @@ fn a_struct_is_its_fields_and_an_enum_an_option(rt: HostRuntime) -> Result<(), F
 fn a_text_is_paged_out_and_read_back(rt: HostRuntime) {
     let found = quick_start::page_out_and_read_back(rt.alloc(), "hello world");
     equal(&rt, found, Ok(true), "the same text");
+}
+
+#[test]
+fn a_storage_counts_its_failure(rt: HostRuntime) {
+    let blobs: InMemoryBlobs<Sheet> = InMemoryBlobs::new(rt.alloc());
+    let mut storage = FailingStorage::new(blobs, 0);
+    let flushed = PagableStorage::<Sheet>::flush(&mut storage);
+    equal(&rt, flushed, Err(Error::Storage(7)), "flush");
+    let failures = PagableStorage::<Sheet>::failures(&storage);
+    equal(&rt, failures, 1, "failures");
 }

@@ -1,13 +1,13 @@
-//! What a value refers to is read with it by a shared reference or a pin, and only when it is pinned by a loose one.
+//! What a value refers to is read with it by a shared reference or a pin, and is what stands in the pager.
 
 use crate::tests::equal::equal;
-use pagable::paging::{deserialize_pagable_data, page_out_pending, pin};
+use pagable::paging::{deserialize_pagable_data, page_out_pending};
 use pagable::{
     ArcRef, DataKey, Error, HandleNumber, InMemoryBlobs, OfNode, OptionalDataKey, PagableData,
     Pager,
 };
 use pagable_examples::linked::bundle::Bundle;
-use pagable_examples::linked::chain::{ArcLink, Chain, Link};
+use pagable_examples::linked::chain::Chain;
 use pagable_examples::linked::{Linked, LinkedNode};
 use std::alloc::Global;
 use std::sync::Arc;
@@ -28,35 +28,6 @@ fn store_two(alloc: Global, pager: &mut LinkPager) -> Result<DataKey, Error> {
 fn next<const KIND: u32>(link: &Chain<KIND>) -> Option<ArcRef> {
     let next = link.next.as_ref()?;
     Some(next.reference())
-}
-
-/// The handle of the link after this one, and whether that is away.
-fn next_of<const KIND: u32>(
-    pager: &LinkPager,
-    link: &Chain<KIND>,
-) -> Result<(HandleNumber, bool), Error> {
-    let Some(next) = next(link) else {
-        return Err(Error::NoSuchHandle);
-    };
-    Ok((next.handle, pager.is_paged_out(next.handle)?))
-}
-
-/// Whether the link after a read one is away by a loose reference, whether a pin gives it then, and whether it is away by a
-/// shared reference.
-fn read_links(alloc: Global, pager: &mut LinkPager) -> Result<(bool, bool, bool), Error> {
-    let key = store_two(alloc, pager)?;
-    let link: Arc<Link> = deserialize_pagable_data(alloc, pager, key).map_err(|refused| refused.0)?;
-    let (handle, is_away) = next_of(pager, link.as_ref())?;
-    let (_, last) = pin(alloc, pager, handle)?;
-    let is_last = match last.as_ref() {
-        LinkedNode::Link(link) => link.as_ref().next.is_none(),
-        _ => false,
-    };
-    let link: Arc<ArcLink> = deserialize_pagable_data(alloc, pager, key).map_err(
-        |refused| refused.0,
-    )?;
-    let (_, is_shared_away) = next_of(pager, link.as_ref())?;
-    Ok((is_away, is_last, is_shared_away))
 }
 
 /// Stores a bundle of a shared link and a pinned one, after both of which another one comes.
@@ -114,11 +85,9 @@ fn read_bundles(alloc: Global, pager: &mut LinkPager) -> Result<[bool; 3], Error
 }
 
 #[test]
-fn references_are_read_later_or_at_once_with_what_stands(rt: HostRuntime) {
+fn what_is_read_with_a_value_is_what_stands(rt: HostRuntime) {
     let alloc = rt.alloc();
     let mut pager = Pager::new(alloc, InMemoryBlobs::new(alloc), Linked);
-    let links = read_links(alloc, &mut pager);
-    equal(&rt, links, Ok((true, true, false)), "links");
     let bundles = read_bundles(alloc, &mut pager);
     equal(&rt, bundles, Ok([true; 3]), "bundles");
 }
