@@ -2,8 +2,8 @@
 """Rows of events, as the program `vectors` reads them, answered by a plain pager or drawn from a seed.
 
     plain_rows.py answers FILE              prints the answer to each row of the file that has one, as `vectors` has to
-    plain_rows.py draw SEED COUNT [WORD..]  prints a new machine, COUNT drawn lists of calls and a look; with the word `events` lists of
-                                            events over graphs, and with `looks` lists of one call with a look after each
+    plain_rows.py draw SEED COUNT [looks]   prints a new machine, COUNT drawn lists of events and a look; with the word `looks` lists of one
+                                            event with a look after each
 
 A row is one line: a new machine, a look, or calls parted by semicolons. docs/PROOFS.md tells its words.
 """
@@ -127,30 +127,30 @@ class Rows:
 
 
 class Draw:
-    """Draws calls that fit the pager as it stands: mostly live handles, keys that were stored, and page-outs, loads and readings of
-    keys that are cut by others; and some that fit nothing."""
+    """Draws lists of events that fit the pager as it stands, mostly: births with references and their page-out by calls, stored blobs that refer
+    to others, cells of their keys, loads by steps, between which calls come that evict, release, clear the cache, take what a load got, or end it,
+    and workers on tables, which take turns; and some that fit nothing."""
 
     TEXTS = ["", "x", "al", "lb", "hello world", "\u00e9t\u00e9"]
     # Cut short; not UTF-8; a byte left over; a child key; two blobs with one key; nothing.
     BLOBS = ["0261", "01ff", "017800", "0178:5", "0009", "0a00", "-"]
-    STORAGES = ["", "", "", "", " 0", " 4", " 9", " closed"]
+    STORAGES = ["", "", "", "", "", "", " 0", " 4", " 9", " 11", " 23", " 41", " closed"]
     TYPES = [RowTypes.NAME, RowTypes.NAME, RowTypes.NOTE, RowTypes.MIXED, RowTypes.MIXED, RowTypes.MIXED, *range(RowTypes.LINK, RowTypes.END)]
     # How many plans are under way at most, how often one begins where there are fewer, and how often a call is of none.
-    MOST, BEGINS, ALONE = 3, 0.25, 0.4
+    MOST, BEGINS, ALONE = 4, 0.5, 0.3
     OF_HANDLE = ["clone", "into_pagable", "pin", "pin", "unpin", "unpin", "release", "release", "schedule_for_paging", "count", "key", "is_paged_out", "node_of"]
 
     def __init__(self, seed):
-        self.random, self.plain, self.plans, self.keys = random.Random(seed), Rows(), [], [1209]
+        self.random, self.plain, self.plans, self.keys, self.types = random.Random(seed), Rows(), [], [1209], {1209: 0}
         self.head = "machine" + self.random.choice(self.STORAGES)
         self.plain.answer(self.head)
 
     def rows(self, count, looks):
-        """A new machine; lists of one to twelve calls each, the first of which stores a text; and looks. All are made."""
+        """A new machine; lists of one to twelve events each, the first of which stores a text, since a second word `read` would make a row one of
+        values; and looks. All are made."""
         yield self.head
-        first = self.make("store 0178")[0] + "; "
         for _ in range(count):
-            yield first + "; ".join(self.next() for _ in range(1 if looks else self.random.randint(1, 12)))
-            first = ""
+            yield "; ".join([self.make("store 0178")[0], *(self.next() for _ in range(1 if looks else self.random.randint(1, 12)))])
             if looks:
                 yield self.look()
         yield self.look()
@@ -174,11 +174,19 @@ class Draw:
             self.plans.remove(plan)
         return call
 
-    def make(self, call):
-        answer = self.plain.call(call)
-        if call.startswith("store") and answer.startswith("ok"):
-            self.keys.append(int(answer[3:]))
-        return call, answer
+    def make(self, event):
+        """An event and its answer. Steps are as many as it takes to the end, if these are fewer."""
+        name, *words = event.split(" ")
+        if name not in ("step", "work") or len(words) < 2:
+            answer = self.plain.call(event)
+            if name == "store" and answer.startswith("ok"):
+                self.keys.append(int(answer[3:]))
+            return event, answer
+        for steps in range(1, int(words[1]) + 1):
+            answer = self.plain.call(f"{name} {words[0]}")
+            if self.is_done(name, int(words[0])):
+                break
+        return f"{name} {words[0]} {steps}", answer
 
     def page_out(self):
         taken = yield f"take_pending {self.random.randrange(self.plain.pager.pending() + 1)}"
@@ -209,8 +217,6 @@ class Draw:
                 yield self.asking(load)
             yield f"load_take {load} {' '.join(map(str, self.own(('load', int(load)))[:self.random.randrange(4)]))}".strip()
 
-    PLANS = [page_out, load, load, reading, reading]
-
     def asking(self, load):
         """A load asks for a reference, or makes a node of one."""
         owner, kind = ("load", int(load)), self.kind()
@@ -223,9 +229,6 @@ class Draw:
 
     def blob(self):
         return self.random.choice([Blob(b"\x01x"), Blob(b"\x02al"), Blob(b"\x02lb"), Blob(b"\x00")]).text()
-
-    def key(self):
-        return 5 if self.random.random() < 0.15 else self.random.choice(self.keys)
 
     def own(self, owner):
         """The handles of an owner, in some order."""
@@ -280,40 +283,11 @@ class Draw:
                 f"store {draw.choice(self.BLOBS)}", f"fetch {key}", f"set_data_key {self.handle()} {key}", "cache_clear", "flush", "reserve 3",
                 f"load_fetch {load}", f"load_drop {load}", f"load_end {load} {self.value()}", f"load_take {load} {self.handle()}",
                 f"load_begin {self.handle()}", self.asking(load), f"cache_get {kind} {key}", f"on_arc_deserialized {kind} {key} {self.handle()}"]
-        if draw.random() < 0.02:
+        if draw.random() < 0.01:
             rare = ["close"]
         new = [f"new_loose {self.value()}", f"new_pinned {self.value()}", f"new_shared {self.value()}", f"new_paged_out {draw.choice([0, 0, 1, 2, 2, 3, 4, 9])} {key}"]
         of_handle = f"{draw.choice(self.OF_HANDLE)} {self.handle()}"
         return draw.choice([draw.choice(rare), draw.choice(new), draw.choice(new), of_handle, of_handle])
-
-
-class DrawEvents(Draw):
-    """Draws lists of events over graphs: stored blobs that refer to others, cells of their keys, and loads by steps, between which calls come
-    that evict, release, clear the cache, take what a load got, or end it; births with references, their page-out by calls, and workers on
-    tables, which take turns."""
-
-    STORAGES = ["", "", "", "", " 5", " 11", " 23", " 41"]
-    MOST, BEGINS, ALONE = 4, 0.5, 0.3
-
-    def __init__(self, seed):
-        super().__init__(seed)
-        self.types = {1209: 0}
-
-    def rows(self, count, looks):
-        """A second word `read` would make a row one of values."""
-        for row in super().rows(count, looks):
-            yield "reserve 0; " + row if row.split(" ")[1:2] == ["read"] else row
-
-    def make(self, event):
-        """Steps are as many as it takes to the end, if these are fewer."""
-        name, *words = event.split(" ")
-        if name not in ("step", "work") or len(words) < 2:
-            return super().make(event)
-        for steps in range(1, int(words[1]) + 1):
-            answer = self.plain.call(f"{name} {words[0]}")
-            if self.is_done(name, int(words[0])):
-                break
-        return f"{name} {words[0]} {steps}", answer
 
     def is_done(self, name, number):
         machine = self.plain.machine
@@ -325,13 +299,6 @@ class DrawEvents(Draw):
         """Mostly one of the last keys that can be read."""
         keys, chance = list(self.types), self.random.random()
         return 5 if chance < 0.03 else self.random.choice(self.keys if chance < 0.1 else keys[-5:] if chance < 0.6 else keys)
-
-    def single(self):
-        """The pager is seldom closed, since little happens then."""
-        event = super().single()
-        return "pending" if event == "close" and self.random.random() < 0.9 else event
-
-    # ---- plans
 
     def grow(self):
         """A blob is stored: a value over keys that are stored, most of them as what they are. Few are cut or have a byte left over, and few lack a
@@ -438,8 +405,6 @@ class DrawEvents(Draw):
                 answer = yield f"work {number} {self.random.choice([1, 1, 2, 3, 5, 8])}"
                 waited += answer.endswith("waiting")
 
-    PLANS = [grow, grow, loading, loading, loading, settling, listing, listing, working, working, working]
-
     def stored(self, node, levels):
         """Stores what a node holds over its children's keys: the key, or None where it is gone, too deep or refused."""
         cell = self.plain.pager.cells.get(node)
@@ -458,6 +423,8 @@ class DrawEvents(Draw):
         self.types[int(answer[3:])] = value.node_type
         return int(answer[3:])
 
+    PLANS = [page_out, load, load, reading, reading, grow, grow, loading, loading, loading, settling, listing, listing, working, working, working]
+
 
 def main(words):
     if len(words) == 2 and words[0] == "answers":
@@ -465,8 +432,7 @@ def main(words):
         with open(words[1], encoding="utf-8") as lines:
             print("\n".join(filter(None, (rows.answer(line) for line in lines.read().splitlines() if line[:1] not in ("", "#")))))
     elif len(words) >= 3 and words[0] == "draw":
-        drawn = DrawEvents(int(words[1])) if "events" in words else Draw(int(words[1]))
-        print("\n".join(drawn.rows(int(words[2]), "looks" in words)))
+        print("\n".join(Draw(int(words[1])).rows(int(words[2]), "looks" in words)))
     else:
         sys.exit(__doc__)
 
