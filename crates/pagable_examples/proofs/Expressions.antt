@@ -1,133 +1,106 @@
 -- Expressions: a number, or two expressions one level further down.
-use Rattle.std.{proofs.Common.{◌≡◌, ℕ, ◌+◌, ◌-◌, ◌<◌, ◌≤◌, Bool, true, false, [], ◌∷◌, ◌++◌, ◌∙◌, arith, refl, Result, Ok, Err, inl, inr}, specs.Int.w64, specs.Prelude.{List, cond, OnOk, IfErr, ◌⊎◌}}
-use Rattle.pagable.proofs.{Joined.{flagged, no-failure, no-success}, Parts.{refused_second, refuses_first, where_ok, writes_pair}, Reading.{moves_trans}, Writing.{grows_trans}}
-use Rattle.pagable.specs.{ArcRef.ArcRef, Basic.{bool_at, bool_form}, Error.Error, Form.{ok-form, err-form}, Gives.{never, memory, deep_or}, Lifted.MeansPair, Meaning.{Meaning, number, pair, success}}
-use Rattle.pagable.specs.{Meaning.failure, Reading.{Rest, deepest, read, read_with, bytes_of}, Shape.{Shape, both, unsigned, nested}}
-use Rattle.pagable.specs.Standing.{Answer, Standing, MovesOn, GivesSome, Gave, Is, handles_at}
-use Rattle.pagable.specs.Writing.{Out, nesting, WritesSome, Grows, added, Refused}
-use Rattle.pagable_examples.proofs.Levels.{writes-down, refused-down, reads-down}
-use Rattle.pagable_examples.specs.{declared.expression.Expression.{Expression, Number}, Expressions.{node, nodes, of_expression, IsWritten, IsRead, IsSum}}
-use Rattle.pagable.specs.Error.TheVariants as errors
+use Rattle.std.{proofs.Common.{◌≡◌, ℕ, ◌+◌, ◌-◌, ◌<◌, Bool, true, false, [], refl, Result, Ok, Err, inr}, specs.{Int.w64, Result.IsErrAnd}}
+use Rattle.pagable.proofs.{Joined.{no-failure, no-success}, Parts.{refused_second, refuses_first, refuses_whole, writes_pair, writes_whole}}
+use Rattle.pagable.specs.{ArcRef.ArcRef, Basic.{bool_at, bool_form}, Error.Error, Form.{ok-form, err-form}, Gives.{memory, deep_or}, Lifted.MeansPair, Meaning.{Meaning, number, pair, success}}
+use Rattle.pagable.specs.{Meaning.failure, Reading.{Context, Gets, Rest, bytes_of, deepest, read, read_with}, Shape.{both, nested, unsigned}, Standing.{Answer, GivesSome, Gave, Is, handles_at}}
+use Rattle.pagable.specs.Writing.{Out, WritesSome, added, nesting}
+use Rattle.pagable_model.specs.Steps.{◌>>=◌}
+use Rattle.pagable_traits.{proofs.JsonSteps.{below, wrote-below, wrote-nothing, wrote-then, wrote-then-err}, specs.JsonSteps.{Piece, Wrote, bytes}}
+use Rattle.pagable_codec.specs.{declared.env.Env.Ghosts as Environments, declared.serializer.PagableSerializer.Ghosts as Serializers}
+use Rattle.pagable_examples.proofs.Levels.{refused-down, writes-down}
+use Rattle.pagable_examples.specs.{declared.expression.Expression.{Expression, Number}, Expressions.{expression, node, nodes, of_expression, written, IsSum}}
 
--- ---- one level down
+-- ---- writing
 
-pub written_down : {X E : Type 0} (x : Expression) (r : Result X Error) (levels inner after last : ℕ) (old a b new : Out) (env env_a env_b env_new : E)
-    → (inner ≡ levels + 1) × (levels < deepest) → a ≡ old → env_a ≡ env
-    → IsWritten (Is of_expression x) node r inner after a b env_a env_b → last ≡ after - 1 → new ≡ b → env_new ≡ env_b → IsWritten (Is of_expression x) (nested 0) r levels last old new env env_new
-written_down x r levels inner after last old a b new env env_a env_b env_new h out same w up out_up same_up =
-    let back : after ≡ inner = w.same_levels in
-    let one : inner ≡ levels + 1 = h.0 in
-    record {
-      ok = rw out_up (where_ok r _ _ (writes-down nodes 0 (Is of_expression x) levels old b h.1) (rw (one, out) at w.ok));
-      refused = refused-down nodes 0 r (Is of_expression x) levels h.1 (rw one at w.refused);
-      only = w.only;
-      err = rw out_up (rw out at w.err);
-      same_env = same_up ∙ w.same_env ∙ same;
-      same_levels = omega (arith, back, one, up);
-    }
+abbrev pub nothing : Piece
+nothing = record { wrote = λ n old new. new ≡ old; lacks = λ n e. Unit {0} }
 
-pub read_down : {E : Type 0} (r : Result Expression Error) (levels inner after last : ℕ) (rest rest_a rest_b rest_new : Rest Answer) (old a b new : Standing) (env env_a env_b env_new : E)
-    → (inner ≡ levels + 1) × (levels < deepest) → rest_a ≡ rest → a ≡ old → env_a ≡ env
-    → IsRead node r inner after rest_a rest_b a b env_a env_b → last ≡ after - 1 → rest_new ≡ rest_b → new ≡ b → env_new ≡ env_b → IsRead (nested 0) r levels last rest rest_new old new env env_new
-read_down r levels inner after last rest rest_a rest_b rest_new old a b new env env_a env_b env_new h left standing same w up left_up standing_up same_up =
-    let back : after ≡ inner = w.same_levels in
-    let one : inner ≡ levels + 1 = h.0 in
-    record {
-      gives = rw (left_up, reads-down nodes 0 levels rest h.1) (rw (one, left) at w.gives);
-      moves = rw standing_up (rw standing at w.moves);
-      same_env = same_up ∙ w.same_env ∙ same;
-      same_levels = omega (arith, back, one, up);
-    }
+abbrev pub two : Expression → Expression → Meaning ArcRef → Type 0
+two x y = MeansPair (Is of_expression) (Is of_expression) (x, y)
 
--- ---- writing a node
+module _ {S E N H K V : Type 0} (env : Environments E N H K V) (s : Serializers S E N H K V) where
+  pub written_down : {X : Type 0} (x : Expression) {causes : Error → Type 0} {a b c d : S} (r : Result X Error) → (s.levels b ≡ s.levels a + 1) × (s.levels a < deepest) → s.out b ≡ s.out a
+      → s.environment b ≡ s.environment a → Wrote env s (expression x node) causes b c r → s.levels d ≡ s.levels c - 1 → s.out d ≡ s.out c → s.environment d ≡ s.environment c
+      → Wrote env s (expression x (nested 0)) causes a d r
+  written_down {X} x {causes} {a} r down out_in env_in w up out_out env_out =
+      wrote-then env s r (wrote-nothing env s {P = nothing} {causes = causes} {a = a} refl) (wrote-below env s r down out_in env_in w up out_out env_out)
+      (λ n old mid new e v. writes-down nodes 0 (Is of_expression x) n.levels old new v.0 (rw e at v.1)) (λ n e l h. refused-down nodes 0 (let p : Result X Error = Err e in p) (Is of_expression x) n.levels l.0 l.1)
+      (λ e h. h)
 
-as-written : {X E : Type 0} {M : Meaning ArcRef → Type 0} {s : Shape} {r : Result X Error} {levels after : ℕ} {old new : Out} {env env_after : E}
-    → record { ok : OnOk r (WritesSome M (nesting levels nodes) s old new); refused : IfErr r (Refused M (nesting levels nodes) s); only : IfErr r (deep_or memory); err : Grows old new; same_env : env_after ≡ env; same_levels : after ≡ levels }
-    → IsWritten M s r levels after old new env env_after
-as-written w = record { ok = w.ok; refused = w.refused; only = w.only; err = w.err; same_env = w.same_env; same_levels = w.same_levels }
+  pub number_written : {X : Type 0} (x : ℕ) (value : Expression) → value ≡ Number x → {a b c : S} (r : Result X Error) → Wrote env s (bytes (bool_form true)) memory a b (let p : Result (Unit {0}) Error = Ok tt in p)
+      → Wrote env s (written (Is number x) (unsigned w64)) memory b c r → Wrote env s (expression value node) (deep_or memory) a c r
+  number_written x value is r f w =
+      wrote-then env s r f w
+      (λ n old mid new e v. writes_whole (nesting n.levels nodes) (nesting n.levels nodes) success (unsigned w64) node (Is number x) (Is of_expression value) (λ m h. rw (h, is) refl) (bool_form true) old mid new
+      (λ m b k form. ok-form _ _ _ m b k form) e v)
+      (λ n e l h. refuses_whole (nesting n.levels nodes) (nesting n.levels nodes) success (unsigned w64) node (Is number x) (Is of_expression value) (λ m h. rw (h, is) refl) e (no-success _ _ _) l) (λ e h. inr h)
 
-pub number_written : {X E : Type 0} (x : ℕ) (value : Expression) (r : Result X Error) {levels between after : ℕ} {old mid new : Out} {env env_mid env_after : E} → value ≡ Number x
-    → record { ok : mid ≡ added old (bool_form true) []; only : Unit {0}; err : Grows old mid; same_env : env_mid ≡ env; same_levels : between ≡ levels }
-    → record {
-      ok : OnOk r (WritesSome (Is number x) (nesting between nodes) (unsigned w64) mid new);
-      refused : IfErr r (Refused (Is number x) (nesting between nodes) (unsigned w64));
-      only : IfErr r memory;
-      err : Grows mid new;
-      same_env : env_after ≡ env_mid;
-      same_levels : after ≡ between;
-    }
-    → IsWritten (Is of_expression value) node r levels after old new env env_after
-number_written x value r is f w =
-    as-written (flagged r (Is number x) (Is of_expression value) _ (unsigned w64) node true success memory (deep_or memory)
-    (λ m h. rw (h, is) refl) (λ m b k form. ok-form _ _ _ m b k form) (no-success _ _ _) (λ e h. inr h) f.ok (rw (f.same_levels, f.same_env) at w))
+  module _ (x y value : Expression) (is : of_expression value ≡ failure (pair (of_expression x) (of_expression y))) {a b : S}
+      (f : Wrote env s (bytes (bool_form false)) memory a b (let p : Result (Unit {0}) Error = Ok tt in p)) where
+    sum-means : (m : Meaning ArcRef) → two x y m → failure m ≡ of_expression value
+    sum-means m h = rw (h.is, h.is_first, h.is_second, is) refl
 
-module _ (x y value : Expression) (is : of_expression value ≡ failure (pair (of_expression x) (of_expression y))) where
-  sum-means : (m : Meaning ArcRef) → MeansPair (Is of_expression) (Is of_expression) (x, y) m → failure m ≡ of_expression value
-  sum-means m h = rw (h.is, h.is_first, h.is_second, is) refl
+    unwritten : (levels : ℕ) (e : Error) → (written (two x y) (both (nested 0) (nested 0))).lacks (nesting levels nodes) e → (expression value node).lacks (nesting levels nodes) e
+    unwritten levels e l = refuses_whole (nesting levels nodes) (nesting levels nodes) failure (both (nested 0) (nested 0)) node (two x y) (Is of_expression value) sum-means e (no-failure _ _ _) l
 
-  pub left_unwritten : {X E : Type 0} (e : Error) {levels between after : ℕ} {old mid new : Out} {env env_mid env_after : E}
-      → record { ok : mid ≡ added old (bool_form false) []; only : Unit {0}; err : Grows old mid; same_env : env_mid ≡ env; same_levels : between ≡ levels }
-      → IsWritten {X = X} (Is of_expression x) (nested 0) (Err e) between after mid new env_mid env_after → IsWritten {X = X} (Is of_expression value) node (Err e) levels after old new env env_after
-  left_unwritten {X = X} e f w =
-      as-written (flagged {Y = X} (Err e) (MeansPair (Is of_expression) (Is of_expression) (x, y)) (Is of_expression value) _ (both (nested 0) (nested 0)) node false failure (deep_or memory) (deep_or memory)
-      sum-means (λ m b k form. err-form _ _ _ m b k form) (no-failure _ _ _) (λ e h. h) f.ok
-      (record { ok = tt; refused = refuses_first (Is of_expression) (Is of_expression) (λ z. (of_expression z, refl)) (x, y) _ _ _ e (rw f.same_levels at w.refused); only = w.only; err = w.err; same_env = w.same_env ∙ f.same_env; same_levels = w.same_levels ∙ f.same_levels }))
+    pub left_unwritten : {X Y : Type 0} {e : Error} {c : S} (r : Result Y Error) → IsErrAnd r (λ f. f ≡ e) → Wrote env s (expression x (nested 0)) (deep_or memory) b c (let p : Result X Error = Err e in p)
+        → Wrote env s (expression value node) (deep_or memory) a c r
+    left_unwritten r same w =
+        wrote-then-err env s r same f w (λ n old mid v l h. unwritten n.levels _ (refuses_first (Is of_expression) (Is of_expression) (λ z. (of_expression z, refl)) (x, y) (nesting n.levels nodes) _ _ _ l)) (λ h. h)
 
-  pub sum_written : {X Y E : Type 0} (d : Y) (r : Result X Error) {levels between midway after : ℕ} {old mid half new : Out} {env env_mid env_half env_after : E}
-      → record { ok : mid ≡ added old (bool_form false) []; only : Unit {0}; err : Grows old mid; same_env : env_mid ≡ env; same_levels : between ≡ levels }
-      → IsWritten {X = Y} (Is of_expression x) (nested 0) (Ok d) between midway mid half env_mid env_half → IsWritten (Is of_expression y) (nested 0) r midway after half new env_half env_after
-      → IsWritten (Is of_expression value) node r levels after old new env env_after
-  sum_written d r f v w =
-      let levels = v.same_levels ∙ f.same_levels in
-      as-written (flagged r (MeansPair (Is of_expression) (Is of_expression) (x, y)) (Is of_expression value) _ (both (nested 0) (nested 0)) node false failure (deep_or memory) (deep_or memory)
-      sum-means (λ m b k form. err-form _ _ _ m b k form) (no-failure _ _ _) (λ e h. h) f.ok
-      (record {
-        ok = where_ok r _ _ (writes_pair (Is of_expression) (Is of_expression) (x, y) _ _ _ _ _ _ (rw f.same_levels at v.ok)) (rw levels at w.ok);
-        refused = refused_second r (Is of_expression) (Is of_expression) (λ z. (of_expression z, refl)) (x, y) _ _ _ (rw levels at w.refused);
-        only = w.only;
-        err = grows_trans _ _ _ v.err w.err;
-        same_env = w.same_env ∙ v.same_env ∙ f.same_env;
-        same_levels = w.same_levels ∙ levels;
-      }))
+    pub sum_written : {X Y : Type 0} {d : X} {c z : S} (r : Result Y Error) → Wrote env s (expression x (nested 0)) (deep_or memory) b c (let p : Result X Error = Ok d in p)
+        → Wrote env s (expression y (nested 0)) (deep_or memory) c z r → Wrote env s (expression value node) (deep_or memory) a z r
+    sum_written r v w =
+        wrote-then env s r f
+        (wrote-then env s {W = written (two x y) (both (nested 0) (nested 0))} {causes = deep_or memory} r v w
+        (λ n old mid new p q. writes_pair (Is of_expression) (Is of_expression) (x, y) (nesting n.levels nodes) (nested 0) (nested 0) old mid new p q)
+        (λ n e l h. refused_second {X = Unit {0}} (Err e) (Is of_expression) (Is of_expression) (λ u. (of_expression u, refl)) (x, y) (nesting n.levels nodes) (nested 0) (nested 0) l) (λ e h. h))
+        (λ n old mid new e v. writes_whole (nesting n.levels nodes) (nesting n.levels nodes) failure (both (nested 0) (nested 0)) node (two x y) (Is of_expression value) sum-means (bool_form false) old mid new
+        (λ m b k form. err-form _ _ _ m b k form) e v)
+        (λ n e l h. unwritten n.levels e l) (λ e h. h)
 
--- ---- reading a node
+-- ---- reading
 
--- the refusal of the flag, and of the first part after it, is one of the whole
-pub flag_refused : (levels : ℕ) (rest : Rest Answer) (e : Error) → (bytes_of bool_at (λ b. b) rest ≡ Err e) ⊎ never e → (read (handles_at levels nodes) node rest ≡ Err e) ⊎ memory e
-unfolding read read_with
-flag_refused levels rest e (inl h) = inl (rw h refl)
-flag_refused levels rest e (inr h) = absurd h
+-- what stands behind the flag, and behind the first of two
+abbrev pub part : Bool → Context Answer ArcRef → Gets Answer (Meaning ArcRef)
+part true c rest = read c (unsigned w64) rest >>= λ m. Ok (success m.0, m.1)
+part false c rest = read c (both (nested 0) (nested 0)) rest >>= λ m. Ok (failure m.0, m.1)
 
-pub first_refused : (P : Error → Type 0) → ((e : Error) → P e → memory e) → (is_number : Bool) (levels : ℕ) (rest mid : Rest Answer) (e : Error) → bytes_of bool_at (λ b. b) rest ≡ Ok (is_number, mid)
-    → (read (handles_at levels nodes) (cond is_number (unsigned w64) (nested 0)) mid ≡ Err e) ⊎ P e → (read (handles_at levels nodes) node rest ≡ Err e) ⊎ memory e
-unfolding read read_with
-first_refused P own true levels rest mid e h (inl f) = inl (rw (h, f) refl)
-first_refused P own false levels rest mid e h (inl f) = inl (rw (h, f) refl)
-first_refused P own _ levels rest mid e h (inr o) = inr (own e o)
+abbrev pub second : Meaning ArcRef → Context Answer ArcRef → Gets Answer (Meaning ArcRef)
+second m c rest =
+    let two_read : Result ((Meaning ArcRef × Meaning ArcRef) × Rest Answer) Error = read c (nested 0) rest >>= λ n. Ok ((m, n.0), n.1) in
+    let paired : Result (Meaning ArcRef × Rest Answer) Error = two_read >>= λ p. Ok (pair p.0.0 p.0.1, p.1) in
+    paired >>= λ p. Ok (failure p.0, p.1)
 
-pub gave_number : (x levels : ℕ) (rest mid after : Rest Answer) → bytes_of bool_at (λ b. b) rest ≡ Ok (true, mid) → Gave (Is number x) after (read (handles_at levels nodes) (unsigned w64) mid)
-    → Gave (Is of_expression (Number x)) after (read (handles_at levels nodes) node rest)
-unfolding read read_with
-gave_number x levels rest mid after h g = record { m = success g.m; is = rw g.is refl; gave = rw (h, g.gave) refl }
+module _ (levels : ℕ) (rest : Rest Answer) where
+  pub flag_refused : (e : Error) → bytes_of bool_at (λ b. b) rest ≡ Err e → read (handles_at levels nodes) node rest ≡ Err e
+  unfolding read read_with
+  flag_refused e h = rw h refl
 
-pub right_refused : (x : Expression) (levels : ℕ) (rest mid last : Rest Answer) (e : Error) → bytes_of bool_at (λ b. b) rest ≡ Ok (false, mid)
-    → Gave (Is of_expression x) last (read (handles_at levels nodes) (nested 0) mid) → (read (handles_at levels nodes) (nested 0) last ≡ Err e) ⊎ memory e
-    → (read (handles_at levels nodes) node rest ≡ Err e) ⊎ memory e
-unfolding read read_with
-right_refused x levels rest mid last e h g (inl f) = inl (rw (h, g.gave, f) refl)
-right_refused x levels rest mid last e h g (inr own) = inr own
+  pub flag_read : (flag : Bool) (mid : Rest Answer) → bytes_of bool_at (λ b. b) rest ≡ Ok (flag, mid) → read (handles_at levels nodes) node rest ≡ part flag (handles_at levels nodes) mid
+  unfolding read read_with
+  flag_read true mid h = rw h refl
+  flag_read false mid h = rw h refl
 
--- the sum of what was read, or no memory for it
-pub sum_gives : (x y : Expression) (r : Result Expression Error) (levels : ℕ) (rest mid half last : Rest Answer) → bytes_of bool_at (λ b. b) rest ≡ Ok (false, mid)
-    → Gave (Is of_expression x) half (read (handles_at levels nodes) (nested 0) mid)
-    → Gave (Is of_expression y) last (read (handles_at levels nodes) (nested 0) half) → IsSum x y r → GivesSome memory (Is of_expression) last r (read (handles_at levels nodes) node rest)
-unfolding read read_with
-sum_gives x y (Ok sum) levels rest mid half last h g i is = record { m = failure (pair g.m i.m); is = rw (g.is, i.is, is) refl; gave = rw (h, g.gave, i.gave) refl }
-sum_gives x y (Err e) levels rest mid half last h g i is = inr is
+  pub number_refused : (e : Error) → read (handles_at levels nodes) (unsigned w64) rest ≡ Err e → part true (handles_at levels nodes) rest ≡ Err e
+  number_refused e h = rw h refl
 
--- one part after another
-pub then_read : {E : Type 0} {r : Result Expression Error} {levels between after : ℕ} {rest last : Rest Answer} {old a new : Standing} {env env_a env_after : E}
-    → MovesOn old a → env_a ≡ env → between ≡ levels → MovesOn a new → env_after ≡ env_a → after ≡ between
-    → GivesSome memory (Is of_expression) last r (read (handles_at levels nodes) node rest) → IsRead node r levels after rest last old new env env_after
-then_read moves same_env same_levels moves' same_env' same_levels' gives =
-    record { gives = gives; moves = moves_trans _ _ _ moves moves'; same_env = same_env' ∙ same_env; same_levels = same_levels' ∙ same_levels }
+  pub gave_number : (x : ℕ) (after : Rest Answer) → Gave (Is number x) after (read (handles_at levels nodes) (unsigned w64) rest) → Gave (Is of_expression (Number x)) after (part true (handles_at levels nodes) rest)
+  gave_number x after g = record { m = success g.m; is = rw g.is refl; gave = rw g.gave refl }
+
+  pub first_refused : (e : Error) → read (handles_at levels nodes) (nested 0) rest ≡ Err e → part false (handles_at levels nodes) rest ≡ Err e
+  unfolding read read_with
+  first_refused e h = rw h refl
+
+  pub first_read : (m : Meaning ArcRef) (mid : Rest Answer) → read (handles_at levels nodes) (nested 0) rest ≡ Ok (m, mid) → part false (handles_at levels nodes) rest ≡ second m (handles_at levels nodes) mid
+  unfolding read read_with
+  first_read m mid h = rw h refl
+
+  pub second_refused : (m : Meaning ArcRef) (e : Error) → read (handles_at levels nodes) (nested 0) rest ≡ Err e → second m (handles_at levels nodes) rest ≡ Err e
+  second_refused m e h = rw h refl
+
+  -- the sum of what was read, or no memory for it
+  pub sum_gives : (x y : Expression) (m : Meaning ArcRef) (r : Result Expression Error) (last : Rest Answer) → m ≡ of_expression x → Gave (Is of_expression y) last (read (handles_at levels nodes) (nested 0) rest)
+      → IsSum x y r → GivesSome memory (Is of_expression) last r (second m (handles_at levels nodes) rest)
+  sum_gives x y m (Ok sum) last same g is = record { m = failure (pair m g.m); is = rw (g.is, same, is) refl; gave = rw g.gave refl }
+  sum_gives x y m (Err e) last same g is = inr is

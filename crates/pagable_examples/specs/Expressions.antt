@@ -1,7 +1,8 @@
 -- What expressions mean, and how they are spelled.
-use Rattle.std.specs.{Int.w64, Prelude.{◌≡◌, ℕ, OnOk, IfErr, Result, Ok, Err}}
-use Rattle.pagable.specs.{ArcRef.ArcRef, Error.Error, Gives.{memory, deep_or}, Meaning.{Meaning, number, pair, success, failure}, Reading.{Rest, read}, Shape.{Shape, unsigned, both, nested, outcome}}
-use Rattle.pagable.specs.{Standing.{Answer, Standing, MovesOn, GivesSome, Is, handles_at}, Writing.{Out, nesting, WritesSome, Refused, Grows}}
+use Rattle.std.specs.{Int.w64, Prelude.{◌≡◌, ℕ, Result, Ok, Err}}
+use Rattle.pagable.specs.{ArcRef.ArcRef, Error.Error, Gives.memory, Meaning.{Meaning, number, pair, success, failure}, Shape.{Shape, unsigned, both, nested, outcome}}
+use Rattle.pagable.specs.{Standing.Is, Writing.{nesting, WritesSome, Refused}}
+use Rattle.pagable_traits.specs.JsonSteps.{Piece}
 use Rattle.pagable_examples.specs.declared.expression.Expression.{Expression, Number, Sum'}
 
 -- a number, or two expressions, each one level further down
@@ -16,21 +17,12 @@ abbrev pub of_expression : Expression → Meaning ArcRef
 of_expression (Number n) = success (number n)
 of_expression (Sum' p left q right) = failure (pair (of_expression left) (of_expression right))
 
--- what writing what means this in a shape owes, by its answer and what it changed
-pub record IsWritten {X E : Type 0} (M : Meaning ArcRef → Type 0) (s : Shape) (r : Result X Error) (levels after : ℕ) (old new : Out) (env env_after : E) : Type 0 where
-  pub ok : OnOk r (WritesSome M (nesting levels nodes) s old new)
-  pub refused : IfErr r (Refused M (nesting levels nodes) s)
-  pub only : IfErr r (deep_or memory)
-  pub err : Grows old new
-  pub same_env : env_after ≡ env
-  pub same_levels : after ≡ levels
+-- what is written of what means this in a shape, where every part is an expression
+abbrev pub written : (Meaning ArcRef → Type 0) → Shape → Piece
+written M s = record { wrote = λ n. WritesSome M (nesting n.levels nodes) s; lacks = λ n. Refused M (nesting n.levels nodes) s }
 
--- what reading an expression owes
-pub record IsRead {E : Type 0} (s : Shape) (r : Result Expression Error) (levels after : ℕ) (rest last : Rest Answer) (old new : Standing) (env env_after : E) : Type 0 where
-  pub gives : GivesSome memory (Is of_expression) last r (read (handles_at levels nodes) s rest)
-  pub moves : MovesOn old new
-  pub same_env : env_after ≡ env
-  pub same_levels : after ≡ levels
+abbrev pub expression : Expression → Shape → Piece
+expression x s = written (Is of_expression x) s
 
 -- the sum of two, or no memory
 abbrev pub IsSum : Expression → Expression → Result Expression Error → Type 0

@@ -1,7 +1,8 @@
 //! A type that holds values of its own type, each one level further down: sums inside sums.
 
-ghost use Rattle.pagable.specs.{Meanings.exactly, OwnCauses.{reads_memory, writes_deep_or, writes_memory}, Shape.nested, Standing.Is};
-ghost use Rattle.pagable_examples.specs.Expressions.{node, nodes, of_expression, IsWritten, IsRead, IsSum};
+ghost use Rattle.pagable.specs.{Gives.{deep_or, memory}, Meanings.exactly, OwnCauses.{reads_memory, writes_deep_or, writes_memory}, Reading.read, Shape.nested, Standing.Is};
+ghost use Rattle.pagable_traits.specs.JsonSteps.{Reads, Wrote};
+ghost use Rattle.pagable_examples.specs.Expressions.{expression, node, nodes, of_expression, IsSum};
 
 use pagable::parts::{read_flag, write_flag};
 use pagable::{
@@ -44,8 +45,7 @@ fn write_below<S: PagableSerializer<Sheet>>(
     value: &Expression,
     serializer: &mut S,
 ) -> Result<(), Error>
-    ensures { IsWritten (Is of_expression value.now) (nested 0) result
-        (S.levels serializer.old) (S.levels serializer.new) (S.out serializer.old) (S.out serializer.new) (S.environment serializer.old) (S.environment serializer.new) }
+    ensures { Wrote ⟦<Sheet as Env>⟧ S.PagableSerializer (expression value.now (nested 0)) (deep_or memory) serializer.old serializer.new result }
 {
     serializer.enter()?;
     let done = write_node(value, serializer);
@@ -59,8 +59,7 @@ fn write_node<S: PagableSerializer<Sheet>>(
     value: &Expression,
     serializer: &mut S,
 ) -> Result<(), Error>
-    ensures { IsWritten (Is of_expression value.now) node result
-        (S.levels serializer.old) (S.levels serializer.new) (S.out serializer.old) (S.out serializer.new) (S.environment serializer.old) (S.environment serializer.new) }
+    ensures { Wrote ⟦<Sheet as Env>⟧ S.PagableSerializer (expression value.now node) (deep_or memory) serializer.old serializer.new result }
 {
     match value {
         Expression::Number(number) => {
@@ -81,7 +80,7 @@ fn read_below<D: PagableDeserializer<Sheet>>(
     alloc: Global,
     deserializer: &mut D,
 ) -> Result<Expression, Error>
-    ensures { IsRead (nested 0) result (D.levels deserializer.old) (D.levels deserializer.new) (D.rest deserializer.old) (D.rest deserializer.new) (D.standing deserializer.old) (D.standing deserializer.new) (D.environment deserializer.old) (D.environment deserializer.new) }
+    ensures { Reads ⟦<Sheet as Env>⟧ D.PagableDeserializer memory (Is of_expression) (λ x. read x (nested 0)) deserializer.old deserializer.new result }
 {
     deserializer.enter()?;
     let read = read_node(alloc, deserializer);
@@ -104,7 +103,7 @@ fn read_node<D: PagableDeserializer<Sheet>>(
     alloc: Global,
     deserializer: &mut D,
 ) -> Result<Expression, Error>
-    ensures { IsRead node result (D.levels deserializer.old) (D.levels deserializer.new) (D.rest deserializer.old) (D.rest deserializer.new) (D.standing deserializer.old) (D.standing deserializer.new) (D.environment deserializer.old) (D.environment deserializer.new) }
+    ensures { Reads ⟦<Sheet as Env>⟧ D.PagableDeserializer memory (Is of_expression) (λ x. read x node) deserializer.old deserializer.new result }
 {
     if read_flag(deserializer)? {
         let number = u64::pagable_deserialize(alloc, deserializer)?;
