@@ -73,7 +73,7 @@ impl<'de, E: Env, T: PagableDeserialize<'de, E> + Drop> Takes<'de, E> for Twice<
 }
 
 /// What comes of an input of the type `T` of an environment, which is read twice from its front. Where the first reading was
-/// refused, the second one must be refused alike, but where memory was refused.
+/// refused, the second one must be refused alike.
 pub fn replay_in<'de, E: Env, T>(alloc: Global, env: &E, input: &'de [u8]) -> Option<Outcome>
 where
     T: PagableSerialize<E> + PagableDeserialize<'de, E> + Drop,
@@ -95,8 +95,8 @@ pub fn finished<E: Env>(
     Ok(data.bytes)
 }
 
-/// The bytes of a value, which is written once, or the number of the refusal.
-fn written_once<E: Env, T: PagableSerialize<E>>(
+/// The bytes of a value, or the number of the refusal.
+pub fn written<E: Env, T: PagableSerialize<E>>(
     alloc: Global,
     env: &E,
     value: &T,
@@ -104,19 +104,6 @@ fn written_once<E: Env, T: PagableSerialize<E>>(
     let mut out = PagableSerializerImpl::testing_new(alloc, env);
     let done = value.pagable_serialize(&mut out);
     finished(done, out)
-}
-
-/// The same. Where memory is refused, it is written once more.
-pub fn written<E: Env, T: PagableSerialize<E>>(
-    alloc: Global,
-    env: &E,
-    value: &T,
-) -> Result<Vec<u8>, u32> {
-    let first = written_once(alloc, env, value);
-    if first.as_ref().err() == Some(&Error::OutOfMemory.number()) {
-        return written_once(alloc, env, value);
-    }
-    first
 }
 
 /// What comes of an input of the type `T`, which no environment bears on.

@@ -1,6 +1,5 @@
 //! What comes of an input.
 
-use pagable_flavors::Error;
 use std::alloc::{AllocError, Global};
 
 /// What comes of reading an input and of writing what was read.
@@ -15,20 +14,14 @@ pub enum Outcome {
     },
     /// The number of the refusal, which was met twice.
     Refused(u32),
-    /// Memory was refused to the second reading or the second writing.
-    NoMemory,
     /// What should be the same twice was not.
     Unlike,
 }
 
 impl Outcome {
-    /// A value was read. If a first reading was refused, then by want of memory alone.
+    /// A value was read, and no first reading was refused.
     pub fn taken(first: Option<u32>, used: usize, written: Result<Vec<u8>, u32>) -> Outcome {
-        let no_memory = Error::OutOfMemory.number();
-        if written.as_ref().err() == Some(&no_memory) {
-            return Outcome::NoMemory;
-        }
-        if first.is_some() && first != Some(no_memory) {
+        if first.is_some() {
             return Outcome::Unlike;
         }
         Outcome::Taken {
@@ -38,13 +31,9 @@ impl Outcome {
         }
     }
 
-    /// A second reading was refused. So was the first one, and alike or by want of memory.
+    /// A second reading was refused, as the first one was.
     pub fn refused(first: Option<u32>, number: u32) -> Outcome {
-        let no_memory = Error::OutOfMemory.number();
-        if number == no_memory {
-            return Outcome::NoMemory;
-        }
-        if first != Some(number) && first != Some(no_memory) {
+        if first != Some(number) {
             return Outcome::Unlike;
         }
         Outcome::Refused(number)
@@ -91,7 +80,6 @@ impl Outcome {
                 shown,
             } => (*used, written, shown),
             Outcome::Refused(number) => return format!(in alloc; "refused {number}"),
-            Outcome::NoMemory => return Err(AllocError),
             Outcome::Unlike => return String::from_str(alloc, "unlike"),
         };
         let written = written_text(alloc, written, input.get(..used))?;
