@@ -1,21 +1,17 @@
 //! The worked rows, whose lines stand in a file. What they expect was worked out from the rules of the wire format, of keys and of cells: by hand, but for keys by SHA-256, which
 //! Python's hashlib made of the preimages.
 
-use crate::blobs::bytes_of;
 use crate::calls::asked::item;
 use crate::calls::nodes::node;
 use crate::calls::{Calls, CellPager, pager_over};
 use crate::lines;
 use anyhow::{Context, ensure};
 use pagable::paging::{page_out_item, page_out_pending, pin};
-use pagable::{
-    DataKey, Error, PagableSerialize, PagableVecFlavor, PageOutError, SlotTable, WeighHash,
-};
+use pagable::{DataKey, Error, PagableVecFlavor, PageOutError, SlotTable, WeighHash};
 use row_values::carried::{AnyEnv, written};
 use serde_json::Value;
 use std::alloc::Global;
 use std::sync::Arc;
-use std::time::Duration;
 
 /// The number of the last row.
 const LAST: u32 = 24;
@@ -33,16 +29,6 @@ fn lines_hold(alloc: Global, calls: &mut Calls, text: &str, row: u32) -> anyhow:
         }
     }
     Ok(true)
-}
-
-/// Whether a value is written as these bytes.
-fn is_written<T: PagableSerialize<AnyEnv>>(
-    alloc: Global,
-    value: &T,
-    bytes: &str,
-) -> anyhow::Result<bool> {
-    let wanted = bytes_of(alloc, bytes)?;
-    Ok(written(alloc, &AnyEnv, value) == Ok(wanted))
 }
 
 /// Whether the writing of 129 arrays in one another is refused.
@@ -97,15 +83,9 @@ fn is_stored_once(alloc: Global, pager: &mut CellPager<WeighHash>) -> anyhow::Re
 /// Whether a row's values of which no line says what they are hold too.
 fn others_hold(alloc: Global, number: u32) -> anyhow::Result<bool> {
     match number {
-        1 => Ok(
-            is_written(alloc, &i64::MIN, "ff*9+01")?
-                && is_written(alloc, &Duration::new(1, 500_000_000), "0180cab5ee01")?,
-        ),
-        4 => is_written(alloc, &vec![in alloc; -1i32, 1]?, "020102"),
         6 => are_too_deep(alloc),
         10 => is_item_paged_out(alloc, &mut pager_over(alloc, "")),
         14 => is_stored_once(alloc, &mut pager_over(alloc, "1")),
-        21 => is_written(alloc, &'é', "02c3a9"),
         24 => Ok(write_over(alloc)?),
         _ => Ok(true),
     }
