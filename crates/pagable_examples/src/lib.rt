@@ -1,7 +1,7 @@
 //! How a caller carries types of its own, and what programs and tests share: a struct of named fields, an enum that is
 //! carried as an option, a type that holds values of its own type, and one that is written eagerly; an environment of
-//! registries, with tagged values and a type that has a tagged and a static value; an environment of texts, and lines that
-//! ask for named ones; types that refer to each other; a storage over another storage; and inputs that are drawn.
+//! registries, with tagged values; an environment of texts, and lines that ask for named ones; types that refer to each
+//! other; a storage over another storage; and inputs that are drawn.
 #![tactic(auto)]
 
 pub mod animal;
@@ -11,7 +11,6 @@ pub mod expression;
 pub mod linked;
 pub mod named_texts;
 pub mod quick_start;
-pub mod sighting;
 pub mod size;
 pub mod storages;
 pub mod text;
@@ -22,7 +21,6 @@ pub use animal::{Animal, AnimalReader};
 pub use dish::Dish;
 pub use drawn::{Draws, input_of};
 pub use expression::{Expression, Sheet};
-pub use sighting::Sighting;
 pub use size::Size;
 pub use storages::FailingStorage;
 pub use text::{TextEnv, TextNode};

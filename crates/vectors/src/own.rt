@@ -1,7 +1,7 @@
 //! Types of one's own, and static and tagged values by an environment's registries.
 
 use pagable::{StaticBytes, StaticStr};
-use pagable_examples::{Animal, AnimalReader, Expression, Sheet, Sighting, Ticket, Zoo};
+use pagable_examples::{Animal, AnimalReader, Expression, Sheet, Ticket, Zoo};
 use row_values::carried::{AnyEnv, read, replay_eagerly, replay_in};
 use row_values::outcome::Outcome;
 use row_values::types;
@@ -59,7 +59,6 @@ pub fn answer(alloc: Global, name: &str, input: &[u8]) -> Option<Outcome> {
         "StaticStr" => static_text(alloc, &zoo, input),
         "StaticBytes" => static_bytes(alloc, &zoo, input),
         "Animal" => replay_in::<Zoo, Animal>(alloc, &zoo, input),
-        "Sighting" => replay_in::<Zoo, Sighting>(alloc, &zoo, input),
         _ => None,
     }
 }
