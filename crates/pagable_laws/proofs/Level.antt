@@ -279,8 +279,7 @@ gets-child : ReadingDoes two.sample two.loading Owner.Caller two.parent_fetched 
 unfolding two.walked value_at is_named_by find_row preimage grammar.read grammar.read_with answers_from cell_load
 gets-child =
     let row = row_of 8 (two.node 3) Mode.LooseUnpinned (Owner.Load (two.load_number 1)) in
-    let asked : LazyCall two.loading Owner.Caller (two.load_number 1) (record { 0 = 4 }) 8 (Ok (two.handle 8)) two.child_got =
-    record { makes = (cell_load, record { stands_open = refl; own = refl }, refl, inr (refl, omega arith, record { above = refl; is_left = omega arith }, alike-self two.child_got)); refused = tt } in
+    let asked : LazyCall two.loading Owner.Caller (two.load_number 1) (record { 0 = 4 }) 8 (Ok (two.handle 8)) two.child_got = grind (arith, nat_tests, alike-self) in
     record { does = inr (inr (inr (inl (record { kind = record { 0 = 4 }; key = 8; k = two.handle 8; row = row; needs = refl; asked = asked; made = refl; goes = refl })))) }
 
 ends-pinned : ReadingDoes two.sample two.child_got Owner.Caller two.parent_read (Some (LoadAnswer.Pinned (two.handle 9))) [] two.loaded

@@ -252,12 +252,11 @@ module _ {hash : List ℕ → List ℕ} {types : Types} where
     same-keys : {kids kids2 others : List Kid} {keys keys2 : List ℕ} → KeysOf hash types kids keys → KeysOf hash types kids2 keys2 → AllTwo (CanonicalKid types) kids others
         → kids ≡ kids2 → keys ≡ keys2
     same-keys no-keys no-keys can e = refl
-    same-keys no-keys (more-keys x2 xs2 k2 ks2 h2 g2) can e = cc
-    same-keys (more-keys x xs k ks h g) no-keys can e = cc
     same-keys (more-keys x xs k ks h g) (more-keys x2 xs2 k2 ks2 h2 g2) (more-two y z ys zs c cs) e =
         let heads : x ≡ x2 = cc in
         let tails : xs ≡ xs2 = cc in
         rw (same-key h h2 c.1 (ap tree_of_kid heads), same-keys g g2 cs tails) refl
+    same-keys x0 x1 can e = cc
 
 pub one_key : IsOneKey
 one_key hash types t k l can h g = same-key h g can refl

@@ -70,8 +70,6 @@ module _ (k : ℕ) (i : Identity) where
     goes : (todo : List Todo) (step : Took W) (next : List Todo) → IsWay todo → Follows f todo step next → Goes (is_later_of k i step) (is_claim_of i step) todo next
     unfolding AllWait all-left
     goes (to_start r place ∷ []) step next way follows = absurd way
-    goes (to_start r place ∷ x ∷ xs) (Took.Claim j (Ok Claim.Claimed)) next way (is, e) = rw (is, e) (record { less = grind (arith, nat_tests); way = way })
-    goes (to_start r place ∷ x ∷ xs) (Took.Claim j (Ok Claim.Waiting)) next way (is, e) = rw e (record { less = omega arith; way = way })
     goes _ step next way follows = grind (arith, nat_tests, failed, started, given, goes-up, ends)
 
     along : (todo : List Todo) (steps : List (Took W)) (last : List Todo) → IsWay todo → Leads f todo steps last
@@ -85,7 +83,6 @@ module _ (k : ℕ) (i : Identity) where
         omega arith
 
     after-release : (r : ArcRef) (key height : ℕ) (steps : List (Took W)) (last : List Todo) → Leads f (to_release r key height ∷ []) steps last → times (is_later_of k i) steps ≤ 1
-    after-release r key height (Took.Release j ∷ []) last leads = grind (arith, nat_tests)
     after-release r key height (Took.Release j ∷ x ∷ more) last (mid, (is, e), (after, follows, leads)) = absurd (subst (λ m. Follows f m x after) e follows)
     after-release r key height x3 last x5 = grind (arith, nat_tests)
 
@@ -108,11 +105,10 @@ module _ (k : ℕ) (i : Identity) where
         let few_left : one (at r) + times (is_claim_of i) steps ≤ 1 = subst (λ j. one (is_identity i j) + times (is_claim_of i) steps ≤ 1) is
         (few-claims (Took.Claim j (Ok Claim.Claimed)) steps few) in
         grind (arith, nat_tests, once-more, bounded, along)
-    entry r place (Took.Claim j (Ok (Claim.Known key height)) ∷ steps) last (mid, (is, e), leads) few = grind (arith, nat_tests, once-more, after-release)
     entry r place (Took.Claim j (Ok Claim.Waiting) ∷ steps) last (mid, (is, e), leads) few =
         let less : times (is_claim_of i) steps ≤ 1 = let c = few-claims (Took.Claim j (Ok Claim.Waiting)) steps few in omega arith in
         grind (arith, nat_tests, once-more, entry r place steps last (subst (λ m. Leads f m steps last) e leads) less)
-    entry r place (step ∷ steps) last (mid, follows, leads) few = grind (arith, nat_tests, once-more, bounded, along, few-claims)
+    entry r place (step ∷ steps) last (mid, follows, leads) few = grind (arith, nat_tests, once-more, bounded, along, few-claims, after-release)
 
     at-once : (task : Task) (steps : List (Took W)) (last : List Todo) → Leads f (first_todo task) steps last → times (is_claim_of i) steps ≤ 1 → times (is_later_of k i) steps ≤ 1
     unfolding AllWait all-left

@@ -118,10 +118,9 @@ module _ (shelf : Shelf) where
   so-far-more : (h k : ℕ) (rs : List ArcRef) (ks : List ℕ) (r : ArcRef) (more : List ArcRef) (key below : ℕ) → h ≤ k → above r.kind.0 below ≤ k → drop (length ks) rs ≡ r ∷ more
       → KeysSoFar shelf h rs ks → IsPublished shelf (identity_of r) key below → KeysSoFar shelf k rs (ks ++ key ∷ [])
   unfolding KeysSoFar
-  so-far-more h k [] [] r more key below le new e known p = absurd (cc)
   so-far-more h k [] (x ∷ ks) r more key below le new e known p = absurd known
-  so-far-more h k (x ∷ rs) [] r more key below le new e known p = grind (arith, nat_tests, identity_of, above)
   so-far-more h k (x ∷ rs) (y ∷ ks) r more key below le new e ((b, q, few), known) p = ((b, q, omega arith), so-far-more h k rs ks r more key below le new e known p)
+  so-far-more h k x2 x3 r more key below le new e x11 p = grind (arith, nat_tests, identity_of, above)
 
   -- all keys are known
   pub all-known : (h : ℕ) (rs : List ArcRef) (ks : List ℕ) → length ks ≡ length rs → KeysSoFar shelf h rs ks → AreKeysOf shelf rs ks
