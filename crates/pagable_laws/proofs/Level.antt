@@ -85,15 +85,13 @@ does-so w s (to_pin r place ∷ below) (live, clone_live, here, few) =
     let pins : PinsAtOnce w (owner_worker 1) r (two.handle (w.last.handle + 1)) (two.handle (w.last.handle + 1 + 1)) (two.pinned_at w r.node) =
     inr (record { row = row; live = live; sort = refl }, (two.cloned w r.node, cloned, (grind (arith, nat_tests, alike-self)))) in
     search (same-shelf, pins)
-does-so w s (to_finish o ∷ below) (all, is_open, free) = search (stored-so w (blob_of o.written.bytes o.keys), same-shelf)
 does-so w s (to_set r through key height ∷ below) (live, alone) =
     let row = row_of through.0 r.node Mode.LoosePinned (owner_worker 1) in
     let sets : SetKeyCall w (owner_worker 1) through key (Ok tt) (fallen (with_key w r.node key) nobody []) =
     record { does = inr (row, record { live = live; own = refl; as_asked = refl }, inr (refl, falls-alone w (with_key w r.node key) nobody alone)) } in
     search (same-shelf, sets)
 does-so w s (to_release r key height ∷ below) alone = search (same-shelf, falls-alone w w (is_workers_at w 1 r.node.0) alone)
-does-so w s (to_item written keys ∷ below) (all, is_open, free) = search (stored-so w (blob_of written.bytes keys), same-shelf)
-does-so w s todo ok = grind (arith, nat_tests, alike-self, same-shelf)
+does-so w s todo ok = grind (arith, nat_tests, alike-self, same-shelf, stored-so)
 
 -- the pager has few of each after the step, and after its answer
 few-next : (w : Core) (s : Shelf) (todo : List Todo) (answer : Option WorkerAnswer) → Few w → let a = two.next_step w s todo in Few (two.ended answer a.1)

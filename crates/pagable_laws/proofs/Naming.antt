@@ -7,8 +7,8 @@ use Rattle.pagable_laws.proofs.Words.{IsMachineWhole, IsPublished, KeepsOpen, Ke
 use Rattle.pagable_laws.proofs.Words.{PinsAtOnce, ReadsItsTypes, SameShelf, Seen, SetKeyCall, Shelf, Site, Slot, Some, StandsAt, Task, Todo, Took, Tree, Values, WaitsHeld, Walking, WorkFits}
 use Rattle.pagable_laws.proofs.Words.{WorkerAnswer, WorkerNumber, WorkerReply, WorkerSteps, World, [], above, any_mode, ap, arith, claim_fault, false, find_row, first_todo, fits_mode, give}
 use Rattle.pagable_laws.proofs.Words.{give_known, has_key, identity_of, if_there, inl, inr, is_loose, is_loose_kind, nat_tests, next_start, no_result, nothing_felt, of_entry, of_item, owner_worker}
-use Rattle.pagable_laws.proofs.Words.{published, refl, row_at, row_of, step_of, subst, sym, to_finish, to_item, to_load, to_pin, to_publish, to_release, to_set, to_start, to_write, true, type_at}
-use Rattle.{pagable_laws.proofs.Words.{type_of, with_changed_slot, with_key, with_outcome, world_of, ℕ, ◌++◌, ◌+◌, ◌∙◌, ◌∷◌, ◌≡◌, ◌≤◌, ◌⊎◌}, pagable_world.specs.Runs.Does as DoesMoment}
+use Rattle.pagable_laws.proofs.Words.{published, refl, row_at, row_of, step_of, subst, sym, to_finish, to_item, to_load, to_pin, to_publish, to_set, to_start, to_write, true, type_at, type_of}
+use Rattle.{pagable_laws.proofs.Words.{with_changed_slot, with_key, with_outcome, world_of, ℕ, ◌++◌, ◌+◌, ◌∙◌, ◌∷◌, ◌≡◌, ◌≤◌, ◌⊎◌}, pagable_world.specs.Runs.Does as DoesMoment}
 use Rattle.std.proofs.Common.{rules}
 
 -- ---- what stays
@@ -165,9 +165,6 @@ module _ {N B W : Type 0} (m : Seen N B W) (v : ℕ) (s s' : Site) (whole : Hand
       let t = c.finds.1.2 in
       let new : Slot = record { worker = v; written = None; outcome = no_result } in
       leaves t.list_is (stands-on f (claimed-stands whole r c.finds.0), waits-on f below waits) (grind (arith, put-cases, known))
-  stepped (to_start r place ∷ below) (Took.Claim i (Ok (Claim.Known key height))) e (is, c) f (h, waits) = let t = c.finds.1.2 in
-      stays t.table_is.slots t.list_is (known s'.core v r key height below (waits-on f below waits))
-  stepped (to_start r place ∷ below) (Took.Claim i (Ok Claim.Waiting)) e (is, c) f (h, waits) = let t = c.finds.1.2 in stays t.table_is.slots (t.list_is ∙ e) (tt, waits-on f below waits)
   stepped (to_pin r place ∷ below) (Took.Pin i (Ok (PinStep.Held k))) e (is, p) f (h, waits) = let t = p.pins.2 in
       stays t.table_stays.slots t.list_is (pinned-stands r p.pins.0 k h p.pins.1, waits-on f below waits)
   stepped (to_pin r place ∷ below) (Took.Pin i (Ok (PinStep.LoadBegun l))) e (is, p) f (h, waits) = let t = p.pins.2 in
@@ -187,8 +184,7 @@ module _ {N B W : Type 0} (m : Seen N B W) (v : ℕ) (s s' : Site) (whole : Hand
   stepped (to_publish r key height ∷ below) (Took.Publish i k q) e (is, same_key, same_height, t) f (h, waits) =
       leaves t.list_is (tt, waits-on f below waits)
       (changed-reveals s.shelf s'.shelf KeyThere (identity_of r) (with_outcome (published key height)) t.table_is (λ old k2 h2 known. inr (λ kind. key-on f (h.0 kind))))
-  stepped (to_release r key height ∷ below) (Took.Release i) e (is, falls, t) f (h, waits) = stays t.table_stays.slots t.list_is (given s'.core v r key height below (waits-on f below waits))
-  stepped _ step e does f all = grind (arith, nat_tests, stays, leaves, of-some, known)
+  stepped _ step e does f all = grind (arith, nat_tests, stays, leaves, of-some, known, waits-on f, given)
 
 -- ---- what workers hold
 

@@ -228,8 +228,7 @@ module _ {N B W E : Type 0} (m : Seen N B W) (s s' : MachineState N E) (whole : 
   begin-ready : (l : LoadNumber) (event : Event N B W) (reply : EventReply N B W) → IsBeginOf l.0 event reply → Happens m (world_of s) event reply (world_of s') → Ready s' l
   begin-ready l (Event.LoadStart h) (EventReply.Started (Ok (Beginning.Load k key))) is x = by-call h k l key x.step x.readings is
   begin-ready l (Event.Call (Call.LoadBegin h)) (EventReply.CallReply (Reply.Begun (Ok (Beginning.Load k key)))) is x = by-call h k l key x.step.does x.readings is
-  begin-ready l (Event.LoadKey q t) (EventReply.Started (Ok (Beginning.Load k key))) is x = grind (arith, nat_tests)
-  begin-ready l event reply is x = absurd is
+  begin-ready l event reply is x = grind (arith, nat_tests)
 
   -- ---- steps
 
