@@ -47,7 +47,7 @@ module _ {N E : Type 0} (v : Values N) (s : MachineState N E) (trees : ℕ → T
   is-key : (task : Task) (key : ℕ) → IsDone v shelf task key → IsKeyOfTask v trees task key
   is-key (of_item written) key (keys, known, is, lows) =
       let k : KeyOfItem v.hash v.types written.bytes (kids_of trees written.references) key = record { keys = keys; each = keys-of keys-stand written.references keys known; is = is } in
-      (k, λ canonical other o. one_item_key v.hash v.types written.bytes (kids_of trees written.references) other key canonical o k)
+      (k, λ canonical other o. one_item_key.one v.hash v.types written.bytes (kids_of trees written.references) other key canonical o k)
   is-key (of_entry h i) key (height, p) = let k = (keys-stand i key height p).right.is_key in (k, λ canonical other o. one_key v.hash v.types (trees i.node.0) other key canonical o k)
 
   met : (task : Task) (key : ℕ) → IsDone v shelf task key → (i : Identity) → Meets shelf task i → (k : ℕ) × ((h : ℕ) × IsPublished shelf i k h)

@@ -1,19 +1,14 @@
 -- JSON numbers that have no form, and the entries of a hash map in whatever order they come.
-use Rattle.pagable_laws.proofs.Words.{arith, nat_tests, ◌≡◌, ℕ, ℤ, List, refl, IsSigned, Meaning, Shape, json, Form, whole, of_json, FloatHasNoForm, WholeIsBounded, cond, []}
-use Rattle.pagable_laws.proofs.Words.{◌∷◌, map, Option, None, sym, ap, ◌∙◌, T, bytes_eq-Decides, is_eq-slice_cmp, exact_bytes, pair, variant, reference, followed, plain}
-use Rattle.pagable_laws.proofs.Words.{rename, lifted, Entry, code, code_order, put_all, put_sorted, last_value, one-meaning, of_entries, IsOneKeyMeaning, IsAnyOrder}
-use Rattle.std.{specs.Int.w64, specs.Option.option_or, specs.Ordering.{eq_by_cmp}, specs.Cmp.IsTotalOrder}
-use Rattle.std.{specs.Cmp.Lexicographic.on_texts, specs.FinMap.Entries.{put, find, is_sorted, is_sorted-put, find-put, same_entries}}
-
-module _ {A : Type 0} {kind_of : A → ℕ} {parts : ℕ → Shape} where
-  bounded : (z : ℤ) {left : ℕ} {m : Meaning A} {b : List ℕ} {k : List A} → Form A kind_of parts left json m b k → m ≡ of_json (whole z) → IsSigned w64 z
-  bounded z x1 e = grind (arith, nat_tests)
+use Rattle.pagable_laws.proofs.Words.{Entry, FloatHasNoForm, IsAnyOrder, IsOneKeyMeaning, List, Meaning, None, Option, T, WholeIsBounded, [], ap, arith, bytes_eq-Decides, code, code_order, cond}
+use Rattle.pagable_laws.proofs.Words.{exact_bytes, followed, is_eq-slice_cmp, last_value, lifted, map, nat_tests, of_entries, one-meaning, pair, plain, put_all, put_sorted, reference, refl, rename}
+use Rattle.{pagable_laws.proofs.Words.{sym, variant, ◌∙◌, ◌∷◌, ◌≡◌}, std.specs.{Cmp.{IsTotalOrder, Lexicographic.on_texts}, FinMap.Entries.{find, find-put, is_sorted, is_sorted-put, put}}}
+use Rattle.std.specs.{FinMap.Entries.same_entries, Option.option_or, Ordering.eq_by_cmp}
 
 pub float_none : {A : Type 0} → FloatHasNoForm A
 float_none kind_of parts left x b k f = (grind (arith, nat_tests))
 
 pub whole_bounded : {A : Type 0} → WholeIsBounded A
-whole_bounded kind_of parts left z b k f = bounded z f refl
+whole_bounded kind_of parts left z b k f = grind (arith, nat_tests)
 
 plain_lifted : (A : Type 0) (m : Meaning ⊥) → plain (let x : Meaning A = lifted m in x) ≡ m
 unfolding plain rename

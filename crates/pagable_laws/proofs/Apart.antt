@@ -1,13 +1,13 @@
 -- What a blob asks for next depends on no more of the references that were got than their kinds; what one asks for that is a form of some value; and that what was read of it names no
 -- handle twice, where the handles that were got are apart.
-use Rattle.pagable_laws.proofs.Words.{nat_tests, ◌≡◌, ℕ, suc, ◌+◌, List, [], ◌∷◌, ◌++◌, map, length, Result, refl, ap, inl, arith, Option, Some, None, slice_get, Error, Rest, read_typed, Answer}
-use Rattle.pagable_laws.proofs.Words.{answer_at, handles_at, ArcRef, Kind, Blob, Shape, Types, Meaning, answer_of, answers_from, reads, asks, is_faulty, next_by, next_of, some_of, after_kinds, sym}
-use Rattle.pagable_laws.proofs.Words.{◌∙◌, ◌≤◌, ◌==◌, true, Ok, Err, subst, length-append, append_assoc, slice_get-get_or, append-nil, ◌>>=◌, rename, read, deepest, references_in, Form, kind_of_arc}
-use Rattle.pagable_laws.proofs.Words.{IsReadable, Throughout, is_eager, times, Frame, Next, next_in, rest, at, zero, false, inr, if◌then◌else◌, sum_by-cons, Owner, Among, is_in, one, Core, cases_lt}
-use Rattle.pagable_laws.proofs.{Words.{reference_fault, references_fault, IsReference}, Related.{no_cause, Out, both-given, both-refused, first-refused, OutLook, both-looked-up, both-not, read_par}}
-use Rattle.pagable_laws.proofs.{Related.{renamed, keeps_forms}, Along.{Along, AllTwo, no-two, more-two, refs-two, each-two}, Again.{form-again, Looked, all-looked, one-looked, not-looked}}
-use Rattle.{pagable_laws.proofs.Sums.{self-number, same-number, at-most-sum, counted, one-true}, pagable_world.specs.Loads.read_with, std.proofs.lemmas.Option.slice_get_past}
-use Rattle.std.proofs.lemmas.{List.{length-map, map-append}, Bool.cases_Bool}
+use Rattle.pagable_laws.proofs.{Again.{Looked, all-looked, form-again, not-looked, one-looked}, Along.{AllTwo, Along, each-two, more-two, no-two, refs-two}, Related.{Out, OutLook, both-given}}
+use Rattle.pagable_laws.proofs.{Related.{both-looked-up, both-not, both-refused, first-refused, keeps_forms, no_cause, read_par, renamed}, Sums.{at-most-sum, counted, one-true, same-number}}
+use Rattle.pagable_laws.proofs.{Sums.self-number, Words.{Among, Answer, ArcRef, Blob, Core, Err, Error, Form, Frame, IsReadable, IsReference, Kind, List, Meaning, Next, None, Ok, Option, Owner}}
+use Rattle.pagable_laws.proofs.Words.{Rest, Result, Shape, Some, Throughout, Types, [], after_kinds, answer_at, answer_of, answers_from, ap, append-nil, append_assoc, arith, asks, at, cases_lt}
+use Rattle.pagable_laws.proofs.Words.{deepest, false, handles_at, if◌then◌else◌, inl, inr, is_eager, is_faulty, is_in, kind_of_arc, length, length-append, map, nat_tests, next_by, next_in, next_of}
+use Rattle.pagable_laws.proofs.Words.{one, read, read_typed, reads, reference_fault, references_fault, references_in, refl, rename, rest, slice_get, slice_get-get_or, some_of, subst, suc}
+use Rattle.{pagable_laws.proofs.Words.{sum_by-cons, sym, times, true, zero, ℕ, ◌++◌, ◌+◌, ◌==◌, ◌>>=◌, ◌∙◌, ◌∷◌, ◌≡◌, ◌≤◌}, pagable_world.specs.Loads.read_with, std.proofs.lemmas.Bool.cases_Bool}
+use Rattle.std.proofs.lemmas.{List.{length-map, map-append}, Option.slice_get_past}
 
 abbrev pub kinds_of : List ArcRef → List ℕ
 kinds_of got = map (λ (r : ArcRef). r.kind.0) got

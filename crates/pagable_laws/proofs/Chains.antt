@@ -1,18 +1,17 @@
 -- Each event keeps trees: what it brings fits some trees afterwards, for which the machine stands then, with all that its loads read.
-use Rattle.pagable_laws.proofs.Words.{◌≡◌, ℕ, List, [], sym, subst, Event, EventReply, Tree, Among, Reading, Values, Seen, IsLawful, MachineState, world_of, IsMachineWhole, StandsFor}
-use Rattle.pagable_laws.proofs.Words.{EventBrings, IsReadingOf, HoldsSettled, ReadsItsTypes, TakesWell, AsksWell, IsWellAsked, Change, CoreGoes, IsSteppedReading, EventFeels, by-call, by-reading}
-use Rattle.pagable_laws.proofs.Words.{by-key, arith, nat_tests, by-nothing, KeysAreReady, ChangeFits, ◌+◌, ◌≤◌, Option, Some, refl, ◌∙◌, ◌∷◌, HandleNumber, IsIdle, IsPremised, Moment}
-use Rattle.pagable_laws.proofs.Words.{AreMoments, TreesAfter, TreesAlong, GivesTree, PinGives, IsRight, HasPin, PinHolds, WorkFits, KeysHeld, ◌==◌, ◌&&◌, Bool, true, false, ap, Ok, is_some}
-use Rattle.pagable_laws.proofs.Words.{sum_by-append, sum_by-cons, Identity, WorkerNumber, one, times, Took, WorkerReply, Shelf, Slot, Walking, World, Happens, WorkerSteps, step_of, steps_of}
-use Rattle.pagable_laws.proofs.Words.{is_claim_of, is_on_table, claims_made, ◌++◌, append_assoc, is_none, WorkerAnswer, HandleRow, owner_worker, is_owner, state_after, events_of, replies_of}
-use Rattle.pagable_laws.proofs.{Words.{InOrder, TableMeets, HasLetGo, StepsAreWithin, WorkerIsRight, WorkIsRight, HeadlineLaw}, Felt.{reading-fits, none-comes, fits-nothing, fits-key, call-fits}}
-use Rattle.pagable_laws.proofs.{Felt.trees-go-on, Fitting.tree-stays, ReadingSteps.{is-reading-of, event-goes, readings-on}, Trees.same_some, Answering.keys-right, Coming.{waits-well, StandsIn}}
-use Rattle.pagable_laws.proofs.{Coming.{event-turns, turns-stand, idle-stands, updated-at, EventTurns, Went, HasGone, goes-on}, Naming.{held-at-first, held-on, keys-ready}, Outlasting.pins-hold}
-use Rattle.pagable_laws.proofs.{Stepping.{fits-at-first, fits-on}, ReadingStepsGive.{reads-give, LoadsStand, event-on, step-within, idle-bounded, steps-left}, Taking.{pin_stands, Going, going-new}}
-use Rattle.pagable_laws.proofs.{Taking.{going-on, going-step, given-nodes}, Standing.{ShelfGrows, is-same, puts-slot, grows, true-false, KeepsTask, Turned, keeps-task, WalkingStands, is_open_in}}
-use Rattle.pagable_laws.proofs.{Once.{once_each, plus-none}, Sums.{sum-zero, one-small}, Taking.going-of}
-use Rattle.pagable_world.specs.Runs.{Does as DoesMoment}
-use Rattle.std.{proofs.Common.{append-nil, le_trans, rules}, proofs.lemmas.Bool.false_from_ne_true}
+use Rattle.pagable_laws.proofs.{Answering.keys-right, Coming.{EventTurns, HasGone, StandsIn, Went, event-turns, goes-on, idle-stands, turns-stand, updated-at, waits-well}, Felt.call-fits}
+use Rattle.pagable_laws.proofs.{Felt.{fits-key, fits-nothing, none-comes, reading-fits, trees-go-on}, Fitting.tree-stays, Naming.{held-at-first, held-on, keys-ready}, Once.once_each}
+use Rattle.pagable_laws.proofs.{Outlasting.pins-hold, ReadingSteps.{event-goes, is-reading-of, readings-on}, ReadingStepsGive.{LoadsStand, event-on, idle-bounded, reads-give, step-within}}
+use Rattle.pagable_laws.proofs.{ReadingStepsGive.steps-left, Standing.{KeepsTask, ShelfGrows, Turned, grows, is-same, is_open_in, keeps-task, puts-slot, true-false}, Stepping.fits-at-first}
+use Rattle.pagable_laws.proofs.{Stepping.fits-on, Sums.{one-small, sum-zero}, Taking.{Going, given-nodes, going-new, going-of, going-on, going-step, pin_stands}, Trees.same_some, Words.Among}
+use Rattle.pagable_laws.proofs.Words.{AreMoments, AsksWell, Bool, Change, ChangeFits, CoreGoes, Event, EventBrings, EventFeels, EventReply, Fact, GivesTree, HandleNumber, HandleRow, Happens}
+use Rattle.pagable_laws.proofs.Words.{HasLetGo, HasPin, HeadlineLaw, HoldsSettled, Identity, InOrder, IsIdle, IsLawful, IsMachineWhole, IsPremised, IsReadingOf, IsRight, IsSteppedReading}
+use Rattle.pagable_laws.proofs.Words.{IsWellAsked, KeysAreReady, KeysHeld, List, MachineState, Moment, Ok, Option, PinGives, PinHolds, Reading, ReadsItsTypes, Seen, Shelf, Slot, Some, StandsFor}
+use Rattle.pagable_laws.proofs.Words.{StepsAreWithin, TableMeets, TakesWell, Took, Tree, TreesAfter, TreesAlong, Values, Walking, WorkFits, WorkIsRight, WorkerAnswer, WorkerIsRight, WorkerNumber}
+use Rattle.pagable_laws.proofs.Words.{WorkerReply, WorkerSteps, World, [], ap, append_assoc, arith, by-call, by-key, by-nothing, by-reading, claims_made, events_of, false, is_claim_of, is_none}
+use Rattle.pagable_laws.proofs.Words.{is_on_table, is_owner, is_some, nat_tests, one, owner_worker, refl, replies_of, state_after, step_of, steps_of, subst, sum_by-append, sum_by-cons, sym, times}
+use Rattle.{pagable_laws.proofs.Words.{true, world_of, ℕ, ◌&&◌, ◌++◌, ◌+◌, ◌==◌, ◌∙◌, ◌∷◌, ◌≡◌, ◌≤◌}, pagable_world.specs.Runs.Does as DoesMoment, std.proofs.Common.{append-nil, le_trans, rules}}
+use Rattle.std.proofs.{Math.Nat.zero-add, lemmas.Bool.false_from_ne_true}
 
 module _ {N E B W : Type 0} (m : Seen N B W) (s : MachineState N E) (trees : ℕ → Tree) where
   reading-takes : (event : Event N B W) (reply : EventReply N B W) (reading : Reading) → IsSteppedReading (world_of s) event reading → IsWellAsked m.values s trees event reply
@@ -103,9 +102,17 @@ module _ {N E B W : Type 0} (m : Seen N B W) (lawful : IsLawful m.values) (reada
         on = record { whole = does.whole; work = work; settled = premised.settled; stands = stands; readings = readings; fits = fits; held = held };
       }
 
-  stay : (s : MachineState N E) (trees : ℕ → Tree) (moments : List (Moment N E B W)) → IsGoingOn m.values s trees → AreMoments m s moments → TreesAlong m (IsRight m.values) s trees moments
-  stay s trees [] on does = tt
-  stay s trees (x ∷ xs) on (does, more) = λ premised. let g = goes s trees x on does premised in (g.trees', g.after, stay x.after g.trees' xs g.on more)
+  -- what follows of each moment, and of what stays true of the machine and of the moments that are left, holds along each chain
+  pub along-with : (P : Fact N E B W) (I : MachineState N E → List (Moment N E B W) → Type 0)
+      → ((s : MachineState N E) (trees trees' : ℕ → Tree) (x : Moment N E B W) (xs : List (Moment N E B W)) → IsGoingOn m.values s trees → I s (x ∷ xs) → IsMachineWhole m.values x.after
+      → Happens m (world_of s) x.event x.reply (world_of x.after) → IsRight m.values s trees x.event x.reply x.after trees' → P s trees x.event x.reply x.after trees' × I x.after xs)
+      → (s : MachineState N E) (trees : ℕ → Tree) (moments : List (Moment N E B W)) → IsGoingOn m.values s trees → I s moments → AreMoments m s moments → TreesAlong m P s trees moments
+  along-with P I follows s trees [] on so does = tt
+  along-with P I follows s trees (x ∷ xs) on so (does, more) = λ premised.
+      let g = goes s trees x on does premised in
+      let a = g.after in
+      let f = follows s trees g.trees' x xs on so does.whole does.step.happens a.so in
+      (g.trees', record { keeps = a.keeps; stands = a.stands; so = f.0 }, along-with P I follows x.after g.trees' xs g.on f.1 more)
 
 -- What each chain comes to: claims, workers and loads; and with trees, the headline.
 
@@ -123,7 +130,7 @@ module _ {N B W : Type 0} (walkings : ℕ → Option Walking) (t : ℕ) (i : Ide
   pub claims-cons : (event : Event N B W) (reply : EventReply N B W) (more : List (Event N B W)) (rest : List (EventReply N B W))
       → claims_made walkings t i (event ∷ more) (reply ∷ rest) ≡ claim_made walkings t i event reply + claims_made walkings t i more rest
   unfolding claims_made
-  claims-cons x0 x1 more rest = grind (arith, nat_tests, plus-none)
+  claims-cons x0 x1 more rest = grind (arith, nat_tests, zero-add)
 
   -- what one worker of the table claimed is among them
   pub own-claims : (n : ℕ) (w : Walking) → walkings n ≡ Some w → w.table ≡ t → (happened : List (Event N B W)) (replied : List (EventReply N B W))
@@ -143,14 +150,11 @@ module _ {N B W : Type 0} (walkings : ℕ → Option Walking) (t : ℕ) (i : Ide
         → one (is_some ((u.work.shelves t).slots i)) + one (is_on_table t (walkings v.0) && is_claim_of i reply.took) ≤ one (is_some ((u'.work.shelves t).slots i))
     step-claims {v = v} reply s = grind (arith, nat_tests, on, is-still, after, slots-stay, puts-slot, is-same)
       where
-        w : Walking
-        w = s.walking
+        on : (b : Bool) → (s.walking.table == t) ≡ b → is_on_table t (walkings v.0) ≡ b
+        on b e = let k = keeps v.0 s.walking s.at in ap (is_on_table t) k.there ∙ (ap (λ q. q == t) k.table ∙ e)
 
-        on : (b : Bool) → (w.table == t) ≡ b → is_on_table t (walkings v.0) ≡ b
-        on b e = let k = keeps v.0 w s.at in ap (is_on_table t) k.there ∙ (ap (λ q. q == t) k.table ∙ e)
-
-        after : (u'.work.shelves w.table).slots i ≡ s.after.shelf.slots i
-        after = (s.work.same_shelves w.table).slots i ∙ ap (λ (x : Shelf). x.slots i) (updated-at w.table s.after.shelf u.work.shelves)
+        after : (u'.work.shelves s.walking.table).slots i ≡ s.after.shelf.slots i
+        after = (s.work.same_shelves s.walking.table).slots i ∙ ap (λ (x : Shelf). x.slots i) (updated-at s.walking.table s.after.shelf u.work.shelves)
 
     pub event-claims : (event : Event N B W) (reply : EventReply N B W) → Happens m u event reply u'
         → one (is_some ((u.work.shelves t).slots i)) + claim_made walkings t i event reply ≤ one (is_some ((u'.work.shelves t).slots i))
@@ -214,51 +218,43 @@ module _ {N E B W : Type 0} (m : Seen N B W) (s : MachineState N E) (work : Stan
   has-let-go : (n : ℕ) (walking : Walking) (answer : WorkerAnswer) → s.work.walkings n ≡ Some walking → walking.answer ≡ Some answer → HasLetGo (world_of s) n (s.work.shelves walking.table)
   unfolding is_open_in
   has-let-go n walking answer there is =
-      grind (arith, nat_tests, own, stands, sum-zero, false_from_ne_true, true-false, rests)
+      grind (arith, nat_tests, own, work.workers n walking there, sum-zero, false_from_ne_true, true-false, rests)
     where
-      stands : WalkingStands (s.work.shelves walking.table) n walking
-      stands = work.workers n walking there
-
       rests : s.pager.core.workers n ≡ false
       rests = (whole.walkings n walking there).at_work ∙ ap is_none is
 
       own : (h : HandleRow) → Among s.pager.core.rows h → (b : Bool) → is_owner (owner_worker n) h.owner ≡ b → one (is_owner (owner_worker n) h.owner) ≡ 0
       own h among x2 e = grind (arith, nat_tests, true-false, whole.pager.whole.owners_there.workers h n among, rests)
 
--- all that steps have come to, and that each step of a load was within its bound
-work-right : {N E B W : Type 0} (m : Seen N B W) (s : MachineState N E) (moments : List (Moment N E B W)) → IsMachineWhole m.values s → IsIdle s → AreMoments m s moments
-    → StepsAreWithin m.values s moments × WorkIsRight m (state_after s moments) (events_of moments) (replies_of moments)
-work-right {N} {E} {B} {W} m s moments whole idle chain =
-    let (all, within) = arrives m s moments chain whole (idle-stands s idle) (idle-bounded m.values.types s idle) in (
-      within,
-      record { claims_right = record { distinct = grind (arith, nat_tests, one-small); met = is-met m end all.work all.whole }; workers = worker all; loads = steps-left m.values end all.loads },
-    )
-  where
-    end : MachineState N E
-    end = state_after s moments
+-- all that steps have come to
+module _ {N E B W : Type 0} (m : Seen N B W) (s end : MachineState N E) (happened : List (Event N B W)) (replied : List (EventReply N B W)) (idle : IsIdle s)
+    (all : Arrives m s end happened replied) where
+  worker : (n : ℕ) (walking : Walking) → end.work.walkings n ≡ Some walking → WorkerIsRight m.written_of (world_of end) n walking (steps_of n happened replied)
+  worker n walking there =
+      let nobody : HasGone m.written_of n s.work.shelves (s.work.walkings n) [] = subst (λ o. HasGone m.written_of n s.work.shelves o []) (sym (idle.walkings n)) refl in
+      let went : Went m.written_of n (end.work.shelves walking.table) walking (steps_of n happened replied) =
+      subst (λ o. HasGone m.written_of n end.work.shelves o (steps_of n happened replied)) there (all.gone n [] nobody) in
+      let order : InOrder m.written_of walking.task (steps_of n happened replied) = record { left = walking.todo; leads = went.leads } in
+      record {
+        order = order;
+        once = once_each m.written_of walking.task (steps_of n happened replied) order
+            (λ i. le_trans (own-claims end.work.walkings walking.table i n walking there refl happened replied) (grind (arith, nat_tests, one-small)));
+        bounded = let within = went.within in omega arith;
+        met = went.met;
+        let_go = λ answer is. has-let-go m end all.work all.whole n walking answer there is;
+      }
 
-    happened : List (Event N B W)
-    happened = events_of moments
-
-    replied : List (EventReply N B W)
-    replied = replies_of moments
-
-    worker : Arrives m s end happened replied → (n : ℕ) (walking : Walking) → end.work.walkings n ≡ Some walking → WorkerIsRight m.written_of (world_of end) n walking (steps_of n happened replied)
-    worker all n walking there =
-        let nobody : HasGone m.written_of n s.work.shelves (s.work.walkings n) [] = subst (λ o. HasGone m.written_of n s.work.shelves o []) (sym (idle.walkings n)) refl in
-        let went : Went m.written_of n (end.work.shelves walking.table) walking (steps_of n happened replied) =
-        subst (λ o. HasGone m.written_of n end.work.shelves o (steps_of n happened replied)) there (all.gone n [] nobody) in
-        let order : InOrder m.written_of walking.task (steps_of n happened replied) = record { left = walking.todo; leads = went.leads } in
-        record {
-          order = order;
-          once = once_each m.written_of walking.task (steps_of n happened replied) order
-              (λ i. le_trans (own-claims end.work.walkings walking.table i n walking there refl happened replied) (grind (arith, nat_tests, one-small)));
-          bounded = let within = went.within in omega arith;
-          met = went.met;
-          let_go = λ answer is. has-let-go m end all.work all.whole n walking answer there is;
-        }
+  work-right : WorkIsRight m end happened replied
+  work-right =
+      record { claims_right = record { distinct = grind (arith, nat_tests, one-small); met = is-met m end all.work all.whole }; workers = worker; loads = steps-left m.values end all.loads }
 
 pub headline_law : {N B W : Type 0} (E : Type 0) (m : Seen N B W) → HeadlineLaw E m
 headline_law E m start moments whole idle chain =
-    let (within, work) = work-right m start moments whole idle chain in
-    record { chain = chain; work = work; loads = within; trees = λ trees stands lawful reads settled. (grind (arith, nat_tests, stay, idle-goes)) }
+    let (all, within) = arrives m start moments chain whole (idle-stands start idle) (idle-bounded m.values.types start idle) in
+    record {
+      chain = chain;
+      work = work-right m start (state_after start moments) (events_of moments) (replies_of moments) idle all;
+      loads = within;
+      trees = λ trees stands lawful reads settled. along-with m lawful reads (IsRight m.values) (λ s xs. Unit {0}) (λ s trees trees' x xs on so whole' happens right. (right, tt))
+          start trees moments (idle-goes m lawful reads start trees whole idle settled stands) tt chain;
+    }

@@ -1,15 +1,15 @@
 -- Heights that are known are those of trees: so no key is answered of what leads down too long a path, or to a value that has no form; and why a claim is too deep.
-use Rattle.pagable_laws.proofs.Words.{nat_tests, ◌≡◌, ℕ, ◌<◌, ◌≤◌, List, refl, sym, subst, ◌∙◌, arith, max, Some, pair, variant, followed, longest_path, above, height, deepest_path, ArcRef, Identity}
-use Rattle.pagable_laws.proofs.Words.{Meaning, Tree, Took, WorkerAnswer, identity_of, Shelf, Todo, Task, of_item, of_entry, Values, Seen, Site, Does, IsPublished, MachineState, world_of, IsLongBelow}
-use Rattle.pagable_laws.proofs.Words.{IsTooDeepTask, Ground, FollowsTo, pair-leads, variant-leads, reference-leads, followed-leads, Waits, Walks, WorkFits, Bool, true, ap, inl, inr, TreeForm, tree}
-use Rattle.pagable_laws.proofs.Words.{type_of, Among, Written, kids_of, Reaches, refers, refers-on, in-first, in-rest, in-part, HasNoForm, LeadsToNoForm, IsFormlessTask, ground_of, WroteTree}
-use Rattle.pagable_laws.proofs.Words.{BlobStands, IsDone, ◌⊎◌, [], ◌∷◌, Ok, Err, Event, EventReply, Error, to_start, Walking, IsLawful, Happens, IsMetFailure, IsMachineWhole, IsIdle, StandsFor}
-use Rattle.pagable_laws.proofs.Words.{ReadsItsTypes, HoldsSettled, Moment, AreMoments, Fact, TreesAlong, KeyIsShallow, ShallowLaw, MetDepthAlone, DepthIsTold, ToldDepthLaw, WaitsForAsker, ClaimIsDeep}
-use Rattle.pagable_laws.proofs.Words.{DeepClaimLaw, IsLow, AllLow, if◌then◌else◌, suc, zero, ◌+◌, Claims, Core, Expects, IsAttained, IsTooDeep, Types, is_eager, is_identity, kind_of_arc, place_over}
-use Rattle.pagable_laws.proofs.{Words.{to_finish, to_item}, Trees.{same_some, tree_is}, Following.{known-of, tree-form}, Coming.{StandsIn, updated-at}, Answering.answered, Chains.headline_law}
-use Rattle.pagable_laws.proofs.{Chains.{IsGoingOn, idle-goes, goes}, Standing.{AllStand, Covers, is-same, is_open_in}, Along.{Along, each-two, form-along, number-along, integer-along, text-along}}
-use Rattle.pagable_laws.proofs.{Along.{pattern-along, none-along, pair-along, variant-along, reference-along}, Stepping.next-among}
-use Rattle.std.proofs.{Common.le_trans, lemmas.Bool.or_cases}
+use Rattle.pagable_laws.proofs.Along.{Along, each-two, form-along, integer-along, none-along, number-along, pair-along, pattern-along, reference-along, text-along, variant-along}
+use Rattle.pagable_laws.proofs.{Answering.answered, Chains.{IsGoingOn, along-with, headline_law, idle-goes}, Coming.{StandsIn, updated-at}, Following.{known-of, tree-form}, Standing.AllStand}
+use Rattle.pagable_laws.proofs.{Standing.{Covers, is-same, is_open_in}, Stepping.next-among, Trees.{same_some, tree_is}, Words.{AllLow, Among, ArcRef, AreMoments, BlobStands, Bool, ClaimIsDeep}}
+use Rattle.pagable_laws.proofs.Words.{Claims, Core, DepthIsTold, Does, Err, Error, Event, EventReply, Expects, Fact, FollowsTo, Ground, Happens, HasNoForm, HoldsAlong, HoldsSettled, Identity}
+use Rattle.pagable_laws.proofs.Words.{IsAttained, IsDone, IsFormlessTask, IsIdle, IsLawful, IsLongBelow, IsLow, IsMachineWhole, IsMetFailure, IsPublished, IsTooDeep, IsTooDeepTask, KeyIsShallow}
+use Rattle.pagable_laws.proofs.Words.{LeadsToNoForm, List, MachineState, Meaning, MetDepthAlone, Moment, Ok, Reaches, ReadsItsTypes, Seen, Shelf, Site, Some, StandsFor, Task, Todo, Took, Tree}
+use Rattle.pagable_laws.proofs.Words.{TreeForm, TreesAlong, Types, Values, Waits, WaitsForAsker, Walking, Walks, WorkFits, WorkerAnswer, Written, WroteTree, above, ap, arith, deepest_path}
+use Rattle.pagable_laws.proofs.Words.{followed, followed-leads, ground_of, height, identity_of, if◌then◌else◌, in-first, in-part, in-rest, inl, inr, is_eager, is_identity, kids_of, kind_of_arc}
+use Rattle.pagable_laws.proofs.Words.{longest_path, max, nat_tests, of_entry, of_item, pair, pair-leads, place_over, reference-leads, refers, refers-on, refl, subst, suc, sym, to_finish, to_item}
+use Rattle.{pagable_laws.proofs.Words.{to_start, tree, true, type_of, variant, variant-leads, world_of, zero, ℕ, ◌+◌, ◌<◌, ◌∙◌, ◌∷◌, ◌≡◌, ◌≤◌, ◌⊎◌}, std.proofs.Common.le_trans}
+use Rattle.std.proofs.lemmas.Bool.{or_cases}
 
 -- ---- what a tree's references lead to is part of it
 
@@ -182,10 +182,6 @@ module _ {N E : Type 0} (v : Values N) (s : MachineState N E) (trees : ℕ → T
       let d = p.deepest in
       absurd (omega arith)
 
-  pub task-not-deep : (task : Task) (key : ℕ) → IsDone v shelf task key → IsTooDeepTask trees task → ⊥
-  task-not-deep (of_item written) key (keys, known, is, lows) (r, among, long) = not-long r (lows r among) long
-  task-not-deep (of_entry h i) key (h2, p) long = let a = shallow-tree i key h2 p in let d = a.deepest in absurd (omega arith)
-
   -- ---- and the tree has a form, and so has each that it reaches
 
   -- its own value has a form
@@ -224,10 +220,13 @@ module _ {N E : Type 0} (v : Values N) (s : MachineState N E) (trees : ℕ → T
   has-forms i key height p (inl formless) = has-form i (known i key height p) formless
   has-forms i key height p (inr (u, reach, formless)) = let k = known i key height p in below-has-form k.written.references (each-below k) reach k.wrote.follows refl formless
 
-  -- a task that has come to a key is of no value that has no form
-  pub task-has-forms : (task : Task) (key : ℕ) → IsDone v shelf task key → IsFormlessTask v.types trees task → ⊥
-  task-has-forms (of_item written) key (keys, each, is, lows) (r, among, formless) = let p = known-of shelf written.references keys each r among in has-forms (identity_of r) p.0 p.1.0 p.1.1 formless
-  task-has-forms (of_entry h i) key (height, p) formless = has-forms i key height p formless
+  -- a task that has come to a key leads down no path that is too long, and to no value that has no form
+  task-is-fine : (task : Task) (key : ℕ) → IsDone v shelf task key → (¬ IsTooDeepTask trees task) × (¬ IsFormlessTask v.types trees task)
+  task-is-fine (of_item written) key (keys, each, is, lows) = (
+    λ (r, among, long). not-long r (lows r among) long,
+    λ (r, among, formless). let p = known-of shelf written.references keys each r among in has-forms (identity_of r) p.0 p.1.0 p.1.1 formless,
+  )
+  task-is-fine (of_entry h i) key (top, p) = (λ long. let d = (shallow-tree i key top p).deepest in absurd (omega arith), has-forms i key top p)
 
 module _ {N B W E : Type 0} (m : Seen N B W) (s s' : MachineState N E) (trees trees' : ℕ → Tree) (fit : WorkFits m.values s trees) where
   key-is-shallow : (event : Event N B W) (reply : EventReply N B W) → Happens m (world_of s) event reply (world_of s') → KeyIsShallow m.values s trees event reply s' trees'
@@ -237,10 +236,8 @@ module _ {N B W E : Type 0} (m : Seen N B W) (s s' : MachineState N E) (trees tr
       let site : Site = record { core = s.pager.core; shelf = s.work.shelves w.walking.table; todo = w.walking.todo } in
       let walks = fit.walks n.0 w.walking w.at in
       let a = answered m n.0 (ground_of s trees) w.walking.task site w.after w.walking.todo reply.took w.does.does walks key (sym w.answers ∙ e) in
-      subst (λ (x : Walking). (¬ IsTooDeepTask trees x.task) × (¬ IsFormlessTask m.values.types trees x.task)) same (
-        task-not-deep m.values s trees fit w.walking.table w.walking.task key a.done,
-        task-has-forms m.values s trees fit w.walking.table w.walking.task key a.done,
-      )
+      subst (λ (x : Walking). (¬ IsTooDeepTask trees x.task) × (¬ IsFormlessTask m.values.types trees x.task)) same
+      (task-is-fine m.values s trees fit w.walking.table w.walking.task key a.done)
   key-is-shallow event reply is = tt
 
 -- what a worker answers that leads down so, and met no other refusal
@@ -283,19 +280,6 @@ module _ {N B W E : Type 0} (m : Seen N B W) (s s' : MachineState N E) (trees tr
   claim-is-deep : (event : Event N B W) (reply : EventReply N B W) → Happens m (world_of s) event reply (world_of s') → ClaimIsDeep s trees event reply s' trees'
   claim-is-deep x0 x1 is = grind (arith, nat_tests, same_some, of-claim)
 
--- what follows of each moment, and of what stays true of the machine and of the moments that are left, holds along each chain
-pub along-with : {N B W E : Type 0} (m : Seen N B W) (P : Fact N E B W) (I : MachineState N E → List (Moment N E B W) → Type 0) → IsLawful m.values → ReadsItsTypes m.values.types
-    → ((s : MachineState N E) (trees trees' : ℕ → Tree) (x : Moment N E B W) (xs : List (Moment N E B W)) → IsGoingOn m.values s trees → I s (x ∷ xs)
-    → IsMachineWhole m.values x.after → Happens m (world_of s) x.event x.reply (world_of x.after) → P s trees x.event x.reply x.after trees' × I x.after xs)
-    → (s : MachineState N E) (trees : ℕ → Tree) (moments : List (Moment N E B W)) → IsGoingOn m.values s trees → I s moments → AreMoments m s moments
-    → TreesAlong m P s trees moments
-along-with m P I lawful readable follows s trees [] on so does = tt
-along-with m P I lawful readable follows s trees (x ∷ xs) on so (does, more) = λ premised.
-    let g = goes m lawful readable s trees x on does premised in
-    let a = g.after in
-    let f = follows s trees g.trees' x xs on so does.whole does.step.happens in
-    (g.trees', record { keeps = a.keeps; stands = a.stands; so = f.0 }, along-with m P I lawful readable follows x.after g.trees' xs g.on f.1 more)
-
 module _ {N B W E : Type 0} (m : Seen N B W) (lawful : IsLawful m.values) (readable : ReadsItsTypes m.values.types) (P : Fact N E B W) where
   pub along-first : ((s s' : MachineState N E) (trees trees' : ℕ → Tree) (event : Event N B W) (reply : EventReply N B W) → IsGoingOn m.values s trees
       → Happens m (world_of s) event reply (world_of s') → P s trees event reply s' trees')
@@ -303,14 +287,14 @@ module _ {N B W E : Type 0} (m : Seen N B W) (lawful : IsLawful m.values) (reada
       → StandsFor m.values s trees → HoldsSettled m.values s.pager
       → TreesAlong m P s trees moments
   along-first follows s moments trees whole idle chain stands settled =
-      along-with m P (λ s xs. Unit {0}) lawful readable (λ s trees trees' x xs on so whole happens. (follows s x.after trees trees' x.event x.reply on happens, tt))
+      along-with m lawful readable P (λ s xs. Unit {0}) (λ s trees trees' x xs on so whole happens right. (follows s x.after trees trees' x.event x.reply on happens, tt))
       s trees moments (idle-goes m lawful readable s trees whole idle settled stands) tt chain
 
-pub shallow_law : {N B W : Type 0} (E : Type 0) (m : Seen N B W) → ShallowLaw E m
+pub shallow_law : {N B W : Type 0} (E : Type 0) (m : Seen N B W) → HoldsAlong E m (KeyIsShallow m.values)
 shallow_law E m start moments trees whole idle chain stands lawful readable settled = grind (arith, along-first, key-is-shallow)
 
-pub told_depth_law : {N B W : Type 0} (E : Type 0) (m : Seen N B W) → ToldDepthLaw E m
+pub told_depth_law : {N B W : Type 0} (E : Type 0) (m : Seen N B W) → HoldsAlong E m (DepthIsTold m)
 told_depth_law E m start moments trees whole idle chain stands lawful readable settled = grind (arith, along-first, depth-is-told, key-is-shallow)
 
-pub deep_claim_law : {N B W : Type 0} (E : Type 0) (m : Seen N B W) → DeepClaimLaw E m
+pub deep_claim_law : {N B W : Type 0} (E : Type 0) (m : Seen N B W) → HoldsAlong E m ClaimIsDeep
 deep_claim_law E m start moments trees whole idle chain stands lawful readable settled = grind (arith, along-first, claim-is-deep)

@@ -1,15 +1,15 @@
 -- What a step does: how it is felt, which handles and loads it leaves to others, and that the cache goes on to give for a kind and a key what it gave, as long as the node is held as the
 -- kind asks. The parts of which each call is made.
-use Rattle.pagable_laws.proofs.Words.{◌≡◌, ℕ, ◌<◌, ◌≤◌, ◌==◌, ◌&&◌, Bool, true, List, ◌++◌, Option, Some, None, inl, inr, refl, ap, subst, ◌∙◌, if◌then◌else◌, arith, Result, not, nat_lt, is_some}
-use Rattle.pagable_laws.proofs.Words.{and_parts, nat_tests, OptionalDataKey, HandleRow, Error, Among, updated, if_there, one, is_pinned_kind, is_pinning, is_pin, is_at, is_in_memory, pins, held, Core}
-use Rattle.pagable_laws.proofs.Words.{Cell, Alike, usable, Falls, left_rows, fallen, suc, zero, false, [], ◌∷◌, sym, slice_get, Owner, Mode, ArcRef, HandleNumber, LoadNumber, NodeNumber, changed}
-use Rattle.pagable_laws.proofs.Words.{find_row, is_handle, is_owner, is_owned_by, owner_worker, nobody, only_handle, Owns, with_handle, with_mode, moved, is_named_by, is_owned_in, OwnersAreThere}
-use Rattle.pagable_laws.proofs.Words.{AreGood, Blob, Kind, is_in, named_fault, numbers_of, owner_value, with_cached, with_node, without_load, ◌+◌, row_of, is_load_of, is_workers, is_workers_at}
-use Rattle.pagable_laws.proofs.{Words.{OpenLoad, earlier, Change, nothing_felt, sets_key, Knows, Bears, Root, with_load, with_key, is_loose}, Sums.{same-number, self-number}}
-use Rattle.pagable_laws.proofs.{Sums.{at-most-sum, counted, one-true}, Decoding.among-either, Trees.same_some, GoodReferences.same-owner, Outlasting.{among-kept, NotValues, Stands, stands-alike}}
-use Rattle.pagable_laws.proofs.{Outlasting.{stands-changed, stands-fell, stands-more, Has}, Goes.{found-number, le-more, none-in-next, Goes, Quiet, IsShut, NotLoads, rows-self, rows-mode, rows-moved}}
-use Rattle.pagable_laws.proofs.Goes.{alike, parts, quiet-self, only-rows, a-handle, quiet-goes, goes-quiet, born, keyed, goes-then, goes-known, le-self, fell as quiet-fell}
-use Rattle.{pagable_world.specs.Refusals.OwnsLoad, std.proofs.{Common.rules, lemmas.Bool.{false_from_ne_true, cases_Bool}}}
+use Rattle.pagable_laws.proofs.{Decoding.among-either, Goes.{Goes, IsShut, NotLoads, Quiet, a-handle, alike, born, fell as quiet-fell, found-number, goes-known, goes-quiet, goes-then, keyed}}
+use Rattle.pagable_laws.proofs.{Goes.{le-more, le-self, none-in-next, only-rows, parts, quiet-goes, quiet-self, rows-mode, rows-moved, rows-self}, GoodReferences.same-owner, Outlasting.Has}
+use Rattle.pagable_laws.proofs.{Outlasting.{NotValues, Stands, among-kept, stands-alike, stands-changed, stands-fell, stands-more}, Sums.{at-most-sum, counted, one-true, same-number, self-number}}
+use Rattle.pagable_laws.proofs.{Trees.same_some, Words.{Alike, Among, ArcRef, AreGood, Bears, Blob, Bool, Cell, Change, Core, Error, Falls, HandleNumber, HandleRow, Kind, Knows, List, LoadNumber}}
+use Rattle.pagable_laws.proofs.Words.{Mode, NodeNumber, None, OpenLoad, Option, OptionalDataKey, Owner, OwnersAreThere, Owns, Result, Root, Some, [], and_parts, ap, arith, changed, earlier, fallen}
+use Rattle.pagable_laws.proofs.Words.{false, find_row, held, if_there, if◌then◌else◌, inl, inr, is_at, is_handle, is_in, is_in_memory, is_load_of, is_loose, is_named_by, is_owned_by, is_owned_in}
+use Rattle.pagable_laws.proofs.Words.{is_owner, is_pin, is_pinned_kind, is_pinning, is_some, is_workers, is_workers_at, left_rows, moved, named_fault, nat_lt, nat_tests, nobody, not, nothing_felt}
+use Rattle.pagable_laws.proofs.Words.{numbers_of, one, only_handle, owner_value, owner_worker, pins, refl, row_of, sets_key, slice_get, subst, suc, sym, true, updated, usable, with_cached}
+use Rattle.pagable_laws.proofs.Words.{with_handle, with_key, with_load, with_mode, with_node, without_load, zero, ℕ, ◌&&◌, ◌++◌, ◌+◌, ◌<◌, ◌==◌, ◌∙◌, ◌∷◌, ◌≡◌, ◌≤◌}
+use Rattle.{pagable_world.specs.Refusals.OwnsLoad, std.proofs.{Common.rules, lemmas.Bool.{cases_Bool, false_from_ne_true}}}
 
 module _ (kind key n : ℕ) where
   -- the cache has the node under kind and key, and it is there
@@ -25,10 +25,6 @@ module _ (kind key n : ℕ) where
     pub pins_it : is_pinned_kind kind ≡ true → is_pinning row.mode ≡ true
 
   -- ---- what can be used
-
-  -- what the node's cell makes of the entry
-  abbrev of_node : Core → Option Cell → Option ℕ
-  of_node w c = if_there (λ (x : Cell). if is_pinned_kind kind && not (is_in_memory (pins n w.rows) x.key) then None else Some n) None c
 
   at-row : (row : HandleRow) → row.node.0 ≡ n → (row.node.0 == n) ≡ true
   at-row row at = ap (λ (x : ℕ). x == n) at ∙ self-number n
@@ -159,10 +155,6 @@ module _ (mine : Owner) where
   pub moved-free : {last : ℕ} {rows : List HandleRow} {q : ℕ} {row : HandleRow} (set : ℕ → Bool) (owner : Owner) → set q ≡ false → Stands last rows q row → Stands last (moved set owner rows) q row
   moved-free set owner free s = unchanged (λ h. set h.number.0) (λ h. record h { owner = owner }) (λ h. refl) (ap set (row-number s) ∙ free) s
 
-  -- two rows of one number
-  same-row : {last : ℕ} {rows : List HandleRow} {q n : ℕ} {row : HandleRow} (r : HandleRow) → Stands last rows q row → find_row n rows ≡ Some r → q ≡ n → row.owner ≡ r.owner
-  same-row {rows = rows} r s found same = ap (λ (x : HandleRow). x.owner) (same_some _ _ (sym s.live ∙ ap (λ n. find_row n rows) same ∙ found))
-
   -- a handle of another's isn't the owner's
   pub other-handle : {w : Core} {me : Owner} {fits : Mode → Bool} (h : HandleNumber) (r : HandleRow) → (me ≡ mine → ⊥) → Owns w me h fits r → Free w (only_handle h)
   other-handle {w} {me} h r other owns = grind (arith, nat_tests)
@@ -173,7 +165,7 @@ module _ (mine : Owner) where
     each = λ q row own s. false_from_ne_true (is_named_by rs q) (λ e.
         let a = named-among rs q e in
         let is = right a.0 a.1 in
-        other (sym is.owned ∙ (sym (same-row is.row s is.live (sym a.2)) ∙ own)));
+        other (sym is.owned ∙ (ap (λ (x : HandleRow). x.owner) (same_some _ _ (sym is.live ∙ (ap (λ n. find_row n w.rows) a.2 ∙ s.live))) ∙ own)));
   }
 
   -- an entry of the list isn't the owner's

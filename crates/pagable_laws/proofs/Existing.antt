@@ -143,7 +143,7 @@ given-least rows keyed entries given nothing = record {
 }
 
 pub given_alone : IsGivenAlone
-given_alone rows keyed entries given s h nothing least among = least_is_one rows keyed entries given s given h least (given-least rows keyed entries given nothing) among
+given_alone = record { same = λ rows keyed entries given s h nothing least among. least_is_one rows keyed entries given s given h least (given-least rows keyed entries given nothing) among }
 
 -- ---- a value of two levels, and a lone cell
 

@@ -1,17 +1,16 @@
 -- What each step brings fits some trees afterwards: where a pager stands for trees, each value and key leads to its node's tree by its own references alone, and from
 -- this it stands for them again, so that what is asked of a node is shown at each node by itself.
-use Rattle.pagable_laws.proofs.Words.{nat_tests, ◌≡◌, ℕ, zero, ◌<◌, ◌&&◌, Bool, true, false, Option, Some, None, refl, sym, ap, ◌∙◌, subst, is_some, OptionalDataKey, number, integer, text, pattern}
-use Rattle.pagable_laws.proofs.Words.{none, pair, variant, reference, followed, references_in, ArcRef, Meaning, Tree, tree, type_of, ReadsTree, Among, held, is_in_memory, Core, Values, IsLawful}
-use Rattle.pagable_laws.proofs.Words.{key_at, IsReference, PagerState, WellFormed, NodeStands, here, away, MeaningStands, number-stands, integer-stands, text-stands, pattern-stands, none-stands}
-use Rattle.pagable_laws.proofs.Words.{pair-stands, variant-stands, followed-stands, reference-stands, Represents, HoldsSettled, LeadsTo, number-leads, integer-leads, text-leads, arith, pattern-leads}
-use Rattle.pagable_laws.proofs.Words.{none-leads, pair-leads, variant-leads, followed-leads, reference-leads, ValueLeads, NodeLeads, ◌≤◌, ◌⊎◌, inl, inr, NodeNumber, HandleNumber, OpenLoad, of_cell}
-use Rattle.pagable_laws.proofs.Words.{Moves, ReadsNodeTree, KeyFits, Change, CoreGoes, SameNode, ChangeFits, ◌+◌, ◌==◌, if◌then◌else◌, Owner, Call, Reply, updated, is_pinned_kind}
-use Rattle.pagable_laws.proofs.Words.{first_key, SameTrees, CallBrings, IsNewNode, AsksWell, nothing_felt, sets_key, knows_node, bears_node, bears_known, StaysAway, AreGood, CallFeels, feels-nothing}
-use Rattle.pagable_laws.proofs.Words.{feels-birth, feels-away, feels-key, feels-known, feels-adopted, feels-lazy, feels-end, List, [], ◌∷◌, LoadAnswer, Reading, Frame, ReadsRoot, ReadingBrings}
-use Rattle.pagable_laws.proofs.{Words.{IsCellOf, FramesFit, ReadingFits, ReadsItsTypes, TakesWell, FramesGiven, ReadingFeels, gets-lazy, makes-node}, Trees.{same_some, tree_is, one_tree}}
-use Rattle.pagable_laws.proofs.{Decoding.{meant-refs, decodes}, Following.{one-node, given-of, cell-of, held-of, halves, leads-on, stands-leads}, Related.along-rename, Fitting.tree-stays}
-use Rattle.pagable_laws.proofs.Fitting.{node-stays, first-fits}
-use Rattle.{pagable_laws.proofs.{Coming.updated-at, ReadingSteps.{old-node, new-node}, Taking.{root-key, node-decoded}}, std.proofs.Common.rules}
+use Rattle.pagable_laws.proofs.{Coming.updated-at, Decoding.{decodes, meant-refs}, Fitting.{first-fits, node-stays, tree-stays}, Following.{cell-of, given-of, halves, held-of, leads-on, one-node}}
+use Rattle.pagable_laws.proofs.{Following.stands-leads, ReadingSteps.{new-node, old-node}, Related.along-rename, Taking.{node-decoded, root-key}, Trees.{one_tree, same_some, tree_is}, Words.Among}
+use Rattle.pagable_laws.proofs.Words.{ArcRef, AreGood, AsksWell, Bool, Call, CallBrings, CallFeels, Change, ChangeFits, Core, CoreGoes, Frame, FramesFit, FramesGiven, HandleNumber, HoldsSettled}
+use Rattle.pagable_laws.proofs.Words.{IsCellOf, IsLawful, IsNewNode, IsReference, KeyFits, LeadsTo, List, LoadAnswer, Meaning, MeaningStands, Moves, NodeLeads, NodeNumber, NodeStands, None}
+use Rattle.pagable_laws.proofs.Words.{OpenLoad, Option, OptionalDataKey, Owner, PagerState, Reading, ReadingBrings, ReadingFeels, ReadingFits, ReadsItsTypes, ReadsNodeTree, ReadsRoot, ReadsTree}
+use Rattle.pagable_laws.proofs.Words.{Reply, Represents, SameNode, SameTrees, Some, StaysAway, TakesWell, Tree, ValueLeads, Values, WellFormed, [], ap, arith, away, bears_known, bears_node}
+use Rattle.pagable_laws.proofs.Words.{cases_lt, false, feels-adopted, feels-away, feels-birth, feels-end, feels-key, feels-known, feels-lazy, feels-nothing, first_key, followed, followed-leads}
+use Rattle.pagable_laws.proofs.Words.{followed-stands, gets-lazy, held, here, if◌then◌else◌, inl, inr, integer, integer-leads, integer-stands, is_pinned_kind, is_some, key_at, knows_node}
+use Rattle.pagable_laws.proofs.Words.{makes-node, nat_tests, none, none-leads, none-stands, nothing_felt, number, number-leads, number-stands, of_cell, pair, pair-leads, pair-stands, pattern}
+use Rattle.pagable_laws.proofs.Words.{pattern-leads, pattern-stands, reference, reference-leads, reference-stands, references_in, refl, sets_key, subst, sym, text, text-leads, text-stands, tree}
+use Rattle.{pagable_laws.proofs.Words.{true, type_of, updated, variant, variant-leads, variant-stands, zero, ℕ, ◌+◌, ◌<◌, ◌==◌, ◌∙◌, ◌∷◌, ◌≡◌, ◌≤◌, ◌⊎◌}, std.proofs.Common.rules}
 
 -- a meaning whose references' nodes have trees of their kinds' types leads to one
 pub led : {trees : ℕ → Tree} (x : Meaning ArcRef) → ((r : ArcRef) → Among (references_in x) r → (trees r.node.0).type ≡ type_of r.kind.0) → (a : Meaning ⊥) × LeadsTo trees x a
@@ -39,14 +38,10 @@ own-refs lawful x own means r among = meant-refs _ _ (λ is. sym (lawful.refers 
 -- a value whose references were given leads to its tree where those nodes keep their trees
 pub value-on : {N : Type 0} {v : Values N} → IsLawful v → (last : ℕ) {trees trees' : ℕ → Tree} {x : N} {t : Tree} → SameTrees last trees trees'
     → ((r : ArcRef) → Among (v.references x) r → r.node.0 ≤ last) → ValueLeads v trees x t → ValueLeads v trees' x t
-value-on lawful last {x = x} same few l =
-    record {
-      own = l.own;
-      typed = l.typed;
-      means = l.means;
-      leads = leads-on l.leads
-          (λ r among typed. let e = same r.node.0 (few r (own-refs lawful x l.own l.means r among)) in (ap (λ (t : Tree). t.type) e ∙ typed, e));
-    }
+value-on lawful last {trees' = trees'} {x = x} {t = t} same few l =
+    let leads : LeadsTo trees' l.own t.meaning = leads-on l.leads
+    (λ r among typed. let e = same r.node.0 (few r (own-refs lawful x l.own l.means r among)) in (ap (λ (t : Tree). t.type) e ∙ typed, e)) in
+    search (l.typed, l.means)
 
 module _ {N E : Type 0} {v : Values N} {s : PagerState N E} {trees : ℕ → Tree} (lawful : IsLawful v) where
   module _ (settled : HoldsSettled v s) (well : WellFormed v s) (stands : Represents v s trees) where
@@ -59,13 +54,9 @@ module _ {N E : Type 0} {v : Values N} {s : PagerState N E} {trees : ℕ → Tre
     pub value-leads : (x : N) (own : Meaning ArcRef) (t : Tree) (owner : _) → v.node_type x ≡ t.type → v.means x own → MeaningStands v s own t.meaning
         → ((r : ArcRef) → Among (v.references x) r → IsReference s.core owner r) → ValueLeads v trees x t
     value-leads x own t owner typed means meant good =
-        record {
-          own = own;
-          typed = typed;
-          means = means;
-          leads = stands-leads meant (along-rename (λ r. r) own)
-              (λ r among c same b node. node-tree owner r b (good r (own-refs lawful x own means r among)) node);
-        }
+        let leads : LeadsTo trees own t.meaning = stands-leads meant (along-rename (λ r. r) own)
+        (λ r among c same b node. node-tree owner r b (good r (own-refs lawful x own means r among)) node) in
+        search
 
     -- so does each value in memory; and each key reads as its node's tree
     node-leads : {n : ℕ} {t : Tree} → NodeStands v s n t → t ≡ trees n → NodeLeads v s trees n
@@ -79,17 +70,15 @@ module _ {N E : Type 0} {v : Values N} {s : PagerState N E} {trees : ℕ → Tre
 
 -- ---- and back
 
-key-of-away : (pinned : ℕ) (key : OptionalDataKey) → is_in_memory pinned key ≡ false → (k : ℕ) × (key ≡ OptionalDataKey.Some k)
-key-of-away pinned x1 is = grind (arith, nat_tests)
-
-both-false : (a b : Bool) → a ≡ true → false ≡ (a && b) → b ≡ false
-both-false x0 b e f = grind (arith, nat_tests)
-
 -- the nodes of the references are live
 abbrev pub AreLive : Core → Meaning ArcRef → Type 0
 AreLive w x = (r : ArcRef) → Among (references_in x) r → 0 < held r.node.0 w.rows
 
 module _ {N E : Type 0} {v : Values N} {s : PagerState N E} {trees : ℕ → Tree} (lawful : IsLawful v) (well : WellFormed v s) (all : (n : ℕ) → 0 < held n s.core.rows → NodeLeads v s trees n) where
+  -- what has no value in memory has a key
+  gone : (n : ℕ) → 0 < held n s.core.rows → s.values n ≡ None → (k : ℕ) × (key_at s.core n ≡ OptionalDataKey.Some k)
+  gone n live is = grind (arith, nat_tests, cell-of well.whole.handles n live, well.valued n)
+
   node-by : (n : ℕ) → 0 < held n s.core.rows → ((own : Meaning ArcRef) → LeadsTo trees own (trees n).meaning → AreLive s.core own → MeaningStands v s own (trees n).meaning)
       → NodeStands v s n (trees n)
   node-by n live follow = at (s.values n) refl
@@ -100,9 +89,7 @@ module _ {N E : Type 0} {v : Values N} {s : PagerState N E} {trees : ℕ → Tre
           let refs : AreLive s.core l.own = λ r among. (given-of well.whole.handles r.node.0 (well.references n x r is (own-refs lawful x l.own l.means r among)).typed).0 in
           here n x l.own (trees n) is l.typed l.means (follow l.own l.leads refs) (all n live).keyed
       at None is =
-          let gone : is_some (s.values n) ≡ false = ap is_some is in
-          let there = both-false (is_some (s.core.cells n)) _ (cell-of well.whole.handles n live) (sym gone ∙ well.valued n) in
-          let k = key-of-away _ _ there in
+          let k = gone n live is in
           away n k.0 (trees n) is k.1 (all n live).keyed
 
   stand : (m : Meaning ⊥) {own : Meaning ArcRef} {a : Meaning ⊥} → LeadsTo trees own a → m ≡ a → AreLive s.core own → MeaningStands v s own a
@@ -119,9 +106,6 @@ module _ {N E : Type 0} {v : Values N} {s : PagerState N E} {trees : ℕ → Tre
       reference-stands r a (subst (λ (t : Tree). NodeStands v s r.node.0 t) (tree_is _ _ _ _ typed meant) (node-by r.node.0 (h r (zero, refl)) (λ z l k. stand c l same k)))
   stand m (number-leads i) e h = number-stands i
   stand m l e h = first_of (search (integer-stands, text-stands, pattern-stands, none-stands), cc)
-
-pub either-side : (n last : ℕ) → (n ≤ last) ⊎ (last < n)
-either-side n last = grind (arith, nat_tests)
 
 module _ {N E : Type 0} {v : Values N} {c : Change} {comes : ℕ → N → Type 0} {s s' : PagerState N E} {trees trees' : ℕ → Tree} (lawful : IsLawful v)
     (settled : HoldsSettled v s) (well : WellFormed v s) (well' : WellFormed v s') (stands : Represents v s trees) (moves : Moves comes s s') (goes : CoreGoes c s.core s'.core)
@@ -142,7 +126,7 @@ module _ {N E : Type 0} {v : Values N} {c : Change} {comes : ℕ → N → Type 
   ]
 
   leads-again : (n : ℕ) → 0 < held n s'.core.rows → NodeLeads v s' trees' n
-  leads-again n live = search (rules, cell-of, either-side, keyed-old, old-node goes, new-node goes well.whole.handles, arith, nat_tests, moved-value)
+  leads-again n live = search (rules, cell-of, cases_lt, keyed-old, old-node goes, new-node goes well.whole.handles, arith, nat_tests, moved-value)
 
   loads-again : (l : ℕ) (load : OpenLoad) (node : NodeNumber) (t : ℕ) (h : HandleNumber) → s'.core.loads l ≡ Some load → load.root ≡ of_cell node t h
       → ReadsNodeTree v.types s'.core.stored trees' load.key t node.0
@@ -189,7 +173,7 @@ module _ {N E : Type 0} {v : Values N} {s s' : PagerState N E} {trees : ℕ → 
 
   -- where nothing is born and no value can come to an old node, none comes
   pub none-comes : (n : ℕ) (x : N) → CoreGoes nothing_felt s.core s'.core → s.values n ≡ None → s'.values n ≡ Some x → IsNewNode s.core n ⊎ StaysAway s.core s'.core n → ⊥
-  none-comes n x goes x3 is x5 = grind (arith, nat_tests, live-after, either-side, old-node goes, new-node goes well.whole.handles)
+  none-comes n x goes x3 is x5 = grind (arith, nat_tests, live-after, cases_lt, old-node goes, new-node goes well.whole.handles)
 
   -- nothing is felt, and what comes to an old node fits
   pub fits-nothing : (comes : ℕ → N → Type 0) → ((n : ℕ) (x : N) → comes n x → s.values n ≡ None → s'.values n ≡ Some x → ValueLeads v trees x (trees n))

@@ -1,10 +1,10 @@
 -- A pager with few of each is whole, by facts about its first numbers that compute.
-use Rattle.pagable_laws.proofs.Words.{◌≡◌, ℕ, suc, ◌<◌, ◌≤◌, ◌==◌, ◌&&◌, Bool, true, false, List, [], ◌∷◌, refl, ap, sym, subst, arith, All, not, Ok, None, is_some, nat_lt, nat_le, nat_eq, and_parts}
-use Rattle.pagable_laws.proofs.Words.{agree_below, agree_below_at, nat_tests, AllPairs-cons, Among, times, one, updated, Owner, HandleRow, is_shared, is_loose, is_owner, type_of, is_owned_by}
-use Rattle.pagable_laws.proofs.Words.{owner_value, is_at, is_pin, is_share, held, pins, sharing, Core, OpenLoad, Root, of_cell, of_key, row_at, type_at, Alike, loses_value, owned_outside, is_keyed}
-use Rattle.pagable_laws.proofs.Words.{IsLeast, MustList, Falls, fallen, IsHandleBefore, length, ◌∙◌, inl, inr, Option, Some, ArcRef, sample_references, value_at, is_shared_kind, is_handle, is_here}
-use Rattle.pagable_laws.proofs.{Words.{references_fault, WellFormed, MayOwnLoad, no_work, Sample, sample, sample_type, machine}, Sums.sum-zero, GoodReferences.good, Existing.within-self}
-use Rattle.std.{proofs.{Common.rules, lemmas.Bool.cases_lt}, specs.{Prelude.IfSome, List.{AllPairs, AllByRecursion as Each}}}
+use Rattle.pagable_laws.proofs.{Existing.within-self, GoodReferences.good, Sums.sum-zero, Words.{Alike, All, AllPairs-cons, Among, ArcRef, Bool, Core, Falls, HandleRow, IsHandleBefore, IsLeast}}
+use Rattle.pagable_laws.proofs.Words.{List, MayOwnLoad, MustList, None, Ok, OpenLoad, Option, Owner, Root, Sample, Some, WellFormed, [], agree_below, agree_below_at, and_parts, ap, arith, fallen}
+use Rattle.pagable_laws.proofs.Words.{false, held, inl, inr, is_at, is_handle, is_here, is_keyed, is_loose, is_owned_by, is_owner, is_pin, is_share, is_shared, is_shared_kind, is_some, length}
+use Rattle.pagable_laws.proofs.Words.{loses_value, machine, nat_eq, nat_le, nat_lt, nat_tests, no_work, not, of_cell, of_key, one, owned_outside, owner_value, pins, references_fault, refl, row_at}
+use Rattle.pagable_laws.proofs.Words.{sample, sample_references, sample_type, sharing, subst, suc, sym, times, true, type_at, type_of, updated, value_at, ℕ, ◌&&◌, ◌<◌, ◌==◌, ◌∙◌, ◌∷◌, ◌≡◌, ◌≤◌}
+use Rattle.std.{proofs.{Common.rules, lemmas.Bool.cases_lt}, specs.{List.{AllByRecursion as Each, AllPairs}, Prelude.IfSome}}
 
 -- ---- lists, options and numbers
 
@@ -44,14 +44,11 @@ abbrev pub IsLow : Core → Type 0
 IsLow w = Each RowLow w.rows
 
 module _ (rows : List HandleRow) (low : Each RowLow rows) where
-  node-low : (n : ℕ) → 3 < n → (h : HandleRow) → RowLow h → is_at n h ≡ false
-  node-low n lt h ok = let a = ok.0 in grind (arith, nat_tests)
-
   held-past : (n : ℕ) → 3 < n → held n rows ≡ 0
-  held-past n lt = none-pass RowLow (is_at n) rows low (node-low n lt)
+  held-past n lt = none-pass RowLow (is_at n) rows low (λ h ok. let a = ok.0 in grind (arith, nat_tests))
 
   pins-past : (n : ℕ) → 3 < n → pins n rows ≡ 0
-  pins-past n lt = none-pass RowLow (is_pin n) rows low (λ h ok. let a = node-low n lt h ok in rw a refl)
+  pins-past n lt = none-pass RowLow (is_pin n) rows low (λ h ok. let a = ok.0 in grind (arith, nat_tests))
 
   unshared : (n : ℕ) → sharing n rows ≡ 0
   unshared n = none-pass RowLow (is_share n) rows low (λ h ok. let a = ok.1 in grind (arith, nat_tests))
@@ -72,10 +69,7 @@ lists_none before w gone n = nat_lt 0 (pins n before.rows) && (nat_eq (pins n (f
 abbrev pub takes_more : Core → (ℕ → Bool) → ℕ → Bool
 takes_more w given n = loses_value w.rows (is_keyed w) [] given n && nat_lt 0 (owned_outside w.rows given n)
 
-abbrev pub never : ℕ → Bool
-never n = false
-
-pub falls-so : (before w : Core) (given gone : ℕ → Bool) → IsLow before → nat_le w.last.handle 9 ≡ true → agree_below (lists_none before w gone) never 4 ≡ true
+pub falls-so : (before w : Core) (given gone : ℕ → Bool) → IsLow before → nat_le w.last.handle 9 ≡ true → agree_below (lists_none before w gone) (λ n. false) 4 ≡ true
     → IsLeast w.rows (is_keyed w) [] given gone → Falls before w given (Ok tt) (fallen w gone [])
 falls-so before w given gone low few none least =
     record {
@@ -92,19 +86,19 @@ falls-so before w given gone low few none least =
   where
     no-must : (n : ℕ) → MustList before w (fallen w gone []) n → ⊥
     no-must n must =
-        let is_none = by-number 3 (lists_none before w gone) never none (λ n lt. let a = pins-past before.rows low n lt in rw a refl) n in
+        let is_none = by-number 3 (lists_none before w gone) (λ n. false) none (λ n lt. let a = pins-past before.rows low n lt in rw a refl) n in
         let a = must.pinned in let b = must.unpinned in let c = must.unkeyed in grind (arith, nat_tests)
 
 -- the given handles fall alone, if no value that goes owns another
 abbrev pub AreAlone : Core → Core → (ℕ → Bool) → Type 0
 AreAlone before w given =
-    IsLow before × IsLow w × (nat_le w.last.handle 9 ≡ true) × (agree_below (lists_none before w given) never 4 ≡ true) × (agree_below (takes_more w given) never 4 ≡ true)
+    IsLow before × IsLow w × (nat_le w.last.handle 9 ≡ true) × (agree_below (lists_none before w given) (λ n. false) 4 ≡ true) × (agree_below (takes_more w given) (λ n. false) 4 ≡ true)
 
 pub falls-alone : (before w : Core) (given : ℕ → Bool) → AreAlone before w given → Falls before w given (Ok tt) (fallen w given [])
 falls-alone before w given (low_before, low, few, none, ok) =
     falls-so before w given given low_before few none (record {
       holds = within-self w.rows (is_keyed w) [] given;
-      closed = λ n goes. let a = by-number 3 (takes_more w given) never ok (λ n lt. past (loses_value w.rows (is_keyed w) [] given n) (search (rules, none-pass, owner-past))) n in
+      closed = λ n goes. let a = by-number 3 (takes_more w given) (λ n. false) ok (λ n lt. past (loses_value w.rows (is_keyed w) [] given n) (search (rules, none-pass, owner-past))) n in
           grind (arith, nat_tests);
       least = λ t holds closed. holds;
     })
@@ -172,11 +166,6 @@ NumberFits w vs n =
     × (is_some (value_at vs n) ≡ (is_some (w.cells n) && is_here w n)) × ValueFits w n (value_at vs n) × IfSome (w.loads n) (LoadFits w n)
 
 -- all that is asked of a pager with few of each: of its handles, of it as a whole, and of each number
-pub record HandlesFit (w : Core) : Type 0 where
-  pub low : IsLow w
-  pub rise : Rises 0 w.rows
-  pub there : Each (RowThere w) w.rows
-
 pub record Stands (w : Core) (vs : List (Option Sample)) : Type 0 where
   pub short : nat_le (length vs) 4 ≡ true
   pub list : w.list ≡ []
@@ -186,7 +175,7 @@ pub record Stands (w : Core) (vs : List (Option Sample)) : Type 0 where
   pub third : IfSome (type_at w 3) (λ t. t ≡ 1) × IfSome (w.cache 4 8) (λ n. nat_le n w.last.node ≡ true)
 
 pub record Passes (w : Core) (vs : List (Option Sample)) : Type 0 where
-  pub handles : HandlesFit w
+  pub handles : IsLow w × Rises 0 w.rows × Each (RowThere w) w.rows
   pub stands : Stands w vs
   pub numbers : NumberFits w vs 0 × NumberFits w vs 1 × NumberFits w vs 2 × NumberFits w vs 3
 
@@ -197,16 +186,13 @@ past-end x0 x1 few = grind (arith, nat_tests)
 
 module _ (w : Core) (vs : List (Option Sample)) (few : Few w) (p : Passes w vs) where
   number : (n : ℕ) → NumberFits w vs n
-  number = by-four (NumberFits w vs) p.numbers past
-    where
-      past : (n : ℕ) → 3 < n → NumberFits w vs n
-      past n lt = grind (arith, nat_tests, past-end, held-past, none-pass, owner-past)
+  number = by-four (NumberFits w vs) p.numbers (λ n lt. grind (arith, nat_tests, past-end, held-past, none-pass, owner-past))
 
   row : (h : HandleRow) → Among w.rows h → RowThere w h
-  row h among = each-among (RowThere w) w.rows h p.handles.there among
+  row h among = each-among (RowThere w) w.rows h p.handles.2 among
 
   low : (h : HandleRow) → Among w.rows h → RowLow h
-  low h among = each-among RowLow w.rows h p.handles.low among
+  low h among = each-among RowLow w.rows h p.handles.0 among
 
   load : (l : ℕ) (load : OpenLoad) → w.loads l ≡ Some load → LoadFits w l load
   load l x is = of-some (LoadFits w l) (number l).4 is
@@ -215,10 +201,9 @@ module _ (w : Core) (vs : List (Option Sample)) (few : Few w) (p : Passes w vs) 
   value n x is = subst (λ o. ValueFits w n o) is (number n).3
 
   inside : (n : ℕ) (x : Sample) (q : ℕ) → value_at vs n ≡ Some x → refers x q ≡ owns w n q
-  inside n x q is = let a = by-number 9 (λ q. nat_eq (refers x q) (owns w n q)) (λ q. true) (value n x is).1 past q in grind (arith, nat_tests)
-    where
-      past : (q : ℕ) → 9 < q → nat_eq (refers x q) (owns w n q) ≡ true
-      past q lt = let refs = (value n x is).2 in let there = p.handles.there in grind (arith, nat_tests, none-pass)
+  inside n x q is = let a = by-number 9 (λ q. nat_eq (refers x q) (owns w n q)) (λ q. true) (value n x is).1
+      (λ q lt. let refs = (value n x is).2 in let there = p.handles.2 in grind (arith, nat_tests, none-pass)) q in
+      grind (arith, nat_tests)
 
   pub whole-so : WellFormed sample (machine w vs no_work).pager
   whole-so =
@@ -226,13 +211,13 @@ module _ (w : Core) (vs : List (Option Sample)) (few : Few w) (p : Passes w vs) 
       record {
         whole = record {
           handles = record {
-            ordered = (ordered 0 w.rows p.handles.rise).0;
+            ordered = (ordered 0 w.rows p.handles.1).0;
             numbered = λ h among. let (a, b, c) = row h among in (grind (arith, nat_tests), grind (arith, nat_tests));
             nodes_numbered = grind (arith, nat_tests, number, and_parts);
             within = grind (arith, nat_tests);
             live = λ n. (number n).1;
-            uniform = λ n. inl (unshared w.rows p.handles.low n);
-            unkeyed = λ n some. let a = unshared w.rows p.handles.low n in absurd (omega arith);
+            uniform = λ n. inl (unshared w.rows p.handles.0 n);
+            unkeyed = λ n some. let a = unshared w.rows p.handles.0 n in absurd (omega arith);
             places = (grind (arith, nat_tests), let e : length w.list ≡ 0 = ap length p.stands.list in omega arith);
           };
           owners_there = record {

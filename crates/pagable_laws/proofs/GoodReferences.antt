@@ -1,8 +1,7 @@
 -- References that nothing is to be said against name handles of their owner, as they should. A handle that is given up doesn't bring a value back.
-use Rattle.pagable_laws.proofs.Words.{inl, inr, ◌≡◌, ℕ, suc, ◌+◌, ◌≤◌, Bool, true, List, [], ◌∷◌, ◌++◌, refl, arith, Option, None, nat_tests, sum_by-cons, ArcRef, or_else, one, Owner, HandleRow}
-use Rattle.pagable_laws.proofs.{Words.{is_owner, pins, is_pin, Core, Alike, AreNewEntries, Falls, left_rows, reference_fault, references_fault, IsReference, AreGood, StaysAway}, Sums.same-number}
-use Rattle.pagable_laws.proofs.Goes.{alike, fell}
-use Rattle.std.proofs.{Common.rules, lemmas.Bool.cases_Bool}
+use Rattle.pagable_laws.proofs.{Goes.{alike, fell}, Sums.same-number, Words.{Alike, ArcRef, AreGood, AreNewEntries, Bool, Core, Falls, HandleRow, IsReference, List, None, Option, Owner, StaysAway}}
+use Rattle.pagable_laws.proofs.Words.{[], arith, inl, inr, is_owner, is_pin, left_rows, nat_tests, one, or_else, pins, reference_fault, references_fault, refl, suc, sum_by-cons, true, ℕ, ◌++◌, ◌+◌}
+use Rattle.{pagable_laws.proofs.Words.{◌∷◌, ◌≡◌, ◌≤◌}, std.proofs.{Common.rules, lemmas.Bool.cases_Bool}}
 
 pub or-none : {X : Type 0} (a b : Option X) → or_else a b ≡ None → (a ≡ None) × (b ≡ None)
 or-none x0 b is = grind (arith, nat_tests)

@@ -1,20 +1,16 @@
 -- Two kinds or keys never get one identity through one cache, and one kind and key gets the same for as long as its node is held.
-use Rattle.pagable_laws.proofs.Words.{◌≡◌, ℕ, zero, suc, ◌+◌, ◌≤◌, false, List, [], ◌∷◌, Some, None, inl, inr, refl, sym, ap, subst, ◌∙◌, arith, nat_tests, OptionalDataKey, Owner, Kind}
-use Rattle.pagable_laws.proofs.Words.{ArcRef, LoadNumber, type_of, Among, mode_of, Core, Last, Alike, Seen, usable, with_handle, with_node, next_node, GetsKnown}
-use Rattle.pagable_laws.proofs.Words.{adopted, first_key, MachineState, world_of, IsWhole, IsMachineWhole, Moment, AreMoments, state_after, GetsReference, IsFilledByReading, LeavesCache, StaysAlive}
-use Rattle.pagable_laws.proofs.{Words.{OneIdentityLaw, Change, nothing_felt, GetsRow}, Goes.{Goes, KnowsNext, quiet-then, quiet-goes, goes-quiet, alike, a-handle, fell-anyhow, adopts}}
-use Rattle.pagable_laws.proofs.{Called.gets-known, Outlasting.among-found, ReadingSteps.{cached-rows, got-known, got-fallen, got-born, is-cached, event-goes}, Sums.self-number, Effects.IsEntered}
-use Rattle.pagable_laws.proofs.{Effects.{IsHeldFor, can-use, entered-of, stays-alike, stays-fell}, SparingSteps.{keeps-open, event-lasts}}
+use Rattle.pagable_laws.proofs.{Called.gets-known, Effects.{IsEntered, IsHeldFor, can-use, entered-of, stays-alike, stays-fell}, Goes.{Goes, KnowsNext, a-handle, adopts, alike, fell-anyhow}}
+use Rattle.pagable_laws.proofs.{Goes.{goes-quiet, quiet-goes, quiet-then}, Outlasting.among-found, ReadingSteps.{cached-rows, event-goes, got-born, got-fallen, got-known, is-cached}}
+use Rattle.pagable_laws.proofs.{SparingSteps.{event-lasts, keeps-open}, Sums.self-number, Words.{Alike, Among, ArcRef, AreMoments, Change, Core, GetsKnown, GetsReference, GetsRow}}
+use Rattle.pagable_laws.proofs.Words.{IsFilledByReading, IsMachineWhole, IsWhole, Kind, Last, LeavesCache, List, LoadNumber, MachineState, Moment, None, OneIdentityLaw, OptionalDataKey, Owner}
+use Rattle.pagable_laws.proofs.Words.{Seen, Some, StaysAlive, [], adopted, ap, arith, false, first_key, inl, inr, mode_of, nat_tests, next_node, nothing_felt, refl, state_after, subst, suc, sym}
+use Rattle.pagable_laws.proofs.Words.{type_of, usable, with_handle, with_node, world_of, zero, ℕ, ◌+◌, ◌∙◌, ◌∷◌, ◌≡◌, ◌≤◌}
 
 -- ---- what is got
 
--- that the node is held means that the cache has it
-abbrev HeldEnters : Core → Kind → ℕ → ℕ → Type 0
-HeldEnters w kind key n = IsHeldFor kind.0 key n w.rows → IsEntered kind.0 key n w.cache w.cells
-
--- a reference that is got is of the node that the cache gives, or of the next one where it gives none
+-- a reference that is got is of the node that the cache gives, and has as long as the node is held; or of the next one where it gives none
 data Got (w : Core) (kind : Kind) (key n : ℕ) (w' : Core) : Type 0 where
-  got-old : usable w kind.0 key ≡ Some n → Goes nothing_felt w w' → HeldEnters w' kind key n → Got w kind key n w'
+  got-old : usable w kind.0 key ≡ Some n → Goes nothing_felt w w' → (IsHeldFor kind.0 key n w'.rows → IsEntered kind.0 key n w'.cache w'.cells) → Got w kind key n w'
   got-new : usable w kind.0 key ≡ None → n ≡ w.last.node + 1 → (l : LoadNumber) (own : OptionalDataKey) (references : List ArcRef) → Alike (adopted w l kind key own references) w'
       → Got w kind key n w'
 
@@ -27,7 +23,8 @@ record Gotten (w : Core) (kind : Kind) (key n : ℕ) (w' : Core) : Type 0 where
   from : Got w kind key n w'
 
 module _ {w w' : Core} (whole : IsWhole w) (kind : Kind) (key n : ℕ) (g : GetsReference w kind key n w') where
-  old : (m : ℕ) → usable w kind.0 key ≡ Some m → GetsRow w w' kind m g.row → Goes nothing_felt w w' → (IsEntered kind.0 key m w.cache w.cells → HeldEnters w' kind key m) → Gotten w kind key n w'
+  old : (m : ℕ) → usable w kind.0 key ≡ Some m → GetsRow w w' kind m g.row → Goes nothing_felt w w'
+      → (IsEntered kind.0 key m w.cache w.cells → IsHeldFor kind.0 key m w'.rows → IsEntered kind.0 key m w'.cache w'.cells) → Gotten w kind key n w'
   old m is gets q enters = subst (λ x. Gotten w kind key x w') (sym gets.at ∙ g.at) (record { held = held-by kind key gets; from = got-old is q (enters (entered-of kind.0 key m w is)) })
 
   known : GetsKnown w g.l kind key g.k w' → Gotten w kind key n w'
@@ -90,40 +87,36 @@ module _ {N B W E : Type 0} (m : Seen N B W) (kind : Kind) (key n : ℕ) where
   abbrev Leave : List (Moment N E B W) → Type 0
   Leave xs = (x : Moment N E B W) → Among xs x → LeavesCache x.event
 
-  once-along : (s : MachineState N E) (xs : List (Moment N E B W)) → IsMachineWhole m.values s → AreMoments m s xs → Leave xs → IsKnownOnce kind.0 key n s.pager.core
+  along : (s : MachineState N E) (xs : List (Moment N E B W)) → IsMachineWhole m.values s → AreMoments m s xs → Leave xs → IsKnownOnce kind.0 key n s.pager.core
       → IsMachineWhole m.values (state_after s xs) × IsKnownOnce kind.0 key n (state_after s xs).pager.core
+      × (StaysAlive kind n xs → IsEntered kind.0 key n s.pager.core.cache s.pager.core.cells → IsHeldFor kind.0 key n s.pager.core.rows → usable (state_after s xs).pager.core kind.0 key ≡ Some n)
   unfolding state_after
-  once-along s [] whole chain leaves once = (whole, once)
-  once-along s (x ∷ xs) whole (does, more) leaves once =
+  along s [] whole chain leaves once = (whole, once, λ alive e h. can-use kind.0 key n s.pager.core e h)
+  along s (x ∷ xs) whole (does, more) leaves once =
       let kept = leaves x (zero, refl) in
       let g = event-goes m (world_of s) (world_of x.after) x.event x.reply (keeps-open x.event kept) does.step.happens in
-      once-along x.after xs does.whole more (λ y (i, is). leaves y (suc i, is)) (once-goes kind.0 key n g.goes (g.knows whole.pager.whole kept) once)
-
-  used-along : (s : MachineState N E) (xs : List (Moment N E B W)) → AreMoments m s xs → Leave xs → StaysAlive kind n xs
-      → IsEntered kind.0 key n s.pager.core.cache s.pager.core.cells → IsHeldFor kind.0 key n s.pager.core.rows → usable (state_after s xs).pager.core kind.0 key ≡ Some n
-  unfolding state_after
-  used-along s [] chain leaves alive e h = can-use kind.0 key n s.pager.core e h
-  used-along s (x ∷ xs) (does, more) leaves (a, alive) e h =
-      let h' : IsHeldFor kind.0 key n x.after.pager.core.rows = record { row = a.row; live = a.live; at = a.at; pins_it = λ is. grind (arith, nat_tests) } in
-      let l = event-lasts kind.0 key n m (world_of s) (world_of x.after) x.event x.reply (leaves x (zero, refl)) does.step.happens in
-      used-along x.after xs more (λ y (i, is). leaves y (suc i, is)) alive (l.lasts e h h') h'
+      let l = event-lasts kind.0 key n m (world_of s) (world_of x.after) x.event x.reply kept does.step.happens in
+      let (whole', once', used) = along x.after xs does.whole more (λ y (i, is). leaves y (suc i, is)) (once-goes kind.0 key n g.goes (g.knows whole.pager.whole kept) once) in (
+        whole',
+        once',
+        λ (a, alive) e h.
+            let h' : IsHeldFor kind.0 key n x.after.pager.core.rows = record { row = a.row; live = a.live; at = a.at; pins_it = λ is. grind (arith, nat_tests) } in
+            used alive (l.lasts e h h') h',
+      )
 
 -- ---- the law
 
-differ : {u last : Core} (kind other_kind : Kind) (key other_key n other_n : ℕ) → IsKnownOnce kind.0 key n u → Got u other_kind other_key other_n last → other_n ≡ n → other_key ≡ key
-differ kind other_kind key other_key n other_n once x7 same_node = grind (arith, nat_tests, is-cached)
-
-same : {u last : Core} (kind other_kind : Kind) (key other_key n other_n : ℕ) → usable u kind.0 key ≡ Some n → Got u other_kind other_key other_n last
-    → other_kind ≡ kind → other_key ≡ key → other_n ≡ n
-same {u} {last} kind other_kind key other_key n other_n is got same_kind same_key = grind arith
+same : {u last : Core} (kind other_kind : Kind) (key other_key n other_n : ℕ) → Got u other_kind other_key other_n last
+    → (IsKnownOnce kind.0 key n u → other_n ≡ n → other_key ≡ key) × (usable u kind.0 key ≡ Some n → other_kind ≡ kind → other_key ≡ key → other_n ≡ n)
+same {u} {last} kind other_kind key other_key n other_n got = grind (arith, nat_tests, is-cached)
 
 pub one_identity_law : {N B W : Type 0} (E : Type 0) (m : Seen N B W) → OneIdentityLaw E m
 one_identity_law E m w first between last kind other_kind key other_key n other_n whole filled opened gets whole' chain leaves gets' =
     let a = got whole kind key n gets in
-    let s = once-along m kind key n first between whole' chain leaves (once-got kind key n whole filled a.from) in
+    let s = along m kind key n first between whole' chain leaves (once-got kind key n whole filled a.from) in
     let b = got s.0.pager.whole other_kind other_key other_n gets' in
+    let (differs, equals) = same kind other_kind key other_key n other_n b.from in
     record {
-      differ = λ same_kind same_node. differ kind other_kind key other_key n other_n s.1 b.from same_node;
-      same = λ same_kind same_key alive.
-          same kind other_kind key other_key n other_n (used-along m kind key n first between chain leaves alive (grind (arith, nat_tests, stays-alike, self-number)) a.held) b.from same_kind same_key;
+      differ = λ same_kind. differs s.1;
+      same = λ same_kind same_key alive. equals (s.2 alive (grind (arith, nat_tests, stays-alike, self-number)) a.held) same_kind same_key;
     }

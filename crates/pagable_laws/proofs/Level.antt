@@ -1,21 +1,20 @@
 -- The chain of two levels is one of the machine, and meets the headline with all that it asks: its pagers are whole by closed facts, and so is each step.
+use Rattle.pagable_laws.proofs.{Chains.headline_law, Existing.and-false, Few.{AreAlone, Few, Passes, alike-self, falls-alone, falls-so, none-cached, updated-past, whole-so}, GoodReferences.good}
+use Rattle.pagable_laws.proofs.{Joining.new_whole, Trees.same_some, Words.{AreMoments, ArePremised, BeginCall, Beginning, Blob, Bool, CloneCall, Core, EndCall, Ends, Event, EventReply}}
+use Rattle.pagable_laws.proofs.Words.{FallsAnyhow, Frame, HandOverCall, HandleNumber, HandleRow, IsCellOf, IsLawful, IsLeast, IsMachineWhole, IsPremised, IsReadable, IsReadingWhole, IsWellAsked}
+use Rattle.pagable_laws.proofs.Words.{KeepsOpen, LazyCall, LiesIn, List, LoadAnswer, MachineState, Mode, None, Ok, OnlyCore, OpenLoad, Option, Owner, PagerState, PinsAtOnce, Reading, ReadingBrings}
+use Rattle.pagable_laws.proofs.Words.{ReadingDoes, ReadingsAre, ReadsAsType, ReadsItsTypes, ReadsRoot, SameShelf, SetKeyCall, Shelf, Some, StoreCall, Throughout, Todo, TodoTakesWell, TookWrites}
+use Rattle.pagable_laws.proofs.Words.{Tree, TwoLevelsMeetTheHeadline, UnpinCall, WalkDoes, Walking, WorkStays, WorkerAnswer, Written, [], answers_from, arith, blob_of, claim_fault, digest, fallen}
+use Rattle.pagable_laws.proofs.Words.{false, find_row, fresh, held, identity_of, if_there, inl, inr, is_counted, is_here, is_in, is_keyed, is_named_by, is_none, is_some, is_workers, is_workers_at}
+use Rattle.pagable_laws.proofs.Words.{length, load_fault, named_fault, nat_le, nat_tests, no_shelf, nobody, none-followed, nothing-form, of_cell, of_key, one_more, outer, owned_outside}
+use Rattle.pagable_laws.proofs.Words.{owner_worker, preimage, reading_after, reading_at, reference-form, references_fault, references_in, refl, rest_of, root_frame, row_at, row_of, state_after}
+use Rattle.pagable_laws.proofs.Words.{steps_after, subst, suc, sym, to_finish, to_item, to_pin, to_publish, to_release, to_set, to_start, to_write, tree, true, updated, value_at, with_key}
+use Rattle.{pagable_laws.proofs.Words.{with_mode, without_worker, world_of, zero, ℕ, ◌++◌, ◌+◌, ◌<◌, ◌==◌, ◌∙◌, ◌∷◌, ◌≡◌, ◌≤◌, ◌⊎◌}, pagable_model.specs.Keyed.throughout-alone}
+use Rattle.pagable_world.specs.{Calls.IsNext, Events.Happens, LoadCalls.IsNextLoad, Pager.{EventBrings, ReplyWrites}, Refusals.OwnsLoad, Runs.Does, Workers.Site, World.HasForm}
 use Rattle.pagable_laws.specs.TwoLevels as two
+use Rattle.pagable_model.specs.Meaning as meanings
 use Rattle.pagable_model.specs.Reading as grammar
 use Rattle.pagable_model.specs.Shape as shapes
-use Rattle.pagable_model.specs.Meaning as meanings
-use Rattle.pagable_laws.proofs.Words.{◌≡◌, ℕ, zero, suc, ◌<◌, ◌≤◌, ◌==◌, Bool, true, false, List, [], ◌∷◌, refl, sym, subst, arith, Ok, None, is_some, nat_le, nat_tests, updated, Owner, HandleRow}
-use Rattle.pagable_laws.proofs.Words.{held, Core, OpenLoad, of_cell, of_key, row_at, owned_outside, is_keyed, fallen, length, ◌∙◌, inl, Option, Some, value_at, is_here, references_fault, ◌++◌, ◌+◌}
-use Rattle.pagable_laws.proofs.Words.{inr, is_none, if_there, blob_of, HandleNumber, Blob, Took, Mode, WorkerAnswer, PagerState, TodoTakesWell, ArePremised, find_row, is_named_by, preimage, IsSettled}
-use Rattle.pagable_laws.proofs.Words.{is_in, identity_of, Shelf, Written, Todo, Reading, to_start, to_pin, to_write, to_set, to_publish, to_release, to_finish, to_item, digest, nobody, row_of}
-use Rattle.pagable_laws.proofs.Words.{with_key, CloneCall, StoreCall, WalkDoes, claim_fault, is_workers_at, nothing-form, reference-form, without_worker, is_workers, AreMoments, Walking, Ends}
-use Rattle.pagable_laws.proofs.Words.{is_counted, steps_after, TookWrites, SameShelf, no_shelf, IsMachineWhole, IsReadingWhole, owner_worker, ◌⊎◌, LoadAnswer, Frame, BeginCall, ReadingDoes}
-use Rattle.pagable_laws.proofs.Words.{root_frame, IsClosed, IsWithin, with_mode, UnpinCall, named_fault, answers_from, ReadsRoot, IsCellOf, Event, EventReply, one_more, load_fault, reading_at}
-use Rattle.pagable_laws.proofs.Words.{reading_after, ReadingsAre, ReadingBrings, world_of, WorkStays, OnlyCore, Beginning, MachineState, fresh, references_in, IsReadable, LiesIn}
-use Rattle.pagable_laws.proofs.Words.{Throughout, none-followed, rest_of, Tree, tree, IsLawful, ReadsItsTypes, KeepsOpen, FallsAnyhow, HandOverCall, LazyCall, EndCall, SetKeyCall, PinsAtOnce}
-use Rattle.pagable_laws.proofs.{Words.{ReadsAsType, IsWellAsked, IsPremised, state_after, TwoLevelsMeetTheHeadline}, GoodReferences.good, Trees.same_some, Existing.and-false, Joining.new_whole}
-use Rattle.pagable_laws.proofs.{Chains.headline_law, Few.{updated-past, alike-self, falls-so, AreAlone, falls-alone, Few, Passes, whole-so, none-cached}}
-use Rattle.pagable_world.specs.{Refusals.OwnsLoad, Workers.Site, World.HasForm, Runs.Does, Events.Happens, LoadCalls.IsNextLoad, Pager.{EventBrings, ReplyWrites}, Calls.IsNext}
-use Rattle.pagable_model.specs.Keyed.{throughout-alone}
 
 -- ---- the machine over a pager that passes
 
@@ -48,10 +47,6 @@ same-shelf s = record { slots = λ i. refl; waits = λ v. refl }
 abbrev site : Core → Shelf → List Todo → Site
 site w s todo = record { core = w; shelf = s; todo = todo }
 
--- a step of the worker at pager, table and list
-abbrev Walks : Core → Shelf → List Todo → Took Written → Core → Shelf → List Todo → Type 0
-Walks w s todo step w' s' todo' = WalkDoes two.sample_seen 1 (site w s todo) step (site w' s' todo')
-
 -- what a store asks; and what a step does
 abbrev CanStore : Core → Written → List ℕ → Type 0
 CanStore w written keys = (length keys ≡ length written.references) × (w.closed ≡ false) × (w.stored (digest two.sample (blob_of written.bytes keys)) ≡ None)
@@ -81,8 +76,7 @@ Asks w s todo = ⊥
 stored-so : (w : Core) (blob : Blob) → w.closed ≡ false → w.stored (digest two.sample blob) ≡ None → StoreCall (digest two.sample) w blob (Ok (digest two.sample blob)) (two.with_blob w blob)
 stored-so w blob is_open free = grind (arith, nat_tests, alike-self)
 
-does-so : (w : Core) (s : Shelf) (todo : List Todo) → Asks w s todo → let a = two.next_step w s todo in Walks w s todo a.0 a.1 a.2 a.3
-does-so w s (to_start r place ∷ below) (first, good, free) = grind (arith, nat_tests, alike-self, same-shelf)
+does-so : (w : Core) (s : Shelf) (todo : List Todo) → Asks w s todo → let a = two.next_step w s todo in WalkDoes two.sample_seen 1 (site w s todo) a.0 (site a.1 a.2 a.3)
 does-so w s (to_pin r place ∷ below) (live, clone_live, here, few) =
     let left : w.last.handle ≤ 6 = grind (arith, nat_tests) in
     let row = row_of r.handle.0 r.node Mode.LoosePinned (owner_at w r.handle) in
@@ -91,17 +85,13 @@ does-so w s (to_pin r place ∷ below) (live, clone_live, here, few) =
     let pins : PinsAtOnce w (owner_worker 1) r (two.handle (w.last.handle + 1)) (two.handle (w.last.handle + 1 + 1)) (two.pinned_at w r.node) =
     inr (record { row = row; live = live; sort = refl }, (two.cloned w r.node, cloned, (grind (arith, nat_tests, alike-self)))) in
     search (same-shelf, pins)
-does-so w s (to_write r place through ∷ below) ok = search (alike-self w, same-shelf)
-does-so w s (to_finish o ∷ below) (all, is_open, free) = search (stored-so w (blob_of o.written.bytes o.keys), same-shelf)
 does-so w s (to_set r through key height ∷ below) (live, alone) =
     let row = row_of through.0 r.node Mode.LoosePinned (owner_worker 1) in
     let sets : SetKeyCall w (owner_worker 1) through key (Ok tt) (fallen (with_key w r.node key) nobody []) =
     record { does = inr (row, record { live = live; own = refl; as_asked = refl }, inr (refl, falls-alone w (with_key w r.node key) nobody alone)) } in
     search (same-shelf, sets)
-does-so w s (to_publish r key height ∷ below) ok = search (alike-self w, same-shelf)
 does-so w s (to_release r key height ∷ below) alone = search (same-shelf, falls-alone w w (is_workers_at w 1 r.node.0) alone)
-does-so w s (to_item written keys ∷ below) (all, is_open, free) = search (stored-so w (blob_of written.bytes keys), same-shelf)
-does-so w s todo ok = absurd ok
+does-so w s todo ok = grind (arith, nat_tests, alike-self, same-shelf, stored-so)
 
 -- the pager has few of each after the step, and after its answer
 few-next : (w : Core) (s : Shelf) (todo : List Todo) (answer : Option WorkerAnswer) → Few w → let a = two.next_step w s todo in Few (two.ended answer a.1)
@@ -127,9 +117,6 @@ ends-so (Some answer) w alone = record { told = Ok tt; falls = falls-alone w (wi
 
 -- ---- the page-out, step by step
 
-pub two-settled : (x : two.Sample) → IsSettled two.sample x
-two-settled x a b is other = other ∙ sym is
-
 -- what so many steps ask
 unfoldable pub AllAsk : ℕ → two.Working → Type 0
 AllAsk zero x = Unit {0}
@@ -153,7 +140,7 @@ does s event reply w vs shelf walking reading happens come writes good walks rea
 
 asked : (s : MachineState two.Sample (Unit {0})) (x : two.Happening) → KeepsOpen x.event → ((trees : ℕ → Tree) → IsWellAsked two.sample s trees x.event x.reply) → (trees : ℕ → Tree)
     → IsPremised two.sample s trees x.event x.reply x.after
-asked s x open_still well trees = record { settled = λ n x is. two-settled x; reads_settled = λ x is. two-settled x; stays_open = open_still; well = well trees }
+asked s x open_still well trees = record { settled = λ n x is a b own other. other ∙ sym own; reads_settled = λ x is a b own other. other ∙ sym own; stays_open = open_still; well = well trees }
 
 infixr 3 ◌⨾◌
 -- one moment, and those after it
@@ -181,7 +168,7 @@ pages (suc n) x xs few (works, asks, counts, ends, passes, at_work, ok) rest =
           work = record { same_shelves = λ t. grind (arith, nat_tests, same-shelf); last_is = refl; same_walkings = again 1 (Some (two.walking x)) (Some (two.walking y)) (λ q. None) };
         };
         refused = tt;
-      }) (λ n x is. inl is) (writes-so x.core x.shelf (two.work_after x None) x.todo asks) (few_then, passes) (refl, at_work) tt ⨾ moments,
+      }) (λ n x is. inl is) (writes-so x.core x.shelf (two.work_of x.shelf (Some (two.walking x)) None) x.todo asks) (few_then, passes) (refl, at_work) tt ⨾ moments,
       asked _ _ tt (λ trees w is. subst (λ (w : Walking). TodoTakesWell two.sample (two.at_work x).pager w.todo) (same_some _ _ is) (grind (arith, nat_tests))) ⨾ premised,
     )
 
@@ -254,7 +241,7 @@ births-do xs rest =
     ⨾ rest
   where
     parent-comes : (n : ℕ) (x : two.Sample) → value_at two.two_values n ≡ Some x
-        → (value_at (None ∷ Some two.leaf ∷ []) n ≡ Some x) ⊎ ((value_at (None ∷ Some two.leaf ∷ []) n ≡ None) × ((x ≡ two.parent two.to_child) × (1 < n)))
+        → (value_at (None ∷ Some two.leaf ∷ []) n ≡ Some x) ⊎ ((value_at (None ∷ Some two.leaf ∷ []) n ≡ None) × ((x ≡ two.parent (two.to_leaf 1 1)) × (1 < n)))
     parent-comes x0 x is = grind (arith, nat_tests)
 
 -- ---- the eviction and the loads
@@ -262,22 +249,15 @@ births-do xs rest =
 -- with the parent's last pin its value goes, and with this the child
 evicts : UnpinCall two.answered.core Owner.Caller (two.handle 2) (Ok tt) two.evicted
 unfolding two.walked value_at is_named_by find_row preimage
-evicts = record {
-  does = inr (
-    row_of 2 (two.node 2) Mode.LoosePinned Owner.Caller,
-    record { live = refl; own = refl; as_asked = refl },
-    inr (refl, falls-so two.answered.core unpinned nobody two.child_handle (search arith) refl refl (record { holds = refl; closed = closed; least = least })),
-  );
-}
-  where
-    unpinned : Core
-    unpinned = with_mode two.answered.core (two.handle 2) Mode.LooseUnpinned
-
-    closed : IsClosed unpinned.rows (is_keyed unpinned) [] two.child_handle
-    closed n goes = let a = and-false (2 == n) in omega arith
-
-    least : (t : ℕ → Bool) → IsWithin unpinned.rows nobody t → IsClosed unpinned.rows (is_keyed unpinned) [] t → IsWithin unpinned.rows two.child_handle t
-    least t holds closed = let fallen : owned_outside unpinned.rows t 2 ≡ 0 = closed 2 refl in omega arith
+evicts =
+    let w = with_mode two.answered.core (two.handle 2) Mode.LooseUnpinned in
+    let set : IsLeast w.rows (is_keyed w) [] nobody outer = record {
+      holds = refl;
+      closed = λ n goes. let a = and-false (2 == n) in omega arith;
+      least = λ t holds closed. let fallen : owned_outside w.rows t 2 ≡ 0 = closed 2 refl in omega arith;
+    } in
+    let falls = falls-so two.answered.core w nobody outer (search arith) refl refl set in
+    record { does = inr (row_of 2 (two.node 2) Mode.LoosePinned Owner.Caller, record { live = refl; own = refl; as_asked = refl }, inr (refl, falls)) }
 
 begins : BeginCall two.evicted Owner.Caller (two.handle 2) (Ok (Beginning.Load (two.load_number 1) 24)) two.loading
 unfolding two.walked value_at is_named_by find_row preimage
@@ -297,8 +277,7 @@ gets-child : ReadingDoes two.sample two.loading Owner.Caller two.parent_fetched 
 unfolding two.walked value_at is_named_by find_row preimage grammar.read grammar.read_with answers_from cell_load
 gets-child =
     let row = row_of 8 (two.node 3) Mode.LooseUnpinned (Owner.Load (two.load_number 1)) in
-    let asked : LazyCall two.loading Owner.Caller (two.load_number 1) (record { 0 = 4 }) 8 (Ok (two.handle 8)) two.child_got =
-    record { makes = (cell_load, record { stands_open = refl; own = refl }, refl, inr (refl, omega arith, record { above = refl; is_left = omega arith }, alike-self two.child_got)); refused = tt } in
+    let asked : LazyCall two.loading Owner.Caller (two.load_number 1) (record { 0 = 4 }) 8 (Ok (two.handle 8)) two.child_got = grind (arith, nat_tests, alike-self) in
     record { does = inr (inr (inr (inl (record { kind = record { 0 = 4 }; key = 8; k = two.handle 8; row = row; needs = refl; asked = asked; made = refl; goes = refl })))) }
 
 ends-pinned : ReadingDoes two.sample two.child_got Owner.Caller two.parent_read (Some (LoadAnswer.Pinned (two.handle 9))) [] two.loaded
@@ -327,7 +306,7 @@ reads-out =
     let falls = falls-alone two.key_loading (two.handed two.key_loading) (two.not_handed two.key_loading) (search arith) in
     let handed : HandOverCall two.key_loading Owner.Caller (two.load_number 2) [] (Ok tt) two.read_back = record { hands = (refl, record { told = Ok tt; falls = falls }); refused = tt } in
     let root : ReadsRoot two.sample two.child_fetched two.leaf =
-    record { root = root_frame 8 1 two.leaf_blob; frames = refl; decoded = record { own = two.sample_meaning two.leaf; read = refl; typed = refl; means = refl } } in
+    record { root = root_frame 8 1 (blob_of [] []); frames = refl; decoded = record { own = two.sample_meaning two.leaf; read = refl; typed = refl; means = refl } } in
     record { does = (record { reads_root = root; of_key_load = record { load = key_load; open_load = refl; sort = tt }; handed = handed }, refl) }
 
 -- a step of the caller's load, while the worker has answered
@@ -378,11 +357,11 @@ loads-do =
     back : (n : ℕ) (x : two.Sample) → value_at two.last_values n ≡ Some x → (n ≡ 2) × (x ≡ two.parent (two.to_leaf 3 8))
     back x0 x is = grind (arith, nat_tests)
 
-    cell_of : (n : ℕ) → n ≡ 2 → IsCellOf two.child_got (two.load_number 1) n
-    cell_of n is = record { load = cell_load; node = two.node 2; t = 0; h = two.handle 2; open_load = refl; root = refl; is = sym is }
-
     parent-comes : (n : ℕ) (x : two.Sample) → value_at two.last_values n ≡ Some x → (value_at [] n ≡ Some x) ⊎ ((value_at [] n ≡ None) × ReadingBrings two.sample two.child_got two.parent_read n x)
-    parent-comes n x is = let (at, read) = back n x is in inr (refl, inr (subst (λ y. ReadsRoot two.sample two.parent_read y) (sym read) (grind (arith, nat_tests)), cell_of n at))
+    parent-comes n x is =
+        let (at, read) = back n x is in
+        let cell : IsCellOf two.child_got (two.load_number 1) n = record { load = cell_load; node = two.node 2; t = 0; h = two.handle 2; open_load = refl; root = refl; is = sym at } in
+        inr (refl, inr (subst (λ y. ReadsRoot two.sample two.parent_read y) (sym read) (grind (arith, nat_tests)), cell))
 
 -- ---- values
 
@@ -402,12 +381,12 @@ reads-types (suc n) s is = subst (λ x. Throughout IsReadable two.sample_types.p
 -- ---- moments
 
 -- the child's key reads as a leaf
-child-reads : (s : PagerState two.Sample (Unit {0})) → s.core.stored 8 ≡ Some two.leaf_blob → ReadsAsType two.sample s 1 8
+child-reads : (s : PagerState two.Sample (Unit {0})) → s.core.stored 8 ≡ Some (blob_of [] []) → ReadsAsType two.sample s 1 8
 unfolding grammar.read grammar.read_with
 child-reads s stored = record {
   read = tree 1 meanings.none;
   typed = refl;
-  reads = record { own = meanings.none; reads = record { blob = two.leaf_blob; stored = stored; rest = rest_of two.leaf_blob; reads = refl }; follows = none-followed };
+  reads = record { own = meanings.none; reads = record { blob = (blob_of [] []); stored = stored; rest = rest_of (blob_of [] []); reads = refl }; follows = none-followed };
 }
 
 loads-asked : ArePremised (two.at_work two.answered) (two.loads ++ two.counts 2)
@@ -437,7 +416,7 @@ headline_met =
       whole = new.whole _ _ tt;
       idle = new.idle _ _ tt;
       stands = λ trees. new.stands _ _ tt trees;
-      settled = λ n x is. two-settled x;
+      settled = λ n x is a b own other. other ∙ sym own;
       premised = asked _ _ tt (λ trees. tt) ⨾ asked _ _ tt (λ trees. tt) ⨾ asked _ _ tt (λ trees. tt) ⨾ asked _ _ tt (λ trees. tt) ⨾ worked.1;
       headline = headline_law (Unit {0}) two.sample_seen two.new_one (two.moments 2) (new.whole _ _ tt) (new.idle _ _ tt) (births-do _ worked.0);
       no_other = no-other;

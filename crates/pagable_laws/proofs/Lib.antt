@@ -7,7 +7,7 @@ pub mod Related
 mod AnyOrder
 pub mod Sums
 pub mod Existing
-mod Joining
+pub mod Joining
 pub mod Goes
 pub mod Outlasting
 pub mod GoodReferences

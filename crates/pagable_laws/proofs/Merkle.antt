@@ -1,18 +1,16 @@
 -- A tree of canonical types has one key, a stored tree has the key that it stands under, and keys tell trees apart.
-use Rattle.pagable_laws.proofs.Words.{arith, nat_tests, ◌≡◌, ℕ, suc, List, [], ◌∷◌, ◌++◌, length, refl, sym, ap, ◌∙◌, subst, length_form, Meaning, sequence, Entry, of_entries, Shape, Form}
-use Rattle.pagable_laws.proofs.Words.{Forms, Entries, nothing-form, some-form, err-form, ok-form, list-form, run-form, array-form, both-form, sorted-map-form}
-use Rattle.pagable_laws.proofs.Words.{placed-map-form, hash-map-form, sorted-set-form, placed-set-form, static-form, tagged-form, case-form, reference-form, nested-form}
-use Rattle.pagable_laws.proofs.Words.{json-array-form, json-object-form, no-forms, more-forms, no-entries, more-entries, LiesIn, IsCanonical, Throughout, CanonicalHasOneForm, true, pair, variant}
-use Rattle.pagable_laws.proofs.Words.{followed, code_order, Tree, Types, type_of, Kid, unfolded, KeyOf, key-of, KeysOf, no-keys, more-keys, EachType, StaysInside, IsCanonicalInside, zero, ◌*◌}
-use Rattle.pagable_laws.proofs.Words.{◌/◌, ◌%◌, ◌^◌, ◌<◌, ◌≤◌, div-div-eq-div-mul, pow-suc, length-append, Blob, preimage, cut, HasOnePreimage, inl, inr, cases_lt, is_eager, height}
-use Rattle.pagable_laws.proofs.Words.{HasPath, IsLongestPath, map, Option, Ok, append-nil, read, read_typed, KeyRef, tree, key_ref, ReadsAs, IsFollowed, pair-followed, variant-followed}
-use Rattle.pagable_laws.proofs.Words.{reference-followed, blob_context, rest_of, kind_of_kid, tree_of_kid, TreeForm, blob_of, kind_of_ref, key_of_ref, StoredAs, HasOwnKeys, SharesNoKey}
-use Rattle.pagable_laws.proofs.{Words.{IsCanonicalType, IsCanonicalTree, IsReadableType, rest, IsOneKey, IsOneItemKey, IsStoredKey, IsTreeReadable, IsKeyOfOneTree}, Again.{here, narrowed, part_of}}
-use Rattle.pagable_laws.proofs.{Again.{alone, lower, form-again, Looked, all-looked, one-looked}, Along.{Along, EntryAlong, lifted-along, number-along, integer-along, text-along}}
-use Rattle.pagable_laws.proofs.{Along.{pattern-along, none-along, pair-along, variant-along, reference-along, AllTwo, no-two, more-two, form-along}, Related.{flag-same, sequence-two, entries-two}}
-use Rattle.pagable_laws.proofs.{Related.sorted-two, Trees.{same_some, same_result, tree_is, one-followed, followed-on}}
-use Rattle.pagable_model.specs.{Canonical.IsClosed}
-use Rattle.std.{specs.Int.{byte_at, bytes_low_first, to_le_bytes, w64, w128}, specs.List.{flat_map, AllByRecursion as Each}, proofs.Common.rules}
+use Rattle.pagable_laws.proofs.{Again.{Looked, all-looked, alone, form-again, here, lower, narrowed, one-looked, part_of}, Along.{AllTwo, Along, EntryAlong, form-along, integer-along}}
+use Rattle.pagable_laws.proofs.{Along.{lifted-along, more-two, no-two, none-along, number-along, pair-along, pattern-along, reference-along, text-along, variant-along}, Related.entries-two}
+use Rattle.pagable_laws.proofs.{Related.{flag-same, sequence-two, sorted-two}, Trees.{followed-on, one-followed, same_some, tree_is}, Words.{Blob, CanonicalHasOneForm, EachType, Entries, Entry}}
+use Rattle.pagable_laws.proofs.Words.{Form, Forms, HasOnePreimage, HasOwnKeys, HasPath, IsCanonical, IsCanonicalInside, IsCanonicalTree, IsCanonicalType, IsFollowed, IsKeyOfOneTree, IsLongestPath}
+use Rattle.pagable_laws.proofs.Words.{IsOneItemKey, IsOneKey, IsReadableType, IsStoredKey, IsTreeReadable, KeyOf, KeyRef, KeysOf, Kid, LiesIn, List, Meaning, Ok, Option, ReadsAs, Shape}
+use Rattle.pagable_laws.proofs.Words.{SharesNoKey, StaysInside, StoredAs, Throughout, Tree, TreeForm, Types, [], ap, append-nil, arith, array-form, blob_of, both-form, case-form, cases_lt}
+use Rattle.pagable_laws.proofs.Words.{code_order, cut, div-div-eq-div-mul, err-form, followed, hash-map-form, height, inl, inr, is_eager, json-array-form, json-object-form, key-of, key_of_ref}
+use Rattle.pagable_laws.proofs.Words.{key_ref, kind_of_kid, kind_of_ref, length, length-append, length_form, list-form, map, more-entries, more-forms, more-keys, nat_tests, nested-form, no-entries}
+use Rattle.pagable_laws.proofs.Words.{no-forms, no-keys, nothing-form, of_entries, ok-form, pair, pair-followed, placed-map-form, placed-set-form, pow-suc, preimage, read, reference-followed}
+use Rattle.pagable_laws.proofs.Words.{reference-form, refl, rest, run-form, sequence, some-form, sorted-map-form, sorted-set-form, static-form, subst, suc, sym, tagged-form, tree, tree_of_kid}
+use Rattle.{pagable_laws.proofs.Words.{true, type_of, unfolded, variant, variant-followed, zero, ℕ, ◌%◌, ◌*◌, ◌++◌, ◌/◌, ◌<◌, ◌^◌, ◌∙◌, ◌∷◌, ◌≡◌, ◌≤◌}, pagable_model.specs.Canonical.IsClosed}
+use Rattle.std.{proofs.Common.rules, specs.{Int.{byte_at, bytes_low_first, to_le_bytes, w128, w64}, List.{AllByRecursion as Each, flat_map}}}
 
 -- ---- a meaning of a canonical shape has at most one form
 
@@ -164,7 +162,7 @@ pub stays_inside : StaysInside
 stays_inside hash types nodes t key closed inside h = stays hash types (λ n. nodes n ≡ true) (λ n. nodes n ≡ true) closed (λ n i. i) h inside
 
 pub canonical_inside : IsCanonicalInside
-canonical_inside hash types nodes t key closed all inside h = (all t.type inside, stays hash types (λ n. nodes n ≡ true) (IsCanonicalType types) closed all h inside)
+canonical_inside = record { inside = λ hash types nodes t key closed all inside h. (all t.type inside, stays hash types (λ n. nodes n ≡ true) (IsCanonicalType types) closed all h inside) }
 
 -- ---- different blobs have different preimages
 
@@ -254,18 +252,17 @@ module _ {hash : List ℕ → List ℕ} {types : Types} where
     same-keys : {kids kids2 others : List Kid} {keys keys2 : List ℕ} → KeysOf hash types kids keys → KeysOf hash types kids2 keys2 → AllTwo (CanonicalKid types) kids others
         → kids ≡ kids2 → keys ≡ keys2
     same-keys no-keys no-keys can e = refl
-    same-keys no-keys (more-keys x2 xs2 k2 ks2 h2 g2) can e = cc
-    same-keys (more-keys x xs k ks h g) no-keys can e = cc
     same-keys (more-keys x xs k ks h g) (more-keys x2 xs2 k2 ks2 h2 g2) (more-two y z ys zs c cs) e =
         let heads : x ≡ x2 = cc in
         let tails : xs ≡ xs2 = cc in
         rw (same-key h h2 c.1 (ap tree_of_kid heads), same-keys g g2 cs tails) refl
+    same-keys x0 x1 can e = cc
 
 pub one_key : IsOneKey
 one_key hash types t k l can h g = same-key h g can refl
 
 pub one_item_key : IsOneItemKey
-one_item_key hash types bytes kids k l item h g = search (rules, canonical-kids, same-keys)
+one_item_key = record { one = λ hash types bytes kids k l item h g. search (rules, canonical-kids, same-keys) }
 
 -- ---- what is stored
 
@@ -310,7 +307,7 @@ module _ {hash : List ℕ → List ℕ} {types : Types} where
     keys-along x0 = grind (arith, nat_tests, number-along, integer-along, text-along, pattern-along, none-along)
 
 pub stored_key : IsStoredKey
-stored_key hash store types t key own_keys h = node-key own_keys t.type key h.own t.meaning h.stands (keys-along own_keys h.follows)
+stored_key = record { is = λ hash store types t key own_keys h. node-key own_keys t.type key h.own t.meaning h.stands (keys-along own_keys h.follows) }
 
 -- ---- keys tell trees apart
 
@@ -320,15 +317,16 @@ module _ {store other : ℕ → Option Blob} {types : Types} (shares : SharesNoK
       let first = stored-reads store types type key m can h in
       let second = stored-reads other types type key n can g in
       let blobs : first.blob ≡ second.blob = shares key _ _ first.stored second.stored in
-      let moved = ap (λ (b : Blob). read_typed (blob_context types) (types.nodes type) (rest_of b)) blobs in
-      same_result _ m n _ _ first.reads (moved ∙ second.reads)
+      grind (arith, nat_tests)
 
 pub key_of_one_tree : IsKeyOfOneTree
-key_of_one_tree hash store other types t u k l first second shares type can readable h g = (
-  λ e.
-      let stands = let P : ℕ → ℕ → Type 0 = λ n key. StoredAs other types n key g.own in subst (λ (n : ℕ). P n k) (sym type) (subst (λ (key : ℕ). P u.type key) (sym e) g.stands) in
-      tree_is _ _ _ _ type (one-followed (IsReadableType types) (λ t key m n can p q. same-stored shares can p q) readable.1 h.follows g.follows (same-stored shares readable.0 h.stands stands)),
-  λ e.
-      let two = let P : Tree → Type 0 = λ x. KeyOf hash types x l in subst P (sym e) (stored_key hash other types u l second g) in
-      one_key hash types t k l can (stored_key hash store types t k first h) two,
-)
+key_of_one_tree = record {
+  of_one = λ hash store other types t u k l first second shares type can readable h g. (
+    λ e.
+        let stands = let P : ℕ → ℕ → Type 0 = λ n key. StoredAs other types n key g.own in subst (λ (n : ℕ). P n k) (sym type) (subst (λ (key : ℕ). P u.type key) (sym e) g.stands) in
+        tree_is _ _ _ _ type (one-followed (IsReadableType types) (λ t key m n can p q. same-stored shares can p q) readable.1 h.follows g.follows (same-stored shares readable.0 h.stands stands)),
+    λ e.
+        let two = let P : Tree → Type 0 = λ x. KeyOf hash types x l in subst P (sym e) (stored_key.is hash other types u l second g) in
+        one_key hash types t k l can (stored_key.is hash store types t k first h) two,
+  );
+}

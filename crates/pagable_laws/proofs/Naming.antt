@@ -1,15 +1,15 @@
 -- A handle that stands for a reference goes on to stand for it, and so does a clone of it; a key that was set stays.
-use Rattle.pagable_laws.proofs.Words.{◌≡◌, ℕ, ◌+◌, ◌≤◌, true, List, [], ◌∷◌, ◌++◌, inl, inr, Some, None, Ok, refl, sym, ap, subst, ◌∙◌, arith, nat_tests, ArcRef, HandleNumber, type_of, is_loose_kind}
-use Rattle.pagable_laws.proofs.Words.{HandleRow, Owner, find_row, is_loose, fits_mode, has_key, Core, Todo, to_start, to_item, to_publish, to_release, row_at, type_at, row_of, CloneCall}
-use Rattle.pagable_laws.proofs.Words.{claim_fault, HandlesAreWhole, Change, StandsAt, KeyIsSet, Holds, AllHold, WaitsHeld, Ends, false, of_item, of_entry, ◌⊎◌, Option, Pinning}
-use Rattle.pagable_laws.proofs.Words.{Beginning, Claim, PinStep, Took, Identity, NodeNumber, above, if_there, any_mode, identity_of, owner_worker, Shelf, Slot, no_result, published, to_pin, to_load}
-use Rattle.pagable_laws.proofs.Words.{to_write, to_finish, to_set, Task, SameShelf, Seen, with_key, SetKeyCall, Site, first_todo, Does, PinsAtOnce, IsPublished, next_start, give, give_known}
-use Rattle.pagable_laws.proofs.Words.{with_changed_slot, with_outcome, Owns, WorkerAnswer, HasHandle, nothing_felt, WorkerNumber, Tree, Event, EventReply, WorkerReply, Walking, World, Values}
-use Rattle.pagable_laws.proofs.{Words.{WorkerSteps, MachineState, world_of, IsMachineWhole, IsIdle, ReadsItsTypes, KeepsOpen, KeysAreReady, KeysHeld, WorkFits, step_of}, Goes.{Goes, found-number}}
-use Rattle.pagable_laws.proofs.{Goes.{fell, goes-quiet, quiet-goes}, Outlasting.{stands-new, among-found, Stands, stands-whole, stands-alike, stands-fell}, Following.given-of, Answering.sets-key}
-use Rattle.pagable_laws.proofs.{Called.{pins, begin-goes}, Standing.{put-cases, is-same}, ReadingSteps.{ends-quiet, event-goes, works-free, walk-goes}, Stepping.keys-same, SparingSteps.Spares}
-use Rattle.pagable_laws.proofs.{SparingSteps.event-spares, Trees.same_some, Coming.{StandsIn, updated-at, EventTurns, turns-keep}}
-use Rattle.{pagable_world.specs.Runs.Does as DoesMoment, std.proofs.Common.rules}
+use Rattle.pagable_laws.proofs.{Answering.sets-key, Called.{begin-goes, pins}, Coming.{EventTurns, StandsIn, turns-keep, updated-at}, Following.given-of, Goes.{Goes, fell, found-number}}
+use Rattle.pagable_laws.proofs.{Goes.{goes-quiet, quiet-goes}, Outlasting.{Stands, among-found, stands-alike, stands-fell, stands-new, stands-whole}, ReadingSteps.{ends-quiet, event-goes}}
+use Rattle.pagable_laws.proofs.{ReadingSteps.{walk-goes, works-free}, SparingSteps.{Spares, event-spares}, Standing.{is-same, put-cases}, Stepping.keys-same, Trees.same_some, Words.AllHold}
+use Rattle.pagable_laws.proofs.Words.{ArcRef, Beginning, Change, Claim, CloneCall, Core, Does, Ends, Event, EventReply, HandleNumber, HandleRow, HandlesAreWhole, HasHandle, Holds, Identity, IsIdle}
+use Rattle.pagable_laws.proofs.Words.{IsMachineWhole, IsPublished, KeepsOpen, KeyIsSet, KeysAreReady, KeysHeld, List, MachineState, NodeNumber, None, Ok, Option, Owner, Owns, PinStep, Pinning}
+use Rattle.pagable_laws.proofs.Words.{PinsAtOnce, ReadsItsTypes, SameShelf, Seen, SetKeyCall, Shelf, Site, Slot, Some, StandsAt, Task, Todo, Took, Tree, Values, WaitsHeld, Walking, WorkFits}
+use Rattle.pagable_laws.proofs.Words.{WorkerAnswer, WorkerNumber, WorkerReply, WorkerSteps, World, [], above, any_mode, ap, arith, claim_fault, false, find_row, first_todo, fits_mode, give}
+use Rattle.pagable_laws.proofs.Words.{give_known, has_key, identity_of, if_there, inl, inr, is_loose, is_loose_kind, nat_tests, next_start, no_result, nothing_felt, of_entry, of_item, owner_worker}
+use Rattle.pagable_laws.proofs.Words.{published, refl, row_at, row_of, step_of, subst, sym, to_finish, to_item, to_load, to_pin, to_publish, to_set, to_start, to_write, true, type_at, type_of}
+use Rattle.{pagable_laws.proofs.Words.{with_changed_slot, with_key, with_outcome, world_of, ℕ, ◌++◌, ◌+◌, ◌∙◌, ◌∷◌, ◌≡◌, ◌≤◌, ◌⊎◌}, pagable_world.specs.Runs.Does as DoesMoment}
+use Rattle.std.proofs.Common.{rules}
 
 -- ---- what stays
 
@@ -63,10 +63,7 @@ may-claim w r may = grind (arith, nat_tests)
 
 module _ {w : Core} (whole : HandlesAreWhole w) where
   pub handle-given : (h : HandleNumber) (row : HandleRow) → row_at w h ≡ Some row → h.0 ≤ w.last.handle
-  handle-given h row live =
-      let a = (whole.numbered row (among-found h.0 w.rows row live)).1 in
-      let b = found-number h.0 w.rows row live in
-      omega arith
+  handle-given h row live = omega (arith, (whole.numbered row (among-found h.0 w.rows row live)).1, found-number h.0 w.rows row live)
 
   pub claimed-stands : (r : ArcRef) → claim_fault w r ≡ None → StandsAt w r r.handle
   claimed-stands r may = search (rules, may-claim, given-of, handle-given, arith, nat_tests)
@@ -168,9 +165,6 @@ module _ {N B W : Type 0} (m : Seen N B W) (v : ℕ) (s s' : Site) (whole : Hand
       let t = c.finds.1.2 in
       let new : Slot = record { worker = v; written = None; outcome = no_result } in
       leaves t.list_is (stands-on f (claimed-stands whole r c.finds.0), waits-on f below waits) (grind (arith, put-cases, known))
-  stepped (to_start r place ∷ below) (Took.Claim i (Ok (Claim.Known key height))) e (is, c) f (h, waits) = let t = c.finds.1.2 in
-      stays t.table_is.slots t.list_is (known s'.core v r key height below (waits-on f below waits))
-  stepped (to_start r place ∷ below) (Took.Claim i (Ok Claim.Waiting)) e (is, c) f (h, waits) = let t = c.finds.1.2 in stays t.table_is.slots (t.list_is ∙ e) (tt, waits-on f below waits)
   stepped (to_pin r place ∷ below) (Took.Pin i (Ok (PinStep.Held k))) e (is, p) f (h, waits) = let t = p.pins.2 in
       stays t.table_stays.slots t.list_is (pinned-stands r p.pins.0 k h p.pins.1, waits-on f below waits)
   stepped (to_pin r place ∷ below) (Took.Pin i (Ok (PinStep.LoadBegun l))) e (is, p) f (h, waits) = let t = p.pins.2 in
@@ -190,8 +184,7 @@ module _ {N B W : Type 0} (m : Seen N B W) (v : ℕ) (s s' : Site) (whole : Hand
   stepped (to_publish r key height ∷ below) (Took.Publish i k q) e (is, same_key, same_height, t) f (h, waits) =
       leaves t.list_is (tt, waits-on f below waits)
       (changed-reveals s.shelf s'.shelf KeyThere (identity_of r) (with_outcome (published key height)) t.table_is (λ old k2 h2 known. inr (λ kind. key-on f (h.0 kind))))
-  stepped (to_release r key height ∷ below) (Took.Release i) e (is, falls, t) f (h, waits) = stays t.table_stays.slots t.list_is (given s'.core v r key height below (waits-on f below waits))
-  stepped _ step e does f all = grind (arith, nat_tests, stays, leaves, of-some, known)
+  stepped _ step e does f all = grind (arith, nat_tests, stays, leaves, of-some, known, waits-on f, given)
 
 -- ---- what workers hold
 

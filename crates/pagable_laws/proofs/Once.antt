@@ -1,16 +1,14 @@
 -- Each stage once: what is still to be done of it, with what was done, is at most what was claimed.
-use Rattle.pagable_laws.proofs.Words.{◌≡◌, ℕ, ◌+◌, ◌≤◌, ◌==◌, ◌&&◌, Bool, List, [], ◌∷◌, ◌++◌, refl, sym, subst, arith, Ok, nat_le, nat_tests, sum_by-cons, ArcRef, Identity, one, times}
-use Rattle.pagable_laws.proofs.Words.{Claim, PinStep, Took, identity_of, Todo, to_start, to_pin, to_load, to_write, to_finish, to_set, to_publish, to_release, to_fail, Fault, Option}
-use Rattle.pagable_laws.proofs.{Words.{HandleNumber, false, Task, Written, is_identity, next_start, give, first_todo, Follows, Leads, InOrder, OnceEach, is_claim_of, is_later_of}, Standing.AllWait}
+use Rattle.pagable_laws.proofs.{Standing.AllWait, Words.{ArcRef, Bool, Claim, Fault, Follows, HandleNumber, Identity, InOrder, Leads, List, Ok, OnceEach, Option, Task, Todo, Took, Written, []}}
+use Rattle.pagable_laws.proofs.Words.{arith, false, first_todo, give, identity_of, is_claim_of, is_identity, is_later_of, nat_le, nat_tests, next_start, one, subst, sum_by-cons, sym, times}
+use Rattle.pagable_laws.proofs.Words.{to_fail, to_finish, to_load, to_pin, to_publish, to_release, to_set, to_start, to_write, ℕ, ◌&&◌, ◌++◌, ◌+◌, ◌==◌, ◌∷◌, ◌≡◌, ◌≤◌}
+use Rattle.std.proofs.Math.Nat.{zero-add}
 
 -- ---- numbers
 
 -- the stage k is this one or comes after it, from p on
 abbrev from : ℕ → ℕ → Bool → ℕ
 from k p b = one (nat_le p k && b)
-
-pub plus-none : (n : ℕ) → 0 + n ≡ n
-plus-none n = omega arith
 
 -- ---- what is to be done
 
@@ -43,7 +41,7 @@ module _ (k : ℕ) (i : Identity) where
 
   started : (place : ℕ) (rs : List ArcRef) (x : Todo) (below : List Todo) → AllWait (x ∷ below) → Keeps (all-left (x ∷ below)) (next_start place rs ++ x ∷ below)
   unfolding AllWait all-left
-  started place x1 x2 below more = grind (arith, nat_tests, plus-none)
+  started place x1 x2 below more = grind (arith, nat_tests, zero-add)
 
   given : (r : ArcRef) (key height : ℕ) (below : List Todo) → AllWait below → Keeps (all-left below) (give r key height below)
   unfolding AllWait all-left
@@ -72,18 +70,7 @@ module _ (k : ℕ) (i : Identity) where
     goes : (todo : List Todo) (step : Took W) (next : List Todo) → IsWay todo → Follows f todo step next → Goes (is_later_of k i step) (is_claim_of i step) todo next
     unfolding AllWait all-left
     goes (to_start r place ∷ []) step next way follows = absurd way
-    goes (to_start r place ∷ x ∷ xs) (Took.Claim j (Ok Claim.Claimed)) next way (is, e) = rw (is, e) (record { less = grind (arith, nat_tests); way = way })
-    goes (to_start r place ∷ x ∷ xs) (Took.Claim j (Ok (Claim.Known key height))) next way (is, e) = grind (arith, nat_tests, given)
-    goes (to_start r place ∷ x ∷ xs) (Took.Claim j (Ok Claim.Waiting)) next way (is, e) = rw e (record { less = omega arith; way = way })
-    goes (to_pin r place ∷ below) (Took.Pin j (Ok (PinStep.Held h))) next way (is, (through, e)) = rw (is, e) (record { less = grind (arith, nat_tests); way = way })
-    goes (to_pin r place ∷ below) (Took.Pin j (Ok (PinStep.LoadBegun l))) next way (is, (through, e)) = rw (is, e) (record { less = goes-up 0 r _ (all-left below) refl; way = way })
-    goes (to_load r place through reading ∷ below) x1 next way x4 = grind (arith, nat_tests, goes-up, failed)
-    goes (to_write r place through ∷ below) x1 next way x4 = grind (arith, nat_tests, started, goes-up, ends)
-    goes (to_finish o ∷ below) x1 next way x4 = grind (arith, nat_tests, goes-up, ends)
-    goes (to_set r through key height ∷ below) x1 next way x4 = grind (arith, nat_tests, goes-up, ends)
-    goes (to_publish r key height ∷ below) (Took.Publish j q h) next way (is, same_key, same_height, e) = rw (is, e) (record { less = goes-up 5 r _ (all-left below) refl; way = way })
-    goes (to_release r key height ∷ below) (Took.Release j) next way (is, e) = grind (arith, nat_tests, given, ends)
-    goes _ step next way follows = grind (arith, nat_tests, failed)
+    goes _ step next way follows = grind (arith, nat_tests, failed, started, given, goes-up, ends)
 
     along : (todo : List Todo) (steps : List (Took W)) (last : List Todo) → IsWay todo → Leads f todo steps last
         → times (is_later_of k i) steps + all-left last ≤ times (is_claim_of i) steps + all-left todo
@@ -96,7 +83,6 @@ module _ (k : ℕ) (i : Identity) where
         omega arith
 
     after-release : (r : ArcRef) (key height : ℕ) (steps : List (Took W)) (last : List Todo) → Leads f (to_release r key height ∷ []) steps last → times (is_later_of k i) steps ≤ 1
-    after-release r key height (Took.Release j ∷ []) last leads = grind (arith, nat_tests)
     after-release r key height (Took.Release j ∷ x ∷ more) last (mid, (is, e), (after, follows, leads)) = absurd (subst (λ m. Follows f m x after) e follows)
     after-release r key height x3 last x5 = grind (arith, nat_tests)
 
@@ -119,15 +105,14 @@ module _ (k : ℕ) (i : Identity) where
         let few_left : one (at r) + times (is_claim_of i) steps ≤ 1 = subst (λ j. one (is_identity i j) + times (is_claim_of i) steps ≤ 1) is
         (few-claims (Took.Claim j (Ok Claim.Claimed)) steps few) in
         grind (arith, nat_tests, once-more, bounded, along)
-    entry r place (Took.Claim j (Ok (Claim.Known key height)) ∷ steps) last (mid, (is, e), leads) few = grind (arith, nat_tests, once-more, after-release)
     entry r place (Took.Claim j (Ok Claim.Waiting) ∷ steps) last (mid, (is, e), leads) few =
         let less : times (is_claim_of i) steps ≤ 1 = let c = few-claims (Took.Claim j (Ok Claim.Waiting)) steps few in omega arith in
         grind (arith, nat_tests, once-more, entry r place steps last (subst (λ m. Leads f m steps last) e leads) less)
-    entry r place (step ∷ steps) last (mid, follows, leads) few = grind (arith, nat_tests, once-more, bounded, along, few-claims)
+    entry r place (step ∷ steps) last (mid, follows, leads) few = grind (arith, nat_tests, once-more, bounded, along, few-claims, after-release)
 
     at-once : (task : Task) (steps : List (Took W)) (last : List Todo) → Leads f (first_todo task) steps last → times (is_claim_of i) steps ≤ 1 → times (is_later_of k i) steps ≤ 1
     unfolding AllWait all-left
-    at-once x0 steps last leads few = grind (arith, nat_tests, started, bounded, along, plus-none, entry)
+    at-once x0 steps last leads few = grind (arith, nat_tests, started, bounded, along, zero-add, entry)
 
 -- what the automaton accepts, with no identity claimed twice, has each stage at most once after its claim
 pub once_each : {W : Type 0} (f : W → Written) (task : Task) (steps : List (Took W)) → InOrder f task steps → ((i : Identity) → times (is_claim_of i) steps ≤ 1) → OnceEach steps

@@ -1,16 +1,16 @@
 -- Where each load is done in one piece, one of a cell whose key a page-out set is refused by chance alone: what it has got stays live and its own, each handle once, as long as it
 -- makes its own steps, and so does the handle that began it.
-use Rattle.pagable_laws.proofs.Words.{nat_tests, ◌≡◌, ℕ, zero, suc, ◌+◌, ◌<◌, false, List, [], ◌∷◌, Some, inl, inr, refl, sym, ap, subst, ◌∙◌, arith, HandleRow, Owner, ArcRef, Kind, HandleNumber}
-use Rattle.pagable_laws.proofs.Words.{LoadNumber, NodeNumber, OptionalDataKey, Among, type_of, mode_of, Core, OpenLoad, of_cell, Frame, Alike, row_at, row_of, with_handle, with_node, next_node}
-use Rattle.pagable_laws.proofs.Words.{is_named_by, Asked, adopted, GetsKnown, with_got, owner_value, HandlesAreWhole, Tree, find_row, Reading, Values, IsLawful, GoesOn, GetsLazy, MakesNode, FramesFit}
-use Rattle.pagable_laws.proofs.Words.{ReadsItsTypes, FramesHeld, slice_get, ◌⊎◌, root_frame, ◌==◌, Option, None, Ok, Err, is_some, Error, Mode, Beginning, Call, Reply, LoadAnswer, LoadReply}
-use Rattle.pagable_laws.proofs.Words.{Bool, Event, EventReply, if_there, is_in, updated, held, Seen, IsReference, references_fault, BeginCall, IsDecoded, gone_on, ReadingsAre, reading_at}
-use Rattle.pagable_laws.proofs.Words.{reading_after, LoadSteps, Stays, Happens, MachineState, world_of, IsMachineWhole, Moment, of_load, of_nobody, turn_of, StandTogether, IsOfChance}
-use Rattle.pagable_laws.proofs.{Words.{IsLoadOfPagedOut, LoadIsSound, IsBeginOf, HasBegun, SoundLaw}, Outlasting.{Stands, low-changed, stands-alike, NotValues, stands-whole, stands-fell, new-handle}}
-use Rattle.pagable_laws.proofs.{Outlasting.{low-whole, Has, has-alike}, Apart.{AreApart, fine, reads-once}, Fitting.{AllGot, all-new, all-more, first-fits, pushed}}
-use Rattle.pagable_laws.proofs.{Goes.found-number, ReadingSteps.{cached-rows, reading-stands, reading-number, reading-open}, Effects.{with-one, moved-free, named-among}, Decoding.decodes}
-use Rattle.pagable_laws.proofs.{GoodReferences.good, Trees.same_some, Coming.updated-at, Chains.{IsGoingOn, idle-goes}, Taking.{row-held, Going, going-of}, ReadingStepsGive.got-typed, Sound.by-chance}
-use Rattle.{pagable_laws.proofs.{Sound.{by-references, by-handle, IsForm, load-cause}, Deeply.along-with}, std.proofs.lemmas.Bool.false_from_ne_true, pagable_world.specs.Loads.Does}
+use Rattle.pagable_laws.proofs.{Apart.{AreApart, fine, reads-once}, Chains.{IsGoingOn, along-with, idle-goes}, Coming.updated-at, Decoding.decodes, Effects.{moved-free, named-among, with-one}}
+use Rattle.pagable_laws.proofs.{Fitting.{AllGot, all-more, all-new, first-fits, pushed}, Goes.found-number, GoodReferences.good, Outlasting.{Has, NotValues, Stands, has-alike, low-changed}}
+use Rattle.pagable_laws.proofs.{Outlasting.{low-whole, new-handle, stands-alike, stands-fell, stands-whole}, ReadingSteps.{cached-rows, reading-number, reading-open, reading-stands}}
+use Rattle.pagable_laws.proofs.{ReadingStepsGive.got-typed, Sound.{IsForm, by-chance, by-handle, by-references, load-cause}, Taking.{Going, going-of, row-held}, Trees.same_some, Words.Alike}
+use Rattle.pagable_laws.proofs.Words.{Among, ArcRef, Asked, BeginCall, Beginning, Bool, Call, Core, Err, Error, Event, EventReply, Frame, FramesFit, FramesHeld, GetsKnown, GetsLazy, GoesOn}
+use Rattle.pagable_laws.proofs.Words.{HandleNumber, HandleRow, HandlesAreWhole, Happens, HasBegun, IsBeginOf, IsDecoded, IsLawful, IsLoadOfPagedOut, IsMachineWhole, IsOfChance, IsReference, Kind}
+use Rattle.pagable_laws.proofs.Words.{List, LoadAnswer, LoadIsSound, LoadNumber, LoadReply, LoadSteps, MachineState, MakesNode, Mode, Moment, NodeNumber, None, Ok, OpenLoad, Option}
+use Rattle.pagable_laws.proofs.Words.{OptionalDataKey, Owner, Reading, ReadingsAre, ReadsItsTypes, Reply, Seen, Some, SoundLaw, StandTogether, Stays, Tree, Values, [], adopted, ap, arith, false}
+use Rattle.pagable_laws.proofs.Words.{find_row, gone_on, held, if_there, inl, inr, is_in, is_named_by, is_some, mode_of, nat_tests, next_node, of_cell, of_load, of_nobody, owner_value}
+use Rattle.pagable_laws.proofs.Words.{reading_after, reading_at, references_fault, refl, root_frame, row_at, row_of, slice_get, subst, suc, sym, turn_of, type_of, updated, with_got, with_handle}
+use Rattle.{pagable_laws.proofs.Words.{with_node, world_of, zero, ℕ, ◌+◌, ◌<◌, ◌==◌, ◌∙◌, ◌∷◌, ◌≡◌, ◌⊎◌}, pagable_world.specs.Loads.Does, std.proofs.{Common.rules, lemmas.Bool.false_from_ne_true}}
 
 -- ---- each handle once
 
@@ -42,36 +42,24 @@ once-got (top ∷ below) kind row small o =
 
 -- ---- rows
 
--- a row stays where a handle comes
-module _ (w w' : Core) where
-  pub asked-keeps : {q : ℕ} {row : HandleRow} → Asked w w' → Stands w.last.handle w.rows q row → Stands w'.last.handle w'.rows q row
-  asked-keeps a s = stands-alike {w = record w { failures = w'.failures }} a.leaves s
+-- a row stays where values' references move and a handle comes
+module _ (w w' : Core) (l : LoadNumber) (kind : Kind) (key : ℕ) (own : OptionalDataKey) (references : List ArcRef) where
+  abbrev born : Core
+  born = with_node w (type_of kind.0) own references
 
-  pub known-keeps : {l : LoadNumber} {kind : Kind} {key : ℕ} {k : HandleNumber} {q : ℕ} {row : HandleRow} → GetsKnown w l kind key k w' → Stands w.last.handle w.rows q row
-      → Stands w'.last.handle w'.rows q row
-  known-keeps {l} {kind} c s = stands-alike c.leaves (with-one w (record { 0 = c.n }) (mode_of kind.0) (Owner.Load l) s)
+  abbrev known : Core
+  known = adopted w l kind key own references
 
-  -- where values' references move and a handle comes
-  module _ (l : LoadNumber) (kind : Kind) (key : ℕ) (own : OptionalDataKey) (references : List ArcRef) where
-    abbrev pub born : Core
-    born = with_node w (type_of kind.0) own references
+  to-known : {q : ℕ} {row : HandleRow} → let m = with_handle born (next_node w) (mode_of kind.0) (Owner.Load l) in Stands m.last.handle m.rows q row → Stands known.last.handle known.rows q row
+  to-known {q} {row} s = grind (arith, nat_tests, cached-rows)
 
-    abbrev pub made : Core
-    made = with_handle born (next_node w) (mode_of kind.0) (Owner.Load l)
+  adopted-keeps : {q : ℕ} {row : HandleRow} → Alike known w' → is_named_by references q ≡ false → Stands w.last.handle w.rows q row → Stands w'.last.handle w'.rows q row
+  adopted-keeps {q} {row} a free s =
+      stands-alike a (to-known (with-one born (next_node w) (mode_of kind.0) (Owner.Load l) (moved-free (Owner.Load l) (is_named_by references) (owner_value (w.last.node + 1)) free s)))
 
-    abbrev pub known : Core
-    known = adopted w l kind key own references
-
-    to-known : {q : ℕ} {row : HandleRow} → Stands made.last.handle made.rows q row → Stands known.last.handle known.rows q row
-    to-known {q} {row} s = grind (arith, nat_tests, cached-rows)
-
-    pub adopted-keeps : {q : ℕ} {row : HandleRow} → Alike known w' → is_named_by references q ≡ false → Stands w.last.handle w.rows q row → Stands w'.last.handle w'.rows q row
-    adopted-keeps {q} {row} a free s =
-        stands-alike a (to-known (with-one born (next_node w) (mode_of kind.0) (Owner.Load l) (moved-free (Owner.Load l) (is_named_by references) (owner_value (w.last.node + 1)) free s)))
-
-    pub adopted-new : HandlesAreWhole w → Alike known w' → Stands w'.last.handle w'.rows (w.last.handle + 1) (row_of (w.last.handle + 1) (next_node w) (mode_of kind.0) (Owner.Load l))
-    adopted-new whole a = stands-alike a (to-known (new-handle born (next_node w) (mode_of kind.0) (Owner.Load l)
-        (low-changed w.last.handle w.rows (λ h. is_named_by references h.number.0) (λ h. record h { owner = owner_value (w.last.node + 1) }) (λ h. refl) (low-whole whole))))
+  adopted-new : HandlesAreWhole w → Alike known w' → Stands w'.last.handle w'.rows (w.last.handle + 1) (row_of (w.last.handle + 1) (next_node w) (mode_of kind.0) (Owner.Load l))
+  adopted-new whole a = stands-alike a (to-known (new-handle born (next_node w) (mode_of kind.0) (Owner.Load l)
+      (low-changed w.last.handle w.rows (λ h. is_named_by references h.number.0) (λ h. record h { owner = owner_value (w.last.node + 1) }) (λ h. refl) (low-whole whole))))
 
 pub not-named : (rs : List ArcRef) (q : ℕ) → ((g : ArcRef) → Among rs g → g.handle.0 ≡ q → ⊥) → is_named_by rs q ≡ false
 not-named rs q none = false_from_ne_true (is_named_by rs q) (λ e. let (r, among, same) = named-among rs q e in none r among same)
@@ -133,7 +121,7 @@ module _ {N : Type 0} (v : Values N) (lawful : IsLawful v) (readable : ReadsItsT
   known-ready : (kind : Kind) (key : ℕ) (k : HandleNumber) (row : HandleRow) → GetsKnown w l kind key k w' → row_at w' k ≡ Some row → LoadReady w' l load (with_got kind row reading.frames)
   known-ready kind key k row c made =
       let new = stands-alike c.leaves (new-handle w (record { 0 = c.n }) (mode_of kind.0) (Owner.Load l) (low-whole whole)) in
-      got-ready reading.frames kind row k _ made c.next.above new refl small (all-ready (λ q x free own s. known-keeps w w' c s))
+      got-ready reading.frames kind row k _ made c.next.above new refl small (all-ready (λ q x free own s. stands-alike c.leaves (with-one w (record { 0 = c.n }) (mode_of kind.0) (Owner.Load l) s)))
 
   lazy-ready : (frames : List Frame) (g : GetsLazy v.types w Owner.Caller reading frames w') → LoadReady w' l load (with_got g.kind g.row reading.frames)
   unfolding is_named_by
@@ -179,7 +167,7 @@ module _ {N : Type 0} (v : Values N) (lawful : IsLawful v) (readable : ReadsItsT
   -- a blob was read
   asked-ready : Asked w w' → (frame : Frame) → frame.got ≡ [] → LoadReady w' l load (frame ∷ reading.frames)
   asked-ready a frame none =
-      let still = all-ready (λ q row free own s. asked-keeps w w' a s) in
+      let still = all-ready (λ q row free own s. stands-alike {w = record w { failures = w'.failures }} a.leaves s) in
       search (still.begun, all-new (λ r. Has w' (Owner.Load l) r.handle) frame reading.frames none still.live, once-new frame reading.frames none still.once)
 
   pub goes-ready : (frames : List Frame) → GoesOn v w Owner.Caller reading frames w' → LoadReady w' l load frames
@@ -240,8 +228,7 @@ module _ {N B W E : Type 0} (m : Seen N B W) (s s' : MachineState N E) (whole : 
   begin-ready : (l : LoadNumber) (event : Event N B W) (reply : EventReply N B W) → IsBeginOf l.0 event reply → Happens m (world_of s) event reply (world_of s') → Ready s' l
   begin-ready l (Event.LoadStart h) (EventReply.Started (Ok (Beginning.Load k key))) is x = by-call h k l key x.step x.readings is
   begin-ready l (Event.Call (Call.LoadBegin h)) (EventReply.CallReply (Reply.Begun (Ok (Beginning.Load k key)))) is x = by-call h k l key x.step.does x.readings is
-  begin-ready l (Event.LoadKey q t) (EventReply.Started (Ok (Beginning.Load k key))) is x = grind (arith, nat_tests)
-  begin-ready l event reply is x = absurd is
+  begin-ready l event reply is x = grind (arith, nat_tests)
 
   -- ---- steps
 
@@ -289,11 +276,7 @@ module _ {N B W E : Type 0} (m : Seen N B W) (lawful : IsLawful m.values) (reada
       let same : s'.work.readings l.0 ≡ s.work.readings l.0 = st.readings l.0 ∙ ap (λ (o : Option OpenLoad). if_there (λ (z : OpenLoad). s.work.readings l.0) None o) open_load in
       let here : reading_at (world_of s) l ≡ Some reading = rw (same, st.core.loads l.0) at at in
       let b = ready reading load here was in
-      record {
-        begun = λ node t h root. has-alike st.core (b.begun node t h root);
-        live = λ frame r among got. has-alike st.core (b.live frame r among got);
-        once = b.once;
-      }
+      search (rules, has-alike, st.core, b.begun, b.live, b.once)
 
   -- ---- it is sound
 
@@ -386,8 +369,8 @@ module _ {N B W E : Type 0} (m : Seen N B W) where
       load-sound stages trees' event reply same h = tt
 
 pub sound_law : {N B W : Type 0} (E : Type 0) (m : Seen N B W) → SoundLaw E m
-sound_law E m start moments trees whole idle chain together begun stands lawful readable settled =
-    along-with m LoadIsSound (λ s xs. StandTogether xs × Stages m s xs) lawful readable (λ s trees trees' x xs on so whole' is. (
+sound_law E m start moments together begun trees whole idle chain stands lawful readable settled =
+    along-with m lawful readable LoadIsSound (λ s xs. StandTogether xs × Stages m s xs) (λ s trees trees' x xs on so whole' is right. (
       load-sound m lawful readable s trees on x xs whole' is so.0 so.1 trees' x.event x.reply refl is,
       (
         (λ i j k p q r lt lt2 at there here. so.0 (suc i) (suc j) (suc k) p q r (omega (arith, lt)) (omega (arith, lt2)) at there here),

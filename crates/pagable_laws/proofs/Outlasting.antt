@@ -1,11 +1,12 @@
 -- A handle that is live, that no value owns and that isn't given up outlasts a cascade, with its row.
-use Rattle.pagable_laws.proofs.Words.{◌≡◌, ℕ, zero, suc, ◌+◌, ◌<◌, ◌≤◌, ◌==◌, ◌&&◌, Bool, true, false, List, [], ◌∷◌, ◌++◌, cond, refl, ap, sym, subst, ◌∙◌, inl, inr, arith, Option, Some, None, not}
-use Rattle.pagable_laws.proofs.Words.{if◌then◌else◌, filter, map, slice_get, cases_order, nat_tests, get_or_from_slice_get, slice_get_within, HandleNumber, NodeNumber, Among, changed, or_else, Owner}
-use Rattle.pagable_laws.proofs.Words.{HandleRow, find_row, is_handle, is_owner, owner_value, Core, Last, Alike, IsLeast, is_keyed, Falls, left_rows, fallen, IsHandleBefore, HandlesAreWhole, Ok}
-use Rattle.pagable_laws.proofs.Words.{ArcRef, Identity, LoadNumber, Mode, Event, EventReply, LoadAnswer, Took, Call, Reply, Pinning, PinStep, is_pinning, is_loose, owner_worker, World, Seen, Todo}
-use Rattle.pagable_laws.proofs.Words.{to_pin, is_named_by, CloneCall, PinCall, with_pin, without_load, is_owned_in, EndCall, Site, PinsAtOnce, answer_after, Happens, HasPin, to_load, row_at}
-use Rattle.pagable_laws.proofs.{Words.{FallsAnyhow, row_of, with_handle, with_mode, moved, PinHolds}, Decoding.among-either, Existing.outlast, Goes.{le-more, found-number, none-in-new}}
-use Rattle.{pagable_laws.proofs.{Sums.{same-number, self-number}, Trees.same_some}, pagable_world.specs.Loads.Does, std.{specs.List.AllPairs, proofs.{lemmas.Bool.{cases_Bool, false_from_ne_true}, Common.rules}}}
+use Rattle.pagable_laws.proofs.{Decoding.among-either, Existing.outlast, Goes.{found-number, le-more, none-in-new}, Sums.{same-number, self-number}, Trees.same_some, Words.{Alike, Among, ArcRef}}
+use Rattle.pagable_laws.proofs.Words.{Bool, Call, CloneCall, Core, EndCall, Event, EventReply, Falls, FallsAnyhow, HandleNumber, HandleRow, HandlesAreWhole, Happens, HasPin, Identity}
+use Rattle.pagable_laws.proofs.Words.{IsHandleBefore, IsLeast, Last, List, LoadAnswer, LoadNumber, Mode, NodeNumber, None, Ok, Option, Owner, PinCall, PinHolds, PinStep, Pinning, PinsAtOnce, Reply}
+use Rattle.pagable_laws.proofs.Words.{Seen, Site, Some, Todo, Took, World, [], answer_after, ap, arith, cases_order, changed, cond, fallen, false, filter, find_row, get_or_from_slice_get}
+use Rattle.pagable_laws.proofs.Words.{if◌then◌else◌, inl, inr, is_handle, is_keyed, is_loose, is_named_by, is_owned_in, is_owner, is_pinning, left_rows, map, moved, nat_tests, not, or_else}
+use Rattle.pagable_laws.proofs.Words.{owner_value, owner_worker, refl, row_at, row_of, slice_get, slice_get_within, subst, suc, sym, to_load, to_pin, true, with_handle, with_mode, with_pin}
+use Rattle.{pagable_laws.proofs.Words.{without_load, zero, ℕ, ◌&&◌, ◌++◌, ◌+◌, ◌<◌, ◌==◌, ◌∙◌, ◌∷◌, ◌≡◌, ◌≤◌}, pagable_world.specs.Loads.Does, std.proofs.{Common.rules, lemmas.Bool.cases_Bool}}
+use Rattle.std.{proofs.lemmas.Bool.false_from_ne_true, specs.List.AllPairs}
 use Rattle.pagable_world.specs.Workers as workers
 
 -- no value's
@@ -58,11 +59,9 @@ abbrev pub AreUpTo : ℕ → List HandleRow → Type 0
 AreUpTo last rows = (h : HandleRow) → Among rows h → h.number.0 ≤ last
 
 pub none-above : (last q : ℕ) (rows : List HandleRow) → AreUpTo last rows → last < q → find_row q rows ≡ None
-none-above last q rows few above = at (find_row q rows) refl
-  where
-    at : (found : Option HandleRow) → find_row q rows ≡ found → find_row q rows ≡ None
-    at None e = e
-    at (Some h) e = let a = few h (among-found q rows h e) in let b = found-number q rows h e in absurd (omega arith)
+unfolding find_row
+none-above last q [] few above = refl
+none-above last q (h ∷ hs) few above = grind (arith, nat_tests, few h (zero, refl), none-above last q hs (λ x among. few x (suc among.0, among.1)) above)
 
 pub once : (rows : List HandleRow) → AllPairs IsHandleBefore rows → (a b : HandleRow) → Among rows a → Among rows b → a.number.0 ≡ b.number.0 → a ≡ b
 once rows ordered a b (i, at) (j, there) same =

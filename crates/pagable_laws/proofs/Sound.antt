@@ -6,8 +6,8 @@ use Rattle.pagable_laws.proofs.Words.{is_broken, IsPublished, MachineState, worl
 use Rattle.pagable_laws.proofs.Words.{Owner, HandleNumber, LoadNumber, NodeNumber, Types, any_mode, Core, OpenLoad, of_cell, Reading, Seen, IsLawful, earlier, refused_if}
 use Rattle.pagable_laws.proofs.Words.{handle_fault, references_fault, load_fault, AreHandlesFull, Refused, AskCall, ask_fault, is_known, node_fault, needs_nested, needs_lazy, IsDecoded}
 use Rattle.pagable_laws.proofs.Words.{RefusesBlob, RefusesNode, RefusesRoot, IsOfKey, Fails, reading_at, FitsRoot, IsOfChance, IsPagedOutAs, IsLoadOfPagedOut, Ok, Mode, LoadAnswer, LoadReply, Event}
-use Rattle.pagable_laws.proofs.Words.{EventReply, or_else, LoadSteps, Happens, IsOfHandles, LoadIsFaultless, FaultlessLaw, ◌<◌, Took, owner_worker, Todo, Walking, named_fault, handles_of, after_kinds}
-use Rattle.pagable_laws.proofs.Words.{LeadsDown, is-there, goes-down, ReadsTooDeep, IsReadingOf, of_worker, LoadIsDeep, DeepLoadLaw, AllLow, IsFresh, LazyCall, RefusesNested, reference_fault}
+use Rattle.pagable_laws.proofs.Words.{EventReply, or_else, LoadSteps, Happens, IsOfHandles, LoadIsFaultless, HoldsAlong, ◌<◌, Took, owner_worker, Todo, Walking, named_fault, handles_of, after_kinds}
+use Rattle.pagable_laws.proofs.Words.{LeadsDown, is-there, goes-down, ReadsTooDeep, IsReadingOf, of_worker, LoadIsDeep, AllLow, IsFresh, LazyCall, RefusesNested, reference_fault}
 use Rattle.pagable_laws.proofs.{Words.{HandleRow, row_fault}, Trees.same_some, Fitting.asked, Apart.{IsFormOf, GotAsked, FramesAsked, NextOf, asks-known, all-read, next-known, kinds_of}}
 use Rattle.pagable_laws.proofs.{Apart.{asks-by-kinds, faulty-by-kinds, all-got}, Sums.self-number, Taking.{adopted-over, eager-nested, Going, going-of}, Chains.IsGoingOn, Deeply.along-first}
 use Rattle.{pagable_laws.proofs.ReadingSteps.{reading-stands, reading-number, reading-open}, std.proofs.Common.rules, pagable_world.specs.Loads.Does}
@@ -335,7 +335,7 @@ module _ {N B W E : Type 0} (m : Seen N B W) (lawful : IsLawful m.values) (reada
   ]
   load-faultless event reply is = tt
 
-pub faultless_law : {N B W : Type 0} (E : Type 0) (m : Seen N B W) → FaultlessLaw E m
+pub faultless_law : {N B W : Type 0} (E : Type 0) (m : Seen N B W) → HoldsAlong E m LoadIsFaultless
 faultless_law E m start moments trees whole idle chain stands lawful readable settled = search (rules, along-first, load-faultless)
 
 -- ---- what isn't refused as too deep
@@ -455,5 +455,5 @@ module _ {N B W E : Type 0} (m : Seen N B W) (lawful : IsLawful m.values) (s s' 
       by-reading (owner_worker n.0) reading load (inl (of_worker n.0 place walking r through below there todo)) open_load x.after.core step.1.refused.0.does.0
   load-deep event reply is = tt
 
-pub deep_load_law : {N B W : Type 0} (E : Type 0) (m : Seen N B W) → DeepLoadLaw E m
+pub deep_load_law : {N B W : Type 0} (E : Type 0) (m : Seen N B W) → HoldsAlong E m (LoadIsDeep m.values)
 deep_load_law E m start moments trees whole idle chain stands lawful readable settled = grind (arith, along-first, load-deep)

@@ -1,14 +1,13 @@
 -- What tables and to-do lists hold of trees goes on as long as what is stored and each node's tree stay; and what a change of a table comes to.
-use Rattle.pagable_laws.proofs.Words.{nat_tests, ◌≡◌, ℕ, ◌≤◌, Bool, List, [], ◌∷◌, inl, inr, Option, Some, None, if◌then◌else◌, refl, sym, ap, subst, ◌∙◌, arith, nat_eq, ArcRef, Identity, Blob, Tree}
-use Rattle.pagable_laws.proofs.Words.{Among, identity_of, Shelf, Slot, failed, Written, Todo, to_finish, Task, Values, IsPublished, is_open_outcome, with_outcome, with_failed, AreKeysOf, Ground}
-use Rattle.pagable_laws.proofs.Words.{FollowsTo, WroteTree, KeyStands, BlobStands, SlotFits, KeysSoFar, Waits, Above, HasBlob, Walks, SlotsFit, ◌==◌, true, ◌++◌, length, Ok, drop, blob_of}
-use Rattle.pagable_laws.proofs.Words.{HandleNumber, type_of, Claim, Took, no_result, published, Open, Fault, to_start, to_write, to_item, to_set, to_publish, to_release, to_fail, Seen, digest, Stores}
-use Rattle.pagable_laws.proofs.Words.{Site, Does, claim_fault, next_start, give, give_known, open_node, with_wait, answer_after, Expects, Event, EventReply, of_item, of_entry, IsLawful, first_todo}
-use Rattle.pagable_laws.proofs.Words.{Ends, MachineState, world_of, IsMachineWhole, IsIdle, Represents, TookWrites, ReplyWrites, HoldsSettled, ReadsItsTypes, ground_of, WorkFits}
-use Rattle.pagable_laws.proofs.{Words.{IsDone, AllLow, IsLow, IsAttained, Placed, HasRoom, is_eager, longest_path, max, above, suc, ◌+◌}, Standing.{ShelfGrows, some-same, published-stays, PutsSlot}}
-use Rattle.pagable_laws.proofs.{Standing.{put-cases, puts-slot, changes-slot, HasClaim, AllStand}, Following.{IdentityStands, key-stands, leads-on, wrote}, Coming.{StandsIn, EventTurns, same-grow}}
-use Rattle.pagable_laws.proofs.Coming.{turns-grow, turns-keep}
-use Rattle.{pagable_laws.proofs.Trees.followed-all, std.proofs.Common.rules}
+use Rattle.pagable_laws.proofs.{Coming.{EventTurns, StandsIn, same-grow, turns-grow, turns-keep}, Following.{IdentityStands, key-stands, leads-on, wrote}, Standing.{AllStand, HasClaim, PutsSlot}}
+use Rattle.pagable_laws.proofs.{Standing.{ShelfGrows, changes-slot, published-stays, put-cases, puts-slot, some-same}, Trees.followed-all, Words.{Above, AllLow, Among, ArcRef, AreKeysOf, Blob}}
+use Rattle.pagable_laws.proofs.Words.{BlobStands, Bool, Claim, Does, Ends, Event, EventReply, Expects, Fault, FollowsTo, Ground, HandleNumber, HasBlob, HasRoom, HoldsSettled, Identity, IsAttained}
+use Rattle.pagable_laws.proofs.Words.{IsDone, IsIdle, IsLawful, IsLow, IsMachineWhole, IsPublished, KeyStands, KeysSoFar, List, MachineState, None, Ok, Open, Option, Placed, ReadsItsTypes}
+use Rattle.pagable_laws.proofs.Words.{ReplyWrites, Represents, Seen, Shelf, Site, Slot, SlotFits, SlotsFit, Some, Stores, Task, Todo, Took, TookWrites, Tree, Values, Waits, Walks, WorkFits}
+use Rattle.pagable_laws.proofs.Words.{Written, WroteTree, [], above, answer_after, ap, arith, blob_of, claim_fault, digest, drop, failed, first_todo, give, give_known, ground_of, identity_of}
+use Rattle.pagable_laws.proofs.Words.{if◌then◌else◌, inl, inr, is_eager, is_open_outcome, length, longest_path, max, nat_eq, nat_tests, next_start, no_result, of_entry, of_item, open_node}
+use Rattle.pagable_laws.proofs.Words.{published, refl, subst, suc, sym, to_fail, to_finish, to_item, to_publish, to_release, to_set, to_start, to_write, true, type_of, with_failed, with_outcome}
+use Rattle.{pagable_laws.proofs.Words.{with_wait, world_of, ℕ, ◌++◌, ◌+◌, ◌==◌, ◌∙◌, ◌∷◌, ◌≡◌, ◌≤◌}, std.proofs.Common.rules}
 
 -- ---- what is stored stays, and each node keeps its tree
 
@@ -119,10 +118,9 @@ module _ (shelf : Shelf) where
   so-far-more : (h k : ℕ) (rs : List ArcRef) (ks : List ℕ) (r : ArcRef) (more : List ArcRef) (key below : ℕ) → h ≤ k → above r.kind.0 below ≤ k → drop (length ks) rs ≡ r ∷ more
       → KeysSoFar shelf h rs ks → IsPublished shelf (identity_of r) key below → KeysSoFar shelf k rs (ks ++ key ∷ [])
   unfolding KeysSoFar
-  so-far-more h k [] [] r more key below le new e known p = absurd (cc)
   so-far-more h k [] (x ∷ ks) r more key below le new e known p = absurd known
-  so-far-more h k (x ∷ rs) [] r more key below le new e known p = grind (arith, nat_tests, identity_of, above)
   so-far-more h k (x ∷ rs) (y ∷ ks) r more key below le new e ((b, q, few), known) p = ((b, q, omega arith), so-far-more h k rs ks r more key below le new e known p)
+  so-far-more h k x2 x3 r more key below le new e x11 p = grind (arith, nat_tests, identity_of, above)
 
   -- all keys are known
   pub all-known : (h : ℕ) (rs : List ArcRef) (ks : List ℕ) → length ks ≡ length rs → KeysSoFar shelf h rs ks → AreKeysOf shelf rs ks

@@ -1,14 +1,11 @@
 -- Sums over the elements of a list, and what they count.
-use Rattle.pagable_laws.proofs.Words.{◌≡◌, ℕ, suc, zero, ◌+◌, ◌<◌, ◌≤◌, ◌==◌, Bool, true, List, [], ◌∷◌, sum_by, refl, ap, ◌∙◌, arith, filter, length, nat_tests, sum_by-cons, one, Among}
-use Rattle.{pagable_laws.proofs.Words.{times, PinsAreAFilter}, std.proofs.Common.rules}
+use Rattle.pagable_laws.proofs.Words.{Among, Bool, List, PinsAreAFilter, [], ap, arith, filter, length, nat_tests, one, refl, suc, sum_by, sum_by-cons, times, true, zero, ℕ, ◌+◌, ◌<◌, ◌==◌, ◌∙◌}
+use Rattle.{pagable_laws.proofs.Words.{◌∷◌, ◌≡◌, ◌≤◌}, std.proofs.Common.rules}
+pub use Rattle.std.proofs.lemmas.Bool.{eqb-true as same-number}
 
 -- a number is itself by the test too
 pub self-number : (a : ℕ) → (a == a) ≡ true
 self-number a = grind (arith, nat_tests)
-
--- and another with which it passes is it
-pub same-number : (a b : ℕ) → (a == b) ≡ true → a ≡ b
-same-number a b e = grind (arith, nat_tests)
 
 -- what counts is true
 pub one-true : (b : Bool) → 0 < one b → b ≡ true

@@ -1,14 +1,10 @@
 -- One key spells one tree, and one tree of canonical types has one key.
-use Rattle.pagable_laws.proofs.Words.{arith, nat_tests, ◌≡◌, ℕ, Option, Some, Result, Ok, refl, Error, Meaning, Rest, Blob, KeyRef, Types, tree, ReadsAs, IsFollowed, number-followed, integer-followed}
-use Rattle.pagable_laws.proofs.Words.{text-followed, pattern-followed, none-followed, pair-followed, variant-followed, reference-followed, IsOneTree, EachType, pair, variant, followed, type_of, sym}
-use Rattle.pagable_laws.proofs.Words.{subst}
-use Rattle.std.proofs.{Common.rules}
+use Rattle.pagable_laws.proofs.Words.{Blob, EachType, IsFollowed, KeyRef, Meaning, Option, ReadsAs, ReadsTree, Some, Tree, Types, arith, followed, integer-followed, nat_tests, none-followed}
+use Rattle.pagable_laws.proofs.Words.{number-followed, pair, pair-followed, pattern-followed, reference-followed, refl, subst, sym, text-followed, tree, type_of, variant, variant-followed, ℕ, ◌≡◌}
+use Rattle.std.proofs.Common.{rules}
 
 pub same_some : {X : Type 0} (x y : X) → Some x ≡ Some y → x ≡ y
 same_some x y e = cc
-
-pub same_result : {X : Type 0} (r : Result (X × Rest ℕ) Error) (m n : X) (x y : Rest ℕ) → r ≡ Ok (m, x) → r ≡ Ok (n, y) → m ≡ n
-same_result {X} r m n x y e f = grind (arith, nat_tests)
 
 pub tree_is : (x y : ℕ) (a b : Meaning ⊥) → x ≡ y → a ≡ b → tree x a ≡ tree y b
 tree_is x y a b e1 e2 = rw (e1, e2) refl
@@ -54,5 +50,5 @@ module _ {store : ℕ → Option Blob} {types : Types} where
   same-followed : {m n : Meaning KeyRef} {a b : Meaning ⊥} → IsFollowed (ReadsAs store types) m a → IsFollowed (ReadsAs store types) n b → m ≡ n → a ≡ b
   same-followed {a = a} h g e = one-followed (λ t. Unit {0}) (λ t key m n u p q. same-reading p q) (each-type (λ t. tt) a) h g e
 
-pub one_tree : IsOneTree
+pub one_tree : (store : ℕ → Option Blob) (types : Types) (key : ℕ) (t u : Tree) → t.type ≡ u.type → ReadsTree store types key t → ReadsTree store types key u → t ≡ u
 one_tree store types key t u e h g = search (rules, same-followed, same-reading)

@@ -62,15 +62,15 @@ pub use Rattle.pagable_world.specs.{declared.events.WorkerAnswer.WorkerAnswer, d
 pub use Rattle.pagable_world.specs.declared.rows.Mode.{Mode}
 unfoldable pub use Rattle.pagable_world.specs.{Calls.is_named_by, Headline.claims_made, Kinds.find_row, Loads.answers_from, Order.steps_of, Pager.FramesFit, Plain.is_in, Refusals.references_fault}
 unfoldable pub use Rattle.pagable_world.specs.{Refusals.named_fault, Runs.state_after}
-pub use Rattle.pagable_laws.specs.DeepLaws.{ShallowLaw, MetDepthAlone, DepthIsTold, ToldDepthLaw, WaitsForAsker, ClaimIsDeep, DeepClaimLaw, IsOfHandles, LoadIsFaultless, FaultlessLaw, LoadIsDeep}
-pub use Rattle.pagable_laws.specs.{DeepLaws.{DeepLoadLaw, IsBeginOf, HasBegun, SoundLaw}, FallLaws.{PinsAreAFilter, OwnsNothing, IsGivenAlone, TwoLevelsFall, LoneIsListed, ChainsJoin, NewIsWhole}}
+pub use Rattle.pagable_laws.specs.DeepLaws.{HoldsAlong, MetDepthAlone, DepthIsTold, WaitsForAsker, ClaimIsDeep, IsOfHandles, LoadIsFaultless, LoadIsDeep}
+pub use Rattle.pagable_laws.specs.{DeepLaws.{IsBeginOf, HasBegun, SoundLaw}, FallLaws.{PinsAreAFilter, OwnsNothing, IsGivenAlone, TwoLevelsFall, LoneIsListed, ChainsJoin, NewIsWhole}}
 pub use Rattle.pagable_laws.specs.{FallLaws.NextIsOneOf, FormLaws.{rest, at, IsNatural, IsReadOver, IsRenamed, IsReadThrough, KeepsForms, with_more, IsLocal, IsUsed, IsLasting, IsReadAgain, LooksUp}}
 pub use Rattle.pagable_laws.specs.{FormLaws.{no-references, more-references, CanonicalHasOneForm, HasOnePreimage, IsPrefixFree}, KeyLaws.{FloatHasNoForm, WholeIsBounded, IsOneKeyMeaning, IsAnyOrder}}
 pub use Rattle.pagable_laws.specs.{KeyRuns.{StandsAt, KeyIsSet, HasHandle, KeysHeld, Holds, KeysAreRight}, TwoLevels.{ArePremised, TwoLevelsMeetTheHeadline, Sample, sample, sample_type}}
 pub use Rattle.pagable_laws.specs.{TwoLevels.{sample_references, machine}, PageOutLaws.{IsLow, AllLow, IsAttained, place_over, HasRoom, Placed, ground_of, Walks, WorkFits, Ground, WroteTree}}
 pub use Rattle.pagable_laws.specs.{PageOutLaws.{BlobStands, SlotFits, Expects, Above, HasBlob, SlotsFit, KeyStands, IsOfEntry, IsDone}, ReadLaws.{Needs, KeepsStored, FramesGiven, ValueLeads, LeadsBy}}
 pub use Rattle.pagable_laws.specs.ReadLaws.{LeadsTo, FollowsTo, number-leads, integer-leads, text-leads, pattern-leads, none-leads, pair-leads, variant-leads, followed-leads, reference-leads, Decoded}
-pub use Rattle.pagable_laws.specs.{ReadLaws.{FramesHeld, GotStands}, Rows.{only_cat, chain, no_parts, cats}, SmallWorlds.{no_work, two_rows, are_two, outer, first, first_node, lone, lone_listed}}
+pub use Rattle.pagable_laws.specs.{ReadLaws.{FramesHeld, GotStands}, Rows.{only_cat, chain, no_parts, cats}, SmallWorlds.{no_work, two_rows, outer, first, first_node, lone, lone_listed}}
 pub use Rattle.pagable_laws.specs.{SmallWorlds.lone_unlisted, TreeLaws.{IsOneKey, IsOneItemKey, IsStoredKey, IsTreeReadable, IsKeyOfOneTree, StaysInside, IsCanonicalInside, IsOneTree, IsLongestPath}}
 pub use Rattle.pagable_laws.specs.TreeSteps.{ChangeFits, Change, nothing_felt, bears_known, ReadingFeels, reads-root, reads-blob, gets-known, gets-lazy, makes-known, makes-node, reading-ends}
 pub use Rattle.pagable_laws.specs.TreeSteps.{sets_key, IsFresh, CoreGoes, EventFeels, by-call, by-reading, by-key, by-nothing, KeepsReadings, KeysAreReady, knows_node, bears_node, StaysAway, AreGood}

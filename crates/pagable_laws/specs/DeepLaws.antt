@@ -1,16 +1,15 @@
 -- The laws of paths that are too long, of values that have no form, and of loads that are each done in one piece.
-use Rattle.std.specs.Prelude.{ℕ, ◌≡◌, ◌≢◌, ◌<◌, ◌⊎◌, List, ◌∷◌, Some, Ok, Err, slice_get}
-use Rattle.pagable_world.specs.{Plain.{Error, ArcRef, HandleNumber, Identity, Tree, Among}, declared.events.Claim.Claim, declared.events.Event.Event, declared.events.EventReply.EventReply}
-use Rattle.pagable_world.specs.{declared.events.LoadAnswer.LoadAnswer, declared.events.Took.Took, declared.events.WorkerAnswer.WorkerAnswer, World.{Shelf, Slot, Reading, Todo, to_load, Walking}}
-use Rattle.pagable_world.specs.{World.{OpenLoad, Values, Seen, IsLawful}, Events.reading_at, Order.{ReadsTooDeep, MetError, steps_of}, Workers.{IsOpenSlot, ComesBack}, Pager.{MachineState, world_of}}
-use Rattle.pagable_world.specs.{Pager.{IsMachineWhole, IsIdle, StandsFor}, Runs.{ReadsItsTypes, HoldsSettled, Moment, AreMoments, state_after, events_of, replies_of, Fact, TreesAlong}}
-use Rattle.pagable_world.specs.{OneWorker.{IsTooDeepTask, IsFormlessTask, KeyIsShallow, IsOfChance, IsLoadOfPagedOut, StandTogether, LoadIsSound}, Plain.LoadNumber}
-use Rattle.pagable_world.specs.declared.{answers.Beginning.Beginning, calls.Call.Call, calls.Reply.Reply}
+use Rattle.pagable_world.specs.{Events.reading_at, OneWorker.{IsFormlessTask, IsLoadOfPagedOut, IsOfChance, IsTooDeepTask, LoadIsSound, StandTogether}, Order.{MetError, ReadsTooDeep, steps_of}}
+use Rattle.pagable_world.specs.{Pager.{IsIdle, IsMachineWhole, MachineState, StandsFor, world_of}, Plain.{Among, ArcRef, Error, HandleNumber, Identity, LoadNumber, Tree}, Runs.{AreMoments, Fact}}
+use Rattle.pagable_world.specs.{Runs.{HoldsSettled, Moment, ReadsItsTypes, TreesAlong, events_of, replies_of, state_after}, Workers.{ComesBack, IsOpenSlot}, World.{IsLawful, OpenLoad, Reading}}
+use Rattle.pagable_world.specs.{World.{Seen, Shelf, Slot, Todo, Values, Walking, to_load}, declared.{answers.Beginning.Beginning, calls.{Call.Call, Reply.Reply}, events.{Claim.Claim, Event.Event}}}
+use Rattle.{pagable_world.specs.declared.events.{EventReply.EventReply, LoadAnswer.LoadAnswer, Took.Took, WorkerAnswer.WorkerAnswer}, std.specs.Prelude.{Err, List, Ok, Some, slice_get, ℕ, ◌<◌}}
+use Rattle.std.specs.Prelude.{◌∷◌, ◌≡◌, ◌≢◌, ◌⊎◌}
 
--- The fact holds of each event along every chain that begins at a whole machine for which nobody works yet.
-abbrev pub HoldsAlong : {N B W : Type 0} → (E : Type 0) → (m : Seen N B W) → Fact N E B W → Type 0
-HoldsAlong {N} {B} {W} E m P =
-    (start : MachineState N E) (moments : List (Moment N E B W)) (trees : ℕ → Tree)
+-- The fact holds of each event along the chain, where it begins at a whole machine for which nobody works yet.
+abbrev pub HoldsOf : {N E B W : Type 0} → (m : Seen N B W) → Fact N E B W → MachineState N E → List (Moment N E B W) → Type 0
+HoldsOf m P start moments =
+    (trees : ℕ → Tree)
     → IsMachineWhole m.values start
     → IsIdle start
     → AreMoments m start moments
@@ -20,9 +19,9 @@ HoldsAlong {N} {B} {W} E m P =
     → HoldsSettled m.values start.pager
     → TreesAlong m P start trees moments
 
--- A worker answers no key of an item or cell that leads down too long a path or to a value that has no form, however loads and workers take turns.
-abbrev pub ShallowLaw : {N B W : Type 0} → (E : Type 0) → Seen N B W → Type 0
-ShallowLaw E m = HoldsAlong E m (KeyIsShallow m.values)
+-- So it does along every chain.
+abbrev pub HoldsAlong : {N B W : Type 0} → (E : Type 0) → (m : Seen N B W) → Fact N E B W → Type 0
+HoldsAlong {N} {B} {W} E m P = (start : MachineState N E) (moments : List (Moment N E B W)) → HoldsOf m P start moments
 
 -- another worker is at the identity, and waits for the worker
 pub record WaitsForAsker (shelf : Shelf) (n : ℕ) (i : Identity) : Type 0 where
@@ -40,10 +39,6 @@ ClaimIsDeep s trees (Event.WorkerStep n) (EventReply.WorkerMoved (Ok reply)) s' 
     → IsTooDeepTask trees walking.task ⊎ WaitsForAsker (s.work.shelves walking.table) n.0 i
 ClaimIsDeep s trees event reply s' trees' = Unit {0}
 
--- So it is along every chain, however loads and workers take turns.
-abbrev pub DeepClaimLaw : {N B W : Type 0} → (E : Type 0) → Seen N B W → Type 0
-DeepClaimLaw E m = HoldsAlong E m ClaimIsDeep
-
 -- what is told of a handle: it is gone, another's, or of another mode or type
 abbrev pub IsOfHandles : Error → Type 0
 IsOfHandles Error.NoSuchHandle = Unit {0}
@@ -57,10 +52,6 @@ abbrev pub LoadIsFaultless : {N E B W : Type 0} → Fact N E B W
 LoadIsFaultless s trees (Event.LoadStep l) (EventReply.LoadMoved (Ok reply)) s' trees' =
     (load : OpenLoad) (e : Error) → s.pager.core.loads l.0 ≡ Some load → IsLoadOfPagedOut s load → reply.ended ≡ Some (LoadAnswer.Refused e) → IsOfChance e ⊎ IsOfHandles e
 LoadIsFaultless s trees event reply s' trees' = Unit {0}
-
--- So it is along every chain, however loads and workers take turns.
-abbrev pub FaultlessLaw : {N B W : Type 0} → (E : Type 0) → Seen N B W → Type 0
-FaultlessLaw E m = HoldsAlong E m LoadIsFaultless
 
 -- A load of the caller's or of a worker's is refused as too deep only where the reading of its key comes to a blob that lies too deep, or to one that enters a level too many.
 abbrev pub LoadIsDeep : {N E B W : Type 0} → Values N → Fact N E B W
@@ -78,10 +69,6 @@ LoadIsDeep v s trees (Event.WorkerStep n) (EventReply.WorkerMoved (Ok reply)) s'
     → reply.took ≡ Took.Pin i (Err Error.TooDeep)
     → ReadsTooDeep v.types s.pager.core.stored reading.node_type load.key
 LoadIsDeep v s trees event reply s' trees' = Unit {0}
-
--- So it is along every chain, however loads and workers take turns.
-abbrev pub DeepLoadLaw : {N B W : Type 0} → (E : Type 0) → Seen N B W → Type 0
-DeepLoadLaw E m = HoldsAlong E m (LoadIsDeep m.values)
 
 -- the worker was refused nothing but for depth, and nobody had failed where it came
 abbrev pub MetDepthAlone : {W : Type 0} → List (Took W) → Type 0
@@ -104,10 +91,6 @@ DepthIsTold {N} {E} {B} {W} m s trees (Event.WorkerStep n) (EventReply.WorkerMov
     → answer ≡ WorkerAnswer.Failed Error.TooDeep
 DepthIsTold m s trees event reply s' trees' = Unit {0}
 
--- So it is along every chain, however loads and workers take turns.
-abbrev pub ToldDepthLaw : {N B W : Type 0} → (E : Type 0) → Seen N B W → Type 0
-ToldDepthLaw E m = HoldsAlong E m (DepthIsTold m)
-
 -- the load of this number begins
 abbrev pub IsBeginOf : {N B W : Type 0} → ℕ → Event N B W → EventReply N B W → Type 0
 IsBeginOf n (Event.LoadStart h) (EventReply.Started (Ok (Beginning.Load l key))) = l.0 ≡ n
@@ -126,14 +109,7 @@ pub record HasBegun {N E B W : Type 0} (moments : List (Moment N E B W)) (n k : 
 -- A load of a cell whose key a page-out set is refused by chance alone, where each load that makes a step has begun in the chain, before that, and is done in one piece.
 abbrev pub SoundLaw : {N B W : Type 0} → (E : Type 0) → Seen N B W → Type 0
 SoundLaw {N} {B} {W} E m =
-    (start : MachineState N E) (moments : List (Moment N E B W)) (trees : ℕ → Tree)
-    → IsMachineWhole m.values start
-    → IsIdle start
-    → AreMoments m start moments
+    (start : MachineState N E) (moments : List (Moment N E B W))
     → StandTogether moments
     → ((k : ℕ) (c : Moment N E B W) (l : LoadNumber) → slice_get moments k ≡ Some c → c.event ≡ Event.LoadStep l → HasBegun moments l.0 k)
-    → StandsFor m.values start trees
-    → IsLawful m.values
-    → ReadsItsTypes m.values.types
-    → HoldsSettled m.values start.pager
-    → TreesAlong m LoadIsSound start trees moments
+    → HoldsOf m LoadIsSound start moments

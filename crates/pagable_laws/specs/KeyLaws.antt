@@ -4,8 +4,8 @@ use Rattle.pagable_world.specs.Plain.{Meaning}
 use Rattle.pagable_model.specs.{Meaning.{plain, lifted}, Keys.{Entry, code, same_key, last_value}, Carried.of_hash_map, Numbers.IsSigned, Shape.{Shape, json}, Form.Form, Json.{whole, float, of_json}}
 
 -- Meanings with one code are one meaning.
-abbrev pub IsOneMeaning : Type 0
-IsOneMeaning = (a b : Meaning ⊥) → code a ≡ code b → a ≡ b
+pub record IsOneMeaning : Type 0 where
+  pub same : (a b : Meaning ⊥) → code a ≡ code b → a ≡ b
 
 -- Keys are the same exactly if they mean the same; what is referred to is no part of a key.
 abbrev pub IsOneKeyMeaning : Type 0 → Type 0

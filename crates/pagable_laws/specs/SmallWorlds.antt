@@ -37,23 +37,16 @@ first_node = record { 0 = 1 }
 abbrev pub two_rows : List HandleRow
 two_rows = row_of 1 first_node Mode.LoosePinned Owner.Caller ∷ row_of 2 (record { 0 = 2 }) Mode.LoosePinned (Owner.Value first_node) ∷ []
 
-abbrev pub are_two : ℕ → Bool
-are_two n = (n == 1) || (n == 2)
-
--- the outer handle, and both
+-- the outer handle; and both handles, or both cells
 abbrev pub outer : ℕ → Bool
 outer q = q == 1
 
 abbrev pub both : ℕ → Bool
 both q = (q == 1) || (q == 2)
 
--- room for two handles and one entry
-abbrev pub some_places : Places
-some_places = record { handles = 2; entries = 1 }
-
--- the caller's pinned cell of type 0, with no key and nothing in it
+-- the caller's pinned cell of type 0, with no key and nothing in it, where there is room for two handles and one entry
 abbrev pub lone : (ℕ → Option Blob) → Core
-lone stored = record (empty stored some_places) {
+lone stored = record (empty stored (record { handles = 2; entries = 1 })) {
   rows = row_of 1 first_node Mode.LoosePinned Owner.Caller ∷ [];
   cells = updated 1 (Some (record { node_type = 0; key = OptionalDataKey.None })) (λ n. None);
   last = record { node = 1; handle = 1; load = 0; worker = 0 };

@@ -1,18 +1,16 @@
 -- A chain of moments of two levels. A value is a leaf, of the type 1, which has no byte; or a parent, of the type 0, which is a reference to a leaf
 -- through a loose handle. Both are born, an item that refers to the parent is paged out, the parent is evicted with its child and is read again, and the
 -- child's key is read.
-use Rattle.std.specs.Prelude.{ℕ, zero, suc, ◌≡◌, ◌+◌, ◌==◌, ◌&&◌, not, if◌then◌else◌, Bool, [], ◌∷◌, List, ◌++◌, length, Option, Some, None, Ok}
-use Rattle.pagable_model.specs.{Meaning.{none, reference}, Merkle.blob_of}
-use Rattle.pagable_world.specs.{Plain.{ArcRef, HandleNumber, LoadNumber, NodeNumber, Blob, Meaning, Types, is_in, updated, if_there, OptionalDataKey}, declared.rows.Mode.Mode}
-use Rattle.pagable_world.specs.{declared.answers.Beginning.Beginning, declared.calls.Call.Call, declared.calls.Reply.Reply, declared.events.Claim.Claim, declared.events.PinStep.PinStep}
-use Rattle.pagable_world.specs.{declared.handles.Owner.Owner, declared.events.Took.Took, declared.events.WorkerAnswer.WorkerAnswer, declared.events.LoadAnswer.LoadAnswer, declared.events.Event.Event}
-use Rattle.pagable_world.specs.{declared.events.EventReply.EventReply, Kinds.{pins, identity_of, owner_value, owner_worker}}
-use Rattle.pagable_world.specs.World.{Core, Written, Values, Seen, Shelf, no_result, published, Todo, to_start, to_pin, to_write, to_finish, to_item, to_set, to_publish, to_release, of_item, of_cell}
-use Rattle.pagable_world.specs.{World.{of_key, Walking, Work, Reading, digest}, Cascade.{fallen, nobody}, Calls.{with_handle, with_mode, with_key, with_node, next_node, moved, is_named_by}}
-use Rattle.pagable_world.specs.{LoadCalls.{with_load, without_load, with_pin, is_owned_in, adopted}, Loads.{root_frame, gone_on}, Events.{no_shelf, with_worker}, Pager.MachineState, Runs.Moment}
-use Rattle.pagable_world.specs.{Plain.Tree, World.IsLawful, Pager.{IsMachineWhole, IsIdle, StandsFor}, Runs.{AreMoments, ReadsItsTypes, HoldsSettled, IsPremised}, Headline.Headline}
-use Rattle.pagable_world.specs.Workers.{with_slot, with_wait, with_changed_slot, with_outcome, without_worker, is_workers, is_workers_at, fresh, give, open_node, first_todo, answer_after}
-use Rattle.pagable_laws.specs.SmallWorlds.{empty, no_work}
+use Rattle.{pagable_laws.specs.SmallWorlds.{empty, no_work, outer}, pagable_model.specs.{Meaning.{none, reference}, Merkle.blob_of}, pagable_world.specs.Calls.{is_named_by, moved, next_node}}
+use Rattle.pagable_world.specs.{Calls.{with_handle, with_key, with_mode, with_node}, Cascade.{fallen, nobody}, Events.{no_shelf, with_worker}, Headline.Headline, Kinds.{identity_of, owner_value}}
+use Rattle.pagable_world.specs.{Kinds.{owner_worker, pins}, LoadCalls.{adopted, is_owned_in, with_load, with_pin, without_load}, Loads.{gone_on, root_frame}, Pager.{IsIdle, IsMachineWhole}}
+use Rattle.pagable_world.specs.{Pager.{MachineState, StandsFor}, Plain.{ArcRef, Blob, HandleNumber, LoadNumber, Meaning, NodeNumber, OptionalDataKey, Tree, Types, if_there, is_in, updated}}
+use Rattle.pagable_world.specs.{Runs.{AreMoments, HoldsSettled, IsPremised, Moment, ReadsItsTypes}, Workers.{answer_after, first_todo, fresh, give, is_workers, is_workers_at, open_node}}
+use Rattle.pagable_world.specs.{Workers.{with_changed_slot, with_outcome, with_slot, with_wait, without_worker}, World.{Core, IsLawful, Reading, Seen, Shelf, Todo, Values, Walking, Work, Written}}
+use Rattle.pagable_world.specs.World.{digest, no_result, of_cell, of_item, of_key, published, to_finish, to_item, to_pin, to_publish, to_release, to_set, to_start, to_write}
+use Rattle.pagable_world.specs.declared.{answers.Beginning.Beginning, calls.{Call.Call, Reply.Reply}, events.{Claim.Claim, Event.Event, EventReply.EventReply, LoadAnswer.LoadAnswer}}
+use Rattle.{pagable_world.specs.declared.{events.{PinStep.PinStep, Took.Took, WorkerAnswer.WorkerAnswer}, handles.Owner.Owner, rows.Mode.Mode}, std.specs.Prelude.{Bool, List, None, Ok, Option}}
+use Rattle.std.specs.Prelude.{Some, [], if◌then◌else◌, length, not, suc, zero, ℕ, ◌&&◌, ◌++◌, ◌+◌, ◌==◌, ◌∷◌, ◌≡◌}
 use Rattle.pagable_model.specs.Shape as shapes
 
 -- ---- values
@@ -69,24 +67,15 @@ node n = record { 0 = n }
 abbrev pub to_leaf : ℕ → ℕ → ArcRef
 to_leaf n h = record { kind = record { 0 = 4 }; node = node n; handle = handle h }
 
-abbrev pub to_child : ArcRef
-to_child = to_leaf 1 1
-
 abbrev pub to_parent : ArcRef
 to_parent = record { kind = record { 0 = 1 }; node = node 2; handle = handle 2 }
 
--- what is written of a value, and of the item; and blobs of these, whose keys are 8, 24 and 25
+-- what is written of a value, and of the item, whose blobs have the keys 8, 24 and 25
 abbrev pub sample_written : Sample → Written
 sample_written x = record { bytes = []; references = sample_references x }
 
 abbrev pub item : Written
 item = record { bytes = 0 ∷ []; references = to_parent ∷ [] }
-
-abbrev pub leaf_blob : Blob
-leaf_blob = record { bytes = []; keys = [] }
-
-abbrev pub parent_blob : Blob
-parent_blob = record { bytes = []; keys = 8 ∷ [] }
 
 -- ---- births
 
@@ -100,7 +89,7 @@ abbrev pub child_born : Core
 child_born = born new_core leaf
 
 abbrev pub both_born : Core
-both_born = born child_born (parent to_child)
+both_born = born child_born (parent (to_leaf 1 1))
 
 -- the value at a node, of a list from the node 0 on; all values at first, and after the load of the parent
 unfoldable pub value_at : List (Option Sample) → ℕ → Option Sample
@@ -109,7 +98,7 @@ value_at (x ∷ xs) zero = x
 value_at (x ∷ xs) (suc n) = value_at xs n
 
 abbrev pub two_values : List (Option Sample)
-two_values = None ∷ Some leaf ∷ Some (parent to_child) ∷ []
+two_values = None ∷ Some leaf ∷ Some (parent (to_leaf 1 1)) ∷ []
 
 abbrev pub last_values : List (Option Sample)
 last_values = None ∷ None ∷ Some (parent (to_leaf 3 8)) ∷ []
@@ -182,11 +171,8 @@ answered = walked 15 begun
 -- ---- the eviction and the loads
 
 -- the parent's last pin goes, with its value and the child that this held
-abbrev pub child_handle : ℕ → Bool
-child_handle q = q == 1
-
 abbrev pub evicted : Core
-evicted = fallen (with_mode answered.core (handle 2) Mode.LooseUnpinned) child_handle []
+evicted = fallen (with_mode answered.core (handle 2) Mode.LooseUnpinned) outer []
 
 -- the caller's load of the parent has a handle of it, and gets one of a cell for the child
 abbrev pub loading : Core
@@ -219,13 +205,13 @@ abbrev pub read_back : Core
 read_back = let w = key_loading in fallen (handed w) (not_handed w) []
 
 abbrev pub parent_fetched : Reading
-parent_fetched = gone_on (fresh (load_number 1) 0) (root_frame 24 0 parent_blob ∷ [])
+parent_fetched = gone_on (fresh (load_number 1) 0) (root_frame 24 0 (blob_of [] (8 ∷ [])) ∷ [])
 
 abbrev pub parent_read : Reading
-parent_read = gone_on parent_fetched (record (root_frame 24 0 parent_blob) { got = to_leaf 3 8 ∷ [] } ∷ [])
+parent_read = gone_on parent_fetched (record (root_frame 24 0 (blob_of [] (8 ∷ []))) { got = to_leaf 3 8 ∷ [] } ∷ [])
 
 abbrev pub child_fetched : Reading
-child_fetched = gone_on (fresh (load_number 2) 1) (root_frame 8 1 leaf_blob ∷ [])
+child_fetched = gone_on (fresh (load_number 2) 1) (root_frame 8 1 (blob_of [] []) ∷ [])
 
 -- ---- the machine
 
@@ -243,17 +229,11 @@ machine core values work = record { pager = record { core = core; counts = λ n.
 abbrev pub new_one : MachineState Sample (Unit {0})
 new_one = machine new_core [] no_work
 
-abbrev pub tabled : Work
-tabled = work_of no_shelf None None
-
 abbrev pub walking : Working → Walking
 walking x = record { table = 1; task = of_item item; todo = x.todo; steps = x.steps; answer = x.answer }
 
-abbrev pub work_after : Working → Option Reading → Work
-work_after x reading = work_of x.shelf (Some (walking x)) reading
-
 abbrev pub at_work : Working → MachineState Sample (Unit {0})
-at_work x = machine x.core two_values (work_after x None)
+at_work x = machine x.core two_values (work_of x.shelf (Some (walking x)) None)
 
 -- ---- the moments
 
@@ -265,9 +245,9 @@ moment event reply after = record { event = event; reply = reply; after = after 
 
 abbrev pub births : List Happening
 births =
-    moment Event.TableNew (EventReply.TableMade (Ok (record { 0 = 1 }))) (machine new_core [] tabled)
-    ∷ moment (Event.Call (Call.NewLoose leaf)) (EventReply.CallReply (Reply.Made (Ok (handle 1)))) (machine child_born (None ∷ Some leaf ∷ []) tabled)
-    ∷ moment (Event.Call (Call.NewLoose (parent to_child))) (EventReply.CallReply (Reply.Made (Ok (handle 2)))) (machine both_born two_values tabled)
+    moment Event.TableNew (EventReply.TableMade (Ok (record { 0 = 1 }))) (machine new_core [] (work_of no_shelf None None))
+    ∷ moment (Event.Call (Call.NewLoose leaf)) (EventReply.CallReply (Reply.Made (Ok (handle 1)))) (machine child_born (None ∷ Some leaf ∷ []) (work_of no_shelf None None))
+    ∷ moment (Event.Call (Call.NewLoose (parent (to_leaf 1 1)))) (EventReply.CallReply (Reply.Made (Ok (handle 2)))) (machine both_born two_values (work_of no_shelf None None))
     ∷ moment (Event.WorkerItem (record { 0 = 1 }) item) (EventReply.WorkerMade (Ok (record { 0 = 1 }))) (at_work begun)
     ∷ []
 
@@ -281,7 +261,7 @@ page_out (suc n) x =
 
 -- a load's step, and the machine after it, for which the worker has answered
 abbrev pub afterwards : Core → List (Option Sample) → Option Reading → MachineState Sample (Unit {0})
-afterwards core values reading = machine core values (work_after answered reading)
+afterwards core values reading = machine core values (work_of answered.shelf (Some (walking answered)) reading)
 
 abbrev pub read_step : ℕ → Option (LoadAnswer Sample) → ℕ → MachineState Sample (Unit {0}) → Happening
 read_step l ended steps after = moment (Event.LoadStep (load_number l)) (EventReply.LoadMoved (Ok (record { ended = ended; steps = steps }))) after

@@ -3,8 +3,8 @@
 
 ghost use Rattle.pagable_world.specs.Access.{PinLaw, ReadLaw};
 ghost use Rattle.pagable_world.specs.Headline.{HeadlineLaw};
-ghost use Rattle.pagable_world.specs.OneWorker.{OneIdentityLaw};
-ghost use Rattle.pagable_laws.specs.DeepLaws.{ShallowLaw, ToldDepthLaw, DeepClaimLaw, DeepLoadLaw, FaultlessLaw, SoundLaw};
+ghost use Rattle.pagable_world.specs.OneWorker.{KeyIsShallow, OneIdentityLaw};
+ghost use Rattle.pagable_laws.specs.DeepLaws.{ClaimIsDeep, DepthIsTold, HoldsAlong, LoadIsDeep, LoadIsFaultless, SoundLaw};
 
 use crate::world::SeenAs;
 
@@ -15,27 +15,27 @@ pub fn headline<N: SeenAs<B, W>, B, W, E>()
 
 /// No worker answers a key of what leads down a path that is too long, or to a value that has no form.
 pub fn keys_are_shallow<N: SeenAs<B, W>, B, W, E>()
-    ensures { ShallowLaw E N.seen }
+    ensures { HoldsAlong E N.seen (KeyIsShallow N.seen.values) }
 {}
 
 /// A worker answers TooDeep of what leads down a path that is too long, or to a value that has no form, where it meets no other refusal on its way.
 pub fn depth_is_told<N: SeenAs<B, W>, B, W, E>()
-    ensures { ToldDepthLaw E N.seen }
+    ensures { HoldsAlong E N.seen (DepthIsTold N.seen) }
 {}
 
 /// A claim is refused as too deep only where its task leads down a path that is too long, or another worker is at it and waits for this one.
 pub fn deep_claims_have_a_cause<N: SeenAs<B, W>, B, W, E>()
-    ensures { DeepClaimLaw E N.seen }
+    ensures { HoldsAlong E N.seen ClaimIsDeep }
 {}
 
 /// A load is refused as too deep only where the reading of its key comes to a blob that lies too deep, or to one that enters a level too many.
 pub fn deep_loads_have_a_cause<N: SeenAs<B, W>, B, W, E>()
-    ensures { DeepLoadLaw E N.seen }
+    ensures { HoldsAlong E N.seen (LoadIsDeep N.seen.values) }
 {}
 
 /// A load of a cell whose key a page-out set is refused by chance or by a handle: never by a blob that it reads, by a key or by a path.
 pub fn loads_are_faultless<N: SeenAs<B, W>, B, W, E>()
-    ensures { FaultlessLaw E N.seen }
+    ensures { HoldsAlong E N.seen LoadIsFaultless }
 {}
 
 /// A load of a cell whose key a page-out set is refused by chance alone, where each load begins in the chain and is done in one piece.

@@ -1,9 +1,9 @@
 -- The worked examples, by computation.
-use Rattle.pagable_laws.proofs.Words.{arith, ◌≡◌, ℕ, true, refl, lit<, lit≤, pos, negsuc, [], ◌∷◌, List, codes, ◌⊎◌, IsUtf8-from_is_utf8, varint, varint_at, length_at, text_at, bool_at, char_at}
-use Rattle.pagable_laws.proofs.Words.{duration_at, integer, text, absent, rename, plain, nested, tagged_by, is_registered, body_of, code, put_all, items, read_with, below, read, nothing-form}
-use Rattle.pagable_laws.proofs.Words.{unsigned-form, signed-form, none-form, some-form, list-form, run-form, no-forms, more-forms, json-number-form, static-form, tagged-form, reference-form}
-use Rattle.pagable_laws.proofs.Words.{preimage, weight, kid, unfolded, key-of, no-keys, more-keys, IsReadable, IsCanonical, HasNoCase, LiesIn, throughout-in, only_cat, chain, no_parts, cats}
-use Rattle.std.specs.{Int.{w8, w32}, Str.{is_utf8, chars}, Char.encode_utf8}
+use Rattle.pagable_laws.proofs.Words.{Forms, HasNoCase, IsCanonical, IsReadable, IsUtf8-from_is_utf8, KeyRef, LiesIn, List, [], absent, arith, below, body_of, bool_at, cats, chain, char_at, code}
+use Rattle.pagable_laws.proofs.Words.{codes, deepest, duration_at, integer, is_registered, items, json-number-form, key-of, kid, kind_of_ref, length_at, list-form, lit<, lit≤, more-forms}
+use Rattle.pagable_laws.proofs.Words.{more-keys, negsuc, nested, no-forms, no-keys, no_parts, none-form, nothing-form, only_cat, plain, pos, preimage, put_all, read, read_with, reference-form}
+use Rattle.pagable_laws.proofs.Words.{refl, rename, run-form, signed-form, some-form, static-form, tagged-form, tagged_by, text_at, throughout-in, true, unfolded, unsigned-form, varint, varint_at}
+use Rattle.{pagable_laws.proofs.Words.{weight, ℕ, ◌∷◌, ◌≡◌, ◌⊎◌}, pagable_model.specs.Shape.signed, std.specs.{Char.encode_utf8, Int.{w32, w8}, Str.{chars, is_utf8}}}
 use Rattle.pagable_laws.proofs.worked.worked_examples.Goals as goal
 
 cat_written : (tag : List ℕ) → HasNoCase (only_cat tag) ⊎ ((is_registered cats tag ≡ true) × (body_of cats tag ≡ only_cat tag))
@@ -17,6 +17,11 @@ cat_canonical : (tag : List ℕ) → IsCanonical (only_cat tag)
 unfolding IsCanonical
 cat_canonical tag = grind arith
 
+-- two numbers with a sign
+signed_two : Forms KeyRef kind_of_ref no_parts deepest (signed w32) (integer (negsuc 0) ∷ integer (pos 1) ∷ []) (0x01 ∷ 0x02 ∷ []) []
+unfolding varint
+signed_two = more-forms _ _ _ _ _ _ _ _ (signed-form _ w32 (negsuc 0) (lit< tt)) (more-forms _ _ _ _ _ _ _ _ (signed-form _ w32 (pos 1) (lit< tt)) (no-forms _ _))
+
 pub returns : goal.returns
 unfolding read read_with below varint varint_at duration_at length_at items text_at char_at bool_at is_utf8 put_all code plain rename chars encode_utf8 preimage weight unfolded
     IsReadable IsCanonical LiesIn
@@ -24,32 +29,14 @@ returns c = record {
   numbers = (refl, refl, refl);
   numbers_read = (refl, refl, refl, refl, refl, refl, refl, refl);
   flags = (some-form _ _ _ _ _ (unsigned-form _ w8 7 (lit< tt)), none-form _ _, refl, refl);
-  lists = (
-    list-form _ _ (integer (negsuc 0) ∷ integer (pos 1) ∷ []) _ _ (lit≤ tt)
-        (more-forms _ _ _ _ _ _ _ _ (signed-form _ w32 (negsuc 0) (lit< tt)) (more-forms _ _ _ _ _ _ _ _ (signed-form _ w32 (pos 1) (lit< tt)) (no-forms _ _))),
-    run-form _ _ (integer (negsuc 0) ∷ integer (pos 1) ∷ []) _ _ (lit≤ tt)
-        (more-forms _ _ _ _ _ _ _ _ (signed-form _ w32 (negsuc 0) (lit< tt)) (more-forms _ _ _ _ _ _ _ _ (signed-form _ w32 (pos 1) (lit< tt)) (no-forms _ _))),
-    refl,
-    refl,
-    refl,
-    refl,
-    refl,
-  );
+  lists = (list-form _ _ _ _ _ (lit≤ tt) signed_two, run-form _ _ _ _ _ (lit≤ tt) signed_two, refl, refl, refl, refl, refl);
   maps = (refl, refl);
   json = (json-number-form _ (negsuc 0) (lit< tt), refl, refl, refl, refl);
   keys = (refl, refl, refl, refl, refl, refl, refl, refl, refl, refl);
   texts = (refl, refl, refl, refl, refl, refl, refl, refl);
   durations = (refl, refl);
   named = (refl, refl, refl, refl, refl, refl, refl, refl, refl, refl);
-  registries = (
-    static-form _ _ 1 (text (codes "hello")) (lit< tt) refl,
-    static-form _ _ 2 (text (codes "world")) (lit< tt) refl,
-    static-form _ _ 0 (text []) (lit< tt) refl,
-    refl,
-    refl,
-    refl,
-    refl,
-  );
+  registries = (static-form _ _ 1 _ (lit< tt) refl, static-form _ _ 2 _ (lit< tt) refl, static-form _ _ 0 _ (lit< tt) refl, refl, refl, refl, refl);
   references = (refl, refl, refl);
   unknown = (tagged-form _ _ _ _ (codes "Dog") _ [] [] (IsUtf8-from_is_utf8 (codes "Dog") refl) (lit≤ tt) (nothing-form _), refl, refl, refl);
   trees = key-of _ _ (0x01 ∷ []) (kid 4 absent ∷ []) (1 ∷ []) refl (some-form _ _ _ [] _ (reference-form _ 4 (kid 4 absent) refl))
