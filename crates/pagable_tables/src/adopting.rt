@@ -1,9 +1,8 @@
 //! What a load reads becomes nodes.
 
 ghost use Rattle.std.specs.Prelude.{nat_eq, ◌≡◌, ℕ, ◌⊎◌, ◌<◌, ◌≤◌, length, [], Bool, Option, IfOk, IfErr, IfSome, IfNone, OnOk, Some, None, not, true, false};
-ghost use Rattle.pagable_world.specs.Plain.{Blob};
-ghost use Rattle.pagable_world.specs.{Plain.is_loose_kind, Kinds.{is_pinning, is_shared, mode_of}, Cascade.{FallsAnyhow, nobody}, World.{Core, Alike, usable}, Refusals.{load_fault, references_fault}};
-ghost use Rattle.pagable_world.specs.{Refusals.Refused, Calls.{IsNext, is_named_by, birth_fault}, LoadCalls.{adopt_fault, adopted, first_key, is_owned_in, Adopts, LazyCall}};
+ghost use Rattle.pagable_world.specs.{Plain.{Blob, is_loose_kind}, Kinds.{is_pinning, is_shared, mode_of}, World.{Core, Alike, usable}, Refusals.{load_fault, references_fault, Refused}};
+ghost use Rattle.pagable_world.specs.{Cascade.{FallsAnyhow, nobody}, Calls.{IsNext, is_named_by, birth_fault}, LoadCalls.{adopt_fault, adopted, first_key, is_owned_in, Adopts, LazyCall}};
 ghost use Rattle.pagable_tables.specs.{Live.live, Onward.{with_tables, SoFar}, Falling.{has_value, IsFalling, owns_nothing, key_in, Sheds}, Bearing.{IsReady, OnlyRoom}, ByNumber.counts_at};
 ghost use Rattle.{pagable_tables.specs.{Core.{core_of, plain_of, IsWhole, MayHold}, Later.AreLater, Asking.early_fault, Doing.Does}, indexmap.specs.IndexMap.{get, spare}};
 ghost use Rattle.pagable_world.specs.declared.handles.Owner.TheVariants as owners;

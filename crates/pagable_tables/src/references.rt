@@ -1,8 +1,8 @@
 //! Why calls are refused: the references of a value that is handed in, and which of several causes is told.
 
 ghost use Rattle.std.specs.{Prelude.{◌≡◌, ◌||◌, not, ℕ, Bool, List, Option, Some, None, [], ◌<◌, ◌≤◌, length, false}, Option.option_map};
-ghost use Rattle.pagable_world.specs.{Plain.{Blob, is_in, if_there}, declared.handles.HandleRow.HandleRow, World.{Core, OpenLoad}};
-ghost use Rattle.pagable_world.specs.{Kinds.{is_owner, find_row}, Refusals.{refused_if, row_fault, reference_fault, references_fault, named_fault, rank, earlier}, Workers.claim_fault, Calls.is_named_by};
+ghost use Rattle.pagable_world.specs.{Plain.{Blob, is_in, if_there}, declared.handles.HandleRow.HandleRow, World.{Core, OpenLoad}, Calls.is_named_by};
+ghost use Rattle.pagable_world.specs.{Kinds.{is_owner, find_row}, Refusals.{refused_if, row_fault, reference_fault, references_fault, named_fault, rank, earlier}, Workers.claim_fault};
 ghost use Rattle.{pagable_world.specs.LoadCalls.cell_fault, pagable_tables.specs.{Core.{core_of, plain_of, IsWhole, load_in}, Owning.{seen, named_at}, Live.{live, AreSound}}};
 ghost use Rattle.pagable_model.specs.declared.error.Error.TheVariants as errors;
 

@@ -2,8 +2,7 @@
 
 ghost use Rattle.std.specs.Prelude.{◌≡◌, ℕ, Bool, Option, Some, not, true, nat_eq};
 ghost use Rattle.pagable_world.specs.{Plain.Blob, Kinds.{is_pinning, mode_of}, World.usable, Calls.OfferCall};
-ghost use Rattle.pagable_tables.specs.{ByNumber.counts_at, Falling.{has_value, Sheds}, Later.AreLater, Core.core_of};
-ghost use Rattle.{pagable_tables.specs.Core.{plain_of, IsWhole, MayHold}, indexmap.specs.IndexMap.get};
+ghost use Rattle.{indexmap.specs.IndexMap.get, pagable_tables.specs.{ByNumber.counts_at, Falling.{has_value, Sheds}, Later.AreLater, Core.{core_of, plain_of, IsWhole, MayHold}}};
 
 use crate::kinds::mode_of;
 use crate::making::make;

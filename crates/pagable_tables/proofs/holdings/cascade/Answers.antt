@@ -6,9 +6,7 @@ pub fall-preserved : goal.fall-preserved
 fall-preserved g c =
     let i = c.fall.invariant.0 in
     let s : Steps c.fall.t i.0 c.args.lists c.step-done.result c.step-done.new.t = c.step-done.ensures i.0 i.1 in
-    let less = s.less in
     let few = i.2 in
-    let fewer = s.fewer in
     let so-far = c.fall.invariant.3 in (
       (s.rest, s.falling, omega arith),
       λ before w given f. steps-on before w given c.args.lists c.fall.t c.step-done.new.t i.0 c.step-done.result
