@@ -128,10 +128,7 @@ pub fn load_fault(row: Option<LoadRow>, me: Owner) -> Option<Error>
 pub fn cell_fault(row: Option<LoadRow>) -> Option<Error>
     ensures { result ≡ if_there (λ (load : OpenLoad). cell_fault load.root) None (option_map load_in row) }
 {
-    match row?.root {
-        LoadRoot::Cell(_, _, _) => Some(Error::WrongMode),
-        LoadRoot::Key => None,
-    }
+    matches!(row?.root, LoadRoot::Cell(_, _, _)).then_some(Error::WrongMode)
 }
 
 /// This refusal, if it is so.
