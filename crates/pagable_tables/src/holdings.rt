@@ -83,15 +83,13 @@ fn enlist_if(t: &mut Holdings, node: NodeNumber, wanted: bool) -> bool
     if !wanted {
         return false;
     }
-    match enlist(t, node) {
-        Ok(()) => true,
-        Err(e) => {
-            if t.unlisted.is_none() {
-                t.unlisted = Some(e);
-            }
-            false
-        }
+    let Err(e) = enlist(t, node) else {
+        return true;
+    };
+    if t.unlisted.is_none() {
+        t.unlisted = Some(e);
     }
+    false
 }
 
 /// Whether the last pin of a cell without a key goes with a handle of this mode, where cells are listed.

@@ -16,6 +16,7 @@ use pagable_world::handles::Owner;
 /// The cache learns a handle's node, while cells are listed. Where it gives a node already, a handle of that is answered, and the one that was offered is given
 /// up. While none are listed the handle itself is answered. It is refused where it isn't an own handle that may stand under the kind, no number is left, or no place or
 /// memory.
+#[tactic(auto, using(std::proofs::lemmas::Bool::Decides::nat_tests))]
 pub fn offer<N: Drop>(
     t: &mut Tables,
     values: &mut Arcs<N>,

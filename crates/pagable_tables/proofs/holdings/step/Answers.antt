@@ -1,5 +1,5 @@
-use Rattle.pagable_tables.proofs.Words.{◌≡◌, ◌+◌, ℕ, Bool, false, arith, refl, ap, sym, ◌∙◌, subst, Some, Option, List, [], ◌∷◌, ◌++◌, length, slice_get, if◌then◌else◌, inl, inr, ◌≢◌, is_some}
-use Rattle.pagable_tables.proofs.Words.{cases_eq, nat_tests, append-nil, ArcRef, HandleNumber, NodeNumber, HandleRow, owner_value, one, live, alive, counts_at, refs_at, IsFalling, GivesUp}
+use Rattle.pagable_tables.proofs.Words.{◌≡◌, ◌+◌, ℕ, false, arith, refl, ap, sym, ◌∙◌, subst, Some, Option, List, [], ◌∷◌, ◌++◌, length, slice_get, if◌then◌else◌, inl, inr, ◌≢◌, is_some}
+use Rattle.pagable_tables.proofs.Words.{cases_eq, nat_tests, append-nil, ArcRef, HandleNumber, HandleRow, owner_value, one, live, alive, counts_at, refs_at, IsFalling, GivesUp}
 use Rattle.pagable_tables.proofs.{Words.{CellsStay, cell_in, ValueStays, owns, owns_nothing, entry, is_valued, Counts, Holdings}, Alive.{only-row, none-found}, Left.gives-sums}
 use Rattle.pagable_tables.proofs.{Fitting.{is_owned, taken-fits, taken-owned, taken-there, owner-is, fits-same, fallen, top-stands, top-there, done-fits, done-gone}}
 use Rattle.pagable_tables.proofs.Next.{gives-fewer, gives-unlisted}
@@ -7,9 +7,6 @@ use Rattle.pagable_tables.proofs.holdings.step.Goals as goal
 
 abbrev of_value : HandleRow → ℕ
 of_value h = one (is_valued h.owner)
-
-no-value : (listed : Bool) (k : ℕ) (m : NodeNumber) → (if listed then of_value (entry k m) else 0) ≡ 0
-no-value x0 k m = grind (arith, nat_tests)
 
 -- the first node that falls has this reference, which was taken
 module _ (t mid : Holdings) (ns : List ℕ) (p : ArcRef) (i : ℕ) (x : HandleRow) (w : IsFalling t (t.top ∷ ns) owns_nothing) (popped : refs_at t.nodes t.top ≡ refs_at mid.nodes t.top ++ p ∷ [])
@@ -69,7 +66,7 @@ returns-in-Some-look c stack w =
     let g : GivesUp mid (t.top ∷ s.0) x false c.args.lists c.give_up.new.t = c.give_up.ensures (t.top ∷ s.0) o.1 in
     let v : of_value x ≡ 1 = ap (λ k. one (is_valued k)) o.0 in
     let l = gives-sums g of_value in
-    let z = no-value g.listed (t.last_handle + 1) x.node in
+    let z : (if g.listed then of_value (entry (t.last_handle + 1) x.node) else 0) ≡ 0 = grind (arith, nat_tests) in
     let n = ap length s.1 in
     record {
       rest = g.more;

@@ -78,16 +78,10 @@ returns-in_default-clause-whole g c =
     let (row, owns, typed, learned) = (returns-in_default-clause-offered g c (λ key. None) false 0 c.if-not-lists.false).answers in
     whole-so c.requires.whole.steady (learns-whole c.args.me c.args.kind c.args.key c.args.handle row c.requires.whole.core refl owns typed learned.2)
 
-pub returns-in_default-clause-later : goal.returns-in_default-clause-later
-returns-in_default-clause-later g c l = record { given = l.given; since = l.since; begun = l.begun; reach = l.reach; loads = l.loads }
-
 pub returns-in_err-put-clause-whole : goal.returns-in_err-put-clause-whole
 returns-in_err-put-clause-whole g c =
     let same = λ (kind key : ℕ). ap (option_map (λ (n : NodeNumber). n.0)) (c.in_err-put.ensures.err kind key) in
     whole-so c.requires.whole.steady (told-whole c.requires.whole.core refl (λ n. refl) refl (λ kind key n is. sym (same kind key) ∙ is) refl (λ l. refl) (λ v. refl) refl)
-
-pub returns-in_err-put-clause-later : goal.returns-in_err-put-clause-later
-returns-in_err-put-clause-later g c l = record { given = l.given; since = l.since; begun = l.begun; reach = l.reach; loads = l.loads }
 
 pub returns-in_err-known-clause-offered : goal.returns-in_err-known-clause-offered
 returns-in_err-known-clause-offered g c stored closed failures e =
