@@ -25,13 +25,13 @@ pub use Rattle.pagable_world.specs.{declared.answers.Beginning.Beginning, declar
 pub use Rattle.pagable_world.specs.{declared.rows.Mode.Mode, Workers.{is_workers_load, is_workers, without_worker}, Events.with_worker}
 unfoldable pub use Rattle.pagable_world.specs.{Calls.is_named_by, Kinds.find_row, Plain.is_in, Refusals.{references_fault, named_fault}}
 pub use Rattle.indexmap.specs.IndexMap.{IndexMap, get, spare}
-pub use Rattle.pagable_tables.specs.{Asking.{AsksKnown, early_fault, Offered}, Bearing.{OnlyRoom, Bears}, ByNumber.{counts_at, refs_at, load_at, known_at, is_same}, Onward.with_tables}
+pub use Rattle.pagable_tables.specs.{Asking.{AsksKnown, early_fault}, Bearing.{OnlyRoom, Bears}, ByNumber.{counts_at, refs_at, load_at, known_at, is_same}, Onward.with_tables}
 pub use Rattle.pagable_tables.specs.{Core.{load_in, core_of, Makes, plain_of, MayHold, ArePlaced, Suits, root_in}, Falling.{pins_in, cell_in, entry, is_listing, is_valued}}
 pub use Rattle.pagable_tables.specs.Falling.{holds_in, falls_in, is_bare, is_right, Right, Fits, owns_nothing, named, key_in, next_in, keyed_in, Chain, is_fallen_by, after, is_new, owns, often}
 pub use Rattle.pagable_tables.specs.Falling.{CellsStay, HasFallen, entries_of, first_cause, IsUnlisted, GivesUp, HasPlaces, Steps, Leaves, FallsBy, IsFalling, valued, has_value, ValueStays, Sheds}
-pub use Rattle.pagable_tables.specs.{Falling.{MayList, Settles, AreKept, is_node}, Later.AreLater, Live.{live, room, AreSound, IsNext, alive, is_live_place, IsBefore}}
+pub use Rattle.pagable_tables.specs.{Falling.{MayList, AreKept, is_node}, Later.AreLater, Live.{live, room, AreSound, IsNext, alive, is_live_place, IsBefore}}
 pub use Rattle.pagable_tables.specs.{Falling.{landed, unpinned, GetsKey, keyed}, Owning.named_at, Onward.{is_plain_pin, SoFar, told_by, Begins, IsApart}, Ready.IsReady}
 pub use Rattle.pagable_tables.specs.{Becoming.Becomes, Ready.has_come, declared.handles.Handles.Handles, declared.holdings.Holdings.Holdings, declared.installing.Ending.Ending, declared.rows.Counts.Counts}
 pub use Rattle.pagable_tables.specs.{declared.rows.LoadRow.LoadRow, declared.rows.NodeRow.NodeRow, declared.rows.Place.Place, declared.tables.Tables.Tables, Giving.{passes_in, left_load, gives_row}}
-pub use Rattle.pagable_tables.specs.{Giving.{InReach, IsNoLess, LoadsAre}, ByNumber.{anywhere, reach_at, worker_at}, declared.giving.Giving.Giving, declared.rows.Reach.Reach}
+pub use Rattle.pagable_tables.specs.{Giving.{InReach, IsNoLess, LoadsAre}, ByNumber.{reach_at, worker_at}, declared.giving.Giving.Giving, declared.rows.Reach.Reach}
 unfoldable pub use Rattle.pagable_tables.specs.Owning.{seen}
