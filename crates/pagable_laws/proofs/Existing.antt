@@ -31,10 +31,6 @@ owner_goes lost _ = false
 abbrev follows : (ℕ → Bool) → ℕ → HandleRow → ℕ
 follows lost q h = one (h.number.0 == q && owner_goes lost h.owner)
 
--- the set, and what follows from it
-abbrev grown : List HandleRow → (ℕ → Bool) → List HandleRow → (ℕ → Bool) → ℕ → Bool
-grown rows keyed entries s q = s q || nat_lt 0 (sum_by (follows (loses_value rows keyed entries s) q) rows)
-
 owned-by : (lost : ℕ → Bool) (n : ℕ) (o : Owner) → is_owner (owner_value n) o ≡ true → lost n ≡ true → owner_goes lost o ≡ true
 owned-by lost n x2 is goes = grind (arith, nat_tests)
 
@@ -45,8 +41,9 @@ module _ (rows : List HandleRow) (keyed : ℕ → Bool) (entries : List HandleRo
   abbrev lost : (ℕ → Bool) → ℕ → Bool
   lost s n = loses_value rows keyed entries s n
 
+  -- the set, and what follows from it
   abbrev more : (ℕ → Bool) → ℕ → Bool
-  more s = grown rows keyed entries s
+  more s q = s q || nat_lt 0 (sum_by (follows (lost s) q) rows)
 
   -- a handle that a value owns that goes is in the greater set
   comes : (s : ℕ → Bool) (h : HandleRow) (n : ℕ) → Among rows h → is_owner (owner_value n) h.owner ≡ true → lost s n ≡ true → more s h.number.0 ≡ true
@@ -56,11 +53,9 @@ module _ (rows : List HandleRow) (keyed : ℕ → Bool) (entries : List HandleRo
       grind (arith, nat_tests)
 
   -- where no more follows, the set is closed
-  closed-if : (s : ℕ → Bool) → sum_by (outside (more s)) rows ≡ sum_by (outside s) rows → IsClosed rows keyed entries s
+  closed-if : (s : ℕ → Bool) → sum_by (outside s) rows ≤ sum_by (outside (more s)) rows → IsClosed rows keyed entries s
   closed-if s same n goes =
-      let each : (h : HandleRow) → Among rows h → owned_out s n h + outside (more s) h ≤ outside s h =
-      λ h among. grind (arith, nat_tests, comes) in
-      let a = sum-le (λ h. owned_out s n h + outside (more s) h) (outside s) rows each in
+      let a = sum-le (λ h. owned_out s n h + outside (more s) h) (outside s) rows (λ h among. grind (arith, nat_tests, comes)) in
       let b = sum-plus (owned_out s n) (outside (more s)) rows in
       omega arith
 
@@ -110,18 +105,15 @@ module _ (rows : List HandleRow) (keyed : ℕ → Bool) (entries : List HandleRo
               let it : t x.number.0 ≡ true = grind (arith, nat_tests) in
               sym (ap t number) ∙ it
 
-  less : (s : ℕ → Bool) → sum_by (outside (more s)) rows ≤ sum_by (outside s) rows
-  less s = sum-le (outside (more s)) (outside s) rows (λ h among. grind (arith, nat_tests))
-
   -- a set that is in each closed one is the least once it is closed itself; until then it grows
   grows : (given : ℕ → Bool) (k : ℕ) (s : ℕ → Bool) → sum_by (outside s) rows ≤ k → IsWithin rows given s
       → ((t : ℕ → Bool) → IsWithin rows given t → IsClosed rows keyed entries t → IsWithin rows s t)
       → (s : ℕ → Bool) × IsLeast rows keyed entries given s
-  grows given zero s few holds least = (s, record { holds = holds; closed = closed-if s (let l = less s in omega arith); least = least })
+  grows given zero s few holds least = (s, record { holds = holds; closed = closed-if s (omega arith); least = least })
   grows given (suc k) s few holds least = elim (cases_lt (sum_by (outside (more s)) rows) (sum_by (outside s) rows)) [
     | inl fewer ↦ grows given k (more s) (omega arith)
         (sum-zero (only_in given (more s)) rows (λ h among. let a = at-most-sum (only_in given s) rows h among in grind (arith, nat_tests))) (λ t h c. stays s t (least t h c) c)
-    | inr enough ↦ (s, record { holds = holds; closed = closed-if s (let l = less s in omega arith); least = least })
+    | inr enough ↦ (s, record { holds = holds; closed = closed-if s (omega arith); least = least })
   ]
 
   pub within-self : (given : ℕ → Bool) → IsWithin rows given given

@@ -7,8 +7,8 @@ use Rattle.pagable_laws.proofs.Words.{gone_on, Site, ReadingsAre, reading_at, re
 use Rattle.pagable_laws.proofs.Words.{IsMachineWhole, StepsReading, IsFresh, Error, OpenLoad, first_key}
 use Rattle.pagable_laws.proofs.Words.{MakesNode, Change, nothing_felt, bears_known, ReadingFeels, reads-root, reads-blob, gets-known, gets-lazy, makes-known, makes-node, reading-ends}
 use Rattle.pagable_laws.proofs.Words.{Result, Pinning, Beginning, Claim, is_loose, to_start, to_pin, to_set, to_release, to_fail, SetKeyCall, Does, PinsAtOnce, PinsByLoad, PinRefused}
-use Rattle.pagable_laws.proofs.Words.{GivesBack, next_start, give, give_known, fresh, TodoBrings, sets_key, false, updated, if_there, EventReply, TableNumber, WorkerAnswer, only_handle}
-use Rattle.pagable_laws.proofs.Words.{Cell, Task, type_at, key_at, without_worker, WorkerEnds, answer_after, Stays, KeyStarted, Starts, new_walking, Ends, Happens, with_worker, IsNewNode, EventBrings}
+use Rattle.pagable_laws.proofs.Words.{GivesBack, next_start, give, give_known, fresh, TodoBrings, sets_key, false, updated, EventReply, TableNumber, WorkerAnswer, only_handle}
+use Rattle.pagable_laws.proofs.Words.{Cell, Task, without_worker, WorkerEnds, answer_after, Stays, KeyStarted, Starts, new_walking, Ends, Happens, with_worker, IsNewNode, EventBrings}
 use Rattle.pagable_laws.proofs.Words.{KeepsOpen, LeavesCache, SameNode, NewNode, StaysAway, KeepsReadings, EventFeels, by-call, by-reading, by-key, by-nothing, Blob, StoreCall, digest}
 use Rattle.pagable_laws.proofs.{Words.{OwnersAreThere, step_of, Among, CloneCall, Needs, GetsKnown, with_got, world_of, or_else}, Goes.{found-left, none-in-new, at-updated, Quiet}}
 use Rattle.pagable_laws.proofs.{Goes.{Goes, NotLoads, quiet-then, goes-quiet, alike, fell-anyhow, KnowsNext, parts, le-self, rows-self, next-above}, Effects.{Effect, IsMine, IsApart, IsHeldFor}}
@@ -58,11 +58,6 @@ is-cached w kind key n is = grind (arith, nat_tests)
 
 -- A load's step in the machine: which reading makes it, and that no other goes on by it.
 
--- what stands among the readings afterwards
-pub reading-was : (readings : ℕ → Option Reading) (u' : World) → ReadingsAre readings u' → (q : ℕ) (after : Reading) → u'.work.readings q ≡ Some after
-    → (readings q ≡ Some after) × (is_some (u'.core.loads q) ≡ true)
-reading-was readings u' are q after is = grind (arith, nat_tests)
-
 -- a reading that makes a step is the machine's, or has just begun at an open load
 pub reading-stands : (u : World) → IsWhole u.core → (l : LoadNumber) (reading : Reading) → reading_at u l ≡ Some reading → IsReadingOf u.work reading ⊎ IsFresh u.core reading
 reading-stands u whole l reading at = by (u.work.readings l.0) refl at
@@ -73,9 +68,7 @@ reading-stands u whole l reading at = by (u.work.readings l.0) refl at
 
 -- it is of the load with this number
 pub reading-number : {N E : Type 0} {v : Values N} (s : MachineState N E) → IsMachineWhole v s → (l : LoadNumber) (reading : Reading) → reading_at (world_of s) l ≡ Some reading → reading.load ≡ l
-reading-number s whole l reading at =
-    let there : (s.work.readings l.0 ≡ Some reading → reading.load ≡ l) = λ is. ap (λ n. let k : LoadNumber = record { 0 = n } in k) (whole.readings l.0 reading is).number in
-    grind (arith, nat_tests, there)
+reading-number s whole l reading at = grind (arith, nat_tests, whole.readings l.0 reading)
 
 pub reading-open : {N E : Type 0} {v : Values N} (s : MachineState N E) → IsMachineWhole v s → (l : LoadNumber) (reading : Reading) {load : OpenLoad} → reading_at (world_of s) l ≡ Some reading
     → s.pager.core.loads l.0 ≡ Some load → s.pager.core.loads reading.load.0 ≡ Some load
@@ -92,7 +85,7 @@ read-after : {readings : ℕ → Option Reading} {walkings : ℕ → Option Walk
     → ((n : ℕ) (walking : Walking) (after : Reading) → walkings n ≡ Some walking → (u.work.walkings n ≡ Some walking) ⊎ (front_reading walking.todo ≡ Some after → New after))
     → (after : Reading) → IsReadingOf u'.work after → IsReadingOf u.work after ⊎ New after
 read-after {readings} u u' New are same callers workers after (of_caller q is) =
-    elim (callers q after (reading-was readings u' are q after is).0) [ inl old ↦ inl (of_caller q old) | inr new ↦ inr new ]
+    elim (callers q after (grind (arith, nat_tests))) [ inl old ↦ inl (of_caller q old) | inr new ↦ inr new ]
 read-after u u' New are same callers workers after (of_worker n place walking r through below there todo) = elim (workers n walking after (sym (same n) ∙ there)) [
   | inl old ↦ inl (of_worker n place walking r through below old todo)
   | inr new ↦ inr (new (ap front_reading todo))
@@ -101,13 +94,9 @@ read-after u u' New are same callers workers after (of_worker n place walking r 
 -- ---- a load of the caller's
 
 module _ {N : Type 0} {v : Values N} {u u' : World} {l : LoadNumber} {reply : LoadReply N} (s : LoadSteps v u l reply u') where
-  went : (answer : Option (LoadAnswer N)) (after : Reading) → reading_after answer s.reading s.frames ≡ Some after → (answer ≡ None) × (after ≡ gone_on s.reading s.frames)
-  went x0 after e = grind (arith, nat_tests, same_some)
-
   pub steps-load : StepsReading u s.reading reply.ended s.frames u'
   steps-load = read-after u u' (λ after. (reply.ended ≡ None) × (after ≡ gone_on s.reading s.frames)) s.readings s.work.walkings (λ q after is.
-      elim (at-updated l.0 (reading_after reply.ended s.reading s.frames) u.work.readings q after is) [ inl (here, e) ↦ inr (went reply.ended after e) | inr old ↦ inl old ])
-      (λ n w after there. inl there)
+      grind (arith, nat_tests, at-updated l.0 (reading_after reply.ended s.reading s.frames) u.work.readings q after is, same_some)) (λ n w after there. inl there)
 
 -- ---- a load of a worker's
 
@@ -122,10 +111,7 @@ module _ {N B W : Type 0} {m : Seen N B W} {u u' : World} {k : WorkerNumber} {re
   pub steps-worker : {me : Owner} {reading : Reading} (t : LoadsTodo m.values me (record { core = u.core; shelf = u.work.shelves s.walking.table; todo = s.walking.todo }) s.after reading)
       → StepsReading u reading t.answer t.frames u'
   steps-worker {reading = reading} t = read-after u u' (λ after. (t.answer ≡ None) × (after ≡ gone_on reading t.frames)) s.readings s.work.same_walkings (λ q after is. inl is) (λ n w after there.
-      elim (at-updated k.0 (Some (record s.walking { todo = s.after.todo; steps = reply.steps; answer = reply.answer })) u.work.walkings n w there) [
-        | inl (here, e) ↦ inr (λ front. t.next after (ap (λ (x : Walking). front_reading x.todo) (same_some _ _ e) ∙ front))
-        | inr old ↦ inl old
-      ])
+      grind (arith, nat_tests, at-updated k.0 (Some (record s.walking { todo = s.after.todo; steps = reply.steps; answer = reply.answer })) u.work.walkings, same_some, t.next))
 
 -- the reading that makes the step is the machine's, or has just begun
 pub is-reading-of : {N B W : Type 0} (u : World) (event : Event N B W) (reading : Reading) → IsSteppedReading u event reading → IsReadingOf u.work reading ⊎ IsFresh u.core reading
@@ -257,8 +243,7 @@ unfolding AllWait
 given r key height x3 well = grind (arith, nat_tests, started)
 
 given-known : (r : ArcRef) (key height : ℕ) (below : List Todo) → AllWait below → front_reading (give_known r key height below) ≡ None
-given-known r key height [] well = refl
-given-known r key height (x ∷ below) well = given r key height (x ∷ below) well
+given-known r key height x3 well = grind (arith, nat_tests, given r key height x3 well)
 
 -- ---- the step
 
@@ -405,17 +390,13 @@ module _ (u u' : World) where
   -- one worker is another afterwards, and has at most begun a load
   keeps-but : ReadingsAre u.work.readings u' → (k : ℕ) (now : Walking) → ((n : ℕ) → u'.work.walkings n ≡ updated k (Some now) u.work.walkings n)
       → ((reading : Reading) → front_reading now.todo ≡ Some reading → IsFresh u'.core reading) → KeepsReadings u u'
-  keeps-but are k now same anew = read-after u u' (λ r. IsFresh u'.core r) are same (λ q r is. inl is) (λ n w r there. elim (at-updated k (Some now) u.work.walkings n w there) [
-    | inl (here, e) ↦ inr (λ front. anew r (ap (λ (x : Walking). front_reading x.todo) (same_some _ _ e) ∙ front))
-    | inr old ↦ inl old
-  ])
+  keeps-but are k now same anew = read-after u u' (λ r. IsFresh u'.core r) are same (λ q r is. inl is)
+      (λ n w r there. grind (arith, nat_tests, at-updated k (Some now) u.work.walkings, same_some, anew))
 
   keeps-begun : (t : ℕ) (l : LoadNumber) → ReadingsAre (updated l.0 (Some (fresh l t)) u.work.readings) u' → l.0 ≤ u'.core.last.load
       → ((n : ℕ) → u'.work.walkings n ≡ u.work.walkings n) → KeepsReadings u u'
-  keeps-begun t l are within same = read-after u u' (λ r. IsFresh u'.core r) are same (λ q r is. elim (at-updated l.0 (Some (fresh l t)) u.work.readings q r is) [
-    | inl (here, e) ↦ let f : fresh l t ≡ r = same_some _ _ e in inr (subst (λ x. IsFresh u'.core x) f (refl, refl, within))
-    | inr old ↦ inl old
-  ]) (λ n w r there. inl there)
+  keeps-begun t l are within same = read-after u u' (λ r. IsFresh u'.core r) are same
+      (λ q r is. grind (arith, nat_tests, at-updated l.0 (Some (fresh l t)) u.work.readings, same_some)) (λ n w r there. inl there)
 
 -- ---- events
 
@@ -529,20 +510,14 @@ module _ {N B W : Type 0} (m : Seen N B W) (u u' : World) where
 -- ---- the plain world, as trees feel it
 
 module _ {c : Change} {w w' : Core} (g : Goes c w w') where
-  type-is : (n : ℕ) (x : Core) (cell : Cell) → x.cells n ≡ Some cell → type_at x n ≡ Some cell.node_type
-  type-is n x cell is = ap (λ (y : Option Cell). if_there (λ (z : Cell). Some z.node_type) None y) is
-
-  key-is : (n : ℕ) (x : Core) (cell : Cell) → x.cells n ≡ Some cell → key_at x n ≡ cell.key
-  key-is n x cell is = ap (λ (y : Option Cell). if_there (λ (z : Cell). z.key) OptionalDataKey.None y) is
-
   there-is : (n : ℕ) → is_some (w'.cells n) ≡ true → (cell : Cell) × (w'.cells n ≡ Some cell)
   there-is n there = grind (arith, nat_tests)
 
   pub old-node : (n : ℕ) → n ≤ w.last.node → is_some (w'.cells n) ≡ true → SameNode c w w' n
-  old-node n few there = let (cell, is) = there-is n there in let k = g.cells n cell is in grind (arith, nat_tests, type-is, key-is, now)
+  old-node n few there = let (cell, is) = there-is n there in let k = g.cells n cell is in grind (arith, nat_tests)
 
   pub new-node : HandlesAreWhole w → (n : ℕ) → w.last.node < n → is_some (w'.cells n) ≡ true → NewNode c w w' n
   new-node whole n above there = let (cell, is) = there-is n there in elim (g.cells n cell is) [
     | inl kept ↦ absurd (let few = (whole.nodes_numbered n (ap is_some kept.live)).1 in omega (arith, few, above))
-    | inr (next, bears) ↦ record { t = cell.node_type; own = cell.key; born = bears; next = next; typed = type-is n w' cell is; key = key-is n w' cell is }
+    | inr (next, bears) ↦ record { t = cell.node_type; own = cell.key; born = bears; next = next; typed = grind (arith, nat_tests); key = grind (arith, nat_tests) }
   ]

@@ -4,9 +4,9 @@ use Rattle.pagable_laws.proofs.Words.{LoadAnswer, Core, Frame, Reading, World, V
 use Rattle.pagable_laws.proofs.Words.{makes-node, reading-ends, EventFeels, nat_tests, ◌&&◌, true, false, Ok, ap, not, is_in, Owner, Seen, moved, numbers_of, HandOverCall, is_owned_in, handles_of}
 use Rattle.pagable_laws.proofs.Words.{Happens, HandlesAreWhole, HandsOver, ◌<◌, slice_get-get_or, Blob, NodeNumber, Tree, Types, type_of, LoadReply, held, OpenLoad, type_at, IsLawful, IsReference}
 use Rattle.pagable_laws.proofs.Words.{ReadsRoot, LoadSteps, MachineState, world_of, IsMachineWhole, IsReadingOf, StandsFor, SameTrees, FrameFits, FramesFit, ReadsItsTypes, ReadIsRight, ReadGives, ◌+◌}
-use Rattle.pagable_laws.proofs.Words.{◌*◌, ◌≤◌, ◌⊎◌, is_eager, asks, next_in, need_of, needs_nested, needs_lazy, to_adopt, root_frame, after_kinds, Unfolds, unfolds, UnfoldsFrom, KeepsStored}
+use Rattle.pagable_laws.proofs.Words.{◌*◌, ◌≤◌, ◌⊎◌, is_eager, asks, next_in, need_of, needs_nested, to_adopt, root_frame, after_kinds, Unfolds, unfolds, UnfoldsFrom, KeepsStored}
 use Rattle.pagable_laws.proofs.Words.{Call, Reply, one_more, gone_on, IsIdle, KeepsOpen, IsWithinBound, StepIsWithin, PagerState, Represents, WellFormed, LoadsHaveStepsLeft, IsFresh, slice_get_within}
-use Rattle.pagable_laws.proofs.{Fitting.{first-fits, frames-stay, asked}, ReadingSteps.{readings-on, caller-free, reading-feels, reading-stands}}
+use Rattle.pagable_laws.proofs.{Words.Needs, Fitting.{first-fits, frames-stay, asked}, ReadingSteps.{readings-on, caller-free, reading-feels, reading-stands}}
 use Rattle.pagable_laws.proofs.{ReadingSteps.{AllWaitWell, EventGoes, event-goes, reading-open}, Goes.{found-number, IsShut, Goes}, Outlasting.{Stands, stands-whole, stands-changed, stands-fell}}
 use Rattle.pagable_laws.proofs.{Sums.self-number, Decoding.decodes, Taking.{row-held, root-right, adopted-over, Going, given-nodes, eager-nested, going-of, was-open}, Apart.{kinds_of, asks-by-kinds}}
 use Rattle.{pagable_laws.proofs.{Apart.kinds-pushed, Trees.same_some, Effects.named}, pagable_world.specs.{Loads.Does as LoadDoes, Runs.Does}, std.proofs.Common.rules}
@@ -154,11 +154,10 @@ module _ (types : Types) (store : ℕ → Option Blob) (many : ℕ) where
       let e = a.3 in
       record { now = 2 * a.0 + 1 + (2 * t.rest + 1 + o.more); owes = record { many = a.0; longest = a.1; more = 2 * t.rest + 1 + o.more; from = root-unfolds a.2 blob is; below = under; sum = refl }; less = omega (arith, s, e) }
 
-  owes-got : (frames : List Frame) (kind : Kind) (key owed : ℕ) (row : HandleRow) → (need_of types frames ≡ needs_nested kind key) ⊎ (need_of types frames ≡ needs_lazy kind key)
-      → Owes types store many frames owed → OwesLess types store many (with_got kind row frames) owed
+  owes-got : (frames : List Frame) (kind : Kind) (key owed : ℕ) (row : HandleRow) → Needs types frames kind key → Owes types store many frames owed
+      → OwesLess types store many (with_got kind row frames) owed
   unfolding Owes Waits
-  owes-got [] kind key owed row (inl needs) o = absurd (cc)
-  owes-got [] kind key owed row (inr needs) o = absurd (cc)
+  owes-got [] kind key owed row needs o = grind (arith, nat_tests)
   owes-got (top ∷ below) kind key owed row needs o =
       let t = takes o.from kind key (asks-by-kinds types top.node_type top.blob top.got kind key (asked below (next_in types top) kind key needs)) in
       let s = o.sum in
@@ -201,12 +200,12 @@ bounded-step : {N : Type 0} {v : Values N} {w w' : Core} {c : Change} (reading :
     → Bounded v.types w.stored load.key reading → ReadingFeels v w reading None frames w' c → Bounded v.types w.stored load.key (gone_on reading frames)
 bounded-step reading load frames open_load b feels more kept many longest under = search (rules, owes-less)
 
+-- ---- the machine's loads
+
 is-within : {N : Type 0} {types : Types} {store : ℕ → Option Blob} {key : ℕ} (reading : Reading) (frames : List Frame) (reply : LoadReply N) → Bounded types store key reading
     → (reply.ended ≡ None → Bounded types store key (gone_on reading frames)) → reply.steps ≡ one_more reading.steps
     → IsWithinBound types store reading.node_type key reply
 is-within {types = types} {store} {key} reading frames reply b after counts many longest under = search (rules, owes-some)
-
--- ---- the machine's loads
 
 nothing-unfolds : {types : Types} {store : ℕ → Option Blob} {t key many longest : ℕ} → ((q : ℕ) → store q ≡ None) → Unfolds types store t key many longest → ⊥
 nothing-unfolds none (unfolds t key many longest blob there from) = let e = none key in absurd (cc)

@@ -268,8 +268,7 @@ module _ (v : ℕ) (task : Task) where
         → (Stands shelf v task x below → Stands shelf v task y below) → Goes shelf None shelf' (y ∷ below)
     unfolding AllStand is_open_in
     swaps x y below (stands, apart, rest) covers about goes =
-        plain None (y ∷ below) (λ a is. absurd (cc)) (goes stands, (λ i is. apart i (sym (about i) ∙ is)), rest)
-        (λ i slot there own still. ap (λ b. b || is_open_in i below) (about i) ∙ covers i slot there own still)
+        plain None (y ∷ below) (λ a is. absurd (cc)) (goes stands, grind (arith, nat_tests), rest) (grind (arith, nat_tests))
 
   -- ---- references are started
 
@@ -370,14 +369,7 @@ module _ (v : ℕ) (task : Task) (shelf shelf' : Shelf) where
   pub failed-goes : (answer : WorkerAnswer) → SameShelf (with_failed shelf v) shelf' → Goes v task shelf (Some answer) shelf' []
   unfolding AllStand is_open_in
   failed-goes answer same =
-      record {
-        changes = fails-own v shelf shelf' same;
-        all = tt;
-        covers = λ i slot there own still. true-false (ap is_open_outcome still) (grind (arith, some-same));
-        unfailed = λ nothing clean. absurd (cc);
-        done = λ a is. refl;
-        met = λ i slot none there. some-none there ((same.slots i ∙ ap (λ o. if_there (λ (slot : Slot). Some (if nat_eq slot.worker v then with_outcome failed slot else slot)) None o) none));
-      }
+      let changes = fails-own v shelf shelf' same in let slots = same.slots in grind (arith, nat_tests, some-none, some-same)
 
 -- What stands of all workers and tables goes on to stand, by what an event does to them.
 
@@ -417,13 +409,10 @@ module _ (v : ℕ) (shelves shelves' : ℕ → Shelf) (walkings walkings' : ℕ 
   work-stands last last' few small work =
       record {
         slots = grind (arith, nat_tests, met-stays, some-same);
-        workers = λ u w there. elim (cases_Bool (nat_eq u v)) [
-          | inl e ↦ let is = same-worker u v e in subst (λ n. WalkingStands (shelves' w.table) n w) (sym is) (turned.stands w (sym (ap walkings' is) ∙ there))
-          | inr e ↦
-              let c = turned.changes w.table in
-              walking-stays u w (shelves w.table) (shelves' w.table) (grows v (shelves w.table) (shelves' w.table) c) (others-stay v u (shelves w.table) (shelves' w.table) c e)
-              (grind (arith, some-same)) (work.workers u w (sym (turned.others u e) ∙ there))
-        ];
+        workers = λ u w there. let c = turned.changes w.table in
+            let more = grows v (shelves w.table) (shelves' w.table) c in
+            let stay = others-stay v u (shelves w.table) (shelves' w.table) c in
+            grind (arith, nat_tests, cases_Bool (nat_eq u v), same-worker, walking-stays u w (shelves w.table) (shelves' w.table) more, stay, some-same, turned.others u, work.workers u w);
         numbered = grind (arith, nat_tests, cases_Bool, nat_eq, same-worker);
       }
 
@@ -443,15 +432,11 @@ module _ (shelves shelves' : ℕ → Shelf) (walkings walkings' : ℕ → Option
   -- nothing is done to workers, and no claim is made
   pub is-quiet : ((u : ℕ) → walkings' u ≡ walkings u) → Turned 0 shelves shelves' walkings walkings'
   is-quiet stay =
-      record {
-        changes = λ t. same-slots 0 (shelves t) (shelves' t) (same t);
-        others = λ u other. stay u;
-        own = λ w there. record { now = w; there = stay 0 ∙ there; table = refl; task = refl };
-        met = λ t i slot none there. some-none (sym (same t i) ∙ there) none;
-        stands = λ w there.
-            walking-stays 0 w (shelves w.table) (shelves' w.table) (grows 0 (shelves w.table) (shelves' w.table) (same-slots 0 (shelves w.table) (shelves' w.table) (same w.table)))
-            (λ i slot is own. same w.table i ∙ is) (λ i slot is own. sym (same w.table i) ∙ is) (work.workers 0 w (sym (stay 0) ∙ there));
-      }
+      let changes : (t : ℕ) → Changes 0 (shelves t) (shelves' t) = λ t. same-slots 0 (shelves t) (shelves' t) (same t) in
+      let stands : (w : Walking) → walkings' 0 ≡ Some w → WalkingStands (shelves' w.table) 0 w = λ w there.
+      walking-stays 0 w (shelves w.table) (shelves' w.table) (grows 0 (shelves w.table) (shelves' w.table) (changes w.table))
+      (λ i slot is own. same w.table i ∙ is) (λ i slot is own. sym (same w.table i) ∙ is) (work.workers 0 w (sym (stay 0) ∙ there)) in
+      grind (arith, nat_tests, some-none, changes, stands, stay)
 
   -- a worker that has no number yet has claimed nothing
   unclaimed : (v t : ℕ) (i : Identity) (slot : Slot) → last < v → (shelves' t).slots i ≡ Some slot → slot.worker ≡ v → ⊥
@@ -465,19 +450,15 @@ module _ (shelves shelves' : ℕ → Shelf) (walkings walkings' : ℕ → Option
       → ((u : ℕ) → nat_eq u v ≡ false → walkings' u ≡ walkings u) → Turned v shelves shelves' walkings walkings'
   unfolding AllWait
   is-started v new above first none at others =
-      record {
-        changes = λ t. same-slots v (shelves t) (shelves' t) (same t);
-        others = others;
-        own = λ w there. let few = work.numbered v w there in absurd (omega arith);
-        met = λ t i slot nothing there. some-none (sym (same t i) ∙ there) nothing;
-        stands = λ w there. subst (λ x. WalkingStands (shelves' x.table) v x) (some-same at there) (record {
-          all = subst (λ todo. AllStand (shelves' new.table) v new.task todo) (sym first) (first-stands (shelves' new.table) v new.task);
-          covers = λ i slot is own still. absurd (unclaimed v new.table i slot above is own);
-          unfailed = λ nothing i slot is own. absurd (unclaimed v new.table i slot above is own);
-          done = λ answer is. some-none is none;
-          waits = subst (λ todo. WaitsWell todo) (sym first) (grind (arith, nat_tests));
-        });
-      }
+      let changes : (t : ℕ) → Changes v (shelves t) (shelves' t) = λ t. same-slots v (shelves t) (shelves' t) (same t) in
+      let stands : (w : Walking) → walkings' v ≡ Some w → WalkingStands (shelves' w.table) v w = λ w there. subst (λ x. WalkingStands (shelves' x.table) v x) (some-same at there) (record {
+        all = subst (λ todo. AllStand (shelves' new.table) v new.task todo) (sym first) (first-stands (shelves' new.table) v new.task);
+        covers = λ i slot is own still. absurd (unclaimed v new.table i slot above is own);
+        unfailed = λ nothing i slot is own. absurd (unclaimed v new.table i slot above is own);
+        done = λ answer is. some-none is none;
+        waits = subst (λ todo. WaitsWell todo) (sym first) (grind (arith, nat_tests));
+      }) in
+      grind (arith, nat_tests, some-none, changes, stands, work.numbered v)
 
 -- a worker makes a step
 pub is-stepped : (v : ℕ) (shelves shelves' : ℕ → Shelf) (walkings walkings' : ℕ → Option Walking) (w now : Walking) → walkings v ≡ Some w → walkings' v ≡ Some now → now.table ≡ w.table
