@@ -20,11 +20,9 @@ module _ {N B W : Type 0} (m : Seen N B W) (n : ℕ) (g : Ground) (task : Task) 
   answered (to_item written ks ∷ below) (Took.Store i (Ok k)) (is, p) (of_it, known) key e =
       let to : k ≡ key = cc in
       let b = p.stored.stores in
-      record {
-        done = subst (λ t. IsDone m.values s.shelf t key) (sym of_it)
-            (ks, all-known s.shelf longest_path written.references ks p.all known, sym to ∙ b.0, all-low s.shelf longest_path written.references ks p.all known);
-        same = let t = p.goes in t.table_stays.slots;
-      }
+      let done : IsDone m.values s.shelf task key = subst (λ t. IsDone m.values s.shelf t key) (sym of_it)
+      (ks, all-known s.shelf longest_path written.references ks p.all known, sym to ∙ b.0, all-low s.shelf longest_path written.references ks p.all known) in
+      let t = p.goes in search (done, t.table_stays.slots)
   answered (to_release r k h ∷ []) (Took.Release i) (is, falls, t) (p, reach, (expects, waits)) key e =
       let to : k ≡ key = cc in record { done = grind (arith, nat_tests); same = t.table_stays.slots }
   answered x0 x1 x2 x3 key e = grind (arith, nat_tests)

@@ -94,14 +94,9 @@ pub goes-same : (v : ℕ) (task : Task) (shelf mid shelf' : Shelf) (answer : Opt
     → Goes v task shelf answer mid todo → Goes v task shelf answer shelf' todo
 goes-same v task shelf mid shelf' answer todo same g =
     let more : ShelfGrows mid shelf' = grows v mid shelf' (same-slots v mid shelf' same) in
-    record {
-      changes = λ i. subst (λ o. SlotChanges v (shelf.slots i) o) (sym (same i)) (g.changes i);
-      all = all-stay v task mid shelf' more todo (λ i is slot there own. same i ∙ there) g.all;
-      covers = λ i slot there own still. g.covers i slot (sym (same i) ∙ there) own still;
-      unfailed = λ none clean i slot there own. g.unfailed none clean i slot (sym (same i) ∙ there) own;
-      done = g.done;
-      met = λ i slot none there. meets-grow mid shelf' task i more (g.met i slot none (sym (same i) ∙ there));
-    }
+    let changes : (i : Identity) → SlotChanges v (shelf.slots i) (shelf'.slots i) = λ i. subst (λ o. SlotChanges v (shelf.slots i) o) (sym (same i)) (g.changes i) in
+    let all = all-stay v task mid shelf' more todo (λ i is slot there own. same i ∙ there) g.all in
+    grind (arith, changes, all, same, meets-grow mid shelf' task)
 
 module _ {N B W : Type 0} (m : Seen N B W) (u u' : World) (work : StandsIn u) where
   module _ (event : Event N B W) (reply : EventReply N B W) where
@@ -407,12 +402,9 @@ module _ {N B W : Type 0} (m : Seen N B W) (u u' : World) (grow : (t : ℕ) → 
       by : (o : Option Walking) → HasGone f n u.work.shelves o past → HasGone f n u'.work.shelves o past
       by None gone = gone
       by (Some w) gone =
-          record {
-            leads = gone.leads;
-            fails = fails-stay n (u.work.shelves w.table) (u'.work.shelves w.table) past past w.todo (grow w.table) (λ x among. among) gone.fails;
-            met = λ answer is. met-stays n (u.work.shelves w.table) (u'.work.shelves w.table) past past answer (grow w.table) (λ x among. among) (gone.met answer is);
-            within = gone.within;
-          }
+          let fails = fails-stay n (u.work.shelves w.table) (u'.work.shelves w.table) past past w.todo (grow w.table) (λ x among. among) gone.fails in
+          let met = λ (answer : WorkerAnswer). met-stays n (u.work.shelves w.table) (u'.work.shelves w.table) past past answer (grow w.table) (λ x among. among) in
+          search (gone.leads, fails, met, gone.met, gone.within)
 
   begun : (n : ℕ) (t : TableNumber) (task : Task) (past taken : List (Took W)) → taken ≡ [] → u.work.walkings n ≡ None → u'.work.walkings n ≡ Some (new_walking t task)
       → HasGone f n u.work.shelves (u.work.walkings n) past

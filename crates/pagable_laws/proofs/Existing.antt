@@ -6,15 +6,9 @@ use Rattle.pagable_laws.proofs.Words.{two_rows, first, first_node, lone, lone_li
 use Rattle.pagable_laws.proofs.Sums.{same-number, one-true, sum-le, at-most-sum, sum-plus, sum-zero, counted, one-small}
 use Rattle.std.proofs.lemmas.Bool.{false_from_ne_true}
 
--- 1 for a handle outside the set; one of the node, one that pins it, one that its value owns; and one of the one set and not of the other
+-- 1 for a handle outside the set; one that the node's value owns; and one of the one set and not of the other
 abbrev outside : (ℕ → Bool) → HandleRow → ℕ
 outside s h = one (is_outside s h)
-
-abbrev held_out : (ℕ → Bool) → ℕ → HandleRow → ℕ
-held_out s n h = one (is_at n h && is_outside s h)
-
-abbrev pin_out : (ℕ → Bool) → ℕ → HandleRow → ℕ
-pin_out s n h = one (is_pin n h && is_outside s h)
 
 abbrev owned_out : (ℕ → Bool) → ℕ → HandleRow → ℕ
 owned_out s n h = one (is_owned_by (owner_value n) h && is_outside s h)
@@ -66,8 +60,10 @@ module _ (rows : List HandleRow) (keyed : ℕ → Bool) (entries : List HandleRo
   -- a value that goes with fewer handles goes with more
   pub wider : (s t : ℕ → Bool) (n : ℕ) → IsWithin rows s t → lost s n ≡ true → lost t n ≡ true
   wider s t n within goes =
-      let pins = sum-le (pin_out t n) (pin_out s n) rows (λ h among. let a = at-most-sum (only_in s t) rows h among in grind (arith, nat_tests)) in
-      let handles = sum-le (held_out t n) (held_out s n) rows (λ h among. let a = at-most-sum (only_in s t) rows h among in grind (arith, nat_tests)) in
+      let pins = sum-le (λ h. one (is_pin n h && is_outside t h)) (λ h. one (is_pin n h && is_outside s h)) rows
+      (λ h among. let a = at-most-sum (only_in s t) rows h among in grind (arith, nat_tests)) in
+      let handles = sum-le (λ h. one (is_at n h && is_outside t h)) (λ h. one (is_at n h && is_outside s h)) rows
+      (λ h among. let a = at-most-sum (only_in s t) rows h among in grind (arith, nat_tests)) in
       grind (arith, nat_tests)
 
   -- what isn't given, and is owned by no value that goes, doesn't fall
@@ -127,12 +123,9 @@ module _ (rows : List HandleRow) (keyed : ℕ → Bool) (entries : List HandleRo
 
 -- so the given handles are the least set, and no more fall
 pub given-least : (rows : List HandleRow) (keyed : ℕ → Bool) (entries : List HandleRow) (given : ℕ → Bool) → OwnsNothing rows → IsLeast rows keyed entries given given
-given-least rows keyed entries given nothing = record {
-  holds = within-self rows keyed entries given;
-  closed = λ n goes. let none : sum_by
-      (λ h. one (is_owner (owner_value n) h.owner)) rows ≡ 0 = nothing n in grind (arith, nat_tests, and_parts, sum-le);
-  least = λ t holds closed. holds;
-}
+given-least rows keyed entries given nothing =
+    let closed : IsClosed rows keyed entries given = λ n goes. let none : sum_by (λ h. one (is_owner (owner_value n) h.owner)) rows ≡ 0 = nothing n in grind (arith, nat_tests, and_parts, sum-le) in
+    search (within-self rows keyed entries given, closed)
 
 pub given_alone : IsGivenAlone
 given_alone rows keyed entries given s h nothing least among = least_is_one rows keyed entries given s given h least (given-least rows keyed entries given nothing) among

@@ -1,7 +1,7 @@
 -- The row of a handle that a load has got: it is new, of its node, and its mode fits the kind.
 use Rattle.pagable_laws.proofs.Words.{◌≡◌, ℕ, ◌+◌, ◌<◌, ◌≤◌, Bool, true, List, [], ◌∷◌, ◌++◌, refl, ap, subst, ◌∙◌, inr, arith, Some, ◌⊎◌, nat_tests, ArcRef, Kind, HandleNumber, LoadNumber}
-use Rattle.pagable_laws.proofs.Words.{NodeNumber, OptionalDataKey, type_of, HandleRow, Owner, find_row, mode_of, owner_value, Core, Last, Alike, row_at, usable, FallsAnyhow, row_of, with_handle}
-use Rattle.pagable_laws.proofs.Words.{with_node, with_cached_if_open, with_known, next_node, is_named_by, moved, adopted, HandlesAreWhole, GetsRow, sym, inl, Option, None, Ok, Err, is_some}
+use Rattle.pagable_laws.proofs.Words.{NodeNumber, OptionalDataKey, HandleRow, Owner, find_row, mode_of, owner_value, Core, Last, Alike, row_at, usable, FallsAnyhow, row_of}
+use Rattle.pagable_laws.proofs.Words.{with_cached_if_open, with_known, next_node, is_named_by, moved, adopted, HandlesAreWhole, GetsRow, sym, inl, Option, None, Ok, Err, is_some}
 use Rattle.pagable_laws.proofs.Words.{WorkerNumber, LoadAnswer, LoadReply, WorkerReply, PinStep, Took, Event, owner_worker, Frame, Reading, Todo, to_load, Walking, World, Seen, Values, ReadingDoes}
 use Rattle.pagable_laws.proofs.Words.{gone_on, Site, ReadingsAre, reading_at, reading_after, LoadSteps, WorkerSteps, IsWhole, IsReadingOf, of_caller, of_worker, IsSteppedReading, MachineState}
 use Rattle.pagable_laws.proofs.Words.{IsMachineWhole, StepsReading, IsFresh, Error, OpenLoad, first_key}
@@ -46,11 +46,8 @@ module _ {w w' : Core} (whole : HandlesAreWhole w) (kind : Kind) (k : HandleNumb
   -- of the next node
   pub got-born : (l : LoadNumber) (key : ℕ) (own : OptionalDataKey) (references : List ArcRef) → Alike (adopted w l kind key own references) w' → GetsRow w w' kind (w.last.node + 1) row
   got-born l key own references a =
-      let rows = cached-rows (with_handle (with_node w (type_of kind.0) own references) (next_node w) (mode_of kind.0) (Owner.Load l)) kind key (next_node w) in
-      let few = ap (λ (l : Last). l.handle) (a.last ∙ rows.1) in
-      gets (moved (is_named_by references) (owner_value (w.last.node + 1)) w.rows) (next_node w) (Owner.Load l)
-      (low-changed w.last.handle w.rows (λ h. is_named_by references h.number.0) (λ h. record h { owner = owner_value (w.last.node + 1) }) (λ h. refl) (low-whole whole)) (omega (arith, few))
-      (subst (λ rows. find_row k.0 rows ≡ Some row) (a.rows ∙ rows.0) made)
+      let low = low-changed w.last.handle w.rows (λ h. is_named_by references h.number.0) (λ h. record h { owner = owner_value (w.last.node + 1) }) (λ h. refl) (low-whole whole) in
+      grind (arith, nat_tests, gets (moved (is_named_by references) (owner_value (w.last.node + 1)) w.rows) (next_node w) (Owner.Load l) low)
 
 -- what can be used is in the cache
 pub is-cached : (w : Core) (kind key n : ℕ) → usable w kind key ≡ Some n → w.cache kind key ≡ Some n

@@ -5,7 +5,7 @@ use Rattle.pagable_laws.proofs.Words.{makes-node, reading-ends, EventFeels, nat_
 use Rattle.pagable_laws.proofs.Words.{Happens, HandlesAreWhole, HandsOver, ◌<◌, slice_get-get_or, Blob, NodeNumber, Tree, Types, type_of, LoadReply, held, OpenLoad, type_at, IsLawful, IsReference}
 use Rattle.pagable_laws.proofs.Words.{ReadsRoot, LoadSteps, MachineState, world_of, IsMachineWhole, IsReadingOf, StandsFor, SameTrees, FrameFits, FramesFit, ReadsItsTypes, ReadIsRight, ReadGives, ◌+◌}
 use Rattle.pagable_laws.proofs.Words.{◌*◌, ◌≤◌, ◌⊎◌, is_eager, asks, next_in, need_of, needs_nested, to_adopt, root_frame, after_kinds, Unfolds, unfolds, UnfoldsFrom, KeepsStored}
-use Rattle.pagable_laws.proofs.Words.{Call, Reply, one_more, gone_on, IsIdle, KeepsOpen, IsWithinBound, StepIsWithin, PagerState, Represents, WellFormed, LoadsHaveStepsLeft, IsFresh, slice_get_within}
+use Rattle.pagable_laws.proofs.Words.{Call, gone_on, IsIdle, KeepsOpen, IsWithinBound, StepIsWithin, PagerState, Represents, WellFormed, LoadsHaveStepsLeft, IsFresh, slice_get_within}
 use Rattle.pagable_laws.proofs.{Words.Needs, Fitting.{first-fits, frames-stay, asked}, ReadingSteps.{readings-on, caller-free, reading-feels, reading-stands}}
 use Rattle.pagable_laws.proofs.{ReadingSteps.{AllWaitWell, EventGoes, event-goes, reading-open}, Goes.{found-number, IsShut, Goes}, Outlasting.{Stands, stands-whole, stands-changed, stands-fell}}
 use Rattle.pagable_laws.proofs.{Sums.self-number, Decoding.decodes, Taking.{row-held, root-right, adopted-over, Going, given-nodes, eager-nested, going-of, was-open}, Apart.{kinds_of, asks-by-kinds}}
@@ -202,11 +202,6 @@ bounded-step reading load frames open_load b feels more kept many longest under 
 
 -- ---- the machine's loads
 
-is-within : {N : Type 0} {types : Types} {store : ℕ → Option Blob} {key : ℕ} (reading : Reading) (frames : List Frame) (reply : LoadReply N) → Bounded types store key reading
-    → (reply.ended ≡ None → Bounded types store key (gone_on reading frames)) → reply.steps ≡ one_more reading.steps
-    → IsWithinBound types store reading.node_type key reply
-is-within {types = types} {store} {key} reading frames reply b after counts many longest under = search (rules, owes-some)
-
 nothing-unfolds : {types : Types} {store : ℕ → Option Blob} {t key many longest : ℕ} → ((q : ℕ) → store q ≡ None) → Unfolds types store t key many longest → ⊥
 nothing-unfolds none (unfolds t key many longest blob there from) = let e = none key in absurd (cc)
 
@@ -245,13 +240,10 @@ module _ {N E B W : Type 0} (m : Seen N B W) (s s' : MachineState N E) (whole : 
 
   module _ {c : Change} (goes : Goes c u.core u'.core) (all : AllBounded m.values.types u) where
     kept-bounded : (reading : Reading) → IsBounded m.values.types u reading → IsBounded m.values.types u' reading
-    kept-bounded reading b =
-        let few = b.0 in
-        let more = goes.loads_last in (
-          omega (arith, few, more),
-          λ load is_open. λ more after many longest under. (b.1 load (was-open goes reading.load.0 load b.0 is_open)) more
-              (λ q x is. after q x (goes.stored q x is)) many longest under,
-        )
+    kept-bounded reading b = (
+      let few = b.0 in let more = goes.loads_last in omega (arith, few, more),
+      λ load is_open more after. b.1 load (was-open goes reading.load.0 load b.0 is_open) more (λ q x is. after q x (goes.stored q x is)),
+    )
 
   -- all loads go on so
   all-on : {event : Event N B W} {reply : EventReply N B W} {c : Change} → Goes c u.core u'.core → AllBounded m.values.types u → EventFeels m.values u event reply u' c → AllBounded m.values.types u'
@@ -265,8 +257,9 @@ module _ {N E B W : Type 0} (m : Seen N B W) (s s' : MachineState N E) (whole : 
         let is_open = reading-open s whole l x.reading x.at open_load in
         let was : Bounded m.values.types u.core.stored load.key x.reading = (bounded-of all x.reading (reading-stands u whole.pager.whole l x.reading x.at)).1 load is_open in
         let f = reading-feels m u.core Owner.Caller caller-free u'.core x.reading reply.ended x.frames x.does in
-        is-within x.reading x.frames reply was (λ none. bounded-step x.reading load x.frames is_open was
-        (subst (λ a. ReadingFeels m.values u.core x.reading a x.frames u'.core f.change) none (f.feels whole.pager.whole.handles))) x.counts
+        let after : reply.ended ≡ None → Bounded m.values.types u.core.stored load.key (gone_on x.reading x.frames) = λ none. bounded-step x.reading load x.frames is_open was
+        (subst (λ a. ReadingFeels m.values u.core x.reading a x.frames u'.core f.change) none (f.feels whole.pager.whole.handles)) in
+        let counts = x.counts in λ many longest under. search (rules, owes-some)
 
   pub event-on : (event : Event N B W) (reply : EventReply N B W) → Happens m u event reply u' → AllWaitWell u → LoadsStand m.values.types u → LoadsStand m.values.types u'
   event-on event reply h waits stands = elim (keeps-open event) [
@@ -275,9 +268,7 @@ module _ {N E B W : Type 0} (m : Seen N B W) (s s' : MachineState N E) (whole : 
   ]
     where
       shut-by : (r : EventReply N B W) → Happens m u (let e : Event N B W = Event.Call Call.Close in e) r u' → IsShut u'.core
-      shut-by (EventReply.CallReply (Reply.Done r)) c = let l = c.step.does.falls.falls.leaves in (l.closed, l.stored)
-      shut-by (EventReply.CallReply r) c = absurd c.step.does
-      shut-by r c = absurd c
+      shut-by r c = grind (arith, nat_tests)
 
       on : EventGoes m u event reply u' → LoadsStand m.values.types u → LoadsStand m.values.types u'
       on g (inl shut) = inl (g.goes.shut shut)
