@@ -292,10 +292,6 @@ module _ {W : Type 0} (f : W → Written) where
   abbrev pub IsWithin : Task → List Todo → ℕ → List (Took W) → Type 0
   IsWithin task todo n past = n + all-due todo ≤ 8 * times is_claim past + (own_references task + sum_by (references_written f) past) + 4
 
-  pub within-after : (task : Task) (todo next : List Todo) (n n' : ℕ) (past : List (Took W)) (step : Took W) → n' ≤ n + one (is_counted todo step) → Follows f todo step next
-      → IsWithin task todo n past → IsWithin task next n' (past ++ step ∷ [])
-  within-after task todo next n n' past step counted follows within = grind (arith, sum_by-append, sum_by-cons, pays)
-
 -- ---- what a worker fails with: a refusal that a step of its own met, or that another's claim has failed where its walk came
 
 -- another's claim that has failed stays so
@@ -430,8 +426,7 @@ module _ {N B W : Type 0} (m : Seen N B W) (u u' : World) (grow : (t : ℕ) → 
         leads = leads-more f (first_todo w.task) past w.todo reply.took s.after.todo was.leads follows;
         fails = follows-met k.0 shelf' (past ++ reply.took ∷ []) f w.todo reply.took s.after.todo follows (among-right past (reply.took ∷ []) 0 reply.took refl) already fails;
         met = λ answer is. answered k.0 shelf' (past ++ reply.took ∷ []) w.todo reply.took answer (sym s.answers ∙ is) fails;
-        within = within-after f w.task w.todo s.after.todo w.steps reply.steps past reply.took
-            (let counts = s.counts in grind (arith, nat_tests)) follows was.within;
+        within = let counts = s.counts in let was_so = was.within in let paid = pays f w.todo reply.took s.after.todo follows in grind (arith, nat_tests, sum_by-append, sum_by-cons);
       } in
       subst (λ o. HasGone f k.0 u'.work.shelves o (past ++ reply.took ∷ [])) (sym new) on
 

@@ -3,7 +3,7 @@
 use Rattle.pagable_laws.proofs.Words.{◌==◌, nat_tests, ◌≡◌, ℕ, zero, suc, ◌+◌, ◌-◌, ◌*◌, ◌/◌, ◌%◌, ◌^◌, Bool, true, List, [], ◌∷◌, ◌++◌, length, take, Result, Ok, Err, ◌⊎◌, if◌then◌else◌, inl, inr}
 use Rattle.pagable_laws.proofs.Words.{refl, sym, arith, append_assoc, cases_lt, le-ltb, lt-ltb, length-append, take-append-drop, length-take-le, nat_le, nat_lt, Error, ◌>>=◌, Read, byte_at, varint_at}
 use Rattle.pagable_laws.proofs.Words.{unsigned_at, signed_from, signed_at, longest, length_at, bytes_at, text_at, bool_at, char_at, carried, duration_at, nanos_of_second, Some, None, subst}
-use Rattle.pagable_laws.proofs.Words.{Meaning, none, variant, sequence, entry, absent, present, success, failure, lifted, Entry, KeyOrder, code_order, text_order, put_all, put_sorted}
+use Rattle.pagable_laws.proofs.Words.{Meaning, none, variant, sequence, entry, absent, present, success, failure, lifted, Entry, KeyOrder, code_order, text_order, put_all, put_sorted, ◌≤◌, drop}
 use Rattle.pagable_laws.proofs.Words.{put_sorted_item, put_placed_item, of_entries, of_tagged, of_hash_map, Shape, nothing, unsigned, signed, flag, letter, duration, json, optional, outcome, list}
 use Rattle.pagable_laws.proofs.Words.{run, array, both, sorted_map, placed_map, hash_map, sorted_set, placed_set, static_value, tagged, cases, nested, Rest, Look, Gets, bytes_of, reference_at, seen}
 use Rattle.pagable_laws.proofs.Words.{two, choose, items, counted, registered, Deeper, enter, JsonCase, null_case, flag_case, number_case, text_case, array_case, object_case, json_case, json_part}
@@ -85,18 +85,14 @@ pub byte_tame : TameBytes byte_at
 unfolding Comes
 byte_tame = record { comes = elim [ [] ↦ inl (inl refl) | b ∷ bs ↦ record { used = b ∷ []; whole = refl; reads = λ y. refl } ] }
 
+front_of : (n : ℕ) (bs : List ℕ) → n ≤ length bs → Front more_bytes (bytes_at n) bs (take n bs) (drop n bs)
+front_of n bs le =
+    let reads : (y : List ℕ) → bytes_at n (take n bs ++ y) ≡ Ok (take n bs, y) = λ y. grind (arith, nat_tests, le-ltb, length-append, take_at, drop_at, length-take-le n bs le) in
+    record { used = take n bs; whole = sym (take-append-drop n bs); reads = reads }
+
 pub bytes_tame : (n : ℕ) → TameBytes (bytes_at n)
 unfolding Comes
-bytes_tame n = record {
-  comes = λ bs. elim (cases_lt (length bs) n) [
-    | inl lt ↦ rw (lt-ltb (length bs) n lt) (inl (inl refl))
-    | inr le ↦ rw (le-ltb (length bs) n le) (record {
-      used = take n bs;
-      whole = sym (take-append-drop n bs);
-      reads = λ y. grind (arith, nat_tests, le-ltb, length-append, take_at, drop_at, length-take-le n bs le);
-    })
-  ];
-}
+bytes_tame n = record { comes = λ bs. elim (cases_lt (length bs) n) [ inl lt ↦ rw (lt-ltb (length bs) n lt) (inl (inl refl)) | inr le ↦ rw (le-ltb (length bs) n le) (front_of n bs le) ] }
 
 varint_tame : (more last : ℕ) → TameBytes (varint_at more last)
 unfolding varint_at

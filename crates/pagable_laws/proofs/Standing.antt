@@ -310,8 +310,7 @@ module _ (v : ℕ) (task : Task) (shelf shelf' : Shelf) where
       let meets_now : Meets shelf' task (identity_of r) = meets-grow shelf shelf' task (identity_of r) (grows v shelf shelf' changes) meets in
       let free : is_open_in (identity_of r) below ≡ false =
       false_from_ne_true (is_open_in (identity_of r) below) (λ is. let a = open-slot v task shelf (identity_of r) below rest is in some-none a.1 none) in
-      let claim : HasClaim shelf' v (identity_of r) (λ w. w ≡ None) = record { slot = new-slot; claimed = puts.at; own = refl; no_result_yet = refl; written_so = refl } in
-      own-goes (identity_of r) new-slot _ puts changes meets_now refl (grind (arith, nat_tests, claim, all-stay, false_from_ne_true, true-false, is-same))
+      own-goes (identity_of r) new-slot _ puts changes meets_now refl (grind (arith, nat_tests, all-stay, false_from_ne_true, true-false, is-same, is-self))
       (grind (arith, nat_tests, put-cases, identity_of, new-slot, is_open_in, or_right, is_identity, or_left, is-self))
 
   -- the value is written
@@ -324,10 +323,9 @@ module _ (v : ℕ) (task : Task) (shelf shelf' : Shelf) where
       let puts : PutsSlot shelf.slots shelf'.slots (identity_of r) new = changes-slot shelf shelf' (identity_of r) c.slot (λ slot. record slot { written = Some written }) c.claimed same in
       let changes : Changes v shelf shelf' = put-by v shelf shelf' (identity_of r) new puts (is-changed c.slot new c.claimed c.own refl (grind (arith, nat_tests, some-none))) in
       let meets_now : Meets shelf' task (identity_of r) = meets-grow shelf shelf' task (identity_of r) (grows v shelf shelf' changes) meets in
-      let free : is_open_in (identity_of r) below ≡ false = apart (identity_of r) (is-self (identity_of r)) in
       let o : Open = record { reference = r; place = place; through = through; written = written; keys = []; height = 0 } in
       own-goes (identity_of r) new _ puts changes meets_now (ap is_failed c.no_result_yet) (settles v task shelf' o below
-      (grind (arith, nat_tests, all-stay, false_from_ne_true, true-false, is-same))) (grind (arith, nat_tests, or_right, started-open, put-cases, is_identity, or_left, is-self))
+      (grind (arith, nat_tests, all-stay, false_from_ne_true, true-false, is-same, is-self))) (grind (arith, nat_tests, or_right, started-open, put-cases, is_identity, or_left, is-self))
 
   -- key and height are published
   pub published-goes : (r : ArcRef) (key height : ℕ) (below : List Todo) → AllStand shelf v task (to_publish r key height ∷ below) → CoversBy v task shelf (to_publish r key height ∷ below)
@@ -338,9 +336,7 @@ module _ (v : ℕ) (task : Task) (shelf shelf' : Shelf) where
       let puts : PutsSlot shelf.slots shelf'.slots (identity_of r) new = changes-slot shelf shelf' (identity_of r) c.slot (with_outcome (published key height)) c.claimed same in
       let changes : Changes v shelf shelf' = put-by v shelf shelf' (identity_of r) new puts (is-changed c.slot new c.claimed c.own refl (grind arith)) in
       let meets_now : Meets shelf' task (identity_of r) = meets-grow shelf shelf' task (identity_of r) (grows v shelf shelf' changes) meets in
-      let free : is_open_in (identity_of r) below ≡ false = apart (identity_of r) (is-self (identity_of r)) in
-      let known : new.outcome ≡ published key height = (cc) in
-      own-goes (identity_of r) new _ puts changes meets_now (ap is_failed known) (grind (arith, nat_tests, all-stay, false_from_ne_true, true-false, is-same))
+      own-goes (identity_of r) new _ puts changes meets_now (grind arith) (grind (arith, nat_tests, all-stay, false_from_ne_true, true-false, is-same, is-self))
       (grind (arith, nat_tests, put-cases, or_cases, true-false, is-same, is-self))
 
   -- all goes
