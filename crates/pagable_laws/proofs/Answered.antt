@@ -49,11 +49,8 @@ module _ {N E B W : Type 0} (m : Seen N B W) (n : ℕ) (task : Task) (C : Type 0
             (fails-stay n s.shelf mid.shelf past _ todo grown (λ x (i, at). among-left past (step ∷ []) i x at) fails)),
       ) in
       let a = at-answer more (past ++ step ∷ []) g.all g.covers on in
-      record {
-        own = a.own;
-        others = λ i slot there other. grind (arith, nat_tests, some-same);
-        met = λ c. subst (λ past. IsMetFailure s'.shelf n past answer) (append_assoc past (step ∷ []) steps) (a.met c);
-      }
+      let met : C → IsMetFailure s'.shelf n (past ++ step ∷ steps) answer = λ c. subst (λ past. IsMetFailure s'.shelf n past answer) (append_assoc past (step ∷ []) steps) (a.met c) in
+      grind (arith, nat_tests, some-same, a.own, a.others, met)
 
 -- of an item: where each claim of its table had a result, each has one
 pub item-answered : {N E B W : Type 0} (m : Seen N B W) (n : ℕ) (item : Written) {s s' : AccessState N E} {steps : List (Took W)} {answer : WorkerAnswer}

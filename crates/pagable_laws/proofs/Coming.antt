@@ -116,17 +116,12 @@ module _ {N B W : Type 0} (m : Seen N B W) (u u' : World) (work : StandsIn u) wh
     starts no_step t task core v same s =
         let above : u.core.last.worker < v.0 = let e = s.next in omega arith in
         let last : u'.core.last.worker ≡ core.last.worker + 1 = ap (λ l. l.worker) s.pager.last in
+        let few : (u.core.last.worker ≤ u'.core.last.worker) × (v.0 ≤ u'.core.last.worker) = (let e = s.next in omega arith, let e = s.next in omega arith) in
         let new : u'.work.walkings v.0 ≡ Some (new_walking t task) = s.work.same_walkings v.0 ∙ updated-at v.0 (Some (new_walking t task)) u.work.walkings in
-        record {
-          who = v.0;
-          turned = is-started u.work.shelves u'.work.shelves u.work.walkings u'.work.walkings u.core.last.worker work (λ q i. (s.work.same_shelves q).slots i)
-              v.0 (new_walking t task) above refl refl new
-              (λ n other. s.work.same_walkings n ∙ updated-off v.0 (Some (new_walking t task)) u.work.walkings n other);
-          last = let e = s.next in omega arith;
-          small = let e = s.next in omega arith;
-          others = λ n other. no_step n;
-          own = begins t task (no_step v.0) (λ q i. (s.work.same_shelves q).slots i) (grind (arith, nat_tests)) new;
-        }
+        let turned = is-started u.work.shelves u'.work.shelves u.work.walkings u'.work.walkings u.core.last.worker work (λ q i. (s.work.same_shelves q).slots i)
+        v.0 (new_walking t task) above refl refl new (λ n other. s.work.same_walkings n ∙ updated-off v.0 (Some (new_walking t task)) u.work.walkings n other) in
+        let own : OwnTurn m u v.0 (step_of v.0 event reply) u' = begins t task (no_step v.0) (λ q i. (s.work.same_shelves q).slots i) (grind (arith, nat_tests)) new in
+        search (turned, own, few.0, few.1, no_step)
 
     tabled : ((n : ℕ) → step_of n event reply ≡ []) → KnowsTables u → (t : TableNumber) → t.0 ≡ u.work.last_table + 1 → Alike u.core u'.core
         → WorkIs (updated t.0 no_shelf u.work.shelves) t.0 u.work.walkings u'.work → EventTurns m u event reply u'

@@ -263,13 +263,10 @@ module _ {N E B W : Type 0} (m : Seen N B W) (s s' : MachineState N E) (whole : 
 
   pub event-on : (event : Event N B W) (reply : EventReply N B W) → Happens m u event reply u' → AllWaitWell u → LoadsStand m.values.types u → LoadsStand m.values.types u'
   event-on event reply h waits stands = elim (keeps-open event) [
-    | inr closes ↦ inl (shut-by reply (subst (λ e. Happens m u e reply u') closes h))
+    | inr closes ↦ inl (let c = subst (λ e. Happens m u e reply u') closes h in grind (arith, nat_tests))
     | inl keeps ↦ on (event-goes m u u' event reply keeps h) stands
   ]
     where
-      shut-by : (r : EventReply N B W) → Happens m u (let e : Event N B W = Event.Call Call.Close in e) r u' → IsShut u'.core
-      shut-by r c = grind (arith, nat_tests)
-
       on : EventGoes m u event reply u' → LoadsStand m.values.types u → LoadsStand m.values.types u'
       on g (inl shut) = inl (g.goes.shut shut)
       on g (inr all) = inr (all-on g.goes all (g.feels whole.pager.whole waits))

@@ -320,11 +320,8 @@ module _ {N B W E : Type 0} (m : Seen N B W) (lawful : IsLawful m.values) (reada
       cause m s trees on lawful readable l x.reading load x.at x.may open_load paged s'.pager.core e fails.0
 
   load-faultless : (event : Event N B W) (reply : EventReply N B W) → Happens m (world_of s) event reply (world_of s') → LoadIsFaultless s trees event reply s' trees'
-  load-faultless (Event.LoadStep l) (EventReply.LoadMoved (Ok reply)) is = λ load e open_load paged ended. elim (load-cause l reply is.moves load e open_load paged ended) [
-    | by-chance chance ↦ inl chance
-    | by-references frame below x frames decoded form fault ↦ inr (by-all s.pager.core _ [] (m.values.references x) e fault)
-    | by-handle n t h root fault ↦ inr (by-handle-row s.pager.core Owner.Caller h any_mode e fault)
-  ]
+  load-faultless (Event.LoadStep l) (EventReply.LoadMoved (Ok reply)) is = λ load e open_load paged ended.
+      let why = load-cause l reply is.moves load e open_load paged ended in grind (arith, nat_tests, by-all, by-handle-row)
   load-faultless event reply is = tt
 
 pub faultless_law : {N B W : Type 0} (E : Type 0) (m : Seen N B W) → FaultlessLaw E m
