@@ -8,7 +8,7 @@ use Rattle.pagable_laws.proofs.Words.{IsMachineWhole, StepsReading, IsFresh, Err
 use Rattle.pagable_laws.proofs.Words.{MakesNode, Change, nothing_felt, bears_known, ReadingFeels, reads-root, reads-blob, gets-known, gets-lazy, makes-known, makes-node, reading-ends}
 use Rattle.pagable_laws.proofs.Words.{Result, Pinning, Beginning, Claim, is_loose, to_start, to_pin, to_set, to_release, to_fail, SetKeyCall, Does, PinsAtOnce, PinsByLoad, PinRefused}
 use Rattle.pagable_laws.proofs.Words.{GivesBack, next_start, give, give_known, fresh, TodoBrings, sets_key, false, updated, EventReply, TableNumber, WorkerAnswer, only_handle}
-use Rattle.pagable_laws.proofs.Words.{Cell, Task, without_worker, WorkerEnds, answer_after, Stays, KeyStarted, Starts, new_walking, Ends, Happens, with_worker, IsNewNode, EventBrings}
+use Rattle.pagable_laws.proofs.Words.{Cell, Task, without_worker, answer_after, Stays, KeyStarted, Starts, new_walking, Ends, Happens, with_worker, IsNewNode, EventBrings}
 use Rattle.pagable_laws.proofs.Words.{KeepsOpen, LeavesCache, SameNode, NewNode, StaysAway, KeepsReadings, EventFeels, by-call, by-reading, by-key, by-nothing, Blob, StoreCall, digest}
 use Rattle.pagable_laws.proofs.{Words.{OwnersAreThere, step_of, Among, CloneCall, Needs, GetsKnown, with_got, world_of, or_else}, Goes.{found-left, none-in-new, at-updated, Quiet}}
 use Rattle.pagable_laws.proofs.{Goes.{Goes, NotLoads, quiet-then, goes-quiet, alike, fell-anyhow, KnowsNext, parts, le-self, rows-self, next-above}, Effects.{Effect, IsMine, IsApart, IsHeldFor}}
@@ -204,6 +204,9 @@ module _ {N B W : Type 0} (m : Seen N B W) (w : Core) (me : Owner) (free : NotLo
     | inr ended ↦ ends-load free reading.load (Err (e, None)) ended.ended
   ])
 
+gets-alike : {w u w' : Core} {kind : Kind} {n : ℕ} {row : HandleRow} → GetsRow w u kind n row → Alike u w' → GetsRow w w' kind n row
+gets-alike got a = grind (arith, nat_tests)
+
 -- it is felt so in a world that is alike
 pub feels-alike : {N : Type 0} {v : Values N} {w u w' : Core} {reading : Reading} {answer : Option (LoadAnswer N)} {frames : List Frame} {c : Change}
     → ReadingFeels v w reading answer frames u c → Alike u w' → ReadingFeels v w reading answer frames w' c
@@ -363,11 +366,10 @@ others-work : (w : Core) (loads : ℕ → Option OpenLoad) (workers : ℕ → Bo
     → Quiet w (record w { loads = loads; workers = workers; last = record w.last { worker = worker } })
 others-work w loads workers worker more fewer = parts (le-self _) more (λ n cell is. is) fewer (λ kind key n is. is) (rows-self w.last.handle w.rows w.rows refl)
 
-worker-ends : {w w' : Core} (v : ℕ) → WorkerEnds w v w' → Quiet w w'
-worker-ends {w} {w'} v f = quiet-then (others-work w (without_worker w v).loads (without_worker w v).workers w.last.worker (omega arith) (λ l load is. grind (arith, nat_tests))) (fell-anyhow f)
-
 pub ends-quiet : {w w' : Core} (answer : Option WorkerAnswer) (v : ℕ) → Ends answer v w w' → Quiet w w'
-ends-quiet x0 v e = grind (arith, nat_tests, alike, worker-ends)
+ends-quiet None v e = alike e
+ends-quiet {w} (Some answer) v f =
+    quiet-then (others-work w (without_worker w v).loads (without_worker w v).workers w.last.worker (omega arith) (λ l load is. grind (arith, nat_tests))) (fell-anyhow f)
 
 -- it gives up what it has: what others own stays, and what is held then was held before
 pub ends-spare : (mine : Owner) → IsApart mine → (v : ℕ) → (owner_worker v ≡ mine → ⊥) → (answer : Option WorkerAnswer) {w m w' : Core} → Ends answer v m w' → Spares mine w m → Spares mine w w'

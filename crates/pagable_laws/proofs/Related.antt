@@ -448,11 +448,7 @@ used context s input after m e =
 
 pub lasting : {A B : Type 0} → IsLasting A B
 unfolding Comes
-lasting context s front x y e is not_end not_keys = elim (comes-of context s front is) [
-  | inl (inl end) ↦ absurd (not_end end)
-  | inl (inr keys) ↦ absurd (not_keys keys)
-  | inr stays ↦ stays (rest x y)
-]
+lasting context s front x y e is not_end not_keys = elim (comes-of context s front is) [ inl end ↦ absurd (grind (arith, nat_tests)) | inr stays ↦ stays (rest x y) ]
 
 -- ---- reading is natural in what stands for references, and forms are
 
