@@ -381,13 +381,11 @@ module _ (v : ℕ) (shelves shelves' : ℕ → Shelf) (walkings walkings' : ℕ 
 
   pub work-stands : (last last' : ℕ) → last ≤ last' → v ≤ last' → WorkStands shelves walkings last → WorkStands shelves' walkings' last'
   work-stands last last' few small work =
-      record {
-        slots = grind (arith, nat_tests, met-stays, some-same);
-        workers = λ u w there. let c = turned.changes w.table in
-            let more = grows v (shelves w.table) (shelves' w.table) c in
-            grind (arith, nat_tests, cases_Bool (nat_eq u v), same-worker, walking-stays u w (shelves w.table) (shelves' w.table) more, c, some-none, some-same, turned.others u, work.workers u w);
-        numbered = grind (arith, nat_tests, cases_Bool, nat_eq, same-worker);
-      }
+      let each : (u : ℕ) (w : Walking) → walkings' u ≡ Some w → WalkingStands (shelves' w.table) u w = λ u w there.
+      let c = turned.changes w.table in
+      let more = grows v (shelves w.table) (shelves' w.table) c in
+      grind (arith, nat_tests, cases_Bool (nat_eq u v), same-worker, walking-stays u w (shelves w.table) (shelves' w.table) more, c, some-none, some-same, turned.others u, work.workers u w) in
+      grind (arith, nat_tests, each, met-stays, some-same, cases_Bool, nat_eq, same-worker)
 
 -- at first each stands
 pub first-stands : (shelf : Shelf) (v : ℕ) (task : Task) → AllStand shelf v task (first_todo task)
