@@ -3,7 +3,7 @@ use Rattle.pagable_laws.proofs.Words.{arith, nat_tests, ℕ, zero, suc, Shape, n
 use Rattle.pagable_laws.proofs.Words.{unsigned_form, unsigned_at, unsigned_of, signed_from, IsSigned, signed_form, signed_at, ◌+◌, ◌/◌, ◌%◌, ◌≤◌, Bool, false, [], ◌∷◌, length, append_assoc, ltb}
 use Rattle.pagable_laws.proofs.Words.{le-ltb, lt-ltb, take_at, drop_at, length-append, append-nil, is_utf8-from_IsUtf8, IsUtf8-encode, chars-encodes, length-encode, bool_form, bool_at, longest}
 use Rattle.pagable_laws.proofs.Words.{length_form, length_at, text_form, text_at, char_form, char_at, nanos_of_second, duration_form, duration_at, sym, ap, ◌∙◌, Ordering, Meaning, KeyOrder, Entry}
-use Rattle.pagable_laws.proofs.Words.{ordered, same_key, put_all, put_sorted, put_placed, put_sorted_item, put_placed_item, AllAfter, Apart, Ascends, ItemsAscend, Differ, ItemsDiffer, inl, inr}
+use Rattle.pagable_laws.proofs.Words.{ordered, same_key, put_all, put_sorted, put_placed, put_sorted_item, put_placed_item, AllAfter, Apart, Ascends, inl, inr}
 use Rattle.pagable_laws.proofs.Words.{text_order, Look, Gets, items, two, subst, read_with, below, read, Form, Forms, Entries, some-form, err-form, ok-form, list-form, run-form, array-form, both-form}
 use Rattle.pagable_laws.proofs.Words.{sorted-map-form, placed-map-form, hash-map-form, sorted-set-form, placed-set-form, static-form, tagged-form, case-form, reference-form, nested-form}
 use Rattle.pagable_laws.proofs.Words.{json-array-form, json-object-form, no-forms, more-forms, no-entries, more-entries, IsReadable, HasNoCase, IsReadAgain, rest, LooksUp, no-references}
@@ -111,15 +111,6 @@ module _ {A : Type 0} where
   pub ascending-kept : (order : KeyOrder) (es : List (Entry A)) → Ascends order es → put_all (put_sorted order) [] es ≡ es
   ascending-kept order es h = put_on (put_sorted order) (λ e f. ordered order e.0 f.0 ≡ Ordering.Greater) (λ e. refl) (λ f e acc r. rw r refl) [] es h
 
-  pub ascending_items-kept : (order : KeyOrder) (ms : List (Meaning A)) → ItemsAscend order ms → put_all (put_sorted_item order) [] ms ≡ ms
-  ascending_items-kept order ms h = put_on (put_sorted_item order) (λ m n. ordered order m n ≡ Ordering.Greater) (λ m. refl) (λ n m acc r. rw r refl) [] ms h
-
-  pub differing-kept : (es : List (Entry A)) → Differ es → put_all put_placed [] es ≡ es
-  differing-kept es h = put_on put_placed (λ e f. same_key e.0 f.0 ≡ false) (λ e. refl) (λ f e acc r. rw r refl) [] es h
-
-  pub differing_items-kept : (ms : List (Meaning A)) → ItemsDiffer ms → put_all put_placed_item [] ms ≡ ms
-  differing_items-kept ms h = put_on put_placed_item (λ m n. same_key m n ≡ false) (λ m. refl) (λ n m acc r. rw r refl) [] ms h
-
 -- ---- a form is read again, whatever follows it
 
 -- nothing that is written has a shape without cases
@@ -194,13 +185,16 @@ module _ {A B : Type 0} {look : Look A B} {kind_of : B → ℕ} {parts : ℕ →
           ascending-kept order es up,
         ) refl
     form-again x (placed-map-form left s s2 es b k le up h) u t =
-        rw (append_assoc, length-again (length es) (b ++ x) le, entries-again x h u (narrowed t (λ p. p.0) (λ n d l. l.0)) (narrowed t (λ p. p.1) (λ n d l. l.1)), bind-then, differing-kept es up) refl
+        let kept = put_on put_placed (λ e f. same_key e.0 f.0 ≡ false) (λ e. refl) (λ f e acc r. rw r refl) [] es up in
+        rw (append_assoc, length-again (length es) (b ++ x) le, entries-again x h u (narrowed t (λ p. p.0) (λ n d l. l.0)) (narrowed t (λ p. p.1) (λ n d l. l.1)), bind-then, kept) refl
     form-again x (hash-map-form left s s2 es b k le up h) u t =
         rw (append_assoc, length-again (length es) (b ++ x) le, entries-again x h u (narrowed t (λ p. p.0) (λ n d l. l.0)) (narrowed t (λ p. p.1) (λ n d l. l.1)), bind-then) refl
     form-again x (sorted-set-form left order s ms b k le up h) u t =
-        rw (append_assoc, length-again (length ms) (b ++ x) le, forms-again x h u (narrowed t (λ p. p) (λ n d l. l)), bind-then, ascending_items-kept order ms up) refl
+        let kept = put_on (put_sorted_item order) (λ m n. ordered order m n ≡ Ordering.Greater) (λ m. refl) (λ n m acc r. rw r refl) [] ms up in
+        rw (append_assoc, length-again (length ms) (b ++ x) le, forms-again x h u (narrowed t (λ p. p) (λ n d l. l)), bind-then, kept) refl
     form-again x (placed-set-form left s ms b k le up h) u t =
-        rw (append_assoc, length-again (length ms) (b ++ x) le, forms-again x h u (narrowed t (λ p. p) (λ n d l. l)), bind-then, differing_items-kept ms up) refl
+        let kept = put_on put_placed_item (λ m n. same_key m n ≡ false) (λ m. refl) (λ n m acc r. rw r refl) [] ms up in
+        rw (append_assoc, length-again (length ms) (b ++ x) le, forms-again x h u (narrowed t (λ p. p) (λ n d l. l)), bind-then, kept) refl
     form-again x (static-form left registry i m lt e) u t = rw (none-left u, unsigned-again w32 i x lt, e) refl
     form-again x (tagged-form left written known body tag m b k utf8 le f) u t = elim ((here t).0 tag) [
       | inl h ↦ absurd (no_case-form f h)

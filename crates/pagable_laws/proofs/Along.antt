@@ -112,6 +112,9 @@ to_nothing f = record { refs = []; each = no-two; form = f }
 then_to : {A B : Type 0} {R : A → B → Type 0} {k : List A} {G H : List B → Type 0} → To R k G → ((refs : List B) → G refs → H refs) → To R k H
 then_to p f = record { refs = p.refs; each = p.each; form = f p.refs p.form }
 
+two_to : {A B : Type 0} {R : A → B → Type 0} {k l : List A} {G H K : List B → Type 0} → To R k G → To R l H → ((refs more : List B) → G refs → H more → K (refs ++ more)) → To R (k ++ l) K
+two_to p q f = record { refs = p.refs ++ q.refs; each = append-two p.each q.each; form = f p.refs q.refs p.form q.form }
+
 module _ {A B : Type 0} {F : Type 0} {R : A → B → Type 0} where
   pub plain-along : {m : Meaning A} {n : Meaning B} → Along F R m n → plain m ≡ plain n
   unfolding plain
@@ -235,10 +238,7 @@ module _ {A B : Type 0} {F : Type 0} {R : A → B → Type 0} {kind_of : A → �
         let q = sequence-along ms a in rw q.whole (then_to (forms-along h q.each) (λ refs f. run-form left s q.items b refs (rw (length-two q.each) at le) f))
     form-along (array-form left n s ms b k e h) a =
         let q = sequence-along ms a in rw q.whole (then_to (forms-along h q.each) (λ refs f. array-form left n s q.items b refs (sym (length-two q.each) ∙ e) f))
-    form-along (both-form left s t m n b c k l h g) (pair-along x y u v a d) =
-        let p = form-along h a in
-        let q = form-along g d in
-        record { refs = p.refs ++ q.refs; each = append-two p.each q.each; form = both-form left s t u v b c p.refs q.refs p.form q.form }
+    form-along (both-form left s t m n b c k l h g) (pair-along x y u v a d) = two_to (form-along h a) (form-along g d) (λ refs more f e. both-form left s t u v b c refs more f e)
     form-along (sorted-map-form left o s t es b k le up h) a =
         let q = entries-along es a in counted [] (λ m. m) b q le (entries_form-along h q.each) (λ refs l f. sorted-map-form left o s t q.items b refs l (ascend-two o q.each up) f)
     form-along (placed-map-form left s t es b k le up h) a =
@@ -271,10 +271,7 @@ module _ {A B : Type 0} {F : Type 0} {R : A → B → Type 0} {kind_of : A → �
     pub forms-along : {left : ℕ} {s : Shape} {ms : List (Meaning A)} {ns : List (Meaning B)} {b : List ℕ} {k : List A} → Forms A kind_of parts left s ms b k → AllTwo (Along F R) ms ns
         → To R k (λ refs. Forms B kind_of2 parts left s ns b refs)
     forms-along (no-forms left s) no-two = record { refs = []; each = no-two; form = no-forms left s }
-    forms-along (more-forms left s m ms b c k l h g) (more-two x y xs ys a d) =
-        let p = form-along h a in
-        let q = forms-along g d in
-        record { refs = p.refs ++ q.refs; each = append-two p.each q.each; form = more-forms left s y ys b c p.refs q.refs p.form q.form }
+    forms-along (more-forms left s m ms b c k l h g) (more-two x y xs ys a d) = two_to (form-along h a) (forms-along g d) (λ refs more f e. more-forms left s y ys b c refs more f e)
 
     pub entries_form-along : {left : ℕ} {s t : Shape} {es : List (Entry A)} {fs : List (Entry B)} {b : List ℕ} {k : List A} → Entries A kind_of parts left s t es b k
         → AllTwo (EntryAlong F R) es fs → To R k (λ refs. Entries B kind_of2 parts left s t fs b refs)

@@ -2,8 +2,8 @@
 use Rattle.pagable_laws.proofs.Words.{◌≡◌, ℕ, nat_eq, nat_tests, arith, true, false, List, [], ◌∷◌, ◌++◌, append_assoc, None, Some, Ok, refl, sym, subst, Identity, HandleNumber, Slot, Shelf}
 use Rattle.pagable_laws.proofs.Words.{no_result, Todo, Task, of_item, of_entry, Written, Took, Claim, WorkerAnswer, Seen, Site, Does, answer_after, first_todo, is_open_outcome, IsMetFailure}
 use Rattle.pagable_laws.proofs.{Words.{FailedElsewhere, inl, inr}, Standing.{is_open_in, AllStand, Covers, HasNoFailed, first-stands, some-none, some-same, Goes, grows, same-worker}}
-use Rattle.pagable_laws.proofs.{Coming.{stands-on, goes-same, FailsMet, follows-met, fails-stay, first-met, failed-stays, failed-elsewhere, answered}, Joining.steps_follow, Decoding.among-right}
-use Rattle.{pagable_world.specs.Access.{AccessState, AllHaveResults, WorkerRun, WalkStep, worker-ends, worker-goes-on}, std.proofs.lemmas.Bool.cases_Bool}
+use Rattle.pagable_laws.proofs.{Coming.{stands-on, goes-same, FailsMet, follows-met, fails-stay, first-met, failed-stays, failed-elsewhere, answered}, Decoding.{among-left, among-right}}
+use Rattle.{pagable_laws.proofs.Joining.steps_follow, pagable_world.specs.Access.{AccessState, AllHaveResults, WorkerRun, WalkStep, worker-ends, worker-goes-on}, std.proofs.lemmas.Bool.cases_Bool}
 
 -- what a worker leaves with its answer, whose steps these are; and what it failed with was met, where C
 record Answered {W : Type 0} (C : Type 0) (n : ℕ) (shelf : Shelf) (steps : List (Took W)) (answer : WorkerAnswer) (shelf' : Shelf) : Type 0 where
@@ -33,7 +33,7 @@ module _ {N E B W : Type 0} (m : Seen N B W) (n : ℕ) (task : Task) (C : Type 0
         own = λ i slot there own.
             let none : (slot.outcome ≡ no_result → false ≡ true) = λ still. subst (λ t. Covers s'.shelf n t) (g.done answer is) g.covers i slot there own still in grind (arith, nat_tests);
         others = λ i slot there other. grind (arith, nat_tests, some-same);
-        met = λ c. answered n s'.shelf (past ++ step ∷ []) todo step answer is (fails-stay n s.shelf s'.shelf past (step ∷ []) todo grown (met c).1);
+        met = λ c. answered n s'.shelf (past ++ step ∷ []) todo step answer is (fails-stay n s.shelf s'.shelf past _ todo grown (λ x (i, at). among-left past (step ∷ []) i x at) (met c).1);
       }
   at-answer (worker-goes-on todo next step steps answer s mid s' w is more) past all covers met =
       let g = went w all covers in
@@ -46,14 +46,11 @@ module _ {N E B W : Type 0} (m : Seen N B W) (n : ℕ) (task : Task) (C : Type 0
         g.unfailed is clean,
         subst (λ t. FailsMet n mid.shelf (past ++ step ∷ []) t) (sym w.goes_on)
             (follows-met n mid.shelf (past ++ step ∷ []) m.written_of todo step w.after.todo (steps_follow m n site w.after step w.does) (among-right past (step ∷ []) 0 step refl) already
-            (fails-stay n s.shelf mid.shelf past (step ∷ []) todo grown fails)),
+            (fails-stay n s.shelf mid.shelf past _ todo grown (λ x (i, at). among-left past (step ∷ []) i x at) fails)),
       ) in
       let a = at-answer more (past ++ step ∷ []) g.all g.covers on in
-      record {
-        own = a.own;
-        others = λ i slot there other. grind (arith, nat_tests, some-same);
-        met = λ c. subst (λ past. IsMetFailure s'.shelf n past answer) (append_assoc past (step ∷ []) steps) (a.met c);
-      }
+      let met : C → IsMetFailure s'.shelf n (past ++ step ∷ steps) answer = λ c. subst (λ past. IsMetFailure s'.shelf n past answer) (append_assoc past (step ∷ []) steps) (a.met c) in
+      grind (arith, nat_tests, some-same, a.own, a.others, met)
 
 -- of an item: where each claim of its table had a result, each has one
 pub item-answered : {N E B W : Type 0} (m : Seen N B W) (n : ℕ) (item : Written) {s s' : AccessState N E} {steps : List (Took W)} {answer : WorkerAnswer}

@@ -1,9 +1,9 @@
 -- What follows for keys: each that is published is its tree's, each that is answered is its task's, and what a worker met that answers one is left paged out.
-use Rattle.pagable_laws.proofs.Words.{to_publish, Identity, longest_path, arith, nat_tests, ◌≡◌, ℕ, true, List, [], ◌∷◌, Some, Ok, Err, sym, ap, subst, ◌∙◌, is_some, OptionalDataKey}
-use Rattle.pagable_laws.proofs.Words.{KeyOfItem, ArcRef, is_loose_kind, Tree, HandleNumber, ReadsTree, WorkerNumber, if_there, Event, EventReply, Took, WorkerAnswer, WorkerReply, identity_of, has_key}
-use Rattle.pagable_laws.proofs.Words.{Core, key_at, Shelf, Slot, Written, Todo, to_item, to_set, to_release, to_fail, Task, of_item, of_entry, Walking, Values, Seen, Site, Does, IsPublished}
+use Rattle.pagable_laws.proofs.Words.{to_publish, Identity, longest_path, arith, nat_tests, ◌≡◌, ℕ, true, List, [], ◌∷◌, Some, Ok, sym, ap, subst, ◌∙◌, is_some, OptionalDataKey}
+use Rattle.pagable_laws.proofs.Words.{KeyOfItem, ArcRef, is_loose_kind, Tree, HandleNumber, ReadsTree, WorkerNumber, if_there, Event, EventReply, Took, WorkerAnswer, WorkerReply, has_key}
+use Rattle.pagable_laws.proofs.Words.{Core, key_at, Shelf, Slot, Written, Todo, to_item, to_set, to_release, Task, of_item, of_entry, Walking, Values, Seen, Site, Does, IsPublished}
 use Rattle.pagable_laws.proofs.Words.{answer_after, WorkerSteps, Happens, PagerState, MachineState, world_of, kids_of, HandlesAreWhole, IsMachineWhole, Represents, StandsFor, ReadsItsTypes, Meets}
-use Rattle.pagable_laws.proofs.Words.{meets-of-item, meets-entry, meets-below, AreKeysOf, IsLeftPagedOut, HasKeyOf, LeavesAll, IsKeyOfTask, Ground, ground_of, IsOfEntry, Waits, Walks, WorkFits}
+use Rattle.pagable_laws.proofs.Words.{meets-of-item, meets-entry, meets-below, AreKeysOf, IsLeftPagedOut, HasKeyOf, LeavesAll, IsKeyOfTask, Ground, ground_of, Waits, Walks, WorkFits}
 use Rattle.pagable_laws.proofs.{Words.{IsDone, KeyIsSet, AllHold, HasHandle, KeysHeld, KeysAreRight}, Merkle.{one_key, one_item_key, tree_readable}, Trees.{same_some, each-type}}
 use Rattle.pagable_laws.proofs.{Following.{IdentityStands, known-of, keys-of, tree-form, cell-of}, Taking.row-held, Coming.updated-at, Stepping.{done-on, keys-same, all-known, all-low, stands-for}}
 
@@ -20,19 +20,11 @@ module _ {N B W : Type 0} (m : Seen N B W) (n : ℕ) (g : Ground) (task : Task) 
   answered (to_item written ks ∷ below) (Took.Store i (Ok k)) (is, p) (of_it, known) key e =
       let to : k ≡ key = cc in
       let b = p.stored.stores in
-      record {
-        done = subst (λ t. IsDone m.values s.shelf t key) (sym of_it)
-            (ks, all-known s.shelf longest_path written.references ks p.all known, sym to ∙ b.0, all-low s.shelf longest_path written.references ks p.all known);
-        same = let t = p.goes in t.table_stays.slots;
-      }
-  answered (to_item written ks ∷ below) (Took.Store i (Err f)) does walks key e = absurd (cc)
+      let done : IsDone m.values s.shelf task key = subst (λ t. IsDone m.values s.shelf t key) (sym of_it)
+      (ks, all-known s.shelf longest_path written.references ks p.all known, sym to ∙ b.0, all-low s.shelf longest_path written.references ks p.all known) in
+      let t = p.goes in search (done, t.table_stays.slots)
   answered (to_release r k h ∷ []) (Took.Release i) (is, falls, t) (p, reach, (expects, waits)) key e =
-      let to : k ≡ key = cc in record { done = of-entry task expects (subst (λ q. IsPublished s.shelf (identity_of r) q h) to p); same = t.table_stays.slots }
-    where
-      of-entry : (task : Task) → IsOfEntry task r → IsPublished s.shelf (identity_of r) key h → IsDone m.values s.shelf task key
-      of-entry (of_entry q i) at p = (h, subst (λ j. IsPublished s.shelf j key h) at p)
-      of-entry (of_item written) at p = absurd at
-  answered (to_fail fault back ∷ below) Took.Fail does walks key e = absurd (grind (arith, nat_tests))
+      let to : k ≡ key = cc in record { done = grind (arith, nat_tests); same = t.table_stays.slots }
   answered x0 x1 x2 x3 key e = grind (arith, nat_tests)
 
 -- ---- what a machine has come to
@@ -74,6 +66,7 @@ module _ {N E : Type 0} (v : Values N) (s : MachineState N E) (trees : ℕ → T
 some-key : (own : OptionalDataKey) → has_key own ≡ true → (key : ℕ) × (own ≡ OptionalDataKey.Some key)
 some-key x0 is = grind (arith, nat_tests)
 
+-- a live cell whose key was set has one
 key-known : (w : Core) (n : ℕ) → KeyIsSet w n → is_some (w.cells n) ≡ true → (key : ℕ) × (key_at w n ≡ OptionalDataKey.Some key)
 key-known w n set live = some-key (key_at w n) (let keyed = set.keyed in grind (arith, nat_tests, if_there))
 

@@ -1,10 +1,10 @@
 -- What each event does to workers and tables: it touches one worker, and claims of its own.
 use Rattle.pagable_laws.proofs.Words.{◌≡◌, ℕ, inl, inr, true, List, [], ◌∷◌, refl, ap, sym, subst, ◌∙◌, Ok, Option, Some, None, ArcRef, Identity, WorkerAnswer, Claim, Took, identity_of, no_result}
 use Rattle.pagable_laws.proofs.Words.{answer_of_fault, Todo, to_start, to_write, to_item, to_publish, to_release, to_fail, arith, Task, Seen, Site, Does, give, give_known, with_wait, answer_after}
-use Rattle.pagable_laws.proofs.Words.{IsPublished, ◌+◌, ◌<◌, ◌≤◌, ◌==◌, Bool, false, nat_eq, if◌then◌else◌, nat_tests, WorkerNumber, updated, Call, Event, EventReply, TableNumber, WorkerReply, Owner}
+use Rattle.pagable_laws.proofs.Words.{IsPublished, ◌+◌, ◌<◌, ◌≤◌, ◌==◌, false, nat_eq, if◌then◌else◌, nat_tests, WorkerNumber, updated, Call, Event, EventReply, TableNumber, WorkerReply, Owner}
 use Rattle.pagable_laws.proofs.Words.{Core, Alike, Shelf, Slot, Walking, World, Happens, Stays, WorkStays, WorkIs, Starts, no_shelf, new_walking, WorkerSteps, MachineState, world_of, IsIdle, step_of}
-use Rattle.pagable_laws.proofs.Words.{◌*◌, ◌-◌, ◌++◌, drop, length, max, length-drop, sum_by-cons, sum_by-append, one, times, above, Open, to_pin, to_load, to_finish, to_set, Written, next_start}
-use Rattle.pagable_laws.proofs.Words.{first_todo, is_counted, Follows, is_claim, references_written, own_references, Error, Among, MetError, FailedElsewhere, IsMetFailure, steps_after, Leads, Err}
+use Rattle.pagable_laws.proofs.Words.{◌*◌, ◌-◌, ◌++◌, drop, length, length-drop, sum_by-cons, sum_by-append, one, times, above, to_pin, to_load, to_finish, to_set, Written, next_start}
+use Rattle.pagable_laws.proofs.Words.{first_todo, is_counted, Follows, is_claim, references_written, own_references, Error, Among, MetError, FailedElsewhere, IsMetFailure, Leads, Err}
 use Rattle.pagable_laws.proofs.{Words.{Reply, CallStep}, Standing.{same-worker, puts-slot, SlotChanges, ShelfGrows, some-none, some-same, grows, same-slots, meets-grow, CoversBy, Goes, plain, fails}}
 use Rattle.pagable_laws.proofs.Standing.{swaps, gives, given-open, all-stay, SameSlots, Turned, work-stands, is-quiet, is-started, is-stepped, is_open_in, AllStand, Covers, HasNoFailed, WorkStands}
 use Rattle.pagable_laws.proofs.{Standing.{claimed, written-goes, published-goes, failed-goes, is_failed, WaitsWell, follows-waits}, Called.calls-go, ReadingSteps.{caller-free, reading-feels}}
@@ -32,10 +32,9 @@ module _ {N B W : Type 0} (m : Seen N B W) (v : ℕ) (task : Task) (s s' : Site)
   released : (r : ArcRef) (key height : ℕ) (below : List Todo) → AllStand s.shelf v task (to_release r key height ∷ below) → CoversBy v task s.shelf (to_release r key height ∷ below)
       → ((i : Identity) → s'.shelf.slots i ≡ s.shelf.slots i) → (step : Took W) → Goes v task s.shelf (answer_after (to_release r key height ∷ below) step) s'.shelf (give r key height below)
   unfolding AllStand is_open_in
-  released r key height [] (stands, apart, rest) covers same step = plain v task s.shelf s'.shelf same _ [] (λ a is. refl) tt covers
-  released r key height (x ∷ below) (stands, apart, rest) covers same step =
-      plain v task s.shelf s'.shelf same None (give r key height (x ∷ below)) (λ a is. absurd (cc)) (gives v task s.shelf r key height (x ∷ below) rest)
-      (λ i slot there own still. given-open v task s.shelf i r key height (x ∷ below) ∙ covers i slot there own still)
+  released r key height below (stands, apart, rest) covers same step =
+      plain v task s.shelf s'.shelf same _ (give r key height below) (λ a is. grind (arith, nat_tests)) (gives v task s.shelf r key height below rest)
+      (λ i slot there own still. given-open v task s.shelf i r key height below ∙ covers i slot there own still)
 
   go : (todo : List Todo) → s.todo ≡ todo → AllStand s.shelf v task todo → Covers s.shelf v todo → (step : Took W) → Does m v s todo step s'
       → Goes v task s.shelf (answer_after todo step) s'.shelf s'.todo
@@ -90,23 +89,14 @@ updated-at n x f = let a : (n == n) ≡ true = grind (arith, nat_tests) in ap (�
 updated-off : {X : Type 0} (n : ℕ) (x : X) (f : ℕ → X) (q : ℕ) → nat_eq q n ≡ false → updated n x f q ≡ f q
 updated-off n x f q e = let a : (q == n) ≡ false = grind (arith, nat_tests) in ap (λ b. if b then x else f q) a
 
--- the steps of a worker of this number, where another made one
-own-step : {X : Type 0} (x : X) (v n : ℕ) (b : Bool) → (v == n) ≡ b → (if v == n then x ∷ [] else []) ≡ (if b then x ∷ [] else [])
-own-step x v n b e = ap (λ t. if t then x ∷ [] else []) e
-
 -- the same slots do as well
 pub goes-same : (v : ℕ) (task : Task) (shelf mid shelf' : Shelf) (answer : Option WorkerAnswer) (todo : List Todo) → ((i : Identity) → shelf'.slots i ≡ mid.slots i)
     → Goes v task shelf answer mid todo → Goes v task shelf answer shelf' todo
 goes-same v task shelf mid shelf' answer todo same g =
     let more : ShelfGrows mid shelf' = grows v mid shelf' (same-slots v mid shelf' same) in
-    record {
-      changes = λ i. subst (λ o. SlotChanges v (shelf.slots i) o) (sym (same i)) (g.changes i);
-      all = all-stay v task mid shelf' more todo (λ i is slot there own. same i ∙ there) g.all;
-      covers = λ i slot there own still. g.covers i slot (sym (same i) ∙ there) own still;
-      unfailed = λ none clean i slot there own. g.unfailed none clean i slot (sym (same i) ∙ there) own;
-      done = g.done;
-      met = λ i slot none there. meets-grow mid shelf' task i more (g.met i slot none (sym (same i) ∙ there));
-    }
+    let changes : (i : Identity) → SlotChanges v (shelf.slots i) (shelf'.slots i) = λ i. subst (λ o. SlotChanges v (shelf.slots i) o) (sym (same i)) (g.changes i) in
+    let all = all-stay v task mid shelf' more todo (λ i is slot there own. same i ∙ there) g.all in
+    grind (arith, changes, all, same, meets-grow mid shelf' task)
 
 module _ {N B W : Type 0} (m : Seen N B W) (u u' : World) (work : StandsIn u) where
   module _ (event : Event N B W) (reply : EventReply N B W) where
@@ -126,32 +116,20 @@ module _ {N B W : Type 0} (m : Seen N B W) (u u' : World) (work : StandsIn u) wh
     starts no_step t task core v same s =
         let above : u.core.last.worker < v.0 = let e = s.next in omega arith in
         let last : u'.core.last.worker ≡ core.last.worker + 1 = ap (λ l. l.worker) s.pager.last in
+        let few : (u.core.last.worker ≤ u'.core.last.worker) × (v.0 ≤ u'.core.last.worker) = (let e = s.next in omega arith, let e = s.next in omega arith) in
         let new : u'.work.walkings v.0 ≡ Some (new_walking t task) = s.work.same_walkings v.0 ∙ updated-at v.0 (Some (new_walking t task)) u.work.walkings in
-        record {
-          who = v.0;
-          turned = is-started u.work.shelves u'.work.shelves u.work.walkings u'.work.walkings u.core.last.worker work (λ q i. (s.work.same_shelves q).slots i)
-              v.0 (new_walking t task) above refl refl new
-              (λ n other. s.work.same_walkings n ∙ updated-off v.0 (Some (new_walking t task)) u.work.walkings n other);
-          last = let e = s.next in omega arith;
-          small = let e = s.next in omega arith;
-          others = λ n other. no_step n;
-          own = begins t task (no_step v.0) (λ q i. (s.work.same_shelves q).slots i) (grind (arith, nat_tests)) new;
-        }
+        let turned = is-started u.work.shelves u'.work.shelves u.work.walkings u'.work.walkings u.core.last.worker work (λ q i. (s.work.same_shelves q).slots i)
+        v.0 (new_walking t task) above refl refl new (λ n other. s.work.same_walkings n ∙ updated-off v.0 (Some (new_walking t task)) u.work.walkings n other) in
+        let own : OwnTurn m u v.0 (step_of v.0 event reply) u' = begins t task (no_step v.0) (λ q i. (s.work.same_shelves q).slots i) (grind (arith, nat_tests)) new in
+        search (turned, own, few.0, few.1, no_step)
 
     tabled : ((n : ℕ) → step_of n event reply ≡ []) → KnowsTables u → (t : TableNumber) → t.0 ≡ u.work.last_table + 1 → Alike u.core u'.core
         → WorkIs (updated t.0 no_shelf u.work.shelves) t.0 u.work.walkings u'.work → EventTurns m u event reply u'
-    tabled no_step tables t is a w = quiet no_step (le-of _ _ (ap (λ l. l.worker) a.last)) (λ q i. same q i (nat_eq q t.0) refl) w.same_walkings
+    tabled no_step tables t is a w = quiet no_step (le-of _ _ (ap (λ l. l.worker) a.last)) (λ q i. let same = (w.same_shelves q).slots i in
+        grind (arith, nat_tests, cases_Bool (nat_eq q t.0), same-worker q t.0, nothing i)) w.same_walkings
       where
-        nothing : (i : Identity) (o : Option Slot) → (u.work.shelves t.0).slots i ≡ o → None ≡ o
-        nothing i None there = refl
-        nothing i (Some slot) there = let s = work.slots t.0 i slot there in let few = tables slot.worker s.walking s.there in let on = s.on_table in absurd (omega arith)
-
-        same : (q : ℕ) (i : Identity) (b : Bool) → nat_eq q t.0 ≡ b → (u'.work.shelves q).slots i ≡ (u.work.shelves q).slots i
-        same q i true e =
-            let f : q ≡ t.0 = grind (arith, nat_tests) in
-            subst (λ n. (u'.work.shelves n).slots i ≡ (u.work.shelves n).slots i) (sym f)
-            ((w.same_shelves t.0).slots i ∙ (ap (λ (s : Shelf). s.slots i) (updated-at t.0 no_shelf u.work.shelves) ∙ nothing i ((u.work.shelves t.0).slots i) refl))
-        same q i false e = (w.same_shelves q).slots i ∙ ap (λ (s : Shelf). s.slots i) (updated-off t.0 no_shelf u.work.shelves q e)
+        nothing : (i : Identity) (slot : Slot) → (u.work.shelves t.0).slots i ≡ Some slot → ⊥
+        nothing i slot there = let s = work.slots t.0 i slot there in let few = tables slot.worker s.walking s.there in let on = s.on_table in absurd (omega arith)
 
   call-last : (call : Call N B) (r : Reply N B) → CallStep m u.core Owner.Caller call r u'.core → u.core.last.worker ≤ u'.core.last.worker
   call-last x0 x1 c = grind (arith, nat_tests, le-of, calls-go, caller-free)
@@ -179,8 +157,8 @@ module _ {N B W : Type 0} (m : Seen N B W) (u u' : World) (work : StandsIn u) wh
             (subst (λ a. Goes v.0 w.task (u.work.shelves w.table) a s.after.shelf s.after.todo) (sym s.answers) goes));
         last = omega arith;
         small = let few = work.numbered v.0 w s.at in omega arith;
-        others = λ n other. own-step reply.took v.0 n false (grind (arith, nat_tests));
-        own = steps v reply refl (own-step reply.took v.0 v.0 true (grind (arith, nat_tests))) s;
+        others = λ n other. grind (arith, nat_tests);
+        own = steps v reply refl (grind (arith, nat_tests)) s;
       }
 
   pub event-turns : KnowsTables u → (event : Event N B W) (reply : EventReply N B W) → Happens m u event reply u' → EventTurns m u event reply u'
@@ -196,14 +174,14 @@ module _ {N B W : Type 0} (m : Seen N B W) (u u' : World) (work : StandsIn u) wh
   event-turns tables (Event.WorkerStep v) (EventReply.WorkerMoved (Ok reply)) h = stepped v reply h.moves
   event-turns tables x1 x2 h = grind (arith, nat_tests, by-work, unchanged)
 
+-- one of two: at the number, or elsewhere
+at-number : {X : Type 0} (P : X → Type 0) (k : ℕ) (x : X) (f : ℕ → X) (q : ℕ) → P x → P (f q) → P (updated k x f q)
+at-number P k x f q here there = grind (arith, nat_tests)
+
 -- what stands goes on to stand
 pub turns-stand : {N B W : Type 0} (m : Seen N B W) {u u' : World} {event : Event N B W} {reply : EventReply N B W} → EventTurns m u event reply u' → StandsIn u → StandsIn u'
 turns-stand m {u} {u'} turns work =
     work-stands turns.who u.work.shelves u'.work.shelves u.work.walkings u'.work.walkings turns.turned u.core.last.worker u'.core.last.worker turns.last turns.small work
-
--- one of two: at the number, or elsewhere
-at-number : {X : Type 0} (P : X → Type 0) (k : ℕ) (x : X) (f : ℕ → X) (q : ℕ) → P x → P (f q) → P (updated k x f q)
-at-number P k x f q here there = grind (arith, nat_tests)
 
 abbrev SameAs : Shelf → Shelf → Type 0
 SameAs a b = (i : Identity) → b.slots i ≡ a.slots i
@@ -287,22 +265,13 @@ started-due : (place : ℕ) (rs : List ArcRef) (x : Todo) (below : List Todo) �
 unfolding all-due
 started-due place x1 x below = grind (arith, nat_tests)
 
-settled-node : (o : Open) (k : ℕ) (below : List Todo) → length o.keys ≡ k
-    → all-due (next_start o.place (drop (length o.keys) o.written.references) ++ to_finish o ∷ below) ≤ 4 + (length o.written.references - k) + all-due below
-unfolding all-due
-settled-node o k below few = grind (arith, started-due, length-drop)
-
-settled-item : (written : Written) (keys : List ℕ) (k : ℕ) (below : List Todo) → length keys ≡ k
-    → all-due (next_start 0 (drop (length keys) written.references) ++ to_item written keys ∷ below) ≤ 2 + (length written.references - k) + all-due below
-unfolding all-due
-settled-item written keys k below few = grind (arith, started-due, length-drop)
-
 given-due : (r : ArcRef) (key height : ℕ) (below : List Todo) → all-due (give r key height below) ≤ all-due below
 unfolding all-due
-given-due r key height (to_finish o ∷ below) =
-    settled-node (record o { keys = o.keys ++ key ∷ []; height = max o.height (above r.kind.0 height) }) (length o.keys + 1) below (length-append o.keys (key ∷ []))
-given-due r key height (to_item written keys ∷ below) = settled-item written (keys ++ key ∷ []) (length keys + 1) below (length-append keys (key ∷ []))
-given-due r key height x3 = grind (arith, nat_tests)
+given-due r key height x3 = grind (arith, nat_tests, started-due, length-drop, length-append)
+
+first-due : (written : Written) (below : List Todo) → all-due (next_start 0 written.references ++ to_item written [] ∷ below) ≤ 2 + length written.references + all-due below
+unfolding all-due
+first-due written below = grind (arith, started-due)
 
 module _ {W : Type 0} (f : W → Written) where
   -- one step pays for itself: out of what was due, of its claim, or of the references that it wrote
@@ -310,17 +279,13 @@ module _ {W : Type 0} (f : W → Written) where
       → one (is_counted todo step) + all-due next ≤ 8 * one (is_claim step) + references_written f step + all-due todo
   unfolding all-due
   pays (to_start r place ∷ x ∷ xs) (Took.Claim j (Ok (Claim.Known key height))) next (is, e) = rw e (let le = given-due r key height (x ∷ xs) in omega (arith, le))
-  pays (to_write r place through ∷ below) (Took.Write j (Ok out)) next (is, e) = grind (arith, settled-node)
+  pays (to_write r place through ∷ below) (Took.Write j (Ok out)) next (is, e) = grind (arith, started-due, length-drop)
   pays (to_release r key height ∷ below) (Took.Release j) next (is, e) = rw e (let le = given-due r key height below in omega (arith, le))
   pays _ step next follows = grind (arith, nat_tests, given-due)
 
   -- the steps that were counted, with those that are due, are within the bound
   abbrev pub IsWithin : Task → List Todo → ℕ → List (Took W) → Type 0
   IsWithin task todo n past = n + all-due todo ≤ 8 * times is_claim past + (own_references task + sum_by (references_written f) past) + 4
-
-  pub within-after : (task : Task) (todo next : List Todo) (n n' : ℕ) (past : List (Took W)) (step : Took W) → n' ≤ n + one (is_counted todo step) → Follows f todo step next
-      → IsWithin task todo n past → IsWithin task next n' (past ++ step ∷ [])
-  within-after task todo next n n' past step counted follows within = grind (arith, sum_by-append, sum_by-cons, pays)
 
 -- ---- what a worker fails with: a refusal that a step of its own met, or that another's claim has failed where its walk came
 
@@ -329,8 +294,9 @@ pub failed-stays : (n : ℕ) (shelf shelf' : Shelf) (i : Identity) → ShelfGrow
 failed-stays n shelf shelf' i more was = grind arith
 
 module _ {W : Type 0} (n : ℕ) where
-  pub met-stays : (shelf shelf' : Shelf) (past more : List (Took W)) (answer : WorkerAnswer) → ShelfGrows shelf shelf' → IsMetFailure shelf n past answer → IsMetFailure shelf' n (past ++ more) answer
-  met-stays shelf shelf' past more x4 grown x6 = grind (arith, nat_tests, λ (x : Took W) (a : Among past x). among-left past more a.0 x a.1, failed-stays)
+  pub met-stays : (shelf shelf' : Shelf) (past more : List (Took W)) (answer : WorkerAnswer) → ShelfGrows shelf shelf' → ((x : Took W) → Among past x → Among more x)
+      → IsMetFailure shelf n past answer → IsMetFailure shelf' n more answer
+  met-stays shelf shelf' past more x4 grown on x7 = grind (arith, nat_tests, on, failed-stays)
 
   -- ---- what is to be done
 
@@ -340,11 +306,11 @@ module _ {W : Type 0} (n : ℕ) where
   FailsMet shelf past (to_fail fault back ∷ below) = IsMetFailure shelf n past (answer_of_fault fault) × FailsMet shelf past below
   FailsMet shelf past (x ∷ below) = FailsMet shelf past below
 
-  pub fails-stay : (shelf shelf' : Shelf) (past more : List (Took W)) (todo : List Todo) → ShelfGrows shelf shelf' → FailsMet shelf past todo → FailsMet shelf' (past ++ more) todo
+  pub fails-stay : (shelf shelf' : Shelf) (past more : List (Took W)) (todo : List Todo) → ShelfGrows shelf shelf' → ((x : Took W) → Among past x → Among more x)
+      → FailsMet shelf past todo → FailsMet shelf' more todo
   unfolding FailsMet
-  fails-stay shelf shelf' past more [] grown met = tt
-  fails-stay shelf shelf' past more (to_fail fault back ∷ below) grown (met, rest) = grind (arith, nat_tests, met-stays, fails-stay shelf shelf' past more below grown rest)
-  fails-stay shelf shelf' past more (x ∷ below) grown met = fails-stay shelf shelf' past more below grown met
+  fails-stay shelf shelf' past more [] grown on met = tt
+  fails-stay shelf shelf' past more (x ∷ below) grown on met = let rest = fails-stay shelf shelf' past more below grown on in grind (arith, nat_tests, rest, met-stays)
 
   module _ (shelf : Shelf) (past : List (Took W)) where
     started : (place : ℕ) (rs : List ArcRef) (todo : List Todo) → FailsMet shelf past todo → FailsMet shelf past (next_start place rs ++ todo)
@@ -404,9 +370,6 @@ leads-more : {W : Type 0} (f : W → Written) (todo : List Todo) (past : List (T
 leads-more f todo [] mid step last is follows = (last, subst (λ t. Follows f t step last) is follows, refl)
 leads-more f todo (x ∷ past) mid step last (next, first, leads) follows = (next, first, leads-more f next past mid step last leads follows)
 
-counted : (n : ℕ) (b : Bool) → steps_after n b ≤ n + one b
-counted n x1 = grind (arith, nat_tests)
-
 -- where a claim finds one that has failed, it is another's
 pub failed-elsewhere : {N B W : Type 0} (m : Seen N B W) (v : ℕ) (s s' : Site) (todo : List Todo) (i : Identity) → Does m v s todo (Took.Claim i (Ok Claim.AlreadyFailed)) s'
     → HasNoFailed s.shelf v → FailedElsewhere s.shelf v i
@@ -430,20 +393,15 @@ module _ {N B W : Type 0} (m : Seen N B W) (u u' : World) (grow : (t : ℕ) → 
       by : (o : Option Walking) → HasGone f n u.work.shelves o past → HasGone f n u'.work.shelves o past
       by None gone = gone
       by (Some w) gone =
-          let more = grow w.table in
-          record {
-            leads = gone.leads;
-            fails = subst (λ k. FailsMet n (u'.work.shelves w.table) k w.todo) (append-nil past) (fails-stay n (u.work.shelves w.table) (u'.work.shelves w.table) past [] w.todo more gone.fails);
-            met = λ answer is. subst (λ k. IsMetFailure (u'.work.shelves w.table) n k answer) (append-nil past)
-                (met-stays n (u.work.shelves w.table) (u'.work.shelves w.table) past [] answer more (gone.met answer is));
-            within = gone.within;
-          }
+          let fails = fails-stay n (u.work.shelves w.table) (u'.work.shelves w.table) past past w.todo (grow w.table) (λ x among. among) gone.fails in
+          let met = λ (answer : WorkerAnswer). met-stays n (u.work.shelves w.table) (u'.work.shelves w.table) past past answer (grow w.table) (λ x among. among) in
+          search (gone.leads, fails, met, gone.met, gone.within)
 
   begun : (n : ℕ) (t : TableNumber) (task : Task) (past taken : List (Took W)) → taken ≡ [] → u.work.walkings n ≡ None → u'.work.walkings n ≡ Some (new_walking t task)
       → HasGone f n u.work.shelves (u.work.walkings n) past
       → HasGone f n u'.work.shelves (u'.work.walkings n) (past ++ taken)
   unfolding all-due
-  begun n t task past taken none nobody new gone = search (rules, f, new_walking, fails, first-met, settled-item, append-nil)
+  begun n t task past taken none nobody new gone = search (rules, f, new_walking, fails, first-met, first-due, append-nil)
 
   went-on : StandsIn u → (k : WorkerNumber) (reply : WorkerReply W) (past : List (Took W)) → WorkerSteps m u k reply u' → HasGone f k.0 u.work.shelves (u.work.walkings k.0) past
       → HasGone f k.0 u'.work.shelves (u'.work.walkings k.0) (past ++ reply.took ∷ [])
@@ -456,15 +414,14 @@ module _ {N B W : Type 0} (m : Seen N B W) (u u' : World) (grow : (t : ℕ) → 
       let new : u'.work.walkings k.0 ≡ Some now = s.work.same_walkings k.0 ∙ updated-at k.0 (Some now) u.work.walkings in
       let was : Went f k.0 shelf w past = subst (λ o. HasGone f k.0 u.work.shelves o past) s.at gone in
       let follows = steps_follow m k.0 site s.after reply.took s.does in
-      let fails = fails-stay k.0 shelf shelf' past (reply.took ∷ []) w.todo (grow w.table) was.fails in
+      let fails = fails-stay k.0 shelf shelf' past (past ++ reply.took ∷ []) w.todo (grow w.table) (λ x (i, at). among-left past (reply.took ∷ []) i x at) was.fails in
       let already : (i : Identity) → reply.took ≡ Took.Claim i (Ok Claim.AlreadyFailed) → FailedElsewhere shelf' k.0 i = λ i is. failed-stays k.0 shelf shelf' i (grow w.table)
       (failed-elsewhere m k.0 site s.after w.todo i (subst (λ step. Does m k.0 site w.todo step s.after) is s.does.does) ((work.workers k.0 w s.at).unfailed s.at_work)) in
       let on : Went f k.0 shelf' now (past ++ reply.took ∷ []) = record {
         leads = leads-more f (first_todo w.task) past w.todo reply.took s.after.todo was.leads follows;
         fails = follows-met k.0 shelf' (past ++ reply.took ∷ []) f w.todo reply.took s.after.todo follows (among-right past (reply.took ∷ []) 0 reply.took refl) already fails;
         met = λ answer is. answered k.0 shelf' (past ++ reply.took ∷ []) w.todo reply.took answer (sym s.answers ∙ is) fails;
-        within = within-after f w.task w.todo s.after.todo w.steps reply.steps past reply.took
-            (subst (λ n. n ≤ w.steps + one (is_counted w.todo reply.took)) (sym s.counts) (counted w.steps (is_counted w.todo reply.took))) follows was.within;
+        within = let counts = s.counts in let was_so = was.within in let paid = pays f w.todo reply.took s.after.todo follows in grind (arith, nat_tests, sum_by-append, sum_by-cons);
       } in
       subst (λ o. HasGone f k.0 u'.work.shelves o (past ++ reply.took ∷ [])) (sym new) on
 

@@ -6,15 +6,9 @@ use Rattle.pagable_laws.proofs.Words.{two_rows, first, first_node, lone, lone_li
 use Rattle.pagable_laws.proofs.Sums.{same-number, one-true, sum-le, at-most-sum, sum-plus, sum-zero, counted, one-small}
 use Rattle.std.proofs.lemmas.Bool.{false_from_ne_true}
 
--- 1 for a handle outside the set; one of the node, one that pins it, one that its value owns; and one of the one set and not of the other
+-- 1 for a handle outside the set; one that the node's value owns; and one of the one set and not of the other
 abbrev outside : (ℕ → Bool) → HandleRow → ℕ
 outside s h = one (is_outside s h)
-
-abbrev held_out : (ℕ → Bool) → ℕ → HandleRow → ℕ
-held_out s n h = one (is_at n h && is_outside s h)
-
-abbrev pin_out : (ℕ → Bool) → ℕ → HandleRow → ℕ
-pin_out s n h = one (is_pin n h && is_outside s h)
 
 abbrev owned_out : (ℕ → Bool) → ℕ → HandleRow → ℕ
 owned_out s n h = one (is_owned_by (owner_value n) h && is_outside s h)
@@ -31,10 +25,6 @@ owner_goes lost _ = false
 abbrev follows : (ℕ → Bool) → ℕ → HandleRow → ℕ
 follows lost q h = one (h.number.0 == q && owner_goes lost h.owner)
 
--- the set, and what follows from it
-abbrev grown : List HandleRow → (ℕ → Bool) → List HandleRow → (ℕ → Bool) → ℕ → Bool
-grown rows keyed entries s q = s q || nat_lt 0 (sum_by (follows (loses_value rows keyed entries s) q) rows)
-
 owned-by : (lost : ℕ → Bool) (n : ℕ) (o : Owner) → is_owner (owner_value n) o ≡ true → lost n ≡ true → owner_goes lost o ≡ true
 owned-by lost n x2 is goes = grind (arith, nat_tests)
 
@@ -45,8 +35,9 @@ module _ (rows : List HandleRow) (keyed : ℕ → Bool) (entries : List HandleRo
   abbrev lost : (ℕ → Bool) → ℕ → Bool
   lost s n = loses_value rows keyed entries s n
 
+  -- the set, and what follows from it
   abbrev more : (ℕ → Bool) → ℕ → Bool
-  more s = grown rows keyed entries s
+  more s q = s q || nat_lt 0 (sum_by (follows (lost s) q) rows)
 
   -- a handle that a value owns that goes is in the greater set
   comes : (s : ℕ → Bool) (h : HandleRow) (n : ℕ) → Among rows h → is_owner (owner_value n) h.owner ≡ true → lost s n ≡ true → more s h.number.0 ≡ true
@@ -56,11 +47,9 @@ module _ (rows : List HandleRow) (keyed : ℕ → Bool) (entries : List HandleRo
       grind (arith, nat_tests)
 
   -- where no more follows, the set is closed
-  closed-if : (s : ℕ → Bool) → sum_by (outside (more s)) rows ≡ sum_by (outside s) rows → IsClosed rows keyed entries s
+  closed-if : (s : ℕ → Bool) → sum_by (outside s) rows ≤ sum_by (outside (more s)) rows → IsClosed rows keyed entries s
   closed-if s same n goes =
-      let each : (h : HandleRow) → Among rows h → owned_out s n h + outside (more s) h ≤ outside s h =
-      λ h among. grind (arith, nat_tests, comes) in
-      let a = sum-le (λ h. owned_out s n h + outside (more s) h) (outside s) rows each in
+      let a = sum-le (λ h. owned_out s n h + outside (more s) h) (outside s) rows (λ h among. grind (arith, nat_tests, comes)) in
       let b = sum-plus (owned_out s n) (outside (more s)) rows in
       omega arith
 
@@ -71,8 +60,10 @@ module _ (rows : List HandleRow) (keyed : ℕ → Bool) (entries : List HandleRo
   -- a value that goes with fewer handles goes with more
   pub wider : (s t : ℕ → Bool) (n : ℕ) → IsWithin rows s t → lost s n ≡ true → lost t n ≡ true
   wider s t n within goes =
-      let pins = sum-le (pin_out t n) (pin_out s n) rows (λ h among. let a = at-most-sum (only_in s t) rows h among in grind (arith, nat_tests)) in
-      let handles = sum-le (held_out t n) (held_out s n) rows (λ h among. let a = at-most-sum (only_in s t) rows h among in grind (arith, nat_tests)) in
+      let pins = sum-le (λ h. one (is_pin n h && is_outside t h)) (λ h. one (is_pin n h && is_outside s h)) rows
+      (λ h among. let a = at-most-sum (only_in s t) rows h among in grind (arith, nat_tests)) in
+      let handles = sum-le (λ h. one (is_at n h && is_outside t h)) (λ h. one (is_at n h && is_outside s h)) rows
+      (λ h among. let a = at-most-sum (only_in s t) rows h among in grind (arith, nat_tests)) in
       grind (arith, nat_tests)
 
   -- what isn't given, and is owned by no value that goes, doesn't fall
@@ -110,18 +101,15 @@ module _ (rows : List HandleRow) (keyed : ℕ → Bool) (entries : List HandleRo
               let it : t x.number.0 ≡ true = grind (arith, nat_tests) in
               sym (ap t number) ∙ it
 
-  less : (s : ℕ → Bool) → sum_by (outside (more s)) rows ≤ sum_by (outside s) rows
-  less s = sum-le (outside (more s)) (outside s) rows (λ h among. grind (arith, nat_tests))
-
   -- a set that is in each closed one is the least once it is closed itself; until then it grows
   grows : (given : ℕ → Bool) (k : ℕ) (s : ℕ → Bool) → sum_by (outside s) rows ≤ k → IsWithin rows given s
       → ((t : ℕ → Bool) → IsWithin rows given t → IsClosed rows keyed entries t → IsWithin rows s t)
       → (s : ℕ → Bool) × IsLeast rows keyed entries given s
-  grows given zero s few holds least = (s, record { holds = holds; closed = closed-if s (let l = less s in omega arith); least = least })
+  grows given zero s few holds least = (s, record { holds = holds; closed = closed-if s (omega arith); least = least })
   grows given (suc k) s few holds least = elim (cases_lt (sum_by (outside (more s)) rows) (sum_by (outside s) rows)) [
     | inl fewer ↦ grows given k (more s) (omega arith)
         (sum-zero (only_in given (more s)) rows (λ h among. let a = at-most-sum (only_in given s) rows h among in grind (arith, nat_tests))) (λ t h c. stays s t (least t h c) c)
-    | inr enough ↦ (s, record { holds = holds; closed = closed-if s (let l = less s in omega arith); least = least })
+    | inr enough ↦ (s, record { holds = holds; closed = closed-if s (omega arith); least = least })
   ]
 
   pub within-self : (given : ℕ → Bool) → IsWithin rows given given
@@ -135,12 +123,9 @@ module _ (rows : List HandleRow) (keyed : ℕ → Bool) (entries : List HandleRo
 
 -- so the given handles are the least set, and no more fall
 pub given-least : (rows : List HandleRow) (keyed : ℕ → Bool) (entries : List HandleRow) (given : ℕ → Bool) → OwnsNothing rows → IsLeast rows keyed entries given given
-given-least rows keyed entries given nothing = record {
-  holds = within-self rows keyed entries given;
-  closed = λ n goes. let none : sum_by
-      (λ h. one (is_owner (owner_value n) h.owner)) rows ≡ 0 = nothing n in grind (arith, nat_tests, and_parts, sum-le);
-  least = λ t holds closed. holds;
-}
+given-least rows keyed entries given nothing =
+    let closed : IsClosed rows keyed entries given = λ n goes. let none : sum_by (λ h. one (is_owner (owner_value n) h.owner)) rows ≡ 0 = nothing n in grind (arith, nat_tests, and_parts, sum-le) in
+    search (within-self rows keyed entries given, closed)
 
 pub given_alone : IsGivenAlone
 given_alone = record { same = λ rows keyed entries given s h nothing least among. least_is_one rows keyed entries given s given h least (given-least rows keyed entries given nothing) among }

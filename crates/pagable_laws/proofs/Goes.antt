@@ -1,5 +1,5 @@
 -- What a step does to the plain world as far as trees feel it, with no premise: the parts of which the summary of each call is made.
-use Rattle.pagable_laws.proofs.Words.{◌≡◌, ℕ, ◌+◌, ◌<◌, ◌≤◌, Bool, true, false, List, [], ◌∷◌, ◌++◌, refl, ap, sym, subst, ◌∙◌, inl, inr, arith, Option, Some, None, ◌⊎◌, if◌then◌else◌}
+use Rattle.pagable_laws.proofs.Words.{◌≡◌, ℕ, ◌+◌, ◌<◌, ◌≤◌, Bool, true, false, List, [], ◌∷◌, ◌++◌, refl, subst, inl, inr, arith, Option, Some, None, ◌⊎◌, if◌then◌else◌}
 use Rattle.pagable_laws.proofs.Words.{nat_tests, Blob, ArcRef, Kind, type_of, HandleNumber, LoadNumber, NodeNumber, OptionalDataKey, changed, updated, HandleRow, Owner, Mode, find_row}
 use Rattle.pagable_laws.proofs.Words.{is_handle, mode_of, is_loose, Core, Cell, OpenLoad, Root, Alike, AreNewEntries, Falls, FallsAnyhow, fallen, left_rows, row_of, with_handle}
 use Rattle.pagable_laws.proofs.{Words.{with_node, with_key, with_cached, next_node, moved, with_load, adopted, Change, nothing_felt, sets_key, bears_known, Knows, Bears, BeginsWell}, Sums.same-number}
@@ -41,7 +41,7 @@ pub rows-then : (last more : ℕ) (rows mid rows' : List HandleRow) → last ≤
 rows-then last more rows mid rows' le first second q row found few =
     let b = second q row found (omega arith) in
     let a = first q b.was b.live few in
-    record { was = a.was; live = a.live; at = a.at ∙ b.at; mine = λ l is. let e = b.mine l is in a.mine l (ap (λ (r : HandleRow). r.owner) e ∙ is) ∙ e; loose = λ is. b.loose (a.loose is) }
+    grind (arith, nat_tests)
 
 -- what is found has the number
 pub found-number : (q : ℕ) (rows : List HandleRow) (row : HandleRow) → find_row q rows ≡ Some row → row.number.0 ≡ q
@@ -69,12 +69,12 @@ pub rows-mode : (last : ℕ) (rows : List HandleRow) (h : HandleNumber) (mode : 
 rows-mode last rows h mode is_so free q row found few =
     let c = found-changed (is_handle h.0) (λ row. record row { mode = mode }) (λ r. refl) q rows row found in
     let number = found-number q rows c.was c.live in
-    record { was = c.was; live = c.live; at = grind (arith, nat_tests); mine = λ l mine. grind (arith, nat_tests, same-number, free c.was); loose = λ was. grind (arith, nat_tests) }
+    grind (arith, nat_tests, same-number, free c.was)
 
 pub rows-moved : (last : ℕ) (rows : List HandleRow) (s : ℕ → Bool) (owner : Owner) → NotLoads owner → RowsGo last rows (moved s owner rows)
 rows-moved last rows s owner free q row found few =
     let c = found-changed (λ (r : HandleRow). s r.number.0) (λ row. record row { owner = owner }) (λ r. refl) q rows row found in
-    record { was = c.was; live = c.live; at = grind (arith, nat_tests); mine = λ l mine. grind (arith, nat_tests, free); loose = λ was. grind (arith, nat_tests) }
+    grind (arith, nat_tests, free)
 
 -- handles that come at the end have greater numbers
 pub rows-more : (last : ℕ) (rows more : List HandleRow) → ((q : ℕ) → q ≤ last → find_row q more ≡ None) → RowsGo last rows (rows ++ more)
@@ -125,13 +125,11 @@ pub only-rows : {w : Core} {rows : List HandleRow} {list : List HandleNumber} {l
 only-rows go le = parts le (le-self _) (λ n cell is. is) (λ l load is. is) (λ kind key n is. is) go
 
 pub fell : {before w w' : Core} {given : ℕ → Bool} {r : _} → Falls before w given r w' → Quiet w w'
-fell {before} {w} {w'} f = quiet-then {m = fallen w f.gone f.entries} falls (alike f.leaves)
-  where
-    falls : Quiet w (fallen w f.gone f.entries)
-    falls = parts (le-more _ _) (le-self _) (λ n cell is. grind (arith, nat_tests)) (λ l load is. is) (λ kind key n is. is)
-        (rows-then w.last.handle w.last.handle w.rows (left_rows f.gone w.rows) _ (le-of _ _ refl)
-        (λ q row found few. record { was = row; live = (found-left f.gone q w.rows row found).0; at = refl; mine = λ l is. refl; loose = λ is. is })
-        (rows-more w.last.handle (left_rows f.gone w.rows) f.entries (λ q few. none-in-new w.last.handle q f.entries f.new few)))
+fell {w = w} f = quiet-then {m = fallen w f.gone f.entries}
+    (parts (le-more _ _) (le-self _) (λ n cell is. grind (arith, nat_tests)) (λ l load is. is) (λ kind key n is. is)
+    (rows-then w.last.handle w.last.handle w.rows (left_rows f.gone w.rows) _ (le-of _ _ refl)
+    (λ q row found few. record { was = row; live = (found-left f.gone q w.rows row found).0; at = refl; mine = λ l is. refl; loose = λ is. is })
+    (rows-more w.last.handle (left_rows f.gone w.rows) f.entries (λ q few. none-in-new w.last.handle q f.entries f.new few)))) (alike f.leaves)
 
 pub fell-anyhow : {before w w' : Core} {given : ℕ → Bool} → FallsAnyhow before w given w' → Quiet w w'
 fell-anyhow f = fell f.falls
@@ -168,15 +166,7 @@ begun c w key root me well =
 
 -- where nothing is felt, a cell was there as it is
 was-there : {w m : Core} → Goes nothing_felt w m → (n : ℕ) (cell : Cell) → m.cells n ≡ Some cell → w.cells n ≡ Some cell
-was-there {w} a n cell is = elim (a.cells n cell is) [
-  | inl k ↦ elim k.key [
-    | inl same ↦
-        k.live ∙ ap (λ (t : ℕ). let c : Cell = record { node_type = t; key = k.was.key } in Some c) (sym k.typed)
-        ∙ ap (λ (q : OptionalDataKey). let c : Cell = record { node_type = cell.node_type; key = q } in Some c) (sym same)
-    | inr (key, none, set) ↦ absurd none
-  ]
-  | inr (next, bears) ↦ absurd bears
-]
+was-there a n cell is = grind (arith, nat_tests, a.cells n cell is)
 
 -- two steps of which nothing is felt: the cells that the first leaves are those that a load that the second begins is of
 pub goes-then : {w m w' : Core} → Goes nothing_felt w m → Goes nothing_felt m w' → Goes nothing_felt w w'
@@ -193,10 +183,7 @@ goes-then {w} {m} {w'} a b =
 pub goes-known : {c : Change} {w m : Core} → Goes c w m → (kind : Kind) (key : ℕ) (n : NodeNumber) → Knows c w kind.0 key n.0 → Goes c w (with_cached m kind key n)
 goes-known {c} {w} {m} a kind key n knows = grind (arith, same-number)
 
-pub goes-known-if : {c : Change} {w m : Core} → Goes c w m → (kind : Kind) (key : ℕ) (n : NodeNumber) → Knows c w kind.0 key n.0 → (b : Bool) → Goes c w (if b then m else with_cached m kind key n)
-goes-known-if a kind key n knows x5 = grind (arith, nat_tests, goes-known)
-
 pub adopts : (w : Core) (l : LoadNumber) (kind : Kind) (key : ℕ) (own : OptionalDataKey) (references : List ArcRef) → Goes (bears_known kind.0 key own) w (adopted w l kind key own references)
 adopts w l kind key own references =
-    goes-known-if (goes-quiet (born (bears_known kind.0 key own) w (type_of kind.0) own references (refl, refl)) (a-handle _ (next_node w) (mode_of kind.0) (Owner.Load l))) kind key
-    (next_node w) (refl, refl, refl) w.closed
+    let made = goes-quiet (born (bears_known kind.0 key own) w (type_of kind.0) own references (refl, refl)) (a-handle _ (next_node w) (mode_of kind.0) (Owner.Load l)) in
+    let known = goes-known made kind key (next_node w) (refl, refl, refl) in grind (arith, nat_tests)

@@ -77,13 +77,9 @@ module _ {N E : Type 0} {v : Values N} (lawful : IsLawful v) (readable : ReadsIt
     under : (w : Core) (l : LoadNumber) (t key : ℕ) (root : Root) → l.0 ≡ w.last.load + 1 → Alike (with_load w key root Owner.Caller) mid.core → Under v mid trees key (fresh l t)
     unfolding FramesFit
     under w l t key root next a =
-        record {
-          settled = λ n x has. elim (moves.each n x has) [ inl was ↦ settled n x was | inr came ↦ absurd came.1 ];
-          well = whole;
-          stands = begun.stands;
-          going = going-new mid trees (fresh l t) refl (let e = ap (λ (x : Last). x.load) a.last in omega (arith, e, next));
-          keyed = λ load is. grind (arith, nat_tests, same_some);
-        }
+        let still : HoldsSettled v mid = λ n x has. elim (moves.each n x has) [ inl was ↦ settled n x was | inr came ↦ absurd came.1 ] in
+        let going = going-new {v = v} mid trees (fresh l t) refl (let e = ap (λ (x : Last). x.load) a.last in omega (arith, e, next)) in
+        grind (arith, nat_tests, same_some, still, whole, begun.stands, going)
 
 pub pin_law : {N E : Type 0} (v : Values N) → PinLaw E v
 pin_law v s mid s' h k reading x row run well starts asks live held lawful readable settled trees stands =

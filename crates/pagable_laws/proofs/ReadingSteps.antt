@@ -1,14 +1,14 @@
 -- The row of a handle that a load has got: it is new, of its node, and its mode fits the kind.
 use Rattle.pagable_laws.proofs.Words.{◌≡◌, ℕ, ◌+◌, ◌<◌, ◌≤◌, Bool, true, List, [], ◌∷◌, ◌++◌, refl, ap, subst, ◌∙◌, inr, arith, Some, ◌⊎◌, nat_tests, ArcRef, Kind, HandleNumber, LoadNumber}
-use Rattle.pagable_laws.proofs.Words.{NodeNumber, OptionalDataKey, type_of, HandleRow, Owner, find_row, mode_of, owner_value, Core, Last, Alike, row_at, usable, FallsAnyhow, row_of, with_handle}
-use Rattle.pagable_laws.proofs.Words.{with_node, with_cached_if_open, with_known, next_node, is_named_by, moved, adopted, HandlesAreWhole, GetsRow, sym, inl, Option, None, Ok, Err, is_some}
+use Rattle.pagable_laws.proofs.Words.{NodeNumber, OptionalDataKey, HandleRow, Owner, find_row, mode_of, owner_value, Core, Last, Alike, row_at, usable, FallsAnyhow, row_of}
+use Rattle.pagable_laws.proofs.Words.{with_cached_if_open, with_known, next_node, is_named_by, moved, adopted, HandlesAreWhole, GetsRow, sym, inl, Option, None, Ok, Err, is_some}
 use Rattle.pagable_laws.proofs.Words.{WorkerNumber, LoadAnswer, LoadReply, WorkerReply, PinStep, Took, Event, owner_worker, Frame, Reading, Todo, to_load, Walking, World, Seen, Values, ReadingDoes}
 use Rattle.pagable_laws.proofs.Words.{gone_on, Site, ReadingsAre, reading_at, reading_after, LoadSteps, WorkerSteps, IsWhole, IsReadingOf, of_caller, of_worker, IsSteppedReading, MachineState}
 use Rattle.pagable_laws.proofs.Words.{IsMachineWhole, StepsReading, IsFresh, Error, OpenLoad, first_key}
 use Rattle.pagable_laws.proofs.Words.{MakesNode, Change, nothing_felt, bears_known, ReadingFeels, reads-root, reads-blob, gets-known, gets-lazy, makes-known, makes-node, reading-ends}
 use Rattle.pagable_laws.proofs.Words.{Result, Pinning, Beginning, Claim, is_loose, to_start, to_pin, to_set, to_release, to_fail, SetKeyCall, Does, PinsAtOnce, PinsByLoad, PinRefused}
-use Rattle.pagable_laws.proofs.Words.{GivesBack, next_start, give, give_known, fresh, TodoBrings, sets_key, false, updated, if_there, EventReply, TableNumber, WorkerAnswer, only_handle}
-use Rattle.pagable_laws.proofs.Words.{Cell, Task, type_at, key_at, without_worker, WorkerEnds, answer_after, Stays, KeyStarted, Starts, new_walking, Ends, Happens, with_worker, IsNewNode, EventBrings}
+use Rattle.pagable_laws.proofs.Words.{GivesBack, next_start, give, give_known, fresh, TodoBrings, sets_key, false, updated, EventReply, TableNumber, WorkerAnswer, only_handle}
+use Rattle.pagable_laws.proofs.Words.{Cell, Task, without_worker, answer_after, Stays, KeyStarted, Starts, new_walking, Ends, Happens, with_worker, IsNewNode, EventBrings}
 use Rattle.pagable_laws.proofs.Words.{KeepsOpen, LeavesCache, SameNode, NewNode, StaysAway, KeepsReadings, EventFeels, by-call, by-reading, by-key, by-nothing, Blob, StoreCall, digest}
 use Rattle.pagable_laws.proofs.{Words.{OwnersAreThere, step_of, Among, CloneCall, Needs, GetsKnown, with_got, world_of, or_else}, Goes.{found-left, none-in-new, at-updated, Quiet}}
 use Rattle.pagable_laws.proofs.{Goes.{Goes, NotLoads, quiet-then, goes-quiet, alike, fell-anyhow, KnowsNext, parts, le-self, rows-self, next-above}, Effects.{Effect, IsMine, IsApart, IsHeldFor}}
@@ -46,22 +46,14 @@ module _ {w w' : Core} (whole : HandlesAreWhole w) (kind : Kind) (k : HandleNumb
   -- of the next node
   pub got-born : (l : LoadNumber) (key : ℕ) (own : OptionalDataKey) (references : List ArcRef) → Alike (adopted w l kind key own references) w' → GetsRow w w' kind (w.last.node + 1) row
   got-born l key own references a =
-      let rows = cached-rows (with_handle (with_node w (type_of kind.0) own references) (next_node w) (mode_of kind.0) (Owner.Load l)) kind key (next_node w) in
-      let few = ap (λ (l : Last). l.handle) (a.last ∙ rows.1) in
-      gets (moved (is_named_by references) (owner_value (w.last.node + 1)) w.rows) (next_node w) (Owner.Load l)
-      (low-changed w.last.handle w.rows (λ h. is_named_by references h.number.0) (λ h. record h { owner = owner_value (w.last.node + 1) }) (λ h. refl) (low-whole whole)) (omega (arith, few))
-      (subst (λ rows. find_row k.0 rows ≡ Some row) (a.rows ∙ rows.0) made)
+      let low = low-changed w.last.handle w.rows (λ h. is_named_by references h.number.0) (λ h. record h { owner = owner_value (w.last.node + 1) }) (λ h. refl) (low-whole whole) in
+      grind (arith, nat_tests, gets (moved (is_named_by references) (owner_value (w.last.node + 1)) w.rows) (next_node w) (Owner.Load l) low)
 
 -- what can be used is in the cache
 pub is-cached : (w : Core) (kind key n : ℕ) → usable w kind key ≡ Some n → w.cache kind key ≡ Some n
 is-cached w kind key n is = grind (arith, nat_tests)
 
 -- A load's step in the machine: which reading makes it, and that no other goes on by it.
-
--- what stands among the readings afterwards
-pub reading-was : (readings : ℕ → Option Reading) (u' : World) → ReadingsAre readings u' → (q : ℕ) (after : Reading) → u'.work.readings q ≡ Some after
-    → (readings q ≡ Some after) × (is_some (u'.core.loads q) ≡ true)
-reading-was readings u' are q after is = grind (arith, nat_tests)
 
 -- a reading that makes a step is the machine's, or has just begun at an open load
 pub reading-stands : (u : World) → IsWhole u.core → (l : LoadNumber) (reading : Reading) → reading_at u l ≡ Some reading → IsReadingOf u.work reading ⊎ IsFresh u.core reading
@@ -73,9 +65,7 @@ reading-stands u whole l reading at = by (u.work.readings l.0) refl at
 
 -- it is of the load with this number
 pub reading-number : {N E : Type 0} {v : Values N} (s : MachineState N E) → IsMachineWhole v s → (l : LoadNumber) (reading : Reading) → reading_at (world_of s) l ≡ Some reading → reading.load ≡ l
-reading-number s whole l reading at =
-    let there : (s.work.readings l.0 ≡ Some reading → reading.load ≡ l) = λ is. ap (λ n. let k : LoadNumber = record { 0 = n } in k) (whole.readings l.0 reading is).number in
-    grind (arith, nat_tests, there)
+reading-number s whole l reading at = grind (arith, nat_tests, whole.readings l.0 reading)
 
 pub reading-open : {N E : Type 0} {v : Values N} (s : MachineState N E) → IsMachineWhole v s → (l : LoadNumber) (reading : Reading) {load : OpenLoad} → reading_at (world_of s) l ≡ Some reading
     → s.pager.core.loads l.0 ≡ Some load → s.pager.core.loads reading.load.0 ≡ Some load
@@ -92,7 +82,7 @@ read-after : {readings : ℕ → Option Reading} {walkings : ℕ → Option Walk
     → ((n : ℕ) (walking : Walking) (after : Reading) → walkings n ≡ Some walking → (u.work.walkings n ≡ Some walking) ⊎ (front_reading walking.todo ≡ Some after → New after))
     → (after : Reading) → IsReadingOf u'.work after → IsReadingOf u.work after ⊎ New after
 read-after {readings} u u' New are same callers workers after (of_caller q is) =
-    elim (callers q after (reading-was readings u' are q after is).0) [ inl old ↦ inl (of_caller q old) | inr new ↦ inr new ]
+    elim (callers q after (grind (arith, nat_tests))) [ inl old ↦ inl (of_caller q old) | inr new ↦ inr new ]
 read-after u u' New are same callers workers after (of_worker n place walking r through below there todo) = elim (workers n walking after (sym (same n) ∙ there)) [
   | inl old ↦ inl (of_worker n place walking r through below old todo)
   | inr new ↦ inr (new (ap front_reading todo))
@@ -101,13 +91,9 @@ read-after u u' New are same callers workers after (of_worker n place walking r 
 -- ---- a load of the caller's
 
 module _ {N : Type 0} {v : Values N} {u u' : World} {l : LoadNumber} {reply : LoadReply N} (s : LoadSteps v u l reply u') where
-  went : (answer : Option (LoadAnswer N)) (after : Reading) → reading_after answer s.reading s.frames ≡ Some after → (answer ≡ None) × (after ≡ gone_on s.reading s.frames)
-  went x0 after e = grind (arith, nat_tests, same_some)
-
   pub steps-load : StepsReading u s.reading reply.ended s.frames u'
   steps-load = read-after u u' (λ after. (reply.ended ≡ None) × (after ≡ gone_on s.reading s.frames)) s.readings s.work.walkings (λ q after is.
-      elim (at-updated l.0 (reading_after reply.ended s.reading s.frames) u.work.readings q after is) [ inl (here, e) ↦ inr (went reply.ended after e) | inr old ↦ inl old ])
-      (λ n w after there. inl there)
+      grind (arith, nat_tests, at-updated l.0 (reading_after reply.ended s.reading s.frames) u.work.readings q after is, same_some)) (λ n w after there. inl there)
 
 -- ---- a load of a worker's
 
@@ -122,10 +108,7 @@ module _ {N B W : Type 0} {m : Seen N B W} {u u' : World} {k : WorkerNumber} {re
   pub steps-worker : {me : Owner} {reading : Reading} (t : LoadsTodo m.values me (record { core = u.core; shelf = u.work.shelves s.walking.table; todo = s.walking.todo }) s.after reading)
       → StepsReading u reading t.answer t.frames u'
   steps-worker {reading = reading} t = read-after u u' (λ after. (t.answer ≡ None) × (after ≡ gone_on reading t.frames)) s.readings s.work.same_walkings (λ q after is. inl is) (λ n w after there.
-      elim (at-updated k.0 (Some (record s.walking { todo = s.after.todo; steps = reply.steps; answer = reply.answer })) u.work.walkings n w there) [
-        | inl (here, e) ↦ inr (λ front. t.next after (ap (λ (x : Walking). front_reading x.todo) (same_some _ _ e) ∙ front))
-        | inr old ↦ inl old
-      ])
+      grind (arith, nat_tests, at-updated k.0 (Some (record s.walking { todo = s.after.todo; steps = reply.steps; answer = reply.answer })) u.work.walkings, same_some, t.next))
 
 -- the reading that makes the step is the machine's, or has just begun
 pub is-reading-of : {N B W : Type 0} (u : World) (event : Event N B W) (reading : Reading) → IsSteppedReading u event reading → IsReadingOf u.work reading ⊎ IsFresh u.core reading
@@ -221,6 +204,9 @@ module _ {N B W : Type 0} (m : Seen N B W) (w : Core) (me : Owner) (free : NotLo
     | inr ended ↦ ends-load free reading.load (Err (e, None)) ended.ended
   ])
 
+gets-alike : {w u w' : Core} {kind : Kind} {n : ℕ} {row : HandleRow} → GetsRow w u kind n row → Alike u w' → GetsRow w w' kind n row
+gets-alike got a = grind (arith, nat_tests)
+
 -- it is felt so in a world that is alike
 pub feels-alike : {N : Type 0} {v : Values N} {w u w' : Core} {reading : Reading} {answer : Option (LoadAnswer N)} {frames : List Frame} {c : Change}
     → ReadingFeels v w reading answer frames u c → Alike u w' → ReadingFeels v w reading answer frames w' c
@@ -257,8 +243,7 @@ unfolding AllWait
 given r key height x3 well = grind (arith, nat_tests, started)
 
 given-known : (r : ArcRef) (key height : ℕ) (below : List Todo) → AllWait below → front_reading (give_known r key height below) ≡ None
-given-known r key height [] well = refl
-given-known r key height (x ∷ below) well = given r key height (x ∷ below) well
+given-known r key height x3 well = grind (arith, nat_tests, given r key height x3 well)
 
 -- ---- the step
 
@@ -381,11 +366,10 @@ others-work : (w : Core) (loads : ℕ → Option OpenLoad) (workers : ℕ → Bo
     → Quiet w (record w { loads = loads; workers = workers; last = record w.last { worker = worker } })
 others-work w loads workers worker more fewer = parts (le-self _) more (λ n cell is. is) fewer (λ kind key n is. is) (rows-self w.last.handle w.rows w.rows refl)
 
-worker-ends : {w w' : Core} (v : ℕ) → WorkerEnds w v w' → Quiet w w'
-worker-ends {w} {w'} v f = quiet-then (others-work w (without_worker w v).loads (without_worker w v).workers w.last.worker (omega arith) (λ l load is. grind (arith, nat_tests))) (fell-anyhow f)
-
 pub ends-quiet : {w w' : Core} (answer : Option WorkerAnswer) (v : ℕ) → Ends answer v w w' → Quiet w w'
-ends-quiet x0 v e = grind (arith, nat_tests, alike, worker-ends)
+ends-quiet None v e = alike e
+ends-quiet {w} (Some answer) v f =
+    quiet-then (others-work w (without_worker w v).loads (without_worker w v).workers w.last.worker (omega arith) (λ l load is. grind (arith, nat_tests))) (fell-anyhow f)
 
 -- it gives up what it has: what others own stays, and what is held then was held before
 pub ends-spare : (mine : Owner) → IsApart mine → (v : ℕ) → (owner_worker v ≡ mine → ⊥) → (answer : Option WorkerAnswer) {w m w' : Core} → Ends answer v m w' → Spares mine w m → Spares mine w w'
@@ -405,17 +389,13 @@ module _ (u u' : World) where
   -- one worker is another afterwards, and has at most begun a load
   keeps-but : ReadingsAre u.work.readings u' → (k : ℕ) (now : Walking) → ((n : ℕ) → u'.work.walkings n ≡ updated k (Some now) u.work.walkings n)
       → ((reading : Reading) → front_reading now.todo ≡ Some reading → IsFresh u'.core reading) → KeepsReadings u u'
-  keeps-but are k now same anew = read-after u u' (λ r. IsFresh u'.core r) are same (λ q r is. inl is) (λ n w r there. elim (at-updated k (Some now) u.work.walkings n w there) [
-    | inl (here, e) ↦ inr (λ front. anew r (ap (λ (x : Walking). front_reading x.todo) (same_some _ _ e) ∙ front))
-    | inr old ↦ inl old
-  ])
+  keeps-but are k now same anew = read-after u u' (λ r. IsFresh u'.core r) are same (λ q r is. inl is)
+      (λ n w r there. grind (arith, nat_tests, at-updated k (Some now) u.work.walkings, same_some, anew))
 
   keeps-begun : (t : ℕ) (l : LoadNumber) → ReadingsAre (updated l.0 (Some (fresh l t)) u.work.readings) u' → l.0 ≤ u'.core.last.load
       → ((n : ℕ) → u'.work.walkings n ≡ u.work.walkings n) → KeepsReadings u u'
-  keeps-begun t l are within same = read-after u u' (λ r. IsFresh u'.core r) are same (λ q r is. elim (at-updated l.0 (Some (fresh l t)) u.work.readings q r is) [
-    | inl (here, e) ↦ let f : fresh l t ≡ r = same_some _ _ e in inr (subst (λ x. IsFresh u'.core x) f (refl, refl, within))
-    | inr old ↦ inl old
-  ]) (λ n w r there. inl there)
+  keeps-begun t l are within same = read-after u u' (λ r. IsFresh u'.core r) are same
+      (λ q r is. grind (arith, nat_tests, at-updated l.0 (Some (fresh l t)) u.work.readings, same_some)) (λ n w r there. inl there)
 
 -- ---- events
 
@@ -529,20 +509,14 @@ module _ {N B W : Type 0} (m : Seen N B W) (u u' : World) where
 -- ---- the plain world, as trees feel it
 
 module _ {c : Change} {w w' : Core} (g : Goes c w w') where
-  type-is : (n : ℕ) (x : Core) (cell : Cell) → x.cells n ≡ Some cell → type_at x n ≡ Some cell.node_type
-  type-is n x cell is = ap (λ (y : Option Cell). if_there (λ (z : Cell). Some z.node_type) None y) is
-
-  key-is : (n : ℕ) (x : Core) (cell : Cell) → x.cells n ≡ Some cell → key_at x n ≡ cell.key
-  key-is n x cell is = ap (λ (y : Option Cell). if_there (λ (z : Cell). z.key) OptionalDataKey.None y) is
-
   there-is : (n : ℕ) → is_some (w'.cells n) ≡ true → (cell : Cell) × (w'.cells n ≡ Some cell)
   there-is n there = grind (arith, nat_tests)
 
   pub old-node : (n : ℕ) → n ≤ w.last.node → is_some (w'.cells n) ≡ true → SameNode c w w' n
-  old-node n few there = let (cell, is) = there-is n there in let k = g.cells n cell is in grind (arith, nat_tests, type-is, key-is, now)
+  old-node n few there = let (cell, is) = there-is n there in let k = g.cells n cell is in grind (arith, nat_tests)
 
   pub new-node : HandlesAreWhole w → (n : ℕ) → w.last.node < n → is_some (w'.cells n) ≡ true → NewNode c w w' n
   new-node whole n above there = let (cell, is) = there-is n there in elim (g.cells n cell is) [
     | inl kept ↦ absurd (let few = (whole.nodes_numbered n (ap is_some kept.live)).1 in omega (arith, few, above))
-    | inr (next, bears) ↦ record { t = cell.node_type; own = cell.key; born = bears; next = next; typed = type-is n w' cell is; key = key-is n w' cell is }
+    | inr (next, bears) ↦ record { t = cell.node_type; own = cell.key; born = bears; next = next; typed = grind (arith, nat_tests); key = grind (arith, nat_tests) }
   ]

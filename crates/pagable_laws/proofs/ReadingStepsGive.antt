@@ -4,9 +4,9 @@ use Rattle.pagable_laws.proofs.Words.{LoadAnswer, Core, Frame, Reading, World, V
 use Rattle.pagable_laws.proofs.Words.{makes-node, reading-ends, EventFeels, nat_tests, ◌&&◌, true, false, Ok, ap, not, is_in, Owner, Seen, moved, numbers_of, HandOverCall, is_owned_in, handles_of}
 use Rattle.pagable_laws.proofs.Words.{Happens, HandlesAreWhole, HandsOver, ◌<◌, slice_get-get_or, Blob, NodeNumber, Tree, Types, type_of, LoadReply, held, OpenLoad, type_at, IsLawful, IsReference}
 use Rattle.pagable_laws.proofs.Words.{ReadsRoot, LoadSteps, MachineState, world_of, IsMachineWhole, IsReadingOf, StandsFor, SameTrees, FrameFits, FramesFit, ReadsItsTypes, ReadIsRight, ReadGives, ◌+◌}
-use Rattle.pagable_laws.proofs.Words.{◌*◌, ◌≤◌, ◌⊎◌, is_eager, asks, next_in, need_of, needs_nested, needs_lazy, to_adopt, root_frame, after_kinds, Unfolds, unfolds, UnfoldsFrom, KeepsStored}
-use Rattle.pagable_laws.proofs.Words.{Call, Reply, one_more, gone_on, IsIdle, KeepsOpen, IsWithinBound, StepIsWithin, PagerState, Represents, WellFormed, LoadsHaveStepsLeft, IsFresh, slice_get_within}
-use Rattle.pagable_laws.proofs.{Fitting.{first-fits, frames-stay, asked}, ReadingSteps.{readings-on, caller-free, reading-feels, reading-stands}}
+use Rattle.pagable_laws.proofs.Words.{◌*◌, ◌≤◌, ◌⊎◌, is_eager, asks, next_in, need_of, needs_nested, to_adopt, root_frame, after_kinds, Unfolds, unfolds, UnfoldsFrom, KeepsStored}
+use Rattle.pagable_laws.proofs.Words.{Call, gone_on, IsIdle, KeepsOpen, IsWithinBound, StepIsWithin, PagerState, Represents, WellFormed, LoadsHaveStepsLeft, IsFresh, slice_get_within}
+use Rattle.pagable_laws.proofs.{Words.Needs, Fitting.{first-fits, frames-stay, asked}, ReadingSteps.{readings-on, caller-free, reading-feels, reading-stands}}
 use Rattle.pagable_laws.proofs.{ReadingSteps.{AllWaitWell, EventGoes, event-goes, reading-open}, Goes.{found-number, IsShut, Goes}, Outlasting.{Stands, stands-whole, stands-changed, stands-fell}}
 use Rattle.pagable_laws.proofs.{Sums.self-number, Decoding.decodes, Taking.{row-held, root-right, adopted-over, Going, given-nodes, eager-nested, going-of, was-open}, Apart.{kinds_of, asks-by-kinds}}
 use Rattle.{pagable_laws.proofs.{Apart.kinds-pushed, Trees.same_some, Effects.named}, pagable_world.specs.{Loads.Does as LoadDoes, Runs.Does}, std.proofs.Common.rules}
@@ -154,11 +154,10 @@ module _ (types : Types) (store : ℕ → Option Blob) (many : ℕ) where
       let e = a.3 in
       record { now = 2 * a.0 + 1 + (2 * t.rest + 1 + o.more); owes = record { many = a.0; longest = a.1; more = 2 * t.rest + 1 + o.more; from = root-unfolds a.2 blob is; below = under; sum = refl }; less = omega (arith, s, e) }
 
-  owes-got : (frames : List Frame) (kind : Kind) (key owed : ℕ) (row : HandleRow) → (need_of types frames ≡ needs_nested kind key) ⊎ (need_of types frames ≡ needs_lazy kind key)
-      → Owes types store many frames owed → OwesLess types store many (with_got kind row frames) owed
+  owes-got : (frames : List Frame) (kind : Kind) (key owed : ℕ) (row : HandleRow) → Needs types frames kind key → Owes types store many frames owed
+      → OwesLess types store many (with_got kind row frames) owed
   unfolding Owes Waits
-  owes-got [] kind key owed row (inl needs) o = absurd (cc)
-  owes-got [] kind key owed row (inr needs) o = absurd (cc)
+  owes-got [] kind key owed row needs o = grind (arith, nat_tests)
   owes-got (top ∷ below) kind key owed row needs o =
       let t = takes o.from kind key (asks-by-kinds types top.node_type top.blob top.got kind key (asked below (next_in types top) kind key needs)) in
       let s = o.sum in
@@ -201,11 +200,6 @@ bounded-step : {N : Type 0} {v : Values N} {w w' : Core} {c : Change} (reading :
     → Bounded v.types w.stored load.key reading → ReadingFeels v w reading None frames w' c → Bounded v.types w.stored load.key (gone_on reading frames)
 bounded-step reading load frames open_load b feels more kept many longest under = search (rules, owes-less)
 
-is-within : {N : Type 0} {types : Types} {store : ℕ → Option Blob} {key : ℕ} (reading : Reading) (frames : List Frame) (reply : LoadReply N) → Bounded types store key reading
-    → (reply.ended ≡ None → Bounded types store key (gone_on reading frames)) → reply.steps ≡ one_more reading.steps
-    → IsWithinBound types store reading.node_type key reply
-is-within {types = types} {store} {key} reading frames reply b after counts many longest under = search (rules, owes-some)
-
 -- ---- the machine's loads
 
 nothing-unfolds : {types : Types} {store : ℕ → Option Blob} {t key many longest : ℕ} → ((q : ℕ) → store q ≡ None) → Unfolds types store t key many longest → ⊥
@@ -246,13 +240,10 @@ module _ {N E B W : Type 0} (m : Seen N B W) (s s' : MachineState N E) (whole : 
 
   module _ {c : Change} (goes : Goes c u.core u'.core) (all : AllBounded m.values.types u) where
     kept-bounded : (reading : Reading) → IsBounded m.values.types u reading → IsBounded m.values.types u' reading
-    kept-bounded reading b =
-        let few = b.0 in
-        let more = goes.loads_last in (
-          omega (arith, few, more),
-          λ load is_open. λ more after many longest under. (b.1 load (was-open goes reading.load.0 load b.0 is_open)) more
-              (λ q x is. after q x (goes.stored q x is)) many longest under,
-        )
+    kept-bounded reading b = (
+      let few = b.0 in let more = goes.loads_last in omega (arith, few, more),
+      λ load is_open more after. b.1 load (was-open goes reading.load.0 load b.0 is_open) more (λ q x is. after q x (goes.stored q x is)),
+    )
 
   -- all loads go on so
   all-on : {event : Event N B W} {reply : EventReply N B W} {c : Change} → Goes c u.core u'.core → AllBounded m.values.types u → EventFeels m.values u event reply u' c → AllBounded m.values.types u'
@@ -266,20 +257,16 @@ module _ {N E B W : Type 0} (m : Seen N B W) (s s' : MachineState N E) (whole : 
         let is_open = reading-open s whole l x.reading x.at open_load in
         let was : Bounded m.values.types u.core.stored load.key x.reading = (bounded-of all x.reading (reading-stands u whole.pager.whole l x.reading x.at)).1 load is_open in
         let f = reading-feels m u.core Owner.Caller caller-free u'.core x.reading reply.ended x.frames x.does in
-        is-within x.reading x.frames reply was (λ none. bounded-step x.reading load x.frames is_open was
-        (subst (λ a. ReadingFeels m.values u.core x.reading a x.frames u'.core f.change) none (f.feels whole.pager.whole.handles))) x.counts
+        let after : reply.ended ≡ None → Bounded m.values.types u.core.stored load.key (gone_on x.reading x.frames) = λ none. bounded-step x.reading load x.frames is_open was
+        (subst (λ a. ReadingFeels m.values u.core x.reading a x.frames u'.core f.change) none (f.feels whole.pager.whole.handles)) in
+        let counts = x.counts in λ many longest under. search (rules, owes-some)
 
   pub event-on : (event : Event N B W) (reply : EventReply N B W) → Happens m u event reply u' → AllWaitWell u → LoadsStand m.values.types u → LoadsStand m.values.types u'
   event-on event reply h waits stands = elim (keeps-open event) [
-    | inr closes ↦ inl (shut-by reply (subst (λ e. Happens m u e reply u') closes h))
+    | inr closes ↦ inl (let c = subst (λ e. Happens m u e reply u') closes h in grind (arith, nat_tests))
     | inl keeps ↦ on (event-goes m u u' event reply keeps h) stands
   ]
     where
-      shut-by : (r : EventReply N B W) → Happens m u (let e : Event N B W = Event.Call Call.Close in e) r u' → IsShut u'.core
-      shut-by (EventReply.CallReply (Reply.Done r)) c = let l = c.step.does.falls.falls.leaves in (l.closed, l.stored)
-      shut-by (EventReply.CallReply r) c = absurd c.step.does
-      shut-by r c = absurd c
-
       on : EventGoes m u event reply u' → LoadsStand m.values.types u → LoadsStand m.values.types u'
       on g (inl shut) = inl (g.goes.shut shut)
       on g (inr all) = inr (all-on g.goes all (g.feels whole.pager.whole waits))

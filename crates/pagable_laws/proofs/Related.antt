@@ -3,7 +3,7 @@
 use Rattle.pagable_laws.proofs.Words.{◌==◌, nat_tests, ◌≡◌, ℕ, zero, suc, ◌+◌, ◌-◌, ◌*◌, ◌/◌, ◌%◌, ◌^◌, Bool, true, List, [], ◌∷◌, ◌++◌, length, take, Result, Ok, Err, ◌⊎◌, if◌then◌else◌, inl, inr}
 use Rattle.pagable_laws.proofs.Words.{refl, sym, arith, append_assoc, cases_lt, le-ltb, lt-ltb, length-append, take-append-drop, length-take-le, nat_le, nat_lt, Error, ◌>>=◌, Read, byte_at, varint_at}
 use Rattle.pagable_laws.proofs.Words.{unsigned_at, signed_from, signed_at, longest, length_at, bytes_at, text_at, bool_at, char_at, carried, duration_at, nanos_of_second, Some, None, subst}
-use Rattle.pagable_laws.proofs.Words.{Meaning, none, variant, sequence, entry, absent, present, success, failure, lifted, Entry, KeyOrder, code_order, text_order, put_all, put_sorted, put_placed}
+use Rattle.pagable_laws.proofs.Words.{Meaning, none, variant, sequence, entry, absent, present, success, failure, lifted, Entry, KeyOrder, code_order, text_order, put_all, put_sorted, ◌≤◌, drop}
 use Rattle.pagable_laws.proofs.Words.{put_sorted_item, put_placed_item, of_entries, of_tagged, of_hash_map, Shape, nothing, unsigned, signed, flag, letter, duration, json, optional, outcome, list}
 use Rattle.pagable_laws.proofs.Words.{run, array, both, sorted_map, placed_map, hash_map, sorted_set, placed_set, static_value, tagged, cases, nested, Rest, Look, Gets, bytes_of, reference_at, seen}
 use Rattle.pagable_laws.proofs.Words.{two, choose, items, counted, registered, Deeper, enter, JsonCase, null_case, flag_case, number_case, text_case, array_case, object_case, json_case, json_part}
@@ -85,18 +85,14 @@ pub byte_tame : TameBytes byte_at
 unfolding Comes
 byte_tame = record { comes = elim [ [] ↦ inl (inl refl) | b ∷ bs ↦ record { used = b ∷ []; whole = refl; reads = λ y. refl } ] }
 
+front_of : (n : ℕ) (bs : List ℕ) → n ≤ length bs → Front more_bytes (bytes_at n) bs (take n bs) (drop n bs)
+front_of n bs le =
+    let reads : (y : List ℕ) → bytes_at n (take n bs ++ y) ≡ Ok (take n bs, y) = λ y. grind (arith, nat_tests, le-ltb, length-append, take_at, drop_at, length-take-le n bs le) in
+    record { used = take n bs; whole = sym (take-append-drop n bs); reads = reads }
+
 pub bytes_tame : (n : ℕ) → TameBytes (bytes_at n)
 unfolding Comes
-bytes_tame n = record {
-  comes = λ bs. elim (cases_lt (length bs) n) [
-    | inl lt ↦ rw (lt-ltb (length bs) n lt) (inl (inl refl))
-    | inr le ↦ rw (le-ltb (length bs) n le) (record {
-      used = take n bs;
-      whole = sym (take-append-drop n bs);
-      reads = λ y. grind (arith, nat_tests, le-ltb, length-append, take_at, drop_at, length-take-le n bs le);
-    })
-  ];
-}
+bytes_tame n = record { comes = λ bs. elim (cases_lt (length bs) n) [ inl lt ↦ rw (lt-ltb (length bs) n lt) (inl (inl refl)) | inr le ↦ rw (le-ltb (length bs) n le) (front_of n bs le) ] }
 
 varint_tame : (more last : ℕ) → TameBytes (varint_at more last)
 unfolding varint_at
@@ -166,16 +162,6 @@ module _ {A B : Type 0} {F : Type 0} {R : A → B → Type 0} where
   pub sorted-two : (order : KeyOrder) {es : List (Entry A)} {fs : List (Entry B)} → AllTwo (EntryAlong F R) es fs
       → Along F R (of_entries (put_all (put_sorted order) [] es)) (of_entries (put_all (put_sorted order) [] fs))
   sorted-two order h = entries-two (put_all-two _ _ one-two (λ x u y w acc acc2 v g k l. search (rules, more-two, plain-along)) h no-two)
-
-  placed-two : {es : List (Entry A)} {fs : List (Entry B)} → AllTwo (EntryAlong F R) es fs → Along F R (of_entries (put_all put_placed [] es)) (of_entries (put_all put_placed [] fs))
-  placed-two h = entries-two (put_all-two _ _ one-two (λ x u y w acc acc2 v g k l. search (rules, more-two, plain-along)) h no-two)
-
-  sorted_items-two : (order : KeyOrder) {ms : List (Meaning A)} {ns : List (Meaning B)} → AllTwo (Along F R) ms ns
-      → Along F R (sequence (put_all (put_sorted_item order) [] ms)) (sequence (put_all (put_sorted_item order) [] ns))
-  sorted_items-two order h = sequence-two (put_all-two {V = Along F R} _ _ one-two (λ x u y w acc acc2 v g k l. search (rules, more-two, plain-along)) h no-two)
-
-  placed_items-two : {ms : List (Meaning A)} {ns : List (Meaning B)} → AllTwo (Along F R) ms ns → Along F R (sequence (put_all put_placed_item [] ms)) (sequence (put_all put_placed_item [] ns))
-  placed_items-two h = sequence-two (put_all-two {V = Along F R} _ _ one-two (λ x u y w acc acc2 v g k l. search (rules, more-two, plain-along)) h no-two)
 
 -- ---- readers
 
@@ -404,11 +390,14 @@ module _ {A B C D : Type 0} {E : Error → Type 0} {F : Type 0} {S : A → B →
       with_par h (sorted_map order s s2) t = seen_par _ _ (λ es fs r. sorted-two order r)
           (counted_par (entry_par (with_par h s (over (λ p. p.0) (λ n d l. l.0) t)) (with_par h s2 (over (λ p. p.1) (λ n d l. l.1) t))))
       with_par h (placed_map s s2) t =
-          seen_par _ _ (λ es fs r. placed-two r) (counted_par (entry_par (with_par h s (over (λ p. p.0) (λ n d l. l.0) t)) (with_par h s2 (over (λ p. p.1) (λ n d l. l.1) t))))
+          seen_par _ _ (λ es fs r. entries-two (put_all-two _ _ one-two (λ x u y w acc acc2 v g k l. search (rules, more-two, plain-along)) r no-two))
+          (counted_par (entry_par (with_par h s (over (λ p. p.0) (λ n d l. l.0) t)) (with_par h s2 (over (λ p. p.1) (λ n d l. l.1) t))))
       with_par h (hash_map s s2) t = seen_par of_hash_map of_hash_map (λ es fs r. sorted-two code_order r)
           (counted_par (entry_par (with_par h s (over (λ p. p.0) (λ n d l. l.0) t)) (with_par h s2 (over (λ p. p.1) (λ n d l. l.1) t))))
-      with_par h (sorted_set order s) t = seen_par _ _ (λ ms ns r. sorted_items-two order r) (counted_par (with_par h s (over (λ p. p) (λ n d l. l) t)))
-      with_par h (placed_set s) t = seen_par _ _ (λ ms ns r. placed_items-two r) (counted_par (with_par h s (over (λ p. p) (λ n d l. l) t)))
+      with_par h (sorted_set order s) t = seen_par _ _ (λ ms ns r. sequence-two (put_all-two {V = Along F R} (put_sorted_item order) (put_sorted_item order) one-two
+          (λ x u y w acc acc2 v g k l. search (rules, more-two, plain-along)) r no-two)) (counted_par (with_par h s (over (λ p. p) (λ n d l. l) t)))
+      with_par h (placed_set s) t = seen_par _ _ (λ ms ns r. sequence-two (put_all-two {V = Along F R} put_placed_item put_placed_item one-two
+          (λ x u y w acc acc2 v g k l. search (rules, more-two, plain-along)) r no-two)) (counted_par (with_par h s (over (λ p. p) (λ n d l. l) t)))
       with_par h (static_value registry) t =
           then_same (bytes_same (unsigned_at w32) (unsigned_tame w32)) (λ n. registered_par registry (grind (arith, nat_tests, here)) n)
       with_par h (tagged written known body) t =
@@ -459,11 +448,7 @@ used context s input after m e =
 
 pub lasting : {A B : Type 0} → IsLasting A B
 unfolding Comes
-lasting context s front x y e is not_end not_keys = elim (comes-of context s front is) [
-  | inl (inl end) ↦ absurd (not_end end)
-  | inl (inr keys) ↦ absurd (not_keys keys)
-  | inr stays ↦ stays (rest x y)
-]
+lasting context s front x y e is not_end not_keys = elim (comes-of context s front is) [ inl end ↦ absurd (grind (arith, nat_tests)) | inr stays ↦ stays (rest x y) ]
 
 -- ---- reading is natural in what stands for references, and forms are
 
@@ -515,12 +500,9 @@ rename_same (variant n a) = rw (rename_same a) refl
 rename_same (followed kind a) = rw (rename_same a) refl
 rename_same _ = refl
 
-found : {B : Type 0} (r : Result B Error) → r ≡ (r >>= λ b. Ok b)
-found x0 = grind (arith, nat_tests)
-
 pub read_over : {A B C : Type 0} → IsReadOver A B C
 read_over f look levels parts s input =
-    natural f (λ b. b) (λ kind a. look kind (f a)) look levels parts s input (λ kind a. found (look kind (f a)))
+    natural f (λ b. b) (λ kind a. look kind (f a)) look levels parts s input (λ kind a. grind (arith, nat_tests))
     ∙ (grind (arith, nat_tests, rename_same))
 
 pub renamed : {A B D : Type 0} → IsRenamed A B D

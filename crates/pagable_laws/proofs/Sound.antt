@@ -1,6 +1,6 @@
 -- Why a load is refused whose key a page-out has published: by chance, or by a handle. And as too deep one is refused only where the reading of its key comes to a
 -- blob that lies too deep, or to one that enters a level too many.
-use Rattle.pagable_laws.proofs.Words.{nat_tests, ◌≡◌, ℕ, suc, ◌+◌, ◌≤◌, true, List, [], ◌∷◌, length, Option, Some, sym, ap, subst, ◌∙◌, inl, inr, if◌then◌else◌, arith, slice_get, blob_of, Error}
+use Rattle.pagable_laws.proofs.Words.{nat_tests, ◌≡◌, ℕ, suc, ◌+◌, ◌≤◌, true, List, [], ◌∷◌, length, Option, Some, sym, ap, subst, ◌∙◌, inl, inr, arith, slice_get, blob_of, Error}
 use Rattle.pagable_laws.proofs.Words.{ArcRef, Kind, Identity, Blob, Meaning, Tree, type_of, is_eager, above, longest_path, identity_of, Shelf, Written, Frame, Values, reads, asks, next_in, need_of}
 use Rattle.pagable_laws.proofs.Words.{is_broken, IsPublished, MachineState, world_of, FramesFit, ReadsItsTypes, AreKeysOf, WorkFits, Needs, ◌==◌, Bool, false, ◌⊎◌, None, Err, refl, not, Want}
 use Rattle.pagable_laws.proofs.Words.{Owner, HandleNumber, LoadNumber, NodeNumber, Types, any_mode, Core, OpenLoad, of_cell, Reading, Seen, IsLawful, earlier, refused_if}
@@ -31,7 +31,7 @@ key-at shelf (q ∷ rs) (k ∷ ks) all (suc place) r key is at = key-at shelf rs
 key-at shelf x1 x2 all x4 r key is at = grind (arith, nat_tests)
 
 above-eager : (kind h limit : ℕ) → is_eager kind ≡ true → above kind h ≤ limit → h + 1 ≤ limit
-above-eager kind h limit is le = let e : (if is_eager kind then h + 1 else 0) ≡ h + 1 = ap (λ b. if b then h + 1 else 0) is in omega (arith, e, le)
+above-eager kind h limit is le = grind (arith, nat_tests)
 
 module _ {N E : Type 0} (v : Values N) (s : MachineState N E) (trees : ℕ → Tree) (fit : WorkFits v s trees) (readable : ReadsItsTypes v.types) (table : ℕ) where
   abbrev shelf : Shelf
@@ -113,20 +113,15 @@ module _ {N E : Type 0} (v : Values N) (s : MachineState N E) (trees : ℕ → T
         record { height = a.below; known = k; left = omega (arith, le, le2) }
 
     -- what a load needs that reads it
-    pub record Needed (frames : List Frame) (kind : Kind) (key : ℕ) : Type 0 where
-      pub blob : Blob
-      pub is : stored key ≡ Some blob
-      pub short : is_eager kind.0 ≡ true → length frames ≤ longest_path
-
     pub needed : (frames : List Frame) → FramesFit v.types stored trees root_key root_type frames → FramesAsked v.types frames → (kind : Kind) (key : ℕ) → Needs v.types frames kind key
-        → Needed frames kind key
+        → (blob : Blob) × (stored key ≡ Some blob) × (is_eager kind.0 ≡ true → length frames ≤ longest_path)
     needed (frame ∷ below) fits got kind key needs =
         let t = top-known frame below fits got in
         let a = asked-known frame t.height t.known (first-asked frame below got) kind key (asked below (next_in v.types frame) kind key needs) in
         let b = (fit.slots table (identity_of a.r) a.known.slot a.known.claimed).publishes key a.below a.known.known in
         let small = ((fit.slots table i p.slot p.claimed).publishes root_key limit p.known).2.within in
         let left = t.left in
-        record { blob = _; is = b.2.is_stored; short = λ eager. let le = above-eager kind.0 a.below t.height eager a.within in omega (arith, le, left, small) }
+        (_, b.2.is_stored, λ eager. let le = above-eager kind.0 a.below t.height eager a.within in omega (arith, le, left, small))
     needed x0 fits got kind key x5 = grind (arith, nat_tests)
 
     -- the innermost blob is so, where it is read
@@ -221,11 +216,8 @@ module _ {N B W E : Type 0} (m : Seen N B W) (s : MachineState N E) (trees : ℕ
     no-load-fault : (P : Error → Type 0) → Only P (load_fault w Owner.Caller reading.load)
     no-load-fault P e is = absurd (let f = ap (load_fault w Owner.Caller) number ∙ may in cc)
 
-    need-there : (kind : Kind) (key : ℕ) → (need_of v.types reading.frames ≡ needs_nested kind key) ⊎ (need_of v.types reading.frames ≡ needs_lazy kind key)
-        → (blob : Blob) × (w.stored key ≡ Some blob) × (is_eager kind.0 ≡ true → length reading.frames ≤ longest_path)
-    need-there kind key needs =
-        let n = needed v s trees on.fits readable out.t load.key reading.node_type out.i out.height out.known typed reading.frames fits going.asked kind key needs in
-        (n.blob, n.is, n.short)
+    need-there : (kind : Kind) (key : ℕ) → Needs v.types reading.frames kind key → (blob : Blob) × (w.stored key ≡ Some blob) × (is_eager kind.0 ≡ true → length reading.frames ≤ longest_path)
+    need-there = needed v s trees on.fits readable out.t load.key reading.node_type out.i out.height out.known typed reading.frames fits going.asked
 
     -- the front of what is needed
     front : (frames : List Frame) (kind : Kind) (key : ℕ) → need_of v.types frames ≡ needs_nested kind key → is_eager kind.0 ≡ true
@@ -242,13 +234,13 @@ module _ {N B W E : Type 0} (m : Seen N B W) (s : MachineState N E) (trees : ℕ
         → Refused (ask_fault w Owner.Caller reading.load want) (ask_fault w Owner.Caller reading.load want) ((is_known w want ≡ true) × AreHandlesFull w) w e mid → IsOfChance e
     ask-chance want mid e r = only-refused {P = IsOfChance} e r (only-earlier _ _ (no-load-fault _) (λ e is. grind (arith, nat_tests, only-if IsOfChance))) tt
 
+    -- ---- the causes
+
     nested-asked : (kind : Kind) (key : ℕ) (blob : Blob) (mid : Core) (e : Error) → w.stored key ≡ Some blob → AskCall w Owner.Caller reading.load (Want.Nested kind key) (Err e) mid → IsOfChance e
     nested-asked kind key blob mid e is c = elim c.refused [
       | inl r ↦ ask-chance (Want.Nested kind key) mid e r
       | inr (other, owned, vain) ↦ (grind (arith, nat_tests))
     ]
-
-    -- ---- the causes
 
     of-blob : (e : Error) → RefusesBlob v reading e → IsOfChance e
     of-blob e (inl is) = absurd (not-broken v s trees on.fits readable out.t load.key reading.node_type out.i out.height out.known typed reading.frames fits going.asked e is)
@@ -328,11 +320,8 @@ module _ {N B W E : Type 0} (m : Seen N B W) (lawful : IsLawful m.values) (reada
       cause m s trees on lawful readable l x.reading load x.at x.may open_load paged s'.pager.core e fails.0
 
   load-faultless : (event : Event N B W) (reply : EventReply N B W) → Happens m (world_of s) event reply (world_of s') → LoadIsFaultless s trees event reply s' trees'
-  load-faultless (Event.LoadStep l) (EventReply.LoadMoved (Ok reply)) is = λ load e open_load paged ended. elim (load-cause l reply is.moves load e open_load paged ended) [
-    | by-chance chance ↦ inl chance
-    | by-references frame below x frames decoded form fault ↦ inr (by-all s.pager.core _ [] (m.values.references x) e fault)
-    | by-handle n t h root fault ↦ inr (by-handle-row s.pager.core Owner.Caller h any_mode e fault)
-  ]
+  load-faultless (Event.LoadStep l) (EventReply.LoadMoved (Ok reply)) is = λ load e open_load paged ended.
+      let why = load-cause l reply is.moves load e open_load paged ended in grind (arith, nat_tests, by-all, by-handle-row)
   load-faultless event reply is = tt
 
 pub faultless_law : {N B W : Type 0} (E : Type 0) (m : Seen N B W) → HoldsAlong E m LoadIsFaultless

@@ -45,18 +45,11 @@ has q h = h.0 == q
 fewer : (xs ys : List HandleNumber) → ((q : ℕ) → times (has q) xs ≤ times (has q) ys) → length xs ≤ length ys
 fewer [] ys le = omega arith
 fewer (x ∷ xs) ys le =
-    let first = le x.0 in
-    let sum = sum_by-cons (λ h. one (has x.0 h)) x xs in
-    let here : one (x.0 == x.0) ≡ 1 = ap one (self-number x.0) in
-    let y = counted (λ h. one (has x.0 h)) ys (omega (arith, first, sum, here)) in
+    let y = counted (λ h. one (has x.0 h)) ys (let first = le x.0 in let sum = sum_by-cons (λ h. one (has x.0 h)) x xs in grind (arith, nat_tests, self-number)) in
     let lt = slice_get_within ys y.1.0 y.0 y.1.1 in
     let same : (get_or ys y.1.0 y.0).0 ≡ x.0 = ap (λ (h : HandleNumber). h.0) (get_or_from_slice_get ys y.1.0 y.0 y.0 y.1.1) ∙ same-number _ _ (one-true _ y.2) in
-    let rest = fewer xs (remove ys y.1.0) (λ q.
-    let a = le q in
-    let b = sum_by-cons (λ h. one (has q h)) x xs in
-    let c = sum_by-remove (λ h. one (has q h)) ys y.1.0 y.0 lt in
-    let e : one (has q (get_or ys y.1.0 y.0)) ≡ one (has q x) = ap (λ n. one (n == q)) same in
-    omega (arith, a, b, c, e)) in
+    let rest = fewer xs (remove ys y.1.0) (λ q. let a = le q in let b = sum_by-cons (λ h. one (has q h)) x xs in
+    let c = sum_by-remove (λ h. one (has q h)) ys y.1.0 y.0 lt in grind (arith, nat_tests)) in
     let shorter = length-remove ys y.1.0 lt in
     omega (arith, rest, shorter)
 

@@ -34,11 +34,6 @@ some-none is other = absurd (cc)
 pub grows : (v : ℕ) (shelf shelf' : Shelf) → Changes v shelf shelf' → ShelfGrows shelf shelf'
 grows v shelf shelf' changes i slot there = grind (arith, some-none, some-same)
 
--- what another claimed stays as it is
-pub others-stay : (v u : ℕ) (shelf shelf' : Shelf) → Changes v shelf shelf' → nat_eq u v ≡ false → (i : Identity) (slot : Slot) → shelf.slots i ≡ Some slot → slot.worker ≡ u
-    → shelf'.slots i ≡ Some slot
-others-stay v u shelf shelf' changes other i slot there of_it = grind (arith, some-none, some-same)
-
 pub meets-grow : (shelf shelf' : Shelf) (task : Task) (i : Identity) → ShelfGrows shelf shelf' → Meets shelf task i → Meets shelf' task i
 meets-grow shelf shelf' task i more (meets-of-item written r is among) = meets-of-item written r is among
 meets-grow shelf shelf' task i more (meets-entry h j is) = meets-entry h j is
@@ -82,10 +77,6 @@ put-by v shelf shelf' i slot puts at j = elim (cases_Bool (is_identity i j)) [
   | inr e ↦ stays (puts.elsewhere j e)
   | inl e ↦ subst (λ k. SlotChanges v (shelf.slots k) (shelf'.slots k)) (sym (is-same i j e)) (subst (λ o. SlotChanges v (shelf.slots i) o) (sym puts.at) at)
 ]
-
-pub puts-own : (v : ℕ) (shelf shelf' : Shelf) (i : Identity) (old slot : Slot) → PutsSlot shelf.slots shelf'.slots i slot → shelf.slots i ≡ Some old → old.worker ≡ v
-    → SlotGrows old slot → Changes v shelf shelf'
-puts-own v shelf shelf' i old slot puts there of_it more = put-by v shelf shelf' i slot puts (is-changed old slot there of_it refl more)
 
 pub fails-own : (v : ℕ) (shelf shelf' : Shelf) → SameShelf (with_failed shelf v) shelf' → Changes v shelf shelf'
 fails-own v shelf shelf' same i = by (shelf.slots i) refl (same.slots i)
@@ -211,11 +202,9 @@ true-false is other = absurd (cc)
 -- ---- what stands goes on to stand
 
 module _ (u : ℕ) (task : Task) (shelf shelf' : Shelf) (more : ShelfGrows shelf shelf') where
-  -- each claim that this is about is kept
-  abbrev pub KeepsOf : (Identity → Bool) → Type 0
-  KeepsOf test = (i : Identity) → test i ≡ true → (slot : Slot) → shelf.slots i ≡ Some slot → slot.worker ≡ u → shelf'.slots i ≡ Some slot
-
-  pub all-stay : (todo : List Todo) → KeepsOf (λ i. is_open_in i todo) → AllStand shelf u task todo → AllStand shelf' u task todo
+  -- where each claim that it is about is kept
+  pub all-stay : (todo : List Todo) → ((i : Identity) → is_open_in i todo ≡ true → (slot : Slot) → shelf.slots i ≡ Some slot → slot.worker ≡ u → shelf'.slots i ≡ Some slot)
+      → AllStand shelf u task todo → AllStand shelf' u task todo
   unfolding AllStand is_open_in
   all-stay [] keeps all = tt
   all-stay (x ∷ below) keeps (stands, apart, rest) = (
@@ -228,14 +217,11 @@ module _ (u : ℕ) (task : Task) (shelf shelf' : Shelf) (more : ShelfGrows shelf
 
 module _ (v : ℕ) (task : Task) where
   module _ (shelf : Shelf) (i : Identity) where
-    abbrev pub IsSlot : Type 0
-    IsSlot = (slot : Slot) × (shelf.slots i ≡ Some slot)
-
-    of-claim : (j : Identity) {so : Option Written → Type 0} → HasClaim shelf v j so → is_identity i j ≡ true → IsSlot
+    of-claim : (j : Identity) {so : Option Written → Type 0} → HasClaim shelf v j so → is_identity i j ≡ true → (slot : Slot) × (shelf.slots i ≡ Some slot)
     of-claim j c is = (c.slot, sym (ap shelf.slots (is-same i j is)) ∙ c.claimed)
 
     -- what is open has a slot
-    pub open-slot : (todo : List Todo) → AllStand shelf v task todo → is_open_in i todo ≡ true → IsSlot
+    pub open-slot : (todo : List Todo) → AllStand shelf v task todo → is_open_in i todo ≡ true → (slot : Slot) × (shelf.slots i ≡ Some slot)
     unfolding AllStand is_open_in
     open-slot [] all is = absurd (cc)
     open-slot (x ∷ below) (stands, apart, rest) is = elim (or_cases (is_open_of i x) (is_open_in i below) is) [ inl a ↦ (grind (arith, nat_tests, of-claim)) | inr b ↦ open-slot below rest b ]
@@ -268,8 +254,7 @@ module _ (v : ℕ) (task : Task) where
         → (Stands shelf v task x below → Stands shelf v task y below) → Goes shelf None shelf' (y ∷ below)
     unfolding AllStand is_open_in
     swaps x y below (stands, apart, rest) covers about goes =
-        plain None (y ∷ below) (λ a is. absurd (cc)) (goes stands, (λ i is. apart i (sym (about i) ∙ is)), rest)
-        (λ i slot there own still. ap (λ b. b || is_open_in i below) (about i) ∙ covers i slot there own still)
+        plain None (y ∷ below) (λ a is. absurd (cc)) (goes stands, grind (arith, nat_tests), rest) (grind (arith, nat_tests))
 
   -- ---- references are started
 
@@ -325,11 +310,8 @@ module _ (v : ℕ) (task : Task) (shelf shelf' : Shelf) where
       let meets_now : Meets shelf' task (identity_of r) = meets-grow shelf shelf' task (identity_of r) (grows v shelf shelf' changes) meets in
       let free : is_open_in (identity_of r) below ≡ false =
       false_from_ne_true (is_open_in (identity_of r) below) (λ is. let a = open-slot v task shelf (identity_of r) below rest is in some-none a.1 none) in
-      own-goes (identity_of r) new-slot _ puts changes meets_now refl (
-        (meets_now, record { slot = new-slot; claimed = puts.at; own = refl; no_result_yet = refl; written_so = refl }),
-        (λ i is. subst (λ k. is_open_in k below ≡ false) (is-same i (identity_of r) is) free),
-        (grind (arith, nat_tests, all-stay, false_from_ne_true, true-false, is-same)),
-      ) (grind (arith, nat_tests, put-cases, identity_of, new-slot, is_open_in, or_right, is_identity, or_left, is-self))
+      own-goes (identity_of r) new-slot _ puts changes meets_now refl (grind (arith, nat_tests, all-stay, false_from_ne_true, true-false, is-same, is-self))
+      (grind (arith, nat_tests, put-cases, identity_of, new-slot, is_open_in, or_right, is_identity, or_left, is-self))
 
   -- the value is written
   pub written-goes : (r : ArcRef) (place : ℕ) (through : HandleNumber) (written : Written) (below : List Todo) → AllStand shelf v task (to_write r place through ∷ below)
@@ -339,15 +321,11 @@ module _ (v : ℕ) (task : Task) (shelf shelf' : Shelf) where
   written-goes r place through written below ((meets, c), apart, rest) covers same =
       let new : Slot = record c.slot { written = Some written } in
       let puts : PutsSlot shelf.slots shelf'.slots (identity_of r) new = changes-slot shelf shelf' (identity_of r) c.slot (λ slot. record slot { written = Some written }) c.claimed same in
-      let changes : Changes v shelf shelf' = puts-own v shelf shelf' (identity_of r) c.slot new puts c.claimed c.own (grind (arith, nat_tests, some-none)) in
+      let changes : Changes v shelf shelf' = put-by v shelf shelf' (identity_of r) new puts (is-changed c.slot new c.claimed c.own refl (grind (arith, nat_tests, some-none))) in
       let meets_now : Meets shelf' task (identity_of r) = meets-grow shelf shelf' task (identity_of r) (grows v shelf shelf' changes) meets in
-      let free : is_open_in (identity_of r) below ≡ false = apart (identity_of r) (is-self (identity_of r)) in
       let o : Open = record { reference = r; place = place; through = through; written = written; keys = []; height = 0 } in
-      own-goes (identity_of r) new _ puts changes meets_now (ap is_failed c.no_result_yet) (settles v task shelf' o below (
-        (meets_now, record { slot = new; claimed = puts.at; own = c.own; no_result_yet = c.no_result_yet; written_so = refl }),
-        apart,
-        (grind (arith, nat_tests, all-stay, false_from_ne_true, true-false, is-same)),
-      )) (grind (arith, nat_tests, or_right, started-open, put-cases, is_identity, or_left, is-self))
+      own-goes (identity_of r) new _ puts changes meets_now (ap is_failed c.no_result_yet) (settles v task shelf' o below
+      (grind (arith, nat_tests, all-stay, false_from_ne_true, true-false, is-same, is-self))) (grind (arith, nat_tests, or_right, started-open, put-cases, is_identity, or_left, is-self))
 
   -- key and height are published
   pub published-goes : (r : ArcRef) (key height : ℕ) (below : List Todo) → AllStand shelf v task (to_publish r key height ∷ below) → CoversBy v task shelf (to_publish r key height ∷ below)
@@ -356,28 +334,16 @@ module _ (v : ℕ) (task : Task) (shelf shelf' : Shelf) where
   published-goes r key height below ((meets, c), apart, rest) covers same =
       let new : Slot = with_outcome (published key height) c.slot in
       let puts : PutsSlot shelf.slots shelf'.slots (identity_of r) new = changes-slot shelf shelf' (identity_of r) c.slot (with_outcome (published key height)) c.claimed same in
-      let changes : Changes v shelf shelf' = puts-own v shelf shelf' (identity_of r) c.slot new puts c.claimed c.own (grind arith) in
+      let changes : Changes v shelf shelf' = put-by v shelf shelf' (identity_of r) new puts (is-changed c.slot new c.claimed c.own refl (grind arith)) in
       let meets_now : Meets shelf' task (identity_of r) = meets-grow shelf shelf' task (identity_of r) (grows v shelf shelf' changes) meets in
-      let free : is_open_in (identity_of r) below ≡ false = apart (identity_of r) (is-self (identity_of r)) in
-      let known : new.outcome ≡ published key height = (cc) in
-      own-goes (identity_of r) new _ puts changes meets_now (ap is_failed known) (
-        (meets_now, record { slot = new; claimed = puts.at; known = known }),
-        (λ i is. absurd (cc)),
-        (grind (arith, nat_tests, all-stay, false_from_ne_true, true-false, is-same)),
-      ) (grind (arith, nat_tests, put-cases, or_cases, true-false, is-same, is-self))
+      own-goes (identity_of r) new _ puts changes meets_now (grind arith) (grind (arith, nat_tests, all-stay, false_from_ne_true, true-false, is-same, is-self))
+      (grind (arith, nat_tests, put-cases, or_cases, true-false, is-same, is-self))
 
   -- all goes
   pub failed-goes : (answer : WorkerAnswer) → SameShelf (with_failed shelf v) shelf' → Goes v task shelf (Some answer) shelf' []
   unfolding AllStand is_open_in
   failed-goes answer same =
-      record {
-        changes = fails-own v shelf shelf' same;
-        all = tt;
-        covers = λ i slot there own still. true-false (ap is_open_outcome still) (grind (arith, some-same));
-        unfailed = λ nothing clean. absurd (cc);
-        done = λ a is. refl;
-        met = λ i slot none there. some-none there ((same.slots i ∙ ap (λ o. if_there (λ (slot : Slot). Some (if nat_eq slot.worker v then with_outcome failed slot else slot)) None o) none));
-      }
+      let changes = fails-own v shelf shelf' same in let slots = same.slots in grind (arith, nat_tests, some-none, some-same)
 
 -- What stands of all workers and tables goes on to stand, by what an event does to them.
 
@@ -415,17 +381,11 @@ module _ (v : ℕ) (shelves shelves' : ℕ → Shelf) (walkings walkings' : ℕ 
 
   pub work-stands : (last last' : ℕ) → last ≤ last' → v ≤ last' → WorkStands shelves walkings last → WorkStands shelves' walkings' last'
   work-stands last last' few small work =
-      record {
-        slots = grind (arith, nat_tests, met-stays, some-same);
-        workers = λ u w there. elim (cases_Bool (nat_eq u v)) [
-          | inl e ↦ let is = same-worker u v e in subst (λ n. WalkingStands (shelves' w.table) n w) (sym is) (turned.stands w (sym (ap walkings' is) ∙ there))
-          | inr e ↦
-              let c = turned.changes w.table in
-              walking-stays u w (shelves w.table) (shelves' w.table) (grows v (shelves w.table) (shelves' w.table) c) (others-stay v u (shelves w.table) (shelves' w.table) c e)
-              (grind (arith, some-same)) (work.workers u w (sym (turned.others u e) ∙ there))
-        ];
-        numbered = grind (arith, nat_tests, cases_Bool, nat_eq, same-worker);
-      }
+      let each : (u : ℕ) (w : Walking) → walkings' u ≡ Some w → WalkingStands (shelves' w.table) u w = λ u w there.
+      let c = turned.changes w.table in
+      let more = grows v (shelves w.table) (shelves' w.table) c in
+      grind (arith, nat_tests, cases_Bool (nat_eq u v), same-worker, walking-stays u w (shelves w.table) (shelves' w.table) more, c, some-none, some-same, turned.others u, work.workers u w) in
+      grind (arith, nat_tests, each, met-stays, some-same, cases_Bool, nat_eq, same-worker)
 
 -- at first each stands
 pub first-stands : (shelf : Shelf) (v : ℕ) (task : Task) → AllStand shelf v task (first_todo task)
@@ -443,15 +403,11 @@ module _ (shelves shelves' : ℕ → Shelf) (walkings walkings' : ℕ → Option
   -- nothing is done to workers, and no claim is made
   pub is-quiet : ((u : ℕ) → walkings' u ≡ walkings u) → Turned 0 shelves shelves' walkings walkings'
   is-quiet stay =
-      record {
-        changes = λ t. same-slots 0 (shelves t) (shelves' t) (same t);
-        others = λ u other. stay u;
-        own = λ w there. record { now = w; there = stay 0 ∙ there; table = refl; task = refl };
-        met = λ t i slot none there. some-none (sym (same t i) ∙ there) none;
-        stands = λ w there.
-            walking-stays 0 w (shelves w.table) (shelves' w.table) (grows 0 (shelves w.table) (shelves' w.table) (same-slots 0 (shelves w.table) (shelves' w.table) (same w.table)))
-            (λ i slot is own. same w.table i ∙ is) (λ i slot is own. sym (same w.table i) ∙ is) (work.workers 0 w (sym (stay 0) ∙ there));
-      }
+      let changes : (t : ℕ) → Changes 0 (shelves t) (shelves' t) = λ t. same-slots 0 (shelves t) (shelves' t) (same t) in
+      let stands : (w : Walking) → walkings' 0 ≡ Some w → WalkingStands (shelves' w.table) 0 w = λ w there.
+      walking-stays 0 w (shelves w.table) (shelves' w.table) (grows 0 (shelves w.table) (shelves' w.table) (changes w.table))
+      (λ i slot is own. same w.table i ∙ is) (λ i slot is own. sym (same w.table i) ∙ is) (work.workers 0 w (sym (stay 0) ∙ there)) in
+      grind (arith, nat_tests, some-none, changes, stands, stay)
 
   -- a worker that has no number yet has claimed nothing
   unclaimed : (v t : ℕ) (i : Identity) (slot : Slot) → last < v → (shelves' t).slots i ≡ Some slot → slot.worker ≡ v → ⊥
@@ -465,19 +421,10 @@ module _ (shelves shelves' : ℕ → Shelf) (walkings walkings' : ℕ → Option
       → ((u : ℕ) → nat_eq u v ≡ false → walkings' u ≡ walkings u) → Turned v shelves shelves' walkings walkings'
   unfolding AllWait
   is-started v new above first none at others =
-      record {
-        changes = λ t. same-slots v (shelves t) (shelves' t) (same t);
-        others = others;
-        own = λ w there. let few = work.numbered v w there in absurd (omega arith);
-        met = λ t i slot nothing there. some-none (sym (same t i) ∙ there) nothing;
-        stands = λ w there. subst (λ x. WalkingStands (shelves' x.table) v x) (some-same at there) (record {
-          all = subst (λ todo. AllStand (shelves' new.table) v new.task todo) (sym first) (first-stands (shelves' new.table) v new.task);
-          covers = λ i slot is own still. absurd (unclaimed v new.table i slot above is own);
-          unfailed = λ nothing i slot is own. absurd (unclaimed v new.table i slot above is own);
-          done = λ answer is. some-none is none;
-          waits = subst (λ todo. WaitsWell todo) (sym first) (grind (arith, nat_tests));
-        });
-      }
+      let changes : (t : ℕ) → Changes v (shelves t) (shelves' t) = λ t. same-slots v (shelves t) (shelves' t) (same t) in
+      let stands : (w : Walking) → walkings' v ≡ Some w → WalkingStands (shelves' w.table) v w = λ w there. subst (λ x. WalkingStands (shelves' x.table) v x) (some-same at there)
+      (let all = first-stands (shelves' new.table) v new.task in grind (arith, nat_tests, all, unclaimed v new.table, some-none)) in
+      grind (arith, nat_tests, some-none, changes, stands, work.numbered v)
 
 -- a worker makes a step
 pub is-stepped : (v : ℕ) (shelves shelves' : ℕ → Shelf) (walkings walkings' : ℕ → Option Walking) (w now : Walking) → walkings v ≡ Some w → walkings' v ≡ Some now → now.table ≡ w.table

@@ -6,7 +6,7 @@ use Rattle.pagable_world.specs.declared.{handles.{Owner.Owner, HandleRow.HandleR
 use Rattle.pagable_world.specs.{Kinds.{is_pinning, is_loose, any_mode, fits_mode, owner_worker, find_row}, World.{Core, Cell, OpenLoad, of_cell, Frame, Reading, Todo, to_load, to_set, Walking, World}}
 use Rattle.pagable_world.specs.{World.{row_at, type_at, key_at, is_here, Values}, Refusals.{Owns, IsReference}, LoadCalls.first_key, Loads.{ReadsNode, need_of, needs_nested, needs_lazy}}
 use Rattle.pagable_world.specs.{Loads.{root_frame, nested_frame, with_got, gone_on}, Events.reading_at, Pager.{PagerState, MachineState, world_of, KeyFits, IsNewNode, CallBrings, EventBrings}}
-use Rattle.{pagable_world.specs.Pager.{IsReadingOf, SameTrees, ReadsNodeTree}, pagable_laws.specs.ReadLaws.ValueLeads}
+use Rattle.{pagable_world.specs.Pager.{IsReadingOf, SameTrees, ReadsNodeTree}, pagable_laws.specs.ReadLaws.{Needs, ValueLeads}}
 
 -- a node leads to its tree: its key reads as that, and its value leads there
 pub record NodeLeads {N E : Type 0} (v : Values N) (s : PagerState N E) (trees : ℕ → Tree) (n : ℕ) : Type 0 where
@@ -133,9 +133,8 @@ pub data ReadingFeels {N : Type 0} (v : Values N) (w : Core) (reading : Reading)
   reads-blob : (kind : Kind) (key : ℕ) (blob : Blob) → need_of v.types reading.frames ≡ needs_nested kind key → w.stored key ≡ Some blob → answer ≡ None
       → frames ≡ nested_frame kind key blob ∷ reading.frames
       → ReadingFeels v w reading answer frames w' nothing_felt
-  gets-known : (kind : Kind) (key n : ℕ) (row : HandleRow) → (need_of v.types reading.frames ≡ needs_nested kind key) ⊎ (need_of v.types reading.frames ≡ needs_lazy kind key)
-      → w.cache kind.0 key ≡ Some n → GetsRow w w' kind n row
-      → answer ≡ None → frames ≡ with_got kind row reading.frames → ReadingFeels v w reading answer frames w' nothing_felt
+  gets-known : (kind : Kind) (key n : ℕ) (row : HandleRow) → Needs v.types reading.frames kind key → w.cache kind.0 key ≡ Some n → GetsRow w w' kind n row → answer ≡ None
+      → frames ≡ with_got kind row reading.frames → ReadingFeels v w reading answer frames w' nothing_felt
   gets-lazy : (kind : Kind) (key : ℕ) (row : HandleRow) → need_of v.types reading.frames ≡ needs_lazy kind key → GetsRow w w' kind (w.last.node + 1) row → answer ≡ None
       → frames ≡ with_got kind row reading.frames
       → ReadingFeels v w reading answer frames w' (bears_known kind.0 key (OptionalDataKey.Some key))
