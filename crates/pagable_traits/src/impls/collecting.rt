@@ -20,7 +20,7 @@ pub trait Collects<T>: Sized {
     ghost puts: { List T → T → List T → Type 0 };
 
     // That it has room for so many items more, where it keeps room; a list for no others.
-    ghost has_room: { Self → ℕ → Type 0 };
+    ghost has_room: { Self → ℕ → Type 0 } = { λ c n. Unit {0} };
 
     /// Nothing, with room for so many items where it keeps room. Refused by want of memory alone.
     fn with_places(alloc: Global, places: usize) -> Result<Self, Error>

@@ -1,9 +1,9 @@
 //! Lists of each kind, slices and arrays, and the items of a list in turn.
 
 ghost use Rattle.std.specs.{Prelude.{◌≡◌, ◌++◌, ◌∷◌, [], OnOk, IfOk, IfErr, max, vec_len}, Vec.vec_capacity, Box.boxed_slice_items};
-ghost use Rattle.pagable_model.specs.{Writing.{nesting, WritesSome, WritesSomeAll, Refused, RefusedAll, Grows}, Gives.{memory_or, long_or}, Shape.{array, list, run}, Reading.{items, read}};
+ghost use Rattle.pagable_model.specs.{Writing.{nesting, WritesSomeAll, RefusedAll, Grows}, Gives.{memory_or, long_or}, Shape.{array, list, run}, Reading.{items, read}};
 ghost use Rattle.pagable_model.specs.{Standing.{handles_at, MovesOn, GivesSome}, Lifted.{MeanAll, MeansList}};
-ghost use Rattle.pagable_traits.specs.{Meanings.{seen_by, lists, lists_single}, OwnCauses.{reads_memory_or, writes_memory_or, writes_long_or}};
+ghost use Rattle.pagable_traits.specs.{JsonSteps.{Wrote, value as form}, Meanings.{seen_by, lists, lists_single}, OwnCauses.{reads_memory_or, writes_memory_or, writes_long_or}};
 
 use crate::impls::collecting::{
     Collects, collect_items, read_collected, write_counted, write_each,
@@ -37,12 +37,8 @@ pub fn serialize_slice<E: Env, T: PagableSerialize<E>, S: PagableSerializer<E>>(
     values: &[T],
     serializer: &mut S,
 ) -> Result<(), Error>
-    ensures ok { OnOk result (WritesSome (MeansList T.means.of values.now) (nesting (S.levels serializer.old) (E.parts (S.environment serializer.old))) (list (T.shape (S.environment serializer.old))) (S.out serializer.old) (S.out serializer.new)) }
-    ensures refused { IfErr result (Refused (MeansList T.means.of values.now) (nesting (S.levels serializer.old) (E.parts (S.environment serializer.old))) (list (T.shape (S.environment serializer.old)))) }
-    ensures only { IfErr result (long_or (memory_or T.write_causes.are)) }
-    ensures err { Grows (S.out serializer.old) (S.out serializer.new) }
-    ensures same_env { S.environment serializer.new ≡ S.environment serializer.old }
-    ensures same_levels { S.levels serializer.new ≡ S.levels serializer.old }
+    ensures { Wrote E.Env S.PagableSerializer (form (MeansList T.means.of values.now) (list (T.shape (S.environment serializer.old)))) (long_or (memory_or T.write_causes.are))
+        serializer.old serializer.new result }
 {
     write_counted(values.len(), values.iter(), serializer)
 }
@@ -76,8 +72,7 @@ impl<T: Drop> Collects<T> for Vec<T> {
     }
 
     fn put_in(&mut self, item: T) -> Result<(), Error> {
-        self.push(item)?;
-        Ok(())
+        Ok(self.push(item)?)
     }
 }
 
@@ -122,8 +117,7 @@ impl<T: MadeWith<Global> + Drop, const N: usize> Collects<T> for SmallVec<T, N> 
     }
 
     fn put_in(&mut self, item: T) -> Result<(), Error> {
-        self.push(item)?;
-        Ok(())
+        Ok(self.push(item)?)
     }
 }
 
@@ -214,10 +208,8 @@ impl<'de, E: Env, T: PagableDeserialize<'de, E> + Drop> PagableDeserialize<'de, 
         alloc: Global,
         deserializer: &mut D,
     ) -> Result<Self, Error> {
-        match <Vec<T>>::pagable_deserialize(alloc, deserializer) {
-            Ok(values) => Ok(values.into_boxed_slice()),
-            Err(refusal) => Err(refusal),
-        }
+        let values = <Vec<T>>::pagable_deserialize(alloc, deserializer)?;
+        Ok(values.into_boxed_slice())
     }
 }
 
