@@ -55,6 +55,7 @@ pub fn with_room<E: Env, T, C: Collects<T>, D: PagableDeserializer<E>>(
 
 /// Reads this many items and puts each in. A refusal is the first item's that is refused, or want of memory. Room is made
 /// by `with_room`; items that take no byte need room one by one.
+#[tactic(auto, using(crate::proofs::JsonSteps::no_room))]
 pub fn collect_items<
     'de,
     E: Env,

@@ -1,8 +1,8 @@
 //! Lists of each kind, slices and arrays, and the items of a list in turn.
 
-ghost use Rattle.std.specs.{Prelude.{◌≡◌, ◌++◌, ◌∷◌, [], OnOk, IfOk, IfErr, max, vec_len}, Vec.vec_capacity, Box.boxed_slice_items};
-ghost use Rattle.pagable_model.specs.{Writing.{nesting, WritesSomeAll, RefusedAll, Grows}, Gives.{memory_or, long_or}, Shape.{array, list, run}, Reading.{items, read}};
-ghost use Rattle.pagable_model.specs.{Standing.{handles_at, MovesOn, GivesSome}, Lifted.{MeanAll, MeansList}};
+ghost use Rattle.std.specs.{Prelude.{◌≡◌, ◌++◌, ◌∷◌, [], OnOk, IfErr, max}, Vec.vec_capacity, Box.boxed_slice_items};
+ghost use Rattle.pagable_model.specs.{Writing.{nesting, WritesSomeAll, RefusedAll, Grows}, Gives.{memory_or, long_or}, Shape.{array, list, run}};
+ghost use Rattle.pagable_model.specs.Lifted.{MeanAll, MeansList};
 ghost use Rattle.pagable_traits.specs.{JsonSteps.{Wrote, value as form}, Meanings.{seen_by, lists, lists_single}, OwnCauses.{reads_memory_or, writes_memory_or, writes_long_or}};
 
 use crate::impls::collecting::{
@@ -43,23 +43,6 @@ pub fn serialize_slice<E: Env, T: PagableSerialize<E>, S: PagableSerializer<E>>(
     write_counted(values.len(), values.iter(), serializer)
 }
 
-/// Reads this many items. A refusal is the first item's that is refused, or want of memory. As many places as bytes are
-/// left are reserved at most; items that take no byte grow the list one by one.
-pub fn read_items<'de, E: Env, T: PagableDeserialize<'de, E> + Drop, D: PagableDeserializer<E>>(
-    alloc: Global,
-    count: usize,
-    deserializer: &mut D,
-) -> Result<Vec<T>, Error>
-    ensures gives { GivesSome (memory_or T.read_causes.are) (λ v. MeanAll T.means.of v.items) (D.rest deserializer.new) result
-        (items (read (handles_at (D.levels deserializer.old) (E.parts (D.environment deserializer.old))) (T.shape (D.environment deserializer.old))) count (D.rest deserializer.old)) }
-    ensures count { IfOk result (λ v. vec_len v ≡ count) }
-    ensures moves { MovesOn (D.standing deserializer.old) (D.standing deserializer.new) }
-    ensures same_env { D.environment deserializer.new ≡ D.environment deserializer.old }
-    ensures same_levels { D.levels deserializer.new ≡ D.levels deserializer.old }
-{
-    collect_items(alloc, count, deserializer)
-}
-
 impl<T: Drop> Collects<T> for Vec<T> {
     ghost held = { λ v. v.items };
 
@@ -97,6 +80,7 @@ impl<E: Env, T: PagableSerialize<E>> PagableSerialize<E> for Vec<T> {
 impl<'de, E: Env, T: PagableDeserialize<'de, E> + Drop> PagableDeserialize<'de, E> for Vec<T> {
     ghost read_causes = { reads_memory_or T.read_causes };
 
+    #[tactic(auto, unfolding(pagable_model::specs::Reading::read, pagable_model::specs::Reading::read_with), using(crate::proofs::Collecting::lists))]
     fn pagable_deserialize<D: PagableDeserializer<E>>(
         alloc: Global,
         deserializer: &mut D,
@@ -147,6 +131,7 @@ impl<
 > PagableDeserialize<'de, E> for SmallVec<T, N> {
     ghost read_causes = { reads_memory_or T.read_causes };
 
+    #[tactic(auto, unfolding(pagable_model::specs::Reading::read, pagable_model::specs::Reading::read_with), using(crate::proofs::Collecting::lists))]
     fn pagable_deserialize<D: PagableDeserializer<E>>(
         alloc: Global,
         deserializer: &mut D,
@@ -237,12 +222,12 @@ impl<'de, E: Env, T: PagableDeserialize<'de, E> + Drop, const N: usize> PagableD
     for [T; N] {
     ghost read_causes = { reads_memory_or T.read_causes };
 
-    #[tactic(auto, unfolding(pagable_model::specs::Reading::read, pagable_model::specs::Reading::read_with), using(crate::proofs::Held::reads))]
+    #[tactic(auto, unfolding(pagable_model::specs::Reading::read, pagable_model::specs::Reading::read_with), using(crate::proofs::Collecting::lists))]
     fn pagable_deserialize<D: PagableDeserializer<E>>(
         alloc: Global,
         deserializer: &mut D,
     ) -> Result<Self, Error> {
-        let values: Vec<T> = read_items(alloc, N, deserializer)?;
+        let values: Vec<T> = collect_items(alloc, N, deserializer)?;
         Ok(<[T; N]>::try_from(values).unwrap())
     }
 }

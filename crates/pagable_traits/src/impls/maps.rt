@@ -150,8 +150,7 @@ impl<K: Eq + Hash + Drop, V: Drop> Collects<(K, V)> for IndexMap<K, V> {
     }
 
     fn put_in(&mut self, item: (K, V)) -> Result<(), Error> {
-        let (key, value) = item;
-        self.insert_full(key, value)?;
+        self.insert_full(item.0, item.1)?;
         Ok(())
     }
 }
