@@ -24,12 +24,9 @@ unfolding references_in
 items_listed meaning xs i new all le e = sym (append-nil new) ∙ (ap (λ ys. new ++ references_in (sequence (map meaning ys))) (sym (drop_all i xs le)) ∙ e)
 
 -- what was written of a value that means one thing lists its references
-written-listed : (M : Meaning ArcRef → Type 0) (own : Meaning ArcRef) (n : Nesting) (s : Shape) (old new : Out) → ((m : Meaning ArcRef) → M m → m ≡ own) → ListsInOrder n.parts s → WritesSome M n s old new → new.refs ≡ old.refs ++ references_in own
-written-listed M own n s old new single order w = rw w.wrote.grown (ap (λ k. old.refs ++ k) (order _ w.m w.wrote.bytes w.wrote.refs w.wrote.form ∙ ap references_in (single w.m w.is)))
-
 pub written_listed : {X : Type 0} (r : Result X Error) (M : Meaning ArcRef → Type 0) (own : Meaning ArcRef) (n : Nesting) (s : Shape) (old new : Out) → ((m : Meaning ArcRef) → M m → m ≡ own) → ListsInOrder n.parts s → OnOk r (WritesSome M n s old new)
     → OnOk r (new.refs ≡ old.refs ++ references_in own)
-written_listed (Ok x) M own n s old new single order w = written-listed M own n s old new single order w
+written_listed (Ok x) M own n s old new single order w = rw w.wrote.grown (ap (λ k. old.refs ++ k) (order _ w.m w.wrote.bytes w.wrote.refs w.wrote.form ∙ ap references_in (single w.m w.is)))
 written_listed (Err e) M own n s old new single order w = tt
 
 -- what is read as a reference is read as what stands for it

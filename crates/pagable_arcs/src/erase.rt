@@ -1,8 +1,9 @@
 //! What the three sorts of references have in common, whatever the type of their values.
 
 ghost use Rattle.std.specs.Prelude.{◌≡◌, ℕ, List, codes, refl};
-ghost use Rattle.pagable_model.specs.{declared.numbers.ArcRef.ArcRef as Reference, Reading.read, Standing.{handles_at, GivesSome, MovesOn}};
+ghost use Rattle.pagable_model.specs.{declared.numbers.ArcRef.ArcRef as Reference, Reading.read};
 ghost use Rattle.pagable_arcs.specs.References.{holding, holding_kind, holding_name, loose, loose_kind};
+ghost use Rattle.pagable_traits.specs.JsonSteps.{Reads};
 
 use crate::holding::{HoldingArc, holding_kind_of};
 use crate::loose::{PagableArc, loose_kind_of};
@@ -126,11 +127,7 @@ pub fn deserialize_arc<
     A: ArcErase<E> + PagableDeserialize<'de, E>,
     D: PagableDeserializer<E>,
 >(alloc: Global, deserializer: &mut D) -> Result<A, Error>
-    ensures gives { GivesSome A.read_causes.are A.means.of (D.rest deserializer.new) result
-        (read (handles_at (D.levels deserializer.old) (E.parts (D.environment deserializer.old))) (A.shape (D.environment deserializer.old)) (D.rest deserializer.old)) }
-    ensures moves { MovesOn (D.standing deserializer.old) (D.standing deserializer.new) }
-    ensures same_env { D.environment deserializer.new ≡ D.environment deserializer.old }
-    ensures same_levels { D.levels deserializer.new ≡ D.levels deserializer.old }
+    ensures { Reads E.Env D.PagableDeserializer A.read_causes.are A.means.of (λ c. read c (A.shape (D.environment deserializer.old))) deserializer.old deserializer.new result }
 {
     A::pagable_deserialize(alloc, deserializer)
 }

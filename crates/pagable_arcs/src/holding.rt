@@ -1,6 +1,6 @@
 //! References that hold their shared value.
 
-ghost use Rattle.std.{specs.Arc.arc_value, specs.Cmp.Rules.comparing, specs.Prelude.{◌≡◌, ◌≢◌, ⊤, nat_eq, Some, option_and_then, IfOk, IfErr}, proofs.Common.rules};
+ghost use Rattle.std.specs.{Arc.arc_value, Prelude.{◌≡◌, ◌≢◌, nat_eq, Some, option_and_then, IfOk, IfErr}};
 ghost use Rattle.pagable_model.specs.{Shape.reference as reference_shape, Reading.read, Standing.{handles_at, GivesSome, Is, MovesOn}};
 ghost use Rattle.pagable_arcs.specs.References.{holding_kind, holding, holding_means, reference_has_one_form, reads_unlent, unlent};
 ghost use Rattle.pagable_traits.specs.Meanings.{exactly};
@@ -11,15 +11,19 @@ use pagable_codec::{
 };
 use pagable_flavors::{Error, Reason};
 use pagable_traits::{Canonical, Carried, OneMeaning, PagableDeserialize, PagableSerialize};
-use std::alloc::{AllocError, Global};
+use std::alloc::Global;
 use std::ops::Deref;
 use std::sync::Arc as Shared;
 
 /// A reference that holds its shared value, so that looking at the value takes no lock. Where values of type `T` have the
-/// number `t`, its kind is `3t + 2` if it pins, and else `3t`.
+/// number `t`, its kind is `3t + 2` if it pins, and else `3t`. Two are equal where their values are, whichever nodes these
+/// stand in.
 #[derive(Drop)]
+#[derive_where(PartialEq, Eq; T)]
 pub struct HoldingArc<T, const PINS: bool> {
+    #[derive_where(skip)]
     node: NodeNumber,
+    #[derive_where(skip)]
     handle: HandleNumber,
     value: Shared<T>,
 }
@@ -110,37 +114,11 @@ impl<T, const PINS: bool> Deref for HoldingArc<T, PINS> {
     }
 }
 
-/// Two are equal where their values are, whichever nodes these stand in.
-impl<T: PartialEq, const PINS: bool> PartialEq for HoldingArc<T, PINS> {
-    ghost eq = { λ x y. T.eq (arc_value x.value) (arc_value y.value) };
-
-    ghost laws = { Prim.search (comparing, rules) };
-
-    fn eq(&self, other: &Self) -> bool {
-        *self.get() == *other.get()
-    }
-}
-
-impl<T: Eq, const PINS: bool> Eq for HoldingArc<T, PINS> {
-    ghost laws = { Prim.search (comparing, rules) };
-}
-
 /// A pin that is borrowed: its value stays in memory as long as the borrow.
+#[derive_where(Clone, Copy)]
 pub struct PinnedPagableArcBorrow<'a, T> {
     pub pin: &'a PinnedPagableArc<T>,
 }
-
-impl<'a, T> Clone for PinnedPagableArcBorrow<'a, T> {
-    ghost is_clone = { λ x y. y ≡ x };
-
-    ghost is_infallible = { λ _. ⊤ };
-
-    fn clone(&self) -> Result<Self, AllocError> {
-        Ok(*self)
-    }
-}
-
-impl<'a, T> Copy for PinnedPagableArcBorrow<'a, T> {}
 
 impl<'a, T> PinnedPagableArcBorrow<'a, T> {
     /// The shared value.
@@ -191,38 +169,31 @@ fn unlent_refusal() -> Error
     Error::Custom(Reason::new("no value of the reference's type is lent"))
 }
 
-/// Reads the next reference, of this sort, and takes the value that it is lent. Beside what the reference itself is refused
-/// by, it is refused for want of memory, and with Custom where no value of the type is lent.
-fn read_holding<E: Env, T: OfNode<E> + Drop, const PINS: bool, D: PagableDeserializer<E>>(
-    alloc: Global,
-    deserializer: &mut D,
-) -> Result<HoldingArc<T, PINS>, Error>
-    ensures lent { IfOk result (λ a. option_and_then T.held (D.lends deserializer.new (holding T.TYPE PINS a)) ≡ Some (arc_value a.value)) }
-    ensures gives { GivesSome unlent (Is (holding_means T.TYPE PINS)) (D.rest deserializer.new) result
-        (read (handles_at (D.levels deserializer.old) (E.parts (D.environment deserializer.old))) (reference_shape (holding_kind T.TYPE PINS)) (D.rest deserializer.old)) }
-    ensures moves { MovesOn (D.standing deserializer.old) (D.standing deserializer.new) }
-    ensures same_env { D.environment deserializer.new ≡ D.environment deserializer.old }
-    ensures same_levels { D.levels deserializer.new ≡ D.levels deserializer.old }
-{
-    let reference = read_reference(holding_kind_of::<E, T>(PINS), deserializer)?;
-    match deserializer.shared::<T>(alloc, reference)? {
-        None => Err(unlent_refusal()),
-        Some(value) => Ok(HoldingArc {
-            node: reference.node,
-            handle: reference.handle,
-            value,
-        }),
-    }
-}
-
 impl<'de, E: Env, T: OfNode<E> + Drop, const PINS: bool> PagableDeserialize<'de, E>
     for HoldingArc<T, PINS> {
     ghost read_causes = { reads_unlent };
 
+    /// Reads the next reference, of this sort, and takes the value that it is lent. Beside what the reference itself is
+    /// refused by, it is refused for want of memory, and with Custom where no value of the type is lent.
     fn pagable_deserialize<D: PagableDeserializer<E>>(
         alloc: Global,
         deserializer: &mut D,
-    ) -> Result<Self, Error> {
-        read_holding(alloc, deserializer)
+    ) -> Result<Self, Error>
+        ensures lent { IfOk result (λ a. option_and_then T.held (D.lends deserializer.new (holding T.TYPE PINS a)) ≡ Some (arc_value a.value)) }
+        ensures gives { GivesSome unlent (Is (holding_means T.TYPE PINS)) (D.rest deserializer.new) result
+            (read (handles_at (D.levels deserializer.old) (E.parts (D.environment deserializer.old))) (reference_shape (holding_kind T.TYPE PINS)) (D.rest deserializer.old)) }
+        ensures moves { MovesOn (D.standing deserializer.old) (D.standing deserializer.new) }
+        ensures same_env { D.environment deserializer.new ≡ D.environment deserializer.old }
+        ensures same_levels { D.levels deserializer.new ≡ D.levels deserializer.old }
+    {
+        let reference = read_reference(holding_kind_of::<E, T>(PINS), deserializer)?;
+        match deserializer.shared::<T>(alloc, reference)? {
+            None => Err(unlent_refusal()),
+            Some(value) => Ok(HoldingArc {
+                node: reference.node,
+                handle: reference.handle,
+                value,
+            }),
+        }
     }
 }

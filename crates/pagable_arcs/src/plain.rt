@@ -1,10 +1,10 @@
 //! Plain references: a reference by its kind alone, whatever the type of the value that it refers to is called.
 
-ghost use Rattle.std.specs.Prelude.{◌≡◌, ◌≢◌, OnOk, IfOk, IfErr, IfSome, IfNone};
+ghost use Rattle.std.specs.Prelude.{◌≡◌, ◌≢◌, IfOk, IfSome, IfNone};
 ghost use Rattle.pagable_model.specs.{Meaning.reference as meaning_of, Shape.reference as reference_shape, Gives.{memory, never}};
-ghost use Rattle.pagable_model.specs.{Reading.read, Standing.{handles_at, GivesSome, Is, MovesOn}, Writing.{nesting, Grows, Refused, WritesSome}};
+ghost use Rattle.pagable_model.specs.{Reading.read, Standing.{handles_at, GivesSome, Is, MovesOn}};
 ghost use Rattle.pagable_arcs.specs.{Plain.{plain, plain_means}, References.{reference_has_one_form}};
-ghost use Rattle.pagable_traits.specs.Meanings.{exactly};
+ghost use Rattle.pagable_traits.specs.{JsonSteps.{Wrote, value as form}, Meanings.exactly};
 
 use pagable_codec::{
     ArcRef, Env, HandleNumber, Kind, NodeNumber, PagableDeserializer, PagableSerializer,
@@ -19,12 +19,7 @@ pub fn write_reference<E: Env, S: PagableSerializer<E>>(
     reference: ArcRef,
     serializer: &mut S,
 ) -> Result<(), Error>
-    ensures ok { OnOk result (WritesSome (Is meaning_of reference) (nesting (S.levels serializer.old) (E.parts (S.environment serializer.old))) (reference_shape reference.kind.0) (S.out serializer.old) (S.out serializer.new)) }
-    ensures refused { IfErr result (Refused (Is meaning_of reference) (nesting (S.levels serializer.old) (E.parts (S.environment serializer.old))) (reference_shape reference.kind.0)) }
-    ensures only { IfErr result memory }
-    ensures err { Grows (S.out serializer.old) (S.out serializer.new) }
-    ensures same_env { S.environment serializer.new ≡ S.environment serializer.old }
-    ensures same_levels { S.levels serializer.new ≡ S.levels serializer.old }
+    ensures { Wrote E.Env S.PagableSerializer (form (Is meaning_of reference) (reference_shape reference.kind.0)) memory serializer.old serializer.new result }
 {
     serializer.serialize_arc(reference)
 }

@@ -29,8 +29,7 @@ pub trait Refers<E: Env>: OneMeaning<E> {
 
 impl<E: Env, T: OfNode<E>> Refers<E> for PagableArc<T> {
     fn list_references(&self, list: &mut Vec<ArcRef>) -> Result<(), Error> {
-        list.push(self.reference::<E>())?;
-        Ok(())
+        Ok(list.push(self.reference::<E>())?)
     }
 
     ghost in_order = { λ e. reference_in_order (E.parts e) (loose_kind T.TYPE) };
@@ -38,8 +37,7 @@ impl<E: Env, T: OfNode<E>> Refers<E> for PagableArc<T> {
 
 impl<E: Env, T: OfNode<E>, const PINS: bool> Refers<E> for HoldingArc<T, PINS> {
     fn list_references(&self, list: &mut Vec<ArcRef>) -> Result<(), Error> {
-        list.push(self.reference::<E>())?;
-        Ok(())
+        Ok(list.push(self.reference::<E>())?)
     }
 
     ghost in_order = { λ e. reference_in_order (E.parts e) (holding_kind T.TYPE PINS) };
@@ -47,8 +45,7 @@ impl<E: Env, T: OfNode<E>, const PINS: bool> Refers<E> for HoldingArc<T, PINS> {
 
 impl<E: Env, const KIND: u32> Refers<E> for OfKind<KIND> {
     fn list_references(&self, list: &mut Vec<ArcRef>) -> Result<(), Error> {
-        list.push(self.reference())?;
-        Ok(())
+        Ok(list.push(self.reference())?)
     }
 
     ghost in_order = { λ e. reference_in_order (E.parts e) KIND };

@@ -33,29 +33,18 @@ gives_text r rest last bytes after e f h = rw f (gives_bytes memory string_bytes
 
 -- ---- the faults of a text are faults of the input
 
-faults-after : {X Y : Type 0} (r : Result X Error) (f : X → Result Y Error) → IfErr r (λ e. is_reading_fault e ≡ true) → ((x : X) → IfErr (f x) (λ e. is_reading_fault e ≡ true)) → IfErr (r >>= f) (λ e. is_reading_fault e ≡ true)
-faults-after (Ok x) f h k = k x
-faults-after (Err e) f h k = h
-
-faults-if : {X : Type 0} (b : Bool) (x y : Result X Error) → IfErr x (λ e. is_reading_fault e ≡ true) → IfErr y (λ e. is_reading_fault e ≡ true) → IfErr (if b then x else y) (λ e. is_reading_fault e ≡ true)
-faults-if true x y h k = h
-faults-if false x y h k = k
-
-faults-varint : (more last : ℕ) (bytes : List ℕ) → IfErr (varint_at more last bytes) (λ e. is_reading_fault e ≡ true)
+faults-varint : (more last : ℕ) (bytes : List ℕ) (e : Error) → varint_at more last bytes ≡ Err e → is_reading_fault e ≡ true
 unfolding varint_at
-faults-varint zero last [] = refl
-faults-varint (suc more) last [] = refl
-faults-varint zero last (b ∷ rest) = faults-if (nat_le b last) _ _ tt refl
-faults-varint (suc more) last (b ∷ rest) = faults-if (nat_lt b 128) _ _ tt (faults-after (varint_at more last rest) _ (faults-varint more last rest) (λ high. tt))
+faults-varint zero last [] e h = grind arith
+faults-varint (suc more) last [] e h = grind arith
+faults-varint zero last (b ∷ rest) e h = grind arith
+faults-varint (suc more) last (b ∷ rest) e h = grind (arith, faults-varint more last rest)
 
-faults-text : (bytes : List ℕ) → IfErr (text_at bytes) (λ e. is_reading_fault e ≡ true)
+faults-text : (bytes : List ℕ) (e : Error) → text_at bytes ≡ Err e → is_reading_fault e ≡ true
 unfolding text_at length_at
-faults-text bytes =
-    faults-after (length_at bytes) _
-    (faults-after (varint_at 9 1 bytes) _ (faults-varint 9 1 bytes) (λ n. faults-if (nat_le n.0 longest) _ _ tt refl))
-    (λ n. faults-after (bytes_at n.0 n.1) checked_text (faults-if (nat_lt (length n.1) n.0) _ _ refl tt) (λ t. faults-if (is_utf8 t.0) _ _ tt refl))
+faults-text bytes e h = grind (arith, faults-varint)
 
 -- want of memory, or a fault of the input: a text is never refused as a pattern is
 pub text_not_refused : {X : Type 0} (view : X → List ℕ × List ℕ) (r : Result X Error) (bytes : List ℕ) → Gives memory view r (text_at bytes) → IfErr r (λ e. e ≢ Error.RegexRefused)
 text_not_refused view (Ok x) bytes h = tt
-text_not_refused view (Err e) bytes h = λ is. let fault = faults-text bytes in grind (arith, nat_tests, h, fault, is)
+text_not_refused view (Err e) bytes h = λ is. let fault = faults-text bytes e in grind (arith, nat_tests, h, fault, is)

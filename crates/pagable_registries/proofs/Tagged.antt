@@ -46,7 +46,7 @@ refused_tag r M x tag n written known body h = err_along r h (λ e k. elim k [
   | inr short ↦ memory_refuses e (MeansTagged tag (M.of x)) n (tagged written known body) short.1
 ])
 
-pub ruleset writes = (ok_along, writes_tagged, refused_body)
+pub ruleset writes = (ok_along, writes_tagged, refused_body, refused_tag)
 
 -- ---- the last registration of a tag
 

@@ -1,5 +1,5 @@
 -- What `regex` builds of a text, and why it builds nothing.
-use Rattle.std.{specs.Prelude.{◌≡◌, ◌≢◌, ◌⊎◌, ℕ, List, true, refl, Result, Ok}, proofs.Common.{subst, sym, inl, inr}}
+use Rattle.std.{specs.Prelude.{◌≡◌, ◌≢◌, ◌⊎◌, ℕ, List, true, refl, Result, Ok}, proofs.Common.{inl, inr}}
 use Rattle.pagable_traits.specs.OwnCauses.{ReadCauses}
 use Rattle.regex.specs.declared.string.regex.Regex.{Regex}
 use Rattle.pagable_model.specs.{declared.error.Error.Error, declared.numbers.ArcRef.ArcRef, Meaning.{Meaning, pattern}, Refusals.is_own_reading}
@@ -28,10 +28,8 @@ IsRefusedPattern text e = (e ≡ errors.OutOfMemory) ⊎ ((e ≡ errors.RegexRef
 
 -- the refusal for a cause of `regex`
 abbrev pub refusal_of : Cause → Error
-refusal_of (causes.Syntax e) = errors.RegexRefused
-refusal_of causes.CompiledTooBig = errors.RegexRefused
-refusal_of causes.Internal = errors.RegexRefused
 refusal_of causes.OutOfMemory = errors.OutOfMemory
+refusal_of _ = errors.RegexRefused
 
 -- reading gives a pattern, and `regex` may refuse its text
 pub record ReadsNoPattern {R : Type 0} (read : Result (Meaning ArcRef × R) Error) : Type 0 where
@@ -45,8 +43,8 @@ abbrev pub pattern_causes : Error → Type 0
 pattern_causes e = (e ≡ errors.OutOfMemory) ⊎ (e ≡ errors.RegexRefused)
 
 pub pattern_own : (e : Error) → pattern_causes e → is_own_reading e ≡ true
-pattern_own e (inl h) = let P : Error → Type 0 = λ x. is_own_reading x ≡ true in subst P (sym h) refl
-pattern_own e (inr h) = let P : Error → Type 0 = λ x. is_own_reading x ≡ true in subst P (sym h) refl
+pattern_own e (inl h) = rw h refl
+pattern_own e (inr h) = rw h refl
 
 abbrev pub reads_pattern : ReadCauses
 reads_pattern = record { are = pattern_causes; own = pattern_own }

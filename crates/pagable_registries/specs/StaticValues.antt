@@ -21,15 +21,11 @@ static_is_read parts meaning holds_none registry = throughout-alone IsReadable p
 -- what is lifted, and loses its references again, is as it was
 plain-lifted : (A : Type 0) (m : Meaning ⊥) → plain {A = A} (lifted m) ≡ m
 unfolding plain rename
-plain-lifted A (number n) = refl
-plain-lifted A (integer z) = refl
-plain-lifted A (text t) = refl
-plain-lifted A (pattern t) = refl
-plain-lifted A none = refl
 plain-lifted A (pair a b) = rw (plain-lifted A a, plain-lifted A b) refl
 plain-lifted A (variant n a) = rw (plain-lifted A a) refl
 plain-lifted A (reference a) = absurd a
 plain-lifted A (followed kind a) = rw (plain-lifted A a) refl
+plain-lifted A _ = refl
 
 pub static_is_same : {T : Type 0} (eq : T → T → Bool) (meaning : T → Meaning ⊥) → ((x y : T) → IsTrue (eq x y) → meaning x ≡ meaning y) → ((x y : T) → meaning x ≡ meaning y → IsTrue (eq x y))
     → (x y : T) → eq x y ≡ same_key {A = ArcRef} (lifted (meaning x)) (lifted (meaning y))

@@ -1,12 +1,12 @@
 //! Regular expressions beside their texts.
 
-ghost use Rattle.std.{specs.Prelude.{◌≡◌, ◌≢◌, ℕ, List, IfOk, IfErr, OnOk}, specs.String.string_bytes, specs.Str.bytes_eq, specs.Cmp.Rules.{comparing, hashing}, proofs.Common.rules};
+ghost use Rattle.std.{specs.Prelude.{◌≡◌, ◌≢◌, ℕ, List, IfOk, IfErr}, specs.String.string_bytes, specs.Str.bytes_eq, specs.Cmp.Rules.{comparing, hashing}, proofs.Common.rules};
 ghost use Rattle.pagable_model.specs.{Gives.{memory, long_or}, Meaning.pattern, OneForm.{basic_has_one_form, basic_refers_to_nothing}, Patterns.pattern_is_same};
-ghost use Rattle.pagable_model.specs.{Reading.read, Standing.{handles_at, Is, MovesOn, GivesSome}, Writing.{nesting, WritesSome, Refused, Grows}, declared.error.Error.TheVariants.RegexRefused};
+ghost use Rattle.pagable_model.specs.{Reading.read, Standing.{handles_at, Is, MovesOn, GivesSome}, declared.error.Error.TheVariants.RegexRefused};
 ghost use Rattle.pagable_registries.specs.Building.{IsBuiltFrom, IsRefusedPattern, refusal_of, pattern_causes, reads_pattern, ReadsNoPattern};
 ghost use Rattle.std.specs.Hash as fed;
 ghost use Rattle.pagable_model.specs.Shape as shapes;
-ghost use Rattle.pagable_traits.specs.{Meanings.{exactly}, OwnCauses.{writes_memory, writes_long_or}};
+ghost use Rattle.pagable_traits.specs.{JsonSteps.{Wrote, value as form}, Meanings.{exactly}, OwnCauses.{writes_memory, writes_long_or}};
 
 use pagable_codec::{Env, PagableDeserializer, PagableSerializer, Reader};
 use pagable_flavors::Error;
@@ -21,6 +21,7 @@ use std::marker::Model;
 
 /// A regular expression beside the text that it was built of, with the options that stand in the text alone. It is written
 /// as its text, and built anew when that is read. Two are equal where their texts are.
+#[derive(Drop)]
 pub struct SavedRegex {
     text: String,
     built: Regex,
@@ -33,15 +34,6 @@ impl Model for SavedRegex {
     ghost view = { λ r. string_bytes r.text };
 
     ghost invariant = { λ r. IsBuiltFrom (string_bytes r.text) r.built };
-}
-
-impl Drop for SavedRegex {
-    fn drop(self) {
-        let SavedRegex {
-            text: _text,
-            built: _built,
-        } = self;
-    }
 }
 
 /// The refusal for a cause of `regex`: RegexRefused for each but want of memory.
@@ -60,10 +52,7 @@ fn build(alloc: Global, text: &str) -> Result<Regex, Error>
     ensures built { IfOk result (IsBuiltFrom text.now) }
     ensures refused { IfErr result (IsRefusedPattern text.now) }
 {
-    match Regex::new(alloc, text) {
-        Ok(built) => Ok(built),
-        Err(cause) => Err(refusal(cause)),
-    }
+    Regex::new(alloc, text).map_err(refusal)
 }
 
 impl SavedRegex {
@@ -145,12 +134,7 @@ impl<E: Env> PagableKey<E> for SavedRegex {
 /// want of memory alone.
 #[tactic(auto, using(pagable_codec::proofs::Writing::parts, crate::proofs::Patterns::writes_pattern, crate::proofs::Patterns::refused_pattern))]
 fn write_text<E: Env, S: PagableSerializer<E>>(text: &str, serializer: &mut S) -> Result<(), Error>
-    ensures ok { OnOk result (WritesSome (Is pattern text.now) (nesting (S.levels serializer.old) (E.parts (S.environment serializer.old))) shapes.pattern (S.out serializer.old) (S.out serializer.new)) }
-    ensures refused { IfErr result (Refused (Is pattern text.now) (nesting (S.levels serializer.old) (E.parts (S.environment serializer.old))) shapes.pattern) }
-    ensures only { IfErr result (long_or memory) }
-    ensures err { Grows (S.out serializer.old) (S.out serializer.new) }
-    ensures same_env { S.environment serializer.new ≡ S.environment serializer.old }
-    ensures same_levels { S.levels serializer.new ≡ S.levels serializer.old }
+    ensures { Wrote E.Env S.PagableSerializer (form (Is pattern text.now) shapes.pattern) (long_or memory) serializer.old serializer.new result }
 {
     serializer.serde().write_str(text)
 }

@@ -1,21 +1,21 @@
 //! Static values: they stand in a registry that the environment holds, and are written as their index there. `T` is the
 //! reference to what is static, as `&'static str`: nothing is proved yet of a `&'static T` with a type parameter `T`.
 
-ghost use Rattle.std.{specs.Prelude.{◌≡◌, ◌<◌, ◌≤◌, ◌↔◌, ⊤, List, length, map, Option, Some, Err, OnOk, IfOk, IfErr, IfSome, IfNone, IsTrue, vec_len}, specs.{Int.w32, List.slice_get}};
-ghost use Rattle.std.{specs.List.Sorted.{IsPermutation, IsSorted, IsStable}, specs.Cmp.Rules.{comparing, hashing}, proofs.Common.rules};
+ghost use Rattle.std.specs.{Prelude.{◌≡◌, ◌<◌, ◌≤◌, ◌↔◌, ⊤, List, length, map, Option, Some, Err, OnOk, IfOk, IfErr, IfSome, IfNone, IsTrue, vec_len}, List.slice_get};
+ghost use Rattle.std.specs.List.Sorted.{IsPermutation, IsSorted, IsStable};
 ghost use Rattle.pagable_model.specs.{Statics.{HasEqual, NoEqualBelow, StandsAt, meanings_of, unregistered}, Basic.longest, Canonical.HasNoReference, Gives.Gives};
-ghost use Rattle.pagable_model.specs.{Gives.{never, memory_or}, Numbers.unsigned_at, Meaning.{Meaning, lifted}, Reading.{bytes_of, read, registered}, Shape.static_value, Standing.{handles_at, GivesSome, Is, MovesOn}};
+ghost use Rattle.pagable_model.specs.{Gives.{never, memory_or}, Meaning.{Meaning, lifted}, Reading.{read, registered}, Shape.static_value, Standing.{handles_at, GivesSome, Is, MovesOn}};
 ghost use Rattle.pagable_model.specs.{Writing.{nesting, WritesSome, Refused, Grows}, Lengths.long_or_memory};
 ghost use Rattle.pagable_registries.specs.StaticValues.{static_is_same, static_refers_to_nothing, writes_unregistered};
 ghost use Rattle.pagable_traits.specs.{Meanings.{exactly}, OwnCauses.{writes_memory_or}};
 
-use pagable_codec::{Env, PagableDeserializer, PagableSerializer, Reader};
+use pagable_codec::{Env, PagableDeserializer, PagableSerializer};
 use pagable_flavors::Error;
 use pagable_traits::keys::PagableKey;
 use pagable_traits::traits::{Carried, OneMeaning, PagableDeserialize, PagableSerialize};
 use std::alloc::{AllocError, Global};
 use std::fmt;
-use std::hash::{Hash, Hasher};
+use std::hash::Hash;
 use std::marker::Model;
 use std::ops::Deref;
 
@@ -23,8 +23,10 @@ use std::ops::Deref;
 const MOST_ENTRIES: usize = 4_294_967_295;
 
 /// A value, and its index in the registry that it stands in. Two entries are equal where their values are.
+#[derive_where(PartialEq, Eq, Hash; T)]
 pub struct StaticValueEntry<T> {
     pub value: T,
+    #[derive_where(skip)]
     pub index: u32,
 }
 
@@ -40,32 +42,9 @@ impl<T: Copy> Clone for StaticValueEntry<T> {
 
 impl<T: Copy> Copy for StaticValueEntry<T> {}
 
-impl<T: PartialEq> PartialEq for StaticValueEntry<T> {
-    ghost eq = { λ x y. T.eq x.value y.value };
-
-    ghost laws = { Prim.search (comparing, rules) };
-
-    fn eq(&self, other: &Self) -> bool {
-        self.value == other.value
-    }
-}
-
-impl<T: Eq> Eq for StaticValueEntry<T> {
-    ghost laws = { Prim.search (comparing, rules) };
-}
-
-impl<T: Hash> Hash for StaticValueEntry<T> {
-    ghost hash_input = { λ x. T.hash_input x.value };
-
-    ghost respects_eq = { Prim.search (hashing, rules) };
-
-    fn hash<H: Hasher>(&self, state: &mut H) {
-        self.value.hash(state);
-    }
-}
-
 /// A value that is written as its index. Two are equal where their values are, whatever their indices.
 #[derive(PartialEq, Eq, Hash)]
+#[derive_where(Clone, Copy; T: Copy)]
 pub struct StaticValue<T>(pub StaticValueEntry<T>);
 
 impl<T: Copy> StaticValue<T> {
@@ -76,18 +55,6 @@ impl<T: Copy> StaticValue<T> {
         self.0.value
     }
 }
-
-impl<T: Copy> Clone for StaticValue<T> {
-    ghost is_clone = { λ x y. y ≡ x };
-
-    ghost is_infallible = { λ _. ⊤ };
-
-    fn clone(&self) -> Result<Self, AllocError> {
-        Ok(*self)
-    }
-}
-
-impl<T: Copy> Copy for StaticValue<T> {}
 
 impl<T> Deref for StaticValue<T> {
     type Target = T;
@@ -316,23 +283,12 @@ impl<E: Env, T: HasStaticValueRegistry<E>> PagableSerialize<E> for StaticValue<T
     }
 }
 
-/// Reads an index.
-#[tactic(auto, using(pagable_codec::proofs::Reading::part_read))]
-fn read_index<E: Env, D: PagableDeserializer<E>>(deserializer: &mut D) -> Result<u32, Error>
-    ensures gives { Gives never (λ n. (n, D.rest deserializer.new)) result (bytes_of (unsigned_at w32) (λ n. n) (D.rest deserializer.old)) }
-    ensures moves { MovesOn (D.standing deserializer.old) (D.standing deserializer.new) }
-    ensures same_env { D.environment deserializer.new ≡ D.environment deserializer.old }
-    ensures same_levels { D.levels deserializer.new ≡ D.levels deserializer.old }
-{
-    deserializer.serde().read_u32()
-}
-
 impl<'de, E: Env, T: HasStaticValueRegistry<E>> PagableDeserialize<'de, E> for StaticValue<T> {
     /// Reads an index, and gives the value that the environment's registry has under it, with that index: so it can be
     /// written again. BadStaticIndex where there is none.
     #[tactic(auto, unfolding(pagable_model::specs::Reading::read, pagable_model::specs::Reading::read_with), using(pagable_codec::proofs::Reading::parts))]
     fn pagable_deserialize<D: PagableDeserializer<E>>(
-        _alloc: Global,
+        alloc: Global,
         deserializer: &mut D,
     ) -> Result<Self, Error>
         ensures gives { GivesSome never (Is (λ v. lifted (T.plain v.0.value))) (D.rest deserializer.new) result
@@ -342,7 +298,7 @@ impl<'de, E: Env, T: HasStaticValueRegistry<E>> PagableDeserialize<'de, E> for S
         ensures same_levels { D.levels deserializer.new ≡ D.levels deserializer.old }
         ensures stands { IfOk result (λ v. StandsAt T.plain (T.known (D.environment deserializer.old)) v.0.value v.0.index) }
     {
-        let index = read_index(deserializer)?;
+        let index = <u32 as PagableDeserialize<E>>::pagable_deserialize(alloc, deserializer)?;
         let value = registered_value::<E, T>(index, deserializer.env())?;
         Ok(value)
     }

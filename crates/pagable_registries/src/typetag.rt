@@ -237,10 +237,7 @@ fn registered_reader<E: Env, T: HasTypetagRegistry<E>>(tag: &str, env: &E) -> Op
     ensures own { IfSome result (λ f. T.Reader.own_tag f ≡ tag.now) }
     ensures missing { IfNone result (NoneFor tag.now (T.readers env.now)) }
 {
-    match T::typetag_registry(env).reader_of(tag) {
-        None => None,
-        Some(reader) => Some(*reader),
-    }
+    T::typetag_registry(env).reader_of(tag).copied()
 }
 
 /// Reads a tag, and then the body by the reader that the environment's registry has for the tag, the last one that was

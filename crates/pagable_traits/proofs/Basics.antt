@@ -2,7 +2,7 @@
 use Rattle.pagable_traits.proofs.Words.{to_z-of_z, never, ℤ, Bool, String, string_bytes, ◌≡◌, ℕ, ◌++◌, List, [], refl, Result, Ok, Err, OnOk, IfErr, Error, ArcRef, bool_at, char_at, text_at}
 use Rattle.pagable_traits.proofs.Words.{Gives, Extends, memory, Meaning, number, integer, Read, unsigned_at, signed_at, Rest, Context, bytes_of, read, read_with, Shape, signed, Out, Nesting, FormAt}
 use Rattle.pagable_traits.proofs.Words.{WritesSome, Refused, Grows, Answer, GivesSome, Is, writes_is, writes_bytes, grows_bytes, refused_memory}
-use Rattle.pagable_traits.proofs.Words.{◌+◌, ◌*◌, ◌≤◌, ◌^◌, arith, ap, ◌∙◌, w32, w64, handles_at}
+use Rattle.pagable_traits.proofs.Words.{◌+◌, ◌*◌, ◌≤◌, ◌^◌, arith, ap, ◌∙◌, w32, w64}
 use Rattle.std.{proofs.{Common.◌/◌, lemmas.Bool.le-ltb, lemmas.Nat.mod_below}, specs.{Duration.as_nanos, declared.time.Duration.Duration}}
 use Rattle.pagable_model.specs.{Basic.{nanos_of_second, duration_form, duration_at}, Carried.of_duration, Form.duration-form, Shape.duration, Spans.{seconds_of, nanos_of, of_span}}
 use Rattle.std.{specs.Int.{Width, w8}, specs.Char.IsScalar, proofs.Common.{◌<◌, rules, FitsSigned, to_z, of_z}}
@@ -43,7 +43,12 @@ module _ (context : Context Answer ArcRef) (rest last : Rest Answer) (given used
   unfolding read read_with
   reads_text r told = reads memory string_bytes text text_at r told
 
-pub ruleset read_steps = (reads_unsigned, reads_signed, reads_flag, reads_letter)
+  pub reads_span : (r : Result Duration Error) → Gives never (λ d. ((seconds_of d, nanos_of d), left used)) r (duration_at (left given))
+      → GivesSome never (Is of_span) last r (read context duration rest)
+  unfolding read read_with
+  reads_span r told = reads never (λ d. (seconds_of d, nanos_of d)) (λ p. of_duration p.0 p.1) duration_at r told
+
+pub ruleset read_steps = (reads_unsigned, reads_signed, reads_flag, reads_letter, reads_span)
 
 -- ---- writing
 
@@ -99,11 +104,6 @@ writes_span (Ok x) d n old last now w e f lt h =
     let below : nanos_of d < nanos_of_second = mod_below (as_nanos d) nanos_of_second (omega arith) in
     rw f (writes_is of_span d n duration old _ (writes_bytes n duration (of_span d) old w (duration_form (seconds_of d) (nanos_of d)) (h ∙ ap (λ (b : List ℕ). b ++ duration_form (seconds_of d) (nanos_of d)) e) (duration-form _ (seconds_of d) (nanos_of d) lt below)))
 writes_span (Err e) d n old last now w same f lt h = tt
-
-pub gives_span : (levels : ℕ) (parts : ℕ → Shape) (r : Result Duration Error) (rest last : Rest Answer) (bytes after : List ℕ) → rest.bytes ≡ bytes → last ≡ record rest { bytes = after } → Gives never (λ d. ((seconds_of d, nanos_of d), after)) r (duration_at bytes)
-    → GivesSome never (Is of_span) last r (read (handles_at levels parts) duration rest)
-unfolding read read_with
-gives_span levels parts r rest last bytes after e f h = rw f (gives_bytes never (λ d. (seconds_of d, nanos_of d)) (λ p. of_duration p.0 p.1) duration_at r rest after (rw e h))
 
 pub span_overflows : (bytes mid after : List ℕ) (s n : ℕ) → unsigned_at w64 bytes ≡ Ok (s, mid) → unsigned_at w32 mid ≡ Ok (n, after) → 2 ^ 64 ≤ s + n / nanos_of_second → duration_at bytes ≡ Err Error.BadDuration
 unfolding duration_at

@@ -1,8 +1,8 @@
 -- Items that are put in one after another as they are read.
 use Rattle.pagable_traits.proofs.Words.{◌≡◌, subst, List, [], ◌∷◌, ◌++◌, length, refl, sym, ap, ◌∙◌, append_assoc, ℕ, zero, suc, Result, Ok, Err, append-nil, Error, ArcRef, ◌>>=◌, Meaning}
-use Rattle.pagable_traits.proofs.Words.{put_all, Shape, list, Rest, Gets, Context, items, counted, seen, read, read_with, GivesSome, MeanAll, mean-none, MeansList, PutInTurn, Collected, arith}
-use Rattle.pagable_traits.proofs.Items.{mean-length, mean_last}
-use Rattle.std.specs.{Prelude.{IfOk, vec_len}, declared.vec.Vec.Vec}
+use Rattle.pagable_traits.proofs.Words.{put_all, Rest, Gets, items, counted, seen, Gave, GivesSome, MeanAll, mean-none, PutInTurn, Collected, arith}
+use Rattle.pagable_traits.proofs.{Items.{mean-length, mean_last}, Words.moves_trans}
+use Rattle.std.specs.{Prelude.{vec_len, ◌≢◌}, Result.{IsOk, MatchResult}, declared.vec.Vec.Vec}
 
 pub collected_none : {T : Type 0} (M : T → Meaning ArcRef → Type 0) (puts : List T → T → List T → Type 0) (now : List T) → now ≡ [] → Collected M puts now []
 unfolding PutInTurn
@@ -33,9 +33,6 @@ collected_list M now ms c = rw (put-in-turn (λ ys y. ys ++ y ∷ []) [] c.xs no
 
 -- ---- what was read, seen as a whole
 
-pub gives_along : {X Y R : Type 0} (own : Error → Type 0) (P Q : X → Y → Type 0) (last : R) (r : Result X Error) (read : Result (Y × R) Error) → ((x : X) (y : Y) → P x y → Q x y) → GivesSome own P last r read → GivesSome own Q last r read
-gives_along own P Q last r read f g = grind arith
-
 pub gives-seen : {X Y Z R : Type 0} (own : Error → Type 0) (P : X → Y → Type 0) (Q : X → Z → Type 0) (view : Y → Z) (last : R) (r : Result X Error) (part : Result (Y × R) Error)
     → ((x : X) (y : Y) → P x y → Q x (view y)) → GivesSome own P last r part → GivesSome own Q last r (part >>= λ y. Ok (view y.0, y.1))
 gives-seen own P Q view last r part f g = grind arith
@@ -45,17 +42,16 @@ pub reads_items : {X A : Type 0} (own : Error → Type 0) (P : X → List (Meani
     → GivesSome own P last r (counted get rest) → GivesSome own Q last r (seen view (counted get) rest)
 reads_items own P Q view f r get rest last h = gives-seen own P Q view last r (counted get rest) f h
 
-pub reads_list : {X T A : Type 0} (own : Error → Type 0) (M : T → Meaning ArcRef → Type 0) (r : Result X Error) (held : X → List T) (context : Context A ArcRef) (s : Shape) (rest last : Rest A) → GivesSome own (λ x. Collected M (λ ys y zs. zs ≡ ys ++ y ∷ []) (held x)) last r (counted (read context s) rest)
-    → GivesSome own (λ x. MeansList M (held x)) last r (read context (list s) rest)
-unfolding read read_with
-reads_list own M r held context s rest last h = grind (arith, reads_items, collected_list)
-
 -- there are as many as were asked for
 items-length : {A X : Type 0} (get : Gets A X) (n : ℕ) (rest after : Rest A) (xs : List X) → items get n rest ≡ Ok (xs, after) → length xs ≡ n
 unfolding items
 items-length get zero rest after xs e = grind arith
 items-length get (suc n) rest after xs e = grind (arith, items-length get n)
 
-pub list_length : {T Z A : Type 0} (own : Error → Type 0) (M : T → Meaning ArcRef → Type 0) (r : Result (Vec T Z) Error) (get : Gets A (Meaning ArcRef)) (count : ℕ) (rest last : Rest A) → GivesSome own (λ v. Collected M (λ ys y zs. zs ≡ ys ++ y ∷ []) v.items) last r (items get count rest) → IfOk r (λ v. vec_len v ≡ count)
-list_length own M (Ok v) get count rest last g = v.ok.0 ∙ sym (mean-length (collected_list M v.items g.m g.is)) ∙ items-length get count rest last g.m g.gave
-list_length own M (Err e) get count rest last g = tt
+-- where so many items were collected, an array of so many is made of them
+pub array_made : {T Z A X Y : Type 0} (P : X → Type 0) (Q : Y → Type 0) (M : T → Meaning ArcRef → Type 0) (v : Vec T Z) (get : Gets A (Meaning ArcRef)) (count : ℕ) (rest last : Rest A)
+    (r : Result X Y) → Gave (Collected M (λ ys y zs. zs ≡ ys ++ y ∷ []) v.items) last (items get count rest) → MatchResult r (λ x. P x × (vec_len v ≡ count)) (λ y. Q y × (vec_len v ≢ count)) → IsOk r
+array_made P Q M v get count rest last (Ok x) g h = refl
+array_made P Q M v get count rest last (Err y) g h = absurd (h.1 (v.ok.0 ∙ sym (mean-length (collected_list M v.items g.m g.is)) ∙ items-length get count rest last g.m g.gave))
+
+pub ruleset lists = (collected_list, moves_trans)

@@ -134,3 +134,5 @@ either-memory e (inl h) = h
 either-memory e (inr h) = h
 
 pub ruleset no_memory = (read-no-memory, moves_trans)
+
+pub ruleset no_room = (read-no-room, moves_trans)

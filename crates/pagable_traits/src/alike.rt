@@ -46,9 +46,6 @@ impl<'de, E: Env, O: PagableDeserialize<'de, E>, X: ReadAs<Other = O>> PagableDe
         alloc: Global,
         deserializer: &mut D,
     ) -> Result<Self, Error> {
-        match <O as PagableDeserialize<E>>::pagable_deserialize(alloc, deserializer) {
-            Ok(value) => Ok(X::of_other(value)),
-            Err(refusal) => Err(refusal),
-        }
+        Ok(X::of_other(<O as PagableDeserialize<E>>::pagable_deserialize(alloc, deserializer)?))
     }
 }

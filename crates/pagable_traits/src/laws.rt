@@ -88,7 +88,8 @@ pub fn carried_types_are_read<
     E: Env,
     T: Carried<E>,
     X: Carried<E>,
-    K: PagableOrdKey<E> + Hash,
+    K: PagableOrdKey<E>,
+    H: PagableKey<E> + Hash,
     O: CarriedAs<Other = T>,
     const N: usize,
 >()
@@ -102,9 +103,11 @@ pub fn carried_types_are_read<
         ∷ ⟦<OnceLock<T> as Carried<E>>⟧.shape e ∷ ⟦<Vec<T> as Carried<E>>⟧.shape e ∷ ⟦<SmallVec<T, N> as Carried<E>>⟧.shape e
         ∷ ⟦<[T; N] as Carried<E>>⟧.shape e ∷ ⟦<BoxedSlice<T> as Carried<E>>⟧.shape e ∷ []) }
     ensures alike { (e : E) → IsReadThroughout (E.parts e) (T.shape e) → IsReadThroughout (E.parts e) (⟦<O as Carried<E>>⟧.shape e) }
-    ensures sets { (e : E) → IsReadThroughout (E.parts e) (K.shape e) → AreRead (E.parts e) (⟦<BTreeSet<K> as Carried<E>>⟧.shape e ∷ ⟦<IndexSet<K> as Carried<E>>⟧.shape e ∷ []) }
+    ensures sets { (e : E) → (IsReadThroughout (E.parts e) (K.shape e) → IsReadThroughout (E.parts e) (⟦<BTreeSet<K> as Carried<E>>⟧.shape e))
+        × (IsReadThroughout (E.parts e) (H.shape e) → IsReadThroughout (E.parts e) (⟦<IndexSet<H> as Carried<E>>⟧.shape e)) }
     ensures two { (e : E) → IsReadThroughout (E.parts e) (T.shape e) → IsReadThroughout (E.parts e) (X.shape e)
         → AreRead (E.parts e) (⟦<Result<T, X> as Carried<E>>⟧.shape e ∷ ⟦<(T, X) as Carried<E>>⟧.shape e ∷ ⟦<Thin<T, X> as Carried<E>>⟧.shape e ∷ []) }
-    ensures maps { (e : E) → IsReadThroughout (E.parts e) (K.shape e) → IsReadThroughout (E.parts e) (T.shape e)
-        → AreRead (E.parts e) (⟦<BTreeMap<K, T> as Carried<E>>⟧.shape e ∷ ⟦<IndexMap<K, T> as Carried<E>>⟧.shape e ∷ ⟦<HashMap<K, T> as Carried<E>>⟧.shape e ∷ []) }
+    ensures maps { (e : E) → IsReadThroughout (E.parts e) (T.shape e)
+        → (IsReadThroughout (E.parts e) (K.shape e) → IsReadThroughout (E.parts e) (⟦<BTreeMap<K, T> as Carried<E>>⟧.shape e))
+        × (IsReadThroughout (E.parts e) (H.shape e) → AreRead (E.parts e) (⟦<IndexMap<H, T> as Carried<E>>⟧.shape e ∷ ⟦<HashMap<H, T> as Carried<E>>⟧.shape e ∷ [])) }
 {}

@@ -20,7 +20,7 @@ pub trait Collects<T>: Sized {
     ghost puts: { List T → T → List T → Type 0 };
 
     // That it has room for so many items more, where it keeps room; a list for no others.
-    ghost has_room: { Self → ℕ → Type 0 };
+    ghost has_room: { Self → ℕ → Type 0 } = { λ c n. Unit {0} };
 
     /// Nothing, with room for so many items where it keeps room. Refused by want of memory alone.
     fn with_places(alloc: Global, places: usize) -> Result<Self, Error>
@@ -55,6 +55,7 @@ pub fn with_room<E: Env, T, C: Collects<T>, D: PagableDeserializer<E>>(
 
 /// Reads this many items and puts each in. A refusal is the first item's that is refused, or want of memory. Room is made
 /// by `with_room`; items that take no byte need room one by one.
+#[tactic(auto, using(crate::proofs::JsonSteps::no_room))]
 pub fn collect_items<
     'de,
     E: Env,

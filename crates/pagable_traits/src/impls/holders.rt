@@ -238,10 +238,8 @@ impl<
         alloc: Global,
         deserializer: &mut D,
     ) -> Result<Self, Error> {
-        match PagableDeserialize::pagable_deserialize(alloc, deserializer) {
-            Ok((header, items)) => Ok(Thin { header, items }),
-            Err(refusal) => Err(refusal),
-        }
+        let (header, items) = PagableDeserialize::pagable_deserialize(alloc, deserializer)?;
+        Ok(Thin { header, items })
     }
 }
 
@@ -355,10 +353,7 @@ impl<'de, E: Env> PagableDeserialize<'de, E> for AtomicI64 {
         alloc: Global,
         deserializer: &mut D,
     ) -> Result<Self, Error> {
-        match PagableDeserialize::<E>::pagable_deserialize(alloc, deserializer) {
-            Ok(held) => Ok(AtomicI64::new(held)),
-            Err(refusal) => Err(refusal),
-        }
+        Ok(AtomicI64::new(PagableDeserialize::<E>::pagable_deserialize(alloc, deserializer)?))
     }
 }
 
@@ -397,9 +392,6 @@ impl<'de, E: Env, T: PagableDeserialize<'de, E> + Drop> PagableDeserialize<'de, 
         alloc: Global,
         deserializer: &mut D,
     ) -> Result<Self, Error> {
-        match PagableDeserialize::<E>::pagable_deserialize(alloc, deserializer) {
-            Ok(held) => Ok(lock_of(held)),
-            Err(refusal) => Err(refusal),
-        }
+        Ok(lock_of(PagableDeserialize::<E>::pagable_deserialize(alloc, deserializer)?))
     }
 }

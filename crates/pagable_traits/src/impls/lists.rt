@@ -1,9 +1,9 @@
 //! Lists of each kind, slices and arrays, and the items of a list in turn.
 
-ghost use Rattle.std.specs.{Prelude.{◌≡◌, ◌++◌, ◌∷◌, [], OnOk, IfOk, IfErr, max, vec_len}, Vec.vec_capacity, Box.boxed_slice_items};
-ghost use Rattle.pagable_model.specs.{Writing.{nesting, WritesSome, WritesSomeAll, Refused, RefusedAll, Grows}, Gives.{memory_or, long_or}, Shape.{array, list, run}, Reading.{items, read}};
-ghost use Rattle.pagable_model.specs.{Standing.{handles_at, MovesOn, GivesSome}, Lifted.{MeanAll, MeansList}};
-ghost use Rattle.pagable_traits.specs.{Meanings.{seen_by, lists, lists_single}, OwnCauses.{reads_memory_or, writes_memory_or, writes_long_or}};
+ghost use Rattle.std.specs.{Prelude.{◌≡◌, ◌++◌, ◌∷◌, [], OnOk, IfErr, max}, Vec.vec_capacity, Box.boxed_slice_items};
+ghost use Rattle.pagable_model.specs.{Writing.{nesting, WritesSomeAll, RefusedAll, Grows}, Gives.{memory_or, long_or}, Shape.{array, list, run}};
+ghost use Rattle.pagable_model.specs.Lifted.{MeanAll, MeansList};
+ghost use Rattle.pagable_traits.specs.{JsonSteps.{Wrote, value as form}, Meanings.{seen_by, lists, lists_single}, OwnCauses.{reads_memory_or, writes_memory_or, writes_long_or}};
 
 use crate::impls::collecting::{
     Collects, collect_items, read_collected, write_counted, write_each,
@@ -37,31 +37,10 @@ pub fn serialize_slice<E: Env, T: PagableSerialize<E>, S: PagableSerializer<E>>(
     values: &[T],
     serializer: &mut S,
 ) -> Result<(), Error>
-    ensures ok { OnOk result (WritesSome (MeansList T.means.of values.now) (nesting (S.levels serializer.old) (E.parts (S.environment serializer.old))) (list (T.shape (S.environment serializer.old))) (S.out serializer.old) (S.out serializer.new)) }
-    ensures refused { IfErr result (Refused (MeansList T.means.of values.now) (nesting (S.levels serializer.old) (E.parts (S.environment serializer.old))) (list (T.shape (S.environment serializer.old)))) }
-    ensures only { IfErr result (long_or (memory_or T.write_causes.are)) }
-    ensures err { Grows (S.out serializer.old) (S.out serializer.new) }
-    ensures same_env { S.environment serializer.new ≡ S.environment serializer.old }
-    ensures same_levels { S.levels serializer.new ≡ S.levels serializer.old }
+    ensures { Wrote E.Env S.PagableSerializer (form (MeansList T.means.of values.now) (list (T.shape (S.environment serializer.old)))) (long_or (memory_or T.write_causes.are))
+        serializer.old serializer.new result }
 {
     write_counted(values.len(), values.iter(), serializer)
-}
-
-/// Reads this many items. A refusal is the first item's that is refused, or want of memory. As many places as bytes are
-/// left are reserved at most; items that take no byte grow the list one by one.
-pub fn read_items<'de, E: Env, T: PagableDeserialize<'de, E> + Drop, D: PagableDeserializer<E>>(
-    alloc: Global,
-    count: usize,
-    deserializer: &mut D,
-) -> Result<Vec<T>, Error>
-    ensures gives { GivesSome (memory_or T.read_causes.are) (λ v. MeanAll T.means.of v.items) (D.rest deserializer.new) result
-        (items (read (handles_at (D.levels deserializer.old) (E.parts (D.environment deserializer.old))) (T.shape (D.environment deserializer.old))) count (D.rest deserializer.old)) }
-    ensures count { IfOk result (λ v. vec_len v ≡ count) }
-    ensures moves { MovesOn (D.standing deserializer.old) (D.standing deserializer.new) }
-    ensures same_env { D.environment deserializer.new ≡ D.environment deserializer.old }
-    ensures same_levels { D.levels deserializer.new ≡ D.levels deserializer.old }
-{
-    collect_items(alloc, count, deserializer)
 }
 
 impl<T: Drop> Collects<T> for Vec<T> {
@@ -76,8 +55,7 @@ impl<T: Drop> Collects<T> for Vec<T> {
     }
 
     fn put_in(&mut self, item: T) -> Result<(), Error> {
-        self.push(item)?;
-        Ok(())
+        Ok(self.push(item)?)
     }
 }
 
@@ -102,6 +80,7 @@ impl<E: Env, T: PagableSerialize<E>> PagableSerialize<E> for Vec<T> {
 impl<'de, E: Env, T: PagableDeserialize<'de, E> + Drop> PagableDeserialize<'de, E> for Vec<T> {
     ghost read_causes = { reads_memory_or T.read_causes };
 
+    #[tactic(auto, unfolding(pagable_model::specs::Reading::read, pagable_model::specs::Reading::read_with), using(crate::proofs::Collecting::lists))]
     fn pagable_deserialize<D: PagableDeserializer<E>>(
         alloc: Global,
         deserializer: &mut D,
@@ -122,8 +101,7 @@ impl<T: MadeWith<Global> + Drop, const N: usize> Collects<T> for SmallVec<T, N> 
     }
 
     fn put_in(&mut self, item: T) -> Result<(), Error> {
-        self.push(item)?;
-        Ok(())
+        Ok(self.push(item)?)
     }
 }
 
@@ -153,6 +131,7 @@ impl<
 > PagableDeserialize<'de, E> for SmallVec<T, N> {
     ghost read_causes = { reads_memory_or T.read_causes };
 
+    #[tactic(auto, unfolding(pagable_model::specs::Reading::read, pagable_model::specs::Reading::read_with), using(crate::proofs::Collecting::lists))]
     fn pagable_deserialize<D: PagableDeserializer<E>>(
         alloc: Global,
         deserializer: &mut D,
@@ -214,10 +193,8 @@ impl<'de, E: Env, T: PagableDeserialize<'de, E> + Drop> PagableDeserialize<'de, 
         alloc: Global,
         deserializer: &mut D,
     ) -> Result<Self, Error> {
-        match <Vec<T>>::pagable_deserialize(alloc, deserializer) {
-            Ok(values) => Ok(values.into_boxed_slice()),
-            Err(refusal) => Err(refusal),
-        }
+        let values = <Vec<T>>::pagable_deserialize(alloc, deserializer)?;
+        Ok(values.into_boxed_slice())
     }
 }
 
@@ -245,12 +222,12 @@ impl<'de, E: Env, T: PagableDeserialize<'de, E> + Drop, const N: usize> PagableD
     for [T; N] {
     ghost read_causes = { reads_memory_or T.read_causes };
 
-    #[tactic(auto, unfolding(pagable_model::specs::Reading::read, pagable_model::specs::Reading::read_with), using(crate::proofs::Held::reads))]
+    #[tactic(auto, unfolding(pagable_model::specs::Reading::read, pagable_model::specs::Reading::read_with), using(crate::proofs::Collecting::lists))]
     fn pagable_deserialize<D: PagableDeserializer<E>>(
         alloc: Global,
         deserializer: &mut D,
     ) -> Result<Self, Error> {
-        let values: Vec<T> = read_items(alloc, N, deserializer)?;
+        let values: Vec<T> = collect_items(alloc, N, deserializer)?;
         Ok(<[T; N]>::try_from(values).unwrap())
     }
 }

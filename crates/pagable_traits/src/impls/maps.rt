@@ -42,8 +42,6 @@ impl<K: Ord + Drop, V: Drop> Collects<(K, V)> for BTreeMap<K, V> {
 
     ghost puts = { λ es e fs. fs ≡ insert_entry K.cmp es e.0 e.1 };
 
-    ghost has_room = { λ m n. Unit {0} };
-
     fn with_places(alloc: Global, _places: usize) -> Result<Self, Error> {
         Ok(BTreeMap::new(alloc))
     }
@@ -96,8 +94,6 @@ impl<T: Ord + Drop> Collects<T> for BTreeSet<T> {
     ghost held = { λ s. s.keys };
 
     ghost puts = { λ ys y zs. zs ≡ insert_key T.cmp ys y };
-
-    ghost has_room = { λ s n. Unit {0} };
 
     fn with_places(alloc: Global, _places: usize) -> Result<Self, Error> {
         Ok(BTreeSet::new(alloc))
@@ -154,8 +150,7 @@ impl<K: Eq + Hash + Drop, V: Drop> Collects<(K, V)> for IndexMap<K, V> {
     }
 
     fn put_in(&mut self, item: (K, V)) -> Result<(), Error> {
-        let (key, value) = item;
-        self.insert_full(key, value)?;
+        self.insert_full(item.0, item.1)?;
         Ok(())
     }
 }

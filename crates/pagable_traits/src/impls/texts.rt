@@ -1,8 +1,8 @@
 //! Texts, lent and boxed ones among them, and paths, which are texts here.
 
-ghost use Rattle.std.specs.{Prelude.{◌≡◌, OnOk, IfErr}, Box.boxed_str_bytes, String.string_bytes};
-ghost use Rattle.pagable_model.specs.{Carried.path_text, Gives.{memory, long_or}, Shape.{text as text_shape}, Meaning.{text as text_meaning}, Standing.Is, Writing.{nesting, WritesSome, Refused, Grows}};
-ghost use Rattle.pagable_traits.specs.{Meanings.{exactly}, OwnCauses.{reads_memory, writes_memory, writes_long_or}};
+ghost use Rattle.std.specs.{Prelude.◌≡◌, Box.boxed_str_bytes, String.string_bytes};
+ghost use Rattle.pagable_model.specs.{Carried.path_text, Gives.{memory, long_or}, Shape.{text as text_shape}, Meaning.{text as text_meaning}, Standing.Is};
+ghost use Rattle.pagable_traits.specs.{JsonSteps.{Wrote, value as form}, Meanings.{exactly}, OwnCauses.{reads_memory, writes_memory, writes_long_or}};
 
 use crate::traits::{Carried, OneMeaning, PagableDeserialize, PagableSerialize};
 use pagable_codec::{Env, PagableDeserializer, PagableSerializer, Reader};
@@ -17,12 +17,7 @@ pub fn serialize_str<E: Env, S: PagableSerializer<E>>(
     text: &str,
     serializer: &mut S,
 ) -> Result<(), Error>
-    ensures ok { OnOk result (WritesSome (Is text_meaning text.now) (nesting (S.levels serializer.old) (E.parts (S.environment serializer.old))) text_shape (S.out serializer.old) (S.out serializer.new)) }
-    ensures refused { IfErr result (Refused (Is text_meaning text.now) (nesting (S.levels serializer.old) (E.parts (S.environment serializer.old))) text_shape) }
-    ensures only { IfErr result (long_or memory) }
-    ensures err { Grows (S.out serializer.old) (S.out serializer.new) }
-    ensures same_env { S.environment serializer.new ≡ S.environment serializer.old }
-    ensures same_levels { S.levels serializer.new ≡ S.levels serializer.old }
+    ensures { Wrote E.Env S.PagableSerializer (form (Is text_meaning text.now) text_shape) (long_or memory) serializer.old serializer.new result }
 {
     serializer.serde().write_str(text)
 }
@@ -52,10 +47,8 @@ impl<'de, E: Env> PagableDeserialize<'de, E> for BoxedStr {
         alloc: Global,
         deserializer: &mut D,
     ) -> Result<Self, Error> {
-        match <String as PagableDeserialize<E>>::pagable_deserialize(alloc, deserializer) {
-            Ok(text) => Ok(text.into_boxed_str()),
-            Err(refusal) => Err(refusal),
-        }
+        let text = <String as PagableDeserialize<E>>::pagable_deserialize(alloc, deserializer)?;
+        Ok(text.into_boxed_str())
     }
 }
 
@@ -119,9 +112,7 @@ impl<'de, E: Env> PagableDeserialize<'de, E> for PathText {
         alloc: Global,
         deserializer: &mut D,
     ) -> Result<Self, Error> {
-        match PagableDeserialize::<E>::pagable_deserialize(alloc, deserializer) {
-            Ok(text) => Ok(PathText { text }),
-            Err(refusal) => Err(refusal),
-        }
+        let text = PagableDeserialize::<E>::pagable_deserialize(alloc, deserializer)?;
+        Ok(PathText { text })
     }
 }

@@ -6,10 +6,10 @@ pub returns-clause-over : goal.returns-clause-over
 returns-clause-over g c e t = (over_is_read refl t, (over_is_read refl t, (over_is_read refl t, (over_is_read refl t, (over_is_read refl t, (over_is_read refl t, tt))))))
 
 pub returns-clause-sets : goal.returns-clause-sets
-returns-clause-sets g c e k = (over_is_read refl k, (over_is_read refl k, tt))
+returns-clause-sets g c e = (λ k. over_is_read refl k, λ h. over_is_read refl h)
 
 pub returns-clause-two : goal.returns-clause-two
 returns-clause-two g c e t x = (two_is_read (refl, refl) t x, (two_is_read (refl, refl) t x, (two_is_read (refl, refl) t (over_is_read refl x), tt)))
 
 pub returns-clause-maps : goal.returns-clause-maps
-returns-clause-maps g c e k t = (two_is_read (refl, refl) k t, (two_is_read (refl, refl) k t, (hash_map_is_read k t, tt)))
+returns-clause-maps g c e t = (λ k. two_is_read (refl, refl) k t, λ h. (two_is_read (refl, refl) h t, (hash_map_is_read h t, tt)))

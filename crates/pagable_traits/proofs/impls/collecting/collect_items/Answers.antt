@@ -1,10 +1,5 @@
-use Rattle.pagable_traits.proofs.{JsonSteps.{none-so-far, one-more, refused-so-far, all-read, as-read, read-no-room, seen-same}, Collecting.{collected_none, collected_more}, Words.{Ok, Err, ◌∙◌, moves_trans}}
+use Rattle.pagable_traits.proofs.{JsonSteps.{none-so-far, one-more, refused-so-far, all-read, as-read, seen-same}, Collecting.{collected_none, collected_more}, Words.{Ok, Err}}
 use Rattle.pagable_traits.proofs.impls.collecting.collect_items.Goals as goal
-
-pub returns-in_err-collected : goal.returns-in_err-collected
-returns-in_err-collected g c =
-    let made = c.in_err-collected.ensures in
-    read-no-room g.E.Env g.D.PagableDeserializer c.from_residual.result c.from_residual.ensures.1 made.only made.moves made.same_env made.same_levels
 
 pub loop-index-init : goal.loop-index-init
 loop-index-init g c =
@@ -23,12 +18,6 @@ returns-in_err-value g c =
     let so = c.loop-index.invariant in
     refused-so-far g.E.Env g.D.PagableDeserializer _ _ _ c.from_residual-in_err-value.result c.from_residual-in_err-value.ensures.1 c.loop-index-test.true so
     (as-read g.E.Env g.D.PagableDeserializer g.T.PagableDeserialize.read_causes.are g.T.Carried.means.of (Err c.in_err-value.field-0.0) g.T.Carried.shape so.same_env c.in_err-value.ensures) (λ h. h) (λ h. h)
-
-pub returns-in_err-put_in : goal.returns-in_err-put_in
-returns-in_err-put_in g c =
-    let so = c.loop-index.invariant in
-    let told = c.in_ok-value.ensures in
-    read-no-room g.E.Env g.D.PagableDeserializer c.from_residual-in_err-put_in.result c.from_residual-in_err-put_in.ensures.1 c.in_err-put_in.ensures.only (moves_trans _ _ _ so.moves told.moves) (told.same_env ∙ so.same_env) (told.same_levels ∙ so.same_levels)
 
 pub returns : goal.returns
 returns g c = all-read g.E.Env g.D.PagableDeserializer _ _ _ c.loop-index.collected (λ ms. ms) c.loop-index-test.false c.loop-index.invariant (λ ms each. each) (seen-same _)
