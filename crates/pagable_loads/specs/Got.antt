@@ -1,20 +1,11 @@
 -- What those who answer from a list of got references stand for, and what a load lends to them.
 use Rattle.std.specs.Prelude.{◌≡◌, ◌⊎◌, refl, ℕ, ◌==◌, Bool, true, false, if◌then◌else◌, List, Option, Some, None, IfSome, IfNone, IsSome, Result, Ok, Err, option_and_then, slice_get}
-use Rattle.std.{specs.{Option.option_map, declared.{alloc.Global.Global, sync.Arc.Arc}}, proofs.Common.subst}
+use Rattle.std.{specs.Option.option_map, proofs.Common.subst}
 use Rattle.pagable_model.specs.{declared.{error.Error.Error, numbers.ArcRef.ArcRef}, Refusals.may_refuse_reference, Deep.is_eager}
-use Rattle.{pagable_world.specs.{World.row_at, Refusals.live_fault, Loads.answer_of, Pager.{PagerState, ValueCall}}, pagable_loads.specs.declared.got.GotReferences.GotReferences}
-
-abbrev pub environment_of : {E N H K V : Type 0} → GotReferences E N H K V → E
-environment_of s = s.env.now
-
-abbrev pub got_of : {E N H K V : Type 0} → GotReferences E N H K V → List ArcRef
-got_of s = s.got.now
+use Rattle.pagable_world.specs.{World.row_at, Refusals.live_fault, Loads.answer_of, Pager.{PagerState, ValueCall}}
 
 abbrev pub answer_at : List ArcRef → ℕ → ℕ → ℕ → Result ArcRef Error
 answer_at got place key kind = answer_of (slice_get got place) kind
-
-abbrev pub lent_of : {E N H K V : Type 0} → GotReferences E N H K V → List (Option (Arc N Global))
-lent_of s = s.lent.now
 
 -- the value at a place of the list, which may be shorter
 abbrev pub lent_at : {A N : Type 0} → (A → N) → List (Option A) → ℕ → Option N
