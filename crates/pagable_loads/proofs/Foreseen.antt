@@ -13,9 +13,6 @@ use Rattle.pagable_loads.{specs.Ahead.{AsksNext, Foresees, IsAhead, RowTells, Go
 kinds_joined : (xs ys : List ArcRef) → kinds_of (xs ++ ys) ≡ kinds_of xs ++ kinds_of ys
 kinds_joined xs ys = map-append (λ (r : ArcRef). r.kind.0) xs ys
 
-as_many : (rs : List ArcRef) → length (kinds_of rs) ≡ length rs
-as_many rs = length-map rs (λ (r : ArcRef). r.kind.0)
-
 -- the kinds of a row from a place on, by what stands there
 abbrev headed : Option ArcRef → List ℕ → List ℕ
 headed None rest = []
@@ -78,8 +75,9 @@ module _ (types : Types) (t : ℕ) (blob : Blob) where
   row_asked xs kind key next got k back is =
       let s = stopped_at (slice_get blob.keys (length xs)) (read_with types t blob xs) kind key next in
       let within = slice_get_within blob.keys (length xs) key s.1 in
+      let many = λ (rs : List ArcRef). length-map rs (λ (r : ArcRef). r.kind.0) in
       let short : length got < length blob.keys =
-      omega (arith, within, ap length is, length-append (kinds_of xs) (kind.0 ∷ []), length-append (kinds_of got) (k ∷ back), as_many xs, as_many got) in
+      omega (arith, within, ap length is, length-append (kinds_of xs) (kind.0 ∷ []), length-append (kinds_of got) (k ∷ back), many xs, many got) in
       let there = slice_get-get_or blob.keys (length got) 0 short in
       let stop = stops xs got kind.0 k back trace.end trace.sober trace.kinds 0 blob.keys (sym (trace.goes (answers_from xs 0 blob.keys)) ∙ ap leaves s.0) is in
       let err = stopped (read_with types t blob got) k (trace.goes (answers_from got 0 blob.keys) ∙ stop) in

@@ -1,13 +1,9 @@
 -- A step of a load leaves less to do.
 use Rattle.std.proofs.Common.{◌≡◌, ℕ, zero, suc, ◌+◌, ◌-◌, ◌*◌, ◌<◌, ◌≤◌, ◌⊎◌, Bool, List, [], ◌∷◌}
-use Rattle.std.proofs.Common.{◌++◌, length, None, Ok, refl, ap, sym, subst, ◌∙◌, arith, slice_get, ◌^◌}
+use Rattle.std.proofs.Common.{◌++◌, length, None, Ok, ap, sym, subst, ◌∙◌, arith, slice_get, ◌^◌}
 use Rattle.{std.proofs.{lemmas.{Option.slice_get_within, List.length-append}, Math.Nat.mul-le-mul_right}, pagable_loads.proofs.Foreseen.stopped_at}
 use Rattle.{pagable_model.specs.declared.numbers.{ArcRef.ArcRef, Kind.Kind}, pagable_world.specs.{Plain.Types, World.Frame, Loads.{Need, Next, asks, next_in}}}
 use Rattle.{pagable_world.specs.Loads.{need_at, need_of, needs_nested, needs_lazy, read_with}, pagable_loads.specs.Ending.{left_in, left_behind, many, weight, weight_on, to_do, LeadsOn}}
-
-weight_more : (k : ℕ) → weight (suc k) ≡ weight k * many
-unfolding weight
-weight_more k = refl
 
 weight_some : (k : ℕ) → 0 < weight k
 unfolding weight
@@ -53,11 +49,12 @@ module _ {N : Type 0} {for_cell : Bool} {old new : List Frame} where
 
   pub blob_leads : (types : Types) (g f : Frame) (fs : List Frame) (kind : Kind) (key : ℕ) → g.got ≡ [] → length g.blob.keys < 2 ^ 63 → length fs < 128
       → NeedsOne (need_of types old) kind key → old ≡ f ∷ fs → new ≡ g ∷ f ∷ fs → LeadsOn {N = N} for_cell old new (Ok None)
+  unfolding weight
   blob_leads types g f fs kind key none few short need a b =
       let left = wants types old f fs kind key a need in
       let n : length g.got ≡ 0 = ap length none in
       let k : 129 - length fs ≡ suc (129 - length (f ∷ fs)) = omega (arith, short) in
-      let e : weight_on fs ≡ weight_on (f ∷ fs) * many = ap weight k ∙ weight_more (129 - length (f ∷ fs)) in
+      let e : weight_on fs ≡ weight_on (f ∷ fs) * many = ap weight k in
       let w = weight_some (129 - length (f ∷ fs)) in
       let m : (left_in g + 2) * weight_on (f ∷ fs) ≤ many * weight_on (f ∷ fs) = mul-le-mul_right (weight_on (f ∷ fs)) (omega (arith, n, few)) in
       let u : (left_behind f + 1) * weight_on fs ≤ left_in f * weight_on fs = mul-le-mul_right (weight_on fs) (omega (arith, left)) in

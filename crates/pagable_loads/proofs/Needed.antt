@@ -2,7 +2,7 @@
 use Rattle.std.proofs.{Common.{arith, ◌≡◌, ℕ, ◌+◌, ◌<◌, List, [], ◌∷◌, ◌++◌, length, true, false, Option, Some, Result, Ok, refl, ap, subst, ◌∙◌, slice_get}, lemmas.List.nil_from_length}
 use Rattle.{std.{proofs.lemmas.Bool.Decides.nat_tests, specs.Arc.arc_value}, pagable_core.specs.{Context.at_front, Data.blob_of}, pagable_model.specs.{declared.error.Error.Error, Deep.longest_path}}
 use Rattle.pagable_model.specs.{declared.numbers.ArcRef.ArcRef, Blob.Blob, Meaning.Meaning, Shape.Shape, Reading.{Rest, read_typed}, Standing.{Answer, Standing, GivesSome, handles_at, rest_at}}
-use Rattle.pagable_world.specs.{World.{Frame, Values}, Loads.{answer_of, answers_from, next_by, read_with, reads, IsDecoded, to_adopt, need_at, ReadsNode, ReadsRoot}}
+use Rattle.pagable_world.specs.{World.{Frame, Values}, Loads.{answer_of, answers_from, next_by, read_with, reads, to_adopt, need_at, ReadsRoot}}
 use Rattle.pagable_loads.specs.{declared.{decoding.Decoded.Decoded, reading.{Need.Need, Frame.Frame as Held, Reading.Reading as Own}}, Frames.{frame_of, frames_of, onto, reading_of}}
 use Rattle.pagable_loads.specs.{Needing.Needs, Decoding.{Decodes, ReadsWith, IsReadAs}, Got.answer_at}
 use Rattle.pagable_core.specs.Context as context
@@ -50,20 +50,15 @@ adopts : (below : List Frame) (own : Meaning ArcRef) → 0 < length below → ne
 adopts below own some = grind (arith, nat_tests)
 
 module _ {N : Type 0} (v : Values N) (own : Own) (top : Held) (is : own.top ≡ Some top) (x : N) (read : IsReadAs v top.node_type (blob_of (arc_value top.blob)) top.got.items x) where
-  frames : frames_of own.top own.below.items ≡ frame_of top ∷ onto [] own.below.items
-  frames = ap (λ o. frames_of o own.below.items) is
-
-  decoded : IsDecoded v (frame_of top) x
-  decoded = record { own = read.own; read = read.read; typed = read.typed; means = read.means }
-
-  node : 0 < length own.below.items → ReadsNode v (reading_of own) x
-  node some = grind (arith, nat_tests, length_onto, adopts)
-
   root : length own.below.items ≡ 0 → ReadsRoot v (reading_of own) x
-  root none = record { root = frame_of top; frames = frames ∙ ap (λ fs. frame_of top ∷ fs) (onto_none own.below.items (nil_from_length own.below.items none)); decoded = decoded }
+  root none = record {
+    root = frame_of top;
+    frames = ap (λ o. frames_of o own.below.items) is ∙ ap (λ fs. frame_of top ∷ fs) (onto_none own.below.items (nil_from_length own.below.items none));
+    decoded = record { own = read.own; read = read.read; typed = read.typed; means = read.means };
+  }
 
   pub node_needs : 0 < length own.below.items → Needs v (reading_of own) own.for_cell (Need.Adopt x)
-  node_needs some = record { is = node some }
+  node_needs some = record { is = grind (arith, nat_tests, length_onto, adopts) }
 
   pub end_needs : length own.below.items ≡ 0 → own.for_cell ≡ true → Needs v (reading_of own) own.for_cell (Need.End x)
   end_needs none cell = record { is = (root none, cell) }

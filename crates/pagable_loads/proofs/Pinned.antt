@@ -16,14 +16,11 @@ module _ {N E : Type 0} (v : Values N) (me : Owner) (mine : me ≡ Owner.Caller)
     runs_on {s} {t'} {answer} o r = subst (λ m. LoadRun v m (fresh l t) s answer t') mine (subst (λ x. LoadRun v me x s answer t') is (r.run o))
 
     module _ (h : HandleNumber) (cell : own.for_cell ≡ true) (s mid : PagerState N E) (c : Called v (λ w'. StartsPin s.core me h (Ok (PinStart.Load l key t)) w') s mid) where
-      begun : BeginCall s.core me h (Ok (Beginning.Load l key)) mid.core
-      begun = c.step.starts.0
-
       open_load : IsLoadOf mid.core me own
       open_load = first_of (grind (arith, common_steps, nat_tests), search (rules))
 
       calls : Called v (λ w'. BeginCall s.core Owner.Caller h (Ok (Beginning.Load l key)) w') s mid
-      calls = record { step = subst (λ m. BeginCall s.core m h (Ok (Beginning.Load l key)) mid.core) mine begun; moves = c.moves; whole = c.whole }
+      calls = record { step = subst (λ m. BeginCall s.core m h (Ok (Beginning.Load l key)) mid.core) mine c.step.starts.0; moves = c.moves; whole = c.whole }
 
       pub load_pinned : (k : HandleNumber) (s' : PagerState N E) → Runs v me own mid (LoadAnswer.Pinned k) s' → PinsFirst v s h (Ok (k, true)) s'
       load_pinned k s' r = record { pinned = (load-pins k (fresh l t) mid s' (record { key = key; begins = calls; is = c.step.starts.2 }) (runs_on open_load r), sym c.step.starts.1); refused = tt }

@@ -1,6 +1,6 @@
 -- What those who answer from a list of got references stand for, and what a load lends to them.
-use Rattle.std.specs.Prelude.{◌≡◌, ◌⊎◌, refl, ℕ, ◌==◌, Bool, true, false, if◌then◌else◌, List, Option, Some, None, IfSome, IfNone, IsSome, Result, Ok, Err, option_and_then, slice_get}
-use Rattle.std.{specs.Option.option_map, proofs.Common.subst}
+use Rattle.std.specs.Prelude.{◌≡◌, ◌⊎◌, ℕ, ◌==◌, Bool, true, false, if◌then◌else◌, List, Option, Some, None, IfSome, IfNone, IsSome, Result, Ok, Err, option_and_then, slice_get}
+use Rattle.std.specs.Option.{option_map}
 use Rattle.pagable_model.specs.{declared.{error.Error.Error, numbers.ArcRef.ArcRef}, Refusals.may_refuse_reference, Deep.is_eager}
 use Rattle.pagable_world.specs.{World.row_at, Refusals.live_fault, Loads.answer_of, Pager.{PagerState, ValueCall}}
 
@@ -28,16 +28,10 @@ pub record Lends {N E : Type 0} (s : PagerState N E) (r : ArcRef) (found : Optio
 pub record LendsEach {A N E : Type 0} (see : A → N) (s : PagerState N E) (got : List ArcRef) (lent : List (Option A)) : Type 0 where
   pub each : (place : ℕ) (r : ArcRef) → slice_get got place ≡ Some r → Lends s r (lent_at see lent place)
 
-may_of : (e f : Error) → may_refuse_reference f ≡ true → (let r : Result ArcRef Error = Err f in r) ≡ Err e → may_refuse_reference e ≡ true
-may_of e f may is =
-    let same : f ≡ e = cc in
-    let P : Error → Type 0 = λ x. may_refuse_reference x ≡ true in
-    subst P same may
-
 choice : (b : Bool) (r : ArcRef) (e : Error) → (if b then Ok r else Err Error.WrongKind) ≡ Err e → may_refuse_reference e ≡ true
 choice true r e is = cc
-choice false r e is = may_of e Error.WrongKind refl is
+choice false r e is = let same : e ≡ Error.WrongKind = cc in cc
 
 pub may_refuse : (found : Option ArcRef) (kind : ℕ) (e : Error) → answer_of found kind ≡ Err e → may_refuse_reference e ≡ true
-may_refuse None kind e is = may_of e (Error.Storage kind) refl is
+may_refuse None kind e is = let same : e ≡ Error.Storage kind = cc in cc
 may_refuse (Some r) kind e is = choice (r.kind.0 == kind) r e is

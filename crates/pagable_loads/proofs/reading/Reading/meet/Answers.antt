@@ -1,6 +1,6 @@
-use Rattle.{std.{specs.Arc.arc_value, proofs.Common.{refl, [], inl}}, pagable_core.specs.Data.blob_of, pagable_world.specs.Loads.{nested_frame, root_frame}}
+use Rattle.{std.{specs.Arc.arc_value, proofs.Common.{refl, [], inl, inr}}, pagable_core.specs.Data.blob_of, pagable_world.specs.Loads.{nested_frame, root_frame}}
 use Rattle.pagable_loads.{specs.Frames.{frame_of, onto}, proofs.{Lowering.{got_leads, blob_leads, root_leads}, Needed.below_short}}
-use Rattle.pagable_loads.proofs.Stepped.{acts_map, root_comes, root_refused, nested_known, nested_blob, nested_deep, nested_refused}
+use Rattle.pagable_loads.proofs.Stepped.{acts_map, fails, met, root_comes, nested_known, nested_blob, nested_deep}
 use Rattle.pagable_loads.proofs.reading.Reading.meet.Goals as goal
 
 -- ---- the root's blob
@@ -10,7 +10,9 @@ returns-in-Ok-clause-acts g c =
     acts_map c.in-Ok.ensures (root_comes _ _ _ c.args.self.now (rw c.in-Root.is at c.requires.need).is (blob_of (arc_value c.in-Ok.blob)) _ c.put_root.ensures.root)
 
 pub returns-in-Err-clause-acts : goal.returns-in-Err-clause-acts
-returns-in-Err-clause-acts g c = acts_map c.in-Err.ensures (root_refused _ _ _ c.args.self.now (rw c.in-Root.is at c.requires.need).is c.in-Err.e _)
+returns-in-Err-clause-acts g c =
+    let own = c.args.self.now in
+    acts_map c.in-Err.ensures (λ s t k. fails _ _ _ own (λ o. met _ _ _ own k (inr (inl ((rw c.in-Root.is at c.requires.need).is, k.step)))))
 
 pub returns-in-Ok-clause-leads : goal.returns-in-Ok-clause-leads
 returns-in-Ok-clause-leads g c =
@@ -40,9 +42,9 @@ returns-in-Err-put_blob-clause-acts g c =
 
 pub returns-in-Err-load_nested-clause-acts : goal.returns-in-Err-load_nested-clause-acts
 returns-in-Err-load_nested-clause-acts g c =
+    let own = c.args.self.now in
     let n = (rw c.in-Nested.is at c.requires.need).is in
-    acts_map c.in-Err-load_nested.ensures
-    (nested_refused _ _ _ c.args.self.now _ _ c.in_ok-top-in-Nested.top _ c.in_ok-top-in-Nested.ensures.ok.frames (λ d. blob_of (arc_value d)) n c.in-Err-load_nested.e _)
+    acts_map c.in-Err-load_nested.ensures (λ s t k. fails _ _ _ own (λ o. met _ _ _ own k (inr (inr (inl (c.in-Nested.kind, c.in-Nested.key, n, inl k.step.asked))))))
 
 pub returns-in-Ok-Left-clause-leads : goal.returns-in-Ok-Left-clause-leads
 returns-in-Ok-Left-clause-leads g c =
