@@ -30,11 +30,9 @@ from xs place = elim (slice_get_cases xs place).1 [
 abbrev Stops : Result (Rest Answer) Error → ℕ → Type 0
 Stops r k = r ≡ Err (Error.Storage k)
 
-one_kind : (x : ArcRef) (n k : ℕ) (r : Result (Rest Answer) Error) → Stops (answer_of (Some x) n >>= λ a. r) k → (x.kind.0 ≡ n) × Stops r k
-one_kind x n k r h = grind (arith, nat_tests)
-
-goes_on : (x : ArcRef) (n k : ℕ) (r : Result (Rest Answer) Error) → x.kind.0 ≡ n → Stops r k → Stops (answer_of (Some x) n >>= λ a. r) k
-goes_on x n k r same h = grind (arith, nat_tests)
+-- some kind is left
+some-left : (ks back : List ℕ) (k : ℕ) → (ks ++ k ∷ back ≡ ks ++ k ∷ back) × (0 < length (ks ++ k ∷ back))
+some-left ks back k = let l = length-append ks (k ∷ back) in (refl, omega (arith, l))
 
 never : (k : ℕ) (end : Result (List ℕ) Error) (refs : List Answer) → Sober end → Stops (asking [] end refs) k → ⊥
 never k (Ok bytes) refs s h = cc
@@ -44,10 +42,7 @@ never k (Err e) refs s h = let f : e ≡ Error.Storage k = cc in cc
 module _ (xs got : List ArcRef) (kind k : ℕ) (back : List ℕ) (end : Result (List ℕ) Error) (sober : Sober end) where
   at_one : (o p : Option ArcRef) (n : ℕ) (os ps : List ℕ) (r q : Result (Rest Answer) Error) → Stops (answer_of o n >>= λ a. r) kind → headed o os ++ kind ∷ [] ≡ headed p ps ++ k ∷ back
       → (Stops r kind → os ++ kind ∷ [] ≡ ps ++ k ∷ back → Stops q k) → Stops (answer_of p n >>= λ a. q) k
-  at_one None None n os ps r q h is more = cc
-  at_one None (Some y) n os ps r q h is more = absurd (let l = ap length is in let m = length-append ps (k ∷ back) in omega (arith, l, m))
-  at_one (Some x) None n os ps r q h is more = let s = one_kind x n kind r h in let same : x.kind.0 ≡ n = s.0 in cc
-  at_one (Some x) (Some y) n os ps r q h is more = let s = one_kind x n kind r h in let same : x.kind.0 ≡ n = s.0 in goes_on y n k q (cc) (more s.1 (cc))
+  at_one o p n os ps r q h is more = grind (arith, nat_tests, some-left)
 
   stops : (ks : List ℕ) (place : ℕ) (keys : List ℕ) → Stops (asking ks end (answers_from xs place keys)) kind → kinds_of (drop place xs) ++ kind ∷ [] ≡ kinds_of (drop place got) ++ k ∷ back
       → Stops (asking ks end (answers_from got place keys)) k

@@ -1,7 +1,7 @@
 -- A step of a load leaves less to do.
 use Rattle.std.proofs.Common.{◌≡◌, ℕ, zero, suc, ◌+◌, ◌-◌, ◌*◌, ◌<◌, ◌≤◌, ◌⊎◌, Bool, List, [], ◌∷◌}
 use Rattle.std.proofs.Common.{◌++◌, length, None, Ok, ap, sym, subst, ◌∙◌, arith, slice_get, ◌^◌}
-use Rattle.{std.proofs.{lemmas.{Option.slice_get_within, List.length-append}, Math.Nat.mul-le-mul_right}, pagable_loads.proofs.Foreseen.stopped_at}
+use Rattle.{std.proofs.{lemmas.{Bool.Decides.nat_tests, Option.slice_get_within, List.length-append}, Math.Nat.mul-le-mul_right}, pagable_loads.proofs.Foreseen.stopped_at}
 use Rattle.{pagable_model.specs.declared.numbers.{ArcRef.ArcRef, Kind.Kind}, pagable_world.specs.{Plain.Types, World.Frame, Loads.{Need, Next, asks, next_in}}}
 use Rattle.{pagable_world.specs.Loads.{need_at, need_of, needs_nested, needs_lazy, read_with}, pagable_loads.specs.Ending.{left_in, left_behind, many, weight, weight_on, to_do, LeadsOn}}
 
@@ -16,14 +16,9 @@ weight_some (suc k) = let w = weight_some k in omega (arith, w)
 abbrev NeedsOne : Need → Kind → ℕ → Type 0
 NeedsOne need kind key = (need ≡ needs_nested kind key) ⊎ (need ≡ needs_lazy kind key)
 
-one_asked : (fs : List Frame) (next : Next) (kind : Kind) (key : ℕ) → NeedsOne (need_at fs next) kind key → (k : Kind) × (q : ℕ) × (next ≡ asks k q)
-one_asked fs next kind key e = grind arith
-
 wants : (types : Types) (old : List Frame) (f : Frame) (fs : List Frame) (kind : Kind) (key : ℕ) → old ≡ f ∷ fs → NeedsOne (need_of types old) kind key
     → length f.got < length f.blob.keys
-wants types old f fs kind key is need =
-    let a = one_asked fs (next_in types f) kind key (subst (λ o. NeedsOne (need_of types o) kind key) is need) in
-    slice_get_within f.blob.keys (length f.got) a.1 (stopped_at (slice_get f.blob.keys (length f.got)) (read_with types f.node_type f.blob f.got) a.0 a.1 a.2).1
+wants types old f fs kind key is need = grind (arith, nat_tests, slice_get_within, stopped_at)
 
 -- ---- what each step leaves
 

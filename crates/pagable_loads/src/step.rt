@@ -73,6 +73,7 @@ impl Reading {
     }
 
     // The root was read: its cell gets the value, and is pinned; or the caller gets it, with its handles.
+    #[tactic(auto, using(crate::proofs::Stepped::acts_map, crate::proofs::Stepped::hands_over))]
     fn finish<E: Env, A: Access<E>>(
         &mut self,
         access: &mut A,
