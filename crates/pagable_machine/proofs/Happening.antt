@@ -20,10 +20,6 @@ module _ {N S E : Type 0} {v : Values N} {tells : Telling S} {old new : PagerVie
   pub serves-same : OnlyTables old new → Serves v tells old call r new
   serves-same only = serves (record { each = λ n x is. inl (subst (λ values. value_in values n ≡ Some x) only.values is); environment = only.environment })
 
--- nothing is forgotten where all stays
-pub forgets-none : (w : Core) {kept kept' : Kept} → ((q : ℕ) → kept' q ≡ kept q) → Forgets w kept kept'
-forgets-none w as_was = record { still = λ l load is. as_was l; only = λ l own is. sym (as_was l) ∙ is }
-
 -- what is kept anew after what was kept stayed
 pub keeps-after : {Y : Type 0} {k mid kept' : ℕ → Option Y} {l : ℕ} {own : Option Y} → ((q : ℕ) → mid q ≡ k q) → KeepsOne mid l own kept' → KeepsOne k l own kept'
 keeps-after as_was keeps = record { here = keeps.here; others = λ q other. keeps.others q other ∙ as_was q }
@@ -80,7 +76,7 @@ module _ {X : Type 0} {g : Ghosts X} {N S E : Type 0} (v : E → Values N) (tell
   start-drives through r serves formed =
       let w = whole-still serves.moves formed in
       record {
-        makes = by-call m s s' h h.readings serving was w _ _ serves.step (forgets-none s'.core (λ q. refl)) (Event.LoadStart through) (EventReply.Started r) (λ q. refl)
+        makes = by-call m s s' h h.readings serving was w _ _ serves.step (record { still = λ l load is. refl; only = λ l own is. is }) (Event.LoadStart through) (EventReply.Started r) (λ q. refl)
             (λ readings. record { step = serves.step.does; readings = readings; work = same-work m s s' h h.readings serving was w }) serves.moves tt;
       }
 
