@@ -1,9 +1,9 @@
 -- From what reading gives to what the blob asks for next, and what a load needs.
-use Rattle.std.proofs.{Common.{arith, ◌≡◌, ℕ, ◌+◌, ◌<◌, List, [], ◌∷◌, ◌++◌, length, true, false, Option, Some, Result, Ok, refl, ap, subst, ◌∙◌, slice_get}, lemmas.List.nil_from_length}
+use Rattle.std.proofs.{Common.{arith, ◌≡◌, ℕ, ◌+◌, ◌<◌, List, [], ◌∷◌, ◌++◌, length, true, false, Option, Some, Result, Ok, refl, ap, subst, slice_get}, lemmas.List.nil_from_length}
 use Rattle.{std.{proofs.lemmas.Bool.Decides.nat_tests, specs.Arc.arc_value}, pagable_core.specs.{Context.at_front, Data.blob_of}, pagable_model.specs.{declared.error.Error.Error, Deep.longest_path}}
 use Rattle.pagable_model.specs.{declared.numbers.ArcRef.ArcRef, Blob.Blob, Meaning.Meaning, Shape.Shape, Reading.{Rest, read_typed}, Standing.{Answer, Standing, GivesSome, handles_at, rest_at}}
 use Rattle.pagable_world.specs.{World.{Frame, Values}, Loads.{answer_of, answers_from, next_by, read_with, reads, to_adopt, need_at, ReadsRoot}}
-use Rattle.pagable_loads.specs.{declared.{decoding.Decoded.Decoded, reading.{Need.Need, Frame.Frame as Held, Reading.Reading as Own}}, Frames.{frame_of, frames_of, onto, reading_of}}
+use Rattle.pagable_loads.specs.{declared.{decoding.Decoded.Decoded, reading.{Need.Need, Frame.Frame as Held, Reading.Reading as Own}}, Frames.{frame_of, onto, reading_of}}
 use Rattle.pagable_loads.specs.{Needing.Needs, Decoding.{Decodes, ReadsWith, IsReadAs}, Got.answer_at}
 use Rattle.pagable_core.specs.Context as context
 
@@ -51,11 +51,7 @@ adopts below own some = grind (arith, nat_tests)
 
 module _ {N : Type 0} (v : Values N) (own : Own) (top : Held) (is : own.top ≡ Some top) (x : N) (read : IsReadAs v top.node_type (blob_of (arc_value top.blob)) top.got.items x) where
   root : length own.below.items ≡ 0 → ReadsRoot v (reading_of own) x
-  root none = record {
-    root = frame_of top;
-    frames = ap (λ o. frames_of o own.below.items) is ∙ ap (λ fs. frame_of top ∷ fs) (onto_none own.below.items (nil_from_length own.below.items none));
-    decoded = record { own = read.own; read = read.read; typed = read.typed; means = read.means };
-  }
+  root none = grind (arith, nat_tests, onto_none, nil_from_length)
 
   pub node_needs : 0 < length own.below.items → Needs v (reading_of own) own.for_cell (Need.Adopt x)
   node_needs some = record { is = grind (arith, nat_tests, length_onto, adopts) }
