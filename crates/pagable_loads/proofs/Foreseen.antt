@@ -1,7 +1,7 @@
 -- From one reading with stand-ins to what a blob asks for ahead.
 use Rattle.std.proofs.Common.{◌≡◌, ℕ, ◌+◌, ◌<◌, drop, false, if◌then◌else◌, List, [], ◌∷◌, ◌++◌}
 use Rattle.std.proofs.Common.{length, Option, Some, None, Result, Ok, Err, inl, inr, refl, ap, sym, subst, ◌∙◌, arith}
-use Rattle.std.proofs.{Common.{slice_get, ◌==◌}, lemmas.{Option.{slice_get_cases, slice_get_within, slice_get-get_or}, Bool.Decides.nat_tests}}
+use Rattle.std.proofs.{Common.{slice_get}, lemmas.{Option.{slice_get_cases, slice_get_within, slice_get-get_or}, Bool.Decides.nat_tests}}
 use Rattle.std.proofs.lemmas.List.{append_assoc, at_drop_all, at_drop_more, length-append, length-map, map-append}
 use Rattle.pagable_model.specs.{declared.{error.Error.Error, numbers.{ArcRef.ArcRef, Kind.Kind}}, Blob.Blob, Meaning.Meaning, Reading.Rest, Standing.Answer, Steps.◌>>=◌, Deep.is_eager}
 use Rattle.pagable_world.specs.{Plain.Types, World.Frame, Loads.{asks, answer_of, answers_from, next_by}}

@@ -1,9 +1,9 @@
 -- A step of a load leaves less to do.
 use Rattle.std.proofs.Common.{◌≡◌, ℕ, zero, suc, ◌+◌, ◌-◌, ◌*◌, ◌<◌, ◌≤◌, ◌⊎◌, Bool, List, [], ◌∷◌}
-use Rattle.std.proofs.Common.{◌++◌, length, None, Ok, ap, sym, subst, ◌∙◌, arith, slice_get, ◌^◌}
+use Rattle.std.proofs.Common.{◌++◌, length, None, Ok, ap, sym, subst, arith, ◌^◌}
 use Rattle.{std.proofs.{lemmas.{Bool.Decides.nat_tests, Option.slice_get_within, List.length-append}, Math.Nat.mul-le-mul_right}, pagable_loads.proofs.Foreseen.stopped_at}
-use Rattle.{pagable_model.specs.declared.numbers.{ArcRef.ArcRef, Kind.Kind}, pagable_world.specs.{Plain.Types, World.Frame, Loads.{Need, Next, asks, next_in}}}
-use Rattle.{pagable_world.specs.Loads.{need_at, need_of, needs_nested, needs_lazy, read_with}, pagable_loads.specs.Ending.{left_in, left_behind, many, weight, weight_on, to_do, LeadsOn}}
+use Rattle.{pagable_model.specs.declared.numbers.{ArcRef.ArcRef, Kind.Kind}, pagable_world.specs.{Plain.Types, World.Frame, Loads.{Need}}}
+use Rattle.{pagable_world.specs.Loads.{need_of, needs_nested, needs_lazy}, pagable_loads.specs.Ending.{left_in, left_behind, many, weight, weight_on, to_do, LeadsOn}}
 
 weight_some : (k : ℕ) → 0 < weight k
 unfolding weight

@@ -1,10 +1,10 @@
 -- A pin with its loads, and how it is taken back; and the reading of a key.
-use Rattle.std.proofs.{lemmas.{Grind.common_steps, Bool.Decides.nat_tests}, Common.{rules, ◌≡◌, ℕ, ◌+◌, Bool, true, false, Some, Result, Ok, Err, inl, inr, refl, ap, sym, subst, ◌∙◌, arith}}
+use Rattle.std.proofs.{lemmas.{Grind.common_steps, Bool.Decides.nat_tests}, Common.{rules, ◌≡◌, ℕ, ◌+◌, Bool, true, false, Some, Result, Ok, Err, inr, refl, ap, sym, subst, ◌∙◌, arith}}
 use Rattle.{pagable_model.specs.declared.{error.Error.Error, numbers.{HandleNumber.HandleNumber, LoadNumber.LoadNumber}}, pagable_world.specs.declared.events.LoadAnswer.LoadAnswer}
-use Rattle.pagable_world.specs.{declared.{handles.{HandleRow.HandleRow, Owner.Owner}, rows.Mode.Mode, answers.{Pinning.Pinning, Beginning.Beginning}}, Plain.if_there, Kinds.{is_loose, is_unpinned}}
+use Rattle.pagable_world.specs.{declared.{handles.{HandleRow.HandleRow, Owner.Owner}, answers.{Pinning.Pinning, Beginning.Beginning}}, Plain.if_there, Kinds.{is_loose, is_unpinned}}
 use Rattle.pagable_world.specs.{World.{Core, Reading, Root, of_key, Values, Alike, row_at}, Calls.{PinCall, ReleaseCall}, LoadCalls.{BeginCall, BeginKeyCall, with_load}, Workers.fresh}
 use Rattle.pagable_world.specs.{Pager.{PagerState, WellFormed}, Access.{Called, LoadRun, load-ends, load-goes-on, PinRun, pins-at-once, pin-is-refused, load-is-refused, load-pins, load-fails}}
-use Rattle.{pagable_world.specs.Access.{reading-is-refused, load-reads, reading-fails, IsUnpinnedBack, PinsOver, ReadsOver}, pagable_loads.specs.Frames.{IsLoadOf, reading_of, is_cell}}
+use Rattle.{pagable_world.specs.Access.{reading-is-refused, load-reads, reading-fails, IsUnpinnedBack, PinsOver, ReadsOver}, pagable_loads.specs.Frames.{IsLoadOf, reading_of}}
 use Rattle.pagable_loads.specs.{Stepping.Runs, Starting.{StartsPin, PinsFirst, Unpins, TakesBack}, Telling.{begun_as}, declared.{starting.PinStart.PinStart, reading.Reading.Reading as Own}}
 
 pub begun_is : (w w' : Core) (l : LoadNumber) (key : ℕ) (root : Root) (me : Owner) → l.0 ≡ w.last.load + 1 → Alike (with_load w key root me) w' → w'.loads l.0 ≡ Some (record { owner = me; key = key; root = root })

@@ -1,13 +1,13 @@
 -- What a step's call did is what the step is said to do.
-use Rattle.std.proofs.Common.{◌≡◌, ℕ, ◌+◌, ◌<◌, ◌≤◌, List, [], ◌∷◌, ◌++◌, length, true, false, Option, Some, None, Result, Ok, Err, inl, inr, refl, ap, sym, subst, ◌∙◌, arith}
-use Rattle.{std.{proofs.lemmas.{Bool.Decides.nat_tests, Grind.common_steps}, specs.Prelude.not}, pagable_model.specs.declared.error.Error.Error}
+use Rattle.std.proofs.Common.{◌≡◌, ℕ, ◌+◌, ◌<◌, ◌≤◌, List, [], ◌∷◌, ◌++◌, length, true, false, Option, Some, None, Ok, Err, inl, inr, refl, ap, sym, subst, ◌∙◌, arith}
+use Rattle.{std.{proofs.lemmas.{Bool.Decides.nat_tests, Grind.common_steps}}, pagable_model.specs.declared.error.Error.Error}
 use Rattle.pagable_model.specs.{declared.numbers.{ArcRef.ArcRef, HandleNumber.HandleNumber, Kind.Kind, LoadNumber.LoadNumber}, Blob.Blob}
-use Rattle.{pagable_model.specs.Deep.longest_path, pagable_world.specs.{declared.{events.LoadAnswer.LoadAnswer, handles.Owner.Owner, calls.Want.Want}, Kinds.is_owner, Plain.if_there, World.Core}}
-use Rattle.pagable_world.specs.{World.{Root, OpenLoad, Frame, Reading, Values}, Refusals.{OwnsLoad, refused_if, load_fault}, LoadCalls.{from_store, AskCall, EndCall}}
-use Rattle.pagable_world.specs.{LoadCalls.{HandOverCall, DropCall, LoadCloses}, Loads.{need_of, needs_nested, needs_lazy, root_frame, nested_frame, with_got, handles_of, MakesNode, ReadsNode}}
+use Rattle.{pagable_model.specs.Deep.longest_path, pagable_world.specs.{declared.{events.LoadAnswer.LoadAnswer, handles.Owner.Owner, calls.Want.Want}, World.Core}}
+use Rattle.pagable_world.specs.{World.{Frame, Reading, Values}, Refusals.{OwnsLoad}, LoadCalls.{from_store, AskCall, EndCall}}
+use Rattle.pagable_world.specs.{LoadCalls.{HandOverCall}, Loads.{need_of, needs_nested, needs_lazy, root_frame, nested_frame, with_got, handles_of, MakesNode, ReadsNode}}
 use Rattle.pagable_world.specs.{Loads.{IsDecoded, ReadsRoot, LoadIs, IsOfCell, IsOfKey, Meets, Does}, Pager.{PagerState, Moves, ReadingBrings, IsNewNode, IsCellOf}, Access.{Told, Called, ReadingStep}}
 use Rattle.pagable_loads.specs.Telling.{Acting, Acts, ActsThen, Tells, Brings, IsMade, AsksFor, TakesLazily, AdoptsValue}
-use Rattle.pagable_loads.specs.{Frames.{frame_of, frames_of, onto, reading_of, is_cell, IsLoadOf}, Stepping.{Met, Tries, Steps, Drops}}
+use Rattle.pagable_loads.specs.{Frames.{frame_of, frames_of, onto, reading_of, IsLoadOf}, Stepping.{Met, Tries, Steps, Drops}}
 use Rattle.{pagable_loads.{specs.declared.reading.{Frame.Frame as Held, Reading.Reading as Own}, proofs.Needed.length_onto}, either.specs.declared.Either.Either}
 
 -- ---- what is told

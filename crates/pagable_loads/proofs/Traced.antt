@@ -1,8 +1,8 @@
 -- What a reading asks for is told by its bytes alone: kinds, one after the other, up to its end or its fault, whatever is answered.
-use Rattle.std.proofs.Common.{arith, ◌≡◌, ℕ, zero, suc, ◌+◌, ◌-◌, ◌/◌, ◌^◌, Bool, true, false, if◌then◌else◌, List, [], ◌∷◌, ◌++◌, length, Option, Some, None, Result, Ok, Err, refl, ap, ◌∙◌, ◌==◌}
-use Rattle.std.{proofs.lemmas.Bool.Decides.nat_tests, specs.{Prelude.{nat_lt, nat_le}, Int.{Width, w8, w32, w64}, Str.{is_utf8, chars}}}
+use Rattle.std.proofs.Common.{arith, ◌≡◌, ℕ, zero, suc, ◌+◌, ◌-◌, ◌/◌, ◌^◌, Bool, true, false, if◌then◌else◌, List, [], ◌∷◌, ◌++◌, Option, Some, None, Result, Ok, Err, refl, ap, ◌∙◌, ◌==◌}
+use Rattle.std.{proofs.lemmas.Bool.Decides.nat_tests, specs.{Prelude.{nat_lt, nat_le}, Int.{Width, w32, w64}}}
 use Rattle.pagable_model.specs.declared.error.Error.{Error}
-use Rattle.pagable_model.specs.{declared.numbers.ArcRef.ArcRef, Steps.◌>>=◌, Numbers.{Read, byte_at, varint_at, unsigned_at, signed_at}, Basic.{length_at, bytes_at, text_at, bool_at, one_char}}
+use Rattle.pagable_model.specs.{declared.numbers.ArcRef.ArcRef, Steps.◌>>=◌, Numbers.{Read, varint_at, unsigned_at, signed_at}, Basic.{length_at, text_at, bool_at}}
 use Rattle.pagable_model.specs.{Basic.{char_at, duration_at, longest, nanos_of_second}, Meaning.{Meaning, integer, none, variant, sequence, entry, absent, present, success, failure, lifted}}
 use Rattle.pagable_model.specs.{Keys.{text_order, put_all, put_sorted}, Carried.{of_entries, of_tagged, of_hash_map}, Shape.{Shape, nothing, unsigned, signed, flag, letter, duration, json, optional}}
 use Rattle.pagable_model.specs.{Shape.{outcome, list, run, array, both, sorted_map, placed_map, hash_map, sorted_set, placed_set, static_value, tagged, cases, nested}, Reading.{Rest, Gets, bytes_of}}
