@@ -1,6 +1,6 @@
 -- Each event of the machine, by what the pager and what is kept of loads say of it.
 use Rattle.pagable_machine.proofs.Words.{Does, CallBrings, OnlyLess, core_in, plain_call, plain_reply, arith, nat_tests, ◌≡◌, ℕ, true, false, Option, Some, None, Ok, Err, ◌⊎◌}
-use Rattle.pagable_machine.proofs.Words.{inl, inr, refl, sym, ap, subst, ◌∙◌, Result, is_some, Arc, Global, PagableData, Error, HandleNumber, LoadNumber, Beginning, Call, Reply, LoadReply, Blob, Core}
+use Rattle.pagable_machine.proofs.Words.{inl, inr, refl, sym, ap, subst, ◌∙◌, Result, is_some, Arc, Global, PagableData, Error, HandleNumber, LoadNumber, Beginning, Call, Reply, LoadReply, Blob}
 use Rattle.pagable_machine.proofs.Words.{Seen, Values, Written, load_fault, DropCall, fresh, Moves, PagerState, WellFormed, same_some, reading_of, PagerView, Telling, state_in, ReadsAs}
 use Rattle.pagable_machine.proofs.Words.{Ghosts, plain, Held, Serves, Forgets, Holding, IsPrepared, IsTaken, KeepsOne, Kept, KeptStep, rest_after, Answer, Drives, Given}
 use Rattle.pagable_machine.proofs.{Words.{IsInStep, Readings, holding, kept_at, over}, Keeping.{by-call, key-starts, nothing-done, refused, same-work}, Loading.{faulty, never-typed, no-place}}
