@@ -1,76 +1,60 @@
 -- From one reading with stand-ins to what a blob asks for ahead.
-use Rattle.std.proofs.Common.{◌≡◌, ℕ, ◌+◌, ◌<◌, ◌≤◌, ◌⊎◌, drop, Bool, true, false, if◌then◌else◌, List, [], ◌∷◌, ◌++◌}
+use Rattle.std.proofs.Common.{◌≡◌, ℕ, ◌+◌, ◌<◌, drop, false, if◌then◌else◌, List, [], ◌∷◌, ◌++◌}
 use Rattle.std.proofs.Common.{length, Option, Some, None, Result, Ok, Err, inl, inr, refl, ap, sym, subst, ◌∙◌, arith}
-use Rattle.std.proofs.{Common.{slice_get, ◌==◌}, lemmas.{Option.{slice_get_cases, slice_get_within, slice_get-get_or}, Bool.Decides.nat_tests}}
+use Rattle.std.proofs.{Common.{slice_get}, lemmas.{Option.{slice_get_cases, slice_get_within, slice_get-get_or}, Bool.Decides.nat_tests}}
 use Rattle.std.proofs.lemmas.List.{append_assoc, at_drop_all, at_drop_more, length-append, length-map, map-append}
-use Rattle.pagable_model.specs.{declared.{error.Error.Error, numbers.{ArcRef.ArcRef, Kind.Kind}}, Blob.Blob, Meaning.Meaning, Reading.Rest, Standing.Answer, Deep.is_eager}
+use Rattle.pagable_model.specs.{declared.{error.Error.Error, numbers.{ArcRef.ArcRef, Kind.Kind}}, Blob.Blob, Meaning.Meaning, Reading.Rest, Standing.Answer, Steps.◌>>=◌, Deep.is_eager}
 use Rattle.pagable_world.specs.{Plain.Types, World.Frame, Loads.{asks, answer_of, answers_from, next_by}}
 use Rattle.{pagable_world.specs.Loads.{next_of, read_with, need_at, need_of, needs_nested, needs_lazy}, pagable_loads.specs.Ahead.kinds_of}
-use Rattle.pagable_loads.{specs.Ahead.{AsksNext, Foresees, IsAhead, AskedIf, RowTells, GotMore, Kept}, proofs.Traced.{End, done, faulty, Answered, Goes, Trace, typed_traced}}
+use Rattle.pagable_loads.{specs.Ahead.{AsksNext, Foresees, IsAhead, RowTells, GotMore, Kept}, proofs.Traced.{Sober, Trace, asking, leaves, typed_traced}}
 
 -- ---- lists
 
 kinds_joined : (xs ys : List ArcRef) → kinds_of (xs ++ ys) ≡ kinds_of xs ++ kinds_of ys
 kinds_joined xs ys = map-append (λ (r : ArcRef). r.kind.0) xs ys
 
-as_many : (rs : List ArcRef) → length (kinds_of rs) ≡ length rs
-as_many rs = length-map rs (λ (r : ArcRef). r.kind.0)
+-- the kinds of a row from a place on, by what stands there
+abbrev headed : Option ArcRef → List ℕ → List ℕ
+headed None rest = []
+headed (Some x) rest = x.kind.0 ∷ rest
 
--- a reference stands at the place, or the row ends before it
-from : (xs : List ArcRef) (place : ℕ)
-    → ((kinds_of (drop place xs) ≡ []) × (slice_get xs place ≡ None))
-    ⊎ ((x : ArcRef) × (place < length xs) × (slice_get xs place ≡ Some x) × (kinds_of (drop place xs) ≡ x.kind.0 ∷ kinds_of (drop (place + 1) xs)))
+from : (xs : List ArcRef) (place : ℕ) → kinds_of (drop place xs) ≡ headed (slice_get xs place) (kinds_of (drop (place + 1) xs))
 from xs place = elim (slice_get_cases xs place).1 [
-  | inl (x, less, at, is) ↦ inr (x, less, at, at_drop_more kinds_of xs place x less ∙ ap (λ (z : ArcRef). z.kind.0 ∷ kinds_of (drop (place + 1) xs)) is)
-  | inr (past, none) ↦ inl (at_drop_all kinds_of xs place past, none)
+  | inl (x, less, at, is) ↦ rw at (at_drop_more kinds_of xs place x less ∙ ap (λ (z : ArcRef). z.kind.0 ∷ kinds_of (drop (place + 1) xs)) is)
+  | inr (past, none) ↦ rw none (at_drop_all kinds_of xs place past)
 ]
 
 -- ---- what the answers say of the kinds
 
-one_kind : (x : ArcRef) (n : ℕ) (P : Type 0) (Q : Error → Type 0) → Answered (answer_of (Some x) n) P Q → ((x.kind.0 ≡ n) × P) ⊎ (((x.kind.0 == n) ≡ false) × Q Error.WrongKind)
-one_kind x n P Q h = grind (arith, nat_tests)
+-- a reading is refused by the name of a reference that wasn't got
+abbrev Stops : Result (Rest Answer) Error → ℕ → Type 0
+Stops r k = r ≡ Err (Error.Storage k)
 
-module _ {X : Type 0} (r : Result (X × Rest Answer) Error) (k : ℕ) where
-  -- a reading that stops at the first reference that wasn't got asked for all that were, by their kinds
-  asked_kinds : (ks : List ℕ) (end : End) (xs : List ArcRef) (place : ℕ) (keys : List ℕ) → Goes ks end (answers_from xs place keys) r → r ≡ Err (Error.Storage k)
-      → (more : List ℕ) × (ks ≡ kinds_of (drop place xs) ++ k ∷ more)
-  unfolding Goes answers_from
-  asked_kinds [] (done b) xs place keys (x, is) e = absurd (let f : Err (Error.Storage k) ≡ Ok (x, record { bytes = b; refs = answers_from xs place keys }) = sym e ∙ is in cc)
-  asked_kinds [] (faulty f sober) xs place keys h e = absurd (let g : Err f ≡ Err (Error.Storage k) = sym h ∙ e in cc)
-  asked_kinds (n ∷ ks) end xs place [] h e = absurd (let g : Err Error.NoMoreKeys ≡ Err (Error.Storage k) = sym h ∙ e in cc)
-  asked_kinds (n ∷ ks) end xs place (key ∷ keys) h e = elim (from xs place) [
-    | inl (nothing, none) ↦
-        let g = rw none at h in
-        let f : Err (Error.Storage n) ≡ Err (Error.Storage k) = sym g ∙ e in
-        let same : n ≡ k = cc in
-        (ks, ap (λ z. z ∷ ks) same ∙ ap (λ zs. zs ++ k ∷ ks) (sym nothing))
-    | inr (x, less, at, is) ↦ elim (one_kind x n _ _ (rw at at h)) [
-      | inl (same, tail) ↦
-          let t = asked_kinds ks end xs (place + 1) keys tail e in
-          (t.0, ap (λ zs. n ∷ zs) t.1 ∙ ap (λ z. z ∷ kinds_of (drop (place + 1) xs) ++ k ∷ t.0) (sym same) ∙ ap (λ zs. zs ++ k ∷ t.0) (sym is))
-      | inr (other, wrong) ↦ absurd (let f : Err Error.WrongKind ≡ Err (Error.Storage k) = sym wrong ∙ e in cc)
-    ]
-  ]
+-- some kind is left
+some-left : (ks back : List ℕ) (k : ℕ) → (ks ++ k ∷ back ≡ ks ++ k ∷ back) × (0 < length (ks ++ k ∷ back))
+some-left ks back k = let l = length-append ks (k ∷ back) in (refl, omega (arith, l))
 
-  -- and one that asks for those kinds stops there, whatever of the kinds was got
-  asks_so : (ks : List ℕ) (end : End) (ys : List ArcRef) (place : ℕ) (keys more : List ℕ) → ks ≡ kinds_of (drop place ys) ++ k ∷ more → place ≤ length ys
-      → length ys < place + length keys → Goes ks end (answers_from ys place keys) r → r ≡ Err (Error.Storage k)
-  unfolding Goes answers_from
-  asks_so [] end ys place keys more is within few h = absurd (let n = ap length is in let l = length-append (kinds_of (drop place ys)) (k ∷ more) in omega (arith, n, l))
-  asks_so (n ∷ ks) end ys place [] more is within few h = absurd (omega (arith, few, within))
-  asks_so (n ∷ ks) end ys place (key ∷ keys) more is within few h = elim (from ys place) [
-    | inl (nothing, none) ↦
-        let g = rw none at h in
-        let e : n ∷ ks ≡ k ∷ more = is ∙ ap (λ zs. zs ++ k ∷ more) nothing in
-        let same : n ≡ k = cc in
-        g ∙ ap (λ z. let o : Result (X × Rest Answer) Error = Err (Error.Storage z) in o) same
-    | inr (y, less, at, left) ↦
-        let e : n ∷ ks ≡ y.kind.0 ∷ kinds_of (drop (place + 1) ys) ++ k ∷ more = is ∙ ap (λ zs. zs ++ k ∷ more) left in
-        elim (one_kind y n _ _ (rw at at h)) [
-          | inl (same, tail) ↦ asks_so ks end ys (place + 1) keys more (cc (e)) (omega (arith, less)) (omega (arith, few)) tail
-          | inr (other, wrong) ↦ absurd (let same : y.kind.0 ≡ n = cc (e) in grind arith)
-        ]
-  ]
+never : (k : ℕ) (end : Result (List ℕ) Error) (refs : List Answer) → Sober end → Stops (asking [] end refs) k → ⊥
+never k (Ok bytes) refs s h = cc
+never k (Err e) refs s h = let f : e ≡ Error.Storage k = cc in cc
+
+-- A reading that asks for the kinds of all that were got, and stops at one more, stops before it where what was got, of the same kinds, ends there.
+module _ (xs got : List ArcRef) (kind k : ℕ) (back : List ℕ) (end : Result (List ℕ) Error) (sober : Sober end) where
+  at_one : (o p : Option ArcRef) (n : ℕ) (os ps : List ℕ) (r q : Result (Rest Answer) Error) → Stops (answer_of o n >>= λ a. r) kind → headed o os ++ kind ∷ [] ≡ headed p ps ++ k ∷ back
+      → (Stops r kind → os ++ kind ∷ [] ≡ ps ++ k ∷ back → Stops q k) → Stops (answer_of p n >>= λ a. q) k
+  at_one o p n os ps r q h is more = grind (arith, nat_tests, some-left)
+
+  stops : (ks : List ℕ) (place : ℕ) (keys : List ℕ) → Stops (asking ks end (answers_from xs place keys)) kind → kinds_of (drop place xs) ++ kind ∷ [] ≡ kinds_of (drop place got) ++ k ∷ back
+      → Stops (asking ks end (answers_from got place keys)) k
+  unfolding answers_from
+  stops [] place keys h is = absurd (never kind end _ sober h)
+  stops (n ∷ ks) place [] h is = absurd (cc)
+  stops (n ∷ ks) place (key ∷ keys) h is =
+      at_one (slice_get xs place) (slice_get got place) n (kinds_of (drop (place + 1) xs)) (kinds_of (drop (place + 1) got)) _ _ h
+      (ap (λ zs. zs ++ kind ∷ []) (sym (from xs place)) ∙ is ∙ ap (λ zs. zs ++ k ∷ back) (from got place)) (stops ks (place + 1) keys)
+
+stopped : {X : Type 0} (r : Result (X × Rest Answer) Error) (k : ℕ) → Stops (leaves r) k → r ≡ Err (Error.Storage k)
+stopped r k h = grind (arith, nat_tests)
 
 -- ---- what comes next
 
@@ -85,20 +69,19 @@ module _ (types : Types) (t : ℕ) (blob : Blob) where
       → (got : List ArcRef) (k : ℕ) (back : List ℕ) → kinds_of xs ++ kind.0 ∷ [] ≡ kinds_of got ++ k ∷ back → AsksNext types t blob got k
   row_asked xs kind key next got k back is =
       let s = stopped_at (slice_get blob.keys (length xs)) (read_with types t blob xs) kind key next in
-      let a = asked_kinds (read_with types t blob xs) kind.0 trace.kinds trace.end xs 0 blob.keys (trace.goes (answers_from xs 0 blob.keys)) s.0 in
       let within = slice_get_within blob.keys (length xs) key s.1 in
+      let many = λ (rs : List ArcRef). length-map rs (λ (r : ArcRef). r.kind.0) in
       let short : length got < length blob.keys =
-      omega (arith, within, ap length is, length-append (kinds_of xs) (kind.0 ∷ []), length-append (kinds_of got) (k ∷ back), as_many xs, as_many got) in
+      omega (arith, within, ap length is, length-append (kinds_of xs) (kind.0 ∷ []), length-append (kinds_of got) (k ∷ back), many xs, many got) in
       let there = slice_get-get_or blob.keys (length got) 0 short in
-      let all : trace.kinds ≡ kinds_of got ++ k ∷ (back ++ a.0) =
-      a.1 ∙ sym (append_assoc (kinds_of xs) (kind.0 ∷ []) a.0) ∙ ap (λ ks. ks ++ a.0) is ∙ append_assoc (kinds_of got) (k ∷ back) a.0 in
-      let stop = asks_so (read_with types t blob got) k trace.kinds trace.end got 0 blob.keys (back ++ a.0) all (omega arith) (omega (arith, short)) (trace.goes (answers_from got 0 blob.keys)) in
-      record { key = _; there = there; next = ap (next_by (slice_get blob.keys (length got))) stop ∙ ap (λ o. next_by o (Err (Error.Storage k))) there }
+      let stop = stops xs got kind.0 k back trace.end trace.sober trace.kinds 0 blob.keys (sym (trace.goes (answers_from xs 0 blob.keys)) ∙ ap leaves s.0) is in
+      let err = stopped (read_with types t blob got) k (trace.goes (answers_from got 0 blob.keys) ∙ stop) in
+      record { key = _; there = there; next = ap (next_by (slice_get blob.keys (length got))) err ∙ ap (λ o. next_by o (Err (Error.Storage k))) there }
 
 -- a row that was found by stand-ins, the last of which is asked for after all others
-pub row_found : (types : Types) (f : Frame) (fs frames : List Frame) (row xs noted : List ArcRef) (last : ArcRef) (b : Bool) → frames ≡ f ∷ fs
-    → row ≡ xs ++ last ∷ [] → xs ++ last ∷ [] ≡ f.got ++ noted → b ≡ true → AskedIf types f.node_type f.blob xs last.kind.0 b → IsAhead types frames row
-row_found types f fs frames row xs noted last b there is split found asked = grind (arith, nat_tests, kinds_joined, row_asked)
+pub row_found : (types : Types) (f : Frame) (fs frames : List Frame) (row xs noted : List ArcRef) (last : ArcRef) (kind : Kind) (key : ℕ) → frames ≡ f ∷ fs → row ≡ xs ++ last ∷ []
+    → xs ++ last ∷ [] ≡ f.got ++ noted → kind.0 ≡ last.kind.0 → next_of types f.node_type f.blob xs ≡ asks kind key → IsAhead types frames row
+row_found types f fs frames row xs noted last kind key there is split same next = grind (arith, nat_tests, kinds_joined, row_asked)
 
 -- what stands in the row behind what was got
 next_in_row : (row got : List ArcRef) (r : ArcRef) (ahead : List ℕ) → kinds_of row ≡ kinds_of got ++ ahead → slice_get row (length got) ≡ Some r → (more : List ℕ) × (ahead ≡ r.kind.0 ∷ more)

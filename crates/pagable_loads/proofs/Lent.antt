@@ -1,15 +1,14 @@
 -- What the references that were got lend, one after the other.
 use Rattle.std.proofs.{lemmas.{Bool.Decides.nat_tests, Grind.common_steps, Map.Keys.any_passes_from_place, Option.slice_get_within}, Common.{rules, ◌≡◌, ◌≢◌}}
-use Rattle.std.proofs.Common.{ℕ, zero, suc, refl, ◌+◌, ◌<◌, ◌≤◌, List, [], ◌∷◌, ◌++◌, length, false, Option, Some, None, Result, Ok, Err, IfOk, ◌⊎◌, inl, inr, ap, arith, slice_get}
+use Rattle.std.proofs.Common.{ℕ, zero, suc, refl, ◌+◌, ◌<◌, ◌≤◌, List, [], ◌∷◌, ◌++◌, length, false, Option, Some, None, Err, ◌⊎◌, inl, inr, ap, arith, slice_get}
 use Rattle.{std.specs.{List.list_any, Option.option_map}, pagable_model.specs.declared.error.Error.Error}
 use Rattle.{pagable_model.specs.{declared.numbers.ArcRef.ArcRef, Deep.is_eager}, pagable_world.specs.Pager.PagerState, pagable_loads.proofs.Stepped.tells_map}
 use Rattle.pagable_loads.specs.{Got.{lent_at, Lends, LendsEach}, Starting.Shares}
 
 module _ {A N E : Type 0} (see : A → N) (s : PagerState N E) where
-  -- a share is refused
-  pub not_shared : (r : ArcRef) (e : Error) (result : Result (Option A) Error) → Shares see s r.handle (Err e) → IfOk result (λ found. (found ≡ None) × (e ≢ Error.OutOfMemory)) → IfOk result (λ found. Lends s r (option_map see found))
-  not_shared r e (Err f) h none = tt
-  not_shared r e (Ok found) h none = first_of (grind (arith, common_steps, nat_tests), search (rules))
+  -- a share is refused, and not since memory is wanting
+  pub not_shared : (r : ArcRef) (e : Error) → Shares see s r.handle (Err e) → e ≢ Error.OutOfMemory → Lends s r None
+  not_shared r e h other = first_of (grind (arith, common_steps, nat_tests), search (rules))
 
 -- what stands at a place once one more came
 pushed_at : {X : Type 0} (xs : List X) (y : X) (k : ℕ) → k < length xs + 1

@@ -1,13 +1,9 @@
 -- A step of a load leaves less to do.
 use Rattle.std.proofs.Common.{◌≡◌, ℕ, zero, suc, ◌+◌, ◌-◌, ◌*◌, ◌<◌, ◌≤◌, ◌⊎◌, Bool, List, [], ◌∷◌}
-use Rattle.std.proofs.Common.{◌++◌, length, None, Ok, refl, ap, sym, subst, ◌∙◌, arith, slice_get, ◌^◌}
-use Rattle.{std.proofs.{lemmas.{Option.slice_get_within, List.length-append}, Math.Nat.mul-le-mul_right}, pagable_loads.proofs.Foreseen.stopped_at}
-use Rattle.{pagable_model.specs.declared.numbers.{ArcRef.ArcRef, Kind.Kind}, pagable_world.specs.{Plain.Types, World.Frame, Loads.{Need, Next, asks, next_in}}}
-use Rattle.{pagable_world.specs.Loads.{need_at, need_of, needs_nested, needs_lazy, read_with}, pagable_loads.specs.Ending.{left_in, left_behind, many, weight, weight_on, to_do, LeadsOn}}
-
-weight_more : (k : ℕ) → weight (suc k) ≡ weight k * many
-unfolding weight
-weight_more k = refl
+use Rattle.std.proofs.Common.{◌++◌, length, None, Ok, ap, sym, subst, arith, ◌^◌}
+use Rattle.{std.proofs.{lemmas.{Bool.Decides.nat_tests, Option.slice_get_within, List.length-append}, Math.Nat.mul-le-mul_right}, pagable_loads.proofs.Foreseen.stopped_at}
+use Rattle.{pagable_model.specs.declared.numbers.{ArcRef.ArcRef, Kind.Kind}, pagable_world.specs.{Plain.Types, World.Frame, Loads.{Need}}}
+use Rattle.{pagable_world.specs.Loads.{need_of, needs_nested, needs_lazy}, pagable_loads.specs.Ending.{left_in, left_behind, many, weight, weight_on, to_do, LeadsOn}}
 
 weight_some : (k : ℕ) → 0 < weight k
 unfolding weight
@@ -20,14 +16,9 @@ weight_some (suc k) = let w = weight_some k in omega (arith, w)
 abbrev NeedsOne : Need → Kind → ℕ → Type 0
 NeedsOne need kind key = (need ≡ needs_nested kind key) ⊎ (need ≡ needs_lazy kind key)
 
-one_asked : (fs : List Frame) (next : Next) (kind : Kind) (key : ℕ) → NeedsOne (need_at fs next) kind key → (k : Kind) × (q : ℕ) × (next ≡ asks k q)
-one_asked fs next kind key e = grind arith
-
 wants : (types : Types) (old : List Frame) (f : Frame) (fs : List Frame) (kind : Kind) (key : ℕ) → old ≡ f ∷ fs → NeedsOne (need_of types old) kind key
     → length f.got < length f.blob.keys
-wants types old f fs kind key is need =
-    let a = one_asked fs (next_in types f) kind key (subst (λ o. NeedsOne (need_of types o) kind key) is need) in
-    slice_get_within f.blob.keys (length f.got) a.1 (stopped_at (slice_get f.blob.keys (length f.got)) (read_with types f.node_type f.blob f.got) a.0 a.1 a.2).1
+wants types old f fs kind key is need = grind (arith, nat_tests, slice_get_within, stopped_at)
 
 -- ---- what each step leaves
 
@@ -53,11 +44,12 @@ module _ {N : Type 0} {for_cell : Bool} {old new : List Frame} where
 
   pub blob_leads : (types : Types) (g f : Frame) (fs : List Frame) (kind : Kind) (key : ℕ) → g.got ≡ [] → length g.blob.keys < 2 ^ 63 → length fs < 128
       → NeedsOne (need_of types old) kind key → old ≡ f ∷ fs → new ≡ g ∷ f ∷ fs → LeadsOn {N = N} for_cell old new (Ok None)
+  unfolding weight
   blob_leads types g f fs kind key none few short need a b =
       let left = wants types old f fs kind key a need in
       let n : length g.got ≡ 0 = ap length none in
       let k : 129 - length fs ≡ suc (129 - length (f ∷ fs)) = omega (arith, short) in
-      let e : weight_on fs ≡ weight_on (f ∷ fs) * many = ap weight k ∙ weight_more (129 - length (f ∷ fs)) in
+      let e : weight_on fs ≡ weight_on (f ∷ fs) * many = ap weight k in
       let w = weight_some (129 - length (f ∷ fs)) in
       let m : (left_in g + 2) * weight_on (f ∷ fs) ≤ many * weight_on (f ∷ fs) = mul-le-mul_right (weight_on (f ∷ fs)) (omega (arith, n, few)) in
       let u : (left_behind f + 1) * weight_on fs ≤ left_in f * weight_on fs = mul-le-mul_right (weight_on fs) (omega (arith, left)) in

@@ -1,10 +1,10 @@
 -- From what reading gives to what the blob asks for next, and what a load needs.
-use Rattle.std.proofs.Common.{arith, ◌≡◌, ℕ, ◌+◌, ◌<◌, List, [], ◌∷◌, ◌++◌, length, false, Option, Some, Result, Ok, refl, ap, subst, sym, ◌∙◌, slice_get}
+use Rattle.std.proofs.{Common.{arith, ◌≡◌, ℕ, ◌+◌, ◌<◌, List, [], ◌∷◌, ◌++◌, length, true, false, Option, Some, Result, Ok, refl, ap, subst, slice_get}, lemmas.List.nil_from_length}
 use Rattle.{std.{proofs.lemmas.Bool.Decides.nat_tests, specs.Arc.arc_value}, pagable_core.specs.{Context.at_front, Data.blob_of}, pagable_model.specs.{declared.error.Error.Error, Deep.longest_path}}
 use Rattle.pagable_model.specs.{declared.numbers.ArcRef.ArcRef, Blob.Blob, Meaning.Meaning, Shape.Shape, Reading.{Rest, read_typed}, Standing.{Answer, Standing, GivesSome, handles_at, rest_at}}
-use Rattle.pagable_world.specs.{World.{Frame, Values}, Loads.{answer_of, answers_from, next_by, read_with, reads, IsDecoded, to_adopt, need_at, ReadsNode, ReadsRoot}}
-use Rattle.pagable_loads.specs.{declared.{decoding.Decoded.Decoded, reading.{Need.Need, Frame.Frame as Held, Reading.Reading as Own}}, Frames.{frame_of, frames_of, onto, reading_of}}
-use Rattle.pagable_loads.specs.{Needing.{Needs, IsRead}, Decoding.{Decodes, ReadsWith, IsReadAs, is_asking}, Got.answer_at}
+use Rattle.pagable_world.specs.{World.{Frame, Values}, Loads.{answer_of, answers_from, next_by, read_with, reads, to_adopt, need_at, ReadsRoot}}
+use Rattle.pagable_loads.specs.{declared.{decoding.Decoded.Decoded, reading.{Need.Need, Frame.Frame as Held, Reading.Reading as Own}}, Frames.{frame_of, onto, reading_of}}
+use Rattle.pagable_loads.specs.{Needing.Needs, Decoding.{Decodes, ReadsWith, IsReadAs}, Got.answer_at}
 use Rattle.pagable_core.specs.Context as context
 
 -- answers by place, key and kind are those of the references got
@@ -22,10 +22,6 @@ reads_with own means nodes parts t env other levels got found bytes keys blob st
     let P : List Answer → Type 0 = λ refs. GivesSome own means after result (read_typed (handles_at 0 (parts env)) (nodes env t) (let x : Rest Answer = record { bytes = blob.bytes; refs = refs } in x)) in
     let there : P (context.answers_from (answer_at got) 0 blob.keys) = rw (s, l, e, g, b, k) at h in
     subst P (same_answers got 0 blob.keys) there
-
--- a refusal that is none of Storage asks for nothing
-pub asks_nothing : (e : Error) → ((kind : ℕ) → e ≡ Error.Storage kind → ⊥) → is_asking e ≡ false
-asks_nothing e other = grind (arith, nat_tests)
 
 module _ {N : Type 0} (v : Values N) (t : ℕ) (blob : Blob) (got : List ArcRef) where
   pub is_read : (x : N) → v.node_type x ≡ t → ReadsWith v t blob got (Ok x) → Decodes v t blob got (Decoded.Read x)
@@ -50,36 +46,22 @@ pub onto_none : (fs : List Held) → fs ≡ [] → onto [] fs ≡ []
 unfolding onto
 onto_none fs is = ap (onto []) is
 
--- ---- what comes onto the stack
-
-pub root_frames : (f : Held) (below : List Held) → f.got.items ≡ [] → below ≡ [] → frame_of f ∷ onto [] below ≡ record (frame_of f) { got = [] } ∷ []
-root_frames f below a b = ap (λ (got : List ArcRef). record (frame_of f) { got = got } ∷ onto [] below) a ∙ ap (λ fs. record (frame_of f) { got = [] } ∷ fs) (onto_none below b)
-
-pub pushed_frames : (f top : Held) (below more : List Held) → f.got.items ≡ [] → more ≡ below ++ top ∷ [] → frame_of f ∷ onto [] more ≡ record (frame_of f) { got = [] } ∷ frame_of top ∷ onto [] below
-pushed_frames f top below more a b =
-    ap (λ (got : List ArcRef). record (frame_of f) { got = got } ∷ onto [] more) a ∙ ap (λ fs. record (frame_of f) { got = [] } ∷ onto [] fs) b ∙ ap (λ fs. record (frame_of f) { got = [] } ∷ fs) (onto_more [] below top)
-
-pub two_frames : (o : Option Held) (top under : Held) (got : List ArcRef) (below rest : List Held) → o ≡ Some top → below ≡ rest ++ under ∷ [] → got ≡ under.got.items → frames_of o below ≡ frame_of top ∷ record (frame_of under) { got = got } ∷ onto [] rest
-two_frames o top under got below rest a b same =
-    ap (λ x. frames_of x below) a ∙ ap (λ fs. frame_of top ∷ onto [] fs) b ∙ ap (λ fs. frame_of top ∷ fs) (onto_more [] rest under) ∙ ap (λ (got : List ArcRef). frame_of top ∷ record (frame_of under) { got = got } ∷ onto [] rest) (sym same)
-
 adopts : (below : List Frame) (own : Meaning ArcRef) → 0 < length below → need_at below (reads own) ≡ to_adopt
 adopts below own some = grind (arith, nat_tests)
 
 module _ {N : Type 0} (v : Values N) (own : Own) (top : Held) (is : own.top ≡ Some top) (x : N) (read : IsReadAs v top.node_type (blob_of (arc_value top.blob)) top.got.items x) where
-  frames : frames_of own.top own.below.items ≡ frame_of top ∷ onto [] own.below.items
-  frames = ap (λ o. frames_of o own.below.items) is
+  root : length own.below.items ≡ 0 → ReadsRoot v (reading_of own) x
+  root none = grind (arith, nat_tests, onto_none, nil_from_length)
 
-  decoded : IsDecoded v (frame_of top) x
-  decoded = record { own = read.own; read = read.read; typed = read.typed; means = read.means }
+  pub node_needs : 0 < length own.below.items → Needs v (reading_of own) own.for_cell (Need.Adopt x)
+  node_needs some = record { is = grind (arith, nat_tests, length_onto, adopts) }
 
-  node : 0 < length own.below.items → ReadsNode v (reading_of own) x
-  node some = grind (arith, nat_tests, length_onto, adopts)
+  pub end_needs : length own.below.items ≡ 0 → own.for_cell ≡ true → Needs v (reading_of own) own.for_cell (Need.End x)
+  end_needs none cell = record { is = (root none, cell) }
 
-  root : own.below.items ≡ [] → ReadsRoot v (reading_of own) x
-  root none = record { root = frame_of top; frames = frames ∙ ap (λ fs. frame_of top ∷ fs) (onto_none own.below.items none); decoded = decoded }
+  pub answer_needs : length own.below.items ≡ 0 → own.for_cell ≡ false → Needs v (reading_of own) own.for_cell (Need.HandOver x)
+  answer_needs none key = record { is = (root none, key) }
 
-  pub read_needs : (need : Need N) → IsRead own.below.items own.for_cell x need → Needs v (reading_of own) own.for_cell need
-  read_needs need r = grind (arith, nat_tests, node, root)
+pub ruleset stacking = (nat_tests, onto_none, onto_more)
 
-pub ruleset needing = (nat_tests, read_needs)
+pub ruleset needing = (nat_tests, node_needs, end_needs, answer_needs)

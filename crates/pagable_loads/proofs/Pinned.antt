@@ -1,10 +1,10 @@
 -- A pin with its loads, and how it is taken back; and the reading of a key.
-use Rattle.std.proofs.{lemmas.{Grind.common_steps, Bool.Decides.nat_tests}, Common.{rules, ◌≡◌, ℕ, ◌+◌, Bool, true, false, Some, Result, Ok, Err, inl, inr, refl, ap, sym, subst, ◌∙◌, arith}}
+use Rattle.std.proofs.{lemmas.{Grind.common_steps, Bool.Decides.nat_tests}, Common.{rules, ◌≡◌, ℕ, ◌+◌, Bool, true, false, Some, Result, Ok, Err, inr, refl, ap, sym, subst, ◌∙◌, arith}}
 use Rattle.{pagable_model.specs.declared.{error.Error.Error, numbers.{HandleNumber.HandleNumber, LoadNumber.LoadNumber}}, pagable_world.specs.declared.events.LoadAnswer.LoadAnswer}
-use Rattle.pagable_world.specs.{declared.{handles.{HandleRow.HandleRow, Owner.Owner}, rows.Mode.Mode, answers.{Pinning.Pinning, Beginning.Beginning}}, Plain.if_there, Kinds.{is_loose, is_unpinned}}
+use Rattle.pagable_world.specs.{declared.{handles.{HandleRow.HandleRow, Owner.Owner}, answers.{Pinning.Pinning, Beginning.Beginning}}, Plain.if_there, Kinds.{is_loose, is_unpinned}}
 use Rattle.pagable_world.specs.{World.{Core, Reading, Root, of_key, Values, Alike, row_at}, Calls.{PinCall, ReleaseCall}, LoadCalls.{BeginCall, BeginKeyCall, with_load}, Workers.fresh}
 use Rattle.pagable_world.specs.{Pager.{PagerState, WellFormed}, Access.{Called, LoadRun, load-ends, load-goes-on, PinRun, pins-at-once, pin-is-refused, load-is-refused, load-pins, load-fails}}
-use Rattle.{pagable_world.specs.Access.{reading-is-refused, load-reads, reading-fails, IsUnpinnedBack, PinsOver, ReadsOver}, pagable_loads.specs.Frames.{IsLoadOf, reading_of, is_cell}}
+use Rattle.{pagable_world.specs.Access.{reading-is-refused, load-reads, reading-fails, IsUnpinnedBack, PinsOver, ReadsOver}, pagable_loads.specs.Frames.{IsLoadOf, reading_of}}
 use Rattle.pagable_loads.specs.{Stepping.Runs, Starting.{StartsPin, PinsFirst, Unpins, TakesBack}, Telling.{begun_as}, declared.{starting.PinStart.PinStart, reading.Reading.Reading as Own}}
 
 pub begun_is : (w w' : Core) (l : LoadNumber) (key : ℕ) (root : Root) (me : Owner) → l.0 ≡ w.last.load + 1 → Alike (with_load w key root me) w' → w'.loads l.0 ≡ Some (record { owner = me; key = key; root = root })
@@ -16,14 +16,11 @@ module _ {N E : Type 0} (v : Values N) (me : Owner) (mine : me ≡ Owner.Caller)
     runs_on {s} {t'} {answer} o r = subst (λ m. LoadRun v m (fresh l t) s answer t') mine (subst (λ x. LoadRun v me x s answer t') is (r.run o))
 
     module _ (h : HandleNumber) (cell : own.for_cell ≡ true) (s mid : PagerState N E) (c : Called v (λ w'. StartsPin s.core me h (Ok (PinStart.Load l key t)) w') s mid) where
-      begun : BeginCall s.core me h (Ok (Beginning.Load l key)) mid.core
-      begun = c.step.starts.0
-
       open_load : IsLoadOf mid.core me own
       open_load = first_of (grind (arith, common_steps, nat_tests), search (rules))
 
       calls : Called v (λ w'. BeginCall s.core Owner.Caller h (Ok (Beginning.Load l key)) w') s mid
-      calls = record { step = subst (λ m. BeginCall s.core m h (Ok (Beginning.Load l key)) mid.core) mine begun; moves = c.moves; whole = c.whole }
+      calls = record { step = subst (λ m. BeginCall s.core m h (Ok (Beginning.Load l key)) mid.core) mine c.step.starts.0; moves = c.moves; whole = c.whole }
 
       pub load_pinned : (k : HandleNumber) (s' : PagerState N E) → Runs v me own mid (LoadAnswer.Pinned k) s' → PinsFirst v s h (Ok (k, true)) s'
       load_pinned k s' r = record { pinned = (load-pins k (fresh l t) mid s' (record { key = key; begins = calls; is = c.step.starts.2 }) (runs_on open_load r), sym c.step.starts.1); refused = tt }

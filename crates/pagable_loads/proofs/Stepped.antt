@@ -1,13 +1,13 @@
 -- What a step's call did is what the step is said to do.
-use Rattle.std.proofs.Common.{◌≡◌, ℕ, ◌+◌, ◌<◌, ◌≤◌, List, [], ◌∷◌, ◌++◌, length, true, false, Option, Some, None, Result, Ok, Err, inl, inr, refl, ap, sym, subst, ◌∙◌, arith}
-use Rattle.{std.{proofs.lemmas.{Bool.Decides.nat_tests, Grind.common_steps}, specs.Prelude.not}, pagable_model.specs.declared.error.Error.Error}
+use Rattle.std.proofs.Common.{◌≡◌, ℕ, ◌+◌, ◌<◌, ◌≤◌, List, [], ◌∷◌, ◌++◌, length, true, false, Option, Some, None, Ok, Err, inl, inr, refl, ap, sym, subst, ◌∙◌, arith}
+use Rattle.{std.{proofs.lemmas.{Bool.Decides.nat_tests, Grind.common_steps}}, pagable_model.specs.declared.error.Error.Error}
 use Rattle.pagable_model.specs.{declared.numbers.{ArcRef.ArcRef, HandleNumber.HandleNumber, Kind.Kind, LoadNumber.LoadNumber}, Blob.Blob}
-use Rattle.{pagable_model.specs.Deep.longest_path, pagable_world.specs.{declared.{events.LoadAnswer.LoadAnswer, handles.Owner.Owner, calls.Want.Want}, Kinds.is_owner, Plain.if_there, World.Core}}
-use Rattle.pagable_world.specs.{World.{Root, OpenLoad, Frame, Reading, Values}, Refusals.{OwnsLoad, refused_if, load_fault}, LoadCalls.{from_store, AskCall, EndCall}}
-use Rattle.pagable_world.specs.{LoadCalls.{HandOverCall, DropCall, LoadCloses}, Loads.{need_of, needs_nested, needs_lazy, root_frame, nested_frame, with_got, handles_of, MakesNode, ReadsNode}}
+use Rattle.{pagable_model.specs.Deep.longest_path, pagable_world.specs.{declared.{events.LoadAnswer.LoadAnswer, handles.Owner.Owner, calls.Want.Want}, World.Core}}
+use Rattle.pagable_world.specs.{World.{Frame, Reading, Values}, Refusals.{OwnsLoad}, LoadCalls.{from_store, AskCall, EndCall}}
+use Rattle.pagable_world.specs.{LoadCalls.{HandOverCall}, Loads.{need_of, needs_nested, needs_lazy, root_frame, nested_frame, with_got, handles_of, MakesNode, ReadsNode}}
 use Rattle.pagable_world.specs.{Loads.{IsDecoded, ReadsRoot, LoadIs, IsOfCell, IsOfKey, Meets, Does}, Pager.{PagerState, Moves, ReadingBrings, IsNewNode, IsCellOf}, Access.{Told, Called, ReadingStep}}
 use Rattle.pagable_loads.specs.Telling.{Acting, Acts, ActsThen, Tells, Brings, IsMade, AsksFor, TakesLazily, AdoptsValue}
-use Rattle.pagable_loads.specs.{Frames.{frame_of, frames_of, onto, reading_of, is_cell, IsLoadOf}, Stepping.{Met, Tries, Steps, Drops}}
+use Rattle.pagable_loads.specs.{Frames.{frame_of, frames_of, onto, reading_of, IsLoadOf}, Stepping.{Met, Tries, Steps, Drops}}
 use Rattle.{pagable_loads.{specs.declared.reading.{Frame.Frame as Held, Reading.Reading as Own}, proofs.Needed.length_onto}, either.specs.declared.Either.Either}
 
 -- ---- what is told
@@ -65,7 +65,7 @@ module _ {N : Type 0} (E : Type 0) (v : Values N) (me : Owner) (own : Own) where
   comes_as : {comes other : ℕ → N → Type 0} {s t : PagerState N E} → ((n : ℕ) (x : N) → comes n x → other n x) → Moves comes s t → Moves other s t
   comes_as f m = record { each = λ n x is. elim (m.each n x is) [ inl was ↦ inl was | inr (none, came) ↦ inr (none, f n x came) ]; environment = m.environment }
 
-  met : {does : Core → Type 0} {s t : PagerState N E} {e : Error} → Called v does s t → Meets v s.core me reading e t.core → Met v me reading s e t
+  pub met : {does : Core → Type 0} {s t : PagerState N E} {e : Error} → Called v does s t → Meets v s.core me reading e t.core → Met v me reading s e t
   met c m = record { meets = m; moves = none_comes c.moves }
 
   went : {does : Core → Type 0} {s t : PagerState N E} {answer : Option (LoadAnswer N)} {frames : List Frame} → Called v does s t → Does v s.core me reading answer frames t.core → ReadingStep v me reading s answer frames t
@@ -74,15 +74,12 @@ module _ {N : Type 0} (E : Type 0) (v : Values N) (me : Owner) (own : Own) where
   goes : {s t : PagerState N E} {answer : Option (LoadAnswer N)} {frames : List Frame} → (IsLoadOf s.core me own → ReadingStep v me reading s answer frames t) → Tries v me own s (Ok answer) frames t
   goes f = record { does = f; meets = λ is. tt }
 
-  fails : {s t : PagerState N E} {e : Error} {frames : List Frame} → (IsLoadOf s.core me own → Met v me reading s e t) → Tries v me own s (Err e) frames t
+  pub fails : {s t : PagerState N E} {e : Error} {frames : List Frame} → (IsLoadOf s.core me own → Met v me reading s e t) → Tries v me own s (Err e) frames t
   fails f = record { does = λ is. tt; meets = f }
 
   module _ (first : frames_of own.top own.below.items ≡ []) where
     pub root_comes : (blob : Blob) (frames : List Frame) → frames ≡ root_frame own.key own.node_type blob ∷ [] → (s t : PagerState N E) → Called v (λ w'. AskCall s.core me own.load Want.Root (Ok (from_store blob)) w') s t → Tries v me own s (Ok None) frames t
     root_comes blob frames is s t c = goes (λ o. went c (inl (record { load = o.load; blob = blob; first = first; open_load = o.owned.stands_open; asked = c.step; goes = is ∙ ap (λ k. root_frame k own.node_type blob ∷ []) (sym o.key) })))
-
-    pub root_refused : (e : Error) (frames : List Frame) (s t : PagerState N E) → Called v (λ w'. AskCall s.core me own.load Want.Root (Err e) w') s t → Tries v me own s (Err e) frames t
-    root_refused e frames s t c = fails (λ o. met c (inr (inl (first, c.step))))
 
   module _ (kind : Kind) (key : ℕ) (top : Held) (under : List Held) (was : frames_of own.top own.below.items ≡ frame_of top ∷ onto [] under) where
     got_goes : (w : Core) (r : ArcRef) (frames : List Frame) → frames ≡ record (frame_of top) { got = top.got.items ++ r ∷ [] } ∷ onto [] under → (m : IsMade w kind r) → frames ≡ with_got kind m.row reading.frames
@@ -101,15 +98,9 @@ module _ {N : Type 0} (E : Type 0) (v : Values N) (me : Owner) (own : Own) where
       pub nested_deep : (blob : B) (e : Error) (frames : List Frame) → e ≡ Error.TooDeep → longest_path ≤ length under → (s t : PagerState N E) → Called v (λ w'. AsksFor see s.core me own.load kind key (Ok (Either.Right blob)) w') s t → Tries v me own s (Err e) frames t
       nested_deep blob e frames is long s t c = fails (λ o. met c (inr (inr (inl (kind, key, need, inr (see blob, is, (omega (arith, deep, long)), c.step.asked))))))
 
-      pub nested_refused : (e : Error) (frames : List Frame) → (s t : PagerState N E) → Called v (λ w'. AsksFor see s.core me own.load kind key (Err e) w') s t → Tries v me own s (Err e) frames t
-      nested_refused e frames s t c = fails (λ o. met c (inr (inr (inl (kind, key, need, inl c.step.asked)))))
-
     module _ (need : need_of v.types reading.frames ≡ needs_lazy kind key) where
       pub lazy_comes : (r : ArcRef) (frames : List Frame) → frames ≡ record (frame_of top) { got = top.got.items ++ r ∷ [] } ∷ onto [] under → (s t : PagerState N E) → Called v (λ w'. TakesLazily s.core me own.load kind key (Ok r) w') s t → Tries v me own s (Ok None) frames t
       lazy_comes r frames is s t c = goes (λ o. went c (inr (inr (inr (inl (record { kind = kind; key = key; k = r.handle; row = c.step.made.row; needs = need; asked = c.step.taken; made = c.step.made.live; goes = got_goes t.core r frames is c.step.made }))))))
-
-      pub lazy_refused : (e : Error) (frames : List Frame) (s t : PagerState N E) → Called v (λ w'. TakesLazily s.core me own.load kind key (Err e) w') s t → Tries v me own s (Err e) frames t
-      lazy_refused e frames s t c = fails (λ o. met c (inr (inr (inr (inl (kind, key, need, c.step.taken))))))
 
   module _ (x : N) (node : ReadsNode v reading x) (top under : Held) (rest : List Held) (was : frames_of own.top own.below.items ≡ frame_of top ∷ frame_of under ∷ onto [] rest) where
     -- the same by the blobs that were taken off

@@ -1,5 +1,5 @@
 -- What a blob asks for ahead: references of these kinds, one after the other.
-use Rattle.std.specs.Prelude.{ℕ, ◌≡◌, ◌⊎◌, Bool, true, false, List, [], ◌∷◌, ◌++◌, length, map, Option, Some, None, Result, Ok, Err, slice_get}
+use Rattle.std.specs.Prelude.{ℕ, ◌≡◌, ◌⊎◌, List, [], ◌∷◌, ◌++◌, length, map, Option, Some, None, Result, Ok, Err, slice_get}
 use Rattle.pagable_model.specs.{declared.error.Error.Error, declared.numbers.ArcRef.ArcRef, declared.numbers.Kind.Kind, Blob.Blob}
 use Rattle.pagable_world.specs.{Plain.Types, World.Frame, declared.events.LoadAnswer.LoadAnswer, Loads.asks, Loads.next_of, Loads.need_of, Loads.needs_lazy}
 
@@ -21,11 +21,6 @@ pub record Foresees (types : Types) (f : Frame) (kinds : List ℕ) : Type 0 wher
 -- a row stands for the kinds that the innermost blob asks for, if it stands for any
 pub record IsAhead (types : Types) (frames : List Frame) (row : List ArcRef) : Type 0 where
   pub is : (row ≡ []) ⊎ ((f : Frame) × (fs : List Frame) × (frames ≡ f ∷ fs) × Foresees types f (kinds_of row))
-
--- whether a reference of this kind was found to be asked for after these
-abbrev pub AskedIf : Types → ℕ → Blob → List ArcRef → ℕ → Bool → Type 0
-AskedIf types t blob got kind true = (key : ℕ) × (next_of types t blob got ≡ asks (record { 0 = kind }) key)
-AskedIf types t blob got kind false = Unit {0}
 
 -- the row tells what the load needs: a reference of this kind, which is read later
 pub record RowTells (types : Types) (frames : List Frame) (row : List ArcRef) (kind : Kind) (key : ℕ) : Type 0 where

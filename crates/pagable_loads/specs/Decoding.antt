@@ -1,5 +1,5 @@
 -- What decoding answers, in the words of loads.
-use Rattle.std.specs.Prelude.{ℕ, ◌≡◌, ◌⊎◌, Bool, true, false, List, Option, Some, None, Result}
+use Rattle.std.specs.Prelude.{ℕ, ◌≡◌, ◌⊎◌, Bool, true, false, List, Result}
 use Rattle.pagable_model.specs.{declared.{error.Error.Error, numbers.ArcRef.ArcRef}, Blob.Blob, Meaning.Meaning}
 use Rattle.{pagable_model.specs.{Reading.Rest, Standing.{Answer, GivesSome}}, pagable_world.specs.{World.Values, Loads.{reads, asks, is_faulty, next_of, read_with}}}
 use Rattle.pagable_loads.specs.declared.decoding.Decoded.{Decoded}
@@ -29,11 +29,3 @@ pub record ReadsWith {N : Type 0} (v : Values N) (t : ℕ) (blob : Blob) (got : 
 abbrev pub is_asking : Error → Bool
 is_asking (Error.Storage kind) = true
 is_asking e = false
-
-abbrev pub AsksFrom : {N : Type 0} → ℕ → Option ℕ → Decoded N → Type 0
-AsksFrom kind None d = d ≡ Decoded.Refused Error.NoMoreKeys
-AsksFrom kind (Some key) d = d ≡ Decoded.Wants (record { 0 = kind }) key
-
--- a reference of this kind is asked for, under the key that is left, if one is
-pub record Asks {N : Type 0} (kind : ℕ) (key : Option ℕ) (d : Decoded N) : Type 0 where
-  pub asks_from : AsksFrom kind key d

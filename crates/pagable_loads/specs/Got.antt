@@ -1,20 +1,11 @@
 -- What those who answer from a list of got references stand for, and what a load lends to them.
-use Rattle.std.specs.Prelude.{◌≡◌, ◌⊎◌, refl, ℕ, ◌==◌, Bool, true, false, if◌then◌else◌, List, Option, Some, None, IfSome, IfNone, IsSome, Result, Ok, Err, option_and_then, slice_get}
-use Rattle.std.{specs.{Option.option_map, declared.{alloc.Global.Global, sync.Arc.Arc}}, proofs.Common.subst}
+use Rattle.std.specs.Prelude.{◌≡◌, ◌⊎◌, ℕ, ◌==◌, Bool, true, false, if◌then◌else◌, List, Option, Some, None, IfSome, IfNone, IsSome, Result, Ok, Err, option_and_then, slice_get}
+use Rattle.std.specs.Option.{option_map}
 use Rattle.pagable_model.specs.{declared.{error.Error.Error, numbers.ArcRef.ArcRef}, Refusals.may_refuse_reference, Deep.is_eager}
-use Rattle.{pagable_world.specs.{World.row_at, Refusals.live_fault, Loads.answer_of, Pager.{PagerState, ValueCall}}, pagable_loads.specs.declared.got.GotReferences.GotReferences}
-
-abbrev pub environment_of : {E N H K V : Type 0} → GotReferences E N H K V → E
-environment_of s = s.env.now
-
-abbrev pub got_of : {E N H K V : Type 0} → GotReferences E N H K V → List ArcRef
-got_of s = s.got.now
+use Rattle.pagable_world.specs.{World.row_at, Refusals.live_fault, Loads.answer_of, Pager.{PagerState, ValueCall}}
 
 abbrev pub answer_at : List ArcRef → ℕ → ℕ → ℕ → Result ArcRef Error
 answer_at got place key kind = answer_of (slice_get got place) kind
-
-abbrev pub lent_of : {E N H K V : Type 0} → GotReferences E N H K V → List (Option (Arc N Global))
-lent_of s = s.lent.now
 
 -- the value at a place of the list, which may be shorter
 abbrev pub lent_at : {A N : Type 0} → (A → N) → List (Option A) → ℕ → Option N
@@ -37,16 +28,10 @@ pub record Lends {N E : Type 0} (s : PagerState N E) (r : ArcRef) (found : Optio
 pub record LendsEach {A N E : Type 0} (see : A → N) (s : PagerState N E) (got : List ArcRef) (lent : List (Option A)) : Type 0 where
   pub each : (place : ℕ) (r : ArcRef) → slice_get got place ≡ Some r → Lends s r (lent_at see lent place)
 
-may_of : (e f : Error) → may_refuse_reference f ≡ true → (let r : Result ArcRef Error = Err f in r) ≡ Err e → may_refuse_reference e ≡ true
-may_of e f may is =
-    let same : f ≡ e = cc in
-    let P : Error → Type 0 = λ x. may_refuse_reference x ≡ true in
-    subst P same may
-
 choice : (b : Bool) (r : ArcRef) (e : Error) → (if b then Ok r else Err Error.WrongKind) ≡ Err e → may_refuse_reference e ≡ true
 choice true r e is = cc
-choice false r e is = may_of e Error.WrongKind refl is
+choice false r e is = let same : e ≡ Error.WrongKind = cc in cc
 
 pub may_refuse : (found : Option ArcRef) (kind : ℕ) (e : Error) → answer_of found kind ≡ Err e → may_refuse_reference e ≡ true
-may_refuse None kind e is = may_of e (Error.Storage kind) refl is
+may_refuse None kind e is = let same : e ≡ Error.Storage kind = cc in cc
 may_refuse (Some r) kind e is = choice (r.kind.0 == kind) r e is

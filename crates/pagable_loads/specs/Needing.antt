@@ -1,6 +1,5 @@
 -- What a load needs next, in the words of the world.
-use Rattle.std.specs.Prelude.{ℕ, ◌≡◌, ◌⊎◌, ◌<◌, Bool, true, false, if◌then◌else◌, List, [], length, Option, IsSome}
-use Rattle.pagable_model.specs.{declared.numbers.Kind.Kind, Deep.is_eager}
+use Rattle.std.specs.Prelude.{◌≡◌, ◌<◌, Bool, true, false, List, [], length, Option, IsSome}
 use Rattle.{pagable_world.specs.{World.{Reading, Values}, Loads.{need_of, needs_nested, needs_lazy, ReadsNode, ReadsRoot, RefusesBlob}}, pagable_loads.specs.declared.reading.Frame.Frame as Held}
 use Rattle.pagable_loads.specs.declared.reading.Need.{Need}
 
@@ -25,13 +24,3 @@ FramesFor top below need = Unit {0}
 -- the blobs are there that the need is of
 pub record HasFrames {N : Type 0} (top : Option Held) (below : List Held) (need : Need N) : Type 0 where
   pub there : FramesFor top below need
-
-abbrev pub need_wanted : {N : Type 0} → Kind → ℕ → Need N
-need_wanted kind key = if is_eager kind.0 then Need.Nested kind key else Need.Lazy kind key
-
--- whose value it is
-abbrev pub ReadOf : {N : Type 0} → List Held → Bool → N → Need N → Type 0
-ReadOf below for_cell x need = ((0 < length below) × (need ≡ Need.Adopt x)) ⊎ ((below ≡ []) × (for_cell ≡ true) × (need ≡ Need.End x)) ⊎ ((below ≡ []) × (for_cell ≡ false) × (need ≡ Need.HandOver x))
-
-pub record IsRead {N : Type 0} (below : List Held) (for_cell : Bool) (x : N) (need : Need N) : Type 0 where
-  pub of : ReadOf below for_cell x need

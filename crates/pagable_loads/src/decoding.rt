@@ -1,7 +1,7 @@
 //! A blob is read from its front, with the references that were got so far.
 
-ghost use Rattle.std.specs.Prelude.{◌≡◌, IfOk, IfSome, IfNone, false, length, slice_get};
-ghost use Rattle.{pagable_core.specs.Data.blob_of, pagable_loads.specs.Decoding.{Decodes, ReadsWith, Asks, is_asking}};
+ghost use Rattle.std.specs.Prelude.{◌≡◌, IfOk};
+ghost use Rattle.{pagable_core.specs.Data.blob_of, pagable_loads.specs.Decoding.{Decodes, ReadsWith}};
 ghost use Rattle.pagable_loads.specs.Telling.{values_at};
 
 use crate::got::GotReferences;
@@ -45,29 +45,6 @@ where
     E::Node::read(node_type, alloc, &mut deserializer)
 }
 
-// The blob asks for the reference after those that were got, as this kind.
-fn asked<N: Drop>(blob: &PagableData, got: &[ArcRef], kind: u32) -> Decoded<N>
-    ensures { Asks kind (slice_get blob.now.arcs.items (length got.now)) result }
-{
-    let arcs = blob.arcs.as_slice();
-    let place = got.len();
-    if place >= arcs.len() {
-        return Decoded::Refused(Error::NoMoreKeys);
-    }
-    Decoded::Wants(Kind(kind), arcs[place])
-}
-
-// The kind as which a reference that wasn't got is asked for, if this refusal tells it.
-fn asked_kind(e: &Error) -> Option<u32>
-    ensures some { IfSome result (λ kind. e.now ≡ Error.Storage kind) }
-    ensures none { IfNone result (is_asking e.now ≡ false) }
-{
-    match e {
-        Error::Storage(kind) => Some(*kind),
-        _ => None,
-    }
-}
-
 /// Reads a blob from its front as a value of this type, with the references that were got for it so far, whose values are lent by their places. Nothing that
 /// its reader did on an earlier way is trusted: what it asks for next is told by the blob alone.
 pub fn decode<E: Env>(
@@ -84,9 +61,14 @@ where
 {
     match read_got(env, alloc, blob, node_type, got, lent) {
         Ok(value) => Decoded::Read(value),
-        Err(e) => match asked_kind(&e) {
-            Some(kind) => asked(blob, got, kind),
-            None => Decoded::Refused(e),
-        },
+        Err(Error::Storage(kind)) => {
+            let arcs = blob.arcs.as_slice();
+            let place = got.len();
+            if place >= arcs.len() {
+                return Decoded::Refused(Error::NoMoreKeys);
+            }
+            Decoded::Wants(Kind(kind), arcs[place])
+        }
+        Err(e) => Decoded::Refused(e),
     }
 }

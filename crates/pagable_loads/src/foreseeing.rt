@@ -1,8 +1,8 @@
 //! A row of references that the innermost blob asks for, one after the other, known before they are got. It is found by two readings with stand-ins for the references that are read later:
 //! one that notes what is asked for, and one that asks for the last of them with all that are before it.
 
-ghost use Rattle.std.specs.Prelude.{◌≡◌, IfSome, IsSome, slice_get};
-ghost use Rattle.{pagable_core.specs.Data.blob_of, pagable_world.specs.Plain.Types, pagable_loads.specs.Ahead.{IsAhead, AskedIf, RowTells, Kept}};
+ghost use Rattle.std.specs.Prelude.{IfSome, IsSome};
+ghost use Rattle.{pagable_world.specs.Plain.Types, pagable_loads.specs.Ahead.{IsAhead, RowTells, Kept}};
 ghost use Rattle.pagable_loads.specs.{Frames.frames_of, Telling.values_at};
 
 use crate::access::Access;
@@ -10,7 +10,7 @@ use crate::decoding::{Decoded, decode};
 use crate::got::GotReferences;
 use crate::reading::{Reading, is_read_at_once, lend};
 use pagable_codec::{ArcRef, Env, Kind, NodeSet, SessionContext};
-use pagable_core::{PagableData, PagableDeserializerImpl, References};
+use pagable_core::{PagableDeserializerImpl, References};
 use pagable_flavors::{DataKey, Error};
 use pagable_model::{HandleNumber, NodeNumber};
 use std::alloc::Global;
@@ -27,16 +27,16 @@ pub struct StandIns<'g, E: Env> {
 
 impl<'g, E: Env> References<E> for StandIns<'g, E> {
     ghost use Rattle.std.specs.{Prelude.{◌||◌, nat_lt, slice_get}, Arc.arc_value};
-    ghost use Rattle.{pagable_model.specs.Deep.is_eager, pagable_loads.specs.Got.{got_of, lent_of, lent_by}};
-    ghost use Rattle.pagable_loads.specs.StandIns.{lends_environment, answer_or_stand_in, or_may_refuse};
+    ghost use Rattle.{pagable_model.specs.Deep.is_eager, pagable_loads.specs.Got.{answer_at, lent_by}};
+    ghost use Rattle.pagable_loads.specs.StandIns.{answered_or, or_may_refuse};
 
-    ghost environment = { lends_environment };
+    ghost environment = { λ s. s.got.env.now };
 
-    ghost answer = { answer_or_stand_in };
+    ghost answer = { λ s place key kind. answered_or (nat_lt place s.count || is_eager kind) (answer_at s.got.got.now place key kind) kind };
 
-    ghost lends = { λ s reference. lent_by arc_value (got_of s.got) (lent_of s.got) s.got.last reference };
+    ghost lends = { λ s reference. lent_by arc_value s.got.got.now s.got.lent.now s.got.last reference };
 
-    ghost refusals = { λ s place key kind e is. or_may_refuse (nat_lt place s.count || is_eager kind) (slice_get (got_of s.got) place) kind e is };
+    ghost refusals = { λ s place key kind e is. or_may_refuse (nat_lt place s.count || is_eager kind) (slice_get s.got.got.now place) kind e is };
 
     fn env(&self) -> &E {
         self.got.env()
@@ -62,64 +62,6 @@ impl<'g, E: Env> References<E> for StandIns<'g, E> {
     fn shared(&self, reference: ArcRef) -> Option<&E::Node> {
         self.got.shared(reference)
     }
-}
-
-/// Stand-ins for the references that are read later and that the blob asks for after those that were got, up to one that is read together with it, or to its
-/// end: as its reader asks for them, which may ask otherwise than the blob is spelled. So none of it is to be trusted.
-pub(crate) fn noted<E: Env>(
-    env: &E,
-    alloc: Global,
-    blob: &PagableData,
-    node_type: u32,
-    got: &[ArcRef],
-    lent: &[Option<Arc<E::Node>>],
-) -> Vec<ArcRef>
-where
-    E::Node: NodeSet<E>,
-{
-    let session = SessionContext::new(alloc);
-    let mut deserializer = PagableDeserializerImpl::new(
-        blob.bytes.as_slice(),
-        blob.arcs.as_slice(),
-        StandIns {
-            got: GotReferences::new(env, &session, got, lent),
-            count: got.len(),
-            noted: Vec::new(alloc),
-        },
-    );
-    let _read = E::Node::read(node_type, alloc, &mut deserializer);
-    deserializer.finish().noted
-}
-
-// Whether the blob asks for a reference of this kind after these.
-fn asks_after<E: Env>(
-    env: &E,
-    alloc: Global,
-    blob: &PagableData,
-    node_type: u32,
-    before: &[ArcRef],
-    lent: &[Option<Arc<E::Node>>],
-    last: ArcRef,
-) -> bool
-where
-    E::Node: NodeSet<E>,
-    ensures { AskedIf (values_at E.Node.NodeSet E.Env E.Hash.KeyHash env.now).types node_type (blob_of blob.now) before.now last.kind.0 result }
-{
-    match decode(env, alloc, blob, node_type, before, lent) {
-        Decoded::Wants(kind, _) => kind.0 == last.kind.0,
-        _ => false,
-    }
-}
-
-// The key at a place of the blob.
-fn key_at(blob: &PagableData, place: usize) -> Option<DataKey>
-    ensures { result ≡ slice_get (blob_of blob.now).keys place }
-{
-    let arcs = blob.arcs.as_slice();
-    if place >= arcs.len() {
-        return None;
-    }
-    Some(arcs[place])
 }
 
 /// The row is as it was if the reference is of this kind, and else empty.
@@ -159,16 +101,30 @@ impl Reading {
         };
         let blob = top.blob.as_ref();
         let got = top.got.as_slice();
-        let noted = noted(env, alloc, blob, top.node_type, got, lent);
+        // The blob's reader may ask otherwise than the blob is spelled: none of what it notes is trusted.
+        let session = SessionContext::new(alloc);
+        let mut deserializer = PagableDeserializerImpl::new(
+            blob.bytes.as_slice(),
+            blob.arcs.as_slice(),
+            StandIns {
+                got: GotReferences::new(env, &session, got, lent),
+                count: got.len(),
+                noted: Vec::new(alloc),
+            },
+        );
+        let _read = E::Node::read(top.node_type, alloc, &mut deserializer);
+        let noted = deserializer.finish().noted;
         if row.extend_from_slice(got).is_err() || row.extend_from_slice(noted.as_slice()).is_err() {
             return Vec::new(alloc);
         }
         let Some(last) = row.pop() else {
             return Vec::new(alloc);
         };
-        if asks_after(env, alloc, blob, top.node_type, row.as_slice(), lent, last)
-            && row.push(last).is_ok()
-        {
+        let next = decode(env, alloc, blob, top.node_type, row.as_slice(), lent);
+        let Decoded::Wants(kind, _) = next else {
+            return Vec::new(alloc);
+        };
+        if kind.0 == last.kind.0 && row.push(last).is_ok() {
             return row;
         }
         Vec::new(alloc)
@@ -207,16 +163,14 @@ impl Reading {
             return None;
         };
         let place = top.got.len();
-        let Some(key) = key_at(top.blob.as_ref(), place) else {
-            return None;
-        };
-        if place >= row.len() {
+        let keys = top.blob.as_ref().arcs.as_slice();
+        if place >= keys.len() || place >= row.len() {
             return None;
         }
         let reference = row[place];
         if is_read_at_once(reference.kind) {
             return None;
         }
-        Some((reference.kind, key))
+        Some((reference.kind, keys[place]))
     }
 }

@@ -1,7 +1,6 @@
 //! The references that were got so far.
 
 ghost use Rattle.std.specs.Prelude.{◌≡◌};
-ghost use Rattle.pagable_loads.specs.Got.{environment_of, got_of, lent_of};
 
 use pagable_codec::{ArcRef, Env, Kind, SessionContext};
 use pagable_core::References;
@@ -28,9 +27,9 @@ impl<'g, E: Env> GotReferences<'g, E> {
         got: &'g [ArcRef],
         lent: &'g [Option<Arc<E::Node>>],
     ) -> GotReferences<'g, E>
-        ensures env { environment_of result ≡ env.now }
-        ensures got { got_of result ≡ got.now }
-        ensures lent { lent_of result ≡ lent.now }
+        ensures env { result.env.now ≡ env.now }
+        ensures got { result.got.now ≡ got.now }
+        ensures lent { result.lent.now ≡ lent.now }
     {
         GotReferences {
             env,
@@ -44,15 +43,15 @@ impl<'g, E: Env> GotReferences<'g, E> {
 
 impl<'g, E: Env> References<E> for GotReferences<'g, E> {
     ghost use Rattle.std.specs.{Prelude.slice_get, Arc.arc_value};
-    ghost use Rattle.pagable_loads.specs.Got.{environment_of, got_of, lent_of, answer_at, lent_by, may_refuse};
+    ghost use Rattle.pagable_loads.specs.Got.{answer_at, lent_by, may_refuse};
 
-    ghost environment = { environment_of };
+    ghost environment = { λ s. s.env.now };
 
-    ghost answer = { λ s place key kind. answer_at (got_of s) place key kind };
+    ghost answer = { λ s place key kind. answer_at s.got.now place key kind };
 
-    ghost lends = { λ s reference. lent_by arc_value (got_of s) (lent_of s) s.last reference };
+    ghost lends = { λ s reference. lent_by arc_value s.got.now s.lent.now s.last reference };
 
-    ghost refusals = { λ s place key kind e is. may_refuse (slice_get (got_of s) place) kind e is };
+    ghost refusals = { λ s place key kind e is. may_refuse (slice_get s.got.now place) kind e is };
 
     fn env(&self) -> &E {
         self.env

@@ -1,8 +1,8 @@
 //! How far a load is: the blobs that it reads, what it needs next, and the values of the references that were got, which it lends to the reader of its innermost blob.
 
-ghost use Rattle.std.specs.{Prelude.{◌≡◌, ◌<◌, [], length, IsSome, true, false, ◌≢◌, None, IfOk, IfErr}, Arc.arc_value, List.list_any, Option.option_map};
+ghost use Rattle.std.specs.{Prelude.{◌≡◌, ◌<◌, [], length, IsSome, IfOk, IfErr}, Arc.arc_value, List.list_any, Option.option_map};
 ghost use Rattle.pagable_model.specs.Deep.{is_eager};
-ghost use Rattle.pagable_loads.specs.{Frames.{reading_of, frames_of}, Needing.{Needs, HasFrames, IsRead, need_wanted}, Telling.{values_at, Tells}, Got.{Lends, LendsEach}};
+ghost use Rattle.pagable_loads.specs.{Frames.{reading_of, frames_of}, Needing.{Needs, HasFrames}, Telling.{values_at, Tells}, Got.{Lends, LendsEach}};
 
 use crate::access::Access;
 use crate::decoding::{Decoded, decode};
@@ -112,45 +112,24 @@ impl Reading {
             lent,
         ) {
             Decoded::Refused(e) => Need::Refuse(e),
-            Decoded::Wants(kind, key) => wanted(kind, key),
-            Decoded::Read(value) => self.read(value),
+            Decoded::Wants(kind, key) => {
+                if is_read_at_once(kind) {
+                    Need::Nested(kind, key)
+                } else {
+                    Need::Lazy(kind, key)
+                }
+            }
+            Decoded::Read(value) => {
+                if !self.below.is_empty() {
+                    return Need::Adopt(value);
+                }
+                if self.for_cell {
+                    Need::End(value)
+                } else {
+                    Need::HandOver(value)
+                }
+            }
         }
-    }
-
-    // The innermost blob was read as this value.
-    fn read<N: Drop>(&self, value: N) -> Need<N>
-        ensures { IsRead self.now.below.items self.now.for_cell value result }
-    {
-        if !self.below.is_empty() {
-            return Need::Adopt(value);
-        }
-        if self.for_cell {
-            Need::End(value)
-        } else {
-            Need::HandOver(value)
-        }
-    }
-}
-
-// A reference is needed: at once, or later.
-fn wanted<N: Drop>(kind: Kind, key: DataKey) -> Need<N>
-    ensures { result ≡ need_wanted kind key }
-{
-    if is_read_at_once(kind) {
-        Need::Nested(kind, key)
-    } else {
-        Need::Lazy(kind, key)
-    }
-}
-
-// A value that isn't shared isn't lent, but want of memory is told.
-fn unshared<N>(e: Error) -> Result<Option<N>, Error>
-    ensures none { IfOk result (λ found. (found ≡ None) × (e ≢ Error.OutOfMemory)) }
-    ensures only { IfErr result (λ e. e ≡ Error.OutOfMemory) }
-{
-    match e {
-        Error::OutOfMemory => Err(Error::OutOfMemory),
-        _ => Ok(None),
     }
 }
 
@@ -170,7 +149,8 @@ where
     }
     match access.share(reference.handle) {
         Ok(found) => Ok(found),
-        Err(e) => unshared(e),
+        Err(Error::OutOfMemory) => Err(Error::OutOfMemory),
+        Err(_) => Ok(None),
     }
 }
 

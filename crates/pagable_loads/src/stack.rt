@@ -37,6 +37,7 @@ impl Reading {
     }
 
     /// Takes the innermost blob off, and the one below it with a place for one more reference. Refused with OutOfMemory.
+    #[tactic(auto, using(crate::proofs::Needed::stacking))]
     pub(crate) fn take_two(&mut self) -> Result<(Frame, Frame), Error>
         requires top { IsSome self.old.top }
         requires below { 0 < length self.old.below.items }
@@ -66,6 +67,7 @@ impl Reading {
     }
 
     /// The root's blob is the only one.
+    #[tactic(auto, using(crate::proofs::Needed::stacking))]
     pub(crate) fn put_root(&mut self, alloc: Global, blob: Arc<PagableData>)
         ensures few { length (blob_of (arc_value blob)).keys < 2 ^ 63 }
         ensures root { frames_of self.new.top self.new.below.items ≡ root_frame self.old.key self.old.node_type (blob_of (arc_value blob)) ∷ [] }
@@ -83,6 +85,7 @@ impl Reading {
     }
 
     /// A reference's blob is the innermost, over the one that asked for it. Refused with TooDeep where it would be the 129th below the root.
+    #[tactic(auto, using(crate::proofs::Needed::stacking))]
     pub(crate) fn put_blob(
         &mut self,
         alloc: Global,

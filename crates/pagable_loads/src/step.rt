@@ -1,8 +1,8 @@
 //! A load's steps, over an access to a pager, and a load that is driven to its end.
 
-ghost use Rattle.std.specs.Prelude.{◌≡◌, ◌<◌, [], length, IsSome, IfOk, Some, Result, Ok, true, false};
-ghost use Rattle.pagable_world.specs.{World.one_more, Loads.{need_of, needs_nested, needs_lazy, ReadsNode}};
-ghost use Rattle.{pagable_world.specs.Loads.ReadsRoot, pagable_loads.specs.{Stepping.{IsSameLoad, Tries, Steps, Drops}, Ahead.{GotMore, goes_on_with, IsAhead, RowTells}}};
+ghost use Rattle.std.specs.Prelude.{◌≡◌, ◌<◌, [], length, IsSome, IfOk, Ok};
+ghost use Rattle.pagable_world.specs.{World.one_more, Loads.{need_of, needs_lazy, ReadsNode, ReadsRoot}};
+ghost use Rattle.pagable_loads.specs.{Stepping.{IsSameLoad, Tries, Steps, Drops}, Ahead.{GotMore, goes_on_with, IsAhead, RowTells}};
 ghost use Rattle.pagable_loads.specs.{Ending.{LeadsOn, EndsAs}, Frames.{reading_of, frames_of}, Needing.{Needs, HasFrames}, Telling.{Acts, values_at}, Stepping.Runs};
 
 use crate::access::Access;
@@ -16,60 +16,6 @@ use pagable_world::LoadAnswer;
 use std::alloc::Global;
 
 impl Reading {
-    // The root's blob comes.
-    #[tactic(auto, using(crate::proofs::Stepped::acts_map, crate::proofs::Stepped::root_refused))]
-    fn step_root<E: Env, A: Access<E>>(
-        &mut self,
-        access: &mut A,
-        alloc: Global,
-    ) -> Result<Option<LoadAnswer<E::Node>>, Error>
-    where
-        E::Node: NodeSet<E>,
-        requires first { frames_of self.old.top self.old.below.items ≡ [] }
-        ensures acts { Acts A.told A.acting access.old access.new (λ a s t. Tries (values_at E.Node.NodeSet E.Env E.Hash.KeyHash a.environment) a.me self.old s result (frames_of self.new.top self.new.below.items) t) }
-        ensures leads { LeadsOn self.old.for_cell (frames_of self.old.top self.old.below.items) (frames_of self.new.top self.new.below.items) result }
-        ensures same { IsSameLoad self.old self.new self.old.steps }
-    {
-        match access.load_root(alloc, self.load) {
-            Ok(blob) => {
-                self.put_root(alloc, blob);
-                Ok(None)
-            }
-            Err(e) => Err(e),
-        }
-    }
-
-    // A reference comes that is read together with the value: the cache's node, or a blob.
-    fn step_nested<E: Env, A: Access<E>>(
-        &mut self,
-        access: &mut A,
-        alloc: Global,
-        kind: Kind,
-        key: DataKey,
-    ) -> Result<Option<LoadAnswer<E::Node>>, Error>
-    where
-        E::Node: NodeSet<E>,
-        requires top { IsSome self.old.top }
-        requires need { need_of (values_at E.Node.NodeSet E.Env E.Hash.KeyHash (A.acting access.old).environment).types (frames_of self.old.top self.old.below.items) ≡ needs_nested kind key }
-        ensures acts { Acts A.told A.acting access.old access.new (λ a s t. Tries (values_at E.Node.NodeSet E.Env E.Hash.KeyHash a.environment) a.me self.old s result (frames_of self.new.top self.new.below.items) t) }
-        ensures leads { LeadsOn self.old.for_cell (frames_of self.old.top self.old.below.items) (frames_of self.new.top self.new.below.items) result }
-        ensures same { IsSameLoad self.old self.new self.old.steps }
-    {
-        let load = self.load;
-        let top = self.take_top()?;
-        match access.load_nested(alloc, load, kind, key) {
-            Ok(Either::Left(reference)) => {
-                self.put_got(top, reference);
-                Ok(None)
-            }
-            Ok(Either::Right(blob)) => match self.put_blob(alloc, top, kind, key, blob) {
-                Ok(()) => Ok(None),
-                Err(e) => Err(e),
-            },
-            Err(e) => Err(e),
-        }
-    }
-
     /// Takes a reference that is read later, by a step that isn't counted yet, and answers it.
     pub(crate) fn take_lazy<E: Env, A: Access<E>>(
         &mut self,
@@ -126,39 +72,9 @@ impl Reading {
         }
     }
 
-    // The cell gets its value, and is pinned.
-    fn step_end<E: Env, A: Access<E>>(
-        &mut self,
-        access: &mut A,
-        alloc: Global,
-        value: E::Node,
-    ) -> Result<Option<LoadAnswer<E::Node>>, Error>
-    where
-        E::Node: NodeSet<E>,
-        requires root { ReadsRoot (values_at E.Node.NodeSet E.Env E.Hash.KeyHash (A.acting access.old).environment) (reading_of self.old) value }
-        requires sort { self.old.for_cell ≡ true }
-        ensures acts { Acts A.told A.acting access.old access.new (λ a s t. Tries (values_at E.Node.NodeSet E.Env E.Hash.KeyHash a.environment) a.me self.old s result (frames_of self.new.top self.new.below.items) t) }
-        ensures leads { LeadsOn self.old.for_cell (frames_of self.old.top self.old.below.items) (frames_of self.new.top self.new.below.items) result }
-        ensures same { IsSameLoad self.old self.new self.old.steps }
-    {
-        match access.load_end(alloc, self.load, value) {
-            Ok(handle) => {
-                self.top = None;
-                Ok(Some(LoadAnswer::Pinned(handle)))
-            }
-            Err((e, back)) => match back {
-                Some(_value) => Err(e),
-                None => {
-                    self.top = None;
-                    Ok(Some(LoadAnswer::Refused(e)))
-                }
-            },
-        }
-    }
-
-    // The caller gets the value that was read, with its handles.
+    // The root was read: its cell gets the value, and is pinned; or the caller gets it, with its handles.
     #[tactic(auto, using(crate::proofs::Stepped::acts_map, crate::proofs::Stepped::hands_over))]
-    fn step_hand_over<E: Env, A: Access<E>>(
+    fn finish<E: Env, A: Access<E>>(
         &mut self,
         access: &mut A,
         alloc: Global,
@@ -167,11 +83,26 @@ impl Reading {
     where
         E::Node: NodeSet<E>,
         requires root { ReadsRoot (values_at E.Node.NodeSet E.Env E.Hash.KeyHash (A.acting access.old).environment) (reading_of self.old) value }
-        requires sort { self.old.for_cell ≡ false }
-        ensures acts { Acts A.told A.acting access.old access.new (λ a s t. Tries (values_at E.Node.NodeSet E.Env E.Hash.KeyHash a.environment) a.me self.old s result (frames_of self.new.top self.new.below.items) t) }
+        ensures acts { Acts A.told A.acting access.old access.new
+            (λ a s t. Tries (values_at E.Node.NodeSet E.Env E.Hash.KeyHash a.environment) a.me self.old s result (frames_of self.new.top self.new.below.items) t) }
         ensures leads { LeadsOn self.old.for_cell (frames_of self.old.top self.old.below.items) (frames_of self.new.top self.new.below.items) result }
         ensures same { IsSameLoad self.old self.new self.old.steps }
     {
+        if self.for_cell {
+            return match access.load_end(alloc, self.load, value) {
+                Ok(handle) => {
+                    self.top = None;
+                    Ok(Some(LoadAnswer::Pinned(handle)))
+                }
+                Err((e, back)) => match back {
+                    Some(_value) => Err(e),
+                    None => {
+                        self.top = None;
+                        Ok(Some(LoadAnswer::Refused(e)))
+                    }
+                },
+            };
+        }
         let references = value.refs(alloc)?;
         let named = handles_of(alloc, references.as_slice())?;
         match access.load_take(self.load, named.as_slice()) {
@@ -198,16 +129,36 @@ impl Reading {
         ensures leads { LeadsOn self.old.for_cell (frames_of self.old.top self.old.below.items) (frames_of self.new.top self.new.below.items) result }
         ensures same { IsSameLoad self.old self.new self.old.steps }
     {
+        let load = self.load;
         match need {
-            Need::Root => self.step_root(access, alloc),
-            Need::Nested(kind, key) => self.step_nested(access, alloc, kind, key),
+            Need::Root => match access.load_root(alloc, load) {
+                Ok(blob) => {
+                    self.put_root(alloc, blob);
+                    Ok(None)
+                }
+                Err(e) => Err(e),
+            },
+            Need::Nested(kind, key) => {
+                let top = self.take_top()?;
+                match access.load_nested(alloc, load, kind, key) {
+                    Ok(Either::Left(reference)) => {
+                        self.put_got(top, reference);
+                        Ok(None)
+                    }
+                    Ok(Either::Right(blob)) => match self.put_blob(alloc, top, kind, key, blob) {
+                        Ok(()) => Ok(None),
+                        Err(e) => Err(e),
+                    },
+                    Err(e) => Err(e),
+                }
+            }
             Need::Lazy(kind, key) => match self.take_lazy(access, alloc, kind, key) {
                 Ok(_) => Ok(None),
                 Err(e) => Err(e),
             },
             Need::Adopt(value) => self.step_adopt(access, alloc, value),
-            Need::End(value) => self.step_end(access, alloc, value),
-            Need::HandOver(value) => self.step_hand_over(access, alloc, value),
+            Need::End(value) => self.finish(access, alloc, value),
+            Need::HandOver(value) => self.finish(access, alloc, value),
             Need::Refuse(e) => Err(e),
         }
     }
@@ -253,41 +204,8 @@ impl Reading {
         }
     }
 
-    // Makes the step that takes the next reference of the row, which is read later, without reading the blob.
-    #[tactic(auto, using(crate::proofs::Stepped::giving_up))]
-    fn step_in_row<E: Env, A: Access<E>>(
-        &mut self,
-        access: &mut A,
-        alloc: Global,
-        row: &mut Vec<ArcRef>,
-        kind: Kind,
-        key: DataKey,
-    ) -> Option<LoadAnswer<E::Node>>
-    where
-        E::Node: NodeSet<E>,
-        requires top { IsSome self.old.top }
-        requires tells { RowTells (values_at E.Node.NodeSet E.Env E.Hash.KeyHash (A.acting access.old).environment).types (frames_of self.old.top self.old.below.items) row.old.items kind key }
-        ensures acts { Acts A.told A.acting access.old access.new (λ a s t. Steps (values_at E.Node.NodeSet E.Env E.Hash.KeyHash a.environment) a.me self.old s result (frames_of self.new.top self.new.below.items) t) }
-        ensures leads { LeadsOn self.old.for_cell (frames_of self.old.top self.old.below.items) (frames_of self.new.top self.new.below.items) (Ok result) }
-        ensures same { IsSameLoad self.old self.new (one_more self.old.steps) }
-        ensures ahead { IsAhead (values_at E.Node.NodeSet E.Env E.Hash.KeyHash (A.acting access.old).environment).types (frames_of self.new.top self.new.below.items) row.new.items }
-    {
-        match self.take_lazy(access, alloc, kind, key) {
-            Ok(reference) => {
-                self.steps = self.steps.saturating_add(1);
-                keep_if(row, kind, reference);
-                None
-            }
-            Err(e) => {
-                self.give_up(access);
-                self.steps = self.steps.saturating_add(1);
-                row.clear();
-                Some(LoadAnswer::Refused(e))
-            }
-        }
-    }
-
     // Makes the load's next step, as `step` does, and reads the innermost blob for it only where no row that is ahead tells what is needed.
+    #[tactic(auto, using(crate::proofs::Stepped::giving_up))]
     fn step_on<E: Env, A: Access<E>>(
         &mut self,
         access: &mut A,
@@ -303,11 +221,21 @@ impl Reading {
         ensures ahead { IsAhead (values_at E.Node.NodeSet E.Env E.Hash.KeyHash (A.acting access.old).environment).types (frames_of self.new.top self.new.below.items) row.new.items }
     {
         self.look_ahead(access, alloc, row);
-        match self.told(row.as_slice()) {
-            Some((kind, key)) => self.step_in_row(access, alloc, row, kind, key),
-            None => {
+        let Some((kind, key)) = self.told(row.as_slice()) else {
+            row.clear();
+            return self.step(access, alloc);
+        };
+        match self.take_lazy(access, alloc, kind, key) {
+            Ok(reference) => {
+                self.steps = self.steps.saturating_add(1);
+                keep_if(row, kind, reference);
+                None
+            }
+            Err(e) => {
+                self.give_up(access);
+                self.steps = self.steps.saturating_add(1);
                 row.clear();
-                self.step(access, alloc)
+                Some(LoadAnswer::Refused(e))
             }
         }
     }

@@ -1,11 +1,12 @@
 -- Each event of the machine, by what the pager and what is kept of loads say of it.
 use Rattle.pagable_machine.proofs.Words.{Does, CallBrings, OnlyLess, core_in, plain_call, plain_reply, arith, nat_tests, ◌≡◌, ℕ, true, false, Option, Some, None, Ok, Err, ◌⊎◌}
-use Rattle.pagable_machine.proofs.Words.{inl, inr, refl, sym, ap, subst, ◌∙◌, Result, is_some, Arc, Global, PagableData, Error, HandleNumber, LoadNumber, Beginning, Call, Reply, LoadReply, Blob, Core}
+use Rattle.pagable_machine.proofs.Words.{inl, inr, refl, sym, ap, subst, ◌∙◌, Result, is_some, Arc, Global, PagableData, Error, HandleNumber, LoadNumber, Beginning, Call, Reply, LoadReply, Blob}
 use Rattle.pagable_machine.proofs.Words.{Seen, Values, Written, load_fault, DropCall, fresh, Moves, PagerState, WellFormed, same_some, reading_of, PagerView, Telling, state_in, ReadsAs}
-use Rattle.pagable_machine.proofs.Words.{Ghosts, plain, Held, Serves, BeginsNoKey, Forgets, Holding, IsPrepared, IsTaken, KeepsOne, Kept, Makes, KeptStep, rest_after, Answer, Drives, Given}
-use Rattle.pagable_machine.proofs.{Words.{IsInStep, Readings, holding, kept_at, over}, Keeping.{by-call, key-refused, key-starts, same-work}, Loading.{faulty, never-typed, no-place, own-steps}}
-use Rattle.{pagable_machine.proofs.Loading.refuses-step, pagable_world.specs.declared.{handles.Owner.Owner, events.{LoadAnswer.LoadAnswer, EventReply.EventReply, Event.Event}}}
-use Rattle.{pagable_loads.specs.declared.reading.Reading.Reading as Own, pagable_pager.specs.View.{OnlyTables, value_in}}
+use Rattle.pagable_machine.proofs.Words.{Ghosts, plain, Held, Serves, Forgets, Holding, IsPrepared, IsTaken, KeepsOne, Kept, KeptStep, rest_after, Answer, Drives, Given}
+use Rattle.pagable_machine.proofs.{Words.{IsInStep, Readings, holding, kept_at, over}, Keeping.{by-call, key-starts, nothing-done, refused, same-work}, Loading.{faulty, never-typed, no-place}}
+use Rattle.pagable_machine.proofs.{Loading.own-steps, Words.{machine_of, step_fault, world_of, LoadAnswer}}
+use Rattle.pagable_world.specs.declared.{handles.Owner.Owner, events.{EventReply.EventReply, Event.Event}}
+use Rattle.{pagable_loads.specs.declared.reading.Reading.Reading as Own, pagable_pager.{proofs.Adopting.less-moves, specs.View.{OnlyTables, value_in}}}
 
 -- a call by which values come, one by which they only go, and one by which they stay
 module _ {N S E : Type 0} {v : Values N} {tells : Telling S} {old new : PagerView N S E} {call : Call N PagableData} {r : Reply N (Arc PagableData Global)}
@@ -14,14 +15,10 @@ module _ {N S E : Type 0} {v : Values N} {tells : Telling S} {old new : PagerVie
   serves moves = record { step = record { does = does }; moves = moves }
 
   pub serves-less : OnlyLess old new → Serves v tells old call r new
-  serves-less only = serves (record { each = λ n x is. inl (only.values n x is); environment = only.environment })
+  serves-less only = serves (less-moves tells old new only)
 
   pub serves-same : OnlyTables old new → Serves v tells old call r new
   serves-same only = serves (record { each = λ n x is. inl (subst (λ values. value_in values n ≡ Some x) only.values is); environment = only.environment })
-
--- nothing is forgotten where all stays
-pub forgets-none : (w : Core) {kept kept' : Kept} → ((q : ℕ) → kept' q ≡ kept q) → Forgets w kept kept'
-forgets-none w as_was = record { still = λ l load is. as_was l; only = λ l own is. sym (as_was l) ∙ is }
 
 -- what is kept anew after what was kept stayed
 pub keeps-after : {Y : Type 0} {k mid kept' : ℕ → Option Y} {l : ℕ} {own : Option Y} → ((q : ℕ) → mid q ≡ k q) → KeepsOne mid l own kept' → KeepsOne k l own kept'
@@ -79,20 +76,11 @@ module _ {X : Type 0} {g : Ghosts X} {N S E : Type 0} (v : E → Values N) (tell
   start-drives through r serves formed =
       let w = whole-still serves.moves formed in
       record {
-        makes = by-call m s s' h h.readings serving was w _ _ serves.step (forgets-none s'.core (λ q. refl)) (Event.LoadStart through) (EventReply.Started r) (λ q. refl)
+        makes = by-call m s s' h h.readings serving was w _ _ serves.step (record { still = λ l load is. refl; only = λ l own is. is }) (Event.LoadStart through) (EventReply.Started r) (λ q. refl)
             (λ readings. record { step = serves.step.does; readings = readings; work = same-work m s s' h h.readings serving was w }) serves.moves tt;
       }
 
-  -- a load of a key is refused before it begins
-  pub key-full-drives : (key t : ℕ) (e : Error) → BeginsNoKey s.core e → ((q : ℕ) → kept_at kept' q ≡ kept_at kept q)
-      → Happens (Event.LoadKey key t) (EventReply.Started (Err e)) old kept'
-  key-full-drives key t e refused as_was =
-      record {
-        makes = key-refused m s s h (kept_at kept') serving was was key t e (record { does = record { begins = tt; refused = refused } })
-            (record { each = λ n x is. inl is; environment = refl }) (forgets-none s.core as_was);
-      }
-
-  -- it has begun, or hasn't
+  -- a load of a key has begun
   pub key-drives : (key t : ℕ) (r : Result Beginning Error) (l : LoadNumber) (own : Own) → (k : ℕ) × (r ≡ Ok (Beginning.Load l k))
       → Serves (v old.environment) tells old (Call.LoadKey key) (Reply.Begun r) new → WellFormed (v new.environment) s' → reading_of own ≡ fresh l t → own.key ≡ key → own.for_cell ≡ false
       → KeepsOne (kept_at kept) l.0 (Some own) (kept_at kept') → Happens (Event.LoadKey key t) (EventReply.Started r) new kept'
@@ -101,18 +89,28 @@ module _ {X : Type 0} {g : Ghosts X} {N S E : Type 0} (v : E → Values N) (tell
       subst (λ x. Happens (Event.LoadKey key t) (EventReply.Started x) new kept') (sym is)
       (record { makes = key-starts m s s' h (kept_at kept') serving was (whole-still made.moves formed) key t l k own made.step made.moves reads key_is sort keeps })
 
+  -- or none begins, and the pager is as it was
   pub key-none-drives : (key t : ℕ) (r : Result Beginning Error) → ((e : Error) × (r ≡ Err e)) ⊎ (r ≡ Ok Beginning.InMemory)
       → Serves (v old.environment) tells old (Call.LoadKey key) (Reply.Begun r) new → WellFormed (v new.environment) s' → ((q : ℕ) → kept_at kept' q ≡ kept_at kept q)
       → Happens (Event.LoadKey key t) (EventReply.Started r) new kept'
   key-none-drives key t (Err e) why serves formed as_was =
-      record { makes = key-refused m s s' h (kept_at kept') serving was (whole-still serves.moves formed) key t e serves.step serves.moves (forgets-none s'.core as_was) }
+      refused v tells old new held (record held { readings = kept' }) serving was
+      (record { step = serves.step.does.refused.stays; moves = serves.moves; whole = whole-still serves.moves formed }) (record { readings = as_was; tables = refl; walks = λ q. refl })
+      (Event.LoadKey key t) (EventReply.Started (Err e)) (λ q. refl) (λ stays. record { step = serves.step.does; begun = tt; refused = stays.readings; work = stays.work }) tt
   key-none-drives key t (Ok Beginning.InMemory) why serves formed as_was = absurd serves.step.does.begins
   key-none-drives key t (Ok (Beginning.Load l k)) why serves formed as_was = absurd (elim why [ inl (e, is) ↦ cc | inr is ↦ cc ])
 
+  step-refused : (l : LoadNumber) (e : Error) → ((q : ℕ) → kept_at kept' q ≡ kept_at kept q) → step_fault (world_of (machine_of s h)) l ≡ Some e
+      → Happens (Event.LoadStep l) (EventReply.LoadMoved (Err e)) old kept'
+  step-refused l e as_was why =
+      refused v tells old old held (record held { readings = kept' }) serving was (nothing-done s was) (record { readings = as_was; tables = refl; walks = λ q. refl }) (Event.LoadStep l)
+      (EventReply.LoadMoved (Err e)) (λ q. refl) (λ stays. record { moves = tt; refused = (why, stays) }) tt
+
   module _ (l : LoadNumber) (key : ℕ) (t : Option ℕ) (reads : ReadsAs s.core l key t) where
-    pub step-drives : (kept1 kept2 : Readings) (reply : LoadReply N) → IsPrepared (kept_at kept) l key t (kept_at kept1) → KeptStep (v old.environment) (kept_at kept1) l.0 reply (kept_at kept2) s s'
-        → KeepsOne (kept_at kept2) l.0 (rest_after reply.ended (kept_at kept2 l.0)) (kept_at kept') → Happens (Event.LoadStep l) (EventReply.LoadMoved (Ok reply)) new kept'
-    step-drives kept1 kept2 reply ready step ends =
+    pub step-drives : (kept1 : Readings) (mid : Kept) (reply : LoadReply N) → IsPrepared (kept_at kept) l key t (kept_at kept1)
+        → KeepsOne mid l.0 (rest_after reply.ended (mid l.0)) (kept_at kept')
+        → KeptStep (v old.environment) (kept_at kept1) l.0 reply mid s s' → Happens (Event.LoadStep l) (EventReply.LoadMoved (Ok reply)) new kept'
+    step-drives kept1 mid reply ready ends step =
         let same : ready.own ≡ step.own = same_some _ _ (sym ready.keeps.here ∙ step.was) in
         let taken = subst (λ x. IsTaken (kept_at kept) l key t x) same ready.taken in
         let keeps : KeepsOne (kept_at kept) l.0 (rest_after reply.ended (Some step.new)) (kept_at kept') =
@@ -122,17 +120,16 @@ module _ {X : Type 0} {g : Ghosts X} {N S E : Type 0} (v : E → Values N) (tell
               step.stepped keeps;
         }
 
-    pub no-place-drives : (type : ℕ) (reply : LoadReply N) → t ≡ Some type → kept_at kept l.0 ≡ None → reply ≡ record { ended = Some (LoadAnswer.Refused Error.OutOfMemory); steps = 1 }
-        → (told : Result (Unit {0}) Error) → DropCall s.core Owner.Caller l told s'.core → Moves (λ n x. ⊥) s s' → WellFormed (v new.environment) s' → ((q : ℕ) → kept_at kept' q ≡ kept_at kept q)
-        → Happens (Event.LoadStep l) (EventReply.LoadMoved (Ok reply)) new kept'
-    no-place-drives type reply typed none is told drop moves formed as_was =
-        record {
-          makes = subst (λ x. Makes m s h (Event.LoadStep l) (EventReply.LoadMoved (Ok x)) s' (record h { readings = kept_at kept' })) (sym is)
-              (no-place m s s' h (kept_at kept') serving was l reads.load type told reads.owned (reads.type_is ∙ typed) none drop moves (whole-still moves formed) as_was);
-        }
+    pub no-place-drives : (type : ℕ) → t ≡ Some type → kept_at kept l.0 ≡ None → (told : Result (Unit {0}) Error) → DropCall s.core Owner.Caller l told s'.core → OnlyLess old new
+        → WellFormed (v new.environment) s' → ((q : ℕ) → kept_at kept' q ≡ kept_at kept q)
+        → Happens (Event.LoadStep l) (EventReply.LoadMoved (Ok (record { ended = Some (LoadAnswer.Refused Error.OutOfMemory); steps = 1 }))) new kept'
+    no-place-drives type typed none told drop only formed as_was =
+        let moves : Moves (λ n x. ⊥) s s' = less-moves tells old new only in
+        record { makes = no-place m s s' h (kept_at kept') serving was l reads.load type told reads.owned (reads.type_is ∙ typed) none drop moves (whole-still moves formed) as_was }
 
     pub untyped-drives : t ≡ None → kept_at kept l.0 ≡ None → ((q : ℕ) → kept_at kept' q ≡ kept_at kept q) → Happens (Event.LoadStep l) (EventReply.LoadMoved (Err Error.WrongMode)) old kept'
-    untyped-drives untyped none as_was = record { makes = refuses-step m s h serving was l Error.WrongMode as_was (never-typed s h l reads.load reads.owned none (reads.type_is ∙ untyped)) }
+    untyped-drives untyped none as_was = step-refused l Error.WrongMode as_was (never-typed s h l reads.load reads.owned none (reads.type_is ∙ untyped))
 
-  pub closed-drives : (l : LoadNumber) (e : Error) → load_fault s.core Owner.Caller l ≡ Some e → Happens (Event.LoadStep l) (EventReply.LoadMoved (Err e)) old kept
-  closed-drives l e why = record { makes = refuses-step m s h serving was l e (λ q. refl) (faulty s h l e why) }
+  pub closed-drives : (l : LoadNumber) (e : Error) → load_fault s.core Owner.Caller l ≡ Some e → ((q : ℕ) → kept_at kept' q ≡ kept_at kept q)
+      → Happens (Event.LoadStep l) (EventReply.LoadMoved (Err e)) old kept'
+  closed-drives l e why as_was = step-refused l e as_was (faulty s h l e why)

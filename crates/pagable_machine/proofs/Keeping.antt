@@ -1,9 +1,10 @@
 -- What a machine keeps of loads stays in step with its pager, whatever event happens.
-use Rattle.pagable_machine.proofs.Words.{nat_tests, common_steps, rules, ◌≡◌, ◌≢◌, ℕ, ◌+◌, ◌<◌, ◌≤◌, ◌==◌, Bool, true, false, [], length, Option, Some, None, Ok, Err, ◌⊎◌, inl, inr, if◌then◌else◌}
-use Rattle.pagable_machine.proofs.Words.{refl, sym, ap, subst, ◌∙◌, arith, is_some, option_map, Owner, Beginning, Error, LoadNumber, Call, Reply, Event, EventReply, if_there}
+use Rattle.pagable_machine.proofs.Words.{nat_tests, common_steps, rules, ◌≡◌, ◌≢◌, ℕ, ◌+◌, ◌<◌, ◌≤◌, ◌==◌, Bool, true, false, [], length, Option, Some, None, Ok, ◌⊎◌, inl, inr, if◌then◌else◌}
+use Rattle.pagable_machine.proofs.Words.{refl, sym, ap, subst, ◌∙◌, arith, is_some, option_map, Owner, Beginning, LoadNumber, Call, Reply, Event, EventReply, if_there}
 use Rattle.pagable_machine.proofs.Words.{updated, is_owner, Alike, Core, Last, OpenLoad, Reading, Walking, of_key, Seen, Values, fresh, step_of, CallStep, Happens, Stays, WorkStays}
 use Rattle.pagable_machine.proofs.Words.{EventBrings, HandlesAreWhole, IsMachineWhole, IsReadingWhole, IsWalkingWhole, Moves, PagerState, ReplyWrites, WellFormed, world_of, same_some, same-number}
 use Rattle.pagable_machine.proofs.Words.{self-number, reading_of, Ghosts, Walk, AllKept, Forgets, Holding, IsKept, IsServing, KeepsOne, Kept, Makes, ReadsFor, machine_of, readings_in, work_of}
+use Rattle.pagable_machine.proofs.Words.{still, World, Called, PagerView, Telling, core_in, state_in, plain, plain_event, plain_answer, Held, Given, Answer, Drives, IsInStep, holding, over}
 use Rattle.pagable_machine.proofs.{Words.{IsWalkKept, walking_of}, Leaving.{Leaves, call-leaves, like}, Passing.{Passes, event-passes, walk-on}}
 use Rattle.pagable_loads.specs.declared.reading.Reading.{Reading as Own}
 use Rattle.pagable_world.specs.Events.{ReadingsAre}
@@ -31,7 +32,8 @@ pub at-one : {Y Z : Type 0} (f : Y → Z) {kept kept' : ℕ → Option Y} (l : �
     → option_map f (kept' q) ≡ updated l new old q
 at-one f {kept} {kept'} l x new old k is q same = first_of (grind (arith, common_steps, nat_tests), grind (arith, nat_tests, same-number, not-same), search (rules, same-number, not-same))
 
-pub one-or-old : {Y : Type 0} {kept kept' : ℕ → Option Y} (l : ℕ) (x : Option Y) → KeepsOne kept l x kept' → (q : ℕ) (own : Y) → kept' q ≡ Some own → (kept q ≡ Some own) ⊎ ((q ≡ l) × (x ≡ Some own))
+pub one-or-old : {Y : Type 0} {kept kept' : ℕ → Option Y} (l : ℕ) (x : Option Y) → KeepsOne kept l x kept' → (q : ℕ) (own : Y) → kept' q ≡ Some own
+    → ((q ≢ l) × (kept q ≡ Some own)) ⊎ ((q ≡ l) × (x ≡ Some own))
 one-or-old {kept = kept} {kept'} l x k q own is = first_of (grind (arith, common_steps, nat_tests), grind (arith, nat_tests, same-number, not-same), search (rules, same-number, not-same))
 
 module _ {w : Core} {kept : Kept} (all : AllKept w kept) {me : Owner} {works : ℕ → Bool} {w' : Core} (on : Leaves me works w w') where
@@ -94,19 +96,13 @@ pub one-serves : {X : Type 0} {g : Ghosts X} {w w' : Core} {h h' : Holding g} �
 one-serves {X} {g} {w} {w'} {h} {h'} serving whole v k keeps more readings passes works new =
     record {
       readings = readings;
-      walks = λ q x is. walk q x is (q == v) refl;
+      walks = λ q x is. elim (one-or-old v (Some k) keeps q x is) [
+        | inl (other, was) ↦ walk-on whole (passes q other) more (works q other) (serving.walks q x was)
+        | inr (at, same) ↦ subst (λ n. IsWalkKept w' (length h'.tables) n x) (sym at) (subst (λ y. IsWalkKept w' (length h'.tables) v y) (same_some _ _ same) new)
+      ];
       all_there = λ q is. there q is (q == v) refl;
     }
   where
-    walk : (q : ℕ) (x : Walk X g) → h'.walks q ≡ Some x → (b : Bool) → (q == v) ≡ b → IsWalkKept w' (length h'.tables) q x
-    walk q x is true e =
-        let at = same-number q v e in
-        let same : k ≡ x = same_some _ _ (sym keeps.here ∙ subst (λ n. h'.walks n ≡ Some x) at is) in
-        subst (λ n. IsWalkKept w' (length h'.tables) n x) (sym at) (subst (λ y. IsWalkKept w' (length h'.tables) v y) same new)
-    walk q x is false e =
-        let other = not-same q v e in
-        walk-on whole (passes q other) more (works q other) (serving.walks q x (sym (keeps.others q other) ∙ is))
-
     there : (q : ℕ) → w'.workers q ≡ true → (b : Bool) → (q == v) ≡ b → is_some (h'.walks q) ≡ true
     there q is true e = ap is_some (ap h'.walks (same-number q v e) ∙ keeps.here)
     there q is false e = let other = not-same q v e in ap is_some (keeps.others q other) ∙ serving.all_there q (sym (works q other) ∙ is)
@@ -152,13 +148,7 @@ module _ {X : Type 0} {g : Ghosts X} {N B W E : Type 0} (m : Seen N B W) (s s' :
       (happens (are-these s'.core kept' (readings_in h.readings s.core) (λ l load is. ap (option_map reading_of) (f.still l load is) ∙ as-before serving.readings on l load is)))
       moves writes (kept-on serving.readings on (λ l own is. inl (f.only l own is)))
 
-  -- a load of a key is refused
-  pub key-refused : (key t : ℕ) (e : Error) → CallStep m s.core Owner.Caller (Call.LoadKey key) (Reply.Begun (Err e)) s'.core → Moves (λ n x. ⊥) s s' → Forgets s'.core h.readings kept'
-      → Makes m s h (Event.LoadKey key t) (EventReply.Started (Err e)) s' after
-  key-refused key t e step moves f = by-call _ _ step f (Event.LoadKey key t) (EventReply.Started (Err e)) (λ v. refl)
-      (λ readings. record { step = step.does; begun = tt; refused = readings; work = same-work }) moves tt
-
-  -- it begins, and is kept
+  -- a load of a key begins, and is kept
   pub key-starts : (key t : ℕ) (l : LoadNumber) (k : ℕ) (own : Own) → CallStep m s.core Owner.Caller (Call.LoadKey key) (Reply.Begun (Ok (Beginning.Load l k))) s'.core → Moves (λ n x. ⊥) s s'
       → reading_of own ≡ fresh l t → own.key ≡ key → own.for_cell ≡ false → KeepsOne h.readings l.0 (Some own) kept'
       → Makes m s h (Event.LoadKey key t) (EventReply.Started (Ok (Beginning.Load l k))) s' after
@@ -185,7 +175,7 @@ module _ {X : Type 0} {g : Ghosts X} {N B W E : Type 0} (m : Seen N B W) (s s' :
         work = same-work;
       }) moves tt
       (kept-on serving.readings on (λ q other is_kept. elim (one-or-old l.0 (Some own) keeps q other is_kept) [
-        | inl was ↦ inl was
+        | inl was ↦ inl was.1
         | inr (at, same) ↦ inr (subst (λ n. IsKept s'.core n other) (sym at) (subst (λ x. IsKept s'.core l.0 x) (same_some _ _ same) new))
       ]))
 
@@ -202,13 +192,36 @@ module _ {X : Type 0} {g : Ghosts X} {N B W E : Type 0} (m : Seen N B W) (s s' :
   on : Leaves Owner.Caller s.core.workers s.core s'.core
   on = like same_pager refl refl refl
 
-  pub stays : Stays (world_of (machine_of s h)) (world_of (machine_of s' h'))
+  stays : Stays (world_of (machine_of s h)) (world_of (machine_of s' h'))
   stays = first_of (grind (arith, common_steps, nat_tests), grind (arith, nat_tests, are-these, as-before), search (rules, are-these, as-before))
 
   -- an event is refused
-  pub refuses : (event : Event N B W) (reply : EventReply N B W) → ((v : ℕ) → step_of v event reply ≡ []) → Happens m (world_of (machine_of s h)) event reply (world_of (machine_of s' h'))
+  refuses : (event : Event N B W) (reply : EventReply N B W) → ((v : ℕ) → step_of v event reply ≡ [])
+      → (Stays (world_of (machine_of s h)) (world_of (machine_of s' h')) → Happens m (world_of (machine_of s h)) event reply (world_of (machine_of s' h')))
       → Moves (λ n x. ⊥) s s' → ReplyWrites m s reply → Makes m s h event reply s' h'
   refuses event reply none happens moves writes =
-      makes m s s' serving was formed (let e : length h'.tables ≡ length h.tables = ap length keeps.tables in omega (arith, e)) keeps.walks on event reply none happens
+      makes m s s' serving was formed (let e : length h'.tables ≡ length h.tables = ap length keeps.tables in omega (arith, e)) keeps.walks on event reply none (happens stays)
       (record { each = λ n x is. elim (moves.each n x is) [ inl there ↦ inl there | inr came ↦ absurd came.1 ]; environment = moves.environment }) writes
       (kept-on serving.readings on (λ l own is. inl (sym (keeps.readings l) ∙ is)))
+
+-- nothing is done to the pager
+pub nothing-done : {N E : Type 0} {v : Values N} (s : PagerState N E) → WellFormed v s → Called v (λ w'. Alike s.core w') s s
+nothing-done s was = record { step = still s.core; moves = record { each = λ n x is. inl is; environment = refl }; whole = was }
+
+-- by a machine over a pager
+module _ {X : Type 0} {g : Ghosts X} {N S E : Type 0} (v : E → Values N) (tells : Telling S) (old new : PagerView N S E) (held left : Held X g) where
+  abbrev before : World
+  before = world_of (machine_of (state_in tells old) (holding held))
+
+  abbrev afterwards : World
+  afterwards = world_of (machine_of (state_in tells new) (holding left))
+
+  pub refused : IsInStep tells (over old held) → WellFormed (v old.environment) (state_in tells old)
+      → Called (v old.environment) (λ w'. Alike (core_in tells old) w') (state_in tells old) (state_in tells new)
+      → KeepsAll (holding held) (holding left) → (event : Given N) (reply : Answer N) → ((q : ℕ) → step_of q (plain_event event) (plain_answer reply) ≡ [])
+      → (Stays before afterwards → Happens (plain (v old.environment)) before (plain_event event) (plain_answer reply) afterwards)
+      → ReplyWrites (plain (v old.environment)) (state_in tells old) (plain_answer reply) → Drives (v old.environment) tells (over old held) event reply (over new left)
+  refused serving was done keeps event reply none happens writes = record {
+    makes = refuses (plain (v old.environment)) (state_in tells old) (state_in tells new) serving was done.whole done.step keeps
+        (plain_event event) (plain_answer reply) none happens done.moves writes;
+  }

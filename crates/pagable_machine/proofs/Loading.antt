@@ -1,10 +1,10 @@
 -- A load's step, and why it is refused.
-use Rattle.pagable_machine.proofs.Words.{owner-owns, still, nat_tests, common_steps, rules, ◌≡◌, ℕ, true, List, [], Option, Some, None, Ok, Err, inl, inr, refl, sym, ap, subst, ◌∙◌}
+use Rattle.pagable_machine.proofs.Words.{owner-owns, still, nat_tests, common_steps, rules, ◌≡◌, ℕ, true, List, [], Option, Some, None, Ok, inl, inr, refl, sym, ap, subst, ◌∙◌}
 use Rattle.pagable_machine.proofs.Words.{arith, Result, is_some, option_map, LoadAnswer, Error, LoadNumber, LoadReply, or_else, updated, Frame, OpenLoad, Reading}
 use Rattle.pagable_machine.proofs.Words.{Root, of_cell, of_key, Seen, one_more, OwnsLoad, load_fault, DropCall, LoadCloses, gone_on, fresh, reading_after, reading_at}
 use Rattle.pagable_machine.proofs.Words.{reading_of_root, step_fault, FitsRoot, Moves, PagerState, WellFormed, world_of, ReadingStep, same_some, IsLoadOf, is_cell, reading_of, type_of_root, Ghosts}
-use Rattle.pagable_machine.proofs.{Words.{Holding, IsKept, IsServing, IsTaken, KeepsOne, Kept, Makes, ReadsFor, Stepped, machine_of, readings_in, rest_after}, Keeping.KeepsAll}
-use Rattle.pagable_machine.proofs.{Keeping.{are-these, as-before, at-one, kept-on, one-or-old, quiet, refuses, same-work, stays}, Leaving.leaves-so}
+use Rattle.pagable_machine.proofs.{Words.{Holding, IsKept, IsServing, IsTaken, KeepsOne, Kept, Makes, ReadsFor, Stepped, machine_of, readings_in, rest_after}}
+use Rattle.pagable_machine.proofs.{Keeping.{are-these, as-before, at-one, kept-on, one-or-old, quiet, same-work}, Leaving.leaves-so}
 use Rattle.pagable_laws.proofs.{Effects.{IsMine, owned-mine}, ReadingSteps.{caller-free, reading-feels}}
 use Rattle.{pagable_world.specs.declared.{events.{EventReply.EventReply, Event.Event}, handles.Owner.Owner}, pagable_loads.specs.{Stepping.IsSameLoad, declared.reading.Reading.Reading as Own}}
 
@@ -86,7 +86,7 @@ module _ {X : Type 0} {g : Ghosts X} {N B W E : Type 0} (m : Seen N B W) (s s' :
       (record { each = λ n y is. elim (step.moves.each n y is) [ inl there ↦ inl there | inr (none, came) ↦ inr (none, (reading, at, came)) ]; environment = step.moves.environment })
       tt
       (kept-on serving.readings on (λ q other is_kept. elim (one-or-old l.0 x keeps q other is_kept) [
-        | inl there ↦ inl there
+        | inl there ↦ inl there.1
         | inr (here, is) ↦ inr (subst (λ n. IsKept s'.core n other) (sym here) (new other is))
       ]))
 
@@ -134,12 +134,3 @@ module _ {X : Type 0} {g : Ghosts X} {N B W E : Type 0} (m : Seen N B W) (s s' :
 pub faulty : {X : Type 0} {g : Ghosts X} {N E : Type 0} (s : PagerState N E) (h : Holding g) (l : LoadNumber) (e : Error) → load_fault s.core Owner.Caller l ≡ Some e
     → step_fault (world_of (machine_of s h)) l ≡ Some e
 faulty s h l e is = first_of (grind (arith, common_steps, nat_tests), search (rules))
-
--- a load's step is refused
-pub refuses-step : {X : Type 0} {g : Ghosts X} {N B W E : Type 0} (m : Seen N B W) (s : PagerState N E) (h : Holding g) {kept' : Kept} → IsServing s.core h → WellFormed m.values s
-    → (l : LoadNumber) (e : Error)
-    → ((q : ℕ) → kept' q ≡ h.readings q) → step_fault (world_of (machine_of s h)) l ≡ Some e → Makes m s h (Event.LoadStep l) (EventReply.LoadMoved (Err e)) s (record h { readings = kept' })
-refuses-step m s h {kept'} serving was l e as_was why =
-    let keeps : KeepsAll h (record h { readings = kept' }) = record { readings = as_was; tables = refl; walks = λ v. refl } in
-    refuses m s s serving was was (still s.core) keeps (Event.LoadStep l) (EventReply.LoadMoved (Err e)) (λ v. refl)
-    (record { moves = tt; refused = (why, stays m s s serving was was (still s.core) keeps) }) (record { each = λ n x is. inl is; environment = refl }) tt

@@ -1,10 +1,10 @@
 -- What an event leaves to a worker that doesn't make it: its handles and its open loads, and that what a handle stands for goes on to be so.
-use Rattle.pagable_machine.proofs.Words.{◌≡◌, ℕ, ◌<◌, ◌≤◌, ◌&&◌, Bool, true, false, [], Some, inl, inr, refl, sym, ap, ◌∙◌, arith, Result, nat_lt, and_parts, nat_tests, Event, EventReply, HandleRow}
-use Rattle.pagable_machine.proofs.Words.{one, is_handle, is_owned_by, is_owner, owner_worker, Cell, Core, OpenLoad, Seen, World, CloseCall, is_listed, shut, Happens, step_of, IsWhole, OwnersAreThere}
-use Rattle.pagable_machine.proofs.Words.{Change, nothing_felt, event-goes, Goes, RowsGo, fell-anyhow, quiet-goes, Stands, Free, Spares, then-fell, event-spares, counted, one-true, same-number}
-use Rattle.{pagable_machine.proofs.Words.worker-apart, pagable_world.specs.declared.{handles.Owner.Owner, calls.{Reply.Reply, Call.Call}}}
+use Rattle.pagable_machine.proofs.Words.{◌≡◌, ℕ, ◌<◌, ◌≤◌, true, [], Some, inl, inr, refl, sym, ap, ◌∙◌, arith, Result, nat_tests, Event, EventReply}
+use Rattle.pagable_machine.proofs.Words.{one, owner_worker, Cell, Core, OpenLoad, Seen, World, CloseCall, is_listed, shut, Happens, step_of, IsWhole, OwnersAreThere}
+use Rattle.pagable_machine.proofs.Words.{Change, nothing_felt, event-goes, Goes, RowsGo, fell-anyhow, quiet-goes, Free, Spares, then-fell, event-spares, counted, one-true, same-number}
+use Rattle.{pagable_machine.proofs.Words.{worker-apart, self-number, ◌==◌}, pagable_world.specs.{Plain.times, declared.calls.{Reply.Reply, Call.Call}}}
 use Rattle.pagable_machine.proofs.Words.{common_steps, rules, ArcRef, HandleNumber, HandlesAreWhole, StandsAt, stands-whole, Ghosts, Task, HoldsPin, IsLoading, IsOfKind, TaskFits, Walk, IsWalkKept}
-use Rattle.pagable_loads.specs.declared.reading.Reading.{Reading as Own}
+use Rattle.{pagable_loads.specs.declared.reading.Reading.Reading as Own, pagable_laws.proofs.Effects.listed-free, std.proofs.lemmas.Bool.false_from_ne_true}
 
 -- the worker's handles and open loads are as they were, and handles and nodes that are there stay what they are
 pub record Passes (v : ℕ) (w w' : Core) : Type 0 where
@@ -32,19 +32,14 @@ by-goes {c} v w w' g spares loads =
 
 -- what the list owns isn't a worker's
 list-free : (v : ℕ) (w : Core) → OwnersAreThere w → Free (owner_worker v) w (is_listed w)
-list-free v w there = record { each = λ q row own s. by q row own s (is_listed w q) refl }
-  where
-    above : (a b : ℕ) → nat_lt 0 a ≡ true → a ≡ b → 0 < b
-    above a b lt same = grind (arith, nat_tests)
-
-    by : (q : ℕ) (row : HandleRow) → row.owner ≡ owner_worker v → Stands w.last.handle w.rows q row → (b : Bool) → is_listed w q ≡ b → is_listed w q ≡ false
-    by q row own s false e = e
-    by q row own s true e =
-        let owned = counted (λ (x : HandleRow). one (is_handle q x && is_owned_by Owner.List x)) w.rows (above _ _ e (there.listed q)) in
-        let both = and_parts (is_handle q owned.0) (is_owned_by Owner.List owned.0) (one-true _ owned.2) in
-        let it = s.only owned.0 owned.1 (same-number _ _ both.0) in
-        let f : is_owner Owner.List (owner_worker v) ≡ true = sym (ap (λ (x : HandleRow). is_owner Owner.List x.owner) it ∙ ap (is_owner Owner.List) own) ∙ both.1 in
-        absurd (cc)
+list-free v w there = record {
+  each = λ q row own s. false_from_ne_true (is_listed w q) (λ is.
+      let some : 0 < times (λ (h : HandleNumber). h.0 == q) w.list = grind (arith, nat_tests, is) in
+      let found = counted (λ (h : HandleNumber). one (h.0 == q)) w.list some in
+      let other = (listed-free (owner_worker v) refl there found.1.0 found.0 found.1.1).each q row own s in
+      let here : (q == found.0.0) ≡ true = ap (λ n. q == n) (same-number _ _ (one-true _ found.2)) ∙ self-number q in
+      cc);
+}
 
 -- the storage is closed
 close-passes : (v : ℕ) (w w' : Core) {r : Result (Unit {0}) _} → OwnersAreThere w → CloseCall w r w' → LoadsStay v w w' → Passes v w w'

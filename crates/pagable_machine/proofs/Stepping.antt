@@ -6,8 +6,7 @@ use Rattle.pagable_machine.proofs.Words.{no_shelf, steps_after, PagerState, Todo
 use Rattle.pagable_machine.proofs.Words.{TaskFits, answer_in, plain, plain_took, plan, Walk, Holding, IsServing, KeepsOne, Makes, machine_of, readings_in, plain_moved, IsWalkKept, SetsTable, WalksOn}
 use Rattle.pagable_machine.proofs.{Words.{shelf_at, task_in, todo_left, walking_of}, Keeping.{are-these, as-before, at-one, kept-on, makes-with, not-same, one-serves, updated-at}}
 use Rattle.{pagable_machine.proofs.{Leaving.{Leaves, leaves-so, end-leaves, works_after}, Passing.{Passes, event-passes}}, pagable_laws.proofs.{Effects.owned-mine, ReadingSteps.{FrontMine, walk-goes}}}
-use Rattle.{pagable_world.specs.declared.events.{EventReply.EventReply, Event.Event}, pagable_walk.specs.{Slots.{keys_of, written_of}, Tasks.waits_as, Turns.Stepped, declared.tasks.Node.Node}}
-use Rattle.std.specs.Arc.{arc_value}
+use Rattle.{pagable_world.specs.declared.events.{EventReply.EventReply, Event.Event}, pagable_walk.specs.Turns.Stepped}
 use Rattle.pagable_machine.proofs.Words.{◌<◌, slice_get, set, get_or-set_same, get_or-set_other, length-set, slice_get_read, slice_get_cases, slice_get_past}
 
 -- ---- a table of a list is written in its place

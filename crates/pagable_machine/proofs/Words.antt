@@ -5,9 +5,9 @@ pub use Rattle.pagable_laws.proofs.{Outlasting.Stands, ReadingSteps.event-goes, 
 pub use Rattle.{pagable_laws.specs.KeyRuns.StandsAt, pagable_laws.specs.TreeSteps.{Change, nothing_felt}, pagable_loads.specs.Frames.{reading_of, IsLoadOf, is_cell}}
 pub use Rattle.{pagable_loads.specs.Telling.values_at, pagable_loads.specs.Working.{RefusesEntry, StartsEntry}, pagable_machine.specs.Driving.{Answer, ByNumber, Drives, Given}}
 pub use Rattle.pagable_machine.specs.Driving.{IsInStep, holding, kept_at, over, Readings, MachineView, Over, Runs, machine_in, view_of, claims_at, claims_of, table_view}
-pub use Rattle.pagable_machine.specs.Keeping.{Holding, IsServing, KeepsOne, Makes, machine_of, readings_in, BeginsNoKey, Forgets, IsPrepared, IsTaken, Kept, Stepped, KeptStep}
+pub use Rattle.pagable_machine.specs.Keeping.{Holding, IsServing, KeepsOne, Makes, machine_of, readings_in, Forgets, IsPrepared, IsTaken, Kept, Stepped, KeptStep}
 pub use Rattle.pagable_machine.specs.{Keeping.{rest_after, AllKept, IsKept, ReadsFor, work_of}, Serving.{plain_call, plain_reply, Serves, plain_answer, plain_event}}
-pub use Rattle.pagable_machine.specs.{Serving.plain_moved, Walking.{IsBegun, IsWalkKept, shelf_at, WalksOn, has_task, is_table, walking_of, SetsTable, task_in, todo_left}}
+pub use Rattle.pagable_machine.specs.{Serving.plain_moved, Walking.{IsBegun, IsWalkKept, shelf_at, WalksOn, has_task, IsIn, walking_of, SetsTable, task_in, todo_left}}
 pub use Rattle.{pagable_machine.specs.declared.held.Held.Held, pagable_machine.specs.declared.held.Walk.Walk, pagable_model.specs.declared.error.Error.Error}
 pub use Rattle.pagable_model.specs.declared.numbers.{ArcRef.ArcRef, HandleNumber.HandleNumber, LoadNumber.LoadNumber, WorkerNumber.WorkerNumber}
 pub use Rattle.pagable_pager.{proofs.Putting.owner-owns, specs.Opened.{ReadsAs, type_of_root}, specs.View.{PagerView, Telling, state_in, OnlyLess, core_in}}

@@ -1,5 +1,5 @@
 -- What a machine keeps of tables and workers, as the plain world knows it.
-use Rattle.std.specs.{Prelude.{ℕ, ◌≡◌, ◌≢◌, ◌<◌, ◌≤◌, ◌∷◌, [], zero, suc, ◌&&◌, Bool, false, true, nat_le, nat_lt, List, length, Option, Some, None, is_none, is_some, slice_get}, Arc.arc_value}
+use Rattle.std.specs.{Prelude.{ℕ, ◌≡◌, ◌≢◌, ◌⊎◌, ◌<◌, ◌≤◌, ◌∷◌, [], zero, suc, Bool, false, true, List, length, Option, Some, None, is_none, is_some, slice_get}, Arc.arc_value}
 use Rattle.std.specs.declared.{alloc.Global.Global, sync.Arc.Arc}
 use Rattle.pagable_core.specs.declared.context.writing.SerializedData.{SerializedData}
 use Rattle.pagable_world.specs.{declared.events.{WorkerReply.WorkerReply, TableNumber.TableNumber}, Plain.if_there, Kinds.owner_worker, Pager.PagerState, World.{Core, Shelf, Todo, Values, Walking}}
@@ -76,9 +76,12 @@ module _ {X : Type 0} {g : Ghosts X} where
     pub after : IsAfter k moved k'
     pub replies : reply ≡ record { took = moved.took; answer = answer_in moved.turn; steps = k'.steps }
 
-  -- whether there is such a table
-  abbrev pub is_table : ℕ → List (SlotTable X g) → Bool
-  is_table t tables = nat_lt 0 t && nat_le t (length tables)
+  -- there is such a table, or none
+  abbrev pub IsIn : ℕ → List (SlotTable X g) → Type 0
+  IsIn t tables = (0 < t) × (t ≤ length tables)
+
+  abbrev pub IsPast : ℕ → List (SlotTable X g) → Type 0
+  IsPast t tables = (t ≡ 0) ⊎ (length tables < t)
 
   -- whether there is a worker that hasn't answered
   abbrev pub has_task : Option (Walk X g) → Bool

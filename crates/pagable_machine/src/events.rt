@@ -12,9 +12,9 @@ use indexmap::IndexMap;
 use pagable_codec::{Env, NodeSet};
 use pagable_core::{PagableData, PagableStorage, SerializedData};
 use pagable_loads::Reading;
-use pagable_model::{DataKey, Error, HandleNumber, LoadNumber};
+use pagable_model::{DataKey, Error, LoadNumber};
 use pagable_pager::Pager;
-use pagable_world::{Beginning, Call, Event, EventReply, Reply};
+use pagable_world::{Beginning, Call, Event, EventReply};
 use std::alloc::Global;
 use std::sync::Arc;
 
@@ -42,45 +42,6 @@ where
     if let Err(Error::NoSuchHandle) = pager.load_of(load) {
         remove(readings, load.0);
     }
-}
-
-// A call.
-fn call<E: Env, S: PagableStorage<E>>(
-    pager: &mut Pager<E, S>,
-    held: &mut Held<E>,
-    alloc: Global,
-    call: Call<E::Node, PagableData>,
-) -> Reply<E::Node, Arc<PagableData>>
-where
-    E::Node: NodeSet<E>,
-    requires { IsInStep (telling S.stored S.is_closed S.failed) (over pager.old held.old) }
-    ensures { Drives (values_at E.Node.NodeSet E.Env E.Hash.KeyHash pager.old.environment) (telling S.stored S.is_closed S.failed)
-        (over pager.old held.old) (Event.Call call) (EventReply.CallReply result) (over pager.new held.new) }
-{
-    pager.is_whole();
-    let closed = closed_by(&call);
-    let reply = calls::serve(pager, alloc, call);
-    pager.is_whole();
-    forget(pager, &mut held.readings, closed);
-    reply
-}
-
-// A load of a loose handle's cell begins. Nothing is kept of it before its first step.
-fn load_start<E: Env, S: PagableStorage<E>>(
-    pager: &mut Pager<E, S>,
-    held: &Held<E>,
-    handle: HandleNumber,
-) -> Result<Beginning, Error>
-where
-    E::Node: NodeSet<E>,
-    requires { IsInStep (telling S.stored S.is_closed S.failed) (over pager.old held.now) }
-    ensures { Drives (values_at E.Node.NodeSet E.Env E.Hash.KeyHash pager.old.environment) (telling S.stored S.is_closed S.failed)
-        (over pager.old held.now) (Event.LoadStart handle) (EventReply.Started result) (over pager.new held.now) }
-{
-    pager.is_whole();
-    let begun = pager.load_begin(handle);
-    pager.is_whole();
-    begun
 }
 
 // A place for what is kept of a load of a key, where a load can begin. Refused with NumbersSpent and OutOfMemory.
@@ -159,9 +120,21 @@ where
     ensures { Drives (values_at E.Node.NodeSet E.Env E.Hash.KeyHash pager.old.environment) (telling S.stored S.is_closed S.failed)
         (over pager.old held.old) event result (over pager.new held.new) }
 {
+    pager.is_whole();
     match event {
-        Event::Call(made) => EventReply::CallReply(call(pager, held, alloc, made)),
-        Event::LoadStart(handle) => EventReply::Started(load_start(pager, held, handle)),
+        Event::Call(call) => {
+            let closed = closed_by(&call);
+            let reply = calls::serve(pager, alloc, call);
+            pager.is_whole();
+            forget(pager, &mut held.readings, closed);
+            EventReply::CallReply(reply)
+        }
+        // Nothing is kept of a load of a cell before its first step.
+        Event::LoadStart(handle) => {
+            let begun = pager.load_begin(handle);
+            pager.is_whole();
+            EventReply::Started(begun)
+        }
         Event::LoadKey(key, node_type) => {
             EventReply::Started(load_key(pager, held, alloc, key, node_type))
         }

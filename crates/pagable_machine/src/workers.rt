@@ -2,10 +2,10 @@
 
 ghost use Rattle.std.specs.{Prelude.{◌≡◌, ◌<◌, ◌⊎◌, ℕ, Some, IfOk, IfErr, OnOk, true, false, ◌≤◌, ◌∷◌, length, is_some}, HashMap.spare};
 ghost use Rattle.pagable_world.specs.Kinds.{identity_of, owner_worker};
-ghost use Rattle.pagable_world.specs.{World.{Alike, of_entry, of_item}, Access.{Called, WorkerStarts}, declared.events.{EventReply.EventReply, Event.Event}};
-ghost use Rattle.{pagable_loads.specs.{Telling.values_at, Working.{RefusesEntry, StartsEntry}}, pagable_pager.specs.View.{core_in, state_in, telling}, pagable_walk.specs.Slots.written_of};
-ghost use Rattle.{pagable_walk.specs.{Table.shelf_of, Tasks.{IsWay, todo_of, todos}, Turns.{StepsTo, answer_in, plan}}, pagable_machine.specs.Walking.{IsBegun, is_table, IsAfter, WalksOn, has_task}};
-ghost use Rattle.pagable_machine.specs.{Walking.{task_in, todo_left}, Driving.{Drives, IsInStep, kept_at, over}};
+ghost use Rattle.pagable_world.specs.{World.{of_entry, of_item}, declared.events.{EventReply.EventReply, Event.Event}};
+ghost use Rattle.{pagable_loads.specs.Telling.values_at, pagable_pager.specs.View.{core_in, state_in, telling}, pagable_walk.specs.Slots.written_of};
+ghost use Rattle.pagable_walk.specs.{Table.shelf_of, Tasks.{IsWay, todo_of, todos}, Turns.{StepsTo, answer_in, plan}};
+ghost use Rattle.pagable_machine.specs.{Walking.{IsBegun, IsIn, IsPast, IsAfter, WalksOn, has_task, task_in, todo_left}, Driving.{Drives, IsInStep, kept_at, over}};
 
 use crate::held::{Begun, Held, Walk};
 use crate::list;
@@ -51,9 +51,9 @@ fn ready<E: Trees>(
     table: TableNumber,
 ) -> Result<(), Error>
     ensures same { (q : ℕ) → kept_at walks.new q ≡ kept_at walks.old q }
-    ensures there { OnOk result (is_table table.0 tables.now.items ≡ true) }
+    ensures there { OnOk result (IsIn table.0 tables.now.items) }
     ensures room { OnOk result (0 < spare walks.new) }
-    ensures refused { IfErr result (λ e. ((e ≡ Error.NoSuchHandle) × (is_table table.0 tables.now.items ≡ false)) ⊎ ((e ≡ Error.OutOfMemory) × (is_table table.0 tables.now.items ≡ true))) }
+    ensures refused { IfErr result (λ e. ((e ≡ Error.NoSuchHandle) × IsPast table.0 tables.now.items) ⊎ ((e ≡ Error.OutOfMemory) × IsIn table.0 tables.now.items)) }
 {
     if !(0 < table.0 && table.0 <= tables.len() as u64) {
         return Err(Error::NoSuchHandle);
@@ -105,36 +105,6 @@ fn entry_walk<E: Trees>(alloc: Global, table: TableNumber, reference: ArcRef) ->
     }
 }
 
-// One worker more is at work. Refused by want of memory alone.
-fn begin<E: Env, S: PagableStorage<E>>(pager: &mut Pager<E, S>) -> Result<WorkerNumber, Error>
-where
-    E::Node: NodeSet<E>,
-    ensures begins { IfOk result (λ n. WorkerStarts (values_at E.Node.NodeSet E.Env E.Hash.KeyHash pager.old.environment) (core_in (telling S.stored S.is_closed S.failed) pager.old)
-        (state_in (telling S.stored S.is_closed S.failed) pager.old) n.0 (state_in (telling S.stored S.is_closed S.failed) pager.new)) }
-    ensures refused { IfErr result (λ e. (e ≡ Error.OutOfMemory) × Called (values_at E.Node.NodeSet E.Env E.Hash.KeyHash pager.old.environment)
-        (λ w'. Alike (core_in (telling S.stored S.is_closed S.failed) pager.old) w') (state_in (telling S.stored S.is_closed S.failed) pager.old)
-        (state_in (telling S.stored S.is_closed S.failed) pager.new)) }
-{
-    let mut lent = Lent::new(pager);
-    lent.worker_begin()
-}
-
-// One worker more is at work, for the entry at this place of the list.
-fn begin_listed<E: Env, S: PagableStorage<E>>(
-    pager: &mut Pager<E, S>,
-    place: u64,
-) -> Result<(WorkerNumber, ArcRef), Error>
-where
-    E::Node: NodeSet<E>,
-    ensures begins { IfOk result (λ b. StartsEntry (values_at E.Node.NodeSet E.Env E.Hash.KeyHash pager.old.environment) (state_in (telling S.stored S.is_closed S.failed) pager.old) place b.0 b.1
-        (state_in (telling S.stored S.is_closed S.failed) pager.new)) }
-    ensures refused { IfErr result (λ e. RefusesEntry (values_at E.Node.NodeSet E.Env E.Hash.KeyHash pager.old.environment) (state_in (telling S.stored S.is_closed S.failed) pager.old) place e
-        (state_in (telling S.stored S.is_closed S.failed) pager.new)) }
-{
-    let mut lent = Lent::new(pager);
-    lent.worker_listed(place as usize)
-}
-
 /// A worker on a table begins, for an item. Refused with NoSuchHandle where there is no such table, and with OutOfMemory; then nothing changes.
 pub fn worker_item<E: Env, S: PagableStorage<E>>(
     pager: &mut Pager<E, S>,
@@ -157,7 +127,8 @@ where
         Ok(walk) => walk,
         Err(e) => return Err(e),
     };
-    match begin(pager) {
+    let mut lent = Lent::new(pager);
+    match lent.worker_begin() {
         Ok(worker) => {
             put(&mut held.walks, worker.0, walk);
             Ok(worker)
@@ -188,7 +159,8 @@ where
     if let Err(e) = ready(&mut held.walks, &held.tables, table) {
         return Err(e);
     }
-    match begin_listed(pager, place) {
+    let mut lent = Lent::new(pager);
+    match lent.worker_listed(place as usize) {
         Ok((worker, reference)) => {
             put(
                 &mut held.walks,
@@ -221,28 +193,6 @@ where
     ensures lender { lent.new.pager.ghost_name ≡ lent.old.pager.ghost_name }
 {
     step(lent, alloc, table, worker, path, task)
-}
-
-// The same for a worker at work.
-fn step_lent<E: Env, S: PagableStorage<E>>(
-    pager: &mut Pager<E, S>,
-    alloc: Global,
-    table: &mut SlotTable<E>,
-    worker: WorkerNumber,
-    path: &mut Vec<Waiting<E>>,
-    task: Task<E>,
-) -> Moved<E>
-where
-    E::Node: NodeSet<E>,
-    requires at_work { (core_in (telling S.stored S.is_closed S.failed) pager.old).workers worker.0 ≡ true }
-    requires way { IsWay (todo_of task ∷ todos path.old.items) }
-    ensures way { IsWay (plan result.turn path.new.items) }
-    ensures step { StepsTo (values_at E.Node.NodeSet E.Env E.Hash.KeyHash pager.old.environment) (owner_worker worker.0) worker.0 (shelf_of table.old) task (todos path.old.items)
-        (shelf_of table.new) result
-        (plan result.turn path.new.items) (state_in (telling S.stored S.is_closed S.failed) pager.old) (state_in (telling S.stored S.is_closed S.failed) pager.new) }
-{
-    let mut lent = Lent::for_worker(pager, worker);
-    step_by(&mut lent, alloc, table, worker, path, task)
 }
 
 // The worker's answer, if a step came to one.
@@ -308,7 +258,8 @@ where
         unreachable!();
     };
     let table = &mut tables[(walk.table - 1) as usize];
-    let moved = step_lent(pager, alloc, table, worker, &mut walk.path, task);
+    let mut lent = Lent::for_worker(pager, worker);
+    let moved = step_by(&mut lent, alloc, table, worker, &mut walk.path, task);
     settle(walk, moved)
 }
 

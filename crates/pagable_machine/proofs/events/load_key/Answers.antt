@@ -1,9 +1,10 @@
-use Rattle.pagable_machine.proofs.{Happening.keeps-after, Happening.key-drives, Happening.key-full-drives, Happening.key-none-drives, Happening.serves-same, Words.values_at}
+use Rattle.pagable_machine.proofs.{Happening.{keeps-after, key-drives, key-none-drives, serves-same}, Words.{Err, inl, refl, values_at}}
 use Rattle.pagable_machine.proofs.events.load_key.Goals as goal
 
 pub returns-in-Err : goal.returns-in-Err
 returns-in-Err g c =
-    key-full-drives (values_at g.E.Node.NodeSet g.E.Env g.E.Hash.KeyHash) _ _ c.args.pager.now _ _ c.requires c.is_whole.ensures _ _ _ c.in-Err.ensures.refused c.key_place.ensures.same
+    key-none-drives (values_at g.E.Node.NodeSet g.E.Env g.E.Hash.KeyHash) _ _ c.args.pager.now _ _ c.requires c.is_whole.ensures _ _ (Err c.in-Err.e) (inl (c.in-Err.e, refl))
+    (serves-same (record { begins = tt; refused = c.in-Err.ensures.refused }) (record { values = refl; storage = refl; environment = refl })) c.is_whole.ensures c.key_place.ensures.same
 
 pub returns-in-Some : goal.returns-in-Some
 returns-in-Some g c =

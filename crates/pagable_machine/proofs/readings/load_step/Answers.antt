@@ -1,26 +1,28 @@
-use Rattle.pagable_machine.proofs.{Happening.closed-drives, Happening.no-place-drives, Happening.step-drives, Happening.untyped-drives, Words.values_at, Words.◌∙◌}
+use Rattle.pagable_machine.proofs.{Happening.closed-drives, Happening.no-place-drives, Happening.step-drives, Happening.untyped-drives, Words.values_at, Words.rules, Words.sym, Words.refl, Words.◌≡◌}
 use Rattle.pagable_machine.proofs.readings.load_step.Goals as goal
 
 pub returns-in-Err : goal.returns-in-Err
-returns-in-Err g c = closed-drives (values_at g.E.Node.NodeSet g.E.Env g.E.Hash.KeyHash) _ _ c.args.pager.now _ c.args.held.now.readings c.requires c.is_whole.ensures _ _ c.in-Err.ensures.fault
+returns-in-Err g c =
+    closed-drives (values_at g.E.Node.NodeSet g.E.Env g.E.Hash.KeyHash) _ _ c.args.pager.now _ c.args.held.now.readings c.requires c.is_whole.ensures _ _ c.in-Err.ensures.fault (λ q. refl)
 
-pub returns-in-Ok-prepare : goal.returns-in-Ok-prepare
-returns-in-Ok-prepare g c =
-    step-drives (values_at g.E.Node.NodeSet g.E.Env g.E.Hash.KeyHash) _ _ _ _ _ c.requires c.is_whole.ensures _ _ _ c.in-Ok.ensures.reads c.prepare.new.readings c.put_in.new.readings _
-    c.in-Ok-prepare.ensures.ready
+pub returns-in-Some : goal.returns-in-Some
+returns-in-Some g c =
+    let ends : c.step_by-reply.new.lent.pager.now ≡ c.pager-1.given.0 = search rules in
+    step-drives (values_at g.E.Node.NodeSet g.E.Env g.E.Hash.KeyHash) _ _ _ _ _ c.requires c.is_whole.ensures _ _ _ c.in-Ok.ensures.reads c.prepare.new.readings _ _
+    c.in-Ok-prepare.ensures.ready c.end.ensures
     (record {
-      own = c.take_out-own.result;
-      new = c.step_lent-reply.result.1;
-      was = c.take_out-own.ensures.was;
-      stepped = c.step_lent-reply.ensures.step;
-      keeps = record { here = c.put_in.ensures.here; others = λ q other. c.put_in.ensures.others q other ∙ c.take_out-own.ensures.others q other };
-    }) c.end.ensures
+      own = c.in-Some.own.now;
+      new = c.step_by-reply.new.own;
+      was = sym c.in-Some.ensures.value;
+      stepped = rw ends at (rw c.new-lent.ensures.same at c.step_by-reply.ensures.step);
+      keeps = record { here = search rules; others = search rules };
+    })
 
 pub returns-in-Err-NoPlace : goal.returns-in-Err-NoPlace
 returns-in-Err-NoPlace g c =
     let type = rw c.in-Err-NoPlace.field-0-is at c.in-Err-NoPlace.ensures.why in
-    no-place-drives (values_at g.E.Node.NodeSet g.E.Env g.E.Hash.KeyHash) _ _ _ _ _ c.requires c.is_whole.ensures _ _ _ c.in-Ok.ensures.reads type.0 _ type.1 c.in-Err-NoPlace.ensures.none
-    c.give_up-reply.ensures.refused c.give_up-reply.ensures.drops.0 c.give_up-reply.ensures.drops.1 c.give_up-reply.ensures.moves c.is_whole-in-Err-NoPlace.ensures c.in-Err-NoPlace.ensures.stays
+    no-place-drives (values_at g.E.Node.NodeSet g.E.Env g.E.Hash.KeyHash) _ _ _ _ _ c.requires c.is_whole.ensures _ _ _ c.in-Ok.ensures.reads type.0 type.1 c.in-Err-NoPlace.ensures.none
+    c.load_drop-told.result c.load_drop-told.ensures.step c.load_drop-told.ensures.only c.is_whole-in-Err-NoPlace.ensures c.in-Err-NoPlace.ensures.stays
 
 pub returns-in-Err-Untyped : goal.returns-in-Err-Untyped
 returns-in-Err-Untyped g c =

@@ -1,8 +1,10 @@
-use Rattle.pagable_machine.proofs.{Driven.no-table-drives, Driven.table-drives, Words.rules, Words.◌≡◌, Words.◌+◌, Words.length, Words.values_at, Words.◌∙◌, Words.ap, Words.◌++◌, Words.◌∷◌, Words.[]}
+use Rattle.pagable_machine.proofs.{Driven.table-drives, Keeping.{nothing-done, refused}, Words.{rules, refl, ◌≡◌, ◌+◌, length, values_at, ◌∙◌, ap, ◌++◌, ◌∷◌, []}}
 use Rattle.pagable_machine.proofs.workers.table_new.Goals as goal
 
 pub returns-then-is_err : goal.returns-then-is_err
-returns-then-is_err g c = no-table-drives (values_at g.E.Node.NodeSet g.E.Env g.E.Hash.KeyHash) _ _ c.args.pager.now _ c.requires c.is_whole.ensures c.reserve.new.self c.reserve.ensures.items
+returns-then-is_err g c =
+    refused (values_at g.E.Node.NodeSet g.E.Env g.E.Hash.KeyHash) _ _ _ _ _ c.requires c.is_whole.ensures (nothing-done _ c.is_whole.ensures)
+    (record { readings = λ l. refl; tables = c.reserve.ensures.items; walks = λ q. refl }) _ _ (λ q. refl) (λ stays. record { made = tt; refused = (refl, stays) }) tt
 
 pub returns : goal.returns
 returns g c =

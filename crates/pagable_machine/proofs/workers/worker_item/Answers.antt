@@ -1,22 +1,29 @@
-use Rattle.pagable_machine.proofs.{Driven.{item-refused, item-started, nothing-done}, Happening.keeps-after, Words.{inr, values_at}}
+use Rattle.pagable_machine.proofs.{Driven.item-started, Happening.keeps-after, Keeping.{nothing-done, refused}, Words.{rules, ◌≡◌, refl, inr, values_at}}
 use Rattle.pagable_machine.proofs.workers.worker_item.Goals as goal
 
 pub returns-in-Err : goal.returns-in-Err
 returns-in-Err g c =
-    item-refused (values_at g.E.Node.NodeSet g.E.Env g.E.Hash.KeyHash) _ _ c.args.pager.now _ c.requires c.is_whole.ensures c.ready.new.walks c.args.table _ (nothing-done _ c.is_whole.ensures)
-    c.ready.ensures.same c.args.item c.in-Err.ensures.refused
+    refused (values_at g.E.Node.NodeSet g.E.Env g.E.Hash.KeyHash) _ _ _ _ _ c.requires c.is_whole.ensures (nothing-done _ c.is_whole.ensures)
+    (record { readings = λ l. refl; tables = refl; walks = c.ready.ensures.same }) _ _ (λ q. refl)
+    (λ stays. record { starts = tt; refused = (c.in-Err.ensures.refused, stays) }) tt
 
 pub returns-in-Err-item_walk : goal.returns-in-Err-item_walk
 returns-in-Err-item_walk g c =
-    item-refused (values_at g.E.Node.NodeSet g.E.Env g.E.Hash.KeyHash) _ _ c.args.pager.now _ c.requires c.is_whole.ensures c.ready.new.walks c.args.table _ (nothing-done _ c.is_whole.ensures)
-    c.ready.ensures.same c.args.item (inr (c.in-Err-item_walk.ensures.only, c.in_default.ensures.there))
+    refused (values_at g.E.Node.NodeSet g.E.Env g.E.Hash.KeyHash) _ _ _ _ _ c.requires c.is_whole.ensures (nothing-done _ c.is_whole.ensures)
+    (record { readings = λ l. refl; tables = refl; walks = c.ready.ensures.same }) _ _ (λ q. refl)
+    (λ stays. record { starts = tt; refused = (inr (c.in-Err-item_walk.ensures.only, c.in_default.ensures.there), stays) }) tt
 
-pub returns-in-Ok-begin : goal.returns-in-Ok-begin
-returns-in-Ok-begin g c =
-    item-started (values_at g.E.Node.NodeSet g.E.Env g.E.Hash.KeyHash) _ _ _ _ c.requires c.is_whole.ensures c.put.new.kept c.args.table c.in-Ok-begin.worker c.in-Ok.walk
-    c.in_default.ensures.there (keeps-after c.ready.ensures.same c.put.ensures) c.args.item c.in-Ok-begin.ensures.begins c.in-Ok.ensures.begun
+pub returns-in-Ok-worker_begin : goal.returns-in-Ok-worker_begin
+returns-in-Ok-worker_begin g c =
+    let ends : c.worker_begin.new.self.pager.now ≡ c.pager-1.given.0 = search rules in
+    item-started (values_at g.E.Node.NodeSet g.E.Env g.E.Hash.KeyHash) _ _ _ _ c.requires c.is_whole.ensures c.put.new.kept c.args.table c.in-Ok-worker_begin.worker c.in-Ok.walk
+    c.in_default.ensures.there (keeps-after c.ready.ensures.same c.put.ensures) c.args.item
+    (rw ends at (rw c.new-lent.ensures.same at c.in-Ok-worker_begin.ensures.begins.step.holds)) c.in-Ok.ensures.begun
 
-pub returns-in-Err-begin : goal.returns-in-Err-begin
-returns-in-Err-begin g c =
-    item-refused (values_at g.E.Node.NodeSet g.E.Env g.E.Hash.KeyHash) _ _ _ _ c.requires c.is_whole.ensures c.ready.new.walks c.args.table _ c.in-Err-begin.ensures.refused.1
-    c.ready.ensures.same c.args.item (inr (c.in-Err-begin.ensures.refused.0, c.in_default.ensures.there))
+pub returns-in-Err-worker_begin : goal.returns-in-Err-worker_begin
+returns-in-Err-worker_begin g c =
+    let ends : c.worker_begin.new.self.pager.now ≡ c.pager-1.given.0 = search rules in
+    let none = c.in-Err-worker_begin.ensures.refused in
+    refused (values_at g.E.Node.NodeSet g.E.Env g.E.Hash.KeyHash) _ _ _ _ _ c.requires c.is_whole.ensures (rw ends at (rw c.new-lent.ensures.same at none.1.step.holds))
+    (record { readings = λ l. refl; tables = refl; walks = c.ready.ensures.same }) _ _ (λ q. refl)
+    (λ stays. record { starts = tt; refused = (inr (none.0, c.in_default.ensures.there), stays) }) tt

@@ -1,10 +1,12 @@
-use Rattle.pagable_machine.proofs.{Words.{rules, ◌≡◌, true, false, sym, ◌∙◌, is_some, values_at, has_task, kept_at}, Driven.{no-step-drives, step-drives}}
+use Rattle.pagable_machine.proofs.{Words.{rules, ◌≡◌, true, false, sym, ◌∙◌, is_some, values_at, has_task, kept_at, refl}, Driven.no-task, Stepping.worker-moved, Keeping.{nothing-done, refused}}
 use Rattle.pagable_machine.proofs.workers.worker_step.Goals as goal
 
 pub returns-then-not-has_task : goal.returns-then-not-has_task
 returns-then-not-has_task g c =
     let none : has_task (kept_at c.args.held.now.walks c.args.worker.0) ≡ false = search rules in
-    no-step-drives (values_at g.E.Node.NodeSet g.E.Env g.E.Hash.KeyHash) _ _ c.args.pager.now _ c.requires c.is_whole.ensures c.args.worker none
+    refused (values_at g.E.Node.NodeSet g.E.Env g.E.Hash.KeyHash) _ _ _ _ _ c.requires c.is_whole.ensures (nothing-done _ c.is_whole.ensures)
+    (record { readings = λ l. refl; tables = refl; walks = λ q. refl }) _ _ (λ q. refl)
+    (λ stays. record { moves = tt; refused = (refl, no-task c.requires _ _ refl none, stays) }) tt
 
 pub walk_on-requires-clause-table : goal.walk_on-requires-clause-table
 walk_on-requires-clause-table g c = (c.requires.walks _ _ (sym c.in-Some.ensures.value)).table
@@ -20,5 +22,7 @@ walk_on-requires-clause-at_work g c =
 
 pub returns : goal.returns
 returns g c =
-    step-drives (values_at g.E.Node.NodeSet g.E.Env g.E.Hash.KeyHash) _ _ _ _ c.requires c.is_whole.ensures c.args.worker _ c.walk_on.new.walk c.walk_on.result c.walk_on.new.tables _
-    (sym c.in-Some.ensures.value) c.walk_on.ensures (record { here = search rules; others = search rules })
+    record {
+      makes = worker-moved (values_at g.E.Node.NodeSet g.E.Env g.E.Hash.KeyHash c.args.pager.now.environment) _ _ _ c.requires c.is_whole.ensures c.args.worker _ c.walk_on.new.walk
+          (sym c.in-Some.ensures.value) c.walk_on.result c.walk_on.ensures (record { here = search rules; others = search rules });
+    }
