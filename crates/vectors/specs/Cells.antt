@@ -78,36 +78,6 @@ type_of (nodes.Names names) = 5
 type_of (nodes.Holder name) = 6
 type_of (nodes.Bytes first second) = 7
 
-abbrev pub own_shape : CellNode → Shape
-own_shape (nodes.Name t) = text
-own_shape (nodes.Note t) = text
-own_shape (nodes.Mixed mixed) = mixed_shape
-own_shape (nodes.Link next) = optional (reference 10)
-own_shape (nodes.ArcLink next) = optional (reference 12)
-own_shape (nodes.Names names) = list (reference 0)
-own_shape (nodes.Holder name) = reference 0
-own_shape (nodes.Bytes first second) = both (unsigned w8) (unsigned w8)
-
-abbrev pub means : CellNode → Meaning ArcRef → Type 0
-means (nodes.Name t) = text_means.of (arc_value t)
-means (nodes.Note t) = text_means.of (arc_value t)
-means (nodes.Mixed mixed) = mixed_means.of (arc_value mixed)
-means (nodes.Link next) = (link_means 10).of next
-means (nodes.ArcLink next) = (link_means 12).of next
-means (nodes.Names names) = (names_mean 0).of (arc_value names)
-means (nodes.Holder name) = (exactly (plain_means 0)).of name
-means (nodes.Bytes first second) = bytes_mean.of (first, second)
-
-abbrev pub refs_of : CellNode → List ArcRef
-refs_of (nodes.Name t) = []
-refs_of (nodes.Note t) = []
-refs_of (nodes.Mixed mixed) = references_in (five_mean.meaning (arc_value mixed).1)
-refs_of (nodes.Link next) = references_in ((link_means 10).meaning next)
-refs_of (nodes.ArcLink next) = references_in ((link_means 12).meaning next)
-refs_of (nodes.Names names) = references_in ((names_mean 0).meaning (arc_value names))
-refs_of (nodes.Holder name) = references_in (plain_means 0 name)
-refs_of (nodes.Bytes first second) = []
-
 abbrev pub shape_of : ℕ → Option Shape
 shape_of zero = Some text
 shape_of (suc zero) = Some text
@@ -133,8 +103,40 @@ writes (suc (suc (suc (suc (suc zero))))) = list-writes
 writes (suc (suc (suc (suc (suc (suc zero)))))) = writes_memory
 writes (suc (suc (suc (suc (suc (suc (suc n))))))) = writes_either writes_memory writes_memory
 
+pub text-refers : (t : List ℕ) → references_in {A = ArcRef} (meanings.text t) ≡ []
+unfolding references_in
+text-refers t = refl
+
+pub bytes_refer : (p : ℕ × ℕ) → references_in (bytes_mean.meaning p) ≡ []
+unfolding references_in
+bytes_refer p = refl
+
+-- What a case of a node says: its shape, what it means, and what it refers to, which is what its one meaning refers to.
+pub record Case : Type 1 where
+  pub shape : Shape
+  pub means : Meaning ArcRef → Type 0
+  pub has_meaning : SomeMeaning means
+  pub refs : List ArcRef
+  pub refers : (m : Meaning ArcRef) → means m → SameReferences refs (references_in m)
+
+abbrev pub case : {T : Type 0} → Shape → (M : Meanings T) → AreSingle M → (refs : T → List ArcRef) → ((x : T) → references_in (M.meaning x) ≡ refs x) → T → Case
+case s M single refs same x = record { shape = s; means = M.of x; has_meaning = some M x; refs = refs x; refers = λ m h. rw (single x m h, same x) (λ test. refl) }
+
+abbrev pub referring : {T : Type 0} → Shape → (M : Meanings T) → AreSingle M → T → Case
+referring s M single x = case s M single (λ y. references_in (M.meaning y)) (λ y. refl) x
+
+abbrev pub told : CellNode → Case
+told (nodes.Name t) = case text text_means (λ x m is. is) (λ x. []) (λ x. text-refers (string_bytes x)) (arc_value t)
+told (nodes.Note t) = case text text_means (λ x m is. is) (λ x. []) (λ x. text-refers (string_bytes x)) (arc_value t)
+told (nodes.Mixed mixed) = case mixed_shape mixed_means one_mixed (λ p. references_in (five_mean.meaning p.1)) mixed_refers (arc_value mixed)
+told (nodes.Link next) = referring (optional (reference 10)) (link_means 10) (one_link 10) next
+told (nodes.ArcLink next) = referring (optional (reference 12)) (link_means 12) (one_link 12) next
+told (nodes.Names names) = referring (list (reference 0)) (names_mean 0) (one_list 0) (arc_value names)
+told (nodes.Holder name) = referring (reference 0) (exactly (plain_means 0)) (λ x m is. is) name
+told (nodes.Bytes first second) = case (both (unsigned w8) (unsigned w8)) bytes_mean one_bytes (λ p. []) bytes_refer (first, second)
+
 -- each node's type is there
-pub has_shape : (n : CellNode) → shape_of (type_of n) ≡ Some (own_shape n)
+pub has_shape : (n : CellNode) → shape_of (type_of n) ≡ Some (told n).shape
 has_shape (nodes.Name t) = refl
 has_shape (nodes.Note t) = refl
 has_shape (nodes.Mixed mixed) = refl
@@ -143,32 +145,3 @@ has_shape (nodes.ArcLink next) = refl
 has_shape (nodes.Names names) = refl
 has_shape (nodes.Holder name) = refl
 has_shape (nodes.Bytes first second) = refl
-
-pub has_meaning : (n : CellNode) → SomeMeaning (means n)
-has_meaning (nodes.Name t) = some text_means (arc_value t)
-has_meaning (nodes.Note t) = some text_means (arc_value t)
-has_meaning (nodes.Mixed mixed) = some mixed_means (arc_value mixed)
-has_meaning (nodes.Link next) = some (link_means 10) next
-has_meaning (nodes.ArcLink next) = some (link_means 12) next
-has_meaning (nodes.Names names) = some (names_mean 0) (arc_value names)
-has_meaning (nodes.Holder name) = some (exactly (plain_means 0)) name
-has_meaning (nodes.Bytes first second) = some bytes_mean (first, second)
-
-text-refers : (t : List ℕ) → references_in {A = ArcRef} (meanings.text t) ≡ []
-unfolding references_in
-text-refers t = refl
-
-pub bytes_refer : (p : ℕ × ℕ) → references_in (bytes_mean.meaning p) ≡ []
-unfolding references_in
-bytes_refer p = refl
-
--- a value refers to what its one meaning refers to
-pub refers : (n : CellNode) (m : Meaning ArcRef) → means n m → SameReferences (refs_of n) (references_in m)
-refers (nodes.Name t) m h = rw (h, text-refers (string_bytes (arc_value t))) (λ test. refl)
-refers (nodes.Note t) m h = rw (h, text-refers (string_bytes (arc_value t))) (λ test. refl)
-refers (nodes.Mixed mixed) m h = rw (one_mixed (arc_value mixed) m h, mixed_refers (arc_value mixed)) (λ test. refl)
-refers (nodes.Link next) m h = rw (one_link 10 next m h) (λ test. refl)
-refers (nodes.ArcLink next) m h = rw (one_link 12 next m h) (λ test. refl)
-refers (nodes.Names names) m h = rw (one_list 0 (arc_value names) m h) (λ test. refl)
-refers (nodes.Holder name) m h = rw h (λ test. refl)
-refers (nodes.Bytes first second) m h = rw (one_bytes (first, second) m h, bytes_refer (first, second)) (λ test. refl)
