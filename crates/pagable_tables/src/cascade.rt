@@ -31,7 +31,7 @@ fn let_go<N: Drop>(values: &mut IndexMap<u64, Arc<N>>, done: Option<NodeNumber>)
 }
 
 /// Gives up all that fallen values referred to, and so on, to the end, and lets the values go. It takes no memory but for entries of the list.
-#[tactic(auto, using(crate::proofs::Ended::falls))]
+#[tactic(auto, using(crate::proofs::Next::falls))]
 pub fn cascade<N: Drop>(t: &mut Holdings, values: &mut IndexMap<u64, Arc<N>>, lists: bool)
     requires falling { (stack : List ℕ) × IsFalling t.old stack owns_nothing × (length stack ≤ 1) }
     ensures whole { IsFalling t.new [] owns_nothing }

@@ -67,7 +67,7 @@ fn is_given(loads: &IndexMap<u64, LoadRow>, giving: Giving, place: Place, left: 
 }
 
 /// The last handle that is given up, of a number above `since` and not above `left`.
-#[tactic(auto, using(crate::proofs::GivenAll::places))]
+#[tactic(auto, using(crate::proofs::Doing::places))]
 fn last_above(
     handles: &Handles,
     loads: &IndexMap<u64, LoadRow>,
@@ -147,7 +147,7 @@ fn last_given(
 }
 
 /// All these handles, which are in this reach, are given up, from the last to the first, with all that goes with them. It is refused as `fall` is.
-#[tactic(auto, using(crate::proofs::Ended::shedding))]
+#[tactic(auto, using(crate::proofs::Next::shedding))]
 pub fn give_all<N: Drop>(
     t: &mut Holdings,
     values: &mut IndexMap<u64, Arc<N>>,

@@ -37,7 +37,7 @@ fn hand_over_live(handles: &mut Handles, handle: HandleNumber, owner: Owner)
 }
 
 /// The live handles that these references name have this owner from now on.
-#[tactic(auto, using(crate::proofs::Named::naming))]
+#[tactic(auto, using(crate::proofs::Worlds::naming))]
 pub fn hand_over_all(handles: &mut Handles, references: &[ArcRef], owner: Owner)
     requires { AreSound handles.old }
     ensures { Becomes handles.old (moved (is_named_by references.now) owner (live handles.old.places.items)) handles.new }
@@ -48,7 +48,7 @@ pub fn hand_over_all(handles: &mut Handles, references: &[ArcRef], owner: Owner)
 }
 
 /// Whether the number stands before this place.
-#[tactic(auto, using(crate::proofs::Handed::handing))]
+#[tactic(auto, using(crate::proofs::Worlds::handing))]
 fn is_before(named: &[HandleNumber], place: usize, number: u64) -> bool
     requires { place ≤ length named.now }
     ensures { result ≡ is_in (seen named.now place) number }
@@ -78,7 +78,7 @@ fn fault_at(handles: &Handles, owner: Owner, named: &[HandleNumber], place: usiz
 }
 
 /// Why the handles that are named can't all be handed over by this owner: one isn't live, or one is another's or is named twice.
-#[tactic(auto, using(crate::proofs::Handed::handing))]
+#[tactic(auto, using(crate::proofs::Worlds::handing))]
 pub fn named_fault(handles: &Handles, owner: Owner, named: &[HandleNumber]) -> Option<Error>
     requires { AreSound handles.now }
     ensures { (w : Core) → w.rows ≡ live handles.now.places.items → result ≡ named_fault w owner [] named.now }
@@ -93,7 +93,7 @@ pub fn named_fault(handles: &Handles, owner: Owner, named: &[HandleNumber]) -> O
 }
 
 /// The live handles of these numbers have this owner from now on.
-#[tactic(auto, using(crate::proofs::Handed::handing))]
+#[tactic(auto, using(crate::proofs::Worlds::handing))]
 pub fn hand_each(handles: &mut Handles, named: &[HandleNumber], owner: Owner)
     requires { AreSound handles.old }
     ensures { Becomes handles.old (moved (is_in (numbers_of named.now)) owner (live handles.old.places.items)) handles.new }

@@ -15,7 +15,7 @@ use pagable_model::{ArcRef, Error, HandleNumber};
 use pagable_world::handles::{HandleRow, Owner};
 
 /// Whether one of these references names the handle.
-#[tactic(auto, using(crate::proofs::Named::naming))]
+#[tactic(auto, using(crate::proofs::Worlds::naming))]
 fn is_named(references: &[ArcRef], handle: HandleNumber) -> bool
     ensures { result ≡ is_named_by references.now handle.0 }
 {
@@ -80,7 +80,7 @@ pub fn claim_fault(t: &Tables, reference: ArcRef) -> Option<Error>
 }
 
 /// Why the references of a value that is handed in are refused: the cause of the first that has one.
-#[tactic(auto, using(crate::proofs::Named::naming))]
+#[tactic(auto, using(crate::proofs::Worlds::naming))]
 pub fn references_fault(t: &Tables, me: Owner, references: &[ArcRef]) -> Option<Error>
     requires { IsWhole t.now }
     ensures { (stored : ℕ → Option Blob) (closed : Bool) (failures : ℕ) → result ≡ references_fault (core_of t.now stored closed failures) me [] references.now }

@@ -17,7 +17,7 @@ use pagable_world::handles::Owner;
 use std::sync::Arc;
 
 /// The handle at this place is given up, with all that goes with it. NumbersSpent or OutOfMemory where a cell that had to be listed isn't.
-#[tactic(auto, using(crate::proofs::Ended::shedding))]
+#[tactic(auto, using(crate::proofs::Next::shedding))]
 pub fn give_back<N: Drop>(
     t: &mut Holdings,
     values: &mut IndexMap<u64, Arc<N>>,

@@ -1,5 +1,4 @@
-use Rattle.pagable_tables.proofs.{Words.{sym, subst, ◌∙◌, false, None, inl, earlier, Refused, birth_fault, core_of}, NewNodes.references-first, Readied.{room-fault, weaker}}
-use Rattle.pagable_tables.proofs.Worlds.{failed, still}
+use Rattle.pagable_tables.proofs.{Newer.references-first, Words.{None, Refused, birth_fault, core_of, earlier, false, inl, subst, sym, ◌∙◌}, Worlds.{failed, room-fault, still, weaker}}
 use Rattle.pagable_tables.proofs.births.prepare.Goals as goal
 
 pub returns-in-Some-clause-refused : goal.returns-in-Some-clause-refused

@@ -1,6 +1,6 @@
 use Rattle.pagable_tables.proofs.Words.{◌≡◌, ◌+◌, ℕ, Bool, false, arith, refl, ap, sym, ◌∙◌, subst, Some, Option, List, [], ◌∷◌, ◌++◌, length, slice_get, if◌then◌else◌, inl, inr, ◌≢◌, is_some}
 use Rattle.pagable_tables.proofs.Words.{cases_eq, nat_tests, append-nil, ArcRef, HandleNumber, NodeNumber, HandleRow, owner_value, one, live, alive, counts_at, refs_at, IsFalling, Settles, GivesUp}
-use Rattle.pagable_tables.proofs.{Words.{CellsStay, cell_in, ValueStays, owns, owns_nothing, entry, is_valued, valued, Counts, Holdings}, Alive.{only-row, none-found}, Left.gives-sums}
+use Rattle.pagable_tables.proofs.{Alive.{gives-sums, none-found, only-row}, Words.{CellsStay, Counts, Holdings, ValueStays, cell_in, entry, is_valued, owns, owns_nothing, valued}}
 use Rattle.pagable_tables.proofs.{Fitting.{is_owned, taken-fits, taken-owned, taken-there, owner-is, fits-same, fallen, top-stands}, Next.{gives-fewer, gives-unlisted}}
 use Rattle.pagable_tables.proofs.holdings.step.Goals as goal
 

@@ -1,9 +1,9 @@
 use Rattle.pagable_tables.proofs.Words.{◌≡◌, ◌<◌, ◌+◌, ◌++◌, ◌∷◌, [], Bool, List, true, sum_by, refl, ap, sym, ◌∙◌, subst, arith, false, not, inl, inr, None, Ok, Owner, Mode, changed, one, is_handle}
 use Rattle.pagable_tables.proofs.Words.{is_pin, owner_value, is_here, cases_Bool, ArcRef, Falls, Holdings, IsFalling, owns_nothing, Tables, moved, is_named_by, row_of, live, counts_at, refs_at}
 use Rattle.pagable_tables.proofs.Words.{load_at, has_value, cell_in, core_of, plain_of, nat_tests, references_fault, without_load, with_pin, is_owned_in, FallsAnyhow, ◌&&◌, ◌⊎◌, Core, LoadNumber}
-use Rattle.pagable_tables.proofs.{Words.{HandleRow, Result, Error, option_map, load_in}, Coming.{rows-told, some-held, turned}, Doing.lazily-by, Fitting.{fits-same, pins-le-held}, GivenAll.bare}
-use Rattle.pagable_tables.proofs.{Installed.{ended, has-come, install-newer, pins-here, none-moves, not-so, so-then, ready-owner}, Born.{joined-fits, owns-none}, Newer.closed-still}
-use Rattle.pagable_tables.{proofs.{Newer.later-so, Stays.not-named, keeps.{Comes.not-a-value, EndCalls.end-whole, HandleCalls.no-references, LoadCalls.may-hold}}, specs.Becoming.coming}
+use Rattle.pagable_tables.proofs.{Alive.not-so, Calls.{end-whole, may-hold}, Doing.{bare, lazily-by}, Fitting.{fits-same, pins-le-held, rows-told, some-held, turned}, Installed.{ended, has-come}}
+use Rattle.pagable_tables.proofs.{Installed.{install-newer, joined-fits, none-moves, owns-none, pins-here, ready-owner, so-then}, Newer.{closed-still, later-so, not-named}, Told.no-references}
+use Rattle.pagable_tables.{proofs.{Told.not-a-value, Words.{Error, HandleRow, Result, load_in, option_map}}, specs.Becoming.coming}
 use Rattle.pagable_tables.proofs.installing.install.Goals as goal
 
 -- references that don't come are as good

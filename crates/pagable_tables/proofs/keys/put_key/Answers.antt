@@ -1,4 +1,4 @@
-use Rattle.pagable_tables.proofs.{Words.{◌≡◌, ◌==◌, if◌then◌else◌, [], ◌∷◌, arith, nat_tests}, Fitting.long-if, KeyPut.key-fits}
+use Rattle.pagable_tables.proofs.{Fitting.{key-fits, long-if}, Words.{[], arith, if◌then◌else◌, nat_tests, ◌==◌, ◌∷◌, ◌≡◌}}
 use Rattle.pagable_tables.proofs.keys.put_key.Goals as goal
 
 pub returns-clause-falling : goal.returns-clause-falling

@@ -1,5 +1,5 @@
 use Rattle.pagable_tables.proofs.Words.{◌≡◌, ◌≤◌, ◌&&◌, ℕ, not, Option, Some, Error, HandleNumber, Kind, Owner, Core, handle_fault, fits_mode, offer_fault, where_so, is_usable, spent, rank, arith, core_of}
-use Rattle.pagable_tables.proofs.{Opened.{handle-first, late, kind-late, spent-late}, Worlds.failed}
+use Rattle.pagable_tables.proofs.Worlds.{failed, handle-first, kind-late, late, spent-late}
 use Rattle.pagable_tables.proofs.known.offered.Goals as goal
 
 module _ (w : Core) (me : Owner) (kind : Kind) (key : ℕ) (h : HandleNumber) where

@@ -1,4 +1,4 @@
-use Rattle.pagable_tables.proofs.{Worlds.clones, keeps.HandleCalls.row-suits, Doing.does-as}
+use Rattle.pagable_tables.proofs.{Doing.does-as, Told.row-suits, Worlds.clones}
 use Rattle.pagable_tables.proofs.making.clone.Goals as goal
 
 pub make-requires-clause-suits : goal.make-requires-clause-suits

@@ -1,4 +1,4 @@
-use Rattle.pagable_tables.proofs.{Words.{refl, arith, counts_at, core_of}, Coming.some-held, Doing.does-so, Newer.makes-newer, keeps.Comes.suits-held, keeps.HandleCalls.makes-whole}
+use Rattle.pagable_tables.proofs.{Doing.does-so, Fitting.some-held, Newer.makes-newer, Told.{makes-whole, suits-held}, Words.{arith, core_of, counts_at, refl}}
 use Rattle.pagable_tables.proofs.making.make.Goals as goal
 
 pub come-requires-clause-live : goal.come-requires-clause-live

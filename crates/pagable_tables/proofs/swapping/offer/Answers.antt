@@ -1,7 +1,7 @@
 use Rattle.pagable_tables.proofs.Words.{◌≡◌, ◌+◌, false, None, inr, refl, ap, sym, subst, arith, IfSome, length, nat_tests, mode_of, with_known, Falls, only_handle, Tables, core_of}
-use Rattle.pagable_tables.proofs.{Words.{◌∙◌, Some, HandleRow, Owner, is_owner, is_valued, plain_of, AllPairs, IsHandleBefore, true}, Begun.{begun-whole, open-then}, Ended.{stays-first, sheds-still}, Newer.{later-on, newer-falls}}
-use Rattle.pagable_tables.proofs.{Stays.{found-again, begun-made, swapped, values-made, values-still}, Worlds.failed}
-use Rattle.pagable_tables.proofs.keeps.{Comes.{not-a-value, not-list}, Fallen.falls-opened, Placed.whole-so, Rows.found-among, Told.{roomy-whole, stays-on}}
+use Rattle.pagable_tables.proofs.{Alive.whole-so, Fitting.{begun-whole, open-then}, Kept.found-among, Newer.{begun-made, found-again, later-on, newer-falls, swapped, values-made, values-still}}
+use Rattle.pagable_tables.proofs.{Next.{sheds-still, stays-first}, Told.{falls-opened, not-a-value, not-list, roomy-whole, stays-on}, Words.{AllPairs, HandleRow, IsHandleBefore, Owner, Some}}
+use Rattle.pagable_tables.proofs.{Words.{is_owner, is_valued, plain_of, true, ◌∙◌}, Worlds.failed}
 use Rattle.pagable_tables.proofs.swapping.offer.Goals as goal
 
 pub unreachable-requires : goal.unreachable-requires

@@ -1,6 +1,6 @@
 use Rattle.pagable_tables.proofs.Words.{◌∙◌, sym, subst, refl, Falls, InReach, worker_at, arith, without_worker, is_workers, load_at, core_of, plain_of, with_tables}
 use Rattle.pagable_tables.proofs.{Words.{◌≡◌, ℕ, Option, Some, LoadRow, left_load, gives_row, Giving, nat_tests}, Doing.sheds-by, Newer.{newer-falls, later-less, less-one}}
-use Rattle.pagable_tables.proofs.{Taken.{begun-less, passes-given, in-reach, loads-anew, worker-gone}, keeps.WorkerCalls.worker-end-whole}
+use Rattle.pagable_tables.proofs.{Calls.worker-end-whole, Fitting.begun-less, Newer.{in-reach, loads-anew, passes-given, worker-gone}}
 use Rattle.pagable_tables.proofs.workers.worker_end.Goals as goal
 
 -- a load that is left was open
