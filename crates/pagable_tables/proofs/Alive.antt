@@ -104,12 +104,8 @@ none-listed {old} {x = x} leaves owner =
 pub none-entered : (q last : ℕ) (rows left entries : List HandleRow) → rows ≡ left ++ entries → AreNewEntries last entries → times (of_list q) rows ≡ 0 → times (is_handle q) entries ≡ 0
 none-entered q last rows left entries is new none =
     let e = entries-none (of_other q) (λ h mode owner. let l : is_owned_by Owner.List h ≡ true = ap (is_owner Owner.List) owner in grind (arith, nat_tests)) last entries new in
-    omega (
-      arith,
-      ap (times (of_list q)) is,
-      sum_by-append (λ h. one (of_list q h)) left entries,
-      sum-most (λ h. one (is_handle q h)) (λ h. one (of_list q h)) (λ h. one (of_other q h)) entries (λ h. grind (arith, nat_tests)),
-    )
+    let most = sum-most (λ h. one (is_handle q h)) (λ h. one (of_list q h)) (λ h. one (of_other q h)) entries (λ h. grind (arith, nat_tests)) in
+    omega (arith, ap (times (of_list q)) is, sum_by-append (λ h. one (of_list q h)) left entries)
 
 -- ---- the live rows after a place changes, and how halving finds one
 

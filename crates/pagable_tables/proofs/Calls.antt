@@ -357,6 +357,8 @@ worker-whole {w} whole =
 
 pub worker-end-whole : {w w' : Core} (v : ℕ) → IsWhole (opened w) → WorkerEnds w v w' → ArePlaced (opened w') → IsWhole (opened w')
 worker-end-whole {w} {w'} v whole ends placed =
+    let found : (h : HandleRow) → Among w.rows h → is_workers w v h.number.0 ≡ (is_owner (owner_worker v) h.owner || is_load_of w v h.owner) =
+    λ h among. ap (if_there (λ (row : HandleRow). is_owner (owner_worker v) row.owner || is_load_of w v row.owner) false) (found-so h.number.0 w.rows h whole.handles.ordered among refl) in
     falls-lost w (without_worker w v) (roomy-whole whole) (stays-on w) (record {
       listed = λ q. inl (whole.owners_there.listed q);
       owners = λ h among. let i = is-in whole h among in let f = found h among in grind (arith, nat_tests);
@@ -364,6 +366,3 @@ worker-end-whole {w} {w'} v whole ends placed =
       cache = λ kind key n is. is;
       workers = λ v is. grind (arith, nat_tests);
     }) ends.falls placed
-  where
-    found : (h : HandleRow) → Among w.rows h → is_workers w v h.number.0 ≡ (is_owner (owner_worker v) h.owner || is_load_of w v h.owner)
-    found h among = ap (if_there (λ (row : HandleRow). is_owner (owner_worker v) row.owner || is_load_of w v row.owner) false) (found-so h.number.0 w.rows h whole.handles.ordered among refl)

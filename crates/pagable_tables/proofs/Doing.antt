@@ -64,12 +64,10 @@ module _ (before u w : Core) (lists : Bool) (giving : Giving) (shut : giving ≡
       → ((given : ℕ → Bool) → SoFar before u given lists t → SoFar before u (λ q. given q || q == x.number.0) lists new) → SoFar before u (past left) lists t → SoFar before u (past (x.number.0 - 1)) lists new
   one-past t new left x above below found is none gives f =
       let n = x.number.0 in
+      let here : passes n ≡ true = (and_parts (not (f.gone n)) _ (sym (told t (past left) f n) ∙ ap (if_there (gives_row w giving) false) found ∙ is)).1 in
       let narrowed = onto t left (past n) (λ r e. grind (arith, nat_tests)) (λ r e. grind (arith, nat_tests))
       (λ r e. none r (within r (let p : passes r ≡ true = grind (arith, nat_tests) in p)) (let l : n < r = grind (arith, nat_tests) in l)) f in
-      regiven before u (λ q. past n q || q == n) (past (n - 1)) lists new (gives (past n) narrowed) (λ r e. grind (arith, nat_tests)) (λ r e. let p = here in grind (arith, nat_tests, cases_eq r n))
-    where
-      here : passes x.number.0 ≡ true
-      here = (and_parts (not (f.gone x.number.0)) _ (sym (told t (past left) f x.number.0) ∙ ap (if_there (gives_row w giving) false) found ∙ is)).1
+      regiven before u (λ q. past n q || q == n) (past (n - 1)) lists new (gives (past n) narrowed) (λ r e. grind (arith, nat_tests)) (λ r e. grind (arith, nat_tests, cases_eq r n))
 
   pub all-past : (t : Holdings) (left : ℕ) → ((q : ℕ) → InReach reach q → q ≤ left → passes_in (gives_row w giving) (live t.handles.places.items) q ≡ false)
       → SoFar before u (past left) lists t → SoFar before u passes lists t

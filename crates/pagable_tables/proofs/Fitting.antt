@@ -1,13 +1,13 @@
 -- A handle is given up: handles and nodes fit again.
 use Rattle.pagable_tables.proofs.{Alive.{all-kept, and_one, entries-none, length-live-le, none-found, of_list, one-le, ones, only-row, row-le-live, sum-most, times-left}, Kept.{found-among, only-at}}
 use Rattle.pagable_tables.proofs.Words.{AllPairs, ArcRef, Blob, Bool, Cell, Chain, Core, Counts, Error, Fits, GetsKey, HandleNumber, HandleRow, HasFallen, HasRoom, Holdings, IsApart, IsBefore}
-use Rattle.pagable_tables.proofs.Words.{IsClosed, IsFalling, IsListRefusal, IsSome, IsWithin, List, Mode, NodeNumber, None, OpenLoad, Option, OptionalDataKey, Owner, Place, Right, SameAt, SoFar, Some}
-use Rattle.pagable_tables.proofs.Words.{Tables, TellsListing, [], after, alive, ap, append-nil, arith, cases_eq, cell_in, core_of, counts_at, entry, falls_in, false, filter, find_row, get_or}
+use Rattle.pagable_tables.proofs.Words.{IsClosed, IsFalling, IsSome, IsWithin, List, Mode, NodeNumber, None, OpenLoad, Option, OptionalDataKey, Owner, Place, Right, SameAt, SoFar, Some, Tables}
+use Rattle.pagable_tables.proofs.Words.{TellsListing, [], after, alive, ap, append-nil, arith, cases_eq, cell_in, core_of, counts_at, entry, falls_in, false, filter, find_row, get_or}
 use Rattle.pagable_tables.proofs.Words.{get_or-le-sum_by, greatest, has_key, has_value, held, held_outside, holds_in, if_there, if◌then◌else◌, inl, inr, is_at, is_fallen_by, is_handle, is_keyed}
-use Rattle.pagable_tables.proofs.Words.{is_listed, is_listing, is_new, is_outside, is_owned_by, is_owned_in, is_owner, is_pin, is_pinning, is_plain_pin, is_share, is_shared, is_some, is_valued, keyed}
-use Rattle.pagable_tables.proofs.Words.{landed, left_rows, length, live, map, named, nat_eq, nat_lt, nat_tests, next_in, nobody, not, often, one, owner_value, owns, owns_nothing, pins, pins_in}
-use Rattle.pagable_tables.proofs.Words.{pins_outside, refl, sharing, slice_get, slice_get-get_or, subst, sum_by, sum_by-append, sum_by-cons, sum_by-le-sum_by, sum_by_push, sym, times, told_by, true}
-use Rattle.pagable_tables.{proofs.Words.{unpinned, with_key, with_tables, ℕ, ◌&&◌, ◌++◌, ◌+◌, ◌-◌, ◌<◌, ◌==◌, ◌∙◌, ◌∷◌, ◌≡◌, ◌≢◌, ◌≤◌, ◌⊎◌}, specs.Core.IsWhole}
+use Rattle.pagable_tables.proofs.Words.{is_listed, is_listing, is_outside, is_owned_by, is_owned_in, is_owner, is_pin, is_pinning, is_plain_pin, is_share, is_shared, is_some, is_valued, keyed, landed}
+use Rattle.pagable_tables.proofs.Words.{left_rows, length, live, map, named, nat_eq, nat_lt, nat_tests, next_in, nobody, not, often, one, owner_value, owns, owns_nothing, pins, pins_in, pins_outside}
+use Rattle.pagable_tables.proofs.Words.{refl, sharing, slice_get, slice_get-get_or, subst, sum_by, sum_by-append, sum_by-cons, sum_by-le-sum_by, sum_by_push, sym, times, told_by, true, unpinned}
+use Rattle.pagable_tables.{proofs.Words.{with_key, with_tables, ℕ, ◌&&◌, ◌++◌, ◌+◌, ◌-◌, ◌<◌, ◌==◌, ◌∙◌, ◌∷◌, ◌≡◌, ◌≢◌, ◌≤◌, ◌⊎◌}, specs.Core.IsWhole}
 use Rattle.pagable_world.specs.Pager as pager
 
 -- 1 for the handle q that the node's value owns
@@ -58,13 +58,6 @@ module _ (at at' : ℕ → Option Counts) (refs refs' : ℕ → List ArcRef) (ro
 
   pub given-fits : (b : Bool) → now_falls ≡ b → Fits at' refs' rows' (if b then x.node.0 else top) (if b then x.node.0 ∷ stack else stack) owns_nothing
   given-fits b e = grind (arith, nat_tests, given-owned, given-chain, given-marked, given-right, given-one)
-
-pub new-top : (c : Counts) (pinning stays listed : Bool) (top node : ℕ) → (b : Bool) → is_fallen_by c pinning (c.pins - one pinning) ((if stays then c.holds else c.holds - 1) + one listed) ≡ b
-    → (if is_new c.is_falling (after c pinning stays listed top).is_falling then node else top) ≡ (if b then node else top)
-new-top c pinning stays listed top node b e = grind (arith, nat_tests)
-
-pub long-if : (b : Bool) (n : ℕ) (stack : List ℕ) → length (if b then n ∷ stack else stack) ≤ length stack + 1
-long-if x0 n stack = grind (arith, nat_tests)
 
 -- what waits first is there and waits
 pub first-waits : (at : ℕ → Option Counts) (refs : ℕ → List ArcRef) (rows : List HandleRow) (n : ℕ) (ns : List ℕ) (extra : ℕ → ℕ → ℕ) → Fits at refs rows n (n ∷ ns) extra → falls_in (at n) ≡ true
@@ -157,10 +150,6 @@ no-value n x1 e = grind (arith, nat_tests)
 pub owned-by-none : (n q : ℕ) (x : HandleRow) → is_valued x.owner ≡ false → is_owned n q x ≡ 0
 owned-by-none n q x e = let a = no-value n x.owner e in grind (arith, nat_tests)
 
--- nothing falls, so no node is marked
-pub is-free : (at : ℕ → Option Counts) (refs : ℕ → List ArcRef) (rows : List HandleRow) (top : ℕ) (n : ℕ) (c : Counts) → Fits at refs rows top [] owns_nothing → at n ≡ Some c → c.is_falling ≡ false
-is-free at refs rows top n c fits is = let a = fits.marked n in let b = ap falls_in is in grind (arith, nat_tests)
-
 -- a node that is there isn't 0
 pub not-zero : (at : ℕ → Option Counts) (n : ℕ) (c : Counts) → at 0 ≡ None → at n ≡ Some c → 0 ≢ n
 not-zero at n c none is z = absurd (let a : at 0 ≡ Some c = ap at z ∙ is in cc (a, none))
@@ -225,20 +214,17 @@ owned-by owner x = record x { owner = owner }
 pub list-owner : (o : Owner) → is_owner Owner.List o ≡ true → is_valued o ≡ false
 list-owner x0 e = grind (arith, nat_tests)
 
-abbrev entry-at : ℕ → HandleRow → ℕ
-entry-at q h = one (is_handle q h && is_owned_by Owner.List h)
-
-entry-less : (q : ℕ) (h : HandleRow) → entry-at q h ≤ one (is_handle q h)
+entry-less : (q : ℕ) (h : HandleRow) → one (of_list q h) ≤ one (is_handle q h)
 entry-less q h = grind (arith, nat_tests)
 
 module _ (list : List HandleNumber) (ss : List Place) (i : ℕ) (h : HandleNumber) (lt : i < length list) (is : h ≡ get_or list i h)
-    (listed : times (λ (x : HandleNumber). x.0 == h.0) list ≡ sum_by (entry-at h.0) (live ss)) where
-  some-entry : 1 ≤ sum_by (entry-at h.0) (live ss)
+    (listed : times (λ (x : HandleNumber). x.0 == h.0) list ≡ times (of_list h.0) (live ss)) where
+  some-entry : 1 ≤ times (of_list h.0) (live ss)
   some-entry = grind (arith, nat_tests, get_or-le-sum_by)
 
   pub entry-lives : find_row h.0 (live ss) ≡ None → ⊥
   entry-lives none =
-      absurd (omega (arith, none-found h.0 (live ss) none, sum_by-le-sum_by (entry-at h.0) (λ r. one (is_handle h.0 r)) (live ss) (entry-less h.0), some-entry))
+      absurd (omega (arith, none-found h.0 (live ss) none, sum_by-le-sum_by (λ r. one (of_list h.0 r)) (λ r. one (is_handle h.0 r)) (live ss) (entry-less h.0), some-entry))
 
   pub entry-unvalued : (place : ℕ) (row : HandleRow) → AllPairs IsBefore ss → slice_get ss place ≡ Some (alive row) → row.number ≡ h → is_valued row.owner ≡ false
   entry-unvalued place row ordered at number = grind (arith, nat_tests, entry-less, only-row, some-entry, list-owner)
@@ -369,11 +355,6 @@ pub cell-keyed : (o : Option Counts) (c : Counts) (cell : Option Cell) → o ≡
     → has_key (if_there (λ (c : Cell). c.key) OptionalDataKey.None cell) ≡ nat_lt 0 c.key
 cell-keyed o c cell is same = grind (arith, nat_tests)
 
--- a cause stays
-pub refusal-kept : (w : Core) (t new : Holdings) (e : Error) → IsListRefusal w (with_tables w t) e → t.last_handle ≤ new.last_handle → length t.list.items ≤ length new.list.items
-    → IsListRefusal w (with_tables w new) e
-refusal-kept w t new e r last list = grind (arith, nat_tests)
-
 -- an entry came or none was wanted; or one was and didn't come
 pub which : (listed wanted : Bool) → ((listed ≡ true) ⊎ (wanted ≡ false)) ⊎ ((listed ≡ false) × (wanted ≡ true))
 which listed wanted = grind (arith, nat_tests)
@@ -403,13 +384,9 @@ pub owned-listed : {w : Core} → pager.IsWhole w → (q : ℕ) → is_owned_in 
 owned-listed {w} whole q = split (find_row q w.rows) refl
   where
     split : (found : Option HandleRow) → find_row q w.rows ≡ found → if_there (is_owned_by Owner.List) false found ≡ is_listed w q
-    split None e = grind (
-      arith,
-      nat_tests,
-      none-found q w.rows e,
-      sum_by-le-sum_by (λ h. one (of_list q h)) (λ h. one (is_handle q h)) w.rows (λ h. grind (arith, nat_tests)),
-      whole.owners_there.listed q,
-    )
+    split None e =
+        let less = sum_by-le-sum_by (λ h. one (of_list q h)) (λ h. one (is_handle q h)) w.rows (λ h. grind (arith, nat_tests)) in
+        grind (arith, nat_tests, none-found q w.rows e, whole.owners_there.listed q)
     split (Some h) e =
         let (there, number) = found-among q w.rows h e in
         grind (arith, nat_tests, only-at (λ y. one (of_list q y)) w.rows h whole.handles.ordered there (λ y other. grind (arith, nat_tests)), whole.owners_there.listed q)
@@ -425,7 +402,7 @@ module _ (at at' : ℕ → Option Counts) (refs refs' : ℕ → List ArcRef) (ro
 
   key-right : (m : ℕ) → Right (at' m) (refs' m)
   key-right m = elim (cases_eq m n) [
-    | inl eq ↦ grind (arith, nat_tests, is-free)
+    | inl eq ↦ let a = fits.marked n in let b = ap falls_in is in grind (arith, nat_tests)
     | inr other ↦ subst (λ o. Right o (refs' m)) (sym (others m other)) (subst (λ r. Right (at m) r) (sym (same m)) (fits.right m))
   ]
 

@@ -1,16 +1,15 @@
 -- A node comes, and the handles that its value refers to are the value's. And it comes with its handles to a node that is there, has no value and is pinned.
-use Rattle.pagable_tables.proofs.{Alive.and-left, Calls.may-hold, Fitting.{begun, held-here, is_owned, owned-by, owned-by-none, pin-here, turned, unmixed}, Kept.{among-map, at-most-sum, found-among}}
-use Rattle.pagable_tables.proofs.{Kept.{once, only-at, ordered-map, sum-map, sum-none}, Newer.{OnlyNewer, load-closed, moved-times, newer-falls, newer-handle, newer-mode, newer-moved, newer-then}}
-use Rattle.pagable_tables.proofs.{Newer.{no-load, not-named, owned-given, owned-mode, owned-moved, seen-before, stays-pinned}, Next.{found-first, passes-here, passes-none}, Told.moved-to-value}
-use Rattle.pagable_tables.proofs.{Told.{named-mine, named-own, named-unlisted, not-a-value, or-none}, Words.{Alike, AllPairs, Among, ArcRef, Blob, Bool, Cell, Core, Counts, Ending, Error, Falls}}
-use Rattle.pagable_tables.proofs.Words.{Fits, HandleNumber, HandleRow, Holdings, Installs, IsHandleBefore, IsReady, Last, List, LoadNumber, LoadRow, MayEnd, MayOwnLoad, Mode, NodeNumber, None}
-use Rattle.pagable_tables.proofs.Words.{OnlyRoom, OpenLoad, Option, OptionalDataKey, Owner, Places, Result, Right, SoFar, Some, Tables, [], and-true, ap, arith, cases_eq, cell_in, changed, core_of}
-use Rattle.pagable_tables.proofs.Words.{counts_at, end_fault, falls_in, false, find_row, has_come, has_value, if_there, if◌then◌else◌, inl, inr, is_at, is_bare, is_handle, is_in, is_in_memory}
-use Rattle.pagable_tables.proofs.Words.{is_named_by, is_owned_by, is_owned_in, is_pin, is_pinning, is_plain_pin, is_right, is_share, is_valued, length, live, load_at, load_fault, load_in, map, moved}
-use Rattle.pagable_tables.proofs.Words.{named, nat_tests, nobody, not, of_cell, of_key, one, option_map, owner_value, owns_nothing, pins, pins_in, plain_of, reference_fault, references_fault, refl}
-use Rattle.pagable_tables.proofs.Words.{refused_if, root_fault, row_of, sharing, spent, subst, sum_by, sum_by-cons, sum_by_push, sym, times, true, vec_capacity, where_so, with_handle, with_mode}
-use Rattle.pagable_tables.proofs.{Words.{with_pin, with_tables, without_load, ℕ, ◌&&◌, ◌++◌, ◌+◌, ◌<◌, ◌==◌, ◌∙◌, ◌∷◌, ◌≡◌, ◌≢◌, ◌≤◌, ◌⊎◌}, Worlds.{both-none, fault-by, moved-nobody, named-none}}
-use Rattle.pagable_tables.specs.Core.{IsWhole}
+use Rattle.pagable_tables.proofs.Words.{Alike, AllPairs, Among, ArcRef, Blob, Bool, Cell, Core, Counts, Ending, Error, Falls, Fits, HandleNumber, HandleRow, Holdings, Installs, IsHandleBefore, ◌⊎◌}
+use Rattle.pagable_tables.proofs.Words.{IsReady, Last, List, LoadNumber, LoadRow, MayEnd, MayOwnLoad, Mode, NodeNumber, None, OnlyRoom, OpenLoad, Option, OptionalDataKey, Owner, Places, Result, Right}
+use Rattle.pagable_tables.proofs.Words.{SoFar, Some, Tables, [], and-true, ap, arith, cases_eq, cell_in, changed, core_of, counts_at, end_fault, false, find_row, has_come, has_value, if_there}
+use Rattle.pagable_tables.proofs.Words.{if◌then◌else◌, inl, inr, is_at, is_bare, is_handle, is_in, is_in_memory, is_named_by, is_owned_by, is_owned_in, is_pin, is_pinning, is_plain_pin, is_right}
+use Rattle.pagable_tables.proofs.Words.{is_share, is_valued, length, live, load_at, load_fault, load_in, map, moved, named, nat_tests, nobody, not, of_cell, of_key, one, option_map, owner_value}
+use Rattle.pagable_tables.proofs.Words.{owns_nothing, pins, plain_of, reference_fault, references_fault, refl, refused_if, root_fault, row_of, sharing, spent, subst, sum_by, sum_by-cons, sum_by_push}
+use Rattle.pagable_tables.proofs.Words.{sym, times, true, vec_capacity, where_so, with_handle, with_mode, with_pin, with_tables, without_load, ℕ, ◌&&◌, ◌++◌, ◌+◌, ◌<◌, ◌==◌, ◌∙◌, ◌∷◌, ◌≡◌, ◌≢◌, ◌≤◌}
+use Rattle.pagable_tables.proofs.Newer.{OnlyNewer, load-closed, moved-times, newer-falls, newer-handle, newer-mode, newer-moved, newer-then, no-load, not-named, owned-given, owned-mode, owned-moved}
+use Rattle.pagable_tables.proofs.{Alive.and-left, Calls.may-hold, Fitting.{begun, held-here, is_owned, owned-by, owned-by-none, pin-here, turned, unmixed}, Newer.{seen-before, stays-pinned}}
+use Rattle.pagable_tables.proofs.{Kept.{among-map, at-most-sum, found-among, once, only-at, ordered-map, sum-map, sum-none}, Worlds.{both-none, fault-by, moved-nobody, named-none}}
+use Rattle.pagable_tables.{proofs.{Next.{found-first, passes-here, passes-none}, Told.{moved-to-value, named-mine, named-own, named-unlisted, not-a-value, or-none}}, specs.Core.IsWhole}
 
 -- what is named wasn't named before
 unseen : (w : Core) (me : Owner) (seen : List ℕ) (rs : List ArcRef) → references_fault w me seen rs ≡ None → (q : ℕ) → is_named_by rs q ≡ true → is_in seen q ≡ false
@@ -74,29 +73,20 @@ module _ (w : Core) (me : Owner) (rs : List ArcRef) (ordered : AllPairs IsHandle
   abbrev rows' : List HandleRow
   rows' = given-rows ++ x ∷ []
 
-  nothing : refs n ≡ []
-  nothing = subst (λ o. Right o (refs n)) free (fits.right n)
-
   not-x : (m q : ℕ) → is_owned m q x ≡ 0
   not-x m q = owned-by-none m q x (ap is_valued owner ∙ unvalued)
 
   given-weight : (f : HandleRow → ℕ) → ((h : HandleRow) → f (owned-by (owner_value n) h) ≡ f h) → sum_by f rows' ≡ sum_by f w.rows + f x
   given-weight f same = let s = same-weight w me n rs ordered fit unvalued f same in let l = sum_by_push f given-rows x in omega arith
 
-  pinned-here : pins_in (at' n) ≡ pins n rows'
-  pinned-here = grind (arith, nat_tests, given-weight (λ h. one (is_pin n h)) (λ h. refl), pin-here)
-
   owned-here : (q : ℕ) → named q (refs' n) + owns_nothing n q ≡ sum_by (is_owned n q) rows'
   owned-here q =
       let l = sum_by_push (is_owned n q) given-rows x in
-      let none = ap (named q) nothing in
+      let bare : refs n ≡ [] = subst (λ o. Right o (refs n)) free (fits.right n) in let none = ap (named q) bare in
       let before : sum_by (is_owned n q) w.rows ≡ 0 = omega arith in
       let own = own-own w me n rs ordered fit unvalued q before in
       let some = ap (named q) refers in
       grind (arith, nat_tests)
-
-  falls-here : 0 ≡ one (falls_in (at' n))
-  falls-here = let k : c.is_falling ≡ false = ap (λ (d : Counts). d.is_falling) new in sym (ap (λ o. one (falls_in o)) here ∙ ap one k)
 
   right-here : Right (at' n) (refs' n)
   right-here = subst (λ o. Right o (refs' n)) (sym here) (subst (λ r. Right (Some c) r) (sym refers) (right-new c x.mode rs new bare))
@@ -104,11 +94,11 @@ module _ (w : Core) (me : Owner) (rs : List ArcRef) (ordered : AllPairs IsHandle
   pub born-fits : Fits at' refs' rows' top [] owns_nothing
   born-fits =
       record {
-        pinned = λ m. grind (arith, nat_tests, cases_eq, pinned-here, given-weight (λ h. one (is_pin m h)) (λ h. refl));
+        pinned = λ m. grind (arith, nat_tests, cases_eq, pin-here, given-weight (λ h. one (is_pin m h)) (λ h. refl));
         holding = λ m. grind (arith, nat_tests, cases_eq, held-here, given-weight (λ h. one (is_at m h)) (λ h. refl));
         owned = λ m q. grind (arith, nat_tests, cases_eq, owned-here q, sum_by_push (is_owned m q) given-rows x, not-x m q, same m, others-own w me n rs ordered fit unvalued m q);
         chain = fits.chain;
-        marked = λ m. grind (arith, nat_tests, cases_eq, falls-here);
+        marked = λ m. let k : c.is_falling ≡ false = ap (λ (d : Counts). d.is_falling) new in grind (arith, nat_tests, cases_eq);
         right = λ m. elim (cases_eq m n) [
           | inl e ↦ subst (λ k. Right (at' k) (refs' k)) (sym e) right-here
           | inr e ↦ subst (λ o. Right o (refs' m)) (sym (others m e)) (subst (λ r. Right (at m) r) (sym (same m e)) (fits.right m))
@@ -139,16 +129,13 @@ module _ (w : Core) (me : Owner) (n : ℕ) (rs : List ArcRef) (ordered : AllPair
   abbrev before : List HandleRow
   before = changed (is_handle h) turned w.rows ++ x ∷ []
 
-  abbrev moved-once : List HandleRow
-  moved-once = moved (is_named_by rs) (owner_value n) w.rows
-
   abbrev joined-rows : List HandleRow
   joined-rows = moved (is_named_by rs) (owner_value n) before
 
   own-before : (m q : ℕ) → sum_by (is_owned m q) before ≡ sum_by (is_owned m q) w.rows
   own-before m q = grind (arith, nat_tests, sum_by_push, turned-sum, owned-by-none)
 
-  own-after : (m q : ℕ) → sum_by (is_owned m q) joined-rows ≡ sum_by (is_owned m q) moved-once
+  own-after : (m q : ℕ) → sum_by (is_owned m q) joined-rows ≡ sum_by (is_owned m q) (moved (is_named_by rs) (owner_value n) w.rows)
   own-after m q = grind (arith, nat_tests, moved-turned, sum_by_push, turned-sum, owned-by-none)
 
   pub joined-fits : Fits at refs' joined-rows top [] owns_nothing
@@ -283,34 +270,22 @@ module _ (t t1 : Tables) (stored : ℕ → Option Blob) (closed lists : Bool) (f
         (record { handles = (let b = a.places.handles in omega arith); entries = (let b = a.places.entries in let d = ap vec_capacity list in omega arith) }) (λ n. cells n ∙ a.cells n) refl
 
     owned-pinned : (q : ℕ) → is_owned_in u (Owner.Load l) q ≡ given q
-    owned-pinned q = found-first (is_owned_by (Owner.Load l)) q mid (x ∷ []) (grind (
-      arith,
-      nat_tests,
-      passes-here,
-      passes-none,
-      no-load (plain_of t) me l may,
-    )) ∙ owned-mode (Owner.Load l) q (is_handle h.0) Mode.LoosePinned rows0 ∙ owned-moved s o (Owner.Load l) q w.rows refl
+    owned-pinned q = found-first (is_owned_by (Owner.Load l)) q mid (x ∷ []) (let none = no-load (plain_of t) me l may in grind (arith, nat_tests, passes-here, passes-none))
+        ∙ owned-mode (Owner.Load l) q (is_handle h.0) Mode.LoosePinned rows0 ∙ owned-moved s o (Owner.Load l) q w.rows refl
 
     ordered : AllPairs IsHandleBefore u.rows
     ordered = grind (arith, nat_tests, come, ordered-map)
 
     as-before : {w' : Core} {r : Result (Unit {0}) Error} → Falls u u given r w' → Falls w u given r w'
-    as-before {w'} {r} falls = seen-before {b = u} {w = w} {u = u} u.places (record { handles = omega arith; entries = omega arith }) to-before falls
-      where
-        to-before : (n : ℕ) → pins n w'.rows ≡ 0 → (pins n u.rows ≡ pins n w.rows) × (sharing n u.rows ≡ sharing n w.rows)
-        to-before n none =
-            let stays = stays-pinned (record w { rows = mid }) u w' given r x refl ordered unvalued (grind (
-              arith,
-              nat_tests,
-              and-left,
-              owned-given (plain_of t) (Owner.Load l) (t.holdings.last_handle + 1) was.core.handles,
-            )) falls n none in
-            let more = sum_by_push (λ y. one (is_pin n y)) mid x in
-            let z : one (is_pin n x) ≡ 0 = (let b = stays.0 in omega arith) in
-            let other : (row.node.0 == n) ≡ false = grind (arith, nat_tests) in (
-              stays.0 ∙ other-pins h row.node rows0 of n other ∙ moved-times (is_pin n) s o w.rows (λ y. refl),
-              stays.1 ∙ other-shares h row.node rows0 of n other ∙ moved-times (is_share n) s o w.rows (λ y. refl),
-            )
+    as-before {w'} {r} falls = seen-before {b = u} {w = w} {u = u} u.places (record { handles = omega arith; entries = omega arith }) (λ n none.
+        let kept = owned-given (plain_of t) (Owner.Load l) (t.holdings.last_handle + 1) was.core.handles in
+        let stays = stays-pinned (record w { rows = mid }) u w' given r x refl ordered unvalued (grind (arith, nat_tests, and-left)) falls n none in
+        let more = sum_by_push (λ y. one (is_pin n y)) mid x in
+        let z : one (is_pin n x) ≡ 0 = (let b = stays.0 in omega arith) in
+        let other : (row.node.0 == n) ≡ false = grind (arith, nat_tests) in (
+          stays.0 ∙ other-pins h row.node rows0 of n other ∙ moved-times (is_pin n) s o w.rows (λ y. refl),
+          stays.1 ∙ other-shares h row.node rows0 of n other ∙ moved-times (is_share n) s o w.rows (λ y. refl),
+        )) falls
 
     -- what gives up all that a load owns does it here
     pub ended : (since : ℕ) (new : Holdings) (loads : ℕ → Option LoadRow) (r : Result (Unit {0}) Error)

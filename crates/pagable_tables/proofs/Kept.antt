@@ -313,13 +313,9 @@ AreAlike rows = (x y : HandleRow) → Among rows x → Among rows y → x.node.0
 
 -- a row is Shared exactly where one of its node is
 shared-by : {w : Core} → IsWhole w → (x : HandleRow) → Among w.rows x → is_shared x.mode ≡ nat_lt 0 (sharing x.node.0 w.rows)
-shared-by {w} whole x among = grind (
-  arith,
-  nat_tests,
-  whole.handles.uniform x.node.0,
-  at-most-sum (λ h. one (is_share x.node.0 h)) w.rows x among,
-  sum-less (λ h. one (is_share x.node.0 h)) (λ h. one (is_at x.node.0 h)) w.rows x (λ h. grind (arith, nat_tests)) among,
-)
+shared-by {w} whole x among =
+    let less = sum-less (λ h. one (is_share x.node.0 h)) (λ h. one (is_at x.node.0 h)) w.rows x (λ h. grind (arith, nat_tests)) among in
+    grind (arith, nat_tests, whole.handles.uniform x.node.0, at-most-sum (λ h. one (is_share x.node.0 h)) w.rows x among)
 
 pub alike-rows : {w : Core} → IsWhole w → AreAlike w.rows
 alike-rows {w} whole x y there here same = shared-by whole x there ∙ ap (λ n. nat_lt 0 (sharing n w.rows)) same ∙ sym (shared-by whole y here)

@@ -5,14 +5,14 @@ use Rattle.pagable_tables.proofs.{Next.{no-entry, none-falls-in, owned, passes-h
 use Rattle.pagable_tables.proofs.{Told.settles, Words.{Alike, AllPairs, Among, ArcRef, AreLater, ArePlaced, AwayBirthCall, Bears, Becomes, Blob, Bool, Core, DropCall, Err, Error, Falls, Fits, Giving}}
 use Rattle.pagable_tables.proofs.Words.{HandleNumber, HandleRow, Handles, HandlesAreWhole, HasRoom, Holdings, InReach, IndexMap, IsClosed, IsFalling, IsHandleBefore, IsLeast, IsNoLess, Last, List}
 use Rattle.pagable_tables.proofs.Words.{LoadNumber, LoadRow, Makes, MayHold, MayOwnLoad, Mode, NodeNumber, None, Ok, OnlyRoom, OpenLoad, Option, OptionalDataKey, Owner, Places, Reach, Result}
-use Rattle.pagable_tables.proofs.Words.{ScheduleCall, SetKeyCall, SoFar, Some, Tables, TakeCall, UnpinCall, ValueStays, [], ap, arith, birth_fault, cases_Bool, cases_eq, cell_in, changed, core_of}
-use Rattle.pagable_tables.proofs.Words.{counts_at, earlier, false, find_row, gives_row, greatest, hand_over_fault, has_key, has_value, if_there, if◌then◌else◌, inl, inr, is_at, is_handle, is_in}
-use Rattle.pagable_tables.proofs.Words.{is_keyed, is_loose_kind, is_named_by, is_outside, is_owned_by, is_owned_in, is_owner, is_pin, is_pinning, is_plain_pin, is_shared, is_some, is_valued}
-use Rattle.pagable_tables.proofs.Words.{is_workers_load, key_in, left_rows, length, live, load_at, load_fault, load_in, loses_value, mode_of, moved, named_fault, nat_tests, next_node, nobody, not}
-use Rattle.pagable_tables.proofs.Words.{numbers_of, one, only_handle, option_map, owner_value, owner_worker, owns_nothing, passes_in, pins, plain_of, reach_at, references_fault, refl, refs_at, row_of}
-use Rattle.pagable_tables.proofs.Words.{sharing, subst, sum_by-append, sum_by-cons, sum_by-le-sum_by, sum_by_push, sym, times, true, updated, with_handle, with_mode, with_node, with_worker}
-use Rattle.pagable_tables.proofs.{Words.{without_load, worker_at, ℕ, ◌&&◌, ◌++◌, ◌+◌, ◌<◌, ◌==◌, ◌||◌, ◌∙◌, ◌∷◌, ◌≡◌, ◌≢◌, ◌≤◌, ◌⊎◌}, Worlds.{born-past, both-none, earlier-first, late, next-past}}
-use Rattle.{pagable_tables.{proofs.Worlds.{owner-same, owner-self, references-low, same-cache, spent-late}, specs.{Core.IsWhole, Giving.TakesWorker}}, pagable_world.specs.Workers.is_load_of}
+use Rattle.pagable_tables.proofs.Words.{ScheduleCall, SetKeyCall, SoFar, Some, Tables, TakeCall, UnpinCall, ValueStays, [], ap, arith, cases_Bool, cases_eq, cell_in, changed, core_of, counts_at}
+use Rattle.pagable_tables.proofs.Words.{false, find_row, gives_row, greatest, hand_over_fault, has_key, has_value, if_there, if◌then◌else◌, inl, inr, is_at, is_handle, is_in, is_keyed, is_loose_kind}
+use Rattle.pagable_tables.proofs.Words.{is_named_by, is_outside, is_owned_by, is_owned_in, is_owner, is_pin, is_pinning, is_plain_pin, is_shared, is_some, is_valued, is_workers_load, key_in}
+use Rattle.pagable_tables.proofs.Words.{left_rows, length, live, load_at, load_fault, load_in, loses_value, mode_of, moved, named_fault, nat_tests, next_node, nobody, not, numbers_of, one}
+use Rattle.pagable_tables.proofs.Words.{only_handle, option_map, owner_value, owner_worker, owns_nothing, passes_in, pins, plain_of, reach_at, references_fault, refl, refs_at, row_of, sharing, subst}
+use Rattle.pagable_tables.proofs.Words.{sum_by-append, sum_by-cons, sum_by-le-sum_by, sum_by_push, sym, times, true, updated, with_handle, with_mode, with_node, with_worker, without_load, ℕ, ◌&&◌}
+use Rattle.pagable_tables.{proofs.{Words.{◌++◌, ◌+◌, ◌<◌, ◌==◌, ◌||◌, ◌∙◌, ◌∷◌, ◌≡◌, ◌≢◌, ◌≤◌, ◌⊎◌}, Worlds.{born-past, both-none, next-past, owner-same, owner-self, same-cache}}, specs.Core.IsWhole}
+use Rattle.{pagable_tables.specs.Giving.TakesWorker, pagable_world.specs.Workers.is_load_of}
 use Rattle.pagable_world.specs.Pager as pager
 
 -- what is counted of handles whoever owns them
@@ -195,10 +195,6 @@ still-reaches {S} {workers} {workers'} same = subst (λ u. IsNoLess workers u) (
 pub later-less : {t t' : Tables} → AreLater t → OnlyNewer (plain_of t) (plain_of t') → ((l : ℕ) (load : LoadRow) → load_at t'.loads l ≡ Some load → load_at t.loads l ≡ Some load) → IsNoLess t.workers t'.workers → AreLater t'
 later-less later newer loads less = grind (arith, nat_tests, later-by)
 
--- one worker less is at work
-pub less-one : {S : Type 0} (workers workers' : IndexMap ℕ Reach S) (v : ℕ) → worker_at workers' v ≡ None → ((q : ℕ) → q ≢ v → worker_at workers' q ≡ worker_at workers q) → IsNoLess workers workers'
-less-one {S} workers workers' v gone others = grind (arith, nat_tests, cases_eq, others)
-
 -- the same, where the workers are those that were
 pub later-so : {t t' : Tables} → AreLater t → OnlyNewer (plain_of t) (plain_of t') → ((l : ℕ) (load : LoadRow) → load_at t'.loads l ≡ Some load → load_at t.loads l ≡ Some load) → t'.workers ≡ t.workers → AreLater t'
 later-so later newer loads same = later-less later newer loads (still-reaches same)
@@ -219,6 +215,12 @@ pub later-opened : {t t' : Tables} → pager.IsWhole (plain_of t) → AreLater t
     → ((q : ℕ) → q ≢ m → load_at t'.loads q ≡ load_at t.loads q) → t'.workers ≡ t.workers → AreLater t'
 later-opened {t} {t'} whole later newer m row none here since others same =
     let last = newer.last in
+    let reaches : (v : ℕ) → (reach_at t'.workers v).since ≡ (reach_at t.workers v).since = λ v. ap (λ u. (reach_at u v).since) same in
+    let new-owns : (q : ℕ) → owned (Owner.Load (record { 0 = m })) q (plain_of t).rows ≡ true → ⊥ = λ q own.
+    none-owned (plain_of t) (Owner.Load (record { 0 = m })) q (λ h among of. absurd (let a = whole.owners_there.loads h (record { 0 = m }) among of in
+    let b : is_some ((plain_of t).loads m) ≡ false = ap (λ o. is_some (option_map load_in o)) none in cc)) own in
+    let one : (l : ℕ) (load : LoadRow) → load_at t'.loads l ≡ Some load → ((l ≡ m) × (load.since ≡ t.holdings.last_handle)) ⊎ (load_at t.loads l ≡ Some load) =
+    λ l load is. grind (arith, nat_tests, cases_eq, here, since, others) in
     record {
       given = λ l load is. let o = one l load is in grind (arith, nat_tests, later.given);
       since = λ l load q is own. let o = one l load is in let k = newer.kept (Owner.Load (record { 0 = l })) q refl own in grind (arith, nat_tests, later.given, later.since, new-owns);
@@ -226,22 +228,14 @@ later-opened {t} {t'} whole later newer m row none here since others same =
       reach = λ v q own. let k = newer.kept (owner_worker v) q refl own in let r = later.reach v q in let a = later.begun v in grind (arith, nat_tests);
       loads = λ v l load is owns. let c = reaches v in let o = one l load is in grind (arith, nat_tests, later.begun, later.loads);
     }
-  where
-    reaches : (v : ℕ) → (reach_at t'.workers v).since ≡ (reach_at t.workers v).since
-    reaches v = ap (λ u. (reach_at u v).since) same
-
-    new-owns : (q : ℕ) → owned (Owner.Load (record { 0 = m })) q (plain_of t).rows ≡ true → ⊥
-    new-owns q own = none-owned (plain_of t) (Owner.Load (record { 0 = m })) q (λ h among of. absurd (let a = whole.owners_there.loads h (record { 0 = m }) among of in
-        let b : is_some ((plain_of t).loads m) ≡ false = ap (λ o. is_some (option_map load_in o)) none in cc)) own
-
-    one : (l : ℕ) (load : LoadRow) → load_at t'.loads l ≡ Some load → ((l ≡ m) × (load.since ≡ t.holdings.last_handle)) ⊎ (load_at t.loads l ≡ Some load)
-    one l load is = grind (arith, nat_tests, cases_eq, here, since, others)
 
 -- one worker more is at work
 pub later-begun : {t t' : Tables} → pager.IsWhole (plain_of t) → AreLater t → t' ≡ record t { workers = t'.workers; last_worker = t'.last_worker } → (v : ℕ) → v ≡ t.last_worker + 1
     → reach_at t'.workers v ≡ record { since = t.holdings.last_handle; beside = 0 } → ((u : ℕ) → u ≢ v → reach_at t'.workers u ≡ reach_at t.workers u) → AreLater t'
 later-begun {t} {t'} whole later same v new here others =
     let u : Tables = record t { workers = t'.workers; last_worker = t'.last_worker } in
+    let at-rest : (m : ℕ) → m ≡ v → (plain_of t).workers m ≡ true → ⊥ = λ m e is. let a = whole.workers_numbered m is in absurd (omega arith) in
+    let working : (m : ℕ) (o : Owner) → is_owner (owner_worker m) o ≡ true → pager.MayOwnLoad (plain_of t) o → (plain_of t).workers m ≡ true = λ m o owns may. grind (arith, nat_tests) in
     subst AreLater (sym same) (record {
       given = later.given;
       since = later.since;
@@ -252,12 +246,6 @@ later-begun {t} {t'} whole later same v new here others =
       ];
       loads = λ m l load is owns. let works = working m load.owner owns (whole.loads.owned l (load_in load) (ap (option_map load_in) is)) in grind (arith, nat_tests, cases_eq m v, at-rest, others, later.loads);
     })
-  where
-    at-rest : (m : ℕ) → m ≡ v → (plain_of t).workers m ≡ true → ⊥
-    at-rest m e is = let a = whole.workers_numbered m is in absurd (omega arith)
-
-    working : (m : ℕ) (o : Owner) → is_owner (owner_worker m) o ≡ true → pager.MayOwnLoad (plain_of t) o → (plain_of t).workers m ≡ true
-    working m o owns may = grind (arith, nat_tests)
 
 -- ---- calls
 
@@ -319,20 +307,13 @@ module _ (rows : List HandleRow) (keyed : ℕ → Bool) (entries : List HandleRo
   fewer : (f : HandleRow → Bool) → times (λ h. f h && is_outside s h) rows ≤ times (λ h. f h && is_outside less h) rows
   fewer f = grind (arith, nat_tests, sum_by-le-sum_by)
 
-  loses : (n : ℕ) → loses_value rows keyed entries less n ≡ true → loses_value rows keyed entries s n ≡ true
-  loses n e = let a = fewer (is_pin n) in let b = fewer (is_at n) in grind (arith, nat_tests, cases_Bool (keyed n))
-
   closed-less : IsClosed rows keyed entries less
   closed-less n e =
+      let a = fewer (is_pin n) in let b = fewer (is_at n) in
+      let loses : loses_value rows keyed entries s n ≡ true = grind (arith, nat_tests, cases_Bool (keyed n)) in
       sum-none (λ h. one (is_owned_by (owner_value n) h && is_outside less h)) rows (λ h among.
-      grind (
-        arith,
-        nat_tests,
-        least.closed n (loses n e),
-        at-most-sum (λ h. one (is_owned_by (owner_value n) h && is_outside s h)) rows h among,
-        once rows ordered h x among there,
-        no-value n x.owner plain,
-      ))
+      let most = at-most-sum (λ h. one (is_owned_by (owner_value n) h && is_outside s h)) rows h among in
+      grind (arith, nat_tests, least.closed n loses, once rows ordered h x among there, no-value n x.owner plain))
 
   pub not-least : s x.number.0 ≡ false
   not-least =
@@ -349,14 +330,10 @@ pub stays-pinned : (w u w' : Core) (given : ℕ → Bool) (r : Result (Unit {0})
     → is_valued x.owner ≡ false → given x.number.0 ≡ false → Falls u u given r w'
     → (n : ℕ) → pins n w'.rows ≡ 0 → (pins n u.rows ≡ pins n w.rows) × (sharing n u.rows ≡ sharing n w.rows)
 stays-pinned w u w' given r x rows ordered plain kept falls n none =
+    let among : Among u.rows x = subst (λ l. Among l x) (sym rows) (among-last w.rows x) in
+    let stands = not-least u.rows (is_keyed u) falls.entries given falls.gone falls.set ordered x among plain kept in
     let a = at-most-sum (λ h. one (is_pin n h && not (falls.gone h.number.0))) u.rows x among in let b = times-left (is_pin n) falls.gone u.rows in
-    let c = sum_by-append (λ h. one (is_pin n h)) (left_rows falls.gone u.rows) falls.entries in grind (arith, nat_tests, ap (pins n) falls.leaves.rows, stands, sum_by_push)
-  where
-    among : Among u.rows x
-    among = subst (λ l. Among l x) (sym rows) (among-last w.rows x)
-
-    stands : falls.gone x.number.0 ≡ false
-    stands = not-least u.rows (is_keyed u) falls.entries given falls.gone falls.set ordered x among plain kept
+    let c = sum_by-append (λ h. one (is_pin n h)) (left_rows falls.gone u.rows) falls.entries in grind (arith, nat_tests, ap (pins n) falls.leaves.rows, sum_by_push)
 
 pub eager-pins : (kind : ℕ) → is_loose_kind kind ≡ false → is_pinning (mode_of kind) ≡ true
 eager-pins kind eager = grind (arith, nat_tests)
@@ -420,11 +397,7 @@ found-more q (h ∷ hs) more row is = grind (arith, nat_tests, found-more q hs m
 pub found-again : (q : ℕ) (rows rows' more : List HandleRow) (row : HandleRow) (o : Option HandleRow) → find_row q rows ≡ Some row → rows' ≡ rows ++ more → find_row q rows' ≡ o → o ≡ Some row
 found-again q rows rows' more row o is came again = sym again ∙ ap (find_row q) came ∙ found-more q rows more row is
 
--- ---- a birth, by what it is made of; and why references are refused before a number that is spent
-
--- a cause that tells of a reference comes before a number that is spent
-pub references-first : (w : Core) (me : Owner) (rs : List ArcRef) (e : Error) → references_fault w me [] rs ≡ Some e → earlier (references_fault w me [] rs) (birth_fault w) ≡ Some e
-references-first w me rs e is = grind (arith, nat_tests, earlier-first, references-low, late, spent-late)
+-- ---- a birth, by what it is made of
 
 pub none-named : (w : Core) (me : Owner) (rs : List ArcRef) → rs ≡ [] → references_fault w me [] rs ≡ None
 none-named w me rs is = ap (references_fault w me []) is ∙ no-references w me

@@ -1,11 +1,11 @@
 -- Where no node falls any more, all has gone that had to go, and no more. Values that go as nodes fall.
 use Rattle.pagable_tables.proofs.Alive.{and_one, entries-more, entries-none, gives-sums, kept-more, left-more, left-none, none-entered, none-listed, of_list, one-le, ones, sum-most, times-left}
-use Rattle.pagable_tables.proofs.{Alive.with-entry, Fitting.{cell-keyed, counted, forced, listing-is, no-more, open-then, refusal-kept, which}, Words.{Alike, AreNewEntries, Begins, Bool, Cell, Core}}
-use Rattle.pagable_tables.proofs.Words.{Counts, Error, Falls, FallsBy, GivesUp, HandleNumber, HandleRow, HasFallen, HasPlaces, Holdings, IsApart, IsClosed, IsFalling, IsLeast, IsListRefusal}
-use Rattle.pagable_tables.proofs.Words.{IsUnlisted, IsWithin, List, LoadNumber, MustList, NodeNumber, None, Option, Owner, Result, Sheds, SoFar, Some, Steps, TellsListing, ValueStays, [], and_parts}
-use Rattle.pagable_tables.proofs.Words.{ap, append-nil, append_assoc, arith, cases_Bool, cases_eq, cell_in, counts_at, entries_of, entry, fallen, falls_in, false, filter, filter-append, find_row}
-use Rattle.pagable_tables.proofs.Words.{first_cause, has_value, held, held_outside, if◌then◌else◌, inl, inr, is_at, is_handle, is_keyed, is_listing, is_outside, is_owned_by, is_owned_in, is_owner}
-use Rattle.pagable_tables.proofs.Words.{is_pin, is_plain_pin, is_share, is_shared, is_some, is_valued, left_rows, length, length-append, live, map-append, nat_eq, nat_tests, not, one, only_handle}
+use Rattle.pagable_tables.proofs.{Alive.with-entry, Fitting.{cell-keyed, counted, forced, listing-is, no-more, open-then, which}, Words.{Alike, AreNewEntries, Begins, Bool, Cell, Core, Counts, Error}}
+use Rattle.pagable_tables.proofs.Words.{Falls, FallsBy, GivesUp, HandleNumber, HandleRow, HasFallen, HasPlaces, Holdings, IsApart, IsClosed, IsFalling, IsLeast, IsListRefusal, IsUnlisted, IsWithin}
+use Rattle.pagable_tables.proofs.Words.{List, LoadNumber, MustList, NodeNumber, None, Option, Owner, Result, Sheds, SoFar, Some, Steps, TellsListing, ValueStays, [], and_parts, ap, append-nil}
+use Rattle.pagable_tables.proofs.Words.{append_assoc, arith, cases_Bool, cases_eq, cell_in, counts_at, entries_of, entry, fallen, falls_in, false, filter, filter-append, find_row, first_cause}
+use Rattle.pagable_tables.proofs.Words.{has_value, held, held_outside, if◌then◌else◌, inl, inr, is_at, is_handle, is_keyed, is_listing, is_outside, is_owned_by, is_owned_in, is_owner, is_pin}
+use Rattle.pagable_tables.proofs.Words.{is_plain_pin, is_share, is_shared, is_some, is_valued, left_rows, length, length-append, live, map-append, nat_eq, nat_tests, not, one, only_handle}
 use Rattle.pagable_tables.proofs.Words.{owner_value, owns, owns_nothing, passes_in, pins, pins_in, pins_outside, refl, subst, sum_by, sum_by-append, sum_by-cons, sum_by-le-sum_by, sym, times, told_by}
 use Rattle.pagable_tables.proofs.{Words.{true, valued, with_tables, ℕ, ◌&&◌, ◌++◌, ◌+◌, ◌<◌, ◌==◌, ◌||◌, ◌∙◌, ◌∷◌, ◌≡◌, ◌≢◌, ◌≤◌, ◌⊎◌}, Worlds.same-cache}
 
@@ -29,11 +29,8 @@ module _ (before w : Core) (given : ℕ → Bool) (lists : Bool) (t : Holdings) 
   closed n lost =
       let fell = down n (is_keyed w n) refl lost in
       let fits = whole.fits in
-      omega (
-        arith,
-        none-owned n (live t.handles.places.items) (λ q. grind (arith, nat_tests)),
-        counted f (is_owned_by (owner_value n)),
-      )
+      let none = none-owned n (live t.handles.places.items) (λ q. grind (arith, nat_tests)) in
+      omega (arith, counted f (is_owned_by (owner_value n)))
 
   leaves : Alike (fallen w f.gone f.entries) (with_tables w t)
   leaves = grind (arith, nat_tests, none-falls-in, same-cache, live, fallen)
@@ -145,9 +142,6 @@ module _ {before w : Core} {given : ℕ → Bool} {lists stays : Bool} {t popped
   here : (p : HandleRow → Bool) → one (p x) ≤ times p (live t.handles.places.items)
   here p = let a = g.leaves.there (λ h. one (p h)) in let b = ap (times p) before-rows in omega arith
 
-  fewer : length (live g.left.places.items) ≤ length w.rows
-  fewer = omega (arith, g.leaves.sums (λ h. 1), ones (live g.left.places.items), ones (live popped.handles.places.items), ap length before-rows, one-le stays)
-
   since : popped.last_handle ≡ t.last_handle
   since = ap (λ (h : Holdings). h.last_handle) same
 
@@ -156,10 +150,6 @@ module _ {before w : Core} {given : ℕ → Bool} {lists stays : Bool} {t popped
 
   added : new.list.items ≡ t.list.items ++ came
   added = ap (λ (h : Holdings). h.list.items) g.same ∙ g.comes.comes.list ∙ ap (λ (h : Holdings). h.list.items ++ (if g.listed then record { 0 = h.last_handle + 1 } ∷ [] else [])) same
-
-  -- why none came
-  wanting : (e : Error) → g.listed ≡ false → IsUnlisted gap e → IsListRefusal w (with_tables w new) e
-  wanting e none why = grind (arith, nat_tests, last, since, added, length-append, fewer)
 
   abbrev wanted : Bool
   wanted = lists && is_listing g.counts x.mode
@@ -176,19 +166,10 @@ module _ {before w : Core} {given : ℕ → Bool} {lists stays : Bool} {t popped
       let w' = and_parts lists (is_listing g.counts x.mode) want in
       let l = listing-is g.counts x.mode w'.1 in
       let n = x.node.0 in
-      grind (
-        arith,
-        nat_tests,
-        open-then,
-        one-pin want,
-        left n,
-        no-more f (is_pin n) (λ h mode owner. grind (arith, nat_tests)),
-        f.begins.fewer n,
-        no-more f (is_plain_pin n) (λ h mode owner. grind (arith, nat_tests)),
-        here (is_plain_pin n),
-        cell-keyed (counts_at t.nodes n) g.counts (w.cells n) is (f.cells n),
-        f.begins.uniform n,
-      )
+      let pinned = no-more f (is_pin n) (λ h mode owner. grind (arith, nat_tests)) in
+      let plain = no-more f (is_plain_pin n) (λ h mode owner. grind (arith, nat_tests)) in
+      let key = cell-keyed (counts_at t.nodes n) g.counts (w.cells n) is (f.cells n) in
+      grind (arith, nat_tests, open-then, one-pin want, left n, f.begins.fewer n, here (is_plain_pin n), f.begins.uniform n)
 
   -- a cell must be listed: its last pin had gone before, or it has gone now
   must-before : (n : ℕ) → MustList before w (with_tables w new) n → MustList before w (with_tables w t) n ⊎ ((n ≡ x.node.0) × (wanted ≡ true))
@@ -196,18 +177,9 @@ module _ {before w : Core} {given : ℕ → Bool} {lists stays : Bool} {t popped
       elim (cases_Bool (is_pin n x)) [
         | inr other ↦ let a = left n in let z = must.unpinned in let k = ap one other in
             inl (record { pinned = must.pinned; unpinned = omega arith; unkeyed = must.unkeyed; unshared = must.unshared; stands_open = must.stands_open })
-        | inl pin ↦ inr (grind (
-          arith,
-          nat_tests,
-          no-more f (is_share n) (λ h mode owner. let m : is_shared h.mode ≡ false = ap is_shared mode in grind (arith, nat_tests)),
-          here (is_share n),
-          must.unshared,
-          ap one pin,
-          left n,
-          must.unpinned,
-          is,
-          cell-keyed,
-        ))
+        | inl pin ↦
+            let shares = no-more f (is_share n) (λ h mode owner. let m : is_shared h.mode ≡ false = ap is_shared mode in grind (arith, nat_tests)) in
+            inr (grind (arith, nat_tests, here (is_share n), must.unshared, ap one pin, left n, must.unpinned, is, cell-keyed))
       ]
 
   must-kept : (n : ℕ) → MustList before w (with_tables w t) n → MustList before w (with_tables w new) n
@@ -246,11 +218,7 @@ module _ {before w : Core} {given : ℕ → Bool} {lists stays : Bool} {t popped
               a.0,
               must-kept a.0 a.1,
               omega (arith, held-more a.0, other a.0 a.1.unpinned, a.2),
-              refusal-kept w t new e a.3 (omega (arith, last)) (omega (
-                arith,
-                ap length added,
-                length-append t.list.items came,
-              )),
+              grind (arith, nat_tests, a.3, last, added, length-append),
             );
           })
       by None is tells = elim (which g.listed wanted) [
@@ -270,7 +238,10 @@ module _ {before w : Core} {given : ℕ → Bool} {lists stays : Bool} {t popped
         | inr (none, want) ↦
             let y = late None is none want in
             let l = ap (λ b. if b then one (is_at x.node.0 (entry (t.last_handle + 1) x.node)) else 0) none in
-            told-so (Some y.0) y.2 (record { all = tt; not_all = (x.node.0, new-must want, omega (arith, held-more x.node.0, l, none-held want), wanting y.0 none y.1) })
+            let fewer : length (live g.left.places.items) ≤ length w.rows =
+            omega (arith, g.leaves.sums (λ h. 1), ones (live g.left.places.items), ones (live popped.handles.places.items), ap length before-rows, one-le stays) in
+            let why : IsListRefusal w (with_tables w new) y.0 = grind (arith, nat_tests, last, since, added, length-append, fewer, y.1) in
+            told-so (Some y.0) y.2 (record { all = tt; not_all = (x.node.0, new-must want, omega (arith, held-more x.node.0, l, none-held want), why) })
       ]
 
   pub entered-on : (rows : List HandleRow) → length rows ≡ length w.rows → (given' gone : ℕ → Bool) → Begins before (record w { rows = rows }) lists
@@ -427,13 +398,7 @@ given-none before w given lists t l n f none =
 
 -- the load had the handle, and it was given
 pub given-one : (before w : Core) (given : ℕ → Bool) (lists : Bool) (t new : Holdings) (l : LoadNumber) (n : ℕ) → SoFar before w given lists t → owned (Owner.Load l) n (live t.handles.places.items) ≡ true → SoFar before w (and_one given n) lists new → SoFar before w (and_owned w l given n) lists new
-given-one before w given lists t new l n f some g = regiven before w (and_one given n) (and_owned w l given n) lists new g less more
-  where
-    mine : is_owned_in w (Owner.Load l) n ≡ true
-    mine = (and_parts (not (f.gone n)) _ (sym (passes-so-far before w given lists t f (is_owned_by (Owner.Load l)) (unlisting (Owner.Load l) refl) n) ∙ some)).1
-
-    less : (r : ℕ) → and_owned w l given n r ≡ true → (and_one given n r || g.gone r) ≡ true
-    less r e = grind (arith, nat_tests)
-
-    more : (r : ℕ) → and_one given n r ≡ true → and_owned w l given n r ≡ true
-    more r e = grind (arith, nat_tests, mine)
+given-one before w given lists t new l n f some g =
+    let mine : is_owned_in w (Owner.Load l) n ≡ true =
+    (and_parts (not (f.gone n)) _ (sym (passes-so-far before w given lists t f (is_owned_by (Owner.Load l)) (unlisting (Owner.Load l) refl) n) ∙ some)).1 in
+    regiven before w (and_one given n) (and_owned w l given n) lists new g (λ r e. grind (arith, nat_tests)) (λ r e. grind (arith, nat_tests))

@@ -150,9 +150,6 @@ module _ {w : Core} (whole : IsWhole w) (x : HandleRow) (cells : ℕ → Option 
 pub suits-like : {w : Core} (node : NodeNumber) (mode : Mode) → Suits w node mode → HasLike w.rows node.0 (is_shared mode)
 suits-like node mode suits = record { row = suits.row; there = suits.there; at = ap (λ (k : NodeNumber). k.0) suits.at; same = suits.shared }
 
-pub suits-held : {w : Core} → IsWhole w → (node : NodeNumber) (mode : Mode) → Suits w node mode → 0 < held node.0 w.rows
-suits-held {w} whole node mode suits = held-some node.0 w.rows suits.row suits.there (ap (λ (k : NodeNumber). k.0) suits.at)
-
 -- beside the handles that its node has
 pub beside : {w : Core} → IsWhole w → (node : NodeNumber) (mode : Mode) (owner : Owner) → HasLike w.rows node.0 (is_shared mode) → MayHold w owner → w.last.handle < greatest
     → IsWhole (roomy (with_handle w node mode owner))
@@ -218,22 +215,15 @@ module _ {before : Core} (m u : Core) {w' : Core} {given : ℕ → Bool} {r : Re
       subst (λ k. is_some (m.cells k) ≡ true) (at-then n found.0 found.2) (each-row (λ h. is_some (m.cells h.node.0) ≡ true) (λ h old kept. there-then whole h old)
       (λ h like e. subst (λ k. is_some (m.cells k) ≡ true) like.at (there-then whole like.row like.there)) found.0 found.1)
 
-  -- a given handle that stays isn't the list's
-  no-row : (q : ℕ) → given q ≡ true → f.gone q ≡ false → times (of_list q) m.rows ≡ 0
-  no-row q is kept = sum-none (λ h. one (of_list q h)) m.rows (λ h among. let g = within-goes m.rows given f.gone h f.set.holds among in let o : of_list q h ≡ true → h.number.0 ≡ q = λ is. grind (arith, nat_tests) in grind (arith, nat_tests))
-
   still-listed : (q : ℕ) → times (λ (h : HandleNumber). h.0 == q) after.list ≡ times (of_list q) after.rows
-  still-listed q = grind (
-    arith,
-    nat_tests,
-    one-left (λ (h : HandleNumber). h.0) (λ h. h.0 == q) q (λ h is. grind (arith, nat_tests)) f.gone (f.gone q) refl u.list,
-    one-left (λ (h : HandleRow). h.number.0) (of_list q) q (λ h is. grind (arith, nat_tests)) f.gone (f.gone q) refl m.rows,
-    lost.listed q,
-    no-row q,
-    sum_by-append (λ (h : HandleNumber). one (h.0 == q)) (filter (λ (h : HandleNumber). not (f.gone h.0)) u.list) (map (λ (h : HandleRow). h.number) f.entries),
-    sum_by-append (λ h. one (of_list q h)) left f.entries,
-    entries-listed q m.last.handle f.entries f.new,
-  )
+  still-listed q =
+      let none : given q ≡ true → f.gone q ≡ false → times (of_list q) m.rows ≡ 0 = λ is stays. sum-none (λ h. one (of_list q h)) m.rows (λ h among.
+      let g = within-goes m.rows given f.gone h f.set.holds among in let o : of_list q h ≡ true → h.number.0 ≡ q = λ is. grind (arith, nat_tests) in grind (arith, nat_tests)) in
+      let kept = one-left (λ (h : HandleNumber). h.0) (λ h. h.0 == q) q (λ h is. grind (arith, nat_tests)) f.gone (f.gone q) refl u.list in
+      let rows = one-left (λ (h : HandleRow). h.number.0) (of_list q) q (λ h is. grind (arith, nat_tests)) f.gone (f.gone q) refl m.rows in
+      let list = sum_by-append (λ (h : HandleNumber). one (h.0 == q)) (filter (λ (h : HandleNumber). not (f.gone h.0)) u.list) (map (λ (h : HandleRow). h.number) f.entries) in
+      let all = sum_by-append (λ h. one (of_list q h)) left f.entries in
+      grind (arith, nat_tests, lost.listed q, none, entries-listed q m.last.handle f.entries f.new)
 
   fallen-whole : IsWhole after
   fallen-whole =

@@ -1,12 +1,12 @@
 -- Two worlds that are told alike.
-use Rattle.pagable_tables.proofs.Words.{Adopts, Alike, ArcRef, AreHandlesFull, Bool, Cell, CloneCall, Core, Counts, Err, Error, FallsAnyhow, HandleNumber, HandleRow, HasRoom, Kind, LazyCall, List}
-use Rattle.pagable_tables.proofs.Words.{LoadNumber, LoadRow, Makes, Mode, NodeNumber, None, Ok, OnlyRoom, OpenLoad, Option, OptionalDataKey, Owner, OwnsLoad, Places, RecallCall, Refused, Result}
-use Rattle.pagable_tables.proofs.Words.{SameAt, SameCache, Some, [], add-one, adopt_fault, adopted, ap, arith, at_drop_all, at_drop_more, birth_fault, cell_in, closed_fault, drop, drop-cons, drop_all}
+use Rattle.pagable_tables.proofs.Words.{Adopts, Alike, ArcRef, AreHandlesFull, Bool, Cell, Core, Counts, Err, Error, FallsAnyhow, HandleNumber, HandleRow, HasRoom, Kind, LazyCall, List, LoadNumber}
+use Rattle.pagable_tables.proofs.Words.{LoadRow, Makes, Mode, NodeNumber, None, Ok, OnlyRoom, OpenLoad, Option, OptionalDataKey, Owner, OwnsLoad, Places, RecallCall, Refused, Result, SameAt}
+use Rattle.pagable_tables.proofs.Words.{SameCache, Some, [], add-one, adopt_fault, adopted, ap, arith, at_drop_all, at_drop_more, birth_fault, cell_in, closed_fault, drop, drop-cons, drop_all}
 use Rattle.pagable_tables.proofs.Words.{earlier, early_fault, false, find_row, first_key, get_or, greatest, handle_fault, if_there, if◌then◌else◌, inl, inr, is_in, is_in_memory, is_loose_kind}
 use Rattle.pagable_tables.proofs.Words.{is_named_by, is_owner, is_pinned_kind, is_some, key_in, lazy_fault, length, load_fault, load_in, map, mode_of, moved, named_at, named_fault, nat_tests}
-use Rattle.pagable_tables.proofs.Words.{next_node, node_fault, not, numbers_of, only_handle, option_map, or_else, pins, pins_in, rank, reference_fault, references_fault, refl, refused_if, row_at}
-use Rattle.pagable_tables.proofs.Words.{seen, spent, subst, suc, sym, take, take-suc, take_all, true, type_of, usable, where_so, with_cached, with_handle, with_node, zero, ℕ, ◌&&◌, ◌++◌, ◌+◌, ◌<◌}
-use Rattle.{pagable_tables.proofs.Words.{◌==◌, ◌||◌, ◌∙◌, ◌∷◌, ◌≡◌, ◌≢◌, ◌≤◌, ◌⊎◌}, pagable_world.specs.Calls.IsNext, std.specs.Result.IsErrAnd}
+use Rattle.pagable_tables.proofs.Words.{next_node, node_fault, not, numbers_of, only_handle, option_map, or_else, pins, pins_in, rank, reference_fault, references_fault, refl, refused_if, seen, spent}
+use Rattle.pagable_tables.proofs.Words.{subst, suc, sym, take, take-suc, take_all, true, type_of, usable, where_so, with_cached, with_handle, with_node, zero, ℕ, ◌&&◌, ◌++◌, ◌+◌, ◌<◌, ◌==◌, ◌||◌, ◌∙◌}
+use Rattle.{pagable_tables.proofs.Words.{◌∷◌, ◌≡◌, ◌≢◌, ◌≤◌, ◌⊎◌}, pagable_world.specs.Calls.IsNext, std.specs.Result.IsErrAnd}
 
 -- what an entry of the cache gives where its node is this cell
 abbrev pub use-of : List HandleRow → ℕ → ℕ → Option Cell → Option ℕ
@@ -26,11 +26,6 @@ still w = grind (arith, nat_tests, same-cache)
 pub alike : (w w' : Core) → w'.rows ≡ w.rows → SameAt w.cells w'.cells → HasRoom w.places w'.places
     → w' ≡ record w { rows = w'.rows; cells = w'.cells; places = w'.places } → Alike w w'
 alike w w' rows cells places same = grind (arith, nat_tests, same-cache)
-
--- a handle that is made of a live handle's node, in its mode, is a clone
-pub clones : (w : Core) (me : Owner) (h : HandleNumber) (row : HandleRow) (r : Result HandleNumber Error) (w' : Core) → row_at w h ≡ Some row → Makes w row.node row.mode me r w'
-    → CloneCall w me h r w'
-clones w me h row r w' is m = grind (arith, nat_tests)
 
 -- what is answered where a call within was refused
 pub failed : {T E : Type 0} {e : E} (r : Result T E) → IsErrAnd r (λ y. y ≡ e) → r ≡ Err e

@@ -1,6 +1,6 @@
-use Rattle.pagable_tables.proofs.{Alive.{row-le-live, with-entry}, Fitting.{given-fits, held-here, long-if, new-top, owned-by-none, pin-here}, Words.{Bool, Counts, Fits, HandleRow, Holdings, MayList}}
-use Rattle.pagable_tables.proofs.Words.{Some, ValueStays, after, ap, arith, cases_eq, counts_at, entry, false, if◌then◌else◌, is_fallen_by, is_pin, is_pinning, live, nat_lt, nat_tests, one}
-use Rattle.pagable_tables.proofs.Words.{owns_nothing, pins_in, refl, refs_at, subst, sum_by, sym, true, unpinned, ℕ, ◌+◌, ◌-◌, ◌∙◌, ◌∷◌, ◌≡◌, ◌≢◌, ◌≤◌}
+use Rattle.pagable_tables.proofs.{Alive.{row-le-live, with-entry}, Fitting.{given-fits, held-here, owned-by-none, pin-here}, Words.{Bool, Counts, Fits, HandleRow, Holdings, MayList, Some, ValueStays}}
+use Rattle.pagable_tables.proofs.Words.{after, ap, arith, cases_eq, counts_at, entry, false, if◌then◌else◌, is_fallen_by, is_pin, is_pinning, live, nat_lt, nat_tests, one, owns_nothing, pins_in, refl}
+use Rattle.pagable_tables.proofs.Words.{refs_at, subst, sum_by, sym, true, unpinned, ℕ, ◌+◌, ◌-◌, ◌∙◌, ◌∷◌, ◌≡◌, ◌≢◌, ◌≤◌}
 use Rattle.pagable_tables.proofs.holdings.give_up.Goals as goal
 
 -- a handle that leaves takes no value with it at once
@@ -35,7 +35,7 @@ returns c stack w =
     let some : one (is_pinning x.mode) ≤ counts.pins =
     omega (arith, w.fits.pinned n, ap pins_in is, row-le-live (λ h. one (is_pin n h)) old.handles.places.items c.args.at.place x c.requires.place, pin-here x) in
     let live' : 1 ≤ counts.holds = grind (arith, nat_tests, row-le-live, held-here, c.requires.place) in
-    let top : c.top_after-t.result ≡ (if b then n else old.top) = grind (arith, nat_tests, new-top, c.top_after-t.ensures) in
+    let top : c.top_after-t.result ≡ (if b then n else old.top) = grind (arith, nat_tests, c.top_after-t.ensures) in
     let at' = counts_at c.set_counts.new.nodes in
     let refs' = refs_at c.set_counts.new.nodes in
     let rows' = live mid.handles.places.items in
@@ -60,7 +60,7 @@ returns c stack w =
         fits = subst (λ t. Fits at' refs' rows' t (if b then n ∷ stack else stack) owns_nothing) (sym top)
             (given-fits _ at' _ refs' _ rows' old.top stack x counts stays listed (old.last_handle + 1) w.fits is plain sums here others same some live' b refl);
       };
-      long = long-if b n stack;
+      long = grind (arith, nat_tests);
       keyed = λ so none some. keyed-then counts (is_pinning x.mode) listed n old.top b (ap (λ s. is_fallen_by counts (is_pinning x.mode) (counts.pins - one (is_pinning x.mode)) ((if s then counts.holds else counts.holds - 1) + one listed)) (sym so))
           live' none (λ z. some (top ∙ z));
     }
