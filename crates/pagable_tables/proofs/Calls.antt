@@ -43,12 +43,9 @@ take-whole {w} {w'} me i (Some h) whole holder call placed =
     less : (q : ℕ) → times (λ (k : HandleNumber). k.0 == q) (remove w.list i) + one (h.0 == q) ≡ times (λ (k : HandleNumber). k.0 == q) w.list
     less q = grind (arith, nat_tests, sum_by-remove (λ (k : HandleNumber). one (k.0 == q)) w.list i h (slice_get_within w.list i h call.0), slice_get_within, get_or_from_slice_get)
 
-    -- the entry's handle is the list's
-    entry : (x : HandleRow) × Among w.rows x × (0 < one (of_list h.0 x))
-    entry = grind (arith, nat_tests, less h.0, whole.owners_there.listed h.0, counted)
-
     still : (q : ℕ) → times (λ (k : HandleNumber). k.0 == q) (remove w.list i) ≡ times (of_list q) (moved (only_handle h) me w.rows)
     still q =
+        let entry : (x : HandleRow) × Among w.rows x × (0 < one (of_list h.0 x)) = grind (arith, nat_tests, less h.0, whole.owners_there.listed h.0, counted) in
         let (row, among, counts) = entry in
         let number : row.number.0 ≡ h.0 = grind (arith, nat_tests) in let owned : is_owned_by Owner.List row ≡ true = grind (arith, nat_tests) in
         grind (arith, nat_tests, less q, lists-moved whole h row me among number q, whole.owners_there.listed q)

@@ -106,10 +106,6 @@ module _ (at at' : ℕ → Option Counts) (refs refs' : ℕ → List ArcRef) (ro
         from_one = others 0 (λ e. one' (sym e)) ∙ fits.from_one;
       }
 
--- an owned row's owner
-pub owner-is : (n q : ℕ) (x : HandleRow) → is_owned n q x ≡ 1 → (x.owner ≡ owner_value n) × ((m r : ℕ) → is_owned m r x ≡ one (n == m && q == r))
-owner-is n q x h = grind (arith, nat_tests)
-
 -- the last reference of the first node that waits is taken: its row is owned by that node's value
 module _ (at at' : ℕ → Option Counts) (refs refs' : ℕ → List ArcRef) (rows : List HandleRow) (n : ℕ) (ns : List ℕ) (p : ArcRef)
     (fits : Fits at refs rows n (n ∷ ns) owns_nothing) (popped : refs n ≡ refs' n ++ p ∷ []) (others : (m : ℕ) → m ≢ n → refs' m ≡ refs m) (same : (m : ℕ) → at' m ≡ at m) where
@@ -158,9 +154,6 @@ module _ (at at' : ℕ → Option Counts) (refs refs' : ℕ → List ArcRef) (ro
     (fits : Fits at refs rows top [] owns_nothing) (is : at x.node.0 ≡ Some c)
     (here : at' x.node.0 ≡ Some (record c { pins = c.pins + one (is_pinning x.mode); holds = c.holds + 1 }))
     (others : (n : ℕ) → n ≢ x.node.0 → at' n ≡ at n) (same : (n : ℕ) → refs' n ≡ refs n) (owner : is_valued x.owner ≡ false) where
-  right-here : Right (at' x.node.0) (refs' x.node.0)
-  right-here = grind (arith, nat_tests)
-
   pub come-fits : Fits at' refs' (rows ++ x ∷ []) top [] owns_nothing
   come-fits =
       record {
@@ -170,7 +163,7 @@ module _ (at at' : ℕ → Option Counts) (refs refs' : ℕ → List ArcRef) (ro
         chain = fits.chain;
         marked = λ n. grind (arith, nat_tests, cases_eq);
         right = λ n. elim (cases_eq n x.node.0) [
-          | inl e ↦ subst (λ m. Right (at' m) (refs' m)) (sym e) right-here
+          | inl e ↦ subst (λ m. Right (at' m) (refs' m)) (sym e) (grind (arith, nat_tests))
           | inr e ↦ subst (λ o. Right o (refs' n)) (sym (others n e)) (subst (λ r. Right (at n) r) (sym (same n)) (fits.right n))
         ];
         from_one = others 0 (not-zero at x.node.0 c fits.from_one is) ∙ fits.from_one;

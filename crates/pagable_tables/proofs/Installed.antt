@@ -1,15 +1,15 @@
 -- A node comes, and the handles that its value refers to are the value's. And it comes with its handles to a node that is there, has no value and is pinned.
-use Rattle.pagable_tables.proofs.Words.{Alike, AllPairs, Among, ArcRef, Blob, Bool, Cell, Core, Counts, Ending, Error, Falls, Fits, HandleNumber, HandleRow, Holdings, Installs, IsHandleBefore, ◌⊎◌}
-use Rattle.pagable_tables.proofs.Words.{IsReady, Last, List, LoadNumber, LoadRow, MayEnd, MayOwnLoad, Mode, NodeNumber, None, OnlyRoom, OpenLoad, Option, OptionalDataKey, Owner, Places, Result, Right}
-use Rattle.pagable_tables.proofs.Words.{SoFar, Some, Tables, [], and-true, ap, arith, cases_eq, cell_in, changed, core_of, counts_at, end_fault, false, find_row, has_come, has_value, if_there}
-use Rattle.pagable_tables.proofs.Words.{if◌then◌else◌, inl, inr, is_at, is_bare, is_handle, is_in, is_in_memory, is_named_by, is_owned_by, is_owned_in, is_pin, is_pinning, is_plain_pin, is_right}
-use Rattle.pagable_tables.proofs.Words.{is_share, is_valued, length, live, load_at, load_fault, load_in, map, moved, named, nat_tests, nobody, not, of_cell, of_key, one, option_map, owner_value}
-use Rattle.pagable_tables.proofs.Words.{owns_nothing, pins, plain_of, reference_fault, references_fault, refl, refused_if, root_fault, row_of, sharing, spent, subst, sum_by, sum_by-cons, sum_by_push}
-use Rattle.pagable_tables.proofs.Words.{sym, times, true, vec_capacity, where_so, with_handle, with_mode, with_pin, with_tables, without_load, ℕ, ◌&&◌, ◌++◌, ◌+◌, ◌<◌, ◌==◌, ◌∙◌, ◌∷◌, ◌≡◌, ◌≢◌, ◌≤◌}
-use Rattle.pagable_tables.proofs.Newer.{OnlyNewer, load-closed, moved-times, newer-falls, newer-handle, newer-mode, newer-moved, newer-then, no-load, not-named, owned-given, owned-mode, owned-moved}
-use Rattle.pagable_tables.proofs.{Alive.and-left, Calls.may-hold, Fitting.{begun, held-here, is_owned, owned-by, owned-by-none, pin-here, turned, unmixed}, Newer.{seen-before, stays-pinned}}
-use Rattle.pagable_tables.proofs.{Kept.{among-map, at-most-sum, found-among, once, only-at, ordered-map, sum-map, sum-none}, Worlds.{both-none, fault-by, moved-nobody, named-none}}
-use Rattle.pagable_tables.{proofs.{Next.{found-first, passes-here, passes-none}, Told.{moved-to-value, named-mine, named-own, named-unlisted, not-a-value, or-none}}, specs.Core.IsWhole}
+use Rattle.pagable_tables.proofs.{Alive.and-left, Calls.may-hold, Fitting.{begun, held-here, is_owned, owned-by, owned-by-none, pin-here, turned, unmixed}, Kept.{among-map, at-most-sum, found-among}}
+use Rattle.pagable_tables.proofs.{Kept.{once, only-at, ordered-map, sum-map, sum-none}, Newer.{OnlyNewer, load-closed, moved-times, newer-falls, newer-handle, newer-mode, newer-moved, newer-then}}
+use Rattle.pagable_tables.proofs.{Newer.{no-load, not-named, owned-given, owned-mode, owned-moved, seen-before, stays-pinned}, Next.{found-first, passes-here, passes-none}, Told.moved-to-value}
+use Rattle.pagable_tables.proofs.{Told.{named-mine, named-own, named-unlisted, not-a-value, or-none}, Words.{Alike, AllPairs, Among, ArcRef, Blob, Bool, Core, Counts, Ending, Error, Falls, Fits}}
+use Rattle.pagable_tables.proofs.Words.{HandleNumber, HandleRow, Holdings, Installs, IsHandleBefore, IsReady, Last, List, LoadNumber, LoadRow, MayEnd, MayOwnLoad, Mode, NodeNumber, None, OnlyRoom}
+use Rattle.pagable_tables.proofs.Words.{OpenLoad, Option, Owner, Places, Result, Right, SoFar, Some, Tables, [], and-true, ap, arith, cases_eq, cell_in, changed, core_of, counts_at, end_fault, false}
+use Rattle.pagable_tables.proofs.Words.{find_row, has_come, has_value, if_there, if◌then◌else◌, inl, inr, is_at, is_bare, is_handle, is_in, is_named_by, is_owned_by, is_owned_in, is_pin, is_pinning}
+use Rattle.pagable_tables.proofs.Words.{is_plain_pin, is_right, is_share, is_valued, length, live, load_at, load_fault, load_in, map, moved, named, nat_tests, nobody, not, of_cell, of_key, one}
+use Rattle.pagable_tables.proofs.Words.{option_map, owner_value, owns_nothing, pins, plain_of, reference_fault, references_fault, refl, refused_if, root_fault, row_of, sharing, spent, subst, sum_by}
+use Rattle.pagable_tables.proofs.Words.{sum_by-cons, sum_by_push, sym, times, true, vec_capacity, where_so, with_handle, with_mode, with_pin, with_tables, without_load, ℕ, ◌&&◌, ◌++◌, ◌+◌, ◌<◌, ◌==◌}
+use Rattle.pagable_tables.{proofs.{Words.{◌∙◌, ◌∷◌, ◌≡◌, ◌≢◌, ◌≤◌, ◌⊎◌}, Worlds.{both-none, fault-by, moved-nobody, named-none}}, specs.Core.IsWhole}
 
 -- what is named wasn't named before
 unseen : (w : Core) (me : Owner) (seen : List ℕ) (rs : List ArcRef) → references_fault w me seen rs ≡ None → (q : ℕ) → is_named_by rs q ≡ true → is_in seen q ≡ false
@@ -88,9 +88,6 @@ module _ (w : Core) (me : Owner) (rs : List ArcRef) (ordered : AllPairs IsHandle
       let some = ap (named q) refers in
       grind (arith, nat_tests)
 
-  right-here : Right (at' n) (refs' n)
-  right-here = subst (λ o. Right o (refs' n)) (sym here) (subst (λ r. Right (Some c) r) (sym refers) (right-new c x.mode rs new bare))
-
   pub born-fits : Fits at' refs' rows' top [] owns_nothing
   born-fits =
       record {
@@ -100,16 +97,11 @@ module _ (w : Core) (me : Owner) (rs : List ArcRef) (ordered : AllPairs IsHandle
         chain = fits.chain;
         marked = λ m. let k : c.is_falling ≡ false = ap (λ (d : Counts). d.is_falling) new in grind (arith, nat_tests, cases_eq);
         right = λ m. elim (cases_eq m n) [
-          | inl e ↦ subst (λ k. Right (at' k) (refs' k)) (sym e) right-here
+          | inl e ↦ subst (λ k. Right (at' k) (refs' k)) (sym e) (subst (λ o. Right o (refs' n)) (sym here) (subst (λ r. Right (Some c) r) (sym refers) (right-new c x.mode rs new bare)))
           | inr e ↦ subst (λ o. Right o (refs' m)) (sym (others m e)) (subst (λ r. Right (at m) r) (sym (same m e)) (fits.right m))
         ];
         from_one = others 0 (λ z. absurd (omega arith)) ∙ fits.from_one;
       }
-
--- the value of a node that isn't in memory owns nothing
-pub owns-none : (at : ℕ → Option Counts) (refs : ℕ → List ArcRef) (rows : List HandleRow) (top n : ℕ) → Fits at refs rows top [] owns_nothing
-    → is_in_memory (pins n rows) (if_there (λ (cell : Cell). cell.key) OptionalDataKey.None (cell_in (at n))) ≡ false → (q : ℕ) → sum_by (is_owned n q) rows ≡ 0
-owns-none at refs rows top n fits away q = grind (arith, nat_tests)
 
 -- handles that are pinned and handles that move do so in any order
 pub moved-turned : (s : ℕ → Bool) (o : Owner) (q : ℕ) (x : HandleRow) (rows : List HandleRow) → s x.number.0 ≡ false
@@ -219,9 +211,6 @@ module _ (t t1 : Tables) (stored : ℕ → Option Blob) (closed lists : Bool) (f
   spared : s (t.holdings.last_handle + 1) ≡ false
   spared = not-named (plain_of t) l rs was.core.handles good (t.holdings.last_handle + 1) (omega arith)
 
-  listed : (q : ℕ) → times (λ (h : HandleNumber). h.0 == q) t.holdings.list.items ≡ times (λ h. is_handle q h && is_owned_by Owner.List h) (moved s o (live t.holdings.handles.places.items))
-  listed = (moved-to-value was.core s (named-unlisted was.core (Owner.Load l) rs refl good) row.node.0).owners_there.listed
-
   unvalued : is_valued me ≡ false
   unvalued = not-a-value (plain_of t) me (may-hold (plain_of t) me may)
 
@@ -256,7 +245,8 @@ module _ (t t1 : Tables) (stored : ℕ → Option Blob) (closed lists : Bool) (f
   list-has : (q : ℕ) → times (λ (h : HandleNumber). h.0 == q) u.list ≡ times (λ h. is_handle q h && is_owned_by Owner.List h) u.rows
   list-has q =
       let b = sum_by_push (λ (h : HandleRow). one (is_handle q h && is_owned_by Owner.List h)) mid x in
-      grind (arith, nat_tests, turned-sum (λ (h : HandleRow). one (is_handle q h && is_owned_by Owner.List h)) h.0 rows0 (λ y. refl), listed q)
+      let had = (moved-to-value was.core s (named-unlisted was.core (Owner.Load l) rs refl good) row.node.0).owners_there.listed q in
+      grind (arith, nat_tests, turned-sum (λ (h : HandleRow). one (is_handle q h && is_owned_by Owner.List h)) h.0 rows0 (λ y. refl), had)
 
   module _ (k : Holdings) (rows : live k.handles.places.items ≡ moved s o (live t1.holdings.handles.places.items)) (list : k.list ≡ t1.holdings.list) (last : k.last_handle ≡ t1.holdings.last_handle)
       (capacity : vec_capacity k.handles.places ≡ vec_capacity t1.holdings.handles.places) (cells : (n : ℕ) → cell_in (counts_at k.nodes n) ≡ cell_in (counts_at t1.holdings.nodes n)) where
@@ -310,10 +300,9 @@ pub none-moves : (w : Core) (l : LoadNumber) (row : HandleRow) (me : Owner) (r :
     → Falls w (with_pin (record (without_load w l) { rows = moved (is_named_by []) (owner_value row.node.0) w.rows }) row.number row.node me) (λ q. is_owned_in w (Owner.Load l) q && not (is_named_by [] q)) r w'
     → Falls w (with_pin (without_load w l) row.number row.node me) (is_owned_in w (Owner.Load l)) r w'
 none-moves w l row me r w' falls =
+    let all : (q : ℕ) → (is_owned_in w (Owner.Load l) q && not (is_named_by [] q)) ≡ is_owned_in w (Owner.Load l) q =
+    λ q. ap (λ b. is_owned_in w (Owner.Load l) q && not b) (named-none q) ∙ and-true (is_owned_in w (Owner.Load l) q) in
     subst (λ (T : Type 0). T) (λ i. Falls w (with_pin (record (without_load w l) { rows = moved-nobody (owner_value row.node.0) w.rows i }) row.number row.node me) (λ q. all q i) r w') falls
-  where
-    all : (q : ℕ) → (is_owned_in w (Owner.Load l) q && not (is_named_by [] q)) ≡ is_owned_in w (Owner.Load l) q
-    all q = ap (λ b. is_owned_in w (Owner.Load l) q && not b) (named-none q) ∙ and-true (is_owned_in w (Owner.Load l) q)
 
 -- what loads own has come since they began
 pub install-newer : {w w' : Core} (me : Owner) (l : LoadNumber) (node : NodeNumber) (h k : HandleNumber) (refs : List ArcRef) → Installs w me l node h k refs w' → OnlyNewer w w'

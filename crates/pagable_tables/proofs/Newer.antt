@@ -44,10 +44,6 @@ begun-moved t h l s o stored closed lists failures whole e is listed =
     begun w u lists (record t.holdings { handles = h; unlisted = None }) e (λ p own. moved-times p s o w.rows (λ x. own x o)) (unmixed t whole) (λ q. let a = listed q in omega arith)
     is.rows refl refl whole.core.handles.within.0 (record { handles = let a = is.capacity in omega arith; entries = omega arith }) (λ n. refl) refl
 
-same-owned : (s : Bool) (o : Owner) (x : HandleRow) (n q : ℕ) → is_valued o ≡ false → (s ≡ true → is_valued x.owner ≡ false) → is_owned n q (if s then record x { owner = o } else x) ≡ is_owned n q x
-same-owned true o x n q plain free = owned-by-none n q (record x { owner = o }) plain ∙ sym (owned-by-none n q x (free refl))
-same-owned false o x n q plain free = refl
-
 -- handles move, and none that is a value's
 pub moved-stands : (t : Holdings) (h : Handles) (s : ℕ → Bool) (o : Owner) → IsFalling t [] owns_nothing → is_valued o ≡ false → ((x : HandleRow) → Among (live t.handles.places.items) x → s x.number.0 ≡ true → is_valued x.owner ≡ false)
     → Becomes t.handles (moved s o (live t.handles.places.items)) h → IsFalling (record t { handles = h }) [] owns_nothing
@@ -56,7 +52,8 @@ moved-stands t h s o w plain free is =
     let fits : Fits (counts_at t.nodes) (refs_at t.nodes) (moved s o rows) t.top [] owns_nothing = record {
       pinned = λ n. w.fits.pinned n ∙ sym (moved-times (is_pin n) s o rows (λ x. refl));
       holding = λ n. w.fits.holding n ∙ sym (moved-times (is_at n) s o rows (λ x. refl));
-      owned = λ n q. w.fits.owned n q ∙ sym (sum-map (is_owned n q) (is_owned n q) (λ x. if s x.number.0 then record x { owner = o } else x) rows (λ x among. same-owned (s x.number.0) o x n q plain (free x among)));
+      owned = λ n q. w.fits.owned n q ∙ sym (sum-map (is_owned n q) (is_owned n q) (λ x. if s x.number.0 then record x { owner = o } else x) rows (λ x among.
+          let z = free x among in grind (arith, nat_tests, owned-by-none n q (record x { owner = o }) plain, owned-by-none n q x)));
       chain = w.fits.chain;
       marked = w.fits.marked;
       right = w.fits.right;

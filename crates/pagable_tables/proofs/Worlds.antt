@@ -110,11 +110,6 @@ told-later {cause} {full} {w} {w'} {e} me l r = grind (arith, nat_tests)
 pub none-yet : (o : Option LoadRow) (last : ℕ) → (is_some (option_map load_in o) ≡ true → last + 1 ≤ last) → o ≡ None
 none-yet x0 last h = grind (arith, nat_tests)
 
--- the cache knows the node under the kind and the key, and all else as before
-pub known-now : (known known' : ℕ → ℕ → Option NodeNumber) (kind key : ℕ) (n : NodeNumber) → known' kind key ≡ Some n → ((k q : ℕ) → (k ≢ kind) ⊎ (q ≢ key) → known' k q ≡ known k q)
-    → (k q : ℕ) → option_map (λ (n : NodeNumber). n.0) (known' k q) ≡ (if k == kind && q == key then Some n.0 else option_map (λ (n : NodeNumber). n.0) (known k q))
-known-now known known' kind key n here others k q = grind (arith, nat_tests)
-
 module _ (w : Core) (me : Owner) (kind : Kind) (key : ℕ) (node : NodeNumber) (mode : Mode) (w' : Core)
     (is : usable w kind.0 key ≡ Some node.0) (fits : mode ≡ mode_of kind.0) where
   pub recalls : (k : HandleNumber) → Makes w node mode me (Ok k) w' → RecallCall w me kind key (Ok (Some k)) w'

@@ -1,7 +1,7 @@
-use Rattle.pagable_tables.proofs.Words.{◌≡◌, ◌+◌, ℕ, Bool, false, arith, refl, ap, sym, ◌∙◌, subst, Some, Option, List, [], ◌∷◌, ◌++◌, length, slice_get, if◌then◌else◌, inl, inr, ◌≢◌, is_some}
-use Rattle.pagable_tables.proofs.Words.{cases_eq, nat_tests, append-nil, ArcRef, HandleNumber, NodeNumber, HandleRow, owner_value, one, live, alive, counts_at, refs_at, IsFalling, Settles, GivesUp}
-use Rattle.pagable_tables.proofs.{Alive.{gives-sums, none-found, only-row}, Words.{CellsStay, Counts, Holdings, ValueStays, cell_in, entry, is_valued, owns, owns_nothing, valued}}
-use Rattle.pagable_tables.proofs.{Fitting.{is_owned, taken-fits, taken-owned, taken-there, owner-is, fits-same, fallen, top-stands}, Next.{gives-fewer, gives-unlisted}}
+use Rattle.pagable_tables.proofs.{Alive.{gives-sums, none-found, only-row}, Fitting.{fallen, fits-same, is_owned, taken-fits, taken-owned, taken-there, top-stands}, Next.{gives-fewer, gives-unlisted}}
+use Rattle.pagable_tables.proofs.Words.{ArcRef, Bool, CellsStay, Counts, GivesUp, HandleNumber, HandleRow, Holdings, IsFalling, List, NodeNumber, Option, Settles, Some, ValueStays, [], alive, ap}
+use Rattle.pagable_tables.proofs.Words.{append-nil, arith, cases_eq, cell_in, counts_at, entry, false, if◌then◌else◌, inl, inr, is_some, is_valued, length, live, nat_tests, one, owner_value, owns}
+use Rattle.pagable_tables.proofs.Words.{owns_nothing, refl, refs_at, slice_get, subst, sym, valued, ℕ, ◌&&◌, ◌++◌, ◌+◌, ◌==◌, ◌∙◌, ◌∷◌, ◌≡◌, ◌≢◌}
 use Rattle.pagable_tables.proofs.holdings.step.Goals as goal
 
 abbrev of_value : HandleRow → ℕ
@@ -19,7 +19,7 @@ module _ (t mid : Holdings) (ns : List ℕ) (p : ArcRef) (i : ℕ) (x : HandleRo
       let a = taken-owned (counts_at t.nodes) (counts_at mid.nodes) (refs_at t.nodes) (refs_at mid.nodes) (live t.handles.places.items) t.top ns p w.fits popped others same in
       let b = only-row (is_owned t.top p.handle.0) t.handles.places.items i x w.sound.ordered at (λ h. grind (arith, nat_tests)) in
       let its : is_owned t.top p.handle.0 x ≡ 1 = grind (arith, nat_tests) in
-      let o = owner-is t.top p.handle.0 x its in
+      let o : (x.owner ≡ owner_value t.top) × ((m r : ℕ) → is_owned m r x ≡ one (t.top == m && p.handle.0 == r)) = grind (arith, nat_tests) in
       let fits = taken-fits (counts_at t.nodes) (counts_at mid.nodes) (refs_at t.nodes) (refs_at mid.nodes) (live t.handles.places.items) t.top ns p w.fits popped others same x o.1 in
       (o.0, record { sound = w.sound; next = w.next; fits = fits })
 

@@ -1,5 +1,5 @@
 use Rattle.pagable_tables.proofs.Words.{◌≡◌, ◌∙◌, ℕ, ap, sym, refl, false, None, inl, inr, arith, NodeNumber, fits_mode, Owns, offer_fault, recall_fault, nat_tests, core_of, option_map}
-use Rattle.pagable_tables.proofs.{Alive.whole-so, Calls.{known-suits, learns-whole}, Told.told-whole, Worlds.{failed, known-now, not-recalled, recalls, same-cache}}
+use Rattle.pagable_tables.proofs.{Alive.whole-so, Calls.{known-suits, learns-whole}, Told.told-whole, Worlds.{failed, not-recalled, recalls, same-cache}}
 use Rattle.pagable_tables.proofs.known.cache_put.Goals as goal
 
 pub make-requires-clause-suits : goal.make-requires-clause-suits
@@ -27,7 +27,7 @@ returns-in_err-make-clause-offered c stored failures =
 
 pub returns-in_default-clause-offered : goal.returns-in_default-clause-offered
 returns-in_default-clause-offered c stored failures =
-    grind (arith, nat_tests, known-now, same-cache, c.in_ok-row.ensures.owns, c.in_ok-learn.ensures.here, c.in_ok-learn.ensures.others, c.in_ok-row.ensures.typed)
+    grind (arith, nat_tests, same-cache, c.in_ok-row.ensures.owns, c.in_ok-learn.ensures.here, c.in_ok-learn.ensures.others, c.in_ok-row.ensures.typed)
 
 pub returns-in_default-clause-whole : goal.returns-in_default-clause-whole
 returns-in_default-clause-whole c =
