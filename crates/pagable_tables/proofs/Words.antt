@@ -9,7 +9,7 @@ pub use Rattle.std.specs.{List.AllPairs, Option.option_map, Prelude.{IfSome, IsS
 pub use Rattle.{indexmap.specs.IndexMap.{IndexMap, get}, pagable_model.specs.declared.{data_key.OptionalDataKey.OptionalDataKey, error.Error.Error, numbers.{ArcRef.ArcRef, HandleNumber.HandleNumber}}}
 pub use Rattle.{pagable_model.specs.declared.numbers.{Kind.Kind, LoadNumber.LoadNumber, NodeNumber.NodeNumber}, pagable_tables.specs.{Asking.early_fault, Bearing.{Bears, OnlyRoom}, Becoming.Becomes}}
 pub use Rattle.pagable_tables.specs.{ByNumber.{counts_at, is_same, known_at, load_at, reach_at, refs_at, worker_at}, Core.{ArePlaced, Makes, MayHold, Suits, core_of, load_in, plain_of, root_in}}
-pub use Rattle.pagable_tables.specs.Falling.{AreKept, CellsStay, Chain, FallsBy, Fits, GetsKey, GivesUp, HasFallen, HasPlaces, IsFalling, IsUnlisted, Leaves, MayList, Right, Settles, Sheds, Steps}
+pub use Rattle.pagable_tables.specs.Falling.{AreKept, CellsStay, Chain, FallsBy, Fits, GetsKey, GivesUp, HasFallen, HasPlaces, IsFalling, IsUnlisted, Leaves, MayList, Right, Sheds, Steps}
 pub use Rattle.pagable_tables.specs.Falling.{ValueStays, after, cell_in, entries_of, entry, falls_in, first_cause, has_value, holds_in, is_bare, is_fallen_by, is_listing, is_new, is_node, is_right}
 pub use Rattle.pagable_tables.specs.{Falling.{is_valued, key_in, keyed, landed, named, next_in, often, owns, owns_nothing, pins_in, unpinned, valued}, Giving.{InReach, IsNoLess, LoadsAre, gives_row}}
 pub use Rattle.pagable_tables.specs.{Giving.{left_load, passes_in}, Later.AreLater, Live.{AreSound, IsBefore, IsNext, alive, is_live_place, live}, Onward.{Begins, IsApart, SoFar, is_plain_pin}}

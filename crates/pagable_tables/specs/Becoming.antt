@@ -1,8 +1,7 @@
 -- What handles become as a call changes them, in order and counted as they were. What a value refers to comes to its node with its handles, where the node has no value.
-use Rattle.std.specs.Prelude.{ℕ, ◌≡◌, ◌≢◌, ◌≤◌, Bool, true, false, if◌then◌else◌, List, [], vec_capacity}
-use Rattle.pagable_model.specs.declared.numbers.{ArcRef.ArcRef, NodeNumber.NodeNumber}
-use Rattle.{pagable_world.specs.{declared.handles.HandleRow.HandleRow, Calls.{moved, is_named_by}, Kinds.owner_value}, pagable_tables.specs.declared.handles.Handles.Handles}
-use Rattle.pagable_tables.specs.{declared.holdings.Holdings.Holdings, Live.{live, AreSound, IsNext}, ByNumber.{counts_at, refs_at}}
+use Rattle.std.specs.Prelude.{ℕ, ◌≡◌, ◌≤◌, Bool, if◌then◌else◌, List, [], vec_capacity}
+use Rattle.{pagable_model.specs.declared.numbers.ArcRef.ArcRef, pagable_world.specs.declared.handles.HandleRow.HandleRow}
+use Rattle.pagable_tables.specs.{declared.handles.Handles.Handles, Live.{live, AreSound, IsNext}}
 
 -- these rows are live
 pub record Becomes (old : Handles) (are : List HandleRow) (new : Handles) : Type 0 where
@@ -21,11 +20,3 @@ pub record Widens (old new : Handles) : Type 0 where
 -- the references that come
 abbrev pub coming : Bool → List ArcRef → List ArcRef
 coming comes refs = if comes then refs else []
-
-pub record Joins (old : Holdings) (node : NodeNumber) (comes : Bool) (refs : List ArcRef) (new : Holdings) : Type 0 where
-  pub handles : Becomes old.handles (moved (is_named_by (coming comes refs)) (owner_value node.0) (live old.handles.places.items)) new.handles
-  pub counts : (n : ℕ) → counts_at new.nodes n ≡ counts_at old.nodes n
-  pub here : comes ≡ true → refs_at new.nodes node.0 ≡ refs
-  pub others : (n : ℕ) → n ≢ node.0 → refs_at new.nodes n ≡ refs_at old.nodes n
-  pub none : comes ≡ false → new ≡ old
-  pub same : new ≡ record old { handles = new.handles; nodes = new.nodes }

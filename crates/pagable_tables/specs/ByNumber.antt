@@ -7,10 +7,6 @@ use Rattle.{pagable_model.specs.declared.numbers.{ArcRef.ArcRef, NodeNumber.Node
 abbrev pub is_same : ℕ × ℕ → ℕ × ℕ → Bool
 is_same x y = nat_eq x.0 y.0 && nat_eq x.1 y.1
 
--- where any handle may be the worker's
-abbrev pub anywhere : Reach
-anywhere = record { since = 0; beside = 0 }
-
 module _ {S : Type 0} where
   abbrev pub counts_at : IndexMap ℕ NodeRow S → ℕ → Option Counts
   counts_at nodes n = option_map (λ (r : NodeRow). r.counts) (get nat_eq nodes n)
@@ -27,5 +23,6 @@ module _ {S : Type 0} where
   abbrev pub worker_at : IndexMap ℕ Reach S → ℕ → Option Reach
   worker_at workers v = get nat_eq workers v
 
+  -- any handle may be the worker's where nothing else is known
   abbrev pub reach_at : IndexMap ℕ Reach S → ℕ → Reach
-  reach_at workers v = option_map_or (λ reach. reach) (worker_at workers v) anywhere
+  reach_at workers v = option_map_or (λ reach. reach) (worker_at workers v) (record { since = 0; beside = 0 })

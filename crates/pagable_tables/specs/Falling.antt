@@ -1,5 +1,6 @@
 -- Handles, nodes and list in the midst of giving handles up.
-use Rattle.std.specs.Prelude.{ℕ, zero, suc, ◌≡◌, ◌+◌, ◌*◌, ◌-◌, ◌<◌, ◌≤◌, ◌≢◌, ◌==◌, ◌&&◌, ◌||◌, ◌⊎◌, ◌++◌, Bool, true, false, not, if◌then◌else◌, List, [], ◌∷◌, length, sum_by, Option, Some, None, is_some, nat_lt, Result, Ok, Err, IfErr, IfSome, vec_capacity}
+use Rattle.std.specs.Prelude.{ℕ, zero, suc, ◌≡◌, ◌+◌, ◌*◌, ◌-◌, ◌<◌, ◌≤◌, ◌≢◌, ◌==◌, ◌&&◌, ◌||◌, ◌⊎◌, ◌++◌}
+use Rattle.std.specs.Prelude.{Bool, true, false, not, if◌then◌else◌, List, [], ◌∷◌, length, sum_by, Option, Some, None, is_some, nat_lt, IfSome, vec_capacity}
 use Rattle.pagable_model.specs.{declared.data_key.OptionalDataKey.OptionalDataKey, declared.error.Error.Error, declared.numbers.ArcRef.ArcRef, declared.numbers.NodeNumber.NodeNumber}
 use Rattle.pagable_world.specs.{declared.handles.HandleRow.HandleRow, declared.rows.Mode.Mode, declared.handles.Owner.Owner, Plain.one, Plain.times, Kinds.held, Kinds.pins}
 use Rattle.pagable_world.specs.{Kinds.{is_handle, is_owned_by, owner_value}, World.{greatest, Cell}, Calls.row_of, Cascade.{left_rows, only_handle}, Plain.{changed, SameAt, updated, if_there}}
@@ -123,15 +124,6 @@ pub record Comes (old : Holdings) (node : NodeNumber) (listed : Bool) (new : Hol
   pub nodes : new.nodes ≡ old.nodes
   pub top : new.top ≡ old.top
 
-abbrev pub is_ok : Result (Unit {0}) Error → Bool
-is_ok (Ok u) = true
-is_ok (Err e) = false
-
-pub record Lists (old : Holdings) (node : NodeNumber) (r : Result (Unit {0}) Error) (new : Holdings) : Type 0 where
-  pub comes : Comes old node (is_ok r) new
-  pub told : new.unlisted ≡ old.unlisted
-  pub why : IfErr r (IsUnlisted old)
-
 -- the first cause why an entry couldn't come is kept
 abbrev pub first_cause : Option Error → Error → Option Error
 first_cause None e = Some e
@@ -198,16 +190,6 @@ pub record GivesUp (old : Holdings) (stack : List ℕ) (x : HandleRow) (stays li
 -- the counts of a node that falls no more, if it is left
 abbrev pub landed : Counts → Option Counts
 landed c = if c.holds == 0 then None else Some (record c { is_falling = false; next = 0 })
-
--- The first node that falls is done, and its value goes.
-pub record Settles (old : Holdings) (stack : List ℕ) (new : Holdings) : Type 0 where
-  pub same : new ≡ record old { nodes = new.nodes; top = new.top }
-  pub cells : CellsStay (counts_at old.nodes) (counts_at new.nodes)
-  pub values : (n : ℕ) → n ≢ old.top → ValueStays (counts_at old.nodes n) (counts_at new.nodes n)
-  pub gone : has_value (counts_at new.nodes old.top) ≡ false
-  pub rest : List ℕ
-  pub falling : IsFalling new rest owns_nothing
-  pub shorter : length rest + 1 ≡ length stack
 
 -- the value of the node has gone
 abbrev pub HasFallen : (ℕ → Option Counts) → List HandleRow → ℕ → Type 0

@@ -32,9 +32,6 @@ abbrev pub left_load : ℕ → Option LoadRow → Option LoadRow
 left_load v None = None
 left_load v (Some row) = if is_owner (owner_worker v) row.owner then None else Some row
 
-abbrev pub LeavesOthers : ℕ → (ℕ → Option LoadRow) → (ℕ → Option LoadRow) → Type 0
-LeavesOthers v at at' = (l : ℕ) → at' l ≡ left_load v (at l)
-
 -- what was in a worker's reach still is, and so is what comes
 pub record IsNoLess {S : Type 0} (workers workers' : IndexMap ℕ Reach S) : Type 0 where
   pub wider : (v q : ℕ) → InReach (reach_at workers v) q → InReach (reach_at workers' v) q

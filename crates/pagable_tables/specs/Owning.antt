@@ -2,11 +2,7 @@
 use Rattle.std.specs.Prelude.{[], Result, IfOk, IfErr, ℕ, zero, suc, List, ◌∷◌, get_or}
 use Rattle.pagable_model.specs.declared.{error.Error.Error, numbers.HandleNumber.HandleNumber}
 use Rattle.pagable_world.specs.{World.{Core, Alike}, Calls.{with_handle, with_mode, IsNext}, Refusals.{spent, Refused, AreHandlesFull}, declared.{handles.HandleRow.HandleRow, rows.Mode.Mode}}
-use Rattle.{pagable_world.specs.declared.handles.Owner.Owner, pagable_tables.specs.{declared.{handles.Handles.Handles, holdings.Holdings.Holdings}, Falling.{IsFalling, owns_nothing}}}
-
--- nothing falls in the holdings with these handles
-abbrev pub StandsWith : Holdings → Handles → Type 0
-StandsWith t handles = IsFalling (record t { handles = handles }) [] owns_nothing
+use Rattle.pagable_world.specs.declared.handles.Owner.{Owner}
 
 -- A Pinned handle of the row's node is made, and the row's handle pins too. While numbers and places are left it succeeds.
 pub record PinsHere (w : Core) (me : Owner) (row : HandleRow) (r : Result HandleNumber Error) (w' : Core) : Type 0 where

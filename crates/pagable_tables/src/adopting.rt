@@ -1,29 +1,25 @@
 //! What a load reads becomes nodes.
 
 ghost use Rattle.std.specs.Prelude.{nat_eq, ◌≡◌, ℕ, ◌⊎◌, ◌<◌, ◌≤◌, length, [], Bool, Option, IfOk, IfErr, IfSome, IfNone, OnOk, Some, None, not, true, false};
-ghost use Rattle.pagable_world.specs.Plain.{Blob};
-ghost use Rattle.pagable_world.specs.{Plain.is_loose_kind, Kinds.{is_pinning, is_shared, mode_of}, Cascade.{FallsAnyhow, nobody}, World.{Core, Alike, usable}, Refusals.{load_fault, references_fault}};
-ghost use Rattle.pagable_world.specs.{Refusals.Refused, Calls.{IsNext, is_named_by, birth_fault}, LoadCalls.{adopt_fault, adopted, first_key, is_owned_in, Adopts, LazyCall}};
+ghost use Rattle.pagable_world.specs.{Plain.{Blob, is_loose_kind}, Kinds.{is_pinning, is_shared, mode_of}, World.{Core, Alike, usable}, Refusals.{load_fault, references_fault, Refused}};
+ghost use Rattle.pagable_world.specs.{Cascade.{FallsAnyhow, nobody}, Calls.{IsNext, is_named_by, birth_fault}, LoadCalls.{adopt_fault, adopted, first_key, is_owned_in, Adopts, LazyCall}};
 ghost use Rattle.pagable_tables.specs.{Live.live, Onward.{with_tables, SoFar}, Falling.{has_value, IsFalling, owns_nothing, key_in, Sheds}, Bearing.{IsReady, OnlyRoom}, ByNumber.counts_at};
 ghost use Rattle.{pagable_tables.specs.{Core.{core_of, plain_of, IsWhole, MayHold}, Later.AreLater, Asking.early_fault, Doing.Does}, indexmap.specs.IndexMap.{get, spare}};
 ghost use Rattle.pagable_world.specs.declared.handles.Owner.TheVariants as owners;
 
 use crate::births::{bear, make_ready};
-use crate::cascade::fall;
 use crate::ending::give_next;
-use crate::holdings::Holdings;
+use crate::holdings::{Holdings, fall};
 use crate::kinds::{is_loose_kind, is_pinned_kind, mode_of};
-use crate::known::usable_of;
 use crate::loading::load_row;
 use crate::making::make;
 use crate::references::{earlier, load_fault, references_fault, refused_if};
+use crate::rows::Arcs;
 use crate::tables::Tables;
-use crate::{cache, loads};
-use indexmap::IndexMap;
+use crate::{known, loads};
 use pagable_model::{ArcRef, DataKey, Error, HandleNumber, Kind, LoadNumber, NodeNumber};
 use pagable_world::handles::Owner;
 use std::alloc::Global;
-use std::sync::Arc;
 
 /// Makes room for a handle, a node and what the cache learns, and changes nothing else. Refused with NumbersSpent and OutOfMemory.
 pub fn make_ready_to_learn(t: &mut Tables) -> Result<(), Error>
@@ -36,7 +32,7 @@ pub fn make_ready_to_learn(t: &mut Tables) -> Result<(), Error>
     ensures workers { t.new.workers ≡ t.old.workers }
 {
     make_ready(t)?;
-    cache::reserve(&mut t.cache)?;
+    known::reserve(&mut t.cache)?;
     Ok(())
 }
 
@@ -60,7 +56,7 @@ fn learn_new(
 {
     let me = Owner::Load(load);
     let handle = bear(t, me, kind.0 / 3, own_key, references, mode_of(kind));
-    cache::learn_if(&mut t.cache, lists, kind, key, NodeNumber(t.last_node));
+    known::learn_if(&mut t.cache, lists, kind, key, NodeNumber(t.last_node));
     handle
 }
 
@@ -83,7 +79,7 @@ pub fn load_lazy(
     if !is_loose_kind(kind) {
         return Err(Error::WrongKind);
     }
-    if let Some(node) = usable_of(t, kind, key) {
+    if let Some(node) = known::usable_of(t, kind, key) {
         return make(t, node, mode_of(kind), Owner::Load(load));
     }
     make_ready_to_learn(t)?;
@@ -113,7 +109,7 @@ fn adopt_fault(
 #[tactic(auto, using(crate::proofs::Next::shedding))]
 fn give_named<N: Drop>(
     t: &mut Holdings,
-    values: &mut IndexMap<u64, Arc<N>>,
+    values: &mut Arcs<N>,
     load: LoadNumber,
     references: &[ArcRef],
     lists: bool,
@@ -143,7 +139,7 @@ fn first_key(kind: Kind, key: DataKey) -> u128
 /// isn't the load's, or the handle has no number or no place.
 pub fn adopt_if_known<N: Drop>(
     t: &mut Tables,
-    values: &mut IndexMap<u64, Arc<N>>,
+    values: &mut Arcs<N>,
     me: Owner,
     load: LoadNumber,
     kind: Kind,
@@ -169,7 +165,7 @@ pub fn adopt_if_known<N: Drop>(
     if let Some(e) = adopt_fault(t, me, load, kind, node_type, references) {
         return Err(e);
     }
-    let Some(node) = usable_of(t, kind, key) else {
+    let Some(node) = known::usable_of(t, kind, key) else {
         return Ok(None);
     };
     let handle = make(t, node, mode_of(kind), Owner::Load(load))?;

@@ -5,7 +5,6 @@ ghost use Rattle.pagable_world.specs.{Plain.Blob, Kinds.{is_pinning, is_shared},
 ghost use Rattle.pagable_tables.specs.{Bearing.{Bears, IsReady, OnlyRoom}, Core.{core_of, plain_of, IsWhole, MayHold}, Doing.Does};
 
 use crate::holdings::pins;
-use crate::moving::hand_over_all;
 use crate::references::references_fault;
 use crate::rows::{Counts, NodeRow};
 use crate::tables::Tables;
@@ -74,7 +73,7 @@ pub fn bear(
     };
     let node = NodeNumber(t.last_node + 1);
     let number = HandleNumber(t.holdings.last_handle + 1);
-    hand_over_all(&mut t.holdings.handles, &references, Owner::Value(node));
+    handles::hand_over_all(&mut t.holdings.handles, &references, Owner::Value(node));
     let row = HandleRow {
         number,
         node,
@@ -84,11 +83,8 @@ pub fn bear(
     let Ok(()) = handles::push(&mut t.holdings.handles, row) else {
         unreachable!();
     };
-    let Ok(()) = nodes::add(
-        &mut t.holdings.nodes,
-        node.0,
-        NodeRow { counts, references },
-    ) else {
+    let value = NodeRow { counts, references };
+    let Ok(()) = nodes::add(&mut t.holdings.nodes, node.0, value) else {
         unreachable!();
     };
     t.holdings.last_handle = number.0;

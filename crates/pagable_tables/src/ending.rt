@@ -1,29 +1,24 @@
 //! Loads that end: what they still own is given up.
 
-ghost use Rattle.std.specs.Prelude.{◌≡◌, ℕ, ◌<◌, ◌≤◌, ◌==◌, ◌||◌, [], length, Bool, true, None, Option, nat_eq, ◌&&◌};
-ghost use Rattle.pagable_world.specs.{Plain.Blob, World.Core, Cascade.{Falls, nobody}};
-ghost use Rattle.{pagable_world.specs.{LoadCalls.{is_owned_in, hand_over_fault, DropCall, HandOverCall}, declared.handles.Owner.Owner}, pagable_tables.specs.{Live.live, ByNumber.counts_at}};
-ghost use Rattle.{pagable_tables.specs.{Falling.{IsFalling, owns_nothing, Sheds}, Onward.{with_tables, SoFar}, Core.{core_of, IsWhole}, Later.AreLater, Doing.DoesShed}, indexmap.specs.IndexMap.get};
+ghost use Rattle.std.specs.Prelude.{◌≡◌, ℕ, ◌≤◌, ◌==◌, ◌||◌, [], length, Bool, Option, nat_eq, ◌&&◌};
+ghost use Rattle.{indexmap.specs.IndexMap.get, pagable_world.specs.{Plain.Blob, World.Core, LoadCalls.{is_owned_in, hand_over_fault, DropCall, HandOverCall}, declared.handles.Owner.Owner}};
+ghost use Rattle.pagable_tables.specs.{Live.live, ByNumber.counts_at, Falling.{IsFalling, owns_nothing, Sheds}, Onward.SoFar, Core.{core_of, IsWhole}, Later.AreLater, Doing.DoesShed};
 
-use crate::cascade::shed;
 use crate::giving::{Giving, give_all};
-use crate::holdings::Holdings;
+use crate::holdings::{Holdings, shed};
 use crate::loading::load_row;
-use crate::moving::{hand_each, named_fault};
-use crate::references::{cell_fault, earlier, load_fault};
-use crate::rows::Reach;
+use crate::references::{cell_fault, earlier, load_fault, named_fault};
+use crate::rows::{Arcs, Reach};
 use crate::tables::Tables;
 use crate::turning::is_owner;
 use crate::{handles, loads};
-use indexmap::IndexMap;
 use pagable_model::{Error, HandleNumber, LoadNumber};
 use pagable_world::handles::Owner;
-use std::sync::Arc;
 
 /// The handle of this number is given up, if the load owns it, with all that goes with it.
 pub fn give_next<N: Drop>(
     t: &mut Holdings,
-    values: &mut IndexMap<u64, Arc<N>>,
+    values: &mut Arcs<N>,
     load: LoadNumber,
     handle: HandleNumber,
     lists: bool,
@@ -47,7 +42,7 @@ pub fn give_next<N: Drop>(
 /// had to be listed isn't.
 pub fn load_drop<N: Drop>(
     t: &mut Tables,
-    values: &mut IndexMap<u64, Arc<N>>,
+    values: &mut Arcs<N>,
     me: Owner,
     load: LoadNumber,
     lists: bool,
@@ -79,7 +74,7 @@ fn hand_over_fault(t: &Tables, me: Owner, load: LoadNumber, named: &[HandleNumbe
 /// NotYours where another began the load or owns a named handle, or one is named twice; WrongMode where it is a load of a cell.
 pub fn load_take<N: Drop>(
     t: &mut Tables,
-    values: &mut IndexMap<u64, Arc<N>>,
+    values: &mut Arcs<N>,
     me: Owner,
     load: LoadNumber,
     named: &[HandleNumber],
@@ -92,11 +87,9 @@ pub fn load_take<N: Drop>(
     if let Some(e) = hand_over_fault(t, me, load, named) {
         return Err(e);
     }
-    let Some(row) = loads::load_of(&t.loads, load.0) else {
-        unreachable!();
-    };
+    let row = loads::load_of(&t.loads, load.0).unwrap();
     loads::close(&mut t.loads, load.0);
-    hand_each(&mut t.holdings.handles, named, me);
+    handles::hand_each(&mut t.holdings.handles, named, me);
     let since = row.since;
     let giving = Giving::Load(load);
     let reach = Reach { since, beside: 0 };

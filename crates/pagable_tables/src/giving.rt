@@ -5,16 +5,13 @@ ghost use Rattle.{indexmap.specs.IndexMap.get, pagable_world.specs.Kinds.find_ro
 ghost use Rattle.{pagable_world.specs.{World.Core, Cascade.{Falls, nobody}, Workers.is_load_of}, pagable_tables.specs.{Live.{live, alive, AreSound}, ByNumber.counts_at, Falling.IsFalling}};
 ghost use Rattle.pagable_tables.specs.{Falling.{owns_nothing, Sheds}, Onward.{with_tables, SoFar}, Giving.{gives_row, passes_in, InReach, LoadsAre}, declared.giving.Giving.Giving};
 
-use crate::cascade::{fall, shed};
 use crate::handles::Handles;
-use crate::holdings::Holdings;
-use crate::rows::{HandleAt, LoadRow, Place, Reach};
+use crate::holdings::{Holdings, fall, shed};
+use crate::rows::{Arcs, HandleAt, Loads, Reach};
 use crate::turning::is_owner;
 use crate::{handles, loads};
-use indexmap::IndexMap;
 use pagable_model::{Error, HandleNumber, LoadNumber, NodeNumber, WorkerNumber};
 use pagable_world::handles::{HandleRow, Owner};
-use std::sync::Arc;
 
 /// Whose handles are given up together.
 #[derive(Clone, Copy)]
@@ -30,7 +27,7 @@ pub enum Giving {
 }
 
 /// Whether this owner is a load of the worker's.
-fn is_load_of(loads: &IndexMap<u64, LoadRow>, worker: WorkerNumber, owner: Owner) -> bool
+fn is_load_of(loads: &Loads, worker: WorkerNumber, owner: Owner) -> bool
     ensures { (w : Core) → LoadsAre loads.now w → result ≡ is_load_of w worker.0 owner }
 {
     match owner {
@@ -43,7 +40,7 @@ fn is_load_of(loads: &IndexMap<u64, LoadRow>, worker: WorkerNumber, owner: Owner
 }
 
 /// Whether the handle of this row is given up.
-fn gives(loads: &IndexMap<u64, LoadRow>, giving: Giving, row: HandleRow) -> bool
+fn gives(loads: &Loads, giving: Giving, row: HandleRow) -> bool
     ensures { (w : Core) → LoadsAre loads.now w → result ≡ gives_row w giving row }
 {
     match giving {
@@ -58,19 +55,11 @@ fn gives(loads: &IndexMap<u64, LoadRow>, giving: Giving, row: HandleRow) -> bool
     }
 }
 
-/// Whether the row of this place is live, of a number not above `left`, and given up.
-fn is_given(loads: &IndexMap<u64, LoadRow>, giving: Giving, place: Place, left: u64) -> bool
-    ensures yes { result ≡ true → (place.is_live ≡ true) × (place.row.number.0 ≤ left) × ((w : Core) → LoadsAre loads.now w → gives_row w giving place.row ≡ true) }
-    ensures no { result ≡ false → (w : Core) → LoadsAre loads.now w → place.is_live ≡ true → gives_row w giving place.row ≡ true → left < place.row.number.0 }
-{
-    place.is_live && place.row.number.0 <= left && gives(loads, giving, place.row)
-}
-
 /// The last handle that is given up, of a number above `since` and not above `left`.
 #[tactic(auto, using(crate::proofs::Doing::places))]
 fn last_above(
     handles: &Handles,
-    loads: &IndexMap<u64, LoadRow>,
+    loads: &Loads,
     giving: Giving,
     since: u64,
     left: u64,
@@ -90,44 +79,18 @@ fn last_above(
         if found.row.number.0 <= since {
             return None;
         }
-        if is_given(loads, giving, found, left) {
-            return Some(HandleAt {
-                place,
-                row: found.row,
-            });
+        let row = found.row;
+        if found.is_live && row.number.0 <= left && gives(loads, giving, row) {
+            return Some(HandleAt { place, row });
         }
     }
     None
 }
 
-/// The handle of this number, if it is live, not above `left`, and given up.
-fn given_at(
-    handles: &Handles,
-    loads: &IndexMap<u64, LoadRow>,
-    giving: Giving,
-    number: u64,
-    left: u64,
-) -> Option<HandleAt>
-    requires { AreSound handles.now }
-    ensures place { IfSome result (λ at. slice_get handles.now.places.items at.place ≡ Some (alive at.row)) }
-    ensures found { IfSome result (λ at. find_row at.row.number.0 (live handles.now.places.items) ≡ Some at.row) }
-    ensures number { IfSome result (λ at. (0 < at.row.number.0) × (at.row.number.0 ≡ number) × (at.row.number.0 ≤ left)) }
-    ensures gives { IfSome result (λ at. (w : Core) → LoadsAre loads.now w → gives_row w giving at.row ≡ true) }
-    ensures none { IfNone result ((w : Core) → LoadsAre loads.now w → 0 < number → number ≤ left → passes_in (gives_row w giving) (live handles.now.places.items) number ≡ false) }
-{
-    if number == 0 || left < number {
-        return None;
-    }
-    match handles::look(handles, HandleNumber(number)) {
-        Some(at) if gives(loads, giving, at.row) => Some(at),
-        Some(_) | None => None,
-    }
-}
-
 /// The last handle in reach that is given up, of a number not above `left`.
 fn last_given(
     handles: &Handles,
-    loads: &IndexMap<u64, LoadRow>,
+    loads: &Loads,
     giving: Giving,
     reach: Reach,
     left: u64,
@@ -140,9 +103,15 @@ fn last_given(
     ensures last { IfSome result (λ at. (w : Core) (q : ℕ) → LoadsAre loads.now w → InReach reach q → at.row.number.0 < q → q ≤ left → passes_in (gives_row w giving) (live handles.now.places.items) q ≡ false) }
     ensures none { IfNone result ((w : Core) (q : ℕ) → LoadsAre loads.now w → InReach reach q → q ≤ left → passes_in (gives_row w giving) (live handles.now.places.items) q ≡ false) }
 {
-    match last_above(handles, loads, giving, reach.since, left) {
-        Some(at) => Some(at),
-        None => given_at(handles, loads, giving, reach.beside, left),
+    if let Some(at) = last_above(handles, loads, giving, reach.since, left) {
+        return Some(at);
+    }
+    if reach.beside == 0 || left < reach.beside {
+        return None;
+    }
+    match handles::look(handles, HandleNumber(reach.beside)) {
+        Some(at) if gives(loads, giving, at.row) => Some(at),
+        Some(_) | None => None,
     }
 }
 
@@ -150,8 +119,8 @@ fn last_given(
 #[tactic(auto, using(crate::proofs::Next::shedding))]
 pub fn give_all<N: Drop>(
     t: &mut Holdings,
-    values: &mut IndexMap<u64, Arc<N>>,
-    loads: &IndexMap<u64, LoadRow>,
+    values: &mut Arcs<N>,
+    loads: &Loads,
     giving: Giving,
     reach: Reach,
     lists: bool,

@@ -1,31 +1,20 @@
 //! Live handles in the order of their numbers, found by halving. A dead row stays in its place until none behind it lives, or more than half are dead.
 
-ghost use Rattle.std.specs.{Prelude.{vec_len, vec_capacity, ◌≡◌, ℕ, ◌+◌, ◌<◌, ◌≤◌, ◌++◌, ◌∷◌, [], length, sum_by, slice_get, Some, None, IfNone, IfSome, OnOk, OnErr, take, false}, List.AllPairs};
-ghost use Rattle.{std.specs.List.Sorted.IsPartitionPoint, pagable_world.specs.{Plain.changed, Kinds.{find_row, is_handle}, Cascade.{left_rows, only_handle}, declared.handles.HandleRow.HandleRow}};
-ghost use Rattle.pagable_tables.specs.{Live.{IsBefore, AreSound, live, alive, room, IsNext}, Becoming.{Becomes, Widens}, declared.rows.Place.Place};
+ghost use Rattle.std.specs.{Prelude.{vec_len, vec_capacity, ◌≡◌, ℕ, ◌+◌, ◌<◌, ◌≤◌, ◌++◌, ◌∷◌, [], length, sum_by, slice_get, Some, None, IfNone, IfSome, OnOk, OnErr, false}, List.AllPairs};
+ghost use Rattle.{std.specs.List.Sorted.IsPartitionPoint, pagable_world.specs.{Plain.{changed, is_in}, Kinds.{find_row, is_handle}, Cascade.{left_rows, only_handle}}};
+ghost use Rattle.{pagable_world.specs.{Calls.{moved, is_named_by}, LoadCalls.numbers_of, declared.handles.HandleRow.HandleRow}, pagable_tables.specs.Falling.{is_valued, IsFalling, owns_nothing}};
+ghost use Rattle.pagable_tables.specs.{Live.{IsBefore, AreSound, live, alive, room, IsNext}, Becoming.{Becomes, Widens}, declared.{rows.Place.Place, holdings.Holdings.Holdings}};
 
 use crate::rows::{HandleAt, Place};
-use pagable_model::HandleNumber;
-use pagable_world::handles::HandleRow;
-use std::alloc::{AllocError, Global};
+use pagable_model::{ArcRef, HandleNumber};
+use pagable_world::handles::{HandleRow, Owner};
+use std::alloc::AllocError;
 
 /// The handles. They are in order, and the dead are counted (`AreSound`).
 #[derive(Drop)]
 pub struct Handles {
     pub places: Vec<Place>,
     pub dead: usize,
-}
-
-/// No handle.
-pub fn empty(alloc: Global) -> Handles
-    ensures sound { AreSound result }
-    ensures rows { live result.places.items ≡ [] }
-    ensures places { result.places.items ≡ [] }
-{
-    Handles {
-        places: Vec::new(alloc),
-        dead: 0,
-    }
 }
 
 /// How many places there are up to this number, found by halving.
@@ -46,33 +35,11 @@ fn at(places: &[Place], place: usize, number: u64) -> Option<HandleAt>
     ensures found { IfSome result (λ at. find_row number (live places.now) ≡ Some at.row) }
     ensures number { IfSome result (λ at. at.row.number.0 ≡ number) }
 {
-    if place >= places.len() {
-        return None;
-    }
-    let found = places[place];
-    if found.row.number.0 == number && found.is_live {
-        return Some(HandleAt {
-            place,
-            row: found.row,
-        });
+    let Place { row, is_live } = *places.get(place)?;
+    if row.number.0 == number && is_live {
+        return Some(HandleAt { place, row });
     }
     None
-}
-
-/// The live handle of this number, with its place.
-#[tactic(auto, using(crate::proofs::Alive::looks))]
-fn find(places: &[Place], number: u64) -> Option<HandleAt>
-    requires { AllPairs IsBefore places.now }
-    ensures none { IfNone result (find_row number (live places.now) ≡ None) }
-    ensures place { IfSome result (λ at. slice_get places.now at.place ≡ Some (alive at.row)) }
-    ensures found { IfSome result (λ at. find_row number (live places.now) ≡ Some at.row) }
-    ensures number { IfSome result (λ at. at.row.number.0 ≡ number) }
-{
-    let end = up_to(places, number);
-    if end == 0 {
-        return None;
-    }
-    at(places, end - 1, number)
 }
 
 /// The same, if it stands where it would stand were no number missing from the first one to it, or from it to the last one.
@@ -85,17 +52,16 @@ fn at_once(places: &[Place], number: u64) -> Option<HandleAt>
     if places.is_empty() || number < places[0].row.number.0 {
         return None;
     }
-    let end = places.len() - 1;
-    match at(places, (number - places[0].row.number.0) as usize, number) {
-        Some(at) => Some(at),
-        None => {
-            let back = places[end].row.number.0.saturating_sub(number) as usize;
-            at(places, end.saturating_sub(back), number)
-        }
+    if let Some(at) = at(places, (number - places[0].row.number.0) as usize, number) {
+        return Some(at);
     }
+    let end = places.len() - 1;
+    let back = places[end].row.number.0.saturating_sub(number) as usize;
+    at(places, end.saturating_sub(back), number)
 }
 
 /// The live handle of this number, with its place. It costs a look where numbers before it are dense or those behind it, and else the logarithm of their count.
+#[tactic(auto, using(crate::proofs::Alive::looks))]
 pub fn look(handles: &Handles, number: HandleNumber) -> Option<HandleAt>
     requires { AreSound handles.now }
     ensures none { IfNone result (find_row number.0 (live handles.now.places.items) ≡ None) }
@@ -103,10 +69,14 @@ pub fn look(handles: &Handles, number: HandleNumber) -> Option<HandleAt>
     ensures found { IfSome result (λ at. find_row number.0 (live handles.now.places.items) ≡ Some at.row) }
     ensures number { IfSome result (λ at. at.row.number ≡ number) }
 {
-    match at_once(&handles.places, number.0) {
-        Some(at) => Some(at),
-        None => find(&handles.places, number.0),
+    if let Some(at) = at_once(&handles.places, number.0) {
+        return Some(at);
     }
+    let end = up_to(&handles.places, number.0);
+    if end == 0 {
+        return None;
+    }
+    at(&handles.places, end - 1, number.0)
 }
 
 /// How many handles can still be pushed without a request for memory.
@@ -123,28 +93,8 @@ fn compact(handles: &mut Handles)
     ensures becomes { Becomes handles.old (live handles.old.places.items) handles.new }
     ensures none_dead { handles.new.dead ≡ 0 }
 {
-    handles.places.retain(
-        |place: &Place| -> bool
-            ensures { result ≡ place.now.is_live }
-        { place.is_live },
-    );
+    handles.places.retain(|place| place.is_live);
     handles.dead = 0;
-}
-
-/// How many places there are up to the last live one.
-fn live_end(handles: &Handles) -> usize
-    ensures within { result ≤ length handles.now.places.items }
-    ensures rows { live (take result handles.now.places.items) ≡ live handles.now.places.items }
-{
-    let mut end = handles.places.len();
-    while end > 0 {
-        let last = handles.places[end - 1];
-        if last.is_live {
-            return end;
-        }
-        end -= 1;
-    }
-    0
 }
 
 /// Clears dead rows away: those at the end, so that who looks from there meets few of them, and all where more than half are dead.
@@ -153,7 +103,10 @@ fn clear(handles: &mut Handles)
     requires { AreSound handles.old }
     ensures { Becomes handles.old (live handles.old.places.items) handles.new }
 {
-    let end = live_end(handles);
+    let mut end = handles.places.len();
+    while end > 0 && !handles.places[end - 1].is_live {
+        end -= 1;
+    }
     handles.dead -= handles.places.len() - end;
     handles.places.truncate(end);
     if handles.dead > handles.places.len() - handles.dead {
@@ -238,4 +191,48 @@ pub fn reserve(handles: &mut Handles, more: usize) -> Result<(), AllocError>
         handles.places.reserve(more)?;
     }
     Ok(())
+}
+
+/// The handle at this place has this owner from now on.
+pub fn hand_over(handles: &mut Handles, at: HandleAt, owner: Owner)
+    requires sound { AreSound handles.old }
+    requires place { slice_get handles.old.places.items at.place ≡ Some (alive at.row) }
+    ensures becomes { Becomes handles.old (moved (only_handle at.row.number) owner (live handles.old.places.items)) handles.new }
+    ensures stands { (t : Holdings) → is_valued at.row.owner ≡ false → is_valued owner ≡ false → IsFalling (record t { handles = handles.old }) [] owns_nothing
+        → IsFalling (record t { handles = handles.new }) [] owns_nothing }
+{
+    let row = HandleRow { owner, ..at.row };
+    set(handles, at, row);
+}
+
+/// The handle of this number, if it is live, has this owner from now on.
+fn hand_over_live(handles: &mut Handles, handle: HandleNumber, owner: Owner)
+    requires { AreSound handles.old }
+    ensures { Becomes handles.old (moved (only_handle handle) owner (live handles.old.places.items)) handles.new }
+{
+    if let Some(at) = look(handles, handle) {
+        hand_over(handles, at, owner);
+    }
+}
+
+/// The live handles that these references name have this owner from now on.
+#[tactic(auto, using(crate::proofs::Worlds::naming))]
+pub fn hand_over_all(handles: &mut Handles, references: &[ArcRef], owner: Owner)
+    requires { AreSound handles.old }
+    ensures { Becomes handles.old (moved (is_named_by references.now) owner (live handles.old.places.items)) handles.new }
+{
+    for reference in references {
+        hand_over_live(handles, reference.handle, owner);
+    }
+}
+
+/// The live handles of these numbers have this owner from now on.
+#[tactic(auto, using(crate::proofs::Worlds::handing))]
+pub fn hand_each(handles: &mut Handles, named: &[HandleNumber], owner: Owner)
+    requires { AreSound handles.old }
+    ensures { Becomes handles.old (moved (is_in (numbers_of named.now)) owner (live handles.old.places.items)) handles.new }
+{
+    for handle in named {
+        hand_over_live(handles, *handle, owner);
+    }
 }

@@ -1,15 +1,15 @@
 //! Who holds what: handles, nodes with what their values refer to, and the list of cells that wait for page-out. Handles are given up here, with all
 //! that goes with them.
 
-ghost use Rattle.std.specs.Prelude.{◌≡◌, ◌≢◌, ℕ, ◌+◌, ◌-◌, ◌<◌, ◌≤◌, [], if◌then◌else◌, List, slice_get, Some, None, OnOk, OnErr, true, vec_len, vec_capacity, ◌&&◌, ◌^◌, false};
-ghost use Rattle.{pagable_world.specs.{Plain.one, Kinds.is_pinning}, pagable_tables.specs.Falling.{Lists, MayList, Leaves, is_listing, is_valued, after, is_new, IsFalling, GivesUp, landed, Settles}};
-ghost use Rattle.pagable_tables.specs.{Falling.{Steps, owns, owns_nothing}, Live.{alive, AreSound, IsNext}, ByNumber.{refs_at, counts_at}};
+ghost use Rattle.std.specs.Prelude.{◌≡◌, ◌≢◌, ℕ, ◌+◌, ◌<◌, ◌≤◌, ◌==◌, ◌||◌, ◌⊎◌, ◌&&◌, ◌^◌, [], if◌then◌else◌, List, length, slice_get, Some, None, OnOk, OnErr, IfErr, true, false};
+ghost use Rattle.{std.specs.{Result.is_ok, Prelude.{Bool, nat_eq, vec_len, vec_capacity}}, indexmap.specs.IndexMap.get, pagable_world.specs.{Plain.one, Kinds.{is_pinning, is_owner}, World.Core}};
+ghost use Rattle.{pagable_world.specs.{Cascade.Falls, declared.handles.Owner.Owner}, pagable_tables.specs.Falling.{Comes, MayList, Leaves, IsUnlisted, is_listing, is_valued, after, is_new}};
+ghost use Rattle.pagable_tables.specs.{Falling.{IsFalling, GivesUp, landed, Steps, owns, owns_nothing, Sheds, is_node}, Live.{live, alive, AreSound, IsNext}, ByNumber.{refs_at, counts_at}};
+ghost use Rattle.pagable_tables.specs.Onward.{with_tables, told_by, SoFar, IsApart};
 
 use crate::handles::Handles;
-use crate::making::places_taken;
-use crate::rows::{Counts, HandleAt, NodeRow};
+use crate::rows::{Arcs, Counts, HandleAt, Nodes};
 use crate::{handles, nodes};
-use indexmap::IndexMap;
 use pagable_model::{Error, HandleNumber, NodeNumber};
 use pagable_world::Mode;
 use pagable_world::handles::{HandleRow, Owner};
@@ -19,7 +19,7 @@ use std::alloc::AllocError;
 #[derive(Drop)]
 pub struct Holdings {
     pub handles: Handles,
-    pub nodes: IndexMap<u64, NodeRow>,
+    pub nodes: Nodes,
     /// The cells that wait for page-out, by the handles that the list owns.
     pub list: Vec<HandleNumber>,
     /// The first node that falls, 0 where none does.
@@ -53,7 +53,9 @@ pub fn make_place(list: &mut Vec<HandleNumber>) -> Result<(), AllocError>
 fn enlist(t: &mut Holdings, node: NodeNumber) -> Result<(), Error>
     requires sound { AreSound t.old.handles }
     requires next { IsNext (t.old.last_handle + 1) t.old.handles.places.items }
-    ensures { Lists t.old node result t.new }
+    ensures comes { Comes t.old node (is_ok result) t.new }
+    ensures told { t.new.unlisted ≡ t.old.unlisted }
+    ensures why { IfErr result (IsUnlisted t.old) }
 {
     if t.last_handle == u64::MAX {
         return Err(Error::NumbersSpent);
@@ -66,9 +68,7 @@ fn enlist(t: &mut Holdings, node: NodeNumber) -> Result<(), Error>
         mode: Mode::LooseUnpinned,
         owner: Owner::List,
     };
-    if handles::push(&mut t.handles, row).is_err() {
-        return Err(Error::OutOfMemory);
-    }
+    handles::push(&mut t.handles, row)?;
     t.list.push(number).unwrap();
     t.last_handle = number.0;
     Ok(())
@@ -83,15 +83,13 @@ fn enlist_if(t: &mut Holdings, node: NodeNumber, wanted: bool) -> bool
     if !wanted {
         return false;
     }
-    match enlist(t, node) {
-        Ok(()) => true,
-        Err(e) => {
-            if t.unlisted.is_none() {
-                t.unlisted = Some(e);
-            }
-            false
-        }
+    let Err(e) = enlist(t, node) else {
+        return true;
+    };
+    if t.unlisted.is_none() {
+        t.unlisted = Some(e);
     }
+    false
 }
 
 /// Whether the last pin of a cell without a key goes with a handle of this mode, where cells are listed.
@@ -112,24 +110,12 @@ fn leave(handles: &mut Handles, at: HandleAt, stays: bool)
     ensures { Leaves handles.old at.row stays handles.new }
 {
     if stays {
-        let row = HandleRow {
-            mode: Mode::LooseUnpinned,
-            ..at.row
-        };
+        let mut row = at.row;
+        row.mode = Mode::LooseUnpinned;
         handles::set(handles, at, row);
     } else {
         handles::kill(handles, at);
     }
-}
-
-/// How many handles a node has after one has left, or stayed, and perhaps an entry came.
-fn holds_after(holds: u64, stays: bool, listed: bool) -> u64
-    requires some { 1 ≤ holds }
-    requires small { holds < 2 ^ 63 }
-    ensures { result ≡ (if stays then holds else holds - 1) + one listed }
-{
-    let kept = if stays { holds } else { holds - 1 };
-    if listed { kept + 1 } else { kept }
 }
 
 /// The counts of a node after a handle has left, or stayed without its pin, and perhaps an entry came.
@@ -140,21 +126,15 @@ fn counts_after(counts: Counts, pinning: bool, stays: bool, listed: bool, top: u
     ensures { result ≡ after counts pinning stays listed top }
 {
     let pins = counts.pins - pinning as u64;
-    let holds = holds_after(counts.holds, stays, listed);
+    let holds = counts.holds - !stays as u64 + listed as u64;
+    let mut left = counts;
+    left.pins = pins;
+    left.holds = holds;
     if !counts.is_falling && (holds == 0 || (pinning && pins == 0 && counts.key != 0)) {
-        return Counts {
-            pins,
-            holds,
-            is_falling: true,
-            next: top,
-            ..counts
-        };
+        left.is_falling = true;
+        left.next = top;
     }
-    Counts {
-        pins,
-        holds,
-        ..counts
-    }
+    left
 }
 
 /// The first node that falls after that.
@@ -173,10 +153,8 @@ pub fn give_up(t: &mut Holdings, at: HandleAt, stays: bool, lists: bool)
     ensures { (stack : List ℕ) → IsFalling t.old stack (owns at.row) → GivesUp t.old stack at.row stays lists t.new }
 {
     let node = at.row.node.0;
-    let Some(counts) = nodes::counts_of(&t.nodes, node) else {
-        unreachable!();
-    };
-    places_taken(&t.handles.places);
+    let counts = nodes::counts_of(&t.nodes, node).unwrap();
+    let _taken = t.handles.places.len();
     leave(&mut t.handles, at, stays);
     let wanted = wants_entry(counts, at.row.mode, lists);
     let listed = enlist_if(t, at.row.node, wanted);
@@ -187,7 +165,7 @@ pub fn give_up(t: &mut Holdings, at: HandleAt, stays: bool, lists: bool)
 
 /// A node that fell has nothing any more. It is gone if it has no handle.
 #[tactic(auto, using(crate::proofs::Fitting::landing))]
-fn land(nodes: &mut IndexMap<u64, NodeRow>, node: u64, counts: Counts)
+fn land(nodes: &mut Nodes, node: u64, counts: Counts)
     requires is { counts_at nodes.old node ≡ Some counts }
     requires bare { refs_at nodes.old node ≡ [] }
     ensures here { counts_at nodes.new node ≡ landed counts }
@@ -197,31 +175,11 @@ fn land(nodes: &mut IndexMap<u64, NodeRow>, node: u64, counts: Counts)
     if counts.holds == 0 {
         nodes::remove(nodes, node);
     } else {
-        nodes::set_counts(
-            nodes,
-            node,
-            Counts {
-                is_falling: false,
-                next: 0,
-                ..counts
-            },
-        );
+        let mut left = counts;
+        left.is_falling = false;
+        left.next = 0;
+        nodes::set_counts(nodes, node, left);
     }
-}
-
-/// The first node that falls has given up all that its value referred to.
-fn settle(t: &mut Holdings)
-    requires falling { (stack : List ℕ) × IsFalling t.old stack owns_nothing }
-    requires some { t.old.top ≢ 0 }
-    requires none { refs_at t.old.nodes t.old.top ≡ [] }
-    ensures { (stack : List ℕ) → IsFalling t.old stack owns_nothing → Settles t.old stack t.new }
-{
-    let node = t.top;
-    let Some(counts) = nodes::counts_of(&t.nodes, node) else {
-        unreachable!();
-    };
-    t.top = counts.next;
-    land(&mut t.nodes, node, counts);
 }
 
 /// One step of what follows when handles are given up: the first node that falls gives up a handle, or it is done, its value has gone, and it is answered.
@@ -240,8 +198,69 @@ pub fn step(t: &mut Holdings, lists: bool) -> Option<NodeNumber>
             None
         }
         None => {
-            settle(t);
+            let counts = nodes::counts_of(&t.nodes, node).unwrap();
+            t.top = counts.next;
+            land(&mut t.nodes, node, counts);
             Some(NodeNumber(node))
         }
+    }
+}
+
+/// The value of a node that fell goes.
+fn let_go<N: Drop>(values: &mut Arcs<N>, done: Option<NodeNumber>)
+    ensures { (n : ℕ) → get nat_eq values.new n ≡ (if is_node done n then None else get nat_eq values.old n) }
+{
+    if let Some(node) = done {
+        values.swap_remove(&node.0);
+    }
+}
+
+/// Gives up all that fallen values referred to, and so on, to the end, and lets the values go. It takes no memory but for entries of the list.
+#[tactic(auto, using(crate::proofs::Next::falls))]
+pub fn cascade<N: Drop>(t: &mut Holdings, values: &mut Arcs<N>, lists: bool)
+    requires falling { (stack : List ℕ) × IsFalling t.old stack owns_nothing × (length stack ≤ 1) }
+    ensures whole { IsFalling t.new [] owns_nothing }
+    ensures fewer { length (live t.new.handles.places.items) ≤ length (live t.old.handles.places.items) }
+    ensures unlisting { lists ≡ false → t.new.list.items ≡ t.old.list.items }
+    ensures so_far { (before w : Core) (given : ℕ → Bool) → SoFar before w given lists t.old → SoFar before w given lists t.new }
+    ensures falls { (before w : Core) (given : ℕ → Bool) → SoFar before w given lists t.old → Falls before w given (told_by t.new.unlisted) (with_tables w t.new) }
+    ensures sheds { Sheds (counts_at t.old.nodes) (get nat_eq values.old) (counts_at t.new.nodes) (get nat_eq values.new) }
+{
+    // twice the number of live handles, and one: so many steps are enough once a handle was given up
+    let mut left = 2 * (t.handles.places.len() - t.handles.dead) + 1;
+    'fall: while t.top != 0 {
+        left -= 1;
+        let done = step(t, lists);
+        let_go(values, done);
+    }
+}
+
+/// The handle at this place is given up, with all that goes with it.
+pub fn shed<N: Drop>(t: &mut Holdings, values: &mut Arcs<N>, at: HandleAt, lists: bool)
+    requires steady { IsFalling t.old [] owns_nothing }
+    requires place { slice_get t.old.handles.places.items at.place ≡ Some (alive at.row) }
+    requires plain { is_valued at.row.owner ≡ false }
+    ensures steady { IsFalling t.new [] owns_nothing }
+    ensures fewer { length (live t.new.handles.places.items) ≤ length (live t.old.handles.places.items) }
+    ensures so_far { (before w : Core) (given : ℕ → Bool) (f : SoFar before w given lists t.old) → length (live t.old.handles.places.items) ≤ length w.rows
+        → (is_owner Owner.List at.row.owner ≡ false) ⊎ IsApart before w given lists t.old f at.row.number.0 → SoFar before w (λ q. given q || q == at.row.number.0) lists t.new }
+    ensures unlisting { lists ≡ false → t.new.list.items ≡ t.old.list.items }
+    ensures sheds { Sheds (counts_at t.old.nodes) (get nat_eq values.old) (counts_at t.new.nodes) (get nat_eq values.new) }
+{
+    give_up(t, at, false, lists);
+    cascade(t, values, lists);
+}
+
+/// The same, and then what came of the listing: NumbersSpent or OutOfMemory where a cell that had to be listed isn't.
+pub fn fall<N: Drop>(t: &mut Holdings, values: &mut Arcs<N>, lists: bool) -> Result<(), Error>
+    requires falling { (stack : List ℕ) × IsFalling t.old stack owns_nothing × (length stack ≤ 1) }
+    ensures steady { IsFalling t.new [] owns_nothing }
+    ensures falls { (before w : Core) (given : ℕ → Bool) → SoFar before w given lists t.old → Falls before w given result (with_tables w t.new) }
+    ensures sheds { Sheds (counts_at t.old.nodes) (get nat_eq values.old) (counts_at t.new.nodes) (get nat_eq values.new) }
+{
+    cascade(t, values, lists);
+    match t.unlisted.take() {
+        None => Ok(()),
+        Some(e) => Err(e),
     }
 }

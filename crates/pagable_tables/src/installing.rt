@@ -1,25 +1,21 @@
 //! Loads of cells that end with a value.
 
-ghost use Rattle.std.specs.Prelude.{◌≡◌, ◌≤◌, ◌<◌, ℕ, Bool, Option, None, IfOk, IfErr, not, nat_eq, IsSome};
-ghost use Rattle.{indexmap.specs.IndexMap.get, pagable_world.specs.Plain.{Blob, if_there}};
-ghost use Rattle.pagable_world.specs.{Kinds.is_loose, World.{Alike, OpenLoad, greatest}, Calls.{IsNext, with_handle, with_mode}, LoadCalls.{root_fault, end_fault, is_owned_in, Installs}};
-ghost use Rattle.{pagable_world.specs.Refusals.{where_so, spent, Owns}, pagable_tables.specs.{ByNumber.{counts_at, load_at}, Live.{room, AreSound}, Core.{core_of, plain_of, IsWhole, MayHold}}};
-ghost use Rattle.pagable_tables.specs.{Later.AreLater, Bearing.OnlyRoom, Ready.{IsReady, HasPlace, Unends, ShedsBeside}, Doing.Does, Becoming.Joins};
+ghost use Rattle.std.specs.Prelude.{◌≡◌, ◌≢◌, true, false, ℕ, Bool, Option, None, IfOk, IfErr, not, nat_eq, IsSome};
+ghost use Rattle.{indexmap.specs.IndexMap.get, pagable_world.specs.{Plain.{Blob, if_there}, World.OpenLoad, Kinds.owner_value, Calls.{moved, is_named_by}, Refusals.{where_so, spent}}};
+ghost use Rattle.{pagable_world.specs.LoadCalls.{root_fault, end_fault, is_owned_in, Installs}, pagable_tables.specs.{ByNumber.{counts_at, refs_at, load_at}, Live.{live, AreSound}}};
+ghost use Rattle.pagable_tables.specs.{Core.{core_of, plain_of, IsWhole}, Later.AreLater, Bearing.OnlyRoom, Ready.{IsReady, HasPlace, Unends, ShedsBeside}, Doing.Does, Becoming.{Becomes, coming}};
 
 use crate::giving::{Giving, give_all};
 use crate::holdings::Holdings;
 use crate::lookups::is_here;
-use crate::moving::hand_over_all;
 use crate::pinning::pin_here;
 use crate::references::{earlier, load_fault, references_fault};
-use crate::rows::{LoadRoot, LoadRow, Reach};
+use crate::rows::{Arcs, LoadRoot, LoadRow, Reach};
 use crate::tables::Tables;
 use crate::turning::{is_owner, own};
 use crate::{handles, loads, nodes};
-use indexmap::IndexMap;
 use pagable_model::{ArcRef, Error, HandleNumber, LoadNumber, NodeNumber};
 use pagable_world::handles::{HandleRow, Owner};
-use std::sync::Arc;
 
 /// A load of a cell that can end: its row, the row of the handle by which it was begun, and whether the cell has no value.
 #[derive(Clone, Copy)]
@@ -42,8 +38,7 @@ pub enum Unended {
 #[tactic(auto, using(std::proofs::lemmas::Bool::Decides::nat_tests))]
 fn number_fault(t: &Tables, me: Owner, handle: HandleNumber) -> Option<Error>
     requires { IsWhole t.now }
-    ensures { (stored : ℕ → Option Blob) (closed : Bool) (failures : ℕ)
-        → result ≡ where_so (is_owned_in (core_of t.now stored closed failures) me handle.0) (spent t.now.holdings.last_handle) }
+    ensures { result ≡ where_so (is_owned_in (plain_of t.now) me handle.0) (spent t.now.holdings.last_handle) }
 {
     let at = handles::look(&t.holdings.handles, handle)?;
     let is_spent = t.holdings.last_handle == u64::MAX;
@@ -51,6 +46,7 @@ fn number_fault(t: &Tables, me: Owner, handle: HandleNumber) -> Option<Error>
 }
 
 /// Why a load can't end with a value of this type, if it is open: it is of a key, or of a cell of another type; or of numbers (`number_fault`).
+#[tactic(auto, using(std::proofs::lemmas::Bool::Decides::nat_tests))]
 fn root_fault(t: &Tables, me: Owner, load: LoadNumber, node_type: u32) -> Option<Error>
     requires { IsWhole t.now }
     ensures { (stored : ℕ → Option Blob) (closed : Bool) (failures : ℕ)
@@ -142,10 +138,15 @@ pub fn prepare_end(
 fn join(t: &mut Holdings, node: NodeNumber, references: Vec<ArcRef>, comes: bool)
     requires sound { AreSound t.old.handles }
     requires live { IsSome (counts_at t.old.nodes node.0) }
-    ensures { Joins t.old node comes references.items t.new }
+    ensures handles { Becomes t.old.handles (moved (is_named_by (coming comes references.items)) (owner_value node.0) (live t.old.handles.places.items)) t.new.handles }
+    ensures counts { (n : ℕ) → counts_at t.new.nodes n ≡ counts_at t.old.nodes n }
+    ensures here { comes ≡ true → refs_at t.new.nodes node.0 ≡ references.items }
+    ensures others { (n : ℕ) → n ≢ node.0 → refs_at t.new.nodes n ≡ refs_at t.old.nodes n }
+    ensures none { comes ≡ false → t.new ≡ t.old }
+    ensures same { t.new ≡ record t.old { handles = t.new.handles; nodes = t.new.nodes } }
 {
     if comes {
-        hand_over_all(&mut t.handles, &references, Owner::Value(node));
+        handles::hand_over_all(&mut t.handles, &references, Owner::Value(node));
         nodes::set_references(&mut t.nodes, node.0, references);
     }
 }
@@ -154,7 +155,7 @@ fn join(t: &mut Holdings, node: NodeNumber, references: Vec<ArcRef>, comes: bool
 /// come to it with their handles before; the value itself stands among the values already.
 pub fn install<N: Drop>(
     t: &mut Tables,
-    values: &mut IndexMap<u64, Arc<N>>,
+    values: &mut Arcs<N>,
     me: Owner,
     load: LoadNumber,
     node_type: u32,

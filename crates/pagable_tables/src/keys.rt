@@ -4,17 +4,14 @@ ghost use Rattle.std.specs.Prelude.{◌≡◌, ℕ, ◌<◌, ◌≤◌, [], List
 ghost use Rattle.{pagable_world.specs.Calls.SetKeyCall, pagable_tables.specs.{Core.IsWhole, ByNumber.counts_at, Falling.IsFalling}};
 ghost use Rattle.pagable_tables.specs.{Falling.{owns_nothing, ValueStays, keyed, GetsKey}, Doing.DoesShed};
 
-use crate::cascade::fall;
-use crate::holdings::{Holdings, top_after};
+use crate::holdings::{Holdings, fall, top_after};
 use crate::kinds::is_loose;
 use crate::nodes;
-use crate::rows::Counts;
+use crate::rows::{Arcs, Counts};
 use crate::tables::Tables;
 use crate::turning::own;
-use indexmap::IndexMap;
 use pagable_model::{DataKey, Error, HandleNumber, NodeNumber};
 use pagable_world::handles::Owner;
-use std::sync::Arc;
 
 /// The counts of a node with this key.
 fn counts_keyed(counts: Counts, key: u128, top: u64) -> Counts
@@ -51,7 +48,7 @@ fn put_key(t: &mut Holdings, node: u64, key: u128)
 #[tactic(auto, using(crate::proofs::Fitting::counting))]
 pub fn set_data_key<N: Drop>(
     t: &mut Tables,
-    values: &mut IndexMap<u64, Arc<N>>,
+    values: &mut Arcs<N>,
     me: Owner,
     handle: HandleNumber,
     key: DataKey,

@@ -1,25 +1,64 @@
-//! What the cache gives and learns.
+//! The cache: which node is known under a kind and a key. It owns nothing. And what it gives.
 
-ghost use Rattle.std.specs.{Prelude.{◌≡◌, ℕ, Bool, Option, Some, IfSome, IfNone, IfOk, IfErr, false}, Option.option_map};
-ghost use Rattle.pagable_model.specs.declared.numbers.NodeNumber.{NodeNumber};
-ghost use Rattle.{pagable_world.specs.{Plain.{Blob, type_of}, Kinds.fits_mode, World.{usable, type_at}, Refusals.Owns, Calls.{RecallCall, offer_fault}}, pagable_tables.specs.Asking.Offered};
-ghost use Rattle.pagable_tables.specs.{Core.{core_of, plain_of, IsWhole, MayHold}, Later.AreLater, Doing.Does};
+ghost use Rattle.std.specs.{Prelude.{◌≡◌, ◌≢◌, ◌⊎◌, ◌<◌, ℕ, Bool, true, false, Option, Some, None, IfNone, IfOk, IfErr, OnOk, OnErr, IsOk}, Option.option_map};
+ghost use Rattle.{pagable_model.specs.declared.numbers.NodeNumber.NodeNumber, indexmap.specs.IndexMap.spare, pagable_world.specs.{Plain.{Blob, type_of}, Kinds.fits_mode, World.{usable, type_at}}};
+ghost use Rattle.{pagable_world.specs.{Refusals.Owns, Calls.{RecallCall, offer_fault}}, pagable_tables.specs.{ByNumber.known_at, Core.{core_of, plain_of, IsWhole, MayHold}, Doing.Does}};
 
 use crate::kinds::{fits_mode, is_of, is_pinned_kind, mode_of};
 use crate::lookups::is_here;
 use crate::making::make;
+use crate::nodes;
+use crate::rows::Cache;
 use crate::tables::Tables;
 use crate::turning::own;
-use crate::{cache, nodes};
 use pagable_model::{DataKey, Error, HandleNumber, Kind, NodeNumber};
 use pagable_world::handles::{HandleRow, Owner};
+use std::alloc::AllocError;
+
+/// Room for one more entry.
+pub fn reserve(cache: &mut Cache) -> Result<(), AllocError>
+    ensures known { (k q : ℕ) → known_at cache.new k q ≡ known_at cache.old k q }
+    ensures ok { OnOk result (0 < spare cache.new) }
+{
+    cache.reserve(1)
+}
+
+/// A node is known under a kind and a key from now on. With room to spare it succeeds.
+pub fn put(cache: &mut Cache, kind: Kind, key: DataKey, node: NodeNumber) -> Result<(), AllocError>
+    ensures here { OnOk result (known_at cache.new kind.0 key ≡ Some node) }
+    ensures others { OnOk result ((k q : ℕ) → (k ≢ kind.0) ⊎ (q ≢ key) → known_at cache.new k q ≡ known_at cache.old k q) }
+    ensures err { OnErr result ((k q : ℕ) → known_at cache.new k q ≡ known_at cache.old k q) }
+    ensures succeeds { 0 < spare cache.old → IsOk result }
+{
+    cache.insert((kind.0, key), node)?;
+    Ok(())
+}
+
+/// The same, if it is to be, where there is room.
+pub fn learn_if(cache: &mut Cache, learns: bool, kind: Kind, key: DataKey, node: NodeNumber)
+    requires { 0 < spare cache.old }
+    ensures here { learns ≡ true → known_at cache.new kind.0 key ≡ Some node }
+    ensures others { (k q : ℕ) → (k ≢ kind.0) ⊎ (q ≢ key) → known_at cache.new k q ≡ known_at cache.old k q }
+    ensures same { learns ≡ false → cache.new ≡ cache.old }
+{
+    if learns {
+        put(cache, kind, key, node).unwrap();
+    }
+}
+
+/// Nothing is known any more.
+pub fn forget(cache: &mut Cache)
+    ensures { (k q : ℕ) → known_at cache.new k q ≡ None }
+{
+    cache.clear();
+}
 
 /// The node that the cache gives for a kind and a key. An entry counts only while its node lives and, as a pin, has its value.
 pub fn usable_of(t: &Tables, kind: Kind, key: DataKey) -> Option<NodeNumber>
     requires { IsWhole t.now }
     ensures { (stored : ℕ → Option Blob) (closed : Bool) (failures : ℕ) → option_map (λ (n : NodeNumber). n.0) result ≡ usable (core_of t.now stored closed failures) kind.0 key }
 {
-    let node = cache::known_of(&t.cache, kind, key)?;
+    let node = t.cache.get(&(kind.0, key)).copied()?;
     let counts = nodes::counts_of(&t.holdings.nodes, node.0);
     if counts.is_none() || is_pinned_kind(kind) && !is_here(counts) {
         return None;
@@ -60,28 +99,4 @@ pub fn offered(t: &Tables, me: Owner, kind: Kind, handle: HandleNumber) -> Resul
         return Err(Error::WrongKind);
     }
     Ok(at.row)
-}
-
-/// The cache learns a handle's node, while the storage is open. Where it gives a node already, a handle of that is answered, and the one that was offered is
-/// still to be given up. It is refused where it isn't an own handle that may stand under the kind, no number is left, or no place or memory.
-pub fn cache_put(
-    t: &mut Tables,
-    me: Owner,
-    kind: Kind,
-    key: DataKey,
-    handle: HandleNumber,
-) -> Result<Option<HandleNumber>, Error>
-    requires whole { IsWhole t.old }
-    requires holder { MayHold (plain_of t.old) me }
-    ensures offered { (stored : ℕ → Option Blob) (failures : ℕ) → Offered (core_of t.old stored false failures) me kind key handle result (core_of t.new stored false failures) }
-    ensures known { IfOk result (λ found. IfSome found (λ k. t.new ≡ record t.old { holdings = t.new.holdings })) }
-    ensures whole { IsWhole t.new }
-    ensures later { AreLater t.old → AreLater t.new }
-{
-    let row = offered(t, me, kind, handle)?;
-    let Some(node) = usable_of(t, kind, key) else {
-        cache::learn(&mut t.cache, kind, key, row.node)?;
-        return Ok(None);
-    };
-    Ok(Some(make(t, node, mode_of(kind), me)?))
 }

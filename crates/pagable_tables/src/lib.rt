@@ -4,8 +4,6 @@
 
 pub mod adopting;
 pub mod births;
-pub mod cache;
-pub mod cascade;
 pub mod closing;
 pub mod ending;
 pub mod giving;
@@ -20,7 +18,6 @@ pub mod loading;
 pub mod loads;
 pub mod lookups;
 pub mod making;
-pub mod moving;
 pub mod nodes;
 pub mod pinning;
 pub mod places;

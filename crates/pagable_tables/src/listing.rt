@@ -8,21 +8,18 @@ ghost use Rattle.{pagable_tables.specs.{Giving.{InReach, IsNoLess}, Later.AreLat
 use crate::handles;
 use crate::holdings::make_place;
 use crate::kinds::is_unpinned;
-use crate::moving::hand_over;
 use crate::releases::give_back;
-use crate::rows::Reach;
+use crate::rows::{Arcs, Workers};
 use crate::tables::Tables;
 use crate::turning::own;
-use indexmap::IndexMap;
 use pagable_model::{Error, HandleNumber};
 use pagable_world::handles::Owner;
-use std::sync::Arc;
 
 /// A loose unpinned handle moves to the list's end, while cells are listed; otherwise it is given up, with all that goes with it. It is refused where it isn't an
 /// own handle of that mode, or the list has no place.
 pub fn schedule_for_paging<N: Drop>(
     t: &mut Tables,
-    values: &mut IndexMap<u64, Arc<N>>,
+    values: &mut Arcs<N>,
     me: Owner,
     handle: HandleNumber,
     lists: bool,
@@ -45,12 +42,12 @@ pub fn schedule_for_paging<N: Drop>(
     }
     make_place(&mut t.holdings.list)?;
     t.holdings.list.push(handle).unwrap();
-    hand_over(&mut t.holdings.handles, at, Owner::List);
+    handles::hand_over(&mut t.holdings.handles, at, Owner::List);
     Ok(())
 }
 
 /// A worker who asks may have this handle too: beside those that came since it began, or, where it got one so before, beside all.
-fn reach_to(workers: &mut IndexMap<u64, Reach>, me: Owner, handle: HandleNumber)
+fn reach_to(workers: &mut Workers, me: Owner, handle: HandleNumber)
     ensures at_work { (v : ℕ) → is_some (worker_at workers.new v) ≡ is_some (worker_at workers.old v) }
     ensures less { IsNoLess workers.old workers.new }
     ensures here { (v : ℕ) → 0 < handle.0 → is_owner (owner_worker v) me ≡ true → InReach (reach_at workers.new v) handle.0 }
@@ -81,7 +78,7 @@ pub fn take_pending(t: &mut Tables, me: Owner, place: usize) -> Option<HandleNum
     let Some(at) = handles::look(&t.holdings.handles, handle) else {
         unreachable!();
     };
-    hand_over(&mut t.holdings.handles, at, me);
+    handles::hand_over(&mut t.holdings.handles, at, me);
     reach_to(&mut t.workers, me, handle);
     Some(handle)
 }

@@ -73,12 +73,8 @@ fn open_cell(
         since: t.holdings.last_handle,
     };
     loads::open(&mut t.loads, load.0, row)?;
-    match come(
-        &mut t.holdings,
-        at.row.node,
-        Mode::LooseUnpinned,
-        Owner::Load(load),
-    ) {
+    let mode = Mode::LooseUnpinned;
+    match come(&mut t.holdings, at.row.node, mode, Owner::Load(load)) {
         Ok(_) => {
             t.last_load = load.0;
             Ok(load)

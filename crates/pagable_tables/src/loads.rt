@@ -3,12 +3,12 @@
 ghost use Rattle.std.specs.Prelude.{◌≡◌, ℕ, ◌≢◌, Some, None, OnOk, OnErr, nat_eq};
 ghost use Rattle.{indexmap.specs.IndexMap.get, pagable_tables.specs.ByNumber.load_at};
 
-use crate::rows::LoadRow;
+use crate::rows::{LoadRow, Loads};
 use indexmap::IndexMap;
 use std::alloc::AllocError;
 
 /// What is kept of a load, or None where it isn't open.
-pub fn load_of(loads: &IndexMap<u64, LoadRow>, load: u64) -> Option<LoadRow>
+pub fn load_of(loads: &Loads, load: u64) -> Option<LoadRow>
     ensures { result ≡ load_at loads.now load }
 {
     loads.get(&load).copied()

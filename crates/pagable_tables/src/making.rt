@@ -5,20 +5,12 @@ ghost use Rattle.{pagable_world.specs.{Plain.one, World.Core, Calls.CloneCall}, 
 ghost use Rattle.pagable_tables.specs.{Falling.{is_valued, has_value, IsFalling, ValueStays, owns_nothing}, Onward.with_tables, Core.{plain_of, IsWhole, MayHold, Suits, Makes}, Doing.Does};
 
 use crate::holdings::{Holdings, pins};
-use crate::rows::{Counts, Place};
+use crate::rows::Counts;
 use crate::tables::Tables;
 use crate::{handles, nodes};
 use pagable_model::{Error, HandleNumber, NodeNumber};
 use pagable_world::Mode;
 use pagable_world::handles::{HandleRow, Owner};
-
-/// How many places are taken, below 2^63.
-pub fn places_taken(places: &[Place]) -> usize
-    ensures count { result ≡ length places.now }
-    ensures small { result < 2 ^ 63 }
-{
-    places.len()
-}
 
 /// The counts after one handle more.
 pub fn counts_more(counts: Counts, pinning: bool) -> Counts
@@ -52,7 +44,7 @@ pub fn come(
     if t.last_handle == u64::MAX {
         return Err(Error::NumbersSpent);
     }
-    places_taken(&t.handles.places);
+    let _taken = t.handles.places.len();
     let number = HandleNumber(t.last_handle + 1);
     let row = HandleRow {
         number,
@@ -68,20 +60,15 @@ pub fn come(
 }
 
 /// The same, and the tables are whole again.
-pub fn make(
-    t: &mut Tables,
-    node: NodeNumber,
-    mode: Mode,
-    owner: Owner,
-) -> Result<HandleNumber, Error>
+pub fn make(t: &mut Tables, node: NodeNumber, mode: Mode, me: Owner) -> Result<HandleNumber, Error>
     requires whole { IsWhole t.old }
     requires suits { Suits (plain_of t.old) node mode }
-    requires holder { MayHold (plain_of t.old) owner }
-    ensures does { Does t.old (λ w w'. Makes w node mode owner result w') t.new }
+    requires holder { MayHold (plain_of t.old) me }
+    ensures does { Does t.old (λ w w'. Makes w node mode me result w') t.new }
     ensures values { (n : ℕ) → (n ≡ node.0 → has_value (counts_at t.old.holdings.nodes n) ≡ true) → ValueStays (counts_at t.old.holdings.nodes n) (counts_at t.new.holdings.nodes n) }
     ensures same { t.new ≡ record t.old { holdings = t.new.holdings } }
 {
-    come(&mut t.holdings, node, mode, owner)
+    come(&mut t.holdings, node, mode, me)
 }
 
 /// A second handle of the same mode, of any live handle.

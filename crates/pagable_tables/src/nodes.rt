@@ -4,20 +4,19 @@ ghost use Rattle.std.specs.{Prelude.{◌≡◌, ℕ, ◌≢◌, ◌++◌, [], So
 ghost use Rattle.indexmap.specs.IndexMap.{spare};
 ghost use Rattle.pagable_tables.specs.ByNumber.{counts_at, refs_at};
 
-use crate::rows::{Counts, NodeRow};
-use indexmap::IndexMap;
+use crate::rows::{Counts, NodeRow, Nodes};
 use pagable_model::ArcRef;
 use std::alloc::AllocError;
 
 /// The counts of a node.
-pub fn counts_of(nodes: &IndexMap<u64, NodeRow>, node: u64) -> Option<Counts>
+pub fn counts_of(nodes: &Nodes, node: u64) -> Option<Counts>
     ensures { result ≡ counts_at nodes.now node }
 {
     Some(nodes.get(&node)?.counts)
 }
 
 /// Other counts for a node.
-pub fn set_counts(nodes: &mut IndexMap<u64, NodeRow>, node: u64, counts: Counts)
+pub fn set_counts(nodes: &mut Nodes, node: u64, counts: Counts)
     requires { IsSome (counts_at nodes.old node) }
     ensures here { counts_at nodes.new node ≡ Some counts }
     ensures others { (q : ℕ) → q ≢ node → counts_at nodes.new q ≡ counts_at nodes.old q }
@@ -29,7 +28,7 @@ pub fn set_counts(nodes: &mut IndexMap<u64, NodeRow>, node: u64, counts: Counts)
 }
 
 /// Takes the last reference of a node.
-pub fn pop_reference(nodes: &mut IndexMap<u64, NodeRow>, node: u64) -> Option<ArcRef>
+pub fn pop_reference(nodes: &mut Nodes, node: u64) -> Option<ArcRef>
     ensures counts { (q : ℕ) → counts_at nodes.new q ≡ counts_at nodes.old q }
     ensures others { (q : ℕ) → q ≢ node → refs_at nodes.new q ≡ refs_at nodes.old q }
     ensures here { refs_at nodes.old node ≡ refs_at nodes.new node ++ option_to_list result }
@@ -39,7 +38,7 @@ pub fn pop_reference(nodes: &mut IndexMap<u64, NodeRow>, node: u64) -> Option<Ar
 }
 
 /// A node is gone.
-pub fn remove(nodes: &mut IndexMap<u64, NodeRow>, node: u64)
+pub fn remove(nodes: &mut Nodes, node: u64)
     ensures gone { counts_at nodes.new node ≡ None }
     ensures no_refs { refs_at nodes.new node ≡ [] }
     ensures others { (q : ℕ) → q ≢ node → counts_at nodes.new q ≡ counts_at nodes.old q }
@@ -49,7 +48,7 @@ pub fn remove(nodes: &mut IndexMap<u64, NodeRow>, node: u64)
 }
 
 /// Room for one more node.
-pub fn reserve(nodes: &mut IndexMap<u64, NodeRow>) -> Result<(), AllocError>
+pub fn reserve(nodes: &mut Nodes) -> Result<(), AllocError>
     ensures counts { (q : ℕ) → counts_at nodes.new q ≡ counts_at nodes.old q }
     ensures refs { (q : ℕ) → refs_at nodes.new q ≡ refs_at nodes.old q }
     ensures ok { OnOk result (0 < spare nodes.new) }
@@ -58,7 +57,7 @@ pub fn reserve(nodes: &mut IndexMap<u64, NodeRow>) -> Result<(), AllocError>
 }
 
 /// A node comes, under a number that is free.
-pub fn add(nodes: &mut IndexMap<u64, NodeRow>, node: u64, row: NodeRow) -> Result<(), AllocError>
+pub fn add(nodes: &mut Nodes, node: u64, row: NodeRow) -> Result<(), AllocError>
     requires { counts_at nodes.old node ≡ None }
     ensures here { OnOk result (counts_at nodes.new node ≡ Some row.counts) }
     ensures refs { OnOk result (refs_at nodes.new node ≡ row.references.items) }
@@ -73,7 +72,7 @@ pub fn add(nodes: &mut IndexMap<u64, NodeRow>, node: u64, row: NodeRow) -> Resul
 }
 
 /// What the value of a node refers to from now on.
-pub fn set_references(nodes: &mut IndexMap<u64, NodeRow>, node: u64, references: Vec<ArcRef>)
+pub fn set_references(nodes: &mut Nodes, node: u64, references: Vec<ArcRef>)
     requires { IsSome (counts_at nodes.old node) }
     ensures counts { (q : ℕ) → counts_at nodes.new q ≡ counts_at nodes.old q }
     ensures here { refs_at nodes.new node ≡ references.items }

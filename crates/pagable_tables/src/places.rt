@@ -5,7 +5,7 @@ ghost use Rattle.pagable_world.specs.{Plain.Blob, World.Alike, Calls.{ReserveCal
 ghost use Rattle.pagable_tables.specs.{Core.{core_of, IsWhole}, Doing.Does};
 
 use crate::tables::Tables;
-use crate::{cache, handles};
+use crate::{handles, known};
 use pagable_model::{Error, HandleNumber};
 
 /// How many handles and entries of the list can still come without a request for memory.
@@ -43,6 +43,6 @@ pub fn cache_clear(t: &mut Tables) -> Result<(), Error>
     requires { IsWhole t.old }
     ensures { Does t.old (λ w w'. ClearCall w result w') t.new }
 {
-    cache::forget(&mut t.cache);
+    known::forget(&mut t.cache);
     Ok(())
 }

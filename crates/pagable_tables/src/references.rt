@@ -1,11 +1,12 @@
 //! Why calls are refused: the references of a value that is handed in, and which of several causes is told.
 
-ghost use Rattle.std.specs.{Prelude.{◌≡◌, ◌||◌, not, ℕ, Bool, List, Option, Some, None, [], ◌<◌, false}, Option.option_map};
-ghost use Rattle.pagable_world.specs.Plain.{Blob, is_in, if_there};
-ghost use Rattle.pagable_world.specs.{Kinds.is_owner, Refusals.{refused_if, row_fault, reference_fault, references_fault, rank, earlier}, Workers.claim_fault, Calls.is_named_by, World.OpenLoad};
-ghost use Rattle.{pagable_world.specs.LoadCalls.cell_fault, pagable_tables.specs.Core.{core_of, IsWhole, load_in}};
+ghost use Rattle.std.specs.{Prelude.{◌≡◌, ◌||◌, not, ℕ, Bool, List, Option, Some, None, [], ◌<◌, ◌≤◌, length, false}, Option.option_map};
+ghost use Rattle.pagable_world.specs.{Plain.{Blob, is_in, if_there}, declared.handles.HandleRow.HandleRow, World.{Core, OpenLoad}, Calls.is_named_by};
+ghost use Rattle.pagable_world.specs.{Kinds.{is_owner, find_row}, Refusals.{refused_if, row_fault, reference_fault, references_fault, named_fault, rank, earlier}, Workers.claim_fault};
+ghost use Rattle.{pagable_world.specs.LoadCalls.cell_fault, pagable_tables.specs.{Core.{core_of, plain_of, IsWhole, load_in}, Owning.{seen, named_at}, Live.{live, AreSound}}};
 ghost use Rattle.pagable_model.specs.declared.error.Error.TheVariants as errors;
 
+use crate::handles::Handles;
 use crate::kinds::{fits_mode, is_of};
 use crate::rows::{LoadRoot, LoadRow};
 use crate::tables::Tables;
@@ -14,11 +15,15 @@ use crate::{handles, nodes};
 use pagable_model::{ArcRef, Error, HandleNumber};
 use pagable_world::handles::{HandleRow, Owner};
 
-/// Whether one of these references names the handle.
+/// Whether one of these references names the handle, where none has a greater number than the highest. So references in the order of their handles cost a look each.
 #[tactic(auto, using(crate::proofs::Worlds::naming))]
-fn is_named(references: &[ArcRef], handle: HandleNumber) -> bool
+fn is_named(references: &[ArcRef], highest: u64, handle: HandleNumber) -> bool
+    requires { (q : ℕ) → highest < q → is_named_by references.now q ≡ false }
     ensures { result ≡ is_named_by references.now handle.0 }
 {
+    if handle.0 > highest {
+        return false;
+    }
     for reference in references {
         if reference.handle.0 == handle.0 {
             return true;
@@ -27,17 +32,9 @@ fn is_named(references: &[ArcRef], handle: HandleNumber) -> bool
     false
 }
 
-/// The same, where no handle that was named has a greater number than the highest. So references in the order of their handles cost a look each.
-fn is_seen(references: &[ArcRef], highest: u64, handle: HandleNumber) -> bool
-    requires { (q : ℕ) → highest < q → is_named_by references.now q ≡ false }
-    ensures { result ≡ is_named_by references.now handle.0 }
-{
-    handle.0 <= highest && is_named(references, handle)
-}
-
 /// Why a reference is refused whose handle has this row, where another may have to be asked first.
 fn row_fault(t: &Tables, row: HandleRow, reference: ArcRef, is_anothers: bool) -> Option<Error>
-    ensures { (stored : ℕ → Option Blob) (closed : Bool) (failures : ℕ) → result ≡ row_fault (core_of t.now stored closed failures) reference (refused_if is_anothers errors.NotYours) row }
+    ensures { result ≡ row_fault (plain_of t.now) reference (refused_if is_anothers errors.NotYours) row }
 {
     if row.node.0 != reference.node.0 {
         return Some(Error::NoSuchHandle);
@@ -48,13 +45,8 @@ fn row_fault(t: &Tables, row: HandleRow, reference: ArcRef, is_anothers: bool) -
     if !fits_mode(reference.kind, row.mode) {
         return Some(Error::WrongMode);
     }
-    if !is_of(
-        nodes::counts_of(&t.holdings.nodes, reference.node.0),
-        reference.kind,
-    ) {
-        return Some(Error::WrongKind);
-    }
-    None
+    let counts = nodes::counts_of(&t.holdings.nodes, reference.node.0);
+    (!is_of(counts, reference.kind)).then_some(Error::WrongKind)
 }
 
 /// Why a reference of a value is refused, where its handle was named before or wasn't.
@@ -88,7 +80,7 @@ pub fn references_fault(t: &Tables, me: Owner, references: &[ArcRef]) -> Option<
     let mut highest = 0;
     for i in 0..references.len() {
         let reference = references[i];
-        let is_seen = is_seen(&references[..i], highest, reference.handle);
+        let is_seen = is_named(&references[..i], highest, reference.handle);
         if let Some(e) = fault_of(t, me, reference, is_seen) {
             return Some(e);
         }
@@ -116,14 +108,8 @@ pub fn earlier(a: Option<Error>, b: Option<Error>) -> Option<Error>
     ensures { result ≡ earlier a b }
 {
     match (a, b) {
-        (Some(e), Some(f)) => {
-            if rank(&f) < rank(&e) {
-                Some(f)
-            } else {
-                Some(e)
-            }
-        }
-        (Some(e), None) => Some(e),
+        (Some(e), Some(f)) if rank(&f) < rank(&e) => Some(f),
+        (Some(e), _) => Some(e),
         (None, other) => other,
     }
 }
@@ -142,10 +128,7 @@ pub fn load_fault(row: Option<LoadRow>, me: Owner) -> Option<Error>
 pub fn cell_fault(row: Option<LoadRow>) -> Option<Error>
     ensures { result ≡ if_there (λ (load : OpenLoad). cell_fault load.root) None (option_map load_in row) }
 {
-    match row?.root {
-        LoadRoot::Cell(_, _, _) => Some(Error::WrongMode),
-        LoadRoot::Key => None,
-    }
+    matches!(row?.root, LoadRoot::Cell(_, _, _)).then_some(Error::WrongMode)
 }
 
 /// This refusal, if it is so.
@@ -153,4 +136,49 @@ pub fn refused_if(so: bool, error: Error) -> Option<Error>
     ensures { result ≡ refused_if so error }
 {
     if so { Some(error) } else { None }
+}
+
+/// Whether the number stands before this place.
+#[tactic(auto, using(crate::proofs::Worlds::handing))]
+fn is_before(named: &[HandleNumber], place: usize, number: u64) -> bool
+    requires { place ≤ length named.now }
+    ensures { result ≡ is_in (seen named.now place) number }
+{
+    for at in 0..place {
+        if named[at].0 == number {
+            return true;
+        }
+    }
+    false
+}
+
+/// Why the handle that is named at this place can't be handed over by this owner, if it can't.
+fn fault_at(handles: &Handles, owner: Owner, named: &[HandleNumber], place: usize) -> Option<Error>
+    requires sound { AreSound handles.now }
+    requires within { place < length named.now }
+    ensures { result ≡ if_there (λ (row : HandleRow). refused_if (not (is_owner owner row.owner) || is_in (seen named.now place) (named_at named.now place)) errors.NotYours) (Some errors.NoSuchHandle) (find_row (named_at named.now place) (live handles.now.places.items)) }
+{
+    let handle = named[place];
+    let Some(at) = handles::look(handles, handle) else {
+        return Some(Error::NoSuchHandle);
+    };
+    if !is_owner(owner, at.row.owner) || is_before(named, place, handle.0) {
+        return Some(Error::NotYours);
+    }
+    None
+}
+
+/// Why the handles that are named can't all be handed over by this owner: one isn't live, or one is another's or is named twice.
+#[tactic(auto, using(crate::proofs::Worlds::handing))]
+pub fn named_fault(handles: &Handles, owner: Owner, named: &[HandleNumber]) -> Option<Error>
+    requires { AreSound handles.now }
+    ensures { (w : Core) → w.rows ≡ live handles.now.places.items → result ≡ named_fault w owner [] named.now }
+{
+    let mut fault = None;
+    let mut place = named.len();
+    while place > 0 {
+        place -= 1;
+        fault = earlier(fault_at(handles, owner, named, place), fault);
+    }
+    fault
 }

@@ -5,22 +5,19 @@ ghost use Rattle.pagable_world.specs.{Kinds.is_owner, World.Core, Calls.{Release
 ghost use Rattle.{pagable_world.specs.{Cascade.{nobody, only_handle}, declared.handles.Owner.Owner}, pagable_tables.specs.{Live.{live, alive}, ByNumber.counts_at, Falling.{IsFalling, is_valued}}};
 ghost use Rattle.{pagable_tables.specs.{Falling.{owns_nothing, Sheds}, Onward.{with_tables, SoFar}, Core.IsWhole, Doing.DoesShed}, indexmap.specs.IndexMap.get};
 
-use crate::cascade::{fall, shed};
-use crate::holdings::{Holdings, give_up};
-use crate::rows::HandleAt;
+use crate::holdings::{Holdings, fall, give_up, shed};
+use crate::rows::{Arcs, HandleAt};
 use crate::tables::Tables;
 use crate::turning::own;
-use indexmap::IndexMap;
 use pagable_model::{Error, HandleNumber};
 use pagable_world::Mode;
 use pagable_world::handles::Owner;
-use std::sync::Arc;
 
 /// The handle at this place is given up, with all that goes with it. NumbersSpent or OutOfMemory where a cell that had to be listed isn't.
 #[tactic(auto, using(crate::proofs::Next::shedding))]
 pub fn give_back<N: Drop>(
     t: &mut Holdings,
-    values: &mut IndexMap<u64, Arc<N>>,
+    values: &mut Arcs<N>,
     at: HandleAt,
     lists: bool,
 ) -> Result<(), Error>
@@ -41,7 +38,7 @@ pub fn give_back<N: Drop>(
 /// An own handle is given up, with all that goes with it. NumbersSpent or OutOfMemory where a cell that had to be listed isn't.
 pub fn release<N: Drop>(
     t: &mut Tables,
-    values: &mut IndexMap<u64, Arc<N>>,
+    values: &mut Arcs<N>,
     me: Owner,
     handle: HandleNumber,
     lists: bool,
@@ -58,7 +55,7 @@ pub fn release<N: Drop>(
 /// An own loose handle lets its pin go, or has none. NumbersSpent or OutOfMemory where a cell that had to be listed isn't.
 pub fn unpin<N: Drop>(
     t: &mut Tables,
-    values: &mut IndexMap<u64, Arc<N>>,
+    values: &mut Arcs<N>,
     me: Owner,
     handle: HandleNumber,
     lists: bool,

@@ -1,7 +1,21 @@
 //! What the tables keep of handles and nodes.
 
+use indexmap::IndexMap;
 use pagable_model::{ArcRef, DataKey, HandleNumber, NodeNumber};
 use pagable_world::handles::{HandleRow, Owner};
+use std::sync::Arc;
+
+/// Nodes, loads and workers by their numbers, and what the cache knows under a kind and a key.
+pub type Nodes = IndexMap<u64, NodeRow>;
+
+pub type Loads = IndexMap<u64, LoadRow>;
+
+pub type Workers = IndexMap<u64, Reach>;
+
+pub type Cache = IndexMap<(u32, DataKey), NodeNumber>;
+
+/// The values in memory, by the numbers of their nodes. They stand beside the tables.
+pub type Arcs<N> = IndexMap<u64, Arc<N>>;
 
 /// A place in the vector of handles: a live row, or a dead one that waits to be cleared away.
 #[derive(Clone, Copy)]

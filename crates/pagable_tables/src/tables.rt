@@ -3,9 +3,9 @@
 ghost use Rattle.std.specs.Prelude.{◌≡◌, ℕ, [], None};
 ghost use Rattle.pagable_tables.specs.{ByNumber.{counts_at, load_at, known_at, worker_at}, Core.IsWhole, Later.AreLater};
 
-use crate::handles;
+use crate::handles::Handles;
 use crate::holdings::Holdings;
-use crate::rows::{LoadRow, Reach};
+use crate::rows::{Cache, Loads, Workers};
 use indexmap::IndexMap;
 use pagable_model::{DataKey, NodeNumber};
 use std::alloc::Global;
@@ -15,10 +15,10 @@ use std::alloc::Global;
 pub struct Tables {
     pub holdings: Holdings,
     /// Which node is known under a kind and a key.
-    pub cache: IndexMap<(u32, DataKey), NodeNumber>,
-    pub loads: IndexMap<u64, LoadRow>,
+    pub cache: Cache,
+    pub loads: Loads,
     /// The workers at work, and which handles each may have.
-    pub workers: IndexMap<u64, Reach>,
+    pub workers: Workers,
     pub last_node: u64,
     pub last_load: u64,
     pub last_worker: u64,
@@ -38,7 +38,10 @@ pub fn new(alloc: Global) -> Tables
 {
     Tables {
         holdings: Holdings {
-            handles: handles::empty(alloc),
+            handles: Handles {
+                places: Vec::new(alloc),
+                dead: 0,
+            },
             nodes: IndexMap::new(alloc),
             list: Vec::new(alloc),
             top: 0,

@@ -1,12 +1,11 @@
 //! Handles that are pinned from now on, with or without another handle beside.
 
-ghost use Rattle.std.specs.Prelude.{◌≡◌, ℕ, ◌<◌, ◌^◌, ◌+◌, Bool, Option, not, slice_get, Some, IfOk, IfErr, true, false};
-ghost use Rattle.pagable_world.specs.{declared.rows.Mode.Mode, Plain.{Blob, one}};
-ghost use Rattle.pagable_world.specs.{declared.handles.Owner.Owner, Kinds.{is_owner, is_owned_by, is_shared, find_row}, World.Alike, Refusals.handle_fault, Calls.{LoosenCall, with_mode}};
-ghost use Rattle.pagable_tables.specs.{Live.{live, alive}, Core.{core_of, IsWhole}, Doing.Does};
+ghost use Rattle.std.specs.Prelude.{◌≡◌, ℕ, Bool, Option, slice_get, Some, IfOk, IfErr, true, false};
+ghost use Rattle.pagable_world.specs.{declared.{rows.Mode.Mode, handles.Owner.Owner}, Plain.Blob, Kinds.{is_owner, is_owned_by, is_shared, find_row}, World.Alike, Refusals.handle_fault};
+ghost use Rattle.{pagable_world.specs.Calls.{LoosenCall, with_mode}, pagable_tables.specs.{Live.{live, alive}, Core.{core_of, IsWhole}, Doing.Does}};
 
 use crate::holdings::pins;
-use crate::making::{counts_more, places_taken};
+use crate::making::counts_more;
 use crate::rows::{Counts, HandleAt};
 use crate::tables::Tables;
 use crate::{handles, nodes};
@@ -55,16 +54,12 @@ pub fn turn(t: &mut Tables, at: HandleAt)
     ensures same { t.new ≡ record t.old { holdings = t.new.holdings } }
 {
     let counts = nodes::counts_of(&t.holdings.nodes, at.row.node.0).unwrap();
-    places_taken(&t.holdings.handles.places);
-    let row = HandleRow {
-        mode: Mode::LoosePinned,
-        ..at.row
-    };
+    let _taken = t.holdings.handles.places.len();
+    let mut row = at.row;
+    row.mode = Mode::LoosePinned;
     handles::set(&mut t.holdings.handles, at, row);
-    let pinned = Counts {
-        holds: counts.holds,
-        ..counts_more(counts, !pins(at.row.mode))
-    };
+    let mut pinned = counts_more(counts, !pins(at.row.mode));
+    pinned.holds = counts.holds;
     nodes::set_counts(&mut t.holdings.nodes, at.row.node.0, pinned);
 }
 

@@ -2,19 +2,17 @@
 
 ghost use Rattle.std.specs.Prelude.{◌≡◌, ◌<◌, ◌+◌, ℕ, length, IfOk, is_some, not, true};
 ghost use Rattle.pagable_world.specs.{Plain.updated, Kinds.{is_owner, owner_worker}, Cascade.FallsAnyhow, Workers.WorkerEnds};
-ghost use Rattle.{pagable_world.specs.Workers.is_workers_at, pagable_tables.specs.{ByNumber.{load_at, reach_at, worker_at}, Core.IsWhole, Giving.{BeginsWorker, TakesWorker, LeavesOthers}}};
+ghost use Rattle.{pagable_world.specs.Workers.is_workers_at, pagable_tables.specs.{ByNumber.{load_at, reach_at, worker_at}, Core.IsWhole, Giving.{BeginsWorker, TakesWorker, left_load}}};
 ghost use Rattle.pagable_tables.specs.{Later.AreLater, Doing.{DoesShed, Does}};
 
 use crate::giving::{Giving, give_all};
 use crate::listing::take_pending;
 use crate::loads;
-use crate::rows::{LoadRow, Reach};
+use crate::rows::{Arcs, LoadRow, Loads, Reach, Workers};
 use crate::tables::Tables;
 use crate::turning::is_owner;
-use indexmap::IndexMap;
 use pagable_model::{Error, NodeNumber, WorkerNumber};
 use pagable_world::handles::Owner;
-use std::sync::Arc;
 
 /// One worker more is at work. OutOfMemory where it has no place, or no number is left for it.
 #[tactic(auto, using(crate::proofs::Newer::working))]
@@ -29,10 +27,8 @@ pub fn worker_begin(t: &mut Tables) -> Result<WorkerNumber, Error>
         return Err(Error::OutOfMemory);
     }
     let worker = t.last_worker + 1;
-    let reach = Reach {
-        since: t.holdings.last_handle,
-        beside: 0,
-    };
+    let since = t.holdings.last_handle;
+    let reach = Reach { since, beside: 0 };
     loads::open(&mut t.workers, worker, reach)?;
     t.last_worker = worker;
     Ok(WorkerNumber(worker))
@@ -50,20 +46,18 @@ pub fn worker_take(t: &mut Tables, place: usize) -> Result<WorkerNumber, Error>
 }
 
 /// Which handles this worker may have.
-fn reach_of(workers: &IndexMap<u64, Reach>, worker: WorkerNumber) -> Reach
+fn reach_of(workers: &Workers, worker: WorkerNumber) -> Reach
     ensures { result ≡ reach_at workers.now worker.0 }
 {
-    let nothing = Reach {
-        since: 0,
-        beside: 0,
-    };
+    let since = 0;
+    let nothing = Reach { since, beside: 0 };
     workers.get(&worker.0).copied().unwrap_or(nothing)
 }
 
 /// A worker gives up all handles that it has at a node, with all that goes with them.
 pub fn release_node<N: Drop>(
     t: &mut Tables,
-    values: &mut IndexMap<u64, Arc<N>>,
+    values: &mut Arcs<N>,
     worker: WorkerNumber,
     node: NodeNumber,
     lists: bool,
@@ -78,8 +72,8 @@ pub fn release_node<N: Drop>(
 }
 
 /// The worker's loads aren't open any more.
-fn close_loads(loads: &mut IndexMap<u64, LoadRow>, worker: WorkerNumber)
-    ensures { LeavesOthers worker.0 (load_at loads.old) (load_at loads.new) }
+fn close_loads(loads: &mut Loads, worker: WorkerNumber)
+    ensures { (l : ℕ) → load_at loads.new l ≡ left_load worker.0 (load_at loads.old l) }
 {
     let _many = loads.len();
     loads.retain(
@@ -90,12 +84,7 @@ fn close_loads(loads: &mut IndexMap<u64, LoadRow>, worker: WorkerNumber)
 }
 
 /// A worker ends: its loads are closed, and it gives up whatever it and they still have, with all that goes with it.
-pub fn worker_end<N: Drop>(
-    t: &mut Tables,
-    values: &mut IndexMap<u64, Arc<N>>,
-    worker: WorkerNumber,
-    lists: bool,
-)
+pub fn worker_end<N: Drop>(t: &mut Tables, values: &mut Arcs<N>, worker: WorkerNumber, lists: bool)
     requires whole { IsWhole t.old }
     requires later { AreLater t.old }
     ensures { DoesShed lists t.old values.old (λ w w'. WorkerEnds w worker.0 w') t.new values.new }

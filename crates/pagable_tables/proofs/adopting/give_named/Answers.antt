@@ -8,8 +8,7 @@ loop-reference-init g c =
 
 pub loop-reference-preserved : goal.loop-reference-preserved
 loop-reference-preserved g c =
-    let i = c.loop-reference.invariant in
-    let next = c.give_next.ensures.fewer in (
+    let i = c.loop-reference.invariant in (
       c.give_next.ensures.steady,
       omega arith,
       λ before w f few. one-given before w c.args.lists c.give_next.new.t c.args.load c.args.references.now c.loop-reference.reference-index _ c.loop-reference-test.true (c.give_next.ensures.so_far before w _ (i.2 before w f few) (omega arith)),

@@ -1,6 +1,6 @@
 use Rattle.pagable_tables.proofs.Words.{◌<◌, [], arith, ap, sym, ◌∙◌, subst, false, inl, inr, None, OptionalDataKey, Core, Alike, greatest, Owner, adopted, core_of, plain_of, load_in, Suits, key_in}
-use Rattle.pagable_tables.proofs.{Calls.known-suits, Doing.{does-then, nothing-does}, Newer.{key-is, none-named}, Words.{is_loose_kind, nat_tests, not}, Worlds.{adopted-past, failed, kind-late, late}}
-use Rattle.pagable_tables.proofs.Worlds.{lazy-known, lazy-new, lazy-not-loose, lazy-not-new, next-past, node-late, not-own}
+use Rattle.pagable_tables.proofs.{Calls.known-suits, Doing.{does-as, does-then, nothing-does}, Newer.{key-is, none-named}, Words.{is_loose_kind, nat_tests, not}, Worlds.{adopted-past, failed}}
+use Rattle.pagable_tables.proofs.Worlds.{kind-late, late, lazy-known, lazy-new, lazy-not-loose, lazy-not-new, next-past, node-late, not-own}
 use Rattle.pagable_tables.proofs.adopting.load_lazy.Goals as goal
 
 pub returns-in_err-_row : goal.returns-in_err-_row
@@ -20,14 +20,9 @@ make-requires-clause-suits c =
     subst (Suits (plain_of c.args.t.now) c.in-Some.node) (sym c.mode_of.ensures) (known-suits c.requires.whole.core c.args.kind.0 c.args.key c.in-Some.node.0 is)
 
 pub returns-in-Some : goal.returns-in-Some
-returns-in-Some c =
-    let made = c.make.ensures.does in
-    record {
-      does = λ stored closed failures e. lazy-known _ c.args.me c.args.load (load_in c.in_ok-_row._row) c.args.kind c.args.key (c.in_ok-_row.ensures.own stored closed failures) (sym c.if-not-is_loose_kind.ensures)
-          c.in-Some.node c.mode_of.result c.make.result _ (sym (c.in-Some.ensures stored closed failures)) c.mode_of.ensures (made.does stored closed failures);
-      whole = made.whole;
-      later = made.later;
-    }
+returns-in-Some c = does-as c.make.ensures.does
+    (λ stored closed failures made e. lazy-known _ c.args.me c.args.load (load_in c.in_ok-_row._row) c.args.kind c.args.key (c.in_ok-_row.ensures.own stored closed failures)
+    (sym c.if-not-is_loose_kind.ensures) c.in-Some.node c.mode_of.result c.make.result _ (sym (c.in-Some.ensures stored closed failures)) c.mode_of.ensures made)
 
 pub learn_new-requires-clause-fit : goal.learn_new-requires-clause-fit
 learn_new-requires-clause-fit c = none-named (plain_of c.make_ready_to_learn.new.t) (Owner.Load c.args.load) _ c.new.ensures.items
@@ -50,10 +45,7 @@ learn_new-requires-clause-bare c = inr ((let loose = c.if-not-is_loose_kind.ensu
 
 pub returns-in_err-make_ready_to_learn : goal.returns-in_err-make_ready_to_learn
 returns-in_err-make_ready_to_learn c =
-    let made = c.make_ready_to_learn.ensures.does in
-    rw (failed c.from_residual-in_err-make_ready_to_learn.result c.from_residual-in_err-make_ready_to_learn.ensures.1) (record {
-      does = λ stored closed failures e. lazy-not-new (core_of c.args.t.now stored closed failures) c.args.me c.args.load (load_in c.in_ok-_row._row) c.args.kind c.args.key (c.in_ok-_row.ensures.own stored closed failures)
-          (sym c.if-not-is_loose_kind.ensures) (sym (c.in_default.ensures stored closed failures)) (c.in_err-make_ready_to_learn.ensures.refused stored closed failures);
-      whole = made.whole;
-      later = made.later;
-    })
+    rw (failed c.from_residual-in_err-make_ready_to_learn.result c.from_residual-in_err-make_ready_to_learn.ensures.1) (does-as c.make_ready_to_learn.ensures.does
+    (λ stored closed failures room e. lazy-not-new (core_of c.args.t.now stored closed failures) c.args.me c.args.load (load_in c.in_ok-_row._row) c.args.kind c.args.key
+    (c.in_ok-_row.ensures.own stored closed failures) (sym c.if-not-is_loose_kind.ensures) (sym (c.in_default.ensures stored closed failures))
+    (c.in_err-make_ready_to_learn.ensures.refused stored closed failures)))

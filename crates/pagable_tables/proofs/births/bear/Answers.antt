@@ -10,7 +10,6 @@ returns-clause-does c =
     let me = c.args.me in
     let rs = c.args.references.items in
     let at = counts_at t.nodes in
-    let refs = refs_at t.nodes in
     let w = c.requires.whole in
     let n = u.last_node + 1 in
     let x : HandleRow = record { number = record { 0 = t.last_handle + 1 }; node = record { 0 = n }; mode = c.args.mode; owner = me } in
@@ -21,7 +20,7 @@ returns-clause-does c =
     let named = ap (λ l. moved (is_named_by l) (owner_value n) (live t.handles.places.items)) c.deref.ensures.value in
     let rows = c.in-Ok.ensures.rows ∙ ap (λ l. l ++ x ∷ []) (c.hand_over_all.ensures.rows ∙ named) in
     let unvalued = not-a-value (plain_of u) me c.requires.holder in
-    let fits = born-fits (plain_of u) me rs w.core.handles.ordered c.requires.fit unvalued at (counts_at c.add.new.nodes) refs (refs_at c.add.new.nodes) t.top x _ w.steady.fits refl
+    let fits = born-fits (plain_of u) me rs w.core.handles.ordered c.requires.fit unvalued at (counts_at c.add.new.nodes) (refs_at t.nodes) (refs_at c.add.new.nodes) t.top x _ w.steady.fits refl
     refl (elim c.requires.bare [ inl none ↦ inl none | inr so ↦ inr so.1 ]) (omega arith) free here added.others added.refs added.other_refs in
     does-so (λ stored closed failures. first_of (search rules, grind (arith, common_steps), grind (arith, nat_tests, same-cache)))
     (record { sound = c.push.ensures.sound; next = c.in-Ok.ensures.next; fits = rows-told (counts_at c.add.new.nodes) (refs_at c.add.new.nodes) _ _ t.top rows fits })

@@ -1,15 +1,14 @@
-use Rattle.pagable_tables.proofs.Words.{◌≡◌, ℕ, ◌&&◌, false, not, length, arith, ap, sym, ◌∙◌, subst, Some, None, Error, Owner, is_in, if_there, is_owner, OpenLoad, Falls, refused_if, is_owned_in}
 use Rattle.pagable_tables.proofs.{Alive.and-left, Calls.{hand-over-whole, handed-mine, handed-own, may-hold}, Doing.{bare, sheds-by}, Newer.{MayHand, begun-moved, closed-still, later-handed}}
-use Rattle.pagable_tables.proofs.{Newer.{load-closed, loads-anew, may-hand, moved-less, moved-stands, newer-falls, no-load, owned-given, owned-moved, still-listed}, Told.not-a-value, Words.[]}
-use Rattle.pagable_tables.proofs.{Words.{core_of, inl, is_owned_by, load_at, load_in, is_valued, nat_tests, numbers_of, option_map, plain_of, refl, with_tables}, Worlds.owner-self}
+use Rattle.pagable_tables.proofs.{Newer.{load-closed, loads-anew, may-hand, moved-less, moved-stands, newer-falls, no-load, owned-given, owned-moved, still-listed}, Told.not-a-value, Words.Falls}
+use Rattle.pagable_tables.proofs.Words.{None, Owner, Some, [], ap, arith, core_of, false, if_there, inl, is_in, is_owned_by, is_owned_in, is_owner, is_valued, length, load_at, load_in, nat_tests, not}
+use Rattle.pagable_tables.proofs.{Words.{numbers_of, option_map, plain_of, refl, subst, sym, with_tables, ℕ, ◌&&◌, ◌∙◌, ◌≡◌}, Worlds.owner-self}
 use Rattle.pagable_tables.proofs.ending.load_take.Goals as goal
 
-pub unreachable-requires : goal.unreachable-requires
-unreachable-requires g c =
-    let t = c.args.t.now in
-    let can : MayHand (plain_of t) c.args.me c.args.load c.args.named.now = may-hand c.requires.whole.core c.args.me c.args.load c.args.named.now (sym (c.hand_over_fault.ensures (λ key. None) false 0) ∙ c.in_default.is) in
-    let gone = ap (λ o. if_there (λ (load : OpenLoad). refused_if (not (is_owner c.args.me load.owner)) Error.NotYours) (Some Error.NoSuchHandle) (option_map load_in o)) (sym c.load_of.ensures ∙ c.in_default-load_of.is) in
-    absurd (let a = sym gone ∙ can.own in cc)
+pub unwrap-row-requires : goal.unwrap-row-requires
+unwrap-row-requires g c =
+    let can : MayHand (plain_of c.args.t.now) c.args.me c.args.load c.args.named.now = may-hand c.requires.whole.core c.args.me c.args.load c.args.named.now
+    (sym (c.hand_over_fault.ensures (λ key. None) false 0) ∙ c.in_default.is) in
+    let own = can.own in grind (arith, nat_tests, c.load_of.ensures)
 
 pub give_all-requires-clause-steady : goal.give_all-requires-clause-steady
 give_all-requires-clause-steady g c =
@@ -29,7 +28,7 @@ returns g c =
     let s = is_in (numbers_of hs) in
     let p = plain_of t in
     let can : MayHand p me l hs = may-hand c.requires.whole.core me l hs (sym (c.hand_over_fault.ensures (λ key. None) false 0) ∙ c.in_default.is) in
-    let row : load_at t.loads l.0 ≡ Some c.in-Some-load_of.row = sym c.load_of.ensures ∙ c.in-Some-load_of.is in
+    let row : load_at t.loads l.0 ≡ Some c.unwrap-row.result = sym c.load_of.ensures ∙ c.unwrap-row.ensures in
     sheds-by
     (λ stored closed failures e.
     let w = core_of t stored closed failures in
@@ -40,7 +39,7 @@ returns g c =
     (still-listed c.requires.whole.core me l hs can) in
     let falls = c.give_all.ensures.falls w u (bare (λ m. option_map load_in (load_at c.close.new.rows m))) (λ m. refl) so-far (let a = ap length c.hand_each.ensures.rows in omega arith)
     (λ q own. let mine = and-left (is_owned_in w (Owner.Load l) q) (not (s q)) (sym (left q) ∙ own) in let g = owned-given p (Owner.Load l) q c.requires.whole.core.handles mine in
-    let after = c.requires.later.since l.0 c.in-Some-load_of.row q row mine in ((omega arith, inl after), omega arith)) in
+    let after = c.requires.later.since l.0 c.unwrap-row.result q row mine in ((omega arith, inl after), omega arith)) in
     record {
       hands = (
         sym (c.hand_over_fault.ensures stored closed failures) ∙ c.in_default.is,
@@ -54,7 +53,7 @@ returns g c =
       refused = tt;
     })
     c.give_all.ensures.steady (hand-over-whole me l hs _ c.requires.whole.core)
-    (λ hands later. later-handed t later s me (λ m. no-load p me m can.may) _ refl l c.in-Some-load_of.row row (let own = can.own in grind (arith, nat_tests, row))
+    (λ hands later. later-handed t later s me (λ m. no-load p me m can.may) _ refl l c.unwrap-row.result row (let own = can.own in grind (arith, nat_tests, row))
     (λ q is. let o : Owner = Owner.Load l in let m = handed-mine p o [] hs can.named q is in ap (if_there (is_owned_by o) false) m.live ∙ ap (is_owner o) m.own ∙ owner-self o) (newer-falls hands.hands.1.falls)
     (closed-still (load_at t.loads) (load_at c.close.new.rows) l.0 c.close.ensures.gone c.close.ensures.others) refl)
     c.give_all.ensures.sheds

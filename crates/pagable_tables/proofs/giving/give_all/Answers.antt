@@ -20,8 +20,7 @@ pub loop-at-preserved : goal.loop-at-preserved
 loop-at-preserved g c =
     let i = c.loop-at.invariant in
     let x = c.in-Some.at.row in
-    let b = c.in-Some.ensures.between in
-    let next = c.shed.ensures.fewer in (
+    let b = c.in-Some.ensures.between in (
       c.shed.ensures.steady,
       omega arith,
       λ before u w loads f few between.

@@ -7,10 +7,9 @@ clear-requires c = sound-set c.args.handles.now _ c.args.at.place c.args.at.row 
 pub returns-clause-becomes : goal.returns-clause-becomes
 returns-clause-becomes c =
     let e = c.clear.ensures in
-    let places = c.args.handles.now.places.items in
     record {
       sound = e.sound;
-      rows = e.rows ∙ (at-place places c.args.at.place c.args.at.row c.requires.sound.ordered c.requires.place).0;
+      rows = e.rows ∙ (at-place c.args.handles.now.places.items c.args.at.place c.args.at.row c.requires.sound.ordered c.requires.place).0;
       capacity = e.capacity;
-      next = λ q next. e.next q (next-set q places c.args.at.place c.args.at.row _ c.requires.place refl next);
+      next = λ q next. e.next q (next-set q c.args.handles.now.places.items c.args.at.place c.args.at.row _ c.requires.place refl next);
     }

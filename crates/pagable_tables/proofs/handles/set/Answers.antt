@@ -3,11 +3,10 @@ use Rattle.pagable_tables.proofs.handles.set.Goals as goal
 
 pub returns-clause-becomes : goal.returns-clause-becomes
 returns-clause-becomes c =
-    let places = c.args.handles.now.places.items in
     let number = ap (λ (n : HandleNumber). n.0) c.requires.number in
     record {
       sound = sound-set c.args.handles.now _ c.args.at.place c.args.at.row _ c.requires.sound c.requires.place number refl (omega arith);
-      rows = (at-place places c.args.at.place c.args.at.row c.requires.sound.ordered c.requires.place).1 (λ _. c.args.row);
+      rows = (at-place c.args.handles.now.places.items c.args.at.place c.args.at.row c.requires.sound.ordered c.requires.place).1 (λ _. c.args.row);
       capacity = refl;
-      next = λ q next. next-set q places c.args.at.place c.args.at.row _ c.requires.place number next;
+      next = λ q next. next-set q c.args.handles.now.places.items c.args.at.place c.args.at.row _ c.requires.place number next;
     }

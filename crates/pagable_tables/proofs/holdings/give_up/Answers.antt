@@ -12,9 +12,6 @@ keyed-then : (c : Counts) (pinning listed : Bool) (n top : ℕ) (b : Bool) → i
     → nat_lt 0 c.key ≡ true
 keyed-then c pinning listed n top b is live none some = grind (arith, nat_tests)
 
-pub unreachable-requires : goal.unreachable-requires
-unreachable-requires c = grind (arith, nat_tests, row-le-live, held-here, c.requires.falling.1.fits.holding, c.counts_of.ensures, c.in_default.is, c.requires.place)
-
 pub returns : goal.returns
 returns c stack w =
     let x = c.args.at.row in
@@ -23,10 +20,10 @@ returns c stack w =
     let stays = c.args.stays in
     let gap : Holdings = record old { handles = c.leave.new.handles } in
     let mid = c.enlist_if-listed.new.t in
-    let counts = c.in-Some.counts in
+    let counts = c.unwrap-counts.result in
     let listed = c.enlist_if-listed.result in
     let e = c.enlist_if-listed.ensures.comes in
-    let is : counts_at old.nodes n ≡ Some counts = sym c.counts_of.ensures ∙ c.in-Some.is in
+    let is : counts_at old.nodes n ≡ Some counts = sym c.counts_of.ensures ∙ c.unwrap-counts.ensures in
     let left : c.counts_after-left.result ≡ after counts (is_pinning x.mode) stays listed old.top = grind (arith, nat_tests, c.counts_after-left.ensures) in
     let b = is_fallen_by counts (is_pinning x.mode) (counts.pins - one (is_pinning x.mode)) ((if stays then counts.holds else counts.holds - 1) + one listed) in
     let here : counts_at c.set_counts.new.nodes n ≡ Some (after counts (is_pinning x.mode) stays listed old.top) = c.set_counts.ensures.here ∙ ap Some left in

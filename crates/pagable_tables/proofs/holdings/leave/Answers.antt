@@ -1,4 +1,4 @@
-use Rattle.pagable_tables.proofs.{Words.{subst, unpinned, Becomes, arith}, Alive.{changed-known, row-le-live}}
+use Rattle.pagable_tables.proofs.{Words.{subst, unpinned, Becomes}, Alive.{changed-known, row-le-live}}
 use Rattle.pagable_tables.proofs.holdings.leave.Goals as goal
 
 pub returns-then-stays : goal.returns-then-stays
@@ -7,8 +7,3 @@ returns-then-stays c =
     let at = c.args.at in
     let changes = changed-known old.places.items at.place at.row c.requires.sound.ordered c.requires.place unpinned in
     rw c.if-stays.true (record { becomes = subst (λ rows. Becomes old rows c.set.new.handles) changes c.set.ensures.becomes; sums = c.set.ensures.sums; there = λ f. row-le-live f old.places.items at.place at.row c.requires.place })
-
-pub returns-else-stays : goal.returns-else-stays
-returns-else-stays c =
-    let at = c.args.at in
-    rw c.if-stays.false (record { becomes = c.kill.ensures.becomes; sums = λ f. let a = c.kill.ensures.sums f in omega arith; there = λ f. row-le-live f c.args.handles.now.places.items at.place at.row c.requires.place })

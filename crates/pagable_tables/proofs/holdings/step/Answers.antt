@@ -1,14 +1,11 @@
-use Rattle.pagable_tables.proofs.{Alive.{gives-sums, none-found, only-row}, Fitting.{fallen, fits-same, is_owned, taken-fits, taken-owned, taken-there, top-stands}, Next.{gives-fewer, gives-unlisted}}
-use Rattle.pagable_tables.proofs.Words.{ArcRef, Bool, CellsStay, Counts, GivesUp, HandleNumber, HandleRow, Holdings, IsFalling, List, NodeNumber, Option, Settles, Some, ValueStays, [], alive, ap}
-use Rattle.pagable_tables.proofs.Words.{append-nil, arith, cases_eq, cell_in, counts_at, entry, false, if◌then◌else◌, inl, inr, is_some, is_valued, length, live, nat_tests, one, owner_value, owns}
-use Rattle.pagable_tables.proofs.Words.{owns_nothing, refl, refs_at, slice_get, subst, sym, valued, ℕ, ◌&&◌, ◌++◌, ◌+◌, ◌==◌, ◌∙◌, ◌∷◌, ◌≡◌, ◌≢◌}
+use Rattle.pagable_tables.proofs.{Alive.{gives-sums, none-found, only-row}, Fitting.{done-fits, done-gone, fallen, fits-same, is_owned, taken-fits, taken-owned, taken-there, top-stands, top-there}}
+use Rattle.pagable_tables.proofs.{Next.{gives-fewer, gives-unlisted}, Words.{ArcRef, CellsStay, Counts, GivesUp, HandleNumber, HandleRow, Holdings, IsFalling, List, Option, Some, ValueStays, []}}
+use Rattle.pagable_tables.proofs.Words.{alive, ap, append-nil, arith, cases_eq, cell_in, counts_at, entry, false, if◌then◌else◌, inl, inr, is_some, is_valued, length, live, nat_tests, one}
+use Rattle.pagable_tables.proofs.Words.{owner_value, owns, owns_nothing, refl, refs_at, slice_get, subst, sym, ℕ, ◌&&◌, ◌++◌, ◌+◌, ◌==◌, ◌∙◌, ◌∷◌, ◌≡◌, ◌≢◌}
 use Rattle.pagable_tables.proofs.holdings.step.Goals as goal
 
 abbrev of_value : HandleRow → ℕ
 of_value h = one (is_valued h.owner)
-
-no-value : (listed : Bool) (k : ℕ) (m : NodeNumber) → (if listed then of_value (entry k m) else 0) ≡ 0
-no-value x0 k m = grind (arith, nat_tests)
 
 -- the first node that falls has this reference, which was taken
 module _ (t mid : Holdings) (ns : List ℕ) (p : ArcRef) (i : ℕ) (x : HandleRow) (w : IsFalling t (t.top ∷ ns) owns_nothing) (popped : refs_at t.nodes t.top ≡ refs_at mid.nodes t.top ++ p ∷ [])
@@ -48,10 +45,11 @@ untouched t mid stack w here others same =
     let refs : (m : ℕ) → refs_at mid.nodes m ≡ refs_at t.nodes m = λ m. grind (arith, nat_tests, cases_eq, append-nil) in
     record { sound = w.sound; next = w.next; fits = fits-same _ (counts_at mid.nodes) _ (refs_at mid.nodes) _ t.top stack w.fits same refs }
 
-pub settle-requires-clause-falling : goal.settle-requires-clause-falling
-settle-requires-clause-falling c =
+pub unwrap-counts-requires : goal.unwrap-counts-requires
+unwrap-counts-requires c =
     let e = c.in-None.ensures in
-    (c.requires.falling.0, untouched c.args.t.now (record c.args.t.now { nodes = c.pop_reference.new.nodes }) c.requires.falling.0 c.requires.falling.1 e.here e.others e.counts)
+    let mid : Holdings = record c.args.t.now { nodes = c.pop_reference.new.nodes } in
+    grind (arith, nat_tests, (top-there mid c.requires.falling.0 c.requires.some (untouched c.args.t.now mid c.requires.falling.0 c.requires.falling.1 e.here e.others e.counts)), c.counts_of.ensures)
 
 cells-through : (a b d : ℕ → Option Counts) → ((m : ℕ) → b m ≡ a m) → CellsStay b d → CellsStay a d
 cells-through a b d same stay m some = let s = stay m some in (sym (ap is_some (same m)) ∙ s.0, s.1 ∙ ap cell_in (same m))
@@ -61,14 +59,13 @@ returns-in-Some-look c stack w =
     let t = c.args.t.now in
     let s = top-stands t stack c.requires.some w in
     let e = c.in-Some.ensures in
-    let f = c.in-Some-look.ensures in
     let x = c.in-Some-look.at.row in
     let mid : Holdings = record t { nodes = c.pop_reference.new.nodes } in
-    let o = taken t mid s.0 c.in-Some.reference c.in-Some-look.at.place x s.2 e.here e.others e.counts f.place (ap (λ (n : HandleNumber). n.0) f.number) in
+    let o = taken t mid s.0 c.in-Some.reference c.in-Some-look.at.place x s.2 e.here e.others e.counts c.in-Some-look.ensures.place (ap (λ (n : HandleNumber). n.0) c.in-Some-look.ensures.number) in
     let g : GivesUp mid (t.top ∷ s.0) x false c.args.lists c.give_up.new.t = c.give_up.ensures (t.top ∷ s.0) o.1 in
     let v : of_value x ≡ 1 = ap (λ k. one (is_valued k)) o.0 in
     let l = gives-sums g of_value in
-    let z = no-value g.listed (t.last_handle + 1) x.node in
+    let z : (if g.listed then of_value (entry (t.last_handle + 1) x.node) else 0) ≡ 0 = grind (arith, nat_tests) in
     let n = ap length s.1 in
     record {
       rest = g.more;
@@ -87,16 +84,21 @@ returns-in-None c stack w =
     let t = c.args.t.now in
     let e = c.in-None.ensures in
     let mid : Holdings = record t { nodes = c.pop_reference.new.nodes } in
-    let g : Settles mid stack c.settle.new.t = c.settle.ensures stack (untouched t mid stack w e.here e.others e.counts) in
-    let v = ap valued (ap (λ (h : Holdings). live h.handles.places.items) g.same) in
+    let at = counts_at mid.nodes in
+    let new = counts_at c.land.new.nodes in
+    let l = c.land.ensures in
+    let s = top-stands mid stack c.requires.some (untouched t mid stack w e.here e.others e.counts) in
+    let is : at t.top ≡ Some c.unwrap-counts.result = sym c.counts_of.ensures ∙ c.unwrap-counts.ensures in
+    let shorter = ap length s.1 in
+    let done = done-fits at new (refs_at mid.nodes) (refs_at c.land.new.nodes) _ t.top s.0 c.unwrap-counts.result s.2.fits is l.here e.none l.others l.refs c.requires.some in
     record {
-      rest = g.rest;
-      falling = g.falling;
+      rest = s.0;
+      falling = record { sound = w.sound; next = w.next; fits = done };
       less = omega arith;
-      cells = cells-through (counts_at t.nodes) (counts_at mid.nodes) (counts_at c.settle.new.t.nodes) e.counts g.cells;
-      values = λ m ne. subst (λ o. ValueStays o (counts_at c.settle.new.t.nodes m)) (e.counts m) (g.values m (λ eq. ne (ap (λ k. Some (record { 0 = k })) (sym eq))));
-      gone = g.gone;
-      fewer = let a = ap (λ (h : Holdings). length (live h.handles.places.items)) g.same in omega arith;
-      unlisting = λ none. ap (λ (h : Holdings). h.list.items) g.same;
-      what = inl (refl, g.same);
+      cells = cells-through (counts_at t.nodes) at new e.counts (λ m some. grind (arith, nat_tests, cases_eq, is, l.here, l.others));
+      values = λ m ne. let other = l.others m (λ eq. ne (ap (λ k. Some (record { 0 = k })) (sym eq))) in subst (λ o. ValueStays o (new m)) (other ∙ e.counts m) (λ falls. (falls, refl));
+      gone = done-gone at new (refs_at mid.nodes) (refs_at c.land.new.nodes) _ t.top s.0 c.unwrap-counts.result s.2.fits is l.here e.none l.others l.refs c.requires.some;
+      fewer = omega arith;
+      unlisting = λ none. refl;
+      what = inl (refl, refl);
     }

@@ -24,11 +24,10 @@ returns-in-Ok-clause-ready c stored closed failures =
     let is : w.loads l.0 ≡ Some load = ap (option_map load_in) (sym c.load_of.ensures ∙ c.in-Some-load_of.is) in
     let node = c.in-Cell.field-0 in
     let h = c.in-Cell.handle in
-    let row = c.in-Ok.at.row in
     let cell : load.root ≡ of_cell node c.in-Cell.field-1 h = ap root_in c.in-Cell.is in
-    let begun = (c.requires.core.loads.roots l.0 load node c.in-Cell.field-1 h is cell).begun row c.in-Ok.ensures.found in
+    let begun = (c.requires.core.loads.roots l.0 load node c.in-Cell.field-1 h is cell).begun c.in-Ok.at.row c.in-Ok.ensures.found in
     let may = may-end w me l c.args.node_type c.args.references.now none load is node c.in-Cell.field-1 h cell in
-    let n = row.node.0 in
+    let n = c.in-Ok.at.row.node.0 in
     grind (arith, nat_tests, owner-same, c.in-Ok.ensures.number, c.in-Ok.ensures.found, c.in-Ok.ensures.owner, c.is_here.ensures, c.counts_of.ensures, c.requires.steady.fits.pinned)
 
 pub returns-in-Err-clause-unended : goal.returns-in-Err-clause-unended

@@ -1,17 +1,10 @@
-use Rattle.pagable_tables.proofs.Words.{◌≡◌, ◌≤◌, ◌&&◌, ℕ, not, Option, Some, Error, HandleNumber, Kind, Owner, Core, handle_fault, fits_mode, offer_fault, where_so, is_usable, spent, rank, arith, core_of}
+use Rattle.pagable_tables.proofs.Words.{◌≡◌, ℕ, Some, Error, HandleNumber, Kind, Owner, Core, handle_fault, fits_mode, offer_fault, arith, core_of}
 use Rattle.pagable_tables.proofs.Worlds.{failed, handle-first, kind-late, late, spent-late}
 use Rattle.pagable_tables.proofs.known.offered.Goals as goal
 
-module _ (w : Core) (me : Owner) (kind : Kind) (key : ℕ) (h : HandleNumber) where
-  abbrev last-fault : Option Error
-  last-fault = where_so (not w.closed && is_usable w kind key) (spent w.last.handle)
-
-  last-late : (f : Error) → last-fault ≡ Some f → 4 ≤ rank f
-  last-late = spent-late w.last.handle (not w.closed && is_usable w kind key)
-
-  -- a handle that can't be used is refused first
-  offer-first : (e : Error) → handle_fault w me h (fits_mode kind.0) ≡ Some e → offer_fault w me kind key h ≡ Some e
-  offer-first e is = search (arith, handle-first, late, kind-late, last-late)
+-- a handle that can't be used is refused first
+offer-first : (w : Core) (me : Owner) (kind : Kind) (key : ℕ) (h : HandleNumber) (e : Error) → handle_fault w me h (fits_mode kind.0) ≡ Some e → offer_fault w me kind key h ≡ Some e
+offer-first w me kind key h e is = search (arith, handle-first, late, kind-late, spent-late)
 
 pub returns-in_err-at-clause-fault : goal.returns-in_err-at-clause-fault
 returns-in_err-at-clause-fault c =

@@ -5,9 +5,8 @@ use Rattle.pagable_tables.proofs.listing.take_pending.Goals as goal
 
 pub unreachable-requires : goal.unreachable-requires
 unreachable-requires c =
-    let t = c.args.t.now.holdings in
     let listed = c.requires.whole.core.owners_there.listed c.remove-handle.result.0 in
-    entry-lives t.list.items t.handles.places.items c.args.place c.remove-handle.result (omega arith) c.remove-handle.ensures.value listed (search rules)
+    entry-lives c.args.t.now.holdings.list.items c.args.t.now.holdings.handles.places.items c.args.place c.remove-handle.result (omega arith) c.remove-handle.ensures.value listed (search rules)
 
 pub returns : goal.returns
 returns c =

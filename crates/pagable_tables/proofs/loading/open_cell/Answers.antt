@@ -4,8 +4,7 @@ use Rattle.pagable_tables.proofs.loading.open_cell.Goals as goal
 
 pub returns-in-Ok-clause-opened : goal.returns-in-Ok-clause-opened
 returns-in-Ok-clause-opened c stored closed failures =
-    let t = c.args.t.now in
-    let a = (c.in-Ok.ensures.made (core_of (record t { holdings = c.come.new.t; loads = c.open.new.rows; last_load = t.last_load + 1 }) stored closed failures)).made.1 in
+    let a = (c.in-Ok.ensures.made (core_of (record c.args.t.now { holdings = c.come.new.t; loads = c.open.new.rows; last_load = c.args.t.now.last_load + 1 }) stored closed failures)).made.1 in
     grind (arith, nat_tests, c.in_ok-open.ensures.here, c.in_ok-open.ensures.others)
 
 pub returns-in-Err-clause-refused : goal.returns-in-Err-clause-refused
@@ -13,9 +12,8 @@ returns-in-Err-clause-refused c = let why = (c.in-Err.ensures.made (plain_of c.a
 
 pub returns-in-Err-clause-stays : goal.returns-in-Err-clause-stays
 returns-in-Err-clause-stays c stored closed failures =
-    let t = c.args.t.now in
-    let l = t.last_load + 1 in
-    let a = (c.in-Err.ensures.made (core_of (record t { holdings = c.come.new.t; loads = c.close.new.rows }) stored closed failures)).refused.stays in
+    let l = c.args.t.now.last_load + 1 in
+    let a = (c.in-Err.ensures.made (core_of (record c.args.t.now { holdings = c.come.new.t; loads = c.close.new.rows }) stored closed failures)).refused.stays in
     grind (arith, nat_tests, none-yet, c.requires.whole.core.loads.numbered, c.in_ok-open.ensures.others, c.close.ensures.gone, c.close.ensures.others)
 
 pub returns-in-Ok-clause-later : goal.returns-in-Ok-clause-later

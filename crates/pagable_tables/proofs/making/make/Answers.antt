@@ -3,12 +3,11 @@ use Rattle.pagable_tables.proofs.making.make.Goals as goal
 
 pub come-requires-clause-live : goal.come-requires-clause-live
 come-requires-clause-live c =
-    let n = c.args.node.0 in
-    let d = c.requires.whole.steady.fits.holding n in
-    let e = held-some n (plain_of c.args.t.now).rows c.requires.suits.row c.requires.suits.there (ap (λ (k : NodeNumber). k.0) c.requires.suits.at) in
-    some-held (counts_at c.args.t.now.holdings.nodes n) (omega arith)
+    let d = c.requires.whole.steady.fits.holding c.args.node.0 in
+    let e = held-some c.args.node.0 (plain_of c.args.t.now).rows c.requires.suits.row c.requires.suits.there (ap (λ (k : NodeNumber). k.0) c.requires.suits.at) in
+    some-held (counts_at c.args.t.now.holdings.nodes c.args.node.0) (omega arith)
 
 pub returns-clause-does : goal.returns-clause-does
 returns-clause-does c =
     does-so (λ stored closed failures. c.come.ensures.made (core_of c.args.t.now stored closed failures)) c.come.ensures.steady
-    (makes-whole c.args.node c.args.mode c.args.owner c.come.result c.requires.whole.core c.requires.suits c.requires.holder) (makes-newer c.args.node c.args.mode c.args.owner c.come.result) refl refl
+    (makes-whole c.args.node c.args.mode c.args.me c.come.result c.requires.whole.core c.requires.suits c.requires.holder) (makes-newer c.args.node c.args.mode c.args.me c.come.result) refl refl

@@ -1,5 +1,5 @@
 use Rattle.pagable_tables.proofs.Words.{◌∙◌, ℕ, ap, subst, false, Some, None, Alike, with_mode, Mode, Tables, core_of, plain_of, arith}
-use Rattle.pagable_tables.proofs.{Doing.does-as, Kept.found-among, Newer.{found-again, pinned-alike}, Told.{loose-unshared, not-list}, Words.nat_tests, Worlds.failed}
+use Rattle.pagable_tables.proofs.{Doing.{does-as, does-then}, Kept.found-among, Newer.{found-again, pinned-alike}, Told.{loose-unshared, not-list}, Words.nat_tests, Worlds.failed}
 use Rattle.pagable_tables.proofs.pinning.pin_here.Goals as goal
 
 pub make-requires-clause-suits : goal.make-requires-clause-suits
@@ -27,18 +27,13 @@ turn-requires-clause-unlisted c =
 pub returns-clause-does : goal.returns-clause-does
 returns-clause-does c =
     let row = c.args.row in
-    let made = c.in_ok-handle.ensures.does in
-    let turns = c.turn.ensures.does in
     let numbered = c.requires.whole.core.handles.numbered row (found-among row.number.0 (plain_of c.args.t.now).rows row c.requires.owns.live).0 in
-    record {
-      does = λ stored closed failures.
-          (let m = made.does stored closed failures in
-          let cache = λ (u : Tables). (core_of u stored closed failures).cache in
-          let u = core_of c.make.new.t stored closed failures in
-          let w' = core_of c.turn.new.t stored closed failures in
-          let turned = subst (λ q. Alike (with_mode u q Mode.LoosePinned) w') c.in-Some.ensures.number (turns.does stored closed failures) in
-          let same = λ (kind key : ℕ). ap (λ (u : Tables). cache u kind key) c.turn.ensures.same ∙ ap (λ (u : Tables). cache u kind key) c.in_ok-handle.ensures.same in
-          record { pinned = (record { above = m.made.0.above; is_left = m.made.0.is_left }, pinned-alike (core_of c.args.t.now stored closed failures) u w' row.number row.node c.args.me numbered.1 same m.made.1 turned); refused = tt });
-      whole = turns.whole;
-      later = λ later. turns.later (made.later later);
-    }
+    does-then c.in_ok-handle.ensures.does c.turn.ensures.does
+    (λ stored closed failures m turns.
+    let cache = λ (u : Tables). (core_of u stored closed failures).cache in
+    let u = core_of c.make.new.t stored closed failures in
+    let w' = core_of c.turn.new.t stored closed failures in
+    let turned = subst (λ q. Alike (with_mode u q Mode.LoosePinned) w') c.in-Some.ensures.number turns in
+    let same = λ (kind key : ℕ). ap (λ (u : Tables). cache u kind key) c.turn.ensures.same ∙ ap (λ (u : Tables). cache u kind key) c.in_ok-handle.ensures.same in
+    let w = core_of c.args.t.now stored closed failures in
+    record { pinned = (record { above = m.made.0.above; is_left = m.made.0.is_left }, pinned-alike w u w' row.number row.node c.args.me numbered.1 same m.made.1 turned); refused = tt })

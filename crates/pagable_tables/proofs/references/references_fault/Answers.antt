@@ -8,7 +8,7 @@ pub loop-i-preserved : goal.loop-i-preserved
 loop-i-preserved c =
     let l = c.loop-i in
     let rs = c.args.references.now in
-    let named = l.invariant.same _ ∙ sym c.is_seen-is_seen.ensures in
+    let named = l.invariant.same _ ∙ sym c.is_named-is_seen.ensures in
     let none = λ (stored : ℕ → Option Blob) (closed : Bool) (failures : ℕ). sym (c.fault_of.ensures stored closed failures l.invariant.seen named) ∙ c.in_default.is in
     record {
       seen = (get_or rs l.i blank).handle.0 ∷ l.invariant.seen;
@@ -20,5 +20,5 @@ loop-i-preserved c =
 pub returns-in-Some : goal.returns-in-Some
 returns-in-Some c stored closed failures =
     let l = c.loop-i in
-    let fault = sym (c.fault_of.ensures stored closed failures l.invariant.seen (l.invariant.same _ ∙ sym c.is_seen-is_seen.ensures)) ∙ c.in-Some.is in
+    let fault = sym (c.fault_of.ensures stored closed failures l.invariant.seen (l.invariant.same _ ∙ sym c.is_named-is_seen.ensures)) ∙ c.in-Some.is in
     sym (l.invariant.rest stored closed failures ∙ fault-some (core_of c.args.t.now stored closed failures) c.args.me l.invariant.seen c.args.references.now l.i _ c.in-Some.e (omega arith) fault)

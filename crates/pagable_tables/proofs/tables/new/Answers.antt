@@ -1,9 +1,9 @@
-use Rattle.pagable_tables.proofs.Words.{worker_at, AreLater, ◌≡◌, ℕ, [], ap, refl, subst, arith, None, nat_eq, get, HandleRow, Among, nat_tests, Core, NodeRow, Tables, live, AreSound, counts_at}
-use Rattle.pagable_tables.{proofs.{Next.passes-none, Words.{IsFalling, cell_in, known_at, load_at, option_map, owns_nothing, plain_of}}, specs.Core.IsWhole}
+use Rattle.pagable_tables.proofs.Words.{worker_at, AreLater, ◌≡◌, ℕ, [], ap, refl, subst, arith, None, nat_eq, get, HandleRow, Among, nat_tests, NodeRow, Tables, live, AreSound, counts_at}
+use Rattle.pagable_tables.{proofs.{Next.passes-none, Words.{IsFalling, known_at, load_at, option_map, owns_nothing}}, specs.Core.IsWhole}
 use Rattle.pagable_tables.proofs.tables.new.Goals as goal
 
 -- tables of nothing are whole
-module _ (t : Tables) (sound : AreSound t.holdings.handles) (rows : t.holdings.handles.places.items ≡ []) (found : (n : ℕ) → get nat_eq t.holdings.nodes n ≡ None) (list : t.holdings.list.items ≡ [])
+module _ (t : Tables) (dead : t.holdings.handles.dead ≡ 0) (rows : t.holdings.handles.places.items ≡ []) (found : (n : ℕ) → get nat_eq t.holdings.nodes n ≡ None) (list : t.holdings.list.items ≡ [])
     (cache : (kind key : ℕ) → known_at t.cache kind key ≡ None) (loads : (l : ℕ) → load_at t.loads l ≡ None) (workers : (v : ℕ) → worker_at t.workers v ≡ None)
     (last : (t.holdings.top ≡ 0) × (t.holdings.last_handle ≡ 0) × (t.last_node ≡ 0) × (t.last_load ≡ 0)) where
   none : (n : ℕ) → counts_at t.holdings.nodes n ≡ None
@@ -12,26 +12,25 @@ module _ (t : Tables) (sound : AreSound t.holdings.handles) (rows : t.holdings.h
   empty : live t.holdings.handles.places.items ≡ []
   empty = ap live rows
 
+  sound : AreSound t.holdings.handles
+  sound = grind (arith, nat_tests, empty)
+
   steady : IsFalling t.holdings [] owns_nothing
-  steady = grind (arith, nat_tests, none, empty)
+  steady = grind (arith, nat_tests, none, empty, sound)
 
-  abbrev w : Core
-  w = plain_of t
-
-  nobody : (h : HandleRow) → Among w.rows h → ⊥
+  nobody : (h : HandleRow) → Among (live t.holdings.handles.places.items) h → ⊥
   nobody h among = let a = subst (λ rs. Among rs h) empty among in absurd (cc)
 
-  no-cell : (n : ℕ) → w.cells n ≡ None
-  no-cell n = ap cell_in (none n)
-
   nothing-whole : IsWhole t
-  nothing-whole = grind (arith, nat_tests, steady, empty, nobody, none, no-cell)
+  nothing-whole = grind (arith, nat_tests, steady, empty, nobody, none)
 
 nothing-later : (t : Tables) → live t.holdings.handles.places.items ≡ [] → ((l : ℕ) → load_at t.loads l ≡ None) → ((v : ℕ) → worker_at t.workers v ≡ None) → AreLater t
 nothing-later t none loads workers = grind (arith, nat_tests, passes-none)
 
 pub returns-clause-later : goal.returns-clause-later
-returns-clause-later c = nothing-later _ (ap live c.empty.ensures.places) (λ l. rw c.new-4.ensures.empty refl) (λ v. rw c.new-5.ensures.empty refl)
+returns-clause-later c = nothing-later _ (ap live c.new.ensures.items) (λ l. rw c.new-5.ensures.empty refl) (λ v. rw c.new-6.ensures.empty refl)
 
 pub returns-clause-whole : goal.returns-clause-whole
-returns-clause-whole c = nothing-whole _ c.empty.ensures.sound c.empty.ensures.places (λ n. rw c.new.ensures.empty refl) c.new-2.ensures.items (λ kind key. rw c.new-3.ensures.empty refl) (λ l. rw c.new-4.ensures.empty refl) (λ v. rw c.new-5.ensures.empty refl) (refl, refl, refl, refl)
+returns-clause-whole c =
+    nothing-whole _ refl c.new.ensures.items (λ n. rw c.new-2.ensures.empty refl) c.new-3.ensures.items (λ kind key. rw c.new-4.ensures.empty refl) (λ l. rw c.new-5.ensures.empty refl)
+    (λ v. rw c.new-6.ensures.empty refl) (refl, refl, refl, refl)

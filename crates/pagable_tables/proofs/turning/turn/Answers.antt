@@ -10,7 +10,8 @@ returns-clause-does c =
     let w = c.requires.whole in
     let is : counts_at t.nodes x.node.0 ≡ Some y = sym c.counts_of.ensures ∙ c.unwrap-counts.ensures in
     let e = c.set_counts.ensures in
-    let here = e.here ∙ ap (λ (k : Counts). Some (record k { holds = y.holds })) (c.counts_more.ensures ∙ ap (λ p. record y { pins = y.pins + one (not p); holds = y.holds + 1 }) c.pins.ensures) in
+    let here = e.here ∙ ap (λ (k : Counts). Some (record k { holds = y.holds })) (c.counts_more-pinned.ensures
+    ∙ ap (λ p. record y { pins = y.pins + one (not p); holds = y.holds + 1 }) c.pins.ensures) in
     does-so
     (λ stored closed failures. alike _ _ (c.set.ensures.becomes.rows ∙ changed-known t.handles.places.items c.args.at.place x w.steady.sound.ordered c.requires.place turned)
     (turn-cells _ _ _ _ _ (live c.set.new.handles.places.items) _ x y w.steady.fits is c.set.ensures.sums here e.others e.refs) (record { handles = omega arith; entries = omega arith }) refl)

@@ -1,10 +1,9 @@
-use Rattle.pagable_tables.proofs.Words.{◌≡◌, ◌∙◌, ap, arith, nat_tests, filter, not, rules, nat_eq, Option, Some, None, refl, is_owner, owner_worker, LoadRow, left_load}
+use Rattle.pagable_tables.proofs.Words.{◌≡◌, ◌∙◌, ap, arith, nat_tests, filter, not, rules, nat_eq, Option, is_owner, owner_worker, LoadRow, left_load}
 use Rattle.{std.{proofs.lemmas.{Cmp.nat_eq_equiv, Map.Entries.{option_filter, lookup-filter-values}}, specs.Map.lookup}, indexmap.proofs.CallerLemmas.filter-RetainsPairs}
 use Rattle.pagable_tables.proofs.workers.close_loads.Goals as goal
 
 filtered : (v : _) (row : Option LoadRow) → option_filter (λ (row : LoadRow). not (is_owner (owner_worker v) row.owner)) row ≡ left_load v row
-filtered v None = refl
-filtered v (Some row) = grind (arith, nat_tests)
+filtered v row = grind (arith, nat_tests)
 
 pub returns : goal.returns
 returns c l =

@@ -5,7 +5,6 @@ use Rattle.pagable_tables.proofs.workers.release_node.Goals as goal
 pub returns : goal.returns
 returns g c =
     let t = c.args.t.now in
-    let is = c.requires.whole.core in
     sheds-so
     (λ stored closed failures e.
     let w = core_of t stored closed failures in
@@ -14,9 +13,9 @@ returns g c =
       falls = c.give_all.ensures.falls w w w (λ l. refl) (begun-whole t stored closed c.args.lists failures c.requires.whole e) (omega arith)
           (λ q gives. (
             subst (λ r. InReach r q) (sym c.reach_of-reach.ensures) (c.requires.later.reach c.args.worker.0 q (grind (arith, nat_tests, and-left))),
-            (passes-given (gives_row w (Giving.AtNode c.args.worker c.args.node)) (plain_of t) q is.handles gives).1,
+            (passes-given (gives_row w (Giving.AtNode c.args.worker c.args.node)) (plain_of t) q c.requires.whole.core.handles gives).1,
           ));
     })
     c.give_all.ensures.steady
-    (λ falls. falls-opened (roomy-whole is) (stays-on (plain_of t)) falls.falls)
+    (λ falls. falls-opened (roomy-whole c.requires.whole.core) (stays-on (plain_of t)) falls.falls)
     (λ falls. newer-falls falls.falls) refl refl c.give_all.ensures.sheds

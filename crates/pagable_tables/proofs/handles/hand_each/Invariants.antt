@@ -1,0 +1,5 @@
+use Rattle.pagable_tables.{proofs.Words.{take, moved, is_in, numbers_of, live}, specs.Becoming.Becomes}
+use Rattle.pagable_tables.proofs.handles.hand_each.Given as goal
+
+abbrev pub invariant-loop-handle : goal.invariant-loop-handle
+invariant-loop-handle l = Becomes l.fn.handles (moved (is_in (numbers_of (take l.handle-index l.named))) l.owner (live l.fn.handles.places.items)) l.handles
