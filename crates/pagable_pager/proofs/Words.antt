@@ -8,11 +8,11 @@ pub use Rattle.pagable_pager.specs.{Made.TakesEntry, View.{PutsIn, with_value, P
 pub use Rattle.{pagable_pager.specs.View.{is_at_work, FewerValues, OnlyTables, SameValues, telling}, pagable_steps.proofs.{Births.{born, lazily, born-away}, Falling.{adopted_known, closed}}}
 pub use Rattle.pagable_steps.proofs.{Falling.{end_refused, dropped, handed_over, offered, released, worker_released, scheduled, key_set, unpinned, worker_ended}, Births.installed_away}
 pub use Rattle.pagable_steps.proofs.{Births.installed_there, Owning.{pinned-here, stayed, Leaves, Spares, spared, spares-alike, clones, loosens, pins-it, known-here, with-worker}}
-pub use Rattle.{pagable_steps.proofs.Owning.{starts-listed, clears, recalls, reserves, stores, takes, asks, begins, begins-key}, pagable_tables.proofs.Adoptions.{adopts-new, early-past}}
-pub use Rattle.pagable_tables.proofs.{Adoptions.{refused-memory, refused-new}, Entries.no-entries, Installed.{installs-wider, may-wider, not-so, so-then}, Opened.{earlier-first, told-later}}
-pub use Rattle.pagable_tables.proofs.{Readied.{room-alike, room-fault, fault-by, next-past, born-past, adopted-past}, Stays.eager-pins, Worlds.still, keeps.CacheCalls.{clear-whole, recall-whole}}
-pub use Rattle.pagable_tables.proofs.keeps.{CacheCalls.reserve-whole, HandleCalls.{clone-whole, loosen-whole, pin-whole}, ListCalls.take-whole, LoadCalls.{begin-whole, begin-key-whole}}
-pub use Rattle.pagable_tables.{proofs.keeps.{Placed.placed, Told.{told-whole, settles, alike-whole, roomy-whole}, WorkerCalls.worker-whole}, specs.{Asking.AsksKnown, Bearing.OnlyRoom}}
+pub use Rattle.{pagable_steps.proofs.Owning.{asks, begins, begins-key, clears, recalls, reserves, starts-listed, stores, takes}, pagable_tables.proofs.{Alive.{not-so, placed}, Calls.begin-key-whole}}
+pub use Rattle.pagable_tables.proofs.{Calls.{begin-whole, clear-whole, recall-whole, reserve-whole, take-whole, worker-whole}, Fitting.no-entries, Installed.{installs-wider, may-wider, so-then}}
+pub use Rattle.pagable_tables.proofs.{Newer.eager-pins, Told.{alike-whole, clone-whole, loosen-whole, pin-whole, roomy-whole, settles, told-whole}, Worlds.{adopted-past, adopts-new, born-past}}
+pub use Rattle.pagable_tables.{proofs.Worlds.{earlier-first, early-past, fault-by, next-past, refused-memory, refused-new, room-alike, room-fault, still, told-later}, specs.Asking.AsksKnown}
+pub use Rattle.pagable_tables.specs.Bearing.{OnlyRoom}
 pub use Rattle.pagable_tables.specs.{Bearing.Bears, ByNumber.{counts_at, load_at, known_at}, Core.{IsWhole, core_of, plain_of, load_in, ArePlaced, MayHold}, Falling.{Sheds, cell_in, pins_in}}
 pub use Rattle.pagable_tables.specs.{Falling.{has_value, AreKept, key_in}, Giving.{BeginsWorker, TakesWorker}, Later.AreLater, Ready.{IsReady, IsVain, ShedsBeside, Unends, has_come}}
 pub use Rattle.{pagable_tables.specs.declared.{installing.Ending.Ending, rows.Counts.Counts, tables.Tables.Tables}, pagable_world.specs.{Access.{Told, Called}, Calls.{BirthCall, AwayBirthCall}}}

@@ -1,10 +1,113 @@
--- The live rows after a place changes, and how halving finds one.
-use Rattle.pagable_tables.proofs.Words.{◌≡◌, ℕ, ◌+◌, ◌<◌, ◌≤◌, ◌==◌, true, false, if◌then◌else◌, List, [], ◌∷◌, ◌++◌, length, get_or, set, suc, zero, sum_by, filter, refl, ap, sym, subst, ◌∙◌, arith}
-use Rattle.pagable_tables.proofs.Words.{Some, None, slice_get, nat_tests, sum_by-cons, All-set, ◌⊎◌, cases_eq, get_or_default, get_or_from_slice_get, slice_get_within, sum_by-set, sum_by-le-sum_by}
-use Rattle.pagable_tables.proofs.Words.{HandleRow, one, changed, find_row, is_handle, left_rows, IsNext, live, alive, is_live_place, IsBefore, Place, AreSound, Handles, All-push, all_pairs_push}
-use Rattle.pagable_tables.proofs.{Words.{length-append, slice_get-get_or, AllPairs, times, take, get_or-set_other, length-set, get_or-set_at, drop, ◌≢◌, map-append, filter-append}, Left.left-none}
-use Rattle.pagable_tables.proofs.Left.{ones}
-use Rattle.std.proofs.lemmas.List.{get_or-take, get_or-drop, length-take-le, length-drop, set_split, set-get_or}
+-- Truth values, and what they count.
+use Rattle.pagable_tables.proofs.Words.{All-push, All-set, AllPairs, AreNewEntries, ArePlaced, AreSound, Bool, GivesUp, HandleNumber, HandleRow, Handles, Holdings, IsBefore, IsFalling, IsNext, Leaves}
+use Rattle.pagable_tables.proofs.Words.{List, Mode, NodeNumber, None, Option, Owner, Place, Some, Tables, [], alive, all_pairs_push, ap, append-nil, arith, cases_eq, changed, entries_of, entry, false}
+use Rattle.pagable_tables.proofs.Words.{filter, find_row, get_or, get_or-set_at, get_or-set_other, get_or_default, get_or_from_slice_get, if_there, if◌then◌else◌, is_handle, is_live_place}
+use Rattle.pagable_tables.proofs.Words.{is_owned_by, is_owner, left_rows, length, length-append, length-set, live, nat_tests, not, one, only_handle, owns_nothing, plain_of, refl, set, slice_get}
+use Rattle.pagable_tables.proofs.Words.{slice_get-get_or, slice_get_within, subst, suc, sum_by, sum_by-append, sum_by-cons, sum_by-le-sum_by, sum_by-set, sum_by_push, sym, take, times, true, unpinned}
+use Rattle.{pagable_tables.{proofs.Words.{zero, ℕ, ◌&&◌, ◌++◌, ◌+◌, ◌<◌, ◌==◌, ◌||◌, ◌∙◌, ◌∷◌, ◌≡◌, ◌≢◌, ◌≤◌, ◌⊎◌}, specs.Core.IsWhole}, std.proofs.lemmas.List.{get_or-take, length-take-le}}
+use Rattle.pagable_world.specs.Pager as pager
+
+pub and-left : (a b : Bool) → (a && b) ≡ true → a ≡ true
+and-left a b e = grind (arith, nat_tests)
+
+pub one-le : (b : Bool) → one b ≤ 1
+one-le b = grind (arith, nat_tests)
+
+pub not-so : (b : Bool) → not b ≡ true → b ≡ false
+not-so b e = grind (arith, nat_tests)
+
+-- what passes a test is there
+pub there-is : {X : Type 0} (test : X → Bool) (o : Option X) → if_there test false o ≡ true → (x : X) × (o ≡ Some x) × (test x ≡ true)
+there-is test (Some x) is = (x, refl, is)
+there-is test None is = absurd (cc)
+
+-- ---- rows that are left when a set of handles goes, counted and listed, and handles that leave
+
+-- a sum is at most two others where each of its parts is
+pub sum-most : {X : Type 0} (f g h : X → ℕ) (xs : List X) → ((x : X) → f x ≤ g x + h x) → sum_by f xs ≤ sum_by g xs + sum_by h xs
+sum-most f g h [] le = omega arith
+sum-most f g h (x ∷ xs) le = omega (arith, le x, sum_by-cons f x xs, sum_by-cons g x xs, sum_by-cons h x xs, sum-most f g h xs le)
+
+-- one handle more is in the set
+abbrev pub and_one : (ℕ → Bool) → ℕ → ℕ → Bool
+and_one gone q r = gone r || r == q
+
+-- what is counted of the left is counted of all that aren't in the set
+pub times-left : (f : HandleRow → Bool) (gone : ℕ → Bool) (rows : List HandleRow) → times f (left_rows gone rows) ≡ times (λ h. f h && not (gone h.number.0)) rows
+times-left f gone [] = refl
+times-left f gone (x ∷ xs) =
+    grind (arith, nat_tests, times-left f gone xs, sum_by-cons (λ h. one (f h && not (gone h.number.0))) x xs, sum_by-cons (λ h. one (f h)) x (left_rows gone xs))
+
+-- one handle more goes
+pub left-more : (gone : ℕ → Bool) (q : ℕ) (rows : List HandleRow) → left_rows (λ r. r == q) (left_rows gone rows) ≡ left_rows (and_one gone q) rows
+left-more gone q [] = refl
+left-more gone q (x ∷ xs) = grind (arith, nat_tests, left-more gone q xs)
+
+-- a handle that isn't there can go
+pub left-none : (q : ℕ) (rows : List HandleRow) → times (is_handle q) rows ≡ 0 → left_rows (λ r. r == q) rows ≡ rows
+left-none q [] none = refl
+left-none q (x ∷ xs) none =
+    let a = sum_by-cons (λ h. one (is_handle q h)) x xs in let rest = left-none q xs (omega arith) in grind (arith, nat_tests)
+
+-- rows are as many as a sum of ones
+pub ones : (rows : List HandleRow) → sum_by (λ (h : HandleRow). 1) rows ≡ length rows
+ones [] = refl
+ones (x ∷ xs) = let a = sum_by-cons (λ (h : HandleRow). 1) x xs in let b = ones xs in omega arith
+
+-- nothing has gone
+pub all-kept : {X : Type 0} (list : List X) → filter (λ (x : X). true) list ≡ list
+all-kept [] = refl
+all-kept (x ∷ xs) = ap (λ r. x ∷ r) (all-kept xs)
+
+-- nor is it in the list
+pub kept-more : (gone : ℕ → Bool) (q : ℕ) (list : List HandleNumber) → times (λ (h : HandleNumber). h.0 == q) list ≡ 0
+    → filter (λ (h : HandleNumber). not (and_one gone q h.0)) list ≡ filter (λ (h : HandleNumber). not (gone h.0)) list
+kept-more gone q [] none = refl
+kept-more gone q (x ∷ xs) none =
+    let a = sum_by-cons (λ (h : HandleNumber). one (h.0 == q)) x xs in let rest = kept-more gone q xs (omega arith) in grind (arith, nat_tests)
+
+-- new entries pin nothing, and only the list owns them
+pub entries-none : (f : HandleRow → Bool) → ((h : HandleRow) → h.mode ≡ Mode.LooseUnpinned → h.owner ≡ Owner.List → f h ≡ false) → (last : ℕ) (entries : List HandleRow)
+    → AreNewEntries last entries → times f entries ≡ 0
+entries-none f none last [] e = refl
+entries-none f none last (x ∷ xs) e = grind (arith, nat_tests, entries-none f none (last + 1) xs e.3)
+
+pub entries-more : (last : ℕ) (entries : List HandleRow) (x : HandleRow) → AreNewEntries last entries → x.number.0 ≡ last + length entries + 1 → x.mode ≡ Mode.LooseUnpinned
+    → x.owner ≡ Owner.List → AreNewEntries last (entries ++ x ∷ [])
+entries-more last [] x e number mode owner = (omega arith, mode, owner, tt)
+entries-more last (y ∷ ys) x e number mode owner = (e.0, e.1, e.2, entries-more (last + 1) ys x e.3 (omega arith) mode owner)
+
+pub with-entry : (f : HandleRow → ℕ) (rows : List HandleRow) (listed : Bool) (k : ℕ) (node : NodeNumber)
+    → sum_by f (rows ++ entries_of listed k node) ≡ sum_by f rows + (if listed then f (entry k node) else 0)
+with-entry f rows x2 k node = grind (arith, nat_tests, sum_by_push, append-nil)
+
+pub gives-sums : {old new : Holdings} {stack : List ℕ} {x : HandleRow} {stays lists : Bool} (g : GivesUp old stack x stays lists new) (f : HandleRow → ℕ) → sum_by f (live new.handles.places.items) + f x
+    ≡ sum_by f (live old.handles.places.items) + (if stays then f (unpinned x) else 0) + (if g.listed then f (entry (old.last_handle + 1) x.node) else 0)
+gives-sums {old} {new} {x = x} g f = grind (arith, nat_tests, with-entry)
+
+abbrev pub of_list : ℕ → HandleRow → Bool
+of_list q h = is_handle q h && is_owned_by Owner.List h
+
+abbrev of_other : ℕ → HandleRow → Bool
+of_other q h = is_handle q h && not (is_owned_by Owner.List h)
+
+none-but : (p : HandleRow → Bool) (q : ℕ) (rows : List HandleRow) → times (λ h. (is_handle q h && p h) && not (h.number.0 == q)) rows ≡ 0
+none-but p q [] = refl
+none-but p q (x ∷ xs) = grind (arith, nat_tests, none-but p q xs)
+
+pub none-listed : {old new : Handles} {x : HandleRow} → Leaves old x false new → is_owned_by Owner.List x ≡ false → times (of_list x.number.0) (live old.places.items) ≡ 0
+none-listed {old} {x = x} leaves owner =
+    let rows = ap (times (of_list x.number.0)) leaves.becomes.rows in
+    let left = times-left (of_list x.number.0) (only_handle x.number) (live old.places.items) in
+    grind (arith, nat_tests, leaves.sums (λ h. one (of_list x.number.0 h)), none-but (is_owned_by Owner.List) x.number.0 (live old.places.items))
+
+pub none-entered : (q last : ℕ) (rows left entries : List HandleRow) → rows ≡ left ++ entries → AreNewEntries last entries → times (of_list q) rows ≡ 0 → times (is_handle q) entries ≡ 0
+none-entered q last rows left entries is new none =
+    let e = entries-none (of_other q) (λ h mode owner. let l : is_owned_by Owner.List h ≡ true = ap (is_owner Owner.List) owner in grind (arith, nat_tests)) last entries new in
+    let most = sum-most (λ h. one (is_handle q h)) (λ h. one (of_list q h)) (λ h. one (of_other q h)) entries (λ h. grind (arith, nat_tests)) in
+    omega (arith, ap (times (of_list q)) is, sum_by-append (λ h. one (of_list q h)) left entries)
+
+-- ---- the live rows after a place changes, and how halving finds one
 
 -- the rows but for one number
 abbrev without : ℕ → List HandleRow → List HandleRow
@@ -42,12 +145,9 @@ pub sum-live : (f : HandleRow → ℕ) (ss : List Place) → sum_by f (live ss) 
 sum-live f [] = refl
 sum-live f (s ∷ ss) = grind (arith, nat_tests, sum-live f ss, sum_by-cons (weigh f) s ss, sum_by-cons f s.row (live ss))
 
-live-append : (xs ys : List Place) → live (xs ++ ys) ≡ live xs ++ live ys
+pub live-append : (xs ys : List Place) → live (xs ++ ys) ≡ live xs ++ live ys
 live-append [] ys = refl
 live-append (s ∷ xs) ys = grind (arith, nat_tests, live-append xs ys)
-
-pub live-push : (ss : List Place) (row : HandleRow) → live (ss ++ alive row ∷ []) ≡ live ss ++ row ∷ []
-live-push ss row = live-append ss (alive row ∷ [])
 
 -- no place has the number
 none-of : (q : ℕ) (ss : List Place) → ((k : ℕ) (d : Place) → k < length ss → (get_or ss k d).row.number.0 ≢ q) → times (is_handle q) (live ss) ≡ 0
@@ -59,68 +159,30 @@ changed-none : (q : ℕ) (f : HandleRow → HandleRow) (xs : List HandleRow) →
 changed-none q f [] none = refl
 changed-none q f (x ∷ xs) none = let a = sum_by-cons (λ h. one (is_handle q h)) x xs in grind (arith, nat_tests, changed-none q f xs)
 
-changed-one : (q : ℕ) (f : HandleRow → HandleRow) (xs ys : List HandleRow) (x : HandleRow) → x.number.0 ≡ q → times (is_handle q) xs ≡ 0 → times (is_handle q) ys ≡ 0
-    → changed (is_handle q) f (xs ++ x ∷ ys) ≡ xs ++ f x ∷ ys
-changed-one q f xs ys x here below above = grind (arith, nat_tests, map-append, changed-none q f xs, changed-none q f ys)
-
-left-one : (q : ℕ) (xs ys : List HandleRow) (x : HandleRow) → x.number.0 ≡ q → times (is_handle q) xs ≡ 0 → times (is_handle q) ys ≡ 0 → without q (xs ++ x ∷ ys) ≡ xs ++ ys
-left-one q xs ys x here below above = grind (arith, nat_tests, filter-append, left-none q xs, left-none q ys)
-
-find-one : (q : ℕ) (xs ys : List HandleRow) (x : HandleRow) → x.number.0 ≡ q → times (is_handle q) xs ≡ 0 → find_row q (xs ++ x ∷ ys) ≡ Some x
+-- A live place has the one row of its number: it is left out where the place is killed, changed where what is done to rows of the number is done to it, and found.
+pub at-place : (ss : List Place) (i : ℕ) (row : HandleRow) → AllPairs IsBefore ss → slice_get ss i ≡ Some (alive row)
+    → (live (set ss i (record { row = row; is_live = false })) ≡ without row.number.0 (live ss))
+    × ((f : HandleRow → HandleRow) → live (set ss i (alive (f row))) ≡ changed (is_handle row.number.0) f (live ss)) × (find_row row.number.0 (live ss) ≡ Some row)
 unfolding find_row
-find-one q [] ys x here below = grind (arith, nat_tests)
-find-one q (y ∷ xs) ys x here below = let a = sum_by-cons (λ h. one (is_handle q h)) y xs in grind (arith, nat_tests, find-one q xs ys x)
+at-place [] i row ordered at = absurd (cc)
+at-place (s ∷ ss) zero row ordered at =
+    let same : s ≡ alive row = cc in
+    let lives : s.is_live ≡ true = ap (λ (p : Place). p.is_live) same in
+    let is : s.row ≡ row = ap (λ (p : Place). p.row) same in
+    let number : s.row.number.0 ≡ row.number.0 = ap (λ (p : Place). p.row.number.0) same in
+    let none : times (is_handle row.number.0) (live ss) ≡ 0 = none-of row.number.0 ss (λ k d lt e. let o = ordered 0 (suc k) d (omega arith) (omega arith) in omega arith) in
+    (grind (arith, nat_tests, left-none), λ f. grind (arith, nat_tests, changed-none), grind (arith, nat_tests))
+at-place (s ∷ ss) (suc i) row ordered at =
+    let (kill, change, find) = at-place ss i row (λ j k d less lt. ordered (suc j) (suc k) d (omega arith) (omega arith)) at in
+    let lt = slice_get_within ss i (alive row) at in
+    let is = ap (λ (p : Place). p.row.number.0) (get_or_from_slice_get ss i (alive row) (alive row) at) in
+    let less = ordered 0 (suc i) (alive row) (omega arith) (omega arith) in
+    let other : (s.row.number.0 == row.number.0) ≡ false = grind (arith, nat_tests) in
+    (grind (arith, nat_tests), λ f. grind (arith, nat_tests, change f), grind (arith, nat_tests))
 
-module _ (ss : List Place) (i : ℕ) (row : HandleRow) (ordered : AllPairs IsBefore ss) (at : slice_get ss i ≡ Some (alive row)) where
-  abbrev before : List HandleRow
-  before = live (take i ss)
-
-  abbrev behind : List HandleRow
-  behind = live (drop (suc i) ss)
-
-  lt : i < length ss
-  lt = slice_get_within ss i (alive row) at
-
-  got : (d : Place) → get_or ss i d ≡ alive row
-  got d = get_or_from_slice_get ss i (alive row) d at
-
-  put : (new : Place) → live (set ss i new) ≡ before ++ (if new.is_live then new.row ∷ behind else behind)
-  put new = ap live (set_split ss i new lt) ∙ live-append (take i ss) (new ∷ drop (suc i) ss)
-
-  stands : live ss ≡ before ++ row ∷ behind
-  stands = ap live (sym (ap (set ss i) (sym (got (alive row))) ∙ set-get_or ss i (alive row))) ∙ put (alive row)
-
-  below : times (is_handle row.number.0) before ≡ 0
-  below = none-of row.number.0 (take i ss) λ k d within e.
-      let l = lt in
-      let n = length-take-le i ss (omega arith) in
-      let a = ap (λ (p : Place). p.row.number.0) (get_or-take i ss k d (omega arith)) in
-      let b = ap (λ (p : Place). p.row.number.0) (got d) in
-      grind (arith, nat_tests)
-
-  above : times (is_handle row.number.0) behind ≡ 0
-  above = none-of row.number.0 (drop (suc i) ss) λ k d within e.
-      let n = length-drop (suc i) ss in
-      omega (arith, ap (λ (p : Place). p.row.number.0) (get_or-drop (suc i) ss k d), ap (λ (p : Place). p.row.number.0) (got d), ordered i (suc i + k) d (omega arith) (omega arith))
-
-  -- a place that is killed
-  pub live-kill : live (set ss i (record { row = row; is_live = false })) ≡ without row.number.0 (live ss)
-  live-kill = put (record { row = row; is_live = false }) ∙ sym (ap (without row.number.0) stands ∙ left-one row.number.0 before behind row refl below above)
-
-  -- a number is one row's, so what is done to rows of the number is done to that row
-  changed-live : (f : HandleRow → HandleRow) → changed (is_handle row.number.0) f (live ss) ≡ before ++ f row ∷ behind
-  changed-live f = ap (changed (is_handle row.number.0) f) stands ∙ changed-one row.number.0 f before behind row refl below above
-
-  -- a row that is replaced
-  pub live-set : (new : HandleRow) → live (set ss i (alive new)) ≡ changed (is_handle row.number.0) (λ _. new) (live ss)
-  live-set new = put (alive new) ∙ sym (changed-live (λ _. new))
-
-  pub changed-known : (f : HandleRow → HandleRow) → changed (is_handle row.number.0) (λ _. f row) (live ss) ≡ changed (is_handle row.number.0) f (live ss)
-  changed-known f = changed-live (λ _. f row) ∙ sym (changed-live f)
-
-  -- the row at a live place is the one of its number
-  pub row-live : find_row row.number.0 (live ss) ≡ Some row
-  row-live = ap (find_row row.number.0) stands ∙ find-one row.number.0 before behind row refl below
+pub changed-known : (ss : List Place) (i : ℕ) (row : HandleRow) → AllPairs IsBefore ss → slice_get ss i ≡ Some (alive row) → (f : HandleRow → HandleRow)
+    → changed (is_handle row.number.0) (λ _. f row) (live ss) ≡ changed (is_handle row.number.0) f (live ss)
+changed-known ss i row ordered at f = let p = at-place ss i row ordered at in sym (p.1 (λ _. f row)) ∙ p.1 f
 
 -- sums after a place changes
 pub sum-live-set : (f : HandleRow → ℕ) (ss : List Place) (i : ℕ) (row : HandleRow) (new : Place) → slice_get ss i ≡ Some (alive row)
@@ -143,7 +205,8 @@ none-live q [] h = refl
 none-live q (s ∷ ss) h = let a = h 0 s (omega arith) in grind (arith, nat_tests, none-live q ss (λ k d lt e. h (suc k) d (omega arith) e))
 
 pub row-got : (ss : List Place) (i : ℕ) (p : Place) (q : ℕ) → AllPairs IsBefore ss → slice_get ss i ≡ Some p → p.is_live ≡ true → p.row.number.0 ≡ q → find_row q (live ss) ≡ Some p.row
-row-got ss i p q ordered at is number = subst (λ n. find_row n (live ss) ≡ Some p.row) number (row-live ss i p.row ordered (at ∙ ap (λ b. Some (record { row = p.row; is_live = b })) is))
+row-got ss i p q ordered at is number =
+    subst (λ n. find_row n (live ss) ≡ Some p.row) number (at-place ss i p.row ordered (at ∙ ap (λ b. Some (record { row = p.row; is_live = b })) is)).2
 
 -- each place's number is below q still, after a place of it changes
 pub next-set : (q : ℕ) (ss : List Place) (i : ℕ) (row : HandleRow) (new : Place) → slice_get ss i ≡ Some (alive row) → new.row.number.0 ≡ row.number.0 → IsNext q ss → IsNext q (set ss i new)
@@ -166,14 +229,9 @@ sum-without q (h ∷ hs) = grind (arith, nat_tests, sum-without q hs)
 -- a number is used once, so what weighs only at the number weighs at its row alone
 pub only-row : (f : HandleRow → ℕ) (ss : List Place) (i : ℕ) (row : HandleRow) → AllPairs IsBefore ss → slice_get ss i ≡ Some (alive row)
     → ((h : HandleRow) → f h ≤ one (is_handle row.number.0 h)) → sum_by f (live ss) ≡ f row
-only-row f ss i row ordered at less = grind (
-  arith,
-  nat_tests,
-  ap (sum_by f) (live-kill ss i row ordered at),
-  sum_by-le-sum_by f (λ h. one (is_handle row.number.0 h)) (without row.number.0 (live ss)) less,
-  sum-without row.number.0 (live ss),
-  sum-live-set,
-)
+only-row f ss i row ordered at less =
+    let left = sum_by-le-sum_by f (λ h. one (is_handle row.number.0 h)) (without row.number.0 (live ss)) less in
+    grind (arith, nat_tests, ap (sum_by f) (at-place ss i row ordered at).0, sum-without row.number.0 (live ss), sum-live-set)
 
 -- all rows up to a smaller one are smaller
 pub smaller-up : {A : Type 0} (f : A → ℕ) (xs : List A) (m q : ℕ) (e : A) → AllPairs (λ a b. f a < f b) xs → m < length xs → f (get_or xs m e) < q → (k : ℕ) (d : A) → k < m + 1 → f (get_or xs k d) < q
@@ -197,14 +255,9 @@ rises-set f xs i x y ordered at same j k d less within =
 -- places are in order and counted after one of them changes
 pub sound-set : (old new : Handles) (i : ℕ) (row : HandleRow) (p : Place) → AreSound old → slice_get old.places.items i ≡ Some (alive row) → p.row.number.0 ≡ row.number.0
     → new.places.items ≡ set old.places.items i p → new.dead + one p.is_live ≡ old.dead + 1 → AreSound new
-sound-set old new i row p sound at same is dead = grind (
-  arith,
-  nat_tests,
-  rises-set (λ (s : Place). s.row.number.0) old.places.items i (alive row) p sound.ordered at same,
-  ap (λ ss. length (live ss)) is,
-  length-set,
-  length-live-set,
-)
+sound-set old new i row p sound at same is dead =
+    let ordered = rises-set (λ (s : Place). s.row.number.0) old.places.items i (alive row) p sound.ordered at same in
+    grind (arith, nat_tests, ap (λ ss. length (live ss)) is, length-set, length-live-set)
 
 -- a row more, above all that are there
 pub ordered-push : (ss : List Place) (row : HandleRow) → AllPairs IsBefore ss → IsNext row.number.0 ss → AllPairs IsBefore (ss ++ alive row ∷ [])
@@ -219,4 +272,13 @@ pub ruleset looks = (nat_tests, cases_eq, le_or_lt, none-live, row-got, slice_ge
 
 pub ruleset places = (nat_tests, sum-live-set)
 
-pub ruleset pushes = (nat_tests, ordered-push, next-push, live-push, length-append)
+pub ruleset pushes = (nat_tests, ordered-push, next-push, live-append, length-append)
+
+-- ---- what the tables tell is in its places, since no vector is longer than its capacity
+
+pub placed : (t : Tables) → ArePlaced (plain_of t)
+placed t = grind (arith, nat_tests, length-live-le)
+
+-- so they are whole where the world is that is in its places
+pub whole-so : {t : Tables} → IsFalling t.holdings [] owns_nothing → (ArePlaced (plain_of t) → pager.IsWhole (plain_of t)) → IsWhole t
+whole-so {t} steady core = record { steady = steady; core = core (placed t) }

@@ -1,15 +1,149 @@
--- A load of a cell ends with a pin, and gives up what it still owns. The pin stays, so that cells are listed as of the world before.
-use Rattle.pagable_tables.proofs.Words.{◌≡◌, ℕ, ◌<◌, ◌==◌, List, [], ◌∷◌, refl, ap, sym, ◌∙◌, subst, arith, Option, Some, None, ◌≤◌, ◌+◌, not, vec_capacity, nat_tests, Error, ArcRef}
-use Rattle.pagable_tables.proofs.Words.{HandleNumber, LoadNumber, NodeNumber, HandleRow, Owner, if_there, Core, OpenLoad, Places, of_cell, of_key, refused_if, where_so}
-use Rattle.pagable_tables.proofs.Words.{spent, load_fault, references_fault, MayOwnLoad, root_fault, end_fault, is_owned_in, MayEnd, Tables, live, counts_at, plain_of, Ending, IsReady}
-use Rattle.pagable_tables.proofs.Words.{◌&&◌, Bool, true, false, length, inl, inr, if◌then◌else◌, ◌≢◌, Result, option_map, AllPairs, sum_by_push, Mode, Blob, Among, one, times, changed}
-use Rattle.pagable_tables.proofs.Words.{find_row, pins, sharing, is_handle, is_owned_by, is_pin, is_share, owner_value, IsHandleBefore, Last, Alike, Falls, nobody, moved, row_of}
-use Rattle.pagable_tables.proofs.Words.{is_named_by, with_handle, with_mode, without_load, with_pin, Installs, Holdings, LoadRow, load_at, cell_in, has_value, is_valued, with_tables}
-use Rattle.pagable_tables.proofs.{Words.{is_plain_pin, SoFar, core_of, load_in, MayHold, OnlyRoom, has_come}, Coming.turned, Newer.{OnlyNewer, owned-mode, newer-then, newer-moved, newer-mode}}
-use Rattle.pagable_tables.proofs.{Newer.{newer-handle, newer-falls}, Worlds.fault-by, Begun.{begins, begun}, Taken.{load-closed, owned-given, moved-times, owned-moved, no-load}, Born.moved-turned}
-use Rattle.pagable_tables.proofs.{Born.turned-sum, Named.{moved-nobody, named-none}, Regiven.{found-first, passes-here, passes-none}, Stays.{seen-before, stays-pinned, not-named}}
-use Rattle.pagable_tables.proofs.keeps.{EndCalls.both-none, HandleCalls.{named-unlisted, moved-to-value}, Comes.{not-a-value}, LoadCalls.may-hold}
-use Rattle.pagable_tables.{proofs.{keeps.Rows.{among-map, found-among, once, ordered-map, sum-map}, Bits.{and-left, and-all}}, specs.Core.IsWhole}
+-- A node comes, and the handles that its value refers to are the value's. And it comes with its handles to a node that is there, has no value and is pinned.
+use Rattle.pagable_tables.proofs.{Alive.and-left, Calls.may-hold, Fitting.{begun, held-here, is_owned, owned-by, owned-by-none, pin-here, turned, unmixed}, Kept.{among-map, at-most-sum, found-among}}
+use Rattle.pagable_tables.proofs.{Kept.{once, only-at, ordered-map, sum-map, sum-none}, Newer.{OnlyNewer, load-closed, moved-times, newer-falls, newer-handle, newer-mode, newer-moved, newer-then}}
+use Rattle.pagable_tables.proofs.{Newer.{no-load, not-named, owned-given, owned-mode, owned-moved, seen-before, stays-pinned}, Next.{found-first, passes-here, passes-none}, Told.moved-to-value}
+use Rattle.pagable_tables.proofs.{Told.{named-mine, named-own, named-unlisted, not-a-value, or-none}, Words.{Alike, AllPairs, Among, ArcRef, Blob, Bool, Core, Counts, Ending, Error, Falls, Fits}}
+use Rattle.pagable_tables.proofs.Words.{HandleNumber, HandleRow, Holdings, Installs, IsHandleBefore, IsReady, Last, List, LoadNumber, LoadRow, MayEnd, MayOwnLoad, Mode, NodeNumber, None, OnlyRoom}
+use Rattle.pagable_tables.proofs.Words.{OpenLoad, Option, Owner, Places, Result, Right, SoFar, Some, Tables, [], and-true, ap, arith, cases_eq, cell_in, changed, core_of, counts_at, end_fault, false}
+use Rattle.pagable_tables.proofs.Words.{find_row, has_come, has_value, if_there, if◌then◌else◌, inl, inr, is_at, is_bare, is_handle, is_in, is_named_by, is_owned_by, is_owned_in, is_pin, is_pinning}
+use Rattle.pagable_tables.proofs.Words.{is_plain_pin, is_right, is_share, is_valued, length, live, load_at, load_fault, load_in, map, moved, named, nat_tests, nobody, not, of_cell, of_key, one}
+use Rattle.pagable_tables.proofs.Words.{option_map, owner_value, owns_nothing, pins, plain_of, reference_fault, references_fault, refl, refused_if, root_fault, row_of, sharing, spent, subst, sum_by}
+use Rattle.pagable_tables.proofs.Words.{sum_by-cons, sum_by_push, sym, times, true, vec_capacity, where_so, with_handle, with_mode, with_pin, with_tables, without_load, ℕ, ◌&&◌, ◌++◌, ◌+◌, ◌<◌, ◌==◌}
+use Rattle.pagable_tables.{proofs.{Words.{◌∙◌, ◌∷◌, ◌≡◌, ◌≢◌, ◌≤◌, ◌⊎◌}, Worlds.{both-none, fault-by, moved-nobody, named-none}}, specs.Core.IsWhole}
+
+-- what is named wasn't named before
+unseen : (w : Core) (me : Owner) (seen : List ℕ) (rs : List ArcRef) → references_fault w me seen rs ≡ None → (q : ℕ) → is_named_by rs q ≡ true → is_in seen q ≡ false
+unfolding references_fault is_named_by is_in
+unseen w me seen [] fit q is = absurd (cc)
+unseen w me seen (r ∷ rs) fit q is = grind (arith, nat_tests, unseen w me (r.handle.0 ∷ seen) rs (or-none (reference_fault w me seen r) _ fit).1 q)
+
+once-named : (w : Core) (me : Owner) (seen : List ℕ) (rs : List ArcRef) → references_fault w me seen rs ≡ None → (q : ℕ) → named q rs ≡ one (is_named_by rs q)
+unfolding references_fault is_named_by is_in
+once-named w me seen [] fit q = refl
+once-named w me seen (r ∷ rs) fit q =
+    let rest = (or-none (reference_fault w me seen r) _ fit).1 in
+    let once = once-named w me (r.handle.0 ∷ seen) rs rest q in let new = unseen w me (r.handle.0 ∷ seen) rs rest q in
+    grind (arith, nat_tests, sum_by-cons (λ (x : ArcRef). one (x.handle.0 == q)) r rs)
+
+module _ (w : Core) (me : Owner) (n : ℕ) (rs : List ArcRef) (ordered : AllPairs IsHandleBefore w.rows) (fit : references_fault w me [] rs ≡ None) (unvalued : is_valued me ≡ false) where
+  abbrev to : HandleRow → HandleRow
+  to h = if is_named_by rs h.number.0 then owned-by (owner_value n) h else h
+
+  same-weight : (f : HandleRow → ℕ) → ((h : HandleRow) → f (owned-by (owner_value n) h) ≡ f h) → sum_by f (map to w.rows) ≡ sum_by f w.rows
+  same-weight f same = grind (arith, nat_tests, sum-map, owned-by)
+
+  -- a row that is named isn't a value's
+  named-free : (h : HandleRow) → Among w.rows h → is_named_by rs h.number.0 ≡ true → is_valued h.owner ≡ false
+  named-free h among is = ap is_valued (named-own w ordered me rs fit h among is) ∙ unvalued
+
+  pub others-own : (m q : ℕ) → m ≢ n → sum_by (is_owned m q) (map to w.rows) ≡ sum_by (is_owned m q) w.rows
+  others-own m q other = grind (arith, nat_tests, sum-map, owned-by, owned-by-none, named-free)
+
+  abbrev both : ℕ → HandleRow → ℕ
+  both q h = one (is_handle q h && is_named_by rs q)
+
+  sum-both : (q : ℕ) (b : Bool) → is_named_by rs q ≡ b → sum_by (both q) w.rows ≡ one b
+  sum-both q true is =
+      let o = named-mine w me [] rs fit q is in
+      let (there, number) = found-among q w.rows o.row o.live in
+      let a = only-at (both q) w.rows o.row ordered there (λ x other. let e : (x.number.0 == q) ≡ false = ap (λ k. x.number.0 == k) (sym number) ∙ other in ap (λ b. one (b && is_named_by rs q)) e) in
+      let b : is_handle q o.row ≡ true = grind (arith, nat_tests) in
+      a ∙ ap (λ d. one (d && is_named_by rs q)) b ∙ ap one is
+  sum-both q false is = sum-none (both q) w.rows (λ h among. grind (arith, nat_tests))
+
+  pub own-own : (q : ℕ) → sum_by (is_owned n q) w.rows ≡ 0 → sum_by (is_owned n q) (map to w.rows) ≡ named q rs
+  own-own q before =
+      sum-map (is_owned n q) (both q) to w.rows (λ h among. grind (arith, nat_tests, at-most-sum (is_owned n q) w.rows h among)) ∙ sum-both q (is_named_by rs q) refl ∙ sym (once-named w me [] rs fit q)
+
+-- the counts of a new node are right, where it has no key, or its value refers to nothing, or it is pinned
+right-new : (c : Counts) (mode : Mode) (rs : List ArcRef) → c ≡ record c { pins = one (is_pinning mode); holds = 1; is_falling = false; next = 0 }
+    → (c.key ≡ 0) ⊎ (rs ≡ []) ⊎ (is_pinning mode ≡ true) → is_right c (is_bare rs) ≡ true
+right-new c mode rs new or = grind (arith, nat_tests)
+
+module _ (w : Core) (me : Owner) (rs : List ArcRef) (ordered : AllPairs IsHandleBefore w.rows) (fit : references_fault w me [] rs ≡ None) (unvalued : is_valued me ≡ false)
+    (at at' : ℕ → Option Counts) (refs refs' : ℕ → List ArcRef) (top : ℕ) (x : HandleRow) (c : Counts) (fits : Fits at refs w.rows top [] owns_nothing) (owner : x.owner ≡ me)
+    (new : c ≡ record c { pins = one (is_pinning x.mode); holds = 1; is_falling = false; next = 0 }) (bare : (c.key ≡ 0) ⊎ (rs ≡ []) ⊎ (is_pinning x.mode ≡ true)) (real : 0 < x.node.0) (free : at x.node.0 ≡ None)
+    (here : at' x.node.0 ≡ Some c) (others : (q : ℕ) → q ≢ x.node.0 → at' q ≡ at q) (refers : refs' x.node.0 ≡ rs) (same : (q : ℕ) → q ≢ x.node.0 → refs' q ≡ refs q) where
+  abbrev n : ℕ
+  n = x.node.0
+
+  abbrev given-rows : List HandleRow
+  given-rows = moved (is_named_by rs) (owner_value n) w.rows
+
+  abbrev rows' : List HandleRow
+  rows' = given-rows ++ x ∷ []
+
+  not-x : (m q : ℕ) → is_owned m q x ≡ 0
+  not-x m q = owned-by-none m q x (ap is_valued owner ∙ unvalued)
+
+  given-weight : (f : HandleRow → ℕ) → ((h : HandleRow) → f (owned-by (owner_value n) h) ≡ f h) → sum_by f rows' ≡ sum_by f w.rows + f x
+  given-weight f same = let s = same-weight w me n rs ordered fit unvalued f same in let l = sum_by_push f given-rows x in omega arith
+
+  owned-here : (q : ℕ) → named q (refs' n) + owns_nothing n q ≡ sum_by (is_owned n q) rows'
+  owned-here q =
+      let l = sum_by_push (is_owned n q) given-rows x in
+      let bare : refs n ≡ [] = subst (λ o. Right o (refs n)) free (fits.right n) in let none = ap (named q) bare in
+      let before : sum_by (is_owned n q) w.rows ≡ 0 = omega arith in
+      let own = own-own w me n rs ordered fit unvalued q before in
+      let some = ap (named q) refers in
+      grind (arith, nat_tests)
+
+  pub born-fits : Fits at' refs' rows' top [] owns_nothing
+  born-fits =
+      record {
+        pinned = λ m. grind (arith, nat_tests, cases_eq, pin-here, given-weight (λ h. one (is_pin m h)) (λ h. refl));
+        holding = λ m. grind (arith, nat_tests, cases_eq, held-here, given-weight (λ h. one (is_at m h)) (λ h. refl));
+        owned = λ m q. grind (arith, nat_tests, cases_eq, owned-here q, sum_by_push (is_owned m q) given-rows x, not-x m q, same m, others-own w me n rs ordered fit unvalued m q);
+        chain = fits.chain;
+        marked = λ m. let k : c.is_falling ≡ false = ap (λ (d : Counts). d.is_falling) new in grind (arith, nat_tests, cases_eq);
+        right = λ m. elim (cases_eq m n) [
+          | inl e ↦ subst (λ k. Right (at' k) (refs' k)) (sym e) (subst (λ o. Right o (refs' n)) (sym here) (subst (λ r. Right (Some c) r) (sym refers) (right-new c x.mode rs new bare)))
+          | inr e ↦ subst (λ o. Right o (refs' m)) (sym (others m e)) (subst (λ r. Right (at m) r) (sym (same m e)) (fits.right m))
+        ];
+        from_one = others 0 (λ z. absurd (omega arith)) ∙ fits.from_one;
+      }
+
+-- handles that are pinned and handles that move do so in any order
+pub moved-turned : (s : ℕ → Bool) (o : Owner) (q : ℕ) (x : HandleRow) (rows : List HandleRow) → s x.number.0 ≡ false
+    → moved s o (changed (is_handle q) turned rows ++ x ∷ []) ≡ changed (is_handle q) turned (moved s o rows) ++ x ∷ []
+moved-turned s o q x [] spared = grind (arith, nat_tests)
+moved-turned s o q x (y ∷ ys) spared = grind (arith, nat_tests, moved-turned s o q x ys spared)
+
+-- what is counted whether handles are pinned or not
+pub turned-sum : (f : HandleRow → ℕ) (q : ℕ) (rows : List HandleRow) → ((x : HandleRow) → f (turned x) ≡ f x) → sum_by f (changed (is_handle q) turned rows) ≡ sum_by f rows
+turned-sum f q rows same = grind (arith, nat_tests, sum-map)
+
+-- The world before the pins, and after them the tables; the handles are the value's then.
+module _ (w : Core) (me : Owner) (n : ℕ) (rs : List ArcRef) (ordered : AllPairs IsHandleBefore w.rows) (fit : references_fault w me [] rs ≡ None) (unvalued : is_valued me ≡ false)
+    (none : (q : ℕ) → sum_by (is_owned n q) w.rows ≡ 0) (h : ℕ) (x : HandleRow) (free : is_valued x.owner ≡ false) (spared : is_named_by rs x.number.0 ≡ false)
+    (at : ℕ → Option Counts) (refs refs' : ℕ → List ArcRef) (top : ℕ) (fits : Fits at refs (changed (is_handle h) turned w.rows ++ x ∷ []) top [] owns_nothing)
+    (pinned : 0 < pins n (changed (is_handle h) turned w.rows ++ x ∷ [])) (refers : refs' n ≡ rs) (same : (q : ℕ) → q ≢ n → refs' q ≡ refs q) where
+  abbrev before : List HandleRow
+  before = changed (is_handle h) turned w.rows ++ x ∷ []
+
+  abbrev joined-rows : List HandleRow
+  joined-rows = moved (is_named_by rs) (owner_value n) before
+
+  own-before : (m q : ℕ) → sum_by (is_owned m q) before ≡ sum_by (is_owned m q) w.rows
+  own-before m q = grind (arith, nat_tests, sum_by_push, turned-sum, owned-by-none)
+
+  own-after : (m q : ℕ) → sum_by (is_owned m q) joined-rows ≡ sum_by (is_owned m q) (moved (is_named_by rs) (owner_value n) w.rows)
+  own-after m q = grind (arith, nat_tests, moved-turned, sum_by_push, turned-sum, owned-by-none)
+
+  pub joined-fits : Fits at refs' joined-rows top [] owns_nothing
+  joined-fits =
+      record {
+        pinned = λ m. fits.pinned m ∙ sym (moved-times (is_pin m) (is_named_by rs) (owner_value n) before (λ y. refl));
+        holding = λ m. fits.holding m ∙ sym (moved-times (is_at m) (is_named_by rs) (owner_value n) before (λ y. refl));
+        owned = λ m q. let own = own-own w me n rs ordered fit unvalued q (none q) in
+            grind (arith, nat_tests, cases_eq, own-after m q, own-before m q, others-own w me n rs ordered fit unvalued m q);
+        chain = fits.chain;
+        marked = fits.marked;
+        right = λ m. grind (arith, nat_tests, cases_eq);
+        from_one = fits.from_one;
+      }
+
+-- ---- a load of a cell ends with a pin, and gives up what it still owns. The pin stays, so that cells are listed as of the world before
 
 module _ (w : Core) (me : Owner) (l : LoadNumber) (node_type : ℕ) (refs : List ArcRef) (none : end_fault w me l node_type refs ≡ None) where
   abbrev root : Option Error
@@ -74,17 +208,11 @@ module _ (t t1 : Tables) (stored : ℕ → Option Blob) (closed lists : Bool) (f
   abbrev o : Owner
   o = owner_value row.node.0
 
-  holder : MayHold (plain_of t) me
-  holder = may-hold (plain_of t) me may
-
   spared : s (t.holdings.last_handle + 1) ≡ false
   spared = not-named (plain_of t) l rs was.core.handles good (t.holdings.last_handle + 1) (omega arith)
 
-  listed : (q : ℕ) → times (λ (h : HandleNumber). h.0 == q) t.holdings.list.items ≡ times (λ h. is_handle q h && is_owned_by Owner.List h) (moved s o (live t.holdings.handles.places.items))
-  listed = (moved-to-value was.core s (named-unlisted was.core (Owner.Load l) rs refl good) row.node.0).owners_there.listed
-
   unvalued : is_valued me ≡ false
-  unvalued = not-a-value (plain_of t) me holder
+  unvalued = not-a-value (plain_of t) me (may-hold (plain_of t) me may)
 
   abbrev w : Core
   w = core_of t stored closed failures
@@ -117,57 +245,37 @@ module _ (t t1 : Tables) (stored : ℕ → Option Blob) (closed lists : Bool) (f
   list-has : (q : ℕ) → times (λ (h : HandleNumber). h.0 == q) u.list ≡ times (λ h. is_handle q h && is_owned_by Owner.List h) u.rows
   list-has q =
       let b = sum_by_push (λ (h : HandleRow). one (is_handle q h && is_owned_by Owner.List h)) mid x in
-      grind (arith, nat_tests, turned-sum (λ (h : HandleRow). one (is_handle q h && is_owned_by Owner.List h)) h.0 rows0 (λ y. refl), listed q)
+      let had = (moved-to-value was.core s (named-unlisted was.core (Owner.Load l) rs refl good) row.node.0).owners_there.listed q in
+      grind (arith, nat_tests, turned-sum (λ (h : HandleRow). one (is_handle q h && is_owned_by Owner.List h)) h.0 rows0 (λ y. refl), had)
 
   module _ (k : Holdings) (rows : live k.handles.places.items ≡ moved s o (live t1.holdings.handles.places.items)) (list : k.list ≡ t1.holdings.list) (last : k.last_handle ≡ t1.holdings.last_handle)
       (capacity : vec_capacity k.handles.places ≡ vec_capacity t1.holdings.handles.places) (cells : (n : ℕ) → cell_in (counts_at k.nodes n) ≡ cell_in (counts_at t1.holdings.nodes n)) where
     -- nothing has gone of it
     begun-pinned : SoFar u u nobody lists (record k { unlisted = None })
     begun-pinned =
-        begun u u lists (record k { unlisted = None })
-        (record {
-          open_storage = e;
-          fewer = λ n. omega arith;
-          shared = λ n. omega arith;
-          uniform = λ n. let b = (begins t1 stored closed lists failures whole e).uniform n in
-              let p = as-moved (is_share n) (λ y. refl) in let q = as-moved (is_plain_pin n) (λ y. refl) in grind (arith, nat_tests);
-          listed = λ q. let a = list-has q in omega arith;
-        })
-        (rows ∙ come) (ap (λ v. v.items) list ∙ a.list) (last ∙ ap (λ (v : Last). v.handle) a.last)
+        begun u u lists (record k { unlisted = None }) e (λ p own. refl)
+        (λ n. let b = unmixed t1 whole n in let p = as-moved (is_share n) (λ y. refl) in let q = as-moved (is_plain_pin n) (λ y. refl) in grind (arith, nat_tests))
+        (λ q. let a = list-has q in omega arith) (rows ∙ come) (ap (λ v. v.items) list ∙ a.list) (last ∙ ap (λ (v : Last). v.handle) a.last)
         (let b = whole.core.handles.within.0 in omega arith)
-        (record { handles = (let b = a.places.handles in omega arith); entries = (let b = a.places.entries in let d = ap vec_capacity list in omega arith) })
-        (λ n. cells n ∙ a.cells n) refl
-        (λ n must. let p = must.pinned in let z = must.unpinned in let r = ap (pins n) (rows ∙ come) in absurd (omega arith))
+        (record { handles = (let b = a.places.handles in omega arith); entries = (let b = a.places.entries in let d = ap vec_capacity list in omega arith) }) (λ n. cells n ∙ a.cells n) refl
 
     owned-pinned : (q : ℕ) → is_owned_in u (Owner.Load l) q ≡ given q
-    owned-pinned q = found-first (is_owned_by (Owner.Load l)) q mid (x ∷ []) (grind (
-      arith,
-      nat_tests,
-      passes-here,
-      passes-none,
-      no-load (plain_of t) me l may,
-    )) ∙ owned-mode (Owner.Load l) q (is_handle h.0) Mode.LoosePinned rows0 ∙ owned-moved s o (Owner.Load l) q w.rows refl
+    owned-pinned q = found-first (is_owned_by (Owner.Load l)) q mid (x ∷ []) (let none = no-load (plain_of t) me l may in grind (arith, nat_tests, passes-here, passes-none))
+        ∙ owned-mode (Owner.Load l) q (is_handle h.0) Mode.LoosePinned rows0 ∙ owned-moved s o (Owner.Load l) q w.rows refl
 
     ordered : AllPairs IsHandleBefore u.rows
     ordered = grind (arith, nat_tests, come, ordered-map)
 
     as-before : {w' : Core} {r : Result (Unit {0}) Error} → Falls u u given r w' → Falls w u given r w'
-    as-before {w'} {r} falls = seen-before {b = u} {w = w} {u = u} u.places (record { handles = omega arith; entries = omega arith }) to-before falls
-      where
-        to-before : (n : ℕ) → pins n w'.rows ≡ 0 → (pins n u.rows ≡ pins n w.rows) × (sharing n u.rows ≡ sharing n w.rows)
-        to-before n none =
-            let stays = stays-pinned (record w { rows = mid }) u w' given r x refl ordered unvalued (grind (
-              arith,
-              nat_tests,
-              and-left,
-              owned-given (plain_of t) (Owner.Load l) (t.holdings.last_handle + 1) was.core.handles,
-            )) falls n none in
-            let more = sum_by_push (λ y. one (is_pin n y)) mid x in
-            let z : one (is_pin n x) ≡ 0 = (let b = stays.0 in omega arith) in
-            let other : (row.node.0 == n) ≡ false = grind (arith, nat_tests) in (
-              stays.0 ∙ other-pins h row.node rows0 of n other ∙ moved-times (is_pin n) s o w.rows (λ y. refl),
-              stays.1 ∙ other-shares h row.node rows0 of n other ∙ moved-times (is_share n) s o w.rows (λ y. refl),
-            )
+    as-before {w'} {r} falls = seen-before {b = u} {w = w} {u = u} u.places (record { handles = omega arith; entries = omega arith }) (λ n none.
+        let kept = owned-given (plain_of t) (Owner.Load l) (t.holdings.last_handle + 1) was.core.handles in
+        let stays = stays-pinned (record w { rows = mid }) u w' given r x refl ordered unvalued (grind (arith, nat_tests, and-left)) falls n none in
+        let more = sum_by_push (λ y. one (is_pin n y)) mid x in
+        let z : one (is_pin n x) ≡ 0 = (let b = stays.0 in omega arith) in
+        let other : (row.node.0 == n) ≡ false = grind (arith, nat_tests) in (
+          stays.0 ∙ other-pins h row.node rows0 of n other ∙ moved-times (is_pin n) s o w.rows (λ y. refl),
+          stays.1 ∙ other-shares h row.node rows0 of n other ∙ moved-times (is_share n) s o w.rows (λ y. refl),
+        )) falls
 
     -- what gives up all that a load owns does it here
     pub ended : (since : ℕ) (new : Holdings) (loads : ℕ → Option LoadRow) (r : Result (Unit {0}) Error)
@@ -187,18 +295,14 @@ module _ (t t1 : Tables) (stored : ℕ → Option Blob) (closed lists : Bool) (f
 pub so-then : (b : Bool) → not b ≡ false → b ≡ true
 so-then x0 e = grind (arith, nat_tests)
 
-pub not-so : (b : Bool) → not b ≡ true → b ≡ false
-not-so x0 e = grind (arith, nat_tests)
-
 -- where no reference is named no handle moves
 pub none-moves : (w : Core) (l : LoadNumber) (row : HandleRow) (me : Owner) (r : Result (Unit {0}) Error) (w' : Core)
     → Falls w (with_pin (record (without_load w l) { rows = moved (is_named_by []) (owner_value row.node.0) w.rows }) row.number row.node me) (λ q. is_owned_in w (Owner.Load l) q && not (is_named_by [] q)) r w'
     → Falls w (with_pin (without_load w l) row.number row.node me) (is_owned_in w (Owner.Load l)) r w'
 none-moves w l row me r w' falls =
+    let all : (q : ℕ) → (is_owned_in w (Owner.Load l) q && not (is_named_by [] q)) ≡ is_owned_in w (Owner.Load l) q =
+    λ q. ap (λ b. is_owned_in w (Owner.Load l) q && not b) (named-none q) ∙ and-true (is_owned_in w (Owner.Load l) q) in
     subst (λ (T : Type 0). T) (λ i. Falls w (with_pin (record (without_load w l) { rows = moved-nobody (owner_value row.node.0) w.rows i }) row.number row.node me) (λ q. all q i) r w') falls
-  where
-    all : (q : ℕ) → (is_owned_in w (Owner.Load l) q && not (is_named_by [] q)) ≡ is_owned_in w (Owner.Load l) q
-    all q = ap (λ b. is_owned_in w (Owner.Load l) q && not b) (named-none q) ∙ and-all (is_owned_in w (Owner.Load l) q)
 
 -- what loads own has come since they began
 pub install-newer : {w w' : Core} (me : Owner) (l : LoadNumber) (node : NodeNumber) (h k : HandleNumber) (refs : List ArcRef) → Installs w me l node h k refs w' → OnlyNewer w w'

@@ -1,11 +1,81 @@
--- What has gone so far, after one step of a cascade, and after a handle that is given; which cells must be listed then, and what is told of it.
-use Rattle.pagable_tables.proofs.Words.{◌&&◌, ◌++◌, ◌+◌, ◌<◌, ◌==◌, ◌∙◌, ◌∷◌, ◌≡◌, ◌≢◌, ◌≤◌, ◌⊎◌, Begins, Bool, Core, Error, FallsBy, GivesUp, HandleNumber, HandleRow, HasPlaces, Holdings, IsApart}
-use Rattle.pagable_tables.proofs.Words.{IsClosed, IsFalling, IsListRefusal, IsUnlisted, IsWithin, List, MustList, NodeNumber, Option, Owner, Result, SoFar, Some, Steps, TellsListing, [], ap}
-use Rattle.pagable_tables.proofs.Words.{append-nil, append_assoc, arith, cell_in, counts_at, entries_of, false, filter, filter-append, first_cause, held, if◌then◌else◌, inl, inr, is_at, is_handle}
-use Rattle.pagable_tables.proofs.Words.{is_keyed, is_outside, is_owned_by, is_owner, is_pin, is_some, left_rows, length, length-append, live, map-append, nat_tests, not, one, only_handle, owner_value}
-use Rattle.pagable_tables.proofs.Words.{owns_nothing, pins, pins_in, refl, subst, sum_by-append, sum_by-le-sum_by, sym, times, told_by, true, with_tables, ℕ, Cell, None, and_parts, cases_Bool, entry}
-use Rattle.pagable_tables.proofs.{Words.{is_listing, is_plain_pin, is_share, is_shared}, Bits.one-le, Left.{and_one, sum-most, entries-more, kept-more, left-more, left-none, none-entered}}
-use Rattle.pagable_tables.proofs.{Left.{none-listed, of_list, ones, times-left, gives-sums, with-entry}, Entries.{cell-keyed, forced, listing-is, no-more, refusal-kept, which}, Begun.open-then}
+-- Where no node falls any more, all has gone that had to go, and no more. Values that go as nodes fall.
+use Rattle.pagable_tables.proofs.Alive.{and_one, entries-more, entries-none, gives-sums, kept-more, left-more, left-none, none-entered, none-listed, of_list, one-le, ones, sum-most, times-left}
+use Rattle.pagable_tables.proofs.{Alive.with-entry, Fitting.{cell-keyed, counted, forced, listing-is, no-more, open-then, which}, Words.{Alike, AreNewEntries, Begins, Bool, Cell, Core, Counts, Error}}
+use Rattle.pagable_tables.proofs.Words.{Falls, FallsBy, GivesUp, HandleNumber, HandleRow, HasFallen, HasPlaces, Holdings, IsApart, IsClosed, IsFalling, IsLeast, IsListRefusal, IsUnlisted, IsWithin}
+use Rattle.pagable_tables.proofs.Words.{List, LoadNumber, MustList, NodeNumber, None, Option, Owner, Result, Sheds, SoFar, Some, Steps, TellsListing, ValueStays, [], and_parts, ap, append-nil}
+use Rattle.pagable_tables.proofs.Words.{append_assoc, arith, cases_Bool, cases_eq, cell_in, counts_at, entries_of, entry, fallen, falls_in, false, filter, filter-append, find_row, first_cause}
+use Rattle.pagable_tables.proofs.Words.{has_value, held, held_outside, if◌then◌else◌, inl, inr, is_at, is_handle, is_keyed, is_listing, is_outside, is_owned_by, is_owned_in, is_owner, is_pin}
+use Rattle.pagable_tables.proofs.Words.{is_plain_pin, is_share, is_shared, is_some, is_valued, left_rows, length, length-append, live, map-append, nat_eq, nat_tests, not, one, only_handle}
+use Rattle.pagable_tables.proofs.Words.{owner_value, owns, owns_nothing, passes_in, pins, pins_in, pins_outside, refl, subst, sum_by, sum_by-append, sum_by-cons, sum_by-le-sum_by, sym, times, told_by}
+use Rattle.pagable_tables.proofs.{Words.{true, valued, with_tables, ℕ, ◌&&◌, ◌++◌, ◌+◌, ◌<◌, ◌==◌, ◌||◌, ◌∙◌, ◌∷◌, ◌≡◌, ◌≢◌, ◌≤◌, ◌⊎◌}, Worlds.same-cache}
+
+-- nothing falls
+pub none-falls-in : (t : Holdings) → IsFalling t [] owns_nothing → (n : ℕ) → falls_in (counts_at t.nodes n) ≡ false
+none-falls-in t w n = let m = w.fits.marked n in grind (arith, nat_tests)
+
+none-owned : (n : ℕ) (rows : List HandleRow) → ((q : ℕ) → sum_by (λ h. owns h n q) rows ≡ 0) → times (is_owned_by (owner_value n)) rows ≡ 0
+none-owned n [] none = refl
+none-owned n (x ∷ xs) none =
+    let rest = none-owned n xs (λ q. let k = sum_by-cons (λ h. owns h n q) x xs in let l = none q in omega arith) in
+    grind (arith, nat_tests, sum_by-cons (λ h. one (is_owned_by (owner_value n) h)) x xs, sum_by-cons (λ h. owns h n x.number.0) x xs)
+
+module _ (before w : Core) (given : ℕ → Bool) (lists : Bool) (t : Holdings) (f : SoFar before w given lists t) (whole : IsFalling t [] owns_nothing) where
+  down : (n : ℕ) (keyed : Bool) → is_keyed w n ≡ keyed → (if keyed then nat_eq (pins_outside w.rows f.gone n) 0 else nat_eq (held n f.entries) 0 && nat_eq
+      (held_outside w.rows f.gone n) 0) ≡ true → HasFallen (counts_at t.nodes) (live t.handles.places.items) n
+  down n true e lost = grind (arith, nat_tests, counted f (is_pin n), entries-none (is_pin n) (λ h mode owner. grind (arith, nat_tests)) w.last.handle f.entries f.new)
+  down n false e lost = let a = counted f (is_at n) in inl (grind (arith, nat_tests))
+
+  pub closed : IsClosed w.rows (is_keyed w) f.entries f.gone
+  closed n lost =
+      let fell = down n (is_keyed w n) refl lost in
+      let fits = whole.fits in
+      let none = none-owned n (live t.handles.places.items) (λ q. grind (arith, nat_tests)) in
+      omega (arith, counted f (is_owned_by (owner_value n)))
+
+  leaves : Alike (fallen w f.gone f.entries) (with_tables w t)
+  leaves = grind (arith, nat_tests, none-falls-in, same-cache, live, fallen)
+
+  -- what the world says of a cascade
+  pub ended : Falls before w given (told_by t.unlisted) (with_tables w t)
+  ended =
+      let set : IsLeast w.rows (is_keyed w) f.entries given f.gone =
+      record { holds = f.holds; closed = closed; least = λ s has is. f.least s f.entries (λ n none. let a = counted f (is_at n) in omega arith) has is } in
+      grind (arith, nat_tests, leaves)
+
+pub valued-le : (rows : List HandleRow) → valued rows ≤ length rows
+valued-le rows = omega (arith, ones rows, sum_by-le-sum_by (λ (h : HandleRow). one (is_valued h.owner)) (λ h. 1) rows (λ h. one-le (is_valued h.owner)))
+
+-- where no node is first, none falls
+pub none-falls : (t : Holdings) (stack : List ℕ) → IsFalling t stack owns_nothing → t.top ≡ 0 → IsFalling t [] owns_nothing
+none-falls t [] w z = w
+none-falls t (n ∷ ns) w z = absurd (let m = w.fits.marked n in let top = w.fits.chain.0 in let none = w.fits.from_one in grind (arith, nat_tests, sum_by-cons (λ m. one (m == n)) n ns))
+
+-- the value that a node had is there or gone, and it is there exactly where the node has it, unless the node falls
+abbrev pub Lasting : {X : Type 0} → Option Counts → Option X → Option X → Type 0
+Lasting o old now = ((now ≡ old) ⊎ (now ≡ None)) × (falls_in o ≡ false → is_some now ≡ has_value o)
+
+pub lasts-on : {X : Type 0} (done : Bool) (o o' : Option Counts) (old now now' : Option X) → now' ≡ (if done then None else now) → (done ≡ false → ValueStays o o')
+    → (done ≡ true → has_value o' ≡ false) → Lasting o old now → Lasting o' old now'
+lasts-on done o o' old now now' is stays gone l = grind (arith, nat_tests)
+
+module _ {X : Type 0} where
+  -- nothing has happened
+  pub sheds-still : (t : Holdings) (values : ℕ → Option X) → IsFalling t [] owns_nothing → Sheds (counts_at t.nodes) values (counts_at t.nodes) values
+  sheds-still t values w = record { left = λ kept n. (inl refl, kept n (none-falls-in t w n)) }
+
+  -- one after another
+  pub sheds-then : {at at1 at2 : ℕ → Option Counts} {old mid new : ℕ → Option X} → Sheds at old at1 mid → Sheds at1 mid at2 new → Sheds at old at2 new
+  sheds-then {old = old} {mid} {new} a b = grind (arith, nat_tests)
+
+  -- what takes no value comes first
+  pub stays-first : {at at1 at2 : ℕ → Option Counts} {old new : ℕ → Option X} → ((n : ℕ) → ValueStays (at n) (at1 n)) → Sheds at1 old at2 new → Sheds at old at2 new
+  stays-first stays b = record { left = λ kept. b.left (λ k falls. let s = stays k falls in kept k s.0 ∙ sym s.1) }
+
+pub ruleset falls = (nat_tests, valued-le, none-falls-in, none-falls)
+
+pub ruleset shedding = (nat_tests, sheds-then)
+
+-- ---- what has gone so far, after one step of a cascade, and after a handle that is given; which cells must be listed then, and what is told of it
 
 rows-leaves : (rows entries before left : List HandleRow) (gone : ℕ → Bool) (x : HandleRow) → left ≡ left_rows (only_handle x.number) before → before ≡ left_rows gone rows ++ entries
     → times (is_handle x.number.0) entries ≡ 0 → left ≡ left_rows (and_one gone x.number.0) rows ++ entries
@@ -72,9 +142,6 @@ module _ {before w : Core} {given : ℕ → Bool} {lists stays : Bool} {t popped
   here : (p : HandleRow → Bool) → one (p x) ≤ times p (live t.handles.places.items)
   here p = let a = g.leaves.there (λ h. one (p h)) in let b = ap (times p) before-rows in omega arith
 
-  fewer : length (live g.left.places.items) ≤ length w.rows
-  fewer = omega (arith, g.leaves.sums (λ h. 1), ones (live g.left.places.items), ones (live popped.handles.places.items), ap length before-rows, one-le stays)
-
   since : popped.last_handle ≡ t.last_handle
   since = ap (λ (h : Holdings). h.last_handle) same
 
@@ -83,10 +150,6 @@ module _ {before w : Core} {given : ℕ → Bool} {lists stays : Bool} {t popped
 
   added : new.list.items ≡ t.list.items ++ came
   added = ap (λ (h : Holdings). h.list.items) g.same ∙ g.comes.comes.list ∙ ap (λ (h : Holdings). h.list.items ++ (if g.listed then record { 0 = h.last_handle + 1 } ∷ [] else [])) same
-
-  -- why none came
-  wanting : (e : Error) → g.listed ≡ false → IsUnlisted gap e → IsListRefusal w (with_tables w new) e
-  wanting e none why = grind (arith, nat_tests, last, since, added, length-append, fewer)
 
   abbrev wanted : Bool
   wanted = lists && is_listing g.counts x.mode
@@ -103,19 +166,10 @@ module _ {before w : Core} {given : ℕ → Bool} {lists stays : Bool} {t popped
       let w' = and_parts lists (is_listing g.counts x.mode) want in
       let l = listing-is g.counts x.mode w'.1 in
       let n = x.node.0 in
-      grind (
-        arith,
-        nat_tests,
-        open-then,
-        one-pin want,
-        left n,
-        no-more f (is_pin n) (λ h mode owner. grind (arith, nat_tests)),
-        f.begins.fewer n,
-        no-more f (is_plain_pin n) (λ h mode owner. grind (arith, nat_tests)),
-        here (is_plain_pin n),
-        cell-keyed (counts_at t.nodes n) g.counts (w.cells n) is (f.cells n),
-        f.begins.uniform n,
-      )
+      let pinned = no-more f (is_pin n) (λ h mode owner. grind (arith, nat_tests)) in
+      let plain = no-more f (is_plain_pin n) (λ h mode owner. grind (arith, nat_tests)) in
+      let key = cell-keyed (counts_at t.nodes n) g.counts (w.cells n) is (f.cells n) in
+      grind (arith, nat_tests, open-then, one-pin want, left n, f.begins.fewer n, here (is_plain_pin n), f.begins.uniform n)
 
   -- a cell must be listed: its last pin had gone before, or it has gone now
   must-before : (n : ℕ) → MustList before w (with_tables w new) n → MustList before w (with_tables w t) n ⊎ ((n ≡ x.node.0) × (wanted ≡ true))
@@ -123,18 +177,9 @@ module _ {before w : Core} {given : ℕ → Bool} {lists stays : Bool} {t popped
       elim (cases_Bool (is_pin n x)) [
         | inr other ↦ let a = left n in let z = must.unpinned in let k = ap one other in
             inl (record { pinned = must.pinned; unpinned = omega arith; unkeyed = must.unkeyed; unshared = must.unshared; stands_open = must.stands_open })
-        | inl pin ↦ inr (grind (
-          arith,
-          nat_tests,
-          no-more f (is_share n) (λ h mode owner. let m : is_shared h.mode ≡ false = ap is_shared mode in grind (arith, nat_tests)),
-          here (is_share n),
-          must.unshared,
-          ap one pin,
-          left n,
-          must.unpinned,
-          is,
-          cell-keyed,
-        ))
+        | inl pin ↦
+            let shares = no-more f (is_share n) (λ h mode owner. let m : is_shared h.mode ≡ false = ap is_shared mode in grind (arith, nat_tests)) in
+            inr (grind (arith, nat_tests, here (is_share n), must.unshared, ap one pin, left n, must.unpinned, is, cell-keyed))
       ]
 
   must-kept : (n : ℕ) → MustList before w (with_tables w t) n → MustList before w (with_tables w new) n
@@ -173,11 +218,7 @@ module _ {before w : Core} {given : ℕ → Bool} {lists stays : Bool} {t popped
               a.0,
               must-kept a.0 a.1,
               omega (arith, held-more a.0, other a.0 a.1.unpinned, a.2),
-              refusal-kept w t new e a.3 (omega (arith, last)) (omega (
-                arith,
-                ap length added,
-                length-append t.list.items came,
-              )),
+              grind (arith, nat_tests, a.3, last, added, length-append),
             );
           })
       by None is tells = elim (which g.listed wanted) [
@@ -197,7 +238,10 @@ module _ {before w : Core} {given : ℕ → Bool} {lists stays : Bool} {t popped
         | inr (none, want) ↦
             let y = late None is none want in
             let l = ap (λ b. if b then one (is_at x.node.0 (entry (t.last_handle + 1) x.node)) else 0) none in
-            told-so (Some y.0) y.2 (record { all = tt; not_all = (x.node.0, new-must want, omega (arith, held-more x.node.0, l, none-held want), wanting y.0 none y.1) })
+            let fewer : length (live g.left.places.items) ≤ length w.rows =
+            omega (arith, g.leaves.sums (λ h. 1), ones (live g.left.places.items), ones (live popped.handles.places.items), ap length before-rows, one-le stays) in
+            let why : IsListRefusal w (with_tables w new) y.0 = grind (arith, nat_tests, last, since, added, length-append, fewer, y.1) in
+            told-so (Some y.0) y.2 (record { all = tt; not_all = (x.node.0, new-must want, omega (arith, held-more x.node.0, l, none-held want), why) })
       ]
 
   pub entered-on : (rows : List HandleRow) → length rows ≡ length w.rows → (given' gone : ℕ → Bool) → Begins before (record w { rows = rows }) lists
@@ -291,8 +335,70 @@ gives-on before w given lists t new stack x f pinned free few g =
     (λ s final bare has closed. within-both f.gone given s x.number.0 w.rows
     (f.least s final (λ n none. bare n (none-comes g n none)) (within-less given s (and_one given x.number.0) s w.rows (λ r. grind (arith, nat_tests)) has) closed) has)
 
-none-came : (listed : Bool) (q : HandleNumber) → (listed ≡ true → false ≡ true) → (if listed then q ∷ [] else []) ≡ []
-none-came x0 q only = grind (arith, nat_tests)
-
 pub gives-unlisted : {t new : Holdings} {stack : List ℕ} {x : HandleRow} {lists : Bool} → lists ≡ false → GivesUp t stack x false lists new → new.list.items ≡ t.list.items
-gives-unlisted {t} {new} shut g = grind (arith, nat_tests, none-came, append-nil)
+gives-unlisted {t} {new} shut g = grind (arith, nat_tests, append-nil)
+
+-- ---- what was given is told by another set. Handles of a load that are left are those that it had and that haven't gone
+
+-- a set that has what was given, and no more but what has gone
+pub regiven : (before w : Core) (given given' : ℕ → Bool) (lists : Bool) (t : Holdings) (f : SoFar before w given lists t) → ((r : ℕ) → given' r ≡ true → (given r || f.gone r) ≡ true) → ((r : ℕ) → given r ≡ true → given' r ≡ true) → SoFar before w given' lists t
+regiven before w given given' lists t f less more =
+    let holds : IsWithin w.rows given' f.gone = within-less given' f.gone given f.gone w.rows (λ r. let h = less r in grind (arith, nat_tests)) f.holds in
+    let least : (s : ℕ → Bool) (final : List HandleRow) → ((n : ℕ) → held n (live t.handles.places.items) ≡ 0 → held n final ≡ 0) → IsWithin w.rows given' s
+    → IsClosed w.rows (is_keyed w) final s → IsWithin w.rows f.gone s =
+    λ s final bare has closed. f.least s final bare (within-less given s given' s w.rows (λ r. let h = more r in grind (arith, nat_tests)) has) closed in
+    grind (arith, nat_tests)
+
+-- whether this one owns the handle of this number
+abbrev pub owned : Owner → ℕ → List HandleRow → Bool
+owned o q rows = passes_in (is_owned_by o) rows q
+
+pub unlisting : (o : Owner) → is_owner o Owner.List ≡ false → (h : HandleRow) → h.owner ≡ Owner.List → is_owned_by o h ≡ false
+unlisting o other h is = ap (is_owner o) is ∙ other
+
+module _ (test : HandleRow → Bool) (q : ℕ) where
+  pub passes-here : (x : HandleRow) (xs : List HandleRow) → passes_in test (x ∷ xs) q ≡ (if is_handle q x then test x else passes_in test xs q)
+  unfolding find_row
+  passes-here x xs = grind (arith, nat_tests)
+
+  pub passes-none : passes_in test [] q ≡ false
+  unfolding find_row
+  passes-none = refl
+
+  pub no-entry : ((h : HandleRow) → h.owner ≡ Owner.List → test h ≡ false) → (last : ℕ) (entries : List HandleRow) → AreNewEntries last entries → passes_in test entries q ≡ false
+  no-entry none last [] new = passes-none
+  no-entry none last (x ∷ xs) new = grind (arith, nat_tests, passes-none, passes-here, no-entry none (last + 1) xs new.3)
+
+  -- what has gone isn't found, and all else is
+  pub found-left : (gone : ℕ → Bool) (rows : List HandleRow) → passes_in test (left_rows gone rows) q ≡ (not (gone q) && passes_in test rows q)
+  found-left gone [] = grind (arith, nat_tests, passes-none)
+  found-left gone (x ∷ xs) = grind (arith, nat_tests, passes-here, found-left gone xs)
+
+  pub found-first : (rows more : List HandleRow) → passes_in test more q ≡ false → passes_in test (rows ++ more) q ≡ passes_in test rows q
+  found-first [] more none = none ∙ sym passes-none
+  found-first (x ∷ xs) more none = grind (arith, nat_tests, passes-here, found-first xs more none)
+
+  pub passes-left : (gone : ℕ → Bool) (entries rows : List HandleRow) → passes_in test entries q ≡ false → passes_in test (left_rows gone rows ++ entries) q ≡ (not (gone q) && passes_in test rows q)
+  passes-left gone entries rows none = found-first (left_rows gone rows) entries none ∙ found-left gone rows
+
+-- of what passes and isn't an entry, what hasn't gone is there
+pub passes-so-far : (before w : Core) (given : ℕ → Bool) (lists : Bool) (t : Holdings) (f : SoFar before w given lists t) (test : HandleRow → Bool) → ((h : HandleRow) → h.owner ≡ Owner.List → test h ≡ false) → (q : ℕ)
+    → passes_in test (live t.handles.places.items) q ≡ (not (f.gone q) && passes_in test w.rows q)
+passes-so-far before w given lists t f test none q = ap (λ rows. passes_in test rows q) f.rows ∙ passes-left test q f.gone f.entries w.rows (no-entry test q none w.last.handle f.entries f.new)
+
+-- what was given and this handle, if the load owned it
+abbrev pub and_owned : Core → LoadNumber → (ℕ → Bool) → ℕ → ℕ → Bool
+and_owned w l given n q = given q || (q == n && is_owned_in w (Owner.Load l) q)
+
+-- the load doesn't have the handle now
+pub given-none : (before w : Core) (given : ℕ → Bool) (lists : Bool) (t : Holdings) (l : LoadNumber) (n : ℕ) → SoFar before w given lists t → owned (Owner.Load l) n (live t.handles.places.items) ≡ false → SoFar before w (and_owned w l given n) lists t
+given-none before w given lists t l n f none =
+    let left = passes-so-far before w given lists t f (is_owned_by (Owner.Load l)) (unlisting (Owner.Load l) refl) n in
+    regiven before w given (and_owned w l given n) lists t f (λ r e. grind (arith, nat_tests, cases_eq r n)) (λ r e. grind (arith, nat_tests))
+
+-- the load had the handle, and it was given
+pub given-one : (before w : Core) (given : ℕ → Bool) (lists : Bool) (t new : Holdings) (l : LoadNumber) (n : ℕ) → SoFar before w given lists t → owned (Owner.Load l) n (live t.handles.places.items) ≡ true → SoFar before w (and_one given n) lists new → SoFar before w (and_owned w l given n) lists new
+given-one before w given lists t new l n f some g =
+    let mine : is_owned_in w (Owner.Load l) n ≡ true =
+    (and_parts (not (f.gone n)) _ (sym (passes-so-far before w given lists t f (is_owned_by (Owner.Load l)) (unlisting (Owner.Load l) refl) n) ∙ some)).1 in
+    regiven before w (and_one given n) (and_owned w l given n) lists new g (λ r e. grind (arith, nat_tests)) (λ r e. grind (arith, nat_tests))

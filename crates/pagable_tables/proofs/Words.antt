@@ -1,37 +1,30 @@
 -- The names that most proofs here cite, passed on from one place. Declares nothing.
-pub use Rattle.std.proofs.Common.{◌≡◌, ℕ, ◌+◌, ◌≤◌, ◌&&◌, Bool, true, false, not, if◌then◌else◌, refl, ap, sym, ◌∙◌, arith, inl, inr, Option, Some, ◌⊎◌, ◌<◌, ◌==◌, ◌++◌, List, [], ◌∷◌, subst, None}
-pub use Rattle.std.proofs.Common.{nat_eq, Ok, Err, ◌||◌, length, filter, sum_by, get_or, drop, suc, zero, ◌-◌, map, vec_capacity, take, drop-cons, add-one, slice_get, set, All, cond, true≢false}
-pub use Rattle.std.proofs.{Common.{rules, take_all, ◌/◌, ◌%◌, ◌*◌}, Math.Seq.take-suc, lemmas.Bool.{cases_Bool, and_parts, cases_eq, cases_order}, lemmas.Bool.Decides.nat_tests}
-pub use Rattle.std.proofs.{lemmas.Grind.get_or-set_at, lemmas.List.{at_drop_more, at_drop_all, append_assoc, append-nil, map-append, length-append, drop_all, length-map, get_or_default}}
-pub use Rattle.std.proofs.{lemmas.List.{get_or-set_other, length-set, get_or-map}, lemmas.List.Elements.{filter-append, All-tail, All-set, filter_from_retain, All-filter, All-push}}
-pub use Rattle.std.proofs.{lemmas.List.Kept.AllPairs-filter, lemmas.List.Quantifiers.all_pairs_push, lemmas.List.Sums.{sum_by-append, sum_by-le-sum_by, sum_by_push, sum_by-cons, sum_by-set}}
-pub use Rattle.std.proofs.{lemmas.List.Sums.{get_or-le-sum_by, sum_by-remove}, lemmas.Option.{get_or_from_slice_get, slice_get_within, slice_get_read, slice_get-get_or}}
-pub use Rattle.std.specs.{Prelude.{is_some, nat_lt, Result, ◌≢◌, IsSome, nat_le, IfSome}, List.AllPairs, Option.option_map}
-pub use Rattle.pagable_model.specs.{declared.data_key.OptionalDataKey.OptionalDataKey, declared.error.Error.Error, declared.numbers.ArcRef.ArcRef, declared.numbers.HandleNumber.HandleNumber}
-pub use Rattle.pagable_model.specs.{declared.numbers.Kind.Kind, declared.numbers.LoadNumber.LoadNumber, declared.numbers.NodeNumber.NodeNumber}
-pub use Rattle.pagable_world.specs.Calls.{with_handle, with_mode, row_of, moved, CloneCall, with_key, with_node, next_node, with_cached, with_cached_if_open, LoosenCall, PinCall, UnpinCall}
-pub use Rattle.pagable_world.specs.Calls.{ReleaseCall, SetKeyCall, ScheduleCall, TakeCall, OfferCall, CloseCall, is_usable, recall_fault, RecallCall, offer_fault, birth_fault, AwayBirthCall}
-pub use Rattle.pagable_world.specs.{Calls.{is_handle_here, pin_fault, shut, is_listed, ClearCall, ReserveCall, with_known, BirthCall, FetchCall}, Cascade.{left_rows, is_keyed, MustList, IsLeast}}
-pub use Rattle.pagable_world.specs.Cascade.{IsWithin, IsClosed, loses_value, pins_outside, held_outside, owned_outside, is_outside, TellsListing, IsPlaceWanting, IsListRefusal, Falls, AreNewEntries}
-pub use Rattle.pagable_world.specs.{Cascade.{nobody, only_handle, FallsAnyhow, CannotList, fallen}, Kinds.{is_pin, is_share, is_shared, is_pinning, pins, has_key, is_handle, is_owner, mode_of}}
-pub use Rattle.pagable_world.specs.{Kinds.{is_at, is_owned_by, owner_value, held, sharing, is_loose, is_in_memory, fits_mode, is_unpinned, any_mode, is_pinned, owner_worker}, LoadCalls.is_owned_in}
-pub use Rattle.pagable_world.specs.LoadCalls.{without_load, numbers_of, cell_fault, hand_over_fault, root_fault, end_fault, MayEnd, adopted, first_key, Adopts, DropCall, HandOverCall, LazyCall}
-pub use Rattle.pagable_world.specs.LoadCalls.{node_fault, lazy_fault, adopt_fault, with_pin, Installs, with_load, IsNextLoad, BeginCall, BeginKeyCall, GetsKnown, AdoptCall, LoadCloses, EndCall}
-pub use Rattle.pagable_world.specs.{Pager.{IsHandleBefore, HandlesAreWhole, MayOwnLoad, IsWhole, IsEntryWhole, OwnersAreThere, IsRootWhole, LoadsAreWhole}, Plain.{one, times, if_there, Among}}
-pub use Rattle.pagable_world.specs.{Plain.{is_loose_kind, is_shared_kind, SameAt, changed, Blob, is_pinned_kind, updated, or_else, type_of}, Refusals.{rank, earlier, where_so, refused_if, spent}}
-pub use Rattle.pagable_world.specs.{Refusals.{handle_fault, load_fault, closed_fault, OwnsLoad, Refused, Owns, live_fault, AreHandlesFull, reference_fault, row_fault, is_type}, World.{Core, Cell}}
-pub use Rattle.pagable_world.specs.World.{Places, HasRoom, Alike, OpenLoad, greatest, row_at, SameCache, of_cell, of_key, Last, type_at, usable, is_here, key_at, Root}
-pub use Rattle.pagable_world.specs.{declared.answers.Beginning.Beginning, declared.answers.Pinning.Pinning, declared.handles.HandleRow.HandleRow, declared.handles.Owner.Owner}
-pub use Rattle.pagable_world.specs.{declared.rows.Mode.Mode, Workers.{is_workers_load, is_workers, without_worker}, Events.with_worker}
-unfoldable pub use Rattle.pagable_world.specs.{Calls.is_named_by, Kinds.find_row, Plain.is_in, Refusals.{references_fault, named_fault}}
-pub use Rattle.indexmap.specs.IndexMap.{IndexMap, get, spare}
-pub use Rattle.pagable_tables.specs.{Asking.{AsksKnown, early_fault}, Bearing.{OnlyRoom, Bears}, ByNumber.{counts_at, refs_at, load_at, known_at, is_same}, Onward.with_tables}
-pub use Rattle.pagable_tables.specs.{Core.{load_in, core_of, Makes, plain_of, MayHold, ArePlaced, Suits, root_in}, Falling.{pins_in, cell_in, entry, is_listing, is_valued}}
-pub use Rattle.pagable_tables.specs.Falling.{holds_in, falls_in, is_bare, is_right, Right, Fits, owns_nothing, named, key_in, next_in, keyed_in, Chain, is_fallen_by, after, is_new, owns, often}
-pub use Rattle.pagable_tables.specs.Falling.{CellsStay, HasFallen, entries_of, first_cause, IsUnlisted, GivesUp, HasPlaces, Steps, Leaves, FallsBy, IsFalling, valued, has_value, ValueStays, Sheds}
-pub use Rattle.pagable_tables.specs.{Falling.{MayList, AreKept, is_node}, Later.AreLater, Live.{live, room, AreSound, IsNext, alive, is_live_place, IsBefore}}
-pub use Rattle.pagable_tables.specs.{Falling.{landed, unpinned, GetsKey, keyed}, Owning.named_at, Onward.{is_plain_pin, SoFar, told_by, Begins, IsApart}, Ready.IsReady}
-pub use Rattle.pagable_tables.specs.{Becoming.Becomes, Ready.has_come, declared.handles.Handles.Handles, declared.holdings.Holdings.Holdings, declared.installing.Ending.Ending, declared.rows.Counts.Counts}
-pub use Rattle.pagable_tables.specs.{declared.rows.LoadRow.LoadRow, declared.rows.NodeRow.NodeRow, declared.rows.Place.Place, declared.tables.Tables.Tables, Giving.{passes_in, left_load, gives_row}}
-pub use Rattle.pagable_tables.specs.{Giving.{InReach, IsNoLess, LoadsAre}, ByNumber.{reach_at, worker_at}, declared.giving.Giving.Giving, declared.rows.Reach.Reach}
-unfoldable pub use Rattle.pagable_tables.specs.Owning.{seen}
+pub use Rattle.std.proofs.Common.{Bool, Err, List, None, Ok, Option, Some, [], add-one, ap, arith, drop, drop-cons, false, filter, get_or, if◌then◌else◌, inl, inr, length, map, nat_eq, not, refl}
+pub use Rattle.std.proofs.Common.{rules, set, slice_get, subst, suc, sum_by, sym, take, take_all, true, vec_capacity, zero, ℕ, ◌&&◌, ◌*◌, ◌++◌, ◌+◌, ◌-◌, ◌/◌, ◌<◌, ◌==◌, ◌||◌, ◌∙◌, ◌∷◌, ◌≡◌, ◌≤◌, ◌⊎◌}
+pub use Rattle.std.proofs.{Math.{Bool.and-true, Seq.take-suc}, lemmas.{Bool.{and_parts, cases_Bool, cases_eq, Decides.nat_tests}, Grind.get_or-set_at, List.{append-nil, append_assoc, at_drop_all}}}
+pub use Rattle.std.proofs.lemmas.List.{at_drop_more, drop_all, get_or-map, get_or-set_other, get_or_default, length-append, length-map, length-set, map-append, Elements.{All-filter, All-push}}
+pub use Rattle.std.proofs.lemmas.List.{Elements.{All-set, filter-append, filter_from_retain}, Kept.AllPairs-filter, Quantifiers.all_pairs_push, Sums.{get_or-le-sum_by, sum_by-append, sum_by-cons}}
+pub use Rattle.std.proofs.lemmas.{List.Sums.{sum_by-le-sum_by, sum_by-remove, sum_by-set, sum_by_push}, Option.{get_or_from_slice_get, slice_get-get_or, slice_get_read, slice_get_within}}
+pub use Rattle.std.specs.{List.AllPairs, Option.option_map, Prelude.{IfSome, IsSome, Result, is_some, nat_lt, ◌≢◌}}
+pub use Rattle.{indexmap.specs.IndexMap.{IndexMap, get}, pagable_model.specs.declared.{data_key.OptionalDataKey.OptionalDataKey, error.Error.Error, numbers.{ArcRef.ArcRef, HandleNumber.HandleNumber}}}
+pub use Rattle.{pagable_model.specs.declared.numbers.{Kind.Kind, LoadNumber.LoadNumber, NodeNumber.NodeNumber}, pagable_tables.specs.{Asking.early_fault, Bearing.{Bears, OnlyRoom}, Becoming.Becomes}}
+pub use Rattle.pagable_tables.specs.{ByNumber.{counts_at, is_same, known_at, load_at, reach_at, refs_at, worker_at}, Core.{ArePlaced, Makes, MayHold, Suits, core_of, load_in, plain_of, root_in}}
+pub use Rattle.pagable_tables.specs.Falling.{AreKept, CellsStay, Chain, FallsBy, Fits, GetsKey, GivesUp, HasFallen, HasPlaces, IsFalling, IsUnlisted, Leaves, MayList, Right, Sheds, Steps}
+pub use Rattle.pagable_tables.specs.Falling.{ValueStays, after, cell_in, entries_of, entry, falls_in, first_cause, has_value, holds_in, is_bare, is_fallen_by, is_listing, is_new, is_node, is_right}
+pub use Rattle.pagable_tables.specs.{Falling.{is_valued, key_in, keyed, landed, named, next_in, often, owns, owns_nothing, pins_in, unpinned, valued}, Giving.{InReach, IsNoLess, LoadsAre, gives_row}}
+pub use Rattle.pagable_tables.specs.{Giving.{left_load, passes_in}, Later.AreLater, Live.{AreSound, IsBefore, IsNext, alive, is_live_place, live}, Onward.{Begins, IsApart, SoFar, is_plain_pin}}
+pub use Rattle.pagable_tables.specs.{Onward.{told_by, with_tables}, Owning.named_at, Ready.{IsReady, has_come}, declared.{giving.Giving.Giving, handles.Handles.Handles, holdings.Holdings.Holdings}}
+pub use Rattle.pagable_tables.specs.declared.{installing.Ending.Ending, rows.{Counts.Counts, LoadRow.LoadRow, NodeRow.NodeRow, Place.Place, Reach.Reach}, tables.Tables.Tables}
+pub use Rattle.pagable_world.specs.Calls.{AwayBirthCall, ClearCall, CloneCall, CloseCall, LoosenCall, PinCall, RecallCall, ReserveCall, ScheduleCall, SetKeyCall, TakeCall, UnpinCall, birth_fault}
+pub use Rattle.pagable_world.specs.Calls.{is_handle_here, is_listed, is_usable, moved, next_node, offer_fault, pin_fault, recall_fault, row_of, shut, with_cached, with_handle, with_key, with_known}
+pub use Rattle.pagable_world.specs.{Calls.{with_mode, with_node}, Cascade.{AreNewEntries, Falls, FallsAnyhow, IsClosed, IsLeast, IsListRefusal, IsWithin, MustList, TellsListing, fallen, held_outside}}
+pub use Rattle.pagable_world.specs.{Cascade.{is_keyed, is_outside, left_rows, loses_value, nobody, only_handle, pins_outside}, Events.with_worker, Kinds.{any_mode, fits_mode, has_key, held, is_at}}
+pub use Rattle.pagable_world.specs.Kinds.{is_handle, is_in_memory, is_loose, is_owned_by, is_owner, is_pin, is_pinned, is_pinning, is_share, is_shared, is_unpinned, mode_of, owner_value, owner_worker}
+pub use Rattle.pagable_world.specs.{Kinds.{pins, sharing}, LoadCalls.{Adopts, BeginCall, BeginKeyCall, DropCall, EndCall, HandOverCall, Installs, LazyCall, LoadCloses, MayEnd, adopt_fault, adopted}}
+pub use Rattle.pagable_world.specs.LoadCalls.{cell_fault, end_fault, first_key, hand_over_fault, is_owned_in, lazy_fault, node_fault, numbers_of, root_fault, with_load, with_pin, without_load}
+pub use Rattle.pagable_world.specs.{Pager.{HandlesAreWhole, IsEntryWhole, IsHandleBefore, IsRootWhole, IsWhole, MayOwnLoad}, Plain.{Among, Blob, SameAt, changed, if_there, is_loose_kind}}
+pub use Rattle.pagable_world.specs.{Plain.{is_pinned_kind, is_shared_kind, one, or_else, times, type_of, updated}, Refusals.{AreHandlesFull, Owns, OwnsLoad, Refused, closed_fault, earlier}}
+pub use Rattle.pagable_world.specs.{Refusals.{handle_fault, load_fault, rank, reference_fault, refused_if, spent, where_so}, Workers.{is_workers, is_workers_load, without_worker}, World.{Alike, Cell}}
+pub use Rattle.pagable_world.specs.{World.{Core, HasRoom, Last, OpenLoad, Places, Root, SameCache, greatest, is_here, of_cell, of_key, row_at, type_at, usable}, declared.answers.Beginning.Beginning}
+pub use Rattle.pagable_world.specs.declared.{answers.Pinning.Pinning, handles.{HandleRow.HandleRow, Owner.Owner}, rows.Mode.Mode}
+unfoldable pub use Rattle.{pagable_tables.specs.Owning.seen, pagable_world.specs.{Calls.is_named_by, Kinds.find_row, Plain.is_in, Refusals.{named_fault, references_fault}}}

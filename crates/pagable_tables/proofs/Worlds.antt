@@ -1,7 +1,12 @@
 -- Two worlds that are told alike.
-use Rattle.pagable_tables.proofs.Words.{ap, refl, [], ◌∷◌, ArcRef, or_else, reference_fault, references_fault, true, ◌≡◌, ℕ, ◌&&◌, List, arith, Option, Some, None, if◌then◌else◌, not, Result, Error}
-use Rattle.pagable_tables.proofs.Words.{HandleNumber, Owner, nat_tests, CloneCall, Ok, Err, Makes, is_pinned_kind, if_there, SameAt, pins, is_in_memory, is_owner, Core, Cell, SameCache, Alike}
-use Rattle.{pagable_tables.proofs.Words.{HasRoom, row_at, HandleRow}, std.specs.Result.IsErrAnd}
+use Rattle.pagable_tables.proofs.Words.{Adopts, Alike, ArcRef, AreHandlesFull, Bool, Cell, Core, Counts, Err, Error, FallsAnyhow, HandleNumber, HandleRow, HasRoom, Kind, LazyCall, List, LoadNumber}
+use Rattle.pagable_tables.proofs.Words.{LoadRow, Makes, Mode, NodeNumber, None, Ok, OnlyRoom, OpenLoad, Option, OptionalDataKey, Owner, OwnsLoad, Places, RecallCall, Refused, Result, SameAt}
+use Rattle.pagable_tables.proofs.Words.{SameCache, Some, [], add-one, adopt_fault, adopted, ap, arith, at_drop_all, at_drop_more, birth_fault, cell_in, closed_fault, drop, drop-cons, drop_all}
+use Rattle.pagable_tables.proofs.Words.{earlier, early_fault, false, find_row, first_key, get_or, greatest, handle_fault, if_there, if◌then◌else◌, inl, inr, is_in, is_in_memory, is_loose_kind}
+use Rattle.pagable_tables.proofs.Words.{is_named_by, is_owner, is_pinned_kind, is_some, key_in, lazy_fault, length, load_fault, load_in, map, mode_of, moved, named_at, named_fault, nat_tests}
+use Rattle.pagable_tables.proofs.Words.{next_node, node_fault, not, numbers_of, only_handle, option_map, or_else, pins, pins_in, rank, reference_fault, references_fault, refl, refused_if, seen, spent}
+use Rattle.pagable_tables.proofs.Words.{subst, suc, sym, take, take-suc, take_all, true, type_of, usable, where_so, with_cached, with_handle, with_node, zero, ℕ, ◌&&◌, ◌++◌, ◌+◌, ◌<◌, ◌==◌, ◌||◌, ◌∙◌}
+use Rattle.{pagable_tables.proofs.Words.{◌∷◌, ◌≡◌, ◌≢◌, ◌≤◌, ◌⊎◌}, pagable_world.specs.Calls.IsNext, std.specs.Result.IsErrAnd}
 
 -- what an entry of the cache gives where its node is this cell
 abbrev pub use-of : List HandleRow → ℕ → ℕ → Option Cell → Option ℕ
@@ -22,11 +27,6 @@ pub alike : (w w' : Core) → w'.rows ≡ w.rows → SameAt w.cells w'.cells →
     → w' ≡ record w { rows = w'.rows; cells = w'.cells; places = w'.places } → Alike w w'
 alike w w' rows cells places same = grind (arith, nat_tests, same-cache)
 
--- a handle that is made of a live handle's node, in its mode, is a clone
-pub clones : (w : Core) (me : Owner) (h : HandleNumber) (row : HandleRow) (r : Result HandleNumber Error) (w' : Core) → row_at w h ≡ Some row → Makes w row.node row.mode me r w'
-    → CloneCall w me h r w'
-clones w me h row r w' is m = grind (arith, nat_tests)
-
 -- what is answered where a call within was refused
 pub failed : {T E : Type 0} {e : E} (r : Result T E) → IsErrAnd r (λ y. y ≡ e) → r ≡ Err e
 failed (Err e) is = ap (λ y. Err y) is
@@ -41,3 +41,381 @@ pub fault-by : (w u : Core) (me : Owner) (seen : List ℕ) (rs : List ArcRef) �
 unfolding references_fault
 fault-by w u me seen [] = refl
 fault-by w u me seen (r ∷ rs) = ap (or_else (reference_fault w me seen r)) (fault-by w u me (r.handle.0 ∷ seen) rs)
+
+-- ---- why calls are refused, and which of several causes is told. Loads that are opened and closed again, and what is offered to the cache
+
+-- of two causes the first is told unless the other comes before it
+pub earlier-first : (a x : Option Error) (e : Error) → a ≡ Some e → ((f : Error) → x ≡ Some f → rank e ≤ rank f) → earlier a x ≡ Some e
+earlier-first a x e is late = grind (arith, nat_tests)
+
+pub both-none : (a b : Option Error) → earlier a b ≡ None → (a ≡ None) × (b ≡ None)
+both-none a b e = grind (arith, nat_tests)
+
+-- of two late causes any is late
+pub late : (a b : Option Error) (m : ℕ) → ((f : Error) → a ≡ Some f → m ≤ rank f) → ((f : Error) → b ≡ Some f → m ≤ rank f) → (f : Error) → earlier a b ≡ Some f → m ≤ rank f
+late None b m one two f is = two f is
+late (Some e) None m one two f is = one f is
+late (Some e) (Some g) m one two f is = grind (arith, nat_tests)
+
+pub kind-late : (b : Bool) (f : Error) → refused_if b Error.WrongKind ≡ Some f → 3 ≤ rank f
+kind-late b f is = grind (arith, nat_tests)
+
+-- a cause of numbers, where it is asked
+pub spent-late : (l : ℕ) (b : Bool) (f : Error) → where_so b (spent l) ≡ Some f → 4 ≤ rank f
+spent-late l b f is = grind (arith, nat_tests)
+
+-- why references are refused comes before numbers
+row-low : (at mine fits typed : Bool) (e : Error)
+    → (if not at then Some Error.NoSuchHandle else or_else (refused_if mine Error.NotYours) (if not fits then Some Error.WrongMode else refused_if (not typed) Error.WrongKind)) ≡ Some e → rank e ≤ 3
+row-low at mine fits typed e is = grind (arith, nat_tests)
+
+reference-low : (w : Core) (o : Owner) (seen : List ℕ) (r : ArcRef) (e : Error) → reference_fault w o seen r ≡ Some e → rank e ≤ 3
+reference-low w o seen r e is = search (arith, row-low)
+
+pub references-low : (w : Core) (o : Owner) (seen : List ℕ) (refs : List ArcRef) (e : Error) → references_fault w o seen refs ≡ Some e → rank e ≤ 3
+unfolding references_fault
+references-low w o seen [] e is = absurd (cc)
+references-low w o seen (r ∷ rs) e is = grind (arith, nat_tests, reference-low, references-low w o (r.handle.0 ∷ seen) rs)
+
+abbrev fault-of : Owner → (Mode → Bool) → Option HandleRow → Option Error
+fault-of me fits o = if_there (λ (row : HandleRow). if not (is_owner me row.owner) then Some Error.NotYours else refused_if (not (fits row.mode)) Error.WrongMode) (Some Error.NoSuchHandle) o
+
+fault-rank : (o : Option HandleRow) (me : Owner) (fits : Mode → Bool) (e : Error) → fault-of me fits o ≡ Some e → rank e ≤ 2
+fault-rank o me fits e is = grind (arith, nat_tests)
+
+-- a cause that tells of the handle comes before a later one
+pub handle-first : (w : Core) (me : Owner) (h : HandleNumber) (fits : Mode → Bool) (e : Error) (x : Option Error) → handle_fault w me h fits ≡ Some e
+    → ((f : Error) → x ≡ Some f → 3 ≤ rank f) → earlier (handle_fault w me h fits) x ≡ Some e
+handle-first w me h fits e x is late = grind (arith, nat_tests, earlier-first, fault-rank)
+
+pub owner-self : (o : Owner) → is_owner o o ≡ true
+owner-self o = grind (arith, nat_tests)
+
+-- whether a node of these counts has its value in memory
+pub here-told : (at : ℕ → Option Counts) (rows : List HandleRow) (n : ℕ) (c : Counts) → pins_in (at n) ≡ pins n rows → at n ≡ Some c → is_in_memory (pins n rows) (if_there (λ (cell : Cell). cell.key) OptionalDataKey.None (cell_in (at n))) ≡ is_in_memory c.pins (key_in c.key)
+here-told at rows n c pinned is = grind (arith, nat_tests)
+
+-- the causes of a load come before those of modes, kinds and numbers
+pub load-low : (w : Core) (me : Owner) (l : LoadNumber) (e : Error) → load_fault w me l ≡ Some e → rank e ≤ 1
+load-low w me l e is = grind (arith, nat_tests)
+
+pub no-load-fault : (w : Core) (me : Owner) (l : LoadNumber) (load : OpenLoad) → OwnsLoad w me l load → load_fault w me l ≡ None
+no-load-fault w me l load own = grind (arith, nat_tests, owner-self)
+
+-- memory may be told to be wanting where it was asked for only of an own load
+pub told-later : {cause : Option Error} {full : Type 0} {w w' : Core} {e : Error} (me : Owner) (l : LoadNumber) → Refused cause (load_fault w me l) full w e w' → Refused cause (closed_fault w l) full w e w'
+told-later {cause} {full} {w} {w'} {e} me l r = grind (arith, nat_tests)
+
+-- no load has a number that wasn't given yet
+pub none-yet : (o : Option LoadRow) (last : ℕ) → (is_some (option_map load_in o) ≡ true → last + 1 ≤ last) → o ≡ None
+none-yet x0 last h = grind (arith, nat_tests)
+
+module _ (w : Core) (me : Owner) (kind : Kind) (key : ℕ) (node : NodeNumber) (mode : Mode) (w' : Core)
+    (is : usable w kind.0 key ≡ Some node.0) (fits : mode ≡ mode_of kind.0) where
+  pub recalls : (k : HandleNumber) → Makes w node mode me (Ok k) w' → RecallCall w me kind key (Ok (Some k)) w'
+  recalls k m = record { answers = (node.0, is, m.made.0, subst (λ x. Alike (with_handle w node x me) w') fits m.made.1); refused = tt }
+
+  pub not-recalled : (e : Error) → Makes w node mode me (Err e) w' → RecallCall w me kind key (Err e) w'
+  not-recalled e m = grind (arith, nat_tests, is)
+
+-- ---- a world with more room, and a node that is born in it
+
+pub room-alike : {w w' : Core} → OnlyRoom w w' → Alike w w'
+room-alike {w} {w'} o = grind (arith, nat_tests)
+
+-- room that was made before is nothing to what comes
+pub alike-past : {m w' : Core} (p : Places) → HasRoom m.places p → Alike (record m { places = p }) w' → Alike m w'
+alike-past {m} {w'} p more a = grind (arith, nat_tests)
+
+pub next-past : {w w' : Core} {k : HandleNumber} → OnlyRoom w w' → IsNext k w' → IsNext k w
+next-past {w} {w'} {k} o next = grind (arith, nat_tests)
+
+pub born-past : {w w1 w' : Core} (node_type : ℕ) (key : OptionalDataKey) (rs : List ArcRef) (mode : Mode) (me : Owner) → OnlyRoom w w1
+    → Alike (with_handle (with_node w1 node_type key rs) (next_node w1) mode me) w' → Alike (with_handle (with_node w node_type key rs) (next_node w) mode me) w'
+born-past {w} {w1} {w'} node_type key rs mode me o a = grind (arith, nat_tests, alike-past)
+
+pub room-fault : {w w' : Core} (me : Owner) (rs : List ArcRef) → OnlyRoom w w' → references_fault w' me [] rs ≡ references_fault w me [] rs
+room-fault {w} {w'} me rs o = ap (λ (u : Core). references_fault u me [] rs) o.same ∙ fault-by w (record w { places = w'.places }) me [] rs
+
+-- a new node that the cache knows from now on
+pub adopted-past : {w w1 w' : Core} (l : LoadNumber) (kind : Kind) (key : ℕ) (own : OptionalDataKey) (rs : List ArcRef) → OnlyRoom w w1 → Alike (adopted w1 l kind key own rs) w' → Alike (adopted w l kind key own rs) w'
+adopted-past {w} {w1} {w'} l kind key own rs o a = split w.closed (subst (λ (u : Core). Alike (adopted u l kind key own rs) w') o.same a)
+  where
+    m : Core
+    m = with_handle (with_node w (type_of kind.0) own rs) (next_node w) (mode_of kind.0) (Owner.Load l)
+
+    split : (b : Bool) → Alike (if b then record m { places = w1.places } else with_cached (record m { places = w1.places }) kind key (next_node w)) w' → Alike (if b then m else with_cached m kind key (next_node w)) w'
+    split true a = alike-past w1.places o.more a
+    split false a = alike-past w1.places o.more a
+
+-- where nothing was looked at before, memory may be wanting all the more
+pub weaker : {cause before : Option Error} {w w' : Core} {e : Error} → Refused cause before (Unit {0}) w e w' → Refused cause None (Unit {0}) w e w'
+weaker r = grind (arith, nat_tests)
+
+-- ---- handles that are named come to another owner, one after the other
+
+pub in-none : (hs : List HandleNumber) (q : ℕ) → is_in (seen hs 0) q ≡ false
+unfolding is_in seen
+in-none hs q = refl
+
+-- one more is seen
+pub in-more : (hs : List HandleNumber) (n q : ℕ) → is_in (seen hs (n + 1)) q ≡ (named_at hs n == q || is_in (seen hs n) q)
+unfolding is_in seen
+in-more hs n q = let e : n + 1 ≡ suc n = omega arith in ap (λ m. is_in (seen hs m) q) e
+
+pub in-there : (hs : List HandleNumber) (m n q : ℕ) → n < m → named_at hs n ≡ q → is_in (seen hs m) q ≡ true
+in-there hs zero n q lt is = absurd (omega arith)
+in-there hs (suc m) n q lt is = let a = in-more hs m q in let e : suc m ≡ m + 1 = omega arith in ap (λ k. is_in (seen hs k) q) e ∙ a ∙ grind (arith, nat_tests, in-there hs m n q)
+
+seen-next : (hs : List HandleNumber) (n : ℕ) → seen hs (n + 1) ≡ named_at hs n ∷ seen hs n
+unfolding seen
+seen-next hs n = let e : n + 1 ≡ suc n = omega arith in ap (seen hs) e
+
+abbrev pub one-fault : Core → Owner → List ℕ → HandleNumber → Option Error
+one-fault w o before h = if_there (λ (row : HandleRow). refused_if (not (is_owner o row.owner) || is_in before h.0) Error.NotYours) (Some Error.NoSuchHandle) (find_row h.0 w.rows)
+
+-- past the last there is no fault
+pub last-named : (w : Core) (o : Owner) (hs : List HandleNumber) → None ≡ named_fault w o (seen hs (length hs)) (drop (length hs) hs)
+unfolding named_fault
+last-named w o hs = sym (at_drop_all (named_fault w o (seen hs (length hs))) hs (length hs) (omega arith))
+
+-- the fault of one and of those after it
+pub one-named : (w : Core) (o : Owner) (hs : List HandleNumber) (p : ℕ) (x rest : Option Error) → p < length hs → x ≡ one-fault w o (seen hs p) (get_or hs p (record { 0 = 0 })) → rest ≡ named_fault w o (seen hs (p + 1)) (drop (p + 1) hs) → earlier x rest ≡ named_fault w o (seen hs p) (drop p hs)
+unfolding named_fault
+one-named w o hs p x rest lt is follows =
+    ap (λ x. earlier x rest) is
+    ∙ ap (earlier (one-fault w o (seen hs p) (get_or hs p (record { 0 = 0 })))) (follows ∙ ap (λ before. named_fault w o before (drop (p + 1) hs)) (seen-next hs p))
+    ∙ sym (at_drop_more (named_fault w o (seen hs p)) hs p (record { 0 = 0 }) lt)
+
+-- all of them
+pub all-named : (w : Core) (o : Owner) (hs : List HandleNumber) (p : ℕ) (x : Option Error) → p ≡ 0 → x ≡ named_fault w o (seen hs p) (drop p hs) → x ≡ named_fault w o [] hs
+unfolding seen
+all-named w o hs p x zero' is = is ∙ ap (λ p. named_fault w o (seen hs p) (drop p hs)) zero'
+
+-- the set is told by another test
+pub moved-same : (s s' : ℕ → Bool) (o : Owner) (rows : List HandleRow) → ((q : ℕ) → s q ≡ s' q) → moved s o rows ≡ moved s' o rows
+moved-same s s' o rows same = ap (λ (s : ℕ → Bool). moved s o rows) (λ i q. same q i)
+
+pub moved-unless : (s : ℕ → Bool) (o : Owner) (rows : List HandleRow) → ((q : ℕ) → s q ≡ false) → rows ≡ moved s o rows
+moved-unless s o [] none = refl
+moved-unless s o (x ∷ xs) none = ap (λ r. x ∷ r) (moved-unless s o xs none) ∙ sym (ap (λ b. (if b then record x { owner = o } else x) ∷ moved s o xs) (none x.number.0))
+
+-- nothing is moved where none is named
+pub none-moved : (o : Owner) (rows : List HandleRow) → moved (is_in []) o rows ≡ rows
+unfolding is_in
+none-moved o rows = sym (moved-unless (is_in []) o rows (λ q. refl))
+
+pub moved-twice : (s : ℕ → Bool) (h : HandleNumber) (o : Owner) (rows : List HandleRow) → moved (only_handle h) o (moved s o rows) ≡ moved (λ q. h.0 == q || s q) o rows
+moved-twice s h o [] = refl
+moved-twice s h o (x ∷ xs) = grind (arith, nat_tests, moved-twice s h o xs)
+
+in-push : (hs : List HandleNumber) (h : HandleNumber) (q : ℕ) → is_in (numbers_of (hs ++ h ∷ [])) q ≡ (h.0 == q || is_in (numbers_of hs) q)
+unfolding is_in
+in-push [] h q = refl
+in-push (x ∷ xs) h q = grind (arith, nat_tests, in-push xs h q)
+
+-- one more is moved
+pub moved-one : (hs : List HandleNumber) (i : ℕ) (d : HandleNumber) (o : Owner) (rows : List HandleRow) → i < length hs
+    → moved (only_handle (get_or hs i d)) o (moved (is_in (numbers_of (take i hs))) o rows) ≡ moved (is_in (numbers_of (take (i + 1) hs))) o rows
+moved-one hs i d o rows lt =
+    moved-twice (is_in (numbers_of (take i hs))) (get_or hs i d) o rows
+    ∙ moved-same _ (is_in (numbers_of (take (i + 1) hs))) o rows (λ q. sym (ap (λ l. is_in (numbers_of l) q) (ap (λ n. take n hs) (add-one i) ∙ take-suc hs i d lt) ∙ in-push (take i hs) (get_or hs i d) q))
+
+-- what is found of moved rows
+pub found-there : (f : HandleRow → HandleRow) → ((h : HandleRow) → (f h).number.0 ≡ h.number.0) → (q : ℕ) (rows : List HandleRow) (row : HandleRow) → find_row q rows ≡ Some row
+    → find_row q (map f rows) ≡ Some (f row)
+unfolding find_row
+found-there f same q [] row is = absurd (cc)
+found-there f same q (x ∷ xs) row is = grind (arith, nat_tests, found-there f same q xs row)
+
+pub ruleset handing = (nat_tests, in-none, in-more, in-there, last-named, all-named, none-moved)
+
+-- ---- handles that references name come to another owner
+
+-- no row has the number
+pub moved-none : (h : HandleNumber) (owner : Owner) (rows : List HandleRow) → find_row h.0 rows ≡ None → moved (only_handle h) owner rows ≡ rows
+unfolding find_row
+moved-none h owner [] is = refl
+moved-none h owner (x ∷ xs) is = grind (arith, nat_tests, moved-none h owner xs)
+
+pub named-none : (q : ℕ) → is_named_by [] q ≡ false
+unfolding is_named_by
+named-none q = refl
+
+pub moved-nobody : (owner : Owner) (rows : List HandleRow) → moved (is_named_by []) owner rows ≡ rows
+moved-nobody owner rows = sym (moved-unless (is_named_by []) owner rows named-none)
+
+pub named-push : (rs : List ArcRef) (r : ArcRef) (q : ℕ) → is_named_by (rs ++ r ∷ []) q ≡ (r.handle.0 == q) || is_named_by rs q
+unfolding is_named_by
+named-push [] r q = refl
+named-push (x ∷ xs) r q = grind (arith, nat_tests, named-push xs r q)
+
+pub named-in : (rs : List ArcRef) (i : ℕ) (d : ArcRef) (q : ℕ) → i < length rs → (get_or rs i d).handle.0 ≡ q → is_named_by rs q ≡ true
+unfolding is_named_by
+named-in [] i d q lt is = absurd (omega arith)
+named-in (r ∷ rs) zero d q lt is = grind (arith, nat_tests)
+named-in (r ∷ rs) (suc i) d q lt is = let a = named-in rs i d q (omega arith) is in grind (arith, nat_tests)
+
+pub named-take : (rs : List ArcRef) (i : ℕ) (d : ArcRef) (q : ℕ) → i < length rs → is_named_by (take (i + 1) rs) q ≡ ((get_or rs i d).handle.0 == q) || is_named_by (take i rs) q
+named-take rs i d q lt = ap (λ l. is_named_by l q) (ap (λ n. take n rs) (add-one i) ∙ take-suc rs i d lt) ∙ named-push (take i rs) (get_or rs i d) q
+
+-- one more
+pub moved-take : (rs : List ArcRef) (i : ℕ) (d : ArcRef) (owner : Owner) (rows : List HandleRow) → i < length rs
+    → moved (only_handle (get_or rs i d).handle) owner (moved (is_named_by (take i rs)) owner rows) ≡ moved (is_named_by (take (i + 1) rs)) owner rows
+moved-take rs i d owner rows lt = moved-twice (is_named_by (take i rs)) (get_or rs i d).handle owner rows ∙ moved-same _ (is_named_by (take (i + 1) rs)) owner rows (λ q. sym (named-take rs i d q lt))
+
+pub named-other : (rs : List ArcRef) (i : ℕ) (d : ArcRef) (q : ℕ) → (get_or rs i d).handle.0 ≢ q → i < length rs → is_named_by (take i rs) q ≡ false → is_named_by (take (i + 1) rs) q ≡ false
+named-other rs i d q other lt before =
+    let a : ((get_or rs i d).handle.0 == q) ≡ false = grind (arith, nat_tests) in
+    named-take rs i d q lt ∙ ap (λ b. b || is_named_by (take i rs) q) a ∙ before
+
+pub seen-more : (seen : List ℕ) (rs : List ArcRef) (i : ℕ) (d : ArcRef) → i < length rs → ((q : ℕ) → is_in seen q ≡ is_named_by (take i rs) q) → (q : ℕ) → is_in ((get_or rs i d).handle.0 ∷ seen) q ≡ is_named_by (take (i + 1) rs) q
+unfolding is_in
+seen-more seen rs i d lt same q = ap (λ b. ((get_or rs i d).handle.0 == q) || b) (same q) ∙ sym (named-take rs i d q lt)
+
+pub seen-none : (q : ℕ) → is_in [] q ≡ is_named_by [] q
+unfolding is_in is_named_by
+seen-none q = refl
+
+module _ (w : Core) (me : Owner) (seen : List ℕ) (rs : List ArcRef) (i : ℕ) where
+  fault-drop : (d : ArcRef) → i < length rs → references_fault w me seen (drop i rs) ≡ or_else (reference_fault w me seen (get_or rs i d)) (references_fault w me ((get_or rs i d).handle.0 ∷ seen) (drop (i + 1) rs))
+  unfolding references_fault
+  fault-drop d lt = rw (add-one, drop-cons rs i d) refl
+
+  pub fault-some : (d : ArcRef) (e : Error) → i < length rs → reference_fault w me seen (get_or rs i d) ≡ Some e → references_fault w me seen (drop i rs) ≡ Some e
+  fault-some d e lt is = fault-drop d lt ∙ ap (λ f. or_else f (references_fault w me ((get_or rs i d).handle.0 ∷ seen) (drop (i + 1) rs))) is
+
+  pub fault-none : (d : ArcRef) → i < length rs → reference_fault w me seen (get_or rs i d) ≡ None → references_fault w me seen (drop i rs) ≡ references_fault w me ((get_or rs i d).handle.0 ∷ seen) (drop (i + 1) rs)
+  fault-none d lt is = fault-drop d lt ∙ ap (λ f. or_else f (references_fault w me ((get_or rs i d).handle.0 ∷ seen) (drop (i + 1) rs))) is
+
+  pub fault-end : length rs ≤ i → references_fault w me seen (drop i rs) ≡ None
+  unfolding references_fault
+  fault-end past = ap (references_fault w me seen) (drop_all i rs past)
+
+pub alike-listed : (w w' : Core) → w'.rows ≡ w.rows → w'.list ≡ w.list → HasRoom w.places w'.places → w' ≡ record w { rows = w'.rows; list = w'.list; places = w'.places } → Alike w w'
+alike-listed w w' rows list places same = grind (arith, nat_tests, same-cache)
+
+pub at-work-still : {w w' : Core} {workers : ℕ → Bool} → Alike w w' → SameAt w'.workers workers → Alike w (record w' { workers = workers })
+at-work-still {w} {w'} {workers} a still = grind (arith, nat_tests)
+
+pub ruleset naming = (nat_tests, named-in, named-other, take_all, named-none, moved-nobody, seen-none, fault-end)
+
+-- ---- what a load asks and reads: why it can't become a node, and what becomes of it
+
+pub node-late : (w : Core) (kind : Kind) (key : ℕ) (f : Error) → node_fault w kind key ≡ Some f → 4 ≤ rank f
+node-late w kind key f is = grind (arith, nat_tests)
+
+-- what refuses the load itself comes first
+pub not-own : {before : Option Error} {wanting : Type 0} (w : Core) (me : Owner) (l : LoadNumber) (rest : Option Error) (e : Error) → load_fault w me l ≡ Some e
+    → ((f : Error) → rest ≡ Some f → 3 ≤ rank f) → Refused (earlier (load_fault w me l) rest) before wanting w e w
+not-own w me l rest e is late = record { why = inl (earlier-first (load_fault w me l) rest e is (λ f g. let a = load-low w me l e is in let b = late f g in omega arith)); stays = still w }
+
+module _ (w : Core) (me : Owner) (l : LoadNumber) (load : OpenLoad) (kind : Kind) (key : ℕ) (own : OwnsLoad w me l load) where
+  pub lazy-not-loose : is_loose_kind kind.0 ≡ false → LazyCall w me l kind key (Err Error.WrongKind) w
+  lazy-not-loose tight = grind (arith, nat_tests, earlier, no-load-fault, earlier-first, node-late, still)
+
+  module _ (loose : is_loose_kind kind.0 ≡ true) where
+    lazy-cause : lazy_fault w me l kind key ≡ node_fault w kind key
+    lazy-cause = grind (arith, nat_tests, no-load-fault)
+
+    -- a handle of the node that the cache gives
+    pub lazy-known : (node : NodeNumber) (mode : Mode) (r : Result HandleNumber Error) (w' : Core) → usable w kind.0 key ≡ Some node.0 → mode ≡ mode_of kind.0 → Makes w node mode (Owner.Load l) r w' → LazyCall w me l kind key r w'
+    lazy-known node mode r w' is fits m = grind (arith, nat_tests)
+
+    module _ (none : usable w kind.0 key ≡ None) where
+      fresh : lazy_fault w me l kind key ≡ birth_fault w
+      fresh = lazy-cause ∙ ap (λ b. if b then spent w.last.handle else birth_fault w) (ap is_some none)
+
+      pub lazy-not-new : {e : Error} {w' : Core} → Refused (birth_fault w) (birth_fault w) (Unit {0}) w e w' → LazyCall w me l kind key (Err e) w'
+      lazy-not-new r = grind (arith, nat_tests, fresh)
+
+      pub lazy-new : (k : HandleNumber) {w' : Core} → w.last.node < greatest → IsNext k w → Alike (adopted w l kind key (OptionalDataKey.Some key) []) w' → LazyCall w me l kind key (Ok k) w'
+      lazy-new k node_left next made = record { makes = (load, own, loose, inr (none, node_left, next, made)); refused = tt }
+
+abbrev Early : Option Error → Type 0
+Early a = (e : Error) → a ≡ Some e → rank e ≤ 3
+
+abbrev Late : Option Error → Type 0
+Late n = (e : Error) → n ≡ Some e → 4 ≤ rank e
+
+first : (d n : Option Error) → Early d → Late n → earlier d n ≡ or_else d n
+first d n early late = grind (arith, nat_tests)
+
+next : (c d n : Option Error) → Early c → Late n → earlier c (or_else d n) ≡ or_else (earlier c d) n
+next c d n early late = grind (arith, nat_tests)
+
+last-of : (a b c d n : Option Error) → Early a → Early b → Early c → Early d → Late n → earlier a (earlier b (earlier c (earlier d n))) ≡ or_else (earlier a (earlier b (earlier c d))) n
+last-of a b c d n ea eb ec ed late = grind (arith, nat_tests, earlier, first, next)
+
+module _ (w : Core) (me : Owner) (l : LoadNumber) (kind : Kind) (key node_type : ℕ) (refs : List ArcRef) where
+  abbrev early : Option Error
+  early = early_fault w me l kind node_type refs
+
+  cause : adopt_fault w me l kind key node_type refs ≡ or_else early (node_fault w kind key)
+  cause = grind (arith, nat_tests, last-of, load-low, references-low, node-late)
+
+  -- one of the causes that come first
+  pub not-adopted : (e : Error) → early ≡ Some e → Refused (adopt_fault w me l kind key node_type refs) (load_fault w me l) (Unit {0}) w e w
+  not-adopted e is = record { why = inl (cause ∙ ap (λ f. or_else f (node_fault w kind key)) is); stays = still w }
+
+  module _ (good : early ≡ None) where
+    parts : (load_fault w me l ≡ None) × (refused_if (is_loose_kind kind.0) Error.WrongMode ≡ None) × (refused_if (not (node_type == type_of kind.0)) Error.WrongKind ≡ None) × (references_fault w (Owner.Load l) [] refs ≡ None)
+    parts = grind (arith, nat_tests, both-none)
+
+    pub fitting : references_fault w (Owner.Load l) [] refs ≡ None
+    fitting = parts.3
+
+    pub eager : is_loose_kind kind.0 ≡ false
+    eager = let loose = parts.1 in grind (arith, nat_tests)
+
+    pub owner-of : (load : OpenLoad) × OwnsLoad w me l load
+    owner-of = let own = parts.0 in grind (arith, nat_tests)
+
+    -- memory is wanting
+    pub refused-memory : {w' : Core} → OnlyRoom w w' → Refused (adopt_fault w me l kind key node_type refs) (load_fault w me l) (Unit {0}) w Error.OutOfMemory w'
+    refused-memory room = record { why = inr (refl, parts.0, tt); stays = room-alike room }
+
+    typed : node_type ≡ type_of kind.0
+    typed = let a = parts.2 in grind (arith, nat_tests)
+
+    left : adopt_fault w me l kind key node_type refs ≡ node_fault w kind key
+    left = cause ∙ ap (λ f. or_else f (node_fault w kind key)) good
+
+    -- the cache gives a node
+    pub adopts-known : (node : NodeNumber) (k : HandleNumber) {w' : Core} → usable w kind.0 key ≡ Some node.0 → IsNext k w → FallsAnyhow w (with_handle w node (mode_of kind.0) (Owner.Load l)) (is_named_by refs) w'
+        → Adopts w me l kind key node_type refs k w'
+    adopts-known node k is next falls = record { load = owner-of.0; owned = owner-of.1; eager = eager; typed = typed; good = fitting; next = next; makes = inl (node.0, is, falls) }
+
+    pub refused-known : (n : ℕ) {e : Error} {w' : Core} → usable w kind.0 key ≡ Some n → Refused (spent w.last.handle) (spent w.last.handle) (AreHandlesFull w) w e w'
+        → Refused (adopt_fault w me l kind key node_type refs) (load_fault w me l) (Unit {0}) w e w'
+    refused-known n is refused = grind (arith, nat_tests, left, parts)
+
+    -- it gives none
+    module _ (none : usable w kind.0 key ≡ None) where
+      pub adopts-new : (k : HandleNumber) {w' : Core} → w.last.node < greatest → IsNext k w → Alike (adopted w l kind key (first_key kind.0 key) refs) w' → Adopts w me l kind key node_type refs k w'
+      adopts-new k node_left next made = record { load = owner-of.0; owned = owner-of.1; eager = eager; typed = typed; good = fitting; next = next; makes = inr (none, node_left, made) }
+
+      pub refused-new : {before : Option Error} {e : Error} {w' : Core} → Refused (birth_fault w) before (Unit {0}) w e w' → Refused (adopt_fault w me l kind key node_type refs) (load_fault w me l) (Unit {0}) w e w'
+      refused-new refused = grind (arith, nat_tests, fresh, left, parts)
+
+-- room is nothing to the causes that come first
+pub early-past : {w w' : Core} (me : Owner) (l : LoadNumber) (kind : Kind) (node_type : ℕ) (refs : List ArcRef) → OnlyRoom w w' → early_fault w' me l kind node_type refs ≡ early_fault w me l kind node_type refs
+early-past {w} {w'} me l kind node_type refs o =
+    ap (λ (u : Core). early_fault u me l kind node_type refs) o.same
+    ∙ ap (λ x. earlier (load_fault w me l) (earlier (refused_if (is_loose_kind kind.0) Error.WrongMode) (earlier (refused_if (not (node_type == type_of kind.0)) Error.WrongKind) x)))
+    (fault-by w (record w { places = w'.places }) (Owner.Load l) [] refs)
+
+-- the cache of the second world learns what that of the first does
+module _ (w w' : Core) (kind : Kind) (key : ℕ) (n : NodeNumber) (cache : ℕ → ℕ → Option ℕ) (a : Alike w w') (here : cache kind.0 key ≡ Some n.0) (others : (k q : ℕ) → (k ≢ kind.0) ⊎ (q ≢ key) → cache k q ≡ w'.cache k q) where
+  abbrev known : ℕ → ℕ → Option ℕ
+  known k q = if k == kind.0 && q == key then Some n.0 else w.cache k q
+
+  same : (k q : ℕ) → ((known k q ≡ Some n.0) × (cache k q ≡ Some n.0)) ⊎ ((known k q ≡ w.cache k q) × (cache k q ≡ w'.cache k q))
+  same k q = grind (arith, nat_tests)
+
+  pub learned : Alike (with_cached w kind key n) (record w' { cache = cache })
+  learned = grind (arith, nat_tests, same, usable-same)
+
+-- the cache learns while the storage is open
+pub if-open : (closed : Bool) (w w' : Core) (kind : Kind) (key : ℕ) (n : NodeNumber) → (closed ≡ true → Alike w w') → (closed ≡ false → Alike (with_cached w kind key n) w') → Alike (if closed then w else with_cached w kind key n) w'
+if-open x0 w w' kind key n shut stands = grind (arith, nat_tests)

@@ -56,7 +56,7 @@ fn gives(loads: &Loads, giving: Giving, row: HandleRow) -> bool
 }
 
 /// The last handle that is given up, of a number above `since` and not above `left`.
-#[tactic(auto, using(crate::proofs::GivenAll::places))]
+#[tactic(auto, using(crate::proofs::Doing::places))]
 fn last_above(
     handles: &Handles,
     loads: &Loads,
@@ -116,7 +116,7 @@ fn last_given(
 }
 
 /// All these handles, which are in this reach, are given up, from the last to the first, with all that goes with them. It is refused as `fall` is.
-#[tactic(auto, using(crate::proofs::Ended::shedding))]
+#[tactic(auto, using(crate::proofs::Next::shedding))]
 pub fn give_all<N: Drop>(
     t: &mut Holdings,
     values: &mut Arcs<N>,

@@ -216,7 +216,7 @@ fn hand_over_live(handles: &mut Handles, handle: HandleNumber, owner: Owner)
 }
 
 /// The live handles that these references name have this owner from now on.
-#[tactic(auto, using(crate::proofs::Named::naming))]
+#[tactic(auto, using(crate::proofs::Worlds::naming))]
 pub fn hand_over_all(handles: &mut Handles, references: &[ArcRef], owner: Owner)
     requires { AreSound handles.old }
     ensures { Becomes handles.old (moved (is_named_by references.now) owner (live handles.old.places.items)) handles.new }
@@ -227,7 +227,7 @@ pub fn hand_over_all(handles: &mut Handles, references: &[ArcRef], owner: Owner)
 }
 
 /// The live handles of these numbers have this owner from now on.
-#[tactic(auto, using(crate::proofs::Handed::handing))]
+#[tactic(auto, using(crate::proofs::Worlds::handing))]
 pub fn hand_each(handles: &mut Handles, named: &[HandleNumber], owner: Owner)
     requires { AreSound handles.old }
     ensures { Becomes handles.old (moved (is_in (numbers_of named.now)) owner (live handles.old.places.items)) handles.new }

@@ -103,7 +103,7 @@ fn wants_entry(counts: Counts, mode: Mode, lists: bool) -> bool
 }
 
 /// The handle at this place leaves, or it stays without its pin.
-#[tactic(auto, using(crate::proofs::Coming::counting))]
+#[tactic(auto, using(crate::proofs::Fitting::counting))]
 fn leave(handles: &mut Handles, at: HandleAt, stays: bool)
     requires sound { AreSound handles.old }
     requires place { slice_get handles.old.places.items at.place ≡ Some (alive at.row) }
@@ -145,7 +145,7 @@ pub fn top_after(before: bool, falls: bool, node: u64, top: u64) -> u64
 }
 
 /// Gives up the handle at this place, or only its pin where it stays. Where cells are listed, one without a key is, if that was its last pin.
-#[tactic(auto, using(crate::proofs::Coming::counting))]
+#[tactic(auto, using(crate::proofs::Fitting::counting))]
 pub fn give_up(t: &mut Holdings, at: HandleAt, stays: bool, lists: bool)
     requires falling { (stack : List ℕ) × IsFalling t.old stack (owns at.row) }
     requires place { slice_get t.old.handles.places.items at.place ≡ Some (alive at.row) }
@@ -216,7 +216,7 @@ fn let_go<N: Drop>(values: &mut Arcs<N>, done: Option<NodeNumber>)
 }
 
 /// Gives up all that fallen values referred to, and so on, to the end, and lets the values go. It takes no memory but for entries of the list.
-#[tactic(auto, using(crate::proofs::Ended::falls))]
+#[tactic(auto, using(crate::proofs::Next::falls))]
 pub fn cascade<N: Drop>(t: &mut Holdings, values: &mut Arcs<N>, lists: bool)
     requires falling { (stack : List ℕ) × IsFalling t.old stack owns_nothing × (length stack ≤ 1) }
     ensures whole { IsFalling t.new [] owns_nothing }

@@ -45,7 +45,7 @@ fn put_key(t: &mut Holdings, node: u64, key: u128)
 
 /// The cell of an own loose handle gets a key, and its value goes if nothing pins it. Through a handle of another mode nothing happens. NumbersSpent or
 /// OutOfMemory where a cell that had to be listed isn't.
-#[tactic(auto, using(crate::proofs::Coming::counting))]
+#[tactic(auto, using(crate::proofs::Fitting::counting))]
 pub fn set_data_key<N: Drop>(
     t: &mut Tables,
     values: &mut Arcs<N>,

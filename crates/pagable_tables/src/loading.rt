@@ -45,7 +45,7 @@ fn key_away(counts: Counts) -> Option<DataKey>
 }
 
 /// A load of the cell of the handle at this place, with an unpinned handle of its own. OutOfMemory where one of them has no place.
-#[tactic(auto, using(crate::proofs::Coming::counting))]
+#[tactic(auto, using(crate::proofs::Fitting::counting))]
 fn open_cell(
     t: &mut Tables,
     me: Owner,
@@ -88,7 +88,7 @@ fn open_cell(
 
 /// A load of a loose handle's cell, whose value has to be read first; or nothing, where it is in memory. It is refused where the handle isn't an own loose one,
 /// no number of a load or a handle is left, or memory is wanting.
-#[tactic(auto, using(crate::proofs::Coming::counting))]
+#[tactic(auto, using(crate::proofs::Fitting::counting))]
 pub fn load_begin(t: &mut Tables, me: Owner, handle: HandleNumber) -> Result<Beginning, Error>
     requires whole { IsWhole t.old }
     requires later { AreLater t.old }

@@ -100,7 +100,7 @@ pub fn node_live(t: &Tables, node: NodeNumber) -> Option<u32>
 }
 
 /// The handle at this place of the list, with type and key of its cell. None past the end.
-#[tactic(auto, using(crate::proofs::Coming::counting))]
+#[tactic(auto, using(crate::proofs::Fitting::counting))]
 pub fn entry(t: &Tables, place: usize) -> Option<(HandleRow, u32, OptionalDataKey)>
     requires { IsWhole t.now }
     ensures found { IfSome result (λ e. (stored : ℕ → Option Blob) (closed : Bool) (failures : ℕ) → IsEntry (core_of t.now stored closed failures) place e.0.number e.0 e.1) }

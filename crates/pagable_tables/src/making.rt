@@ -26,7 +26,7 @@ pub fn counts_more(counts: Counts, pinning: bool) -> Counts
 }
 
 /// A handle of a live node comes under the next number. NumbersSpent where none is left, OutOfMemory where there is no place.
-#[tactic(auto, using(crate::proofs::Coming::counting))]
+#[tactic(auto, using(crate::proofs::Fitting::counting))]
 pub fn come(
     t: &mut Holdings,
     node: NodeNumber,

@@ -16,7 +16,7 @@ use pagable_model::{ArcRef, Error, HandleNumber};
 use pagable_world::handles::{HandleRow, Owner};
 
 /// Whether one of these references names the handle, where none has a greater number than the highest. So references in the order of their handles cost a look each.
-#[tactic(auto, using(crate::proofs::Named::naming))]
+#[tactic(auto, using(crate::proofs::Worlds::naming))]
 fn is_named(references: &[ArcRef], highest: u64, handle: HandleNumber) -> bool
     requires { (q : ℕ) → highest < q → is_named_by references.now q ≡ false }
     ensures { result ≡ is_named_by references.now handle.0 }
@@ -72,7 +72,7 @@ pub fn claim_fault(t: &Tables, reference: ArcRef) -> Option<Error>
 }
 
 /// Why the references of a value that is handed in are refused: the cause of the first that has one.
-#[tactic(auto, using(crate::proofs::Named::naming))]
+#[tactic(auto, using(crate::proofs::Worlds::naming))]
 pub fn references_fault(t: &Tables, me: Owner, references: &[ArcRef]) -> Option<Error>
     requires { IsWhole t.now }
     ensures { (stored : ℕ → Option Blob) (closed : Bool) (failures : ℕ) → result ≡ references_fault (core_of t.now stored closed failures) me [] references.now }
@@ -139,7 +139,7 @@ pub fn refused_if(so: bool, error: Error) -> Option<Error>
 }
 
 /// Whether the number stands before this place.
-#[tactic(auto, using(crate::proofs::Handed::handing))]
+#[tactic(auto, using(crate::proofs::Worlds::handing))]
 fn is_before(named: &[HandleNumber], place: usize, number: u64) -> bool
     requires { place ≤ length named.now }
     ensures { result ≡ is_in (seen named.now place) number }
@@ -169,7 +169,7 @@ fn fault_at(handles: &Handles, owner: Owner, named: &[HandleNumber], place: usiz
 }
 
 /// Why the handles that are named can't all be handed over by this owner: one isn't live, or one is another's or is named twice.
-#[tactic(auto, using(crate::proofs::Handed::handing))]
+#[tactic(auto, using(crate::proofs::Worlds::handing))]
 pub fn named_fault(handles: &Handles, owner: Owner, named: &[HandleNumber]) -> Option<Error>
     requires { AreSound handles.now }
     ensures { (w : Core) → w.rows ≡ live handles.now.places.items → result ≡ named_fault w owner [] named.now }

@@ -14,7 +14,7 @@ use pagable_world::Mode;
 use pagable_world::handles::Owner;
 
 /// The handle at this place is given up, with all that goes with it. NumbersSpent or OutOfMemory where a cell that had to be listed isn't.
-#[tactic(auto, using(crate::proofs::Ended::shedding))]
+#[tactic(auto, using(crate::proofs::Next::shedding))]
 pub fn give_back<N: Drop>(
     t: &mut Holdings,
     values: &mut Arcs<N>,

@@ -15,7 +15,7 @@ use pagable_model::{Error, NodeNumber, WorkerNumber};
 use pagable_world::handles::Owner;
 
 /// One worker more is at work. OutOfMemory where it has no place, or no number is left for it.
-#[tactic(auto, using(crate::proofs::Taken::working))]
+#[tactic(auto, using(crate::proofs::Newer::working))]
 pub fn worker_begin(t: &mut Tables) -> Result<WorkerNumber, Error>
     requires { IsWhole t.old }
     ensures does { Does t.old (λ w w'. BeginsWorker w result w') t.new }

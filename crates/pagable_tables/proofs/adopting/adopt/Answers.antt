@@ -1,4 +1,4 @@
-use Rattle.pagable_tables.proofs.{Words.{subst, Alike, adopted, core_of, plain_of}, Adoptions.fitting}
+use Rattle.pagable_tables.proofs.{Words.{Alike, adopted, core_of, plain_of, subst}, Worlds.fitting}
 use Rattle.pagable_tables.proofs.adopting.adopt.Goals as goal
 
 pub learn_new-requires-clause-fit : goal.learn_new-requires-clause-fit

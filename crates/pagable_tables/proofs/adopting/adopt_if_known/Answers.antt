@@ -1,7 +1,7 @@
 use Rattle.pagable_tables.proofs.Words.{ap, sym, ◌∙◌, false, not, None, is_some, core_of, plain_of, subst, Suits, Owner, mode_of, with_handle, Alike, Mode, length, arith, ◌+◌, AllPairs}
-use Rattle.pagable_tables.proofs.{Words.{IsHandleBefore, refl, Falls, is_named_by, Tables, has_value, counts_at}, Adoptions.{not-adopted, adopts-known, refused-known, fitting, eager, owner-of}}
-use Rattle.pagable_tables.proofs.{Begun.{begun-whole, not-closed}, Doing.listing, Ended.{stays-first, sheds-still}, Newer.{later-on, newer-falls}, Regiven.owned, Stays.{named-loaded, not-named}}
-use Rattle.pagable_tables.proofs.{Stays.{begun-made, swapped, loaded-append}, Worlds.failed, keeps.{CacheCalls.known-suits, Fallen.falls-opened, Placed.whole-so, Told.{roomy-whole, stays-on}}}
+use Rattle.pagable_tables.proofs.{Alive.whole-so, Calls.known-suits, Doing.listing, Fitting.{begun-whole, not-closed}, Newer.{begun-made, later-on, loaded-append, named-loaded, newer-falls}}
+use Rattle.pagable_tables.proofs.{Newer.{not-named, swapped}, Next.{owned, sheds-still, stays-first}, Told.{falls-opened, roomy-whole, stays-on}, Words.{Falls, IsHandleBefore, Tables, counts_at}}
+use Rattle.pagable_tables.proofs.{Words.{has_value, is_named_by, refl}, Worlds.{adopts-known, eager, failed, fitting, not-adopted, owner-of, refused-known}}
 use Rattle.pagable_tables.proofs.adopting.adopt_if_known.Goals as goal
 
 pub returns-in-Some-clause-refused : goal.returns-in-Some-clause-refused

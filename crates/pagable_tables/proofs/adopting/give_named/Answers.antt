@@ -1,4 +1,4 @@
-use Rattle.pagable_tables.proofs.{Words.{[], arith, take_all, None, owns_nothing}, Begun.aside, GivenAll.{none-given, one-given, all-given}, Ended.{sheds-still, sheds-then}}
+use Rattle.pagable_tables.proofs.{Doing.{all-given, none-given, one-given}, Fitting.aside, Next.{sheds-still, sheds-then}, Words.{None, [], arith, owns_nothing, take_all}}
 use Rattle.pagable_tables.proofs.adopting.give_named.Goals as goal
 
 pub loop-reference-init : goal.loop-reference-init

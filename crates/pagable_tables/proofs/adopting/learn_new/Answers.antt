@@ -1,6 +1,6 @@
 use Rattle.pagable_tables.proofs.Words.{◌≡◌, ℕ, Bool, Blob, None, false, true, ◌+◌, ◌/◌, ap, sym, ◌∙◌, subst, Some, Option, not, IndexMap, NodeNumber, Owner, Last, Alike, adopted, mode_of}
-use Rattle.pagable_tables.proofs.{Words.{with_handle, with_node, next_node, key_in, core_of, option_map, inl, inr, is_shared, has_key}, Adoptions.{learned, if-open}, Begun.not-closed}
-use Rattle.pagable_tables.proofs.keeps.{EndCalls.adopted-whole, Fallen.alike-opened, Placed.whole-so, Told.settles}
+use Rattle.pagable_tables.proofs.{Alive.whole-so, Calls.adopted-whole, Fitting.not-closed, Told.{alike-opened, settles}, Words.{core_of, has_key, inl, inr, is_shared, key_in, next_node, option_map}}
+use Rattle.pagable_tables.proofs.{Words.{with_handle, with_node}, Worlds.{if-open, learned}}
 use Rattle.pagable_tables.proofs.adopting.learn_new.Goals as goal
 
 abbrev number : Option NodeNumber → Option ℕ

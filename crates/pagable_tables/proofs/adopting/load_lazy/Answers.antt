@@ -1,6 +1,6 @@
 use Rattle.pagable_tables.proofs.Words.{◌<◌, [], arith, ap, sym, ◌∙◌, subst, false, inl, inr, None, OptionalDataKey, Core, Alike, greatest, Owner, adopted, core_of, plain_of, load_in, Suits, key_in}
-use Rattle.pagable_tables.proofs.{Words.{not, is_loose_kind, nat_tests}, Opened.{late, kind-late}, Adoptions.{not-own, node-late, lazy-not-loose, lazy-known, lazy-not-new, lazy-new}}
-use Rattle.pagable_tables.proofs.{Doing.{nothing-does, does-as, does-then}, NewNodes.{key-is, none-named}, Readied.{adopted-past, next-past}, Worlds.failed, keeps.CacheCalls.known-suits}
+use Rattle.pagable_tables.proofs.{Calls.known-suits, Doing.{does-as, does-then, nothing-does}, Newer.{key-is, none-named}, Words.{is_loose_kind, nat_tests, not}, Worlds.{adopted-past, failed}}
+use Rattle.pagable_tables.proofs.Worlds.{kind-late, late, lazy-known, lazy-new, lazy-not-loose, lazy-not-new, next-past, node-late, not-own}
 use Rattle.pagable_tables.proofs.adopting.load_lazy.Goals as goal
 
 pub returns-in_err-_row : goal.returns-in_err-_row

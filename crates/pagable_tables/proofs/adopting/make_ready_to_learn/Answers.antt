@@ -1,4 +1,4 @@
-use Rattle.pagable_tables.proofs.{Words.{◌<◌, refl, ap, subst, inr, arith, Core, greatest, Tables}, Doing.learns-does, Readied.{room-alike, not-spent}, Worlds.failed}
+use Rattle.pagable_tables.proofs.{Doing.learns-does, Words.{Core, Tables, ap, arith, greatest, inr, nat_tests, refl, subst, ◌<◌}, Worlds.{failed, room-alike}}
 use Rattle.pagable_tables.proofs.adopting.make_ready_to_learn.Goals as goal
 
 pub returns-in_err-reserve-clause-does : goal.returns-in_err-reserve-clause-does
@@ -10,7 +10,7 @@ returns-in_err-reserve-clause-refused c stored closed failures =
     let node : c.args.t.now.last_node < greatest = subst (λ (t : Tables). t.last_node < greatest) c.make_ready.ensures.same ready.node_left in
     let handle : c.args.t.now.holdings.last_handle < greatest = omega (arith, ready.handle_left, (ap (λ (u : Core). u.last.handle) (c.make_ready.ensures.does.does stored closed failures).same)) in
     rw (failed c.from_residual-in_err-reserve.result c.from_residual-in_err-reserve.ensures.1) (record {
-      why = inr (refl, not-spent c.args.t.now.last_node c.args.t.now.holdings.last_handle node handle, tt);
+      why = inr (refl, grind (arith, nat_tests), tt);
       stays = room-alike ((returns-in_err-reserve-clause-does c).does stored closed failures);
     })
 

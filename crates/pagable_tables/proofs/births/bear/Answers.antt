@@ -1,6 +1,6 @@
-use Rattle.pagable_tables.proofs.Words.{◌≡◌, ◌+◌, ◌++◌, ◌∷◌, [], refl, ap, ◌∙◌, arith, inl, inr, None, Some, HandleRow, owner_value, Counts, one, is_pinning, moved, is_named_by, live, counts_at, refs_at, plain_of, key_in}
-use Rattle.pagable_tables.proofs.{Words.{false, has_key, nat_tests, rules}, Born.{born-fits, no-node}, Coming.rows-told, Doing.does-so, NewNodes.{bears-newer, bears-whole}, Worlds.same-cache}
-use Rattle.{pagable_tables.proofs.keeps.Comes.not-a-value, std.proofs.lemmas.Grind.common_steps}
+use Rattle.pagable_tables.proofs.{Doing.does-so, Fitting.rows-told, Installed.born-fits, Newer.{bears-newer, bears-whole}, Told.not-a-value, Words.{Counts, HandleRow, None, Some, [], ap, arith}}
+use Rattle.pagable_tables.proofs.Words.{counts_at, false, has_key, inl, inr, is_named_by, is_pinning, key_in, live, moved, nat_tests, one, owner_value, plain_of, refl, refs_at, rules, ◌++◌, ◌+◌, ◌∙◌}
+use Rattle.{pagable_tables.proofs.{Words.{◌∷◌, ◌≡◌}, Worlds.same-cache}, std.proofs.lemmas.Grind.common_steps}
 use Rattle.pagable_tables.proofs.births.bear.Goals as goal
 
 pub returns-clause-does : goal.returns-clause-does
@@ -16,7 +16,7 @@ returns-clause-does c =
     let added = c.in-Ok-add.ensures in
     let is : Counts = record { node_type = c.args.node_type; key = c.args.key; pins = one (is_pinning c.args.mode); holds = 1; is_falling = false; next = 0 } in
     let here : counts_at c.add.new.nodes n ≡ Some is = grind (arith, nat_tests, added.here, c.pins.ensures) in
-    let free : at n ≡ None = no-node (at n) u.last_node (w.core.handles.nodes_numbered n) in
+    let free : at n ≡ None = let given = w.core.handles.nodes_numbered n in grind (arith, nat_tests) in
     let named = ap (λ l. moved (is_named_by l) (owner_value n) (live t.handles.places.items)) c.deref.ensures.value in
     let rows = c.in-Ok.ensures.rows ∙ ap (λ l. l ++ x ∷ []) (c.hand_over_all.ensures.rows ∙ named) in
     let unvalued = not-a-value (plain_of u) me c.requires.holder in

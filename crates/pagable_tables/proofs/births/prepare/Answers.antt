@@ -1,10 +1,10 @@
-use Rattle.pagable_tables.proofs.{Words.{sym, subst, ◌∙◌, false, None, inl, earlier, Refused, birth_fault, core_of}, NewNodes.references-first, Readied.{room-fault, weaker}}
-use Rattle.pagable_tables.proofs.Worlds.{failed, still}
+use Rattle.pagable_tables.proofs.{Words.{None, Refused, arith, birth_fault, core_of, earlier, false, inl, nat_tests, subst, sym, ◌∙◌}, Worlds.{earlier-first, failed, late, references-low, room-fault}}
+use Rattle.pagable_tables.proofs.Worlds.{spent-late, still, weaker}
 use Rattle.pagable_tables.proofs.births.prepare.Goals as goal
 
 pub returns-in-Some-clause-refused : goal.returns-in-Some-clause-refused
 returns-in-Some-clause-refused c stored closed failures =
-    record { why = inl (references-first _ c.args.me c.args.references.now c.in-Some.e (sym (c.references_fault.ensures stored closed failures) ∙ c.in-Some.is)); stays = still _ }
+    record { why = inl (let e = sym (c.references_fault.ensures stored closed failures) ∙ c.in-Some.is in grind (arith, nat_tests, earlier-first, references-low, late, spent-late)); stays = still _ }
 
 pub returns-clause-fit : goal.returns-clause-fit
 returns-clause-fit c = room-fault c.args.me c.args.references.now (c.make_ready.ensures.does.does (λ key. None) false 0) ∙ sym (c.references_fault.ensures (λ key. None) false 0) ∙ c.in_default.is

@@ -1,5 +1,5 @@
-use Rattle.pagable_tables.proofs.Words.{refl, None, false, Ok, Owner, arith, inl, not, shut, is_listed, is_owned_by, core_of, plain_of, with_tables, Holdings, FallsAnyhow, Falls, NodeNumber, ap, option_map, sym, subst}
-use Rattle.pagable_tables.proofs.{Begun.{begins, begun}, Entries.owned-listed, Newer.{close-newer, later-on}, Taken.passes-given, keeps.{EndCalls.close-whole, Placed.whole-so}}
+use Rattle.pagable_tables.proofs.{Alive.whole-so, Calls.close-whole, Fitting.{begun, owned-listed, unmixed}, Newer.{later-on, newer-falls, passes-given}, Words.{Falls, FallsAnyhow, Holdings}}
+use Rattle.pagable_tables.proofs.Words.{NodeNumber, None, Ok, Owner, ap, arith, core_of, false, inl, is_listed, is_owned_by, option_map, plain_of, refl, shut, subst, sym, with_tables}
 use Rattle.pagable_tables.proofs.closing.close.Goals as goal
 
 pub give_all-requires-clause-steady : goal.give_all-requires-clause-steady
@@ -11,11 +11,9 @@ returns-clause-closed g c stored closed failures failures' le =
     let w = core_of t stored closed failures in
     let u = shut w failures' in
     let whole = c.requires.whole in
-    let b = begins t stored closed (not closed) failures whole refl in
     let left : Holdings = record t.holdings { list = c.clear.new.self; unlisted = None } in
-    let so-far = begun w u false left (record { open_storage = refl; fewer = b.fewer; shared = b.shared; uniform = b.uniform; listed = λ q. omega arith })
-    refl c.clear.ensures.items refl whole.core.handles.within.0 (record { handles = omega arith; entries = omega arith }) (λ n. refl) refl
-    (λ n must. let a = must.pinned in let z = must.unpinned in absurd (omega arith)) in
+    let so-far = begun w u false left refl (λ p own. refl) (unmixed t whole) (λ q. omega arith) refl c.clear.ensures.items refl whole.core.handles.within.0
+    (record { handles = omega arith; entries = omega arith }) (λ n. refl) refl in
     let falls = c.give_all.ensures.falls w u w (λ l. refl) so-far (omega arith)
     (λ q is. let given = passes-given (is_owned_by Owner.List) (plain_of t) q whole.core.handles is in ((given.0, inl given.0), given.1)) in
     let listed : FallsAnyhow w u (is_listed w) (with_tables u c.give_all.new.t) =
@@ -31,4 +29,4 @@ returns-clause-whole g c = whole-so c.give_all.ensures.steady (close-whole (Ok t
 
 pub returns-clause-later : goal.returns-clause-later
 returns-clause-later g c later =
-    later-on later (close-newer (Ok tt) (returns-clause-closed g c (λ key. None) false 0 0 (omega arith))) refl refl
+    later-on later (newer-falls (returns-clause-closed g c (λ key. None) false 0 0 (omega arith)).falls.falls) refl refl

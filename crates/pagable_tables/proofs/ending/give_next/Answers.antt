@@ -1,4 +1,4 @@
-use Rattle.pagable_tables.proofs.{Words.{◌≡◌, false, ap, sym, ◌∙◌, subst, if_there, HandleNumber, is_owner, is_owned_by, Owner, SoFar, inl}, Left.and_one, Regiven.{given-none, given-one}}
+use Rattle.pagable_tables.proofs.{Alive.and_one, Next.{given-none, given-one}, Words.{HandleNumber, Owner, SoFar, ap, false, if_there, inl, is_owned_by, is_owner, subst, sym, ◌∙◌, ◌≡◌}}
 use Rattle.pagable_tables.proofs.Worlds.{owner-same}
 use Rattle.pagable_tables.proofs.ending.give_next.Goals as goal
 

@@ -1,6 +1,5 @@
 use Rattle.pagable_tables.proofs.{Words.{arith, refl, inl, inr, Owner, option_map, is_owned_in, without_load, load_at, core_of, plain_of, load_in, with_tables}, Doing.{nothing-shed, sheds-by}}
-use Rattle.pagable_tables.proofs.{GivenAll.bare, Newer.{drop-newer, later-so, closed-still}, Taken.{load-closed, begun-less, owned-given, loads-anew}, Worlds.{failed, still}}
-use Rattle.pagable_tables.proofs.keeps.EndCalls.{drop-whole}
+use Rattle.pagable_tables.proofs.{Calls.drop-whole, Doing.bare, Fitting.begun-less, Newer.{closed-still, drop-newer, later-so, load-closed, loads-anew, owned-given}, Worlds.{failed, still}}
 use Rattle.pagable_tables.proofs.ending.load_drop.Goals as goal
 
 pub returns-in_err-row : goal.returns-in_err-row

@@ -1,7 +1,7 @@
-use Rattle.pagable_tables.proofs.Words.{◌≡◌, ℕ, ◌&&◌, false, not, length, arith, ap, sym, ◌∙◌, subst, Some, None, Owner, is_in, if_there, is_owner, Falls, is_owned_in}
-use Rattle.pagable_tables.proofs.{Words.{nat_tests, refl, numbers_of, is_owned_by, [], load_at, core_of, plain_of, load_in, with_tables, option_map, inl}, Bits.and-left, Doing.sheds-by, GivenAll.bare}
-use Rattle.pagable_tables.proofs.{Newer.{newer-falls, later-handed, closed-still}, Opened.owner-self, Taken.{moved-less, begun-moved, owned-moved, no-load, may-hand, handed-free, moved-stands}}
-use Rattle.pagable_tables.proofs.{Taken.{still-listed, MayHand, load-closed, owned-given, loads-anew}, keeps.{Comes.not-a-value, EndCalls.{hand-over-whole, handed-mine}, LoadCalls.may-hold}}
+use Rattle.pagable_tables.proofs.{Alive.and-left, Calls.{hand-over-whole, handed-mine, handed-own, may-hold}, Doing.{bare, sheds-by}, Newer.{MayHand, begun-moved, closed-still, later-handed}}
+use Rattle.pagable_tables.proofs.{Newer.{load-closed, loads-anew, may-hand, moved-less, moved-stands, newer-falls, no-load, owned-given, owned-moved, still-listed}, Told.not-a-value, Words.Falls}
+use Rattle.pagable_tables.proofs.Words.{None, Owner, Some, [], ap, arith, core_of, false, if_there, inl, is_in, is_owned_by, is_owned_in, is_owner, is_valued, length, load_at, load_in, nat_tests, not}
+use Rattle.pagable_tables.proofs.{Words.{numbers_of, option_map, plain_of, refl, subst, sym, with_tables, ℕ, ◌&&◌, ◌∙◌, ◌≡◌}, Worlds.owner-self}
 use Rattle.pagable_tables.proofs.ending.load_take.Goals as goal
 
 pub unwrap-row-requires : goal.unwrap-row-requires
@@ -15,8 +15,9 @@ give_all-requires-clause-steady g c =
     let w = plain_of c.args.t.now in
     let hs = c.args.named.now in
     let can : MayHand w c.args.me c.args.load hs = may-hand c.requires.whole.core c.args.me c.args.load hs (sym (c.hand_over_fault.ensures (λ key. None) false 0) ∙ c.in_default.is) in
-    let free = handed-free w c.requires.whole.core.handles.ordered c.args.load hs can.named in
-    moved-stands c.args.t.now.holdings c.hand_each.new.handles (is_in (numbers_of hs)) c.args.me c.requires.whole.steady (not-a-value w c.args.me (may-hold w c.args.me can.may)) free c.hand_each.ensures
+    let own = handed-own w c.requires.whole.core.handles.ordered c.args.load hs can.named in
+    moved-stands c.args.t.now.holdings c.hand_each.new.handles (is_in (numbers_of hs)) c.args.me c.requires.whole.steady (not-a-value w c.args.me (may-hold w c.args.me can.may))
+    (λ x among named. ap is_valued (own x among named)) c.hand_each.ensures
 
 pub returns : goal.returns
 returns g c =

@@ -1,5 +1,5 @@
-use Rattle.pagable_tables.proofs.{Words.{refl, arith, option_map, load_at, load_in, inl, inr, None, [], owns_nothing, ◌∙◌}, Begun.aside, GivenAll.{bare, given-plain, none-past, one-past, all-past}}
-use Rattle.pagable_tables.proofs.{Ended.{sheds-still, sheds-then}, Entries.entry-apart}
+use Rattle.pagable_tables.proofs.{Doing.{all-past, bare, given-plain, none-past, one-past}, Fitting.{aside, entry-apart}, Next.{sheds-still, sheds-then}, Words.{None, [], arith, inl, inr, load_at}}
+use Rattle.pagable_tables.proofs.Words.{load_in, option_map, owns_nothing, refl, ◌∙◌}
 use Rattle.pagable_tables.proofs.giving.give_all.Goals as goal
 
 pub loop-at-init : goal.loop-at-init

@@ -1,4 +1,4 @@
-use Rattle.pagable_tables.proofs.{Words.{ap, ◌∙◌, arith, take_all, moved, only_handle, live}, Handed.{moved-one}}
+use Rattle.pagable_tables.proofs.{Words.{ap, arith, live, moved, only_handle, take_all, ◌∙◌}, Worlds.moved-one}
 use Rattle.pagable_tables.proofs.handles.hand_each.Goals as goal
 
 pub loop-handle-preserved : goal.loop-handle-preserved

@@ -1,4 +1,4 @@
-use Rattle.pagable_tables.proofs.{Alive.changed-known, Coming.owned-by}
+use Rattle.pagable_tables.proofs.{Alive.changed-known, Fitting.owned-by}
 use Rattle.pagable_tables.proofs.handles.hand_over.Goals as goal
 
 pub returns-clause-becomes : goal.returns-clause-becomes

@@ -1,4 +1,4 @@
-use Rattle.pagable_tables.proofs.{Words.{ap, ◌∙◌, arith, take_all, moved, only_handle, live}, Named.{moved-take}}
+use Rattle.pagable_tables.proofs.{Words.{ap, arith, live, moved, only_handle, take_all, ◌∙◌}, Worlds.moved-take}
 use Rattle.pagable_tables.proofs.handles.hand_over_all.Goals as goal
 
 pub loop-reference-preserved : goal.loop-reference-preserved

@@ -1,4 +1,4 @@
-use Rattle.pagable_tables.proofs.{Words.{refl, sym, live}, Named.moved-none}
+use Rattle.pagable_tables.proofs.{Words.{live, refl, sym}, Worlds.moved-none}
 use Rattle.pagable_tables.proofs.handles.hand_over_live.Goals as goal
 
 pub returns-in_default : goal.returns-in_default

@@ -1,4 +1,4 @@
-use Rattle.pagable_tables.proofs.{Words.{arith, refl, ◌∙◌}, Alive.{live-kill, next-set, sound-set}}
+use Rattle.pagable_tables.proofs.{Words.{arith, refl, ◌∙◌}, Alive.{at-place, next-set, sound-set}}
 use Rattle.pagable_tables.proofs.handles.kill.Goals as goal
 
 pub clear-requires : goal.clear-requires
@@ -9,7 +9,7 @@ returns-clause-becomes c =
     let e = c.clear.ensures in
     record {
       sound = e.sound;
-      rows = e.rows ∙ live-kill c.args.handles.now.places.items c.args.at.place c.args.at.row c.requires.sound.ordered c.requires.place;
+      rows = e.rows ∙ (at-place c.args.handles.now.places.items c.args.at.place c.args.at.row c.requires.sound.ordered c.requires.place).0;
       capacity = e.capacity;
       next = λ q next. e.next q (next-set q c.args.handles.now.places.items c.args.at.place c.args.at.row _ c.requires.place refl next);
     }

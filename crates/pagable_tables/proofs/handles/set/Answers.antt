@@ -1,4 +1,4 @@
-use Rattle.pagable_tables.proofs.{Words.{arith, ap, refl, HandleNumber}, Alive.{live-set, next-set, sound-set}}
+use Rattle.pagable_tables.proofs.{Words.{arith, ap, refl, HandleNumber}, Alive.{at-place, next-set, sound-set}}
 use Rattle.pagable_tables.proofs.handles.set.Goals as goal
 
 pub returns-clause-becomes : goal.returns-clause-becomes
@@ -6,7 +6,7 @@ returns-clause-becomes c =
     let number = ap (λ (n : HandleNumber). n.0) c.requires.number in
     record {
       sound = sound-set c.args.handles.now _ c.args.at.place c.args.at.row _ c.requires.sound c.requires.place number refl (omega arith);
-      rows = live-set c.args.handles.now.places.items c.args.at.place c.args.at.row c.requires.sound.ordered c.requires.place c.args.row;
+      rows = (at-place c.args.handles.now.places.items c.args.at.place c.args.at.row c.requires.sound.ordered c.requires.place).1 (λ _. c.args.row);
       capacity = refl;
       next = λ q next. next-set q c.args.handles.now.places.items c.args.at.place c.args.at.row _ c.requires.place number next;
     }

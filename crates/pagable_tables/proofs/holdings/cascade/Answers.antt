@@ -1,5 +1,4 @@
-use Rattle.pagable_tables.proofs.{Words.{true, arith, ◌∙◌, nat_tests, Steps, is_node, counts_at}, Ended.{lasts-on, none-falls}}
-use Rattle.pagable_tables.proofs.{Ended.ended, Next.steps-on}
+use Rattle.pagable_tables.proofs.{Next.{ended, lasts-on, none-falls, steps-on}, Words.{Steps, arith, counts_at, is_node, nat_tests, true, ◌∙◌}}
 use Rattle.pagable_tables.proofs.holdings.cascade.Goals as goal
 
 pub fall-preserved : goal.fall-preserved

@@ -1,4 +1,4 @@
-use Rattle.pagable_tables.proofs.{Words.{nat_eq, ℕ, ◌≡◌, ◌+◌, ◌*◌, ◌≤◌, Bool, false, List, length, Core, live, get, counts_at, IsFalling, AreKept, owns_nothing, valued, SoFar}, Ended.Lasting}
+use Rattle.pagable_tables.proofs.{Next.Lasting, Words.{AreKept, Bool, Core, IsFalling, List, SoFar, counts_at, false, get, length, live, nat_eq, owns_nothing, valued, ℕ, ◌*◌, ◌+◌, ◌≡◌, ◌≤◌}}
 use Rattle.pagable_tables.proofs.holdings.cascade.Given as goal
 
 abbrev pub invariant-fall : goal.invariant-fall

@@ -1,6 +1,6 @@
-use Rattle.pagable_tables.proofs.Words.{cases_eq, nat_tests, false, Bool, ◌+◌, ◌-◌, ◌≡◌, ◌≤◌, ℕ, arith, refl, ap, sym, ◌∙◌, subst, Some, ◌∷◌, if◌then◌else◌, ◌≢◌, one, is_pinning, live, counts_at}
-use Rattle.pagable_tables.proofs.Words.{refs_at, Fits, pins_in, after, is_fallen_by, ValueStays, owns_nothing, Counts, HandleRow, Holdings, MayList, sum_by, unpinned, entry, nat_lt, true}
-use Rattle.pagable_tables.proofs.{Alive.row-le-live, Coming.owned-by-none, Left.with-entry, Fitting.{given-fits, new-top, long-if, pin-here, held-here, pin_of}}
+use Rattle.pagable_tables.proofs.{Alive.{row-le-live, with-entry}, Fitting.{given-fits, held-here, owned-by-none, pin-here}, Words.{Bool, Counts, Fits, HandleRow, Holdings, MayList, Some, ValueStays}}
+use Rattle.pagable_tables.proofs.Words.{after, ap, arith, cases_eq, counts_at, entry, false, if◌then◌else◌, is_fallen_by, is_pin, is_pinning, live, nat_lt, nat_tests, one, owns_nothing, pins_in, refl}
+use Rattle.pagable_tables.proofs.Words.{refs_at, subst, sum_by, sym, true, unpinned, ℕ, ◌+◌, ◌-◌, ◌∙◌, ◌∷◌, ◌≡◌, ◌≢◌, ◌≤◌}
 use Rattle.pagable_tables.proofs.holdings.give_up.Goals as goal
 
 -- a handle that leaves takes no value with it at once
@@ -29,9 +29,10 @@ returns c stack w =
     let here : counts_at c.set_counts.new.nodes n ≡ Some (after counts (is_pinning x.mode) stays listed old.top) = c.set_counts.ensures.here ∙ ap Some left in
     let others : (m : ℕ) → m ≢ n → counts_at c.set_counts.new.nodes m ≡ counts_at old.nodes m = λ m ne. c.set_counts.ensures.others m ne ∙ ap (λ s. counts_at s m) e.nodes in
     let same : (m : ℕ) → refs_at c.set_counts.new.nodes m ≡ refs_at old.nodes m = λ m. c.set_counts.ensures.refs m ∙ ap (λ s. refs_at s m) e.nodes in
-    let some : one (is_pinning x.mode) ≤ counts.pins = omega (arith, w.fits.pinned n, ap pins_in is, row-le-live (pin_of n) old.handles.places.items c.args.at.place x c.requires.place, pin-here x) in
+    let some : one (is_pinning x.mode) ≤ counts.pins =
+    omega (arith, w.fits.pinned n, ap pins_in is, row-le-live (λ h. one (is_pin n h)) old.handles.places.items c.args.at.place x c.requires.place, pin-here x) in
     let live' : 1 ≤ counts.holds = grind (arith, nat_tests, row-le-live, held-here, c.requires.place) in
-    let top : c.top_after-t.result ≡ (if b then n else old.top) = grind (arith, nat_tests, new-top, c.top_after-t.ensures) in
+    let top : c.top_after-t.result ≡ (if b then n else old.top) = grind (arith, nat_tests, c.top_after-t.ensures) in
     let at' = counts_at c.set_counts.new.nodes in
     let refs' = refs_at c.set_counts.new.nodes in
     let rows' = live mid.handles.places.items in
@@ -56,7 +57,7 @@ returns c stack w =
         fits = subst (λ t. Fits at' refs' rows' t (if b then n ∷ stack else stack) owns_nothing) (sym top)
             (given-fits _ at' _ refs' _ rows' old.top stack x counts stays listed (old.last_handle + 1) w.fits is plain sums here others same some live' b refl);
       };
-      long = long-if b n stack;
+      long = grind (arith, nat_tests);
       keyed = λ so none some. keyed-then counts (is_pinning x.mode) listed n old.top b (ap (λ s. is_fallen_by counts (is_pinning x.mode) (counts.pins - one (is_pinning x.mode)) ((if s then counts.holds else counts.holds - 1) + one listed)) (sym so))
           live' none (λ z. some (top ∙ z));
     }

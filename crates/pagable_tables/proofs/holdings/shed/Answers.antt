@@ -1,4 +1,4 @@
-use Rattle.pagable_tables.proofs.{Words.{[], arith, ◌∙◌}, Begun.unowned, Next.{gives-fewer, gives-unlisted, gives-on}, Ended.stays-first}
+use Rattle.pagable_tables.proofs.{Fitting.unowned, Next.{gives-fewer, gives-on, gives-unlisted, stays-first}, Words.{[], arith, ◌∙◌}}
 use Rattle.pagable_tables.proofs.holdings.shed.Goals as goal
 
 pub give_up-requires-clause-falling : goal.give_up-requires-clause-falling

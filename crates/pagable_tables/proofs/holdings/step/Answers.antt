@@ -1,8 +1,7 @@
-use Rattle.pagable_tables.proofs.Words.{◌≡◌, ◌+◌, ℕ, false, arith, refl, ap, sym, ◌∙◌, subst, Some, Option, List, [], ◌∷◌, ◌++◌, length, slice_get, if◌then◌else◌, inl, inr, ◌≢◌, is_some}
-use Rattle.pagable_tables.proofs.Words.{cases_eq, nat_tests, append-nil, ArcRef, HandleNumber, HandleRow, owner_value, one, live, alive, counts_at, refs_at, IsFalling, GivesUp}
-use Rattle.pagable_tables.proofs.{Words.{CellsStay, cell_in, ValueStays, owns, owns_nothing, entry, is_valued, Counts, Holdings}, Alive.{only-row, none-found}, Left.gives-sums}
-use Rattle.pagable_tables.proofs.{Fitting.{is_owned, taken-fits, taken-owned, taken-there, owner-is, fits-same, fallen, top-stands, top-there, done-fits, done-gone}}
-use Rattle.pagable_tables.proofs.Next.{gives-fewer, gives-unlisted}
+use Rattle.pagable_tables.proofs.{Alive.{gives-sums, none-found, only-row}, Fitting.{done-fits, done-gone, fallen, fits-same, is_owned, taken-fits, taken-owned, taken-there, top-stands, top-there}}
+use Rattle.pagable_tables.proofs.{Next.{gives-fewer, gives-unlisted}, Words.{ArcRef, CellsStay, Counts, GivesUp, HandleNumber, HandleRow, Holdings, IsFalling, List, Option, Some, ValueStays, []}}
+use Rattle.pagable_tables.proofs.Words.{alive, ap, append-nil, arith, cases_eq, cell_in, counts_at, entry, false, if◌then◌else◌, inl, inr, is_some, is_valued, length, live, nat_tests, one}
+use Rattle.pagable_tables.proofs.Words.{owner_value, owns, owns_nothing, refl, refs_at, slice_get, subst, sym, ℕ, ◌&&◌, ◌++◌, ◌+◌, ◌==◌, ◌∙◌, ◌∷◌, ◌≡◌, ◌≢◌}
 use Rattle.pagable_tables.proofs.holdings.step.Goals as goal
 
 abbrev of_value : HandleRow → ℕ
@@ -17,7 +16,7 @@ module _ (t mid : Holdings) (ns : List ℕ) (p : ArcRef) (i : ℕ) (x : HandleRo
       let a = taken-owned (counts_at t.nodes) (counts_at mid.nodes) (refs_at t.nodes) (refs_at mid.nodes) (live t.handles.places.items) t.top ns p w.fits popped others same in
       let b = only-row (is_owned t.top p.handle.0) t.handles.places.items i x w.sound.ordered at (λ h. grind (arith, nat_tests)) in
       let its : is_owned t.top p.handle.0 x ≡ 1 = grind (arith, nat_tests) in
-      let o = owner-is t.top p.handle.0 x its in
+      let o : (x.owner ≡ owner_value t.top) × ((m r : ℕ) → is_owned m r x ≡ one (t.top == m && p.handle.0 == r)) = grind (arith, nat_tests) in
       let fits = taken-fits (counts_at t.nodes) (counts_at mid.nodes) (refs_at t.nodes) (refs_at mid.nodes) (live t.handles.places.items) t.top ns p w.fits popped others same x o.1 in
       (o.0, record { sound = w.sound; next = w.next; fits = fits })
 

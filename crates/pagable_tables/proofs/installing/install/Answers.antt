@@ -1,9 +1,9 @@
-use Rattle.pagable_tables.proofs.Words.{◌≡◌, ◌<◌, ◌+◌, ◌++◌, ◌∷◌, [], Bool, List, true, sum_by, refl, ap, sym, ◌∙◌, subst, arith, false, not, inl, inr, None, Ok, Owner, Mode, changed, one, is_handle}
-use Rattle.pagable_tables.proofs.Words.{is_pin, owner_value, is_here, cases_Bool, ArcRef, Falls, Holdings, IsFalling, owns_nothing, Tables, moved, is_named_by, row_of, live, counts_at, refs_at}
-use Rattle.pagable_tables.proofs.Words.{load_at, has_value, cell_in, core_of, plain_of, nat_tests, references_fault, without_load, with_pin, is_owned_in, FallsAnyhow, ◌&&◌, ◌⊎◌, Core, LoadNumber}
-use Rattle.pagable_tables.proofs.{Words.{HandleRow, Result, Error, option_map, load_in}, Coming.{rows-told, some-held, turned}, Doing.lazily-by, Fitting.{fits-same, pins-le-held}, GivenAll.bare}
-use Rattle.pagable_tables.proofs.{Installed.{ended, has-come, install-newer, pins-here, none-moves, not-so, so-then, ready-owner}, Born.{joined-fits, owns-none}, Newer.closed-still}
-use Rattle.pagable_tables.{proofs.{Newer.later-so, Stays.not-named, keeps.{Comes.not-a-value, EndCalls.end-whole, HandleCalls.no-references, LoadCalls.may-hold}}, specs.Becoming.coming}
+use Rattle.pagable_tables.proofs.{Alive.not-so, Calls.{end-whole, may-hold}, Doing.{bare, lazily-by}, Fitting.{fits-same, pins-le-held, rows-told, some-held, turned}, Installed.{ended, has-come}}
+use Rattle.pagable_tables.proofs.{Installed.{install-newer, joined-fits, none-moves, pins-here, ready-owner, so-then}, Newer.{closed-still, later-so, not-named}, Told.{no-references, not-a-value}}
+use Rattle.pagable_tables.proofs.Words.{ArcRef, Bool, Core, Error, Falls, FallsAnyhow, HandleRow, Holdings, IsFalling, List, LoadNumber, Mode, None, Ok, Owner, Result, Tables, [], ap, arith}
+use Rattle.pagable_tables.proofs.Words.{cases_Bool, cell_in, changed, core_of, counts_at, false, has_value, inl, inr, is_handle, is_here, is_named_by, is_owned_in, is_pin, live, load_at, load_in}
+use Rattle.pagable_tables.proofs.Words.{moved, nat_tests, not, one, option_map, owner_value, owns, owns_nothing, plain_of, references_fault, refl, refs_at, row_of, subst, sum_by, sym, true, with_pin}
+use Rattle.pagable_tables.{proofs.Words.{without_load, ℕ, ◌&&◌, ◌++◌, ◌+◌, ◌<◌, ◌∙◌, ◌∷◌, ◌≡◌, ◌⊎◌}, specs.Becoming.coming}
 use Rattle.pagable_tables.proofs.installing.install.Goals as goal
 
 -- references that don't come are as good
@@ -62,7 +62,8 @@ give_all-requires-clause-steady g c =
       | inr here ↦ subst (λ (h : Holdings). IsFalling h [] owns_nothing) (sym (j.none here)) whole.steady
       | inl comes ↦
           (let away : is_here p n ≡ false = not-so (is_here p n) (sym r.away ∙ comes) in
-          let none = owns-none (counts_at t.holdings.nodes) (refs_at t.holdings.nodes) (live t.holdings.handles.places.items) t.holdings.top n was.steady.fits away in
+          let none : (q : ℕ) → sum_by (λ h. owns h n q) (live t.holdings.handles.places.items) ≡ 0 =
+          λ q. grind (arith, nat_tests, was.steady.fits.owned n q, was.steady.fits.right n, was.steady.fits.pinned n, away) in
           let unvalued = not-a-value p me (may-hold p me (ready-owner t me l c.args.node_type rs c.args.ending was r)) in
           let spared = not-named p l rs was.core.handles r.may.good (t.holdings.last_handle + 1) (omega arith) in
           let before = changed (is_handle row.number.0) turned (live t.holdings.handles.places.items) ++ x ∷ [] in

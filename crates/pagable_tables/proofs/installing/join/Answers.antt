@@ -1,4 +1,4 @@
-use Rattle.pagable_tables.proofs.{Words.{sym, refl}, Named.moved-nobody}
+use Rattle.pagable_tables.proofs.{Words.{refl, sym}, Worlds.moved-nobody}
 use Rattle.pagable_tables.proofs.installing.join.Goals as goal
 
 pub returns-then-comes-clause-handles : goal.returns-then-comes-clause-handles

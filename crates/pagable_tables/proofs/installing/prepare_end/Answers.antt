@@ -1,4 +1,5 @@
-use Rattle.pagable_tables.proofs.{Words.{◌≡◌, ℕ, List, Core, Places, HandleRow, Owner, LoadNumber, ArcRef, Ending, IsReady, refl, arith, core_of, nat_tests}, Installed.references-placed, Doing.widens-does, Worlds.alike, Opened.no-load-fault}
+use Rattle.pagable_tables.proofs.{Doing.widens-does, Installed.references-placed, Words.{ArcRef, Core, Ending, HandleRow, IsReady, List, LoadNumber, Owner, Places, arith, core_of, nat_tests, refl, ℕ}}
+use Rattle.pagable_tables.proofs.{Words.◌≡◌, Worlds.{alike, no-load-fault}}
 use Rattle.pagable_tables.proofs.installing.prepare_end.Goals as goal
 
 -- a load that can end can where there are other places

@@ -1,4 +1,4 @@
-use Rattle.pagable_tables.proofs.{Words.{◌≡◌, ◌==◌, if◌then◌else◌, [], ◌∷◌, arith, nat_tests}, Fitting.long-if, KeyPut.key-fits}
+use Rattle.pagable_tables.proofs.{Fitting.key-fits, Words.{[], arith, if◌then◌else◌, nat_tests, ◌==◌, ◌∷◌, ◌≡◌}}
 use Rattle.pagable_tables.proofs.keys.put_key.Goals as goal
 
 pub returns-clause-falling : goal.returns-clause-falling
@@ -13,5 +13,5 @@ returns-clause-falling c =
         next = c.requires.steady.next;
         fits = grind (arith, nat_tests, key-fits, c.requires.steady.fits, c.counts_of.ensures, c.unwrap-counts.ensures, c.requires.key, e.here, c.counts_keyed-with_key.ensures, e.others, e.refs);
       },
-      long-if b n [],
+      grind (arith, nat_tests),
     )

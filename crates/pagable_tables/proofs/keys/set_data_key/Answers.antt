@@ -1,5 +1,5 @@
 use Rattle.pagable_tables.proofs.{Words.{refl, sym, ◌∙◌, inl, inr, any_mode, subst, GetsKey, counts_at, nobody, core_of}, Doing.{nothing-shed, sheds-so}}
-use Rattle.pagable_tables.proofs.{Ended.stays-first, KeyPut.keyed-on, Worlds.{failed, still, owner-same}, keeps.ListCalls.set-key-whole, Newer.set-key-newer}
+use Rattle.pagable_tables.proofs.{Calls.set-key-whole, Fitting.keyed-on, Newer.set-key-newer, Next.stays-first, Worlds.{failed, owner-same, still}}
 use Rattle.pagable_tables.proofs.keys.set_data_key.Goals as goal
 
 pub returns-in_err-at : goal.returns-in_err-at

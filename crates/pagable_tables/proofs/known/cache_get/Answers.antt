@@ -1,4 +1,4 @@
-use Rattle.pagable_tables.proofs.{Words.{sym, false, None}, Opened.{recalls, not-recalled}, keeps.CacheCalls.known-suits, Doing.does-as, Worlds.failed}
+use Rattle.pagable_tables.proofs.{Calls.known-suits, Doing.does-as, Words.{None, false, sym}, Worlds.{failed, not-recalled, recalls}}
 use Rattle.pagable_tables.proofs.known.cache_get.Goals as goal
 
 pub make-requires-clause-suits : goal.make-requires-clause-suits

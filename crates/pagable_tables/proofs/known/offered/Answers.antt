@@ -1,5 +1,5 @@
 use Rattle.pagable_tables.proofs.Words.{◌≡◌, ℕ, Some, Error, HandleNumber, Kind, Owner, Core, handle_fault, fits_mode, offer_fault, arith, core_of}
-use Rattle.pagable_tables.proofs.{Opened.{handle-first, late, kind-late, spent-late}, Worlds.failed}
+use Rattle.pagable_tables.proofs.Worlds.{failed, handle-first, kind-late, late, spent-late}
 use Rattle.pagable_tables.proofs.known.offered.Goals as goal
 
 -- a handle that can't be used is refused first

@@ -1,6 +1,6 @@
 use Rattle.pagable_tables.proofs.Words.{◌∙◌, ap, refl, false, inl, inr, arith, rules, Ok, None, not, is_unpinned, is_valued, plain_of, core_of, nat_tests, Owns, ScheduleCall}
-use Rattle.pagable_tables.proofs.{Begun.{begun-whole, not-closed, shut-then, open-then}, Named.alike-listed, Newer.{later-on, schedule-newer}, Worlds.{failed, still, owner-same}}
-use Rattle.pagable_tables.{proofs.{Doing.sheds-so, keeps.{Comes.not-a-value, ListCalls.schedule-whole, Placed.whole-so, Told.alike-whole}}, specs.Doing.DoesShed}
+use Rattle.pagable_tables.proofs.{Alive.whole-so, Calls.schedule-whole, Doing.sheds-so, Fitting.{begun-whole, not-closed, open-then, shut-then}, Newer.{later-on, schedule-newer}, Told.alike-whole}
+use Rattle.pagable_tables.{proofs.{Told.not-a-value, Worlds.{alike-listed, failed, owner-same, still}}, specs.Doing.DoesShed}
 use Rattle.pagable_tables.proofs.listing.schedule_for_paging.Goals as goal
 
 pub returns-in_err-at-clause-scheduled : goal.returns-in_err-at-clause-scheduled

@@ -1,6 +1,6 @@
-use Rattle.pagable_tables.proofs.Words.{◌<◌, ◌∙◌, ℕ, Bool, Option, None, Some, Blob, TakeCall, InReach, false, inl, inr, ap, refl, arith, subst, rules, reach_at, core_of, plain_of}
-use Rattle.pagable_tables.proofs.{Words.{slice_get_read, moved, only_handle, live}, keeps.Comes.not-a-value, keeps.ListCalls.take-whole}
-use Rattle.pagable_tables.proofs.{keeps.Placed.whole-so, Named.{alike-listed, at-work-still}, Coming.{entry-lives, entry-unvalued}, Newer.{later-by, load-kept, worker-kept, handle-is}, keeps.Rows.found-among}
+use Rattle.pagable_tables.proofs.{Alive.whole-so, Calls.take-whole, Fitting.{entry-lives, entry-unvalued}, Kept.found-among, Newer.{later-by, load-kept, worker-kept}, Told.not-a-value, Words.Blob}
+use Rattle.pagable_tables.proofs.Words.{Bool, InReach, None, Option, Some, TakeCall, ap, arith, core_of, false, inl, inr, live, moved, nat_tests, only_handle, plain_of, reach_at, refl, rules}
+use Rattle.pagable_tables.proofs.{Words.{slice_get_read, subst, ℕ, ◌<◌, ◌∙◌}, Worlds.{alike-listed, at-work-still}}
 use Rattle.pagable_tables.proofs.listing.take_pending.Goals as goal
 
 pub unreachable-requires : goal.unreachable-requires
@@ -35,6 +35,6 @@ returns c =
           later-by later (omega arith) (λ l load is. is) c.reach_to.ensures.less (λ l q own. inl (load-kept u later (only_handle h) c.args.me other _ given l q own))
           (λ v q own. elim (worker-kept u later (only_handle h) c.args.me other _ given v q own) [
             | inl had ↦ inl had
-            | inr (mine, is) ↦ inr (inr (subst (λ n. InReach (reach_at c.reach_to.new.workers v) n) (handle-is h q is) (c.reach_to.ensures.here v numbered mine)))
+            | inr (mine, is) ↦ inr (inr (subst (λ n. InReach (reach_at c.reach_to.new.workers v) n) (grind (arith, nat_tests)) (c.reach_to.ensures.here v numbered mine)))
           ]));
     }

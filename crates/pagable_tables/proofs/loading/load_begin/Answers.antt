@@ -1,7 +1,6 @@
-use Rattle.pagable_tables.proofs.Words.{◌≡◌, arith, ap, sym, ◌∙◌, None, Some, inl, inr, false, rules, OptionalDataKey, HandleRow, if_there, is_loose, is_in_memory, is_here, Cell, Owns}
-use Rattle.pagable_tables.proofs.{Words.{◌≤◌, ℕ, Bool, Error, not, earlier, is_handle_here, rank, spent, where_so, true, nat_tests, live, counts_at, cell_in, key_in, core_of}, Doing.{does-by, nothing-does}}
-use Rattle.pagable_tables.proofs.{Opened.{handle-first, here-told}, Worlds.{failed, still, owner-same}, keeps.LoadCalls.begin-whole}
-use Rattle.pagable_world.specs.LoadCalls.{begin_fault}
+use Rattle.pagable_tables.proofs.{Calls.begin-whole, Doing.{does-by, nothing-does}, Words.{Bool, Cell, Error, HandleRow, None, OptionalDataKey, Owns, Some, ap, arith, cell_in, core_of, counts_at}}
+use Rattle.pagable_tables.proofs.Words.{earlier, false, if_there, inl, inr, is_handle_here, is_here, is_in_memory, is_loose, key_in, live, nat_tests, not, rank, rules, spent, sym, true, where_so, ℕ}
+use Rattle.{pagable_tables.proofs.{Words.{◌∙◌, ◌≡◌, ◌≤◌}, Worlds.{failed, handle-first, here-told, owner-same, still}}, pagable_world.specs.LoadCalls.begin_fault}
 use Rattle.pagable_tables.proofs.loading.load_begin.Goals as goal
 
 numbers-late : (so : Bool) (m n : ℕ) (f : Error) → where_so so (earlier (spent m) (spent n)) ≡ Some f → 3 ≤ rank f

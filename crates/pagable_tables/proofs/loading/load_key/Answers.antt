@@ -1,5 +1,5 @@
-use Rattle.pagable_tables.proofs.{Words.{◌+◌, ◌∙◌, refl, sym, arith, Ok, inl, Beginning, load_at, nat_tests}, Opened.none-yet, Worlds.{failed, same-cache}}
-use Rattle.pagable_tables.proofs.{Doing.does-by, keeps.LoadCalls.begin-key-whole, keeps.Told.alike-whole, Newer.{later-opened, later-so, newer-alike}}
+use Rattle.pagable_tables.proofs.{Calls.begin-key-whole, Doing.does-by, Newer.{later-opened, later-so, newer-alike}, Told.alike-whole, Words.{Beginning, Ok, arith, inl, load_at, nat_tests, refl, sym}}
+use Rattle.pagable_tables.proofs.{Words.{◌+◌, ◌∙◌}, Worlds.{failed, none-yet, same-cache}}
 use Rattle.pagable_tables.proofs.loading.load_key.Goals as goal
 
 pub returns : goal.returns

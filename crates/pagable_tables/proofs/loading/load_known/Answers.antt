@@ -1,4 +1,4 @@
-use Rattle.pagable_tables.proofs.{Words.{arith, nat_tests, core_of, where_so, spent, is_usable}, Adoptions.not-own, Opened.{no-load-fault, spent-late}, Doing.{does-as, nothing-does}, Worlds.failed}
+use Rattle.pagable_tables.proofs.{Doing.{does-as, nothing-does}, Words.{arith, core_of, is_usable, nat_tests, spent, where_so}, Worlds.{failed, no-load-fault, not-own, spent-late}}
 use Rattle.pagable_tables.proofs.loading.load_known.Goals as goal
 
 pub returns-in_err-_row-clause-does : goal.returns-in_err-_row-clause-does

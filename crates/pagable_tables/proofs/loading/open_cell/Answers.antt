@@ -1,4 +1,4 @@
-use Rattle.pagable_tables.proofs.{Words.{◌+◌, ◌∙◌, refl, arith, None, false, load_at, Owner, Mode, core_of, plain_of, nat_tests}, Opened.none-yet}
+use Rattle.pagable_tables.proofs.{Words.{Mode, None, Owner, arith, core_of, false, load_at, nat_tests, plain_of, refl, ◌+◌, ◌∙◌}, Worlds.none-yet}
 use Rattle.pagable_tables.proofs.{Newer.{newer-alike, newer-handle, newer-then, later-so, later-opened, closed-still}}
 use Rattle.pagable_tables.proofs.loading.open_cell.Goals as goal
 

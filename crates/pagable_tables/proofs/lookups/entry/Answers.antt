@@ -1,4 +1,4 @@
-use Rattle.pagable_tables.proofs.{Words.{arith}, Coming.entry-lives}
+use Rattle.pagable_tables.proofs.{Fitting.entry-lives, Words.arith}
 use Rattle.pagable_tables.proofs.lookups.entry.Goals as goal
 
 pub unreachable-requires : goal.unreachable-requires

@@ -1,5 +1,5 @@
 use Rattle.pagable_tables.proofs.Words.{◌+◌, ◌≡◌, arith, refl, ap, sym, ◌∙◌, Some, rules, one, is_pinning, HandleRow, counts_at}
-use Rattle.pagable_tables.proofs.{Words.{cases_eq, nat_tests}, Coming.{come-fits, come-cells, rows-told}, Worlds.alike}
+use Rattle.pagable_tables.proofs.{Fitting.{come-cells, come-fits, rows-told}, Words.{cases_eq, nat_tests}, Worlds.alike}
 use Rattle.pagable_tables.proofs.making.come.Goals as goal
 
 pub returns : goal.returns

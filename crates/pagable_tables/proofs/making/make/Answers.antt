@@ -1,10 +1,10 @@
-use Rattle.pagable_tables.proofs.{Words.{refl, arith, counts_at, core_of}, Coming.some-held, Doing.does-so, Newer.makes-newer, keeps.Comes.suits-held, keeps.HandleCalls.makes-whole}
+use Rattle.pagable_tables.proofs.{Doing.does-so, Fitting.some-held, Kept.held-some, Newer.makes-newer, Told.makes-whole, Words.{NodeNumber, ap, arith, core_of, counts_at, plain_of, refl}}
 use Rattle.pagable_tables.proofs.making.make.Goals as goal
 
 pub come-requires-clause-live : goal.come-requires-clause-live
 come-requires-clause-live c =
     let d = c.requires.whole.steady.fits.holding c.args.node.0 in
-    let e = suits-held c.requires.whole.core c.args.node c.args.mode c.requires.suits in
+    let e = held-some c.args.node.0 (plain_of c.args.t.now).rows c.requires.suits.row c.requires.suits.there (ap (λ (k : NodeNumber). k.0) c.requires.suits.at) in
     some-held (counts_at c.args.t.now.holdings.nodes c.args.node.0) (omega arith)
 
 pub returns-clause-does : goal.returns-clause-does

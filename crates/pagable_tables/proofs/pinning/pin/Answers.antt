@@ -1,5 +1,5 @@
 use Rattle.pagable_tables.proofs.Words.{◌≡◌, ◌∙◌, ap, false, true, inl, inr, arith, rules, is_loose, if_there, is_here, is_handle_here, nat_tests}
-use Rattle.pagable_tables.proofs.{Words.{pin_fault, spent, Owns, HandleRow, core_of}, Doing.{does-as, nothing-does}, Opened.{handle-first, spent-late}, Worlds.{failed, still, owner-same}}
+use Rattle.pagable_tables.proofs.{Doing.{does-as, nothing-does}, Words.{HandleRow, Owns, core_of, pin_fault, spent}, Worlds.{failed, handle-first, owner-same, spent-late, still}}
 use Rattle.pagable_tables.proofs.pinning.pin.Goals as goal
 
 pub returns-in_err-at : goal.returns-in_err-at

@@ -1,5 +1,5 @@
 use Rattle.pagable_tables.proofs.Words.{◌∙◌, ℕ, ap, subst, false, Some, None, Alike, with_mode, Mode, Tables, core_of, plain_of, arith}
-use Rattle.pagable_tables.proofs.{Words.nat_tests, Stays.{pinned-alike, found-again}, keeps.{Comes.not-list, HandleCalls.loose-unshared, Rows.found-among}, Doing.{does-as, does-then}, Worlds.failed}
+use Rattle.pagable_tables.proofs.{Doing.{does-as, does-then}, Kept.found-among, Newer.{found-again, pinned-alike}, Told.{loose-unshared, not-list}, Words.nat_tests, Worlds.failed}
 use Rattle.pagable_tables.proofs.pinning.pin_here.Goals as goal
 
 pub make-requires-clause-suits : goal.make-requires-clause-suits

@@ -1,4 +1,4 @@
-use Rattle.pagable_tables.proofs.{Words.{arith, Ok, refl, nat_tests}, Doing.does-so, Newer.newer-alike, Worlds.same-cache, keeps.CacheCalls.clear-whole}
+use Rattle.pagable_tables.proofs.{Calls.clear-whole, Doing.does-so, Newer.newer-alike, Words.{Ok, arith, nat_tests, refl}, Worlds.same-cache}
 use Rattle.pagable_tables.proofs.places.cache_clear.Goals as goal
 
 pub returns : goal.returns

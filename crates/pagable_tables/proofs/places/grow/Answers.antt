@@ -1,4 +1,4 @@
-use Rattle.pagable_tables.proofs.{Words.{◌+◌, refl, live, counts_at, refs_at, arith, nat_tests}, Coming.rows-told, Doing.does-so, Newer.newer-alike, Worlds.same-cache, keeps.Told.alike-whole}
+use Rattle.pagable_tables.proofs.{Doing.does-so, Fitting.rows-told, Newer.newer-alike, Told.alike-whole, Words.{arith, counts_at, live, nat_tests, refl, refs_at, ◌+◌}, Worlds.same-cache}
 use Rattle.pagable_tables.proofs.places.grow.Goals as goal
 
 pub returns : goal.returns

@@ -1,4 +1,4 @@
-use Rattle.pagable_tables.proofs.{Words.{◌≡◌, ◌+◌, ◌-◌, drop, arith, ◌∙◌, subst, named_fault, seen}, Handed.one-named}
+use Rattle.pagable_tables.proofs.{Words.{arith, drop, named_fault, seen, subst, ◌+◌, ◌-◌, ◌∙◌, ◌≡◌}, Worlds.one-named}
 use Rattle.pagable_tables.proofs.references.named_fault.Goals as goal
 
 pub loop-place-preserved : goal.loop-place-preserved

@@ -1,4 +1,4 @@
-use Rattle.pagable_tables.proofs.{Words.{ℕ, Bool, Option, get_or, sym, ◌∙◌, arith, ◌∷◌, ArcRef, Blob, core_of}, Named.{seen-more, named-other, fault-some, fault-none}}
+use Rattle.pagable_tables.proofs.{Words.{ArcRef, Blob, Bool, Option, arith, core_of, get_or, sym, ℕ, ◌∙◌, ◌∷◌}, Worlds.{fault-none, fault-some, named-other, seen-more}}
 use Rattle.pagable_tables.proofs.references.references_fault.Goals as goal
 
 abbrev blank : ArcRef

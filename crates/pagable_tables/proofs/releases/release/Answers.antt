@@ -1,5 +1,5 @@
-use Rattle.pagable_tables.proofs.{Words.{◌≡◌, ℕ, Bool, Option, Blob, None, not, Falls, only_handle, plain_of, refl, inl, inr, arith, any_mode, core_of}, Begun.{begun-whole, not-closed}}
-use Rattle.pagable_tables.proofs.{Doing.{nothing-shed, sheds-so}, Newer.newer-falls, Worlds.{failed, still, owner-same}, keeps.{Fallen.falls-opened, Told.{roomy-whole, stays-on}}}
+use Rattle.pagable_tables.proofs.{Doing.{nothing-shed, sheds-so}, Fitting.{begun-whole, not-closed}, Newer.newer-falls, Told.{falls-opened, roomy-whole, stays-on}, Words.{Blob, Bool, Falls, None}}
+use Rattle.pagable_tables.proofs.{Words.{Option, any_mode, arith, core_of, inl, inr, not, only_handle, plain_of, refl, ℕ, ◌≡◌}, Worlds.{failed, owner-same, still}}
 use Rattle.pagable_tables.proofs.releases.release.Goals as goal
 
 pub returns-in_err-at : goal.returns-in_err-at

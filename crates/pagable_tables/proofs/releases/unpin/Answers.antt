@@ -1,8 +1,8 @@
 use Rattle.pagable_tables.proofs.Words.{◌&&◌, ◌∙◌, ◌≡◌, ◌≢◌, ◌≤◌, Begins, Blob, Bool, Core, HandleRow, Holdings, IsFalling, Mode, None, Option, Owner, Owns, SoFar, Tables, [], ap, append-nil, arith}
 use Rattle.pagable_tables.proofs.Words.{core_of, false, if◌then◌else◌, inl, inr, is_handle, is_loose, is_owned_by, is_owner, is_pin, is_share, is_valued, length, length-map, live, nat_tests, nobody}
-use Rattle.pagable_tables.proofs.{Words.{not, one, owns, owns_nothing, refl, sym, times, true, unpinned, with_mode, ℕ, is_plain_pin, GivesUp}, Begun.{aside, begun-whole}}
-use Rattle.pagable_tables.proofs.{Begun.{none-within, unowned}, Doing.{nothing-shed, sheds-so}, Ended.stays-first, Left.{all-kept, ones, gives-sums}, Newer.unpin-newer, Next.entered-on}
-use Rattle.pagable_tables.{proofs.{Entries.listing-is, Worlds.{failed, still, owner-same}, keeps.ListCalls.unpin-whole}, specs.Core.IsWhole}
+use Rattle.pagable_tables.proofs.{Alive.{all-kept, gives-sums, ones}, Calls.unpin-whole, Doing.{nothing-shed, sheds-so}, Fitting.{aside, begun-whole, listing-is, none-within, unowned}}
+use Rattle.pagable_tables.proofs.{Newer.unpin-newer, Next.{entered-on, stays-first}, Words.{GivesUp, is_plain_pin, not, one, owns, owns_nothing, refl, sym, times, true, unpinned, with_mode, ℕ}}
+use Rattle.pagable_tables.{proofs.Worlds.{failed, owner-same, still}, specs.Core.IsWhole}
 use Rattle.pagable_tables.proofs.releases.unpin.Goals as goal
 
 -- what has gone and come so far where a handle lets its pin go and stays

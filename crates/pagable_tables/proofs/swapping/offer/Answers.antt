@@ -1,8 +1,8 @@
 use Rattle.pagable_tables.proofs.Words.{◌≡◌, ◌+◌, ℕ, false, None, inl, inr, refl, ap, sym, subst, arith, length, nat_tests, mode_of, with_known, Falls, only_handle, Tables, core_of, Owns, fits_mode}
-use Rattle.pagable_tables.proofs.{Words.{◌∙◌, Some, plain_of, AllPairs, IsHandleBefore, true, offer_fault, recall_fault, option_map, NodeNumber, Alike, with_cached}, Begun.{begun-whole, open-then}}
-use Rattle.pagable_tables.proofs.{Ended.{stays-first, sheds-still}, Newer.{later-on, newer-falls}, Opened.{learned, not-recalled}, Stays.{found-again, begun-made, swapped, values-made, values-still}}
-use Rattle.pagable_tables.proofs.{Worlds.{failed, same-cache}, keeps.{CacheCalls.{known-suits, learns-whole}, Comes.{not-a-value, not-list}, Fallen.falls-opened, Placed.whole-so, Rows.found-among}}
-use Rattle.pagable_tables.proofs.keeps.Told.{roomy-whole, stays-on, told-whole}
+use Rattle.pagable_tables.proofs.{Alive.whole-so, Calls.{known-suits, learns-whole}, Fitting.{begun-whole, open-then}, Kept.found-among, Newer.{begun-made, found-again, later-on, newer-falls}}
+use Rattle.pagable_tables.proofs.{Newer.{swapped, values-made, values-still}, Next.{sheds-still, stays-first}, Told.{falls-opened, not-a-value, not-list, roomy-whole, stays-on, told-whole}}
+use Rattle.pagable_tables.proofs.{Words.{Alike, AllPairs, IsHandleBefore, NodeNumber, Some, offer_fault, option_map, plain_of, recall_fault, true, with_cached, ◌∙◌}, Worlds.{failed}}
+use Rattle.pagable_tables.proofs.Worlds.{not-recalled, same-cache}
 use Rattle.pagable_tables.proofs.swapping.offer.Goals as goal
 
 pub make-requires-clause-suits : goal.make-requires-clause-suits
@@ -69,7 +69,7 @@ returns-in_default-clause-offered g c stored closed failures e =
     let o = c.in_ok-row.ensures.owns in
     let owns : Owns w c.args.me c.args.handle (fits_mode c.args.kind.0) c.in_ok-row.row = record { live = o.live; own = o.own; as_asked = o.as_asked } in
     let alike : Alike (with_cached w c.args.kind c.args.key c.in_ok-row.row.node) (core_of (record c.args.t.now { cache = c.put.new.cache }) stored false failures) =
-    grind (arith, nat_tests, learned, same-cache, c.in_ok-put.ensures.here, c.in_ok-put.ensures.others) in
+    grind (arith, nat_tests, same-cache, c.in_ok-put.ensures.here, c.in_ok-put.ensures.others) in
     rw (open-then c.args.lists closed c.if-not-lists.false e)
     (record { answers = (c.in_ok-row.row, owns, c.in_ok-row.ensures.typed, (refl, sym (c.in_default.ensures stored false failures), alike)); refused = tt })
 

@@ -1,5 +1,5 @@
 use Rattle.pagable_tables.proofs.Words.{worker_at, AreLater, ◌≡◌, ℕ, [], ap, refl, subst, arith, None, nat_eq, get, HandleRow, Among, nat_tests, NodeRow, Tables, live, AreSound, counts_at}
-use Rattle.pagable_tables.{proofs.{Words.{load_at, known_at, IsFalling, owns_nothing, option_map}, Regiven.passes-none}, specs.Core.IsWhole}
+use Rattle.pagable_tables.{proofs.{Next.passes-none, Words.{IsFalling, known_at, load_at, option_map, owns_nothing}}, specs.Core.IsWhole}
 use Rattle.pagable_tables.proofs.tables.new.Goals as goal
 
 -- tables of nothing are whole

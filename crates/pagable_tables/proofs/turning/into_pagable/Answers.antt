@@ -1,4 +1,4 @@
-use Rattle.pagable_tables.proofs.{Words.{rules, is_pinned}, Doing.{does-as, nothing-does}, Worlds.{failed, still, owner-same}, keeps.HandleCalls.pinned-unlisted}
+use Rattle.pagable_tables.proofs.{Doing.{does-as, nothing-does}, Told.pinned-unlisted, Words.{is_pinned, rules}, Worlds.{failed, owner-same, still}}
 use Rattle.pagable_tables.proofs.turning.into_pagable.Goals as goal
 
 pub returns-in_err-at : goal.returns-in_err-at

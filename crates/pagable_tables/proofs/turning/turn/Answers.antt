@@ -1,5 +1,5 @@
-use Rattle.pagable_tables.proofs.{Words.{◌+◌, ◌≡◌, arith, refl, ap, sym, ◌∙◌, Some, not, one, live, counts_at, plain_of, Mode, Counts}, Alive.{changed-known, row-live}}
-use Rattle.pagable_tables.proofs.{Coming.{turn-fits, turn-cells, turned}, Doing.does-so, Newer.{newer-alike, newer-mode, newer-then}, Worlds.alike, keeps.{HandleCalls.pins-whole, Told.settles}}
+use Rattle.pagable_tables.proofs.{Words.{◌+◌, ◌≡◌, arith, refl, ap, sym, ◌∙◌, Some, not, one, live, counts_at, plain_of, Mode, Counts}, Alive.{changed-known, at-place}}
+use Rattle.pagable_tables.proofs.{Doing.does-so, Fitting.{turn-cells, turn-fits, turned}, Newer.{newer-alike, newer-mode, newer-then}, Told.{pins-whole, settles}, Worlds.alike}
 use Rattle.pagable_tables.proofs.turning.turn.Goals as goal
 
 pub returns-clause-does : goal.returns-clause-does
@@ -20,5 +20,5 @@ returns-clause-does c =
       next = c.set.ensures.becomes.next (t.last_handle + 1) w.steady.next;
       fits = turn-fits _ _ _ _ _ _ _ x y w.steady.fits is c.set.ensures.sums here e.others e.refs;
     })
-    (settles (pins-whole x.number x w.core (row-live t.handles.places.items c.args.at.place x w.steady.sound.ordered c.requires.place) c.requires.unshared c.requires.unlisted))
+    (settles (pins-whole x.number x w.core (at-place t.handles.places.items c.args.at.place x w.steady.sound.ordered c.requires.place).2 c.requires.unshared c.requires.unlisted))
     (λ turned. newer-then (newer-mode (plain_of c.args.t.now) x.number Mode.LoosePinned) (newer-alike turned)) refl refl

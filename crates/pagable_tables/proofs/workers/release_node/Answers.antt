@@ -1,5 +1,5 @@
-use Rattle.pagable_tables.proofs.{Words.{refl, sym, subst, InReach, arith, nat_tests, core_of, plain_of, gives_row, Giving}, Begun.begun-whole, Doing.{sheds-so}, Taken.passes-given, Bits.and-left, Newer.newer-falls}
-use Rattle.pagable_tables.proofs.{keeps.Fallen.falls-opened, keeps.Told.{stays-on, roomy-whole}}
+use Rattle.pagable_tables.proofs.{Alive.and-left, Doing.sheds-so, Fitting.begun-whole, Newer.{newer-falls, passes-given}, Told.{falls-opened, roomy-whole, stays-on}, Words.{Giving, InReach, arith}}
+use Rattle.pagable_tables.proofs.Words.{core_of, gives_row, nat_tests, plain_of, refl, subst, sym}
 use Rattle.pagable_tables.proofs.workers.release_node.Goals as goal
 
 pub returns : goal.returns

@@ -1,5 +1,5 @@
-use Rattle.pagable_tables.proofs.{Words.{◌+◌, arith, refl, nat_tests}, Worlds.{failed, same-cache}, Taken.one-more-works, keeps.Told.{settles, alike-whole, roomy-whole}}
-use Rattle.pagable_tables.proofs.{Doing.does-by, keeps.WorkerCalls.worker-whole, Newer.{later-begun, later-less, newer-alike}}
+use Rattle.pagable_tables.proofs.{Calls.worker-whole, Doing.does-by, Newer.{later-begun, later-less, newer-alike, one-more-works}, Told.{alike-whole, roomy-whole, settles}, Words.{arith, nat_tests}}
+use Rattle.pagable_tables.proofs.{Words.{refl, ◌+◌}, Worlds.{failed, same-cache}}
 use Rattle.pagable_tables.proofs.workers.worker_begin.Goals as goal
 
 pub returns-in_err-open-clause-does : goal.returns-in_err-open-clause-does

@@ -1,6 +1,6 @@
-use Rattle.pagable_tables.proofs.Words.{◌∙◌, sym, subst, refl, Falls, InReach, worker_at, arith, without_worker, is_workers, load_at, core_of, plain_of, with_tables}
-use Rattle.pagable_tables.proofs.{Words.{◌≡◌, ℕ, Option, Some, LoadRow, left_load, gives_row, Giving, nat_tests}, Doing.sheds-by, Newer.{newer-falls, later-less, less-one}}
-use Rattle.pagable_tables.proofs.{Taken.{begun-less, passes-given, in-reach, loads-anew, worker-gone}, keeps.WorkerCalls.worker-end-whole}
+use Rattle.pagable_tables.proofs.{Calls.worker-end-whole, Doing.sheds-by, Fitting.begun-less, Newer.{in-reach, later-less, loads-anew, newer-falls, passes-given, worker-gone}, Words.{Falls, Giving}}
+use Rattle.pagable_tables.proofs.Words.{InReach, LoadRow, Option, Some, arith, cases_eq, core_of, gives_row, is_workers, left_load, load_at, nat_tests, plain_of, refl, subst, sym, with_tables}
+use Rattle.pagable_tables.proofs.Words.{without_worker, worker_at, ℕ, ◌∙◌, ◌≡◌}
 use Rattle.pagable_tables.proofs.workers.worker_end.Goals as goal
 
 -- a load that is left was open
@@ -23,5 +23,6 @@ returns g c =
     let loads = loads-anew w u (with_tables u h) (is_workers w v) r w'.loads (λ l. let left = c.close_loads.ensures l in grind (arith, nat_tests)) falls in
     record { told = r; falls = subst (λ s. Falls w u (is_workers w v) r (record (with_tables u h) { loads = w'.loads; workers = s })) (λ i q. worker-gone (worker_at t.workers) (worker_at c.close.new.rows) v c.close.ensures.gone c.close.ensures.others q i) loads })
     c.give_all.ensures.steady (worker-end-whole v c.requires.whole.core)
-    (λ ends later. later-less later (newer-falls ends.falls) (λ l load is. left-was v (load_at t.loads l) load (sym (c.close_loads.ensures l) ∙ is)) (less-one t.workers c.close.new.rows v c.close.ensures.gone c.close.ensures.others))
+    (λ ends later. later-less later (newer-falls ends.falls) (λ l load is. left-was v (load_at t.loads l) load (sym (c.close_loads.ensures l) ∙ is))
+    (grind (arith, nat_tests, cases_eq, c.close.ensures.gone, c.close.ensures.others)))
     c.give_all.ensures.sheds

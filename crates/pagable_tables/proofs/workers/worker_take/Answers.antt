@@ -1,4 +1,4 @@
-use Rattle.pagable_tables.proofs.{Words.{core_of, refl, arith, nat_tests}, Taken.takes-worker, Doing.does-as, Worlds.failed}
+use Rattle.pagable_tables.proofs.{Doing.does-as, Newer.takes-worker, Words.{arith, core_of, nat_tests, refl}, Worlds.failed}
 use Rattle.pagable_tables.proofs.workers.worker_take.Goals as goal
 
 pub returns : goal.returns
