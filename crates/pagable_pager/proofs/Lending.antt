@@ -1,13 +1,17 @@
--- What a lent pager's calls tell as those of an access.
-use Rattle.pagable_pager.proofs.Words.{AskCall, from_cache, AsksFor, FewerValues, SameValues, value_in, ValuesByNode, Refers, AdoptCall, TakesLazily, AdoptsValue, ◌≡◌, ℕ, ◌+◌, List, [], Some, Result}
-use Rattle.pagable_pager.proofs.Words.{Ok, Err, inl, inr, ap, sym, subst, ◌∙◌, arith, IsSome, is_some, IfOk, option_map, OptionalDataKey, Error, ArcRef, HandleNumber, Kind, LoadNumber, NodeNumber}
-use Rattle.pagable_pager.proofs.Words.{HandleRow, Owner, Blob, find_row, mode_of, Core, Reading, Values, Alike, row_at, Looks, StoreCall, with_handle, IsNext, BeginCall, GetsKnown, LazyCall, Adopts}
-use Rattle.pagable_pager.proofs.Words.{first_key, reading_of_load, HandlesAreWhole, WellFormed, Told, Called, found-number, good, Stands, stands-alike, stands-fell, among-found, row-pins, same_some}
-use Rattle.pagable_pager.proofs.Words.{pinned-here, StartsPin, begun_is, IsMade, PagerView, Telling, core_in, state_in, nat_tests, refl, false, type_of, owner_value, row_of, with_node, next_node}
-use Rattle.pagable_pager.proofs.Words.{is_named_by, named-among, adopted}
-use Rattle.{pagable_loads.specs.declared.starting.PinStart.PinStart, pagable_world.specs.declared.{answers.Beginning.Beginning, calls.Want.Want}, either.specs.declared.Either.Either}
-use Rattle.{pagable_laws.proofs.{Outlasting.{low-changed, low-whole, new-handle}, ReadingSteps.cached-rows}, pagable_steps.proofs.Owning.not-load, pagable_pager.specs.View.{Calls, CallsLess}}
-use Rattle.std.proofs.lemmas.Bool.{false_from_ne_true}
+-- What a lent pager's calls tell as those of an access; and a worker comes, for an entry of the list or without one, and takes a reference.
+use Rattle.{either.specs.declared.Either.Either, pagable_laws.proofs.{Goes.found-number, GoodReferences.good, Outlasting.{Stands, among-found, low-changed, low-whole, new-handle, stands-alike}}}
+use Rattle.{pagable_laws.proofs.{Outlasting.stands-fell, ReadingSteps.cached-rows, SparingSteps.named-among, Taking.row-pins, Trees.same_some}, pagable_loads.proofs.Pinned.begun_is}
+use Rattle.pagable_loads.specs.{Starting.StartsPin, Telling.{AdoptsValue, AsksFor, IsMade, TakesLazily}, Working.TakesReference, declared.{starting.PinStart.PinStart, working.Taken.Taken}}
+use Rattle.pagable_model.specs.declared.{data_key.OptionalDataKey.OptionalDataKey, numbers.{ArcRef.ArcRef, HandleNumber.HandleNumber, Kind.Kind, LoadNumber.LoadNumber, NodeNumber.NodeNumber}}
+use Rattle.{pagable_model.specs.declared.numbers.WorkerNumber.WorkerNumber, pagable_pager.specs.{Made.{PinsClone, Refers, TakesEntry}, View.{Calls, CallsLess, FewerValues, PagerView, SameValues}}}
+use Rattle.{pagable_pager.specs.View.{Telling, ValuesByNode, core_in, state_in, value_in}, pagable_steps.proofs.Owning.{Rests, not-load, pinned-here, rests-then, spares-same, starts-listed}}
+use Rattle.{pagable_steps.proofs.Owning.unmoved, pagable_tables.specs.Giving.{BeginsWorker, TakesWorker}, pagable_world.specs.{Access.{Called, Told}, Calls.{CloneCall, IsNext, Looks, StoreCall}}}
+use Rattle.pagable_world.specs.{Calls.{is_named_by, next_node, row_of, with_handle, with_node}, Events.{IsEntry, reading_of_load, with_entry_taken, with_worker}, Kinds.{HasKinds, find_row}}
+use Rattle.pagable_world.specs.{Kinds.{is_loose, loose_kind, mode_of, owner_value}, LoadCalls.{AdoptCall, Adopts, AskCall, BeginCall, GetsKnown, LazyCall, adopted, first_key, from_cache}}
+use Rattle.pagable_world.specs.{Pager.{HandlesAreWhole, IsWhole, WellFormed}, Plain.{Blob, Error, type_of}, Workers.RowIs, World.{Alike, Core, Reading, Values, row_at}}
+use Rattle.{pagable_world.specs.declared.{answers.Beginning.Beginning, calls.Want.Want, handles.{HandleRow.HandleRow, Owner.Owner}}, std.proofs.Common.{Err, List, Ok, Result, Some, [], ap, arith}}
+use Rattle.std.{proofs.{Common.{false, inl, inr, refl, subst, sym, true, ℕ, ◌+◌, ◌∙◌, ◌≡◌}, lemmas.Bool.{false_from_ne_true, Decides.nat_tests}}, specs.{Option.option_map, Prelude.{IfOk, IsSome}}}
+use Rattle.std.specs.Prelude.{is_some}
 
 -- what a call does to a pager of which no value comes
 module _ {N S E : Type 0} (tells : Telling S) (v : E → Values N) (p q : PagerView N S E) where
@@ -111,4 +115,42 @@ pub load_starts : {w w' : Core} {me : Owner} {h : HandleNumber} {l : LoadNumber}
     → Some t ≡ option_map (λ (r : Reading). r.node_type) (reading_of_load l (w'.loads l.0)) → StartsPin w me h (Ok (PinStart.Load l key t)) w'
 load_starts c t is = grind (arith, nat_tests, begun_is, pinned-here, row-pins, same_some)
 
+pub ruleset pinning = (nat_tests, load_starts, same_some)
+
 pub ruleset entering = (nat_tests, all_there, called)
+
+-- ---- workers
+
+module _ {w w' : Core} (whole : IsWhole w) where
+  pub begins : (r : Result WorkerNumber Error) → BeginsWorker w r w' → Rests w w'
+  begins (Ok v) b = rests-then (spares-same refl (λ n. refl) refl) b.begun.1 whole.shut
+  begins (Err e) b = unmoved b.refused.1 whole.shut
+
+  pub takes : (place : ℕ) (r : Result WorkerNumber Error) → TakesWorker w place r w' → Rests w w'
+  takes place (Ok v) b = let (h, listed, next, leaves) = b.taken in starts-listed whole place h v listed leaves
+  takes place (Err e) b = unmoved b.refused.1 whole.shut
+
+-- the entry that was looked at is the one that the worker takes
+pub entry-starts : {w w' : Core} {place type : ℕ} {row : HandleRow} {n : WorkerNumber} {kind : Kind} → IsEntry w place row.number row type → (kind.0 ≡ loose_kind type) × HasKinds type
+    → TakesWorker w place (Ok n) w'
+    → TakesEntry w place n (record { kind = kind; node = row.node; handle = row.number }) w'
+entry-starts {w} {w'} {place} {type} {row} {n} e (is, kinds) t =
+    let (h, listed, next, leaves) = t.taken in
+    let same : h ≡ row.number = same_some _ _ (sym listed ∙ e.listed) in
+    record {
+      h = row.number;
+      row = row;
+      type = type;
+      entry = e;
+      kinds = kinds;
+      is = ap (λ k. let x : ArcRef = record { kind = record { 0 = k }; node = row.node; handle = row.number } in x) is;
+      next = next;
+      leaves = subst (λ (q : HandleNumber). Alike (with_worker (with_entry_taken w place q n)) w') same leaves;
+    }
+
+-- a reference that was claimed is taken by its worker
+pub then_pins : {w mid w' : Core} {me : Owner} {r : ArcRef} {through : HandleNumber} (result : Result Taken Error) → Looks w r.handle (λ b row. b ≡ is_loose row.mode) (Ok true)
+    → CloneCall w me r.handle (Ok through) mid → PinsClone mid me through result w' → TakesReference w me r result w'
+then_pins {w = w} {r = r} result l c s = let sort : RowIs w r.handle true = record { row = l.found.0; live = l.found.1; sort = sym l.found.2 } in grind (arith, nat_tests)
+
+pub ruleset starting = (nat_tests, entry-starts)

@@ -123,19 +123,17 @@ where
     }
 
     fn load_key(&mut self, key: DataKey) -> Result<LoadNumber, Error> {
-        match settled(self.pager.load_key_by(self.me, key), self.pager) {
-            Ok(Beginning::Load(load, _)) => Ok(load),
-            Ok(Beginning::InMemory) => unreachable!(),
-            Err(e) => Err(e),
+        match settled(self.pager.load_key_by(self.me, key), self.pager)? {
+            Beginning::Load(load, _) => Ok(load),
+            Beginning::InMemory => unreachable!(),
         }
     }
 
     fn load_root(&mut self, alloc: Global, load: LoadNumber) -> Result<Arc<PagableData>, Error> {
         let found = self.pager.load_fetch_by(self.me, alloc, load, Want::Root);
-        match settled(found, self.pager) {
-            Ok(Either::Right(blob)) => Ok(blob),
-            Ok(Either::Left(_)) => unreachable!(),
-            Err(e) => Err(e),
+        match settled(found, self.pager)? {
+            Either::Right(blob) => Ok(blob),
+            Either::Left(_) => unreachable!(),
         }
     }
 
@@ -243,13 +241,9 @@ where
 
     #[tactic(auto, using(crate::proofs::Lending::entering))]
     fn worker_listed(&mut self, place: usize) -> Result<(WorkerNumber, ArcRef), Error> {
-        match settled(self.pager.worker_listed(place), self.pager) {
-            Ok((worker, reference)) => {
-                self.me = Owner::Worker(worker);
-                Ok((worker, reference))
-            }
-            Err(e) => Err(e),
-        }
+        let (worker, reference) = settled(self.pager.worker_listed(place), self.pager)?;
+        self.me = Owner::Worker(worker);
+        Ok((worker, reference))
     }
 
     fn worker_end(&mut self, worker: WorkerNumber) {

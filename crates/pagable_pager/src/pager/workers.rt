@@ -71,7 +71,7 @@ where
 
     /// The same, with the reference that the worker pages out: the entry's handle, as a loose one of its cell. Refused with NoSuchHandle past the end, with WrongKind
     /// where the cell's type has no kinds, and with OutOfMemory.
-    #[tactic(auto, using(crate::proofs::Working::starting))]
+    #[tactic(auto, using(crate::proofs::Lending::starting))]
     pub(crate) fn worker_listed(&mut self, place: usize) -> Result<(WorkerNumber, ArcRef), Error>
         ensures begins { IfOk result (λ b. TakesEntry (core_in (telling S.stored S.is_closed S.failed) self.old) place b.0 b.1 (core_in (telling S.stored S.is_closed S.failed) self.new)) }
         ensures refused { IfErr result (λ e. EntryFault (core_in (telling S.stored S.is_closed S.failed) self.old) place e × Alike (core_in (telling S.stored S.is_closed S.failed) self.old) (core_in (telling S.stored S.is_closed S.failed) self.new)) }
@@ -113,12 +113,10 @@ where
         requires { is_at_work (core_in (telling S.stored S.is_closed S.failed) self.old) me ≡ true }
         ensures { Calls (telling S.stored S.is_closed S.failed) self.old (λ w w'. PinsClone w me through result w') self.new }
     {
-        let start = self.begin_pin_by(me, through)?;
-        let taken = match start {
-            PinStart::Pinned(pinned, _) => Taken::Held(through, pinned),
-            PinStart::Load(load, key, _) => Taken::Begun(through, load, key),
-        };
-        Ok(taken)
+        match self.begin_pin_by(me, through)? {
+            PinStart::Pinned(pinned, _) => Ok(Taken::Held(through, pinned)),
+            PinStart::Load(load, key, _) => Ok(Taken::Begun(through, load, key)),
+        }
     }
 
     /// Clones a reference's handle for this owner and pins the clone, or begins a load by it. Where that is refused, the clone stays the owner's.

@@ -1,4 +1,5 @@
-use Rattle.pagable_pager.proofs.{Lending.adopted_refers, Words.values_at, Words.telling, Words.WellFormed, Words.subst, Words.state_in, Words.rules}
+use Rattle.{pagable_loads.specs.Telling.values_at, pagable_pager.{proofs.Lending.adopted_refers, specs.View.{state_in, telling}}, std.proofs.Common.{rules, subst}}
+use Rattle.pagable_world.specs.Pager.{WellFormed}
 use Rattle.pagable_pager.proofs.lent.LentAccess.load_adopt.Goals as goal
 
 pub returns : goal.returns

@@ -1,4 +1,4 @@
-use Rattle.pagable_pager.proofs.Words.{false, Option, Some, None, IfSome, slice_get_within}
+use Rattle.std.{proofs.{Common.{None, Option, Some, false}, lemmas.Option.slice_get_within}, specs.Prelude.IfSome}
 use Rattle.pagable_pager.proofs.pager.Pager.entry.Goals as goal
 
 each : {A : Type 0} {P Q : A → Type 0} (o : Option A) → ((a : A) → P a → Q a) → IfSome o P → IfSome o Q
