@@ -3,15 +3,14 @@ use Rattle.{either.specs.declared.Either.Either, pagable_laws.proofs.{Goes.found
 use Rattle.{pagable_laws.proofs.{Outlasting.stands-fell, ReadingSteps.cached-rows, SparingSteps.named-among, Taking.row-pins, Trees.same_some}, pagable_loads.proofs.Pinned.begun_is}
 use Rattle.pagable_loads.specs.{Starting.StartsPin, Telling.{AdoptsValue, AsksFor, IsMade, TakesLazily}, Working.TakesReference, declared.{starting.PinStart.PinStart, working.Taken.Taken}}
 use Rattle.pagable_model.specs.declared.{data_key.OptionalDataKey.OptionalDataKey, numbers.{ArcRef.ArcRef, HandleNumber.HandleNumber, Kind.Kind, LoadNumber.LoadNumber, NodeNumber.NodeNumber}}
-use Rattle.{pagable_model.specs.declared.numbers.WorkerNumber.WorkerNumber, pagable_pager.specs.{Made.{PinsClone, Refers, TakesEntry}, View.{Calls, CallsLess, FewerValues, PagerView, SameValues}}}
-use Rattle.{pagable_pager.specs.View.{Telling, ValuesByNode, core_in, state_in, value_in}, pagable_steps.proofs.Owning.{Rests, not-load, pinned-here, rests-then, spares-same, starts-listed}}
-use Rattle.{pagable_steps.proofs.Owning.unmoved, pagable_tables.specs.Giving.{BeginsWorker, TakesWorker}, pagable_world.specs.{Access.{Called, Told}, Calls.{CloneCall, IsNext, Looks, StoreCall}}}
-use Rattle.pagable_world.specs.{Calls.{is_named_by, next_node, row_of, with_handle, with_node}, Events.{IsEntry, reading_of_load, with_entry_taken, with_worker}, Kinds.{HasKinds, find_row}}
-use Rattle.pagable_world.specs.{Kinds.{is_loose, loose_kind, mode_of, owner_value}, LoadCalls.{AdoptCall, Adopts, AskCall, BeginCall, GetsKnown, LazyCall, adopted, first_key, from_cache}}
-use Rattle.pagable_world.specs.{Pager.{HandlesAreWhole, IsWhole, WellFormed}, Plain.{Blob, Error, type_of}, Workers.RowIs, World.{Alike, Core, Reading, Values, row_at}}
-use Rattle.{pagable_world.specs.declared.{answers.Beginning.Beginning, calls.Want.Want, handles.{HandleRow.HandleRow, Owner.Owner}}, std.proofs.Common.{Err, List, Ok, Result, Some, [], ap, arith}}
-use Rattle.std.{proofs.{Common.{false, inl, inr, refl, subst, sym, true, ℕ, ◌+◌, ◌∙◌, ◌≡◌}, lemmas.Bool.{false_from_ne_true, Decides.nat_tests}}, specs.{Option.option_map, Prelude.{IfOk, IsSome}}}
-use Rattle.std.specs.Prelude.{is_some}
+use Rattle.{pagable_model.specs.declared.numbers.WorkerNumber.WorkerNumber, pagable_pager.specs.{Made.{PinsClone, TakesEntry}, View.{CallsLess, FewerValues, PagerView, SameValues, Telling}}}
+use Rattle.{pagable_pager.specs.View.{ValuesByNode, core_in, state_in, value_in}, pagable_steps.proofs.Owning.{Rests, not-load, pinned-here, rests-then, spares-same, starts-listed, unmoved}}
+use Rattle.{pagable_tables.specs.Giving.{BeginsWorker, TakesWorker}, pagable_world.specs.{Access.{Called, Told}, Calls.{CloneCall, IsNext, Looks, StoreCall, is_named_by, next_node, row_of}}}
+use Rattle.pagable_world.specs.{Calls.{with_handle, with_node}, Events.{IsEntry, reading_of_load, with_entry_taken, with_worker}, Kinds.{HasKinds, find_row, is_loose, loose_kind, mode_of}}
+use Rattle.pagable_world.specs.{Kinds.owner_value, LoadCalls.{AdoptCall, Adopts, AskCall, BeginCall, GetsKnown, LazyCall, adopted, first_key, from_cache}, Pager.{HandlesAreWhole, IsWhole}}
+use Rattle.pagable_world.specs.{Pager.WellFormed, Plain.{Blob, Error, type_of}, Workers.RowIs, World.{Alike, Core, Reading, Values, row_at}, declared.{answers.Beginning.Beginning, calls.Want.Want}}
+use Rattle.{pagable_world.specs.declared.handles.{HandleRow.HandleRow, Owner.Owner}, std.proofs.Common.{Err, List, Ok, Result, Some, [], ap, arith, false, inl, inr, refl, subst, sym, true, ℕ, ◌+◌}}
+use Rattle.std.{proofs.{Common.{◌∙◌, ◌≡◌}, lemmas.{Bool.{false_from_ne_true, Decides.nat_tests}, Option.slice_get_within}}, specs.{Option.option_map, Prelude.{IfOk, IsSome, is_some}}}
 
 -- what a call does to a pager of which no value comes
 module _ {N S E : Type 0} (tells : Telling S) (v : E → Values N) (p q : PagerView N S E) where
@@ -88,26 +87,15 @@ module _ {w : Core} (whole : HandlesAreWhole w) where
       → (IsSome (row_at w' h) → IsMade w' kind r) → AsksFor see w me l kind key (Ok (Either.Left r)) w'
   found_refers {me = me} {l} {kind} {key} w' c same is = record { asked = subst (λ k. AskCall w me l (Want.Nested kind key) (Ok (from_cache k)) w') (sym same) c; made = is (known_live w' c.gives.2) }
 
-  -- and the reference stands for it
-  lazy_refers : {me : Owner} {l : LoadNumber} {kind : Kind} {key : ℕ} (w' : Core) (made : Result HandleNumber Error) (r : Result ArcRef Error) → LazyCall w me l kind key made w'
-      → Refers w' kind made r
-      → TakesLazily w me l kind key r w'
-  lazy_refers {me} {l} {kind} {key} w' (Ok h) (Ok r) c (is, same) = record { taken = subst (λ k. LazyCall w me l kind key (Ok k) w') (sym same) c; made = is (lazy_live w' c) }
-  lazy_refers {me} {l} {kind} {key} w' (Err e) (Err f) c same = record { taken = subst (λ x. LazyCall w me l kind key (Err x) w') same c; made = tt }
-  lazy_refers w' other r c none = absurd none
+  -- and of what was taken
+  pub lazy_refers : {me : Owner} {l : LoadNumber} {kind : Kind} {key : ℕ} {h : HandleNumber} {r : ArcRef} (w' : Core) → LazyCall w me l kind key (Ok h) w' → r.handle ≡ h
+      → (IsSome (row_at w' h) → IsMade w' kind r) → TakesLazily w me l kind key (Ok r) w'
+  lazy_refers {me} {l} {kind} {key} w' c same is = record { taken = subst (λ k. LazyCall w me l kind key (Ok k) w') (sym same) c; made = is (lazy_live w' c) }
 
-  pub adopted_refers : {N : Type 0} {x : N} {t : ℕ} {rs : List ArcRef} {me : Owner} {l : LoadNumber} {kind : Kind} {key : ℕ} (w' : Core) (made : Result HandleNumber (Error × N))
-      (r : Result ArcRef (Error × N))
-      → AdoptCall w me l kind key x t rs made w' → Refers w' kind made r → AdoptsValue w me l kind key x t rs r w'
-  adopted_refers {x = x} {t} {rs} {me} {l} {kind} {key} w' made r c refers = grind (arith, nat_tests, adopted_live)
-
--- as a lent pager tells it
-pub told_lazy : {N S E : Type 0} {tells : Telling S} (v : E → Values N) {p q : PagerView N S E} {me : Owner} {l : LoadNumber} {kind : Kind} {key : ℕ} (made : Result HandleNumber Error)
-    (r : Result ArcRef Error) → HandlesAreWhole (core_in tells p) → Calls tells p (λ w w'. LazyCall w me l kind key made w') q → Refers (core_in tells q) kind made r → WellFormed (v q.environment)
-    (state_in tells q) → Told (Some (state_in tells p)) (Some (state_in tells q)) (λ s t. Called (v p.environment) (λ w'. TakesLazily s.core me l kind key r w') s t)
-told_lazy {tells = tells} v {p} {q} {me} {l} {kind} {key} made r handles call refers whole =
-    told_fewer tells v p q (λ w w'. TakesLazily w me l kind key r w') (lazy_refers handles (core_in tells q) made r call.step refers)
-    (all_there tells v p q (record { values = call.only.values; environment = call.only.environment })) whole
+  pub adopted_refers : {N : Type 0} {x : N} {t : ℕ} {rs : List ArcRef} {me : Owner} {l : LoadNumber} {kind : Kind} {key : ℕ} {h : HandleNumber} {r : ArcRef} (w' : Core)
+      → AdoptCall w me l kind key x t rs (Ok h) w' → r.handle ≡ h → (IsSome (row_at w' h) → IsMade w' kind r) → AdoptsValue w me l kind key x t rs (Ok r) w'
+  adopted_refers {x = x} {t} {rs} {me} {l} {kind} {key} w' c same is =
+      record { adopted = subst (λ k. AdoptCall w me l kind key x t rs (Ok k) w') (sym same) c; made = is (adopted_live w' c.adopts) }
 
 -- ---- how a pin begins
 
@@ -153,4 +141,4 @@ pub then_pins : {w mid w' : Core} {me : Owner} {r : ArcRef} {through : HandleNum
     → CloneCall w me r.handle (Ok through) mid → PinsClone mid me through result w' → TakesReference w me r result w'
 then_pins {w = w} {r = r} result l c s = let sort : RowIs w r.handle true = record { row = l.found.0; live = l.found.1; sort = sym l.found.2 } in grind (arith, nat_tests)
 
-pub ruleset starting = (nat_tests, entry-starts)
+pub ruleset starting = (nat_tests, entry-starts, slice_get_within)

@@ -166,7 +166,10 @@ where
         self.pager.is_whole();
         let taken = self.pager.load_lazy_by(self.me, alloc, load, kind, key);
         self.pager.is_whole();
-        self.pager.referred(kind, taken)
+        match taken {
+            Ok(handle) => Ok(self.pager.reference(kind, handle)),
+            Err(e) => Err(e),
+        }
     }
 
     fn load_adopt(
@@ -182,7 +185,10 @@ where
             .pager
             .load_adopt_by(self.me, alloc, load, kind, key, node);
         self.pager.is_whole();
-        self.pager.referred(kind, adopted)
+        match adopted {
+            Ok(handle) => Ok(self.pager.reference(kind, handle)),
+            Err(e) => Err(e),
+        }
     }
 
     fn load_end(

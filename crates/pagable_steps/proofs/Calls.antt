@@ -1,4 +1,4 @@
--- What each call does to values. They go with a cascade: where a call has done what it does directly, a value stays exactly where its node is in memory afterwards, and owns what it did. And they come.
+-- What a call does to values. They go with a cascade: where a call has done what it does directly, a value stays exactly where its node is in memory afterwards, and owns what it did. And they come.
 use Rattle.pagable_laws.proofs.Effects as effects
 use Rattle.pagable_laws.proofs.{Decoding.among-either, Existing.outlast, Following.one-less, Goes.{NotLoads, found-number, le-more, none-in-new}, GoodReferences.{fell-away, good, no-pins, or-none}}
 use Rattle.pagable_laws.proofs.{GoodReferences.same-owner, Outlasting.{NotValues, Stands, among-changed, among-found, among-kept, found-kept, stands-alike, stands-changed, stands-more}}
@@ -447,8 +447,8 @@ module _ {N E : Type 0} {v : Values N} {s s' : PagerState N E} (is : WellFormed 
       → usable s.core kind.0 key ≡ None → ((n : ℕ) → s'.values n ≡ (if n == next_of s.core then Some x else s.values n)) → IsRight s' → WellFormed v s'
   adopts-new {l = l} {kind} {key} {x} a unknown = elim a.makes [
     | inl (n, known, f) ↦ absurd (let e : None ≡ Some n = sym unknown ∙ known in cc)
-    | inr (none, few, alike) ↦ comes-with s' is (not-load l) (type_of kind.0) _ (v.references x) (mode_of kind.0) a.good (rests-cached kind key (next_node s.core) s.core.closed alike refl is.whole.shut)
-        x a.typed refl (mode-pins kind.0 false a.eager)
+    | inr (none, few, alike) ↦ comes-with s' is (not-load l) (type_of kind.0) _ (v.references x) (mode_of kind.0) a.good
+        (rests-cached kind key (next_node s.core) s.core.closed alike refl is.whole.shut) x a.typed refl (mode-pins kind.0 false a.eager)
   ]
 
   pub born-away : {me : Owner} {t key : ℕ} (r : Result HandleNumber Error) → NotValues me → AwayBirthCall s.core me t key r s'.core

@@ -1,9 +1,8 @@
 //! Handles that come to live nodes, what is asked of them, and pins that begin, at once or by a load.
 
-ghost use Rattle.std.specs.{Prelude.{◌≡◌, IsSome, true, Some, false}, Option.option_map};
-ghost use Rattle.pagable_world.specs.{World.{row_at, Reading, is_here}, Calls.{CloneCall, PinCall, LoosenCall, CountCall}};
-ghost use Rattle.{pagable_world.specs.{Calls.{KeyCall, AwayCall, NodeCall, TypeCall}, declared.handles.HandleRow.HandleRow, Events.reading_of_load}, pagable_loads.specs.Telling.IsMade};
-ghost use Rattle.{pagable_loads.specs.Starting.{StartsPin, is_unpinned_at}, pagable_pager.specs.{View.{core_in, telling, Calls, OnlyTables, is_at_work}, Made.Refers}};
+ghost use Rattle.std.specs.{Prelude.{◌≡◌, IsSome, true}, Option.option_map};
+ghost use Rattle.pagable_world.specs.{World.{row_at, Reading}, Calls.{CloneCall, PinCall, LoosenCall, CountCall, KeyCall, AwayCall, NodeCall, TypeCall}, Events.reading_of_load};
+ghost use Rattle.{pagable_loads.specs.{Starting.{StartsPin, is_unpinned_at}, Telling.IsMade}, pagable_pager.specs.View.{core_in, telling, Calls, OnlyTables, is_at_work}};
 
 use crate::pager::Pager;
 use crate::pager::loads::cell_type;
@@ -108,17 +107,6 @@ where
             Err(_) => NodeNumber(0),
         };
         ArcRef { kind, node, handle }
-    }
-
-    // What was made, as the reference that stands for it.
-    pub(crate) fn referred<X: Drop>(
-        &self,
-        kind: Kind,
-        made: Result<HandleNumber, X>,
-    ) -> Result<ArcRef, X>
-        ensures { Refers (core_in (telling S.stored S.is_closed S.failed) self.now) kind made result }
-    {
-        Ok(self.reference(kind, made?))
     }
 
     /// Whether the handle is live, loose and pins nothing.

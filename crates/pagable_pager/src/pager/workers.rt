@@ -48,7 +48,6 @@ where
     pub(crate) fn entry(&self, place: usize) -> Option<(HandleRow, u32, OptionalDataKey)>
         ensures found { IfSome result (λ e. IsEntry (core_in (telling S.stored S.is_closed S.failed) self.now) place e.0.number e.0 e.1) }
         ensures keyed { IfSome result (λ e. key_at (core_in (telling S.stored S.is_closed S.failed) self.now) e.0.node.0 ≡ e.2) }
-        ensures within { IfSome result (λ e. place < length (core_in (telling S.stored S.is_closed S.failed) self.now).list) }
         ensures past { IfNone result (length (core_in (telling S.stored S.is_closed S.failed) self.now).list ≤ place) }
     {
         lookups::entry(&self.tables, place)
