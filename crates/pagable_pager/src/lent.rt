@@ -197,10 +197,8 @@ where
         load: LoadNumber,
         value: E::Node,
     ) -> Result<HandleNumber, (Error, Option<E::Node>)> {
-        settled(
-            self.pager.load_end_by(self.me, alloc, load, value),
-            self.pager,
-        )
+        let ended = self.pager.load_end_by(self.me, alloc, load, value);
+        settled(ended, self.pager)
     }
 
     fn load_take(&mut self, load: LoadNumber, named: &[HandleNumber]) -> Result<(), Error> {
@@ -233,10 +231,8 @@ where
     }
 
     fn schedule_for_paging(&mut self, handle: HandleNumber) -> Result<(), Error> {
-        settled(
-            self.pager.schedule_for_paging_by(self.me, handle),
-            self.pager,
-        )
+        let told = self.pager.schedule_for_paging_by(self.me, handle);
+        settled(told, self.pager)
     }
 
     fn worker_begin(&mut self) -> Result<WorkerNumber, Error> {

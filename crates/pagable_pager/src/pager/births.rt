@@ -144,14 +144,8 @@ where
             Ok(value) => value,
             Err(node) => return Err((Error::OutOfMemory, node)),
         };
-        let handle = births::bear(
-            &mut self.tables,
-            Owner::Caller,
-            node_type,
-            0,
-            references,
-            mode,
-        );
+        let tables = &mut self.tables;
+        let handle = births::bear(tables, Owner::Caller, node_type, 0, references, mode);
         keep(&mut self.values, self.tables.last_node, value);
         Ok(handle)
     }
@@ -225,16 +219,9 @@ where
         ensures only { OnlyLess self.old self.new }
     {
         let lists = !self.storage.has_closed();
+        let (tables, values) = (&mut self.tables, &mut self.values);
         adopting::adopt_if_known(
-            &mut self.tables,
-            &mut self.values,
-            me,
-            load,
-            kind,
-            key,
-            node_type,
-            references,
-            lists,
+            tables, values, me, load, kind, key, node_type, references, lists,
         )
     }
 
