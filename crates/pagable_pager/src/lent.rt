@@ -145,9 +145,8 @@ where
         key: DataKey,
     ) -> Result<Either<ArcRef, Arc<PagableData>>, Error> {
         self.pager.is_whole();
-        let found = self
-            .pager
-            .load_fetch_by(self.me, alloc, load, Want::Nested(kind, key));
+        let want = Want::Nested(kind, key);
+        let found = self.pager.load_fetch_by(self.me, alloc, load, want);
         self.pager.is_whole();
         match found {
             Ok(Either::Left(handle)) => Ok(Either::Left(self.pager.reference(kind, handle))),

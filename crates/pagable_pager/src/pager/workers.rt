@@ -83,12 +83,8 @@ where
             return Err(Error::WrongKind);
         };
         let worker = self.worker_take(place)?;
-        let reference = ArcRef {
-            kind,
-            node: row.node,
-            handle: row.number,
-        };
-        Ok((worker, reference))
+        let (node, handle) = (row.node, row.number);
+        Ok((worker, ArcRef { kind, node, handle }))
     }
 
     /// A worker gives up all handles that it has at a node, with all that goes with them.
