@@ -1,13 +1,16 @@
--- What a lent pager's calls tell as those of an access.
-use Rattle.pagable_pager.proofs.Words.{AskCall, from_cache, AsksFor, FewerValues, SameValues, value_in, ValuesByNode, Refers, AdoptCall, TakesLazily, AdoptsValue, ◌≡◌, ℕ, ◌+◌, List, [], Some, Result}
-use Rattle.pagable_pager.proofs.Words.{Ok, Err, inl, inr, ap, sym, subst, ◌∙◌, arith, IsSome, is_some, IfOk, option_map, OptionalDataKey, Error, ArcRef, HandleNumber, Kind, LoadNumber, NodeNumber}
-use Rattle.pagable_pager.proofs.Words.{HandleRow, Owner, Blob, find_row, mode_of, Core, Reading, Values, Alike, row_at, Looks, StoreCall, with_handle, IsNext, BeginCall, GetsKnown, LazyCall, Adopts}
-use Rattle.pagable_pager.proofs.Words.{first_key, reading_of_load, HandlesAreWhole, WellFormed, Told, Called, found-number, good, Stands, stands-alike, stands-fell, among-found, row-pins, same_some}
-use Rattle.pagable_pager.proofs.Words.{pinned-here, StartsPin, begun_is, IsMade, PagerView, Telling, core_in, state_in, nat_tests, refl, false, type_of, owner_value, row_of, with_node, next_node}
-use Rattle.pagable_pager.proofs.Words.{is_named_by, named-among, adopted}
-use Rattle.{pagable_loads.specs.declared.starting.PinStart.PinStart, pagable_world.specs.declared.{answers.Beginning.Beginning, calls.Want.Want}, either.specs.declared.Either.Either}
-use Rattle.{pagable_laws.proofs.{Outlasting.{low-changed, low-whole, new-handle}, ReadingSteps.cached-rows}, pagable_steps.proofs.Owning.not-load, pagable_pager.specs.View.{Calls, CallsLess}}
-use Rattle.std.proofs.lemmas.Bool.{false_from_ne_true}
+-- What a lent pager's calls tell as those of an access; and a worker comes, for an entry of the list or without one, and takes a reference.
+use Rattle.{either.specs.declared.Either.Either, pagable_laws.proofs.{Goes.found-number, GoodReferences.good, Outlasting.{Stands, among-found, low-changed, low-whole, new-handle, stands-alike}}}
+use Rattle.{pagable_laws.proofs.{Outlasting.stands-fell, ReadingSteps.cached-rows, SparingSteps.named-among, Taking.row-pins, Trees.same_some}, pagable_loads.proofs.Pinned.begun_is}
+use Rattle.pagable_loads.specs.{Starting.StartsPin, Telling.{AdoptsValue, AsksFor, IsMade, TakesLazily}, Working.TakesReference, declared.{starting.PinStart.PinStart, working.Taken.Taken}}
+use Rattle.pagable_model.specs.declared.{data_key.OptionalDataKey.OptionalDataKey, numbers.{ArcRef.ArcRef, HandleNumber.HandleNumber, Kind.Kind, LoadNumber.LoadNumber, NodeNumber.NodeNumber}}
+use Rattle.{pagable_model.specs.declared.numbers.WorkerNumber.WorkerNumber, pagable_pager.specs.{Made.{PinsClone, TakesEntry}, View.{CallsLess, FewerValues, PagerView, SameValues, Telling}}}
+use Rattle.{pagable_pager.specs.View.{ValuesByNode, core_in, state_in, value_in}, pagable_steps.proofs.Owning.{Rests, not-load, pinned-here, rests-then, spares-same, starts-listed, unmoved}}
+use Rattle.{pagable_tables.specs.Giving.{BeginsWorker, TakesWorker}, pagable_world.specs.{Access.{Called, Told}, Calls.{CloneCall, IsNext, Looks, StoreCall, is_named_by, next_node, row_of}}}
+use Rattle.pagable_world.specs.{Calls.{with_handle, with_node}, Events.{IsEntry, reading_of_load, with_entry_taken, with_worker}, Kinds.{HasKinds, find_row, is_loose, loose_kind, mode_of}}
+use Rattle.pagable_world.specs.{Kinds.owner_value, LoadCalls.{AdoptCall, Adopts, AskCall, BeginCall, GetsKnown, LazyCall, adopted, first_key, from_cache}, Pager.{HandlesAreWhole, IsWhole}}
+use Rattle.pagable_world.specs.{Pager.WellFormed, Plain.{Blob, Error, type_of}, Workers.RowIs, World.{Alike, Core, Reading, Values, row_at}, declared.{answers.Beginning.Beginning, calls.Want.Want}}
+use Rattle.{pagable_world.specs.declared.handles.{HandleRow.HandleRow, Owner.Owner}, std.proofs.Common.{Err, List, Ok, Result, Some, [], ap, arith, false, inl, inr, refl, subst, sym, true, ℕ, ◌+◌}}
+use Rattle.std.{proofs.{Common.{◌∙◌, ◌≡◌}, lemmas.{Bool.{false_from_ne_true, Decides.nat_tests}, Option.slice_get_within}}, specs.{Option.option_map, Prelude.{IfOk, IsSome, is_some}}}
 
 -- what a call does to a pager of which no value comes
 module _ {N S E : Type 0} (tells : Telling S) (v : E → Values N) (p q : PagerView N S E) where
@@ -84,26 +87,15 @@ module _ {w : Core} (whole : HandlesAreWhole w) where
       → (IsSome (row_at w' h) → IsMade w' kind r) → AsksFor see w me l kind key (Ok (Either.Left r)) w'
   found_refers {me = me} {l} {kind} {key} w' c same is = record { asked = subst (λ k. AskCall w me l (Want.Nested kind key) (Ok (from_cache k)) w') (sym same) c; made = is (known_live w' c.gives.2) }
 
-  -- and the reference stands for it
-  lazy_refers : {me : Owner} {l : LoadNumber} {kind : Kind} {key : ℕ} (w' : Core) (made : Result HandleNumber Error) (r : Result ArcRef Error) → LazyCall w me l kind key made w'
-      → Refers w' kind made r
-      → TakesLazily w me l kind key r w'
-  lazy_refers {me} {l} {kind} {key} w' (Ok h) (Ok r) c (is, same) = record { taken = subst (λ k. LazyCall w me l kind key (Ok k) w') (sym same) c; made = is (lazy_live w' c) }
-  lazy_refers {me} {l} {kind} {key} w' (Err e) (Err f) c same = record { taken = subst (λ x. LazyCall w me l kind key (Err x) w') same c; made = tt }
-  lazy_refers w' other r c none = absurd none
+  -- and of what was taken
+  pub lazy_refers : {me : Owner} {l : LoadNumber} {kind : Kind} {key : ℕ} {h : HandleNumber} {r : ArcRef} (w' : Core) → LazyCall w me l kind key (Ok h) w' → r.handle ≡ h
+      → (IsSome (row_at w' h) → IsMade w' kind r) → TakesLazily w me l kind key (Ok r) w'
+  lazy_refers {me} {l} {kind} {key} w' c same is = record { taken = subst (λ k. LazyCall w me l kind key (Ok k) w') (sym same) c; made = is (lazy_live w' c) }
 
-  pub adopted_refers : {N : Type 0} {x : N} {t : ℕ} {rs : List ArcRef} {me : Owner} {l : LoadNumber} {kind : Kind} {key : ℕ} (w' : Core) (made : Result HandleNumber (Error × N))
-      (r : Result ArcRef (Error × N))
-      → AdoptCall w me l kind key x t rs made w' → Refers w' kind made r → AdoptsValue w me l kind key x t rs r w'
-  adopted_refers {x = x} {t} {rs} {me} {l} {kind} {key} w' made r c refers = grind (arith, nat_tests, adopted_live)
-
--- as a lent pager tells it
-pub told_lazy : {N S E : Type 0} {tells : Telling S} (v : E → Values N) {p q : PagerView N S E} {me : Owner} {l : LoadNumber} {kind : Kind} {key : ℕ} (made : Result HandleNumber Error)
-    (r : Result ArcRef Error) → HandlesAreWhole (core_in tells p) → Calls tells p (λ w w'. LazyCall w me l kind key made w') q → Refers (core_in tells q) kind made r → WellFormed (v q.environment)
-    (state_in tells q) → Told (Some (state_in tells p)) (Some (state_in tells q)) (λ s t. Called (v p.environment) (λ w'. TakesLazily s.core me l kind key r w') s t)
-told_lazy {tells = tells} v {p} {q} {me} {l} {kind} {key} made r handles call refers whole =
-    told_fewer tells v p q (λ w w'. TakesLazily w me l kind key r w') (lazy_refers handles (core_in tells q) made r call.step refers)
-    (all_there tells v p q (record { values = call.only.values; environment = call.only.environment })) whole
+  pub adopted_refers : {N : Type 0} {x : N} {t : ℕ} {rs : List ArcRef} {me : Owner} {l : LoadNumber} {kind : Kind} {key : ℕ} {h : HandleNumber} {r : ArcRef} (w' : Core)
+      → AdoptCall w me l kind key x t rs (Ok h) w' → r.handle ≡ h → (IsSome (row_at w' h) → IsMade w' kind r) → AdoptsValue w me l kind key x t rs (Ok r) w'
+  adopted_refers {x = x} {t} {rs} {me} {l} {kind} {key} w' c same is =
+      record { adopted = subst (λ k. AdoptCall w me l kind key x t rs (Ok k) w') (sym same) c; made = is (adopted_live w' c.adopts) }
 
 -- ---- how a pin begins
 
@@ -111,4 +103,42 @@ pub load_starts : {w w' : Core} {me : Owner} {h : HandleNumber} {l : LoadNumber}
     → Some t ≡ option_map (λ (r : Reading). r.node_type) (reading_of_load l (w'.loads l.0)) → StartsPin w me h (Ok (PinStart.Load l key t)) w'
 load_starts c t is = grind (arith, nat_tests, begun_is, pinned-here, row-pins, same_some)
 
+pub ruleset pinning = (nat_tests, load_starts, same_some)
+
 pub ruleset entering = (nat_tests, all_there, called)
+
+-- ---- workers
+
+module _ {w w' : Core} (whole : IsWhole w) where
+  pub begins : (r : Result WorkerNumber Error) → BeginsWorker w r w' → Rests w w'
+  begins (Ok v) b = rests-then (spares-same refl (λ n. refl) refl) b.begun.1 whole.shut
+  begins (Err e) b = unmoved b.refused.1 whole.shut
+
+  pub takes : (place : ℕ) (r : Result WorkerNumber Error) → TakesWorker w place r w' → Rests w w'
+  takes place (Ok v) b = let (h, listed, next, leaves) = b.taken in starts-listed whole place h v listed leaves
+  takes place (Err e) b = unmoved b.refused.1 whole.shut
+
+-- the entry that was looked at is the one that the worker takes
+pub entry-starts : {w w' : Core} {place type : ℕ} {row : HandleRow} {n : WorkerNumber} {kind : Kind} → IsEntry w place row.number row type → (kind.0 ≡ loose_kind type) × HasKinds type
+    → TakesWorker w place (Ok n) w'
+    → TakesEntry w place n (record { kind = kind; node = row.node; handle = row.number }) w'
+entry-starts {w} {w'} {place} {type} {row} {n} e (is, kinds) t =
+    let (h, listed, next, leaves) = t.taken in
+    let same : h ≡ row.number = same_some _ _ (sym listed ∙ e.listed) in
+    record {
+      h = row.number;
+      row = row;
+      type = type;
+      entry = e;
+      kinds = kinds;
+      is = ap (λ k. let x : ArcRef = record { kind = record { 0 = k }; node = row.node; handle = row.number } in x) is;
+      next = next;
+      leaves = subst (λ (q : HandleNumber). Alike (with_worker (with_entry_taken w place q n)) w') same leaves;
+    }
+
+-- a reference that was claimed is taken by its worker
+pub then_pins : {w mid w' : Core} {me : Owner} {r : ArcRef} {through : HandleNumber} (result : Result Taken Error) → Looks w r.handle (λ b row. b ≡ is_loose row.mode) (Ok true)
+    → CloneCall w me r.handle (Ok through) mid → PinsClone mid me through result w' → TakesReference w me r result w'
+then_pins {w = w} {r = r} result l c s = let sort : RowIs w r.handle true = record { row = l.found.0; live = l.found.1; sort = sym l.found.2 } in grind (arith, nat_tests)
+
+pub ruleset starting = (nat_tests, entry-starts, slice_get_within)

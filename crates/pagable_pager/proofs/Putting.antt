@@ -1,12 +1,192 @@
--- A value comes to a load's cell, and others go with their nodes.
-use Rattle.pagable_pager.proofs.Words.{rules, ◌≡◌, ℕ, ◌&&◌, Bool, true, false, Ok, Err, refl, ap, sym, ◌∙◌, subst, Some, None, Option, List, if◌then◌else◌, inl, inr, nat_eq, arith, ◌≢◌, ◌⊎◌}
-use Rattle.pagable_pager.proofs.Words.{Result, is_some, nat_lt, get, cases_eq, nat_tests, ArcRef, NodeNumber, Owner, HandleNumber, LoadNumber, Error, if_there, updated, Core, OpenLoad, Alike}
-use Rattle.pagable_pager.proofs.Words.{is_here, OwnsLoad, Refused, load_fault, closed_fault, DropCall, EndCall, EndRefused, Installs, MayEnd, held, is_owner, IsCellOf, Moves}
-use Rattle.pagable_pager.proofs.Words.{WellFormed, row-held, installed_away, installed_there, Ending, Tables, counts_at, Sheds, has_value, IsWhole, plain_of, AreLater, IsReady, IsVain, OnlyRoom, room-alike}
-use Rattle.pagable_pager.proofs.Words.{ShedsBeside, has_come, installs-wider, may-wider, not-so, so-then, still, end_refused, spared, spares-alike, PagerView, Telling, Values}
-use Rattle.pagable_pager.proofs.Words.{ValuesByNode, IsPager, core_in, state_in, value_in, PutsIn, with_value}
-use Rattle.pagable_pager.proofs.{Shed.{here-in, here-told, less, shed, some-map, left-map, in-step, whole-over}, Shut.{bare-alike, end-refused-bare, installed-bare}}
-use Rattle.pagable_world.specs.Pager as pager
+-- What comes with a value leaves the pager in step: a node, what a load has read, and the value of a load's cell.
+use Rattle.{pagable_laws.proofs.{Taking.row-held, Trees.same_some}, pagable_model.specs.declared.numbers.{ArcRef.ArcRef, HandleNumber.HandleNumber, Kind.Kind, LoadNumber.LoadNumber}}
+use Rattle.{pagable_model.specs.declared.numbers.NodeNumber.NodeNumber, pagable_pager.proofs.Keeping.{caller-free, here-in, here-told, in-step, left-map, less, shed, some-map}}
+use Rattle.{pagable_pager.specs.View.{IsPager, OnlyLess, PagerView, PutsIn, Telling, ValuesByNode, core_in, state_in, value_in, with_value}, pagable_steps.proofs.Calls.{adopted_known, adopts-new}}
+use Rattle.{pagable_steps.proofs.{Calls.{born, end_refused, installed_away, installed_there}, Owning.{IsRight, spared, stayed, unmoved}}, pagable_tables.proofs.Alive.not-so}
+use Rattle.pagable_tables.proofs.{Installed.{installs-wider, may-wider, so-then}, Worlds.{adopted-past, adopts-new as made-new, born-past, earlier-first, early-past, fault-by, next-past}}
+use Rattle.pagable_tables.{proofs.Worlds.{refused-memory, refused-new, room-alike, room-fault, still, told-later}, specs.{Asking.early_fault, Bearing.{Bears, OnlyRoom}, ByNumber.counts_at}}
+use Rattle.pagable_tables.specs.{Core.{IsWhole, core_of, plain_of}, Doing.Does, Falling.{Sheds, has_value}, Later.AreLater, Ready.{IsReady, IsVain, ShedsBeside, has_come}}
+use Rattle.{pagable_tables.specs.declared.{installing.Ending.Ending, tables.Tables.Tables}, pagable_world.specs.{Calls.{BirthCall, IsNext, birth_fault}, Kinds.{held, is_owner, is_pinning}}}
+use Rattle.pagable_world.specs.{LoadCalls.{AdoptCall, Adopts, DropCall, EndCall, EndRefused, Installs, MayEnd, adopt_fault, adopted, first_key}, Pager.{IsCellOf, IsNewNode, Moves, WellFormed}}
+use Rattle.pagable_world.specs.{Plain.{Blob, Error, if_there, updated}, Refusals.{OwnsLoad, Refused, closed_fault, earlier, load_fault, references_fault, refused_if}, World.{Alike, Core, Last}}
+use Rattle.{pagable_world.specs.{World.{OpenLoad, Values, greatest, is_here, usable}, declared.{handles.Owner.Owner, rows.Mode.Mode}}, std.proofs.Common.{Bool, Err, List, None, Ok, Option, Result}}
+use Rattle.std.proofs.{Common.{Some, [], ap, arith, false, if◌then◌else◌, inl, inr, nat_eq, not, refl, rules, subst, sym, true, ℕ, ◌&&◌, ◌+◌, ◌<◌, ◌==◌, ◌∙◌, ◌≡◌}, lemmas.Bool.cases_eq}
+use Rattle.std.{proofs.lemmas.Bool.Decides.nat_tests, specs.{HashMap.get, Prelude.{IfErr, IfNone, IfOk, IfSome, is_some, nat_lt, ◌≢◌, ◌⊎◌}}}
+
+-- a birth in a world where room was made before
+birth-past : {N : Type 0} {w w1 w' : Core} {x : N} (me : Owner) (t t' : ℕ) (rs rs' : List ArcRef) (mode : Mode) (k : HandleNumber) → OnlyRoom w w1 → references_fault w me [] rs ≡ None
+    → w1.last.node < greatest → t ≡ t' → rs ≡ rs' → Bears w1 me t 0 rs mode k w' → BirthCall w me x t' rs' mode (Ok k) w'
+birth-past {N} {w} {w1} {w'} {x} me t t' rs rs' mode k room fit left typed named b = grind (arith, nat_tests, born-past, next-past)
+
+module _ {N S E : Type 0} {tells : Telling S} {says : E → Values N} {p : PagerView N S E} (is : IsPager tells says p) where
+  abbrev next : ℕ
+  next = p.tables.last_node + 1
+
+  module _ {t1 : Tables} (mid : ValuesByNode N) (room : Does p.tables OnlyRoom t1) where
+    abbrev roomy : PagerView N S E
+    roomy = record p { tables = t1; values = mid }
+
+    pub only-room : OnlyRoom (core_in tells p) (core_in tells roomy)
+    only-room = room.does (tells.stored p.storage) (tells.closed p.storage) (tells.failed p.storage)
+
+    -- memory is wanting
+    pub no-memory : (x y : N) → y ≡ x → (node_type : ℕ) (references : List ArcRef) (mode : Mode) → BirthCall (core_in tells p) Owner.Caller x node_type references mode (Err (Error.OutOfMemory, y))
+        (core_in tells roomy)
+    no-memory x y same node_type references mode = record { made = tt; refused = (same, record { why = inr (refl, refl, tt); stays = room-alike only-room }) }
+
+    module _ (same : (n : ℕ) → value_in mid n ≡ value_in p.values n) where
+      -- only room was made
+      pub roomier : IsPager tells says roomy
+      roomier = in-step roomy room.whole (room.later is.later) (spared is.state (unmoved (room-alike only-room) is.state.whole.shut) same)
+
+      -- a value is kept with the node that has come
+      module _ (t2 : Tables) (values : ValuesByNode N) (x : N) {y : N} (shared : y ≡ x) (here : value_in values t2.last_node ≡ Some y)
+          (others : (n : ℕ) → n ≢ t2.last_node → value_in values n ≡ value_in mid n) where
+        abbrev after : PagerView N S E
+        after = record p { tables = t2; values = values }
+
+        pub told : t2.last_node ≡ next → (n : ℕ) → value_in values n ≡ (if n == next then Some x else value_in p.values n)
+        told last n = grind (arith, nat_tests, cases_eq)
+
+        -- the node of the next number had no value yet
+        none-yet : value_in p.values next ≡ None
+        none-yet = grind (arith, nat_tests)
+
+        pub moved-in : t2.last_node ≡ next → Moves (λ n z. (z ≡ x) × IsNewNode (core_in tells p) n) (state_in tells p) (state_in tells after)
+        moved-in last = let a = told last in grind (arith, nat_tests, cases_eq, none-yet, same_some)
+
+        -- a node of the caller's
+        module _ {mode : Mode} {k : HandleNumber} {node_type : ℕ} {rs qs : List ArcRef} (bears : Does t1 (λ w w'. Bears w Owner.Caller node_type 0 rs mode k w') t2) (left : t1.last_node < greatest)
+            (fit : references_fault (plain_of t1) Owner.Caller [] qs ≡ None) (read : qs ≡ rs) (typed : node_type ≡ (says p.environment).node_type x) (named : rs ≡ (says p.environment).references x) where
+          birth : BirthCall (core_in tells p) Owner.Caller x ((says p.environment).node_type x) ((says p.environment).references x) mode (Ok k) (core_in tells after)
+          birth =
+              let plain = room.does (λ key. None) false 0 in
+              let fine = fault-by (plain_of p.tables) (core_in tells p) Owner.Caller [] rs ∙ sym (room-fault Owner.Caller rs plain) ∙ subst
+              (λ l. references_fault (plain_of t1) Owner.Caller [] l ≡ None) read fit in
+              birth-past Owner.Caller node_type ((says p.environment).node_type x) rs ((says p.environment).references x) mode k only-room fine left typed named
+              (bears.does (tells.stored p.storage) (tells.closed p.storage) (tells.failed p.storage))
+
+          born-last : t2.last_node ≡ next
+          born-last = ap (λ (l : Last). l.node) birth.made.3.last
+
+          pub born-told : BirthCall (core_in tells p) Owner.Caller x ((says p.environment).node_type x) ((says p.environment).references x) mode (Ok k) (core_in tells after) × Moves (λ n z. (z ≡ x) × IsNewNode (core_in tells p) n)
+              (state_in tells p) (state_in tells after)
+          born-told = (birth, moved-in born-last)
+
+          pub born-so : is_pinning mode ≡ true → IsPager tells says after
+          born-so pinning =
+              in-step after bears.whole (bears.later (room.later is.later))
+              (born {v = says p.environment} {s = state_in tells p} {s' = state_in tells after} is.state caller-free pinning birth (told born-last))
+
+-- ---- what a load has read becomes a node
+
+module _ {N S E : Type 0} {tells : Telling S} {says : E → Values N} {p : PagerView N S E} (is : IsPager tells says p) (t : Tables) (values : ValuesByNode N)
+    (whole : IsWhole t) (later : AreLater t) (sheds : Sheds (counts_at p.tables.holdings.nodes) (get nat_eq p.values) (counts_at t.holdings.nodes) (get nat_eq values)) where
+  abbrev rest : PagerView N S E
+  rest = record p { tables = t; values = values }
+
+  -- a refusal, or nothing, leaves the pager in step
+  pub same-so : Alike (core_in tells p) (core_in tells rest) → IsPager tells says rest
+  same-so a = shed is t values whole later sheds (stayed is.state (unmoved a is.state.whole.shut))
+
+  pub found-so : (me : Owner) (l : LoadNumber) (kind : Kind) (key u : ℕ) (rs : List ArcRef) (r : Result (Option HandleNumber) Error)
+      → IfOk r (λ found. IfSome found (λ k. Adopts (core_in tells p) me l kind key u rs k (core_in tells rest)))
+      → IfOk r (λ found. IfSome found (λ k. (n : ℕ) × (usable (core_in tells p) kind.0 key ≡ Some n)))
+      → IfOk r (λ found. IfNone found (t ≡ p.tables))
+      → IfErr r (λ e. Refused (adopt_fault (core_in tells p) me l kind key u rs) (load_fault (core_in tells p) me l) (Unit {0}) (core_in tells p) e (core_in tells rest)) → IsPager tells says rest
+  found-so me l kind key u rs (Ok (Some k)) known given same refused =
+      shed is t values whole later sheds (λ left. adopted_known is.state left known given.1)
+  found-so me l kind key u rs (Ok None) known given same refused =
+      same-so (subst (λ (x : Tables). Alike (core_in tells p) (core_in tells (record p { tables = x; values = values }))) (sym same) (still (core_in tells p)))
+  found-so me l kind key u rs (Err e) known given same refused = same-so refused.stays
+
+-- why what a load has read neither becomes a node nor ends the load, where its references weren't had
+pub unlisted-gone : (w : Core) (me : Owner) (l : LoadNumber) (later : Option Error) → w.loads l.0 ≡ None
+    → Refused (earlier (load_fault w me l) later) (closed_fault w l) (Unit {0}) w Error.NoSuchHandle w
+unlisted-gone w me l later gone =
+    let is : load_fault w me l ≡ Some Error.NoSuchHandle = ap (if_there (λ (load : OpenLoad). refused_if (not (is_owner me load.owner)) Error.NotYours) (Some Error.NoSuchHandle)) gone in
+    record { why = inl (earlier-first (load_fault w me l) later Error.NoSuchHandle is (λ f late. omega (arith))); stays = still w }
+
+-- fewer values are there, and no other
+pub less-moves : {N S E : Type 0} (tells : Telling S) {comes : ℕ → N → Type 0} (p q : PagerView N S E) → OnlyLess p q → Moves comes (state_in tells p) (state_in tells q)
+less-moves tells p q less = record { each = λ n x has. inl (less.values n x has); environment = less.environment }
+
+-- what is told where nothing was found
+pub none-so : {X P : Type 0} (found : Option X) → found ≡ None → IfNone found P → P
+none-so found e p = grind (arith, nat_tests)
+
+-- what a call does from where another left all as it was
+pub same-moves : {N S E : Type 0} (tells : Telling S) (p q r : PagerView N S E) (x : N) → q ≡ p → Moves (λ n y. (y ≡ x) × IsNewNode (core_in tells q) n) (state_in tells q) (state_in tells r)
+    → Moves (λ n y. (y ≡ x) × IsNewNode (core_in tells p) n) (state_in tells p) (state_in tells r)
+same-moves tells p q r x same moves = subst (λ u. Moves (λ n y. (y ≡ x) × IsNewNode (core_in tells u) n) (state_in tells u) (state_in tells r)) same moves
+
+-- what a load has read becomes a new node
+module _ {N S E : Type 0} {tells : Telling S} {says : E → Values N} {p q : PagerView N S E} (is : IsPager tells says p) (viewed : p ≡ q) (me : Owner) (l : LoadNumber) (kind : Kind) (key : ℕ) (x : N)
+    {rs : List ArcRef} (listed : rs ≡ (says p.environment).references x) (fresh : (stored : ℕ → Option Blob) (closed : Bool) (failures : ℕ) → early_fault (core_of q.tables stored closed failures) me l kind
+    ((says p.environment).node_type x) rs ≡ None) (unknown : usable (plain_of q.tables) kind.0 key ≡ None) where
+  fresh-in : (stored : ℕ → Option Blob) (closed : Bool) (failures : ℕ) → early_fault (core_of p.tables stored closed failures) me l kind ((says p.environment).node_type x) rs ≡ None
+  fresh-in stored closed failures = subst (λ (v : PagerView N S E). early_fault (core_of v.tables stored closed failures) me l kind ((says p.environment).node_type x) rs ≡ None) (sym viewed) (fresh stored closed failures)
+
+  unknown-in : usable (plain_of p.tables) kind.0 key ≡ None
+  unknown-in = subst (λ (v : PagerView N S E). usable (plain_of v.tables) kind.0 key ≡ None) (sym viewed) unknown
+
+  -- or it is refused, and comes back
+  not-adopted : {w' : Core} {y : N} {e : Error} → y ≡ x → Refused (adopt_fault (core_in tells p) me l kind key ((says p.environment).node_type x) rs) (load_fault (core_in tells p) me l) (Unit {0}) (core_in tells p) e w'
+      → AdoptCall (core_in tells p) me l kind key x ((says p.environment).node_type x) ((says p.environment).references x) (Err (e, y)) w'
+  not-adopted {w'} {e = e} back r =
+      record {
+        adopts = tt;
+        refused = (
+          back,
+          told-later me l (subst (λ z. Refused (adopt_fault (core_in tells p) me l kind key ((says p.environment).node_type x) z) (load_fault (core_in tells p) me l) (Unit {0})
+              (core_in tells p) e w') listed r),
+        );
+      }
+
+  pub new-refused : {w' : Core} {e : Error} → Refused (birth_fault (core_in tells p)) (birth_fault (core_in tells p)) (Unit {0}) (core_in tells p) e w'
+      → AdoptCall (core_in tells p) me l kind key x ((says p.environment).node_type x) ((says p.environment).references x) (Err (e, x)) w'
+  new-refused r = not-adopted refl (refused-new (core_in tells p) me l kind key ((says p.environment).node_type x) rs (fresh-in _ _ _) unknown-in r)
+
+  module _ {t1 : Tables} (mid : ValuesByNode N) (room : Does p.tables OnlyRoom t1) where
+    pub new-asked : early_fault (plain_of t1) me l kind ((says p.environment).node_type x) rs ≡ None
+    new-asked = early-past me l kind ((says p.environment).node_type x) rs (room.does (λ key. None) false 0) ∙ fresh-in (λ key. None) false 0
+
+    pub new-unknown : usable (plain_of t1) kind.0 key ≡ None
+    new-unknown = ap (λ (u : Core). usable u kind.0 key) (room.does (λ key. None) false 0).same ∙ unknown-in
+
+    pub new-memory : {y : N} → y ≡ x → AdoptCall (core_in tells p) me l kind key x ((says p.environment).node_type x) ((says p.environment).references x) (Err (Error.OutOfMemory, y)) (core_in tells (record p { tables = t1; values = mid }))
+    new-memory back = not-adopted back (refused-memory (core_in tells p) me l kind key ((says p.environment).node_type x) rs (fresh-in _ _ _) (only-room is mid room))
+
+    module _ (same : (n : ℕ) → value_in mid n ≡ value_in p.values n) (t2 : Tables) (values : ValuesByNode N) {y : N} (shared : y ≡ x) (here : value_in values t2.last_node ≡ Some y)
+        (others : (n : ℕ) → n ≢ t2.last_node → value_in values n ≡ value_in mid n) {k : HandleNumber} {lists : Bool} (opens : lists ≡ not (tells.closed p.storage)) (left : t1.last_node < greatest)
+        (next : (stored : ℕ → Option Blob) (closed : Bool) (failures : ℕ) → IsNext k (core_of t1 stored closed failures))
+        (comes : (stored : ℕ → Option Blob) (closed : Bool) (failures : ℕ) → lists ≡ not closed → Alike (adopted (core_of t1 stored closed failures) l kind key (first_key kind.0 key) rs)
+        (core_of t2 stored closed failures)) (whole : IsWhole t2) (later : AreLater t2) where
+      abbrev learned : PagerView N S E
+      learned = record p { tables = t2; values = values }
+
+      leaves : Alike (adopted (core_in tells p) l kind key (first_key kind.0 key) rs) (core_in tells learned)
+      leaves = adopted-past l kind key (first_key kind.0 key) rs (only-room is mid room) (comes (tells.stored p.storage) (tells.closed p.storage) (tells.failed p.storage) opens)
+
+      adopts : Adopts (core_in tells p) me l kind key ((says p.environment).node_type x) ((says p.environment).references x) k (core_in tells learned)
+      adopts =
+          subst (λ z. Adopts (core_in tells p) me l kind key ((says p.environment).node_type x) z k (core_in tells learned)) listed
+          (made-new (core_in tells p) me l kind key ((says p.environment).node_type x) rs (fresh-in _ _ _) unknown-in k (subst (λ (u : Core). u.last.node < greatest) (only-room is mid room).same left)
+          (next-past (only-room is mid room) (next (tells.stored p.storage) (tells.closed p.storage) (tells.failed p.storage))) leaves)
+
+      last : t2.last_node ≡ p.tables.last_node + 1
+      last = let a = leaves in grind (arith, nat_tests)
+
+      pub new-told : AdoptCall (core_in tells p) me l kind key x ((says p.environment).node_type x) ((says p.environment).references x) (Ok k) (core_in tells learned) × Moves (λ n z. (z ≡ x) × IsNewNode (core_in tells p) n)
+          (state_in tells p) (state_in tells learned)
+      new-told = (record { adopts = adopts; refused = tt }, moved-in is mid room same t2 values x shared here others last)
+
+      pub new-so : IsPager tells says learned
+      new-so =
+          in-step learned whole later
+          (adopts-new {v = says p.environment} {s = state_in tells p} {s' = state_in tells learned} is.state adopts unknown-in (told is mid room same t2 values x shared here others last))
+
+-- ---- a value comes to a load's cell, and others go with their nodes
 
 -- the value comes
 module _ {N : Type 0} (t t' : Tables) (old mid new : ValuesByNode N) (node : NodeNumber) (x : N) (here : value_in mid node.0 ≡ Some x) (others : (n : ℕ) → n ≢ node.0 → value_in mid n ≡ value_in old n) where
@@ -63,11 +243,8 @@ module _ {N S E : Type 0} {tells : Telling S} {says : E → Values N} {p : Pager
   was : Installs w me l r.row.node r.row.number k ((says p.environment).references x) w'
   was = installs-wider wider (subst (λ z. Installs (core_in tells (record p { tables = t1 })) me l r.row.node r.row.number k z w') listed installed)
 
-  whole' : pager.IsWhole w'
-  whole' = whole-over t2 (tells.stored p.storage) (tells.closed p.storage) (tells.failed p.storage) whole2 (λ shut. installed-bare shut (is.state.whole.shut shut) was)
-
   kept : (n : ℕ) → is_some (value_in p.values n) ≡ has_value (counts_at t1.holdings.nodes n)
-  kept n = is.state.valued n ∙ here-in tells says p is n ∙ ap (λ ns. has_value (counts_at ns n)) (sym nodes)
+  kept n = is.state.valued n ∙ here-in is n ∙ ap (λ ns. has_value (counts_at ns n)) (sym nodes)
 
   swept : (b : Bool) → r.is_away ≡ b → (n : ℕ) → value_in values n ≡ (if is_some (w'.cells n) && is_here w' n then with_value b r.row.node.0 x (value_in p.values) n else None)
   swept b e n = search (rules, here-told, kept, puts)
@@ -79,12 +256,13 @@ module _ {N S E : Type 0} {tells : Telling S} {says : E → Values N} {p : Pager
   away e = sym same-here ∙ not-so (is_here (core_in tells (record p { tables = t1 })) r.row.node.0) (sym ready.away ∙ e)
 
   pub ended-so : IsPager tells says p'
-  ended-so = record { tables = whole2; later = later2; state = by r.is_away refl }
+  ended-so = in-step p' whole2 later2 (by r.is_away refl)
     where
-      by : (b : Bool) → r.is_away ≡ b → WellFormed (says p.environment) (state_in tells p')
-      by true e = installed_away is.state may was (away e) (swept true e) whole2.steady.fits.pinned whole'
-      by false e =
-          installed_there is.state may was (sym same-here ∙ so-then (is_here (core_in tells (record p { tables = t1 })) r.row.node.0) (sym ready.away ∙ e)) (swept false e) whole2.steady.fits.pinned whole'
+      by : (b : Bool) → r.is_away ≡ b → IsRight (state_in tells p') → WellFormed (says p.environment) (state_in tells p')
+      by true e right = installed_away is.state may was (away e) (record { swept = swept true e; right = right })
+      by false e right =
+          installed_there is.state may was (sym same-here ∙ so-then (is_here (core_in tells (record p { tables = t1 })) r.row.node.0) (sym ready.away ∙ e))
+          (record { swept = swept false e; right = right })
 
   cell-of : (n : ℕ) → r.row.node.0 ≡ n → IsCellOf w l n
   cell-of n m = record { load = may.load; node = r.row.node; t = (says p.environment).node_type x; h = r.row.number; open_load = may.owned.stands_open; root = may.of_node; is = m }
@@ -120,9 +298,7 @@ module _ {N S E : Type 0} {tells : Telling S} {says : E → Values N} {p : Pager
   stays-alike = subst (λ (t : Tables). Alike (core_in tells p) (core_in tells (record p { tables = t; values = values }))) (sym same) (room-alike wider)
 
   pub stays-so : IsPager tells says kept-so
-  stays-so =
-      in-step kept-so whole2 later2 (λ shut. bare-alike stays-alike (is.state.whole.shut shut))
-      (spared (says p.environment) (state_in tells p) (state_in tells kept-so) is.state (spares-alike stays-alike) kept)
+  stays-so = in-step kept-so whole2 later2 (spared is.state (unmoved stays-alike is.state.whole.shut) kept)
 
   pub no-room : {me : Owner} {l : LoadNumber} {x y : N} {u t : ℕ} {qs refs : List ArcRef} {r : Ending} → y ≡ x → IsReady (core_in tells (record p { tables = t1 })) me l u qs r
       → EndCall (core_in tells p) me l x t refs (Err (Error.OutOfMemory, Some y)) (core_in tells kept-so)
@@ -140,7 +316,7 @@ module _ {N S E : Type 0} {tells : Telling S} {says : E → Values N} {p : Pager
       → EndRefused (core_in tells p) me l x t refs e back (core_in tells (record p { tables = t2; values = values })) → IsPager tells says (record p { tables = t2; values = values })
   refused-so me l x t refs e back whole2 later2 refused =
       let call : EndCall (core_in tells p) me l x t refs (Err (e, back)) (core_in tells (record p { tables = t2; values = values })) = record { installs = tt; refused = refused } in
-      shed tells says p is t2 values whole2 later2 gone (λ shut. end-refused-bare shut (is.state.whole.shut shut) e back call) (λ left. end_refused is.state left e back call)
+      shed is t2 values whole2 later2 gone (λ left. end_refused is.state left e back call)
 
   pub refused-moves : (comes : ℕ → N → Type 0) → Moves comes (state_in tells p) (state_in tells (record p { tables = t2; values = values }))
-  refused-moves comes = record { each = λ n y some. inl (less tells says p is t2 values gone n y some); environment = refl }
+  refused-moves comes = record { each = λ n y some. inl (less is t2 values gone n y some); environment = refl }

@@ -1,15 +1,8 @@
--- What a lent pager makes: the reference that stands for a handle, a worker that an entry of the list moves to, and the clone through which it takes a reference.
-use Rattle.std.specs.Prelude.{ℕ, ◌≡◌, ◌+◌, ◌⊎◌, Result, Ok, Err, IfOk, IfErr, IsSome}
-use Rattle.pagable_model.specs.declared.{error.Error.Error, numbers.{ArcRef.ArcRef, HandleNumber.HandleNumber, Kind.Kind}}
-use Rattle.{pagable_model.specs.declared.numbers.WorkerNumber.WorkerNumber, pagable_world.specs.{World.{Core, Alike, row_at}, declared.handles.HandleRow.HandleRow, Kinds.{loose_kind, HasKinds}}}
-use Rattle.{pagable_world.specs.Events.{IsEntry, with_entry_taken, with_worker}, pagable_loads.specs.Telling.IsMade}
-use Rattle.{pagable_world.specs.{declared.{answers.{Pinning.Pinning, Beginning.Beginning}, handles.Owner.Owner}, Calls.PinCall, LoadCalls.BeginCall}, pagable_loads.specs.declared.working.Taken.Taken}
-
--- the reference stands for the handle that was made
-abbrev pub Refers : {X : Type 0} → Core → Kind → Result HandleNumber X → Result ArcRef X → Type 0
-Refers w kind (Ok h) (Ok r) = (IsSome (row_at w h) → IsMade w kind r) × (r.handle ≡ h)
-Refers w kind (Err e) (Err f) = e ≡ f
-Refers w kind made r = ⊥
+-- What a lent pager makes: a worker that an entry of the list moves to, and the clone through which it takes a reference.
+use Rattle.{pagable_loads.specs.declared.working.Taken.Taken, pagable_model.specs.declared.{error.Error.Error, numbers.{ArcRef.ArcRef, HandleNumber.HandleNumber, WorkerNumber.WorkerNumber}}}
+use Rattle.pagable_world.specs.{Calls.PinCall, Events.{IsEntry, with_entry_taken, with_worker}, Kinds.{HasKinds, loose_kind}, LoadCalls.BeginCall, World.{Alike, Core}}
+use Rattle.{pagable_world.specs.declared.{answers.{Beginning.Beginning, Pinning.Pinning}, handles.{HandleRow.HandleRow, Owner.Owner}}, std.specs.Prelude.{Err, IfErr, IfOk, Ok, Result, ℕ, ◌+◌, ◌≡◌}}
+use Rattle.std.specs.Prelude.{◌⊎◌}
 
 -- the entry at this place moves to a new worker, and is a loose reference to its cell
 pub record TakesEntry (w : Core) (place : ℕ) (n : WorkerNumber) (r : ArcRef) (w' : Core) : Type 0 where

@@ -123,19 +123,17 @@ where
     }
 
     fn load_key(&mut self, key: DataKey) -> Result<LoadNumber, Error> {
-        match settled(self.pager.load_key_by(self.me, key), self.pager) {
-            Ok(Beginning::Load(load, _)) => Ok(load),
-            Ok(Beginning::InMemory) => unreachable!(),
-            Err(e) => Err(e),
+        match settled(self.pager.load_key_by(self.me, key), self.pager)? {
+            Beginning::Load(load, _) => Ok(load),
+            Beginning::InMemory => unreachable!(),
         }
     }
 
     fn load_root(&mut self, alloc: Global, load: LoadNumber) -> Result<Arc<PagableData>, Error> {
         let found = self.pager.load_fetch_by(self.me, alloc, load, Want::Root);
-        match settled(found, self.pager) {
-            Ok(Either::Right(blob)) => Ok(blob),
-            Ok(Either::Left(_)) => unreachable!(),
-            Err(e) => Err(e),
+        match settled(found, self.pager)? {
+            Either::Right(blob) => Ok(blob),
+            Either::Left(_) => unreachable!(),
         }
     }
 
@@ -147,9 +145,8 @@ where
         key: DataKey,
     ) -> Result<Either<ArcRef, Arc<PagableData>>, Error> {
         self.pager.is_whole();
-        let found = self
-            .pager
-            .load_fetch_by(self.me, alloc, load, Want::Nested(kind, key));
+        let want = Want::Nested(kind, key);
+        let found = self.pager.load_fetch_by(self.me, alloc, load, want);
         self.pager.is_whole();
         match found {
             Ok(Either::Left(handle)) => Ok(Either::Left(self.pager.reference(kind, handle))),
@@ -168,7 +165,10 @@ where
         self.pager.is_whole();
         let taken = self.pager.load_lazy_by(self.me, alloc, load, kind, key);
         self.pager.is_whole();
-        self.pager.referred(kind, taken)
+        match taken {
+            Ok(handle) => Ok(self.pager.reference(kind, handle)),
+            Err(e) => Err(e),
+        }
     }
 
     fn load_adopt(
@@ -184,7 +184,10 @@ where
             .pager
             .load_adopt_by(self.me, alloc, load, kind, key, node);
         self.pager.is_whole();
-        self.pager.referred(kind, adopted)
+        match adopted {
+            Ok(handle) => Ok(self.pager.reference(kind, handle)),
+            Err(e) => Err(e),
+        }
     }
 
     fn load_end(
@@ -193,10 +196,8 @@ where
         load: LoadNumber,
         value: E::Node,
     ) -> Result<HandleNumber, (Error, Option<E::Node>)> {
-        settled(
-            self.pager.load_end_by(self.me, alloc, load, value),
-            self.pager,
-        )
+        let ended = self.pager.load_end_by(self.me, alloc, load, value);
+        settled(ended, self.pager)
     }
 
     fn load_take(&mut self, load: LoadNumber, named: &[HandleNumber]) -> Result<(), Error> {
@@ -229,10 +230,8 @@ where
     }
 
     fn schedule_for_paging(&mut self, handle: HandleNumber) -> Result<(), Error> {
-        settled(
-            self.pager.schedule_for_paging_by(self.me, handle),
-            self.pager,
-        )
+        let told = self.pager.schedule_for_paging_by(self.me, handle);
+        settled(told, self.pager)
     }
 
     fn worker_begin(&mut self) -> Result<WorkerNumber, Error> {
@@ -243,13 +242,9 @@ where
 
     #[tactic(auto, using(crate::proofs::Lending::entering))]
     fn worker_listed(&mut self, place: usize) -> Result<(WorkerNumber, ArcRef), Error> {
-        match settled(self.pager.worker_listed(place), self.pager) {
-            Ok((worker, reference)) => {
-                self.me = Owner::Worker(worker);
-                Ok((worker, reference))
-            }
-            Err(e) => Err(e),
-        }
+        let (worker, reference) = settled(self.pager.worker_listed(place), self.pager)?;
+        self.me = Owner::Worker(worker);
+        Ok((worker, reference))
     }
 
     fn worker_end(&mut self, worker: WorkerNumber) {

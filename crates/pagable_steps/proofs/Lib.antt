@@ -1,4 +1,2 @@
-mod Words
 pub mod Owning
-pub mod Falling
-pub mod Births
+pub mod Calls

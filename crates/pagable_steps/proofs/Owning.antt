@@ -1,16 +1,17 @@
 -- What a pager's type says of values, row by row: a value owns the one row of each handle that it refers to, and no other; a node without a value owns nothing. And what is done before
 -- handles go, part by part: it leaves what values own as it is.
 use Rattle.pagable_laws.proofs.Effects as effects
-use Rattle.std.proofs.lemmas.Bool.{false_from_ne_true}
-use Rattle.pagable_steps.proofs.Words.{◌≡◌, ℕ, suc, ◌<◌, ◌≤◌, ◌==◌, ◌&&◌, Bool, true, List, [], ◌∷◌, Option, Some, None, refl, ap, sym, subst, ◌∙◌, arith, is_some, and_parts, nat_tests, HandleRow}
-use Rattle.pagable_steps.proofs.Words.{Owner, ArcRef, Among, one, times, is_handle, is_owner, is_owned_by, owner_value, fits_mode, type_of, pins, Core, Values, type_at, is_here, PagerState, IsWhole}
-use Rattle.pagable_steps.proofs.Words.{WellFormed, HandlesAreWhole, Stands, stands-whole, among-found, found-number, same-owner, same-number, sum_by-cons, is_named_by, self-number, at-most-sum}
-use Rattle.pagable_steps.proofs.Words.{sum-le, sum-zero, counted, one-true, ◌+◌, false, sum_by, map, inl, inr, if◌then◌else◌, nat_lt, sum_by_push, Mode, OptionalDataKey, HandleNumber, NodeNumber}
-use Rattle.pagable_steps.proofs.Words.{SameAt, changed, if_there, is_pin, is_pinning, is_in_memory, Cell, Last, Alike, row_at, key_at, row_of, with_handle, with_mode, with_cached, moved, Kind}
-use Rattle.pagable_steps.proofs.Words.{stands-changed, among-changed, NotValues, row-pins, found-after, Ok, Err, Result, not, slice_get, Beginning, Pinning, Want, Error, Blob, LoadNumber}
-use Rattle.pagable_steps.proofs.Words.{WorkerNumber, is_shared_kind, is_at, is_shared, is_share, mode_of, usable, only_handle, Owns, with_known}
-use Rattle.pagable_steps.proofs.Words.{CloneCall, PinCall, LoosenCall, ScheduleCall, TakeCall, ReserveCall, RecallCall, OfferCall, ClearCall, Asked, StoreCall, with_worker, with_entry_taken}
-use Rattle.pagable_steps.proofs.Words.{BeginCall, BeginKeyCall, GetsKnown, Given, AskCall, IsEntered, entered-of, among-either, handles-once, one-less, only-one, found}
+use Rattle.pagable_laws.proofs.{Decoding.among-either, Following.{handles-once, one-less}, Goes.found-number, GoodReferences.same-owner, Outlasting.{NotValues, Stands, among-changed, among-found}}
+use Rattle.pagable_laws.proofs.{Outlasting.{found-after, only-one, stands-changed, stands-whole}, SparingSteps.{IsEntered, entered-of, found}, Sums.{at-most-sum, counted, one-true, same-number}}
+use Rattle.{pagable_laws.proofs.{Sums.{self-number, sum-le, sum-zero}, Taking.row-pins}, pagable_world.specs.Calls.{Asked, ClearCall, CloneCall, LoosenCall, PinCall, RecallCall, ReserveCall}}
+use Rattle.pagable_world.specs.{Calls.{StoreCall, TakeCall, is_named_by, moved, row_of, with_cached, with_handle, with_known, with_mode}, Cascade.only_handle, Events.with_entry_taken}
+use Rattle.pagable_world.specs.{Events.with_worker, Kinds.{fits_mode, is_at, is_handle, is_in_memory, is_owned_by, is_owner, is_pin, is_pinning, is_share, is_shared, mode_of, owner_value, pins}}
+use Rattle.pagable_world.specs.{LoadCalls.{BeginCall, BeginKeyCall, GetsKnown}, Pager.{HandlesAreWhole, IsWhole, PagerState, WellFormed}, Plain.{Among, ArcRef, Blob, Error, HandleNumber, Kind}}
+use Rattle.pagable_world.specs.{Plain.{LoadNumber, NodeNumber, OptionalDataKey, SameAt, WorkerNumber, changed, if_there, is_shared_kind, one, times, type_of}, Refusals.Owns, World.{Alike, Cell}}
+use Rattle.pagable_world.specs.{World.{Core, Last, Values, is_here, key_at, row_at, type_at, usable}, declared.{answers.{Beginning.Beginning, Pinning.Pinning}, handles.HandleRow.HandleRow}}
+use Rattle.{pagable_world.specs.declared.{handles.Owner.Owner, rows.Mode.Mode}, std.proofs.Common.{Bool, Err, List, None, Ok, Option, Some, [], ap, arith, false, if◌then◌else◌, inl, inr, length}}
+use Rattle.std.proofs.{Common.{map, refl, subst, suc, sum_by, sym, true, ℕ, ◌&&◌, ◌+◌, ◌<◌, ◌==◌, ◌∙◌, ◌∷◌, ◌≡◌, ◌≤◌}, lemmas.Bool.{and_parts, false_from_ne_true, Decides.nat_tests}}
+use Rattle.std.{proofs.lemmas.{List.Sums.{sum_by-cons, sum_by_push}, Option.slice_get_within}, specs.Prelude.{Result, is_some, nat_lt, not, slice_get}}
 
 -- the reference names the one row of a handle that the node's value owns
 pub record Refers (w : Core) (n : ℕ) (r : ArcRef) : Type 0 where
@@ -151,11 +152,19 @@ AreFree w given = (h : HandleRow) → Among w.rows h → given h.number.0 ≡ tr
 abbrev pub Sweeps : {N : Type 0} → (ℕ → Option N) → Core → (ℕ → Option N) → Type 0
 Sweeps values w' values' = (n : ℕ) → values' n ≡ (if holds_value w' n then values n else None)
 
--- what a call leaves: the values whose nodes are in memory, right counts and a whole world
+-- nothing is listed or known once the storage is closed
+abbrev pub IsShut : Core → Type 0
+IsShut w = w.closed ≡ true → (w.list ≡ []) × ((kind key : ℕ) → w.cache kind key ≡ None)
+
+-- right counts, and a world that is whole where nothing is listed or known once the storage is closed
+pub record IsRight {N E : Type 0} (s' : PagerState N E) : Type 0 where
+  pub counted : (n : ℕ) → s'.counts n ≡ pins n s'.core.rows
+  pub whole : IsShut s'.core → IsWhole s'.core
+
+-- what a call leaves: the values whose nodes are in memory, besides
 pub record Leaves {N E : Type 0} (values : ℕ → Option N) (s' : PagerState N E) : Type 0 where
   pub swept : Sweeps values s'.core s'.values
-  pub counted : (n : ℕ) → s'.counts n ≡ pins n s'.core.rows
-  pub whole : IsWhole s'.core
+  pub right : IsRight s'
 
 pub spares-keeps : {w m : Core} → Spares w m → Keeps w m
 spares-keeps s = record { owns = s.owns; held = λ n is. sym (s.holds n) ∙ is }
@@ -200,19 +209,40 @@ spares-same {w} {w'} rows cells last = record {
 pub spares-alike : {w w' : Core} → Alike w w' → Spares w w'
 spares-alike a = spares-same a.rows a.cells (ap (λ (l : Last). l.handle) a.last)
 
+-- ---- nothing comes to the list or the cache once the storage is closed
+
+none-known : (found : Option ℕ) → ((n : ℕ) → found ≡ Some n → None ≡ Some n) → found ≡ None
+none-known found h = grind (arith, nat_tests)
+
+pub shut-alike : {w w' : Core} → Alike w w' → IsShut w → IsShut w'
+shut-alike {w} {w'} a shut closed =
+    let b = shut (sym a.closed ∙ closed) in (a.list ∙ b.0, λ kind key. none-known (w'.cache kind key) (λ n is. sym (b.1 kind key) ∙ a.cache.only kind key n is))
+
+-- no value comes or goes either
+pub record Rests (w w' : Core) : Type 0 where
+  pub spares : Spares w w'
+  pub shut : IsShut w'
+
+pub rests-then : {w m w' : Core} → Spares w m → Alike m w' → IsShut m → Rests w w'
+rests-then spares a shut = record { spares = spares-then spares (spares-alike a); shut = shut-alike a shut }
+
+pub unmoved : {w w' : Core} → Alike w w' → IsShut w → Rests w w'
+unmoved a shut = record { spares = spares-alike a; shut = shut-alike a shut }
+
 -- the cache may learn a node
-pub spares-cached : {m w' : Core} (kind : Kind) (key : ℕ) (n : NodeNumber) (b : Bool) → Alike (if b then m else with_cached m kind key n) w' → Spares m w'
-spares-cached kind key n x3 a = grind (arith, nat_tests, spares-alike, spares-same)
+pub rests-cached : {m w' : Core} (kind : Kind) (key : ℕ) (n : NodeNumber) (b : Bool) → Alike (if b then m else with_cached m kind key n) w' → m.closed ≡ b → IsShut m → Rests m w'
+rests-cached kind key n true a e shut = unmoved a shut
+rests-cached kind key n false a e shut = rests-then (spares-same refl (λ n. refl) refl) a (λ closed. absurd (let x : true ≡ false = sym closed ∙ e in cc))
 
 -- ---- the pager afterwards
 
-pub spared : {N E : Type 0} (v : Values N) (s s' : PagerState N E) → WellFormed v s → Spares s.core s'.core → ((n : ℕ) → s'.values n ≡ s.values n)
-    → ((n : ℕ) → s'.counts n ≡ pins n s'.core.rows) → IsWhole s'.core → WellFormed v s'
-spared v s s' is spares same =
-    settled s' (λ n. subst (At v s'.core n) (sym (same n)) (sits-on v (spares.owns n) (s.values n) (sits is n))) (λ n. ap is_some (same n) ∙ is.valued n ∙ sym (spares.holds n))
+pub spared : {N E : Type 0} {v : Values N} {s s' : PagerState N E} → WellFormed v s → Rests s.core s'.core → ((n : ℕ) → s'.values n ≡ s.values n) → IsRight s' → WellFormed v s'
+spared {v = v} {s} {s'} is rests same right =
+    settled s' (λ n. subst (At v s'.core n) (sym (same n)) (sits-on v (rests.spares.owns n) (s.values n) (sits is n))) (λ n. ap is_some (same n) ∙ is.valued n ∙ sym (rests.spares.holds n))
+    right.counted (right.whole rests.shut)
 
-pub stayed : {N E : Type 0} {v : Values N} {s s' : PagerState N E} → WellFormed v s → Spares s.core s'.core → Leaves s.values s' → WellFormed v s'
-stayed {N} {v = v} {s} {s'} is spares left = spared v s s' is spares (λ n. left.swept n ∙ (let e = is.valued n ∙ sym (spares.holds n) in grind (arith, nat_tests))) left.counted left.whole
+pub stayed : {N E : Type 0} {v : Values N} {s s' : PagerState N E} → WellFormed v s → Rests s.core s'.core → Leaves s.values s' → WellFormed v s'
+stayed {N} {v = v} {s} {s'} is rests left = spared is rests (λ n. left.swept n ∙ (let e = is.valued n ∙ sym (rests.spares.holds n) in grind (arith, nat_tests))) left.right
 
 -- ---- one more handle
 
@@ -247,9 +277,6 @@ module _ (w : Core) (node : NodeNumber) (mode : Mode) (me : Owner) (free : NotVa
     owns = owns-handle;
     holds = λ n. ap (λ p. is_some (w.cells n) && is_in_memory p (key_at w n)) (sum_by_push (λ h. one (is_pin n h)) w.rows new) ∙ (let f = same-number node.0 n in grind (arith, nat_tests));
   }
-
-  pub spares-made : {w' : Core} → (is_pinning mode ≡ true → is_here w node.0 ≡ true) → Alike (with_handle w node mode me) w' → Spares w w'
-  spares-made may a = spares-then (spares-handle may) (spares-alike a)
 
 -- ---- rows that change
 
@@ -318,16 +345,7 @@ module _ (w : Core) (h : HandleNumber) (mode : Mode) (row : HandleRow) (stands :
 pub not-load : (l : LoadNumber) → NotValues (Owner.Load l)
 not-load l n e = cc
 
--- ---- the storage, and who works
-
-pub with-worker : {w w' : Core} → Alike (with_worker w) w' → Spares w w'
-with-worker {w} a = spares-same a.rows a.cells (ap (λ (l : Last). l.handle) a.last)
-
-pub reserves : {w w' : Core} {n : ℕ} {r : Result (Unit {0}) Error} → ReserveCall w n r w' → Spares w w'
-reserves c = spares-alike c.stays
-
-pub clears : {w w' : Core} {r : Result (Unit {0}) Error} → ClearCall w r w' → Spares w w'
-clears c = spares-same c.leaves.rows c.leaves.cells (ap (λ (l : Last). l.handle) c.leaves.last)
+-- ---- the storage
 
 pub asked : {w w' : Core} → Asked w w' → Spares w w'
 asked a = spares-same a.leaves.rows a.leaves.cells (ap (λ (l : Last). l.handle) a.leaves.last)
@@ -335,18 +353,28 @@ asked a = spares-same a.leaves.rows a.leaves.cells (ap (λ (l : Last). l.handle)
 pub stores : {digest : Blob → ℕ} {w w' : Core} {blob : Blob} (r : Result ℕ Error) → StoreCall digest w blob r w' → Spares w w'
 stores x0 c = grind (arith, nat_tests, asked, spares-same)
 
-pub begins : {w w' : Core} {me : Owner} {h : HandleNumber} (r : Result Beginning Error) → BeginCall w me h r w' → Spares w w'
-begins {w} (Ok (Beginning.Load l key)) c =
-    let row : HandleRow = c.begins.0 in
-    let a = c.begins.2.4.2 in
-    spares-then
-    (spares-handle w row.node Mode.LooseUnpinned (Owner.Load l) (not-load l) (λ is. absurd (let e : false ≡ true = is in cc))) (spares-same a.rows a.cells (ap (λ (l : Last). l.handle) a.last))
-begins x0 c = grind (arith, nat_tests, spares-alike)
-
-pub begins-key : {w w' : Core} {me : Owner} {key : ℕ} (r : Result Beginning Error) → BeginKeyCall w me key r w' → Spares w w'
-begins-key x0 c = grind (arith, nat_tests, spares-alike, spares-same)
-
 module _ {w : Core} (whole : IsWhole w) where
+  pub reserves : {w' : Core} {n : ℕ} {r : Result (Unit {0}) Error} → ReserveCall w n r w' → Rests w w'
+  reserves c = unmoved c.stays whole.shut
+
+  pub clears : {w' : Core} {r : Result (Unit {0}) Error} → ClearCall w r w' → Rests w w'
+  clears c = rests-then (spares-same refl (λ n. refl) refl) c.leaves (λ e. ((whole.shut e).0, λ kind key. refl))
+
+  -- ---- loads that begin
+
+  pub begins : {w' : Core} {me : Owner} {h : HandleNumber} (r : Result Beginning Error) → BeginCall w me h r w' → Rests w w'
+  begins (Ok (Beginning.Load l key)) c =
+      let row : HandleRow = c.begins.0 in
+      let clone = spares-handle w row.node Mode.LooseUnpinned (Owner.Load l) (not-load l) (λ is. absurd (let e : false ≡ true = is in cc)) in
+      rests-then (spares-then clone (spares-same refl (λ n. refl) refl)) c.begins.2.4.2 whole.shut
+  begins (Ok Beginning.InMemory) c = unmoved c.begins.2.1 whole.shut
+  begins (Err e) c = unmoved c.refused.stays whole.shut
+
+  pub begins-key : {w' : Core} {me : Owner} {key : ℕ} (r : Result Beginning Error) → BeginKeyCall w me key r w' → Rests w w'
+  begins-key (Ok (Beginning.Load l key)) c = rests-then (spares-same refl (λ n. refl) refl) c.begins.2 whole.shut
+  begins-key (Ok Beginning.InMemory) c = absurd c.begins
+  begins-key (Err e) c = unmoved c.refused.stays whole.shut
+
   -- ---- handles
 
   -- handles that are no value's, by their rows
@@ -360,44 +388,44 @@ module _ {w : Core} (whole : IsWhole w) where
   pub listed-free : (i : ℕ) (h : HandleNumber) → slice_get w.list i ≡ Some h → AreFree w (only_handle h)
   listed-free i h at = rowed (only_handle h) (λ n. effects.listed-free (Owner.Value n) refl whole.owners_there i h at)
 
+  -- once the storage is closed there is no entry
+  listed-open : (i : ℕ) (h : HandleNumber) → slice_get w.list i ≡ Some h → w.closed ≡ true → ⊥
+  listed-open i h at closed = let some = slice_get_within w.list i h at in let none = ap (λ (hs : List HandleNumber). length hs) (whole.shut closed).0 in omega (arith, some, none)
+
   -- a worker comes for an entry, which moves to it
-  pub starts-listed : {w' : Core} (i : ℕ) (h : HandleNumber) (v : WorkerNumber) → slice_get w.list i ≡ Some h → Alike (with_worker (with_entry_taken w i h v)) w' → Spares w w'
-  starts-listed i h v at a = spares-then (spares-moved w (only_handle h) (Owner.Worker v) (λ n e. cc) (listed-free i h at)) (with-worker a)
+  pub starts-listed : {w' : Core} (i : ℕ) (h : HandleNumber) (v : WorkerNumber) → slice_get w.list i ≡ Some h → Alike (with_worker (with_entry_taken w i h v)) w' → Rests w w'
+  starts-listed i h v at a =
+      rests-then (spares-then {m = with_entry_taken w i h v} (spares-moved w (only_handle h) (Owner.Worker v) (λ n e. cc) (listed-free i h at)) (spares-same refl (λ n. refl) refl)) a
+      (λ e. absurd (listed-open i h at e))
 
   module _ {me : Owner} (free : NotValues me) where
-    pub clones : {w' : Core} {h : HandleNumber} (r : Result HandleNumber Error) → CloneCall w me h r w' → Spares w w'
-    clones {h = h} (Ok k) c = let row : HandleRow = c.made.0 in spares-made w row.node row.mode me free (row-here w h row c.made.1) c.made.3
-    clones (Err e) c = spares-alike c.refused.stays
+    pub clones : {w' : Core} {h : HandleNumber} (r : Result HandleNumber Error) → CloneCall w me h r w' → Rests w w'
+    clones {h = h} (Ok k) c = let row : HandleRow = c.made.0 in rests-then (spares-handle w row.node row.mode me free (row-here w h row c.made.1)) c.made.3 whole.shut
+    clones (Err e) c = unmoved c.refused.stays whole.shut
 
     -- a handle of the asker's in a mode that pins
     pub turned : {fits : Mode → Bool} (h : HandleNumber) (row : HandleRow) → Owns w me h fits row → is_here w row.node.0 ≡ true → Spares w (with_mode w h Mode.LoosePinned)
     turned h row owns here = spares-mode w h Mode.LoosePinned row (stands-whole whole.handles h.0 row owns.live) (subst NotValues (sym owns.own) free) refl here
 
-    pub pins-it : {w' : Core} {h : HandleNumber} (r : Result Pinning Error) → PinCall w me h r w' → Spares w w'
+    pub pins-it : {w' : Core} {h : HandleNumber} (r : Result Pinning Error) → PinCall w me h r w' → Rests w w'
     pins-it {h = h} (Ok (Pinning.Pinned k)) c =
         let row : HandleRow = c.pins.0 in
         let owns = c.pins.1 in
         let here = mode-here w h Mode.LoosePinned row (stands-whole whole.handles h.0 row owns.live) refl in
-        spares-then (turned h row owns c.pins.2.0) (spares-made _ row.node Mode.Pinned me free (λ is. here) c.pins.2.2)
-    pins-it x0 c = grind (arith, nat_tests, spares-alike, pins)
+        rests-then (spares-then (turned h row owns c.pins.2.0) (spares-handle _ row.node Mode.Pinned me free (λ is. here))) c.pins.2.2 whole.shut
+    pins-it (Ok (Pinning.NeedsLoad key)) c = unmoved c.pins.2.2 whole.shut
+    pins-it (Err e) c = unmoved c.refused.stays whole.shut
 
-    pub loosens : {w' : Core} {h : HandleNumber} (r : Result HandleNumber Error) → LoosenCall w me h r w' → Spares w w'
+    pub loosens : {w' : Core} {h : HandleNumber} (r : Result HandleNumber Error) → LoosenCall w me h r w' → Rests w w'
     loosens {h = h} (Ok k) c =
         let row : HandleRow = c.turned.0 in
         let owns = c.turned.1 in
-        spares-then (turned h row owns (row-here w h row owns.live (let m = owns.as_asked in grind (arith, nat_tests)))) (spares-alike c.turned.3)
-    loosens (Err e) c = spares-alike c.refused.1
+        rests-then (turned h row owns (row-here w h row owns.live (let m = owns.as_asked in grind (arith, nat_tests)))) c.turned.3 whole.shut
+    loosens (Err e) c = unmoved c.refused.1 whole.shut
 
-    pub schedules : {w' : Core} {h : HandleNumber} → w.closed ≡ false → (r : Result (Unit {0}) Error) → ScheduleCall w me h r w' → Spares w w'
-    schedules {h = h} open_still (Ok u) c = elim c.moves.2 [
-      | inl (is, a) ↦ spares-then (spares-moved w (only_handle h) Owner.List (λ n e. cc) (own-free h c.moves.0 free c.moves.1)) (spares-alike a)
-      | inr (closed, f) ↦ absurd (let e : true ≡ false = sym closed ∙ open_still in cc)
-    ]
-    schedules open_still (Err e) c = spares-alike c.refused.stays
-
-  pub takes : {w' : Core} {me : Owner} (i : ℕ) → NotValues me → (h : Option HandleNumber) → TakeCall w me i h w' → Spares w w'
-  takes {me = me} i free (Some h) c = spares-then (spares-moved w (only_handle h) me free (listed-free i h c.0)) (spares-alike c.1)
-  takes i free None c = spares-alike c.1
+  pub takes : {w' : Core} {me : Owner} (i : ℕ) → NotValues me → (h : Option HandleNumber) → TakeCall w me i h w' → Rests w w'
+  takes {me = me} i free (Some h) c = rests-then (spares-moved w (only_handle h) me free (listed-free i h c.0)) c.1 (λ e. absurd (listed-open i h c.0 e))
+  takes i free None c = unmoved c.1 whole.shut
 
   -- ---- nodes that the cache gives
 
@@ -422,24 +450,10 @@ module _ {w : Core} (whole : IsWhole w) where
   pub spares-known : {owner : Owner} (kind : Kind) (key n : ℕ) → NotValues owner → usable w kind.0 key ≡ Some n → Spares w (with_known w kind n owner)
   spares-known {owner} kind key n free known = spares-handle w (record { 0 = n }) (mode_of kind.0) owner free (known-here kind.0 key n known)
 
-  pub recalls : {w' : Core} {me : Owner} {kind : Kind} {key : ℕ} → NotValues me → (r : Result (Option HandleNumber) Error) → RecallCall w me kind key r w' → Spares w w'
-  recalls {kind = kind} {key} free (Ok (Some k)) c = spares-then (spares-known kind key c.answers.0 free c.answers.1) (spares-alike c.answers.3)
-  recalls free x1 c = grind (arith, nat_tests, spares-alike)
+  pub recalls : {w' : Core} {me : Owner} {kind : Kind} {key : ℕ} → NotValues me → (r : Result (Option HandleNumber) Error) → RecallCall w me kind key r w' → Rests w w'
+  recalls {kind = kind} {key} free (Ok (Some k)) c = rests-then (spares-known kind key c.answers.0 free c.answers.1) c.answers.3 whole.shut
+  recalls free (Ok None) c = unmoved c.answers.1 whole.shut
+  recalls free (Err e) c = unmoved c.refused.stays whole.shut
 
-  -- an offer by which no handle is given up: the cache learns the node, or the offered handle is answered itself
-  pub offers : {w' : Core} {me : Owner} {kind : Kind} {key : ℕ} {h : HandleNumber} (r : Result (Option HandleNumber) Error)
-      → ((k : HandleNumber) → r ≡ Ok (Some k) → k ≡ h) → OfferCall w me kind key h r w' → Spares w w'
-  offers {h = h} (Ok (Some k)) back c = elim c.answers.3 [
-    | inl (closed, same, a) ↦ spares-alike a
-    | inr (open_still, (n, known, next, f)) ↦
-        absurd (omega (arith, ap (λ (x : HandleNumber). x.0) (back k refl), next.above, (stands-whole whole.handles h.0 c.answers.0 c.answers.1.live).given))
-  ]
-  offers x0 back c = grind (arith, nat_tests, spares-same, spares-alike)
-
-  -- ---- loads
-
-  pub gets-known : {w' : Core} {l : LoadNumber} {kind : Kind} {key : ℕ} {k : HandleNumber} → GetsKnown w l kind key k w' → Spares w w'
-  gets-known {l = l} {kind} {key} g = spares-then (spares-known kind key g.n (not-load l) g.known) (spares-alike g.leaves)
-
-  pub asks : {w' : Core} {me : Owner} {l : LoadNumber} {want : Want} (r : Result Given Error) → AskCall w me l want r w' → Spares w w'
-  asks x0 c = grind (arith, nat_tests, asked, spares-alike, gets-known)
+  pub gets-known : {w' : Core} {l : LoadNumber} {kind : Kind} {key : ℕ} {k : HandleNumber} → GetsKnown w l kind key k w' → Rests w w'
+  gets-known {l = l} {kind} {key} g = rests-then (spares-known kind key g.n (not-load l) g.known) g.leaves whole.shut

@@ -78,10 +78,7 @@ fn finish<N: Drop>(
     ensures kept { OnErr result ((n : ℕ) → value_in values.new n ≡ value_in values.old n) }
 {
     if ending.is_away {
-        let value = match share_with_room(values, alloc, value) {
-            Ok(value) => value,
-            Err(value) => return Err(value),
-        };
+        let value = share_with_room(values, alloc, value)?;
         keep(values, ending.row.node.0, value);
         return Ok(installing::install(
             tables, values, me, load, node_type, references, ending, lists,
@@ -147,14 +144,8 @@ where
             Ok(value) => value,
             Err(node) => return Err((Error::OutOfMemory, node)),
         };
-        let handle = births::bear(
-            &mut self.tables,
-            Owner::Caller,
-            node_type,
-            0,
-            references,
-            mode,
-        );
+        let tables = &mut self.tables;
+        let handle = births::bear(tables, Owner::Caller, node_type, 0, references, mode);
         keep(&mut self.values, self.tables.last_node, value);
         Ok(handle)
     }
@@ -228,16 +219,9 @@ where
         ensures only { OnlyLess self.old self.new }
     {
         let lists = !self.storage.has_closed();
+        let (tables, values) = (&mut self.tables, &mut self.values);
         adopting::adopt_if_known(
-            &mut self.tables,
-            &mut self.values,
-            me,
-            load,
-            kind,
-            key,
-            node_type,
-            references,
-            lists,
+            tables, values, me, load, kind, key, node_type, references, lists,
         )
     }
 
@@ -326,35 +310,6 @@ where
         }
     }
 
-    /// The load ends with a value that has these references.
-    fn end_with(
-        &mut self,
-        me: Owner,
-        alloc: Global,
-        load: LoadNumber,
-        value: E::Node,
-        references: Vec<ArcRef>,
-    ) -> Result<HandleNumber, (Error, Option<E::Node>)>
-        requires { references.items ≡ E.Node.refs_of value }
-        ensures step { EndCall (core_in (telling S.stored S.is_closed S.failed) self.old) me load value (E.Node.type_of value) (E.Node.refs_of value) result (core_in (telling S.stored S.is_closed S.failed) self.new) }
-        ensures moves { Moves (λ n x. (x ≡ value) × IsCellOf (core_in (telling S.stored S.is_closed S.failed) self.old) load n) (state_in (telling S.stored S.is_closed S.failed) self.old) (state_in (telling S.stored S.is_closed S.failed) self.new) }
-    {
-        let lists = !self.storage.has_closed();
-        let (tables, values) = (&mut self.tables, &mut self.values);
-        let node_type = value.node_type();
-        let ready = match installing::prepare_end(tables, me, load, node_type, &references) {
-            Ok(ready) => ready,
-            Err(unended) => return Err(give_back(tables, values, me, load, value, unended, lists)),
-        };
-        let handle = match finish(
-            tables, values, alloc, me, load, node_type, references, value, ready, lists,
-        ) {
-            Ok(handle) => handle,
-            Err(value) => return Err((Error::OutOfMemory, Some(value))),
-        };
-        Ok(handle)
-    }
-
     /// Ends a load of a cell with its value, which the load read: the handle that began it is pinned, a Pinned one is made and answered, and what the load still owns is given up. The value comes into
     /// the cell with the handles of its references; where the cell has its value already, it is dropped. Asks that the value is what the cell's key reads as. A refusal gives the value back and leaves
     /// the load open: NoSuchHandle and NotYours, of the load and of the references; WrongMode where the load is of a key, and of a reference; WrongKind of another type; NumbersSpent and OutOfMemory.
@@ -382,9 +337,22 @@ where
         ensures step { EndCall (core_in (telling S.stored S.is_closed S.failed) self.old) me load value (E.Node.type_of value) (E.Node.refs_of value) result (core_in (telling S.stored S.is_closed S.failed) self.new) }
         ensures moves { Moves (λ n x. (x ≡ value) × IsCellOf (core_in (telling S.stored S.is_closed S.failed) self.old) load n) (state_in (telling S.stored S.is_closed S.failed) self.old) (state_in (telling S.stored S.is_closed S.failed) self.new) }
     {
-        match value.refs(alloc) {
-            Ok(references) => self.end_with(me, alloc, load, value, references),
-            Err(_) => Err((self.unlisted(me, load), Some(value))),
-        }
+        let Ok(references) = value.refs(alloc) else {
+            return Err((self.unlisted(me, load), Some(value)));
+        };
+        let lists = !self.storage.has_closed();
+        let (tables, values) = (&mut self.tables, &mut self.values);
+        let node_type = value.node_type();
+        let ready = match installing::prepare_end(tables, me, load, node_type, &references) {
+            Ok(ready) => ready,
+            Err(unended) => return Err(give_back(tables, values, me, load, value, unended, lists)),
+        };
+        let handle = match finish(
+            tables, values, alloc, me, load, node_type, references, value, ready, lists,
+        ) {
+            Ok(handle) => handle,
+            Err(value) => return Err((Error::OutOfMemory, Some(value))),
+        };
+        Ok(handle)
     }
 }

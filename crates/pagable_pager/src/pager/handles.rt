@@ -1,9 +1,8 @@
 //! Handles that come to live nodes, what is asked of them, and pins that begin, at once or by a load.
 
-ghost use Rattle.std.specs.{Prelude.{◌≡◌, IsSome, true, Some, false}, Option.option_map};
-ghost use Rattle.pagable_world.specs.{World.{row_at, Reading, is_here}, Calls.{CloneCall, PinCall, LoosenCall, CountCall}};
-ghost use Rattle.{pagable_world.specs.{Calls.{KeyCall, AwayCall, NodeCall, TypeCall}, declared.handles.HandleRow.HandleRow, Events.reading_of_load}, pagable_loads.specs.Telling.IsMade};
-ghost use Rattle.{pagable_loads.specs.Starting.{StartsPin, is_unpinned_at}, pagable_pager.specs.{View.{core_in, telling, Calls, OnlyTables, is_at_work}, Made.Refers}};
+ghost use Rattle.std.specs.{Prelude.{◌≡◌, IsSome, true}, Option.option_map};
+ghost use Rattle.pagable_world.specs.{World.{row_at, Reading}, Calls.{CloneCall, PinCall, LoosenCall, CountCall, KeyCall, AwayCall, NodeCall, TypeCall}, Events.reading_of_load};
+ghost use Rattle.{pagable_loads.specs.{Starting.{StartsPin, is_unpinned_at}, Telling.IsMade}, pagable_pager.specs.View.{core_in, telling, Calls, OnlyTables, is_at_work}};
 
 use crate::pager::Pager;
 use crate::pager::loads::cell_type;
@@ -110,20 +109,6 @@ where
         ArcRef { kind, node, handle }
     }
 
-    // What was made, as the reference that stands for it.
-    pub(crate) fn referred<X: Drop>(
-        &self,
-        kind: Kind,
-        made: Result<HandleNumber, X>,
-    ) -> Result<ArcRef, X>
-        ensures { Refers (core_in (telling S.stored S.is_closed S.failed) self.now) kind made result }
-    {
-        match made {
-            Ok(handle) => Ok(self.reference(kind, handle)),
-            Err(e) => Err(e),
-        }
-    }
-
     /// Whether the handle is live, loose and pins nothing.
     fn is_unpinned(&self, handle: HandleNumber) -> bool
         ensures { result ≡ is_unpinned_at (core_in (telling S.stored S.is_closed S.failed) self.now) handle }
@@ -142,37 +127,6 @@ where
         cell_type(row.root)
     }
 
-    /// A load of the cell of a handle, whose value isn't in memory if there is one.
-    fn begin_load(&mut self, me: Owner, handle: HandleNumber) -> Result<PinStart, Error>
-        requires at_work { is_at_work (core_in (telling S.stored S.is_closed S.failed) self.old) me ≡ true }
-        requires away { (row : HandleRow) → row_at (core_in (telling S.stored S.is_closed S.failed) self.old) handle ≡ Some row → is_here (core_in (telling S.stored S.is_closed S.failed) self.old) row.node.0 ≡ false }
-        ensures step { StartsPin (core_in (telling S.stored S.is_closed S.failed) self.old) me handle result (core_in (telling S.stored S.is_closed S.failed) self.new) }
-        ensures only { OnlyTables self.old self.new }
-    {
-        let beginning = self.load_begin_by(me, handle)?;
-        let Beginning::Load(load, key) = beginning else {
-            unreachable!();
-        };
-        let Some(node_type) = self.load_type(load) else {
-            unreachable!();
-        };
-        Ok(PinStart::Load(load, key, node_type))
-    }
-
-    /// A pin of the cell of a handle, whose value is in memory if there is one.
-    fn pin_here(&mut self, me: Owner, handle: HandleNumber) -> Result<PinStart, Error>
-        requires at_work { is_at_work (core_in (telling S.stored S.is_closed S.failed) self.old) me ≡ true }
-        requires here { (row : HandleRow) → row_at (core_in (telling S.stored S.is_closed S.failed) self.old) handle ≡ Some row → is_here (core_in (telling S.stored S.is_closed S.failed) self.old) row.node.0 ≡ true }
-        ensures { Calls (telling S.stored S.is_closed S.failed) self.old (λ w w'. StartsPin w me handle result w') self.new }
-    {
-        let was_unpinned = self.is_unpinned(handle);
-        match self.pin_by(me, handle) {
-            Ok(Pinning::Pinned(pinned)) => Ok(PinStart::Pinned(pinned, was_unpinned)),
-            Ok(Pinning::NeedsLoad(_)) => unreachable!(),
-            Err(e) => Err(e),
-        }
-    }
-
     /// A pin of a loose handle as `pin` makes it, where its value is in memory, and else a load of its cell as `load_begin` opens it, refused as these.
     pub fn begin_pin(&mut self, handle: HandleNumber) -> Result<PinStart, Error>
         ensures step { StartsPin (core_in (telling S.stored S.is_closed S.failed) self.old) Owner.Caller handle result (core_in (telling S.stored S.is_closed S.failed) self.new) }
@@ -181,6 +135,7 @@ where
         self.begin_pin_by(Owner::Caller, handle)
     }
 
+    #[tactic(auto, using(crate::proofs::Lending::pinning))]
     pub(crate) fn begin_pin_by(
         &mut self,
         me: Owner,
@@ -189,9 +144,20 @@ where
         requires { is_at_work (core_in (telling S.stored S.is_closed S.failed) self.old) me ≡ true }
         ensures { Calls (telling S.stored S.is_closed S.failed) self.old (λ w w'. StartsPin w me handle result w') self.new }
     {
-        match self.is_paged_out(handle) {
-            Ok(true) => self.begin_load(me, handle),
-            Ok(false) | Err(_) => self.pin_here(me, handle),
+        let was_unpinned = self.is_unpinned(handle);
+        if let Ok(true) = self.is_paged_out(handle) {
+            let beginning = self.load_begin_by(me, handle)?;
+            let Beginning::Load(load, key) = beginning else {
+                unreachable!();
+            };
+            let Some(node_type) = self.load_type(load) else {
+                unreachable!();
+            };
+            return Ok(PinStart::Load(load, key, node_type));
+        }
+        match self.pin_by(me, handle)? {
+            Pinning::Pinned(pinned) => Ok(PinStart::Pinned(pinned, was_unpinned)),
+            Pinning::NeedsLoad(_) => unreachable!(),
         }
     }
 }

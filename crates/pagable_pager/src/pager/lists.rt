@@ -72,15 +72,8 @@ where
         ensures only { OnlyLess self.old self.new }
     {
         let lists = !self.storage.has_closed();
-        swapping::offer(
-            &mut self.tables,
-            &mut self.values,
-            Owner::Caller,
-            kind,
-            key,
-            handle,
-            lists,
-        )
+        let (tables, values) = (&mut self.tables, &mut self.values);
+        swapping::offer(tables, values, Owner::Caller, kind, key, handle, lists)
     }
 
     /// How many cells wait for page-out.

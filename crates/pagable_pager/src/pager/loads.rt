@@ -3,7 +3,7 @@
 ghost use Rattle.std.specs.{Prelude.{◌≡◌, IfOk, IfNone, true, IfErr, Some, nat_lt}, Arc.arc_value};
 ghost use Rattle.{pagable_core.specs.Data.blob_of, pagable_world.specs.World.{seen_as, greatest}};
 ghost use Rattle.{pagable_world.specs.{LoadCalls.{AskCall, BeginCall, BeginKeyCall, LazyCall}, Refusals.load_fault}, pagable_tables.specs.{Asking.AsksKnown, Core.root_in}};
-ghost use Rattle.pagable_pager.specs.{View.{core_in, telling, given_as, OnlyTables, OnlyStorage, SameValues, is_at_work, Calls}, Opened.{ReadsAs, type_of_root}};
+ghost use Rattle.pagable_pager.specs.{View.{core_in, telling, given_as, OnlyTables, SameValues, is_at_work, Calls}, Opened.{ReadsAs, type_of_root}};
 
 use crate::pager::Pager;
 use either::Either;
@@ -66,27 +66,6 @@ where
         loading::load_begin(&mut self.tables, me, handle)
     }
 
-    /// The blob of the load's own key.
-    fn fetch_root(
-        &mut self,
-        me: Owner,
-        alloc: Global,
-        load: LoadNumber,
-    ) -> Result<Either<HandleNumber, Arc<PagableData>>, Error>
-        ensures step { AskCall (core_in (telling S.stored S.is_closed S.failed) self.old) me load Want.Root (seen_as (given_as (λ d. blob_of (arc_value d))) result) (core_in (telling S.stored S.is_closed S.failed) self.new) }
-        ensures only { OnlyStorage self.old self.new }
-    {
-        let row = match loading::load_row(&self.tables, me, load) {
-            Ok(row) => row,
-            Err(e) => return Err(e),
-        };
-        let blob = match self.fetch(alloc, row.key) {
-            Ok(blob) => blob,
-            Err(e) => return Err(e),
-        };
-        Ok(Either::Right(blob))
-    }
-
     /// A handle of the load's, of the node that the cache gives; or None where it gives none.
     fn load_known(
         &mut self,
@@ -100,27 +79,6 @@ where
         ensures only { OnlyTables self.old self.new }
     {
         loading::load_known(&mut self.tables, me, load, kind, key)
-    }
-
-    /// The node, or else the blob, of a reference.
-    #[tactic(auto, using(crate::proofs::Spared::asked_known))]
-    fn fetch_nested(
-        &mut self,
-        me: Owner,
-        alloc: Global,
-        load: LoadNumber,
-        kind: Kind,
-        key: DataKey,
-    ) -> Result<Either<HandleNumber, Arc<PagableData>>, Error>
-        ensures step { AskCall (core_in (telling S.stored S.is_closed S.failed) self.old) me load (Want.Nested kind key) (seen_as (given_as (λ d. blob_of (arc_value d))) result) (core_in (telling S.stored S.is_closed S.failed) self.new) }
-        ensures only { SameValues self.old self.new }
-    {
-        match self.load_known(me, load, kind, key) {
-            Ok(Some(known)) => return Ok(Either::Left(known)),
-            Ok(None) => {}
-            Err(e) => return Err(e),
-        }
-        Ok(Either::Right(self.fetch(alloc, key)?))
     }
 
     /// What a load asks for: the blob of its own key; of a reference a handle of the node that the cache gives, which the load owns, or else the blob. Refused with NoSuchHandle and NotYours; with
@@ -137,6 +95,7 @@ where
         self.load_fetch_by(Owner::Caller, alloc, load, want)
     }
 
+    #[tactic(auto, using(crate::proofs::Keeping::asked_known))]
     pub(crate) fn load_fetch_by(
         &mut self,
         me: Owner,
@@ -149,8 +108,20 @@ where
         ensures only { SameValues self.old self.new }
     {
         match want {
-            Want::Root => self.fetch_root(me, alloc, load),
-            Want::Nested(kind, key) => self.fetch_nested(me, alloc, load, kind, key),
+            Want::Root => {
+                let row = match loading::load_row(&self.tables, me, load) {
+                    Ok(row) => row,
+                    Err(e) => return Err(e),
+                };
+                match self.fetch(alloc, row.key) {
+                    Ok(blob) => Ok(Either::Right(blob)),
+                    Err(e) => Err(e),
+                }
+            }
+            Want::Nested(kind, key) => match self.load_known(me, load, kind, key)? {
+                Some(known) => Ok(Either::Left(known)),
+                None => Ok(Either::Right(self.fetch(alloc, key)?)),
+            },
         }
     }
 

@@ -48,7 +48,6 @@ where
     pub(crate) fn entry(&self, place: usize) -> Option<(HandleRow, u32, OptionalDataKey)>
         ensures found { IfSome result (λ e. IsEntry (core_in (telling S.stored S.is_closed S.failed) self.now) place e.0.number e.0 e.1) }
         ensures keyed { IfSome result (λ e. key_at (core_in (telling S.stored S.is_closed S.failed) self.now) e.0.node.0 ≡ e.2) }
-        ensures within { IfSome result (λ e. place < length (core_in (telling S.stored S.is_closed S.failed) self.now).list) }
         ensures past { IfNone result (length (core_in (telling S.stored S.is_closed S.failed) self.now).list ≤ place) }
     {
         lookups::entry(&self.tables, place)
@@ -71,7 +70,7 @@ where
 
     /// The same, with the reference that the worker pages out: the entry's handle, as a loose one of its cell. Refused with NoSuchHandle past the end, with WrongKind
     /// where the cell's type has no kinds, and with OutOfMemory.
-    #[tactic(auto, using(crate::proofs::Working::starting))]
+    #[tactic(auto, using(crate::proofs::Lending::starting))]
     pub(crate) fn worker_listed(&mut self, place: usize) -> Result<(WorkerNumber, ArcRef), Error>
         ensures begins { IfOk result (λ b. TakesEntry (core_in (telling S.stored S.is_closed S.failed) self.old) place b.0 b.1 (core_in (telling S.stored S.is_closed S.failed) self.new)) }
         ensures refused { IfErr result (λ e. EntryFault (core_in (telling S.stored S.is_closed S.failed) self.old) place e × Alike (core_in (telling S.stored S.is_closed S.failed) self.old) (core_in (telling S.stored S.is_closed S.failed) self.new)) }
@@ -84,12 +83,8 @@ where
             return Err(Error::WrongKind);
         };
         let worker = self.worker_take(place)?;
-        let reference = ArcRef {
-            kind,
-            node: row.node,
-            handle: row.number,
-        };
-        Ok((worker, reference))
+        let (node, handle) = (row.node, row.number);
+        Ok((worker, ArcRef { kind, node, handle }))
     }
 
     /// A worker gives up all handles that it has at a node, with all that goes with them.
@@ -113,12 +108,10 @@ where
         requires { is_at_work (core_in (telling S.stored S.is_closed S.failed) self.old) me ≡ true }
         ensures { Calls (telling S.stored S.is_closed S.failed) self.old (λ w w'. PinsClone w me through result w') self.new }
     {
-        let start = self.begin_pin_by(me, through)?;
-        let taken = match start {
-            PinStart::Pinned(pinned, _) => Taken::Held(through, pinned),
-            PinStart::Load(load, key, _) => Taken::Begun(through, load, key),
-        };
-        Ok(taken)
+        match self.begin_pin_by(me, through)? {
+            PinStart::Pinned(pinned, _) => Ok(Taken::Held(through, pinned)),
+            PinStart::Load(load, key, _) => Ok(Taken::Begun(through, load, key)),
+        }
     }
 
     /// Clones a reference's handle for this owner and pins the clone, or begins a load by it. Where that is refused, the clone stays the owner's.

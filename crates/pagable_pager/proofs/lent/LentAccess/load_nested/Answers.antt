@@ -1,4 +1,5 @@
-use Rattle.{pagable_pager.proofs.{Lending.{told_fewer, all_there, found_refers}, Words.{values_at, telling, blob_of, arc_value, Ok, AsksFor, rules}}, either.specs.declared.Either.Either}
+use Rattle.{either.specs.declared.Either.Either, pagable_core.specs.Data.blob_of, pagable_loads.specs.Telling.{AsksFor, values_at}, pagable_pager.proofs.Lending.{all_there, found_refers, told_fewer}}
+use Rattle.{pagable_pager.specs.View.telling, std.{proofs.Common.{Ok, rules}, specs.Arc.arc_value}}
 use Rattle.pagable_pager.proofs.lent.LentAccess.load_nested.Goals as goal
 
 pub returns-in-Ok-Left : goal.returns-in-Ok-Left

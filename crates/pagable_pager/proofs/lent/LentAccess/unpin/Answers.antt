@@ -1,4 +1,4 @@
-use Rattle.pagable_pager.proofs.{Lending.told_less, Words.{rules, values_at}}
+use Rattle.{pagable_loads.specs.Telling.values_at, pagable_pager.proofs.Lending.told_less, std.proofs.Common.rules}
 use Rattle.pagable_pager.proofs.lent.LentAccess.unpin.Goals as goal
 
 pub returns : goal.returns

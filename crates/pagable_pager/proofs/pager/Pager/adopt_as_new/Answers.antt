@@ -1,4 +1,4 @@
-use Rattle.pagable_pager.proofs.{Adopting.{new-asked, new-memory, new-refused, new-so, new-told, new-unknown}, Words.refl, Births.roomier, Shed.told-open}
+use Rattle.{pagable_pager.proofs.{Putting.{new-asked, new-memory, new-refused, new-so, new-told, new-unknown, roomier}, Keeping.told-open}, std.proofs.Common.refl}
 use Rattle.pagable_pager.proofs.pager.Pager.adopt_as_new.Goals as goal
 
 pub invariant_of-self : goal.invariant_of-self

@@ -1,4 +1,4 @@
-use Rattle.pagable_pager.proofs.Words.{false, Option, Some, None, IfSome, slice_get_within}
+use Rattle.std.{proofs.Common.{None, Option, Some, false}, specs.Prelude.IfSome}
 use Rattle.pagable_pager.proofs.pager.Pager.entry.Goals as goal
 
 each : {A : Type 0} {P Q : A → Type 0} (o : Option A) → ((a : A) → P a → Q a) → IfSome o P → IfSome o Q
@@ -10,6 +10,3 @@ returns-clause-found g c = rw (← c.self.view_is) (each c.entry.result (λ e f.
 
 pub returns-clause-keyed : goal.returns-clause-keyed
 returns-clause-keyed g c = rw (← c.self.view_is) (each c.entry.result (λ e f. f (λ key. None) false 0) c.entry.ensures.keyed)
-
-pub returns-clause-within : goal.returns-clause-within
-returns-clause-within g c = rw (← c.self.view_is) (each c.entry.result (λ e f. slice_get_within _ _ _ (f (λ key. None) false 0).listed) c.entry.ensures.found)

@@ -1,4 +1,4 @@
-use Rattle.pagable_pager.proofs.{Words.{arc_value, blob_of}, Stored.{asked, asked-so, fetch-call}}
+use Rattle.{pagable_core.specs.Data.blob_of, pagable_pager.proofs.Keeping.{asked, asked-so, fetch-call}, std.specs.Arc.arc_value}
 use Rattle.pagable_pager.proofs.pager.Pager.fetch.Goals as goal
 
 pub invariant_of-self : goal.invariant_of-self

@@ -1,4 +1,4 @@
-use Rattle.pagable_pager.proofs.Stored.{asked, asked-so}
+use Rattle.pagable_pager.proofs.Keeping.{asked, asked-so}
 use Rattle.pagable_pager.proofs.pager.Pager.flush.Goals as goal
 
 pub invariant_of-self : goal.invariant_of-self

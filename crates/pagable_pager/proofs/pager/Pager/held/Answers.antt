@@ -1,4 +1,4 @@
-use Rattle.pagable_pager.proofs.{Words.{ap, sym, ◌∙◌, option_map, option_copied, arc_value}, Seen.{lends, lends-fault, lends-none, not-away}}
+use Rattle.{pagable_pager.proofs.Keeping.{lends, lends-fault, lends-none, not-away}, std.{proofs.Common.{ap, sym, ◌∙◌}, specs.{Arc.arc_value, Option.{option_copied, option_map}}}}
 use Rattle.pagable_pager.proofs.pager.Pager.held.Goals as goal
 
 pub returns-in-Ok-None : goal.returns-in-Ok-None

@@ -1,4 +1,4 @@
-use Rattle.pagable_pager.proofs.Words.{None, false, refl, sym, load_in}
+use Rattle.{pagable_tables.specs.Core.load_in, std.proofs.Common.{None, false, refl, sym}}
 use Rattle.pagable_pager.proofs.pager.Pager.load_of.Goals as goal
 
 pub returns-in-Ok-clause-reads : goal.returns-in-Ok-clause-reads

@@ -1,4 +1,4 @@
-use Rattle.pagable_pager.proofs.Words.{None, false}
+use Rattle.std.proofs.Common.{None, false}
 use Rattle.pagable_pager.proofs.pager.Pager.node_live.Goals as goal
 
 pub returns : goal.returns

@@ -1,4 +1,4 @@
-use Rattle.pagable_pager.proofs.{Words.{blob_of, key_of}, Stored.{store-call, stored-so}}
+use Rattle.{pagable_core.specs.Data.blob_of, pagable_model.specs.Blob.key_of, pagable_pager.proofs.Keeping.{store-call, stored-so}}
 use Rattle.pagable_pager.proofs.pager.Pager.store.Goals as goal
 
 pub invariant_of-self : goal.invariant_of-self

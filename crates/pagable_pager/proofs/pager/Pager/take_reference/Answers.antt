@@ -1,4 +1,4 @@
-use Rattle.pagable_pager.proofs.Working.{then_pins}
+use Rattle.pagable_pager.proofs.Lending.{then_pins}
 use Rattle.pagable_pager.proofs.pager.Pager.take_reference.Goals as goal
 
 pub returns-in-Ok-true-clause-step : goal.returns-in-Ok-true-clause-step

@@ -1,4 +1,4 @@
-use Rattle.pagable_pager.proofs.{Words.{ap, option_map, load_in, sym, ◌∙◌}, Putting.unread-open, Adopting.unlisted-gone}
+use Rattle.{pagable_pager.proofs.Putting.{unlisted-gone, unread-open}, pagable_tables.specs.Core.load_in, std.{proofs.Common.{ap, sym, ◌∙◌}, specs.Option.option_map}}
 use Rattle.pagable_pager.proofs.pager.Pager.unlisted.Goals as goal
 
 pub returns-in-Some : goal.returns-in-Some

@@ -1,5 +1,5 @@
-use Rattle.pagable_pager.proofs.{Spared.called, Working.begins, Working.begins-whole}
+use Rattle.pagable_pager.proofs.{Keeping.called, Lending.begins}
 use Rattle.pagable_pager.proofs.pager.Pager.worker_begin.Goals as goal
 
 pub invariant_of-self : goal.invariant_of-self
-invariant_of-self g c = called _ _ _ c.self.invariant c.worker_begin.new.t c.worker_begin.ensures.does (begins c.self.invariant.state.whole c.worker_begin.result) (begins-whole c.self.invariant.state.whole c.worker_begin.result)
+invariant_of-self g c = called c.self.invariant c.worker_begin.new.t c.worker_begin.ensures.does (begins c.self.invariant.state.whole c.worker_begin.result)

@@ -1,11 +1,11 @@
-use Rattle.pagable_pager.proofs.{Words.{sym, subst, ap, ◌∙◌, Some, None, false, PutsIn}, Putting.{puts, drops, beside-there}}
+use Rattle.{pagable_pager.{proofs.Putting.{beside-there, drops, puts}, specs.View.PutsIn}, std.proofs.Common.{None, Some, ap, false, subst, sym, ◌∙◌}}
 use Rattle.pagable_pager.proofs.pager.births.finish.Goals as goal
 
 pub returns-then-ending-clause-puts : goal.returns-then-ending-clause-puts
 returns-then-ending-clause-puts g c =
     subst (λ b. PutsIn b c.args.ending.row.node.0 c.args.value c.args.tables.now c.args.values.now c.install.new.t c.install.new.values) (sym c.if-ending.true)
-    (puts c.args.tables.now c.install.new.t c.args.values.now c.keep.new.values c.install.new.values c.args.ending.row.node c.args.value (c.keep.ensures.here ∙ ap (λ v. Some v) c.in-Ok.ensures.shared)
-    (λ n other. c.keep.ensures.others n other ∙ c.share_with_room.ensures.same n) c.install.ensures.sheds)
+    (puts c.args.tables.now c.install.new.t c.args.values.now c.keep.new.values c.install.new.values c.args.ending.row.node c.args.value
+    (c.keep.ensures.here ∙ ap (λ v. Some v) c.in_ok-value.ensures.shared) (λ n other. c.keep.ensures.others n other ∙ c.share_with_room.ensures.same n) c.install.ensures.sheds)
 
 pub returns-clause-puts : goal.returns-clause-puts
 returns-clause-puts g c =

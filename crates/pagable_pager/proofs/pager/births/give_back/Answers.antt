@@ -1,4 +1,4 @@
-use Rattle.pagable_pager.proofs.{Putting.vain, Words.subst, Words.refl, Words.core_of, Words.Unends, Words.told-later}
+use Rattle.{pagable_pager.proofs.Putting.vain, pagable_tables.{proofs.Worlds.told-later, specs.{Core.core_of, Ready.Unends}}, std.proofs.Common.{refl, subst}}
 use Rattle.pagable_pager.proofs.pager.births.give_back.Goals as goal
 
 pub returns-in-InVain-clause-refused : goal.returns-in-InVain-clause-refused

@@ -1,5 +1,5 @@
-use Rattle.pagable_pager.proofs.{Putting.{ended-so, ended-told, no-room, ready-told, refused-moves, refused-so, stays-so}, Shed.told-open, Words.refl}
-use Rattle.pagable_pager.proofs.pager.Pager.end_with.Goals as goal
+use Rattle.{pagable_pager.proofs.{Putting.{ended-so, ended-told, no-room, ready-told, refused-moves, refused-so, stays-so}, Keeping.told-open}, std.proofs.Common.refl}
+use Rattle.pagable_pager.proofs.pager.Pager.load_end_by.Goals as goal
 
 pub invariant_of-self : goal.invariant_of-self
 invariant_of-self g c =
@@ -12,7 +12,7 @@ returns-in-Err-clause-moves g c =
     rw (← c.self.view_is) (refused-moves c.self.invariant c.prepare_end.new.t c.give_back.new.tables c.give_back.new.values c.prepare_end.ensures.nodes c.give_back.ensures.sheds _)
 
 pub finish-requires-clause-ready : goal.finish-requires-clause-ready
-finish-requires-clause-ready g c stored closed failures = ready-told refl c.deref.ensures.value (c.in-Ok.ensures.ready stored closed failures)
+finish-requires-clause-ready g c stored closed failures = ready-told refl c.deref.ensures.value (c.in-Ok-prepare_end.ensures.ready stored closed failures)
 
 pub invariant_of-self-in-Err-finish : goal.invariant_of-self-in-Err-finish
 invariant_of-self-in-Err-finish g c =
@@ -22,17 +22,17 @@ invariant_of-self-in-Err-finish g c =
 pub returns-in-Err-finish-clause-step : goal.returns-in-Err-finish-clause-step
 returns-in-Err-finish-clause-step g c =
     rw (← c.self.view_is) (no-room c.self.invariant c.prepare_end.new.t c.finish.new.tables c.finish.new.values (c.prepare_end.ensures.does.does _ _ _) c.in-Err-finish.ensures.tables
-    c.in-Err-finish.ensures.kept c.finish.ensures.whole c.finish.ensures.later c.in-Err-finish.ensures.back (c.in-Ok.ensures.ready _ _ _))
+    c.in-Err-finish.ensures.kept c.finish.ensures.whole c.finish.ensures.later c.in-Err-finish.ensures.back (c.in-Ok-prepare_end.ensures.ready _ _ _))
 
 pub invariant_of-self-2 : goal.invariant_of-self-2
 invariant_of-self-2 g c =
-    ended-so c.self.invariant c.args.value c.prepare_end.new.t c.finish.new.tables c.finish.new.values c.node_type-node_type.ensures.value c.deref.ensures.value c.requires
-    (c.prepare_end.ensures.does.does _ _ _) c.prepare_end.ensures.nodes (c.in-Ok.ensures.ready _ _ _) (c.in-Ok-finish.ensures.installs _ _ _ (told-open c.has_closed-lists.ensures))
+    ended-so c.self.invariant c.args.value c.prepare_end.new.t c.finish.new.tables c.finish.new.values c.node_type-node_type.ensures.value c.deref.ensures.value c.in-Ok.ensures.ok
+    (c.prepare_end.ensures.does.does _ _ _) c.prepare_end.ensures.nodes (c.in-Ok-prepare_end.ensures.ready _ _ _) (c.in-Ok-finish.ensures.installs _ _ _ (told-open c.has_closed-lists.ensures))
     c.finish.ensures.whole c.finish.ensures.later c.in-Ok-finish.ensures.puts
 
 pub returns : goal.returns
 returns g c =
-    let ended = ended-told c.self.invariant c.args.value c.prepare_end.new.t c.finish.new.tables c.finish.new.values c.node_type-node_type.ensures.value c.deref.ensures.value c.requires
-    (c.prepare_end.ensures.does.does _ _ _) c.prepare_end.ensures.nodes (c.in-Ok.ensures.ready _ _ _) (c.in-Ok-finish.ensures.installs _ _ _ (told-open c.has_closed-lists.ensures))
+    let ended = ended-told c.self.invariant c.args.value c.prepare_end.new.t c.finish.new.tables c.finish.new.values c.node_type-node_type.ensures.value c.deref.ensures.value c.in-Ok.ensures.ok
+    (c.prepare_end.ensures.does.does _ _ _) c.prepare_end.ensures.nodes (c.in-Ok-prepare_end.ensures.ready _ _ _) (c.in-Ok-finish.ensures.installs _ _ _ (told-open c.has_closed-lists.ensures))
     c.finish.ensures.whole c.finish.ensures.later c.in-Ok-finish.ensures.puts in
     rw (← c.self.view_is) (record { step = ended.0; moves = ended.1 })
