@@ -1,6 +1,6 @@
 -- Page-outs of an item and of the entries of the list, from the runs of their workers.
 use Rattle.std.proofs.{Common.{ℕ, ◌≡◌, ◌≤◌, ◌<◌, ◌+◌, List, ◌∷◌, length, Option, Some, Result, Ok, Err, inl, refl, ap, subst, sym, ◌∙◌, arith}, lemmas.List.Edits.length-remove}
-use Rattle.{std.{proofs.lemmas.{Option.slice_get_within, Bool.Decides.nat_tests, Grind.common_steps}, specs.List.remove}, pagable_model.specs.declared.{error.Error.Error, numbers.ArcRef.ArcRef}}
+use Rattle.{std.{proofs.lemmas.{Bool.Decides.nat_tests, Grind.common_steps}, specs.List.remove}, pagable_model.specs.declared.{error.Error.Error, numbers.ArcRef.ArcRef}}
 use Rattle.{pagable_model.specs.declared.{numbers.{HandleNumber.HandleNumber, WorkerNumber.WorkerNumber}, data_key.OptionalDataKey.OptionalDataKey}, pagable_world.specs.Access.{AccessState, Called}}
 use Rattle.pagable_world.specs.Access.{WorkerStarts, WorkerRun, worker-ends, worker-goes-on, no-worker, item-is-walked, EntryHas, entry-is-refused, no-entry-worker, entry-is-walked, ListRun}
 use Rattle.pagable_world.specs.{Access.{no-more, skips, pages, fails}, Calls.{ReleaseCall, TakeCall}, Events.{entry_task, no_shelf}, Kinds.{identity_of, owner_worker}, Pager.{PagerState, WellFormed}}
@@ -9,7 +9,7 @@ use Rattle.{pagable_world.specs.declared.handles.Owner.Owner, pagable_laws.proof
 use Rattle.pagable_laws.proofs.SparingSteps.{none-shorter, Spares, spares-then}
 use Rattle.pagable_loads.proofs.Stepped.{acts_all, acts_from, acts_map, acts_same, acts_then, tells_map}
 use Rattle.{pagable_loads.specs.{Telling.{Acting, as_caller}, Working.{StartsEntry, RefusesEntry}}, pagable_walk.proofs.{Pinning.same-shelf, Turning.{alike, plain-fits}}}
-use Rattle.{pagable_laws.proofs.Answered.{item-answered, entry-answered}, pagable_walk.specs.{Over.{PagesItem, PagesList, PagesEntry, Skipped, SkipsEntry, PagesAt, HasPaged}, Slots.no_claims}}
+use Rattle.{pagable_laws.proofs.Answered.{item-answered, entry-answered}, pagable_walk.specs.{Over.{PagesItem, PagesList, PagesEntry, PagesAt, HasPaged, answer_of}, Slots.no_claims}}
 use Rattle.pagable_walk.specs.{Tasks.{IsPlain, todo_of}, Turns.{Fits, plain, RunsTo, Walked}, declared.{results.Trees.Ghosts, table.PageOutError.PageOutError, tasks.Task.Task}}
 
 -- whoever acts for the caller does so again after a worker
@@ -78,28 +78,26 @@ module _ {N E : Type 0} (v : Values N) where
 
   -- ---- a place of the list
 
-  pub took-none : (place : ℕ) (taken : Option HandleNumber) → ((h : HandleNumber) → taken ≡ Some h → ⊥) → (me : Owner) (s t : PagerState N E) → Called v (λ w'. TakeCall s.core me place taken w') s t → SkipsEntry v place s t
-  took-none place taken none me s t call = grind (arith, nat_tests, common_steps, slice_get_within)
-
-  pub took-some : {me : Owner} → me ≡ Owner.Caller → (place : ℕ) (h : HandleNumber) (told : Result (Unit {0}) Error) (s mid t : PagerState N E) → Called v (λ w'. TakeCall s.core me place (Some h) w') s mid
-      → Called v (λ w'. ReleaseCall mid.core me h told w') mid t → SkipsEntry v place s t
-  took-some mine place h told s mid t takes releases = record {
-    skips = λ k listed.
-        let e : h ≡ k = cc (takes.step.0, listed) in
-        subst (λ x. Skipped v s place x t) e (record { mid = mid; told = told; takes = rw mine at takes; releases = rw mine at releases });
-  }
-
   pub at-past : (place : ℕ) (s : PagerState N E) → length s.core.list ≤ place → PagesAt v place (Ok tt) s s
   at-past place s past = record { done = λ whole within. absurd (omega (arith, past, within)) }
 
-  pub at-skipped : (place key : ℕ) (s t : PagerState N E) → (h : HandleNumber) × EntryHas s.core place h (OptionalDataKey.Some key) → SkipsEntry v place s t → PagesAt v place (Ok tt) s t
-  at-skipped place key s t (h, has) skip =
-      let k = skip.skips h has.listed in
+  pub at-gone : (place : ℕ) (taken : Option HandleNumber) → ((h : HandleNumber) → taken ≡ Some h → ⊥) → (me : Owner) (s t : PagerState N E)
+      → Called v (λ w'. TakeCall s.core me place taken w') s t → PagesAt v place (Ok tt) s t
+  at-gone place taken none me s t call = grind (arith, nat_tests, common_steps)
+
+  -- the entry is taken and released
+  pub at-skipped : {me : Owner} → me ≡ Owner.Caller → (place key : ℕ) (k : HandleNumber) (told : Result (Unit {0}) Error) (s mid t : PagerState N E)
+      → Called v (λ w'. TakeCall s.core me place (Some k) w') s mid → Called v (λ w'. ReleaseCall mid.core me k told w') mid t
+      → (h : HandleNumber) × EntryHas s.core place h (OptionalDataKey.Some key) → PagesAt v place (Ok tt) s t
+  at-skipped mine place key k told s mid t takes releases (h, has) =
+      let e : h ≡ k = cc (takes.step.0, has.listed) in
+      let keyed = subst (λ x. EntryHas s.core place x (OptionalDataKey.Some key)) e has in
+      let out = rw mine at releases in
       record {
         done = λ whole within. record {
-          whole = k.releases.whole;
-          long = entries-stay place s k.mid t within k.takes.step.1.list (none-shorter k.takes.whole.whole k.releases.whole.whole (release-spares-list k.told k.releases.step));
-          goes = λ i next answer s' more. skips i place key h k.told answer s k.mid t s' next has k.takes k.releases more;
+          whole = out.whole;
+          long = entries-stay place s mid t within takes.step.1.list (none-shorter takes.whole.whole out.whole.whole (release-spares-list told out.step));
+          goes = λ i next answer s' more. skips i place key k told answer s mid t s' next keyed (rw mine at takes) out more;
           stops = tt;
         };
       }
@@ -112,16 +110,14 @@ module _ {N E : Type 0} (v : Values N) where
         record { whole = p.whole; long = p.long; goes = λ i next answer s' more. pages i place key h answer s t s' next has p.run more; stops = tt };
   }
 
-  pub at-failed : (place : ℕ) (e : Error) (s t : PagerState N E) → (h : HandleNumber) × EntryHas s.core place h OptionalDataKey.None → PagesEntry v place (WorkerAnswer.Failed e) s t → PagesAt v place (Err (PageOutError.Failed e)) s t
-  at-failed place e s t (h, has) pages_it = record {
+  pub at-failed : (place : ℕ) (why : PageOutError) (s t : PagerState N E) → (h : HandleNumber) × EntryHas s.core place h OptionalDataKey.None
+      → PagesEntry v place (answer_of (Err why)) s t → PagesAt v place (Err why) s t
+  at-failed place (PageOutError.Failed e) s t (h, has) pages_it = record {
     done = λ whole within.
         let p = pages_it.pages whole within in
         record { whole = p.whole; long = p.long; goes = tt; stops = λ i next. fails i place h e s t next has p.run };
   }
-
-  pub at-other : (place : ℕ) (s t : PagerState N E) → (h : HandleNumber) × EntryHas s.core place h OptionalDataKey.None
-      → PagesEntry v place WorkerAnswer.AlreadyFailed s t → PagesAt v place (Err PageOutError.AlreadyFailed) s t
-  at-other place s t (h, has) pages_it = record { done = λ whole within. let p = pages_it.pages whole within in absurd (p.unfailed refl) }
+  at-failed place PageOutError.AlreadyFailed s t (h, has) pages_it = record { done = λ whole within. let p = pages_it.pages whole within in absurd (p.unfailed refl) }
 
   -- ---- the list
 
@@ -139,6 +135,6 @@ module _ {N E : Type 0} (v : Values N) where
 
 pub ruleset items = (nat_tests, acts_all, acts_map, item-unstarted, item-unbegun)
 
-pub ruleset places = (nat_tests, tells_map, acts_same, acts_from, at-past, at-paged, at-failed, at-other)
+pub ruleset places = (nat_tests, tells_map, acts_same, acts_from, acts_map, at-past, at-gone, at-paged, at-failed)
 
 pub ruleset listed = (nat_tests, acts_map, acts_then, tells_map, acts_same, none-paged, more-paged, ends-paged, all-paged)
