@@ -2,7 +2,7 @@
 use Rattle.std.proofs.{Common.{arith, ℕ, zero, suc, ◌<◌, ◌≡◌, Bool, true, false, if◌then◌else◌, Option, Some, None, ◌⊎◌, inl, inr, refl, sym, ap, ◌∙◌, subst, nat_eq}, lemmas.Option.none-some}
 use Rattle.pagable_world.specs.{Workers.{is_open_outcome, with_outcome, IsOpenSlot, ComesToEnd, works, may-go-on, waits-on, with_slot, with_wait}, Plain.{Identity, SameAt, if_there}, World.Outcome}
 use Rattle.{std.proofs.lemmas.{Bool.Decides.nat_tests, Grind.{common_steps, merely}}, pagable_world.specs.World.{Slot, Shelf, SameShelf, is_identity}, pagable_walk.specs.Slots.Changes}
-use Rattle.pagable_walk.{proofs.{Held.{same-as, same-identity}, Waits.{some-same, open-is, closed}}, specs.Slots.{open_worker, WaitsFor, Ends, ends-at, EachEnds, claimed_by, SlotIs, SameSlots}}
+use Rattle.pagable_walk.{proofs.{Held.{same-as, same-identity}, Waits.{some-same, open-is, closed}}, specs.Slots.{open_worker, WaitsFor, Ends, ends-at, EachEnds, claimed_by}}
 use mathlib.Core.{HLevel.Σ_prop_path, Logic.{∥∥₁_map, ∥∥₁_elim, ∥∥₁_prop}}
 use native.Mathlib.Nat.{ℕ_set}
 
@@ -57,11 +57,6 @@ module _ (s s' : Shelf) (v : ℕ) (i : Identity) (same : SameShelf (with_wait s 
       where
         ask : (u w : ℕ) → WaitsFor s' u w → (b : Bool) → nat_eq u v ≡ b → WaitsFor s u w ⊎ Ends s' w
         ask u w e b d = grind (arith, nat_tests, was-for, some-same, open-is, end-later)
-
--- a claim that is made or refused
-pub taken-or-not : (s s' : Shelf) (v : ℕ) (i : Identity) → SameAt s.waits s'.waits → s.waits v ≡ None → SlotIs s.slots i (Some (claimed_by v)) s'.slots ⊎ SameSlots s.slots s'.slots → EachEnds s → EachEnds s'
-taken-or-not s s' v i waits works-on (inl is) = taken s s' v i (record { slots = is; waits = waits }) works-on
-taken-or-not s s' v i waits works-on (inr same) = less-open s s' (λ j w e. sym (ap open_worker (same j)) ∙ e) waits
 
 -- no worker waits
 pub no-waits : (s : Shelf) → ((v : ℕ) → s.waits v ≡ None) → EachEnds s

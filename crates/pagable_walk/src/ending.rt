@@ -10,7 +10,7 @@ use crate::stack::{give, refuse};
 use crate::tasks::{Done, Moved, Node, Task, Turn, Waiting, named};
 use crate::{PageOutError, SlotResult, Trees};
 use pagable_codec::{Env, NodeSet};
-use pagable_core::{PagableData, SerializedData};
+use pagable_core::PagableData;
 use pagable_loads::WorkerAccess;
 use pagable_model::{DataKey, Error, HandleNumber, Identity, WorkerNumber};
 use pagable_world::{Took, WorkerAnswer};
@@ -18,16 +18,16 @@ use std::alloc::Global;
 use std::marker::PhantomData;
 
 // The blob of what was written over the results of its references. Refused by want of memory alone.
-fn blob<E: Trees>(
-    alloc: Global,
-    written: &SerializedData,
-    children: &[SlotResult<E>],
-) -> Result<PagableData, Error>
-    ensures blob { IfOk result (λ blob. blob_of blob ≡ blob_over (written_of written.now).bytes (keys_of children.now)) }
+fn blob<E: Trees>(alloc: Global, waiting: &Waiting<E>) -> Result<PagableData, Error>
+    ensures blob { IfOk result (λ blob. blob_of blob ≡ blob_over (written_of (arc_value waiting.now.written)).bytes (keys_of waiting.now.children.items)) }
     ensures only { IfErr result (λ e. e ≡ Error.OutOfMemory) }
 {
-    let arcs: Vec<DataKey> = children.iter().map(|found| found.key).collect(alloc)?;
-    let bytes = Vec::from_slice(alloc, written.bytes.as_slice())?;
+    let arcs: Vec<DataKey> = waiting
+        .children
+        .iter()
+        .map(|found| found.key)
+        .collect(alloc)?;
+    let bytes = Vec::from_slice(alloc, waiting.written.bytes.as_slice())?;
     Ok(PagableData { bytes, arcs })
 }
 
@@ -35,15 +35,15 @@ fn blob<E: Trees>(
 fn store<E: Env, A: WorkerAccess<E>>(
     access: &mut A,
     alloc: Global,
-    written: &SerializedData,
-    children: &[SlotResult<E>],
+    waiting: &Waiting<E>,
 ) -> Result<DataKey, Error>
 where
     E::Node: NodeSet<E>,
-    ensures key { IfOk result (λ key. key ≡ key_of E.Hash.digest (blob_over (written_of written.now).bytes (keys_of children.now))) }
-    ensures acts { Acts A.told A.acting access.old access.new (λ a s t. Stores (values_at E.Node.NodeSet E.Env E.Hash.KeyHash a.environment) s (blob_over (written_of written.now).bytes (keys_of children.now)) result t) }
+    ensures key { IfOk result (λ key. key ≡ key_of E.Hash.digest (blob_over (written_of (arc_value waiting.now.written)).bytes (keys_of waiting.now.children.items))) }
+    ensures acts { Acts A.told A.acting access.old access.new (λ a s t. Stores (values_at E.Node.NodeSet E.Env E.Hash.KeyHash a.environment) s
+        (blob_over (written_of (arc_value waiting.now.written)).bytes (keys_of waiting.now.children.items)) result t) }
 {
-    let blob = blob(alloc, written, children)?;
+    let blob = blob(alloc, waiting)?;
     access.store(alloc, blob)
 }
 
@@ -94,12 +94,7 @@ where
     ensures acts { (n : ℕ) (shelf : Shelf) → Acts A.told A.acting access.old access.new (λ a. TurnsTo (values_at E.Node.NodeSet E.Env E.Hash.KeyHash a.environment) a.me n shelf (Task.Finish waiting) (todos path.old.items) shelf result (plan result.turn path.new.items)) }
 {
     let identity = named_by(&waiting.node);
-    match store(
-        access,
-        alloc,
-        waiting.written.as_ref(),
-        waiting.children.as_slice(),
-    ) {
+    match store(access, alloc, &waiting) {
         Ok(key) => Moved {
             took: Took::Store(identity, Ok(key)),
             turn: stored(waiting, key),

@@ -4,11 +4,11 @@ ghost use Rattle.std.specs.Prelude.{◌≡◌, ◌∷◌, ◌<◌, ◌≤◌, �
 ghost use Rattle.pagable_loads.specs.Telling.{Acts, ActsThen, as_caller, values_at};
 ghost use Rattle.pagable_walk.specs.{Due.{LeadsOn, IfGoes, due, far}, Table.shelf_of, Tasks.{IsWay, todo_of, todos}, Turns.{Closes, TurnsTo, StepsTo, RunsTo, acting_then, plan}};
 
+use crate::SlotTable;
 use crate::ending::{answer, finish, give_back, release, set_key};
-use crate::stack::fail;
+use crate::stack::refuse;
 use crate::tasks::{Moved, Task, Turn, Waiting, named};
 use crate::turns::{after_claim, claim, counts, found, load, pin, write};
-use crate::{PageOutError, SlotTable};
 use pagable_codec::{Env, NodeSet};
 use pagable_core::SerializedData;
 use pagable_loads::WorkerAccess;
@@ -143,11 +143,7 @@ where
                 table.stop_waiting(worker);
                 return Moved {
                     took: Took::Claim(named(reference), Err(Error::OutOfMemory)),
-                    turn: Turn::Goes(fail(
-                        path,
-                        PageOutError::Failed(Error::OutOfMemory),
-                        Some(reference.handle),
-                    )),
+                    turn: Turn::Goes(refuse(path, &Error::OutOfMemory, Some(reference.handle))),
                     counted: true,
                 };
             }

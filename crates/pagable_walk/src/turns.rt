@@ -2,10 +2,10 @@
 
 ghost use Rattle.std.specs.{Prelude.{◌≡◌, ◌≤◌, ◌+◌, ◌*◌, ◌∷◌, ℕ, List, length, ◌<◌, IfOk, IfErr, OnOk, vec_len, vec_capacity}, Arc.arc_value};
 ghost use Rattle.pagable_world.specs.Plain.{longest_path};
-ghost use Rattle.pagable_world.specs.{Plain.type_of, Workers.{claim_fault, is_counted_claim, Claims}, World.{Core, Shelf, Todo, to_start, to_pin, to_load, seen_as, to_write, to_finish}, Kinds.identity_of};
+ghost use Rattle.pagable_world.specs.{Workers.{claim_fault, is_counted_claim, Claims}, World.{Core, Shelf, Todo, to_start, to_pin, to_load, seen_as, to_write, to_finish}, Kinds.identity_of};
 ghost use Rattle.{pagable_loads.specs.{Frames.reading_of, Telling.{Acts, Tells, values_at}, Working.fault_in}, pagable_walk.specs.{Due.{due, most, LeadsOn}, Table.{shelf_of, found_as}, Tasks.Awaits}};
 ghost use Rattle.pagable_walk.specs.{Tasks.{IsWay, todo_of, todos, waiting_todo}, Turns.{site, claim_todo, ClaimFits, ClaimLeaves, TurnsTo, plan}, Results.HasFormOf, Slots.written_of, Writing.IsForm};
-ghost use Rattle.pagable_walk.specs.Writing.{WriteRefused, Finds, Forms, just_open};
+ghost use Rattle.pagable_walk.specs.Writing.{WriteRefused, Forms, just_open};
 
 use crate::stack::{fail, give_known, refuse, settle};
 use crate::tasks::{Done, Moved, Node, Task, Turn, Waiting, named};
@@ -190,30 +190,7 @@ where
     Ok(SerializedData { bytes, arcs })
 }
 
-// The value that a handle pins, of this kind's type.
-fn pinned<E: Env, A: WorkerAccess<E>>(
-    access: &A,
-    reference: ArcRef,
-    pin: HandleNumber,
-) -> Result<Arc<E::Node>, Error>
-where
-    E::Node: NodeSet<E>,
-    ensures typed { IfOk result (λ x. E.Node.type_of (arc_value x) ≡ type_of reference.kind.0) }
-    ensures step { Tells (A.told access.now) (λ s. Finds (values_at E.Node.NodeSet E.Env E.Hash.KeyHash (A.acting access.now).environment) s reference pin (seen_as arc_value result)) }
-{
-    match access.share(pin) {
-        Ok(Some(node)) => {
-            if node.node_type() != reference.kind.0 / 3 {
-                return Err(Error::WrongKind);
-            }
-            Ok(node)
-        }
-        Ok(None) => Err(Error::WrongMode),
-        Err(e) => Err(e),
-    }
-}
-
-// A form of the value that a handle pins.
+// A form of the value that a handle pins, of this kind's type.
 fn form<E: Env, A: WorkerAccess<E>>(
     access: &A,
     alloc: Global,
@@ -225,8 +202,14 @@ where
     ensures form { IfOk result (λ d. ∥ HasFormOf (values_at E.Node.NodeSet E.Env E.Hash.KeyHash) (identity_of reference) (written_of d) ∥₁) }
     ensures step { Tells (A.told access.now) (λ s. Forms (values_at E.Node.NodeSet E.Env E.Hash.KeyHash (A.acting access.now).environment) s reference pin (seen_as written_of result)) }
 {
-    match pinned(access, reference, pin) {
-        Ok(node) => written(access.env(), alloc, node.as_ref()),
+    match access.share(pin) {
+        Ok(Some(node)) => {
+            if node.node_type() != reference.kind.0 / 3 {
+                return Err(Error::WrongKind);
+            }
+            written(access.env(), alloc, node.as_ref())
+        }
+        Ok(None) => Err(Error::WrongMode),
         Err(e) => Err(e),
     }
 }
