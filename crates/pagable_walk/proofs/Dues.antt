@@ -11,12 +11,8 @@ module _ {X : Type 0} {g : Ghosts X} where
       → IfGoes turn (l' * far + due after < l * far + due (to_start r place ∷ below))
   start-falls turn l l' r place below after less few leads = grind (arith, nat_tests, falls-by)
 
-  other-leads : (task : Task X g) → ((r : ArcRef) (place : ℕ) → task ≡ Task.Start r place → ⊥) → (turn : Turn X g) (below after : List Todo) → LeadsOn (todo_of task ∷ below) turn after
-      → IfGoes turn (due after < due (todo_of task ∷ below))
-  other-leads task other turn below after leads = grind (arith, nat_tests)
-
   pub other-falls : (task : Task X g) → ((r : ArcRef) (place : ℕ) → task ≡ Task.Start r place → ⊥) → (turn : Turn X g) (l : ℕ) (below after : List Todo) → LeadsOn (todo_of task ∷ below) turn after
       → IfGoes turn (l * far + due after < l * far + due (todo_of task ∷ below))
-  other-falls task other turn l below after leads = grind (arith, nat_tests, other-leads)
+  other-falls task other turn l below after leads = grind (arith, nat_tests)
 
 pub ruleset dues = (nat_tests, start-falls, other-falls, todos-length)

@@ -45,11 +45,7 @@ module _ (s s' : Shelf) (v : ℕ) (i : Identity) (same : SameShelf (with_wait s 
   end-later : {u : ℕ} → ComesToEnd s v u → Ends s' u
   end-later (works u d e) = ends-at u (λ w n. absurd (none-some (was-for u w d n).i (sym e ∙ (was-for u w d n).waits)))
   end-later (may-go-on u j d e o) = ends-at u (λ w n. let f = was-for u w d n in absurd (closed (s.slots j) o w (ap (λ k. open_worker (s.slots k)) (some-same (sym e ∙ f.waits)) ∙ f.still)))
-  end-later (waits-on u j slot d e o c) =
-      ends-at u (λ w n. let f = was-for u w d n in
-      let at : open_worker (s.slots j) ≡ Some w = ap (λ k. open_worker (s.slots k)) (some-same (sym e ∙ f.waits)) ∙ f.still in
-      let is : open_worker (s.slots j) ≡ Some slot.worker = ap open_worker o.claimed ∙ open-is slot o.no_result_yet in
-      subst (Ends s') (some-same (sym is ∙ at)) (end-later c))
+  end-later (waits-on u j slot d e o c) = ends-at u (λ w n. grind (arith, nat_tests, was-for u w d n, some-same, open-is, end-later c))
 
   module _ (slot : Slot) (o : IsOpenSlot s i slot) (c : ComesToEnd s v slot.worker) where
     pub waiting : EachEnds s → EachEnds s'

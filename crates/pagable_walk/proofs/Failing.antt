@@ -27,12 +27,7 @@ module _ {E : Type 0} {g : Ghosts E} (v : ℕ) where
   all-failed zero (e ∷ es) rows q many h = absurd (omega (arith, many))
   all-failed (suc n) [] rows q many h = rw h refl
   all-failed (suc n) (e ∷ es) [] q many h = absurd h
-  all-failed (suc n) (e ∷ es) (f ∷ fs) q many (row, rest) = rw row.key (by (all-failed n es fs q (omega (arith, many)) rest) (is_same q e.0))
-    where
-      by : option_map slot_of (lookup (is_same q) fs) ≡ after_failure v (option_map slot_of (lookup (is_same q) es))
-          → (b : Bool) → option_map slot_of (cond b (Some f.1) (lookup (is_same q) fs)) ≡ after_failure v (option_map slot_of (cond b (Some e.1) (lookup (is_same q) es)))
-      by more true = ap Some row.slot
-      by more false = more
+  all-failed (suc n) (e ∷ es) (f ∷ fs) q many (row, rest) = let more = all-failed n es fs q (omega (arith, many)) rest in rw row.key (grind (arith, nat_tests, row.slot, more))
 
   pub still-named : (n : ℕ) (first rows : List ((ℕ × ℕ) × ArcSerSlot E g)) (i : Identity) (q : ℕ × ℕ) → FailedTo v n first rows → ((s : ArcSerSlot E g) → lookup (is_same q) first ≡ Some s → IsNamed i s)
       → (s : ArcSerSlot E g) → lookup (is_same q) rows ≡ Some s → IsNamed i s

@@ -12,10 +12,7 @@ use Rattle.pagable_walk.specs.{Slots.{with_written, written_of}, Tasks.{IsPlain,
 module _ {N E : Type 0} (v : Values N) (s : PagerState N E) (r : ArcRef) (pin : HandleNumber) where
   shared-some : (x : N) → ValueCall s pin (Ok (Some x)) → IsPinned v s r pin → (s.values r.node.0 ≡ Some x) × (v.node_type x ≡ type_of r.kind.0)
   shared-some x call p =
-      let row : HandleRow = call.found.0 in
-      let same : row ≡ p.pins.row = same_some _ _ (sym call.found.1 ∙ p.pins.live) in
-      let at : row.node.0 ≡ r.node.0 = ap (λ (h : HandleRow). h.node.0) same ∙ ap (λ (q : NodeNumber). q.0) p.pins.at in
-      let held = subst (λ q. s.values q ≡ Some x) at call.found.2.1 in
+      let held : s.values r.node.0 ≡ Some x = grind (arith, nat_tests, common_steps) in
       (held, p.kind.typed (v.node_type x) (p.whole.typed r.node.0 x held))
 
   module _ {X : Type 0} (see : X → N) where

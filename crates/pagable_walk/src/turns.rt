@@ -106,30 +106,27 @@ where
     ensures acts { (n : ℕ) (shelf : Shelf) → Acts A.told A.acting access.old access.new (λ a. TurnsTo (values_at E.Node.NodeSet E.Env E.Hash.KeyHash a.environment) a.me n shelf (Task.Pin reference place) (todos path.old.items) shelf result (plan result.turn path.new.items)) }
 {
     let identity = named(reference);
-    let taken = match access.take_reference(reference) {
-        Ok(taken) => taken,
-        Err(e) => {
-            return Moved {
-                turn: Turn::Goes(refuse(path, &e, Some(reference.handle))),
-                took: Took::Pin(identity, Err(e)),
+    match access.take_reference(reference) {
+        Ok(taken) => match taken {
+            Taken::Held(through, pin) => Moved {
+                took: Took::Pin(identity, Ok(PinStep::Held(pin))),
+                turn: Turn::Goes(Task::Write(reference, place, through, pin)),
                 counted: true,
-            };
-        }
-    };
-    match taken {
-        Taken::Held(through, pin) => Moved {
-            took: Took::Pin(identity, Ok(PinStep::Held(pin))),
-            turn: Turn::Goes(Task::Write(reference, place, through, pin)),
+            },
+            Taken::Begun(through, load, key) => {
+                let reading = Reading::new(alloc, load, key, reference.kind.0 / 3, true);
+                Moved {
+                    took: Took::Pin(identity, Ok(PinStep::LoadBegun(load))),
+                    turn: Turn::Goes(Task::Load(reference, place, through, reading)),
+                    counted: true,
+                }
+            }
+        },
+        Err(e) => Moved {
+            turn: Turn::Goes(refuse(path, &e, Some(reference.handle))),
+            took: Took::Pin(identity, Err(e)),
             counted: true,
         },
-        Taken::Begun(through, load, key) => {
-            let reading = Reading::new(alloc, load, key, reference.kind.0 / 3, true);
-            Moved {
-                took: Took::Pin(identity, Ok(PinStep::LoadBegun(load))),
-                turn: Turn::Goes(Task::Load(reference, place, through, reading)),
-                counted: true,
-            }
-        }
     }
 }
 
