@@ -1,7 +1,7 @@
 -- The number that falls with each step of a walk.
 use Rattle.{std.proofs.{Common.{ℕ, ◌≡◌, ◌≤◌, ◌<◌, ◌+◌, ◌*◌, ◌^◌, List, ◌∷◌, length, arith}, Math.Nat.mul-le-mul_right}, pagable_model.specs.declared.numbers.ArcRef.ArcRef}
-use Rattle.{pagable_world.specs.World.{Todo, Written, to_start}, pagable_walk.specs.{Due.{IfGoes, Leads, LeadsOn, due, far}, Tasks.{todo_of, waits_as}, declared.{results.Trees.Ghosts, tasks.{Node.Node, Task.Task, Turn.Turn}}}}
-use Rattle.{std.{specs.{Prelude.{Option}}, proofs.lemmas.Bool.Decides.nat_tests}, pagable_walk.{proofs.Stacks.todos-length}}
+use Rattle.{pagable_world.specs.World.{Todo, to_start}, pagable_walk.specs.{Due.{IfGoes, LeadsOn, due, far}, Tasks.{todo_of}, declared.{results.Trees.Ghosts, tasks.{Task.Task, Turn.Turn}}}}
+use Rattle.{std.{proofs.lemmas.Bool.Decides.nat_tests}, pagable_walk.{proofs.Stacks.todos-length}}
 
 falls-by : (l l' d d' b : ℕ) → l' + 1 ≤ l → d' < b → l' * b + d' < l * b + d
 falls-by l l' d d' b less low = let a : (l' + 1) * b ≤ l * b = mul-le-mul_right b less in omega (arith, a)

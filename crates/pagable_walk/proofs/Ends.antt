@@ -1,6 +1,6 @@
 -- Waits come to an end after each change of a table.
-use Rattle.std.proofs.{Common.{arith, ℕ, zero, suc, ◌<◌, ◌≡◌, Bool, true, false, if◌then◌else◌, Option, Some, None, ◌⊎◌, inl, inr, refl, sym, ap, ◌∙◌, subst, nat_eq}, lemmas.Option.none-some}
-use Rattle.pagable_world.specs.{Workers.{is_open_outcome, with_outcome, IsOpenSlot, ComesToEnd, works, may-go-on, waits-on, with_slot, with_wait}, Plain.{Identity, SameAt, if_there}, World.Outcome}
+use Rattle.std.proofs.{Common.{arith, ℕ, zero, suc, ◌<◌, ◌≡◌, Bool, false, if◌then◌else◌, Option, Some, None, ◌⊎◌, inl, inr, refl, sym, ap, ◌∙◌, subst, nat_eq}, lemmas.Option.none-some}
+use Rattle.pagable_world.specs.{Workers.{is_open_outcome, with_outcome, IsOpenSlot, ComesToEnd, works, may-go-on, waits-on, with_slot, with_wait}, Plain.{Identity, SameAt}, World.Outcome}
 use Rattle.{std.proofs.lemmas.{Bool.Decides.nat_tests, Grind.{common_steps, merely}}, pagable_world.specs.World.{Slot, Shelf, SameShelf, is_identity}, pagable_walk.specs.Slots.Changes}
 use Rattle.pagable_walk.{proofs.{Held.{same-as, same-identity}, Waits.{some-same, open-is, closed}}, specs.Slots.{open_worker, WaitsFor, Ends, ends-at, EachEnds, claimed_by}}
 use mathlib.Core.{HLevel.Σ_prop_path, Logic.{∥∥₁_map, ∥∥₁_elim, ∥∥₁_prop}}

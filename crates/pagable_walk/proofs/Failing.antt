@@ -1,7 +1,7 @@
 -- What a worker's failure makes of its claims, one row after another.
-use Rattle.std.proofs.Common.{ℕ, ◌≡◌, ◌≤◌, zero, suc, Bool, true, false, cond, if◌then◌else◌, List, [], ◌∷◌, length, Option, Some, None, refl, sym, ap, ◌∙◌, subst, arith, slice_get}
+use Rattle.std.proofs.Common.{ℕ, ◌≡◌, ◌≤◌, zero, suc, Bool, true, false, cond, List, [], ◌∷◌, length, Option, Some, None, refl, sym, ap, ◌∙◌, subst, arith, slice_get}
 use Rattle.{std.{proofs.lemmas.{Bool.Decides.nat_tests, Option.none-some}, specs.{Map.{lookup, values_of}, Option.option_map}}, indexmap.specs.IndexMap.set_value_at}
-use Rattle.{pagable_world.specs.{Plain.Identity, Workers.with_outcome, World.{Slot, failed}}, pagable_walk.proofs.{Ends.outcome-less, Waits.some-same}}
+use Rattle.{pagable_world.specs.{Plain.Identity, World.{Slot}}, pagable_walk.proofs.{Ends.outcome-less, Waits.some-same}}
 use Rattle.pagable_walk.specs.{Slots.{is_same, slot_of, IsNamed, FailedTo, failed_by, after_failure, open_worker}, declared.{results.Trees.Ghosts, slots.ArcSerSlot.ArcSerSlot}}
 
 module _ {E : Type 0} {g : Ghosts E} (v : ℕ) where

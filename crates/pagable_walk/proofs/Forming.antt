@@ -1,11 +1,10 @@
 -- What was written is a form of the node's value.
-use Rattle.std.proofs.{Common.{ℕ, ◌≡◌, List, true, false, Some, None, Result, Ok, Err, inr, sym, ap, subst, ◌∙◌, arith}, lemmas.{Bool.Decides.nat_tests, Grind.common_steps}}
-use Rattle.{std.specs.{Arc.arc_value, Prelude.{IfOk, IfErr}, declared.{alloc.Global.Global, sync.Arc.Arc}}, pagable_core.specs.declared.context.writing.SerializedData.SerializedData}
-use Rattle.pagable_model.specs.{Refusals.is_writing_fault, declared.{error.Error.Error, numbers.{ArcRef.ArcRef, HandleNumber.HandleNumber, NodeNumber.NodeNumber}}}
-use Rattle.pagable_world.specs.{Kinds.identity_of, Pager.{PagerState, ValueCall, RefusesWriting}, Plain.type_of, Workers.{with_changed_slot, open_node}, World.{Values, Written, Shelf, Todo}}
-use Rattle.{pagable_world.specs.{World.{SameShelf, seen_as, was_refused}, declared.{handles.{HandleRow.HandleRow, Owner.Owner}, events.Took.Took}}, pagable_laws.proofs.Trees.same_some}
-use Rattle.{pagable_loads.specs.Starting.Shares, pagable_walk.{specs.declared.{results.Trees.Ghosts, tasks.{Task.Task, Turn.Turn}}, proofs.Turning.{alike, plain-fits}}}
-use Rattle.pagable_walk.specs.{Slots.{with_written, written_of}, Tasks.{IsPlain, back_of, fails}, Turns.{Fits, TurnsTo}, Writing.{IsForm, WriteRefused, IsPinned, Forms}}
+use Rattle.{pagable_core.specs.declared.context.writing.SerializedData.SerializedData, pagable_loads.specs.Starting.Shares, pagable_model.specs.declared.{error.Error.Error, numbers.ArcRef.ArcRef}}
+use Rattle.{pagable_model.specs.declared.numbers.HandleNumber.HandleNumber, pagable_walk.{proofs.Turning.{alike, plain-fits}, specs.{Slots.{with_written, written_of}, Tasks.{IsPlain, back_of}}}}
+use Rattle.pagable_walk.specs.{Tasks.fails, Turns.{Fits, TurnsTo}, Writing.{Forms, IsForm, IsPinned, WriteRefused}, declared.{results.Trees.Ghosts, tasks.{Task.Task, Turn.Turn}}}
+use Rattle.pagable_world.specs.{Kinds.identity_of, Pager.{PagerState, ValueCall}, Plain.type_of, Workers.{open_node, with_changed_slot}, World.{SameShelf, Shelf, Todo, Values, Written, seen_as}}
+use Rattle.{pagable_world.specs.{World.was_refused, declared.{events.Took.Took, handles.Owner.Owner}}, std.proofs.Common.{Err, List, None, Ok, Result, Some, arith, true, ℕ, ◌∙◌, ◌≡◌}}
+use Rattle.std.{proofs.lemmas.{Bool.Decides.nat_tests, Grind.common_steps}, specs.{Arc.arc_value, Prelude.{IfErr, IfOk}, declared.{alloc.Global.Global, sync.Arc.Arc}}}
 
 -- ---- what a handle pins
 

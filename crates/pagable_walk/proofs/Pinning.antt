@@ -5,8 +5,8 @@ use Rattle.pagable_world.specs.{Plain.{ArcRef, HandleNumber, LoadNumber, NodeNum
 use Rattle.pagable_world.specs.World.{Core, Cell, Shelf, SameShelf, Todo, to_pin, to_load, to_write, Frame, OpenLoad, Reading, Root, of_cell, of_key, Values, was_refused, one_more}
 use Rattle.pagable_world.specs.{Calls.{with_handle, with_mode, moved, is_named_by}, Access.{Called, ReadingStep}, Cascade.FallsAnyhow, LoadCalls.{with_pin, without_load}}
 use Rattle.pagable_world.specs.{LoadCalls.is_owned_in, Loads.{EndsPinned, gone_on}, Pager.{PagerState, HandlesAreWhole, Moves, TodoBrings, TookWrites, WellFormed}, Workers.PinsAtOnce}
-use Rattle.pagable_world.specs.{Workers.{RowIs, answer_after, fresh, Does}, declared.{events.{LoadAnswer.LoadAnswer, Took.Took, PinStep.PinStep}, handles.HandleRow.HandleRow}}
-use Rattle.{pagable_world.specs.declared.{handles.Owner.Owner, answers.Pinning.Pinning, rows.Mode.Mode}, pagable_loads.specs.declared.{reading.Reading.Reading as Own, working.Taken.Taken}}
+use Rattle.pagable_world.specs.{Workers.{answer_after, fresh, Does}, declared.{events.{LoadAnswer.LoadAnswer, Took.Took, PinStep.PinStep}, handles.HandleRow.HandleRow}}
+use Rattle.{pagable_world.specs.declared.{handles.Owner.Owner, rows.Mode.Mode}, pagable_loads.specs.declared.{reading.Reading.Reading as Own, working.Taken.Taken}}
 use Rattle.pagable_loads.{proofs.{Stepped.{acts_map, none_comes}, Driven.goes_open}, specs.{Frames.{IsLoadOf, frames_of, reading_of}, Stepping.{IsSameLoad, Steps}, Working.{TakesReference, BeginsAt}}}
 use Rattle.pagable_laws.{specs.{KeyRuns.StandsAt, TreeSteps.Change}, proofs.{Outlasting.{AreLow, low-whole, low-changed, low-handle, new-handle, Stands}, Goes.Goes, Naming.clone-stands}}
 use Rattle.pagable_laws.proofs.{Outlasting.{stands-alike, stands-fell, clone-call, not-loose, owned-none}, Trees.same_some, ReadingSteps.walk-goes}

@@ -2,7 +2,7 @@
 use Rattle.std.proofs.{Common.{ℕ, ◌≡◌, ◌≤◌, ◌<◌, ◌+◌, List, [], ◌∷◌, ◌++◌, length, take, map, reverse, get_or, refl, sym, ap, ◌∙◌, arith, Some, slice_get}, lemmas.Bool.Decides.nat_tests}
 use Rattle.std.proofs.lemmas.{Grind.common_steps, List.{at_drop_more, at_drop_all, take_more, length-append, length-map, length-reverse, map-append}, Option.{get_or_from_slice_get, slice_get_within}}
 use Rattle.{std.specs.Prelude.{None, max}, pagable_model.specs.declared.numbers.{ArcRef.ArcRef, HandleNumber.HandleNumber}, pagable_world.specs.{Kinds.identity_of, Plain.above}}
-use Rattle.{pagable_world.specs.{Workers.{place_below, next_start, settle, give}, World.{Todo, Written, to_start}}, pagable_walk.specs.{Tasks.back_of, Slots.ids_of}}
+use Rattle.{pagable_world.specs.{Workers.{place_below, settle, give}, World.{Todo, Written, to_start}}, pagable_walk.specs.{Tasks.back_of, Slots.ids_of}}
 use Rattle.pagable_walk.specs.{Tasks.{place_of, raised, waiting_todo, waits_as, todos}, declared.{results.{SlotResult.SlotResult, Trees.Ghosts}, tasks.{Node.Node, Waiting.Waiting}}}
 use Rattle.{std.{specs.Prelude.Option, proofs.lemmas.{List.reverse-append, Option.none-some}}, pagable_walk.proofs.{Waits.some-same, Ways.item-way}}
 
