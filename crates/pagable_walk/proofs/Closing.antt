@@ -1,11 +1,11 @@
 -- A turn at what was written is the worker's.
 use Rattle.std.proofs.{Common.{ℕ, ◌≡◌, true, List, [], ◌∷◌, Some, None, Result, Ok, Err, sym, subst, arith}, lemmas.{Bool.Decides.nat_tests, Grind.common_steps}}
-use Rattle.{std.specs.{Arc.arc_value, Prelude.Option}, pagable_model.specs.{Merkle.blob_of, declared.error.Error.Error}, pagable_loads.proofs.Stepped.{none_comes, acts_map, acts_all, tells_all}}
+use Rattle.{std.specs.{Arc.arc_value, Prelude.Option}, pagable_model.specs.{Merkle.blob_of, declared.error.Error.Error}, pagable_loads.proofs.Stepped.{none_comes, acts_map, acts_all}}
 use Rattle.pagable_world.specs.{World.{Shelf, SameShelf, Todo, Values, Written, to_publish, to_release, was_refused, answer_of_fault, published}, Access.Called, Calls.{ScheduleCall, SetKeyCall}}
-use Rattle.pagable_world.specs.{Cascade.FallsAnyhow, Kinds.{identity_of, owner_worker}, Pager.{PagerState, WellFormed}, Plain.{HandleNumber, Identity}, Workers.{is_workers_at}}
+use Rattle.pagable_world.specs.{Cascade.FallsAnyhow, Kinds.{identity_of}, Pager.{PagerState}, Plain.{HandleNumber, Identity}, Workers.{is_workers_at}}
 use Rattle.pagable_world.specs.{Workers.{with_changed_slot, with_failed, with_outcome}, declared.{handles.Owner.Owner, events.{WorkerAnswer.WorkerAnswer, Took.Took}}}
 use Rattle.pagable_walk.specs.{Writing.{Stores, IsStored, named_by, GoesBack}, Slots.{keys_of, written_of}, Tasks.{Gives, IsPlain, IsWay, back_of, fails, fault_of}}
-use Rattle.pagable_walk.specs.{Tasks.{todos, waiting_todo, waits_as}, Turns.{TurnsTo, Turned, plan}, declared.{results.Trees.Ghosts, table.PageOutError.PageOutError, tasks.{Done.Done, Node.Node}}}
+use Rattle.pagable_walk.specs.{Tasks.{todos, waiting_todo, waits_as}, Turns.{TurnsTo, plan}, declared.{results.Trees.Ghosts, table.PageOutError.PageOutError, tasks.{Done.Done, Node.Node}}}
 use Rattle.pagable_walk.{specs.declared.tasks.{Task.Task, Turn.Turn, Waiting.Waiting}, proofs.{Pinning.same-shelf, Turning.{alike, plain-fits}}}
 
 -- ---- what waits and has all its results
@@ -68,8 +68,6 @@ pub ruleset finishing = (nat_tests, common_steps, stored-way)
 
 pub ruleset backs = (acts_map, acts_all, back-none, back-some)
 
-pub ruleset publishing = (nat_tests, tells_all, publishes)
+pub ruleset releasing = (nat_tests, acts_map, set-fails, release-gives, release-ends)
 
-pub ruleset releasing = (nat_tests, acts_map, release-gives, release-ends)
-
-pub ruleset failing = (nat_tests, acts_map, ends-failed)
+pub ruleset turning = (nat_tests, acts_all, publishes)

@@ -1,7 +1,7 @@
 -- The number that falls with each step of a walk.
 use Rattle.{std.proofs.{Common.{ℕ, ◌≡◌, ◌≤◌, ◌<◌, ◌+◌, ◌*◌, ◌^◌, List, ◌∷◌, length, arith}, Math.Nat.mul-le-mul_right}, pagable_model.specs.declared.numbers.ArcRef.ArcRef}
-use Rattle.{pagable_world.specs.World.{Todo, Written, to_start}, pagable_walk.specs.{Due.{IfGoes, Leads, LeadsOn, due, far}, Tasks.{todo_of, waits_as}, declared.{results.Trees.Ghosts, tasks.{Node.Node, Task.Task, Turn.Turn}}}}
-use Rattle.{std.{specs.{Prelude.{Option}}, proofs.lemmas.Bool.Decides.nat_tests}, pagable_walk.{proofs.Stacks.todos-length}}
+use Rattle.{pagable_world.specs.World.{Todo, to_start}, pagable_walk.specs.{Due.{IfGoes, LeadsOn, due, far}, Tasks.{todo_of}, declared.{results.Trees.Ghosts, tasks.{Task.Task, Turn.Turn}}}}
+use Rattle.{std.{proofs.lemmas.Bool.Decides.nat_tests}, pagable_walk.{proofs.Stacks.todos-length}}
 
 falls-by : (l l' d d' b : ℕ) → l' + 1 ≤ l → d' < b → l' * b + d' < l * b + d
 falls-by l l' d d' b less low = let a : (l' + 1) * b ≤ l * b = mul-le-mul_right b less in omega (arith, a)
@@ -11,12 +11,8 @@ module _ {X : Type 0} {g : Ghosts X} where
       → IfGoes turn (l' * far + due after < l * far + due (to_start r place ∷ below))
   start-falls turn l l' r place below after less few leads = grind (arith, nat_tests, falls-by)
 
-  other-leads : (task : Task X g) → ((r : ArcRef) (place : ℕ) → task ≡ Task.Start r place → ⊥) → (turn : Turn X g) (below after : List Todo) → LeadsOn (todo_of task ∷ below) turn after
-      → IfGoes turn (due after < due (todo_of task ∷ below))
-  other-leads task other turn below after leads = grind (arith, nat_tests)
-
   pub other-falls : (task : Task X g) → ((r : ArcRef) (place : ℕ) → task ≡ Task.Start r place → ⊥) → (turn : Turn X g) (l : ℕ) (below after : List Todo) → LeadsOn (todo_of task ∷ below) turn after
       → IfGoes turn (l * far + due after < l * far + due (todo_of task ∷ below))
-  other-falls task other turn l below after leads = grind (arith, nat_tests, other-leads)
+  other-falls task other turn l below after leads = grind (arith, nat_tests)
 
 pub ruleset dues = (nat_tests, start-falls, other-falls, todos-length)

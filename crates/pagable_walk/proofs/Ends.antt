@@ -1,8 +1,8 @@
 -- Waits come to an end after each change of a table.
-use Rattle.std.proofs.{Common.{arith, ℕ, zero, suc, ◌<◌, ◌≡◌, Bool, true, false, if◌then◌else◌, Option, Some, None, ◌⊎◌, inl, inr, refl, sym, ap, ◌∙◌, subst, nat_eq}, lemmas.Option.none-some}
-use Rattle.pagable_world.specs.{Workers.{is_open_outcome, with_outcome, IsOpenSlot, ComesToEnd, works, may-go-on, waits-on, with_slot, with_wait}, Plain.{Identity, SameAt, if_there}, World.Outcome}
+use Rattle.std.proofs.{Common.{arith, ℕ, zero, suc, ◌<◌, ◌≡◌, Bool, false, if◌then◌else◌, Option, Some, None, ◌⊎◌, inl, inr, refl, sym, ap, ◌∙◌, subst, nat_eq}, lemmas.Option.none-some}
+use Rattle.pagable_world.specs.{Workers.{is_open_outcome, with_outcome, IsOpenSlot, ComesToEnd, works, may-go-on, waits-on, with_slot, with_wait}, Plain.{Identity, SameAt}, World.Outcome}
 use Rattle.{std.proofs.lemmas.{Bool.Decides.nat_tests, Grind.{common_steps, merely}}, pagable_world.specs.World.{Slot, Shelf, SameShelf, is_identity}, pagable_walk.specs.Slots.Changes}
-use Rattle.pagable_walk.{proofs.{Held.{same-as, same-identity}, Waits.{some-same, open-is, closed}}, specs.Slots.{open_worker, WaitsFor, Ends, ends-at, EachEnds, claimed_by, SlotIs, SameSlots}}
+use Rattle.pagable_walk.{proofs.{Held.{same-as, same-identity}, Waits.{some-same, open-is, closed}}, specs.Slots.{open_worker, WaitsFor, Ends, ends-at, EachEnds, claimed_by}}
 use mathlib.Core.{HLevel.Σ_prop_path, Logic.{∥∥₁_map, ∥∥₁_elim, ∥∥₁_prop}}
 use native.Mathlib.Nat.{ℕ_set}
 
@@ -45,11 +45,7 @@ module _ (s s' : Shelf) (v : ℕ) (i : Identity) (same : SameShelf (with_wait s 
   end-later : {u : ℕ} → ComesToEnd s v u → Ends s' u
   end-later (works u d e) = ends-at u (λ w n. absurd (none-some (was-for u w d n).i (sym e ∙ (was-for u w d n).waits)))
   end-later (may-go-on u j d e o) = ends-at u (λ w n. let f = was-for u w d n in absurd (closed (s.slots j) o w (ap (λ k. open_worker (s.slots k)) (some-same (sym e ∙ f.waits)) ∙ f.still)))
-  end-later (waits-on u j slot d e o c) =
-      ends-at u (λ w n. let f = was-for u w d n in
-      let at : open_worker (s.slots j) ≡ Some w = ap (λ k. open_worker (s.slots k)) (some-same (sym e ∙ f.waits)) ∙ f.still in
-      let is : open_worker (s.slots j) ≡ Some slot.worker = ap open_worker o.claimed ∙ open-is slot o.no_result_yet in
-      subst (Ends s') (some-same (sym is ∙ at)) (end-later c))
+  end-later (waits-on u j slot d e o c) = ends-at u (λ w n. grind (arith, nat_tests, was-for u w d n, some-same, open-is, end-later c))
 
   module _ (slot : Slot) (o : IsOpenSlot s i slot) (c : ComesToEnd s v slot.worker) where
     pub waiting : EachEnds s → EachEnds s'
@@ -57,11 +53,6 @@ module _ (s s' : Shelf) (v : ℕ) (i : Identity) (same : SameShelf (with_wait s 
       where
         ask : (u w : ℕ) → WaitsFor s' u w → (b : Bool) → nat_eq u v ≡ b → WaitsFor s u w ⊎ Ends s' w
         ask u w e b d = grind (arith, nat_tests, was-for, some-same, open-is, end-later)
-
--- a claim that is made or refused
-pub taken-or-not : (s s' : Shelf) (v : ℕ) (i : Identity) → SameAt s.waits s'.waits → s.waits v ≡ None → SlotIs s.slots i (Some (claimed_by v)) s'.slots ⊎ SameSlots s.slots s'.slots → EachEnds s → EachEnds s'
-taken-or-not s s' v i waits works-on (inl is) = taken s s' v i (record { slots = is; waits = waits }) works-on
-taken-or-not s s' v i waits works-on (inr same) = less-open s s' (λ j w e. sym (ap open_worker (same j)) ∙ e) waits
 
 -- no worker waits
 pub no-waits : (s : Shelf) → ((v : ℕ) → s.waits v ≡ None) → EachEnds s

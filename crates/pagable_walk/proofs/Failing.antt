@@ -1,7 +1,7 @@
 -- What a worker's failure makes of its claims, one row after another.
-use Rattle.std.proofs.Common.{ℕ, ◌≡◌, ◌≤◌, zero, suc, Bool, true, false, cond, if◌then◌else◌, List, [], ◌∷◌, length, Option, Some, None, refl, sym, ap, ◌∙◌, subst, arith, slice_get}
+use Rattle.std.proofs.Common.{ℕ, ◌≡◌, ◌≤◌, zero, suc, Bool, true, false, cond, List, [], ◌∷◌, length, Option, Some, None, refl, sym, ap, ◌∙◌, subst, arith, slice_get}
 use Rattle.{std.{proofs.lemmas.{Bool.Decides.nat_tests, Option.none-some}, specs.{Map.{lookup, values_of}, Option.option_map}}, indexmap.specs.IndexMap.set_value_at}
-use Rattle.{pagable_world.specs.{Plain.Identity, Workers.with_outcome, World.{Slot, failed}}, pagable_walk.proofs.{Ends.outcome-less, Waits.some-same}}
+use Rattle.{pagable_world.specs.{Plain.Identity, World.{Slot}}, pagable_walk.proofs.{Ends.outcome-less, Waits.some-same}}
 use Rattle.pagable_walk.specs.{Slots.{is_same, slot_of, IsNamed, FailedTo, failed_by, after_failure, open_worker}, declared.{results.Trees.Ghosts, slots.ArcSerSlot.ArcSerSlot}}
 
 module _ {E : Type 0} {g : Ghosts E} (v : ℕ) where
@@ -27,12 +27,7 @@ module _ {E : Type 0} {g : Ghosts E} (v : ℕ) where
   all-failed zero (e ∷ es) rows q many h = absurd (omega (arith, many))
   all-failed (suc n) [] rows q many h = rw h refl
   all-failed (suc n) (e ∷ es) [] q many h = absurd h
-  all-failed (suc n) (e ∷ es) (f ∷ fs) q many (row, rest) = rw row.key (by (all-failed n es fs q (omega (arith, many)) rest) (is_same q e.0))
-    where
-      by : option_map slot_of (lookup (is_same q) fs) ≡ after_failure v (option_map slot_of (lookup (is_same q) es))
-          → (b : Bool) → option_map slot_of (cond b (Some f.1) (lookup (is_same q) fs)) ≡ after_failure v (option_map slot_of (cond b (Some e.1) (lookup (is_same q) es)))
-      by more true = ap Some row.slot
-      by more false = more
+  all-failed (suc n) (e ∷ es) (f ∷ fs) q many (row, rest) = let more = all-failed n es fs q (omega (arith, many)) rest in rw row.key (grind (arith, nat_tests, row.slot, more))
 
   pub still-named : (n : ℕ) (first rows : List ((ℕ × ℕ) × ArcSerSlot E g)) (i : Identity) (q : ℕ × ℕ) → FailedTo v n first rows → ((s : ArcSerSlot E g) → lookup (is_same q) first ≡ Some s → IsNamed i s)
       → (s : ArcSerSlot E g) → lookup (is_same q) rows ≡ Some s → IsNamed i s

@@ -1,33 +1,33 @@
 -- What was written is a form of the node's value.
-use Rattle.std.proofs.{Common.{ℕ, ◌≡◌, List, true, false, Some, None, Result, Ok, Err, inr, sym, ap, subst, ◌∙◌, arith}, lemmas.{Bool.Decides.nat_tests, Grind.common_steps}}
-use Rattle.{std.specs.{Arc.arc_value, Prelude.{IfOk, IfErr}, declared.{alloc.Global.Global, sync.Arc.Arc}}, pagable_core.specs.declared.context.writing.SerializedData.SerializedData}
-use Rattle.pagable_model.specs.{Refusals.is_writing_fault, declared.{error.Error.Error, numbers.{ArcRef.ArcRef, HandleNumber.HandleNumber, NodeNumber.NodeNumber}}}
-use Rattle.pagable_world.specs.{Kinds.identity_of, Pager.{PagerState, ValueCall, RefusesWriting}, Plain.type_of, Workers.{with_changed_slot, open_node}, World.{Values, Written, Shelf, Todo}}
-use Rattle.{pagable_world.specs.{World.{SameShelf, seen_as, was_refused}, declared.{handles.{HandleRow.HandleRow, Owner.Owner}, events.Took.Took}}, pagable_laws.proofs.Trees.same_some}
-use Rattle.{pagable_loads.specs.Starting.Shares, pagable_walk.{specs.declared.{results.Trees.Ghosts, tasks.{Task.Task, Turn.Turn}}, proofs.Turning.{alike, plain-fits}}}
-use Rattle.pagable_walk.specs.{Slots.{with_written, written_of}, Tasks.{IsPlain, back_of, fails}, Turns.{Fits, TurnsTo}, Writing.{IsForm, WriteRefused, IsPinned, Finds, Forms}}
+use Rattle.{pagable_core.specs.declared.context.writing.SerializedData.SerializedData, pagable_loads.specs.Starting.Shares, pagable_model.specs.declared.{error.Error.Error, numbers.ArcRef.ArcRef}}
+use Rattle.{pagable_model.specs.declared.numbers.HandleNumber.HandleNumber, pagable_walk.{proofs.Turning.{alike, plain-fits}, specs.{Slots.{with_written, written_of}, Tasks.{IsPlain, back_of}}}}
+use Rattle.pagable_walk.specs.{Tasks.fails, Turns.{Fits, TurnsTo}, Writing.{Forms, IsForm, IsPinned, WriteRefused}, declared.{results.Trees.Ghosts, tasks.{Task.Task, Turn.Turn}}}
+use Rattle.pagable_world.specs.{Kinds.identity_of, Pager.{PagerState, ValueCall}, Plain.type_of, Workers.{open_node, with_changed_slot}, World.{SameShelf, Shelf, Todo, Values, Written, seen_as}}
+use Rattle.{pagable_world.specs.{World.was_refused, declared.{events.Took.Took, handles.Owner.Owner}}, std.proofs.Common.{Err, List, None, Ok, Result, Some, arith, true, ℕ, ◌∙◌, ◌≡◌}}
+use Rattle.std.{proofs.lemmas.{Bool.Decides.nat_tests, Grind.common_steps}, specs.{Arc.arc_value, Prelude.{IfErr, IfOk}, declared.{alloc.Global.Global, sync.Arc.Arc}}}
 
 -- ---- what a handle pins
 
 module _ {N E : Type 0} (v : Values N) (s : PagerState N E) (r : ArcRef) (pin : HandleNumber) where
   shared-some : (x : N) → ValueCall s pin (Ok (Some x)) → IsPinned v s r pin → (s.values r.node.0 ≡ Some x) × (v.node_type x ≡ type_of r.kind.0)
   shared-some x call p =
-      let row : HandleRow = call.found.0 in
-      let same : row ≡ p.pins.row = same_some _ _ (sym call.found.1 ∙ p.pins.live) in
-      let at : row.node.0 ≡ r.node.0 = ap (λ (h : HandleRow). h.node.0) same ∙ ap (λ (q : NodeNumber). q.0) p.pins.at in
-      let held = subst (λ q. s.values q ≡ Some x) at call.found.2.1 in
+      let held : s.values r.node.0 ≡ Some x = grind (arith, nat_tests, common_steps) in
       (held, p.kind.typed (v.node_type x) (p.whole.typed r.node.0 x held))
 
   module _ {X : Type 0} (see : X → N) where
-    pub finds-other : (y : X) (e : Error) (t : ℕ) → t ≡ v.node_type (see y) → (t ≡ type_of r.kind.0 → ⊥) → Shares see s pin (Ok (Some y)) → Finds v s r pin (Err e)
-    finds-other y e t is differs shared = record { found = λ p. tt; refused = λ p. absurd (differs (is ∙ (shared-some (see y) shared.given p).1)) }
+    pub forms-other : (y : X) (e : Error) (t : ℕ) → t ≡ v.node_type (see y) → (t ≡ type_of r.kind.0 → ⊥) → Shares see s pin (Ok (Some y)) → Forms v s r pin (Err e)
+    forms-other y e t is differs shared = record { written = λ p. tt; refused = λ p. absurd (differs (is ∙ (shared-some (see y) shared.given p).1)) }
 
-  pub unfound-refuses : (e : Error) → Finds v s r pin (Err e) → Forms v s r pin (Err e)
-  unfound-refuses e finds = grind (arith, nat_tests, common_steps)
+    pub forms-none : (e : Error) → Shares see s pin (Ok None) → Forms v s r pin (Err e)
+    forms-none e shared = grind (arith, nat_tests, common_steps)
+
+    pub forms-unshared : (e : Error) → Shares see s pin (Err e) → Forms v s r pin (Err e)
+    forms-unshared e shared = grind (arith, nat_tests, common_steps)
 
 module _ {N E : Type 0} (v : Values N) (s : PagerState N E) (r : ArcRef) (pin : HandleNumber) {W : Type 0} (see : W → Written) where
-  pub forms-from : (x : N) (result : Result W Error) → IfOk result (λ d. IsForm v x (see d)) → IfErr result (λ e. WriteRefused v x e) → Finds v s r pin (Ok x) → Forms v s r pin (seen_as see result)
-  forms-from x result is why finds = grind (arith, nat_tests, common_steps)
+  pub forms-from : {X : Type 0} (at : X → N) (y : X) (result : Result W Error) → IfOk result (λ d. IsForm v (at y) (see d)) → IfErr result (λ e. WriteRefused v (at y) e)
+      → Shares at s pin (Ok (Some y)) → Forms v s r pin (seen_as see result)
+  forms-from at y result is why shared = grind (arith, nat_tests, common_steps, shared-some v s r pin (at y) shared.given)
 
   pub kept-forms : (w : Written) (result : Result W Error) → IfOk result (λ p. see p ≡ w) → IfErr result (λ e. e ≡ Error.OutOfMemory) → Forms v s r pin (Ok w) → Forms v s r pin (seen_as see result)
   kept-forms w result same only forms = grind (arith, nat_tests, common_steps)

@@ -1,5 +1,5 @@
 -- The slots of a table after one of them came or changed.
-use Rattle.std.proofs.{Common.{ℕ, ◌≡◌, Bool, true, cond, Option, Some, sym, ap, ◌∙◌, subst, nat_eq, arith, ◌&&◌, inl, inr}, lemmas.Bool.Decides.nat_tests}
+use Rattle.std.proofs.{Common.{ℕ, ◌≡◌, true, cond, Option, Some, sym, ap, ◌∙◌, subst, nat_eq, arith, ◌&&◌, inl, inr}, lemmas.Bool.Decides.nat_tests}
 use Rattle.{std.{proofs.lemmas.Grind.common_steps, specs.Prelude.{◌⊎◌, Result, Ok, Err, OnOk, OnErr}}, indexmap.specs.IndexMap.{IndexMap, get}}
 use Rattle.pagable_world.specs.{Plain.{Identity, SameAt, updated}, World.{Slot, is_identity}}
 use Rattle.pagable_walk.{specs.{Slots.{is_same, slot_of, IsNamed, slots_in, AreNamed, SlotIs, Changes}, declared.{results.Trees.Ghosts, slots.ArcSerSlot.ArcSerSlot}}, proofs.Waits.some-same}

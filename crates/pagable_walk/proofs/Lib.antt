@@ -4,7 +4,6 @@ pub mod Ends
 pub mod Failing
 pub mod Stacks
 pub mod Ways
-pub mod Below
 pub mod Turning
 pub mod Forming
 pub mod Pinning

@@ -1,16 +1,14 @@
 -- Page-outs of an item and of the entries of the list, from the runs of their workers.
-use Rattle.std.proofs.{Common.{ℕ, ◌≡◌, ◌≤◌, ◌<◌, ◌+◌, List, ◌∷◌, length, Option, Some, Result, Ok, Err, inl, refl, ap, subst, sym, ◌∙◌, arith}, lemmas.List.Edits.length-remove}
-use Rattle.{std.{proofs.lemmas.{Option.slice_get_within, Bool.Decides.nat_tests, Grind.common_steps}, specs.List.remove}, pagable_model.specs.declared.{error.Error.Error, numbers.ArcRef.ArcRef}}
-use Rattle.{pagable_model.specs.declared.{numbers.{HandleNumber.HandleNumber, WorkerNumber.WorkerNumber}, data_key.OptionalDataKey.OptionalDataKey}, pagable_world.specs.Access.{AccessState, Called}}
-use Rattle.pagable_world.specs.Access.{WorkerStarts, WorkerRun, worker-ends, worker-goes-on, no-worker, item-is-walked, EntryHas, entry-is-refused, no-entry-worker, entry-is-walked, ListRun}
-use Rattle.pagable_world.specs.{Access.{no-more, skips, pages, fails}, Calls.{ReleaseCall, TakeCall}, Events.{entry_task, no_shelf}, Kinds.{identity_of, owner_worker}, Pager.{PagerState, WellFormed}}
-use Rattle.pagable_world.specs.{Workers.first_todo, World.{Shelf, SameShelf, Todo, of_entry, of_item, Values, Written, Seen, Alike}, declared.events.{Took.Took, WorkerAnswer.WorkerAnswer}}
-use Rattle.{pagable_world.specs.declared.handles.Owner.Owner, pagable_laws.proofs.SparingSteps.{walk-spares-list, release-spares-list}}
-use Rattle.pagable_laws.proofs.SparingSteps.{none-shorter, Spares, spares-then}
-use Rattle.pagable_loads.proofs.Stepped.{acts_all, acts_from, acts_map, acts_same, acts_then, tells_map}
-use Rattle.{pagable_loads.specs.{Telling.{Acting, as_caller}, Working.{StartsEntry, RefusesEntry}}, pagable_walk.proofs.{Pinning.same-shelf, Turning.{alike, plain-fits}}}
-use Rattle.{pagable_laws.proofs.Answered.{item-answered, entry-answered}, pagable_walk.specs.{Over.{PagesItem, PagesList, PagesEntry, Skipped, SkipsEntry, PagesAt, HasPaged}, Slots.no_claims}}
-use Rattle.pagable_walk.specs.{Tasks.{IsPlain, todo_of}, Turns.{Fits, plain, RunsTo, Walked}, declared.{results.Trees.Ghosts, table.PageOutError.PageOutError, tasks.Task.Task}}
+use Rattle.pagable_laws.proofs.{Answered.{entry-answered, item-answered}, SparingSteps.{Spares, none-shorter, release-spares-list, spares-then, walk-spares-list}}
+use Rattle.pagable_loads.{proofs.Stepped.{acts_all, acts_from, acts_map, acts_same, acts_then, tells_map}, specs.{Telling.{Acting, as_caller}, Working.{RefusesEntry, StartsEntry}}}
+use Rattle.pagable_model.specs.declared.{data_key.OptionalDataKey.OptionalDataKey, error.Error.Error, numbers.{ArcRef.ArcRef, HandleNumber.HandleNumber, WorkerNumber.WorkerNumber}}
+use Rattle.pagable_walk.{proofs.{Pinning.same-shelf, Turning.{alike, plain-fits}}, specs.{Over.{HasPaged, PagesAt, PagesEntry, PagesItem, PagesList, answer_of}, Tasks.{IsPlain, todo_of}}}
+use Rattle.{pagable_walk.specs.{Turns.{Fits, RunsTo, Walked, plain}, declared.{results.Trees.Ghosts, table.PageOutError.PageOutError, tasks.Task.Task}}, pagable_world.specs.Access.AccessState}
+use Rattle.pagable_world.specs.Access.{Called, EntryHas, ListRun, WorkerRun, WorkerStarts, entry-is-refused, entry-is-walked, fails, item-is-walked, no-entry-worker, no-more, no-worker, pages}
+use Rattle.pagable_world.specs.{Access.{skips, worker-ends, worker-goes-on}, Calls.{ReleaseCall, TakeCall}, Events.{entry_task, no_shelf}, Kinds.{identity_of, owner_worker}, Pager.PagerState}
+use Rattle.pagable_world.specs.{Pager.WellFormed, Workers.first_todo, World.{Alike, SameShelf, Seen, Shelf, Todo, Values, Written, of_entry, of_item}, declared.events.Took.Took}
+use Rattle.{pagable_world.specs.declared.{events.WorkerAnswer.WorkerAnswer, handles.Owner.Owner}, std.proofs.Common.{Err, List, Ok, Option, Result, Some, ap, arith, inl, length, refl, subst, sym}}
+use Rattle.std.{proofs.{Common.{ℕ, ◌+◌, ◌<◌, ◌∙◌, ◌∷◌, ◌≡◌, ◌≤◌}, lemmas.{Bool.Decides.nat_tests, Grind.common_steps, List.Edits.length-remove}}, specs.List.remove}
 
 -- whoever acts for the caller does so again after a worker
 pub is-caller : {E : Type 0} (acting : Acting E) → acting.me ≡ Owner.Caller → as_caller acting ≡ acting
@@ -40,16 +38,14 @@ module _ {N E : Type 0} (v : Values N) where
 
   -- ---- an entry
 
-  run-whole : {B W : Type 0} {m : Seen N B W} {n : ℕ} {todo : List Todo} {s s' : AccessState N E} {steps : List (Took W)} {answer : WorkerAnswer} → WorkerRun m n todo s steps answer s' → WellFormed m.values s'.pager
-  run-whole (worker-ends todo next step answer s s' w is) = w.whole
-  run-whole (worker-goes-on todo next step steps answer s mid s' w is more) = run-whole more
-
-  -- a worker leaves the handles of the list
-  run-spares : {B W : Type 0} {m : Seen N B W} {n : ℕ} {todo : List Todo} {s s' : AccessState N E} {steps : List (Took W)} {answer : WorkerAnswer} → WorkerRun m n todo s steps answer s'
-      → Spares Owner.List s.pager.core s'.pager.core
-  run-spares {m = m} {n} (worker-ends todo next step answer s s' w is) = walk-spares-list m n (record { core = s.pager.core; shelf = s.shelf; todo = todo }) w.after s'.pager.core step _ w.does w.ends
-  run-spares {m = m} {n} (worker-goes-on todo next step steps answer s mid s' w is more) =
-      spares-then Owner.List (walk-spares-list m n (record { core = s.pager.core; shelf = s.shelf; todo = todo }) w.after mid.pager.core step _ w.does w.ends) (run-spares more)
+  -- after a worker the pager is whole, and the handles of the list are left
+  run-keeps : {B W : Type 0} {m : Seen N B W} {n : ℕ} {todo : List Todo} {s s' : AccessState N E} {steps : List (Took W)} {answer : WorkerAnswer} → WorkerRun m n todo s steps answer s'
+      → WellFormed m.values s'.pager × Spares Owner.List s.pager.core s'.pager.core
+  run-keeps {m = m} {n} (worker-ends todo next step answer s s' w is) =
+      (w.whole, walk-spares-list m n (record { core = s.pager.core; shelf = s.shelf; todo = todo }) w.after s'.pager.core step _ w.does w.ends)
+  run-keeps {m = m} {n} (worker-goes-on todo next step steps answer s mid s' w is more) =
+      let k = run-keeps more in
+      (k.0, spares-then Owner.List (walk-spares-list m n (record { core = s.pager.core; shelf = s.shelf; todo = todo }) w.after mid.pager.core step _ w.does w.ends) k.1)
 
   -- the list without one entry, and what comes then
   entries-stay : (place : ℕ) (s mid t : PagerState N E) → place < length s.core.list → mid.core.list ≡ remove s.core.list place → length mid.core.list ≤ length t.core.list → place ≤ length t.core.list
@@ -59,7 +55,7 @@ module _ {N E : Type 0} (v : Values N) where
   entry-refused place e s t r = grind (arith, nat_tests, common_steps, entry-is-refused, no-entry-worker)
 
   pub entry-walked : {X : Type 0} {g : Ghosts X} (place : ℕ) (me : Owner) (n : WorkerNumber) (r : ArcRef) (shelf : Shelf) (task : Task X g) (below : List Todo) (shelf' : Shelf) (answer : WorkerAnswer) → me ≡ owner_worker n.0
-      → IsPlain task → todo_of task ∷ below ≡ first_todo (of_entry r.handle (identity_of r)) → SameShelf no_claims shelf → (s mid t : PagerState N E) → StartsEntry v s place n r mid
+      → IsPlain task → todo_of task ∷ below ≡ first_todo (of_entry r.handle (identity_of r)) → SameShelf no_shelf shelf → (s mid t : PagerState N E) → StartsEntry v s place n r mid
       → RunsTo v me n.0 shelf task below shelf' answer mid t
       → PagesEntry v place answer s t
   entry-walked place me n r shelf task below shelf' answer mine is_plain first same s mid t starts runs = record {
@@ -68,38 +64,37 @@ module _ {N E : Type 0} (v : Values N) where
         let empty : shelf ≡ no_shelf = λ p. record { slots = λ i. same.slots i p; waits = λ q. same.waits q p } in
         let task_is : first_todo (of_entry r.handle (identity_of r)) ≡ first_todo (entry_task starts.h starts.row starts.type) = ap (λ (x : ArcRef). first_todo (of_entry x.handle (identity_of x))) starts.is in
         let walked = subst (λ todo. Walked v n.0 todo mid no_shelf answer t shelf') (first ∙ task_is) (subst (λ x. Walked v n.0 (todo_of task ∷ below) mid x answer t shelf') empty (runs.runs fits)) in
+        let keeps = run-keeps walked.run in
         record {
           run = entry-is-walked starts.h starts.row starts.type n.0 walked.steps answer mid _ starts.entry starts.kinds starts.starts walked.run;
-          whole = run-whole walked.run;
-          long = entries-stay place s mid t listed starts.starts.begins.step.list (none-shorter starts.starts.begins.whole.whole (run-whole walked.run).whole (run-spares walked.run));
+          whole = keeps.0;
+          long = entries-stay place s mid t listed starts.starts.begins.step.list (none-shorter starts.starts.begins.whole.whole keeps.0.whole keeps.1);
           unfailed = entry-answered (plain v) n.0 starts.h _ walked.run (λ i. refl);
         };
   }
 
   -- ---- a place of the list
 
-  pub took-none : (place : ℕ) (taken : Option HandleNumber) → ((h : HandleNumber) → taken ≡ Some h → ⊥) → (me : Owner) (s t : PagerState N E) → Called v (λ w'. TakeCall s.core me place taken w') s t → SkipsEntry v place s t
-  took-none place taken none me s t call = grind (arith, nat_tests, common_steps, slice_get_within)
-
-  pub took-some : {me : Owner} → me ≡ Owner.Caller → (place : ℕ) (h : HandleNumber) (told : Result (Unit {0}) Error) (s mid t : PagerState N E) → Called v (λ w'. TakeCall s.core me place (Some h) w') s mid
-      → Called v (λ w'. ReleaseCall mid.core me h told w') mid t → SkipsEntry v place s t
-  took-some mine place h told s mid t takes releases = record {
-    skips = λ k listed.
-        let e : h ≡ k = cc (takes.step.0, listed) in
-        subst (λ x. Skipped v s place x t) e (record { mid = mid; told = told; takes = rw mine at takes; releases = rw mine at releases });
-  }
-
   pub at-past : (place : ℕ) (s : PagerState N E) → length s.core.list ≤ place → PagesAt v place (Ok tt) s s
   at-past place s past = record { done = λ whole within. absurd (omega (arith, past, within)) }
 
-  pub at-skipped : (place key : ℕ) (s t : PagerState N E) → (h : HandleNumber) × EntryHas s.core place h (OptionalDataKey.Some key) → SkipsEntry v place s t → PagesAt v place (Ok tt) s t
-  at-skipped place key s t (h, has) skip =
-      let k = skip.skips h has.listed in
+  pub at-gone : (place : ℕ) (taken : Option HandleNumber) → ((h : HandleNumber) → taken ≡ Some h → ⊥) → (me : Owner) (s t : PagerState N E)
+      → Called v (λ w'. TakeCall s.core me place taken w') s t → PagesAt v place (Ok tt) s t
+  at-gone place taken none me s t call = grind (arith, nat_tests, common_steps)
+
+  -- the entry is taken and released
+  pub at-skipped : {me : Owner} → me ≡ Owner.Caller → (place key : ℕ) (k : HandleNumber) (told : Result (Unit {0}) Error) (s mid t : PagerState N E)
+      → Called v (λ w'. TakeCall s.core me place (Some k) w') s mid → Called v (λ w'. ReleaseCall mid.core me k told w') mid t
+      → (h : HandleNumber) × EntryHas s.core place h (OptionalDataKey.Some key) → PagesAt v place (Ok tt) s t
+  at-skipped mine place key k told s mid t takes releases (h, has) =
+      let e : h ≡ k = cc (takes.step.0, has.listed) in
+      let keyed = subst (λ x. EntryHas s.core place x (OptionalDataKey.Some key)) e has in
+      let out = rw mine at releases in
       record {
         done = λ whole within. record {
-          whole = k.releases.whole;
-          long = entries-stay place s k.mid t within k.takes.step.1.list (none-shorter k.takes.whole.whole k.releases.whole.whole (release-spares-list k.told k.releases.step));
-          goes = λ i next answer s' more. skips i place key h k.told answer s k.mid t s' next has k.takes k.releases more;
+          whole = out.whole;
+          long = entries-stay place s mid t within takes.step.1.list (none-shorter takes.whole.whole out.whole.whole (release-spares-list told out.step));
+          goes = λ i next answer s' more. skips i place key k told answer s mid t s' next keyed (rw mine at takes) out more;
           stops = tt;
         };
       }
@@ -112,16 +107,14 @@ module _ {N E : Type 0} (v : Values N) where
         record { whole = p.whole; long = p.long; goes = λ i next answer s' more. pages i place key h answer s t s' next has p.run more; stops = tt };
   }
 
-  pub at-failed : (place : ℕ) (e : Error) (s t : PagerState N E) → (h : HandleNumber) × EntryHas s.core place h OptionalDataKey.None → PagesEntry v place (WorkerAnswer.Failed e) s t → PagesAt v place (Err (PageOutError.Failed e)) s t
-  at-failed place e s t (h, has) pages_it = record {
+  pub at-failed : (place : ℕ) (why : PageOutError) (s t : PagerState N E) → (h : HandleNumber) × EntryHas s.core place h OptionalDataKey.None
+      → PagesEntry v place (answer_of (Err why)) s t → PagesAt v place (Err why) s t
+  at-failed place (PageOutError.Failed e) s t (h, has) pages_it = record {
     done = λ whole within.
         let p = pages_it.pages whole within in
         record { whole = p.whole; long = p.long; goes = tt; stops = λ i next. fails i place h e s t next has p.run };
   }
-
-  pub at-other : (place : ℕ) (s t : PagerState N E) → (h : HandleNumber) × EntryHas s.core place h OptionalDataKey.None
-      → PagesEntry v place WorkerAnswer.AlreadyFailed s t → PagesAt v place (Err PageOutError.AlreadyFailed) s t
-  at-other place s t (h, has) pages_it = record { done = λ whole within. let p = pages_it.pages whole within in absurd (p.unfailed refl) }
+  at-failed place PageOutError.AlreadyFailed s t (h, has) pages_it = record { done = λ whole within. let p = pages_it.pages whole within in absurd (p.unfailed refl) }
 
   -- ---- the list
 
@@ -139,6 +132,6 @@ module _ {N E : Type 0} (v : Values N) where
 
 pub ruleset items = (nat_tests, acts_all, acts_map, item-unstarted, item-unbegun)
 
-pub ruleset places = (nat_tests, tells_map, acts_same, acts_from, at-past, at-paged, at-failed, at-other)
+pub ruleset places = (nat_tests, tells_map, acts_same, acts_from, acts_map, at-past, at-gone, at-paged, at-failed)
 
 pub ruleset listed = (nat_tests, acts_map, acts_then, tells_map, acts_same, none-paged, more-paged, ends-paged, all-paged)

@@ -2,12 +2,12 @@
 use Rattle.std.proofs.{Common.{ℕ, ◌≡◌, ◌+◌, ◌==◌, Bool, true, false, List, ◌∷◌, Some, None, Ok, Err, inl, inr, refl, sym, ap, subst, ◌∙◌, arith}, lemmas.Bool.Decides.nat_tests}
 use Rattle.{std.{proofs.lemmas.Grind.common_steps, specs.Prelude.{Option, if◌then◌else◌, not, ◌&&◌}}, pagable_model.specs.declared.error.Error.Error}
 use Rattle.pagable_world.specs.{Plain.{ArcRef, HandleNumber, LoadNumber, NodeNumber, type_of, if_there}, Kinds.{identity_of, is_loose, is_pinning, owner_worker, owner_value, find_row, is_handle}}
-use Rattle.pagable_world.specs.World.{Core, Cell, Shelf, SameShelf, Todo, to_pin, to_load, to_write, Frame, OpenLoad, Reading, Root, of_cell, of_key, Values, was_refused, type_at, one_more}
-use Rattle.pagable_world.specs.{Calls.{with_handle, with_mode, moved, is_named_by, CloneCall, PinCall}, Access.{Called, ReadingStep}, Cascade.FallsAnyhow, LoadCalls.{with_pin, without_load}}
+use Rattle.pagable_world.specs.World.{Core, Cell, Shelf, SameShelf, Todo, to_pin, to_load, to_write, Frame, OpenLoad, Reading, Root, of_cell, of_key, Values, was_refused, one_more}
+use Rattle.pagable_world.specs.{Calls.{with_handle, with_mode, moved, is_named_by}, Access.{Called, ReadingStep}, Cascade.FallsAnyhow, LoadCalls.{with_pin, without_load}}
 use Rattle.pagable_world.specs.{LoadCalls.is_owned_in, Loads.{EndsPinned, gone_on}, Pager.{PagerState, HandlesAreWhole, Moves, TodoBrings, TookWrites, WellFormed}, Workers.PinsAtOnce}
-use Rattle.pagable_world.specs.{Workers.{RowIs, answer_after, fresh, Does}, declared.{events.{LoadAnswer.LoadAnswer, Took.Took, PinStep.PinStep}, handles.HandleRow.HandleRow}}
-use Rattle.{pagable_world.specs.declared.{handles.Owner.Owner, answers.Pinning.Pinning, rows.Mode.Mode}, pagable_loads.specs.declared.{reading.Reading.Reading as Own, working.Taken.Taken}}
-use Rattle.pagable_loads.{proofs.{Stepped.none_comes, Driven.goes_open}, specs.{Frames.{IsLoadOf, frames_of, reading_of}, Stepping.{IsSameLoad, Steps}, Working.{TakesReference, BeginsAt}}}
+use Rattle.pagable_world.specs.{Workers.{answer_after, fresh, Does}, declared.{events.{LoadAnswer.LoadAnswer, Took.Took, PinStep.PinStep}, handles.HandleRow.HandleRow}}
+use Rattle.{pagable_world.specs.declared.{handles.Owner.Owner, rows.Mode.Mode}, pagable_loads.specs.declared.{reading.Reading.Reading as Own, working.Taken.Taken}}
+use Rattle.pagable_loads.{proofs.{Stepped.{acts_map, none_comes}, Driven.goes_open}, specs.{Frames.{IsLoadOf, frames_of, reading_of}, Stepping.{IsSameLoad, Steps}, Working.{TakesReference, BeginsAt}}}
 use Rattle.pagable_laws.{specs.{KeyRuns.StandsAt, TreeSteps.Change}, proofs.{Outlasting.{AreLow, low-whole, low-changed, low-handle, new-handle, Stands}, Goes.Goes, Naming.clone-stands}}
 use Rattle.pagable_laws.proofs.{Outlasting.{stands-alike, stands-fell, clone-call, not-loose, owned-none}, Trees.same_some, ReadingSteps.walk-goes}
 use Rattle.pagable_walk.specs.{Tasks.{IsPlain, back_of, fails}, declared.{tasks.{Turn.Turn, Moved.Moved, Task.Task}, results.Trees.Ghosts}, Turns.{IsLoading, IsOfKind, HoldsPin, Fits}}
@@ -17,19 +17,14 @@ use Rattle.pagable_walk.{specs.Turns.{LeavesFit, Turned, TurnsTo, answer_in, pla
 
 module _ {c : Change} {w w' : Core} (goes : Goes c w w') where
   pub kind-on : {r : ArcRef} → IsOfKind w r → IsOfKind w' r
-  kind-on {r} k = record { given = let a = k.given in let b = goes.nodes in omega arith; typed = typed }
+  kind-on {r} k = record { given = let a = k.given in let b = goes.nodes in omega arith; typed = λ t is. of-cell t (w'.cells r.node.0) refl is }
     where
       of-cell : (t : ℕ) (found : Option Cell) → w'.cells r.node.0 ≡ found → if_there (λ (cell : Cell). Some cell.node_type) None found ≡ Some t → t ≡ type_of r.kind.0
       of-cell t None live is = absurd (cc)
-      of-cell t (Some cell) live is =
-          let same : cell.node_type ≡ t = same_some _ _ is in
-          elim (goes.cells r.node.0 cell live) [
-            | inl kept ↦ sym same ∙ kept.typed ∙ k.typed kept.was.node_type (ap (λ (found : Option Cell). if_there (λ (x : Cell). Some x.node_type) None found) kept.live)
-            | inr (next, bears) ↦ let a = k.given in absurd (omega arith)
-          ]
-
-      typed : (t : ℕ) → type_at w' r.node.0 ≡ Some t → t ≡ type_of r.kind.0
-      typed t is = of-cell t (w'.cells r.node.0) refl is
+      of-cell t (Some cell) live is = elim (goes.cells r.node.0 cell live) [
+        | inl kept ↦ sym (same_some _ _ is) ∙ kept.typed ∙ k.typed kept.was.node_type (ap (λ (found : Option Cell). if_there (λ (x : Cell). Some x.node_type) None found) kept.live)
+        | inr (next, bears) ↦ let a = k.given in absurd (omega arith)
+      ]
 
 -- ---- the new pin
 
@@ -37,24 +32,20 @@ pins-by : {last : ℕ} (w : Core) (r : ArcRef) {row : HandleRow} (k : HandleNumb
     → HoldsPin w row.owner r k
 pins-by w r {row} k q is s at pins = record { pins = record { row = row; live = subst (λ n. find_row n w.rows ≡ Some row) (sym is) s.live; at = at; pins = pins }; own = refl }
 
-clone-pins : (w w' : Core) (me : Owner) (r : ArcRef) (k : HandleNumber) → HandlesAreWhole w → StandsAt w r r.handle → RowIs w r.handle false → CloneCall w me r.handle (Ok k) w' → HoldsPin w' me r k
-clone-pins w w' me r k whole stands is clone =
-    let c = clone-call w w' (low-whole whole) me r.handle k clone in
-    let row : HandleRow = c.0 in
-    let same : is.row ≡ row = same_some _ _ (sym is.live ∙ c.1) in
-    pins-by w' r k (w.last.handle + 1) clone.made.2.above c.2 (stands.is row c.1).0 (not-loose row.mode (ap (λ (h : HandleRow). is_loose h.mode) (sym same) ∙ is.sort))
-
-pin-pins : (w w' : Core) (me : Owner) (r : ArcRef) (h k : HandleNumber) → AreLow w → StandsAt w r h → PinCall w me h (Ok (Pinning.Pinned k)) w' → HoldsPin w' me r k
-pin-pins w w' me r h k low stands c =
-    let row : HandleRow = c.pins.0 in
-    let low' = low-changed w.last.handle w.rows (is_handle h.0) (λ r. record r { mode = Mode.LoosePinned }) (λ r. refl) low in
-    let s = new-handle (with_mode w h Mode.LoosePinned) row.node Mode.Pinned me low' in
-    pins-by w' r k (w.last.handle + 1) c.pins.2.1.above (stands-alike {w = with_handle (with_mode w h Mode.LoosePinned) row.node Mode.Pinned me} c.pins.2.2 s) (stands.is row c.pins.1.live).0 refl
-
 pub at-once-pins : (w w' : Core) (me : Owner) (r : ArcRef) (through k : HandleNumber) → HandlesAreWhole w → StandsAt w r r.handle → PinsAtOnce w me r through k w' → HoldsPin w' me r k
 at-once-pins w w' me r through k whole stands does = elim does [
-  | inl (is, same, clone) ↦ clone-pins w w' me r k whole stands is clone
-  | inr (is, (mid, copy, pin)) ↦ pin-pins mid w' me r through k (low-handle w mid copy.made.0.node copy.made.0.mode me (low-whole whole) copy.made.3) (clone-stands whole r through stands copy) pin
+  | inl (is, same, clone) ↦
+      let c = clone-call w w' (low-whole whole) me r.handle k clone in
+      let row : HandleRow = c.0 in
+      let is_row : is.row ≡ row = same_some _ _ (sym is.live ∙ c.1) in
+      pins-by w' r k (w.last.handle + 1) clone.made.2.above c.2 (stands.is row c.1).0 (not-loose row.mode (ap (λ (h : HandleRow). is_loose h.mode) (sym is_row) ∙ is.sort))
+  | inr (is, (mid, copy, pin)) ↦
+      let row : HandleRow = pin.pins.0 in
+      let low = low-handle w mid copy.made.0.node copy.made.0.mode me (low-whole whole) copy.made.3 in
+      let low' = low-changed mid.last.handle mid.rows (is_handle through.0) (λ r. record r { mode = Mode.LoosePinned }) (λ r. refl) low in
+      let s = new-handle (with_mode mid through Mode.LoosePinned) row.node Mode.Pinned me low' in
+      pins-by w' r k (mid.last.handle + 1) pin.pins.2.1.above (stands-alike {w = with_handle (with_mode mid through Mode.LoosePinned) row.node Mode.Pinned me} pin.pins.2.2 s)
+      ((clone-stands whole r through stands copy).is row pin.pins.1.live).0 refl
 ]
 
 -- ---- a load that has begun
@@ -202,3 +193,5 @@ module _ {X : Type 0} {g : Ghosts X} {N E : Type 0} (v : Values N) (me : Owner) 
     pub load-reads-none : (x : N) (frames : List Frame) (moved : Moved X g) (after : List Todo) → moved.counted ≡ false → (s t : PagerState N E) → Steps v me own s (Some (LoadAnswer.Read x)) frames t
         → TurnsTo v me n shelf (Task.Load r place through own) below shelf moved after s t
     load-reads-none x frames moved after uncounted s t call = grind (arith, nat_tests, common_steps, stepped, same_some)
+
+pub ruleset pinning = (nat_tests, acts_map, pin-fails, load-reads-none)

@@ -1,43 +1,32 @@
 -- What a worker has to do, after a reference was done.
-use Rattle.std.proofs.{Common.{ℕ, ◌≡◌, ◌≤◌, ◌<◌, ◌+◌, List, [], ◌∷◌, ◌++◌, length, drop, take, map, get_or, refl, sym, ap, ◌∙◌, arith, Some, slice_get}, lemmas.Bool.Decides.nat_tests}
-use Rattle.std.proofs.lemmas.{Grind.common_steps, List.{at_drop_more, at_drop_all, take_more, length-append, length-map, map-append}, Option.{get_or_from_slice_get, slice_get_within}}
+use Rattle.std.proofs.{Common.{ℕ, ◌≡◌, ◌≤◌, ◌<◌, ◌+◌, List, [], ◌∷◌, ◌++◌, length, take, map, reverse, get_or, refl, sym, ap, ◌∙◌, arith, Some, slice_get}, lemmas.Bool.Decides.nat_tests}
+use Rattle.std.proofs.lemmas.{Grind.common_steps, List.{at_drop_more, at_drop_all, take_more, length-append, length-map, length-reverse, map-append}, Option.{get_or_from_slice_get, slice_get_within}}
 use Rattle.{std.specs.Prelude.{None, max}, pagable_model.specs.declared.numbers.{ArcRef.ArcRef, HandleNumber.HandleNumber}, pagable_world.specs.{Kinds.identity_of, Plain.above}}
-use Rattle.{pagable_world.specs.{Workers.{place_below, next_start, settle, give}, World.{Todo, Written, to_start}}, pagable_walk.specs.{Tasks.back_of, Slots.ids_of}}
-use Rattle.pagable_walk.specs.{Tasks.{place_of, raised, waiting_todo, waits_as, todos_onto, todos}, declared.{results.{SlotResult.SlotResult, Trees.Ghosts}, tasks.{Node.Node, Waiting.Waiting}}}
-use Rattle.{std.{specs.Prelude.Option, proofs.lemmas.Option.none-some}, pagable_walk.proofs.{Waits.some-same, Ways.item-way}}
+use Rattle.{pagable_world.specs.{Workers.{place_below, settle, give}, World.{Todo, Written, to_start}}, pagable_walk.specs.{Tasks.back_of, Slots.ids_of}}
+use Rattle.pagable_walk.specs.{Tasks.{place_of, raised, waiting_todo, waits_as, todos}, declared.{results.{SlotResult.SlotResult, Trees.Ghosts}, tasks.{Node.Node, Waiting.Waiting}}}
+use Rattle.{std.{specs.Prelude.Option, proofs.lemmas.{List.reverse-append, Option.none-some}}, pagable_walk.proofs.{Waits.some-same, Ways.item-way}}
 
 module _ {E : Type 0} {g : Ghosts E} where
-  onto-more : (ws : List (Waiting E g)) (w : Waiting E g) (below : List Todo) → todos_onto (ws ++ w ∷ []) below ≡ waiting_todo w ∷ todos_onto ws below
-  unfolding todos_onto
-  onto-more [] w below = refl
-  onto-more (x ∷ ws) w below = onto-more ws w (waiting_todo x ∷ below)
-
   pub todos-more : (ws : List (Waiting E g)) (w : Waiting E g) → todos (ws ++ w ∷ []) ≡ waiting_todo w ∷ todos ws
-  todos-more ws w = onto-more ws w []
-
-  onto-length : (ws : List (Waiting E g)) (below : List Todo) → length (todos_onto ws below) ≡ length ws + length below
-  unfolding todos_onto
-  onto-length [] below = omega arith
-  onto-length (x ∷ ws) below = let e = onto-length ws (waiting_todo x ∷ below) in omega (arith, e)
+  unfolding todos
+  todos-more ws w = ap (map waiting_todo) (reverse-append ws (w ∷ []))
 
   pub todos-length : (ws : List (Waiting E g)) → length (todos ws) ≡ length ws
-  todos-length ws = let e = onto-length ws [] in omega (arith, e)
+  unfolding todos
+  todos-length ws = length-map (reverse ws) waiting_todo ∙ length-reverse ws
 
   pub todos-none : (ws : List (Waiting E g)) → length ws ≡ 0 → todos ws ≡ []
-  unfolding todos_onto
+  unfolding todos
   todos-none [] none = refl
   todos-none (w ∷ ws) none = absurd (omega arith)
 
   -- where something waits no entry goes back
-  onto-some : (ws : List (Waiting E g)) (x : Todo) (below : List Todo) (entry : Option HandleNumber) → back_of entry (todos_onto ws (x ∷ below)) ≡ None
-  unfolding todos_onto
-  onto-some [] x below entry = refl
-  onto-some (w ∷ ws) x below entry = onto-some ws (waiting_todo w) (x ∷ below) entry
-
   pub back-none : (ws : List (Waiting E g)) (entry : Option HandleNumber) → 0 < length ws → back_of entry (todos ws) ≡ None
-  unfolding todos_onto
-  back-none [] entry some = absurd (omega arith)
-  back-none (w ∷ ws) entry some = onto-some ws (waiting_todo w) [] entry
+  back-none ws entry some = by (todos ws) (omega (arith, todos-length ws))
+    where
+      by : (xs : List Todo) → 0 < length xs → back_of entry xs ≡ None
+      by [] more = absurd (omega arith)
+      by (x ∷ xs) more = refl
 
   -- the identities of one result more
   pub ids-more : (refs : List ArcRef) (xs ys : List (SlotResult E g)) (r : ArcRef) (x : SlotResult E g) → ids_of xs ≡ map identity_of (take (length xs) refs) → slice_get refs (length xs) ≡ Some r

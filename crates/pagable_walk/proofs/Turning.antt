@@ -1,9 +1,9 @@
 -- A claim of a table is a worker's claim, and a turn of the worker.
-use Rattle.std.{proofs.{Common.{ℕ, ◌≡◌, true, List, ◌∷◌, Some, None, ◌⊎◌, inl, refl, arith}, lemmas.{Bool.Decides.nat_tests, Grind.common_steps}}, specs.Prelude.{Result, Ok, Err}}
-use Rattle.{std.specs.Prelude.IfOk, pagable_model.specs.declared.numbers.ArcRef.ArcRef, pagable_world.specs.Workers.{Site, claim_fault, is_counted_claim, Claims, Finds, Turns, IsTooDeep}}
+use Rattle.std.{proofs.{Common.{ℕ, ◌≡◌, true, List, ◌∷◌, Some, None, inl, refl, arith}, lemmas.{Bool.Decides.nat_tests, Grind.common_steps}}, specs.Prelude.{Result, Ok, Err}}
+use Rattle.{std.specs.Prelude.IfOk, pagable_model.specs.declared.numbers.ArcRef.ArcRef, pagable_world.specs.Workers.{Site, claim_fault, is_counted_claim, Claims, Finds, Turns}}
 use Rattle.pagable_world.specs.{Workers.with_wait, Kinds.identity_of, Pager.{PagerState, HandlesAreWhole}, Plain.Error, World.{Core, Shelf, Todo, to_start, SameShelf, Alike, Values, was_refused}}
 use Rattle.{pagable_world.specs.declared.{events.{Claim.Claim, Took.Took}, handles.Owner.Owner}, pagable_laws.proofs.{Naming.{may-claim, claimed-stands}, Trees.same_some}}
-use Rattle.pagable_walk.specs.{Slots.{Would, claimed_shelf, RefusesClaim, ClaimsThere}, Table.{found_as, IsFoundOf}, Tasks.{IsPlain, back_of, fails}, Turns.{site, claim_todo, ClaimFits}}
+use Rattle.pagable_walk.specs.{Slots.{Would, claimed_shelf, ClaimsThere}, Table.{found_as, IsFoundOf}, Tasks.{IsPlain, back_of, fails}, Turns.{site, claim_todo, ClaimFits}}
 use Rattle.pagable_walk.specs.{Turns.{ClaimLeaves, IsOfKind, TaskFits, TurnsTo}, declared.{tasks.{Turn.Turn, Task.Task}, results.Trees.Ghosts, table.Found.Found}}
 
 pub alike : (w : Core) → Alike w w

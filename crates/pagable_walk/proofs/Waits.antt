@@ -1,7 +1,7 @@
 -- Whom a worker waits for.
 use Rattle.std.proofs.{Common.{arith, ℕ, ◌≡◌, Bool, false, if◌then◌else◌, Option, Some, None, sym, ap, ◌∙◌, nat_eq}, lemmas.{Bool.Decides.nat_tests, Option.none-some}}
 use Rattle.pagable_world.specs.{Workers.{is_open_outcome, is_open_slot, IsOpenSlot, waits-back, ComesToEnd, works, may-go-on, waits-on, with_wait}, Plain.{Identity, if_there}}
-use Rattle.{pagable_world.specs.World.{Slot, Shelf, SameShelf, no_result}, pagable_walk.specs.{Slots.{open_worker, IsOpenOf, Leads, Stands}, declared.{results.Trees.Ghosts, slots.Standing.Standing}}}
+use Rattle.{pagable_world.specs.World.{Slot, Shelf, SameShelf, no_result}, pagable_walk.specs.{Slots.{open_worker, Leads, Stands}, declared.{results.Trees.Ghosts, slots.Standing.Standing}}}
 
 pub some-same : {A : Type 0} {x y : A} → Some x ≡ Some y → x ≡ y
 some-same {A} {x} e = ap (if_there (λ (z : A). z) x) e
@@ -18,7 +18,8 @@ pub not-open : {E : Type 0} {g : Ghosts E} (i : Identity) (slot : Option Slot) (
 not-open i slot st stands none = grind (arith, nat_tests)
 
 -- where the worker that it waits for leads, it does
-pub leads-on : (s : Shelf) (v u : ℕ) (i : Identity) → s.waits u ≡ Some i → nat_eq u v ≡ false → (w : ℕ) → IsOpenOf (s.slots i) w → (b : Bool) → Leads s v w b → Leads s v u b
+pub leads-on : (s : Shelf) (v u : ℕ) (i : Identity) → s.waits u ≡ Some i → nat_eq u v ≡ false → (w : ℕ)
+    → (x : Slot) × (s.slots i ≡ Some x) × (x.outcome ≡ no_result) × (x.worker ≡ w) → (b : Bool) → Leads s v w b → Leads s v u b
 leads-on s v u i waits differs w there b h = grind (arith, nat_tests, waits-back, waits-on)
 
 -- once its wait is forgotten

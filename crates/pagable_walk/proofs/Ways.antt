@@ -32,24 +32,16 @@ node-awaits : (o : Open) (below : List Todo) (r : ArcRef) (h : ℕ) → AwaitsLo
 unfolding Awaits
 node-awaits o below r h (p, (at, is, near, up), low) = (at, near-by o.place o.height p h r.kind.0 (is_eager r.kind.0) refl is near low, up)
 
-item-awaits : (written : Written) (keys : List ℕ) (below : List Todo) (r : ArcRef) (h : ℕ) → AwaitsLow (to_item written keys ∷ below) r h
-    → (slice_get written.references (length keys) ≡ Some r) × (below ≡ [])
-unfolding Awaits
-item-awaits written keys below r h (p, (at, is, none), low) = (at, none)
-
 one-more : {A : Type 0} (refs : List ArcRef) (xs : List A) (x : A) (r : ArcRef) → slice_get refs (length xs) ≡ Some r → length (xs ++ x ∷ []) ≤ length refs
 one-more refs xs x r at = let a = length-append xs (x ∷ []) in let b = slice_get_within refs (length xs) r at in omega (arith, a, b)
 
 -- what waits for a reference takes its result
 pub takes-next : (node : Option Node) (written : Written) (keys : List ℕ) (below : List Todo) (r : ArcRef) (h : ℕ) → AwaitsLow (waits_as node written keys ∷ below) r h → TakesNext node written keys r h
-takes-next None written keys below r h up = record { next = (item-awaits written keys below r h up).0; near = λ n is. absurd (none-some n is) }
+unfolding Awaits
+takes-next None written keys below r h up = record { next = up.1.0; near = λ n is. absurd (none-some n is) }
 takes-next (Some m) written keys below r h up =
     let a = node-awaits (record { reference = m.reference; place = m.place; through = m.through; written = written; keys = keys; height = m.height }) below r h up in
     record { next = a.0; near = λ n is. subst (λ (k : Node). k.place + max k.height (above r.kind.0 h) ≤ longest_path) (some-same is) a.1 }
-
--- a written node with one result more
-abbrev pub with_child : ArcRef → ℕ → ℕ → Open → Open
-with_child r key height o = record o { keys = o.keys ++ key ∷ []; height = max o.height (above r.kind.0 height) }
 
 -- a reference is done
 pub give-way : (below : List Todo) (r : ArcRef) (key h : ℕ) → AwaitsLow below r h → IsWay (give r key h below)
@@ -57,10 +49,9 @@ unfolding Awaits
 give-way [] r key h up = tt
 give-way (to_finish o ∷ below) r key h up =
     let a = node-awaits o below r h up in
-    settle-way (with_child r key h o) below (one-more o.written.references o.keys key r a.0) a.2 a.1
+    settle-way (record o { keys = o.keys ++ key ∷ []; height = max o.height (above r.kind.0 h) }) below (one-more o.written.references o.keys key r a.0) a.2 a.1
 give-way (to_item written keys ∷ below) r key h up =
-    let a = item-awaits written keys below r h up in
-    subst (λ bs. IsWay (settle (to_item written (keys ++ key ∷ []) ∷ bs))) (sym a.1) (item-way written (keys ++ key ∷ []) (one-more written.references keys key r a.0))
+    subst (λ bs. IsWay (settle (to_item written (keys ++ key ∷ []) ∷ bs))) (sym up.1.2) (item-way written (keys ++ key ∷ []) (one-more written.references keys key r up.1.0))
 give-way (x ∷ below) r key h up = absurd up.1
 
 pub known-way : (below : List Todo) (r : ArcRef) (key h : ℕ) → AwaitsLow below r h → IsWay (give_known r key h below)

@@ -36,10 +36,6 @@ after_failure v slot = if_there (λ (s : Slot). Some (failed_by v s)) None slot
 abbrev pub claimed_by : ℕ → Slot
 claimed_by v = record { worker = v; written = None; outcome = no_result }
 
--- there is no result yet, and this is the worker
-abbrev pub IsOpenOf : Option Slot → ℕ → Type 0
-IsOpenOf slot w = (x : Slot) × (slot ≡ Some x) × (x.outcome ≡ no_result) × (x.worker ≡ w)
-
 module _ {E : Type 0} {g : Ghosts E} where
   abbrev pub outcome_of : Outcome E g → world.Outcome
   outcome_of Outcome.Open = no_result
@@ -83,17 +79,13 @@ module _ {E : Type 0} {g : Ghosts E} where
   -- what stands at an identity, whose slot is this
   abbrev pub Stands : Identity → Option Slot → Standing E g → Type 0
   Stands i slot Standing.Free = slot ≡ None
-  Stands i slot (Standing.Open w) = IsOpenOf slot w
+  Stands i slot (Standing.Open w) = (x : Slot) × (slot ≡ Some x) × (x.outcome ≡ no_result) × (x.worker ≡ w)
   Stands i slot (Standing.Known r) = (r.identity ≡ i) × ((x : Slot) × (slot ≡ Some x) × (x.outcome ≡ published r.key r.height))
   Stands i slot Standing.Failed = (x : Slot) × (slot ≡ Some x) × (x.outcome ≡ failed)
 
 -- the slots with this one at an identity
 abbrev pub SlotIs : (Identity → Option Slot) → Identity → Option Slot → (Identity → Option Slot) → Type 0
 SlotIs old i slot new = (j : Identity) → new j ≡ (if is_identity i j then slot else old j)
-
--- the same slots
-abbrev pub SameSlots : (Identity → Option Slot) → (Identity → Option Slot) → Type 0
-SameSlots old new = (j : Identity) → new j ≡ old j
 
 -- the worker of a slot that has no result yet
 abbrev pub open_worker : Option Slot → Option ℕ
@@ -102,10 +94,6 @@ open_worker slot = if_there (λ (s : Slot). if is_open_outcome s.outcome then So
 -- a slot that is there is changed so
 abbrev pub Changes : (Slot → Slot) → (Identity → Option Slot) → Identity → (Identity → Option Slot) → Type 0
 Changes f old i new = SlotIs old i (if_there (λ (s : Slot). Some (f s)) None (old i)) new
-
--- a table of no claims
-abbrev pub no_claims : Shelf
-no_claims = record { slots = λ i. None; waits = λ v. None }
 
 -- whom the worker waits for
 pub record WaitsFor (s : Shelf) (u w : ℕ) : Type 0 where
@@ -142,11 +130,6 @@ claimed_shelf v s i _ = with_wait s v None
 -- why a claim is refused
 abbrev pub RefusesClaim : ℕ → Shelf → Identity → ℕ → Error → Type 0
 RefusesClaim v s i place e = ((e ≡ Error.TooDeep) × IsTooDeep s v i place) ⊎ (e ≡ Error.OutOfMemory)
-
--- what a claim would find, or why it is refused
-pub record Judges (v : ℕ) (s : Shelf) (i : Identity) (place : ℕ) (result : Result Claim Error) : Type 0 where
-  pub finds : IfOk result (λ c. Would v s i place c)
-  pub refused : IfErr result (RefusesClaim v s i place)
 
 -- a claim of a table: what it finds, and what it leaves
 pub record ClaimsThere (v : ℕ) (s : Shelf) (i : Identity) (place : ℕ) (result : Result Claim Error) (s' : Shelf) : Type 0 where

@@ -1,5 +1,5 @@
 -- A worker's task at hand and its path as plain data: what it has to do, what comes next first.
-use Rattle.std.specs.{Prelude.{ℕ, ◌≡◌, ◌≤◌, ◌+◌, List, [], ◌∷◌, length, max, Option, None, Some, slice_get}, Arc.arc_value}
+use Rattle.std.specs.{Prelude.{ℕ, ◌≡◌, ◌≤◌, ◌+◌, List, [], ◌∷◌, length, map, max, reverse, Option, None, Some, slice_get}, Arc.arc_value}
 use Rattle.{pagable_model.specs.declared.numbers.{ArcRef.ArcRef, HandleNumber.HandleNumber}, pagable_loads.specs.Frames.reading_of}
 use Rattle.pagable_world.specs.{World.{Todo, to_start, to_pin, to_load, to_write, to_finish, to_item, to_set, to_publish, to_release, to_fail, Fault, was_refused, was_failed, Written}, Plain.above}
 use Rattle.{pagable_world.specs.{Plain.longest_path, Workers.{give, place_below}}, pagable_walk.specs.{Slots.{keys_of, written_of}, declared.results.Trees.Ghosts}}
@@ -53,13 +53,9 @@ module _ {E : Type 0} {g : Ghosts E} where
   IsPlain (Task.Write r place through pin) = ⊥
   IsPlain task = Unit {0}
 
-  -- what waits on a path, the last first, and then these
-  unfoldable pub todos_onto : List (Waiting E g) → List Todo → List Todo
-  todos_onto [] below = below
-  todos_onto (w ∷ ws) below = todos_onto ws (waiting_todo w ∷ below)
-
-  abbrev pub todos : List (Waiting E g) → List Todo
-  todos ws = todos_onto ws []
+  -- what waits on a path, the last first
+  unfoldable pub todos : List (Waiting E g) → List Todo
+  todos ws = map waiting_todo (reverse ws)
 
 -- The list waits for this reference, at this place on the path: it is the next of what stands in front, which was itself waited for so.
 unfoldable pub Awaits : List Todo → ArcRef → ℕ → Type 0

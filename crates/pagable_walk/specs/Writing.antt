@@ -21,12 +21,7 @@ pub record IsPinned {N E : Type 0} (v : Values N) (s : PagerState N E) (r : ArcR
   pub kind : IsOfKind s.core r
   pub pins : PinsAt s.core r pin
 
--- The value that the handle pins. Memory may be wanting to share it.
-pub record Finds {N E : Type 0} (v : Values N) (s : PagerState N E) (r : ArcRef) (pin : HandleNumber) (result : Result N Error) : Type 0 where
-  pub found : IsPinned v s r pin → IfOk result (λ x. (s.values r.node.0 ≡ Some x) × (v.node_type x ≡ type_of r.kind.0))
-  pub refused : IsPinned v s r pin → IfErr result (λ e. e ≡ Error.OutOfMemory)
-
--- a form of it, or why it isn't written
+-- a form of the value that the handle pins, or why it isn't written
 pub record Forms {N E : Type 0} (v : Values N) (s : PagerState N E) (r : ArcRef) (pin : HandleNumber) (result : Result Written Error) : Type 0 where
   pub written : IsPinned v s r pin → IfOk result (λ w. IsWrittenOf v s r.node.0 w)
   pub refused : IsPinned v s r pin → IfErr result (λ e. (v.write_causes (type_of r.kind.0) e ⊎ (e ≡ Error.OutOfMemory)) × RefusesWriting v s r.node.0 e)

@@ -1,16 +1,16 @@
-//! A worker's turns at what it has written: its blob is stored, its key set and published, and its handles given up. How a result is made, and the end of a walk.
+//! A worker's turns at what it has written: its blob is stored, its key set and published, and its handles given up.
 
-ghost use Rattle.std.specs.{Arc.arc_value, Prelude.{◌≡◌, ◌∷◌, [], ℕ, List, IfOk, IfErr, length, ◌≤◌, map}};
-ghost use Rattle.{pagable_core.specs.Data.blob_of, pagable_model.specs.Merkle.blob_of as blob_over};
-ghost use Rattle.{pagable_model.specs.Blob.key_of, pagable_world.specs.{World.{Shelf, Todo, answer_of_fault, to_release, to_set}, Kinds.identity_of, Plain.longest_path}};
-ghost use Rattle.{pagable_loads.specs.Telling.{Acts, Tells, values_at}, pagable_walk.specs.{Tasks.{AwaitsLow, IsWay, fault_of, todos, waiting_todo}, Due.LeadsOn}};
-ghost use Rattle.pagable_walk.specs.{Writing.{Stores, IsStored, named_by, GoesBack}, Slots.{keys_of, ids_of, written_of}, Table.shelf_of, Turns.{TurnsTo, plan}, Results.HasFormOf};
+ghost use Rattle.std.specs.{Arc.arc_value, Prelude.{◌≡◌, ◌∷◌, ℕ, IfOk, IfErr, length}};
+ghost use Rattle.{pagable_core.specs.Data.blob_of, pagable_model.specs.{Blob.key_of, Merkle.blob_of as blob_over}};
+ghost use Rattle.{pagable_world.specs.World.{Shelf, answer_of_fault, to_release, to_set}, pagable_loads.specs.Telling.{Acts, values_at}};
+ghost use Rattle.pagable_walk.specs.{Due.LeadsOn, Tasks.{AwaitsLow, IsWay, fault_of, todos, waiting_todo}, Turns.{TurnsTo, plan}};
+ghost use Rattle.pagable_walk.specs.{Writing.{Stores, IsStored, named_by, GoesBack}, Slots.{keys_of, written_of}};
 
-use crate::stack::{fail, give, refuse};
+use crate::stack::{give, refuse};
 use crate::tasks::{Done, Moved, Node, Task, Turn, Waiting, named};
-use crate::{PageOutError, SlotResult, SlotTable, Trees};
+use crate::{PageOutError, SlotResult, Trees};
 use pagable_codec::{Env, NodeSet};
-use pagable_core::{PagableData, SerializedData};
+use pagable_core::PagableData;
 use pagable_loads::WorkerAccess;
 use pagable_model::{DataKey, Error, HandleNumber, Identity, WorkerNumber};
 use pagable_world::{Took, WorkerAnswer};
@@ -18,16 +18,16 @@ use std::alloc::Global;
 use std::marker::PhantomData;
 
 // The blob of what was written over the results of its references. Refused by want of memory alone.
-fn blob<E: Trees>(
-    alloc: Global,
-    written: &SerializedData,
-    children: &[SlotResult<E>],
-) -> Result<PagableData, Error>
-    ensures blob { IfOk result (λ blob. blob_of blob ≡ blob_over (written_of written.now).bytes (keys_of children.now)) }
+fn blob<E: Trees>(alloc: Global, waiting: &Waiting<E>) -> Result<PagableData, Error>
+    ensures blob { IfOk result (λ blob. blob_of blob ≡ blob_over (written_of (arc_value waiting.now.written)).bytes (keys_of waiting.now.children.items)) }
     ensures only { IfErr result (λ e. e ≡ Error.OutOfMemory) }
 {
-    let arcs: Vec<DataKey> = children.iter().map(|found| found.key).collect(alloc)?;
-    let bytes = Vec::from_slice(alloc, written.bytes.as_slice())?;
+    let arcs: Vec<DataKey> = waiting
+        .children
+        .iter()
+        .map(|found| found.key)
+        .collect(alloc)?;
+    let bytes = Vec::from_slice(alloc, waiting.written.bytes.as_slice())?;
     Ok(PagableData { bytes, arcs })
 }
 
@@ -35,15 +35,15 @@ fn blob<E: Trees>(
 fn store<E: Env, A: WorkerAccess<E>>(
     access: &mut A,
     alloc: Global,
-    written: &SerializedData,
-    children: &[SlotResult<E>],
+    waiting: &Waiting<E>,
 ) -> Result<DataKey, Error>
 where
     E::Node: NodeSet<E>,
-    ensures key { IfOk result (λ key. key ≡ key_of E.Hash.digest (blob_over (written_of written.now).bytes (keys_of children.now))) }
-    ensures acts { Acts A.told A.acting access.old access.new (λ a s t. Stores (values_at E.Node.NodeSet E.Env E.Hash.KeyHash a.environment) s (blob_over (written_of written.now).bytes (keys_of children.now)) result t) }
+    ensures key { IfOk result (λ key. key ≡ key_of E.Hash.digest (blob_over (written_of (arc_value waiting.now.written)).bytes (keys_of waiting.now.children.items))) }
+    ensures acts { Acts A.told A.acting access.old access.new (λ a s t. Stores (values_at E.Node.NodeSet E.Env E.Hash.KeyHash a.environment) s
+        (blob_over (written_of (arc_value waiting.now.written)).bytes (keys_of waiting.now.children.items)) result t) }
 {
-    let blob = blob(alloc, written, children)?;
+    let blob = blob(alloc, waiting)?;
     access.store(alloc, blob)
 }
 
@@ -69,13 +69,12 @@ where
         return Turn::Answers(WorkerAnswer::Key(key));
     };
     let reference = node.reference;
-    let found = SlotResult::of_node(
-        named(reference),
-        waiting.written.as_ref(),
-        waiting.children.as_slice(),
+    let found = SlotResult {
+        identity: named(reference),
         key,
-        node.height,
-    );
+        height: node.height,
+        of: PhantomData,
+    };
     Turn::Goes(Task::SetKey(Done { reference, found }, node.through))
 }
 
@@ -95,12 +94,7 @@ where
     ensures acts { (n : ℕ) (shelf : Shelf) → Acts A.told A.acting access.old access.new (λ a. TurnsTo (values_at E.Node.NodeSet E.Env E.Hash.KeyHash a.environment) a.me n shelf (Task.Finish waiting) (todos path.old.items) shelf result (plan result.turn path.new.items)) }
 {
     let identity = named_by(&waiting.node);
-    match store(
-        access,
-        alloc,
-        waiting.written.as_ref(),
-        waiting.children.as_slice(),
-    ) {
+    match store(access, alloc, &waiting) {
         Ok(key) => Moved {
             took: Took::Store(identity, Ok(key)),
             turn: stored(waiting, key),
@@ -115,6 +109,7 @@ where
 }
 
 /// Sets the key of a node whose blob was stored.
+#[tactic(auto, using(crate::proofs::Closing::releasing))]
 pub fn set_key<E: Env, A: WorkerAccess<E>>(
     access: &mut A,
     path: &mut Vec<Waiting<E>>,
@@ -140,26 +135,6 @@ where
             took: Took::SetKey(identity, Err(e)),
             counted: true,
         },
-    }
-}
-
-/// Puts a result where others see it.
-#[tactic(auto, using(crate::proofs::Closing::publishing))]
-pub fn publish<E: Env, A: WorkerAccess<E>>(
-    _access: &A,
-    table: &mut SlotTable<E>,
-    done: Done<E>,
-) -> Moved<E>
-where
-    E::Node: NodeSet<E>,
-    ensures is { result.turn ≡ Turn.Goes (Task.Release done) }
-    ensures step { (n : ℕ) (below : List Todo) → Tells (A.told _access.now) (λ s. TurnsTo (values_at E.Node.NodeSet E.Env E.Hash.KeyHash (A.acting _access.now).environment) (A.acting _access.now).me n (shelf_of table.old) (Task.Publish done) below (shelf_of table.new) result (to_release done.reference done.found.key done.found.height ∷ below) s s) }
-{
-    table.set_success(done.found.again());
-    Moved {
-        took: Took::Publish(named(done.reference), done.key(), done.found.height),
-        turn: Turn::Goes(Task::Release(done)),
-        counted: true,
     }
 }
 
@@ -194,9 +169,9 @@ where
     }
 }
 
-// An entry goes back to the list, as far as the list can take it.
+/// An entry goes back to the list, as far as the list can take it.
 #[tactic(auto, using(crate::proofs::Closing::backs))]
-fn give_back<E: Env, A: WorkerAccess<E>>(access: &mut A, back: Option<HandleNumber>)
+pub fn give_back<E: Env, A: WorkerAccess<E>>(access: &mut A, back: Option<HandleNumber>)
 where
     E::Node: NodeSet<E>,
     ensures { Acts A.told A.acting access.old access.new (λ a s t. GoesBack (values_at E.Node.NodeSet E.Env E.Hash.KeyHash a.environment) a.me back s t) }
@@ -207,64 +182,12 @@ where
     let _told = access.schedule_for_paging(entry);
 }
 
-// What a failed walk answers.
-fn answer(why: PageOutError) -> WorkerAnswer
+/// What a failed walk answers.
+pub fn answer(why: PageOutError) -> WorkerAnswer
     ensures { result ≡ answer_of_fault (fault_of why) }
 {
     match why {
         PageOutError::Failed(e) => WorkerAnswer::Failed(e),
         PageOutError::AlreadyFailed => WorkerAnswer::AlreadyFailed,
-    }
-}
-
-/// Ends a failed walk: its claims without a result are failed, and its entry goes back to the list.
-#[tactic(auto, using(crate::proofs::Closing::failing))]
-pub fn end<E: Env, A: WorkerAccess<E>>(
-    access: &mut A,
-    table: &mut SlotTable<E>,
-    worker: WorkerNumber,
-    why: PageOutError,
-    back: Option<HandleNumber>,
-) -> Moved<E>
-where
-    E::Node: NodeSet<E>,
-    ensures is { result.turn ≡ Turn.Answers (answer_of_fault (fault_of why)) }
-    ensures acts { (below : List Todo) → Acts A.told A.acting access.old access.new (λ a. TurnsTo (values_at E.Node.NodeSet E.Env E.Hash.KeyHash a.environment) a.me worker.0 (shelf_of table.old) (Task.Fail why back) below (shelf_of table.new) result []) }
-{
-    give_back(access, back);
-    table.fail(worker);
-    Moved {
-        took: Took::Fail,
-        turn: Turn::Answers(answer(why)),
-        counted: true,
-    }
-}
-
-impl<E: Env> SlotResult<E>
-where
-    E::Node: NodeSet<E>,
-{
-    /// The result of an identity of which some value has this form, over one result for each of its references. It takes no memory.
-    pub fn of_node(
-        identity: Identity,
-        written: &SerializedData,
-        children: &[SlotResult<E>],
-        key: DataKey,
-        height: u64,
-    ) -> SlotResult<E>
-        requires form { ∥ HasFormOf (values_at E.Node.NodeSet E.Env E.Hash.KeyHash) identity (written_of written.now) ∥₁ }
-        requires each { map identity_of (written_of written.now).references ≡ ids_of children.now }
-        requires key { key ≡ key_of E.Hash.digest (blob_over (written_of written.now).bytes (keys_of children.now)) }
-        requires low { height ≤ longest_path }
-        ensures identity { result.identity ≡ identity }
-        ensures key { result.key ≡ key }
-        ensures height { result.height ≡ height }
-    {
-        SlotResult {
-            identity,
-            key,
-            height,
-            of: PhantomData,
-        }
     }
 }

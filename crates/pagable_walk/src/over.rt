@@ -2,7 +2,7 @@
 
 ghost use Rattle.std.specs.{Arc.arc_value, Prelude.◌≡◌};
 ghost use Rattle.{pagable_world.specs.declared.handles.Owner.Owner, pagable_loads.specs.Telling.{Acts, values_at}, pagable_walk.specs.Over.answer_of};
-ghost use Rattle.pagable_walk.specs.{Over.{PagesAt, PagesEntry, PagesItem, PagesList, SkipsEntry}, Slots.written_of, Table.shelf_of};
+ghost use Rattle.pagable_walk.specs.{Over.{PagesAt, PagesEntry, PagesItem, PagesList}, Slots.written_of, Table.shelf_of};
 
 use crate::starting::{start_entry, start_item};
 use crate::step::run;
@@ -55,32 +55,19 @@ fn page_out_entry<E: Env, A: WorkerAccess<E>>(
     access: &mut A,
     alloc: Global,
     place: usize,
-) -> WorkerAnswer
+) -> Result<DataKey, PageOutError>
 where
     E::Node: NodeSet<E>,
     requires caller { (A.acting access.old).me ≡ Owner.Caller }
-    ensures { Acts A.told A.acting access.old access.new (λ a. PagesEntry (values_at E.Node.NodeSet E.Env E.Hash.KeyHash a.environment) place result) }
+    ensures { Acts A.told A.acting access.old access.new (λ a. PagesEntry (values_at E.Node.NodeSet E.Env E.Hash.KeyHash a.environment) place (answer_of result)) }
 {
     let (worker, reference) = match access.worker_listed(place) {
         Ok(begun) => begun,
-        Err(e) => return WorkerAnswer::Failed(e),
+        Err(e) => return Err(PageOutError::Failed(e)),
     };
     let mut table = SlotTable::new(alloc);
     let (task, mut path) = start_entry(alloc, reference);
-    run(access, alloc, &mut table, worker, &mut path, task)
-}
-
-// Takes the entry at a place of the list, and releases it.
-fn skip_entry<E: Env, A: WorkerAccess<E>>(access: &mut A, place: usize)
-where
-    E::Node: NodeSet<E>,
-    requires caller { (A.acting access.old).me ≡ Owner.Caller }
-    ensures { Acts A.told A.acting access.old access.new (λ a. SkipsEntry (values_at E.Node.NodeSet E.Env E.Hash.KeyHash a.environment) place) }
-{
-    let Some(entry) = access.take_pending(place) else {
-        return;
-    };
-    let _told = access.release(entry);
+    told(run(access, alloc, &mut table, worker, &mut path, task))
 }
 
 // Pages out the entry at a place of the list, or releases it where its cell has a key.
@@ -98,13 +85,15 @@ where
     match access.entry_key(place) {
         None => Ok(()),
         Some(OptionalDataKey::Some(_)) => {
-            skip_entry(access, place);
+            let Some(entry) = access.take_pending(place) else {
+                return Ok(());
+            };
+            let _told = access.release(entry);
             Ok(())
         }
         Some(OptionalDataKey::None) => match page_out_entry(access, alloc, place) {
-            WorkerAnswer::Key(_) => Ok(()),
-            WorkerAnswer::Failed(e) => Err(PageOutError::Failed(e)),
-            WorkerAnswer::AlreadyFailed => Err(PageOutError::AlreadyFailed),
+            Ok(_) => Ok(()),
+            Err(why) => Err(why),
         },
     }
 }

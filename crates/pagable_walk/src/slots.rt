@@ -2,15 +2,15 @@
 
 ghost use Rattle.std.specs.{Arc.arc_value, Prelude.{◌≡◌, ℕ, Some, OnOk, OnErr, IfOk, None, IfErr}};
 ghost use Rattle.{pagable_model.specs.declared.numbers.Identity.Identity as Named, pagable_world.specs.Workers.{with_outcome, with_slot, with_wait, IsOpenSlot, ComesToEnd, with_changed_slot}};
-ghost use Rattle.{pagable_world.specs.{Workers.with_failed, World.{published, failed, Slot, SameShelf}}, pagable_walk.specs.Slots.{written_of, claimed_by, slot_of, IsNamed, slots_in, AreNamed}};
-ghost use Rattle.pagable_walk.specs.{Slots.{Stands, SlotIs, SameSlots, Leads, Changes, FailsAt, failed_by, after_failure, with_written, no_claims, Judges, ClaimsThere}, Table.shelf_of};
+ghost use Rattle.{pagable_world.specs.{Events.no_shelf, Workers.with_failed, World.{published, failed, Slot, SameShelf}}, pagable_walk.specs.Slots.{written_of, claimed_by, slot_of, IsNamed}};
+ghost use Rattle.pagable_walk.specs.{Slots.{AreNamed, slots_in, Stands, Leads, FailsAt, failed_by, after_failure, with_written, ClaimsThere, RefusesClaim, Would}, Table.shelf_of};
 ghost use Rattle.pagable_walk.specs.Table.{found_as, IsFoundOf};
 
 use crate::{Found, SlotResult, SlotTable, Trees};
 use indexmap::IndexMap;
 use pagable_core::SerializedData;
 use pagable_model::{Error, Identity, WorkerNumber};
-use std::alloc::{AllocError, Global};
+use std::alloc::Global;
 use std::sync::Arc;
 
 /// What is known of a claim.
@@ -115,49 +115,6 @@ pub fn look_up<E: Trees>(
     }
 }
 
-/// A free identity is claimed by a worker.
-pub fn add<E: Trees>(
-    slots: &mut IndexMap<(u32, u64), ArcSerSlot<E>>,
-    identity: Identity,
-    worker: WorkerNumber,
-) -> Result<(), AllocError>
-    requires { AreNamed slots.old }
-    ensures ok { OnOk result (SlotIs (slots_in slots.old) identity (Some (claimed_by worker.0)) (slots_in slots.new)) }
-    ensures err { OnErr result (SameSlots (slots_in slots.old) (slots_in slots.new)) }
-    ensures own { AreNamed slots.new }
-{
-    slots.insert((identity.kind.0, identity.node.0), ArcSerSlot::new(worker))?;
-    Ok(())
-}
-
-/// What was written of a claimed node is known from now on.
-pub fn write<E: Trees>(
-    slots: &mut IndexMap<(u32, u64), ArcSerSlot<E>>,
-    identity: Identity,
-    written: Arc<SerializedData>,
-)
-    requires { AreNamed slots.old }
-    ensures slots { Changes (with_written (written_of (arc_value written))) (slots_in slots.old) identity (slots_in slots.new) }
-    ensures own { AreNamed slots.new }
-{
-    match slots.get_mut(&(identity.kind.0, identity.node.0)) {
-        Some(slot) => slot.set_written(written),
-        None => {}
-    }
-}
-
-/// A result is put where others see it, unless one stands there.
-pub fn publish<E: Trees>(slots: &mut IndexMap<(u32, u64), ArcSerSlot<E>>, found: SlotResult<E>)
-    requires { AreNamed slots.old }
-    ensures slots { Changes (with_outcome (published found.key found.height)) (slots_in slots.old) found.identity (slots_in slots.new) }
-    ensures own { AreNamed slots.new }
-{
-    match slots.get_mut(&(found.identity.kind.0, found.identity.node.0)) {
-        Some(slot) => slot.set_success(found),
-        None => {}
-    }
-}
-
 // The claim of this place is failed, if it is this worker's and has no result yet.
 #[tactic(auto, using(crate::proofs::Failing::failing))]
 fn fail_at<E: Trees>(slots: &mut IndexMap<(u32, u64), ArcSerSlot<E>>, place: usize, worker: u64)
@@ -203,7 +160,8 @@ impl<E: Trees> SlotTable<E> {
 
     // What a claim of an identity at this place on a path would find.
     fn judge(&self, worker: WorkerNumber, identity: Identity, place: u64) -> Result<Found<E>, Error>
-        ensures judges { Judges worker.0 (shelf_of self.now) identity place (found_as result) }
+        ensures finds { IfOk (found_as result) (λ c. Would worker.0 (shelf_of self.now) identity place c) }
+        ensures refused { IfErr (found_as result) (RefusesClaim worker.0 (shelf_of self.now) identity place) }
         ensures own { IfOk result (IsFoundOf identity) }
     {
         if place > 128 {
@@ -242,7 +200,8 @@ impl<E: Trees> SlotTable<E> {
         ensures err { OnErr result (SameShelf (shelf_of self.old) (shelf_of self.new)) }
         ensures only { IfErr result (λ e. e ≡ Error.OutOfMemory) }
     {
-        add(&mut self.slots, identity, worker)?;
+        let slot = ArcSerSlot::new(worker);
+        self.slots.insert((identity.kind.0, identity.node.0), slot)?;
         Ok(())
     }
 
@@ -260,7 +219,7 @@ impl<E: Trees> SlotTable<E> {
     /// A table of no claims. It takes no memory.
     #[tactic(auto, using(crate::proofs::Ends::empty))]
     pub fn new(alloc: Global) -> SlotTable<E>
-        ensures { SameShelf no_claims (shelf_of result) }
+        ensures { SameShelf no_shelf (shelf_of result) }
     {
         SlotTable {
             slots: IndexMap::new(alloc),
@@ -301,14 +260,23 @@ impl<E: Trees> SlotTable<E> {
     pub fn set_written(&mut self, identity: Identity, written: Arc<SerializedData>)
         ensures { SameShelf (with_changed_slot (shelf_of self.old) identity (with_written (written_of (arc_value written)))) (shelf_of self.new) }
     {
-        write(&mut self.slots, identity, written);
+        match self.slots.get_mut(&(identity.kind.0, identity.node.0)) {
+            Some(slot) => slot.set_written(written),
+            None => {}
+        }
     }
 
     /// The result of a claimed identity is put where others see it. Where one stands there, it stays. It takes no memory.
     pub fn set_success(&mut self, found: SlotResult<E>)
         ensures { SameShelf (with_changed_slot (shelf_of self.old) found.identity (with_outcome (published found.key found.height))) (shelf_of self.new) }
     {
-        publish(&mut self.slots, found);
+        match self
+            .slots
+            .get_mut(&(found.identity.kind.0, found.identity.node.0))
+        {
+            Some(slot) => slot.set_success(found),
+            None => {}
+        }
     }
 
     /// A worker fails: its claims without a result are failed. It takes no memory.

@@ -1,7 +1,7 @@
 //! A worker's path: what was written and waits for the next of its references.
 
-ghost use Rattle.std.specs.{Prelude.{◌≡◌, ◌≤◌, ◌<◌, ◌+◌, ◌*◌, ◌∷◌, ◌++◌, [], IfOk, IfErr, OnErr, max, length, vec_len, vec_capacity}, Arc.arc_value};
-ghost use Rattle.pagable_world.specs.Plain.{above, longest_path};
+ghost use Rattle.std.specs.{Prelude.{◌≡◌, ◌≤◌, ◌<◌, ◌+◌, ◌*◌, ◌∷◌, ◌++◌, [], IfOk, IfErr, OnErr, length, vec_len, vec_capacity}, Arc.arc_value};
+ghost use Rattle.pagable_world.specs.Plain.{longest_path};
 ghost use Rattle.{pagable_world.specs.{Workers.{place_below, settle, give_known}, World.was_refused}, pagable_walk.specs.Tasks.{AwaitsLow, Gives, IsPlain, TakesNext, fault_of, place_of, raised}};
 ghost use Rattle.pagable_walk.specs.{Tasks.{back_of, fails, todo_of, todos, waiting_todo, waits_as}, Due.due, Slots.{keys_of, written_of}};
 
@@ -45,16 +45,7 @@ pub fn settle<E: Trees>(path: &mut Vec<Waiting<E>>, waiting: Waiting<E>) -> Task
     Task::Start(next, place)
 }
 
-// The height by a reference of this kind too, to what is so high.
-fn height_with(height: u64, kind: Kind, below: u64) -> u64
-    requires { below ≤ longest_path }
-    ensures { result ≡ max height (above kind.0 below) }
-{
-    let own = if kind.0 % 3 == 1 { 0 } else { below + 1 };
-    height.max(own)
-}
-
-// The same of a node.
+// A node with the height by a reference of this kind too, to what is so high.
 fn raised(node: Option<Node>, kind: Kind, below: u64) -> Option<Node>
     requires { below ≤ longest_path }
     ensures { result ≡ raised kind.0 below node }
@@ -66,7 +57,7 @@ fn raised(node: Option<Node>, kind: Kind, below: u64) -> Option<Node>
         reference: node.reference,
         place: node.place,
         through: node.through,
-        height: height_with(node.height, kind, below),
+        height: node.height.max(place_below(below, kind)),
     })
 }
 

@@ -4,11 +4,11 @@ ghost use Rattle.std.specs.Prelude.{◌≡◌, ◌∷◌, ◌<◌, ◌≤◌, �
 ghost use Rattle.pagable_loads.specs.Telling.{Acts, ActsThen, as_caller, values_at};
 ghost use Rattle.pagable_walk.specs.{Due.{LeadsOn, IfGoes, due, far}, Table.shelf_of, Tasks.{IsWay, todo_of, todos}, Turns.{Closes, TurnsTo, StepsTo, RunsTo, acting_then, plan}};
 
-use crate::ending::{end, finish, publish, release, set_key};
-use crate::stack::fail;
+use crate::SlotTable;
+use crate::ending::{answer, finish, give_back, release, set_key};
+use crate::stack::refuse;
 use crate::tasks::{Moved, Task, Turn, Waiting, named};
-use crate::turns::{load, pin, start, write};
-use crate::{PageOutError, SlotTable};
+use crate::turns::{after_claim, claim, counts, found, load, pin, write};
 use pagable_codec::{Env, NodeSet};
 use pagable_core::SerializedData;
 use pagable_loads::WorkerAccess;
@@ -17,8 +17,9 @@ use pagable_world::{Claim, Took, WorkerAnswer};
 use std::alloc::Global;
 use std::sync::Arc;
 
-/// Does what is to be done next: one task, by one step of the access at most.
-pub fn turn<E: Env, A: WorkerAccess<E>>(
+// Does what is to be done next: one task, by one step of the access at most.
+#[tactic(auto, using(crate::proofs::Closing::turning))]
+fn turn<E: Env, A: WorkerAccess<E>>(
     access: &mut A,
     alloc: Global,
     table: &mut SlotTable<E>,
@@ -34,7 +35,15 @@ where
     ensures acts { Acts A.told A.acting access.old access.new (λ a. TurnsTo (values_at E.Node.NodeSet E.Env E.Hash.KeyHash a.environment) a.me worker.0 (shelf_of table.old) task (todos path.old.items) (shelf_of table.new) result (plan result.turn path.new.items)) }
 {
     match task {
-        Task::Start(reference, place) => start(access, table, worker, path, reference, place),
+        Task::Start(reference, place) => {
+            let checked = access.check_reference(reference);
+            let claim = claim(table, worker, reference, place, checked);
+            Moved {
+                counted: counts(&claim),
+                took: Took::Claim(named(reference), found(&claim)),
+                turn: Turn::Goes(after_claim(path, reference, place, claim)),
+            }
+        }
         Task::Pin(reference, place) => pin(access, alloc, path, reference, place),
         Task::Load(reference, place, through, reading) => {
             load(access, alloc, path, reference, place, through, reading)
@@ -44,9 +53,24 @@ where
         }
         Task::Finish(waiting) => finish(access, alloc, path, waiting),
         Task::SetKey(done, through) => set_key(access, path, done, through),
-        Task::Publish(done) => publish(access, table, done),
+        Task::Publish(done) => {
+            table.set_success(done.found.again());
+            Moved {
+                took: Took::Publish(named(done.reference), done.key(), done.found.height),
+                turn: Turn::Goes(Task::Release(done)),
+                counted: true,
+            }
+        }
         Task::Release(done) => release(access, worker, path, done),
-        Task::Fail(why, back) => end(access, table, worker, why, back),
+        Task::Fail(why, back) => {
+            give_back(access, back);
+            table.fail(worker);
+            Moved {
+                took: Took::Fail,
+                turn: Turn::Answers(answer(why)),
+                counted: true,
+            }
+        }
     }
 }
 
@@ -119,11 +143,7 @@ where
                 table.stop_waiting(worker);
                 return Moved {
                     took: Took::Claim(named(reference), Err(Error::OutOfMemory)),
-                    turn: Turn::Goes(fail(
-                        path,
-                        PageOutError::Failed(Error::OutOfMemory),
-                        Some(reference.handle),
-                    )),
+                    turn: Turn::Goes(refuse(path, &Error::OutOfMemory, Some(reference.handle))),
                     counted: true,
                 };
             }

@@ -2,10 +2,10 @@
 
 ghost use Rattle.std.specs.{Prelude.{◌≡◌, ◌≤◌, ◌+◌, ◌*◌, ◌∷◌, ℕ, List, length, ◌<◌, IfOk, IfErr, OnOk, vec_len, vec_capacity}, Arc.arc_value};
 ghost use Rattle.pagable_world.specs.Plain.{longest_path};
-ghost use Rattle.pagable_world.specs.{Plain.type_of, Workers.{claim_fault, is_counted_claim, Claims}, World.{Core, Shelf, Todo, to_start, to_pin, to_load, seen_as, to_write, to_finish}, Kinds.identity_of};
+ghost use Rattle.pagable_world.specs.{Workers.{claim_fault, is_counted_claim, Claims}, World.{Core, Shelf, Todo, to_start, to_pin, to_load, seen_as, to_write, to_finish}, Kinds.identity_of};
 ghost use Rattle.{pagable_loads.specs.{Frames.reading_of, Telling.{Acts, Tells, values_at}, Working.fault_in}, pagable_walk.specs.{Due.{due, most, LeadsOn}, Table.{shelf_of, found_as}, Tasks.Awaits}};
 ghost use Rattle.pagable_walk.specs.{Tasks.{IsWay, todo_of, todos, waiting_todo}, Turns.{site, claim_todo, ClaimFits, ClaimLeaves, TurnsTo, plan}, Results.HasFormOf, Slots.written_of, Writing.IsForm};
-ghost use Rattle.pagable_walk.specs.Writing.{WriteRefused, Finds, Forms, just_open};
+ghost use Rattle.pagable_walk.specs.Writing.{WriteRefused, Forms, just_open};
 
 use crate::stack::{fail, give_known, refuse, settle};
 use crate::tasks::{Done, Moved, Node, Task, Turn, Waiting, named};
@@ -18,10 +18,10 @@ use pagable_world::{Claim, LoadAnswer, PinStep, Took};
 use std::alloc::Global;
 use std::sync::Arc;
 
-// A claim of what a reference names, at this place on the path. `checked` is why the reference itself can't be claimed. It is refused so first, and then as `try_claim`.
-// A claim that is refused leaves the claims as they were, and the worker waits for nothing.
+/// A claim of what a reference names, at this place on the path. `checked` is why the reference itself can't be claimed. It is refused so first, and then as `try_claim`.
+/// A claim that is refused leaves the claims as they were, and the worker waits for nothing.
 #[tactic(auto, using(crate::proofs::Turning::claiming))]
-fn claim<E: Trees>(
+pub fn claim<E: Trees>(
     table: &mut SlotTable<E>,
     worker: WorkerNumber,
     reference: ArcRef,
@@ -42,8 +42,8 @@ fn claim<E: Trees>(
     }
 }
 
-// What a claim found, with key and height alone of a result.
-fn found<E: Trees>(claim: &Result<Found<E>, Error>) -> Result<Claim, Error>
+/// What a claim found, with key and height alone of a result.
+pub fn found<E: Trees>(claim: &Result<Found<E>, Error>) -> Result<Claim, Error>
     ensures { result ≡ found_as claim.now }
 {
     match claim {
@@ -55,19 +55,19 @@ fn found<E: Trees>(claim: &Result<Found<E>, Error>) -> Result<Claim, Error>
     }
 }
 
-// Whether a claim counts: it does unless it waits.
-fn counts(found: &Result<Claim, Error>) -> bool
-    ensures { result ≡ is_counted_claim found.now }
+/// Whether a claim counts: it does unless it waits.
+pub fn counts<E: Trees>(claim: &Result<Found<E>, Error>) -> bool
+    ensures { result ≡ is_counted_claim (found_as claim.now) }
 {
-    match found {
-        Ok(Claim::Waiting) => false,
+    match claim {
+        Ok(Found::Waiting) => false,
         _ => true,
     }
 }
 
-// What is done after a claim.
+/// What is done after a claim.
 #[tactic(auto, using(crate::proofs::Ways::ways))]
-fn after_claim<E: Trees>(
+pub fn after_claim<E: Trees>(
     path: &mut Vec<Waiting<E>>,
     reference: ArcRef,
     place: u64,
@@ -89,33 +89,8 @@ fn after_claim<E: Trees>(
     }
 }
 
-/// Claims what a reference names, at this place on the path.
-pub fn start<E: Env, A: WorkerAccess<E>>(
-    access: &A,
-    table: &mut SlotTable<E>,
-    worker: WorkerNumber,
-    path: &mut Vec<Waiting<E>>,
-    reference: ArcRef,
-    place: u64,
-) -> Moved<E>
-where
-    E::Node: NodeSet<E>,
-    requires { Awaits (todos path.old.items) reference place }
-    ensures way { IsWay (plan result.turn path.new.items) }
-    ensures leads { LeadsOn (to_start reference place ∷ todos path.old.items) result.turn (plan result.turn path.new.items) }
-    ensures step { Tells (A.told access.now) (λ s. TurnsTo (values_at E.Node.NodeSet E.Env E.Hash.KeyHash (A.acting access.now).environment) (A.acting access.now).me worker.0 (shelf_of table.old) (Task.Start reference place) (todos path.old.items) (shelf_of table.new) result (plan result.turn path.new.items) s s) }
-{
-    let checked = access.check_reference(reference);
-    let claim = claim(table, worker, reference, place, checked);
-    let found = found(&claim);
-    Moved {
-        counted: counts(&found),
-        took: Took::Claim(named(reference), found),
-        turn: Turn::Goes(after_claim(path, reference, place, claim)),
-    }
-}
-
 /// Pins what was claimed, or begins a load of it.
+#[tactic(auto, using(crate::proofs::Pinning::pinning))]
 pub fn pin<E: Env, A: WorkerAccess<E>>(
     access: &mut A,
     alloc: Global,
@@ -125,41 +100,38 @@ pub fn pin<E: Env, A: WorkerAccess<E>>(
 ) -> Moved<E>
 where
     E::Node: NodeSet<E>,
-    requires way { Awaits (todos path.old.items) reference place }
-    requires near { place ≤ longest_path }
+    requires { IsWay (to_pin reference place ∷ todos path.old.items) }
     ensures way { IsWay (plan result.turn path.new.items) }
     ensures leads { LeadsOn (to_pin reference place ∷ todos path.old.items) result.turn (plan result.turn path.new.items) }
     ensures acts { (n : ℕ) (shelf : Shelf) → Acts A.told A.acting access.old access.new (λ a. TurnsTo (values_at E.Node.NodeSet E.Env E.Hash.KeyHash a.environment) a.me n shelf (Task.Pin reference place) (todos path.old.items) shelf result (plan result.turn path.new.items)) }
 {
     let identity = named(reference);
-    let taken = match access.take_reference(reference) {
-        Ok(taken) => taken,
-        Err(e) => {
-            return Moved {
-                turn: Turn::Goes(refuse(path, &e, Some(reference.handle))),
-                took: Took::Pin(identity, Err(e)),
+    match access.take_reference(reference) {
+        Ok(taken) => match taken {
+            Taken::Held(through, pin) => Moved {
+                took: Took::Pin(identity, Ok(PinStep::Held(pin))),
+                turn: Turn::Goes(Task::Write(reference, place, through, pin)),
                 counted: true,
-            };
-        }
-    };
-    match taken {
-        Taken::Held(through, pin) => Moved {
-            took: Took::Pin(identity, Ok(PinStep::Held(pin))),
-            turn: Turn::Goes(Task::Write(reference, place, through, pin)),
+            },
+            Taken::Begun(through, load, key) => {
+                let reading = Reading::new(alloc, load, key, reference.kind.0 / 3, true);
+                Moved {
+                    took: Took::Pin(identity, Ok(PinStep::LoadBegun(load))),
+                    turn: Turn::Goes(Task::Load(reference, place, through, reading)),
+                    counted: true,
+                }
+            }
+        },
+        Err(e) => Moved {
+            turn: Turn::Goes(refuse(path, &e, Some(reference.handle))),
+            took: Took::Pin(identity, Err(e)),
             counted: true,
         },
-        Taken::Begun(through, load, key) => {
-            let reading = Reading::new(alloc, load, key, reference.kind.0 / 3, true);
-            Moved {
-                took: Took::Pin(identity, Ok(PinStep::LoadBegun(load))),
-                turn: Turn::Goes(Task::Load(reference, place, through, reading)),
-                counted: true,
-            }
-        }
     }
 }
 
 /// Makes the next step of the load of what was claimed.
+#[tactic(auto, using(crate::proofs::Pinning::pinning))]
 pub fn load<E: Env, A: WorkerAccess<E>>(
     access: &mut A,
     alloc: Global,
@@ -171,8 +143,7 @@ pub fn load<E: Env, A: WorkerAccess<E>>(
 ) -> Moved<E>
 where
     E::Node: NodeSet<E>,
-    requires way { Awaits (todos path.old.items) reference place }
-    requires near { place ≤ longest_path }
+    requires { IsWay (to_load reference place through (reading_of reading) ∷ todos path.old.items) }
     ensures way { IsWay (plan result.turn path.new.items) }
     ensures leads { LeadsOn (to_load reference place through (reading_of reading) ∷ todos path.old.items) result.turn (plan result.turn path.new.items) }
     ensures acts { (n : ℕ) (shelf : Shelf) → Acts A.told A.acting access.old access.new (λ a. TurnsTo (values_at E.Node.NodeSet E.Env E.Hash.KeyHash a.environment) a.me n shelf (Task.Load reference place through reading) (todos path.old.items) shelf result (plan result.turn path.new.items)) }
@@ -196,11 +167,7 @@ where
         },
         Some(LoadAnswer::Read(_value)) => Moved {
             took: Took::Pin(identity, Err(Error::WrongMode)),
-            turn: Turn::Goes(fail(
-                path,
-                PageOutError::Failed(Error::WrongMode),
-                Some(reference.handle),
-            )),
+            turn: Turn::Goes(refuse(path, &Error::WrongMode, Some(reference.handle))),
             counted: false,
         },
     }
@@ -215,39 +182,12 @@ where
 {
     let session = SessionContext::new(alloc);
     let mut serializer = SerializerForPaging::new(alloc, env, &session);
-    match node.write(&mut serializer) {
-        Ok(()) => {
-            let (bytes, arcs) = serializer.finish();
-            Ok(SerializedData { bytes, arcs })
-        }
-        Err(e) => Err(e),
-    }
+    node.write(&mut serializer)?;
+    let (bytes, arcs) = serializer.finish();
+    Ok(SerializedData { bytes, arcs })
 }
 
-// The value that a handle pins, of this kind's type.
-fn pinned<E: Env, A: WorkerAccess<E>>(
-    access: &A,
-    reference: ArcRef,
-    pin: HandleNumber,
-) -> Result<Arc<E::Node>, Error>
-where
-    E::Node: NodeSet<E>,
-    ensures typed { IfOk result (λ x. E.Node.type_of (arc_value x) ≡ type_of reference.kind.0) }
-    ensures step { Tells (A.told access.now) (λ s. Finds (values_at E.Node.NodeSet E.Env E.Hash.KeyHash (A.acting access.now).environment) s reference pin (seen_as arc_value result)) }
-{
-    match access.share(pin) {
-        Ok(Some(node)) => {
-            if node.node_type() != reference.kind.0 / 3 {
-                return Err(Error::WrongKind);
-            }
-            Ok(node)
-        }
-        Ok(None) => Err(Error::WrongMode),
-        Err(e) => Err(e),
-    }
-}
-
-// A form of the value that a handle pins.
+// A form of the value that a handle pins, of this kind's type.
 fn form<E: Env, A: WorkerAccess<E>>(
     access: &A,
     alloc: Global,
@@ -259,8 +199,14 @@ where
     ensures form { IfOk result (λ d. ∥ HasFormOf (values_at E.Node.NodeSet E.Env E.Hash.KeyHash) (identity_of reference) (written_of d) ∥₁) }
     ensures step { Tells (A.told access.now) (λ s. Forms (values_at E.Node.NodeSet E.Env E.Hash.KeyHash (A.acting access.now).environment) s reference pin (seen_as written_of result)) }
 {
-    match pinned(access, reference, pin) {
-        Ok(node) => written(access.env(), alloc, node.as_ref()),
+    match access.share(pin) {
+        Ok(Some(node)) => {
+            if node.node_type() != reference.kind.0 / 3 {
+                return Err(Error::WrongKind);
+            }
+            written(access.env(), alloc, node.as_ref())
+        }
+        Ok(None) => Err(Error::WrongMode),
         Err(e) => Err(e),
     }
 }
@@ -341,8 +287,7 @@ pub fn write<E: Env, A: WorkerAccess<E>>(
 ) -> Moved<E>
 where
     E::Node: NodeSet<E>,
-    requires way { Awaits (todos path.old.items) reference place }
-    requires near { place ≤ longest_path }
+    requires { IsWay (to_write reference place through ∷ todos path.old.items) }
     ensures way { IsWay (plan result.turn path.new.items) }
     ensures leads { LeadsOn (to_write reference place through ∷ todos path.old.items) result.turn (plan result.turn path.new.items) }
     ensures step { (n : ℕ) → Tells (A.told access.now) (λ s. TurnsTo (values_at E.Node.NodeSet E.Env E.Hash.KeyHash (A.acting access.now).environment) (A.acting access.now).me n (shelf_of table.old) (Task.Write reference place through pin) (todos path.old.items) (shelf_of table.new) result (plan result.turn path.new.items) s s) }

@@ -1,10 +1,6 @@
-use Rattle.{pagable_loads.proofs.Stepped.acts_map, pagable_walk.{specs.Tasks.todos, proofs.Closing.{set-goes, set-fails}}}
+use Rattle.{pagable_loads.proofs.Stepped.acts_map, pagable_walk.{specs.Tasks.todos, proofs.Closing.set-goes}}
 use Rattle.pagable_walk.proofs.ending.set_key.Goals as goal
 
 pub returns-in-Ok-clause-acts : goal.returns-in-Ok-clause-acts
 returns-in-Ok-clause-acts g c n shelf =
     rw c.named-identity.ensures (acts_map (rw c.key.ensures at c.in-Ok.ensures) (set-goes _ _ n shelf (todos c.args.path.now.items) c.args.done c.args.through))
-
-pub returns-in-Err-clause-acts : goal.returns-in-Err-clause-acts
-returns-in-Err-clause-acts g c n shelf =
-    rw c.named-identity.ensures (acts_map (rw c.key.ensures at c.in-Err.ensures) (set-fails _ _ n shelf (todos c.args.path.now.items) c.args.done c.args.through c.in-Err.e c.refuse.result _ c.refuse.ensures.plain c.refuse.ensures.todo))

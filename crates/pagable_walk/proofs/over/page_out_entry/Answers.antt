@@ -6,5 +6,8 @@ returns-in-Err g c = acts_map c.in-Err.ensures.refused (entry-refused _ c.args.p
 
 pub returns : goal.returns
 returns g c =
-    acts_on c.in-Ok.ensures.begins c.run.ensures (λ s mid t starts run. entry-walked _ c.args.place _ c.in-Ok.begun.0 c.in-Ok.begun.1 (shelf_of c.new-table.result) c.start_entry-task.result.0 (todos c.start_entry-task.result.1.items) (shelf_of c.run.new.table) c.run.result
-    refl c.start_entry-task.ensures.plain c.start_entry-task.ensures.todo c.new-table.ensures s mid t starts run) (is-caller (g.A.Access.acting c.args.access.now) c.requires.caller)
+    let first = c.start_entry-task in
+    let shelf = shelf_of c.new-table.result in
+    rw c.told.ensures (acts_on c.in-Ok.ensures.begins c.run.ensures
+    (λ s mid t starts run. entry-walked _ c.args.place _ c.in-Ok.begun.0 c.in-Ok.begun.1 shelf first.result.0 (todos first.result.1.items) (shelf_of c.run.new.table) c.run.result
+    refl first.ensures.plain first.ensures.todo c.new-table.ensures s mid t starts run) (is-caller (g.A.Access.acting c.args.access.now) c.requires.caller))

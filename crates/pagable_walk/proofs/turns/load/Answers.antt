@@ -1,4 +1,4 @@
-use Rattle.{std.proofs.Common.{refl}, pagable_loads.proofs.Stepped.acts_map, pagable_walk.{specs.Tasks.todos, proofs.Pinning.{load-goes, load-pins, load-fails, load-reads-none}}}
+use Rattle.{std.proofs.Common.{refl}, pagable_loads.proofs.Stepped.acts_map, pagable_walk.{specs.Tasks.todos, proofs.Pinning.{load-goes, load-pins, load-fails}}}
 use Rattle.pagable_walk.proofs.turns.load.Goals as goal
 
 pub returns-in-None-clause-acts : goal.returns-in-None-clause-acts
@@ -13,7 +13,3 @@ returns-in-Some-Pinned-clause-acts g c n shelf =
 pub returns-in-Some-Refused-clause-acts : goal.returns-in-Some-Refused-clause-acts
 returns-in-Some-Refused-clause-acts g c n shelf =
     rw c.named-identity.ensures (acts_map (rw c.in-Some-Refused.field-0-is at c.in-Some-Refused.ensures.acts) (load-fails _ _ n shelf c.args.reference c.args.place (todos c.args.path.now.items) c.args.through c.args.reading c.in-Some-Refused.e _ c.refuse.result _ c.refuse.ensures.plain c.refuse.ensures.todo))
-
-pub returns-clause-acts : goal.returns-clause-acts
-returns-clause-acts g c n shelf =
-    acts_map (rw c.in-Some-Read.field-0-is at c.in-Some-Read.ensures.acts) (load-reads-none _ _ n shelf c.args.reference c.args.place (todos c.args.path.now.items) c.args.through c.args.reading c.in-Some-Read._value _ _ _ refl)

@@ -7,7 +7,7 @@ pub returns-in-Ok-clause-way : goal.returns-in-Ok-clause-way
 returns-in-Ok-clause-way g c =
     let node = just_open c.args.reference c.args.place c.args.through (written_of (arc_value c.in-Ok.told)) in
     let e = c.settle.ensures.todo ∙ ap (λ t. settle (t ∷ todos c.prepare.new.path.items)) c.in-Ok.ensures.open ∙ ap (λ ps. settle (to_finish node ∷ todos ps)) c.in-Ok.ensures.path in
-    subst IsWay (sym e) (settle-way node (todos c.args.path.now.items) (omega arith) c.requires.way (omega (arith, c.requires.near)))
+    subst IsWay (sym e) (settle-way node (todos c.args.path.now.items) (omega arith) c.requires.0 (omega (arith, c.requires.1)))
 
 pub returns-in-Ok-clause-step : goal.returns-in-Ok-clause-step
 returns-in-Ok-clause-step g c n =

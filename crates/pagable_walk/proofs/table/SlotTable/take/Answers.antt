@@ -1,7 +1,26 @@
-use Rattle.{std.proofs.Common.refl, pagable_walk.{specs.{Slots.shelf_in, Table.shelf_of}, proofs.{Ends.taken-or-not, Held.either-way}}}
+use Rattle.{std.{proofs.Common.{inl, inr, refl, sym, ap, ◌∙◌}, specs.{Map.lookup, Option.option_map}}, pagable_walk.specs.{Slots.{is_same, open_worker, shelf_in, slot_of}, Table.shelf_of}}
+use Rattle.pagable_walk.proofs.{Ends.{less-open, taken}, Held.{either-way, own-is, slot-is}}
 use Rattle.pagable_walk.proofs.table.SlotTable.take.Goals as goal
 
-pub invariant_of-self-clause-ends : goal.invariant_of-self-clause-ends
-invariant_of-self-clause-ends g c =
+pub returns-clause-ok : goal.returns-clause-ok
+returns-clause-ok g c =
+    record { slots = slot-is c.args.self.now.slots c.insert.new.self c.args.identity c.new-slot.result c.in_ok-insert.ensures.updates.0 _ c.new-slot.ensures.slot; waits = λ v. refl }
+
+pub invariant_of-self : goal.invariant_of-self
+invariant_of-self g c =
     let old = c.args.self.now in
-    taken-or-not (shelf_of old) (shelf_in c.add.new.slots old.waits) c.args.worker.0 c.args.identity (λ v. refl) c.requires.works (either-way c.add.result c.add.ensures.ok c.add.ensures.err) old.ends
+    let new = c.insert.new.self in
+    let i = c.args.identity in
+    let slot = c.new-slot.result in
+    elim (either-way c.insert.result c.insert.ensures.updates c.insert.ensures.err) [
+      | inl updates ↦
+          let is = slot-is old.slots new i slot updates.0 _ c.new-slot.ensures.slot in
+          record {
+            own = own-is old.slots new i slot updates.0 old.own (λ j e. c.new-slot.ensures.own j);
+            ends = taken (shelf_of old) (shelf_in new old.waits) c.args.worker.0 i (record { slots = is; waits = λ v. refl }) c.requires.works old.ends;
+          }
+      | inr same ↦ record {
+        own = λ j t there. old.own j t (sym (ap (lookup (is_same (j.kind.0, j.node.0))) same) ∙ there);
+        ends = less-open (shelf_of old) (shelf_in new old.waits) (λ j w e. sym (ap (λ es. open_worker (option_map slot_of (lookup (is_same (j.kind.0, j.node.0)) es))) same) ∙ e) (λ v. refl) old.ends;
+      }
+    ]
