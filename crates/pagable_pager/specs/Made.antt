@@ -1,8 +1,8 @@
 -- What a lent pager makes: a worker that an entry of the list moves to, and the clone through which it takes a reference.
+use Rattle.std.specs.Prelude.{Err, IfErr, IfOk, Ok, Result, ℕ, ◌+◌, ◌≡◌, ◌⊎◌}
 use Rattle.{pagable_loads.specs.declared.working.Taken.Taken, pagable_model.specs.declared.{error.Error.Error, numbers.{ArcRef.ArcRef, HandleNumber.HandleNumber, WorkerNumber.WorkerNumber}}}
 use Rattle.pagable_world.specs.{Calls.PinCall, Events.{IsEntry, with_entry_taken, with_worker}, Kinds.{HasKinds, loose_kind}, LoadCalls.BeginCall, World.{Alike, Core}}
-use Rattle.{pagable_world.specs.declared.{answers.{Beginning.Beginning, Pinning.Pinning}, handles.{HandleRow.HandleRow, Owner.Owner}}, std.specs.Prelude.{Err, IfErr, IfOk, Ok, Result, ℕ, ◌+◌, ◌≡◌}}
-use Rattle.std.specs.Prelude.{◌⊎◌}
+use Rattle.pagable_world.specs.declared.{answers.{Beginning.Beginning, Pinning.Pinning}, handles.{HandleRow.HandleRow, Owner.Owner}}
 
 -- the entry at this place moves to a new worker, and is a loose reference to its cell
 pub record TakesEntry (w : Core) (place : ℕ) (n : WorkerNumber) (r : ArcRef) (w' : Core) : Type 0 where
