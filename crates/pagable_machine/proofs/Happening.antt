@@ -1,12 +1,11 @@
 -- Each event of the machine, by what the pager and what is kept of loads say of it.
-use Rattle.pagable_machine.proofs.Words.{Does, CallBrings, OnlyLess, core_in, plain_call, plain_reply, arith, nat_tests, ◌≡◌, ℕ, true, false, Option, Some, None, Ok, Err, ◌⊎◌}
-use Rattle.pagable_machine.proofs.Words.{inl, inr, refl, sym, ap, subst, ◌∙◌, Result, is_some, Arc, Global, PagableData, Error, HandleNumber, LoadNumber, Beginning, Call, Reply, LoadReply, Blob}
-use Rattle.pagable_machine.proofs.Words.{Seen, Values, Written, load_fault, DropCall, fresh, Moves, PagerState, WellFormed, same_some, reading_of, PagerView, Telling, state_in, ReadsAs}
-use Rattle.pagable_machine.proofs.Words.{Ghosts, plain, Held, Serves, Forgets, Holding, IsPrepared, IsTaken, KeepsOne, Kept, KeptStep, rest_after, Answer, Drives, Given}
-use Rattle.pagable_machine.proofs.{Words.{IsInStep, Readings, holding, kept_at, over}, Keeping.{by-call, key-starts, nothing-done, refused, same-work}, Loading.{faulty, never-typed, no-place}}
-use Rattle.pagable_machine.proofs.{Loading.own-steps, Words.{machine_of, step_fault, world_of, LoadAnswer}}
-use Rattle.pagable_world.specs.declared.{handles.Owner.Owner, events.{EventReply.EventReply, Event.Event}}
-use Rattle.{pagable_loads.specs.declared.reading.Reading.Reading as Own, pagable_pager.{proofs.Adopting.less-moves, specs.View.{OnlyTables, value_in}}}
+use Rattle.{pagable_loads.specs.declared.reading.Reading.Reading as Own, pagable_machine.proofs.{Keeping.{by-call, key-starts, nothing-done, refused, same-work}, Loading.{faulty, never-typed}}}
+use Rattle.pagable_machine.proofs.{Loading.{no-place, own-steps}, Words.{Answer, Arc, Beginning, Blob, Call, CallBrings, Does, Drives, DropCall, Err, Error, Forgets, Ghosts, Given, Global}}
+use Rattle.pagable_machine.proofs.Words.{HandleNumber, Held, Holding, IsInStep, IsPrepared, IsTaken, KeepsOne, Kept, KeptStep, LoadAnswer, LoadNumber, LoadReply, Moves, None, Ok, OnlyLess, Option}
+use Rattle.pagable_machine.proofs.Words.{PagableData, PagerState, PagerView, Readings, ReadsAs, Reply, Result, Seen, Serves, Some, Telling, Values, WellFormed, Written, ap, arith, core_in, false}
+use Rattle.pagable_machine.proofs.Words.{fresh, holding, inl, inr, is_some, kept_at, load_fault, machine_of, nat_tests, over, plain, plain_call, plain_reply, reading_of, refl, rest_after}
+use Rattle.{pagable_machine.proofs.Words.{same_some, state_in, step_fault, subst, sym, true, world_of, ℕ, ◌∙◌, ◌≡◌, ◌⊎◌}, pagable_pager.{proofs.Putting.less-moves, specs.View.OnlyTables}}
+use Rattle.{pagable_pager.specs.View.value_in, pagable_world.specs.declared.{events.{Event.Event, EventReply.EventReply}, handles.Owner.Owner}}
 
 -- a call by which values come, one by which they only go, and one by which they stay
 module _ {N S E : Type 0} {v : Values N} {tells : Telling S} {old new : PagerView N S E} {call : Call N PagableData} {r : Reply N (Arc PagableData Global)}
