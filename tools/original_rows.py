@@ -214,33 +214,25 @@ def bounds(name, rows):
 
 def rows_of(name, lines):
     """The picked rows of a type."""
-    made = {"enc": {}, "dec": {}}
-    for line in lines:
-        found = row(line)
-        if found is not None and len(found[0]) <= LONGEST_INPUT:
-            made[line["op"]][found] = None
-    made = {op: list(rows) for op, rows in made.items()}
-    is_number = name in UNSIGNED + SIGNED
-    written = bounds(name, made["enc"]) if is_number else picked(made["enc"], WRITTEN, lambda row: ("ok", len(row[0])))
-    read = picked([row for row in made["dec"] if row not in written], READ, kind_of_answer)
-    return written + read
+    encoded, decoded = (list(dict.fromkeys(row(line) for line in lines if line["op"] == op)) for op in ("enc", "dec"))
+    encoded, decoded = ([found for found in rows if found and len(found[0]) <= LONGEST_INPUT] for rows in (encoded, decoded))
+    written = bounds(name, encoded) if name in UNSIGNED + SIGNED else picked(encoded, WRITTEN, lambda row: ("ok", len(row[0])))
+    return written + picked([found for found in decoded if found not in written], READ, kind_of_answer)
 
 
 def print_lines(word, start, rows):
     """Prints either the inputs or the answers of the rows, in lines that aren't too long."""
     lines, width = [], COLUMNS + 1
-    for data, answer in rows:
-        longer = max(len(data), len(answer)) + 2
-        if width + longer > COLUMNS:
-            lines.append([])
-            width = 0
+    for row in rows:
+        longer = max(map(len, row)) + 2
         width += longer
-        lines[-1].append((data, answer))
+        if width > COLUMNS:
+            lines.append([])
+            width = longer
+        lines[-1].append(row)
     for line in lines:
-        if word == "data":
-            print(start, *(data for data, _answer in line))
-        else:
-            print("; ".join(answer for _data, answer in line))
+        inputs, answers = zip(*line)
+        print(" ".join([start, *inputs]) if word == "data" else "; ".join(answers))
 
 
 def main():

@@ -119,11 +119,16 @@ fn items(storage: &InMemoryPagableStorage, handle: &PagableStorageHandle, count:
     (write_time, start.elapsed())
 }
 
-/// A row of values that refer to others, or of lone texts, in a new storage.
-fn graph(row: &str) -> Times {
+/// A row once: a value's form is read and written, or values that refer to others, or lone texts, go out of a new storage and come back.
+fn once(row: &str, form: &[u8]) -> Times {
     let storage = InMemoryPagableStorage::new();
     let handle = PagableStorageHandle::new(storage.handle());
     match row {
+        "numbers" => codec::<Vec<u64>>(form),
+        "bytes" => codec::<Vec<u8>>(form),
+        "texts" => codec::<Vec<String>>(form),
+        "maps" => codec::<BTreeMap<u64, BTreeMap<u64, u64>>>(form),
+        "ordered" => codec::<IndexMap<String, u32>>(form),
         "cells" => out_and_in(storage, (0..10_000).map(|number| cell(&handle, format!("the text of cell number {number}"))).collect()),
         "items" => items(&storage, &handle, 20_000),
         "trees" => {
@@ -135,17 +140,6 @@ fn graph(row: &str) -> Times {
             out_and_in(storage, (0..30).map(loose).collect())
         }
         _ => panic!("no such row: {row}"),
-    }
-}
-
-fn once(row: &str, form: &[u8]) -> Times {
-    match row {
-        "numbers" => codec::<Vec<u64>>(form),
-        "bytes" => codec::<Vec<u8>>(form),
-        "texts" => codec::<Vec<String>>(form),
-        "maps" => codec::<BTreeMap<u64, BTreeMap<u64, u64>>>(form),
-        "ordered" => codec::<IndexMap<String, u32>>(form),
-        _ => graph(row),
     }
 }
 

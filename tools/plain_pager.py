@@ -402,8 +402,6 @@ class Pager(Tables):
 
     def load_adopt(self, load, kind, key, value):
         """A node for a reference that is read with its value; or what the cache has, and then the value is dropped."""
-        if load not in self.loads:
-            raise Refused(NO_SUCH_HANDLE, back=True)
         owner = ("load", load)
         refuse_first([self.foreign(load), WRONG_MODE if is_lazy(kind) else None, None if value.node_type == type_of(kind) else WRONG_KIND,
                       self.cause_of_references(owner, value.references)], back=True)

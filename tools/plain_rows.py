@@ -193,7 +193,7 @@ class Draw:
         if taken.startswith("ok"):
             entry, pinned = taken[3:], (yield f"pin {taken[3:]}")
             if pinned.startswith("ok"):
-                key = yield f"store {self.blob()}"
+                key = yield f"store {self.random.choice(['0178', '02616c', '026c62', '00'])}"
                 if key.startswith("ok"):
                     yield f"set_data_key {entry} {key[3:]}"
                 yield f"release {pinned[3:]}"
@@ -226,9 +226,6 @@ class Draw:
     def kind(self):
         """A kind of references: mostly one that stands in values."""
         return self.random.choice([*RowTypes.LISTS, 10, 12]) if self.random.random() < 0.7 else self.random.randrange(3 * RowTypes.END + 1)
-
-    def blob(self):
-        return self.random.choice([Blob(b"\x01x"), Blob(b"\x02al"), Blob(b"\x02lb"), Blob(b"\x00")]).text()
 
     def own(self, owner):
         """The handles of an owner, in some order."""
@@ -334,7 +331,7 @@ class Draw:
 
     def loading(self):
         """A load of a cell or of a key, step by step, up to its end if no other call ends it before."""
-        begun = yield self.random.choice([self.start_of_cell, self.start_of_cell, self.start_of_key])()
+        begun = yield self.start_of_cell() if self.random.choice([True, True, False]) else "read {} {}".format(*self.typed())
         if begun.startswith("ok"):
             begun = yield f"start {begun[3:]}"
         while begun.startswith("load"):
@@ -353,9 +350,6 @@ class Draw:
         if away and self.random.random() < 0.6:
             return f"start {away[0]}"
         return "new_paged_out {1} {0}".format(*self.typed())
-
-    def start_of_key(self):
-        return "read {} {}".format(*self.typed())
 
     def typed(self):
         """A key and a type, mostly that as which it can be read."""

@@ -27,10 +27,6 @@ def kind_here(kind):
 KINDS = {kind_here(kind): kind for kind in range(12)}
 
 
-class Differs(Exception):
-    pass
-
-
 class Run:
     """Plays the steps of one run as rows. `numbers` has the handle of each name."""
 
@@ -135,43 +131,38 @@ class Run:
         self.numbers.update(zip(names or [], given))
         return {"value": self.told(node_type, spelled), "as": names if len(names or []) == len(given) else given}
 
-    def work(self, made):
-        """A worker's steps to its answer."""
-        word, *key = self.to_end("work", made).partition(" -> ")[2].split(" ")
+    def work(self, kind, rest):
+        """The answer of a worker on a table of its own."""
+        table = self.ask("table").split()[1]
+        word, *key = self.to_end("work", self.ask(f"{kind} {table} {rest}")).partition(" -> ")[2].split(" ")
         return {"key": key[0]} if word == "ok" else {"failed": int(key[0])} if word == "failed" else "already failed"
 
     def do_page_out_item(self, step, _):
-        references = ",".join(map(self.reference, step["refs"]))
-        table = self.ask("table").split()[1]
-        return self.work(self.ask(f"item {table} {step['data'] or '-'}:{references}"))
+        return self.work("item", f"{step['data'] or '-'}:{','.join(map(self.reference, step['refs']))}")
 
     def do_page_out_pending(self, *_):
         """What is listed at the call, from the last entry to the first; a cell that has a key is skipped."""
         for place in reversed(range(self.pager.pending())):
             entry = self.pager.list[place]
-            if self.pager.key(entry) != "none":
+            if self.pager.key(entry) == "none":
+                answer = self.work("listed", place)
+                if "key" not in answer:
+                    return answer
+            else:
                 self.ask(f"take_pending {place}")
                 self.ask(f"release {entry}")
-                continue
-            table = self.ask("table").split()[1]
-            answer = self.work(self.ask(f"listed {table} {place}"))
-            if "key" not in answer:
-                return answer
         return None
 
     # ---- what they leave
 
-    def compare(self, step):
-        """Raises at the first thing that isn't as the run tells it, refusals by their numbers alone."""
-        answer, wanted = self.answer(step), step["reply"]
+    def difference(self, step):
+        """The first thing that isn't as the run tells it, refusals by their numbers alone, or None: what the step answers, how long the list is, the
+        names of each node, and of each live handle the count, the key, and whether it is away."""
+        answer, wanted, state = self.answer(step), step["reply"], step["state"]
         if isinstance(wanted, dict):
             wanted = {word: told["no"] if word in ("refused", "failed") else told for word, told in wanted.items()}
         if answer != wanted:
-            raise Differs(f"{answer}, and not {wanted}")
-        self.compare_state(step["state"])
-
-    def compare_state(self, state):
-        """How long the list is, the names of each node, and of each live handle the count, the key, and whether it is away."""
+            return f"{answer}, and not {wanted}"
         pager, nodes, handles = self.pager, {}, {}
         for name, number in self.numbers.items():
             if number in pager.handles:
@@ -179,17 +170,15 @@ class Run:
                 key = pager.key(number)
                 handles[name] = [pager.count(number), None if key == "none" else str(key), pager.is_paged_out(number) == "yes"]
         left = {"pending": pager.pending(), "same": sorted(map(sorted, nodes.values())), "handles": handles}
-        if left != dict(state, same=sorted(map(sorted, state["same"]))):
-            raise Differs(f"it leaves {left}, and not {state}")
+        return None if left == dict(state, same=sorted(map(sorted, state["same"]))) else f"it leaves {left}, and not {state}"
 
 
 def first_difference(steps, alike):
     """Plays a run up to the first step that answers or leaves another thing, and tells it."""
     run = Run()
     for place, step in enumerate(steps):
-        try:
-            run.compare(step)
-        except Differs as difference:
+        difference = run.difference(step)
+        if difference:
             return f"step {place}, {step['op']}: {difference}"
         alike[step["op"]] += 1
     return None
@@ -201,7 +190,7 @@ def rows_of(steps):
     yield "machine sha256"
     for step in [*steps, None]:
         if step:
-            run.compare(step)
+            assert run.difference(step) is None
             row, run.row = row + run.row, []
         if len(row) > 9 or row and step is None:
             yield "; ".join(row)

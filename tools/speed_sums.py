@@ -47,23 +47,7 @@ def list_form(forms):
     return varint(len(forms)) + b"".join(forms)
 
 
-def numbers():
-    draws = Draws(1)
-    return list_form([varint(draws.number() >> place % 64) for place in range(1_000_000)])
-
-
-def drawn_bytes():
-    draws = Draws(2)
-    return text_form(bytes(draws.number() >> 56 for _ in range(1_000_000)))
-
-
-def texts():
-    draws = Draws(3)
-    return list_form([text_form(draws.text(draws.number() % 32)) for _ in range(200_000)])
-
-
-def maps():
-    draws = Draws(4)
+def maps(draws):
     outer = {}
     for _ in range(400):
         inner = outer[draws.number()] = {}
@@ -73,8 +57,7 @@ def maps():
     return list_form([varint(key) + list_form([varint(k) + varint(v) for k, v in sorted(inner.items())]) for key, inner in sorted(outer.items())])
 
 
-def ordered():
-    draws = Draws(5)
+def ordered(draws):
     entries = {}
     for _ in range(100_000):
         key = draws.text(12 + draws.number() % 16)
@@ -82,10 +65,18 @@ def ordered():
     return list_form([text_form(k) + varint(v) for k, v in entries.items()])
 
 
-FORMS = {"numbers": numbers, "bytes": drawn_bytes, "texts": texts, "maps": maps, "ordered": ordered}
+# What is drawn from the seeds 1, 2 and so on.
+FORMS = {
+    "numbers": lambda draws: list_form([varint(draws.number() >> place % 64) for place in range(1_000_000)]),
+    "bytes": lambda draws: text_form(bytes(draws.number() >> 56 for _ in range(1_000_000))),
+    "texts": lambda draws: list_form([text_form(draws.text(draws.number() % 32)) for _ in range(200_000)]),
+    "maps": maps,
+    "ordered": ordered,
+}
 
 if __name__ == "__main__":
-    for name, form in {name: make() for name, make in FORMS.items()}.items():
+    for seed, (name, made) in enumerate(FORMS.items(), 1):
+        form = made(Draws(seed))
         if len(sys.argv) > 1:
             (pathlib.Path(sys.argv[1]) / name).write_bytes(form)
         else:

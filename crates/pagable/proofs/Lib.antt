@@ -1,5 +1,4 @@
 pub mod Carrying
-pub use Rattle.pagable_codec.proofs.Adding
 pub use Rattle.pagable_codec.proofs.Reading
 pub use Rattle.pagable_codec.proofs.Writing
 pub use Rattle.pagable_traits.proofs.Basics

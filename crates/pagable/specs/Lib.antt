@@ -8,7 +8,6 @@ pub use Rattle.pagable_model.specs.Carried
 pub use Rattle.pagable_model.specs.Causes
 pub use Rattle.pagable_model.specs.Form
 pub use Rattle.pagable_model.specs.Gives
-pub use Rattle.pagable_model.specs.KeyParts
 pub use Rattle.pagable_model.specs.Keyed
 pub use Rattle.pagable_model.specs.Keys
 pub use Rattle.pagable_model.specs.Lengths

@@ -1,7 +1,6 @@
 -- What is read of a key as a value of a type of the caller's.
 use Rattle.std.specs.Prelude.{ℕ, ◌≡◌, ◌⊎◌, Option, Some, None, Result, Ok, Err}
-use Rattle.pagable_model.specs.declared.error.Error.{Error}
-use Rattle.pagable_world.specs.{Access.ReadsOver, Pager.PagerState, World.Values}
+use Rattle.{pagable_model.specs.declared.error.Error.Error, pagable_world.specs.{Access.ReadsOver, Pager.PagerState, World.Values}}
 use Rattle.pagable_model.specs.declared.error.Error.TheVariants as errors
 
 -- A reading of the key, and the value that its node holds. A node of which no value can be taken for want of memory, or that holds none, comes back.

@@ -1,7 +1,6 @@
 //! What the laws of the definitions give for carried types, as contracts of functions that do nothing.
 
-ghost use Rattle.pagable_laws.specs.FormLaws.{IsReadAgain, IsPrefixFree};
-ghost use Rattle.pagable_traits.specs.ReadBack.{IsReadThroughout};
+ghost use Rattle.{pagable_laws.specs.FormLaws.{IsReadAgain, IsPrefixFree}, pagable_traits.specs.ReadBack.IsReadThroughout};
 
 use pagable_traits::{Carried, Env};
 

@@ -1,7 +1,6 @@
 -- What reading a part gives, and where a deserializer stands then.
-use Rattle.std.proofs.Common.{◌≡◌, ℕ, List, Result, Ok, Err, refl, arith, ◌∙◌, inl, inr}
-use Rattle.pagable_model.specs.{Gives.Gives, Gives.never, Meaning.Meaning, Numbers.Read, Reading.Rest, Reading.bytes_of, Standing.Answer, Standing.Gave, Standing.MovesOn, Standing.Standing}
-use Rattle.pagable_model.specs.{Track.Track, Track.left, Track.GoesOn, declared.error.Error.Error, declared.numbers.ArcRef.ArcRef}
+use Rattle.{std.proofs.Common.{◌≡◌, ℕ, List, Result, Ok, Err, refl, arith, ◌∙◌, inl, inr}, pagable_flavors.specs.Calls.Reads, pagable_model.specs.{Gives.{Gives, never}, Meaning.Meaning, Numbers.Read}}
+use Rattle.pagable_model.specs.{Reading.{Rest, bytes_of}, Standing.{Answer, Gave, MovesOn, Standing}, Track.{Track, left, GoesOn}, declared.{error.Error.Error, numbers.ArcRef.ArcRef}}
 
 pub moves_trans : (a b c : Standing) → MovesOn a b → MovesOn b c → MovesOn a c
 moves_trans a b c g h = record { whole = h.whole ∙ g.whole; bytes = omega (arith, g.bytes, h.bytes); refs = omega (arith, g.refs, h.refs); within = λ w. h.within (g.within w) }
@@ -21,7 +20,7 @@ gives_part at (Err e) rest after (inr h) = absurd h
 -- a part of a value, by what a deserializer says of itself with another reader
 pub part_read : {X E : Type 0} (at : List ℕ → Read X) (r : Result X Error) {rest last : Rest Answer} {old new : Standing} {env env_after : E} {levels levels_after : ℕ} {given used : Track}
     → rest.bytes ≡ left given → last ≡ record rest { bytes = left used } → (GoesOn given used → MovesOn old new) → env_after ≡ env → levels_after ≡ levels
-    → record { gives : Gives never (λ x. (x, left used)) r (at (left given)); goes : GoesOn given used }
+    → Reads at r given used
     → record { gives : Gives never (λ x. (x, last)) r (bytes_of at (λ x. x) rest); moves : MovesOn old new; same_env : env_after ≡ env; same_levels : levels_after ≡ levels }
 part_read at r {rest = rest} {used = used} e f moves same_env same_levels told = record {
   gives = rw f (gives_part at r rest (left used) (rw e told.gives));

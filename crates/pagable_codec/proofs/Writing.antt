@@ -1,10 +1,9 @@
 -- What writing a part adds, and what has no form.
 use Rattle.std.proofs.{Common.{◌≡◌, ℕ, Bool, false, subst, ◌<◌, ◌≤◌, List, [], ◌∷◌, ◌++◌, length, arith, refl, sym, ap, ◌∙◌, append_assoc, Result, Ok, Err, inl, inr}, lemmas.List.append-nil}
-use Rattle.std.specs.{Char.IsScalar, Int.Width, Prelude.{ℤ, IfErr}, Str.IsUtf8}
-use Rattle.pagable_model.specs.{Writing.{Out, Nesting, FormAt, Writes, WritesSome, Grows, added, kind_of_arc, NoForm, Refused}, Basic.{longest, bool_form, char_form, text_form}, Form.nothing-form}
-use Rattle.pagable_model.specs.{Form.{unsigned-form, signed-form, flag-form, letter-form, text-form, reference-form}, Gives.{Extends, memory, long_or}, Lengths.long_or_memory, Meaning.Meaning}
-use Rattle.pagable_model.specs.{Meaning.{number, integer}, Numbers.{bound, IsSigned, unsigned_form, signed_form}, Refusals.is_writing_fault, Shape.{Shape, unsigned, signed}, Standing.Is}
-use Rattle.pagable_model.specs.{declared.error.Error.Error, declared.numbers.ArcRef.ArcRef}
+use Rattle.{std.specs.{Char.IsScalar, Int.Width, Prelude.{ℤ, IfErr}, Str.IsUtf8}, pagable_model.specs.{Basic.{longest, bool_form, char_form, text_form}, Form.{nothing-form, unsigned-form}}}
+use Rattle.pagable_model.specs.{Form.{signed-form, flag-form, letter-form, text-form, reference-form}, Gives.{Extends, memory, long_or}, Lengths.long_or_memory, Meaning.{Meaning, number, integer}}
+use Rattle.pagable_model.specs.{Numbers.{bound, IsSigned, unsigned_form, signed_form}, Refusals.is_writing_fault, Shape.{Shape, unsigned, signed}, Standing.Is, Writing.{Out, Nesting, FormAt, Writes}}
+use Rattle.pagable_model.specs.{Writing.{WritesSome, Grows, added, kind_of_arc, NoForm, Refused}, declared.{error.Error.Error, numbers.ArcRef.ArcRef}}
 use Rattle.pagable_model.specs.Meaning as meanings
 use Rattle.pagable_model.specs.Shape as shapes
 
@@ -52,11 +51,8 @@ writes_nothing n old = record { m = meanings.none; is = refl; wrote = record { b
 
 -- ---- refusals
 
-memory_is_no_fault : (e : Error) → memory e → is_writing_fault e ≡ false
-memory_is_no_fault e h = let P : Error → Type 0 = λ x. is_writing_fault x ≡ false in subst P (sym h) refl
-
 pub memory_refuses : (e : Error) (M : Meaning ArcRef → Type 0) (n : Nesting) (s : Shape) → memory e → Refused M n s e
-memory_refuses e M n s h = λ fault. let none = memory_is_no_fault e h in absurd cc
+memory_refuses e M n s h = λ fault. let none : is_writing_fault e ≡ false = rw h refl in absurd cc
 
 -- want of memory says nothing of the value
 pub refused_memory : {X : Type 0} (r : Result X Error) (M : Meaning ArcRef → Type 0) (n : Nesting) (s : Shape) → IfErr r memory → IfErr r (Refused M n s)
@@ -94,10 +90,16 @@ pub ruleset parts = (grows_bytes, grows_refl, grows_trans, grows_some, writes_is
 pub writes_reference : {X : Type 0} (meaning : X → Meaning ArcRef) (x : X) (n : Nesting) (kind : ℕ) (r : ArcRef) (old new : Out) → new ≡ added old [] (r ∷ []) → meaning x ≡ meanings.reference r → kind_of_arc r ≡ kind → WritesSome (Is meaning x) n (shapes.reference kind) old new
 writes_reference meaning x n kind r old new e is k = record { m = meaning x; is = refl; wrote = rw is (record { bytes = []; refs = r ∷ []; form = reference-form _ kind r k; grown = e }) }
 
-pub grows_added : (old new : Out) (refs : List ArcRef) → new ≡ added old [] refs → Grows old new
-grows_added old new refs e = record { bytes = []; refs = refs; grown = e }
+pub grows_added : (old new : Out) (bytes : List ℕ) (refs : List ArcRef) → new ≡ added old bytes refs → Grows old new
+grows_added old new bytes refs e = record { bytes = bytes; refs = refs; grown = e }
 
 pub grows_same : (old new : Out) → new ≡ old → Grows old new
 grows_same old new e = rw e (grows_refl old)
 
 pub ruleset references = (writes_reference, grows_added, grows_same)
+
+-- what writing basic types adds to what was written
+pub added_bytes : (old : Out) (w b : List ℕ) → w ≡ old.bytes ++ b → (let new : Out = record old { bytes = w } in new) ≡ added old b []
+added_bytes old w b e = out_is _ _ _ _ e (sym (append-nil old.refs))
+
+pub ruleset steps = (added_bytes, grows_added)

@@ -1,11 +1,8 @@
 //! What values are read from.
 
-ghost use Rattle.std.specs.Prelude.{◌≡◌, ◌≤◌, ◌<◌, ◌+◌, ◌-◌, ℕ, Option, drop, option_and_then, option_map, OnOk, IfOk, IfErr};
-ghost use Rattle.std.specs.{Arc.arc_value, Borrow.Lends, Borrow.sem};
-ghost use Rattle.pagable_model.specs.Meaning.{reference as meaning_of};
-ghost use Rattle.pagable_model.specs.declared.numbers.ArcRef.{ArcRef as Reference};
-ghost use Rattle.pagable_model.specs.{Gives.Gives, Gives.memory, Gives.never, Reading.Rest, Reading.reference_at, Reading.deepest, Standing.Answer, Standing.Standing, Standing.rest_at};
-ghost use Rattle.pagable_model.specs.{Standing.answer_at, Standing.IsWithin, Standing.MovesOn, Track.left, Track.GoesOn};
+ghost use Rattle.std.specs.{Arc.arc_value, Borrow.{Lends, sem}, Prelude.{◌≡◌, ◌≤◌, ◌<◌, ◌+◌, ◌-◌, ℕ, Option, drop, option_and_then, option_map, OnOk, IfOk, IfErr}};
+ghost use Rattle.pagable_model.specs.{Gives.{Gives, memory, never}, Meaning.reference as meaning_of, Reading.{Rest, reference_at, deepest}, Standing.{Answer, Standing, rest_at, answer_at, IsWithin}};
+ghost use Rattle.pagable_model.specs.{Standing.MovesOn, Track.{left, GoesOn}, declared.numbers.ArcRef.ArcRef as Reference};
 
 use crate::env::Env;
 use crate::of_node::OfNode;

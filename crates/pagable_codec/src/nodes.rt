@@ -1,10 +1,9 @@
 //! The values of nodes: one case for each value type of an environment.
 
 ghost use Rattle.std.specs.Prelude.{◌≡◌, ◌<◌, ◌^◌, ◌++◌, ℕ, List, Option, Some, OnOk, IfOk, IfErr, true};
+ghost use Rattle.pagable_model.specs.{Meaning.Meaning, Reading.read_typed, References.{references_in, SameReferences}, Refusals.{is_own_reading, may_refuse_writing}, Shape.Shape, Standing.handles_at};
+ghost use Rattle.pagable_model.specs.{Standing.{MovesOn, GivesSome, SomeMeaning}, Writing.{nesting, WritesSome, Refused, Grows}, declared.error.Error.Error as Refusal};
 ghost use Rattle.pagable_model.specs.declared.numbers.ArcRef.{ArcRef as Reference};
-ghost use Rattle.pagable_model.specs.declared.error.Error.{Error as Refusal};
-ghost use Rattle.pagable_model.specs.{Meaning.Meaning, Reading.read_typed, References.references_in, References.SameReferences, Refusals.is_own_reading, Refusals.may_refuse_writing, Shape.Shape};
-ghost use Rattle.pagable_model.specs.{Standing.handles_at, Standing.MovesOn, Standing.GivesSome, Standing.SomeMeaning, Writing.nesting, Writing.WritesSome, Writing.Refused, Writing.Grows};
 
 use crate::deserializer::PagableDeserializer;
 use crate::env::Env;

@@ -10,7 +10,7 @@ use crate::serializer::PagableSerializer;
 use pagable_flavors::{Error, Reader};
 
 /// Writes the flag that stands before a part that may be absent. Refused by want of memory alone.
-#[tactic(auto, using(crate::proofs::Writing::parts, crate::proofs::Adding::steps))]
+#[tactic(auto, using(crate::proofs::Writing::parts, crate::proofs::Writing::steps))]
 pub fn write_flag<E: Env, S: PagableSerializer<E>>(
     flag: bool,
     serializer: &mut S,
@@ -25,7 +25,7 @@ pub fn write_flag<E: Env, S: PagableSerializer<E>>(
 }
 
 /// Writes how many items follow. TooLong above 4,294,967,295; else refused by want of memory alone.
-#[tactic(auto, using(crate::proofs::Writing::parts, crate::proofs::Adding::steps))]
+#[tactic(auto, using(crate::proofs::Writing::parts, crate::proofs::Writing::steps))]
 pub fn write_count<E: Env, S: PagableSerializer<E>>(
     count: usize,
     serializer: &mut S,
@@ -63,7 +63,6 @@ pub fn read_count<E: Env, D: PagableDeserializer<E>>(deserializer: &mut D) -> Re
 }
 
 /// How many places to reserve for so many items: no more than bytes are left, so that a count alone takes no memory.
-#[tactic(auto, using(crate::proofs::Reading::parts))]
 pub fn places_for<E: Env, D: PagableDeserializer<E>>(count: usize, deserializer: &mut D) -> usize
     ensures few { result ≡ min count (length (D.rest deserializer.old).bytes) }
     ensures same_rest { D.rest deserializer.new ≡ D.rest deserializer.old }

@@ -1,9 +1,7 @@
 //! What values are written to.
 
-ghost use Rattle.std.specs.Prelude.{◌≡◌, ◌<◌, ◌≤◌, ◌+◌, ◌-◌, List, ℕ, [], ◌∷◌, length, OnOk, OnErr, IfErr};
-ghost use Rattle.std.specs.Borrow.{Lends, sem};
-ghost use Rattle.pagable_flavors.specs.contracts.vec_flavor.PagableVecFlavor.{the_row as writer_row};
-ghost use Rattle.pagable_model.specs.{Reading.deepest, Writing.Out, Writing.added, Writing.end_of, Writing.overwritten};
+ghost use Rattle.std.specs.{Borrow.{Lends, sem}, Prelude.{◌≡◌, ◌<◌, ◌≤◌, ◌+◌, ◌-◌, List, ℕ, [], ◌∷◌, length, OnOk, OnErr, IfErr}};
+ghost use Rattle.{pagable_flavors.specs.contracts.vec_flavor.PagableVecFlavor.the_row as writer_row, pagable_model.specs.{Reading.deepest, Writing.{Out, added, end_of, overwritten}}};
 
 use crate::env::Env;
 use crate::session::SessionContext;

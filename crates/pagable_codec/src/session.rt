@@ -1,9 +1,8 @@
 //! What one session of reading and writing shares among its values: a map under a lock.
 
-ghost use Rattle.std.specs.Prelude.{◌≡◌, None, Some, IfOk, IfErr, IfSome, IsSome, OnOk, OnErr, IsTrue, refl};
-ghost use Rattle.std.specs.{BTreeMap.IsEmpty, BTreeMap.IsUnchanged, BTreeMap.Updates, BTreeMap.get, Cmp.Rules.comparing};
-ghost use Rattle.std.proofs.Common.{rules};
-ghost use Rattle.pagable_model.specs.{Gives.memory, Session.IsCloneOf, Session.IsBack};
+ghost use Rattle.std.{proofs.Common.rules, specs.{BTreeMap.{IsEmpty, IsUnchanged, Updates, get}, Cmp.Rules.comparing, Prelude.{◌≡◌, None, Some, IfOk, IfErr, IfSome, IsSome, OnOk, OnErr, IsTrue}}};
+ghost use Rattle.std.specs.Prelude.{refl};
+ghost use Rattle.pagable_model.specs.{Gives.memory, Session.{IsCloneOf, IsBack}};
 
 use pagable_flavors::Error;
 use std::alloc::Global;
@@ -126,6 +125,12 @@ impl<K: Ord + Drop, V: Clone> SessionMap<K, V> {
 #[derive(Drop)]
 pub struct SessionContext<K: Ord, V> {
     map: Mutex<SessionMap<K, V>>,
+}
+
+impl<K: Ord, V> AsRef<SessionContext<K, V>> for SessionContext<K, V> {
+    fn as_ref(&self) -> &SessionContext<K, V> {
+        self
+    }
 }
 
 impl<K: Ord + Drop, V: Clone> SessionContext<K, V> {

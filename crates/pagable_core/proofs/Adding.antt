@@ -1,9 +1,8 @@
--- Adding a blob to what is stored.
-use Rattle.std.proofs.{Common.{◌≡◌, ℕ, Bool, true, false, cond, Option, Some, None, refl, sym, ap, ◌∙◌, inl, inr, arith}, lemmas.Bool.{eqb-true, Decides.nat_tests}}
-use Rattle.std.specs.{Arc.arc_value, Global.Global, HashMap.{HashMap, get}, Prelude.{◌==◌, ◌↔◌, ◌≢◌, IsTrue, nat_eq, option_map, if◌then◌else◌}, declared.hash.BuildHasherDefault.BuildHasherDefault}
-use Rattle.std.specs.{declared.hash.FoldHasher.FoldHasher, declared.sync.Arc.Arc}
-use Rattle.pagable_model.specs.{Blob.Blob, Stored.Adds}
-use Rattle.pagable_core.specs.{Blobs.stored_in, Data.blob_of, declared.storage.data.PagableData.PagableData}
+-- Adding a blob to what is stored, and how many blobs a map holds.
+use Rattle.std.proofs.{Common.{◌≡◌, ◌∙◌, ℕ, Bool, true, false, cond, Option, Some, None, refl, sym, ap, inl, inr, arith}, lemmas.Bool.{eqb-true, Decides.{Decides-eqb, nat_tests}}}
+use Rattle.std.{proofs.lemmas.Map.{Entries.length-keys_of, Made.AllPairs-from_IsDistinct, Views.{IsSome-lookup_from_Contains, Contains-keys_from_lookup}}, specs.{Arc.arc_value, Cmp.nat_eq_equiv}}
+use Rattle.std.specs.{Global.Global, HashMap.{IsUnique, get, hash_map_len}, Map.keys_of, Prelude.{◌==◌, ◌↔◌, ◌≢◌, IsSome, IsTrue, nat_eq, option_map, if◌then◌else◌}, declared.sync.Arc.Arc}
+use Rattle.{pagable_core.specs.{Data.{Blobs, blob_of, stored_in}, declared.storage.data.PagableData.PagableData}, pagable_model.specs.{Blob.Blob, Stored.{Adds, IsCount}}}
 
 -- a blob that stands there already adds nothing
 pub adds_nothing : (stored : ℕ → Option Blob) (key : ℕ) (blob : Blob) → stored key ≡ Some blob → Adds key blob stored stored
@@ -20,9 +19,6 @@ adds_one old new key blob h each = record { each = each; free = inl h }
 pub taken : (stored : ℕ → Option Blob) (key : ℕ) (other blob : Blob) (same : Bool) → Some other ≡ stored key → (IsTrue same ↔ (other ≡ blob)) → same ≡ false → (o : Blob) × (stored key ≡ Some o) × (o ≢ blob)
 taken stored key other blob same e means differs = (other, sym e, λ is. let yes = means.1 is in absurd cc)
 
-abbrev pub Blobs : Type 0
-Blobs = HashMap ℕ (Arc PagableData Global) (BuildHasherDefault FoldHasher)
-
 -- what stands under each key after an insertion
 pub stored_more : (m n : Blobs) (key : ℕ) (v : Arc PagableData Global) (blob : Blob) → ((q : ℕ) → get nat_eq n q ≡ cond (nat_eq key q) (Some v) (get nat_eq m q)) → blob_of (arc_value v) ≡ blob
     → (q : ℕ) → stored_in n q ≡ (if q == key then Some blob else stored_in m q)
@@ -31,5 +27,21 @@ stored_more m n key v blob each is q = ap (option_map (λ (d : Arc PagableData G
     go : (b : Bool) → nat_eq key q ≡ b → option_map (λ (d : Arc PagableData Global). blob_of (arc_value d)) (cond b (Some v) (get nat_eq m q)) ≡ (if q == key then Some blob else stored_in m q)
     go true e = let same : (q == key) ≡ true = grind (arith, nat_tests) in rw same (ap (λ (x : Blob). Some x) is)
     go false e = let other : (q == key) ≡ false = grind (arith, nat_tests) in rw other refl
+
+-- what a function makes of a value is there exactly if the value is
+some-mapped : {A B : Type 0} (f : A → B) (o : Option A) → IsSome (option_map f o) ↔ IsSome o
+some-mapped f None = (λ h. h, λ h. h)
+some-mapped f (Some x) = (λ h. refl, λ h. refl)
+
+pub counts : (m : Blobs) (count : ℕ) → count ≡ hash_map_len m → IsUnique nat_eq m → IsCount (stored_in m) count
+counts m count many unique = record {
+  keys = keys_of m.entries;
+  once = AllPairs-from_IsDistinct Decides-eqb (keys_of m.entries) unique;
+  all = λ q. (
+    λ h. (some-mapped (λ (d : Arc PagableData Global). blob_of (arc_value d)) _).1 (IsSome-lookup_from_Contains nat_eq_equiv q m.entries h),
+    λ h. Contains-keys_from_lookup eqb-true q m.entries ((some-mapped (λ (d : Arc PagableData Global). blob_of (arc_value d)) _).0 h),
+  );
+  many = many ∙ sym (length-keys_of m.entries);
+}
 
 pub ruleset adding = (adds_nothing, adds_one, taken)

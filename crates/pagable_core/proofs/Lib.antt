@@ -1,4 +1,3 @@
 pub mod Taking
 pub mod Weighing
 pub mod Adding
-pub mod Counting

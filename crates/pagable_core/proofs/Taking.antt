@@ -1,8 +1,7 @@
 -- Taking the next answer of a list of references.
-use Rattle.std.{proofs.Common.{◌≡◌, ℕ, zero, suc, ◌+◌, ◌<◌, ◌≤◌, List, [], ◌∷◌, length, drop, Result, Ok, Err, Some, arith, refl, ap, inl}, proofs.lemmas.List.drop_all, specs.Prelude.slice_get}
-use Rattle.pagable_model.specs.{Gives.{Gives, never}, Meaning.Meaning, Reading.{Rest, reference_at}, Standing.{Answer, answer_at, rest_at, MovesOn, IsWithin}, Steps.◌>>=◌, Track.Track}
-use Rattle.pagable_model.specs.{declared.error.Error.Error, declared.numbers.ArcRef.ArcRef}
-use Rattle.pagable_core.specs.Context.{answers_from, standing_of}
+use Rattle.std.{proofs.{Common.{◌≡◌, ℕ, zero, suc, ◌+◌, ◌<◌, ◌≤◌, List, [], ◌∷◌, length, drop, Result, Ok, Err, Some, arith, refl, ap, inl}, lemmas.List.drop_all}, specs.Prelude.slice_get}
+use Rattle.{pagable_core.specs.Context.{answers_from, standing_of}, pagable_model.specs.{Gives.{Gives, never}, Meaning.Meaning, Reading.{Rest, reference_at}, Standing.{Answer, answer_at, rest_at}}}
+use Rattle.pagable_model.specs.{Standing.{MovesOn, IsWithin}, Steps.◌>>=◌, Track.Track, declared.{error.Error.Error, numbers.ArcRef.ArcRef}}
 use Rattle.pagable_model.specs.declared.error.Error.TheVariants as errors
 use Rattle.pagable_model.specs.Meaning as meanings
 

@@ -1,9 +1,7 @@
 -- Weighing one more byte, and what the preimage of a blob is made of.
 use Rattle.std.proofs.Common.{◌≡◌, ℕ, suc, ◌+◌, ◌*◌, ◌/◌, ◌%◌, ◌^◌, ◌<◌, List, [], ◌∷◌, ◌++◌, length, take, get_or, arith, refl, sym, ap, ◌∙◌, add_assoc, append_assoc, length-append}
-use Rattle.std.proofs.{Math.Nat.add-mod-mod, Math.Nat.mod-add-mod, Math.Nat.add-mul-mod_self_left, Math.Nat.mod-add-div, lemmas.Grind.flat_map-append, lemmas.List.take_more, lemmas.List.append-nil, lemmas.List.take_all}
-use Rattle.std.specs.{Int.w64, Int.w128, Int.to_le_bytes, List.flat_map}
-use Rattle.pagable_model.specs.Blob.{weight, preimage}
-use Rattle.pagable_core.specs.{Data.IsWeighed, declared.storage.weigh.WeighHash.WeighHash}
+use Rattle.std.{proofs.{Math.Nat.{add-mod-mod, mod-add-mod, add-mul-mod_self_left, mod-add-div}, lemmas.{Grind.flat_map-append, List.{take_more, append-nil, take_all}}}, specs.Int.{w64, w128}}
+use Rattle.{std.specs.{Int.to_le_bytes, List.flat_map}, pagable_core.specs.{Data.IsWeighed, declared.storage.weigh.WeighHash.WeighHash}, pagable_model.specs.Blob.{weight, preimage}}
 
 -- a factor may be reduced first
 mod-mul-mod : (m a b : ℕ) → (a % m * b) % m ≡ (a * b) % m

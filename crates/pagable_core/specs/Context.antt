@@ -1,7 +1,8 @@
 -- What a serializer and a deserializer over memory stand for.
-use Rattle.std.{specs.Global.Global, specs.Prelude.{ℕ, ◌+◌, List, [], ◌∷◌, Result, Vec}, proofs.Common.{arith, ap}}
-use Rattle.pagable_model.specs.{Reading.Rest, Standing.{Answer, Standing, MovesOn}, Track.{Track, GoesOn}, Writing.Out, declared.error.Error.Error, declared.numbers.ArcRef.ArcRef}
-use Rattle.pagable_core.specs.declared.context.writing.SerializedData.{SerializedData}
+use Rattle.std.{specs.Global.Global, specs.Prelude.{◌≡◌, refl, ℕ, ◌+◌, List, [], ◌∷◌, Result, Err, Vec, true}, proofs.Common.{arith, ap}}
+use Rattle.pagable_model.specs.{Reading.Rest, Standing.{Answer, Standing, MovesOn}, Track.{Track, GoesOn}, Writing.Out, declared.{error.Error.Error, numbers.ArcRef.ArcRef}}
+use Rattle.pagable_model.specs.Refusals.{may_refuse_reference}
+use Rattle.pagable_core.specs.declared.context.{reading.PagableDeserializerImpl.PagableDeserializerImpl, writing.{SerializedData.SerializedData, SerializerOver.SerializerOver}}
 
 -- nothing was written
 abbrev pub nothing : Out
@@ -39,3 +40,14 @@ moves_of answer keys old new g = record {
 -- the same of a pair
 abbrev pub pair_out : Vec ℕ Global × Vec ArcRef Global → Out
 pair_out p = record { bytes = p.0.items; refs = p.1.items }
+
+-- what the fields of serializers and deserializers stand for
+abbrev pub written : {E S : Type 0} → SerializerOver E S → Out
+written s = record { bytes = s.writer; refs = s.arcs.items }
+
+abbrev pub references_of : {B R : Type 0} → PagableDeserializerImpl B R → R
+references_of s = s.references
+
+pub wrong_kind_may_refuse : (e : Error) → (let r : Result ArcRef Error = Err Error.WrongKind in r) ≡ Err e → may_refuse_reference e ≡ true
+wrong_kind_may_refuse e is =
+    let same : Error.WrongKind ≡ e = cc in rw (← same) refl

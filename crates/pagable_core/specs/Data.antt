@@ -1,12 +1,19 @@
--- A blob as the code keeps it, and what the hashes have taken.
-use Rattle.std.specs.Prelude.{◌≡◌, ◌%◌, ◌^◌, ◌+◌, List, ℕ, length, take}
-use Rattle.pagable_model.specs.Blob.{Blob, weight}
-use Rattle.pagable_core.specs.{declared.storage.data.PagableData.PagableData, declared.storage.sha256.Sha256Key.Sha256Key, declared.storage.weigh.WeighHash.WeighHash}
+-- Blobs as the code keeps them, and what the hashes have taken.
+use Rattle.std.specs.{Arc.arc_value, Global.Global, HashMap.{HashMap, get}, Prelude.{◌≡◌, ◌%◌, ◌^◌, ◌+◌, List, ℕ, length, take, Option, option_map, nat_eq}}
+use Rattle.std.specs.declared.{hash.{BuildHasherDefault.BuildHasherDefault, FoldHasher.FoldHasher}, sync.Arc.Arc}
+use Rattle.{pagable_core.specs.declared.storage.{data.PagableData.PagableData, sha256.Sha256Key.Sha256Key, weigh.WeighHash.WeighHash}, pagable_model.specs.Blob.{Blob, weight}}
 use Rattle.sha2.specs.{Hashers.Holds256, Sha256.sha256}
 
 -- the blob without where it lies in memory
 abbrev pub blob_of : PagableData → Blob
 blob_of d = record { bytes = d.bytes.items; keys = d.arcs.items }
+
+-- what stands under a key of a map in memory
+abbrev pub Blobs : Type 0
+Blobs = HashMap ℕ (Arc PagableData Global) (BuildHasherDefault FoldHasher)
+
+abbrev pub stored_in : Blobs → ℕ → Option Blob
+stored_in m key = option_map (λ d. blob_of (arc_value d)) (get nat_eq m key)
 
 -- the hash stands behind these bytes
 pub record IsWeighed (h : WeighHash) (came : List ℕ) : Type 0 where

@@ -1,4 +1,2 @@
 pub mod Data
 pub mod Context
-pub mod Fields
-pub mod Blobs

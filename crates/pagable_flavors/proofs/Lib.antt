@@ -1,3 +1,2 @@
 pub mod Varint
-pub mod Signed
-pub mod Text
+pub mod Basic

@@ -1,7 +1,7 @@
 -- Numbers of seven bits a byte, byte by byte.
 use Rattle.std.proofs.Common.{length, get_or, add-one, ◌≡◌, ℕ, zero, suc, ◌+◌, ◌-◌, ◌*◌, ◌/◌, ◌%◌, ◌<◌, ◌≤◌, ◌≢◌, ◌^◌, refl, arith, List, [], ◌∷◌, ◌++◌, drop, Result, Ok, Err, sym, ap, ◌∙◌, append_assoc}
 use Rattle.std.proofs.{Math.Nat.mul-le-mul_left, Math.Seq.drop-cons, lemmas.Bool.le-ltb, lemmas.Bool.lt-ltb, lemmas.Bool.le-leb, lemmas.Bool.lt-leb, lemmas.List.append-nil, lemmas.List.drop_all}
-use Rattle.pagable_model.specs.{Gives.Extends, Numbers.Read, Numbers.byte_at, Numbers.varint, Numbers.varint_at, Numbers.varint_limit, Steps.◌>>=◌, Varints.AppendsVarint}
+use Rattle.pagable_model.specs.{Gives.Extends, Numbers.Read, Numbers.byte_at, Numbers.varint, Numbers.varint_at, Numbers.varint_limit, Steps.◌>>=◌, Numbers.AppendsVarint}
 use Rattle.pagable_model.specs.declared.error.Error.TheVariants as errors
 
 -- what such numbers stay below
@@ -139,9 +139,6 @@ unfolding varint
 varint-long zero n p l = absurd (omega arith)
 varint-long (suc more) n p l = let e : suc more - 1 ≡ more = omega arith in rw (le-ltb n 128 l, e) refl
 
-pub Extends_same : {X : Type 0} (a : List X) → Extends a a
-Extends_same a = ([], sym (append-nil a))
-
 pub Extends_end : {X : Type 0} (a b c : List X) → b ≡ a ++ c → Extends a b
 Extends_end a b c e = (c, e)
 
@@ -161,7 +158,7 @@ pub record WritesOn (start here : List ℕ) (number rest : ℕ) : Type 0 where
 pub WritesOn_none : (start : List ℕ) (number : ℕ) → WritesOn start start number number
 WritesOn_none start number = record {
   still = λ more h. record { less = more; fits = h; same = refl };
-  extends = Extends_same start;
+  extends = ([], sym (append-nil start));
 }
 
 pub WritesOn_more : {start here next : List ℕ} {number rest : ℕ} (byte : ℕ) → WritesOn start here number rest → 128 ≤ rest → byte ≡ 128 + rest % 128 → next ≡ here ++ byte ∷ [] → WritesOn start next number (rest / 128)

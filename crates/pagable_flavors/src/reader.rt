@@ -1,8 +1,8 @@
 //! What reads basic values: what a deserializer lends.
 
-ghost use Rattle.std.specs.{Int.w8, Int.w16, Int.w32, Int.w64, Int.w128, Prelude.◌≡◌, Prelude.◌≤◌, Prelude.length, String.string_bytes};
-ghost use Rattle.pagable_model.specs.{Basic.length_at, Basic.text_at, Basic.bool_at, Basic.char_at, Gives.Gives, Gives.never, Gives.memory, Numbers.unsigned_at, Numbers.signed_at, Track.Track};
-ghost use Rattle.pagable_model.specs.{Track.left, Track.GoesOn};
+ghost use Rattle.std.specs.{Int.{w8, w16, w32, w64, w128}, Prelude.{◌≡◌, ◌≤◌, length}, String.string_bytes};
+ghost use Rattle.pagable_model.specs.{Basic.{length_at, text_at, bool_at, char_at}, Gives.{Gives, memory}, Numbers.{unsigned_at, signed_at}, Track.{Track, left, GoesOn}};
+ghost use Rattle.pagable_flavors.specs.Calls.{Reads};
 
 use pagable_model::Error;
 use std::alloc::Global;
@@ -29,66 +29,52 @@ pub trait Reader {
 
     /// A flag: BadBool where the byte is neither 0 nor 1.
     fn read_bool(&mut self) -> Result<bool, Error>
-        ensures gives { Gives never (λ b. (b, left (track self.new))) result (bool_at (left (track self.old))) }
-        ensures goes { GoesOn (track self.old) (track self.new) };
+        ensures { Reads bool_at result (track self.old) (track self.new) };
 
     fn read_u8(&mut self) -> Result<u8, Error>
-        ensures gives { Gives never (λ n. (n, left (track self.new))) result (unsigned_at w8 (left (track self.old))) }
-        ensures goes { GoesOn (track self.old) (track self.new) };
+        ensures { Reads (unsigned_at w8) result (track self.old) (track self.new) };
 
     /// BadVarint where the number has more than 3 bytes, or the third is above 3.
     fn read_u16(&mut self) -> Result<u16, Error>
-        ensures gives { Gives never (λ n. (n, left (track self.new))) result (unsigned_at w16 (left (track self.old))) }
-        ensures goes { GoesOn (track self.old) (track self.new) };
+        ensures { Reads (unsigned_at w16) result (track self.old) (track self.new) };
 
     /// BadVarint where it has more than 5 bytes, or the fifth is above 15.
     fn read_u32(&mut self) -> Result<u32, Error>
-        ensures gives { Gives never (λ n. (n, left (track self.new))) result (unsigned_at w32 (left (track self.old))) }
-        ensures goes { GoesOn (track self.old) (track self.new) };
+        ensures { Reads (unsigned_at w32) result (track self.old) (track self.new) };
 
     /// BadVarint where it has more than 10 bytes, or the tenth is above 1.
     fn read_u64(&mut self) -> Result<u64, Error>
-        ensures gives { Gives never (λ n. (n, left (track self.new))) result (unsigned_at w64 (left (track self.old))) }
-        ensures goes { GoesOn (track self.old) (track self.new) };
+        ensures { Reads (unsigned_at w64) result (track self.old) (track self.new) };
 
     /// BadVarint where it has more than 19 bytes, or the nineteenth is above 3.
     fn read_u128(&mut self) -> Result<u128, Error>
-        ensures gives { Gives never (λ n. (n, left (track self.new))) result (unsigned_at w128 (left (track self.old))) }
-        ensures goes { GoesOn (track self.old) (track self.new) };
+        ensures { Reads (unsigned_at w128) result (track self.old) (track self.new) };
 
     fn read_usize(&mut self) -> Result<usize, Error>
-        ensures gives { Gives never (λ n. (n, left (track self.new))) result (unsigned_at w64 (left (track self.old))) }
-        ensures goes { GoesOn (track self.old) (track self.new) };
+        ensures { Reads (unsigned_at w64) result (track self.old) (track self.new) };
 
     fn read_i8(&mut self) -> Result<i8, Error>
-        ensures gives { Gives never (λ n. (n, left (track self.new))) result (signed_at w8 (left (track self.old))) }
-        ensures goes { GoesOn (track self.old) (track self.new) };
+        ensures { Reads (signed_at w8) result (track self.old) (track self.new) };
 
     fn read_i16(&mut self) -> Result<i16, Error>
-        ensures gives { Gives never (λ n. (n, left (track self.new))) result (signed_at w16 (left (track self.old))) }
-        ensures goes { GoesOn (track self.old) (track self.new) };
+        ensures { Reads (signed_at w16) result (track self.old) (track self.new) };
 
     fn read_i32(&mut self) -> Result<i32, Error>
-        ensures gives { Gives never (λ n. (n, left (track self.new))) result (signed_at w32 (left (track self.old))) }
-        ensures goes { GoesOn (track self.old) (track self.new) };
+        ensures { Reads (signed_at w32) result (track self.old) (track self.new) };
 
     fn read_i64(&mut self) -> Result<i64, Error>
-        ensures gives { Gives never (λ n. (n, left (track self.new))) result (signed_at w64 (left (track self.old))) }
-        ensures goes { GoesOn (track self.old) (track self.new) };
+        ensures { Reads (signed_at w64) result (track self.old) (track self.new) };
 
     fn read_i128(&mut self) -> Result<i128, Error>
-        ensures gives { Gives never (λ n. (n, left (track self.new))) result (signed_at w128 (left (track self.old))) }
-        ensures goes { GoesOn (track self.old) (track self.new) };
+        ensures { Reads (signed_at w128) result (track self.old) (track self.new) };
 
     /// A text of one character: BadChar where it has none or more, after the refusals of a text.
     fn read_char(&mut self) -> Result<char, Error>
-        ensures gives { Gives never (λ c. (c, left (track self.new))) result (char_at (left (track self.old))) }
-        ensures goes { GoesOn (track self.old) (track self.new) };
+        ensures { Reads char_at result (track self.old) (track self.new) };
 
     /// A length: TooLong above 4,294,967,295.
     fn read_len(&mut self) -> Result<usize, Error>
-        ensures gives { Gives never (λ n. (n, left (track self.new))) result (length_at (left (track self.old))) }
-        ensures goes { GoesOn (track self.old) (track self.new) };
+        ensures { Reads length_at result (track self.old) (track self.new) };
 
     /// A text: TooLong, then UnexpectedEnd, then BadUtf8.
     fn read_string(&mut self, alloc: Global) -> Result<String, Error>

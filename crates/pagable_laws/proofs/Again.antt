@@ -1,16 +1,15 @@
 -- A form is read again, whatever follows it, and is refused where one of its references is.
-use Rattle.pagable_laws.proofs.Words.{arith, nat_tests, ℕ, zero, suc, Shape, nested, LiesIn, Within, Throughout, ◌≡◌, ◌^◌, ◌<◌, refl, Ok, List, ◌++◌, ℤ, le-leb, varint, varint_at, varint_limit, bound}
-use Rattle.pagable_laws.proofs.Words.{unsigned_form, unsigned_at, unsigned_of, signed_from, IsSigned, signed_form, signed_at, ◌+◌, ◌/◌, ◌%◌, ◌≤◌, Bool, false, [], ◌∷◌, length, append_assoc, ltb}
-use Rattle.pagable_laws.proofs.Words.{le-ltb, lt-ltb, take_at, drop_at, length-append, append-nil, is_utf8-from_IsUtf8, IsUtf8-encode, chars-encodes, length-encode, bool_form, bool_at, longest}
-use Rattle.pagable_laws.proofs.Words.{length_form, length_at, text_form, text_at, char_form, char_at, nanos_of_second, duration_form, duration_at, sym, ap, ◌∙◌, Ordering, Meaning, KeyOrder, Entry}
-use Rattle.pagable_laws.proofs.Words.{ordered, same_key, put_all, put_sorted, put_placed, put_sorted_item, put_placed_item, AllAfter, Apart, Ascends, inl, inr}
-use Rattle.pagable_laws.proofs.Words.{text_order, Look, Gets, items, two, subst, read_with, below, read, Form, Forms, Entries, some-form, err-form, ok-form, list-form, run-form, array-form, both-form}
-use Rattle.pagable_laws.proofs.Words.{sorted-map-form, placed-map-form, hash-map-form, sorted-set-form, placed-set-form, static-form, tagged-form, case-form, reference-form, nested-form}
-use Rattle.pagable_laws.proofs.Words.{json-array-form, json-object-form, no-forms, more-forms, no-entries, more-entries, IsReadable, HasNoCase, IsReadAgain, rest, LooksUp, no-references}
-use Rattle.pagable_laws.proofs.Words.{more-references, Err, Error, Result, append_cancel_right, Rest, IsPrefixFree, ◌>>=◌, unsigned-form, signed-form, flag-form, text-form, letter-form, duration-form}
-use Rattle.pagable_laws.proofs.Words.{pattern-form, json-flag-form, json-number-form, json-text-form}
-use Rattle.pagable_model.specs.Keyed.{throughout-alone, throughout-over}
-use Rattle.std.{specs.Int.{Width, w32, w64}, specs.Char.{IsScalar, encode_utf8, len_utf8}, specs.Str.{IsUtf8, chars}}
+use Rattle.pagable_laws.proofs.Words.{Bool, Entries, Entry, Err, Error, Form, Forms, IsReadable, LiesIn, List, Meaning, Ok, Result, Shape, Throughout, [], ap, append-nil, append_assoc, arith, false}
+use Rattle.pagable_laws.proofs.Words.{inl, inr, length, length-append, nat_tests, put_all, read, reference-form, refl, rest, run-form, subst, suc, sym, zero, ℕ, ℤ, ◌++◌, ◌+◌, ◌<◌, ◌∙◌, ◌∷◌, ◌≡◌, ◌≤◌}
+use Rattle.pagable_model.specs.Form.{duration-form, err-form, flag-form, hash-map-form, json-array-form, json-flag-form, json-number-form, json-object-form, json-text-form, letter-form, list-form}
+use Rattle.pagable_model.specs.Form.{more-entries, more-forms, nested-form, no-entries, no-forms, ok-form, pattern-form, placed-map-form, placed-set-form, signed-form, some-form, sorted-map-form}
+use Rattle.pagable_model.specs.{Basic.{duration_form, length_at, length_form, longest, nanos_of_second, text_at, text_form}, Canonical.{HasNoCase, Within}, Form.{array-form, both-form, case-form}}
+use Rattle.pagable_model.specs.{Form.{sorted-set-form, static-form, tagged-form, text-form, unsigned-form}, Keyed.{throughout-alone, throughout-over}, Keys.{AllAfter, Apart, Ascends, KeyOrder}}
+use Rattle.pagable_model.specs.{Keys.{ordered, put_placed, put_placed_item, put_sorted, put_sorted_item, same_key, text_order}, Numbers.{IsSigned, bound, signed_at, signed_form, signed_from}}
+use Rattle.pagable_model.specs.{Numbers.{unsigned_at, unsigned_form, unsigned_of, varint, varint_at, varint_limit}, Reading.{Gets, Look, Rest, below, items, read_with, two}, Shape.nested, Steps.◌>>=◌}
+use Rattle.std.proofs.{Common.{ltb, ◌%◌, ◌/◌, ◌^◌}, lemmas.{Bool.{le-leb, le-ltb, lt-ltb}, List.{append_cancel_right, drop_at, take_at}, Str.{IsUtf8-encode, chars-encodes, is_utf8-from_IsUtf8}}}
+use Rattle.std.{proofs.lemmas.Str.length-encode, specs.{Char.{IsScalar, encode_utf8, len_utf8}, Int.{Width, w32, w64}, Str.{IsUtf8, chars}, declared.cmp.Ordering.Ordering}}
+use Rattle.{pagable_laws.specs.FormLaws.{IsPrefixFree, IsReadAgain, LooksUp, more-references, no-references}, pagable_model.specs.Basic.{bool_at, bool_form, char_at, char_form, duration_at}}
 
 -- ---- from what holds throughout a shape to what holds throughout the shapes in it
 
@@ -55,8 +54,7 @@ unsigned-again x0 n rest h = grind (arith, nat_tests, varint-again)
 
 -- a number with a sign is one without, and back
 pub signed-again : (w : Width) (z : ℤ) (rest : List ℕ) → IsSigned w z → signed_at w (signed_form w z ++ rest) ≡ Ok (z, rest)
-signed-again w z rest h =
-    let back : signed_from w (unsigned_of w z) ≡ z = grind (arith, nat_tests) in rw (unsigned-again w (unsigned_of w z) rest (grind (arith, nat_tests)), back) refl
+signed-again w z rest h = let back : signed_from w (unsigned_of w z) ≡ z = grind (arith, nat_tests) in rw (unsigned-again w (unsigned_of w z) rest (grind (arith, nat_tests)), back) refl
 
 -- ---- flags, lengths, texts, characters and durations are read again
 
@@ -82,8 +80,7 @@ char-again c rest s =
 pub duration-again : (seconds nanos : ℕ) (rest : List ℕ) → seconds < 2 ^ 64 → nanos < nanos_of_second → duration_at (duration_form seconds nanos ++ rest) ≡ Ok ((seconds, nanos), rest)
 unfolding duration_at
 duration-again seconds nanos rest h l =
-    let whole : nanos / nanos_of_second ≡ 0 = omega arith in
-    let same : nanos % nanos_of_second ≡ nanos = omega arith in
+    let whole : nanos / nanos_of_second ≡ 0 = omega arith in let same : nanos % nanos_of_second ≡ nanos = omega arith in
     let total : seconds + 0 ≡ seconds = omega arith in
     rw (append_assoc, unsigned-again w64 seconds _ h, unsigned-again w32 nanos rest (omega arith), whole, same, total, lt-ltb seconds (2 ^ 64) h) refl
 
@@ -172,18 +169,12 @@ module _ {A B : Type 0} {look : Look A B} {kind_of : B → ℕ} {parts : ℕ →
     form-again x (run-form left s ms b k le h) u t = absurd (here t)
     form-again x (array-form left n s ms b k e h) u t = rw (← e, forms-again x h u (narrowed t (λ p. p) (λ n d l. l)), bind-then) refl
     form-again x (both-form left s s2 m n b c k l h g) u t = elim (split k l u) [
-      | then-looked y f i ↦ rw
-          (append_assoc, form-again (c ++ x) h f (narrowed t (λ p. p.0) (λ n d l. l.0)), form-again x g i (narrowed t (λ p. p.1) (λ n d l. l.1)), bind-then, bind-then) refl
+      | then-looked y f i ↦ rw (append_assoc, form-again (c ++ x) h f (narrowed t (λ p. p.0) (λ n d l. l.0)), form-again x g i (narrowed t (λ p. p.1) (λ n d l. l.1)), bind-then, bind-then) refl
       | not-first e f is ↦ rw (append_assoc, form-again (c ++ x) h f (narrowed t (λ p. p.0) (λ n d l. l.0)), is) refl
     ]
     form-again x (sorted-map-form left order s s2 es b k le up h) u t =
-        rw (
-          append_assoc,
-          length-again (length es) (b ++ x) le,
-          entries-again x h u (narrowed t (λ p. p.0) (λ n d l. l.0)) (narrowed t (λ p. p.1) (λ n d l. l.1)),
-          bind-then,
-          ascending-kept order es up,
-        ) refl
+        let kept = ascending-kept order es up in
+        rw (append_assoc, length-again (length es) (b ++ x) le, entries-again x h u (narrowed t (λ p. p.0) (λ n d l. l.0)) (narrowed t (λ p. p.1) (λ n d l. l.1)), bind-then, kept) refl
     form-again x (placed-map-form left s s2 es b k le up h) u t =
         let kept = put_on put_placed (λ e f. same_key e.0 f.0 ≡ false) (λ e. refl) (λ f e acc r. rw r refl) [] es up in
         rw (append_assoc, length-again (length es) (b ++ x) le, entries-again x h u (narrowed t (λ p. p.0) (λ n d l. l.0)) (narrowed t (λ p. p.1) (λ n d l. l.1)), bind-then, kept) refl

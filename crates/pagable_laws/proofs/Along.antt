@@ -1,12 +1,12 @@
 -- A form goes along: where each reference is replaced by one of the same kind, the bytes are a form of what results.
-use Rattle.pagable_laws.proofs.Words.{nat_tests, ◌≡◌, ℕ, ℤ, Bool, true, false, List, [], ◌∷◌, ◌++◌, length, ◌⊎◌, inl, inr, refl, sym, ap, ◌∙◌, arith, Ordering, is_eq-slice_cmp, Meaning, number}
-use Rattle.pagable_laws.proofs.Words.{integer, text, pattern, none, pair, variant, reference, followed, sequence, plain, lifted, rename, Entry, KeyOrder, ordered, same_key, code, code_order}
-use Rattle.pagable_laws.proofs.Words.{text_order, put_all, put_sorted, Apart, AllAfter, Ascends, Differ, of_entries, of_hash_map, Shape, Form, Forms, Entries, nothing-form, unsigned-form, signed-form}
-use Rattle.pagable_laws.proofs.Words.{flag-form, text-form, letter-form, duration-form, pattern-form, none-form, some-form, err-form, ok-form, list-form, run-form, array-form, both-form}
-use Rattle.pagable_laws.proofs.Words.{sorted-map-form, placed-map-form, hash-map-form, sorted-set-form, placed-set-form, static-form, tagged-form, case-form, reference-form, nested-form}
-use Rattle.pagable_laws.proofs.Words.{json-null-form, json-flag-form, json-number-form, json-text-form, json-array-form, json-object-form, no-forms, more-forms, no-entries, more-entries}
-use Rattle.pagable_laws.proofs.Words.{HasNoReference, Among, references_in, zero, suc, subst, ◌≤◌, longest, length_form}
-use Rattle.std.specs.{declared.cmp.Ordering.Ordering, Ordering.{match_ordering, eq_by_cmp}, List.AllByRecursion as Each}
+use Rattle.pagable_laws.proofs.Words.{Among, Bool, Entries, Entry, Form, Forms, List, Meaning, Shape, [], ap, arith, code, false, followed, inl, inr, length, nat_tests, none, pair, put_all, reference}
+use Rattle.pagable_laws.proofs.Words.{reference-form, references_in, refl, rename, run-form, subst, suc, sym, true, variant, zero, ℕ, ℤ, ◌++◌, ◌∙◌, ◌∷◌, ◌≡◌, ◌≤◌, ◌⊎◌}
+use Rattle.pagable_model.specs.Form.{hash-map-form, json-array-form, json-flag-form, json-null-form, json-number-form, json-object-form, json-text-form, letter-form, list-form, more-entries}
+use Rattle.pagable_model.specs.Form.{more-forms, nested-form, no-entries, no-forms, none-form, nothing-form, ok-form, pattern-form, placed-map-form, placed-set-form, signed-form, some-form}
+use Rattle.pagable_model.specs.{Basic.{length_form, longest}, Canonical.HasNoReference, Carried.{of_entries, of_hash_map}, Form.{array-form, both-form, case-form, duration-form, err-form, flag-form}}
+use Rattle.pagable_model.specs.{Form.{sorted-map-form, sorted-set-form, static-form, tagged-form, text-form, unsigned-form}, Keys.{AllAfter, Apart, Ascends, Differ, KeyOrder, code_order, ordered}}
+use Rattle.std.specs.{List.AllByRecursion as Each, Ordering.{eq_by_cmp, match_ordering}, declared.cmp.Ordering.Ordering}
+use Rattle.{pagable_model.specs.{Keys.{put_sorted, same_key, text_order}, Meaning.{integer, lifted, number, pattern, plain, sequence, text}}, std.proofs.lemmas.Map.Text.is_eq-slice_cmp}
 use Rattle.pagable_model.specs.Meaning as meanings
 
 -- the same meaning but for its references, which are as R says; references that are followed already stand in it only if F
@@ -155,19 +155,11 @@ module _ {A B : Type 0} {F : Type 0} {R : A → B → Type 0} where
     where
       at : ((gs : List (Entry B)) → AllTwo (EntryAlong F R) (put_sorted code_order acc e) gs → Unput F R acc e gs) → (o : Ordering) → ordered code_order e.0 x.0 ≡ o
           → {fs : List (Entry B)} → AllTwo (EntryAlong F R) (match_ordering o (e ∷ x ∷ acc) ((x.0, e.1) ∷ acc) (x ∷ put_sorted code_order acc e)) fs → Unput F R (x ∷ acc) e fs
-      at back Ordering.Less q (more-two u f us vs r (more-two w y ws ys s g)) =
-          record { before = y ∷ ys; entry = f; each = more-two x y acc ys s g; one = r; put = rw (same_order r s q) refl }
+      at back Ordering.Less q (more-two u f us vs r (more-two w y ws ys s g)) = record { before = y ∷ ys; entry = f; each = more-two x y acc ys s g; one = r; put = rw (same_order r s q) refl }
       at back Ordering.Equal q b = absurd ((let test : eq_by_cmp code_order (plain e.0) (plain x.0) ≡ true = rw q refl in let same = is_eq-slice_cmp (code (plain e.0)) (code (plain x.0)) in cc))
       at back Ordering.Greater q (more-two u y us ys s g) =
-          let rest = back ys g in
-          record {
-            before = y ∷ rest.before;
-            entry = rest.entry;
-            each = more-two x y acc rest.before s rest.each;
-            one = rest.one;
-            put = rw (same_order rest.one s q)
-                (ap (λ (z : List (Entry B)). y ∷ z) rest.put);
-          }
+          let r = back ys g in
+          record { before = y ∷ r.before; entry = r.entry; each = more-two x y acc r.before s r.each; one = r.one; put = rw (same_order r.one s q) (ap (λ (z : List (Entry B)). y ∷ z) r.put) }
 
   -- and when several were put in, one after another
   unput_all : (es acc : List (Entry A)) {fs : List (Entry B)} → Each (Differs acc) es → Apart apart es → AllTwo (EntryAlong F R) (put_all (put_sorted code_order) acc es) fs
@@ -182,8 +174,7 @@ module _ {A B : Type 0} {F : Type 0} {R : A → B → Type 0} where
 
   pub hash_map-along : (es : List (Entry A)) {n : Meaning B} → Differ es → Along F R (of_hash_map es) n → Made (EntryAlong F R) of_hash_map es n
   hash_map-along es d a =
-      let sorted = entries-along _ a in
-      let back = unput_all es [] (none_there es) d sorted.each in
+      let sorted = entries-along _ a in let back = unput_all es [] (none_there es) d sorted.each in
       record { items = back.1; each = back.3; whole = sorted.whole ∙ ap of_entries (sym (grind (arith, nat_tests))) }
 
   -- what is said of plain keys or items goes over
@@ -221,21 +212,12 @@ module _ {A B : Type 0} {F : Type 0} {R : A → B → Type 0} {kind_of : A → �
   mutual
     pub form-along : {left : ℕ} {s : Shape} {m : Meaning A} {n : Meaning B} {b : List ℕ} {k : List A} → Form A kind_of parts left s m b k → Along F R m n
         → To R k (λ refs. Form B kind_of2 parts left s n b refs)
-    form-along (nothing-form left) none-along = to_nothing (nothing-form left)
-    form-along (unsigned-form left w n h) (number-along x) = to_nothing (unsigned-form left w n h)
-    form-along (signed-form left w z h) (integer-along x) = to_nothing (signed-form left w z h)
     form-along (flag-form left b) a = rw (flag-along b a) (to_nothing (flag-form left b))
-    form-along (text-form left t u h) (text-along x) = to_nothing (text-form left t u h)
-    form-along (letter-form left c u) (number-along x) = to_nothing (letter-form left c u)
-    form-along (duration-form left seconds nanos h l) (pair-along x y a b (number-along i) (number-along j)) = to_nothing (duration-form left seconds nanos h l)
-    form-along (pattern-form left t u h) (pattern-along x) = to_nothing (pattern-form left t u h)
-    form-along (none-form left s) (variant-along n x a none-along) = to_nothing (none-form left s)
     form-along (some-form left s m b k h) (variant-along n x y a) = then_to (form-along h a) (λ refs f. some-form left s y b refs f)
     form-along (err-form left s t m b k h) (variant-along n x y a) = then_to (form-along h a) (λ refs f. err-form left s t y b refs f)
     form-along (ok-form left s t m b k h) (variant-along n x y a) = then_to (form-along h a) (λ refs f. ok-form left s t y b refs f)
     form-along (list-form left s ms b k le h) a = let q = sequence-along ms a in counted [] (λ m. m) b q le (forms-along h q.each) (λ refs l f. list-form left s q.items b refs l f)
-    form-along (run-form left s ms b k le h) a =
-        let q = sequence-along ms a in rw q.whole (then_to (forms-along h q.each) (λ refs f. run-form left s q.items b refs (rw (length-two q.each) at le) f))
+    form-along (run-form left s ms b k le h) a = let q = sequence-along ms a in rw q.whole (then_to (forms-along h q.each) (λ refs f. run-form left s q.items b refs (rw (length-two q.each) at le) f))
     form-along (array-form left n s ms b k e h) a =
         let q = sequence-along ms a in rw q.whole (then_to (forms-along h q.each) (λ refs f. array-form left n s q.items b refs (sym (length-two q.each) ∙ e) f))
     form-along (both-form left s t m n b c k l h g) (pair-along x y u v a d) = two_to (form-along h a) (form-along g d) (λ refs more f e. both-form left s t u v b c refs more f e)
@@ -254,19 +236,26 @@ module _ {A B : Type 0} {F : Type 0} {R : A → B → Type 0} {kind_of : A → �
     form-along (static-form left registry i m lt e) a = rw (lifted-same m a) (to_nothing (static-form left registry i m lt e))
     form-along (tagged-form left written known body tag m b k u le h) (pair-along x y c d (text-along t) a) =
         then_to (form-along h a) (λ refs f. tagged-form left written known body tag d b refs u le f)
-    form-along (case-form left w known part n m b k lt is h) (variant-along i x y a) =
-        then_to (form-along h a) (λ refs f. case-form left w known part n y b refs lt is f)
+    form-along (case-form left w known part n m b k lt is h) (variant-along i x y a) = then_to (form-along h a) (λ refs f. case-form left w known part n y b refs lt is f)
     form-along (reference-form left kind x e) (reference-along x2 y r) = record { refs = y ∷ []; each = more-two x y [] [] r no-two; form = reference-form left kind y (kinds x y r ∙ e) }
     form-along (nested-form left less n m b k e h) a = then_to (form-along h a) (λ refs f. nested-form left less n _ b refs e f)
-    form-along (json-null-form left) (variant-along n x a none-along) = to_nothing (json-null-form left)
     form-along (json-flag-form left b) (variant-along n x y a) = rw (flag-along b a) (to_nothing (json-flag-form left b))
-    form-along (json-number-form left z h) (variant-along n x y (integer-along i)) = to_nothing (json-number-form left z h)
-    form-along (json-text-form left t u h) (variant-along n x y (text-along i)) = to_nothing (json-text-form left t u h)
     form-along (json-array-form left less ms b k e le h) (variant-along n x y a) =
         let q = sequence-along ms a in counted (4 ∷ []) (λ m. variant 4 m) b q le (forms-along h q.each) (λ refs l f. json-array-form left less q.items b refs e l f)
     form-along (json-object-form left less es b k e le up h) (variant-along n x y a) =
         let q = entries-along es a in
         counted (5 ∷ []) (λ m. variant 5 m) b q le (entries_form-along h q.each) (λ refs l f. json-object-form left less q.items b refs e l (ascend-two text_order q.each up) f)
+    form-along (duration-form left seconds nanos h l) (pair-along x y a b (number-along i) (number-along j)) = to_nothing (duration-form left seconds nanos h l)
+    form-along (none-form left s) (variant-along n x a none-along) = to_nothing (none-form left s)
+    form-along (json-null-form left) (variant-along n x a none-along) = to_nothing (json-null-form left)
+    form-along (json-number-form left z h) (variant-along n x y (integer-along i)) = to_nothing (json-number-form left z h)
+    form-along (json-text-form left t u h) (variant-along n x y (text-along i)) = to_nothing (json-text-form left t u h)
+    form-along (nothing-form left) none-along = to_nothing (nothing-form left)
+    form-along (unsigned-form left w n h) (number-along x) = to_nothing (unsigned-form left w n h)
+    form-along (signed-form left w z h) (integer-along x) = to_nothing (signed-form left w z h)
+    form-along (text-form left t u h) (text-along x) = to_nothing (text-form left t u h)
+    form-along (letter-form left c u) (number-along x) = to_nothing (letter-form left c u)
+    form-along (pattern-form left t u h) (pattern-along x) = to_nothing (pattern-form left t u h)
 
     pub forms-along : {left : ℕ} {s : Shape} {ms : List (Meaning A)} {ns : List (Meaning B)} {b : List ℕ} {k : List A} → Forms A kind_of parts left s ms b k → AllTwo (Along F R) ms ns
         → To R k (λ refs. Forms B kind_of2 parts left s ns b refs)
@@ -277,7 +266,5 @@ module _ {A B : Type 0} {F : Type 0} {R : A → B → Type 0} {kind_of : A → �
         → AllTwo (EntryAlong F R) es fs → To R k (λ refs. Entries B kind_of2 parts left s t fs b refs)
     entries_form-along (no-entries left s t) no-two = record { refs = []; each = no-two; form = no-entries left s t }
     entries_form-along (more-entries left s t m n es b c d j k l h g f) (more-two x y xs ys a i) =
-        let p = form-along h a.key in
-        let q = form-along g a.value in
-        let r = entries_form-along f i in
+        let p = form-along h a.key in let q = form-along g a.value in let r = entries_form-along f i in
         record { refs = p.refs ++ (q.refs ++ r.refs); each = append-two p.each (append-two q.each r.each); form = more-entries left s t y.0 y.1 ys b c d p.refs q.refs r.refs p.form q.form r.form }

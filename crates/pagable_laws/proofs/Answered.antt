@@ -1,9 +1,9 @@
 -- A worker's steps up to its answer: none of its own claims waits any more, and what another claimed is as it was.
-use Rattle.pagable_laws.proofs.Words.{◌≡◌, ℕ, nat_eq, nat_tests, arith, true, false, List, [], ◌∷◌, ◌++◌, append_assoc, None, Some, Ok, refl, sym, subst, Identity, HandleNumber, Slot, Shelf}
-use Rattle.pagable_laws.proofs.Words.{no_result, Todo, Task, of_item, of_entry, Written, Took, Claim, WorkerAnswer, Seen, Site, Does, answer_after, first_todo, is_open_outcome, IsMetFailure}
-use Rattle.pagable_laws.proofs.{Words.{FailedElsewhere, inl, inr}, Standing.{is_open_in, AllStand, Covers, HasNoFailed, first-stands, some-none, some-same, Goes, grows, same-worker}}
-use Rattle.pagable_laws.proofs.{Coming.{stands-on, goes-same, FailsMet, follows-met, fails-stay, first-met, failed-stays, failed-elsewhere, answered}, Decoding.{among-left, among-right}}
-use Rattle.{pagable_laws.proofs.Joining.steps_follow, pagable_world.specs.Access.{AccessState, AllHaveResults, WorkerRun, WalkStep, worker-ends, worker-goes-on}, std.proofs.lemmas.Bool.cases_Bool}
+use Rattle.pagable_laws.proofs.Words.{HandleNumber, Identity, List, None, Ok, Seen, Shelf, Site, Slot, Some, Task, Todo, Took, WorkerAnswer, Written, [], answer_after, append_assoc, arith, cases_Bool}
+use Rattle.pagable_laws.proofs.{Coming.{FailsMet, answered, failed-elsewhere, failed-stays, fails-stay, first-met, follows-met, goes-same, stands-on}, Decoding.{among-left, among-right}}
+use Rattle.pagable_laws.proofs.{Joining.steps_follow, Standing.{AllStand, Covers, Goes, HasNoFailed, first-stands, grows, is_open_in, same-worker, some-none, some-same}, Words.{Claim, Does}}
+use Rattle.pagable_world.specs.{Access.{AllHaveResults, WalkStep, WorkerRun, worker-ends, worker-goes-on}, Headline.{FailedElsewhere, IsMetFailure}, Workers.{first_todo, is_open_outcome}}
+use Rattle.{pagable_laws.proofs.Words.{false, inl, inr, nat_eq, nat_tests, no_result, of_entry, of_item, refl, subst, sym, true, ℕ, ◌++◌, ◌∷◌, ◌≡◌}, pagable_world.specs.Access.AccessState}
 
 -- what a worker leaves with its answer, whose steps these are; and what it failed with was met, where C
 record Answered {W : Type 0} (C : Type 0) (n : ℕ) (shelf : Shelf) (steps : List (Took W)) (answer : WorkerAnswer) (shelf' : Shelf) : Type 0 where
@@ -27,8 +27,7 @@ module _ {N E B W : Type 0} (m : Seen N B W) (n : ℕ) (task : Task) (C : Type 0
       → Covers s.shelf n todo → (C → Met n s.shelf past todo) → Answered C n s.shelf (past ++ steps) answer s'.shelf
   unfolding is_open_in
   at-answer (worker-ends todo next step answer s s' w is) past all covers met =
-      let g = went w all covers in
-      let grown = grows n s.shelf s'.shelf g.changes in
+      let g = went w all covers in let grown = grows n s.shelf s'.shelf g.changes in
       record {
         own = λ i slot there own.
             let none : (slot.outcome ≡ no_result → false ≡ true) = λ still. subst (λ t. Covers s'.shelf n t) (g.done answer is) g.covers i slot there own still in grind (arith, nat_tests);
@@ -36,8 +35,7 @@ module _ {N E B W : Type 0} (m : Seen N B W) (n : ℕ) (task : Task) (C : Type 0
         met = λ c. answered n s'.shelf (past ++ step ∷ []) todo step answer is (fails-stay n s.shelf s'.shelf past _ todo grown (λ x (i, at). among-left past (step ∷ []) i x at) (met c).1);
       }
   at-answer (worker-goes-on todo next step steps answer s mid s' w is more) past all covers met =
-      let g = went w all covers in
-      let grown = grows n s.shelf mid.shelf g.changes in
+      let g = went w all covers in let grown = grows n s.shelf mid.shelf g.changes in
       let site : Site = record { core = s.pager.core; shelf = s.shelf; todo = todo } in
       let on : C → Met n mid.shelf (past ++ step ∷ []) next = λ c.
       let (clean, fails) = met c in

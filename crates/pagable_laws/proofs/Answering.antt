@@ -1,11 +1,12 @@
 -- What follows for keys: each that is published is its tree's, each that is answered is its task's, and what a worker met that answers one is left paged out.
-use Rattle.pagable_laws.proofs.Words.{to_publish, Identity, longest_path, arith, nat_tests, ◌≡◌, ℕ, true, List, [], ◌∷◌, Some, Ok, sym, ap, subst, ◌∙◌, is_some, OptionalDataKey}
-use Rattle.pagable_laws.proofs.Words.{KeyOfItem, ArcRef, is_loose_kind, Tree, HandleNumber, ReadsTree, WorkerNumber, if_there, Event, EventReply, Took, WorkerAnswer, WorkerReply, has_key}
-use Rattle.pagable_laws.proofs.Words.{Core, key_at, Shelf, Slot, Written, Todo, to_item, to_set, to_release, Task, of_item, of_entry, Walking, Values, Seen, Site, Does, IsPublished}
-use Rattle.pagable_laws.proofs.Words.{answer_after, WorkerSteps, Happens, PagerState, MachineState, world_of, kids_of, HandlesAreWhole, IsMachineWhole, Represents, StandsFor, ReadsItsTypes, Meets}
-use Rattle.pagable_laws.proofs.Words.{meets-of-item, meets-entry, meets-below, AreKeysOf, IsLeftPagedOut, HasKeyOf, LeavesAll, IsKeyOfTask, Ground, ground_of, Waits, Walks, WorkFits}
-use Rattle.pagable_laws.proofs.{Words.{IsDone, KeyIsSet, AllHold, HasHandle, KeysHeld, KeysAreRight}, Merkle.{one_key, one_item_key, tree_readable}, Trees.{same_some, each-type}}
-use Rattle.pagable_laws.proofs.{Following.{IdentityStands, known-of, keys-of, tree-form, cell-of}, Taking.row-held, Coming.updated-at, Stepping.{done-on, keys-same, all-known, all-low, stands-for}}
+use Rattle.pagable_laws.proofs.Words.{Happens, Identity, IsMachineWhole, IsPublished, List, MachineState, Ok, OptionalDataKey, PagerState, ReadsItsTypes, ReadsTree, Represents, Seen, Shelf, Site}
+use Rattle.pagable_laws.proofs.Words.{Slot, Some, Task, Todo, Took, Tree, Values, Walking, WorkFits, WorkerAnswer, WorkerNumber, WorkerReply, WorkerSteps, Written, [], answer_after, ap, arith}
+use Rattle.pagable_laws.proofs.{Coming.updated-at, Following.{IdentityStands, cell-of, keys-of, known-of, tree-form}, Merkle.{one_item_key, one_key, tree_readable}, Stepping.{all-known, all-low}}
+use Rattle.pagable_laws.proofs.{Stepping.{done-on, keys-same, stands-for}, Taking.row-held, Trees.{each-type, same_some}, Words.{ArcRef, Core, Does, Event, EventReply, HandleNumber, HandlesAreWhole}}
+use Rattle.pagable_laws.{proofs.Words.{if_there, is_some, key_at, nat_tests, of_entry, of_item, subst, sym, to_item, to_release, to_set, true, world_of, ℕ, ◌∙◌, ◌∷◌, ◌≡◌}, specs.TreeSteps.AllHold}
+use Rattle.pagable_world.specs.{Headline.{AreKeysOf, HasKeyOf, IsKeyOfTask, IsLeftPagedOut, LeavesAll, Meets, meets-below, meets-entry, meets-of-item}, Kinds.has_key, Pager.{StandsFor, kids_of}}
+use Rattle.pagable_world.specs.{Plain.{is_loose_kind, longest_path}, World.to_publish}
+use Rattle.{pagable_laws.specs.TreeSteps.{Ground, HasHandle, IsDone, KeyIsSet, KeysAreRight, KeysHeld, Waits, Walks, ground_of}, pagable_model.specs.Merkle.KeyOfItem}
 
 -- ---- one step of a worker
 
@@ -18,13 +19,11 @@ module _ {N B W : Type 0} (m : Seen N B W) (n : ℕ) (g : Ground) (task : Task) 
   pub answered : (todo : List Todo) (step : Took W) → Does m n s todo step s' → Walks m.values g s.shelf task todo → (key : ℕ) → answer_after todo step ≡ Some (WorkerAnswer.Key key) → Answers key
   unfolding Waits
   answered (to_item written ks ∷ below) (Took.Store i (Ok k)) (is, p) (of_it, known) key e =
-      let to : k ≡ key = cc in
-      let b = p.stored.stores in
+      let to : k ≡ key = cc in let b = p.stored.stores in
       let done : IsDone m.values s.shelf task key = subst (λ t. IsDone m.values s.shelf t key) (sym of_it)
       (ks, all-known s.shelf longest_path written.references ks p.all known, sym to ∙ b.0, all-low s.shelf longest_path written.references ks p.all known) in
       let t = p.goes in search (done, t.table_stays.slots)
-  answered (to_release r k h ∷ []) (Took.Release i) (is, falls, t) (p, reach, (expects, waits)) key e =
-      let to : k ≡ key = cc in record { done = grind (arith, nat_tests); same = t.table_stays.slots }
+  answered (to_release r k h ∷ []) (Took.Release i) (is, falls, t) (p, reach, (expects, waits)) key e = let to : k ≡ key = cc in record { done = grind (arith, nat_tests); same = t.table_stays.slots }
   answered x0 x1 x2 x3 key e = grind (arith, nat_tests)
 
 -- ---- what a machine has come to
@@ -46,8 +45,7 @@ module _ {N E : Type 0} (v : Values N) (s : MachineState N E) (trees : ℕ → T
   met task key done i (meets-of-item written r is among) = let d = subst (λ x. IsDone v shelf x key) is done in known-of shelf written.references d.0 d.1 r among
   met task key done i (meets-entry h j is) = let d = subst (λ x. IsDone v shelf x key) is done in (key, d)
   met task key done i (meets-below j slot written r above there wrote among) =
-      let p = met task key done j above in
-      let q = p.1.1 in
+      let p = met task key done j above in let q = p.1.1 in
       let same : q.slot ≡ slot = same_some _ _ (sym q.claimed ∙ there) in
       let b = (fit.slots t j q.slot q.claimed).publishes p.0 p.1.0 q.known in
       let w : b.0 ≡ written = same_some _ _ (sym b.1 ∙ ap (λ (z : Slot). z.written) same ∙ wrote) in
@@ -55,9 +53,7 @@ module _ {N E : Type 0} (v : Values N) (s : MachineState N E) (trees : ℕ → T
 
   left-paged-out : (i : Identity) (key height : ℕ) → IsPublished shelf i key height → IsLeftPagedOut v s.pager shelf trees i
   left-paged-out i key height p =
-      let f = fit.slots t i p.slot p.claimed in
-      let b = f.publishes key height p.known in
-      let w = f.writes b.0 b.1 in
+      let f = fit.slots t i p.slot p.claimed in let b = f.publishes key height p.known in let w = f.writes b.0 b.1 in
       search (p.claimed, b.1, p, b.2.is_stored, b.2.known, w.is, tree-form w)
 
 -- ---- an event
@@ -76,8 +72,7 @@ has-key-of v s trees n whole stands set live = let k = key-known s.core n set li
 
 -- a cell whose key is published has one by then
 set-by-then : {N B W : Type 0} (m : Seen N B W) (n : ℕ) (s s' : Site) (todo : List Todo) (i : Identity) (key height : ℕ) → Does m n s todo (Took.Publish i key height) s' → AllHold s.core n todo
-    → ((k : ℕ) → HasHandle s.core n k → is_some (s.core.cells k) ≡ true) → is_loose_kind i.kind.0 ≡ true
-    → (set : ℕ) × (key_at s.core i.node.0 ≡ OptionalDataKey.Some set)
+    → ((k : ℕ) → HasHandle s.core n k → is_some (s.core.cells k) ≡ true) → is_loose_kind i.kind.0 ≡ true → (set : ℕ) × (key_at s.core i.node.0 ≡ OptionalDataKey.Some set)
 unfolding AllHold
 set-by-then m n s s' (to_publish r k h ∷ below) i key height does all live kind =
     subst (λ (j : Identity). (set : ℕ) × (key_at s.core j.node.0 ≡ OptionalDataKey.Some set)) (sym does.0)
@@ -98,8 +93,7 @@ module _ {N B W E : Type 0} (m : Seen N B W) (s s' : MachineState N E) (trees tr
         m.values w.walking.task key a.done
 
     -- the worker as it is afterwards
-    is-after : (P : Walking → Type 0) → P (record w.walking { todo = w.after.todo; steps = reply.steps; answer = reply.answer }) → (walking : Walking)
-        → s'.work.walkings n.0 ≡ Some walking → P walking
+    is-after : (P : Walking → Type 0) → P (record w.walking { todo = w.after.todo; steps = reply.steps; answer = reply.answer }) → (walking : Walking) → s'.work.walkings n.0 ≡ Some walking → P walking
     is-after P p walking there = grind (arith, nat_tests, same_some, updated-at)
 
   left-all : (t : ℕ) (task : Task) (key : ℕ) → IsDone m.values (s'.work.shelves t) task key → LeavesAll m.values s'.pager (s'.work.shelves t) trees' task

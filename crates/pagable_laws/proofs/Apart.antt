@@ -1,18 +1,17 @@
 -- What a blob asks for next depends on no more of the references that were got than their kinds; what one asks for that is a form of some value; and that what was read of it names no
 -- handle twice, where the handles that were got are apart.
+use Rattle.pagable_laws.proofs.Words.{Some, Throughout, Types, [], ap, append-nil, append_assoc, arith, cases_Bool, cases_lt, false, if◌then◌else◌, inl, inr, is_eager, is_in, length, length-append}
+use Rattle.pagable_laws.proofs.Words.{map, nat_tests, next_in, one, read, references_fault, references_in, refl, rest, slice_get, subst, suc, sum_by-cons, sym, times, true, zero, ℕ, ◌++◌, ◌+◌, ◌==◌}
 use Rattle.pagable_laws.proofs.{Again.{Looked, all-looked, form-again, not-looked, one-looked}, Along.{AllTwo, Along, each-two, more-two, no-two, refs-two}, Related.{Out, OutLook, both-given}}
-use Rattle.pagable_laws.proofs.{Related.{both-looked-up, both-not, both-refused, first-refused, keeps_forms, no_cause, read_par, renamed}, Sums.{at-most-sum, counted, one-true, same-number}}
-use Rattle.pagable_laws.proofs.{Sums.self-number, Words.{Among, Answer, ArcRef, Blob, Core, Err, Error, Form, Frame, IsReadable, IsReference, Kind, List, Meaning, Next, None, Ok, Option, Owner}}
-use Rattle.pagable_laws.proofs.Words.{Rest, Result, Shape, Some, Throughout, Types, [], after_kinds, answer_at, answer_of, answers_from, ap, append-nil, append_assoc, arith, asks, at, cases_lt}
-use Rattle.pagable_laws.proofs.Words.{deepest, false, handles_at, if◌then◌else◌, inl, inr, is_eager, is_faulty, is_in, kind_of_arc, length, length-append, map, nat_tests, next_by, next_in, next_of}
-use Rattle.pagable_laws.proofs.Words.{one, read, read_typed, reads, reference_fault, references_fault, references_in, refl, rename, rest, slice_get, slice_get-get_or, some_of, subst, suc}
-use Rattle.{pagable_laws.proofs.Words.{sum_by-cons, sym, times, true, zero, ℕ, ◌++◌, ◌+◌, ◌==◌, ◌>>=◌, ◌∙◌, ◌∷◌, ◌≡◌, ◌≤◌}, pagable_world.specs.Loads.read_with, std.proofs.lemmas.Bool.cases_Bool}
-use Rattle.std.proofs.lemmas.{List.{length-map, map-append}, Option.slice_get_past}
+use Rattle.pagable_laws.proofs.{Related.{both-looked-up, both-not, both-refused, first-refused, keeps_forms, no_cause, read_par, renamed}, Trees.{at-most-sum, counted, one-true, same-number}}
+use Rattle.pagable_laws.proofs.{Trees.self-number, Words.{Among, ArcRef, Blob, Core, Err, Error, Form, Frame, IsReadable, IsReference, Kind, List, Meaning, None, Ok, Option, Owner, Result, Shape}}
+use Rattle.{pagable_laws.{proofs.Words.{◌∙◌, ◌∷◌, ◌≡◌, ◌≤◌}, specs.FormLaws.at}, pagable_model.specs.{Reading.{Rest, deepest, read_typed}, Standing.{Answer, answer_at, handles_at}, Steps.◌>>=◌}}
+use Rattle.{pagable_model.specs.Writing.kind_of_arc, pagable_world.specs.{Loads.{Next, answer_of, answers_from, asks, is_faulty, next_by, next_of, read_with, reads}, Order.{after_kinds, some_of}}}
+use Rattle.{pagable_world.specs.Refusals.reference_fault, std.proofs.lemmas.{List.{length-map, map-append}, Option.{slice_get-get_or, slice_get_past}}}
 
 abbrev pub kinds_of : List ArcRef → List ℕ
 kinds_of got = map (λ (r : ArcRef). r.kind.0) got
 
--- any two references
 abbrev AnyTwo : ArcRef → ArcRef → Type 0
 AnyTwo r q = Unit {0}
 
@@ -61,13 +60,10 @@ faulty-by-kinds types t blob got e is = next-alike types t blob got (λ own o. l
 pub kinds-pushed : (got : List ArcRef) (r : ArcRef) → kinds_of (got ++ r ∷ []) ≡ kinds_of got ++ r.kind.0 ∷ []
 kinds-pushed got r = map-append (λ (q : ArcRef). q.kind.0) got (r ∷ [])
 
--- ---- what is answered
-
 -- an answer, by the kind of its reference
 look_kind : ℕ → Answer → Result ℕ Error
 look_kind kind a = answer_at kind a >>= λ r. Ok (kind_of_arc r)
 
--- a kind stands for itself
 abbrev own_kind : ℕ → ℕ
 own_kind kind = kind
 
@@ -94,8 +90,6 @@ looked front (g ∷ back) (d ∷ done) q more (key ∷ keys) same few =
     (subst (λ n. Looked look_kind own_kind (answers_from (front ++ g ∷ back) n keys) all (Err (Error.Storage q.kind.0))) (length-append front (g ∷ [])) moved)
 looked front x1 x2 q more x4 same few = grind (arith, nat_tests)
 
--- ---- what comes next
-
 err-of : {X Y R : Type 0} (f : X × R → Y × R) (r : Result (X × R) Error) (e : Error) → (r >>= λ x. Ok (f x)) ≡ Err e → r ≡ Err e
 err-of f x1 e is = grind (arith, nat_tests)
 
@@ -113,9 +107,6 @@ module _ (types : Types) (t : ℕ) (blob : Blob) (refs : List ArcRef) (f : IsFor
   abbrev input : List ArcRef → Rest Answer
   input got = rest blob.bytes (answers_from got 0 blob.keys)
 
-  kinds-form : Form ℕ own_kind types.parts deepest f.shape (rename kind_of_arc f.own) blob.bytes (map kind_of_arc refs)
-  kinds-form = keeps_forms kind_of_arc kind_of_arc own_kind types.parts deepest f.shape f.own blob.bytes refs (λ a. refl) f.form
-
   by-shape : (got : List ArcRef) → read_with types t blob got ≡ read (handles_at 0 types.parts) f.shape (input got)
   by-shape got = rw f.is refl
 
@@ -127,7 +118,7 @@ module _ (types : Types) (t : ℕ) (blob : Blob) (refs : List ArcRef) (f : IsFor
       let few : length blob.keys ≡ length (done ++ q ∷ more) = f.as_many ∙ ap length split in
       let stops = subst (λ (rs : List ArcRef). Looked look_kind own_kind (answers_from got 0 blob.keys) (map kind_of_arc rs) (Err (Error.Storage q.kind.0))) (sym split)
       (looked [] got done q more blob.keys same few) in
-      let stopped = form-again [] kinds-form stops f.can in
+      let stopped = form-again [] (keeps_forms kind_of_arc kind_of_arc own_kind types.parts deepest f.shape f.own blob.bytes refs (λ a. refl) f.form) stops f.can in
       let refused : read (at 0 look_kind types.parts) f.shape (input got) ≡ Err (Error.Storage q.kind.0) = rw append-nil at stopped in
       let first = err-of _ (read (handles_at 0 types.parts) f.shape (input got)) (Error.Storage q.kind.0) (sym (renamed kind_of_arc answer_at 0 types.parts f.shape (input got)) ∙ refused) in
       let there = slice_get-get_or blob.keys (length done) 0 (let long = length-append done (q ∷ more) in omega arith) in
@@ -156,7 +147,6 @@ kind-at [] (x ∷ refs) same place r is = absurd (cc)
 kind-at (g ∷ got) (x ∷ refs) same zero r is = (g, refl, cc)
 kind-at (g ∷ got) (x ∷ refs) same (suc place) r is = kind-at got refs (cc) place r is
 
--- what is given alike is given
 given-alike : {A B : Type 0} {S : A → B → Type 0} {R : ArcRef → ArcRef → Type 0} {m : Meaning ArcRef} {after : Rest B} {first : Result (Meaning ArcRef × Rest A) Error}
     {second : Result (Meaning ArcRef × Rest B) Error} → Out no_cause S (Along ⊥ R) first second → second ≡ Ok (m, after)
     → (own : Meaning ArcRef) × (left : Rest A) × (first ≡ Ok (own, left)) × Along ⊥ R own m
@@ -194,8 +184,6 @@ module _ (types : Types) (t : ℕ) (blob : Blob) (refs got : List ArcRef) (f : I
   in-place : (own : Meaning ArcRef) → next_of types t blob got ≡ reads own → Along ⊥ (InPlace got refs) own f.own
   in-place own is = let (read, next, along) = reads-all in let e : read ≡ own = (let f : reads read ≡ reads own = sym next ∙ is in cc) in subst (λ m. Along ⊥ (InPlace got refs) m f.own) e along
 
--- ---- what was got
-
 -- What was got for a blob was asked for, one reference after another.
 pub data GotAsked (types : Types) (t : ℕ) (blob : Blob) : List ArcRef → Type 0 where
   none-got : (got : List ArcRef) → got ≡ [] → GotAsked types t blob got
@@ -221,8 +209,7 @@ pub data NextOf (blob : Blob) (refs : List ArcRef) (next : Next) : Type 0 where
 
 module _ (types : Types) (t : ℕ) (blob : Blob) (refs : List ArcRef) (f : IsFormOf types t blob refs) where
   ahead : (got done left : List ArcRef) → refs ≡ done ++ left → kinds_of got ≡ kinds_of done → Ahead types t blob refs got
-  ahead got done [] split same =
-      let all = same ∙ ap kinds_of (sym (split ∙ append-nil done)) in let w = reads-all types t blob refs got f all in all-done w.0 w.1 all
+  ahead got done [] split same = let all = same ∙ ap kinds_of (sym (split ∙ append-nil done)) in let w = reads-all types t blob refs got f all in all-done w.0 w.1 all
   ahead got done (q ∷ left) split same = let a = asks-next types t blob refs f got done q left split same in one-left done left q a.0 split same a.1 a.2
 
   comes-to : {got : List ArcRef} → GotAsked types t blob got → Ahead types t blob refs got
@@ -248,13 +235,10 @@ module _ (types : Types) (t : ℕ) (blob : Blob) (refs : List ArcRef) (f : IsFor
 
 -- ---- a value that was read of a form names no handle twice, where the handles that were got are apart. So nothing is to be said against its references, where each is good
 
--- no handle was got twice
 abbrev pub AreApart : List ArcRef → Type 0
 AreApart got = (i j : ℕ) (r q : ArcRef) → slice_get got i ≡ Some r → slice_get got j ≡ Some q → r.handle.0 ≡ q.handle.0 → i ≡ j
 
 module _ (types : Types) (t : ℕ) (blob : Blob) (refs got : List ArcRef) (f : IsFormOf types t blob refs) (same : kinds_of got ≡ kinds_of refs) where
-  -- ---- references, one by one
-
   module _ (apart : AreApart got) where
     -- where a handle was got, all that is named by it was one reference
     no-more : (q : ℕ) (r : ArcRef) (g : ArcRef) → InPlace got refs g r → g.handle.0 ≡ q → {xs ys : List ArcRef} → AllTwo (InPlace got refs) xs ys
@@ -291,10 +275,7 @@ module _ (w : Core) (owner : Owner) where
       let b = sum_by-cons (λ (x : ArcRef). one (x.handle.0 == q.handle.0)) r rs in
       let c = at-most-sum (λ (x : ArcRef). one (x.handle.0 == q.handle.0)) rs q among in
       let d : one (q.handle.0 == q.handle.0) ≡ 1 = ap one (self-number q.handle.0) in
-      elim (cases_Bool (r.handle.0 == q.handle.0)) [
-        | inl e ↦ absurd (let z : one (r.handle.0 == q.handle.0) ≡ 1 = ap one e in omega (arith, a, b, c, d, z))
-        | inr e ↦ rw (e, n) refl
-      ])
+      elim (cases_Bool (r.handle.0 == q.handle.0)) [ inl e ↦ absurd (let z : one (r.handle.0 == q.handle.0) ≡ 1 = ap one e in omega (arith, a, b, c, d, z)) | inr e ↦ rw (e, n) refl ])
       (λ q. let a = once q in let b = sum_by-cons (λ (x : ArcRef). one (x.handle.0 == q)) r rs in omega (arith, a, b)) in
       let first : reference_fault w owner seen r ≡ None = let is = good r (zero, refl) in let isnt = new r (zero, refl) in grind (arith, self-number) in
       rw first rest

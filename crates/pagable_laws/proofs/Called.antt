@@ -1,14 +1,14 @@
 -- What trees feel of each call, by the call and its reply.
-use Rattle.pagable_laws.proofs.Words.{◌≡◌, ℕ, Bool, true, false, List, refl, Option, Some, Result, Ok, Err, Error, Kind, Blob, HandleNumber, LoadNumber, NodeNumber, Owner, HandleRow, Mode, Want}
-use Rattle.pagable_laws.proofs.Words.{Pinning, Beginning, OptionalDataKey, Core, of_cell, Alike, with_handle, moved, CloneCall, PinCall, Asked, StoreCall, without_load, BeginCall, BeginKeyCall, Given}
-use Rattle.pagable_laws.proofs.Words.{arith, nat_tests, AskCall, GetsKnown, LoadCloses, nothing_felt, [], inl, inr, None, ◌⊎◌, ArcRef, Call, Reply, Event, find_row, owner_value, Seen, Values}
-use Rattle.pagable_laws.proofs.Words.{only_handle, next_node, is_named_by, BirthCall, ReleaseCall, SetKeyCall, ScheduleCall, RecallCall, OfferCall, AdoptCall, LazyCall, EndCall}
-use Rattle.pagable_laws.proofs.Words.{Installs, HandOverCall, first_key, CallBrings, IsNewNode, KeepsOpen, LeavesCache, Change, sets_key, knows_node, bears_node, bears_known, CallFeels}
-use Rattle.pagable_laws.proofs.Words.{feels-nothing, feels-birth, feels-away, feels-key, feels-known, feels-adopted, feels-lazy, feels-end, StaysAway, with_known, usable, adopted, AreGood}
-use Rattle.pagable_laws.proofs.{Words.{FallsAnyhow, of_key, is_owned_in, is_in, numbers_of, subst, sym, ap, ◌∙◌}, Goes.{NotLoads, a-handle, quiet-goes, goes-then, begun, found-changed, KnowsNext}}
-use Rattle.pagable_laws.proofs.{Goes.Goes, Effects.{Effect, IsMine, none, handle, turned, moves, cached, cached-if, opens, shuts, like, fell, own-mode, node, with-key, beside, forgets, stays}}
-use Rattle.pagable_laws.proofs.{Effects.{own-handle, own-named, load-named, none-named, load-owns, but, no-one, entry, handed, owned-mine, both-none}, Sums.same-number, Trees.same_some}
-use Rattle.{pagable_laws.proofs.GoodReferences.{good, alike-away, fell-away}, pagable_world.specs.{Events.Does, LoadCalls.MayEnd}, std.proofs.Common.rules}
+use Rattle.pagable_laws.proofs.Effects.{Effect, IsMine, beside, both-none, but, cached, cached-if, entry, fell, forgets, handed, handle, like, load-named, load-owns, moves, no-one, node, none}
+use Rattle.pagable_laws.proofs.Words.{Call, Change, CloneCall, Core, Err, Error, Event, GetsKnown, HandleNumber, HandleRow, KeepsOpen, Kind, List, LoadNumber, Mode, NodeNumber, None, Ok, Option}
+use Rattle.pagable_laws.proofs.Words.{OptionalDataKey, Owner, PinCall, Reply, Result, Seen, Some, Values, [], adopted, ap, arith, bears_known, false, find_row, first_key, inl, inr, is_in, is_named_by}
+use Rattle.pagable_laws.proofs.{Effects.{none-named, opens, own-handle, own-mode, own-named, owned-mine, shuts, stays, turned, with-key}, Goes.{Goes, KnowsNext, NotLoads, a-handle, begun}}
+use Rattle.pagable_laws.proofs.{Goes.{found-changed, goes-then, quiet-goes}, GoodReferences.{alike-away, fell-away, good}, Trees.{same-number, same_some}, Words.{Alike, ArcRef, Beginning, Blob, Bool}}
+use Rattle.pagable_laws.specs.TreeSteps.{CallFeels, StaysAway, bears_node, feels-adopted, feels-away, feels-birth, feels-end, feels-key, feels-known, feels-lazy, feels-nothing, knows_node, sets_key}
+use Rattle.pagable_laws.{proofs.Words.{moved, nat_tests, next_node, nothing_felt, of_cell, owner_value, refl, rules, subst, sym, true, with_handle, ℕ, ◌∙◌, ◌≡◌, ◌⊎◌}, specs.TreeSteps.AreGood}
+use Rattle.pagable_world.specs.LoadCalls.{AdoptCall, AskCall, BeginCall, BeginKeyCall, EndCall, Given, HandOverCall, Installs, LazyCall, LoadCloses, MayEnd, is_owned_in, numbers_of, without_load}
+use Rattle.pagable_world.specs.{Calls.{Asked, BirthCall, OfferCall, RecallCall, ReleaseCall, ScheduleCall, SetKeyCall, StoreCall, with_known}, Cascade.{FallsAnyhow, only_handle}, Events.Does}
+use Rattle.pagable_world.specs.{OneWorker.LeavesCache, Pager.{CallBrings, IsNewNode}, World.{of_key, usable}, declared.{answers.Pinning.Pinning, calls.Want.Want}}
 
 -- ---- each call, and what loads do, by whoever asks
 

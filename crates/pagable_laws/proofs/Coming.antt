@@ -1,15 +1,15 @@
 -- What each event does to workers and tables: it touches one worker, and claims of its own.
-use Rattle.pagable_laws.proofs.Words.{◌≡◌, ℕ, inl, inr, true, List, [], ◌∷◌, refl, ap, sym, subst, ◌∙◌, Ok, Option, Some, None, ArcRef, Identity, WorkerAnswer, Claim, Took, identity_of, no_result}
-use Rattle.pagable_laws.proofs.Words.{answer_of_fault, Todo, to_start, to_write, to_item, to_publish, to_release, to_fail, arith, Task, Seen, Site, Does, give, give_known, with_wait, answer_after}
-use Rattle.pagable_laws.proofs.Words.{IsPublished, ◌+◌, ◌<◌, ◌≤◌, ◌==◌, false, nat_eq, if◌then◌else◌, nat_tests, WorkerNumber, updated, Call, Event, EventReply, TableNumber, WorkerReply, Owner}
-use Rattle.pagable_laws.proofs.Words.{Core, Alike, Shelf, Slot, Walking, World, Happens, Stays, WorkStays, WorkIs, Starts, no_shelf, new_walking, WorkerSteps, MachineState, world_of, IsIdle, step_of}
-use Rattle.pagable_laws.proofs.Words.{◌*◌, ◌-◌, ◌++◌, drop, length, length-drop, sum_by-cons, sum_by-append, one, times, above, to_pin, to_load, to_finish, to_set, Written, next_start}
-use Rattle.pagable_laws.proofs.Words.{first_todo, is_counted, Follows, is_claim, references_written, own_references, Error, Among, MetError, FailedElsewhere, IsMetFailure, Leads, Err}
-use Rattle.pagable_laws.proofs.{Words.{Reply, CallStep}, Standing.{same-worker, puts-slot, SlotChanges, ShelfGrows, some-none, some-same, grows, same-slots, meets-grow, CoversBy, Goes, plain, fails}}
-use Rattle.pagable_laws.proofs.Standing.{swaps, gives, given-open, all-stay, SameSlots, Turned, work-stands, is-quiet, is-started, is-stepped, is_open_in, AllStand, Covers, HasNoFailed, WorkStands}
-use Rattle.pagable_laws.proofs.{Standing.{claimed, written-goes, published-goes, failed-goes, is_failed, WaitsWell, follows-waits}, Called.calls-go, ReadingSteps.{caller-free, reading-feels}}
-use Rattle.{pagable_laws.proofs.{ReadingSteps.walk-goes, Joining.steps_follow, Decoding.{among-left, among-right}, Goes.le-of}, std.proofs.Common.{length-append, append-nil, rules}}
-use Rattle.std.{proofs.lemmas.Bool.{false_from_ne_true, cases_Bool}, specs.List.sum_by}
+use Rattle.pagable_laws.proofs.Standing.{Covers, CoversBy, Goes, HasNoFailed, SameSlots, ShelfGrows, SlotChanges, Turned, WaitsWell, WorkStands, all-stay, claimed, failed-goes, fails, follows-waits}
+use Rattle.pagable_laws.proofs.Standing.{given-open, gives, grows, is-quiet, is-started, is-stepped, is_failed, is_open_in, meets-grow, plain, published-goes, puts-slot, same-slots, same-worker}
+use Rattle.pagable_laws.proofs.Words.{Identity, IsIdle, IsPublished, List, MachineState, None, Ok, Option, Owner, Reply, Seen, Shelf, Site, Slot, Some, Task, Todo, Took, Walking, WorkerAnswer}
+use Rattle.pagable_laws.proofs.Words.{WorkerNumber, WorkerReply, WorkerSteps, World, Written, [], above, answer_after, ap, arith, cases_Bool, drop, false, false_from_ne_true, give, identity_of}
+use Rattle.pagable_laws.proofs.Words.{if◌then◌else◌, inl, inr, length, nat_eq, nat_tests, no_result, one, refl, rules, step_of, subst, sum_by-cons, sym, times, to_fail, to_finish, to_item, to_load}
+use Rattle.pagable_laws.proofs.{Called.calls-go, Decoding.{among-left, among-right}, Goes.le-of, Joining.steps_follow, ReadingSteps.{caller-free, reading-feels, walk-goes}, Standing.AllStand}
+use Rattle.pagable_laws.proofs.{Standing.{some-none, some-same, swaps, work-stands, written-goes}, Words.{Alike, Among, ArcRef, Call, Claim, Core, Does, Err, Error, Event, EventReply, Happens}}
+use Rattle.pagable_world.specs.{Events.{Starts, Stays, WorkIs, WorkStays, new_walking, no_shelf}, Headline.{FailedElsewhere, IsMetFailure}, Order.{Follows, Leads, MetError, is_claim, own_references}}
+use Rattle.pagable_world.specs.{Order.references_written, Workers.{first_todo, give_known, is_counted, next_start, with_wait}, World.{answer_of_fault, to_publish}}
+use Rattle.{pagable_laws.proofs.Words.{to_pin, to_release, to_set, to_start, to_write, true, updated, world_of, ℕ, ◌*◌, ◌++◌, ◌+◌, ◌<◌, ◌==◌, ◌∙◌, ◌∷◌, ◌≡◌, ◌≤◌}, pagable_world.specs.Events.CallStep}
+use Rattle.{pagable_world.specs.declared.events.TableNumber.TableNumber, std.{proofs.{Common.{append-nil, length-append, ◌-◌}, lemmas.List.{Sums.sum_by-append, length-drop}}, specs.List.sum_by}}
 use Rattle.pagable_laws.proofs.Called as calling
 
 -- ---- whatever a worker does, what stands of its list and of its table stands afterwards
@@ -20,8 +20,7 @@ module _ {N B W : Type 0} (m : Seen N B W) (v : ℕ) (task : Task) (s s' : Site)
 
   -- the key of a reference was known
   known : (r : ArcRef) (place key height : ℕ) (below : List Todo) → AllStand s.shelf v task (to_start r place ∷ below) → CoversBy v task s.shelf (to_start r place ∷ below)
-      → IsPublished s.shelf (identity_of r) key height
-      → ((i : Identity) → s'.shelf.slots i ≡ s.shelf.slots i) → Goes v task s.shelf None s'.shelf (give_known r key height below)
+      → IsPublished s.shelf (identity_of r) key height → ((i : Identity) → s'.shelf.slots i ≡ s.shelf.slots i) → Goes v task s.shelf None s'.shelf (give_known r key height below)
   unfolding AllStand is_open_in
   known r place key height [] (meets, apart, rest) covers is same = plain v task s.shelf s'.shelf same None (to_release r key height ∷ []) (λ a is. absurd (cc))
       ((meets, is), (λ i no. absurd (cc)), tt) covers
@@ -56,8 +55,6 @@ module _ {N B W : Type 0} (m : Seen N B W) (v : ℕ) (task : Task) (s s' : Site)
   pub stands-on : AllStand s.shelf v task s.todo → Covers s.shelf v s.todo → (step : Took W) → Does m v s s.todo step s' → Goes v task s.shelf (answer_after s.todo step) s'.shelf s'.todo
   stands-on all covers step does = go s.todo refl all covers step does
 
--- ---- together
-
 abbrev pub StandsIn : World → Type 0
 StandsIn u = WorkStands u.work.shelves u.work.walkings u.core.last.worker
 
@@ -65,7 +62,6 @@ StandsIn u = WorkStands u.work.shelves u.work.walkings u.core.last.worker
 pub waits-well : (u : World) → StandsIn u → (n : ℕ) (walking : Walking) → u.work.walkings n ≡ Some walking → WaitsWell walking.todo
 waits-well u work n walking is = (work.workers n walking is).waits
 
--- no worker is of a table that isn't there
 abbrev pub KnowsTables : World → Type 0
 KnowsTables u = (v : ℕ) (w : Walking) → u.work.walkings v ≡ Some w → w.table ≤ u.work.last_table
 
@@ -89,7 +85,6 @@ updated-at n x f = let a : (n == n) ≡ true = grind (arith, nat_tests) in ap (�
 updated-off : {X : Type 0} (n : ℕ) (x : X) (f : ℕ → X) (q : ℕ) → nat_eq q n ≡ false → updated n x f q ≡ f q
 updated-off n x f q e = let a : (q == n) ≡ false = grind (arith, nat_tests) in ap (λ b. if b then x else f q) a
 
--- the same slots do as well
 pub goes-same : (v : ℕ) (task : Task) (shelf mid shelf' : Shelf) (answer : Option WorkerAnswer) (todo : List Todo) → ((i : Identity) → shelf'.slots i ≡ mid.slots i)
     → Goes v task shelf answer mid todo → Goes v task shelf answer shelf' todo
 goes-same v task shelf mid shelf' answer todo same g =
@@ -102,8 +97,7 @@ module _ {N B W : Type 0} (m : Seen N B W) (u u' : World) (work : StandsIn u) wh
   module _ (event : Event N B W) (reply : EventReply N B W) where
     quiet : ((n : ℕ) → step_of n event reply ≡ []) → u.core.last.worker ≤ u'.core.last.worker → SameSlots u.work.shelves u'.work.shelves → ((v : ℕ) → u'.work.walkings v ≡ u.work.walkings v)
         → EventTurns m u event reply u'
-    quiet no_step last same stay =
-        grind (arith, nat_tests, is-quiet)
+    quiet no_step last same stay = grind (arith, nat_tests, is-quiet)
 
     by-work : ((n : ℕ) → step_of n event reply ≡ []) → u.core.last.worker ≤ u'.core.last.worker → WorkStays u.work u'.work → EventTurns m u event reply u'
     by-work no_step last w = quiet no_step last (λ t i. (w.shelves t).slots i) w.walkings
@@ -178,7 +172,6 @@ module _ {N B W : Type 0} (m : Seen N B W) (u u' : World) (work : StandsIn u) wh
 at-number : {X : Type 0} (P : X → Type 0) (k : ℕ) (x : X) (f : ℕ → X) (q : ℕ) → P x → P (f q) → P (updated k x f q)
 at-number P k x f q here there = grind (arith, nat_tests)
 
--- what stands goes on to stand
 pub turns-stand : {N B W : Type 0} (m : Seen N B W) {u u' : World} {event : Event N B W} {reply : EventReply N B W} → EventTurns m u event reply u' → StandsIn u → StandsIn u'
 turns-stand m {u} {u'} turns work =
     work-stands turns.who u.work.shelves u'.work.shelves u.work.walkings u'.work.walkings turns.turned u.core.last.worker u'.core.last.worker turns.last turns.small work
@@ -225,8 +218,7 @@ module _ {N B W : Type 0} (m : Seen N B W) {u u' : World} {event : Event N B W} 
             let w = s.walking in
             let now : Walking = record w { todo = s.after.todo; steps = r.steps; answer = r.answer } in
             let at_now : u'.work.walkings turns.who ≡ Some now = sym (ap u'.work.walkings at) ∙ s.work.same_walkings k.0 ∙ updated-at k.0 (Some now) u.work.walkings in
-            let table : SameAs s.after.shelf (u'.work.shelves w.table) =
-            λ i. (s.work.same_shelves w.table).slots i ∙ ap (λ (z : Shelf). z.slots i) (updated-at w.table s.after.shelf u.work.shelves) in
+            let table : SameAs s.after.shelf (u'.work.shelves w.table) = λ i. (s.work.same_shelves w.table).slots i ∙ ap (λ (z : Shelf). z.slots i) (updated-at w.table s.after.shelf u.work.shelves) in
             let d = step k r s one (λ i slot there. let a = turns-grow w.table i slot there in (a.0, sym (table i) ∙ a.1, a.2)) in
             all-hold
             (λ t. at-number (λ shelf. SameAs shelf (u'.work.shelves t) → Slots (u'.work.shelves t)) w.table s.after.shelf u.work.shelves t (λ same. alike s.after.shelf (u'.work.shelves t) same d.0)
@@ -289,7 +281,6 @@ module _ {W : Type 0} (f : W → Written) where
 
 -- ---- what a worker fails with: a refusal that a step of its own met, or that another's claim has failed where its walk came
 
--- another's claim that has failed stays so
 pub failed-stays : (n : ℕ) (shelf shelf' : Shelf) (i : Identity) → ShelfGrows shelf shelf' → FailedElsewhere shelf n i → FailedElsewhere shelf' n i
 failed-stays n shelf shelf' i more was = grind arith
 
@@ -298,9 +289,6 @@ module _ {W : Type 0} (n : ℕ) where
       → IsMetFailure shelf n past answer → IsMetFailure shelf' n more answer
   met-stays shelf shelf' past more x4 grown on x7 = grind (arith, nat_tests, on, failed-stays)
 
-  -- ---- what is to be done
-
-  -- whatever fails was met
   unfoldable pub FailsMet : Shelf → List (Took W) → List Todo → Type 0
   FailsMet shelf past [] = Unit {0}
   FailsMet shelf past (to_fail fault back ∷ below) = IsMetFailure shelf n past (answer_of_fault fault) × FailsMet shelf past below
@@ -325,7 +313,6 @@ module _ {W : Type 0} (n : ℕ) where
     unfolding FailsMet
     first-met x0 = grind (arith, nat_tests, started)
 
-    -- the last step was refused
     refused : (step : Took W) (e : Error) → Among past step → MetError step e → IsMetFailure shelf n past (WorkerAnswer.Failed e) × Unit {0}
     refused step e among met = ((step, among, met), tt)
 
@@ -350,8 +337,6 @@ module _ {W : Type 0} (n : ℕ) where
     pub answered : (todo : List Todo) (step : Took W) (answer : WorkerAnswer) → answer_after todo step ≡ Some answer → FailsMet shelf past todo → IsMetFailure shelf n past answer
     unfolding FailsMet
     answered x0 x1 answer is x4 = grind (arith, nat_tests)
-
--- ---- together
 
 -- of a worker and its steps: they lead to its list, whatever it fails with was met, and they are within their bound
 pub record Went {W : Type 0} (f : W → Written) (n : ℕ) (shelf : Shelf) (w : Walking) (past : List (Took W)) : Type 0 where
@@ -385,7 +370,6 @@ module _ {N B W : Type 0} (m : Seen N B W) (u u' : World) (grow : (t : ℕ) → 
   abbrev f : W → Written
   f = m.written_of
 
-  -- a worker that makes no step
   stays : (n : ℕ) (o o' : Option Walking) (past taken : List (Took W)) → o' ≡ o → taken ≡ [] → HasGone f n u.work.shelves o past → HasGone f n u'.work.shelves o' (past ++ taken)
   stays n o o' past taken same none gone =
       grind (arith, nat_tests, f, append-nil, by)
@@ -398,8 +382,7 @@ module _ {N B W : Type 0} (m : Seen N B W) (u u' : World) (grow : (t : ℕ) → 
           search (gone.leads, fails, met, gone.met, gone.within)
 
   begun : (n : ℕ) (t : TableNumber) (task : Task) (past taken : List (Took W)) → taken ≡ [] → u.work.walkings n ≡ None → u'.work.walkings n ≡ Some (new_walking t task)
-      → HasGone f n u.work.shelves (u.work.walkings n) past
-      → HasGone f n u'.work.shelves (u'.work.walkings n) (past ++ taken)
+      → HasGone f n u.work.shelves (u.work.walkings n) past → HasGone f n u'.work.shelves (u'.work.walkings n) (past ++ taken)
   unfolding all-due
   begun n t task past taken none nobody new gone = search (rules, f, new_walking, fails, first-met, first-due, append-nil)
 
@@ -427,8 +410,7 @@ module _ {N B W : Type 0} (m : Seen N B W) (u u' : World) (grow : (t : ℕ) → 
 
 -- whatever an event does, its steps are added
 pub goes-on : {N B W : Type 0} (m : Seen N B W) (u u' : World) (event : Event N B W) (reply : EventReply N B W) → StandsIn u → EventTurns m u event reply u' → (n : ℕ) (past : List (Took W))
-    → HasGone m.written_of n u.work.shelves (u.work.walkings n) past
-    → HasGone m.written_of n u'.work.shelves (u'.work.walkings n) (past ++ step_of n event reply)
+    → HasGone m.written_of n u.work.shelves (u.work.walkings n) past → HasGone m.written_of n u'.work.shelves (u'.work.walkings n) (past ++ step_of n event reply)
 goes-on {W = W} m u u' event reply work turns n past gone = elim (cases_Bool (nat_eq n turns.who)) [
   | inl e ↦
       let is : turns.who ≡ n = sym (same-worker n turns.who e) in

@@ -1,15 +1,15 @@
 -- A value that was read of a blob leads to what the blob's key reads as: reading the blob with the references that were got runs along the reading of
 -- its bare keys, and each of these reads as the tree of the node that was got for it.
-use Rattle.pagable_laws.proofs.Words.{nat_tests, ◌≡◌, ℕ, zero, suc, ◌+◌, ◌≤◌, ◌==◌, ◌&&◌, Bool, true, List, [], ◌∷◌, ◌++◌, Option, Some, None, Result, Ok, Err, ◌⊎◌, inl, inr, refl, sym, ap, ◌∙◌}
-use Rattle.pagable_laws.proofs.Words.{subst, arith, sum_by, slice_get, length, and_parts, Error, number, integer, text, pattern, none, pair, variant, reference, followed, references_in}
-use Rattle.pagable_laws.proofs.Words.{SameReferences, Rest, read_typed, Answer, answer_at, handles_at, KeyRef, key_ref, ReadsAs, blob_context, rest_of, IsFollowed, number-followed, integer-followed}
-use Rattle.pagable_laws.proofs.Words.{text-followed, pattern-followed, none-followed, pair-followed, variant-followed, reference-followed, ArcRef, Kind, Blob, Shape, Types, Tree, ReadsTree, tree}
-use Rattle.pagable_laws.proofs.Words.{type_of, Meaning, Among, one, Frame, Values, IsLawful, answer_of, answers_from, reads, asks, next_by, next_in, IsDecoded, PagerState, NodeStands, ValueStands}
-use Rattle.pagable_laws.proofs.Words.{MeaningStands, number-stands, integer-stands, text-stands, pattern-stands, none-stands, pair-stands, variant-stands, followed-stands, reference-stands}
-use Rattle.pagable_laws.proofs.Words.{ReadsNodeTree, FrameFits, ReadsItsTypes, LeadsTo, number-leads, integer-leads, text-leads, pattern-leads, none-leads, pair-leads, variant-leads, followed-leads}
-use Rattle.pagable_laws.proofs.{Words.{reference-leads, Decoded}, Along.{Along, number-along, integer-along, text-along, pattern-along, none-along, pair-along, variant-along, reference-along}}
-use Rattle.pagable_laws.proofs.{Along.{followed-along, AllTwo, no-two, more-two, refs-two, each-two}, Related.{Out, both-given, both-refused, OutLook, both-looked-up, any_cause, first-not, read_par}}
-use Rattle.pagable_laws.proofs.{Trees.{tree_is, one_tree}, Sums.{same-number, self-number, at-most-sum, counted}}
+use Rattle.pagable_laws.proofs.Along.{AllTwo, each-two, followed-along, integer-along, more-two, no-two, none-along, number-along, pattern-along, reference-along, refs-two, text-along, variant-along}
+use Rattle.pagable_laws.proofs.Words.{ArcRef, Bool, Kind, List, Meaning, Ok, PagerState, Shape, Tree, [], and_parts, ap, inr, next_in, one, reference, refl, true, type_of, zero, ◌&&◌, ◌∙◌, ◌≤◌, ◌⊎◌}
+use Rattle.pagable_laws.proofs.Words.{Err, None, ReadsItsTypes, Result, ValueStands, Values, followed, inl, length, nat_tests, none, references_in, slice_get, subst, suc, sym, variant, ◌+◌, ◌==◌, ◌∷◌}
+use Rattle.pagable_laws.proofs.{Along.{Along, pair-along}, Related.{Out, OutLook, any_cause, both-given, both-looked-up, both-refused, first-not, read_par}, Words.{Frame, Some, arith, ◌++◌, ◌≡◌}}
+use Rattle.pagable_laws.proofs.{Trees.{at-most-sum, counted, one_tree, same-number, self-number, tree_is}, Words.{Among, Blob, Error, IsLawful, Option, ReadsTree, Types, integer-leads, pair, tree, ℕ}}
+use Rattle.pagable_model.specs.{Meaning.{integer, number, pattern, text}, Trees.{IsFollowed, KeyRef, ReadsAs, key_ref, number-followed, pair-followed, rest_of, text-followed, variant-followed}}
+use Rattle.pagable_model.specs.{References.SameReferences, Standing.{Answer, answer_at, handles_at}, Trees.{blob_context, integer-followed, none-followed, pattern-followed, reference-followed}}
+use Rattle.pagable_world.specs.Pager.{FrameFits, MeaningStands, NodeStands, ReadsNodeTree, followed-stands, none-stands, number-stands, pattern-stands, reference-stands, text-stands, variant-stands}
+use Rattle.{pagable_laws.specs.TreeSteps.{Decoded, LeadsTo, followed-leads, none-leads, number-leads, pair-leads, pattern-leads, reference-leads, text-leads, variant-leads}, std.proofs.Common.sum_by}
+use Rattle.{pagable_model.specs.Reading.{Rest, read_typed}, pagable_world.specs.{Loads.{IsDecoded, answer_of, answers_from, asks, next_by, reads}, Pager.{integer-stands, pair-stands}}}
 
 -- ---- what is read or asked
 
@@ -66,14 +66,10 @@ module _ {types : Types} {stored : ℕ → Option Blob} {trees : ℕ → Tree} {
   leads-follows (text-along t) = (text t, text-leads t, text-followed t)
   leads-follows (pattern-along t) = (pattern t, pattern-leads t, pattern-followed t)
   leads-follows none-along = (none, none-leads, none-followed)
-  leads-follows (pair-along x y a b h g) =
-      let p = leads-follows h in
-      let q = leads-follows g in
-      (pair p.0 q.0, pair-leads x y p.0 q.0 p.1 q.1, pair-followed a b p.0 q.0 p.2 q.2)
+  leads-follows (pair-along x y a b h g) = let p = leads-follows h in let q = leads-follows g in (pair p.0 q.0, pair-leads x y p.0 q.0 p.1 q.1, pair-followed a b p.0 q.0 p.2 q.2)
   leads-follows (variant-along n x a h) = let p = leads-follows h in (variant n p.0, variant-leads n x p.0 p.1, variant-followed n a p.0 p.2)
   leads-follows (reference-along r k f) =
-      let t = trees r.node.0 in
-      let read = f.tree_read in
+      let t = trees r.node.0 in let read = f.tree_read in
       let typed : t.type ≡ type_of k.kind = read.typed ∙ ap type_of (sym f.kind) in
       let own = subst (λ n. ReadsAs stored types n k.key read.reads.own) typed read.reads.reads in
       let led = reference-followed k read.reads.own t.meaning own read.reads.follows in
@@ -97,8 +93,7 @@ meant-refs rs ss same r among =
 
 module _ {N : Type 0} {v : Values N} (lawful : IsLawful v) (readable : ReadsItsTypes v.types) {stored : ℕ → Option Blob} {trees : ℕ → Tree} where
   typed-along : (frame : Frame) (o : Option Shape) (blob : Blob) (got : List ArcRef) → v.types.nodes frame.node_type ≡ o
-      → AllTwo (AnswersFor v.types stored trees got) (answers_from got 0 blob.keys) blob.keys
-      → Out any_cause (AnswersFor v.types stored trees got) (Along ⊥ (Found v.types stored trees got))
+      → AllTwo (AnswersFor v.types stored trees got) (answers_from got 0 blob.keys) blob.keys → Out any_cause (AnswersFor v.types stored trees got) (Along ⊥ (Found v.types stored trees got))
       (read_typed (handles_at 0 v.types.parts) o (record { bytes = blob.bytes; refs = answers_from got 0 blob.keys })) (read_typed (blob_context v.types) o (rest_of blob))
   typed-along frame None blob got is all = both-refused Error.WrongKind
   typed-along frame (Some s) blob got is all =
@@ -148,8 +143,7 @@ pub read_stands : {N E : Type 0} {v : Values N} → IsLawful v → ReadsItsTypes
     → FrameFits v.types s.core.stored trees frame → IsDecoded v frame x → ((r : ArcRef) → Among (v.references x) r → NodeStands v s r.node.0 (trees r.node.0)) → t.type ≡ frame.node_type
     → ReadsTree s.core.stored v.types frame.key t → ValueStands v s x t
 read_stands {v = v} lawful readable s trees frame x t fits decoded nodes typed reads_tree =
-    let read = decodes lawful readable frame x fits decoded in
-    let led = read.leads in
+    let read = decodes lawful readable frame x fits decoded in let led = read.leads in
     let same : read.t ≡ t = one_tree s.core.stored v.types frame.key read.t t (read.typed ∙ sym typed) read.reads reads_tree in
     let meant = leads-stands led.leads (λ r among. nodes r (meant-refs _ _ (λ is. sym (lawful.refers x led.own led.means is)) r among)) in
     record { own = led.own; typed = led.typed ∙ ap (λ (z : Tree). z.type) same; means = led.means; stands = subst (λ (z : Tree). MeaningStands v s led.own z.meaning) same meant }

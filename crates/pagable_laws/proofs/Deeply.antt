@@ -1,15 +1,15 @@
 -- Heights that are known are those of trees: so no key is answered of what leads down too long a path, or to a value that has no form; and why a claim is too deep.
-use Rattle.pagable_laws.proofs.Along.{Along, each-two, form-along, integer-along, none-along, number-along, pair-along, pattern-along, reference-along, text-along, variant-along}
-use Rattle.pagable_laws.proofs.{Answering.answered, Chains.{IsGoingOn, along-with, headline_law, idle-goes}, Coming.{StandsIn, updated-at}, Following.{known-of, tree-form}, Standing.AllStand}
-use Rattle.pagable_laws.proofs.{Standing.{Covers, is-same, is_open_in}, Stepping.next-among, Trees.{same_some, tree_is}, Words.{AllLow, Among, ArcRef, AreMoments, BlobStands, Bool, ClaimIsDeep}}
-use Rattle.pagable_laws.proofs.Words.{Claims, Core, DepthIsTold, Does, Err, Error, Event, EventReply, Expects, Fact, FollowsTo, Ground, Happens, HasNoForm, HoldsAlong, HoldsSettled, Identity}
-use Rattle.pagable_laws.proofs.Words.{IsAttained, IsDone, IsFormlessTask, IsIdle, IsLawful, IsLongBelow, IsLow, IsMachineWhole, IsMetFailure, IsPublished, IsTooDeep, IsTooDeepTask, KeyIsShallow}
-use Rattle.pagable_laws.proofs.Words.{LeadsToNoForm, List, MachineState, Meaning, MetDepthAlone, Moment, Ok, Reaches, ReadsItsTypes, Seen, Shelf, Site, Some, StandsFor, Task, Todo, Took, Tree}
-use Rattle.pagable_laws.proofs.Words.{TreeForm, TreesAlong, Types, Values, Waits, WaitsForAsker, Walking, Walks, WorkFits, WorkerAnswer, Written, WroteTree, above, ap, arith, deepest_path}
-use Rattle.pagable_laws.proofs.Words.{followed, followed-leads, ground_of, height, identity_of, if◌then◌else◌, in-first, in-part, in-rest, inl, inr, is_eager, is_identity, kids_of, kind_of_arc}
-use Rattle.pagable_laws.proofs.Words.{longest_path, max, nat_tests, of_entry, of_item, pair, pair-leads, place_over, reference-leads, refers, refers-on, refl, subst, suc, sym, to_finish, to_item}
-use Rattle.{pagable_laws.proofs.Words.{to_start, tree, true, type_of, variant, variant-leads, world_of, zero, ℕ, ◌+◌, ◌<◌, ◌∙◌, ◌∷◌, ◌≡◌, ◌≤◌, ◌⊎◌}, std.proofs.Common.le_trans}
-use Rattle.std.proofs.lemmas.Bool.{or_cases}
+use Rattle.pagable_laws.proofs.Words.{Happens, HoldsSettled, Identity, IsIdle, IsLawful, IsMachineWhole, IsPublished, List, MachineState, Meaning, Moment, Ok, ReadsItsTypes, Seen, Shelf, Site, Some}
+use Rattle.pagable_laws.proofs.Words.{Task, Todo, Took, Tree, Types, Values, Walking, WorkFits, WorkerAnswer, Written, above, ap, arith, followed, identity_of, if◌then◌else◌, inl, inr, is_eager}
+use Rattle.pagable_laws.proofs.Words.{le_trans, max, nat_tests, of_entry, of_item, pair, refl, subst, suc, sym, to_finish, to_item, to_start, tree, true, type_of, variant, world_of, zero, ℕ, ◌+◌, ◌<◌}
+use Rattle.pagable_laws.proofs.{Along.{Along, each-two, form-along, integer-along, none-along, number-along, pair-along, pattern-along, reference-along, text-along, variant-along}, Answering.answered}
+use Rattle.pagable_laws.proofs.{Chains.{IsGoingOn, along-with, headline_law, idle-goes}, Coming.{StandsIn, updated-at}, Following.{known-of, tree-form}, Standing.{AllStand, Covers, is-same}}
+use Rattle.pagable_laws.proofs.{Standing.is_open_in, Stepping.next-among, Trees.{same_some, tree_is}, Words.{Among, ArcRef, AreMoments, Bool, Core, Does, Err, Error, Event, EventReply, FollowsTo}}
+use Rattle.pagable_laws.specs.TreeSteps.{IsAttained, IsDone, IsLow, Waits, Walks, WroteTree, followed-leads, ground_of, pair-leads, place_over, reference-leads, variant-leads}
+use Rattle.pagable_laws.{proofs.Words.{◌∙◌, ◌∷◌, ◌≡◌, ◌≤◌, ◌⊎◌}, specs.{DeepLaws.{ClaimIsDeep, DepthIsTold, HoldsAlong, MetDepthAlone, WaitsForAsker}, TreeSteps.{AllLow, BlobStands, Expects, Ground}}}
+use Rattle.pagable_world.specs.{OneWorker.{IsTooDeepTask, KeyIsShallow, LeadsToNoForm, Reaches, in-first, in-part, in-rest, refers, refers-on}, Pager.{StandsFor, kids_of}, Plain.longest_path}
+use Rattle.{pagable_model.specs.{Deep.{deepest_path, height}, Merkle.TreeForm, Writing.kind_of_arc}, pagable_world.specs.{Headline.IsMetFailure, OneWorker.{HasNoForm, IsFormlessTask, IsLongBelow}}}
+use Rattle.{pagable_world.specs.{Runs.{Fact, TreesAlong}, Workers.{Claims, IsTooDeep}, World.is_identity}, std.proofs.lemmas.Bool.or_cases}
 
 -- ---- what a tree's references lead to is part of it
 
@@ -32,7 +32,6 @@ record Part (trees : ℕ → Tree) (m : Meaning ⊥) (r : ArcRef) : Type 0 where
   deep : deepest_path (trees r.node.0).meaning ≤ deepest_path m
   small : suc (size (trees r.node.0).meaning) ≤ size m
 
--- the same reference, which is a part
 record SamePart (trees : ℕ → Tree) (m : Meaning ⊥) (r other : ArcRef) : Type 0 where
   same : other ≡ r
   part : Part trees m r
@@ -51,8 +50,6 @@ part-of : {types : Types} {g : Ground} {n : ℕ} {written : Written} → WroteTr
 part-of {g = g} {n} {written} w r among =
     let p = form-along (λ x y h. ap kind_of_arc h.same) w.form (parts-along g.trees written.references (g.trees n).meaning w.follows (omega arith) (omega arith) (omega arith)) in
     (each-two p.each r among).1.part
-
--- ---- heights
 
 -- a height and a depth go up with the place
 climbs : (e : Bool) (place h d top deep : ℕ) → (if e then h + 1 else 0) ≤ top → d ≤ deep → h ≤ d → longest_path < max ((if e then place + 1 else 0) + h) d → longest_path < max (place + top) deep
@@ -82,8 +79,7 @@ module _ {N E : Type 0} (v : Values N) (s : MachineState N E) (trees : ℕ → T
 
   -- a height that references add is no more than that of the tree
   attained-height : (n : ℕ) (i : Identity) (h : ℕ) → size (trees i.node.0).meaning ≤ n → (written : Written) → WroteTree v.types (ground_of s trees) i.node.0 written
-      → IsAttained shelf h written.references
-      → h ≤ height (trees i.node.0).meaning
+      → IsAttained shelf h written.references → h ≤ height (trees i.node.0).meaning
   attained-height n i h few written w (inl is) = omega arith
   attained-height zero i h few written w (inr a) = let part = part-of w a.r a.among in absurd (omega arith)
   attained-height (suc n) i h few written w (inr a) =
@@ -184,7 +180,6 @@ module _ {N E : Type 0} (v : Values N) (s : MachineState N E) (trees : ℕ → T
 
   -- ---- and the tree has a form, and so has each that it reaches
 
-  -- its own value has a form
   has-form : (i : Identity) {key height : ℕ} → Known i key height → HasNoForm v.types (trees i.node.0) → ⊥
   has-form i k formless =
       let same : k.wrote.shape ≡ formless.shape = same_some _ _ (sym k.wrote.is ∙ formless.is) in
@@ -263,7 +258,6 @@ module _ {N B W E : Type 0} (m : Seen N B W) (s s' : MachineState N E) (trees tr
       of _ steps WorkerAnswer.AlreadyFailed alone e (i, among, elsewhere) none = absurd (alone.1 i among)
   depth-is-told event reply is shallow = tt
 
--- a claim that is refused as too deep
 module _ {N B W E : Type 0} (m : Seen N B W) (s s' : MachineState N E) (trees trees' : ℕ → Tree) (fit : WorkFits m.values s trees) (work : StandsIn (world_of s)) where
   module _ (n : ℕ) (walking : Walking) (there : s.work.walkings n ≡ Some walking) where
     abbrev site : Site
@@ -284,8 +278,7 @@ module _ {N B W E : Type 0} (m : Seen N B W) (lawful : IsLawful m.values) (reada
   pub along-first : ((s s' : MachineState N E) (trees trees' : ℕ → Tree) (event : Event N B W) (reply : EventReply N B W) → IsGoingOn m.values s trees
       → Happens m (world_of s) event reply (world_of s') → P s trees event reply s' trees')
       → (s : MachineState N E) (moments : List (Moment N E B W)) (trees : ℕ → Tree) → IsMachineWhole m.values s → IsIdle s → AreMoments m s moments
-      → StandsFor m.values s trees → HoldsSettled m.values s.pager
-      → TreesAlong m P s trees moments
+      → StandsFor m.values s trees → HoldsSettled m.values s.pager → TreesAlong m P s trees moments
   along-first follows s moments trees whole idle chain stands settled =
       along-with m lawful readable P (λ s xs. Unit {0}) (λ s trees trees' x xs on so whole happens right. (follows s x.after trees trees' x.event x.reply on happens, tt))
       s trees moments (idle-goes m lawful readable s trees whole idle settled stands) tt chain

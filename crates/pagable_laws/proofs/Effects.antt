@@ -1,15 +1,15 @@
 -- What a step does: how it is felt, which handles and loads it leaves to others, and that the cache goes on to give for a kind and a key what it gave, as long as the node is held as the
 -- kind asks. The parts of which each call is made.
-use Rattle.pagable_laws.proofs.{Decoding.among-either, Goes.{Goes, IsShut, NotLoads, Quiet, a-handle, alike, born, fell as quiet-fell, found-number, goes-known, goes-quiet, goes-then, keyed}}
-use Rattle.pagable_laws.proofs.{Goes.{le-more, le-self, none-in-next, only-rows, parts, quiet-goes, quiet-self, rows-mode, rows-moved, rows-self}, GoodReferences.same-owner, Outlasting.Has}
-use Rattle.pagable_laws.proofs.{Outlasting.{NotValues, Stands, among-kept, stands-alike, stands-changed, stands-fell, stands-more}, Sums.{at-most-sum, counted, one-true, same-number, self-number}}
-use Rattle.pagable_laws.proofs.{Trees.same_some, Words.{Alike, Among, ArcRef, AreGood, Bears, Blob, Bool, Cell, Change, Core, Error, Falls, HandleNumber, HandleRow, Kind, Knows, List, LoadNumber}}
-use Rattle.pagable_laws.proofs.Words.{Mode, NodeNumber, None, OpenLoad, Option, OptionalDataKey, Owner, OwnersAreThere, Owns, Result, Root, Some, [], and_parts, ap, arith, changed, earlier, fallen}
-use Rattle.pagable_laws.proofs.Words.{false, find_row, held, if_there, if◌then◌else◌, inl, inr, is_at, is_handle, is_in, is_in_memory, is_load_of, is_loose, is_named_by, is_owned_by, is_owned_in}
-use Rattle.pagable_laws.proofs.Words.{is_owner, is_pin, is_pinned_kind, is_pinning, is_some, is_workers, is_workers_at, left_rows, moved, named_fault, nat_lt, nat_tests, nobody, not, nothing_felt}
-use Rattle.pagable_laws.proofs.Words.{numbers_of, one, only_handle, owner_value, owner_worker, pins, refl, row_of, sets_key, slice_get, subst, suc, sym, true, updated, usable, with_cached}
-use Rattle.pagable_laws.proofs.Words.{with_handle, with_key, with_load, with_mode, with_node, without_load, zero, ℕ, ◌&&◌, ◌++◌, ◌+◌, ◌<◌, ◌==◌, ◌∙◌, ◌∷◌, ◌≡◌, ◌≤◌}
-use Rattle.{pagable_world.specs.Refusals.OwnsLoad, std.proofs.{Common.rules, lemmas.Bool.{cases_Bool, false_from_ne_true}}}
+use Rattle.pagable_laws.proofs.Goes.{goes-quiet, goes-then, keyed, le-more, le-self, none-in-next, only-rows, parts, quiet-goes, quiet-self, rows-mode, rows-moved, rows-self, stands-alike}
+use Rattle.pagable_laws.proofs.Words.{Among, ArcRef, Blob, Bool, Change, Core, Error, HandleNumber, HandleRow, Kind, List, LoadNumber, Mode, NodeNumber, None, OpenLoad, Option, OptionalDataKey, Owner}
+use Rattle.pagable_laws.proofs.Words.{Result, Some, [], and_parts, ap, arith, cases_Bool, false, false_from_ne_true, find_row, held, if_there, if◌then◌else◌, inl, inr, is_handle, is_in, is_named_by}
+use Rattle.pagable_laws.proofs.Words.{is_owned_by, is_owner, is_pinning, is_some, moved, nat_tests, not, nothing_felt, one, owner_value, owner_worker, pins, refl, rules, slice_get, subst, suc, sym}
+use Rattle.pagable_laws.proofs.{Decoding.among-either, Goes.{Goes, Has, IsShut, NotLoads, NotValues, Quiet, Stands, a-handle, alike, among-kept, born, fell as quiet-fell, found-number, goes-known}}
+use Rattle.pagable_laws.proofs.{Goes.{stands-changed, stands-fell, stands-more}, GoodReferences.same-owner, Trees.{at-most-sum, counted, one-true, same-number, same_some, self-number}, Words.Alike}
+use Rattle.pagable_laws.{proofs.Words.{true, updated, with_handle, zero, ℕ, ◌&&◌, ◌++◌, ◌+◌, ◌<◌, ◌==◌, ◌∙◌, ◌∷◌, ◌≡◌, ◌≤◌}, specs.TreeSteps.{AreGood, Bears, Knows, sets_key}}
+use Rattle.pagable_world.specs.{Calls.{row_of, with_cached, with_key, with_mode, with_node}, Cascade.{Falls, fallen, left_rows, nobody, only_handle}, Kinds.{is_at, is_in_memory, is_loose, is_pin}}
+use Rattle.pagable_world.specs.{LoadCalls.{is_owned_in, numbers_of, with_load, without_load}, Pager.OwnersAreThere, Plain.{changed, is_pinned_kind}, Refusals.{Owns, OwnsLoad, earlier, named_fault}}
+use Rattle.{pagable_world.specs.{Workers.{is_load_of, is_workers, is_workers_at}, World.{Cell, Root, usable}}, std.specs.Prelude.nat_lt}
 
 module _ (kind key n : ℕ) where
   -- the cache has the node under kind and key, and it is there
@@ -23,8 +23,6 @@ module _ (kind key n : ℕ) where
     pub live : Among rows row
     pub at : row.node.0 ≡ n
     pub pins_it : is_pinned_kind kind ≡ true → is_pinning row.mode ≡ true
-
-  -- ---- what can be used
 
   at-row : (row : HandleRow) → row.node.0 ≡ n → (row.node.0 == n) ≡ true
   at-row row at = ap (λ (x : ℕ). x == n) at ∙ self-number n
@@ -41,8 +39,6 @@ module _ (kind key n : ℕ) where
   pub entered-of : (w : Core) → usable w kind key ≡ Some n → IsEntered w.cache w.cells
   entered-of w is = grind (arith, nat_tests)
 
-  -- ---- the end of a part
-
   pub stays-alike : {w w' : Core} → Alike w w' → IsEntered w.cache w.cells → IsHeldFor w'.rows → IsEntered w'.cache w'.cells
   stays-alike {w} {w'} a e h = entered-of w' (a.cache.gives kind key ∙ can-use w e (subst IsHeldFor a.rows h))
 
@@ -53,8 +49,6 @@ module _ (kind key n : ℕ) where
       let some : nat_lt 0 (held n rows) ≡ true = above-none 0 (held n rows) (is_at n g.row) (at-row g.row g.at) (at-most-sum (λ x. one (is_at n x)) rows g.row g.live) in
       let there : is_some (if nat_lt 0 (held n rows) then w.cells n else None) ≡ true = rw some e.there in
       stays-alike {w = fallen w f.gone f.entries} f.leaves (record { entry = e.entry; there = there }) h
-
-  -- ---- parts, one after another
 
   -- the entry stays where the node is held before and after
   pub record Lasts (w w' : Core) : Type 0 where
@@ -72,8 +66,6 @@ module _ (kind key n : ℕ) where
             let both = and_parts (p.0.node.0 == n) (is_pinning p.0.mode) (one-true _ p.2) in
             record { row = p.0; live = p.1; at = same-number _ _ both.0; pins_it = λ is. both.1 }
       ]
-
-  -- ---- cells
 
   pub entered-born : {cache : ℕ → ℕ → Option ℕ} {cells : ℕ → Option Cell} (p : ℕ) (x : Cell) → IsEntered cache cells → IsEntered cache (updated p (Some x) cells)
   entered-born {cache} {cells} p x e = grind (arith, nat_tests)
@@ -99,10 +91,7 @@ list-apart = record { no_value = λ n is. absurd (cc); no_load = λ l. refl }
 pub named-among : (rs : List ArcRef) (q : ℕ) → is_named_by rs q ≡ true → (r : ArcRef) × Among rs r × (r.handle.0 ≡ q)
 unfolding is_named_by
 named-among [] q is = absurd (cc)
-named-among (r ∷ rs) q is = elim (cases_Bool (r.handle.0 == q)) [
-  | inl e ↦ (r, (zero, refl), same-number _ _ e)
-  | inr e ↦ let a = named-among rs q (rw e at is) in (a.0, (suc a.1.0, a.1.1), a.2)
-]
+named-among (r ∷ rs) q is = elim (cases_Bool (r.handle.0 == q)) [ inl e ↦ (r, (zero, refl), same-number _ _ e) | inr e ↦ let a = named-among rs q (rw e at is) in (a.0, (suc a.1.0, a.1.1), a.2) ]
 
 pub with-one : (w : Core) {q : ℕ} {row : HandleRow} (node : NodeNumber) (mode : Mode) (owner : Owner) → Stands w.last.handle w.rows q row
     → Stands (with_handle w node mode owner).last.handle (with_handle w node mode owner).rows q row
@@ -155,20 +144,14 @@ module _ (mine : Owner) where
   pub moved-free : {last : ℕ} {rows : List HandleRow} {q : ℕ} {row : HandleRow} (set : ℕ → Bool) (owner : Owner) → set q ≡ false → Stands last rows q row → Stands last (moved set owner rows) q row
   moved-free set owner free s = unchanged (λ h. set h.number.0) (λ h. record h { owner = owner }) (λ h. refl) (ap set (row-number s) ∙ free) s
 
-  -- a handle of another's isn't the owner's
   pub other-handle : {w : Core} {me : Owner} {fits : Mode → Bool} (h : HandleNumber) (r : HandleRow) → (me ≡ mine → ⊥) → Owns w me h fits r → Free w (only_handle h)
   other-handle {w} {me} h r other owns = grind (arith, nat_tests)
 
   -- references of another's name none of the owner's handles
   pub named-free : (w : Core) (owner : Owner) (rs : List ArcRef) → (owner ≡ mine → ⊥) → AreGood w owner rs → Free w (is_named_by rs)
-  named-free w owner rs other right = record {
-    each = λ q row own s. false_from_ne_true (is_named_by rs q) (λ e.
-        let a = named-among rs q e in
-        let is = right a.0 a.1 in
-        other (sym is.owned ∙ (ap (λ (x : HandleRow). x.owner) (same_some _ _ (sym is.live ∙ (ap (λ n. find_row n w.rows) a.2 ∙ s.live))) ∙ own)));
-  }
+  named-free w owner rs other right =
+      record { each = λ q row own s. false_from_ne_true (is_named_by rs q) (λ e. let a = named-among rs q e in let is = right a.0 a.1 in other (cc (a.2, is.live, is.owned, s.live, own))) }
 
-  -- an entry of the list isn't the owner's
   pub listed-free : is_owner Owner.List mine ≡ false → {w : Core} → OwnersAreThere w → (i : ℕ) (h : HandleNumber) → slice_get w.list i ≡ Some h → Free w (only_handle h)
   listed-free unlisted {w} there i h at = record {
     each = λ q row own s. false_from_ne_true (q == h.0) (λ e.
@@ -187,8 +170,6 @@ module _ (mine : Owner) where
   handed-free apart w l [] seen none q row own s = refl
   handed-free apart w l (h ∷ hs) seen none q row own s =
       let (first, rest) = both-none _ _ none in let more = handed-free apart w l hs (h.0 ∷ seen) rest q row own s in grind (arith, nat_tests, same-number, apart)
-
--- ---- what a step does
 
 -- an owner of whom nothing is taken: not the asker, no value and no load; and not the list, where its entries may be taken
 pub record IsOther (me : Owner) (lists : Bool) (w : Core) (mine : Owner) : Type 0 where
@@ -256,13 +237,10 @@ module _ {me : Owner} {lists : Bool} where
   pub entry : lists ≡ true → {w : Core} (i : ℕ) (h : HandleNumber) → slice_get w.list i ≡ Some h → Ours me lists w (only_handle h)
   entry taken i h at mine o = listed-free mine (o.unlisted taken).0 (o.unlisted taken).1 i h at
 
-  -- handles that a load hands over
   pub handed : (w : Core) (l : LoadNumber) (hs : List HandleNumber) → named_fault w (Owner.Load l) [] hs ≡ None → Ours me lists w (is_in (numbers_of hs))
   handed w l hs none mine o = record { each = handed-free mine o.apart.no_load w l hs [] none }
 
 module _ {me : Owner} {lists : Bool} {Asks Leaves : Type 0} where
-  -- ---- what is done directly
-
   pub none : {c : Change} (w : Core) → Effect me lists Asks Leaves true c w w
   none {c} w = grind (arith, nat_tests, quiet-self, quiet-goes)
 
@@ -271,7 +249,6 @@ module _ {me : Owner} {lists : Bool} {Asks Leaves : Type 0} where
     directly : Leaves → (kind key n : ℕ) → IsEntered kind key n w.cache w.cells → IsHeldFor kind key n w.rows → IsEntered kind key n m.cache m.cells
     directly leaves kind key n e h = d.lasts leaves kind key n e h (λ f. absurd (cc))
 
-    -- handles alone
     rowed : {rows : List HandleRow} {list : List HandleNumber} {last : ℕ} → let x = record m { rows = rows; list = list; last = record m.last { handle = last } } in
         Quiet m x → ((mine : Owner) → IsOther me lists w mine → Spares mine w x) → Effect me lists Asks Leaves true c w x
     rowed q spares = search (rules, goes-quiet, spares, directly, d.workers, d.others)
@@ -290,7 +267,6 @@ module _ {me : Owner} {lists : Bool} {Asks Leaves : Type 0} where
     moves set owner list safe free = rowed (only-rows (rows-moved m.last.handle m.rows set owner safe) (le-self _))
         (λ mine o. record { each = λ q row own s. moved-free mine set owner ((free mine o).each q row own s) ((d.spares mine o).each q row own s) })
 
-    -- the cache and loads alone
     plainly : {cache : ℕ → ℕ → Option ℕ} {loads : ℕ → Option OpenLoad} {last : ℕ} → let x = record m { cache = cache; loads = loads; last = record m.last { load = last } } in
         Goes c w x → (Leaves → (kind key n : ℕ) → IsEntered kind key n w.cache w.cells → IsHeldFor kind key n w.rows → IsEntered kind key n cache m.cells)
         → (Asks → (l : ℕ) (load : OpenLoad) → w.loads l ≡ Some load → l ≤ w.last.load → is_owner me load.owner ≡ false → loads l ≡ Some load) → Effect me lists Asks Leaves true c w x
@@ -302,7 +278,6 @@ module _ {me : Owner} {lists : Bool} {Asks Leaves : Type 0} where
       others = others;
     }
 
-    -- the cache learns a node where it gave none
     pub cached : (kind : Kind) (key : ℕ) (n : NodeNumber) → Knows c w kind.0 key n.0 → usable w kind.0 key ≡ None → Effect me lists Asks Leaves true c w (with_cached m kind key n)
     cached kind key n knows unknown = plainly (goes-known d.goes kind key n knows) (λ k k' q p e h.
         let was = directly k k' q p e h in record { entry = grind (arith, nat_tests, same-number, can-use k' q p w e h); there = was.there }) d.others
@@ -310,15 +285,12 @@ module _ {me : Owner} {lists : Bool} {Asks Leaves : Type 0} where
     pub cached-if : (b : Bool) (kind : Kind) (key : ℕ) (n : NodeNumber) → Knows c w kind.0 key n.0 → usable w kind.0 key ≡ None → Effect me lists Asks Leaves true c w (if b then m else with_cached m kind key n)
     cached-if x0 kind key n knows unknown = grind (arith, nat_tests, cached)
 
-    -- a load comes, or goes
     pub opens : (key : ℕ) (root : Root) → Goes c w (with_load m key root me) → Effect me lists Asks Leaves true c w (with_load m key root me)
     opens key root goes = plainly goes directly (λ own l load is few other. let more = d.goes.loads_last in let a = d.others own l load is few other in grind (arith, nat_tests))
 
     pub shuts : (l : LoadNumber) → (Asks → IsMine w me l) → Effect me lists Asks Leaves true c w (without_load m l)
     shuts l mine = plainly (goes-quiet d.goes (grind (arith, parts, le-self, rows-self))) directly
         (λ own l load is few other. let a = d.others own l load is few other in let b = mine own in grind (arith, nat_tests, same-number))
-
-    -- ---- the end of a step
 
     pub like : {w' : Core} → Alike m w' → Effect me lists Asks Leaves false c w w'
     like a = search (rules, goes-quiet, alike, then-alike, stays-alike, directly, a.workers, a.loads, d.workers, d.others, d.spares)
@@ -346,7 +318,6 @@ module _ {me : Owner} {lists : Bool} {Asks Leaves : Type 0} where
       → Effect me lists Asks Leaves true c w (record w { stored = stored; failures = failures })
   beside {c} w stored failures keeps shut = grind (arith, nat_tests, quiet-self, quiet-goes)
 
-  -- the cache forgets all
   pub forgets : {c : Change} (w : Core) → (Leaves → ⊥) → Effect me lists Asks Leaves true c w (record w { cache = λ kind key. None })
   forgets {c} w none = grind (arith, nat_tests, parts, le-self, rows-self, quiet-goes)
 

@@ -1,10 +1,9 @@
 -- The least set of handles that fall. What falls of a value of two levels; and a lone cell that is unpinned.
-use Rattle.pagable_laws.proofs.Words.{◌≡◌, ℕ, suc, zero, ◌+◌, ◌<◌, ◌≤◌, ◌==◌, ◌&&◌, ◌||◌, Bool, true, false, List, sum_by, refl, ap, sym, ◌∙◌, arith, nat_lt, not, nat_tests, cases_lt, inl, inr}
-use Rattle.pagable_laws.proofs.Words.{and_parts, one, Among, Owner, HandleRow, is_owner, is_owned_by, owner_value, is_at, is_pin, is_outside, loses_value, IsClosed, IsWithin, IsLeast, OwnsNothing}
-use Rattle.pagable_laws.proofs.Words.{IsGivenAlone, [], ◌∷◌, length, Option, Ok, sum_by-cons, Blob, Mode, pins, held, find_row, Last, owned_outside, Falls, nobody, row_of, with_mode, UnpinCall}
-use Rattle.pagable_laws.proofs.Words.{two_rows, first, first_node, lone, lone_listed, lone_unlisted, TwoLevelsFall, LoneIsListed}
-use Rattle.pagable_laws.proofs.Sums.{same-number, one-true, sum-le, at-most-sum, sum-plus, sum-zero, counted, one-small}
-use Rattle.std.proofs.lemmas.Bool.{false_from_ne_true}
+use Rattle.pagable_laws.proofs.Words.{[], and_parts, ap, arith, cases_lt, false, false_from_ne_true, find_row, held, inl, inr, is_owned_by, is_owner, length, nat_tests, not, one, owner_value, pins}
+use Rattle.pagable_laws.proofs.{Trees.{at-most-sum, counted, one-small, one-true, same-number, sum-le, sum-plus, sum-zero}, Words.{Among, Blob, Bool, HandleRow, Last, List, Mode, Ok, Option, Owner}}
+use Rattle.pagable_laws.{proofs.Words.{refl, suc, sum_by-cons, sym, true, zero, ℕ, ◌&&◌, ◌+◌, ◌<◌, ◌==◌, ◌||◌, ◌∙◌, ◌∷◌, ◌≡◌, ◌≤◌}, specs.FallLaws.{IsGivenAlone, LoneIsListed, OwnsNothing}}
+use Rattle.{pagable_laws.specs.FallLaws.{TwoLevelsFall, first, first_node, lone, lone_listed, lone_unlisted, two_rows}, pagable_world.specs.{Calls.{UnpinCall, row_of, with_mode}, Cascade.Falls}}
+use Rattle.{pagable_world.specs.{Cascade.{IsClosed, IsLeast, IsWithin, is_outside, loses_value, nobody, owned_outside}, Kinds.{is_at, is_pin}}, std.{proofs.Common.sum_by, specs.Prelude.nat_lt}}
 
 -- 1 for a handle outside the set; one that the node's value owns; and one of the one set and not of the other
 abbrev outside : (ℕ → Bool) → HandleRow → ℕ
@@ -41,17 +40,13 @@ module _ (rows : List HandleRow) (keyed : ℕ → Bool) (entries : List HandleRo
 
   -- a handle that a value owns that goes is in the greater set
   comes : (s : ℕ → Bool) (h : HandleRow) (n : ℕ) → Among rows h → is_owner (owner_value n) h.owner ≡ true → lost s n ≡ true → more s h.number.0 ≡ true
-  comes s h n among is goes =
-      let a = owned-by (lost s) n h.owner is goes in
-      let c = at-most-sum (follows (lost s) h.number.0) rows h among in
-      grind (arith, nat_tests)
+  comes s h n among is goes = let a = owned-by (lost s) n h.owner is goes in let c = at-most-sum (follows (lost s) h.number.0) rows h among in grind (arith, nat_tests)
 
   -- where no more follows, the set is closed
   closed-if : (s : ℕ → Bool) → sum_by (outside s) rows ≤ sum_by (outside (more s)) rows → IsClosed rows keyed entries s
   closed-if s same n goes =
       let a = sum-le (λ h. owned_out s n h + outside (more s) h) (outside s) rows (λ h among. grind (arith, nat_tests, comes)) in
-      let b = sum-plus (owned_out s n) (outside (more s)) rows in
-      omega arith
+      let b = sum-plus (owned_out s n) (outside (more s)) rows in omega arith
 
   -- what is in the one set is in the other
   pub inside : (s t : ℕ → Bool) (h : HandleRow) → IsWithin rows s t → Among rows h → s h.number.0 ≡ true → t h.number.0 ≡ true
@@ -78,11 +73,9 @@ module _ (rows : List HandleRow) (keyed : ℕ → Bool) (entries : List HandleRo
     but-closed : IsClosed rows keyed entries but
     but-closed n goes =
         let lost_too = wider but gone n (sum-zero (only_in but gone) rows (λ h among. grind (arith, nat_tests))) goes in
-        let none = least.closed n lost_too in
-        sum-zero (owned_out but n) rows (λ h among.
+        let none = least.closed n lost_too in sum-zero (owned_out but n) rows (λ h among.
         let f : is_owner (owner_value n) h.owner ≡ true → stay h.number.0 ≡ false = λ e. apart n h among e lost_too in
-        let a = at-most-sum (owned_out gone n) rows h among in
-        grind (arith, nat_tests, f))
+        let a = at-most-sum (owned_out gone n) rows h among in grind (arith, nat_tests, f))
 
     pub outlast : (h : HandleRow) → Among rows h → stay h.number.0 ≡ true → gone h.number.0 ≡ false
     outlast h among is = false_from_ne_true (gone h.number.0) (λ e. let goes = inside gone but h (least.least but but-holds but-closed) among e in grind (arith, nat_tests))
@@ -98,12 +91,10 @@ module _ (rows : List HandleRow) (keyed : ℕ → Bool) (entries : List HandleRo
           of-value h x among number (n, is, goes) =
               let none : sum_by (owned_out t n) rows ≡ 0 = closed n (wider s t n within goes) in
               let at : owned_out t n x ≤ sum_by (owned_out t n) rows = at-most-sum (owned_out t n) rows x among in
-              let it : t x.number.0 ≡ true = grind (arith, nat_tests) in
-              sym (ap t number) ∙ it
+              let it : t x.number.0 ≡ true = grind (arith, nat_tests) in sym (ap t number) ∙ it
 
   -- a set that is in each closed one is the least once it is closed itself; until then it grows
-  grows : (given : ℕ → Bool) (k : ℕ) (s : ℕ → Bool) → sum_by (outside s) rows ≤ k → IsWithin rows given s
-      → ((t : ℕ → Bool) → IsWithin rows given t → IsClosed rows keyed entries t → IsWithin rows s t)
+  grows : (given : ℕ → Bool) (k : ℕ) (s : ℕ → Bool) → sum_by (outside s) rows ≤ k → IsWithin rows given s → ((t : ℕ → Bool) → IsWithin rows given t → IsClosed rows keyed entries t → IsWithin rows s t)
       → (s : ℕ → Bool) × IsLeast rows keyed entries given s
   grows given zero s few holds least = (s, record { holds = holds; closed = closed-if s (omega arith); least = least })
   grows given (suc k) s few holds least = elim (cases_lt (sum_by (outside (more s)) rows) (sum_by (outside s) rows)) [
@@ -137,11 +128,7 @@ and-false x0 = grind (arith, nat_tests)
 
 pub two_fall : TwoLevelsFall
 two_fall = record {
-  falls = record {
-    holds = refl;
-    closed = grind (arith, nat_tests, and-false);
-    least = λ t holds closed. let fallen : owned_outside two_rows t 1 ≡ 0 = closed 1 (grind (arith, nat_tests)) in omega arith;
-  };
+  falls = record { holds = refl; closed = grind (arith, nat_tests, and-false); least = λ t holds closed. let f : owned_outside two_rows t 1 ≡ 0 = closed 1 (grind (arith, nat_tests)) in omega arith };
   not_less = λ least. let fallen = least.closed 1 refl in absurd (omega arith);
 }
 
@@ -161,19 +148,16 @@ fell stored =
       leaves = grind (arith, nat_tests);
     }
 
-not-unlisted : (stored : ℕ → Option Blob) → ¬ UnpinCall (lone stored) Owner.Caller first (Ok tt) (lone_unlisted stored)
-not-unlisted stored call = elim call.does [
-  | inl refused ↦ absurd (cc)
-  | inr (row, own, inl (is, told, alike)) ↦ let pins_are : pins 1 (lone_unlisted stored).rows ≡ pins 1 (lone stored).rows = ap (pins 1) alike.rows in absurd (omega arith)
-  | inr (row, own, inr (is, falls)) ↦
-      let last : 1 ≡ 1 + length falls.entries = ap (λ (l : Last). l.handle) falls.leaves.last in
-      let few : held 1 falls.entries ≤ length falls.entries = grind (arith, nat_tests, sum_by-cons, one-small) in
-      absurd (omega arith)
-]
-
 pub is_listed : LoneIsListed
 unfolding find_row
 is_listed = record {
   listed = λ stored. record { does = inr (row_of 1 first_node Mode.LoosePinned Owner.Caller, record { live = refl; own = refl; as_asked = refl }, inr (refl, fell stored)) };
-  not_unlisted = not-unlisted;
+  not_unlisted = λ stored call. elim call.does [
+    | inl refused ↦ absurd (cc)
+    | inr (row, own, inl (is, told, alike)) ↦ let pins_are : pins 1 (lone_unlisted stored).rows ≡ pins 1 (lone stored).rows = ap (pins 1) alike.rows in absurd (omega arith)
+    | inr (row, own, inr (is, falls)) ↦
+        let last : 1 ≡ 1 + length falls.entries = ap (λ (l : Last). l.handle) falls.leaves.last in
+        let few : held 1 falls.entries ≤ length falls.entries = grind (arith, nat_tests, sum_by-cons, one-small) in
+        absurd (omega arith)
+  ];
 }

@@ -1,16 +1,16 @@
 -- What each step brings fits some trees afterwards: where a pager stands for trees, each value and key leads to its node's tree by its own references alone, and from
 -- this it stands for them again, so that what is asked of a node is shown at each node by itself.
-use Rattle.pagable_laws.proofs.{Coming.updated-at, Decoding.{decodes, meant-refs}, Fitting.{first-fits, node-stays, tree-stays}, Following.{cell-of, given-of, halves, held-of, leads-on, one-node}}
-use Rattle.pagable_laws.proofs.{Following.stands-leads, ReadingSteps.{new-node, old-node}, Related.along-rename, Taking.{node-decoded, root-key}, Trees.{one_tree, same_some, tree_is}, Words.Among}
-use Rattle.pagable_laws.proofs.Words.{ArcRef, AreGood, AsksWell, Bool, Call, CallBrings, CallFeels, Change, ChangeFits, Core, CoreGoes, Frame, FramesFit, FramesGiven, HandleNumber, HoldsSettled}
-use Rattle.pagable_laws.proofs.Words.{IsCellOf, IsLawful, IsNewNode, IsReference, KeyFits, LeadsTo, List, LoadAnswer, Meaning, MeaningStands, Moves, NodeLeads, NodeNumber, NodeStands, None}
-use Rattle.pagable_laws.proofs.Words.{OpenLoad, Option, OptionalDataKey, Owner, PagerState, Reading, ReadingBrings, ReadingFeels, ReadingFits, ReadsItsTypes, ReadsNodeTree, ReadsRoot, ReadsTree}
-use Rattle.pagable_laws.proofs.Words.{Reply, Represents, SameNode, SameTrees, Some, StaysAway, TakesWell, Tree, ValueLeads, Values, WellFormed, [], ap, arith, away, bears_known, bears_node}
-use Rattle.pagable_laws.proofs.Words.{cases_lt, false, feels-adopted, feels-away, feels-birth, feels-end, feels-key, feels-known, feels-lazy, feels-nothing, first_key, followed, followed-leads}
-use Rattle.pagable_laws.proofs.Words.{followed-stands, gets-lazy, held, here, if◌then◌else◌, inl, inr, integer, integer-leads, integer-stands, is_pinned_kind, is_some, key_at, knows_node}
-use Rattle.pagable_laws.proofs.Words.{makes-node, nat_tests, none, none-leads, none-stands, nothing_felt, number, number-leads, number-stands, of_cell, pair, pair-leads, pair-stands, pattern}
-use Rattle.pagable_laws.proofs.Words.{pattern-leads, pattern-stands, reference, reference-leads, reference-stands, references_in, refl, sets_key, subst, sym, text, text-leads, text-stands, tree}
-use Rattle.{pagable_laws.proofs.Words.{true, type_of, updated, variant, variant-leads, variant-stands, zero, ℕ, ◌+◌, ◌<◌, ◌==◌, ◌∙◌, ◌∷◌, ◌≡◌, ◌≤◌, ◌⊎◌}, std.proofs.Common.rules}
+use Rattle.pagable_laws.proofs.Words.{Change, Core, Frame, FramesFit, HoldsSettled, IsLawful, IsReference, List, LoadAnswer, Meaning, None, OpenLoad, Option, OptionalDataKey, Owner, PagerState}
+use Rattle.pagable_laws.proofs.Words.{Reading, ReadingFeels, ReadingFits, ReadsItsTypes, ReadsRoot, ReadsTree, Reply, Represents, Some, Tree, Values, WellFormed, [], ap, arith, bears_known, cases_lt}
+use Rattle.pagable_laws.proofs.Words.{false, first_key, followed, held, if◌then◌else◌, inl, inr, integer-leads, is_some, key_at, nat_tests, none, nothing_felt, pair, reference, references_in, refl}
+use Rattle.pagable_laws.proofs.{Coming.updated-at, Decoding.{decodes, meant-refs}, Following.{cell-of, given-of, halves, held-of, leads-on, one-node, stands-leads}, ReadingSteps.{new-node, old-node}}
+use Rattle.pagable_laws.proofs.{Related.along-rename, Taking.{first-fits, node-decoded, node-stays, root-key, tree-stays}, Trees.{one_tree, same_some, tree_is}, Words.{Among, ArcRef, Bool, Call}}
+use Rattle.pagable_laws.specs.TreeSteps.{CoreGoes, FramesGiven, LeadsTo, NodeLeads, SameNode, StaysAway, ValueLeads, bears_node, feels-adopted, feels-away, feels-birth, feels-end, feels-key}
+use Rattle.pagable_laws.specs.TreeSteps.{feels-known, feels-lazy, feels-nothing, followed-leads, gets-lazy, knows_node, makes-node, none-leads, number-leads, pair-leads, pattern-leads}
+use Rattle.pagable_laws.{proofs.Words.{rules, subst, sym, tree, true, type_of, updated, variant, zero, ℕ, ◌+◌, ◌<◌, ◌==◌, ◌∙◌, ◌∷◌, ◌≡◌, ◌≤◌, ◌⊎◌}, specs.TreeSteps.{AreGood, CallFeels, ChangeFits}}
+use Rattle.pagable_world.specs.Pager.{IsCellOf, IsNewNode, KeyFits, MeaningStands, Moves, NodeStands, ReadingBrings, ReadsNodeTree, SameTrees, away, followed-stands, here, integer-stands, none-stands}
+use Rattle.pagable_world.specs.{Pager.{number-stands, pair-stands, pattern-stands, reference-stands, text-stands, variant-stands}, Plain.is_pinned_kind, Runs.{AsksWell, TakesWell}}
+use Rattle.{pagable_laws.specs.TreeSteps.{reference-leads, sets_key, text-leads, variant-leads}, pagable_model.specs.Meaning.{integer, number, pattern, text}, pagable_world.specs.Pager.CallBrings}
 
 -- a meaning whose references' nodes have trees of their kinds' types leads to one
 pub led : {trees : ℕ → Tree} (x : Meaning ArcRef) → ((r : ArcRef) → Among (references_in x) r → (trees r.node.0).type ≡ type_of r.kind.0) → (a : Meaning ⊥) × LeadsTo trees x a
@@ -68,9 +68,6 @@ module _ {N E : Type 0} {v : Values N} {s : PagerState N E} {trees : ℕ → Tre
     pub leads-all : (n : ℕ) → 0 < held n s.core.rows → NodeLeads v s trees n
     leads-all n live = node-leads (stands.stands n live) refl
 
--- ---- and back
-
--- the nodes of the references are live
 abbrev pub AreLive : Core → Meaning ArcRef → Type 0
 AreLive w x = (r : ArcRef) → Among (references_in x) r → 0 < held r.node.0 w.rows
 
@@ -128,27 +125,20 @@ module _ {N E : Type 0} {v : Values N} {c : Change} {comes : ℕ → N → Type 
   leads-again : (n : ℕ) → 0 < held n s'.core.rows → NodeLeads v s' trees' n
   leads-again n live = search (rules, cell-of, cases_lt, keyed-old, old-node goes, new-node goes well.whole.handles, arith, nat_tests, moved-value)
 
-  loads-again : (l : ℕ) (load : OpenLoad) (node : NodeNumber) (t : ℕ) (h : HandleNumber) → s'.core.loads l ≡ Some load → load.root ≡ of_cell node t h
-      → ReadsNodeTree v.types s'.core.stored trees' load.key t node.0
-  loads-again l load node t h is root = elim (goes.loads l load is) [
-    | inl stays ↦ node-stays goes.stored (fits.same node.0 (well.whole.loads.roots l load node t h stays root).given.1) (stands.loads l load node t h stays root)
-    | inr (above, begins) ↦
-        let b = begins node t h root in
-        let live = given-of well.whole.handles node.0 b.0 in
-        let typed : (trees node.0).type ≡ t = same_some _ _ (sym (stands.typed node.0 live.0) ∙ b.0) in
-        node-stays goes.stored {trees = trees} (fits.same node.0 live.1) (record { typed = typed; reads = (leads-all lawful settled well stands node.0 live.0).keyed load.key b.1 })
-  ]
-
-  cache-again : (kind key n : ℕ) → s'.core.cache kind key ≡ Some n → ReadsNodeTree v.types s'.core.stored trees' key (type_of kind) n
-  cache-again kind key n is = elim (goes.cache kind key n is)
-      [ inl stays ↦ node-stays goes.stored (fits.same n (well.whole.cache kind key n stays).given) (stands.cache kind key n stays) | inr knows ↦ fits.knows kind key n knows ]
-
   pub trees-go-on : Represents v s' trees'
   trees-go-on = record {
     stands = λ n live. node-by lawful well' leads-again n live (λ z l k. stand lawful well' leads-again (trees' n).meaning l refl k);
     typed = λ n live. grind (arith, nat_tests, old-node goes, new-node goes well.whole.handles);
-    loads = loads-again;
-    cache = cache-again;
+    loads = λ l load node t h is root. elim (goes.loads l load is) [
+      | inl stays ↦ node-stays goes.stored (fits.same node.0 (well.whole.loads.roots l load node t h stays root).given.1) (stands.loads l load node t h stays root)
+      | inr (above, begins) ↦
+          let b = begins node t h root in
+          let live = given-of well.whole.handles node.0 b.0 in
+          let typed : (trees node.0).type ≡ t = same_some _ _ (sym (stands.typed node.0 live.0) ∙ b.0) in
+          node-stays goes.stored {trees = trees} (fits.same node.0 live.1) (record { typed = typed; reads = (leads-all lawful settled well stands node.0 live.0).keyed load.key b.1 })
+    ];
+    cache = λ kind key n is. elim (goes.cache kind key n is)
+        [ inl stays ↦ node-stays goes.stored (fits.same n (well.whole.cache kind key n stays).given) (stands.cache kind key n stays) | inr knows ↦ fits.knows kind key n knows ];
   }
 
 -- ---- trees with one more
@@ -209,21 +199,15 @@ module _ {N E : Type 0} {v : Values N} {s s' : PagerState N E} {trees : ℕ → 
         let led_to : ValueLeads v more y t0 = value-on lawful last (with-below last t0 trees) few l in
         subst (λ z. ValueLeads v more z (more n)) (sym same) (subst (λ z. ValueLeads v more y z) (sym (ap more next ∙ (updated-at (last + 1) t0 trees))) led_to)
 
-  -- ---- calls
-
-  birth-tree : (x : N) (owner : Owner) → AreGood s.core owner (v.references x) → (t : Tree) × (t.type ≡ v.node_type x) × ValueLeads v trees x t
-  birth-tree x owner good =
-      let some = lawful.some x in
-      let l = led {trees = trees} some.0 (λ r among. let is = (good r (own-refs lawful x some.0 some.1 r among)).typed in
-      same_some _ _ (sym (stands.typed r.node.0 (given-of well.whole.handles r.node.0 is).0) ∙ is)) in
-      (tree (v.node_type x) l.0, refl, record { own = some.0; typed = refl; means = some.1; leads = l.1 })
-
   -- some trees after a call fit what it brings
   pub call-fits : {B : Type 0} (c : Change) (call : Call N B) (reply : Reply N B) → CoreGoes c s.core s'.core → AsksWell v s trees call reply
       → CallFeels v s.core Owner.Caller call reply s'.core c → (after : ℕ → Tree) × ChangeFits v c (CallBrings s.core call) s s' trees after
   call-fits c call reply goes asked (feels-nothing stays) = (_, fits-nothing _ (λ n x brings unset is. absurd (none-comes n x goes unset is (stays n x brings))))
   call-fits c call reply goes asked (feels-birth x brought good) =
-      let born = birth-tree x Owner.Caller good in (
+      let some = lawful.some x in
+      let l = led {trees = trees} some.0 (λ r among. let is = (good r (own-refs lawful x some.0 some.1 r among)).typed in
+      same_some _ _ (sym (stands.typed r.node.0 (given-of well.whole.handles r.node.0 is).0) ∙ is)) in
+      let born : (t : Tree) × (t.type ≡ v.node_type x) × ValueLeads v trees x t = (tree (v.node_type x) l.0, refl, record { own = some.0; typed = refl; means = some.1; leads = l.1 }) in (
         _,
         fits-born born.0 _ _ OptionalDataKey.None born.1 (λ key is. absurd (cc))
             (λ n y brings unset is. value-born born.0 _ n y x goes is (brought n y brings).0 (brought n y brings).1 (good-given Owner.Caller x good) born.2),
@@ -281,7 +265,6 @@ module _ {N E : Type 0} {v : Values N} {s s' : PagerState N E} {trees : ℕ → 
         let same : d.t ≡ trees n = one_tree s.core.stored v.types cell.load.key d.t (trees n) (sym d.leads.typed ∙ sym typed) under cells in
         record { within = within; leads = subst (λ z. ValueLeads v trees x z) same d.leads; few = λ r among. given root.root r (at-front reading.frames root.root [] root.frames) (d.got r among) }
 
-    -- nothing is felt
     quiet : (n : ℕ) (x : N) → c ≡ nothing_felt → ReadingBrings v s.core reading n x → s'.values n ≡ Some x → ValueLeads v trees x (trees n)
     quiet n x nothing x3 is = grind (arith, nat_tests, live-after, root-leads, new-node goes well.whole.handles)
 

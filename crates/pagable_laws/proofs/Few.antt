@@ -1,12 +1,11 @@
 -- A pager with few of each is whole, by facts about its first numbers that compute.
-use Rattle.pagable_laws.proofs.{Existing.within-self, GoodReferences.good, Sums.sum-zero, Words.{Alike, All, AllPairs-cons, Among, ArcRef, Bool, Core, Falls, HandleRow, IsHandleBefore, IsLeast}}
-use Rattle.pagable_laws.proofs.Words.{List, MayOwnLoad, MustList, None, Ok, OpenLoad, Option, Owner, Root, Sample, Some, WellFormed, [], agree_below, agree_below_at, and_parts, ap, arith, fallen}
-use Rattle.pagable_laws.proofs.Words.{false, held, inl, inr, is_at, is_handle, is_here, is_keyed, is_loose, is_owned_by, is_owner, is_pin, is_share, is_shared, is_shared_kind, is_some, length}
-use Rattle.pagable_laws.proofs.Words.{loses_value, machine, nat_eq, nat_le, nat_lt, nat_tests, no_work, not, of_cell, of_key, one, owned_outside, owner_value, pins, references_fault, refl, row_at}
-use Rattle.pagable_laws.proofs.Words.{sample, sample_references, sample_type, sharing, subst, suc, sym, times, true, type_at, type_of, updated, value_at, ℕ, ◌&&◌, ◌<◌, ◌==◌, ◌∙◌, ◌∷◌, ◌≡◌, ◌≤◌}
-use Rattle.std.{proofs.{Common.rules, lemmas.Bool.cases_lt}, specs.{List.{AllByRecursion as Each, AllPairs}, Prelude.IfSome}}
-
--- ---- lists, options and numbers
+use Rattle.pagable_laws.proofs.Words.{WellFormed, [], and_parts, ap, arith, cases_lt, false, held, inl, inr, is_handle, is_owned_by, is_owner, is_some, length, nat_eq, nat_tests, not, of_cell, one}
+use Rattle.pagable_laws.proofs.Words.{owner_value, pins, references_fault, refl, row_at, rules, subst, suc, sym, times, true, type_of, updated, ℕ, ◌&&◌, ◌<◌, ◌==◌, ◌∙◌, ◌∷◌, ◌≡◌, ◌≤◌}
+use Rattle.pagable_laws.proofs.{Existing.within-self, GoodReferences.good, Trees.sum-zero, Words.{Alike, Among, ArcRef, Bool, Core, HandleRow, List, None, Ok, OpenLoad, Option, Owner, Some}}
+use Rattle.pagable_world.specs.{Cascade.{is_keyed, loses_value, owned_outside}, Kinds.{is_at, is_loose, is_pin, is_share, is_shared, sharing}, Pager.{IsHandleBefore, MayOwnLoad}, Plain.is_shared_kind}
+use Rattle.std.specs.{List.{AllByRecursion as Each, AllPairs}, Prelude.{IfSome, nat_le, nat_lt}}
+use Rattle.{pagable_laws.specs.{FallLaws.no_work, TwoLevels.{Sample, machine, sample, sample_references, sample_type, value_at}}, pagable_world.specs.Cascade.{Falls, IsLeast, MustList, fallen}}
+use Rattle.{pagable_world.specs.World.{Root, is_here, of_key, type_at}, std.proofs.{Common.All, lemmas.{Bool.{agree_below, agree_below_at}, List.Kept.AllPairs-cons}}}
 
 -- what holds of what there is
 of-some : {X : Type 0} (P : X → Type 0) {x : Option X} {y : X} → IfSome x P → x ≡ Some y → P y
@@ -28,8 +27,6 @@ by-number k f g ok past n = elim (cases_lt k n) [ inl lt ↦ past n lt | inr le 
 
 pub updated-past : {X : Type 0} (k m : ℕ) (x d : X) (f : ℕ → X) → m ≤ k → ((n : ℕ) → k < n → f n ≡ d) → (n : ℕ) → k < n → updated m x f n ≡ d
 updated-past k m x d f le past n lt = let a : (n == m) ≡ false = grind (arith, nat_tests) in rw a (past n lt)
-
--- ---- rows
 
 -- of the nodes up to 3, not shared, and owned by the values of these or by one who isn't the list
 abbrev pub OwnerLow : Owner → Type 0
@@ -55,8 +52,6 @@ module _ (rows : List HandleRow) (low : Each RowLow rows) where
 
   owner-past : (n : ℕ) → 3 < n → (o : Owner) → OwnerLow o → is_owner (owner_value n) o ≡ false
   owner-past n lt x2 ok = grind (arith, nat_tests)
-
--- ---- what falls
 
 pub alike-self : (w : Core) → Alike w w
 alike-self w = grind (arith, nat_tests, and_parts)
@@ -106,15 +101,12 @@ falls-alone before w given (low_before, low, few, none, ok) =
     past : {k : ℕ} (b : Bool) → k ≡ 0 → (b && nat_lt 0 k) ≡ false
     past x0 e = grind (arith, nat_tests)
 
--- ---- what is whole
-
 -- no cell past the node 3, no load past 3, no worker past 1; and the cache knows the node 3 at most, by the kind 4 and the key 8
 abbrev pub Few : Core → Type 0
 Few w =
     ((n : ℕ) → 3 < n → w.cells n ≡ None) × ((l : ℕ) → 3 < l → w.loads l ≡ None) × ((v : ℕ) → 1 < v → w.workers v ≡ false)
     × ((kind key n : ℕ) → w.cache kind key ≡ Some n → (kind ≡ 4) × (key ≡ 8) × (n ≡ 3))
 
--- where it knows nothing
 pub none-cached : (kind key n : ℕ) → ◌≡◌ {A = Option ℕ} None (Some n) → (kind ≡ 4) × (key ≡ 8) × (n ≡ 3)
 none-cached kind key n is = absurd (cc)
 
@@ -125,8 +117,7 @@ Rises low (h ∷ hs) = (nat_lt low h.number.0 ≡ true) × Rises h.number.0 hs
 
 ordered : (low : ℕ) (rows : List HandleRow) → Rises low rows → AllPairs IsHandleBefore rows × All (λ (h : HandleRow). low < h.number.0) rows
 ordered low [] ok = (λ i j d lt within. absurd (omega arith), λ j d within. absurd (omega arith))
-ordered low (h ∷ hs) (first, more) =
-    let rest = ordered h.number.0 hs more in (AllPairs-cons IsHandleBefore h hs rest.1 rest.0, let others = rest.1 in λ i d within. grind (arith, nat_tests))
+ordered low (h ∷ hs) (first, more) = let rest = ordered h.number.0 hs more in (AllPairs-cons IsHandleBefore h hs rest.1 rest.0, let others = rest.1 in λ i d within. grind (arith, nat_tests))
 
 -- a handle's number was given, and its owner is there
 abbrev pub OwnerThere : Core → Owner → Type 0

@@ -1,15 +1,15 @@
 -- A form of a node's value is one of its tree: over its references it is followed to their nodes' trees, and with their keys it stands under the tree's own.
-use Rattle.pagable_laws.proofs.Words.{◌≡◌, ℕ, suc, ◌<◌, ◌≤◌, ◌==◌, ◌&&◌, Bool, true, List, [], ◌∷◌, map, Option, Some, Result, Ok, refl, sym, ap, subst, ◌∙◌, inr, arith, is_some, nat_lt}
-use Rattle.pagable_laws.proofs.Words.{slice_get, nat_tests, append-nil, sum_by-cons, get_or_from_slice_get, slice_get_within, Error, reference, rename, references_in, Rest, deepest, Form, kind_of_arc}
-use Rattle.pagable_laws.proofs.Words.{IsReadable, Throughout, Kid, kid, kind_of_kid, KeyRef, key_ref, IsFollowed, number-followed, integer-followed, text-followed, pattern-followed, none-followed}
-use Rattle.pagable_laws.proofs.Words.{pair-followed, variant-followed, reference-followed, unfolded, TreeForm, blob_of, KeyOf, key-of, KeysOf, no-keys, more-keys, kind_of_ref, key_of_ref, StoredAs}
-use Rattle.pagable_laws.proofs.Words.{ArcRef, Identity, Meaning, Shape, Tree, tree, Types, type_of, Among, if_there, one, times, HandleRow, identity_of, held, is_handle, is_owned_by, owner_value}
-use Rattle.pagable_laws.proofs.Words.{Core, Shelf, Slot, Outcome, published, Written, Values, IsLawful, digest, type_at, IsPublished, PagerState, WellFormed, HandlesAreWhole, NodeStands, here, away}
-use Rattle.pagable_laws.proofs.Words.{MeaningStands, number-stands, pair-stands, variant-stands, followed-stands, reference-stands, Represents, IsWrittenOf, kids_of, HoldsSettled, ReadsItsTypes}
-use Rattle.pagable_laws.proofs.Words.{AreKeysOf, rest, Ground, FollowsTo, LeadsBy, number-leads, integer-leads, text-leads, pattern-leads, none-leads, pair-leads, variant-leads, followed-leads}
-use Rattle.pagable_laws.proofs.{Words.{reference-leads, zero, WroteTree, KeyStands, ◌++◌}, Along.{Along, pair-along, variant-along, reference-along, followed-along, AllTwo, no-two, more-two}}
-use Rattle.pagable_laws.proofs.{Again.{looks-itself, read_again}, Related.{keeps_forms, no_cause, Out, both-looked-up, read_par}, Sums.{same-number, sum-le, sum-zero}, Trees.{same_some, one_tree}}
-use Rattle.pagable_laws.proofs.Decoding.{among-left, among-right}
+use Rattle.pagable_laws.proofs.Words.{Bool, Core, HandleRow, HoldsSettled, Identity, PagerState, Represents, Slot, Some, Throughout, Tree, Values, ap, identity_of, integer-leads, nat_tests, type_of}
+use Rattle.pagable_laws.proofs.Words.{FollowsTo, IsLawful, IsPublished, Meaning, Option, ReadsItsTypes, Result, Shape, Shelf, Types, WellFormed, blob_of, is_handle, rename, subst, tree, true, ℕ}
+use Rattle.pagable_laws.proofs.Words.{HandlesAreWhole, IsReadable, List, Ok, append-nil, if_there, is_some, reference, references_in, refl, slice_get_within, sum_by-cons, ◌++◌, ◌==◌, ◌∙◌, ◌∷◌, ◌≡◌}
+use Rattle.pagable_laws.proofs.{Again.looks-itself, Along.{AllTwo, Along, followed-along, more-two, no-two, pair-along, reference-along, variant-along}, Decoding.{among-left, among-right}}
+use Rattle.pagable_laws.proofs.{Again.read_again, Related.{Out, both-looked-up, keeps_forms, no_cause, read_par}, Trees.{one_tree, same-number, same_some, sum-le, sum-zero}, Words.{held, inr, suc}}
+use Rattle.pagable_laws.specs.TreeSteps.{Ground, KeyStands, LeadsBy, WroteTree, followed-leads, none-leads, number-leads, pair-leads, pattern-leads, reference-leads, text-leads, variant-leads}
+use Rattle.pagable_model.specs.{Merkle.{KeyOf, key_of_ref}, Reading.{Rest, deepest}, Trees.{none-followed, number-followed, pair-followed, reference-followed, variant-followed}, Writing.kind_of_arc}
+use Rattle.pagable_world.specs.{Headline.AreKeysOf, Pager.{IsWrittenOf, MeaningStands, NodeStands, away, followed-stands, here, kids_of, reference-stands}, World.{Outcome, digest, published, type_at}}
+use Rattle.{pagable_laws.proofs.Words.{Among, ArcRef, Error, Form, Written, [], arith, is_owned_by, map, one, owner_value, rest, slice_get, sym, times, zero, ◌&&◌, ◌<◌, ◌≤◌}, std.specs.Prelude.nat_lt}
+use Rattle.{pagable_model.specs.Merkle.{KeysOf, StoredAs, TreeForm, key-of, kind_of_ref, more-keys, no-keys, unfolded}, pagable_world.specs.Pager.{number-stands, pair-stands, variant-stands}}
+use Rattle.{pagable_model.specs.{Deep.{Kid, kid, kind_of_kid}, Trees.{IsFollowed, KeyRef, integer-followed, key_ref, pattern-followed, text-followed}}, std.proofs.lemmas.Option.get_or_from_slice_get}
 
 -- ---- the references in a form's meaning are those of the form, and none is followed
 
@@ -52,8 +52,6 @@ module _ {N E : Type 0} {v : Values N} {s : PagerState N E} (settled : HoldsSett
     one-meaning h (number-stands j) e = cc
     one-meaning h g e = cc
 
--- ---- what is live
-
 module _ {w : Core} (whole : HandlesAreWhole w) (n : ℕ) where
   pub held-of : is_some (w.cells n) ≡ true → 0 < held n w.rows
   held-of is = let f : nat_lt 0 (held n w.rows) ≡ true = sym (whole.live n) ∙ is in grind (arith, nat_tests)
@@ -64,9 +62,6 @@ module _ {w : Core} (whole : HandlesAreWhole w) (n : ℕ) where
   pub given-of : {t : ℕ} → type_at w n ≡ Some t → (0 < held n w.rows) × (n ≤ w.last.node)
   given-of {t} is = let there : is_some (w.cells n) ≡ true = grind arith in (held-of there, (whole.nodes_numbered n there).1)
 
--- ---- what was written
-
--- no two rows have one number
 rows-once : (q : ℕ) (rows : List HandleRow) → ((i j : ℕ) (a b : HandleRow) → i < j → slice_get rows i ≡ Some a → slice_get rows j ≡ Some b → a.number.0 < b.number.0) → times (is_handle q) rows ≤ 1
 rows-once q [] apart = omega arith
 rows-once q (h ∷ hs) apart =
@@ -83,8 +78,6 @@ handles-once {w} whole q = rows-once q w.rows (λ i j a b lt at there.
 
 pub one-less : (a b : Bool) → one (a && b) ≤ one a
 one-less x0 x1 = grind (arith, nat_tests)
-
--- ---- what a meaning leads to
 
 -- what is so of each of both lists is so of each of the one, and of the other
 pub halves : {X : Type 0} {P : X → Type 0} (xs ys : List X) → ((x : X) → Among (xs ++ ys) x → P x) → ((x : X) → Among xs x → P x) × ((x : X) → Among ys x → P x)
@@ -106,8 +99,7 @@ pub stands-leads : {N E : Type 0} {v : Values N} {s : PagerState N E} {trees : �
     → ((r : ArcRef) → Among (references_in x) r → (c : ArcRef) → R r c → (b : Meaning ⊥) → NodeStands v s r.node.0 (tree (type_of r.kind.0) b) → P r × ((trees r.node.0).meaning ≡ b))
     → LeadsBy F P trees x a
 unfolding references_in
-stands-leads (pair-stands x y a b f g) (pair-along x2 y2 a2 b2 k l) h =
-    let p = halves (references_in x) (references_in y) h in pair-leads x y a b (stands-leads f k p.0) (stands-leads g l p.1)
+stands-leads (pair-stands x y a b f g) (pair-along x2 y2 a2 b2 k l) h = let p = halves (references_in x) (references_in y) h in pair-leads x y a b (stands-leads f k p.0) (stands-leads g l p.1)
 stands-leads (variant-stands i x a f) (variant-along j x2 a2 k) h = variant-leads i x a (stands-leads f k h)
 stands-leads (followed-stands i x a f) (followed-along j x2 a2 n k) h = followed-leads i x a n (stands-leads f k h)
 stands-leads (reference-stands r a node) (reference-along r2 c same) h = let is = h r (zero, refl) c same a node in reference-leads r a is.0 is.1
@@ -115,7 +107,6 @@ stands-leads f k h = search (number-leads, integer-leads, text-leads, pattern-le
 
 module _ {N E : Type 0} {v : Values N} {s : PagerState N E} {trees : ℕ → Tree} (represents : Represents v s trees) (whole : WellFormed v s) (settled : HoldsSettled v s)
     (reads : ReadsItsTypes v.types) (lawful : IsLawful v) where
-  -- a value names no handle twice
   names-once : (n : ℕ) (x : N) (own : Meaning ArcRef) → s.values n ≡ Some x → v.means x own → (q : ℕ) → times (λ (r : ArcRef). r.handle.0 == q) (references_in own) ≤ 1
   names-once n x own there means q =
       let a = lawful.refers x own means (λ r. r.handle.0 == q) in
@@ -149,11 +140,8 @@ module _ {N E : Type 0} {v : Values N} {s : PagerState N E} {trees : ℕ → Tre
       search (shape_is, w.form.form, follows, given, names-once n w.x w.form.own w.held w.form.means)
   wrote-of n written t is (away n2 key t2 none_there keyed fits) w = let f = w.held in absurd (cc)
 
-  -- what a worker writes of a node
   pub wrote : (n : ℕ) (written : Written) → IsWrittenOf v s n written → WroteTree v.types (record { stored = s.core.stored; last = s.core.last.node; trees = trees }) n written
   wrote n written w = grind (arith, held-of, wrote-of)
-
--- ---- its tree's form and key
 
 -- the key that is known of an identity, and the reference by its key
 abbrev key_of_outcome : Outcome → ℕ

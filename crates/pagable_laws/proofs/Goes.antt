@@ -1,10 +1,15 @@
--- What a step does to the plain world as far as trees feel it, with no premise: the parts of which the summary of each call is made.
-use Rattle.pagable_laws.proofs.Words.{◌≡◌, ℕ, ◌+◌, ◌<◌, ◌≤◌, Bool, true, false, List, [], ◌∷◌, ◌++◌, refl, subst, inl, inr, arith, Option, Some, None, ◌⊎◌, if◌then◌else◌}
-use Rattle.pagable_laws.proofs.Words.{nat_tests, Blob, ArcRef, Kind, type_of, HandleNumber, LoadNumber, NodeNumber, OptionalDataKey, changed, updated, HandleRow, Owner, Mode, find_row}
-use Rattle.pagable_laws.proofs.Words.{is_handle, mode_of, is_loose, Core, Cell, OpenLoad, Root, Alike, AreNewEntries, Falls, FallsAnyhow, fallen, left_rows, row_of, with_handle}
-use Rattle.pagable_laws.proofs.{Words.{with_node, with_key, with_cached, next_node, moved, with_load, adopted, Change, nothing_felt, sets_key, bears_known, Knows, Bears, BeginsWell}, Sums.same-number}
-use Rattle.std.proofs.Common.{le_trans, rules}
-pub use Rattle.pagable_laws.specs.TreeSteps.{Was, RowsGo, IsShut, Kept, CoreGoes as Goes}
+-- What a step does to the plain world as far as trees feel it: the parts of each call's summary. And a live handle that no value owns and that isn't given up outlasts a cascade, with its row.
+use Rattle.pagable_laws.proofs.Words.{EventReply, HandleNumber, HandleRow, HandlesAreWhole, Happens, Identity, Kind, Last, List, LoadAnswer, LoadNumber, Mode, NodeNumber, None, Ok, OpenLoad, Option}
+use Rattle.pagable_laws.proofs.Words.{OptionalDataKey, Owner, PinCall, Reply, Seen, Site, Some, Todo, Took, World, [], adopted, answer_after, ap, arith, bears_known, cases_Bool, cond, false}
+use Rattle.pagable_laws.proofs.Words.{false_from_ne_true, filter, find_row, if◌then◌else◌, inl, inr, is_handle, is_named_by, is_owner, is_pinning, le_trans, map, mode_of, moved, nat_tests, next_node}
+use Rattle.pagable_laws.proofs.Words.{not, nothing_felt, owner_value, owner_worker, refl, row_at, rules, slice_get, slice_get_within, subst, suc, sym, to_load, to_pin, true, type_of, updated}
+use Rattle.pagable_laws.proofs.{Decoding.among-either, Existing.outlast, Trees.{same-number, same_some, self-number}, Words.{Alike, Among, ArcRef, Blob, Bool, Call, Change, CloneCall, Core, Event}}
+use Rattle.pagable_laws.{proofs.Words.{with_handle, zero, ℕ, ◌&&◌, ◌++◌, ◌+◌, ◌<◌, ◌==◌, ◌∙◌, ◌∷◌, ◌≡◌, ◌≤◌, ◌⊎◌}, specs.TreeSteps.{Bears, BeginsWell, HasPin, Knows, PinHolds, sets_key}}
+use Rattle.pagable_world.specs.{Calls.{row_of, with_cached, with_key, with_mode, with_node}, Cascade.{AreNewEntries, Falls, FallsAnyhow, fallen, is_keyed, left_rows}, Kinds.is_loose}
+use Rattle.pagable_world.specs.{LoadCalls.{EndCall, is_owned_in, with_load, with_pin, without_load}, Loads.Does, Pager.IsHandleBefore, Plain.{changed, or_else}, Workers.PinsAtOnce, World.{Cell, Root}}
+use Rattle.{pagable_world.specs.declared.{answers.Pinning.Pinning, events.PinStep.PinStep}, std.{proofs.lemmas.{Bool.cases_order, Option.get_or_from_slice_get}, specs.List.AllPairs}}
+pub use Rattle.pagable_laws.specs.TreeSteps.{CoreGoes as Goes, IsShut, Kept, RowsGo, Was}
+use Rattle.pagable_world.specs.Workers as workers
 
 -- a step that sets no key, bears no node, begins no load and lets the cache know nothing
 pub record Quiet (w w' : Core) : Type 0 where
@@ -32,8 +37,6 @@ le-more a b = omega arith
 pub next-above : (q last : ℕ) → q ≡ last + 1 → last < q
 next-above q last next = omega arith
 
--- ---- rows
-
 pub rows-self : (last : ℕ) (rows rows' : List HandleRow) → rows' ≡ rows → RowsGo last rows rows'
 rows-self last rows rows' same q row found few = record { was = row; live = subst (λ r. find_row q r ≡ Some row) same found; at = refl; mine = λ l is. refl; loose = λ is. is }
 
@@ -43,7 +46,6 @@ rows-then last more rows mid rows' le first second q row found few =
     let a = first q b.was b.live few in
     grind (arith, nat_tests)
 
--- what is found has the number
 pub found-number : (q : ℕ) (rows : List HandleRow) (row : HandleRow) → find_row q rows ≡ Some row → row.number.0 ≡ q
 unfolding find_row
 found-number q [] row found = absurd (cc)
@@ -92,13 +94,10 @@ pub none-in-next : (last q : ℕ) (h : HandleRow) → h.number.0 ≡ last + 1 �
 unfolding find_row
 none-in-next last q h next few = let a : is_handle q h ≡ false = grind (arith, nat_tests) in rw a refl
 
--- what is left was there
 pub found-left : (gone : ℕ → Bool) (q : ℕ) (rows : List HandleRow) (row : HandleRow) → find_row q (left_rows gone rows) ≡ Some row → (find_row q rows ≡ Some row) × (gone q ≡ false)
 unfolding find_row
 found-left gone q [] row found = absurd (cc)
 found-left gone q (h ∷ hs) row found = grind (arith, nat_tests, is_handle, find_row, left_rows, false, true, same-number, found-left gone q hs row)
-
--- ---- quiet steps
 
 pub quiet-then : {w m w' : Core} → Quiet w m → Quiet m w' → Quiet w w'
 quiet-then {w} {m} {w'} a b = search (rules, rows-then, le_trans, a.cells, b.cells, a.stored, b.stored, a.loads, b.loads, a.cache, b.cache, a.shut, b.shut)
@@ -119,7 +118,6 @@ parts {w} handles workers cells loads cache go = grind (arith, le-self)
 pub quiet-self : (w : Core) → Quiet w w
 quiet-self w = parts (le-self _) (le-self _) (λ n cell is. is) (λ l load is. is) (λ kind key n is. is) (rows-self w.last.handle w.rows w.rows refl)
 
--- rows and list alone change
 pub only-rows : {w : Core} {rows : List HandleRow} {list : List HandleNumber} {last : ℕ} → RowsGo w.last.handle w.rows rows → w.last.handle ≤ last
     → Quiet w (record w { rows = rows; list = list; last = record w.last { handle = last } })
 only-rows go le = parts le (le-self _) (λ n cell is. is) (λ l load is. is) (λ kind key n is. is) go
@@ -137,15 +135,12 @@ fell-anyhow f = fell f.falls
 pub a-handle : (w : Core) (node : NodeNumber) (mode : Mode) (owner : Owner) → Quiet w (with_handle w node mode owner)
 a-handle w node mode owner = only-rows (rows-more w.last.handle w.rows _ (λ q few. none-in-next w.last.handle q (row_of (w.last.handle + 1) node mode owner) refl few)) (le-more _ _)
 
--- ---- steps that are felt
-
 pub quiet-goes : (c : Change) {w w' : Core} → Quiet w w' → Goes c w w'
 quiet-goes c q = grind arith
 
 pub goes-quiet : {c : Change} {w m w' : Core} → Goes c w m → Quiet m w' → Goes c w w'
 goes-quiet {c} {w} {m} {w'} a b = search (rules, rows-then, le_trans, a.cells, b.cells, a.stored, b.stored, a.loads, b.loads, a.cache, b.cache, a.shut, b.shut)
 
--- at a number, or elsewhere
 pub at-updated : {X : Type 0} (m : ℕ) (x : Option X) (f : ℕ → Option X) (n : ℕ) (y : X) → updated m x f n ≡ Some y → ((n ≡ m) × (x ≡ Some y)) ⊎ (f n ≡ Some y)
 at-updated m x f n y is = grind (arith, same-number)
 
@@ -187,3 +182,247 @@ pub adopts : (w : Core) (l : LoadNumber) (kind : Kind) (key : ℕ) (own : Option
 adopts w l kind key own references =
     let made = goes-quiet (born (bears_known kind.0 key own) w (type_of kind.0) own references (refl, refl)) (a-handle _ (next_node w) (mode_of kind.0) (Owner.Load l)) in
     let known = goes-known made kind key (next_node w) (refl, refl, refl) in grind (arith, nat_tests)
+
+abbrev pub NotValues : Owner → Type 0
+NotValues o = (n : NodeNumber) → o ≡ Owner.Value n → ⊥
+
+-- ---- the one row of a number
+
+-- The handle q has this row, and no other; and its number isn't above the last one.
+pub record Stands (last : ℕ) (rows : List HandleRow) (q : ℕ) (row : HandleRow) : Type 0 where
+  pub live : find_row q rows ≡ Some row
+  pub only : (h : HandleRow) → Among rows h → h.number.0 ≡ q → h ≡ row
+  pub given : q ≤ last
+
+pub find-both : (q : ℕ) (xs ys : List HandleRow) → find_row q (xs ++ ys) ≡ or_else (find_row q xs) (find_row q ys)
+unfolding find_row
+find-both q [] ys = refl
+find-both q (h ∷ hs) ys = grind (arith, nat_tests, find-both q hs ys)
+
+pub among-found : (q : ℕ) (rows : List HandleRow) (row : HandleRow) → find_row q rows ≡ Some row → Among rows row
+unfolding find_row
+among-found q [] row found = absurd (cc)
+among-found q (h ∷ hs) row found = elim (cases_Bool (is_handle q h)) [ inl e ↦ (zero, rw e at found) | inr e ↦ let a = among-found q hs row (rw e at found) in (suc a.0, a.1) ]
+
+-- where nothing is found, nothing has the number
+pub none-found : (q : ℕ) (rows : List HandleRow) (h : HandleRow) → find_row q rows ≡ None → Among rows h → h.number.0 ≡ q → ⊥
+unfolding find_row
+none-found q [] h none among is = absurd (cc)
+none-found q (x ∷ xs) h none among is =
+    let rest : (find_row q xs ≡ None → Among xs h → ⊥) = λ no there. none-found q xs h no there is in
+    grind (arith, nat_tests, self-number, rest)
+
+-- no number of a row is above this one
+abbrev pub AreUpTo : ℕ → List HandleRow → Type 0
+AreUpTo last rows = (h : HandleRow) → Among rows h → h.number.0 ≤ last
+
+pub none-above : (last q : ℕ) (rows : List HandleRow) → AreUpTo last rows → last < q → find_row q rows ≡ None
+unfolding find_row
+none-above last q [] few above = refl
+none-above last q (h ∷ hs) few above = grind (arith, nat_tests, few h (zero, refl), none-above last q hs (λ x among. few x (suc among.0, among.1)) above)
+
+pub once : (rows : List HandleRow) → AllPairs IsHandleBefore rows → (a b : HandleRow) → Among rows a → Among rows b → a.number.0 ≡ b.number.0 → a ≡ b
+once rows ordered a b (i, at) (j, there) same =
+    let n = get_or_from_slice_get rows i a a at in
+    let k = get_or_from_slice_get rows j b a there in
+    let lt = slice_get_within rows i a at in
+    let lt' = slice_get_within rows j b there in
+    elim (cases_order i j) [
+      | inl equal ↦ same_some _ _ (sym at ∙ (ap (slice_get rows) equal ∙ there))
+      | inr (inl before) ↦ absurd (let o = rw (n, k) at (ordered i j a before lt') in omega arith)
+      | inr (inr after) ↦ absurd (let o = rw (k, n) at (ordered j i a after lt) in omega arith)
+    ]
+
+pub stands-whole : {w : Core} → HandlesAreWhole w → (q : ℕ) (row : HandleRow) → find_row q w.rows ≡ Some row → Stands w.last.handle w.rows q row
+stands-whole {w} whole q row found =
+    let among = among-found q w.rows row found in
+    let number = found-number q w.rows row found in
+    record { live = found; only = λ h there is. once w.rows whole.ordered h row there among (is ∙ sym number); given = subst (λ n. n ≤ w.last.handle) number (whole.numbered row among).1 }
+
+pub record Has (w : Core) (owner : Owner) (h : HandleNumber) : Type 0 where
+  pub row : HandleRow
+  pub live : row_at w h ≡ Some row
+  pub own : row.owner ≡ owner
+
+pub has-alike : {w w' : Core} {owner : Owner} {h : HandleNumber} → Alike w w' → Has w owner h → Has w' owner h
+has-alike {h = h} a has = record { row = has.row; live = subst (λ rows. find_row h.0 rows ≡ Some has.row) (sym a.rows) has.live; own = has.own }
+
+pub stands-alike : {w w' : Core} {q : ℕ} {row : HandleRow} → Alike w w' → Stands w.last.handle w.rows q row → Stands w'.last.handle w'.rows q row
+stands-alike {w} {w'} {q} {row} a s = subst (λ l. Stands l w'.rows q row) (sym (ap (λ (l : Last). l.handle) a.last)) (subst (λ rows. Stands w.last.handle rows q row) (sym a.rows) s)
+
+pub among-changed : {X : Type 0} (f : X → X) (xs : List X) (x : X) → Among (map f xs) x → (y : X) × Among xs y × (x ≡ f y)
+among-changed f (y ∷ ys) x (suc i, is) = let r = among-changed f ys x (i, is) in (r.0, (suc r.1.0, r.1.1), r.2)
+among-changed f x1 x x3 = grind (arith, nat_tests)
+
+module _ (test : HandleRow → Bool) (f : HandleRow → HandleRow) (same : (h : HandleRow) → (f h).number ≡ h.number) where
+  abbrev after : HandleRow → HandleRow
+  after h = if test h then f h else h
+
+  pub after-number : (h : HandleRow) → (after h).number ≡ h.number
+  after-number h = grind (arith, nat_tests)
+
+  pub found-after : (q : ℕ) (rows : List HandleRow) (row : HandleRow) → find_row q rows ≡ Some row → find_row q (changed test f rows) ≡ Some (after row)
+  unfolding find_row
+  found-after q [] row found = absurd (cc)
+  found-after q (h ∷ hs) row found = grind (arith, nat_tests, is_handle, find_row, changed, true, false, after-number, found-after q hs row)
+
+  pub stands-changed : {last : ℕ} {rows : List HandleRow} {q : ℕ} {row : HandleRow} → Stands last rows q row → Stands last (changed test f rows) q (after row)
+  stands-changed {last} {rows} {q} {row} s =
+      record {
+        live = found-after q rows row s.live;
+        only = λ h among is.
+            let a = among-changed after rows h among in
+            let number : h.number ≡ a.0.number = ap (λ (r : HandleRow). r.number) a.2 ∙ after-number a.0 in
+            a.2 ∙ ap after (s.only a.0 a.1 (sym (ap (λ (k : HandleNumber). k.0) number) ∙ is));
+        given = s.given;
+      }
+
+-- where rows of greater numbers come; and such a row itself
+pub stands-more : {last more_last : ℕ} {rows : List HandleRow} {q : ℕ} {row : HandleRow} (more : List HandleRow) → last ≤ more_last → find_row q more ≡ None → Stands last rows q row
+    → Stands more_last (rows ++ more) q row
+stands-more {last} {more_last} {rows} {q} {row} more le none s =
+    record {
+      live = find-both q rows more ∙ ap (λ x. or_else x (find_row q more)) s.live;
+      only = λ h (i, at) is. elim (among-either rows more i h at) [ inl a ↦ s.only h a is | inr b ↦ absurd (none-found q more h none b is) ];
+      given = let g = s.given in omega arith;
+    }
+
+pub only-one : (row h : HandleRow) → Among (row ∷ []) h → h ≡ row
+only-one row h x2 = grind (arith, nat_tests)
+
+pub stands-new : (last : ℕ) (rows : List HandleRow) (row : HandleRow) → AreUpTo last rows → row.number.0 ≡ last + 1 → Stands (last + 1) (rows ++ row ∷ []) row.number.0 row
+unfolding find_row
+stands-new last rows row few next =
+    let none = none-above last row.number.0 rows few (omega arith) in
+    record {
+      live = find-both row.number.0 rows (row ∷ []) ∙ (ap (λ x. or_else x (find_row row.number.0 (row ∷ []))) none ∙ (let e = self-number row.number.0 in rw e refl));
+      only = λ h (i, at) is. elim (among-either rows (row ∷ []) i h at) [ inl a ↦ absurd (none-found row.number.0 rows h none a is) | inr b ↦ only-one row h b ];
+      given = omega arith;
+    }
+
+pub found-kept : (gone : ℕ → Bool) (q : ℕ) (rows : List HandleRow) (row : HandleRow) → gone q ≡ false → find_row q rows ≡ Some row → find_row q (left_rows gone rows) ≡ Some row
+unfolding find_row
+found-kept gone q [] row kept found = absurd (cc)
+found-kept gone q (h ∷ hs) row kept found = grind (arith, nat_tests, is_handle, find_row, left_rows, true, false, same-number, found-kept gone q hs row kept)
+
+pub among-kept : {X : Type 0} (test : X → Bool) (xs : List X) (x : X) → Among (filter test xs) x → Among xs x
+among-kept test [] x among = among
+among-kept {X} test (y ∷ ys) x among = at (λ a. among-kept test ys x a) (test y) among
+  where
+    at : (Among (filter test ys) x → Among ys x) → (b : Bool) → Among (cond b (y ∷ filter test ys) (filter test ys)) x → Among (y ∷ ys) x
+    at rest true (zero, is) = (zero, is)
+    at rest true (suc i, is) = let a = rest (i, is) in (suc a.0, a.1)
+    at rest false among = let a = rest among in (suc a.0, a.1)
+
+pub stands-fell : {before w w' : Core} {given : ℕ → Bool} {r : _} {q : ℕ} {row : HandleRow} → Falls before w given r w' → NotValues row.owner → given q ≡ false
+    → Stands w.last.handle w.rows q row → Stands w'.last.handle w'.rows q row
+stands-fell {before} {w} {w'} {given} {r} {q} {row} f free kept s =
+    let among = among-found q w.rows row s.live in
+    let no_value = λ (h : HandleRow) (a : Among w.rows h) (is : h.number.0 ≡ q). subst (λ (x : HandleRow). NotValues x.owner) (sym (s.only h a is)) free in
+    let number = found-number q w.rows row s.live in
+    let stays = ap f.gone (sym number) ∙ outlast w.rows (is_keyed w) f.entries given f.gone (λ p. p == q) f.set
+    (λ x there goes. false_from_ne_true (x.number.0 == q) (λ e. let s = same-number x.number.0 q e in cc))
+    (λ n x there own lost. false_from_ne_true (x.number.0 == q) (λ e.
+    let o = no_value x there (same-number x.number.0 q e) in let no : is_owner (owner_value n) x.owner ≡ false = grind (arith, nat_tests) in cc))
+    row among (ap (λ p. p == q) number ∙ self-number q) in
+    let live = found-kept f.gone q w.rows row stays s.live in
+    let left : Stands w.last.handle (left_rows f.gone w.rows) q row = record { live = live; only = λ h a is. s.only h (among-kept _ w.rows h a) is; given = s.given } in
+    stands-alike {w = fallen w f.gone f.entries} f.leaves (stands-more f.entries (le-more _ _) (none-in-new w.last.handle q f.entries f.new s.given) left)
+
+-- What is answered as pinned is a handle that pins: of a call, of a load's last step and of a worker's pin.
+
+abbrev pub AreLow : Core → Type 0
+AreLow w = AreUpTo w.last.handle w.rows
+
+pub low-whole : {w : Core} → HandlesAreWhole w → AreLow w
+low-whole whole h among = (whole.numbered h among).1
+
+pub low-changed : (last : ℕ) (rows : List HandleRow) (test : HandleRow → Bool) (f : HandleRow → HandleRow) → ((h : HandleRow) → (f h).number ≡ h.number)
+    → AreUpTo last rows → AreUpTo last (changed test f rows)
+low-changed last rows test f same low h among =
+    let a = among-changed (λ h. if test h then f h else h) rows h among in
+    subst (λ (k : HandleNumber). k.0 ≤ last) (sym (ap (λ (r : HandleRow). r.number) a.2 ∙ after-number test f same a.0)) (low a.0 a.1)
+
+pub new-handle : (w : Core) (node : NodeNumber) (mode : Mode) (owner : Owner) → AreLow w
+    → Stands (w.last.handle + 1) (w.rows ++ row_of (w.last.handle + 1) node mode owner ∷ []) (w.last.handle + 1) (row_of (w.last.handle + 1) node mode owner)
+new-handle w node mode owner low = stands-new w.last.handle w.rows (row_of (w.last.handle + 1) node mode owner) low refl
+
+pins-by : {last : ℕ} (w : Core) {row : HandleRow} (k : HandleNumber) (q : ℕ) → k.0 ≡ q → Stands last w.rows q row → is_pinning row.mode ≡ true → HasPin w k
+pins-by w {row = row} k q is s pins = record { row = row; live = subst (λ n. find_row n w.rows ≡ Some row) (sym is) s.live; is = pins }
+
+-- the pin that is made of a loose handle
+pinned-new : (u : Core) (h : HandleNumber) (node : NodeNumber) (me : Owner) → AreLow u
+    → Stands (with_pin u h node me).last.handle (with_pin u h node me).rows (u.last.handle + 1) (row_of (u.last.handle + 1) node Mode.Pinned me)
+pinned-new u h node me low = new-handle (with_mode u h Mode.LoosePinned) node Mode.Pinned me
+    (low-changed u.last.handle u.rows (is_handle h.0) (λ r. record r { mode = Mode.LoosePinned }) (λ r. refl) low)
+
+module _ (w w' : Core) (low : AreLow w) where
+  pin-call : (me : Owner) (h k : HandleNumber) → PinCall w me h (Ok (Pinning.Pinned k)) w' → HasPin w' k
+  pin-call me h k c = pins-by w' k (w.last.handle + 1) c.pins.2.1.above (stands-alike {w = with_pin w h c.pins.0.node me} c.pins.2.2 (pinned-new w h c.pins.0.node me low)) refl
+
+  pub clone-call : (me : Owner) (h k : HandleNumber) → CloneCall w me h (Ok k) w'
+      → (row : HandleRow) × (row_at w h ≡ Some row) × Stands w'.last.handle w'.rows (w.last.handle + 1) (row_of (w.last.handle + 1) row.node row.mode me)
+  clone-call me h k c = search (rules, stands-alike, new-handle)
+
+  -- what the load owned goes, and not the pin
+  pub owned-none : (l : LoadNumber) → is_owned_in w (Owner.Load l) (w.last.handle + 1) ≡ false
+  owned-none l = let none = none-above w.last.handle (w.last.handle + 1) w.rows low (omega arith) in rw none refl
+
+  pin-stays : (u : Core) (h : HandleNumber) (node : NodeNumber) (me : Owner) (k : HandleNumber) (given : ℕ → Bool) → NotValues me → AreLow u → u.last.handle ≡ w.last.handle
+      → k.0 ≡ w.last.handle + 1 → given (w.last.handle + 1) ≡ false → FallsAnyhow w (with_pin u h node me) given w' → HasPin w' k
+  pin-stays u h node me k given free low' same next kept f =
+      let q : u.last.handle + 1 ≡ w.last.handle + 1 = ap (λ n. n + 1) same in
+      pins-by w' k (u.last.handle + 1) (next ∙ sym q) (stands-fell f.falls free (ap given q ∙ kept) (pinned-new u h node me low')) refl
+
+  end-call : {N : Type 0} (me : Owner) (l : LoadNumber) (x : N) (t : ℕ) (references : List ArcRef) (k : HandleNumber) → NotValues me → EndCall w me l x t references (Ok k) w' → HasPin w' k
+  end-call me l x t references k free c =
+      let node : NodeNumber = c.installs.0 in
+      let h : HandleNumber = c.installs.1 in
+      let i = c.installs.3 in
+      elim i.falls [
+        | inl (away, f) ↦ pin-stays (record (without_load w l) { rows = moved (is_named_by references) (Owner.Value node) w.rows }) h node me k _ free
+            (low-changed w.last.handle w.rows (λ r. is_named_by references r.number.0) (λ r. record r { owner = Owner.Value node }) (λ r. refl) low) refl i.next.above
+            (ap (λ b. b && not (is_named_by references (w.last.handle + 1))) (owned-none l)) f
+        | inr (there, f) ↦ pin-stays (without_load w l) h node me k (is_owned_in w (Owner.Load l)) free low refl i.next.above (owned-none l) f
+      ]
+
+pub not-loose : (mode : Mode) → is_loose mode ≡ false → is_pinning mode ≡ true
+not-loose x0 is = grind (arith, nat_tests)
+
+pub low-handle : (w m : Core) (node : NodeNumber) (mode : Mode) (owner : Owner) → AreLow w → Alike (with_handle w node mode owner) m → AreLow m
+low-handle w m node mode owner low a h among =
+    let there : Among (w.rows ++ row_of (w.last.handle + 1) node mode owner ∷ []) h = subst (λ rows. Among rows h) a.rows among in
+    grind (arith, nat_tests, among-either w.rows (row_of (w.last.handle + 1) node mode owner ∷ []) there.0 h there.1, only-one, low h)
+
+module _ {N B W : Type 0} (m : Seen N B W) (v : ℕ) (s s' : Site) (low : AreLow s.core) where
+  at-once : (r : ArcRef) (through k : HandleNumber) → PinsAtOnce s.core (owner_worker v) r through k s'.core → HasPin s'.core k
+  at-once r through k does = elim does [
+    | inl (is, same, clone) ↦
+        let c = clone-call s.core s'.core low (owner_worker v) r.handle k clone in
+        let row : HandleRow = c.0 in
+        let e : is.row ≡ row = same_some _ _ (sym is.live ∙ c.1) in
+        pins-by s'.core k (s.core.last.handle + 1) clone.made.2.above c.2 (not-loose row.mode (ap (λ (x : HandleRow). is_loose x.mode) (sym e) ∙ is.sort))
+    | inr (is, (mid, clone, pin)) ↦ pin-call mid s'.core (low-handle s.core mid _ _ _ low clone.made.3) (owner_worker v) through k pin
+  ]
+
+  held : (todo : List Todo) (i : Identity) (k : HandleNumber) → workers.Does m v s todo (Took.Pin i (Ok (PinStep.Held k))) s'
+      → HasPin s'.core k × (answer_after {W = W} todo (Took.Pin i (Ok (PinStep.Held k))) ≡ None)
+  held (to_pin r place ∷ below) i k (is, p) = (at-once r p.pins.0 k p.pins.1, refl)
+  held (to_load r place through reading ∷ below) i k (is, p) = let e = p.goes.0.does.0 in (end-call s.core s'.core low (owner_worker v) reading.load e.x _ _ k (λ n is. absurd (cc)) e.ended, refl)
+  held _ i k does = absurd does
+
+-- each pin of an event that answers one
+pub pins-hold : {N B W : Type 0} (m : Seen N B W) (u u' : World) (event : Event N B W) (reply : EventReply N B W) → HandlesAreWhole u.core → Happens m u event reply u' → PinHolds event reply u'.core
+pins-hold m u u' (Event.Call (Call.Pin h)) (EventReply.CallReply (Reply.Pin (Ok (Pinning.Pinned k)))) whole happens = pin-call u.core u'.core (low-whole whole) Owner.Caller h k happens.step.does
+pins-hold {N} m u u' (Event.LoadStep l) (EventReply.LoadMoved (Ok reply)) whole happens = λ k is.
+    let steps = happens.moves in
+    let e = subst (λ (a : Option (LoadAnswer N)). Does m.values u.core Owner.Caller steps.reading a steps.frames u'.core) is steps.does.does in
+    end-call u.core u'.core (low-whole whole) Owner.Caller steps.reading.load e.0.x _ _ k (λ n is. absurd (cc)) e.0.ended
+pins-hold m u u' (Event.Call (Call.LoadEnd l x)) (EventReply.CallReply (Reply.LoadEnded (Ok k))) whole happens = end-call u.core u'.core (low-whole whole) Owner.Caller l x _ _ k
+    (λ n is. absurd (cc)) happens.step.does
+pins-hold {W = W} m u u' (Event.WorkerStep n) (EventReply.WorkerMoved (Ok reply)) whole happens = λ i k is.
+    let steps = happens.moves in
+    let site : Site = record { core = u.core; shelf = u.work.shelves steps.walking.table; todo = steps.walking.todo } in
+    let h = held m n.0 site steps.after (low-whole whole) steps.walking.todo i k (subst (λ (t : Took W). workers.Does m n.0 site steps.walking.todo t steps.after) is steps.does.does) in
+    grind (arith, nat_tests, find_row)
+pins-hold m u u' event reply whole happens = tt

@@ -1,7 +1,7 @@
 -- References that nothing is to be said against name handles of their owner, as they should. A handle that is given up doesn't bring a value back.
-use Rattle.pagable_laws.proofs.{Goes.{alike, fell}, Sums.same-number, Words.{Alike, ArcRef, AreGood, AreNewEntries, Bool, Core, Falls, HandleRow, IsReference, List, None, Option, Owner, StaysAway}}
-use Rattle.pagable_laws.proofs.Words.{[], arith, inl, inr, is_owner, is_pin, left_rows, nat_tests, one, or_else, pins, reference_fault, references_fault, refl, suc, sum_by-cons, true, ℕ, ◌++◌, ◌+◌}
-use Rattle.{pagable_laws.proofs.Words.{◌∷◌, ◌≡◌, ◌≤◌}, std.proofs.{Common.rules, lemmas.Bool.cases_Bool}}
+use Rattle.pagable_laws.proofs.{Goes.{alike, fell}, Trees.same-number, Words.{Alike, ArcRef, Bool, Core, HandleRow, IsReference, List, None, Option, Owner, [], arith, cases_Bool, inl, inr, is_owner}}
+use Rattle.pagable_laws.{proofs.Words.{nat_tests, one, pins, references_fault, refl, rules, suc, sum_by-cons, true, ℕ, ◌++◌, ◌+◌, ◌∷◌, ◌≡◌, ◌≤◌}, specs.TreeSteps.{AreGood, StaysAway}}
+use Rattle.pagable_world.specs.{Cascade.{AreNewEntries, Falls, left_rows}, Kinds.is_pin, Plain.or_else, Refusals.reference_fault}
 
 pub or-none : {X : Type 0} (a b : Option X) → or_else a b ≡ None → (a ≡ None) × (b ≡ None)
 or-none x0 b is = grind (arith, nat_tests)

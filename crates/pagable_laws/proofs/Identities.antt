@@ -1,10 +1,10 @@
 -- Two kinds or keys never get one identity through one cache, and one kind and key gets the same for as long as its node is held.
-use Rattle.pagable_laws.proofs.{Called.gets-known, Effects.{IsEntered, IsHeldFor, can-use, entered-of, stays-alike, stays-fell}, Goes.{Goes, KnowsNext, a-handle, adopts, alike, fell-anyhow}}
-use Rattle.pagable_laws.proofs.{Goes.{goes-quiet, quiet-goes, quiet-then}, Outlasting.among-found, ReadingSteps.{cached-rows, event-goes, got-born, got-fallen, got-known, is-cached}}
-use Rattle.pagable_laws.proofs.{SparingSteps.{event-lasts, keeps-open}, Sums.self-number, Words.{Alike, Among, ArcRef, AreMoments, Change, Core, GetsKnown, GetsReference, GetsRow}}
-use Rattle.pagable_laws.proofs.Words.{IsFilledByReading, IsMachineWhole, IsWhole, Kind, Last, LeavesCache, List, LoadNumber, MachineState, Moment, None, OneIdentityLaw, OptionalDataKey, Owner}
-use Rattle.pagable_laws.proofs.Words.{Seen, Some, StaysAlive, [], adopted, ap, arith, false, first_key, inl, inr, mode_of, nat_tests, next_node, nothing_felt, refl, state_after, subst, suc, sym}
-use Rattle.pagable_laws.proofs.Words.{type_of, usable, with_handle, with_node, world_of, zero, ℕ, ◌+◌, ◌∙◌, ◌∷◌, ◌≡◌, ◌≤◌}
+use Rattle.pagable_laws.proofs.Words.{MachineState, Moment, None, OptionalDataKey, Owner, Seen, Some, [], adopted, ap, arith, false, first_key, inl, inr, mode_of, nat_tests, next_node, nothing_felt}
+use Rattle.pagable_laws.proofs.{Called.gets-known, Effects.{IsEntered, IsHeldFor, can-use, entered-of, stays-alike, stays-fell}, Goes.{Goes, KnowsNext, a-handle, adopts, alike, among-found}}
+use Rattle.pagable_laws.proofs.{Goes.{fell-anyhow, goes-quiet, quiet-goes, quiet-then}, ReadingSteps.{cached-rows, event-goes, got-born, got-fallen, got-known, is-cached}, SparingSteps.event-lasts}
+use Rattle.pagable_laws.proofs.{SparingSteps.keeps-open, Trees.self-number, Words.{Alike, Among, ArcRef, AreMoments, Change, Core, GetsKnown, IsMachineWhole, Kind, Last, List, LoadNumber}}
+use Rattle.pagable_laws.{proofs.Words.{refl, state_after, subst, suc, sym, type_of, with_handle, world_of, zero, ℕ, ◌+◌, ◌∙◌, ◌∷◌, ◌≡◌, ◌≤◌}, specs.TreeSteps.GetsRow}
+use Rattle.pagable_world.specs.{Calls.with_node, OneWorker.{GetsReference, IsFilledByReading, LeavesCache, OneIdentityLaw, StaysAlive}, Pager.IsWhole, World.usable}
 
 -- ---- what is got
 
@@ -116,7 +116,4 @@ one_identity_law E m w first between last kind other_kind key other_key n other_
     let s = along m kind key n first between whole' chain leaves (once-got kind key n whole filled a.from) in
     let b = got s.0.pager.whole other_kind other_key other_n gets' in
     let (differs, equals) = same kind other_kind key other_key n other_n b.from in
-    record {
-      differ = λ same_kind. differs s.1;
-      same = λ same_kind same_key alive. equals (s.2 alive (grind (arith, nat_tests, stays-alike, self-number)) a.held) same_kind same_key;
-    }
+    record { differ = λ same_kind. differs s.1; same = λ same_kind same_key alive. equals (s.2 alive (grind (arith, nat_tests, stays-alike, self-number)) a.held) same_kind same_key }

@@ -1,6 +1,6 @@
 -- Chains join, and a new machine is whole; a blob asks for one thing, and a worker's steps follow its list.
-use Rattle.pagable_laws.proofs.Words.{◌≡◌, [], ◌∷◌, ◌++◌, ℕ, List, refl, arith, nat_tests, Values, Seen, MachineState, Moment, AreMoments, state_after, ChainsJoin, NewIsWhole, Took, Site}
-use Rattle.pagable_laws.proofs.Words.{WalkDoes, Follows, NextIsOneOf}
+use Rattle.pagable_laws.proofs.Words.{AreMoments, List, MachineState, Moment, Seen, Site, Took, Values, WalkDoes, [], arith, nat_tests, refl, state_after, ℕ, ◌++◌, ◌∷◌, ◌≡◌}
+use Rattle.{pagable_laws.specs.FallLaws.{ChainsJoin, NewIsWhole, NextIsOneOf}, pagable_world.specs.Order.Follows}
 
 joins : {N E B W : Type 0} (m : Seen N B W) (s : MachineState N E) (xs ys : List (Moment N E B W)) → AreMoments m s xs → AreMoments m (state_after s xs) ys → AreMoments m s (xs ++ ys)
 unfolding state_after
@@ -17,9 +17,6 @@ chains_join E m = record { joins = joins m; ends = ends }
 
 pub new_whole : {N : Type 0} (E : Type 0) (v : Values N) → NewIsWhole E v
 new_whole E v = grind (arith)
-
-pub next_is_one : NextIsOneOf
-next_is_one types frame = grind (arith, nat_tests)
 
 -- whatever a worker does is a step of the automaton of its order
 pub steps_follow : {N B W : Type 0} (m : Seen N B W) (v : ℕ) (s s' : Site) (step : Took W) → WalkDoes m v s step s' → Follows m.written_of s.todo step s'.todo

@@ -1,16 +1,17 @@
 -- The chain of two levels is one of the machine, and meets the headline with all that it asks: its pagers are whole by closed facts, and so is each step.
+use Rattle.pagable_laws.proofs.Words.{IsMachineWhole, IsReadable, IsWellAsked, KeepsOpen, LiesIn, List, LoadAnswer, MachineState, Mode, None, Ok, OpenLoad, Option, Owner, PagerState, Reading}
+use Rattle.pagable_laws.proofs.Words.{ReadsItsTypes, ReadsRoot, Shelf, Site, Some, Throughout, Todo, Tree, WalkDoes, Walking, WorkerAnswer, Written, [], arith, blob_of, false, find_row, held}
+use Rattle.pagable_laws.proofs.Words.{identity_of, if_there, inl, inr, is_in, is_named_by, is_some, length, nat_tests, of_cell, owner_worker, reference-form, references_fault, references_in, refl}
+use Rattle.pagable_laws.proofs.Words.{root_frame, row_at, state_after, subst, suc, sym, to_finish, to_item, to_pin, to_release, to_set, to_start, to_write, tree, true, updated, world_of, zero, ℕ}
 use Rattle.pagable_laws.proofs.{Chains.headline_law, Existing.and-false, Few.{AreAlone, Few, Passes, alike-self, falls-alone, falls-so, none-cached, updated-past, whole-so}, GoodReferences.good}
-use Rattle.pagable_laws.proofs.{Joining.new_whole, Trees.same_some, Words.{AreMoments, ArePremised, BeginCall, Beginning, Blob, Bool, CloneCall, Core, EndCall, Ends, Event, EventReply}}
-use Rattle.pagable_laws.proofs.Words.{FallsAnyhow, Frame, HandOverCall, HandleNumber, HandleRow, IsCellOf, IsLawful, IsLeast, IsMachineWhole, IsPremised, IsReadable, IsReadingWhole, IsWellAsked}
-use Rattle.pagable_laws.proofs.Words.{KeepsOpen, LazyCall, LiesIn, List, LoadAnswer, MachineState, Mode, None, Ok, OnlyCore, OpenLoad, Option, Owner, PagerState, PinsAtOnce, Reading, ReadingBrings}
-use Rattle.pagable_laws.proofs.Words.{ReadingDoes, ReadingsAre, ReadsAsType, ReadsItsTypes, ReadsRoot, SameShelf, SetKeyCall, Shelf, Some, StoreCall, Throughout, Todo, TodoTakesWell, TookWrites}
-use Rattle.pagable_laws.proofs.Words.{Tree, TwoLevelsMeetTheHeadline, UnpinCall, WalkDoes, Walking, WorkStays, WorkerAnswer, Written, [], answers_from, arith, blob_of, claim_fault, digest, fallen}
-use Rattle.pagable_laws.proofs.Words.{false, find_row, fresh, held, identity_of, if_there, inl, inr, is_counted, is_here, is_in, is_keyed, is_named_by, is_none, is_some, is_workers, is_workers_at}
-use Rattle.pagable_laws.proofs.Words.{length, load_fault, named_fault, nat_le, nat_tests, no_shelf, nobody, none-followed, nothing-form, of_cell, of_key, one_more, outer, owned_outside}
-use Rattle.pagable_laws.proofs.Words.{owner_worker, preimage, reading_after, reading_at, reference-form, references_fault, references_in, refl, rest_of, root_frame, row_at, row_of, state_after}
-use Rattle.pagable_laws.proofs.Words.{steps_after, subst, suc, sym, to_finish, to_item, to_pin, to_publish, to_release, to_set, to_start, to_write, tree, true, updated, value_at, with_key}
-use Rattle.{pagable_laws.proofs.Words.{with_mode, without_worker, world_of, zero, ℕ, ◌++◌, ◌+◌, ◌<◌, ◌==◌, ◌∙◌, ◌∷◌, ◌≡◌, ◌≤◌, ◌⊎◌}, pagable_model.specs.Keyed.throughout-alone}
-use Rattle.pagable_world.specs.{Calls.IsNext, Events.Happens, LoadCalls.IsNextLoad, Pager.{EventBrings, ReplyWrites}, Refusals.OwnsLoad, Runs.Does, Workers.Site, World.HasForm}
+use Rattle.pagable_laws.proofs.{Joining.new_whole, Trees.same_some, Words.{AreMoments, Beginning, Blob, Bool, CloneCall, Core, Event, EventReply, Frame, HandleNumber, HandleRow, Happens, IsLawful}}
+use Rattle.pagable_laws.{proofs.Words.{◌++◌, ◌+◌, ◌<◌, ◌==◌, ◌∙◌, ◌∷◌, ◌≡◌, ◌≤◌, ◌⊎◌}, specs.{FallLaws.outer, TwoLevels.{ArePremised, TwoLevelsMeetTheHeadline, value_at}}}
+use Rattle.pagable_world.specs.{Calls.{row_of, with_key, with_mode}, Cascade.{FallsAnyhow, IsLeast, fallen, is_keyed, nobody, owned_outside}, Events.{Ends, OnlyCore, ReadingsAre, WorkStays, no_shelf}}
+use Rattle.pagable_world.specs.{Events.{reading_after, reading_at, steps_after}, LoadCalls.{BeginCall, EndCall, HandOverCall, IsNextLoad, LazyCall}, Loads.{ReadingDoes, answers_from}}
+use Rattle.pagable_world.specs.{Pager.{EventBrings, IsCellOf, IsReadingWhole, ReadingBrings, ReplyWrites, TookWrites}, Refusals.{OwnsLoad, load_fault, named_fault}, Runs.{Does, IsPremised}}
+use Rattle.pagable_world.specs.{Runs.{ReadsAsType, TodoTakesWell}, Workers.{PinsAtOnce, claim_fault, fresh, is_counted, is_workers, is_workers_at, without_worker}, World.{HasForm, SameShelf, digest}}
+use Rattle.{pagable_model.specs.{Blob.preimage, Form.nothing-form, Keyed.throughout-alone, Trees.{none-followed, rest_of}}, pagable_world.specs.Calls.{IsNext, SetKeyCall, StoreCall, UnpinCall}}
+use Rattle.{pagable_world.specs.World.{is_here, of_key, one_more, to_publish}, std.specs.Prelude.{is_none, nat_le}}
 use Rattle.pagable_laws.specs.TwoLevels as two
 use Rattle.pagable_model.specs.Meaning as meanings
 use Rattle.pagable_model.specs.Reading as grammar
@@ -38,8 +39,6 @@ whole-at w vs shelf walking reading (few, p) walks reads =
 
 pub few-fallen : (w : Core) (gone : ℕ → Bool) → Few w → Few (fallen w gone [])
 few-fallen w gone few = (λ n lt. let e = few.0 n lt in grind (arith, nat_tests), few.1, few.2, few.3)
-
--- ---- each step
 
 pub same-shelf : (s : Shelf) → SameShelf s s
 same-shelf s = record { slots = λ i. refl; waits = λ v. refl }
@@ -97,7 +96,6 @@ does-so w s todo ok = grind (arith, nat_tests, alike-self, same-shelf, stored-so
 few-next : (w : Core) (s : Shelf) (todo : List Todo) (answer : Option WorkerAnswer) → Few w → let a = two.next_step w s todo in Few (two.ended answer a.1)
 few-next w s x2 x3 few = grind (arith, nat_tests, few-fallen, updated-past)
 
--- what is written is a form of the value
 writes-so : (w : Core) (s : Shelf) (work : _) (todo : List Todo) → Asks w s todo → let a = two.next_step w s todo in TookWrites two.sample (λ w. w) (two.machine w two.two_values work).pager a.0
 writes-so w s work (to_write r place through ∷ below) (held, kind) = record { x = two.value_of r.node; held = held; form = form-of (two.value_of r.node) kind; listed = refl }
   where
@@ -106,7 +104,6 @@ writes-so w s work (to_write r place through ∷ below) (held, kind) = record { 
     form-of (two.parent r) four = record { shape = _; own = _; is = refl; means = refl; form = reference-form _ 4 r four }
 writes-so w s work todo ok = tt
 
--- with its answer the worker ends
 abbrev EndsSo : Option WorkerAnswer → Core → Type 0
 EndsSo None w = Unit {0}
 EndsSo (Some answer) w = AreAlone w (without_worker w 1) (is_workers w 1)
@@ -115,9 +112,6 @@ ends-so : (answer : Option WorkerAnswer) (w : Core) → EndsSo answer w → Ends
 ends-so None w ok = alike-self w
 ends-so (Some answer) w alone = record { told = Ok tt; falls = falls-alone w (without_worker w 1) (is_workers w 1) alone }
 
--- ---- the page-out, step by step
-
--- what so many steps ask
 unfoldable pub AllAsk : ℕ → two.Working → Type 0
 AllAsk zero x = Unit {0}
 AllAsk (suc n) x =
@@ -176,8 +170,6 @@ pub begun-asks : AllAsk 15 two.begun
 unfolding AllAsk value_at is_named_by find_row preimage references_fault is_in
 begun-asks = search arith
 
--- ---- each pager is good
-
 pub births-good : Good two.new_core [] × Good two.child_born (None ∷ Some two.leaf ∷ []) × Good two.both_born two.two_values × Good two.begun.core two.two_values
 unfolding value_at is_named_by find_row references_fault is_in
 births-good = (search (arith, none-cached), search (arith, none-cached), search (arith, none-cached), search (arith, none-cached))
@@ -199,8 +191,6 @@ loads-good =
       (key, record { handles = search arith; stands = search arith; numbers = search arith }),
       (back, record { handles = search arith; stands = search arith; numbers = search arith }),
     )
-
--- ---- a moment of the machine
 
 same-work : (shelf : Shelf) (walking : Option Walking) (reading reading' : Option Reading) → WorkStays (two.work_of shelf walking reading) (two.work_of shelf walking reading')
 same-work shelf walking reading reading' = record { shelves = λ t. same-shelf _; last_table = refl; walkings = λ v. refl }
@@ -299,7 +289,6 @@ ends-pinned =
     } in
     record { does = (record { x = x; reads_root = grind (arith, nat_tests); of_cell_load = record { load = cell_load; open_load = refl; sort = tt }; ended = ended }, refl) }
 
--- the caller gets the child's value
 reads-out : ReadingDoes two.sample two.key_loading Owner.Caller two.child_fetched (Some (LoadAnswer.Read two.leaf)) [] two.read_back
 unfolding two.walked value_at is_named_by find_row preimage is_in named_fault grammar.read grammar.read_with answers_from key_load
 reads-out =
@@ -363,8 +352,6 @@ loads-do =
         let cell : IsCellOf two.child_got (two.load_number 1) n = record { load = cell_load; node = two.node 2; t = 0; h = two.handle 2; open_load = refl; root = refl; is = sym at } in
         inr (refl, inr (subst (λ y. ReadsRoot two.sample two.parent_read y) (sym read) (grind (arith, nat_tests)), cell))
 
--- ---- values
-
 shaped : (x : two.Sample) → (shape : shapes.Shape) × (two.sample_types.nodes (two.sample.node_type x) ≡ Some shape)
 shaped two.leaf = (shapes.nothing, refl)
 shaped (two.parent r) = (shapes.reference 4, refl)
@@ -378,9 +365,6 @@ unfolding IsReadable LiesIn
 reads-types zero s is = subst (λ x. Throughout IsReadable two.sample_types.parts x) (same_some _ _ is) (throughout-alone _ _ (shapes.reference 4) tt (λ those. tt))
 reads-types (suc n) s is = subst (λ x. Throughout IsReadable two.sample_types.parts x) (same_some _ _ is) (throughout-alone _ _ shapes.nothing tt (λ those. tt))
 
--- ---- moments
-
--- the child's key reads as a leaf
 child-reads : (s : PagerState two.Sample (Unit {0})) → s.core.stored 8 ≡ Some (blob_of [] []) → ReadsAsType two.sample s 1 8
 unfolding grammar.read grammar.read_with
 child-reads s stored = record {
@@ -393,7 +377,6 @@ loads-asked : ArePremised (two.at_work two.answered) (two.loads ++ two.counts 2)
 unfolding two.walked value_at preimage find_row is_named_by grammar.read grammar.read_with answers_from
 loads-asked = grind (arith, nat_tests, asked, child-reads)
 
--- what comes later is a chain
 later : (s : MachineState two.Sample (Unit {0})) (xs ys : List two.Happening) → AreMoments two.sample_seen s (xs ++ ys) → AreMoments two.sample_seen (state_after s xs) ys
 unfolding state_after
 later s [] ys all = all

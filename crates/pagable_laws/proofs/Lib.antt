@@ -5,11 +5,9 @@ pub mod Trees
 mod Merkle
 pub mod Related
 mod AnyOrder
-pub mod Sums
 pub mod Existing
 pub mod Joining
 pub mod Goes
-pub mod Outlasting
 pub mod GoodReferences
 pub mod Effects
 pub mod Called
@@ -20,9 +18,7 @@ mod Standing
 mod Coming
 pub mod Answered
 pub mod Decoding
-mod Fitting
 pub mod Following
-pub mod Naming
 mod Stepping
 mod Felt
 pub mod Taking

@@ -1,10 +1,10 @@
 -- A load from its begin to its end keeps trees: what it pins stands for its node's tree, and what it reads for the tree that its key reads as.
-use Rattle.pagable_laws.proofs.Words.{◌≡◌, ℕ, ◌+◌, ◌≤◌, List, [], Option, Some, None, inl, inr, refl, sym, ap, subst, ◌∙◌, arith, nat_tests, Core, Last, Alike, Root, of_cell, of_key, OpenLoad, Frame}
-use Rattle.pagable_laws.proofs.Words.{Reading, Written, Values, Seen, IsLawful, PagerState, WellFormed, Moves, Represents, FramesFit, SameTrees, with_handle}
-use Rattle.pagable_laws.proofs.Words.{ReadIsRight, held, with_load, gone_on, Blob, LoadNumber, Tree, ReadsItsTypes, HoldsSettled, TakesWell, fresh, LoadAnswer, nothing_felt}
-use Rattle.pagable_laws.proofs.{Words.{ReadingFeels, Owner, Mode, false}, Felt.{reading-fits, fits-nothing, trees-go-on}, Goes.Goes, ReadingSteps.{caller-free, reading-feels}}
-use Rattle.pagable_laws.proofs.{ReadingStepsGive.{hands, read-right}, Taking.{Going, going-new, going-step, given-nodes, was-open, row-held, stands-here}, Trees.same_some, Called.{begins-key}}
-use Rattle.{pagable_laws.proofs.Called.begin-goes, pagable_world.specs.{Access.{ReadingStep, LoadRun, load-ends, load-goes-on, LoadAsksWell, PinLaw, ReadLaw}, Loads.Does}}
+use Rattle.pagable_laws.proofs.Words.{FramesFit, HoldsSettled, IsLawful, Last, List, LoadAnswer, LoadNumber, Mode, None, OpenLoad, Option, Owner, PagerState, Reading, ReadingFeels, ReadsItsTypes}
+use Rattle.pagable_laws.proofs.Words.{Represents, Seen, Some, Tree, Values, WellFormed, Written, [], ap, arith, false, held, inl, inr, nat_tests, nothing_felt, of_cell, refl, subst, sym, with_handle}
+use Rattle.pagable_laws.proofs.{Called.{begin-goes, begins-key}, Felt.{fits-nothing, reading-fits, trees-go-on}, Goes.Goes, ReadingSteps.{caller-free, reading-feels}, ReadingStepsGive.hands}
+use Rattle.pagable_laws.proofs.{ReadingStepsGive.read-right, Taking.{Going, given-nodes, going-new, going-step, row-held, stands-here, was-open}, Trees.same_some, Words.{Alike, Blob, Core, Frame}}
+use Rattle.pagable_world.specs.{LoadCalls.with_load, Loads.{Does, gone_on}, Pager.{Moves, SameTrees}, Runs.TakesWell, Workers.fresh, World.{Root, of_key}}
+use Rattle.{pagable_laws.proofs.Words.{ℕ, ◌+◌, ◌∙◌, ◌≡◌, ◌≤◌}, pagable_world.specs.{Access.{LoadAsksWell, LoadRun, PinLaw, ReadLaw, ReadingStep, load-ends, load-goes-on}, Headline.ReadIsRight}}
 
 abbrev seen : {N : Type 0} → Values N → Seen N Blob Written
 seen v = record { values = v; blob_of = λ b. b; written_of = λ w. w }
@@ -51,8 +51,7 @@ module _ {N E : Type 0} {v : Values N} (lawful : IsLawful v) (readable : ReadsIt
             record { settled = settled'; well = step.whole; stands = stands; going = going; keyed = λ other there. u.keyed other (was-open felt.does.goes reading.load.0 other u.going.within there) };
         right = λ x is.
             let read = (subst (λ (o : Option (LoadAnswer N)). Does v s.core Owner.Caller reading o frames s'.core) is step.does.does).0 in
-            let load = read.of_key_load in
-            subst (λ q. ReadIsRight v s' q x) (u.keyed load.load load.open_load)
+            let load = read.of_key_load in subst (λ q. ReadIsRight v s' q x) (u.keyed load.load load.open_load)
             (read-right lawful readable s s' trees fit.0 fit.1.same felt.does.goes.stored step.whole stands reading u.going load.load load.open_load x read.reads_root
             (hands reading.load (v.references x) u.well.whole.handles read.handed));
       }
@@ -71,8 +70,7 @@ module _ {N E : Type 0} {v : Values N} (lawful : IsLawful v) (readable : ReadsIt
 
   module _ (s mid : PagerState N E) (trees : ℕ → Tree) (well : WellFormed v s) (settled : HoldsSettled v s) (stands : Represents v s trees) (does : Goes nothing_felt s.core mid.core) (moves : Moves (λ n x. ⊥) s mid) (whole : WellFormed v mid) where
     begun : After v s trees mid trees
-    begun =
-        search (does.nodes, trees-go-on lawful settled well whole stands moves does (fits-nothing lawful settled well whole stands (λ n x. ⊥) (λ n x comes none is. absurd comes)))
+    begun = search (does.nodes, trees-go-on lawful settled well whole stands moves does (fits-nothing lawful settled well whole stands (λ n x. ⊥) (λ n x comes none is. absurd comes)))
 
     under : (w : Core) (l : LoadNumber) (t key : ℕ) (root : Root) → l.0 ≡ w.last.load + 1 → Alike (with_load w key root Owner.Caller) mid.core → Under v mid trees key (fresh l t)
     unfolding FramesFit
@@ -83,8 +81,7 @@ module _ {N E : Type 0} {v : Values N} (lawful : IsLawful v) (readable : ReadsIt
 
 pub pin_law : {N E : Type 0} (v : Values N) → PinLaw E v
 pin_law v s mid s' h k reading x row run well starts asks live held lawful readable settled trees stands =
-    let c = starts.begins in
-    let b = c.step.begins.2 in
+    let c = starts.begins in let b = c.step.begins.2 in
     let first = begun lawful readable s mid trees well settled stands (begin-goes _ c.step) c.moves c.whole in
     let f : (t : ℕ) × (reading ≡ fresh reading.load t) = grind (arith, nat_tests, same_some) in
     let u = under lawful readable s mid trees well settled stands (begin-goes _ c.step) c.moves c.whole (with_handle s.core c.step.begins.0.node Mode.LooseUnpinned (Owner.Load reading.load)) reading.load f.0 starts.key (of_cell c.step.begins.0.node b.4.0 h) b.2.above b.4.2 in
@@ -98,6 +95,5 @@ read_law v s mid s' key t l x run well starts asks settled_value lawful readable
     let goes : Goes nothing_felt s.core mid.core = (begins-key {lists = false} {Asks = Unit {0}} {Leaves = Unit {0}} _ starts.step).goes in
     let first = begun lawful readable s mid trees well settled stands goes starts.moves starts.whole in
     let u = under lawful readable s mid trees well settled stands goes starts.moves starts.whole s.core l t key of_key b.1.above b.2 in
-    let r = comes lawful readable run asks trees key u in
-    let after = after-then first r.after in
+    let r = comes lawful readable run asks trees key u in let after = after-then first r.after in
     (r.trees', after.same, after.stands, r.right x refl)

@@ -1,16 +1,16 @@
 -- A tree of canonical types has one key, a stored tree has the key that it stands under, and keys tell trees apart.
-use Rattle.pagable_laws.proofs.{Again.{Looked, all-looked, alone, form-again, here, lower, narrowed, one-looked, part_of}, Along.{AllTwo, Along, EntryAlong, form-along, integer-along}}
-use Rattle.pagable_laws.proofs.{Along.{lifted-along, more-two, no-two, none-along, number-along, pair-along, pattern-along, reference-along, text-along, variant-along}, Related.entries-two}
-use Rattle.pagable_laws.proofs.{Related.{flag-same, sequence-two, sorted-two}, Trees.{followed-on, one-followed, same_some, tree_is}, Words.{Blob, CanonicalHasOneForm, EachType, Entries, Entry}}
-use Rattle.pagable_laws.proofs.Words.{Form, Forms, HasOnePreimage, HasOwnKeys, HasPath, IsCanonical, IsCanonicalInside, IsCanonicalTree, IsCanonicalType, IsFollowed, IsKeyOfOneTree, IsLongestPath}
-use Rattle.pagable_laws.proofs.Words.{IsOneItemKey, IsOneKey, IsReadableType, IsStoredKey, IsTreeReadable, KeyOf, KeyRef, KeysOf, Kid, LiesIn, List, Meaning, Ok, Option, ReadsAs, Shape}
-use Rattle.pagable_laws.proofs.Words.{SharesNoKey, StaysInside, StoredAs, Throughout, Tree, TreeForm, Types, [], ap, append-nil, arith, array-form, blob_of, both-form, case-form, cases_lt}
-use Rattle.pagable_laws.proofs.Words.{code_order, cut, div-div-eq-div-mul, err-form, followed, hash-map-form, height, inl, inr, is_eager, json-array-form, json-object-form, key-of, key_of_ref}
-use Rattle.pagable_laws.proofs.Words.{key_ref, kind_of_kid, kind_of_ref, length, length-append, length_form, list-form, map, more-entries, more-forms, more-keys, nat_tests, nested-form, no-entries}
-use Rattle.pagable_laws.proofs.Words.{no-forms, no-keys, nothing-form, of_entries, ok-form, pair, pair-followed, placed-map-form, placed-set-form, pow-suc, preimage, read, reference-followed}
-use Rattle.pagable_laws.proofs.Words.{reference-form, refl, rest, run-form, sequence, some-form, sorted-map-form, sorted-set-form, static-form, subst, suc, sym, tagged-form, tree, tree_of_kid}
-use Rattle.{pagable_laws.proofs.Words.{true, type_of, unfolded, variant, variant-followed, zero, ℕ, ◌%◌, ◌*◌, ◌++◌, ◌/◌, ◌<◌, ◌^◌, ◌∙◌, ◌∷◌, ◌≡◌, ◌≤◌}, pagable_model.specs.Canonical.IsClosed}
-use Rattle.std.{proofs.Common.rules, specs.{Int.{byte_at, bytes_low_first, to_le_bytes, w128, w64}, List.{AllByRecursion as Each, flat_map}}}
+use Rattle.pagable_laws.proofs.Words.{Shape, Throughout, Tree, Types, [], ap, append-nil, arith, blob_of, cases_lt, followed, inl, inr, is_eager, length, length-append, map, nat_tests, pair, read}
+use Rattle.pagable_laws.proofs.Words.{reference-form, refl, rest, rules, run-form, subst, suc, sym, tree, true, type_of, variant, zero, ℕ, ◌*◌, ◌++◌, ◌<◌, ◌∙◌, ◌∷◌, ◌≡◌, ◌≤◌}
+use Rattle.pagable_laws.proofs.{Again.{Looked, all-looked, alone, form-again, here, lower, narrowed, one-looked, part_of}, Along.{AllTwo, Along, EntryAlong, form-along, integer-along, lifted-along}}
+use Rattle.pagable_laws.proofs.{Along.{more-two, no-two, none-along, number-along, pair-along, pattern-along, reference-along, text-along, variant-along}, Related.{entries-two, flag-same}}
+use Rattle.pagable_laws.proofs.{Related.{sequence-two, sorted-two}, Trees.{followed-on, one-followed, same_some, tree_is}, Words.{Blob, Entries, Entry, Form, Forms, LiesIn, List, Meaning, Ok, Option}}
+use Rattle.pagable_laws.specs.FormLaws.{CanonicalHasOneForm, HasOnePreimage, IsCanonicalInside, IsKeyOfOneTree, IsLongestPath, IsOneItemKey, IsOneKey, IsStoredKey, IsTreeReadable, StaysInside}
+use Rattle.pagable_model.specs.Form.{more-entries, more-forms, nested-form, no-entries, no-forms, nothing-form, ok-form, placed-map-form, placed-set-form, some-form, sorted-map-form, sorted-set-form}
+use Rattle.pagable_model.specs.{Basic.length_form, Blob.preimage, Canonical.{EachType, IsCanonical, IsCanonicalTree, IsCanonicalType, IsClosed, IsReadableType}, Carried.of_entries, Codes.cut}
+use Rattle.pagable_model.specs.{Deep.{HasPath, Kid, height, kind_of_kid, tree_of_kid}, Form.{array-form, both-form, case-form, err-form, hash-map-form, json-array-form, json-object-form, list-form}}
+use Rattle.pagable_model.specs.{Form.{static-form, tagged-form}, Keys.code_order, Meaning.sequence, Merkle.{HasOwnKeys, KeyOf, KeysOf, SharesNoKey, StoredAs, TreeForm, key-of, key_of_ref}}
+use Rattle.pagable_model.specs.{Merkle.{kind_of_ref, more-keys, no-keys, unfolded}, Trees.{IsFollowed, KeyRef, ReadsAs, key_ref, pair-followed, reference-followed, variant-followed}}
+use Rattle.std.{proofs.{Common.{◌%◌, ◌/◌, ◌^◌}, Math.Nat.{div-div-eq-div-mul, pow-suc}}, specs.{Int.{byte_at, bytes_low_first, to_le_bytes, w128, w64}, List.{AllByRecursion as Each, flat_map}}}
 
 -- ---- a meaning of a canonical shape has at most one form
 
@@ -44,8 +44,7 @@ module _ {A : Type 0} {kind_of : A → ℕ} {parts : ℕ → Shape} where
     one-form (tagged-form left written known body tag m b k u h f) (tagged-form left2 written2 known2 body2 tag2 m2 b2 k2 u2 h2 f2) r e =
         let tags : tag ≡ tag2 = cc in
         let f3 = let P : List ℕ → Type 0 = λ t. Form A kind_of parts left2 (written t) m2 b2 k2 in subst P (sym tags) f2 in
-        let rest = one-form f f3 (narrowed r (λ p. p.0 tag) (λ n d l. l.0 tag)) cc in
-        (rw (tags, rest.0) refl, rest.1)
+        let rest = one-form f f3 (narrowed r (λ p. p.0 tag) (λ n d l. l.0 tag)) cc in (rw (tags, rest.0) refl, rest.1)
     one-form (case-form left w known part n m b k lt is f) (case-form left2 w2 known2 part2 n2 m2 b2 k2 lt2 is2 f2) r e =
         let cases : n ≡ n2 = cc in
         let f3 = let P : ℕ → Type 0 = λ x. Form A kind_of parts left2 (part x) m2 b2 k2 in subst P (sym cases) f2 in
@@ -64,8 +63,7 @@ module _ {A : Type 0} {kind_of : A → ℕ} {parts : ℕ → Shape} where
         → Throughout IsCanonical parts s → sequence ms ≡ sequence ns → (b ≡ c) × (k ≡ l) × (length ms ≡ length ns)
     one-forms (no-forms left s) (no-forms left2 s2) r e = (refl, refl, refl)
     one-forms (more-forms left s m ms b c k l h g) (more-forms left2 s2 m2 ms2 b2 c2 k2 l2 h2 g2) r e =
-        let o = one-form h h2 r cc in
-        let p = one-forms g g2 r cc in
+        let o = one-form h h2 r cc in let p = one-forms g g2 r cc in
         (rw (o.0, p.0) refl, rw (o.1, p.1) refl, ap suc p.2)
     one-forms f g r e = absurd cc
 
@@ -73,9 +71,7 @@ module _ {A : Type 0} {kind_of : A → ℕ} {parts : ℕ → Shape} where
         → Throughout IsCanonical parts s → Throughout IsCanonical parts t → of_entries es ≡ of_entries fs → (b ≡ c) × (k ≡ l) × (length es ≡ length fs)
     one-entries (no-entries left s t) (no-entries left2 s2 t2) r q e = (refl, refl, refl)
     one-entries (more-entries left s t m n es b c d j k l h g f) (more-entries left2 s2 t2 m2 n2 es2 b2 c2 d2 j2 k2 l2 h2 g2 f2) r q e =
-        let o = one-form h h2 r cc in
-        let p = one-form g g2 q cc in
-        let i = one-entries f f2 r q cc in
+        let o = one-form h h2 r cc in let p = one-form g g2 q cc in let i = one-entries f f2 r q cc in
         (rw (o.0, p.0, i.0) refl, rw (o.1, p.1, i.1) refl, ap suc i.2)
     one-entries f g r q e = absurd cc
 
@@ -129,8 +125,7 @@ module _ {A : Type 0} {kind_of : A → ℕ} {parts : ℕ → Shape} (nodes : ℕ
         → Inside nodes parts s2 → Each P k → AllTwo (EntryAlong (Unit {0}) (λ a c. Q a)) es es
     entries_form-refs (no-entries left s s2) t u h = no-two
     entries_form-refs (more-entries left s s2 m n es b c d j k l f g e) t u h =
-        let p = each_split P j (k ++ l) h in
-        let q = each_split P k l p.1 in
+        let p = each_split P j (k ++ l) h in let q = each_split P k l p.1 in
         more-two (m, n) (m, n) es es (record { key = form-refs f t p.0; value = form-refs g u q.0 }) (entries_form-refs e t u q.1)
 
 -- ---- trees
@@ -196,11 +191,9 @@ unfolding preimage
 one_preimage a b h g e =
     let counts = cut (to_le_bytes w64 (length a.keys)) (to_le_bytes w64 (length b.keys)) _ _ refl e in
     let count : length a.keys ≡ length b.keys = same-bytes 8 _ _ (omega (arith, h)) (omega (arith, g)) counts.0 in
-    let long = ap length counts.1 in
-    let size : length a.bytes ≡ length b.bytes = omega
+    let long = ap length counts.1 in let size : length a.bytes ≡ length b.bytes = omega
     (arith, long, count, length-append a.bytes (flat_map (to_le_bytes w128) a.keys), length-append b.bytes (flat_map (to_le_bytes w128) b.keys), keys-length a.keys, keys-length b.keys) in
-    let rest = cut a.bytes b.bytes _ _ size counts.1 in
-    let keys = same-key-lists a.keys b.keys h.1 g.1 rest.1 in
+    let rest = cut a.bytes b.bytes _ _ size counts.1 in let keys = same-key-lists a.keys b.keys h.1 g.1 rest.1 in
     grind (arith, nat_tests)
 
 -- ---- the height of a tree is the length of its longest path
@@ -253,8 +246,7 @@ module _ {hash : List ℕ → List ℕ} {types : Types} where
         → kids ≡ kids2 → keys ≡ keys2
     same-keys no-keys no-keys can e = refl
     same-keys (more-keys x xs k ks h g) (more-keys x2 xs2 k2 ks2 h2 g2) (more-two y z ys zs c cs) e =
-        let heads : x ≡ x2 = cc in
-        let tails : xs ≡ xs2 = cc in
+        let heads : x ≡ x2 = cc in let tails : xs ≡ xs2 = cc in
         rw (same-key h h2 c.1 (ap tree_of_kid heads), same-keys g g2 cs tails) refl
     same-keys x0 x1 can e = cc
 
@@ -314,10 +306,8 @@ stored_key = record { is = λ hash store types t key own_keys h. node-key own_ke
 module _ {store other : ℕ → Option Blob} {types : Types} (shares : SharesNoKey store other) where
   same-stored : {type key : ℕ} {m n : Meaning KeyRef} → IsReadableType types type → StoredAs store types type key m → StoredAs other types type key n → m ≡ n
   same-stored {type} {key} {m} {n} can h g =
-      let first = stored-reads store types type key m can h in
-      let second = stored-reads other types type key n can g in
-      let blobs : first.blob ≡ second.blob = shares key _ _ first.stored second.stored in
-      grind (arith, nat_tests)
+      let first = stored-reads store types type key m can h in let second = stored-reads other types type key n can g in
+      let blobs : first.blob ≡ second.blob = shares key _ _ first.stored second.stored in grind (arith, nat_tests)
 
 pub key_of_one_tree : IsKeyOfOneTree
 key_of_one_tree = record {

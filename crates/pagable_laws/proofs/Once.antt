@@ -1,8 +1,8 @@
 -- Each stage once: what is still to be done of it, with what was done, is at most what was claimed.
-use Rattle.pagable_laws.proofs.{Standing.AllWait, Words.{ArcRef, Bool, Claim, Fault, Follows, HandleNumber, Identity, InOrder, Leads, List, Ok, OnceEach, Option, Task, Todo, Took, Written, []}}
-use Rattle.pagable_laws.proofs.Words.{arith, false, first_todo, give, identity_of, is_claim_of, is_identity, is_later_of, nat_le, nat_tests, next_start, one, subst, sum_by-cons, sym, times}
-use Rattle.pagable_laws.proofs.Words.{to_fail, to_finish, to_load, to_pin, to_publish, to_release, to_set, to_start, to_write, ℕ, ◌&&◌, ◌++◌, ◌+◌, ◌==◌, ◌∷◌, ◌≡◌, ◌≤◌}
-use Rattle.std.proofs.Math.Nat.{zero-add}
+use Rattle.pagable_laws.proofs.Words.{subst, sum_by-cons, sym, times, to_fail, to_finish, to_load, to_pin, to_release, to_set, to_start, to_write, ℕ, ◌&&◌, ◌++◌, ◌+◌, ◌==◌, ◌∷◌, ◌≡◌, ◌≤◌}
+use Rattle.pagable_laws.proofs.{Standing.AllWait, Words.{ArcRef, Bool, Claim, HandleNumber, Identity, List, Ok, Option, Task, Todo, Took, Written, [], arith, false, give, identity_of, nat_tests, one}}
+use Rattle.pagable_world.specs.{Order.{Follows, InOrder, Leads, OnceEach, is_claim_of, is_later_of}, Workers.{first_todo, next_start}, World.{Fault, is_identity, to_publish}}
+use Rattle.std.{proofs.Math.Nat.zero-add, specs.Prelude.nat_le}
 
 -- ---- numbers
 
@@ -76,11 +76,8 @@ module _ (k : ℕ) (i : Identity) where
         → times (is_later_of k i) steps + all-left last ≤ times (is_claim_of i) steps + all-left todo
     along todo [] last way is = subst (λ t. 0 + all-left t ≤ 0 + all-left todo) (sym is) (omega arith)
     along todo (step ∷ steps) last way (mid, follows, leads) =
-        let a = goes todo step mid way follows in
-        let later = sum_by-cons (λ s. one (is_later_of k i s)) step steps in
-        let claim = sum_by-cons (λ s. one (is_claim_of i s)) step steps in
-        let more = along mid steps last a.way leads in
-        omega arith
+        let a = goes todo step mid way follows in let more = along mid steps last a.way leads in
+        omega (arith, sum_by-cons (λ s. one (is_later_of k i s)) step steps, sum_by-cons (λ s. one (is_claim_of i s)) step steps)
 
     after-release : (r : ArcRef) (key height : ℕ) (steps : List (Took W)) (last : List Todo) → Leads f (to_release r key height ∷ []) steps last → times (is_later_of k i) steps ≤ 1
     after-release r key height (Took.Release j ∷ x ∷ more) last (mid, (is, e), (after, follows, leads)) = absurd (subst (λ m. Follows f m x after) e follows)

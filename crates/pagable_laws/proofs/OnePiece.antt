@@ -1,16 +1,16 @@
 -- Where each load is done in one piece, one of a cell whose key a page-out set is refused by chance alone: what it has got stays live and its own, each handle once, as long as it
 -- makes its own steps, and so does the handle that began it.
+use Rattle.pagable_laws.proofs.Words.{Error, Event, EventReply, Frame, FramesFit, GetsKnown, HandleNumber, HandleRow, HandlesAreWhole, Happens, IsLawful, IsMachineWhole, IsReference, Kind, List}
+use Rattle.pagable_laws.proofs.Words.{LoadAnswer, LoadNumber, MachineState, Mode, Moment, NodeNumber, None, Ok, OpenLoad, Option, OptionalDataKey, Owner, Reading, ReadsItsTypes, Reply, Seen, Some}
+use Rattle.pagable_laws.proofs.Words.{Tree, Values, [], adopted, ap, arith, false, false_from_ne_true, find_row, held, if_there, inl, inr, is_in, is_named_by, is_some, mode_of, nat_tests, next_node}
+use Rattle.pagable_laws.proofs.Words.{of_cell, owner_value, references_fault, refl, root_frame, row_at, rules, slice_get, subst, suc, sym, type_of, updated, with_handle, world_of, zero, ℕ, ◌+◌, ◌<◌}
 use Rattle.pagable_laws.proofs.{Apart.{AreApart, fine, reads-once}, Chains.{IsGoingOn, along-with, idle-goes}, Coming.updated-at, Decoding.decodes, Effects.{moved-free, named-among, with-one}}
-use Rattle.pagable_laws.proofs.{Fitting.{AllGot, all-more, all-new, first-fits, pushed}, Goes.found-number, GoodReferences.good, Outlasting.{Has, NotValues, Stands, has-alike, low-changed}}
-use Rattle.pagable_laws.proofs.{Outlasting.{low-whole, new-handle, stands-alike, stands-fell, stands-whole}, ReadingSteps.{cached-rows, reading-number, reading-open, reading-stands}}
-use Rattle.pagable_laws.proofs.{ReadingStepsGive.got-typed, Sound.{IsForm, by-chance, by-handle, by-references, load-cause}, Taking.{Going, going-of, row-held}, Trees.same_some, Words.Alike}
-use Rattle.pagable_laws.proofs.Words.{Among, ArcRef, Asked, BeginCall, Beginning, Bool, Call, Core, Err, Error, Event, EventReply, Frame, FramesFit, FramesHeld, GetsKnown, GetsLazy, GoesOn}
-use Rattle.pagable_laws.proofs.Words.{HandleNumber, HandleRow, HandlesAreWhole, Happens, HasBegun, IsBeginOf, IsDecoded, IsLawful, IsLoadOfPagedOut, IsMachineWhole, IsOfChance, IsReference, Kind}
-use Rattle.pagable_laws.proofs.Words.{List, LoadAnswer, LoadIsSound, LoadNumber, LoadReply, LoadSteps, MachineState, MakesNode, Mode, Moment, NodeNumber, None, Ok, OpenLoad, Option}
-use Rattle.pagable_laws.proofs.Words.{OptionalDataKey, Owner, Reading, ReadingsAre, ReadsItsTypes, Reply, Seen, Some, SoundLaw, StandTogether, Stays, Tree, Values, [], adopted, ap, arith, false}
-use Rattle.pagable_laws.proofs.Words.{find_row, gone_on, held, if_there, inl, inr, is_in, is_named_by, is_some, mode_of, nat_tests, next_node, of_cell, of_load, of_nobody, owner_value}
-use Rattle.pagable_laws.proofs.Words.{reading_after, reading_at, references_fault, refl, root_frame, row_at, row_of, slice_get, subst, suc, sym, turn_of, type_of, updated, with_got, with_handle}
-use Rattle.{pagable_laws.proofs.Words.{with_node, world_of, zero, ℕ, ◌+◌, ◌<◌, ◌==◌, ◌∙◌, ◌∷◌, ◌≡◌, ◌⊎◌}, pagable_world.specs.Loads.Does, std.proofs.{Common.rules, lemmas.Bool.false_from_ne_true}}
+use Rattle.pagable_laws.proofs.{Goes.{Has, NotValues, Stands, found-number, has-alike, low-changed, low-whole, new-handle, stands-alike, stands-fell, stands-whole}, GoodReferences.good}
+use Rattle.pagable_laws.proofs.{ReadingSteps.{cached-rows, reading-number, reading-open, reading-stands}, ReadingStepsGive.got-typed, Sound.{IsForm, by-chance, by-handle, by-references, load-cause}}
+use Rattle.pagable_laws.proofs.{Taking.{AllGot, Going, all-more, all-new, first-fits, going-of, pushed, row-held}, Trees.same_some, Words.{Alike, Among, ArcRef, Beginning, Bool, Call, Core, Err}}
+use Rattle.pagable_world.specs.{Events.{LoadSteps, ReadingsAre, Stays, reading_after, reading_at}, LoadCalls.BeginCall, Loads.{Does, GetsLazy, GoesOn, IsDecoded, MakesNode, gone_on, with_got}}
+use Rattle.pagable_world.specs.{OneWorker.{IsLoadOfPagedOut, IsOfChance, LoadIsSound, StandTogether, of_load, of_nobody, turn_of}, declared.events.LoadReply.LoadReply}
+use Rattle.{pagable_laws.{proofs.Words.{◌==◌, ◌∙◌, ◌∷◌, ◌≡◌, ◌⊎◌}, specs.{DeepLaws.{HasBegun, IsBeginOf, SoundLaw}, TreeSteps.FramesHeld}}, pagable_world.specs.Calls.{Asked, row_of, with_node}}
 
 -- ---- each handle once
 
@@ -135,11 +135,8 @@ module _ {N : Type 0} (v : Values N) (lawful : IsLawful v) (readable : ReadsItsT
   -- what was read became a node: its references go, and what was got for the blobs below stays
   node-ready : (frames : List Frame) (g : MakesNode v w Owner.Caller reading frames w') → LoadReady w' l load (with_got g.reads_node.top.kind g.row g.reads_node.below)
   node-ready frames g =
-      let top = g.reads_node.top in
-      let below = g.reads_node.below in
-      let is = g.reads_node.frames in
-      let c = g.adopted.adopts in
-      let refs = v.references g.x in
+      let top = g.reads_node.top in let below = g.reads_node.below in let is = g.reads_node.frames in
+      let c = g.adopted.adopts in let refs = v.references g.x in
       let here = subst (λ fs. FramesFit v.types w.stored trees root_key root_type fs) is fit in
       let was_got = (decodes lawful readable top g.x (first-fits v.types root_key root_type w.stored trees top below here) g.reads_node.decoded).got in
       let now = subst (λ fs. LoadReady w l load fs) is ready in
@@ -180,13 +177,8 @@ module _ {N : Type 0} (v : Values N) (lawful : IsLawful v) (readable : ReadsItsT
 
 -- ---- whose turn it is
 
-module _ {N B W : Type 0} where
-  -- a load's turn is its begin, or a step
-  pub turn-cases : (n : ℕ) (event : Event N B W) (reply : EventReply N B W) → turn_of event reply ≡ of_load n → IsBeginOf n event reply ⊎ ((l : LoadNumber) × (l.0 ≡ n) × (event ≡ Event.LoadStep l))
-  turn-cases n x1 x2 is = grind (arith, nat_tests)
-
-  begin-turn : (n : ℕ) (event : Event N B W) (reply : EventReply N B W) → IsBeginOf n event reply → turn_of event reply ≡ of_load n
-  begin-turn n x1 x2 is = grind (arith, nat_tests)
+begin-turn : {N B W : Type 0} (n : ℕ) (event : Event N B W) (reply : EventReply N B W) → IsBeginOf n event reply → turn_of event reply ≡ of_load n
+begin-turn n x1 x2 is = grind (arith, nat_tests)
 
 -- ---- ready
 
@@ -201,24 +193,17 @@ module _ {N B W E : Type 0} (m : Seen N B W) (s s' : MachineState N E) (whole : 
   abbrev w' : Core
   w' = s'.pager.core
 
-  -- what has just begun has read nothing
-  begun-empty : (l : LoadNumber) (reading : Reading) (readings : ℕ → Option Reading) → ReadingsAre readings (world_of s') → ((r : Reading) → readings l.0 ≡ Some r → r.frames ≡ [])
-      → reading_at (world_of s') l ≡ Some reading → reading.frames ≡ []
-  begun-empty l reading readings are none at = grind (arith, nat_tests)
-
   by-call : (h : HandleNumber) (k l : LoadNumber) (key : ℕ) → BeginCall w Owner.Caller h (Ok (Beginning.Load k key)) w' → ReadingsAre s.work.readings (world_of s') → k.0 ≡ l.0 → Ready s' l
   by-call h k l key b are same = λ reading load at open_load.
-      let g = b.begins in
-      let row : HandleRow = g.0 in
-      let next = g.2.2.above in
-      let a = g.2.4.2 in
+      let g = b.begins in let row : HandleRow = g.0 in let next = g.2.2.above in let a = g.2.4.2 in
       let there : w'.loads l.0 ≡ Some (record { owner = Owner.Caller; key = key; root = of_cell row.node g.2.4.0 h }) = grind (arith, nat_tests, updated-at) in
       let is : record { owner = Owner.Caller; key = key; root = of_cell row.node g.2.4.0 h } ≡ load = same_some _ _ (sym there ∙ open_load) in
       let st = stands-alike a (with-one w row.node Mode.LooseUnpinned (Owner.Load k) (stands-whole whole.pager.whole.handles h.0 row g.1.live)) in
       -- a load of a number that wasn't given yet isn't read
       let unread : (r : Reading) → s.work.readings l.0 ≡ Some r → r.frames ≡ [] = λ r e.
       let few = (whole.pager.whole.loads.numbered l.0 (ap is_some (whole.readings l.0 r e).open_load)).1 in absurd (omega (arith, same, next, few)) in
-      rw (begun-empty l reading s.work.readings are unread at) (record {
+      let empty : reading.frames ≡ [] = grind (arith, nat_tests, unread) in
+      rw empty (record {
         begun = λ node t q root.
             let hs : h ≡ q = cc in record { row = row; live = subst (λ (x : HandleNumber). row_at w' x ≡ Some row) hs st.live; own = g.1.own };
         live = λ frame r among got. absurd (let e = among.1 in cc);
@@ -230,12 +215,6 @@ module _ {N B W E : Type 0} (m : Seen N B W) (s s' : MachineState N E) (whole : 
   begin-ready l (Event.Call (Call.LoadBegin h)) (EventReply.CallReply (Reply.Begun (Ok (Beginning.Load k key)))) is x = by-call h k l key x.step.does x.readings is
   begin-ready l event reply is x = grind (arith, nat_tests)
 
-  -- ---- steps
-
-  -- a step that ends closes the load
-  closes : (reading : Reading) (end : LoadAnswer N) (frames : List Frame) → Does m.values w Owner.Caller reading (Some end) frames w' → w'.loads reading.load.0 ≡ None
-  closes reading x1 frames does = grind (arith, nat_tests, updated-at)
-
 -- a load's own step, where the chain goes on
 module _ {N B W E : Type 0} (m : Seen N B W) (lawful : IsLawful m.values) (readable : ReadsItsTypes m.values.types) (s s' : MachineState N E) (trees : ℕ → Tree)
     (on : IsGoingOn m.values s trees) (whole' : IsMachineWhole m.values s') where
@@ -246,19 +225,14 @@ module _ {N B W E : Type 0} (m : Seen N B W) (lawful : IsLawful m.values) (reada
   is-at : (l : LoadNumber) (reading : Reading) → reading_at (world_of s) l ≡ Some reading → Going m.values s.pager trees reading
   is-at l reading at = going-of s trees on.readings reading (reading-stands (world_of s) on.whole.pager.whole l reading at)
 
-  -- the load was open, and is the same
-  was-open : (l : LoadNumber) (reply : LoadReply N) → LoadSteps m.values (world_of s) l reply (world_of s') → (load : OpenLoad) → s'.pager.core.loads l.0 ≡ Some load → core.loads l.0 ≡ Some load
-  was-open l reply x load open_load = grind (arith, nat_tests)
-
   step-ready : (l : LoadNumber) (reply : LoadReply N) → LoadSteps m.values (world_of s) l reply (world_of s') → Ready s l → Ready s' l
   step-ready l reply x ready reading load at open_load = by reply.ended refl
     where
       by : (answer : Option (LoadAnswer N)) → reply.ended ≡ answer → LoadReady s'.pager.core l load reading.frames
-      by (Some end) e = grind (arith, nat_tests, closes, reading-number s on.whole l x.reading x.at)
+      by (Some end) e = grind (arith, nat_tests, updated-at, reading-number s on.whole l x.reading x.at)
       by None e =
           let number = reading-number s on.whole l x.reading x.at in
-          let was = was-open l reply x load open_load in
-          let a = is-at l x.reading x.at in
+          let was : core.loads l.0 ≡ Some load = grind (arith, nat_tests) in let a = is-at l x.reading x.at in
           let before = subst (λ k. LoadReady core k load x.reading.frames) (sym number) (ready x.reading load x.at was) in
           let go = subst (λ o. Does m.values core Owner.Caller x.reading o x.frames s'.pager.core) e x.does.does in
           let fits = a.fits load (reading-open s on.whole l x.reading x.at was) in
@@ -275,8 +249,7 @@ module _ {N B W E : Type 0} (m : Seen N B W) (lawful : IsLawful m.values) (reada
       let was : core.loads l.0 ≡ Some load = sym (st.core.loads l.0) ∙ open_load in
       let same : s'.work.readings l.0 ≡ s.work.readings l.0 = st.readings l.0 ∙ ap (λ (o : Option OpenLoad). if_there (λ (z : OpenLoad). s.work.readings l.0) None o) open_load in
       let here : reading_at (world_of s) l ≡ Some reading = rw (same, st.core.loads l.0) at at in
-      let b = ready reading load here was in
-      search (rules, has-alike, st.core, b.begun, b.live, b.once)
+      let b = ready reading load here was in search (rules, has-alike, st.core, b.begun, b.live, b.once)
 
   -- ---- it is sound
 
@@ -290,8 +263,7 @@ module _ {N B W E : Type 0} (m : Seen N B W) (lawful : IsLawful m.values) (reada
       (subst (λ fs. FramesFit m.values.types core.stored trees load.key reading.node_type fs) is (a.fits load (reading-open s on.whole l reading at open_load))) in
       let front : Among reading.frames frame = subst (λ fs. Among fs frame) (sym is) (zero, refl) in
       let good-one : (r : ArcRef) → Among (m.values.references x) r → IsReference core (Owner.Load reading.load) r = λ r among.
-      let got = (decodes lawful readable frame x fits decoded).got r among in
-      let b = ready.live frame r front got in
+      let got = (decodes lawful readable frame x fits decoded).got r among in let b = ready.live frame r front got in
       let own : b.row.owner ≡ Owner.Load reading.load = b.own ∙ ap (λ (k : LoadNumber). Owner.Load k) (sym (reading-number s on.whole l reading at)) in
       let stood = (a.held frame r front got).is b.row b.live own in
       let live = subst (λ (n : NodeNumber). 0 < held n.0 core.rows) stood.0 (row-held core r.handle b.row b.live) in
@@ -301,9 +273,7 @@ module _ {N B W E : Type 0} (m : Seen N B W) (lawful : IsLawful m.values) (reada
       omega (arith, lawful.refers x decoded.own decoded.means (λ r. r.handle.0 == q), few))
 
   sound : (l : LoadNumber) (reply : LoadReply N) → LoadSteps m.values (world_of s) l reply (world_of s') → Ready s l → (load : OpenLoad) (e : Error)
-      → core.loads l.0 ≡ Some load → IsLoadOfPagedOut s load
-      → reply.ended ≡ Some (LoadAnswer.Refused e)
-      → IsOfChance e
+      → core.loads l.0 ≡ Some load → IsLoadOfPagedOut s load → reply.ended ≡ Some (LoadAnswer.Refused e) → IsOfChance e
   sound l reply x ready load e open_load paged ended =
       let r = ready x.reading load x.at open_load in
       elim (load-cause m lawful readable s s' trees trees on l reply x load e open_load paged ended) [
@@ -318,7 +288,7 @@ module _ {N B W E : Type 0} (m : Seen N B W) (lawful : IsLawful m.values) (reada
   load-step-ready l reply is ready = absurd is
 
   turn-ready : (l : LoadNumber) (event : Event N B W) (reply : EventReply N B W) → Happens m (world_of s) event reply (world_of s') → turn_of event reply ≡ of_load l.0 → Ready s l → Ready s' l
-  turn-ready l event reply is turn ready = elim (turn-cases l.0 event reply turn) [
+  turn-ready l event reply is turn ready = let cases : IsBeginOf l.0 event reply ⊎ ((k : LoadNumber) × (k.0 ≡ l.0) × (event ≡ Event.LoadStep k)) = grind (arith, nat_tests) in elim cases [
     | inl begins ↦ begin-ready m s s' on.whole whole' l event reply begins is
     | inr (k, same, e) ↦
         let own : event ≡ Event.LoadStep l = e ∙ ap (λ (q : LoadNumber). Event.LoadStep q) (ap (λ n. let q : LoadNumber = record { 0 = n } in q) same) in
@@ -342,10 +312,7 @@ module _ {N B W E : Type 0} (m : Seen N B W) where
       next-stage : Stages s (x ∷ xs) → Stages x.after xs
       next-stage stages k c l at step = elim (stages (suc k) c l at step) [
         | inl h ↦ by h.i h.a h.before h.at h.begins
-        | inr (ready, own) ↦ inr (
-          turn-ready m lawful readable s x.after trees on whole' l x.event x.reply is (own 0 x (omega arith) refl) ready,
-          λ i a lt there. own (suc i) a (omega (arith, lt)) there,
-        )
+        | inr (r, own) ↦ inr (turn-ready m lawful readable s x.after trees on whole' l x.event x.reply is (own 0 x (omega arith) refl) r, λ i a lt at. own (suc i) a (omega (arith, lt)) at)
       ]
         where
           by : (i : ℕ) (a : Moment N E B W) → i < suc k → slice_get (x ∷ xs) i ≡ Some a → IsBeginOf l.0 a.event a.reply → Stage x.after l xs k
@@ -372,9 +339,6 @@ pub sound_law : {N B W : Type 0} (E : Type 0) (m : Seen N B W) → SoundLaw E m
 sound_law E m start moments together begun trees whole idle chain stands lawful readable settled =
     along-with m lawful readable LoadIsSound (λ s xs. StandTogether xs × Stages m s xs) (λ s trees trees' x xs on so whole' is right. (
       load-sound m lawful readable s trees on x xs whole' is so.0 so.1 trees' x.event x.reply refl is,
-      (
-        (λ i j k p q r lt lt2 at there here. so.0 (suc i) (suc j) (suc k) p q r (omega (arith, lt)) (omega (arith, lt2)) at there here),
-        next-stage m lawful readable s trees on x xs whole' is so.0 so.1,
-      ),
+      (λ i j k p q r lt lt2 at a b. so.0 (suc i) (suc j) (suc k) p q r (omega (arith, lt)) (omega (arith, lt2)) at a b, next-stage m lawful readable s trees on x xs whole' is so.0 so.1),
     ))
     start trees moments (idle-goes m lawful readable start trees whole idle settled stands) (together, λ k c l at step. inl (begun k c l at step)) chain

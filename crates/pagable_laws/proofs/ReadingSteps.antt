@@ -1,23 +1,21 @@
 -- The row of a handle that a load has got: it is new, of its node, and its mode fits the kind.
-use Rattle.pagable_laws.proofs.Words.{◌≡◌, ℕ, ◌+◌, ◌<◌, ◌≤◌, Bool, true, List, [], ◌∷◌, ◌++◌, refl, ap, subst, ◌∙◌, inr, arith, Some, ◌⊎◌, nat_tests, ArcRef, Kind, HandleNumber, LoadNumber}
-use Rattle.pagable_laws.proofs.Words.{NodeNumber, OptionalDataKey, HandleRow, Owner, find_row, mode_of, owner_value, Core, Last, Alike, row_at, usable, FallsAnyhow, row_of}
-use Rattle.pagable_laws.proofs.Words.{with_cached_if_open, with_known, next_node, is_named_by, moved, adopted, HandlesAreWhole, GetsRow, sym, inl, Option, None, Ok, Err, is_some}
-use Rattle.pagable_laws.proofs.Words.{WorkerNumber, LoadAnswer, LoadReply, WorkerReply, PinStep, Took, Event, owner_worker, Frame, Reading, Todo, to_load, Walking, World, Seen, Values, ReadingDoes}
-use Rattle.pagable_laws.proofs.Words.{gone_on, Site, ReadingsAre, reading_at, reading_after, LoadSteps, WorkerSteps, IsWhole, IsReadingOf, of_caller, of_worker, IsSteppedReading, MachineState}
-use Rattle.pagable_laws.proofs.Words.{IsMachineWhole, StepsReading, IsFresh, Error, OpenLoad, first_key}
-use Rattle.pagable_laws.proofs.Words.{MakesNode, Change, nothing_felt, bears_known, ReadingFeels, reads-root, reads-blob, gets-known, gets-lazy, makes-known, makes-node, reading-ends}
-use Rattle.pagable_laws.proofs.Words.{Result, Pinning, Beginning, Claim, is_loose, to_start, to_pin, to_set, to_release, to_fail, SetKeyCall, Does, PinsAtOnce, PinsByLoad, PinRefused}
-use Rattle.pagable_laws.proofs.Words.{GivesBack, next_start, give, give_known, fresh, TodoBrings, sets_key, false, updated, EventReply, TableNumber, WorkerAnswer, only_handle}
-use Rattle.pagable_laws.proofs.Words.{Cell, Task, without_worker, answer_after, Stays, KeyStarted, Starts, new_walking, Ends, Happens, with_worker, IsNewNode, EventBrings}
-use Rattle.pagable_laws.proofs.Words.{KeepsOpen, LeavesCache, SameNode, NewNode, StaysAway, KeepsReadings, EventFeels, by-call, by-reading, by-key, by-nothing, Blob, StoreCall, digest}
-use Rattle.pagable_laws.proofs.{Words.{OwnersAreThere, step_of, Among, CloneCall, Needs, GetsKnown, with_got, world_of, or_else}, Goes.{found-left, none-in-new, at-updated, Quiet}}
-use Rattle.pagable_laws.proofs.{Goes.{Goes, NotLoads, quiet-then, goes-quiet, alike, fell-anyhow, KnowsNext, parts, le-self, rows-self, next-above}, Effects.{Effect, IsMine, IsApart, IsHeldFor}}
-use Rattle.pagable_laws.proofs.Effects.{Lasts, Spares, none, moves, fell, with-key, stays, one-then, entry, no-one, none-named, released-free, ended-free, worker-apart, stays-alike, spares-then}
-use Rattle.pagable_laws.proofs.{Effects.{stays-fell, then-alike, then-fell, held-fell}, Called.{hands-over, ends-load, noted, asks, closes, gets-known as was-known, adopts, adopts-known, schedules}}
-use Rattle.pagable_laws.proofs.{Called.{clones, pins, begins, begins-key, stores, calls-go, call-knows}, Decoding.among-left, GoodReferences.{good, alike-away}, Outlasting.{AreUpTo, low-changed}}
-use Rattle.{pagable_laws.proofs.{Outlasting.{low-whole, stands-new, find-both}, Sums.self-number, Trees.same_some, Standing.{AllWait, WaitsWell}}, pagable_world.specs.Loads.{Meets}}
-use Rattle.std.proofs.Common.{rules}
-use Rattle.pagable_world.specs.Events.{reading_of_load}
+use Rattle.pagable_laws.proofs.Called.{adopts, adopts-known, asks, begins, begins-key, call-knows, calls-go, clones, closes, ends-load, gets-known as was-known, hands-over, noted, pins, schedules}
+use Rattle.pagable_laws.proofs.Goes.{NotLoads, Quiet, alike, at-updated, fell-anyhow, find-both, found-left, goes-quiet, le-self, low-changed, low-whole, next-above, none-in-new, parts, quiet-then}
+use Rattle.pagable_laws.proofs.Words.{Blob, Bool, Change, Claim, CloneCall, Core, Does, Err, Error, Event, EventReply, Frame, GetsKnown, HandleNumber, HandleRow, HandlesAreWhole, Happens}
+use Rattle.pagable_laws.proofs.Words.{IsMachineWhole, KeepsOpen, Kind, Last, List, LoadAnswer, LoadNumber, MachineState, NodeNumber, None, Ok, OpenLoad, Option, OptionalDataKey, Owner, Reading}
+use Rattle.pagable_laws.proofs.Words.{ReadingFeels, Result, Seen, Site, Some, Task, Todo, Took, Values, Walking, WorkerAnswer, WorkerNumber, WorkerReply, WorkerSteps, World, [], adopted, answer_after}
+use Rattle.pagable_laws.proofs.Words.{ap, arith, bears_known, false, find_row, first_key, give, inl, inr, is_named_by, is_some, mode_of, moved, nat_tests, next_node, nothing_felt, owner_value}
+use Rattle.pagable_laws.proofs.Words.{owner_worker, refl, row_at, rules, step_of, subst, sym, to_fail, to_load, to_pin, to_release, to_set, to_start, true, updated, world_of, ℕ, ◌++◌, ◌+◌, ◌<◌, ◌∙◌}
+use Rattle.pagable_laws.proofs.{Called.stores, Decoding.among-left, Effects.{Effect, IsApart, IsHeldFor, IsMine, Lasts, Spares, ended-free, entry, fell, held-fell, moves, no-one, none, none-named}}
+use Rattle.pagable_laws.proofs.{Effects.{one-then, released-free, spares-then, stays, stays-alike, stays-fell, then-alike, then-fell, with-key, worker-apart}, Goes.{AreUpTo, Goes, KnowsNext}}
+use Rattle.pagable_laws.proofs.{Goes.{rows-self, stands-new}, GoodReferences.{alike-away, good}, Standing.{AllWait, WaitsWell}, Trees.{same_some, self-number}, Words.{Alike, Among, ArcRef, Beginning}}
+use Rattle.pagable_laws.specs.TreeSteps.{by-key, by-nothing, by-reading, gets-known, gets-lazy, makes-known, makes-node, reading-ends, reads-blob, reads-root, sets_key}
+use Rattle.pagable_laws.{proofs.Words.{◌∷◌, ◌≡◌, ◌≤◌, ◌⊎◌}, specs.TreeSteps.{EventFeels, GetsRow, IsFresh, IsSteppedReading, KeepsReadings, Needs, NewNode, SameNode, StaysAway, StepsReading, by-call}}
+use Rattle.pagable_world.specs.declared.events.{LoadReply.LoadReply, PinStep.PinStep, TableNumber.TableNumber}
+use Rattle.pagable_world.specs.{Calls.{SetKeyCall, StoreCall, row_of, with_cached_if_open, with_known}, Cascade.{FallsAnyhow, only_handle}, Events.{Ends, KeyStarted, LoadSteps, ReadingsAre, Starts}}
+use Rattle.pagable_world.specs.{Events.{Stays, new_walking, reading_after, reading_at, reading_of_load, with_worker}, Kinds.is_loose, Loads.{MakesNode, Meets, ReadingDoes, gone_on, with_got}}
+use Rattle.pagable_world.specs.{OneWorker.LeavesCache, Pager.{EventBrings, IsNewNode, IsReadingOf, IsWhole, OwnersAreThere, TodoBrings, of_caller, of_worker}, Plain.or_else, Workers.GivesBack}
+use Rattle.pagable_world.specs.{Workers.{PinRefused, PinsAtOnce, PinsByLoad, fresh, give_known, next_start, without_worker}, World.{Cell, digest, usable}, declared.answers.Pinning.Pinning}
 
 -- ---- what is found at a new number
 
@@ -81,8 +79,7 @@ read-after : {readings : ℕ → Option Reading} {walkings : ℕ → Option Walk
     → ((n : ℕ) → u'.work.walkings n ≡ walkings n) → ((q : ℕ) (after : Reading) → readings q ≡ Some after → (u.work.readings q ≡ Some after) ⊎ New after)
     → ((n : ℕ) (walking : Walking) (after : Reading) → walkings n ≡ Some walking → (u.work.walkings n ≡ Some walking) ⊎ (front_reading walking.todo ≡ Some after → New after))
     → (after : Reading) → IsReadingOf u'.work after → IsReadingOf u.work after ⊎ New after
-read-after {readings} u u' New are same callers workers after (of_caller q is) =
-    elim (callers q after (grind (arith, nat_tests))) [ inl old ↦ inl (of_caller q old) | inr new ↦ inr new ]
+read-after {readings} u u' New are same callers workers after (of_caller q is) = elim (callers q after (grind (arith, nat_tests))) [ inl old ↦ inl (of_caller q old) | inr new ↦ inr new ]
 read-after u u' New are same callers workers after (of_worker n place walking r through below there todo) = elim (workers n walking after (sym (same n) ∙ there)) [
   | inl old ↦ inl (of_worker n place walking r through below old todo)
   | inr new ↦ inr (new (ap front_reading todo))
@@ -120,8 +117,7 @@ is-reading-of u event reading stepped = absurd stepped
 pub readings-on : {N B W : Type 0} {v : Values N} {u u' : World} {event : Event N B W} {reply : EventReply N B W} {c : Change} (P : Reading → Type 0)
     → ((reading : Reading) → IsReadingOf u.work reading → P reading) → ((reading : Reading) → IsFresh u'.core reading → P reading)
     → ((reading : Reading) (frames : List Frame) (load : OpenLoad) → IsReadingOf u.work reading ⊎ IsFresh u.core reading → u.core.loads reading.load.0 ≡ Some load
-    → ReadingFeels v u.core reading None frames u'.core c → P (gone_on reading frames))
-    → EventFeels v u event reply u' c → (reading : Reading) → IsReadingOf u'.work reading → P reading
+    → ReadingFeels v u.core reading None frames u'.core c → P (gone_on reading frames)) → EventFeels v u event reply u' c → (reading : Reading) → IsReadingOf u'.work reading → P reading
 readings-on P old fresh gone (by-call c call answer called replied feels keeps) reading is = elim (keeps reading is) [ inl was ↦ old reading was | inr new ↦ fresh reading new ]
 readings-on P old fresh gone (by-key k key row happened sets keeps) reading is = elim (keeps reading is) [ inl was ↦ old reading was | inr new ↦ fresh reading new ]
 readings-on P old fresh gone (by-nothing stays keeps) reading is = elim (keeps reading is) [ inl was ↦ old reading was | inr new ↦ fresh reading new ]
@@ -144,10 +140,6 @@ pub record ReadingFelt {N : Type 0} (v : Values N) (w : Core) (me : Owner) (read
 pub caller-free : NotLoads Owner.Caller
 caller-free l is = absurd (cc)
 
--- a refusal that a load meets changes nothing, but that a failure of the storage may be noted
-meets : {N : Type 0} (v : Values N) (w : Core) (me : Owner) (reading : Reading) (u : Core) (e : Error) → Meets v w me reading e u → (f : ℕ) × Alike (record w { failures = f }) u
-meets v w me reading u e does = search (rules)
-
 module _ {N B W : Type 0} (m : Seen N B W) (w : Core) (me : Owner) (free : NotLoads me) (w' : Core) (reading : Reading) where
   abbrev RF : Option (LoadAnswer N) → List Frame → Type 0
   RF answer frames = ReadingFelt m.values w me reading answer frames w'
@@ -165,8 +157,7 @@ module _ {N B W : Type 0} (m : Seen N B W) (w : Core) (me : Owner) (free : NotLo
 
   makes : (frames : List Frame) → MakesNode m.values w me reading frames w' → RF None frames
   makes frames g =
-      let r = g.reads_node in
-      let c = g.adopted.adopts in
+      let r = g.reads_node in let c = g.adopted.adopts in
       let right = good w (Owner.Load reading.load) [] (m.values.references g.x) c.good in elim c.makes [
         | inl (n, usable, f) ↦ on nothing_felt c.load c.owned.stands_open (adopts-known reading.load r.top.kind n (m.values.references g.x) right f)
             (λ whole. makes-known g.x r n g.row (is-cached w r.top.kind.0 r.top.key n usable) (got-fallen whole r.top.kind g.k g.row g.made c.next.above n (Owner.Load reading.load) f) refl g.goes)
@@ -198,14 +189,12 @@ module _ {N B W : Type 0} (m : Seen N B W) (w : Core) (me : Owner) (free : NotLo
   reading-feels (Some (LoadAnswer.Read x)) frames d = ended (LoadAnswer.Read x) frames d.does.1 (hands-over free reading.load _ (Ok tt) d.does.0.handed)
   reading-feels (Some (LoadAnswer.Refused e)) frames d = ended (LoadAnswer.Refused e) frames d.does.1 (elim d.does.0 [
     | inl gives ↦
-        let a = meets m.values w me reading gives.mid e gives.meets in
+        -- a refusal that it meets changes nothing, but that a failure of the storage may be noted
+        let a : (f : ℕ) × Alike (record w { failures = f }) gives.mid = let does = gives.meets in search (rules) in
         one-then (λ kind key n h. subst (IsHeldFor kind key n) (sym a.1.rows) h) (λ mine load is. mine load (sym (a.1.loads reading.load.0) ∙ is)) (noted a.0 a.1)
         (closes reading.load (λ mine. mine) gives.closes)
     | inr ended ↦ ends-load free reading.load (Err (e, None)) ended.ended
   ])
-
-gets-alike : {w u w' : Core} {kind : Kind} {n : ℕ} {row : HandleRow} → GetsRow w u kind n row → Alike u w' → GetsRow w w' kind n row
-gets-alike got a = grind (arith, nat_tests)
 
 -- it is felt so in a world that is alike
 pub feels-alike : {N : Type 0} {v : Values N} {w u w' : Core} {reading : Reading} {answer : Option (LoadAnswer N)} {frames : List Frame} {c : Change}
@@ -250,8 +239,7 @@ given-known r key height x3 well = grind (arith, nat_tests, given r key height x
 -- A load makes its step; the key is set through the worker's own loose handle; or nothing is felt. But for the first, a load at the front afterwards has just begun.
 pub data WalkFeels {N B W : Type 0} (m : Seen N B W) (v : ℕ) (s s' : Site) (todo : List Todo) : Change → Type 0 where
   walk-loads : (c : Change) (r : ArcRef) (place : ℕ) (through : HandleNumber) (reading : Reading) (below : List Todo) → todo ≡ to_load r place through reading ∷ below
-      → (t : LoadsTodo m.values (owner_worker v) s s' reading)
-      → (t.answer ≡ None → (load : OpenLoad) × (s.core.loads reading.load.0 ≡ Some load))
+      → (t : LoadsTodo m.values (owner_worker v) s s' reading) → (t.answer ≡ None → (load : OpenLoad) × (s.core.loads reading.load.0 ≡ Some load))
       → (HandlesAreWhole s.core → ReadingFeels m.values s.core reading t.answer t.frames s'.core c) → WalkFeels m v s s' todo c
   walk-sets : (r : ArcRef) (through : HandleNumber) (key height : ℕ) (below : List Todo) (row : HandleRow)
       → todo ≡ to_set r through key height ∷ below → row_at s.core through ≡ Some row → row.owner ≡ owner_worker v → is_loose row.mode ≡ true
@@ -339,8 +327,7 @@ module _ {N B W : Type 0} (m : Seen N B W) (v : ℕ) (s s' : Site) where
   load-begins : (r : ArcRef) (place t : ℕ) (below : List Todo) (through : HandleNumber) (l : LoadNumber) → PinsByLoad s.core (owner_worker v) r through l s'.core
       → s'.todo ≡ to_load r place through (fresh l t) ∷ below → WF (to_pin r place ∷ below)
   load-begins r place t below through l (row, (mid, key, clone, begin)) is =
-      let next = begin.begins.2.2.above in
-      let last = ap (λ (x : Last). x.load) begin.begins.2.4.2.last in
+      let next = begin.begins.2.2.above in let last = ap (λ (x : Last). x.load) begin.begins.2.4.2.last in
       quiet (λ n x b. b) (λ front well reading e.
       let same : fresh l t ≡ reading = same_some _ _ (ap front_reading (sym is) ∙ e) in
       subst (λ x. IsFresh s'.core x) same (refl, refl, omega (arith, next, last))) (then-clone v clone (begins (Ok (Beginning.Load l key)) begin))
@@ -449,8 +436,7 @@ module _ {N B W : Type 0} (m : Seen N B W) (u u' : World) where
   key-starts key t (Err e) is = event-rests (λ n x b. absurd b) (keeps-all u u' is.refused is.work.walkings) (begins-key (Err e) is.step)
   key-starts key t (Ok Beginning.InMemory) is = absurd is.step.begins
   key-starts key t (Ok (Beginning.Load l k)) is =
-      let next = is.step.begins.1.above in
-      let last = ap (λ (x : Last). x.load) is.step.begins.2.last in
+      let next = is.step.begins.1.above in let last = ap (λ (x : Last). x.load) is.step.begins.2.last in
       event-rests (λ n x b. absurd b) (keeps-begun u u' t l is.begun (omega (arith, next, last)) is.work.walkings) (begins-key (Ok (Beginning.Load l k)) is.step)
 
   module _ (k : WorkerNumber) (reply : WorkerReply W) (s : WorkerSteps m u k reply u') where
@@ -459,8 +445,7 @@ module _ {N B W : Type 0} (m : Seen N B W) (u u' : World) where
 
     now : LoadsAnew s.after → KeepsReadings u u'
     now anew =
-        let q = ends-quiet reply.answer k.0 s.ends in
-        let le = q.loads_last in
+        let q = ends-quiet reply.answer k.0 s.ends in let le = q.loads_last in
         keeps-but u u' s.readings k.0 (record s.walking { todo = s.after.todo; steps = reply.steps; answer = reply.answer }) s.work.same_walkings
         (λ reading is. let a = anew reading is in let b = a.2 in (a.0, a.1, omega (arith, b, le)))
 
@@ -509,14 +494,11 @@ module _ {N B W : Type 0} (m : Seen N B W) (u u' : World) where
 -- ---- the plain world, as trees feel it
 
 module _ {c : Change} {w w' : Core} (g : Goes c w w') where
-  there-is : (n : ℕ) → is_some (w'.cells n) ≡ true → (cell : Cell) × (w'.cells n ≡ Some cell)
-  there-is n there = grind (arith, nat_tests)
-
   pub old-node : (n : ℕ) → n ≤ w.last.node → is_some (w'.cells n) ≡ true → SameNode c w w' n
-  old-node n few there = let (cell, is) = there-is n there in let k = g.cells n cell is in grind (arith, nat_tests)
+  old-node n few there = let c : (cell : Cell) × (w'.cells n ≡ Some cell) = grind (arith, nat_tests) in let k = g.cells n c.0 c.1 in grind (arith, nat_tests)
 
   pub new-node : HandlesAreWhole w → (n : ℕ) → w.last.node < n → is_some (w'.cells n) ≡ true → NewNode c w w' n
-  new-node whole n above there = let (cell, is) = there-is n there in elim (g.cells n cell is) [
+  new-node whole n above there = let c : (cell : Cell) × (w'.cells n ≡ Some cell) = grind (arith, nat_tests) in let cell = c.0 in elim (g.cells n cell c.1) [
     | inl kept ↦ absurd (let few = (whole.nodes_numbered n (ap is_some kept.live)).1 in omega (arith, few, above))
     | inr (next, bears) ↦ record { t = cell.node_type; own = cell.key; born = bears; next = next; typed = grind (arith, nat_tests); key = grind (arith, nat_tests) }
   ]

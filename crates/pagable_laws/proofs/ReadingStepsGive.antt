@@ -1,15 +1,15 @@
 -- What a load of a key hands over, and that what it read is right; and how many steps an open load still needs.
-use Rattle.pagable_laws.proofs.Words.{◌≡◌, ℕ, zero, suc, List, [], ◌∷◌, ◌++◌, refl, sym, subst, ◌∙◌, inl, inr, arith, Option, Some, None, ArcRef, Kind, LoadNumber, Among, HandleRow, Event, EventReply}
-use Rattle.pagable_laws.proofs.Words.{LoadAnswer, Core, Frame, Reading, World, Values, with_got, nested_frame, Change, ReadingFeels, reads-root, reads-blob, gets-known, gets-lazy, makes-known}
-use Rattle.pagable_laws.proofs.Words.{makes-node, reading-ends, EventFeels, nat_tests, ◌&&◌, true, false, Ok, ap, not, is_in, Owner, Seen, moved, numbers_of, HandOverCall, is_owned_in, handles_of}
-use Rattle.pagable_laws.proofs.Words.{Happens, HandlesAreWhole, HandsOver, ◌<◌, slice_get-get_or, Blob, NodeNumber, Tree, Types, type_of, LoadReply, held, OpenLoad, type_at, IsLawful, IsReference}
-use Rattle.pagable_laws.proofs.Words.{ReadsRoot, LoadSteps, MachineState, world_of, IsMachineWhole, IsReadingOf, StandsFor, SameTrees, FrameFits, FramesFit, ReadsItsTypes, ReadIsRight, ReadGives, ◌+◌}
-use Rattle.pagable_laws.proofs.Words.{◌*◌, ◌≤◌, ◌⊎◌, is_eager, asks, next_in, need_of, needs_nested, to_adopt, root_frame, after_kinds, Unfolds, unfolds, UnfoldsFrom, KeepsStored}
-use Rattle.pagable_laws.proofs.Words.{Call, gone_on, IsIdle, KeepsOpen, IsWithinBound, StepIsWithin, PagerState, Represents, WellFormed, LoadsHaveStepsLeft, IsFresh, slice_get_within}
-use Rattle.pagable_laws.proofs.{Words.Needs, Fitting.{first-fits, frames-stay, asked}, ReadingSteps.{readings-on, caller-free, reading-feels, reading-stands}}
-use Rattle.pagable_laws.proofs.{ReadingSteps.{AllWaitWell, EventGoes, event-goes, reading-open}, Goes.{found-number, IsShut, Goes}, Outlasting.{Stands, stands-whole, stands-changed, stands-fell}}
-use Rattle.pagable_laws.proofs.{Sums.self-number, Decoding.decodes, Taking.{row-held, root-right, adopted-over, Going, given-nodes, eager-nested, going-of, was-open}, Apart.{kinds_of, asks-by-kinds}}
-use Rattle.{pagable_laws.proofs.{Apart.kinds-pushed, Trees.same_some, Effects.named}, pagable_world.specs.{Loads.Does as LoadDoes, Runs.Does}, std.proofs.Common.rules}
+use Rattle.pagable_laws.proofs.Words.{Call, Change, Core, Event, EventReply, Frame, FramesFit, HandleRow, HandlesAreWhole, Happens, IsIdle, IsLawful, IsMachineWhole, IsReference, KeepsOpen, Kind}
+use Rattle.pagable_laws.proofs.Words.{List, LoadAnswer, LoadNumber, MachineState, NodeNumber, None, Ok, OpenLoad, Option, Owner, PagerState, Reading, ReadingFeels, ReadsItsTypes, ReadsRoot}
+use Rattle.pagable_laws.proofs.Words.{Represents, Seen, Some, Tree, Types, Values, WellFormed, World, [], ap, arith, false, held, inl, inr, is_eager, is_in, moved, nat_tests, next_in, not, refl}
+use Rattle.pagable_laws.proofs.Words.{root_frame, rules, slice_get_within, subst, suc, sym, true, type_of, world_of, zero, ℕ, ◌&&◌, ◌*◌, ◌++◌, ◌+◌, ◌<◌, ◌∙◌, ◌∷◌, ◌≡◌, ◌≤◌, ◌⊎◌}
+use Rattle.pagable_laws.proofs.{Apart.{asks-by-kinds, kinds-pushed, kinds_of}, Decoding.decodes, Effects.named, Goes.{Goes, IsShut, Stands, found-number, stands-changed, stands-fell, stands-whole}}
+use Rattle.pagable_laws.proofs.{ReadingSteps.{AllWaitWell, EventGoes, caller-free, event-goes, reading-feels, reading-open, reading-stands, readings-on}, Taking.{Going, adopted-over, asked}}
+use Rattle.pagable_laws.proofs.{Taking.{eager-nested, first-fits, frames-stay, given-nodes, going-of, root-right, row-held, was-open}, Trees.{same_some, self-number}, Words.{Among, ArcRef, Blob}}
+use Rattle.pagable_laws.specs.TreeSteps.{EventFeels, HandsOver, IsFresh, KeepsStored, Needs, gets-known, gets-lazy, makes-known, makes-node, reading-ends, reads-blob, reads-root}
+use Rattle.pagable_world.specs.{Events.LoadSteps, Headline.{LoadsHaveStepsLeft, ReadGives, ReadIsRight, StepIsWithin}, LoadCalls.{HandOverCall, is_owned_in, numbers_of}, Loads.Does as LoadDoes}
+use Rattle.pagable_world.specs.{Loads.{asks, gone_on, handles_of, need_of, needs_nested, nested_frame, to_adopt, with_got}, Order.{IsWithinBound, Unfolds, UnfoldsFrom, after_kinds, unfolds}}
+use Rattle.{pagable_world.specs.{Pager.{FrameFits, IsReadingOf, SameTrees, StandsFor}, Runs.Does, World.type_at, declared.events.LoadReply.LoadReply}, std.proofs.lemmas.Option.slice_get-get_or}
 pub use Rattle.pagable_laws.proofs.Effects.{both-none as neither}
 
 -- A load of a key that answers a value hands over the value's references: each was the load's, and is the caller's then.
@@ -25,15 +25,13 @@ pub hands : {w w' : Core} (l : LoadNumber) (references : List ArcRef) → Handle
 hands {w} {w'} l references whole c =
     record {
       each = λ r among.
-          let hs = handles_of references in
-          let numbered = in-numbers references r among in
+          let hs = handles_of references in let numbered = in-numbers references r among in
           let n = named w (Owner.Load l) [] hs (grind (arith, nat_tests, neither)) r.handle numbered in
           let stood = stands-changed (λ (row : HandleRow). is_in (numbers_of hs) row.number.0) (λ row. record row { owner = Owner.Caller }) (λ h. refl) (stands-whole whole r.handle.0 n.row n.live) in
           let moves : is_in (numbers_of hs) n.row.number.0 ≡ true = ap (is_in (numbers_of hs)) (found-number r.handle.0 w.rows n.row n.live) ∙ numbered in
           let now : Stands w.last.handle (moved (is_in (numbers_of hs)) Owner.Caller w.rows) r.handle.0 (record n.row { owner = Owner.Caller }) = rw moves at stood in
           let stays : (is_owned_in w (Owner.Load l) r.handle.0 && not (is_in (numbers_of hs) r.handle.0)) ≡ false = grind (arith, nat_tests) in
-          let after = stands-fell c.hands.1.falls (λ n e. cc) stays now in
-          (n.row, n.live, n.own, after.live);
+          let after = stands-fell c.hands.1.falls (λ n e. cc) stays now in (n.row, n.live, n.own, after.live);
     }
 
 -- A value that a load of a key answers stands for the tree that the key reads as, and the caller has its references.
@@ -42,8 +40,7 @@ hands {w} {w'} l references whole c =
 pub got-typed : {types : Types} {stored : ℕ → Option Blob} {trees : ℕ → Tree} (frame : Frame) → FrameFits types stored trees frame → (r : ArcRef) → Among frame.got r
     → (trees r.node.0).type ≡ type_of r.kind.0
 got-typed frame fits r (place, is) =
-    let few = slice_get_within frame.got place r is in
-    let most = fits.few in
+    let few = slice_get_within frame.got place r is in let most = fits.few in
     (fits.got place _ r is (slice_get-get_or frame.blob.keys place 0 (omega (arith, few, most)))).typed
 
 module _ {N E : Type 0} {v : Values N} (lawful : IsLawful v) (readable : ReadsItsTypes v.types) (s s' : PagerState N E) (trees trees' : ℕ → Tree) (same : SameTrees s.core.last.node trees trees')
@@ -62,9 +59,7 @@ module _ {N E : Type 0} {v : Values N} (lawful : IsLawful v) (readable : ReadsIt
           let fits = first-fits v.types load.key reading.node_type s.core.stored trees root.root [] here in
           let got = (decodes lawful readable root.root x fits root.decoded).got r among in
           let front : Among reading.frames root.root = subst (λ fs. Among fs root.root) (sym root.frames) (zero, refl) in
-          let moved = hands.each r among in
-          let row : HandleRow = moved.0 in
-          let there = g.held root.root r front got in
+          let moved = hands.each r among in let row : HandleRow = moved.0 in let there = g.held root.root r front got in
           let stood = there.is row moved.1 moved.2 in
           let live = row-held s'.core r.handle (record row { owner = Owner.Caller }) moved.3 in
           let typed : type_at s'.core r.node.0 ≡ Some (trees' r.node.0).type = stands'.typed r.node.0 (subst (λ (n : NodeNumber). 0 < held n.0 s'.core.rows) stood.0 live) in
@@ -150,8 +145,7 @@ module _ (types : Types) (store : ℕ → Option Blob) (many : ℕ) where
       let t = takes o.from kind key (asks-by-kinds types top.node_type top.blob top.got kind key (asked below (next_in types top) kind key (inl needs))) in
       let a = t.all (eager-nested below (next_in types top) kind key needs) in
       let under : Waits types store kind (top ∷ below) (2 * t.rest + 1 + o.more) = record { many = t.rest; longest = t.longest; more = o.more; from = t.from; below = o.below; sum = refl } in
-      let s = o.sum in
-      let e = a.3 in
+      let s = o.sum in let e = a.3 in
       record { now = 2 * a.0 + 1 + (2 * t.rest + 1 + o.more); owes = record { many = a.0; longest = a.1; more = 2 * t.rest + 1 + o.more; from = root-unfolds a.2 blob is; below = under; sum = refl }; less = omega (arith, s, e) }
 
   owes-got : (frames : List Frame) (kind : Kind) (key owed : ℕ) (row : HandleRow) → Needs types frames kind key → Owes types store many frames owed
@@ -160,8 +154,7 @@ module _ (types : Types) (store : ℕ → Option Blob) (many : ℕ) where
   owes-got [] kind key owed row needs o = grind (arith, nat_tests)
   owes-got (top ∷ below) kind key owed row needs o =
       let t = takes o.from kind key (asks-by-kinds types top.node_type top.blob top.got kind key (asked below (next_in types top) kind key needs)) in
-      let s = o.sum in
-      let f = t.fewer in
+      let s = o.sum in let f = t.fewer in
       record {
         now = 2 * t.rest + 1 + o.more;
         owes = record { many = t.rest; longest = t.longest; more = o.more; from = subst (λ ks. UnfoldsFrom types store top.node_type top.blob ks t.rest t.longest) (sym (kinds-pushed top.got (record { kind = kind; node = row.node; handle = row.number }))) t.from; below = o.below; sum = refl };
@@ -211,11 +204,7 @@ IsBounded types u reading = (reading.load.0 ≤ u.core.last.load) × ((load : Op
 
 fresh-bounded : (types : Types) (u : World) (reading : Reading) → IsFresh u.core reading → IsBounded types u reading
 unfolding Owes
-fresh-bounded types u reading new = (
-  new.2,
-  λ load is_open more kept many longest under.
-      (2 * many + 2, subst (λ fs. Owes types more many fs (2 * many + 2)) (sym new.0) refl, let none = new.1 in omega (arith, none)),
-)
+fresh-bounded types u reading new = (new.2, λ load o more k many longest d. (2 * many + 2, subst (λ fs. Owes types more many fs (2 * many + 2)) (sym new.0) refl, let none = new.1 in omega (arith, none)))
 
 abbrev AllBounded : Types → World → Type 0
 AllBounded types u = (reading : Reading) → IsReadingOf u.work reading → IsBounded types u reading
@@ -223,9 +212,6 @@ AllBounded types u = (reading : Reading) → IsReadingOf u.work reading → IsBo
 -- so it is, or nothing is stored any more
 abbrev pub LoadsStand : Types → World → Type 0
 LoadsStand types u = IsShut u.core ⊎ AllBounded types u
-
-keeps-open : {N B W : Type 0} (event : Event N B W) → KeepsOpen event ⊎ (event ≡ Event.Call Call.Close)
-keeps-open x0 = grind (arith, nat_tests)
 
 module _ {N E B W : Type 0} (m : Seen N B W) (s s' : MachineState N E) (whole : IsMachineWhole m.values s) where
   abbrev u : World
@@ -262,7 +248,7 @@ module _ {N E B W : Type 0} (m : Seen N B W) (s s' : MachineState N E) (whole : 
         let counts = x.counts in λ many longest under. search (rules, owes-some)
 
   pub event-on : (event : Event N B W) (reply : EventReply N B W) → Happens m u event reply u' → AllWaitWell u → LoadsStand m.values.types u → LoadsStand m.values.types u'
-  event-on event reply h waits stands = elim (keeps-open event) [
+  event-on event reply h waits stands = let cases : KeepsOpen event ⊎ (event ≡ Event.Call Call.Close) = grind (arith, nat_tests) in elim cases [
     | inr closes ↦ inl (let c = subst (λ e. Happens m u e reply u') closes h in grind (arith, nat_tests))
     | inl keeps ↦ on (event-goes m u u' event reply keeps h) stands
   ]

@@ -1,18 +1,18 @@
 -- Reading does the same whatever stands for references: two readers over related inputs give related meanings. And readers of which a fault stays whatever follows, what is
 -- read of a front is read of the whole, and what was used reads alone.
-use Rattle.pagable_laws.proofs.Words.{◌==◌, nat_tests, ◌≡◌, ℕ, zero, suc, ◌+◌, ◌-◌, ◌*◌, ◌/◌, ◌%◌, ◌^◌, Bool, true, List, [], ◌∷◌, ◌++◌, length, take, Result, Ok, Err, ◌⊎◌, if◌then◌else◌, inl, inr}
-use Rattle.pagable_laws.proofs.Words.{refl, sym, arith, append_assoc, cases_lt, le-ltb, lt-ltb, length-append, take-append-drop, length-take-le, nat_le, nat_lt, Error, ◌>>=◌, Read, byte_at, varint_at}
-use Rattle.pagable_laws.proofs.Words.{unsigned_at, signed_from, signed_at, longest, length_at, bytes_at, text_at, bool_at, char_at, carried, duration_at, nanos_of_second, Some, None, subst}
-use Rattle.pagable_laws.proofs.Words.{Meaning, none, variant, sequence, entry, absent, present, success, failure, lifted, Entry, KeyOrder, code_order, text_order, put_all, put_sorted, ◌≤◌, drop}
-use Rattle.pagable_laws.proofs.Words.{put_sorted_item, put_placed_item, of_entries, of_tagged, of_hash_map, Shape, nothing, unsigned, signed, flag, letter, duration, json, optional, outcome, list}
-use Rattle.pagable_laws.proofs.Words.{run, array, both, sorted_map, placed_map, hash_map, sorted_set, placed_set, static_value, tagged, cases, nested, Rest, Look, Gets, bytes_of, reference_at, seen}
-use Rattle.pagable_laws.proofs.Words.{two, choose, items, counted, registered, Deeper, enter, JsonCase, null_case, flag_case, number_case, text_case, array_case, object_case, json_case, json_part}
-use Rattle.pagable_laws.proofs.Words.{read_with, below, LiesIn, deepest, read, IsReadable, HasNoReference, Throughout, ap, ◌∙◌, Context, rest, with_more, IsLocal, IsUsed, IsLasting, map, pair}
-use Rattle.pagable_laws.proofs.{Words.{followed, rename, Form, at, IsNatural, IsReadOver, IsRenamed, IsReadThrough, KeepsForms, take_at, drop_at, append-nil}, Along.{Along, number-along}}
-use Rattle.pagable_laws.proofs.Along.{integer-along, text-along, pattern-along, none-along, pair-along, variant-along, reference-along, lifted-along, plain-along, AllTwo, no-two, more-two, EntryAlong}
-use Rattle.pagable_laws.proofs.{Along.{followed-along, form-along}, Again.{Under, here, narrowed, part_of, alone}}
-use Rattle.std.{proofs.Common.{rules, get_or}, proofs.lemmas.{List.map-id, Bool.cases_Bool}, specs.Int.{Width, w8, w32, w64}, specs.Str.{is_utf8, chars}, specs.List.AllByRecursion}
-use Rattle.pagable_model.specs.Numbers.{more_of, last_of}
+use Rattle.pagable_laws.proofs.Words.{List, Meaning, None, Ok, Result, Shape, Some, Throughout, [], ap, append-nil, append_assoc, arith, cases_Bool, cases_lt, drop, followed, if◌then◌else◌, inl, inr}
+use Rattle.pagable_laws.proofs.Words.{length, length-append, map, nat_tests, none, pair, put_all, read, refl, rename, rest, rules, subst, suc, sym, true, variant, zero, ℕ, ◌*◌, ◌++◌, ◌+◌, ◌==◌, ◌∙◌}
+use Rattle.pagable_laws.proofs.{Again.{Under, alone, here, narrowed, part_of}, Along.{AllTwo, Along, EntryAlong, followed-along, form-along, integer-along, lifted-along, more-two, no-two, none-along}}
+use Rattle.pagable_laws.proofs.{Along.{number-along, pair-along, pattern-along, plain-along, reference-along, text-along, variant-along}, Words.{Bool, Entry, Err, Error, Form, IsReadable, LiesIn}}
+use Rattle.pagable_laws.{proofs.Words.{◌∷◌, ◌≡◌, ◌≤◌, ◌⊎◌}, specs.FormLaws.{IsLasting, IsLocal, IsNatural, IsReadOver, IsReadThrough, IsRenamed, IsUsed, KeepsForms, at, with_more}}
+use Rattle.pagable_model.specs.Reading.{array_case, below, bytes_of, choose, counted, deepest, enter, flag_case, items, json_case, json_part, null_case, number_case, object_case, read_with}
+use Rattle.pagable_model.specs.{Basic.{bool_at, bytes_at, carried, char_at, duration_at, length_at, longest, nanos_of_second, text_at}, Canonical.HasNoReference, Carried.{of_entries, of_hash_map}}
+use Rattle.pagable_model.specs.{Carried.of_tagged, Keys.{KeyOrder, code_order, put_placed_item, put_sorted, put_sorted_item, text_order}, Meaning.{absent, entry, failure, lifted, present, sequence}}
+use Rattle.pagable_model.specs.{Meaning.success, Numbers.{Read, byte_at, last_of, more_of, signed_at, signed_from, unsigned_at, varint_at}, Reading.{Context, Deeper, Gets, JsonCase, Look, Rest}}
+use Rattle.pagable_model.specs.{Reading.{reference_at, registered, seen, text_case, two}, Shape.{array, both, cases, duration, flag, hash_map, json, letter, list, nested, nothing, optional, outcome}}
+use Rattle.std.specs.{Prelude.{nat_le, nat_lt}, Str.{chars, is_utf8}}
+use Rattle.std.{proofs.{Common.◌^◌, lemmas.{Bool.{le-ltb, lt-ltb}, List.{drop_at, length-take-le, map-id, take-append-drop, take_at}}}, specs.{Int.{Width, w32, w64, w8}, List.AllByRecursion}}
+use Rattle.{pagable_model.specs.{Shape.{placed_map, placed_set, run, signed, sorted_map, sorted_set, static_value, tagged, unsigned}, Steps.◌>>=◌}, std.proofs.Common.{get_or, take, ◌%◌, ◌-◌, ◌/◌}}
 use Rattle.pagable_model.specs.Meaning as meanings
 use Rattle.pagable_model.specs.Shape as shapes
 
@@ -67,8 +67,7 @@ module _ {I : Type 0} {plus : I → I → I} {end : I} (joins : Joins plus end) 
   -- one whose value is tested, and seen by view
   pub tested : {A B : Type 0} {get : I → Result (A × I) Error} {whole : I → Result (B × I) Error} (pass : A → Bool) (view : A → B) (e : Error)
       → ((i : I) → whole i ≡ (get i >>= λ p. if pass p.0 then Ok (view p.0, p.1) else Err e)) → Tame plus get → Tame plus whole
-  tested {B = B} {whole = whole} pass view e is h =
-      and_then (λ v i. if pass v then Ok (view v, i) else Err e) whole is h (λ v. either (pass v) (gives (view v)) (refuses B e))
+  tested {B = B} {whole = whole} pass view e is h = and_then (λ v i. if pass v then Ok (view v, i) else Err e) whole is h (λ v. either (pass v) (gives (view v)) (refuses B e))
 
 -- ---- bytes
 
@@ -398,8 +397,7 @@ module _ {A B C D : Type 0} {E : Error → Type 0} {F : Type 0} {S : A → B →
           (λ x u y w acc acc2 v g k l. search (rules, more-two, plain-along)) r no-two)) (counted_par (with_par h s (over (λ p. p) (λ n d l. l) t)))
       with_par h (placed_set s) t = seen_par _ _ (λ ms ns r. sequence-two (put_all-two {V = Along F R} put_placed_item put_placed_item one-two
           (λ x u y w acc acc2 v g k l. search (rules, more-two, plain-along)) r no-two)) (counted_par (with_par h s (over (λ p. p) (λ n d l. l) t)))
-      with_par h (static_value registry) t =
-          then_same (bytes_same (unsigned_at w32) (unsigned_tame w32)) (λ n. registered_par registry (grind (arith, nat_tests, here)) n)
+      with_par h (static_value registry) t = then_same (bytes_same (unsigned_at w32) (unsigned_tame w32)) (λ n. registered_par registry (grind (arith, nat_tests, here)) n)
       with_par h (tagged written known body) t =
           known_par text_at text_tame known
           (λ tag e. seen_par (of_tagged tag) (of_tagged tag) (λ m n r. pair-along _ _ _ _ (text-along tag) r) (with_par h (body tag) (over (λ p. p.1 tag e) (λ n d l. l.1 tag e) t)))
@@ -436,8 +434,7 @@ comes-of {A} {B} context s input e =
 
 pub local : {A B : Type 0} → IsLocal A B
 unfolding Comes
-local context s front after x y m e =
-    let f = comes-of context s front e in rw (f.whole, joins.assoc f.used after (rest x y)) (f.reads (more after (rest x y)))
+local context s front after x y m e = let f = comes-of context s front e in rw (f.whole, joins.assoc f.used after (rest x y)) (f.reads (more after (rest x y)))
 
 pub used : {A B : Type 0} → IsUsed A B
 unfolding Comes
@@ -481,8 +478,7 @@ module _ {A C : Type 0} (f : A → C) where
   along-rename x0 = grind (arith, nat_tests, number-along, integer-along, text-along, pattern-along, none-along, reference-along)
 
 natural-out : {A B C D : Type 0} (f : A → C) (g : B → D) {first : Result (Meaning B × Rest A) Error} {second : Result (Meaning D × Rest C) Error}
-    → Out no_cause (Leads f) (Along (Unit {0}) (Leads g)) first second
-    → second ≡ (first >>= λ x. Ok (rename g x.0, rest x.1.bytes (map f x.1.refs)))
+    → Out no_cause (Leads f) (Along (Unit {0}) (Leads g)) first second → second ≡ (first >>= λ x. Ok (rename g x.0, rest x.1.bytes (map f x.1.refs)))
 natural-out f g (both-given p q v s) = (rw ((rename-along g v), ← s.bytes, ← (map-all f s.refs)) refl)
 natural-out f g (both-refused e) = refl
 natural-out f g (first-refused e r h) = absurd h
@@ -516,8 +512,7 @@ keeps_forms {A} {B} f kind_of kind_of2 parts left s m b k kinds h =
     let P : List B → Type 0 = λ l. Form B kind_of2 parts left s (rename f m) b l in subst P (map-all f p.each) p.form
 
 through-out : {A B C D : Type 0} (f : A → C) (g : B → D) (m : Meaning B) (after : Rest A) {first : Result (Meaning B × Rest A) Error} {second : Result (Meaning D × Rest C) Error}
-    → Out any_cause (Leads f) (Along (Unit {0}) (Leads g)) first second
-    → first ≡ Ok (m, after) → second ≡ Ok (rename g m, rest after.bytes (map f after.refs))
+    → Out any_cause (Leads f) (Along (Unit {0}) (Leads g)) first second → first ≡ Ok (m, after) → second ≡ Ok (rename g m, rest after.bytes (map f after.refs))
 through-out f g m after x4 e = grind (arith, nat_tests, rename-along, map-all)
 
 found-through : {B D : Type 0} (g : B → D) (r : Result B Error) (q : Result D Error) → ((b : B) → r ≡ Ok b → q ≡ Ok (g b)) → OutLook any_cause (Leads g) r q

@@ -1,16 +1,16 @@
 -- Why a load is refused whose key a page-out has published: by chance, or by a handle. And as too deep one is refused only where the reading of its key comes to a
 -- blob that lies too deep, or to one that enters a level too many.
-use Rattle.pagable_laws.proofs.Words.{nat_tests, ◌≡◌, ℕ, suc, ◌+◌, ◌≤◌, true, List, [], ◌∷◌, length, Option, Some, sym, ap, subst, ◌∙◌, inl, inr, arith, slice_get, blob_of, Error}
-use Rattle.pagable_laws.proofs.Words.{ArcRef, Kind, Identity, Blob, Meaning, Tree, type_of, is_eager, above, longest_path, identity_of, Shelf, Written, Frame, Values, reads, asks, next_in, need_of}
-use Rattle.pagable_laws.proofs.Words.{is_broken, IsPublished, MachineState, world_of, FramesFit, ReadsItsTypes, AreKeysOf, WorkFits, Needs, ◌==◌, Bool, false, ◌⊎◌, None, Err, refl, not, Want}
-use Rattle.pagable_laws.proofs.Words.{Owner, HandleNumber, LoadNumber, NodeNumber, Types, any_mode, Core, OpenLoad, of_cell, Reading, Seen, IsLawful, earlier, refused_if}
-use Rattle.pagable_laws.proofs.Words.{handle_fault, references_fault, load_fault, AreHandlesFull, Refused, AskCall, ask_fault, is_known, node_fault, needs_nested, needs_lazy, IsDecoded}
-use Rattle.pagable_laws.proofs.Words.{RefusesBlob, RefusesNode, RefusesRoot, IsOfKey, Fails, reading_at, FitsRoot, IsOfChance, IsPagedOutAs, IsLoadOfPagedOut, Ok, Mode, LoadAnswer, LoadReply, Event}
-use Rattle.pagable_laws.proofs.Words.{EventReply, or_else, LoadSteps, Happens, IsOfHandles, LoadIsFaultless, HoldsAlong, ◌<◌, Took, owner_worker, Todo, Walking, named_fault, handles_of, after_kinds}
-use Rattle.pagable_laws.proofs.Words.{LeadsDown, is-there, goes-down, ReadsTooDeep, IsReadingOf, of_worker, LoadIsDeep, AllLow, IsFresh, LazyCall, RefusesNested, reference_fault}
-use Rattle.pagable_laws.proofs.{Words.{HandleRow, row_fault}, Trees.same_some, Fitting.asked, Apart.{IsFormOf, GotAsked, FramesAsked, NextOf, asks-known, all-read, next-known, kinds_of}}
-use Rattle.pagable_laws.proofs.{Apart.{asks-by-kinds, faulty-by-kinds, all-got}, Sums.self-number, Taking.{adopted-over, eager-nested, Going, going-of}, Chains.IsGoingOn, Deeply.along-first}
-use Rattle.{pagable_laws.proofs.ReadingSteps.{reading-stands, reading-number, reading-open}, std.proofs.Common.rules, pagable_world.specs.Loads.Does}
+use Rattle.pagable_laws.proofs.Words.{ArcRef, Blob, Bool, Core, Err, Error, Event, EventReply, Frame, FramesFit, HandleNumber, HandleRow, Happens, Identity, IsLawful, IsPublished, Kind, List}
+use Rattle.pagable_laws.proofs.Words.{LoadAnswer, LoadNumber, MachineState, Meaning, Mode, NodeNumber, None, Ok, OpenLoad, Option, Owner, Reading, ReadsItsTypes, Seen, Shelf, Some, Todo, Took, Tree}
+use Rattle.pagable_laws.proofs.Words.{Types, Values, Walking, WorkFits, Written, [], above, any_mode, ap, arith, blob_of, false, identity_of, inl, inr, is_eager, length, nat_tests, next_in, not}
+use Rattle.pagable_laws.proofs.Words.{of_cell, owner_worker, references_fault, refl, rules, slice_get, subst, suc, sym, true, type_of, world_of, ℕ, ◌+◌, ◌<◌, ◌==◌, ◌∙◌, ◌∷◌, ◌≡◌, ◌≤◌, ◌⊎◌}
+use Rattle.pagable_laws.proofs.{Apart.{FramesAsked, GotAsked, IsFormOf, NextOf, all-got, all-read}, Chains.IsGoingOn, Deeply.along-first, Taking.{Going, adopted-over, asked, eager-nested, going-of}}
+use Rattle.pagable_laws.proofs.{Apart.{asks-by-kinds, asks-known, faulty-by-kinds, kinds_of, next-known}, ReadingSteps.{reading-number, reading-open, reading-stands}, Trees.{same_some, self-number}}
+use Rattle.pagable_world.specs.{Events.{LoadSteps, reading_at}, LoadCalls.{is_known, node_fault}, OneWorker.{IsLoadOfPagedOut, IsOfChance, IsPagedOutAs}, Pager.{FitsRoot, IsReadingOf, of_worker}}
+use Rattle.pagable_world.specs.{Headline.AreKeysOf, Plain.{longest_path, or_else}, Refusals.{handle_fault, load_fault, named_fault, reference_fault, refused_if, row_fault}, declared.calls.Want.Want}
+use Rattle.pagable_world.specs.{Loads.{Does, Fails, IsDecoded, IsOfKey, RefusesBlob, RefusesNested, RefusesNode, RefusesRoot, asks, handles_of, is_broken}, declared.events.LoadReply.LoadReply}
+use Rattle.pagable_world.specs.{Loads.{need_of, needs_lazy, needs_nested, reads}, Order.{LeadsDown, ReadsTooDeep, after_kinds, goes-down, is-there}, Refusals.{AreHandlesFull, Refused, earlier}}
+use Rattle.{pagable_laws.specs.{DeepLaws.{HoldsAlong, IsOfHandles, LoadIsDeep, LoadIsFaultless}, TreeSteps.{AllLow, IsFresh, Needs}}, pagable_world.specs.LoadCalls.{AskCall, LazyCall, ask_fault}}
 use Rattle.pagable_world.specs.Workers as workers
 
 -- ---- what a load reads of a key that a page-out has published: each blob is a form of a tree, asks for references whose keys are known, and lies within the path's limit
@@ -47,13 +47,10 @@ module _ {N E : Type 0} (v : Values N) (s : MachineState N E) (trees : ℕ → T
     keys : AreKeysOf shelf refs frame.blob.keys
     lows : AllLow shelf height refs
 
-  known-frame : (frame : Frame) (i : Identity) (height : ℕ) → IsPublished shelf i frame.key height → frame.node_type ≡ (trees i.node.0).type → stored frame.key ≡ Some frame.blob
-      → IsKnown frame height
+  known-frame : (frame : Frame) (i : Identity) (height : ℕ) → IsPublished shelf i frame.key height → frame.node_type ≡ (trees i.node.0).type → stored frame.key ≡ Some frame.blob → IsKnown frame height
   known-frame frame i height p typed is =
-      let f = fit.slots table i p.slot p.claimed in
-      let b = f.publishes frame.key height p.known in
-      let written : Written = b.0 in
-      let w = f.writes written b.1 in
+      let f = fit.slots table i p.slot p.claimed in let b = f.publishes frame.key height p.known in
+      let written : Written = b.0 in let w = f.writes written b.1 in
       let there : v.types.nodes frame.node_type ≡ Some w.shape = ap v.types.nodes typed ∙ w.is in
       let same : blob_of written.bytes b.2.keys ≡ frame.blob = same_some _ _ (sym b.2.is_stored ∙ is) in
       let form : IsFormOf v.types frame.node_type (blob_of written.bytes b.2.keys) written.references =
@@ -76,12 +73,9 @@ module _ {N E : Type 0} (v : Values N) (s : MachineState N E) (trees : ℕ → T
       by : NextOf frame.blob k.refs (next_in v.types frame) → IsAsked kind key height
       by (all-read own is) = absurd (let e : reads own ≡ asks kind key = sym is ∙ next in cc)
       by (asks-known place r q at there is) =
-          let e : asks r.kind q ≡ asks kind key = sym is ∙ next in
-          let kinds : r.kind ≡ kind = cc in
-          let keys : q ≡ key = cc in
-          let p = key-at shelf k.refs frame.blob.keys k.keys place r q at there in
-          let p2 = subst (λ x. IsPublished shelf (identity_of r) x p.0) keys p.1 in
-          let l = k.lows r (place, at) in
+          let e : asks r.kind q ≡ asks kind key = sym is ∙ next in let kinds : r.kind ≡ kind = cc in
+          let keys : q ≡ key = cc in let p = key-at shelf k.refs frame.blob.keys k.keys place r q at there in
+          let p2 = subst (λ x. IsPublished shelf (identity_of r) x p.0) keys p.1 in let l = k.lows r (place, at) in
           let h : l.below ≡ p.0 = let k = l.known in grind (arith, same_some) in
           record { r = r; below = p.0; known = p2; of_kind = kinds; within = subst (λ (x : Kind). above x.0 p.0 ≤ height) kinds (subst (λ x. above r.kind.0 x ≤ height) h l.within) }
 
@@ -108,8 +102,7 @@ module _ {N E : Type 0} (v : Values N) (s : MachineState N E) (trees : ℕ → T
         let f = fit.slots table (identity_of a.r) a.known.slot a.known.claimed in
         let right : frame.node_type ≡ (trees a.r.node.0).type = of_type ∙ ap (λ (x : Kind). type_of x.0) (sym a.of_kind) ∙ sym f.typed in
         let k = known-frame frame (identity_of a.r) a.below a.known right fits.is in
-        let le = above-eager frame.kind.0 a.below u.height eager a.within in
-        let le2 = u.left in
+        let le = above-eager frame.kind.0 a.below u.height eager a.within in let le2 = u.left in
         record { height = a.below; known = k; left = omega (arith, le, le2) }
 
     -- what a load needs that reads it
@@ -203,9 +196,7 @@ module _ {N B W E : Type 0} (m : Seen N B W) (s : MachineState N E) (trees : ℕ
 
     -- the tree that it reads
     typed : (trees out.i.node.0).type ≡ reading.node_type
-    typed =
-        let r = on.stands.pager.loads l.0 load paged.0 paged.1 paged.2 open_load paged.3 in
-        ap (λ n. (trees n).type) out.of_node ∙ r.typed ∙ sym of-type
+    typed = let r = on.stands.pager.loads l.0 load paged.0 paged.1 paged.2 open_load paged.3 in ap (λ n. (trees n).type) out.of_node ∙ r.typed ∙ sym of-type
 
     found : (blob : Blob) × (w.stored load.key ≡ Some blob)
     found = let b = (on.fits.slots out.t out.i out.known.slot out.known.claimed).publishes load.key out.height out.known.known in (_, b.2.is_stored)
@@ -242,11 +233,6 @@ module _ {N B W E : Type 0} (m : Seen N B W) (s : MachineState N E) (trees : ℕ
       | inr (other, owned, vain) ↦ (grind (arith, nat_tests))
     ]
 
-    of-blob : (e : Error) → RefusesBlob v reading e → IsOfChance e
-    of-blob e (inl is) = absurd (not-broken v s trees on.fits readable out.t load.key reading.node_type out.i out.height out.known typed reading.frames fits going.asked e is)
-    of-blob e (inr (inl (top, below, is, causes))) = (grind (arith, nat_tests))
-    of-blob e (inr (inr memory)) = (subst IsOfChance (sym memory) tt)
-
     of-lazy : (mid : Core) (e : Error) (kind : Kind) (key : ℕ) → need_of v.types reading.frames ≡ needs_lazy kind key → LazyCall w Owner.Caller reading.load kind key (Err e) mid → IsOfChance e
     of-lazy mid e kind key needs c = only-refused {P = IsOfChance} e c.refused
         (only-earlier _ _ (no-load-fault _) (only-earlier _ _ (λ f so. absurd (never _ Error.WrongKind f (grind (arith, nat_tests)) so)) (only-node IsOfChance w kind key tt))) tt
@@ -279,7 +265,7 @@ module _ {N B W E : Type 0} (m : Seen N B W) (s : MachineState N E) (trees : ℕ
         let same : c.may.load ≡ load = same_some _ _ (sym c.may.owned.stands_open ∙ (ap (λ (x : LoadNumber). w.loads x.0) number ∙ open_load)) in
         by-handle c.node (v.node_type r.x) c.h (ap (λ (x : OpenLoad). x.root) (sym same) ∙ c.may.of_node) c.why
     cause w' e (inl gives) = elim gives.meets [
-      | inl (refuses, a) ↦ by-chance (of-blob e refuses)
+      | inl (refuses, a) ↦ by-chance (grind (arith, nat_tests, not-broken v s trees on.fits readable out.t load.key reading.node_type out.i out.height out.known typed reading.frames fits going.asked))
       | inr (inl (first, asked)) ↦ by-chance (grind (arith, nat_tests, ask-chance, same_some, number, found))
       | inr (inr (inl (kind, key, needs, inl asked))) ↦ let n = need-there kind key (inl needs) in by-chance (nested-asked kind key n.0 gives.mid e n.1 asked)
       | inr (inr (inl (kind, key, needs, inr (blob, is, deep, asked)))) ↦ absurd (let n = (need-there kind key (inl needs)).2 (front reading.frames kind key needs) in omega arith)
@@ -296,14 +282,10 @@ by-row w r b row e is = grind (arith, nat_tests)
 of-reference : (w : Core) (owner : Owner) (seen : List ℕ) (r : ArcRef) → Only IsOfHandles (reference_fault w owner seen r)
 of-reference w owner seen r e is = grind (arith, nat_tests, by-row)
 
-only-else : {P : Error → Type 0} (a b : Option Error) → Only P a → Only P b → Only P (or_else a b)
-only-else None b first second e is = second e is
-only-else (Some f) b first second e is = first e is
-
 pub by-all : (w : Core) (owner : Owner) (seen : List ℕ) (rs : List ArcRef) → Only IsOfHandles (references_fault w owner seen rs)
 unfolding references_fault
 by-all w owner seen [] e is = absurd (cc)
-by-all w owner seen (r ∷ rs) e is = only-else {P = IsOfHandles} _ _ (of-reference w owner seen r) (by-all w owner (r.handle.0 ∷ seen) rs) e is
+by-all w owner seen (r ∷ rs) e is = grind (arith, nat_tests, of-reference, by-all w owner (r.handle.0 ∷ seen) rs)
 
 pub by-handle-row : (w : Core) (me : Owner) (h : HandleNumber) (fits : Mode → Bool) (e : Error) → handle_fault w me h fits ≡ Some e → IsOfHandles e
 by-handle-row w me h fits e is = grind (arith, nat_tests)
@@ -313,8 +295,7 @@ by-handle-row w me h fits e is = grind (arith, nat_tests)
 module _ {N B W E : Type 0} (m : Seen N B W) (lawful : IsLawful m.values) (readable : ReadsItsTypes m.values.types) (s s' : MachineState N E) (trees trees' : ℕ → Tree)
     (on : IsGoingOn m.values s trees) where
   pub load-cause : (l : LoadNumber) (reply : LoadReply N) (x : LoadSteps m.values (world_of s) l reply (world_of s')) (load : OpenLoad) (e : Error) → s.pager.core.loads l.0 ≡ Some load
-      → IsLoadOfPagedOut s load → reply.ended ≡ Some (LoadAnswer.Refused e)
-      → Cause m.values s.pager.core load x.reading e
+      → IsLoadOfPagedOut s load → reply.ended ≡ Some (LoadAnswer.Refused e) → Cause m.values s.pager.core load x.reading e
   load-cause l reply x load e open_load paged is =
       let fails = subst (λ a. Does m.values s.pager.core Owner.Caller x.reading a x.frames s'.pager.core) is x.does.does in
       cause m s trees on lawful readable l x.reading load x.at x.may open_load paged s'.pager.core e fails.0
@@ -330,26 +311,26 @@ faultless_law E m start moments trees whole idle chain stands lawful readable se
 -- ---- what isn't refused as too deep
 
 abbrev NotDeep : Error → Type 0
-NotDeep e = e ≡ Error.TooDeep → ⊥
+NotDeep Error.TooDeep = ⊥
+NotDeep e = Unit {0}
 
 only-load : (w : Core) (me : Owner) (l : LoadNumber) → Only NotDeep (load_fault w me l)
-only-load w me l e is deep = grind (arith, nat_tests)
+only-load w me l e is = grind (arith, nat_tests)
 
 only-named : (w : Core) (owner : Owner) (seen : List ℕ) (hs : List HandleNumber) → Only NotDeep (named_fault w owner seen hs)
 unfolding named_fault
-only-named v owner seen [] e is deep = cc
-only-named v owner seen (h ∷ hs) e is deep = only-earlier {P = NotDeep} _ _ (λ f so deep. grind (arith, nat_tests)) (only-named v owner (h.0 ∷ seen) hs) e is deep
+only-named v owner seen [] e is = absurd (cc)
+only-named v owner seen (h ∷ hs) e is = only-earlier {P = NotDeep} _ _ (λ f so. grind (arith, nat_tests)) (only-named v owner (h.0 ∷ seen) hs) e is
 
 not-refused : {cause before : Option Error} {full : Type 0} {w w' : Core} → Refused cause before full w Error.TooDeep w' → Only NotDeep cause → ⊥
-not-refused r none = only-refused {P = NotDeep} Error.TooDeep r none (λ e. absurd (cc)) refl
+not-refused r none = only-refused {P = NotDeep} Error.TooDeep r none tt
 
 -- ---- a path down
 
 module _ (types : Types) (stored : ℕ → Option Blob) where
   -- a path goes on by one more reference
   goes-further : {t key n u last : ℕ} (blob : Blob) (kinds : List ℕ) (kind : Kind) (child : ℕ) → LeadsDown types stored t key n u last → stored last ≡ Some blob
-      → after_kinds types u blob kinds ≡ asks kind child → is_eager kind.0 ≡ true
-      → LeadsDown types stored t key (n + 1) (type_of kind.0) child
+      → after_kinds types u blob kinds ≡ asks kind child → is_eager kind.0 ≡ true → LeadsDown types stored t key (n + 1) (type_of kind.0) child
   goes-further blob kinds kind child (is-there t key) is next eager = goes-down t key child 0 (0 + 1) (type_of kind.0) child blob kinds kind refl is next eager (is-there (type_of kind.0) child)
   goes-further blob kinds kind child (goes-down t key c n longer u last b ks k e at step own more) is next eager =
       goes-down t key c (n + 1) (longer + 1) (type_of kind.0) child b ks k (omega (arith, e)) at step own (goes-further blob kinds kind child more is next eager)
@@ -364,12 +345,10 @@ module _ (types : Types) (stored : ℕ → Option Blob) where
         let u = down-to under rest more more_asked in
         let step = asks-by-kinds types under.node_type under.blob under.got frame.kind frame.key next in
         let d = goes-further under.blob (kinds_of under.got) frame.kind frame.key u.0 u.1 step eager in
-        let long : length rest + 1 ≡ length (under ∷ rest) = omega arith in
-        grind (arith, nat_tests)
+        let long : length rest + 1 ≡ length (under ∷ rest) = omega arith in grind (arith, nat_tests)
 
     of-path : (frames : List Frame) → FramesFit types stored trees root_key root_type frames → FramesAsked types frames → (kind : Kind) (key : ℕ) (blob : Blob)
-        → need_of types frames ≡ needs_nested kind key → stored key ≡ Some blob
-        → longest_path < length frames → ReadsTooDeep types stored root_type root_key
+        → need_of types frames ≡ needs_nested kind key → stored key ≡ Some blob → longest_path < length frames → ReadsTooDeep types stored root_type root_key
     of-path [] fits got kind key blob needs is long = absurd (cc)
     of-path (top ∷ below) fits got kind key blob needs is long =
         let d = down-to top below fits got in
@@ -392,14 +371,14 @@ module _ {N B W : Type 0} (m : Seen N B W) (lawful : IsLawful m.values) (w : Cor
   nested-deep u x1 = grind (arith, nat_tests, not-asked, of-path)
 
   by-references-not : (x : N) → Only NotDeep (references_fault w (Owner.Load reading.load) [] (m.values.references x))
-  by-references-not x e is deep = subst IsOfHandles deep (by-all w (Owner.Load reading.load) [] (m.values.references x) e is)
+  by-references-not x e is = let of = by-all w (Owner.Load reading.load) [] (m.values.references x) e is in grind (arith, nat_tests)
 
   root-not : (u : Core) → RefusesRoot m.values w me reading Error.TooDeep u → ⊥
   root-not u r = elim r.refuses [
     | inl (is, ended) ↦ not-refused ended.refused.1 (only-earlier _ _ (only-load w me reading.load)
-        (only-earlier _ _ (λ e is deep. grind (arith, nat_tests, only-earlier {P = NotDeep}, only-if NotDeep)) (by-references-not r.x)))
-    | inr (is, handed) ↦ only-earlier {P = NotDeep} _ _ (only-load w me reading.load) (only-earlier _ _ (λ e is deep. grind (arith, nat_tests)) (only-named w (Owner.Load reading.load) [] (handles_of
-        (m.values.references r.x)))) Error.TooDeep handed.refused.0 refl
+        (only-earlier _ _ (λ e is. grind (arith, nat_tests, only-earlier {P = NotDeep}, only-if NotDeep)) (by-references-not r.x)))
+    | inr (is, handed) ↦ only-earlier {P = NotDeep} _ _ (only-load w me reading.load) (only-earlier _ _ (λ e is. grind (arith, nat_tests)) (only-named w (Owner.Load reading.load) [] (handles_of
+        (m.values.references r.x)))) Error.TooDeep handed.refused.0
   ]
 
   pub fails-deep : (w' : Core) → Fails m.values w me reading Error.TooDeep w' → Deep
@@ -408,12 +387,8 @@ module _ {N B W : Type 0} (m : Seen N B W) (lawful : IsLawful m.values) (w : Cor
     | inl (refuses, a) ↦ (grind (arith, nat_tests, down-to, kinds_of, faulty-by-kinds, next_in))
     | inr (inl (first, c)) ↦ absurd (not-asked Want.Root gives.mid c)
     | inr (inr (inl nested)) ↦ nested-deep gives.mid nested
-    | inr (inr (inr (inl (kind, key, needs, c)))) ↦
-        absurd (not-refused c.refused (only-earlier _ _ (only-load w me reading.load) (only-earlier _ _ (only-if NotDeep _ Error.WrongKind (λ e. cc)) (only-node NotDeep w kind key (λ e. cc)))))
-    | inr (inr (inr (inr (inl node)))) ↦
-        absurd (not-refused node.adopted.refused.1 (only-earlier _ _ (only-load w me reading.load) (only-earlier _ _ (only-if NotDeep _ Error.WrongMode (λ e. cc))
-        (only-earlier _ _ (only-if NotDeep _ Error.WrongKind (λ e. cc))
-        (only-earlier _ _ (by-references-not node.x) (only-node NotDeep w node.reads_node.top.kind node.reads_node.top.key (λ e. cc)))))))
+    | inr (inr (inr (inl (kind, key, needs, c)))) ↦ absurd (not-refused c.refused (search (rules, only-earlier {P = NotDeep}, only-load, only-if NotDeep, only-node NotDeep)))
+    | inr (inr (inr (inr (inl node)))) ↦ absurd (not-refused node.adopted.refused.1 (search (rules, only-earlier {P = NotDeep}, only-load, only-if NotDeep, by-references-not, only-node NotDeep)))
     | inr (inr (inr (inr (inr root)))) ↦ absurd (root-not gives.mid root)
   ]
 
@@ -421,21 +396,18 @@ module _ {N B W : Type 0} (m : Seen N B W) (lawful : IsLawful m.values) (w : Cor
 
 module _ {N B W E : Type 0} (m : Seen N B W) (lawful : IsLawful m.values) (s s' : MachineState N E) (trees trees' : ℕ → Tree) (on : IsGoingOn m.values s trees) where
   by-reading : (me : Owner) (reading : Reading) (load : OpenLoad) → IsReadingOf s.work reading ⊎ IsFresh s.pager.core reading → s.pager.core.loads reading.load.0 ≡ Some load → (w' : Core)
-      → Fails m.values s.pager.core me reading Error.TooDeep w'
-      → ReadsTooDeep m.values.types s.pager.core.stored reading.node_type load.key
+      → Fails m.values s.pager.core me reading Error.TooDeep w' → ReadsTooDeep m.values.types s.pager.core.stored reading.node_type load.key
   by-reading me reading load stands open_load w' fails =
       let g = going-of s trees on.readings reading stands in fails-deep m lawful s.pager.core me reading trees load.key reading.node_type (g.fits load open_load) g.asked w' fails
 
   load-deep : (event : Event N B W) (reply : EventReply N B W) → Happens m (world_of s) event reply (world_of s') → LoadIsDeep m.values s trees event reply s' trees'
   load-deep (Event.LoadStep l) (EventReply.LoadMoved (Ok reply)) is = λ reading load at open_load ended.
-      let x = is.moves in
-      let same : x.reading ≡ reading = same_some _ _ (sym x.at ∙ at) in
+      let x = is.moves in let same : x.reading ≡ reading = same_some _ _ (sym x.at ∙ at) in
       let fails = subst (λ a. Does m.values s.pager.core Owner.Caller x.reading a x.frames s'.pager.core) ended x.does.does in
       subst (λ (r : Reading). ReadsTooDeep m.values.types s.pager.core.stored r.node_type load.key) same
       (by-reading Owner.Caller x.reading load (reading-stands (world_of s) on.whole.pager.whole l x.reading x.at) (reading-open s on.whole l x.reading x.at open_load) s'.pager.core fails.0)
   load-deep (Event.WorkerStep n) (EventReply.WorkerMoved (Ok reply)) is = λ walking r place through reading below load i there todo open_load taken.
-      let x = is.moves in
-      let same : x.walking ≡ walking = same_some _ _ (sym x.at ∙ there) in
+      let x = is.moves in let same : x.walking ≡ walking = same_some _ _ (sym x.at ∙ there) in
       let front = ap (λ (y : Walking). y.todo) same ∙ todo in
       let does =
       subst (λ (k : Took W). workers.Does m n.0 (record { core = s.pager.core; shelf = s.work.shelves x.walking.table; todo = x.walking.todo }) x.walking.todo k x.after) taken x.does.does in

@@ -1,12 +1,13 @@
 -- An event leaves each handle of a worker as it is that doesn't make it, and what the cache gives for a kind and a key, where the node is held before and after. What a worker's step
 -- does leaves the handles of the list too, so that this gets no shorter.
-pub use Rattle.pagable_laws.proofs.Effects.{named-among, IsEntered, entered-of, Spares, spares-then}
-use Rattle.pagable_laws.proofs.Words.{◌≡◌, ℕ, ◌≤◌, ◌==◌, ◌&&◌, Bool, false, List, [], ◌∷◌, Option, Some, None, refl, ap, sym, ◌∙◌, arith, Result, length, sum_by-cons, times, and_parts, nat_tests}
-use Rattle.pagable_laws.proofs.Words.{Error, Among, one, zero, suc, Owner, HandleNumber, HandleRow, Core, find_row, is_handle, is_owned_by, owner_worker, OwnersAreThere, Event, EventReply, Happens}
-use Rattle.pagable_laws.proofs.Words.{KeepsOpen, LeavesCache, nothing_felt, ReleaseCall, Seen, Site, Took, WorkerAnswer, World, step_of, HandlesAreWhole, IsWhole, Ends, slice_get_within}
-use Rattle.pagable_laws.proofs.{Words.get_or_from_slice_get, Effects.{Effect, IsOther, list-apart, Lasts}, ReadingSteps.{event-goes, walk-goes, ends-spare}, Called.releases, GoodReferences.same-owner}
-use Rattle.pagable_laws.proofs.{Goes.found-number, Outlasting.{stands-whole, among-found, none-found, once}, Following.{handles-once, one-less}, Sums.{same-number, self-number, at-most-sum, counted}}
-use Rattle.{pagable_laws.proofs.Sums.{one-true, sum-le}, std.{proofs.{Common.get_or, lemmas.List.{Sums.sum_by-remove, Edits.length-remove}}, specs.List.remove}}
+use Rattle.pagable_laws.proofs.Words.{Bool, Core, Error, Event, EventReply, HandleNumber, HandleRow, HandlesAreWhole, Happens, KeepsOpen, List, None, Option, Owner, Result, Seen, Site, Some, Took}
+use Rattle.pagable_laws.proofs.Words.{WorkerAnswer, World, [], and_parts, ap, arith, false, find_row, is_handle, is_owned_by, length, nat_tests, nothing_felt, one, owner_worker, refl}
+use Rattle.pagable_laws.proofs.{Called.releases, Effects.{Effect, IsOther, Lasts, list-apart}, Following.{handles-once, one-less}, Goes.{among-found, found-number, none-found, once, stands-whole}}
+use Rattle.pagable_laws.proofs.{GoodReferences.same-owner, ReadingSteps.{ends-spare, event-goes, walk-goes}, Trees.{at-most-sum, counted, one-true, same-number, self-number, sum-le}, Words.Among}
+use Rattle.std.{proofs.lemmas.Option.get_or_from_slice_get, specs.List.remove}
+use Rattle.{pagable_laws.proofs.Words.{slice_get_within, step_of, suc, sum_by-cons, sym, times, zero, ℕ, ◌&&◌, ◌==◌, ◌∙◌, ◌∷◌, ◌≡◌, ◌≤◌}, pagable_world.specs.{Calls.ReleaseCall, Events.Ends}}
+use Rattle.{pagable_world.specs.{OneWorker.LeavesCache, Pager.{IsWhole, OwnersAreThere}}, std.proofs.{Common.get_or, lemmas.List.{Edits.length-remove, Sums.sum_by-remove}}}
+pub use Rattle.pagable_laws.proofs.Effects.{IsEntered, Spares, entered-of, named-among, spares-then}
 use Rattle.pagable_world.specs.Workers as workers
 
 pub event-spares : {N B W : Type 0} (m : Seen N B W) (v : ℕ) (u u' : World) → OwnersAreThere u.core → (event : Event N B W) (reply : EventReply N B W) → step_of v event reply ≡ [] → KeepsOpen event
@@ -50,8 +51,7 @@ fewer (x ∷ xs) ys le =
     let same : (get_or ys y.1.0 y.0).0 ≡ x.0 = ap (λ (h : HandleNumber). h.0) (get_or_from_slice_get ys y.1.0 y.0 y.0 y.1.1) ∙ same-number _ _ (one-true _ y.2) in
     let rest = fewer xs (remove ys y.1.0) (λ q. let a = le q in let b = sum_by-cons (λ h. one (has q h)) x xs in
     let c = sum_by-remove (λ h. one (has q h)) ys y.1.0 y.0 lt in grind (arith, nat_tests)) in
-    let shorter = length-remove ys y.1.0 lt in
-    omega (arith, rest, shorter)
+    let shorter = length-remove ys y.1.0 lt in omega (arith, rest, shorter)
 
 pub found : {w : Core} → HandlesAreWhole w → (q : ℕ) (x : HandleRow) → Among w.rows x → x.number.0 ≡ q → find_row q w.rows ≡ Some x
 found {w} whole q x among is = by (find_row q w.rows) refl
@@ -75,7 +75,5 @@ none-shorter {w} {w'} whole whole' spares = fewer w.list w'.list (λ q. each q (
         let there = at-most-sum (λ h. one (own q h)) w'.rows x.0 (among-found q w'.rows x.0 s.live) in
         let few = handles-once whole.handles q in
         let le = sum-le (λ h. one (own q h)) (λ h. one (is_handle q h)) w.rows (λ h among. one-less (is_handle q h) (is_owned_by Owner.List h)) in
-        let a = whole.owners_there.listed q in
-        let b = whole'.owners_there.listed q in
-        let c = x.2 in
+        let a = whole.owners_there.listed q in let b = whole'.owners_there.listed q in let c = x.2 in
         omega (arith, there, few, le, a, b, c)

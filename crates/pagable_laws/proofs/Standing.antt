@@ -1,10 +1,10 @@
 -- What a worker's step does to the slots of its table: each grows, and only those of the worker change.
-use Rattle.pagable_laws.proofs.Words.{◌≡◌, ℕ, ◌==◌, ◌⊎◌, Bool, true, false, refl, ap, sym, subst, ◌∙◌, arith, Option, Some, None, nat_eq, if◌then◌else◌, nat_tests, and_parts, Identity, if_there}
-use Rattle.pagable_laws.proofs.Words.{Shelf, Slot, Outcome, failed, Written, Task, is_identity, SameShelf, with_slot, with_changed_slot, with_outcome, with_failed, is_open_outcome, IsPublished, Meets}
-use Rattle.pagable_laws.proofs.Words.{meets-of-item, meets-entry, meets-below, ◌≤◌, ◌||◌, List, [], ◌∷◌, is_some, WorkerAnswer, identity_of, no_result, Todo, to_start, to_pin, to_load, to_write}
-use Rattle.pagable_laws.proofs.Words.{to_finish, to_item, to_set, to_publish, to_release, to_fail, of_item, Walking, suc, ◌++◌, inl, inr, drop, max, ArcRef, HandleNumber, Among, above, Open, Fault}
-use Rattle.pagable_laws.proofs.{Words.{next_start, settle, give, published, open_node, ◌<◌, of_entry, first_todo, Follows, Took}, Sums.same-number}
-use Rattle.std.proofs.{Common.rules, lemmas.Bool.{or_cases, or_left, or_right, false_from_ne_true, cases_Bool}}
+use Rattle.pagable_laws.proofs.Words.{Written, [], above, and_parts, ap, arith, cases_Bool, drop, false, false_from_ne_true, give, identity_of, if_there, if◌then◌else◌, inl, inr, is_some, max, nat_eq}
+use Rattle.pagable_laws.proofs.Words.{nat_tests, no_result, of_entry, of_item, refl, rules, subst, suc, sym, to_fail, to_finish, to_item, to_load, to_pin, to_release, to_set, to_start, to_write, true}
+use Rattle.pagable_laws.proofs.{Trees.same-number, Words.{Among, ArcRef, Bool, HandleNumber, Identity, IsPublished, List, None, Option, Shelf, Slot, Some, Task, Todo, Took, Walking, WorkerAnswer}}
+use Rattle.pagable_world.specs.{Workers.{first_todo, is_open_outcome, next_start, open_node, settle, with_changed_slot, with_failed, with_outcome, with_slot}, World.{Fault, Open, Outcome, SameShelf}}
+use Rattle.{pagable_laws.proofs.Words.{ℕ, ◌++◌, ◌<◌, ◌==◌, ◌||◌, ◌∙◌, ◌∷◌, ◌≡◌, ◌≤◌, ◌⊎◌}, pagable_world.specs.{Headline.{Meets, meets-below, meets-entry, meets-of-item}, Order.Follows}}
+use Rattle.{pagable_world.specs.World.{failed, is_identity, published, to_publish}, std.proofs.lemmas.Bool.{or_cases, or_left, or_right}}
 
 -- the slot has the same worker, and what was written and the result stay
 pub record SlotGrows (slot slot' : Slot) : Type 0 where
@@ -55,7 +55,6 @@ is-self i = let a : (i.kind.0 == i.kind.0) ≡ true = grind (arith, nat_tests) i
 pub is-same : (i j : Identity) → is_identity i j ≡ true → j ≡ i
 is-same i j is = grind (arith, and_parts, same-number)
 
--- one slot is put in
 pub record PutsSlot (slots slots' : Identity → Option Slot) (i : Identity) (slot : Slot) : Type 0 where
   pub at : slots' i ≡ Some slot
   pub elsewhere : (j : Identity) → is_identity i j ≡ false → slots' j ≡ slots j
@@ -120,7 +119,6 @@ WaitsWell [] = Unit {0}
 WaitsWell (to_fail fault back ∷ below) = Unit {0}
 WaitsWell (x ∷ below) = AllWait below
 
--- whether the walk is about to fail
 abbrev pub is_failing : List Todo → Bool
 is_failing (to_fail fault back ∷ below) = true
 is_failing todo = false
@@ -163,7 +161,6 @@ AllStand shelf v task (x ∷ below) = Stands shelf v task x below × ((i : Ident
 abbrev pub Covers : Shelf → ℕ → List Todo → Type 0
 Covers shelf v todo = (i : Identity) (slot : Slot) → shelf.slots i ≡ Some slot → slot.worker ≡ v → slot.outcome ≡ no_result → (is_failing todo || is_open_in i todo) ≡ true
 
--- none of the worker's claims has failed
 abbrev pub HasNoFailed : Shelf → ℕ → Type 0
 HasNoFailed shelf v = (i : Identity) (slot : Slot) → shelf.slots i ≡ Some slot → slot.worker ≡ v → is_failed slot.outcome ≡ false
 
@@ -189,7 +186,6 @@ pub record WorkStands (shelves : ℕ → Shelf) (walkings : ℕ → Option Walki
   pub numbered : (v : ℕ) (walking : Walking) → walkings v ≡ Some walking → v ≤ last
 
 -- below what is done next written nodes and an item wait again after a step
-
 pub follows-waits : {W : Type 0} (f : W → Written) (todo : List Todo) (step : Took W) (next : List Todo) → Follows f todo step next → WaitsWell todo → WaitsWell next
 unfolding AllWait
 follows-waits f x1 x2 next x4 waits = grind (arith, nat_tests)
@@ -212,8 +208,6 @@ module _ (u : ℕ) (task : Task) (shelf shelf' : Shelf) (more : ShelfGrows shelf
     apart,
     all-stay below (λ i is. keeps i (or_right (is_open_of i x) (is_open_in i below) is)) rest,
   )
-
--- ---- one worker
 
 module _ (v : ℕ) (task : Task) where
   module _ (shelf : Shelf) (i : Identity) where
@@ -239,7 +233,6 @@ module _ (v : ℕ) (task : Task) where
     pub done : (a : WorkerAnswer) → answer ≡ Some a → todo ≡ []
     pub met : (i : Identity) (slot : Slot) → shelf.slots i ≡ None → shelf'.slots i ≡ Some slot → Meets shelf' task i
 
-  -- the same slots
   module _ (shelf shelf' : Shelf) (same : (i : Identity) → shelf'.slots i ≡ shelf.slots i) where
     pub plain : (answer : Option WorkerAnswer) (todo : List Todo) → ((a : WorkerAnswer) → answer ≡ Some a → todo ≡ []) → AllStand shelf v task todo → CoversBy shelf todo
         → Goes shelf answer shelf' todo
@@ -253,10 +246,7 @@ module _ (v : ℕ) (task : Task) where
     pub swaps : (x y : Todo) (below : List Todo) → AllStand shelf v task (x ∷ below) → CoversBy shelf (x ∷ below) → ((i : Identity) → is_open_of i y ≡ is_open_of i x)
         → (Stands shelf v task x below → Stands shelf v task y below) → Goes shelf None shelf' (y ∷ below)
     unfolding AllStand is_open_in
-    swaps x y below (stands, apart, rest) covers about goes =
-        plain None (y ∷ below) (λ a is. absurd (cc)) (goes stands, grind (arith, nat_tests), rest) (grind (arith, nat_tests))
-
-  -- ---- references are started
+    swaps x y below (stands, apart, rest) covers about goes = plain None (y ∷ below) (λ a is. absurd (cc)) (goes stands, grind (arith, nat_tests), rest) (grind (arith, nat_tests))
 
   among-drop : (k : ℕ) (rs : List ArcRef) (r : ArcRef) → Among (drop k rs) r → Among rs r
   among-drop (suc k) (x ∷ rs) r among = let a = among-drop k rs r among in (suc a.0, a.1)
@@ -301,7 +291,6 @@ module _ (v : ℕ) (task : Task) (shelf shelf' : Shelf) where
       → AllStand shelf' v task todo → Covers shelf' v todo → Goes v task shelf None shelf' todo
   own-goes i new todo puts changes meets good all covers = grind (arith, nat_tests, put-cases, some-none)
 
-  -- the identity is claimed
   pub claimed : (r : ArcRef) (place : ℕ) (below : List Todo) → AllStand shelf v task (to_start r place ∷ below) → CoversBy v task shelf (to_start r place ∷ below) → shelf.slots (identity_of r) ≡ None
       → PutsSlot shelf.slots shelf'.slots (identity_of r) new-slot → Goes v task shelf None shelf' (to_pin r place ∷ below)
   unfolding AllStand is_open_in
@@ -313,7 +302,6 @@ module _ (v : ℕ) (task : Task) (shelf shelf' : Shelf) where
       own-goes (identity_of r) new-slot _ puts changes meets_now refl (grind (arith, nat_tests, all-stay, false_from_ne_true, true-false, is-same, is-self))
       (grind (arith, nat_tests, put-cases, identity_of, new-slot, is_open_in, or_right, is_identity, or_left, is-self))
 
-  -- the value is written
   pub written-goes : (r : ArcRef) (place : ℕ) (through : HandleNumber) (written : Written) (below : List Todo) → AllStand shelf v task (to_write r place through ∷ below)
       → CoversBy v task shelf (to_write r place through ∷ below)
       → SameShelf (with_changed_slot shelf (identity_of r) (λ slot. record slot { written = Some written })) shelf' → Goes v task shelf None shelf' (open_node r place through written below)
@@ -327,7 +315,6 @@ module _ (v : ℕ) (task : Task) (shelf shelf' : Shelf) where
       own-goes (identity_of r) new _ puts changes meets_now (ap is_failed c.no_result_yet) (settles v task shelf' o below
       (grind (arith, nat_tests, all-stay, false_from_ne_true, true-false, is-same, is-self))) (grind (arith, nat_tests, or_right, started-open, put-cases, is_identity, or_left, is-self))
 
-  -- key and height are published
   pub published-goes : (r : ArcRef) (key height : ℕ) (below : List Todo) → AllStand shelf v task (to_publish r key height ∷ below) → CoversBy v task shelf (to_publish r key height ∷ below)
       → SameShelf (with_changed_slot shelf (identity_of r) (with_outcome (published key height))) shelf' → Goes v task shelf None shelf' (to_release r key height ∷ below)
   unfolding AllStand is_open_in
@@ -339,11 +326,9 @@ module _ (v : ℕ) (task : Task) (shelf shelf' : Shelf) where
       own-goes (identity_of r) new _ puts changes meets_now (grind arith) (grind (arith, nat_tests, all-stay, false_from_ne_true, true-false, is-same, is-self))
       (grind (arith, nat_tests, put-cases, or_cases, true-false, is-same, is-self))
 
-  -- all goes
   pub failed-goes : (answer : WorkerAnswer) → SameShelf (with_failed shelf v) shelf' → Goes v task shelf (Some answer) shelf' []
   unfolding AllStand is_open_in
-  failed-goes answer same =
-      let changes = fails-own v shelf shelf' same in let slots = same.slots in grind (arith, nat_tests, some-none, some-same)
+  failed-goes answer same = let changes = fails-own v shelf shelf' same in let slots = same.slots in grind (arith, nat_tests, some-none, some-same)
 
 -- What stands of all workers and tables goes on to stand, by what an event does to them.
 
@@ -351,13 +336,10 @@ pub same-worker : (a b : ℕ) → nat_eq a b ≡ true → a ≡ b
 same-worker a b e = grind (arith, nat_tests)
 
 -- one worker, where what it claimed stays as it was
-walking-stays : (v : ℕ) (w : Walking) (shelf shelf' : Shelf) → ShelfGrows shelf shelf'
-    → ((i : Identity) (slot : Slot) → shelf.slots i ≡ Some slot → slot.worker ≡ v → shelf'.slots i ≡ Some slot)
-    → ((i : Identity) (slot : Slot) → shelf'.slots i ≡ Some slot → slot.worker ≡ v → shelf.slots i ≡ Some slot)
-    → WalkingStands shelf v w → WalkingStands shelf' v w
+walking-stays : (v : ℕ) (w : Walking) (shelf shelf' : Shelf) → ShelfGrows shelf shelf' → ((i : Identity) (slot : Slot) → shelf.slots i ≡ Some slot → slot.worker ≡ v → shelf'.slots i ≡ Some slot)
+    → ((i : Identity) (slot : Slot) → shelf'.slots i ≡ Some slot → slot.worker ≡ v → shelf.slots i ≡ Some slot) → WalkingStands shelf v w → WalkingStands shelf' v w
 walking-stays v w shelf shelf' more stay were stands = grind (arith, all-stay)
 
--- a worker that keeps its table and its task
 pub record KeepsTask (walkings' : ℕ → Option Walking) (u : ℕ) (w : Walking) : Type 0 where
   pub now : Walking
   pub there : walkings' u ≡ Some now
@@ -387,15 +369,11 @@ module _ (v : ℕ) (shelves shelves' : ℕ → Shelf) (walkings walkings' : ℕ 
       grind (arith, nat_tests, cases_Bool (nat_eq u v), same-worker, walking-stays u w (shelves w.table) (shelves' w.table) more, c, some-none, some-same, turned.others u, work.workers u w) in
       grind (arith, nat_tests, each, met-stays, some-same, cases_Bool, nat_eq, same-worker)
 
--- at first each stands
 pub first-stands : (shelf : Shelf) (v : ℕ) (task : Task) → AllStand shelf v task (first_todo task)
 unfolding AllStand is_open_in
 first-stands shelf v (of_item written) = item-settles v (of_item written) shelf written [] [] ((refl, refl), (λ i is. absurd (cc)), tt)
 first-stands shelf v (of_entry h i) = (meets-entry h i refl, (λ j is. absurd (cc)), tt)
 
--- ---- the events
-
--- the same claims on each table
 abbrev pub SameSlots : (ℕ → Shelf) → (ℕ → Shelf) → Type 0
 SameSlots shelves shelves' = (t : ℕ) (i : Identity) → (shelves' t).slots i ≡ (shelves t).slots i
 
@@ -416,7 +394,6 @@ module _ (shelves shelves' : ℕ → Shelf) (walkings walkings' : ℕ → Option
       let few = work.numbered slot.worker s.walking s.there in
       omega arith
 
-  -- a worker starts
   pub is-started : (v : ℕ) (new : Walking) → last < v → new.todo ≡ first_todo new.task → new.answer ≡ None → walkings' v ≡ Some new
       → ((u : ℕ) → nat_eq u v ≡ false → walkings' u ≡ walkings u) → Turned v shelves shelves' walkings walkings'
   unfolding AllWait
@@ -426,12 +403,9 @@ module _ (shelves shelves' : ℕ → Shelf) (walkings walkings' : ℕ → Option
       (let all = first-stands (shelves' new.table) v new.task in grind (arith, nat_tests, all, unclaimed v new.table, some-none)) in
       grind (arith, nat_tests, some-none, changes, stands, work.numbered v)
 
--- a worker makes a step
 pub is-stepped : (v : ℕ) (shelves shelves' : ℕ → Shelf) (walkings walkings' : ℕ → Option Walking) (w now : Walking) → walkings v ≡ Some w → walkings' v ≡ Some now → now.table ≡ w.table
-    → now.task ≡ w.task
-    → ((u : ℕ) → nat_eq u v ≡ false → walkings' u ≡ walkings u) → ((t : ℕ) → nat_eq t w.table ≡ false → (i : Identity) → (shelves' t).slots i ≡ (shelves t).slots i)
-    → HasNoFailed (shelves w.table) v → WaitsWell now.todo
-    → Goes v w.task (shelves w.table) now.answer (shelves' w.table) now.todo → Turned v shelves shelves' walkings walkings'
+    → now.task ≡ w.task → ((u : ℕ) → nat_eq u v ≡ false → walkings' u ≡ walkings u) → ((t : ℕ) → nat_eq t w.table ≡ false → (i : Identity) → (shelves' t).slots i ≡ (shelves t).slots i)
+    → HasNoFailed (shelves w.table) v → WaitsWell now.todo → Goes v w.task (shelves w.table) now.answer (shelves' w.table) now.todo → Turned v shelves shelves' walkings walkings'
 is-stepped v shelves shelves' walkings walkings' w now at at_now same_table same_task others elsewhere clean waits goes =
     let changes : (t : ℕ) → Changes v (shelves t) (shelves' t) = λ t. change t (nat_eq t w.table) refl in grind (arith, nat_tests, same-worker, some-none, some-same, changes)
   where

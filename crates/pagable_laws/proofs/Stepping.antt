@@ -1,13 +1,13 @@
 -- What tables and to-do lists hold of trees goes on as long as what is stored and each node's tree stay; and what a change of a table comes to.
+use Rattle.pagable_laws.proofs.Words.{EventReply, FollowsTo, HandleNumber, HoldsSettled, Identity, IsIdle, IsLawful, IsMachineWhole, IsPublished, List, MachineState, None, Ok, Option, ReadsItsTypes}
+use Rattle.pagable_laws.proofs.Words.{Represents, Seen, Shelf, Site, Slot, Some, Task, Todo, Took, Tree, Values, WorkFits, Written, [], above, answer_after, ap, arith, blob_of, drop, give}
+use Rattle.pagable_laws.proofs.Words.{identity_of, if◌then◌else◌, inl, inr, is_eager, length, max, nat_eq, nat_tests, no_result, of_entry, of_item, refl, rules, subst, suc, sym, to_fail, to_finish}
 use Rattle.pagable_laws.proofs.{Coming.{EventTurns, StandsIn, same-grow, turns-grow, turns-keep}, Following.{IdentityStands, key-stands, leads-on, wrote}, Standing.{AllStand, HasClaim, PutsSlot}}
-use Rattle.pagable_laws.proofs.{Standing.{ShelfGrows, changes-slot, published-stays, put-cases, puts-slot, some-same}, Trees.followed-all, Words.{Above, AllLow, Among, ArcRef, AreKeysOf, Blob}}
-use Rattle.pagable_laws.proofs.Words.{BlobStands, Bool, Claim, Does, Ends, Event, EventReply, Expects, Fault, FollowsTo, Ground, HandleNumber, HasBlob, HasRoom, HoldsSettled, Identity, IsAttained}
-use Rattle.pagable_laws.proofs.Words.{IsDone, IsIdle, IsLawful, IsLow, IsMachineWhole, IsPublished, KeyStands, KeysSoFar, List, MachineState, None, Ok, Open, Option, Placed, ReadsItsTypes}
-use Rattle.pagable_laws.proofs.Words.{ReplyWrites, Represents, Seen, Shelf, Site, Slot, SlotFits, SlotsFit, Some, Stores, Task, Todo, Took, TookWrites, Tree, Values, Waits, Walks, WorkFits}
-use Rattle.pagable_laws.proofs.Words.{Written, WroteTree, [], above, answer_after, ap, arith, blob_of, claim_fault, digest, drop, failed, first_todo, give, give_known, ground_of, identity_of}
-use Rattle.pagable_laws.proofs.Words.{if◌then◌else◌, inl, inr, is_eager, is_open_outcome, length, longest_path, max, nat_eq, nat_tests, next_start, no_result, of_entry, of_item, open_node}
-use Rattle.pagable_laws.proofs.Words.{published, refl, subst, suc, sym, to_fail, to_finish, to_item, to_publish, to_release, to_set, to_start, to_write, true, type_of, with_failed, with_outcome}
-use Rattle.{pagable_laws.proofs.Words.{with_wait, world_of, ℕ, ◌++◌, ◌+◌, ◌==◌, ◌∙◌, ◌∷◌, ◌≡◌, ◌≤◌}, std.proofs.Common.rules}
+use Rattle.pagable_laws.proofs.{Standing.{ShelfGrows, changes-slot, published-stays, put-cases, puts-slot, some-same}, Trees.followed-all, Words.{Among, ArcRef, Blob, Bool, Claim, Does, Event}}
+use Rattle.pagable_laws.specs.TreeSteps.{Expects, Ground, HasBlob, HasRoom, IsAttained, IsDone, IsLow, KeyStands, KeysSoFar, Placed, SlotFits, SlotsFit, Waits, Walks, WroteTree, ground_of}
+use Rattle.pagable_laws.{proofs.Words.{to_item, to_release, to_set, to_start, to_write, true, type_of, world_of, ℕ, ◌++◌, ◌+◌, ◌==◌, ◌∙◌, ◌∷◌, ◌≡◌, ◌≤◌}, specs.TreeSteps.{Above, AllLow, BlobStands}}
+use Rattle.pagable_world.specs.{Calls.Stores, Events.Ends, Headline.AreKeysOf, Pager.{ReplyWrites, TookWrites}, Plain.longest_path, Workers.{claim_fault, first_todo, give_known, is_open_outcome}}
+use Rattle.pagable_world.specs.{Workers.{next_start, open_node, with_failed, with_outcome, with_wait}, World.{Fault, Open, digest, failed, published, to_publish}}
 
 -- ---- what is stored stays, and each node keeps its tree
 
@@ -16,7 +16,6 @@ pub record GroundGoes (g g' : Ground) : Type 0 where
   pub last : g.last ≤ g'.last
   pub trees : (n : ℕ) → n ≤ g.last → g'.trees n ≡ g.trees n
 
--- keys that are known stay known
 abbrev pub KeepsKeys : Shelf → Shelf → Type 0
 KeepsKeys shelf shelf' = (i : Identity) (key height : ℕ) → IsPublished shelf i key height → IsPublished shelf' i key height
 
@@ -67,9 +66,8 @@ keys-same same i key height p = record { slot = p.slot; claimed = same i ∙ p.c
 
 -- ---- to-do lists, where a table grows
 
-module _ {shelf shelf' : Shelf} (more : ShelfGrows shelf shelf') where
-  pub keys-grow : KeepsKeys shelf shelf'
-  keys-grow i key height p = published-stays shelf shelf' i key height more p
+pub keys-grow : {shelf shelf' : Shelf} → ShelfGrows shelf shelf' → KeepsKeys shelf shelf'
+keys-grow {shelf} {shelf'} more i key height p = published-stays shelf shelf' i key height more p
 
 module _ (shelf shelf' : Shelf) (more : ShelfGrows shelf shelf') where
   pub wait-on : (task : Task) (todo : List Todo) → Waits shelf task todo → Waits shelf' task todo
@@ -111,8 +109,6 @@ module _ {N : Type 0} {v : Values N} {g g' : Ground} {shelf : Shelf} (shelf' : S
 
 -- A worker's step, case by case: its table and its to-do list fit afterwards.
 
--- ---- lists
-
 module _ (shelf : Shelf) where
   -- one more key is known, where the height grows
   so-far-more : (h k : ℕ) (rs : List ArcRef) (ks : List ℕ) (r : ArcRef) (more : List ArcRef) (key below : ℕ) → h ≤ k → above r.kind.0 below ≤ k → drop (length ks) rs ≡ r ∷ more
@@ -122,19 +118,16 @@ module _ (shelf : Shelf) where
   so-far-more h k (x ∷ rs) (y ∷ ks) r more key below le new e ((b, q, few), known) p = ((b, q, omega arith), so-far-more h k rs ks r more key below le new e known p)
   so-far-more h k x2 x3 r more key below le new e x11 p = grind (arith, nat_tests, identity_of, above)
 
-  -- all keys are known
   pub all-known : (h : ℕ) (rs : List ArcRef) (ks : List ℕ) → length ks ≡ length rs → KeysSoFar shelf h rs ks → AreKeysOf shelf rs ks
   unfolding KeysSoFar
   all-known h (r ∷ rs) (k ∷ ks) e ((b, q, few), known) = ((b, q), all-known h rs ks (omega arith) known)
   all-known h x0 x1 e x3 = grind (arith, nat_tests)
 
-  -- and all are low
   pub all-low : (h : ℕ) (rs : List ArcRef) (ks : List ℕ) → length ks ≡ length rs → KeysSoFar shelf h rs ks → AllLow shelf h rs
   unfolding KeysSoFar
   all-low h (y ∷ rs) (k ∷ ks) e (one, low) r (suc i, there) = all-low h rs ks (omega arith) low r (i, there)
   all-low h x1 x2 e x4 r x6 = grind (arith, nat_tests)
 
-  -- the next is one of them
   pub next-among : (rs : List ArcRef) (ks : List ℕ) (r : ArcRef) (more : List ArcRef) → drop (length ks) rs ≡ r ∷ more → Among rs r
   next-among [] [] r more e = absurd (cc)
   next-among [] (k ∷ ks) r more e = absurd (cc)
@@ -189,8 +182,6 @@ module _ {N : Type 0} (v : Values N) (g : Ground) (shelf : Shelf) (task : Task) 
 pub stands-for : {N : Type 0} (v : Values N) (g : Ground) (shelf : Shelf) → SlotsFit v g shelf → (i : Identity) (key height : ℕ) → IsPublished shelf i key height → IdentityStands v g i key
 stands-for v g shelf fits i key height p = let fit = fits i p.slot p.claimed in record { typed = fit.typed; right = (fit.publishes key height p.known).2.right }
 
--- ---- a step
-
 -- what one step of a worker leaves
 pub record Did {N : Type 0} (v : Values N) (g' : Ground) (task : Task) (shelf' : Shelf) (todo : List Todo) : Type 0 where
   pub slots : SlotsFit v g' shelf'
@@ -215,8 +206,7 @@ module _ {N B W : Type 0} (m : Seen N B W) (n : ℕ) {g g' : Ground} (task : Tas
     fails fault e = did kept e tt
 
     finishes : (o : Open) (below : List Todo) (key : ℕ) → HasClaim s.shelf n (identity_of o.reference) (λ w. w ≡ Some o.written) → Waits s.shelf task (to_finish o ∷ below)
-        → length o.keys ≡ length o.written.references
-        → key ≡ digest m.values (blob_of o.written.bytes o.keys) → g'.stored key ≡ Some (blob_of o.written.bytes o.keys)
+        → length o.keys ≡ length o.written.references → key ≡ digest m.values (blob_of o.written.bytes o.keys) → g'.stored key ≡ Some (blob_of o.written.bytes o.keys)
         → Walks m.values g' s'.shelf task (to_set o.reference o.through key o.height ∷ below)
     unfolding Waits
     finishes o below key claim (known, attained, place, reach, expects, waits) all is there =
@@ -319,11 +309,8 @@ module _ {N B W : Type 0} (m : Seen N B W) (n : ℕ) {g g' : Ground} (task : Tas
 
 -- Page-outs by trees: what tables and workers hold fits at first and after each event.
 
--- it fits where nobody works yet
 pub fits-at-first : {N E : Type 0} (v : Values N) (s : MachineState N E) (trees : ℕ → Tree) → IsIdle s → WorkFits v s trees
 fits-at-first v s trees idle = record { slots = λ t i slot is. let f = idle.shelves t i in absurd (cc); walks = λ n walking is. let f = idle.walkings n in absurd (cc) }
-
--- ---- an event
 
 module _ {N B W E : Type 0} (m : Seen N B W) (s s' : MachineState N E) (trees trees' : ℕ → Tree) (goes : GroundGoes (ground_of s trees) (ground_of s' trees')) (fit : WorkFits m.values s trees)
     (whole : IsMachineWhole m.values s) (represents : Represents m.values s.pager trees) (settled : HoldsSettled m.values s.pager) (reads : ReadsItsTypes m.values.types)
@@ -339,7 +326,6 @@ module _ {N B W E : Type 0} (m : Seen N B W) (s s' : MachineState N E) (trees tr
   starts-well shelf (of_item written) = started-item m.values g' shelf (of_item written) written [] [] _ refl (refl, tt)
   starts-well shelf (of_entry h i) = (refl, (refl, tt))
 
-  -- each event keeps it
   pub fits-on : StandsIn (world_of s) → (event : Event N B W) (reply : EventReply N B W) → EventTurns m (world_of s) event reply (world_of s') → ReplyWrites m s.pager reply
       → WorkFits m.values s' trees'
   fits-on work event reply turns writes =

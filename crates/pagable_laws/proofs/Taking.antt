@@ -1,14 +1,113 @@
--- What a load has read fits after its step; and a node whose value is in memory gives its tree, as does what a load of a key answers.
-use Rattle.pagable_laws.proofs.Words.{◌≡◌, ℕ, suc, ◌+◌, ◌<◌, ◌≤◌, true, List, [], ◌∷◌, Option, Some, None, inr, refl, sym, ◌∙◌, subst, arith, is_some, nat_lt, nat_tests, HandleRow, Owner}
-use Rattle.pagable_laws.proofs.Words.{OptionalDataKey, ArcRef, Kind, HandleNumber, Blob, Types, Tree, ReadsTree, type_of, Among, one, is_at, is_pin, is_pinning, held, pins, Core, OpenLoad, Frame}
-use Rattle.pagable_laws.proofs.Words.{Reading, row_at, Values, IsLawful, IsReference, Next, need_at, to_adopt, ReadsRoot, ReadsNode, root_frame, nested_frame, with_got, PagerState, HandlesAreWhole}
-use Rattle.pagable_laws.proofs.Words.{IsWhole, WellFormed, NodeStands, ValueStands, ReadsNodeTree, FramesFit, SameTrees, Represents, ReadsItsTypes, GivesTree, ReadIsRight, Change, bears_known}
-use Rattle.pagable_laws.proofs.Words.{CoreGoes, ReadingFeels, reads-root, reads-blob, gets-known, gets-lazy, makes-known, makes-node, reading-ends, Decoded, FramesGiven, ap, inl, gone_on, GetsRow}
-use Rattle.pagable_laws.proofs.Words.{GotStands, FramesHeld, LoadNumber, ReadingFits, ChangeFits, Needs, is_eager, asks, next_in, need_of, needs_nested, MachineState, IsReadingOf, IsFresh, ◌⊎◌}
-use Rattle.pagable_laws.proofs.{Fitting.{node-stays, first-fits, first-typed, frames-stay, all-none, all-new, all-more, made-fits, needed-fits, nested-fits, root-fits, asked}, Decoding.decodes}
-use Rattle.pagable_laws.proofs.{Decoding.read_stands, Apart.{none-got, one-got, FramesAsked}, Following.{cell-of, given-of}, Outlasting.among-found, Sums.{at-most-sum, self-number}, Trees.same_some}
+-- What a load reads goes on fitting, whatever it gets, and fits after its step; and a node whose value is in memory gives its tree, as does what a load of a key answers.
+use Rattle.pagable_laws.proofs.Words.{List, LoadNumber, MachineState, None, OpenLoad, Option, OptionalDataKey, Owner, PagerState, Reading, ReadingFeels, ReadingFits, ReadsItsTypes, ReadsRoot}
+use Rattle.pagable_laws.proofs.Words.{ReadsTree, Represents, Some, Tree, Types, ValueStands, Values, WellFormed, [], ap, arith, bears_known, held, inl, inr, is_eager, is_pinning, is_some, length}
+use Rattle.pagable_laws.proofs.Words.{length-append, nat_tests, next_in, one, pins, refl, root_frame, row_at, slice_get, slice_get_within, subst, suc, sym, true, type_of, zero, ℕ, ◌++◌, ◌+◌, ◌<◌, ◌∙◌}
+use Rattle.pagable_laws.proofs.{Apart.{FramesAsked, none-got, one-got}, Decoding.{asks_next, decodes, read_stands}, Following.{cell-of, given-of}, Goes.among-found, Trees.{at-most-sum, followed-all}}
+use Rattle.pagable_laws.proofs.{Trees.{same_some, self-number}, Words.{Among, ArcRef, Blob, Change, Core, Frame, FramesFit, HandleNumber, HandleRow, HandlesAreWhole, IsLawful, IsReference, Kind}}
+use Rattle.pagable_laws.{proofs.Words.{◌∷◌, ◌≡◌, ◌≤◌, ◌⊎◌}, specs.TreeSteps.{ChangeFits, CoreGoes, Decoded, FramesGiven, FramesHeld, GetsRow, GotStands, IsFresh, KeepsStored, Needs, gets-known}}
+use Rattle.pagable_world.specs.{Loads.{Next, ReadsNode, asks, gone_on, need_at, need_of, needs_lazy, needs_nested, nested_frame, to_adopt, with_got}, Pager.{FrameFits, IsReadingOf, IsWhole}}
+use Rattle.{pagable_laws.specs.TreeSteps.{gets-lazy, makes-known, makes-node, reading-ends, reads-blob, reads-root}, pagable_world.specs.{Headline.{GivesTree, ReadIsRight}, Kinds.{is_at, is_pin}}}
+use Rattle.{pagable_world.specs.Pager.{NodeStands, ReadsNodeTree, SameTrees}, std.specs.Prelude.nat_lt}
 
--- ---- a live handle's node
+pub asked : (below : List Frame) (next : Next) (kind : Kind) (key : ℕ) → (need_at below next ≡ needs_nested kind key) ⊎ (need_at below next ≡ needs_lazy kind key) → next ≡ asks kind key
+asked x0 x1 kind key x4 = grind (arith, nat_tests)
+
+pub pushed : {X : Type 0} (xs : List X) (y : X) (i : ℕ) (x : X) → slice_get (xs ++ y ∷ []) i ≡ Some x → (slice_get xs i ≡ Some x) ⊎ ((i ≡ length xs) × (y ≡ x))
+pushed (z ∷ xs) y (suc i) x is = elim (pushed xs y i x is) [ inl old ↦ inl old | inr new ↦ inr (let n = new.0 in omega (arith, n), new.1) ]
+pushed x0 y x2 x is = grind (arith, nat_tests)
+
+module _ {stored stored' : ℕ → Option Blob} {types : Types} (kept : KeepsStored stored stored') where
+  pub tree-stays : {key : ℕ} {t : Tree} → ReadsTree stored types key t → ReadsTree stored' types key t
+  tree-stays {t = t} h = record { own = h.own; reads = grind (arith, nat_tests); follows = followed-all (λ n key m r. grind (arith, nat_tests)) h.follows }
+
+  pub node-stays : {trees trees' : ℕ → Tree} {key t n : ℕ} → trees' n ≡ trees n → ReadsNodeTree types stored trees key t n → ReadsNodeTree types stored' trees' key t n
+  node-stays {key = key} same h = record { typed = ap (λ (z : Tree). z.type) same ∙ h.typed; reads = subst (λ (z : Tree). ReadsTree stored' types key z) (sym same) (tree-stays h.reads) }
+
+  frame-stays : {trees trees' : ℕ → Tree} {frame : Frame} (last : ℕ) → SameTrees last trees trees' → ((r : ArcRef) → Among frame.got r → r.node.0 ≤ last)
+      → FrameFits types stored trees frame → FrameFits types stored' trees' frame
+  frame-stays {frame = frame} last same given h =
+      record { is = kept frame.key frame.blob h.is; few = h.few; got = λ place key r is at. node-stays (same r.node.0 (given r (place, is))) (h.got place key r is at) }
+
+module _ {types : Types} {stored : ℕ → Option Blob} {trees : ℕ → Tree} where
+  new-fits : (frame : Frame) → frame.got ≡ [] → stored frame.key ≡ Some frame.blob → FrameFits types stored trees frame
+  new-fits frame none_got is = grind arith
+
+  got-fits : (frame : Frame) (q : ArcRef) (key : ℕ) → slice_get frame.blob.keys (length frame.got) ≡ Some key → ReadsNodeTree types stored trees key (type_of q.kind.0) q.node.0
+      → FrameFits types stored trees frame → FrameFits types stored trees (record frame { got = frame.got ++ q ∷ [] })
+  got-fits frame q key next read h =
+      record {
+        is = h.is;
+        few = let a = length-append frame.got (q ∷ []) in let b = slice_get_within frame.blob.keys (length frame.got) key next in omega (arith, a, b);
+        got = λ place k r is at. elim (pushed frame.got q place r is) [ inl old ↦ h.got place k r old at | inr new ↦ let same : k ≡ key = cc in rw (same, ← new.1) read ];
+      }
+
+module _ (types : Types) (root_key root_type : ℕ) where
+  -- what was read goes on fitting where what was stored stays and each node that was given keeps its tree
+  pub frames-stay : (stored stored' : ℕ → Option Blob) (trees trees' : ℕ → Tree) (last : ℕ) (frames : List Frame) → KeepsStored stored stored' → SameTrees last trees trees' → FramesGiven last frames
+      → FramesFit types stored trees root_key root_type frames → FramesFit types stored' trees' root_key root_type frames
+  unfolding FramesFit
+  frames-stay stored stored' trees trees' last [] kept same given h = tt
+  frames-stay stored stored' trees trees' last (frame ∷ []) kept same given (fits, key, typed) = (frame-stays kept last same (λ r among. given frame r (zero, refl) among) fits, key, typed)
+  frames-stay stored stored' trees trees' last (frame ∷ next ∷ rest) kept same given (fits, typed, next_is, more) =
+      let below = frames-stay stored stored' trees trees' last (next ∷ rest) kept same (λ f r among got. given f r (suc among.0, among.1) got) more in
+      (frame-stays kept last same (λ r among. given frame r (zero, refl) among) fits, typed, next_is, below)
+
+  module _ (stored : ℕ → Option Blob) (trees : ℕ → Tree) where
+    -- and with what a step adds to it: the root's blob, the blob of the reference that it needs, or a handle of a node whose tree the key reads as
+    pub root-fits : (blob : Blob) → stored root_key ≡ Some blob → FramesFit types stored trees root_key root_type (root_frame root_key root_type blob ∷ [])
+    unfolding FramesFit
+    root-fits blob is = (new-fits (root_frame root_key root_type blob) refl is, refl, refl)
+
+    pub nested-fits : (frames : List Frame) (kind : Kind) (key : ℕ) (blob : Blob) → FramesFit types stored trees root_key root_type frames → need_of types frames ≡ needs_nested kind key
+        → stored key ≡ Some blob → FramesFit types stored trees root_key root_type (nested_frame kind key blob ∷ frames)
+    unfolding FramesFit
+    nested-fits x0 kind key blob h needs is = grind (arith, nat_tests, new-fits, asked)
+
+    grown-fits : (frame : Frame) (below : List Frame) (kind : Kind) (key : ℕ) (row : HandleRow) → FramesFit types stored trees root_key root_type (frame ∷ below) → next_in types frame ≡ asks kind key
+        → ReadsNodeTree types stored trees key (type_of kind.0) row.node.0 → FramesFit types stored trees root_key root_type (with_got kind row (frame ∷ below))
+    unfolding FramesFit
+    grown-fits frame [] kind key row (fits, key_is, typed) next read = (got-fits frame _ key (asks_next types frame kind key next) read fits, key_is, typed)
+    grown-fits frame (under ∷ rest) kind key row (fits, typed, next_is, more) next read = (got-fits frame _ key (asks_next types frame kind key next) read fits, typed, next_is, more)
+
+    pub needed-fits : (frames : List Frame) (kind : Kind) (key : ℕ) (row : HandleRow) → FramesFit types stored trees root_key root_type frames → Needs types frames kind key
+        → ReadsNodeTree types stored trees key (type_of kind.0) row.node.0 → FramesFit types stored trees root_key root_type (with_got kind row frames)
+    unfolding FramesFit
+    needed-fits [] kind key row h needs read = tt
+    needed-fits (top ∷ below) kind key row h needs read = grown-fits top below kind key row h (asked below (next_in types top) kind key needs) read
+
+    pub made-fits : (top : Frame) (below : List Frame) (row : HandleRow) → FramesFit types stored trees root_key root_type (top ∷ below)
+        → ReadsNodeTree types stored trees top.key (type_of top.kind.0) row.node.0 → FramesFit types stored trees root_key root_type (with_got top.kind row below)
+    unfolding FramesFit
+    made-fits top [] row h read = tt
+    made-fits top (frame ∷ below) row (fits, typed, next_is, more) read = grown-fits frame below top.kind top.key row more next_is read
+
+    pub first-fits : (top : Frame) (below : List Frame) → FramesFit types stored trees root_key root_type (top ∷ below) → FrameFits types stored trees top
+    unfolding FramesFit
+    first-fits top x1 h = grind (arith, nat_tests)
+
+    pub first-typed : (top frame : Frame) (below : List Frame) → FramesFit types stored trees root_key root_type (top ∷ frame ∷ below) → top.node_type ≡ type_of top.kind.0
+    unfolding FramesFit
+    first-typed top frame below h = h.1
+
+-- ---- what holds of each reference that was got
+
+abbrev pub AllGot : (ArcRef → Type 0) → List Frame → Type 0
+AllGot P frames = (frame : Frame) (r : ArcRef) → Among frames frame → Among frame.got r → P r
+
+module _ (P : ArcRef → Type 0) where
+  pub all-none : (frames : List Frame) → frames ≡ [] → AllGot P frames
+  all-none frames none frame r among got = let there = subst (λ fs. Among fs frame) none among in absurd (let e = there.1 in cc)
+
+  pub all-new : (frame : Frame) (frames : List Frame) → frame.got ≡ [] → AllGot P frames → AllGot P (frame ∷ frames)
+  all-new frame frames none all f r (zero, is) (place, there) = grind (arith, nat_tests)
+  all-new frame frames none all f r (suc i, is) among = all f r (i, is) among
+
+  pub all-more : (frames : List Frame) (kind : Kind) (row : HandleRow) → P (record { kind = kind; node = row.node; handle = row.number }) → AllGot P frames → AllGot P (with_got kind row frames)
+  all-more [] kind row new all frame r (i, is) got = absurd (cc)
+  all-more (top ∷ below) kind row new all frame r (suc i, is) got = all frame r (suc i, is) got
+  all-more (top ∷ below) kind row new all frame r (zero, is) (j, there) =
+      let grown : record top { got = top.got ++ record { kind = kind; node = row.node; handle = row.number } ∷ [] } ≡ frame = cc in
+      elim (pushed top.got _ j r (subst (λ (f : Frame). slice_get f.got j ≡ Some r) (sym grown) there)) [ inl old ↦ all top r (zero, refl) (j, old) | inr last ↦ subst P last.1 new ]
 
 pub row-held : (w : Core) (k : HandleNumber) (row : HandleRow) → row_at w k ≡ Some row → 0 < held row.node.0 w.rows
 row-held w k row is = let a = at-most-sum (λ h. one (is_at row.node.0 h)) w.rows row (among-found k.0 w.rows row is) in grind (arith, nat_tests, self-number)
@@ -19,11 +118,8 @@ row-pins w k row is pinning = let a = at-most-sum (λ h. one (is_pin row.node.0 
 pub row-given : {w : Core} → HandlesAreWhole w → (k : HandleNumber) (row : HandleRow) → row_at w k ≡ Some row → row.node.0 ≤ w.last.node
 row-given {w} whole k row is = (whole.nodes_numbered row.node.0 (cell-of whole row.node.0 (row-held w k row is))).1
 
--- ---- a pin gives its tree
-
-module _ {N E : Type 0} {v : Values N} {s : PagerState N E} where
-  pub stands-here : {n : ℕ} {t : Tree} {x : N} → NodeStands v s n t → s.values n ≡ Some x → ValueStands v s x t
-  stands-here x0 is = grind (arith, nat_tests)
+pub stands-here : {N E : Type 0} {v : Values N} {s : PagerState N E} {n : ℕ} {t : Tree} {x : N} → NodeStands v s n t → s.values n ≡ Some x → ValueStands v s x t
+stands-here x0 is = grind (arith, nat_tests)
 
 -- each handle that pins gives the tree that its node was made with
 pub pin_stands : {N E : Type 0} {v : Values N} (s : PagerState N E) (trees : ℕ → Tree) (k : HandleNumber) (row : HandleRow) → WellFormed v s → Represents v s trees → row_at s.core k ≡ Some row
@@ -66,8 +162,6 @@ module _ (types : Types) where
   unfolding FramesAsked
   root-asked key t blob = none-got [] refl
 
--- ---- a load's step
-
 -- What holds about a step of a load: its nodes keep their trees, what the cache knew is read as the nodes' trees, and a node that is born is of a tree as which its key reads.
 pub record AtStep {N : Type 0} (v : Values N) (c : Change) (w w' : Core) (trees trees' : ℕ → Tree) : Type 0 where
   pub goes : CoreGoes c w w'
@@ -88,12 +182,9 @@ frames-on goes l frames held frame r among got =
       is = λ row live own. g.is row (let a = goes.rows r.handle.0 row live g.given in a.live ∙ ap Some (a.mine l own)) own;
     }
 
--- a reference that was got just now
 got-new : {w w' : Core} (l : LoadNumber) (kind : Kind) (n : ℕ) (row : HandleRow) → HandlesAreWhole w' → GetsRow w w' kind n row
     → GotStands w' l (record { kind = kind; node = row.node; handle = row.number })
 got-new l kind n row whole g = grind (arith, nat_tests, row-given)
-
--- ---- all of it
 
 -- what was read fits, what was got names nodes as it should, and was asked for
 pub record FitAfter {N : Type 0} (v : Values N) (w : Core) (trees : ℕ → Tree) (l : LoadNumber) (root_key root_type : ℕ) (frames : List Frame) : Type 0 where
@@ -152,8 +243,6 @@ module _ {N : Type 0} {v : Values N} {w w' : Core} {trees trees' : ℕ → Tree}
       subst (FitOf v w' trees' reading load) (sym is) (fit-made reading.load load.key reading.node_type h reading x made _ row got (h.born made.top.kind.0 made.top.key _ refl) g)
   felt-after reading load frames h open_load (reading-ends end answer is) g = absurd (cc)
 
--- ---- a reading, where the pager stands for trees
-
 pub record Going {N E : Type 0} (v : Values N) (s : PagerState N E) (trees : ℕ → Tree) (reading : Reading) : Type 0 where
   pub within : reading.load.0 ≤ s.core.last.load
   pub fits : ReadingFits v s trees reading
@@ -201,8 +290,6 @@ module _ {N E : Type 0} {v : Values N} {s s' : PagerState N E} {trees trees' : �
       let fits : ReadingFits v s' trees' (gone_on reading frames) = λ other at.
       subst (λ (z : OpenLoad). FramesFit v.types s'.core.stored trees' z.key reading.node_type frames) (same_some _ _ (sym opened ∙ was-open goes reading.load.0 other g.within at)) after.fit in
       search (still-within reading.load.0 g.within, fits, after.held, after.asked)
-
--- ---- what is read
 
 pub adopted-over : (below : List Frame) (next : Next) → need_at below next ≡ to_adopt → (frame : Frame) × (rest : List Frame) × (below ≡ frame ∷ rest)
 adopted-over x0 x1 is = grind (arith, nat_tests)

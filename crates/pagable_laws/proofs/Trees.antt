@@ -1,10 +1,44 @@
--- One key spells one tree, and one tree of canonical types has one key.
-use Rattle.pagable_laws.proofs.Words.{Blob, EachType, IsFollowed, KeyRef, Meaning, Option, ReadsAs, ReadsTree, Some, Tree, Types, arith, followed, integer-followed, nat_tests, none-followed}
-use Rattle.pagable_laws.proofs.Words.{number-followed, pair, pair-followed, pattern-followed, reference-followed, refl, subst, sym, text-followed, tree, type_of, variant, variant-followed, ℕ, ◌≡◌}
-use Rattle.std.proofs.Common.{rules}
+-- Sums over the elements of a list, and what they count. And one key spells one tree, and one tree of canonical types has one key.
+use Rattle.pagable_laws.proofs.Words.{Among, Blob, Bool, List, Meaning, Option, ReadsTree, Tree, Types, [], ap, arith, cases_lt, followed, inl, inr, nat_tests, one, pair, refl, rules, subst, suc}
+use Rattle.pagable_laws.{proofs.Words.{sum_by-cons, sym, tree, true, type_of, variant, zero, ℕ, ◌+◌, ◌<◌, ◌==◌, ◌∙◌, ◌∷◌, ◌≡◌, ◌≤◌}, specs.FallLaws.PinsAreAFilter}
+use Rattle.pagable_model.specs.{Canonical.EachType, Trees.{IsFollowed, KeyRef, ReadsAs, integer-followed, none-followed, number-followed, pair-followed, pattern-followed, reference-followed}}
+use Rattle.{pagable_model.specs.Trees.{text-followed, variant-followed}, pagable_world.specs.Kinds.is_pin, std.proofs.Common.sum_by}
+pub use Rattle.std.proofs.lemmas.{Bool.eqb-true as same-number, Option.same_Some as same_some}
 
-pub same_some : {X : Type 0} (x y : X) → Some x ≡ Some y → x ≡ y
-same_some x y e = cc
+pub self-number : (a : ℕ) → (a == a) ≡ true
+self-number a = grind (arith, nat_tests)
+
+pub one-true : (b : Bool) → 0 < one b → b ≡ true
+one-true x0 p = grind (arith, nat_tests)
+
+pub one-small : (b : Bool) → one b ≤ 1
+one-small x0 = grind (arith, nat_tests)
+
+-- smaller at each element, so in sum
+pub sum-le : {X : Type 0} (f g : X → ℕ) (xs : List X) → ((x : X) → Among xs x → f x ≤ g x) → sum_by f xs ≤ sum_by g xs
+sum-le f g [] h = omega arith
+sum-le f g (x ∷ xs) h = grind (arith, nat_tests, sum_by-cons, sum-le f g xs (λ y among. h y (suc among.0, among.1)))
+
+pub at-most-sum : {X : Type 0} (f : X → ℕ) (xs : List X) (x : X) → Among xs x → f x ≤ sum_by f xs
+at-most-sum f (y ∷ ys) x (suc i, is) = grind (arith, nat_tests, sum_by-cons, at-most-sum f ys x)
+at-most-sum f x1 x x3 = grind (arith, nat_tests, sum_by-cons)
+
+-- a sum is the one of two functions
+pub sum-plus : {X : Type 0} (f g : X → ℕ) (xs : List X) → sum_by (λ x. f x + g x) xs ≡ sum_by f xs + sum_by g xs
+sum-plus f g [] = refl
+sum-plus f g (x ∷ xs) = search (rules, sum_by-cons, sum-plus f g xs)
+
+pub sum-zero : {X : Type 0} (f : X → ℕ) (xs : List X) → ((x : X) → Among xs x → f x ≡ 0) → sum_by f xs ≡ 0
+sum-zero f [] h = refl
+sum-zero f (x ∷ xs) h = let a = h x (zero, refl) in let b = sum-zero f xs (λ y among. h y (suc among.0, among.1)) in let c = sum_by-cons f x xs in omega arith
+
+pub counted : {X : Type 0} (f : X → ℕ) (xs : List X) → 0 < sum_by f xs → (x : X) × Among xs x × (0 < f x)
+counted f [] some = absurd (omega arith)
+counted f (x ∷ xs) some = elim (cases_lt 0 (f x)) [ inl p ↦ (x, (zero, refl), p) | inr z ↦ let r = counted f xs (let c = sum_by-cons f x xs in omega arith) in (r.0, (suc r.1.0, r.1.1), r.2) ]
+
+pub pins_filter : PinsAreAFilter
+pins_filter n [] = refl
+pins_filter n (h ∷ hs) = sum_by-cons (λ x. one (is_pin n x)) h hs ∙ (ap (λ k. one (is_pin n h) + k) (pins_filter n hs) ∙ (grind (arith, nat_tests)))
 
 pub tree_is : (x y : ℕ) (a b : Meaning ⊥) → x ≡ y → a ≡ b → tree x a ≡ tree y b
 tree_is x y a b e1 e2 = rw (e1, e2) refl

@@ -1,23 +1,16 @@
 -- The laws of paths that are too long, of values that have no form, and of loads that are each done in one piece.
 use Rattle.std.specs.Prelude.{Err, List, Ok, Some, slice_get, ℕ, ◌<◌, ◌∷◌, ◌≡◌, ◌≢◌, ◌⊎◌}
+use Rattle.pagable_world.specs.declared.events.{EventReply.EventReply, LoadAnswer.LoadAnswer, Took.Took, WorkerAnswer.WorkerAnswer}
 use Rattle.pagable_world.specs.{Events.reading_at, OneWorker.{IsFormlessTask, IsLoadOfPagedOut, IsOfChance, IsTooDeepTask, LoadIsSound, StandTogether}, Order.{MetError, ReadsTooDeep, steps_of}}
 use Rattle.pagable_world.specs.{Pager.{IsIdle, IsMachineWhole, MachineState, StandsFor, world_of}, Plain.{Among, ArcRef, Error, HandleNumber, Identity, LoadNumber, Tree}, Runs.{AreMoments, Fact}}
-use Rattle.pagable_world.specs.{Runs.{HoldsSettled, Moment, ReadsItsTypes, TreesAlong, events_of, replies_of, state_after}, Workers.{ComesBack, IsOpenSlot}, World.{IsLawful, OpenLoad, Reading}}
-use Rattle.pagable_world.specs.{World.{Seen, Shelf, Slot, Todo, Values, Walking, to_load}, declared.{answers.Beginning.Beginning, calls.{Call.Call, Reply.Reply}, events.{Claim.Claim, Event.Event}}}
-use Rattle.pagable_world.specs.declared.events.{EventReply.EventReply, LoadAnswer.LoadAnswer, Took.Took, WorkerAnswer.WorkerAnswer}
+use Rattle.pagable_world.specs.{Runs.{HoldsSettled, Moment, ReadsItsTypes, TreesAlong, events_of, replies_of, state_after}, Workers.{ComesBack, IsOpenSlot}, World.{IsLawful, OpenLoad, Reading, Seen}}
+use Rattle.pagable_world.specs.{World.{Shelf, Slot, Todo, Values, Walking, to_load}, declared.{answers.Beginning.Beginning, calls.{Call.Call, Reply.Reply}, events.{Claim.Claim, Event.Event}}}
 
 -- The fact holds of each event along the chain, where it begins at a whole machine for which nobody works yet.
 abbrev pub HoldsOf : {N E B W : Type 0} → (m : Seen N B W) → Fact N E B W → MachineState N E → List (Moment N E B W) → Type 0
 HoldsOf m P start moments =
-    (trees : ℕ → Tree)
-    → IsMachineWhole m.values start
-    → IsIdle start
-    → AreMoments m start moments
-    → StandsFor m.values start trees
-    → IsLawful m.values
-    → ReadsItsTypes m.values.types
-    → HoldsSettled m.values start.pager
-    → TreesAlong m P start trees moments
+    (trees : ℕ → Tree) → IsMachineWhole m.values start → IsIdle start → AreMoments m start moments → StandsFor m.values start trees → IsLawful m.values → ReadsItsTypes m.values.types
+    → HoldsSettled m.values start.pager → TreesAlong m P start trees moments
 
 -- So it does along every chain.
 abbrev pub HoldsAlong : {N B W : Type 0} → (E : Type 0) → (m : Seen N B W) → Fact N E B W → Type 0
@@ -33,9 +26,7 @@ pub record WaitsForAsker (shelf : Shelf) (n : ℕ) (i : Identity) : Type 0 where
 -- a claim is refused as too deep only where the worker's task leads down too long a path, or another worker is at it and waits for this one
 abbrev pub ClaimIsDeep : {N E B W : Type 0} → Fact N E B W
 ClaimIsDeep s trees (Event.WorkerStep n) (EventReply.WorkerMoved (Ok reply)) s' trees' =
-    (walking : Walking) (i : Identity)
-    → s.work.walkings n.0 ≡ Some walking
-    → reply.took ≡ Took.Claim i (Err Error.TooDeep)
+    (walking : Walking) (i : Identity) → s.work.walkings n.0 ≡ Some walking → reply.took ≡ Took.Claim i (Err Error.TooDeep)
     → IsTooDeepTask trees walking.task ⊎ WaitsForAsker (s.work.shelves walking.table) n.0 i
 ClaimIsDeep s trees event reply s' trees' = Unit {0}
 
@@ -56,17 +47,11 @@ LoadIsFaultless s trees event reply s' trees' = Unit {0}
 -- A load of the caller's or of a worker's is refused as too deep only where the reading of its key comes to a blob that lies too deep, or to one that enters a level too many.
 abbrev pub LoadIsDeep : {N E B W : Type 0} → Values N → Fact N E B W
 LoadIsDeep v s trees (Event.LoadStep l) (EventReply.LoadMoved (Ok reply)) s' trees' =
-    (reading : Reading) (load : OpenLoad)
-    → reading_at (world_of s) l ≡ Some reading
-    → s.pager.core.loads l.0 ≡ Some load
-    → reply.ended ≡ Some (LoadAnswer.Refused Error.TooDeep)
+    (reading : Reading) (load : OpenLoad) → reading_at (world_of s) l ≡ Some reading → s.pager.core.loads l.0 ≡ Some load → reply.ended ≡ Some (LoadAnswer.Refused Error.TooDeep)
     → ReadsTooDeep v.types s.pager.core.stored reading.node_type load.key
 LoadIsDeep v s trees (Event.WorkerStep n) (EventReply.WorkerMoved (Ok reply)) s' trees' =
-    (walking : Walking) (r : ArcRef) (place : ℕ) (through : HandleNumber) (reading : Reading) (below : List Todo) (load : OpenLoad) (i : Identity)
-    → s.work.walkings n.0 ≡ Some walking
-    → walking.todo ≡ to_load r place through reading ∷ below
-    → s.pager.core.loads reading.load.0 ≡ Some load
-    → reply.took ≡ Took.Pin i (Err Error.TooDeep)
+    (walking : Walking) (r : ArcRef) (place : ℕ) (through : HandleNumber) (reading : Reading) (below : List Todo) (load : OpenLoad) (i : Identity) → s.work.walkings n.0 ≡ Some walking
+    → walking.todo ≡ to_load r place through reading ∷ below → s.pager.core.loads reading.load.0 ≡ Some load → reply.took ≡ Took.Pin i (Err Error.TooDeep)
     → ReadsTooDeep v.types s.pager.core.stored reading.node_type load.key
 LoadIsDeep v s trees event reply s' trees' = Unit {0}
 
@@ -79,16 +64,9 @@ MetDepthAlone {W} steps =
 -- A worker whose item or cell leads down too long a path, or to a value that has no form, answers TooDeep, if it met no other refusal on its way, by whatever chain the machine came there.
 abbrev pub DepthIsTold : {N E B W : Type 0} → Seen N B W → Fact N E B W
 DepthIsTold {N} {E} {B} {W} m s trees (Event.WorkerStep n) (EventReply.WorkerMoved (Ok reply)) s' trees' =
-    (start : MachineState N E) (moments : List (Moment N E B W)) (walking : Walking) (answer : WorkerAnswer)
-    → IsMachineWhole m.values start
-    → IsIdle start
-    → AreMoments m start moments
-    → state_after start moments ≡ s'
-    → s.work.walkings n.0 ≡ Some walking
-    → reply.answer ≡ Some answer
-    → MetDepthAlone (steps_of n.0 (events_of moments) (replies_of moments))
-    → IsTooDeepTask trees walking.task ⊎ IsFormlessTask m.values.types trees walking.task
-    → answer ≡ WorkerAnswer.Failed Error.TooDeep
+    (start : MachineState N E) (moments : List (Moment N E B W)) (walking : Walking) (answer : WorkerAnswer) → IsMachineWhole m.values start → IsIdle start → AreMoments m start moments
+    → state_after start moments ≡ s' → s.work.walkings n.0 ≡ Some walking → reply.answer ≡ Some answer → MetDepthAlone (steps_of n.0 (events_of moments) (replies_of moments))
+    → IsTooDeepTask trees walking.task ⊎ IsFormlessTask m.values.types trees walking.task → answer ≡ WorkerAnswer.Failed Error.TooDeep
 DepthIsTold m s trees event reply s' trees' = Unit {0}
 
 -- the load of this number begins
@@ -109,7 +87,5 @@ pub record HasBegun {N E B W : Type 0} (moments : List (Moment N E B W)) (n k : 
 -- A load of a cell whose key a page-out set is refused by chance alone, where each load that makes a step has begun in the chain, before that, and is done in one piece.
 abbrev pub SoundLaw : {N B W : Type 0} → (E : Type 0) → Seen N B W → Type 0
 SoundLaw {N} {B} {W} E m =
-    (start : MachineState N E) (moments : List (Moment N E B W))
-    → StandTogether moments
-    → ((k : ℕ) (c : Moment N E B W) (l : LoadNumber) → slice_get moments k ≡ Some c → c.event ≡ Event.LoadStep l → HasBegun moments l.0 k)
-    → HoldsOf m LoadIsSound start moments
+    (start : MachineState N E) (moments : List (Moment N E B W)) → StandTogether moments
+    → ((k : ℕ) (c : Moment N E B W) (l : LoadNumber) → slice_get moments k ≡ Some c → c.event ≡ Event.LoadStep l → HasBegun moments l.0 k) → HoldsOf m LoadIsSound start moments

@@ -1,8 +1,9 @@
--- The laws of forms and of reading, for anything that stands for references.
-use Rattle.std.specs.Prelude.{◌≡◌, ℕ, ◌-◌, List, [], ◌∷◌, ◌++◌, map, Ok, Err}
-use Rattle.pagable_world.specs.Plain.{Error, Meaning, Blob}
-use Rattle.pagable_model.specs.{Steps.◌>>=◌, Meaning.rename, Shape.Shape, Reading.{Rest, Look, Context, read, deepest}, Form.Form, Blob.{IsBlob, preimage}, Canonical.{IsCanonical, Throughout}}
-use Rattle.pagable_model.specs.Canonical.{HasOneForm}
+-- The laws of forms and of reading, for anything that stands for references; of trees, of their keys and of the store; of the keys of maps and sets, and of JSON values.
+use Rattle.std.specs.{Float.Ieee.Float, Int.w64, Prelude.{Bool, Err, List, Ok, Option, [], map, true, ℕ, ℤ, ◌++◌, ◌-◌, ◌↔◌, ◌∷◌, ◌≡◌, ◌≤◌}}
+use Rattle.pagable_model.specs.{Blob.{IsBlob, preimage}, Canonical.{EachType, HasOneForm, IsCanonical, IsCanonicalTree, IsCanonicalType, IsClosed, IsReadableTree, Throughout}, Carried.of_hash_map}
+use Rattle.pagable_model.specs.{Deep.{HasPath, Kid, height}, Form.Form, Json.{float, of_json, whole}, Keys.{Entry, code, last_value, same_key}, Meaning.{lifted, plain, rename}, Merkle.HasOwnKeys}
+use Rattle.pagable_model.specs.{Merkle.{IsCanonicalItem, KeyOf, KeyOfItem, SharesNoKey, StoredTree}, Numbers.IsSigned, Reading.{Context, Look, Rest, deepest, read}, Shape.{Shape, json}, Steps.◌>>=◌}
+use Rattle.pagable_world.specs.Plain.{Blob, Error, Meaning, ReadsTree, Tree, Types}
 
 -- what is left to be read: these bytes, and these references
 abbrev pub rest : {A : Type 0} → List ℕ → List A → Rest A
@@ -60,8 +61,7 @@ abbrev pub IsLasting : Type 0 → Type 0 → Type 0
 IsLasting A B = (context : Context A B) (s : Shape) (front : Rest A) (x : List ℕ) (y : List A) (e : Error)
     → read context s front ≡ Err e → (e ≡ Error.UnexpectedEnd → ⊥) → (e ≡ Error.NoMoreKeys → ⊥) → read context s (with_more front x y) ≡ Err e
 
--- Reading does the same whatever stands for references: over other references, of which others are looked up, the same
--- is read, with the others in it.
+-- Reading does the same whatever stands for references: over other references, of which others are looked up, the same is read, with the others in it.
 abbrev pub IsNatural : Type 0 → Type 0 → Type 0 → Type 0 → Type 0
 IsNatural A B C D = (f : A → C) (g : B → D) (look : Look A B) (other : Look C D) (levels : ℕ) (parts : ℕ → Shape) (s : Shape) (input : Rest A)
     → ((kind : ℕ) (a : A) → other kind (f a) ≡ (look kind a >>= λ b. Ok (g b)))
@@ -87,3 +87,66 @@ abbrev pub IsReadThrough : Type 0 → Type 0 → Type 0 → Type 0 → Type 0
 IsReadThrough A B C D = (f : A → C) (g : B → D) (look : Look A B) (other : Look C D) (levels : ℕ) (parts : ℕ → Shape) (s : Shape) (input after : Rest A) (m : Meaning B)
     → ((kind : ℕ) (a : A) (b : B) → look kind a ≡ Ok b → other kind (f a) ≡ Ok (g b))
     → read (at levels look parts) s input ≡ Ok (m, after) → read (at levels other parts) s (rest input.bytes (map f input.refs)) ≡ Ok (rename g m, rest after.bytes (map f after.refs))
+
+-- The store spells at most one tree of a type under a key.
+pub record IsOneTree : Type 0 where
+  pub one : (store : ℕ → Option Blob) (types : Types) (key : ℕ) (t u : Tree) → t.type ≡ u.type → ReadsTree store types key t → ReadsTree store types key u → t ≡ u
+
+-- A tree has at most one key, if its type and the types of all that it reaches are canonical.
+abbrev pub IsOneKey : Type 0
+IsOneKey = (hash : List ℕ → List ℕ) (types : Types) (t : Tree) (k l : ℕ) → IsCanonicalTree types t → KeyOf hash types t k → KeyOf hash types t l → k ≡ l
+
+-- A canonical item has at most one key.
+pub record IsOneItemKey : Type 0 where
+  pub one : (hash : List ℕ → List ℕ) (types : Types) (bytes : List ℕ) (kids : List Kid) (k l : ℕ) → IsCanonicalItem types bytes kids → KeyOfItem hash types bytes kids k
+      → KeyOfItem hash types bytes kids l → k ≡ l
+
+-- A tree that is stored has the key that it is stored under, where each blob stands under its own key.
+pub record IsStoredKey : Type 0 where
+  pub is : (hash : List ℕ → List ℕ) (store : ℕ → Option Blob) (types : Types) (t : Tree) (key : ℕ) → HasOwnKeys hash store → StoredTree store types key t → KeyOf hash types t key
+
+-- A tree that is stored reads back.
+abbrev pub IsTreeReadable : Type 0
+IsTreeReadable = (store : ℕ → Option Blob) (types : Types) (t : Tree) (key : ℕ) → IsReadableTree types t → StoredTree store types key t → ReadsTree store types key t
+
+-- Trees of one type that are stored, in one store or in two that don't contradict each other, have one key exactly if
+-- they are one tree. It is asked of the first tree alone that its types are canonical and read.
+pub record IsKeyOfOneTree : Type 0 where
+  pub of_one : (hash : List ℕ → List ℕ) (store other : ℕ → Option Blob) (types : Types) (t u : Tree) (k l : ℕ) → HasOwnKeys hash store → HasOwnKeys hash other → SharesNoKey store other
+      → t.type ≡ u.type → IsCanonicalTree types t → IsReadableTree types t → StoredTree store types k t → StoredTree other types l u → (k ≡ l) ↔ (t ≡ u)
+
+-- The height of a tree is the length of its longest path.
+abbrev pub IsLongestPath : Type 0
+IsLongestPath = (m : Meaning ⊥) (n : ℕ) → HasPath n m ↔ (n ≤ height m)
+
+-- Where a set of node types is closed, a tree of one of them that has a key reaches types of the set alone. So it is canonical, if the types of the set are.
+abbrev pub StaysInside : Type 0
+StaysInside = (hash : List ℕ → List ℕ) (types : Types) (nodes : ℕ → Bool) (t : Tree) (key : ℕ) → IsClosed types (λ n. nodes n ≡ true) → nodes t.type ≡ true → KeyOf hash types t key
+    → EachType (λ n. nodes n ≡ true) t.meaning
+
+pub record IsCanonicalInside : Type 0 where
+  pub inside : (hash : List ℕ → List ℕ) (types : Types) (nodes : ℕ → Bool) (t : Tree) (key : ℕ) → IsClosed types (λ n. nodes n ≡ true) → ((n : ℕ) → nodes n ≡ true → IsCanonicalType types n)
+      → nodes t.type ≡ true → KeyOf hash types t key → IsCanonicalTree types t
+
+-- Meanings with one code are one meaning.
+pub record IsOneMeaning : Type 0 where
+  pub same : (a b : Meaning ⊥) → code a ≡ code b → a ≡ b
+
+-- Keys are the same exactly if they mean the same; what is referred to is no part of a key.
+abbrev pub IsOneKeyMeaning : Type 0 → Type 0
+IsOneKeyMeaning A = (a b : Meaning A) → (same_key a b ≡ true) ↔ (plain a ≡ plain b)
+
+-- entries whose keys refer to nothing
+abbrev pub keyed : {A : Type 0} → List (Meaning ⊥ × Meaning A) → List (Entry A)
+keyed es = map (λ e. (lifted e.0, e.1)) es
+
+-- Entries that have the same value at each key, the last of each counting, have one meaning as a hash map.
+abbrev pub IsAnyOrder : Type 0 → Type 0
+IsAnyOrder A = (es fs : List (Meaning ⊥ × Meaning A)) → ((q : Meaning ⊥) → last_value q es ≡ last_value q fs) → of_hash_map (keyed es) ≡ of_hash_map (keyed fs)
+
+-- A float has no form, and a whole number has none outside 64 bits with a sign.
+abbrev pub FloatHasNoForm : Type 0 → Type 0
+FloatHasNoForm A = (kind_of : A → ℕ) (parts : ℕ → Shape) (left : ℕ) (x : Float) (b : List ℕ) (k : List A) → Form A kind_of parts left json (of_json (float x)) b k → ⊥
+
+abbrev pub WholeIsBounded : Type 0 → Type 0
+WholeIsBounded A = (kind_of : A → ℕ) (parts : ℕ → Shape) (left : ℕ) (z : ℤ) (b : List ℕ) (k : List A) → Form A kind_of parts left json (of_json (whole z)) b k → IsSigned w64 z

@@ -1,12 +1,6 @@
 pub mod FormLaws
-pub mod TreeLaws
-pub mod KeyLaws
 pub mod Rows
-pub mod SmallWorlds
 pub mod FallLaws
 pub mod TreeSteps
-pub mod ReadLaws
-pub mod PageOutLaws
-pub mod KeyRuns
 pub mod TwoLevels
 pub mod DeepLaws

@@ -1,13 +1,11 @@
 -- Worked examples: bytes and keys that were worked out elsewhere, and what the definitions make of them.
-use Rattle.std.specs.{Prelude.{◌≡◌, ℕ, zero, suc, ◌-◌, ◌^◌, ◌==◌, if◌then◌else◌, List, [], ◌∷◌, false, Option, Some, None, Result, Ok, Err, pos, negsuc, codes}, Int.{w8, w16, w32, w64, w128}}
 use Rattle.std.specs.Str.{bytes_eq}
-use Rattle.pagable_world.specs.Plain.{Error, Meaning, Types}
-use Rattle.pagable_model.specs.{Numbers.{unsigned_form, signed_form}, Basic.{duration_form, char_form, text_form}, Meaning.{number, integer, text, none, pair, variant, followed, sequence, absent}}
-use Rattle.pagable_model.specs.{Meaning.{present, success}, Keys.{number_order, integer_order}, Shape.{Shape, nothing, unsigned, signed, letter, duration, json, optional, outcome, list, run, array}}
-use Rattle.pagable_model.specs.{Shape.{sorted_map, placed_map, static_value, cases, nested, reference}, Carried.{path_text, thin, atomic_i64, once_lock, triple, tagged_by, of_list, of_duration}}
-use Rattle.pagable_model.specs.{Carried.of_tagged, Reading.{Rest, read, deepest}, Form.Form, Blob.{preimage, key_of, weigh_hash}, Trees.{KeyRef, tree, key_ref, blob_context}, Merkle.{blob_of, KeyOf}}
-use Rattle.pagable_model.specs.{Merkle.kind_of_ref, Canonical.{IsCanonical, IsReadable, Throughout, unwritten}}
-use Rattle.pagable_laws.specs.FormLaws.{rest, at}
+use Rattle.std.specs.{Int.{w128, w16, w32, w64, w8}, Prelude.{Err, List, None, Ok, Option, Result, Some, [], codes, false, if◌then◌else◌, negsuc, pos, suc, zero, ℕ, ◌-◌, ◌==◌, ◌^◌, ◌∷◌, ◌≡◌}}
+use Rattle.pagable_model.specs.Shape.{Shape, array, cases, duration, json, letter, list, nested, nothing, optional, outcome, placed_map, reference, run, signed, sorted_map, static_value, unsigned}
+use Rattle.pagable_model.specs.{Basic.{char_form, duration_form, text_form}, Meaning.{followed, integer, present, success, text}, Numbers.{signed_form, unsigned_form}, Reading.{Rest, deepest, read}}
+use Rattle.pagable_model.specs.{Blob.weigh_hash, Canonical.{IsCanonical, IsReadable, Throughout, unwritten}, Carried.{atomic_i64, of_tagged, tagged_by}, Trees.{KeyRef, blob_context, key_ref, tree}}
+use Rattle.pagable_model.specs.{Blob.{key_of, preimage}, Form.Form, Keys.{integer_order, number_order}, Meaning.{absent, none, number, pair, sequence, variant}, Merkle.{KeyOf, blob_of, kind_of_ref}}
+use Rattle.{pagable_laws.specs.FormLaws.{at, rest}, pagable_model.specs.Carried.{of_duration, of_list, once_lock, path_text, thin, triple}, pagable_world.specs.Plain.{Error, Meaning, Types}}
 use Rattle.pagable_model.specs.Meaning as meanings
 use Rattle.pagable_model.specs.Shape as shapes
 
@@ -180,8 +178,7 @@ UnknownTagsAreWritten =
 abbrev pub links : Types
 links = types_of (λ n. if n == 0 then Some shapes.text else if n == 1 then Some (optional (reference 4)) else None)
 
--- The key of a link to a link: the inner one is a blob of one byte 0, of weight 0 and so of key 1; the outer one's
--- preimage has a 1 at place 1, a 1 at place 9 and a 1 at place 10.
+-- The key of a link to a link: the inner one is a blob of one byte 0, of weight 0 and so of key 1; the outer one's preimage has a 1 at place 1, a 1 at place 9 and a 1 at place 10.
 abbrev pub TreesHaveKeys : Type 0
 TreesHaveKeys = KeyOf weigh_hash links (tree 1 (present (followed 4 absent))) 20
 

@@ -1,12 +1,71 @@
--- What trees feel of a step: which node gets a key, becomes known or is born, which values come, and how blobs that loads read grow; and what of it fits the trees afterwards.
-use Rattle.std.specs.Prelude.{ℕ, ◌≡◌, ◌<◌, ◌≤◌, ◌+◌, ◌⊎◌, true, false, List, [], ◌∷◌, Option, Some, None, is_some, Ok}
-use Rattle.pagable_world.specs.Plain.{OptionalDataKey, ArcRef, Kind, HandleNumber}
-use Rattle.pagable_world.specs.{Plain.{LoadNumber, NodeNumber, WorkerNumber, Identity, Blob, Tree, ReadsTree, type_of, Among}, declared.{answers.Pinning.Pinning, events.{PinStep.PinStep, Took.Took}}}
-use Rattle.pagable_world.specs.declared.{handles.{Owner.Owner, HandleRow.HandleRow}, calls.{Call.Call, Reply.Reply}, events.{LoadAnswer.LoadAnswer, Event.Event, EventReply.EventReply}}
-use Rattle.pagable_world.specs.{Kinds.{is_pinning, is_loose, any_mode, fits_mode, owner_worker, find_row}, World.{Core, Cell, OpenLoad, of_cell, Frame, Reading, Todo, to_load, to_set, Walking, World}}
-use Rattle.pagable_world.specs.{World.{row_at, type_at, key_at, is_here, Values}, Refusals.{Owns, IsReference}, LoadCalls.first_key, Loads.{ReadsNode, need_of, needs_nested, needs_lazy}}
-use Rattle.pagable_world.specs.{Loads.{root_frame, nested_frame, with_got, gone_on}, Events.reading_at, Pager.{PagerState, MachineState, world_of, KeyFits, IsNewNode, CallBrings, EventBrings}}
-use Rattle.{pagable_world.specs.Pager.{IsReadingOf, SameTrees, ReadsNodeTree}, pagable_laws.specs.ReadLaws.{Needs, ValueLeads}}
+-- What a value leads to by its references, what loads need and have got, what trees feel of a step and what of it fits them afterwards. And invariants of runs: what workers hold of the
+-- references that they have claimed, and which cells have a key, where the storage isn't closed; and what tables and workers hold of a page-out, by trees.
+use Rattle.std.specs.Prelude.{List, None, Ok, Option, Some, [], drop, false, is_some, length, true, ℕ, ℤ, ◌+◌, ◌<◌, ◌==◌, ◌∷◌, ◌≡◌, ◌≤◌, ◌⊎◌}
+use Rattle.pagable_model.specs.{Form.Form, Meaning.{followed, integer, none, number, pair, pattern, reference, text, variant}, Merkle.{KeyOf, StoredTree, blob_of}, Reading.deepest}
+use Rattle.pagable_world.specs.World.{OpenLoad, Reading, Shelf, Slot, Task, Todo, Values, Walking, World, Written, digest, is_here, key_at, of_cell, of_entry, of_item, published, row_at, to_fail}
+use Rattle.pagable_world.specs.declared.{calls.Reply.Reply, events.{Event.Event, EventReply.EventReply, LoadAnswer.LoadAnswer, PinStep.PinStep, Took.Took}, handles.{HandleRow.HandleRow, Owner.Owner}}
+use Rattle.pagable_world.specs.{Kinds.{any_mode, find_row, fits_mode, has_key, identity_of, is_loose, is_pinning, owner_worker}, LoadCalls.first_key, Loads.{ReadsNode, gone_on, need_of, needs_lazy}}
+use Rattle.pagable_world.specs.{Loads.{needs_nested, nested_frame, root_frame, with_got}, Pager.{CallBrings, EventBrings, IsNewNode, IsReadingOf, KeyFits, MachineState, PagerState, ReadsNodeTree}}
+use Rattle.pagable_world.specs.{Pager.{SameTrees, world_of}, Plain.{Among, ArcRef, Blob, HandleNumber, Identity, Kind, LoadNumber, Meaning, NodeNumber, OptionalDataKey, ReadsTree, Tree, Types}}
+use Rattle.pagable_world.specs.{Plain.{WorkerNumber, above, is_loose_kind, longest_path, times, type_of}, Refusals.{IsReference, Owns}, Workers.{IsPublished, place_below}, World.{Cell, Core, Frame}}
+use Rattle.pagable_world.specs.{World.{to_finish, to_item, to_load, to_pin, to_publish, to_release, to_set, to_start, to_write, type_at}, declared.{answers.Pinning.Pinning, calls.Call.Call}}
+use Rattle.{pagable_model.specs.{References.references_in, Shape.Shape, Writing.kind_of_arc}, pagable_world.specs.{Events.reading_at, Headline.{AnswerIsKey, AnswerLeavesAll, AreKeysOf, PublishIsKey}}}
+
+-- The meaning leads to this one: each reference, of which P is so, is followed to its node's tree. One that is followed already stands in it only if F.
+pub data LeadsBy (F : Type 0) (P : ArcRef → Type 0) (trees : ℕ → Tree) : Meaning ArcRef → Meaning ⊥ → Type 0 where
+  number-leads : (i : ℕ) → LeadsBy F P trees (number i) (number i)
+  integer-leads : (z : ℤ) → LeadsBy F P trees (integer z) (integer z)
+  text-leads : (t : List ℕ) → LeadsBy F P trees (text t) (text t)
+  pattern-leads : (t : List ℕ) → LeadsBy F P trees (pattern t) (pattern t)
+  none-leads : LeadsBy F P trees none none
+  pair-leads : (x y : Meaning ArcRef) (a b : Meaning ⊥) → LeadsBy F P trees x a → LeadsBy F P trees y b → LeadsBy F P trees (pair x y) (pair a b)
+  variant-leads : (i : ℕ) (x : Meaning ArcRef) (a : Meaning ⊥) → LeadsBy F P trees x a → LeadsBy F P trees (variant i x) (variant i a)
+  followed-leads : (kind : ℕ) (x : Meaning ArcRef) (a : Meaning ⊥) → F → LeadsBy F P trees x a → LeadsBy F P trees (followed kind x) (followed kind a)
+  reference-leads : (r : ArcRef) (a : Meaning ⊥) → P r → (trees r.node.0).meaning ≡ a → LeadsBy F P trees (reference r) (followed r.kind.0 a)
+
+-- so it does where each node is of the reference's kind's type
+abbrev pub LeadsTo : (ℕ → Tree) → Meaning ArcRef → Meaning ⊥ → Type 0
+LeadsTo trees = LeadsBy (Unit {0}) (λ r. (trees r.node.0).type ≡ type_of r.kind.0) trees
+
+-- so it does where its references are some of these, and nothing in it is followed already
+abbrev pub FollowsTo : (ℕ → Tree) → List ArcRef → Meaning ArcRef → Meaning ⊥ → Type 0
+FollowsTo trees rs = LeadsBy ⊥ (λ r. Among rs r) trees
+
+-- a value leads to the tree
+pub record ValueLeads {N : Type 0} (v : Values N) (trees : ℕ → Tree) (x : N) (t : Tree) : Type 0 where
+  pub own : Meaning ArcRef
+  pub typed : v.node_type x ≡ t.type
+  pub means : v.means x own
+  pub leads : LeadsTo trees own t.meaning
+
+-- what comes of a value that was read of the frame: a tree as which the frame's key reads, to which the value leads, by references that the frame got
+pub record Decoded {N : Type 0} (v : Values N) (stored : ℕ → Option Blob) (trees : ℕ → Tree) (frame : Frame) (x : N) : Type 0 where
+  pub t : Tree
+  pub typed : t.type ≡ frame.node_type
+  pub reads : ReadsTree stored v.types frame.key t
+  pub leads : ValueLeads v trees x t
+  pub got : (r : ArcRef) → Among (v.references x) r → Among frame.got r
+
+-- each reference that one of the frames got is of a node that was given
+abbrev pub FramesGiven : ℕ → List Frame → Type 0
+FramesGiven last frames = (frame : Frame) (r : ArcRef) → Among frames frame → Among frame.got r → r.node.0 ≤ last
+
+-- the load needs a reference of this kind under this key, whether what it leads to is read or not
+abbrev pub Needs : Types → List Frame → Kind → ℕ → Type 0
+Needs types frames kind key = (need_of types frames ≡ needs_nested kind key) ⊎ (need_of types frames ≡ needs_lazy kind key)
+
+-- what was stored stays stored
+abbrev pub KeepsStored : (ℕ → Option Blob) → (ℕ → Option Blob) → Type 0
+KeepsStored stored stored' = (key : ℕ) (b : Blob) → stored key ≡ Some b → stored' key ≡ Some b
+
+-- A handle that a load got was given, and its node; and while the load has it, it is of the reference's node, in a mode that fits the kind.
+pub record GotStands (w : Core) (l : LoadNumber) (r : ArcRef) : Type 0 where
+  pub given : r.handle.0 ≤ w.last.handle
+  pub node_given : r.node.0 ≤ w.last.node
+  pub is : (row : HandleRow) → row_at w r.handle ≡ Some row → row.owner ≡ Owner.Load l → (row.node ≡ r.node) × (fits_mode r.kind.0 row.mode ≡ true)
+
+abbrev pub FramesHeld : Core → LoadNumber → List Frame → Type 0
+FramesHeld w l frames = (frame : Frame) (r : ArcRef) → Among frames frame → Among frame.got r → GotStands w l r
 
 -- a node leads to its tree: its key reads as that, and its value leads there
 pub record NodeLeads {N E : Type 0} (v : Values N) (s : PagerState N E) (trees : ℕ → Tree) (n : ℕ) : Type 0 where
@@ -128,20 +187,16 @@ pub record GetsRow (w w' : Core) (kind : Kind) (n : ℕ) (row : HandleRow) : Typ
 -- What trees feel of a load's step.
 pub data ReadingFeels {N : Type 0} (v : Values N) (w : Core) (reading : Reading) (answer : Option (LoadAnswer N)) (frames : List Frame) (w' : Core) : Change → Type 0 where
   reads-root : (load : OpenLoad) (blob : Blob) → reading.frames ≡ [] → w.loads reading.load.0 ≡ Some load → w.stored load.key ≡ Some blob → answer ≡ None
-      → frames ≡ root_frame load.key reading.node_type blob ∷ []
-      → ReadingFeels v w reading answer frames w' nothing_felt
+      → frames ≡ root_frame load.key reading.node_type blob ∷ [] → ReadingFeels v w reading answer frames w' nothing_felt
   reads-blob : (kind : Kind) (key : ℕ) (blob : Blob) → need_of v.types reading.frames ≡ needs_nested kind key → w.stored key ≡ Some blob → answer ≡ None
-      → frames ≡ nested_frame kind key blob ∷ reading.frames
-      → ReadingFeels v w reading answer frames w' nothing_felt
+      → frames ≡ nested_frame kind key blob ∷ reading.frames → ReadingFeels v w reading answer frames w' nothing_felt
   gets-known : (kind : Kind) (key n : ℕ) (row : HandleRow) → Needs v.types reading.frames kind key → w.cache kind.0 key ≡ Some n → GetsRow w w' kind n row → answer ≡ None
       → frames ≡ with_got kind row reading.frames → ReadingFeels v w reading answer frames w' nothing_felt
   gets-lazy : (kind : Kind) (key : ℕ) (row : HandleRow) → need_of v.types reading.frames ≡ needs_lazy kind key → GetsRow w w' kind (w.last.node + 1) row → answer ≡ None
-      → frames ≡ with_got kind row reading.frames
-      → ReadingFeels v w reading answer frames w' (bears_known kind.0 key (OptionalDataKey.Some key))
+      → frames ≡ with_got kind row reading.frames → ReadingFeels v w reading answer frames w' (bears_known kind.0 key (OptionalDataKey.Some key))
   makes-known : (x : N) (reads : ReadsNode v reading x) (n : ℕ) (row : HandleRow) → w.cache reads.top.kind.0 reads.top.key ≡ Some n → GetsRow w w' reads.top.kind n row
       → answer ≡ None → frames ≡ with_got reads.top.kind row reads.below → ReadingFeels v w reading answer frames w' nothing_felt
-  makes-node : (x : N) (reads : ReadsNode v reading x) (row : HandleRow) → GetsRow w w' reads.top.kind (w.last.node + 1) row
-      → answer ≡ None → frames ≡ with_got reads.top.kind row reads.below
+  makes-node : (x : N) (reads : ReadsNode v reading x) (row : HandleRow) → GetsRow w w' reads.top.kind (w.last.node + 1) row → answer ≡ None → frames ≡ with_got reads.top.kind row reads.below
       → ReadingFeels v w reading answer frames w' (bears_known reads.top.kind.0 reads.top.key (first_key reads.top.kind.0 reads.top.key))
   reading-ends : (end : LoadAnswer N) → answer ≡ Some end → frames ≡ [] → ReadingFeels v w reading answer frames w' nothing_felt
 
@@ -182,8 +237,7 @@ pub data EventFeels {N B W : Type 0} (v : Values N) (u : World) (event : Event N
   by-call : (c : Change) (call : Call N B) (answer : Reply N B) → event ≡ Event.Call call → reply ≡ EventReply.CallReply answer → CallFeels v u.core Owner.Caller call answer u'.core c
       → KeepsReadings u u' → EventFeels v u event reply u' c
   by-reading : (c : Change) (reading : Reading) (answer : Option (LoadAnswer N)) (frames : List Frame) → IsSteppedReading u event reading
-      → (answer ≡ None → (load : OpenLoad) × (u.core.loads reading.load.0 ≡ Some load)) → ReadingFeels v u.core reading answer frames u'.core c
-      → StepsReading u reading answer frames u'
+      → (answer ≡ None → (load : OpenLoad) × (u.core.loads reading.load.0 ≡ Some load)) → ReadingFeels v u.core reading answer frames u'.core c → StepsReading u reading answer frames u'
       → EventFeels v u event reply u' c
   by-key : (k : WorkerNumber) (key : ℕ) (row : HandleRow) → event ≡ Event.WorkerStep k → SetsThrough u k key row → KeepsReadings u u' → EventFeels v u event reply u' (sets_key row.node.0 key)
   by-nothing : ((n : ℕ) (x : N) → EventBrings v u event n x → IsNewNode u.core n ⊎ StaysAway u.core u'.core n) → KeepsReadings u u' → EventFeels v u event reply u' nothing_felt
@@ -216,3 +270,204 @@ pub record ChangeFits {N E : Type 0} (v : Values N) (c : Change) (comes : ℕ �
   pub keyed : (t key : ℕ) → Bears c t (OptionalDataKey.Some key) → ReadsTree s'.core.stored v.types key (trees' (s.core.last.node + 1))
   pub knows : (kind key n : ℕ) → Knows c s.core kind key n → ReadsNodeTree v.types s'.core.stored trees' key (type_of kind) n
   pub comes_well : (n : ℕ) (x : N) → comes n x → s.values n ≡ None → s'.values n ≡ Some x → ValueLeads v trees' x (trees' n)
+
+-- The handle stands for the reference, both of which were given: while it is live it is of the reference's node, and loose where the reference's kind is.
+pub record StandsAt (w : Core) (r : ArcRef) (h : HandleNumber) : Type 0 where
+  pub node_given : r.node.0 ≤ w.last.node
+  pub given : h.0 ≤ w.last.handle
+  pub is : (row : HandleRow) → row_at w h ≡ Some row → (row.node ≡ r.node) × (is_loose_kind r.kind.0 ≡ true → is_loose row.mode ≡ true)
+
+-- the node was given, and has a key while it lives
+pub record KeyIsSet (w : Core) (n : ℕ) : Type 0 where
+  pub given : n ≤ w.last.node
+  pub keyed : (cell : Cell) → w.cells n ≡ Some cell → has_key cell.key ≡ true
+
+-- the worker has a handle of the node
+pub record HasHandle (w : Core) (v n : ℕ) : Type 0 where
+  pub h : HandleNumber
+  pub row : HandleRow
+  pub live : row_at w h ≡ Some row
+  pub own : row.owner ≡ owner_worker v
+  pub at : row.node.0 ≡ n
+
+-- what the worker holds of a reference that it has claimed, and what it has come to and still has when its key is published
+abbrev pub Holds : Core → ℕ → Todo → Type 0
+Holds w v (to_pin r place) = StandsAt w r r.handle
+Holds w v (to_load r place through reading) = StandsAt w r through
+Holds w v (to_write r place through) = StandsAt w r through
+Holds w v (to_finish o) = StandsAt w o.reference o.through
+Holds w v (to_set r through key height) = StandsAt w r through
+Holds w v (to_publish r key height) = (is_loose_kind r.kind.0 ≡ true → KeyIsSet w r.node.0) × HasHandle w v r.node.0
+Holds w v _ = Unit {0}
+
+-- nothing waits but written nodes, of which the same is held, and an item
+unfoldable pub WaitsHeld : Core → List Todo → Type 0
+WaitsHeld w [] = Unit {0}
+WaitsHeld w (to_finish o ∷ below) = StandsAt w o.reference o.through × WaitsHeld w below
+WaitsHeld w (to_item written keys ∷ below) = WaitsHeld w below
+WaitsHeld w (x ∷ below) = ⊥
+
+-- of all that is to be done
+unfoldable pub AllHold : Core → ℕ → List Todo → Type 0
+AllHold w v [] = Unit {0}
+AllHold w v (x ∷ below) = Holds w v x × WaitsHeld w below
+
+-- So do all workers, and each cell whose key was published by a loose reference has a key.
+pub record KeysHeld (u : World) : Type 0 where
+  pub walks : (n : ℕ) (walking : Walking) → u.work.walkings n ≡ Some walking → AllHold u.core n walking.todo
+  pub slots : (t : ℕ) (i : Identity) (key height : ℕ) → IsPublished (u.work.shelves t) i key height → is_loose_kind i.kind.0 ≡ true → KeyIsSet u.core i.node.0
+
+-- What keys are of one event: each that is published is its tree's, and a cell had one by then; each that is answered is its task's, and what was met then is left paged out, with keys of its cells.
+pub record KeysAreRight {N E B W : Type 0} (v : Values N) (s : MachineState N E) (trees : ℕ → Tree) (event : Event N B W) (reply : EventReply N B W) (s' : MachineState N E)
+    (trees' : ℕ → Tree) : Type 0 where
+  pub publishes : PublishIsKey v s trees event reply s' trees'
+  pub key : AnswerIsKey v s trees event reply s' trees'
+  pub leaves : AnswerLeavesAll v s trees event reply s' trees'
+
+-- what is stored, the last node, and the trees of nodes
+pub record Ground : Type 0 where
+  pub stored : ℕ → Option Blob
+  pub last : ℕ
+  pub trees : ℕ → Tree
+
+abbrev pub ground_of : {N E : Type 0} → MachineState N E → (ℕ → Tree) → Ground
+ground_of s trees = record { stored = s.pager.core.stored; last = s.pager.core.last.node; trees = trees }
+
+-- the key is the tree's, and the tree is stored under it, each value as a form under its key
+pub record KeyStands {N : Type 0} (v : Values N) (stored : ℕ → Option Blob) (t : Tree) (key : ℕ) : Type 0 where
+  pub is_key : KeyOf v.hash v.types t key
+  pub stands : StoredTree stored v.types key t
+
+-- What was written is a form of the node's tree over its references, whose nodes were all given. The value that it is a form of names no handle twice.
+pub record WroteTree (types : Types) (g : Ground) (n : ℕ) (written : Written) : Type 0 where
+  pub shape : Shape
+  pub own : Meaning ArcRef
+  pub is : types.nodes (g.trees n).type ≡ Some shape
+  pub form : Form ArcRef kind_of_arc types.parts deepest shape own written.bytes written.references
+  pub follows : FollowsTo g.trees written.references own (g.trees n).meaning
+  pub given : (r : ArcRef) → Among written.references r → r.node.0 ≤ g.last
+  pub once : (q : ℕ) → times (λ (r : ArcRef). r.handle.0 == q) (references_in own) ≤ 1
+
+-- the reference's key is known, with a height to which it adds no more than this
+pub record IsLow (shelf : Shelf) (height : ℕ) (r : ArcRef) : Type 0 where
+  pub key : ℕ
+  pub below : ℕ
+  pub known : IsPublished shelf (identity_of r) key below
+  pub within : above r.kind.0 below ≤ height
+
+abbrev pub AllLow : Shelf → ℕ → List ArcRef → Type 0
+AllLow shelf height rs = (r : ArcRef) → Among rs r → IsLow shelf height r
+
+-- one of the references adds so much
+pub record AddsSo (shelf : Shelf) (height : ℕ) (rs : List ArcRef) : Type 0 where
+  pub r : ArcRef
+  pub among : Among rs r
+  pub key : ℕ
+  pub below : ℕ
+  pub known : IsPublished shelf (identity_of r) key below
+  pub least : height ≤ above r.kind.0 below
+
+-- the height is no more than there is
+abbrev pub IsAttained : Shelf → ℕ → List ArcRef → Type 0
+IsAttained shelf height rs = (height ≡ 0) ⊎ AddsSo shelf height rs
+
+-- under the key, which is that of the node's tree, stands what was written over the keys that are known of its references; its height is within the limit, and that of the references
+pub record BlobStands {N : Type 0} (v : Values N) (g : Ground) (shelf : Shelf) (n : ℕ) (written : Written) (key height : ℕ) : Type 0 where
+  pub keys : List ℕ
+  pub known : AreKeysOf shelf written.references keys
+  pub is_stored : g.stored key ≡ Some (blob_of written.bytes keys)
+  pub right : KeyStands v g.stored (g.trees n) key
+  pub within : height ≤ longest_path
+  pub low : AllLow shelf height written.references
+  pub attained : IsAttained shelf height written.references
+
+-- a slot is of a node that was given, of its kind's type; what was written is a form of its tree, and stands under the key that is known
+pub record SlotFits {N : Type 0} (v : Values N) (g : Ground) (shelf : Shelf) (i : Identity) (slot : Slot) : Type 0 where
+  pub given : i.node.0 ≤ g.last
+  pub typed : (g.trees i.node.0).type ≡ type_of i.kind.0
+  pub writes : (written : Written) → slot.written ≡ Some written → WroteTree v.types g i.node.0 written
+  pub publishes : (key height : ℕ) → slot.outcome ≡ published key height → (written : Written) × (slot.written ≡ Some written) × BlobStands v g shelf i.node.0 written key height
+
+-- the keys that are known of the first of the references, which add no more than this to a height
+unfoldable pub KeysSoFar : Shelf → ℕ → List ArcRef → List ℕ → Type 0
+KeysSoFar shelf height rs [] = Unit {0}
+KeysSoFar shelf height [] (k ∷ ks) = ⊥
+KeysSoFar shelf height (r ∷ rs) (k ∷ ks) = ((below : ℕ) × IsPublished shelf (identity_of r) k below × (above r.kind.0 below ≤ height)) × KeysSoFar shelf height rs ks
+
+-- the reference is the next one after those whose keys are known
+abbrev pub IsNextOf : List ArcRef → List ℕ → ArcRef → Type 0
+IsNextOf rs keys r = (more : List ArcRef) × (drop (length keys) rs ≡ r ∷ more)
+
+-- the reference is that of the task's entry
+abbrev pub IsOfEntry : Task → ArcRef → Type 0
+IsOfEntry (of_entry h i) r = identity_of r ≡ i
+IsOfEntry (of_item written) r = ⊥
+
+-- what waits below is for this reference; and where nothing waits, it is that of the task's entry
+abbrev pub Expects : Task → ArcRef → List Todo → Type 0
+Expects task r [] = IsOfEntry task r
+Expects task r (to_finish o ∷ below) = IsNextOf o.written.references o.keys r
+Expects task r (to_item written keys ∷ below) = IsNextOf written.references keys r
+Expects task r (x ∷ below) = ⊥
+
+-- the place of a reference over what waits for it
+abbrev pub place_over : ArcRef → List Todo → ℕ
+place_over r (to_finish o ∷ below) = place_below o.place r.kind.0
+place_over r (to_item written keys ∷ below) = place_below 0 r.kind.0
+place_over r todo = 0
+
+-- with this height the reference doesn't lie too deep
+abbrev pub HasRoom : ArcRef → ℕ → List Todo → Type 0
+HasRoom r height below = place_over r below + height ≤ longest_path
+
+-- what waits: written nodes in their places, with the keys of their first references and the height that these come to, and the task's item
+unfoldable pub Waits : Shelf → Task → List Todo → Type 0
+Waits shelf task [] = Unit {0}
+Waits shelf task (to_finish o ∷ below) =
+    KeysSoFar shelf o.height o.written.references o.keys × IsAttained shelf o.height o.written.references × (o.place ≡ place_over o.reference below) × HasRoom o.reference o.height below
+    × Expects task o.reference below × Waits shelf task below
+Waits shelf task (to_item written keys ∷ below) = (task ≡ of_item written) × KeysSoFar shelf longest_path written.references keys
+Waits shelf task (x ∷ below) = ⊥
+
+-- below the reference stands what waits for it
+abbrev pub Above : Shelf → Task → ArcRef → List Todo → Type 0
+Above shelf task r below = Expects task r below × Waits shelf task below
+
+-- so it does, and the reference is in its place
+abbrev pub Placed : Shelf → Task → ArcRef → ℕ → List Todo → Type 0
+Placed shelf task r place below = (place ≡ place_over r below) × (place ≤ longest_path) × Above shelf task r below
+
+-- the key stands for what was written of the reference's node
+pub record HasBlob {N : Type 0} (v : Values N) (g : Ground) (shelf : Shelf) (r : ArcRef) (key height : ℕ) : Type 0 where
+  pub slot : Slot
+  pub written : Written
+  pub claimed : shelf.slots (identity_of r) ≡ Some slot
+  pub wrote : slot.written ≡ Some written
+  pub stands : BlobStands v g shelf r.node.0 written key height
+
+-- what a worker has to do fits its table and trees
+abbrev pub Walks : {N : Type 0} → Values N → Ground → Shelf → Task → List Todo → Type 0
+Walks v g shelf task [] = Unit {0}
+Walks v g shelf task (to_start r place ∷ below) = (place ≡ place_over r below) × Above shelf task r below
+Walks v g shelf task (to_pin r place ∷ below) = Placed shelf task r place below
+Walks v g shelf task (to_load r place through reading ∷ below) = Placed shelf task r place below
+Walks v g shelf task (to_write r place through ∷ below) = Placed shelf task r place below
+Walks v g shelf task (to_finish o ∷ below) = Waits shelf task (to_finish o ∷ below)
+Walks v g shelf task (to_item written keys ∷ below) = Waits shelf task (to_item written keys ∷ below)
+Walks v g shelf task (to_set r through key height ∷ below) = HasBlob v g shelf r key height × HasRoom r height below × Above shelf task r below
+Walks v g shelf task (to_publish r key height ∷ below) = HasBlob v g shelf r key height × HasRoom r height below × Above shelf task r below
+Walks v g shelf task (to_release r key height ∷ below) = IsPublished shelf (identity_of r) key height × HasRoom r height below × Above shelf task r below
+Walks v g shelf task (to_fail fault back ∷ below) = Unit {0}
+
+abbrev pub SlotsFit : {N : Type 0} → Values N → Ground → Shelf → Type 0
+SlotsFit v g shelf = (i : Identity) (slot : Slot) → shelf.slots i ≡ Some slot → SlotFits v g shelf i slot
+
+-- all slots and all workers of the machine fit
+pub record WorkFits {N E : Type 0} (v : Values N) (s : MachineState N E) (trees : ℕ → Tree) : Type 0 where
+  pub slots : (t : ℕ) → SlotsFit v (ground_of s trees) (s.work.shelves t)
+  pub walks : (n : ℕ) (walking : Walking) → s.work.walkings n ≡ Some walking → Walks v (ground_of s trees) (s.work.shelves walking.table) walking.task walking.todo
+
+-- the key is what the task has come to: over the keys that are known of its item's references, none of which lies too deep, or of its entry
+abbrev pub IsDone : {N : Type 0} → Values N → Shelf → Task → ℕ → Type 0
+IsDone v shelf (of_item written) key = (keys : List ℕ) × AreKeysOf shelf written.references keys × (key ≡ digest v (blob_of written.bytes keys)) × AllLow shelf longest_path written.references
+IsDone v shelf (of_entry h i) key = (height : ℕ) × IsPublished shelf i key height

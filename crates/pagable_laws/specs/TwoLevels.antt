@@ -1,19 +1,16 @@
--- A chain of moments of two levels. A value is a leaf, of the type 1, which has no byte; or a parent, of the type 0, which is a reference to a leaf
--- through a loose handle. Both are born, an item that refers to the parent is paged out, the parent is evicted with its child and is read again, and the
--- child's key is read.
-use Rattle.{pagable_laws.specs.SmallWorlds.{empty, no_work, outer}, pagable_model.specs.{Meaning.{none, reference}, Merkle.blob_of}, pagable_world.specs.Calls.{is_named_by, moved, next_node}}
+-- A chain of moments of two levels. A value is a leaf, of the type 1, which has no byte; or a parent, of the type 0, which is a reference to a leaf through a loose handle. Both are born, an item that
+-- refers to the parent is paged out, the parent is evicted with its child and is read again, and the child's key is read.
+use Rattle.std.specs.Prelude.{Bool, List, None, Ok, Option, Some, [], if◌then◌else◌, length, not, suc, zero, ℕ, ◌&&◌, ◌++◌, ◌+◌, ◌==◌, ◌∷◌, ◌≡◌}
+use Rattle.pagable_world.specs.World.{digest, no_result, of_cell, of_item, of_key, published, to_finish, to_item, to_pin, to_publish, to_release, to_set, to_start, to_write}
+use Rattle.pagable_world.specs.declared.{answers.Beginning.Beginning, calls.{Call.Call, Reply.Reply}, events.{Claim.Claim, Event.Event, EventReply.EventReply, LoadAnswer.LoadAnswer, PinStep.PinStep}}
+use Rattle.pagable_world.specs.declared.{events.{Took.Took, WorkerAnswer.WorkerAnswer}, handles.Owner.Owner, rows.Mode.Mode}
 use Rattle.pagable_world.specs.{Calls.{with_handle, with_key, with_mode, with_node}, Cascade.{fallen, nobody}, Events.{no_shelf, with_worker}, Headline.Headline, Kinds.{identity_of, owner_value}}
 use Rattle.pagable_world.specs.{Kinds.{owner_worker, pins}, LoadCalls.{adopted, is_owned_in, with_load, with_pin, without_load}, Loads.{gone_on, root_frame}, Pager.{IsIdle, IsMachineWhole}}
 use Rattle.pagable_world.specs.{Pager.{MachineState, StandsFor}, Plain.{ArcRef, Blob, HandleNumber, LoadNumber, Meaning, NodeNumber, OptionalDataKey, Tree, Types, if_there, is_in, updated}}
 use Rattle.pagable_world.specs.{Runs.{AreMoments, HoldsSettled, IsPremised, Moment, ReadsItsTypes}, Workers.{answer_after, first_todo, fresh, give, is_workers, is_workers_at, open_node}}
 use Rattle.pagable_world.specs.{Workers.{with_changed_slot, with_outcome, with_slot, with_wait, without_worker}, World.{Core, IsLawful, Reading, Seen, Shelf, Todo, Values, Walking, Work, Written}}
-use Rattle.pagable_world.specs.World.{digest, no_result, of_cell, of_item, of_key, published, to_finish, to_item, to_pin, to_publish, to_release, to_set, to_start, to_write}
-use Rattle.pagable_world.specs.declared.{answers.Beginning.Beginning, calls.{Call.Call, Reply.Reply}, events.{Claim.Claim, Event.Event, EventReply.EventReply, LoadAnswer.LoadAnswer}}
-use Rattle.{pagable_world.specs.declared.{events.{PinStep.PinStep, Took.Took, WorkerAnswer.WorkerAnswer}, handles.Owner.Owner, rows.Mode.Mode}, std.specs.Prelude.{Bool, List, None, Ok, Option}}
-use Rattle.std.specs.Prelude.{Some, [], if◌then◌else◌, length, not, suc, zero, ℕ, ◌&&◌, ◌++◌, ◌+◌, ◌==◌, ◌∷◌, ◌≡◌}
+use Rattle.{pagable_laws.specs.FallLaws.{empty, no_work, outer}, pagable_model.specs.{Meaning.{none, reference}, Merkle.blob_of}, pagable_world.specs.Calls.{is_named_by, moved, next_node}}
 use Rattle.pagable_model.specs.Shape as shapes
-
--- ---- values
 
 pub data Sample : Type 0 where
   leaf : Sample
@@ -77,8 +74,6 @@ sample_written x = record { bytes = []; references = sample_references x }
 abbrev pub item : Written
 item = record { bytes = 0 ∷ []; references = to_parent ∷ [] }
 
--- ---- births
-
 abbrev pub born : Core → Sample → Core
 born w x = with_handle (with_node w (sample_type x) OptionalDataKey.None (sample_references x)) (next_node w) Mode.LoosePinned Owner.Caller
 
@@ -135,8 +130,7 @@ abbrev pub next_step : Core → Shelf → List Todo → Took Written × Core × 
 next_step w s (to_start r place ∷ below) =
     let claimed = with_slot (with_wait s 1 None) (identity_of r) (Some (record { worker = 1; written = None; outcome = no_result })) in
     (Took.Claim (identity_of r) (Ok Claim.Claimed), w, claimed, to_pin r place ∷ below)
-next_step w s (to_pin r place ∷ below) =
-    (Took.Pin (identity_of r) (Ok (PinStep.Held (handle (w.last.handle + 1 + 1)))), pinned_at w r.node, s, to_write r place (handle (w.last.handle + 1)) ∷ below)
+next_step w s (to_pin r place ∷ below) = (Took.Pin (identity_of r) (Ok (PinStep.Held (handle (w.last.handle + 1 + 1)))), pinned_at w r.node, s, to_write r place (handle (w.last.handle + 1)) ∷ below)
 next_step w s (to_write r place through ∷ below) =
     let written = sample_written (value_of r.node) in
     (Took.Write (identity_of r) (Ok written), w, with_changed_slot s (identity_of r) (λ slot. record slot { written = Some written }), open_node r place through written below)
@@ -213,8 +207,6 @@ parent_read = gone_on parent_fetched (record (root_frame 24 0 (blob_of [] (8 ∷
 abbrev pub child_fetched : Reading
 child_fetched = gone_on (fresh (load_number 2) 1) (root_frame 8 1 (blob_of [] []) ∷ [])
 
--- ---- the machine
-
 -- the one table and the one worker, and what is read, each if it is there
 abbrev pub reads : Option Reading → ℕ → Option Reading
 reads None l = None
@@ -234,8 +226,6 @@ walking x = record { table = 1; task = of_item item; todo = x.todo; steps = x.st
 
 abbrev pub at_work : Working → MachineState Sample (Unit {0})
 at_work x = machine x.core two_values (work_of x.shelf (Some (walking x)) None)
-
--- ---- the moments
 
 abbrev pub Happening : Type 0
 Happening = Moment Sample (Unit {0}) Blob Written

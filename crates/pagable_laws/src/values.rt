@@ -2,11 +2,10 @@
 #![tactic(auto, using(crate::proofs::Laws::value_laws, crate::proofs::Laws::form_laws))]
 
 ghost use Rattle.std.specs.Prelude.{ℕ};
-ghost use Rattle.pagable_model.specs.Canonical.{IsReadable, Throughout};
-ghost use Rattle.pagable_model.specs.Shape.{Shape};
+ghost use Rattle.pagable_model.specs.{Canonical.{IsReadable, Throughout}, Shape.Shape};
 ghost use Rattle.pagable_laws.specs.FormLaws.{IsReadAgain, IsPrefixFree, CanonicalHasOneForm, HasOnePreimage, IsLocal, IsUsed, IsLasting, IsNatural, IsReadOver, IsRenamed, IsReadThrough, KeepsForms};
-ghost use Rattle.pagable_laws.specs.KeyLaws.{IsOneMeaning, IsOneKeyMeaning, IsAnyOrder, FloatHasNoForm, WholeIsBounded};
-ghost use Rattle.pagable_laws.specs.TreeLaws.{IsOneTree, IsOneKey, IsOneItemKey, IsStoredKey, IsTreeReadable, IsKeyOfOneTree, IsLongestPath, StaysInside, IsCanonicalInside};
+ghost use Rattle.pagable_laws.specs.FormLaws.{IsOneMeaning, IsOneKeyMeaning, IsAnyOrder, FloatHasNoForm, WholeIsBounded};
+ghost use Rattle.pagable_laws.specs.FormLaws.{IsOneTree, IsOneKey, IsOneItemKey, IsStoredKey, IsTreeReadable, IsKeyOfOneTree, IsLongestPath, StaysInside, IsCanonicalInside};
 
 /// A form of a shape that is read throughout is read again, whatever follows it.
 pub fn is_read_again<A, B>()

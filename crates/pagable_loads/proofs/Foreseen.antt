@@ -1,14 +1,267 @@
--- From one reading with stand-ins to what a blob asks for ahead.
-use Rattle.std.proofs.Common.{◌≡◌, ℕ, ◌+◌, ◌<◌, drop, false, if◌then◌else◌, List, [], ◌∷◌, ◌++◌}
-use Rattle.std.proofs.Common.{length, Option, Some, None, Result, Ok, Err, inl, inr, refl, ap, sym, subst, ◌∙◌, arith}
-use Rattle.std.proofs.{Common.{slice_get}, lemmas.{Option.{slice_get_cases, slice_get_within, slice_get-get_or}, Bool.Decides.nat_tests}}
-use Rattle.std.proofs.lemmas.List.{append_assoc, at_drop_all, at_drop_more, length-append, length-map, map-append}
-use Rattle.pagable_model.specs.{declared.{error.Error.Error, numbers.{ArcRef.ArcRef, Kind.Kind}}, Blob.Blob, Meaning.Meaning, Reading.Rest, Standing.Answer, Steps.◌>>=◌, Deep.is_eager}
-use Rattle.pagable_world.specs.{Plain.Types, World.Frame, Loads.{asks, answer_of, answers_from, next_by}}
-use Rattle.{pagable_world.specs.Loads.{next_of, read_with, need_at, need_of, needs_nested, needs_lazy}, pagable_loads.specs.Ahead.kinds_of}
-use Rattle.pagable_loads.{specs.Ahead.{AsksNext, Foresees, IsAhead, RowTells, GotMore, Kept}, proofs.Traced.{Sober, Trace, asking, leaves, typed_traced}}
+-- What a reading asks for is told by its bytes alone: kinds, one after the other, up to its end or its fault, whatever is answered.
+use Rattle.pagable_loads.specs.{Ahead.{AsksNext, Foresees, GotMore, IsAhead, Kept, RowTells, kinds_of}, Decoding.is_asking, Ending.{LeadsOn, left_behind, left_in, many, to_do, weight, weight_on}}
+use Rattle.pagable_model.specs.{Basic.{bool_at, char_at, duration_at, length_at, longest, nanos_of_second, text_at}, Blob.Blob, Carried.{of_entries, of_hash_map, of_tagged}, Deep.is_eager}
+use Rattle.pagable_model.specs.{Keys.{put_all, put_sorted, text_order}, Meaning.{Meaning, absent, entry, failure, integer, lifted, present, sequence, success, variant}, Numbers.Read}
+use Rattle.pagable_model.specs.{Numbers.{signed_at, unsigned_at, varint_at}, Reading.{Deeper, Gets, JsonCase, Rest, array_case, below, bytes_of, choose, counted, deepest, enter, flag_case, items}}
+use Rattle.pagable_model.specs.{Reading.{json_case, json_part, null_case, number_case, object_case, read, read_typed, read_with, reference_at, registered, seen, text_case, two}, Shape.{Shape, array}}
+use Rattle.pagable_model.specs.Shape.{both, cases, duration, flag, hash_map, json, letter, list, nested, nothing, optional, outcome, placed_map, placed_set, run, signed, sorted_map, sorted_set}
+use Rattle.pagable_model.specs.{Shape.{static_value, tagged, unsigned}, Standing.{Answer, answer_at, handles_at}, Steps.◌>>=◌, declared.{error.Error.Error, numbers.{ArcRef.ArcRef, Kind.Kind}}}
+use Rattle.pagable_world.specs.{Loads.{Need, answer_of, answers_from, asks, need_at, need_of, needs_lazy, needs_nested, next_by, next_of, read_with as read_blob}, Plain.Types, World.Frame}
+use Rattle.std.proofs.Common.{Bool, Err, List, None, Ok, Option, Result, Some, [], ap, arith, drop, false, if◌then◌else◌, inl, inr, length, refl, slice_get, subst, suc, sym, true, zero, ℕ, ◌*◌, ◌++◌}
+use Rattle.std.proofs.{Common.{◌+◌, ◌-◌, ◌/◌, ◌<◌, ◌==◌, ◌^◌, ◌∙◌, ◌∷◌, ◌≡◌, ◌≤◌, ◌⊎◌}, Math.Nat.mul-le-mul_right, lemmas.{Bool.Decides.nat_tests, List.{append_assoc, at_drop_all, at_drop_more}}}
+use Rattle.std.{proofs.lemmas.{List.{length-append, length-map, map-append}, Option.{slice_get-get_or, slice_get_cases, slice_get_within}}, specs.{Int.{Width, w32, w64}, Prelude.{nat_le, nat_lt}}}
+use Rattle.pagable_model.specs.Meaning as meanings
+use Rattle.pagable_model.specs.Shape as shapes
 
--- ---- lists
+-- ---- no fault of the bytes is the name by which a reference is asked for
+
+abbrev pub Sober : {A : Type 0} → Result A Error → Type 0
+Sober (Ok x) = Unit {0}
+Sober (Err e) = is_asking e ≡ false
+
+sober_then : {A B : Type 0} (r : Result A Error) (f : A → Result B Error) → Sober r → ((x : A) → Sober (f x)) → Sober (r >>= f)
+sober_then r f h k = grind (arith, nat_tests)
+
+sober_if : {A : Type 0} (b : Bool) (r q : Result A Error) → Sober r → Sober q → Sober (if b then r else q)
+sober_if b r q h k = grind (arith, nat_tests)
+
+sober_varint : (more last : ℕ) (bytes : List ℕ) → Sober (varint_at more last bytes)
+unfolding varint_at
+sober_varint zero last [] = refl
+sober_varint (suc more) last [] = refl
+sober_varint zero last (b ∷ bytes) = sober_if (nat_le b last) _ _ tt refl
+sober_varint (suc more) last (b ∷ bytes) = sober_if (nat_lt b 128) _ _ tt (sober_then (varint_at more last bytes) _ (sober_varint more last bytes) (λ x. tt))
+
+sober_unsigned : (w : Width) (bytes : List ℕ) → Sober (unsigned_at w bytes)
+sober_unsigned w bytes = grind (arith, nat_tests, sober_varint)
+
+sober_signed : (w : Width) (bytes : List ℕ) → Sober (signed_at w bytes)
+sober_signed w bytes = sober_then (unsigned_at w bytes) _ (sober_unsigned w bytes) (λ x. tt)
+
+sober_length : (bytes : List ℕ) → Sober (length_at bytes)
+unfolding length_at
+sober_length bytes = sober_then (unsigned_at w64 bytes) _ (sober_unsigned w64 bytes) (λ n. sober_if (nat_le n.0 longest) _ _ tt refl)
+
+sober_text : (bytes : List ℕ) → Sober (text_at bytes)
+unfolding text_at
+sober_text bytes = grind (arith, nat_tests, sober_length)
+
+sober_flag : (bytes : List ℕ) → Sober (bool_at bytes)
+unfolding bool_at
+sober_flag bytes = grind (arith, nat_tests)
+
+sober_char : (bytes : List ℕ) → Sober (char_at bytes)
+unfolding char_at
+sober_char bytes = grind (arith, nat_tests, sober_text)
+
+sober_duration : (bytes : List ℕ) → Sober (duration_at bytes)
+unfolding duration_at
+sober_duration bytes =
+    sober_then (unsigned_at w64 bytes) _ (sober_unsigned w64 bytes)
+    (λ s. sober_then (unsigned_at w32 s.1) _ (sober_unsigned w32 s.1) (λ n. sober_if (nat_lt (s.0 + n.0 / nanos_of_second) (2 ^ 64)) _ _ tt refl))
+
+sober_registered : (registry : List (Meaning ⊥)) (i : ℕ) → Sober (registered registry i)
+sober_registered [] i = refl
+sober_registered (m ∷ ms) zero = tt
+sober_registered (m ∷ ms) (suc i) = sober_registered ms i
+
+-- ---- what a reading does, whatever is answered
+
+abbrev pub left : {A : Type 0} → List ℕ → List A → Rest A
+left bytes refs = record { bytes = bytes; refs = refs }
+
+-- what is left by it, or its fault
+abbrev pub leaves : {X : Type 0} → Result (X × Rest Answer) Error → Result (Rest Answer) Error
+leaves r = r >>= λ x. Ok x.1
+
+-- It asks for these kinds, one after the other, up to its end, at which these bytes are left, or to its fault; the first that is refused is its refusal.
+abbrev pub asking : List ℕ → Result (List ℕ) Error → List Answer → Result (Rest Answer) Error
+asking [] end refs = end >>= λ bytes. Ok (left bytes refs)
+asking (k ∷ ks) end [] = Err Error.NoMoreKeys
+asking (k ∷ ks) end (a ∷ refs) = a k >>= λ r. asking ks end refs
+
+pub record Trace {X : Type 0} (get : Gets Answer X) (bytes : List ℕ) : Type 0 where
+  pub kinds : List ℕ
+  pub end : Result (List ℕ) Error
+  pub sober : Sober end
+  pub goes : (refs : List Answer) → leaves (get (left bytes refs)) ≡ asking kinds end refs
+
+pub record Traced {X : Type 0} (get : Gets Answer X) : Type 0 where
+  pub on : (bytes : List ℕ) → Trace get bytes
+
+answered : (o : Result ArcRef Error) (f : Rest Answer → Result (Rest Answer) Error) (r q : Result (Rest Answer) Error) → (r >>= f) ≡ q → ((o >>= λ x. r) >>= f) ≡ (o >>= λ x. q)
+answered (Ok x) f r q is = is
+answered (Err e) f r q is = refl
+
+-- what goes on where it ends
+asking-on : (f : Rest Answer → Result (Rest Answer) Error) (more : List ℕ) (first end : Result (List ℕ) Error) → ((refs : List Answer) → (asking [] first refs >>= f) ≡ asking more end refs)
+    → (ks : List ℕ) (refs : List Answer) → (asking ks first refs >>= f) ≡ asking (ks ++ more) end refs
+asking-on f more first end is [] refs = is refs
+asking-on f more first end is (k ∷ ks) [] = refl
+asking-on f more first end is (k ∷ ks) (a ∷ refs) = answered (a k) f _ _ (asking-on f more first end is ks refs)
+
+seen-leaves : {X Y : Type 0} (view : X → Y) (r : Result (X × Rest Answer) Error) → leaves (r >>= λ x. let o : Result (Y × Rest Answer) Error = Ok (view x.0, x.1) in o) ≡ leaves r
+seen-leaves view (Ok x) = refl
+seen-leaves view (Err e) = refl
+
+sees : {X Y : Type 0} (view : X → Y) {get : Gets Answer X} → Traced get → Traced (seen view get)
+sees view {get} h = record { on = λ bytes. let t = h.on bytes in record { kinds = t.kinds; end = t.end; sober = t.sober; goes = λ refs. seen-leaves view (get (left bytes refs)) ∙ t.goes refs } }
+
+-- one after the other
+module _ {X Y Z : Type 0} {first : Gets Answer X} {second : Gets Answer Y} (pair : X → Y → Z) (h : Traced first) (k : Traced second) where
+  abbrev both_read : Gets Answer Z
+  both_read i = first i >>= λ x. second x.1 >>= λ y. Ok (pair x.0 y.0, y.1)
+
+  abbrev next : Rest Answer → Result (Rest Answer) Error
+  next i = leaves (second i)
+
+  joined : (r : Result (X × Rest Answer) Error) → leaves (r >>= λ x. second x.1 >>= λ y. let o : Result (Z × Rest Answer) Error = Ok (pair x.0 y.0, y.1) in o) ≡ (leaves r >>= next)
+  joined (Ok x) = seen-leaves (pair x.0) (second x.1)
+  joined (Err e) = refl
+
+  go_on : (bytes more : List ℕ) (end : Result (List ℕ) Error) (t : Trace first bytes) → Sober end → ((refs : List Answer) → (asking [] t.end refs >>= next) ≡ asking more end refs)
+      → Trace both_read bytes
+  go_on bytes more end t sober after = record {
+    kinds = t.kinds ++ more;
+    end = end;
+    sober = sober;
+    goes = λ refs. joined (first (left bytes refs)) ∙ ap (λ r. r >>= next) (t.goes refs) ∙ asking-on next more t.end end after t.kinds refs;
+  }
+
+  join : Traced both_read
+  join = record { on = λ bytes. let t = h.on bytes in by bytes t t.end refl t.sober }
+    where
+      by : (bytes : List ℕ) (t : Trace first bytes) (end : Result (List ℕ) Error) → t.end ≡ end → Sober end → Trace both_read bytes
+      by bytes t (Ok rest) is s = let q = k.on rest in go_on bytes q.kinds q.end t q.sober (λ refs. rw is (q.goes refs))
+      by bytes t (Err e) is s = go_on bytes [] (Err e) t s (λ refs. rw is refl)
+
+gives : {X : Type 0} (x : X) → Traced (λ (i : Rest Answer). let r : Result (X × Rest Answer) Error = Ok (x, i) in r)
+gives x = record { on = λ bytes. record { kinds = []; end = Ok bytes; sober = tt; goes = λ refs. refl } }
+
+refuses : {X : Type 0} (e : Error) → is_asking e ≡ false → Traced (λ (i : Rest Answer). let r : Result (X × Rest Answer) Error = Err e in r)
+refuses e sober = record { on = λ bytes. record { kinds = []; end = Err e; sober = sober; goes = λ refs. refl } }
+
+-- bytes, and then what they say
+module _ {X Z : Type 0} (read : List ℕ → Read Z) (sober : (bytes : List ℕ) → Sober (read bytes)) where
+  after_bytes : (f : Z → Gets Answer X) → ((z : Z) → Traced (f z)) → Traced (λ i. bytes_of read (λ z. z) i >>= λ p. f p.0 p.1)
+  after_bytes f k = record { on = λ bytes. by bytes (read bytes) refl (sober bytes) }
+    where
+      by : (bytes : List ℕ) (r : Read Z) → read bytes ≡ r → Sober r → Trace (λ i. bytes_of read (λ z. z) i >>= λ p. f p.0 p.1) bytes
+      by bytes (Ok z) e s = let t = (k z.0).on z.1 in record { kinds = t.kinds; end = t.end; sober = t.sober; goes = λ refs. rw e (t.goes refs) }
+      by bytes (Err x) e s = record { kinds = []; end = Err x; sober = s; goes = λ refs. rw e refl }
+
+  of_bytes : (view : Z → X) → Traced (bytes_of read view)
+  of_bytes view = record { on = λ bytes. by bytes (read bytes) refl (sober bytes) }
+    where
+      by : (bytes : List ℕ) (r : Read Z) → read bytes ≡ r → Sober r → Trace (bytes_of read view) bytes
+      by bytes (Ok z) e s = record { kinds = []; end = Ok z.1; sober = tt; goes = λ refs. rw e refl }
+      by bytes (Err x) e s = record { kinds = []; end = Err x; sober = s; goes = λ refs. rw e refl }
+
+choice : {X : Type 0} (b : Bool) {get other : Gets Answer X} → Traced get → Traced other → Traced (choose b get other)
+choice true h g = h
+choice false h g = g
+
+both_of : {X Y : Type 0} {get : Gets Answer X} {other : Gets Answer Y} → Traced get → Traced other → Traced (two get other)
+both_of h g = join (λ x y. (x, y)) h g
+
+each_of : {X : Type 0} {get : Gets Answer X} → Traced get → (n : ℕ) → Traced (λ i. items get n i)
+unfolding items
+each_of h zero = gives []
+each_of h (suc n) = join (λ x xs. x ∷ xs) h (each_of h n)
+
+as_many : {X : Type 0} {get : Gets Answer X} → Traced get → Traced (counted get)
+as_many {get = get} h = after_bytes length_at sober_length (λ n i. items get n i) (λ n. each_of h n)
+
+asks_one : (kind : ℕ) → Traced (λ (i : Rest Answer). reference_at answer_at kind i.refs i)
+asks_one kind = record { on = λ bytes. record { kinds = kind ∷ []; end = Ok bytes; sober = tt; goes = λ refs. by bytes refs } }
+  where
+    by : (bytes : List ℕ) (refs : List Answer) → leaves (reference_at answer_at kind refs (left bytes refs)) ≡ asking (kind ∷ []) (Ok bytes) refs
+    by bytes refs = grind (arith, nat_tests)
+
+-- ---- values
+
+pub data DeeperTraced : Deeper Answer ArcRef → Type 0 where
+  no-deeper : DeeperTraced None
+  one-deeper : (get : Shape → Gets Answer (Meaning ArcRef)) → ((s : Shape) → Traced (get s)) → DeeperTraced (Some get)
+
+entering : {X : Type 0} {d : Deeper Answer ArcRef} (part : (Shape → Gets Answer (Meaning ArcRef)) → Gets Answer X) → DeeperTraced d
+    → ((get : Shape → Gets Answer (Meaning ArcRef)) → ((s : Shape) → Traced (get s)) → Traced (part get)) → Traced (enter d part)
+entering part no-deeper k = refuses Error.TooDeep refl
+entering part (one-deeper get h) k = k get h
+
+json_traced : {d : Deeper Answer ArcRef} → DeeperTraced d → (case : JsonCase) → Traced (λ i. json_part d case i)
+json_traced h null_case = gives (variant 0 meanings.none)
+json_traced h flag_case = of_bytes bool_at sober_flag (λ b. variant 1 (meanings.flag b))
+json_traced h number_case =
+    after_bytes bool_at sober_flag (λ float. choose float (λ r. Err Error.JsonNumber) (bytes_of (signed_at w64) (λ z. variant 2 (integer z))))
+    (λ float. choice float (refuses Error.JsonNumber refl) (of_bytes (signed_at w64) (sober_signed w64) (λ z. variant 2 (integer z))))
+json_traced h text_case = of_bytes text_at sober_text (λ t. variant 3 (meanings.text t))
+json_traced {d} h array_case =
+    after_bytes length_at sober_length (λ count. enter d (λ get. seen (λ ms. variant 4 (sequence ms)) (items (get json) count)))
+    (λ count. entering _ h (λ get g. sees (λ ms. variant 4 (sequence ms)) (each_of (g json) count)))
+json_traced {d} h object_case =
+    after_bytes length_at sober_length (λ count. enter d (λ get. seen (λ es. variant 5 (of_entries (put_all (put_sorted text_order) [] es))) (items (two (get shapes.text) (get json)) count)))
+    (λ count. entering _ h (λ get g. sees (λ es. variant 5 (of_entries (put_all (put_sorted text_order) [] es))) (each_of (both_of (g shapes.text) (g json)) count)))
+
+json_any : {d : Deeper Answer ArcRef} → DeeperTraced d → (c : Result JsonCase Error) → Sober c → Traced (λ i. c >>= λ case. json_part d case i)
+json_any h (Ok case) s = json_traced h case
+json_any h (Err e) s = refuses e s
+
+sober_case : (n : ℕ) → Sober (json_case n)
+sober_case n = sober_if (n == 0) _ _ tt (sober_if (n == 1) _ _ tt (sober_if (n == 2) _ _ tt (sober_if (n == 3) _ _ tt (sober_if (n == 4) _ _ tt (sober_if (n == 5) _ _ tt refl)))))
+
+static_any : (c : Result (Meaning ⊥) Error) → Sober c → Traced (λ (i : Rest Answer). c >>= λ m. let z : Result (Meaning ArcRef × Rest Answer) Error = Ok (lifted m, i) in z)
+static_any (Ok m) s = gives (lifted m)
+static_any (Err e) s = refuses e s
+
+module _ (parts : ℕ → Shape) where
+  with_traced : {d : Deeper Answer ArcRef} → DeeperTraced d → (s : Shape) → Traced (λ i. read_with answer_at parts d s i)
+  unfolding read_with
+  with_traced h nothing = gives meanings.none
+  with_traced h (unsigned w) = of_bytes (unsigned_at w) (sober_unsigned w) _
+  with_traced h (signed w) = of_bytes (signed_at w) (sober_signed w) _
+  with_traced h flag = of_bytes bool_at sober_flag _
+  with_traced h shapes.text = of_bytes text_at sober_text _
+  with_traced h letter = of_bytes char_at sober_char _
+  with_traced h duration = of_bytes duration_at sober_duration _
+  with_traced h shapes.pattern = of_bytes text_at sober_text _
+  with_traced {d} h json = after_bytes (unsigned_at w64) (sober_unsigned w64) (λ n i. json_case n >>= λ case. json_part d case i) (λ n. json_any h (json_case n) (sober_case n))
+  with_traced {d} h (optional s) =
+      after_bytes bool_at sober_flag (λ some. choose some (seen present (read_with answer_at parts d s)) (λ r. Ok (absent, r))) (λ some. choice some (sees present (with_traced h s)) (gives absent))
+  with_traced {d} h (outcome s t) =
+      after_bytes bool_at sober_flag (λ ok. choose ok (seen success (read_with answer_at parts d s)) (seen failure (read_with answer_at parts d t)))
+      (λ ok. choice ok (sees success (with_traced h s)) (sees failure (with_traced h t)))
+  with_traced h (list s) = sees sequence (as_many (with_traced h s))
+  with_traced h (run s) = refuses Error.WrongKind refl
+  with_traced h (array n s) = sees sequence (each_of (with_traced h s) n)
+  with_traced h (both s t) = sees entry (both_of (with_traced h s) (with_traced h t))
+  with_traced h (sorted_map order s t) = sees _ (as_many (both_of (with_traced h s) (with_traced h t)))
+  with_traced h (placed_map s t) = sees _ (as_many (both_of (with_traced h s) (with_traced h t)))
+  with_traced h (hash_map s t) = sees of_hash_map (as_many (both_of (with_traced h s) (with_traced h t)))
+  with_traced h (sorted_set order s) = sees _ (as_many (with_traced h s))
+  with_traced h (placed_set s) = sees _ (as_many (with_traced h s))
+  with_traced h (static_value registry) =
+      after_bytes (unsigned_at w32) (sober_unsigned w32) (λ n i. registered registry n >>= λ m. Ok (lifted m, i)) (λ n. static_any (registered registry n) (sober_registered registry n))
+  with_traced {d} h (tagged written known body) =
+      after_bytes text_at sober_text (λ tag. choose (known tag) (seen (of_tagged tag) (read_with answer_at parts d (body tag))) (λ r. Err Error.UnknownTag))
+      (λ tag. choice (known tag) (sees (of_tagged tag) (with_traced h (body tag))) (refuses Error.UnknownTag refl))
+  with_traced {d} h (cases w known part) =
+      after_bytes (unsigned_at w) (sober_unsigned w) (λ n. choose (known n) (seen (variant n) (read_with answer_at parts d (part n))) (λ r. Err Error.UnknownTag))
+      (λ n. choice (known n) (sees (variant n) (with_traced h (part n))) (refuses Error.UnknownTag refl))
+  with_traced h (shapes.reference kind) = asks_one kind
+  with_traced h (nested n) = entering _ h (λ get g. g (parts n))
+
+  below_traced : (levels : ℕ) → DeeperTraced (below answer_at parts levels)
+  unfolding below
+  below_traced zero = no-deeper
+  below_traced (suc levels) = one-deeper _ (with_traced (below_traced levels))
+
+  pub typed_traced : (o : Option Shape) → Traced (λ i. read_typed (handles_at 0 parts) o i)
+  unfolding read
+  typed_traced None = refuses Error.WrongKind refl
+  typed_traced (Some s) = with_traced (below_traced (deepest - 0)) s
+
+-- ---- from one reading with stand-ins to what a blob asks for ahead
 
 kinds_joined : (xs ys : List ArcRef) → kinds_of (xs ++ ys) ≡ kinds_of xs ++ kinds_of ys
 kinds_joined xs ys = map-append (λ (r : ArcRef). r.kind.0) xs ys
@@ -62,20 +315,20 @@ pub stopped_at : (found : Option ℕ) (r : Result (Meaning ArcRef × Rest Answer
 stopped_at found r kind key e = grind (arith, nat_tests)
 
 module _ (types : Types) (t : ℕ) (blob : Blob) where
-  trace : Trace (λ i. Rattle.pagable_model.specs.Reading.read_typed (Rattle.pagable_model.specs.Standing.handles_at 0 types.parts) (types.nodes t) i) blob.bytes
+  trace : Trace (λ i. read_typed (handles_at 0 types.parts) (types.nodes t) i) blob.bytes
   trace = (typed_traced types.parts (types.nodes t)).on blob.bytes
 
   row_asked : (xs : List ArcRef) (kind : Kind) (key : ℕ) → next_of types t blob xs ≡ asks kind key
       → (got : List ArcRef) (k : ℕ) (back : List ℕ) → kinds_of xs ++ kind.0 ∷ [] ≡ kinds_of got ++ k ∷ back → AsksNext types t blob got k
   row_asked xs kind key next got k back is =
-      let s = stopped_at (slice_get blob.keys (length xs)) (read_with types t blob xs) kind key next in
+      let s = stopped_at (slice_get blob.keys (length xs)) (read_blob types t blob xs) kind key next in
       let within = slice_get_within blob.keys (length xs) key s.1 in
       let many = λ (rs : List ArcRef). length-map rs (λ (r : ArcRef). r.kind.0) in
       let short : length got < length blob.keys =
       omega (arith, within, ap length is, length-append (kinds_of xs) (kind.0 ∷ []), length-append (kinds_of got) (k ∷ back), many xs, many got) in
       let there = slice_get-get_or blob.keys (length got) 0 short in
       let stop = stops xs got kind.0 k back trace.end trace.sober trace.kinds 0 blob.keys (sym (trace.goes (answers_from xs 0 blob.keys)) ∙ ap leaves s.0) is in
-      let err = stopped (read_with types t blob got) k (trace.goes (answers_from got 0 blob.keys) ∙ stop) in
+      let err = stopped (read_blob types t blob got) k (trace.goes (answers_from got 0 blob.keys) ∙ stop) in
       record { key = _; there = there; next = ap (next_by (slice_get blob.keys (length got))) err ∙ ap (λ o. next_by o (Err (Error.Storage k))) there }
 
 -- a row that was found by stand-ins, the last of which is asked for after all others
@@ -114,3 +367,61 @@ row_tells types top fs frames row r key place is count at_row at_key later h = e
 -- and it does so of what is left, where the reference is of the kind
 pub row_goes_on : (types : Types) (old new : List Frame) (row after : List ArcRef) (kind : Kind) (key : ℕ) (s : ArcRef) → RowTells types old row kind key → GotMore old new s → Kept kind s row after → IsAhead types new after
 row_goes_on types old new row after kind key s t g kept = grind (arith, nat_tests, still_ahead)
+
+-- ---- a step of a load leaves less to do
+
+weight_some : (k : ℕ) → 0 < weight k
+unfolding weight
+weight_some zero = omega arith
+weight_some (suc k) = let w = weight_some k in omega (arith, w)
+
+-- ---- what is asked for stands in the blob
+
+-- the load needs a reference, at once or later
+abbrev NeedsOne : Need → Kind → ℕ → Type 0
+NeedsOne need kind key = (need ≡ needs_nested kind key) ⊎ (need ≡ needs_lazy kind key)
+
+wants : (types : Types) (old : List Frame) (f : Frame) (fs : List Frame) (kind : Kind) (key : ℕ) → old ≡ f ∷ fs → NeedsOne (need_of types old) kind key
+    → length f.got < length f.blob.keys
+wants types old f fs kind key is need = grind (arith, nat_tests, slice_get_within, stopped_at)
+
+-- ---- what each step leaves
+
+module _ {N : Type 0} {for_cell : Bool} {old new : List Frame} where
+  led : {o n : List Frame} → old ≡ o → new ≡ n → to_do n < to_do o → LeadsOn {N = N} for_cell old new (Ok None)
+  led {o} {n} a b lt = record { leads = subst (λ x. to_do x < to_do old) (sym b) (subst (λ x. to_do n < to_do x) (sym a) lt) }
+
+  pub root_leads : (f : Frame) → f.got ≡ [] → length f.blob.keys < 2 ^ 63 → old ≡ [] → new ≡ f ∷ [] → LeadsOn {N = N} for_cell old new (Ok None)
+  root_leads f none few a b =
+      let g : length f.got ≡ 0 = ap length none in
+      let w = weight_some 129 in
+      let m : (left_in f + 2) * weight 129 ≤ many * weight 129 = mul-le-mul_right (weight 129) (omega (arith, g, few)) in
+      led a b (omega (arith, w, m))
+
+  pub got_leads : (types : Types) (f : Frame) (fs : List Frame) (r : ArcRef) (kind : Kind) (key : ℕ)
+      → NeedsOne (need_of types old) kind key → old ≡ f ∷ fs → new ≡ record f { got = f.got ++ r ∷ [] } ∷ fs → LeadsOn {N = N} for_cell old new (Ok None)
+  got_leads types f fs r kind key need a b =
+      let left = wants types old f fs kind key a need in
+      let n = length-append f.got (r ∷ []) in
+      let w = weight_some (129 - length fs) in
+      let m : (length f.blob.keys - length (f.got ++ r ∷ []) + 1) * weight_on fs ≤ left_in f * weight_on fs = mul-le-mul_right (weight_on fs) (omega (arith, n, left)) in
+      led a b (omega (arith, w, m))
+
+  pub blob_leads : (types : Types) (g f : Frame) (fs : List Frame) (kind : Kind) (key : ℕ) → g.got ≡ [] → length g.blob.keys < 2 ^ 63 → length fs < 128
+      → NeedsOne (need_of types old) kind key → old ≡ f ∷ fs → new ≡ g ∷ f ∷ fs → LeadsOn {N = N} for_cell old new (Ok None)
+  unfolding weight
+  blob_leads types g f fs kind key none few short need a b =
+      let left = wants types old f fs kind key a need in
+      let n : length g.got ≡ 0 = ap length none in
+      let k : 129 - length fs ≡ suc (129 - length (f ∷ fs)) = omega (arith, short) in
+      let e : weight_on fs ≡ weight_on (f ∷ fs) * many = ap weight k in
+      let w = weight_some (129 - length (f ∷ fs)) in
+      let m : (left_in g + 2) * weight_on (f ∷ fs) ≤ many * weight_on (f ∷ fs) = mul-le-mul_right (weight_on (f ∷ fs)) (omega (arith, n, few)) in
+      let u : (left_behind f + 1) * weight_on fs ≤ left_in f * weight_on fs = mul-le-mul_right (weight_on fs) (omega (arith, left)) in
+      led a b (omega (arith, e, w, m, u))
+
+  pub node_leads : (t u : Frame) (fs : List Frame) (r : ArcRef) → old ≡ t ∷ u ∷ fs → new ≡ record u { got = u.got ++ r ∷ [] } ∷ fs → LeadsOn {N = N} for_cell old new (Ok None)
+  node_leads t u fs r a b =
+      let n = length-append u.got (r ∷ []) in
+      let m : (length u.blob.keys - length (u.got ++ r ∷ [])) * weight_on fs ≡ left_behind u * weight_on fs = ap (λ x. (length u.blob.keys - x) * weight_on fs) n in
+      led a b (omega (arith, m))

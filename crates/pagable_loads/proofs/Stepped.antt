@@ -1,16 +1,81 @@
--- What a step's call did is what the step is said to do.
-use Rattle.std.proofs.Common.{◌≡◌, ℕ, ◌+◌, ◌<◌, ◌≤◌, List, [], ◌∷◌, ◌++◌, length, true, false, Option, Some, None, Ok, Err, inl, inr, refl, ap, sym, subst, ◌∙◌, arith}
-use Rattle.{std.{proofs.lemmas.{Bool.Decides.nat_tests, Grind.common_steps}}, pagable_model.specs.declared.error.Error.Error}
-use Rattle.pagable_model.specs.{declared.numbers.{ArcRef.ArcRef, HandleNumber.HandleNumber, Kind.Kind, LoadNumber.LoadNumber}, Blob.Blob}
-use Rattle.{pagable_model.specs.Deep.longest_path, pagable_world.specs.{declared.{events.LoadAnswer.LoadAnswer, handles.Owner.Owner, calls.Want.Want}, World.Core}}
-use Rattle.pagable_world.specs.{World.{Frame, Reading, Values}, Refusals.{OwnsLoad}, LoadCalls.{from_store, AskCall, EndCall}}
-use Rattle.pagable_world.specs.{LoadCalls.{HandOverCall}, Loads.{need_of, needs_nested, needs_lazy, root_frame, nested_frame, with_got, handles_of, MakesNode, ReadsNode}}
-use Rattle.pagable_world.specs.{Loads.{IsDecoded, ReadsRoot, LoadIs, IsOfCell, IsOfKey, Meets, Does}, Pager.{PagerState, Moves, ReadingBrings, IsNewNode, IsCellOf}, Access.{Told, Called, ReadingStep}}
-use Rattle.pagable_loads.specs.Telling.{Acting, Acts, ActsThen, Tells, Brings, IsMade, AsksFor, TakesLazily, AdoptsValue}
-use Rattle.pagable_loads.specs.{Frames.{frame_of, frames_of, onto, reading_of, IsLoadOf}, Stepping.{Met, Tries, Steps, Drops}}
-use Rattle.{pagable_loads.{specs.declared.reading.{Frame.Frame as Held, Reading.Reading as Own}, proofs.Needed.length_onto}, either.specs.declared.Either.Either}
+-- What a load needs next, what the calls of its steps did, and whole pins and readings.
+use Rattle.{either.specs.declared.Either.Either, pagable_core.specs.{Context.at_front, Data.blob_of}, pagable_loads.specs.{Decoding.{Decodes, IsReadAs, ReadsWith}, Frames.{IsLoadOf, frame_of}}}
+use Rattle.pagable_loads.specs.{Frames.{frames_of, onto, reading_of}, Got.{Lends, LendsEach, answer_at, lent_at}, Needing.Needs, Starting.{PinsFirst, Shares, StartsPin, TakesBack, Unpins}}
+use Rattle.pagable_loads.specs.{Stepping.{Drops, HasGone, IsSameLoad, Met, Runs, Steps, Tries}, Telling.{Acting, Acts, ActsThen, AdoptsValue, AsksFor, Brings, IsMade, TakesLazily, Tells}}
+use Rattle.{pagable_loads.specs.declared.{decoding.Decoded.Decoded, reading.{Frame.Frame as Held, Need.Need, Reading.Reading as Own}, starting.PinStart.PinStart}, pagable_model.specs.Blob.Blob}
+use Rattle.pagable_model.specs.{Deep.{is_eager, longest_path}, Meaning.Meaning, Reading.{Rest, read_typed}, Shape.Shape, Standing.{Answer, GivesSome, Standing, handles_at, rest_at}}
+use Rattle.{pagable_model.specs.declared.{error.Error.Error, numbers.{ArcRef.ArcRef, HandleNumber.HandleNumber, Kind.Kind, LoadNumber.LoadNumber}}, pagable_world.specs.Access.{Called, IsUnpinnedBack}}
+use Rattle.pagable_world.specs.Access.{LoadRun, PinRun, PinsOver, ReadingStep, ReadsOver, Told, load-ends, load-fails, load-goes-on, load-is-refused, load-pins, load-reads, pin-is-refused}
+use Rattle.pagable_world.specs.{Access.{pins-at-once, reading-fails, reading-is-refused}, Calls.{PinCall, ReleaseCall}, Kinds.{is_loose, is_unpinned}, LoadCalls.{AskCall, BeginCall, BeginKeyCall}}
+use Rattle.pagable_world.specs.{LoadCalls.{EndCall, HandOverCall, from_store, with_load}, Loads.{Does, GoesOn, IsDecoded, IsOfCell, IsOfKey, LoadIs, MakesNode, Meets, ReadsNode, ReadsRoot, answer_of}}
+use Rattle.pagable_world.specs.Loads.{answers_from, gone_on, handles_of, need_at, need_of, needs_lazy, needs_nested, nested_frame, next_by, read_with, reads, root_frame, to_adopt, with_got}
+use Rattle.pagable_world.specs.{Pager.{IsCellOf, IsNewNode, Moves, PagerState, ReadingBrings, WellFormed}, Plain.if_there, Refusals.OwnsLoad, Workers.fresh, World.{Alike, Core, Frame, Reading, Root}}
+use Rattle.pagable_world.specs.{World.{Values, of_key, one_more, row_at}, declared.{answers.{Beginning.Beginning, Pinning.Pinning}, calls.Want.Want, events.LoadAnswer.LoadAnswer}}
+use Rattle.{pagable_world.specs.declared.handles.{HandleRow.HandleRow, Owner.Owner}, std.proofs.Common.{Bool, Err, List, None, Ok, Option, Result, Some, [], ap, arith, false, inl, inr, length, refl}}
+use Rattle.std.proofs.{Common.{rules, slice_get, subst, suc, sym, true, zero, ℕ, ◌++◌, ◌+◌, ◌<◌, ◌∙◌, ◌∷◌, ◌≡◌, ◌≢◌, ◌≤◌, ◌⊎◌}, lemmas.{Bool.Decides.nat_tests, Grind.common_steps}}
+use Rattle.std.{proofs.lemmas.{List.nil_from_length, Map.Keys.any_passes_from_place, Option.slice_get_within}, specs.{Arc.arc_value, List.list_any, Option.option_map}}
+use Rattle.pagable_core.specs.Context as context
 
--- ---- what is told
+-- answers by place, key and kind are those of the references got
+same_answers : (got : List ArcRef) (place : ℕ) (keys : List ℕ) → context.answers_from (answer_at got) place keys ≡ answers_from got place keys
+unfolding answers_from
+same_answers got place [] = refl
+same_answers got place (key ∷ keys) = ap (λ (rest : List Answer). (λ kind. answer_of (slice_get got place) kind) ∷ rest) (same_answers got (place + 1) keys)
+
+-- reading at the front of the blob, with these answers, is reading with these references
+pub reads_with : {X E : Type 0} (own : Error → Type 0) (means : X → Meaning ArcRef → Type 0) (nodes : E → ℕ → Option Shape) (parts : E → ℕ → Shape) (t : ℕ) (env other : E) (levels : ℕ) (got found : List ArcRef) (bytes keys : List ℕ) (blob : Blob) (st : Standing) (after : Rest Answer) (result : Result X Error)
+    → st ≡ at_front (answer_at found) bytes keys → levels ≡ 0 → other ≡ env → found ≡ got → bytes ≡ blob.bytes → keys ≡ blob.keys
+    → GivesSome own means after result (read_typed (handles_at levels (parts other)) (nodes other t) (rest_at st))
+    → GivesSome own means after result (read_with (record { nodes = nodes env; parts = parts env }) t blob got)
+reads_with own means nodes parts t env other levels got found bytes keys blob st after result s l e g b k h =
+    let P : List Answer → Type 0 = λ refs. GivesSome own means after result (read_typed (handles_at 0 (parts env)) (nodes env t) (let x : Rest Answer = record { bytes = blob.bytes; refs = refs } in x)) in
+    let there : P (context.answers_from (answer_at got) 0 blob.keys) = rw (s, l, e, g, b, k) at h in
+    subst P (same_answers got 0 blob.keys) there
+
+module _ {N : Type 0} (v : Values N) (t : ℕ) (blob : Blob) (got : List ArcRef) where
+  pub is_read : (x : N) → v.node_type x ≡ t → ReadsWith v t blob got (Ok x) → Decodes v t blob got (Decoded.Read x)
+  is_read x typed h = record { answers = record { own = h.gives.m; read = ap (next_by (slice_get blob.keys (length got))) h.gives.gave; typed = typed; means = h.gives.is } }
+
+-- ---- the blobs of a load
+
+pub length_onto : (below : List Frame) (fs : List Held) → length (onto below fs) ≡ length below + length fs
+unfolding onto
+length_onto below [] = omega arith
+length_onto below (f ∷ fs) = let e = length_onto (frame_of f ∷ below) fs in omega (arith, e)
+
+pub below_short : (fs : List Held) → length fs < longest_path → length (onto [] fs) < 128
+below_short fs short = let l = length_onto [] fs in omega (arith, l, short)
+
+pub onto_more : (below : List Frame) (fs : List Held) (f : Held) → onto below (fs ++ f ∷ []) ≡ frame_of f ∷ onto below fs
+unfolding onto
+onto_more below [] f = refl
+onto_more below (g ∷ fs) f = onto_more (frame_of g ∷ below) fs f
+
+pub onto_none : (fs : List Held) → fs ≡ [] → onto [] fs ≡ []
+unfolding onto
+onto_none fs is = ap (onto []) is
+
+adopts : (below : List Frame) (own : Meaning ArcRef) → 0 < length below → need_at below (reads own) ≡ to_adopt
+adopts below own some = grind (arith, nat_tests)
+
+module _ {N : Type 0} (v : Values N) (own : Own) (top : Held) (is : own.top ≡ Some top) (x : N) (read : IsReadAs v top.node_type (blob_of (arc_value top.blob)) top.got.items x) where
+  root : length own.below.items ≡ 0 → ReadsRoot v (reading_of own) x
+  root none = grind (arith, nat_tests, onto_none, nil_from_length)
+
+  pub node_needs : 0 < length own.below.items → Needs v own (Need.Adopt x)
+  node_needs some = record { is = grind (arith, nat_tests, length_onto, adopts); there = (grind (arith, nat_tests), some) }
+
+  pub end_needs : length own.below.items ≡ 0 → own.for_cell ≡ true → Needs v own (Need.End x)
+  end_needs none cell = record { is = (root none, cell); there = tt }
+
+  pub answer_needs : length own.below.items ≡ 0 → own.for_cell ≡ false → Needs v own (Need.HandOver x)
+  answer_needs none key = record { is = (root none, key); there = tt }
+
+pub ruleset stacking = (nat_tests, onto_none, onto_more)
+
+pub ruleset needing = (nat_tests, node_needs, end_needs, answer_needs)
+
+-- ---- what a step's call did is what the step is said to do
 
 module _ {S : Type 0} where
   pub told_then : {o n m : Option S} {R T Q : S → S → Type 0} → ((s mid t : S) → R s mid → T mid t → Q s t) → Told o n R → Told n m T → Told o m Q
@@ -175,3 +240,149 @@ module _ {N : Type 0} (E : Type 0) (v : Values N) (me : Owner) (own : Own) where
   }
 
 pub ruleset giving_up = (nat_tests, acts_then, gives_up)
+
+-- ---- what the references that were got lend, one after the other
+
+module _ {A N E : Type 0} (see : A → N) (s : PagerState N E) where
+  -- a share is refused, and not since memory is wanting
+  pub not_shared : (r : ArcRef) (e : Error) → Shares see s r.handle (Err e) → e ≢ Error.OutOfMemory → Lends s r None
+  not_shared r e h other = first_of (grind (arith, common_steps, nat_tests), search (rules))
+
+-- what stands at a place once one more came
+pushed_at : {X : Type 0} (xs : List X) (y : X) (k : ℕ) → k < length xs + 1
+    → ((k < length xs) × (slice_get (xs ++ y ∷ []) k ≡ slice_get xs k)) ⊎ ((k ≡ length xs) × (slice_get (xs ++ y ∷ []) k ≡ Some y))
+pushed_at [] y zero less = inr (refl, refl)
+pushed_at [] y (suc k) less = absurd (omega (arith, less))
+pushed_at (x ∷ xs) y zero less = inl (omega arith, refl)
+pushed_at (x ∷ xs) y (suc k) less = elim (pushed_at xs y k (omega (arith, less))) [ inl (l, is) ↦ inl (omega (arith, l), is) | inr (l, is) ↦ inr (ap suc l, is) ]
+
+module _ {A N E : Type 0} (see : A → N) (s : PagerState N E) (got : List ArcRef) where
+  -- those before this place lend theirs
+  abbrev pub LentTo : ℕ → List (Option A) → Type 0
+  LentTo i lent = (place : ℕ) (r : ArcRef) → place < i → slice_get got place ≡ Some r → Lends s r (lent_at see lent place)
+
+  -- none is read together with its value
+  pub none_lent : list_any (λ (r : ArcRef). is_eager r.kind.0) got ≡ false → LendsEach see s got []
+  none_lent is = grind (arith, nat_tests, any_passes_from_place, slice_get)
+
+  pub more_lent : (i : ℕ) (r : ArcRef) (lent : List (Option A)) (o : Option A) → length lent ≡ i → slice_get got i ≡ Some r → LentTo i lent → Lends s r (option_map see o) → LentTo (i + 1) (lent ++ o ∷ [])
+  more_lent i r lent o same here to lends = grind (arith, nat_tests, pushed_at)
+
+  -- all of them do
+  pub all_lent : (i : ℕ) (lent : List (Option A)) → length got ≤ i → LentTo i lent → LendsEach see s got lent
+  all_lent i lent past to = grind (arith, nat_tests, slice_get_within)
+
+pub ruleset sharing = (nat_tests, tells_map, not_shared)
+
+-- ---- a load's steps, one after another up to its end
+
+module _ {N : Type 0} (v : Values N) (me : Owner) where
+  -- while there is more the load stays open
+  pub goes_open : (w w' : Core) (reading : Reading) (frames : List Frame) → GoesOn v w me reading frames w' → w'.loads reading.load.0 ≡ w.loads reading.load.0
+  goes_open w w' reading frames g = grind (arith, common_steps, nat_tests)
+
+module _ {N E : Type 0} (v : Values N) (me : Owner) where
+  module _ (own now : Own) (s m t : PagerState N E) (gone : HasGone v me own now s m) where
+    pub went_on : (next : Own) (frames : List Frame) → IsSameLoad now next (one_more now.steps) → frames ≡ frames_of next.top next.below.items → Steps v me now m None frames t → HasGone v me own next s t
+    went_on next frames is_same is step = record { open_still = still; then = λ o answer u run. gone.then o answer u (load-goes-on (reading_of now) frames answer m t u (step.does (gone.open_still o)) (subst (λ r. LoadRun v me r t answer u) same run)) }
+      where
+        same : reading_of next ≡ gone_on (reading_of now) frames
+        same = rw (is_same.load, is_same.node_type, is_same.steps, is) refl
+
+        still : IsLoadOf s.core me own → IsLoadOf t.core me next
+        still o = grind (arith, nat_tests, goes_open)
+
+    pub ends_so : (answer : LoadAnswer N) (frames : List Frame) → Steps v me now m (Some answer) frames t → Runs v me own s answer t
+    ends_so answer frames step = first_of (grind (arith, common_steps, nat_tests), grind (arith, nat_tests, load-ends), search (rules, load-ends))
+
+pub ruleset driving = (nat_tests, acts_then, went_on, ends_so)
+
+-- ---- a pin with its loads, and how it is taken back; and the reading of a key
+
+pub begun_is : (w w' : Core) (l : LoadNumber) (key : ℕ) (root : Root) (me : Owner) → l.0 ≡ w.last.load + 1 → Alike (with_load w key root me) w' → w'.loads l.0 ≡ Some (record { owner = me; key = key; root = root })
+begun_is w w' l key root me next a = first_of (grind (arith, common_steps, nat_tests), search (rules))
+
+module _ {N E : Type 0} (v : Values N) (me : Owner) (mine : me ≡ Owner.Caller) where
+  module _ (own : Own) (l : LoadNumber) (key t : ℕ) (is : reading_of own ≡ fresh l t) (under : own.key ≡ key) where
+    runs_on : {s t' : PagerState N E} {answer : LoadAnswer N} → IsLoadOf s.core me own → Runs v me own s answer t' → LoadRun v Owner.Caller (fresh l t) s answer t'
+    runs_on {s} {t'} {answer} o r = subst (λ m. LoadRun v m (fresh l t) s answer t') mine (subst (λ x. LoadRun v me x s answer t') is (r.run o))
+
+    module _ (h : HandleNumber) (cell : own.for_cell ≡ true) (s mid : PagerState N E) (c : Called v (λ w'. StartsPin s.core me h (Ok (PinStart.Load l key t)) w') s mid) where
+      open_load : IsLoadOf mid.core me own
+      open_load = first_of (grind (arith, common_steps, nat_tests), search (rules))
+
+      calls : Called v (λ w'. BeginCall s.core Owner.Caller h (Ok (Beginning.Load l key)) w') s mid
+      calls = record { step = subst (λ m. BeginCall s.core m h (Ok (Beginning.Load l key)) mid.core) mine c.step.starts.0; moves = c.moves; whole = c.whole }
+
+      pub load_pinned : (k : HandleNumber) (s' : PagerState N E) → Runs v me own mid (LoadAnswer.Pinned k) s' → PinsFirst v s h (Ok (k, true)) s'
+      load_pinned k s' r = record { pinned = (load-pins k (fresh l t) mid s' (record { key = key; begins = calls; is = c.step.starts.2 }) (runs_on open_load r), sym c.step.starts.1); refused = tt }
+
+      pub load_failed : (e : Error) (s' : PagerState N E) → Runs v me own mid (LoadAnswer.Refused e) s' → PinsFirst v s h (Err e) s'
+      load_failed e s' r = record { pinned = tt; refused = load-fails e (fresh l t) mid s' (record { key = key; begins = calls; is = c.step.starts.2 }) (runs_on open_load r) }
+
+    module _ (sort : own.for_cell ≡ false) (s mid : PagerState N E) (c : Called v (λ w'. BeginKeyCall s.core me key (Ok (Beginning.Load l key)) w') s mid) where
+      open_key : IsLoadOf mid.core me own
+      open_key =
+          let b = c.step.begins in
+          record {
+            load = record { owner = me; key = key; root = of_key };
+            owned = record { stands_open = ap (λ (r : Reading). mid.core.loads r.load.0) is ∙ begun_is s.core mid.core l key of_key me b.1.above b.2; own = refl };
+            key = sym under;
+            sort = sym sort;
+          }
+
+      key_calls : Called v (λ w'. BeginKeyCall s.core Owner.Caller key (Ok (Beginning.Load l key)) w') s mid
+      key_calls = record { step = subst (λ m. BeginKeyCall s.core m key (Ok (Beginning.Load l key)) mid.core) mine c.step; moves = c.moves; whole = c.whole }
+
+      pub key_read : (x : N) (s' : PagerState N E) → Runs v me own mid (LoadAnswer.Read x) s' → ReadsOver v s key t (Ok x) s'
+      key_read x s' r = record { run = load-reads x l mid s' key_calls (runs_on open_key r) }
+
+      pub key_failed : (e : Error) (s' : PagerState N E) → Runs v me own mid (LoadAnswer.Refused e) s' → ReadsOver v s key t (Err e) s'
+      key_failed e s' r = record { run = reading-fails e l mid s' key_calls (runs_on open_key r) }
+
+  pub key_refused : (key t : ℕ) (e : Error) (s s' : PagerState N E) → Called v (λ w'. BeginKeyCall s.core me key (Err e) w') s s' → ReadsOver v s key t (Err e) s'
+  key_refused key t e s s' c = record { run = reading-is-refused e s' (record { step = subst (λ m. BeginKeyCall s.core m key (Err e) s'.core) mine c.step; moves = c.moves; whole = c.whole }) }
+
+  -- ---- a pin
+
+  module _ (h : HandleNumber) where
+    pub start_pinned : (k : HandleNumber) (was : Bool) (s s' : PagerState N E) → Called v (λ w'. StartsPin s.core me h (Ok (PinStart.Pinned k was)) w') s s' → PinsFirst v s h (Ok (k, was)) s'
+    start_pinned k was s s' c =
+        record { pinned = (pins-at-once k s' (record { step = subst (λ m. PinCall s.core m h (Ok (Pinning.Pinned k)) s'.core) mine c.step.starts.0; moves = c.moves; whole = c.whole }), c.step.starts.1); refused = tt }
+
+    pub start_refused : (e : Error) (s s' : PagerState N E) → Called v (λ w'. StartsPin s.core me h (Err e) w') s s' → PinsFirst v s h (Err e) s'
+    start_refused e s s' c = first_of (grind (arith, common_steps, nat_tests), grind (arith, nat_tests, pin-is-refused, load-is-refused), search (rules, pin-is-refused, load-is-refused))
+
+-- ---- how it is taken back
+
+module _ {N E : Type 0} (v : Values N) (h : HandleNumber) where
+  run_whole : {me : Owner} {reading : Reading} {s t : PagerState N E} {answer : LoadAnswer N} → LoadRun v me reading s answer t → WellFormed v t
+  run_whole (load-ends now answer s t step) = step.whole
+  run_whole (load-goes-on now frames answer s mid t step more) = run_whole more
+
+  pin_whole : {s t : PagerState N E} {r : Result HandleNumber Error} → PinRun v s h r t → WellFormed v t
+  pin_whole (pins-at-once k t c) = c.whole
+  pin_whole (pin-is-refused e t c) = c.whole
+  pin_whole (load-is-refused e t c) = c.whole
+  pin_whole (load-pins k now mid t starts run) = run_whole run
+  pin_whole (load-fails e now mid t starts run) = run_whole run
+
+  -- the handle was a loose one
+  pin_loose : {s t : PagerState N E} (r : Result HandleNumber Error) {k : HandleNumber} → r ≡ Ok k → PinRun v s h r t → (row : HandleRow) × (row_at s.core h ≡ Some row) × (is_loose row.mode ≡ true)
+  pin_loose r is (pins-at-once k t c) = let p = c.step.pins in (p.0, p.1.live, p.1.as_asked)
+  pin_loose r is (load-pins k now mid t starts run) = let p = starts.begins.step.begins in (p.0, p.1.live, p.1.as_asked)
+  pin_loose r is run = absurd (cc)
+
+  back : (s mid low : PagerState N E) (was : Bool) (row : HandleRow) → row_at s.core h ≡ Some row → is_loose row.mode ≡ true → was ≡ is_unpinned row.mode → WellFormed v mid → Unpins v was h mid low → IsUnpinnedBack v s.core h mid low
+  back s mid low was row live loose is whole u = grind (arith, nat_tests, common_steps)
+
+  -- ---- its answer
+
+  pub taken_back : (k : HandleNumber) (was : Bool) (s mid t : PagerState N E) → PinsFirst v s h (Ok (k, was)) mid → TakesBack v was h k mid t → PinsOver v s h (Err Error.OutOfMemory) t
+  taken_back k was s mid t p b =
+      let l = pin_loose (Ok k) refl p.pinned.0 in
+      let is = p.pinned.1 ∙ ap (if_there (λ (row : HandleRow). is_unpinned row.mode) false) l.1 in
+      record { pins = tt; refused = inr (refl, record { k = k; mid = mid; low = b.low; told = b.told; pins = p.pinned.0; unpins = back s mid b.low was l.0 l.1 l.2 is (pin_whole p.pinned.0) b.unpins; releases = b.releases }) }
+
+  pub takes_back : {me : Owner} → me ≡ Owner.Caller → (k : HandleNumber) (was : Bool) (s low t : PagerState N E) (told : Result (Unit {0}) Error) → Unpins v was h s low → Called v (λ w'. ReleaseCall low.core me k told w') low t → TakesBack v was h k s t
+  takes_back mine k was s low t told u c = record { low = low; unpins = u; told = told; releases = rw mine at c }

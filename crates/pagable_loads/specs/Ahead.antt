@@ -1,7 +1,7 @@
 -- What a blob asks for ahead: references of these kinds, one after the other.
-use Rattle.std.specs.Prelude.{ℕ, ◌≡◌, ◌⊎◌, List, [], ◌∷◌, ◌++◌, length, map, Option, Some, None, Result, Ok, Err, slice_get}
-use Rattle.pagable_model.specs.{declared.error.Error.Error, declared.numbers.ArcRef.ArcRef, declared.numbers.Kind.Kind, Blob.Blob}
-use Rattle.pagable_world.specs.{Plain.Types, World.Frame, declared.events.LoadAnswer.LoadAnswer, Loads.asks, Loads.next_of, Loads.need_of, Loads.needs_lazy}
+use Rattle.std.specs.Prelude.{Err, List, None, Ok, Option, Result, Some, [], length, map, slice_get, ℕ, ◌++◌, ◌∷◌, ◌≡◌, ◌⊎◌}
+use Rattle.{pagable_model.specs.{Blob.Blob, declared.{error.Error.Error, numbers.{ArcRef.ArcRef, Kind.Kind}}}, pagable_world.specs.{Loads.{asks, need_of, needs_lazy, next_of}, Plain.Types}}
+use Rattle.pagable_world.specs.{World.Frame, declared.events.LoadAnswer.LoadAnswer}
 
 abbrev pub kinds_of : List ArcRef → List ℕ
 kinds_of references = map (λ (r : ArcRef). r.kind.0) references

@@ -1,8 +1,7 @@
 -- What decoding answers, in the words of loads.
-use Rattle.std.specs.Prelude.{ℕ, ◌≡◌, ◌⊎◌, Bool, true, false, List, Result}
-use Rattle.pagable_model.specs.{declared.{error.Error.Error, numbers.ArcRef.ArcRef}, Blob.Blob, Meaning.Meaning}
-use Rattle.{pagable_model.specs.{Reading.Rest, Standing.{Answer, GivesSome}}, pagable_world.specs.{World.Values, Loads.{reads, asks, is_faulty, next_of, read_with}}}
-use Rattle.pagable_loads.specs.declared.decoding.Decoded.{Decoded}
+use Rattle.std.specs.Prelude.{Bool, List, Result, false, true, ℕ, ◌≡◌, ◌⊎◌}
+use Rattle.{pagable_loads.specs.declared.decoding.Decoded.Decoded, pagable_model.specs.{Blob.Blob, Meaning.Meaning, Reading.Rest, Standing.{Answer, GivesSome}, declared.error.Error.Error}}
+use Rattle.{pagable_model.specs.declared.numbers.ArcRef.ArcRef, pagable_world.specs.{Loads.{asks, is_faulty, next_of, read_with, reads}, World.Values}}
 
 -- the value is of the type, and means what the blob reads as
 pub record IsReadAs {N : Type 0} (v : Values N) (t : ℕ) (blob : Blob) (got : List ArcRef) (x : N) : Type 0 where

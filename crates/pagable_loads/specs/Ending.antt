@@ -41,7 +41,3 @@ Leads for_cell old new (Err e) = Unit {0}
 
 pub record LeadsOn {N : Type 0} (for_cell : Bool) (old new : List Frame) (r : Result (Option (LoadAnswer N)) Error) : Type 0 where
   pub leads : Leads for_cell old new r
-
--- the answer is one that may end a load of this sort
-pub record EndsAs {N : Type 0} (for_cell : Bool) (answer : LoadAnswer N) : Type 0 where
-  pub is : Leads for_cell [] [] (Ok (Some answer))

@@ -1,7 +1,7 @@
 -- The blobs of a load, as the world knows them.
-use Rattle.std.specs.{Prelude.{◌≡◌, Bool, true, false, List, [], ◌∷◌, Option, Some, None}, Arc.arc_value}
-use Rattle.{pagable_core.specs.Data.blob_of, pagable_world.specs.declared.handles.Owner.Owner}
-use Rattle.{pagable_world.specs.{World.{Core, Root, of_cell, of_key, OpenLoad, Frame, Reading}, Refusals.OwnsLoad}, pagable_loads.specs.declared.reading.{Frame.Frame as Held, Reading.Reading as Own}}
+use Rattle.std.specs.{Arc.arc_value, Prelude.{Bool, List, None, Option, Some, [], false, true, ◌∷◌, ◌≡◌}}
+use Rattle.{pagable_core.specs.Data.blob_of, pagable_loads.specs.declared.reading.{Frame.Frame as Held, Reading.Reading as Own}, pagable_world.specs.{Refusals.OwnsLoad, World.{Core, Frame, OpenLoad}}}
+use Rattle.pagable_world.specs.{World.{Reading, Root, of_cell, of_key}, declared.handles.Owner.Owner}
 
 abbrev pub frame_of : Held → Frame
 frame_of f = record { kind = f.kind; key = f.key; node_type = f.node_type; blob = blob_of (arc_value f.blob); got = f.got.items }

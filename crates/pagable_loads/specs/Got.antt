@@ -1,8 +1,7 @@
 -- What those who answer from a list of got references stand for, and what a load lends to them.
-use Rattle.std.specs.Prelude.{◌≡◌, ◌⊎◌, ℕ, ◌==◌, Bool, true, false, if◌then◌else◌, List, Option, Some, None, IfSome, IfNone, IsSome, Result, Ok, Err, option_and_then, slice_get}
-use Rattle.std.specs.Option.{option_map}
-use Rattle.pagable_model.specs.{declared.{error.Error.Error, numbers.ArcRef.ArcRef}, Refusals.may_refuse_reference, Deep.is_eager}
-use Rattle.pagable_world.specs.{World.row_at, Refusals.live_fault, Loads.answer_of, Pager.{PagerState, ValueCall}}
+use Rattle.std.specs.{Option.option_map, Prelude.{Bool, Err, IfNone, IfSome, IsSome, List, None, Ok, Option, Result, Some, false, if◌then◌else◌, option_and_then, slice_get, true, ℕ, ◌==◌, ◌≡◌, ◌⊎◌}}
+use Rattle.{pagable_world.specs.{Loads.answer_of, Pager.{PagerState, ValueCall}, Refusals.live_fault, World.row_at}, pagable_model.specs.declared.{error.Error.Error, numbers.ArcRef.ArcRef}}
+use Rattle.pagable_model.specs.{Deep.is_eager, Refusals.may_refuse_reference}
 
 abbrev pub answer_at : List ArcRef → ℕ → ℕ → ℕ → Result ArcRef Error
 answer_at got place key kind = answer_of (slice_get got place) kind

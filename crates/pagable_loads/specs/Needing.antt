@@ -1,7 +1,7 @@
 -- What a load needs next, in the words of the world.
-use Rattle.std.specs.Prelude.{◌≡◌, ◌<◌, Bool, true, false, List, [], length, Option, IsSome}
-use Rattle.{pagable_world.specs.{World.{Reading, Values}, Loads.{need_of, needs_nested, needs_lazy, ReadsNode, ReadsRoot, RefusesBlob}}, pagable_loads.specs.declared.reading.Frame.Frame as Held}
-use Rattle.pagable_loads.specs.declared.reading.Need.{Need}
+use Rattle.std.specs.Prelude.{Bool, IsSome, [], false, length, true, ◌<◌, ◌≡◌}
+use Rattle.{pagable_loads.specs.{Frames.reading_of, declared.reading.{Need.Need, Reading.Reading as Own}}, pagable_world.specs.Loads.{ReadsNode, ReadsRoot, RefusesBlob, need_of, needs_lazy}}
+use Rattle.pagable_world.specs.{Loads.needs_nested, World.{Reading, Values}}
 
 abbrev pub NeedIs : {N : Type 0} → Values N → Reading → Bool → Need N → Type 0
 NeedIs v reading for_cell Need.Root = reading.frames ≡ []
@@ -12,15 +12,13 @@ NeedIs v reading for_cell (Need.End x) = ReadsRoot v reading x × (for_cell ≡ 
 NeedIs v reading for_cell (Need.HandOver x) = ReadsRoot v reading x × (for_cell ≡ false)
 NeedIs v reading for_cell (Need.Refuse e) = RefusesBlob v reading e
 
-pub record Needs {N : Type 0} (v : Values N) (reading : Reading) (for_cell : Bool) (need : Need N) : Type 0 where
-  pub is : NeedIs v reading for_cell need
+abbrev pub FramesFor : {N : Type 0} → Own → Need N → Type 0
+FramesFor own (Need.Nested kind key) = IsSome own.top
+FramesFor own (Need.Lazy kind key) = IsSome own.top
+FramesFor own (Need.Adopt x) = IsSome own.top × (0 < length own.below.items)
+FramesFor own need = Unit {0}
 
-abbrev pub FramesFor : {N : Type 0} → Option Held → List Held → Need N → Type 0
-FramesFor top below (Need.Nested kind key) = IsSome top
-FramesFor top below (Need.Lazy kind key) = IsSome top
-FramesFor top below (Need.Adopt x) = IsSome top × (0 < length below)
-FramesFor top below need = Unit {0}
-
--- the blobs are there that the need is of
-pub record HasFrames {N : Type 0} (top : Option Held) (below : List Held) (need : Need N) : Type 0 where
-  pub there : FramesFor top below need
+-- the need is the load's, and the blobs are there that it is of
+pub record Needs {N : Type 0} (v : Values N) (own : Own) (need : Need N) : Type 0 where
+  pub is : NeedIs v (reading_of own) own.for_cell need
+  pub there : FramesFor own need

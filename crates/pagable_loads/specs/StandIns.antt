@@ -1,7 +1,6 @@
 -- What those who answer with stand-ins stand for.
-use Rattle.std.specs.Prelude.{ℕ, ◌≡◌, Bool, true, false, Option, Result, Ok, Err}
-use Rattle.pagable_model.specs.declared.{error.Error.Error, numbers.ArcRef.ArcRef}
-use Rattle.{pagable_model.specs.Refusals.may_refuse_reference, pagable_world.specs.Loads.answer_of, pagable_loads.specs.Got.may_refuse}
+use Rattle.std.specs.Prelude.{Bool, Err, Ok, Option, Result, false, true, ℕ, ◌≡◌}
+use Rattle.{pagable_loads.specs.Got.may_refuse, pagable_model.specs.{Refusals.may_refuse_reference, declared.{error.Error.Error, numbers.ArcRef.ArcRef}}, pagable_world.specs.Loads.answer_of}
 
 abbrev pub stand_in : ℕ → ArcRef
 stand_in kind = record { kind = record { 0 = kind }; node = record { 0 = 0 }; handle = record { 0 = 0 } }

@@ -1,10 +1,8 @@
 -- A pin that begins, and one that was begun and is taken back.
-use Rattle.std.specs.{Prelude.{◌≡◌, ◌⊎◌, Bool, true, false, Option, Some, Result, Ok, Err, IfOk, IfErr}, Option.option_map}
-use Rattle.pagable_model.specs.declared.error.Error.{Error}
-use Rattle.{pagable_model.specs.declared.numbers.HandleNumber.HandleNumber, pagable_world.specs.{World.{Core, Values, row_at}, declared.handles.{HandleRow.HandleRow, Owner.Owner}}}
-use Rattle.pagable_world.specs.{declared.answers.{Pinning.Pinning, Beginning.Beginning}, Plain.if_there, Kinds.is_unpinned, Refusals.live_fault, Calls.{PinCall, UnpinCall, ReleaseCall}}
-use Rattle.pagable_world.specs.{LoadCalls.BeginCall, Workers.fresh, Events.reading_of_load, Pager.{PagerState, ValueCall}, Access.{Called, PinRun}}
-use Rattle.pagable_loads.specs.declared.starting.PinStart.{PinStart}
+use Rattle.std.specs.{Option.option_map, Prelude.{Bool, Err, IfErr, IfOk, Ok, Option, Result, Some, false, true, ◌≡◌, ◌⊎◌}}
+use Rattle.{pagable_loads.specs.declared.starting.PinStart.PinStart, pagable_model.specs.declared.{error.Error.Error, numbers.HandleNumber.HandleNumber}, pagable_world.specs.Access.{Called, PinRun}}
+use Rattle.pagable_world.specs.{Calls.{PinCall, ReleaseCall, UnpinCall}, Events.reading_of_load, Kinds.is_unpinned, LoadCalls.BeginCall, Pager.{PagerState, ValueCall}, Plain.if_there}
+use Rattle.pagable_world.specs.{Refusals.live_fault, Workers.fresh, World.{Core, Values, row_at}, declared.{answers.{Beginning.Beginning, Pinning.Pinning}, handles.{HandleRow.HandleRow, Owner.Owner}}}
 
 -- whether the handle is live, loose and pins nothing
 abbrev pub is_unpinned_at : Core → HandleNumber → Bool

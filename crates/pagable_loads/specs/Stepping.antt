@@ -1,9 +1,8 @@
 -- What a load's step does, up to its refusal and with it, in the words of the world.
-use Rattle.std.specs.Prelude.{◌≡◌, ℕ, ◌<◌, List, [], ◌∷◌, Option, Result, IfOk, IfErr, vec_len, vec_capacity}
-use Rattle.{pagable_model.specs.declared.{error.Error.Error}, pagable_loads.specs.declared.reading.Frame.Frame as Held}
-use Rattle.{pagable_model.specs.declared.numbers.LoadNumber.LoadNumber, pagable_world.specs.{declared.{events.LoadAnswer.LoadAnswer, handles.Owner.Owner}, World.{Frame, Reading, Values}}}
-use Rattle.{pagable_world.specs.{LoadCalls.DropCall, Loads.Meets, Pager.{PagerState, Moves, ReadingBrings}, Access.{Called, ReadingStep, LoadRun}}}
-use Rattle.pagable_loads.specs.{declared.reading.Reading.Reading as Own, Frames.{IsLoadOf, reading_of, frame_of, frames_of, onto}}
+use Rattle.std.specs.Prelude.{IfErr, IfOk, List, Option, Result, [], vec_capacity, vec_len, ℕ, ◌<◌, ◌∷◌, ◌≡◌}
+use Rattle.pagable_world.specs.{Access.{Called, ReadingStep, LoadRun}, Loads.Meets, World.{Reading, Values, Frame}, LoadCalls.DropCall, Pager.{PagerState, ReadingBrings, Moves}}
+use Rattle.{pagable_world.specs.declared.{handles.Owner.Owner, events.LoadAnswer.LoadAnswer}, pagable_model.specs.declared.{numbers.LoadNumber.LoadNumber, error.Error.Error}}
+use Rattle.pagable_loads.specs.{declared.reading.{Reading.Reading as Own, Frame.Frame as Held}, Frames.{frames_of, reading_of, frame_of, onto, IsLoadOf}}
 
 -- a refusal was met, and the load is still open
 pub record Met {N E : Type 0} (v : Values N) (me : Owner) (reading : Reading) (s : PagerState N E) (e : Error) (t : PagerState N E) : Type 0 where

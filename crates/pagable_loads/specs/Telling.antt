@@ -1,10 +1,9 @@
 -- What an access tells: for whom it acts and in which environment; and of its pager's state, where that is told, what each call does to it.
-use Rattle.std.specs.Prelude.{ℕ, ◌≡◌, List, Option, Some, None, Result, Ok, Err, IfOk}
-use Rattle.{either.specs.declared.Either.Either, pagable_codec.specs.declared.env.Env.Ghosts as Environments}
-use Rattle.{pagable_codec.specs.declared.{hash.KeyHash.Ghosts as Hashes, nodes.NodeSet.Ghosts as Nodes}, pagable_model.specs.declared.{error.Error.Error, numbers.ArcRef.ArcRef}}
-use Rattle.{pagable_model.specs.{declared.numbers.{HandleNumber.HandleNumber, Kind.Kind, LoadNumber.LoadNumber, WorkerNumber.WorkerNumber}, Blob.Blob}, pagable_world.specs.declared.answers.Beginning.Beginning}
-use Rattle.pagable_world.specs.{declared.{handles.{HandleRow.HandleRow, Owner.Owner}, calls.Want.Want}, World.{Core, Values, row_at}, LoadCalls.{Given, from_cache, from_store, AskCall, AdoptCall}}
-use Rattle.pagable_world.specs.{LoadCalls.LazyCall, Pager.{PagerState, WellFormed, Moves}, Access.Told}
+use Rattle.std.specs.Prelude.{Err, IfOk, List, None, Ok, Option, Result, Some, ℕ, ◌≡◌}
+use Rattle.{either.specs.declared.Either.Either, pagable_codec.specs.declared.{env.Env.Ghosts as Environments, hash.KeyHash.Ghosts as Hashes, nodes.NodeSet.Ghosts as Nodes}}
+use Rattle.pagable_model.specs.{Blob.Blob, declared.{error.Error.Error, numbers.{ArcRef.ArcRef, HandleNumber.HandleNumber, Kind.Kind, LoadNumber.LoadNumber, WorkerNumber.WorkerNumber}}}
+use Rattle.pagable_world.specs.{Access.Told, LoadCalls.{AdoptCall, AskCall, Given, LazyCall, from_cache, from_store}, Pager.{Moves, PagerState, WellFormed}, World.{Core, Values, row_at, seen_as}}
+use Rattle.pagable_world.specs.declared.{calls.Want.Want, handles.{HandleRow.HandleRow, Owner.Owner}}
 
 -- whose calls they are, the environment of the values, and what was borrowed for changing
 pub record Acting (E : Type 0) : Type 0 where
@@ -69,26 +68,13 @@ abbrev pub found_as : {B : Type 0} → (B → Blob) → Either ArcRef B → Give
 found_as see (Either.Left r) = from_cache r.handle
 found_as see (Either.Right blob) = from_store (see blob)
 
-abbrev pub asked_as : {B : Type 0} → (B → Blob) → Result (Either ArcRef B) Error → Result Given Error
-asked_as see (Ok found) = Ok (found_as see found)
-asked_as see (Err e) = Err e
-
 abbrev pub IsFoundMade : {B : Type 0} → Core → Kind → Either ArcRef B → Type 0
 IsFoundMade w kind (Either.Left r) = IsMade w kind r
 IsFoundMade w kind (Either.Right blob) = Unit {0}
 
--- a load of a key, as the begin of it answers it
-abbrev pub begun_as : ℕ → Result LoadNumber Error → Result Beginning Error
-begun_as key (Ok l) = Ok (Beginning.Load l key)
-begun_as key (Err e) = Err e
-
-abbrev pub blob_as : {B : Type 0} → (B → Blob) → Result B Error → Result Given Error
-blob_as see (Ok blob) = Ok (from_store (see blob))
-blob_as see (Err e) = Err e
-
 -- a load asks for a reference, and gets one of the cache's, with its node, or a blob
 pub record AsksFor {B : Type 0} (see : B → Blob) (w : Core) (me : Owner) (l : LoadNumber) (kind : Kind) (key : ℕ) (r : Result (Either ArcRef B) Error) (w' : Core) : Type 0 where
-  pub asked : AskCall w me l (Want.Nested kind key) (asked_as see r) w'
+  pub asked : AskCall w me l (Want.Nested kind key) (seen_as (found_as see) r) w'
   pub made : IfOk r (λ found. IsFoundMade w' kind found)
 
 -- a load takes a reference that is read later, with its node

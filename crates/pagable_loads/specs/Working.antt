@@ -1,10 +1,9 @@
 -- What a worker's calls of an access do, in the words of the world.
-use Rattle.std.specs.Prelude.{ℕ, ◌≡◌, ◌≤◌, ◌⊎◌, true, length, Option, Some, None, Result, Ok, Err, IfOk, IfErr}
-use Rattle.pagable_model.specs.declared.{error.Error.Error, numbers.ArcRef.ArcRef}
-use Rattle.{pagable_model.specs.declared.numbers.{HandleNumber.HandleNumber, LoadNumber.LoadNumber, WorkerNumber.WorkerNumber}, pagable_world.specs.Kinds.{loose_kind, HasKinds, HasNoKinds}}
-use Rattle.pagable_world.specs.{declared.handles.{HandleRow.HandleRow, Owner.Owner}, World.{Core, Values, Alike}, Workers.{RowIs, PinsAtOnce, PinRefused}, LoadCalls.BeginCall, Calls.CloneCall}
-use Rattle.pagable_world.specs.declared.answers.Beginning.{Beginning}
-use Rattle.{pagable_world.specs.{Events.{IsEntry, with_entry_taken}, Pager.PagerState, Access.{Called, WorkerStarts}}, pagable_loads.specs.declared.working.Taken.Taken}
+use Rattle.std.specs.Prelude.{Err, IfErr, IfOk, None, Ok, Option, Result, Some, length, true, ℕ, ◌≡◌, ◌≤◌, ◌⊎◌}
+use Rattle.{pagable_loads.specs.declared.working.Taken.Taken, pagable_model.specs.declared.{error.Error.Error, numbers.{ArcRef.ArcRef, HandleNumber.HandleNumber, LoadNumber.LoadNumber}}}
+use Rattle.{pagable_model.specs.declared.numbers.WorkerNumber.WorkerNumber, pagable_world.specs.{Access.{Called, WorkerStarts}, Calls.CloneCall, Events.{IsEntry, with_entry_taken}, Kinds.HasKinds}}
+use Rattle.pagable_world.specs.{Kinds.{HasNoKinds, loose_kind}, LoadCalls.BeginCall, Pager.PagerState, Workers.{PinRefused, PinsAtOnce, RowIs}, World.{Alike, Core, Values}}
+use Rattle.pagable_world.specs.declared.{answers.Beginning.Beginning, handles.{HandleRow.HandleRow, Owner.Owner}}
 
 -- why something was refused, if it was
 abbrev pub fault_in : {X : Type 0} → Result X Error → Option Error

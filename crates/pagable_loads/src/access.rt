@@ -1,10 +1,9 @@
 //! An access to a pager: its calls, each one step, over a pager that is lent or behind a lock. Loads and page-out workers step over it.
 
-ghost use Rattle.std.specs.{Prelude.{◌≡◌, Option, IfOk}, Arc.arc_value};
-ghost use Rattle.{pagable_core.specs.Data.blob_of, pagable_model.specs.Blob.key_of, pagable_world.specs.Pager.{PagerState, IsNewNode}};
-ghost use Rattle.pagable_world.specs.{Pager.IsCellOf, Calls.{CloneCall, PinCall, UnpinCall, ReleaseCall, SetKeyCall, StoreCall}, LoadCalls.{BeginCall, BeginKeyCall, AskCall, EndCall, HandOverCall}};
-ghost use Rattle.{pagable_world.specs.{LoadCalls.DropCall, Access.Called, declared.calls.Want.Want}, pagable_loads.specs.Telling.{Acting, Acts, Tells, Brings, AsksFor, TakesLazily, AdoptsValue}};
-ghost use Rattle.pagable_loads.specs.{Telling.{values_at, begun_as, blob_as}, Starting.{Shares, StartsPin}};
+ghost use Rattle.std.specs.{Arc.arc_value, Prelude.{IfOk, Option, ◌≡◌}};
+ghost use Rattle.{pagable_core.specs.Data.blob_of, pagable_loads.specs.{Starting.{Shares, StartsPin}, Telling.{Acting, Acts, AdoptsValue, AsksFor, Brings, TakesLazily, Tells, values_at}}};
+ghost use Rattle.{pagable_model.specs.Blob.key_of, pagable_world.specs.{Access.Called, Calls.{CloneCall, PinCall, ReleaseCall, SetKeyCall, StoreCall, UnpinCall}, LoadCalls.{AskCall, BeginCall}}};
+ghost use Rattle.pagable_world.specs.{LoadCalls.{BeginKeyCall, DropCall, EndCall, HandOverCall, from_store}, Pager.{IsCellOf, IsNewNode, PagerState}, World.seen_as, declared.calls.Want.Want};
 
 use crate::starting::PinStart;
 use either::Either;
@@ -72,11 +71,11 @@ where
 
     /// A load of a key begins. Refused with NumbersSpent and OutOfMemory.
     fn load_key(&mut self, key: DataKey) -> Result<LoadNumber, Error>
-        ensures { Acts told acting self.old self.new (λ a s t. Called (values_at E.Node.NodeSet E.Env E.Hash.KeyHash a.environment) (λ w'. BeginKeyCall s.core a.me key (begun_as key result) w') s t) };
+        ensures { Acts told acting self.old self.new (λ a s t. Called (values_at E.Node.NodeSet E.Env E.Hash.KeyHash a.environment) (λ w'. BeginKeyCall s.core a.me key (seen_as (λ l. Beginning.Load l key) result) w') s t) };
 
     /// The blob of the load's own key. Refused with NoSuchHandle and NotYours, and as the storage refuses it.
     fn load_root(&mut self, alloc: Global, load: LoadNumber) -> Result<Arc<PagableData>, Error>
-        ensures { Acts told acting self.old self.new (λ a s t. Called (values_at E.Node.NodeSet E.Env E.Hash.KeyHash a.environment) (λ w'. AskCall s.core a.me load Want.Root (blob_as (λ d. blob_of (arc_value d)) result) w') s t) };
+        ensures { Acts told acting self.old self.new (λ a s t. Called (values_at E.Node.NodeSet E.Env E.Hash.KeyHash a.environment) (λ w'. AskCall s.core a.me load Want.Root (seen_as (λ d. from_store (blob_of (arc_value d))) result) w') s t) };
 
     /// A reference: a handle of the node that the cache gives, which the load owns, or else the blob. Refused with NoSuchHandle and NotYours; with NumbersSpent
     /// and OutOfMemory where a handle can't be made; and as the storage refuses the blob.

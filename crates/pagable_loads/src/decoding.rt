@@ -1,8 +1,7 @@
 //! A blob is read from its front, with the references that were got so far.
 
-ghost use Rattle.std.specs.Prelude.{◌≡◌, IfOk};
-ghost use Rattle.{pagable_core.specs.Data.blob_of, pagable_loads.specs.Decoding.{Decodes, ReadsWith}};
-ghost use Rattle.pagable_loads.specs.Telling.{values_at};
+ghost use Rattle.std.specs.Prelude.{IfOk, ◌≡◌};
+ghost use Rattle.{pagable_core.specs.Data.blob_of, pagable_loads.specs.{Decoding.{Decodes, ReadsWith}, Telling.values_at}};
 
 use crate::got::GotReferences;
 use pagable_codec::{ArcRef, Env, Kind, NodeSet, SessionContext};

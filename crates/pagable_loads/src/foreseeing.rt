@@ -2,8 +2,7 @@
 //! one that notes what is asked for, and one that asks for the last of them with all that are before it.
 
 ghost use Rattle.std.specs.Prelude.{IfSome, IsSome};
-ghost use Rattle.{pagable_world.specs.Plain.Types, pagable_loads.specs.Ahead.{IsAhead, RowTells, Kept}};
-ghost use Rattle.pagable_loads.specs.{Frames.frames_of, Telling.values_at};
+ghost use Rattle.{pagable_loads.specs.{Ahead.{IsAhead, Kept, RowTells}, Frames.frames_of, Telling.values_at}, pagable_world.specs.Plain.Types};
 
 use crate::access::Access;
 use crate::decoding::{Decoded, decode};

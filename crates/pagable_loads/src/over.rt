@@ -1,8 +1,7 @@
 //! Whole operations over an access: a pin, with the load that it may need, and the reading of a key.
 
-ghost use Rattle.std.specs.{Prelude.{◌≡◌, Bool}, Arc.arc_value};
-ghost use Rattle.pagable_world.specs.{World.seen_as, Access.{PinsOver, ReadsOver}, declared.handles.Owner.Owner};
-ghost use Rattle.pagable_loads.specs.{Starting.{PinsFirst, Unpins}, Telling.{Acts, values_at}};
+ghost use Rattle.std.specs.{Arc.arc_value, Prelude.{Bool, ◌≡◌}};
+ghost use Rattle.{pagable_loads.specs.{Starting.{PinsFirst, Unpins}, Telling.{Acts, values_at}}, pagable_world.specs.{Access.{PinsOver, ReadsOver}, World.seen_as, declared.handles.Owner.Owner}};
 
 use crate::access::Access;
 use crate::reading::Reading;
@@ -15,7 +14,7 @@ use std::alloc::Global;
 use std::sync::Arc;
 
 // Pins a loose handle's cell, and says whether the handle pinned nothing before.
-#[tactic(auto, using(crate::proofs::Stepped::acts_map, crate::proofs::Pinned::start_refused))]
+#[tactic(auto, using(crate::proofs::Stepped::acts_map, crate::proofs::Stepped::start_refused))]
 fn pin_first<E: Env, A: Access<E>>(
     access: &mut A,
     alloc: Global,
@@ -26,11 +25,7 @@ where
     requires caller { (A.acting access.old).me ≡ Owner.Caller }
     ensures { Acts A.told A.acting access.old access.new (λ a s t. PinsFirst (values_at E.Node.NodeSet E.Env E.Hash.KeyHash a.environment) s handle result t) }
 {
-    let start = match access.begin_pin(handle) {
-        Ok(start) => start,
-        Err(e) => return Err(e),
-    };
-    match start {
+    match access.begin_pin(handle)? {
         PinStart::Pinned(pinned, was_unpinned) => Ok((pinned, was_unpinned)),
         PinStart::Load(load, key, node_type) => {
             let mut reading = Reading::new(alloc, load, key, node_type, true);
@@ -67,10 +62,7 @@ where
     requires caller { (A.acting access.old).me ≡ Owner.Caller }
     ensures { Acts A.told A.acting access.old access.new (λ a s t. PinsOver (values_at E.Node.NodeSet E.Env E.Hash.KeyHash a.environment) s handle (seen_as (λ a. (a.0, arc_value a.1)) result) t) }
 {
-    let (pinned, was_unpinned) = match pin_first(access, alloc, handle) {
-        Ok(first) => first,
-        Err(e) => return Err(e),
-    };
+    let (pinned, was_unpinned) = pin_first(access, alloc, handle)?;
     if let Ok(Some(value)) = access.share(pinned) {
         return Ok((pinned, value));
     }
@@ -81,7 +73,7 @@ where
 
 /// Reads a key as a value of this type, with all that it refers to and that is read together with it; the handles of its references are the caller's, as the
 /// access is. Refused as the begin of a load and its steps refuse it, and then nothing is left of it.
-#[tactic(auto, using(crate::proofs::Stepped::acts_map, crate::proofs::Pinned::key_refused))]
+#[tactic(auto, using(crate::proofs::Stepped::acts_map, crate::proofs::Stepped::key_refused))]
 pub fn read_over<E: Env, A: Access<E>>(
     access: &mut A,
     alloc: Global,
@@ -93,10 +85,7 @@ where
     requires caller { (A.acting access.old).me ≡ Owner.Caller }
     ensures { Acts A.told A.acting access.old access.new (λ a s t. ReadsOver (values_at E.Node.NodeSet E.Env E.Hash.KeyHash a.environment) s key node_type result t) }
 {
-    let load = match access.load_key(key) {
-        Ok(load) => load,
-        Err(e) => return Err(e),
-    };
+    let load = access.load_key(key)?;
     let mut reading = Reading::new(alloc, load, key, node_type, false);
     match reading.run(access, alloc) {
         LoadAnswer::Read(value) => Ok(value),

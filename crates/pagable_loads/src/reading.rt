@@ -1,8 +1,7 @@
 //! How far a load is: the blobs that it reads, what it needs next, and the values of the references that were got, which it lends to the reader of its innermost blob.
 
-ghost use Rattle.std.specs.{Prelude.{◌≡◌, ◌<◌, [], length, IsSome, IfOk, IfErr}, Arc.arc_value, List.list_any, Option.option_map};
-ghost use Rattle.pagable_model.specs.Deep.{is_eager};
-ghost use Rattle.pagable_loads.specs.{Frames.{reading_of, frames_of}, Needing.{Needs, HasFrames}, Telling.{values_at, Tells}, Got.{Lends, LendsEach}};
+ghost use Rattle.std.specs.{Arc.arc_value, List.list_any, Option.option_map, Prelude.{IfErr, IfOk, IsSome, [], length, ◌<◌, ◌≡◌}};
+ghost use Rattle.{pagable_loads.specs.{Frames.{frames_of, reading_of}, Got.{Lends, LendsEach}, Needing.Needs, Telling.{Tells, values_at}}, pagable_model.specs.Deep.is_eager};
 
 use crate::access::Access;
 use crate::decoding::{Decoded, decode};
@@ -88,7 +87,7 @@ impl Reading {
     }
 
     /// What the load needs next. The innermost blob is read from its front for it, with these values of the references that it has got, and nothing else is touched.
-    #[tactic(auto, using(crate::proofs::Needed::needing))]
+    #[tactic(auto, using(crate::proofs::Stepped::needing))]
     pub fn next<E: Env>(
         &self,
         env: &E,
@@ -97,20 +96,14 @@ impl Reading {
     ) -> Need<E::Node>
     where
         E::Node: NodeSet<E>,
-        ensures needs { Needs (values_at E.Node.NodeSet E.Env E.Hash.KeyHash env.now) (reading_of self.now) self.now.for_cell result }
-        ensures stack { HasFrames self.now.top self.now.below.items result }
+        ensures needs { Needs (values_at E.Node.NodeSet E.Env E.Hash.KeyHash env.now) self.now result }
     {
         let Some(top) = &self.top else {
             return Need::Root;
         };
-        match decode(
-            env,
-            alloc,
-            top.blob.as_ref(),
-            top.node_type,
-            top.got.as_slice(),
-            lent,
-        ) {
+        let blob = top.blob.as_ref();
+        let got = top.got.as_slice();
+        match decode(env, alloc, blob, top.node_type, got, lent) {
             Decoded::Refused(e) => Need::Refuse(e),
             Decoded::Wants(kind, key) => {
                 if is_read_at_once(kind) {
@@ -134,7 +127,7 @@ impl Reading {
 }
 
 // The value of a reference that is read together with it. What its handle doesn't share isn't lent, and its reader refuses it. Refused with OutOfMemory.
-#[tactic(auto, using(crate::proofs::Lent::sharing))]
+#[tactic(auto, using(crate::proofs::Stepped::sharing))]
 fn value_of<E: Env, A: Access<E>>(
     access: &A,
     reference: ArcRef,
@@ -154,7 +147,6 @@ where
     }
 }
 
-// Whether one of these is read together with its value.
 fn is_any_read_at_once(got: &[ArcRef]) -> bool
     ensures { result ≡ list_any (λ r. is_eager r.kind.0) got.now }
 {
@@ -188,8 +180,7 @@ impl Reading {
     pub(crate) fn next_over<E: Env, A: Access<E>>(&self, access: &A, alloc: Global) -> Need<E::Node>
     where
         E::Node: NodeSet<E>,
-        ensures needs { Needs (values_at E.Node.NodeSet E.Env E.Hash.KeyHash (A.acting access.now).environment) (reading_of self.now) self.now.for_cell result }
-        ensures stack { HasFrames self.now.top self.now.below.items result }
+        ensures needs { Needs (values_at E.Node.NodeSet E.Env E.Hash.KeyHash (A.acting access.now).environment) self.now result }
     {
         let got = match &self.top {
             Some(top) => top.got.as_slice(),

@@ -1,9 +1,8 @@
 //! The blobs of a load, the innermost apart from those below it.
 
-ghost use Rattle.std.specs.{Prelude.{◌≡◌, ◌<◌, ◌≤◌, ◌∷◌, ◌++◌, ◌^◌, [], length, vec_len, vec_capacity, IsSome, IfOk, IfErr, OnOk}, Arc.arc_value};
-ghost use Rattle.pagable_core.specs.Data.{blob_of};
-ghost use Rattle.{pagable_model.specs.Deep.longest_path, pagable_world.specs.Loads.{root_frame, nested_frame, handles_of as all_handles}, pagable_loads.specs.Frames.{frame_of, frames_of, onto}};
-ghost use Rattle.pagable_loads.specs.Stepping.{IsSameLoad, TakenOff, TakenTwo};
+ghost use Rattle.std.specs.{Arc.arc_value, Prelude.{IfErr, IfOk, IsSome, OnOk, [], length, vec_capacity, vec_len, ◌++◌, ◌<◌, ◌^◌, ◌∷◌, ◌≡◌, ◌≤◌}};
+ghost use Rattle.{pagable_core.specs.Data.blob_of, pagable_loads.specs.{Frames.{frame_of, frames_of, onto}, Stepping.{IsSameLoad, TakenOff, TakenTwo}}, pagable_model.specs.Deep.longest_path};
+ghost use Rattle.pagable_world.specs.Loads.{handles_of as all_handles, nested_frame, root_frame};
 
 use crate::reading::{Frame, Reading};
 use pagable_codec::{ArcRef, Kind};
@@ -28,16 +27,14 @@ impl Reading {
         ensures only { IfErr result (λ e. e ≡ Error.OutOfMemory) }
         ensures same { IsSameLoad self.old self.new self.old.steps }
     {
-        let Some(mut top) = self.top.take() else {
-            unreachable!();
-        };
+        let mut top = self.top.take().unwrap();
         top.got.reserve(1)?;
         self.below.reserve(1)?;
         Ok(top)
     }
 
     /// Takes the innermost blob off, and the one below it with a place for one more reference. Refused with OutOfMemory.
-    #[tactic(auto, using(crate::proofs::Needed::stacking))]
+    #[tactic(auto, using(crate::proofs::Stepped::stacking))]
     pub(crate) fn take_two(&mut self) -> Result<(Frame, Frame), Error>
         requires top { IsSome self.old.top }
         requires below { 0 < length self.old.below.items }
@@ -45,12 +42,8 @@ impl Reading {
         ensures only { IfErr result (λ e. e ≡ Error.OutOfMemory) }
         ensures same { IsSameLoad self.old self.new self.old.steps }
     {
-        let Some(top) = self.top.take() else {
-            unreachable!();
-        };
-        let Some(mut under) = self.below.pop() else {
-            unreachable!();
-        };
+        let top = self.top.take().unwrap();
+        let mut under = self.below.pop().unwrap();
         under.got.reserve(1)?;
         Ok((top, under))
     }
@@ -67,7 +60,7 @@ impl Reading {
     }
 
     /// The root's blob is the only one.
-    #[tactic(auto, using(crate::proofs::Needed::stacking))]
+    #[tactic(auto, using(crate::proofs::Stepped::stacking))]
     pub(crate) fn put_root(&mut self, alloc: Global, blob: Arc<PagableData>)
         ensures few { length (blob_of (arc_value blob)).keys < 2 ^ 63 }
         ensures root { frames_of self.new.top self.new.below.items ≡ root_frame self.old.key self.old.node_type (blob_of (arc_value blob)) ∷ [] }
@@ -85,7 +78,7 @@ impl Reading {
     }
 
     /// A reference's blob is the innermost, over the one that asked for it. Refused with TooDeep where it would be the 129th below the root.
-    #[tactic(auto, using(crate::proofs::Needed::stacking))]
+    #[tactic(auto, using(crate::proofs::Stepped::stacking))]
     pub(crate) fn put_blob(
         &mut self,
         alloc: Global,
@@ -123,9 +116,6 @@ pub(crate) fn handles_of(alloc: Global, references: &[ArcRef]) -> Result<Vec<Han
     ensures ok { IfOk result (λ handles. handles.items ≡ all_handles references.now) }
     ensures only { IfErr result (λ e. e ≡ Error.OutOfMemory) }
 {
-    let mut handles = Vec::new(alloc);
-    for reference in references {
-        handles.push(reference.handle)?;
-    }
+    let handles = references.iter().map(|r| r.handle).collect(alloc)?;
     Ok(handles)
 }

@@ -1,9 +1,8 @@
 //! A load's steps, over an access to a pager, and a load that is driven to its end.
 
-ghost use Rattle.std.specs.Prelude.{◌≡◌, ◌<◌, [], length, IsSome, IfOk, Ok};
-ghost use Rattle.pagable_world.specs.{World.one_more, Loads.{need_of, needs_lazy, ReadsNode, ReadsRoot}};
-ghost use Rattle.pagable_loads.specs.{Stepping.{IsSameLoad, Tries, Steps, Drops}, Ahead.{GotMore, goes_on_with, IsAhead, RowTells}};
-ghost use Rattle.pagable_loads.specs.{Ending.{LeadsOn, EndsAs}, Frames.{reading_of, frames_of}, Needing.{Needs, HasFrames}, Telling.{Acts, values_at}, Stepping.Runs};
+ghost use Rattle.std.specs.Prelude.{IfOk, IsSome, Ok, [], length, ◌<◌, ◌≡◌};
+ghost use Rattle.pagable_loads.specs.{Stepping.{Tries, Drops, Steps, IsSameLoad, Runs}, Ending.LeadsOn, Frames.{reading_of, frames_of}, Ahead.{IsAhead, RowTells, GotMore, goes_on_with}};
+ghost use Rattle.{pagable_loads.specs.{Telling.{Acts, values_at}, Needing.Needs}, pagable_world.specs.{Loads.{ReadsRoot, need_of, ReadsNode, needs_lazy}, World.one_more}};
 
 use crate::access::Access;
 use crate::foreseeing::keep_if;
@@ -35,17 +34,13 @@ impl Reading {
     {
         let load = self.load;
         let top = self.take_top()?;
-        match access.load_lazy(alloc, load, kind, key) {
-            Ok(taken) => {
-                self.put_got(top, taken);
-                Ok(taken)
-            }
-            Err(e) => Err(e),
-        }
+        let taken = access.load_lazy(alloc, load, kind, key)?;
+        self.put_got(top, taken);
+        Ok(taken)
     }
 
     // What the innermost blob was read as becomes a node for the blob below it.
-    #[tactic(auto, using(crate::proofs::Lowering::node_leads))]
+    #[tactic(auto, using(crate::proofs::Foreseen::node_leads))]
     fn step_adopt<E: Env, A: Access<E>>(
         &mut self,
         access: &mut A,
@@ -105,13 +100,9 @@ impl Reading {
         }
         let references = value.refs(alloc)?;
         let named = handles_of(alloc, references.as_slice())?;
-        match access.load_take(self.load, named.as_slice()) {
-            Ok(()) => {
-                self.top = None;
-                Ok(Some(LoadAnswer::Read(value)))
-            }
-            Err(e) => Err(e),
-        }
+        access.load_take(self.load, named.as_slice())?;
+        self.top = None;
+        Ok(Some(LoadAnswer::Read(value)))
     }
 
     // Meets what the load needs, by one call of the access at most.
@@ -123,8 +114,7 @@ impl Reading {
     ) -> Result<Option<LoadAnswer<E::Node>>, Error>
     where
         E::Node: NodeSet<E>,
-        requires need { Needs (values_at E.Node.NodeSet E.Env E.Hash.KeyHash (A.acting access.old).environment) (reading_of self.old) self.old.for_cell need }
-        requires stack { HasFrames self.old.top self.old.below.items need }
+        requires need { Needs (values_at E.Node.NodeSet E.Env E.Hash.KeyHash (A.acting access.old).environment) self.old need }
         ensures acts { Acts A.told A.acting access.old access.new (λ a s t. Tries (values_at E.Node.NodeSet E.Env E.Hash.KeyHash a.environment) a.me self.old s result (frames_of self.new.top self.new.below.items) t) }
         ensures leads { LeadsOn self.old.for_cell (frames_of self.old.top self.old.below.items) (frames_of self.new.top self.new.below.items) result }
         ensures same { IsSameLoad self.old self.new self.old.steps }
@@ -242,7 +232,7 @@ impl Reading {
 
     /// Makes the load's steps up to its end, and answers what ended it. A load of a cell ends with a pin, one of a key with its value; either may be refused.
     /// A row of references that are read later is taken without reading its blob in between.
-    #[tactic(auto, using(crate::proofs::Driven::driving))]
+    #[tactic(auto, using(crate::proofs::Stepped::driving))]
     pub fn run<E: Env, A: Access<E>>(
         &mut self,
         access: &mut A,
@@ -251,7 +241,7 @@ impl Reading {
     where
         E::Node: NodeSet<E>,
         ensures acts { Acts A.told A.acting access.old access.new (λ a s t. Runs (values_at E.Node.NodeSet E.Env E.Hash.KeyHash a.environment) a.me self.old s result t) }
-        ensures ends { EndsAs self.old.for_cell result }
+        ensures ends { LeadsOn self.old.for_cell [] [] (Ok (Some result)) }
     {
         let mut row = Vec::new(alloc);
         loop {

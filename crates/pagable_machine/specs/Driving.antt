@@ -1,12 +1,11 @@
 -- A machine over a pager, as a state of the plain world; and what its events and runs are.
-use Rattle.std.specs.{Prelude.{ℕ, ◌≡◌, ◌++◌, zero, suc, List, length, map, Option, nat_eq, slice_get}, declared.{sync.Arc.Arc, alloc.Global.Global, hash.FoldHasher.FoldHasher}}
-use Rattle.std.specs.{declared.hash.BuildHasherDefault.BuildHasherDefault, HashMap.{HashMap, get}, Map.lookup}
-use Rattle.pagable_core.specs.declared.context.writing.SerializedData.{SerializedData}
-use Rattle.{pagable_core.specs.declared.storage.data.PagableData.PagableData, pagable_world.specs.{Plain.{Blob, Identity, if_there}, declared.events.{Event.Event, EventReply.EventReply}, World.Shelf}}
-use Rattle.pagable_world.specs.{World.{Slot, Values, Walking, Written}, Events.no_shelf, Pager.{IsIdle, IsMachineWhole, MachineState}, Runs.{AreMoments, HasRun, Moment, state_after}}
-use Rattle.{pagable_world.specs.Headline.Headline, pagable_pager.specs.View.{PagerView, Telling, core_in, state_in}, pagable_walk.specs.declared.{results.Trees.Ghosts, table.SlotTable.SlotTable}}
-use Rattle.{pagable_walk.specs.{Slots.{is_same, slot_of}, Turns.plain}, pagable_machine.specs.{declared.held.Held.Held, Keeping.{Holding, IsServing, Makes, readings_in}, Serving.plain_answer}}
-use Rattle.{pagable_machine.specs.{Serving.plain_event, Walking.walking_of}, pagable_loads.specs.declared.reading.Reading.Reading as Own}
+use Rattle.std.specs.{HashMap.{HashMap, get}, Map.lookup, Prelude.{ℕ, ◌≡◌, ◌++◌, zero, suc, List, length, map, Option, nat_eq, slice_get}, declared.alloc.Global.Global}
+use Rattle.std.specs.declared.{hash.{BuildHasherDefault.BuildHasherDefault, FoldHasher.FoldHasher}, sync.Arc.Arc}
+use Rattle.{pagable_core.specs.declared.{context.writing.SerializedData.SerializedData, storage.data.PagableData.PagableData}, pagable_loads.specs.declared.reading.Reading.Reading as Own}
+use Rattle.pagable_machine.specs.{Keeping.{Holding, IsServing, Makes, readings_in}, Serving.{plain_answer, plain_event}, Walking.walking_of, declared.held.Held.Held}
+use Rattle.{pagable_pager.specs.View.{PagerView, Telling, core_in, state_in}, pagable_walk.specs.{Slots.{is_same, slot_of}, Turns.plain, declared.{results.Trees.Ghosts, table.SlotTable.SlotTable}}}
+use Rattle.pagable_world.specs.{Events.no_shelf, Headline.Headline, Pager.{IsIdle, IsMachineWhole, MachineState}, Plain.{Blob, Identity, if_there}, Runs.{AreMoments, HasRun, Moment, state_after}}
+use Rattle.pagable_world.specs.{World.{Shelf, Slot, Values, Walking, Written}, declared.events.{Event.Event, EventReply.EventReply}}
 
 abbrev pub ByNumber : Type 0 → Type 0
 ByNumber Y = HashMap ℕ Y (BuildHasherDefault FoldHasher)

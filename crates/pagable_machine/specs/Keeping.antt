@@ -1,11 +1,10 @@
 -- What a machine keeps of loads, tables and workers, and when it is in step with its pager; and what one event does to both.
-use Rattle.std.specs.{Prelude.{ℕ, ◌≡◌, ◌≢◌, ◌≤◌, ◌⊎◌, true, List, length, Option, Some, None, is_some}, Option.option_map}
-use Rattle.pagable_model.specs.declared.error.Error.{Error}
-use Rattle.{pagable_model.specs.declared.numbers.LoadNumber.LoadNumber, pagable_world.specs.{World.{Core, OpenLoad, Reading, Seen, Values, Work, one_more}, declared.events.Event.Event}}
-use Rattle.pagable_world.specs.{declared.{events.{EventReply.EventReply, LoadAnswer.LoadAnswer, LoadReply.LoadReply}, handles.Owner.Owner}, Plain.if_there, Refusals.{Refused, spent}}
-use Rattle.{pagable_world.specs.{Access.ReadingStep, Workers.fresh, Pager.{FitsRoot, MachineState, PagerState}, Runs.Does}, pagable_walk.specs.declared.results.Trees.Ghosts}
-use Rattle.{pagable_walk.specs.declared.table.SlotTable.SlotTable, pagable_machine.specs.{declared.{held.Walk.Walk, readings.Unread.Unread}, Walking.{IsWalkKept, shelf_at, walking_of}}}
-use Rattle.pagable_loads.specs.{declared.reading.Reading.Reading as Own, Frames.{IsLoadOf, is_cell, reading_of}, Stepping.IsSameLoad}
+use Rattle.std.specs.{Option.option_map, Prelude.{ℕ, ◌≡◌, ◌≢◌, ◌≤◌, ◌⊎◌, true, List, length, Option, Some, None, is_some}}
+use Rattle.{pagable_loads.specs.{Frames.{IsLoadOf, is_cell, reading_of}, Stepping.IsSameLoad, declared.reading.Reading.Reading as Own}, pagable_machine.specs.Walking.{IsWalkKept, shelf_at}}
+use Rattle.{pagable_machine.specs.{Walking.walking_of, declared.{held.Walk.Walk, readings.Unread.Unread}}, pagable_model.specs.declared.{error.Error.Error, numbers.LoadNumber.LoadNumber}}
+use Rattle.{pagable_walk.specs.declared.{results.Trees.Ghosts, table.SlotTable.SlotTable}, pagable_world.specs.{Access.ReadingStep, Pager.{FitsRoot, MachineState, PagerState}, Plain.if_there}}
+use Rattle.pagable_world.specs.{Refusals.{Refused, spent}, Runs.Does, Workers.fresh, World.{Core, OpenLoad, Reading, Seen, Values, Work, one_more}, declared.events.Event.Event}
+use Rattle.pagable_world.specs.declared.{events.{EventReply.EventReply, LoadAnswer.LoadAnswer, LoadReply.LoadReply}, handles.Owner.Owner}
 
 -- what is kept of loads, by their numbers
 abbrev pub Kept : Type 0

@@ -1,11 +1,10 @@
 -- What a machine keeps of tables and workers, as the plain world knows it.
-use Rattle.std.specs.{Prelude.{ℕ, ◌≡◌, ◌≢◌, ◌⊎◌, ◌<◌, ◌≤◌, ◌∷◌, [], zero, suc, Bool, false, true, List, length, Option, Some, None, is_none, is_some, slice_get}, Arc.arc_value}
+use Rattle.std.specs.{Arc.arc_value, Prelude.{ℕ, ◌≡◌, ◌≢◌, ◌⊎◌, ◌<◌, ◌≤◌, ◌∷◌, [], zero, suc, Bool, false, true, List, length, Option, Some, None, is_none, is_some, slice_get}}
 use Rattle.std.specs.declared.{alloc.Global.Global, sync.Arc.Arc}
-use Rattle.pagable_core.specs.declared.context.writing.SerializedData.{SerializedData}
-use Rattle.pagable_world.specs.{declared.events.{WorkerReply.WorkerReply, TableNumber.TableNumber}, Plain.if_there, Kinds.owner_worker, Pager.PagerState, World.{Core, Shelf, Todo, Values, Walking}}
-use Rattle.{pagable_world.specs.{World.{of_item, of_entry}, Events.{new_walking, no_shelf, steps_after}}, pagable_walk.specs.{Tasks.{IsPlain, IsWay, todo_of, todos}, declared.results.Trees.Ghosts}}
-use Rattle.pagable_walk.specs.{declared.{table.SlotTable.SlotTable, tasks.{Moved.Moved, Task.Task, Turn.Turn, Waiting.Waiting}}, Slots.written_of, Table.shelf_of, Turns.{StepsTo, TaskFits, answer_in}}
-use Rattle.{pagable_walk.specs.Turns.plan, pagable_machine.specs.declared.held.{Begun.Begun, Walk.Walk}}
+use Rattle.{pagable_core.specs.declared.context.writing.SerializedData.SerializedData, pagable_machine.specs.declared.held.{Begun.Begun, Walk.Walk}, pagable_walk.specs.Slots.written_of}
+use Rattle.pagable_walk.specs.{Table.shelf_of, Tasks.{IsPlain, IsWay, todo_of, todos}, Turns.{StepsTo, TaskFits, answer_in, plan}, declared.{results.Trees.Ghosts, table.SlotTable.SlotTable}}
+use Rattle.{pagable_walk.specs.declared.tasks.{Moved.Moved, Task.Task, Turn.Turn, Waiting.Waiting}, pagable_world.specs.{Events.{new_walking, no_shelf, steps_after}, Kinds.owner_worker}}
+use Rattle.pagable_world.specs.{Pager.PagerState, Plain.if_there, World.{Core, Shelf, Todo, Values, Walking, of_item, of_entry}, declared.events.{TableNumber.TableNumber, WorkerReply.WorkerReply}}
 use Rattle.pagable_world.specs.World as world
 
 abbrev pub task_of : Begun → world.Task

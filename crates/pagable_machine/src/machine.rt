@@ -1,8 +1,7 @@
 //! A pager that is driven by lists of events.
 
 ghost use Rattle.std.specs.Prelude.{◌≡◌, IfOk, IfErr, OnErr};
-ghost use Rattle.{pagable_world.specs.Pager.{IsIdle, IsNew}, pagable_loads.specs.Telling.values_at, pagable_pager.specs.View.{state_in, telling}};
-ghost use Rattle.pagable_machine.specs.Driving.{Runs, machine_in};
+ghost use Rattle.{pagable_loads.specs.Telling.values_at, pagable_machine.specs.Driving.{Runs, machine_in}, pagable_pager.specs.View.{state_in, telling}, pagable_world.specs.Pager.{IsIdle, IsNew}};
 
 use crate::events;
 use crate::held::Held;

@@ -1,10 +1,9 @@
 //! How far loads are, by their numbers: what the machine keeps between their steps; and the steps of loads that the caller began.
 
-ghost use Rattle.std.specs.{Prelude.{◌≡◌, ◌<◌, ℕ, Some, None, IfErr, OnOk, OnErr}, HashMap.spare};
-ghost use Rattle.pagable_machine.specs.Driving.{kept_at, Drives, IsInStep, over};
-ghost use Rattle.{pagable_machine.specs.Keeping.{IsPrepared, IsUnread, KeepsOne, rest_after, Stepped}, pagable_model.specs.declared.error.Error.Error};
-ghost use Rattle.pagable_world.specs.declared.{handles.Owner.Owner, events.{EventReply.EventReply, Event.Event}};
-ghost use Rattle.{pagable_loads.specs.Telling.values_at, pagable_pager.specs.View.{state_in, telling}};
+ghost use Rattle.std.specs.{HashMap.spare, Prelude.{◌≡◌, ◌<◌, ℕ, Some, None, IfErr, OnOk, OnErr}};
+ghost use Rattle.{pagable_loads.specs.Telling.values_at, pagable_machine.specs.{Driving.{kept_at, Drives, IsInStep, over}, Keeping.{IsPrepared, IsUnread, KeepsOne, rest_after, Stepped}}};
+ghost use Rattle.{pagable_model.specs.declared.error.Error.Error, pagable_pager.specs.View.{state_in, telling}, pagable_world.specs.declared.events.{Event.Event, EventReply.EventReply}};
+ghost use Rattle.pagable_world.specs.declared.handles.Owner.{Owner};
 
 use crate::held::Held;
 use indexmap::IndexMap;

@@ -1,11 +1,10 @@
 //! Tables of page-out, workers on them, and a worker's step.
 
-ghost use Rattle.std.specs.{Prelude.{◌≡◌, ◌<◌, ◌⊎◌, ℕ, Some, IfOk, IfErr, OnOk, true, false, ◌≤◌, ◌∷◌, length, is_some}, HashMap.spare};
-ghost use Rattle.pagable_world.specs.Kinds.{identity_of, owner_worker};
-ghost use Rattle.pagable_world.specs.{World.{of_entry, of_item}, declared.events.{EventReply.EventReply, Event.Event}};
-ghost use Rattle.{pagable_loads.specs.Telling.values_at, pagable_pager.specs.View.{core_in, state_in, telling}, pagable_walk.specs.Slots.written_of};
-ghost use Rattle.pagable_walk.specs.{Table.shelf_of, Tasks.{IsWay, todo_of, todos}, Turns.{StepsTo, answer_in, plan}};
-ghost use Rattle.pagable_machine.specs.{Walking.{IsBegun, IsIn, IsPast, IsAfter, WalksOn, has_task, task_in, todo_left}, Driving.{Drives, IsInStep, kept_at, over}};
+ghost use Rattle.std.specs.{HashMap.spare, Prelude.{◌≡◌, ◌<◌, ◌⊎◌, ℕ, Some, IfOk, IfErr, OnOk, true, false, ◌≤◌, ◌∷◌, length, is_some}};
+ghost use Rattle.{pagable_loads.specs.Telling.values_at, pagable_machine.specs.{Driving.{Drives, IsInStep, kept_at, over}, Walking.{IsBegun, IsIn, IsPast, IsAfter, WalksOn, has_task, task_in}}};
+ghost use Rattle.{pagable_machine.specs.Walking.todo_left, pagable_pager.specs.View.{core_in, state_in, telling}, pagable_walk.specs.{Slots.written_of, Table.shelf_of, Tasks.{IsWay, todo_of, todos}}};
+ghost use Rattle.pagable_walk.specs.Turns.{StepsTo, answer_in, plan};
+ghost use Rattle.pagable_world.specs.{Kinds.{identity_of, owner_worker}, World.{of_entry, of_item}, declared.events.{Event.Event, EventReply.EventReply}};
 
 use crate::held::{Begun, Held, Walk};
 use crate::list;

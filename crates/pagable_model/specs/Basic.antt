@@ -1,4 +1,4 @@
--- Flags, lengths, texts, characters and durations as bytes: postcard's bool, seq, string and char, and serde's Duration.
+-- Flags, lengths, texts, byte arrays, characters and durations as bytes: postcard's bool, seq, string, byte array and char, and serde's Duration.
 use Rattle.std.specs.{Prelude.{ℕ, zero, suc, ◌+◌, ◌/◌, ◌%◌, ◌^◌, List, [], ◌∷◌, ◌++◌, length, take, drop, Bool, true, false, Ok, Err, nat_lt, nat_le, if◌then◌else◌}, Int.{w32, w64}, Char.encode_utf8}
 use Rattle.std.specs.Str.{is_utf8, chars}
 use Rattle.pagable_model.specs.{declared.error.Error.Error, Steps.◌>>=◌, Numbers.{Read, unsigned_form, unsigned_at}}
@@ -40,6 +40,14 @@ checked_text t = if is_utf8 t.0 then Ok t else Err Error.BadUtf8
 -- a text: too long, then too short, then not UTF-8
 unfoldable pub text_at : List ℕ → Read (List ℕ)
 text_at bytes = length_at bytes >>= λ n. bytes_at n.0 n.1 >>= checked_text
+
+-- postcard, byte array: the length in bytes, and the bytes
+abbrev pub byte_array_form : List ℕ → List ℕ
+byte_array_form bytes = length_form (length bytes) ++ bytes
+
+-- a byte array: too long, then too short
+unfoldable pub byte_array_at : List ℕ → Read (List ℕ)
+byte_array_at bytes = length_at bytes >>= λ n. bytes_at n.0 n.1
 
 abbrev pub char_form : ℕ → List ℕ
 char_form c = text_form (encode_utf8 c)

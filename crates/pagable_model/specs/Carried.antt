@@ -1,12 +1,9 @@
--- The carried types by their names: how each is spelled, and what its values mean.
-use Rattle.std.specs.{Prelude.{ℕ, List, [], ◌∷◌, Bool, false, cond, Option, Some, None, Result, Ok, Err, map}, Int.w64, Str.bytes_eq}
-use Rattle.pagable_model.specs.{Meaning.{Meaning, number, pair, sequence, absent, present, success, failure}, Keys.{Entry, code_order, put_all, put_sorted}, Shape.{Shape, nothing, unsigned, signed}}
-use Rattle.pagable_model.specs.Shape.{text, optional, list, both, tagged}
+-- The carried types by their names: how each is spelled, and what its values mean. `()` and `PhantomData` are nothing, `usize` is spelled as `u64`, `&T` and
+-- `Box<T>` as T, and `Arc<[T]>` refers to a list.
+use Rattle.std.specs.{Prelude.{ℕ, ◌/◌, ◌%◌, List, [], ◌∷◌, Bool, false, cond, Option, Some, None, Result, Ok, Err, map}, Int.w64, Str.bytes_eq, Duration.as_nanos, declared.time.Duration.Duration}
+use Rattle.pagable_model.specs.{Meaning.{Meaning, number, pair, sequence, absent, present, success, failure}, Keys.{Entry, code_order, put_all, put_sorted}, Shape.{Shape, nothing, signed}}
+use Rattle.pagable_model.specs.{Shape.{text, optional, list, both, tagged}, Basic.nanos_of_second, declared.numbers.ArcRef.ArcRef}
 use Rattle.pagable_model.specs.Meaning as meanings
-
--- `()` and `PhantomData` are nothing; `&T` and `Box<T>` are spelled as T, and `Arc<[T]>` refers to a list
-abbrev pub usize : Shape
-usize = unsigned w64
 
 -- `String`, `str`, `Box<str>` and `PathText` are texts
 abbrev pub path_text : Shape
@@ -52,6 +49,16 @@ of_list meaning xs = sequence (map meaning xs)
 
 abbrev pub of_duration : {A : Type 0} → ℕ → ℕ → Meaning A
 of_duration seconds nanos = pair (number seconds) (number nanos)
+
+-- the whole seconds of a duration, the nanoseconds beside them, and these two
+abbrev pub seconds_of : Duration → ℕ
+seconds_of d = as_nanos d / nanos_of_second
+
+abbrev pub nanos_of : Duration → ℕ
+nanos_of d = as_nanos d % nanos_of_second
+
+abbrev pub of_span : Duration → Meaning ArcRef
+of_span d = of_duration (seconds_of d) (nanos_of d)
 
 -- the entries of a map that has an order of its own
 abbrev pub of_entries : {A : Type 0} → List (Entry A) → Meaning A

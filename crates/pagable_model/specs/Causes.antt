@@ -1,6 +1,6 @@
 -- Causes that a reader has of its own are no faults of the input, and those of a writer are refusals that a writer may answer.
 use Rattle.std.{specs.Prelude.{◌≡◌, true, refl}, proofs.Common.{arith, subst, sym}}
-use Rattle.pagable_model.specs.{declared.error.Error.Error, Refusals.{is_own_reading, may_refuse_writing}, Gives.{never, memory, memory_or, either, long_or, deep_or, number_or, json_causes}}
+use Rattle.pagable_model.specs.{declared.error.Error.Error, Refusals.{is_own_reading, may_refuse_writing}, Gives.{never, memory, memory_or, either, long_or, deep_or, json_causes}}
 
 pub never_is_own_reading : (e : Error) → never e → is_own_reading e ≡ true
 never_is_own_reading e h = absurd h
@@ -32,12 +32,9 @@ long_or_may_refuse_writing part may e h = grind (arith, may)
 pub deep_or_may_refuse_writing : (part : Error → Type 0) → ((e : Error) → part e → may_refuse_writing e ≡ true) → (e : Error) → deep_or part e → may_refuse_writing e ≡ true
 deep_or_may_refuse_writing part may e h = grind (arith, may)
 
-pub number_or_may_refuse_writing : (part : Error → Type 0) → ((e : Error) → part e → may_refuse_writing e ≡ true) → (e : Error) → number_or part e → may_refuse_writing e ≡ true
-number_or_may_refuse_writing part may e h = grind (arith, may)
-
 -- of a text
 pub text_may_refuse_writing : (e : Error) → long_or memory e → may_refuse_writing e ≡ true
 text_may_refuse_writing = long_or_may_refuse_writing memory memory_may_refuse_writing
 
 pub json_may_refuse_writing : (e : Error) → json_causes e → may_refuse_writing e ≡ true
-json_may_refuse_writing = long_or_may_refuse_writing (deep_or (number_or memory)) (deep_or_may_refuse_writing (number_or memory) (number_or_may_refuse_writing memory memory_may_refuse_writing))
+json_may_refuse_writing e h = grind (arith, memory_may_refuse_writing)

@@ -1,8 +1,6 @@
 pub mod Refusals
-pub mod Optional
 pub mod Steps
 pub mod Numbers
-pub mod Varints
 pub mod Basic
 pub mod Gives
 pub mod Lengths
@@ -28,13 +26,8 @@ pub mod Collected
 pub mod Codes
 pub mod Hashed
 pub mod Keyed
-pub mod KeyParts
 pub mod OneForm
 pub mod Statics
 pub mod Tagged
 pub mod Session
 pub mod References
-pub mod ByteArrays
-pub mod Spans
-pub mod Cells
-pub mod Patterns

@@ -1,6 +1,7 @@
 -- What values that hold others mean: the meanings of their parts, put together.
-use Rattle.std.{specs.Prelude.{◌≡◌, refl, Option, Some, None, Result, Ok, Err, List, [], ◌∷◌, map}, proofs.Common.ap}
-use Rattle.pagable_model.specs.{declared.numbers.ArcRef.ArcRef, Meaning.{Meaning, pair, sequence, absent, present, success, failure}, Carried.{of_option, of_result}, Standing.SomeMeaning}
+use Rattle.std.{specs.Prelude.{◌≡◌, refl, Option, Some, None, Result, Ok, Err, List, [], ◌∷◌, map, ℤ, pos}, specs.Int.w64, proofs.Common.{ap, arith}}
+use Rattle.pagable_model.specs.{Meaning.{Meaning, integer, pair, sequence, absent, present, success, failure}, Carried.{of_option, of_result}, Numbers.IsSigned, Standing.SomeMeaning}
+use Rattle.pagable_model.specs.declared.numbers.ArcRef.{ArcRef}
 
 -- no value, or what the value means
 pub data MeansOption {T : Type 0} (M : T → Meaning ArcRef → Type 0) : Option T → Meaning ArcRef → Type 0 where
@@ -31,7 +32,26 @@ pub record MeansPair {A B : Type 0} (M : A → Meaning ArcRef → Type 0) (N : B
   pub is_second : N p.1 second
   pub is : m ≡ pair first second
 
--- ---- a value has a meaning if its parts have
+-- What cells hold may change while they are looked at, so no clause knows it, and a cell means whatever it may hold.
+
+-- an atomic number may hold any whole number of 64 bits with a sign
+pub record MeansAtomic (m : Meaning ArcRef) : Type 0 where
+  pub held : ℤ
+  pub fits : IsSigned w64 held
+  pub is : m ≡ integer held
+
+-- a value that is written once may be there or not: nothing, or what some value of the type may mean
+pub record MeansOnce {T : Type 0} (M : T → Meaning ArcRef → Type 0) (m : Meaning ArcRef) : Type 0 where
+  pub held : Option T
+  pub means : MeansOption M held m
+
+-- ---- a value has a meaning if its parts have, and a cell has some
+
+pub atomic_has_meaning : SomeMeaning MeansAtomic
+atomic_has_meaning = (integer (pos 0), record { held = pos 0; fits = omega arith; is = refl })
+
+pub once_has_meaning : {T : Type 0} (M : T → Meaning ArcRef → Type 0) → SomeMeaning (MeansOnce M)
+once_has_meaning M = (absent, record { held = None; means = means-none })
 
 pub items_have_meanings : {T : Type 0} (M : T → Meaning ArcRef → Type 0) → ((x : T) → SomeMeaning (M x)) → (xs : List T) → (ms : List (Meaning ArcRef)) × MeanAll M xs ms
 items_have_meanings M has [] = ([], mean-none)

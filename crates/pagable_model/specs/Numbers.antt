@@ -1,6 +1,6 @@
 -- Whole numbers as bytes: the parts of the postcard wire format on varints and on integers with a sign.
 use Rattle.std.specs.{Prelude.{ℕ, zero, suc, ◌+◌, ◌-◌, ◌*◌, ◌/◌, ◌%◌, ◌^◌, List, [], ◌∷◌, Result, Ok, Err, ℤ, pos, negsuc, nat_lt, nat_le, ◌==◌, ◌<◌, if◌then◌else◌}, Int.{Width, w8, w16, w32, w64}}
-use Rattle.std.specs.Int.{w128}
+use Rattle.std.specs.{Int.w128, Prelude.◌≡◌, Prelude.◌++◌}
 use Rattle.pagable_model.specs.{declared.error.Error.Error, Steps.◌>>=◌}
 
 -- what a reader of bytes gives: a value and the bytes after it
@@ -29,6 +29,10 @@ varint_at (suc more) last (b ∷ rest) =
 unfoldable pub varint_limit : ℕ → ℕ → ℕ
 varint_limit zero last = last + 1
 varint_limit (suc more) last = 128 * varint_limit more last
+
+-- new is old and the varint of a number, at each width that the number fits
+pub record AppendsVarint (old new : List ℕ) (number : ℕ) : Type 0 where
+  pub appends : (more : ℕ) → number < varint_limit more 127 → new ≡ old ++ varint more number
 
 -- how many bytes of a number may have the top bit set: 2, 4, 9 or 18
 abbrev pub more_of : Width → ℕ

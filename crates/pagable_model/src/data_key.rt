@@ -1,7 +1,6 @@
 //! The keys of blobs.
 
-ghost use Rattle.std.specs.Prelude.{◌≡◌, ◌<◌, ◌↔◌, IsTrue, IsSome, IfSome, Some, decimal};
-ghost use Rattle.pagable_model.specs.Optional.{HasKey};
+ghost use Rattle.std.specs.Prelude.{◌≡◌, ◌≢◌, ◌<◌, ◌↔◌, IsTrue, IsSome, IfSome, Some, decimal};
 ghost use Rattle.pagable_model.specs.declared.data_key.OptionalDataKey.TheVariants as optional;
 
 use std::fmt;
@@ -66,7 +65,7 @@ pub enum OptionalDataKey {
 impl OptionalDataKey {
     /// Whether there is a key.
     pub fn is_some(&self) -> bool
-        ensures { IsTrue result ↔ HasKey self.now }
+        ensures { IsTrue result ↔ (self.now ≢ OptionalDataKey.None) }
     {
         match self {
             OptionalDataKey::None => false,
@@ -86,7 +85,7 @@ impl OptionalDataKey {
 
     /// The key, which has to be there.
     pub fn unwrap(self) -> DataKey
-        requires { HasKey self }
+        requires { self ≢ OptionalDataKey.None }
         ensures { self ≡ OptionalDataKey.Some result }
     {
         match self {

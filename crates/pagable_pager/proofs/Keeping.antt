@@ -1,16 +1,20 @@
--- What leaves the pager in step: values that go with their nodes, calls by which no value comes or goes, and what is asked of the storage. And what a handle lends.
+-- What leaves the pager in step: values that go with their nodes, calls by which no value comes or goes, what is asked of the storage, and what comes with a value.
+use Rattle.std.proofs.Common.{Bool, Err, None, Ok, Option, Result, Some, [], ap, arith, false, if◌then◌else◌, nat_eq, not, refl, rules, subst, sym, true, ℕ, ◌&&◌, ◌∙◌, ◌≡◌, ◌≤◌, List, inl, inr, ◌+◌}
+use Rattle.std.{proofs.{Common.{◌<◌, ◌==◌}, lemmas.Bool.{cases_eq, Decides.nat_tests}}, specs.{Arc.arc_value, HashMap.get, Option.option_map, Prelude.{IfErr, IfOk, OnErr, OnOk, is_some, nat_lt, ◌⊎◌}}}
+use Rattle.{pagable_laws.proofs.{Goes.NotValues, SparingSteps.entered-of, Taking.row-held, Trees.same_some}, pagable_model.specs.Stored.Adds, std.specs.Prelude.{IfNone, IfSome, ◌≢◌}}
+use Rattle.pagable_model.specs.{Stored.{RefusesFetch, RefusesStore}, declared.numbers.{ArcRef.ArcRef, HandleNumber.HandleNumber, Kind.Kind, LoadNumber.LoadNumber, NodeNumber.NodeNumber}}
+use Rattle.{pagable_pager.specs.View.{CallsLess, IsPager, OnlyLess, PagerView, Telling, ValuesByNode, core_in, is_at_work, state_in, value_in, PutsIn, with_value}, pagable_steps.proofs.Calls.closed}
+use Rattle.pagable_steps.proofs.{Calls.{adopted_known, adopts-new, born, end_refused, installed_away, installed_there}, Owning.{IsRight, IsShut, Leaves, Rests, Spares, asked as spares-asked}}
+use Rattle.{pagable_steps.proofs.Owning.{known-here, not-load, recalls, spared, stores, unmoved, stayed}, pagable_tables.proofs.{Alive.not-so, Installed.{installs-wider, may-wider, so-then}}}
+use Rattle.pagable_tables.proofs.Worlds.{still, adopted-past, adopts-new as made-new, born-past, earlier-first, early-past, fault-by, next-past, refused-memory, refused-new, room-alike, room-fault}
+use Rattle.pagable_tables.{proofs.Worlds.told-later, specs.{Asking.{AsksKnown, early_fault}, Bearing.{Bears, OnlyRoom}, ByNumber.counts_at, Core.{IsWhole, core_of, plain_of}, Doing.{Does, DoesShed}}}
+use Rattle.pagable_tables.specs.{Falling.{AreKept, Sheds, cell_in, has_value, key_in, pins_in}, Later.AreLater, Ready.{IsReady, IsVain, ShedsBeside, has_come}, declared.loading.Ending.Ending}
+use Rattle.{pagable_tables.specs.declared.tables.{Counts.Counts, Tables.Tables}, pagable_world.specs.{Calls.{Asked, FetchCall, StoreCall, BirthCall, IsNext, birth_fault}, Kinds.has_key}}
+use Rattle.pagable_world.specs.{Kinds.{is_owner, is_pinning, mode_of, pins, held}, LoadCalls.{AskCall, from_cache, AdoptCall, Adopts, DropCall, EndCall, Installs, MayEnd, adopt_fault, adopted}}
+use Rattle.pagable_world.specs.{LoadCalls.{first_key, EndRefused}, Pager.{MayOwnLoad, PagerState, WellFormed, IsCellOf, IsNewNode, Moves}, Plain.{Blob, Error, if_there, updated}, Refusals.OwnsLoad}
+use Rattle.pagable_world.specs.{Refusals.{Refused, closed_fault, earlier, load_fault, references_fault, refused_if}, World.{Core, Values, is_here, seen_as, usable, Alike, Last, OpenLoad, greatest}}
+use Rattle.pagable_world.specs.declared.{calls.Want.Want, handles.Owner.Owner, rows.Mode.Mode}
 use Rattle.pagable_world.specs.Pager as pager
-use Rattle.{pagable_laws.proofs.{Outlasting.NotValues, SparingSteps.entered-of, Taking.{row-held, row-pins}}, pagable_model.specs.Stored.{Adds, RefusesFetch, RefusesStore}}
-use Rattle.{pagable_model.specs.declared.numbers.{HandleNumber.HandleNumber, Kind.Kind, LoadNumber.LoadNumber, NodeNumber.NodeNumber}, pagable_pager.specs.View.{CallsLess, FewerValues, IsPager}}
-use Rattle.{pagable_pager.specs.View.{OnlyLess, PagerView, Telling, ValuesByNode, core_in, is_at_work, state_in, value_in}, pagable_steps.proofs.{Calls.closed, Owning.{IsRight, IsShut}}}
-use Rattle.pagable_steps.proofs.Owning.{Leaves, Rests, Spares, asked as spares-asked, known-here, not-load, pinned-here, recalls, spared, stores, unmoved}
-use Rattle.pagable_tables.{proofs.Worlds.still, specs.{Asking.AsksKnown, ByNumber.{counts_at, known_at, load_at, worker_at}, Core.{IsWhole, core_of, plain_of}, Doing.{Does, DoesShed}}}
-use Rattle.pagable_tables.specs.{Falling.{AreKept, Sheds, cell_in, has_value, key_in, pins_in}, Later.AreLater, declared.{rows.Counts.Counts, tables.Tables.Tables}}
-use Rattle.pagable_world.specs.{Calls.{Asked, CloseCall, FetchCall, Looks, StoreCall}, Kinds.{has_key, is_owner, is_pinning, mode_of, pins}, LoadCalls.{AskCall, from_cache}, Pager.IsNew}
-use Rattle.pagable_world.specs.{Pager.{MayOwnLoad, PagerState, ValueCall, WellFormed}, Plain.{Blob, Error}, World.{Core, Values, is_here, seen_as, usable}, declared.calls.Want.Want}
-use Rattle.{pagable_world.specs.declared.handles.Owner.Owner, std.proofs.Common.{Bool, Err, None, Ok, Option, Result, Some, [], ap, arith, false, if◌then◌else◌, nat_eq, not, refl, rules, subst}}
-use Rattle.std.{proofs.{Common.{sym, true, ℕ, ◌&&◌, ◌∙◌, ◌≡◌, ◌≤◌}, lemmas.Bool.Decides.nat_tests}, specs.{Arc.arc_value, HashMap.get, Option.option_map, Prelude.{IfErr, IfOk, OnErr, OnOk}}}
-use Rattle.std.specs.Prelude.{is_some, nat_lt, ◌⊎◌}
 
 -- the plain world is whole, whatever is stored, if nothing is listed or known once the storage is closed
 pub whole-over : (t : Tables) (stored : ℕ → Option Blob) (closed : Bool) (failures : ℕ) → IsWhole t → IsShut (core_of t stored closed failures) → pager.IsWhole (core_of t stored closed failures)
@@ -19,14 +23,10 @@ whole-over t stored closed failures whole shut =
     let h = is.handles in
     let o = is.owners_there in
     let l = is.loads in
-    let handles : pager.HandlesAreWhole (core_of t stored closed failures) = search rules in
-    let owners : pager.OwnersAreThere (core_of t stored closed failures) = search rules in
-    let loads : pager.LoadsAreWhole (core_of t stored closed failures) =
-    record { numbered = l.numbered; owned = l.owned; roots = λ n load node k q e root. let r = l.roots n load node k q e root in record { typed = r.typed; begun = r.begun; given = r.given } } in
     record {
-      handles = handles;
-      owners_there = owners;
-      loads = loads;
+      handles = search rules;
+      owners_there = search rules;
+      loads = record { numbered = l.numbered; owned = l.owned; roots = λ n load node k q e root. let r = l.roots n load node k q e root in record { typed = r.typed; begun = r.begun; given = r.given } };
       cache = λ kind key n known. let c = is.cache kind key n known in record { given = c.given; typed = c.typed; shares = c.shares };
       workers_numbered = is.workers_numbered;
       shut = shut;
@@ -107,8 +107,6 @@ module _ {N S E : Type 0} {tells : Telling S} {says : E → Values N} {p : Pager
 pub told-open : {b closed : Bool} → b ≡ closed → not b ≡ not closed
 told-open e = ap not e
 
--- ---- no value comes or goes
-
 -- the caller is no value
 pub caller-free : NotValues Owner.Caller
 caller-free n is = absurd (cc)
@@ -127,13 +125,13 @@ module _ {N S E : Type 0} {tells : Telling S} {says : E → Values N} {p q : Pag
 
 module _ {N S E : Type 0} {tells : Telling S} {says : E → Values N} {p : PagerView N S E} (is : IsPager tells says p) where
   -- other tables
-  pub held : (t : Tables) → IsWhole t → AreLater t → Rests (core_in tells p) (core_in tells (record p { tables = t })) → IsPager tells says (record p { tables = t })
-  held t whole later rests = in-step (record p { tables = t }) whole later (spared is.state rests (λ n. refl))
+  pub rested : (t : Tables) → IsWhole t → AreLater t → Rests (core_in tells p) (core_in tells (record p { tables = t })) → IsPager tells says (record p { tables = t })
+  rested t whole later rests = in-step (record p { tables = t }) whole later (spared is.state rests (λ n. refl))
 
   -- a call of the tables
   pub called : {step : Core → Core → Type 0} (t : Tables) → Does p.tables step t
       → (step (core_in tells p) (core_in tells (record p { tables = t })) → Rests (core_in tells p) (core_in tells (record p { tables = t }))) → IsPager tells says (record p { tables = t })
-  called t call rests = held t call.whole (call.later is.later) (rests (call.does (tells.stored p.storage) (tells.closed p.storage) (tells.failed p.storage)))
+  called t call rests = rested t call.whole (call.later is.later) (rests (call.does (tells.stored p.storage) (tells.closed p.storage) (tells.failed p.storage)))
 
 -- what a load asks for
 pub known-found : {w w' : Core} {me : Owner} {l : LoadNumber} {kind : Kind} {key : ℕ} {k : HandleNumber} (found : Option HandleNumber) → found ≡ Some k → AsksKnown w me l kind key (Ok found) w'
@@ -147,71 +145,339 @@ known-so is (Err e) c = spared is (unmoved c.refused.stays is.whole.shut)
 
 pub ruleset asked_known = (nat_tests, known-found)
 
--- ---- the storage is asked, or closed
-
 module _ {N S E : Type 0} {tells : Telling S} {says : E → Values N} {p : PagerView N S E} (is : IsPager tells says p) (s : S) (stays : tells.closed s ≡ tells.closed p.storage)
     (more : tells.failed p.storage ≤ tells.failed s) where
-  abbrev after : PagerView N S E
-  after = record p { storage = s }
+  abbrev stored-in : PagerView N S E
+  stored-in = record p { storage = s }
 
-  told : Spares (core_in tells p) (core_in tells after) → IsPager tells says after
-  told spares = in-step after is.tables is.later (spared is.state (record { spares = spares; shut = λ shut. is.state.whole.shut (sym stays ∙ shut) }) (λ n. refl))
+  told-in : Spares (core_in tells p) (core_in tells stored-in) → IsPager tells says stored-in
+  told-in spares = in-step stored-in is.tables is.later (spared is.state (record { spares = spares; shut = λ shut. is.state.whole.shut (sym stays ∙ shut) }) (λ n. refl))
 
-  pub asked : tells.stored s ≡ tells.stored p.storage → Asked (core_in tells p) (core_in tells after)
+  pub asked : tells.stored s ≡ tells.stored p.storage → Asked (core_in tells p) (core_in tells stored-in)
   asked same = grind (arith, nat_tests, still)
 
-  pub asked-so : tells.stored s ≡ tells.stored p.storage → IsPager tells says after
-  asked-so same = told (spares-asked (asked same))
+  pub asked-so : tells.stored s ≡ tells.stored p.storage → IsPager tells says stored-in
+  asked-so same = told-in (spares-asked (asked same))
 
   module _ (digest : Blob → ℕ) (blob : Blob) (r : Result ℕ Error) (keyed : IfOk r (λ key. key ≡ digest blob)) (adds : OnOk r (Adds (digest blob) blob (tells.stored p.storage) (tells.stored s)))
       (was : OnOk r (tells.closed p.storage ≡ false)) (only : IfErr r (RefusesStore blob (tells.stored p.storage (digest blob)) (tells.closed p.storage) (tells.failed p.storage) (tells.failed s)))
       (same : OnErr r (tells.stored s ≡ tells.stored p.storage)) where
-    pub store-call : StoreCall digest (core_in tells p) blob r (core_in tells after)
+    pub store-call : StoreCall digest (core_in tells p) blob r (core_in tells stored-in)
     store-call = grind (arith, nat_tests, asked, still)
 
-    pub stored-so : IsPager tells says after
-    stored-so = told (stores r store-call)
+    pub stored-so : IsPager tells says stored-in
+    stored-so = told-in (stores r store-call)
 
 -- the blob, as it is seen
 pub fetch-call : {X : Type 0} (see : X → Blob) (w w' : Core) (key : ℕ) (r : Result X Error) → Asked w w' → IfOk r (λ x. w.stored key ≡ Some (see x)) → IfErr r (RefusesFetch key (w.stored key) w.failures w'.failures) → FetchCall w key (seen_as see r) w'
 fetch-call see w w' key r asks found only = grind (arith, nat_tests)
 
--- what the storage tells is that it is empty and closed
-module _ {N S E : Type 0} {tells : Telling S} {says : E → Values N} {p : PagerView N S E} (is : IsPager tells says p) (s : S) (t : Tables) (values : ValuesByNode N)
-    (empty : (key : ℕ) → tells.stored s key ≡ None) (shut : tells.closed s ≡ true) (call : CloseCall (core_in tells p) (Ok tt) (core_of t (λ key. None) true (tells.failed s))) (whole : IsWhole t)
-    (sheds : Sheds (counts_at p.tables.holdings.nodes) (get nat_eq p.values) (counts_at t.holdings.nodes) (get nat_eq values)) where
-  abbrev new : PagerView N S E
-  new = record p { tables = t; values = values; storage = s }
+-- ---- what comes with a value: a node, what a load has read, and the value of a load's cell
 
-  shut-call : CloseCall (core_in tells p) (Ok tt) (core_in tells new)
-  shut-call = grind (arith, nat_tests, closed)
+-- a birth in a world where room was made before
+birth-past : {N : Type 0} {w w1 w' : Core} {x : N} (me : Owner) (t t' : ℕ) (rs rs' : List ArcRef) (mode : Mode) (k : HandleNumber) → OnlyRoom w w1 → references_fault w me [] rs ≡ None
+    → w1.last.node < greatest → t ≡ t' → rs ≡ rs' → Bears w1 me t 0 rs mode k w' → BirthCall w me x t' rs' mode (Ok k) w'
+birth-past {N} {w} {w1} {w'} {x} me t t' rs rs' mode k room fit left typed named b = grind (arith, nat_tests, born-past, next-past)
 
-  pub shut-told : CloseCall (core_in tells p) (Ok tt) (core_in tells new) × FewerValues p new
-  shut-told = (shut-call, record { values = less is t values sheds; environment = refl })
+module _ {N S E : Type 0} {tells : Telling S} {says : E → Values N} {p : PagerView N S E} (is : IsPager tells says p) where
+  abbrev next : ℕ
+  next = p.tables.last_node + 1
 
-  -- it is in step
-  pub shut-pager : AreLater t → IsPager tells says new
-  shut-pager later = in-step new whole later (λ right. closed is.state (record { swept = swept is t values whole sheds; right = right }) shut-call)
+  module _ {t1 : Tables} (mid : ValuesByNode N) (room : Does p.tables OnlyRoom t1) where
+    abbrev roomy : PagerView N S E
+    roomy = record p { tables = t1; values = mid }
 
--- ---- what a handle lends, and what is seen of a pager of nothing
+    pub only-room : OnlyRoom (core_in tells p) (core_in tells roomy)
+    only-room = room.does (tells.stored p.storage) (tells.closed p.storage) (tells.failed p.storage)
 
-module _ {N E : Type 0} {v : Values N} {s : PagerState N E} (is : WellFormed v s) (h : HandleNumber) where
-  -- nothing is lent by a handle that pins nothing
-  pub lends-none : Looks s.core h (λ node row. node ≡ (if is_pinning row.mode then Some row.node else None)) (Ok None) → ValueCall s h (Ok None)
-  lends-none l = grind (arith, nat_tests)
+    -- memory is wanting
+    pub no-memory : (x y : N) → y ≡ x → (node_type : ℕ) (references : List ArcRef) (mode : Mode) → BirthCall (core_in tells p) Owner.Caller x node_type references mode (Err (Error.OutOfMemory, y))
+        (core_in tells roomy)
+    no-memory x y same node_type references mode = record { made = tt; refused = (same, record { why = inr (refl, refl, tt); stays = room-alike only-room }) }
 
-  pub lends-fault : (e : Error) → Looks s.core h (λ node row. node ≡ (if is_pinning row.mode then Some row.node else None)) (Err e) → ValueCall s h (Err e)
-  lends-fault e l = grind (arith, nat_tests)
+    module _ (same : (n : ℕ) → value_in mid n ≡ value_in p.values n) where
+      -- only room was made
+      pub roomier : IsPager tells says roomy
+      roomier = in-step roomy room.whole (room.later is.later) (spared is.state (unmoved (room-alike only-room) is.state.whole.shut) same)
 
-  -- a handle that pins has its node's value in memory
-  pub not-away : (n : NodeNumber) → Looks s.core h (λ node row. node ≡ (if is_pinning row.mode then Some row.node else None)) (Ok (Some n)) → s.values n.0 ≡ None → ⊥
-  not-away n l none = grind (arith, nat_tests, pinned-here, row-held, row-pins)
+      -- a value is kept with the node that has come
+      module _ (t2 : Tables) (values : ValuesByNode N) (x : N) {y : N} (shared : y ≡ x) (here : value_in values t2.last_node ≡ Some y)
+          (others : (n : ℕ) → n ≢ t2.last_node → value_in values n ≡ value_in mid n) where
+        abbrev after : PagerView N S E
+        after = record p { tables = t2; values = values }
 
-  pub lends : (n : NodeNumber) {x : N} → s.values n.0 ≡ Some x → Looks s.core h (λ node row. node ≡ (if is_pinning row.mode then Some row.node else None)) (Ok (Some n)) → ValueCall s h (Ok (Some x))
-  lends n {x} value l = grind (arith, nat_tests)
+        pub told : t2.last_node ≡ next → (n : ℕ) → value_in values n ≡ (if n == next then Some x else value_in p.values n)
+        told last n = grind (arith, nat_tests, cases_eq)
 
--- a pager of nothing is a new one
-module _ {N S E : Type 0} (tells : Telling S) (p : PagerView N S E) (rows : p.tables.holdings.handles.places.items ≡ []) (nodes : (n : ℕ) → counts_at p.tables.holdings.nodes n ≡ None)
-    (list : p.tables.holdings.list.items ≡ []) (cache : (kind key : ℕ) → known_at p.tables.cache kind key ≡ None) (none : (n : ℕ) → get nat_eq p.values n ≡ None) where
-  pub is-new : ((l : ℕ) → load_at p.tables.loads l ≡ None) → ((v : ℕ) → worker_at p.tables.workers v ≡ None) → (p.tables.last_node ≡ 0) × (p.tables.holdings.last_handle ≡ 0) × (p.tables.last_load ≡ 0) × (p.tables.last_worker ≡ 0) → IsNew (state_in tells p)
-  is-new loads workers last = grind (arith, nat_tests)
+        -- the node of the next number had no value yet
+        none-yet : value_in p.values next ≡ None
+        none-yet = grind (arith, nat_tests)
+
+        pub moved-in : t2.last_node ≡ next → Moves (λ n z. (z ≡ x) × IsNewNode (core_in tells p) n) (state_in tells p) (state_in tells after)
+        moved-in last = let a = told last in grind (arith, nat_tests, cases_eq, none-yet, same_some)
+
+        -- a node of the caller's
+        module _ {mode : Mode} {k : HandleNumber} {node_type : ℕ} {rs qs : List ArcRef} (bears : Does t1 (λ w w'. Bears w Owner.Caller node_type 0 rs mode k w') t2) (left : t1.last_node < greatest)
+            (fit : references_fault (plain_of t1) Owner.Caller [] qs ≡ None) (read : qs ≡ rs) (typed : node_type ≡ (says p.environment).node_type x) (named : rs ≡ (says p.environment).references x) where
+          birth : BirthCall (core_in tells p) Owner.Caller x ((says p.environment).node_type x) ((says p.environment).references x) mode (Ok k) (core_in tells after)
+          birth =
+              let plain = room.does (λ key. None) false 0 in
+              let fine = fault-by (plain_of p.tables) (core_in tells p) Owner.Caller [] rs ∙ sym (room-fault Owner.Caller rs plain) ∙ subst
+              (λ l. references_fault (plain_of t1) Owner.Caller [] l ≡ None) read fit in
+              birth-past Owner.Caller node_type ((says p.environment).node_type x) rs ((says p.environment).references x) mode k only-room fine left typed named
+              (bears.does (tells.stored p.storage) (tells.closed p.storage) (tells.failed p.storage))
+
+          born-last : t2.last_node ≡ next
+          born-last = ap (λ (l : Last). l.node) birth.made.3.last
+
+          pub born-told : BirthCall (core_in tells p) Owner.Caller x ((says p.environment).node_type x) ((says p.environment).references x) mode (Ok k) (core_in tells after) × Moves (λ n z. (z ≡ x) × IsNewNode (core_in tells p) n)
+              (state_in tells p) (state_in tells after)
+          born-told = (birth, moved-in born-last)
+
+          pub born-so : is_pinning mode ≡ true → IsPager tells says after
+          born-so pinning =
+              in-step after bears.whole (bears.later (room.later is.later))
+              (born {v = says p.environment} {s = state_in tells p} {s' = state_in tells after} is.state caller-free pinning birth (told born-last))
+
+-- ---- what a load has read becomes a node
+
+module _ {N S E : Type 0} {tells : Telling S} {says : E → Values N} {p : PagerView N S E} (is : IsPager tells says p) (t : Tables) (values : ValuesByNode N)
+    (whole : IsWhole t) (later : AreLater t) (sheds : Sheds (counts_at p.tables.holdings.nodes) (get nat_eq p.values) (counts_at t.holdings.nodes) (get nat_eq values)) where
+  abbrev rest : PagerView N S E
+  rest = record p { tables = t; values = values }
+
+  -- a refusal, or nothing, leaves the pager in step
+  pub same-so : Alike (core_in tells p) (core_in tells rest) → IsPager tells says rest
+  same-so a = shed is t values whole later sheds (stayed is.state (unmoved a is.state.whole.shut))
+
+  pub found-so : (me : Owner) (l : LoadNumber) (kind : Kind) (key u : ℕ) (rs : List ArcRef) (r : Result (Option HandleNumber) Error)
+      → IfOk r (λ found. IfSome found (λ k. Adopts (core_in tells p) me l kind key u rs k (core_in tells rest)))
+      → IfOk r (λ found. IfSome found (λ k. (n : ℕ) × (usable (core_in tells p) kind.0 key ≡ Some n)))
+      → IfOk r (λ found. IfNone found (t ≡ p.tables))
+      → IfErr r (λ e. Refused (adopt_fault (core_in tells p) me l kind key u rs) (load_fault (core_in tells p) me l) (Unit {0}) (core_in tells p) e (core_in tells rest)) → IsPager tells says rest
+  found-so me l kind key u rs (Ok (Some k)) known given same refused =
+      shed is t values whole later sheds (λ left. adopted_known is.state left known given.1)
+  found-so me l kind key u rs (Ok None) known given same refused =
+      same-so (subst (λ (x : Tables). Alike (core_in tells p) (core_in tells (record p { tables = x; values = values }))) (sym same) (still (core_in tells p)))
+  found-so me l kind key u rs (Err e) known given same refused = same-so refused.stays
+
+-- why what a load has read neither becomes a node nor ends the load, where its references weren't had
+pub unlisted-gone : (w : Core) (me : Owner) (l : LoadNumber) (later : Option Error) → w.loads l.0 ≡ None
+    → Refused (earlier (load_fault w me l) later) (closed_fault w l) (Unit {0}) w Error.NoSuchHandle w
+unlisted-gone w me l later gone =
+    let is : load_fault w me l ≡ Some Error.NoSuchHandle = ap (if_there (λ (load : OpenLoad). refused_if (not (is_owner me load.owner)) Error.NotYours) (Some Error.NoSuchHandle)) gone in
+    record { why = inl (earlier-first (load_fault w me l) later Error.NoSuchHandle is (λ f late. omega (arith))); stays = still w }
+
+-- fewer values are there, and no other
+pub less-moves : {N S E : Type 0} (tells : Telling S) {comes : ℕ → N → Type 0} (p q : PagerView N S E) → OnlyLess p q → Moves comes (state_in tells p) (state_in tells q)
+less-moves tells p q less = record { each = λ n x has. inl (less.values n x has); environment = less.environment }
+
+-- what is told where nothing was found
+pub none-so : {X P : Type 0} (found : Option X) → found ≡ None → IfNone found P → P
+none-so found e p = grind (arith, nat_tests)
+
+-- what a call does from where another left all as it was
+pub same-moves : {N S E : Type 0} (tells : Telling S) (p q r : PagerView N S E) (x : N) → q ≡ p → Moves (λ n y. (y ≡ x) × IsNewNode (core_in tells q) n) (state_in tells q) (state_in tells r)
+    → Moves (λ n y. (y ≡ x) × IsNewNode (core_in tells p) n) (state_in tells p) (state_in tells r)
+same-moves tells p q r x same moves = subst (λ u. Moves (λ n y. (y ≡ x) × IsNewNode (core_in tells u) n) (state_in tells u) (state_in tells r)) same moves
+
+-- what a load has read becomes a new node
+module _ {N S E : Type 0} {tells : Telling S} {says : E → Values N} {p q : PagerView N S E} (is : IsPager tells says p) (viewed : p ≡ q) (me : Owner) (l : LoadNumber) (kind : Kind) (key : ℕ) (x : N)
+    {rs : List ArcRef} (listed : rs ≡ (says p.environment).references x) (fresh : (stored : ℕ → Option Blob) (closed : Bool) (failures : ℕ) → early_fault (core_of q.tables stored closed failures) me l kind
+    ((says p.environment).node_type x) rs ≡ None) (unknown : usable (plain_of q.tables) kind.0 key ≡ None) where
+  fresh-in : (stored : ℕ → Option Blob) (closed : Bool) (failures : ℕ) → early_fault (core_of p.tables stored closed failures) me l kind ((says p.environment).node_type x) rs ≡ None
+  fresh-in stored closed failures = subst (λ (v : PagerView N S E). early_fault (core_of v.tables stored closed failures) me l kind ((says p.environment).node_type x) rs ≡ None) (sym viewed) (fresh stored closed failures)
+
+  unknown-in : usable (plain_of p.tables) kind.0 key ≡ None
+  unknown-in = subst (λ (v : PagerView N S E). usable (plain_of v.tables) kind.0 key ≡ None) (sym viewed) unknown
+
+  -- or it is refused, and comes back
+  not-adopted : {w' : Core} {y : N} {e : Error} → y ≡ x → Refused (adopt_fault (core_in tells p) me l kind key ((says p.environment).node_type x) rs) (load_fault (core_in tells p) me l) (Unit {0}) (core_in tells p) e w'
+      → AdoptCall (core_in tells p) me l kind key x ((says p.environment).node_type x) ((says p.environment).references x) (Err (e, y)) w'
+  not-adopted {w'} {e = e} back r =
+      record {
+        adopts = tt;
+        refused = (
+          back,
+          told-later me l (subst (λ z. Refused (adopt_fault (core_in tells p) me l kind key ((says p.environment).node_type x) z) (load_fault (core_in tells p) me l) (Unit {0})
+              (core_in tells p) e w') listed r),
+        );
+      }
+
+  pub new-refused : {w' : Core} {e : Error} → Refused (birth_fault (core_in tells p)) (birth_fault (core_in tells p)) (Unit {0}) (core_in tells p) e w'
+      → AdoptCall (core_in tells p) me l kind key x ((says p.environment).node_type x) ((says p.environment).references x) (Err (e, x)) w'
+  new-refused r = not-adopted refl (refused-new (core_in tells p) me l kind key ((says p.environment).node_type x) rs (fresh-in _ _ _) unknown-in r)
+
+  module _ {t1 : Tables} (mid : ValuesByNode N) (room : Does p.tables OnlyRoom t1) where
+    pub new-asked : early_fault (plain_of t1) me l kind ((says p.environment).node_type x) rs ≡ None
+    new-asked = early-past me l kind ((says p.environment).node_type x) rs (room.does (λ key. None) false 0) ∙ fresh-in (λ key. None) false 0
+
+    pub new-unknown : usable (plain_of t1) kind.0 key ≡ None
+    new-unknown = ap (λ (u : Core). usable u kind.0 key) (room.does (λ key. None) false 0).same ∙ unknown-in
+
+    pub new-memory : {y : N} → y ≡ x → AdoptCall (core_in tells p) me l kind key x ((says p.environment).node_type x) ((says p.environment).references x) (Err (Error.OutOfMemory, y)) (core_in tells (record p { tables = t1; values = mid }))
+    new-memory back = not-adopted back (refused-memory (core_in tells p) me l kind key ((says p.environment).node_type x) rs (fresh-in _ _ _) (only-room is mid room))
+
+    module _ (same : (n : ℕ) → value_in mid n ≡ value_in p.values n) (t2 : Tables) (values : ValuesByNode N) {y : N} (shared : y ≡ x) (here : value_in values t2.last_node ≡ Some y)
+        (others : (n : ℕ) → n ≢ t2.last_node → value_in values n ≡ value_in mid n) {k : HandleNumber} {lists : Bool} (opens : lists ≡ not (tells.closed p.storage)) (left : t1.last_node < greatest)
+        (next : (stored : ℕ → Option Blob) (closed : Bool) (failures : ℕ) → IsNext k (core_of t1 stored closed failures))
+        (comes : (stored : ℕ → Option Blob) (closed : Bool) (failures : ℕ) → lists ≡ not closed → Alike (adopted (core_of t1 stored closed failures) l kind key (first_key kind.0 key) rs)
+        (core_of t2 stored closed failures)) (whole : IsWhole t2) (later : AreLater t2) where
+      abbrev learned : PagerView N S E
+      learned = record p { tables = t2; values = values }
+
+      leaves : Alike (adopted (core_in tells p) l kind key (first_key kind.0 key) rs) (core_in tells learned)
+      leaves = adopted-past l kind key (first_key kind.0 key) rs (only-room is mid room) (comes (tells.stored p.storage) (tells.closed p.storage) (tells.failed p.storage) opens)
+
+      adopts : Adopts (core_in tells p) me l kind key ((says p.environment).node_type x) ((says p.environment).references x) k (core_in tells learned)
+      adopts =
+          subst (λ z. Adopts (core_in tells p) me l kind key ((says p.environment).node_type x) z k (core_in tells learned)) listed
+          (made-new (core_in tells p) me l kind key ((says p.environment).node_type x) rs (fresh-in _ _ _) unknown-in k (subst (λ (u : Core). u.last.node < greatest) (only-room is mid room).same left)
+          (next-past (only-room is mid room) (next (tells.stored p.storage) (tells.closed p.storage) (tells.failed p.storage))) leaves)
+
+      last : t2.last_node ≡ p.tables.last_node + 1
+      last = let a = leaves in grind (arith, nat_tests)
+
+      pub new-told : AdoptCall (core_in tells p) me l kind key x ((says p.environment).node_type x) ((says p.environment).references x) (Ok k) (core_in tells learned) × Moves (λ n z. (z ≡ x) × IsNewNode (core_in tells p) n)
+          (state_in tells p) (state_in tells learned)
+      new-told = (record { adopts = adopts; refused = tt }, moved-in is mid room same t2 values x shared here others last)
+
+      pub new-so : IsPager tells says learned
+      new-so =
+          in-step learned whole later
+          (adopts-new {v = says p.environment} {s = state_in tells p} {s' = state_in tells learned} is.state adopts unknown-in (told is mid room same t2 values x shared here others last))
+
+-- ---- a value comes to a load's cell, and others go with their nodes
+
+-- the value comes
+module _ {N : Type 0} (t t' : Tables) (old mid new : ValuesByNode N) (node : NodeNumber) (x : N) (here : value_in mid node.0 ≡ Some x) (others : (n : ℕ) → n ≢ node.0 → value_in mid n ≡ value_in old n) where
+  put-there : (n : ℕ) → value_in mid n ≡ updated node.0 (Some x) (value_in old) n
+  put-there n = grind (arith, nat_tests, cases_eq)
+
+  come : ((n : ℕ) → is_some (value_in old n) ≡ has_value (counts_at t.holdings.nodes n)) → (n : ℕ) → is_some (get nat_eq mid n) ≡ has_come (counts_at t.holdings.nodes) node n
+  come was n = grind (arith, nat_tests, nat_eq, put-there, some-map)
+
+  pub puts : ShedsBeside node (counts_at t.holdings.nodes) (get nat_eq mid) (counts_at t'.holdings.nodes) (get nat_eq new) → PutsIn true node.0 x t old t' new
+  puts sheds = grind (arith, nat_tests, come, left-map, nat_eq, put-there)
+
+-- the value is dropped, as its node has one
+pub drops : {N : Type 0} (t t' : Tables) (old new : ValuesByNode N) (node : NodeNumber) (x : N) → has_value (counts_at t.holdings.nodes node.0) ≡ true
+    → ShedsBeside node (counts_at t.holdings.nodes) (get nat_eq old) (counts_at t'.holdings.nodes) (get nat_eq new) → PutsIn false node.0 x t old t' new
+drops t t' old new node x there sheds = grind (arith, nat_tests, left-map, nat_eq, some-map)
+
+-- a node that has its value by the world has it by its counts
+pub beside-there : (t : Tables) (me : Owner) (l : LoadNumber) (node_type : ℕ) (refs : List ArcRef) (r : Ending) → IsWhole t → IsReady (plain_of t) me l node_type refs r → r.is_away ≡ false
+    → has_value (counts_at t.holdings.nodes r.row.node.0) ≡ true
+beside-there t me l node_type refs r whole ready here =
+    let n = r.row.node.0 in
+    let p = plain_of t in
+    let some = row-held p r.row.number r.row ready.owned.live in
+    let yes : nat_lt 0 (held n p.rows) ≡ true = grind (arith, nat_tests) in
+    let is = so-then (is_here p n) (sym ready.away ∙ here) in
+    sym (here-told (counts_at t.holdings.nodes n) p n refl (sym (whole.steady.fits.pinned n))) ∙ ap (λ b. b && is_here p n) (whole.core.handles.live n ∙ yes) ∙ is
+
+-- type and references as they are told
+pub ready-told : {w : Core} {me : Owner} {l : LoadNumber} {t t' : ℕ} {refs refs' : List ArcRef} {r : Ending} → t ≡ t' → refs ≡ refs' → IsReady w me l t refs r → IsReady w me l t' refs' r
+ready-told {w} {me} {l} {t} {t'} {refs} {refs'} {r} typed named is = subst (λ k. IsReady w me l k refs' r) typed (subst (λ k. IsReady w me l t k r) named is)
+
+-- the pager after a load has ended with a pin
+module _ {N S E : Type 0} {tells : Telling S} {says : E → Values N} {p : PagerView N S E} (is : IsPager tells says p) (x : N) (t1 t2 : Tables) (values : ValuesByNode N) {me : Owner} {l : LoadNumber}
+    {node_type : ℕ} {qs rs : List ArcRef} {r : Ending} {k : HandleNumber} (typed : node_type ≡ (says p.environment).node_type x) (read : qs ≡ rs) (listed : rs ≡ (says p.environment).references x)
+    (wider : OnlyRoom (core_in tells p) (core_in tells (record p { tables = t1 }))) (nodes : t1.holdings.nodes ≡ p.tables.holdings.nodes)
+    (prepared : IsReady (core_in tells (record p { tables = t1 })) me l node_type qs r) (installed : Installs (core_in tells (record p { tables = t1 })) me l r.row.node r.row.number k rs
+    (core_in tells (record p { tables = t2; values = values }))) (whole2 : IsWhole t2) (later2 : AreLater t2) (puts : PutsIn r.is_away r.row.node.0 x t1 p.values t2 values) where
+  abbrev w : Core
+  w = core_in tells p
+
+  abbrev p' : PagerView N S E
+  p' = record p { tables = t2; values = values }
+
+  abbrev w' : Core
+  w' = core_in tells p'
+
+  ready : IsReady (core_in tells (record p { tables = t1 })) me l ((says p.environment).node_type x) ((says p.environment).references x) r
+  ready = ready-told typed (read ∙ listed) prepared
+
+  may : MayEnd w me l r.row.node r.row.number ((says p.environment).node_type x) ((says p.environment).references x)
+  may = may-wider wider ready.may
+
+  was : Installs w me l r.row.node r.row.number k ((says p.environment).references x) w'
+  was = installs-wider wider (subst (λ z. Installs (core_in tells (record p { tables = t1 })) me l r.row.node r.row.number k z w') listed installed)
+
+  kept : (n : ℕ) → is_some (value_in p.values n) ≡ has_value (counts_at t1.holdings.nodes n)
+  kept n = is.state.valued n ∙ here-in is n ∙ ap (λ ns. has_value (counts_at ns n)) (sym nodes)
+
+  swept-so : (b : Bool) → r.is_away ≡ b → (n : ℕ) → value_in values n ≡ (if is_some (w'.cells n) && is_here w' n then with_value b r.row.node.0 x (value_in p.values) n else None)
+  swept-so b e n = search (rules, here-told, kept, puts)
+
+  same-here : is_here (core_in tells (record p { tables = t1 })) r.row.node.0 ≡ is_here w r.row.node.0
+  same-here = ap (λ v. is_here v r.row.node.0) wider.same
+
+  away : r.is_away ≡ true → is_here w r.row.node.0 ≡ false
+  away e = sym same-here ∙ not-so (is_here (core_in tells (record p { tables = t1 })) r.row.node.0) (sym ready.away ∙ e)
+
+  pub ended-so : IsPager tells says p'
+  ended-so = in-step p' whole2 later2 (by r.is_away refl)
+    where
+      by : (b : Bool) → r.is_away ≡ b → IsRight (state_in tells p') → WellFormed (says p.environment) (state_in tells p')
+      by true e right = installed_away is.state may was (away e) (record { swept = swept-so true e; right = right })
+      by false e right =
+          installed_there is.state may was (sym same-here ∙ so-then (is_here (core_in tells (record p { tables = t1 })) r.row.node.0) (sym ready.away ∙ e))
+          (record { swept = swept-so false e; right = right })
+
+  cell-of : (n : ℕ) → r.row.node.0 ≡ n → IsCellOf w l n
+  cell-of n m = record { load = may.load; node = r.row.node; t = (says p.environment).node_type x; h = r.row.number; open_load = may.owned.stands_open; root = may.of_node; is = m }
+
+  had-none : r.is_away ≡ true → value_in p.values r.row.node.0 ≡ None
+  had-none e = let a = is.state.valued r.row.node.0 in let b = away e in grind (arith, nat_tests)
+
+  comes : (n : ℕ) (y : N) → value_in values n ≡ Some y → (value_in p.values n ≡ Some y) ⊎ ((value_in p.values n ≡ None) × ((y ≡ x) × IsCellOf w l n))
+  comes n y some = let s = swept-so r.is_away refl n in grind (arith, nat_tests, cases_eq, cell-of, had-none)
+
+  pub ended-told : EndCall w me l x ((says p.environment).node_type x) ((says p.environment).references x) (Ok k) w' × Moves (λ n y. (y ≡ x) × IsCellOf w l n) (state_in tells p) (state_in tells p')
+  ended-told = (record { installs = (r.row.node, r.row.number, may, was); refused = tt }, record { each = comes; environment = refl })
+
+pub owner-owns : {w : Core} {me : Owner} {l : LoadNumber} {load : OpenLoad} → OwnsLoad w me l load → load_fault w me l ≡ None
+owner-owns {me = me} o = let a : is_owner me me ≡ true = grind (arith, nat_tests) in grind (arith, nat_tests)
+
+-- why a load doesn't end with a value whose references weren't had
+pub unread-open : (w : Core) (l : LoadNumber) (load : OpenLoad) (cause : Option Error) → w.loads l.0 ≡ Some load → Refused cause (closed_fault w l) (Unit {0}) w Error.OutOfMemory w
+unread-open w l load cause is = record { why = inr (refl, ap (if_there (λ (load : OpenLoad). None) (Some Error.NoSuchHandle)) is, tt); stays = still w }
+
+-- a load whose end is in vain is closed
+pub vain : {N : Type 0} {w v w' : Core} {me : Owner} {l : LoadNumber} {t : ℕ} {refs : List ArcRef} {e : Error} (x : N) (r : Result (Unit {0}) Error) → IsVain w me l t refs e × (v ≡ w) → DropCall v me l r w'
+    → EndRefused w me l x t refs e None w'
+vain {w = w} {v} {w'} {me} {l} x r (is, same) drop = grind (arith, nat_tests, owner-owns)
+
+-- memory is wanting for the value
+module _ {N S E : Type 0} {tells : Telling S} {says : E → Values N} {p : PagerView N S E} (is : IsPager tells says p) (t1 t2 : Tables) (values : ValuesByNode N)
+    (wider : OnlyRoom (core_in tells p) (core_in tells (record p { tables = t1 }))) (same : t2 ≡ t1) (kept : (n : ℕ) → value_in values n ≡ value_in p.values n) (whole2 : IsWhole t2) (later2 : AreLater t2) where
+  abbrev kept-so : PagerView N S E
+  kept-so = record p { tables = t2; values = values }
+
+  stays-alike : Alike (core_in tells p) (core_in tells kept-so)
+  stays-alike = subst (λ (t : Tables). Alike (core_in tells p) (core_in tells (record p { tables = t; values = values }))) (sym same) (room-alike wider)
+
+  pub stays-so : IsPager tells says kept-so
+  stays-so = in-step kept-so whole2 later2 (spared is.state (unmoved stays-alike is.state.whole.shut) kept)
+
+  pub no-room : {me : Owner} {l : LoadNumber} {x y : N} {u t : ℕ} {qs refs : List ArcRef} {r : Ending} → y ≡ x → IsReady (core_in tells (record p { tables = t1 })) me l u qs r
+      → EndCall (core_in tells p) me l x t refs (Err (Error.OutOfMemory, Some y)) (core_in tells kept-so)
+  no-room back ready =
+      let there = (may-wider wider ready.may).owned.stands_open in
+      record { installs = tt; refused = (back, record { why = inr (refl, ap (if_there (λ (load : OpenLoad). None) (Some Error.NoSuchHandle)) there, tt); stays = stays-alike }) }
+
+-- the load doesn't end with the value
+module _ {N S E : Type 0} {tells : Telling S} {says : E → Values N} {p : PagerView N S E} (is : IsPager tells says p) (t1 t2 : Tables) (values : ValuesByNode N)
+    (nodes : t1.holdings.nodes ≡ p.tables.holdings.nodes) (sheds : Sheds (counts_at t1.holdings.nodes) (get nat_eq p.values) (counts_at t2.holdings.nodes) (get nat_eq values)) where
+  gone-from : Sheds (counts_at p.tables.holdings.nodes) (get nat_eq p.values) (counts_at t2.holdings.nodes) (get nat_eq values)
+  gone-from = subst (λ ns. Sheds (counts_at ns) (get nat_eq p.values) (counts_at t2.holdings.nodes) (get nat_eq values)) nodes sheds
+
+  pub refused-so : (me : Owner) (l : LoadNumber) (x : N) (t : ℕ) (refs : List ArcRef) (e : Error) (back : Option N) → IsWhole t2 → AreLater t2
+      → EndRefused (core_in tells p) me l x t refs e back (core_in tells (record p { tables = t2; values = values })) → IsPager tells says (record p { tables = t2; values = values })
+  refused-so me l x t refs e back whole2 later2 refused =
+      let call : EndCall (core_in tells p) me l x t refs (Err (e, back)) (core_in tells (record p { tables = t2; values = values })) = record { installs = tt; refused = refused } in
+      shed is t2 values whole2 later2 gone-from (λ left. end_refused is.state left e back call)
+
+  pub refused-moves : (comes : ℕ → N → Type 0) → Moves comes (state_in tells p) (state_in tells (record p { tables = t2; values = values }))
+  refused-moves comes = record { each = λ n y some. inl (less is t2 values gone-from n y some); environment = refl }

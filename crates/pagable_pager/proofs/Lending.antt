@@ -1,16 +1,19 @@
--- What a lent pager's calls tell as those of an access; and a worker comes, for an entry of the list or without one, and takes a reference.
-use Rattle.{either.specs.declared.Either.Either, pagable_laws.proofs.{Goes.found-number, GoodReferences.good, Outlasting.{Stands, among-found, low-changed, low-whole, new-handle, stands-alike}}}
-use Rattle.{pagable_laws.proofs.{Outlasting.stands-fell, ReadingSteps.cached-rows, SparingSteps.named-among, Taking.row-pins, Trees.same_some}, pagable_loads.proofs.Pinned.begun_is}
+-- What a handle lends, and what a lent pager's calls tell as those of an access; and a worker comes, for an entry of the list or without one, and takes a reference.
+use Rattle.std.proofs.Common.{Err, List, Ok, Result, Some, [], ap, arith, false, inl, inr, refl, subst, sym, true, ℕ, ◌+◌, ◌∙◌, ◌≡◌, None, Option, if◌then◌else◌, nat_eq}
+use Rattle.std.{proofs.lemmas.{Bool.{false_from_ne_true, Decides.nat_tests}, Option.slice_get_within}, specs.{HashMap.get, Option.option_map, Prelude.{IfOk, IsSome, is_some}}}
+use Rattle.{either.specs.declared.Either.Either, pagable_laws.proofs.{Goes.{Stands, among-found, found-number, low-changed, low-whole, new-handle, stands-alike}, GoodReferences.good}}
+use Rattle.{pagable_laws.proofs.{Goes.stands-fell, ReadingSteps.cached-rows, SparingSteps.named-among, Taking.{row-held, row-pins}, Trees.same_some}, pagable_loads.proofs.Stepped.begun_is}
 use Rattle.pagable_loads.specs.{Starting.StartsPin, Telling.{AdoptsValue, AsksFor, IsMade, TakesLazily}, Working.TakesReference, declared.{starting.PinStart.PinStart, working.Taken.Taken}}
 use Rattle.pagable_model.specs.declared.{data_key.OptionalDataKey.OptionalDataKey, numbers.{ArcRef.ArcRef, HandleNumber.HandleNumber, Kind.Kind, LoadNumber.LoadNumber, NodeNumber.NodeNumber}}
-use Rattle.{pagable_model.specs.declared.numbers.WorkerNumber.WorkerNumber, pagable_pager.specs.{Made.{PinsClone, TakesEntry}, View.{CallsLess, FewerValues, PagerView, SameValues, Telling}}}
-use Rattle.{pagable_pager.specs.View.{ValuesByNode, core_in, state_in, value_in}, pagable_steps.proofs.Owning.{Rests, not-load, pinned-here, rests-then, spares-same, starts-listed, unmoved}}
-use Rattle.{pagable_tables.specs.Giving.{BeginsWorker, TakesWorker}, pagable_world.specs.{Access.{Called, Told}, Calls.{CloneCall, IsNext, Looks, StoreCall, is_named_by, next_node, row_of}}}
-use Rattle.pagable_world.specs.{Calls.{with_handle, with_node}, Events.{IsEntry, reading_of_load, with_entry_taken, with_worker}, Kinds.{HasKinds, find_row, is_loose, loose_kind, mode_of}}
-use Rattle.pagable_world.specs.{Kinds.owner_value, LoadCalls.{AdoptCall, Adopts, AskCall, BeginCall, GetsKnown, LazyCall, adopted, first_key, from_cache}, Pager.{HandlesAreWhole, IsWhole}}
-use Rattle.pagable_world.specs.{Pager.WellFormed, Plain.{Blob, Error, type_of}, Workers.RowIs, World.{Alike, Core, Reading, Values, row_at}, declared.{answers.Beginning.Beginning, calls.Want.Want}}
-use Rattle.{pagable_world.specs.declared.handles.{HandleRow.HandleRow, Owner.Owner}, std.proofs.Common.{Err, List, Ok, Result, Some, [], ap, arith, false, inl, inr, refl, subst, sym, true, ℕ, ◌+◌}}
-use Rattle.std.{proofs.{Common.{◌∙◌, ◌≡◌}, lemmas.{Bool.{false_from_ne_true, Decides.nat_tests}, Option.slice_get_within}}, specs.{Option.option_map, Prelude.{IfOk, IsSome, is_some}}}
+use Rattle.{pagable_model.specs.declared.numbers.WorkerNumber.WorkerNumber, pagable_pager.{proofs.Keeping.{in-step, less, swept}, specs.View.{PinsClone, TakesEntry, CallsLess, FewerValues}}}
+use Rattle.{pagable_pager.specs.View.{PagerView, SameValues, Telling, ValuesByNode, core_in, state_in, value_in, IsPager}, pagable_steps.proofs.{Calls.closed, Owning.{Rests, not-load, pinned-here}}}
+use Rattle.{pagable_steps.proofs.Owning.{rests-then, spares-same, starts-listed, unmoved}, pagable_tables.specs.{ByNumber.{counts_at, known_at, load_at, worker_at}, Core.core_of}}
+use Rattle.{pagable_tables.specs.{Core.IsWhole as AreWhole, Falling.Sheds, Giving.{BeginsWorker, TakesWorker}, Later.AreLater, declared.tables.Tables.Tables}, pagable_world.specs.Access.Called}
+use Rattle.pagable_world.specs.{Access.Told, Calls.{CloneCall, IsNext, Looks, StoreCall, is_named_by, next_node, row_of, with_handle, with_node, CloseCall}, Events.{IsEntry, reading_of_load}}
+use Rattle.pagable_world.specs.{Events.{with_entry_taken, with_worker}, Kinds.{HasKinds, find_row, is_loose, loose_kind, mode_of, owner_value, is_pinning}, LoadCalls.{AdoptCall, Adopts}}
+use Rattle.pagable_world.specs.{LoadCalls.{AskCall, BeginCall, GetsKnown, LazyCall, adopted, first_key, from_cache}, Pager.{HandlesAreWhole, IsWhole, WellFormed, IsNew, PagerState, ValueCall}}
+use Rattle.pagable_world.specs.{Plain.{Blob, Error, type_of}, Workers.RowIs, World.{Alike, Core, Reading, Values, row_at}, declared.{answers.Beginning.Beginning, calls.Want.Want}}
+use Rattle.pagable_world.specs.declared.handles.{HandleRow.HandleRow, Owner.Owner}
 
 -- what a call does to a pager of which no value comes
 module _ {N S E : Type 0} (tells : Telling S) (v : E → Values N) (p q : PagerView N S E) where
@@ -97,8 +100,6 @@ module _ {w : Core} (whole : HandlesAreWhole w) where
   adopted_refers {x = x} {t} {rs} {me} {l} {kind} {key} w' c same is =
       record { adopted = subst (λ k. AdoptCall w me l kind key x t rs (Ok k) w') (sym same) c; made = is (adopted_live w' c.adopts) }
 
--- ---- how a pin begins
-
 pub load_starts : {w w' : Core} {me : Owner} {h : HandleNumber} {l : LoadNumber} {key : ℕ} → BeginCall w me h (Ok (Beginning.Load l key)) w' → (t : ℕ)
     → Some t ≡ option_map (λ (r : Reading). r.node_type) (reading_of_load l (w'.loads l.0)) → StartsPin w me h (Ok (PinStart.Load l key t)) w'
 load_starts c t is = grind (arith, nat_tests, begun_is, pinned-here, row-pins, same_some)
@@ -106,8 +107,6 @@ load_starts c t is = grind (arith, nat_tests, begun_is, pinned-here, row-pins, s
 pub ruleset pinning = (nat_tests, load_starts, same_some)
 
 pub ruleset entering = (nat_tests, all_there, called)
-
--- ---- workers
 
 module _ {w w' : Core} (whole : IsWhole w) where
   pub begins : (r : Result WorkerNumber Error) → BeginsWorker w r w' → Rests w w'
@@ -142,3 +141,42 @@ pub then_pins : {w mid w' : Core} {me : Owner} {r : ArcRef} {through : HandleNum
 then_pins {w = w} {r = r} result l c s = let sort : RowIs w r.handle true = record { row = l.found.0; live = l.found.1; sort = sym l.found.2 } in grind (arith, nat_tests)
 
 pub ruleset starting = (nat_tests, entry-starts, slice_get_within)
+
+-- ---- what a handle lends, and what is seen of a pager of nothing
+
+module _ {N E : Type 0} {v : Values N} {s : PagerState N E} (is : WellFormed v s) (h : HandleNumber) where
+  -- nothing is lent by a handle that pins nothing
+  pub lends-none : Looks s.core h (λ node row. node ≡ (if is_pinning row.mode then Some row.node else None)) (Ok None) → ValueCall s h (Ok None)
+  lends-none l = grind (arith, nat_tests)
+
+  pub lends-fault : (e : Error) → Looks s.core h (λ node row. node ≡ (if is_pinning row.mode then Some row.node else None)) (Err e) → ValueCall s h (Err e)
+  lends-fault e l = grind (arith, nat_tests)
+
+  -- a handle that pins has its node's value in memory
+  pub lends : {X Y : Type 0} (n : NodeNumber) (r : Option X) (see : Y → N) (g : X → Y) → s.values n.0 ≡ option_map see (option_map g r)
+      → Looks s.core h (λ node row. node ≡ (if is_pinning row.mode then Some row.node else None)) (Ok (Some n)) → ValueCall s h (Ok (option_map (λ x. see (g x)) r))
+  lends n (Some x) see g value l = grind (arith, nat_tests)
+  lends n None see g none l = absurd (grind (arith, nat_tests, pinned-here, row-held, row-pins))
+
+-- a pager of nothing is a new one
+module _ {N S E : Type 0} (tells : Telling S) (p : PagerView N S E) (rows : p.tables.holdings.handles.places.items ≡ []) (nodes : (n : ℕ) → counts_at p.tables.holdings.nodes n ≡ None)
+    (list : p.tables.holdings.list.items ≡ []) (cache : (kind key : ℕ) → known_at p.tables.cache kind key ≡ None) (none : (n : ℕ) → get nat_eq p.values n ≡ None) where
+  pub is-new : ((l : ℕ) → load_at p.tables.loads l ≡ None) → ((v : ℕ) → worker_at p.tables.workers v ≡ None) → (p.tables.last_node ≡ 0) × (p.tables.holdings.last_handle ≡ 0) × (p.tables.last_load ≡ 0) × (p.tables.last_worker ≡ 0) → IsNew (state_in tells p)
+  is-new loads workers last = grind (arith, nat_tests)
+
+-- what the storage tells is that it is empty and closed
+module _ {N S E : Type 0} {tells : Telling S} {says : E → Values N} {p : PagerView N S E} (is : IsPager tells says p) (s : S) (t : Tables) (values : ValuesByNode N)
+    (empty : (key : ℕ) → tells.stored s key ≡ None) (shut : tells.closed s ≡ true) (call : CloseCall (core_in tells p) (Ok tt) (core_of t (λ key. None) true (tells.failed s))) (whole : AreWhole t)
+    (sheds : Sheds (counts_at p.tables.holdings.nodes) (get nat_eq p.values) (counts_at t.holdings.nodes) (get nat_eq values)) where
+  abbrev new : PagerView N S E
+  new = record p { tables = t; values = values; storage = s }
+
+  shut-call : CloseCall (core_in tells p) (Ok tt) (core_in tells new)
+  shut-call = grind (arith, nat_tests, closed)
+
+  pub shut-told : CloseCall (core_in tells p) (Ok tt) (core_in tells new) × FewerValues p new
+  shut-told = (shut-call, record { values = less is t values sheds; environment = refl })
+
+  -- it is in step
+  pub shut-pager : AreLater t → IsPager tells says new
+  shut-pager later = in-step new whole later (λ right. closed is.state (record { swept = swept is t values whole sheds; right = right }) shut-call)

@@ -1,10 +1,11 @@
--- What contracts see of a pager, and the plain state that it tells.
-use Rattle.std.specs.{Arc.arc_value, declared.{sync.Arc.Arc, hash.{FoldHasher.FoldHasher, BuildHasherDefault.BuildHasherDefault}}, Global.Global, HashMap.{HashMap, get}, Option.option_map, Prelude.ℕ}
-use Rattle.std.specs.Prelude.{◌≡◌, Bool, true, false, if◌then◌else◌, Option, Some, None, is_some, nat_eq}
-use Rattle.either.specs.declared.Either.{Either}
-use Rattle.{pagable_model.specs.declared.numbers.HandleNumber.HandleNumber, pagable_world.specs.{Plain.{Blob, updated}, declared.handles.Owner.Owner, World.{Core, Values}}}
-use Rattle.{pagable_world.specs.{LoadCalls.{Given, from_cache, from_store}, Pager.{PagerState, WellFormed}}, pagable_tables.specs.{declared.tables.Tables.Tables, ByNumber.counts_at}}
-use Rattle.pagable_tables.specs.{Core.core_of, Falling.{has_value, pins_in}, Later.AreLater}
+-- What contracts see of a pager and its open loads, and the plain state that it tells.
+use Rattle.std.specs.{Arc.arc_value, Global.Global, HashMap.{HashMap, get}, Option.option_map, Prelude.{ℕ, ◌≡◌, ◌+◌, ◌⊎◌, Bool, true, false, if◌then◌else◌, Option, Some, None, is_some, nat_eq, Err}}
+use Rattle.std.specs.{Prelude.{IfErr, IfOk, Ok, Result}, declared.{hash.{BuildHasherDefault.BuildHasherDefault, FoldHasher.FoldHasher}, sync.Arc.Arc}}
+use Rattle.{either.specs.declared.Either.Either, pagable_loads.specs.declared.working.Taken.Taken, pagable_model.specs.declared.{error.Error.Error, numbers.{ArcRef.ArcRef, HandleNumber.HandleNumber}}}
+use Rattle.{pagable_model.specs.declared.numbers.{LoadNumber.LoadNumber, WorkerNumber.WorkerNumber}, pagable_tables.specs.{ByNumber.counts_at, Core.core_of, Falling.{has_value, pins_in}}}
+use Rattle.{pagable_tables.specs.{Later.AreLater, declared.tables.Tables.Tables}, pagable_world.specs.{Calls.PinCall, Events.{IsEntry, with_entry_taken, with_worker}, Kinds.{HasKinds, loose_kind}}}
+use Rattle.pagable_world.specs.{LoadCalls.{from_cache, from_store, BeginCall}, Pager.{PagerState, WellFormed}, Plain.{Blob, updated}, Refusals.OwnsLoad, World.{Core, Values, OpenLoad, Root, of_cell}}
+use Rattle.pagable_world.specs.{LoadCalls.Given, World.{of_key, Alike}, declared.{answers.{Beginning.Beginning, Pinning.Pinning}, handles.{HandleRow.HandleRow, Owner.Owner}}}
 use Rattle.pagable_tables.specs.Core as tables
 
 abbrev pub ValuesByNode : Type 0 → Type 0
@@ -101,3 +102,39 @@ pub record Calls {N S E : Type 0} (tells : Telling S) (old : PagerView N S E) (m
 pub record CallsLess {N S E : Type 0} (tells : Telling S) (old : PagerView N S E) (makes : Core → Core → Type 0) (new : PagerView N S E) : Type 0 where
   pub step : makes (core_in tells old) (core_in tells new)
   pub only : OnlyLess old new
+
+-- ---- what an open load reads
+
+-- the type of the value of the cell that a load is of
+abbrev pub type_of_root : Root → Option ℕ
+type_of_root (of_cell node t h) = Some t
+type_of_root of_key = None
+
+-- an open load of the caller's reads this key, for a cell of this type or for none
+pub record ReadsAs (w : Core) (l : LoadNumber) (key : ℕ) (t : Option ℕ) : Type 0 where
+  pub load : OpenLoad
+  pub owned : OwnsLoad w Owner.Caller l load
+  pub key_is : load.key ≡ key
+  pub type_is : type_of_root load.root ≡ t
+
+-- ---- what a lent pager makes: a worker that an entry of the list moves to, and the clone through which it takes a reference
+
+-- the entry at this place moves to a new worker, and is a loose reference to its cell
+pub record TakesEntry (w : Core) (place : ℕ) (n : WorkerNumber) (r : ArcRef) (w' : Core) : Type 0 where
+  pub h : HandleNumber
+  pub row : HandleRow
+  pub type : ℕ
+  pub entry : IsEntry w place h row type
+  pub kinds : HasKinds type
+  pub is : r ≡ record { kind = record { 0 = loose_kind type }; node = row.node; handle = h }
+  pub next : n.0 ≡ w.last.worker + 1
+  pub leaves : Alike (with_worker (with_entry_taken w place h n)) w'
+
+abbrev pub Pins : Core → Owner → HandleNumber → Taken → Core → Type 0
+Pins w me through (Taken.Held h k) w' = (through ≡ h) × PinCall w me through (Ok (Pinning.Pinned k)) w'
+Pins w me through (Taken.Begun h l key) w' = (through ≡ h) × BeginCall w me through (Ok (Beginning.Load l key)) w'
+
+-- the clone is pinned, or a load of its cell begins
+pub record PinsClone (w : Core) (me : Owner) (through : HandleNumber) (r : Result Taken Error) (w' : Core) : Type 0 where
+  pub pins : IfOk r (λ t. Pins w me through t w')
+  pub refused : IfErr r (λ e. PinCall w me through (Err e) w' ⊎ BeginCall w me through (Err e) w')

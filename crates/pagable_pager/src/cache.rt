@@ -1,8 +1,7 @@
 //! The cache of a lent pager.
 
-ghost use Rattle.pagable_world.specs.declared.handles.Owner.{Owner};
 ghost use Rattle.std.specs.Prelude.{◌≡◌, IfOk};
-ghost use Rattle.{pagable_world.specs.{World.seen_as, Calls.{ClearCall, OfferCall, RecallCall}}, pagable_pager.specs.View.{core_in, telling, OnlyLess, OnlyTables}};
+ghost use Rattle.{pagable_pager.specs.View.{telling, Calls, CallsLess}, pagable_world.specs.{Calls.{ClearCall, OfferCall, RecallCall}, World.seen_as, declared.handles.Owner.Owner}};
 
 use crate::pager::Pager;
 use pagable_codec::{Env, NodeSet};
@@ -41,8 +40,7 @@ where
     /// A new handle of the node that is known, as `cache_get` answers it. Refused with NumbersSpent and OutOfMemory.
     pub fn get(&mut self, kind: Kind, key: DataKey) -> Result<Option<HandleNumber>, Error>
         ensures lent { self.new.pager.ghost_name ≡ self.old.pager.ghost_name }
-        ensures step { RecallCall (core_in (telling S.stored S.is_closed S.failed) self.old.pager.now) Owner.Caller kind key result (core_in (telling S.stored S.is_closed S.failed) self.new.pager.now) }
-        ensures only { OnlyTables self.old.pager.now self.new.pager.now }
+        ensures calls { Calls (telling S.stored S.is_closed S.failed) self.old.pager.now (λ w w'. RecallCall w Owner.Caller kind key result w') self.new.pager.now }
     {
         self.pager.cache_get(kind, key)
     }
@@ -51,8 +49,7 @@ where
     pub fn get_or_create_cell(&mut self, kind: Kind, key: DataKey) -> Result<ArcCell, Error>
         ensures lent { self.new.pager.ghost_name ≡ self.old.pager.ghost_name }
         ensures place { IfOk result (λ cell. (cell.kind ≡ kind) × (cell.key ≡ key)) }
-        ensures step { RecallCall (core_in (telling S.stored S.is_closed S.failed) self.old.pager.now) Owner.Caller kind key (seen_as (λ cell. cell.handle) result) (core_in (telling S.stored S.is_closed S.failed) self.new.pager.now) }
-        ensures only { OnlyTables self.old.pager.now self.new.pager.now }
+        ensures calls { Calls (telling S.stored S.is_closed S.failed) self.old.pager.now (λ w w'. RecallCall w Owner.Caller kind key (seen_as (λ cell. cell.handle) result) w') self.new.pager.now }
     {
         let handle = self.pager.cache_get(kind, key)?;
         Ok(ArcCell { kind, key, handle })
@@ -66,8 +63,7 @@ where
         handle: HandleNumber,
     ) -> Result<Option<HandleNumber>, Error>
         ensures lent { self.new.pager.ghost_name ≡ self.old.pager.ghost_name }
-        ensures step { OfferCall (core_in (telling S.stored S.is_closed S.failed) self.old.pager.now) Owner.Caller kind key handle result (core_in (telling S.stored S.is_closed S.failed) self.new.pager.now) }
-        ensures only { OnlyLess self.old.pager.now self.new.pager.now }
+        ensures calls { CallsLess (telling S.stored S.is_closed S.failed) self.old.pager.now (λ w w'. OfferCall w Owner.Caller kind key handle result w') self.new.pager.now }
     {
         self.pager.on_arc_deserialized(kind, key, handle)
     }
@@ -75,8 +71,7 @@ where
     /// The cache forgets all that it knows. It isn't refused.
     pub fn clear(&mut self) -> Result<(), Error>
         ensures lent { self.new.pager.ghost_name ≡ self.old.pager.ghost_name }
-        ensures step { ClearCall (core_in (telling S.stored S.is_closed S.failed) self.old.pager.now) result (core_in (telling S.stored S.is_closed S.failed) self.new.pager.now) }
-        ensures only { OnlyTables self.old.pager.now self.new.pager.now }
+        ensures calls { Calls (telling S.stored S.is_closed S.failed) self.old.pager.now (λ w w'. ClearCall w result w') self.new.pager.now }
     {
         self.pager.cache_clear()
     }

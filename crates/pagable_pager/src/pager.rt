@@ -1,9 +1,8 @@
 //! The pager: values in memory, in step with tables of who holds them, over a storage of blobs.
 
-ghost use Rattle.std.specs.{Prelude.◌≡◌, Arc.arc_value, Option.option_map};
-ghost use Rattle.{pagable_world.specs.{World.seen_as, Pager.{IsNew, ValueCall, WellFormed}}, pagable_loads.specs.{Starting.Shares, Telling.values_at}};
-ghost use Rattle.{pagable_core.specs.Data.blob_of, pagable_model.specs.Blob.key_of, pagable_world.specs.Calls.{FetchCall, StoreCall, FlushCall, CloseCall}};
-ghost use Rattle.pagable_pager.specs.View.{core_in, state_in, telling, OnlyStorage, FewerValues};
+ghost use Rattle.std.specs.{Arc.arc_value, Option.option_map, Prelude.◌≡◌};
+ghost use Rattle.{pagable_core.specs.Data.blob_of, pagable_loads.specs.{Starting.Shares, Telling.values_at}, pagable_model.specs.Blob.key_of, pagable_pager.specs.View.{core_in, state_in, telling}};
+ghost use Rattle.{pagable_pager.specs.View.{OnlyStorage, FewerValues}, pagable_world.specs.{Calls.{FetchCall, StoreCall, FlushCall, CloseCall}, Pager.{IsNew, ValueCall, WellFormed}, World.seen_as}};
 
 // What ends in `_by` is the call of that name for an owner, who is the caller or a worker at work.
 pub mod births;
@@ -17,7 +16,7 @@ use pagable_codec::{Env, NodeSet};
 use pagable_core::{PagableData, PagableStorage};
 use pagable_model::{DataKey, Error, HandleNumber};
 use pagable_tables::tables::Tables;
-use pagable_tables::{closing, lookups, tables};
+use pagable_tables::{giving, lookups, tables};
 use std::alloc::Global;
 use std::marker::Model;
 use std::sync::Arc;
@@ -74,10 +73,7 @@ where
         ensures { ValueCall (state_in (telling S.stored S.is_closed S.failed) self.now) handle (seen_as (option_map (λ x. arc_value x.now)) result) }
     {
         match lookups::pinned_node(&self.tables, handle) {
-            Ok(Some(node)) => match self.values.get(&node.0) {
-                Some(value) => Ok(Some(value)),
-                None => unreachable!(),
-            },
+            Ok(Some(node)) => Ok(self.values.get(&node.0)),
             Ok(None) => Ok(None),
             Err(e) => Err(e),
         }
@@ -153,7 +149,7 @@ where
         ensures only { FewerValues self.old self.new }
     {
         self.storage.close();
-        closing::close(&mut self.tables, &mut self.values);
+        giving::close(&mut self.tables, &mut self.values);
         Ok(())
     }
 }

@@ -1,11 +1,9 @@
 -- Patterns: how the text of one is written and read, and why it is refused.
-use Rattle.std.{proofs.Common.{String, ◌≡◌, ℕ, zero, suc, ◌<◌, ◌≤◌, List, [], ◌∷◌, ◌++◌, length, Bool, true, false, arith, refl, ap, ◌∙◌, Result, Ok, Err, inl, inr}, specs.Prelude.◌≢◌}
-use Rattle.std.{proofs.lemmas.Bool.Decides.nat_tests, specs.{Prelude.{OnOk, IfErr, nat_le, nat_lt, if◌then◌else◌}, Str.{IsUtf8, is_utf8}, String.string_bytes}}
-use Rattle.pagable_model.specs.{declared.error.Error.Error, Basic.{longest, text_form, length_at, bytes_at, checked_text, text_at}, Form.pattern-form, Gives.Gives}
-use Rattle.pagable_model.specs.{Gives.memory, Lengths.long_or_memory, Meaning.{pattern}, Numbers.varint_at, Reading.{Rest, bytes_of}, Refusals.is_reading_fault, Standing.{Answer, GivesSome}}
-use Rattle.pagable_model.specs.{Standing.Is, Steps.◌>>=◌, Writing.{Out, Nesting, WritesSome, NoForm, Refused}}
-use Rattle.pagable_codec.proofs.Writing.{writes_is, writes_bytes, memory_refuses}
-use Rattle.pagable_traits.proofs.{Basics.gives_bytes, Parts.err_along}
+use Rattle.{pagable_codec.proofs.Writing.{writes_is, writes_bytes, memory_refuses}, pagable_model.specs.{Basic.{longest, text_form, length_at, text_at}, Form.pattern-form, Gives.{Gives, memory}}}
+use Rattle.pagable_model.specs.{Lengths.long_or_memory, Meaning.pattern, Numbers.varint_at, Reading.{Rest, bytes_of}, Refusals.is_reading_fault, Standing.{Answer, GivesSome, Is}, Writing.Out}
+use Rattle.{pagable_model.specs.{Writing.{Nesting, WritesSome, NoForm, Refused}, declared.error.Error.Error}, pagable_traits.proofs.{Basics.gives_bytes, Parts.err_along}, std.proofs.Common.String}
+use Rattle.std.{proofs.{Common.{◌≡◌, ℕ, zero, suc, ◌<◌, ◌≤◌, List, [], ◌∷◌, ◌++◌, length, true, arith, refl, ap, ◌∙◌, Result, Ok, Err, inl, inr}, lemmas.Bool.Decides.nat_tests}, specs.Prelude.◌≢◌}
+use Rattle.std.specs.{Prelude.{OnOk, IfErr}, Str.IsUtf8, String.string_bytes}
 use Rattle.pagable_model.specs.Shape as shapes
 
 -- ---- writing

@@ -1,10 +1,8 @@
 -- Values in a registry, by their index.
-use Rattle.std.proofs.{Common.{◌≡◌, ℕ, zero, suc, ◌+◌, ◌<◌, ◌≤◌, Bool, false, List, [], ◌∷◌, ◌++◌, length, get_or, map, Some, Ok, Err, refl, arith}, lemmas.List.take_more}
-use Rattle.std.{proofs.{lemmas.List.{map-append, length-map}, lemmas.Bool.Decides.nat_tests, lemmas.Option.{slice_get_read, get_or_from_slice_get}}, specs.{Prelude.{IsTrue, take}, Int.w32}}
-use Rattle.std.specs.List.{slice_get}
-use Rattle.pagable_model.specs.{Reading.registered, declared.numbers.ArcRef.ArcRef, Numbers.{bound, unsigned_form}, Meaning.{Meaning, lifted}, Shape.static_value, Form.static-form, Standing.Is}
-use Rattle.pagable_model.specs.{Writing.{Out, Nesting, WritesSome}, Statics.{HasEqual, NoEqualBelow}, declared.error.Error.Error}
-use Rattle.pagable_codec.proofs.Writing.{writes_bytes}
+use Rattle.{pagable_codec.proofs.Writing.writes_bytes, pagable_model.specs.{Form.static-form, Meaning.{Meaning, lifted}, Numbers.{bound, unsigned_form}, Reading.registered, Shape.static_value}}
+use Rattle.{pagable_model.specs.{Standing.Is, Statics.{HasEqual, NoEqualBelow}, Writing.{Out, Nesting, WritesSome}, declared.{error.Error.Error, numbers.ArcRef.ArcRef}}, std.proofs.Common.{◌≡◌, ℕ}}
+use Rattle.std.proofs.{Common.{zero, suc, ◌+◌, ◌<◌, ◌≤◌, Bool, false, List, [], ◌∷◌, ◌++◌, length, get_or, map, Some, Ok, Err, refl, arith}, lemmas.{Bool.Decides.nat_tests, List.take_more}}
+use Rattle.std.{proofs.lemmas.{List.{map-append, length-map}, Option.{slice_get_read, get_or_from_slice_get}}, specs.{Int.w32, List.slice_get, Prelude.{IsTrue, take}}}
 
 -- ---- the values of entries
 

@@ -1,14 +1,12 @@
 -- Tagged values: what writing a tag and a body adds, and what reading by the registered reader gives.
-use Rattle.std.proofs.Common.{◌≡◌, ℕ, zero, suc, ◌+◌, ◌<◌, ◌≤◌, Bool, true, false, List, [], ◌∷◌, ◌++◌, length, get_or, map, Result, Some, Ok, Err, refl, sym, ap, subst, ◌∙◌, arith, inl, inr}
-use Rattle.std.proofs.{lemmas.List.{length-map, map-id}, lemmas.Option.{slice_get_read, slice_get-map, slice_get_within}, lemmas.Slice.Eq.bytes_eq-Decides, lemmas.Result.err_from_is_err_and}
-use Rattle.std.{specs.{Prelude.{IfErr, IsErrAnd, ◌⊎◌}, Str.{IsUtf8, bytes_eq}, List.slice_get}, proofs.lemmas.Bool.Decides.nat_tests}
-use Rattle.pagable_model.specs.{declared.error.Error.Error, declared.numbers.ArcRef.ArcRef, Steps.◌>>=◌, Basic.{longest, text_form, text_at}, Canonical.{HasNoCase, IsReadable, LiesIn, Within}}
-use Rattle.pagable_model.specs.{Canonical.Throughout, Gives.{Gives, memory, memory_or}, Reading.{Rest, Context, read, read_with, bytes_of}, Carried.{of_tagged, is_registered, body_of, tagged_by}}
-use Rattle.pagable_model.specs.{Meaning.Meaning, Shape.{Shape, tagged, cases}, Form.tagged-form, Standing.{Answer, SomeMeaning, Gave, GivesSome, MovesOn}, Writing.{Out, Nesting, WritesSome, NoForm, Refused}}
-use Rattle.pagable_model.specs.{Writing.added, Lengths.long_or_memory, Tagged.{MeansTagged, IsLastFor, NoneFor, grammars, HasDistinctTags, ReadsWhatIsWritten}}
-use Rattle.pagable_codec.proofs.{Reading.moves_trans, Writing.{then, memory_refuses}}
-use Rattle.pagable_codec.specs.{declared.env.Env.Ghosts as Environments, declared.deserializer.PagableDeserializer.Ghosts as Deserializers}
-use Rattle.pagable_traits.{proofs.Parts.{ok_along, err_along}, specs.{JsonSteps.context_in, Meanings.Meanings}}
+use Rattle.pagable_codec.{proofs.{Reading.moves_trans, Writing.{then, memory_refuses}}, specs.declared.{deserializer.PagableDeserializer.Ghosts as Deserializers, env.Env.Ghosts as Environments}}
+use Rattle.pagable_model.specs.{Basic.{longest, text_form, text_at}, Canonical.{HasNoCase, IsReadable, LiesIn, Within, Throughout}, Carried.{of_tagged, is_registered, body_of, tagged_by}}
+use Rattle.pagable_model.specs.{Form.tagged-form, Gives.{Gives, memory, memory_or}, Lengths.long_or_memory, Meaning.Meaning, Reading.{Rest, Context, read, read_with, bytes_of}, Shape.{Shape, tagged}}
+use Rattle.pagable_model.specs.{Shape.cases, Standing.{Answer, SomeMeaning, GivesSome, MovesOn}, Steps.◌>>=◌, Tagged.{MeansTagged, IsLastFor, NoneFor, grammars, HasDistinctTags, ReadsWhatIsWritten}}
+use Rattle.{pagable_model.specs.{Writing.{Out, Nesting, WritesSome, NoForm, Refused, added}, declared.{error.Error.Error, numbers.ArcRef.ArcRef}}, pagable_traits.proofs.Parts.{ok_along, err_along}}
+use Rattle.{pagable_traits.specs.{JsonSteps.context_in, Meanings.Meanings}, std.proofs.Common.{◌≡◌, ℕ, zero, suc, ◌+◌, ◌<◌, ◌≤◌, Bool, true, false, List, [], ◌∷◌, ◌++◌, length, get_or, map, Result}}
+use Rattle.std.proofs.{Common.{Some, Ok, Err, refl, sym, ap, subst, ◌∙◌, arith, inl, inr}, lemmas.{Bool.Decides.nat_tests, List.{length-map, map-id}, Option.{slice_get_read, slice_get-map}}}
+use Rattle.std.{proofs.lemmas.{Option.slice_get_within, Slice.Eq.bytes_eq-Decides}, specs.{List.slice_get, Prelude.{IfErr, IfOk}, Str.{IsUtf8, bytes_eq}}}
 
 -- ---- writing
 
@@ -137,25 +135,11 @@ module _ {D E R N H K V T F : Type 0} (env : Environments E N H K V) (d : Deseri
   after-tag first told f =
       record { gives = f told.gives; moves = moves_trans _ _ _ first.moves told.moves; same_env = told.same_env ∙ first.same_env; same_levels = told.same_levels ∙ first.same_levels }
 
-  -- the body is refused
-  pub no_body_read : {Y : Type 0} {a b c : D} {tag : List ℕ} {e : Error} (readers known : List (List ℕ × F)) (named : List ℕ) (f : F) (r : Result T Error) → IsErrAnd r (λ x. x ≡ e)
-      → Tells d (bytes_of text_at (λ t. t) (d.rest a) ≡ Ok (tag, d.rest b)) a b → named ≡ tag → known ≡ readers → IsLastFor named known f
-      → TellsBody ((read (context_in env d b) (grammar f (d.environment b)) (d.rest b) ≡ Err e) ⊎ own e) Y b c → TellsTagged readers a c r
-  no_body_read {a = a} {tag = tag} readers known named f r is first same all last told =
-      let q = err_from_is_err_and r is in
-      let known_last = rw (same, all) at last in
-      rw (q.1, q.2)
-      (after-tag first told
-      (λ h written. elim (rw (first.same_levels, first.same_env) at h) [
-        | inl none ↦ inl (read-known _ written grammar (d.environment a) readers tag f _ _ first.gives known_last ∙ rw none refl)
-        | inr why ↦ inr (inr why)
-      ]))
-
-  -- the body is read
-  pub tagged_read : {a b c : D} {tag : List ℕ} (readers known : List (List ℕ × F)) (named its : List ℕ) (f : F) (x : T) → Tells d (bytes_of text_at (λ t. t) (d.rest a) ≡ Ok (tag, d.rest b)) a b
+  -- the body is read, or refused
+  pub body_read : {a b c : D} {tag : List ℕ} (readers known : List (List ℕ × F)) (named its : List ℕ) (f : F) (r : Result T Error) → Tells d (bytes_of text_at (λ t. t) (d.rest a) ≡ Ok (tag, d.rest b)) a b
       → named ≡ tag → known ≡ readers → IsLastFor named known f → its ≡ named
-      → TellsBody (Gave (M x) (d.rest c) (read (context_in env d b) (grammar f (d.environment b)) (d.rest b))) (tag_of x ≡ its) b c → TellsTagged readers a c (Ok x)
-  tagged_read {a} {b} {c} {tag} readers known named its f x first same all last its_own told =
+      → TellsBody (GivesSome own M (d.rest c) r (read (context_in env d b) (grammar f (d.environment b)) (d.rest b))) (IfOk r (λ x. tag_of x ≡ its)) b c → TellsTagged readers a c r
+  body_read {a = a} {tag = tag} readers known named its f (Ok x) first same all last its_own told =
       let known_last = rw (same, all) at last in
       after-tag first told
       (λ h written. let g = rw (first.same_levels, first.same_env) at h in record {
@@ -163,6 +147,13 @@ module _ {D E R N H K V T F : Type 0} (env : Environments E N H K V) (d : Deseri
         is = record { body = g.m; is_body = g.is; is = ap (λ (t : List ℕ). of_tagged t g.m) (sym (told.of_tag ∙ its_own ∙ same)) };
         gave = read-known _ written grammar (d.environment a) readers tag f _ _ first.gives known_last ∙ rw g.gave refl;
       })
+  body_read {a = a} {tag = tag} readers known named its f (Err e) first same all last its_own told =
+      let known_last = rw (same, all) at last in
+      after-tag first told
+      (λ h written. elim (rw (first.same_levels, first.same_env) at h) [
+        | inl none ↦ inl (read-known _ written grammar (d.environment a) readers tag f _ _ first.gives known_last ∙ rw none refl)
+        | inr why ↦ inr (inr why)
+      ])
 
 -- ---- distinct tags
 

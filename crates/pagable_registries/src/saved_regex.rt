@@ -1,7 +1,7 @@
 //! Regular expressions beside their texts.
 
 ghost use Rattle.std.{specs.Prelude.{◌≡◌, ◌≢◌, ℕ, List, IfOk, IfErr}, specs.String.string_bytes, specs.Str.bytes_eq, specs.Cmp.Rules.{comparing, hashing}, proofs.Common.rules};
-ghost use Rattle.pagable_model.specs.{Gives.{memory, long_or}, Meaning.pattern, OneForm.{basic_has_one_form, basic_refers_to_nothing}, Patterns.pattern_is_same};
+ghost use Rattle.pagable_model.specs.{Gives.{memory, long_or}, Meaning.pattern, OneForm.{basic_has_one_form, basic_refers_to_nothing}, Keyed.pattern_is_same};
 ghost use Rattle.pagable_model.specs.{Reading.read, Standing.{handles_at, Is, MovesOn, GivesSome}, declared.error.Error.TheVariants.RegexRefused};
 ghost use Rattle.pagable_registries.specs.Building.{IsBuiltFrom, IsRefusedPattern, refusal_of, pattern_causes, reads_pattern, ReadsNoPattern};
 ghost use Rattle.std.specs.Hash as fed;

@@ -61,7 +61,7 @@ pub trait PagableTagged<E: Env>: Sized {
 }
 
 /// Writes a tag: TooLong above 4,294,967,295 bytes, else refused by want of memory alone.
-#[tactic(auto, using(pagable_codec::proofs::Writing::parts, pagable_codec::proofs::Adding::steps))]
+#[tactic(auto, using(pagable_codec::proofs::Writing::parts, pagable_codec::proofs::Writing::steps))]
 fn write_tag<E: Env, S: PagableSerializer<E>>(tag: &str, serializer: &mut S) -> Result<(), Error>
     ensures ok { OnOk result (S.out serializer.new ≡ added (S.out serializer.old) (text_form tag.now) []) }
     ensures within { OnOk result (length tag.now ≤ longest) }
@@ -180,8 +180,7 @@ impl<T, F: ForTag> TypetagRegistry<T, F> {
         let Some(reader) = found else {
             return Err(Error::UnknownTag);
         };
-        let value = reader.read(alloc, deserializer)?;
-        Ok(value)
+        reader.read(alloc, deserializer)
     }
 }
 
@@ -258,8 +257,7 @@ pub fn deserialize_tagged<E: Env, T: HasTypetagRegistry<E>, D: PagableDeserializ
     let Some(reader) = found else {
         return Err(Error::UnknownTag);
     };
-    let value = reader.read(alloc, deserializer)?;
-    Ok(value)
+    reader.read(alloc, deserializer)
 }
 
 /// With distinct tags, each under which a body has a form being registered with a reader of what is written under it,

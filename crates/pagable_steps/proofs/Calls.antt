@@ -1,8 +1,8 @@
 -- What a call does to values. They go with a cascade: where a call has done what it does directly, a value stays exactly where its node is in memory afterwards, and owns what it did. And they come.
 use Rattle.pagable_laws.proofs.Effects as effects
 use Rattle.pagable_laws.proofs.{Decoding.among-either, Existing.outlast, Following.one-less, Goes.{NotLoads, found-number, le-more, none-in-new}, GoodReferences.{fell-away, good, no-pins, or-none}}
-use Rattle.pagable_laws.proofs.{GoodReferences.same-owner, Outlasting.{NotValues, Stands, among-changed, among-found, among-kept, found-kept, stands-alike, stands-changed, stands-more}}
-use Rattle.pagable_laws.proofs.{Outlasting.stands-whole, ReadingStepsGive.neither, SparingSteps.{found, named-among}, Sums.{at-most-sum, counted, same-number, self-number, sum-le}, Taking.row-held}
+use Rattle.pagable_laws.proofs.{Goes.{NotValues, Stands, among-changed, among-found, among-kept, found-kept, stands-alike, stands-changed, stands-more}, GoodReferences.same-owner}
+use Rattle.pagable_laws.proofs.{Goes.stands-whole, ReadingStepsGive.neither, SparingSteps.{found, named-among}, Taking.row-held, Trees.{at-most-sum, counted, same-number, self-number, sum-le}}
 use Rattle.{pagable_laws.specs.TreeSteps.AreGood, pagable_steps.proofs.Owning.{AreFree, At, Has, IsRight, IsShut, Keeps, Leaves, OwnsAlike, Rests, Spares, among-named, gets-known, holds_value}}
 use Rattle.pagable_steps.proofs.Owning.{listed-free, mode-here, mode-others, mode-owns, moved-pins, not-load, own-free, owned-test, owns-changed, owns-handle, owns-same, owns-then, pinned-here}
 use Rattle.pagable_steps.proofs.Owning.{rests-cached, rests-then, row-here, rowed, same-value, settled, shut-alike, sits, sits-on, spared, spares-handle, spares-keeps, spares-known, spares-moved}
@@ -16,8 +16,6 @@ use Rattle.pagable_world.specs.{Workers.{is_load_of, is_workers_at}, World.{Alik
 use Rattle.{pagable_world.specs.declared.rows.Mode.Mode, std.proofs.Common.{Bool, Err, List, None, Ok, Option, Some, [], ap, arith, false, if◌then◌else◌, inl, inr, map, refl, subst, suc, sym}}
 use Rattle.std.proofs.{Common.{true, ℕ, ◌&&◌, ◌++◌, ◌+◌, ◌<◌, ◌==◌, ◌||◌, ◌∙◌, ◌∷◌, ◌≡◌, ◌≤◌}, lemmas.{Bool.{and_parts, false_from_ne_true, Decides.nat_tests}, List.Sums.sum_by-append}}
 use Rattle.std.{proofs.lemmas.List.Sums.{sum_by-cons, sum_by_push}, specs.Prelude.{Result, cond, filter, is_some, nat_lt, not, slice_get}}
-
--- ---- what is left, and what comes
 
 -- what passes the test passes it
 passes : {X : Type 0} (test : X → Bool) (xs : List X) (x : X) → Among (filter test xs) x → test x ≡ true
@@ -86,8 +84,6 @@ module _ {before w w' : Core} {given : ℕ → Bool} {r : _} (f : Falls before w
       let none : f.entries ≡ [] = no-entries f.entries (λ n some. let open_still = (f.only n some).0.stands_open in absurd (let x : true ≡ false = sym e ∙ open_still in cc)) in
       let listed = ap (λ (qs : List HandleNumber). filter (λ (q : HandleNumber). not (f.gone q.0)) qs ++ map (λ (h : HandleRow). h.number) f.entries) (shut e).0 in
       shut-alike {w = fallen w f.gone f.entries} f.leaves (λ c. (listed ∙ ap (map (λ (h : HandleRow). h.number)) none, (shut e).1)) closed
-
-  -- ---- values
 
   module _ {N : Type 0} (v : Values N) (values : ℕ → Option N) (at : (n : ℕ) → At v w n (values n)) (free : AreFree w given) where
     has : (n : ℕ) (x : N) → values n ≡ Some x → Has v w n x
@@ -158,8 +154,6 @@ pub fell : {N E : Type 0} {v : Values N} {s s' : PagerState N E} {before m : Cor
 fell {v = v} {s} {s'} is k f shut free =
     fell-from (λ n. sits-on v (k.owns n) (s.values n) (sits is n)) (λ n held. is.valued n ∙ k.held n held) s' f shut (λ h among given n own. free h ((k.owns n.0).owned h among own) given n own)
 
--- ---- what no value owns
-
 module _ {w : Core} (whole : IsWhole w) where
   -- handles whose rows pass a test that no value's passes
   by-row : (test : HandleRow → Bool) → ((h : HandleRow) (n : NodeNumber) → h.owner ≡ Owner.Value n → test h ≡ false) → AreFree w (λ q. if_there test false (find_row q w.rows))
@@ -168,8 +162,6 @@ module _ {w : Core} (whole : IsWhole w) where
   -- what a load owns
   pub load-free : (l : LoadNumber) → AreFree w (is_owned_in w (Owner.Load l))
   load-free l = by-row (is_owned_by (Owner.Load l)) (λ h n own. ap (is_owner (Owner.Load l)) own)
-
--- ---- what is done directly
 
 -- an own handle pins no more
 unpin-keeps : {w : Core} {me : Owner} {fits : Mode → Bool} → IsWhole w → (h : HandleNumber) (row : HandleRow) → NotValues me → Owns w me h fits row → row.mode ≡ Mode.LoosePinned
@@ -188,8 +180,6 @@ unpin-keeps {w} whole h row none owns pinned = record { owns = mode-owns w h Mod
 -- a node gets a key
 keyed-keeps : (w : Core) (node : NodeNumber) (key : ℕ) → Keeps w (with_key w node key)
 keyed-keeps w node key = record { owns = λ n. owns-same refl refl (λ p t is. grind (arith, nat_tests)); held = λ n is. grind (arith, nat_tests) }
-
--- ---- the calls
 
 still : {w : Core} → Spares w w
 still = spares-same refl (λ n. refl) refl
@@ -369,8 +359,6 @@ none-named : (w : Core) (owner : Owner) → references_fault w owner [] [] ≡ N
 unfolding references_fault
 none-named w owner = refl
 
--- ---- what is made
-
 module _ {N E : Type 0} {v : Values N} {s : PagerState N E} (s' : PagerState N E) (is : WellFormed v s) {me : Owner} (free : NotValues me) (t : ℕ) (own : OptionalDataKey)
     (references : List ArcRef) (mode : Mode) (fine : references_fault s.core me [] references ≡ None)
     (like : Rests (with_handle (with_node s.core t own references) (next_node s.core) mode me) s'.core) where
@@ -430,8 +418,6 @@ module _ {N E : Type 0} {v : Values N} {s : PagerState N E} (s' : PagerState N E
       away : is_here made next ≡ false
       away = let p = pins-made next in let q = self-number next in grind (arith, nat_tests, no-pins)
 
--- ---- the calls
-
 -- a handle of a reference pins unless its kind is loose
 mode-pins : (kind : ℕ) (b : Bool) → is_loose_kind kind ≡ b → is_pinning (mode_of kind) ≡ (if b then false else true)
 mode-pins kind b loose = grind (arith, nat_tests)
@@ -482,8 +468,6 @@ module _ {N E : Type 0} {v : Values N} {s : PagerState N E} (is : WellFormed v s
       let first = turned is.whole free.0 h row own (subst (λ (m : NodeNumber). is_here s.core m.0 ≡ true) (sym at_node) there) in
       let here = subst (λ (m : NodeNumber). is_here (with_mode s.core h Mode.LoosePinned) m.0 ≡ true) at_node (mode-here s.core h Mode.LoosePinned row stands refl) in
       spares-keeps (spares-then first (spares-then (spares-handle (with_mode s.core h Mode.LoosePinned) node Mode.Pinned me free.0 (λ e. here)) (spares-same refl (λ n. refl) refl)))
-
-  -- ---- the cell has no value
 
   module _ (away : is_here s.core node.0 ≡ false) where
     -- the cell is there, of the value's type
@@ -554,8 +538,6 @@ module _ {N E : Type 0} {v : Values N} {s : PagerState N E} (is : WellFormed v s
             let f = ap (is_owner (Owner.Load l)) mine in
             let g = both.0 in
             cc
-
--- ---- the law
 
 module _ {N E : Type 0} {v : Values N} {s s' : PagerState N E} (is : WellFormed v s) {me : Owner} {l : LoadNumber} {node : NodeNumber} {h k : HandleNumber} {x : N}
     (may : MayEnd s.core me l node h (v.node_type x) (v.references x)) (i : Installs s.core me l node h k (v.references x) s'.core) where

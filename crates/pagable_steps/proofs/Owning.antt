@@ -1,9 +1,9 @@
 -- What a pager's type says of values, row by row: a value owns the one row of each handle that it refers to, and no other; a node without a value owns nothing. And what is done before
 -- handles go, part by part: it leaves what values own as it is.
 use Rattle.pagable_laws.proofs.Effects as effects
-use Rattle.pagable_laws.proofs.{Decoding.among-either, Following.{handles-once, one-less}, Goes.found-number, GoodReferences.same-owner, Outlasting.{NotValues, Stands, among-changed, among-found}}
-use Rattle.pagable_laws.proofs.{Outlasting.{found-after, only-one, stands-changed, stands-whole}, SparingSteps.{IsEntered, entered-of, found}, Sums.{at-most-sum, counted, one-true, same-number}}
-use Rattle.{pagable_laws.proofs.{Sums.{self-number, sum-le, sum-zero}, Taking.row-pins}, pagable_world.specs.Calls.{Asked, ClearCall, CloneCall, LoosenCall, PinCall, RecallCall, ReserveCall}}
+use Rattle.pagable_laws.proofs.{Decoding.among-either, Following.{handles-once, one-less}, Goes.{NotValues, Stands, among-changed, among-found, found-number}, GoodReferences.same-owner}
+use Rattle.pagable_laws.proofs.{Goes.{found-after, only-one, stands-changed, stands-whole}, SparingSteps.{IsEntered, entered-of, found}, Trees.{at-most-sum, counted, one-true, same-number}}
+use Rattle.{pagable_laws.proofs.{Taking.row-pins, Trees.{self-number, sum-le, sum-zero}}, pagable_world.specs.Calls.{Asked, ClearCall, CloneCall, LoosenCall, PinCall, RecallCall, ReserveCall}}
 use Rattle.pagable_world.specs.{Calls.{StoreCall, TakeCall, is_named_by, moved, row_of, with_cached, with_handle, with_known, with_mode}, Cascade.only_handle, Events.with_entry_taken}
 use Rattle.pagable_world.specs.{Events.with_worker, Kinds.{fits_mode, is_at, is_handle, is_in_memory, is_owned_by, is_owner, is_pin, is_pinning, is_share, is_shared, mode_of, owner_value, pins}}
 use Rattle.pagable_world.specs.{LoadCalls.{BeginCall, BeginKeyCall, GetsKnown}, Pager.{HandlesAreWhole, IsWhole, PagerState, WellFormed}, Plain.{Among, ArcRef, Blob, Error, HandleNumber, Kind}}
@@ -37,8 +37,6 @@ At v w n None = (h : HandleRow) → Among w.rows h → h.owner ≡ owner_value n
 -- whether a live node has its value in memory
 abbrev pub holds_value : Core → ℕ → Bool
 holds_value w n = is_some (w.cells n) && is_here w n
-
--- ---- rows
 
 pub same-value : {n m : ℕ} (o : Owner) → o ≡ owner_value n → o ≡ owner_value m → m ≡ n
 same-value {n} {m} o a b = same-number m n (sym (ap (is_owner (owner_value n)) b) ∙ (ap (is_owner (owner_value n)) a ∙ self-number n))
@@ -169,8 +167,6 @@ pub record Leaves {N E : Type 0} (values : ℕ → Option N) (s' : PagerState N 
 pub spares-keeps : {w m : Core} → Spares w m → Keeps w m
 spares-keeps s = record { owns = s.owns; held = λ n is. sym (s.holds n) ∙ is }
 
--- ---- one after another
-
 module _ {n : ℕ} where
   pub owns-then : {w m w' : Core} → OwnsAlike n w m → OwnsAlike n m w' → OwnsAlike n w w'
   owns-then a b = let spares = effects.spares-then (owner_value n) a.spares b.spares in search (a.typed, b.typed, spares, a.owned, b.owned)
@@ -234,8 +230,6 @@ pub rests-cached : {m w' : Core} (kind : Kind) (key : ℕ) (n : NodeNumber) (b :
 rests-cached kind key n true a e shut = unmoved a shut
 rests-cached kind key n false a e shut = rests-then (spares-same refl (λ n. refl) refl) a (λ closed. absurd (let x : true ≡ false = sym closed ∙ e in cc))
 
--- ---- the pager afterwards
-
 pub spared : {N E : Type 0} {v : Values N} {s s' : PagerState N E} → WellFormed v s → Rests s.core s'.core → ((n : ℕ) → s'.values n ≡ s.values n) → IsRight s' → WellFormed v s'
 spared {v = v} {s} {s'} is rests same right =
     settled s' (λ n. subst (At v s'.core n) (sym (same n)) (sits-on v (rests.spares.owns n) (s.values n) (sits is n))) (λ n. ap is_some (same n) ∙ is.valued n ∙ sym (rests.spares.holds n))
@@ -243,8 +237,6 @@ spared {v = v} {s} {s'} is rests same right =
 
 pub stayed : {N E : Type 0} {v : Values N} {s s' : PagerState N E} → WellFormed v s → Rests s.core s'.core → Leaves s.values s' → WellFormed v s'
 stayed {N} {v = v} {s} {s'} is rests left = spared is rests (λ n. left.swept n ∙ (let e = is.valued n ∙ sym (rests.spares.holds n) in grind (arith, nat_tests))) left.right
-
--- ---- one more handle
 
 pub sum-mapped : {X : Type 0} (f : X → X) (g h : X → ℕ) (xs : List X) → ((x : X) → Among xs x → g (f x) ≡ h x) → sum_by g (map f xs) ≡ sum_by h xs
 sum-mapped f g h [] each = refl
@@ -277,8 +269,6 @@ module _ (w : Core) (node : NodeNumber) (mode : Mode) (me : Owner) (free : NotVa
     owns = owns-handle;
     holds = λ n. ap (λ p. is_some (w.cells n) && is_in_memory p (key_at w n)) (sum_by_push (λ h. one (is_pin n h)) w.rows new) ∙ (let f = same-number node.0 n in grind (arith, nat_tests));
   }
-
--- ---- rows that change
 
 -- those that change aren't this value's, before or afterwards
 module _ (w : Core) (test : HandleRow → Bool) (f : HandleRow → HandleRow) (numbers : (h : HandleRow) → (f h).number ≡ h.number) (n : ℕ)
@@ -345,8 +335,6 @@ module _ (w : Core) (h : HandleNumber) (mode : Mode) (row : HandleRow) (stands :
 pub not-load : (l : LoadNumber) → NotValues (Owner.Load l)
 not-load l n e = cc
 
--- ---- the storage
-
 pub asked : {w w' : Core} → Asked w w' → Spares w w'
 asked a = spares-same a.leaves.rows a.leaves.cells (ap (λ (l : Last). l.handle) a.leaves.last)
 
@@ -360,8 +348,6 @@ module _ {w : Core} (whole : IsWhole w) where
   pub clears : {w' : Core} {r : Result (Unit {0}) Error} → ClearCall w r w' → Rests w w'
   clears c = rests-then (spares-same refl (λ n. refl) refl) c.leaves (λ e. ((whole.shut e).0, λ kind key. refl))
 
-  -- ---- loads that begin
-
   pub begins : {w' : Core} {me : Owner} {h : HandleNumber} (r : Result Beginning Error) → BeginCall w me h r w' → Rests w w'
   begins (Ok (Beginning.Load l key)) c =
       let row : HandleRow = c.begins.0 in
@@ -374,8 +360,6 @@ module _ {w : Core} (whole : IsWhole w) where
   begins-key (Ok (Beginning.Load l key)) c = rests-then (spares-same refl (λ n. refl) refl) c.begins.2 whole.shut
   begins-key (Ok Beginning.InMemory) c = absurd c.begins
   begins-key (Err e) c = unmoved c.refused.stays whole.shut
-
-  -- ---- handles
 
   -- handles that are no value's, by their rows
   pub rowed : (given : ℕ → Bool) → ((n : NodeNumber) → effects.Free (Owner.Value n) w given) → AreFree w given
@@ -426,8 +410,6 @@ module _ {w : Core} (whole : IsWhole w) where
   pub takes : {w' : Core} {me : Owner} (i : ℕ) → NotValues me → (h : Option HandleNumber) → TakeCall w me i h w' → Rests w w'
   takes {me = me} i free (Some h) c = rests-then (spares-moved w (only_handle h) me free (listed-free i h c.0)) c.1 (λ e. absurd (listed-open i h c.0 e))
   takes i free None c = unmoved c.1 whole.shut
-
-  -- ---- nodes that the cache gives
 
   -- where a handle is made that pins, the node's value is in memory
   pub known-here : (kind key n : ℕ) → usable w kind key ≡ Some n → is_pinning (mode_of kind) ≡ true → is_here w n ≡ true

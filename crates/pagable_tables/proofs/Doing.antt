@@ -5,7 +5,7 @@ use Rattle.pagable_tables.proofs.Words.{Giving, HandleRow, Handles, Holdings, In
 use Rattle.pagable_tables.proofs.Words.{Place, Reach, Sheds, SoFar, Some, Tables, [], alive, and_parts, ap, arith, cases_eq, core_of, counts_at, false, find_row, get, get_or, gives_row, if_there, inl}
 use Rattle.pagable_tables.proofs.Words.{inr, is_named_by, is_owned_in, is_owner, is_valued, known_at, length, live, nat_eq, nat_lt, nat_tests, nobody, not, owns_nothing, passes_in, plain_of, refl}
 use Rattle.pagable_tables.proofs.{Words.{refs_at, slice_get, slice_get-get_or, suc, sym, take, true, ℕ, ◌&&◌, ◌+◌, ◌-◌, ◌<◌, ◌==◌, ◌||◌, ◌∙◌, ◌∷◌, ◌≡◌, ◌≢◌, ◌≤◌, ◌⊎◌}, Worlds.{named-none, named-take}}
-use Rattle.pagable_tables.{proofs.Worlds.room-alike, specs.{Becoming.Widens, Core.IsWhole, Doing.{Does, DoesShed}, Giving.gives}}
+use Rattle.pagable_tables.{proofs.{Words.moved, Worlds.room-alike}, specs.{Becoming.{Becomes, Widens}, Core.IsWhole, Doing.{Does, DoesShed}, Giving.gives}}
 use Rattle.pagable_world.specs.Pager as pager
 
 -- a world of these loads alone
@@ -116,6 +116,10 @@ module _ (before w : Core) (lists : Bool) (t : Holdings) (l : LoadNumber) (rs : 
   all-given i all owned f = grind (arith, nat_tests, and-left)
 
 pub ruleset places = (nat_tests, place-got, row-there)
+
+-- handles move after others
+pub moved-then : {old mid new : Handles} {rows to : List HandleRow} (s : ℕ → Bool) (o : Owner) → Becomes old rows mid → Becomes mid (moved s o (live mid.places.items)) new → moved s o rows ≡ to → Becomes old to new
+moved-then s o a b is = record { sound = b.sound; rows = b.rows ∙ ap (moved s o) a.rows ∙ is; capacity = b.capacity ∙ a.capacity; next = λ q next. b.next q (a.next q next) }
 
 -- ---- calls that leave the tables whole, as their steps leave the plain world
 

@@ -14,7 +14,7 @@ pub use Rattle.pagable_tables.specs.Falling.{ValueStays, after, cell_in, entries
 pub use Rattle.pagable_tables.specs.{Falling.{is_valued, key_in, keyed, landed, named, next_in, often, owns, owns_nothing, pins_in, unpinned, valued}, Giving.{InReach, IsNoLess, LoadsAre, gives_row}}
 pub use Rattle.pagable_tables.specs.{Giving.{left_load, passes_in}, Later.AreLater, Live.{AreSound, IsBefore, IsNext, alive, is_live_place, live}, Onward.{Begins, IsApart, SoFar, is_plain_pin}}
 pub use Rattle.pagable_tables.specs.{Onward.{told_by, with_tables}, Owning.named_at, Ready.{IsReady, has_come}, declared.{giving.Giving.Giving, handles.Handles.Handles, holdings.Holdings.Holdings}}
-pub use Rattle.pagable_tables.specs.declared.{installing.Ending.Ending, rows.{Counts.Counts, LoadRow.LoadRow, NodeRow.NodeRow, Place.Place, Reach.Reach}, tables.Tables.Tables}
+pub use Rattle.pagable_tables.specs.declared.{loading.Ending.Ending, tables.{Counts.Counts, LoadRow.LoadRow, NodeRow.NodeRow, Place.Place, Reach.Reach, Tables.Tables}}
 pub use Rattle.pagable_world.specs.Calls.{AwayBirthCall, ClearCall, CloneCall, CloseCall, LoosenCall, PinCall, RecallCall, ReserveCall, ScheduleCall, SetKeyCall, TakeCall, UnpinCall, birth_fault}
 pub use Rattle.pagable_world.specs.Calls.{is_handle_here, is_listed, is_usable, moved, next_node, offer_fault, pin_fault, recall_fault, row_of, shut, with_cached, with_handle, with_key, with_known}
 pub use Rattle.pagable_world.specs.{Calls.{with_mode, with_node}, Cascade.{AreNewEntries, Falls, FallsAnyhow, IsClosed, IsLeast, IsListRefusal, IsWithin, MustList, TellsListing, fallen, held_outside}}

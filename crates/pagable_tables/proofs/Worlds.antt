@@ -298,7 +298,7 @@ alike-listed w w' rows list places same = grind (arith, nat_tests, same-cache)
 pub at-work-still : {w w' : Core} {workers : ℕ → Bool} → Alike w w' → SameAt w'.workers workers → Alike w (record w' { workers = workers })
 at-work-still {w} {w'} {workers} a still = grind (arith, nat_tests)
 
-pub ruleset naming = (nat_tests, named-in, named-other, take_all, named-none, moved-nobody, seen-none, fault-end)
+pub ruleset naming = (nat_tests, named-in, named-other, take_all, named-none, moved-none, moved-nobody, seen-none, fault-end)
 
 -- ---- what a load asks and reads: why it can't become a node, and what becomes of it
 

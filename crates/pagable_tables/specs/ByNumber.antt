@@ -1,7 +1,7 @@
 -- Nodes, loads and what the cache knows, as functions of numbers and keys.
 use Rattle.std.specs.{Prelude.{ℕ, Bool, ◌&&◌, List, [], Option, nat_eq}, Option.{option_map, option_map_or}}
 use Rattle.indexmap.specs.IndexMap.{IndexMap, get}
-use Rattle.{pagable_model.specs.declared.numbers.{ArcRef.ArcRef, NodeNumber.NodeNumber}, pagable_tables.specs.declared.rows.{NodeRow.NodeRow, Counts.Counts, LoadRow.LoadRow, Reach.Reach}}
+use Rattle.{pagable_model.specs.declared.numbers.{ArcRef.ArcRef, NodeNumber.NodeNumber}, pagable_tables.specs.declared.tables.{NodeRow.NodeRow, Counts.Counts, LoadRow.LoadRow, Reach.Reach}}
 
 -- whether kind and key are the same
 abbrev pub is_same : ℕ × ℕ → ℕ × ℕ → Bool

@@ -2,7 +2,7 @@
 use Rattle.std.specs.{Prelude.{ℕ, ◌≡◌, ◌≤◌, Bool, true, false, [], length, Option, None, is_some, Result, IfOk, IfErr, vec_capacity}, Option.option_map}
 use Rattle.{pagable_model.specs.declared.{error.Error.Error, numbers.{HandleNumber.HandleNumber, NodeNumber.NodeNumber}}, pagable_world.specs.Plain.{Blob, Among}}
 use Rattle.pagable_world.specs.{declared.{handles.{HandleRow.HandleRow, Owner.Owner}, rows.Mode.Mode}, Kinds.is_shared, World.{Core, OpenLoad, Root, of_cell, of_key, Alike}, Calls.with_handle}
-use Rattle.{pagable_world.specs.{Calls.IsNext, Refusals.{spent, Refused, AreHandlesFull}}, pagable_tables.specs.{declared.{rows.{LoadRow.LoadRow, LoadRoot.LoadRoot}, tables.Tables.Tables}, Live.live}}
+use Rattle.{pagable_world.specs.{Calls.IsNext, Refusals.{spent, Refused, AreHandlesFull}}, pagable_tables.specs.{declared.tables.{LoadRow.LoadRow, LoadRoot.LoadRoot, Tables.Tables}, Live.live}}
 use Rattle.pagable_tables.specs.{ByNumber.{counts_at, load_at, known_at, worker_at}, Falling.{cell_in, IsFalling, owns_nothing}}
 use Rattle.pagable_world.specs.Pager as pager
 

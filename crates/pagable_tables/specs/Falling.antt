@@ -4,7 +4,7 @@ use Rattle.std.specs.Prelude.{Bool, true, false, not, if◌then◌else◌, List,
 use Rattle.pagable_model.specs.{declared.data_key.OptionalDataKey.OptionalDataKey, declared.error.Error.Error, declared.numbers.ArcRef.ArcRef, declared.numbers.NodeNumber.NodeNumber}
 use Rattle.pagable_world.specs.{declared.handles.HandleRow.HandleRow, declared.rows.Mode.Mode, declared.handles.Owner.Owner, Plain.one, Plain.times, Kinds.held, Kinds.pins}
 use Rattle.pagable_world.specs.{Kinds.{is_handle, is_owned_by, owner_value}, World.{greatest, Cell}, Calls.row_of, Cascade.{left_rows, only_handle}, Plain.{changed, SameAt, updated, if_there}}
-use Rattle.pagable_tables.specs.{declared.rows.Counts.Counts, declared.handles.Handles.Handles, declared.holdings.Holdings.Holdings, Live.{live, AreSound, IsNext}, ByNumber.{counts_at, refs_at}, Becoming.Becomes}
+use Rattle.pagable_tables.specs.{declared.{tables.Counts.Counts, handles.Handles.Handles, holdings.Holdings.Holdings}, Live.{live, AreSound, IsNext}, ByNumber.{counts_at, refs_at}, Becoming.Becomes}
 
 abbrev pub pins_in : Option Counts → ℕ
 pins_in None = 0

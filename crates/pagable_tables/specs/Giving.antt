@@ -2,7 +2,7 @@
 use Rattle.std.specs.{Prelude.{ℕ, ◌≡◌, ◌+◌, ◌<◌, ◌≤◌, ◌⊎◌, ◌==◌, ◌&&◌, ◌||◌, Bool, false, if◌then◌else◌, List, Option, Some, None, Result, IfOk, IfErr, slice_get}, Option.option_map}
 use Rattle.{indexmap.specs.IndexMap.IndexMap, pagable_model.specs.declared.{error.Error.Error, numbers.{HandleNumber.HandleNumber, NodeNumber.NodeNumber, WorkerNumber.WorkerNumber}}}
 use Rattle.pagable_world.specs.{declared.handles.{HandleRow.HandleRow, Owner.Owner}, Plain.if_there, Kinds.{is_owner, owner_worker, find_row}, World.{Core, Alike}, Workers.is_load_of}
-use Rattle.{pagable_world.specs.Events.{with_worker, with_entry_taken}, pagable_tables.specs.{declared.{giving.Giving.Giving, rows.{LoadRow.LoadRow, Reach.Reach}}, ByNumber.{load_at, reach_at}}}
+use Rattle.{pagable_world.specs.Events.{with_worker, with_entry_taken}, pagable_tables.specs.{declared.{giving.Giving.Giving, tables.{LoadRow.LoadRow, Reach.Reach}}, ByNumber.{load_at, reach_at}}}
 use Rattle.pagable_tables.specs.Core.{load_in}
 
 -- whether a handle of this owner at this node is given up

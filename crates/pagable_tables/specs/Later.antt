@@ -1,7 +1,7 @@
 -- What loads and workers own has come since they began.
 use Rattle.std.specs.Prelude.{ℕ, ◌≡◌, ◌<◌, ◌≤◌, true, Some}
 use Rattle.pagable_world.specs.{Kinds.{is_owner, owner_worker}, LoadCalls.is_owned_in, declared.handles.Owner.Owner}
-use Rattle.pagable_tables.specs.{declared.{rows.LoadRow.LoadRow, tables.Tables.Tables}, ByNumber.{load_at, reach_at}, Core.plain_of, Giving.InReach}
+use Rattle.pagable_tables.specs.{declared.tables.{LoadRow.LoadRow, Tables.Tables}, ByNumber.{load_at, reach_at}, Core.plain_of, Giving.InReach}
 
 pub record AreLater (t : Tables) : Type 0 where
   -- all handles of an open load have numbers above the last one that was given before it began

@@ -1,6 +1,6 @@
 -- The live handles among places that may be dead.
 use Rattle.std.specs.{Prelude.{ℕ, ◌≡◌, ◌+◌, ◌-◌, ◌<◌, Bool, true, if◌then◌else◌, List, [], ◌∷◌, length, All, vec_len, vec_capacity}, List.AllPairs}
-use Rattle.{pagable_world.specs.declared.handles.HandleRow.HandleRow, pagable_tables.specs.declared.{rows.Place.Place, handles.Handles.Handles}}
+use Rattle.{pagable_world.specs.declared.handles.HandleRow.HandleRow, pagable_tables.specs.declared.{tables.Place.Place, handles.Handles.Handles}}
 
 -- the rows that are live, in their order
 abbrev pub live : List Place → List HandleRow

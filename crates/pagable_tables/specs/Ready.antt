@@ -3,7 +3,7 @@ use Rattle.std.specs.Prelude.{ℕ, ◌≡◌, ◌≤◌, ◌<◌, ◌==◌, Bool
 use Rattle.pagable_model.specs.declared.{error.Error.Error, numbers.ArcRef.ArcRef}
 use Rattle.{pagable_model.specs.declared.numbers.{HandleNumber.HandleNumber, LoadNumber.LoadNumber, NodeNumber.NodeNumber}, pagable_world.specs.{declared.handles.Owner.Owner, Kinds.is_loose}}
 use Rattle.pagable_world.specs.{Kinds.any_mode, World.{Core, greatest, is_here}, Refusals.{Owns, Refused, load_fault, handle_fault}, LoadCalls.{MayEnd, end_fault}}
-use Rattle.pagable_tables.specs.{declared.{installing.{Ending.Ending, Unended.Unended}, rows.Counts.Counts, tables.Tables.Tables}, ByNumber.load_at, Live.room, Falling.{has_value, AreLeft}}
+use Rattle.pagable_tables.specs.{declared.{loading.{Ending.Ending, Unended.Unended}, tables.{Counts.Counts, Tables.Tables}}, ByNumber.load_at, Live.room, Falling.{has_value, AreLeft}}
 
 -- The load may end with a value of this type and these references, and the handle by which it was begun can be pinned.
 pub record IsReady (w : Core) (me : Owner) (l : LoadNumber) (node_type : ℕ) (references : List ArcRef) (e : Ending) : Type 0 where

@@ -3,9 +3,9 @@
 ghost use Rattle.std.specs.{Prelude.{vec_len, vec_capacity, ◌≡◌, ℕ, ◌+◌, ◌<◌, ◌≤◌, ◌++◌, ◌∷◌, [], length, sum_by, slice_get, Some, None, IfNone, IfSome, OnOk, OnErr, false}, List.AllPairs};
 ghost use Rattle.{std.specs.List.Sorted.IsPartitionPoint, pagable_world.specs.{Plain.{changed, is_in}, Kinds.{find_row, is_handle}, Cascade.{left_rows, only_handle}}};
 ghost use Rattle.{pagable_world.specs.{Calls.{moved, is_named_by}, LoadCalls.numbers_of, declared.handles.HandleRow.HandleRow}, pagable_tables.specs.Falling.{is_valued, IsFalling, owns_nothing}};
-ghost use Rattle.pagable_tables.specs.{Live.{IsBefore, AreSound, live, alive, room, IsNext}, Becoming.{Becomes, Widens}, declared.{rows.Place.Place, holdings.Holdings.Holdings}};
+ghost use Rattle.pagable_tables.specs.{Live.{IsBefore, AreSound, live, alive, room, IsNext}, Becoming.{Becomes, Widens}, declared.{tables.Place.Place, holdings.Holdings.Holdings}};
 
-use crate::rows::{HandleAt, Place};
+use crate::tables::{HandleAt, Place};
 use pagable_model::{ArcRef, HandleNumber};
 use pagable_world::handles::{HandleRow, Owner};
 use std::alloc::AllocError;

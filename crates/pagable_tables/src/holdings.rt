@@ -1,15 +1,12 @@
-//! Who holds what: handles, nodes with what their values refer to, and the list of cells that wait for page-out. Handles are given up here, with all
-//! that goes with them.
+//! Who holds what: handles, nodes with what their values refer to, and the list of cells that wait for page-out. Handles are given up here, with all that goes with them.
 
-ghost use Rattle.std.specs.Prelude.{◌≡◌, ◌≢◌, ℕ, ◌+◌, ◌<◌, ◌≤◌, ◌==◌, ◌||◌, ◌⊎◌, ◌&&◌, ◌^◌, [], if◌then◌else◌, List, length, slice_get, Some, None, OnOk, OnErr, IfErr, true, false};
-ghost use Rattle.{std.specs.{Result.is_ok, Prelude.{Bool, nat_eq, vec_len, vec_capacity}}, indexmap.specs.IndexMap.get, pagable_world.specs.{Plain.one, Kinds.{is_pinning, is_owner}, World.Core}};
-ghost use Rattle.{pagable_world.specs.{Cascade.Falls, declared.handles.Owner.Owner}, pagable_tables.specs.Falling.{Comes, MayList, Leaves, IsUnlisted, is_listing, is_valued, after, is_new}};
-ghost use Rattle.pagable_tables.specs.{Falling.{IsFalling, GivesUp, landed, Steps, owns, owns_nothing, Sheds, is_node}, Live.{live, alive, AreSound, IsNext}, ByNumber.{refs_at, counts_at}};
-ghost use Rattle.pagable_tables.specs.Onward.{with_tables, told_by, SoFar, IsApart};
+ghost use Rattle.std.specs.{Prelude.{IfErr, List, None, OnErr, OnOk, Some, [], false, if◌then◌else◌, length, slice_get, true, ℕ, ◌&&◌, ◌+◌, ◌<◌, ◌==◌, ◌^◌, ◌||◌, ◌≡◌, ◌≢◌, ◌≤◌, ◌⊎◌}, Result.is_ok};
+ghost use Rattle.{indexmap.specs.IndexMap.get, pagable_tables.specs.{ByNumber.{counts_at, refs_at}, Falling.{Comes, GivesUp, IsFalling, IsUnlisted, Leaves, MayList, Sheds, Steps, after, is_listing}}};
+ghost use Rattle.pagable_tables.specs.{Falling.{is_new, is_node, is_valued, landed, owns, owns_nothing}, Live.{AreSound, IsNext, alive, live}, Onward.{IsApart, SoFar, told_by, with_tables}};
+ghost use Rattle.{pagable_world.specs.{Cascade.Falls, Kinds.{is_owner, is_pinning}, Plain.one, World.Core, declared.handles.Owner.Owner}, std.specs.Prelude.{Bool, nat_eq, vec_capacity, vec_len}};
 
-use crate::handles::Handles;
-use crate::rows::{Arcs, Counts, HandleAt, Nodes};
-use crate::{handles, nodes};
+use crate::handles::{self, Handles};
+use crate::tables::{self, Arcs, Counts, HandleAt, Nodes};
 use pagable_model::{Error, HandleNumber, NodeNumber};
 use pagable_world::Mode;
 use pagable_world::handles::{HandleRow, Owner};
@@ -153,13 +150,13 @@ pub fn give_up(t: &mut Holdings, at: HandleAt, stays: bool, lists: bool)
     ensures { (stack : List ℕ) → IsFalling t.old stack (owns at.row) → GivesUp t.old stack at.row stays lists t.new }
 {
     let node = at.row.node.0;
-    let counts = nodes::counts_of(&t.nodes, node).unwrap();
+    let counts = tables::counts_of(&t.nodes, node).unwrap();
     let _taken = t.handles.places.len();
     leave(&mut t.handles, at, stays);
     let wanted = wants_entry(counts, at.row.mode, lists);
     let listed = enlist_if(t, at.row.node, wanted);
     let left = counts_after(counts, pins(at.row.mode), stays, listed, t.top);
-    nodes::set_counts(&mut t.nodes, node, left);
+    tables::set_counts(&mut t.nodes, node, left);
     t.top = top_after(counts.is_falling, left.is_falling, node, t.top);
 }
 
@@ -173,12 +170,12 @@ fn land(nodes: &mut Nodes, node: u64, counts: Counts)
     ensures refs { (q : ℕ) → refs_at nodes.new q ≡ refs_at nodes.old q }
 {
     if counts.holds == 0 {
-        nodes::remove(nodes, node);
+        nodes.swap_remove(&node);
     } else {
         let mut left = counts;
         left.is_falling = false;
         left.next = 0;
-        nodes::set_counts(nodes, node, left);
+        tables::set_counts(nodes, node, left);
     }
 }
 
@@ -189,7 +186,7 @@ pub fn step(t: &mut Holdings, lists: bool) -> Option<NodeNumber>
     ensures { (stack : List ℕ) → IsFalling t.old stack owns_nothing → Steps t.old stack lists result t.new }
 {
     let node = t.top;
-    match nodes::pop_reference(&mut t.nodes, node) {
+    match tables::pop_reference(&mut t.nodes, node) {
         Some(reference) => {
             match handles::look(&t.handles, reference.handle) {
                 Some(at) => give_up(t, at, false, lists),
@@ -198,7 +195,7 @@ pub fn step(t: &mut Holdings, lists: bool) -> Option<NodeNumber>
             None
         }
         None => {
-            let counts = nodes::counts_of(&t.nodes, node).unwrap();
+            let counts = tables::counts_of(&t.nodes, node).unwrap();
             t.top = counts.next;
             land(&mut t.nodes, node, counts);
             Some(NodeNumber(node))

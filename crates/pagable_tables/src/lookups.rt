@@ -1,16 +1,20 @@
-//! What is asked of handles and nodes. Nothing changes by that.
+//! What is asked of handles and nodes, where nothing changes by that. And the cache, which owns nothing: which node is known under a kind and a key, what it gives, and handles that are offered to it.
 
-ghost use Rattle.std.specs.{Prelude.{◌≡◌, ℕ, ◌≤◌, length, Bool, Option, Some, None, IfNone, IfSome, if◌then◌else◌}, Option.option_map};
-ghost use Rattle.{pagable_model.specs.declared.data_key.OptionalDataKey.OptionalDataKey, pagable_world.specs.{Plain.{Blob, if_there}, Kinds.{is_in_memory, is_loose, is_pinning}, World.Cell}};
-ghost use Rattle.{pagable_world.specs.{World.key_at, Events.IsEntry, Calls.{Looks, CountCall, KeyCall, AwayCall, NodeCall, TypeCall}}, pagable_tables.specs.Falling.{pins_in, cell_in, key_in}};
-ghost use Rattle.pagable_tables.specs.{Core.{core_of, IsWhole}, ByNumber.counts_at};
+ghost use Rattle.std.specs.Prelude.{IfErr, IfNone, IfOk, IfSome, IsOk, None, OnErr, OnOk, Some, false, if◌then◌else◌, length, not, true, ◌<◌, ◌≡◌, ◌≢◌, ◌≤◌, ◌⊎◌};
+ghost use Rattle.{pagable_model.specs.declared.{numbers.NodeNumber.NodeNumber, data_key.OptionalDataKey.OptionalDataKey}, std.specs.{Option.option_map, Prelude.{Bool, ℕ, nat_eq, Option}}};
+ghost use Rattle.pagable_tables.specs.{Later.AreLater, Core.{plain_of, MayHold, IsWhole, core_of}, Falling.{Sheds, cell_in, has_value, key_in, pins_in}, Doing.Does, ByNumber.{counts_at, known_at}};
+ghost use Rattle.pagable_world.specs.{Calls.{CountCall, RecallCall, OfferCall, Looks, NodeCall, KeyCall, offer_fault, TypeCall, AwayCall}, Plain.{if_there, type_of, Blob}, World.{Cell, key_at}};
+ghost use Rattle.{pagable_world.specs.{World.{type_at, usable}, Kinds.{fits_mode, is_in_memory, is_loose, is_pinning, mode_of}, Events.IsEntry, Refusals.Owns}, indexmap.specs.IndexMap.{get, spare}};
 
+use crate::giving::give_back;
 use crate::holdings::pins;
-use crate::rows::Counts;
-use crate::tables::Tables;
-use crate::{handles, kinds, nodes};
-use pagable_model::{DataKey, Error, HandleNumber, NodeNumber, OptionalDataKey};
-use pagable_world::handles::HandleRow;
+use crate::making::{make, own};
+use crate::references::{fits_mode, is_of, is_pinned_kind, mode_of};
+use crate::tables::{Arcs, Cache, Counts, Tables};
+use crate::{handles, references, tables};
+use pagable_model::{DataKey, Error, HandleNumber, Kind, NodeNumber, OptionalDataKey};
+use pagable_world::handles::{HandleRow, Owner};
+use std::alloc::AllocError;
 
 /// The key of a node of these counts.
 pub fn key_in(counts: Option<Counts>) -> OptionalDataKey
@@ -59,7 +63,7 @@ pub fn count(t: &Tables, handle: HandleNumber) -> Result<u64, Error>
     ensures { (stored : ℕ → Option Blob) (closed : Bool) (failures : ℕ) → CountCall (core_of t.now stored closed failures) handle result }
 {
     let at = handles::look(&t.holdings.handles, handle).ok_or(Error::NoSuchHandle)?;
-    match nodes::counts_of(&t.holdings.nodes, at.row.node.0) {
+    match tables::counts_of(&t.holdings.nodes, at.row.node.0) {
         Some(c) => Ok(c.pins),
         None => Ok(0),
     }
@@ -71,7 +75,7 @@ pub fn key(t: &Tables, handle: HandleNumber) -> Result<OptionalDataKey, Error>
     ensures { (stored : ℕ → Option Blob) (closed : Bool) (failures : ℕ) → KeyCall (core_of t.now stored closed failures) handle result }
 {
     let at = handles::look(&t.holdings.handles, handle).ok_or(Error::NoSuchHandle)?;
-    Ok(key_in(nodes::counts_of(&t.holdings.nodes, at.row.node.0)))
+    Ok(key_in(tables::counts_of(&t.holdings.nodes, at.row.node.0)))
 }
 
 /// Whether the value of the node of a handle has to be read first.
@@ -80,7 +84,7 @@ pub fn is_paged_out(t: &Tables, handle: HandleNumber) -> Result<bool, Error>
     ensures { (stored : ℕ → Option Blob) (closed : Bool) (failures : ℕ) → AwayCall (core_of t.now stored closed failures) handle result }
 {
     let at = handles::look(&t.holdings.handles, handle).ok_or(Error::NoSuchHandle)?;
-    Ok(!is_here(nodes::counts_of(&t.holdings.nodes, at.row.node.0)))
+    Ok(!is_here(tables::counts_of(&t.holdings.nodes, at.row.node.0)))
 }
 
 /// Whether a handle is loose.
@@ -89,14 +93,14 @@ pub fn is_loose(t: &Tables, handle: HandleNumber) -> Result<bool, Error>
     ensures { (stored : ℕ → Option Blob) (closed : Bool) (failures : ℕ) → Looks (core_of t.now stored closed failures) handle (λ loose row. loose ≡ is_loose row.mode) result }
 {
     let at = handles::look(&t.holdings.handles, handle).ok_or(Error::NoSuchHandle)?;
-    Ok(kinds::is_loose(at.row.mode))
+    Ok(references::is_loose(at.row.mode))
 }
 
 /// The type of a node, or None where the node is gone.
 pub fn node_live(t: &Tables, node: NodeNumber) -> Option<u32>
     ensures { (stored : ℕ → Option Blob) (closed : Bool) (failures : ℕ) → TypeCall (core_of t.now stored closed failures) node result }
 {
-    Some(nodes::counts_of(&t.holdings.nodes, node.0)?.node_type)
+    Some(tables::counts_of(&t.holdings.nodes, node.0)?.node_type)
 }
 
 /// The handle at this place of the list, with type and key of its cell. None past the end.
@@ -114,7 +118,7 @@ pub fn entry(t: &Tables, place: usize) -> Option<(HandleRow, u32, OptionalDataKe
     let Some(at) = handles::look(&t.holdings.handles, handle) else {
         unreachable!();
     };
-    let counts = nodes::counts_of(&t.holdings.nodes, at.row.node.0);
+    let counts = tables::counts_of(&t.holdings.nodes, at.row.node.0);
     Some((at.row, counts.unwrap().node_type, key_in(counts)))
 }
 
@@ -123,4 +127,112 @@ pub fn pending(t: &Tables) -> &[HandleNumber]
     ensures { result.now ≡ t.now.holdings.list.items }
 {
     &t.holdings.list
+}
+
+/// A node is known under a kind and a key from now on. With room to spare it succeeds.
+pub fn put(cache: &mut Cache, kind: Kind, key: DataKey, node: NodeNumber) -> Result<(), AllocError>
+    ensures here { OnOk result (known_at cache.new kind.0 key ≡ Some node) }
+    ensures others { OnOk result ((k q : ℕ) → (k ≢ kind.0) ⊎ (q ≢ key) → known_at cache.new k q ≡ known_at cache.old k q) }
+    ensures err { OnErr result ((k q : ℕ) → known_at cache.new k q ≡ known_at cache.old k q) }
+    ensures succeeds { 0 < spare cache.old → IsOk result }
+{
+    cache.insert((kind.0, key), node)?;
+    Ok(())
+}
+
+/// The same, if it is to be, where there is room.
+pub fn learn_if(cache: &mut Cache, learns: bool, kind: Kind, key: DataKey, node: NodeNumber)
+    requires { 0 < spare cache.old }
+    ensures here { learns ≡ true → known_at cache.new kind.0 key ≡ Some node }
+    ensures others { (k q : ℕ) → (k ≢ kind.0) ⊎ (q ≢ key) → known_at cache.new k q ≡ known_at cache.old k q }
+    ensures same { learns ≡ false → cache.new ≡ cache.old }
+{
+    if learns {
+        put(cache, kind, key, node).unwrap();
+    }
+}
+
+/// The node that the cache gives for a kind and a key. An entry counts only while its node lives and, as a pin, has its value.
+pub fn usable_of(t: &Tables, kind: Kind, key: DataKey) -> Option<NodeNumber>
+    requires { IsWhole t.now }
+    ensures { (stored : ℕ → Option Blob) (closed : Bool) (failures : ℕ) → option_map (λ (n : NodeNumber). n.0) result ≡ usable (core_of t.now stored closed failures) kind.0 key }
+{
+    let node = t.cache.get(&(kind.0, key)).copied()?;
+    let counts = tables::counts_of(&t.holdings.nodes, node.0);
+    if counts.is_none() || is_pinned_kind(kind) && !is_here(counts) {
+        return None;
+    }
+    Some(node)
+}
+
+/// A handle of the node that the cache gives for a kind and a key, in the kind's mode; or None where it gives none. It is refused as `make` is.
+pub fn cache_get(
+    t: &mut Tables,
+    me: Owner,
+    kind: Kind,
+    key: DataKey,
+) -> Result<Option<HandleNumber>, Error>
+    requires whole { IsWhole t.old }
+    requires holder { MayHold (plain_of t.old) me }
+    ensures does { Does t.old (λ w w'. RecallCall w me kind key result w') t.new }
+    ensures none { IfOk result (λ found. IfNone found (t.new ≡ t.old)) }
+{
+    let Some(node) = usable_of(t, kind, key) else {
+        return Ok(None);
+    };
+    Ok(Some(make(t, node, mode_of(kind), me)?))
+}
+
+/// The row of an own handle that may stand under this kind.
+pub fn offered(t: &Tables, me: Owner, kind: Kind, handle: HandleNumber) -> Result<HandleRow, Error>
+    requires { IsWhole t.now }
+    ensures owns { IfOk result (λ row. Owns (plain_of t.now) me handle (fits_mode kind.0) row) }
+    ensures typed { IfOk result (λ row. type_at (plain_of t.now) row.node.0 ≡ Some (type_of kind.0)) }
+    ensures fault { IfErr result (λ e. (stored : ℕ → Option Blob) (closed : Bool) (failures key : ℕ) → offer_fault (core_of t.now stored closed failures) me kind key handle ≡ Some e) }
+{
+    let at = own(t, me, handle)?;
+    if !fits_mode(kind, at.row.mode) {
+        return Err(Error::WrongMode);
+    }
+    if !is_of(tables::counts_of(&t.holdings.nodes, at.row.node.0), kind) {
+        return Err(Error::WrongKind);
+    }
+    Ok(at.row)
+}
+
+/// The cache learns a handle's node, while cells are listed. Where it gives a node already, a handle of that is answered, and the one that was offered is given up. While none are listed the handle
+/// itself is answered. It is refused where it isn't an own handle that may stand under the kind, no number is left, or no place or memory.
+#[tactic(auto, using(std::proofs::lemmas::Bool::Decides::nat_tests))]
+pub fn offer<N: Drop>(
+    t: &mut Tables,
+    values: &mut Arcs<N>,
+    me: Owner,
+    kind: Kind,
+    key: DataKey,
+    handle: HandleNumber,
+    lists: bool,
+) -> Result<Option<HandleNumber>, Error>
+    requires whole { IsWhole t.old }
+    requires holder { MayHold (plain_of t.old) me }
+    ensures offered { (stored : ℕ → Option Blob) (closed : Bool) (failures : ℕ) → lists ≡ not closed
+        → OfferCall (core_of t.old stored closed failures) me kind key handle result (core_of t.new stored closed failures) }
+    ensures whole { IsWhole t.new }
+    ensures sheds { ((n : ℕ) → usable (plain_of t.old) kind.0 key ≡ Some n → is_pinning (mode_of kind.0) ≡ true → has_value (counts_at t.old.holdings.nodes n) ≡ true)
+        → Sheds (counts_at t.old.holdings.nodes) (get nat_eq values.old) (counts_at t.new.holdings.nodes) (get nat_eq values.new) }
+    ensures later { AreLater t.old → AreLater t.new }
+{
+    let row = offered(t, me, kind, handle)?;
+    if !lists {
+        return Ok(Some(handle));
+    }
+    let Some(node) = usable_of(t, kind, key) else {
+        put(&mut t.cache, kind, key, row.node)?;
+        return Ok(None);
+    };
+    let known = make(t, node, mode_of(kind), me)?;
+    let Some(at) = handles::look(&t.holdings.handles, handle) else {
+        unreachable!();
+    };
+    let _ = give_back(&mut t.holdings, values, at, true);
+    Ok(Some(known))
 }

@@ -1,19 +1,78 @@
-//! Why calls are refused: the references of a value that is handed in, and which of several causes is told.
+//! What is asked of modes and kinds. And why calls are refused: the references of a value that is handed in, and which of several causes is told.
 
-ghost use Rattle.std.specs.{Prelude.{◌≡◌, ◌||◌, not, ℕ, Bool, List, Option, Some, None, [], ◌<◌, ◌≤◌, length, false}, Option.option_map};
-ghost use Rattle.pagable_world.specs.{Plain.{Blob, is_in, if_there}, declared.handles.HandleRow.HandleRow, World.{Core, OpenLoad}, Calls.is_named_by};
-ghost use Rattle.pagable_world.specs.{Kinds.{is_owner, find_row}, Refusals.{refused_if, row_fault, reference_fault, references_fault, named_fault, rank, earlier}, Workers.claim_fault};
-ghost use Rattle.{pagable_world.specs.LoadCalls.cell_fault, pagable_tables.specs.{Core.{core_of, plain_of, IsWhole, load_in}, Owning.{seen, named_at}, Live.{live, AreSound}}};
+ghost use Rattle.std.specs.Prelude.{None, Some, false, length, not, ◌<◌, ◌||◌, ◌≡◌, ◌≤◌};
+ghost use Rattle.pagable_tables.specs.{Core.{IsWhole, core_of, load_in, plain_of}, Falling.cell_in, Live.{AreSound, live}, Owning.{named_at, seen}};
+ghost use Rattle.pagable_world.specs.{Calls.is_named_by, Kinds.{find_row, fits_mode, is_loose, is_owner, is_unpinned, mode_of}, LoadCalls.cell_fault, Plain.{Blob, if_there}};
+ghost use Rattle.pagable_world.specs.{Plain.{is_in, is_loose_kind, is_pinned_kind, type_of}, Refusals.{earlier, is_type, named_fault, rank, reference_fault, references_fault, refused_if, row_fault}};
+ghost use Rattle.{pagable_world.specs.{Workers.claim_fault, World.{Cell, Core, OpenLoad}, declared.handles.HandleRow.HandleRow}, std.specs.{Option.option_map, Prelude.{Bool, List, Option, [], ℕ}}};
 ghost use Rattle.pagable_model.specs.declared.error.Error.TheVariants as errors;
 
-use crate::handles::Handles;
-use crate::kinds::{fits_mode, is_of};
-use crate::rows::{LoadRoot, LoadRow};
-use crate::tables::Tables;
-use crate::turning::is_owner;
-use crate::{handles, nodes};
-use pagable_model::{ArcRef, Error, HandleNumber};
+use crate::handles::{self, Handles};
+use crate::making::is_owner;
+use crate::tables::{self, Counts, LoadRoot, LoadRow, Tables};
+use pagable_model::{ArcRef, Error, HandleNumber, Kind};
+use pagable_world::Mode;
 use pagable_world::handles::{HandleRow, Owner};
+
+/// Whether a handle of this mode can be pinned and unpinned.
+pub fn is_loose(mode: Mode) -> bool
+    ensures { result ≡ is_loose mode }
+{
+    matches!(mode, Mode::LoosePinned | Mode::LooseUnpinned)
+}
+
+/// Whether a handle of this mode is loose and pins nothing.
+pub fn is_unpinned(mode: Mode) -> bool
+    ensures { result ≡ is_unpinned mode }
+{
+    matches!(mode, Mode::LooseUnpinned)
+}
+
+/// Whether a reference of this kind is a pin.
+pub fn is_pinned_kind(kind: Kind) -> bool
+    ensures { result ≡ is_pinned_kind kind.0 }
+{
+    kind.0 % 3 == 2
+}
+
+/// Whether a reference of this kind is loose.
+pub fn is_loose_kind(kind: Kind) -> bool
+    ensures { result ≡ is_loose_kind kind.0 }
+{
+    kind.0 % 3 == 1
+}
+
+/// The mode of a handle that is made for a reference of this kind.
+pub fn mode_of(kind: Kind) -> Mode
+    ensures { result ≡ mode_of kind.0 }
+{
+    match kind.0 % 3 {
+        0 => Mode::Shared,
+        1 => Mode::LooseUnpinned,
+        _ => Mode::Pinned,
+    }
+}
+
+/// Whether a handle of this mode may stand under this kind.
+pub fn fits_mode(kind: Kind, mode: Mode) -> bool
+    ensures { result ≡ fits_mode kind.0 mode }
+{
+    match mode {
+        Mode::Pinned => kind.0 % 3 == 2,
+        Mode::Shared => kind.0 % 3 == 0,
+        Mode::LoosePinned | Mode::LooseUnpinned => kind.0 % 3 == 1,
+    }
+}
+
+/// Whether a node of these counts has the type of this kind.
+pub fn is_of(counts: Option<Counts>, kind: Kind) -> bool
+    ensures { result ≡ is_type (type_of kind.0) (if_there (λ (cell : Cell). Some cell.node_type) None (cell_in counts)) }
+{
+    match counts {
+        Some(c) => c.node_type == kind.0 / 3,
+        None => false,
+    }
+}
 
 /// Whether one of these references names the handle, where none has a greater number than the highest. So references in the order of their handles cost a look each.
 #[tactic(auto, using(crate::proofs::Worlds::naming))]
@@ -45,7 +104,7 @@ fn row_fault(t: &Tables, row: HandleRow, reference: ArcRef, is_anothers: bool) -
     if !fits_mode(reference.kind, row.mode) {
         return Some(Error::WrongMode);
     }
-    let counts = nodes::counts_of(&t.holdings.nodes, reference.node.0);
+    let counts = tables::counts_of(&t.holdings.nodes, reference.node.0);
     (!is_of(counts, reference.kind)).then_some(Error::WrongKind)
 }
 
@@ -129,13 +188,6 @@ pub fn cell_fault(row: Option<LoadRow>) -> Option<Error>
     ensures { result ≡ if_there (λ (load : OpenLoad). cell_fault load.root) None (option_map load_in row) }
 {
     matches!(row?.root, LoadRoot::Cell(_, _, _)).then_some(Error::WrongMode)
-}
-
-/// This refusal, if it is so.
-pub fn refused_if(so: bool, error: Error) -> Option<Error>
-    ensures { result ≡ refused_if so error }
-{
-    if so { Some(error) } else { None }
 }
 
 /// Whether the number stands before this place.

@@ -1,14 +1,118 @@
-//! The tables together.
+//! What the tables keep of handles and nodes, rows of nodes, loads and workers by their numbers, and the tables together, with room for handles and for entries of the list. Nodes are seen as two
+//! functions of a number: what is counted of each, and what its value refers to.
 
-ghost use Rattle.std.specs.Prelude.{◌≡◌, ℕ, [], None};
-ghost use Rattle.pagable_tables.specs.{ByNumber.{counts_at, load_at, known_at, worker_at}, Core.IsWhole, Later.AreLater};
+ghost use Rattle.std.specs.Prelude.{IfNone, IsOk, IsSome, None, OnErr, OnOk, Some, ◌++◌, ◌<◌, ◌≡◌, ◌≢◌};
+ghost use Rattle.{indexmap.specs.IndexMap.{get, spare}, pagable_tables.specs.{ByNumber.{counts_at, known_at, load_at, refs_at, worker_at}, Core.{IsWhole, core_of}, Doing.Does, Later.AreLater}};
+ghost use Rattle.{pagable_world.specs.{Calls.{ClearCall, ReserveCall, room_of}, Plain.Blob}, std.specs.{Option.option_to_list, Prelude.{Bool, Option, [], nat_eq, ℕ}}};
 
-use crate::handles::Handles;
+use crate::handles::{self, Handles};
 use crate::holdings::Holdings;
-use crate::rows::{Cache, Loads, Workers};
 use indexmap::IndexMap;
-use pagable_model::{DataKey, NodeNumber};
-use std::alloc::Global;
+use pagable_model::{ArcRef, DataKey, Error, HandleNumber, NodeNumber};
+use pagable_world::handles::{HandleRow, Owner};
+use std::alloc::{AllocError, Global};
+use std::sync::Arc;
+
+/// Nodes, loads and workers by their numbers, and what the cache knows under a kind and a key.
+pub type Nodes = IndexMap<u64, NodeRow>;
+
+pub type Loads = IndexMap<u64, LoadRow>;
+
+pub type Workers = IndexMap<u64, Reach>;
+
+pub type Cache = IndexMap<(u32, DataKey), NodeNumber>;
+
+/// The values in memory, by the numbers of their nodes. They stand beside the tables.
+pub type Arcs<N> = IndexMap<u64, Arc<N>>;
+
+/// A place in the vector of handles: a live row, or a dead one that waits to be cleared away.
+#[derive(Clone, Copy)]
+pub struct Place {
+    pub row: HandleRow,
+    pub is_live: bool,
+}
+
+/// A live row, and where it stands.
+#[derive(Clone, Copy)]
+pub struct HandleAt {
+    pub place: usize,
+    pub row: HandleRow,
+}
+
+/// What is kept of a node, beside the references of its value.
+#[derive(Clone, Copy)]
+pub struct Counts {
+    pub node_type: u32,
+    /// The number of its key, 0 where it has none.
+    pub key: u128,
+    /// How many handles pin it.
+    pub pins: u64,
+    /// How many handles it has.
+    pub holds: u64,
+    /// Whether its value has gone and what that refers to is still to be given up, and the node of which that is done next, 0 where it is none.
+    pub is_falling: bool,
+    pub next: u64,
+}
+
+/// A node.
+#[derive(Drop)]
+pub struct NodeRow {
+    pub counts: Counts,
+    /// What its value refers to, where that is in memory: the value owns the handles.
+    pub references: Vec<ArcRef>,
+}
+
+/// What a load reads its key for.
+#[derive(Clone, Copy)]
+pub enum LoadRoot {
+    /// The value of this cell, of a type, begun by a handle.
+    Cell(NodeNumber, u32, HandleNumber),
+    /// What the caller makes of it.
+    Key,
+}
+
+/// An open load.
+#[derive(Clone, Copy)]
+pub struct LoadRow {
+    pub owner: Owner,
+    pub key: DataKey,
+    pub root: LoadRoot,
+    /// The last handle that was given before it began: all that it owns have greater numbers.
+    pub since: u64,
+}
+
+/// Which handles a worker may have: those of numbers above `since`, and that of number `beside`, 0 where it is none.
+#[derive(Clone, Copy)]
+pub struct Reach {
+    pub since: u64,
+    pub beside: u64,
+}
+
+/// What is kept of a load, or None where it isn't open.
+pub fn load_of(loads: &Loads, load: u64) -> Option<LoadRow>
+    ensures { result ≡ load_at loads.now load }
+{
+    loads.get(&load).copied()
+}
+
+/// A row comes, under a number that is free.
+pub fn open<R: Copy>(rows: &mut IndexMap<u64, R>, number: u64, row: R) -> Result<(), AllocError>
+    requires { get nat_eq rows.old number ≡ None }
+    ensures here { OnOk result (get nat_eq rows.new number ≡ Some row) }
+    ensures others { OnOk result ((q : ℕ) → q ≢ number → get nat_eq rows.new q ≡ get nat_eq rows.old q) }
+    ensures err { OnErr result ((q : ℕ) → get nat_eq rows.new q ≡ get nat_eq rows.old q) }
+{
+    rows.insert(number, row)?;
+    Ok(())
+}
+
+/// The row of this number goes.
+pub fn close<R: Copy>(rows: &mut IndexMap<u64, R>, number: u64)
+    ensures gone { get nat_eq rows.new number ≡ None }
+    ensures others { (q : ℕ) → q ≢ number → get nat_eq rows.new q ≡ get nat_eq rows.old q }
+{
+    rows.swap_remove(&number);
+}
 
 /// All tables of a pager, with no fact that is true of them all (`IsWhole`).
 #[derive(Drop)]
@@ -54,5 +158,92 @@ pub fn new(alloc: Global) -> Tables
         last_node: 0,
         last_load: 0,
         last_worker: 0,
+    }
+}
+
+/// How many handles and entries of the list can still come without a request for memory.
+pub fn room(t: &Tables) -> usize
+    requires { IsWhole t.now }
+    ensures { (stored : ℕ → Option Blob) (closed : Bool) (failures : ℕ) → result ≡ room_of (core_of t.now stored closed failures) }
+{
+    let entries = t.holdings.list.capacity() - t.holdings.list.len();
+    handles::room_of(&t.holdings.handles).min(entries)
+}
+
+/// Makes places ready for so many more handles and entries, if it can.
+pub fn reserve(t: &mut Tables, more: usize) -> Result<(), Error>
+    requires { IsWhole t.old }
+    ensures { Does t.old (λ w w'. ReserveCall w more result w') t.new }
+{
+    let _ = handles::reserve(&mut t.holdings.handles, more);
+    let _ = t.holdings.list.reserve(more);
+    if room(t) < more {
+        return Err(Error::OutOfMemory);
+    }
+    Ok(())
+}
+
+/// The cache forgets all.
+pub fn cache_clear(t: &mut Tables) -> Result<(), Error>
+    requires { IsWhole t.old }
+    ensures { Does t.old (λ w w'. ClearCall w result w') t.new }
+{
+    t.cache.clear();
+    Ok(())
+}
+
+/// The counts of a node.
+pub fn counts_of(nodes: &Nodes, node: u64) -> Option<Counts>
+    ensures { result ≡ counts_at nodes.now node }
+{
+    Some(nodes.get(&node)?.counts)
+}
+
+/// Other counts for a node.
+pub fn set_counts(nodes: &mut Nodes, node: u64, counts: Counts)
+    requires { IsSome (counts_at nodes.old node) }
+    ensures here { counts_at nodes.new node ≡ Some counts }
+    ensures others { (q : ℕ) → q ≢ node → counts_at nodes.new q ≡ counts_at nodes.old q }
+    ensures refs { (q : ℕ) → refs_at nodes.new q ≡ refs_at nodes.old q }
+{
+    if let Some(row) = nodes.get_mut(&node) {
+        row.counts = counts;
+    }
+}
+
+/// Takes the last reference of a node.
+pub fn pop_reference(nodes: &mut Nodes, node: u64) -> Option<ArcRef>
+    ensures counts { (q : ℕ) → counts_at nodes.new q ≡ counts_at nodes.old q }
+    ensures others { (q : ℕ) → q ≢ node → refs_at nodes.new q ≡ refs_at nodes.old q }
+    ensures here { refs_at nodes.old node ≡ refs_at nodes.new node ++ option_to_list result }
+    ensures none { IfNone result (refs_at nodes.new node ≡ []) }
+{
+    nodes.get_mut(&node)?.references.pop()
+}
+
+/// A node comes, under a number that is free.
+pub fn add(nodes: &mut Nodes, node: u64, row: NodeRow) -> Result<(), AllocError>
+    requires { counts_at nodes.old node ≡ None }
+    ensures here { OnOk result (counts_at nodes.new node ≡ Some row.counts) }
+    ensures refs { OnOk result (refs_at nodes.new node ≡ row.references.items) }
+    ensures others { OnOk result ((q : ℕ) → q ≢ node → counts_at nodes.new q ≡ counts_at nodes.old q) }
+    ensures other_refs { OnOk result ((q : ℕ) → q ≢ node → refs_at nodes.new q ≡ refs_at nodes.old q) }
+    ensures err { OnErr result ((q : ℕ) → counts_at nodes.new q ≡ counts_at nodes.old q) }
+    ensures err_refs { OnErr result ((q : ℕ) → refs_at nodes.new q ≡ refs_at nodes.old q) }
+    ensures succeeds { 0 < spare nodes.old → IsOk result }
+{
+    nodes.insert(node, row)?;
+    Ok(())
+}
+
+/// What the value of a node refers to from now on.
+pub fn set_references(nodes: &mut Nodes, node: u64, references: Vec<ArcRef>)
+    requires { IsSome (counts_at nodes.old node) }
+    ensures counts { (q : ℕ) → counts_at nodes.new q ≡ counts_at nodes.old q }
+    ensures here { refs_at nodes.new node ≡ references.items }
+    ensures others { (q : ℕ) → q ≢ node → refs_at nodes.new q ≡ refs_at nodes.old q }
+{
+    if let Some(row) = nodes.get_mut(&node) {
+        row.references = references;
     }
 }

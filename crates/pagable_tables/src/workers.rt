@@ -1,17 +1,18 @@
-//! Page-out workers: they begin, give up what they have at a node, and end.
+//! The list of cells that wait for page-out: entries come and are taken. And page-out workers: they begin, give up what they have at a node, and end.
 
-ghost use Rattle.std.specs.Prelude.{◌≡◌, ◌<◌, ◌+◌, ℕ, length, IfOk, is_some, not, true};
-ghost use Rattle.pagable_world.specs.{Plain.updated, Kinds.{is_owner, owner_worker}, Cascade.FallsAnyhow, Workers.WorkerEnds};
-ghost use Rattle.{pagable_world.specs.Workers.is_workers_at, pagable_tables.specs.{ByNumber.{load_at, reach_at, worker_at}, Core.IsWhole, Giving.{BeginsWorker, TakesWorker, left_load}}};
-ghost use Rattle.pagable_tables.specs.{Later.AreLater, Doing.{DoesShed, Does}};
+ghost use Rattle.std.specs.Prelude.{IfOk, false, length, not, true, ◌+◌, ◌<◌, ◌≡◌};
+ghost use Rattle.{indexmap.specs.IndexMap.get, pagable_model.specs.declared.numbers.LoadNumber.LoadNumber, pagable_tables.specs.{ByNumber.{counts_at, load_at, reach_at, worker_at}, Core.IsWhole}};
+ghost use Rattle.pagable_tables.specs.{Core.{MayHold, core_of, plain_of}, Doing.{Does, DoesShed}, Falling.Sheds, Giving.{BeginsWorker, InReach, IsNoLess, TakesWorker, left_load}, Later.AreLater};
+ghost use Rattle.pagable_world.specs.{Calls.{ScheduleCall, TakeCall}, Cascade.FallsAnyhow, Kinds.{is_owner, owner_worker}, Plain.{Blob, updated}, Workers.{WorkerEnds, is_workers_at}};
+ghost use Rattle.{pagable_world.specs.declared.handles.Owner.Owner, std.specs.Prelude.{Bool, Option, is_some, nat_eq, ℕ}};
 
-use crate::giving::{Giving, give_all};
-use crate::listing::take_pending;
-use crate::loads;
-use crate::rows::{Arcs, LoadRow, Loads, Reach, Workers};
-use crate::tables::Tables;
-use crate::turning::is_owner;
-use pagable_model::{Error, NodeNumber, WorkerNumber};
+use crate::giving::{Giving, give_all, give_back};
+use crate::holdings::make_place;
+use crate::making::{is_owner, own};
+use crate::references::is_unpinned;
+use crate::tables::{Arcs, LoadRow, Loads, Reach, Tables, Workers};
+use crate::{handles, tables};
+use pagable_model::{Error, HandleNumber, NodeNumber, WorkerNumber};
 use pagable_world::handles::Owner;
 
 /// One worker more is at work. OutOfMemory where it has no place, or no number is left for it.
@@ -29,7 +30,7 @@ pub fn worker_begin(t: &mut Tables) -> Result<WorkerNumber, Error>
     let worker = t.last_worker + 1;
     let since = t.holdings.last_handle;
     let reach = Reach { since, beside: 0 };
-    loads::open(&mut t.workers, worker, reach)?;
+    tables::open(&mut t.workers, worker, reach)?;
     t.last_worker = worker;
     Ok(WorkerNumber(worker))
 }
@@ -93,5 +94,73 @@ pub fn worker_end<N: Drop>(t: &mut Tables, values: &mut Arcs<N>, worker: WorkerN
     let reach = reach_of(&t.workers, worker);
     let _ = give_all(&mut t.holdings, values, &t.loads, giving, reach, lists);
     close_loads(&mut t.loads, worker);
-    loads::close(&mut t.workers, worker.0);
+    tables::close(&mut t.workers, worker.0);
+}
+
+/// A loose unpinned handle moves to the list's end, while cells are listed; otherwise it is given up, with all that goes with it. It is refused where it isn't an
+/// own handle of that mode, or the list has no place.
+pub fn schedule_for_paging<N: Drop>(
+    t: &mut Tables,
+    values: &mut Arcs<N>,
+    me: Owner,
+    handle: HandleNumber,
+    lists: bool,
+) -> Result<(), Error>
+    requires whole { IsWhole t.old }
+    requires holder { MayHold (plain_of t.old) me }
+    ensures scheduled { (stored : ℕ → Option Blob) (closed : Bool) (failures : ℕ) → lists ≡ not closed
+        → ScheduleCall (core_of t.old stored closed failures) me handle result (core_of t.new stored closed failures) }
+    ensures whole { IsWhole t.new }
+    ensures sheds { Sheds (counts_at t.old.holdings.nodes) (get nat_eq values.old) (counts_at t.new.holdings.nodes) (get nat_eq values.new) }
+    ensures later { AreLater t.old → AreLater t.new }
+{
+    let at = own(t, me, handle)?;
+    if !is_unpinned(at.row.mode) {
+        return Err(Error::WrongMode);
+    }
+    if !lists {
+        let _ = give_back(&mut t.holdings, values, at, lists);
+        return Ok(());
+    }
+    make_place(&mut t.holdings.list)?;
+    t.holdings.list.push(handle).unwrap();
+    handles::hand_over(&mut t.holdings.handles, at, Owner::List);
+    Ok(())
+}
+
+/// A worker who asks may have this handle too: beside those that came since it began, or, where it got one so before, beside all.
+fn reach_to(workers: &mut Workers, me: Owner, handle: HandleNumber)
+    ensures at_work { (v : ℕ) → is_some (worker_at workers.new v) ≡ is_some (worker_at workers.old v) }
+    ensures less { IsNoLess workers.old workers.new }
+    ensures here { (v : ℕ) → 0 < handle.0 → is_owner (owner_worker v) me ≡ true → InReach (reach_at workers.new v) handle.0 }
+{
+    let Owner::Worker(worker) = me else {
+        return;
+    };
+    if let Some(reach) = workers.get_mut(&worker.0) {
+        if reach.beside != 0 {
+            reach.since = 0;
+        }
+        reach.beside = handle.0;
+    }
+}
+
+/// The entry at this place of the list moves to the one who asks. None past the end.
+pub fn take_pending(t: &mut Tables, me: Owner, place: usize) -> Option<HandleNumber>
+    requires whole { IsWhole t.old }
+    requires holder { MayHold (plain_of t.old) me }
+    ensures taken { (stored : ℕ → Option Blob) (closed : Bool) (failures : ℕ) → TakeCall (core_of t.old stored closed failures) me place result (core_of t.new stored closed failures) }
+    ensures whole { IsWhole t.new }
+    ensures later { ((m : LoadNumber) → is_owner (Owner.Load m) me ≡ false) → AreLater t.old → AreLater t.new }
+{
+    if place >= t.holdings.list.len() {
+        return None;
+    }
+    let handle = t.holdings.list.remove(place);
+    let Some(at) = handles::look(&t.holdings.handles, handle) else {
+        unreachable!();
+    };
+    handles::hand_over(&mut t.holdings.handles, at, me);
+    reach_to(&mut t.workers, me, handle);
+    Some(handle)
 }

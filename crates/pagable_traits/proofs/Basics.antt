@@ -4,9 +4,9 @@ use Rattle.pagable_traits.proofs.Words.{Gives, Extends, memory, Meaning, number,
 use Rattle.pagable_traits.proofs.Words.{WritesSome, Refused, Grows, Answer, GivesSome, Is, writes_is, writes_bytes, grows_bytes, refused_memory}
 use Rattle.pagable_traits.proofs.Words.{◌+◌, ◌*◌, ◌≤◌, ◌^◌, arith, ap, ◌∙◌, w32, w64}
 use Rattle.std.{proofs.{Common.◌/◌, lemmas.Bool.le-ltb, lemmas.Nat.mod_below}, specs.{Duration.as_nanos, declared.time.Duration.Duration}}
-use Rattle.pagable_model.specs.{Basic.{nanos_of_second, duration_form, duration_at}, Carried.of_duration, Form.duration-form, Shape.duration, Spans.{seconds_of, nanos_of, of_span}}
+use Rattle.pagable_model.specs.{Basic.{nanos_of_second, duration_form, duration_at}, Carried.{of_duration, seconds_of, nanos_of, of_span}, Form.duration-form, Shape.duration}
 use Rattle.std.{specs.Int.{Width, w8}, specs.Char.IsScalar, proofs.Common.{◌<◌, rules, FitsSigned, to_z, of_z}}
-use Rattle.pagable_codec.proofs.Writing.{writes_unsigned, writes_signed, writes_flag, writes_letter}
+use Rattle.{pagable_codec.proofs.Writing.{writes_unsigned, writes_signed, writes_flag, writes_letter}, pagable_flavors.specs.Calls.Appends}
 use Rattle.pagable_model.specs.{Basic.{bool_form, char_form}, Numbers.{bound, IsSigned, unsigned_form, signed_form}, Meaning.{text, flag}, Shape.{unsigned, letter, flag as flag_shape}}
 use Rattle.pagable_model.specs.{Shape.text as text_shape, Track.{Track, left}}
 
@@ -64,7 +64,7 @@ wrote_form (Err y) n s meaning x form old new given bytes is e f h = tt
 pub basic_written : {X Y E : Type 0} (r : Result Y Error) (n : Nesting) (s : Shape) (meaning : X → Meaning ArcRef) (x : X) (form : List ℕ)
     {old new : Out} {env env_after : E} {levels levels_after : ℕ} {given bytes : List ℕ} → FormAt n s (meaning x) form []
     → given ≡ old.bytes → new ≡ record old { bytes = bytes } → env_after ≡ env → levels_after ≡ levels
-    → record { ok : OnOk r (bytes ≡ given ++ form); only : IfErr r memory; err : Extends given bytes }
+    → Appends form r given bytes
     → record { ok : OnOk r (WritesSome (Is meaning x) n s old new); refused : IfErr r (Refused (Is meaning x) n s); only : IfErr r memory; err : Grows old new; same_env : env_after ≡ env; same_levels : levels_after ≡ levels }
 basic_written r n s meaning x form {old = old} {new = new} {given = given} {bytes = bytes} is e f same_env same_levels told = record {
   ok = wrote_form r n s meaning x form old new given bytes is e f told.ok;

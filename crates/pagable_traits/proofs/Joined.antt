@@ -4,7 +4,7 @@ use Rattle.pagable_traits.proofs.Words.{MeansOption, means-none, means-some, Mea
 use Rattle.pagable_traits.proofs.{Words.{err-form, ok-form, Is, Out, Nesting, WritesSome, added, grows_trans, memory_refuses, refused_memory, NoForm, Refused, writes_is, writes_bytes}, Parts.ok_along}
 use Rattle.pagable_traits.proofs.{Words.{FormAt, Grows, some}, Parts.{err_along, some_along, refused_along, writes_absent, writes_whole, refuses_whole, writes_both, first_refused, refused_second}}
 use Rattle.std.specs.{Borrow.Bor, Str.IsUtf8}
-use Rattle.pagable_model.specs.Cells.{MeansOnce}
+use Rattle.pagable_model.specs.Lifted.{MeansOnce}
 use Rattle.pagable_model.specs.Meaning as meanings
 use Rattle.pagable_model.specs.Shape as shapes
 

@@ -1,13 +1,4 @@
 pub mod Waits
-pub mod Held
-pub mod Ends
-pub mod Failing
 pub mod Stacks
-pub mod Ways
 pub mod Turning
-pub mod Forming
-pub mod Pinning
-pub mod Closing
-pub mod Joined
-pub mod Dues
 pub mod Pages

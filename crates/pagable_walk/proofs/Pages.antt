@@ -2,7 +2,7 @@
 use Rattle.pagable_laws.proofs.{Answered.{entry-answered, item-answered}, SparingSteps.{Spares, none-shorter, release-spares-list, spares-then, walk-spares-list}}
 use Rattle.pagable_loads.{proofs.Stepped.{acts_all, acts_from, acts_map, acts_same, acts_then, tells_map}, specs.{Telling.{Acting, as_caller}, Working.{RefusesEntry, StartsEntry}}}
 use Rattle.pagable_model.specs.declared.{data_key.OptionalDataKey.OptionalDataKey, error.Error.Error, numbers.{ArcRef.ArcRef, HandleNumber.HandleNumber, WorkerNumber.WorkerNumber}}
-use Rattle.pagable_walk.{proofs.{Pinning.same-shelf, Turning.{alike, plain-fits}}, specs.{Over.{HasPaged, PagesAt, PagesEntry, PagesItem, PagesList, answer_of}, Tasks.{IsPlain, todo_of}}}
+use Rattle.pagable_walk.{proofs.Turning.{alike, plain-fits, same-shelf}, specs.{Over.{HasPaged, PagesAt, PagesEntry, PagesItem, PagesList, answer_of}, Tasks.{IsPlain, todo_of}}}
 use Rattle.{pagable_walk.specs.{Turns.{Fits, RunsTo, Walked, plain}, declared.{results.Trees.Ghosts, table.PageOutError.PageOutError, tasks.Task.Task}}, pagable_world.specs.Access.AccessState}
 use Rattle.pagable_world.specs.Access.{Called, EntryHas, ListRun, WorkerRun, WorkerStarts, entry-is-refused, entry-is-walked, fails, item-is-walked, no-entry-worker, no-more, no-worker, pages}
 use Rattle.pagable_world.specs.{Access.{skips, worker-ends, worker-goes-on}, Calls.{ReleaseCall, TakeCall}, Events.{entry_task, no_shelf}, Kinds.{identity_of, owner_worker}, Pager.PagerState}

@@ -1,10 +1,12 @@
--- Whom a worker waits for.
-use Rattle.std.proofs.{Common.{arith, ℕ, ◌≡◌, Bool, false, if◌then◌else◌, Option, Some, None, sym, ap, ◌∙◌, nat_eq}, lemmas.{Bool.Decides.nat_tests, Option.none-some}}
-use Rattle.pagable_world.specs.{Workers.{is_open_outcome, is_open_slot, IsOpenSlot, waits-back, ComesToEnd, works, may-go-on, waits-on, with_wait}, Plain.{Identity, if_there}}
-use Rattle.{pagable_world.specs.World.{Slot, Shelf, SameShelf, no_result}, pagable_walk.specs.{Slots.{open_worker, Leads, Stands}, declared.{results.Trees.Ghosts, slots.Standing.Standing}}}
-
-pub some-same : {A : Type 0} {x y : A} → Some x ≡ Some y → x ≡ y
-some-same {A} {x} e = ap (if_there (λ (z : A). z) x) e
+-- Whom a worker waits for, that waits come to an end, and the slots of a table after each change.
+use Rattle.pagable_world.specs.{Plain.{Identity, updated, SameAt}, World.{Shelf, no_result, is_identity, Slot, Outcome, SameShelf}, Workers.{works, is_open_slot, may-go-on, with_slot, IsOpenSlot}}
+use Rattle.{pagable_world.specs.Workers.{waits-back, is_open_outcome, with_outcome, ComesToEnd, with_wait, waits-on}, std.specs.{Option.option_map, Prelude.{OnErr, Err, Result, Ok, OnOk}}}
+use Rattle.std.{specs.Map.{values_of, lookup}, proofs.Common.{true, ℕ, inr, ◌&&◌, Some, ◌⊎◌, None, suc, if◌then◌else◌, ap, cond, sym, slice_get, ◌∷◌, List, ◌<◌, [], Option, ◌≤◌, length, Bool, false}}
+use Rattle.{std.proofs.{Common.{nat_eq, ◌∙◌, zero, ◌≡◌, inl, arith, subst, refl}, lemmas.{Grind.{common_steps, merely}, Bool.Decides.nat_tests, Option.none-some}}, pagable_laws.proofs.Trees.same_some}
+use Rattle.{indexmap.specs.IndexMap.{set_value_at, get, IndexMap}, pagable_walk.specs.Slots.{failed_by, ends-at, FailedTo, slots_in, AreNamed, Ends, WaitsFor, Leads, open_worker, EachEnds, is_same}}
+use Rattle.pagable_walk.specs.{Slots.{Stands, after_failure, SlotIs, Changes, slot_of, claimed_by, IsNamed}, declared.{results.Trees.Ghosts, slots.{Standing.Standing, ArcSerSlot.ArcSerSlot}}}
+use mathlib.Core.{HLevel.Σ_prop_path, Logic.{∥∥₁_elim, ∥∥₁_map, ∥∥₁_prop}}
+use native.Mathlib.Nat.{ℕ_set}
 
 pub open-is : (x : Slot) → x.outcome ≡ no_result → open_worker (Some x) ≡ Some x.worker
 open-is x e = ap (λ q. if is_open_outcome q then Some x.worker else None) e
@@ -36,3 +38,192 @@ module _ (s s1 s2 : Shelf) (v : ℕ) (i : Identity) (same : SameShelf (with_wait
   end-still (waits-on u j slot d e o c) = waits-on u j slot d (off u d ∙ e) (open-still j slot o) (end-still c)
 
 pub ruleset claims = (nat_tests, open-still, end-still)
+
+-- ---- the slots of a table after one of them came or changed
+
+pub either-way : {A B P Q : Type 0} (r : Result A B) → OnOk r P → OnErr r Q → P ⊎ Q
+either-way (Ok x) p q = inl p
+either-way (Err e) p q = inr q
+
+pub eq-sym : (a b : ℕ) → nat_eq a b ≡ nat_eq b a
+eq-sym a b = grind (arith, nat_tests)
+
+pub same-as : (i j : Identity) → is_same (i.kind.0, i.node.0) (j.kind.0, j.node.0) ≡ is_identity i j
+same-as i j = ap (λ b. b && nat_eq i.node.0 j.node.0) (eq-sym i.kind.0 j.kind.0) ∙ ap (λ b. nat_eq j.kind.0 i.kind.0 && b) (eq-sym i.node.0 j.node.0)
+
+pub same-numbers : (i j : Identity) → i.kind.0 ≡ j.kind.0 → i.node.0 ≡ j.node.0 → i ≡ j
+same-numbers i j k n = λ p. record { kind = record { 0 = k p }; node = record { 0 = n p } }
+
+pub same-identity : (i j : Identity) → is_same (i.kind.0, i.node.0) (j.kind.0, j.node.0) ≡ true → i ≡ j
+same-identity i j h = grind (arith, nat_tests, common_steps, same-numbers)
+
+-- what waits at one number, and at the others
+pub wait-is : {T : Type 0} (old new : IndexMap ℕ Identity T) (v : ℕ) (w : Option Identity) → ((q : ℕ) → get nat_eq new q ≡ cond (nat_eq v q) w (get nat_eq old q)) → SameAt (updated v w (λ q. get nat_eq old q)) (λ q. get nat_eq new q)
+wait-is old new v w h q = h q ∙ ap (λ b. cond b w (get nat_eq old q)) (eq-sym v q)
+
+module _ {E : Type 0} {g : Ghosts E} where
+  module _ {S : Type 0} (old new : IndexMap (ℕ × ℕ) (ArcSerSlot E g) S) (i : Identity) (s : ArcSerSlot E g) (h : (q : ℕ × ℕ) → get is_same new q ≡ cond (is_same (i.kind.0, i.node.0) q) (Some s) (get is_same old q)) where
+    pub slot-is : (x : Slot) → slot_of s ≡ x → SlotIs (slots_in old) i (Some x) (slots_in new)
+    slot-is x e j = grind (arith, nat_tests, common_steps, same-as)
+
+    pub own-is : AreNamed old → ((j : Identity) → is_same (i.kind.0, i.node.0) (j.kind.0, j.node.0) ≡ true → IsNamed j s) → AreNamed new
+    own-is own fresh j t there = grind (arith, nat_tests, common_steps, same_some)
+
+    -- the slot that stood there has changed
+    module _ (was : ArcSerSlot E g) (at : Some was ≡ get is_same old (i.kind.0, i.node.0)) where
+      pub changed-is : (f : Slot → Slot) → slot_of s ≡ f (slot_of was) → Changes f (slots_in old) i (slots_in new)
+      changed-is f e j = grind (arith, nat_tests, common_steps, slot-is)
+
+      pub own-changed : AreNamed old → (IsNamed i was → IsNamed i s) → AreNamed new
+      own-changed own f = own-is own (λ j e. subst (λ k. IsNamed k s) (same-identity i j e) (f (own i was (sym at))))
+
+-- ---- waits come to an end after each change of a table
+
+module _ (s s' : Shelf) (h : (u w : ℕ) → WaitsFor s' u w → WaitsFor s u w ⊎ Ends s' w) where
+  ends-still : {u : ℕ} → Ends s u → Ends s' u
+  ends-still (ends-at u f) = ends-at u (λ w e. elim (h u w e) [ inl old ↦ ends-still (f w old) | inr ends ↦ ends ])
+
+  -- where each wait that is new comes to an end
+  pub each-ends : EachEnds s → EachEnds s'
+  each-ends ends u = ∥∥₁_map (ends u) ends-still
+
+-- slots that get an outcome
+pub less-open : (s s' : Shelf) → ((i : Identity) (w : ℕ) → open_worker (s'.slots i) ≡ Some w → open_worker (s.slots i) ≡ Some w) → SameAt s.waits s'.waits → EachEnds s → EachEnds s'
+less-open s s' h same = each-ends s s' (λ u w e. inl (record { i = e.i; waits = sym (same u) ∙ e.waits; still = h e.i w e.still }))
+
+was-waiting : (b : Bool) (x : Option Identity) (i : Identity) → (if b then None else x) ≡ Some i → x ≡ Some i
+was-waiting b x i e = grind (arith, nat_tests)
+
+-- one that doesn't wait any more
+pub stopped : (s s' : Shelf) (v : ℕ) → SameShelf (with_wait s v None) s' → EachEnds s → EachEnds s'
+stopped s s' v same = each-ends s s' (λ u w e. inl (record { i = e.i; waits = was-waiting (nat_eq u v) (s.waits u) e.i (sym (same.waits u) ∙ e.waits); still = ap open_worker (sym (same.slots e.i)) ∙ e.still }))
+
+-- a claim of a worker that doesn't wait
+module _ (s s' : Shelf) (v : ℕ) (i : Identity) (same : SameShelf (with_slot s i (Some (claimed_by v))) s') (works-on : s.waits v ≡ None) where
+  claimer-ends : Ends s' v
+  claimer-ends = ends-at v (λ w e. absurd (none-some e.i (sym (same.waits v ∙ works-on) ∙ e.waits)))
+
+  pub taken : EachEnds s → EachEnds s'
+  taken = each-ends s s' (λ u w e. by u w e.i (is_identity i e.i) (sym (same.waits u) ∙ e.waits) (sym (ap open_worker (same.slots e.i)) ∙ e.still))
+    where
+      by : (u w : ℕ) (j : Identity) (b : Bool) → s.waits u ≡ Some j → open_worker (if b then Some (claimed_by v) else s.slots j) ≡ Some w → WaitsFor s u w ⊎ Ends s' w
+      by u w j b waits still = grind (arith, nat_tests, same_some, claimer-ends)
+
+-- a worker waits for one whose wait comes to an end without it
+module _ (s s' : Shelf) (v : ℕ) (i : Identity) (same : SameShelf (with_wait s v (Some i)) s') where
+  -- whom another one waits for
+  was-for : (u w : ℕ) → nat_eq u v ≡ false → WaitsFor s' u w → WaitsFor s u w
+  was-for u w d e = record { i = e.i; waits = sym (same.waits u ∙ ap (λ b. if b then Some i else s.waits u) d) ∙ e.waits; still = ap open_worker (sym (same.slots e.i)) ∙ e.still }
+
+  end-later : {u : ℕ} → ComesToEnd s v u → Ends s' u
+  end-later (works u d e) = ends-at u (λ w n. absurd (none-some (was-for u w d n).i (sym e ∙ (was-for u w d n).waits)))
+  end-later (may-go-on u j d e o) = ends-at u (λ w n. let f = was-for u w d n in absurd (closed (s.slots j) o w (ap (λ k. open_worker (s.slots k)) (same_some _ _ (sym e ∙ f.waits)) ∙ f.still)))
+  end-later (waits-on u j slot d e o c) = ends-at u (λ w n. grind (arith, nat_tests, was-for u w d n, same_some, open-is, end-later c))
+
+  module _ (slot : Slot) (o : IsOpenSlot s i slot) (c : ComesToEnd s v slot.worker) where
+    pub waiting : EachEnds s → EachEnds s'
+    waiting = each-ends s s' (λ u w e. ask u w e (nat_eq u v) refl)
+      where
+        ask : (u w : ℕ) → WaitsFor s' u w → (b : Bool) → nat_eq u v ≡ b → WaitsFor s u w ⊎ Ends s' w
+        ask u w e b d = grind (arith, nat_tests, was-for, same_some, open-is, end-later)
+
+-- no worker waits
+pub no-waits : (s : Shelf) → ((v : ℕ) → s.waits v ≡ None) → EachEnds s
+no-waits s h u = merely (ends-at u (λ w e. absurd (none-some e.i (sym (h u) ∙ e.waits))))
+
+-- a slot that changes and doesn't come to be without a result
+module _ (old new : Identity → Option Slot) (i : Identity) (f : Slot → Slot) (h : (x : Slot) (w : ℕ) → open_worker (Some (f x)) ≡ Some w → open_worker (Some x) ≡ Some w) (is : Changes f old i new) where
+  pub changed-less : (j : Identity) (w : ℕ) → open_worker (new j) ≡ Some w → open_worker (old j) ≡ Some w
+  changed-less j w e = grind (arith, nat_tests, same-identity, same-as, h)
+
+-- a slot that gets an outcome
+pub outcome-less : (o : Outcome) → is_open_outcome o ≡ false → (x : Slot) (w : ℕ) → open_worker (Some (with_outcome o x)) ≡ Some w → open_worker (Some x) ≡ Some w
+outcome-less o h x w e = grind (arith, nat_tests)
+
+-- ---- how many waits lead on from a worker
+
+-- so many, and no more
+abbrev Long : Shelf → ℕ → ℕ → Type 0
+Long s zero u = (w : ℕ) → WaitsFor s u w → ⊥
+Long s (suc n) u = (w : ℕ) × WaitsFor s u w × Long s n w
+
+module _ (s : Shelf) where
+  -- it waits for one alone
+  one-alone : (u w x : ℕ) → WaitsFor s u w → WaitsFor s u x → w ≡ x
+  one-alone u w x a b = same_some _ _ (sym a.still ∙ ap (λ k. open_worker (s.slots k)) (same_some _ _ (sym a.waits ∙ b.waits)) ∙ b.still)
+
+  same-long : (n m u : ℕ) → Long s n u → Long s m u → n ≡ m
+  same-long zero zero u a b = refl
+  same-long zero (suc m) u a b = absurd (a b.0 b.1)
+  same-long (suc n) zero u a b = absurd (b a.0 a.1)
+  same-long (suc n) (suc m) u a b = ap suc (same-long n m a.0 a.2 (subst (Long s m) (one-alone u b.0 a.0 b.1 a.1) b.2))
+
+  for-or-not : (u : ℕ) (i : Identity) → s.waits u ≡ Some i → (o : Option ℕ) → open_worker (s.slots i) ≡ o → ((w : ℕ) → WaitsFor s u w → ⊥) ⊎ ((w : ℕ) × WaitsFor s u w)
+  for-or-not u i e None h = inl (λ w f. none-some w (sym h ∙ ap (λ k. open_worker (s.slots k)) (same_some _ _ (sym e ∙ f.waits)) ∙ f.still))
+  for-or-not u i e (Some w) h = inr (w, record { i = i; waits = e; still = h })
+
+  waits-or-not : (u : ℕ) (o : Option Identity) → s.waits u ≡ o → ((w : ℕ) → WaitsFor s u w → ⊥) ⊎ ((w : ℕ) × WaitsFor s u w)
+  waits-or-not u None e = inl (λ w f. none-some f.i (sym e ∙ f.waits))
+  waits-or-not u (Some i) e = for-or-not u i e (open_worker (s.slots i)) refl
+
+  long : {u : ℕ} → Ends s u → (n : ℕ) × Long s n u
+  long (ends-at u f) = elim (waits-or-not u (s.waits u) refl) [ inl none ↦ (zero, none) | inr at ↦ let l = long (f at.0 at.1) in (suc l.0, (at.0, at.1, l.1)) ]
+
+  pub how-long : EachEnds s → (u : ℕ) → (n : ℕ) × ∥ Long s n u ∥₁
+  how-long ends u =
+      let one : (x y : (n : ℕ) × ∥ Long s n u ∥₁) → x ≡ y = λ x y. Σ_prop_path (λ n. ∥∥₁_prop) (∥∥₁_elim x.1 (ℕ_set _ _) (λ a. ∥∥₁_elim y.1 (ℕ_set _ _) (λ b. same-long x.0 y.0 u a b))) in
+      ∥∥₁_elim (ends u) one (λ e. let l = long e in (l.0, ∣ l.1 ∣₁))
+
+  -- fewer than from one that waits for it
+  pub nearer : (ends : EachEnds s) (u w : ℕ) → WaitsFor s u w → (how-long ends w).0 < (how-long ends u).0
+  nearer ends u w e =
+      let n = how-long ends u in
+      let m = how-long ends w in
+      let is : n.0 ≡ suc m.0 = ∥∥₁_elim n.1 (ℕ_set _ _) (λ a. ∥∥₁_elim m.1 (ℕ_set _ _) (λ b. same-long n.0 (suc m.0) u a (w, e, b))) in
+      omega (arith, is)
+
+pub ruleset empty = (nat_tests, common_steps, no-waits, none-some)
+
+-- ---- what a worker's failure makes of its claims, one row after another
+
+module _ {E : Type 0} {g : Ghosts E} (v : ℕ) where
+  -- the next row is failed; or there is none
+  pub row-fails : (n : ℕ) (first rows : List ((ℕ × ℕ) × ArcSerSlot E g)) (s w : ArcSerSlot E g) → slice_get (values_of rows) n ≡ Some s → slot_of w ≡ failed_by v (slot_of s) → ((i : Identity) → IsNamed i s → IsNamed i w)
+      → FailedTo v n first rows → FailedTo v (suc n) first (set_value_at rows n w)
+  row-fails zero (e ∷ es) (m ∷ ms) s w at is own h =
+      let same : m ≡ e = cc in
+      let rest : ms ≡ es = cc in
+      let here : s ≡ e.1 = sym (same_some _ _ at) ∙ ap (λ (x : (ℕ × ℕ) × ArcSerSlot E g). x.1) same in
+      (record { key = ap (λ (x : (ℕ × ℕ) × ArcSerSlot E g). x.0) same; slot = is ∙ ap (λ x. failed_by v (slot_of x)) here; own = λ i named. own i (subst (IsNamed i) (sym here) named) }, rest)
+  row-fails (suc n) (e ∷ es) (m ∷ ms) s w at is own (row, rest) = (row, row-fails n es ms s w at is own rest)
+  row-fails n first rows s w at is own h = grind (arith, nat_tests, none-some)
+
+  pub no-row : (n : ℕ) (first rows : List ((ℕ × ℕ) × ArcSerSlot E g)) → slice_get (values_of rows) n ≡ None → FailedTo v n first rows → FailedTo v (suc n) first rows
+  no-row (suc n) (e ∷ es) (m ∷ ms) none (row, rest) = (row, no-row n es ms none rest)
+  no-row n first rows none h = grind (arith, nat_tests, none-some)
+
+  -- once each row is failed
+  pub all-failed : (n : ℕ) (first rows : List ((ℕ × ℕ) × ArcSerSlot E g)) (q : ℕ × ℕ) → length first ≤ n → FailedTo v n first rows
+      → option_map slot_of (lookup (is_same q) rows) ≡ after_failure v (option_map slot_of (lookup (is_same q) first))
+  all-failed zero [] rows q many h = rw h refl
+  all-failed zero (e ∷ es) rows q many h = absurd (omega (arith, many))
+  all-failed (suc n) [] rows q many h = rw h refl
+  all-failed (suc n) (e ∷ es) [] q many h = absurd h
+  all-failed (suc n) (e ∷ es) (f ∷ fs) q many (row, rest) = let more = all-failed n es fs q (omega (arith, many)) rest in rw row.key (grind (arith, nat_tests, row.slot, more))
+
+  pub still-named : (n : ℕ) (first rows : List ((ℕ × ℕ) × ArcSerSlot E g)) (i : Identity) (q : ℕ × ℕ) → FailedTo v n first rows → ((s : ArcSerSlot E g) → lookup (is_same q) first ≡ Some s → IsNamed i s)
+      → (s : ArcSerSlot E g) → lookup (is_same q) rows ≡ Some s → IsNamed i s
+  still-named zero first rows i q h named s there = named s (sym (ap (lookup (is_same q)) h) ∙ there)
+  still-named (suc n) [] rows i q h named s there = absurd (none-some s (sym (ap (lookup (is_same q)) h) ∙ there))
+  still-named (suc n) (e ∷ es) [] i q h named s there = absurd h
+  still-named (suc n) (e ∷ es) (f ∷ fs) i q (row, rest) named s there = by (still-named n es fs i q rest) (is_same q e.0) refl (sym (ap (λ k. cond (is_same q k) (Some f.1) (lookup (is_same q) fs)) row.key) ∙ there)
+    where
+      by : (((x : ArcSerSlot E g) → lookup (is_same q) es ≡ Some x → IsNamed i x) → (x : ArcSerSlot E g) → lookup (is_same q) fs ≡ Some x → IsNamed i x)
+          → (b : Bool) → is_same q e.0 ≡ b → cond b (Some f.1) (lookup (is_same q) fs) ≡ Some s → IsNamed i s
+      by more true at is = subst (IsNamed i) (same_some _ _ is) (row.own i (named e.1 (ap (λ b. cond b (Some e.1) (lookup (is_same q) es)) at)))
+      by more false at is = more (λ x was. named x (ap (λ b. cond b (Some e.1) (lookup (is_same q) es)) at ∙ was)) s is
+
+pub failure-less : (v : ℕ) (o : Option Slot) (w : ℕ) → open_worker (after_failure v o) ≡ Some w → open_worker o ≡ Some w
+failure-less v o w e = grind (arith, nat_tests, outcome-less)
+
+pub ruleset failing = (no-row, all-failed)

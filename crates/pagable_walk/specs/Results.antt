@@ -1,7 +1,6 @@
 -- Finite trees of results. Each value was written in some environment of the caller's type: a table of claims doesn't name one.
-use Rattle.std.specs.Prelude.{ℕ, ◌≡◌, List, [], ◌∷◌}
-use Rattle.{pagable_model.specs.{Blob.key_of, Merkle.blob_of}, pagable_world.specs.{Kinds.identity_of, Plain.{ArcRef, Identity, type_of}, World.Written}}
-use Rattle.pagable_world.specs.World.{HasForm, Values}
+use Rattle.std.specs.Prelude.{List, [], ℕ, ◌∷◌, ◌≡◌}
+use Rattle.{pagable_model.specs.{Blob.key_of, Merkle.blob_of}, pagable_world.specs.{Kinds.identity_of, Plain.{ArcRef, Identity, type_of}, World.{HasForm, Values, Written}}}
 
 -- some value of the identity's type has this form in some environment: these bytes, with these references in their order
 pub record HasFormOf {N E : Type 0} (values : E → Values N) (i : Identity) (written : Written) : Type 0 where

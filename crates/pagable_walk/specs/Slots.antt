@@ -6,7 +6,6 @@ use Rattle.{pagable_world.specs.{World.{no_result, published, failed, SameShelf,
 use Rattle.{std.specs.{Arc.arc_value, Option.option_map}, pagable_walk.specs.declared.slots.{ArcSerSlot.ArcSerSlot, Outcome.Outcome, Standing.Standing}}
 use Rattle.pagable_world.specs.World as world
 
--- whether kind and node are the same
 abbrev pub is_same : ℕ × ℕ → ℕ × ℕ → Bool
 is_same x y = nat_eq x.0 y.0 && nat_eq x.1 y.1
 
@@ -14,7 +13,6 @@ is_same x y = nat_eq x.0 y.0 && nat_eq x.1 y.1
 abbrev pub written_of : SerializedData → Written
 written_of d = record { bytes = d.bytes.items; references = d.arcs.items }
 
--- the keys and identities of results
 abbrev pub keys_of : {E : Type 0} {g : Ghosts E} → List (SlotResult E g) → List ℕ
 keys_of xs = map (λ r. r.key) xs
 
@@ -32,7 +30,6 @@ failed_by v slot = if nat_eq slot.worker v then with_outcome failed slot else sl
 abbrev pub after_failure : ℕ → Option Slot → Option Slot
 after_failure v slot = if_there (λ (s : Slot). Some (failed_by v s)) None slot
 
--- a slot that was just claimed
 abbrev pub claimed_by : ℕ → Slot
 claimed_by v = record { worker = v; written = None; outcome = no_result }
 
@@ -95,7 +92,6 @@ open_worker slot = if_there (λ (s : Slot). if is_open_outcome s.outcome then So
 abbrev pub Changes : (Slot → Slot) → (Identity → Option Slot) → Identity → (Identity → Option Slot) → Type 0
 Changes f old i new = SlotIs old i (if_there (λ (s : Slot). Some (f s)) None (old i)) new
 
--- whom the worker waits for
 pub record WaitsFor (s : Shelf) (u w : ℕ) : Type 0 where
   pub i : Identity
   pub waits : s.waits u ≡ Some i

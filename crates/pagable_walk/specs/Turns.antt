@@ -4,7 +4,7 @@ use Rattle.{pagable_model.specs.declared.{error.Error.Error, numbers.{ArcRef.Arc
 use Rattle.pagable_world.specs.{World.{Written, Values, Seen, seen_as, row_at, type_at}, Workers.{Site, WalkDoes, WorkerEnds, give_known, failing, failing_by, answer_after, is_counted}, Access.Called}
 use Rattle.pagable_world.specs.{Access.{WalkStep, WorkerRun}, Kinds.{is_pinning, owner_worker, identity_of}, Pager.{PagerState, WellFormed, Moves, TodoBrings, TookWrites}}
 use Rattle.{pagable_world.specs.declared.{events.{Claim.Claim, Took.Took, WorkerAnswer.WorkerAnswer}, handles.{HandleRow.HandleRow, Owner.Owner}}, pagable_loads.specs.Frames.IsLoadOf}
-use Rattle.{pagable_world.specs.Plain.{Blob, type_of, longest_path}, pagable_loads.specs.{Telling.{Acting, as_caller}, declared.reading.Reading.Reading as Own}, pagable_laws.specs.KeyRuns.StandsAt}
+use Rattle.{pagable_laws.specs.TreeSteps.StandsAt, pagable_loads.specs.{Telling.{Acting, as_caller}, declared.reading.Reading.Reading as Own}, pagable_world.specs.Plain.{Blob, longest_path, type_of}}
 use Rattle.{pagable_core.specs.declared.context.writing.SerializedData.SerializedData, pagable_walk.specs.{Slots.written_of, Tasks.{IsPlain, todo_of, todos}, declared.results.Trees.Ghosts}}
 use Rattle.pagable_walk.specs.declared.{table.Found.Found, tasks.{Moved.Moved, Task.Task, Turn.Turn, Waiting.Waiting}}
 

@@ -1,10 +1,9 @@
 //! A worker's turns at what it has written: its blob is stored, its key set and published, and its handles given up.
 
-ghost use Rattle.std.specs.{Arc.arc_value, Prelude.{◌≡◌, ◌∷◌, ℕ, IfOk, IfErr, length}};
-ghost use Rattle.{pagable_core.specs.Data.blob_of, pagable_model.specs.{Blob.key_of, Merkle.blob_of as blob_over}};
-ghost use Rattle.{pagable_world.specs.World.{Shelf, answer_of_fault, to_release, to_set}, pagable_loads.specs.Telling.{Acts, values_at}};
-ghost use Rattle.pagable_walk.specs.{Due.LeadsOn, Tasks.{AwaitsLow, IsWay, fault_of, todos, waiting_todo}, Turns.{TurnsTo, plan}};
-ghost use Rattle.pagable_walk.specs.{Writing.{Stores, IsStored, named_by, GoesBack}, Slots.{keys_of, written_of}};
+ghost use Rattle.std.specs.{Arc.arc_value, Prelude.{IfErr, IfOk, length, ℕ, ◌∷◌, ◌≡◌}};
+ghost use Rattle.{pagable_core.specs.Data.blob_of, pagable_loads.specs.Telling.{Acts, values_at}, pagable_model.specs.{Blob.key_of, Merkle.blob_of as blob_over}, pagable_walk.specs.Due.LeadsOn};
+ghost use Rattle.pagable_walk.specs.{Slots.{keys_of, written_of}, Tasks.{AwaitsLow, IsWay, fault_of, todos, waiting_todo}, Turns.{TurnsTo, plan}, Writing.{GoesBack, IsStored, Stores, named_by}};
+ghost use Rattle.pagable_world.specs.World.{Shelf, answer_of_fault, to_release, to_set};
 
 use crate::stack::{give, refuse};
 use crate::tasks::{Done, Moved, Node, Task, Turn, Waiting, named};
@@ -22,11 +21,8 @@ fn blob<E: Trees>(alloc: Global, waiting: &Waiting<E>) -> Result<PagableData, Er
     ensures blob { IfOk result (λ blob. blob_of blob ≡ blob_over (written_of (arc_value waiting.now.written)).bytes (keys_of waiting.now.children.items)) }
     ensures only { IfErr result (λ e. e ≡ Error.OutOfMemory) }
 {
-    let arcs: Vec<DataKey> = waiting
-        .children
-        .iter()
-        .map(|found| found.key)
-        .collect(alloc)?;
+    let children = &waiting.children;
+    let arcs = children.iter().map(|found| found.key).collect(alloc)?;
     let bytes = Vec::from_slice(alloc, waiting.written.bytes.as_slice())?;
     Ok(PagableData { bytes, arcs })
 }
@@ -47,14 +43,11 @@ where
     access.store(alloc, blob)
 }
 
-// What a node's blob names.
 fn named_by(node: &Option<Node>) -> Option<Identity>
     ensures { result ≡ named_by node.now }
 {
-    match node {
-        Some(node) => Some(named(node.reference)),
-        None => None,
-    }
+    let node = (*node)?;
+    Some(named(node.reference))
 }
 
 // The result of a node whose blob was stored is known: its key is set next. That of an item is answered.
@@ -79,7 +72,7 @@ where
 }
 
 /// Stores the blob of a node or an item whose references are all done.
-#[tactic(auto, using(crate::proofs::Closing::finishing))]
+#[tactic(auto, using(crate::proofs::Turning::finishing))]
 pub fn finish<E: Env, A: WorkerAccess<E>>(
     access: &mut A,
     alloc: Global,
@@ -109,7 +102,7 @@ where
 }
 
 /// Sets the key of a node whose blob was stored.
-#[tactic(auto, using(crate::proofs::Closing::releasing))]
+#[tactic(auto, using(crate::proofs::Turning::releasing))]
 pub fn set_key<E: Env, A: WorkerAccess<E>>(
     access: &mut A,
     path: &mut Vec<Waiting<E>>,
@@ -139,7 +132,7 @@ where
 }
 
 /// Gives up the worker's handles of a node that is done. Its result goes to what waits for it; where nothing does, its key is answered.
-#[tactic(auto, using(crate::proofs::Closing::releasing, crate::proofs::Ways::ways))]
+#[tactic(auto, using(crate::proofs::Turning::releasing, crate::proofs::Stacks::ways))]
 pub fn release<E: Env, A: WorkerAccess<E>>(
     access: &mut A,
     worker: WorkerNumber,
@@ -170,7 +163,7 @@ where
 }
 
 /// An entry goes back to the list, as far as the list can take it.
-#[tactic(auto, using(crate::proofs::Closing::backs))]
+#[tactic(auto, using(crate::proofs::Turning::backs))]
 pub fn give_back<E: Env, A: WorkerAccess<E>>(access: &mut A, back: Option<HandleNumber>)
 where
     E::Node: NodeSet<E>,

@@ -1,10 +1,9 @@
 //! The slots of claimed identities, and whom a waiting worker waits for; claims of a lent table, and what is known of them.
 
-ghost use Rattle.std.specs.{Arc.arc_value, Prelude.{◌≡◌, ℕ, Some, OnOk, OnErr, IfOk, None, IfErr}};
-ghost use Rattle.{pagable_model.specs.declared.numbers.Identity.Identity as Named, pagable_world.specs.Workers.{with_outcome, with_slot, with_wait, IsOpenSlot, ComesToEnd, with_changed_slot}};
-ghost use Rattle.{pagable_world.specs.{Events.no_shelf, Workers.with_failed, World.{published, failed, Slot, SameShelf}}, pagable_walk.specs.Slots.{written_of, claimed_by, slot_of, IsNamed}};
-ghost use Rattle.pagable_walk.specs.{Slots.{AreNamed, slots_in, Stands, Leads, FailsAt, failed_by, after_failure, with_written, ClaimsThere, RefusesClaim, Would}, Table.shelf_of};
-ghost use Rattle.pagable_walk.specs.Table.{found_as, IsFoundOf};
+ghost use Rattle.std.specs.{Arc.arc_value, Prelude.{IfErr, IfOk, None, OnErr, OnOk, Some, ℕ, ◌≡◌}};
+ghost use Rattle.pagable_world.specs.{Workers.{with_changed_slot, with_failed, with_slot, IsOpenSlot, with_wait, ComesToEnd, with_outcome}, World.{Slot, failed, SameShelf, published}};
+ghost use Rattle.{pagable_world.specs.Events.no_shelf, pagable_model.specs.declared.numbers.Identity.Identity as Named, pagable_walk.specs.{Table.{IsFoundOf, shelf_of, found_as}, Slots.written_of}};
+ghost use Rattle.pagable_walk.specs.Slots.{AreNamed, with_written, after_failure, RefusesClaim, ClaimsThere, claimed_by, slot_of, Would, IsNamed, Stands, FailsAt, failed_by, slots_in, Leads};
 
 use crate::{Found, SlotResult, SlotTable, Trees};
 use indexmap::IndexMap;
@@ -58,7 +57,6 @@ impl<E: Trees> ArcSerSlot<E> {
         }
     }
 
-    // What was written of its node.
     fn set_written(&mut self, written: Arc<SerializedData>)
         ensures slot { slot_of self.new ≡ with_written (written_of (arc_value written)) (slot_of self.old) }
         ensures own { (i : Named) → IsNamed i self.old → IsNamed i self.new }
@@ -116,18 +114,17 @@ pub fn look_up<E: Trees>(
 }
 
 // The claim of this place is failed, if it is this worker's and has no result yet.
-#[tactic(auto, using(crate::proofs::Failing::failing))]
+#[tactic(auto, using(crate::proofs::Waits::failing))]
 fn fail_at<E: Trees>(slots: &mut IndexMap<(u32, u64), ArcSerSlot<E>>, place: usize, worker: u64)
     ensures { FailsAt worker place slots.old.entries slots.new.entries }
 {
-    match slots.get_index_mut(place) {
-        Some(slot) => slot.fail_of(worker),
-        None => {}
+    if let Some(slot) = slots.get_index_mut(place) {
+        slot.fail_of(worker);
     }
 }
 
 /// A worker's claims without a result are failed. It takes no memory.
-#[tactic(auto, using(crate::proofs::Failing::failing))]
+#[tactic(auto, using(crate::proofs::Waits::failing))]
 pub fn fail_all<E: Trees>(slots: &mut IndexMap<(u32, u64), ArcSerSlot<E>>, worker: u64)
     requires { AreNamed slots.old }
     ensures slots { (j : Named) → slots_in slots.new j ≡ after_failure worker (slots_in slots.old j) }
@@ -217,7 +214,7 @@ impl<E: Trees> SlotTable<E> {
     }
 
     /// A table of no claims. It takes no memory.
-    #[tactic(auto, using(crate::proofs::Ends::empty))]
+    #[tactic(auto, using(crate::proofs::Waits::empty))]
     pub fn new(alloc: Global) -> SlotTable<E>
         ensures { SameShelf no_shelf (shelf_of result) }
     {
@@ -242,7 +239,6 @@ impl<E: Trees> SlotTable<E> {
         let judged = self.judge(worker, identity, place);
         self.stop_waiting(worker);
         match judged {
-            Err(e) => Err(e),
             Ok(Found::Claimed) => {
                 self.take(worker, identity)?;
                 Ok(Found::Claimed)
@@ -251,8 +247,7 @@ impl<E: Trees> SlotTable<E> {
                 self.wait_for(worker, identity)?;
                 Ok(Found::Waiting)
             }
-            Ok(Found::Known(found)) => Ok(Found::Known(found)),
-            Ok(Found::AlreadyFailed) => Ok(Found::AlreadyFailed),
+            other => other,
         }
     }
 
@@ -260,9 +255,8 @@ impl<E: Trees> SlotTable<E> {
     pub fn set_written(&mut self, identity: Identity, written: Arc<SerializedData>)
         ensures { SameShelf (with_changed_slot (shelf_of self.old) identity (with_written (written_of (arc_value written)))) (shelf_of self.new) }
     {
-        match self.slots.get_mut(&(identity.kind.0, identity.node.0)) {
-            Some(slot) => slot.set_written(written),
-            None => {}
+        if let Some(slot) = self.slots.get_mut(&(identity.kind.0, identity.node.0)) {
+            slot.set_written(written);
         }
     }
 
@@ -270,12 +264,9 @@ impl<E: Trees> SlotTable<E> {
     pub fn set_success(&mut self, found: SlotResult<E>)
         ensures { SameShelf (with_changed_slot (shelf_of self.old) found.identity (with_outcome (published found.key found.height))) (shelf_of self.new) }
     {
-        match self
-            .slots
-            .get_mut(&(found.identity.kind.0, found.identity.node.0))
-        {
-            Some(slot) => slot.set_success(found),
-            None => {}
+        let identity = found.identity;
+        if let Some(slot) = self.slots.get_mut(&(identity.kind.0, identity.node.0)) {
+            slot.set_success(found);
         }
     }
 

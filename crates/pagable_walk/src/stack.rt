@@ -1,9 +1,8 @@
 //! A worker's path: what was written and waits for the next of its references.
 
-ghost use Rattle.std.specs.{Prelude.{◌≡◌, ◌≤◌, ◌<◌, ◌+◌, ◌*◌, ◌∷◌, ◌++◌, [], IfOk, IfErr, OnErr, length, vec_len, vec_capacity}, Arc.arc_value};
-ghost use Rattle.pagable_world.specs.Plain.{longest_path};
-ghost use Rattle.{pagable_world.specs.{Workers.{place_below, settle, give_known}, World.was_refused}, pagable_walk.specs.Tasks.{AwaitsLow, Gives, IsPlain, TakesNext, fault_of, place_of, raised}};
-ghost use Rattle.pagable_walk.specs.{Tasks.{back_of, fails, todo_of, todos, waiting_todo, waits_as}, Due.due, Slots.{keys_of, written_of}};
+ghost use Rattle.std.specs.{Arc.arc_value, Prelude.{IfErr, IfOk, OnErr, [], length, vec_capacity, vec_len, ◌*◌, ◌++◌, ◌+◌, ◌<◌, ◌∷◌, ◌≡◌, ◌≤◌}};
+ghost use Rattle.pagable_walk.specs.{Slots.{keys_of, written_of}, Tasks.{waits_as, TakesNext, place_of, todo_of, fails, waiting_todo, fault_of, raised, AwaitsLow, todos, Gives, IsPlain, back_of}};
+ghost use Rattle.{pagable_walk.specs.Due.due, pagable_world.specs.{World.was_refused, Plain.longest_path, Workers.{give_known, settle, place_below}}};
 
 use crate::tasks::{Done, Node, Task, Waiting};
 use crate::{PageOutError, Trees};
@@ -17,7 +16,6 @@ pub fn place_below(place: u64, kind: Kind) -> u64
     if kind.0 % 3 == 1 { 0 } else { place + 1 }
 }
 
-// The place of what waits for references.
 fn place_of(node: &Option<Node>) -> u64
     ensures { result ≡ place_of node.now }
 {
@@ -50,14 +48,10 @@ fn raised(node: Option<Node>, kind: Kind, below: u64) -> Option<Node>
     requires { below ≤ longest_path }
     ensures { result ≡ raised kind.0 below node }
 {
-    let Some(node) = node else {
-        return None;
-    };
+    let node = node?;
     Some(Node {
-        reference: node.reference,
-        place: node.place,
-        through: node.through,
         height: node.height.max(place_below(below, kind)),
+        ..node
     })
 }
 
@@ -67,16 +61,12 @@ fn with_result<E: Trees>(waiting: Waiting<E>, done: Done<E>) -> Waiting<E>
     requires { TakesNext waiting.node (written_of (arc_value waiting.written)) (keys_of waiting.children.items) done.reference done.found.height }
     ensures { waiting_todo result ≡ waits_as (raised done.reference.kind.0 done.found.height waiting.node) (written_of (arc_value waiting.written)) (keys_of waiting.children.items ++ done.found.key ∷ []) }
 {
-    let Waiting {
-        node,
-        written,
-        mut children,
-    } = waiting;
-    let node = raised(node, done.reference.kind, done.found.height);
+    let node = raised(waiting.node, done.reference.kind, done.found.height);
+    let mut children = waiting.children;
     children.push_reserved(done.found);
     Waiting {
         node,
-        written,
+        written: waiting.written,
         children,
     }
 }

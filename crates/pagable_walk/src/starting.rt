@@ -1,8 +1,7 @@
 //! What a worker does first.
 
-ghost use Rattle.std.specs.{Arc.arc_value, Prelude.{◌≡◌, ◌∷◌, IfOk, IfErr}};
-ghost use Rattle.pagable_world.specs.{Kinds.identity_of, Workers.first_todo, World.{of_item, of_entry}};
-ghost use Rattle.pagable_walk.specs.{Slots.written_of, Tasks.{IsPlain, IsWay, todo_of, todos}};
+ghost use Rattle.std.specs.{Arc.arc_value, Prelude.{IfErr, IfOk, ◌∷◌, ◌≡◌}};
+ghost use Rattle.{pagable_walk.specs.{Slots.written_of, Tasks.{IsPlain, IsWay, todo_of, todos}}, pagable_world.specs.{Kinds.identity_of, Workers.first_todo, World.{of_entry, of_item}}};
 
 use crate::Trees;
 use crate::stack::settle;

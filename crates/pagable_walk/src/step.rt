@@ -18,7 +18,7 @@ use std::alloc::Global;
 use std::sync::Arc;
 
 // Does what is to be done next: one task, by one step of the access at most.
-#[tactic(auto, using(crate::proofs::Closing::turning))]
+#[tactic(auto, using(crate::proofs::Turning::turning))]
 fn turn<E: Env, A: WorkerAccess<E>>(
     access: &mut A,
     alloc: Global,
@@ -120,7 +120,7 @@ fn left_after(left: u64, took: &Took<Arc<SerializedData>>) -> u64
 }
 
 // A step of a walk to which so many claims are left. Where none is, a claim is refused as one for which memory is wanting.
-#[tactic(auto, using(crate::proofs::Dues::dues))]
+#[tactic(auto, using(crate::proofs::Stacks::dues))]
 fn step_within<E: Env, A: WorkerAccess<E>>(
     access: &mut A,
     alloc: Global,
@@ -160,7 +160,7 @@ where
 
 /// Makes a worker's steps from its task and its path on, up to its answer. It waits for no other worker, and makes no more claims than there are numbers: a claim that would
 /// have to wait, or that is one too many, is refused as one for which memory is wanting.
-#[tactic(auto, using(crate::proofs::Joined::joining))]
+#[tactic(auto, using(crate::proofs::Turning::joining))]
 pub fn run<E: Env, A: WorkerAccess<E>>(
     access: &mut A,
     alloc: Global,

@@ -1,8 +1,7 @@
 //! What a page-out worker has still to do: the task at hand, and the path of what waits below it.
 
-ghost use Rattle.std.specs.{Arc.arc_value, Prelude.{◌≡◌, ◌≤◌, ◌+◌, Some, length, map, take, vec_capacity}};
-ghost use Rattle.{pagable_world.specs.{Kinds.identity_of, Plain.longest_path}, pagable_walk.specs.Slots.ids_of};
-ghost use Rattle.pagable_walk.specs.{Slots.written_of, declared.tasks.Node.Node as OfNode};
+ghost use Rattle.std.specs.{Arc.arc_value, Prelude.{Some, length, map, take, vec_capacity, ◌+◌, ◌≡◌, ◌≤◌}};
+ghost use Rattle.{pagable_walk.specs.{Slots.{ids_of, written_of}, declared.tasks.Node.Node as OfNode}, pagable_world.specs.{Kinds.identity_of, Plain.longest_path}};
 
 use crate::{PageOutError, SlotResult, Trees};
 use pagable_core::SerializedData;

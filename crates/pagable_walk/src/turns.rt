@@ -1,11 +1,10 @@
 //! A worker's turns at a reference that it has come to: it claims what the reference names, pins it, by a load where it is needed, and writes its value.
 
-ghost use Rattle.std.specs.{Prelude.{◌≡◌, ◌≤◌, ◌+◌, ◌*◌, ◌∷◌, ℕ, List, length, ◌<◌, IfOk, IfErr, OnOk, vec_len, vec_capacity}, Arc.arc_value};
-ghost use Rattle.pagable_world.specs.Plain.{longest_path};
-ghost use Rattle.pagable_world.specs.{Workers.{claim_fault, is_counted_claim, Claims}, World.{Core, Shelf, Todo, to_start, to_pin, to_load, seen_as, to_write, to_finish}, Kinds.identity_of};
-ghost use Rattle.{pagable_loads.specs.{Frames.reading_of, Telling.{Acts, Tells, values_at}, Working.fault_in}, pagable_walk.specs.{Due.{due, most, LeadsOn}, Table.{shelf_of, found_as}, Tasks.Awaits}};
-ghost use Rattle.pagable_walk.specs.{Tasks.{IsWay, todo_of, todos, waiting_todo}, Turns.{site, claim_todo, ClaimFits, ClaimLeaves, TurnsTo, plan}, Results.HasFormOf, Slots.written_of, Writing.IsForm};
-ghost use Rattle.pagable_walk.specs.Writing.{WriteRefused, Forms, just_open};
+ghost use Rattle.std.specs.{Arc.arc_value, Prelude.{IfErr, IfOk, List, OnOk, length, vec_capacity, vec_len, ℕ, ◌*◌, ◌+◌, ◌<◌, ◌∷◌, ◌≡◌, ◌≤◌}};
+ghost use Rattle.pagable_world.specs.{Plain.longest_path, World.{to_load, seen_as, to_pin, Shelf, Todo, to_finish, Core, to_write, to_start}, Workers.{Claims, is_counted_claim, claim_fault}};
+ghost use Rattle.{pagable_world.specs.Kinds.identity_of, pagable_walk.specs.{Results.HasFormOf, Turns.{claim_todo, plan, ClaimLeaves, site, ClaimFits, TurnsTo}, Due.{due, LeadsOn, most}}};
+ghost use Rattle.pagable_walk.specs.{Slots.written_of, Table.{shelf_of, found_as}, Writing.{IsForm, Forms, just_open, WriteRefused}, Tasks.{waiting_todo, IsWay, Awaits, todos, todo_of}};
+ghost use Rattle.pagable_loads.specs.{Frames.reading_of, Working.fault_in, Telling.{Tells, Acts, values_at}};
 
 use crate::stack::{fail, give_known, refuse, settle};
 use crate::tasks::{Done, Moved, Node, Task, Turn, Waiting, named};
@@ -66,7 +65,7 @@ pub fn counts<E: Trees>(claim: &Result<Found<E>, Error>) -> bool
 }
 
 /// What is done after a claim.
-#[tactic(auto, using(crate::proofs::Ways::ways))]
+#[tactic(auto, using(crate::proofs::Stacks::ways))]
 pub fn after_claim<E: Trees>(
     path: &mut Vec<Waiting<E>>,
     reference: ArcRef,
@@ -90,7 +89,7 @@ pub fn after_claim<E: Trees>(
 }
 
 /// Pins what was claimed, or begins a load of it.
-#[tactic(auto, using(crate::proofs::Pinning::pinning))]
+#[tactic(auto, using(crate::proofs::Turning::pinning))]
 pub fn pin<E: Env, A: WorkerAccess<E>>(
     access: &mut A,
     alloc: Global,
@@ -131,7 +130,7 @@ where
 }
 
 /// Makes the next step of the load of what was claimed.
-#[tactic(auto, using(crate::proofs::Pinning::pinning))]
+#[tactic(auto, using(crate::proofs::Turning::pinning))]
 pub fn load<E: Env, A: WorkerAccess<E>>(
     access: &mut A,
     alloc: Global,
@@ -268,10 +267,8 @@ where
     if path.reserve(1).is_err() {
         return Err(Error::OutOfMemory);
     }
-    match form(access, alloc, reference, pin) {
-        Ok(data) => kept(alloc, reference, place, through, data),
-        Err(e) => Err(e),
-    }
+    let data = form(access, alloc, reference, pin)?;
+    kept(alloc, reference, place, through, data)
 }
 
 /// Writes the value that is pinned, and comes to its references.

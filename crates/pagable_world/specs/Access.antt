@@ -1,12 +1,11 @@
 -- Whole operations over an access to a pager and a table, which may tell its state: a pin, a reading, a page-out of an item and of the list. Each is
 -- a run of the steps of one load or of one worker, up to its answer.
-use Rattle.std.specs.Prelude.{◌≡◌, ℕ, List, [], ◌∷◌, ◌+◌, false, Option, Some, None, Result, Ok, IfOk, IfErr, slice_get, ◌⊎◌, Err}
-use Rattle.pagable_world.specs.Plain.{Beginning, Pinning, Mode, Identity, Error, OptionalDataKey, HandleNumber, LoadNumber, Tree, Owner, HandleRow, LoadAnswer, Took, WorkerAnswer}
-use Rattle.pagable_world.specs.{Kinds.{HasKinds, HasNoKinds}, World.{Written, Frame, Values, Core, Shelf, Slot, Reading, Todo, of_item, row_at}}
-use Rattle.pagable_world.specs.{World.{key_at, Alike, SameShelf, Seen, IsLawful, IsSettled}, Calls.{PinCall, UnpinCall, ReleaseCall, TakeCall}, LoadCalls.{BeginCall, BeginKeyCall}}
-use Rattle.pagable_world.specs.{Loads.{ReadingDoes, gone_on}, Workers.{Site, WalkDoes, is_open_slot, first_todo, fresh, answer_after}, Events.{Ends, IsEntry}}
-use Rattle.pagable_world.specs.{Events.{entry_task, with_entry_taken, with_worker, reading_of_load, no_shelf}, Pager.{PagerState, WellFormed, Moves, ReadingBrings, TodoBrings, TookWrites}}
-use Rattle.pagable_world.specs.{Pager.{ValueStands, Represents, SameTrees}, Runs.{ReadsItsTypes, HoldsSettled, TakesWell}, Headline.{ReadIsRight}}
+use Rattle.std.specs.Prelude.{[], Err, false, IfErr, IfOk, List, None, Ok, Option, Result, slice_get, Some, ℕ, ◌+◌, ◌∷◌, ◌≡◌, ◌⊎◌}
+use Rattle.pagable_world.specs.{Calls.{PinCall, ReleaseCall, TakeCall, UnpinCall}, Events.{Ends, entry_task, IsEntry, no_shelf, reading_of_load, with_entry_taken, with_worker}, Headline.ReadIsRight}
+use Rattle.pagable_world.specs.{Kinds.{HasKinds, HasNoKinds}, LoadCalls.{BeginCall, BeginKeyCall}, Loads.{gone_on, ReadingDoes}, Pager.{Moves, PagerState, ReadingBrings, Represents, SameTrees}}
+use Rattle.pagable_world.specs.{Pager.{TodoBrings, TookWrites, ValueStands, WellFormed}, Plain.{Beginning, Error, HandleNumber, HandleRow, Identity, LoadAnswer, LoadNumber, Mode, OptionalDataKey}}
+use Rattle.pagable_world.specs.{Plain.{Owner, Pinning, Took, Tree, WorkerAnswer}, Runs.{HoldsSettled, ReadsItsTypes, TakesWell}, Workers.{answer_after, first_todo, fresh, is_open_slot, Site}}
+use Rattle.pagable_world.specs.{Workers.WalkDoes, World.{Alike, Core, Frame, IsLawful, IsSettled, key_at, of_item, Reading, row_at, SameShelf, Seen, Shelf, Slot, Todo, Values, Written}}
 
 -- the pager and the one table of an access
 pub record AccessState (N E : Type 0) : Type 0 where

@@ -1,11 +1,10 @@
 -- The calls on handles and nodes: what each does to the pager's plain world, and why it is refused. The calls on the cache and the storage.
-use Rattle.std.specs.Prelude.{ℕ, ◌≡◌, ◌+◌, ◌-◌, ◌<◌, ◌≤◌, ◌==◌, ◌||◌, ◌⊎◌, Bool, true, false, not, List, [], ◌∷◌, ◌++◌, length, min, Option, Some, None, Result, Ok, Err, IfOk, IfErr, slice_get, ◌&&◌}
-use Rattle.std.specs.{Prelude.{if◌then◌else◌, is_some, nat_lt}, List.remove}
-use Rattle.pagable_model.specs.Stored.{Adds, RefusesFetch, RefusesStore, RefusesFlush}
-use Rattle.pagable_world.specs.Plain.{Error, OptionalDataKey, ArcRef, HandleNumber, NodeNumber, Mode, Owner, HandleRow, Pinning, changed, updated, Kind, Blob, type_of, times, if_there}
-use Rattle.pagable_world.specs.{Kinds.{is_loose, is_unpinned, is_pinned, any_mode, is_handle, owner_value, pins, mode_of, fits_mode}, World.{Core, Cell, greatest, row_at, type_at, key_at, is_here}}
-use Rattle.pagable_world.specs.{World.{Alike, usable}, Cascade.{Falls, FallsAnyhow, nobody, only_handle}, Refusals.{earlier, where_so, spent, AreHandlesFull, IsListFull, Owns, live_fault}}
-use Rattle.pagable_world.specs.Refusals.{handle_fault, references_fault, Refused, refused_if, is_type}
+use Rattle.std.specs.{List.remove, Prelude.{[], Bool, Err, false, IfErr, IfOk, if◌then◌else◌, is_some, length, List, min, nat_lt, None, not, Ok, Option, Result, slice_get, Some, true, ℕ, ◌&&◌, ◌++◌}}
+use Rattle.std.specs.Prelude.{◌+◌, ◌-◌, ◌<◌, ◌==◌, ◌||◌, ◌∷◌, ◌≡◌, ◌≤◌, ◌⊎◌}
+use Rattle.{pagable_model.specs.Stored.{Adds, RefusesFetch, RefusesFlush, RefusesStore}, pagable_world.specs.{Cascade.{Falls, FallsAnyhow, nobody, only_handle}, Kinds.{any_mode, fits_mode}}}
+use Rattle.pagable_world.specs.{Kinds.{is_handle, is_loose, is_pinned, is_unpinned, mode_of, owner_value, pins}, Plain.{ArcRef, Blob, changed, Error, HandleNumber, HandleRow, if_there, Kind, Mode}}
+use Rattle.pagable_world.specs.{Plain.{NodeNumber, OptionalDataKey, Owner, Pinning, times, type_of, updated}, Refusals.{AreHandlesFull, earlier, handle_fault, is_type, IsListFull, live_fault, Owns}}
+use Rattle.pagable_world.specs.{Refusals.{references_fault, Refused, refused_if, spent, where_so}, World.{Alike, Cell, Core, greatest, is_here, key_at, row_at, type_at, usable}}
 
 abbrev pub row_of : ℕ → NodeNumber → Mode → Owner → HandleRow
 row_of q node mode owner = record { number = record { 0 = q }; node = node; mode = mode; owner = owner }

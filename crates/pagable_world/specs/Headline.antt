@@ -1,13 +1,12 @@
 -- The main theorem, a law of chains: what loads and page-outs answer and leave, by trees; and what workers and claims come to.
-use Rattle.std.specs.Prelude.{ℕ, ◌≡◌, ◌≢◌, ◌+◌, ◌≤◌, ◌==◌, true, false, List, [], ◌∷◌, Option, Some, Ok, is_some, Bool, ◌&&◌}
-use Rattle.pagable_model.specs.{declared.data_key.OptionalDataKey.OptionalDataKey, Merkle.{KeyOf, KeyOfItem, TreeForm, IsCanonicalItem}, Canonical.IsCanonicalTree}
-use Rattle.pagable_world.specs.Plain.{Owner, ArcRef, HandleNumber, Identity, Blob, Tree, ReadsTree, Shape, HandleRow, Took, WorkerAnswer, Event, EventReply, Among, times, is_loose_kind, if_there, one}
-use Rattle.pagable_world.specs.{Plain.{Call, Pinning, LoadAnswer, PinStep, Claim, Reply}, Kinds.{identity_of, is_owned_by, owner_worker}}
-use Rattle.pagable_world.specs.World.{OpenLoad, Shelf, Slot, Written, no_result, failed, Reading, Task, of_item, of_entry, Walking, World, row_at, key_at, Values, Seen, IsLawful}
-use Rattle.pagable_world.specs.{Refusals.IsReference, Workers.{IsPublished, is_workers_load}, Events.reading_at}
-use Rattle.pagable_world.specs.Pager.{PagerState, MachineState, world_of, IsMachineWhole, IsIdle, IsReadingOf, ValueStands, StandsFor, kids_of}
-use Rattle.pagable_world.specs.Runs.{ReadsItsTypes, HoldsSettled, Moment, AreMoments, state_after, events_of, replies_of, Fact, TreesAlong}
-use Rattle.pagable_world.specs.Order.{steps_of, InOrder, OnceEach, MetError, IsBounded, HasStepLeft, IsWithinBound, is_claim_of}
+use Rattle.std.specs.Prelude.{[], Bool, false, is_some, List, Ok, Option, Some, true, ℕ, ◌&&◌, ◌+◌, ◌==◌, ◌∷◌, ◌≡◌, ◌≢◌, ◌≤◌}
+use Rattle.pagable_model.specs.{Canonical.IsCanonicalTree, declared.data_key.OptionalDataKey.OptionalDataKey, Merkle.{IsCanonicalItem, KeyOf, KeyOfItem, TreeForm}}
+use Rattle.pagable_world.specs.{Events.reading_at, Kinds.{identity_of, is_owned_by, owner_worker}, Order.{HasStepLeft, InOrder, is_claim_of, IsBounded, IsWithinBound, MetError, OnceEach, steps_of}}
+use Rattle.pagable_world.specs.{Pager.{IsIdle, IsMachineWhole, IsReadingOf, kids_of, MachineState, PagerState, StandsFor, ValueStands, world_of}, Plain.{Among, ArcRef, Blob, Call, Claim, Event}}
+use Rattle.pagable_world.specs.Plain.{EventReply, HandleNumber, HandleRow, Identity, if_there, is_loose_kind, LoadAnswer, one, Owner, Pinning, PinStep, ReadsTree, Reply, Shape, times, Took, Tree}
+use Rattle.pagable_world.specs.{Plain.WorkerAnswer, Refusals.IsReference, Runs.{AreMoments, events_of, Fact, HoldsSettled, Moment, ReadsItsTypes, replies_of, state_after, TreesAlong}}
+use Rattle.pagable_world.specs.{Workers.{is_workers_load, IsPublished}, World.{failed, IsLawful, key_at, no_result, of_entry, of_item, OpenLoad, Reading, row_at, Seen, Shelf, Slot, Task, Values}}
+use Rattle.pagable_world.specs.World.{Walking, World, Written}
 
 -- the node of this handle has a value in memory, which stands for the tree that the node was made with
 pub record GivesTree {N E : Type 0} (v : Values N) (s : PagerState N E) (trees : ℕ → Tree) (k : HandleNumber) : Type 0 where

@@ -1,9 +1,8 @@
 -- A load's steps: a fetch, a lazily read cell or an adoption each, and in the end a pin, an answer or a refusal. What it does next is told by the innermost of its blobs.
-use Rattle.std.specs.Prelude.{ℕ, ◌≡◌, ◌≤◌, ◌<◌, ◌⊎◌, if◌then◌else◌, List, [], ◌∷◌, ◌++◌, length, map, Option, Some, None, Result, Ok, Err, ◌==◌, ◌+◌, slice_get}
-use Rattle.pagable_model.specs.{Reading.{Rest, read_typed}, Standing.{Answer, handles_at}}
-use Rattle.pagable_world.specs.Plain.{Error, ArcRef, Kind, HandleNumber, Blob, Types, type_of, Meaning, Owner, HandleRow, LoadAnswer, is_eager, longest_path, Want}
-use Rattle.pagable_world.specs.World.{Core, Root, of_cell, of_key, OpenLoad, Frame, Reading, row_at, one_more, Alike, Values}
-use Rattle.pagable_world.specs.LoadCalls.{from_cache, from_store, AskCall, AdoptCall, LazyCall, EndCall, HandOverCall, LoadCloses}
+use Rattle.std.specs.Prelude.{[], Err, if◌then◌else◌, length, List, map, None, Ok, Option, Result, slice_get, Some, ℕ, ◌++◌, ◌+◌, ◌<◌, ◌==◌, ◌∷◌, ◌≡◌, ◌≤◌, ◌⊎◌}
+use Rattle.{pagable_model.specs.{Reading.{read_typed, Rest}, Standing.{Answer, handles_at}}, pagable_world.specs.LoadCalls.{AdoptCall, AskCall, EndCall, from_cache, from_store, HandOverCall}}
+use Rattle.pagable_world.specs.{LoadCalls.{LazyCall, LoadCloses}, Plain.{ArcRef, Blob, Error, HandleNumber, HandleRow, is_eager, Kind, LoadAnswer, longest_path, Meaning, Owner, type_of, Types, Want}}
+use Rattle.pagable_world.specs.World.{Alike, Core, Frame, of_cell, of_key, one_more, OpenLoad, Reading, Root, row_at, Values}
 
 -- A reference that was got is answered as its own kind. One that wasn't is refused by a name that tells its kind, and that no reader has as a cause of its own.
 abbrev pub answer_of : Option ArcRef → ℕ → Result ArcRef Error

@@ -1,10 +1,9 @@
 -- What holds besides where each load's and each worker's steps stand together, and of one cache.
-use Rattle.std.specs.Prelude.{ℕ, ◌≡◌, ◌≢◌, ◌<◌, ◌⊎◌, max, true, false, List, [], ◌∷◌, Some, Ok, slice_get}
-use Rattle.pagable_model.specs.{Deep.Kid, Meaning.{pair, variant, followed}, Merkle.TreeForm}
-use Rattle.pagable_world.specs.Plain.{Want, Error, ArcRef, HandleNumber, Identity, Kind, LoadNumber, NodeNumber, Meaning, Shape, Tree, Types, tree, type_of, Owner, HandleRow, Event, EventReply, Among}
-use Rattle.pagable_world.specs.{Plain.{Beginning, longest_path, above, height, deepest_path, LoadAnswer, WorkerAnswer, Reply, Call}, Kinds.fits_mode}
-use Rattle.pagable_world.specs.{World.{Core, OpenLoad, of_cell, Task, of_item, of_entry, Walking, row_at, Values, Seen}, LoadCalls.{from_cache, AskCall, Adopts, LazyCall}, Workers.IsPublished}
-use Rattle.pagable_world.specs.{Pager.{MachineState, IsWhole, IsMachineWhole}, Runs.{Moment, AreMoments, state_after, Fact}}
+use Rattle.std.specs.Prelude.{[], false, List, max, Ok, slice_get, Some, true, ℕ, ◌<◌, ◌∷◌, ◌≡◌, ◌≢◌, ◌⊎◌}
+use Rattle.{pagable_model.specs.{Deep.Kid, Meaning.{followed, pair, variant}, Merkle.TreeForm}, pagable_world.specs.{Kinds.fits_mode, LoadCalls.{Adopts, AskCall, from_cache, LazyCall}}}
+use Rattle.pagable_world.specs.{Pager.{IsMachineWhole, IsWhole, MachineState}, Plain.{above, Among, ArcRef, Beginning, Call, deepest_path, Error, Event, EventReply, HandleNumber, HandleRow, height}}
+use Rattle.pagable_world.specs.{Plain.{Identity, Kind, LoadAnswer, LoadNumber, longest_path, Meaning, NodeNumber, Owner, Reply, Shape, Tree, tree, type_of, Types, Want, WorkerAnswer}, Runs.AreMoments}
+use Rattle.pagable_world.specs.{Runs.{Fact, Moment, state_after}, Workers.IsPublished, World.{Core, of_cell, of_entry, of_item, OpenLoad, row_at, Seen, Task, Values, Walking}}
 
 -- whose turn a moment is; the begin of a load or worker is its first
 pub data Turn : Type 0 where

@@ -1,14 +1,11 @@
 -- The plain types of which the world speaks, from one place; and words on lists, and on functions of a number.
-use Rattle.std.specs.Prelude.{ℕ, ◌≡◌, ◌==◌, ◌||◌, Bool, false, if◌then◌else◌, List, [], ◌∷◌, map, sum_by, Option, Some, None, slice_get}
-pub use Rattle.pagable_model.specs.{Blob.Blob, Deep.{Kid, kind_of_kid, is_shared_kind, is_loose_kind, is_pinned_kind, is_eager, longest_path, above, height, deepest_path}, Meaning.Meaning}
-pub use Rattle.pagable_model.specs.{Shape.Shape, Trees.{Types, type_of, Tree, tree, ReadsTree}, declared.data_key.OptionalDataKey.OptionalDataKey, declared.error.Error.Error}
-pub use Rattle.pagable_model.specs.{declared.numbers.ArcRef.ArcRef, declared.numbers.HandleNumber.HandleNumber, declared.numbers.Identity.Identity, declared.numbers.Kind.Kind}
-pub use Rattle.pagable_model.specs.{declared.numbers.LoadNumber.LoadNumber, declared.numbers.NodeNumber.NodeNumber, declared.numbers.WorkerNumber.WorkerNumber}
-pub use Rattle.pagable_world.specs.{declared.answers.Beginning.Beginning, declared.answers.Pinning.Pinning, declared.calls.Call.Call, declared.calls.Found.Found, declared.calls.Reply.Reply}
-pub use Rattle.pagable_world.specs.{declared.calls.Want.Want, declared.events.Claim.Claim, declared.events.Event.Event, declared.events.EventReply.EventReply, declared.events.LoadAnswer.LoadAnswer}
-pub use Rattle.pagable_world.specs.{declared.events.LoadReply.LoadReply, declared.events.PinStep.PinStep, declared.events.TableNumber.TableNumber, declared.events.Took.Took}
-pub use Rattle.pagable_world.specs.{declared.events.WorkerAnswer.WorkerAnswer, declared.events.WorkerReply.WorkerReply, declared.handles.HandleRow.HandleRow, declared.handles.Owner.Owner}
-pub use Rattle.pagable_world.specs.declared.rows.Mode.{Mode}
+use Rattle.std.specs.Prelude.{[], Bool, false, if◌then◌else◌, List, map, None, Option, slice_get, Some, sum_by, ℕ, ◌==◌, ◌||◌, ◌∷◌, ◌≡◌}
+pub use Rattle.pagable_model.specs.{Blob.Blob, declared.{data_key.OptionalDataKey.OptionalDataKey, error.Error.Error, numbers.{ArcRef.ArcRef, HandleNumber.HandleNumber, Identity.Identity, Kind.Kind}}}
+pub use Rattle.pagable_model.specs.{declared.numbers.{LoadNumber.LoadNumber, NodeNumber.NodeNumber, WorkerNumber.WorkerNumber}, Deep.{above, deepest_path, height, is_eager, is_loose_kind}}
+pub use Rattle.pagable_model.specs.{Deep.{is_pinned_kind, is_shared_kind, Kid, kind_of_kid, longest_path}, Meaning.Meaning, Shape.Shape, Trees.{ReadsTree, Tree, tree, type_of, Types}}
+pub use Rattle.pagable_world.specs.declared.{answers.{Beginning.Beginning, Pinning.Pinning}, calls.{Call.Call, Found.Found, Reply.Reply, Want.Want}, events.{Claim.Claim, Event.Event}}
+pub use Rattle.pagable_world.specs.declared.events.{EventReply.EventReply, LoadAnswer.LoadAnswer, LoadReply.LoadReply, PinStep.PinStep, TableNumber.TableNumber, Took.Took, WorkerAnswer.WorkerAnswer}
+pub use Rattle.pagable_world.specs.declared.{events.WorkerReply.WorkerReply, handles.{HandleRow.HandleRow, Owner.Owner}, rows.Mode.Mode}
 
 -- 1 for true, so that rows are counted by a sum
 abbrev pub one : Bool → ℕ

@@ -1,10 +1,9 @@
 -- Chains of moments: what events do to a machine, one after another; trees along them; and what these ask of values and callers, by name. That the storage gives back what was stored, loses
 -- nothing and keeps no two blobs under one key is asked nowhere here: these are laws of every storage, so they stand in the steps.
-use Rattle.std.specs.Prelude.{ℕ, ◌≡◌, List, [], ◌∷◌, map, Option, Some, None, Ok}
-use Rattle.pagable_model.specs.Canonical.{IsReadableType}
-use Rattle.pagable_world.specs.{Plain.{Tree, Types, ReadsTree, type_of, Kind, Event, EventReply, HandleRow, Call, Reply, LoadAnswer}, Kinds.{is_loose, any_mode}, World.{Seen, Values, IsSettled}}
-use Rattle.pagable_world.specs.{World.{Reading, Todo, to_load, Walking}, Refusals.Owns, Loads.{needs_lazy, need_of}, Events.{Step, reading_at}, Pager.{MachineState, world_of, Moves, EventBrings}}
-use Rattle.pagable_world.specs.{Plain.Owner, Pager.{ReplyWrites, IsMachineWhole, PagerState, IsCellOf, StandsFor, SameTrees, ValueStands}}
+use Rattle.std.specs.Prelude.{[], List, map, None, Ok, Option, Some, ℕ, ◌∷◌, ◌≡◌}
+use Rattle.{pagable_model.specs.Canonical.IsReadableType, pagable_world.specs.{Events.{reading_at, Step}, Kinds.{any_mode, is_loose}, Loads.{need_of, needs_lazy}, Pager.{EventBrings, IsCellOf}}}
+use Rattle.pagable_world.specs.{Pager.{IsMachineWhole, MachineState, Moves, PagerState, ReplyWrites, SameTrees, StandsFor, ValueStands, world_of}, Plain.{Call, Event, EventReply, HandleRow, Kind}}
+use Rattle.pagable_world.specs.{Plain.{LoadAnswer, Owner, ReadsTree, Reply, Tree, type_of, Types}, Refusals.Owns, World.{IsSettled, Reading, Seen, to_load, Todo, Values, Walking}}
 
 -- Each type of the environment is read back from its forms. Where types have tags, this is the registry of distinct tags: each tag that a value writes has a reader of that tag's body.
 abbrev pub ReadsItsTypes : Types → Type 0

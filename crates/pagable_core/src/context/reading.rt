@@ -1,7 +1,7 @@
 //! The deserializer over one blob.
 
 ghost use Rattle.std.specs.Prelude.{◌≡◌};
-ghost use Rattle.pagable_core.specs.{Context.at_front, Fields.references_of};
+ghost use Rattle.pagable_core.specs.Context.{at_front, references_of};
 
 use crate::context::keys::PagableKeys;
 use crate::context::references::References;
@@ -58,8 +58,7 @@ impl<'de, E: Env, B: Reader, R: References<E>> PagableDeserializer<E>
     type Reader = B;
 
     ghost use Rattle.std.specs.Prelude.{refl};
-    ghost use Rattle.pagable_model.specs.Standing.{rest_at};
-    ghost use Rattle.pagable_core.specs.Context.{standing_of, moves_of};
+    ghost use Rattle.{pagable_core.specs.Context.{standing_of, moves_of}, pagable_model.specs.Standing.rest_at};
 
     ghost standing = { λ s. standing_of (R.answer s.references) s.keys (B.track s.reader) };
 

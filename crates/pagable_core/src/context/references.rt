@@ -1,9 +1,7 @@
 //! What a deserializer asks for references.
 
 ghost use Rattle.std.specs.Prelude.{◌≡◌, ℕ, Option, None, Result, Err, IfOk, option_map, true};
-ghost use Rattle.pagable_model.specs.declared.numbers.ArcRef.{ArcRef as Reference};
-ghost use Rattle.pagable_model.specs.declared.error.Error.{Error as Refusal};
-ghost use Rattle.pagable_model.specs.{Refusals.may_refuse_reference, declared.error.Error.TheVariants.WrongKind};
+ghost use Rattle.pagable_model.specs.{Refusals.may_refuse_reference, declared.{error.Error.{Error as Refusal, TheVariants.WrongKind}, numbers.ArcRef.ArcRef as Reference}};
 
 use pagable_codec::{ArcRef, Env, Kind, SessionContext};
 use pagable_flavors::{DataKey, Error};
@@ -59,7 +57,7 @@ impl<'e, E: Env> NoReferences<'e, E> {
 }
 
 impl<'e, E: Env> References<E> for NoReferences<'e, E> {
-    ghost use Rattle.pagable_core.specs.Fields.{wrong_kind_may_refuse};
+    ghost use Rattle.pagable_core.specs.Context.{wrong_kind_may_refuse};
 
     ghost environment = { λ s. s.env.now };
 

@@ -1,7 +1,7 @@
 //! The serializer that collects bytes and references.
 
 ghost use Rattle.std.specs.Prelude.{◌≡◌, refl, [], length, IsOk, IfOk};
-ghost use Rattle.pagable_core.specs.{Context.nothing, Context.out_of, Context.pair_out, Fields.written};
+ghost use Rattle.pagable_core.specs.Context.{nothing, out_of, pair_out, written};
 
 use pagable_codec::{ArcRef, Env, PagableCursor, PagableSerializer, SessionContext};
 use pagable_flavors::{Error, PagableVecFlavor};
@@ -14,25 +14,8 @@ pub struct SerializedData {
     pub arcs: Vec<ArcRef>,
 }
 
-/// What has a session's context: one of its own, or one that it is lent.
-pub trait HasSession<K: Ord, V> {
-    /// The context. Which one it is, no clause says.
-    fn session(&self) -> &SessionContext<K, V>;
-}
-
-impl<K: Ord, V> HasSession<K, V> for SessionContext<K, V> {
-    fn session(&self) -> &SessionContext<K, V> {
-        self
-    }
-}
-
-impl<'s, K: Ord, V> HasSession<K, V> for &'s SessionContext<K, V> {
-    fn session(&self) -> &SessionContext<K, V> {
-        self
-    }
-}
-
-/// A serializer over memory, which is lent the environment. Its writing takes no lock.
+/// A serializer over memory, which is lent the environment, with a session's context: one of its own, or one that it is lent. Which one it is, no clause
+/// says. Its writing takes no lock.
 #[derive(Drop)]
 pub struct SerializerOver<'e, E, S> {
     writer: PagableVecFlavor,
@@ -119,7 +102,7 @@ impl<'e, E: Env> PagableSerializerImpl<'e, E> {
     }
 }
 
-impl<'e, E: Env, S: HasSession<E::CtxKey, E::CtxValue>> PagableSerializer<E>
+impl<'e, E: Env, S: AsRef<SessionContext<E::CtxKey, E::CtxValue>>> PagableSerializer<E>
     for SerializerOver<'e, E, S> {
     ghost out = { written };
 
@@ -172,6 +155,6 @@ impl<'e, E: Env, S: HasSession<E::CtxKey, E::CtxValue>> PagableSerializer<E>
     }
 
     fn session_context(&self) -> &SessionContext<E::CtxKey, E::CtxValue> {
-        self.session.session()
+        self.session.as_ref()
     }
 }

@@ -1,8 +1,7 @@
 //! Blobs and their keys.
 
 ghost use Rattle.std.specs.Prelude.{◌≡◌};
-ghost use Rattle.pagable_model.specs.Blob.{key_of, number_of_hash};
-ghost use Rattle.pagable_core.specs.Data.{blob_of};
+ghost use Rattle.{pagable_core.specs.Data.blob_of, pagable_model.specs.Blob.{key_of, number_of_hash}};
 
 pub use crate::storage::sha256::Sha256Key;
 pub use crate::storage::weigh::WeighHash;

@@ -1,8 +1,7 @@
 //! Blobs in memory: a storage for tests, and for stores that one run fills and forgets.
 
 ghost use Rattle.std.specs.Prelude.{◌≡◌, ◌↔◌, ◌==◌, if◌then◌else◌, ℕ, IsTrue, OnOk, OnErr, IfErr, None, Some, false, true, option_map};
-ghost use Rattle.pagable_model.specs.{Gives.memory, Stored.IsCount};
-ghost use Rattle.pagable_core.specs.{Blobs.stored_in, Data.blob_of};
+ghost use Rattle.{pagable_core.specs.Data.{blob_of, stored_in}, pagable_model.specs.{Gives.memory, Stored.IsCount}};
 
 use crate::storage::data::PagableData;
 use crate::storage::traits::PagableStorage;
@@ -35,7 +34,7 @@ impl<E: Env> InMemoryBlobs<E> {
     }
 
     /// How many blobs are stored, each under a key of its own.
-    #[tactic(auto, using(crate::proofs::Counting::counts))]
+    #[tactic(auto, using(crate::proofs::Adding::counts))]
     pub fn len(&self) -> usize
         ensures { IsCount (⟦<InMemoryBlobs<E> as PagableStorage<E>>⟧.stored self.now) result }
     {

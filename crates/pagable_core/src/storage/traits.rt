@@ -1,9 +1,7 @@
 //! What a storage of blobs offers.
 
-ghost use Rattle.std.specs.Prelude.{◌≡◌, ◌≤◌, ◌↔◌, ℕ, Bool, true, false, Option, Some, None, OnOk, OnErr, IfOk, IfErr};
-ghost use Rattle.std.specs.Arc.{arc_value};
-ghost use Rattle.pagable_model.specs.{Blob.Blob, Blob.key_of, Stored.Adds, Stored.RefusesFetch, Stored.RefusesStore, Stored.RefusesFlush};
-ghost use Rattle.pagable_core.specs.Data.{blob_of};
+ghost use Rattle.std.specs.{Arc.arc_value, Prelude.{◌≡◌, ◌≤◌, ◌↔◌, ℕ, Bool, true, false, Option, Some, None, OnOk, OnErr, IfOk, IfErr}};
+ghost use Rattle.{pagable_core.specs.Data.blob_of, pagable_model.specs.{Blob.{Blob, key_of}, Stored.{Adds, RefusesFetch, RefusesStore, RefusesFlush}}};
 
 use crate::storage::data::PagableData;
 use pagable_codec::Env;

@@ -1,8 +1,7 @@
 //! A hash for tests.
 
 ghost use Rattle.std.specs.Prelude.{◌≡◌, ◌%◌, ◌^◌, ◌+◌, List, ℕ, length};
-ghost use Rattle.pagable_model.specs.Blob.{weigh_hash};
-ghost use Rattle.pagable_core.specs.Data.{IsWeighed};
+ghost use Rattle.{pagable_core.specs.Data.IsWeighed, pagable_model.specs.Blob.weigh_hash};
 
 use pagable_codec::KeyHash;
 

@@ -1,7 +1,7 @@
 //! Basic values are read, and texts and byte arrays that stay where they are.
 
 ghost use Rattle.std.specs.Prelude.{◌≡◌};
-ghost use Rattle.pagable_model.specs.{Basic.text_at, ByteArrays.byte_array_at, Gives.Gives, Gives.never, Track.left, Track.GoesOn};
+ghost use Rattle.pagable_model.specs.{Basic.text_at, Basic.byte_array_at, Gives.Gives, Gives.never, Track.left, Track.GoesOn};
 
 use super::PagableSlice;
 use crate::reader::Reader;
@@ -104,7 +104,7 @@ impl Reader for PagableSlice<'_> {
         Ok(zigzag::decode_wide(number))
     }
 
-    #[tactic(auto, using(crate::proofs::Text::char_steps), unfolding(pagable_model::specs::Basic::char_at))]
+    #[tactic(auto, using(crate::proofs::Basic::char_steps), unfolding(pagable_model::specs::Basic::char_at))]
     fn read_char(&mut self) -> Result<char, Error> {
         let text = self.read_str()?;
         let mut characters = text.chars();
@@ -134,7 +134,7 @@ impl Reader for PagableSlice<'_> {
 
 impl<'de> PagableSlice<'de> {
     /// A text, which stays where it is among the bytes. `TooLong`, then `UnexpectedEnd`, then `BadUtf8`.
-    #[tactic(auto, using(crate::proofs::Text::utf8_tests), unfolding(pagable_model::specs::Basic::text_at))]
+    #[tactic(auto, using(crate::proofs::Basic::utf8_tests), unfolding(pagable_model::specs::Basic::text_at))]
     pub fn read_str(&mut self) -> Result<&'de str, Error>
         ensures gives { Gives never (λ t. (t.now, left self.new)) result (text_at (left self.old)) }
         ensures goes { GoesOn self.old self.new }
@@ -148,7 +148,7 @@ impl<'de> PagableSlice<'de> {
     }
 
     /// A byte array, which stays where it is among the bytes. `TooLong`, then `UnexpectedEnd`.
-    #[tactic(auto, unfolding(pagable_model::specs::ByteArrays::byte_array_at))]
+    #[tactic(auto, unfolding(pagable_model::specs::Basic::byte_array_at))]
     pub fn read_bytes(&mut self) -> Result<&'de [u8], Error>
         ensures gives { Gives never (λ b. (b.now, left self.new)) result (byte_array_at (left self.old)) }
         ensures goes { GoesOn self.old self.new }

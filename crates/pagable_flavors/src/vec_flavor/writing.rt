@@ -1,8 +1,8 @@
 //! Basic values are written: whole numbers, flags, lengths, texts and byte arrays.
 
-ghost use Rattle.std.specs.{Int.w8, Int.w16, Int.w32, Int.w64, Int.w128, Prelude.{◌≡◌, ◌≤◌, ◌<◌, ◌++◌, length, OnOk, IfErr}};
-ghost use Rattle.pagable_model.specs.{Basic.{longest, bool_form, length_form, text_form, char_form}, ByteArrays.byte_array_form, Gives.{memory, Extends}};
-ghost use Rattle.pagable_model.specs.{Lengths.long_or_memory, Numbers.{unsigned_form, signed_form}, Varints.AppendsVarint};
+ghost use Rattle.std.specs.{Int.w8, Int.w16, Int.w32, Int.w64, Int.w128, Prelude.{◌≡◌, ◌++◌, length, OnOk, IfErr}};
+ghost use Rattle.pagable_model.specs.{Basic.{bool_form, length_form, text_form, char_form, byte_array_form}, Gives.{memory, Extends}, Numbers.{unsigned_form, signed_form, AppendsVarint}};
+ghost use Rattle.pagable_flavors.specs.Calls.{Appends, AppendsCounted};
 
 use super::{LONGEST, PagableVecFlavor};
 use crate::zigzag;
@@ -27,9 +27,7 @@ impl PagableVecFlavor {
 
     /// A number of 8 bits, in one byte. `OutOfMemory` where the writer can't grow.
     pub fn write_u8(&mut self, number: u8) -> Result<(), Error>
-        ensures ok { OnOk result (self.new ≡ self.old ++ unsigned_form w8 number) }
-        ensures only { IfErr result memory }
-        ensures err { Extends self.old self.new }
+        ensures { Appends (unsigned_form w8 number) result self.old self.new }
     {
         self.try_push(number)
     }
@@ -37,9 +35,7 @@ impl PagableVecFlavor {
     /// A number of 16 bits, in 1 to 3 bytes. `OutOfMemory` where the writer can't grow.
     #[tactic(auto, unfolding(pagable_model::specs::Numbers::varint_limit))]
     pub fn write_u16(&mut self, number: u16) -> Result<(), Error>
-        ensures ok { OnOk result (self.new ≡ self.old ++ unsigned_form w16 number) }
-        ensures only { IfErr result memory }
-        ensures err { Extends self.old self.new }
+        ensures { Appends (unsigned_form w16 number) result self.old self.new }
     {
         self.varint(u64::from(number))
     }
@@ -47,9 +43,7 @@ impl PagableVecFlavor {
     /// A number of 32 bits, in 1 to 5 bytes. `OutOfMemory` where the writer can't grow.
     #[tactic(auto, unfolding(pagable_model::specs::Numbers::varint_limit))]
     pub fn write_u32(&mut self, number: u32) -> Result<(), Error>
-        ensures ok { OnOk result (self.new ≡ self.old ++ unsigned_form w32 number) }
-        ensures only { IfErr result memory }
-        ensures err { Extends self.old self.new }
+        ensures { Appends (unsigned_form w32 number) result self.old self.new }
     {
         self.varint(u64::from(number))
     }
@@ -57,18 +51,14 @@ impl PagableVecFlavor {
     /// A number of 64 bits, in 1 to 10 bytes. `OutOfMemory` where the writer can't grow.
     #[tactic(auto, unfolding(pagable_model::specs::Numbers::varint_limit))]
     pub fn write_u64(&mut self, number: u64) -> Result<(), Error>
-        ensures ok { OnOk result (self.new ≡ self.old ++ unsigned_form w64 number) }
-        ensures only { IfErr result memory }
-        ensures err { Extends self.old self.new }
+        ensures { Appends (unsigned_form w64 number) result self.old self.new }
     {
         self.varint(number)
     }
 
     /// A number of 64 bits, as `write_u64` writes it.
     pub fn write_usize(&mut self, number: usize) -> Result<(), Error>
-        ensures ok { OnOk result (self.new ≡ self.old ++ unsigned_form w64 number) }
-        ensures only { IfErr result memory }
-        ensures err { Extends self.old self.new }
+        ensures { Appends (unsigned_form w64 number) result self.old self.new }
     {
         self.write_u64(number as u64)
     }
@@ -92,56 +82,44 @@ impl PagableVecFlavor {
 
     /// A number of 8 bits with a sign, in one byte in two's complement. `OutOfMemory` where the writer can't grow.
     pub fn write_i8(&mut self, number: i8) -> Result<(), Error>
-        ensures ok { OnOk result (self.new ≡ self.old ++ signed_form w8 number) }
-        ensures only { IfErr result memory }
-        ensures err { Extends self.old self.new }
+        ensures { Appends (signed_form w8 number) result self.old self.new }
     {
         self.write_u8(number.cast_unsigned())
     }
 
     /// A number of 16 bits with a sign, in 1 to 3 bytes. `OutOfMemory` where the writer can't grow.
-    #[tactic(auto, using(crate::proofs::Signed::zigzag_bounds))]
+    #[tactic(auto, using(crate::proofs::Basic::zigzag_bounds))]
     pub fn write_i16(&mut self, number: i16) -> Result<(), Error>
-        ensures ok { OnOk result (self.new ≡ self.old ++ signed_form w16 number) }
-        ensures only { IfErr result memory }
-        ensures err { Extends self.old self.new }
+        ensures { Appends (signed_form w16 number) result self.old self.new }
     {
         self.write_u16(zigzag::encode(i64::from(number)) as u16)
     }
 
     /// A number of 32 bits with a sign, in 1 to 5 bytes. `OutOfMemory` where the writer can't grow.
-    #[tactic(auto, using(crate::proofs::Signed::zigzag_bounds))]
+    #[tactic(auto, using(crate::proofs::Basic::zigzag_bounds))]
     pub fn write_i32(&mut self, number: i32) -> Result<(), Error>
-        ensures ok { OnOk result (self.new ≡ self.old ++ signed_form w32 number) }
-        ensures only { IfErr result memory }
-        ensures err { Extends self.old self.new }
+        ensures { Appends (signed_form w32 number) result self.old self.new }
     {
         self.write_u32(zigzag::encode(i64::from(number)) as u32)
     }
 
     /// A number of 64 bits with a sign, in 1 to 10 bytes. `OutOfMemory` where the writer can't grow.
     pub fn write_i64(&mut self, number: i64) -> Result<(), Error>
-        ensures ok { OnOk result (self.new ≡ self.old ++ signed_form w64 number) }
-        ensures only { IfErr result memory }
-        ensures err { Extends self.old self.new }
+        ensures { Appends (signed_form w64 number) result self.old self.new }
     {
         self.write_u64(zigzag::encode(number))
     }
 
     /// A number of 128 bits with a sign, in 1 to 19 bytes. `OutOfMemory` where the writer can't grow.
     pub fn write_i128(&mut self, number: i128) -> Result<(), Error>
-        ensures ok { OnOk result (self.new ≡ self.old ++ signed_form w128 number) }
-        ensures only { IfErr result memory }
-        ensures err { Extends self.old self.new }
+        ensures { Appends (signed_form w128 number) result self.old self.new }
     {
         self.write_u128(zigzag::encode_wide(number))
     }
 
     /// A flag, in one byte. `OutOfMemory` where the writer can't grow.
     pub fn write_bool(&mut self, value: bool) -> Result<(), Error>
-        ensures ok { OnOk result (self.new ≡ self.old ++ bool_form value) }
-        ensures only { IfErr result memory }
-        ensures err { Extends self.old self.new }
+        ensures { Appends (bool_form value) result self.old self.new }
     {
         self.try_push(u8::from(value))
     }
@@ -149,11 +127,7 @@ impl PagableVecFlavor {
     /// The length of a text or the count of a list. `TooLong` above 4,294,967,295, and nothing is written then;
     /// `OutOfMemory` where the writer can't grow.
     pub fn write_len(&mut self, len: usize) -> Result<(), Error>
-        ensures ok { OnOk result (self.new ≡ self.old ++ length_form len) }
-        ensures fits { OnOk result (len ≤ longest) }
-        ensures only { IfErr result (long_or_memory len) }
-        ensures err { Extends self.old self.new }
-        ensures unwritten { longest < len → self.new ≡ self.old }
+        ensures { AppendsCounted len (length_form len) result self.old self.new }
     {
         if len > LONGEST {
             return Err(Error::TooLong);
@@ -164,11 +138,7 @@ impl PagableVecFlavor {
     /// A text: its length in bytes, and its bytes. `TooLong` above 4,294,967,295 bytes, and nothing is written then;
     /// `OutOfMemory` where the writer can't grow.
     pub fn write_str(&mut self, text: &str) -> Result<(), Error>
-        ensures ok { OnOk result (self.new ≡ self.old ++ text_form text.now) }
-        ensures fits { OnOk result (length text.now ≤ longest) }
-        ensures only { IfErr result (long_or_memory (length text.now)) }
-        ensures err { Extends self.old self.new }
-        ensures unwritten { longest < length text.now → self.new ≡ self.old }
+        ensures { AppendsCounted (length text.now) (text_form text.now) result self.old self.new }
     {
         self.write_len(text.len())?;
         self.try_extend(text.as_bytes())
@@ -177,11 +147,7 @@ impl PagableVecFlavor {
     /// A byte array: its length, and its bytes. `TooLong` above 4,294,967,295 bytes, and nothing is written then;
     /// `OutOfMemory` where the writer can't grow.
     pub fn write_bytes(&mut self, bytes: &[u8]) -> Result<(), Error>
-        ensures ok { OnOk result (self.new ≡ self.old ++ byte_array_form bytes.now) }
-        ensures fits { OnOk result (length bytes.now ≤ longest) }
-        ensures only { IfErr result (long_or_memory (length bytes.now)) }
-        ensures err { Extends self.old self.new }
-        ensures unwritten { longest < length bytes.now → self.new ≡ self.old }
+        ensures { AppendsCounted (length bytes.now) (byte_array_form bytes.now) result self.old self.new }
     {
         self.write_len(bytes.len())?;
         self.try_extend(bytes)
@@ -189,9 +155,7 @@ impl PagableVecFlavor {
 
     /// A character, as the text of that character. `OutOfMemory` where the writer can't grow.
     pub fn write_char(&mut self, character: char) -> Result<(), Error>
-        ensures ok { OnOk result (self.new ≡ self.old ++ char_form character) }
-        ensures only { IfErr result memory }
-        ensures err { Extends self.old self.new }
+        ensures { Appends (char_form character) result self.old self.new }
     {
         let mut room = [0u8; 4];
         let text = character.encode_utf8(&mut room);

@@ -1,20 +1,19 @@
 //! Nodes that come, what loads have read becomes nodes, and loads of cells that end with a value.
 
-ghost use Rattle.std.specs.{Prelude.{◌≡◌, ◌≢◌, ◌<◌, ℕ, Some, IfOk, IfErr, OnOk, OnErr, true, not, nat_eq, List, Bool, Option, None, IfSome, IfNone}, Arc.arc_value, HashMap.{get, spare}};
-ghost use Rattle.pagable_world.specs.{Kinds.is_pinning, Calls.{BirthCall, AwayBirthCall}, Pager.{IsNewNode, IsCellOf, Moves}, Refusals.{load_fault, closed_fault, earlier, Refused}};
-ghost use Rattle.pagable_world.specs.{Plain.{Blob, Error}, World.{Core, usable}, LoadCalls.{adopt_fault, AdoptCall, Adopts, EndCall, EndRefused, Installs}};
-ghost use Rattle.pagable_pager.specs.View.{core_in, state_in, telling, value_in, OnlyTables, OnlyLess, PutsIn, is_at_work};
-ghost use Rattle.{pagable_model.specs.declared.numbers.{ArcRef.ArcRef, Kind.Kind}, pagable_tables.specs.{Asking.early_fault, ByNumber.counts_at, Core.{core_of, plain_of, IsWhole}}};
-ghost use Rattle.pagable_tables.specs.{Falling.Sheds, Later.AreLater, Ready.{IsReady, HasPlace, Unends}};
+ghost use Rattle.std.specs.{Arc.arc_value, HashMap.{get, spare}, Prelude.{◌≡◌, ◌≢◌, ◌<◌, ℕ, Some, IfOk, IfErr, OnOk, OnErr, true, not, nat_eq, List, Bool, Option, None, IfSome, IfNone}};
+ghost use Rattle.{pagable_model.specs.declared.numbers.{ArcRef.ArcRef, Kind.Kind}, pagable_pager.specs.View.{core_in, state_in, telling, value_in, Calls, OnlyLess, PutsIn, is_at_work}};
+ghost use Rattle.pagable_tables.specs.{Asking.early_fault, ByNumber.counts_at, Core.{core_of, plain_of, IsWhole}, Falling.Sheds, Later.AreLater, Ready.{IsReady, HasPlace, Unends}};
+ghost use Rattle.pagable_world.specs.{Calls.{BirthCall, AwayBirthCall}, Kinds.is_pinning, LoadCalls.{adopt_fault, AdoptCall, Adopts, EndCall, EndRefused, Installs}, Pager.{IsNewNode, IsCellOf}};
+ghost use Rattle.pagable_world.specs.{Pager.Moves, Plain.{Blob, Error}, Refusals.{load_fault, closed_fault, earlier, Refused}, World.{Core, usable}};
 
 use crate::pager::Pager;
 use indexmap::IndexMap;
 use pagable_codec::{Env, NodeSet};
 use pagable_core::PagableStorage;
 use pagable_model::{ArcRef, DataKey, Error, HandleNumber, Kind, LoadNumber};
-use pagable_tables::installing::{Ending, Unended};
+use pagable_tables::loading::{Ending, Unended};
 use pagable_tables::tables::Tables;
-use pagable_tables::{adopting, births, ending, installing, loads};
+use pagable_tables::{giving, loading, making, tables};
 use pagable_world::Mode;
 use pagable_world::handles::Owner;
 use std::alloc::Global;
@@ -80,11 +79,11 @@ fn finish<N: Drop>(
     if ending.is_away {
         let value = share_with_room(values, alloc, value)?;
         keep(values, ending.row.node.0, value);
-        return Ok(installing::install(
+        return Ok(loading::install(
             tables, values, me, load, node_type, references, ending, lists,
         ));
     }
-    Ok(installing::install(
+    Ok(loading::install(
         tables, values, me, load, node_type, references, ending, lists,
     ))
 }
@@ -111,7 +110,7 @@ fn give_back<N: Drop>(
     match unended {
         Unended::Refused(e) => (e, Some(value)),
         Unended::InVain(e) => {
-            let _ = ending::load_drop(tables, values, me, load, lists);
+            let _ = giving::load_drop(tables, values, me, load, lists);
             (e, None)
         }
     }
@@ -136,7 +135,7 @@ where
             Ok(references) => references,
             Err(e) => return Err((e, node)),
         };
-        if let Err(e) = births::prepare(&mut self.tables, Owner::Caller, &references) {
+        if let Err(e) = making::prepare(&mut self.tables, Owner::Caller, &references) {
             return Err((e, node));
         }
         let node_type = node.node_type();
@@ -145,7 +144,7 @@ where
             Err(node) => return Err((Error::OutOfMemory, node)),
         };
         let tables = &mut self.tables;
-        let handle = births::bear(tables, Owner::Caller, node_type, 0, references, mode);
+        let handle = making::bear(tables, Owner::Caller, node_type, 0, references, mode);
         keep(&mut self.values, self.tables.last_node, value);
         Ok(handle)
     }
@@ -194,10 +193,9 @@ where
         node_type: u32,
         key: DataKey,
     ) -> Result<HandleNumber, Error>
-        ensures step { AwayBirthCall (core_in (telling S.stored S.is_closed S.failed) self.old) Owner.Caller node_type key result (core_in (telling S.stored S.is_closed S.failed) self.new) }
-        ensures only { OnlyTables self.old self.new }
+        ensures { Calls (telling S.stored S.is_closed S.failed) self.old (λ w w'. AwayBirthCall w Owner.Caller node_type key result w') self.new }
     {
-        births::new_away(&mut self.tables, alloc, Owner::Caller, node_type, key)
+        making::new_away(&mut self.tables, alloc, Owner::Caller, node_type, key)
     }
 
     /// Where the cache gives a node already, a handle of it, which the load owns; the handles of the references fall. None where it gives none; nothing changes then.
@@ -220,7 +218,7 @@ where
     {
         let lists = !self.storage.has_closed();
         let (tables, values) = (&mut self.tables, &mut self.values);
-        adopting::adopt_if_known(
+        loading::adopt_if_known(
             tables, values, me, load, kind, key, node_type, references, lists,
         )
     }
@@ -242,7 +240,7 @@ where
         ensures step { AdoptCall (core_in (telling S.stored S.is_closed S.failed) self.old) me load kind key node (E.Node.type_of node) (E.Node.refs_of node) result (core_in (telling S.stored S.is_closed S.failed) self.new) }
         ensures moves { Moves (λ n x. (x ≡ node) × IsNewNode (core_in (telling S.stored S.is_closed S.failed) self.old) n) (state_in (telling S.stored S.is_closed S.failed) self.old) (state_in (telling S.stored S.is_closed S.failed) self.new) }
     {
-        if let Err(e) = adopting::make_ready_to_learn(&mut self.tables) {
+        if let Err(e) = loading::make_ready_to_learn(&mut self.tables) {
             return Err((e, node));
         }
         let value = match share_with_room(&mut self.values, alloc, node) {
@@ -250,7 +248,7 @@ where
             Err(node) => return Err((Error::OutOfMemory, node)),
         };
         let lists = !self.storage.has_closed();
-        let handle = adopting::adopt(&mut self.tables, load, kind, key, references, lists);
+        let handle = loading::adopt(&mut self.tables, load, kind, key, references, lists);
         keep(&mut self.values, self.tables.last_node, value);
         Ok(handle)
     }
@@ -261,7 +259,7 @@ where
             (closed_fault (core_in (telling S.stored S.is_closed S.failed) self.now) load) (Unit {0}) (core_in (telling S.stored S.is_closed S.failed) self.now) result
             (core_in (telling S.stored S.is_closed S.failed) self.now) }
     {
-        match loads::load_of(&self.tables.loads, load.0) {
+        match tables::load_of(&self.tables.loads, load.0) {
             Some(_) => Error::OutOfMemory,
             None => Error::NoSuchHandle,
         }
@@ -343,7 +341,7 @@ where
         let lists = !self.storage.has_closed();
         let (tables, values) = (&mut self.tables, &mut self.values);
         let node_type = value.node_type();
-        let ready = match installing::prepare_end(tables, me, load, node_type, &references) {
+        let ready = match loading::prepare_end(tables, me, load, node_type, &references) {
             Ok(ready) => ready,
             Err(unended) => return Err(give_back(tables, values, me, load, value, unended, lists)),
         };

@@ -2,7 +2,7 @@
 
 ghost use Rattle.std.specs.{Prelude.{◌≡◌, IsSome, true}, Option.option_map};
 ghost use Rattle.pagable_world.specs.{World.{row_at, Reading}, Calls.{CloneCall, PinCall, LoosenCall, CountCall, KeyCall, AwayCall, NodeCall, TypeCall}, Events.reading_of_load};
-ghost use Rattle.{pagable_loads.specs.{Starting.{StartsPin, is_unpinned_at}, Telling.IsMade}, pagable_pager.specs.View.{core_in, telling, Calls, OnlyTables, is_at_work}};
+ghost use Rattle.{pagable_loads.specs.{Starting.{StartsPin, is_unpinned_at}, Telling.IsMade}, pagable_pager.specs.View.{core_in, telling, Calls, is_at_work}};
 
 use crate::pager::Pager;
 use crate::pager::loads::cell_type;
@@ -10,7 +10,7 @@ use pagable_codec::{Env, NodeSet};
 use pagable_core::PagableStorage;
 use pagable_loads::PinStart;
 use pagable_model::{ArcRef, Error, HandleNumber, Kind, LoadNumber, NodeNumber, OptionalDataKey};
-use pagable_tables::{handles, kinds, loads, lookups, making, pinning, turning};
+use pagable_tables::{handles, lookups, making, references, tables};
 use pagable_world::handles::Owner;
 use pagable_world::{Beginning, Pinning};
 
@@ -20,8 +20,7 @@ where
 {
     /// One more handle of the node of a live handle, of the same mode, which is the caller's: a clone of a pinning handle pins. Refused with NoSuchHandle, NumbersSpent and OutOfMemory.
     pub fn clone(&mut self, handle: HandleNumber) -> Result<HandleNumber, Error>
-        ensures step { CloneCall (core_in (telling S.stored S.is_closed S.failed) self.old) Owner.Caller handle result (core_in (telling S.stored S.is_closed S.failed) self.new) }
-        ensures only { OnlyTables self.old self.new }
+        ensures { Calls (telling S.stored S.is_closed S.failed) self.old (λ w w'. CloneCall w Owner.Caller handle result w') self.new }
     {
         self.clone_by(Owner::Caller, handle)
     }
@@ -39,17 +38,15 @@ where
 
     /// A Pinned handle becomes a loose pinned one, and keeps its number. It takes no memory. Refused with NoSuchHandle, NotYours, and WrongMode where the handle isn't Pinned.
     pub fn into_pagable(&mut self, handle: HandleNumber) -> Result<HandleNumber, Error>
-        ensures step { LoosenCall (core_in (telling S.stored S.is_closed S.failed) self.old) Owner.Caller handle result (core_in (telling S.stored S.is_closed S.failed) self.new) }
-        ensures only { OnlyTables self.old self.new }
+        ensures { Calls (telling S.stored S.is_closed S.failed) self.old (λ w w'. LoosenCall w Owner.Caller handle result w') self.new }
     {
-        turning::into_pagable(&mut self.tables, Owner::Caller, handle)
+        making::into_pagable(&mut self.tables, Owner::Caller, handle)
     }
 
     /// A loose handle becomes pinned, and a new Pinned handle is answered; or the key under which the value has to be loaded first, where it isn't in memory,
     /// and then nothing changes. Refused with NoSuchHandle, NotYours, WrongMode where the handle isn't loose, NumbersSpent and OutOfMemory.
     pub fn pin(&mut self, handle: HandleNumber) -> Result<Pinning, Error>
-        ensures step { PinCall (core_in (telling S.stored S.is_closed S.failed) self.old) Owner.Caller handle result (core_in (telling S.stored S.is_closed S.failed) self.new) }
-        ensures only { OnlyTables self.old self.new }
+        ensures { Calls (telling S.stored S.is_closed S.failed) self.old (λ w w'. PinCall w Owner.Caller handle result w') self.new }
     {
         self.pin_by(Owner::Caller, handle)
     }
@@ -58,7 +55,7 @@ where
         requires { is_at_work (core_in (telling S.stored S.is_closed S.failed) self.old) me ≡ true }
         ensures { Calls (telling S.stored S.is_closed S.failed) self.old (λ w w'. PinCall w me handle result w') self.new }
     {
-        pinning::pin(&mut self.tables, me, handle)
+        making::pin(&mut self.tables, me, handle)
     }
 
     /// How many handles pin the node. Refused with NoSuchHandle.
@@ -114,7 +111,7 @@ where
         ensures { result ≡ is_unpinned_at (core_in (telling S.stored S.is_closed S.failed) self.now) handle }
     {
         match handles::look(&self.tables.holdings.handles, handle) {
-            Some(at) => kinds::is_unpinned(at.row.mode),
+            Some(at) => references::is_unpinned(at.row.mode),
             None => false,
         }
     }
@@ -123,14 +120,13 @@ where
     pub fn load_type(&self, load: LoadNumber) -> Option<u32>
         ensures { result ≡ option_map (λ (r : Reading). r.node_type) (reading_of_load load ((core_in (telling S.stored S.is_closed S.failed) self.now).loads load.0)) }
     {
-        let row = loads::load_of(&self.tables.loads, load.0)?;
+        let row = tables::load_of(&self.tables.loads, load.0)?;
         cell_type(row.root)
     }
 
     /// A pin of a loose handle as `pin` makes it, where its value is in memory, and else a load of its cell as `load_begin` opens it, refused as these.
     pub fn begin_pin(&mut self, handle: HandleNumber) -> Result<PinStart, Error>
-        ensures step { StartsPin (core_in (telling S.stored S.is_closed S.failed) self.old) Owner.Caller handle result (core_in (telling S.stored S.is_closed S.failed) self.new) }
-        ensures only { OnlyTables self.old self.new }
+        ensures { Calls (telling S.stored S.is_closed S.failed) self.old (λ w w'. StartsPin w Owner.Caller handle result w') self.new }
     {
         self.begin_pin_by(Owner::Caller, handle)
     }

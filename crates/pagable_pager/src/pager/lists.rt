@@ -2,13 +2,13 @@
 
 ghost use Rattle.std.specs.Prelude.{◌≡◌, true, length};
 ghost use Rattle.pagable_world.specs.{Calls.{ScheduleCall, TakeCall, OfferCall, RecallCall, ClearCall, ReserveCall, ReleaseCall, UnpinCall, SetKeyCall, room_of}, LoadCalls.{DropCall, HandOverCall}};
-ghost use Rattle.pagable_pager.specs.View.{core_in, telling, OnlyTables, OnlyLess, is_at_work, Calls, CallsLess};
+ghost use Rattle.pagable_pager.specs.View.{core_in, telling, is_at_work, Calls, CallsLess};
 
 use crate::pager::Pager;
 use pagable_codec::{Env, NodeSet};
 use pagable_core::PagableStorage;
 use pagable_model::{DataKey, Error, HandleNumber, Kind, LoadNumber};
-use pagable_tables::{ending, keys, known, listing, lookups, places, releases, swapping};
+use pagable_tables::{giving, lookups, tables, workers};
 use pagable_world::handles::Owner;
 
 impl<E: Env, S: PagableStorage<E>> Pager<E, S>
@@ -17,8 +17,7 @@ where
 {
     /// The entry at this place of the list moves to the caller, as a loose unpinned handle. None past the end.
     pub fn take_pending(&mut self, place: usize) -> Option<HandleNumber>
-        ensures step { TakeCall (core_in (telling S.stored S.is_closed S.failed) self.old) Owner.Caller place result (core_in (telling S.stored S.is_closed S.failed) self.new) }
-        ensures only { OnlyTables self.old self.new }
+        ensures { Calls (telling S.stored S.is_closed S.failed) self.old (λ w w'. TakeCall w Owner.Caller place result w') self.new }
     {
         self.take_pending_by(Owner::Caller, place)
     }
@@ -27,14 +26,13 @@ where
         requires { is_at_work (core_in (telling S.stored S.is_closed S.failed) self.old) me ≡ true }
         ensures { Calls (telling S.stored S.is_closed S.failed) self.old (λ w w'. TakeCall w me place result w') self.new }
     {
-        listing::take_pending(&mut self.tables, me, place)
+        workers::take_pending(&mut self.tables, me, place)
     }
 
     /// A loose unpinned handle moves to the list's end. Once the storage is closed it is given up as `release` does. Refused with NoSuchHandle, NotYours, WrongMode
     /// where the handle isn't unpinned, and OutOfMemory.
     pub fn schedule_for_paging(&mut self, handle: HandleNumber) -> Result<(), Error>
-        ensures step { ScheduleCall (core_in (telling S.stored S.is_closed S.failed) self.old) Owner.Caller handle result (core_in (telling S.stored S.is_closed S.failed) self.new) }
-        ensures only { OnlyLess self.old self.new }
+        ensures { CallsLess (telling S.stored S.is_closed S.failed) self.old (λ w w'. ScheduleCall w Owner.Caller handle result w') self.new }
     {
         self.schedule_for_paging_by(Owner::Caller, handle)
     }
@@ -48,16 +46,15 @@ where
         ensures { CallsLess (telling S.stored S.is_closed S.failed) self.old (λ w w'. ScheduleCall w me handle result w') self.new }
     {
         let lists = !self.storage.has_closed();
-        listing::schedule_for_paging(&mut self.tables, &mut self.values, me, handle, lists)
+        workers::schedule_for_paging(&mut self.tables, &mut self.values, me, handle, lists)
     }
 
     /// A new handle, in the kind's mode, of the node that the cache knows under a kind and a key; or None, where it knows none that is alive and, for a kind of
     /// Pinned handles, has its value in memory. Refused with NumbersSpent and OutOfMemory.
     pub fn cache_get(&mut self, kind: Kind, key: DataKey) -> Result<Option<HandleNumber>, Error>
-        ensures step { RecallCall (core_in (telling S.stored S.is_closed S.failed) self.old) Owner.Caller kind key result (core_in (telling S.stored S.is_closed S.failed) self.new) }
-        ensures only { OnlyTables self.old self.new }
+        ensures { Calls (telling S.stored S.is_closed S.failed) self.old (λ w w'. RecallCall w Owner.Caller kind key result w') self.new }
     {
-        known::cache_get(&mut self.tables, Owner::Caller, kind, key)
+        lookups::cache_get(&mut self.tables, Owner::Caller, kind, key)
     }
 
     /// The cache learns a handle's node under a kind and a key. Where it gives a node already, a new handle of that is answered, in the kind's mode, and the handle is given up as `release` does. Once
@@ -68,12 +65,11 @@ where
         key: DataKey,
         handle: HandleNumber,
     ) -> Result<Option<HandleNumber>, Error>
-        ensures step { OfferCall (core_in (telling S.stored S.is_closed S.failed) self.old) Owner.Caller kind key handle result (core_in (telling S.stored S.is_closed S.failed) self.new) }
-        ensures only { OnlyLess self.old self.new }
+        ensures { CallsLess (telling S.stored S.is_closed S.failed) self.old (λ w w'. OfferCall w Owner.Caller kind key handle result w') self.new }
     {
         let lists = !self.storage.has_closed();
         let (tables, values) = (&mut self.tables, &mut self.values);
-        swapping::offer(tables, values, Owner::Caller, kind, key, handle, lists)
+        lookups::offer(tables, values, Owner::Caller, kind, key, handle, lists)
     }
 
     /// How many cells wait for page-out.
@@ -87,30 +83,27 @@ where
     pub fn room(&self) -> usize
         ensures { result ≡ room_of (core_in (telling S.stored S.is_closed S.failed) self.now) }
     {
-        places::room(&self.tables)
+        tables::room(&self.tables)
     }
 
     /// Makes `room` at least as much, and changes nothing else. Refused with OutOfMemory.
     pub fn reserve(&mut self, more: usize) -> Result<(), Error>
-        ensures step { ReserveCall (core_in (telling S.stored S.is_closed S.failed) self.old) more result (core_in (telling S.stored S.is_closed S.failed) self.new) }
-        ensures only { OnlyTables self.old self.new }
+        ensures { Calls (telling S.stored S.is_closed S.failed) self.old (λ w w'. ReserveCall w more result w') self.new }
     {
-        places::reserve(&mut self.tables, more)
+        tables::reserve(&mut self.tables, more)
     }
 
     /// The cache forgets all that it knows. It isn't refused.
     pub fn cache_clear(&mut self) -> Result<(), Error>
-        ensures step { ClearCall (core_in (telling S.stored S.is_closed S.failed) self.old) result (core_in (telling S.stored S.is_closed S.failed) self.new) }
-        ensures only { OnlyTables self.old self.new }
+        ensures { Calls (telling S.stored S.is_closed S.failed) self.old (λ w w'. ClearCall w result w') self.new }
     {
-        places::cache_clear(&mut self.tables)
+        tables::cache_clear(&mut self.tables)
     }
 
     /// A loose handle lets its pin go, and stays; one that is unpinned already does nothing. With its last pin a cell loses its value where it has a key, and is listed for page-out where it has none.
     /// Refused with NoSuchHandle, NotYours and WrongMode, and nothing changes; NumbersSpent and OutOfMemory say that a cell couldn't be listed: the pin is let go all the same.
     pub fn unpin(&mut self, handle: HandleNumber) -> Result<(), Error>
-        ensures step { UnpinCall (core_in (telling S.stored S.is_closed S.failed) self.old) Owner.Caller handle result (core_in (telling S.stored S.is_closed S.failed) self.new) }
-        ensures only { OnlyLess self.old self.new }
+        ensures { CallsLess (telling S.stored S.is_closed S.failed) self.old (λ w w'. UnpinCall w Owner.Caller handle result w') self.new }
     {
         self.unpin_by(Owner::Caller, handle)
     }
@@ -120,14 +113,13 @@ where
         ensures { CallsLess (telling S.stored S.is_closed S.failed) self.old (λ w w'. UnpinCall w me handle result w') self.new }
     {
         let lists = !self.storage.has_closed();
-        releases::unpin(&mut self.tables, &mut self.values, me, handle, lists)
+        giving::unpin(&mut self.tables, &mut self.values, me, handle, lists)
     }
 
     /// A handle is given up; a pinning one lets its pin go as `unpin` does. A node without handles is gone, and its value with all handles that it owns, and so on.
     /// Refused with NoSuchHandle and NotYours, and nothing changes; NumbersSpent and OutOfMemory as of `unpin`.
     pub fn release(&mut self, handle: HandleNumber) -> Result<(), Error>
-        ensures step { ReleaseCall (core_in (telling S.stored S.is_closed S.failed) self.old) Owner.Caller handle result (core_in (telling S.stored S.is_closed S.failed) self.new) }
-        ensures only { OnlyLess self.old self.new }
+        ensures { CallsLess (telling S.stored S.is_closed S.failed) self.old (λ w w'. ReleaseCall w Owner.Caller handle result w') self.new }
     {
         self.release_by(Owner::Caller, handle)
     }
@@ -137,14 +129,13 @@ where
         ensures { CallsLess (telling S.stored S.is_closed S.failed) self.old (λ w w'. ReleaseCall w me handle result w') self.new }
     {
         let lists = !self.storage.has_closed();
-        releases::release(&mut self.tables, &mut self.values, me, handle, lists)
+        giving::release(&mut self.tables, &mut self.values, me, handle, lists)
     }
 
     /// The cell of a loose handle gets a key, which replaces an older one, and its value goes where nothing pins it. Through a handle of another mode nothing
     /// changes. Asks that the key reads as the value. Refused with NoSuchHandle and NotYours, and nothing changes; NumbersSpent and OutOfMemory as of `unpin`.
     pub fn set_data_key(&mut self, handle: HandleNumber, key: DataKey) -> Result<(), Error>
-        ensures step { SetKeyCall (core_in (telling S.stored S.is_closed S.failed) self.old) Owner.Caller handle key result (core_in (telling S.stored S.is_closed S.failed) self.new) }
-        ensures only { OnlyLess self.old self.new }
+        ensures { CallsLess (telling S.stored S.is_closed S.failed) self.old (λ w w'. SetKeyCall w Owner.Caller handle key result w') self.new }
     {
         self.set_data_key_by(Owner::Caller, handle, key)
     }
@@ -159,14 +150,13 @@ where
         ensures { CallsLess (telling S.stored S.is_closed S.failed) self.old (λ w w'. SetKeyCall w me handle key result w') self.new }
     {
         let lists = !self.storage.has_closed();
-        keys::set_data_key(&mut self.tables, &mut self.values, me, handle, key, lists)
+        giving::set_data_key(&mut self.tables, &mut self.values, me, handle, key, lists)
     }
 
     /// A load is given up, with all that it owns and all that goes with that. Refused with NoSuchHandle and NotYours, and nothing changes; NumbersSpent and
     /// OutOfMemory say that a cell couldn't be listed: the load is given up all the same.
     pub fn load_drop(&mut self, load: LoadNumber) -> Result<(), Error>
-        ensures step { DropCall (core_in (telling S.stored S.is_closed S.failed) self.old) Owner.Caller load result (core_in (telling S.stored S.is_closed S.failed) self.new) }
-        ensures only { OnlyLess self.old self.new }
+        ensures { CallsLess (telling S.stored S.is_closed S.failed) self.old (λ w w'. DropCall w Owner.Caller load result w') self.new }
     {
         self.load_drop_by(Owner::Caller, load)
     }
@@ -176,14 +166,13 @@ where
         ensures { CallsLess (telling S.stored S.is_closed S.failed) self.old (λ w w'. DropCall w me load result w') self.new }
     {
         let lists = !self.storage.has_closed();
-        ending::load_drop(&mut self.tables, &mut self.values, me, load, lists)
+        giving::load_drop(&mut self.tables, &mut self.values, me, load, lists)
     }
 
     /// A load of a key hands the named handles over to the caller, gives up the rest and is closed. Refused with NoSuchHandle, NotYours where another began the load
     /// or owns a named handle, or one is named twice, and WrongMode where it is a load of a cell; then nothing changes.
     pub fn load_take(&mut self, load: LoadNumber, named: &[HandleNumber]) -> Result<(), Error>
-        ensures step { HandOverCall (core_in (telling S.stored S.is_closed S.failed) self.old) Owner.Caller load named.now result (core_in (telling S.stored S.is_closed S.failed) self.new) }
-        ensures only { OnlyLess self.old self.new }
+        ensures { CallsLess (telling S.stored S.is_closed S.failed) self.old (λ w w'. HandOverCall w Owner.Caller load named.now result w') self.new }
     {
         self.load_take_by(Owner::Caller, load, named)
     }
@@ -198,6 +187,6 @@ where
         ensures { CallsLess (telling S.stored S.is_closed S.failed) self.old (λ w w'. HandOverCall w me load named.now result w') self.new }
     {
         let lists = !self.storage.has_closed();
-        ending::load_take(&mut self.tables, &mut self.values, me, load, named, lists)
+        giving::load_take(&mut self.tables, &mut self.values, me, load, named, lists)
     }
 }

@@ -1,17 +1,16 @@
 //! Loads, by steps, and what is asked of them before they begin or go on.
 
-ghost use Rattle.std.specs.{Prelude.{◌≡◌, IfOk, IfNone, true, IfErr, Some, nat_lt}, Arc.arc_value};
-ghost use Rattle.{pagable_core.specs.Data.blob_of, pagable_world.specs.World.{seen_as, greatest}};
-ghost use Rattle.{pagable_world.specs.{LoadCalls.{AskCall, BeginCall, BeginKeyCall, LazyCall}, Refusals.load_fault}, pagable_tables.specs.{Asking.AsksKnown, Core.root_in}};
-ghost use Rattle.pagable_pager.specs.{View.{core_in, telling, given_as, OnlyTables, SameValues, is_at_work, Calls}, Opened.{ReadsAs, type_of_root}};
+ghost use Rattle.std.specs.{Arc.arc_value, Prelude.{◌≡◌, IfOk, IfNone, true, IfErr, Some, nat_lt}};
+ghost use Rattle.{pagable_core.specs.Data.blob_of, pagable_pager.specs.View.{ReadsAs, type_of_root, core_in, telling, given_as, OnlyTables, SameValues, is_at_work, Calls}};
+ghost use Rattle.{pagable_tables.specs.{Asking.AsksKnown, Core.root_in}, pagable_world.specs.{LoadCalls.{AskCall, BeginCall, BeginKeyCall, LazyCall}, Refusals.load_fault, World.{seen_as, greatest}}};
 
 use crate::pager::Pager;
 use either::Either;
 use pagable_codec::{Env, NodeSet};
 use pagable_core::{PagableData, PagableStorage};
 use pagable_model::{DataKey, Error, HandleNumber, Kind, LoadNumber};
-use pagable_tables::rows::LoadRoot;
-use pagable_tables::{adopting, loading};
+use pagable_tables::loading;
+use pagable_tables::tables::LoadRoot;
 use pagable_world::handles::Owner;
 use pagable_world::{Beginning, Want};
 use std::alloc::Global;
@@ -33,8 +32,7 @@ where
 {
     /// A load of a key, without a cell. Refused with NumbersSpent and OutOfMemory.
     pub fn load_key(&mut self, key: DataKey) -> Result<Beginning, Error>
-        ensures step { BeginKeyCall (core_in (telling S.stored S.is_closed S.failed) self.old) Owner.Caller key result (core_in (telling S.stored S.is_closed S.failed) self.new) }
-        ensures only { OnlyTables self.old self.new }
+        ensures { Calls (telling S.stored S.is_closed S.failed) self.old (λ w w'. BeginKeyCall w Owner.Caller key result w') self.new }
     {
         self.load_key_by(Owner::Caller, key)
     }
@@ -49,8 +47,7 @@ where
     /// A load of a loose handle's cell, with an unpinned clone of the handle; or InMemory, where the value needn't be read. Refused with NoSuchHandle, NotYours,
     /// WrongMode where the handle isn't loose, NumbersSpent and OutOfMemory.
     pub fn load_begin(&mut self, handle: HandleNumber) -> Result<Beginning, Error>
-        ensures step { BeginCall (core_in (telling S.stored S.is_closed S.failed) self.old) Owner.Caller handle result (core_in (telling S.stored S.is_closed S.failed) self.new) }
-        ensures only { OnlyTables self.old self.new }
+        ensures { Calls (telling S.stored S.is_closed S.failed) self.old (λ w w'. BeginCall w Owner.Caller handle result w') self.new }
     {
         self.load_begin_by(Owner::Caller, handle)
     }
@@ -134,8 +131,7 @@ where
         kind: Kind,
         key: DataKey,
     ) -> Result<HandleNumber, Error>
-        ensures step { LazyCall (core_in (telling S.stored S.is_closed S.failed) self.old) Owner.Caller load kind key result (core_in (telling S.stored S.is_closed S.failed) self.new) }
-        ensures only { OnlyTables self.old self.new }
+        ensures { Calls (telling S.stored S.is_closed S.failed) self.old (λ w w'. LazyCall w Owner.Caller load kind key result w') self.new }
     {
         self.load_lazy_by(Owner::Caller, alloc, load, kind, key)
     }
@@ -152,7 +148,7 @@ where
         ensures { Calls (telling S.stored S.is_closed S.failed) self.old (λ w w'. LazyCall w me load kind key result w') self.new }
     {
         let lists = !self.storage.has_closed();
-        adopting::load_lazy(&mut self.tables, me, load, kind, key, lists, alloc)
+        loading::load_lazy(&mut self.tables, me, load, kind, key, lists, alloc)
     }
 
     /// Whether a number is left for a load.

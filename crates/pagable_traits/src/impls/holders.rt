@@ -2,7 +2,7 @@
 //! as their first value and the tuple of the others; values that are lent; a header with a list behind it; marks of a
 //! type, of which there is nothing to write; and cells.
 
-ghost use Rattle.pagable_model.specs.{Carried.{atomic_i64, once_lock, thin}, Cells.{MeansAtomic, MeansOnce, atomic_has_meaning, once_has_meaning}, Shape.{optional, outcome, both}};
+ghost use Rattle.pagable_model.specs.{Carried.{atomic_i64, once_lock, thin}, Lifted.{MeansAtomic, MeansOnce, atomic_has_meaning, once_has_meaning}, Shape.{optional, outcome, both}};
 ghost use Rattle.pagable_traits.specs.Meanings.{lists, options, results, pairs, seen_by, lists_single, options_single, results_single, pairs_single};
 ghost use Rattle.pagable_traits.specs.OwnCauses.{reads_memory_or, reads_either, writes_memory_or, writes_either, writes_long_or, writes_never};
 

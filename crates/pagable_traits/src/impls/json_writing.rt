@@ -21,7 +21,7 @@ impl<E: Env> PagableSerialize<E> for Value {
 }
 
 // Writes the number of a case.
-#[tactic(auto, using(pagable_codec::proofs::Writing::parts, pagable_codec::proofs::Adding::steps, crate::proofs::Parts::err_along))]
+#[tactic(auto, using(pagable_codec::proofs::Writing::parts, pagable_codec::proofs::Writing::steps, crate::proofs::Parts::err_along))]
 fn write_case<E: Env, S: PagableSerializer<E>>(case: usize, serializer: &mut S) -> Result<(), Error>
     ensures { Wrote E.Env S.PagableSerializer (bytes (unsigned_form w64 case)) memory serializer.old serializer.new result }
 {

@@ -3,7 +3,7 @@
 
 ghost use Rattle.std.specs.{Int.{w8, w16, w32, w64, w128}, Prelude.{◌≡◌, ◌++◌, ◌<◌, ◌^◌, OnOk, IfErr}};
 ghost use Rattle.pagable_model.specs.{Meaning.{number, integer, none, flag as flag_meaning}, Shape.{unsigned, signed, flag, letter, nothing, duration}};
-ghost use Rattle.pagable_model.specs.{Basic.{duration_at, duration_form}, Gives.{Gives, never, memory, Extends}, Track.{left, GoesOn}, Spans.{of_span, seconds_of, nanos_of}};
+ghost use Rattle.pagable_model.specs.{Basic.{duration_at, duration_form}, Gives.{Gives, never, memory, Extends}, Track.{left, GoesOn}, Carried.{of_span, seconds_of, nanos_of}};
 ghost use Rattle.pagable_traits.specs.{Meanings.{exactly}, OwnCauses.{writes_never}};
 
 use crate::alike::{CarriedAs, ReadAs};

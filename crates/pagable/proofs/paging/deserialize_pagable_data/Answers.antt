@@ -1,5 +1,4 @@
-use Rattle.std.proofs.Common.{inl, inr, sym}
-use Rattle.pagable.specs.Taken.{value-is-read, reading-is-refused, node-comes-back}
+use Rattle.{pagable.specs.Taken.{value-is-read, reading-is-refused, node-comes-back}, std.proofs.Common.{inl, inr, sym}}
 use Rattle.pagable.proofs.paging.deserialize_pagable_data.Goals as goal
 
 pub returns-in-Ok-Some : goal.returns-in-Ok-Some

@@ -1,4 +1,4 @@
-use Rattle.{pagable_loads.{proofs.Needed.is_read, specs.Telling.values_at}, pagable_core.specs.Data.blob_of}
+use Rattle.{pagable_core.specs.Data.blob_of, pagable_loads.{proofs.Stepped.is_read, specs.Telling.values_at}}
 use Rattle.pagable_loads.proofs.decoding.decode.Goals as goal
 
 pub returns-in-Ok : goal.returns-in-Ok

@@ -1,4 +1,4 @@
-use Rattle.{pagable_loads.proofs.Needed.reads_with, std.proofs.Common.rules, pagable_core.specs.Data.blob_of}
+use Rattle.{pagable_core.specs.Data.blob_of, pagable_loads.proofs.Stepped.reads_with, std.proofs.Common.rules}
 use Rattle.pagable_loads.proofs.decoding.read_got.Goals as goal
 
 pub returns-clause-reads : goal.returns-clause-reads

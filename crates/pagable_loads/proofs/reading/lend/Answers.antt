@@ -1,5 +1,5 @@
 use Rattle.{std.{proofs.{Common.{ap, arith, length, rules, subst, sym, ◌∙◌}, lemmas.Option.slice_get-get_or}, specs.Arc.arc_value}, pagable_loads.{specs.Got.LendsEach, proofs.Stepped.{tells_all, tells_both, tells_map}}}
-use Rattle.pagable_loads.proofs.Lent.{none_lent, more_lent, all_lent}
+use Rattle.pagable_loads.proofs.Stepped.{all_lent, more_lent, none_lent}
 use Rattle.pagable_loads.proofs.reading.lend.Goals as goal
 
 pub returns-then-not-is_any_read_at_once-clause-lends : goal.returns-then-not-is_any_read_at_once-clause-lends

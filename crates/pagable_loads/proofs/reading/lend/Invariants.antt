@@ -1,4 +1,4 @@
-use Rattle.{pagable_loads.{proofs.Lent.LentTo, specs.Telling.Tells}, std.{proofs.Common.{◌≡◌, length}, specs.Arc.arc_value}}
+use Rattle.{pagable_loads.{proofs.Stepped.LentTo, specs.Telling.Tells}, std.{proofs.Common.{length, ◌≡◌}, specs.Arc.arc_value}}
 use Rattle.pagable_loads.proofs.reading.lend.Given as goal
 
 -- those before this one lend theirs

@@ -1,4 +1,4 @@
-use Rattle.pagable_machine.proofs.Happening.{serves, serves-less}
+use Rattle.pagable_machine.proofs.Driven.{serves, serves-less}
 use Rattle.pagable_machine.proofs.calls.serve.Goals as goal
 
 pub returns-in-LoadAdopt : goal.returns-in-LoadAdopt

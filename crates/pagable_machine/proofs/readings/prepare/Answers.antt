@@ -1,4 +1,4 @@
-use Rattle.pagable_machine.proofs.{Happening.begins-prepared, Happening.is-prepared, Happening.keeps-after, Words.rules}
+use Rattle.{std.proofs.Common.rules, pagable_machine.proofs.Driven.{begins-prepared, is-prepared, keeps-after}}
 use Rattle.pagable_machine.proofs.readings.prepare.Goals as goal
 
 pub returns-then-is_some-clause-ready : goal.returns-then-is_some-clause-ready

@@ -1,10 +1,11 @@
-use Rattle.pagable_machine.proofs.{Driven.table-drives, Keeping.{nothing-done, refused}, Words.{rules, refl, ◌≡◌, ◌+◌, length, values_at, ◌∙◌, ap, ◌++◌, ◌∷◌, []}}
+use Rattle.{std.proofs.Common.{rules, refl, ◌≡◌, ◌+◌, length, ◌∙◌, ap, ◌++◌, ◌∷◌, []}, pagable_loads.specs.Telling.values_at, pagable_machine.proofs.{Driven.table-drives, Keeping.nothing-done}}
+use Rattle.pagable_machine.proofs.Keeping.{refused, drives}
 use Rattle.pagable_machine.proofs.workers.table_new.Goals as goal
 
 pub returns-then-is_err : goal.returns-then-is_err
 returns-then-is_err g c =
-    refused (values_at g.E.Node.NodeSet g.E.Env g.E.Hash.KeyHash) _ _ _ _ _ c.requires c.is_whole.ensures (nothing-done _ c.is_whole.ensures)
-    (record { readings = λ l. refl; tables = c.reserve.ensures.items; walks = λ q. refl }) _ _ (λ q. refl) (λ stays. record { made = tt; refused = (refl, stays) }) tt
+    drives (refused _ c.requires c.is_whole.ensures (nothing-done _ c.is_whole.ensures) (record { readings = λ l. refl; tables = c.reserve.ensures.items; walks = λ q. refl }) _ _ (λ q. refl)
+    (λ stays. record { made = tt; refused = (refl, stays) }) tt)
 
 pub returns : goal.returns
 returns g c =

@@ -1,4 +1,4 @@
-use Rattle.pagable_machine.proofs.{Stepping.set-at, Words.rules, Words.◌≡◌, Words.◌-◌, Words.refl, Words.arith, Words.slice_get_read}
+use Rattle.{std.proofs.{Common.{rules, ◌≡◌, ◌-◌, refl, arith}, lemmas.Option.slice_get_read}, pagable_machine.proofs.Running.set-at}
 use Rattle.pagable_machine.proofs.workers.walk_on.Goals as goal
 
 pub returns : goal.returns

@@ -1,19 +1,18 @@
-use Rattle.pagable_machine.proofs.{Driven.{entry-refused, listed-started}, Happening.keeps-after, Keeping.{nothing-done, refused}}
-use Rattle.pagable_machine.proofs.Words.{rules, ◌≡◌, ◌<◌, ◌≤◌, length, inl, inr, refl, arith, values_at, core_in, telling}
+use Rattle.{std.proofs.Common.{rules, ◌≡◌, ◌<◌, ◌≤◌, length, inl, inr, refl, arith}, pagable_loads.specs.Telling.values_at, pagable_machine.proofs.Driven.{entry-refused, listed-started, keeps-after}}
+use Rattle.{pagable_machine.proofs.Keeping.{nothing-done, refused, drives}, pagable_pager.specs.View.{core_in, telling}}
 use Rattle.pagable_machine.proofs.workers.worker_listed.Goals as goal
 
 pub returns-then-place-pending : goal.returns-then-place-pending
 returns-then-place-pending g c =
     let past : length (core_in (telling g.S.PagableStorage.stored g.S.PagableStorage.is_closed g.S.PagableStorage.failed) c.args.pager.now).list ≤ c.args.place = grind arith in
-    refused (values_at g.E.Node.NodeSet g.E.Env g.E.Hash.KeyHash) _ _ _ _ _ c.requires c.is_whole.ensures (nothing-done _ c.is_whole.ensures)
-    (record { readings = λ l. refl; tables = refl; walks = λ q. refl }) _ _ (λ q. refl) (λ stays. record { starts = tt; refused = (inl (refl, inr past), stays) }) tt
+    drives (refused _ c.requires c.is_whole.ensures (nothing-done _ c.is_whole.ensures) (record { readings = λ l. refl; tables = refl; walks = λ q. refl }) _ _ (λ q. refl)
+    (λ stays. record { starts = tt; refused = (inl (refl, inr past), stays) }) tt)
 
 pub returns-in-Err : goal.returns-in-Err
 returns-in-Err g c =
     let within : c.args.place < length (core_in (telling g.S.PagableStorage.stored g.S.PagableStorage.is_closed g.S.PagableStorage.failed) c.args.pager.now).list = grind arith in
-    refused (values_at g.E.Node.NodeSet g.E.Env g.E.Hash.KeyHash) _ _ _ _ _ c.requires c.is_whole.ensures (nothing-done _ c.is_whole.ensures)
-    (record { readings = λ l. refl; tables = refl; walks = c.ready.ensures.same }) _ _ (λ q. refl)
-    (λ stays. record { starts = tt; refused = (elim c.in-Err.ensures.refused [ inl (is, none) ↦ inl (is, inl none) | inr (is, there) ↦ inr (inr (is, there, within)) ], stays) }) tt
+    drives (refused _ c.requires c.is_whole.ensures (nothing-done _ c.is_whole.ensures) (record { readings = λ l. refl; tables = refl; walks = c.ready.ensures.same }) _ _ (λ q. refl)
+    (λ stays. record { starts = tt; refused = (elim c.in-Err.ensures.refused [ inl (is, none) ↦ inl (is, inl none) | inr (is, there) ↦ inr (inr (is, there, within)) ], stays) }) tt)
 
 pub returns-in-Ok : goal.returns-in-Ok
 returns-in-Ok g c =

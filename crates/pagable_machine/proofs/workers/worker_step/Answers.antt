@@ -1,12 +1,12 @@
-use Rattle.pagable_machine.proofs.{Words.{rules, ◌≡◌, true, false, sym, ◌∙◌, is_some, values_at, has_task, kept_at, refl}, Driven.no-task, Stepping.worker-moved, Keeping.{nothing-done, refused}}
+use Rattle.{std.{proofs.Common.{rules, ◌≡◌, true, false, sym, ◌∙◌, refl}, specs.Prelude.is_some}, pagable_loads.specs.Telling.values_at, pagable_machine.specs.{Driving.kept_at, Walking.has_task}}
+use Rattle.pagable_machine.proofs.{Driven.no-task, Keeping.{drives, nothing-done, refused}, Running.worker-moved}
 use Rattle.pagable_machine.proofs.workers.worker_step.Goals as goal
 
 pub returns-then-not-has_task : goal.returns-then-not-has_task
 returns-then-not-has_task g c =
     let none : has_task (kept_at c.args.held.now.walks c.args.worker.0) ≡ false = search rules in
-    refused (values_at g.E.Node.NodeSet g.E.Env g.E.Hash.KeyHash) _ _ _ _ _ c.requires c.is_whole.ensures (nothing-done _ c.is_whole.ensures)
-    (record { readings = λ l. refl; tables = refl; walks = λ q. refl }) _ _ (λ q. refl)
-    (λ stays. record { moves = tt; refused = (refl, no-task c.requires _ _ refl none, stays) }) tt
+    drives (refused _ c.requires c.is_whole.ensures (nothing-done _ c.is_whole.ensures) (record { readings = λ l. refl; tables = refl; walks = λ q. refl }) _ _ (λ q. refl)
+    (λ stays. record { moves = tt; refused = (refl, no-task c.requires _ _ refl none, stays) }) tt)
 
 pub walk_on-requires-clause-table : goal.walk_on-requires-clause-table
 walk_on-requires-clause-table g c = (c.requires.walks _ _ (sym c.in-Some.ensures.value)).table

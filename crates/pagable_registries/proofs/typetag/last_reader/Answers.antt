@@ -1,5 +1,4 @@
-use Rattle.std.{proofs.Common.{◌≡◌, ◌+◌, ◌-◌, length, true, false, arith, rules}, specs.Str.bytes_eq, specs.String.string_bytes}
-use Rattle.pagable_registries.proofs.Tagged.{is_last, none_from_less}
+use Rattle.{pagable_registries.proofs.Tagged.{is_last, none_from_less}, std.{proofs.Common.{◌≡◌, ◌+◌, ◌-◌, length, true, false, arith, rules}, specs.{Str.bytes_eq, String.string_bytes}}}
 use Rattle.pagable_registries.proofs.typetag.last_reader.Goals as goal
 
 pub returns-then-eq-clause-found : goal.returns-then-eq-clause-found

@@ -1,5 +1,4 @@
-use Rattle.std.{proofs.Common.{map, ◌-◌}, specs.String.string_bytes}
-use Rattle.pagable_registries.proofs.Tagged.{NoneFrom}
+use Rattle.{pagable_registries.proofs.Tagged.NoneFrom, std.{proofs.Common.{map, ◌-◌}, specs.String.string_bytes}}
 use Rattle.pagable_registries.proofs.typetag.last_reader.Given as goal
 
 abbrev pub invariant-loop-passed : goal.invariant-loop-passed

@@ -1,10 +1,7 @@
-use Rattle.pagable_tables.proofs.{Calls.begin-whole, Doing.{does-by, nothing-does}, Words.{Bool, Cell, Error, HandleRow, None, OptionalDataKey, Owns, Some, ap, arith, cell_in, core_of, counts_at}}
-use Rattle.pagable_tables.proofs.Words.{earlier, false, if_there, inl, inr, is_handle_here, is_here, is_in_memory, is_loose, key_in, live, nat_tests, not, rank, rules, spent, sym, true, where_so, ℕ}
-use Rattle.{pagable_tables.proofs.{Words.{◌∙◌, ◌≡◌, ◌≤◌}, Worlds.{failed, handle-first, here-told, owner-same, still}}, pagable_world.specs.LoadCalls.begin_fault}
+use Rattle.pagable_tables.proofs.{Calls.begin-whole, Doing.{does-by, nothing-does}, Words.{Cell, HandleRow, None, OptionalDataKey, Owns, Some, ap, arith, cell_in, core_of, counts_at, false, if_there}}
+use Rattle.pagable_tables.proofs.{Words.{inl, inr, is_here, is_in_memory, is_loose, key_in, live, nat_tests, rules, sym, true, ◌∙◌, ◌≡◌}, Worlds.{failed, handle-first, here-told, owner-same, still}}
+use Rattle.pagable_world.specs.LoadCalls.{begin_fault}
 use Rattle.pagable_tables.proofs.loading.load_begin.Goals as goal
-
-numbers-late : (so : Bool) (m n : ℕ) (f : Error) → where_so so (earlier (spent m) (spent n)) ≡ Some f → 3 ≤ rank f
-numbers-late so m n f is = grind (arith, nat_tests)
 
 pub returns-in_err-at : goal.returns-in_err-at
 returns-in_err-at c =
@@ -12,7 +9,7 @@ returns-in_err-at c =
     rw (failed c.from_residual.result c.from_residual.ensures.1) (nothing-does c.requires.whole
     (λ stored closed failures.
     let w = core_of t stored closed failures in
-    record { begins = tt; refused = record { why = inl (handle-first w c.args.me c.args.handle is_loose _ _ (c.in_err-at.ensures.fault stored closed failures is_loose) (numbers-late (not (is_handle_here w c.args.handle)) t.last_load t.holdings.last_handle)); stays = still w } }))
+    record { begins = tt; refused = record { why = inl (handle-first w c.args.me c.args.handle is_loose _ _ (c.in_err-at.ensures.fault stored closed failures is_loose) (λ f is. grind (arith, nat_tests))); stays = still w } }))
 
 pub returns : goal.returns
 returns c =

@@ -3,26 +3,16 @@ use Rattle.pagable_tables.{proofs.{Next.passes-none, Words.{IsFalling, known_at,
 use Rattle.pagable_tables.proofs.tables.new.Goals as goal
 
 -- tables of nothing are whole
-module _ (t : Tables) (dead : t.holdings.handles.dead ≡ 0) (rows : t.holdings.handles.places.items ≡ []) (found : (n : ℕ) → get nat_eq t.holdings.nodes n ≡ None) (list : t.holdings.list.items ≡ [])
-    (cache : (kind key : ℕ) → known_at t.cache kind key ≡ None) (loads : (l : ℕ) → load_at t.loads l ≡ None) (workers : (v : ℕ) → worker_at t.workers v ≡ None)
-    (last : (t.holdings.top ≡ 0) × (t.holdings.last_handle ≡ 0) × (t.last_node ≡ 0) × (t.last_load ≡ 0)) where
-  none : (n : ℕ) → counts_at t.holdings.nodes n ≡ None
-  none n = ap (option_map (λ (r : NodeRow). r.counts)) (found n)
-
-  empty : live t.holdings.handles.places.items ≡ []
-  empty = ap live rows
-
-  sound : AreSound t.holdings.handles
-  sound = grind (arith, nat_tests, empty)
-
-  steady : IsFalling t.holdings [] owns_nothing
-  steady = grind (arith, nat_tests, none, empty, sound)
-
-  nobody : (h : HandleRow) → Among (live t.holdings.handles.places.items) h → ⊥
-  nobody h among = let a = subst (λ rs. Among rs h) empty among in absurd (cc)
-
-  nothing-whole : IsWhole t
-  nothing-whole = grind (arith, nat_tests, steady, empty, nobody, none)
+nothing-whole : (t : Tables) → t.holdings.handles.dead ≡ 0 → t.holdings.handles.places.items ≡ [] → ((n : ℕ) → get nat_eq t.holdings.nodes n ≡ None) → t.holdings.list.items ≡ []
+    → ((kind key : ℕ) → known_at t.cache kind key ≡ None) → ((l : ℕ) → load_at t.loads l ≡ None) → ((v : ℕ) → worker_at t.workers v ≡ None)
+    → (t.holdings.top ≡ 0) × (t.holdings.last_handle ≡ 0) × (t.last_node ≡ 0) × (t.last_load ≡ 0) → IsWhole t
+nothing-whole t dead rows found list cache loads workers last =
+    let none : (n : ℕ) → counts_at t.holdings.nodes n ≡ None = λ n. ap (option_map (λ (r : NodeRow). r.counts)) (found n) in
+    let empty : live t.holdings.handles.places.items ≡ [] = ap live rows in
+    let sound : AreSound t.holdings.handles = grind (arith, nat_tests, empty) in
+    let steady : IsFalling t.holdings [] owns_nothing = grind (arith, nat_tests, none, empty, sound) in
+    let nobody : (h : HandleRow) → Among (live t.holdings.handles.places.items) h → ⊥ = λ h among. let a = subst (λ rs. Among rs h) empty among in absurd (cc) in
+    grind (arith, nat_tests, steady, empty, nobody, none)
 
 nothing-later : (t : Tables) → live t.holdings.handles.places.items ≡ [] → ((l : ℕ) → load_at t.loads l ≡ None) → ((v : ℕ) → worker_at t.workers v ≡ None) → AreLater t
 nothing-later t none loads workers = grind (arith, nat_tests, passes-none)

@@ -1,11 +1,7 @@
-use Rattle.pagable_tables.proofs.{Calls.worker-end-whole, Doing.sheds-by, Fitting.begun-less, Newer.{in-reach, later-less, loads-anew, newer-falls, passes-given, worker-gone}, Words.{Falls, Giving}}
-use Rattle.pagable_tables.proofs.Words.{InReach, LoadRow, Option, Some, arith, cases_eq, core_of, gives_row, is_workers, left_load, load_at, nat_tests, plain_of, refl, subst, sym, with_tables}
-use Rattle.pagable_tables.proofs.Words.{without_worker, worker_at, ℕ, ◌∙◌, ◌≡◌}
+use Rattle.pagable_tables.proofs.{Calls.worker-end-whole, Doing.sheds-by, Fitting.begun-less, Newer.{in-reach, later-less, loads-anew, newer-falls, passes-given, worker-gone}}
+use Rattle.pagable_tables.proofs.Words.{Falls, Giving, InReach, Some}
+use Rattle.pagable_tables.proofs.Words.{arith, cases_eq, core_of, gives_row, is_workers, left_load, load_at, nat_tests, plain_of, refl, subst, sym, with_tables, without_worker, worker_at, ◌∙◌, ◌≡◌}
 use Rattle.pagable_tables.proofs.workers.worker_end.Goals as goal
-
--- a load that is left was open
-left-was : (v : ℕ) (row : Option LoadRow) (load : LoadRow) → left_load v row ≡ Some load → row ≡ Some load
-left-was v row load is = grind (arith, nat_tests)
 
 pub returns : goal.returns
 returns g c =
@@ -23,6 +19,6 @@ returns g c =
     let loads = loads-anew w u (with_tables u h) (is_workers w v) r w'.loads (λ l. let left = c.close_loads.ensures l in grind (arith, nat_tests)) falls in
     record { told = r; falls = subst (λ s. Falls w u (is_workers w v) r (record (with_tables u h) { loads = w'.loads; workers = s })) (λ i q. worker-gone (worker_at t.workers) (worker_at c.close.new.rows) v c.close.ensures.gone c.close.ensures.others q i) loads })
     c.give_all.ensures.steady (worker-end-whole v c.requires.whole.core)
-    (λ ends later. later-less later (newer-falls ends.falls) (λ l load is. left-was v (load_at t.loads l) load (sym (c.close_loads.ensures l) ∙ is))
+    (λ ends later. later-less later (newer-falls ends.falls) (λ l load is. let left : left_load v (load_at t.loads l) ≡ Some load = sym (c.close_loads.ensures l) ∙ is in grind (arith, nat_tests))
     (grind (arith, nat_tests, cases_eq, c.close.ensures.gone, c.close.ensures.others)))
     c.give_all.ensures.sheds

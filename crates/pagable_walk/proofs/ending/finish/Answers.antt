@@ -1,4 +1,4 @@
-use Rattle.{pagable_loads.proofs.Stepped.acts_map, pagable_walk.{proofs.Closing.{finish-fails, finish-stores}, specs.Tasks.todos}, std.proofs.Common.refl}
+use Rattle.{pagable_loads.proofs.Stepped.acts_map, pagable_walk.{proofs.Turning.{finish-fails, finish-stores}, specs.Tasks.todos}, std.proofs.Common.refl}
 use Rattle.pagable_walk.proofs.ending.finish.Goals as goal
 
 pub returns-in-Ok-clause-acts : goal.returns-in-Ok-clause-acts

@@ -1,4 +1,4 @@
-use Rattle.{pagable_loads.proofs.Stepped.acts_map, pagable_walk.{specs.Tasks.todos, proofs.Closing.set-goes}}
+use Rattle.{pagable_loads.proofs.Stepped.acts_map, pagable_walk.{proofs.Turning.set-goes, specs.Tasks.todos}}
 use Rattle.pagable_walk.proofs.ending.set_key.Goals as goal
 
 pub returns-in-Ok-clause-acts : goal.returns-in-Ok-clause-acts

@@ -1,6 +1,5 @@
-use Rattle.std.{proofs.Common.refl, specs.Arc.arc_value}
+use Rattle.{pagable_walk.{specs.{Table.shelf_of, Slots.written_of, Tasks.todos}, proofs.Pages.{is-caller, item-walked}}, std.{specs.Arc.arc_value, proofs.Common.refl}}
 use Rattle.pagable_loads.proofs.Stepped.{acts_on}
-use Rattle.pagable_walk.{specs.{Slots.written_of, Table.shelf_of, Tasks.todos}, proofs.Pages.{item-walked, is-caller}}
 use Rattle.pagable_walk.proofs.over.page_out_item_over.Goals as goal
 
 pub returns-in-Ok-worker_begin : goal.returns-in-Ok-worker_begin

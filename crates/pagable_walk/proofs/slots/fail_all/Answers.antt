@@ -1,4 +1,4 @@
-use Rattle.pagable_walk.proofs.Failing.{still-named}
+use Rattle.pagable_walk.proofs.Waits.{still-named}
 use Rattle.pagable_walk.proofs.slots.fail_all.Goals as goal
 
 pub returns-clause-own : goal.returns-clause-own

@@ -1,4 +1,4 @@
-use Rattle.{std.proofs.Common.sym, pagable_walk.proofs.Failing.row-fails}
+use Rattle.{pagable_walk.proofs.Waits.row-fails, std.proofs.Common.sym}
 use Rattle.pagable_walk.proofs.slots.fail_at.Goals as goal
 
 pub returns-in-Some : goal.returns-in-Some

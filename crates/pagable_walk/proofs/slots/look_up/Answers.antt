@@ -1,4 +1,4 @@
-use Rattle.{std.{proofs.Common.{◌∙◌, refl, sym, ap}, specs.Option.option_map}, pagable_walk.{specs.Slots.{slot_of, outcome_of}, proofs.Held.same-numbers}}
+use Rattle.{pagable_walk.{proofs.Waits.same-numbers, specs.Slots.{outcome_of, slot_of}}, std.{proofs.Common.{ap, refl, sym, ◌∙◌}, specs.Option.option_map}}
 use Rattle.pagable_walk.proofs.slots.look_up.Goals as goal
 
 pub returns-in-Open : goal.returns-in-Open

@@ -1,5 +1,5 @@
 use Rattle.{std.proofs.Common.{◌∷◌, ap, ◌∙◌, sym}, std.specs.Arc.arc_value, pagable_world.specs.Workers.settle, pagable_walk.specs.{Slots.{keys_of, written_of}, Tasks.{todos, waiting_todo}}}
-use Rattle.pagable_walk.proofs.{Stacks.{give-is, todos-more}, Ways.takes-next}
+use Rattle.pagable_walk.proofs.Stacks.{give-is, takes-next, todos-more}
 use Rattle.pagable_walk.proofs.stack.give.Goals as goal
 
 pub returns-clause-gives : goal.returns-clause-gives

@@ -1,4 +1,4 @@
-use Rattle.{std.proofs.Common.ap, pagable_loads.proofs.Stepped.acts_on, pagable_walk.{specs.{Table.shelf_of, Tasks.todos, Turns.{acting_then, plan}}, proofs.Joined.goes-walked}}
+use Rattle.{pagable_loads.proofs.Stepped.acts_on, pagable_walk.{proofs.Turning.goes-walked, specs.{Table.shelf_of, Tasks.todos, Turns.{acting_then, plan}}}, std.proofs.Common.ap}
 use Rattle.pagable_walk.proofs.step.run.Goals as goal
 
 pub loop-next-preserved : goal.loop-next-preserved

@@ -1,4 +1,4 @@
-use Rattle.{std.proofs.Common.refl, pagable_loads.proofs.Stepped.acts_on, pagable_walk.{specs.{Table.shelf_of, Tasks.todos}, proofs.Joined.steps-to}}
+use Rattle.{pagable_loads.proofs.Stepped.acts_on, pagable_walk.{proofs.Turning.steps-to, specs.{Table.shelf_of, Tasks.todos}}, std.proofs.Common.refl}
 use Rattle.pagable_walk.proofs.step.step.Goals as goal
 
 pub returns-clause-acts : goal.returns-clause-acts

@@ -1,5 +1,4 @@
-use Rattle.{std.{proofs.Common.{refl}}, pagable_loads.proofs.Stepped.acts_all}
-use Rattle.pagable_walk.{specs.{Table.shelf_of, Tasks.todos, declared.tasks.Task.Task}, proofs.{Joined.steps-to, Turning.start-refused}}
+use Rattle.{pagable_loads.proofs.Stepped.acts_all, pagable_walk.{proofs.Turning.{start-refused, steps-to}, specs.{Table.shelf_of, Tasks.todos, declared.tasks.Task.Task}}, std.proofs.Common.refl}
 use Rattle.pagable_walk.proofs.step.step_within.Goals as goal
 
 pub returns-then-left-eq0-clause-acts : goal.returns-then-left-eq0-clause-acts

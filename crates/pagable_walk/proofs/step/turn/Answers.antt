@@ -1,4 +1,4 @@
-use Rattle.{pagable_loads.proofs.Stepped.{acts_map, acts_same, tells_map}, pagable_walk.{specs.{Table.shelf_of, Tasks.todos}, proofs.{Closing.ends-failed, Turning.start-turns}}}
+use Rattle.{pagable_loads.proofs.Stepped.{acts_map, acts_same, tells_map}, pagable_walk.{proofs.Turning.{ends-failed, start-turns}, specs.{Table.shelf_of, Tasks.todos}}}
 use Rattle.pagable_walk.proofs.step.turn.Goals as goal
 
 pub returns-in-Start-clause-acts : goal.returns-in-Start-clause-acts

@@ -1,4 +1,4 @@
-use Rattle.{std.proofs.Common.{refl}, pagable_loads.proofs.Stepped.acts_map, pagable_walk.{specs.Tasks.todos, proofs.Pinning.{load-goes, load-pins, load-fails}}}
+use Rattle.{pagable_loads.proofs.Stepped.acts_map, pagable_walk.{proofs.Turning.{load-fails, load-goes, load-pins}, specs.Tasks.todos}, std.proofs.Common.refl}
 use Rattle.pagable_walk.proofs.turns.load.Goals as goal
 
 pub returns-in-None-clause-acts : goal.returns-in-None-clause-acts

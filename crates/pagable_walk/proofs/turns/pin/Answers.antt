@@ -1,4 +1,4 @@
-use Rattle.{pagable_loads.proofs.Stepped.acts_map, pagable_walk.{specs.Tasks.todos, proofs.Pinning.{pin-begins, pin-holds}}}
+use Rattle.{pagable_loads.proofs.Stepped.acts_map, pagable_walk.{proofs.Turning.{pin-begins, pin-holds}, specs.Tasks.todos}}
 use Rattle.pagable_walk.proofs.turns.pin.Goals as goal
 
 pub returns-in-Held-clause-acts : goal.returns-in-Held-clause-acts

@@ -1,5 +1,4 @@
-use Rattle.std.proofs.{Common.{ap, sym, ◌∙◌, refl}, lemmas.Bool.and_parts, lemmas.Bool.Decides.Decides-eqb, lemmas.Slice.Eq.slice_eq-Decides}
-use Rattle.pagable_model.specs.Blob.{Blob}
+use Rattle.{std.proofs.{Common.{ap, sym, ◌∙◌, refl}, lemmas.{Bool.{and_parts, Decides.Decides-eqb}, Slice.Eq.slice_eq-Decides}}, pagable_model.specs.Blob.Blob}
 use Rattle.pagable_core.proofs.storage.in_memory.is_same.Goals as goal
 
 pub returns : goal.returns

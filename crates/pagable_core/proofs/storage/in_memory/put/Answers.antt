@@ -1,5 +1,4 @@
-use Rattle.std.proofs.Common.{ap}
-use Rattle.pagable_core.{specs.Data.blob_of, proofs.Adding.stored_more}
+use Rattle.{std.proofs.Common.ap, pagable_core.{proofs.Adding.stored_more, specs.Data.blob_of}}
 use Rattle.pagable_core.proofs.storage.in_memory.put.Goals as goal
 
 pub returns-clause-ok : goal.returns-clause-ok

@@ -1,5 +1,4 @@
-use Rattle.std.proofs.Common.{arith}
-use Rattle.pagable_flavors.proofs.Varint.{ReadsOn_more, ReadsOn_last}
+use Rattle.{std.proofs.Common.arith, pagable_flavors.proofs.Varint.{ReadsOn_more, ReadsOn_last}}
 use Rattle.pagable_flavors.proofs.slice.numbers.varint_of.Goals as goal
 
 pub returns-then-place-more-clause-gives : goal.returns-then-place-more-clause-gives

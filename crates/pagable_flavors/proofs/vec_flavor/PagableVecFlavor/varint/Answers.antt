@@ -1,5 +1,4 @@
-use Rattle.std.proofs.Common.{◌+◌, ◌%◌, refl}
-use Rattle.pagable_flavors.proofs.Varint.{WritesOn_more}
+use Rattle.{std.proofs.Common.{◌+◌, ◌%◌, refl}, pagable_flavors.proofs.Varint.WritesOn_more}
 use Rattle.pagable_flavors.proofs.vec_flavor.PagableVecFlavor.varint.Goals as goal
 
 pub loop-rest-preserved : goal.loop-rest-preserved

@@ -1,5 +1,4 @@
-use Rattle.std.proofs.Common.{◌+◌, ◌%◌, refl, arith}
-use Rattle.pagable_flavors.proofs.Varint.{WritesOn_more, WritesOn_last, room-128}
+use Rattle.{std.proofs.Common.{◌+◌, ◌%◌, refl, arith}, pagable_flavors.proofs.Varint.{WritesOn_more, WritesOn_last, room-128}}
 use Rattle.pagable_flavors.proofs.vec_flavor.PagableVecFlavor.write_u128.Goals as goal
 
 pub loop-rest-preserved : goal.loop-rest-preserved

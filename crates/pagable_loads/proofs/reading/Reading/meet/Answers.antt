@@ -1,6 +1,5 @@
-use Rattle.{std.{specs.Arc.arc_value, proofs.Common.{refl, [], inl, inr}}, pagable_core.specs.Data.blob_of, pagable_world.specs.Loads.{nested_frame, root_frame}}
-use Rattle.pagable_loads.{specs.Frames.{frame_of, onto}, proofs.{Lowering.{got_leads, blob_leads, root_leads}, Needed.below_short}}
-use Rattle.pagable_loads.proofs.Stepped.{acts_map, fails, met, root_comes, nested_known, nested_blob, nested_deep}
+use Rattle.{pagable_core.specs.Data.blob_of, pagable_world.specs.Loads.{nested_frame, root_frame}, pagable_loads.{specs.Frames.{frame_of, onto}, proofs.Foreseen.{got_leads, blob_leads, root_leads}}}
+use Rattle.{pagable_loads.proofs.Stepped.{nested_deep, nested_blob, fails, met, acts_map, nested_known, root_comes, below_short}, std.{specs.Arc.arc_value, proofs.Common.{refl, [], inl, inr}}}
 use Rattle.pagable_loads.proofs.reading.Reading.meet.Goals as goal
 
 -- ---- the root's blob

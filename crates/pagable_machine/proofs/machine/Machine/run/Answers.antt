@@ -1,4 +1,4 @@
-use Rattle.pagable_machine.proofs.{Running.at-first, Running.one-more, Running.all-ran, Words.rules, Words.◌≡◌, Words.length, Words.sym, Words.arith, Words.over}
+use Rattle.{std.proofs.Common.{rules, ◌≡◌, length, sym, arith}, pagable_machine.{proofs.Running.{at-first, one-more, all-ran}, specs.Driving.over}}
 use Rattle.pagable_machine.proofs.machine.Machine.run.Goals as goal
 
 pub loop-event-init : goal.loop-event-init

@@ -1,4 +1,5 @@
-use Rattle.pagable_machine.proofs.{Running.SoFar, Words.◌+◌, Words.◌≤◌, Words.length, Words.vec_len, Words.vec_capacity, Words.values_at, Words.telling, Words.over}
+use Rattle.{std.{proofs.Common.{◌+◌, ◌≤◌, length, vec_len}, specs.Vec.vec_capacity}, pagable_loads.specs.Telling.values_at, pagable_machine.{proofs.Running.SoFar, specs.Driving.over}}
+use Rattle.pagable_pager.specs.View.{telling}
 use Rattle.pagable_machine.proofs.machine.Machine.run.Given as goal
 
 -- the events so far have happened, and there is room for the replies to the rest

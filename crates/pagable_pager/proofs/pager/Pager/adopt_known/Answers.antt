@@ -1,4 +1,4 @@
-use Rattle.{pagable_pager.proofs.{Keeping.{known-valued, only-less, told-open}, Putting.found-so}, pagable_tables.proofs.Newer.eager-pins}
+use Rattle.{pagable_pager.proofs.Keeping.{known-valued, only-less, told-open, found-so}, pagable_tables.proofs.Newer.eager-pins}
 use Rattle.pagable_pager.proofs.pager.Pager.adopt_known.Goals as goal
 
 pub adopt_if_known-requires-clause-valued : goal.adopt_if_known-requires-clause-valued

@@ -1,4 +1,4 @@
-use Rattle.pagable_pager.proofs.Keeping.{shut-pager, shut-told}
+use Rattle.pagable_pager.proofs.Lending.{shut-pager, shut-told}
 use Rattle.pagable_pager.proofs.pager.Pager.close.Goals as goal
 
 pub invariant_of-self : goal.invariant_of-self

@@ -1,4 +1,4 @@
-use Rattle.pagable_pager.{proofs.Putting.{less-moves, none-so, same-moves}, specs.View.telling}
+use Rattle.pagable_pager.{proofs.Keeping.{less-moves, none-so, same-moves}, specs.View.telling}
 use Rattle.pagable_pager.proofs.pager.Pager.load_adopt_by.Goals as goal
 
 pub returns-in-Err-clause-moves : goal.returns-in-Err-clause-moves

@@ -1,4 +1,4 @@
-use Rattle.{pagable_pager.proofs.{Putting.{ended-so, ended-told, no-room, ready-told, refused-moves, refused-so, stays-so}, Keeping.told-open}, std.proofs.Common.refl}
+use Rattle.{std.proofs.Common.refl, pagable_pager.proofs.Keeping.{ended-so, ended-told, no-room, ready-told, refused-moves, refused-so, stays-so, told-open}}
 use Rattle.pagable_pager.proofs.pager.Pager.load_end_by.Goals as goal
 
 pub invariant_of-self : goal.invariant_of-self

@@ -1,4 +1,4 @@
-use Rattle.{pagable_pager.proofs.Putting.{born-so, born-told, no-memory, roomier}, std.proofs.Common.refl}
+use Rattle.{std.proofs.Common.refl, pagable_pager.proofs.Keeping.{born-so, born-told, no-memory, roomier}}
 use Rattle.pagable_pager.proofs.pager.Pager.new_node.Goals as goal
 
 pub invariant_of-self : goal.invariant_of-self

@@ -1,4 +1,4 @@
-use Rattle.{pagable_pager.proofs.Putting.{unlisted-gone, unread-open}, pagable_tables.specs.Core.load_in, std.{proofs.Common.{ap, sym, ◌∙◌}, specs.Option.option_map}}
+use Rattle.{std.{proofs.Common.{ap, sym, ◌∙◌}, specs.Option.option_map}, pagable_pager.proofs.Keeping.{unlisted-gone, unread-open}, pagable_tables.specs.Core.load_in}
 use Rattle.pagable_pager.proofs.pager.Pager.unlisted.Goals as goal
 
 pub returns-in-Some : goal.returns-in-Some

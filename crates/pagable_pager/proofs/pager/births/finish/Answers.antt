@@ -1,4 +1,4 @@
-use Rattle.{pagable_pager.{proofs.Putting.{beside-there, drops, puts}, specs.View.PutsIn}, std.proofs.Common.{None, Some, ap, false, subst, sym, ◌∙◌}}
+use Rattle.{std.proofs.Common.{None, Some, ap, false, subst, sym, ◌∙◌}, pagable_pager.{proofs.Keeping.{beside-there, drops, puts}, specs.View.PutsIn}}
 use Rattle.pagable_pager.proofs.pager.births.finish.Goals as goal
 
 pub returns-then-ending-clause-puts : goal.returns-then-ending-clause-puts

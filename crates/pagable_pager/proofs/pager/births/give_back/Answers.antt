@@ -1,4 +1,4 @@
-use Rattle.{pagable_pager.proofs.Putting.vain, pagable_tables.{proofs.Worlds.told-later, specs.{Core.core_of, Ready.Unends}}, std.proofs.Common.{refl, subst}}
+use Rattle.{std.proofs.Common.{refl, subst}, pagable_pager.proofs.Keeping.vain, pagable_tables.{proofs.Worlds.told-later, specs.{Core.core_of, Ready.Unends}}}
 use Rattle.pagable_pager.proofs.pager.births.give_back.Goals as goal
 
 pub returns-in-InVain-clause-refused : goal.returns-in-InVain-clause-refused

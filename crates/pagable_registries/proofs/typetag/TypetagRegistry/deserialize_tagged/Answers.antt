@@ -1,5 +1,4 @@
-use Rattle.std.proofs.Common.{refl}
-use Rattle.pagable_registries.proofs.Tagged.{unknown_read, no_body_read, tagged_read}
+use Rattle.{pagable_registries.proofs.Tagged.{unknown_read, body_read}, std.proofs.Common.refl}
 use Rattle.pagable_registries.proofs.typetag.TypetagRegistry.deserialize_tagged.Goals as goal
 
 pub returns-in_default : goal.returns-in_default
@@ -7,12 +6,7 @@ returns-in_default g c =
     unknown_read g.E.Env g.D.PagableDeserializer g.F.TagReader.read_causes.are g.T.PagableTagged.tag g.T.PagableTagged.body_means.of g.F.TagReader.grammar _ _ _
     c.in_ok-tag.ensures c.as_str.ensures.value refl c.in_default.ensures.missing
 
-pub returns-in_err-value : goal.returns-in_err-value
-returns-in_err-value g c =
-    no_body_read g.E.Env g.D.PagableDeserializer g.F.TagReader.read_causes.are g.T.PagableTagged.tag g.T.PagableTagged.body_means.of g.F.TagReader.grammar _ _ _ _
-    c.from_residual-in_err-value.result c.from_residual-in_err-value.ensures.1 c.in_ok-tag.ensures c.as_str.ensures.value refl c.in-Some.ensures.found c.in_err-value.ensures
-
 pub returns : goal.returns
 returns g c =
-    tagged_read g.E.Env g.D.PagableDeserializer g.F.TagReader.read_causes.are g.T.PagableTagged.tag g.T.PagableTagged.body_means.of g.F.TagReader.grammar _ _ _ _ _ c.in_ok-value.value
-    c.in_ok-tag.ensures c.as_str.ensures.value refl c.in-Some.ensures.found c.in-Some.ensures.own c.in_ok-value.ensures
+    body_read g.E.Env g.D.PagableDeserializer g.F.TagReader.read_causes.are g.T.PagableTagged.tag g.T.PagableTagged.body_means.of g.F.TagReader.grammar _ _ _ _ _ c.read.result
+    c.in_ok-tag.ensures c.as_str.ensures.value refl c.in-Some.ensures.found c.in-Some.ensures.own c.read.ensures

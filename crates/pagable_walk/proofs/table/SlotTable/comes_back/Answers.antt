@@ -1,5 +1,5 @@
 use Rattle.{std.proofs.{Common.{rules, true, false, Some, sym, ap, ◌∙◌, arith}, lemmas.Bool.Decides.nat_tests}, pagable_world.specs.Workers.{is-asker, works, may-go-on}}
-use Rattle.pagable_walk.{specs.{Slots.{open_worker, slots_in}, Table.shelf_of}, proofs.{Ends.nearer, Waits.{leads-on, not-open, open-is}}}
+use Rattle.pagable_walk.{proofs.Waits.{leads-on, nearer, not-open, open-is}, specs.{Slots.{open_worker, slots_in}, Table.shelf_of}}
 use Rattle.pagable_walk.proofs.table.SlotTable.comes_back.Goals as goal
 
 pub returns-then-worker-asker : goal.returns-then-worker-asker

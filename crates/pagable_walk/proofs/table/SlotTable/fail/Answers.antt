@@ -1,4 +1,4 @@
-use Rattle.{std.proofs.Common.{refl, sym, ap, ◌∙◌}, pagable_walk.{specs.{Slots.{shelf_in, slots_in, open_worker}, Table.shelf_of}, proofs.{Ends.less-open, Failing.failure-less}}}
+use Rattle.{pagable_walk.{proofs.Waits.{failure-less, less-open}, specs.{Slots.{open_worker, shelf_in, slots_in}, Table.shelf_of}}, std.proofs.Common.{ap, refl, sym, ◌∙◌}}
 use Rattle.pagable_walk.proofs.table.SlotTable.fail.Goals as goal
 
 pub invariant_of-self-clause-ends : goal.invariant_of-self-clause-ends

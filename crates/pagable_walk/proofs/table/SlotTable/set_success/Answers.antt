@@ -1,5 +1,5 @@
 use Rattle.{std.proofs.Common.{refl, rules}, pagable_world.specs.{Workers.with_outcome, World.published}, pagable_walk.specs.{Slots.{shelf_in, slots_in}, Table.shelf_of}}
-use Rattle.pagable_walk.proofs.{Ends.{changed-less, less-open, outcome-less}, Held.{changed-is, own-changed}}
+use Rattle.pagable_walk.proofs.Waits.{changed-is, changed-less, less-open, outcome-less, own-changed}
 use Rattle.pagable_walk.proofs.table.SlotTable.set_success.Goals as goal
 
 pub returns-in-Some : goal.returns-in-Some

@@ -1,5 +1,5 @@
-use Rattle.{std.{proofs.Common.{refl, rules}, specs.Arc.arc_value}, pagable_walk.{specs.{Slots.{shelf_in, slots_in, with_written, written_of}, Table.shelf_of}, proofs.Ends.{changed-less, less-open}}}
-use Rattle.pagable_walk.proofs.Held.{changed-is, own-changed}
+use Rattle.{pagable_walk.{proofs.Waits.{changed-less, less-open}, specs.{Slots.{shelf_in, slots_in, with_written, written_of}, Table.shelf_of}}, std.{proofs.Common.{refl, rules}, specs.Arc.arc_value}}
+use Rattle.pagable_walk.proofs.Waits.{changed-is, own-changed}
 use Rattle.pagable_walk.proofs.table.SlotTable.set_written.Goals as goal
 
 pub returns-in-Some : goal.returns-in-Some

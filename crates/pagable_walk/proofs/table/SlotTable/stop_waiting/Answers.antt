@@ -1,4 +1,4 @@
-use Rattle.{std.proofs.Common.{None, refl}, pagable_walk.{specs.{Slots.shelf_in, Table.shelf_of}, proofs.{Ends.stopped, Held.wait-is}}}
+use Rattle.{pagable_walk.{proofs.Waits.{stopped, wait-is}, specs.{Slots.shelf_in, Table.shelf_of}}, std.proofs.Common.{None, refl}}
 use Rattle.pagable_walk.proofs.table.SlotTable.stop_waiting.Goals as goal
 
 pub invariant_of-self-clause-ends : goal.invariant_of-self-clause-ends

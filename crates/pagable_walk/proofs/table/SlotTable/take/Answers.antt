@@ -1,5 +1,5 @@
 use Rattle.{std.{proofs.Common.{inl, inr, refl, sym, ap, ◌∙◌}, specs.{Map.lookup, Option.option_map}}, pagable_walk.specs.{Slots.{is_same, open_worker, shelf_in, slot_of}, Table.shelf_of}}
-use Rattle.pagable_walk.proofs.{Ends.{less-open, taken}, Held.{either-way, own-is, slot-is}}
+use Rattle.pagable_walk.proofs.Waits.{either-way, less-open, own-is, slot-is, taken}
 use Rattle.pagable_walk.proofs.table.SlotTable.take.Goals as goal
 
 pub returns-clause-ok : goal.returns-clause-ok

@@ -1,4 +1,4 @@
-use Rattle.{std.{proofs.Common.{Some, refl, ap, inl, inr, nat_eq}, specs.Map.lookup}, pagable_walk.{specs.{Slots.shelf_in, Table.shelf_of}, proofs.{Ends.{less-open, waiting}, Held.{wait-is, either-way}}}}
+use Rattle.{pagable_walk.{proofs.Waits.{either-way, less-open, wait-is, waiting}, specs.{Slots.shelf_in, Table.shelf_of}}, std.{proofs.Common.{Some, ap, inl, inr, nat_eq, refl}, specs.Map.lookup}}
 use Rattle.pagable_walk.proofs.table.SlotTable.wait_for.Goals as goal
 
 pub invariant_of-self-clause-ends : goal.invariant_of-self-clause-ends

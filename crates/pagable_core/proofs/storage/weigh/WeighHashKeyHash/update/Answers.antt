@@ -1,5 +1,4 @@
-use Rattle.std.proofs.Common.{refl, ◌++◌, take}
-use Rattle.pagable_core.proofs.Weighing.{is_weighed_more, take_next}
+use Rattle.{std.proofs.Common.{refl, ◌++◌, take}, pagable_core.proofs.Weighing.{is_weighed_more, take_next}}
 use Rattle.pagable_core.proofs.storage.weigh.WeighHashKeyHash.update.Goals as goal
 
 pub loop-byte-preserved : goal.loop-byte-preserved

@@ -1,0 +1,28 @@
+use Rattle.pagable_tables.proofs.{Words.{arith, refl, inl, inr, Owner, option_map, is_owned_in, without_load, load_at, core_of, plain_of, load_in, with_tables}, Doing.{nothing-shed, sheds-by}}
+use Rattle.pagable_tables.proofs.{Calls.drop-whole, Doing.bare, Fitting.begun-less, Newer.{closed-still, drop-newer, later-so, load-closed, loads-anew, owned-given}, Worlds.{failed, still}}
+use Rattle.pagable_tables.proofs.giving.load_drop.Goals as goal
+
+pub returns-in_err-row : goal.returns-in_err-row
+returns-in_err-row g c = rw (failed c.from_residual.result c.from_residual.ensures.1) (nothing-shed c.requires.whole (λ stored closed failures e. record { does = inl (record { e = c.in_err-row.field-0.0; why = c.in_err-row.ensures.fault stored closed failures; told = refl; stays = still _ }) }))
+
+pub returns : goal.returns
+returns g c =
+    let t = c.args.t.now in
+    let l = c.args.load in
+    sheds-by
+    (λ stored closed failures e.
+    let w = core_of t stored closed failures in
+    let w' = core_of (record t { holdings = c.give_all.new.t; loads = c.close.new.rows }) stored closed failures in
+    let u = without_load w l in
+    let falls = c.give_all.ensures.falls w u (bare (λ m. option_map load_in (load_at c.close.new.rows m))) (λ m. refl) (begun-less t u.loads w.workers stored closed c.args.lists failures c.requires.whole e) (omega arith)
+    (λ q own. let after = c.requires.later.since l.0 c.in_ok-row.row q c.in_ok-row.ensures.row own in ((omega arith, inl after), owned-given (plain_of t) (Owner.Load l) q c.requires.whole.core.handles own)) in
+    record {
+      does = inr (
+        load_in c.in_ok-row.row,
+        c.in_ok-row.ensures.own stored closed failures,
+        loads-anew w u (with_tables u c.give_all.new.t) (is_owned_in w (Owner.Load l)) c.give_all.result w'.loads (load-closed (load_at t.loads) (load_at c.close.new.rows) l.0 c.close.ensures.gone c.close.ensures.others) falls,
+      );
+    })
+    c.give_all.ensures.steady (drop-whole c.args.me l c.give_all.result c.requires.whole.core)
+    (λ drops later. later-so later (drop-newer c.args.me l c.give_all.result drops) (closed-still (load_at t.loads) (load_at c.close.new.rows) l.0 c.close.ensures.gone c.close.ensures.others) refl)
+    c.give_all.ensures.sheds

@@ -1,0 +1,59 @@
+use Rattle.pagable_tables.proofs.{Alive.and-left, Calls.{hand-over-whole, handed-mine, handed-own, may-hold}, Doing.{bare, sheds-by}, Newer.{MayHand, begun-moved, closed-still, later-handed}}
+use Rattle.pagable_tables.proofs.{Newer.{load-closed, loads-anew, may-hand, moved-less, moved-stands, newer-falls, no-load, owned-given, owned-moved, still-listed}, Told.not-a-value, Words.Falls}
+use Rattle.pagable_tables.proofs.Words.{None, Owner, Some, [], ap, arith, core_of, false, if_there, inl, is_in, is_owned_by, is_owned_in, is_owner, is_valued, length, load_at, load_in, nat_tests, not}
+use Rattle.pagable_tables.proofs.{Words.{numbers_of, option_map, plain_of, refl, subst, sym, with_tables, ℕ, ◌&&◌, ◌∙◌, ◌≡◌}, Worlds.owner-self}
+use Rattle.pagable_tables.proofs.giving.load_take.Goals as goal
+
+pub unwrap-row-requires : goal.unwrap-row-requires
+unwrap-row-requires g c =
+    let can : MayHand (plain_of c.args.t.now) c.args.me c.args.load c.args.named.now = may-hand c.requires.whole.core c.args.me c.args.load c.args.named.now
+    (sym (c.hand_over_fault.ensures (λ key. None) false 0) ∙ c.in_default.is) in
+    let own = can.own in grind (arith, nat_tests, c.load_of.ensures)
+
+pub give_all-requires-clause-steady : goal.give_all-requires-clause-steady
+give_all-requires-clause-steady g c =
+    let w = plain_of c.args.t.now in
+    let hs = c.args.named.now in
+    let can : MayHand w c.args.me c.args.load hs = may-hand c.requires.whole.core c.args.me c.args.load hs (sym (c.hand_over_fault.ensures (λ key. None) false 0) ∙ c.in_default.is) in
+    let own = handed-own w c.requires.whole.core.handles.ordered c.args.load hs can.named in
+    moved-stands c.args.t.now.holdings c.hand_each.new.handles (is_in (numbers_of hs)) c.args.me c.requires.whole.steady (not-a-value w c.args.me (may-hold w c.args.me can.may))
+    (λ x among named. ap is_valued (own x among named)) c.hand_each.ensures
+
+pub returns : goal.returns
+returns g c =
+    let t = c.args.t.now in
+    let me = c.args.me in
+    let l = c.args.load in
+    let hs = c.args.named.now in
+    let s = is_in (numbers_of hs) in
+    let p = plain_of t in
+    let can : MayHand p me l hs = may-hand c.requires.whole.core me l hs (sym (c.hand_over_fault.ensures (λ key. None) false 0) ∙ c.in_default.is) in
+    let row : load_at t.loads l.0 ≡ Some c.unwrap-row.result = sym c.load_of.ensures ∙ c.unwrap-row.ensures in
+    sheds-by
+    (λ stored closed failures e.
+    let w = core_of t stored closed failures in
+    let w' = core_of (record t { holdings = c.give_all.new.t; loads = c.close.new.rows }) stored closed failures in
+    let u = moved-less w l s me in
+    let left : (q : ℕ) → is_owned_in u (Owner.Load l) q ≡ (is_owned_in w (Owner.Load l) q && not (s q)) = λ q. owned-moved s me (Owner.Load l) q w.rows (no-load p me l can.may) in
+    let so-far = begun-moved t c.hand_each.new.handles l s me stored closed c.args.lists failures c.requires.whole e c.hand_each.ensures
+    (still-listed c.requires.whole.core me l hs can) in
+    let falls = c.give_all.ensures.falls w u (bare (λ m. option_map load_in (load_at c.close.new.rows m))) (λ m. refl) so-far (let a = ap length c.hand_each.ensures.rows in omega arith)
+    (λ q own. let mine = and-left (is_owned_in w (Owner.Load l) q) (not (s q)) (sym (left q) ∙ own) in let g = owned-given p (Owner.Load l) q c.requires.whole.core.handles mine in
+    let after = c.requires.later.since l.0 c.unwrap-row.result q row mine in ((omega arith, inl after), omega arith)) in
+    record {
+      hands = (
+        sym (c.hand_over_fault.ensures stored closed failures) ∙ c.in_default.is,
+        record {
+          told = c.give_all.result;
+          falls = loads-anew w u (with_tables u c.give_all.new.t) (λ q. is_owned_in w (Owner.Load l) q && not (s q)) c.give_all.result w'.loads
+              (load-closed (load_at t.loads) (load_at c.close.new.rows) l.0 c.close.ensures.gone c.close.ensures.others)
+              (subst (λ given. Falls w u given c.give_all.result (with_tables u c.give_all.new.t)) (λ i q. left q i) falls);
+        },
+      );
+      refused = tt;
+    })
+    c.give_all.ensures.steady (hand-over-whole me l hs _ c.requires.whole.core)
+    (λ hands later. later-handed t later s me (λ m. no-load p me m can.may) _ refl l c.unwrap-row.result row (let own = can.own in grind (arith, nat_tests, row))
+    (λ q is. let o : Owner = Owner.Load l in let m = handed-mine p o [] hs can.named q is in ap (if_there (is_owned_by o) false) m.live ∙ ap (is_owner o) m.own ∙ owner-self o) (newer-falls hands.hands.1.falls)
+    (closed-still (load_at t.loads) (load_at c.close.new.rows) l.0 c.close.ensures.gone c.close.ensures.others) refl)
+    c.give_all.ensures.sheds

@@ -1,0 +1,66 @@
+use Rattle.pagable_tables.proofs.{Alive.{all-kept, gives-sums, ones}, Calls.unpin-whole, Doing.{nothing-shed, sheds-so}, Fitting.{aside, begun-whole, listing-is, none-within, unowned}}
+use Rattle.pagable_tables.proofs.{Newer.unpin-newer, Next.{entered-on, stays-first}, Words.{Begins, Blob, Bool, GivesUp, HandleRow, Holdings, IsFalling, Mode, None, Option, Owner, Owns}}
+use Rattle.pagable_tables.proofs.Words.{SoFar, Tables, [], ap, append-nil, arith, core_of, false, if◌then◌else◌, inl, inr, is_handle, is_loose, is_owned_by, is_owner, is_pin, is_plain_pin, is_share}
+use Rattle.pagable_tables.proofs.Words.{is_valued, length, length-map, live, nat_tests, nobody, not, one, owns, owns_nothing, refl, sym, times, true, unpinned, with_mode, ℕ, ◌&&◌, ◌∙◌, ◌≡◌, ◌≢◌, ◌≤◌}
+use Rattle.pagable_tables.{proofs.Worlds.{failed, owner-same, still}, specs.Core.IsWhole}
+use Rattle.pagable_tables.proofs.giving.unpin.Goals as goal
+
+-- what has gone and come so far where a handle lets its pin go and stays
+lowered-on : (T : Tables) (stored : ℕ → Option Blob) (closed lists : Bool) (failures : ℕ) → IsWhole T → lists ≡ not closed → (x : HandleRow) (new : Holdings)
+    → GivesUp (record T.holdings { unlisted = None }) [] x true lists new → SoFar (core_of T stored closed failures) (with_mode (core_of T stored closed failures) x.number Mode.LooseUnpinned) nobody lists new
+lowered-on T stored closed lists failures whole opened x new g =
+    let old = core_of T stored closed failures in
+    let now = with_mode old x.number Mode.LooseUnpinned in
+    let f : SoFar old old nobody lists (record T.holdings { unlisted = None }) = begun-whole T stored closed lists failures whole opened in
+    let less : (p : HandleRow → Bool) → one (p (unpinned x)) ≤ one (p x) → times p now.rows ≤ times p old.rows = λ p le. omega (arith, g.leaves.sums (λ h. one (p h)), ap (times p) g.leaves.becomes.rows) in
+    let begins : Begins old now lists =
+    record {
+      open_storage = opened;
+      fewer = λ n. less (is_pin n) (grind (arith, nat_tests));
+      shared = λ n. less (is_share n) (grind (arith, nat_tests));
+      uniform = λ n. let a = less (is_plain_pin n) (grind (arith, nat_tests)) in grind (arith, nat_tests, f.begins.uniform n);
+      listed = λ q. let a = g.leaves.sums (λ h. one (is_handle q h && is_owned_by Owner.List h)) in
+          let b = ap (times (λ h. is_handle q h && is_owned_by Owner.List h)) g.leaves.becomes.rows in let d = f.begins.listed q in omega arith;
+    } in
+    let few : new.top ≢ 0 → length (live new.handles.places.items) ≤ length old.rows = λ falls.
+    (let a = gives-sums g (λ h. 1) in
+    let b = ones (live new.handles.places.items) in
+    let d = ones old.rows in
+    let k = g.keyed refl whole.steady.fits.chain falls in
+    let none : one g.listed ≡ 0 = grind (arith, nat_tests, g.comes.only, listing-is g.counts x.mode) in
+    omega arith) in
+    let long = length-map old.rows (λ y. if is_handle x.number.0 y then unpinned y else y) in
+    entered-on f g refl (λ n. refl) (λ n. whole.steady.fits.pinned n) (omega arith) now.rows long nobody nobody begins (g.leaves.becomes.rows ∙ sym (append-nil _ ∙ all-kept now.rows)) refl
+    (none-within nobody now.rows) (λ s final bare has closed. none-within s now.rows) (λ falls. let a = few falls in omega (arith, long))
+
+-- the handle is no value's
+mine : (t : Holdings) (me : Owner) (x : HandleRow) → IsFalling t [] owns_nothing → is_valued me ≡ false → is_owner me x.owner ≡ true → IsFalling (record t { unlisted = None }) [] (owns x)
+mine t me x w plain own = unowned (record t { unlisted = None }) x [] (ap is_valued (owner-same me x.owner own) ∙ plain) (aside t None [] owns_nothing w)
+
+pub returns-in_err-at : goal.returns-in_err-at
+returns-in_err-at g c =
+    rw (failed c.from_residual.result c.from_residual.ensures.1) (nothing-shed c.requires.whole (λ stored closed failures e. record { does = inl (record { e = c.in_err-at.field-0.0; why = c.in_err-at.ensures.fault stored closed failures is_loose; told = refl; stays = still _ }) }))
+
+pub give_up-requires-clause-falling : goal.give_up-requires-clause-falling
+give_up-requires-clause-falling g c = ([], mine c.args.t.now.holdings c.args.me c.in_ok-at.at.row c.requires.whole.steady c.requires.plain c.in_ok-at.ensures.owner)
+
+pub fall-requires : goal.fall-requires
+fall-requires g c =
+    let e = c.give_up.ensures [] (mine c.args.t.now.holdings c.args.me c.in_ok-at.at.row c.requires.whole.steady c.requires.plain c.in_ok-at.ensures.owner) in
+    record { falling = (e.more, e.falling, omega (arith, e.long)) }
+
+pub returns-in-LoosePinned : goal.returns-in-LoosePinned
+returns-in-LoosePinned g c =
+    let t = c.args.t.now in
+    let row = c.in_ok-at.at.row in
+    let up = c.give_up.ensures [] (mine t.holdings c.args.me row c.requires.whole.steady c.requires.plain c.in_ok-at.ensures.owner) in
+    sheds-so
+    (λ stored closed failures e.
+    let w = core_of t stored closed failures in
+    let falls = rw c.in_ok-at.ensures.number at (c.fall.ensures.falls w (with_mode w row.number Mode.LooseUnpinned) nobody
+    (lowered-on t stored closed c.args.lists failures c.requires.whole e row c.give_up.new.t up)) in
+    let own : Owns w c.args.me c.args.handle is_loose row =
+    record { live = c.in_ok-at.ensures.found; own = owner-same c.args.me row.owner c.in_ok-at.ensures.owner; as_asked = ap is_loose c.in-LoosePinned.is } in
+    record { does = inr (row, own, inr (c.in-LoosePinned.is, falls)) })
+    c.fall.ensures.steady (unpin-whole c.args.me c.args.handle c.fall.result c.requires.whole.core) (unpin-newer c.args.me c.args.handle c.fall.result) refl refl
+    (stays-first up.values c.fall.ensures.sheds)

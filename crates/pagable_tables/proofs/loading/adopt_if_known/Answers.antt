@@ -1,0 +1,72 @@
+use Rattle.pagable_tables.proofs.Words.{ap, sym, ◌∙◌, false, not, None, is_some, core_of, plain_of, subst, Suits, Owner, mode_of, with_handle, Alike, Mode, length, arith, ◌+◌, AllPairs}
+use Rattle.pagable_tables.proofs.{Alive.whole-so, Calls.known-suits, Doing.listing, Fitting.{begun-whole, not-closed}, Newer.{begun-made, later-on, loaded-append, named-loaded, newer-falls}}
+use Rattle.pagable_tables.proofs.{Newer.{not-named, swapped}, Next.{owned, sheds-still, stays-first}, Told.{falls-opened, roomy-whole, stays-on}, Words.{Falls, IsHandleBefore, Tables, counts_at}}
+use Rattle.pagable_tables.proofs.{Words.{has_value, is_named_by, refl}, Worlds.{adopts-known, eager, failed, fitting, not-adopted, owner-of, refused-known}}
+use Rattle.pagable_tables.proofs.loading.adopt_if_known.Goals as goal
+
+pub returns-in-Some-clause-refused : goal.returns-in-Some-clause-refused
+returns-in-Some-clause-refused g c stored closed failures =
+    not-adopted (core_of c.args.t.now stored closed failures) c.args.me c.args.load c.args.kind c.args.key c.args.node_type c.args.references.now c.in-Some.e (sym (c.adopt_fault.ensures stored closed failures) ∙ c.in-Some.is)
+
+pub make-requires-clause-suits : goal.make-requires-clause-suits
+make-requires-clause-suits g c =
+    subst (Suits (plain_of c.args.t.now) c.in-Some-usable_of.node) (sym c.mode_of.ensures)
+    (known-suits c.requires.whole.core c.args.kind.0 c.args.key c.in-Some-usable_of.node.0 (sym (c.in-Some-usable_of.ensures (λ key. None) false 0)))
+
+pub make-requires-clause-holder : goal.make-requires-clause-holder
+make-requires-clause-holder g c =
+    ap is_some (owner-of (plain_of c.args.t.now) c.args.me c.args.load c.args.kind c.args.key c.args.node_type c.args.references.now (sym (c.adopt_fault.ensures (λ key. None) false 0) ∙ c.in_default.is)).1.stands_open
+
+pub returns : goal.returns
+returns g c =
+    let t = c.args.t.now in
+    let me = c.args.me in
+    let l = c.args.load in
+    let kind = c.args.kind in
+    let rs = c.args.references.now in
+    let node = c.in-Some-usable_of.node in
+    let owner = Owner.Load l in
+    let t1 = c.make.new.t in
+    let made = c.in_ok-handle.ensures.does in
+    let p = plain_of t in
+    let free = sym (c.adopt_fault.ensures (λ key. None) false 0) ∙ c.in_default.is in
+    let fit = fitting p me l kind c.args.key c.args.node_type rs free in
+    let valued = c.requires.valued node.0 (sym (c.in-Some-usable_of.ensures (λ key. None) false 0)) (eager p me l kind c.args.key c.args.node_type rs free) in
+    let rows = (made.does (λ key. None) (not c.args.lists) 0).made.1.rows in
+    let fell = c.give_named.ensures.falls (listing c.args.lists t1) (listing c.args.lists t1) (begun-whole t1 (λ key. None) (not c.args.lists) c.args.lists 0 made.whole (not-closed c.args.lists)) (omega arith)
+    (λ q named. ap (owned owner q) rows ∙ loaded-append l q p.rows _ (named-loaded p l rs fit q named)) in
+    record {
+      known = λ stored closed failures e.
+          (let w = core_of t stored closed failures in
+          let u = with_handle w node (mode_of kind.0) owner in
+          let good = sym (c.adopt_fault.ensures stored closed failures) ∙ c.in_default.is in
+          let m = (made.does stored closed failures).made in
+          let a : Alike u (core_of t1 stored closed failures) = subst (λ (mode : Mode). Alike (with_handle w node mode owner) (core_of t1 stored closed failures)) c.mode_of.ensures m.1 in
+          let some = c.give_named.ensures.falls u u (begun-made t t1 stored closed failures node (mode_of kind.0) owner made.whole a c.args.lists e) (let b = ap length a.rows in omega arith)
+          (λ q named. loaded-append l q w.rows _ (named-loaded w l rs (fitting w me l kind c.args.key c.args.node_type rs good) q named)) in
+          let kept = not-named p l rs c.requires.whole.core.handles fit (t.holdings.last_handle + 1) (omega arith) in
+          let falls = swapped w node (mode_of kind.0) owner (subst (AllPairs IsHandleBefore) a.rows made.whole.core.handles.ordered) refl some.falls kept in
+          let anew : Falls w u (is_named_by rs) some.told (core_of (record t1 { holdings = c.give_named.new.t }) stored closed failures) =
+          subst (λ (z : Tables). Falls w u (is_named_by rs) some.told (core_of (record z { holdings = c.give_named.new.t }) stored closed failures)) (sym c.in_ok-handle.ensures.same) falls in
+          adopts-known w me l kind c.args.key c.args.node_type rs good node c.in_ok-handle.handle (sym (c.in-Some-usable_of.ensures stored closed failures)) m.0 (record { told = some.told; falls = anew }));
+      fresh = λ stored closed failures. tt;
+      given = (node.0, sym (c.in-Some-usable_of.ensures (λ key. None) false 0));
+      unknown = tt;
+      same = tt;
+      kept = tt;
+      refused = λ stored closed failures. tt;
+      whole = whole-so c.give_named.ensures.steady (falls-opened (roomy-whole made.whole.core) (stays-on (plain_of t1)) fell.falls);
+      later = later-on (made.later c.requires.later) (newer-falls fell.falls) refl refl;
+      sheds = stays-first (λ n. c.in_ok-handle.ensures.values n (λ eq. ap (λ k. has_value (counts_at t.holdings.nodes k)) eq ∙ valued)) c.give_named.ensures.sheds;
+    }
+
+pub returns-in_err-handle-clause-refused : goal.returns-in_err-handle-clause-refused
+returns-in_err-handle-clause-refused g c stored closed failures =
+    rw (failed c.from_residual.result c.from_residual.ensures.1) (refused-known (core_of c.args.t.now stored closed failures) c.args.me c.args.load c.args.kind c.args.key c.args.node_type c.args.references.now (sym (c.adopt_fault.ensures stored closed failures) ∙ c.in_default.is)
+    c.in-Some-usable_of.node.0 (sym (c.in-Some-usable_of.ensures stored closed failures)) (c.in_err-handle.ensures.does.does stored closed failures).refused)
+
+pub returns-in_err-handle-clause-sheds : goal.returns-in_err-handle-clause-sheds
+returns-in_err-handle-clause-sheds g c =
+    let valued = c.requires.valued c.in-Some-usable_of.node.0 (sym (c.in-Some-usable_of.ensures (λ key. None) false 0))
+    (eager (plain_of c.args.t.now) c.args.me c.args.load c.args.kind c.args.key c.args.node_type c.args.references.now (sym (c.adopt_fault.ensures (λ key. None) false 0) ∙ c.in_default.is)) in
+    stays-first (λ n. c.in_err-handle.ensures.values n (λ eq. ap (λ k. has_value (counts_at c.args.t.now.holdings.nodes k)) eq ∙ valued)) (sheds-still c.make.new.t.holdings _ c.in_err-handle.ensures.does.whole.steady)

@@ -1,0 +1,121 @@
+use Rattle.pagable_tables.proofs.{Alive.not-so, Calls.{end-whole, may-hold}, Doing.{bare, lazily-by}, Fitting.{fits-same, pins-le-held, rows-told, some-held, turned}, Installed.{ended, has-come}}
+use Rattle.pagable_tables.proofs.{Installed.{install-newer, joined-fits, none-moves, pins-here, ready-owner, so-then}, Newer.{closed-still, later-so, not-named}, Told.{no-references, not-a-value}}
+use Rattle.pagable_tables.proofs.Words.{ArcRef, Bool, Core, Error, Falls, FallsAnyhow, HandleRow, Holdings, IsFalling, List, LoadNumber, Mode, None, Ok, Owner, Result, Tables, [], ap, arith}
+use Rattle.pagable_tables.proofs.Words.{cases_Bool, cell_in, changed, core_of, counts_at, false, has_value, inl, inr, is_handle, is_here, is_named_by, is_owned_in, is_pin, live, load_at, load_in}
+use Rattle.pagable_tables.proofs.Words.{moved, nat_tests, not, one, option_map, owner_value, owns, owns_nothing, plain_of, references_fault, refl, refs_at, row_of, subst, sum_by, sym, true, with_pin}
+use Rattle.pagable_tables.{proofs.Words.{without_load, ℕ, ◌&&◌, ◌++◌, ◌+◌, ◌<◌, ◌∙◌, ◌∷◌, ◌≡◌, ◌⊎◌}, specs.Becoming.coming}
+use Rattle.pagable_tables.proofs.loading.install.Goals as goal
+
+-- the load gives up what it owns, and what comes doesn't fall
+falls-so : (b : Bool) (w : Core) (me : Owner) (l : LoadNumber) (row : HandleRow) (rs : List ArcRef) (r : Result (Unit {0}) Error) (w' : Core) → b ≡ not (is_here w row.node.0)
+    → Falls w (with_pin (record (without_load w l) { rows = moved (is_named_by (coming b rs)) (owner_value row.node.0) w.rows }) row.number row.node me) (λ q. is_owned_in w (Owner.Load l) q && not (is_named_by (coming b rs) q)) r w'
+    → ((is_here w row.node.0 ≡ false)
+    × FallsAnyhow w (with_pin (record (without_load w l) { rows = moved (is_named_by rs) (owner_value row.node.0) w.rows }) row.number row.node me) (λ q. is_owned_in w (Owner.Load l) q && not (is_named_by rs q)) w')
+    ⊎ ((is_here w row.node.0 ≡ true) × FallsAnyhow w (with_pin (without_load w l) row.number row.node me) (is_owned_in w (Owner.Load l)) w')
+falls-so true w me l row rs r w' away falls = inl (not-so _ (sym away), record { told = r; falls = falls })
+falls-so false w me l row rs r w' away falls = inr (so-then _ (sym away), record { told = r; falls = none-moves w l row me r w' falls })
+
+pub pin_here-requires : goal.pin_here-requires
+pin_here-requires g c =
+    let r = c.requires.ready (λ key. None) false 0 in
+    let holder = may-hold (plain_of c.args.t.now) c.args.me (ready-owner c.args.t.now c.args.me c.args.load c.args.node_type c.args.references.items c.args.ending c.requires.whole r) in
+    record { whole = c.requires.whole; holder = holder; owns = r.owned }
+
+pub unreachable-requires : goal.unreachable-requires
+unreachable-requires g c =
+    let sound = c.requires.whole.steady.sound in
+    let left = (c.requires.ready (λ key. None) false 0).left in
+    let why = (c.in_default.ensures.does.does (λ key. None) false 0).refused.why in grind (arith, nat_tests, c.requires.place.place)
+
+pub join-requires-clause-live : goal.join-requires-clause-live
+join-requires-clause-live g c =
+    let t1 = c.pin_here.new.t in
+    let n = c.args.ending.row.node.0 in
+    let d = c.in-Ok.ensures.does.whole.steady.fits.holding n in
+    let p = pins-here c.args.t.now t1 (λ key. None) false 0 c.args.ending.row c.args.me (c.in-Ok.ensures.does.does (λ key. None) false 0).pinned.1 in
+    let q = pins-le-held n (live t1.holdings.handles.places.items) in
+    some-held (counts_at t1.holdings.nodes n) (omega arith)
+
+pub give_all-requires-clause-steady : goal.give_all-requires-clause-steady
+give_all-requires-clause-steady g c =
+    let t = c.args.t.now in
+    let t1 = c.pin_here.new.t in
+    let me = c.args.me in
+    let l = c.args.load in
+    let row = c.args.ending.row in
+    let n = row.node.0 in
+    let rs = c.args.references.items in
+    let p = plain_of t in
+    let was = c.requires.whole in
+    let whole = c.in-Ok.ensures.does.whole in
+    let j = c.join.ensures in
+    let k = c.join.new.t in
+    let r = c.requires.ready (λ key. None) false 0 in
+    let a = (c.in-Ok.ensures.does.does (λ key. None) false 0).pinned.1 in
+    let x = row_of (t.holdings.last_handle + 1) row.node Mode.Pinned me in
+    elim (cases_Bool c.args.ending.is_away) [
+      | inr here ↦ subst (λ (h : Holdings). IsFalling h [] owns_nothing) (sym (j.none here)) whole.steady
+      | inl comes ↦
+          (let away : is_here p n ≡ false = not-so (is_here p n) (sym r.away ∙ comes) in
+          let none : (q : ℕ) → sum_by (λ h. owns h n q) (live t.holdings.handles.places.items) ≡ 0 =
+          λ q. grind (arith, nat_tests, was.steady.fits.owned n q, was.steady.fits.right n, was.steady.fits.pinned n, away) in
+          let unvalued = not-a-value p me (may-hold p me (ready-owner t me l c.args.node_type rs c.args.ending was r)) in
+          let spared = not-named p l rs was.core.handles r.may.good (t.holdings.last_handle + 1) (omega arith) in
+          let before = changed (is_handle row.number.0) turned (live t.holdings.handles.places.items) ++ x ∷ [] in
+          let fits = rows-told (counts_at t1.holdings.nodes) (refs_at t1.holdings.nodes) (live t1.holdings.handles.places.items) before t1.holdings.top (sym a.rows) whole.steady.fits in
+          let pinned : 0 < sum_by (λ y. one (is_pin n y)) before = grind (arith, nat_tests, pins-here) in
+          let joined = joined-fits p (Owner.Load l) n rs was.core.handles.ordered r.may.good refl none row.number.0 x unvalued spared _ _ _ _ fits pinned (j.here comes) j.others in
+          let told = fits-same _ _ _ _ _ _ [] joined j.counts (λ m. refl) in
+          let rows = j.handles.rows ∙ ap (λ b. moved (is_named_by (coming b rs)) (owner_value n) (live t1.holdings.handles.places.items)) comes ∙ ap (moved (is_named_by rs) (owner_value n)) a.rows in
+          let top = ap (λ (h : Holdings). h.top) j.same in
+          let last = ap (λ (h : Holdings). h.last_handle) j.same in
+          record {
+            sound = j.handles.sound;
+            next = j.handles.next (k.last_handle + 1) (grind (arith, whole.steady.next));
+            fits = rows-told (counts_at k.nodes) (refs_at k.nodes) (moved (is_named_by rs) (owner_value n) before) (live k.handles.places.items) k.top rows (grind (arith, told));
+          })
+    ]
+
+pub returns-clause-does : goal.returns-clause-does
+returns-clause-does g c =
+    let t = c.args.t.now in
+    let t1 = c.pin_here.new.t in
+    let me = c.args.me in
+    let l = c.args.load in
+    let row = c.args.ending.row in
+    let rs = c.args.references.items in
+    let b = c.args.ending.is_away in
+    let p = c.requires.ready (λ key. None) false 0 in
+    let same = c.in-Ok.ensures.same in
+    let j = c.join.ensures in
+    let good : references_fault (plain_of t) (Owner.Load l) [] (coming b rs) ≡ None = grind (arith, nat_tests, no-references) in
+    lazily-by
+    (λ stored closed failures e.
+    let r = c.requires.ready stored closed failures in
+    let next = (c.in-Ok.ensures.does.does stored closed failures).pinned.0 in
+    record {
+      row = row;
+      owned = r.owned;
+      at = refl;
+      next = record { above = next.above; is_left = next.is_left };
+      falls = falls-so b (core_of t stored closed failures) me l row rs c.give_all.result _ r.away
+          (ended t t1 stored closed c.args.lists failures c.requires.whole c.in-Ok.ensures.does.whole e row p.owned.live me (ready-owner t me l c.args.node_type rs c.args.ending c.requires.whole p) l (coming b rs)
+          good (c.in-Ok.ensures.does.does stored closed failures).pinned.1 same c.join.new.t j.handles.rows (ap (λ (h : Holdings). h.list) j.same) (ap (λ (h : Holdings). h.last_handle) j.same)
+          j.handles.capacity (λ m. ap cell_in (j.counts m)) c.args.ending.load.since c.give_all.new.t (load_at c.close.new.rows)
+          c.give_all.result (λ before v f few between. c.give_all.ensures.falls before v (bare (λ m. option_map load_in (load_at c.close.new.rows m))) (λ m. refl) f few (λ q own. let b = between q own in let after = b.0 in ((omega arith, inl after), b.1))) (λ q own. c.requires.later.since l.0 c.args.ending.load q c.requires.place.load own) c.close.ensures.gone c.close.ensures.others);
+    })
+    c.give_all.ensures.steady
+    (λ i. end-whole {N = Unit {0}} me l tt c.args.node_type rs (Ok c.in-Ok.handle) c.requires.whole.core
+    (record { installs = (row.node, row.number, (c.requires.ready (λ key. None) (not c.args.lists) 0).may, i); refused = tt }))
+    (λ i later. later-so later (install-newer me l _ _ _ _ i) (λ m load is. closed-still (load_at t.loads) (load_at c.close.new.rows) l.0 c.close.ensures.gone
+    (λ q other. c.close.ensures.others q other ∙ ap (λ (u : Tables). load_at u.loads q) same) m load is) (ap (λ (u : Tables). u.workers) same))
+
+pub returns-clause-sheds : goal.returns-clause-sheds
+returns-clause-sheds g c =
+    let p = c.requires.ready (λ key. None) (not c.args.lists) 0 in
+    record {
+      left = λ kept. c.give_all.ensures.sheds.left (λ n falls. kept n
+          ∙ sym (ap has_value (c.join.ensures.counts n)
+          ∙ has-come c.args.t.now c.pin_here.new.t (λ key. None) (not c.args.lists) 0 c.args.ending.row c.args.me
+          (c.in-Ok.ensures.does.does (λ key. None) (not c.args.lists) 0).pinned.1 c.requires.whole c.in-Ok.ensures.does.whole p.owned.live n));
+    }

@@ -1,0 +1,64 @@
+use Rattle.pagable_tables.proofs.Words.{◌≡◌, ℕ, refl, ap, sym, ◌∙◌, Some, None, List, Core, Places, HandleRow, Owner, LoadNumber, ArcRef, Ending, IsReady, false, not, any_mode, of_cell}
+use Rattle.pagable_tables.proofs.{Doing.widens-does, Installed.{celled, may-end, opens, references-placed}, Words.{arith, core_of, end_fault, load_in, nat_tests, option_map, plain_of, root_in}}
+use Rattle.pagable_tables.proofs.Worlds.{alike, no-load-fault, owner-same}
+use Rattle.pagable_tables.proofs.loading.prepare_end.Goals as goal
+
+-- a load that can end can where there are other places
+ready-placed : (w : Core) (places : Places) (rows : List HandleRow) (me : Owner) (l : LoadNumber) (node_type : ℕ) (refs : List ArcRef) (e : Ending) → rows ≡ w.rows → IsReady w me l node_type refs e
+    → IsReady (record w { rows = rows; places = places }) me l node_type refs e
+ready-placed w places rows me l node_type refs e same r = grind (arith, nat_tests, references-placed)
+
+pub unreachable-requires : goal.unreachable-requires
+unreachable-requires c =
+    let w = plain_of c.args.t.now in
+    let none : end_fault w c.args.me c.args.load c.args.node_type c.args.references.now ≡ None = sym (c.end_fault.ensures (λ key. None) false 0) ∙ c.in_default.is in
+    opens w c.args.me c.args.load c.args.node_type c.args.references.now none (ap (option_map load_in) (sym c.load_of.ensures ∙ c.in_default-load_of.is))
+
+pub unreachable-requires-in_default-root : goal.unreachable-requires-in_default-root
+unreachable-requires-in_default-root c =
+    let w = plain_of c.args.t.now in
+    let none : end_fault w c.args.me c.args.load c.args.node_type c.args.references.now ≡ None = sym (c.end_fault.ensures (λ key. None) false 0) ∙ c.in_default.is in
+    celled w c.args.me c.args.load c.args.node_type c.args.references.now none (load_in c.in-Some-load_of.row) (ap (option_map load_in) (sym c.load_of.ensures ∙ c.in-Some-load_of.is)) (ap root_in c.in_default-root.is)
+
+pub returns-in-Ok-reserve-clause-ready : goal.returns-in-Ok-reserve-clause-ready
+returns-in-Ok-reserve-clause-ready c stored closed failures =
+    let t = c.args.t.now in
+    let me = c.args.me in
+    let l = c.args.load in
+    let w = core_of t stored closed failures in
+    let none : end_fault w me l c.args.node_type c.args.references.now ≡ None = sym (c.end_fault.ensures stored closed failures) ∙ c.in_default.is in
+    let load = load_in c.in-Some-load_of.row in
+    let is : w.loads l.0 ≡ Some load = ap (option_map load_in) (sym c.load_of.ensures ∙ c.in-Some-load_of.is) in
+    let node = c.in-Cell.field-0 in
+    let h = c.in-Cell.handle in
+    let cell : load.root ≡ of_cell node c.in-Cell.field-1 h = ap root_in c.in-Cell.is in
+    let begun = (c.requires.core.loads.roots l.0 load node c.in-Cell.field-1 h is cell).begun c.in-Ok.at.row c.in-Ok.ensures.found in
+    let may = may-end w me l c.args.node_type c.args.references.now none load is node c.in-Cell.field-1 h cell in
+    let n = c.in-Ok.at.row.node.0 in
+    let e : Ending = record { load = c.in-Some-load_of.row; row = c.in-Ok.at.row; is_away = not c.is_here-is_away.result } in
+    let ready : IsReady w me l c.args.node_type c.args.references.now e =
+    grind (arith, nat_tests, owner-same, c.in-Ok.ensures.number, c.in-Ok.ensures.found, c.in-Ok.ensures.owner, c.is_here-is_away.ensures, c.counts_of.ensures, c.requires.steady.fits.pinned) in
+    let w' = core_of (record t { holdings = record t.holdings { handles = c.reserve.new.handles } }) stored closed failures in
+    ready-placed w w'.places w'.rows me l c.args.node_type c.args.references.now e c.reserve.ensures.widens.rows ready
+
+pub returns-in-Ok-reserve-clause-does : goal.returns-in-Ok-reserve-clause-does
+returns-in-Ok-reserve-clause-does c = widens-does c.args.t.now c.reserve.new.handles c.args.t.now.holdings.nodes c.requires c.reserve.ensures.widens (λ n. refl) (λ n. refl)
+
+pub returns-in_default-reserve-clause-unended : goal.returns-in_default-reserve-clause-unended
+returns-in_default-reserve-clause-unended c stored closed failures =
+    let w = core_of c.args.t.now stored closed failures in
+    let none : end_fault w c.args.me c.args.load c.args.node_type c.args.references.now ≡ None = sym (c.end_fault.ensures stored closed failures) ∙ c.in_default.is in
+    let is : w.loads c.args.load.0 ≡ Some (load_in c.in-Some-load_of.row) = ap (option_map load_in) (sym c.load_of.ensures ∙ c.in-Some-load_of.is) in
+    let may = may-end w c.args.me c.args.load c.args.node_type c.args.references.now none (load_in c.in-Some-load_of.row) is c.in-Cell.field-0 c.in-Cell.field-1 c.in-Cell.handle (ap root_in c.in-Cell.is) in
+    grind (arith, nat_tests, no-load-fault, alike, c.reserve.ensures.widens.rows, c.reserve.ensures.widens.capacity)
+
+pub returns-in_default-reserve-clause-does : goal.returns-in_default-reserve-clause-does
+returns-in_default-reserve-clause-does c = widens-does c.args.t.now c.reserve.new.handles c.args.t.now.holdings.nodes c.requires c.reserve.ensures.widens (λ n. refl) (λ n. refl)
+
+pub returns-in-Err-clause-unended : goal.returns-in-Err-clause-unended
+returns-in-Err-clause-unended c stored closed failures =
+    let w = core_of c.args.t.now stored closed failures in
+    let none : end_fault w c.args.me c.args.load c.args.node_type c.args.references.now ≡ None = sym (c.end_fault.ensures stored closed failures) ∙ c.in_default.is in
+    let is : w.loads c.args.load.0 ≡ Some (load_in c.in-Some-load_of.row) = ap (option_map load_in) (sym c.load_of.ensures ∙ c.in-Some-load_of.is) in
+    let may = may-end w c.args.me c.args.load c.args.node_type c.args.references.now none (load_in c.in-Some-load_of.row) is c.in-Cell.field-0 c.in-Cell.field-1 c.in-Cell.handle (ap root_in c.in-Cell.is) in
+    (record { node = c.in-Cell.field-0; h = c.in-Cell.handle; may = may; why = c.in-Err.ensures.fault stored closed failures any_mode }, refl)
