@@ -1,3 +1,6 @@
+pub mod Keeping
+pub mod Driven
+pub mod Running
 pub mod Carrying
 pub use Rattle.pagable_codec.proofs.Reading
 pub use Rattle.pagable_codec.proofs.Writing

@@ -1,3 +1,7 @@
+pub mod Serving
+pub mod Walking
+pub mod Keeping
+pub mod Driving
 pub mod Taken
 pub mod Paged
 -- The words of the clauses about values, blobs and keys, so that a crate with types of its own names `pagable` alone.
@@ -32,5 +36,5 @@ pub use Rattle.pagable_traits.specs.KeyLaws
 pub use Rattle.pagable_traits.specs.Meanings
 pub use Rattle.pagable_traits.specs.OwnCauses
 pub use Rattle.pagable_traits.specs.ReadBack
-pub use Rattle.pagable_registries.specs.StaticValues
-pub use Rattle.pagable_registries.specs.declared.static_value.StaticValue
+pub use Rattle.pagable_traits.specs.StaticValues
+pub use Rattle.pagable_traits.specs.declared.static_value.StaticValue

@@ -5,16 +5,23 @@
 //! names its items: to pass on a module of a crate below would have every check above read all that stands in it.
 #![tactic(auto)]
 
+mod calls;
+mod events;
+mod held;
 pub mod laws;
+mod list;
+pub mod machine;
 pub mod paging;
+mod readings;
+mod workers;
 
 /// The numbers of cells and handles, the references that values hold, and what the sorts of these have in common.
 pub mod arc_erase {
-    pub use pagable_arcs::{
+    pub use pagable_model::{ArcRef, HandleNumber, Identity, Kind, NodeNumber};
+    pub use pagable_traits::{
         ArcErase, ArcEraseType, OfKind, Refers, StdArcEraseType, deserialize_arc, read_reference,
         references_of, write_reference,
     };
-    pub use pagable_model::{ArcRef, HandleNumber, Identity, Kind, NodeNumber};
 }
 
 /// The forms in which values are written and read, with what they refer to, and the keys of blobs.
@@ -32,21 +39,21 @@ pub mod flavors {
 
 /// The carried types that aren't std's or those of a crate below.
 pub mod impls {
-    pub use pagable_registries::SavedRegex;
-    pub use pagable_registries::static_value::{
-        HasStaticValueRegistry, StaticBytes, StaticStr, StaticValue, StaticValueEntry,
-        StaticValueRegistry,
-    };
     pub use pagable_traits::impls::maps::write_entry;
-    pub use pagable_traits::{PathText, Thin, serialize_slice, serialize_str};
+    pub use pagable_traits::{
+        HasStaticValueRegistry, PathText, SavedRegex, StaticBytes, StaticStr, StaticValue,
+        StaticValueEntry, StaticValueRegistry, Thin, serialize_slice, serialize_str,
+    };
 }
 
 /// The pager, the machine that takes lists of events, and the references to shared values.
 pub mod pagable_arc {
-    pub use pagable_arcs::{Arc, HoldingArc, PagableArc, PinnedPagableArc, PinnedPagableArcBorrow};
-    pub use pagable_machine::Machine;
+    pub use crate::machine::Machine;
     pub use pagable_model::{LoadNumber, WorkerNumber};
     pub use pagable_pager::{ArcCell, DeserializedArcCache, Pager};
+    pub use pagable_traits::{
+        Arc, HoldingArc, PagableArc, PinnedPagableArc, PinnedPagableArcBorrow,
+    };
     pub use pagable_world::handles::Owner;
     pub use pagable_world::{
         Beginning, Call, Claim, Event, EventReply, Found, LoadAnswer, LoadReply, Mode, PinStep,
@@ -99,7 +106,7 @@ pub mod traits {
 
 /// Tagged types, and the registries of their readers.
 pub mod typetag {
-    pub use pagable_registries::{
+    pub use pagable_traits::{
         ForTag, HasTypetagRegistry, PagableRegisteredFor, PagableTagged, TagReader,
         TypetagRegistration, TypetagRegistry, deserialize_tagged,
     };
@@ -109,38 +116,33 @@ pub mod typetag {
 pub type Result<O> = std::result::Result<O, Error>;
 
 // Of values, and of what they are written to and read from.
-pub use pagable_arcs::{
-    Arc, ArcErase, ArcEraseType, HoldingArc, OfKind, PagableArc, PinnedPagableArc,
-    PinnedPagableArcBorrow, Refers, StdArcEraseType, deserialize_arc, read_reference,
-    references_of, write_reference,
-};
 pub use pagable_flavors::{
     DataKey, Error, OptionalDataKey, PagableSlice, PagableVecFlavor, Reason,
 };
 pub use pagable_model::{
     ArcRef, HandleNumber, Identity, Kind, LoadNumber, NodeNumber, PagableCursor, WorkerNumber,
 };
-pub use pagable_registries::{
-    ForTag, HasStaticValueRegistry, HasTypetagRegistry, PagableRegisteredFor, PagableTagged,
-    SavedRegex, StaticBytes, StaticStr, StaticValue, StaticValueEntry, StaticValueRegistry,
-    TagReader, TypetagRegistration, TypetagRegistry, deserialize_tagged,
-};
 pub use pagable_traits::alike::{CarriedAs, ReadAs};
 pub use pagable_traits::{
-    Canonical, Carried, EagerlyCarried, Env, InNode, KeyHash, NodeSet, OfNode, OneMeaning, Pagable,
-    PagableBoxDeserialize, PagableDeserialize, PagableDeserializeOwned, PagableDeserializer,
-    PagableEagerDeserialize, PagableEagerSerialize, PagableKey, PagableOrdKey, PagableSerialize,
-    PagableSerializer, PathText, Reader, SessionContext, SessionMap, SessionValue, Thin,
-    serialize_slice, serialize_str,
+    Arc, ArcErase, ArcEraseType, Canonical, Carried, EagerlyCarried, Env, ForTag,
+    HasStaticValueRegistry, HasTypetagRegistry, HoldingArc, InNode, KeyHash, NodeSet, OfKind,
+    OfNode, OneMeaning, Pagable, PagableArc, PagableBoxDeserialize, PagableDeserialize,
+    PagableDeserializeOwned, PagableDeserializer, PagableEagerDeserialize, PagableEagerSerialize,
+    PagableKey, PagableOrdKey, PagableRegisteredFor, PagableSerialize, PagableSerializer,
+    PagableTagged, PathText, PinnedPagableArc, PinnedPagableArcBorrow, Reader, Refers, SavedRegex,
+    SessionContext, SessionMap, SessionValue, StaticBytes, StaticStr, StaticValue,
+    StaticValueEntry, StaticValueRegistry, StdArcEraseType, TagReader, Thin, TypetagRegistration,
+    TypetagRegistry, deserialize_arc, deserialize_tagged, read_reference, references_of,
+    serialize_slice, serialize_str, write_reference,
 };
 
 // Of pagers, and of what stores their values.
+pub use machine::Machine;
 pub use pagable_core::{
     InMemoryBlobs, NoReferences, PagableData, PagableDeserializerImpl, PagableKeys,
     PagableSerializerImpl, PagableStorage, References, SerializedData, SerializerForPaging,
     Sha256Key, WeighHash,
 };
-pub use pagable_machine::Machine;
 pub use pagable_pager::{ArcCell, DeserializedArcCache, Pager};
 pub use pagable_walk::{PageOutError, SlotTable};
 pub use pagable_world::handles::Owner;

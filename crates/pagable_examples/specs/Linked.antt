@@ -1,8 +1,8 @@
 -- What links and bundles mean and refer to, and what the nodes that hold them do.
 use Rattle.std.{proofs.Common.arith, specs.Prelude.{◌≡◌, ◌<◌, ◌^◌, refl, true, false, ℕ, zero, suc, List, Option, Some, None}, specs.Arc.arc_value, specs.Global.Vec}
 use Rattle.pagable_examples.specs.{declared.linked.LinkedNode.LinkedNode, declared.linked.bundle.Bundle.Bundle, declared.linked.chain.Chain.Chain}
-use Rattle.pagable_arcs.specs.{References.{holding_means, loose_means, reads_unlent, reference_has_one_form, reference_is_read}, Plain.plain_means}
-use Rattle.pagable_arcs.specs.Refers.{ListsInOrder, both_in_order, list_in_order, optional_in_order, reference_in_order}
+use Rattle.pagable_traits.specs.{References.{holding_means, loose_means, reads_unlent, reference_has_one_form, reference_is_read}, Plain.plain_means}
+use Rattle.pagable_traits.specs.Refers.{ListsInOrder, both_in_order, list_in_order, optional_in_order, reference_in_order}
 use Rattle.pagable.specs.OwnCauses.{ReadCauses, WriteCauses, reads_either, reads_memory_or, reads_never, writes_either, writes_long_or, writes_memory, writes_memory_or}
 use Rattle.pagable.specs.Meanings.{AreSingle, Meanings, exactly, lists, lists_single, options, options_single, pairs, pairs_single, seen_by, some}
 use Rattle.pagable.specs.{InNodes.{Holds, holds-none, holds-value}, OneForm.{over_has_one_form, two_has_one_form}, ReadBack.{IsReadThroughout, over_is_read, two_is_read}}

@@ -1,10 +1,11 @@
 //! How a caller carries types of its own, and what programs and tests share: a struct of named fields, an enum that is
 //! carried as an option, a type that holds values of its own type, and one that is written eagerly; an environment of
 //! registries, with tagged values; an environment of texts, and lines that ask for named ones; types that refer to each
-//! other; a storage over another storage; and inputs that are drawn.
+//! other; a storage over another storage; values that no environment bears on; and inputs that are drawn.
 #![tactic(auto)]
 
 pub mod animal;
+pub mod any;
 pub mod dish;
 pub mod drawn;
 pub mod expression;

@@ -14,3 +14,7 @@ pub mod Hashed
 pub mod JsonSteps
 pub mod JsonWritten
 pub mod JsonRead
+pub mod Listed
+pub mod Patterns
+pub mod Statics
+pub mod Tagged

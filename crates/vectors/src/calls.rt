@@ -11,7 +11,7 @@ use crate::calls::looks::look;
 use crate::calls::nodes::{CellEnv, CellNode};
 use anyhow::bail;
 use pagable::{
-    Call, Event, InMemoryBlobs, KeyHash, Machine, PagableData, PagableStorage, Pager,
+    Call, Env, Event, InMemoryBlobs, KeyHash, Machine, NodeSet, PagableData, PagableStorage, Pager,
     SerializedData, Sha256Key, WeighHash,
 };
 use pagable_examples::FailingStorage;
@@ -64,13 +64,18 @@ impl Calls {
         }
     }
 
+    /// Goes on with new machines, over a storage as the word tells, or with keys by SHA-256.
+    pub fn restart(&mut self, alloc: Global, word: &str) {
+        self.is_sha256 = word == "sha256";
+        replace(&mut self.weigh, machine_over(alloc, word));
+        replace(&mut self.sha256, machine_over(alloc, ""));
+    }
+
     /// The answer to a row, in one line.
     pub fn answer(&mut self, alloc: Global, line: &str) -> anyhow::Result<String> {
         let (word, rest) = split(line);
         if word == "machine" {
-            self.is_sha256 = rest == "sha256";
-            self.weigh = machine_over(alloc, rest);
-            self.sha256 = machine_over(alloc, "");
+            self.restart(alloc, rest);
             return Ok(String::new(alloc));
         }
         if self.is_sha256 {
@@ -81,12 +86,32 @@ impl Calls {
     }
 }
 
+/// Lets a pager go, where its types are open.
+pub fn let_go<E: Env + Drop, S: PagableStorage<E> + Drop>(_pager: Pager<E, S>)
+where
+    E::Node: NodeSet<E>,
+{}
+
+/// Puts a new machine in the place of another.
+fn replace<E: Env + Drop, S: PagableStorage<E> + Drop>(
+    machine: &mut Machine<E, S>,
+    new: Machine<E, S>,
+)
+where
+    E::Node: NodeSet<E>,
+{
+    *machine = new;
+}
+
 /// The answer to a row by a machine: a look at its pager, or to a list of events, or to the last of such a list.
-fn answer<H: KeyHash>(
+fn answer<E: Env<Node = CellNode>, S: PagableStorage<E>>(
     alloc: Global,
-    machine: &mut CellMachine<H>,
+    machine: &mut Machine<E, S>,
     line: &str,
-) -> anyhow::Result<String> {
+) -> anyhow::Result<String>
+where
+    E::Node: NodeSet<E>,
+{
     let (word, rest) = split(line);
     match word {
         "look" => look(alloc, machine.pager(), rest.parse::<u64>()?),
@@ -100,11 +125,14 @@ fn answer<H: KeyHash>(
 }
 
 /// The answers to a row's events, which the machine gets as one list.
-fn run<H: KeyHash>(
+fn run<E: Env<Node = CellNode>, S: PagableStorage<E>>(
     alloc: Global,
-    machine: &mut CellMachine<H>,
+    machine: &mut Machine<E, S>,
     line: &str,
-) -> anyhow::Result<String> {
+) -> anyhow::Result<String>
+where
+    E::Node: NodeSet<E>,
+{
     let events = events(alloc, line)?;
     match machine.run(alloc, events) {
         Ok(replies) => answers::replies(alloc, replies.as_slice()),

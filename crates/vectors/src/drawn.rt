@@ -1,8 +1,8 @@
 //! The sums of what is written of large inputs that are drawn.
 
+use crate::outcome::Outcome;
+use crate::types;
 use pagable_examples::input_of;
-use row_values::outcome::Outcome;
-use row_values::types;
 use std::alloc::Global;
 
 /// One step of FNV-1a of 64 bits, with a number in place of a byte.

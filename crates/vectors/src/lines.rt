@@ -3,7 +3,7 @@
 use crate::blobs::{self, bytes_of};
 use crate::calls::Calls;
 use crate::{drawn, own};
-use row_values::carried::{AnyEnv, written};
+use pagable_examples::any::{AnyEnv, written};
 use serde_json::Value;
 use std::alloc::{AllocError, Global};
 

@@ -5,10 +5,13 @@
 
 mod blobs;
 mod calls;
+mod carried;
 mod drawn;
 mod lines;
+mod outcome;
 mod own;
 mod times;
+mod types;
 mod worked;
 
 use crate::calls::Calls;
@@ -19,7 +22,7 @@ use std::{env, fs};
 fn answer(rt: &HostRuntime, calls: &mut Calls, word: &str) -> anyhow::Result<()> {
     let text = fs::read_to_string(rt, word)?;
     if word.ends_with("worked.txt") {
-        return worked::run(rt, text.as_str());
+        return worked::run(rt, calls, text.as_str());
     }
     for line in text.lines() {
         if line.starts_with('#') {
@@ -41,17 +44,19 @@ fn time(rt: &HostRuntime, words: &[String]) -> anyhow::Result<()> {
     times::run(rt, words.first().map(String::as_str), runs.parse::<u64>()?)
 }
 
-/// Does what the words after the program's name ask for. The rows of calls of one file go on where those of the file before have ended.
+/// Answers the files of these names, one after the other: the rows of calls of one go on where those of the file before have ended.
+fn answer_all(rt: &HostRuntime, calls: &mut Calls, words: &[String]) -> anyhow::Result<()> {
+    for word in words {
+        answer(rt, calls, word.as_str())?;
+    }
+    Ok(())
+}
+
+/// Does what the words after the program's name ask for.
 fn run(rt: &HostRuntime, words: &[String]) -> anyhow::Result<()> {
     match words {
         [first, rest @ ..] if first.as_str() == "time" => time(rt, rest),
-        _ => {
-            let mut calls = Calls::new(rt.alloc());
-            for word in words {
-                answer(rt, &mut calls, word.as_str())?;
-            }
-            Ok(())
-        }
+        _ => answer_all(rt, &mut Calls::new(rt.alloc()), words),
     }
 }
 

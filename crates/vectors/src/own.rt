@@ -1,10 +1,11 @@
 //! Types of one's own, and static and tagged values by an environment's registries.
 
+use crate::carried::{replay_eagerly, replay_in};
+use crate::outcome::Outcome;
+use crate::types;
 use pagable::{StaticBytes, StaticStr};
+use pagable_examples::any::{AnyEnv, read};
 use pagable_examples::{Animal, AnimalReader, Expression, Sheet, Ticket, Zoo};
-use row_values::carried::{AnyEnv, read, replay_eagerly, replay_in};
-use row_values::outcome::Outcome;
-use row_values::types;
 use std::alloc::Global;
 
 /// What comes of a static text, which is shown.

@@ -8,8 +8,8 @@ use pagable::{
     Error, NoReferences, PagableDeserialize, PagableDeserializerImpl, PagableSerialize,
     SessionContext,
 };
+use pagable_examples::any::{AnyEnv, written};
 use pagable_examples::input_of;
-use row_values::carried::{AnyEnv, written};
 use std::alloc::Global;
 use std::collections::BTreeMap;
 use std::time::{Clock, Duration, Instant};

@@ -2,13 +2,16 @@
 //! Python's hashlib made of the preimages.
 
 use crate::calls::asked::item;
-use crate::calls::nodes::node;
-use crate::calls::{Calls, CellPager, pager_over};
+use crate::calls::nodes::{CellNode, node};
+use crate::calls::{Calls, let_go, pager_over};
 use crate::lines;
 use anyhow::{Context, ensure};
 use pagable::paging::{page_out_item, page_out_pending, pin};
-use pagable::{DataKey, Error, PagableVecFlavor, PageOutError, SlotTable, WeighHash};
-use row_values::carried::{AnyEnv, written};
+use pagable::{
+    DataKey, Env, Error, NodeSet, PagableStorage, PagableVecFlavor, PageOutError, Pager, SlotTable,
+    WeighHash,
+};
+use pagable_examples::any::{AnyEnv, written};
 use serde_json::Value;
 use std::alloc::Global;
 use std::sync::Arc;
@@ -50,7 +53,13 @@ fn write_over(alloc: Global) -> Result<bool, Error> {
 }
 
 /// Whether an item that refers to a shared text comes to its key by one call.
-fn is_item_paged_out(alloc: Global, pager: &mut CellPager<WeighHash>) -> anyhow::Result<bool> {
+fn is_item_paged_out<E: Env<Node = CellNode>, S: PagableStorage<E>>(
+    alloc: Global,
+    pager: &mut Pager<E, S>,
+) -> anyhow::Result<bool>
+where
+    E::Node: NodeSet<E>,
+{
     let shared = pager.new_shared(alloc, node(alloc, "0 hello world")?);
     shared.ok().context("a node is refused")?;
     let item = Arc::new(alloc, item(alloc, "2a:0:1:1")?)?;
@@ -58,8 +67,22 @@ fn is_item_paged_out(alloc: Global, pager: &mut CellPager<WeighHash>) -> anyhow:
     Ok(page_out_item(alloc, pager, &mut table, item).ok() == DataKey::new(3484))
 }
 
+/// The same in a new pager.
+fn is_item_paged_out_anew(alloc: Global) -> anyhow::Result<bool> {
+    let mut pager = pager_over::<WeighHash>(alloc, "");
+    let answer = is_item_paged_out(alloc, &mut pager);
+    let_go(pager);
+    answer
+}
+
 /// Makes a cell that is listed twice.
-fn list_twice(alloc: Global, pager: &mut CellPager<WeighHash>) -> anyhow::Result<()> {
+fn list_twice<E: Env<Node = CellNode>, S: PagableStorage<E>>(
+    alloc: Global,
+    pager: &mut Pager<E, S>,
+) -> anyhow::Result<()>
+where
+    E::Node: NodeSet<E>,
+{
     let cell = pager.new_loose(alloc, node(alloc, "0 x")?);
     let cell = cell.ok().context("a cell is refused")?;
     pager.unpin(cell)?;
@@ -69,7 +92,13 @@ fn list_twice(alloc: Global, pager: &mut CellPager<WeighHash>) -> anyhow::Result
 }
 
 /// Whether the page-out of a cell that is listed twice stores it once: the storage's second call fails, and is this fetch.
-fn is_stored_once(alloc: Global, pager: &mut CellPager<WeighHash>) -> anyhow::Result<bool> {
+fn is_stored_once<E: Env<Node = CellNode>, S: PagableStorage<E>>(
+    alloc: Global,
+    pager: &mut Pager<E, S>,
+) -> anyhow::Result<bool>
+where
+    E::Node: NodeSet<E>,
+{
     list_twice(alloc, pager)?;
     let listed = pager.pending();
     if let Err(PageOutError::Failed(e)) = page_out_pending(alloc, pager) {
@@ -80,29 +109,37 @@ fn is_stored_once(alloc: Global, pager: &mut CellPager<WeighHash>) -> anyhow::Re
     Ok(listed == 2 && pager.pending() == 0 && fetched == Some(Error::Storage(7)))
 }
 
+/// The same in a new pager.
+fn is_stored_once_anew(alloc: Global) -> anyhow::Result<bool> {
+    let mut pager = pager_over::<WeighHash>(alloc, "1");
+    let answer = is_stored_once(alloc, &mut pager);
+    let_go(pager);
+    answer
+}
+
 /// Whether a row's values of which no line says what they are hold too.
 fn others_hold(alloc: Global, number: u32) -> anyhow::Result<bool> {
     match number {
         6 => are_too_deep(alloc),
-        10 => is_item_paged_out(alloc, &mut pager_over(alloc, "")),
-        14 => is_stored_once(alloc, &mut pager_over(alloc, "1")),
+        10 => is_item_paged_out_anew(alloc),
+        14 => is_stored_once_anew(alloc),
         24 => Ok(write_over(alloc)?),
         _ => Ok(true),
     }
 }
 
-/// Whether the row comes out as it has to. A refusal that no row wants is a failure too.
-fn is_ok(alloc: Global, text: &str, number: u32) -> bool {
-    let mut calls = Calls::new(alloc);
-    let holds = lines_hold(alloc, &mut calls, text, number);
-    holds.unwrap_or(false) && others_hold(alloc, number).unwrap_or(false)
+/// Whether the row comes out as it has to, on a new machine. A refusal that no row wants is a failure too.
+fn is_ok(alloc: Global, calls: &mut Calls, text: &str, number: u32) -> bool {
+    calls.restart(alloc, "");
+    lines_hold(alloc, calls, text, number).unwrap_or(false)
+        && others_hold(alloc, number).unwrap_or(false)
 }
 
 /// Runs the rows whose lines stand in this text, and prints a line for each.
-pub fn run(rt: &HostRuntime, text: &str) -> anyhow::Result<()> {
+pub fn run(rt: &HostRuntime, calls: &mut Calls, text: &str) -> anyhow::Result<()> {
     let mut all_ok = true;
     for number in 1..=LAST {
-        let is_ok = is_ok(rt.alloc(), text, number);
+        let is_ok = is_ok(rt.alloc(), calls, text, number);
         let word = if is_ok { "ok" } else { "failed" };
         println!(rt; "row {number} {word}")?;
         all_ok = all_ok && is_ok;

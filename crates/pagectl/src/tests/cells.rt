@@ -3,7 +3,7 @@
 
 use crate::tests::equal::equal;
 use crate::tests::written::is_written;
-use row_values::carried::AnyEnv;
+use pagable_examples::any::AnyEnv;
 use std::sync::OnceLock;
 use std::sync::atomic::{AtomicI64, Ordering};
 

@@ -3,8 +3,8 @@
 use crate::tests::equal::equal;
 use crate::tests::written::is_written;
 use pagable::{Error, InMemoryBlobs, PagableDeserialize, PagableSerialize, PagableStorage};
+use pagable_examples::any::read;
 use pagable_examples::{Dish, FailingStorage, Sheet, Size, quick_start};
-use row_values::carried::read;
 use std::alloc::Global;
 use std::process::Abort;
 use std::test::Fail;

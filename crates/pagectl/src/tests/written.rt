@@ -1,7 +1,7 @@
 //! What values are written as.
 
 use pagable::{Env, PagableSerialize};
-use row_values::carried::written;
+use pagable_examples::any::written;
 use std::alloc::Global;
 
 /// Whether a value is written as these bytes, or refused with this number.

@@ -1,16 +1,19 @@
 //! Looks at a pager, which change nothing.
 
-use crate::calls::CellPager;
-use pagable::{Error, HandleNumber, KeyHash, OptionalDataKey};
+use crate::calls::nodes::CellNode;
+use pagable::{Env, Error, HandleNumber, NodeSet, OptionalDataKey, PagableStorage, Pager};
 use std::alloc::Global;
 
 /// Adds a live handle: its number, its node, the node's count and key, or 0 for none, whether the value is in memory, and the value.
-fn push<H: KeyHash>(
+fn push<E: Env<Node = CellNode>, S: PagableStorage<E>>(
     alloc: Global,
     text: &mut String,
-    pager: &CellPager<H>,
+    pager: &Pager<E, S>,
     handle: HandleNumber,
-) -> Result<(), Error> {
+) -> Result<(), Error>
+where
+    E::Node: NodeSet<E>,
+{
     let node = pager.node_of(handle)?.0;
     let count = pager.count(handle)?;
     let key = match pager.key(handle)? {
@@ -31,7 +34,14 @@ fn push<H: KeyHash>(
 }
 
 /// How long the list is, and each live handle from 1 up to this number.
-pub fn look<H: KeyHash>(alloc: Global, pager: &CellPager<H>, last: u64) -> anyhow::Result<String> {
+pub fn look<E: Env<Node = CellNode>, S: PagableStorage<E>>(
+    alloc: Global,
+    pager: &Pager<E, S>,
+    last: u64,
+) -> anyhow::Result<String>
+where
+    E::Node: NodeSet<E>,
+{
     let mut text = format!(in alloc; "pending {}", pager.pending())?;
     for number in 1..=last {
         let _ = push(alloc, &mut text, pager, HandleNumber(number));

@@ -154,8 +154,7 @@ fn referring(alloc: Global, node_type: &str, references: &[ArcRef]) -> anyhow::R
 }
 
 impl<H: KeyHash> NodeSet<CellEnv<H>> for CellNode {
-    ghost use Rattle.pagable.specs.OwnCauses.{reads_memory};
-    ghost use Rattle.vectors.specs.Cells.{has_shape, shape_of, told, type_of, writes};
+    ghost use Rattle.{pagable.specs.OwnCauses.reads_memory, vectors.specs.Cells.{has_shape, shape_of, told, type_of, writes}};
 
     ghost type_of = { type_of };
 

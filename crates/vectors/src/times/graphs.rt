@@ -1,19 +1,18 @@
 //! Texts, and values that refer to others, which are paged out and pinned again. Keys are made by SHA-256.
 
 use crate::calls::asked::item;
-use crate::calls::nodes::node;
-use crate::calls::{CellPager, pager_over};
+use crate::calls::nodes::{CellNode, node};
+use crate::calls::{let_go, pager_over};
 use crate::times::Outcome;
 use anyhow::{Context, bail};
 use pagable::{
-    DataKey, Error, HandleNumber, PageOutError, SerializedData, Sha256Key, SlotTable, paging,
+    DataKey, Env, Error, HandleNumber, NodeSet, PagableStorage, PageOutError, Pager,
+    SerializedData, Sha256Key, SlotTable, paging,
 };
 use pagable_examples::Draws;
 use std::alloc::Global;
 use std::sync::Arc;
 use std::time::{Clock, Instant};
-
-type HashedPager = CellPager<Sha256Key>;
 
 type Item = Arc<SerializedData>;
 
@@ -22,12 +21,18 @@ const SHARED: u64 = 2_000;
 
 /// A pager that is filled.
 #[derive(Drop)]
-struct Filling<'a> {
+struct Filling<'a, E: Env, S: PagableStorage<E>>
+where
+    E::Node: NodeSet<E>,
+{
     alloc: Global,
-    pager: &'a mut HashedPager,
+    pager: &'a mut Pager<E, S>,
 }
 
-impl Filling<'_> {
+impl<E: Env<Node = CellNode>, S: PagableStorage<E>> Filling<'_, E, S>
+where
+    E::Node: NodeSet<E>,
+{
     /// A new node of a value as rows spell it: a cell that waits for its page-out, or one that values share.
     fn made(&mut self, spelled: &str, is_cell: bool) -> anyhow::Result<HandleNumber> {
         let value = node(self.alloc, spelled)?;
@@ -167,11 +172,14 @@ impl Filling<'_> {
 }
 
 /// Pages out items on one table: their keys.
-fn keys_of(
+fn keys_of<E: Env, S: PagableStorage<E>>(
     alloc: Global,
-    pager: &mut HashedPager,
+    pager: &mut Pager<E, S>,
     items: Vec<Item>,
-) -> anyhow::Result<Vec<DataKey>> {
+) -> anyhow::Result<Vec<DataKey>>
+where
+    E::Node: NodeSet<E>,
+{
     let mut table = SlotTable::new(alloc);
     let mut keys = Vec::with_capacity(alloc, items.len())?;
     for item in items {
@@ -183,14 +191,29 @@ fn keys_of(
     Ok(keys)
 }
 
-/// Makes what a row pages out in a new pager, pages it out, and reads it back.
-pub fn once(clock: &impl Clock, alloc: Global, row: &str, count: u32) -> anyhow::Result<Outcome> {
-    let mut pager = pager_over(alloc, "");
-    let pager = &mut pager;
+/// Makes what a row pages out, pages it out, and reads it back.
+fn once_in<E: Env<Node = CellNode>, S: PagableStorage<E>>(
+    clock: &impl Clock,
+    alloc: Global,
+    pager: &mut Pager<E, S>,
+    row: &str,
+    count: u32,
+) -> anyhow::Result<Outcome>
+where
+    E::Node: NodeSet<E>,
+{
     let mut filling = Filling { alloc, pager };
     if row == "items" {
         filling.lists_out_and_in(clock, count)
     } else {
         filling.cells_out_and_in(clock, row, count)
     }
+}
+
+/// As `once_in`, in a new pager.
+pub fn once(clock: &impl Clock, alloc: Global, row: &str, count: u32) -> anyhow::Result<Outcome> {
+    let mut pager = pager_over::<Sha256Key>(alloc, "");
+    let outcome = once_in(clock, alloc, &mut pager, row, count);
+    let_go(pager);
+    outcome
 }

@@ -1,0 +1,380 @@
+-- Each event of the machine, by what the pager and what is kept of loads, tables and workers say of it.
+use Rattle.std.proofs.Common.{rules, ◌≡◌, ℕ, true, List, [], Option, Some, None, Ok, inl, inr, refl, sym, ap, subst, ◌∙◌, arith, ◌≢◌, zero, suc, ◌+◌, ◌∷◌, ◌++◌, ◌==◌, if◌then◌else◌, length, Err}
+use Rattle.std.{proofs.{Common.{false, ◌⊎◌, ◌<◌}, lemmas.{Bool.Decides.nat_tests, Grind.common_steps, List.length-append}}, specs.{Option.option_map, Prelude.{Result, is_some, slice_get, is_none}}}
+use Rattle.{std.specs.declared.{alloc.Global.Global, sync.Arc.Arc, vec.Vec.Vec}, pagable_core.specs.declared.{context.writing.SerializedData.SerializedData, storage.data.PagableData.PagableData}}
+use Rattle.{pagable_laws.proofs.{Effects.{IsMine, owned-mine}, ReadingSteps.{caller-free, reading-feels}, Trees.{same-number, same_some}}, pagable_loads.specs.Frames.{IsLoadOf, is_cell}}
+use Rattle.{pagable_loads.specs.{Frames.reading_of, Stepping.IsSameLoad, Working.{StartsEntry, RefusesEntry}, declared.reading.Reading.Reading as Own}, pagable.proofs.Keeping.are-these}
+use Rattle.pagable.proofs.Keeping.{as-before, at-one, kept-on, one-or-old, quiet, same-work, leaves-so, makes, makes-with, not-same, one-serves, updated-at, Leaves, same, Passes, event-passes}
+use Rattle.pagable.{proofs.Keeping.{by-call, key-starts, nothing-done, refused, entry-leaves, item-leaves}, specs.Driving.{Answer, Drives, Given, IsInStep, Readings, holding, kept_at, over}}
+use Rattle.pagable.specs.{Driving.ByNumber, Keeping.{Holding, IsKept, IsServing, IsTaken, KeepsOne, Kept, Makes, ReadsFor, machine_of, readings_in, rest_after, Forgets, IsPrepared, KeptStep}}
+use Rattle.pagable.specs.{Serving.{Serves, plain_call, plain_reply}, Walking.{IsBegun, IsWalkKept, shelf_at, has_task, walking_of, IsIn}, declared.held.{Held.Held, Walk.Walk}}
+use Rattle.pagable_model.specs.declared.{error.Error.Error, numbers.{ArcRef.ArcRef, HandleNumber.HandleNumber, LoadNumber.LoadNumber, WorkerNumber.WorkerNumber}}
+use Rattle.pagable_pager.{proofs.Keeping.{owner-owns, less-moves}, specs.View.{type_of_root, OnlyLess, PagerView, ReadsAs, Telling, core_in, state_in, OnlyTables, value_in}}
+use Rattle.{pagable_tables.proofs.Worlds.still, pagable_walk.{proofs.Turning.plain-fits, specs.{Slots.written_of, Table.shelf_of, Turns.plain, declared.results.Trees.Ghosts}}}
+use Rattle.{pagable_walk.specs.declared.table.SlotTable.SlotTable, pagable_world.specs.{Access.{ReadingStep, WorkerStarts}, Events.{reading_after, reading_at, reading_of_root, step_fault, Happens}}}
+use Rattle.pagable_world.specs.{Events.{IsTable, Starts, no_shelf, with_worker, Does, entry_task, with_entry_taken}, Kinds.{is_owner, identity_of}, LoadCalls.{DropCall, LoadCloses}, Loads.gone_on}
+use Rattle.pagable_world.specs.{Order.step_of, Pager.{FitsRoot, Moves, PagerState, WellFormed, world_of, CallBrings}, Plain.{or_else, updated, Blob, if_there}, Refusals.{OwnsLoad, load_fault}}
+use Rattle.pagable_world.specs.{Workers.fresh, World.{Frame, OpenLoad, Reading, Root, of_cell, of_key, Seen, one_more, Alike, Core, SameShelf, Values, Written, Walking, of_entry, of_item}}
+use Rattle.pagable_world.specs.declared.{answers.Beginning.Beginning, calls.{Call.Call, Reply.Reply}, events.{Event.Event, EventReply.EventReply, LoadAnswer.LoadAnswer, LoadReply.LoadReply}}
+use Rattle.pagable_world.specs.declared.{events.TableNumber.TableNumber, handles.Owner.Owner}
+use Rattle.pagable_world.specs.World as world
+
+module _ {X : Type 0} {g : Ghosts X} {N E : Type 0} (s : PagerState N E) (h : Holding g) (l : LoadNumber) (load : OpenLoad) (o : OwnsLoad s.core Owner.Caller l load) where
+  at-found : (own : Option Own) → h.readings l.0 ≡ own → reading_at (world_of (machine_of s h)) l ≡ or_else (option_map reading_of own) (reading_of_root l load.root)
+  at-found own is = first_of (grind (arith, common_steps, nat_tests), search (rules))
+
+-- what a load of a cell reads
+of_root : (root : Root) (type : ℕ) → type_of_root root ≡ Some type
+    → (is_cell root ≡ true) × ((r : Reading) → r.node_type ≡ type → FitsRoot root r) × ((l : LoadNumber) → reading_of_root l root ≡ Some (fresh l type))
+of_root (of_cell node t h) type is = let e : t ≡ type = same_some _ _ is in (refl, (λ r typed. typed ∙ sym e), λ l. ap (λ n. Some (fresh l n)) e)
+of_root of_key type is = absurd (cc)
+
+-- the same load reads for the same
+still-reads : {load : OpenLoad} {own now : Own} {count : ℕ} → ReadsFor load own → IsSameLoad own now count → ReadsFor load now
+still-reads {load} {own} {now} reads e = first_of (grind (arith, nat_tests), search (rules))
+
+module _ {X : Type 0} {g : Ghosts X} {N E : Type 0} (s : PagerState N E) {h : Holding g} (serving : IsServing s.core h) where
+  -- what is taken is of the load
+  reads-taken : (l : LoadNumber) (load : OpenLoad) (key : ℕ) (t : Option ℕ) (own : Own) → OwnsLoad s.core Owner.Caller l load → load.key ≡ key → type_of_root load.root ≡ t
+      → IsTaken h.readings l key t own
+      → (own.load ≡ l) × ReadsFor load own × (reading_at (world_of (machine_of s h)) l ≡ Some (reading_of own))
+  reads-taken l load key t own o key_is root taken = elim taken.why [
+    | inl there ↦ let k = serving.readings l.0 own there in (ap (λ n. record { 0 = n }) k.number, k.reads load o.stands_open, at-found s h l load o (Some own) there)
+    | inr (none, (type, typed, is), keyed, sort) ↦
+        let read = of_root load.root type (root ∙ typed) in (
+          ap (λ (r : Reading). r.load) is,
+          record { owned = o.own; key = key_is ∙ sym keyed; sort = read.0 ∙ sym sort; typed = read.1 (reading_of own) (ap (λ (r : Reading). r.node_type) is) },
+          at-found s h l load o None none ∙ read.2 l ∙ ap Some (sym is),
+        )
+  ]
+
+-- a load of a key that a call began
+pub never-typed : {X : Type 0} {g : Ghosts X} {N E : Type 0} (s : PagerState N E) (h : Holding g) (l : LoadNumber) (load : OpenLoad) → OwnsLoad s.core Owner.Caller l load → h.readings l.0 ≡ None
+    → type_of_root load.root ≡ None
+    → step_fault (world_of (machine_of s h)) l ≡ Some Error.WrongMode
+never-typed s h l load o none untyped = first_of (grind (arith, common_steps, nat_tests), search (rules))
+
+module _ {X : Type 0} {g : Ghosts X} {N B W E : Type 0} (m : Seen N B W) (s s' : PagerState N E) (h : Holding g) (kept' : Kept) (serving : IsServing s.core h) (was : WellFormed m.values s) where
+  abbrev stepped-left : Holding g
+  stepped-left = record h { readings = kept' }
+
+  steps : (l : LoadNumber) (load : OpenLoad) (reading : Reading) (x : Option Own) (reply : LoadReply N) (frames : List Frame)
+      → OwnsLoad s.core Owner.Caller l load → reading_at (world_of (machine_of s h)) l ≡ Some reading → ReadingStep m.values Owner.Caller reading s reply.ended frames s'
+      → reply.steps ≡ one_more reading.steps → IsMine s.core Owner.Caller reading.load
+      → KeepsOne h.readings l.0 x kept' → option_map reading_of x ≡ reading_after reply.ended reading frames → ((now : Own) → x ≡ Some now → (now.load ≡ l) × ReadsFor load now)
+      → Makes m s h (Event.LoadStep l) (EventReply.LoadMoved (Ok reply)) s' stepped-left
+  steps l load reading x reply frames o at step counts mine keeps goes again =
+      let on = leaves-so (reading-feels m s.core Owner.Caller caller-free s'.core reading reply.ended frames step.does).does mine in
+      let given = (was.whole.loads.numbered l.0 (ap is_some o.stands_open)).1 in
+      let more = on.last in
+      let new : (now : Own) → x ≡ Some now → IsKept s'.core l.0 now =
+      λ now is.
+      record {
+        number = ap (λ (n : LoadNumber). n.0) (again now is).0;
+        given = omega (arith, given, more);
+        reads = λ other open_load. elim (on.loads l.0 other open_load) [
+          | inl there ↦ subst (λ y. ReadsFor y now) (same_some _ _ (sym o.stands_open ∙ there)) (again now is).1
+          | inr above ↦ absurd (omega (arith, given, above))
+        ];
+      }
+      in
+      quiet m s s' h kept' serving was step.whole on (Event.LoadStep l) (EventReply.LoadMoved (Ok reply)) (λ v. refl)
+      (record {
+        moves = record {
+          reading = reading;
+          frames = frames;
+          may = owner-owns o;
+          at = at;
+          does = step.does;
+          counts = counts;
+          readings = are-these s'.core kept' (updated l.0 (reading_after reply.ended reading frames) (readings_in h.readings s.core))
+              (λ q open_load is_open. at-one reading_of l.0 x (reading_after reply.ended reading frames) (readings_in h.readings s.core) keeps goes q
+              (as-before serving.readings on q open_load is_open));
+          work = same-work m s s' h kept' serving was step.whole;
+        };
+        refused = tt;
+      })
+      (record { each = λ n y is. elim (step.moves.each n y is) [ inl there ↦ inl there | inr (none, came) ↦ inr (none, (reading, at, came)) ]; environment = step.moves.environment })
+      tt
+      (kept-on serving.readings on (λ q other is_kept. elim (one-or-old l.0 x keeps q other is_kept) [
+        | inl there ↦ inl there.1
+        | inr (here, is) ↦ inr (subst (λ n. IsKept s'.core n other) (sym here) (new other is))
+      ]))
+
+-- a load that can't be looked at can't step
+pub faulty : {X : Type 0} {g : Ghosts X} {N E : Type 0} (s : PagerState N E) (h : Holding g) (l : LoadNumber) (e : Error) → load_fault s.core Owner.Caller l ≡ Some e
+    → step_fault (world_of (machine_of s h)) l ≡ Some e
+faulty s h l e is = first_of (grind (arith, common_steps, nat_tests), search (rules))
+
+-- what stands at a place of a list with one item more
+with-last : {Y : Type 0} (xs : List Y) (x : Y) (n : ℕ) → slice_get (xs ++ x ∷ []) n ≡ (if n == length xs then Some x else slice_get xs n)
+with-last [] x zero = refl
+with-last [] x (suc n) = grind (arith, nat_tests)
+with-last (y ∷ ys) x zero = grind (arith, nat_tests)
+with-last (y ∷ ys) x (suc n) = let more = with-last ys x n in grind (arith, nat_tests, more)
+
+module _ {X : Type 0} {g : Ghosts X} where
+  -- the tables with one more, which has no claim
+  shelf-added : (tables : List (SlotTable X g)) (new : SlotTable X g) → SameShelf no_shelf (shelf_of new) → (t : ℕ)
+      → SameShelf (updated (length tables + 1) no_shelf (shelf_at tables) t) (shelf_at (tables ++ new ∷ []) t)
+  shelf-added tables new empty x3 = grind (arith, nat_tests, with-last, not-same, same-number)
+
+module _ {X : Type 0} {g : Ghosts X} {N B W E : Type 0} (m : Seen N B W) (s s' : PagerState N E) (h : Holding g) {walks' : ℕ → Option (Walk X g)} (serving : IsServing s.core h)
+    (was : WellFormed m.values s)
+    (formed : WellFormed m.values s') (on : Leaves Owner.Caller (updated (s.core.last.worker + 1) true s.core.workers) s.core s'.core)
+    (t : TableNumber) (task : world.Task) (n : WorkerNumber) (k : Walk X g) (table : IsTable (world_of (machine_of s h)) t) (next : n.0 ≡ s.core.last.worker + 1) (begun : IsBegun t task k)
+    (keeps : KeepsOne h.walks n.0 (Some k) walks') where
+  abbrev with_walk : Holding g
+  with_walk = record h { walks = walks' }
+
+  -- the plain world's worker starts
+  starts-so : (core : Core) → Alike (with_worker core) s'.core → Starts (world_of (machine_of s h)) t task core n (world_of (machine_of s' with_walk))
+  starts-so core a = first_of (grind (arith, common_steps, nat_tests), grind (arith, nat_tests, are-these, as-before, at-one), search (rules, are-these, as-before, at-one))
+
+  at-work : (q : ℕ) → q ≢ n.0 → s'.core.workers q ≡ s.core.workers q
+  at-work q other = first_of (grind (arith, common_steps, nat_tests), grind (arith, nat_tests, same-number), search (rules, same-number))
+
+  new-walk : IsWalkKept s'.core (length h.tables) n.0 k
+  new-walk = first_of (grind (arith, common_steps, nat_tests), grind (arith, nat_tests, updated-at, plain-fits), search (rules, updated-at, plain-fits))
+
+  -- it is kept from now on
+  pub worker-made : (core : Core) → Alike (with_worker core) s'.core → (event : Event N B W) → ((v : ℕ) → step_of v event (EventReply.WorkerMade (Ok n)) ≡ [])
+      → (Starts (world_of (machine_of s h)) t task core n (world_of (machine_of s' with_walk))
+      → Happens m (world_of (machine_of s h)) event (EventReply.WorkerMade (Ok n)) (world_of (machine_of s' with_walk)))
+      → Moves (λ q x. ⊥) s s' → Makes m s h event (EventReply.WorkerMade (Ok n)) s' with_walk
+  worker-made core a event none happens moves =
+      makes-with m s s' {h' = with_walk} formed event (EventReply.WorkerMade (Ok n)) (happens (starts-so core a))
+      (record { each = λ q x is. elim (moves.each q x is) [ inl there ↦ inl there | inr came ↦ absurd came.1 ]; environment = moves.environment }) tt
+      (one-serves {h' = with_walk} serving was.whole.handles n.0 k keeps (omega arith) (kept-on serving.readings on (λ l own is. inl is)) (λ q other. passes q) at-work new-walk)
+    where
+      passes : (v : ℕ) → Passes v s.core s'.core
+      passes v = event-passes m v (world_of (machine_of s h)) (world_of (machine_of s' with_walk)) was.whole event (EventReply.WorkerMade (Ok n)) (none v) (happens (starts-so core a))
+          (λ l load is own. on.others l load is (was.whole.loads.numbered l (ap is_some is)).1 (ap (is_owner Owner.Caller) own))
+
+-- a call by which values come, one by which they only go, and one by which they stay
+module _ {N S E : Type 0} {v : Values N} {tells : Telling S} {old new : PagerView N S E} {call : Call N PagableData} {r : Reply N (Arc PagableData Global)}
+    (does : Does (plain v) (core_in tells old) Owner.Caller (plain_call call) (plain_reply r) (core_in tells new)) where
+  pub serves : Moves (CallBrings (core_in tells old) (plain_call call)) (state_in tells old) (state_in tells new) → Serves v tells old call r new
+  serves moves = record { step = record { does = does }; moves = moves }
+
+  pub serves-less : OnlyLess old new → Serves v tells old call r new
+  serves-less only = serves (less-moves tells old new only)
+
+  pub serves-same : OnlyTables old new → Serves v tells old call r new
+  serves-same only = serves (record { each = λ n x is. inl (subst (λ values. value_in values n ≡ Some x) only.values is); environment = only.environment })
+
+-- what is kept anew after what was kept stayed
+pub keeps-after : {Y : Type 0} {k mid kept' : ℕ → Option Y} {l : ℕ} {own : Option Y} → ((q : ℕ) → mid q ≡ k q) → KeepsOne mid l own kept' → KeepsOne k l own kept'
+keeps-after as_was keeps = record { here = keeps.here; others = λ q other. keeps.others q other ∙ as_was q }
+
+-- a reading that is kept already, and one that has just begun
+pub is-prepared : {kept : Kept} (l : LoadNumber) (key : ℕ) (t : Option ℕ) → is_some (kept l.0) ≡ true → IsPrepared kept l key t kept
+is-prepared {kept} l key t some = by (kept l.0) refl some
+  where
+    by : (found : Option Own) → kept l.0 ≡ found → is_some found ≡ true → IsPrepared kept l key t kept
+    by None is some = absurd (cc)
+    by (Some own) is some = record { own = own; taken = record { why = inl is }; keeps = record { here = is; others = λ q other. refl } }
+
+pub begins-prepared : {kept kept' : Kept} (l : LoadNumber) (key : ℕ) (t : Option ℕ) (type : ℕ) (own : Own) → is_some (kept l.0) ≡ false → t ≡ Some type → reading_of own ≡ fresh l type → own.key ≡ key
+    → own.for_cell ≡ true → KeepsOne kept l.0 (Some own) kept'
+    → IsPrepared kept l key t kept'
+begins-prepared {kept} l key t type own none typed is key_is sort keeps =
+    let unkept : kept l.0 ≡ None = grind (arith, nat_tests) in
+    record { own = own; taken = record { why = inr (unkept, (type, typed, is), key_is, sort) }; keeps = keeps }
+
+answered : {X : Type 0} {g : Ghosts X} (k : Walk X g) → is_some k.task ≡ is_none k.answer → is_some k.task ≡ false → is_some k.answer ≡ true
+answered k either none = grind (arith, nat_tests)
+
+-- a worker that has no task has answered, or isn't there
+pub no-task : {X : Type 0} {g : Ghosts X} {w : Core} {h : Holding g} → IsServing w h → (n : ℕ) (found : Option (Walk X g)) → h.walks n ≡ found → has_task found ≡ false
+    → if_there (λ (walking : Walking). is_some walking.answer) true (option_map walking_of found) ≡ true
+no-task serving n found is none = grind (arith, nat_tests, answered)
+
+module _ {X : Type 0} {g : Ghosts X} {N S E : Type 0} (v : E → Values N) (tells : Telling S) (old new : PagerView N S E) (held : Held X g) (serving : IsInStep tells (over old held))
+    (was : WellFormed (v old.environment) (state_in tells old)) where
+  abbrev m : Seen N Blob Written
+  m = plain (v old.environment)
+
+  abbrev s : PagerState N E
+  s = state_in tells old
+
+  abbrev s' : PagerState N E
+  s' = state_in tells new
+
+  abbrev h : Holding g
+  h = holding held
+
+  abbrev Takes : Given N → Answer N → PagerView N S E → Held X g → Type 0
+  Takes event reply now left = Drives (v old.environment) tells (over old held) event reply (over now left)
+
+  whole-still : {comes : ℕ → N → Type 0} → Moves comes s s' → WellFormed (v new.environment) s' → WellFormed (v old.environment) s'
+  whole-still moves formed = subst (λ e. WellFormed (v e) s') moves.environment formed
+
+  pub start-drives : (through : HandleNumber) (r : Result Beginning Error) → Serves (v old.environment) tells old (Call.LoadBegin through) (Reply.Begun r) new → WellFormed (v new.environment) s'
+      → Takes (Event.LoadStart through) (EventReply.Started r) new held
+  start-drives through r serves formed =
+      let w = whole-still serves.moves formed in
+      record {
+        makes = by-call m s s' h h.readings serving was w _ _ serves.step (record { still = λ l load is. refl; only = λ l own is. is }) (Event.LoadStart through) (EventReply.Started r) (λ q. refl)
+            (λ readings. record { step = serves.step.does; readings = readings; work = same-work m s s' h h.readings serving was w }) serves.moves tt;
+      }
+
+  module _ (kept' : Readings) where
+    abbrev kept : Readings
+    kept = held.readings
+
+    abbrev anew : Held X g
+    anew = record held { readings = kept' }
+
+    pub call-drives : (call : Call N PagableData) (reply : Reply N (Arc PagableData Global)) → Serves (v old.environment) tells old call reply new → WellFormed (v new.environment) s'
+        → Forgets s'.core (kept_at kept) (kept_at kept') → Takes (Event.Call call) (EventReply.CallReply reply) new anew
+    call-drives call reply serves formed f =
+        let w = whole-still serves.moves formed in
+        record {
+          makes = by-call m s s' h (kept_at kept') serving was w _ _ serves.step f (Event.Call (plain_call call)) (EventReply.CallReply (plain_reply reply)) (λ q. refl)
+              (λ readings. record { step = serves.step; readings = readings; work = same-work m s s' h (kept_at kept') serving was w }) serves.moves tt;
+        }
+
+    -- a load of a key has begun
+    pub key-drives : (key t : ℕ) (r : Result Beginning Error) (l : LoadNumber) (own : Own) → (k : ℕ) × (r ≡ Ok (Beginning.Load l k))
+        → Serves (v old.environment) tells old (Call.LoadKey key) (Reply.Begun r) new → WellFormed (v new.environment) s' → reading_of own ≡ fresh l t → own.key ≡ key → own.for_cell ≡ false
+        → KeepsOne (kept_at kept) l.0 (Some own) (kept_at kept') → Takes (Event.LoadKey key t) (EventReply.Started r) new anew
+    key-drives key t r l own (k, is) serves formed reads key_is sort keeps =
+        let made = subst (λ x. Serves (v old.environment) tells old (Call.LoadKey key) (Reply.Begun x) new) is serves in
+        subst (λ x. Takes (Event.LoadKey key t) (EventReply.Started x) new anew) (sym is)
+        (record { makes = key-starts m s s' h (kept_at kept') serving was (whole-still made.moves formed) key t l k own made.step made.moves reads key_is sort keeps })
+
+    -- or none begins, and the pager is as it was
+    pub key-none-drives : (key t : ℕ) (r : Result Beginning Error) → ((e : Error) × (r ≡ Err e)) ⊎ (r ≡ Ok Beginning.InMemory)
+        → Serves (v old.environment) tells old (Call.LoadKey key) (Reply.Begun r) new → WellFormed (v new.environment) s' → ((q : ℕ) → kept_at kept' q ≡ kept_at kept q)
+        → Takes (Event.LoadKey key t) (EventReply.Started r) new anew
+    key-none-drives key t (Err e) why serves formed as_was =
+        record {
+          makes = refused m serving was (record { step = serves.step.does.refused.stays; moves = serves.moves; whole = whole-still serves.moves formed })
+              (record { readings = as_was; tables = refl; walks = λ q. refl }) (Event.LoadKey key t) (EventReply.Started (Err e)) (λ q. refl)
+              (λ stays. record { step = serves.step.does; begun = tt; refused = stays.readings; work = stays.work }) tt;
+        }
+    key-none-drives key t (Ok Beginning.InMemory) why serves formed as_was = absurd serves.step.does.begins
+    key-none-drives key t (Ok (Beginning.Load l k)) why serves formed as_was = absurd (elim why [ inl (e, is) ↦ cc | inr is ↦ cc ])
+
+    step-refused : (l : LoadNumber) (e : Error) → ((q : ℕ) → kept_at kept' q ≡ kept_at kept q) → step_fault (world_of (machine_of s h)) l ≡ Some e
+        → Takes (Event.LoadStep l) (EventReply.LoadMoved (Err e)) old anew
+    step-refused l e as_was why =
+        record {
+          makes = refused m serving was (nothing-done s was) (record { readings = as_was; tables = refl; walks = λ q. refl }) (Event.LoadStep l)
+              (EventReply.LoadMoved (Err e)) (λ q. refl) (λ stays. record { moves = tt; refused = (why, stays) }) tt;
+        }
+
+    module _ (l : LoadNumber) (key : ℕ) (t : Option ℕ) (reads : ReadsAs s.core l key t) where
+      pub step-drives : (kept1 : Readings) (mid : Kept) (reply : LoadReply N) → IsPrepared (kept_at kept) l key t (kept_at kept1)
+          → KeepsOne mid l.0 (rest_after reply.ended (mid l.0)) (kept_at kept')
+          → KeptStep (v old.environment) (kept_at kept1) l.0 reply mid s s' → Takes (Event.LoadStep l) (EventReply.LoadMoved (Ok reply)) new anew
+      step-drives kept1 mid reply ready ends step =
+          let same : ready.own ≡ step.own = same_some _ _ (sym ready.keeps.here ∙ step.was) in
+          let taken = subst (λ x. IsTaken (kept_at kept) l key t x) same ready.taken in
+          let keeps : KeepsOne (kept_at kept) l.0 (rest_after reply.ended (Some step.new)) (kept_at kept') =
+          record { here = ends.here ∙ ap (rest_after reply.ended) step.keeps.here; others = λ q other. ends.others q other ∙ step.keeps.others q other ∙ ready.keeps.others q other } in
+          let r = reads-taken s serving l reads.load key t step.own reads.owned reads.key_is reads.type_is taken in
+          let of : IsLoadOf s.core Owner.Caller step.own =
+          record { load = reads.load; owned = subst (λ n. OwnsLoad s.core Owner.Caller n reads.load) (sym r.0) reads.owned; key = r.1.key; sort = r.1.sort } in
+          record {
+            makes = steps m s s' h (kept_at kept') serving was l reads.load (reading_of step.own) (rest_after reply.ended (Some step.new)) reply (reading_of step.new).frames reads.owned r.2
+                (step.stepped.does of) step.stepped.counts (owned-mine of.owned) keeps (goes-on reply.ended) (λ now is.
+                let e = only reply.ended now is in
+                (ap (λ (x : Own). x.load) (sym e) ∙ step.stepped.same.load ∙ r.0, subst (λ x. ReadsFor reads.load x) e (still-reads r.1 step.stepped.same)));
+          }
+        where
+          goes : reading_of step.new ≡ gone_on (reading_of step.own) (reading_of step.new).frames
+          goes = rw (step.stepped.same.load, step.stepped.same.node_type, step.stepped.same.steps) refl
+
+          goes-on : (ended : Option (LoadAnswer N)) → option_map reading_of (rest_after ended (Some step.new)) ≡ reading_after ended (reading_of step.own) (reading_of step.new).frames
+          goes-on None = ap Some goes
+          goes-on (Some answer) = refl
+
+          only : (ended : Option (LoadAnswer N)) (now : Own) → rest_after ended (Some step.new) ≡ Some now → step.new ≡ now
+          only None now is = same_some _ _ is
+          only (Some answer) now is = absurd (cc)
+
+      pub no-place-drives : (type : ℕ) → t ≡ Some type → kept_at kept l.0 ≡ None → (told : Result (Unit {0}) Error) → DropCall s.core Owner.Caller l told s'.core → OnlyLess old new
+          → WellFormed (v new.environment) s' → ((q : ℕ) → kept_at kept' q ≡ kept_at kept q)
+          → Takes (Event.LoadStep l) (EventReply.LoadMoved (Ok (record { ended = Some (LoadAnswer.Refused Error.OutOfMemory); steps = 1 }))) new anew
+      no-place-drives type typed none told drop only formed as_was =
+          let moves : Moves (λ n x. ⊥) s s' = less-moves tells old new only in
+          let closes : LoadCloses s.core l told s'.core =
+          elim drop.does [ inl r ↦ absurd (let f : None ≡ Some r.e = sym (owner-owns reads.owned) ∙ r.why in cc) | inr (other, owned, c) ↦ c ] in
+          record {
+            makes = steps m s s' h (kept_at kept') serving was l reads.load (fresh l type) None (record { ended = Some (LoadAnswer.Refused Error.OutOfMemory); steps = 1 }) [] reads.owned
+                (at-found s h l reads.load reads.owned None none ∙ (of_root reads.load.root type (reads.type_is ∙ typed)).2 l)
+                (record {
+                  does = record { does = (inl (record { mid = s.core; meets = inl (inr (inr refl), still s.core); told = told; closes = closes }), refl) };
+                  moves = record { each = λ n x is. elim (moves.each n x is) [ inl there ↦ inl there | inr came ↦ absurd came.1 ]; environment = moves.environment };
+                  whole = whole-still moves formed;
+                }) refl (owned-mine reads.owned) (record { here = as_was l.0 ∙ none; others = λ q other. as_was q }) refl (λ now is. absurd (cc));
+          }
+
+      pub untyped-drives : t ≡ None → kept_at kept l.0 ≡ None → ((q : ℕ) → kept_at kept' q ≡ kept_at kept q) → Takes (Event.LoadStep l) (EventReply.LoadMoved (Err Error.WrongMode)) old anew
+      untyped-drives untyped none as_was = step-refused l Error.WrongMode as_was (never-typed s h l reads.load reads.owned none (reads.type_is ∙ untyped))
+
+    pub closed-drives : (l : LoadNumber) (e : Error) → load_fault s.core Owner.Caller l ≡ Some e → ((q : ℕ) → kept_at kept' q ≡ kept_at kept q)
+        → Takes (Event.LoadStep l) (EventReply.LoadMoved (Err e)) old anew
+    closed-drives l e why as_was = step-refused l e as_was (faulty s h l e why)
+
+  pub table-drives : (tables' : Vec (SlotTable X g) Global) (table : SlotTable X g) (t : TableNumber) → tables'.items ≡ held.tables.items ++ table ∷ [] → t.0 ≡ length held.tables.items + 1
+      → SameShelf no_shelf (shelf_of table) → Takes Event.TableNew (EventReply.TableMade (Ok t)) old (record held { tables = tables' })
+  table-drives tables' table t is number empty =
+      let more = length-append h.tables (table ∷ []) in
+      record {
+        makes = rw is (makes m s s {h' = record h { tables = h.tables ++ table ∷ [] }} serving was was (omega (arith, more)) (λ v. refl) (same s.core) Event.TableNew (EventReply.TableMade (Ok t))
+            (λ v. refl) (record {
+              made = (
+                number,
+                still s.core,
+                are-these s.core h.readings (readings_in h.readings s.core) (λ l load is. as-before serving.readings (same {me = Owner.Caller} s.core) l load is),
+                record {
+                  same_shelves = λ q. subst (λ n. SameShelf (updated n no_shelf (shelf_at h.tables) q) (shelf_at (h.tables ++ table ∷ []) q)) (sym number) (shelf-added h.tables table empty q);
+                  last_is = more ∙ sym number;
+                  same_walkings = λ v. refl;
+                },
+              );
+              refused = tt;
+            })
+            (record { each = λ n x is. inl is; environment = refl }) tt serving.readings);
+      }
+
+  module _ (walks' : ByNumber (Walk X g)) (t : TableNumber) where
+    abbrev left : Held X g
+    left = record held { walks = walks' }
+
+    pub entry-refused : (e : Error) (i : ℕ) → IsIn t.0 held.tables.items → i < length s.core.list → RefusesEntry (v old.environment) s i e s'
+        → ((q : ℕ) → kept_at walks' q ≡ kept_at held.walks q) → Takes (Event.WorkerListed t i) (EventReply.WorkerMade (Err e)) new left
+    entry-refused e i there within r same_walks =
+        record {
+          makes = refused m serving was r.stays (record { readings = λ l. refl; tables = refl; walks = same_walks }) (Event.WorkerListed t i) (EventReply.WorkerMade (Err e)) (λ q. refl)
+              (λ stays. record {
+                starts = tt;
+                refused = (
+                  elim r.why [ inl (is, past) ↦ inl (is, inr past) | inr (inl (is, entry)) ↦ inr (inl (is, there, entry)) | inr (inr is) ↦ inr (inr (is, there, within)) ],
+                  stays,
+                );
+              }) tt;
+        }
+
+    module _ (n : WorkerNumber) (k : Walk X g) (table : IsIn t.0 held.tables.items) (keeps : KeepsOne (kept_at held.walks) n.0 (Some k) (kept_at walks')) where
+      pub listed-started : (i : ℕ) (r : ArcRef) → StartsEntry (v old.environment) s i n r s' → IsBegun t (of_entry r.handle (identity_of r)) k
+          → Takes (Event.WorkerListed t i) (EventReply.WorkerMade (Ok n)) new left
+      listed-started i r entry begun =
+          let starts = entry.starts in
+          let task : world.Task = entry_task entry.h entry.row entry.type in
+          let own : IsBegun t task k = subst (λ (x : ArcRef). IsBegun t (of_entry x.handle (identity_of x)) k) entry.is begun in
+          record {
+            makes = worker-made m s s' h serving was starts.begins.whole (entry-leaves i entry.h n starts.begins.step) t task n k table starts.next own keeps (with_entry_taken s.core i entry.h n)
+                starts.begins.step (Event.WorkerListed t i) (λ q. refl)
+                (λ begins. record { starts = (entry.h, entry.row, entry.type, entry.entry, entry.kinds, begins); refused = tt }) starts.begins.moves;
+          }
+
+      pub item-started : (item : SerializedData) → WorkerStarts (v old.environment) s.core s n.0 s' → IsBegun t (of_item (written_of item)) k
+          → Takes (Event.WorkerItem t item) (EventReply.WorkerMade (Ok n)) new left
+      item-started item starts begun = record {
+        makes = worker-made m s s' h serving was starts.begins.whole (item-leaves starts.begins.step) t (of_item (written_of item)) n k table starts.next begun keeps s.core starts.begins.step
+            (Event.WorkerItem t (written_of item)) (λ q. refl) (λ begins. record { starts = begins; refused = tt }) starts.begins.moves;
+      }

@@ -1,0 +1,357 @@
+-- What a machine keeps of loads and workers stays in step with its pager, whatever event happens: by what each call, each step and each begin and end leaves, and what it leaves to others' workers.
+use Rattle.std.proofs.Common.{rules, ◌≡◌, ℕ, ◌+◌, ◌<◌, ◌≤◌, Bool, true, false, Option, None, Some, inl, inr, refl, ◌⊎◌, arith, [], sym, ap, ◌∙◌, ◌==◌, ◌≢◌, length, Ok, if◌then◌else◌, subst}
+use Rattle.{std.{proofs.lemmas.{Bool.{false_from_ne_true, Decides.nat_tests}, Grind.common_steps}, specs.{Option.option_map, Prelude.{Result, is_some}}}, pagable_laws.proofs.Called.calls-go}
+use Rattle.pagable_laws.proofs.{Effects.{Effect, Free, Spares, listed-free, then-fell, worker-apart}, Goes.{Goes, RowsGo, fell-anyhow, quiet-goes, stands-whole}, ReadingSteps.caller-free}
+use Rattle.pagable_laws.{proofs.{ReadingSteps.event-goes, SparingSteps.event-spares, Trees.{counted, one-true, same-number, same_some, self-number}}, specs.TreeSteps.{Change, StandsAt}}
+use Rattle.{pagable_laws.specs.TreeSteps.nothing_felt, pagable_loads.specs.{Frames.reading_of, declared.reading.Reading.Reading as Own}, pagable.specs.Driving.{Given, Answer, Drives, Over}}
+use Rattle.pagable.specs.{Driving.holding, Keeping.{AllKept, Forgets, Holding, IsKept, IsServing, KeepsOne, Kept, Makes, ReadsFor, machine_of, readings_in, work_of}, Serving.plain_event}
+use Rattle.{pagable.specs.{Serving.plain_answer, Walking.{IsWalkKept, walking_of}, declared.held.Walk.Walk}, pagable_model.specs.declared.numbers.{ArcRef.ArcRef, HandleNumber.HandleNumber}}
+use Rattle.{pagable_model.specs.declared.numbers.{LoadNumber.LoadNumber, WorkerNumber.WorkerNumber}, pagable_pager.specs.View.{Telling, state_in}, pagable_tables.proofs.Worlds.still}
+use Rattle.{pagable_walk.specs.{Turns.{HoldsPin, IsLoading, IsOfKind, TaskFits, plain}, declared.{results.Trees.Ghosts, tasks.Task.Task}}, pagable_world.specs.{Access.Called, Calls.{shut, CloseCall}}}
+use Rattle.pagable_world.specs.{Calls.is_listed, Cascade.fallen, Events.{Does, Ends, with_entry_taken, with_worker, Happens, CallStep, Stays, WorkStays, ReadingsAre}, Kinds.{is_owner, owner_worker}}
+use Rattle.pagable_world.specs.{Order.step_of, Pager.{IsWhole, OwnersAreThere, HandlesAreWhole, EventBrings, IsMachineWhole, IsReadingWhole, IsWalkingWhole, Moves, PagerState, ReplyWrites}}
+use Rattle.pagable_world.specs.{Pager.{WellFormed, world_of}, Plain.{SameAt, updated, one, times, if_there}, Workers.fresh, World.{Alike, Core, OpenLoad, Seen, Cell, World, Last, Reading, Walking}}
+use Rattle.pagable_world.specs.{World.{of_key, Values}, declared.{answers.Beginning.Beginning, calls.{Call.Call, Reply.Reply}, events.{Event.Event, EventReply.EventReply, WorkerAnswer.WorkerAnswer}}}
+use Rattle.pagable_world.specs.declared.handles.Owner.{Owner}
+
+-- of loads and workers, as far as the machine sees them
+pub record Leaves (me : Owner) (works : ℕ → Bool) (w w' : Core) : Type 0 where
+  pub loads : (l : ℕ) (load : OpenLoad) → w'.loads l ≡ Some load → (w.loads l ≡ Some load) ⊎ (w.last.load < l)
+  pub last : w.last.load ≤ w'.last.load
+  pub workers : SameAt works w'.workers
+  pub others : (l : ℕ) (load : OpenLoad) → w.loads l ≡ Some load → l ≤ w.last.load → is_owner me load.owner ≡ false → w'.loads l ≡ Some load
+
+pub same : {me : Owner} (w : Core) → Leaves me w.workers w w
+same w = record { loads = λ l load is. inl is; last = omega arith; workers = λ v. refl; others = λ l load is few other. is }
+
+-- so does what has the same of these, or is like it
+pub over : {me : Owner} {works : ℕ → Bool} {w u x : Core} → Leaves me works w u → x.loads ≡ u.loads → x.last.load ≡ u.last.load → x.workers ≡ u.workers → Leaves me works w x
+over {me} {works} {w} {u} {x} f loads last workers = first_of (grind (arith, common_steps, nat_tests), search (rules))
+
+pub after : {me : Owner} {works : ℕ → Bool} {w u w' : Core} → Leaves me works w u → Alike u w' → Leaves me works w w'
+after {me} {works} {w} {u} {w'} f a = first_of (grind (arith, common_steps, nat_tests), search (rules))
+
+pub like : {me : Owner} {w u w' : Core} → Alike u w' → u.loads ≡ w.loads → u.last.load ≡ w.last.load → u.workers ≡ w.workers → Leaves me w.workers w w'
+like {w = w} a loads last workers = after (over (same w) loads last workers) a
+
+-- by what is done
+pub leaves-so : {me : Owner} {lists : Bool} {Asks Keeps : Type 0} {c : Change} {w w' : Core} → Effect me lists Asks Keeps false c w w' → Asks → Leaves me w.workers w w'
+leaves-so e asks = record { loads = λ l load is. elim (e.goes.loads l load is) [ inl was ↦ inl was | inr new ↦ inr new.0 ]; last = e.goes.loads_last; workers = e.workers; others = e.others asks }
+
+-- a call of the caller's
+pub call-leaves : (w w' : Core) {N B W : Type 0} (m : Seen N B W) (call : Call N B) (reply : Reply N B) → Does m w Owner.Caller call reply w' → Leaves Owner.Caller w.workers w w'
+call-leaves w w' m Call.Close (Reply.Done r) c = let f = c.falls.falls in like {u = fallen (shut w w'.failures) f.gone f.entries} f.leaves refl refl refl
+call-leaves w w' m Call.Close reply c = absurd c
+call-leaves w w' m call reply c = leaves-so (calls-go m w Owner.Caller caller-free w' call reply tt c).does tt
+
+-- who is at work after a worker's answer
+abbrev pub works_after : Option WorkerAnswer → ℕ → (ℕ → Bool) → ℕ → Bool
+works_after None u works = works
+works_after (Some answer) u works = updated u false works
+
+-- its end
+pub end-leaves : {works : ℕ → Bool} {w m w' : Core} (answer : Option WorkerAnswer) (u : ℕ) → Leaves (owner_worker u) works w m → Ends answer u m w'
+    → Leaves (owner_worker u) (works_after answer u works) w w'
+end-leaves None u f a = after f a
+end-leaves {works} {w} {m} {w'} (Some answer) u f e = first_of (grind (arith, common_steps, nat_tests), search (rules))
+
+-- its begin, and with an entry
+with-one : {me : Owner} (w : Core) → Leaves me (updated (w.last.worker + 1) true w.workers) w (with_worker w)
+with-one w = record { loads = λ l load is. inl is; last = omega arith; workers = λ v. refl; others = λ l load is few other. is }
+
+pub item-leaves : {me : Owner} {w w' : Core} → Alike (with_worker w) w' → Leaves me (updated (w.last.worker + 1) true w.workers) w w'
+item-leaves {w = w} a = after (with-one w) a
+
+pub entry-leaves : {me : Owner} {w w' : Core} (i : ℕ) (h : HandleNumber) (v : WorkerNumber) → Alike (with_worker (with_entry_taken w i h v)) w'
+    → Leaves me (updated (w.last.worker + 1) true w.workers) w w'
+entry-leaves {w = w} i h v a = after (over {x = with_worker (with_entry_taken w i h v)} (with-one w) refl refl refl) a
+
+-- the worker's handles and open loads are as they were, and handles and nodes that are there stay what they are
+pub record Passes (v : ℕ) (w w' : Core) : Type 0 where
+  pub spares : Spares (owner_worker v) w w'
+  pub loads : (l : ℕ) (load : OpenLoad) → w.loads l ≡ Some load → load.owner ≡ owner_worker v → w'.loads l ≡ Some load
+  pub nodes : w.last.node ≤ w'.last.node
+  pub handles : w.last.handle ≤ w'.last.handle
+  pub rows : RowsGo w.last.handle w.rows w'.rows
+  pub cells : (n : ℕ) (cell : Cell) → w'.cells n ≡ Some cell → n ≤ w.last.node → (was : Cell) × (w.cells n ≡ Some was) × (cell.node_type ≡ was.node_type)
+
+abbrev LoadsStay : ℕ → Core → Core → Type 0
+LoadsStay v w w' = (l : ℕ) (load : OpenLoad) → w.loads l ≡ Some load → load.owner ≡ owner_worker v → w'.loads l ≡ Some load
+
+-- by what a step is as far as trees feel it
+by-goes : {c : Change} (v : ℕ) (w w' : Core) → Goes c w w' → Spares (owner_worker v) w w' → LoadsStay v w w' → Passes v w w'
+by-goes {c} v w w' g spares loads =
+    record {
+      spares = spares;
+      loads = loads;
+      nodes = g.nodes;
+      handles = g.handles;
+      rows = g.rows;
+      cells = λ n cell is few. elim (g.cells n cell is) [ inl k ↦ (k.was, k.live, k.typed) | inr (next, born) ↦ absurd (omega (arith, few, next)) ];
+    }
+
+-- what the list owns isn't a worker's
+list-free : (v : ℕ) (w : Core) → OwnersAreThere w → Free (owner_worker v) w (is_listed w)
+list-free v w there = record {
+  each = λ q row own s. false_from_ne_true (is_listed w q) (λ is.
+      let some : 0 < times (λ (h : HandleNumber). h.0 == q) w.list = grind (arith, nat_tests, is) in
+      let found = counted (λ (h : HandleNumber). one (h.0 == q)) w.list some in
+      let other = (listed-free (owner_worker v) refl there found.1.0 found.0 found.1.1).each q row own s in
+      let here : (q == found.0.0) ≡ true = ap (λ n. q == n) (same-number _ _ (one-true _ found.2)) ∙ self-number q in
+      cc);
+}
+
+-- the storage is closed
+close-passes : (v : ℕ) (w w' : Core) {r : Result (Unit {0}) _} → OwnersAreThere w → CloseCall w r w' → LoadsStay v w w' → Passes v w w'
+close-passes v w w' there c loads =
+    let x = by-goes v (shut w w'.failures) w' (quiet-goes nothing_felt (fell-anyhow c.falls))
+    (then-fell (owner_worker v) (worker-apart v) c.falls.falls (record { each = λ q row own s. s }) (record { each = (list-free v w there).each })) loads in
+    record { spares = record { each = x.spares.each }; loads = loads; nodes = x.nodes; handles = x.handles; rows = x.rows; cells = x.cells }
+
+-- each event of another's
+pub event-passes : {N B W : Type 0} (m : Seen N B W) (v : ℕ) (u u' : World) → IsWhole u.core → (event : Event N B W) (reply : EventReply N B W) → step_of v event reply ≡ []
+    → Happens m u event reply u'
+    → LoadsStay v u.core u'.core → Passes v u.core u'.core
+event-passes m v u u' whole (Event.Call Call.Close) (EventReply.CallReply (Reply.Done r)) others h loads = close-passes v u.core u'.core whole.owners_there h.step.does loads
+event-passes m v u u' whole (Event.Call Call.Close) (EventReply.CallReply reply) others h loads = absurd h.step.does
+event-passes m v u u' whole (Event.Call Call.Close) reply others h loads = absurd h
+event-passes m v u u' whole event reply others h loads = by-goes v u.core u'.core (event-goes m u u' event reply tt h).goes (event-spares m v u u' whole.owners_there event reply others tt h) loads
+
+-- what a machine keeps of a worker stays in step with the pager through each event that the worker doesn't make
+module _ {v : ℕ} {w w' : Core} (whole : HandlesAreWhole w) (passes : Passes v w w') where
+  stands-on : {r : ArcRef} {h : HandleNumber} → StandsAt w r h → StandsAt w' r h
+  stands-on {r} {h} s =
+      record {
+        node_given = let a = s.node_given in let b = passes.nodes in omega (arith, a, b);
+        given = let a = s.given in let b = passes.handles in omega (arith, a, b);
+        is = λ row live. let was = passes.rows h.0 row live s.given in let old = s.is was.was was.live in (sym was.at ∙ old.0, λ kind. was.loose (old.1 kind));
+      }
+
+  kind-on : {r : ArcRef} → IsOfKind w r → IsOfKind w' r
+  kind-on {r} k = first_of (grind (arith, common_steps, nat_tests), search (rules))
+
+  load-on : {r : ArcRef} {through : HandleNumber} {own : Own} → IsLoading w v r through own → IsLoading w' v r through own
+  load-on l =
+      record {
+        is = record {
+          load = l.is.load;
+          owned = record { stands_open = passes.loads _ _ l.is.owned.stands_open l.is.owned.own; own = l.is.owned.own };
+          key = l.is.key;
+          sort = l.is.sort;
+        };
+        for_cell = l.for_cell;
+        t = l.t;
+        root = l.root;
+      }
+
+  pin-on : {r : ArcRef} {k : HandleNumber} → HoldsPin w (owner_worker v) r k → HoldsPin w' (owner_worker v) r k
+  pin-on {r} {k} p =
+      let s = passes.spares.each k.0 p.pins.row p.own (stands-whole whole k.0 p.pins.row p.pins.live) in
+      record { pins = record { row = p.pins.row; live = s.live; at = p.pins.at; pins = p.pins.pins }; own = p.own }
+
+  fits-on : {X : Type 0} {g : Ghosts X} (task : Task X g) → TaskFits v w task → TaskFits v w' task
+  fits-on (Task.Pin r place) (stands, kind) = (stands-on stands, kind-on kind)
+  fits-on (Task.Load r place through own) (kind, loading) = (kind-on kind, load-on loading)
+  fits-on (Task.Write r place through pin) (kind, holds) = (kind-on kind, pin-on holds)
+  fits-on task fits = tt
+
+  pub walk-on : {X : Type 0} {g : Ghosts X} {last last' : ℕ} {k : Walk X g} → last ≤ last' → w'.workers v ≡ w.workers v → IsWalkKept w last v k → IsWalkKept w' last' v k
+  walk-on more same k = first_of (grind (arith, common_steps, nat_tests), grind (arith, nat_tests, fits-on), search (rules, fits-on))
+
+pub updated-at : {X : Type 0} (n : ℕ) (x : X) (f : ℕ → X) → updated n x f n ≡ x
+updated-at n x f = ap (λ b. if b then x else f n) (self-number n)
+
+-- the machine reads what is kept of open loads
+pub are-these : (w' : Core) (kept' : Kept) (target : ℕ → Option Reading) → ((l : ℕ) (load : OpenLoad) → w'.loads l ≡ Some load → option_map reading_of (kept' l) ≡ target l)
+    → (l : ℕ) → readings_in kept' w' l ≡ if_there (λ load. target l) None (w'.loads l)
+are-these w' kept' target same l = first_of (grind (arith, common_steps, nat_tests), search (rules))
+
+none-shown : (found : Option OpenLoad) → let r : Option Reading = None in r ≡ if_there (λ (load : OpenLoad). r) None found
+none-shown None = refl
+none-shown (Some load) = refl
+
+pub not-same : (q l : ℕ) → (q == l) ≡ false → q ≢ l
+not-same q l e is = let f : (q == l) ≡ true = ap (λ n. n == l) is ∙ self-number l in absurd (cc)
+
+-- one is kept anew
+pub at-one : {Y Z : Type 0} (f : Y → Z) {kept kept' : ℕ → Option Y} (l : ℕ) (x : Option Y) (new : Option Z) (old : ℕ → Option Z) → KeepsOne kept l x kept' → option_map f x ≡ new → (q : ℕ)
+    → option_map f (kept q) ≡ old q
+    → option_map f (kept' q) ≡ updated l new old q
+at-one f {kept} {kept'} l x new old k is q same = first_of (grind (arith, common_steps, nat_tests), grind (arith, nat_tests, same-number, not-same), search (rules, same-number, not-same))
+
+pub one-or-old : {Y : Type 0} {kept kept' : ℕ → Option Y} (l : ℕ) (x : Option Y) → KeepsOne kept l x kept' → (q : ℕ) (own : Y) → kept' q ≡ Some own
+    → ((q ≢ l) × (kept q ≡ Some own)) ⊎ ((q ≡ l) × (x ≡ Some own))
+one-or-old {kept = kept} {kept'} l x k q own is = first_of (grind (arith, common_steps, nat_tests), grind (arith, nat_tests, same-number, not-same), search (rules, same-number, not-same))
+
+module _ {w : Core} {kept : Kept} (all : AllKept w kept) {me : Owner} {works : ℕ → Bool} {w' : Core} (on : Leaves me works w w') where
+  -- nothing is kept of a load that wasn't begun
+  unkept : (l : ℕ) → w.last.load < l → kept l ≡ None
+  unkept l above = first_of (grind (arith, common_steps, nat_tests), search (rules))
+
+  -- an open load is read as it was
+  pub as-before : (l : ℕ) (load : OpenLoad) → w'.loads l ≡ Some load → option_map reading_of (kept l) ≡ readings_in kept w l
+  as-before l load open_load = first_of (grind (arith, common_steps, nat_tests), grind (arith, nat_tests, none-shown), search (rules, none-shown))
+
+  still-kept : (l : ℕ) (own : Own) → IsKept w l own → IsKept w' l own
+  still-kept l own k =
+      let given = k.given in
+      let more = on.last in
+      record {
+        number = k.number;
+        given = omega (arith, given, more);
+        reads = λ load open_load. elim (on.loads l load open_load) [ inl was ↦ k.reads load was | inr above ↦ absurd (omega (arith, given, above)) ];
+      }
+
+  pub kept-on : {kept' : Kept} → ((l : ℕ) (own : Own) → kept' l ≡ Some own → (kept l ≡ Some own) ⊎ IsKept w' l own) → AllKept w' kept'
+  kept-on anew l own is = elim (anew l own is) [ inl was ↦ still-kept l own (all l own was) | inr new ↦ new ]
+
+-- a machine in step with a pager that is whole is whole
+pub machine-whole : {X : Type 0} {g : Ghosts X} {N E : Type 0} (v : Values N) (s : PagerState N E) (h : Holding g) → WellFormed v s → IsServing s.core h → IsMachineWhole v (machine_of s h)
+machine-whole {X} {g} v s h formed serving =
+    record {
+      pager = formed;
+      readings = λ l reading is. of l reading (s.core.loads l) refl (h.readings l) refl is;
+      walkings = of-walk;
+      all_there = λ n is. let there = serving.all_there n is in grind (arith, nat_tests);
+    }
+  where
+    of : (l : ℕ) (reading : Reading) (found : Option OpenLoad) → s.core.loads l ≡ found → (own : Option Own) → h.readings l ≡ own
+        → if_there (λ (load : OpenLoad). option_map reading_of own) None found ≡ Some reading → IsReadingWhole s.core l reading
+    of l reading None e own f is = absurd (cc)
+    of l reading (Some load) e None f is = absurd (cc)
+    of l reading (Some load) e (Some own) f is =
+        let k = serving.readings l own f in
+        let r = k.reads load e in
+        subst (λ x. IsReadingWhole s.core l x) (same_some _ _ is) (record { number = k.number; load = load; open_load = e; owned = r.owned; typed = r.typed })
+
+    of-walk : (n : ℕ) (walking : Walking) → option_map walking_of (h.walks n) ≡ Some walking → IsWalkingWhole s.core (work_of h s.core) n walking
+    of-walk n walking is = let k = serving.walks n in grind (arith, nat_tests, same_some, serving.walks, k)
+
+-- what is done to a pager, and what is kept afterwards
+pub makes-with : {X : Type 0} {g : Ghosts X} {N B W E : Type 0} (m : Seen N B W) (s s' : PagerState N E) {h h' : Holding g} → WellFormed m.values s' → (event : Event N B W) (reply : EventReply N B W)
+    → Happens m (world_of (machine_of s h)) event reply (world_of (machine_of s' h')) → Moves (EventBrings m.values (world_of (machine_of s h)) event) s s'
+    → ReplyWrites m s reply → IsServing s'.core h' → Makes m s h event reply s' h'
+makes-with m s s' {h} {h'} formed event reply happens moves writes now =
+    record { does = record { step = record { happens = happens }; moves = moves; writes = writes; whole = machine-whole m.values s' h' formed now }; serving = now }
+
+-- of one worker this is kept from now on
+pub one-serves : {X : Type 0} {g : Ghosts X} {w w' : Core} {h h' : Holding g} → IsServing w h → HandlesAreWhole w → (v : ℕ) (k : Walk X g) → KeepsOne h.walks v (Some k) h'.walks
+    → length h.tables ≤ length h'.tables → AllKept w' h'.readings → ((q : ℕ) → q ≢ v → Passes q w w') → ((q : ℕ) → q ≢ v → w'.workers q ≡ w.workers q) → IsWalkKept w' (length h'.tables) v k
+    → IsServing w' h'
+one-serves {X} {g} {w} {w'} {h} {h'} serving whole v k keeps more readings passes works new =
+    record {
+      readings = readings;
+      walks = λ q x is. elim (one-or-old v (Some k) keeps q x is) [
+        | inl (other, was) ↦ walk-on whole (passes q other) more (works q other) (serving.walks q x was)
+        | inr (at, same) ↦ subst (λ n. IsWalkKept w' (length h'.tables) n x) (sym at) (subst (λ y. IsWalkKept w' (length h'.tables) v y) (same_some _ _ same) new)
+      ];
+      all_there = λ q is. there q is (q == v) refl;
+    }
+  where
+    there : (q : ℕ) → w'.workers q ≡ true → (b : Bool) → (q == v) ≡ b → is_some (h'.walks q) ≡ true
+    there q is true e = ap is_some (ap h'.walks (same-number q v e) ∙ keeps.here)
+    there q is false e = let other = not-same q v e in ap is_some (keeps.others q other) ∙ serving.all_there q (sym (works q other) ∙ is)
+
+-- no worker steps, and nothing else is kept of any
+module _ {X : Type 0} {g : Ghosts X} {N B W E : Type 0} (m : Seen N B W) (s s' : PagerState N E) {h h' : Holding g} (serving : IsServing s.core h) (was : WellFormed m.values s)
+    (formed : WellFormed m.values s') (more : length h.tables ≤ length h'.tables) (walks : (v : ℕ) → h'.walks v ≡ h.walks v) (on : Leaves Owner.Caller s.core.workers s.core s'.core) where
+  pub makes : (event : Event N B W) (reply : EventReply N B W) → ((v : ℕ) → step_of v event reply ≡ []) → Happens m (world_of (machine_of s h)) event reply (world_of (machine_of s' h'))
+      → Moves (EventBrings m.values (world_of (machine_of s h)) event) s s' → ReplyWrites m s reply → AllKept s'.core h'.readings → Makes m s h event reply s' h'
+  makes event reply none happens moves writes now = makes-with m s s' formed event reply happens moves writes (record {
+    readings = now;
+    walks = λ v k is. walk-on was.whole.handles (passes v) more (on.workers v) (serving.walks v k (sym (walks v) ∙ is));
+    all_there = λ v is. ap is_some (walks v) ∙ serving.all_there v (sym (on.workers v) ∙ is);
+  })
+    where
+      passes : (v : ℕ) → Passes v s.core s'.core
+      passes v = event-passes m v (world_of (machine_of s h)) (world_of (machine_of s' h')) was.whole event reply (none v) happens
+          (λ l load is own. on.others l load is (was.whole.loads.numbered l (ap is_some is)).1 (ap (is_owner Owner.Caller) own))
+
+module _ {X : Type 0} {g : Ghosts X} {N B W E : Type 0} (m : Seen N B W) (s s' : PagerState N E) (h : Holding g) (kept' : Kept) (serving : IsServing s.core h) (was : WellFormed m.values s)
+    (formed : WellFormed m.values s') where
+  abbrev served : Holding g
+  served = record h { readings = kept' }
+
+  pub same-work : WorkStays (work_of h s.core) (work_of served s'.core)
+  same-work = record { shelves = λ t. record { slots = λ i. refl; waits = λ v. refl }; last_table = refl; walkings = λ v. refl }
+
+  pub quiet : Leaves Owner.Caller s.core.workers s.core s'.core → (event : Event N B W) (reply : EventReply N B W) → ((v : ℕ) → step_of v event reply ≡ [])
+      → Happens m (world_of (machine_of s h)) event reply (world_of (machine_of s' served)) → Moves (EventBrings m.values (world_of (machine_of s h)) event) s s' → ReplyWrites m s reply
+      → AllKept s'.core kept' → Makes m s h event reply s' served
+  quiet on = makes m s s' {h' = served} serving was formed (omega arith) (λ v. refl) on
+
+  -- what a call does, of which no more is kept than there was
+  pub by-call : (call : Call N B) (answer : Reply N B) → CallStep m s.core Owner.Caller call answer s'.core → Forgets s'.core h.readings kept' → (event : Event N B W) (reply : EventReply N B W)
+      → ((v : ℕ) → step_of v event reply ≡ [])
+      → (ReadingsAre (readings_in h.readings s.core) (world_of (machine_of s' served)) → Happens m (world_of (machine_of s h)) event reply (world_of (machine_of s' served)))
+      → Moves (EventBrings m.values (world_of (machine_of s h)) event) s s' → ReplyWrites m s reply → Makes m s h event reply s' served
+  by-call call answer step f event reply none happens moves writes =
+      let on = call-leaves s.core s'.core m call answer step.does in
+      quiet on event reply none
+      (happens (are-these s'.core kept' (readings_in h.readings s.core) (λ l load is. ap (option_map reading_of) (f.still l load is) ∙ as-before serving.readings on l load is)))
+      moves writes (kept-on serving.readings on (λ l own is. inl (f.only l own is)))
+
+  -- a load of a key begins, and is kept
+  pub key-starts : (key t : ℕ) (l : LoadNumber) (k : ℕ) (own : Own) → CallStep m s.core Owner.Caller (Call.LoadKey key) (Reply.Begun (Ok (Beginning.Load l k))) s'.core → Moves (λ n x. ⊥) s s'
+      → reading_of own ≡ fresh l t → own.key ≡ key → own.for_cell ≡ false → KeepsOne h.readings l.0 (Some own) kept'
+      → Makes m s h (Event.LoadKey key t) (EventReply.Started (Ok (Beginning.Load l k))) s' served
+  key-starts key t l k own step moves is key_is sort keeps =
+      let on = call-leaves s.core s'.core m (Call.LoadKey key) (Reply.Begun (Ok (Beginning.Load l k))) step.does in
+      let next = step.does.begins.1.above in
+      let a = step.does.begins.2 in
+      let last : s'.core.last.load ≡ s.core.last.load + 1 = ap (λ (x : Last). x.load) a.last in
+      let load : OpenLoad = record { owner = Owner.Caller; key = key; root = of_key } in
+      let there : s'.core.loads l.0 ≡ Some load = ap s'.core.loads next ∙ a.loads (s.core.last.load + 1) ∙ updated-at (s.core.last.load + 1) (Some load) s.core.loads in
+      let reads : ReadsFor load own = record { owned = refl; key = sym key_is; sort = sym sort; typed = tt } in
+      let new : IsKept s'.core l.0 own =
+      record {
+        number = ap (λ (r : Reading). r.load.0) is;
+        given = omega (arith, next, last);
+        reads = λ other open_load. subst (λ x. ReadsFor x own) (same_some _ _ (sym there ∙ open_load)) reads;
+      } in
+      quiet on (Event.LoadKey key t) (EventReply.Started (Ok (Beginning.Load l k))) (λ v. refl)
+      (record {
+        step = step.does;
+        begun = are-these s'.core kept' (updated l.0 (Some (fresh l t)) (readings_in h.readings s.core))
+            (λ q open_load is_open. at-one reading_of l.0 (Some own) (Some (fresh l t)) (readings_in h.readings s.core) keeps (ap Some is) q (as-before serving.readings on q open_load is_open));
+        refused = tt;
+        work = same-work;
+      }) moves tt
+      (kept-on serving.readings on (λ q other is_kept. elim (one-or-old l.0 (Some own) keeps q other is_kept) [
+        | inl was ↦ inl was.1
+        | inr (at, same) ↦ inr (subst (λ n. IsKept s'.core n other) (sym at) (subst (λ x. IsKept s'.core l.0 x) (same_some _ _ same) new))
+      ]))
+
+-- the same is kept
+pub record KeepsAll {X : Type 0} {g : Ghosts X} (h h' : Holding g) : Type 0 where
+  pub readings : (l : ℕ) → h'.readings l ≡ h.readings l
+  pub tables : h'.tables ≡ h.tables
+  pub walks : (v : ℕ) → h'.walks v ≡ h.walks v
+
+module _ {X : Type 0} {g : Ghosts X} {N B W E : Type 0} (m : Seen N B W) {s s' : PagerState N E} {h h' : Holding g} (serving : IsServing s.core h) (was : WellFormed m.values s)
+    (done : Called m.values (λ w'. Alike s.core w') s s') (keeps : KeepsAll h h') where
+  on : Leaves Owner.Caller s.core.workers s.core s'.core
+  on = like done.step refl refl refl
+
+  stays : Stays (world_of (machine_of s h)) (world_of (machine_of s' h'))
+  stays =
+      let same_pager : Alike s.core s'.core = done.step in
+      first_of (grind (arith, common_steps, nat_tests), grind (arith, nat_tests, are-these, as-before), search (rules, are-these, as-before))
+
+  -- an event is refused
+  pub refused : (event : Event N B W) (reply : EventReply N B W) → ((v : ℕ) → step_of v event reply ≡ [])
+      → (Stays (world_of (machine_of s h)) (world_of (machine_of s' h')) → Happens m (world_of (machine_of s h)) event reply (world_of (machine_of s' h')))
+      → ReplyWrites m s reply → Makes m s h event reply s' h'
+  refused event reply none happens writes =
+      makes m s s' serving was done.whole (let e : length h'.tables ≡ length h.tables = ap length keeps.tables in omega (arith, e)) keeps.walks on event reply none (happens stays)
+      (record { each = λ n x is. elim (done.moves.each n x is) [ inl there ↦ inl there | inr came ↦ absurd came.1 ]; environment = done.moves.environment }) writes
+      (kept-on serving.readings on (λ l own is. inl (sym (keeps.readings l) ∙ is)))
+
+-- nothing is done to the pager
+pub nothing-done : {N E : Type 0} {v : Values N} (s : PagerState N E) → WellFormed v s → Called v (λ w'. Alike s.core w') s s
+nothing-done s was = record { step = still s.core; moves = record { each = λ n x is. inl is; environment = refl }; whole = was }
+
+-- a machine over a pager does what is made of both
+pub drives : {X : Type 0} {g : Ghosts X} {N S E : Type 0} {v : Values N} {tells : Telling S} {old new : Over N S E g} {event : Given N} {reply : Answer N}
+    → Makes (plain v) (state_in tells old.pager) (holding old.held) (plain_event event) (plain_answer reply) (state_in tells new.pager) (holding new.held) → Drives v tells old event reply new
+drives makes = record { makes = makes }

@@ -1,0 +1,255 @@
+-- A worker's step, and the table that it writes in its place. And a run goes on by one event more, and the headline holds of it after whatever came before.
+use Rattle.std.proofs.Common.{rules, ◌≡◌, ◌≢◌, ℕ, suc, ◌≤◌, ◌==◌, Bool, true, false, List, [], ◌∷◌, Option, Some, None, Ok, inl, inr, if◌then◌else◌, refl, sym, ap, subst, ◌∙◌, length, arith, ◌<◌}
+use Rattle.std.proofs.{Common.{◌++◌, map, zero}, Math.{ListN.set, Path.fun_ext}, lemmas.{Bool.Decides.nat_tests, Grind.common_steps, List.{get_or-set_same, get_or-set_other, length-set, append-nil}}}
+use Rattle.std.proofs.lemmas.{List.{append_assoc, map-append, nil_from_length, length-map}, Map.Made.lookup-map_values, Option.{slice_get_read, slice_get_cases, slice_get_past, slice_get-map}}
+use Rattle.std.specs.{Map.lookup, Option.option_map, Prelude.{is_none, is_some, slice_get, nat_eq}, declared.{alloc.Global.Global, sync.Arc.Arc}}
+use Rattle.{pagable_core.specs.declared.context.writing.SerializedData.SerializedData, pagable_laws.proofs.{Chains.headline_law, Effects.owned-mine, Joining.chains_join, ReadingSteps.FrontMine}}
+use Rattle.{pagable_laws.proofs.{ReadingSteps.walk-goes, Trees.same-number}, pagable.proofs.Keeping.{are-these, as-before, at-one, kept-on, makes-with, not-same, one-serves, updated-at}}
+use Rattle.pagable.{proofs.Keeping.{Leaves, leaves-so, end-leaves, works_after, Passes, event-passes}, specs.Driving.{Answer, Drives, Given, IsInStep, MachineView, Over, Runs, machine_in}}
+use Rattle.pagable.specs.{Driving.{view_of, claims_at, claims_of, holding, table_view}, Keeping.{Holding, IsServing, KeepsOne, Makes, machine_of, readings_in}, Serving.plain_moved}
+use Rattle.pagable.specs.{Serving.{plain_answer, plain_event}, Walking.{IsWalkKept, SetsTable, WalksOn, shelf_at, task_in, todo_left, walking_of}, declared.held.Walk.Walk}
+use Rattle.{pagable_model.specs.declared.numbers.WorkerNumber.WorkerNumber, pagable_pager.specs.View.{Telling, state_in}, pagable_walk.specs.{Slots.{is_same, slot_of}, Table.shelf_of, Tasks.todo_of}}
+use Rattle.pagable_walk.specs.{Tasks.todos, Turns.{LeavesFit, TaskFits, answer_in, plain, plain_took, plan, Stepped}, declared.{results.Trees.Ghosts, table.SlotTable.SlotTable, tasks.Task.Task}}
+use Rattle.{pagable_walk.specs.declared.tasks.{Turn.Turn, Waiting.Waiting}, pagable_world.specs.{Events.{Ends, Happens, WorkerSteps, no_shelf, steps_after}, Kinds.{is_owner, owner_worker}}}
+use Rattle.pagable_world.specs.{Pager.{PagerState, TodoBrings, WellFormed, world_of, MachineState}, Plain.{Blob, if_there, updated}, Runs.{Moment, AreMoments, HasRun, state_after, Does}, Workers.Site}
+use Rattle.pagable_world.specs.{Workers.{WalkDoes, answer_after, is_counted}, World.{Core, SameShelf, Seen, Shelf, Todo, Values, Written}, declared.events.{Event.Event, EventReply.EventReply}}
+use Rattle.pagable_world.specs.declared.events.{Took.Took, WorkerAnswer.WorkerAnswer, WorkerReply.WorkerReply}
+
+-- ---- a table of a list is written in its place
+
+others-stay : {Y : Type 0} (xs : List Y) (i q : ℕ) (y : Y) → q ≢ i → slice_get (set xs i y) q ≡ slice_get xs q
+others-stay xs i q y other = grind (arith, nat_tests, get_or-set_other, length-set, set, slice_get_cases, slice_get_past, slice_get_read)
+
+pub set-at : {X : Type 0} {g : Ghosts X} (tables tables' : List (SlotTable X g)) (place : ℕ) (table : SlotTable X g) → place < length tables → tables' ≡ set tables place table
+    → SetsTable tables place table tables'
+set-at {X} {g} tables tables' place table within is = subst (λ (list : List (SlotTable X g)). SetsTable tables place table list) (sym is) (record {
+  len = length-set tables place table;
+  here = slice_get_read (set tables place table) _ place table refl (subst (λ n. place < n) (sym (length-set tables place table)) within) (sym (get_or-set_same tables place table table within));
+  others = λ q other. others-stay tables place q table other;
+})
+
+-- the load that it goes on with is its own
+front-mine : {X : Type 0} {g : Ghosts X} (n : ℕ) (w : Core) (task : Task X g) (below : List Todo) → TaskFits n w task → FrontMine w (owner_worker n) (todo_of task ∷ below)
+front-mine n w x2 below fits = grind (arith, nat_tests, owned-mine)
+
+module _ {X : Type 0} {g : Ghosts X} where
+  -- what is left to be done is the plan
+  left-is : (turn : Turn X g) (path : List (Waiting X g)) → todo_left (task_in turn) path ≡ plan turn path
+  left-is turn path = first_of (grind (arith, nat_tests), search (rules))
+
+  either-is : (turn : Turn X g) → is_some (task_in turn) ≡ is_none (answer_in turn)
+  either-is turn = first_of (grind (arith, nat_tests), search (rules))
+
+  fits-then : (n : ℕ) (w : Core) (turn : Turn X g) (task : Task X g) → LeavesFit n w turn → task_in turn ≡ Some task → TaskFits n w task
+  fits-then n w turn task fits is = first_of (grind (arith, nat_tests), search (rules))
+
+  -- the shelf of a table that is set, and of the others
+  shelf-set : (tables tables' : List (SlotTable X g)) (place : ℕ) (table : SlotTable X g) (after : Shelf) → SetsTable tables place table tables' → SameShelf after (shelf_of table) → (t : ℕ)
+      → SameShelf (updated (suc place) after (shelf_at tables) t) (shelf_at tables' t)
+  shelf-set tables tables' place table after sets same x7 =
+      first_of (grind (arith, common_steps, nat_tests), grind (arith, nat_tests, same-number, not-same), search (rules, same-number, not-same))
+
+apart : (q n : ℕ) → q ≢ n → (q == n) ≡ false
+apart q n other = first_of (grind (arith, common_steps, nat_tests), grind (arith, nat_tests, same-number), search (rules, same-number))
+
+-- who is at work after its answer
+works-then : {X : Type 0} {g : Ghosts X} (turn : Turn X g) (n : ℕ) (works : ℕ → Bool) → works n ≡ true → works_after (answer_in turn) n works n ≡ is_none (answer_in turn)
+works-then (Turn.Goes task) n works at_work = at_work
+works-then (Turn.Answers answer) n works at_work = updated-at n false works
+
+works-others : (answer : Option WorkerAnswer) (n q : ℕ) (works : ℕ → Bool) → q ≢ n → works_after answer n works q ≡ works q
+works-others answer n q works other = grind (arith, nat_tests, same-number)
+
+module _ {X : Type 0} {g : Ghosts X} {N E : Type 0} (v : Values N) (s s' : PagerState N E) (h : Holding g) {tables' : List (SlotTable X g)} {walks' : ℕ → Option (Walk X g)}
+    (serving : IsServing s.core h)
+    (was : WellFormed v s) (n : WorkerNumber) (k k' : Walk X g) (kept : h.walks n.0 ≡ Some k) (reply : WorkerReply (Arc SerializedData Global)) (on : WalksOn v n.0 h.tables k s reply tables' k' s')
+    (keeps : KeepsOne h.walks n.0 (Some k') walks') where
+  abbrev after : Holding g
+  after = record h { tables = tables'; walks = walks' }
+
+  abbrev m : Seen N Blob Written
+  m = plain v
+
+  abbrev turn : Turn X g
+  turn = on.moved.turn
+
+  abbrev step : Took Written
+  step = plain_took on.moved.took
+
+  abbrev todo : List Todo
+  todo = todo_of on.task ∷ todos k.path.items
+
+  abbrev told : WorkerReply Written
+  told = record { took = step; answer = answer_in turn; steps = k'.steps }
+
+  mine : IsWalkKept s.core (length h.tables) n.0 k
+  mine = serving.walks n.0 k kept
+
+  fits : TaskFits n.0 s.core on.task
+  fits = mine.fits on.task on.had
+
+  done : Stepped v n.0 (shelf_of on.table) todo s (shelf_of on.table') on.moved (plan turn k'.path.items) s'
+  done = on.steps.steps (record { me_is = refl; whole = was; task_fits = fits })
+
+  abbrev site : Site
+  site = record { core = s.core; shelf = shelf_of on.table; todo = todo }
+
+  unanswered : k.answer ≡ None
+  unanswered = grind (arith, nat_tests, mine)
+
+  ends : Ends (answer_in turn) n.0 done.does.after.core s'.core
+  ends = subst (λ a. Ends a n.0 done.does.after.core s'.core) done.answers done.does.ends
+
+  leaves : Leaves (owner_worker n.0) (works_after (answer_in turn) n.0 s.core.workers) s.core s'.core
+  leaves = end-leaves (answer_in turn) n.0 (leaves-so (walk-goes m n.0 site done.does.after todo step done.does.does.does).does (front-mine n.0 s.core on.task (todos k.path.items) fits)) ends
+
+  -- its list and table are those that the machine knows
+  todo-is : todo_left k.task k.path.items ≡ todo
+  todo-is = ap (λ task. todo_left task k.path.items) on.had
+
+  shelf-is : shelf_at h.tables k.table ≡ shelf_of on.table
+  shelf-is = ap (shelf_at h.tables) on.on ∙ ap (λ (found : Option (SlotTable X g)). if_there shelf_of no_shelf found) on.there
+
+  walking-is : walking_of k' ≡ record (walking_of k) { todo = done.does.after.todo; steps = k'.steps; answer = answer_in turn }
+  walking-is = first_of (grind (arith, common_steps, nat_tests), grind (arith, nat_tests, left-is), search (rules, left-is))
+
+  steps-so : WorkerSteps m (world_of (machine_of s h)) n told (world_of (machine_of s' after))
+  steps-so =
+      record {
+        walking = walking_of k;
+        after = done.does.after;
+        at = ap (option_map walking_of) kept;
+        at_work = unanswered;
+        does = subst (λ (shelf : Shelf). WalkDoes m n.0 (record { core = s.core; shelf = shelf; todo = todo_left k.task k.path.items }) step done.does.after) (sym shelf-is)
+            (subst (λ (list : List Todo). WalkDoes m n.0 (record { core = s.core; shelf = shelf_of on.table; todo = list }) step done.does.after) (sym todo-is) done.does.does);
+        answers = sym done.answers ∙ ap (λ list. answer_after list step) (sym todo-is);
+        counts = on.after.steps ∙ ap (steps_after k.steps) (on.steps.counts ∙ ap (λ list. is_counted list step) (sym todo-is));
+        ends = ends;
+        readings = are-these s'.core h.readings (readings_in h.readings s.core) (λ l load is. as-before serving.readings leaves l load is);
+        work = record {
+          same_shelves = λ t. subst (λ number. SameShelf (updated number done.does.after.shelf (shelf_at h.tables) t) (shelf_at tables' t)) (sym on.on)
+              (shelf-set h.tables tables' on.place on.table' done.does.after.shelf on.sets done.does.shelf_is t);
+          last_is = on.sets.len;
+          same_walkings = λ q. at-one walking_of n.0 (Some k') _ (λ u. option_map walking_of (h.walks u)) keeps (ap Some walking-is) q refl;
+        };
+      }
+
+  happens : Happens m (world_of (machine_of s h)) (Event.WorkerStep n) (EventReply.WorkerMoved (Ok told)) (world_of (machine_of s' after))
+  happens = record { moves = steps-so; refused = tt }
+
+  passes : (q : ℕ) → q ≢ n.0 → Passes q s.core s'.core
+  passes q other =
+      event-passes m q (world_of (machine_of s h)) (world_of (machine_of s' after)) was.whole (Event.WorkerStep n) (EventReply.WorkerMoved (Ok told))
+      (ap (λ b. if b then step ∷ [] else []) (apart n.0 q (λ is. other (sym is)))) happens
+      (λ l load is own. leaves.others l load is (was.whole.loads.numbered l (ap is_some is)).1 (ap (is_owner (owner_worker n.0)) own ∙ apart q n.0 other))
+
+  at-work : s.core.workers n.0 ≡ true
+  at-work = mine.at_work ∙ ap is_none unanswered
+
+  still : IsWalkKept s'.core (length tables') n.0 k'
+  still = grind (arith, nat_tests, at-work, done, either-is, fits, fits-then, leaves, left-is, mine, works-then)
+
+  pub worker-moved : Makes m s h (Event.WorkerStep n) (EventReply.WorkerMoved (Ok (plain_moved reply))) s' after
+  worker-moved =
+      rw on.replies (makes-with m s s' {h' = after} done.does.whole (Event.WorkerStep n) (EventReply.WorkerMoved (Ok told)) happens
+      (record {
+        each = λ q x is. elim (done.does.moves.each q x is)
+            [ inl there ↦ inl there | inr (none, came) ↦ inr (none, (walking_of k, ap (option_map walking_of) kept, subst (λ (list : List Todo). TodoBrings v s.core list q x) (sym todo-is) came)) ];
+        environment = done.does.moves.environment;
+      }) done.does.writes
+      (one-serves {h' = after} serving was.whole.handles n.0 k' keeps (subst (λ last. length h.tables ≤ last) (sym on.sets.len) (omega arith))
+      (kept-on serving.readings leaves (λ l own is. inl is)) passes
+      (λ q other. leaves.workers q ∙ works-others (answer_in turn) n.0 q s.core.workers other) still))
+
+-- ---- what the machine's value shows of tables and workers is what it keeps of them
+
+module _ {X : Type 0} {g : Ghosts X} where
+  claims-are : (t : SlotTable X g) → claims_of (table_view t) ≡ shelf_of t
+  claims-are t = ap (λ slots. let s : Shelf = record { slots = slots; waits = λ v. lookup (nat_eq v) t.waits.entries } in s)
+      (fun_ext (λ i. lookup-map_values slot_of (is_same (i.kind.0, i.node.0)) t.slots.entries))
+
+  shelves-are : (tables : List (SlotTable X g)) (t : ℕ) → claims_at (map table_view tables) t ≡ shelf_at tables t
+  shelves-are tables zero = refl
+  shelves-are tables (suc n) = ap (if_there claims_of no_shelf) (slice_get-map table_view tables n) ∙ by (slice_get tables n)
+    where
+      by : (found : Option (SlotTable X g)) → if_there claims_of no_shelf (option_map table_view found) ≡ if_there shelf_of no_shelf found
+      by None = refl
+      by (Some t) = claims-are t
+
+  module _ {N S E : Type 0} (tells : Telling S) (s : Over N S E g) where
+    -- the machine by what it keeps
+    abbrev pub raw_in : MachineState N E
+    raw_in = machine_of (state_in tells s.pager) (holding s.held)
+
+    pub view-is : machine_in tells (view_of s.pager s.held) ≡ raw_in
+    view-is =
+        let shelves = fun_ext (shelves-are s.held.tables.items) in
+        let last = length-map s.held.tables.items table_view in
+        let walks = fun_ext (λ v. lookup-map_values walking_of (nat_eq v) s.held.walks.entries) in
+        cc
+
+module _ {N E B W : Type 0} (m : Seen N B W) where
+  -- no event at all
+  pub no-run : (s : MachineState N E) → HasRun m s [] [] s
+  unfolding state_after
+  no-run s = record { moments = []; events_are = refl; replies_are = refl; ends = refl; chain = tt }
+
+  -- one event more
+  pub run-more : (old mid new : MachineState N E) (happened : List (Event N B W)) (replied : List (EventReply N B W)) (event : Event N B W) (reply : EventReply N B W)
+      → HasRun m old happened replied mid → Does m mid event reply new
+      → HasRun m old (happened ++ event ∷ []) (replied ++ reply ∷ []) new
+  unfolding state_after
+  run-more old mid new happened replied event reply run does =
+      let x : Moment N E B W = record { event = event; reply = reply; after = new } in
+      record {
+        moments = run.moments ++ x ∷ [];
+        events_are = map-append (λ y. y.event) run.moments (x ∷ []) ∙ ap (λ (ys : List (Event N B W)). ys ++ event ∷ []) run.events_are;
+        replies_are = map-append (λ y. y.reply) run.moments (x ∷ []) ∙ ap (λ (ys : List (EventReply N B W)). ys ++ reply ∷ []) run.replies_are;
+        ends = (chains_join E m).ends old run.moments (x ∷ []);
+        chain = (chains_join E m).joins old run.moments (x ∷ []) run.chain (subst (λ s. Does m s event reply new) (sym run.ends) does, tt);
+      }
+
+module _ {N S E X : Type 0} {t : Ghosts X} (tells : Telling S) (v : E → Values N) (old : MachineView N S E) where
+  -- the events so far have happened, and the others are left
+  pub record SoFar (all rest : List (Given N)) (replies : List (Answer N)) (now : Over N S E t) : Type 0 where
+    pub done : List (Given N)
+    pub left : done ++ rest ≡ all
+    pub run : HasRun (plain (v old.pager.environment)) (machine_in tells old) (map plain_event done) (map plain_answer replies) (raw_in tells now)
+    pub environment : now.pager.environment ≡ old.pager.environment
+    pub in_step : IsInStep tells now
+
+  pub at-first : (all : List (Given N)) (now : Over N S E t) → old ≡ view_of now.pager now.held → IsInStep tells now → SoFar all all [] now
+  at-first all now is in_step =
+      record {
+        done = [];
+        left = refl;
+        run = subst (λ x. HasRun (plain (v old.pager.environment)) (machine_in tells old) [] [] x) (ap (machine_in tells) is ∙ view-is tells now) (no-run _ _);
+        environment = ap (λ (x : MachineView N S E). x.pager.environment) (sym is);
+        in_step = in_step;
+      }
+
+  pub one-more : (all rest : List (Given N)) (event : Given N) (replies : List (Answer N)) (reply : Answer N) (mid new : Over N S E t)
+      → SoFar all (event ∷ rest) replies mid → Drives (v mid.pager.environment) tells mid event reply new → SoFar all rest (replies ++ reply ∷ []) new
+  one-more all rest event replies reply mid new so made =
+      let does = subst (λ e. Does (plain (v e)) (raw_in tells mid) (plain_event event) (plain_answer reply) (raw_in tells new)) so.environment made.makes.does in
+      let more = run-more _ _ _ _ _ _ (plain_event event) (plain_answer reply) so.run does in
+      record {
+        done = so.done ++ event ∷ [];
+        left = append_assoc so.done (event ∷ []) rest ∙ so.left;
+        run = rw (map-append plain_event so.done (event ∷ []), map-append plain_answer replies (reply ∷ [])) more;
+        environment = made.makes.does.moves.environment ∙ so.environment;
+        in_step = made.makes.serving;
+      }
+
+  pub all-ran : (all rest : List (Given N)) (replies : List (Answer N)) (new : Over N S E t)
+      → length rest ≡ 0 → SoFar all rest replies new → Runs (v old.pager.environment) tells old all replies (view_of new.pager new.held)
+  all-ran all rest replies new none so =
+      let is : so.done ≡ all = sym (append-nil so.done) ∙ ap (λ xs. so.done ++ xs) (sym (nil_from_length rest none)) ∙ so.left in
+      let m = plain (v old.pager.environment) in
+      let run = subst (λ xs. HasRun m (machine_in tells old) (map plain_event xs) (map plain_answer replies) (machine_in tells (view_of new.pager new.held))) is
+      (subst (λ x. HasRun m (machine_in tells old) (map plain_event so.done) (map plain_answer replies) x) (sym (view-is tells new)) so.run) in
+      record {
+        run = run;
+        right = λ start before whole idle chain ends.
+            headline_law E m start (before ++ run.moments) whole idle ((chains_join E m).joins start before run.moments chain (subst (λ s. AreMoments m s run.moments) (sym ends) run.chain));
+      }

@@ -1,0 +1,20 @@
+use Rattle.{pagable_loads.specs.Telling.values_at, pagable.proofs.Driven.{call-drives, serves-same, start-drives}}
+use Rattle.pagable.proofs.events.serve.Goals as goal
+
+pub returns-in-Call : goal.returns-in-Call
+returns-in-Call g c =
+    rw c.in-Call.is (call-drives (values_at g.E.Node.NodeSet g.E.Env g.E.Hash.KeyHash) _ _ _ _ c.requires c.is_whole.ensures _ _ _ c.serve-reply.ensures c.is_whole-in-Call.ensures c.forget.ensures)
+
+pub returns-in-LoadStart : goal.returns-in-LoadStart
+returns-in-LoadStart g c =
+    rw c.in-LoadStart.is (start-drives (values_at g.E.Node.NodeSet g.E.Env g.E.Hash.KeyHash) _ _ _ _ c.requires c.is_whole.ensures _ _
+    (serves-same c.load_begin-begun.ensures.step c.load_begin-begun.ensures.only) c.is_whole-in-LoadStart.ensures)
+
+pub returns-in-LoadStep : goal.returns-in-LoadStep
+returns-in-LoadStep g c = rw c.in-LoadStep.is c.load_step.ensures
+
+pub returns-in-WorkerListed : goal.returns-in-WorkerListed
+returns-in-WorkerListed g c = rw c.in-WorkerListed.is c.worker_listed.ensures
+
+pub returns-in-WorkerStep : goal.returns-in-WorkerStep
+returns-in-WorkerStep g c = rw c.in-WorkerStep.is c.worker_step.ensures

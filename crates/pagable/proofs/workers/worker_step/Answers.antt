@@ -1,0 +1,28 @@
+use Rattle.{std.{proofs.Common.{rules, ◌≡◌, true, false, sym, ◌∙◌, refl}, specs.Prelude.is_some}, pagable_loads.specs.Telling.values_at, pagable.specs.{Driving.kept_at, Walking.has_task}}
+use Rattle.pagable.proofs.{Driven.no-task, Keeping.{drives, nothing-done, refused}, Running.worker-moved}
+use Rattle.pagable.proofs.workers.worker_step.Goals as goal
+
+pub returns-then-not-has_task : goal.returns-then-not-has_task
+returns-then-not-has_task g c =
+    let none : has_task (kept_at c.args.held.now.walks c.args.worker.0) ≡ false = search rules in
+    drives (refused _ c.requires c.is_whole.ensures (nothing-done _ c.is_whole.ensures) (record { readings = λ l. refl; tables = refl; walks = λ q. refl }) _ _ (λ q. refl)
+    (λ stays. record { moves = tt; refused = (refl, no-task c.requires _ _ refl none, stays) }) tt)
+
+pub walk_on-requires-clause-table : goal.walk_on-requires-clause-table
+walk_on-requires-clause-table g c = (c.requires.walks _ _ (sym c.in-Some.ensures.value)).table
+
+pub walk_on-requires-clause-way : goal.walk_on-requires-clause-way
+walk_on-requires-clause-way g c = (c.requires.walks _ _ (sym c.in-Some.ensures.value)).way
+
+pub walk_on-requires-clause-at_work : goal.walk_on-requires-clause-at_work
+walk_on-requires-clause-at_work g c =
+    let mine = c.requires.walks _ _ (sym c.in-Some.ensures.value) in
+    let has : is_some c.in-Some.walk.now.task ≡ true = search rules in
+    mine.at_work ∙ sym mine.either ∙ has
+
+pub returns : goal.returns
+returns g c =
+    record {
+      makes = worker-moved (values_at g.E.Node.NodeSet g.E.Env g.E.Hash.KeyHash c.args.pager.now.environment) _ _ _ c.requires c.is_whole.ensures c.args.worker _ c.walk_on.new.walk
+          (sym c.in-Some.ensures.value) c.walk_on.result c.walk_on.ensures (record { here = search rules; others = search rules });
+    }

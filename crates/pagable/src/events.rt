@@ -1,0 +1,153 @@
+//! Each event of the machine: a step of the plain world that leaves the machine whole.
+
+ghost use Rattle.std.specs.{Prelude.{◌≡◌, ◌⊎◌, ◌<◌, ℕ, Ok, Err, IfErr, IfSome, IfNone, OnOk}, HashMap.spare};
+ghost use Rattle.{pagable_model.specs.declared.error.Error.Error, pagable_loads.specs.Telling.values_at};
+ghost use Rattle.{pagable_pager.specs.View.{core_in, telling}, pagable.specs.{Keeping.{BeginsNoKey, Forgets}, Driving.{Drives, IsInStep, kept_at, over}}};
+
+use crate::calls;
+use crate::held::Held;
+use crate::readings::{load_step, put, remove, reserve};
+use crate::workers::{table_new, worker_item, worker_listed, worker_step};
+use indexmap::IndexMap;
+use pagable_codec::{Env, NodeSet};
+use pagable_core::{PagableData, PagableStorage, SerializedData};
+use pagable_loads::Reading;
+use pagable_model::{DataKey, Error, LoadNumber};
+use pagable_pager::Pager;
+use pagable_world::{Beginning, Call, Event, EventReply};
+use std::alloc::Global;
+use std::sync::Arc;
+
+// The load that the call may close.
+fn closed_by<N: Drop>(call: &Call<N, PagableData>) -> Option<LoadNumber> {
+    match call {
+        Call::LoadEnd(load, _) | Call::LoadTake(load, _) | Call::LoadDrop(load) => Some(*load),
+        _ => None,
+    }
+}
+
+// Nothing is kept of a load that is closed.
+fn forget<E: Env, S: PagableStorage<E>>(
+    pager: &Pager<E, S>,
+    readings: &mut IndexMap<u64, Reading>,
+    load: Option<LoadNumber>,
+)
+where
+    E::Node: NodeSet<E>,
+    ensures { Forgets (core_in (telling S.stored S.is_closed S.failed) pager.now) (kept_at readings.old) (kept_at readings.new) }
+{
+    let Some(load) = load else {
+        return;
+    };
+    if let Err(Error::NoSuchHandle) = pager.load_of(load) {
+        remove(readings, load.0);
+    }
+}
+
+// A place for what is kept of a load of a key, where a load can begin. Refused with NumbersSpent and OutOfMemory.
+fn key_place<E: Env, S: PagableStorage<E>>(
+    pager: &Pager<E, S>,
+    readings: &mut IndexMap<u64, Reading>,
+) -> Result<(), Error>
+where
+    E::Node: NodeSet<E>,
+    ensures same { (q : ℕ) → kept_at readings.new q ≡ kept_at readings.old q }
+    ensures room { OnOk result (0 < spare readings.new) }
+    ensures refused { IfErr result (λ e. BeginsNoKey (core_in (telling S.stored S.is_closed S.failed) pager.now) e) }
+{
+    if !pager.has_load_number() {
+        return Err(Error::NumbersSpent);
+    }
+    reserve(readings)?;
+    Ok(())
+}
+
+// The load that has begun, if one has.
+fn begun_load(begun: &Result<Beginning, Error>) -> Option<LoadNumber>
+    ensures some { IfSome result (λ l. (k : ℕ) × (begun.now ≡ Ok (Beginning.Load l k))) }
+    ensures none { IfNone result (((e : Error) × (begun.now ≡ Err e)) ⊎ (begun.now ≡ Ok Beginning.InMemory)) }
+{
+    match begun {
+        Ok(Beginning::Load(load, _)) => Some(*load),
+        _ => None,
+    }
+}
+
+// A load of a key begins, which is read as a value of this type.
+fn load_key<E: Env, S: PagableStorage<E>>(
+    pager: &mut Pager<E, S>,
+    held: &mut Held<E>,
+    alloc: Global,
+    key: DataKey,
+    node_type: u32,
+) -> Result<Beginning, Error>
+where
+    E::Node: NodeSet<E>,
+    requires { IsInStep (telling S.stored S.is_closed S.failed) (over pager.old held.old) }
+    ensures { Drives (values_at E.Node.NodeSet E.Env E.Hash.KeyHash pager.old.environment) (telling S.stored S.is_closed S.failed)
+        (over pager.old held.old) (Event.LoadKey key node_type) (EventReply.Started result) (over pager.new held.new) }
+{
+    pager.is_whole();
+    match key_place(pager, &mut held.readings) {
+        Ok(()) => {}
+        Err(e) => return Err(e),
+    }
+    let begun = pager.load_key(key);
+    pager.is_whole();
+    match begun_load(&begun) {
+        Some(load) => {
+            put(
+                &mut held.readings,
+                load.0,
+                Reading::new(alloc, load, key, node_type, false),
+            );
+            begun
+        }
+        None => begun,
+    }
+}
+
+/// Makes the event's step, and answers what it answers.
+pub fn serve<E: Env, S: PagableStorage<E>>(
+    pager: &mut Pager<E, S>,
+    held: &mut Held<E>,
+    alloc: Global,
+    event: Event<E::Node, PagableData, SerializedData>,
+) -> EventReply<E::Node, Arc<PagableData>, Arc<SerializedData>>
+where
+    E::Node: NodeSet<E>,
+    requires { IsInStep (telling S.stored S.is_closed S.failed) (over pager.old held.old) }
+    ensures { Drives (values_at E.Node.NodeSet E.Env E.Hash.KeyHash pager.old.environment) (telling S.stored S.is_closed S.failed)
+        (over pager.old held.old) event result (over pager.new held.new) }
+{
+    pager.is_whole();
+    match event {
+        Event::Call(call) => {
+            let closed = closed_by(&call);
+            let reply = calls::serve(pager, alloc, call);
+            pager.is_whole();
+            forget(pager, &mut held.readings, closed);
+            EventReply::CallReply(reply)
+        }
+        // Nothing is kept of a load of a cell before its first step.
+        Event::LoadStart(handle) => {
+            let begun = pager.load_begin(handle);
+            pager.is_whole();
+            EventReply::Started(begun)
+        }
+        Event::LoadKey(key, node_type) => {
+            EventReply::Started(load_key(pager, held, alloc, key, node_type))
+        }
+        Event::LoadStep(load) => EventReply::LoadMoved(load_step(pager, held, alloc, load)),
+        Event::TableNew => EventReply::TableMade(table_new(pager, held, alloc)),
+        Event::WorkerItem(table, item) => {
+            EventReply::WorkerMade(worker_item(pager, held, alloc, table, item))
+        }
+        Event::WorkerListed(table, place) => {
+            EventReply::WorkerMade(worker_listed(pager, held, alloc, table, place))
+        }
+        Event::WorkerStep(worker) => {
+            EventReply::WorkerMoved(worker_step(pager, held, alloc, worker))
+        }
+    }
+}

@@ -1,0 +1,104 @@
+//! A pager that is driven by lists of events.
+
+ghost use Rattle.std.specs.Prelude.{◌≡◌, IfOk, IfErr, OnErr};
+ghost use Rattle.{pagable_loads.specs.Telling.values_at, pagable.specs.Driving.{Runs, machine_in}, pagable_pager.specs.View.{state_in, telling}, pagable_world.specs.Pager.{IsIdle, IsNew}};
+
+use crate::events;
+use crate::held::Held;
+use crate::list::put;
+use indexmap::IndexMap;
+use pagable_codec::{Env, NodeSet};
+use pagable_core::{PagableData, PagableStorage, SerializedData};
+use pagable_model::Error;
+use pagable_pager::Pager;
+use pagable_walk::Trees;
+use pagable_world::{Event, EventReply};
+use std::alloc::Global;
+use std::collections::VecDeque;
+use std::marker::Model;
+use std::sync::Arc;
+
+/// A pager that takes lists of events: calls, and loads and workers of page-out by steps.
+#[derive(Drop)]
+pub struct Machine<E: Env + Trees, S: PagableStorage<E>>
+where
+    E::Node: NodeSet<E>,
+{
+    pager: Pager<E, S>,
+    // What it keeps of loads, tables and workers.
+    held: Held<E>,
+}
+
+impl<E: Env + Trees, S: PagableStorage<E>> Model for Machine<E, S>
+where
+    E::Node: NodeSet<E>,
+{
+    ghost use Rattle.std.specs.Coded.{codes};
+    ghost use Rattle.{pagable_pager.specs.View.telling, pagable.specs.Driving.{IsInStep, MachineView, over, view_of}, indexmap.specs.Layout.hash_map_code};
+
+    ghost Value = { MachineView E.Node S E };
+
+    ghost coded = { Prim.hlevel (codes, hash_map_code) };
+
+    ghost view = { λ m. view_of m.pager m.held };
+
+    ghost invariant = { λ m. IsInStep (telling S.stored S.is_closed S.failed) (over m.pager m.held) };
+}
+
+impl<E: Env, S: PagableStorage<E>> Machine<E, S>
+where
+    E::Node: NodeSet<E>,
+{
+    /// A machine over a pager of nothing, over a storage as it stands. It takes no memory.
+    pub fn new(alloc: Global, storage: S, env: E) -> Machine<E, S>
+        ensures empty { IsNew (state_in (telling S.stored S.is_closed S.failed) result.pager) }
+        ensures idle { IsIdle (machine_in (telling S.stored S.is_closed S.failed) result) }
+        ensures storage { result.pager.storage ≡ storage }
+        ensures environment { result.pager.environment ≡ env }
+    {
+        Machine {
+            pager: Pager::new(alloc, storage, env),
+            held: Held {
+                readings: IndexMap::new(alloc),
+                tables: Vec::new(alloc),
+                walks: IndexMap::new(alloc),
+            },
+        }
+    }
+
+    /// The pager, to look at its values between two runs.
+    pub fn pager(&self) -> &Pager<E, S>
+        ensures { result.now ≡ self.now.pager }
+    {
+        &self.pager
+    }
+
+    /// Lets the events happen in their order, and answers one reply for each. Where there is no memory for the replies, nothing is done, and OutOfMemory comes back
+    /// with the events.
+    ///
+    /// Replies and machines are a run of the plain world, for which the headline holds, as of whatever led from an idle machine to this one: each event is one step
+    /// that leaves the machine whole, and where events meet what is asked of them, every node keeps its tree and each pin gives it.
+    pub fn run(
+        &mut self,
+        alloc: Global,
+        events: Vec<Event<E::Node, PagableData, SerializedData>>,
+    ) -> Result<
+        Vec<EventReply<E::Node, Arc<PagableData>, Arc<SerializedData>>>,
+        (Error, Vec<Event<E::Node, PagableData, SerializedData>>),
+    >
+        ensures run { IfOk result (λ replies.
+            Runs (values_at E.Node.NodeSet E.Env E.Hash.KeyHash self.old.pager.environment) (telling S.stored S.is_closed S.failed) self.old events.items replies.items self.new) }
+        ensures nothing { OnErr result (self.new ≡ self.old) }
+        ensures back { IfErr result (λ e. (e.0 ≡ Error.OutOfMemory) × (e.1 ≡ events)) }
+    {
+        let Ok(mut replies) = Vec::with_capacity(alloc, events.len()) else {
+            return Err((Error::OutOfMemory, events));
+        };
+        let mut rest = VecDeque::from_vec(events);
+        while let Some(event) = rest.pop_front() {
+            let reply = events::serve(&mut self.pager, &mut self.held, alloc, event);
+            put(&mut replies, reply);
+        }
+        Ok(replies)
+    }
+}

@@ -1,0 +1,150 @@
+//! How far loads are, by their numbers: what the machine keeps between their steps; and the steps of loads that the caller began.
+
+ghost use Rattle.std.specs.{HashMap.spare, Prelude.{◌≡◌, ◌<◌, ℕ, Some, None, IfErr, OnOk, OnErr}};
+ghost use Rattle.{pagable_loads.specs.Telling.values_at, pagable.specs.{Driving.{kept_at, Drives, IsInStep, over}, Keeping.{IsPrepared, IsUnread, KeepsOne, rest_after, Stepped}}};
+ghost use Rattle.{pagable_model.specs.declared.error.Error.Error, pagable_pager.specs.View.{state_in, telling}, pagable_world.specs.declared.events.{Event.Event, EventReply.EventReply}};
+ghost use Rattle.pagable_world.specs.declared.handles.Owner.{Owner};
+
+use crate::held::Held;
+use indexmap::IndexMap;
+use pagable_codec::{Env, NodeSet};
+use pagable_core::PagableStorage;
+use pagable_loads::Reading;
+use pagable_model::{DataKey, Error, LoadNumber};
+use pagable_pager::{Lent, Pager};
+use pagable_world::{LoadAnswer, LoadReply};
+use std::alloc::{AllocError, Global};
+
+/// A place for one more.
+pub fn reserve<V: Drop>(kept: &mut IndexMap<u64, V>) -> Result<(), AllocError>
+    ensures same { (q : ℕ) → kept_at kept.new q ≡ kept_at kept.old q }
+    ensures room { OnOk result (0 < spare kept.new) }
+{
+    kept.reserve(1)
+}
+
+/// Nothing is kept of a load any more.
+pub fn remove(readings: &mut IndexMap<u64, Reading>, load: u64)
+    ensures { KeepsOne (kept_at readings.old) load None (kept_at readings.new) }
+{
+    readings.swap_remove(&load);
+}
+
+/// This is kept of a number from now on, where there is a place for it.
+pub fn put<V: Drop>(kept: &mut IndexMap<u64, V>, number: u64, value: V)
+    requires { 0 < spare kept.old }
+    ensures { KeepsOne (kept_at kept.old) number (Some value) (kept_at kept.new) }
+{
+    let Ok(_) = kept.insert(number, value) else {
+        unreachable!();
+    };
+}
+
+/// Nothing is kept of a load that has ended by its step.
+pub fn end<N: Drop>(readings: &mut IndexMap<u64, Reading>, load: u64, ended: &Option<LoadAnswer<N>>)
+    ensures { KeepsOne (kept_at readings.old) load (rest_after ended.now (kept_at readings.old load)) (kept_at readings.new) }
+{
+    if ended.is_some() {
+        remove(readings, load);
+    }
+}
+
+/// Why an open load isn't read.
+#[derive(Clone, Copy)]
+pub enum Unread {
+    /// It has just begun, and there is no place for one more.
+    NoPlace,
+    /// It is of a key, and a call began it: nobody said as what it is read.
+    Untyped,
+}
+
+/// Sees to it that an open load's reading is kept: it is, or begins now, at the first step of a load of a cell.
+pub fn prepare(
+    readings: &mut IndexMap<u64, Reading>,
+    alloc: Global,
+    load: LoadNumber,
+    key: DataKey,
+    cell_type: Option<u32>,
+) -> Result<(), Unread>
+    ensures ready { OnOk result (IsPrepared (kept_at readings.old) load key cell_type (kept_at readings.new)) }
+    ensures why { IfErr result (λ e. IsUnread cell_type e) }
+    ensures none { OnErr result (kept_at readings.old load.0 ≡ None) }
+    ensures stays { OnErr result ((q : ℕ) → kept_at readings.new q ≡ kept_at readings.old q) }
+{
+    if readings.get(&load.0).is_some() {
+        return Ok(());
+    }
+    let Some(node_type) = cell_type else {
+        return Err(Unread::Untyped);
+    };
+    match reserve(readings) {
+        Ok(()) => {
+            put(
+                readings,
+                load.0,
+                Reading::new(alloc, load, key, node_type, true),
+            );
+            Ok(())
+        }
+        Err(_) => Err(Unread::NoPlace),
+    }
+}
+
+// One step of a load over a lent pager: the borrow checker takes a lent struct where its own type is asked, and not where any access is.
+fn step_by<'a, E: Env, S: PagableStorage<E>>(
+    lent: &mut Lent<'a, E, S>,
+    alloc: Global,
+    own: &mut Reading,
+) -> LoadReply<E::Node>
+where
+    E::Node: NodeSet<E>,
+    requires { lent.old.me ≡ Owner.Caller }
+    ensures step { Stepped (values_at E.Node.NodeSet E.Env E.Hash.KeyHash lent.old.pager.now.environment) Owner.Caller own.old result own.new
+        (state_in (telling S.stored S.is_closed S.failed) lent.old.pager.now) (state_in (telling S.stored S.is_closed S.failed) lent.new.pager.now) }
+    ensures lender { lent.new.pager.ghost_name ≡ lent.old.pager.ghost_name }
+{
+    let ended = own.step(lent, alloc);
+    let steps = own.steps;
+    LoadReply { ended, steps }
+}
+
+/// A load's next step. Refused with NoSuchHandle and NotYours; with WrongMode where a call began it as a load of a key. Then nothing changes, and no step is counted.
+pub fn load_step<E: Env, S: PagableStorage<E>>(
+    pager: &mut Pager<E, S>,
+    held: &mut Held<E>,
+    alloc: Global,
+    load: LoadNumber,
+) -> Result<LoadReply<E::Node>, Error>
+where
+    E::Node: NodeSet<E>,
+    requires { IsInStep (telling S.stored S.is_closed S.failed) (over pager.old held.old) }
+    ensures { Drives (values_at E.Node.NodeSet E.Env E.Hash.KeyHash pager.old.environment) (telling S.stored S.is_closed S.failed)
+        (over pager.old held.old) (Event.LoadStep load) (EventReply.LoadMoved result) (over pager.new held.new) }
+{
+    pager.is_whole();
+    let (key, cell_type) = match pager.load_of(load) {
+        Ok(reads) => reads,
+        Err(e) => return Err(e),
+    };
+    match prepare(&mut held.readings, alloc, load, key, cell_type) {
+        Ok(()) => {
+            let Some(own) = held.readings.get_mut(&load.0) else {
+                unreachable!();
+            };
+            let mut lent = Lent::new(pager);
+            let reply = step_by(&mut lent, alloc, own);
+            end(&mut held.readings, load.0, &reply.ended);
+            Ok(reply)
+        }
+        Err(Unread::NoPlace) => {
+            // It has no place for its reading, and is given up: this is its only step.
+            let _told = pager.load_drop(load);
+            pager.is_whole();
+            Ok(LoadReply {
+                ended: Some(LoadAnswer::Refused(Error::OutOfMemory)),
+                steps: 1,
+            })
+        }
+        Err(Unread::Untyped) => Err(Error::WrongMode),
+    }
+}

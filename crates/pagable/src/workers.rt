@@ -1,0 +1,296 @@
+//! Tables of page-out, workers on them, and a worker's step.
+
+ghost use Rattle.std.specs.{HashMap.spare, Prelude.{◌≡◌, ◌<◌, ◌⊎◌, ℕ, Some, IfOk, IfErr, OnOk, true, false, ◌≤◌, ◌∷◌, length, is_some}};
+ghost use Rattle.{pagable_loads.specs.Telling.values_at, pagable.specs.{Driving.{Drives, IsInStep, kept_at, over}, Walking.{IsBegun, IsIn, IsPast, IsAfter, WalksOn, has_task, task_in}}};
+ghost use Rattle.{pagable.specs.Walking.todo_left, pagable_pager.specs.View.{core_in, state_in, telling}, pagable_walk.specs.{Slots.written_of, Table.shelf_of, Tasks.{IsWay, todo_of, todos}}};
+ghost use Rattle.pagable_walk.specs.Turns.{StepsTo, answer_in, plan};
+ghost use Rattle.pagable_world.specs.{Kinds.{identity_of, owner_worker}, World.{of_entry, of_item}, declared.events.{Event.Event, EventReply.EventReply}};
+
+use crate::held::{Begun, Held, Walk};
+use crate::list;
+use crate::readings::{put, reserve};
+use indexmap::IndexMap;
+use pagable_codec::{Env, NodeSet};
+use pagable_core::{PagableStorage, SerializedData};
+use pagable_loads::WorkerAccess;
+use pagable_model::{ArcRef, Error, Identity, WorkerNumber};
+use pagable_pager::{Lent, Pager};
+use pagable_walk::starting::{start_entry, start_item};
+use pagable_walk::step::step;
+use pagable_walk::{Moved, SlotTable, Task, Trees, Turn, Waiting};
+use pagable_world::{TableNumber, WorkerAnswer, WorkerReply};
+use std::alloc::Global;
+use std::mem::replace;
+use std::sync::Arc;
+
+/// A new table, under the next number. Refused by want of memory alone; then nothing changes.
+pub fn table_new<E: Env, S: PagableStorage<E>>(
+    pager: &Pager<E, S>,
+    held: &mut Held<E>,
+    alloc: Global,
+) -> Result<TableNumber, Error>
+where
+    E::Node: NodeSet<E>,
+    requires { IsInStep (telling S.stored S.is_closed S.failed) (over pager.now held.old) }
+    ensures { Drives (values_at E.Node.NodeSet E.Env E.Hash.KeyHash pager.now.environment) (telling S.stored S.is_closed S.failed)
+        (over pager.now held.old) Event.TableNew (EventReply.TableMade result) (over pager.now held.new) }
+{
+    pager.is_whole();
+    if held.tables.reserve(1).is_err() {
+        return Err(Error::OutOfMemory);
+    }
+    list::put(&mut held.tables, SlotTable::new(alloc));
+    Ok(TableNumber(held.tables.len() as u64))
+}
+
+// A place for a worker more, on a table that there is. Refused with NoSuchHandle and OutOfMemory.
+fn ready<E: Trees>(
+    walks: &mut IndexMap<u64, Walk<E>>,
+    tables: &Vec<SlotTable<E>>,
+    table: TableNumber,
+) -> Result<(), Error>
+    ensures same { (q : ℕ) → kept_at walks.new q ≡ kept_at walks.old q }
+    ensures there { OnOk result (IsIn table.0 tables.now.items) }
+    ensures room { OnOk result (0 < spare walks.new) }
+    ensures refused { IfErr result (λ e. ((e ≡ Error.NoSuchHandle) × IsPast table.0 tables.now.items) ⊎ ((e ≡ Error.OutOfMemory) × IsIn table.0 tables.now.items)) }
+{
+    if !(0 < table.0 && table.0 <= tables.len() as u64) {
+        return Err(Error::NoSuchHandle);
+    }
+    reserve(walks)?;
+    Ok(())
+}
+
+// What a worker for an item has to do. Refused by want of memory alone.
+fn item_walk<E: Trees>(
+    alloc: Global,
+    table: TableNumber,
+    item: SerializedData,
+) -> Result<Walk<E>, Error>
+    ensures begun { IfOk result (λ k. IsBegun table (of_item (written_of item)) k) }
+    ensures only { IfErr result (λ e. e ≡ Error.OutOfMemory) }
+{
+    let Ok(item) = Arc::new(alloc, item) else {
+        return Err(Error::OutOfMemory);
+    };
+    let shared = Arc::try_clone(&item)?;
+    let (task, path) = start_item(alloc, shared)?;
+    Ok(Walk {
+        table: table.0,
+        begun: Begun::Item(item),
+        steps: 0,
+        path,
+        task: Some(task),
+        answer: None,
+    })
+}
+
+// What a worker for an entry of the list has to do.
+fn entry_walk<E: Trees>(alloc: Global, table: TableNumber, reference: ArcRef) -> Walk<E>
+    ensures { IsBegun table (of_entry reference.handle (identity_of reference)) result }
+{
+    let (task, path) = start_entry(alloc, reference);
+    let identity = Identity {
+        kind: reference.kind,
+        node: reference.node,
+    };
+    Walk {
+        table: table.0,
+        begun: Begun::Entry(reference.handle, identity),
+        steps: 0,
+        path,
+        task: Some(task),
+        answer: None,
+    }
+}
+
+/// A worker on a table begins, for an item. Refused with NoSuchHandle where there is no such table, and with OutOfMemory; then nothing changes.
+pub fn worker_item<E: Env, S: PagableStorage<E>>(
+    pager: &mut Pager<E, S>,
+    held: &mut Held<E>,
+    alloc: Global,
+    table: TableNumber,
+    item: SerializedData,
+) -> Result<WorkerNumber, Error>
+where
+    E::Node: NodeSet<E>,
+    requires { IsInStep (telling S.stored S.is_closed S.failed) (over pager.old held.old) }
+    ensures { Drives (values_at E.Node.NodeSet E.Env E.Hash.KeyHash pager.old.environment) (telling S.stored S.is_closed S.failed)
+        (over pager.old held.old) (Event.WorkerItem table item) (EventReply.WorkerMade result) (over pager.new held.new) }
+{
+    pager.is_whole();
+    if let Err(e) = ready(&mut held.walks, &held.tables, table) {
+        return Err(e);
+    }
+    let walk = match item_walk(alloc, table, item) {
+        Ok(walk) => walk,
+        Err(e) => return Err(e),
+    };
+    let mut lent = Lent::new(pager);
+    match lent.worker_begin() {
+        Ok(worker) => {
+            put(&mut held.walks, worker.0, walk);
+            Ok(worker)
+        }
+        Err(e) => Err(e),
+    }
+}
+
+/// A worker on a table begins, for the entry at this place of the list, counted from 0. Refused with NoSuchHandle where there is no such table or no such place, with
+/// WrongKind where the cell's type is too great a number for its kinds, and with OutOfMemory; then nothing changes.
+pub fn worker_listed<E: Env, S: PagableStorage<E>>(
+    pager: &mut Pager<E, S>,
+    held: &mut Held<E>,
+    alloc: Global,
+    table: TableNumber,
+    place: u64,
+) -> Result<WorkerNumber, Error>
+where
+    E::Node: NodeSet<E>,
+    requires { IsInStep (telling S.stored S.is_closed S.failed) (over pager.old held.old) }
+    ensures { Drives (values_at E.Node.NodeSet E.Env E.Hash.KeyHash pager.old.environment) (telling S.stored S.is_closed S.failed)
+        (over pager.old held.old) (Event.WorkerListed table place) (EventReply.WorkerMade result) (over pager.new held.new) }
+{
+    pager.is_whole();
+    if place >= pager.pending() as u64 {
+        return Err(Error::NoSuchHandle);
+    }
+    if let Err(e) = ready(&mut held.walks, &held.tables, table) {
+        return Err(e);
+    }
+    let mut lent = Lent::new(pager);
+    match lent.worker_listed(place as usize) {
+        Ok((worker, reference)) => {
+            put(
+                &mut held.walks,
+                worker.0,
+                entry_walk(alloc, table, reference),
+            );
+            Ok(worker)
+        }
+        Err(e) => Err(e),
+    }
+}
+
+// One step over a lent pager: the borrow checker takes a lent struct where its own type is asked, and not where any access is.
+fn step_by<'a, E: Env, S: PagableStorage<E>>(
+    lent: &mut Lent<'a, E, S>,
+    alloc: Global,
+    table: &mut SlotTable<E>,
+    worker: WorkerNumber,
+    path: &mut Vec<Waiting<E>>,
+    task: Task<E>,
+) -> Moved<E>
+where
+    E::Node: NodeSet<E>,
+    requires me { lent.old.me ≡ owner_worker worker.0 }
+    requires way { IsWay (todo_of task ∷ todos path.old.items) }
+    ensures way { IsWay (plan result.turn path.new.items) }
+    ensures step { StepsTo (values_at E.Node.NodeSet E.Env E.Hash.KeyHash lent.old.pager.now.environment) (owner_worker worker.0) worker.0 (shelf_of table.old) task (todos path.old.items)
+        (shelf_of table.new) result
+        (plan result.turn path.new.items) (state_in (telling S.stored S.is_closed S.failed) lent.old.pager.now) (state_in (telling S.stored S.is_closed S.failed) lent.new.pager.now) }
+    ensures lender { lent.new.pager.ghost_name ≡ lent.old.pager.ghost_name }
+{
+    step(lent, alloc, table, worker, path, task)
+}
+
+// The worker's answer, if a step came to one.
+fn answer_of<E: Trees>(turn: &Turn<E>) -> Option<WorkerAnswer>
+    ensures { result ≡ answer_in turn.now }
+{
+    match turn {
+        Turn::Goes(_) => None,
+        Turn::Answers(answer) => Some(*answer),
+    }
+}
+
+// What is to be done after a step, if there is more.
+fn task_left<E: Trees>(turn: Turn<E>) -> Option<Task<E>>
+    ensures { result ≡ task_in turn }
+{
+    match turn {
+        Turn::Goes(task) => Some(task),
+        Turn::Answers(_) => None,
+    }
+}
+
+// What a step came to is kept of the worker, and answered.
+fn settle<E: Trees>(walk: &mut Walk<E>, moved: Moved<E>) -> WorkerReply<Arc<SerializedData>>
+    ensures after { IsAfter walk.old moved walk.new }
+    ensures path { walk.new.path ≡ walk.old.path }
+    ensures reply { result ≡ record { took = moved.took; answer = answer_in moved.turn; steps = walk.new.steps } }
+{
+    let answer = answer_of(&moved.turn);
+    walk.answer = answer_of(&moved.turn);
+    let steps = if moved.counted {
+        walk.steps.saturating_add(1)
+    } else {
+        walk.steps
+    };
+    walk.steps = steps;
+    walk.task = task_left(moved.turn);
+    WorkerReply {
+        took: moved.took,
+        answer,
+        steps,
+    }
+}
+
+// A worker that has a task makes a step on its table.
+fn walk_on<E: Env, S: PagableStorage<E>>(
+    pager: &mut Pager<E, S>,
+    alloc: Global,
+    tables: &mut Vec<SlotTable<E>>,
+    worker: WorkerNumber,
+    walk: &mut Walk<E>,
+) -> WorkerReply<Arc<SerializedData>>
+where
+    E::Node: NodeSet<E>,
+    requires has { is_some walk.old.task ≡ true }
+    requires table { (0 < walk.old.table) × (walk.old.table ≤ length tables.old.items) }
+    requires way { IsWay (todo_left walk.old.task walk.old.path.items) }
+    requires at_work { (core_in (telling S.stored S.is_closed S.failed) pager.old).workers worker.0 ≡ true }
+    ensures { WalksOn (values_at E.Node.NodeSet E.Env E.Hash.KeyHash pager.old.environment) worker.0 tables.old.items walk.old (state_in (telling S.stored S.is_closed S.failed) pager.old) result
+        tables.new.items walk.new (state_in (telling S.stored S.is_closed S.failed) pager.new) }
+{
+    let Some(task) = replace(&mut walk.task, None) else {
+        unreachable!();
+    };
+    let table = &mut tables[(walk.table - 1) as usize];
+    let mut lent = Lent::for_worker(pager, worker);
+    let moved = step_by(&mut lent, alloc, table, worker, &mut walk.path, task);
+    settle(walk, moved)
+}
+
+// Whether there is a worker of this number that hasn't answered.
+fn has_task<E: Trees>(walks: &IndexMap<u64, Walk<E>>, worker: u64) -> bool
+    ensures { result ≡ has_task (kept_at walks.now worker) }
+{
+    match walks.get(&worker) {
+        Some(walk) => walk.task.is_some(),
+        None => false,
+    }
+}
+
+/// A worker's next step. Refused with NoSuchHandle where there is no such worker or it has answered; then nothing changes.
+pub fn worker_step<E: Env, S: PagableStorage<E>>(
+    pager: &mut Pager<E, S>,
+    held: &mut Held<E>,
+    alloc: Global,
+    worker: WorkerNumber,
+) -> Result<WorkerReply<Arc<SerializedData>>, Error>
+where
+    E::Node: NodeSet<E>,
+    requires { IsInStep (telling S.stored S.is_closed S.failed) (over pager.old held.old) }
+    ensures { Drives (values_at E.Node.NodeSet E.Env E.Hash.KeyHash pager.old.environment) (telling S.stored S.is_closed S.failed)
+        (over pager.old held.old) (Event.WorkerStep worker) (EventReply.WorkerMoved result) (over pager.new held.new) }
+{
+    pager.is_whole();
+    if !has_task(&held.walks, worker.0) {
+        return Err(Error::NoSuchHandle);
+    }
+    let Some(walk) = held.walks.get_mut(&worker.0) else {
+        unreachable!();
+    };
+    Ok(walk_on(pager, alloc, &mut held.tables, worker, walk))
+}

@@ -1,5 +1,0 @@
-use Rattle.std.proofs.Common.{inr, refl}
-use Rattle.pagable_arcs.proofs.holding.unlent_refusal.Goals as goal
-
-pub returns : goal.returns
-returns c = inr (_, refl)

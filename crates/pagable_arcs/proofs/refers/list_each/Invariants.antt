@@ -1,9 +1,0 @@
-use Rattle.std.{proofs.Common.{◌≡◌, ◌++◌}, specs.Prelude.{map, drop}}
-use Rattle.pagable_model.specs.{Meaning.sequence, References.references_in}
-use Rattle.pagable_arcs.proofs.refers.list_each.Given as goal
-
--- the references so far and those of the items that are left are those of all
-abbrev pub invariant-loop-item : goal.invariant-loop-item
-invariant-loop-item g l =
-    let meaning = g.T.Carried.means.meaning in
-    l.list.items ++ references_in (sequence (map meaning (drop l.item-index l.items))) ≡ l.fn.list.items ++ references_in (sequence (map meaning l.items))

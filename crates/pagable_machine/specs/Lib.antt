@@ -1,4 +1,0 @@
-pub mod Serving
-pub mod Walking
-pub mod Keeping
-pub mod Driving

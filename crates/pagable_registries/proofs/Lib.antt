@@ -1,3 +1,0 @@
-pub mod Patterns
-pub mod Statics
-pub mod Tagged

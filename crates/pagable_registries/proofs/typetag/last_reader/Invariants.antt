@@ -1,5 +1,0 @@
-use Rattle.{pagable_registries.proofs.Tagged.NoneFrom, std.{proofs.Common.{map, ◌-◌}, specs.String.string_bytes}}
-use Rattle.pagable_registries.proofs.typetag.last_reader.Given as goal
-
-abbrev pub invariant-loop-passed : goal.invariant-loop-passed
-invariant-loop-passed g l = NoneFrom l.tag (map (λ x. (string_bytes x.tag, x.deserialize)) l.registrations) (l.count - l.passed)

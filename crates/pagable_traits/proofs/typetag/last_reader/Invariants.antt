@@ -1,0 +1,5 @@
+use Rattle.{pagable_traits.proofs.Tagged.NoneFrom, std.{proofs.Common.{map, ◌-◌}, specs.String.string_bytes}}
+use Rattle.pagable_traits.proofs.typetag.last_reader.Given as goal
+
+abbrev pub invariant-loop-passed : goal.invariant-loop-passed
+invariant-loop-passed g l = NoneFrom l.tag (map (λ x. (string_bytes x.tag, x.deserialize)) l.registrations) (l.count - l.passed)

@@ -1,0 +1,53 @@
+-- References as values hold them: what they mean, and why they are read again and have one form.
+use Rattle.std.{proofs.Common.{inl, inr, subst, sym}, specs.Prelude.{◌≡◌, ◌⊎◌, refl, Bool, true, false, ℕ, ◌*◌, ◌+◌, List, codes}}
+use Rattle.pagable_model.specs.{Canonical.{IsCanonical, IsReadable, LiesIn}, Causes.memory_is_own_reading, Keyed.throughout-alone, Meaning.Meaning, OneForm.HasOneFormThroughout}
+use Rattle.pagable_model.specs.{Refusals.is_own_reading, Shape.{Shape, reference}, declared.error.Error.Error, declared.numbers.ArcRef.ArcRef, declared.reason.Reason.Reason}
+use Rattle.pagable_traits.specs.{OwnCauses.ReadCauses, ReadBack.IsReadThroughout}
+use Rattle.pagable_traits.specs.{declared.holding.HoldingArc.HoldingArc, declared.loose.PagableArc.PagableArc}
+use Rattle.pagable_model.specs.Meaning as meanings
+use Rattle.pagable_model.specs.declared.error.Error.TheVariants as errors
+
+-- the kind of loose references to values of the type number t
+abbrev pub loose_kind : ℕ → ℕ
+loose_kind t = 3 * t + 1
+
+-- the reference that a value holds so
+abbrev pub loose : {T : Type 0} → ℕ → PagableArc T → ArcRef
+loose t a = record { kind = record { 0 = loose_kind t }; node = a.node; handle = a.handle }
+
+abbrev pub loose_means : {T : Type 0} → ℕ → PagableArc T → Meaning ArcRef
+loose_means t a = meanings.reference (loose t a)
+
+-- and those that hold the value, of pins or of shared ones
+abbrev pub holding_kind : ℕ → Bool → ℕ
+holding_kind t true = 3 * t + 2
+holding_kind t false = 3 * t
+
+abbrev pub holding : {T : Type 0} {sort : ℕ} → ℕ → Bool → HoldingArc T sort → ArcRef
+holding t pins a = record { kind = record { 0 = holding_kind t pins }; node = a.node; handle = a.handle }
+
+abbrev pub holding_means : {T : Type 0} {sort : ℕ} → ℕ → Bool → HoldingArc T sort → Meaning ArcRef
+holding_means t pins a = meanings.reference (holding t pins a)
+
+abbrev pub holding_name : Bool → List ℕ
+holding_name true = codes "PinnedPagableArc"
+holding_name false = codes "Arc"
+
+-- a reference that holds its value may be refused for want of memory, and in words where no value of its type is lent
+abbrev pub unlent : Error → Type 0
+unlent e = (e ≡ errors.OutOfMemory) ⊎ ((reason : Reason) × (e ≡ errors.Custom reason))
+
+pub unlent_own : (e : Error) → unlent e → is_own_reading e ≡ true
+unlent_own e (inl h) = memory_is_own_reading e h
+unlent_own e (inr (text, h)) = let P : Error → Type 0 = λ x. is_own_reading x ≡ true in subst P (sym h) refl
+
+abbrev pub reads_unlent : ReadCauses
+reads_unlent = record { are = unlent; own = unlent_own }
+
+pub reference_is_read : (parts : ℕ → Shape) (kind : ℕ) → IsReadThroughout parts (reference kind)
+unfolding IsReadable LiesIn
+reference_is_read parts kind = throughout-alone IsReadable parts (reference kind) tt (λ those. tt)
+
+pub reference_has_one_form : (parts : ℕ → Shape) (kind : ℕ) → HasOneFormThroughout parts (reference kind)
+unfolding IsCanonical LiesIn
+reference_has_one_form parts kind = throughout-alone IsCanonical parts (reference kind) tt (λ those. tt)

@@ -1,0 +1,199 @@
+//! References that hold their shared value.
+
+ghost use Rattle.std.specs.{Arc.arc_value, Prelude.{◌≡◌, ◌≢◌, nat_eq, Some, option_and_then, IfOk, IfErr}};
+ghost use Rattle.pagable_model.specs.{Shape.reference as reference_shape, Reading.read, Standing.{handles_at, GivesSome, Is, MovesOn}};
+ghost use Rattle.pagable_traits.specs.References.{holding_kind, holding, holding_means, reference_has_one_form, reads_unlent, unlent};
+ghost use Rattle.pagable_traits.specs.Meanings.{exactly};
+
+use crate::plain::read_reference;
+use crate::{Canonical, Carried, OneMeaning, PagableDeserialize, PagableSerialize};
+use pagable_codec::{
+    ArcRef, Env, HandleNumber, Kind, NodeNumber, OfNode, PagableDeserializer, PagableSerializer,
+};
+use pagable_flavors::{Error, Reason};
+use std::alloc::Global;
+use std::ops::Deref;
+use std::sync::Arc as Shared;
+
+/// A reference that holds its shared value, so that looking at the value takes no lock. Where values of type `T` have the
+/// number `t`, its kind is `3t + 2` if it pins, and else `3t`. Two are equal where their values are, whichever nodes these
+/// stand in.
+#[derive(Drop)]
+#[derive_where(PartialEq, Eq; T)]
+pub struct HoldingArc<T, const PINS: bool> {
+    #[derive_where(skip)]
+    node: NodeNumber,
+    #[derive_where(skip)]
+    handle: HandleNumber,
+    value: Shared<T>,
+}
+
+/// A shared reference: the value stays in memory as long as its node, and has no key of its own.
+pub type Arc<T> = HoldingArc<T, false>;
+
+/// A pin: the value stays in memory as long as its cell is pinned, and may be paged out then.
+pub type PinnedPagableArc<T> = HoldingArc<T, true>;
+
+/// The kind of references that hold values of type `T`, of pins or of shared ones.
+pub fn holding_kind_of<E: Env, T: OfNode<E>>(pins: bool) -> Kind
+    ensures { result.0 ≡ holding_kind T.TYPE pins }
+{
+    if pins {
+        Kind(3 * T::TYPE + 2)
+    } else {
+        Kind(3 * T::TYPE)
+    }
+}
+
+impl<T, const PINS: bool> HoldingArc<T, PINS> {
+    /// The reference as values hold it.
+    pub fn reference<E: Env>(&self) -> ArcRef
+    where
+        T: OfNode<E>,
+        ensures { result ≡ holding T.TYPE PINS self.now }
+    {
+        ArcRef {
+            kind: holding_kind_of::<E, T>(PINS),
+            node: self.node,
+            handle: self.handle,
+        }
+    }
+
+    /// The reference, which has to be of this kind, with its shared value. A value that comes with one of another kind is
+    /// given back.
+    pub fn from_reference<E: Env>(
+        reference: ArcRef,
+        value: Shared<T>,
+    ) -> Result<HoldingArc<T, PINS>, Shared<T>>
+    where
+        T: OfNode<E>,
+        ensures ok { IfOk result (λ a. (holding T.TYPE PINS a ≡ reference) × (arc_value a.value ≡ arc_value value)) }
+        ensures back { IfErr result (λ v. (reference.kind.0 ≢ holding_kind T.TYPE PINS) × (arc_value v ≡ arc_value value)) }
+    {
+        if reference.kind != holding_kind_of::<E, T>(PINS) {
+            return Err(value);
+        }
+        Ok(HoldingArc {
+            node: reference.node,
+            handle: reference.handle,
+            value,
+        })
+    }
+
+    /// The shared value.
+    pub fn get(&self) -> &T
+        ensures { result.now ≡ arc_value self.now.value }
+    {
+        self.value.as_ref()
+    }
+
+    /// Whether both refer to the same node. It looks at no value.
+    pub fn ptr_eq(left: &HoldingArc<T, PINS>, right: &HoldingArc<T, PINS>) -> bool
+        ensures { result ≡ nat_eq left.now.node.0 right.now.node.0 }
+    {
+        left.node.0 == right.node.0
+    }
+}
+
+impl<T> HoldingArc<T, true> {
+    /// The pin, borrowed.
+    pub fn borrow(pin: &PinnedPagableArc<T>) -> PinnedPagableArcBorrow<'_, T>
+        ensures { result.pin.now ≡ pin.now }
+    {
+        PinnedPagableArcBorrow { pin }
+    }
+}
+
+impl<T, const PINS: bool> Deref for HoldingArc<T, PINS> {
+    type Target = T;
+
+    ghost deref_gives = { λ a x. x ≡ arc_value a.value };
+
+    fn deref(&self) -> &T {
+        self.get()
+    }
+}
+
+/// A pin that is borrowed: its value stays in memory as long as the borrow.
+#[derive_where(Clone, Copy)]
+pub struct PinnedPagableArcBorrow<'a, T> {
+    pub pin: &'a PinnedPagableArc<T>,
+}
+
+impl<'a, T> PinnedPagableArcBorrow<'a, T> {
+    /// The shared value.
+    pub fn get(self) -> &'a T
+        ensures { result.now ≡ arc_value self.entry.pin.now.value }
+    {
+        let pin = self.pin;
+        pin.get()
+    }
+}
+
+impl<'a, T> Deref for PinnedPagableArcBorrow<'a, T> {
+    type Target = T;
+
+    ghost deref_gives = { λ b x. x ≡ arc_value b.pin.now.value };
+
+    fn deref(&self) -> &T {
+        let pin = self.pin;
+        pin.get()
+    }
+}
+
+impl<E: Env, T: OfNode<E>, const PINS: bool> Carried<E> for HoldingArc<T, PINS> {
+    ghost shape = { λ e. reference_shape (holding_kind T.TYPE PINS) };
+
+    ghost means = { exactly (holding_means T.TYPE PINS) };
+}
+
+impl<E: Env, T: OfNode<E>, const PINS: bool> OneMeaning<E> for HoldingArc<T, PINS> {
+    ghost single = { λ a m is. is };
+}
+
+impl<E: Env, T: OfNode<E>, const PINS: bool> Canonical<E> for HoldingArc<T, PINS> {
+    ghost one_form = { λ e. reference_has_one_form (E.parts e) (holding_kind T.TYPE PINS) };
+}
+
+impl<E: Env, T: OfNode<E>, const PINS: bool> PagableSerialize<E> for HoldingArc<T, PINS> {
+    #[tactic(auto, using(pagable_codec::proofs::Writing::parts, pagable_codec::proofs::Writing::references))]
+    fn pagable_serialize<S: PagableSerializer<E>>(&self, serializer: &mut S) -> Result<(), Error> {
+        serializer.serialize_arc(self.reference::<E>())
+    }
+}
+
+// Why a value isn't lent.
+fn unlent_refusal() -> Error
+    ensures { unlent result }
+{
+    Error::Custom(Reason::new("no value of the reference's type is lent"))
+}
+
+impl<'de, E: Env, T: OfNode<E> + Drop, const PINS: bool> PagableDeserialize<'de, E>
+    for HoldingArc<T, PINS> {
+    ghost read_causes = { reads_unlent };
+
+    /// Reads the next reference, of this sort, and takes the value that it is lent. Beside what the reference itself is
+    /// refused by, it is refused for want of memory, and with Custom where no value of the type is lent.
+    fn pagable_deserialize<D: PagableDeserializer<E>>(
+        alloc: Global,
+        deserializer: &mut D,
+    ) -> Result<Self, Error>
+        ensures lent { IfOk result (λ a. option_and_then T.held (D.lends deserializer.new (holding T.TYPE PINS a)) ≡ Some (arc_value a.value)) }
+        ensures gives { GivesSome unlent (Is (holding_means T.TYPE PINS)) (D.rest deserializer.new) result
+            (read (handles_at (D.levels deserializer.old) (E.parts (D.environment deserializer.old))) (reference_shape (holding_kind T.TYPE PINS)) (D.rest deserializer.old)) }
+        ensures moves { MovesOn (D.standing deserializer.old) (D.standing deserializer.new) }
+        ensures same_env { D.environment deserializer.new ≡ D.environment deserializer.old }
+        ensures same_levels { D.levels deserializer.new ≡ D.levels deserializer.old }
+    {
+        let reference = read_reference(holding_kind_of::<E, T>(PINS), deserializer)?;
+        match deserializer.shared::<T>(alloc, reference)? {
+            None => Err(unlent_refusal()),
+            Some(value) => Ok(HoldingArc {
+                node: reference.node,
+                handle: reference.handle,
+                value,
+            }),
+        }
+    }
+}

@@ -1,0 +1,186 @@
+//! Regular expressions beside their texts.
+
+ghost use Rattle.std.{specs.Prelude.{◌≡◌, ◌≢◌, ℕ, List, IfOk, IfErr}, specs.String.string_bytes, specs.Str.bytes_eq, specs.Cmp.Rules.{comparing, hashing}, proofs.Common.rules};
+ghost use Rattle.pagable_model.specs.{Gives.{memory, long_or}, Meaning.pattern, OneForm.{basic_has_one_form, basic_refers_to_nothing}, Keyed.pattern_is_same};
+ghost use Rattle.pagable_model.specs.{Reading.read, Standing.{handles_at, Is, MovesOn, GivesSome}, declared.error.Error.TheVariants.RegexRefused};
+ghost use Rattle.pagable_traits.specs.Building.{IsBuiltFrom, IsRefusedPattern, refusal_of, pattern_causes, reads_pattern, ReadsNoPattern};
+ghost use Rattle.std.specs.Hash as fed;
+ghost use Rattle.pagable_model.specs.Shape as shapes;
+ghost use Rattle.pagable_traits.specs.{JsonSteps.{Wrote, value as form}, Meanings.{exactly}, OwnCauses.{writes_memory, writes_long_or}};
+
+use crate::{Canonical, Carried, OneMeaning, PagableDeserialize, PagableKey, PagableSerialize};
+use pagable_codec::{Env, PagableDeserializer, PagableSerializer, Reader};
+use pagable_flavors::Error;
+use regex::Regex;
+use std::alloc::Global;
+use std::fmt;
+use std::hash::{Hash, Hasher};
+use std::marker::Model;
+
+/// A regular expression beside the text that it was built of, with the options that stand in the text alone. It is written
+/// as its text, and built anew when that is read. Two are equal where their texts are.
+#[derive(Drop)]
+pub struct SavedRegex {
+    text: String,
+    built: Regex,
+}
+
+// Contracts see the text.
+impl Model for SavedRegex {
+    ghost Value = { List ℕ };
+
+    ghost view = { λ r. string_bytes r.text };
+
+    ghost invariant = { λ r. IsBuiltFrom (string_bytes r.text) r.built };
+}
+
+/// The refusal for a cause of `regex`: RegexRefused for each but want of memory.
+fn refusal(cause: regex::Error) -> Error
+    ensures { result ≡ refusal_of cause }
+{
+    match cause {
+        regex::Error::OutOfMemory => Error::OutOfMemory,
+        _ => Error::RegexRefused,
+    }
+}
+
+/// What `regex` builds of a text with its default options. RegexRefused where it refuses the text, else refused by want of
+/// memory alone.
+fn build(alloc: Global, text: &str) -> Result<Regex, Error>
+    ensures built { IfOk result (IsBuiltFrom text.now) }
+    ensures refused { IfErr result (IsRefusedPattern text.now) }
+{
+    Regex::new(alloc, text).map_err(refusal)
+}
+
+impl SavedRegex {
+    /// The regular expression of a text. RegexRefused where `regex` refuses the text for another cause than memory, else
+    /// refused by want of memory alone.
+    pub fn new(alloc: Global, text: &str) -> Result<SavedRegex, Error>
+        ensures pattern { IfOk result (λ r. r ≡ text.now) }
+        ensures refused { IfErr result (IsRefusedPattern text.now) }
+    {
+        let built = build(alloc, text)?;
+        let text = String::from_str(alloc, text)?;
+        Ok(SavedRegex { text, built })
+    }
+
+    /// The text.
+    pub fn pattern(&self) -> &str
+        ensures { result.now ≡ self.now }
+    {
+        self.text.as_str()
+    }
+
+    /// The regular expression that was built of the text.
+    pub fn regex(&self) -> &Regex
+        ensures { IsBuiltFrom self.now result.now }
+    {
+        &self.built
+    }
+}
+
+impl fmt::Debug for SavedRegex {
+    fn fmt<W: fmt::Write>(&self, f: &mut fmt::Formatter<W>) -> fmt::Result {
+        f.debug_tuple("SavedRegex").field(&self.pattern()).finish()
+    }
+}
+
+impl PartialEq for SavedRegex {
+    ghost eq = { λ x y. bytes_eq x y };
+
+    ghost laws = { Prim.search (comparing, rules) };
+
+    fn eq(&self, other: &Self) -> bool {
+        self.text == other.text
+    }
+}
+
+impl Eq for SavedRegex {
+    ghost laws = { Prim.search (comparing, rules) };
+}
+
+impl Hash for SavedRegex {
+    ghost hash_input = { λ x. fed.str x };
+
+    ghost respects_eq = { Prim.search (hashing, rules) };
+
+    fn hash<H: Hasher>(&self, state: &mut H) {
+        self.text.hash(state);
+    }
+}
+
+impl<E: Env> Carried<E> for SavedRegex {
+    ghost shape = { λ e. shapes.pattern };
+
+    ghost means = { exactly pattern };
+}
+
+impl<E: Env> OneMeaning<E> for SavedRegex {
+    ghost single = { λ r m is. is };
+}
+
+impl<E: Env> Canonical<E> for SavedRegex {
+    ghost one_form = { λ e. basic_has_one_form tt };
+}
+
+impl<E: Env> PagableKey<E> for SavedRegex {
+    ghost key = { record { same = pattern_is_same; refers_to_nothing = λ e. basic_refers_to_nothing tt } };
+}
+
+/// Writes the text of a pattern: its length in bytes, and its bytes. TooLong above 4,294,967,295 bytes; else refused by
+/// want of memory alone.
+#[tactic(auto, using(pagable_codec::proofs::Writing::parts, crate::proofs::Patterns::writes_pattern, crate::proofs::Patterns::refused_pattern))]
+fn write_text<E: Env, S: PagableSerializer<E>>(text: &str, serializer: &mut S) -> Result<(), Error>
+    ensures { Wrote E.Env S.PagableSerializer (form (Is pattern text.now) shapes.pattern) (long_or memory) serializer.old serializer.new result }
+{
+    serializer.serde().write_str(text)
+}
+
+impl<E: Env> PagableSerialize<E> for SavedRegex {
+    ghost write_causes = { writes_long_or writes_memory };
+
+    /// Appends the text.
+    fn pagable_serialize<S: PagableSerializer<E>>(&self, serializer: &mut S) -> Result<(), Error> {
+        write_text(self.text.as_str(), serializer)
+    }
+}
+
+/// Reads the text of a pattern, and builds nothing.
+#[tactic(auto, unfolding(pagable_model::specs::Reading::read, pagable_model::specs::Reading::read_with), using(crate::proofs::Patterns::text_not_refused, crate::proofs::Patterns::gives_text))]
+fn read_text<E: Env, D: PagableDeserializer<E>>(
+    alloc: Global,
+    deserializer: &mut D,
+) -> Result<String, Error>
+    ensures gives { GivesSome memory (Is (λ t. pattern (string_bytes t))) (D.rest deserializer.new) result
+        (read (handles_at (D.levels deserializer.old) (E.parts (D.environment deserializer.old))) shapes.pattern (D.rest deserializer.old)) }
+    ensures unbuilt { IfErr result (λ e. e ≢ RegexRefused) }
+    ensures moves { MovesOn (D.standing deserializer.old) (D.standing deserializer.new) }
+    ensures same_env { D.environment deserializer.new ≡ D.environment deserializer.old }
+    ensures same_levels { D.levels deserializer.new ≡ D.levels deserializer.old }
+{
+    deserializer.serde().read_string(alloc)
+}
+
+impl<'de, E: Env> PagableDeserialize<'de, E> for SavedRegex {
+    ghost read_causes = { reads_pattern };
+
+    /// Reads a text, and builds it. RegexRefused only where there is a text that `regex` refuses for another cause than
+    /// memory.
+    fn pagable_deserialize<D: PagableDeserializer<E>>(
+        alloc: Global,
+        deserializer: &mut D,
+    ) -> Result<Self, Error>
+        ensures gives { GivesSome pattern_causes (Is pattern) (D.rest deserializer.new) result
+            (read (handles_at (D.levels deserializer.old) (E.parts (D.environment deserializer.old))) shapes.pattern (D.rest deserializer.old)) }
+        ensures moves { MovesOn (D.standing deserializer.old) (D.standing deserializer.new) }
+        ensures same_env { D.environment deserializer.new ≡ D.environment deserializer.old }
+        ensures same_levels { D.levels deserializer.new ≡ D.levels deserializer.old }
+        ensures refused { IfErr result (λ e. e ≡ RegexRefused → ReadsNoPattern
+            (read (handles_at (D.levels deserializer.old) (E.parts (D.environment deserializer.old))) shapes.pattern (D.rest deserializer.old))) }
+    {
+        let text = read_text(alloc, deserializer)?;
+        let built = build(alloc, text.as_str())?;
+        Ok(SavedRegex { text, built })
+    }
+}

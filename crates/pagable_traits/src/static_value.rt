@@ -1,0 +1,305 @@
+//! Static values: they stand in a registry that the environment holds, and are written as their index there. `T` is the
+//! reference to what is static, as `&'static str`: nothing is proved yet of a `&'static T` with a type parameter `T`.
+
+ghost use Rattle.std.specs.{Prelude.{◌≡◌, ◌<◌, ◌≤◌, ◌↔◌, ⊤, List, length, map, Option, Some, Err, OnOk, IfOk, IfErr, IfSome, IfNone, IsTrue, vec_len}, List.slice_get};
+ghost use Rattle.std.specs.List.Sorted.{IsPermutation, IsSorted, IsStable};
+ghost use Rattle.pagable_model.specs.{Statics.{HasEqual, NoEqualBelow, StandsAt, meanings_of, unregistered}, Basic.longest, Canonical.HasNoReference, Gives.Gives};
+ghost use Rattle.pagable_model.specs.{Gives.{never, memory_or}, Meaning.{Meaning, lifted}, Reading.{read, registered}, Shape.static_value, Standing.{handles_at, GivesSome, Is, MovesOn}};
+ghost use Rattle.pagable_model.specs.{Writing.{nesting, WritesSome, Refused, Grows}, Lengths.long_or_memory};
+ghost use Rattle.pagable_traits.specs.StaticValues.{static_is_same, static_refers_to_nothing, writes_unregistered};
+ghost use Rattle.pagable_traits.specs.{Meanings.{exactly}, OwnCauses.{writes_memory_or}};
+
+use crate::keys::PagableKey;
+use crate::traits::{Carried, OneMeaning, PagableDeserialize, PagableSerialize};
+use pagable_codec::{Env, PagableDeserializer, PagableSerializer};
+use pagable_flavors::Error;
+use std::alloc::{AllocError, Global};
+use std::fmt;
+use std::hash::Hash;
+use std::marker::Model;
+use std::ops::Deref;
+
+/// The greatest count of entries of one registry: an index is a number of 32 bits.
+const MOST_ENTRIES: usize = 4_294_967_295;
+
+/// A value, and its index in the registry that it stands in. Two entries are equal where their values are.
+#[derive_where(PartialEq, Eq, Hash; T)]
+pub struct StaticValueEntry<T> {
+    pub value: T,
+    #[derive_where(skip)]
+    pub index: u32,
+}
+
+impl<T: Copy> Clone for StaticValueEntry<T> {
+    ghost is_clone = { λ x y. y ≡ x };
+
+    ghost is_infallible = { λ _. ⊤ };
+
+    fn clone(&self) -> Result<Self, AllocError> {
+        Ok(*self)
+    }
+}
+
+impl<T: Copy> Copy for StaticValueEntry<T> {}
+
+/// A value that is written as its index. Two are equal where their values are, whatever their indices.
+#[derive(PartialEq, Eq, Hash)]
+#[derive_where(Clone, Copy; T: Copy)]
+pub struct StaticValue<T>(pub StaticValueEntry<T>);
+
+impl<T: Copy> StaticValue<T> {
+    /// The value.
+    pub fn value(self) -> T
+        ensures { result ≡ self.0.value }
+    {
+        self.0.value
+    }
+}
+
+impl<T> Deref for StaticValue<T> {
+    type Target = T;
+
+    ghost deref_gives = { λ x t. t ≡ x.0.value };
+
+    fn deref(&self) -> &T {
+        &self.0.value
+    }
+}
+
+impl<T: fmt::Display> fmt::Display for StaticValue<T> {
+    ghost output = { λ v. T.output v.0.value };
+
+    ghost styled_output = { λ v. T.styled_output v.0.value };
+
+    fn fmt<W: fmt::Write>(&self, f: &mut fmt::Formatter<W>) -> fmt::Result {
+        fmt::Display::fmt(&self.0.value, f)
+    }
+}
+
+impl<T: fmt::Debug> fmt::Debug for StaticValue<T> {
+    ghost debug_output = { λ v. T.debug_output v.0.value };
+
+    fn fmt<W: fmt::Write>(&self, f: &mut fmt::Formatter<W>) -> fmt::Result {
+        fmt::Debug::fmt(&self.0.value, f)
+    }
+}
+
+/// A static text.
+pub type StaticStr = StaticValue<&'static str>;
+
+impl StaticStr {
+    /// The text.
+    pub fn as_str(self) -> &'static str
+        ensures { result ≡ self.entry.0.value }
+    {
+        self.0.value
+    }
+}
+
+/// Static bytes.
+pub type StaticBytes = StaticValue<&'static [u8]>;
+
+impl StaticBytes {
+    /// The bytes.
+    pub fn as_bytes(self) -> &'static [u8]
+        ensures { result ≡ self.entry.0.value }
+    {
+        self.0.value
+    }
+}
+
+/// The static values of a type in their order, each under its index from 0 on.
+#[derive(Drop)]
+pub struct StaticValueRegistry<T> {
+    values: Vec<T>,
+}
+
+impl<T> Model for StaticValueRegistry<T> {
+    ghost Value = { List T };
+
+    ghost view = { λ r. r.values.items };
+
+    ghost invariant = { λ r. vec_len r.values ≤ longest };
+}
+
+/// The values of the entries, in their order.
+#[tactic(auto, using(crate::proofs::Statics::values_more))]
+fn values_of<T: Copy>(alloc: Global, entries: &[StaticValueEntry<T>]) -> Result<Vec<T>, AllocError>
+    ensures { IfOk result (λ v. v.items ≡ map (λ e. e.value) entries.now) }
+{
+    let mut values = Vec::with_capacity(alloc, entries.len())?;
+    for index in 0..entries.len() {
+        values.push(entries[index].value)?;
+    }
+    Ok(values)
+}
+
+impl<T: Copy> StaticValueRegistry<T> {
+    /// The registry of these values in ascending order, equal ones in the order in which they were given; each value's
+    /// index is its place there, from 0 on, whatever index its entry brought. TooLong above 4,294,967,295 entries, else
+    /// refused by want of memory alone.
+    #[tactic(auto, using(std::proofs::lemmas::List::Sorted::length_permutation, crate::proofs::Statics::lengths))]
+    pub fn from_entries(alloc: Global, entries: Vec<StaticValueEntry<T>>) -> Result<Self, Error>
+    where
+        T: Ord,
+        ensures values { IfOk result (λ r. IsPermutation (map (λ e. e.value) entries.items) r) }
+        ensures sorted { IfOk result (λ r. IsSorted T.cmp r) }
+        ensures stable { IfOk result (λ r. IsStable T.cmp (map (λ e. e.value) entries.items) r) }
+        ensures few { IfOk result (λ r. length r ≤ longest) }
+        ensures only { IfErr result (long_or_memory (vec_len entries)) }
+    {
+        if entries.len() > MOST_ENTRIES {
+            return Err(Error::TooLong);
+        }
+        let mut values = values_of(alloc, &entries)?;
+        values.sort()?;
+        Ok(StaticValueRegistry { values })
+    }
+
+    /// The value under this index with the index, or None where no value stands there.
+    pub fn get(&self, index: u32) -> Option<StaticValue<T>>
+        ensures found { IfSome result (λ v. (v.0.index ≡ index) × (slice_get self.now index ≡ Some v.0.value)) }
+        ensures missing { IfNone result (length self.now ≤ index) }
+    {
+        let place = index as usize;
+        if place >= self.values.len() {
+            return None;
+        }
+        let value = self.values[place];
+        Some(StaticValue(StaticValueEntry { value, index }))
+    }
+
+    /// The least index of an equal value, or None where there is none.
+    pub fn index_of(&self, value: &T) -> Option<u32>
+    where
+        T: PartialEq,
+        ensures equal { IfSome result (HasEqual T.eq value.now self.now) }
+        ensures least { IfSome result (NoEqualBelow T.eq value.now self.now) }
+        ensures missing { IfNone result (NoEqualBelow T.eq value.now self.now (length self.now)) }
+    {
+        let place = first_equal(&self.values, value)?;
+        Some(place as u32)
+    }
+}
+
+/// The first place of an equal value, or None where there is none.
+#[tactic(auto, using(crate::proofs::Statics::finding))]
+fn first_equal<T: PartialEq>(values: &[T], value: &T) -> Option<usize>
+    ensures within { IfSome result (λ i. i < length values.now) }
+    ensures equal { IfSome result (HasEqual T.eq value.now values.now) }
+    ensures least { IfSome result (NoEqualBelow T.eq value.now values.now) }
+    ensures missing { IfNone result (NoEqualBelow T.eq value.now values.now (length values.now)) }
+{
+    for place in 0..values.len() {
+        if *value == values[place] {
+            return Some(place);
+        }
+    }
+    None
+}
+
+/// A type whose values stand in a registry of the environment.
+pub trait HasStaticValueRegistry<E: Env>: Ord + Copy + Sized {
+    // What a value means; no references are in it.
+    ghost plain: { Self → Meaning ⊥ };
+
+    // The values that are registered, by their index.
+    ghost known: { E → List Self };
+
+    /// The registry of this type in the environment.
+    fn registry(env: &E) -> &StaticValueRegistry<Self>
+        ensures { result.now ≡ known env.now };
+
+    // Values are equal exactly where they mean the same.
+    ghost same_meaning: { (x y : Self) → IsTrue (Self.eq x y) → plain x ≡ plain y };
+
+    ghost same_value: { (x y : Self) → plain x ≡ plain y → IsTrue (Self.eq x y) };
+
+    ghost holds_no_reference: { (x : Self) → HasNoReference (plain x) };
+}
+
+/// The value that the environment's registry has under this index: BadStaticIndex where there is none.
+#[tactic(auto, using(crate::proofs::Statics::steps))]
+pub fn registered_value<E: Env, T: HasStaticValueRegistry<E>>(
+    index: u32,
+    env: &E,
+) -> Result<StaticValue<T>, Error>
+    ensures gives { Gives never (λ v. T.plain v.0.value) result (registered (meanings_of T.plain (T.known env.now)) index) }
+    ensures same_index { IfOk result (λ v. v.0.index ≡ index) }
+{
+    match T::registry(env).get(index) {
+        None => Err(Error::BadStaticIndex),
+        Some(value) => Ok(value),
+    }
+}
+
+/// Whether the environment's registry has an equal value under the value's own index. An equal value under another
+/// index doesn't do.
+#[tactic(auto, using(crate::proofs::Statics::steps))]
+pub fn is_registered<E: Env, T: HasStaticValueRegistry<E>>(value: &StaticValue<T>, env: &E) -> bool
+    ensures { IsTrue result ↔ StandsAt T.plain (T.known env.now) value.now.0.value value.now.0.index }
+{
+    match T::registry(env).get(value.0.index) {
+        None => false,
+        Some(known) => *value == known,
+    }
+}
+
+impl<E: Env, T: HasStaticValueRegistry<E>> Carried<E> for StaticValue<T> {
+    ghost shape = { λ e. static_value (meanings_of T.plain (T.known e)) };
+
+    ghost means = { exactly (λ v. lifted (T.plain v.0.value)) };
+}
+
+impl<E: Env, T: HasStaticValueRegistry<E>> OneMeaning<E> for StaticValue<T> {
+    ghost single = { λ v m is. is };
+}
+
+/// By the value alone, as equality and the hash are.
+impl<E: Env, T: HasStaticValueRegistry<E>> PagableKey<E> for StaticValue<T> {
+    ghost key = { record { same = λ x y. static_is_same T.eq T.plain T.same_meaning T.same_value x.0.value y.0.value; refers_to_nothing = λ e. static_refers_to_nothing (E.parts e) (meanings_of T.plain (T.known e)) } };
+}
+
+impl<E: Env, T: HasStaticValueRegistry<E>> PagableSerialize<E> for StaticValue<T> {
+    ghost write_causes = { writes_memory_or writes_unregistered };
+
+    /// Appends the index. Unregistered exactly where the environment's registry has no equal value under it, and else
+    /// refused by want of memory alone.
+    #[tactic(auto, using(pagable_codec::proofs::Writing::parts, crate::proofs::Statics::writes_static))]
+    fn pagable_serialize<S: PagableSerializer<E>>(&self, serializer: &mut S) -> Result<(), Error>
+        ensures ok { OnOk result (WritesSome (Is (λ v. lifted (T.plain v.0.value)) self.now) (nesting (S.levels serializer.old) (E.parts (S.environment serializer.old))) (static_value (meanings_of T.plain (T.known (S.environment serializer.old)))) (S.out serializer.old) (S.out serializer.new)) }
+        ensures refused { IfErr result (Refused (Is (λ v. lifted (T.plain v.0.value)) self.now) (nesting (S.levels serializer.old) (E.parts (S.environment serializer.old))) (static_value (meanings_of T.plain (T.known (S.environment serializer.old))))) }
+        ensures only { IfErr result (memory_or unregistered) }
+        ensures err { Grows (S.out serializer.old) (S.out serializer.new) }
+        ensures same_env { S.environment serializer.new ≡ S.environment serializer.old }
+        ensures same_levels { S.levels serializer.new ≡ S.levels serializer.old }
+        ensures unregistered { IfErr result (λ e. e ≡ Error.Unregistered → ¬ StandsAt T.plain (T.known (S.environment serializer.old)) self.now.0.value self.now.0.index) }
+        ensures missing { ¬ StandsAt T.plain (T.known (S.environment serializer.old)) self.now.0.value self.now.0.index → result ≡ Err Error.Unregistered }
+    {
+        if !is_registered(self, serializer.env()) {
+            return Err(Error::Unregistered);
+        }
+        serializer.serde().write_u32(self.0.index)
+    }
+}
+
+impl<'de, E: Env, T: HasStaticValueRegistry<E>> PagableDeserialize<'de, E> for StaticValue<T> {
+    /// Reads an index, and gives the value that the environment's registry has under it, with that index: so it can be
+    /// written again. BadStaticIndex where there is none.
+    #[tactic(auto, unfolding(pagable_model::specs::Reading::read, pagable_model::specs::Reading::read_with), using(pagable_codec::proofs::Reading::parts))]
+    fn pagable_deserialize<D: PagableDeserializer<E>>(
+        alloc: Global,
+        deserializer: &mut D,
+    ) -> Result<Self, Error>
+        ensures gives { GivesSome never (Is (λ v. lifted (T.plain v.0.value))) (D.rest deserializer.new) result
+            (read (handles_at (D.levels deserializer.old) (E.parts (D.environment deserializer.old))) (static_value (meanings_of T.plain (T.known (D.environment deserializer.old)))) (D.rest deserializer.old)) }
+        ensures moves { MovesOn (D.standing deserializer.old) (D.standing deserializer.new) }
+        ensures same_env { D.environment deserializer.new ≡ D.environment deserializer.old }
+        ensures same_levels { D.levels deserializer.new ≡ D.levels deserializer.old }
+        ensures stands { IfOk result (λ v. StandsAt T.plain (T.known (D.environment deserializer.old)) v.0.value v.0.index) }
+    {
+        let index = <u32 as PagableDeserialize<E>>::pagable_deserialize(alloc, deserializer)?;
+        let value = registered_value::<E, T>(index, deserializer.env())?;
+        Ok(value)
+    }
+}

@@ -1,0 +1,268 @@
+//! Tagged values: a value of one of several types is written as its type's tag and its body, and read by the reader
+//! that is registered for the tag. Registries are handed in; there are no globals.
+
+ghost use Rattle.std.{specs.Prelude.{◌≡◌, ◌≤◌, [], ℕ, List, length, map, Bool, Option, Some, None, IfOk, IfErr, IfSome, IfNone, OnOk}, specs.Str.IsUtf8, specs.String.string_bytes};
+ghost use Rattle.pagable_model.specs.{Tagged.{MeansTagged, IsLastFor, NoneFor, grammars, HasDistinctTags, ReadsWhatIsWritten}, Basic.{text_form, text_at, longest}, Carried.tagged_by, Gives.Gives};
+ghost use Rattle.pagable_model.specs.{Gives.{memory, memory_or, long_or}, Reading.{read, bytes_of}, Shape.{Shape, tagged}};
+ghost use Rattle.pagable_model.specs.{Standing.{handles_at, MovesOn, GivesSome}, Writing.{nesting, WritesSome, Refused, Grows, added}, Lengths.long_or_memory};
+ghost use Rattle.pagable_traits.specs.{ReadBack.IsReadThroughout, Meanings.Meanings, OwnCauses.{ReadCauses, WriteCauses}};
+
+use pagable_codec::{Env, PagableDeserializer, PagableSerializer, Reader};
+use pagable_flavors::Error;
+use std::alloc::Global;
+use std::marker::{Model, PhantomData};
+
+/// A type whose values are written as a tag and a body, as an enum with one case for each tag.
+pub trait PagableTagged<E: Env>: Sized {
+    // The tag of a value.
+    ghost tag: { Self → List ℕ };
+
+    // How bodies are written under each tag.
+    ghost bodies: { E → List ℕ → Shape };
+
+    // What the body of a value may mean.
+    ghost body_means: { Meanings Self };
+
+    // All refusals of a body's writing, those among them that say that it has no form.
+    ghost body_causes: { WriteCauses };
+
+    /// The tag of the value.
+    fn pagable_type_tag(&self) -> &'static str
+        ensures { result.now ≡ tag self.now };
+
+    /// Writes the body alone, as `PagableSerialize` writes a value.
+    fn pagable_serialize_body<S: PagableSerializer<E>>(
+        &self,
+        serializer: &mut S,
+    ) -> Result<(), Error>
+        ensures ok { OnOk result (WritesSome (body_means.of self.now) (nesting (S.levels serializer.old) (E.parts (S.environment serializer.old))) (bodies (S.environment serializer.old) (tag self.now)) (S.out serializer.old) (S.out serializer.new)) }
+        ensures refused { IfErr result (Refused (body_means.of self.now) (nesting (S.levels serializer.old) (E.parts (S.environment serializer.old))) (bodies (S.environment serializer.old) (tag self.now))) }
+        ensures only { IfErr result body_causes.are }
+        ensures err { Grows (S.out serializer.old) (S.out serializer.new) }
+        ensures same_env { S.environment serializer.new ≡ S.environment serializer.old }
+        ensures same_levels { S.levels serializer.new ≡ S.levels serializer.old };
+
+    /// Writes the tag and then the body, whichever tags are registered. TooLong for a tag above 4,294,967,295 bytes.
+    #[tactic(auto, using(crate::proofs::Walks::writes, crate::proofs::Parts::only_parts, pagable_codec::proofs::Writing::grows_trans, crate::proofs::Tagged::writes))]
+    final fn serialize_tagged<S: PagableSerializer<E>>(
+        &self,
+        serializer: &mut S,
+    ) -> Result<(), Error>
+        ensures ok { (known : List ℕ → Bool) (read : List ℕ → Shape) → OnOk result (WritesSome (MeansTagged (tag self.now) (body_means.of self.now)) (nesting (S.levels serializer.old) (E.parts (S.environment serializer.old))) (tagged (bodies (S.environment serializer.old)) known read) (S.out serializer.old) (S.out serializer.new)) }
+        ensures refused { (known : List ℕ → Bool) (read : List ℕ → Shape) → IfErr result (Refused (MeansTagged (tag self.now) (body_means.of self.now)) (nesting (S.levels serializer.old) (E.parts (S.environment serializer.old))) (tagged (bodies (S.environment serializer.old)) known read)) }
+        ensures only { IfErr result (long_or (memory_or body_causes.are)) }
+        ensures err { Grows (S.out serializer.old) (S.out serializer.new) }
+        ensures same_env { S.environment serializer.new ≡ S.environment serializer.old }
+        ensures same_levels { S.levels serializer.new ≡ S.levels serializer.old }
+    {
+        write_tag(self.pagable_type_tag(), serializer)?;
+        self.pagable_serialize_body(serializer)
+    }
+}
+
+/// Writes a tag: TooLong above 4,294,967,295 bytes, else refused by want of memory alone.
+#[tactic(auto, using(pagable_codec::proofs::Writing::parts, pagable_codec::proofs::Writing::steps))]
+fn write_tag<E: Env, S: PagableSerializer<E>>(tag: &str, serializer: &mut S) -> Result<(), Error>
+    ensures ok { OnOk result (S.out serializer.new ≡ added (S.out serializer.old) (text_form tag.now) []) }
+    ensures within { OnOk result (length tag.now ≤ longest) }
+    ensures text { IsUtf8 tag.now }
+    ensures only { IfErr result (long_or_memory (length tag.now)) }
+    ensures err { Grows (S.out serializer.old) (S.out serializer.new) }
+    ensures same_env { S.environment serializer.new ≡ S.environment serializer.old }
+    ensures same_levels { S.levels serializer.new ≡ S.levels serializer.old }
+{
+    serializer.serde().write_str(tag)
+}
+
+/// Marks a type as registered as one of `T`'s types.
+pub trait PagableRegisteredFor<T> {}
+
+/// Readers that know the tag of the values that they give.
+pub trait ForTag {
+    ghost own_tag: { Self → List ℕ };
+}
+
+/// The readers of the bodies of `T`: one type for all tags, as an enum with one case for each.
+pub trait TagReader<E: Env, T: PagableTagged<E>>: ForTag {
+    // How the reader reads a body.
+    ghost grammar: { Self → E → Shape };
+
+    // The refusals beside the faults of the input and those of references.
+    ghost read_causes: { ReadCauses };
+
+    /// Reads a body, as `PagableDeserialize` reads a value. The value that it gives has the reader's tag.
+    fn read<D: PagableDeserializer<E>>(
+        &self,
+        alloc: Global,
+        deserializer: &mut D,
+    ) -> Result<T, Error>
+        ensures gives { GivesSome read_causes.are T.body_means.of (D.rest deserializer.new) result
+            (read (handles_at (D.levels deserializer.old) (E.parts (D.environment deserializer.old))) (grammar self.now (D.environment deserializer.old)) (D.rest deserializer.old)) }
+        ensures of_tag { IfOk result (λ x. T.tag x ≡ Self.own_tag self.now) }
+        ensures moves { MovesOn (D.standing deserializer.old) (D.standing deserializer.new) }
+        ensures same_env { D.environment deserializer.new ≡ D.environment deserializer.old }
+        ensures same_levels { D.levels deserializer.new ≡ D.levels deserializer.old };
+}
+
+/// A tag, and the reader of the bodies under it, which gives values of this tag.
+#[derive(Drop)]
+pub struct TypetagRegistration<T, F: ForTag> {
+    pub tag: String,
+    pub deserialize: F,
+    pub of: PhantomData<T>,
+    ghost own: { F.own_tag deserialize ≡ string_bytes tag },
+}
+
+impl<T, F: ForTag> TypetagRegistration<T, F> {
+    /// A registration of the reader under its own tag.
+    pub fn new(tag: String, deserialize: F) -> Self
+        requires { F.own_tag deserialize ≡ string_bytes tag }
+        ensures tag { result.tag ≡ tag }
+        ensures reader { result.deserialize ≡ deserialize }
+    {
+        TypetagRegistration {
+            tag,
+            deserialize,
+            of: PhantomData,
+        }
+    }
+}
+
+/// The registrations of `T`'s types, in the order in which they were made.
+#[derive(Drop)]
+pub struct TypetagRegistry<T, F: ForTag> {
+    registrations: Vec<TypetagRegistration<T, F>>,
+}
+
+impl<T, F: ForTag> Model for TypetagRegistry<T, F> {
+    ghost Value = { List (List ℕ × F) };
+
+    ghost view = { λ r. map (λ x. (string_bytes x.tag, x.deserialize)) r.registrations.items };
+}
+
+impl<T, F: ForTag> TypetagRegistry<T, F> {
+    /// The registry of these registrations. Where a tag is registered twice, the last one counts.
+    pub fn from_registrations(registrations: Vec<TypetagRegistration<T, F>>) -> Self
+        ensures { result ≡ map (λ x. (string_bytes x.tag, x.deserialize)) registrations.items }
+    {
+        TypetagRegistry { registrations }
+    }
+
+    /// The reader that was registered last for this tag, or None where none was.
+    pub fn reader_of(&self, tag: &str) -> Option<&F>
+        ensures found { IfSome result (λ f. IsLastFor tag.now self.now f.now) }
+        ensures own { IfSome result (λ f. F.own_tag f.now ≡ tag.now) }
+        ensures missing { IfNone result (NoneFor tag.now self.now) }
+    {
+        last_reader(&self.registrations, tag)
+    }
+
+    /// Reads a tag, and then the body by the reader that was registered last for the tag: UnknownTag where none was.
+    /// The value that it gives has the tag that was read. This is for a registry at hand; `deserialize_tagged` finds the
+    /// environment's own.
+    #[tactic(auto, unfolding(pagable_model::specs::Reading::read, pagable_model::specs::Reading::read_with), using(pagable_codec::proofs::Reading::parts))]
+    pub fn deserialize_tagged<E: Env, D: PagableDeserializer<E>>(
+        &self,
+        alloc: Global,
+        deserializer: &mut D,
+    ) -> Result<T, Error>
+    where
+        T: PagableTagged<E>,
+        F: TagReader<E, T>,
+        ensures gives { (written : List ℕ → Shape) → GivesSome (memory_or F.read_causes.are) (λ x. MeansTagged (T.tag x) (T.body_means.of x)) (D.rest deserializer.new) result
+            (read (handles_at (D.levels deserializer.old) (E.parts (D.environment deserializer.old))) (tagged_by written (grammars F.grammar (D.environment deserializer.old) self.now)) (D.rest deserializer.old)) }
+        ensures moves { MovesOn (D.standing deserializer.old) (D.standing deserializer.new) }
+        ensures same_env { D.environment deserializer.new ≡ D.environment deserializer.old }
+        ensures same_levels { D.levels deserializer.new ≡ D.levels deserializer.old }
+    {
+        let tag = read_tag(alloc, deserializer)?;
+        let found = self.reader_of(tag.as_str());
+        let Some(reader) = found else {
+            return Err(Error::UnknownTag);
+        };
+        reader.read(alloc, deserializer)
+    }
+}
+
+/// The reader of the last registration of this tag, or None where there is none.
+#[tactic(auto, using(crate::proofs::Tagged::none_past))]
+fn last_reader<'r, T, F: ForTag>(
+    registrations: &'r [TypetagRegistration<T, F>],
+    tag: &str,
+) -> Option<&'r F>
+    ensures found { IfSome result (λ f. IsLastFor tag.now (map (λ x. (string_bytes x.tag, x.deserialize)) registrations.now) f.now) }
+    ensures own { IfSome result (λ f. F.own_tag f.now ≡ tag.now) }
+    ensures missing { IfNone result (NoneFor tag.now (map (λ x. (string_bytes x.tag, x.deserialize)) registrations.now)) }
+{
+    let count = registrations.len();
+    for passed in 0..count {
+        let registration = &registrations[count - 1 - passed];
+        if tag == registration.tag.as_str() {
+            return Some(&registration.deserialize);
+        }
+    }
+    None
+}
+
+/// Reads a tag.
+#[tactic(auto, using(crate::proofs::Tagged::text_is_read))]
+fn read_tag<E: Env, D: PagableDeserializer<E>>(
+    alloc: Global,
+    deserializer: &mut D,
+) -> Result<String, Error>
+    ensures gives { Gives memory (λ t. (string_bytes t, D.rest deserializer.new)) result (bytes_of text_at (λ t. t) (D.rest deserializer.old)) }
+    ensures moves { MovesOn (D.standing deserializer.old) (D.standing deserializer.new) }
+    ensures same_env { D.environment deserializer.new ≡ D.environment deserializer.old }
+    ensures same_levels { D.levels deserializer.new ≡ D.levels deserializer.old }
+{
+    deserializer.serde().read_string(alloc)
+}
+
+/// A type whose readers stand in a registry of the environment.
+pub trait HasTypetagRegistry<E: Env>: PagableTagged<E> {
+    type Reader: TagReader<E, Self> + Copy;
+
+    // The readers with their tags, in the order of registration.
+    ghost readers: { E → List (List ℕ × Self.Reader) };
+
+    /// The registry of this type in the environment.
+    fn typetag_registry(env: &E) -> &TypetagRegistry<Self, Self::Reader>
+        ensures { result.now ≡ readers env.now };
+}
+
+/// The reader that was registered last for this tag in the environment, or None where none was.
+fn registered_reader<E: Env, T: HasTypetagRegistry<E>>(tag: &str, env: &E) -> Option<T::Reader>
+    ensures found { IfSome result (IsLastFor tag.now (T.readers env.now)) }
+    ensures own { IfSome result (λ f. T.Reader.own_tag f ≡ tag.now) }
+    ensures missing { IfNone result (NoneFor tag.now (T.readers env.now)) }
+{
+    T::typetag_registry(env).reader_of(tag).copied()
+}
+
+/// Reads a tag, and then the body by the reader that the environment's registry has for the tag, the last one that was
+/// registered: UnknownTag where none was. The value that it gives has the tag that was read.
+#[tactic(auto, unfolding(pagable_model::specs::Reading::read, pagable_model::specs::Reading::read_with), using(pagable_codec::proofs::Reading::parts))]
+pub fn deserialize_tagged<E: Env, T: HasTypetagRegistry<E>, D: PagableDeserializer<E>>(
+    alloc: Global,
+    deserializer: &mut D,
+) -> Result<T, Error>
+    ensures gives { (written : List ℕ → Shape) → GivesSome (memory_or T.Reader.read_causes.are) (λ x. MeansTagged (T.tag x) (T.body_means.of x)) (D.rest deserializer.new) result
+        (read (handles_at (D.levels deserializer.old) (E.parts (D.environment deserializer.old))) (tagged_by written (grammars T.Reader.grammar (D.environment deserializer.old) (T.readers (D.environment deserializer.old)))) (D.rest deserializer.old)) }
+    ensures moves { MovesOn (D.standing deserializer.old) (D.standing deserializer.new) }
+    ensures same_env { D.environment deserializer.new ≡ D.environment deserializer.old }
+    ensures same_levels { D.levels deserializer.new ≡ D.levels deserializer.old }
+{
+    let tag = read_tag(alloc, deserializer)?;
+    let found = registered_reader::<E, T>(tag.as_str(), deserializer.env());
+    let Some(reader) = found else {
+        return Err(Error::UnknownTag);
+    };
+    reader.read(alloc, deserializer)
+}
+
+/// With distinct tags, each under which a body has a form being registered with a reader of what is written under it,
+/// the forms of tagged values are read again, as `forms_are_read_again` of `pagable` asks.
+#[tactic(auto, using(crate::proofs::Tagged::distinct_is_read))]
+pub fn distinct_tags_are_read_again()
+    ensures { (parts : ℕ → Shape) (written : List ℕ → Shape) (registrations : List (List ℕ × Shape)) → HasDistinctTags registrations → ReadsWhatIsWritten parts written registrations → IsReadThroughout parts (tagged_by written registrations) }
+{}
