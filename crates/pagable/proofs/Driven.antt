@@ -1,22 +1,21 @@
 -- Each event of the machine, by what the pager and what is kept of loads, tables and workers say of it.
-use Rattle.std.proofs.Common.{rules, ◌≡◌, ℕ, true, List, [], Option, Some, None, Ok, inl, inr, refl, sym, ap, subst, ◌∙◌, arith, ◌≢◌, zero, suc, ◌+◌, ◌∷◌, ◌++◌, ◌==◌, if◌then◌else◌, length, Err}
-use Rattle.std.{proofs.{Common.{false, ◌⊎◌, ◌<◌}, lemmas.{Bool.Decides.nat_tests, Grind.common_steps, List.length-append}}, specs.{Option.option_map, Prelude.{Result, is_some, slice_get, is_none}}}
-use Rattle.{std.specs.declared.{alloc.Global.Global, sync.Arc.Arc, vec.Vec.Vec}, pagable_core.specs.declared.{context.writing.SerializedData.SerializedData, storage.data.PagableData.PagableData}}
-use Rattle.{pagable_laws.proofs.{Effects.{IsMine, owned-mine}, ReadingSteps.{caller-free, reading-feels}, Trees.{same-number, same_some}}, pagable_loads.specs.Frames.{IsLoadOf, is_cell}}
-use Rattle.{pagable_loads.specs.{Frames.reading_of, Stepping.IsSameLoad, Working.{StartsEntry, RefusesEntry}, declared.reading.Reading.Reading as Own}, pagable.proofs.Keeping.are-these}
-use Rattle.pagable.proofs.Keeping.{as-before, at-one, kept-on, one-or-old, quiet, same-work, leaves-so, makes, makes-with, not-same, one-serves, updated-at, Leaves, same, Passes, event-passes}
-use Rattle.pagable.{proofs.Keeping.{by-call, key-starts, nothing-done, refused, entry-leaves, item-leaves}, specs.Driving.{Answer, Drives, Given, IsInStep, Readings, holding, kept_at, over}}
-use Rattle.pagable.specs.{Driving.ByNumber, Keeping.{Holding, IsKept, IsServing, IsTaken, KeepsOne, Kept, Makes, ReadsFor, machine_of, readings_in, rest_after, Forgets, IsPrepared, KeptStep}}
-use Rattle.pagable.specs.{Serving.{Serves, plain_call, plain_reply}, Walking.{IsBegun, IsWalkKept, shelf_at, has_task, walking_of, IsIn}, declared.held.{Held.Held, Walk.Walk}}
-use Rattle.pagable_model.specs.declared.{error.Error.Error, numbers.{ArcRef.ArcRef, HandleNumber.HandleNumber, LoadNumber.LoadNumber, WorkerNumber.WorkerNumber}}
-use Rattle.pagable_pager.{proofs.Keeping.{owner-owns, less-moves}, specs.View.{type_of_root, OnlyLess, PagerView, ReadsAs, Telling, core_in, state_in, OnlyTables, value_in}}
-use Rattle.{pagable_tables.proofs.Worlds.still, pagable_walk.{proofs.Turning.plain-fits, specs.{Slots.written_of, Table.shelf_of, Turns.plain, declared.results.Trees.Ghosts}}}
-use Rattle.{pagable_walk.specs.declared.table.SlotTable.SlotTable, pagable_world.specs.{Access.{ReadingStep, WorkerStarts}, Events.{reading_after, reading_at, reading_of_root, step_fault, Happens}}}
-use Rattle.pagable_world.specs.{Events.{IsTable, Starts, no_shelf, with_worker, Does, entry_task, with_entry_taken}, Kinds.{is_owner, identity_of}, LoadCalls.{DropCall, LoadCloses}, Loads.gone_on}
-use Rattle.pagable_world.specs.{Order.step_of, Pager.{FitsRoot, Moves, PagerState, WellFormed, world_of, CallBrings}, Plain.{or_else, updated, Blob, if_there}, Refusals.{OwnsLoad, load_fault}}
-use Rattle.pagable_world.specs.{Workers.fresh, World.{Frame, OpenLoad, Reading, Root, of_cell, of_key, Seen, one_more, Alike, Core, SameShelf, Values, Written, Walking, of_entry, of_item}}
-use Rattle.pagable_world.specs.declared.{answers.Beginning.Beginning, calls.{Call.Call, Reply.Reply}, events.{Event.Event, EventReply.EventReply, LoadAnswer.LoadAnswer, LoadReply.LoadReply}}
-use Rattle.pagable_world.specs.declared.{events.TableNumber.TableNumber, handles.Owner.Owner}
+use Rattle.{pagable_laws.proofs.{Effects.{IsMine, owned-mine}, ReadingSteps.{caller-free, reading-feels}, Trees.{same-number, same_some}}, pagable.proofs.Keeping.{are-these, as-before, at-one}}
+use Rattle.pagable.proofs.Keeping.{kept-on, one-or-old, quiet, same-work, leaves-so, like, makes, makes-with, not-same, one-serves, updated-at, Leaves, Passes, event-passes, drives, by-call}
+use Rattle.pagable.{proofs.Keeping.{key-starts, nothing-done, refused}, specs.{Driving.{Answer, Drives, Given, IsInStep, Readings, holding, kept_at, over, ByNumber}, Keeping.{Holding, IsKept}}}
+use Rattle.pagable.specs.{Keeping.{IsServing, IsTaken, KeepsOne, Kept, Makes, ReadsFor, machine_of, readings_in, rest_after, Forgets, IsPrepared, KeptStep}, Serving.{Serves, plain_call, plain_reply}}
+use Rattle.pagable.specs.{Taken.{value-is-read, reading-is-refused, node-comes-back}, Walking.{IsBegun, IsWalkKept, shelf_at, has_task, walking_of, IsIn}, declared.held.{Held.Held, Walk.Walk}}
+use Rattle.{pagable_walk.{proofs.Turning.plain-fits, specs.{Slots.written_of, Table.shelf_of, Turns.plain, declared.{results.Trees.Ghosts, table.SlotTable.SlotTable}}}, std.specs.Option.option_map}
+use Rattle.std.{proofs.Common.{rules, ◌≡◌, ℕ, true, List, [], Option, Some, None}, specs.{Prelude.{Result, is_none, is_some, slice_get}, declared.{alloc.Global.Global, sync.Arc.Arc, vec.Vec.Vec}}}
+use Rattle.std.proofs.{Common.{Ok, inl, inr, refl, sym, ap, subst, ◌∙◌, arith, ◌≢◌, zero, suc, ◌+◌, ◌∷◌, ◌++◌, ◌==◌, if◌then◌else◌, length, Err, false, ◌⊎◌, ◌<◌}, lemmas.Bool.Decides.nat_tests}
+use Rattle.{std.proofs.lemmas.{Grind.common_steps, List.length-append}, pagable_core.specs.declared.{context.writing.SerializedData.SerializedData, storage.data.PagableData.PagableData}}
+use Rattle.pagable_loads.specs.{Frames.{IsLoadOf, is_cell, reading_of}, Working.{StartsEntry, RefusesEntry}, declared.reading.Reading.Reading as Own}
+use Rattle.pagable_world.specs.{Access.{ReadingStep, WorkerStarts}, Events.{reading_after, reading_at, reading_of_root, step_fault, Happens, IsTable, Starts, no_shelf, with_worker, Does, entry_task}}
+use Rattle.pagable_world.specs.{Events.with_entry_taken, Kinds.{is_owner, identity_of}, LoadCalls.{DropCall, LoadCloses}, Loads.gone_on, Order.step_of, Pager.{FitsRoot, Moves, PagerState, WellFormed}}
+use Rattle.pagable_world.specs.{Pager.{world_of, CallBrings}, Plain.{or_else, updated, Blob, if_there}, Refusals.{OwnsLoad, load_fault}, Workers.fresh, World.{Frame, OpenLoad, Reading, Root}}
+use Rattle.pagable_world.specs.{World.{of_cell, of_key, Seen, one_more, Alike, Core, SameShelf, Values, Written, Walking, of_entry, of_item}, declared.{answers.Beginning.Beginning, calls.Call.Call}}
+use Rattle.pagable_world.specs.declared.{calls.Reply.Reply, events.{Event.Event, EventReply.EventReply, LoadAnswer.LoadAnswer, LoadReply.LoadReply, TableNumber.TableNumber}, handles.Owner.Owner}
+use Rattle.pagable_pager.{specs.View.{type_of_root, OnlyLess, PagerView, ReadsAs, Telling, core_in, state_in, OnlyTables, value_in}, proofs.Keeping.{owner-owns, less-moves}}
+use Rattle.{pagable_model.specs.declared.{error.Error.Error, numbers.{ArcRef.ArcRef, HandleNumber.HandleNumber, LoadNumber.LoadNumber, WorkerNumber.WorkerNumber}}, pagable_tables.proofs.Worlds.still}
 use Rattle.pagable_world.specs.World as world
 
 module _ {X : Type 0} {g : Ghosts X} {N E : Type 0} (s : PagerState N E) (h : Holding g) (l : LoadNumber) (load : OpenLoad) (o : OwnsLoad s.core Owner.Caller l load) where
@@ -28,10 +27,6 @@ of_root : (root : Root) (type : ℕ) → type_of_root root ≡ Some type
     → (is_cell root ≡ true) × ((r : Reading) → r.node_type ≡ type → FitsRoot root r) × ((l : LoadNumber) → reading_of_root l root ≡ Some (fresh l type))
 of_root (of_cell node t h) type is = let e : t ≡ type = same_some _ _ is in (refl, (λ r typed. typed ∙ sym e), λ l. ap (λ n. Some (fresh l n)) e)
 of_root of_key type is = absurd (cc)
-
--- the same load reads for the same
-still-reads : {load : OpenLoad} {own now : Own} {count : ℕ} → ReadsFor load own → IsSameLoad own now count → ReadsFor load now
-still-reads {load} {own} {now} reads e = first_of (grind (arith, nat_tests), search (rules))
 
 module _ {X : Type 0} {g : Ghosts X} {N E : Type 0} (s : PagerState N E) {h : Holding g} (serving : IsServing s.core h) where
   -- what is taken is of the load
@@ -101,15 +96,9 @@ module _ {X : Type 0} {g : Ghosts X} {N B W E : Type 0} (m : Seen N B W) (s s' :
         | inr (here, is) ↦ inr (subst (λ n. IsKept s'.core n other) (sym here) (new other is))
       ]))
 
--- a load that can't be looked at can't step
-pub faulty : {X : Type 0} {g : Ghosts X} {N E : Type 0} (s : PagerState N E) (h : Holding g) (l : LoadNumber) (e : Error) → load_fault s.core Owner.Caller l ≡ Some e
-    → step_fault (world_of (machine_of s h)) l ≡ Some e
-faulty s h l e is = first_of (grind (arith, common_steps, nat_tests), search (rules))
-
 -- what stands at a place of a list with one item more
 with-last : {Y : Type 0} (xs : List Y) (x : Y) (n : ℕ) → slice_get (xs ++ x ∷ []) n ≡ (if n == length xs then Some x else slice_get xs n)
-with-last [] x zero = refl
-with-last [] x (suc n) = grind (arith, nat_tests)
+with-last [] x x1 = grind (arith, nat_tests)
 with-last (y ∷ ys) x zero = grind (arith, nat_tests)
 with-last (y ∷ ys) x (suc n) = let more = with-last ys x n in grind (arith, nat_tests, more)
 
@@ -214,10 +203,8 @@ module _ {X : Type 0} {g : Ghosts X} {N S E : Type 0} (v : E → Values N) (tell
       → Takes (Event.LoadStart through) (EventReply.Started r) new held
   start-drives through r serves formed =
       let w = whole-still serves.moves formed in
-      record {
-        makes = by-call m s s' h h.readings serving was w _ _ serves.step (record { still = λ l load is. refl; only = λ l own is. is }) (Event.LoadStart through) (EventReply.Started r) (λ q. refl)
-            (λ readings. record { step = serves.step.does; readings = readings; work = same-work m s s' h h.readings serving was w }) serves.moves tt;
-      }
+      drives (by-call m s s' h h.readings serving was w _ _ serves.step (record { still = λ l load is. refl; only = λ l own is. is }) (Event.LoadStart through) (EventReply.Started r) (λ q. refl)
+      (λ readings. record { step = serves.step.does; readings = readings; work = same-work m s s' h h.readings serving was w }) serves.moves tt)
 
   module _ (kept' : Readings) where
     abbrev kept : Readings
@@ -230,10 +217,8 @@ module _ {X : Type 0} {g : Ghosts X} {N S E : Type 0} (v : E → Values N) (tell
         → Forgets s'.core (kept_at kept) (kept_at kept') → Takes (Event.Call call) (EventReply.CallReply reply) new anew
     call-drives call reply serves formed f =
         let w = whole-still serves.moves formed in
-        record {
-          makes = by-call m s s' h (kept_at kept') serving was w _ _ serves.step f (Event.Call (plain_call call)) (EventReply.CallReply (plain_reply reply)) (λ q. refl)
-              (λ readings. record { step = serves.step; readings = readings; work = same-work m s s' h (kept_at kept') serving was w }) serves.moves tt;
-        }
+        drives (by-call m s s' h (kept_at kept') serving was w _ _ serves.step f (Event.Call (plain_call call)) (EventReply.CallReply (plain_reply reply)) (λ q. refl)
+        (λ readings. record { step = serves.step; readings = readings; work = same-work m s s' h (kept_at kept') serving was w }) serves.moves tt)
 
     -- a load of a key has begun
     pub key-drives : (key t : ℕ) (r : Result Beginning Error) (l : LoadNumber) (own : Own) → (k : ℕ) × (r ≡ Ok (Beginning.Load l k))
@@ -242,28 +227,24 @@ module _ {X : Type 0} {g : Ghosts X} {N S E : Type 0} (v : E → Values N) (tell
     key-drives key t r l own (k, is) serves formed reads key_is sort keeps =
         let made = subst (λ x. Serves (v old.environment) tells old (Call.LoadKey key) (Reply.Begun x) new) is serves in
         subst (λ x. Takes (Event.LoadKey key t) (EventReply.Started x) new anew) (sym is)
-        (record { makes = key-starts m s s' h (kept_at kept') serving was (whole-still made.moves formed) key t l k own made.step made.moves reads key_is sort keeps })
+        (drives (key-starts m s s' h (kept_at kept') serving was (whole-still made.moves formed) key t l k own made.step made.moves reads key_is sort keeps))
 
     -- or none begins, and the pager is as it was
     pub key-none-drives : (key t : ℕ) (r : Result Beginning Error) → ((e : Error) × (r ≡ Err e)) ⊎ (r ≡ Ok Beginning.InMemory)
         → Serves (v old.environment) tells old (Call.LoadKey key) (Reply.Begun r) new → WellFormed (v new.environment) s' → ((q : ℕ) → kept_at kept' q ≡ kept_at kept q)
         → Takes (Event.LoadKey key t) (EventReply.Started r) new anew
     key-none-drives key t (Err e) why serves formed as_was =
-        record {
-          makes = refused m serving was (record { step = serves.step.does.refused.stays; moves = serves.moves; whole = whole-still serves.moves formed })
-              (record { readings = as_was; tables = refl; walks = λ q. refl }) (Event.LoadKey key t) (EventReply.Started (Err e)) (λ q. refl)
-              (λ stays. record { step = serves.step.does; begun = tt; refused = stays.readings; work = stays.work }) tt;
-        }
+        drives (refused m serving was (record { step = serves.step.does.refused.stays; moves = serves.moves; whole = whole-still serves.moves formed })
+        (record { readings = as_was; tables = refl; walks = λ q. refl }) (Event.LoadKey key t) (EventReply.Started (Err e)) (λ q. refl)
+        (λ stays. record { step = serves.step.does; begun = tt; refused = stays.readings; work = stays.work }) tt)
     key-none-drives key t (Ok Beginning.InMemory) why serves formed as_was = absurd serves.step.does.begins
     key-none-drives key t (Ok (Beginning.Load l k)) why serves formed as_was = absurd (elim why [ inl (e, is) ↦ cc | inr is ↦ cc ])
 
     step-refused : (l : LoadNumber) (e : Error) → ((q : ℕ) → kept_at kept' q ≡ kept_at kept q) → step_fault (world_of (machine_of s h)) l ≡ Some e
         → Takes (Event.LoadStep l) (EventReply.LoadMoved (Err e)) old anew
     step-refused l e as_was why =
-        record {
-          makes = refused m serving was (nothing-done s was) (record { readings = as_was; tables = refl; walks = λ q. refl }) (Event.LoadStep l)
-              (EventReply.LoadMoved (Err e)) (λ q. refl) (λ stays. record { moves = tt; refused = (why, stays) }) tt;
-        }
+        drives (refused m serving was (nothing-done s was) (record { readings = as_was; tables = refl; walks = λ q. refl }) (Event.LoadStep l)
+        (EventReply.LoadMoved (Err e)) (λ q. refl) (λ stays. record { moves = tt; refused = (why, stays) }) tt)
 
     module _ (l : LoadNumber) (key : ℕ) (t : Option ℕ) (reads : ReadsAs s.core l key t) where
       pub step-drives : (kept1 : Readings) (mid : Kept) (reply : LoadReply N) → IsPrepared (kept_at kept) l key t (kept_at kept1)
@@ -277,12 +258,10 @@ module _ {X : Type 0} {g : Ghosts X} {N S E : Type 0} (v : E → Values N) (tell
           let r = reads-taken s serving l reads.load key t step.own reads.owned reads.key_is reads.type_is taken in
           let of : IsLoadOf s.core Owner.Caller step.own =
           record { load = reads.load; owned = subst (λ n. OwnsLoad s.core Owner.Caller n reads.load) (sym r.0) reads.owned; key = r.1.key; sort = r.1.sort } in
-          record {
-            makes = steps m s s' h (kept_at kept') serving was l reads.load (reading_of step.own) (rest_after reply.ended (Some step.new)) reply (reading_of step.new).frames reads.owned r.2
-                (step.stepped.does of) step.stepped.counts (owned-mine of.owned) keeps (goes-on reply.ended) (λ now is.
-                let e = only reply.ended now is in
-                (ap (λ (x : Own). x.load) (sym e) ∙ step.stepped.same.load ∙ r.0, subst (λ x. ReadsFor reads.load x) e (still-reads r.1 step.stepped.same)));
-          }
+          drives (steps m s s' h (kept_at kept') serving was l reads.load (reading_of step.own) (rest_after reply.ended (Some step.new)) reply (reading_of step.new).frames reads.owned r.2
+          (step.stepped.does of) step.stepped.counts (owned-mine of.owned) keeps (goes-on reply.ended) (λ now is.
+          let e = only reply.ended now is in
+          (ap (λ (x : Own). x.load) (sym e) ∙ step.stepped.same.load ∙ r.0, subst (λ x. ReadsFor reads.load x) e (let own = r.1 in let same = step.stepped.same in grind (arith, nat_tests)))))
         where
           goes : reading_of step.new ≡ gone_on (reading_of step.own) (reading_of step.new).frames
           goes = rw (step.stepped.same.load, step.stepped.same.node_type, step.stepped.same.steps) refl
@@ -302,44 +281,41 @@ module _ {X : Type 0} {g : Ghosts X} {N S E : Type 0} (v : E → Values N) (tell
           let moves : Moves (λ n x. ⊥) s s' = less-moves tells old new only in
           let closes : LoadCloses s.core l told s'.core =
           elim drop.does [ inl r ↦ absurd (let f : None ≡ Some r.e = sym (owner-owns reads.owned) ∙ r.why in cc) | inr (other, owned, c) ↦ c ] in
-          record {
-            makes = steps m s s' h (kept_at kept') serving was l reads.load (fresh l type) None (record { ended = Some (LoadAnswer.Refused Error.OutOfMemory); steps = 1 }) [] reads.owned
-                (at-found s h l reads.load reads.owned None none ∙ (of_root reads.load.root type (reads.type_is ∙ typed)).2 l)
-                (record {
-                  does = record { does = (inl (record { mid = s.core; meets = inl (inr (inr refl), still s.core); told = told; closes = closes }), refl) };
-                  moves = record { each = λ n x is. elim (moves.each n x is) [ inl there ↦ inl there | inr came ↦ absurd came.1 ]; environment = moves.environment };
-                  whole = whole-still moves formed;
-                }) refl (owned-mine reads.owned) (record { here = as_was l.0 ∙ none; others = λ q other. as_was q }) refl (λ now is. absurd (cc));
-          }
+          drives (steps m s s' h (kept_at kept') serving was l reads.load (fresh l type) None (record { ended = Some (LoadAnswer.Refused Error.OutOfMemory); steps = 1 }) [] reads.owned
+          (at-found s h l reads.load reads.owned None none ∙ (of_root reads.load.root type (reads.type_is ∙ typed)).2 l)
+          (record {
+            does = record { does = (inl (record { mid = s.core; meets = inl (inr (inr refl), still s.core); told = told; closes = closes }), refl) };
+            moves = record { each = λ n x is. elim (moves.each n x is) [ inl there ↦ inl there | inr came ↦ absurd came.1 ]; environment = moves.environment };
+            whole = whole-still moves formed;
+          }) refl (owned-mine reads.owned) (record { here = as_was l.0 ∙ none; others = λ q other. as_was q }) refl (λ now is. absurd (cc)))
 
       pub untyped-drives : t ≡ None → kept_at kept l.0 ≡ None → ((q : ℕ) → kept_at kept' q ≡ kept_at kept q) → Takes (Event.LoadStep l) (EventReply.LoadMoved (Err Error.WrongMode)) old anew
       untyped-drives untyped none as_was = step-refused l Error.WrongMode as_was (never-typed s h l reads.load reads.owned none (reads.type_is ∙ untyped))
 
     pub closed-drives : (l : LoadNumber) (e : Error) → load_fault s.core Owner.Caller l ≡ Some e → ((q : ℕ) → kept_at kept' q ≡ kept_at kept q)
         → Takes (Event.LoadStep l) (EventReply.LoadMoved (Err e)) old anew
-    closed-drives l e why as_was = step-refused l e as_was (faulty s h l e why)
+    closed-drives l e why as_was = step-refused l e as_was (first_of (grind (arith, common_steps, nat_tests), search (rules)))
 
   pub table-drives : (tables' : Vec (SlotTable X g) Global) (table : SlotTable X g) (t : TableNumber) → tables'.items ≡ held.tables.items ++ table ∷ [] → t.0 ≡ length held.tables.items + 1
       → SameShelf no_shelf (shelf_of table) → Takes Event.TableNew (EventReply.TableMade (Ok t)) old (record held { tables = tables' })
   table-drives tables' table t is number empty =
       let more = length-append h.tables (table ∷ []) in
-      record {
-        makes = rw is (makes m s s {h' = record h { tables = h.tables ++ table ∷ [] }} serving was was (omega (arith, more)) (λ v. refl) (same s.core) Event.TableNew (EventReply.TableMade (Ok t))
-            (λ v. refl) (record {
-              made = (
-                number,
-                still s.core,
-                are-these s.core h.readings (readings_in h.readings s.core) (λ l load is. as-before serving.readings (same {me = Owner.Caller} s.core) l load is),
-                record {
-                  same_shelves = λ q. subst (λ n. SameShelf (updated n no_shelf (shelf_at h.tables) q) (shelf_at (h.tables ++ table ∷ []) q)) (sym number) (shelf-added h.tables table empty q);
-                  last_is = more ∙ sym number;
-                  same_walkings = λ v. refl;
-                },
-              );
-              refused = tt;
-            })
-            (record { each = λ n x is. inl is; environment = refl }) tt serving.readings);
-      }
+      let unmoved : Leaves Owner.Caller s.core.workers s.core s.core = like (still s.core) (λ l. refl) refl in
+      drives (rw is (makes m s s {h' = record h { tables = h.tables ++ table ∷ [] }} serving was was (omega (arith, more)) (λ v. refl) unmoved Event.TableNew (EventReply.TableMade (Ok t))
+      (λ v. refl) (record {
+        made = (
+          number,
+          still s.core,
+          are-these s.core h.readings (readings_in h.readings s.core) (λ l load is. as-before serving.readings unmoved l load is),
+          record {
+            same_shelves = λ q. subst (λ n. SameShelf (updated n no_shelf (shelf_at h.tables) q) (shelf_at (h.tables ++ table ∷ []) q)) (sym number) (shelf-added h.tables table empty q);
+            last_is = more ∙ sym number;
+            same_walkings = λ v. refl;
+          },
+        );
+        refused = tt;
+      })
+      (record { each = λ n x is. inl is; environment = refl }) tt serving.readings))
 
   module _ (walks' : ByNumber (Walk X g)) (t : TableNumber) where
     abbrev left : Held X g
@@ -348,16 +324,14 @@ module _ {X : Type 0} {g : Ghosts X} {N S E : Type 0} (v : E → Values N) (tell
     pub entry-refused : (e : Error) (i : ℕ) → IsIn t.0 held.tables.items → i < length s.core.list → RefusesEntry (v old.environment) s i e s'
         → ((q : ℕ) → kept_at walks' q ≡ kept_at held.walks q) → Takes (Event.WorkerListed t i) (EventReply.WorkerMade (Err e)) new left
     entry-refused e i there within r same_walks =
-        record {
-          makes = refused m serving was r.stays (record { readings = λ l. refl; tables = refl; walks = same_walks }) (Event.WorkerListed t i) (EventReply.WorkerMade (Err e)) (λ q. refl)
-              (λ stays. record {
-                starts = tt;
-                refused = (
-                  elim r.why [ inl (is, past) ↦ inl (is, inr past) | inr (inl (is, entry)) ↦ inr (inl (is, there, entry)) | inr (inr is) ↦ inr (inr (is, there, within)) ],
-                  stays,
-                );
-              }) tt;
-        }
+        drives (refused m serving was r.stays (record { readings = λ l. refl; tables = refl; walks = same_walks }) (Event.WorkerListed t i) (EventReply.WorkerMade (Err e)) (λ q. refl)
+        (λ stays. record {
+          starts = tt;
+          refused = (
+            elim r.why [ inl (is, past) ↦ inl (is, inr past) | inr (inl (is, entry)) ↦ inr (inl (is, there, entry)) | inr (inr is) ↦ inr (inr (is, there, within)) ],
+            stays,
+          );
+        }) tt)
 
     module _ (n : WorkerNumber) (k : Walk X g) (table : IsIn t.0 held.tables.items) (keeps : KeepsOne (kept_at held.walks) n.0 (Some k) (kept_at walks')) where
       pub listed-started : (i : ℕ) (r : ArcRef) → StartsEntry (v old.environment) s i n r s' → IsBegun t (of_entry r.handle (identity_of r)) k
@@ -366,15 +340,17 @@ module _ {X : Type 0} {g : Ghosts X} {N S E : Type 0} (v : E → Values N) (tell
           let starts = entry.starts in
           let task : world.Task = entry_task entry.h entry.row entry.type in
           let own : IsBegun t task k = subst (λ (x : ArcRef). IsBegun t (of_entry x.handle (identity_of x)) k) entry.is begun in
-          record {
-            makes = worker-made m s s' h serving was starts.begins.whole (entry-leaves i entry.h n starts.begins.step) t task n k table starts.next own keeps (with_entry_taken s.core i entry.h n)
-                starts.begins.step (Event.WorkerListed t i) (λ q. refl)
-                (λ begins. record { starts = (entry.h, entry.row, entry.type, entry.entry, entry.kinds, begins); refused = tt }) starts.begins.moves;
-          }
+          drives (worker-made m s s' h serving was starts.begins.whole
+          (like {u = with_worker (with_entry_taken s.core i entry.h n)} starts.begins.step (λ l. refl) refl) t task n k table starts.next own keeps (with_entry_taken s.core i entry.h n)
+          starts.begins.step (Event.WorkerListed t i) (λ q. refl)
+          (λ begins. record { starts = (entry.h, entry.row, entry.type, entry.entry, entry.kinds, begins); refused = tt }) starts.begins.moves)
 
       pub item-started : (item : SerializedData) → WorkerStarts (v old.environment) s.core s n.0 s' → IsBegun t (of_item (written_of item)) k
           → Takes (Event.WorkerItem t item) (EventReply.WorkerMade (Ok n)) new left
-      item-started item starts begun = record {
-        makes = worker-made m s s' h serving was starts.begins.whole (item-leaves starts.begins.step) t (of_item (written_of item)) n k table starts.next begun keeps s.core starts.begins.step
-            (Event.WorkerItem t (written_of item)) (λ q. refl) (λ begins. record { starts = begins; refused = tt }) starts.begins.moves;
-      }
+      item-started item starts begun =
+          drives (worker-made m s s' h serving was starts.begins.whole
+          (like {u = with_worker s.core} starts.begins.step (λ l. refl) refl) t (of_item (written_of item)) n k table starts.next begun keeps s.core starts.begins.step
+          (Event.WorkerItem t (written_of item)) (λ q. refl) (λ begins. record { starts = begins; refused = tt }) starts.begins.moves)
+
+-- what is read as a value of a caller's type
+pub ruleset taking = (value-is-read, reading-is-refused, node-comes-back)

@@ -1,18 +1,17 @@
 -- What a machine keeps of loads and workers stays in step with its pager, whatever event happens: by what each call, each step and each begin and end leaves, and what it leaves to others' workers.
+use Rattle.{pagable_loads.specs.{Frames.reading_of, declared.reading.Reading.Reading as Own}, pagable_model.specs.declared.numbers.{ArcRef.ArcRef, HandleNumber.HandleNumber, LoadNumber.LoadNumber}}
 use Rattle.std.proofs.Common.{rules, ◌≡◌, ℕ, ◌+◌, ◌<◌, ◌≤◌, Bool, true, false, Option, None, Some, inl, inr, refl, ◌⊎◌, arith, [], sym, ap, ◌∙◌, ◌==◌, ◌≢◌, length, Ok, if◌then◌else◌, subst}
-use Rattle.{std.{proofs.lemmas.{Bool.{false_from_ne_true, Decides.nat_tests}, Grind.common_steps}, specs.{Option.option_map, Prelude.{Result, is_some}}}, pagable_laws.proofs.Called.calls-go}
-use Rattle.pagable_laws.proofs.{Effects.{Effect, Free, Spares, listed-free, then-fell, worker-apart}, Goes.{Goes, RowsGo, fell-anyhow, quiet-goes, stands-whole}, ReadingSteps.caller-free}
-use Rattle.pagable_laws.{proofs.{ReadingSteps.event-goes, SparingSteps.event-spares, Trees.{counted, one-true, same-number, same_some, self-number}}, specs.TreeSteps.{Change, StandsAt}}
-use Rattle.{pagable_laws.specs.TreeSteps.nothing_felt, pagable_loads.specs.{Frames.reading_of, declared.reading.Reading.Reading as Own}, pagable.specs.Driving.{Given, Answer, Drives, Over}}
-use Rattle.pagable.specs.{Driving.holding, Keeping.{AllKept, Forgets, Holding, IsKept, IsServing, KeepsOne, Kept, Makes, ReadsFor, machine_of, readings_in, work_of}, Serving.plain_event}
-use Rattle.{pagable.specs.{Serving.plain_answer, Walking.{IsWalkKept, walking_of}, declared.held.Walk.Walk}, pagable_model.specs.declared.numbers.{ArcRef.ArcRef, HandleNumber.HandleNumber}}
-use Rattle.{pagable_model.specs.declared.numbers.{LoadNumber.LoadNumber, WorkerNumber.WorkerNumber}, pagable_pager.specs.View.{Telling, state_in}, pagable_tables.proofs.Worlds.still}
-use Rattle.{pagable_walk.specs.{Turns.{HoldsPin, IsLoading, IsOfKind, TaskFits, plain}, declared.{results.Trees.Ghosts, tasks.Task.Task}}, pagable_world.specs.{Access.Called, Calls.{shut, CloseCall}}}
-use Rattle.pagable_world.specs.{Calls.is_listed, Cascade.fallen, Events.{Does, Ends, with_entry_taken, with_worker, Happens, CallStep, Stays, WorkStays, ReadingsAre}, Kinds.{is_owner, owner_worker}}
-use Rattle.pagable_world.specs.{Order.step_of, Pager.{IsWhole, OwnersAreThere, HandlesAreWhole, EventBrings, IsMachineWhole, IsReadingWhole, IsWalkingWhole, Moves, PagerState, ReplyWrites}}
-use Rattle.pagable_world.specs.{Pager.{WellFormed, world_of}, Plain.{SameAt, updated, one, times, if_there}, Workers.fresh, World.{Alike, Core, OpenLoad, Seen, Cell, World, Last, Reading, Walking}}
-use Rattle.pagable_world.specs.{World.{of_key, Values}, declared.{answers.Beginning.Beginning, calls.{Call.Call, Reply.Reply}, events.{Event.Event, EventReply.EventReply, WorkerAnswer.WorkerAnswer}}}
-use Rattle.pagable_world.specs.declared.handles.Owner.{Owner}
+use Rattle.std.{proofs.lemmas.{Bool.{false_from_ne_true, Decides.nat_tests}, Grind.common_steps}, specs.{Option.option_map, Prelude.{Result, is_some}}}
+use Rattle.pagable.specs.{Driving.{Given, Answer, Drives, Over, holding}, Keeping.{AllKept, Forgets, Holding, IsKept, IsServing, KeepsOne, Kept, Makes, ReadsFor, machine_of, readings_in, work_of}}
+use Rattle.{pagable.specs.{Serving.{plain_event, plain_answer}, Walking.{IsWalkKept, walking_of}, declared.held.Walk.Walk}, pagable_world.specs.{Access.Called, Calls.{shut, CloseCall, is_listed}}}
+use Rattle.pagable_world.specs.{Cascade.fallen, Events.{Does, Ends, Happens, CallStep, Stays, WorkStays, ReadingsAre}, Kinds.{is_owner, owner_worker}, Order.step_of}
+use Rattle.pagable_world.specs.Pager.{IsWhole, OwnersAreThere, HandlesAreWhole, EventBrings, IsMachineWhole, IsReadingWhole, IsWalkingWhole, Moves, PagerState, ReplyWrites, WellFormed, world_of}
+use Rattle.pagable_world.specs.{Plain.{SameAt, updated, one, times, if_there}, Workers.fresh, World.{Alike, Core, OpenLoad, Seen, Cell, World, Last, Reading, Walking, of_key, Values}}
+use Rattle.pagable_world.specs.declared.{answers.Beginning.Beginning, calls.{Call.Call, Reply.Reply}, events.{Event.Event, EventReply.EventReply, WorkerAnswer.WorkerAnswer}, handles.Owner.Owner}
+use Rattle.pagable_walk.specs.{Turns.{HoldsPin, IsLoading, IsOfKind, TaskFits, plain}, declared.{results.Trees.Ghosts, tasks.Task.Task}}
+use Rattle.{pagable_pager.specs.View.{Telling, state_in}, pagable_tables.proofs.Worlds.still, pagable_laws.specs.TreeSteps.{Change, StandsAt, nothing_felt}}
+use Rattle.pagable_laws.proofs.{Called.calls-go, Effects.{Effect, Free, Spares, listed-free, then-fell, worker-apart}, Goes.{Goes, RowsGo, fell-anyhow, quiet-goes, stands-whole}}
+use Rattle.pagable_laws.proofs.{ReadingSteps.{caller-free, event-goes}, SparingSteps.event-spares, Trees.{counted, one-true, same-number, same_some, self-number}}
 
 -- of loads and workers, as far as the machine sees them
 pub record Leaves (me : Owner) (works : ℕ → Bool) (w w' : Core) : Type 0 where
@@ -21,18 +20,14 @@ pub record Leaves (me : Owner) (works : ℕ → Bool) (w w' : Core) : Type 0 whe
   pub workers : SameAt works w'.workers
   pub others : (l : ℕ) (load : OpenLoad) → w.loads l ≡ Some load → l ≤ w.last.load → is_owner me load.owner ≡ false → w'.loads l ≡ Some load
 
-pub same : {me : Owner} (w : Core) → Leaves me w.workers w w
-same w = record { loads = λ l load is. inl is; last = omega arith; workers = λ v. refl; others = λ l load is few other. is }
-
--- so does what has the same of these, or is like it
-pub over : {me : Owner} {works : ℕ → Bool} {w u x : Core} → Leaves me works w u → x.loads ≡ u.loads → x.last.load ≡ u.last.load → x.workers ≡ u.workers → Leaves me works w x
-over {me} {works} {w} {u} {x} f loads last workers = first_of (grind (arith, common_steps, nat_tests), search (rules))
-
+-- by what it is like
 pub after : {me : Owner} {works : ℕ → Bool} {w u w' : Core} → Leaves me works w u → Alike u w' → Leaves me works w w'
 after {me} {works} {w} {u} {w'} f a = first_of (grind (arith, common_steps, nat_tests), search (rules))
 
-pub like : {me : Owner} {w u w' : Core} → Alike u w' → u.loads ≡ w.loads → u.last.load ≡ w.last.load → u.workers ≡ w.workers → Leaves me w.workers w w'
-like {w = w} a loads last workers = after (over (same w) loads last workers) a
+pub like : {me : Owner} {w u w' : Core} → Alike u w' → SameAt w.loads u.loads → u.last.load ≡ w.last.load → Leaves me u.workers w w'
+like a loads last =
+    let same = ap (λ (x : Last). x.load) a.last in
+    record { loads = λ l load is. inl (sym (loads l) ∙ sym (a.loads l) ∙ is); last = omega (arith, same, last); workers = a.workers; others = λ l load is few other. a.loads l ∙ loads l ∙ is }
 
 -- by what is done
 pub leaves-so : {me : Owner} {lists : Bool} {Asks Keeps : Type 0} {c : Change} {w w' : Core} → Effect me lists Asks Keeps false c w w' → Asks → Leaves me w.workers w w'
@@ -40,7 +35,7 @@ leaves-so e asks = record { loads = λ l load is. elim (e.goes.loads l load is) 
 
 -- a call of the caller's
 pub call-leaves : (w w' : Core) {N B W : Type 0} (m : Seen N B W) (call : Call N B) (reply : Reply N B) → Does m w Owner.Caller call reply w' → Leaves Owner.Caller w.workers w w'
-call-leaves w w' m Call.Close (Reply.Done r) c = let f = c.falls.falls in like {u = fallen (shut w w'.failures) f.gone f.entries} f.leaves refl refl refl
+call-leaves w w' m Call.Close (Reply.Done r) c = let f = c.falls.falls in like {u = fallen (shut w w'.failures) f.gone f.entries} f.leaves (λ l. refl) refl
 call-leaves w w' m Call.Close reply c = absurd c
 call-leaves w w' m call reply c = leaves-so (calls-go m w Owner.Caller caller-free w' call reply tt c).does tt
 
@@ -54,17 +49,6 @@ pub end-leaves : {works : ℕ → Bool} {w m w' : Core} (answer : Option WorkerA
     → Leaves (owner_worker u) (works_after answer u works) w w'
 end-leaves None u f a = after f a
 end-leaves {works} {w} {m} {w'} (Some answer) u f e = first_of (grind (arith, common_steps, nat_tests), search (rules))
-
--- its begin, and with an entry
-with-one : {me : Owner} (w : Core) → Leaves me (updated (w.last.worker + 1) true w.workers) w (with_worker w)
-with-one w = record { loads = λ l load is. inl is; last = omega arith; workers = λ v. refl; others = λ l load is few other. is }
-
-pub item-leaves : {me : Owner} {w w' : Core} → Alike (with_worker w) w' → Leaves me (updated (w.last.worker + 1) true w.workers) w w'
-item-leaves {w = w} a = after (with-one w) a
-
-pub entry-leaves : {me : Owner} {w w' : Core} (i : ℕ) (h : HandleNumber) (v : WorkerNumber) → Alike (with_worker (with_entry_taken w i h v)) w'
-    → Leaves me (updated (w.last.worker + 1) true w.workers) w w'
-entry-leaves {w = w} i h v a = after (over {x = with_worker (with_entry_taken w i h v)} (with-one w) refl refl refl) a
 
 -- the worker's handles and open loads are as they were, and handles and nodes that are there stay what they are
 pub record Passes (v : ℕ) (w w' : Core) : Type 0 where
@@ -166,10 +150,6 @@ pub are-these : (w' : Core) (kept' : Kept) (target : ℕ → Option Reading) →
     → (l : ℕ) → readings_in kept' w' l ≡ if_there (λ load. target l) None (w'.loads l)
 are-these w' kept' target same l = first_of (grind (arith, common_steps, nat_tests), search (rules))
 
-none-shown : (found : Option OpenLoad) → let r : Option Reading = None in r ≡ if_there (λ (load : OpenLoad). r) None found
-none-shown None = refl
-none-shown (Some load) = refl
-
 pub not-same : (q l : ℕ) → (q == l) ≡ false → q ≢ l
 not-same q l e is = let f : (q == l) ≡ true = ap (λ n. n == l) is ∙ self-number l in absurd (cc)
 
@@ -184,13 +164,9 @@ pub one-or-old : {Y : Type 0} {kept kept' : ℕ → Option Y} (l : ℕ) (x : Opt
 one-or-old {kept = kept} {kept'} l x k q own is = first_of (grind (arith, common_steps, nat_tests), grind (arith, nat_tests, same-number, not-same), search (rules, same-number, not-same))
 
 module _ {w : Core} {kept : Kept} (all : AllKept w kept) {me : Owner} {works : ℕ → Bool} {w' : Core} (on : Leaves me works w w') where
-  -- nothing is kept of a load that wasn't begun
-  unkept : (l : ℕ) → w.last.load < l → kept l ≡ None
-  unkept l above = first_of (grind (arith, common_steps, nat_tests), search (rules))
-
   -- an open load is read as it was
   pub as-before : (l : ℕ) (load : OpenLoad) → w'.loads l ≡ Some load → option_map reading_of (kept l) ≡ readings_in kept w l
-  as-before l load open_load = first_of (grind (arith, common_steps, nat_tests), grind (arith, nat_tests, none-shown), search (rules, none-shown))
+  as-before l load open_load = first_of (grind (arith, common_steps, nat_tests), search (rules))
 
   still-kept : (l : ℕ) (own : Own) → IsKept w l own → IsKept w' l own
   still-kept l own k =
@@ -217,12 +193,11 @@ machine-whole {X} {g} v s h formed serving =
   where
     of : (l : ℕ) (reading : Reading) (found : Option OpenLoad) → s.core.loads l ≡ found → (own : Option Own) → h.readings l ≡ own
         → if_there (λ (load : OpenLoad). option_map reading_of own) None found ≡ Some reading → IsReadingWhole s.core l reading
-    of l reading None e own f is = absurd (cc)
-    of l reading (Some load) e None f is = absurd (cc)
     of l reading (Some load) e (Some own) f is =
         let k = serving.readings l own f in
         let r = k.reads load e in
         subst (λ x. IsReadingWhole s.core l x) (same_some _ _ is) (record { number = k.number; load = load; open_load = e; owned = r.owned; typed = r.typed })
+    of l reading found e own f is = absurd (cc)
 
     of-walk : (n : ℕ) (walking : Walking) → option_map walking_of (h.walks n) ≡ Some walking → IsWalkingWhole s.core (work_of h s.core) n walking
     of-walk n walking is = let k = serving.walks n in grind (arith, nat_tests, same_some, serving.walks, k)
@@ -331,12 +306,10 @@ pub record KeepsAll {X : Type 0} {g : Ghosts X} (h h' : Holding g) : Type 0 wher
 module _ {X : Type 0} {g : Ghosts X} {N B W E : Type 0} (m : Seen N B W) {s s' : PagerState N E} {h h' : Holding g} (serving : IsServing s.core h) (was : WellFormed m.values s)
     (done : Called m.values (λ w'. Alike s.core w') s s') (keeps : KeepsAll h h') where
   on : Leaves Owner.Caller s.core.workers s.core s'.core
-  on = like done.step refl refl refl
+  on = like done.step (λ l. refl) refl
 
   stays : Stays (world_of (machine_of s h)) (world_of (machine_of s' h'))
-  stays =
-      let same_pager : Alike s.core s'.core = done.step in
-      first_of (grind (arith, common_steps, nat_tests), grind (arith, nat_tests, are-these, as-before), search (rules, are-these, as-before))
+  stays = let same_pager : Alike s.core s'.core = done.step in grind (arith, nat_tests, are-these, as-before)
 
   -- an event is refused
   pub refused : (event : Event N B W) (reply : EventReply N B W) → ((v : ℕ) → step_of v event reply ≡ [])

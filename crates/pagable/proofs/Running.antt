@@ -1,19 +1,18 @@
 -- A worker's step, and the table that it writes in its place. And a run goes on by one event more, and the headline holds of it after whatever came before.
-use Rattle.std.proofs.Common.{rules, ◌≡◌, ◌≢◌, ℕ, suc, ◌≤◌, ◌==◌, Bool, true, false, List, [], ◌∷◌, Option, Some, None, Ok, inl, inr, if◌then◌else◌, refl, sym, ap, subst, ◌∙◌, length, arith, ◌<◌}
-use Rattle.std.proofs.{Common.{◌++◌, map, zero}, Math.{ListN.set, Path.fun_ext}, lemmas.{Bool.Decides.nat_tests, Grind.common_steps, List.{get_or-set_same, get_or-set_other, length-set, append-nil}}}
-use Rattle.std.proofs.lemmas.{List.{append_assoc, map-append, nil_from_length, length-map}, Map.Made.lookup-map_values, Option.{slice_get_read, slice_get_cases, slice_get_past, slice_get-map}}
-use Rattle.std.specs.{Map.lookup, Option.option_map, Prelude.{is_none, is_some, slice_get, nat_eq}, declared.{alloc.Global.Global, sync.Arc.Arc}}
-use Rattle.{pagable_core.specs.declared.context.writing.SerializedData.SerializedData, pagable_laws.proofs.{Chains.headline_law, Effects.owned-mine, Joining.chains_join, ReadingSteps.FrontMine}}
-use Rattle.{pagable_laws.proofs.{ReadingSteps.walk-goes, Trees.same-number}, pagable.proofs.Keeping.{are-these, as-before, at-one, kept-on, makes-with, not-same, one-serves, updated-at}}
-use Rattle.pagable.{proofs.Keeping.{Leaves, leaves-so, end-leaves, works_after, Passes, event-passes}, specs.Driving.{Answer, Drives, Given, IsInStep, MachineView, Over, Runs, machine_in}}
-use Rattle.pagable.specs.{Driving.{view_of, claims_at, claims_of, holding, table_view}, Keeping.{Holding, IsServing, KeepsOne, Makes, machine_of, readings_in}, Serving.plain_moved}
-use Rattle.pagable.specs.{Serving.{plain_answer, plain_event}, Walking.{IsWalkKept, SetsTable, WalksOn, shelf_at, task_in, todo_left, walking_of}, declared.held.Walk.Walk}
-use Rattle.{pagable_model.specs.declared.numbers.WorkerNumber.WorkerNumber, pagable_pager.specs.View.{Telling, state_in}, pagable_walk.specs.{Slots.{is_same, slot_of}, Table.shelf_of, Tasks.todo_of}}
-use Rattle.pagable_walk.specs.{Tasks.todos, Turns.{LeavesFit, TaskFits, answer_in, plain, plain_took, plan, Stepped}, declared.{results.Trees.Ghosts, table.SlotTable.SlotTable, tasks.Task.Task}}
-use Rattle.{pagable_walk.specs.declared.tasks.{Turn.Turn, Waiting.Waiting}, pagable_world.specs.{Events.{Ends, Happens, WorkerSteps, no_shelf, steps_after}, Kinds.{is_owner, owner_worker}}}
-use Rattle.pagable_world.specs.{Pager.{PagerState, TodoBrings, WellFormed, world_of, MachineState}, Plain.{Blob, if_there, updated}, Runs.{Moment, AreMoments, HasRun, state_after, Does}, Workers.Site}
-use Rattle.pagable_world.specs.{Workers.{WalkDoes, answer_after, is_counted}, World.{Core, SameShelf, Seen, Shelf, Todo, Values, Written}, declared.events.{Event.Event, EventReply.EventReply}}
-use Rattle.pagable_world.specs.declared.events.{Took.Took, WorkerAnswer.WorkerAnswer, WorkerReply.WorkerReply}
+use Rattle.pagable.proofs.Keeping.{Leaves, Passes, are-these, as-before, at-one, end-leaves, event-passes, kept-on, leaves-so, makes-with, not-same, one-serves, updated-at, works_after}
+use Rattle.pagable.specs.{Driving.{Answer, Drives, Given, IsInStep, MachineView, Over, Runs, claims_at, claims_of, holding, machine_in, table_view, view_of}, Keeping.{Holding, IsServing, KeepsOne}}
+use Rattle.pagable.specs.{Keeping.{Makes, machine_of, readings_in}, Serving.{plain_answer, plain_event, plain_moved}, Walking.{IsWalkKept, SetsTable, WalksOn, shelf_at, task_in, todo_left}}
+use Rattle.{pagable.specs.{Walking.walking_of, declared.held.Walk.Walk}, pagable_core.specs.declared.context.writing.SerializedData.SerializedData, pagable_laws.proofs.Chains.headline_law}
+use Rattle.{pagable_laws.proofs.{Effects.owned-mine, ReadingSteps.{FrontMine, walk-goes}, Trees.{chains_join, same-number}}, pagable_model.specs.declared.numbers.WorkerNumber.WorkerNumber}
+use Rattle.{pagable_pager.specs.View.{Telling, state_in}, pagable_walk.specs.{Slots.{is_same, slot_of}, Table.shelf_of, Tasks.{todo_of, todos}, Turns.{Stepped, TaskFits, answer_in, plain}}}
+use Rattle.{pagable_walk.specs.{Turns.{plain_took, plan}, declared.{results.Trees.Ghosts, table.SlotTable.SlotTable, tasks.{Task.Task, Turn.Turn, Waiting.Waiting}}}, pagable_world.specs.Events.Ends}
+use Rattle.pagable_world.specs.{Events.{Happens, WorkerSteps, no_shelf, steps_after}, Kinds.{is_owner, owner_worker}, Pager.{MachineState, PagerState, TodoBrings, WellFormed, world_of}, Plain.Blob}
+use Rattle.pagable_world.specs.{Plain.{if_there, updated}, Runs.{AreMoments, Does, HasRun, Moment, state_after}, Workers.{answer_after, is_counted}, World.{Core, SameShelf, Seen, Shelf, Todo}}
+use Rattle.{pagable_world.specs.{World.{Values, Written}, declared.events.{Event.Event, EventReply.EventReply, Took.Took, WorkerAnswer.WorkerAnswer, WorkerReply.WorkerReply}}, std.proofs.Common.Bool}
+use Rattle.std.proofs.Common.{List, None, Ok, Option, Some, [], ap, arith, false, if◌then◌else◌, inl, inr, length, map, refl, rules, subst, suc, sym, true, zero, ℕ, ◌++◌, ◌<◌, ◌==◌, ◌∙◌, ◌∷◌, ◌≡◌}
+use Rattle.std.proofs.{Common.{◌≢◌, ◌≤◌}, Math.{ListN.set, Path.fun_ext}, lemmas.{Bool.Decides.nat_tests, Grind.common_steps, List.{append-nil, append_assoc, get_or-set_other, get_or-set_same}}}
+use Rattle.std.proofs.lemmas.{List.{length-map, length-set, map-append, nil_from_length}, Map.Made.lookup-map_values, Option.{slice_get-map, slice_get_cases, slice_get_past, slice_get_read}}
+use Rattle.std.specs.{Map.lookup, Option.option_map, Prelude.{is_none, is_some, nat_eq, slice_get}, declared.{alloc.Global.Global, sync.Arc.Arc}}
 
 -- ---- a table of a list is written in its place
 
@@ -37,26 +36,15 @@ module _ {X : Type 0} {g : Ghosts X} where
   left-is : (turn : Turn X g) (path : List (Waiting X g)) → todo_left (task_in turn) path ≡ plan turn path
   left-is turn path = first_of (grind (arith, nat_tests), search (rules))
 
-  either-is : (turn : Turn X g) → is_some (task_in turn) ≡ is_none (answer_in turn)
-  either-is turn = first_of (grind (arith, nat_tests), search (rules))
-
-  fits-then : (n : ℕ) (w : Core) (turn : Turn X g) (task : Task X g) → LeavesFit n w turn → task_in turn ≡ Some task → TaskFits n w task
-  fits-then n w turn task fits is = first_of (grind (arith, nat_tests), search (rules))
-
   -- the shelf of a table that is set, and of the others
   shelf-set : (tables tables' : List (SlotTable X g)) (place : ℕ) (table : SlotTable X g) (after : Shelf) → SetsTable tables place table tables' → SameShelf after (shelf_of table) → (t : ℕ)
       → SameShelf (updated (suc place) after (shelf_at tables) t) (shelf_at tables' t)
-  shelf-set tables tables' place table after sets same x7 =
-      first_of (grind (arith, common_steps, nat_tests), grind (arith, nat_tests, same-number, not-same), search (rules, same-number, not-same))
+  shelf-set tables tables' place table after sets same x7 = grind (arith, nat_tests, same-number, not-same)
 
 apart : (q n : ℕ) → q ≢ n → (q == n) ≡ false
 apart q n other = first_of (grind (arith, common_steps, nat_tests), grind (arith, nat_tests, same-number), search (rules, same-number))
 
 -- who is at work after its answer
-works-then : {X : Type 0} {g : Ghosts X} (turn : Turn X g) (n : ℕ) (works : ℕ → Bool) → works n ≡ true → works_after (answer_in turn) n works n ≡ is_none (answer_in turn)
-works-then (Turn.Goes task) n works at_work = at_work
-works-then (Turn.Answers answer) n works at_work = updated-at n false works
-
 works-others : (answer : Option WorkerAnswer) (n q : ℕ) (works : ℕ → Bool) → q ≢ n → works_after answer n works q ≡ works q
 works-others answer n q works other = grind (arith, nat_tests, same-number)
 
@@ -91,9 +79,6 @@ module _ {X : Type 0} {g : Ghosts X} {N E : Type 0} (v : Values N) (s s' : Pager
   done : Stepped v n.0 (shelf_of on.table) todo s (shelf_of on.table') on.moved (plan turn k'.path.items) s'
   done = on.steps.steps (record { me_is = refl; whole = was; task_fits = fits })
 
-  abbrev site : Site
-  site = record { core = s.core; shelf = shelf_of on.table; todo = todo }
-
   unanswered : k.answer ≡ None
   unanswered = grind (arith, nat_tests, mine)
 
@@ -101,7 +86,9 @@ module _ {X : Type 0} {g : Ghosts X} {N E : Type 0} (v : Values N) (s s' : Pager
   ends = subst (λ a. Ends a n.0 done.does.after.core s'.core) done.answers done.does.ends
 
   leaves : Leaves (owner_worker n.0) (works_after (answer_in turn) n.0 s.core.workers) s.core s'.core
-  leaves = end-leaves (answer_in turn) n.0 (leaves-so (walk-goes m n.0 site done.does.after todo step done.does.does.does).does (front-mine n.0 s.core on.task (todos k.path.items) fits)) ends
+  leaves =
+      let goes = walk-goes m n.0 (record { core = s.core; shelf = shelf_of on.table; todo = todo }) done.does.after todo step done.does.does.does in
+      end-leaves (answer_in turn) n.0 (leaves-so goes.does (front-mine n.0 s.core on.task (todos k.path.items) fits)) ends
 
   -- its list and table are those that the machine knows
   todo-is : todo_left k.task k.path.items ≡ todo
@@ -120,8 +107,7 @@ module _ {X : Type 0} {g : Ghosts X} {N E : Type 0} (v : Values N) (s s' : Pager
         after = done.does.after;
         at = ap (option_map walking_of) kept;
         at_work = unanswered;
-        does = subst (λ (shelf : Shelf). WalkDoes m n.0 (record { core = s.core; shelf = shelf; todo = todo_left k.task k.path.items }) step done.does.after) (sym shelf-is)
-            (subst (λ (list : List Todo). WalkDoes m n.0 (record { core = s.core; shelf = shelf_of on.table; todo = list }) step done.does.after) (sym todo-is) done.does.does);
+        does = rw (shelf-is, todo-is) done.does.does;
         answers = sym done.answers ∙ ap (λ list. answer_after list step) (sym todo-is);
         counts = on.after.steps ∙ ap (steps_after k.steps) (on.steps.counts ∙ ap (λ list. is_counted list step) (sym todo-is));
         ends = ends;
@@ -147,7 +133,7 @@ module _ {X : Type 0} {g : Ghosts X} {N E : Type 0} (v : Values N) (s s' : Pager
   at-work = mine.at_work ∙ ap is_none unanswered
 
   still : IsWalkKept s'.core (length tables') n.0 k'
-  still = grind (arith, nat_tests, at-work, done, either-is, fits, fits-then, leaves, left-is, mine, works-then)
+  still = grind (arith, nat_tests, at-work, done, fits, leaves, left-is, mine, updated-at)
 
   pub worker-moved : Makes m s h (Event.WorkerStep n) (EventReply.WorkerMoved (Ok (plain_moved reply))) s' after
   worker-moved =

@@ -1,10 +1,9 @@
 -- What a machine keeps of loads, tables and workers, and when it is in step with its pager; and what one event does to both.
 use Rattle.std.specs.{Option.option_map, Prelude.{ℕ, ◌≡◌, ◌≢◌, ◌≤◌, ◌⊎◌, true, List, length, Option, Some, None, is_some}}
-use Rattle.{pagable_loads.specs.{Frames.{IsLoadOf, is_cell, reading_of}, Stepping.IsSameLoad, declared.reading.Reading.Reading as Own}, pagable.specs.Walking.{IsWalkKept, shelf_at}}
-use Rattle.{pagable.specs.{Walking.walking_of, declared.{held.Walk.Walk, readings.Unread.Unread}}, pagable_model.specs.declared.{error.Error.Error, numbers.LoadNumber.LoadNumber}}
-use Rattle.{pagable_walk.specs.declared.{results.Trees.Ghosts, table.SlotTable.SlotTable}, pagable_world.specs.{Access.ReadingStep, Pager.{FitsRoot, MachineState, PagerState}, Plain.if_there}}
-use Rattle.pagable_world.specs.{Refusals.{Refused, spent}, Runs.Does, Workers.fresh, World.{Core, OpenLoad, Reading, Seen, Values, Work, one_more}, declared.events.Event.Event}
-use Rattle.pagable_world.specs.declared.{events.{EventReply.EventReply, LoadAnswer.LoadAnswer, LoadReply.LoadReply}, handles.Owner.Owner}
+use Rattle.{pagable_model.specs.declared.numbers.LoadNumber.LoadNumber, pagable_loads.specs.{Frames.{IsLoadOf, is_cell, reading_of}, Stepping.IsSameLoad, declared.reading.Reading.Reading as Own}}
+use Rattle.pagable_world.specs.{Access.ReadingStep, Pager.{FitsRoot, MachineState, PagerState}, Plain.if_there, Runs.Does, Workers.fresh, World.{Core, OpenLoad, Reading, Seen, Values, Work, one_more}}
+use Rattle.{pagable_world.specs.declared.{events.{Event.Event, EventReply.EventReply, LoadAnswer.LoadAnswer, LoadReply.LoadReply}, handles.Owner.Owner}, pagable.specs.Walking.IsWalkKept}
+use Rattle.{pagable.specs.{Walking.{shelf_at, walking_of}, declared.{held.Walk.Walk, readings.Unread.Unread}}, pagable_walk.specs.declared.{results.Trees.Ghosts, table.SlotTable.SlotTable}}
 
 -- what is kept of loads, by their numbers
 abbrev pub Kept : Type 0
@@ -92,10 +91,6 @@ pub record KeptStep {N E : Type 0} (v : Values N) (kept : Kept) (l : ℕ) (reply
 abbrev pub rest_after : {N : Type 0} → Option (LoadAnswer N) → Option Own → Option Own
 rest_after None own = own
 rest_after (Some answer) own = None
-
--- no load of a key begins, and nothing changes
-abbrev pub BeginsNoKey : Core → Error → Type 0
-BeginsNoKey w e = Refused (spent w.last.load) (spent w.last.load) (Unit {0}) w e w
 
 -- why an open load isn't read: it is of a cell of a type, or of no cell
 abbrev pub IsUnread : Option ℕ → Unread → Type 0

@@ -2,7 +2,7 @@
 
 ghost use Rattle.std.specs.{Prelude.{◌≡◌, ◌⊎◌, ◌<◌, ℕ, Ok, Err, IfErr, IfSome, IfNone, OnOk}, HashMap.spare};
 ghost use Rattle.{pagable_model.specs.declared.error.Error.Error, pagable_loads.specs.Telling.values_at};
-ghost use Rattle.{pagable_pager.specs.View.{core_in, telling}, pagable.specs.{Keeping.{BeginsNoKey, Forgets}, Driving.{Drives, IsInStep, kept_at, over}}};
+ghost use Rattle.{pagable_pager.specs.View.{core_in, telling}, pagable.specs.{Keeping.Forgets, Driving.{Drives, IsInStep, kept_at, over}}, pagable_world.specs.Refusals.{Refused, spent}};
 
 use crate::calls;
 use crate::held::Held;
@@ -53,7 +53,7 @@ where
     E::Node: NodeSet<E>,
     ensures same { (q : ℕ) → kept_at readings.new q ≡ kept_at readings.old q }
     ensures room { OnOk result (0 < spare readings.new) }
-    ensures refused { IfErr result (λ e. BeginsNoKey (core_in (telling S.stored S.is_closed S.failed) pager.now) e) }
+    ensures refused { IfErr result (λ e. let w = core_in (telling S.stored S.is_closed S.failed) pager.now in Refused (spent w.last.load) (spent w.last.load) (Unit {0}) w e w) }
 {
     if !pager.has_load_number() {
         return Err(Error::NumbersSpent);
@@ -88,23 +88,20 @@ where
         (over pager.old held.old) (Event.LoadKey key node_type) (EventReply.Started result) (over pager.new held.new) }
 {
     pager.is_whole();
-    match key_place(pager, &mut held.readings) {
-        Ok(()) => {}
-        Err(e) => return Err(e),
+    if let Err(e) = key_place(pager, &mut held.readings) {
+        return Err(e);
     }
     let begun = pager.load_key(key);
     pager.is_whole();
-    match begun_load(&begun) {
-        Some(load) => {
-            put(
-                &mut held.readings,
-                load.0,
-                Reading::new(alloc, load, key, node_type, false),
-            );
-            begun
-        }
-        None => begun,
-    }
+    let Some(load) = begun_load(&begun) else {
+        return begun;
+    };
+    put(
+        &mut held.readings,
+        load.0,
+        Reading::new(alloc, load, key, node_type, false),
+    );
+    begun
 }
 
 /// Makes the event's step, and answers what it answers.

@@ -82,6 +82,7 @@ where
 
 /// Reads a key as a value of the type T, as `read` does, and answers the value that its node holds. Refused as `read`; and where memory is
 /// wanting to take the value out, or the node holds none, with the node, whose references' handles are the caller's.
+#[tactic(auto, using(crate::proofs::Driven::taking))]
 pub fn deserialize_pagable_data<E: Env, S: PagableStorage<E>, T: OfNode<E>>(
     alloc: Global,
     pager: &mut Pager<E, S>,

@@ -1,9 +1,8 @@
 //! How far loads are, by their numbers: what the machine keeps between their steps; and the steps of loads that the caller began.
 
 ghost use Rattle.std.specs.{HashMap.spare, Prelude.{◌≡◌, ◌<◌, ℕ, Some, None, IfErr, OnOk, OnErr}};
-ghost use Rattle.{pagable_loads.specs.Telling.values_at, pagable.specs.{Driving.{kept_at, Drives, IsInStep, over}, Keeping.{IsPrepared, IsUnread, KeepsOne, rest_after, Stepped}}};
-ghost use Rattle.{pagable_model.specs.declared.error.Error.Error, pagable_pager.specs.View.{state_in, telling}, pagable_world.specs.declared.events.{Event.Event, EventReply.EventReply}};
-ghost use Rattle.pagable_world.specs.declared.handles.Owner.{Owner};
+ghost use Rattle.{pagable.specs.{Driving.{kept_at, Drives, IsInStep, over}, Keeping.{IsPrepared, IsUnread, KeepsOne, rest_after, Stepped}}, pagable_model.specs.declared.error.Error.Error};
+ghost use Rattle.{pagable_loads.specs.Telling.values_at, pagable_world.specs.declared.{events.{Event.Event, EventReply.EventReply}, handles.Owner.Owner}, pagable_pager.specs.View.{state_in, telling}};
 
 use crate::held::Held;
 use indexmap::IndexMap;
@@ -77,17 +76,15 @@ pub fn prepare(
     let Some(node_type) = cell_type else {
         return Err(Unread::Untyped);
     };
-    match reserve(readings) {
-        Ok(()) => {
-            put(
-                readings,
-                load.0,
-                Reading::new(alloc, load, key, node_type, true),
-            );
-            Ok(())
-        }
-        Err(_) => Err(Unread::NoPlace),
+    if reserve(readings).is_err() {
+        return Err(Unread::NoPlace);
     }
+    put(
+        readings,
+        load.0,
+        Reading::new(alloc, load, key, node_type, true),
+    );
+    Ok(())
 }
 
 // One step of a load over a lent pager: the borrow checker takes a lent struct where its own type is asked, and not where any access is.

@@ -1,9 +1,8 @@
 //! Tables of page-out, workers on them, and a worker's step.
 
 ghost use Rattle.std.specs.{HashMap.spare, Prelude.{◌≡◌, ◌<◌, ◌⊎◌, ℕ, Some, IfOk, IfErr, OnOk, true, false, ◌≤◌, ◌∷◌, length, is_some}};
-ghost use Rattle.{pagable_loads.specs.Telling.values_at, pagable.specs.{Driving.{Drives, IsInStep, kept_at, over}, Walking.{IsBegun, IsIn, IsPast, IsAfter, WalksOn, has_task, task_in}}};
-ghost use Rattle.{pagable.specs.Walking.todo_left, pagable_pager.specs.View.{core_in, state_in, telling}, pagable_walk.specs.{Slots.written_of, Table.shelf_of, Tasks.{IsWay, todo_of, todos}}};
-ghost use Rattle.pagable_walk.specs.Turns.{StepsTo, answer_in, plan};
+ghost use Rattle.{pagable.specs.{Driving.{Drives, IsInStep, kept_at, over}, Walking.{IsBegun, IsIn, IsPast, IsAfter, WalksOn, has_task, task_in, todo_left}}, pagable_loads.specs.Telling.values_at};
+ghost use Rattle.{pagable_pager.specs.View.{core_in, state_in, telling}, pagable_walk.specs.{Slots.written_of, Table.shelf_of, Tasks.{IsWay, todo_of, todos}, Turns.{StepsTo, answer_in, plan}}};
 ghost use Rattle.pagable_world.specs.{Kinds.{identity_of, owner_worker}, World.{of_entry, of_item}, declared.events.{Event.Event, EventReply.EventReply}};
 
 use crate::held::{Begun, Held, Walk};
@@ -15,7 +14,7 @@ use pagable_core::{PagableStorage, SerializedData};
 use pagable_loads::WorkerAccess;
 use pagable_model::{ArcRef, Error, Identity, WorkerNumber};
 use pagable_pager::{Lent, Pager};
-use pagable_walk::starting::{start_entry, start_item};
+use pagable_walk::stack::{start_entry, start_item};
 use pagable_walk::step::step;
 use pagable_walk::{Moved, SlotTable, Task, Trees, Turn, Waiting};
 use pagable_world::{TableNumber, WorkerAnswer, WorkerReply};

@@ -1,6 +1,6 @@
 -- What reading a part gives, and where a deserializer stands then.
-use Rattle.{std.proofs.Common.{◌≡◌, ℕ, List, Result, Ok, Err, refl, arith, ◌∙◌, inl, inr}, pagable_flavors.specs.Calls.Reads, pagable_model.specs.{Gives.{Gives, never}, Meaning.Meaning, Numbers.Read}}
-use Rattle.pagable_model.specs.{Reading.{Rest, bytes_of}, Standing.{Answer, Gave, MovesOn, Standing}, Track.{Track, left, GoesOn}, declared.{error.Error.Error, numbers.ArcRef.ArcRef}}
+use Rattle.{pagable_flavors.specs.Calls.Reads, pagable_model.specs.{Gives.{Gives, never}, Meaning.Meaning, Numbers.Read, Reading.{Rest, bytes_of}, Standing.{Answer, Gave, MovesOn}}}
+use Rattle.{pagable_model.specs.{Standing.Standing, Track.{GoesOn, Track, left}, declared.{error.Error.Error, numbers.ArcRef.ArcRef}}, std.proofs.Common.{List, Ok, Result, arith, refl, ℕ, ◌∙◌, ◌≡◌}}
 
 pub moves_trans : (a b c : Standing) → MovesOn a b → MovesOn b c → MovesOn a c
 moves_trans a b c g h = record { whole = h.whole ∙ g.whole; bytes = omega (arith, g.bytes, h.bytes); refs = omega (arith, g.refs, h.refs); within = λ w. h.within (g.within w) }
@@ -13,9 +13,7 @@ pub gave_is : {R : Type 0} (meaning : Meaning ArcRef) (after : R) (read : Result
 gave_is meaning after read e = record { m = meaning; is = refl; gave = e }
 
 gives_part : {X : Type 0} (at : List ℕ → Read X) (r : Result X Error) (rest : Rest Answer) (after : List ℕ) → Gives never (λ x. (x, after)) r (at rest.bytes) → Gives never (λ x. (x, record rest { bytes = after })) r (bytes_of at (λ x. x) rest)
-gives_part at (Ok x) rest after h = rw h refl
-gives_part at (Err e) rest after (inl h) = inl (rw h refl)
-gives_part at (Err e) rest after (inr h) = absurd h
+gives_part at r rest after h = grind arith
 
 -- a part of a value, by what a deserializer says of itself with another reader
 pub part_read : {X E : Type 0} (at : List ℕ → Read X) (r : Result X Error) {rest last : Rest Answer} {old new : Standing} {env env_after : E} {levels levels_after : ℕ} {given used : Track}

@@ -1,9 +1,9 @@
 -- What writing a part adds, and what has no form.
-use Rattle.std.proofs.{Common.{◌≡◌, ℕ, Bool, false, subst, ◌<◌, ◌≤◌, List, [], ◌∷◌, ◌++◌, length, arith, refl, sym, ap, ◌∙◌, append_assoc, Result, Ok, Err, inl, inr}, lemmas.List.append-nil}
-use Rattle.{std.specs.{Char.IsScalar, Int.Width, Prelude.{ℤ, IfErr}, Str.IsUtf8}, pagable_model.specs.{Basic.{longest, bool_form, char_form, text_form}, Form.{nothing-form, unsigned-form}}}
-use Rattle.pagable_model.specs.{Form.{signed-form, flag-form, letter-form, text-form, reference-form}, Gives.{Extends, memory, long_or}, Lengths.long_or_memory, Meaning.{Meaning, number, integer}}
-use Rattle.pagable_model.specs.{Numbers.{bound, IsSigned, unsigned_form, signed_form}, Refusals.is_writing_fault, Shape.{Shape, unsigned, signed}, Standing.Is, Writing.{Out, Nesting, FormAt, Writes}}
-use Rattle.pagable_model.specs.{Writing.{WritesSome, Grows, added, kind_of_arc, NoForm, Refused}, declared.{error.Error.Error, numbers.ArcRef.ArcRef}}
+use Rattle.pagable_model.specs.{Basic.{bool_form, char_form, longest, text_form}, Form.{flag-form, letter-form, nothing-form, reference-form}}
+use Rattle.pagable_model.specs.{Form.{signed-form, text-form, unsigned-form}, Gives.{Extends, long_or, memory}, Lengths.long_or_memory, Meaning.{Meaning, integer, number}, Numbers.{IsSigned, bound}}
+use Rattle.pagable_model.specs.{Numbers.{signed_form, unsigned_form}, Refusals.is_writing_fault, Shape.{Shape, signed, unsigned}, Standing.Is, Writing.{FormAt, Grows, Nesting, NoForm, Out, Refused}}
+use Rattle.{pagable_model.specs.{Writing.{Writes, WritesSome, added, kind_of_arc}, declared.{error.Error.Error, numbers.ArcRef.ArcRef}}, std.proofs.Common.{Bool, List, Result, [], ap, append_assoc}}
+use Rattle.std.{proofs.{Common.{arith, false, length, refl, sym, ℕ, ◌++◌, ◌<◌, ◌∙◌, ◌∷◌, ◌≡◌, ◌≤◌}, lemmas.List.append-nil}, specs.{Char.IsScalar, Int.Width, Prelude.{IfErr, ℤ}, Str.IsUtf8}}
 use Rattle.pagable_model.specs.Meaning as meanings
 use Rattle.pagable_model.specs.Shape as shapes
 
@@ -56,8 +56,7 @@ memory_refuses e M n s h = λ fault. let none : is_writing_fault e ≡ false = r
 
 -- want of memory says nothing of the value
 pub refused_memory : {X : Type 0} (r : Result X Error) (M : Meaning ArcRef → Type 0) (n : Nesting) (s : Shape) → IfErr r memory → IfErr r (Refused M n s)
-refused_memory (Ok x) M n s h = tt
-refused_memory (Err e) M n s h = memory_refuses e M n s h
+refused_memory r M n s h = grind (arith, memory_refuses)
 
 -- ---- texts
 
@@ -69,20 +68,13 @@ writes_text meaning x n t old bytes e is u le =
 
 -- a text that is too long has no form
 pub no_text : (n : Nesting) (t : List ℕ) → longest < length t → NoForm n shapes.text (meanings.text t)
-no_text n t lt b k f = go f refl
-  where
-    go : {m : Meaning ArcRef} {b : List ℕ} {k : List ArcRef} → FormAt n shapes.text m b k → m ≡ meanings.text t → ⊥
-    go (text-form l u v le) e = let same : u ≡ t = cc in omega (arith, ap length same)
+no_text n t lt b k (text-form l u v le) = omega (arith, lt, le)
 
 pub refused_text : {X Y : Type 0} (r : Result Y Error) (meaning : X → Meaning ArcRef) (x : X) (n : Nesting) (t : List ℕ) → meaning x ≡ meanings.text t → IfErr r (long_or_memory (length t)) → IfErr r (Refused (Is meaning x) n shapes.text)
-refused_text (Ok y) meaning x n t is h = tt
-refused_text (Err e) meaning x n t is (inl h) = λ fault. record { m = meaning x; is = refl; no_form = rw is (no_text n t h.0) }
-refused_text (Err e) meaning x n t is (inr h) = memory_refuses e (Is meaning x) n shapes.text h.1
+refused_text r meaning x n t is h = grind (arith, no_text n t, memory_refuses)
 
 pub only_long : {Y : Type 0} (r : Result Y Error) (len : ℕ) → IfErr r (long_or_memory len) → IfErr r (long_or memory)
-only_long (Ok y) len h = tt
-only_long (Err e) len (inl h) = inl h.1
-only_long (Err e) len (inr h) = inr h.1
+only_long r len h = grind arith
 
 pub ruleset parts = (grows_bytes, grows_refl, grows_trans, grows_some, writes_is, writes_unsigned, writes_signed, writes_flag, writes_letter, writes_text, refused_memory, refused_text, only_long)
 

@@ -1,16 +1,12 @@
 -- Adding a blob to what is stored, and how many blobs a map holds.
-use Rattle.std.proofs.{Common.{◌≡◌, ◌∙◌, ℕ, Bool, true, false, cond, Option, Some, None, refl, sym, ap, inl, inr, arith}, lemmas.Bool.{eqb-true, Decides.{Decides-eqb, nat_tests}}}
+use Rattle.std.proofs.{Common.{◌≡◌, ◌∙◌, ℕ, Bool, false, cond, Option, Some, None, sym, inl, inr, arith}, lemmas.Bool.{eqb-true, Decides.{Decides-eqb, nat_tests}}}
 use Rattle.std.{proofs.lemmas.Map.{Entries.length-keys_of, Made.AllPairs-from_IsDistinct, Views.{IsSome-lookup_from_Contains, Contains-keys_from_lookup}}, specs.{Arc.arc_value, Cmp.nat_eq_equiv}}
 use Rattle.std.specs.{Global.Global, HashMap.{IsUnique, get, hash_map_len}, Map.keys_of, Prelude.{◌==◌, ◌↔◌, ◌≢◌, IsSome, IsTrue, nat_eq, option_map, if◌then◌else◌}, declared.sync.Arc.Arc}
 use Rattle.{pagable_core.specs.{Data.{Blobs, blob_of, stored_in}, declared.storage.data.PagableData.PagableData}, pagable_model.specs.{Blob.Blob, Stored.{Adds, IsCount}}}
 
 -- a blob that stands there already adds nothing
 pub adds_nothing : (stored : ℕ → Option Blob) (key : ℕ) (blob : Blob) → stored key ≡ Some blob → Adds key blob stored stored
-adds_nothing stored key blob h = record { each = λ q. go q (q == key) refl; free = inr h }
-  where
-    go : (q : ℕ) (b : Bool) → (q == key) ≡ b → stored q ≡ (if b then Some blob else stored q)
-    go q true e = ap stored (eqb-true q key e) ∙ h
-    go q false e = refl
+adds_nothing stored key blob h = record { each = λ q. grind (arith, nat_tests, eqb-true); free = inr h }
 
 pub adds_one : (old new : ℕ → Option Blob) (key : ℕ) (blob : Blob) → old key ≡ None → ((q : ℕ) → new q ≡ (if q == key then Some blob else old q)) → Adds key blob old new
 adds_one old new key blob h each = record { each = each; free = inl h }
@@ -22,16 +18,11 @@ taken stored key other blob same e means differs = (other, sym e, λ is. let yes
 -- what stands under each key after an insertion
 pub stored_more : (m n : Blobs) (key : ℕ) (v : Arc PagableData Global) (blob : Blob) → ((q : ℕ) → get nat_eq n q ≡ cond (nat_eq key q) (Some v) (get nat_eq m q)) → blob_of (arc_value v) ≡ blob
     → (q : ℕ) → stored_in n q ≡ (if q == key then Some blob else stored_in m q)
-stored_more m n key v blob each is q = ap (option_map (λ (d : Arc PagableData Global). blob_of (arc_value d))) (each q) ∙ go (nat_eq key q) refl
-  where
-    go : (b : Bool) → nat_eq key q ≡ b → option_map (λ (d : Arc PagableData Global). blob_of (arc_value d)) (cond b (Some v) (get nat_eq m q)) ≡ (if q == key then Some blob else stored_in m q)
-    go true e = let same : (q == key) ≡ true = grind (arith, nat_tests) in rw same (ap (λ (x : Blob). Some x) is)
-    go false e = let other : (q == key) ≡ false = grind (arith, nat_tests) in rw other refl
+stored_more m n key v blob each is q = let here = each q in grind (arith, nat_tests)
 
 -- what a function makes of a value is there exactly if the value is
 some-mapped : {A B : Type 0} (f : A → B) (o : Option A) → IsSome (option_map f o) ↔ IsSome o
-some-mapped f None = (λ h. h, λ h. h)
-some-mapped f (Some x) = (λ h. refl, λ h. refl)
+some-mapped f x0 = grind arith
 
 pub counts : (m : Blobs) (count : ℕ) → count ≡ hash_map_len m → IsUnique nat_eq m → IsCount (stored_in m) count
 counts m count many unique = record {

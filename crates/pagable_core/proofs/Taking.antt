@@ -16,26 +16,12 @@ module _ (answer : ℕ → ℕ → ℕ → Result ArcRef Error) where
   some_from : (place at key : ℕ) (keys : List ℕ) → slice_get keys at ≡ Some key
       → drop at (answers_from answer place keys) ≡ (λ kind. answer (place + at) key kind) ∷ drop (at + 1) (answers_from answer place keys)
   some_from place at key [] h = absurd cc
-  some_from place zero key (first ∷ keys) h =
-      let same : first ≡ key = cc in
-      let none : place + 0 ≡ place = omega arith in
-      rw (same, none) refl
-  some_from place (suc at) key (first ∷ keys) h =
-      let more : place + suc at ≡ place + 1 + at = omega arith in
-      let next : suc at + 1 ≡ suc (at + 1) = omega arith in
-      rw (more, next) (some_from (place + 1) at key keys h)
+  some_from place zero key (first ∷ keys) h = grind arith
+  some_from place (suc at) key (first ∷ keys) h = grind (arith, some_from (place + 1) at key keys h)
 
   -- no key is left
   pub none_left : (kind at : ℕ) (keys : List ℕ) (rest : Rest Answer) → length keys ≤ at → reference_at answer_at kind (drop at (answers_from answer 0 keys)) rest ≡ Err errors.NoMoreKeys
   none_left kind at keys rest h = rw (none_from 0 at keys h) refl
-
-  -- the next key is answered
-  pub some_left : (kind at key : ℕ) (keys : List ℕ) (rest : Rest Answer) → slice_get keys at ≡ Some key
-      → reference_at answer_at kind (drop at (answers_from answer 0 keys)) rest ≡ (answer at key kind >>= λ r. Ok (meanings.reference r, record rest { refs = drop (at + 1) (answers_from answer 0 keys) }))
-  some_left kind at key keys rest h =
-      let none : 0 + at ≡ at = omega arith in
-      let e : drop at (answers_from answer 0 keys) ≡ (λ k. answer at key k) ∷ drop (at + 1) (answers_from answer 0 keys) = rw none at (some_from 0 at key keys h) in
-      rw e refl
 
 -- of no key, none is used; of a key that was taken, that one, whatever was answered
 pub used_of_none : (answer : ℕ → ℕ → ℕ → Result ArcRef Error) (old new reader : Track) → new ≡ old → length old.all ≤ old.position
@@ -49,26 +35,20 @@ gives_answer (Err x) read after e = inl e
 
 -- what taking a key answers, and where that leads
 module _ (before after : ℕ → ℕ → ℕ → Result ArcRef Error) (old new reader : Track) (key : ℕ) (same : after ≡ before) (found : slice_get old.all old.position ≡ Some key) (moved : new ≡ record old { position = old.position + 1 }) where
+  from : drop old.position (answers_from before 0 old.all) ≡ (λ kind. before old.position key kind) ∷ drop (old.position + 1) (answers_from before 0 old.all)
+  from = let none : 0 + old.position ≡ old.position = omega arith in rw none at (some_from before 0 old.position key old.all found)
+
   pub took : (kind place : ℕ) (r : Result ArcRef Error) → place ≡ old.position → r ≡ before place key kind
       → Gives never (λ x. (meanings.reference x, rest_at (standing_of after new reader))) r (reference_at answer_at kind (rest_at (standing_of before old reader)).refs (rest_at (standing_of before old reader)))
   took kind place r at is =
-      let read = some_left before kind old.position key old.all (rest_at (standing_of before old reader)) found in
       let answered : r ≡ before old.position key kind = rw (← at) is in
-      rw (same, moved) (gives_answer r _ _ (rw answered read))
+      rw (same, moved) (gives_answer r _ _ (rw (from, answered) refl))
 
   pub took_one : rest_at (standing_of after new reader) ≡ record (rest_at (standing_of before old reader)) { refs = drop 1 (rest_at (standing_of before old reader)).refs }
-  took_one =
-      let none : 0 + old.position ≡ old.position = omega arith in
-      let from = some_from before 0 old.position key old.all found in
-      rw (same, moved, from) refl
+  took_one = rw (same, moved, from) refl
 
   pub took_moves : old.position < length old.all → MovesOn (standing_of before old reader) (standing_of after new reader)
-  took_moves h = rw (same, moved) (record {
-    whole = refl;
-    bytes = omega arith;
-    refs = omega arith;
-    within = λ w. record { bytes = w.bytes; refs = omega (arith, length-answers before 0 old.all) };
-  })
+  took_moves h = grind (arith, length-answers)
 
 -- a place within the keys is a place within the answers
 pub within_answers : (answer : ℕ → ℕ → ℕ → Result ArcRef Error) (keys reader : Track) (bytes at : ℕ) → bytes ≤ length reader.all → at ≤ length keys.all → IsWithin (standing_of answer keys reader).whole (record { byte_pos = bytes; arc_index = at })

@@ -1,5 +1,5 @@
 -- Weighing one more byte, and what the preimage of a blob is made of.
-use Rattle.std.proofs.Common.{◌≡◌, ℕ, suc, ◌+◌, ◌*◌, ◌/◌, ◌%◌, ◌^◌, ◌<◌, List, [], ◌∷◌, ◌++◌, length, take, get_or, arith, refl, sym, ap, ◌∙◌, add_assoc, append_assoc, length-append}
+use Rattle.std.proofs.Common.{◌≡◌, ℕ, ◌+◌, ◌*◌, ◌/◌, ◌%◌, ◌^◌, ◌<◌, List, [], ◌∷◌, ◌++◌, length, take, get_or, arith, refl, sym, ap, ◌∙◌, append_assoc, length-append}
 use Rattle.std.{proofs.{Math.Nat.{add-mod-mod, mod-add-mod, add-mul-mod_self_left, mod-add-div}, lemmas.{Grind.flat_map-append, List.{take_more, append-nil, take_all}}}, specs.Int.{w64, w128}}
 use Rattle.{std.specs.{Int.to_le_bytes, List.flat_map}, pagable_core.specs.{Data.IsWeighed, declared.storage.weigh.WeighHash.WeighHash}, pagable_model.specs.Blob.{weight, preimage}}
 
@@ -15,10 +15,8 @@ mod-step m w p b = rw (mod-mul-mod m p b) (mod-add-mod w m ((p * b) % m) ∙ add
 
 pub weight-more : (i b : ℕ) (bs : List ℕ) → weight i (bs ++ b ∷ []) ≡ weight i bs + (i + length bs) * b
 unfolding weight
-weight-more i b [] = let e : i + 0 ≡ i = omega arith in rw e (omega arith)
-weight-more i b (c ∷ bs) =
-    let e : i + 1 + length bs ≡ i + suc (length bs) = omega arith in
-    rw (weight-more (i + 1) b bs, e) (sym (add_assoc (i * c) (weight (i + 1) bs) ((i + suc (length bs)) * b)))
+weight-more i b [] = grind arith
+weight-more i b (c ∷ bs) = grind (arith, weight-more (i + 1) b bs)
 
 pub is_weighed_none : IsWeighed (record { place = 1; sum = 0 }) []
 unfolding weight
@@ -26,17 +24,12 @@ is_weighed_none = record { place = refl; sum = refl }
 
 -- one more byte
 pub is_weighed_more : (old new : WeighHash) (came : List ℕ) (b : ℕ) → IsWeighed old came → new.sum ≡ (old.sum + (old.place * b) % 2 ^ 128) % 2 ^ 128 → new.place ≡ (old.place + 1) % 2 ^ 128 → IsWeighed new (came ++ b ∷ [])
-is_weighed_more old new came b h sum place = record {
-  place = place ∙ ap (λ (p : ℕ). (p + 1) % 2 ^ 128) h.place ∙ mod-add-mod (length came + 1) (2 ^ 128) 1 ∙ ap (λ (n : ℕ). (n + 1) % 2 ^ 128) (longer came);
-  sum = sum ∙ ap (λ (p : ℕ). (old.sum + (p * b) % 2 ^ 128) % 2 ^ 128) h.place ∙ ap (λ (s : ℕ). (s + ((length came + 1) % 2 ^ 128 * b) % 2 ^ 128) % 2 ^ 128) h.sum
-      ∙ mod-step (2 ^ 128) (weight 1 came) (length came + 1) b ∙ ap (λ (w : ℕ). w % 2 ^ 128) (sym (weight-more 1 b came ∙ ap (λ (n : ℕ). weight 1 came + n * b) (one_more came)));
-}
-  where
-    longer : (xs : List ℕ) → length xs + 1 ≡ length (xs ++ b ∷ [])
-    longer xs = omega (arith, length-append xs (b ∷ []))
-
-    one_more : (xs : List ℕ) → 1 + length xs ≡ length xs + 1
-    one_more xs = omega arith
+is_weighed_more old new came b h sum place =
+    let next : 1 + length came ≡ length came + 1 = omega arith in
+    record {
+      place = rw (place, h.place, mod-add-mod (length came + 1) (2 ^ 128) 1, length-append came (b ∷ [])) refl;
+      sum = rw (sum, h.place, h.sum, mod-step (2 ^ 128) (weight 1 came) (length came + 1) b, weight-more 1 b came, next) refl;
+    }
 
 -- a run of bytes, one after another
 pub take_next : (bytes : List ℕ) (i b : ℕ) (front : List ℕ) → i < length bytes → b ≡ get_or bytes i 0 → front ++ take (i + 1) bytes ≡ (front ++ take i bytes) ++ b ∷ []

@@ -1,8 +1,7 @@
 -- What a serializer and a deserializer over memory stand for.
-use Rattle.std.{specs.Global.Global, specs.Prelude.{◌≡◌, refl, ℕ, ◌+◌, List, [], ◌∷◌, Result, Err, Vec, true}, proofs.Common.{arith, ap}}
-use Rattle.pagable_model.specs.{Reading.Rest, Standing.{Answer, Standing, MovesOn}, Track.{Track, GoesOn}, Writing.Out, declared.{error.Error.Error, numbers.ArcRef.ArcRef}}
-use Rattle.pagable_model.specs.Refusals.{may_refuse_reference}
-use Rattle.pagable_core.specs.declared.context.{reading.PagableDeserializerImpl.PagableDeserializerImpl, writing.{SerializedData.SerializedData, SerializerOver.SerializerOver}}
+use Rattle.std.{proofs.Common.{arith, ap}, specs.{Global.Global, Prelude.{◌≡◌, ℕ, ◌+◌, List, [], ◌∷◌, Result, Err, Vec, true}}}
+use Rattle.{pagable_core.specs.declared.context.writing.{SerializedData.SerializedData, SerializerOver.SerializerOver}, pagable_model.specs.Reading.Rest}
+use Rattle.pagable_model.specs.{Refusals.may_refuse_reference, Standing.{Answer, Standing, MovesOn}, Track.{Track, GoesOn}, Writing.Out, declared.{error.Error.Error, numbers.ArcRef.ArcRef}}
 
 -- nothing was written
 abbrev pub nothing : Out
@@ -41,13 +40,9 @@ moves_of answer keys old new g = record {
 abbrev pub pair_out : Vec ℕ Global × Vec ArcRef Global → Out
 pair_out p = record { bytes = p.0.items; refs = p.1.items }
 
--- what the fields of serializers and deserializers stand for
+-- what the fields of a serializer stand for
 abbrev pub written : {E S : Type 0} → SerializerOver E S → Out
 written s = record { bytes = s.writer; refs = s.arcs.items }
 
-abbrev pub references_of : {B R : Type 0} → PagableDeserializerImpl B R → R
-references_of s = s.references
-
 pub wrong_kind_may_refuse : (e : Error) → (let r : Result ArcRef Error = Err Error.WrongKind in r) ≡ Err e → may_refuse_reference e ≡ true
-wrong_kind_may_refuse e is =
-    let same : Error.WrongKind ≡ e = cc in rw (← same) refl
+wrong_kind_may_refuse e is = grind arith

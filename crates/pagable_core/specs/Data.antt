@@ -1,8 +1,7 @@
 -- Blobs as the code keeps them, and what the hashes have taken.
-use Rattle.std.specs.{Arc.arc_value, Global.Global, HashMap.{HashMap, get}, Prelude.{◌≡◌, ◌%◌, ◌^◌, ◌+◌, List, ℕ, length, take, Option, option_map, nat_eq}}
+use Rattle.std.specs.{Arc.arc_value, Global.Global, HashMap.{HashMap, get}, Prelude.{◌≡◌, ◌%◌, ◌^◌, ◌+◌, List, ℕ, length, Option, option_map, nat_eq}}
 use Rattle.std.specs.declared.{hash.{BuildHasherDefault.BuildHasherDefault, FoldHasher.FoldHasher}, sync.Arc.Arc}
-use Rattle.{pagable_core.specs.declared.storage.{data.PagableData.PagableData, sha256.Sha256Key.Sha256Key, weigh.WeighHash.WeighHash}, pagable_model.specs.Blob.{Blob, weight}}
-use Rattle.sha2.specs.{Hashers.Holds256, Sha256.sha256}
+use Rattle.{pagable_core.specs.declared.storage.{data.PagableData.PagableData, weigh.WeighHash.WeighHash}, pagable_model.specs.Blob.{Blob, weight}}
 
 -- the blob without where it lies in memory
 abbrev pub blob_of : PagableData → Blob
@@ -19,11 +18,3 @@ stored_in m key = option_map (λ d. blob_of (arc_value d)) (get nat_eq m key)
 pub record IsWeighed (h : WeighHash) (came : List ℕ) : Type 0 where
   pub place : h.place ≡ (length came + 1) % 2 ^ 128
   pub sum : h.sum ≡ weight 1 came % 2 ^ 128
-
--- the first 16 bytes of the SHA-256 of bytes
-abbrev pub sha256_key : List ℕ → List ℕ
-sha256_key bytes = take 16 (sha256 bytes)
-
--- these bytes have come to the hash
-abbrev pub IsHashed : Sha256Key → List ℕ → Type 0
-IsHashed h came = Holds256 h.hasher came

@@ -5,13 +5,12 @@
 pub mod context;
 pub mod storage;
 
-pub use context::{
-    NoReferences, PagableDeserializerImpl, PagableKeys, PagableSerializerImpl, References,
-    SerializedData,
-};
+pub use context::keys::PagableKeys;
+pub use context::reading::PagableDeserializerImpl;
+pub use context::references::{NoReferences, References};
+pub use context::writing::{PagableSerializerImpl, SerializedData, SerializerForPaging};
 pub use storage::data::PagableData;
 pub use storage::in_memory::InMemoryBlobs;
 pub use storage::sha256::Sha256Key;
-pub use storage::support::SerializerForPaging;
 pub use storage::traits::PagableStorage;
 pub use storage::weigh::WeighHash;

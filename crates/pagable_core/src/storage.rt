@@ -5,8 +5,3 @@ pub mod in_memory;
 pub mod sha256;
 pub mod traits;
 pub mod weigh;
-
-/// The serializer of page-out.
-pub mod support {
-    pub use crate::context::SerializerForPaging;
-}

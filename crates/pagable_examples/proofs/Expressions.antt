@@ -1,14 +1,10 @@
 -- Expressions: a number, or two expressions one level further down.
-use Rattle.std.{proofs.Common.{◌≡◌, ℕ, ◌+◌, ◌-◌, ◌<◌, Bool, true, false, [], refl, Result, Ok, Err, inr}, specs.{Int.w64, Result.IsErrAnd}}
-use Rattle.pagable.proofs.{Joined.{no-failure, no-success}, Parts.{refused_second, refuses_first, refuses_whole, writes_pair, writes_whole}}
-use Rattle.pagable.specs.{ArcRef.ArcRef, Basic.{bool_at, bool_form}, Error.Error, Form.{ok-form, err-form}, Gives.{memory, deep_or}, Lifted.MeansPair, Meaning.{Meaning, number, pair, success}}
-use Rattle.pagable.specs.{Meaning.failure, Reading.{Context, Gets, Rest, bytes_of, deepest, read, read_with}, Shape.{both, nested, unsigned}, Standing.{Answer, GivesSome, Gave, Is, handles_at}}
-use Rattle.pagable.specs.Writing.{Out, WritesSome, added, nesting}
-use Rattle.pagable_model.specs.Steps.{◌>>=◌}
-use Rattle.pagable_traits.{proofs.JsonSteps.{below, wrote-below, wrote-nothing, wrote-then, wrote-then-err}, specs.JsonSteps.{Piece, Wrote, bytes}}
-use Rattle.pagable_codec.specs.{declared.env.Env.Ghosts as Environments, declared.serializer.PagableSerializer.Ghosts as Serializers}
-use Rattle.pagable_examples.proofs.Levels.{refused-down, writes-down}
-use Rattle.pagable_examples.specs.{declared.expression.Expression.{Expression, Number}, Expressions.{expression, node, nodes, of_expression, written, IsSum}}
+use Rattle.pagable.{proofs.Parts.{no-failure, no-success, refused_second, refuses_first, refuses_whole, writes_pair, writes_whole}, specs.{ArcRef.ArcRef, Basic.bool_form, Error.Error, Form.err-form}}
+use Rattle.pagable.specs.{Form.ok-form, Gives.{deep_or, memory}, Lifted.MeansPair, Meaning.{Meaning, failure, number, pair, success}, Reading.deepest, Shape.{both, nested, unsigned}, Standing.Is}
+use Rattle.{pagable.specs.Writing.nesting, pagable_codec.specs.declared.{env.Env.Ghosts as Environments, serializer.PagableSerializer.Ghosts as Serializers}}
+use Rattle.pagable_examples.{proofs.Levels.{refused-down, writes-down}, specs.{Expressions.{expression, node, nodes, of_expression, written}, declared.expression.Expression.{Expression, Number}}}
+use Rattle.{pagable_traits.{proofs.JsonSteps.{wrote-below, wrote-nothing, wrote-then, wrote-then-err}, specs.JsonSteps.{Piece, Wrote, bytes}}, std.proofs.Common.{Err, Ok, Result, false, inr, refl}}
+use Rattle.std.{proofs.Common.{true, ℕ, ◌+◌, ◌-◌, ◌<◌, ◌≡◌}, specs.{Int.w64, Result.IsErrAnd}}
 
 -- ---- writing
 
@@ -58,49 +54,3 @@ module _ {S E N H K V : Type 0} (env : Environments E N H K V) (s : Serializers 
         (λ n old mid new e v. writes_whole (nesting n.levels nodes) (nesting n.levels nodes) failure (both (nested 0) (nested 0)) node (two x y) (Is of_expression value) sum-means (bool_form false) old mid new
         (λ m b k form. err-form _ _ _ m b k form) e v)
         (λ n e l h. unwritten n.levels e l) (λ e h. h)
-
--- ---- reading
-
--- what stands behind the flag, and behind the first of two
-abbrev pub part : Bool → Context Answer ArcRef → Gets Answer (Meaning ArcRef)
-part true c rest = read c (unsigned w64) rest >>= λ m. Ok (success m.0, m.1)
-part false c rest = read c (both (nested 0) (nested 0)) rest >>= λ m. Ok (failure m.0, m.1)
-
-abbrev pub second : Meaning ArcRef → Context Answer ArcRef → Gets Answer (Meaning ArcRef)
-second m c rest =
-    let two_read : Result ((Meaning ArcRef × Meaning ArcRef) × Rest Answer) Error = read c (nested 0) rest >>= λ n. Ok ((m, n.0), n.1) in
-    let paired : Result (Meaning ArcRef × Rest Answer) Error = two_read >>= λ p. Ok (pair p.0.0 p.0.1, p.1) in
-    paired >>= λ p. Ok (failure p.0, p.1)
-
-module _ (levels : ℕ) (rest : Rest Answer) where
-  pub flag_refused : (e : Error) → bytes_of bool_at (λ b. b) rest ≡ Err e → read (handles_at levels nodes) node rest ≡ Err e
-  unfolding read read_with
-  flag_refused e h = rw h refl
-
-  pub flag_read : (flag : Bool) (mid : Rest Answer) → bytes_of bool_at (λ b. b) rest ≡ Ok (flag, mid) → read (handles_at levels nodes) node rest ≡ part flag (handles_at levels nodes) mid
-  unfolding read read_with
-  flag_read true mid h = rw h refl
-  flag_read false mid h = rw h refl
-
-  pub number_refused : (e : Error) → read (handles_at levels nodes) (unsigned w64) rest ≡ Err e → part true (handles_at levels nodes) rest ≡ Err e
-  number_refused e h = rw h refl
-
-  pub gave_number : (x : ℕ) (after : Rest Answer) → Gave (Is number x) after (read (handles_at levels nodes) (unsigned w64) rest) → Gave (Is of_expression (Number x)) after (part true (handles_at levels nodes) rest)
-  gave_number x after g = record { m = success g.m; is = rw g.is refl; gave = rw g.gave refl }
-
-  pub first_refused : (e : Error) → read (handles_at levels nodes) (nested 0) rest ≡ Err e → part false (handles_at levels nodes) rest ≡ Err e
-  unfolding read read_with
-  first_refused e h = rw h refl
-
-  pub first_read : (m : Meaning ArcRef) (mid : Rest Answer) → read (handles_at levels nodes) (nested 0) rest ≡ Ok (m, mid) → part false (handles_at levels nodes) rest ≡ second m (handles_at levels nodes) mid
-  unfolding read read_with
-  first_read m mid h = rw h refl
-
-  pub second_refused : (m : Meaning ArcRef) (e : Error) → read (handles_at levels nodes) (nested 0) rest ≡ Err e → second m (handles_at levels nodes) rest ≡ Err e
-  second_refused m e h = rw h refl
-
-  -- the sum of what was read, or no memory for it
-  pub sum_gives : (x y : Expression) (m : Meaning ArcRef) (r : Result Expression Error) (last : Rest Answer) → m ≡ of_expression x → Gave (Is of_expression y) last (read (handles_at levels nodes) (nested 0) rest)
-      → IsSum x y r → GivesSome memory (Is of_expression) last r (second m (handles_at levels nodes) rest)
-  sum_gives x y m (Ok sum) last same g is = record { m = failure (pair m g.m); is = rw (g.is, same, is) refl; gave = rw g.gave refl }
-  sum_gives x y m (Err e) last same g is = inr is

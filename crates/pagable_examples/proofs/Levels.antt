@@ -1,26 +1,21 @@
 -- A part one level further down, in any environment: what writing and reading it on the deeper level says of it.
-use Rattle.std.{proofs.Common.{◌≡◌, ℕ, suc, ◌+◌, ◌-◌, ◌<◌, ◌≤◌, arith, refl, Result, Ok, Err}, specs.Prelude.IfErr}
-use Rattle.pagable.specs.{ArcRef.ArcRef, Error.Error, Form.nested-form, Meaning.Meaning, Reading.{Rest, deepest, read, read_with, below}, Shape.{Shape, nested}, Standing.Answer}
-use Rattle.pagable.specs.{Standing.handles_at, Writing.{Out, nesting, WritesSome, NoForm, Refused}}
+use Rattle.pagable.specs.{ArcRef.ArcRef, Error.Error, Form.nested-form, Meaning.Meaning, Reading.{Rest, deepest, read, read_with, below}, Shape.{Shape, nested}, Standing.{Answer, handles_at}}
+use Rattle.{pagable.specs.Writing.{Out, nesting, WritesSome, NoForm, Refused}, std.{proofs.Common.{◌≡◌, ℕ, suc, ◌+◌, ◌-◌, ◌<◌, ◌≤◌, arith, refl, Result, Err}, specs.Prelude.IfErr}}
+use Rattle.pagable.proofs.Reading.{moves_refl, moves_trans}
 use Rattle.pagable.specs.Error.TheVariants as errors
 
 module _ (parts : ℕ → Shape) (part : ℕ) where
   pub writes-down : (M : Meaning ArcRef → Type 0) (levels : ℕ) (old new : Out) → levels < deepest → WritesSome M (nesting (levels + 1) parts) (parts part) old new → WritesSome M (nesting levels parts) (nested part) old new
-  writes-down M levels old new lt w =
-      let one : deepest - levels ≡ suc (deepest - (levels + 1)) = omega arith in
-      record { m = w.m; is = w.is; wrote = record { bytes = w.wrote.bytes; refs = w.wrote.refs; form = nested-form _ (deepest - (levels + 1)) part w.m w.wrote.bytes w.wrote.refs one w.wrote.form; grown = w.wrote.grown } }
+  writes-down M levels old new lt w = grind (arith, nested-form)
 
   no-down : (levels : ℕ) (m : Meaning ArcRef) → levels < deepest → NoForm (nesting (levels + 1) parts) (parts part) m → NoForm (nesting levels parts) (nested part) m
-  no-down levels m lt none b k (nested-form left less n m' b' k' e f) =
-      let same : less ≡ deepest - (levels + 1) = omega arith in
-      none b' k' (rw (← same) f)
+  no-down levels m lt none b k (nested-form left less n m' b' k' e f) = grind (arith, none b' k')
 
   no-deep : (levels : ℕ) (m : Meaning ArcRef) → deepest ≤ levels → NoForm (nesting levels parts) (nested part) m
   no-deep levels m le b k (nested-form left less n m' b' k' e f) = absurd (omega arith)
 
   pub refused-down : {X : Type 0} (r : Result X Error) (M : Meaning ArcRef → Type 0) (levels : ℕ) → levels < deepest → IfErr r (Refused M (nesting (levels + 1) parts) (parts part)) → IfErr r (Refused M (nesting levels parts) (nested part))
-  refused-down (Ok x) M levels lt h = tt
-  refused-down (Err e) M levels lt h = λ fault. let no = h fault in record { m = no.m; is = no.is; no_form = no-down levels no.m lt no.no_form }
+  refused-down x0 M levels lt h = grind (arith, no-down)
 
   pub refused-deep : (e : Error) (M : Meaning ArcRef → Type 0) (m : Meaning ArcRef) (levels : ℕ) → M m → deepest ≤ levels → Refused M (nesting levels parts) (nested part) e
   refused-deep e M m levels is le = λ fault. record { m = m; is = is; no_form = no-deep levels m le }
@@ -32,3 +27,5 @@ module _ (parts : ℕ → Shape) (part : ℕ) where
   pub reads-down : (levels : ℕ) (rest : Rest Answer) → levels < deepest → read (handles_at levels parts) (nested part) rest ≡ read (handles_at (levels + 1) parts) (parts part) rest
   unfolding read read_with below
   reads-down levels rest lt = let one : deepest - levels ≡ suc (deepest - (levels + 1)) = omega arith in rw one refl
+
+pub ruleset reading = (reads-deep, reads-down, moves_refl, moves_trans)

@@ -1,8 +1,6 @@
 -- What writing a link or a bundle lists, and why reading a bundle is refused.
-use Rattle.std.{proofs.Common.{◌≡◌, ◌⊎◌, ◌++◌, inl, inr, ℕ, Result}, specs.Prelude.OnOk}
-use Rattle.pagable_examples.specs.Linked.{bundle_in_order, bundle_means, bundle_shape, bundle_single, chain_means, chain_single, no_parts, one_in_order}
-use Rattle.pagable_examples.specs.{declared.linked.bundle.Bundle.Bundle, declared.linked.chain.Chain.Chain}
-use Rattle.pagable_traits.proofs.Listed.{written_listed}
+use Rattle.{pagable_traits.proofs.Listed.written_listed, pagable_examples.specs.Linked.{bundle_in_order, bundle_means, bundle_shape, bundle_single, chain_means, chain_single, no_parts, one_in_order}}
+use Rattle.{pagable_examples.specs.declared.linked.{bundle.Bundle.Bundle, chain.Chain.Chain}, std.{specs.Prelude.OnOk, proofs.Common.{◌≡◌, ◌⊎◌, ◌++◌, inl, inr, ℕ, Result}}}
 use Rattle.pagable_model.specs.{References.references_in, Shape.{optional, reference}, Writing.{Out, WritesSome, nesting}, declared.error.Error.Error}
 
 pub chain_listed : {X : Type 0} (kind : ℕ) (r : Result X Error) (v : Chain kind) (levels : ℕ) (old new : Out)

@@ -1,16 +1,10 @@
 -- The refusals of a storage that fails once.
-use Rattle.std.{proofs.Common.{◌≡◌, ◌+◌, ◌-◌, ◌^◌, ◌<◌, ◌≤◌, ℕ, Bool, true, false, min, arith, rules, Option, Result, Err, inl, inr}, proofs.lemmas.Bool.cases_lt, specs.Prelude.{IfErr, ◌⊎◌}}
-use Rattle.pagable_model.specs.{Blob.Blob, Stored.{HasFailed, RefusesFetch, RefusesStore, RefusesFlush}, declared.error.Error.Error}
-use Rattle.pagable_examples.specs.Failing.{own_failures, failures_of}
-use Rattle.pagable_model.specs.declared.error.Error.TheVariants as errors
+use Rattle.{pagable_examples.specs.Failing.{own_failures, failures_of}, pagable_model.specs.{Blob.Blob, Stored.{HasFailed, RefusesFetch, RefusesStore, RefusesFlush}, declared.error.Error.Error}}
+use Rattle.std.{proofs.{Common.{◌≡◌, ◌+◌, ◌-◌, ◌^◌, ◌<◌, ℕ, Bool, true, false, min, arith, Option, Result, inl, inr}, lemmas.Bool.cases_lt}, specs.Prelude.IfErr}
 
 -- counts that are cut off at the greatest
 cut : (before after : ℕ) → before < after → HasFailed (min (2 ^ 64 - 1) before) (min (2 ^ 64 - 1) after)
-cut before after lt = go (cases_lt before (2 ^ 64 - 1))
-  where
-    go : (before < 2 ^ 64 - 1) ⊎ (2 ^ 64 - 1 ≤ before) → HasFailed (min (2 ^ 64 - 1) before) (min (2 ^ 64 - 1) after)
-    go (inl small) = inl (omega arith)
-    go (inr great) = inr (omega arith, omega arith)
+cut before after lt = elim (cases_lt before (2 ^ 64 - 1)) [ inl small ↦ inl (omega arith) | inr great ↦ inr (omega arith, omega arith) ]
 
 pub own_failure : (inner : ℕ) (before after : Bool) → before ≡ false → after ≡ true → HasFailed (failures_of before inner) (failures_of after inner)
 own_failure inner before after is_not is = rw (is_not, is) (cut (inner + 0) (inner + 1) (omega arith))
@@ -22,16 +16,13 @@ passed-on failed before after (inr h) = inr (omega (arith, h.0, h.1), omega (ari
 module _ {X : Type 0} (failed : Bool) (before after : ℕ) where
   pub fetch_refused : (r : Result X Error) (key : ℕ) (found : Option Blob) → IfErr r (RefusesFetch key found before after)
       → IfErr r (RefusesFetch key found (failures_of failed before) (failures_of failed after))
-  fetch_refused (Err (errors.Storage code)) key found h = passed-on failed before after h
-  fetch_refused _ key found h = search rules
+  fetch_refused x0 key found h = grind (arith, passed-on)
 
   pub store_refused : (r : Result X Error) (blob : Blob) (found : Option Blob) (closed : Bool) → IfErr r (RefusesStore blob found closed before after)
       → IfErr r (RefusesStore blob found closed (failures_of failed before) (failures_of failed after))
-  store_refused (Err (errors.Storage code)) blob found closed h = passed-on failed before after h
-  store_refused _ blob found closed h = search rules
+  store_refused x0 blob found closed h = grind (arith, passed-on)
 
   pub flush_refused : (r : Result X Error) → IfErr r (RefusesFlush before after) → IfErr r (RefusesFlush (failures_of failed before) (failures_of failed after))
-  flush_refused (Err (errors.Storage code)) h = passed-on failed before after h
-  flush_refused _ h = search rules
+  flush_refused x0 h = grind (arith, passed-on)
 
 pub ruleset refusing = (own_failure, fetch_refused, store_refused, flush_refused)

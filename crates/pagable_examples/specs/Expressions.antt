@@ -1,9 +1,7 @@
 -- What expressions mean, and how they are spelled.
 use Rattle.std.specs.{Int.w64, Prelude.{◌≡◌, ℕ, Result, Ok, Err}}
-use Rattle.pagable.specs.{ArcRef.ArcRef, Error.Error, Gives.memory, Meaning.{Meaning, number, pair, success, failure}, Shape.{Shape, unsigned, both, nested, outcome}}
-use Rattle.pagable.specs.{Standing.Is, Writing.{nesting, WritesSome, Refused}}
-use Rattle.pagable_traits.specs.JsonSteps.{Piece}
-use Rattle.pagable_examples.specs.declared.expression.Expression.{Expression, Number, Sum'}
+use Rattle.pagable.specs.{ArcRef.ArcRef, Error.Error, Gives.memory, Meaning.{Meaning, number, pair, success, failure}, Shape.{Shape, unsigned, both, nested, outcome}, Standing.Is}
+use Rattle.{pagable.specs.Writing.{nesting, WritesSome, Refused}, pagable_examples.specs.declared.expression.Expression.{Expression, Number, Sum'}, pagable_traits.specs.JsonSteps.Piece}
 
 -- a number, or two expressions, each one level further down
 abbrev pub node : Shape

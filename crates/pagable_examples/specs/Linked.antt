@@ -1,13 +1,11 @@
 -- What links and bundles mean and refer to, and what the nodes that hold them do.
-use Rattle.std.{proofs.Common.arith, specs.Prelude.{◌≡◌, ◌<◌, ◌^◌, refl, true, false, ℕ, zero, suc, List, Option, Some, None}, specs.Arc.arc_value, specs.Global.Vec}
-use Rattle.pagable_examples.specs.{declared.linked.LinkedNode.LinkedNode, declared.linked.bundle.Bundle.Bundle, declared.linked.chain.Chain.Chain}
-use Rattle.pagable_traits.specs.{References.{holding_means, loose_means, reads_unlent, reference_has_one_form, reference_is_read}, Plain.plain_means}
-use Rattle.pagable_traits.specs.Refers.{ListsInOrder, both_in_order, list_in_order, optional_in_order, reference_in_order}
-use Rattle.pagable.specs.OwnCauses.{ReadCauses, WriteCauses, reads_either, reads_memory_or, reads_never, writes_either, writes_long_or, writes_memory, writes_memory_or}
-use Rattle.pagable.specs.Meanings.{AreSingle, Meanings, exactly, lists, lists_single, options, options_single, pairs, pairs_single, seen_by, some}
-use Rattle.pagable.specs.{InNodes.{Holds, holds-none, holds-value}, OneForm.{over_has_one_form, two_has_one_form}, ReadBack.{IsReadThroughout, over_is_read, two_is_read}}
-use Rattle.pagable_model.specs.{Meaning.Meaning, OneForm.HasOneFormThroughout, References.{references_in, SameReferences}, Refusals.{is_own_reading, may_refuse_writing}}
-use Rattle.pagable_model.specs.{Shape.{Shape, both, list, nothing, optional, reference}, Standing.SomeMeaning, declared.error.Error.Error, declared.numbers.ArcRef.ArcRef}
+use Rattle.std.{proofs.Common.arith, specs.{Arc.arc_value, Global.Vec, Prelude.{◌≡◌, ◌<◌, ◌^◌, refl, true, false, ℕ, zero, suc, List, Option, Some, None}}}
+use Rattle.pagable_traits.specs.{Plain.plain_means, References.{holding_means, loose_means, reads_unlent, reference_has_one_form, reference_is_read}, Refers.{ListsInOrder, both_in_order}}
+use Rattle.{pagable_traits.specs.Refers.{list_in_order, optional_in_order, reference_in_order}, pagable_examples.specs.declared.linked.{LinkedNode.LinkedNode, bundle.Bundle.Bundle, chain.Chain.Chain}}
+use Rattle.pagable.specs.{InNodes.{Holds, holds-none, holds-value}, Meanings.{AreSingle, Meanings, exactly, lists, lists_single, options, options_single, pairs, pairs_single, seen_by, some}}
+use Rattle.pagable.specs.{OneForm.{over_has_one_form, two_has_one_form}, OwnCauses.{ReadCauses, WriteCauses, reads_either, reads_memory_or, reads_never, writes_either, writes_long_or, writes_memory}}
+use Rattle.{pagable.specs.{OwnCauses.writes_memory_or, ReadBack.{IsReadThroughout, over_is_read, two_is_read}}, pagable_model.specs.{Meaning.Meaning, OneForm.HasOneFormThroughout}}
+use Rattle.pagable_model.specs.{References.{references_in, SameReferences}, Shape.{Shape, both, list, nothing, optional, reference}, Standing.SomeMeaning, declared.numbers.ArcRef.ArcRef}
 use Rattle.pagable_examples.specs.declared.linked.LinkedNode.TheVariants as nodes
 
 -- the environment has no part with a number

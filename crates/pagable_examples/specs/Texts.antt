@@ -1,7 +1,6 @@
 -- What the nodes of texts mean, and how they are spelled.
-use Rattle.std.specs.{Arc.arc_value, Prelude.◌≡◌, Prelude.refl, Prelude.ℕ, Prelude.zero, Prelude.suc, Prelude.[], Prelude.Option, Prelude.Some, Prelude.None, String.string_bytes}
-use Rattle.pagable.specs.{ArcRef.ArcRef, Meaning.Meaning, References.references_in, References.SameReferences, Shape.Shape, Shape.text}
-use Rattle.pagable_examples.specs.declared.text.TextNode.{TextNode}
+use Rattle.std.specs.{Arc.arc_value, Prelude.{◌≡◌, refl, ℕ, zero, suc, [], Option, Some, None}, String.string_bytes}
+use Rattle.{pagable.specs.{ArcRef.ArcRef, Meaning.Meaning, References.{references_in, SameReferences}, Shape.{Shape, text}}, pagable_examples.specs.declared.text.TextNode.TextNode}
 use Rattle.pagable.specs.Meaning as meanings
 
 -- the one type of texts has the number 0

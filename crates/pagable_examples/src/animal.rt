@@ -1,9 +1,8 @@
 //! Animals, which are written as a tag and a body, and the readers of the bodies.
 
 ghost use Rattle.std.specs.Prelude.{◌≡◌};
-ghost use Rattle.pagable.specs.{Carried.tagged_by, Tagged.grammars};
+ghost use Rattle.pagable.specs.{Carried.tagged_by, Meanings.exactly, OwnCauses.{reads_never, reads_memory_or, writes_memory_or, writes_long_or}, StaticValues.writes_unregistered, Tagged.grammars};
 ghost use Rattle.pagable_examples.specs.Animals.{animal_means, tag_of, written, body_of, tag_read, grammar_of};
-ghost use Rattle.pagable.specs.{Meanings.exactly, StaticValues.writes_unregistered, OwnCauses.{reads_never, reads_memory_or, writes_memory_or, writes_long_or}};
 
 use crate::zoo::Zoo;
 use pagable::{
@@ -36,8 +35,7 @@ impl AnimalReader {
         ensures { result.now ≡ tag_read self }
     {
         match self {
-            AnimalReader::Cat => "Cat",
-            AnimalReader::OldCat => "Cat",
+            AnimalReader::Cat | AnimalReader::OldCat => "Cat",
             AnimalReader::Dog => "Dog",
         }
     }
@@ -54,8 +52,7 @@ impl PagableTagged<Zoo> for Animal {
 
     fn pagable_type_tag(&self) -> &'static str {
         match self {
-            Animal::Cat => "Cat",
-            Animal::OldCat(_) => "Cat",
+            Animal::Cat | Animal::OldCat(_) => "Cat",
             Animal::Dog(_) => "Dog",
         }
     }

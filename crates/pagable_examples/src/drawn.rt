@@ -58,16 +58,6 @@ fn append_text(
     out.write_bytes(draws.text(alloc, letters)?.as_str().as_bytes())
 }
 
-/// Appends a map of 400 entries, with keys of 48 bits and numbers of each length from 1 bit to 64.
-fn append_map(draws: &mut Draws, out: &mut PagableVecFlavor) -> Result<(), Error> {
-    out.write_u32(400)?;
-    for place in 0..400u32 {
-        out.write_u64(draws.number() >> 16)?;
-        out.write_u64(draws.number() >> (place % 64))?;
-    }
-    Ok(())
-}
-
 /// Appends what is drawn for this place.
 fn append(
     alloc: Global,
@@ -82,8 +72,14 @@ fn append(
         Drawn::Byte => out.write_u8((number >> 56) as u8),
         Drawn::Text => append_text(alloc, number % 32, draws, out),
         Drawn::Map => {
+            // A map of 400 entries, with keys of 48 bits and numbers of each length from 1 bit to 64.
             out.write_u64(number)?;
-            append_map(draws, out)
+            out.write_u32(400)?;
+            for place in 0..400u32 {
+                out.write_u64(draws.number() >> 16)?;
+                out.write_u64(draws.number() >> (place % 64))?;
+            }
+            Ok(())
         }
         Drawn::Entry => {
             append_text(alloc, 12 + number % 16, draws, out)?;

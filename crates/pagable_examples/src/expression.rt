@@ -1,9 +1,9 @@
 //! A type that holds values of its own type, each one level further down: sums inside sums.
 
 ghost use Rattle.pagable.specs.{Gives.{deep_or, memory}, Meanings.exactly, OwnCauses.{reads_memory, writes_deep_or, writes_memory}, Reading.read, Shape.nested, Standing.Is};
-ghost use Rattle.pagable_traits.specs.JsonSteps.{Reads, Wrote};
-ghost use Rattle.pagable_examples.specs.Expressions.{expression, node, nodes, of_expression, IsSum};
+ghost use Rattle.{pagable_examples.specs.Expressions.{expression, node, nodes, of_expression, IsSum}, pagable_traits.specs.JsonSteps.{Reads, Wrote}};
 
+use crate::zoo::NoNode;
 use pagable::parts::{read_flag, write_flag};
 use pagable::{
     Carried, Env, Error, PagableDeserialize, PagableDeserializer, PagableSerialize,
@@ -23,12 +23,8 @@ pub enum Expression {
 #[derive(Drop)]
 pub struct Sheet;
 
-/// No node.
-#[derive(Drop)]
-pub struct SheetNode;
-
 impl Env for Sheet {
-    type Node = SheetNode;
+    type Node = NoNode;
 
     type Hash = WeighHash;
 
@@ -76,6 +72,7 @@ fn write_node<S: PagableSerializer<Sheet>>(
 
 // Reads an expression one level down, and gives the level back whatever the answer is.
 #[cycle(reading)]
+#[tactic(auto, using(crate::proofs::Levels::reading))]
 fn read_below<D: PagableDeserializer<Sheet>>(
     alloc: Global,
     deserializer: &mut D,
@@ -99,6 +96,7 @@ fn sum_of(alloc: Global, left: Expression, right: Expression) -> Result<Expressi
 
 // Reads which case it is, and its parts.
 #[cycle(reading)]
+#[tactic(auto, unfolding(pagable_model::specs::Reading::read, pagable_model::specs::Reading::read_with), using(pagable_traits::proofs::Parts::reads))]
 fn read_node<D: PagableDeserializer<Sheet>>(
     alloc: Global,
     deserializer: &mut D,

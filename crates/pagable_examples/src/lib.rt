@@ -24,6 +24,5 @@ pub use drawn::{Draws, input_of};
 pub use expression::{Expression, Sheet};
 pub use size::Size;
 pub use storages::FailingStorage;
-pub use text::{TextEnv, TextNode};
 pub use ticket::Ticket;
-pub use zoo::{NoNode, Zoo};
+pub use zoo::Zoo;

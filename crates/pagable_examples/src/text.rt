@@ -53,9 +53,7 @@ impl TextNode {
 
 impl<H: KeyHash> NodeSet<TextEnv<H>> for TextNode {
     ghost use Rattle.std.specs.Prelude.{◌≡◌, [], refl};
-    ghost use Rattle.pagable.specs.Gives.{memory, long_or};
-    ghost use Rattle.pagable.specs.Shape.{text as text_shape};
-    ghost use Rattle.pagable.specs.Causes.{memory_is_own_reading, text_may_refuse_writing};
+    ghost use Rattle.pagable.specs.{Causes.{memory_is_own_reading, text_may_refuse_writing}, Gives.{memory, long_or}, Shape.text as text_shape};
     ghost use Rattle.pagable_examples.specs.Texts.{shape_of, text_of, texts_refer};
 
     ghost type_of = { λ n. 0 };

@@ -7,7 +7,7 @@ use Rattle.pagable_model.specs.{Basic.{duration_form, length_at, length_form, lo
 use Rattle.pagable_model.specs.{Form.{sorted-set-form, static-form, tagged-form, text-form, unsigned-form}, Keyed.{throughout-alone, throughout-over}, Keys.{AllAfter, Apart, Ascends, KeyOrder}}
 use Rattle.pagable_model.specs.{Keys.{ordered, put_placed, put_placed_item, put_sorted, put_sorted_item, same_key, text_order}, Numbers.{IsSigned, bound, signed_at, signed_form, signed_from}}
 use Rattle.pagable_model.specs.{Numbers.{unsigned_at, unsigned_form, unsigned_of, varint, varint_at, varint_limit}, Reading.{Gets, Look, Rest, below, items, read_with, two}, Shape.nested, Steps.◌>>=◌}
-use Rattle.std.proofs.{Common.{ltb, ◌%◌, ◌/◌, ◌^◌}, lemmas.{Bool.{le-leb, le-ltb, lt-ltb}, List.{append_cancel_right, drop_at, take_at}, Str.{IsUtf8-encode, chars-encodes, is_utf8-from_IsUtf8}}}
+use Rattle.std.proofs.{Common.{ltb, ◌%◌, ◌/◌, ◌^◌, ◌⊎◌}, lemmas.{Bool.{le-leb, le-ltb, lt-ltb}, List.{append_cancel_right, drop_at, take_at}, Str.{IsUtf8-encode, chars-encodes, is_utf8-from_IsUtf8}}}
 use Rattle.std.{proofs.lemmas.Str.length-encode, specs.{Char.{IsScalar, encode_utf8, len_utf8}, Int.{Width, w32, w64}, Str.{IsUtf8, chars}, declared.cmp.Ordering.Ordering}}
 use Rattle.{pagable_laws.specs.FormLaws.{IsPrefixFree, IsReadAgain, LooksUp, more-references, no-references}, pagable_model.specs.Basic.{bool_at, bool_form, char_at, char_form, duration_at}}
 
@@ -104,9 +104,8 @@ module _ {X : Type 0} (put : List X → X → List X) (R : X → X → Type 0) (
   put_on acc [] h = sym (append-nil acc)
   put_on acc (x ∷ xs) h = rw (put_end acc x xs h) (put_on (acc ++ x ∷ []) xs (rw append_assoc h) ∙ append_assoc acc (x ∷ []) xs)
 
-module _ {A : Type 0} where
-  pub ascending-kept : (order : KeyOrder) (es : List (Entry A)) → Ascends order es → put_all (put_sorted order) [] es ≡ es
-  ascending-kept order es h = put_on (put_sorted order) (λ e f. ordered order e.0 f.0 ≡ Ordering.Greater) (λ e. refl) (λ f e acc r. rw r refl) [] es h
+pub ascending-kept : {A : Type 0} (order : KeyOrder) (es : List (Entry A)) → Ascends order es → put_all (put_sorted order) [] es ≡ es
+ascending-kept order es h = put_on (put_sorted order) (λ e f. ordered order e.0 f.0 ≡ Ordering.Greater) (λ e. refl) (λ f e acc r. rw r refl) [] es h
 
 -- ---- a form is read again, whatever follows it
 
@@ -121,19 +120,15 @@ pub data Looked {A B : Type 0} (look : Look A B) (kind_of : B → ℕ) : List A 
   not-looked : (a : A) (r : List A) (b : B) (k : List B) (e : Error) → look (kind_of b) a ≡ Err e → Looked look kind_of (a ∷ r) (b ∷ k) (Err e)
 
 -- the references of a front, and then those of a back
-data LookedTwo {A B : Type 0} (look : Look A B) (kind_of : B → ℕ) (r : List A) (k l : List B) (c : Result (List A) Error) : Type 0 where
-  then-looked : (y : List A) → Looked look kind_of r k (Ok y) → Looked look kind_of y l c → LookedTwo look kind_of r k l c
-  not-first : (e : Error) → Looked look kind_of r k (Err e) → c ≡ Err e → LookedTwo look kind_of r k l c
+abbrev LookedTwo : {A B : Type 0} → Look A B → (B → ℕ) → List A → List B → List B → Result (List A) Error → Type 0
+LookedTwo {A} look kind_of r k l c = ((y : List A) × Looked look kind_of r k (Ok y) × Looked look kind_of y l c) ⊎ ((e : Error) × Looked look kind_of r k (Err e) × (c ≡ Err e))
 
 module _ {A B : Type 0} {look : Look A B} {kind_of : B → ℕ} where
-  one-more : {a : A} {r : List A} {b : B} {k l : List B} {c : Result (List A) Error} → look (kind_of b) a ≡ Ok b → LookedTwo look kind_of r k l c → LookedTwo look kind_of (a ∷ r) (b ∷ k) l c
-  one-more is (then-looked y f g) = then-looked y (one-looked _ _ _ _ (Ok y) is f) g
-  one-more is (not-first e f same) = not-first e (one-looked _ _ _ _ (Err e) is f) same
-
   split : (k l : List B) {r : List A} {c : Result (List A) Error} → Looked look kind_of r (k ++ l) c → LookedTwo look kind_of r k l c
-  split [] l {r} h = then-looked r (all-looked r) h
-  split (b ∷ k) l (one-looked a r b2 k2 c is h) = one-more is (split k l h)
-  split (b ∷ k) l (not-looked a r b2 k2 e is) = not-first e (not-looked a r b k e is) refl
+  split [] l {r} h = inl (r, all-looked r, h)
+  split (b ∷ k) l (one-looked a r b2 k2 c is h) =
+      elim (split k l h) [ inl (y, f, g) ↦ inl (y, one-looked _ _ _ _ (Ok y) is f, g) | inr (e, f, same) ↦ inr (e, one-looked _ _ _ _ (Err e) is f, same) ]
+  split (b ∷ k) l (not-looked a r b2 k2 e is) = inr (e, not-looked a r b k e is, refl)
 
   none-left : {r : List A} {c : Result (List A) Error} → Looked look kind_of r [] c → c ≡ Ok r
   none-left (all-looked r) = refl
@@ -169,8 +164,8 @@ module _ {A B : Type 0} {look : Look A B} {kind_of : B → ℕ} {parts : ℕ →
     form-again x (run-form left s ms b k le h) u t = absurd (here t)
     form-again x (array-form left n s ms b k e h) u t = rw (← e, forms-again x h u (narrowed t (λ p. p) (λ n d l. l)), bind-then) refl
     form-again x (both-form left s s2 m n b c k l h g) u t = elim (split k l u) [
-      | then-looked y f i ↦ rw (append_assoc, form-again (c ++ x) h f (narrowed t (λ p. p.0) (λ n d l. l.0)), form-again x g i (narrowed t (λ p. p.1) (λ n d l. l.1)), bind-then, bind-then) refl
-      | not-first e f is ↦ rw (append_assoc, form-again (c ++ x) h f (narrowed t (λ p. p.0) (λ n d l. l.0)), is) refl
+      | inl (y, f, i) ↦ rw (append_assoc, form-again (c ++ x) h f (narrowed t (λ p. p.0) (λ n d l. l.0)), form-again x g i (narrowed t (λ p. p.1) (λ n d l. l.1)), bind-then, bind-then) refl
+      | inr (e, f, is) ↦ rw (append_assoc, form-again (c ++ x) h f (narrowed t (λ p. p.0) (λ n d l. l.0)), is) refl
     ]
     form-again x (sorted-map-form left order s s2 es b k le up h) u t =
         let kept = ascending-kept order es up in
@@ -208,8 +203,8 @@ module _ {A B : Type 0} {look : Look A B} {kind_of : B → ℕ} {parts : ℕ →
         → Looked look kind_of r k c → Throughout IsReadable parts s → items (read_at look parts left s) (length ms) (rest (b ++ x) r) ≡ (c >>= λ y. Ok (ms, rest x y))
     forms-again x (no-forms left s) u t = rw (none-left u) refl
     forms-again x (more-forms left s m ms b c k l h g) u t = elim (split k l u) [
-      | then-looked y f i ↦ rw (append_assoc, form-again (c ++ x) h f t, forms-again x g i t, bind-then) refl
-      | not-first e f is ↦ rw (append_assoc, form-again (c ++ x) h f t, is) refl
+      | inl (y, f, i) ↦ rw (append_assoc, form-again (c ++ x) h f t, forms-again x g i t, bind-then) refl
+      | inr (e, f, is) ↦ rw (append_assoc, form-again (c ++ x) h f t, is) refl
     ]
 
     pub entries-again : (x : List ℕ) {r : List A} {c : Result (List A) Error} {left : ℕ} {s s2 : Shape} {es : List (Entry B)} {b : List ℕ} {k : List B} → Entries B kind_of parts left s s2 es b k
@@ -217,10 +212,10 @@ module _ {A B : Type 0} {look : Look A B} {kind_of : B → ℕ} {parts : ℕ →
         → items (two (read_at look parts left s) (read_at look parts left s2)) (length es) (rest (b ++ x) r) ≡ (c >>= λ y. Ok (es, rest x y))
     entries-again x (no-entries left s s2) u t v = rw (none-left u) refl
     entries-again x (more-entries left s s2 m n es b c d j k l h g f) u t v = elim (split j (k ++ l) u) [
-      | not-first e i is ↦ rw (append_assoc, form-again ((c ++ d) ++ x) h i t, is) refl
-      | then-looked y i q ↦ elim (split k l q) [
-        | not-first e o is ↦ rw (append_assoc, append_assoc, form-again (c ++ (d ++ x)) h i t, form-again (d ++ x) g o v, is) refl
-        | then-looked z o w ↦ rw (append_assoc, append_assoc, form-again (c ++ (d ++ x)) h i t, form-again (d ++ x) g o v, entries-again x f w t v, bind-then) refl
+      | inr (e, i, is) ↦ rw (append_assoc, form-again ((c ++ d) ++ x) h i t, is) refl
+      | inl (y, i, q) ↦ elim (split k l q) [
+        | inr (e, o, is) ↦ rw (append_assoc, append_assoc, form-again (c ++ (d ++ x)) h i t, form-again (d ++ x) g o v, is) refl
+        | inl (z, o, w) ↦ rw (append_assoc, append_assoc, form-again (c ++ (d ++ x)) h i t, form-again (d ++ x) g o v, entries-again x f w t v, bind-then) refl
       ]
     ]
 

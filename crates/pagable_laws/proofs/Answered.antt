@@ -1,61 +1,374 @@
+-- A load from its begin to its end keeps trees: what it pins stands for its node's tree, and what it reads for the tree that its key reads as.
+-- Each stage once: what is still to be done of it, with what was done, is at most what was claimed.
+-- What follows for keys: each that is published is its tree's, each that is answered is its task's, and what a worker met that answers one is left paged out.
 -- A worker's steps up to its answer: none of its own claims waits any more, and what another claimed is as it was.
-use Rattle.pagable_laws.proofs.Words.{HandleNumber, Identity, List, None, Ok, Seen, Shelf, Site, Slot, Some, Task, Todo, Took, WorkerAnswer, Written, [], answer_after, append_assoc, arith, cases_Bool}
-use Rattle.pagable_laws.proofs.{Coming.{FailsMet, answered, failed-elsewhere, failed-stays, fails-stay, first-met, follows-met, goes-same, stands-on}, Decoding.{among-left, among-right}}
-use Rattle.pagable_laws.proofs.{Joining.steps_follow, Standing.{AllStand, Covers, Goes, HasNoFailed, first-stands, grows, is_open_in, same-worker, some-none, some-same}, Words.{Claim, Does}}
-use Rattle.pagable_world.specs.{Access.{AllHaveResults, WalkStep, WorkerRun, worker-ends, worker-goes-on}, Headline.{FailedElsewhere, IsMetFailure}, Workers.{first_todo, is_open_outcome}}
-use Rattle.{pagable_laws.proofs.Words.{false, inl, inr, nat_eq, nat_tests, no_result, of_entry, of_item, refl, subst, sym, true, ℕ, ◌++◌, ◌∷◌, ◌≡◌}, pagable_world.specs.Access.AccessState}
+use Rattle.pagable_laws.proofs.Words.{Alike, ArcRef, Blob, Bool, Claim, Core, Does, Event, EventReply, Frame, FramesFit, HandleNumber, Happens, HoldsSettled, Identity, IsLawful, IsMachineWhole}
+use Rattle.pagable_laws.proofs.Words.{IsPublished, Last, List, LoadAnswer, LoadNumber, MachineState, Mode, None, Ok, OpenLoad, Option, OptionalDataKey, Owner, PagerState, Reading, ReadingFeels}
+use Rattle.pagable_laws.proofs.Words.{ReadsItsTypes, ReadsTree, Represents, Seen, Shelf, Site, Slot, Some, Task, Todo, Took, Tree, Values, Walking, WellFormed, WorkFits, WorkerAnswer, WorkerNumber}
+use Rattle.pagable_laws.proofs.Words.{WorkerReply, WorkerSteps, Written, [], answer_after, ap, append_assoc, arith, cases_Bool, false, give, held, identity_of, if_there, inl, inr, is_some, key_at}
+use Rattle.pagable_laws.proofs.Words.{nat_eq, nat_tests, no_result, nothing_felt, of_cell, of_entry, of_item, one, refl, subst, sum_by-cons, sym, times, to_fail, to_finish, to_item, to_load, to_pin}
+use Rattle.pagable_laws.proofs.{Called.{begin-goes, begins-key}, Coming.{FailsMet, answered as was-answered, failed-elsewhere, failed-stays, fails-stay, first-met, follows-met, goes-same, stands-on}}
+use Rattle.pagable_laws.proofs.{Coming.updated-at, Decoding.{among-left, among-right}, Felt.{fits-nothing, reading-fits, trees-go-on}, Following.{IdentityStands, cell-of, keys-of, known-of}}
+use Rattle.pagable_laws.proofs.{Following.tree-form, Goes.Goes, Merkle.{one_item_key, one_key, tree_readable}, ReadingSteps.{caller-free, reading-feels}, SparingSteps.{hands, read-right}}
+use Rattle.pagable_laws.proofs.{Standing.{AllStand, AllWait, Covers, Goes as ShelfGoes, HasNoFailed, first-stands, grows, is_open_in, same-worker, some-none, some-same}, Stepping.{all-known, all-low}}
+use Rattle.pagable_laws.proofs.{Stepping.{done-on, keys-same, stands-for}, Taking.{Going, given-nodes, going-new, going-step, row-held, stands-here, was-open}, Trees.{each-type, same_some}}
+use Rattle.pagable_laws.proofs.{Trees.steps_follow, Words.{to_release, to_set, to_start, to_write, true, with_handle, world_of, ℕ, ◌&&◌, ◌++◌, ◌+◌, ◌==◌, ◌∙◌, ◌∷◌, ◌≡◌, ◌≤◌}}
+use Rattle.pagable_world.specs.Access.{AccessState, AllHaveResults, LoadAsksWell, LoadRun, PinLaw, ReadLaw, ReadingStep, WalkStep, WorkerRun, load-ends, load-goes-on, worker-ends, worker-goes-on}
+use Rattle.pagable_world.specs.{Headline.{AreKeysOf, FailedElsewhere, IsKeyOfTask, IsLeftPagedOut, IsMetFailure, LeavesAll, Meets, ReadIsRight, meets-below, meets-entry, meets-of-item}, Kinds.has_key}
+use Rattle.pagable_world.specs.{LoadCalls.with_load, Loads.{Does as LoadDoes, gone_on}, Order.{Follows, InOrder, Leads, OnceEach, is_claim_of, is_later_of}, Pager.{Moves, SameTrees, StandsFor}}
+use Rattle.pagable_world.specs.{Pager.kids_of, Plain.{is_loose_kind, longest_path}, Runs.TakesWell, Workers.{first_todo, fresh, is_open_outcome, next_start}, World.{Fault, Root, is_identity, of_key}}
+use Rattle.{pagable_laws.specs.TreeSteps.{AllHold, Ground, HasHandle, IsDone, KeyIsSet, KeysAreRight, KeysHeld, Waits, Walks, ground_of}, pagable_model.specs.Merkle.KeyOfItem}
+use Rattle.{pagable_world.specs.World.to_publish, std.{proofs.Math.Nat.zero-add, specs.Prelude.nat_le}}
 
--- what a worker leaves with its answer, whose steps these are; and what it failed with was met, where C
-record Answered {W : Type 0} (C : Type 0) (n : ℕ) (shelf : Shelf) (steps : List (Took W)) (answer : WorkerAnswer) (shelf' : Shelf) : Type 0 where
-  own : (i : Identity) (slot : Slot) → shelf'.slots i ≡ Some slot → slot.worker ≡ n → is_open_outcome slot.outcome ≡ false
-  others : (i : Identity) (slot : Slot) → shelf'.slots i ≡ Some slot → nat_eq slot.worker n ≡ false → shelf.slots i ≡ Some slot
-  met : C → IsMetFailure shelf' n steps answer
+-- the pager stands for trees, and what the load has read fits them
+record Under {N E : Type 0} (v : Values N) (s : PagerState N E) (trees : ℕ → Tree) (key : ℕ) (reading : Reading) : Type 0 where
+  pub settled : HoldsSettled v s
+  pub well : WellFormed v s
+  pub stands : Represents v s trees
+  pub going : Going v s trees reading
+  pub keyed : (load : OpenLoad) → s.core.loads reading.load.0 ≡ Some load → load.key ≡ key
 
--- what the list fails with was met, and none of the worker's claims has failed
-abbrev Met : {W : Type 0} → ℕ → Shelf → List (Took W) → List Todo → Type 0
-Met n shelf past todo = HasNoFailed shelf n × FailsMet n shelf past todo
+-- each node keeps its tree
+record After {N E : Type 0} (v : Values N) (s : PagerState N E) (trees : ℕ → Tree) (s' : PagerState N E) (trees' : ℕ → Tree) : Type 0 where
+  pub same : SameTrees s.core.last.node trees trees'
+  pub nodes : s.core.last.node ≤ s'.core.last.node
+  pub stands : Represents v s' trees'
+
+after-then : {N E : Type 0} {v : Values N} {s m t : PagerState N E} {trees mid after : ℕ → Tree} → After v s trees m mid → After v m mid t after → After v s trees t after
+after-then a b = record { same = λ n within. b.same n (let c = a.nodes in omega (arith, within, c)) ∙ a.same n within; nodes = let c = a.nodes in let d = b.nodes in omega (arith, c, d); stands = b.stands }
+
+module _ {N E : Type 0} {v : Values N} (lawful : IsLawful v) (readable : ReadsItsTypes v.types) where
+  -- what a step comes to: a load that goes on is so again, and the value that it answers is that of its key
+  record Stepped (s : PagerState N E) (trees : ℕ → Tree) (key : ℕ) (reading : Reading) (answer : Option (LoadAnswer N)) (frames : List Frame) (s' : PagerState N E) : Type 0 where
+    pub trees' : ℕ → Tree
+    pub after : After v s trees s' trees'
+    pub still : answer ≡ None → Under v s' trees' key (gone_on reading frames)
+    pub right : (x : N) → answer ≡ Some (LoadAnswer.Read x) → ReadIsRight v s' key x
+
+  stepped : (s s' : PagerState N E) (trees : ℕ → Tree) (key : ℕ) (reading : Reading) (answer : Option (LoadAnswer N)) (frames : List Frame) → Under v s trees key reading → HoldsSettled v s' → TakesWell v s reading
+      → ReadingStep v Owner.Caller reading s answer frames s' → Stepped s trees key reading answer frames s'
+  stepped s s' trees key reading answer frames u settled' takes step =
+      let seen : Seen N Blob Written = record { values = v; blob_of = λ b. b; written_of = λ w. w } in
+      let felt = reading-feels seen s.core Owner.Caller caller-free s'.core reading answer frames step.does in
+      let feels = felt.feels u.well.whole.handles in
+      let fit = reading-fits lawful readable u.settled u.well step.whole u.stands reading u.going.fits (given-nodes reading.frames u.going.held) felt.does.goes takes felt.opens feels in
+      let stands = trees-go-on lawful u.settled u.well step.whole u.stands step.moves felt.does.goes fit.1 in
+      record {
+        trees' = fit.0;
+        after = record { same = fit.1.same; nodes = felt.does.goes.nodes; stands = stands };
+        still = λ none.
+            let load = felt.opens none in
+            let going = going-step u.well step.whole u.stands felt.does.goes fit.1 reading frames load.0 load.1 u.going
+            (subst (λ (o : Option (LoadAnswer N)). ReadingFeels v s.core reading o frames s'.core felt.change) none feels) in
+            record { settled = settled'; well = step.whole; stands = stands; going = going; keyed = λ other there. u.keyed other (was-open felt.does.goes reading.load.0 other u.going.within there) };
+        right = λ x is.
+            let read = (subst (λ (o : Option (LoadAnswer N)). LoadDoes v s.core Owner.Caller reading o frames s'.core) is step.does.does).0 in
+            let load = read.of_key_load in subst (λ q. ReadIsRight v s' q x) (u.keyed load.load load.open_load)
+            (read-right lawful readable s s' trees fit.0 fit.1.same felt.does.goes.stored step.whole stands reading u.going load.load load.open_load x read.reads_root
+            (hands reading.load (v.references x) u.well.whole.handles read.handed));
+      }
+
+  -- ---- all steps
+
+  comes : {reading : Reading} {s s' : PagerState N E} {answer : LoadAnswer N} (run : LoadRun v Owner.Caller reading s answer s') → LoadAsksWell run → (trees : ℕ → Tree) (key : ℕ) → Under v s trees key reading → Stepped s trees key reading (Some answer) [] s'
+  unfolding LoadAsksWell
+  comes (load-ends reading answer s s' step) asks trees key u = stepped s s' trees key reading (Some answer) [] u asks.0 asks.1 step
+  comes (load-goes-on reading frames answer s mid s' step more) asks trees key u =
+      let a = stepped s mid trees key reading None frames u asks.0 asks.1 step in
+      let rest = comes more asks.2 a.trees' key (a.still refl) in
+      record { trees' = rest.trees'; after = after-then a.after rest.after; still = λ none. absurd (cc); right = rest.right }
+
+  -- ---- its begin
+
+  module _ (s mid : PagerState N E) (trees : ℕ → Tree) (well : WellFormed v s) (settled : HoldsSettled v s) (stands : Represents v s trees) (does : Goes nothing_felt s.core mid.core) (moves : Moves (λ n x. ⊥) s mid) (whole : WellFormed v mid) where
+    begun : After v s trees mid trees
+    begun = search (does.nodes, trees-go-on lawful settled well whole stands moves does (fits-nothing lawful settled well whole stands (λ n x. ⊥) (λ n x comes none is. absurd comes)))
+
+    under : (w : Core) (l : LoadNumber) (t key : ℕ) (root : Root) → l.0 ≡ w.last.load + 1 → Alike (with_load w key root Owner.Caller) mid.core → Under v mid trees key (fresh l t)
+    unfolding FramesFit
+    under w l t key root next a =
+        let still : HoldsSettled v mid = λ n x has. elim (moves.each n x has) [ inl was ↦ settled n x was | inr came ↦ absurd came.1 ] in
+        let going = going-new {v = v} mid trees (fresh l t) refl (let e = ap (λ (x : Last). x.load) a.last in omega (arith, e, next)) in
+        grind (arith, nat_tests, same_some, still, whole, begun.stands, going)
+
+pub pin_law : {N E : Type 0} (v : Values N) → PinLaw E v
+pin_law v s mid s' h k reading x row run well starts asks live held lawful readable settled trees stands =
+    let c = starts.begins in let b = c.step.begins.2 in
+    let first = begun lawful readable s mid trees well settled stands (begin-goes _ c.step) c.moves c.whole in
+    let f : (t : ℕ) × (reading ≡ fresh reading.load t) = grind (arith, nat_tests, same_some) in
+    let u = under lawful readable s mid trees well settled stands (begin-goes _ c.step) c.moves c.whole (with_handle s.core c.step.begins.0.node Mode.LooseUnpinned (Owner.Load reading.load)) reading.load f.0 starts.key (of_cell c.step.begins.0.node b.4.0 h) b.2.above b.4.2 in
+    let r = comes lawful readable run asks trees starts.key (subst (λ z. Under v mid trees starts.key z) (sym f.1) u) in
+    let after = after-then first r.after in
+    (r.trees', after.same, after.stands, stands-here (after.stands.stands row.node.0 (row-held s'.core k row live)) held)
+
+pub read_law : {N E : Type 0} (v : Values N) → ReadLaw E v
+read_law v s mid s' key t l x run well starts asks settled_value lawful readable settled trees stands =
+    let b = starts.step.begins in
+    let goes : Goes nothing_felt s.core mid.core = (begins-key {lists = false} {Asks = Unit {0}} {Leaves = Unit {0}} _ starts.step).goes in
+    let first = begun lawful readable s mid trees well settled stands goes starts.moves starts.whole in
+    let u = under lawful readable s mid trees well settled stands goes starts.moves starts.whole s.core l t key of_key b.1.above b.2 in
+    let r = comes lawful readable run asks trees key u in let after = after-then first r.after in
+    (r.trees', after.same, after.stands, r.right x refl)
+
+-- ---- numbers
+
+-- the stage k is this one or comes after it, from p on
+abbrev from : ℕ → ℕ → Bool → ℕ
+from k p b = one (nat_le p k && b)
+
+-- ---- what is to be done
+
+-- whether steps of the stage about the identity are to be done for this
+abbrev left : ℕ → Identity → Todo → ℕ
+left k i (to_pin r place) = from k 0 (is_identity i (identity_of r))
+left k i (to_load r place through reading) = from k 1 (is_identity i (identity_of r))
+left k i (to_write r place through) = from k 2 (is_identity i (identity_of r))
+left k i (to_finish o) = from k 3 (is_identity i (identity_of o.reference))
+left k i (to_set r through key height) = from k 4 (is_identity i (identity_of r))
+left k i (to_publish r key height) = from k 5 (is_identity i (identity_of r))
+left k i (to_release r key height) = from k 6 (is_identity i (identity_of r))
+left k i _ = 0
+
+-- something is done above what waits, and a reference is started for what waits for it
+abbrev IsWay : List Todo → Type 0
+IsWay [] = Unit {0}
+IsWay (to_start r place ∷ []) = ⊥
+IsWay (x ∷ below) = AllWait below
+
+module _ (k : ℕ) (i : Identity) where
+  unfoldable all-left : List Todo → ℕ
+  all-left [] = 0
+  all-left (x ∷ todo) = left k i x + all-left todo
+
+  started : (place : ℕ) (rs : List ArcRef) (x : Todo) (below : List Todo) → AllWait (x ∷ below)
+      → (all-left (next_start place rs ++ x ∷ below) ≡ all-left (x ∷ below)) × IsWay (next_start place rs ++ x ∷ below)
+  unfolding AllWait all-left
+  started place x1 x2 below more = grind (arith, nat_tests, zero-add)
+
+  given : (r : ArcRef) (key height : ℕ) (below : List Todo) → AllWait below → (all-left (give r key height below) ≡ all-left below) × IsWay (give r key height below)
+  unfolding AllWait all-left
+  given r key height x3 waits = grind (arith, nat_tests, started)
+
+  -- whether the reference is of the identity
+  abbrev at : ArcRef → Bool
+  at r = is_identity i (identity_of r)
+
+  goes-up : (p : ℕ) (r : ArcRef) (m n : ℕ) → m ≡ from k (p + 1) (at r) + n → one (k == p && at r) + m ≤ 0 + (from k p (at r) + n)
+  goes-up p r m n is = grind (arith, nat_tests)
+
+  ends : (p : ℕ) (r : ArcRef) (m n : ℕ) → m ≤ n → one (k == p && at r) + m ≤ 0 + (from k p (at r) + n)
+  ends p r m n few = grind (arith, nat_tests)
+
+  failed : {next : List Todo} {fault : Fault} {back : Option HandleNumber} (todo : List Todo) → next ≡ to_fail fault back ∷ []
+      → (one false + all-left next ≤ one false + all-left todo) × IsWay next
+  unfolding AllWait all-left
+  failed todo e = rw e (omega arith, tt)
+
+  module _ {W : Type 0} (f : W → Written) where
+    -- one step: what is of the stage, with what is left of it, is at most a claim with what was left before
+    goes : (todo : List Todo) (step : Took W) (next : List Todo) → IsWay todo → Follows f todo step next
+        → (one (is_later_of k i step) + all-left next ≤ one (is_claim_of i step) + all-left todo) × IsWay next
+    unfolding AllWait all-left
+    goes (to_start r place ∷ []) step next way follows = absurd way
+    goes _ step next way follows = grind (arith, nat_tests, failed, started, given, goes-up, ends)
+
+    along : (todo : List Todo) (steps : List (Took W)) (last : List Todo) → IsWay todo → Leads f todo steps last
+        → times (is_later_of k i) steps + all-left last ≤ times (is_claim_of i) steps + all-left todo
+    along todo [] last way is = subst (λ t. 0 + all-left t ≤ 0 + all-left todo) (sym is) (omega arith)
+    along todo (step ∷ steps) last way (mid, follows, leads) =
+        let a = goes todo step mid way follows in let more = along mid steps last a.1 leads in
+        omega (arith, sum_by-cons (λ s. one (is_later_of k i s)) step steps, sum_by-cons (λ s. one (is_claim_of i s)) step steps)
+
+    after-release : (r : ArcRef) (key height : ℕ) (steps : List (Took W)) (last : List Todo) → Leads f (to_release r key height ∷ []) steps last → times (is_later_of k i) steps ≤ 1
+    after-release r key height (Took.Release j ∷ x ∷ more) last (mid, (is, e), (after, follows, leads)) = absurd (subst (λ m. Follows f m x after) e follows)
+    after-release r key height x3 last x5 = grind (arith, nat_tests)
+
+    -- a step that neither claims nor is of the stage
+    once-more : (step : Took W) (steps : List (Took W)) → one (is_later_of k i step) ≡ 0 → times (is_later_of k i) steps ≤ 1 → times (is_later_of k i) (step ∷ steps) ≤ 1
+    once-more step steps is few = grind (arith, nat_tests)
+
+    few-claims : (step : Took W) (steps : List (Took W)) → times (is_claim_of i) (step ∷ steps) ≤ 1 → one (is_claim_of i step) + times (is_claim_of i) steps ≤ 1
+    few-claims step steps few = subst (λ n. n ≤ 1) (sum_by-cons (λ s. one (is_claim_of i s)) step steps) few
+
+    -- what is left to be done is no more than was claimed
+    bounded : (t d s n c : ℕ) → t + d ≤ s + n → n ≤ c → c + s ≤ 1 → t ≤ 1
+    bounded t d s n c less few most = omega arith
+
+    -- the entry of a listed cell, which may be known already
+    entry : (r : ArcRef) (place : ℕ) (steps : List (Took W)) (last : List Todo) → Leads f (to_start r place ∷ []) steps last → times (is_claim_of i) steps ≤ 1 → times (is_later_of k i) steps ≤ 1
+    unfolding AllWait all-left
+    entry r place [] last leads few = omega arith
+    entry r place (Took.Claim j (Ok Claim.Claimed) ∷ steps) last (mid, (is, e), leads) few =
+        let few_left : one (at r) + times (is_claim_of i) steps ≤ 1 = subst (λ j. one (is_identity i j) + times (is_claim_of i) steps ≤ 1) is
+        (few-claims (Took.Claim j (Ok Claim.Claimed)) steps few) in
+        grind (arith, nat_tests, once-more, bounded, along)
+    entry r place (Took.Claim j (Ok Claim.Waiting) ∷ steps) last (mid, (is, e), leads) few =
+        let less : times (is_claim_of i) steps ≤ 1 = let c = few-claims (Took.Claim j (Ok Claim.Waiting)) steps few in omega arith in
+        grind (arith, nat_tests, once-more, entry r place steps last (subst (λ m. Leads f m steps last) e leads) less)
+    entry r place (step ∷ steps) last (mid, follows, leads) few = grind (arith, nat_tests, once-more, bounded, along, few-claims, after-release)
+
+    at-once : (task : Task) (steps : List (Took W)) (last : List Todo) → Leads f (first_todo task) steps last → times (is_claim_of i) steps ≤ 1 → times (is_later_of k i) steps ≤ 1
+    unfolding AllWait all-left
+    at-once x0 steps last leads few = grind (arith, nat_tests, started, bounded, along, zero-add, entry)
+
+-- what the automaton accepts, with no identity claimed twice, has each stage at most once after its claim
+pub once_each : {W : Type 0} (f : W → Written) (task : Task) (steps : List (Took W)) → InOrder f task steps → ((i : Identity) → times (is_claim_of i) steps ≤ 1) → OnceEach steps
+once_each f task steps order few = record { claim = few; later = λ stage i. at-once stage i f task steps order.left order.leads (few i) }
+
+-- ---- one step of a worker
+
+module _ {N B W : Type 0} (m : Seen N B W) (n : ℕ) (g : Ground) (task : Task) (s s' : Site) where
+  -- what the answer of a key comes from
+  pub answered : (todo : List Todo) (step : Took W) → Does m n s todo step s' → Walks m.values g s.shelf task todo → (key : ℕ) → answer_after todo step ≡ Some (WorkerAnswer.Key key)
+      → IsDone m.values s.shelf task key × ((i : Identity) → s'.shelf.slots i ≡ s.shelf.slots i)
+  unfolding Waits
+  answered (to_item written ks ∷ below) (Took.Store i (Ok k)) (is, p) (of_it, known) key e =
+      let to : k ≡ key = cc in let b = p.stored.stores in
+      let done : IsDone m.values s.shelf task key = subst (λ t. IsDone m.values s.shelf t key) (sym of_it)
+      (ks, all-known s.shelf longest_path written.references ks p.all known, sym to ∙ b.0, all-low s.shelf longest_path written.references ks p.all known) in
+      let t = p.goes in search (done, t.table_stays.slots)
+  answered (to_release r k h ∷ []) (Took.Release i) (is, falls, t) (p, reach, (expects, waits)) key e = let to : k ≡ key = cc in (grind (arith, nat_tests), t.table_stays.slots)
+  answered x0 x1 x2 x3 key e = grind (arith, nat_tests)
+
+-- ---- what a machine has come to
+
+module _ {N E : Type 0} (v : Values N) (s : MachineState N E) (trees : ℕ → Tree) (fit : WorkFits v s trees) (t : ℕ) where
+  abbrev shelf : Shelf
+  shelf = s.work.shelves t
+
+  keys-stand : (i : Identity) (key height : ℕ) → IsPublished shelf i key height → IdentityStands v (ground_of s trees) i key
+  keys-stand = stands-for v (ground_of s trees) shelf (fit.slots t)
+
+  is-key : (task : Task) (key : ℕ) → IsDone v shelf task key → IsKeyOfTask v trees task key
+  is-key (of_item written) key (keys, known, is, lows) =
+      let k : KeyOfItem v.hash v.types written.bytes (kids_of trees written.references) key = record { keys = keys; each = keys-of keys-stand written.references keys known; is = is } in
+      (k, λ canonical other o. one_item_key.one v.hash v.types written.bytes (kids_of trees written.references) other key canonical o k)
+  is-key (of_entry h i) key (height, p) = let k = (keys-stand i key height p).right.is_key in (k, λ canonical other o. one_key v.hash v.types (trees i.node.0) other key canonical o k)
+
+  met : (task : Task) (key : ℕ) → IsDone v shelf task key → (i : Identity) → Meets shelf task i → (k : ℕ) × ((h : ℕ) × IsPublished shelf i k h)
+  met task key done i (meets-of-item written r is among) = let d = subst (λ x. IsDone v shelf x key) is done in known-of shelf written.references d.0 d.1 r among
+  met task key done i (meets-entry h j is) = let d = subst (λ x. IsDone v shelf x key) is done in (key, d)
+  met task key done i (meets-below j slot written r above there wrote among) =
+      let p = met task key done j above in let q = p.1.1 in
+      let same : q.slot ≡ slot = same_some _ _ (sym q.claimed ∙ there) in
+      let b = (fit.slots t j q.slot q.claimed).publishes p.0 p.1.0 q.known in
+      let w : b.0 ≡ written = same_some _ _ (sym b.1 ∙ ap (λ (z : Slot). z.written) same ∙ wrote) in
+      known-of shelf written.references b.2.keys (subst (λ (z : Written). AreKeysOf shelf z.references b.2.keys) w b.2.known) r among
+
+  left-paged-out : (i : Identity) (key height : ℕ) → IsPublished shelf i key height → IsLeftPagedOut v s.pager shelf trees i
+  left-paged-out i key height p =
+      let f = fit.slots t i p.slot p.claimed in let b = f.publishes key height p.known in let w = f.writes b.0 b.1 in
+      search (p.claimed, b.1, p, b.2.is_stored, b.2.known, w.is, tree-form w)
+
+-- ---- an event
+
+-- a live cell whose key was set has one
+some-key : (own : OptionalDataKey) → has_key own ≡ true → (key : ℕ) × (own ≡ OptionalDataKey.Some key)
+some-key x0 is = grind (arith, nat_tests)
+
+-- a live cell whose key was set has one
+key-known : (w : Core) (n : ℕ) → KeyIsSet w n → is_some (w.cells n) ≡ true → (key : ℕ) × (key_at w n ≡ OptionalDataKey.Some key)
+key-known w n set live = some-key (key_at w n) (let keyed = set.keyed in grind (arith, nat_tests, if_there))
+
+-- a cell whose key is published has one by then
+set-by-then : {N B W : Type 0} (m : Seen N B W) (n : ℕ) (s s' : Site) (todo : List Todo) (i : Identity) (key height : ℕ) → Does m n s todo (Took.Publish i key height) s' → AllHold s.core n todo
+    → ((k : ℕ) → HasHandle s.core n k → is_some (s.core.cells k) ≡ true) → is_loose_kind i.kind.0 ≡ true → (set : ℕ) × (key_at s.core i.node.0 ≡ OptionalDataKey.Some set)
+unfolding AllHold
+set-by-then m n s s' (to_publish r k h ∷ below) i key height does all live kind =
+    subst (λ (j : Identity). (set : ℕ) × (key_at s.core j.node.0 ≡ OptionalDataKey.Some set)) (sym does.0)
+    (key-known s.core r.node.0 (all.0.0 (subst (λ (j : Identity). is_loose_kind j.kind.0 ≡ true) does.0 kind)) (live r.node.0 all.0.1))
+set-by-then m n s s' todo i key height does all live kind = absurd does
+
+module _ {N B W E : Type 0} (m : Seen N B W) (s s' : MachineState N E) (trees trees' : ℕ → Tree) (before : WorkFits m.values s trees) (after : WorkFits m.values s' trees')
+    (earlier : IsMachineWhole m.values s) (whole : IsMachineWhole m.values s')
+    (stands : StandsFor m.values s' trees') (held_before : KeysHeld (world_of s)) (held : KeysHeld (world_of s')) where
+  module _ (n : WorkerNumber) (reply : WorkerReply W) (w : WorkerSteps m (world_of s) n reply (world_of s')) where
+    abbrev site : Site
+    site = record { core = s.pager.core; shelf = s.work.shelves w.walking.table; todo = w.walking.todo }
+
+    done : (key : ℕ) → reply.answer ≡ Some (WorkerAnswer.Key key) → IsDone m.values (s'.work.shelves w.walking.table) w.walking.task key
+    done key is =
+        let a = answered m n.0 (ground_of s trees) w.walking.task site w.after w.walking.todo reply.took w.does.does (before.walks n.0 w.walking w.at) key (sym w.answers ∙ is) in
+        done-on (keys-same (λ i. (w.work.same_shelves w.walking.table).slots i ∙ ap (λ (x : Shelf). x.slots i) (updated-at w.walking.table w.after.shelf s.work.shelves) ∙ a.1 i))
+        m.values w.walking.task key a.0
+
+    -- the worker as it is afterwards
+    is-after : (P : Walking → Type 0) → P (record w.walking { todo = w.after.todo; steps = reply.steps; answer = reply.answer }) → (walking : Walking) → s'.work.walkings n.0 ≡ Some walking → P walking
+    is-after P p walking there = grind (arith, nat_tests, same_some, updated-at)
+
+  left-all : (t : ℕ) (task : Task) (key : ℕ) → IsDone m.values (s'.work.shelves t) task key → LeavesAll m.values s'.pager (s'.work.shelves t) trees' task
+  left-all t task key done =
+      record {
+        blobs = λ i meets. let p = met m.values s' trees' after t task key done i meets in left-paged-out m.values s' trees' after t i p.0 p.1.0 p.1.1;
+        cells = λ i meets kind live.
+            let p = met m.values s' trees' after t task key done i meets in let k = key-known s'.pager.core i.node.0 (held.slots t i p.0 p.1.0 p.1.1 kind) live in
+            let handles = whole.pager.whole.handles in let represents = stands.pager in record { key = k.0; set = k.1; reads = (grind (arith, nat_tests)) };
+      }
+
+  pub keys-right : (event : Event N B W) (reply : EventReply N B W) → Happens m (world_of s) event reply (world_of s') → KeysAreRight m.values s trees event reply s' trees'
+  keys-right (Event.WorkerStep n) (EventReply.WorkerMoved (Ok reply)) is =
+      let w = is.moves in
+      record {
+        publishes = λ i key height e.
+            let does = subst (λ (k : Took W). Does m n.0 (site n reply w) w.walking.todo k w.after) e w.does.does in
+            let set = set-by-then m n.0 (site n reply w) w.after w.walking.todo i key height does (held_before.walks n.0 w.walking w.at) (λ k h.
+            subst (λ k. is_some (s.pager.core.cells k) ≡ true) h.at (cell-of earlier.pager.whole.handles h.row.node.0 (row-held s.pager.core h.h h.row h.live))) in (grind (arith, nat_tests), set);
+        key = λ walking key there e. is-after n reply w (λ x. IsKeyOfTask m.values trees' x.task key)
+            (is-key m.values s' trees' after w.walking.table w.walking.task key (done n reply w key e)) walking there;
+        leaves = λ walking key there e. is-after n reply w (λ x. LeavesAll m.values s'.pager (s'.work.shelves x.table) trees' x.task)
+            (left-all w.walking.table w.walking.task key (done n reply w key e)) walking there;
+      }
+  keys-right event reply is = record { publishes = tt; key = tt; leaves = tt }
+
+-- ---- what a worker is about to set
+
+-- a key that a worker is about to set reads as its node's tree
+pub sets-key : {N E : Type 0} (v : Values N) (s : MachineState N E) (trees : ℕ → Tree) → ReadsItsTypes v.types → WorkFits v s trees
+    → (n : ℕ) (walking : Walking) (r : ArcRef) (through : HandleNumber) (key height : ℕ) (below : List Todo)
+    → s.work.walkings n ≡ Some walking → walking.todo ≡ to_set r through key height ∷ below → ReadsTree s.pager.core.stored v.types key (trees r.node.0)
+sets-key v s trees reads fit n walking r through key height below there is = grind (arith, nat_tests, same_some, tree_readable, each-type)
 
 module _ {N E B W : Type 0} (m : Seen N B W) (n : ℕ) (task : Task) (C : Type 0) where
   went : {todo next : List Todo} {s s' : AccessState N E} {step : Took W} → WalkStep m n todo s step next s' → AllStand s.shelf n task todo → Covers s.shelf n todo
-      → Goes n task s.shelf (answer_after todo step) s'.shelf next
+      → ShelfGoes n task s.shelf (answer_after todo step) s'.shelf next
   went {todo} {next} {s} {s'} {step} w all covers =
-      subst (λ t. Goes n task s.shelf (answer_after todo step) s'.shelf t) (sym w.goes_on)
+      subst (λ t. ShelfGoes n task s.shelf (answer_after todo step) s'.shelf t) (sym w.goes_on)
       (goes-same n task s.shelf w.after.shelf s'.shelf _ w.after.todo w.shelf_is.slots
       (stands-on m n task (record { core = s.pager.core; shelf = s.shelf; todo = todo }) w.after all covers step w.does.does))
 
+  -- What a worker leaves with its answer: of its own claims, and of others'. And what it failed with was met where, if C, what its list fails with was met, and none of its claims had failed.
   at-answer : {todo : List Todo} {s s' : AccessState N E} {steps : List (Took W)} {answer : WorkerAnswer} → WorkerRun m n todo s steps answer s' → (past : List (Took W)) → AllStand s.shelf n task todo
-      → Covers s.shelf n todo → (C → Met n s.shelf past todo) → Answered C n s.shelf (past ++ steps) answer s'.shelf
+      → Covers s.shelf n todo → (C → HasNoFailed s.shelf n × FailsMet n s.shelf past todo)
+      → ((i : Identity) (slot : Slot) → s'.shelf.slots i ≡ Some slot → slot.worker ≡ n → is_open_outcome slot.outcome ≡ false)
+      × ((i : Identity) (slot : Slot) → s'.shelf.slots i ≡ Some slot → nat_eq slot.worker n ≡ false → s.shelf.slots i ≡ Some slot) × (C → IsMetFailure s'.shelf n (past ++ steps) answer)
   unfolding is_open_in
   at-answer (worker-ends todo next step answer s s' w is) past all covers met =
-      let g = went w all covers in let grown = grows n s.shelf s'.shelf g.changes in
-      record {
-        own = λ i slot there own.
-            let none : (slot.outcome ≡ no_result → false ≡ true) = λ still. subst (λ t. Covers s'.shelf n t) (g.done answer is) g.covers i slot there own still in grind (arith, nat_tests);
-        others = λ i slot there other. grind (arith, nat_tests, some-same);
-        met = λ c. answered n s'.shelf (past ++ step ∷ []) todo step answer is (fails-stay n s.shelf s'.shelf past _ todo grown (λ x (i, at). among-left past (step ∷ []) i x at) (met c).1);
-      }
+      let g = went w all covers in let grown = grows n s.shelf s'.shelf g.changes in (
+        λ i slot there own.
+            let none : (slot.outcome ≡ no_result → false ≡ true) = λ still. subst (λ t. Covers s'.shelf n t) (g.done answer is) g.covers i slot there own still in grind (arith, nat_tests),
+        λ i slot there other. grind (arith, nat_tests, some-same),
+        λ c. was-answered n s'.shelf (past ++ step ∷ []) todo step answer is (fails-stay n s.shelf s'.shelf past _ todo grown (λ x (i, at). among-left past (step ∷ []) i x at) (met c).1),
+      )
   at-answer (worker-goes-on todo next step steps answer s mid s' w is more) past all covers met =
       let g = went w all covers in let grown = grows n s.shelf mid.shelf g.changes in
       let site : Site = record { core = s.pager.core; shelf = s.shelf; todo = todo } in
-      let on : C → Met n mid.shelf (past ++ step ∷ []) next = λ c.
+      let on : C → HasNoFailed mid.shelf n × FailsMet n mid.shelf (past ++ step ∷ []) next = λ c.
       let (clean, fails) = met c in
       let already : (i : Identity) → step ≡ Took.Claim i (Ok Claim.AlreadyFailed) → FailedElsewhere mid.shelf n i =
-      λ i is. failed-stays n s.shelf mid.shelf i grown (failed-elsewhere m n site w.after todo i (subst (λ (x : Took W). Does m n site todo x w.after) is w.does.does) clean) in (
-        g.unfailed is clean,
-        subst (λ t. FailsMet n mid.shelf (past ++ step ∷ []) t) (sym w.goes_on)
-            (follows-met n mid.shelf (past ++ step ∷ []) m.written_of todo step w.after.todo (steps_follow m n site w.after step w.does) (among-right past (step ∷ []) 0 step refl) already
-            (fails-stay n s.shelf mid.shelf past _ todo grown (λ x (i, at). among-left past (step ∷ []) i x at) fails)),
-      ) in
+      λ i is. failed-stays n s.shelf mid.shelf i grown (failed-elsewhere m n site w.after todo i (subst (λ (x : Took W). Does m n site todo x w.after) is w.does.does) clean) in
+      let follows = follows-met n mid.shelf (past ++ step ∷ []) m.written_of todo step w.after.todo (steps_follow m n site w.after step w.does) (among-right past (step ∷ []) 0 step refl) already
+      (fails-stay n s.shelf mid.shelf past _ todo grown (λ x (i, at). among-left past (step ∷ []) i x at) fails) in
+      (g.unfailed is clean, subst (λ t. FailsMet n mid.shelf (past ++ step ∷ []) t) (sym w.goes_on) follows) in
       let a = at-answer more (past ++ step ∷ []) g.all g.covers on in
-      let met : C → IsMetFailure s'.shelf n (past ++ step ∷ steps) answer = λ c. subst (λ past. IsMetFailure s'.shelf n past answer) (append_assoc past (step ∷ []) steps) (a.met c) in
-      grind (arith, nat_tests, some-same, a.own, a.others, met)
+      let met : C → IsMetFailure s'.shelf n (past ++ step ∷ steps) answer = λ c. subst (λ past. IsMetFailure s'.shelf n past answer) (append_assoc past (step ∷ []) steps) (a.2 c) in
+      grind (arith, nat_tests, some-same, a.0, a.1, met)
 
 -- of an item: where each claim of its table had a result, each has one
 pub item-answered : {N E B W : Type 0} (m : Seen N B W) (n : ℕ) (item : Written) {s s' : AccessState N E} {steps : List (Took W)} {answer : WorkerAnswer}
     → WorkerRun m n (first_todo (of_item item)) s steps answer s' → AllHaveResults s.shelf → AllHaveResults s'.shelf
 item-answered m n item {s} {s'} run all =
     let a = at-answer m n (of_item item) ⊥ run [] (first-stands s.shelf n (of_item item)) (λ i slot there own still. absurd (let e = all i slot there in grind arith)) (λ c. absurd c) in
-    (λ i slot there. elim (cases_Bool (nat_eq slot.worker n)) [ inl e ↦ a.own i slot there (same-worker slot.worker n e) | inr e ↦ all i slot (a.others i slot there e) ])
+    (λ i slot there. elim (cases_Bool (nat_eq slot.worker n)) [ inl e ↦ a.0 i slot there (same-worker slot.worker n e) | inr e ↦ all i slot (a.1 i slot there e) ])
 
 -- of an entry, on a table of no claims: nobody had failed before
 pub entry-answered : {N E B W : Type 0} (m : Seen N B W) (n : ℕ) (h : HandleNumber) (j : Identity) {s s' : AccessState N E} {steps : List (Took W)} {answer : WorkerAnswer}
@@ -63,5 +376,5 @@ pub entry-answered : {N E B W : Type 0} (m : Seen N B W) (n : ℕ) (h : HandleNu
 entry-answered m n h j {s} {s'} {steps} run none is =
     let a = at-answer m n (of_entry h j) (Unit {0}) run [] (first-stands s.shelf n (of_entry h j)) (λ i slot there own still. some-none there (none i))
     (λ c. (λ i slot there own. some-none there (none i), first-met n s.shelf [] (of_entry h j))) in
-    let (i, among, failed) = subst (λ x. IsMetFailure s'.shelf n steps x) is (a.met tt) in
-    some-none (a.others i failed.slot failed.claimed failed.of_another) (none i)
+    let (i, among, failed) = subst (λ x. IsMetFailure s'.shelf n steps x) is (a.2 tt) in
+    some-none (a.1 i failed.slot failed.claimed failed.of_another) (none i)

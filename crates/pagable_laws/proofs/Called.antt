@@ -77,20 +77,17 @@ module _ {me : Owner} {lists : Bool} {Asks Leaves : Type 0} {c : Change} where
         → Installs w me l p h k references w' → Effect me lists Asks Leaves false c w w'
     installed {w} {w'} {references = references} l p h may i =
         let closed : Effect me lists Asks Leaves true c w (without_load w l) = shuts (none w) l (λ own. owned-mine may.owned) in
+        let own-free : (r : HandleRow) → find_row h.0 w.rows ≡ Some r → NotLoads r.owner =
+        λ r found. subst NotLoads (sym (ap (λ (x : HandleRow). x.owner) (same_some _ _ (sym found ∙ i.owned.live)) ∙ i.owned.own)) free in
+        let pinned-free : (r : HandleRow) → find_row h.0 (moved (is_named_by references) (owner_value p.0) w.rows) ≡ Some r → NotLoads r.owner = λ r found l is.
+        let c = found-changed (λ (r : HandleRow). is_named_by references r.number.0) (λ row. record row { owner = owner_value p.0 }) (λ r. refl) h.0 w.rows r found in
+        grind (arith, nat_tests, found-changed, same_some, own-free) in
         elim i.falls [
           | inl (away, f) ↦ fell
               (handle (turned (moves closed (is_named_by references) (owner_value p.0) w.list (λ l is. absurd (cc)) (load-named w l references (good w (Owner.Load l) [] references may.good)))
               h Mode.LoosePinned refl (own-handle h i.row i.owned) pinned-free) p Mode.Pinned me) f.falls (but (is_owned_in w (Owner.Load l)) (is_named_by references) (load-owns w l))
           | inr (there, f) ↦ fell (handle (turned closed h Mode.LoosePinned refl (own-handle h i.row i.owned) own-free) p Mode.Pinned me) f.falls (load-owns w l)
         ]
-      where
-        own-free : (r : HandleRow) → find_row h.0 w.rows ≡ Some r → NotLoads r.owner
-        own-free r found = subst NotLoads (sym (ap (λ (x : HandleRow). x.owner) (same_some _ _ (sym found ∙ i.owned.live)) ∙ i.owned.own)) free
-
-        pinned-free : (r : HandleRow) → find_row h.0 (moved (is_named_by references) (owner_value p.0) w.rows) ≡ Some r → NotLoads r.owner
-        pinned-free r found l is =
-            let c = found-changed (λ (r : HandleRow). is_named_by references r.number.0) (λ row. record row { owner = owner_value p.0 }) (λ r. refl) h.0 w.rows r found in
-            grind (arith, nat_tests, found-changed, same_some, own-free)
 
     pub ends-load : {N : Type 0} {w w' : Core} {x : N} {t : ℕ} {references : List ArcRef} (l : LoadNumber) (r : Result HandleNumber (Error × Option N)) → EndCall w me l x t references r w'
         → Effect me lists Asks Leaves false c w w'

@@ -1,58 +1,43 @@
 -- A handle goes on to stand for its reference, as a clone does; a key that was set stays. And each event keeps trees: what it brings fits some trees afterwards, with all that its loads read.
-use Rattle.pagable_laws.proofs.Words.{HandlesAreWhole, Happens, HoldsSettled, Identity, IsIdle, IsLawful, IsMachineWhole, IsPublished, IsWellAsked, KeepsOpen, List, MachineState, Moment, NodeNumber}
-use Rattle.pagable_laws.proofs.Words.{None, Ok, Option, Owner, Reading, ReadsItsTypes, Seen, Shelf, Site, Slot, Some, Task, Todo, Took, Tree, Values, Walking, WorkFits, WorkerAnswer, WorkerNumber}
-use Rattle.pagable_laws.proofs.Words.{WorkerReply, WorkerSteps, World, [], above, any_mode, ap, append_assoc, arith, false, false_from_ne_true, find_row, give, identity_of, if_there, inl, inr}
-use Rattle.pagable_laws.proofs.Words.{is_owner, is_some, le_trans, nat_tests, no_result, nothing_felt, of_entry, of_item, one, owner_worker, refl, row_at, rules, state_after, step_of, subst}
-use Rattle.pagable_laws.proofs.Words.{sum_by-cons, sym, times, to_finish, to_item, to_load, to_pin, to_set, to_start, to_write, true, type_of, world_of, ℕ, ◌&&◌, ◌++◌, ◌+◌, ◌==◌, ◌∙◌, ◌∷◌, ◌≡◌, ◌≤◌}
-use Rattle.pagable_laws.proofs.{Answering.{keys-right, sets-key}, Called.{begin-goes, pins}, Coming.{EventTurns, HasGone, StandsIn, Went, event-turns, goes-on, idle-stands, turns-keep, turns-stand}}
-use Rattle.pagable_laws.proofs.{Coming.{updated-at, waits-well}, Felt.{call-fits, fits-key, fits-nothing, none-comes, reading-fits, trees-go-on}, Following.given-of, Goes.{Stands, among-found, fell}}
-use Rattle.pagable_laws.proofs.{Goes.{found-number, goes-quiet, pins-hold, quiet-goes, stands-alike, stands-fell, stands-new, stands-whole}, Once.once_each, ReadingSteps.{ends-quiet, event-goes}}
-use Rattle.pagable_laws.proofs.{ReadingSteps.{is-reading-of, readings-on, walk-goes, works-free}, ReadingStepsGive.{LoadsStand, event-on, idle-bounded, reads-give, step-within, steps-left}}
-use Rattle.pagable_laws.proofs.{SparingSteps.{Spares, event-spares}, Standing.{KeepsTask, ShelfGrows, Turned, grows, is-same, is_open_in, keeps-task, put-cases, puts-slot, true-false}}
-use Rattle.pagable_laws.proofs.{Stepping.{fits-at-first, fits-on, keys-same}, Taking.{Going, given-nodes, going-new, going-of, going-on, going-step, pin_stands, tree-stays}, Trees.one-small}
-use Rattle.pagable_laws.proofs.{Trees.{same_some, sum-zero}, Words.{Among, ArcRef, AreMoments, Beginning, Bool, Change, Claim, CloneCall, Core, Does, Event, EventReply, HandleNumber, HandleRow}}
-use Rattle.pagable_laws.{proofs.Words.◌⊎◌, specs.TreeSteps.{AllHold, ChangeFits, CoreGoes, EventFeels, HasHandle, HasPin, Holds, IsSteppedReading, KeyIsSet, KeysAreReady, KeysHeld, PinHolds}}
-use Rattle.pagable_world.specs.{Headline.{HasLetGo, HeadlineLaw, IsRight, PinGives, StepsAreWithin, TableMeets, WorkIsRight, WorkerIsRight, claims_made, is_on_table}, Kinds.{fits_mode, has_key}}
-use Rattle.pagable_world.specs.{Kinds.is_loose, Order.{InOrder, is_claim_of, steps_of}, Pager.{EventBrings, IsReadingOf, StandsFor}, Plain.is_loose_kind, Refusals.Owns, Runs.AsksWell}
-use Rattle.pagable_world.specs.{Runs.{Does as DoesMoment, Fact, IsPremised, TakesWell, TreesAfter, TreesAlong, events_of, replies_of}, Workers.{PinsAtOnce, claim_fault, first_todo, give_known}}
-use Rattle.pagable_world.specs.{Workers.{next_start, with_changed_slot, with_outcome}, World.{SameShelf, published, to_publish, type_at}, declared.{answers.Pinning.Pinning, events.PinStep.PinStep}}
-use Rattle.std.{proofs.{Common.append-nil, Math.Nat.zero-add, lemmas.List.Sums.sum_by-append}, specs.Prelude.is_none}
-use Rattle.{pagable_laws.specs.TreeSteps.{StandsAt, WaitsHeld, by-call, by-key, by-nothing, by-reading}, pagable_world.specs.{Calls.{SetKeyCall, row_of, with_key}, Events.Ends, Headline.GivesTree}}
+use Rattle.pagable_laws.proofs.{Answered.{keys-right, once_each, sets-key}, Called.{begin-goes, pins}, Coming.{EventTurns, HasGone, StandsIn, event-turns, goes-on, idle-stands, turns-keep}}
+use Rattle.pagable_laws.proofs.{Coming.{turns-stand, updated-at, waits-well}, Felt.{call-fits, fits-key, fits-nothing, none-comes, reading-fits, trees-go-on}, Following.given-of, Goes.Stands}
+use Rattle.pagable_laws.proofs.{Goes.{among-found, fell, found-number, goes-quiet, pins-hold, quiet-goes, stands-alike, stands-fell, stands-new, stands-whole}, ReadingSteps.{ends-quiet, event-goes}}
+use Rattle.pagable_laws.proofs.{ReadingSteps.{is-reading-of, readings-on, walk-goes, works-free}, SparingSteps.{LoadsStand, Spares, event-on, idle-bounded, reads-give, step-within, steps-left}}
+use Rattle.pagable_laws.proofs.{Standing.{KeepsTask, ShelfGrows, grows, is-same, keeps-task, put-cases, puts-slot, true-false}, Stepping.{fits-on, keys-same}, Taking.{Going, given-nodes, going-new}}
+use Rattle.pagable_laws.proofs.{Taking.{going-of, going-on, going-step, pin_stands, tree-stays}, Trees.{one-small, same_some, sum-zero}, Words.{Among, ArcRef, AreMoments, Beginning, Bool, Change}}
+use Rattle.pagable_laws.proofs.Words.{Claim, CloneCall, Core, Does, Event, EventReply, HandleNumber, HandleRow, HandlesAreWhole, Happens, HoldsSettled, Identity, IsIdle, IsLawful, IsMachineWhole}
+use Rattle.pagable_laws.proofs.Words.{IsPublished, IsWellAsked, List, MachineState, Moment, NodeNumber, None, Ok, Option, Owner, Reading, ReadsItsTypes, Seen, Shelf, Site, Slot, Some, Todo, Took}
+use Rattle.pagable_laws.proofs.Words.{Tree, Values, Walking, WorkFits, WorkerAnswer, WorkerNumber, WorkerReply, WorkerSteps, World, [], above, any_mode, ap, append_assoc, arith, false}
+use Rattle.pagable_laws.proofs.Words.{false_from_ne_true, find_row, give, identity_of, inl, inr, is_owner, is_some, le_trans, nat_tests, nothing_felt, one, owner_worker, refl, row_at, rules}
+use Rattle.pagable_laws.proofs.Words.{state_after, step_of, subst, sum_by-cons, sym, times, to_finish, to_item, to_load, to_pin, to_set, to_start, to_write, true, type_of, world_of, ℕ, ◌&&◌, ◌++◌}
+use Rattle.pagable_laws.{proofs.Words.{◌+◌, ◌∙◌, ◌∷◌, ◌≡◌, ◌≤◌, ◌⊎◌}, specs.TreeSteps.{AllHold, ChangeFits, CoreGoes, EventFeels, HasHandle, HasPin, Holds, IsSteppedReading, KeyIsSet, KeysAreReady}}
+use Rattle.{pagable_laws.specs.TreeSteps.{KeysHeld, PinHolds, StandsAt, WaitsHeld, by-call, by-key, by-nothing, by-reading}, pagable_world.specs.{Calls.{SetKeyCall, row_of, with_key}, Events.Ends}}
+use Rattle.pagable_world.specs.{Headline.{HasLetGo, HeadlineLaw, IsRight, PinGives, StepsAreWithin, TableMeets, WorkIsRight, WorkerIsRight, claims_made, is_on_table}, Kinds.{fits_mode, is_loose}}
+use Rattle.pagable_world.specs.{Order.{InOrder, is_claim_of, steps_of}, Pager.{EventBrings, IsReadingOf, StandsFor}, Plain.is_loose_kind, Refusals.Owns, Runs.{Does as DoesMoment, Fact, IsPremised}}
+use Rattle.pagable_world.specs.{Runs.{TakesWell, TreesAfter, TreesAlong, events_of, replies_of}, Workers.{claim_fault, give_known, next_start, with_changed_slot, with_outcome}, World.SameShelf}
+use Rattle.{pagable_world.specs.{World.{published, to_publish, type_at}, declared.{answers.Pinning.Pinning, events.PinStep.PinStep}}, std.proofs.{Common.append-nil, Math.Nat.zero-add}}
+use Rattle.std.{proofs.lemmas.List.Sums.sum_by-append, specs.Prelude.is_none}
 
 module _ {c : Change} {w w' : Core} (goes : CoreGoes c w w') where
   pub stands-on : {r : ArcRef} {h : HandleNumber} → StandsAt w r h → StandsAt w' r h
   stands-on {r} {h} s =
-      record {
-        node_given = let a = s.node_given in let b = goes.nodes in omega arith;
-        given = let a = s.given in let b = goes.handles in omega arith;
-        is = λ row live. let was = goes.rows h.0 row live s.given in let old = s.is was.was was.live in (sym was.at ∙ old.0, λ kind. was.loose (old.1 kind));
-      }
+      let a = s.node_given in let b = goes.nodes in let c = s.given in let d = goes.handles in
+      record { node_given = omega arith; given = omega arith; is = λ row live. let was = goes.rows h.0 row live s.given in let old = s.is was.was was.live in grind (arith, nat_tests) }
 
   pub key-on : {n : ℕ} → KeyIsSet w n → KeyIsSet w' n
   key-on {n} s =
-      record {
-        given = let a = s.given in let b = goes.nodes in omega arith;
-        keyed = λ cell live. elim (goes.cells n cell live) [
-          | inl k ↦ elim k.key [ inl same ↦ ap has_key same ∙ s.keyed k.was k.live | inr (key, sets, is) ↦ ap has_key is ]
-          | inr (next, bears) ↦ let a = s.given in absurd (omega arith)
-        ];
-      }
+      let a = s.given in let b = goes.nodes in record { given = omega arith; keyed = λ cell live. let c = goes.cells n cell live in let was = s.keyed in grind (arith, nat_tests) }
 
   pub waits-on : (todo : List Todo) → WaitsHeld w todo → WaitsHeld w' todo
-  unfolding WaitsHeld
   waits-on (to_finish o ∷ below) (h, waits) = (stands-on h, waits-on below waits)
   waits-on (to_item written keys ∷ below) waits = waits-on below waits
   waits-on x0 waits = grind (arith, nat_tests)
 
   -- where the worker keeps handles
   pub all-on : (v : ℕ) → ((n : ℕ) → HasHandle w v n → HasHandle w' v n) → (todo : List Todo) → AllHold w v todo → AllHold w' v todo
-  unfolding AllHold
   all-on v keeps [] all = tt
-  all-on v keeps (x ∷ below) (h, waits) = (of x h, waits-on below waits)
-    where
-      of : (x : Todo) → Holds w v x → Holds w' v x
-      of (to_publish r key height) h = (λ kind. key-on (h.0 kind), keeps r.node.0 h.1)
-      of _ h = search (rules, stands-on)
+  all-on v keeps (to_publish r key height ∷ below) (h, waits) = ((λ kind. key-on (h.0 kind), keeps r.node.0 h.1), waits-on below waits)
+  all-on v keeps (x ∷ below) (h, waits) = (search (rules, stands-on), waits-on below waits)
 
 -- nothing is to be said against a claim: the reference's handle is of its node and fits its kind, and the node is there
 pub record IsClaimable (w : Core) (r : ArcRef) : Type 0 where
@@ -75,59 +60,41 @@ module _ {w : Core} (whole : HandlesAreWhole w) where
   -- a clone stands for what its handle stands for
   pub clone-stands : {w' : Core} {me : Owner} (r : ArcRef) (k : HandleNumber) → StandsAt w r r.handle → CloneCall w me r.handle (Ok k) w' → StandsAt w' r k
   clone-stands {w'} {me} r k s call =
-      let row : HandleRow = call.made.0 in
-      let next = call.made.2 in
-      let a = call.made.3 in
-      let old = s.is row call.made.1 in
-      let same : w'.last.handle ≡ w.last.handle + 1 = ap (λ l. l.handle) a.last in
-      let above : k.0 ≡ w.last.handle + 1 = next.above in
-      let made : HandleRow = row_of (w.last.handle + 1) row.node row.mode me in
-      let s_made = stands-new w.last.handle w.rows made (λ h among. (whole.numbered h among).1) refl in
-      record {
-        node_given = let b = s.node_given in let c : w'.last.node ≡ w.last.node = ap (λ l. l.node) a.last in omega arith;
-        given = omega arith;
-        is = grind (arith, nat_tests, find_row, among-found, found-number, above, is_loose);
-      }
+      let row : HandleRow = call.made.0 in let old = s.is row call.made.1 in let above : k.0 ≡ w.last.handle + 1 = call.made.2.above in let a = call.made.3 in let b = s.node_given in
+      let s_made = stands-new w.last.handle w.rows (row_of (w.last.handle + 1) row.node row.mode me) (λ h among. (whole.numbered h among).1) refl in
+      grind (arith, nat_tests, find_row, among-found, found-number, above, is_loose)
 
 -- ---- what workers hold they hold after each event, and each cell whose key was published by a loose reference has a key
 
 module _ (w : Core) (v : ℕ) where
   started : (place : ℕ) (rs : List ArcRef) (x : Todo) (below : List Todo) → Holds w v x → WaitsHeld w below → WaitsHeld w (x ∷ below) → AllHold w v (next_start place rs ++ x ∷ below)
-  unfolding AllHold
   started place x1 x below h waits all = grind (arith, nat_tests)
 
   given : (r : ArcRef) (key height : ℕ) (below : List Todo) → WaitsHeld w below → AllHold w v (give r key height below)
-  unfolding AllHold WaitsHeld
   given r key height x3 waits = grind (arith, nat_tests, started, above)
 
   known : (r : ArcRef) (key height : ℕ) (below : List Todo) → WaitsHeld w below → AllHold w v (give_known r key height below)
-  unfolding AllHold WaitsHeld
   known r key height x3 waits = grind (arith, nat_tests, given)
 
 -- the worker has the handle still through which it has set a key
 still-held : {w w' : Core} (v : ℕ) (r : ArcRef) (through : HandleNumber) (key : ℕ) (u : Unit {0}) → HandlesAreWhole w → StandsAt w r through
     → SetKeyCall w (owner_worker v) through key (Ok u) w' → HasHandle w' v r.node.0
-still-held {w} {w'} v r through key u whole s call = elim call.does [
-  | inl refused ↦ let f = refused.told in absurd (cc)
-  | inr (row, owns, inl (other, told, a)) ↦ held row owns (stands-alike a (stands-whole whole through.0 row owns.live))
-  | inr (row, owns, inr (loose, f)) ↦ let s : Stands (with_key w row.node key).last.handle (with_key w row.node key).rows through.0 row = stands-whole whole through.0 row owns.live in
-      held row owns (stands-fell f (λ n is. let f : owner_worker v ≡ Owner.Value n = sym owns.own ∙ is in absurd (cc)) refl s)
-]
-  where
-    held : (row : HandleRow) → Owns w (owner_worker v) through any_mode row → Stands w'.last.handle w'.rows through.0 row → HasHandle w' v r.node.0
-    held row owns stands = record { h = through; row = row; live = stands.live; own = owns.own; at = ap (λ (n : NodeNumber). n.0) (s.is row owns.live).0 }
+still-held {w} {w'} v r through key u whole s call =
+    let held : (row : HandleRow) → Owns w (owner_worker v) through any_mode row → Stands w'.last.handle w'.rows through.0 row → HasHandle w' v r.node.0 = λ row owns stands.
+    record { h = through; row = row; live = stands.live; own = owns.own; at = ap (λ (n : NodeNumber). n.0) (s.is row owns.live).0 } in elim call.does [
+      | inl refused ↦ let f = refused.told in absurd (cc)
+      | inr (row, owns, inl (other, told, a)) ↦ held row owns (stands-alike a (stands-whole whole through.0 row owns.live))
+      | inr (row, owns, inr (loose, f)) ↦ let s : Stands (with_key w row.node key).last.handle (with_key w row.node key).rows through.0 row = stands-whole whole through.0 row owns.live in
+          held row owns (stands-fell f (λ n is. let f : owner_worker v ≡ Owner.Value n = sym owns.own ∙ is in absurd (cc)) refl s)
+    ]
 
 -- a key that is known afterwards was known, or P holds
 abbrev Reveals : Shelf → Shelf → (Identity → Type 0) → Type 0
 Reveals shelf shelf' P = (i : Identity) (key height : ℕ) → IsPublished shelf' i key height → IsPublished shelf i key height ⊎ P i
 
-module _ (shelf shelf' : Shelf) (P : Identity → Type 0) where
-  of-some : (f : Slot → Slot) (o : Option Slot) (slot : Slot) → if_there (λ (z : Slot). Some (f z)) None o ≡ Some slot → (old : Slot) × (o ≡ Some old) × (f old ≡ slot)
-  of-some f x1 slot e = grind (arith, nat_tests, same_some)
-
-  changed-reveals : (i : Identity) (f : Slot → Slot) → SameShelf (with_changed_slot shelf i f) shelf'
-      → ((old : Slot) (key height : ℕ) → (f old).outcome ≡ published key height → (old.outcome ≡ published key height) ⊎ P i) → Reveals shelf shelf' P
-  changed-reveals i f same back j key height p = grind (arith, is-same, of-some, known)
+changed-reveals : (shelf shelf' : Shelf) (P : Identity → Type 0) (i : Identity) (f : Slot → Slot) → SameShelf (with_changed_slot shelf i f) shelf'
+    → ((old : Slot) (key height : ℕ) → (f old).outcome ≡ published key height → (old.outcome ≡ published key height) ⊎ P i) → Reveals shelf shelf' P
+changed-reveals shelf shelf' P i f same back j key height p = grind (arith, nat_tests, same_some, is-same, known)
 
 module _ {N B W : Type 0} (m : Seen N B W) (v : ℕ) (s s' : Site) (whole : HandlesAreWhole s.core) where
   abbrev pub KeyThere : Identity → Type 0
@@ -144,20 +111,16 @@ module _ {N B W : Type 0} (m : Seen N B W) (v : ℕ) (s s' : Site) (whole : Hand
   stays : ((i : Identity) → s'.shelf.slots i ≡ s.shelf.slots i) → {next : List Todo} → s'.todo ≡ next → AllHold s'.core v next → Leaves
   stays same e all = leaves e all (λ i key height p. inl (keys-same (λ j. sym (same j)) i key height p))
 
-  pinned-stands : (r : ArcRef) (through k : HandleNumber) → StandsAt s.core r r.handle → PinsAtOnce s.core (owner_worker v) r through k s'.core → StandsAt s'.core r through
-  pinned-stands r through k stands does = elim does [
-    | inl (row, same, clone) ↦ subst (λ h. StandsAt s'.core r h) (sym same) (clone-stands whole r k stands clone)
-    | inr (row, (mid, clone, pin)) ↦ stands-on (pins {lists = false} {Asks = Unit {0}} {Leaves = Unit {0}} {c = nothing_felt} (works-free v) (Ok (Pinning.Pinned k)) pin).goes (clone-stands whole r through stands clone)
-  ]
-
   stepped : {c : Change} (todo : List Todo) (step : Took W) → s.todo ≡ todo → Does m v s todo step s' → CoreGoes c s.core s'.core → AllHold s.core v todo → Leaves
-  unfolding AllHold WaitsHeld
   stepped (to_start r place ∷ below) (Took.Claim i (Ok Claim.Claimed)) e (is, c) f (h, waits) =
       let t = c.finds.1.2 in
-      let new : Slot = record { worker = v; written = None; outcome = no_result } in
       leaves t.list_is (stands-on f (claimed-stands whole r c.finds.0), waits-on f below waits) (grind (arith, put-cases, known))
   stepped (to_pin r place ∷ below) (Took.Pin i (Ok (PinStep.Held k))) e (is, p) f (h, waits) = let t = p.pins.2 in
-      stays t.table_stays.slots t.list_is (pinned-stands r p.pins.0 k h p.pins.1, waits-on f below waits)
+      let stands : StandsAt s'.core r p.pins.0 = elim p.pins.1 [
+        | inl (row, same, clone) ↦ subst (λ h. StandsAt s'.core r h) (sym same) (clone-stands whole r k h clone)
+        | inr (row, (mid, clone, pin)) ↦ stands-on (pins {lists = false} {Asks = Unit {0}} {Leaves = Unit {0}} {c = nothing_felt} (works-free v) (Ok (Pinning.Pinned k)) pin).goes
+            (clone-stands whole r p.pins.0 h clone)
+      ] in stays t.table_stays.slots t.list_is (stands, waits-on f below waits)
   stepped (to_pin r place ∷ below) (Took.Pin i (Ok (PinStep.LoadBegun l))) e (is, p) f (h, waits) = let t = p.pins.2 in
       stays t.table_stays.slots t.list_is (stands-on (begin-goes (Ok (Beginning.Load l p.pins.1.1.1)) p.pins.1.1.3) (clone-stands whole r p.pins.0 h p.pins.1.1.2), waits-on f below waits)
   stepped (to_load r place through reading ∷ below) (Took.Pin i (Ok (PinStep.Held k))) e (is, p) f (h, waits) = let t = p.goes.1 in
@@ -175,40 +138,27 @@ module _ {N B W : Type 0} (m : Seen N B W) (v : ℕ) (s s' : Site) (whole : Hand
   stepped (to_publish r key height ∷ below) (Took.Publish i k q) e (is, same_key, same_height, t) f (h, waits) =
       leaves t.list_is (tt, waits-on f below waits)
       (changed-reveals s.shelf s'.shelf KeyThere (identity_of r) (with_outcome (published key height)) t.table_is (λ old k2 h2 known. inr (λ kind. key-on f (h.0 kind))))
-  stepped _ step e does f all = grind (arith, nat_tests, stays, leaves, of-some, known, waits-on f, given)
-
--- it is so where nobody works yet
-pub held-at-first : {N E : Type 0} (s : MachineState N E) → IsIdle s → KeysHeld (world_of s)
-held-at-first s idle = record { walks = λ n walking is. let f = idle.walkings n in absurd (cc); slots = λ t i key height p kind. let f = p.claimed in let g = idle.shelves t i in absurd (cc) }
+  stepped _ step e does f all = grind (arith, nat_tests, stays, leaves, same_some, known, waits-on f, given)
 
 module _ {N B W : Type 0} (m : Seen N B W) (u u' : World) {c : Change} (goes : CoreGoes c u.core u'.core) (held : KeysHeld u) (whole : HandlesAreWhole u.core) where
   abbrev SlotsHeld : Shelf → Type 0
   SlotsHeld shelf = (i : Identity) (key height : ℕ) → IsPublished shelf i key height → is_loose_kind i.kind.0 ≡ true → KeyIsSet u'.core i.node.0
 
-  first-hold : (n : ℕ) (task : Task) → AllHold u'.core n (first_todo task)
-  unfolding AllHold WaitsHeld
-  first-hold n (of_item written) = started u'.core n 0 written.references (to_item written []) [] tt tt tt
-  first-hold n (of_entry h i) = (tt, tt)
-
   a-step : StandsIn u' → (k : WorkerNumber) (r : WorkerReply W) (s : WorkerSteps m u k r u') → SlotsHeld s.after.shelf × AllHold u'.core k.0 s.after.todo
-  unfolding AllHold
   a-step work k r s =
       let w : Walking = s.walking in
       let site : Site = record { core = u.core; shelf = u.work.shelves w.table; todo = w.todo } in
       let l = stepped m k.0 site s.after whole w.todo r.took refl s.does.does (walk-goes m k.0 site s.after w.todo r.took s.does.does).goes (held.walks k.0 w s.at) in
-      let ends = quiet-goes nothing_felt (ends-quiet r.answer k.0 s.ends) in (
-        λ i key height p kind. elim (l.reveals i key height p) [ inl was ↦ key-on goes (held.slots w.table i key height was kind) | inr set ↦ key-on ends (set kind) ],
-        after (all-on ends) l.all r.answer s.ends refl,
-      )
+      let ends = quiet-goes nothing_felt (ends-quiet r.answer k.0 s.ends) in
+      let slots : SlotsHeld s.after.shelf = λ i key height p kind.
+      elim (l.reveals i key height p) [ inl was ↦ key-on goes (held.slots w.table i key height was kind) | inr set ↦ key-on ends (set kind) ] in
+      (slots, after (all-on ends) l.all r.answer s.ends refl)
     where
-      now : Walking
-      now = record s.walking { todo = s.after.todo; steps = r.steps; answer = r.answer }
-
       -- where it has answered nothing is left to be done, and where it hasn't it keeps what it has
       after : ((v : ℕ) → ((n : ℕ) → HasHandle s.after.core v n → HasHandle u'.core v n) → (todo : List Todo) → AllHold s.after.core v todo → AllHold u'.core v todo)
           → AllHold s.after.core k.0 s.after.todo → (a : Option WorkerAnswer) → Ends a k.0 s.after.core u'.core → r.answer ≡ a → AllHold u'.core k.0 s.after.todo
       after on all None e none = on k.0 (λ n h. (grind (arith, nat_tests, find_row))) s.after.todo all
-      after on all (Some a) e is = subst (λ todo. AllHold u'.core k.0 todo) (sym ((work.workers k.0 now (s.work.same_walkings k.0 ∙ updated-at k.0 (Some now) u.work.walkings)).done a is)) tt
+      after on all (Some a) e is = subst (λ todo. AllHold u'.core k.0 todo) (sym ((work.workers k.0 _ (s.work.same_walkings k.0 ∙ updated-at k.0 _ u.work.walkings)).done a is)) tt
 
   keys-hold : (event : Event N B W) (reply : EventReply N B W) → EventTurns m u event reply u' → StandsIn u' → ((n : ℕ) → step_of n event reply ≡ [] → Spares (owner_worker n) u.core u'.core)
       → KeysHeld u'
@@ -217,19 +167,11 @@ module _ {N B W : Type 0} (m : Seen N B W) (u u' : World) {c : Change} (goes : C
       (λ a b more slots n w all. all)
       (λ t shelf more same i key height p kind. key-on goes (held.slots t i key height (keys-same (λ j. sym (same j)) i key height p) kind))
       (λ n w none there. all-on goes n (λ q. λ h. let s = (spares n none).each h.h.0 h.row h.own (stands-whole whole h.h.0 h.row h.live) in
-      record { h = h.h; row = h.row; live = s.live; own = h.own; at = h.at }) w.todo (held.walks n w there)) (λ n shelf t task. first-hold n task) (λ k r s one more. a-step work k r s) in
+      record { h = h.h; row = h.row; live = s.live; own = h.own; at = h.at }) w.todo (held.walks n w there))
+      (λ n shelf t task. (let s = started u'.core n 0 in grind (arith, nat_tests, s))) (λ k r s one more. a-step work k r s) turns.own in
       record { walks = h.walks; slots = h.slots }
 
--- and after each event of a whole machine that doesn't close the storage
-pub held-on : {N B W E : Type 0} (m : Seen N B W) (s s' : MachineState N E) (event : Event N B W) (reply : EventReply N B W) → EventTurns m (world_of s) event reply (world_of s')
-    → IsMachineWhole m.values s → KeepsOpen event → DoesMoment m s event reply s' → StandsIn (world_of s') → KeysHeld (world_of s) → KeysHeld (world_of s')
-held-on m s s' event reply turns whole stays does work held =
-    let happens = does.step.happens in
-    keys-hold m (world_of s) (world_of s') (event-goes m (world_of s) (world_of s') event reply stays happens).goes held whole.pager.whole.handles event reply turns work
-    (λ n others. event-spares m n (world_of s) (world_of s') whole.pager.whole.owners_there event reply others stays happens)
-
 pub keys-ready : {N E : Type 0} (v : Values N) (s : MachineState N E) (trees : ℕ → Tree) → ReadsItsTypes v.types → WorkFits v s trees → KeysHeld (world_of s) → KeysAreReady v s trees
-unfolding AllHold
 keys-ready v s trees reads fit held k key row sets = grind (arith, sets-key)
 
 module _ {N E B W : Type 0} (m : Seen N B W) (s : MachineState N E) (trees : ℕ → Tree) where
@@ -243,36 +185,28 @@ module _ {N E B W : Type 0} (m : Seen N B W) (s : MachineState N E) (trees : ℕ
         → (event : Event N B W) (reply : EventReply N B W) {c : Change} → CoreGoes c s.pager.core s'.pager.core → IsWellAsked m.values s trees event reply
         → EventFeels m.values (world_of s) event reply (world_of s') c → (trees' : ℕ → Tree) × ChangeFits m.values c (EventBrings m.values (world_of s) event) s.pager s'.pager trees trees'
     event-fits lawful readable s' settled whole whole' ready event reply goes well (by-call c call answer called replied feels keeps) =
-        let P : Event N B W → EventReply N B W → Type 0 = λ e r. IsWellAsked m.values s trees e r in
-        let asked : AsksWell m.values s.pager trees call answer = subst (λ r. P (Event.Call call) r) replied (subst (λ e. P e reply) called well) in
-        let f = call-fits lawful settled whole.pager whole'.pager stands.pager c call answer goes asked feels in
-        (f.0, subst (λ e. ChangeFits m.values c (EventBrings m.values (world_of s) e) s.pager s'.pager trees f.0) (sym called) f.1)
+        let asked = rw (called, replied) at well in
+        let f = call-fits lawful settled whole.pager whole'.pager stands.pager c call answer goes asked feels in (f.0, rw called f.1)
     event-fits lawful readable s' settled whole whole' ready event reply goes well (by-reading c reading answer frames stepped opens feels steps) =
         let g = going-of s trees readings reading (is-reading-of (world_of s) event reading stepped) in
         let f = reading-fits lawful readable settled whole.pager whole'.pager stands.pager reading g.fits (given-nodes reading.frames g.held) goes
         (reading-takes event reply reading stepped well) opens feels in
         (f.0, (grind (arith, nat_tests)))
-    event-fits lawful readable s' settled whole whole' ready event reply goes well (by-key k key row is sets keeps) = (
-      trees,
-      fits-key lawful settled whole.pager whole'.pager stands.pager _ row.node.0 key (λ n x brings. (grind (arith, nat_tests, same_some)))
-          (tree-stays goes.stored (ready k key row sets)),
-    )
-    event-fits lawful readable s' settled whole whole' ready event reply goes well (by-nothing stays keeps) = (
-      trees,
-      fits-nothing lawful settled whole.pager whole'.pager stands.pager _
-          (λ n x brings none is. absurd (none-comes lawful settled whole.pager whole'.pager stands.pager n x goes none is (stays n x brings))),
-    )
+    event-fits lawful readable s' settled whole whole' ready event reply goes well (by-key k key row is sets keeps) =
+        let reads = ready k key row sets in
+        (trees, fits-key lawful settled whole.pager whole'.pager stands.pager _ row.node.0 key (λ n x brings. (grind (arith, nat_tests, same_some))) (tree-stays goes.stored reads))
+    event-fits lawful readable s' settled whole whole' ready event reply goes well (by-nothing stays keeps) =
+        let none = none-comes lawful settled whole.pager whole'.pager stands.pager in
+        (trees, fits-nothing lawful settled whole.pager whole'.pager stands.pager _ (λ n x brings unset is. absurd (none n x goes unset is (stays n x brings))))
 
 -- Trees stay along chains, pins and reads give them, and keys are right.
 
 -- ---- a machine that stands for trees stands for them after each event, with all that its loads read
 
 module _ {N E B W : Type 0} (m : Seen N B W) (s s' : MachineState N E) (trees trees' : ℕ → Tree) (whole : IsMachineWhole m.values s') (stands : StandsFor m.values s' trees') where
-  given-tree : (k : HandleNumber) → HasPin s'.pager.core k → GivesTree m.values s'.pager trees' k
-  given-tree k h = pin_stands s'.pager trees' k h.row whole.pager stands.pager h.live h.is
-
   pin-gives : (event : Event N B W) (reply : EventReply N B W) → PinHolds event reply s'.pager.core → PinGives m.values s trees event reply s' trees'
-  pin-gives x0 x1 pinned = grind (arith, nat_tests, given-tree)
+  pin-gives x0 x1 pinned =
+      let given = λ (k : HandleNumber) (h : HasPin s'.pager.core k). pin_stands s'.pager trees' k h.row whole.pager stands.pager h.live h.is in grind (arith, nat_tests, given)
 
 -- what holds of a machine and its trees along a chain
 pub record IsGoingOn {N E : Type 0} (v : Values N) (s : MachineState N E) (trees : ℕ → Tree) : Type 0 where
@@ -286,16 +220,10 @@ pub record IsGoingOn {N E : Type 0} (v : Values N) (s : MachineState N E) (trees
 
 module _ {N E B W : Type 0} (m : Seen N B W) (lawful : IsLawful m.values) (readable : ReadsItsTypes m.values.types) where
   pub idle-goes : (s : MachineState N E) (trees : ℕ → Tree) → IsMachineWhole m.values s → IsIdle s → HoldsSettled m.values s.pager → StandsFor m.values s trees → IsGoingOn m.values s trees
-  idle-goes s trees whole idle settled stands = grind (arith, idle-stands, fits-at-first, held-at-first)
-
-  -- what one moment comes to
-  pub record Goes (s : MachineState N E) (trees : ℕ → Tree) (x : Moment N E B W) : Type 0 where
-    pub trees' : ℕ → Tree
-    pub after : TreesAfter m (IsRight m.values) s trees x.event x.reply x.after trees'
-    pub on : IsGoingOn m.values x.after trees'
+  idle-goes s trees whole idle settled stands = grind (arith, nat_tests, idle-stands)
 
   pub goes : (s : MachineState N E) (trees : ℕ → Tree) (x : Moment N E B W) → IsGoingOn m.values s trees → DoesMoment m s x.event x.reply x.after
-      → IsPremised m.values s trees x.event x.reply x.after → Goes s trees x
+      → IsPremised m.values s trees x.event x.reply x.after → (trees' : ℕ → Tree) × TreesAfter m (IsRight m.values) s trees x.event x.reply x.after trees' × IsGoingOn m.values x.after trees'
   goes s trees x on does premised =
       let g = event-goes m (world_of s) (world_of x.after) x.event x.reply premised.stays_open does.step.happens in
       let felt = g.feels on.whole.pager.whole (waits-well (world_of s) on.work) in
@@ -310,15 +238,11 @@ module _ {N E B W : Type 0} (m : Seen N B W) (lawful : IsLawful m.values) (reada
       let fits = fits-on m s x.after trees f.0 (record { kept = g.goes.stored; last = g.goes.nodes; trees = f.1.same }) on.fits on.whole on.stands.pager
       on.settled readable lawful on.work x.event x.reply turns does.writes in
       let work = turns-stand m turns on.work in
-      let held = held-on m s x.after x.event x.reply turns on.whole premised.stays_open does work on.held in
+      let held = keys-hold m (world_of s) (world_of x.after) g.goes on.held on.whole.pager.whole.handles x.event x.reply turns work (λ n others. g.spares n on.whole.pager.whole.owners_there others) in
       let pins = pins-hold m (world_of s) (world_of x.after) x.event x.reply on.whole.pager.whole.handles does.step.happens in
       let keys = keys-right m s x.after trees f.0 on.fits fits on.whole does.whole stands on.held held x.event x.reply does.step.happens in
       let so : IsRight m.values s trees x.event x.reply x.after f.0 = search (rules, pin-gives, reads-give) in
-      record {
-        trees' = f.0;
-        after = record { keeps = f.1.same; stands = stands; so = so };
-        on = record { whole = does.whole; work = work; settled = premised.settled; stands = stands; readings = readings; fits = fits; held = held };
-      }
+      (f.0, record { keeps = f.1.same; stands = stands; so = so }, assumption (does.whole, work, premised.settled, stands, readings, fits, held))
 
   -- what follows of each moment, and of what stays true of the machine and of the moments that are left, holds along each chain
   pub along-with : (P : Fact N E B W) (I : MachineState N E → List (Moment N E B W) → Type 0)
@@ -327,17 +251,13 @@ module _ {N E B W : Type 0} (m : Seen N B W) (lawful : IsLawful m.values) (reada
       → (s : MachineState N E) (trees : ℕ → Tree) (moments : List (Moment N E B W)) → IsGoingOn m.values s trees → I s moments → AreMoments m s moments → TreesAlong m P s trees moments
   along-with P I follows s trees [] on so does = tt
   along-with P I follows s trees (x ∷ xs) on so (does, more) = λ premised.
-      let g = goes s trees x on does premised in
-      let a = g.after in
-      let f = follows s trees g.trees' x xs on so does.whole does.step.happens a.so in
-      (g.trees', record { keeps = a.keeps; stands = a.stands; so = f.0 }, along-with P I follows x.after g.trees' xs g.on f.1 more)
+      let (trees', a, after) = goes s trees x on does premised in
+      let f = follows s trees trees' x xs on so does.whole does.step.happens a.so in
+      (trees', record { keeps = a.keeps; stands = a.stands; so = f.0 }, along-with P I follows x.after trees' xs after f.1 more)
 
 -- What each chain comes to: claims, workers and loads; and with trees, the headline.
 
 -- ---- claims: each event claims on a table only what wasn't claimed there, and what one worker claimed is among its table's claims
-
-slots-stay : (shelf shelf' : Shelf) → ShelfGrows shelf shelf' → (i : Identity) → one (is_some (shelf.slots i)) ≤ one (is_some (shelf'.slots i))
-slots-stay shelf shelf' more i = grind (arith, nat_tests)
 
 abbrev pub claim_made : {N B W : Type 0} → (ℕ → Option Walking) → ℕ → Identity → Event N B W → EventReply N B W → ℕ
 claim_made walkings t i (Event.WorkerStep v) (EventReply.WorkerMoved (Ok reply)) = one (is_on_table t (walkings v.0) && is_claim_of i reply.took)
@@ -361,17 +281,14 @@ module _ {N B W : Type 0} (walkings : ℕ → Option Walking) (t : ℕ) (i : Ide
   module _ (m : Seen N B W) (u u' : World) (grow : (q : ℕ) → ShelfGrows (u.work.shelves q) (u'.work.shelves q))
       (keeps : (v : ℕ) (w : Walking) → u.work.walkings v ≡ Some w → KeepsTask walkings v w) where
     is-still : one (is_some ((u.work.shelves t).slots i)) ≤ one (is_some ((u'.work.shelves t).slots i))
-    is-still = slots-stay (u.work.shelves t) (u'.work.shelves t) (grow t) i
+    is-still = let more = grow t i in grind (arith, nat_tests)
 
     step-claims : {v : WorkerNumber} (reply : WorkerReply W) → WorkerSteps m u v reply u'
         → one (is_some ((u.work.shelves t).slots i)) + one (is_on_table t (walkings v.0) && is_claim_of i reply.took) ≤ one (is_some ((u'.work.shelves t).slots i))
-    step-claims {v = v} reply s = grind (arith, nat_tests, on, is-still, after, slots-stay, puts-slot, is-same)
-      where
-        on : (b : Bool) → (s.walking.table == t) ≡ b → is_on_table t (walkings v.0) ≡ b
-        on b e = let k = keeps v.0 s.walking s.at in ap (is_on_table t) k.there ∙ (ap (λ q. q == t) k.table ∙ e)
-
-        after : (u'.work.shelves s.walking.table).slots i ≡ s.after.shelf.slots i
-        after = (s.work.same_shelves s.walking.table).slots i ∙ ap (λ (x : Shelf). x.slots i) (updated-at s.walking.table s.after.shelf u.work.shelves)
+    step-claims {v = v} reply s =
+        let k = keeps v.0 s.walking s.at in
+        let after = (s.work.same_shelves s.walking.table).slots i ∙ ap (λ (x : Shelf). x.slots i) (updated-at s.walking.table s.after.shelf u.work.shelves) in
+        grind (arith, nat_tests, is-still, puts-slot, is-same)
 
     pub event-claims : (event : Event N B W) (reply : EventReply N B W) → Happens m u event reply u'
         → one (is_some ((u.work.shelves t).slots i)) + claim_made walkings t i event reply ≤ one (is_some ((u'.work.shelves t).slots i))
@@ -395,33 +312,18 @@ module _ {N E B W : Type 0} (m : Seen N B W) where
   arrives s (x ∷ xs) (does, chain) whole work loads =
       let turns : EventTurns m (world_of s) x.event x.reply (world_of x.after) =
       event-turns m (world_of s) (world_of x.after) work (λ v w there. (whole.walkings v w there).table.1) x.event x.reply does.step.happens in
-      let t = turns.turned in
+      let t = turns.turned in let last = (state_after x.after xs).work.walkings in
       let (rest, within) = arrives x.after xs chain does.whole (turns-stand m turns work) (event-on m s x.after whole x.event x.reply does.step.happens (waits-well (world_of s) work) loads) in
-      let last = (state_after x.after xs).work.walkings in (
-        record {
-          work = rest.work;
-          whole = rest.whole;
-          loads = rest.loads;
-          keeps = λ v w there. after turns.who t rest.keeps v w there;
-          gone = λ n past gone.
-              subst (λ k. HasGone m.written_of n (state_after x.after xs).work.shelves ((state_after x.after xs).work.walkings n) k)
-              (append_assoc past (step_of n x.event x.reply) (steps_of n (events_of xs) (replies_of xs)))
-              (rest.gone n (past ++ step_of n x.event x.reply) (goes-on m (world_of s) (world_of x.after) x.event x.reply work turns n past gone));
-          claims = λ q i.
-              let each = event-claims last q i m (world_of s) (world_of x.after) (λ p. grows turns.who (s.work.shelves p) (x.after.work.shelves p) (t.changes p))
-              (λ v w there. after turns.who t rest.keeps v w there) x.event x.reply does.step.happens in
-              omega (arith, claims-cons last q i x.event x.reply (events_of xs) (replies_of xs), each, rest.claims q i);
-        },
-        (step-within m s x.after whole loads x.event x.reply does.step.happens, within),
-      )
-    where
-      after : (who : ℕ) → Turned who s.work.shelves x.after.work.shelves s.work.walkings x.after.work.walkings
-          → ((v : ℕ) (w : Walking) → x.after.work.walkings v ≡ Some w → KeepsTask (state_after x.after xs).work.walkings v w) → (v : ℕ) (w : Walking) → s.work.walkings v ≡ Some w
-          → KeepsTask (state_after x.after xs).work.walkings v w
-      after who t keeps v w there =
-          let k = keeps-task who s.work.shelves x.after.work.shelves s.work.walkings x.after.work.walkings t v w there in
-          let l = keeps v k.now k.there in
-          record { now = l.now; there = l.there; table = l.table ∙ k.table; task = l.task ∙ k.task }
+      let on : (v : ℕ) (w : Walking) → s.work.walkings v ≡ Some w → KeepsTask last v w = λ v w there.
+      let k = keeps-task turns.who s.work.shelves x.after.work.shelves s.work.walkings x.after.work.walkings t v w there in let l = rest.keeps v k.now k.there in
+      record { now = l.now; there = l.there; table = l.table ∙ k.table; task = l.task ∙ k.task } in
+      let gone = λ (n : ℕ) (past : List (Took W)) (gone : HasGone m.written_of n s.work.shelves (s.work.walkings n) past).
+      subst (λ k. HasGone m.written_of n (state_after x.after xs).work.shelves (last n) k) (append_assoc past (step_of n x.event x.reply) (steps_of n (events_of xs) (replies_of xs)))
+      (rest.gone n (past ++ step_of n x.event x.reply) (goes-on m (world_of s) (world_of x.after) x.event x.reply work turns n past gone)) in
+      let each = λ (q : ℕ) (i : Identity).
+      event-claims last q i m (world_of s) (world_of x.after) (λ p. grows turns.who (s.work.shelves p) (x.after.work.shelves p) (t.changes p)) on x.event x.reply does.step.happens in
+      let cons = λ (q : ℕ) (i : Identity). claims-cons last q i x.event x.reply (events_of xs) (replies_of xs) in let now = step-within m s x.after whole loads x.event x.reply does.step.happens in
+      (record { work = rest.work; whole = rest.whole; loads = rest.loads; keeps = on; gone = gone; claims = λ q i. omega (arith, cons q i, each q i, rest.claims q i) }, (now, within))
 
 module _ {N E B W : Type 0} (m : Seen N B W) (s : MachineState N E) (work : StandsIn (world_of s)) (whole : IsMachineWhole m.values s) where
   is-met : (t : ℕ) (i : Identity) → is_some ((s.work.shelves t).slots i) ≡ true → TableMeets (world_of s) t i
@@ -431,15 +333,11 @@ module _ {N E B W : Type 0} (m : Seen N B W) (s : MachineState N E) (work : Stan
       record { n = c.0.worker; walking = a.walking; there = a.there; on_table = a.on_table; meets = a.meets }
 
   has-let-go : (n : ℕ) (walking : Walking) (answer : WorkerAnswer) → s.work.walkings n ≡ Some walking → walking.answer ≡ Some answer → HasLetGo (world_of s) n (s.work.shelves walking.table)
-  unfolding is_open_in
   has-let-go n walking answer there is =
+      let rests : s.pager.core.workers n ≡ false = (whole.walkings n walking there).at_work ∙ ap is_none is in
+      let own : (h : HandleRow) → Among s.pager.core.rows h → (b : Bool) → is_owner (owner_worker n) h.owner ≡ b → one (is_owner (owner_worker n) h.owner) ≡ 0 =
+      λ h among b e. grind (arith, nat_tests, true-false, whole.pager.whole.owners_there.workers h n among, rests) in
       grind (arith, nat_tests, own, work.workers n walking there, sum-zero, false_from_ne_true, true-false, rests)
-    where
-      rests : s.pager.core.workers n ≡ false
-      rests = (whole.walkings n walking there).at_work ∙ ap is_none is
-
-      own : (h : HandleRow) → Among s.pager.core.rows h → (b : Bool) → is_owner (owner_worker n) h.owner ≡ b → one (is_owner (owner_worker n) h.owner) ≡ 0
-      own h among x2 e = grind (arith, nat_tests, true-false, whole.pager.whole.owners_there.workers h n among, rests)
 
 -- all that steps have come to
 module _ {N E B W : Type 0} (m : Seen N B W) (s end : MachineState N E) (happened : List (Event N B W)) (replied : List (EventReply N B W)) (idle : IsIdle s)
@@ -447,17 +345,12 @@ module _ {N E B W : Type 0} (m : Seen N B W) (s end : MachineState N E) (happene
   worker : (n : ℕ) (walking : Walking) → end.work.walkings n ≡ Some walking → WorkerIsRight m.written_of (world_of end) n walking (steps_of n happened replied)
   worker n walking there =
       let nobody : HasGone m.written_of n s.work.shelves (s.work.walkings n) [] = subst (λ o. HasGone m.written_of n s.work.shelves o []) (sym (idle.walkings n)) refl in
-      let went : Went m.written_of n (end.work.shelves walking.table) walking (steps_of n happened replied) =
-      subst (λ o. HasGone m.written_of n end.work.shelves o (steps_of n happened replied)) there (all.gone n [] nobody) in
+      let went = rw there at (all.gone n [] nobody) in
       let order : InOrder m.written_of walking.task (steps_of n happened replied) = record { left = walking.todo; leads = went.leads } in
-      record {
-        order = order;
-        once = once_each m.written_of walking.task (steps_of n happened replied) order
-            (λ i. le_trans (own-claims end.work.walkings walking.table i n walking there refl happened replied) (grind (arith, nat_tests, one-small)));
-        bounded = let within = went.within in omega arith;
-        met = went.met;
-        let_go = λ answer is. has-let-go m end all.work all.whole n walking answer there is;
-      }
+      let once = once_each m.written_of walking.task (steps_of n happened replied) order
+      (λ i. le_trans (own-claims end.work.walkings walking.table i n walking there refl happened replied) (grind (arith, nat_tests, one-small))) in
+      let let_go = λ (answer : WorkerAnswer) (is : walking.answer ≡ Some answer). has-let-go m end all.work all.whole n walking answer there is in
+      let within = went.within in record { order = order; once = once; bounded = omega arith; met = went.met; let_go = let_go }
 
   work-right : WorkIsRight m end happened replied
   work-right = record { claims_right = record { distinct = grind (arith, nat_tests, one-small); met = is-met m end all.work all.whole }; workers = worker; loads = steps-left m.values end all.loads }

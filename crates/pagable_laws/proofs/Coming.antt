@@ -1,15 +1,16 @@
 -- What each event does to workers and tables: it touches one worker, and claims of its own.
-use Rattle.pagable_laws.proofs.Standing.{Covers, CoversBy, Goes, HasNoFailed, SameSlots, ShelfGrows, SlotChanges, Turned, WaitsWell, WorkStands, all-stay, claimed, failed-goes, fails, follows-waits}
-use Rattle.pagable_laws.proofs.Standing.{given-open, gives, grows, is-quiet, is-started, is-stepped, is_failed, is_open_in, meets-grow, plain, published-goes, puts-slot, same-slots, same-worker}
-use Rattle.pagable_laws.proofs.Words.{Identity, IsIdle, IsPublished, List, MachineState, None, Ok, Option, Owner, Reply, Seen, Shelf, Site, Slot, Some, Task, Todo, Took, Walking, WorkerAnswer}
-use Rattle.pagable_laws.proofs.Words.{WorkerNumber, WorkerReply, WorkerSteps, World, Written, [], above, answer_after, ap, arith, cases_Bool, drop, false, false_from_ne_true, give, identity_of}
-use Rattle.pagable_laws.proofs.Words.{if◌then◌else◌, inl, inr, length, nat_eq, nat_tests, no_result, one, refl, rules, step_of, subst, sum_by-cons, sym, times, to_fail, to_finish, to_item, to_load}
-use Rattle.pagable_laws.proofs.{Called.calls-go, Decoding.{among-left, among-right}, Goes.le-of, Joining.steps_follow, ReadingSteps.{caller-free, reading-feels, walk-goes}, Standing.AllStand}
-use Rattle.pagable_laws.proofs.{Standing.{some-none, some-same, swaps, work-stands, written-goes}, Words.{Alike, Among, ArcRef, Call, Claim, Core, Does, Err, Error, Event, EventReply, Happens}}
-use Rattle.pagable_world.specs.{Events.{Starts, Stays, WorkIs, WorkStays, new_walking, no_shelf}, Headline.{FailedElsewhere, IsMetFailure}, Order.{Follows, Leads, MetError, is_claim, own_references}}
-use Rattle.pagable_world.specs.{Order.references_written, Workers.{first_todo, give_known, is_counted, next_start, with_wait}, World.{answer_of_fault, to_publish}}
-use Rattle.{pagable_laws.proofs.Words.{to_pin, to_release, to_set, to_start, to_write, true, updated, world_of, ℕ, ◌*◌, ◌++◌, ◌+◌, ◌<◌, ◌==◌, ◌∙◌, ◌∷◌, ◌≡◌, ◌≤◌}, pagable_world.specs.Events.CallStep}
-use Rattle.{pagable_world.specs.declared.events.TableNumber.TableNumber, std.{proofs.{Common.{append-nil, length-append, ◌-◌}, lemmas.List.{Sums.sum_by-append, length-drop}}, specs.List.sum_by}}
+use Rattle.pagable_laws.proofs.{Called.calls-go, Decoding.{among-left, among-right}, Goes.le-of, ReadingSteps.{caller-free, reading-feels, walk-goes}, Standing.{AllStand, Covers, CoversBy, Goes}}
+use Rattle.pagable_laws.proofs.Standing.{HasNoFailed, SameSlots, ShelfGrows, SlotChanges, Turned, WaitsWell, WorkStands, all-stay, changes-slot, failed-goes, fails, follows-waits, given-open, gives}
+use Rattle.pagable_laws.proofs.Standing.{grows, is-changed, is-new, is-quiet, is-same, is-self, is-started, is-stepped, is_failed, is_open_in, meets-grow, open-slot, own-goes, plain, put-cases}
+use Rattle.pagable_laws.proofs.{Standing.{puts-slot, same-slots, same-worker, settles, some-none, some-same, started-open, swaps, true-false, work-stands}, Trees.steps_follow, Words.{Alike, Among}}
+use Rattle.pagable_laws.proofs.Words.{ArcRef, Call, Claim, Core, Does, Err, Error, Event, EventReply, Happens, Identity, IsIdle, List, MachineState, None, Ok, Option, Owner, Reply, Seen, Shelf, Site}
+use Rattle.pagable_laws.proofs.Words.{Slot, Some, Task, Todo, Took, Walking, WorkerAnswer, WorkerNumber, WorkerReply, WorkerSteps, World, Written, [], above, answer_after, ap, arith, cases_Bool}
+use Rattle.pagable_laws.proofs.Words.{drop, false, false_from_ne_true, give, identity_of, if◌then◌else◌, inl, inr, length, nat_eq, nat_tests, no_result, one, refl, rules, step_of, subst, sum_by-cons}
+use Rattle.pagable_laws.proofs.Words.{sym, times, to_fail, to_finish, to_item, to_load, to_pin, to_release, to_set, to_start, to_write, true, updated, world_of, ℕ, ◌*◌, ◌++◌, ◌+◌, ◌<◌, ◌==◌, ◌∙◌}
+use Rattle.{pagable_laws.proofs.Words.{◌∷◌, ◌≡◌, ◌≤◌}, pagable_world.specs.{Events.{CallStep, Starts, Stays, WorkIs, WorkStays, new_walking, no_shelf}, Headline.{FailedElsewhere, IsMetFailure}}}
+use Rattle.pagable_world.specs.{Order.{Follows, Leads, MetError, is_claim, own_references, references_written}, Workers.{first_todo, is_counted, next_start, settle, with_outcome, with_wait}}
+use Rattle.{pagable_world.specs.{World.{Open, answer_of_fault, is_identity, published, to_publish}, declared.events.TableNumber.TableNumber}, std.proofs.Common.{append-nil, length-append, ◌-◌}}
+use Rattle.std.{proofs.lemmas.{Bool.{or_cases, or_left, or_right}, List.{length-drop, Sums.sum_by-append}}, specs.List.sum_by}
 use Rattle.pagable_laws.proofs.Called as calling
 
 -- ---- whatever a worker does, what stands of its list and of its table stands afterwards
@@ -18,37 +19,43 @@ module _ {N B W : Type 0} (m : Seen N B W) (v : ℕ) (task : Task) (s s' : Site)
   to-list : {answer : Option WorkerAnswer} {todo : List Todo} → s'.todo ≡ todo → Goes v task s.shelf answer s'.shelf todo → Goes v task s.shelf answer s'.shelf s'.todo
   to-list {answer = answer} e goes = subst (λ t. Goes v task s.shelf answer s'.shelf t) (sym e) goes
 
-  -- the key of a reference was known
-  known : (r : ArcRef) (place key height : ℕ) (below : List Todo) → AllStand s.shelf v task (to_start r place ∷ below) → CoversBy v task s.shelf (to_start r place ∷ below)
-      → IsPublished s.shelf (identity_of r) key height → ((i : Identity) → s'.shelf.slots i ≡ s.shelf.slots i) → Goes v task s.shelf None s'.shelf (give_known r key height below)
-  unfolding AllStand is_open_in
-  known r place key height [] (meets, apart, rest) covers is same = plain v task s.shelf s'.shelf same None (to_release r key height ∷ []) (λ a is. absurd (cc))
-      ((meets, is), (λ i no. absurd (cc)), tt) covers
-  known r place key height (x ∷ below) (meets, apart, rest) covers is same =
-      plain v task s.shelf s'.shelf same None (give r key height (x ∷ below)) (λ a is. absurd (cc)) (gives v task s.shelf r key height (x ∷ below) rest)
-      (λ i slot there own still. given-open v task s.shelf i r key height (x ∷ below) ∙ covers i slot there own still)
-
   released : (r : ArcRef) (key height : ℕ) (below : List Todo) → AllStand s.shelf v task (to_release r key height ∷ below) → CoversBy v task s.shelf (to_release r key height ∷ below)
       → ((i : Identity) → s'.shelf.slots i ≡ s.shelf.slots i) → (step : Took W) → Goes v task s.shelf (answer_after (to_release r key height ∷ below) step) s'.shelf (give r key height below)
-  unfolding AllStand is_open_in
   released r key height below (stands, apart, rest) covers same step =
       plain v task s.shelf s'.shelf same _ (give r key height below) (λ a is. grind (arith, nat_tests)) (gives v task s.shelf r key height below rest)
       (λ i slot there own still. given-open v task s.shelf i r key height below ∙ covers i slot there own still)
 
   go : (todo : List Todo) → s.todo ≡ todo → AllStand s.shelf v task todo → Covers s.shelf v todo → (step : Took W) → Does m v s todo step s'
       → Goes v task s.shelf (answer_after todo step) s'.shelf s'.todo
-  unfolding AllStand is_open_in
-  go (to_start r place ∷ below) e all covers (Took.Claim i (Ok Claim.Claimed)) (is, c) =
-      to-list c.finds.1.2.list_is (claimed v task s.shelf s'.shelf r place below all covers c.finds.1.1
-      (puts-slot (with_wait s.shelf v None) s'.shelf (identity_of r) (record { worker = v; written = None; outcome = no_result }) c.finds.1.2.table_is))
-  go (to_start r place ∷ below) e all covers (Took.Claim i (Ok (Claim.Known key height))) (is, c) = to-list c.finds.1.2.list_is
-      (known r place key height below all covers c.finds.1.1 c.finds.1.2.table_is.slots)
+  go (to_start r place ∷ below) e (meets, apart, rest) covers (Took.Claim i (Ok Claim.Claimed)) (is, c) =
+      let new : Slot = record { worker = v; written = None; outcome = no_result } in
+      let free : is_open_in (identity_of r) below ≡ false = false_from_ne_true (is_open_in (identity_of r) below)
+      (λ is. let a = open-slot v task s.shelf (identity_of r) below rest is in some-none a.1 c.finds.1.1) in
+      to-list c.finds.1.2.list_is (own-goes v task s.shelf s'.shelf (identity_of r) new (to_pin r place ∷ below)
+      (puts-slot (with_wait s.shelf v None) s'.shelf (identity_of r) new c.finds.1.2.table_is) (is-new new c.finds.1.1 refl refl) meets refl
+      (λ changes now. (grind (arith, nat_tests, all-stay, grows, false_from_ne_true, true-false, is-same, is-self)))
+      (grind (arith, nat_tests, put-cases, identity_of, is_open_in, or_right, is_identity, or_left, is-self)))
+  -- the key of the reference was known
+  go (to_start r place ∷ []) e (meets, apart, rest) covers (Took.Claim i (Ok (Claim.Known key height))) (is, c) = to-list c.finds.1.2.list_is
+      (plain v task s.shelf s'.shelf c.finds.1.2.table_is.slots None (to_release r key height ∷ []) (λ a is. absurd (cc)) ((meets, c.finds.1.1), (λ i no. absurd (cc)), tt) covers)
+  go (to_start r place ∷ x ∷ below) e (meets, apart, rest) covers (Took.Claim i (Ok (Claim.Known key height))) (is, c) = to-list c.finds.1.2.list_is
+      (plain v task s.shelf s'.shelf c.finds.1.2.table_is.slots None (give r key height (x ∷ below)) (λ a is. absurd (cc)) (gives v task s.shelf r key height (x ∷ below) rest)
+      (λ i slot there own still. given-open v task s.shelf i r key height (x ∷ below) ∙ covers i slot there own still))
   go (to_start r place ∷ below) e all covers (Took.Claim i (Ok Claim.Waiting)) (is, c) = to-list (c.finds.1.2.list_is ∙ e)
       (plain v task s.shelf s'.shelf c.finds.1.2.table_is.slots None (to_start r place ∷ below) (λ a is. absurd (cc)) all covers)
-  go (to_write r place through ∷ below) e all covers (Took.Write i (Ok out)) (is, p) = to-list p.writes.list_is
-      (written-goes v task s.shelf s'.shelf r place through (m.written_of out) below all covers p.writes.table_is)
-  go (to_publish r key height ∷ below) e all covers (Took.Publish i k h) (is, same_key, same_height, t) = to-list t.list_is
-      (published-goes v task s.shelf s'.shelf r key height below all covers t.table_is)
+  go (to_write r place through ∷ below) e ((meets, c), apart, rest) covers (Took.Write i (Ok out)) (is, p) =
+      let new : Slot = record c.slot { written = Some (m.written_of out) } in
+      let puts = changes-slot s.shelf s'.shelf (identity_of r) c.slot (λ slot. record slot { written = Some (m.written_of out) }) c.claimed p.writes.table_is in
+      let o : Open = record { reference = r; place = place; through = through; written = m.written_of out; keys = []; height = 0 } in
+      to-list p.writes.list_is (own-goes v task s.shelf s'.shelf (identity_of r) new (settle (to_finish o ∷ below)) puts
+      (is-changed c.slot new c.claimed c.own refl (grind (arith, nat_tests, some-none))) meets (ap is_failed c.no_result_yet)
+      (λ changes now. settles v task s'.shelf o below (grind (arith, nat_tests, all-stay, grows, false_from_ne_true, true-false, is-same, is-self)))
+      (grind (arith, nat_tests, or_right, started-open, put-cases, is_identity, or_left, is-self)))
+  go (to_publish r key height ∷ below) e ((meets, c), apart, rest) covers (Took.Publish i k h) (is, same_key, same_height, t) =
+      let new : Slot = with_outcome (published key height) c.slot in
+      let puts = changes-slot s.shelf s'.shelf (identity_of r) c.slot (with_outcome (published key height)) c.claimed t.table_is in
+      to-list t.list_is (own-goes v task s.shelf s'.shelf (identity_of r) new (to_release r key height ∷ below) puts (is-changed c.slot new c.claimed c.own refl (grind arith)) meets (grind arith)
+      (λ changes now. (grind (arith, nat_tests, all-stay, grows, false_from_ne_true, true-false, is-same, is-self))) (grind (arith, nat_tests, put-cases, or_cases, true-false, is-same, is-self)))
   go (to_fail fault back ∷ below) e all covers Took.Fail (back_is, table_is, list_is) = to-list list_is (failed-goes v task s.shelf s'.shelf (answer_of_fault fault) table_is)
   go _ e all covers step does = grind (arith, nat_tests, to-list, fails, swaps, plain, released)
 
@@ -90,8 +97,7 @@ pub goes-same : (v : ℕ) (task : Task) (shelf mid shelf' : Shelf) (answer : Opt
 goes-same v task shelf mid shelf' answer todo same g =
     let more : ShelfGrows mid shelf' = grows v mid shelf' (same-slots v mid shelf' same) in
     let changes : (i : Identity) → SlotChanges v (shelf.slots i) (shelf'.slots i) = λ i. subst (λ o. SlotChanges v (shelf.slots i) o) (sym (same i)) (g.changes i) in
-    let all = all-stay v task mid shelf' more todo (λ i is slot there own. same i ∙ there) g.all in
-    grind (arith, changes, all, same, meets-grow mid shelf' task)
+    grind (arith, changes, all-stay v task mid shelf' more todo (λ i is slot there own. same i ∙ there) g.all, same, meets-grow mid shelf' task)
 
 module _ {N B W : Type 0} (m : Seen N B W) (u u' : World) (work : StandsIn u) where
   module _ (event : Event N B W) (reply : EventReply N B W) where
@@ -110,20 +116,19 @@ module _ {N B W : Type 0} (m : Seen N B W) (u u' : World) (work : StandsIn u) wh
     starts no_step t task core v same s =
         let above : u.core.last.worker < v.0 = let e = s.next in omega arith in
         let last : u'.core.last.worker ≡ core.last.worker + 1 = ap (λ l. l.worker) s.pager.last in
-        let few : (u.core.last.worker ≤ u'.core.last.worker) × (v.0 ≤ u'.core.last.worker) = (let e = s.next in omega arith, let e = s.next in omega arith) in
         let new : u'.work.walkings v.0 ≡ Some (new_walking t task) = s.work.same_walkings v.0 ∙ updated-at v.0 (Some (new_walking t task)) u.work.walkings in
         let turned = is-started u.work.shelves u'.work.shelves u.work.walkings u'.work.walkings u.core.last.worker work (λ q i. (s.work.same_shelves q).slots i)
         v.0 (new_walking t task) above refl refl new (λ n other. s.work.same_walkings n ∙ updated-off v.0 (Some (new_walking t task)) u.work.walkings n other) in
         let own : OwnTurn m u v.0 (step_of v.0 event reply) u' = begins t task (no_step v.0) (λ q i. (s.work.same_shelves q).slots i) (grind (arith, nat_tests)) new in
-        search (turned, own, few.0, few.1, no_step)
+        record { who = v.0; turned = turned; last = omega (arith, s.next); small = omega (arith, s.next); others = λ n other. no_step n; own = own }
 
     tabled : ((n : ℕ) → step_of n event reply ≡ []) → KnowsTables u → (t : TableNumber) → t.0 ≡ u.work.last_table + 1 → Alike u.core u'.core
         → WorkIs (updated t.0 no_shelf u.work.shelves) t.0 u.work.walkings u'.work → EventTurns m u event reply u'
-    tabled no_step tables t is a w = quiet no_step (le-of _ _ (ap (λ l. l.worker) a.last)) (λ q i. let same = (w.same_shelves q).slots i in
+    tabled no_step tables t is a w =
+        let nothing : (i : Identity) (slot : Slot) → (u.work.shelves t.0).slots i ≡ Some slot → ⊥ =
+        λ i slot there. let s = work.slots t.0 i slot there in let few = tables slot.worker s.walking s.there in let on = s.on_table in absurd (omega arith) in
+        quiet no_step (le-of _ _ (ap (λ l. l.worker) a.last)) (λ q i. let same = (w.same_shelves q).slots i in
         grind (arith, nat_tests, cases_Bool (nat_eq q t.0), same-worker q t.0, nothing i)) w.same_walkings
-      where
-        nothing : (i : Identity) (slot : Slot) → (u.work.shelves t.0).slots i ≡ Some slot → ⊥
-        nothing i slot there = let s = work.slots t.0 i slot there in let few = tables slot.worker s.walking s.there in let on = s.on_table in absurd (omega arith)
 
   call-last : (call : Call N B) (r : Reply N B) → CallStep m u.core Owner.Caller call r u'.core → u.core.last.worker ≤ u'.core.last.worker
   call-last x0 x1 c = grind (arith, nat_tests, le-of, calls-go, caller-free)
@@ -133,27 +138,20 @@ module _ {N B W : Type 0} (m : Seen N B W) (u u' : World) (work : StandsIn u) wh
       let w = s.walking in
       let now : Walking = record w { todo = s.after.todo; steps = reply.steps; answer = reply.answer } in
       let stands = work.workers v.0 w s.at in
-      let goes : Goes v.0 w.task (u.work.shelves w.table) (answer_after w.todo reply.took) s.after.shelf s.after.todo =
-      stands-on m v.0 w.task (record { core = u.core; shelf = u.work.shelves w.table; todo = w.todo }) s.after stands.all stands.covers reply.took s.does.does
-      in
+      let site : Site = record { core = u.core; shelf = u.work.shelves w.table; todo = w.todo } in
+      let goes = stands-on m v.0 w.task site s.after stands.all stands.covers reply.took s.does.does in
       let shelf_is : (i : Identity) → (u'.work.shelves w.table).slots i ≡ s.after.shelf.slots i =
       λ i. (s.work.same_shelves w.table).slots i ∙ ap (λ (x : Shelf). x.slots i) (updated-at w.table s.after.shelf u.work.shelves) in
-      let site : Site = record { core = u.core; shelf = u.work.shelves w.table; todo = w.todo } in
       let kept : u.core.last.worker ≤ s.after.core.last.worker = (walk-goes m v.0 site s.after w.todo reply.took s.does.does).goes.workers_last in
       let last : u'.core.last.worker ≡ s.after.core.last.worker = (grind (arith, nat_tests)) in
-      record {
-        who = v.0;
-        turned = is-stepped v.0 u.work.shelves u'.work.shelves u.work.walkings u'.work.walkings w now s.at (s.work.same_walkings v.0 ∙ updated-at v.0 (Some now) u.work.walkings) refl refl
-            (λ n other. s.work.same_walkings n ∙ updated-off v.0 (Some now) u.work.walkings n other)
-            (λ t other i. (s.work.same_shelves t).slots i ∙ ap (λ (x : Shelf). x.slots i) (updated-off w.table s.after.shelf u.work.shelves t other))
-            (stands.unfailed s.at_work) (follows-waits m.written_of w.todo reply.took s.after.todo (steps_follow m v.0 site s.after reply.took s.does) stands.waits)
-            (goes-same v.0 w.task (u.work.shelves w.table) s.after.shelf (u'.work.shelves w.table) reply.answer s.after.todo shelf_is
-            (subst (λ a. Goes v.0 w.task (u.work.shelves w.table) a s.after.shelf s.after.todo) (sym s.answers) goes));
-        last = omega arith;
-        small = let few = work.numbered v.0 w s.at in omega arith;
-        others = λ n other. grind (arith, nat_tests);
-        own = steps v reply refl (grind (arith, nat_tests)) s;
-      }
+      let turned : Turned v.0 u.work.shelves u'.work.shelves u.work.walkings u'.work.walkings =
+      is-stepped v.0 u.work.shelves u'.work.shelves u.work.walkings u'.work.walkings w now s.at (s.work.same_walkings v.0 ∙ updated-at v.0 (Some now) u.work.walkings) refl refl
+      (λ n other. s.work.same_walkings n ∙ updated-off v.0 (Some now) u.work.walkings n other)
+      (λ t other i. (s.work.same_shelves t).slots i ∙ ap (λ (x : Shelf). x.slots i) (updated-off w.table s.after.shelf u.work.shelves t other))
+      (stands.unfailed s.at_work) (follows-waits m.written_of w.todo reply.took s.after.todo (steps_follow m v.0 site s.after reply.took s.does) stands.waits)
+      (goes-same v.0 w.task (u.work.shelves w.table) s.after.shelf (u'.work.shelves w.table) reply.answer s.after.todo shelf_is (rw s.answers goes)) in
+      let few = work.numbered v.0 w s.at in
+      record { who = v.0; turned = turned; last = omega arith; small = omega arith; others = λ n other. grind (arith, nat_tests); own = steps v reply refl (grind (arith, nat_tests)) s }
 
   pub event-turns : KnowsTables u → (event : Event N B W) (reply : EventReply N B W) → Happens m u event reply u' → EventTurns m u event reply u'
   event-turns tables (Event.Call call) (EventReply.CallReply r) h = by-work _ _ (λ n. refl) (call-last call r h.step) h.work
@@ -208,23 +206,19 @@ module _ {N B W : Type 0} (m : Seen N B W) {u u' : World} {event : Event N B W} 
     all-hold : ((t : ℕ) → Slots (u'.work.shelves t)) → ((w : Walking) → u'.work.walkings turns.who ≡ Some w → Of turns.who w) → HoldsOfAll u' Slots Walk
     all-hold slots own = search (rules, nat_eq, true, false)
 
-    pub turns-keep : HoldsOfAll u' Slots Walk
-    turns-keep = by turns.own
-      where
-        by : OwnTurn m u turns.who (step_of turns.who event reply) u' → HoldsOfAll u' Slots Walk
-        by (rests none same still) = all-hold (λ t. stays-so t (same t)) (λ w there. rest turns.who w none (sym still ∙ there))
-        by (begins t task none same nobody new) = all-hold (λ q. stays-so q (same q)) (λ w there. subst (Of turns.who) (some-same new there) (begin turns.who (u'.work.shelves t.0) t task))
-        by (steps k r at one s) =
-            let w = s.walking in
-            let now : Walking = record w { todo = s.after.todo; steps = r.steps; answer = r.answer } in
-            let at_now : u'.work.walkings turns.who ≡ Some now = sym (ap u'.work.walkings at) ∙ s.work.same_walkings k.0 ∙ updated-at k.0 (Some now) u.work.walkings in
-            let table : SameAs s.after.shelf (u'.work.shelves w.table) = λ i. (s.work.same_shelves w.table).slots i ∙ ap (λ (z : Shelf). z.slots i) (updated-at w.table s.after.shelf u.work.shelves) in
-            let d = step k r s one (λ i slot there. let a = turns-grow w.table i slot there in (a.0, sym (table i) ∙ a.1, a.2)) in
-            all-hold
-            (λ t. at-number (λ shelf. SameAs shelf (u'.work.shelves t) → Slots (u'.work.shelves t)) w.table s.after.shelf u.work.shelves t (λ same. alike s.after.shelf (u'.work.shelves t) same d.0)
-            (stays-so t) (s.work.same_shelves t).slots)
-            (λ x there. subst (Of turns.who) (some-same at_now there)
-            (subst (λ n. Of n now) at (onward s.after.shelf (u'.work.shelves w.table) (same-grow s.after.shelf (u'.work.shelves w.table) table) d.0 k.0 now d.1)))
+    pub turns-keep : OwnTurn m u turns.who (step_of turns.who event reply) u' → HoldsOfAll u' Slots Walk
+    turns-keep (rests none same still) = all-hold (λ t. stays-so t (same t)) (λ w there. rest turns.who w none (sym still ∙ there))
+    turns-keep (begins t task none same nobody new) = all-hold (λ q. stays-so q (same q)) (λ w there. subst (Of turns.who) (some-same new there) (begin turns.who (u'.work.shelves t.0) t task))
+    turns-keep (steps k r at one s) =
+        let w = s.walking in
+        let now : Walking = record w { todo = s.after.todo; steps = r.steps; answer = r.answer } in
+        let at_now : u'.work.walkings turns.who ≡ Some now = sym (ap u'.work.walkings at) ∙ s.work.same_walkings k.0 ∙ updated-at k.0 (Some now) u.work.walkings in
+        let table : SameAs s.after.shelf (u'.work.shelves w.table) = λ i. (s.work.same_shelves w.table).slots i ∙ ap (λ (z : Shelf). z.slots i) (updated-at w.table s.after.shelf u.work.shelves) in
+        let d = step k r s one (λ i slot there. let a = turns-grow w.table i slot there in (a.0, sym (table i) ∙ a.1, a.2)) in
+        all-hold
+        (λ t. at-number (λ shelf. SameAs shelf (u'.work.shelves t) → Slots (u'.work.shelves t)) w.table s.after.shelf u.work.shelves t (λ same. alike s.after.shelf (u'.work.shelves t) same d.0)
+        (stays-so t) (s.work.same_shelves t).slots)
+        (λ x there. rw (← some-same at_now there, ← at) (onward s.after.shelf (u'.work.shelves w.table) (same-grow s.after.shelf (u'.work.shelves w.table) table) d.0 k.0 now d.1))
 
 -- and so it does where nobody works yet
 pub idle-stands : {N E : Type 0} (s : MachineState N E) → IsIdle s → StandsIn (world_of s)
@@ -248,28 +242,24 @@ due (to_publish r key height) below = 2
 due (to_release r key height) below = 1
 due (to_fail fault back) below = 1
 
-unfoldable pub all-due : List Todo → ℕ
+abbrev pub all-due : List Todo → ℕ
 all-due [] = 0
 all-due (x ∷ below) = due x below + all-due below
 
 -- what waits starts the first of the references that are left, if there is one
 started-due : (place : ℕ) (rs : List ArcRef) (x : Todo) (below : List Todo) → all-due (next_start place rs ++ x ∷ below) + (length rs - 1) ≤ length rs + all-due (x ∷ below)
-unfolding all-due
 started-due place x1 x below = grind (arith, nat_tests)
 
 given-due : (r : ArcRef) (key height : ℕ) (below : List Todo) → all-due (give r key height below) ≤ all-due below
-unfolding all-due
 given-due r key height x3 = grind (arith, nat_tests, started-due, length-drop, length-append)
 
 first-due : (written : Written) (below : List Todo) → all-due (next_start 0 written.references ++ to_item written [] ∷ below) ≤ 2 + length written.references + all-due below
-unfolding all-due
 first-due written below = grind (arith, started-due)
 
 module _ {W : Type 0} (f : W → Written) where
   -- one step pays for itself: out of what was due, of its claim, or of the references that it wrote
   pub pays : (todo : List Todo) (step : Took W) (next : List Todo) → Follows f todo step next
       → one (is_counted todo step) + all-due next ≤ 8 * one (is_claim step) + references_written f step + all-due todo
-  unfolding all-due
   pays (to_start r place ∷ x ∷ xs) (Took.Claim j (Ok (Claim.Known key height))) next (is, e) = rw e (let le = given-due r key height (x ∷ xs) in omega (arith, le))
   pays (to_write r place through ∷ below) (Took.Write j (Ok out)) next (is, e) = grind (arith, started-due, length-drop)
   pays (to_release r key height ∷ below) (Took.Release j) next (is, e) = rw e (let le = given-due r key height below in omega (arith, le))
@@ -371,19 +361,13 @@ module _ {N B W : Type 0} (m : Seen N B W) (u u' : World) (grow : (t : ℕ) → 
   f = m.written_of
 
   stays : (n : ℕ) (o o' : Option Walking) (past taken : List (Took W)) → o' ≡ o → taken ≡ [] → HasGone f n u.work.shelves o past → HasGone f n u'.work.shelves o' (past ++ taken)
-  stays n o o' past taken same none gone =
-      grind (arith, nat_tests, f, append-nil, by)
-    where
-      by : (o : Option Walking) → HasGone f n u.work.shelves o past → HasGone f n u'.work.shelves o past
-      by None gone = gone
-      by (Some w) gone =
-          let fails = fails-stay n (u.work.shelves w.table) (u'.work.shelves w.table) past past w.todo (grow w.table) (λ x among. among) gone.fails in
-          let met = λ (answer : WorkerAnswer). met-stays n (u.work.shelves w.table) (u'.work.shelves w.table) past past answer (grow w.table) (λ x among. among) in
-          search (gone.leads, fails, met, gone.met, gone.within)
+  stays n None o' past taken same none gone = rw (same, none, append-nil past) gone
+  stays n (Some w) o' past taken same none gone =
+      let met = λ (answer : WorkerAnswer). met-stays n (u.work.shelves w.table) (u'.work.shelves w.table) past past answer (grow w.table) (λ x among. among) in rw (same, none, append-nil past)
+      (search (gone.leads, fails-stay n (u.work.shelves w.table) (u'.work.shelves w.table) past past w.todo (grow w.table) (λ x among. among) gone.fails, met, gone.met, gone.within))
 
   begun : (n : ℕ) (t : TableNumber) (task : Task) (past taken : List (Took W)) → taken ≡ [] → u.work.walkings n ≡ None → u'.work.walkings n ≡ Some (new_walking t task)
       → HasGone f n u.work.shelves (u.work.walkings n) past → HasGone f n u'.work.shelves (u'.work.walkings n) (past ++ taken)
-  unfolding all-due
   begun n t task past taken none nobody new gone = search (rules, f, new_walking, fails, first-met, first-due, append-nil)
 
   went-on : StandsIn u → (k : WorkerNumber) (reply : WorkerReply W) (past : List (Took W)) → WorkerSteps m u k reply u' → HasGone f k.0 u.work.shelves (u.work.walkings k.0) past
@@ -400,21 +384,16 @@ module _ {N B W : Type 0} (m : Seen N B W) (u u' : World) (grow : (t : ℕ) → 
       let fails = fails-stay k.0 shelf shelf' past (past ++ reply.took ∷ []) w.todo (grow w.table) (λ x (i, at). among-left past (reply.took ∷ []) i x at) was.fails in
       let already : (i : Identity) → reply.took ≡ Took.Claim i (Ok Claim.AlreadyFailed) → FailedElsewhere shelf' k.0 i = λ i is. failed-stays k.0 shelf shelf' i (grow w.table)
       (failed-elsewhere m k.0 site s.after w.todo i (subst (λ step. Does m k.0 site w.todo step s.after) is s.does.does) ((work.workers k.0 w s.at).unfailed s.at_work)) in
-      let on : Went f k.0 shelf' now (past ++ reply.took ∷ []) = record {
-        leads = leads-more f (first_todo w.task) past w.todo reply.took s.after.todo was.leads follows;
-        fails = follows-met k.0 shelf' (past ++ reply.took ∷ []) f w.todo reply.took s.after.todo follows (among-right past (reply.took ∷ []) 0 reply.took refl) already fails;
-        met = λ answer is. answered k.0 shelf' (past ++ reply.took ∷ []) w.todo reply.took answer (sym s.answers ∙ is) fails;
-        within = let counts = s.counts in let was_so = was.within in let paid = pays f w.todo reply.took s.after.todo follows in grind (arith, nat_tests, sum_by-append, sum_by-cons);
-      } in
-      subst (λ o. HasGone f k.0 u'.work.shelves o (past ++ reply.took ∷ [])) (sym new) on
+      let leads = leads-more f (first_todo w.task) past w.todo reply.took s.after.todo was.leads follows in
+      let left = follows-met k.0 shelf' (past ++ reply.took ∷ []) f w.todo reply.took s.after.todo follows (among-right past (reply.took ∷ []) 0 reply.took refl) already fails in
+      let met = λ (answer : WorkerAnswer) (is : reply.answer ≡ Some answer). answered k.0 shelf' (past ++ reply.took ∷ []) w.todo reply.took answer (sym s.answers ∙ is) fails in
+      let counts = s.counts in let was_so = was.within in let paid = pays f w.todo reply.took s.after.todo follows in
+      rw new (record { leads = leads; fails = left; met = met; within = grind (arith, nat_tests, sum_by-append, sum_by-cons) })
 
 -- whatever an event does, its steps are added
 pub goes-on : {N B W : Type 0} (m : Seen N B W) (u u' : World) (event : Event N B W) (reply : EventReply N B W) → StandsIn u → EventTurns m u event reply u' → (n : ℕ) (past : List (Took W))
     → HasGone m.written_of n u.work.shelves (u.work.walkings n) past → HasGone m.written_of n u'.work.shelves (u'.work.walkings n) (past ++ step_of n event reply)
 goes-on {W = W} m u u' event reply work turns n past gone = elim (cases_Bool (nat_eq n turns.who)) [
-  | inl e ↦
-      let is : turns.who ≡ n = sym (same-worker n turns.who e) in
-      subst (λ x. HasGone m.written_of x u.work.shelves (u.work.walkings x) past → HasGone m.written_of x u'.work.shelves (u'.work.walkings x) (past ++ step_of x event reply)) is
-      (grind (arith, nat_tests, stays, begun, went-on)) gone
+  | inl e ↦ let is = same-worker n turns.who e in let before = rw is at gone in rw is (grind (arith, nat_tests, stays, begun, went-on))
   | inr e ↦ stays m u u' (turns-grow m turns) n (u.work.walkings n) (u'.work.walkings n) past (step_of n event reply) (turns.turned.others n e) (turns.others n e) gone
 ]

@@ -1,15 +1,15 @@
 -- Heights that are known are those of trees: so no key is answered of what leads down too long a path, or to a value that has no form; and why a claim is too deep.
-use Rattle.pagable_laws.proofs.Words.{Happens, HoldsSettled, Identity, IsIdle, IsLawful, IsMachineWhole, IsPublished, List, MachineState, Meaning, Moment, Ok, ReadsItsTypes, Seen, Shelf, Site, Some}
-use Rattle.pagable_laws.proofs.Words.{Task, Todo, Took, Tree, Types, Values, Walking, WorkFits, WorkerAnswer, Written, above, ap, arith, followed, identity_of, if◌then◌else◌, inl, inr, is_eager}
-use Rattle.pagable_laws.proofs.Words.{le_trans, max, nat_tests, of_entry, of_item, pair, refl, subst, suc, sym, to_finish, to_item, to_start, tree, true, type_of, variant, world_of, zero, ℕ, ◌+◌, ◌<◌}
-use Rattle.pagable_laws.proofs.{Along.{Along, each-two, form-along, integer-along, none-along, number-along, pair-along, pattern-along, reference-along, text-along, variant-along}, Answering.answered}
-use Rattle.pagable_laws.proofs.{Chains.{IsGoingOn, along-with, headline_law, idle-goes}, Coming.{StandsIn, updated-at}, Following.{known-of, tree-form}, Standing.{AllStand, Covers, is-same}}
-use Rattle.pagable_laws.proofs.{Standing.is_open_in, Stepping.next-among, Trees.{same_some, tree_is}, Words.{Among, ArcRef, AreMoments, Bool, Core, Does, Err, Error, Event, EventReply, FollowsTo}}
-use Rattle.pagable_laws.specs.TreeSteps.{IsAttained, IsDone, IsLow, Waits, Walks, WroteTree, followed-leads, ground_of, pair-leads, place_over, reference-leads, variant-leads}
-use Rattle.pagable_laws.{proofs.Words.{◌∙◌, ◌∷◌, ◌≡◌, ◌≤◌, ◌⊎◌}, specs.{DeepLaws.{ClaimIsDeep, DepthIsTold, HoldsAlong, MetDepthAlone, WaitsForAsker}, TreeSteps.{AllLow, BlobStands, Expects, Ground}}}
-use Rattle.pagable_world.specs.{OneWorker.{IsTooDeepTask, KeyIsShallow, LeadsToNoForm, Reaches, in-first, in-part, in-rest, refers, refers-on}, Pager.{StandsFor, kids_of}, Plain.longest_path}
-use Rattle.{pagable_model.specs.{Deep.{deepest_path, height}, Merkle.TreeForm, Writing.kind_of_arc}, pagable_world.specs.{Headline.IsMetFailure, OneWorker.{HasNoForm, IsFormlessTask, IsLongBelow}}}
-use Rattle.{pagable_world.specs.{Runs.{Fact, TreesAlong}, Workers.{Claims, IsTooDeep}, World.is_identity}, std.proofs.lemmas.Bool.or_cases}
+use Rattle.pagable_laws.proofs.Words.{Among, ArcRef, AreMoments, Bool, Core, Does, Err, Error, Event, EventReply, FollowsTo, Happens, HoldsSettled, Identity, IsIdle, IsLawful, IsMachineWhole}
+use Rattle.pagable_laws.proofs.Words.{IsPublished, List, MachineState, Meaning, Moment, Ok, ReadsItsTypes, Seen, Shelf, Site, Some, Task, Todo, Took, Tree, Types, Values, Walking, WorkFits}
+use Rattle.pagable_laws.proofs.Words.{WorkerAnswer, Written, above, ap, arith, followed, identity_of, if◌then◌else◌, inl, inr, is_eager, max, nat_tests, of_entry, of_item, pair, refl, subst, suc, sym}
+use Rattle.pagable_laws.proofs.{Answered.answered, Chains.{IsGoingOn, along-with, headline_law, idle-goes}, Coming.{StandsIn, updated-at}, Following.{known-of, tree-form}, Standing.{AllStand, Covers}}
+use Rattle.pagable_laws.proofs.{Standing.{is-same, is_open_in}, Stepping.next-among, Trees.{Along, each-two, form-along, integer-along, none-along, number-along, pair-along, pattern-along}}
+use Rattle.pagable_laws.proofs.{Trees.{reference-along, same_some, text-along, tree_is, variant-along}, Words.{to_finish, to_item, to_start, tree, true, type_of, variant, world_of, zero, ℕ, ◌+◌, ◌<◌}}
+use Rattle.pagable_laws.specs.TreeSteps.{AllLow, BlobStands, Expects, Ground, IsAttained, IsDone, IsLow, Waits, Walks, WroteTree, followed-leads, ground_of, pair-leads, place_over, reference-leads}
+use Rattle.pagable_laws.{proofs.Words.{◌∙◌, ◌∷◌, ◌≡◌, ◌≤◌, ◌⊎◌}, specs.{DeepLaws.{ClaimIsDeep, DepthIsTold, HoldsAlong, MetDepthAlone, WaitsForAsker}, TreeSteps.variant-leads}}
+use Rattle.pagable_world.specs.{Headline.IsMetFailure, OneWorker.{HasNoForm, IsFormlessTask, IsLongBelow, IsTooDeepTask, KeyIsShallow, LeadsToNoForm, Reaches, in-first, in-part, in-rest, refers}}
+use Rattle.{pagable_model.specs.{Deep.{deepest_path, height}, Merkle.TreeForm, Writing.kind_of_arc}, pagable_world.specs.{OneWorker.refers-on, Pager.{StandsFor, kids_of}, Plain.longest_path}}
+use Rattle.{pagable_world.specs.{Runs.{Fact, TreesAlong}, Workers.Claims, World.is_identity}, std.{proofs.lemmas.Bool.or_cases, specs.Prelude.◌≢◌}}
 
 -- ---- what a tree's references lead to is part of it
 
@@ -32,13 +32,9 @@ record Part (trees : ℕ → Tree) (m : Meaning ⊥) (r : ArcRef) : Type 0 where
   deep : deepest_path (trees r.node.0).meaning ≤ deepest_path m
   small : suc (size (trees r.node.0).meaning) ≤ size m
 
-record SamePart (trees : ℕ → Tree) (m : Meaning ⊥) (r other : ArcRef) : Type 0 where
-  same : other ≡ r
-  part : Part trees m r
-
 module _ (trees : ℕ → Tree) (rs : List ArcRef) (whole : Meaning ⊥) where
   parts-along : {own : Meaning ArcRef} {n : Meaning ⊥} → FollowsTo trees rs own n → height n ≤ height whole → deepest_path n ≤ deepest_path whole → size n ≤ size whole
-      → Along ⊥ (SamePart trees whole) own own
+      → Along ⊥ (λ r other. (other ≡ r) × Part trees whole r) own own
   unfolding height deepest_path size
   parts-along (pair-leads x y a b f g) h d s = pair-along _ _ _ _ (parts-along f (omega arith) (omega arith) (omega arith)) (parts-along g (omega arith) (omega arith) (omega arith))
   parts-along (variant-leads i x a f) h d s = variant-along _ _ _ (parts-along f h d s)
@@ -48,17 +44,12 @@ module _ (trees : ℕ → Tree) (rs : List ArcRef) (whole : Meaning ⊥) where
 
 part-of : {types : Types} {g : Ground} {n : ℕ} {written : Written} → WroteTree types g n written → (r : ArcRef) → Among written.references r → Part g.trees (g.trees n).meaning r
 part-of {g = g} {n} {written} w r among =
-    let p = form-along (λ x y h. ap kind_of_arc h.same) w.form (parts-along g.trees written.references (g.trees n).meaning w.follows (omega arith) (omega arith) (omega arith)) in
-    (each-two p.each r among).1.part
+    let p = form-along (λ x y h. ap kind_of_arc h.0) w.form (parts-along g.trees written.references (g.trees n).meaning w.follows (omega arith) (omega arith) (omega arith)) in
+    (each-two p.each r among).1.1
 
 -- a height and a depth go up with the place
 climbs : (e : Bool) (place h d top deep : ℕ) → (if e then h + 1 else 0) ≤ top → d ≤ deep → h ≤ d → longest_path < max ((if e then place + 1 else 0) + h) d → longest_path < max (place + top) deep
 climbs x0 place h d top deep le few within long = grind (arith, nat_tests)
-
--- the height of the meaning is within this, and no path in it is too long
-record IsShallow (limit : ℕ) (m : Meaning ⊥) : Type 0 where
-  top : height m ≤ limit
-  deepest : deepest_path m ≤ longest_path
 
 module _ {N E : Type 0} (v : Values N) (s : MachineState N E) (trees : ℕ → Tree) (fit : WorkFits v s trees) (t : ℕ) where
   abbrev shelf : Shelf
@@ -86,8 +77,7 @@ module _ {N E : Type 0} (v : Values N) (s : MachineState N E) (trees : ℕ → T
       let part = part-of w a.r a.among in
       let k = known (identity_of a.r) a.key a.below a.known in
       let below = attained-height n (identity_of a.r) a.below (omega arith) k.written k.wrote k.stands.attained in
-      let u : (if (is_eager a.r.kind.0) then a.below + 1 else 0) ≤ (height (trees i.node.0).meaning) = grind (arith, nat_tests) in
-      omega arith
+      grind (arith, nat_tests)
 
   -- a path that is too long from the reference's place is one of the task's
   leads-down : (n : ℕ) (task : Task) (r : ArcRef) (below : List Todo) → Expects task r below → Waits shelf task below → AllStand shelf n task below
@@ -128,30 +118,22 @@ module _ {N E : Type 0} (v : Values N) (s : MachineState N E) (trees : ℕ → T
   unfolding is_open_in
   claim-deep n task core todo r place below s' c expects waits all covers at = elim c.refused.0 [
     | inl fault ↦ absurd (grind arith)
-    | inr (inl (none_there, is, deep)) ↦ by deep
+    | inr (inl (none_there, is, inl long)) ↦ inl (grind (arith, nat_tests, leads-down))
+    | inr (inl (none_there, is, inr (inl (key, h, p, long)))) ↦
+        let k = known (identity_of r) key h p in
+        let few = attained-height (size (trees (identity_of r).node.0).meaning) (identity_of r) h (omega arith) k.written k.wrote k.stands.attained in
+        inl (grind (arith, nat_tests, leads-down))
+    | inr (inl (none_there, is, inr (inr (slot, still, back)))) ↦
+        let other : slot.worker ≢ n = λ own. not-below n task (identity_of r) r below (omega arith) expects waits all (covers (identity_of r) slot still.claimed own still.no_result_yet) in
+        inr (record { slot = slot; still = still; another = other; back = back })
     | inr (inr memory) ↦ absurd (cc)
   ]
-    where
-      by : IsTooDeep shelf n (identity_of r) place → IsTooDeepTask trees task ⊎ WaitsForAsker shelf n (identity_of r)
-      by (inl long) = inl (grind (arith, nat_tests, leads-down))
-      by (inr (inl (key, h, p, long))) = inl (grind (
-        arith,
-        nat_tests,
-        leads-down,
-        (let k = known (identity_of r) key h p in attained-height (size (trees (identity_of r).node.0).meaning) (identity_of r) h (omega arith) k.written k.wrote k.stands.attained),
-      ))
-      by (inr (inr (slot, still, back))) = inr (record {
-        slot = slot;
-        still = still;
-        another = λ own. not-below n task (identity_of r) r below (omega arith) expects waits all (covers (identity_of r) slot still.claimed own still.no_result_yet);
-        back = back;
-      })
 
   -- ---- where a key is known, no path from its tree is too long
 
-  -- what a meaning's references lead to is low, so the meaning is
+  -- what a meaning's references lead to is low, so the meaning is: its height is within this, and no path in it is too long
   shallow : (limit : ℕ) (rs : List ArcRef) → limit ≤ longest_path → AllLow shelf limit rs → {own : Meaning ArcRef} {n : Meaning ⊥} → FollowsTo trees rs own n → (m : Meaning ⊥) → n ≡ m
-      → IsShallow limit m
+      → (height m ≤ limit) × (deepest_path m ≤ longest_path)
   unfolding height deepest_path
   shallow limit rs le lows (pair-leads x y a b h g) (pair c d) e = grind (arith, nat_tests, shallow limit rs le lows h c (cc), shallow limit rs le lows g d (cc))
   shallow limit rs le lows (variant-leads i x a h) (variant j c) e = grind (arith, nat_tests, shallow limit rs le lows h c (cc))
@@ -161,22 +143,17 @@ module _ {N E : Type 0} (v : Values N) (s : MachineState N E) (trees : ℕ → T
       let kinds : kind ≡ r.kind.0 = cc in
       let meanings : a ≡ c = cc in
       let p = shallow l.below k.written.references k.stands.within k.stands.low k.wrote.follows c (is ∙ meanings) in
-      let one : above kind (height c) ≤ limit = subst (λ k. above k (height c) ≤ limit) (sym kinds) (le_trans (grind (arith, nat_tests)) l.within) in
-      record { top = one; deepest = let u = p.deepest in omega arith }
+      grind (arith, nat_tests)
   shallow limit rs le lows (followed-leads kind x a none h) m e = absurd none
   shallow limit rs le lows follows x5 e = grind (arith, nat_tests)
 
   -- so is the tree of an identity whose key is known
-  shallow-tree : (i : Identity) (key h : ℕ) → IsPublished shelf i key h → IsShallow h (trees i.node.0).meaning
+  shallow-tree : (i : Identity) (key h : ℕ) → IsPublished shelf i key h → (height (trees i.node.0).meaning ≤ h) × (deepest_path (trees i.node.0).meaning ≤ longest_path)
   shallow-tree i key h p = let k = known i key h p in shallow h k.written.references k.stands.within k.stands.low k.wrote.follows (trees i.node.0).meaning refl
 
   -- a reference that is low leads to no path that is too long
   not-long : (r : ArcRef) → IsLow shelf longest_path r → IsLongBelow r.kind.0 (trees r.node.0).meaning → ⊥
-  not-long r l long =
-      let p = shallow-tree (identity_of r) l.key l.below l.known in
-      let u : above r.kind.0 (height (trees r.node.0).meaning) ≤ above r.kind.0 l.below = grind (arith, nat_tests) in
-      let d = p.deepest in
-      absurd (omega arith)
+  not-long r l long = let p = shallow-tree (identity_of r) l.key l.below l.known in grind (arith, nat_tests)
 
   -- ---- and the tree has a form, and so has each that it reaches
 
@@ -186,34 +163,30 @@ module _ {N E : Type 0} (v : Values N) (s : MachineState N E) (trees : ℕ → T
       let kids = kids_of trees k.written.references in
       formless.none_within k.written.bytes kids (subst (λ x. TreeForm v.types x (trees i.node.0).meaning k.written.bytes kids) same (tree-form k.wrote))
 
-  -- of each of its references a key is known
-  each-below : {i : Identity} {key height : ℕ} (k : Known i key height) (r : ArcRef) → Among k.written.references r → (q : ℕ) × ((h : ℕ) × IsPublished shelf (identity_of r) q h)
-  each-below k r among = known-of shelf k.written.references k.stands.keys k.stands.known r among
-
   -- and so has each that it reaches
-  below-has-form : (rs : List ArcRef) → ((r : ArcRef) → Among rs r → (key : ℕ) × ((height : ℕ) × IsPublished shelf (identity_of r) key height))
-      → {own : Meaning ArcRef} {m n : Meaning ⊥} {u : Tree} → Reaches n u → FollowsTo trees rs own m → n ≡ m → HasNoForm v.types u → ⊥
-  below-has-form rs each (refers kind b) (reference-leads r a among is) e formless =
-      let p = each r among in
+  below-has-form : {i : Identity} {key height : ℕ} (j : Known i key height) {own : Meaning ArcRef} {m n : Meaning ⊥} {u : Tree} → Reaches n u → FollowsTo trees j.written.references own m
+      → n ≡ m → HasNoForm v.types u → ⊥
+  below-has-form j (refers kind b) (reference-leads r a among is) e formless =
+      let p = known-of shelf j.written.references j.stands.keys j.stands.known r among in
       let k = known (identity_of r) p.0 p.1.0 p.1.1 in
       let kinds : kind ≡ r.kind.0 = cc in
       let meanings : b ≡ a = cc in
       let same : tree (type_of kind) b ≡ trees r.node.0 = tree_is _ _ _ _ (ap type_of kinds ∙ sym k.typed) (meanings ∙ sym is) in
       has-form (identity_of r) k (subst (λ x. HasNoForm v.types x) same formless)
-  below-has-form rs each (refers-on kind b u reach) (reference-leads r a among is) e formless =
-      let p = each r among in
+  below-has-form {i = i} {key = key} {height = top} j (refers-on kind b u reach) (reference-leads r a among is) e formless =
+      let p = known-of shelf j.written.references j.stands.keys j.stands.known r among in
       let k = known (identity_of r) p.0 p.1.0 p.1.1 in
       let meanings : b ≡ a = cc in
-      below-has-form k.written.references (each-below k) reach k.wrote.follows (meanings ∙ sym is) formless
-  below-has-form rs each (in-first c d u reach) (pair-leads x y a b h g) e formless = below-has-form rs each reach h (cc) formless
-  below-has-form rs each (in-rest c d u reach) (pair-leads x y a b h g) e formless = below-has-form rs each reach g (cc) formless
-  below-has-form rs each (in-part n c u reach) (variant-leads i x a h) e formless = below-has-form rs each reach h (cc) formless
-  below-has-form rs each reach (followed-leads kind x a none h) e formless = absurd none
-  below-has-form rs each reach follows e formless = absurd (cc)
+      below-has-form {i = identity_of r} {key = p.0} {height = p.1.0} k reach k.wrote.follows (meanings ∙ sym is) formless
+  below-has-form j (in-first c d u reach) (pair-leads x y a b h g) e formless = below-has-form j reach h (cc) formless
+  below-has-form j (in-rest c d u reach) (pair-leads x y a b h g) e formless = below-has-form j reach g (cc) formless
+  below-has-form j (in-part n c u reach) (variant-leads i x a h) e formless = below-has-form j reach h (cc) formless
+  below-has-form j reach (followed-leads kind x a none h) e formless = absurd none
+  below-has-form j reach follows e formless = absurd (cc)
 
   has-forms : (i : Identity) (key height : ℕ) → IsPublished shelf i key height → LeadsToNoForm v.types (trees i.node.0) → ⊥
   has-forms i key height p (inl formless) = has-form i (known i key height p) formless
-  has-forms i key height p (inr (u, reach, formless)) = let k = known i key height p in below-has-form k.written.references (each-below k) reach k.wrote.follows refl formless
+  has-forms i key height p (inr (u, reach, formless)) = let k = known i key height p in below-has-form k reach k.wrote.follows refl formless
 
   -- a task that has come to a key leads down no path that is too long, and to no value that has no form
   task-is-fine : (task : Task) (key : ℕ) → IsDone v shelf task key → (¬ IsTooDeepTask trees task) × (¬ IsFormlessTask v.types trees task)
@@ -221,22 +194,18 @@ module _ {N E : Type 0} (v : Values N) (s : MachineState N E) (trees : ℕ → T
     λ (r, among, long). not-long r (lows r among) long,
     λ (r, among, formless). let p = known-of shelf written.references keys each r among in has-forms (identity_of r) p.0 p.1.0 p.1.1 formless,
   )
-  task-is-fine (of_entry h i) key (top, p) = (λ long. let d = (shallow-tree i key top p).deepest in absurd (omega arith), has-forms i key top p)
+  task-is-fine (of_entry h i) key (top, p) = (λ long. let d = (shallow-tree i key top p).1 in absurd (omega arith), has-forms i key top p)
 
 module _ {N B W E : Type 0} (m : Seen N B W) (s s' : MachineState N E) (trees trees' : ℕ → Tree) (fit : WorkFits m.values s trees) where
   key-is-shallow : (event : Event N B W) (reply : EventReply N B W) → Happens m (world_of s) event reply (world_of s') → KeyIsShallow m.values s trees event reply s' trees'
   key-is-shallow (Event.WorkerStep n) (EventReply.WorkerMoved (Ok reply)) is = λ walking key there e.
       let w = is.moves in
-      let same : w.walking ≡ walking = same_some _ _ (sym w.at ∙ there) in
       let site : Site = record { core = s.pager.core; shelf = s.work.shelves w.walking.table; todo = w.walking.todo } in
-      let walks = fit.walks n.0 w.walking w.at in
-      let a = answered m n.0 (ground_of s trees) w.walking.task site w.after w.walking.todo reply.took w.does.does walks key (sym w.answers ∙ e) in
-      subst (λ (x : Walking). (¬ IsTooDeepTask trees x.task) × (¬ IsFormlessTask m.values.types trees x.task)) same
-      (task-is-fine m.values s trees fit w.walking.table w.walking.task key a.done)
+      let a = answered m n.0 (ground_of s trees) w.walking.task site w.after w.walking.todo reply.took w.does.does (fit.walks n.0 w.walking w.at) key (sym w.answers ∙ e) in
+      let fine = task-is-fine m.values s trees fit w.walking.table w.walking.task key a.0 in grind (arith, nat_tests, same_some)
   key-is-shallow event reply is = tt
 
--- what a worker answers that leads down so, and met no other refusal
-module _ {N B W E : Type 0} (m : Seen N B W) (s s' : MachineState N E) (trees trees' : ℕ → Tree) where
+  -- what a worker answers that leads down so, and met no other refusal
   depth-is-told : (event : Event N B W) (reply : EventReply N B W) → Happens m (world_of s) event reply (world_of s') → KeyIsShallow m.values s trees event reply s' trees'
       → DepthIsTold m s trees event reply s' trees'
   depth-is-told (Event.WorkerStep n) (EventReply.WorkerMoved (Ok reply)) is shallow = λ start moments walking answer whole idle chain ends there e alone deep.
@@ -245,12 +214,9 @@ module _ {N B W E : Type 0} (m : Seen N B W) (s s' : MachineState N E) (trees tr
       let at : s'.work.walkings n.0 ≡ Some now = w.work.same_walkings n.0 ∙ updated-at n.0 (Some now) s.work.walkings in
       let right = headline_law E m start moments whole idle chain in
       let met = (right.work.workers n.0 now (ap (λ (x : MachineState N E). x.work.walkings n.0) ends ∙ at)).met answer e in
-      of _ _ answer alone e met (not-key walking there deep)
+      of _ _ answer alone e met (λ key k.
+      let fine = shallow walking key there k in elim deep [ inl long ↦ fine.0 long | inr formless ↦ fine.1 formless ])
     where
-      not-key : (walking : Walking) → s.work.walkings n.0 ≡ Some walking → IsTooDeepTask trees walking.task ⊎ IsFormlessTask m.values.types trees walking.task → (key : ℕ)
-          → ¬ (reply.answer ≡ Some (WorkerAnswer.Key key))
-      not-key walking there x2 key e = grind (arith, nat_tests, shallow)
-
       of : (shelf : Shelf) (steps : List (Took W)) (answer : WorkerAnswer) → MetDepthAlone steps → reply.answer ≡ Some answer → IsMetFailure shelf n.0 steps answer
           → ((key : ℕ) → ¬ (reply.answer ≡ Some (WorkerAnswer.Key key))) → answer ≡ WorkerAnswer.Failed Error.TooDeep
       of _ steps (WorkerAnswer.Key key) alone e met none = absurd (none key e)

@@ -60,8 +60,7 @@ module _ (kind key n : ℕ) where
       elim (among-either (left_rows f.gone m.rows) f.entries g.live.0 g.row g.live.1) [
         | inl left ↦ record { row = g.row; live = subst (λ rows. Among rows g.row) same (among-kept _ m.rows g.row left); at = g.at; pins_it = g.pins_it }
         | inr new ↦
-            let le = at-most-sum (λ x. one (is_at n x)) f.entries g.row new in
-            let some : 0 < held n f.entries = let e : one (is_at n g.row) ≡ 1 = ap one (at-row g.row g.at) in omega (arith, e, le) in
+            let some : 0 < held n f.entries = let e : one (is_at n g.row) ≡ 1 = ap one (at-row g.row g.at) in omega (arith, e, at-most-sum (λ x. one (is_at n x)) f.entries g.row new) in
             let p = counted (λ x. one (is_pin n x)) w.rows (f.only n some).0.pinned in
             let both = and_parts (p.0.node.0 == n) (is_pinning p.0.mode) (one-true _ p.2) in
             record { row = p.0; live = p.1; at = same-number _ _ both.0; pins_it = λ is. both.1 }
@@ -69,10 +68,6 @@ module _ (kind key n : ℕ) where
 
   pub entered-born : {cache : ℕ → ℕ → Option ℕ} {cells : ℕ → Option Cell} (p : ℕ) (x : Cell) → IsEntered cache cells → IsEntered cache (updated p (Some x) cells)
   entered-born {cache} {cells} p x e = grind (arith, nat_tests)
-
-  pub entered-keyed : {cache : ℕ → ℕ → Option ℕ} {cells : ℕ → Option Cell} (p k : ℕ) → IsEntered cache cells
-      → IsEntered cache (updated p (if_there (λ (x : Cell). Some (record x { key = OptionalDataKey.Some k })) None (cells p)) cells)
-  entered-keyed {cache} {cells} p k e = grind (arith, nat_tests)
 
 -- A call leaves each handle of an owner as it is that doesn't ask: it is there afterwards, with its row. The owner is a worker, or the list.
 
@@ -102,14 +97,13 @@ pub both-none : (a b : Option Error) → earlier a b ≡ None → (a ≡ None) �
 both-none x0 x1 is = grind (arith, nat_tests)
 
 -- where nothing is said against handles that are named, each is live and the owner's
-module _ (w : Core) (owner : Owner) where
-  pub named : (seen : List ℕ) (hs : List HandleNumber) → named_fault w owner seen hs ≡ None → (h : HandleNumber) → is_in (numbers_of hs) h.0 ≡ true → Has w owner h
-  unfolding named_fault is_in
-  named seen [] none h is = absurd (cc)
-  named seen (x ∷ hs) none h is = elim (cases_Bool (x.0 == h.0)) [
-    | inl e ↦ subst (λ z. Has w owner z) (ap (λ n. let k : HandleNumber = record { 0 = n } in k) (same-number _ _ e)) (grind (arith, nat_tests))
-    | inr e ↦ named (x.0 ∷ seen) hs (both-none _ _ none).1 h (rw e at is)
-  ]
+pub named : (w : Core) (owner : Owner) (seen : List ℕ) (hs : List HandleNumber) → named_fault w owner seen hs ≡ None → (h : HandleNumber) → is_in (numbers_of hs) h.0 ≡ true → Has w owner h
+unfolding named_fault is_in
+named w owner seen [] none h is = absurd (cc)
+named w owner seen (x ∷ hs) none h is = elim (cases_Bool (x.0 == h.0)) [
+  | inl e ↦ subst (λ z. Has w owner z) (ap (λ n. let k : HandleNumber = record { 0 = n } in k) (same-number _ _ e)) (grind (arith, nat_tests))
+  | inr e ↦ named w owner (x.0 ∷ seen) hs (both-none _ _ none).1 h (rw e at is)
+]
 
 module _ (mine : Owner) where
   -- each handle of the owner's that stands before stands afterwards
@@ -137,12 +131,9 @@ module _ (mine : Owner) where
       → test row ≡ false → Stands last rows q row → Stands last (changed test f rows) q row
   unchanged {last} {rows} {q} {row} test f same e s = subst (λ r. Stands last (changed test f rows) q r) (ap (λ b. if b then f row else row) e) (stands-changed test f same s)
 
-  row-number : {last : ℕ} {rows : List HandleRow} {q : ℕ} {row : HandleRow} → Stands last rows q row → row.number.0 ≡ q
-  row-number {rows = rows} {q} {row} s = found-number q rows row s.live
-
   -- handles of a set move that aren't the owner's
   pub moved-free : {last : ℕ} {rows : List HandleRow} {q : ℕ} {row : HandleRow} (set : ℕ → Bool) (owner : Owner) → set q ≡ false → Stands last rows q row → Stands last (moved set owner rows) q row
-  moved-free set owner free s = unchanged (λ h. set h.number.0) (λ h. record h { owner = owner }) (λ h. refl) (ap set (row-number s) ∙ free) s
+  moved-free set owner free s = unchanged (λ h. set h.number.0) (λ h. record h { owner = owner }) (λ h. refl) (ap set (found-number _ _ _ s.live) ∙ free) s
 
   pub other-handle : {w : Core} {me : Owner} {fits : Mode → Bool} (h : HandleNumber) (r : HandleRow) → (me ≡ mine → ⊥) → Owns w me h fits r → Free w (only_handle h)
   other-handle {w} {me} h r other owns = grind (arith, nat_tests)
@@ -157,8 +148,7 @@ module _ (mine : Owner) where
     each = λ q row own s. false_from_ne_true (q == h.0) (λ e.
         let here : one (h.0 == q) ≡ 1 = ap (λ n. one (n == q)) (sym (same-number q h.0 e)) ∙ ap one (self-number q) in
         let most = at-most-sum (λ (x : HandleNumber). one (x.0 == q)) w.list h (i, at) in
-        let as_many = there.listed q in
-        let (x, among, some) = counted (λ (x : HandleRow). one (is_handle q x && is_owned_by Owner.List x)) w.rows (omega (arith, here, most, as_many)) in
+        let (x, among, some) = counted (λ (x : HandleRow). one (is_handle q x && is_owned_by Owner.List x)) w.rows (omega (arith, here, most, there.listed q)) in
         let it = s.only x among in
         grind (arith, nat_tests, one-true, same-number));
   }
@@ -260,7 +250,7 @@ module _ {me : Owner} {lists : Bool} {Asks Leaves : Type 0} where
     turned h mode is free safe = rowed (only-rows (rows-mode m.last.handle m.rows h mode is safe) (le-self _))
         (λ mine o. record {
           each = λ q row own s. let r = (d.spares mine o).each q row own s in
-              unchanged mine (is_handle h.0) (λ x. record x { mode = mode }) (λ x. refl) (ap (λ n. n == h.0) (row-number mine r) ∙ (free mine o).each q row own s) r;
+              unchanged mine (is_handle h.0) (λ x. record x { mode = mode }) (λ x. refl) (ap (λ n. n == h.0) (found-number _ _ _ r.live) ∙ (free mine o).each q row own s) r;
         })
 
     pub moves : (set : ℕ → Bool) (owner : Owner) (list : List HandleNumber) → NotLoads owner → Ours me lists w set → Effect me lists Asks Leaves true c w (record m { rows = moved set owner m.rows; list = list })
@@ -270,13 +260,9 @@ module _ {me : Owner} {lists : Bool} {Asks Leaves : Type 0} where
     plainly : {cache : ℕ → ℕ → Option ℕ} {loads : ℕ → Option OpenLoad} {last : ℕ} → let x = record m { cache = cache; loads = loads; last = record m.last { load = last } } in
         Goes c w x → (Leaves → (kind key n : ℕ) → IsEntered kind key n w.cache w.cells → IsHeldFor kind key n w.rows → IsEntered kind key n cache m.cells)
         → (Asks → (l : ℕ) (load : OpenLoad) → w.loads l ≡ Some load → l ≤ w.last.load → is_owner me load.owner ≡ false → loads l ≡ Some load) → Effect me lists Asks Leaves true c w x
-    plainly goes lasts others = record {
-      goes = goes;
-      spares = λ mine o. record { each = (d.spares mine o).each };
-      lasts = λ k kind key n e h still. lasts k kind key n e h;
-      workers = d.workers;
-      others = others;
-    }
+    plainly goes lasts others =
+        let each = λ (mine : Owner) (o : IsOther me lists w mine). (d.spares mine o).each in
+        record { goes = goes; spares = λ mine o. record { each = each mine o }; lasts = λ k kind key n e h still. lasts k kind key n e h; workers = d.workers; others = others }
 
     pub cached : (kind : Kind) (key : ℕ) (n : NodeNumber) → Knows c w kind.0 key n.0 → usable w kind.0 key ≡ None → Effect me lists Asks Leaves true c w (with_cached m kind key n)
     cached kind key n knows unknown = plainly (goes-known d.goes kind key n knows) (λ k k' q p e h.
@@ -311,7 +297,7 @@ module _ {me : Owner} {lists : Bool} {Asks Leaves : Type 0} where
       search (rules, born, spares, entered-born)
 
   pub with-key : (w : Core) (n : NodeNumber) (key : ℕ) → Effect me lists Asks Leaves true (sets_key n.0 key) w (with_key w n key)
-  with-key w n key = search (rules, keyed, entered-keyed)
+  with-key w n key = grind (arith, nat_tests, keyed w n key)
 
   -- what is stored may grow, and the storage may fail
   pub beside : {c : Change} (w : Core) (stored : ℕ → Option Blob) (failures : ℕ) → ((q : ℕ) (b : Blob) → w.stored q ≡ Some b → stored q ≡ Some b) → (IsShut w → (q : ℕ) → stored q ≡ None)

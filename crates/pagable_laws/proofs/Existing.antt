@@ -2,7 +2,7 @@
 use Rattle.pagable_laws.proofs.Words.{[], and_parts, ap, arith, cases_lt, false, false_from_ne_true, find_row, held, inl, inr, is_owned_by, is_owner, length, nat_tests, not, one, owner_value, pins}
 use Rattle.pagable_laws.proofs.{Trees.{at-most-sum, counted, one-small, one-true, same-number, sum-le, sum-plus, sum-zero}, Words.{Among, Blob, Bool, HandleRow, Last, List, Mode, Ok, Option, Owner}}
 use Rattle.pagable_laws.{proofs.Words.{refl, suc, sum_by-cons, sym, true, zero, ℕ, ◌&&◌, ◌+◌, ◌<◌, ◌==◌, ◌||◌, ◌∙◌, ◌∷◌, ◌≡◌, ◌≤◌}, specs.FallLaws.{IsGivenAlone, LoneIsListed, OwnsNothing}}
-use Rattle.{pagable_laws.specs.FallLaws.{TwoLevelsFall, first, first_node, lone, lone_listed, lone_unlisted, two_rows}, pagable_world.specs.{Calls.{UnpinCall, row_of, with_mode}, Cascade.Falls}}
+use Rattle.{pagable_laws.specs.FallLaws.{TwoLevelsFall, first, first_node, lone, lone_listed, lone_unlisted, two_rows}, pagable_world.specs.{Calls.{row_of, with_mode}, Cascade.Falls}}
 use Rattle.{pagable_world.specs.{Cascade.{IsClosed, IsLeast, IsWithin, is_outside, loses_value, nobody, owned_outside}, Kinds.{is_at, is_pin}}, std.{proofs.Common.sum_by, specs.Prelude.nat_lt}}
 
 -- 1 for a handle outside the set; one that the node's value owns; and one of the one set and not of the other
@@ -67,31 +67,27 @@ module _ (rows : List HandleRow) (keyed : ℕ → Bool) (entries : List HandleRo
     abbrev but : ℕ → Bool
     but q = gone q && not (stay q)
 
-    but-holds : IsWithin rows given but
-    but-holds = sum-zero (only_in given but) rows (λ h among. grind (arith, nat_tests, inside given gone h least.holds among, free h among))
-
-    but-closed : IsClosed rows keyed entries but
-    but-closed n goes =
+    pub outlast : (h : HandleRow) → Among rows h → stay h.number.0 ≡ true → gone h.number.0 ≡ false
+    outlast h among is =
+        let holds : IsWithin rows given but = sum-zero (only_in given but) rows (λ h among. grind (arith, nat_tests, inside given gone h least.holds among, free h among)) in
+        let closed : IsClosed rows keyed entries but = λ n goes.
         let lost_too = wider but gone n (sum-zero (only_in but gone) rows (λ h among. grind (arith, nat_tests))) goes in
         let none = least.closed n lost_too in sum-zero (owned_out but n) rows (λ h among.
         let f : is_owner (owner_value n) h.owner ≡ true → stay h.number.0 ≡ false = λ e. apart n h among e lost_too in
-        let a = at-most-sum (owned_out gone n) rows h among in grind (arith, nat_tests, f))
-
-    pub outlast : (h : HandleRow) → Among rows h → stay h.number.0 ≡ true → gone h.number.0 ≡ false
-    outlast h among is = false_from_ne_true (gone h.number.0) (λ e. let goes = inside gone but h (least.least but but-holds but-closed) among e in grind (arith, nat_tests))
+        let a = at-most-sum (owned_out gone n) rows h among in grind (arith, nat_tests, f)) in
+        false_from_ne_true (gone h.number.0) (λ e. let goes = inside gone but h (least.least but holds closed) among e in grind (arith, nat_tests))
 
   -- what follows is in each closed set
   stays : (s t : ℕ → Bool) → IsWithin rows s t → IsClosed rows keyed entries t → IsWithin rows (more s) t
-  stays s t within closed = sum-zero (only_in (more s) t) rows (λ h among. grind (arith, nat_tests, inside s t h within among, owned h among))
-    where
-      owned : (h : HandleRow) → Among rows h → 0 < sum_by (follows (lost s) h.number.0) rows → t h.number.0 ≡ true
-      owned h among some = (grind (arith, nat_tests, one-true, of-value, same-number, owner-of, counted (follows (lost s) h.number.0) rows some))
-        where
-          of-value : (h x : HandleRow) → Among rows x → x.number.0 ≡ h.number.0 → (n : ℕ) × (is_owner (owner_value n) x.owner ≡ true) × (lost s n ≡ true) → t h.number.0 ≡ true
-          of-value h x among number (n, is, goes) =
-              let none : sum_by (owned_out t n) rows ≡ 0 = closed n (wider s t n within goes) in
-              let at : owned_out t n x ≤ sum_by (owned_out t n) rows = at-most-sum (owned_out t n) rows x among in
-              let it : t x.number.0 ≡ true = grind (arith, nat_tests) in sym (ap t number) ∙ it
+  stays s t within closed =
+      let of-value : (h x : HandleRow) → Among rows x → x.number.0 ≡ h.number.0 → (n : ℕ) × (is_owner (owner_value n) x.owner ≡ true) × (lost s n ≡ true) → t h.number.0 ≡ true =
+      λ h x among number (n, is, goes).
+      let none : sum_by (owned_out t n) rows ≡ 0 = closed n (wider s t n within goes) in
+      let at : owned_out t n x ≤ sum_by (owned_out t n) rows = at-most-sum (owned_out t n) rows x among in
+      let it : t x.number.0 ≡ true = grind (arith, nat_tests) in sym (ap t number) ∙ it in
+      let owned : (h : HandleRow) → Among rows h → 0 < sum_by (follows (lost s) h.number.0) rows → t h.number.0 ≡ true = λ h among some.
+      grind (arith, nat_tests, one-true, of-value, same-number, owner-of, counted (follows (lost s) h.number.0) rows some) in
+      sum-zero (only_in (more s) t) rows (λ h among. grind (arith, nat_tests, inside s t h within among, owned h among))
 
   -- a set that is in each closed one is the least once it is closed itself; until then it grows
   grows : (given : ℕ → Bool) (k : ℕ) (s : ℕ → Bool) → sum_by (outside s) rows ≤ k → IsWithin rows given s → ((t : ℕ → Bool) → IsWithin rows given t → IsClosed rows keyed entries t → IsWithin rows s t)

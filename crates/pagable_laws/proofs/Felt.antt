@@ -1,13 +1,13 @@
 -- What each step brings fits some trees afterwards: where a pager stands for trees, each value and key leads to its node's tree by its own references alone, and from
 -- this it stands for them again, so that what is asked of a node is shown at each node by itself.
-use Rattle.pagable_laws.proofs.Words.{Change, Core, Frame, FramesFit, HoldsSettled, IsLawful, IsReference, List, LoadAnswer, Meaning, None, OpenLoad, Option, OptionalDataKey, Owner, PagerState}
+use Rattle.pagable_laws.proofs.Words.{Change, Core, Frame, HoldsSettled, IsLawful, IsReference, List, LoadAnswer, Meaning, None, OpenLoad, Option, OptionalDataKey, Owner, PagerState}
 use Rattle.pagable_laws.proofs.Words.{Reading, ReadingFeels, ReadingFits, ReadsItsTypes, ReadsRoot, ReadsTree, Reply, Represents, Some, Tree, Values, WellFormed, [], ap, arith, bears_known, cases_lt}
 use Rattle.pagable_laws.proofs.Words.{false, first_key, followed, held, if◌then◌else◌, inl, inr, integer-leads, is_some, key_at, nat_tests, none, nothing_felt, pair, reference, references_in, refl}
 use Rattle.pagable_laws.proofs.{Coming.updated-at, Decoding.{decodes, meant-refs}, Following.{cell-of, given-of, halves, held-of, leads-on, one-node, stands-leads}, ReadingSteps.{new-node, old-node}}
 use Rattle.pagable_laws.proofs.{Related.along-rename, Taking.{first-fits, node-decoded, node-stays, root-key, tree-stays}, Trees.{one_tree, same_some, tree_is}, Words.{Among, ArcRef, Bool, Call}}
 use Rattle.pagable_laws.specs.TreeSteps.{CoreGoes, FramesGiven, LeadsTo, NodeLeads, SameNode, StaysAway, ValueLeads, bears_node, feels-adopted, feels-away, feels-birth, feels-end, feels-key}
-use Rattle.pagable_laws.specs.TreeSteps.{feels-known, feels-lazy, feels-nothing, followed-leads, gets-lazy, knows_node, makes-node, none-leads, number-leads, pair-leads, pattern-leads}
-use Rattle.pagable_laws.{proofs.Words.{rules, subst, sym, tree, true, type_of, updated, variant, zero, ℕ, ◌+◌, ◌<◌, ◌==◌, ◌∙◌, ◌∷◌, ◌≡◌, ◌≤◌, ◌⊎◌}, specs.TreeSteps.{AreGood, CallFeels, ChangeFits}}
+use Rattle.pagable_laws.specs.TreeSteps.{feels-known, feels-lazy, feels-nothing, followed-leads, gets-lazy, makes-node, none-leads, number-leads, pair-leads, pattern-leads}
+use Rattle.pagable_laws.{proofs.Words.{rules, subst, sym, tree, true, type_of, updated, variant, zero, ℕ, ◌+◌, ◌<◌, ◌==◌, ◌∙◌, ◌≡◌, ◌≤◌, ◌⊎◌}, specs.TreeSteps.{AreGood, CallFeels, ChangeFits}}
 use Rattle.pagable_world.specs.Pager.{IsCellOf, IsNewNode, KeyFits, MeaningStands, Moves, NodeStands, ReadingBrings, ReadsNodeTree, SameTrees, away, followed-stands, here, integer-stands, none-stands}
 use Rattle.pagable_world.specs.{Pager.{number-stands, pair-stands, pattern-stands, reference-stands, text-stands, variant-stands}, Plain.is_pinned_kind, Runs.{AsksWell, TakesWell}}
 use Rattle.{pagable_laws.specs.TreeSteps.{reference-leads, sets_key, text-leads, variant-leads}, pagable_model.specs.Meaning.{integer, number, pattern, text}, pagable_world.specs.Pager.CallBrings}
@@ -45,17 +45,12 @@ value-on lawful last {trees' = trees'} {x = x} {t = t} same few l =
 
 module _ {N E : Type 0} {v : Values N} {s : PagerState N E} {trees : ℕ → Tree} (lawful : IsLawful v) where
   module _ (settled : HoldsSettled v s) (well : WellFormed v s) (stands : Represents v s trees) where
-    -- what a good reference's node stands for, as one of the kind's type, is its tree
-    pub node-tree : (owner : _) (r : ArcRef) (b : Meaning ⊥) → IsReference s.core owner r → NodeStands v s r.node.0 (tree (type_of r.kind.0) b)
-        → ((trees r.node.0).type ≡ type_of r.kind.0) × ((trees r.node.0).meaning ≡ b)
-    node-tree owner r b good node = grind (arith, nat_tests, given-of, same_some, one-node)
-
     -- a value whose references are good, and which stands for a tree, leads to it
     pub value-leads : (x : N) (own : Meaning ArcRef) (t : Tree) (owner : _) → v.node_type x ≡ t.type → v.means x own → MeaningStands v s own t.meaning
         → ((r : ArcRef) → Among (v.references x) r → IsReference s.core owner r) → ValueLeads v trees x t
     value-leads x own t owner typed means meant good =
         let leads : LeadsTo trees own t.meaning = stands-leads meant (along-rename (λ r. r) own)
-        (λ r among c same b node. node-tree owner r b (good r (own-refs lawful x own means r among)) node) in
+        (λ r among c same b node. let is = good r (own-refs lawful x own means r among) in grind (arith, nat_tests, given-of, same_some, one-node)) in
         search
 
     -- so does each value in memory; and each key reads as its node's tree
@@ -72,22 +67,16 @@ abbrev pub AreLive : Core → Meaning ArcRef → Type 0
 AreLive w x = (r : ArcRef) → Among (references_in x) r → 0 < held r.node.0 w.rows
 
 module _ {N E : Type 0} {v : Values N} {s : PagerState N E} {trees : ℕ → Tree} (lawful : IsLawful v) (well : WellFormed v s) (all : (n : ℕ) → 0 < held n s.core.rows → NodeLeads v s trees n) where
+  node-by : (n : ℕ) (o : Option N) → s.values n ≡ o → 0 < held n s.core.rows
+      → ((own : Meaning ArcRef) → LeadsTo trees own (trees n).meaning → AreLive s.core own → MeaningStands v s own (trees n).meaning) → NodeStands v s n (trees n)
+  node-by n (Some x) is live follow =
+      let l = (all n live).valued x is in
+      let refs : AreLive s.core l.own = λ r among. (given-of well.whole.handles r.node.0 (well.references n x r is (own-refs lawful x l.own l.means r among)).typed).0 in
+      here n x l.own (trees n) is l.typed l.means (follow l.own l.leads refs) (all n live).keyed
   -- what has no value in memory has a key
-  gone : (n : ℕ) → 0 < held n s.core.rows → s.values n ≡ None → (k : ℕ) × (key_at s.core n ≡ OptionalDataKey.Some k)
-  gone n live is = grind (arith, nat_tests, cell-of well.whole.handles n live, well.valued n)
-
-  node-by : (n : ℕ) → 0 < held n s.core.rows → ((own : Meaning ArcRef) → LeadsTo trees own (trees n).meaning → AreLive s.core own → MeaningStands v s own (trees n).meaning)
-      → NodeStands v s n (trees n)
-  node-by n live follow = at (s.values n) refl
-    where
-      at : (o : Option N) → s.values n ≡ o → NodeStands v s n (trees n)
-      at (Some x) is =
-          let l = (all n live).valued x is in
-          let refs : AreLive s.core l.own = λ r among. (given-of well.whole.handles r.node.0 (well.references n x r is (own-refs lawful x l.own l.means r among)).typed).0 in
-          here n x l.own (trees n) is l.typed l.means (follow l.own l.leads refs) (all n live).keyed
-      at None is =
-          let k = gone n live is in
-          away n k.0 (trees n) is k.1 (all n live).keyed
+  node-by n None is live follow =
+      let k : (k : ℕ) × (key_at s.core n ≡ OptionalDataKey.Some k) = grind (arith, nat_tests, cell-of well.whole.handles n live, well.valued n) in
+      away n k.0 (trees n) is k.1 (all n live).keyed
 
   stand : (m : Meaning ⊥) {own : Meaning ArcRef} {a : Meaning ⊥} → LeadsTo trees own a → m ≡ a → AreLive s.core own → MeaningStands v s own a
   unfolding references_in
@@ -100,7 +89,7 @@ module _ {N E : Type 0} {v : Values N} {s : PagerState N E} {trees : ℕ → Tre
   stand (followed j c) (followed-leads kind x a n f) e h = let same : c ≡ a = cc in followed-stands kind x a (stand c f same h)
   stand (followed j c) (reference-leads r a typed meant) e h =
       let same : c ≡ (trees r.node.0).meaning = (let f : c ≡ a = cc in f ∙ sym meant) in
-      reference-stands r a (subst (λ (t : Tree). NodeStands v s r.node.0 t) (tree_is _ _ _ _ typed meant) (node-by r.node.0 (h r (zero, refl)) (λ z l k. stand c l same k)))
+      reference-stands r a (subst (λ (t : Tree). NodeStands v s r.node.0 t) (tree_is _ _ _ _ typed meant) (node-by r.node.0 _ refl (h r (zero, refl)) (λ z l k. stand c l same k)))
   stand m (number-leads i) e h = number-stands i
   stand m l e h = first_of (search (integer-stands, text-stands, pattern-stands, none-stands), cc)
 
@@ -127,7 +116,7 @@ module _ {N E : Type 0} {v : Values N} {c : Change} {comes : ℕ → N → Type 
 
   pub trees-go-on : Represents v s' trees'
   trees-go-on = record {
-    stands = λ n live. node-by lawful well' leads-again n live (λ z l k. stand lawful well' leads-again (trees' n).meaning l refl k);
+    stands = λ n live. node-by lawful well' leads-again n _ refl live (λ z l k. stand lawful well' leads-again (trees' n).meaning l refl k);
     typed = λ n live. grind (arith, nat_tests, old-node goes, new-node goes well.whole.handles);
     loads = λ l load node t h is root. elim (goes.loads l load is) [
       | inl stays ↦ node-stays goes.stored (fits.same node.0 (well.whole.loads.roots l load node t h stays root).given.1) (stands.loads l load node t h stays root)
@@ -173,10 +162,6 @@ module _ {N E : Type 0} {v : Values N} {s s' : PagerState N E} {trees : ℕ → 
   pub fits-key : (comes : ℕ → N → Type 0) (m k : ℕ) → ((n : ℕ) (x : N) → comes n x → ⊥) → ReadsTree s'.core.stored v.types k (trees m) → ChangeFits v (sets_key m k) comes s s' trees trees
   fits-key comes m k unset reads = grind arith
 
-  pub fits-known : (comes : ℕ → N → Type 0) (k q m : ℕ) → ((n : ℕ) (x : N) → comes n x → ⊥) → ReadsNodeTree v.types s'.core.stored trees q (type_of k) m
-      → ChangeFits v (knows_node k q m) comes s s' trees trees
-  fits-known comes k q m unset reads = grind arith
-
   module _ (t0 : Tree) where
     abbrev more : ℕ → Tree
     more = updated (last + 1) t0 trees
@@ -195,9 +180,7 @@ module _ {N E : Type 0} {v : Values N} {s s' : PagerState N E} {trees : ℕ → 
     pub value-born : (c : Change) (n : ℕ) (x y : N) → CoreGoes c s.core s'.core → s'.values n ≡ Some x → x ≡ y → IsNewNode s.core n
         → ((r : ArcRef) → Among (v.references y) r → r.node.0 ≤ last) → ValueLeads v trees y t0 → ValueLeads v more x (more n)
     value-born c n x y goes is same new few l =
-        let next : n ≡ last + 1 = (new-node goes well.whole.handles n new (live-after n x is)).next in
-        let led_to : ValueLeads v more y t0 = value-on lawful last (with-below last t0 trees) few l in
-        subst (λ z. ValueLeads v more z (more n)) (sym same) (subst (λ z. ValueLeads v more y z) (sym (ap more next ∙ (updated-at (last + 1) t0 trees))) led_to)
+        rw (same, (new-node goes well.whole.handles n new (live-after n x is)).next, updated-at (last + 1) t0 trees) (value-on lawful last (with-below last t0 trees) few l)
 
   -- some trees after a call fit what it brings
   pub call-fits : {B : Type 0} (c : Change) (call : Call N B) (reply : Reply N B) → CoreGoes c s.core s'.core → AsksWell v s trees call reply
@@ -207,63 +190,44 @@ module _ {N E : Type 0} {v : Values N} {s s' : PagerState N E} {trees : ℕ → 
       let some = lawful.some x in
       let l = led {trees = trees} some.0 (λ r among. let is = (good r (own-refs lawful x some.0 some.1 r among)).typed in
       same_some _ _ (sym (stands.typed r.node.0 (given-of well.whole.handles r.node.0 is).0) ∙ is)) in
-      let born : (t : Tree) × (t.type ≡ v.node_type x) × ValueLeads v trees x t = (tree (v.node_type x) l.0, refl, record { own = some.0; typed = refl; means = some.1; leads = l.1 }) in (
-        _,
-        fits-born born.0 _ _ OptionalDataKey.None born.1 (λ key is. absurd (cc))
-            (λ n y brings unset is. value-born born.0 _ n y x goes is (brought n y brings).0 (brought n y brings).1 (good-given Owner.Caller x good) born.2),
-      )
-  call-fits c call reply goes asked (feels-away t key k) = (
-    _,
-    fits-born asked.read _ _ (OptionalDataKey.Some key) asked.typed
-        (λ q is. let e : key ≡ q = cc in subst (λ z. ReadsTree s'.core.stored v.types z asked.read) e (tree-stays goes.stored asked.reads)) (λ n y brings unset is. absurd brings),
-  )
+      let born : (t : Tree) × (t.type ≡ v.node_type x) × ValueLeads v trees x t = (tree (v.node_type x) l.0, refl, record { own = some.0; typed = refl; means = some.1; leads = l.1 }) in
+      let few = good-given Owner.Caller x good in
+      (_, fits-born born.0 _ _ OptionalDataKey.None born.1 (λ key is. absurd (cc)) (λ n y brings unset is. let b = brought n y brings in value-born born.0 _ n y x goes is b.0 b.1 few born.2))
+  call-fits c call reply goes asked (feels-away t key k) =
+      let reads = tree-stays goes.stored asked.reads in
+      (_, fits-born asked.read _ _ (OptionalDataKey.Some key) asked.typed (λ q is. let e : key ≡ q = cc in rw (← e) reads) (λ n y brings unset is. absurd brings))
   call-fits c call reply goes asked (feels-key h key row owns) = (_, fits-key _ row.node.0 key (λ n y brings. brings) (tree-stays goes.stored (asked row owns)))
   call-fits c call reply goes asked (feels-known kind key h row owns typed) =
       let live = given-of well.whole.handles row.node.0 typed in
       let is_typed : (trees row.node.0).type ≡ type_of kind.0 = same_some _ _ (sym (stands.typed row.node.0 live.0) ∙ typed) in
-      (_, fits-known _ kind.0 key row.node.0 (λ n y brings. brings) (record { typed = is_typed; reads = tree-stays goes.stored (asked row owns) }))
+      let reads : ReadsNodeTree v.types s'.core.stored trees key (type_of kind.0) row.node.0 = record { typed = is_typed; reads = tree-stays goes.stored (asked row owns) } in (trees, grind arith)
   call-fits c call reply goes asked (feels-adopted l kind key x k typed good) =
-      let leads = value-leads lawful settled well stands x asked.stands.own asked.read (Owner.Load l) asked.stands.typed asked.stands.means asked.stands.stands good in (
-        _,
-        fits-born-known asked.read _ kind.0 key (first_key kind.0 key) (sym asked.stands.typed ∙ typed) (λ q is. first-of (is_pinned_kind kind.0) key q is) (tree-stays goes.stored asked.reads)
-            (λ n y brings unset is. value-born asked.read _ n y x goes is brings.0 brings.1 (good-given (Owner.Load l) x good) leads),
-      )
+      let leads = value-leads lawful settled well stands x asked.stands.own asked.read (Owner.Load l) asked.stands.typed asked.stands.means asked.stands.stands good in
+      let same = sym asked.stands.typed ∙ typed in let reads = tree-stays goes.stored asked.reads in let few = good-given (Owner.Load l) x good in
+      (_, fits-born-known asked.read _ kind.0 key _ same (first-of (is_pinned_kind kind.0) key) reads (λ n y brings unset is. value-born asked.read _ n y x goes is brings.0 brings.1 few leads))
   call-fits c call reply goes asked (feels-lazy l kind key k) =
       (_, fits-born-known asked.read _ kind.0 key (OptionalDataKey.Some key) asked.typed (λ q is. cc) (tree-stays goes.stored asked.reads) (λ n y brings unset is. absurd brings))
-  call-fits c call reply goes asked (feels-end l x k good) = (
-    _,
-    fits-nothing _ (λ n y brings unset is.
-        let meant = asked n brings.1 in
-        let leads = value-leads lawful settled well stands x meant.own (trees n) (Owner.Load l) meant.typed meant.means meant.stands good in
-        subst (λ z. ValueLeads v trees z (trees n)) (sym brings.0) leads),
-  )
-
-at-front : (frames : List Frame) (a : Frame) (xs : List Frame) → frames ≡ a ∷ xs → Among frames a
-at-front frames a xs e = subst (λ fs. Among fs a) (sym e) (zero, refl)
+  call-fits c call reply goes asked (feels-end l x k good) =
+      let leads = value-leads lawful settled well stands x in
+      (_, fits-nothing _ (λ n y brings unset is. let meant = asked n brings.1 in rw brings.0 (leads meant.own (trees n) (Owner.Load l) meant.typed meant.means meant.stands good)))
 
 module _ {N E : Type 0} {v : Values N} {s s' : PagerState N E} {trees : ℕ → Tree} (lawful : IsLawful v) (readable : ReadsItsTypes v.types) (settled : HoldsSettled v s) (well : WellFormed v s)
     (well' : WellFormed v s') (stands : Represents v s trees)
     (reading : Reading) (fits : ReadingFits v s trees reading) (given : FramesGiven s.core.last.node reading.frames) where
   module _ {c : Change} (goes : CoreGoes c s.core s'.core) where
-    pub record RootLeads (n : ℕ) (x : N) : Type 0 where
-      pub within : n ≤ s.core.last.node
-      pub leads : ValueLeads v trees x (trees n)
-      pub few : (r : ArcRef) → Among (v.references x) r → r.node.0 ≤ s.core.last.node
-
     -- the value of a root that was read leads to its cell's tree
-    root-leads : (n : ℕ) (x : N) → s'.values n ≡ Some x → ReadsRoot v reading x → IsCellOf s.core reading.load n → RootLeads n x
+    root-leads : (n : ℕ) (x : N) → s'.values n ≡ Some x → ReadsRoot v reading x → IsCellOf s.core reading.load n
+        → (n ≤ s.core.last.node) × ValueLeads v trees x (trees n) × ((r : ArcRef) → Among (v.references x) r → r.node.0 ≤ s.core.last.node)
     root-leads n x is root cell =
-        let fit = fits cell.load cell.open_load in
-        let here = subst (λ fs. FramesFit v.types s.core.stored trees cell.load.key reading.node_type fs) root.frames fit in
+        let here = rw root.frames at (fits cell.load cell.open_load) in
         let d = decodes lawful readable root.root x (first-fits v.types cell.load.key reading.node_type s.core.stored trees root.root [] here) root.decoded in
         let under = subst (λ q. ReadsTree s.core.stored v.types q d.t) (root-key v.types s.core.stored trees cell.load.key reading.node_type root.root here) d.reads in
         let within : n ≤ s.core.last.node = subst (λ m. m ≤ s.core.last.node) cell.is (well.whole.loads.roots reading.load.0 cell.load cell.node cell.t cell.h cell.open_load cell.root).given.1 in
         let old = old-node goes n within (live-after lawful settled well well' stands n x is) in
         let typed : (trees n).type ≡ v.node_type x = same_some _ _ (sym (stands.typed n (held-of well.whole.handles n old.was)) ∙ sym old.typed ∙ well'.typed n x is) in
-        let cells : ReadsTree s.core.stored v.types cell.load.key (trees n) = subst (λ m. ReadsTree s.core.stored v.types cell.load.key (trees m)) cell.is
-        (stands.loads reading.load.0 cell.load cell.node cell.t cell.h cell.open_load cell.root).reads in
+        let cells = rw cell.is at (stands.loads reading.load.0 cell.load cell.node cell.t cell.h cell.open_load cell.root).reads in
         let same : d.t ≡ trees n = one_tree s.core.stored v.types cell.load.key d.t (trees n) (sym d.leads.typed ∙ sym typed) under cells in
-        record { within = within; leads = subst (λ z. ValueLeads v trees x z) same d.leads; few = λ r among. given root.root r (at-front reading.frames root.root [] root.frames) (d.got r among) }
+        (within, subst (λ z. ValueLeads v trees x z) same d.leads, λ r among. given root.root r (rw root.frames (zero, refl)) (d.got r among))
 
     quiet : (n : ℕ) (x : N) → c ≡ nothing_felt → ReadingBrings v s.core reading n x → s'.values n ≡ Some x → ValueLeads v trees x (trees n)
     quiet n x nothing x3 is = grind (arith, nat_tests, live-after, root-leads, new-node goes well.whole.handles)
@@ -274,7 +238,7 @@ module _ {N E : Type 0} {v : Values N} {s s' : PagerState N E} {trees : ℕ → 
     root-on t0 n x is root cell =
         let r = root-leads n x is root cell in
         let same = with-below s.core.last.node t0 trees in
-        subst (λ z. ValueLeads v (updated (s.core.last.node + 1) t0 trees) x z) (sym (same n r.within)) (value-on lawful s.core.last.node same r.few r.leads)
+        subst (λ z. ValueLeads v (updated (s.core.last.node + 1) t0 trees) x z) (sym (same n r.0)) (value-on lawful s.core.last.node same r.2 r.1)
 
   still : CoreGoes nothing_felt s.core s'.core → (after : ℕ → Tree) × ChangeFits v nothing_felt (ReadingBrings v s.core reading) s s' trees after
   still goes = (trees, fits-nothing lawful settled well well' stands _ (λ n x brings unset is. quiet goes n x refl brings is))
@@ -283,28 +247,26 @@ module _ {N E : Type 0} {v : Values N} {s s' : PagerState N E} {trees : ℕ → 
       → (answer ≡ None → (load : OpenLoad) × (s.core.loads reading.load.0 ≡ Some load))
       → ReadingFeels v s.core reading answer frames s'.core c → (after : ℕ → Tree) × ChangeFits v c (ReadingBrings v s.core reading) s s' trees after
   reading-fits goes takes opens (gets-lazy kind key row needs got answer is) =
-      let asked = takes kind key needs in (
-        _,
-        fits-born-known lawful settled well well' stands asked.read _ kind.0 key (OptionalDataKey.Some key) asked.typed (λ q e. cc) (tree-stays goes.stored asked.reads)
-            (λ n x brings unset at. elim brings [ inl (reads, new) ↦ absurd (cc) | inr (root, cell) ↦ root-on goes asked.read n x at root cell ]),
-      )
+      let asked = takes kind key needs in let kept = tree-stays goes.stored asked.reads in
+      let fit = fits-born-known lawful settled well well' stands asked.read (ReadingBrings v s.core reading) kind.0 key (OptionalDataKey.Some key) asked.typed (λ q e. cc) kept in
+      (_, fit (λ n x brings unset at. elim brings [ inl (reads, new) ↦ absurd (cc) | inr (root, cell) ↦ root-on goes asked.read n x at root cell ]))
   reading-fits goes takes opens (makes-node x reads row got answer is) =
       let load = opens answer in
       let fit = fits load.0 load.1 in
       let made = node-decoded lawful readable s.core.stored trees load.0.key reading.node_type reading x reads fit in
-      let t0 = made.0.t in (
-        updated (s.core.last.node + 1) t0 trees,
-        fits-born-known lawful settled well well' stands t0 _ reads.top.kind.0 reads.top.key (first_key reads.top.kind.0 reads.top.key) (made.0.typed ∙ made.1)
-            (λ q e. first-of (is_pinned_kind reads.top.kind.0) reads.top.key q e) (tree-stays goes.stored made.0.reads)
-            (λ n y brings unset at. elim brings [
-              | inl (reads2, new) ↦
-                  let other = (node-decoded lawful readable s.core.stored trees load.0.key reading.node_type reading y reads2 fit).0 in
-                  let top : reads2.top ≡ reads.top = (cc) in
-                  let moved : ReadsTree s.core.stored v.types reads.top.key other.t = subst (λ (f : Frame). ReadsTree s.core.stored v.types f.key other.t) top other.reads in
-                  let same : other.t ≡ t0 = one_tree s.core.stored v.types reads.top.key other.t t0 (other.typed ∙ ap (λ (f : Frame). f.node_type) top ∙ sym made.0.typed) moved made.0.reads in
-                  let few = λ (r : ArcRef) (among : Among (v.references y) r). given reads2.top r (at-front reading.frames reads2.top reads2.below reads2.frames) (other.got r among) in
-                  value-born lawful settled well well' stands t0 _ n y y goes at refl new few (subst (λ z. ValueLeads v trees y z) same other.leads)
-              | inr (root, cell) ↦ root-on goes t0 n y at root cell
-            ]),
+      let t0 = made.0.t in
+      let fit_new = fits-born-known lawful settled well well' stands t0 (ReadingBrings v s.core reading) reads.top.kind.0 reads.top.key (first_key reads.top.kind.0 reads.top.key)
+      (made.0.typed ∙ made.1) (first-of (is_pinned_kind reads.top.kind.0) reads.top.key) (tree-stays goes.stored made.0.reads) in (
+        _,
+        fit_new (λ n y brings unset at. elim brings [
+          | inl (reads2, new) ↦
+              let other = (node-decoded lawful readable s.core.stored trees load.0.key reading.node_type reading y reads2 fit).0 in
+              let top : reads2.top ≡ reads.top = (cc) in
+              let moved : ReadsTree s.core.stored v.types reads.top.key other.t = subst (λ (f : Frame). ReadsTree s.core.stored v.types f.key other.t) top other.reads in
+              let same : other.t ≡ t0 = one_tree s.core.stored v.types reads.top.key other.t t0 (other.typed ∙ ap (λ (f : Frame). f.node_type) top ∙ sym made.0.typed) moved made.0.reads in
+              let few = λ (r : ArcRef) (among : Among (v.references y) r). given reads2.top r (subst (λ fs. Among fs reads2.top) (sym reads2.frames) (zero, refl)) (other.got r among) in
+              value-born lawful settled well well' stands t0 _ n y y goes at refl new few (subst (λ z. ValueLeads v trees y z) same other.leads)
+          | inr (root, cell) ↦ root-on goes t0 n y at root cell
+        ]),
       )
   reading-fits goes takes opens _ = still goes

@@ -44,9 +44,6 @@ module _ (rows : List HandleRow) (low : Each RowLow rows) where
   held-past : (n : ℕ) → 3 < n → held n rows ≡ 0
   held-past n lt = none-pass RowLow (is_at n) rows low (λ h ok. let a = ok.0 in grind (arith, nat_tests))
 
-  pins-past : (n : ℕ) → 3 < n → pins n rows ≡ 0
-  pins-past n lt = none-pass RowLow (is_pin n) rows low (λ h ok. let a = ok.0 in grind (arith, nat_tests))
-
   unshared : (n : ℕ) → sharing n rows ≡ 0
   unshared n = none-pass RowLow (is_share n) rows low (λ h ok. let a = ok.1 in grind (arith, nat_tests))
 
@@ -67,6 +64,10 @@ takes_more w given n = loses_value w.rows (is_keyed w) [] given n && nat_lt 0 (o
 pub falls-so : (before w : Core) (given gone : ℕ → Bool) → IsLow before → nat_le w.last.handle 9 ≡ true → agree_below (lists_none before w gone) (λ n. false) 4 ≡ true
     → IsLeast w.rows (is_keyed w) [] given gone → Falls before w given (Ok tt) (fallen w gone [])
 falls-so before w given gone low few none least =
+    let no-must : (n : ℕ) → MustList before w (fallen w gone []) n → ⊥ = λ n must.
+    let is_none = by-number 3 (lists_none before w gone) (λ n. false) none (λ n lt.
+    let a = none-pass RowLow (is_pin n) before.rows low (λ h ok. let b = ok.0 in grind (arith, nat_tests)) in rw a refl) n in
+    let a = must.pinned in let b = must.unpinned in let c = must.unkeyed in grind (arith, nat_tests) in
     record {
       gone = gone;
       entries = [];
@@ -78,11 +79,6 @@ falls-so before w given gone low few none least =
       within = let b : w.last.handle ≤ 9 = grind (arith, nat_tests) in omega arith;
       leaves = alike-self (fallen w gone []);
     }
-  where
-    no-must : (n : ℕ) → MustList before w (fallen w gone []) n → ⊥
-    no-must n must =
-        let is_none = by-number 3 (lists_none before w gone) (λ n. false) none (λ n lt. let a = pins-past before.rows low n lt in rw a refl) n in
-        let a = must.pinned in let b = must.unpinned in let c = must.unkeyed in grind (arith, nat_tests)
 
 -- the given handles fall alone, if no value that goes owns another
 abbrev pub AreAlone : Core → Core → (ℕ → Bool) → Type 0
@@ -93,13 +89,11 @@ pub falls-alone : (before w : Core) (given : ℕ → Bool) → AreAlone before w
 falls-alone before w given (low_before, low, few, none, ok) =
     falls-so before w given given low_before few none (record {
       holds = within-self w.rows (is_keyed w) [] given;
-      closed = λ n goes. let a = by-number 3 (takes_more w given) (λ n. false) ok (λ n lt. past (loses_value w.rows (is_keyed w) [] given n) (search (rules, none-pass, owner-past))) n in
+      closed = λ n goes. let a = by-number 3 (takes_more w given) (λ n. false) ok
+          (λ n lt. let none : owned_outside w.rows given n ≡ 0 = search (rules, none-pass, owner-past) in grind (arith, nat_tests, none)) n in
           grind (arith, nat_tests);
       least = λ t holds closed. holds;
     })
-  where
-    past : {k : ℕ} (b : Bool) → k ≡ 0 → (b && nat_lt 0 k) ≡ false
-    past x0 e = grind (arith, nat_tests)
 
 -- no cell past the node 3, no load past 3, no worker past 1; and the cache knows the node 3 at most, by the kind 4 and the key 8
 abbrev pub Few : Core → Type 0

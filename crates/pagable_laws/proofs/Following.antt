@@ -1,15 +1,15 @@
 -- A form of a node's value is one of its tree: over its references it is followed to their nodes' trees, and with their keys it stands under the tree's own.
-use Rattle.pagable_laws.proofs.Words.{Bool, Core, HandleRow, HoldsSettled, Identity, PagerState, Represents, Slot, Some, Throughout, Tree, Values, ap, identity_of, integer-leads, nat_tests, type_of}
-use Rattle.pagable_laws.proofs.Words.{FollowsTo, IsLawful, IsPublished, Meaning, Option, ReadsItsTypes, Result, Shape, Shelf, Types, WellFormed, blob_of, is_handle, rename, subst, tree, true, ℕ}
-use Rattle.pagable_laws.proofs.Words.{HandlesAreWhole, IsReadable, List, Ok, append-nil, if_there, is_some, reference, references_in, refl, slice_get_within, sum_by-cons, ◌++◌, ◌==◌, ◌∙◌, ◌∷◌, ◌≡◌}
-use Rattle.pagable_laws.proofs.{Again.looks-itself, Along.{AllTwo, Along, followed-along, more-two, no-two, pair-along, reference-along, variant-along}, Decoding.{among-left, among-right}}
-use Rattle.pagable_laws.proofs.{Again.read_again, Related.{Out, both-looked-up, keeps_forms, no_cause, read_par}, Trees.{one_tree, same-number, same_some, sum-le, sum-zero}, Words.{held, inr, suc}}
+use Rattle.pagable_laws.proofs.Words.{Among, ArcRef, Bool, Core, Error, FollowsTo, Form, HandleRow, HandlesAreWhole, HoldsSettled, Identity, IsLawful, IsPublished, IsReadable, List, Meaning, Ok}
+use Rattle.pagable_laws.proofs.Words.{Option, PagerState, ReadsItsTypes, Represents, Result, Shape, Shelf, Slot, Some, Throughout, Tree, Types, Values, WellFormed, Written, [], ap, append-nil, arith}
+use Rattle.pagable_laws.proofs.Words.{blob_of, held, identity_of, if_there, inr, integer-leads, is_handle, is_owned_by, is_some, map, nat_tests, one, owner_value, reference, references_in, refl}
+use Rattle.pagable_laws.proofs.Words.{rename, rest, slice_get, slice_get_within, subst, suc, sum_by-cons, sym, times, tree, true, type_of, zero, ℕ, ◌&&◌, ◌++◌, ◌<◌, ◌==◌, ◌∙◌, ◌∷◌, ◌≡◌, ◌≤◌}
+use Rattle.pagable_laws.proofs.{Again.{looks-itself, read_again}, Decoding.{among-left, among-right}, Related.{Out, both-looked-up, keeps_forms, no_cause, read_par}, Trees.{AllTwo, Along}}
 use Rattle.pagable_laws.specs.TreeSteps.{Ground, KeyStands, LeadsBy, WroteTree, followed-leads, none-leads, number-leads, pair-leads, pattern-leads, reference-leads, text-leads, variant-leads}
-use Rattle.pagable_model.specs.{Merkle.{KeyOf, key_of_ref}, Reading.{Rest, deepest}, Trees.{none-followed, number-followed, pair-followed, reference-followed, variant-followed}, Writing.kind_of_arc}
-use Rattle.pagable_world.specs.{Headline.AreKeysOf, Pager.{IsWrittenOf, MeaningStands, NodeStands, away, followed-stands, here, kids_of, reference-stands}, World.{Outcome, digest, published, type_at}}
-use Rattle.{pagable_laws.proofs.Words.{Among, ArcRef, Error, Form, Written, [], arith, is_owned_by, map, one, owner_value, rest, slice_get, sym, times, zero, ◌&&◌, ◌<◌, ◌≤◌}, std.specs.Prelude.nat_lt}
-use Rattle.{pagable_model.specs.Merkle.{KeysOf, StoredAs, TreeForm, key-of, kind_of_ref, more-keys, no-keys, unfolded}, pagable_world.specs.Pager.{number-stands, pair-stands, variant-stands}}
-use Rattle.{pagable_model.specs.{Deep.{Kid, kid, kind_of_kid}, Trees.{IsFollowed, KeyRef, integer-followed, key_ref, pattern-followed, text-followed}}, std.proofs.lemmas.Option.get_or_from_slice_get}
+use Rattle.pagable_model.specs.{Merkle.{KeyOf, KeysOf, StoredAs, TreeForm, key-of}, Trees.{number-followed, pair-followed, pattern-followed, reference-followed, text-followed, variant-followed}}
+use Rattle.pagable_world.specs.{Headline.AreKeysOf, Pager.{IsWrittenOf, MeaningStands, NodeStands, away, followed-stands, here, kids_of, number-stands, pair-stands, reference-stands, variant-stands}}
+use Rattle.{pagable_laws.proofs.Trees.{followed-along, more-two, no-two, one_tree, pair-along, reference-along, same-number, same_some, sum-le, sum-zero, variant-along}, std.specs.Prelude.nat_lt}
+use Rattle.{pagable_model.specs.{Deep.{Kid, kid, kind_of_kid}, Merkle.{key_of_ref, kind_of_ref, more-keys, no-keys, unfolded}}, pagable_world.specs.World.{Outcome, digest, published, type_at}}
+use Rattle.{pagable_model.specs.{Reading.{Rest, deepest}, Trees.{IsFollowed, KeyRef, integer-followed, key_ref, none-followed}, Writing.kind_of_arc}, std.proofs.lemmas.Option.get_or_from_slice_get}
 
 -- ---- the references in a form's meaning are those of the form, and none is followed
 
@@ -47,8 +47,7 @@ module _ {N E : Type 0} {v : Values N} {s : PagerState N E} (settled : HoldsSett
     one-meaning (followed-stands i x a h) (followed-stands j y b h2) e = let same : i ≡ j = cc in rw (same, one-meaning h h2 cc) refl
     one-meaning (reference-stands r a h) (reference-stands r2 b h2) e =
         let same : r2 ≡ r = cc in
-        let moved = let P : ArcRef → Type 0 = λ q. NodeStands v s q.node.0 (tree (type_of q.kind.0) b) in subst P same h2 in
-        rw (same, one-node h moved refl) refl
+        rw (same, one-node h (rw same at h2) refl) refl
     one-meaning h (number-stands j) e = cc
     one-meaning h g e = cc
 
@@ -72,9 +71,7 @@ rows-once q (h ∷ hs) apart =
 
 pub handles-once : {w : Core} → HandlesAreWhole w → (q : ℕ) → times (is_handle q) w.rows ≤ 1
 handles-once {w} whole q = rows-once q w.rows (λ i j a b lt at there.
-    let n = get_or_from_slice_get w.rows i a a at in
-    let k = get_or_from_slice_get w.rows j b a there in
-    rw (n, k) at (whole.ordered i j a lt (slice_get_within w.rows j b there)))
+    rw (get_or_from_slice_get w.rows i a a at, get_or_from_slice_get w.rows j b a there) at (whole.ordered i j a lt (slice_get_within w.rows j b there)))
 
 pub one-less : (a b : Bool) → one (a && b) ≤ one a
 one-less x0 x1 = grind (arith, nat_tests)
@@ -109,20 +106,16 @@ module _ {N E : Type 0} {v : Values N} {s : PagerState N E} {trees : ℕ → Tre
     (reads : ReadsItsTypes v.types) (lawful : IsLawful v) where
   names-once : (n : ℕ) (x : N) (own : Meaning ArcRef) → s.values n ≡ Some x → v.means x own → (q : ℕ) → times (λ (r : ArcRef). r.handle.0 == q) (references_in own) ≤ 1
   names-once n x own there means q =
-      let a = lawful.refers x own means (λ r. r.handle.0 == q) in
-      let b = whole.inside n x q there in
       let c = sum-le (λ (h : HandleRow). one (is_handle q h && is_owned_by (owner_value n) h)) (λ (h : HandleRow). one (is_handle q h)) s.core.rows
       (λ h among. one-less (is_handle q h) (is_owned_by (owner_value n) h)) in
-      let d = handles-once whole.whole.handles q in
-      omega (arith, a, b, c, d)
+      omega (arith, lawful.refers x own means (λ r. r.handle.0 == q), whole.inside n x q there, c, handles-once whole.whole.handles q)
 
   refers : (n : ℕ) (x : N) (r : ArcRef) → s.values n ≡ Some x → Among (v.references x) r
       → (r.node.0 ≤ s.core.last.node) × ((b : Meaning ⊥) → NodeStands v s r.node.0 (tree (type_of r.kind.0) b) → (trees r.node.0).meaning ≡ b)
   refers n x r there among =
       let is = whole.references n x r there among in
       let given = given-of whole.whole.handles r.node.0 is.typed in
-      let types : (trees r.node.0).type ≡ type_of r.kind.0 = same_some _ _ (sym (represents.typed r.node.0 given.0) ∙ is.typed) in
-      (given.1, λ b stands. one-node settled (represents.stands r.node.0 given.0) stands types)
+      (given.1, λ b stands. one-node settled (represents.stands r.node.0 given.0) stands (same_some _ _ (sym (represents.typed r.node.0 given.0) ∙ is.typed)))
 
   wrote-of : (n : ℕ) (written : Written) (t : Tree) → t ≡ trees n → NodeStands v s n t → IsWrittenOf v s n written
       → WroteTree v.types (record { stored = s.core.stored; last = s.core.last.node; trees = trees }) n written
@@ -130,8 +123,7 @@ module _ {N E : Type 0} {v : Values N} {s : PagerState N E} {trees : ℕ → Tre
       let same : w.x ≡ x = same_some _ _ (sym w.held ∙ there) in
       let own_is : own ≡ w.form.own = settled n w.x w.held w.form.own own w.form.means (subst (λ z. v.means z own) (sym same) means) in
       let meant : MeaningStands v s w.form.own (trees n).meaning = subst (λ (z : Tree). MeaningStands v s w.form.own z.meaning) is (subst (λ m. MeaningStands v s m t.meaning) own_is stands) in
-      let shape_is : v.types.nodes (trees n).type ≡ Some w.form.shape = ap (λ (z : Tree). v.types.nodes z.type) (sym is) ∙ ap v.types.nodes (sym typed)
-      ∙ ap (λ z. v.types.nodes (v.node_type z)) (sym same) ∙ w.form.is in
+      let shape_is : v.types.nodes (trees n).type ≡ Some w.form.shape = rw (← is, ← typed, ← same) w.form.is in
       let of-value : (r : ArcRef) → Among written.references r → Among (v.references w.x) r = λ r among. subst (λ (rs : List ArcRef). Among rs r) w.listed among in
       let alone = references-among (reads (trees n).type w.form.shape shape_is) w.form.form in
       let follows : FollowsTo trees written.references w.form.own (trees n).meaning =
@@ -172,8 +164,7 @@ pub record IdentityStands {N : Type 0} (v : Values N) (g : Ground) (i : Identity
 module _ {N : Type 0} {v : Values N} {g : Ground} {shelf : Shelf} (right : (i : Identity) (k h : ℕ) → IsPublished shelf i k h → IdentityStands v g i k) where
   -- the keys that are known of references are those of what they lead to
   pub keys-of : (rs : List ArcRef) (keys : List ℕ) → AreKeysOf shelf rs keys → KeysOf v.hash v.types (kids_of g.trees rs) keys
-  keys-of (r ∷ rs) (k ∷ ks) ((h, p), known) = more-keys _ _ k ks (let is = right (identity_of r) k h p in subst
-      (λ (t : ℕ). KeyOf v.hash v.types (tree t (g.trees r.node.0).meaning) k) is.typed is.right.is_key) (keys-of rs ks known)
+  keys-of (r ∷ rs) (k ∷ ks) ((h, p), known) = more-keys _ _ k ks (let is = right (identity_of r) k h p in rw (← is.typed) is.right.is_key) (keys-of rs ks known)
   keys-of x0 x1 known = grind (arith, nat_tests, no-keys)
 
   follows-keys : (rs : List ArcRef) (keys : List ℕ) → AreKeysOf shelf rs keys → {x : Meaning ArcRef} {a : Meaning ⊥} → FollowsTo g.trees rs x a
@@ -184,10 +175,7 @@ module _ {N : Type 0} {v : Values N} {g : Ground} {shelf : Shelf} (right : (i : 
   follows-keys rs keys known (reference-leads r a among is) =
       let p = known-of shelf rs keys known r among in
       let stands = right (identity_of r) p.0 p.1.0 p.1.1 in
-      let P : ℕ → ℕ → Type 0 = λ t k. StoredAs g.stored v.types t k stands.right.stands.own in
-      reference-followed (keyed_by shelf r) stands.right.stands.own a
-      (subst (λ k. P (type_of r.kind.0) k) (sym (known-key shelf r p.0 p.1.0 p.1.1)) (subst (λ t. P t p.0) stands.typed stands.right.stands.stands))
-      (subst (λ m. IsFollowed (StoredAs g.stored v.types) stands.right.stands.own m) is stands.right.stands.follows)
+      reference-followed (keyed_by shelf r) stands.right.stands.own a (rw (known-key shelf r p.0 p.1.0 p.1.1, ← stands.typed) stands.right.stands.stands) (rw is at stands.right.stands.follows)
   follows-keys rs keys known (followed-leads kind x a none h) = absurd none
   follows-keys rs keys known h = search (number-followed, integer-followed, text-followed, pattern-followed, none-followed)
 
@@ -213,12 +201,8 @@ pub key-stands : {N : Type 0} {v : Values N} {g : Ground} {shelf : Shelf} {n key
     → KeyStands v g.stored (g.trees n) key
 key-stands {v = v} {g} {shelf} {n} {key} {written} keys right w known is_stored is =
     let form = keeps_forms (keyed_by shelf) kind_of_arc kind_of_ref v.types.parts deepest w.shape w.own written.bytes written.references (λ r. refl) w.form in
-    record {
-      is_key = subst (λ k. KeyOf v.hash v.types (g.trees n) k) (sym is)
-          (key-of (g.trees n) w.shape written.bytes (kids_of g.trees written.references) keys w.is (tree-form w) (keys-of right written.references keys known));
-      stands = record {
-        own = rename (keyed_by shelf) w.own;
-        stands = search (w.is, form, is_stored ∙ ap (λ ks. Some (blob_of written.bytes ks)) (keys-are shelf written.references keys known));
-        follows = follows-keys right written.references keys known w.follows;
-      };
-    }
+    let is_key : KeyOf v.hash v.types (g.trees n) key =
+    rw is (key-of (g.trees n) w.shape written.bytes (kids_of g.trees written.references) keys w.is (tree-form w) (keys-of right written.references keys known)) in
+    let spells : StoredAs g.stored v.types (g.trees n).type key (rename (keyed_by shelf) w.own) =
+    search (w.is, form, is_stored ∙ ap (λ ks. Some (blob_of written.bytes ks)) (keys-are shelf written.references keys known)) in
+    record { is_key = is_key; stands = record { own = rename (keyed_by shelf) w.own; stands = spells; follows = follows-keys right written.references keys known w.follows } }

@@ -1,14 +1,14 @@
 -- What a step does to the plain world as far as trees feel it: the parts of each call's summary. And a live handle that no value owns and that isn't given up outlasts a cascade, with its row.
-use Rattle.pagable_laws.proofs.Words.{EventReply, HandleNumber, HandleRow, HandlesAreWhole, Happens, Identity, Kind, Last, List, LoadAnswer, LoadNumber, Mode, NodeNumber, None, Ok, OpenLoad, Option}
-use Rattle.pagable_laws.proofs.Words.{OptionalDataKey, Owner, PinCall, Reply, Seen, Site, Some, Todo, Took, World, [], adopted, answer_after, ap, arith, bears_known, cases_Bool, cond, false}
-use Rattle.pagable_laws.proofs.Words.{false_from_ne_true, filter, find_row, if◌then◌else◌, inl, inr, is_handle, is_named_by, is_owner, is_pinning, le_trans, map, mode_of, moved, nat_tests, next_node}
-use Rattle.pagable_laws.proofs.Words.{not, nothing_felt, owner_value, owner_worker, refl, row_at, rules, slice_get, slice_get_within, subst, suc, sym, to_load, to_pin, true, type_of, updated}
 use Rattle.pagable_laws.proofs.{Decoding.among-either, Existing.outlast, Trees.{same-number, same_some, self-number}, Words.{Alike, Among, ArcRef, Blob, Bool, Call, Change, CloneCall, Core, Event}}
-use Rattle.pagable_laws.{proofs.Words.{with_handle, zero, ℕ, ◌&&◌, ◌++◌, ◌+◌, ◌<◌, ◌==◌, ◌∙◌, ◌∷◌, ◌≡◌, ◌≤◌, ◌⊎◌}, specs.TreeSteps.{Bears, BeginsWell, HasPin, Knows, PinHolds, sets_key}}
+use Rattle.pagable_laws.proofs.Words.{EventReply, HandleNumber, HandleRow, HandlesAreWhole, Happens, Identity, Kind, Last, List, LoadNumber, Mode, NodeNumber, None, Ok, OpenLoad, Option}
+use Rattle.pagable_laws.proofs.Words.{OptionalDataKey, Owner, PinCall, Reply, Seen, Site, Some, Todo, Took, World, [], adopted, answer_after, ap, arith, bears_known, false, false_from_ne_true}
+use Rattle.pagable_laws.proofs.Words.{filter, find_row, if◌then◌else◌, inl, inr, is_handle, is_named_by, is_owner, is_pinning, le_trans, mode_of, moved, nat_tests, next_node, not, nothing_felt}
+use Rattle.pagable_laws.proofs.Words.{owner_value, owner_worker, refl, row_at, rules, subst, suc, sym, to_load, to_pin, true, type_of, updated, with_handle, zero, ℕ, ◌&&◌, ◌++◌, ◌+◌, ◌<◌, ◌==◌, ◌∙◌}
+use Rattle.{pagable_laws.{proofs.Words.{◌∷◌, ◌≡◌, ◌≤◌, ◌⊎◌}, specs.TreeSteps.{Bears, BeginsWell, HasPin, Knows, PinHolds, sets_key}}, pagable_world.proofs.Elements.{among-left, found-among}}
 use Rattle.pagable_world.specs.{Calls.{row_of, with_cached, with_key, with_mode, with_node}, Cascade.{AreNewEntries, Falls, FallsAnyhow, fallen, is_keyed, left_rows}, Kinds.is_loose}
-use Rattle.pagable_world.specs.{LoadCalls.{EndCall, is_owned_in, with_load, with_pin, without_load}, Loads.Does, Pager.IsHandleBefore, Plain.{changed, or_else}, Workers.PinsAtOnce, World.{Cell, Root}}
-use Rattle.{pagable_world.specs.declared.{answers.Pinning.Pinning, events.PinStep.PinStep}, std.{proofs.lemmas.{Bool.cases_order, Option.get_or_from_slice_get}, specs.List.AllPairs}}
-pub use Rattle.pagable_laws.specs.TreeSteps.{CoreGoes as Goes, IsShut, Kept, RowsGo, Was}
+use Rattle.pagable_world.specs.{LoadCalls.{EndCall, is_owned_in, with_load, with_pin, without_load}, Loads.Does, Plain.{changed, or_else}, Workers.PinsAtOnce, World.{Cell, Root}}
+use Rattle.pagable_world.specs.declared.{answers.Pinning.Pinning, events.PinStep.PinStep}
+pub use Rattle.{pagable_laws.specs.TreeSteps.{CoreGoes as Goes, IsShut, Kept, RowsGo, Was}, pagable_world.proofs.Elements.{among-map as among-changed, among-one as only-one, once}}
 use Rattle.pagable_world.specs.Workers as workers
 
 -- a step that sets no key, bears no node, begins no load and lets the cache know nothing
@@ -47,18 +47,11 @@ rows-then last more rows mid rows' le first second q row found few =
     grind (arith, nat_tests)
 
 pub found-number : (q : ℕ) (rows : List HandleRow) (row : HandleRow) → find_row q rows ≡ Some row → row.number.0 ≡ q
-unfolding find_row
-found-number q [] row found = absurd (cc)
-found-number q (h ∷ hs) row found = grind (arith, nat_tests, is_handle, find_row, true, same-number, false, found-number q hs row)
+found-number q rows row found = (found-among q rows row found).1
 
 -- a handle that is found in a changed row was found before
-pub record Changed (test : HandleRow → Bool) (f : HandleRow → HandleRow) (rows : List HandleRow) (q : ℕ) (row : HandleRow) : Type 0 where
-  pub was : HandleRow
-  pub live : find_row q rows ≡ Some was
-  pub is : row ≡ (if test was then f was else was)
-
 pub found-changed : (test : HandleRow → Bool) (f : HandleRow → HandleRow) → ((h : HandleRow) → (f h).number ≡ h.number) → (q : ℕ) (rows : List HandleRow) (row : HandleRow)
-    → find_row q (changed test f rows) ≡ Some row → Changed test f rows q row
+    → find_row q (changed test f rows) ≡ Some row → (was : HandleRow) × (find_row q rows ≡ Some was) × (row ≡ (if test was then f was else was))
 unfolding find_row
 found-changed test f same q [] row found = absurd (cc)
 found-changed test f same q (h ∷ hs) row found = grind (arith, nat_tests, is_handle, false, true, find_row, changed, found-changed test f same q hs row)
@@ -70,8 +63,8 @@ pub rows-mode : (last : ℕ) (rows : List HandleRow) (h : HandleNumber) (mode : 
     → RowsGo last rows (changed (is_handle h.0) (λ row. record row { mode = mode }) rows)
 rows-mode last rows h mode is_so free q row found few =
     let c = found-changed (is_handle h.0) (λ row. record row { mode = mode }) (λ r. refl) q rows row found in
-    let number = found-number q rows c.was c.live in
-    grind (arith, nat_tests, same-number, free c.was)
+    let number = found-number q rows c.0 c.1 in
+    grind (arith, nat_tests, same-number, free c.0)
 
 pub rows-moved : (last : ℕ) (rows : List HandleRow) (s : ℕ → Bool) (owner : Owner) → NotLoads owner → RowsGo last rows (moved s owner rows)
 rows-moved last rows s owner free q row found few =
@@ -153,10 +146,7 @@ keyed w node key = grind (arith, le-self, at-updated, rows-self)
 pub begun : (c : Change) (w : Core) (key : ℕ) (root : Root) (me : Owner) → BeginsWell w (record { owner = me; key = key; root = root }) → Goes c w (with_load w key root me)
 begun c w key root me well =
     let loads : (l : ℕ) (load : OpenLoad) → (with_load w key root me).loads l ≡ Some load → (w.loads l ≡ Some load) ⊎ ((w.last.load < l) × BeginsWell w load) =
-    λ l load is. elim (at-updated _ _ w.loads l load is) [
-      | inl (at, e) ↦ let f : record { owner = me; key = key; root = root } ≡ load = cc in inr (next-above l w.last.load at, subst (λ (x : OpenLoad). BeginsWell w x) f well)
-      | inr there ↦ inl there
-    ] in
+    λ l load is. elim (at-updated _ _ w.loads l load is) [ inl (at, e) ↦ inr (next-above l w.last.load at, rw (← same_some _ _ e) well) | inr there ↦ inl there ] in
     grind (arith, nat_tests, le-self, le-more, rows-self, loads)
 
 -- where nothing is felt, a cell was there as it is
@@ -200,9 +190,7 @@ find-both q [] ys = refl
 find-both q (h ∷ hs) ys = grind (arith, nat_tests, find-both q hs ys)
 
 pub among-found : (q : ℕ) (rows : List HandleRow) (row : HandleRow) → find_row q rows ≡ Some row → Among rows row
-unfolding find_row
-among-found q [] row found = absurd (cc)
-among-found q (h ∷ hs) row found = elim (cases_Bool (is_handle q h)) [ inl e ↦ (zero, rw e at found) | inr e ↦ let a = among-found q hs row (rw e at found) in (suc a.0, a.1) ]
+among-found q rows row found = (found-among q rows row found).0
 
 -- where nothing is found, nothing has the number
 pub none-found : (q : ℕ) (rows : List HandleRow) (h : HandleRow) → find_row q rows ≡ None → Among rows h → h.number.0 ≡ q → ⊥
@@ -221,18 +209,6 @@ unfolding find_row
 none-above last q [] few above = refl
 none-above last q (h ∷ hs) few above = grind (arith, nat_tests, few h (zero, refl), none-above last q hs (λ x among. few x (suc among.0, among.1)) above)
 
-pub once : (rows : List HandleRow) → AllPairs IsHandleBefore rows → (a b : HandleRow) → Among rows a → Among rows b → a.number.0 ≡ b.number.0 → a ≡ b
-once rows ordered a b (i, at) (j, there) same =
-    let n = get_or_from_slice_get rows i a a at in
-    let k = get_or_from_slice_get rows j b a there in
-    let lt = slice_get_within rows i a at in
-    let lt' = slice_get_within rows j b there in
-    elim (cases_order i j) [
-      | inl equal ↦ same_some _ _ (sym at ∙ (ap (slice_get rows) equal ∙ there))
-      | inr (inl before) ↦ absurd (let o = rw (n, k) at (ordered i j a before lt') in omega arith)
-      | inr (inr after) ↦ absurd (let o = rw (k, n) at (ordered j i a after lt) in omega arith)
-    ]
-
 pub stands-whole : {w : Core} → HandlesAreWhole w → (q : ℕ) (row : HandleRow) → find_row q w.rows ≡ Some row → Stands w.last.handle w.rows q row
 stands-whole {w} whole q row found =
     let among = among-found q w.rows row found in
@@ -250,10 +226,6 @@ has-alike {h = h} a has = record { row = has.row; live = subst (λ rows. find_ro
 pub stands-alike : {w w' : Core} {q : ℕ} {row : HandleRow} → Alike w w' → Stands w.last.handle w.rows q row → Stands w'.last.handle w'.rows q row
 stands-alike {w} {w'} {q} {row} a s = subst (λ l. Stands l w'.rows q row) (sym (ap (λ (l : Last). l.handle) a.last)) (subst (λ rows. Stands w.last.handle rows q row) (sym a.rows) s)
 
-pub among-changed : {X : Type 0} (f : X → X) (xs : List X) (x : X) → Among (map f xs) x → (y : X) × Among xs y × (x ≡ f y)
-among-changed f (y ∷ ys) x (suc i, is) = let r = among-changed f ys x (i, is) in (r.0, (suc r.1.0, r.1.1), r.2)
-among-changed f x1 x x3 = grind (arith, nat_tests)
-
 module _ (test : HandleRow → Bool) (f : HandleRow → HandleRow) (same : (h : HandleRow) → (f h).number ≡ h.number) where
   abbrev after : HandleRow → HandleRow
   after h = if test h then f h else h
@@ -268,27 +240,17 @@ module _ (test : HandleRow → Bool) (f : HandleRow → HandleRow) (same : (h : 
 
   pub stands-changed : {last : ℕ} {rows : List HandleRow} {q : ℕ} {row : HandleRow} → Stands last rows q row → Stands last (changed test f rows) q (after row)
   stands-changed {last} {rows} {q} {row} s =
-      record {
-        live = found-after q rows row s.live;
-        only = λ h among is.
-            let a = among-changed after rows h among in
-            let number : h.number ≡ a.0.number = ap (λ (r : HandleRow). r.number) a.2 ∙ after-number a.0 in
-            a.2 ∙ ap after (s.only a.0 a.1 (sym (ap (λ (k : HandleNumber). k.0) number) ∙ is));
-        given = s.given;
-      }
+      let only : (h : HandleRow) → Among (changed test f rows) h → h.number.0 ≡ q → h ≡ after row = λ h among is.
+      let a = among-changed after rows h among in let n = after-number a.0 in let o = s.only a.0 a.1 in grind (arith, nat_tests) in
+      record { live = found-after q rows row s.live; only = only; given = s.given }
 
 -- where rows of greater numbers come; and such a row itself
 pub stands-more : {last more_last : ℕ} {rows : List HandleRow} {q : ℕ} {row : HandleRow} (more : List HandleRow) → last ≤ more_last → find_row q more ≡ None → Stands last rows q row
     → Stands more_last (rows ++ more) q row
 stands-more {last} {more_last} {rows} {q} {row} more le none s =
-    record {
-      live = find-both q rows more ∙ ap (λ x. or_else x (find_row q more)) s.live;
-      only = λ h (i, at) is. elim (among-either rows more i h at) [ inl a ↦ s.only h a is | inr b ↦ absurd (none-found q more h none b is) ];
-      given = let g = s.given in omega arith;
-    }
-
-pub only-one : (row h : HandleRow) → Among (row ∷ []) h → h ≡ row
-only-one row h x2 = grind (arith, nat_tests)
+    let only : (h : HandleRow) → Among (rows ++ more) h → h.number.0 ≡ q → h ≡ row = λ h (i, at) is.
+    elim (among-either rows more i h at) [ inl a ↦ s.only h a is | inr b ↦ absurd (none-found q more h none b is) ] in
+    let g = s.given in record { live = find-both q rows more ∙ ap (λ x. or_else x (find_row q more)) s.live; only = only; given = omega arith }
 
 pub stands-new : (last : ℕ) (rows : List HandleRow) (row : HandleRow) → AreUpTo last rows → row.number.0 ≡ last + 1 → Stands (last + 1) (rows ++ row ∷ []) row.number.0 row
 unfolding find_row
@@ -306,13 +268,7 @@ found-kept gone q [] row kept found = absurd (cc)
 found-kept gone q (h ∷ hs) row kept found = grind (arith, nat_tests, is_handle, find_row, left_rows, true, false, same-number, found-kept gone q hs row kept)
 
 pub among-kept : {X : Type 0} (test : X → Bool) (xs : List X) (x : X) → Among (filter test xs) x → Among xs x
-among-kept test [] x among = among
-among-kept {X} test (y ∷ ys) x among = at (λ a. among-kept test ys x a) (test y) among
-  where
-    at : (Among (filter test ys) x → Among ys x) → (b : Bool) → Among (cond b (y ∷ filter test ys) (filter test ys)) x → Among (y ∷ ys) x
-    at rest true (zero, is) = (zero, is)
-    at rest true (suc i, is) = let a = rest (i, is) in (suc a.0, a.1)
-    at rest false among = let a = rest among in (suc a.0, a.1)
+among-kept test xs x among = (among-left test xs x among).0
 
 pub stands-fell : {before w w' : Core} {given : ℕ → Bool} {r : _} {q : ℕ} {row : HandleRow} → Falls before w given r w' → NotValues row.owner → given q ≡ false
     → Stands w.last.handle w.rows q row → Stands w'.last.handle w'.rows q row
@@ -376,9 +332,7 @@ module _ (w w' : Core) (low : AreLow w) where
 
   end-call : {N : Type 0} (me : Owner) (l : LoadNumber) (x : N) (t : ℕ) (references : List ArcRef) (k : HandleNumber) → NotValues me → EndCall w me l x t references (Ok k) w' → HasPin w' k
   end-call me l x t references k free c =
-      let node : NodeNumber = c.installs.0 in
-      let h : HandleNumber = c.installs.1 in
-      let i = c.installs.3 in
+      let (node, h, may, i) = c.installs in
       elim i.falls [
         | inl (away, f) ↦ pin-stays (record (without_load w l) { rows = moved (is_named_by references) (Owner.Value node) w.rows }) h node me k _ free
             (low-changed w.last.handle w.rows (λ r. is_named_by references r.number.0) (λ r. record r { owner = Owner.Value node }) (λ r. refl) low) refl i.next.above
@@ -399,9 +353,7 @@ module _ {N B W : Type 0} (m : Seen N B W) (v : ℕ) (s s' : Site) (low : AreLow
   at-once r through k does = elim does [
     | inl (is, same, clone) ↦
         let c = clone-call s.core s'.core low (owner_worker v) r.handle k clone in
-        let row : HandleRow = c.0 in
-        let e : is.row ≡ row = same_some _ _ (sym is.live ∙ c.1) in
-        pins-by s'.core k (s.core.last.handle + 1) clone.made.2.above c.2 (not-loose row.mode (ap (λ (x : HandleRow). is_loose x.mode) (sym e) ∙ is.sort))
+        pins-by s'.core k (s.core.last.handle + 1) clone.made.2.above c.2 (not-loose c.0.mode (rw (same_some _ _ (sym is.live ∙ c.1)) at is.sort))
     | inr (is, (mid, clone, pin)) ↦ pin-call mid s'.core (low-handle s.core mid _ _ _ low clone.made.3) (owner_worker v) through k pin
   ]
 
@@ -414,15 +366,11 @@ module _ {N B W : Type 0} (m : Seen N B W) (v : ℕ) (s s' : Site) (low : AreLow
 -- each pin of an event that answers one
 pub pins-hold : {N B W : Type 0} (m : Seen N B W) (u u' : World) (event : Event N B W) (reply : EventReply N B W) → HandlesAreWhole u.core → Happens m u event reply u' → PinHolds event reply u'.core
 pins-hold m u u' (Event.Call (Call.Pin h)) (EventReply.CallReply (Reply.Pin (Ok (Pinning.Pinned k)))) whole happens = pin-call u.core u'.core (low-whole whole) Owner.Caller h k happens.step.does
-pins-hold {N} m u u' (Event.LoadStep l) (EventReply.LoadMoved (Ok reply)) whole happens = λ k is.
-    let steps = happens.moves in
-    let e = subst (λ (a : Option (LoadAnswer N)). Does m.values u.core Owner.Caller steps.reading a steps.frames u'.core) is steps.does.does in
-    end-call u.core u'.core (low-whole whole) Owner.Caller steps.reading.load e.0.x _ _ k (λ n is. absurd (cc)) e.0.ended
+pins-hold m u u' (Event.LoadStep l) (EventReply.LoadMoved (Ok reply)) whole happens = λ k is.
+    let e = rw is at happens.moves.does.does in end-call u.core u'.core (low-whole whole) Owner.Caller happens.moves.reading.load e.0.x _ _ k (λ n is. absurd (cc)) e.0.ended
 pins-hold m u u' (Event.Call (Call.LoadEnd l x)) (EventReply.CallReply (Reply.LoadEnded (Ok k))) whole happens = end-call u.core u'.core (low-whole whole) Owner.Caller l x _ _ k
     (λ n is. absurd (cc)) happens.step.does
 pins-hold {W = W} m u u' (Event.WorkerStep n) (EventReply.WorkerMoved (Ok reply)) whole happens = λ i k is.
-    let steps = happens.moves in
-    let site : Site = record { core = u.core; shelf = u.work.shelves steps.walking.table; todo = steps.walking.todo } in
-    let h = held m n.0 site steps.after (low-whole whole) steps.walking.todo i k (subst (λ (t : Took W). workers.Does m n.0 site steps.walking.todo t steps.after) is steps.does.does) in
+    let steps = happens.moves in let h = held m n.0 _ steps.after (low-whole whole) steps.walking.todo i k (rw is at steps.does.does) in
     grind (arith, nat_tests, find_row)
 pins-hold m u u' event reply whole happens = tt

@@ -1,5 +1,5 @@
 -- References that nothing is to be said against name handles of their owner, as they should. A handle that is given up doesn't bring a value back.
-use Rattle.pagable_laws.proofs.{Goes.{alike, fell}, Trees.same-number, Words.{Alike, ArcRef, Bool, Core, HandleRow, IsReference, List, None, Option, Owner, [], arith, cases_Bool, inl, inr, is_owner}}
+use Rattle.pagable_laws.proofs.{Goes.{alike, fell}, Trees.same-number, Words.{Alike, ArcRef, Bool, Core, HandleRow, IsReference, List, None, Option, Owner, [], arith, is_owner}}
 use Rattle.pagable_laws.{proofs.Words.{nat_tests, one, pins, references_fault, refl, rules, suc, sum_by-cons, true, ℕ, ◌++◌, ◌+◌, ◌∷◌, ◌≡◌, ◌≤◌}, specs.TreeSteps.{AreGood, StaysAway}}
 use Rattle.pagable_world.specs.{Cascade.{AreNewEntries, Falls, left_rows}, Kinds.is_pin, Plain.or_else, Refusals.reference_fault}
 
@@ -26,10 +26,7 @@ alike-away {w} {w'} a n = grind (arith, alike)
 pins-left : (n : ℕ) (gone : ℕ → Bool) (rows more : List HandleRow) → pins n more ≡ 0 → pins n (left_rows gone rows ++ more) ≤ pins n rows
 pins-left n gone [] more none = grind arith
 pins-left n gone (h ∷ hs) more none =
-    let rest = pins-left n gone hs more none in
-    let all = sum_by-cons (λ x. one (is_pin n x)) h hs in
-    let left = sum_by-cons (λ x. one (is_pin n x)) h (left_rows gone hs ++ more) in
-    elim (cases_Bool (gone h.number.0)) [ inl e ↦ rw e (omega arith) | inr e ↦ rw e (omega arith) ]
+    grind (arith, nat_tests, sum_by-cons (λ x. one (is_pin n x)) h hs, sum_by-cons (λ x. one (is_pin n x)) h (left_rows gone hs ++ more), pins-left n gone hs more none)
 
 pub no-pins : (n last : ℕ) (entries : List HandleRow) → AreNewEntries last entries → pins n entries ≡ 0
 no-pins n last [] new = refl

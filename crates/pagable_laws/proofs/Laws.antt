@@ -1,20 +1,17 @@
 -- The lemmas by which the laws of src/ are proved, by its files.
-use Rattle.pagable_laws.proofs.{Again.{prefix_free, read_again}, AnyOrder.{any_order, one_key_meaning}, Chains.headline_law, Deeply.{deep_claim_law, shallow_law, told_depth_law}, Existing.given_alone}
-use Rattle.pagable_laws.proofs.{Existing.{is_listed, least_is_one, least_is_there, two_fall}, Joining.{chains_join, new_whole}, Level.headline_met, LoadRuns.read_law, Merkle.canonical_inside}
-use Rattle.pagable_laws.proofs.{Merkle.{canonical_one, key_of_one_tree, longest_path, one_item_key, one_key, one_preimage, stays_inside, stored_key, tree_readable}, OnePiece.sound_law}
-use Rattle.pagable_laws.proofs.{Related.{keeps_forms, lasting, local, natural, read_over, read_through, renamed, used}, Sound.{deep_load_law, faultless_law}, Trees.{one_tree, pins_filter}}
-use Rattle.{pagable_laws.specs.{FallLaws.IsOne, FormLaws.{IsOneMeaning, IsOneTree}}, pagable_model.specs.Codes.one-meaning}
+use Rattle.pagable_laws.proofs.{Again.{prefix_free, read_again}, Answered.read_law, Chains.headline_law, Deeply.{deep_claim_law, shallow_law, told_depth_law}, Existing.{given_alone, is_listed}}
+use Rattle.pagable_laws.proofs.{Existing.{least_is_one, least_is_there, two_fall}, Level.headline_met, Merkle.{canonical_inside, canonical_one, key_of_one_tree, longest_path, one_item_key, one_key}}
+use Rattle.pagable_laws.proofs.{Merkle.{one_preimage, stays_inside, stored_key, tree_readable}, OnePiece.sound_law, Related.{keeps_forms, lasting, local, natural, read_over, read_through, renamed}}
+use Rattle.pagable_laws.{proofs.{Related.used, Sound.{deep_load_law, faultless_law}, Trees.{any_order, chains_join, new_whole, one_key_meaning, one_tree, pins_filter}}, specs.FallLaws.IsOne}
+use Rattle.{pagable_laws.specs.FormLaws.IsOneTree, pagable_model.specs.Codes.one-meaning}
 
 pub least_law : IsOne
 least_law = record { same = least_is_one }
 
-pub meaning_law : IsOneMeaning
-meaning_law = record { same = one-meaning }
-
 pub tree_law : IsOneTree
 tree_law = record { one = one_tree }
 
-pub ruleset value_laws = (any_order, canonical_inside, key_of_one_tree, longest_path, meaning_law, one_item_key, one_key, one_key_meaning, one_preimage, stored_key, tree_law, tree_readable)
+pub ruleset value_laws = (any_order, canonical_inside, key_of_one_tree, longest_path, one-meaning, one_item_key, one_key, one_key_meaning, one_preimage, stored_key, tree_law, tree_readable)
 
 pub ruleset form_laws = (read_again, prefix_free, keeps_forms, lasting, local, natural, read_over, read_through, renamed, used, stays_inside, canonical_one)
 

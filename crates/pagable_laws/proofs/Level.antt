@@ -1,17 +1,17 @@
 -- The chain of two levels is one of the machine, and meets the headline with all that it asks: its pagers are whole by closed facts, and so is each step.
+use Rattle.pagable_laws.proofs.{Chains.headline_law, Existing.and-false, Few.{AreAlone, Few, Passes, alike-self, falls-alone, falls-so, none-cached, updated-past, whole-so}, GoodReferences.good}
+use Rattle.pagable_laws.proofs.{Trees.{new_whole, same_some}, Words.{AreMoments, Beginning, Blob, Bool, CloneCall, Core, Event, EventReply, Frame, HandleNumber, HandleRow, Happens, IsLawful}}
 use Rattle.pagable_laws.proofs.Words.{IsMachineWhole, IsReadable, IsWellAsked, KeepsOpen, LiesIn, List, LoadAnswer, MachineState, Mode, None, Ok, OpenLoad, Option, Owner, PagerState, Reading}
 use Rattle.pagable_laws.proofs.Words.{ReadsItsTypes, ReadsRoot, Shelf, Site, Some, Throughout, Todo, Tree, WalkDoes, Walking, WorkerAnswer, Written, [], arith, blob_of, false, find_row, held}
 use Rattle.pagable_laws.proofs.Words.{identity_of, if_there, inl, inr, is_in, is_named_by, is_some, length, nat_tests, of_cell, owner_worker, reference-form, references_fault, references_in, refl}
 use Rattle.pagable_laws.proofs.Words.{root_frame, row_at, state_after, subst, suc, sym, to_finish, to_item, to_pin, to_release, to_set, to_start, to_write, tree, true, updated, world_of, zero, ℕ}
-use Rattle.pagable_laws.proofs.{Chains.headline_law, Existing.and-false, Few.{AreAlone, Few, Passes, alike-self, falls-alone, falls-so, none-cached, updated-past, whole-so}, GoodReferences.good}
-use Rattle.pagable_laws.proofs.{Joining.new_whole, Trees.same_some, Words.{AreMoments, Beginning, Blob, Bool, CloneCall, Core, Event, EventReply, Frame, HandleNumber, HandleRow, Happens, IsLawful}}
-use Rattle.pagable_laws.{proofs.Words.{◌++◌, ◌+◌, ◌<◌, ◌==◌, ◌∙◌, ◌∷◌, ◌≡◌, ◌≤◌, ◌⊎◌}, specs.{FallLaws.outer, TwoLevels.{ArePremised, TwoLevelsMeetTheHeadline, value_at}}}
-use Rattle.pagable_world.specs.{Calls.{row_of, with_key, with_mode}, Cascade.{FallsAnyhow, IsLeast, fallen, is_keyed, nobody, owned_outside}, Events.{Ends, OnlyCore, ReadingsAre, WorkStays, no_shelf}}
-use Rattle.pagable_world.specs.{Events.{reading_after, reading_at, steps_after}, LoadCalls.{BeginCall, EndCall, HandOverCall, IsNextLoad, LazyCall}, Loads.{ReadingDoes, answers_from}}
-use Rattle.pagable_world.specs.{Pager.{EventBrings, IsCellOf, IsReadingWhole, ReadingBrings, ReplyWrites, TookWrites}, Refusals.{OwnsLoad, load_fault, named_fault}, Runs.{Does, IsPremised}}
-use Rattle.pagable_world.specs.{Runs.{ReadsAsType, TodoTakesWell}, Workers.{PinsAtOnce, claim_fault, fresh, is_counted, is_workers, is_workers_at, without_worker}, World.{HasForm, SameShelf, digest}}
+use Rattle.pagable_laws.{proofs.Words.{◌++◌, ◌+◌, ◌==◌, ◌∙◌, ◌∷◌, ◌≡◌, ◌≤◌, ◌⊎◌}, specs.{FallLaws.outer, TwoLevels.{ArePremised, TwoLevelsMeetTheHeadline, value_at}}}
 use Rattle.{pagable_model.specs.{Blob.preimage, Form.nothing-form, Keyed.throughout-alone, Trees.{none-followed, rest_of}}, pagable_world.specs.Calls.{IsNext, SetKeyCall, StoreCall, UnpinCall}}
-use Rattle.{pagable_world.specs.World.{is_here, of_key, one_more, to_publish}, std.specs.Prelude.{is_none, nat_le}}
+use Rattle.pagable_world.specs.{Calls.{row_of, with_key, with_mode}, Cascade.{FallsAnyhow, IsLeast, fallen, is_keyed, nobody, owned_outside}, Events.{Ends, OnlyCore, ReadingsAre, WorkStays}}
+use Rattle.pagable_world.specs.{Events.{no_shelf, reading_after, reading_at, steps_after}, LoadCalls.{BeginCall, EndCall, HandOverCall, Installs, IsNextLoad, LazyCall}, Loads.ReadingDoes}
+use Rattle.pagable_world.specs.{Loads.answers_from, Pager.{EventBrings, IsCellOf, IsIdle, IsReadingWhole, ReadingBrings, ReplyWrites, StandsFor, TookWrites}, Refusals.{OwnsLoad, load_fault}}
+use Rattle.pagable_world.specs.{Refusals.named_fault, Runs.{Does, HoldsSettled, IsPremised, ReadsAsType, TodoTakesWell}, Workers.{PinsAtOnce, claim_fault, fresh, is_counted, is_workers}}
+use Rattle.{pagable_world.specs.{Workers.{is_workers_at, without_worker}, World.{HasForm, SameShelf, digest, is_here, of_key, one_more, to_publish}}, std.specs.Prelude.{is_none, nat_le}}
 use Rattle.pagable_laws.specs.TwoLevels as two
 use Rattle.pagable_model.specs.Meaning as meanings
 use Rattle.pagable_model.specs.Reading as grammar
@@ -217,7 +217,7 @@ births-do xs rest =
     (grind (arith, nat_tests)) tt births-good.1 refl tt
     ⨾ does _ _ _ two.both_born _ no_shelf None None
     (only-core _ two.both_born _ None _ (record { does = record { made = (refl, omega arith, record { above = refl; is_left = omega arith }, alike-self two.both_born); refused = tt } }))
-    parent-comes tt births-good.2 refl tt
+    (λ n x is. grind (arith, nat_tests)) tt births-good.2 refl tt
     ⨾ does _ _ _ two.begun.core _ no_shelf (Some (two.walking two.begun)) None (record {
       starts = record {
         table = (omega arith, omega arith);
@@ -229,10 +229,6 @@ births-do xs rest =
       refused = tt;
     }) (λ n x is. inl is) tt births-good.3 (refl, refl) tt
     ⨾ rest
-  where
-    parent-comes : (n : ℕ) (x : two.Sample) → value_at two.two_values n ≡ Some x
-        → (value_at (None ∷ Some two.leaf ∷ []) n ≡ Some x) ⊎ ((value_at (None ∷ Some two.leaf ∷ []) n ≡ None) × ((x ≡ two.parent (two.to_leaf 1 1)) × (1 < n)))
-    parent-comes x0 x is = grind (arith, nat_tests)
 
 -- ---- the eviction and the loads
 
@@ -278,15 +274,10 @@ ends-pinned =
     let falls = falls-alone two.child_got (two.installed two.child_got) (two.given_up two.child_got) (search arith) in
     let ended_so : FallsAnyhow two.child_got (two.installed two.child_got) (two.given_up two.child_got) two.loaded = record { told = Ok tt; falls = falls } in
     let owned : OwnsLoad two.child_got Owner.Caller (two.load_number 1) cell_load = record { stands_open = refl; own = refl } in
-    let ended : EndCall two.child_got Owner.Caller (two.load_number 1) x 0 (two.sample_references x) (Ok (two.handle 9)) two.loaded = record {
-      installs = (
-        two.node 2,
-        two.handle 2,
-        record { load = cell_load; owned = owned; of_node = refl; good = refl },
-        record { row = row; owned = record { live = refl; own = refl; as_asked = refl }; at = refl; next = record { above = refl; is_left = omega arith }; falls = inl (refl, ended_so) },
-      );
-      refused = tt;
-    } in
+    let i : Installs two.child_got Owner.Caller (two.load_number 1) (two.node 2) (two.handle 2) (two.handle 9) (two.sample_references x) two.loaded =
+    record { row = row; owned = record { live = refl; own = refl; as_asked = refl }; at = refl; next = record { above = refl; is_left = omega arith }; falls = inl (refl, ended_so) } in
+    let ended : EndCall two.child_got Owner.Caller (two.load_number 1) x 0 (two.sample_references x) (Ok (two.handle 9)) two.loaded =
+    record { installs = (two.node 2, two.handle 2, record { load = cell_load; owned = owned; of_node = refl; good = refl }, i); refused = tt } in
     record { does = (record { x = x; reads_root = grind (arith, nat_tests); of_cell_load = record { load = cell_load; open_load = refl; sort = tt }; ended = ended }, refl) }
 
 reads-out : ReadingDoes two.sample two.key_loading Owner.Caller two.child_fetched (Some (LoadAnswer.Read two.leaf)) [] two.read_back
@@ -343,14 +334,11 @@ loads-do =
     (λ n x is. inl is) tt loads-good.5 (refl, refl) tt
     ⨾ tt
   where
-    back : (n : ℕ) (x : two.Sample) → value_at two.last_values n ≡ Some x → (n ≡ 2) × (x ≡ two.parent (two.to_leaf 3 8))
-    back x0 x is = grind (arith, nat_tests)
-
     parent-comes : (n : ℕ) (x : two.Sample) → value_at two.last_values n ≡ Some x → (value_at [] n ≡ Some x) ⊎ ((value_at [] n ≡ None) × ReadingBrings two.sample two.child_got two.parent_read n x)
     parent-comes n x is =
-        let (at, read) = back n x is in
-        let cell : IsCellOf two.child_got (two.load_number 1) n = record { load = cell_load; node = two.node 2; t = 0; h = two.handle 2; open_load = refl; root = refl; is = sym at } in
-        inr (refl, inr (subst (λ y. ReadsRoot two.sample two.parent_read y) (sym read) (grind (arith, nat_tests)), cell))
+        let b : (n ≡ 2) × (x ≡ two.parent (two.to_leaf 3 8)) = grind (arith, nat_tests) in
+        let cell : IsCellOf two.child_got (two.load_number 1) n = record { load = cell_load; node = two.node 2; t = 0; h = two.handle 2; open_load = refl; root = refl; is = sym b.0 } in
+        inr (refl, inr (subst (λ y. ReadsRoot two.sample two.parent_read y) (sym b.1) (grind (arith, nat_tests)), cell))
 
 shaped : (x : two.Sample) → (shape : shapes.Shape) × (two.sample_types.nodes (two.sample.node_type x) ≡ Some shape)
 shaped two.leaf = (shapes.nothing, refl)
@@ -393,14 +381,9 @@ pub headline_met : TwoLevelsMeetTheHeadline
 unfolding value_at
 headline_met =
     let new = new_whole (Unit {0}) two.sample in let worked = pages 15 two.begun (two.loads ++ two.counts 2) births-good.3.0 begun-asks (loads-do, loads-asked) in
-    record {
-      lawful = lawful;
-      types = reads-types;
-      whole = new.whole _ _ tt;
-      idle = new.idle _ _ tt;
-      stands = λ trees. new.stands _ _ tt trees;
-      settled = λ n x is a b own other. other ∙ sym own;
-      premised = asked _ _ tt (λ trees. tt) ⨾ asked _ _ tt (λ trees. tt) ⨾ asked _ _ tt (λ trees. tt) ⨾ asked _ _ tt (λ trees. tt) ⨾ worked.1;
-      headline = headline_law (Unit {0}) two.sample_seen two.new_one (two.moments 2) (new.whole _ _ tt) (new.idle _ _ tt) (births-do _ worked.0);
-      no_other = no-other;
-    }
+    let whole : IsMachineWhole two.sample two.new_one = new.whole _ _ tt in let idle : IsIdle two.new_one = new.idle _ _ tt in
+    let stands : (trees : ℕ → Tree) → StandsFor two.sample two.new_one trees = λ trees. new.stands _ _ tt trees in
+    let settled : HoldsSettled two.sample two.new_one.pager = λ n x is a b own other. other ∙ sym own in
+    let premised : ArePremised two.new_one (two.moments 2) =
+    asked _ _ tt (λ trees. tt) ⨾ asked _ _ tt (λ trees. tt) ⨾ asked _ _ tt (λ trees. tt) ⨾ asked _ _ tt (λ trees. tt) ⨾ worked.1 in
+    assumption (lawful, reads-types, whole, idle, stands, settled, premised, headline_law (Unit {0}) two.sample_seen two.new_one (two.moments 2) whole idle (births-do _ worked.0), no-other)

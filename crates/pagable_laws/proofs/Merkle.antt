@@ -1,15 +1,15 @@
 -- A tree of canonical types has one key, a stored tree has the key that it stands under, and keys tell trees apart.
-use Rattle.pagable_laws.proofs.Words.{Shape, Throughout, Tree, Types, [], ap, append-nil, arith, blob_of, cases_lt, followed, inl, inr, is_eager, length, length-append, map, nat_tests, pair, read}
-use Rattle.pagable_laws.proofs.Words.{reference-form, refl, rest, rules, run-form, subst, suc, sym, tree, true, type_of, variant, zero, ℕ, ◌*◌, ◌++◌, ◌<◌, ◌∙◌, ◌∷◌, ◌≡◌, ◌≤◌}
-use Rattle.pagable_laws.proofs.{Again.{Looked, all-looked, alone, form-again, here, lower, narrowed, one-looked, part_of}, Along.{AllTwo, Along, EntryAlong, form-along, integer-along, lifted-along}}
-use Rattle.pagable_laws.proofs.{Along.{more-two, no-two, none-along, number-along, pair-along, pattern-along, reference-along, text-along, variant-along}, Related.{entries-two, flag-same}}
-use Rattle.pagable_laws.proofs.{Related.{sequence-two, sorted-two}, Trees.{followed-on, one-followed, same_some, tree_is}, Words.{Blob, Entries, Entry, Form, Forms, LiesIn, List, Meaning, Ok, Option}}
-use Rattle.pagable_laws.specs.FormLaws.{CanonicalHasOneForm, HasOnePreimage, IsCanonicalInside, IsKeyOfOneTree, IsLongestPath, IsOneItemKey, IsOneKey, IsStoredKey, IsTreeReadable, StaysInside}
-use Rattle.pagable_model.specs.Form.{more-entries, more-forms, nested-form, no-entries, no-forms, nothing-form, ok-form, placed-map-form, placed-set-form, some-form, sorted-map-form, sorted-set-form}
+use Rattle.pagable_laws.proofs.Trees.{AllTwo, Along, EntryAlong, followed-on, form-along, integer-along, lifted-along, more-two, no-two, none-along, number-along, one-followed, pair-along}
+use Rattle.pagable_laws.proofs.Words.{Blob, Entries, Entry, Form, Forms, LiesIn, List, Meaning, Ok, Option, Shape, Throughout, Tree, Types, [], ap, append-nil, arith, blob_of, followed, inl, is_eager}
+use Rattle.pagable_laws.proofs.Words.{length, length-append, map, nat_tests, pair, read, reference-form, refl, rest, rules, run-form, subst, suc, sym, tree, true, type_of, variant, zero, ℕ, ◌*◌, ◌++◌}
+use Rattle.pagable_laws.proofs.{Again.{Looked, all-looked, alone, form-again, here, lower, narrowed, one-looked, part_of}, Related.{entries-two, flag-same, sequence-two, sorted-two}}
+use Rattle.pagable_laws.specs.FormLaws.{HasOnePreimage, IsCanonicalInside, IsKeyOfOneTree, IsLongestPath, IsOneItemKey, IsOneKey, IsStoredKey, IsTreeReadable, StaysInside}
+use Rattle.pagable_laws.{proofs.{Trees.{pattern-along, reference-along, same_some, text-along, tree_is, variant-along}, Words.{◌<◌, ◌∙◌, ◌∷◌, ◌≡◌, ◌≤◌}}, specs.FormLaws.CanonicalHasOneForm}
+use Rattle.pagable_model.specs.Form.{array-form, both-form, case-form, err-form, hash-map-form, json-array-form, json-object-form, list-form, more-entries, more-forms, nested-form, no-entries}
 use Rattle.pagable_model.specs.{Basic.length_form, Blob.preimage, Canonical.{EachType, IsCanonical, IsCanonicalTree, IsCanonicalType, IsClosed, IsReadableType}, Carried.of_entries, Codes.cut}
-use Rattle.pagable_model.specs.{Deep.{HasPath, Kid, height, kind_of_kid, tree_of_kid}, Form.{array-form, both-form, case-form, err-form, hash-map-form, json-array-form, json-object-form, list-form}}
-use Rattle.pagable_model.specs.{Form.{static-form, tagged-form}, Keys.code_order, Meaning.sequence, Merkle.{HasOwnKeys, KeyOf, KeysOf, SharesNoKey, StoredAs, TreeForm, key-of, key_of_ref}}
-use Rattle.pagable_model.specs.{Merkle.{kind_of_ref, more-keys, no-keys, unfolded}, Trees.{IsFollowed, KeyRef, ReadsAs, key_ref, pair-followed, reference-followed, variant-followed}}
+use Rattle.pagable_model.specs.{Deep.{HasPath, Kid, height, kind_of_kid, tree_of_kid}, Form.{no-forms, nothing-form, ok-form, placed-map-form, placed-set-form, some-form, sorted-map-form}}
+use Rattle.pagable_model.specs.{Form.{sorted-set-form, static-form, tagged-form}, Keys.code_order, Meaning.sequence, Merkle.{HasOwnKeys, KeyOf, KeysOf, SharesNoKey, StoredAs, TreeForm, key-of}}
+use Rattle.pagable_model.specs.{Merkle.{key_of_ref, kind_of_ref, more-keys, no-keys, unfolded}, Trees.{IsFollowed, KeyRef, ReadsAs, key_ref, pair-followed, reference-followed, variant-followed}}
 use Rattle.std.{proofs.{Common.{◌%◌, ◌/◌, ◌^◌}, Math.Nat.{div-div-eq-div-mul, pow-suc}}, specs.{Int.{byte_at, bytes_low_first, to_le_bytes, w128, w64}, List.{AllByRecursion as Each, flat_map}}}
 
 -- ---- a meaning of a canonical shape has at most one form
@@ -132,13 +132,7 @@ module _ {A : Type 0} {kind_of : A → ℕ} {parts : ℕ → Shape} (nodes : ℕ
 
 -- what is so of the types of the set is so of each type that a tree of one of them reaches
 module _ (hash : List ℕ → List ℕ) (types : Types) (nodes M : ℕ → Type 0) (closed : IsClosed types nodes) (all : (n : ℕ) → nodes n → M n) where
-  abbrev Kept : Kid → Type 0
-  Kept k = nodes (type_of k.kind) → EachType M k.meaning
-
-  abbrev Found : Kid → Type 0
-  Found k = M (type_of k.kind) × EachType M k.meaning
-
-  types_of : (m : Meaning ⊥) {n : Meaning Kid} → Along (Unit {0}) (λ k l. Found k) (unfolded m) n → EachType M m
+  types_of : (m : Meaning ⊥) {n : Meaning Kid} → Along (Unit {0}) (λ k l. M (type_of k.kind) × EachType M k.meaning) (unfolded m) n → EachType M m
   unfolding EachType unfolded
   types_of (pair a b) (pair-along x y c d h g) = (types_of a h, types_of b g)
   types_of (variant i a) (variant-along j x c h) = types_of a h
@@ -147,9 +141,10 @@ module _ (hash : List ℕ → List ℕ) (types : Types) (nodes M : ℕ → Type 
 
   mutual
     stays : {t : Tree} {key : ℕ} → KeyOf hash types t key → nodes t.type → EachType M t.meaning
-    stays (key-of t s bytes kids keys is f h) inside = types_of t.meaning (form-refs nodes Kept Found (λ k n g. (all (type_of k.kind) n, g n)) f (closed t.type s inside is) (all_stay h))
+    stays (key-of t s bytes kids keys is f h) inside = types_of t.meaning (form-refs nodes (λ (k : Kid). nodes (type_of k.kind) → EachType M k.meaning)
+        (λ (k : Kid). M (type_of k.kind) × EachType M k.meaning) (λ k n g. (all (type_of k.kind) n, g n)) f (closed t.type s inside is) (all_stay h))
 
-    all_stay : {kids : List Kid} {keys : List ℕ} → KeysOf hash types kids keys → Each Kept kids
+    all_stay : {kids : List Kid} {keys : List ℕ} → KeysOf hash types kids keys → Each (λ (k : Kid). nodes (type_of k.kind) → EachType M k.meaning) kids
     all_stay no-keys = tt
     all_stay (more-keys k kids key keys h g) = (λ n. stays h n, all_stay g)
 
@@ -201,11 +196,7 @@ one_preimage a b h g e =
 pub longest_path : IsLongestPath
 unfolding HasPath height
 longest_path (pair a b) n =
-    let p = longest_path a n in
-    let q = longest_path b n in (
-      λ h. elim h [ inl x ↦ let le = p.0 x in omega arith | inr y ↦ let le = q.0 y in omega arith ],
-      λ h. elim (cases_lt (height a) n) [ inl lt ↦ inr (q.1 (omega arith)) | inr le ↦ inl (p.1 le) ],
-    )
+    let p = longest_path a n in let q = longest_path b n in (λ h. grind (arith, nat_tests, p.0, q.0), λ h. grind (arith, nat_tests, p.1, q.1))
 longest_path (variant x a) n = longest_path a n
 longest_path (followed kind a) (suc n) =
     let p = longest_path a n in

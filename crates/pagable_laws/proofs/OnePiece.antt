@@ -1,16 +1,16 @@
 -- Where each load is done in one piece, one of a cell whose key a page-out set is refused by chance alone: what it has got stays live and its own, each handle once, as long as it
 -- makes its own steps, and so does the handle that began it.
+use Rattle.pagable_laws.proofs.{Chains.{IsGoingOn, along-with, idle-goes}, Coming.updated-at, Decoding.{AreApart, decodes, fine, reads-once}, Effects.{moved-free, named-among, with-one}, Goes.Has}
+use Rattle.pagable_laws.proofs.{Goes.{NotValues, Stands, found-number, has-alike, low-changed, low-whole, new-handle, stands-alike, stands-fell, stands-whole}, GoodReferences.good}
+use Rattle.pagable_laws.proofs.{ReadingSteps.{cached-rows, reading-number, reading-open, reading-stands}, Sound.{IsForm, by-chance, by-handle, by-references, load-cause}, SparingSteps.got-typed}
+use Rattle.pagable_laws.proofs.{Taking.{AllGot, Going, all-more, all-new, first-fits, going-of, pushed, row-held}, Trees.same_some, Words.{Alike, Among, ArcRef, Beginning, Bool, Call, Core, Err}}
 use Rattle.pagable_laws.proofs.Words.{Error, Event, EventReply, Frame, FramesFit, GetsKnown, HandleNumber, HandleRow, HandlesAreWhole, Happens, IsLawful, IsMachineWhole, IsReference, Kind, List}
 use Rattle.pagable_laws.proofs.Words.{LoadAnswer, LoadNumber, MachineState, Mode, Moment, NodeNumber, None, Ok, OpenLoad, Option, OptionalDataKey, Owner, Reading, ReadsItsTypes, Reply, Seen, Some}
 use Rattle.pagable_laws.proofs.Words.{Tree, Values, [], adopted, ap, arith, false, false_from_ne_true, find_row, held, if_there, inl, inr, is_in, is_named_by, is_some, mode_of, nat_tests, next_node}
-use Rattle.pagable_laws.proofs.Words.{of_cell, owner_value, references_fault, refl, root_frame, row_at, rules, slice_get, subst, suc, sym, type_of, updated, with_handle, world_of, zero, ℕ, ◌+◌, ◌<◌}
-use Rattle.pagable_laws.proofs.{Apart.{AreApart, fine, reads-once}, Chains.{IsGoingOn, along-with, idle-goes}, Coming.updated-at, Decoding.decodes, Effects.{moved-free, named-among, with-one}}
-use Rattle.pagable_laws.proofs.{Goes.{Has, NotValues, Stands, found-number, has-alike, low-changed, low-whole, new-handle, stands-alike, stands-fell, stands-whole}, GoodReferences.good}
-use Rattle.pagable_laws.proofs.{ReadingSteps.{cached-rows, reading-number, reading-open, reading-stands}, ReadingStepsGive.got-typed, Sound.{IsForm, by-chance, by-handle, by-references, load-cause}}
-use Rattle.pagable_laws.proofs.{Taking.{AllGot, Going, all-more, all-new, first-fits, going-of, pushed, row-held}, Trees.same_some, Words.{Alike, Among, ArcRef, Beginning, Bool, Call, Core, Err}}
-use Rattle.pagable_world.specs.{Events.{LoadSteps, ReadingsAre, Stays, reading_after, reading_at}, LoadCalls.BeginCall, Loads.{Does, GetsLazy, GoesOn, IsDecoded, MakesNode, gone_on, with_got}}
+use Rattle.pagable_laws.proofs.Words.{of_cell, owner_value, references_fault, refl, root_frame, row_at, rules, slice_get, subst, suc, sym, type_of, with_handle, world_of, zero, ℕ, ◌+◌, ◌<◌, ◌==◌}
+use Rattle.{pagable_laws.{proofs.Words.{◌∙◌, ◌∷◌, ◌≡◌, ◌⊎◌}, specs.{DeepLaws.{HasBegun, IsBeginOf, SoundLaw}, TreeSteps.FramesHeld}}, pagable_world.specs.Calls.{Asked, row_of, with_node}}
+use Rattle.pagable_world.specs.{Events.{LoadSteps, ReadingsAre, Stays, reading_at}, LoadCalls.BeginCall, Loads.{Does, GetsLazy, GoesOn, IsDecoded, MakesNode, gone_on, with_got}}
 use Rattle.pagable_world.specs.{OneWorker.{IsLoadOfPagedOut, IsOfChance, LoadIsSound, StandTogether, of_load, of_nobody, turn_of}, declared.events.LoadReply.LoadReply}
-use Rattle.{pagable_laws.{proofs.Words.{◌==◌, ◌∙◌, ◌∷◌, ◌≡◌, ◌⊎◌}, specs.{DeepLaws.{HasBegun, IsBeginOf, SoundLaw}, TreeSteps.FramesHeld}}, pagable_world.specs.Calls.{Asked, row_of, with_node}}
 
 -- ---- each handle once
 
@@ -91,11 +91,10 @@ module _ {N : Type 0} (v : Values N) (lawful : IsLawful v) (readable : ReadsItsT
   -- what these frames have got, and the handle that began the load, stay
   still-ready : (named : ℕ → Bool) → Keeps named → (fs : List Frame) → ((h : HandleNumber) → Has w Owner.Caller h → named h.0 ≡ false) → AllGot (λ r. named r.handle.0 ≡ false) fs
       → AllGot (λ r. Has w (Owner.Load l) r.handle) fs → GotOnce fs → LoadReady w' l load fs
-  still-ready named keeps fs callers frees live once = record {
-    begun = λ node t h root. let has = ready.begun node t h root in has-on named keeps Owner.Caller (λ n is. absurd (cc)) h (callers h has) has;
-    live = λ frame r among got. has-on named keeps (Owner.Load l) (λ n is. absurd (cc)) r.handle (frees frame r among got) (live frame r among got);
-    once = once;
-  }
+  still-ready named keeps fs callers frees live once =
+      let stay = λ (frame : Frame) (r : ArcRef) (among : Among fs frame) (got : Among frame.got r). has-on named keeps (Owner.Load l) (λ n is. absurd (cc)) r.handle (frees frame r among got)
+      (live frame r among got) in
+      record { begun = λ node t h root. let has = ready.begun node t h root in has-on named keeps Owner.Caller (λ n is. absurd (cc)) h (callers h has) has; live = stay; once = once }
 
   small : AllBelow (w.last.handle + 1) reading.frames
   small frame r among got = let g = (held frame r among got).given in omega (arith, g)
@@ -108,11 +107,9 @@ module _ {N : Type 0} (v : Values N) (lawful : IsLawful v) (readable : ReadsItsT
       let number = found-number k.0 w'.rows row made in
       let there : row_at w' row.number ≡ Some row = ap (λ n. find_row n w'.rows) number ∙ made in
       let owned : row.owner ≡ Owner.Load l = ap (λ (x : HandleRow). x.owner) same ∙ own in
-      record {
-        begun = still.begun;
-        live = all-more (λ r. Has w' (Owner.Load l) r.handle) fs kind row (record { row = row; live = there; own = owned }) still.live;
-        once = once-got fs kind row (λ frame r among got. let lt = below frame r among got in omega (arith, lt, number, next)) still.once;
-      }
+      let here : Has w' (Owner.Load l) row.number = record { row = row; live = there; own = owned } in
+      let once = once-got fs kind row (λ frame r among got. let lt = below frame r among got in omega (arith, lt, number, next)) still.once in
+      record { begun = still.begun; live = all-more (λ r. Has w' (Owner.Load l) r.handle) fs kind row here still.live; once = once }
 
   -- where no handle is given up
   all-ready : Keeps (λ q. false) → LoadReady w' l load reading.frames
@@ -137,14 +134,10 @@ module _ {N : Type 0} (v : Values N) (lawful : IsLawful v) (readable : ReadsItsT
   node-ready frames g =
       let top = g.reads_node.top in let below = g.reads_node.below in let is = g.reads_node.frames in
       let c = g.adopted.adopts in let refs = v.references g.x in
-      let here = subst (λ fs. FramesFit v.types w.stored trees root_key root_type fs) is fit in
+      let here = rw is at fit in let now = rw is at ready in let small_all = rw is at small in
       let was_got = (decodes lawful readable top g.x (first-fits v.types root_key root_type w.stored trees top below here) g.reads_node.decoded).got in
-      let now = subst (λ fs. LoadReady w l load fs) is ready in
-      let small_all = subst (λ fs. AllBelow (w.last.handle + 1) fs) is small in
       let caller-free : (h : HandleNumber) → Has w Owner.Caller h → is_named_by refs h.0 ≡ false = λ h has. not-named refs h.0 (λ x named same.
-      let a = good w (Owner.Load l) [] refs c.good x named in
-      let same_row : a.row ≡ has.row = same_some _ _ (sym a.live ∙ ap (λ n. find_row n w.rows) same ∙ has.live) in
-      let e : Owner.Load l ≡ Owner.Caller = sym a.owned ∙ ap (λ (y : HandleRow). y.owner) same_row ∙ has.own in cc) in
+      let a = good w (Owner.Load l) [] refs c.good x named in let e : Owner.Load l ≡ Owner.Caller = cc (same, a.live, a.owned, has.live, has.own) in cc) in
       -- no reference names the handle that comes
       let new-free : is_named_by refs (w.last.handle + 1) ≡ false = not-named refs (w.last.handle + 1)
       (λ x named same. let lt = small_all top x (zero, refl) (was_got x named) in omega (arith, lt, same)) in
@@ -168,8 +161,7 @@ module _ {N : Type 0} (v : Values N) (lawful : IsLawful v) (readable : ReadsItsT
       search (still.begun, all-new (λ r. Has w' (Owner.Load l) r.handle) frame reading.frames none still.live, once-new frame reading.frames none still.once)
 
   pub goes-ready : (frames : List Frame) → GoesOn v w Owner.Caller reading frames w' → LoadReady w' l load frames
-  goes-ready frames (inl g) =
-      subst (λ fs. LoadReady w' l load fs) (sym (g.goes ∙ ap (λ (fs : List Frame). root_frame g.load.key reading.node_type g.blob ∷ fs) (sym g.first))) (asked-ready g.asked.gives.2.asked _ refl)
+  goes-ready frames (inl g) = rw g.goes (rw g.first at (asked-ready g.asked.gives.2.asked (root_frame g.load.key reading.node_type g.blob) refl))
   goes-ready frames (inr (inl g)) = subst (λ fs. LoadReady w' l load fs) (sym g.goes) (known-ready g.kind g.key g.k g.row g.asked.gives.2 g.made)
   goes-ready frames (inr (inr (inl g))) = subst (λ fs. LoadReady w' l load fs) (sym g.goes) (asked-ready g.asked.gives.2.1.asked _ refl)
   goes-ready frames (inr (inr (inr (inl g)))) = subst (λ fs. LoadReady w' l load fs) (sym g.goes) (lazy-ready frames g)
@@ -225,24 +217,17 @@ module _ {N B W E : Type 0} (m : Seen N B W) (lawful : IsLawful m.values) (reada
   is-at : (l : LoadNumber) (reading : Reading) → reading_at (world_of s) l ≡ Some reading → Going m.values s.pager trees reading
   is-at l reading at = going-of s trees on.readings reading (reading-stands (world_of s) on.whole.pager.whole l reading at)
 
-  step-ready : (l : LoadNumber) (reply : LoadReply N) → LoadSteps m.values (world_of s) l reply (world_of s') → Ready s l → Ready s' l
-  step-ready l reply x ready reading load at open_load = by reply.ended refl
-    where
-      by : (answer : Option (LoadAnswer N)) → reply.ended ≡ answer → LoadReady s'.pager.core l load reading.frames
-      by (Some end) e = grind (arith, nat_tests, updated-at, reading-number s on.whole l x.reading x.at)
-      by None e =
-          let number = reading-number s on.whole l x.reading x.at in
-          let was : core.loads l.0 ≡ Some load = grind (arith, nat_tests) in let a = is-at l x.reading x.at in
-          let before = subst (λ k. LoadReady core k load x.reading.frames) (sym number) (ready x.reading load x.at was) in
-          let go = subst (λ o. Does m.values core Owner.Caller x.reading o x.frames s'.pager.core) e x.does.does in
-          let fits = a.fits load (reading-open s on.whole l x.reading x.at was) in
-          let after = goes-ready m.values lawful readable core s'.pager.core x.reading load trees load.key x.reading.node_type on.whole.pager.whole.handles before a.held fits x.frames go in
-          let now : s'.work.readings l.0 ≡ Some (gone_on x.reading x.frames) =
-          x.readings l.0 ∙ ap (λ (o : Option OpenLoad). if_there (λ (z : OpenLoad). updated l.0 (reading_after reply.ended x.reading x.frames) s.work.readings l.0) None o) open_load
-          ∙ updated-at l.0 (reading_after reply.ended x.reading x.frames) s.work.readings ∙ ap (λ o. reading_after o x.reading x.frames) e in
-          let same : Some (gone_on x.reading x.frames) ≡ Some reading = rw now at at in
-          let frames : x.frames ≡ reading.frames = ap (λ (r : Reading). r.frames) (same_some _ _ same) in
-          subst (λ fs. LoadReady s'.pager.core l load fs) frames (subst (λ k. LoadReady s'.pager.core k load x.frames) number after)
+  step-ready : (l : LoadNumber) (reply : LoadReply N) (answer : Option (LoadAnswer N)) → reply.ended ≡ answer → LoadSteps m.values (world_of s) l reply (world_of s') → Ready s l → Ready s' l
+  step-ready l reply (Some end) e x ready reading load at open_load = grind (arith, nat_tests, updated-at, reading-number s on.whole l x.reading x.at)
+  step-ready l reply None e x ready reading load at open_load =
+      let number = reading-number s on.whole l x.reading x.at in
+      let was : core.loads l.0 ≡ Some load = grind (arith, nat_tests) in let a = is-at l x.reading x.at in
+      let before = subst (λ k. LoadReady core k load x.reading.frames) (sym number) (ready x.reading load x.at was) in
+      let go = subst (λ o. Does m.values core Owner.Caller x.reading o x.frames s'.pager.core) e x.does.does in
+      let fits = a.fits load (reading-open s on.whole l x.reading x.at was) in
+      let after = goes-ready m.values lawful readable core s'.pager.core x.reading load trees load.key x.reading.node_type on.whole.pager.whole.handles before a.held fits x.frames go in
+      let now = (rw (open_load, e) at (x.readings l.0)) ∙ updated-at l.0 (Some (gone_on x.reading x.frames)) s.work.readings in
+      let same = same_some _ _ (rw now at at) in rw (← same, ← number) after
 
   stays-ready : (l : LoadNumber) → Stays (world_of s) (world_of s') → Ready s l → Ready s' l
   stays-ready l st ready reading load at open_load =
@@ -259,8 +244,7 @@ module _ {N B W E : Type 0} (m : Seen N B W) (lawful : IsLawful m.values) (reada
   unfolding is_in
   references-fine l reading load at open_load ready frame below x is decoded form =
       let a = is-at l reading at in
-      let fits = first-fits m.values.types load.key reading.node_type core.stored trees frame below
-      (subst (λ fs. FramesFit m.values.types core.stored trees load.key reading.node_type fs) is (a.fits load (reading-open s on.whole l reading at open_load))) in
+      let fits = first-fits m.values.types load.key reading.node_type core.stored trees frame below (rw is at (a.fits load (reading-open s on.whole l reading at open_load))) in
       let front : Among reading.frames frame = subst (λ fs. Among fs frame) (sym is) (zero, refl) in
       let good-one : (r : ArcRef) → Among (m.values.references x) r → IsReference core (Owner.Load reading.load) r = λ r among.
       let got = (decodes lawful readable frame x fits decoded).got r among in let b = ready.live frame r front got in
@@ -283,7 +267,7 @@ module _ {N B W E : Type 0} (m : Seen N B W) (lawful : IsLawful m.values) (reada
       ]
 
   load-step-ready : (l : LoadNumber) (reply : EventReply N B W) → Happens m (world_of s) (Event.LoadStep l) reply (world_of s') → Ready s l → Ready s' l
-  load-step-ready l (EventReply.LoadMoved (Ok reply)) is ready = step-ready l reply is.moves ready
+  load-step-ready l (EventReply.LoadMoved (Ok reply)) is ready = step-ready l reply _ refl is.moves ready
   load-step-ready l (EventReply.LoadMoved (Err e)) is ready = stays-ready l is.refused.1 ready
   load-step-ready l reply is ready = absurd is
 
@@ -305,35 +289,33 @@ module _ {N B W E : Type 0} (m : Seen N B W) where
   abbrev Stages : MachineState N E → List (Moment N E B W) → Type 0
   Stages s xs = (k : ℕ) (c : Moment N E B W) (l : LoadNumber) → slice_get xs k ≡ Some c → c.event ≡ Event.LoadStep l → Stage s l xs k
 
-  module _ (lawful : IsLawful m.values) (readable : ReadsItsTypes m.values.types) where
-    module _ (s : MachineState N E) (trees : ℕ → Tree) (on : IsGoingOn m.values s trees) (x : Moment N E B W) (xs : List (Moment N E B W)) (whole' : IsMachineWhole m.values x.after)
-        (is : Happens m (world_of s) x.event x.reply (world_of x.after))
-        (together : StandTogether (x ∷ xs)) where
-      next-stage : Stages s (x ∷ xs) → Stages x.after xs
-      next-stage stages k c l at step = elim (stages (suc k) c l at step) [
-        | inl h ↦ by h.i h.a h.before h.at h.begins
-        | inr (r, own) ↦ inr (turn-ready m lawful readable s x.after trees on whole' l x.event x.reply is (own 0 x (omega arith) refl) r, λ i a lt at. own (suc i) a (omega (arith, lt)) at)
-      ]
-        where
-          by : (i : ℕ) (a : Moment N E B W) → i < suc k → slice_get (x ∷ xs) i ≡ Some a → IsBeginOf l.0 a.event a.reply → Stage x.after l xs k
-          by (suc i) a before there begins = inl (record { i = i; a = a; before = omega (arith, before); at = there; begins = begins })
-          by zero a before there begins =
-              let same : a ≡ x = cc in
-              let here = subst (λ (y : Moment N E B W). IsBeginOf l.0 y.event y.reply) same begins in
-              let turn = begin-turn l.0 x.event x.reply here in
-              inr (
-                begin-ready m s x.after on.whole whole' l x.event x.reply here is,
-                λ j b lt later. together 0 (suc j) (suc k) x b c (omega arith) (omega (arith, lt)) refl later at
-                    (λ nobody. let e : of_load l.0 ≡ of_nobody = sym turn ∙ nobody in cc) (ap (λ (v : Event N B W). turn_of v c.reply) step ∙ sym turn) ∙ turn,
-              )
+  module _ (lawful : IsLawful m.values) (readable : ReadsItsTypes m.values.types) (s : MachineState N E) (trees : ℕ → Tree) (on : IsGoingOn m.values s trees) (x : Moment N E B W)
+      (xs : List (Moment N E B W)) (whole' : IsMachineWhole m.values x.after) (is : Happens m (world_of s) x.event x.reply (world_of x.after)) (together : StandTogether (x ∷ xs)) where
+    next-stage : Stages s (x ∷ xs) → Stages x.after xs
+    next-stage stages k c l at step = elim (stages (suc k) c l at step) [
+      | inl h ↦ by h.i h.a h.before h.at h.begins
+      | inr (r, own) ↦ inr (turn-ready m lawful readable s x.after trees on whole' l x.event x.reply is (own 0 x (omega arith) refl) r, λ i a lt at. own (suc i) a (omega (arith, lt)) at)
+    ]
+      where
+        by : (i : ℕ) (a : Moment N E B W) → i < suc k → slice_get (x ∷ xs) i ≡ Some a → IsBeginOf l.0 a.event a.reply → Stage x.after l xs k
+        by (suc i) a before there begins = inl (record { i = i; a = a; before = omega (arith, before); at = there; begins = begins })
+        by zero a before there begins =
+            let same : a ≡ x = cc in
+            let here = subst (λ (y : Moment N E B W). IsBeginOf l.0 y.event y.reply) same begins in
+            let turn = begin-turn l.0 x.event x.reply here in
+            inr (
+              begin-ready m s x.after on.whole whole' l x.event x.reply here is,
+              λ j b lt later. together 0 (suc j) (suc k) x b c (omega arith) (omega (arith, lt)) refl later at
+                  (λ nobody. let e : of_load l.0 ≡ of_nobody = sym turn ∙ nobody in cc) (ap (λ (v : Event N B W). turn_of v c.reply) step ∙ sym turn) ∙ turn,
+            )
 
-      load-sound : Stages s (x ∷ xs) → (trees' : ℕ → Tree) (event : Event N B W) (reply : EventReply N B W) → x.event ≡ event
-          → Happens m (world_of s) event reply (world_of x.after) → LoadIsSound s trees event reply x.after trees'
-      load-sound stages trees' (Event.LoadStep l) (EventReply.LoadMoved (Ok reply)) same h = λ load e open_load paged ended. elim (stages 0 x l refl same) [
-        | inl begun ↦ absurd (let lt = begun.before in omega (arith, lt))
-        | inr (ready, own) ↦ sound m lawful readable s x.after trees on whole' l reply h.moves ready load e open_load paged ended
-      ]
-      load-sound stages trees' event reply same h = tt
+    load-sound : Stages s (x ∷ xs) → (trees' : ℕ → Tree) (event : Event N B W) (reply : EventReply N B W) → x.event ≡ event
+        → Happens m (world_of s) event reply (world_of x.after) → LoadIsSound s trees event reply x.after trees'
+    load-sound stages trees' (Event.LoadStep l) (EventReply.LoadMoved (Ok reply)) same h = λ load e open_load paged ended. elim (stages 0 x l refl same) [
+      | inl begun ↦ absurd (let lt = begun.before in omega (arith, lt))
+      | inr (ready, own) ↦ sound m lawful readable s x.after trees on whole' l reply h.moves ready load e open_load paged ended
+    ]
+    load-sound stages trees' event reply same h = tt
 
 pub sound_law : {N B W : Type 0} (E : Type 0) (m : Seen N B W) → SoundLaw E m
 sound_law E m start moments together begun trees whole idle chain stands lawful readable settled =

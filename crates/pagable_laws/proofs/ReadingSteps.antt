@@ -1,21 +1,20 @@
 -- The row of a handle that a load has got: it is new, of its node, and its mode fits the kind.
 use Rattle.pagable_laws.proofs.Called.{adopts, adopts-known, asks, begins, begins-key, call-knows, calls-go, clones, closes, ends-load, gets-known as was-known, hands-over, noted, pins, schedules}
-use Rattle.pagable_laws.proofs.Goes.{NotLoads, Quiet, alike, at-updated, fell-anyhow, find-both, found-left, goes-quiet, le-self, low-changed, low-whole, next-above, none-in-new, parts, quiet-then}
-use Rattle.pagable_laws.proofs.Words.{Blob, Bool, Change, Claim, CloneCall, Core, Does, Err, Error, Event, EventReply, Frame, GetsKnown, HandleNumber, HandleRow, HandlesAreWhole, Happens}
-use Rattle.pagable_laws.proofs.Words.{IsMachineWhole, KeepsOpen, Kind, Last, List, LoadAnswer, LoadNumber, MachineState, NodeNumber, None, Ok, OpenLoad, Option, OptionalDataKey, Owner, Reading}
-use Rattle.pagable_laws.proofs.Words.{ReadingFeels, Result, Seen, Site, Some, Task, Todo, Took, Values, Walking, WorkerAnswer, WorkerNumber, WorkerReply, WorkerSteps, World, [], adopted, answer_after}
-use Rattle.pagable_laws.proofs.Words.{ap, arith, bears_known, false, find_row, first_key, give, inl, inr, is_named_by, is_some, mode_of, moved, nat_tests, next_node, nothing_felt, owner_value}
-use Rattle.pagable_laws.proofs.Words.{owner_worker, refl, row_at, rules, step_of, subst, sym, to_fail, to_load, to_pin, to_release, to_set, to_start, true, updated, world_of, ℕ, ◌++◌, ◌+◌, ◌<◌, ◌∙◌}
-use Rattle.pagable_laws.proofs.{Called.stores, Decoding.among-left, Effects.{Effect, IsApart, IsHeldFor, IsMine, Lasts, Spares, ended-free, entry, fell, held-fell, moves, no-one, none, none-named}}
-use Rattle.pagable_laws.proofs.{Effects.{one-then, released-free, spares-then, stays, stays-alike, stays-fell, then-alike, then-fell, with-key, worker-apart}, Goes.{AreUpTo, Goes, KnowsNext}}
-use Rattle.pagable_laws.proofs.{Goes.{rows-self, stands-new}, GoodReferences.{alike-away, good}, Standing.{AllWait, WaitsWell}, Trees.{same_some, self-number}, Words.{Alike, Among, ArcRef, Beginning}}
-use Rattle.pagable_laws.specs.TreeSteps.{by-key, by-nothing, by-reading, gets-known, gets-lazy, makes-known, makes-node, reading-ends, reads-blob, reads-root, sets_key}
-use Rattle.pagable_laws.{proofs.Words.{◌∷◌, ◌≡◌, ◌≤◌, ◌⊎◌}, specs.TreeSteps.{EventFeels, GetsRow, IsFresh, IsSteppedReading, KeepsReadings, Needs, NewNode, SameNode, StaysAway, StepsReading, by-call}}
-use Rattle.pagable_world.specs.declared.events.{LoadReply.LoadReply, PinStep.PinStep, TableNumber.TableNumber}
-use Rattle.pagable_world.specs.{Calls.{SetKeyCall, StoreCall, row_of, with_cached_if_open, with_known}, Cascade.{FallsAnyhow, only_handle}, Events.{Ends, KeyStarted, LoadSteps, ReadingsAre, Starts}}
-use Rattle.pagable_world.specs.{Events.{Stays, new_walking, reading_after, reading_at, reading_of_load, with_worker}, Kinds.is_loose, Loads.{MakesNode, Meets, ReadingDoes, gone_on, with_got}}
-use Rattle.pagable_world.specs.{OneWorker.LeavesCache, Pager.{EventBrings, IsNewNode, IsReadingOf, IsWhole, OwnersAreThere, TodoBrings, of_caller, of_worker}, Plain.or_else, Workers.GivesBack}
-use Rattle.pagable_world.specs.{Workers.{PinRefused, PinsAtOnce, PinsByLoad, fresh, give_known, next_start, without_worker}, World.{Cell, digest, usable}, declared.answers.Pinning.Pinning}
+use Rattle.pagable_laws.proofs.Effects.{moves, no-one, none, none-named, one-then, released-free, spares-then, stays, stays-alike, stays-fell, then-alike, then-fell, with-key, worker-apart}
+use Rattle.pagable_laws.proofs.Goes.{Quiet, alike, at-updated, fell-anyhow, find-both, found-left, goes-quiet, le-self, low-changed, low-whole, next-above, none-in-new, parts, quiet-then, rows-self}
+use Rattle.pagable_laws.proofs.Words.{Does, Err, Error, Event, EventReply, Frame, GetsKnown, HandleNumber, HandleRow, HandlesAreWhole, Happens, IsMachineWhole, KeepsOpen, Kind, Last, List, LoadAnswer}
+use Rattle.pagable_laws.proofs.Words.{LoadNumber, MachineState, NodeNumber, None, Ok, OpenLoad, Option, OptionalDataKey, Owner, Reading, ReadingFeels, Result, Seen, Site, Some, Task, Todo, Took}
+use Rattle.pagable_laws.proofs.Words.{Values, Walking, WorkerAnswer, WorkerNumber, WorkerReply, WorkerSteps, World, [], adopted, answer_after, ap, arith, bears_known, false, find_row, first_key, give}
+use Rattle.pagable_laws.proofs.Words.{inl, inr, is_named_by, is_some, mode_of, moved, nat_tests, next_node, nothing_felt, owner_value, owner_worker, refl, row_at, rules, step_of, subst, sym, to_fail}
+use Rattle.pagable_laws.proofs.{Called.stores, GoodReferences.{alike-away, good}, Standing.{AllWait, WaitsWell}, Words.{Alike, Among, ArcRef, Beginning, Blob, Bool, Change, Claim, CloneCall, Core}}
+use Rattle.pagable_laws.proofs.{Decoding.among-left, Effects.{Effect, IsApart, IsHeldFor, IsMine, Lasts, Spares, ended-free, entry, fell, held-fell}, Goes.stands-new, Trees.{same_some, self-number}}
+use Rattle.pagable_laws.proofs.{Goes.{AreUpTo, Goes, KnowsNext, NotLoads}, Words.{to_load, to_pin, to_release, to_set, to_start, true, updated, world_of, ℕ, ◌++◌, ◌+◌, ◌<◌, ◌∙◌, ◌∷◌, ◌≡◌, ◌≤◌, ◌⊎◌}}
+use Rattle.pagable_laws.specs.TreeSteps.{EventFeels, GetsRow, IsFresh, IsSteppedReading, KeepsReadings, Needs, NewNode, SameNode, StaysAway, StepsReading, by-call, by-key, by-nothing, by-reading}
+use Rattle.pagable_world.specs.{Calls.{SetKeyCall, StoreCall, row_of, with_cached_if_open, with_known}, Events.{Ends, KeyStarted, LoadSteps, ReadingsAre, Starts, Stays, new_walking, reading_after}}
+use Rattle.pagable_world.specs.{Cascade.{FallsAnyhow, only_handle}, Kinds.is_loose, declared.{answers.Pinning.Pinning, events.{LoadReply.LoadReply, PinStep.PinStep, TableNumber.TableNumber}}}
+use Rattle.pagable_world.specs.{Events.{reading_at, with_worker}, OneWorker.LeavesCache, Pager.{EventBrings, IsNewNode, IsReadingOf, IsWhole, OwnersAreThere, TodoBrings, of_caller, of_worker}}
+use Rattle.pagable_world.specs.{Loads.{MakesNode, ReadingDoes, gone_on, with_got}, Workers.{GivesBack, PinRefused, PinsAtOnce, PinsByLoad, fresh, give_known, next_start, without_worker}}
+use Rattle.{pagable_laws.specs.TreeSteps.{gets-known, gets-lazy, makes-known, makes-node, reading-ends, reads-blob, reads-root, sets_key}, pagable_world.specs.World.{Cell, digest, usable}}
 
 -- ---- what is found at a new number
 
@@ -55,11 +54,8 @@ is-cached w kind key n is = grind (arith, nat_tests)
 
 -- a reading that makes a step is the machine's, or has just begun at an open load
 pub reading-stands : (u : World) → IsWhole u.core → (l : LoadNumber) (reading : Reading) → reading_at u l ≡ Some reading → IsReadingOf u.work reading ⊎ IsFresh u.core reading
-reading-stands u whole l reading at = by (u.work.readings l.0) refl at
-  where
-    by : (o : Option Reading) → u.work.readings l.0 ≡ o → or_else o (reading_of_load l (u.core.loads l.0)) ≡ Some reading → IsReadingOf u.work reading ⊎ IsFresh u.core reading
-    by None none at = grind (arith, nat_tests)
-    by (Some r) is at = inl (of_caller l.0 (is ∙ at))
+reading-stands u whole l reading at =
+    let cases : (u.work.readings l.0 ≡ Some reading) ⊎ IsFresh u.core reading = grind (arith, nat_tests) in elim cases [ inl there ↦ inl (of_caller l.0 there) | inr new ↦ inr new ]
 
 -- it is of the load with this number
 pub reading-number : {N E : Type 0} {v : Values N} (s : MachineState N E) → IsMachineWhole v s → (l : LoadNumber) (reading : Reading) → reading_at (world_of s) l ≡ Some reading → reading.load ≡ l
@@ -87,10 +83,9 @@ read-after u u' New are same callers workers after (of_worker n place walking r 
 
 -- ---- a load of the caller's
 
-module _ {N : Type 0} {v : Values N} {u u' : World} {l : LoadNumber} {reply : LoadReply N} (s : LoadSteps v u l reply u') where
-  pub steps-load : StepsReading u s.reading reply.ended s.frames u'
-  steps-load = read-after u u' (λ after. (reply.ended ≡ None) × (after ≡ gone_on s.reading s.frames)) s.readings s.work.walkings (λ q after is.
-      grind (arith, nat_tests, at-updated l.0 (reading_after reply.ended s.reading s.frames) u.work.readings q after is, same_some)) (λ n w after there. inl there)
+pub steps-load : {N : Type 0} {v : Values N} {u u' : World} {l : LoadNumber} {reply : LoadReply N} (s : LoadSteps v u l reply u') → StepsReading u s.reading reply.ended s.frames u'
+steps-load {u = u} {u'} {l} {reply} s = read-after u u' (λ after. (reply.ended ≡ None) × (after ≡ gone_on s.reading s.frames)) s.readings s.work.walkings (λ q after is.
+    grind (arith, nat_tests, at-updated l.0 (reading_after reply.ended s.reading s.frames) u.work.readings q after is, same_some)) (λ n w after there. inl there)
 
 -- ---- a load of a worker's
 
@@ -100,12 +95,6 @@ pub record LoadsTodo {N : Type 0} (v : Values N) (me : Owner) (s s' : Site) (rea
   pub frames : List Frame
   pub does : ReadingDoes v s.core me reading answer frames s'.core
   pub next : (after : Reading) → front_reading s'.todo ≡ Some after → (answer ≡ None) × (after ≡ gone_on reading frames)
-
-module _ {N B W : Type 0} {m : Seen N B W} {u u' : World} {k : WorkerNumber} {reply : WorkerReply W} (s : WorkerSteps m u k reply u') where
-  pub steps-worker : {me : Owner} {reading : Reading} (t : LoadsTodo m.values me (record { core = u.core; shelf = u.work.shelves s.walking.table; todo = s.walking.todo }) s.after reading)
-      → StepsReading u reading t.answer t.frames u'
-  steps-worker {reading = reading} t = read-after u u' (λ after. (t.answer ≡ None) × (after ≡ gone_on reading t.frames)) s.readings s.work.same_walkings (λ q after is. inl is) (λ n w after there.
-      grind (arith, nat_tests, at-updated k.0 (Some (record s.walking { todo = s.after.todo; steps = reply.steps; answer = reply.answer })) u.work.walkings, same_some, t.next))
 
 -- the reading that makes the step is the machine's, or has just begun
 pub is-reading-of : {N B W : Type 0} (u : World) (event : Event N B W) (reading : Reading) → IsSteppedReading u event reading → IsReadingOf u.work reading ⊎ IsFresh u.core reading
@@ -141,21 +130,18 @@ pub caller-free : NotLoads Owner.Caller
 caller-free l is = absurd (cc)
 
 module _ {N B W : Type 0} (m : Seen N B W) (w : Core) (me : Owner) (free : NotLoads me) (w' : Core) (reading : Reading) where
-  abbrev RF : Option (LoadAnswer N) → List Frame → Type 0
-  RF answer frames = ReadingFelt m.values w me reading answer frames w'
-
   -- a load that is open goes on
   on : {frames : List Frame} (c : Change) (load : OpenLoad) → w.loads reading.load.0 ≡ Some load → Effect me false (IsMine w me reading.load) (Unit {0}) false c w w'
-      → (HandlesAreWhole w → ReadingFeels m.values w reading None frames w' c) → RF None frames
+      → (HandlesAreWhole w → ReadingFeels m.values w reading None frames w' c) → ReadingFelt m.values w me reading None frames w'
   on c load opened does feels = record { change = c; does = does; opens = λ none. (load, opened); feels = feels }
 
   -- the handle of a node that the cache knew
   knew : {frames : List Frame} (kind : Kind) (key : ℕ) (k : HandleNumber) (row : HandleRow) (load : OpenLoad) → w.loads reading.load.0 ≡ Some load → Needs m.values.types reading.frames kind key
-      → GetsKnown w reading.load kind key k w' → row_at w' k ≡ Some row → frames ≡ with_got kind row reading.frames → RF None frames
+      → GetsKnown w reading.load kind key k w' → row_at w' k ≡ Some row → frames ≡ with_got kind row reading.frames → ReadingFelt m.values w me reading None frames w'
   knew kind key k row load opened needs c made goes = on nothing_felt load opened (was-known c) (λ whole. gets-known kind key c.n row needs (is-cached w kind.0 key c.n c.known)
       (got-known whole kind k row made c.next.above c.n (Owner.Load reading.load) c.leaves) refl goes)
 
-  makes : (frames : List Frame) → MakesNode m.values w me reading frames w' → RF None frames
+  makes : (frames : List Frame) → MakesNode m.values w me reading frames w' → ReadingFelt m.values w me reading None frames w'
   makes frames g =
       let r = g.reads_node in let c = g.adopted.adopts in
       let right = good w (Owner.Load reading.load) [] (m.values.references g.x) c.good in elim c.makes [
@@ -166,10 +152,11 @@ module _ {N B W : Type 0} (m : Seen N B W) (w : Core) (me : Owner) (free : NotLo
             (λ whole. makes-node g.x r g.row (got-born whole r.top.kind g.k g.row g.made c.next.above reading.load r.top.key (first_key r.top.kind.0 r.top.key) (m.values.references g.x) a) refl g.goes)
       ]
 
-  ended : (end : LoadAnswer N) (frames : List Frame) → frames ≡ [] → Effect me false (IsMine w me reading.load) (Unit {0}) false nothing_felt w w' → RF (Some end) frames
+  ended : (end : LoadAnswer N) (frames : List Frame) → frames ≡ [] → Effect me false (IsMine w me reading.load) (Unit {0}) false nothing_felt w w'
+      → ReadingFelt m.values w me reading (Some end) frames w'
   ended end frames none e = record { change = nothing_felt; does = e; opens = λ is. absurd (cc); feels = λ whole. reading-ends end refl none }
 
-  pub reading-feels : (answer : Option (LoadAnswer N)) (frames : List Frame) → ReadingDoes m.values w me reading answer frames w' → RF answer frames
+  pub reading-feels : (answer : Option (LoadAnswer N)) (frames : List Frame) → ReadingDoes m.values w me reading answer frames w' → ReadingFelt m.values w me reading answer frames w'
   reading-feels None frames d = elim d.does [
     | inl g ↦
         let same : g.asked.gives.0 ≡ g.load = same_some _ _ (sym g.asked.gives.1.stands_open ∙ g.open_load) in
@@ -269,21 +256,17 @@ module _ {Asks : Type 0} {w w' : Core} (v : ℕ) where
   then-clone {m} c rest = one-then (λ kind key n h. record { row = h.row; live = subst (λ rows. Among rows h.row) (sym c.made.3.rows) (among-left w.rows _ h.live.0 h.row h.live.1); at = h.at; pins_it = h.pins_it })
       (λ a. a) (clones (Ok _) c) rest
 
-  module _ (r : ArcRef) where
-    at-once : (through k : HandleNumber) → PinsAtOnce w (owner_worker v) r through k w' → Effect (owner_worker v) false Asks (Unit {0}) false nothing_felt w w'
-    at-once through k does = elim does [ inl (row, is, clone) ↦ clones (Ok k) clone | inr (row, (mid, clone, pin)) ↦ then-clone clone (pins (works-free v) (Ok (Pinning.Pinned k)) pin) ]
+  at-once : (r : ArcRef) (through k : HandleNumber) → PinsAtOnce w (owner_worker v) r through k w' → Effect (owner_worker v) false Asks (Unit {0}) false nothing_felt w w'
+  at-once r through k does = elim does [ inl (row, is, clone) ↦ clones (Ok k) clone | inr (row, (mid, clone, pin)) ↦ then-clone clone (pins (works-free v) (Ok (Pinning.Pinned k)) pin) ]
 
-    pin-refused : (e : Error) → PinRefused w (owner_worker v) r e w' → Effect (owner_worker v) false Asks (Unit {0}) false nothing_felt w w'
-    pin-refused e does = elim does [
-      | inl clone ↦ clones (Err e) clone
-      | inr (row, (mid, through, clone, inl pin)) ↦ then-clone clone (pins (works-free v) (Err e) pin)
-      | inr (row, (mid, through, clone, inr begin)) ↦ then-clone clone (begins (Err e) begin)
-    ]
+  pin-refused : (r : ArcRef) (e : Error) → PinRefused w (owner_worker v) r e w' → Effect (owner_worker v) false Asks (Unit {0}) false nothing_felt w w'
+  pin-refused r e does = elim does [
+    | inl clone ↦ clones (Err e) clone
+    | inr (row, (mid, through, clone, inl pin)) ↦ then-clone clone (pins (works-free v) (Err e) pin)
+    | inr (row, (mid, through, clone, inr begin)) ↦ then-clone clone (begins (Err e) begin)
+  ]
 
 module _ {N B W : Type 0} (m : Seen N B W) (v : ℕ) (s s' : Site) where
-  abbrev WF : List Todo → Type 0
-  WF todo = WalkFelt m v s s' todo
-
   abbrev WE : List Todo → Change → Type 0
   WE todo c = Effect (owner_worker v) false (FrontMine s.core (owner_worker v) todo) (Unit {0}) false c s.core s'.core
 
@@ -294,24 +277,24 @@ module _ {N B W : Type 0} (m : Seen N B W) (v : ℕ) (s s' : Site) where
   stored r c = stores r c
 
   -- nothing is felt
-  quiet : {todo : List Todo} → ((n : ℕ) (x : N) → TodoBrings m.values s.core todo n x → ⊥) → (s.todo ≡ todo → WaitsWell todo → LoadsAnew s') → WE todo nothing_felt → WF todo
+  quiet : {todo : List Todo} → ((n : ℕ) (x : N) → TodoBrings m.values s.core todo n x → ⊥) → (s.todo ≡ todo → WaitsWell todo → LoadsAnew s') → WE todo nothing_felt → WalkFelt m v s s' todo
   quiet none anew e = record { change = nothing_felt; does = e; goes = e.goes; feels = λ front well. walk-rests none (anew front well); knows = λ whole k q n known. absurd known }
 
   -- and this stands at the front afterwards
   rests : {todo : List Todo} (next : List Todo) → ((n : ℕ) (x : N) → TodoBrings m.values s.core todo n x → ⊥)
-      → s'.todo ≡ next → (WaitsWell todo → front_reading next ≡ None) → WE todo nothing_felt → WF todo
+      → s'.todo ≡ next → (WaitsWell todo → front_reading next ≡ None) → WE todo nothing_felt → WalkFelt m v s s' todo
   rests next none is other e = quiet none (λ front well. no-load s' next is (other well)) e
 
   -- the load at the front makes its step
   loads-on : (r : ArcRef) (place : ℕ) (through : HandleNumber) (reading : Reading) (below : List Todo) (step : Took W)
-      → Does m v s (to_load r place through reading ∷ below) step s' → WF (to_load r place through reading ∷ below)
+      → Does m v s (to_load r place through reading ∷ below) step s' → WalkFelt m v s s' (to_load r place through reading ∷ below)
   loads-on r place through reading below step does =
       let t : LoadsTodo m.values (owner_worker v) s s' reading = grind (arith, nat_tests) in
       let f = reading-feels m s.core (owner_worker v) (works-free v) s'.core reading t.answer t.frames t.does in
       record { change = f.change; does = f.does; goes = f.does.goes; feels = λ front well. walk-loads f.change r place through reading below refl t f.opens f.feels; knows = λ whole. reading-knows (f.feels whole) }
 
   sets : (r : ArcRef) (through : HandleNumber) (key height : ℕ) (below next : List Todo) (told : Result (Unit {0}) Error)
-      → SetKeyCall s.core (owner_worker v) through key told s'.core → s'.todo ≡ next → front_reading next ≡ None → WF (to_set r through key height ∷ below)
+      → SetKeyCall s.core (owner_worker v) through key told s'.core → s'.todo ≡ next → front_reading next ≡ None → WalkFelt m v s s' (to_set r through key height ∷ below)
   sets r through key height below next told c is other = elim c.does [
     | inl refused ↦ rests next (λ n x b. b) is (λ well. other) (stays refused.stays)
     | inr (row, owns, inl (mode, done, a)) ↦ rests next (λ n x b. b) is (λ well. other) (stays a)
@@ -325,14 +308,12 @@ module _ {N B W : Type 0} (m : Seen N B W) (v : ℕ) (s s' : Site) where
   ]
 
   load-begins : (r : ArcRef) (place t : ℕ) (below : List Todo) (through : HandleNumber) (l : LoadNumber) → PinsByLoad s.core (owner_worker v) r through l s'.core
-      → s'.todo ≡ to_load r place through (fresh l t) ∷ below → WF (to_pin r place ∷ below)
+      → s'.todo ≡ to_load r place through (fresh l t) ∷ below → WalkFelt m v s s' (to_pin r place ∷ below)
   load-begins r place t below through l (row, (mid, key, clone, begin)) is =
       let next = begin.begins.2.2.above in let last = ap (λ (x : Last). x.load) begin.begins.2.4.2.last in
-      quiet (λ n x b. b) (λ front well reading e.
-      let same : fresh l t ≡ reading = same_some _ _ (ap front_reading (sym is) ∙ e) in
-      subst (λ x. IsFresh s'.core x) same (refl, refl, omega (arith, next, last))) (then-clone v clone (begins (Ok (Beginning.Load l key)) begin))
+      quiet (λ n x b. b) (λ front well reading e. grind (arith, nat_tests)) (then-clone v clone (begins (Ok (Beginning.Load l key)) begin))
 
-  pub walk-goes : (todo : List Todo) (step : Took W) → Does m v s todo step s' → WF todo
+  pub walk-goes : (todo : List Todo) (step : Took W) → Does m v s todo step s' → WalkFelt m v s s' todo
   walk-goes (to_start r place ∷ below) (Took.Claim i (Ok Claim.Waiting)) (is, c) = let t = c.finds.1.2 in
       quiet (λ n x b. b) (λ front well. no-load s' _ (t.list_is ∙ front) refl) (stays t.pager_stays)
   walk-goes (to_pin r place ∷ below) (Took.Pin i (Ok (PinStep.Held k))) (is, p) = rests _ (λ n x b. b) p.pins.2.list_is (λ well. refl) (at-once v r p.pins.0 k p.pins.1)
@@ -379,11 +360,6 @@ module _ (u u' : World) where
   keeps-but are k now same anew = read-after u u' (λ r. IsFresh u'.core r) are same (λ q r is. inl is)
       (λ n w r there. grind (arith, nat_tests, at-updated k (Some now) u.work.walkings, same_some, anew))
 
-  keeps-begun : (t : ℕ) (l : LoadNumber) → ReadingsAre (updated l.0 (Some (fresh l t)) u.work.readings) u' → l.0 ≤ u'.core.last.load
-      → ((n : ℕ) → u'.work.walkings n ≡ u.work.walkings n) → KeepsReadings u u'
-  keeps-begun t l are within same = read-after u u' (λ r. IsFresh u'.core r) are same
-      (λ q r is. grind (arith, nat_tests, at-updated l.0 (Some (fresh l t)) u.work.readings, same_some)) (λ n w r there. inl there)
-
 -- ---- events
 
 -- in no worker's list a load waits below what is done next
@@ -400,27 +376,25 @@ pub record EventGoes {N B W : Type 0} (m : Seen N B W) (u : World) (event : Even
   pub knows : IsWhole u.core → LeavesCache event → KnowsNext change u.core
 
 module _ {N B W : Type 0} (m : Seen N B W) (u u' : World) where
-  abbrev EG : Event N B W → EventReply N B W → Type 0
-  EG event reply = EventGoes m u event reply u'
-
   callers : (v : ℕ) → Owner.Caller ≡ owner_worker v → ⊥
   callers v e = absurd (cc)
 
   -- a step of the caller's, as it is felt
   felt : {event : Event N B W} {reply : EventReply N B W} {lists : Bool} {Asks Leaves : Type 0} {c : Change} → Effect Owner.Caller lists Asks Leaves false c u.core u'.core → (LeavesCache event → Leaves)
-      → (IsWhole u.core → AllWaitWell u → EventFeels m.values u event reply u' c) → (IsWhole u.core → LeavesCache event → KnowsNext c u.core) → EG event reply
+      → (IsWhole u.core → AllWaitWell u → EventFeels m.values u event reply u' c) → (IsWhole u.core → LeavesCache event → KnowsNext c u.core) → EventGoes m u event reply u'
   felt {c = c} e leaves feels knows = search (e.goes, e.spares, worker-apart, callers, e.lasts, leaves)
 
   event-rests : {event : Event N B W} {reply : EventReply N B W} → ((n : ℕ) (x : N) → EventBrings m.values u event n x → IsNewNode u.core n ⊎ StaysAway u.core u'.core n)
-      → KeepsReadings u u' → Effect Owner.Caller true (Unit {0}) (Unit {0}) false nothing_felt u.core u'.core → EG event reply
+      → KeepsReadings u u' → Effect Owner.Caller true (Unit {0}) (Unit {0}) false nothing_felt u.core u'.core → EventGoes m u event reply u'
   event-rests brings keeps e = felt e (λ left. tt) (λ whole well. by-nothing brings keeps) (λ whole leaves k q n known. absurd known)
 
-  same : {event : Event N B W} {reply : EventReply N B W} → Stays u u' → EG event reply
+  same : {event : Event N B W} {reply : EventReply N B W} → Stays u u' → EventGoes m u event reply u'
   same s = event-rests (λ n x b. inr (alike-away s.core n)) (keeps-all u u' s.readings s.work.walkings) (stays s.core)
 
   -- a worker begins, after this was done
   starts : {event : Event N B W} {reply : EventReply N B W} → ((n : ℕ) (x : N) → EventBrings m.values u event n x → ⊥)
-      → (t : TableNumber) (task : Task) (core : Core) (v : WorkerNumber) → Effect Owner.Caller true (Unit {0}) (Unit {0}) true nothing_felt u.core core → Starts u t task core v u' → EG event reply
+      → (t : TableNumber) (task : Task) (core : Core) (v : WorkerNumber) → Effect Owner.Caller true (Unit {0}) (Unit {0}) true nothing_felt u.core core → Starts u t task core v u'
+      → EventGoes m u event reply u'
   starts brings t task core v e s = record {
     change = nothing_felt;
     goes = goes-quiet e.goes (quiet-then (others-work core core.loads (with_worker core).workers (core.last.worker + 1) (omega arith) (λ l load is. is)) (alike s.pager));
@@ -432,36 +406,37 @@ module _ {N B W : Type 0} (m : Seen N B W) (u u' : World) where
     knows = λ whole leaves k q n known. absurd known;
   }
 
-  key-starts : (key t : ℕ) (r : Result Beginning Error) → KeyStarted u key t r u' → EG (Event.LoadKey key t) (EventReply.Started r)
+  key-starts : (key t : ℕ) (r : Result Beginning Error) → KeyStarted u key t r u' → EventGoes m u (Event.LoadKey key t) (EventReply.Started r) u'
   key-starts key t (Err e) is = event-rests (λ n x b. absurd b) (keeps-all u u' is.refused is.work.walkings) (begins-key (Err e) is.step)
   key-starts key t (Ok Beginning.InMemory) is = absurd is.step.begins
   key-starts key t (Ok (Beginning.Load l k)) is =
       let next = is.step.begins.1.above in let last = ap (λ (x : Last). x.load) is.step.begins.2.last in
-      event-rests (λ n x b. absurd b) (keeps-begun u u' t l is.begun (omega (arith, next, last)) is.work.walkings) (begins-key (Ok (Beginning.Load l k)) is.step)
+      event-rests (λ n x b. absurd b) (read-after u u' (λ r. IsFresh u'.core r) is.begun is.work.walkings
+      (λ q r there. grind (arith, nat_tests, at-updated l.0 (Some (fresh l t)) u.work.readings, same_some, next, last)) (λ n w r there. inl there)) (begins-key (Ok (Beginning.Load l k)) is.step)
 
   module _ (k : WorkerNumber) (reply : WorkerReply W) (s : WorkerSteps m u k reply u') where
-    abbrev site : Site
-    site = record { core = u.core; shelf = u.work.shelves s.walking.table; todo = s.walking.todo }
-
     now : LoadsAnew s.after → KeepsReadings u u'
     now anew =
         let q = ends-quiet reply.answer k.0 s.ends in let le = q.loads_last in
         keeps-but u u' s.readings k.0 (record s.walking { todo = s.after.todo; steps = reply.steps; answer = reply.answer }) s.work.same_walkings
         (λ reading is. let a = anew reading is in let b = a.2 in (a.0, a.1, omega (arith, b, le)))
 
-    worker-feels : (c : Change) → WalkFeels m k.0 site s.after s.walking.todo c → IsWhole u.core → EventFeels {B = B} m.values u (Event.WorkerStep k) (EventReply.WorkerMoved (Ok reply)) u' c
+    worker-feels : (c : Change) → WalkFeels m k.0 (record { core = u.core; shelf = u.work.shelves s.walking.table; todo = s.walking.todo }) s.after s.walking.todo c
+        → IsWhole u.core → EventFeels {B = B} m.values u (Event.WorkerStep k) (EventReply.WorkerMoved (Ok reply)) u' c
     worker-feels c (walk-loads c2 r place through reading below todo t opens feels) whole =
         let none : reply.answer ≡ None = s.answers ∙ ap (λ x. answer_after x reply.took) todo in
         let last : Alike s.after.core u'.core = subst (λ a. Ends a k.0 s.after.core u'.core) none s.ends in
-        by-reading c reading t.answer t.frames (s.walking, r, place, through, below, s.at, todo) opens (feels-alike (feels whole.handles) last) (steps-worker s t)
+        by-reading c reading t.answer t.frames (s.walking, r, place, through, below, s.at, todo) opens (feels-alike (feels whole.handles) last)
+        (read-after u u' (λ after. (t.answer ≡ None) × (after ≡ gone_on reading t.frames)) s.readings s.work.same_walkings (λ q after is. inl is) (λ n w after there.
+        grind (arith, nat_tests, at-updated k.0 (Some (record s.walking { todo = s.after.todo; steps = reply.steps; answer = reply.answer })) u.work.walkings, same_some, t.next)))
     worker-feels c (walk-sets r through key height below row todo live own loose anew) whole =
         by-key k key row refl (record { walking = s.walking; r = r; through = through; height = height; below = below; there = s.at; sets = todo; live = live; own = own; loose = loose }) (now anew)
     worker-feels c (walk-rests none anew) whole =
         by-nothing (λ n x (walking, at, brings). absurd (none n x (subst (λ (z : Walking). TodoBrings m.values u.core z.todo n x) (same_some _ _ (sym at ∙ s.at)) brings))) (now anew)
 
-    worker-steps : EG (Event.WorkerStep k) (EventReply.WorkerMoved (Ok reply))
+    worker-steps : EventGoes m u (Event.WorkerStep k) (EventReply.WorkerMoved (Ok reply)) u'
     worker-steps =
-        let f = walk-goes m k.0 site s.after s.walking.todo reply.took s.does.does in
+        let f = walk-goes m k.0 (record { core = u.core; shelf = u.work.shelves s.walking.table; todo = s.walking.todo }) s.after s.walking.todo reply.took s.does.does in
         record {
           change = f.change;
           goes = goes-quiet f.goes (ends-quiet reply.answer k.0 s.ends);
@@ -474,7 +449,7 @@ module _ {N B W : Type 0} (m : Seen N B W) (u u' : World) where
           knows = λ whole leaves. f.knows whole.handles;
         }
 
-  pub event-goes : (event : Event N B W) (reply : EventReply N B W) → KeepsOpen event → Happens m u event reply u' → EG event reply
+  pub event-goes : (event : Event N B W) (reply : EventReply N B W) → KeepsOpen event → Happens m u event reply u' → EventGoes m u event reply u'
   event-goes (Event.Call call) (EventReply.CallReply r) open_still is =
       let g = calls-go m u.core Owner.Caller caller-free u'.core call r open_still is.step.does in
       felt g.does (λ left. left) (λ whole well. by-call g.change call r refl refl g.feels (keeps-all u u' is.readings is.work.walkings)) (λ whole leaves. call-knows W g.feels leaves)

@@ -1,24 +1,20 @@
 -- Reading does the same whatever stands for references: two readers over related inputs give related meanings. And readers of which a fault stays whatever follows, what is
 -- read of a front is read of the whole, and what was used reads alone.
-use Rattle.pagable_laws.proofs.Words.{List, Meaning, None, Ok, Result, Shape, Some, Throughout, [], ap, append-nil, append_assoc, arith, cases_Bool, cases_lt, drop, followed, if◌then◌else◌, inl, inr}
-use Rattle.pagable_laws.proofs.Words.{length, length-append, map, nat_tests, none, pair, put_all, read, refl, rename, rest, rules, subst, suc, sym, true, variant, zero, ℕ, ◌*◌, ◌++◌, ◌+◌, ◌==◌, ◌∙◌}
-use Rattle.pagable_laws.proofs.{Again.{Under, alone, here, narrowed, part_of}, Along.{AllTwo, Along, EntryAlong, followed-along, form-along, integer-along, lifted-along, more-two, no-two, none-along}}
-use Rattle.pagable_laws.proofs.{Along.{number-along, pair-along, pattern-along, plain-along, reference-along, text-along, variant-along}, Words.{Bool, Entry, Err, Error, Form, IsReadable, LiesIn}}
-use Rattle.pagable_laws.{proofs.Words.{◌∷◌, ◌≡◌, ◌≤◌, ◌⊎◌}, specs.FormLaws.{IsLasting, IsLocal, IsNatural, IsReadOver, IsReadThrough, IsRenamed, IsUsed, KeepsForms, at, with_more}}
-use Rattle.pagable_model.specs.Reading.{array_case, below, bytes_of, choose, counted, deepest, enter, flag_case, items, json_case, json_part, null_case, number_case, object_case, read_with}
+use Rattle.pagable_laws.proofs.Trees.{AllTwo, Along, EntryAlong, followed-along, form-along, integer-along, lifted-along, more-two, no-two, none-along, number-along, pair-along, pattern-along}
+use Rattle.pagable_laws.proofs.Words.{Bool, Entry, Err, Error, Form, IsReadable, LiesIn, List, Meaning, None, Ok, Option, Result, Shape, Some, Throughout, [], ap, append-nil, append_assoc, arith}
+use Rattle.pagable_laws.proofs.Words.{cases_Bool, cases_lt, drop, followed, if◌then◌else◌, inl, inr, length, length-append, map, nat_tests, none, pair, put_all, read, refl, rename, rest, rules, subst}
+use Rattle.pagable_laws.proofs.{Again.{Under, alone, here, narrowed, part_of}, Trees.{plain-along, reference-along, text-along, variant-along}, Words.{suc, sym, true, variant, zero, ℕ, ◌*◌, ◌++◌}}
+use Rattle.pagable_laws.{proofs.Words.{◌+◌, ◌==◌, ◌∙◌, ◌∷◌, ◌≡◌, ◌≤◌, ◌⊎◌}, specs.FormLaws.{IsLasting, IsLocal, IsNatural, IsReadOver, IsReadThrough, IsRenamed, IsUsed, KeepsForms, at, with_more}}
+use Rattle.pagable_model.specs.Reading.{Context, Deeper, Gets, JsonCase, Look, Rest, array_case, below, bytes_of, choose, counted, deepest, enter, flag_case, items, json_case, json_part, null_case}
+use Rattle.pagable_model.specs.Shape.{array, both, cases, duration, flag, hash_map, json, letter, list, nested, nothing, optional, outcome, placed_map, placed_set, run, signed, sorted_map, sorted_set}
 use Rattle.pagable_model.specs.{Basic.{bool_at, bytes_at, carried, char_at, duration_at, length_at, longest, nanos_of_second, text_at}, Canonical.HasNoReference, Carried.{of_entries, of_hash_map}}
 use Rattle.pagable_model.specs.{Carried.of_tagged, Keys.{KeyOrder, code_order, put_placed_item, put_sorted, put_sorted_item, text_order}, Meaning.{absent, entry, failure, lifted, present, sequence}}
-use Rattle.pagable_model.specs.{Meaning.success, Numbers.{Read, byte_at, last_of, more_of, signed_at, signed_from, unsigned_at, varint_at}, Reading.{Context, Deeper, Gets, JsonCase, Look, Rest}}
-use Rattle.pagable_model.specs.{Reading.{reference_at, registered, seen, text_case, two}, Shape.{array, both, cases, duration, flag, hash_map, json, letter, list, nested, nothing, optional, outcome}}
-use Rattle.std.specs.{Prelude.{nat_le, nat_lt}, Str.{chars, is_utf8}}
-use Rattle.std.{proofs.{Common.◌^◌, lemmas.{Bool.{le-ltb, lt-ltb}, List.{drop_at, length-take-le, map-id, take-append-drop, take_at}}}, specs.{Int.{Width, w32, w64, w8}, List.AllByRecursion}}
-use Rattle.{pagable_model.specs.{Shape.{placed_map, placed_set, run, signed, sorted_map, sorted_set, static_value, tagged, unsigned}, Steps.◌>>=◌}, std.proofs.Common.{get_or, take, ◌%◌, ◌-◌, ◌/◌}}
+use Rattle.pagable_model.specs.{Meaning.success, Numbers.{Read, byte_at, last_of, more_of, signed_at, signed_from, unsigned_at, varint_at}, Reading.{number_case, object_case, read_typed, read_with}}
+use Rattle.std.specs.{Prelude.nat_lt, Str.{chars, is_utf8}}
+use Rattle.std.{proofs.{Common.{get_or, take, ◌%◌, ◌-◌, ◌/◌, ◌^◌}, lemmas.{Bool.{le-ltb, lt-ltb}, List.{drop_at, length-take-le, map-id, take-append-drop, take_at}}}, specs.Int.{Width, w32, w64, w8}}
+use Rattle.{pagable_model.specs.{Reading.{reference_at, registered, seen, text_case, two}, Shape.{static_value, tagged, unsigned}, Steps.◌>>=◌}, std.specs.{List.AllByRecursion, Prelude.nat_le}}
 use Rattle.pagable_model.specs.Meaning as meanings
 use Rattle.pagable_model.specs.Shape as shapes
-
--- the input ends
-abbrev pub IsEnd : Error → Type 0
-IsEnd e = (e ≡ Error.UnexpectedEnd) ⊎ (e ≡ Error.NoMoreKeys)
 
 -- a front of i was read as v, and is read so whatever follows it
 pub record Front {I A : Type 0} (plus : I → I → I) (get : I → Result (A × I) Error) (i : I) (v : A) (after : I) : Type 0 where
@@ -27,9 +23,9 @@ pub record Front {I A : Type 0} (plus : I → I → I) (get : I → Result (A ×
   pub reads : (y : I) → get (plus used y) ≡ Ok (v, y)
 
 -- what comes of i where it is read with this result: a front was read, or what refuses it does so whatever follows, unless it is that the input ends
-unfoldable pub Comes : {I A : Type 0} → (I → I → I) → (I → Result (A × I) Error) → I → Result (A × I) Error → Type 0
+abbrev pub Comes : {I A : Type 0} → (I → I → I) → (I → Result (A × I) Error) → I → Result (A × I) Error → Type 0
 Comes plus get i (Ok p) = Front plus get i p.0 p.1
-Comes {I} plus get i (Err e) = IsEnd e ⊎ ((x : I) → get (plus i x) ≡ Err e)
+Comes {I} plus get i (Err e) = ((e ≡ Error.UnexpectedEnd) ⊎ (e ≡ Error.NoMoreKeys)) ⊎ ((x : I) → get (plus i x) ≡ Err e)
 
 -- a reader of which this holds, of inputs that plus joins
 pub record Tame {I A : Type 0} (plus : I → I → I) (get : I → Result (A × I) Error) : Type 0 where
@@ -42,11 +38,9 @@ pub record Joins {I : Type 0} (plus : I → I → I) (end : I) : Type 0 where
 
 module _ {I : Type 0} {plus : I → I → I} {end : I} (joins : Joins plus end) where
   pub gives : {A : Type 0} (v : A) → Tame plus (λ i. let r : Result (A × I) Error = Ok (v, i) in r)
-  unfolding Comes
   gives v = record { comes = λ i. record { used = end; whole = sym (joins.start i); reads = λ y. rw (joins.start y) refl } }
 
   pub refuses : (A : Type 0) (e : Error) → Tame plus (λ (i : I). let r : Result (A × I) Error = Err e in r)
-  unfolding Comes
   refuses A e = record { comes = λ i. inr (λ x. refl) }
 
   -- one of two
@@ -71,29 +65,20 @@ module _ {I : Type 0} {plus : I → I → I} {end : I} (joins : Joins plus end) 
 
 -- ---- bytes
 
-abbrev pub more_bytes : List ℕ → List ℕ → List ℕ
-more_bytes a b = a ++ b
-
-abbrev pub TameBytes : {A : Type 0} → (List ℕ → Read A) → Type 0
-TameBytes read = Tame more_bytes read
-
-pub bytes_join : Joins more_bytes []
+pub bytes_join : Joins {I = List ℕ} ◌++◌ []
 bytes_join = record { assoc = append_assoc; start = λ a. refl }
 
-pub byte_tame : TameBytes byte_at
-unfolding Comes
+pub byte_tame : Tame ◌++◌ byte_at
 byte_tame = record { comes = elim [ [] ↦ inl (inl refl) | b ∷ bs ↦ record { used = b ∷ []; whole = refl; reads = λ y. refl } ] }
 
-front_of : (n : ℕ) (bs : List ℕ) → n ≤ length bs → Front more_bytes (bytes_at n) bs (take n bs) (drop n bs)
+front_of : (n : ℕ) (bs : List ℕ) → n ≤ length bs → Front ◌++◌ (bytes_at n) bs (take n bs) (drop n bs)
 front_of n bs le =
-    let reads : (y : List ℕ) → bytes_at n (take n bs ++ y) ≡ Ok (take n bs, y) = λ y. grind (arith, nat_tests, le-ltb, length-append, take_at, drop_at, length-take-le n bs le) in
-    record { used = take n bs; whole = sym (take-append-drop n bs); reads = reads }
+    record { used = take n bs; whole = sym (take-append-drop n bs); reads = λ y. grind (arith, nat_tests, le-ltb, length-append, take_at, drop_at, length-take-le n bs le) }
 
-pub bytes_tame : (n : ℕ) → TameBytes (bytes_at n)
-unfolding Comes
+pub bytes_tame : (n : ℕ) → Tame ◌++◌ (bytes_at n)
 bytes_tame n = record { comes = λ bs. elim (cases_lt (length bs) n) [ inl lt ↦ rw (lt-ltb (length bs) n lt) (inl (inl refl)) | inr le ↦ rw (le-ltb (length bs) n le) (front_of n bs le) ] }
 
-varint_tame : (more last : ℕ) → TameBytes (varint_at more last)
+varint_tame : (more last : ℕ) → Tame ◌++◌ (varint_at more last)
 unfolding varint_at
 varint_tame zero last = tested bytes_join (λ b. nat_le b last) (λ b. b) Error.BadVarint (grind (arith, nat_tests)) byte_tame
 varint_tame (suc more) last =
@@ -101,32 +86,32 @@ varint_tame (suc more) last =
     (λ b. either bytes_join (nat_lt b 128) (gives bytes_join b)
     (and_then bytes_join (λ high bs. Ok (b - 128 + 128 * high, bs)) _ (λ bs. refl) (varint_tame more last) (λ high. gives bytes_join (b - 128 + 128 * high))))
 
-pub unsigned_tame : (w : Width) → TameBytes (unsigned_at w)
+pub unsigned_tame : (w : Width) → Tame ◌++◌ (unsigned_at w)
 unsigned_tame w8 = byte_tame
 unsigned_tame w = varint_tame (more_of w) (last_of w)
 
-pub signed_tame : (w : Width) → TameBytes (signed_at w)
+pub signed_tame : (w : Width) → Tame ◌++◌ (signed_at w)
 signed_tame w = and_then bytes_join (λ n bs. Ok (signed_from w n, bs)) _ (λ bs. refl) (unsigned_tame w) (λ n. gives bytes_join (signed_from w n))
 
-pub bool_tame : TameBytes bool_at
+pub bool_tame : Tame ◌++◌ bool_at
 unfolding bool_at
 bool_tame = tested bytes_join (λ b. nat_le b 1) (λ b. b == 1) Error.BadBool (grind (arith, nat_tests)) byte_tame
 
-pub length_tame : TameBytes length_at
+pub length_tame : Tame ◌++◌ length_at
 unfolding length_at
 length_tame = tested bytes_join (λ n. nat_le n longest) (λ n. n) Error.TooLong (λ bs. refl) (unsigned_tame w64)
 
-pub text_tame : TameBytes text_at
+pub text_tame : Tame ◌++◌ text_at
 unfolding text_at
 text_tame =
     and_then bytes_join (λ n bs. bytes_at n bs >>= λ t. if is_utf8 t.0 then Ok t else Err Error.BadUtf8) _ (λ bs. refl) length_tame
     (λ n. tested bytes_join is_utf8 (λ t. t) Error.BadUtf8 (λ bs. refl) (bytes_tame n))
 
-pub char_tame : TameBytes char_at
+pub char_tame : Tame ◌++◌ char_at
 unfolding char_at
 char_tame = tested bytes_join (λ t. length (chars t) == 1) (λ t. get_or (chars t) 0 0) Error.BadChar (grind (arith, nat_tests)) text_tame
 
-pub duration_tame : TameBytes duration_at
+pub duration_tame : Tame ◌++◌ duration_at
 unfolding duration_at
 duration_tame =
     and_then bytes_join (λ s bs. unsigned_at w32 bs >>= λ n. carried s n.0 n.1) _ (λ bs. refl) (unsigned_tame w64)
@@ -175,32 +160,24 @@ module _ {A : Type 0} where
   abbrev pub more : Rest A → Rest A → Rest A
   more a b = with_more a b.bytes b.refs
 
-  abbrev pub ended : Rest A
-  ended = rest [] []
-
-  abbrev pub TameGets : {X : Type 0} → Gets A X → Type 0
-  TameGets get = Tame more get
-
-  pub joins : Joins more ended
+  pub joins : Joins more (rest [] [])
   joins = record { assoc = λ a b c. rw (append_assoc a.bytes b.bytes c.bytes, append_assoc a.refs b.refs c.refs) refl; start = λ a. refl }
 
-  seen_tame : {X Y U : Type 0} {get : Gets A Y} (view : X → Y → U) → TameGets get → (v : X) → TameGets (λ i. seen (view v) get i)
+  seen_tame : {X Y U : Type 0} {get : Gets A Y} (view : X → Y → U) → Tame more get → (v : X) → Tame more (λ i. seen (view v) get i)
   seen_tame view h v = and_then joins (λ y i. Ok (view v y, i)) _ (λ i. refl) h (λ y. gives joins (view v y))
 
-module _ {A X Y : Type 0} (read : List ℕ → Read X) (view : X → Y) (h : TameBytes read) where
-  bytes_come : (i : Rest A) (first : Read X) → Comes more_bytes read i.bytes first → Comes more (bytes_of read view) i
+module _ {A X Y : Type 0} (read : List ℕ → Read X) (view : X → Y) (h : Tame ◌++◌ read) where
+  bytes_come : (i : Rest A) (first : Read X) → Comes ◌++◌ read i.bytes first → Comes more (bytes_of read view) i
       (first >>= λ p. let z : Result (Y × Rest A) Error = Ok (view p.0, record i { bytes = p.1 }) in z)
-  unfolding Comes
   bytes_come i (Ok p) g = record { used = rest g.used []; whole = ap (λ (b : List ℕ). rest b i.refs) g.whole; reads = λ y. rw g.reads refl }
   bytes_come i (Err e) (inl ends) = inl ends
   bytes_come i (Err e) (inr stays) = inr (λ x. rw stays refl)
 
-  pub of_bytes : TameGets {A = A} (bytes_of read view)
+  pub of_bytes : Tame (more {A = A}) (bytes_of read view)
   of_bytes = record { comes = λ i. bytes_come i (read i.bytes) (h.comes i.bytes) }
 
 module _ {A B : Type 0} (look : Look A B) where
   reference_comes : (kind : ℕ) (bytes : List ℕ) (refs : List A) → Comes more (λ i. reference_at look kind i.refs i) (rest bytes refs) (reference_at look kind refs (rest bytes refs))
-  unfolding Comes
   reference_comes kind bytes [] = inl (inr refl)
   reference_comes kind bytes (a ∷ refs) = by (look kind a) refl
     where
@@ -223,7 +200,7 @@ pub data Out {A B X Y : Type 0} (E : Error → Type 0) (S : A → B → Type 0) 
 -- readers that do so on related inputs, the first of which is local: its faults stay, and what it reads of a front it reads of the whole
 pub record Par {A B X Y : Type 0} (E : Error → Type 0) (S : A → B → Type 0) (V : X → Y → Type 0) (get : Gets A X) (get2 : Gets B Y) : Type 0 where
   pub out : (r : Rest A) (q : Rest B) → SameRest S r q → Out E S V (get r) (get2 q)
-  pub tame : TameGets get
+  pub tame : Tame more get
 
 module _ {A B : Type 0} {E : Error → Type 0} {S : A → B → Type 0} where
   bind-out : {X Y U W : Type 0} {V : X → Y → Type 0} {V2 : U → W → Type 0} {first : Result (X × Rest A) Error} {second : Result (Y × Rest B) Error} (f : X × Rest A → Result (U × Rest A) Error)
@@ -242,7 +219,7 @@ module _ {A B : Type 0} {E : Error → Type 0} {S : A → B → Type 0} where
 
   -- one after the other
   module _ {X Y U W : Type 0} {V : X → Y → Type 0} {V2 : U → W → Type 0} {get : Gets A X} {get2 : Gets B Y} (f : X → Gets A U) (g : Y → Gets B W) (h : Par E S V get get2)
-      (k : (v : X) (w : Y) → V v w → Par E S V2 (f v) (g w)) (t : (v : X) → TameGets (f v)) where
+      (k : (v : X) (w : Y) → V v w → Par E S V2 (f v) (g w)) (t : (v : X) → Tame more (f v)) where
     pub then_par : Par E S V2 (λ i. get i >>= λ p. f p.0 p.1) (λ i. get2 i >>= λ p. g p.0 p.1)
     then_par = record { out = λ r q s. bind-out _ _ (h.out r q s) (λ p o v t. (k p.0 o.0 v).out p.1 o.1 t); tame = and_then joins f _ (λ i. refl) h.tame t }
 
@@ -251,11 +228,11 @@ module _ {A B : Type 0} {E : Error → Type 0} {S : A → B → Type 0} where
       → ((v : X) → Par E S V2 (f v) (g v)) → Par E S V2 (λ i. get i >>= λ p. f p.0 p.1) (λ i. get2 i >>= λ p. g p.0 p.1)
   then_same {X} {V2 = V2} {f = f} {g} h k = then_par f g h (λ v w e. let P : X → Type 0 = λ z. Par E S V2 (f v) (g z) in subst P e (k v)) (λ v. (k v).tame)
 
-  pub bytes_par : {X Y Z : Type 0} {V : X → Y → Type 0} (read : List ℕ → Read Z) → TameBytes read → (view : Z → X) (view2 : Z → Y) → ((z : Z) → V (view z) (view2 z))
+  pub bytes_par : {X Y Z : Type 0} {V : X → Y → Type 0} (read : List ℕ → Read Z) → Tame ◌++◌ read → (view : Z → X) (view2 : Z → Y) → ((z : Z) → V (view z) (view2 z))
       → Par E S V (bytes_of read view) (bytes_of read view2)
   bytes_par {X} {Y} {Z} {V} read t view view2 h = record { out = search (rules, both-given, both-refused); tame = of_bytes read view t }
 
-  pub bytes_same : {Z : Type 0} (read : List ℕ → Read Z) → TameBytes read → Par E S (λ (v w : Z). v ≡ w) (bytes_of read (λ z. z)) (bytes_of read (λ z. z))
+  pub bytes_same : {Z : Type 0} (read : List ℕ → Read Z) → Tame ◌++◌ read → Par E S (λ (v w : Z). v ≡ w) (bytes_of read (λ z. z)) (bytes_of read (λ z. z))
   bytes_same read t = bytes_par read t _ _ (λ z. refl)
 
   pub seen_par : {X Y U W : Type 0} {V : X → Y → Type 0} {V2 : U → W → Type 0} {get : Gets A X} {get2 : Gets B Y} (view : X → U) (view2 : Y → W)
@@ -263,7 +240,7 @@ module _ {A B : Type 0} {E : Error → Type 0} {S : A → B → Type 0} where
   seen_par view view2 k h = then_par (λ v i. Ok (view v, i)) (λ w i. Ok (view2 w, i)) h (λ v w r. gives_par (view v) (view2 w) (k v w r)) (λ v. gives joins (view v))
 
   -- what is read first says which of two is read then
-  known_par : {X Y Z : Type 0} {V : X → Y → Type 0} (read : List ℕ → Read Z) → TameBytes read → (known : Z → Bool) {get other : Z → Gets A X} {get2 other2 : Z → Gets B Y}
+  known_par : {X Y Z : Type 0} {V : X → Y → Type 0} (read : List ℕ → Read Z) → Tame ◌++◌ read → (known : Z → Bool) {get other : Z → Gets A X} {get2 other2 : Z → Gets B Y}
       → ((z : Z) → known z ≡ true → Par E S V (get z) (get2 z)) → ((z : Z) → Par E S V (other z) (other2 z))
       → Par E S V (λ i. bytes_of read (λ z. z) i >>= λ p. choose (known p.0) (get p.0) (other p.0) p.1) (λ i. bytes_of read (λ z. z) i >>= λ p. choose (known p.0) (get2 p.0) (other2 p.0) p.1)
   known_par read t known {get} {other} {get2} {other2} h g =
@@ -327,9 +304,6 @@ module _ {A B C D : Type 0} {E : Error → Type 0} {F : Type 0} {S : A → B →
     reference_out kind r q e no-two = both-refused Error.NoMoreKeys
     reference_out kind r q e (more-two a b k l s h) = look_par (record { bytes = e; refs = h }) (alike kind a b s)
 
-    reference_par : (kind : ℕ) → Par E S (Along F R) (λ i. reference_at look kind i.refs i) (λ i. reference_at look2 kind i.refs i)
-    reference_par kind = record { out = λ r q s. reference_out kind r q s.bytes s.refs; tame = record { comes = λ i. reference_comes look kind i.bytes i.refs } }
-
   module _ {parts : ℕ → Shape} where
     enter_par : {X Y : Type 0} {V : X → Y → Type 0} {d : Deeper A C} {d2 : Deeper B D} (part : (Shape → Gets A (Meaning C)) → Gets A X) (part2 : (Shape → Gets B (Meaning D)) → Gets B Y)
         → DeeperPar E F S R parts d d2
@@ -346,10 +320,10 @@ module _ {A B C D : Type 0} {E : Error → Type 0} {F : Type 0} {S : A → B →
         known_par bool_at bool_tame (λ float. float) (λ float e. refuses_par (Along F R) Error.JsonNumber)
         (λ float. bytes_par (signed_at w64) (signed_tame w64) _ _ (λ z. variant-along _ _ _ (integer-along z)))
     json_par h text_case = bytes_par text_at text_tame _ _ (λ t. variant-along _ _ _ (text-along t))
-    json_par {d} {d2} h array_case =
-        then_same {f = λ count. enter d (λ get. seen (λ ms. variant 4 (sequence ms)) (items (get json) count))}
-        {g = λ count. enter d2 (λ get. seen (λ ms. variant 4 (sequence ms)) (items (get json) count))} (bytes_same length_at length_tame)
-        (λ count. enter_par _ _ h (λ get get2 g. seen_par _ _ (λ ms ns r. variant-along _ _ _ (sequence-two r)) (items_par (g json (inr (alone (λ n d. tt) tt))) count)))
+    json_par h array_case =
+        then_same (bytes_same length_at length_tame) (λ count. enter_par (λ get. seen (λ ms. variant 4 (sequence ms)) (items (get json) count))
+        (λ get. seen (λ ms. variant 4 (sequence ms)) (items (get json) count)) h
+        (λ get get2 g. seen_par _ _ (λ ms ns r. variant-along _ _ _ (sequence-two r)) (items_par (g json (inr (alone (λ n d. tt) tt))) count)))
     json_par {d} {d2} h object_case =
         then_same {f = λ count. enter d (λ get. seen (λ es. variant 5 (of_entries (put_all (put_sorted text_order) [] es))) (items (two (get shapes.text) (get json)) count))}
         {g = λ count. enter d2 (λ get. seen (λ es. variant 5 (of_entries (put_all (put_sorted text_order) [] es))) (items (two (get shapes.text) (get json)) count))}
@@ -405,7 +379,8 @@ module _ {A B C D : Type 0} {E : Error → Type 0} {F : Type 0} {S : A → B →
       with_par h (cases w known part) t =
           known_par (unsigned_at w) (unsigned_tame w) known
           (λ n e. seen_par (variant n) (variant n) (λ x y r. variant-along _ _ _ r) (with_par h (part n) (over (λ p. p n e) (λ nodes d l. l n e) t))) (λ n. refuses_par (Along F R) Error.UnknownTag)
-      with_par h (shapes.reference kind) t = reference_par look look2 alike kind
+      with_par h (shapes.reference kind) t =
+          record { out = λ r q s. reference_out look look2 alike kind r q s.bytes s.refs; tame = record { comes = λ i. reference_comes look kind i.bytes i.refs } }
       with_par h (nested n) t = enter_par _ _ h (λ get get2 g. g (parts n) (grind (arith, nat_tests, part_of)))
 
       below_par : (left : ℕ) → DeeperPar E F S R parts (below look parts left) (below look2 parts left)
@@ -417,6 +392,12 @@ module _ {A B C D : Type 0} {E : Error → Type 0} {F : Type 0} {S : A → B →
           → Par E S (Along F R) (read (record { levels = levels; look = look; parts = parts }) s) (read (record { levels = levels; look = look2; parts = parts }) s)
       unfolding read
       read_par levels s t = with_par (below_par (deepest - levels)) s t
+
+      -- so do they read a type that may not be known
+      pub typed_par : (levels : ℕ) (o : Option Shape) → ((s : Shape) → o ≡ Some s → Covers F parts s) → (r : Rest A) (q : Rest B) → SameRest S r q → Out E S (Along F R)
+          (read_typed (record { levels = levels; look = look; parts = parts }) o r) (read_typed (record { levels = levels; look = look2; parts = parts }) o q)
+      typed_par levels None t r q same = both-refused Error.WrongKind
+      typed_par levels (Some s) t r q same = (read_par levels s (t s refl)).out r q same
 
 -- ---- reading is local: what is read of a front is read of the whole, a fault stays, and what was used reads alone
 
@@ -433,18 +414,15 @@ comes-of {A} {B} context s input e =
     subst (Comes more (read context s) input) e (par.tame.comes input)
 
 pub local : {A B : Type 0} → IsLocal A B
-unfolding Comes
 local context s front after x y m e = let f = comes-of context s front e in rw (f.whole, joins.assoc f.used after (rest x y)) (f.reads (more after (rest x y)))
 
 pub used : {A B : Type 0} → IsUsed A B
-unfolding Comes
 used context s input after m e =
     let f = comes-of context s input e in
-    let alone : more f.used ended ≡ f.used = rw (append-nil f.used.bytes, append-nil f.used.refs) refl in
-    record { bytes = f.used.bytes; refs = f.used.refs; whole = f.whole; alone = rw alone at (f.reads ended) }
+    let alone : more f.used (rest [] []) ≡ f.used = rw (append-nil f.used.bytes, append-nil f.used.refs) refl in
+    record { bytes = f.used.bytes; refs = f.used.refs; whole = f.whole; alone = rw alone at (f.reads (rest [] [])) }
 
 pub lasting : {A B : Type 0} → IsLasting A B
-unfolding Comes
 lasting context s front x y e is not_end not_keys = elim (comes-of context s front is) [ inl end ↦ absurd (grind (arith, nat_tests)) | inr stays ↦ stays (rest x y) ]
 
 -- ---- reading is natural in what stands for references, and forms are

@@ -1,16 +1,16 @@
 -- Why a load is refused whose key a page-out has published: by chance, or by a handle. And as too deep one is refused only where the reading of its key comes to a
 -- blob that lies too deep, or to one that enters a level too many.
-use Rattle.pagable_laws.proofs.Words.{ArcRef, Blob, Bool, Core, Err, Error, Event, EventReply, Frame, FramesFit, HandleNumber, HandleRow, Happens, Identity, IsLawful, IsPublished, Kind, List}
-use Rattle.pagable_laws.proofs.Words.{LoadAnswer, LoadNumber, MachineState, Meaning, Mode, NodeNumber, None, Ok, OpenLoad, Option, Owner, Reading, ReadsItsTypes, Seen, Shelf, Some, Todo, Took, Tree}
-use Rattle.pagable_laws.proofs.Words.{Types, Values, Walking, WorkFits, Written, [], above, any_mode, ap, arith, blob_of, false, identity_of, inl, inr, is_eager, length, nat_tests, next_in, not}
+use Rattle.pagable_laws.proofs.{Chains.IsGoingOn, Decoding.{FramesAsked, GotAsked, IsFormOf, NextOf, all-got, all-read, asks-by-kinds, asks-known, faulty-by-kinds, kinds_of, next-known}}
+use Rattle.pagable_laws.proofs.{Deeply.along-first, ReadingSteps.{reading-number, reading-open, reading-stands}, Taking.{Going, adopted-over, asked, eager-nested, going-of}, Trees.same_some}
+use Rattle.pagable_laws.proofs.{Trees.self-number, Words.{ArcRef, Blob, Bool, Core, Err, Error, Event, EventReply, Frame, FramesFit, HandleNumber, HandleRow, Happens, Identity, IsLawful}}
+use Rattle.pagable_laws.proofs.Words.{IsPublished, Kind, List, LoadAnswer, LoadNumber, MachineState, Meaning, Mode, NodeNumber, None, Ok, OpenLoad, Option, Owner, Reading, ReadsItsTypes, Seen, Shelf}
+use Rattle.pagable_laws.proofs.Words.{Some, Tree, Types, Values, WorkFits, Written, [], above, any_mode, ap, arith, blob_of, false, identity_of, inl, inr, is_eager, length, nat_tests, next_in, not}
 use Rattle.pagable_laws.proofs.Words.{of_cell, owner_worker, references_fault, refl, rules, slice_get, subst, suc, sym, true, type_of, world_of, ℕ, ◌+◌, ◌<◌, ◌==◌, ◌∙◌, ◌∷◌, ◌≡◌, ◌≤◌, ◌⊎◌}
-use Rattle.pagable_laws.proofs.{Apart.{FramesAsked, GotAsked, IsFormOf, NextOf, all-got, all-read}, Chains.IsGoingOn, Deeply.along-first, Taking.{Going, adopted-over, asked, eager-nested, going-of}}
-use Rattle.pagable_laws.proofs.{Apart.{asks-by-kinds, asks-known, faulty-by-kinds, kinds_of, next-known}, ReadingSteps.{reading-number, reading-open, reading-stands}, Trees.{same_some, self-number}}
-use Rattle.pagable_world.specs.{Events.{LoadSteps, reading_at}, LoadCalls.{is_known, node_fault}, OneWorker.{IsLoadOfPagedOut, IsOfChance, IsPagedOutAs}, Pager.{FitsRoot, IsReadingOf, of_worker}}
-use Rattle.pagable_world.specs.{Headline.AreKeysOf, Plain.{longest_path, or_else}, Refusals.{handle_fault, load_fault, named_fault, reference_fault, refused_if, row_fault}, declared.calls.Want.Want}
-use Rattle.pagable_world.specs.{Loads.{Does, Fails, IsDecoded, IsOfKey, RefusesBlob, RefusesNested, RefusesNode, RefusesRoot, asks, handles_of, is_broken}, declared.events.LoadReply.LoadReply}
-use Rattle.pagable_world.specs.{Loads.{need_of, needs_lazy, needs_nested, reads}, Order.{LeadsDown, ReadsTooDeep, after_kinds, goes-down, is-there}, Refusals.{AreHandlesFull, Refused, earlier}}
-use Rattle.{pagable_laws.specs.{DeepLaws.{HoldsAlong, IsOfHandles, LoadIsDeep, LoadIsFaultless}, TreeSteps.{AllLow, IsFresh, Needs}}, pagable_world.specs.LoadCalls.{AskCall, LazyCall, ask_fault}}
+use Rattle.{pagable_laws.specs.{DeepLaws.{HoldsAlong, IsOfHandles, LoadIsDeep, LoadIsFaultless}, TreeSteps.{AllLow, IsFresh, Needs}}, pagable_world.specs.Events.{LoadSteps, reading_at}}
+use Rattle.pagable_world.specs.{Headline.AreKeysOf, LoadCalls.{AskCall, LazyCall, ask_fault, is_known, node_fault}, Loads.{Does, Fails, IsDecoded, IsOfKey, RefusesNested, RefusesNode, RefusesRoot}}
+use Rattle.pagable_world.specs.{Loads.{asks, handles_of, is_broken, need_of, needs_lazy, needs_nested, reads}, OneWorker.{IsLoadOfPagedOut, IsOfChance, IsPagedOutAs}, Order.{LeadsDown, ReadsTooDeep}}
+use Rattle.pagable_world.specs.{Order.{after_kinds, goes-down, is-there}, Pager.{IsReadingOf, of_worker}, Plain.longest_path, Refusals.{AreHandlesFull, Refused, earlier, handle_fault, load_fault}}
+use Rattle.pagable_world.specs.{Refusals.{named_fault, reference_fault, refused_if, row_fault}, declared.{calls.Want.Want, events.LoadReply.LoadReply}}
 use Rattle.pagable_world.specs.Workers as workers
 
 -- ---- what a load reads of a key that a page-out has published: each blob is a form of a tree, asks for references whose keys are known, and lies within the path's limit
@@ -55,8 +55,7 @@ module _ {N E : Type 0} (v : Values N) (s : MachineState N E) (trees : ℕ → T
       let same : blob_of written.bytes b.2.keys ≡ frame.blob = same_some _ _ (sym b.2.is_stored ∙ is) in
       let form : IsFormOf v.types frame.node_type (blob_of written.bytes b.2.keys) written.references =
       search (there, readable frame.node_type w.shape there, w.form, as-many-keys shelf written.references b.2.keys b.2.known, w.once) in
-      let keys = subst (λ (x : Blob). AreKeysOf shelf written.references x.keys) same b.2.known in
-      search (subst (λ (x : Blob). IsFormOf v.types frame.node_type x written.references) same form, keys, b.2.low)
+      search (subst (λ (x : Blob). IsFormOf v.types frame.node_type x written.references) same form, subst (λ (x : Blob). AreKeysOf shelf written.references x.keys) same b.2.known, b.2.low)
 
   -- what is asked for has a key that is known
   record IsAsked (kind : Kind) (key height : ℕ) : Type 0 where
@@ -66,18 +65,15 @@ module _ {N E : Type 0} (v : Values N) (s : MachineState N E) (trees : ℕ → T
     of_kind : r.kind ≡ kind
     within : above kind.0 below ≤ height
 
-  asked-known : (frame : Frame) (height : ℕ) → IsKnown frame height → GotAsked v.types frame.node_type frame.blob frame.got → (kind : Kind) (key : ℕ) → next_in v.types frame ≡ asks kind key
+  asked-known : (frame : Frame) (height : ℕ) (k : IsKnown frame height) → NextOf frame.blob k.refs (next_in v.types frame) → (kind : Kind) (key : ℕ) → next_in v.types frame ≡ asks kind key
       → IsAsked kind key height
-  asked-known frame height k got kind key next = by (next-known v.types frame.node_type frame.blob k.refs k.form got)
-    where
-      by : NextOf frame.blob k.refs (next_in v.types frame) → IsAsked kind key height
-      by (all-read own is) = absurd (let e : reads own ≡ asks kind key = sym is ∙ next in cc)
-      by (asks-known place r q at there is) =
-          let e : asks r.kind q ≡ asks kind key = sym is ∙ next in let kinds : r.kind ≡ kind = cc in
-          let keys : q ≡ key = cc in let p = key-at shelf k.refs frame.blob.keys k.keys place r q at there in
-          let p2 = subst (λ x. IsPublished shelf (identity_of r) x p.0) keys p.1 in let l = k.lows r (place, at) in
-          let h : l.below ≡ p.0 = let k = l.known in grind (arith, same_some) in
-          record { r = r; below = p.0; known = p2; of_kind = kinds; within = subst (λ (x : Kind). above x.0 p.0 ≤ height) kinds (subst (λ x. above r.kind.0 x ≤ height) h l.within) }
+  asked-known frame height k (all-read own is) kind key next = absurd (let e : reads own ≡ asks kind key = sym is ∙ next in cc)
+  asked-known frame height k (asks-known place r q at there is) kind key next =
+      let e : asks r.kind q ≡ asks kind key = sym is ∙ next in let kinds : r.kind ≡ kind = cc in
+      let keys : q ≡ key = cc in let p = key-at shelf k.refs frame.blob.keys k.keys place r q at there in
+      let p2 = subst (λ x. IsPublished shelf (identity_of r) x p.0) keys p.1 in let l = k.lows r (place, at) in
+      let h : l.below ≡ p.0 = let k = l.known in grind (arith, same_some) in
+      record { r = r; below = p.0; known = p2; of_kind = kinds; within = subst (λ (x : Kind). above x.0 p.0 ≤ height) kinds (subst (λ x. above r.kind.0 x ≤ height) h l.within) }
 
   -- the innermost blob is known, with its height within what the path leaves
   record IsTopKnown (frame : Frame) (many limit : ℕ) : Type 0 where
@@ -98,23 +94,21 @@ module _ {N E : Type 0} (v : Values N) (s : MachineState N E) (trees : ℕ → T
         record { height = limit; known = k; left = omega arith }
     top-known frame (under ∷ rest) (fits, of_type, next, more) (got, eager, next2, more_asked) =
         let u = top-known under rest more more_asked in
-        let a = asked-known under u.height u.known (first-asked under rest more_asked) frame.kind frame.key next in
+        let a = asked-known under u.height u.known (next-known v.types under.node_type under.blob u.known.refs u.known.form (first-asked under rest more_asked)) frame.kind frame.key next in
         let f = fit.slots table (identity_of a.r) a.known.slot a.known.claimed in
         let right : frame.node_type ≡ (trees a.r.node.0).type = of_type ∙ ap (λ (x : Kind). type_of x.0) (sym a.of_kind) ∙ sym f.typed in
         let k = known-frame frame (identity_of a.r) a.below a.known right fits.is in
-        let le = above-eager frame.kind.0 a.below u.height eager a.within in let le2 = u.left in
-        record { height = a.below; known = k; left = omega (arith, le, le2) }
+        record { height = a.below; known = k; left = omega (arith, above-eager frame.kind.0 a.below u.height eager a.within, u.left) }
 
     -- what a load needs that reads it
     pub needed : (frames : List Frame) → FramesFit v.types stored trees root_key root_type frames → FramesAsked v.types frames → (kind : Kind) (key : ℕ) → Needs v.types frames kind key
         → (blob : Blob) × (stored key ≡ Some blob) × (is_eager kind.0 ≡ true → length frames ≤ longest_path)
     needed (frame ∷ below) fits got kind key needs =
         let t = top-known frame below fits got in
-        let a = asked-known frame t.height t.known (first-asked frame below got) kind key (asked below (next_in v.types frame) kind key needs) in
+        let k = next-known v.types frame.node_type frame.blob t.known.refs t.known.form (first-asked frame below got) in
+        let a = asked-known frame t.height t.known k kind key (asked below (next_in v.types frame) kind key needs) in
         let b = (fit.slots table (identity_of a.r) a.known.slot a.known.claimed).publishes key a.below a.known.known in
-        let small = ((fit.slots table i p.slot p.claimed).publishes root_key limit p.known).2.within in
-        let left = t.left in
-        (_, b.2.is_stored, λ eager. let le = above-eager kind.0 a.below t.height eager a.within in omega (arith, le, left, small))
+        (_, b.2.is_stored, λ eager. omega (arith, above-eager kind.0 a.below t.height eager a.within, t.left, ((fit.slots table i p.slot p.claimed).publishes root_key limit p.known).2.within))
     needed x0 fits got kind key x5 = grind (arith, nat_tests)
 
     -- the innermost blob is so, where it is read
@@ -190,8 +184,7 @@ module _ {N B W E : Type 0} (m : Seen N B W) (s : MachineState N E) (trees : ℕ
     of-type : reading.node_type ≡ paged.1
     of-type =
         let there : (s.work.readings l.0 ≡ Some reading → reading.node_type ≡ paged.1) = λ is.
-        let a = on.whole.readings l.0 reading is in
-        subst (λ root. FitsRoot root reading) (ap (λ (x : OpenLoad). x.root) (same_some _ _ (sym a.open_load ∙ open_load)) ∙ paged.3) a.typed in
+        let a = on.whole.readings l.0 reading is in rw (same_some _ _ (sym a.open_load ∙ open_load), paged.3) at a.typed in
         grind (arith, nat_tests, there)
 
     -- the tree that it reads
@@ -402,17 +395,10 @@ module _ {N B W E : Type 0} (m : Seen N B W) (lawful : IsLawful m.values) (s s' 
 
   load-deep : (event : Event N B W) (reply : EventReply N B W) → Happens m (world_of s) event reply (world_of s') → LoadIsDeep m.values s trees event reply s' trees'
   load-deep (Event.LoadStep l) (EventReply.LoadMoved (Ok reply)) is = λ reading load at open_load ended.
-      let x = is.moves in let same : x.reading ≡ reading = same_some _ _ (sym x.at ∙ at) in
-      let fails = subst (λ a. Does m.values s.pager.core Owner.Caller x.reading a x.frames s'.pager.core) ended x.does.does in
-      subst (λ (r : Reading). ReadsTooDeep m.values.types s.pager.core.stored r.node_type load.key) same
-      (by-reading Owner.Caller x.reading load (reading-stands (world_of s) on.whole.pager.whole l x.reading x.at) (reading-open s on.whole l x.reading x.at open_load) s'.pager.core fails.0)
+      let x = is.moves in let same : x.reading ≡ reading = same_some _ _ (sym x.at ∙ at) in let fails = rw (same, ended) at x.does.does in
+      by-reading Owner.Caller reading load (reading-stands (world_of s) on.whole.pager.whole l reading at) (reading-open s on.whole l reading at open_load) s'.pager.core fails.0
   load-deep (Event.WorkerStep n) (EventReply.WorkerMoved (Ok reply)) is = λ walking r place through reading below load i there todo open_load taken.
-      let x = is.moves in let same : x.walking ≡ walking = same_some _ _ (sym x.at ∙ there) in
-      let front = ap (λ (y : Walking). y.todo) same ∙ todo in
-      let does =
-      subst (λ (k : Took W). workers.Does m n.0 (record { core = s.pager.core; shelf = s.work.shelves x.walking.table; todo = x.walking.todo }) x.walking.todo k x.after) taken x.does.does in
-      let step = subst (λ (t : List Todo). workers.Does m n.0 (record { core = s.pager.core; shelf = s.work.shelves x.walking.table; todo = x.walking.todo }) t (Took.Pin i
-      (Err Error.TooDeep)) x.after) front does in
+      let x = is.moves in let same : x.walking ≡ walking = same_some _ _ (sym x.at ∙ there) in let step = rw (same, todo, taken) at x.does.does in
       by-reading (owner_worker n.0) reading load (inl (of_worker n.0 place walking r through below there todo)) open_load x.after.core step.1.refused.0.does.0
   load-deep event reply is = tt
 

@@ -1,10 +1,10 @@
 -- What a worker's step does to the slots of its table: each grows, and only those of the worker change.
-use Rattle.pagable_laws.proofs.Words.{Written, [], above, and_parts, ap, arith, cases_Bool, drop, false, false_from_ne_true, give, identity_of, if_there, if◌then◌else◌, inl, inr, is_some, max, nat_eq}
+use Rattle.pagable_laws.proofs.Words.{Written, [], above, and_parts, ap, arith, cases_Bool, drop, false, give, identity_of, if_there, if◌then◌else◌, inl, inr, is_some, max, nat_eq}
 use Rattle.pagable_laws.proofs.Words.{nat_tests, no_result, of_entry, of_item, refl, rules, subst, suc, sym, to_fail, to_finish, to_item, to_load, to_pin, to_release, to_set, to_start, to_write, true}
 use Rattle.pagable_laws.proofs.{Trees.same-number, Words.{Among, ArcRef, Bool, HandleNumber, Identity, IsPublished, List, None, Option, Shelf, Slot, Some, Task, Todo, Took, Walking, WorkerAnswer}}
-use Rattle.pagable_world.specs.{Workers.{first_todo, is_open_outcome, next_start, open_node, settle, with_changed_slot, with_failed, with_outcome, with_slot}, World.{Fault, Open, Outcome, SameShelf}}
+use Rattle.pagable_world.specs.{Workers.{first_todo, is_open_outcome, next_start, settle, with_changed_slot, with_failed, with_outcome, with_slot}, World.{Fault, Open, Outcome, SameShelf}}
 use Rattle.{pagable_laws.proofs.Words.{ℕ, ◌++◌, ◌<◌, ◌==◌, ◌||◌, ◌∙◌, ◌∷◌, ◌≡◌, ◌≤◌, ◌⊎◌}, pagable_world.specs.{Headline.{Meets, meets-below, meets-entry, meets-of-item}, Order.Follows}}
-use Rattle.{pagable_world.specs.World.{failed, is_identity, published, to_publish}, std.proofs.lemmas.Bool.{or_cases, or_left, or_right}}
+use Rattle.{pagable_world.specs.World.{failed, is_identity, to_publish}, std.proofs.lemmas.Bool.{or_cases, or_right}}
 
 -- the slot has the same worker, and what was written and the result stay
 pub record SlotGrows (slot slot' : Slot) : Type 0 where
@@ -41,8 +41,11 @@ meets-grow shelf shelf' task i more (meets-below j slot written r meets there is
     let a = more j slot there in
     meets-below j a.0 written r (meets-grow shelf shelf' task j more meets) a.1 (a.2.written written is) among
 
-pub published-stays : (shelf shelf' : Shelf) (i : Identity) (key height : ℕ) → ShelfGrows shelf shelf' → IsPublished shelf i key height → IsPublished shelf' i key height
-published-stays shelf shelf' i key height more p = grind arith
+abbrev pub KeepsKeys : Shelf → Shelf → Type 0
+KeepsKeys shelf shelf' = (i : Identity) (key height : ℕ) → IsPublished shelf i key height → IsPublished shelf' i key height
+
+pub keys-grow : {shelf shelf' : Shelf} → ShelfGrows shelf shelf' → KeepsKeys shelf shelf'
+keys-grow more i key height p = grind arith
 
 -- ---- the ways in which a table changes
 
@@ -71,24 +74,13 @@ pub put-cases : (slots slots' : Identity → Option Slot) (i : Identity) (new : 
     → ((j ≡ i) × (slot ≡ new)) ⊎ ((is_identity i j ≡ false) × (slots j ≡ Some slot))
 put-cases slots slots' i new puts j slot there = grind (arith, is-same, some-same)
 
-put-by : (v : ℕ) (shelf shelf' : Shelf) (i : Identity) (slot : Slot) → PutsSlot shelf.slots shelf'.slots i slot → SlotChanges v (shelf.slots i) (Some slot) → Changes v shelf shelf'
-put-by v shelf shelf' i slot puts at j = elim (cases_Bool (is_identity i j)) [
-  | inr e ↦ stays (puts.elsewhere j e)
-  | inl e ↦ subst (λ k. SlotChanges v (shelf.slots k) (shelf'.slots k)) (sym (is-same i j e)) (subst (λ o. SlotChanges v (shelf.slots i) o) (sym puts.at) at)
+fails-own : (v : ℕ) (shelf shelf' : Shelf) (i : Identity) (o : Option Slot) → shelf.slots i ≡ o
+    → shelf'.slots i ≡ if_there (λ (slot : Slot). Some (if nat_eq slot.worker v then with_outcome failed slot else slot)) None o → SlotChanges v (shelf.slots i) (shelf'.slots i)
+fails-own v shelf shelf' i None none is = stays (is ∙ sym none)
+fails-own v shelf shelf' i (Some slot) there is = elim (cases_Bool (nat_eq slot.worker v)) [
+  | inl own ↦ is-changed slot (with_outcome failed slot) there (grind (arith, nat_tests)) (rw own at is) (grind arith)
+  | inr own ↦ stays ((rw own at is) ∙ sym there)
 ]
-
-pub fails-own : (v : ℕ) (shelf shelf' : Shelf) → SameShelf (with_failed shelf v) shelf' → Changes v shelf shelf'
-fails-own v shelf shelf' same i = by (shelf.slots i) refl (same.slots i)
-  where
-    of-slot : (slot : Slot) → shelf.slots i ≡ Some slot → (b : Bool) → nat_eq slot.worker v ≡ b → shelf'.slots i ≡ Some (if b then with_outcome failed slot else slot)
-        → SlotChanges v (shelf.slots i) (shelf'.slots i)
-    of-slot slot there true own is = is-changed slot (with_outcome failed slot) there (grind (arith, nat_tests)) is (grind arith)
-    of-slot slot there false own is = stays (is ∙ sym there)
-
-    by : (o : Option Slot) → shelf.slots i ≡ o → shelf'.slots i ≡ if_there (λ (slot : Slot). Some (if nat_eq slot.worker v then with_outcome failed slot else slot)) None o
-        → SlotChanges v (shelf.slots i) (shelf'.slots i)
-    by None none is = stays (is ∙ sym none)
-    by (Some slot) there is = of-slot slot there (nat_eq slot.worker v) refl is
 
 -- What stands of each worker's to-do list and of the slots of its table after each event, without trees: the invariant of chains.
 
@@ -102,12 +94,12 @@ is_open_of i (to_set r through key height) = is_identity i (identity_of r)
 is_open_of i (to_publish r key height) = is_identity i (identity_of r)
 is_open_of i _ = false
 
-unfoldable pub is_open_in : Identity → List Todo → Bool
+abbrev pub is_open_in : Identity → List Todo → Bool
 is_open_in i [] = false
 is_open_in i (x ∷ todo) = is_open_of i x || is_open_in i todo
 
 -- written nodes and an item wait, and nothing else
-unfoldable pub AllWait : List Todo → Type 0
+abbrev pub AllWait : List Todo → Type 0
 AllWait [] = Unit {0}
 AllWait (to_finish o ∷ below) = AllWait below
 AllWait (to_item written keys ∷ below) = AllWait below
@@ -153,7 +145,7 @@ Stands shelf v task (to_release r key height) below = Meets shelf task (identity
 Stands shelf v task (to_fail fault back) below = Unit {0}
 
 -- of all of it; and nothing is to be done twice about one claim
-unfoldable pub AllStand : Shelf → ℕ → Task → List Todo → Type 0
+abbrev pub AllStand : Shelf → ℕ → Task → List Todo → Type 0
 AllStand shelf v task [] = Unit {0}
 AllStand shelf v task (x ∷ below) = Stands shelf v task x below × ((i : Identity) → is_open_of i x ≡ true → is_open_in i below ≡ false) × AllStand shelf v task below
 
@@ -187,7 +179,6 @@ pub record WorkStands (shelves : ℕ → Shelf) (walkings : ℕ → Option Walki
 
 -- below what is done next written nodes and an item wait again after a step
 pub follows-waits : {W : Type 0} (f : W → Written) (todo : List Todo) (step : Took W) (next : List Todo) → Follows f todo step next → WaitsWell todo → WaitsWell next
-unfolding AllWait
 follows-waits f x1 x2 next x4 waits = grind (arith, nat_tests)
 
 -- A worker's step keeps what stands of its to-do list and of its table.
@@ -201,10 +192,9 @@ module _ (u : ℕ) (task : Task) (shelf shelf' : Shelf) (more : ShelfGrows shelf
   -- where each claim that it is about is kept
   pub all-stay : (todo : List Todo) → ((i : Identity) → is_open_in i todo ≡ true → (slot : Slot) → shelf.slots i ≡ Some slot → slot.worker ≡ u → shelf'.slots i ≡ Some slot)
       → AllStand shelf u task todo → AllStand shelf' u task todo
-  unfolding AllStand is_open_in
   all-stay [] keeps all = tt
   all-stay (x ∷ below) keeps (stands, apart, rest) = (
-    (grind (arith, nat_tests, meets-grow, is-self, published-stays)),
+    (grind (arith, nat_tests, meets-grow, is-self, keys-grow)),
     apart,
     all-stay below (λ i is. keeps i (or_right (is_open_of i x) (is_open_in i below) is)) rest,
   )
@@ -216,7 +206,6 @@ module _ (v : ℕ) (task : Task) where
 
     -- what is open has a slot
     pub open-slot : (todo : List Todo) → AllStand shelf v task todo → is_open_in i todo ≡ true → (slot : Slot) × (shelf.slots i ≡ Some slot)
-    unfolding AllStand is_open_in
     open-slot [] all is = absurd (cc)
     open-slot (x ∷ below) (stands, apart, rest) is = elim (or_cases (is_open_of i x) (is_open_in i below) is) [ inl a ↦ (grind (arith, nat_tests, of-claim)) | inr b ↦ open-slot below rest b ]
 
@@ -239,13 +228,11 @@ module _ (v : ℕ) (task : Task) where
     plain answer todo done all covers = grind (arith, nat_tests, same-slots, all-stay, grows, or_right, is_failing, is_open_in, some-none)
 
     pub fails : (fault : Fault) (back : Option HandleNumber) → Goes shelf None shelf' (to_fail fault back ∷ [])
-    unfolding AllStand is_open_in
     fails fault back = grind (arith, nat_tests, same-slots, some-none)
 
     -- what stands at the front becomes something else about the same claim
     pub swaps : (x y : Todo) (below : List Todo) → AllStand shelf v task (x ∷ below) → CoversBy shelf (x ∷ below) → ((i : Identity) → is_open_of i y ≡ is_open_of i x)
         → (Stands shelf v task x below → Stands shelf v task y below) → Goes shelf None shelf' (y ∷ below)
-    unfolding AllStand is_open_in
     swaps x y below (stands, apart, rest) covers about goes = plain None (y ∷ below) (λ a is. absurd (cc)) (goes stands, grind (arith, nat_tests), rest) (grind (arith, nat_tests))
 
   among-drop : (k : ℕ) (rs : List ArcRef) (r : ArcRef) → Among (drop k rs) r → Among rs r
@@ -255,80 +242,38 @@ module _ (v : ℕ) (task : Task) where
   module _ (shelf : Shelf) where
     started : (place : ℕ) (rs : List ArcRef) (todo : List Todo) → ((r : ArcRef) → Among rs r → Meets shelf task (identity_of r)) → AllStand shelf v task todo
         → AllStand shelf v task (next_start place rs ++ todo)
-    unfolding AllStand
     started place x1 todo meets all = grind (arith, nat_tests)
 
     pub started-open : (i : Identity) (place : ℕ) (rs : List ArcRef) (todo : List Todo) → is_open_in i (next_start place rs ++ todo) ≡ is_open_in i todo
-    unfolding is_open_in
     started-open i place x2 todo = grind (arith, nat_tests)
 
     pub settles : (o : Open) (below : List Todo) → AllStand shelf v task (to_finish o ∷ below) → AllStand shelf v task (settle (to_finish o ∷ below))
-    unfolding AllStand
     settles o below x2 = search (rules, started, meets-below, among-drop)
 
     pub item-settles : (written : Written) (keys : List ℕ) (below : List Todo) → AllStand shelf v task (to_item written keys ∷ below) → AllStand shelf v task (settle (to_item written keys ∷ below))
-    unfolding AllStand
     item-settles written keys below x3 = search (rules, started, meets-of-item, among-drop)
 
     pub gives : (r : ArcRef) (key height : ℕ) (todo : List Todo) → AllStand shelf v task todo → AllStand shelf v task (give r key height todo)
-    unfolding AllStand
     gives r key height (to_finish o ∷ below) all = settles (record o { keys = o.keys ++ key ∷ []; height = max o.height (above r.kind.0 height) }) below all
     gives r key height (to_item written keys ∷ below) all = item-settles written (keys ++ key ∷ []) below all
     gives r key height x3 all = grind (arith, nat_tests)
 
     pub given-open : (i : Identity) (r : ArcRef) (key height : ℕ) (todo : List Todo) → is_open_in i (give r key height todo) ≡ is_open_in i todo
-    unfolding is_open_in
     given-open i r key height x4 = grind (arith, nat_tests, above, started-open)
 
 -- Each kind of a worker's step: what it does to its list and to the slots.
 
 module _ (v : ℕ) (task : Task) (shelf shelf' : Shelf) where
-  abbrev new-slot : Slot
-  new-slot = record { worker = v; written = None; outcome = no_result }
-
   -- an own slot changes, or comes, that hasn't failed and that the task meets
-  own-goes : (i : Identity) (new : Slot) (todo : List Todo) → PutsSlot shelf.slots shelf'.slots i new → Changes v shelf shelf' → Meets shelf' task i → is_failed new.outcome ≡ false
-      → AllStand shelf' v task todo → Covers shelf' v todo → Goes v task shelf None shelf' todo
-  own-goes i new todo puts changes meets good all covers = grind (arith, nat_tests, put-cases, some-none)
-
-  pub claimed : (r : ArcRef) (place : ℕ) (below : List Todo) → AllStand shelf v task (to_start r place ∷ below) → CoversBy v task shelf (to_start r place ∷ below) → shelf.slots (identity_of r) ≡ None
-      → PutsSlot shelf.slots shelf'.slots (identity_of r) new-slot → Goes v task shelf None shelf' (to_pin r place ∷ below)
-  unfolding AllStand is_open_in
-  claimed r place below (meets, apart, rest) covers none puts =
-      let changes : Changes v shelf shelf' = (put-by v shelf shelf' (identity_of r) new-slot puts (is-new new-slot none refl refl)) in
-      let meets_now : Meets shelf' task (identity_of r) = meets-grow shelf shelf' task (identity_of r) (grows v shelf shelf' changes) meets in
-      let free : is_open_in (identity_of r) below ≡ false =
-      false_from_ne_true (is_open_in (identity_of r) below) (λ is. let a = open-slot v task shelf (identity_of r) below rest is in some-none a.1 none) in
-      own-goes (identity_of r) new-slot _ puts changes meets_now refl (grind (arith, nat_tests, all-stay, false_from_ne_true, true-false, is-same, is-self))
-      (grind (arith, nat_tests, put-cases, identity_of, new-slot, is_open_in, or_right, is_identity, or_left, is-self))
-
-  pub written-goes : (r : ArcRef) (place : ℕ) (through : HandleNumber) (written : Written) (below : List Todo) → AllStand shelf v task (to_write r place through ∷ below)
-      → CoversBy v task shelf (to_write r place through ∷ below)
-      → SameShelf (with_changed_slot shelf (identity_of r) (λ slot. record slot { written = Some written })) shelf' → Goes v task shelf None shelf' (open_node r place through written below)
-  unfolding AllStand is_open_in
-  written-goes r place through written below ((meets, c), apart, rest) covers same =
-      let new : Slot = record c.slot { written = Some written } in
-      let puts : PutsSlot shelf.slots shelf'.slots (identity_of r) new = changes-slot shelf shelf' (identity_of r) c.slot (λ slot. record slot { written = Some written }) c.claimed same in
-      let changes : Changes v shelf shelf' = put-by v shelf shelf' (identity_of r) new puts (is-changed c.slot new c.claimed c.own refl (grind (arith, nat_tests, some-none))) in
-      let meets_now : Meets shelf' task (identity_of r) = meets-grow shelf shelf' task (identity_of r) (grows v shelf shelf' changes) meets in
-      let o : Open = record { reference = r; place = place; through = through; written = written; keys = []; height = 0 } in
-      own-goes (identity_of r) new _ puts changes meets_now (ap is_failed c.no_result_yet) (settles v task shelf' o below
-      (grind (arith, nat_tests, all-stay, false_from_ne_true, true-false, is-same, is-self))) (grind (arith, nat_tests, or_right, started-open, put-cases, is_identity, or_left, is-self))
-
-  pub published-goes : (r : ArcRef) (key height : ℕ) (below : List Todo) → AllStand shelf v task (to_publish r key height ∷ below) → CoversBy v task shelf (to_publish r key height ∷ below)
-      → SameShelf (with_changed_slot shelf (identity_of r) (with_outcome (published key height))) shelf' → Goes v task shelf None shelf' (to_release r key height ∷ below)
-  unfolding AllStand is_open_in
-  published-goes r key height below ((meets, c), apart, rest) covers same =
-      let new : Slot = with_outcome (published key height) c.slot in
-      let puts : PutsSlot shelf.slots shelf'.slots (identity_of r) new = changes-slot shelf shelf' (identity_of r) c.slot (with_outcome (published key height)) c.claimed same in
-      let changes : Changes v shelf shelf' = put-by v shelf shelf' (identity_of r) new puts (is-changed c.slot new c.claimed c.own refl (grind arith)) in
-      let meets_now : Meets shelf' task (identity_of r) = meets-grow shelf shelf' task (identity_of r) (grows v shelf shelf' changes) meets in
-      own-goes (identity_of r) new _ puts changes meets_now (grind arith) (grind (arith, nat_tests, all-stay, false_from_ne_true, true-false, is-same, is-self))
-      (grind (arith, nat_tests, put-cases, or_cases, true-false, is-same, is-self))
+  pub own-goes : (i : Identity) (new : Slot) (todo : List Todo) → PutsSlot shelf.slots shelf'.slots i new → SlotChanges v (shelf.slots i) (Some new) → Meets shelf task i
+      → is_failed new.outcome ≡ false → (Changes v shelf shelf' → Meets shelf' task i → AllStand shelf' v task todo) → Covers shelf' v todo → Goes v task shelf None shelf' todo
+  own-goes i new todo puts at meets good all covers =
+      let changes : Changes v shelf shelf' = λ j. elim (cases_Bool (is_identity i j)) [ inl e ↦ rw (is-same i j e, puts.at) at | inr e ↦ stays (puts.elsewhere j e) ] in
+      let now = meets-grow shelf shelf' task i (grows v shelf shelf' changes) meets in
+      let stands = all changes now in grind (arith, nat_tests, put-cases, some-none)
 
   pub failed-goes : (answer : WorkerAnswer) → SameShelf (with_failed shelf v) shelf' → Goes v task shelf (Some answer) shelf' []
-  unfolding AllStand is_open_in
-  failed-goes answer same = let changes = fails-own v shelf shelf' same in let slots = same.slots in grind (arith, nat_tests, some-none, some-same)
+  failed-goes answer same = let changes : Changes v shelf shelf' = λ i. fails-own v shelf shelf' i _ refl (same.slots i) in let slots = same.slots in grind (arith, nat_tests, some-none, some-same)
 
 -- What stands of all workers and tables goes on to stand, by what an event does to them.
 
@@ -370,7 +315,6 @@ module _ (v : ℕ) (shelves shelves' : ℕ → Shelf) (walkings walkings' : ℕ 
       grind (arith, nat_tests, each, met-stays, some-same, cases_Bool, nat_eq, same-worker)
 
 pub first-stands : (shelf : Shelf) (v : ℕ) (task : Task) → AllStand shelf v task (first_todo task)
-unfolding AllStand is_open_in
 first-stands shelf v (of_item written) = item-settles v (of_item written) shelf written [] [] ((refl, refl), (λ i is. absurd (cc)), tt)
 first-stands shelf v (of_entry h i) = (meets-entry h i refl, (λ j is. absurd (cc)), tt)
 
@@ -387,28 +331,21 @@ module _ (shelves shelves' : ℕ → Shelf) (walkings walkings' : ℕ → Option
       (λ i slot is own. same w.table i ∙ is) (λ i slot is own. sym (same w.table i) ∙ is) (work.workers 0 w (sym (stay 0) ∙ there)) in
       grind (arith, nat_tests, some-none, changes, stands, stay)
 
-  -- a worker that has no number yet has claimed nothing
-  unclaimed : (v t : ℕ) (i : Identity) (slot : Slot) → last < v → (shelves' t).slots i ≡ Some slot → slot.worker ≡ v → ⊥
-  unclaimed v t i slot above there own =
-      let s = work.slots t i slot (sym (same t i) ∙ there) in
-      let few = work.numbered slot.worker s.walking s.there in
-      omega arith
-
   pub is-started : (v : ℕ) (new : Walking) → last < v → new.todo ≡ first_todo new.task → new.answer ≡ None → walkings' v ≡ Some new
       → ((u : ℕ) → nat_eq u v ≡ false → walkings' u ≡ walkings u) → Turned v shelves shelves' walkings walkings'
-  unfolding AllWait
   is-started v new above first none at others =
+      -- a worker that has no number yet has claimed nothing
+      let unclaimed : (i : Identity) (slot : Slot) → (shelves' new.table).slots i ≡ Some slot → slot.worker ≡ v → ⊥ =
+      λ i slot there own. let s = work.slots new.table i slot (sym (same new.table i) ∙ there) in omega (arith, above, own, work.numbered slot.worker s.walking s.there) in
       let changes : (t : ℕ) → Changes v (shelves t) (shelves' t) = λ t. same-slots v (shelves t) (shelves' t) (same t) in
       let stands : (w : Walking) → walkings' v ≡ Some w → WalkingStands (shelves' w.table) v w = λ w there. subst (λ x. WalkingStands (shelves' x.table) v x) (some-same at there)
-      (let all = first-stands (shelves' new.table) v new.task in grind (arith, nat_tests, all, unclaimed v new.table, some-none)) in
+      (let all = first-stands (shelves' new.table) v new.task in grind (arith, nat_tests, all, unclaimed, some-none)) in
       grind (arith, nat_tests, some-none, changes, stands, work.numbered v)
 
 pub is-stepped : (v : ℕ) (shelves shelves' : ℕ → Shelf) (walkings walkings' : ℕ → Option Walking) (w now : Walking) → walkings v ≡ Some w → walkings' v ≡ Some now → now.table ≡ w.table
     → now.task ≡ w.task → ((u : ℕ) → nat_eq u v ≡ false → walkings' u ≡ walkings u) → ((t : ℕ) → nat_eq t w.table ≡ false → (i : Identity) → (shelves' t).slots i ≡ (shelves t).slots i)
     → HasNoFailed (shelves w.table) v → WaitsWell now.todo → Goes v w.task (shelves w.table) now.answer (shelves' w.table) now.todo → Turned v shelves shelves' walkings walkings'
 is-stepped v shelves shelves' walkings walkings' w now at at_now same_table same_task others elsewhere clean waits goes =
-    let changes : (t : ℕ) → Changes v (shelves t) (shelves' t) = λ t. change t (nat_eq t w.table) refl in grind (arith, nat_tests, same-worker, some-none, some-same, changes)
-  where
-    change : (t : ℕ) (b : Bool) → nat_eq t w.table ≡ b → Changes v (shelves t) (shelves' t)
-    change t true e = subst (λ n. Changes v (shelves n) (shelves' n)) (sym (same-worker t w.table e)) goes.changes
-    change t false e = same-slots v (shelves t) (shelves' t) (elsewhere t e)
+    let changes : (t : ℕ) → Changes v (shelves t) (shelves' t) = λ t.
+    elim (cases_Bool (nat_eq t w.table)) [ inl e ↦ rw (same-worker t w.table e) goes.changes | inr e ↦ same-slots v (shelves t) (shelves' t) (elsewhere t e) ] in
+    grind (arith, nat_tests, same-worker, some-none, some-same, changes)

@@ -1,12 +1,12 @@
 -- What tables and to-do lists hold of trees goes on as long as what is stored and each node's tree stay; and what a change of a table comes to.
-use Rattle.pagable_laws.proofs.Words.{EventReply, FollowsTo, HandleNumber, HoldsSettled, Identity, IsIdle, IsLawful, IsMachineWhole, IsPublished, List, MachineState, None, Ok, Option, ReadsItsTypes}
+use Rattle.pagable_laws.proofs.Words.{EventReply, FollowsTo, HandleNumber, HoldsSettled, Identity, IsLawful, IsMachineWhole, IsPublished, List, MachineState, None, Ok, Option, ReadsItsTypes}
 use Rattle.pagable_laws.proofs.Words.{Represents, Seen, Shelf, Site, Slot, Some, Task, Todo, Took, Tree, Values, WorkFits, Written, [], above, answer_after, ap, arith, blob_of, drop, give}
 use Rattle.pagable_laws.proofs.Words.{identity_of, if◌then◌else◌, inl, inr, is_eager, length, max, nat_eq, nat_tests, no_result, of_entry, of_item, refl, rules, subst, suc, sym, to_fail, to_finish}
 use Rattle.pagable_laws.proofs.{Coming.{EventTurns, StandsIn, same-grow, turns-grow, turns-keep}, Following.{IdentityStands, key-stands, leads-on, wrote}, Standing.{AllStand, HasClaim, PutsSlot}}
-use Rattle.pagable_laws.proofs.{Standing.{ShelfGrows, changes-slot, published-stays, put-cases, puts-slot, some-same}, Trees.followed-all, Words.{Among, ArcRef, Blob, Bool, Claim, Does, Event}}
+use Rattle.pagable_laws.proofs.{Standing.{KeepsKeys, ShelfGrows, changes-slot, keys-grow, put-cases, puts-slot, some-same}, Trees.followed-all, Words.{Among, ArcRef, Blob, Bool, Claim, Does, Event}}
 use Rattle.pagable_laws.specs.TreeSteps.{Expects, Ground, HasBlob, HasRoom, IsAttained, IsDone, IsLow, KeyStands, KeysSoFar, Placed, SlotFits, SlotsFit, Waits, Walks, WroteTree, ground_of}
 use Rattle.pagable_laws.{proofs.Words.{to_item, to_release, to_set, to_start, to_write, true, type_of, world_of, ℕ, ◌++◌, ◌+◌, ◌==◌, ◌∙◌, ◌∷◌, ◌≡◌, ◌≤◌}, specs.TreeSteps.{Above, AllLow, BlobStands}}
-use Rattle.pagable_world.specs.{Calls.Stores, Events.Ends, Headline.AreKeysOf, Pager.{ReplyWrites, TookWrites}, Plain.longest_path, Workers.{claim_fault, first_todo, give_known, is_open_outcome}}
+use Rattle.pagable_world.specs.{Calls.Stores, Events.Ends, Headline.AreKeysOf, Pager.{ReplyWrites, TookWrites}, Plain.longest_path, Workers.{claim_fault, first_todo, give_known}}
 use Rattle.pagable_world.specs.{Workers.{next_start, open_node, with_failed, with_outcome, with_wait}, World.{Fault, Open, digest, failed, published, to_publish}}
 
 -- ---- what is stored stays, and each node keeps its tree
@@ -16,16 +16,12 @@ pub record GroundGoes (g g' : Ground) : Type 0 where
   pub last : g.last ≤ g'.last
   pub trees : (n : ℕ) → n ≤ g.last → g'.trees n ≡ g.trees n
 
-abbrev pub KeepsKeys : Shelf → Shelf → Type 0
-KeepsKeys shelf shelf' = (i : Identity) (key height : ℕ) → IsPublished shelf i key height → IsPublished shelf' i key height
-
 module _ {shelf shelf' : Shelf} (keys : KeepsKeys shelf shelf') where
   pub keys-on : (rs : List ArcRef) (ks : List ℕ) → AreKeysOf shelf rs ks → AreKeysOf shelf' rs ks
   keys-on (r ∷ rs) (k ∷ ks) ((h, p), known) = ((h, keys (identity_of r) k h p), keys-on rs ks known)
   keys-on x0 x1 x2 = grind (arith, nat_tests)
 
   pub so-far-on : (height : ℕ) (rs : List ArcRef) (ks : List ℕ) → KeysSoFar shelf height rs ks → KeysSoFar shelf' height rs ks
-  unfolding KeysSoFar
   so-far-on height rs [] known = tt
   so-far-on height [] (k ∷ ks) known = absurd known
   so-far-on height (r ∷ rs) (k ∷ ks) ((h, p, le), known) = ((h, keys (identity_of r) k h p, le), so-far-on height rs ks known)
@@ -66,9 +62,6 @@ keys-same same i key height p = record { slot = p.slot; claimed = same i ∙ p.c
 
 -- ---- to-do lists, where a table grows
 
-pub keys-grow : {shelf shelf' : Shelf} → ShelfGrows shelf shelf' → KeepsKeys shelf shelf'
-keys-grow {shelf} {shelf'} more i key height p = published-stays shelf shelf' i key height more p
-
 module _ (shelf shelf' : Shelf) (more : ShelfGrows shelf shelf') where
   pub wait-on : (task : Task) (todo : List Todo) → Waits shelf task todo → Waits shelf' task todo
   unfolding Waits
@@ -88,20 +81,15 @@ module _ {N : Type 0} {v : Values N} {g g' : Ground} {shelf shelf' : Shelf} (goe
   slots-on same i slot is = slot-on v goes (keys-grow more) (fits i slot (sym (same i) ∙ is))
 
   pub slots-but : {i : Identity} {new : Slot} → PutsSlot shelf.slots shelf'.slots i new → SlotFits v g' shelf' i new → SlotsFit v g' shelf'
-  slots-but {i} {new} puts fits_new j slot now = elim (put-cases shelf.slots shelf'.slots i new puts j slot now) [
-    | inl e ↦ subst (λ (z : Slot). SlotFits v g' shelf' j z) (sym e.1) (subst (λ (z : Identity). SlotFits v g' shelf' z new) (sym e.0) fits_new)
-    | inr e ↦ slot-on v goes (keys-grow more) (fits j slot e.1)
-  ]
+  slots-but {i} {new} puts fits_new j slot now =
+      elim (put-cases shelf.slots shelf'.slots i new puts j slot now) [ inl e ↦ rw (e.1, e.0) fits_new | inr e ↦ slot-on v goes (keys-grow more) (fits j slot e.1) ]
 
-  module _ (n : ℕ) where
-    failed-fits : (i : Identity) (slot : Slot) (a b : Bool) → SlotFits v g' shelf' i slot → SlotFits v g' shelf' i (if a then (if b then record slot { outcome = failed } else slot) else slot)
-    failed-fits i slot x2 x3 fit = grind (arith, nat_tests)
-
-    pub slots-failed : ((i : Identity) → shelf'.slots i ≡ (with_failed shelf n).slots i) → SlotsFit v g' shelf'
-    slots-failed same i slot' now =
-        let is = sym (same i) ∙ now in
-        let c : (old : Slot) × (shelf.slots i ≡ Some old) × ((if nat_eq old.worker n then with_outcome failed old else old) ≡ slot') = grind (arith, nat_tests) in
-        subst (λ (z : Slot). SlotFits v g' shelf' i z) c.2 (failed-fits i c.0 (nat_eq c.0.worker n) (is_open_outcome c.0.outcome) (slot-on v goes (keys-grow more) (fits i c.0 c.1)))
+  pub slots-failed : (n : ℕ) → ((i : Identity) → shelf'.slots i ≡ (with_failed shelf n).slots i) → SlotsFit v g' shelf'
+  slots-failed n same i slot' now =
+      let is = sym (same i) ∙ now in
+      let c : (old : Slot) × (shelf.slots i ≡ Some old) × ((if nat_eq old.worker n then with_outcome failed old else old) ≡ slot') = grind (arith, nat_tests) in
+      let fit : SlotFits v g' shelf' i c.0 = slot-on v goes (keys-grow more) (fits i c.0 c.1) in
+      subst (λ (z : Slot). SlotFits v g' shelf' i z) c.2 (grind (arith, nat_tests, fit.given, fit.typed, fit.writes, fit.publishes))
 
 module _ {N : Type 0} {v : Values N} {g g' : Ground} {shelf : Shelf} (shelf' : Shelf) (goes : GroundGoes g g') (more : ShelfGrows shelf shelf') (fits : SlotsFit v g shelf) where
   pub walks-on : (task : Task) (todo : List Todo) → Walks v g shelf task todo → Walks v g' shelf' task todo
@@ -113,18 +101,15 @@ module _ (shelf : Shelf) where
   -- one more key is known, where the height grows
   so-far-more : (h k : ℕ) (rs : List ArcRef) (ks : List ℕ) (r : ArcRef) (more : List ArcRef) (key below : ℕ) → h ≤ k → above r.kind.0 below ≤ k → drop (length ks) rs ≡ r ∷ more
       → KeysSoFar shelf h rs ks → IsPublished shelf (identity_of r) key below → KeysSoFar shelf k rs (ks ++ key ∷ [])
-  unfolding KeysSoFar
   so-far-more h k [] (x ∷ ks) r more key below le new e known p = absurd known
   so-far-more h k (x ∷ rs) (y ∷ ks) r more key below le new e ((b, q, few), known) p = ((b, q, omega arith), so-far-more h k rs ks r more key below le new e known p)
   so-far-more h k x2 x3 r more key below le new e x11 p = grind (arith, nat_tests, identity_of, above)
 
   pub all-known : (h : ℕ) (rs : List ArcRef) (ks : List ℕ) → length ks ≡ length rs → KeysSoFar shelf h rs ks → AreKeysOf shelf rs ks
-  unfolding KeysSoFar
   all-known h (r ∷ rs) (k ∷ ks) e ((b, q, few), known) = ((b, q), all-known h rs ks (omega arith) known)
   all-known h x0 x1 e x3 = grind (arith, nat_tests)
 
   pub all-low : (h : ℕ) (rs : List ArcRef) (ks : List ℕ) → length ks ≡ length rs → KeysSoFar shelf h rs ks → AllLow shelf h rs
-  unfolding KeysSoFar
   all-low h (y ∷ rs) (k ∷ ks) e (one, low) r (suc i, there) = all-low h rs ks (omega arith) low r (i, there)
   all-low h x1 x2 e x4 r x6 = grind (arith, nat_tests)
 
@@ -214,21 +199,13 @@ module _ {N B W : Type 0} (m : Seen N B W) (n : ℕ) {g g' : Ground} (task : Tas
         let wrote = a.2.written o.written claim.written_so in
         let fit = kept (identity_of o.reference) a.0 a.1 in
         let first = so-far-on (keys-grow more) o.height o.written.references o.keys known in
-        let known' = all-known s'.shelf o.height o.written.references o.keys all first in (
-          record {
-            slot = a.0;
-            written = o.written;
-            claimed = a.1;
-            wrote = wrote;
-            stands =
-                let right = key-stands o.keys (stands-for m.values g' s'.shelf kept) (fit.writes o.written wrote) known' there is in
-                let small : o.height ≤ longest_path = omega arith in
-                let most : IsAttained s'.shelf o.height o.written.references = attained-on (keys-grow more) o.height o.written.references attained in
-                search (known', there, right, small, all-low s'.shelf o.height o.written.references o.keys all first, most);
-          },
-          reach,
-          still o.reference below (expects, waits),
-        )
+        let known' = all-known s'.shelf o.height o.written.references o.keys all first in
+        let right = key-stands o.keys (stands-for m.values g' s'.shelf kept) (fit.writes o.written wrote) known' there is in
+        let small : o.height ≤ longest_path = omega arith in
+        let most : IsAttained s'.shelf o.height o.written.references = attained-on (keys-grow more) o.height o.written.references attained in
+        let stands : BlobStands m.values g' s'.shelf o.reference.node.0 o.written key o.height =
+        search (known', there, right, small, all-low s'.shelf o.height o.written.references o.keys all first, most) in
+        (record { slot = a.0; written = o.written; claimed = a.1; wrote = wrote; stands = stands }, reach, still o.reference below (expects, waits))
 
   abbrev Puts : ArcRef → Slot → Type 0
   Puts r slot = PutsSlot s.shelf.slots s'.shelf.slots (identity_of r) slot
@@ -236,17 +213,12 @@ module _ {N B W : Type 0} (m : Seen N B W) (n : ℕ) {g g' : Ground} (task : Tas
   writes : (r : ArcRef) (place : ℕ) (through : HandleNumber) (below : List Todo) (written : Written) (claim : HasClaim s.shelf n (identity_of r) (λ w. w ≡ None))
       → WroteTree m.values.types g r.node.0 written
       → Puts r (record claim.slot { written = Some written }) → Placed s.shelf task r place below → s'.todo ≡ open_node r place through written below → Fits
-  unfolding Waits KeysSoFar
+  unfolding Waits
   writes r place through below written claim w puts (at, few, above) e =
       let fit = fits (identity_of r) claim.slot claim.claimed in
       let on : SlotFits m.values g' s'.shelf (identity_of r) claim.slot = slot-on m.values goes (keys-grow more) fit in
-      let fits_new : SlotFits m.values g' s'.shelf (identity_of r) (record claim.slot { written = Some written }) =
-      record {
-        given = on.given;
-        typed = on.typed;
-        writes = λ w2 there. let same : written ≡ w2 = cc in subst (λ (z : Written). WroteTree m.values.types g' r.node.0 z) same (wrote-on m.values goes fit.given w);
-        publishes = λ key height known. let f = claim.no_result_yet in absurd (cc);
-      } in
+      let now = wrote-on m.values goes fit.given w in let none = claim.no_result_yet in
+      let fits_new : SlotFits m.values g' s'.shelf (identity_of r) (record claim.slot { written = Some written }) = grind (arith, nat_tests, on.given, on.typed) in
       let a = still r below above in
       did (slots-but goes more fits puts fits_new) e
       (started-node m.values g' s'.shelf task (record { reference = r; place = place; through = through; written = written; keys = []; height = 0 }) below _ refl
@@ -258,17 +230,12 @@ module _ {N B W : Type 0} (m : Seen N B W) (n : ℕ) {g g' : Ground} (task : Tas
   module _ (step : Took W) (wrote : (i : Identity) (out : W) → step ≡ Took.Write i (Ok out) → WroteTree m.values.types g i.node.0 (m.written_of out))
       (ends : answer_after s.todo step ≡ None → (key : ℕ) (b : Blob) → s'.core.stored key ≡ Some b → g'.stored key ≡ Some b) where
     stepped : (todo : List Todo) → s.todo ≡ todo → (took : Took W) → step ≡ took → Does m n s todo took s' → AllStand s.shelf n task todo → Walks m.values g s.shelf task todo → Fits
-    unfolding AllStand
     stepped (to_start r place ∷ below) e (Took.Claim i (Ok Claim.Claimed)) st (is, c) all (at, above) =
         let t = c.finds.1.2 in
         let ok = claimable r c.finds.0 in
-        let new : Slot = record { worker = n; written = None; outcome = no_result } in
-        let fits_new : SlotFits m.values g' s'.shelf (identity_of r) new = record {
-          given = let le = ok.0 in let more = goes.last in omega arith;
-          typed = ap (λ (t : Tree). t.type) (goes.trees r.node.0 ok.0) ∙ ok.1;
-          writes = λ w there. absurd (cc);
-          publishes = λ key height known. absurd (cc);
-        } in
+        let new : Slot = record { worker = n; written = None; outcome = no_result } in let more_last = goes.last in
+        let typed : (g'.trees r.node.0).type ≡ type_of r.kind.0 = ap (λ (t : Tree). t.type) (goes.trees r.node.0 ok.0) ∙ ok.1 in
+        let fits_new : SlotFits m.values g' s'.shelf (identity_of r) new = grind (arith, nat_tests) in
         did (slots-but goes more fits (puts-slot (with_wait s.shelf n None) s'.shelf (identity_of r) new t.table_is) fits_new) t.list_is (at, c.finds.1.0, still r below above)
     stepped (to_start r place ∷ below) e (Took.Claim i (Ok (Claim.Known key height))) st (is, c) all (at, above) =
         let t = c.finds.1.2 in let a = still r below above in
@@ -285,22 +252,13 @@ module _ {N B W : Type 0} (m : Seen N B W) (n : ℕ) {g g' : Ground} (task : Tas
     stepped (to_publish r key height ∷ below) e (Took.Publish i k h) st (is, same_key, same_height, t) (stands, apart, all) (blob, reach, above) =
         let claim = stands.1 in
         let no_result_yet : blob.slot.outcome ≡ no_result = ap (λ (z : Slot). z.outcome) (some-same blob.claimed claim.claimed) ∙ claim.no_result_yet in
-        let new : with_outcome (published key height) blob.slot ≡ record blob.slot { outcome = published key height } = rw no_result_yet refl in
-        let puts : Puts r (record blob.slot { outcome = published key height }) =
-        subst (λ z. Puts r z) new (changes-slot s.shelf s'.shelf (identity_of r) blob.slot (with_outcome (published key height)) blob.claimed t.table_is) in
+        let puts = rw no_result_yet at (changes-slot s.shelf s'.shelf (identity_of r) blob.slot (with_outcome (published key height)) blob.claimed t.table_is) in
         let fit = fits (identity_of r) blob.slot blob.claimed in
         let on : SlotFits m.values g' s'.shelf (identity_of r) blob.slot = slot-on m.values goes (keys-grow more) fit in
-        let fits_new : SlotFits m.values g' s'.shelf (identity_of r) (record blob.slot { outcome = published key height }) = record {
-          given = on.given;
-          typed = on.typed;
-          writes = on.writes;
-          publishes = λ k h known. let same : key ≡ k = cc in let equal : height ≡ h = cc in (
-            blob.written,
-            blob.wrote,
-            subst (λ x. BlobStands m.values g' s'.shelf r.node.0 blob.written k x) equal
-                (subst (λ z. BlobStands m.values g' s'.shelf r.node.0 blob.written z height) same (blob-on m.values goes (keys-grow more) fit.given blob.stands)),
-          );
-        } in
+        let stands = blob-on m.values goes (keys-grow more) fit.given blob.stands in
+        let publishes : (k h : ℕ) → published key height ≡ published k h → (w : Written) × (blob.slot.written ≡ Some w) × BlobStands m.values g' s'.shelf r.node.0 w k h =
+        λ k h known. let same : key ≡ k = cc in let equal : height ≡ h = cc in (blob.written, blob.wrote, rw (← same, ← equal) stands) in
+        let fits_new : SlotFits m.values g' s'.shelf (identity_of r) (record blob.slot { outcome = published key height }) = search (on.given, on.typed, on.writes, publishes) in
         did (slots-but goes more fits puts fits_new) t.list_is (record { slot = record blob.slot { outcome = published key height }; claimed = puts.at; known = refl }, reach, still r below above)
     stepped (to_release r key height ∷ below) e (Took.Release i) st (is, falls, t) all (p, reach, above) =
         let a = still r below above in did (kept t.table_stays.slots) t.list_is (given m.values g' s'.shelf task r key height (keys-grow more _ _ _ p) below reach a.0 a.1)
@@ -308,9 +266,6 @@ module _ {N B W : Type 0} (m : Seen N B W) (n : ℕ) {g g' : Ground} (task : Tas
     stepped _ e step st does all walks = grind (arith, nat_tests, fails, did, kept, still, finishes, stored-so, given-known, given, keys-grow, has-blob-on, slots-failed)
 
 -- Page-outs by trees: what tables and workers hold fits at first and after each event.
-
-pub fits-at-first : {N E : Type 0} (v : Values N) (s : MachineState N E) (trees : ℕ → Tree) → IsIdle s → WorkFits v s trees
-fits-at-first v s trees idle = record { slots = λ t i slot is. let f = idle.shelves t i in absurd (cc); walks = λ n walking is. let f = idle.walkings n in absurd (cc) }
 
 module _ {N B W E : Type 0} (m : Seen N B W) (s s' : MachineState N E) (trees trees' : ℕ → Tree) (goes : GroundGoes (ground_of s trees) (ground_of s' trees')) (fit : WorkFits m.values s trees)
     (whole : IsMachineWhole m.values s) (represents : Represents m.values s.pager trees) (settled : HoldsSettled m.values s.pager) (reads : ReadsItsTypes m.values.types)
@@ -322,7 +277,7 @@ module _ {N B W E : Type 0} (m : Seen N B W) (s s' : MachineState N E) (trees tr
   claimable r may = grind (arith, nat_tests)
 
   starts-well : (shelf : Shelf) (task : Task) → Walks m.values g' shelf task (first_todo task)
-  unfolding Waits KeysSoFar
+  unfolding Waits
   starts-well shelf (of_item written) = started-item m.values g' shelf (of_item written) written [] [] _ refl (refl, tt)
   starts-well shelf (of_entry h i) = (refl, (refl, tt))
 
@@ -340,5 +295,5 @@ module _ {N B W E : Type 0} (m : Seen N B W) (s s' : MachineState N E) (trees tr
       r.took (λ i out is. wrote represents whole.pager settled reads lawful i.node.0 (m.written_of out)
       (subst (λ (t : Took W). TookWrites m.values m.written_of s.pager t) is (grind (arith, nat_tests))))
       ends w.walking.todo refl r.took refl w.does.does (work.workers k.0 w.walking w.at).all (fit.walks k.0 w.walking w.at) in
-      (d.slots, d.walks)) in
+      (d.slots, d.walks)) turns.own in
       record { slots = h.slots; walks = h.walks }

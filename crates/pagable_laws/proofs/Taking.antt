@@ -1,13 +1,12 @@
 -- What a load reads goes on fitting, whatever it gets, and fits after its step; and a node whose value is in memory gives its tree, as does what a load of a key answers.
-use Rattle.pagable_laws.proofs.Words.{List, LoadNumber, MachineState, None, OpenLoad, Option, OptionalDataKey, Owner, PagerState, Reading, ReadingFeels, ReadingFits, ReadsItsTypes, ReadsRoot}
-use Rattle.pagable_laws.proofs.Words.{ReadsTree, Represents, Some, Tree, Types, ValueStands, Values, WellFormed, [], ap, arith, bears_known, held, inl, inr, is_eager, is_pinning, is_some, length}
+use Rattle.pagable_laws.proofs.Words.{IsReference, Kind, List, LoadNumber, MachineState, None, OpenLoad, Option, OptionalDataKey, Owner, PagerState, Reading, ReadingFeels, ReadingFits, ReadsItsTypes}
+use Rattle.pagable_laws.proofs.Words.{ReadsRoot, ReadsTree, Represents, Some, Tree, Types, ValueStands, Values, WellFormed, [], ap, arith, bears_known, held, inl, inr, is_eager, is_pinning, length}
 use Rattle.pagable_laws.proofs.Words.{length-append, nat_tests, next_in, one, pins, refl, root_frame, row_at, slice_get, slice_get_within, subst, suc, sym, true, type_of, zero, ℕ, ◌++◌, ◌+◌, ◌<◌, ◌∙◌}
-use Rattle.pagable_laws.proofs.{Apart.{FramesAsked, none-got, one-got}, Decoding.{asks_next, decodes, read_stands}, Following.{cell-of, given-of}, Goes.among-found, Trees.{at-most-sum, followed-all}}
-use Rattle.pagable_laws.proofs.{Trees.{same_some, self-number}, Words.{Among, ArcRef, Blob, Change, Core, Frame, FramesFit, HandleNumber, HandleRow, HandlesAreWhole, IsLawful, IsReference, Kind}}
-use Rattle.pagable_laws.{proofs.Words.{◌∷◌, ◌≡◌, ◌≤◌, ◌⊎◌}, specs.TreeSteps.{ChangeFits, CoreGoes, Decoded, FramesGiven, FramesHeld, GetsRow, GotStands, IsFresh, KeepsStored, Needs, gets-known}}
-use Rattle.pagable_world.specs.{Loads.{Next, ReadsNode, asks, gone_on, need_at, need_of, needs_lazy, needs_nested, nested_frame, to_adopt, with_got}, Pager.{FrameFits, IsReadingOf, IsWhole}}
-use Rattle.{pagable_laws.specs.TreeSteps.{gets-lazy, makes-known, makes-node, reading-ends, reads-blob, reads-root}, pagable_world.specs.{Headline.{GivesTree, ReadIsRight}, Kinds.{is_at, is_pin}}}
-use Rattle.{pagable_world.specs.Pager.{NodeStands, ReadsNodeTree, SameTrees}, std.specs.Prelude.nat_lt}
+use Rattle.pagable_laws.proofs.{Decoding.{FramesAsked, asks_next, decodes, none-got, one-got, read_stands}, Trees.{at-most-sum, followed-all, same_some, self-number}, Words.{◌∷◌, ◌≡◌, ◌≤◌, ◌⊎◌}}
+use Rattle.pagable_laws.proofs.{Following.{cell-of, given-of}, Goes.among-found, Words.{Among, ArcRef, Blob, Change, Core, Frame, FramesFit, HandleNumber, HandleRow, HandlesAreWhole, IsLawful}}
+use Rattle.pagable_laws.specs.TreeSteps.{ChangeFits, CoreGoes, Decoded, FramesGiven, FramesHeld, GetsRow, GotStands, IsFresh, KeepsStored, Needs, gets-known, gets-lazy, makes-known, makes-node}
+use Rattle.pagable_world.specs.{Loads.{need_at, need_of, needs_lazy, needs_nested, nested_frame, to_adopt, with_got}, Pager.{FrameFits, IsReadingOf, IsWhole, NodeStands, ReadsNodeTree, SameTrees}}
+use Rattle.{pagable_laws.specs.TreeSteps.{reading-ends, reads-blob, reads-root}, pagable_world.specs.{Headline.{GivesTree, ReadIsRight}, Kinds.{is_at, is_pin}, Loads.{Next, ReadsNode, asks, gone_on}}}
 
 pub asked : (below : List Frame) (next : Next) (kind : Kind) (key : ℕ) → (need_at below next ≡ needs_nested kind key) ⊎ (need_at below next ≡ needs_lazy kind key) → next ≡ asks kind key
 asked x0 x1 kind key x4 = grind (arith, nat_tests)
@@ -126,8 +125,7 @@ pub pin_stands : {N E : Type 0} {v : Values N} (s : PagerState N E) (trees : ℕ
     → is_pinning row.mode ≡ true → GivesTree v s trees k
 pin_stands {N} s trees k row whole represents live pinning =
     let held_there = row-held s.core k row live in
-    let a : nat_lt 0 (pins row.node.0 s.core.rows) ≡ true = (let p = row-pins s.core k row live pinning in grind (arith, nat_tests)) in
-    let there : is_some (s.values row.node.0) ≡ true = whole.valued row.node.0 ∙ rw (cell-of whole.whole.handles row.node.0 held_there, a) refl in
+    let p = row-pins s.core k row live pinning in let valued = whole.valued row.node.0 in let cell = cell-of whole.whole.handles row.node.0 held_there in
     let x : (x : N) × (s.values row.node.0 ≡ Some x) = grind (arith, nat_tests) in
     record { row = row; x = x.0; live = live; held = x.1; stands = stands-here (represents.stands row.node.0 held_there) x.1 }
 
@@ -203,25 +201,23 @@ module _ {N : Type 0} {v : Values N} {w w' : Core} {trees trees' : ℕ → Tree}
   known-reads h kind key n known = node-stays h.goes.stored (h.same n (h.before.cache kind.0 key n known).given) (h.cache kind.0 key n known)
 
   module _ (l : LoadNumber) (k t : ℕ) {c : Change} (h : AtStep v c w w' trees trees') where
-    abbrev Now : List Frame → Type 0
-    Now frames = FitAfter v w' trees' l k t frames
-
     -- what it had read fits still
-    pub fit-still : (frames : List Frame) → FitAfter v w trees l k t frames → Now frames
+    pub fit-still : (frames : List Frame) → FitAfter v w trees l k t frames → FitAfter v w' trees' l k t frames
     fit-still frames f = search (frames-stay, h.goes.stored, h.same, given-nodes, f.held, f.fit, frames-on, h.goes, f.asked)
 
     fit-got : (frames : List Frame) (kind : Kind) (key n : ℕ) (row : HandleRow) → Needs v.types frames kind key → GetsRow w w' kind n row
-        → ReadsNodeTree v.types w'.stored trees' key (type_of kind.0) n → Now frames → Now (with_got kind row frames)
+        → ReadsNodeTree v.types w'.stored trees' key (type_of kind.0) n → FitAfter v w' trees' l k t frames → FitAfter v w' trees' l k t (with_got kind row frames)
     fit-got frames kind key n row needs got reads_n f =
         let read = subst (λ m. ReadsNodeTree v.types w'.stored trees' key (type_of kind.0) m) (sym got.at) reads_n in
         let held = all-more (GotStands w' l) frames kind row (got-new l kind n row h.after.handles got) f.held in
         search (needed-fits v.types k t w'.stored trees' frames kind key row f.fit needs read, held, needed-asked v.types frames kind key row f.asked needs)
 
     fit-made : (reading : Reading) (x : N) (made : ReadsNode v reading x) (n : ℕ) (row : HandleRow) → GetsRow w w' made.top.kind n row
-        → ReadsNodeTree v.types w'.stored trees' made.top.key (type_of made.top.kind.0) n → Now reading.frames → Now (with_got made.top.kind row made.below)
+        → ReadsNodeTree v.types w'.stored trees' made.top.key (type_of made.top.kind.0) n → FitAfter v w' trees' l k t reading.frames
+        → FitAfter v w' trees' l k t (with_got made.top.kind row made.below)
     fit-made reading x made n row got reads_n f =
         let read = subst (λ m. ReadsNodeTree v.types w'.stored trees' made.top.key (type_of made.top.kind.0) m) (sym got.at) reads_n in
-        let g = subst Now made.frames f in
+        let g = subst (FitAfter v w' trees' l k t) made.frames f in
         let held = all-more (GotStands w' l) made.below made.top.kind row (got-new l made.top.kind n row h.after.handles got) (λ frame r among there. g.held frame r (suc among.0, among.1) there) in
         search (made-fits v.types k t w'.stored trees' made.top made.below row g.fit read, held, made-asked v.types made.top made.below row g.asked)
 

@@ -115,6 +115,3 @@ pub record NextIsOne (types : Types) (frame : Frame) : Type 0 where
   pub read_or_asks : (own : Meaning ArcRef) (kind : Kind) (key : ℕ) → next_in types frame ≡ reads own → next_in types frame ≡ asks kind key → ⊥
   pub read_or_faulty : (own : Meaning ArcRef) (e : Error) → next_in types frame ≡ reads own → next_in types frame ≡ is_faulty e → ⊥
   pub asks_or_faulty : (kind : Kind) (key : ℕ) (e : Error) → next_in types frame ≡ asks kind key → next_in types frame ≡ is_faulty e → ⊥
-
-abbrev pub NextIsOneOf : Type 0
-NextIsOneOf = (types : Types) (frame : Frame) → NextIsOne types frame

@@ -40,9 +40,6 @@ Means s bytes m left = reads s bytes ≡ Ok (m, rest left [])
 abbrev pub types_of : (ℕ → Option Shape) → Types
 types_of nodes = record { nodes = nodes; parts = no_parts }
 
-abbrev pub no_nodes : ℕ → Option Shape
-no_nodes n = None
-
 -- what is written under the tag Cat alone: nothing more
 abbrev pub only_cat : List ℕ → Shape
 only_cat tag = if bytes_eq tag (codes "Cat") then nothing else unwritten
@@ -164,7 +161,7 @@ abbrev pub ReferencesTakeKeys : Type 0
 ReferencesTakeKeys =
     IsRefused (optional (reference 1)) (0x01 ∷ []) Error.NoMoreKeys
     × Means (optional (reference 1)) (0x00 ∷ 0xFF ∷ []) absent (0xFF ∷ [])
-    × (read (blob_context (types_of no_nodes)) (optional (reference 1)) (rest (0x01 ∷ []) (5 ∷ 6 ∷ [])) ≡ Ok (present (meanings.reference (key_ref 1 5)), rest [] (6 ∷ [])))
+    × (read (blob_context (types_of (λ n. None))) (optional (reference 1)) (rest (0x01 ∷ []) (5 ∷ 6 ∷ [])) ≡ Ok (present (meanings.reference (key_ref 1 5)), rest [] (6 ∷ [])))
 
 -- A tag that isn't registered is written, and not read; so is a case.
 abbrev pub UnknownTagsAreWritten : Type 0

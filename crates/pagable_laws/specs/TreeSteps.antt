@@ -301,14 +301,14 @@ Holds w v (to_publish r key height) = (is_loose_kind r.kind.0 ≡ true → KeyIs
 Holds w v _ = Unit {0}
 
 -- nothing waits but written nodes, of which the same is held, and an item
-unfoldable pub WaitsHeld : Core → List Todo → Type 0
+abbrev pub WaitsHeld : Core → List Todo → Type 0
 WaitsHeld w [] = Unit {0}
 WaitsHeld w (to_finish o ∷ below) = StandsAt w o.reference o.through × WaitsHeld w below
 WaitsHeld w (to_item written keys ∷ below) = WaitsHeld w below
 WaitsHeld w (x ∷ below) = ⊥
 
 -- of all that is to be done
-unfoldable pub AllHold : Core → ℕ → List Todo → Type 0
+abbrev pub AllHold : Core → ℕ → List Todo → Type 0
 AllHold w v [] = Unit {0}
 AllHold w v (x ∷ below) = Holds w v x × WaitsHeld w below
 
@@ -389,25 +389,21 @@ pub record SlotFits {N : Type 0} (v : Values N) (g : Ground) (shelf : Shelf) (i 
   pub publishes : (key height : ℕ) → slot.outcome ≡ published key height → (written : Written) × (slot.written ≡ Some written) × BlobStands v g shelf i.node.0 written key height
 
 -- the keys that are known of the first of the references, which add no more than this to a height
-unfoldable pub KeysSoFar : Shelf → ℕ → List ArcRef → List ℕ → Type 0
+abbrev pub KeysSoFar : Shelf → ℕ → List ArcRef → List ℕ → Type 0
 KeysSoFar shelf height rs [] = Unit {0}
 KeysSoFar shelf height [] (k ∷ ks) = ⊥
 KeysSoFar shelf height (r ∷ rs) (k ∷ ks) = ((below : ℕ) × IsPublished shelf (identity_of r) k below × (above r.kind.0 below ≤ height)) × KeysSoFar shelf height rs ks
-
--- the reference is the next one after those whose keys are known
-abbrev pub IsNextOf : List ArcRef → List ℕ → ArcRef → Type 0
-IsNextOf rs keys r = (more : List ArcRef) × (drop (length keys) rs ≡ r ∷ more)
 
 -- the reference is that of the task's entry
 abbrev pub IsOfEntry : Task → ArcRef → Type 0
 IsOfEntry (of_entry h i) r = identity_of r ≡ i
 IsOfEntry (of_item written) r = ⊥
 
--- what waits below is for this reference; and where nothing waits, it is that of the task's entry
+-- what waits below is for this reference, the next one after those whose keys are known; and where nothing waits, it is that of the task's entry
 abbrev pub Expects : Task → ArcRef → List Todo → Type 0
 Expects task r [] = IsOfEntry task r
-Expects task r (to_finish o ∷ below) = IsNextOf o.written.references o.keys r
-Expects task r (to_item written keys ∷ below) = IsNextOf written.references keys r
+Expects task r (to_finish o ∷ below) = (more : List ArcRef) × (drop (length o.keys) o.written.references ≡ r ∷ more)
+Expects task r (to_item written keys ∷ below) = (more : List ArcRef) × (drop (length keys) written.references ≡ r ∷ more)
 Expects task r (x ∷ below) = ⊥
 
 -- the place of a reference over what waits for it

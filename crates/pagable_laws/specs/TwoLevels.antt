@@ -1,15 +1,15 @@
 -- A chain of moments of two levels. A value is a leaf, of the type 1, which has no byte; or a parent, of the type 0, which is a reference to a leaf through a loose handle. Both are born, an item that
 -- refers to the parent is paged out, the parent is evicted with its child and is read again, and the child's key is read.
 use Rattle.std.specs.Prelude.{Bool, List, None, Ok, Option, Some, [], if◌then◌else◌, length, not, suc, zero, ℕ, ◌&&◌, ◌++◌, ◌+◌, ◌==◌, ◌∷◌, ◌≡◌}
-use Rattle.pagable_world.specs.World.{digest, no_result, of_cell, of_item, of_key, published, to_finish, to_item, to_pin, to_publish, to_release, to_set, to_start, to_write}
-use Rattle.pagable_world.specs.declared.{answers.Beginning.Beginning, calls.{Call.Call, Reply.Reply}, events.{Claim.Claim, Event.Event, EventReply.EventReply, LoadAnswer.LoadAnswer, PinStep.PinStep}}
-use Rattle.pagable_world.specs.declared.{events.{Took.Took, WorkerAnswer.WorkerAnswer}, handles.Owner.Owner, rows.Mode.Mode}
+use Rattle.{pagable_laws.specs.FallLaws.{empty, no_work, outer}, pagable_model.specs.{Meaning.{none, reference}, Merkle.blob_of}, pagable_world.specs.Calls.{is_named_by, moved, next_node}}
 use Rattle.pagable_world.specs.{Calls.{with_handle, with_key, with_mode, with_node}, Cascade.{fallen, nobody}, Events.{no_shelf, with_worker}, Headline.Headline, Kinds.{identity_of, owner_value}}
 use Rattle.pagable_world.specs.{Kinds.{owner_worker, pins}, LoadCalls.{adopted, is_owned_in, with_load, with_pin, without_load}, Loads.{gone_on, root_frame}, Pager.{IsIdle, IsMachineWhole}}
 use Rattle.pagable_world.specs.{Pager.{MachineState, StandsFor}, Plain.{ArcRef, Blob, HandleNumber, LoadNumber, Meaning, NodeNumber, OptionalDataKey, Tree, Types, if_there, is_in, updated}}
 use Rattle.pagable_world.specs.{Runs.{AreMoments, HoldsSettled, IsPremised, Moment, ReadsItsTypes}, Workers.{answer_after, first_todo, fresh, give, is_workers, is_workers_at, open_node}}
 use Rattle.pagable_world.specs.{Workers.{with_changed_slot, with_outcome, with_slot, with_wait, without_worker}, World.{Core, IsLawful, Reading, Seen, Shelf, Todo, Values, Walking, Work, Written}}
-use Rattle.{pagable_laws.specs.FallLaws.{empty, no_work, outer}, pagable_model.specs.{Meaning.{none, reference}, Merkle.blob_of}, pagable_world.specs.Calls.{is_named_by, moved, next_node}}
+use Rattle.pagable_world.specs.World.{digest, no_result, of_cell, of_item, of_key, published, to_finish, to_item, to_pin, to_publish, to_release, to_set, to_start, to_write}
+use Rattle.pagable_world.specs.declared.{answers.Beginning.Beginning, calls.{Call.Call, Reply.Reply}, events.{Claim.Claim, Event.Event, EventReply.EventReply, LoadAnswer.LoadAnswer, PinStep.PinStep}}
+use Rattle.pagable_world.specs.declared.{events.{Took.Took, WorkerAnswer.WorkerAnswer}, handles.Owner.Owner, rows.Mode.Mode}
 use Rattle.pagable_model.specs.Shape as shapes
 
 pub data Sample : Type 0 where
@@ -60,19 +60,16 @@ handle n = record { 0 = n }
 abbrev pub node : ℕ → NodeNumber
 node n = record { 0 = n }
 
--- a reference to a leaf at this node through this handle; and the item's reference to the parent
+-- a reference to a leaf at this node through this handle
 abbrev pub to_leaf : ℕ → ℕ → ArcRef
 to_leaf n h = record { kind = record { 0 = 4 }; node = node n; handle = handle h }
 
-abbrev pub to_parent : ArcRef
-to_parent = record { kind = record { 0 = 1 }; node = node 2; handle = handle 2 }
-
--- what is written of a value, and of the item, whose blobs have the keys 8, 24 and 25
+-- what is written of a value, and of the item, which refers to the parent; their blobs have the keys 8, 24 and 25
 abbrev pub sample_written : Sample → Written
 sample_written x = record { bytes = []; references = sample_references x }
 
 abbrev pub item : Written
-item = record { bytes = 0 ∷ []; references = to_parent ∷ [] }
+item = record { bytes = 0 ∷ []; references = record { kind = record { 0 = 1 }; node = node 2; handle = handle 2 } ∷ [] }
 
 abbrev pub born : Core → Sample → Core
 born w x = with_handle (with_node w (sample_type x) OptionalDataKey.None (sample_references x)) (next_node w) Mode.LoosePinned Owner.Caller

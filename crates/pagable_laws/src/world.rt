@@ -1,8 +1,8 @@
 //! The laws of the definitions of the pager's world: each is the contract of a function that does nothing.
 #![tactic(auto, using(crate::proofs::Laws::world_laws))]
 
-ghost use Rattle.pagable_world.specs.World.{Seen};
-ghost use Rattle.pagable_laws.specs.FallLaws.{IsThere, IsOne, IsGivenAlone, PinsAreAFilter, TwoLevelsFall, LoneIsListed, ChainsJoin, NewIsWhole, NextIsOneOf};
+ghost use Rattle.pagable_world.specs.{Plain.Types, World.{Frame, Seen}};
+ghost use Rattle.pagable_laws.specs.FallLaws.{IsThere, IsOne, IsGivenAlone, PinsAreAFilter, TwoLevelsFall, LoneIsListed, ChainsJoin, NewIsWhole, NextIsOne};
 ghost use Rattle.pagable_laws.specs.TwoLevels.{TwoLevelsMeetTheHeadline};
 
 /// How values of this type are seen, with blobs B and what is written W: any values, so that a law is one of all.
@@ -53,7 +53,7 @@ pub fn new_is_whole<N: SeenAs<B, W>, B, W, E>()
 
 /// A blob is read, asks for one reference or is refused: at most one of these.
 pub fn next_is_one()
-    ensures { NextIsOneOf }
+    ensures { (types : Types) (frame : Frame) → NextIsOne types frame }
 {}
 
 /// The headline is met with all that it asks by a chain of two levels: births, a page-out, an eviction, and loads of a cell and of a key.

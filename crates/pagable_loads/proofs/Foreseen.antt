@@ -1,4 +1,4 @@
--- What a reading asks for is told by its bytes alone: kinds, one after the other, up to its end or its fault, whatever is answered.
+-- What a blob asks for is told by kinds alone: with references of the same kinds it is read side by side, up to where one of the two readings asks for a reference that wasn't got.
 use Rattle.pagable_loads.specs.{Ahead.{AsksNext, Foresees, GotMore, IsAhead, Kept, RowTells, kinds_of}, Decoding.is_asking, Ending.{LeadsOn, left_behind, left_in, many, to_do, weight, weight_on}}
 use Rattle.pagable_model.specs.{Basic.{bool_at, char_at, duration_at, length_at, longest, nanos_of_second, text_at}, Blob.Blob, Carried.{of_entries, of_hash_map, of_tagged}, Deep.is_eager}
 use Rattle.pagable_model.specs.{Keys.{put_all, put_sorted, text_order}, Meaning.{Meaning, absent, entry, failure, integer, lifted, present, sequence, success, variant}, Numbers.Read}
@@ -42,232 +42,28 @@ sober_length : (bytes : List ℕ) → Sober (length_at bytes)
 unfolding length_at
 sober_length bytes = sober_then (unsigned_at w64 bytes) _ (sober_unsigned w64 bytes) (λ n. sober_if (nat_le n.0 longest) _ _ tt refl)
 
-sober_text : (bytes : List ℕ) → Sober (text_at bytes)
-unfolding text_at
-sober_text bytes = grind (arith, nat_tests, sober_length)
-
-sober_flag : (bytes : List ℕ) → Sober (bool_at bytes)
-unfolding bool_at
-sober_flag bytes = grind (arith, nat_tests)
-
-sober_char : (bytes : List ℕ) → Sober (char_at bytes)
-unfolding char_at
-sober_char bytes = grind (arith, nat_tests, sober_text)
-
-sober_duration : (bytes : List ℕ) → Sober (duration_at bytes)
-unfolding duration_at
-sober_duration bytes =
-    sober_then (unsigned_at w64 bytes) _ (sober_unsigned w64 bytes)
-    (λ s. sober_then (unsigned_at w32 s.1) _ (sober_unsigned w32 s.1) (λ n. sober_if (nat_lt (s.0 + n.0 / nanos_of_second) (2 ^ 64)) _ _ tt refl))
+sober_parts : (bytes : List ℕ) → Sober (bool_at bytes) × Sober (text_at bytes) × Sober (char_at bytes) × Sober (duration_at bytes)
+unfolding bool_at text_at char_at duration_at
+sober_parts bytes = (
+  grind (arith, nat_tests),
+  grind (arith, nat_tests, sober_length),
+  grind (arith, nat_tests, sober_length),
+  sober_then (unsigned_at w64 bytes) _ (sober_unsigned w64 bytes)
+      (λ s. sober_then (unsigned_at w32 s.1) _ (sober_unsigned w32 s.1) (λ n. sober_if (nat_lt (s.0 + n.0 / nanos_of_second) (2 ^ 64)) _ _ tt refl)),
+)
 
 sober_registered : (registry : List (Meaning ⊥)) (i : ℕ) → Sober (registered registry i)
 sober_registered [] i = refl
 sober_registered (m ∷ ms) zero = tt
 sober_registered (m ∷ ms) (suc i) = sober_registered ms i
 
--- ---- what a reading does, whatever is answered
-
-abbrev pub left : {A : Type 0} → List ℕ → List A → Rest A
-left bytes refs = record { bytes = bytes; refs = refs }
-
--- what is left by it, or its fault
-abbrev pub leaves : {X : Type 0} → Result (X × Rest Answer) Error → Result (Rest Answer) Error
-leaves r = r >>= λ x. Ok x.1
-
--- It asks for these kinds, one after the other, up to its end, at which these bytes are left, or to its fault; the first that is refused is its refusal.
-abbrev pub asking : List ℕ → Result (List ℕ) Error → List Answer → Result (Rest Answer) Error
-asking [] end refs = end >>= λ bytes. Ok (left bytes refs)
-asking (k ∷ ks) end [] = Err Error.NoMoreKeys
-asking (k ∷ ks) end (a ∷ refs) = a k >>= λ r. asking ks end refs
-
-pub record Trace {X : Type 0} (get : Gets Answer X) (bytes : List ℕ) : Type 0 where
-  pub kinds : List ℕ
-  pub end : Result (List ℕ) Error
-  pub sober : Sober end
-  pub goes : (refs : List Answer) → leaves (get (left bytes refs)) ≡ asking kinds end refs
-
-pub record Traced {X : Type 0} (get : Gets Answer X) : Type 0 where
-  pub on : (bytes : List ℕ) → Trace get bytes
-
-answered : (o : Result ArcRef Error) (f : Rest Answer → Result (Rest Answer) Error) (r q : Result (Rest Answer) Error) → (r >>= f) ≡ q → ((o >>= λ x. r) >>= f) ≡ (o >>= λ x. q)
-answered (Ok x) f r q is = is
-answered (Err e) f r q is = refl
-
--- what goes on where it ends
-asking-on : (f : Rest Answer → Result (Rest Answer) Error) (more : List ℕ) (first end : Result (List ℕ) Error) → ((refs : List Answer) → (asking [] first refs >>= f) ≡ asking more end refs)
-    → (ks : List ℕ) (refs : List Answer) → (asking ks first refs >>= f) ≡ asking (ks ++ more) end refs
-asking-on f more first end is [] refs = is refs
-asking-on f more first end is (k ∷ ks) [] = refl
-asking-on f more first end is (k ∷ ks) (a ∷ refs) = answered (a k) f _ _ (asking-on f more first end is ks refs)
-
-seen-leaves : {X Y : Type 0} (view : X → Y) (r : Result (X × Rest Answer) Error) → leaves (r >>= λ x. let o : Result (Y × Rest Answer) Error = Ok (view x.0, x.1) in o) ≡ leaves r
-seen-leaves view (Ok x) = refl
-seen-leaves view (Err e) = refl
-
-sees : {X Y : Type 0} (view : X → Y) {get : Gets Answer X} → Traced get → Traced (seen view get)
-sees view {get} h = record { on = λ bytes. let t = h.on bytes in record { kinds = t.kinds; end = t.end; sober = t.sober; goes = λ refs. seen-leaves view (get (left bytes refs)) ∙ t.goes refs } }
-
--- one after the other
-module _ {X Y Z : Type 0} {first : Gets Answer X} {second : Gets Answer Y} (pair : X → Y → Z) (h : Traced first) (k : Traced second) where
-  abbrev both_read : Gets Answer Z
-  both_read i = first i >>= λ x. second x.1 >>= λ y. Ok (pair x.0 y.0, y.1)
-
-  abbrev next : Rest Answer → Result (Rest Answer) Error
-  next i = leaves (second i)
-
-  joined : (r : Result (X × Rest Answer) Error) → leaves (r >>= λ x. second x.1 >>= λ y. let o : Result (Z × Rest Answer) Error = Ok (pair x.0 y.0, y.1) in o) ≡ (leaves r >>= next)
-  joined (Ok x) = seen-leaves (pair x.0) (second x.1)
-  joined (Err e) = refl
-
-  go_on : (bytes more : List ℕ) (end : Result (List ℕ) Error) (t : Trace first bytes) → Sober end → ((refs : List Answer) → (asking [] t.end refs >>= next) ≡ asking more end refs)
-      → Trace both_read bytes
-  go_on bytes more end t sober after = record {
-    kinds = t.kinds ++ more;
-    end = end;
-    sober = sober;
-    goes = λ refs. joined (first (left bytes refs)) ∙ ap (λ r. r >>= next) (t.goes refs) ∙ asking-on next more t.end end after t.kinds refs;
-  }
-
-  join : Traced both_read
-  join = record { on = λ bytes. let t = h.on bytes in by bytes t t.end refl t.sober }
-    where
-      by : (bytes : List ℕ) (t : Trace first bytes) (end : Result (List ℕ) Error) → t.end ≡ end → Sober end → Trace both_read bytes
-      by bytes t (Ok rest) is s = let q = k.on rest in go_on bytes q.kinds q.end t q.sober (λ refs. rw is (q.goes refs))
-      by bytes t (Err e) is s = go_on bytes [] (Err e) t s (λ refs. rw is refl)
-
-gives : {X : Type 0} (x : X) → Traced (λ (i : Rest Answer). let r : Result (X × Rest Answer) Error = Ok (x, i) in r)
-gives x = record { on = λ bytes. record { kinds = []; end = Ok bytes; sober = tt; goes = λ refs. refl } }
-
-refuses : {X : Type 0} (e : Error) → is_asking e ≡ false → Traced (λ (i : Rest Answer). let r : Result (X × Rest Answer) Error = Err e in r)
-refuses e sober = record { on = λ bytes. record { kinds = []; end = Err e; sober = sober; goes = λ refs. refl } }
-
--- bytes, and then what they say
-module _ {X Z : Type 0} (read : List ℕ → Read Z) (sober : (bytes : List ℕ) → Sober (read bytes)) where
-  after_bytes : (f : Z → Gets Answer X) → ((z : Z) → Traced (f z)) → Traced (λ i. bytes_of read (λ z. z) i >>= λ p. f p.0 p.1)
-  after_bytes f k = record { on = λ bytes. by bytes (read bytes) refl (sober bytes) }
-    where
-      by : (bytes : List ℕ) (r : Read Z) → read bytes ≡ r → Sober r → Trace (λ i. bytes_of read (λ z. z) i >>= λ p. f p.0 p.1) bytes
-      by bytes (Ok z) e s = let t = (k z.0).on z.1 in record { kinds = t.kinds; end = t.end; sober = t.sober; goes = λ refs. rw e (t.goes refs) }
-      by bytes (Err x) e s = record { kinds = []; end = Err x; sober = s; goes = λ refs. rw e refl }
-
-  of_bytes : (view : Z → X) → Traced (bytes_of read view)
-  of_bytes view = record { on = λ bytes. by bytes (read bytes) refl (sober bytes) }
-    where
-      by : (bytes : List ℕ) (r : Read Z) → read bytes ≡ r → Sober r → Trace (bytes_of read view) bytes
-      by bytes (Ok z) e s = record { kinds = []; end = Ok z.1; sober = tt; goes = λ refs. rw e refl }
-      by bytes (Err x) e s = record { kinds = []; end = Err x; sober = s; goes = λ refs. rw e refl }
-
-choice : {X : Type 0} (b : Bool) {get other : Gets Answer X} → Traced get → Traced other → Traced (choose b get other)
-choice true h g = h
-choice false h g = g
-
-both_of : {X Y : Type 0} {get : Gets Answer X} {other : Gets Answer Y} → Traced get → Traced other → Traced (two get other)
-both_of h g = join (λ x y. (x, y)) h g
-
-each_of : {X : Type 0} {get : Gets Answer X} → Traced get → (n : ℕ) → Traced (λ i. items get n i)
-unfolding items
-each_of h zero = gives []
-each_of h (suc n) = join (λ x xs. x ∷ xs) h (each_of h n)
-
-as_many : {X : Type 0} {get : Gets Answer X} → Traced get → Traced (counted get)
-as_many {get = get} h = after_bytes length_at sober_length (λ n i. items get n i) (λ n. each_of h n)
-
-asks_one : (kind : ℕ) → Traced (λ (i : Rest Answer). reference_at answer_at kind i.refs i)
-asks_one kind = record { on = λ bytes. record { kinds = kind ∷ []; end = Ok bytes; sober = tt; goes = λ refs. by bytes refs } }
-  where
-    by : (bytes : List ℕ) (refs : List Answer) → leaves (reference_at answer_at kind refs (left bytes refs)) ≡ asking (kind ∷ []) (Ok bytes) refs
-    by bytes refs = grind (arith, nat_tests)
-
--- ---- values
-
-pub data DeeperTraced : Deeper Answer ArcRef → Type 0 where
-  no-deeper : DeeperTraced None
-  one-deeper : (get : Shape → Gets Answer (Meaning ArcRef)) → ((s : Shape) → Traced (get s)) → DeeperTraced (Some get)
-
-entering : {X : Type 0} {d : Deeper Answer ArcRef} (part : (Shape → Gets Answer (Meaning ArcRef)) → Gets Answer X) → DeeperTraced d
-    → ((get : Shape → Gets Answer (Meaning ArcRef)) → ((s : Shape) → Traced (get s)) → Traced (part get)) → Traced (enter d part)
-entering part no-deeper k = refuses Error.TooDeep refl
-entering part (one-deeper get h) k = k get h
-
-json_traced : {d : Deeper Answer ArcRef} → DeeperTraced d → (case : JsonCase) → Traced (λ i. json_part d case i)
-json_traced h null_case = gives (variant 0 meanings.none)
-json_traced h flag_case = of_bytes bool_at sober_flag (λ b. variant 1 (meanings.flag b))
-json_traced h number_case =
-    after_bytes bool_at sober_flag (λ float. choose float (λ r. Err Error.JsonNumber) (bytes_of (signed_at w64) (λ z. variant 2 (integer z))))
-    (λ float. choice float (refuses Error.JsonNumber refl) (of_bytes (signed_at w64) (sober_signed w64) (λ z. variant 2 (integer z))))
-json_traced h text_case = of_bytes text_at sober_text (λ t. variant 3 (meanings.text t))
-json_traced {d} h array_case =
-    after_bytes length_at sober_length (λ count. enter d (λ get. seen (λ ms. variant 4 (sequence ms)) (items (get json) count)))
-    (λ count. entering _ h (λ get g. sees (λ ms. variant 4 (sequence ms)) (each_of (g json) count)))
-json_traced {d} h object_case =
-    after_bytes length_at sober_length (λ count. enter d (λ get. seen (λ es. variant 5 (of_entries (put_all (put_sorted text_order) [] es))) (items (two (get shapes.text) (get json)) count)))
-    (λ count. entering _ h (λ get g. sees (λ es. variant 5 (of_entries (put_all (put_sorted text_order) [] es))) (each_of (both_of (g shapes.text) (g json)) count)))
-
-json_any : {d : Deeper Answer ArcRef} → DeeperTraced d → (c : Result JsonCase Error) → Sober c → Traced (λ i. c >>= λ case. json_part d case i)
-json_any h (Ok case) s = json_traced h case
-json_any h (Err e) s = refuses e s
-
-sober_case : (n : ℕ) → Sober (json_case n)
-sober_case n = sober_if (n == 0) _ _ tt (sober_if (n == 1) _ _ tt (sober_if (n == 2) _ _ tt (sober_if (n == 3) _ _ tt (sober_if (n == 4) _ _ tt (sober_if (n == 5) _ _ tt refl)))))
-
-static_any : (c : Result (Meaning ⊥) Error) → Sober c → Traced (λ (i : Rest Answer). c >>= λ m. let z : Result (Meaning ArcRef × Rest Answer) Error = Ok (lifted m, i) in z)
-static_any (Ok m) s = gives (lifted m)
-static_any (Err e) s = refuses e s
-
-module _ (parts : ℕ → Shape) where
-  with_traced : {d : Deeper Answer ArcRef} → DeeperTraced d → (s : Shape) → Traced (λ i. read_with answer_at parts d s i)
-  unfolding read_with
-  with_traced h nothing = gives meanings.none
-  with_traced h (unsigned w) = of_bytes (unsigned_at w) (sober_unsigned w) _
-  with_traced h (signed w) = of_bytes (signed_at w) (sober_signed w) _
-  with_traced h flag = of_bytes bool_at sober_flag _
-  with_traced h shapes.text = of_bytes text_at sober_text _
-  with_traced h letter = of_bytes char_at sober_char _
-  with_traced h duration = of_bytes duration_at sober_duration _
-  with_traced h shapes.pattern = of_bytes text_at sober_text _
-  with_traced {d} h json = after_bytes (unsigned_at w64) (sober_unsigned w64) (λ n i. json_case n >>= λ case. json_part d case i) (λ n. json_any h (json_case n) (sober_case n))
-  with_traced {d} h (optional s) =
-      after_bytes bool_at sober_flag (λ some. choose some (seen present (read_with answer_at parts d s)) (λ r. Ok (absent, r))) (λ some. choice some (sees present (with_traced h s)) (gives absent))
-  with_traced {d} h (outcome s t) =
-      after_bytes bool_at sober_flag (λ ok. choose ok (seen success (read_with answer_at parts d s)) (seen failure (read_with answer_at parts d t)))
-      (λ ok. choice ok (sees success (with_traced h s)) (sees failure (with_traced h t)))
-  with_traced h (list s) = sees sequence (as_many (with_traced h s))
-  with_traced h (run s) = refuses Error.WrongKind refl
-  with_traced h (array n s) = sees sequence (each_of (with_traced h s) n)
-  with_traced h (both s t) = sees entry (both_of (with_traced h s) (with_traced h t))
-  with_traced h (sorted_map order s t) = sees _ (as_many (both_of (with_traced h s) (with_traced h t)))
-  with_traced h (placed_map s t) = sees _ (as_many (both_of (with_traced h s) (with_traced h t)))
-  with_traced h (hash_map s t) = sees of_hash_map (as_many (both_of (with_traced h s) (with_traced h t)))
-  with_traced h (sorted_set order s) = sees _ (as_many (with_traced h s))
-  with_traced h (placed_set s) = sees _ (as_many (with_traced h s))
-  with_traced h (static_value registry) =
-      after_bytes (unsigned_at w32) (sober_unsigned w32) (λ n i. registered registry n >>= λ m. Ok (lifted m, i)) (λ n. static_any (registered registry n) (sober_registered registry n))
-  with_traced {d} h (tagged written known body) =
-      after_bytes text_at sober_text (λ tag. choose (known tag) (seen (of_tagged tag) (read_with answer_at parts d (body tag))) (λ r. Err Error.UnknownTag))
-      (λ tag. choice (known tag) (sees (of_tagged tag) (with_traced h (body tag))) (refuses Error.UnknownTag refl))
-  with_traced {d} h (cases w known part) =
-      after_bytes (unsigned_at w) (sober_unsigned w) (λ n. choose (known n) (seen (variant n) (read_with answer_at parts d (part n))) (λ r. Err Error.UnknownTag))
-      (λ n. choice (known n) (sees (variant n) (with_traced h (part n))) (refuses Error.UnknownTag refl))
-  with_traced h (shapes.reference kind) = asks_one kind
-  with_traced h (nested n) = entering _ h (λ get g. g (parts n))
-
-  below_traced : (levels : ℕ) → DeeperTraced (below answer_at parts levels)
-  unfolding below
-  below_traced zero = no-deeper
-  below_traced (suc levels) = one-deeper _ (with_traced (below_traced levels))
-
-  pub typed_traced : (o : Option Shape) → Traced (λ i. read_typed (handles_at 0 parts) o i)
-  unfolding read
-  typed_traced None = refuses Error.WrongKind refl
-  typed_traced (Some s) = with_traced (below_traced (deepest - 0)) s
-
--- ---- from one reading with stand-ins to what a blob asks for ahead
+-- ---- kinds that are asked for
 
 kinds_joined : (xs ys : List ArcRef) → kinds_of (xs ++ ys) ≡ kinds_of xs ++ kinds_of ys
 kinds_joined xs ys = map-append (λ (r : ArcRef). r.kind.0) xs ys
 
 -- the kinds of a row from a place on, by what stands there
-abbrev headed : Option ArcRef → List ℕ → List ℕ
+abbrev pub headed : Option ArcRef → List ℕ → List ℕ
 headed None rest = []
 headed (Some x) rest = x.kind.0 ∷ rest
 
@@ -277,37 +73,201 @@ from xs place = elim (slice_get_cases xs place).1 [
   | inr (past, none) ↦ rw none (at_drop_all kinds_of xs place past)
 ]
 
--- ---- what the answers say of the kinds
-
--- a reading is refused by the name of a reference that wasn't got
-abbrev Stops : Result (Rest Answer) Error → ℕ → Type 0
-Stops r k = r ≡ Err (Error.Storage k)
-
 -- some kind is left
 some-left : (ks back : List ℕ) (k : ℕ) → (ks ++ k ∷ back ≡ ks ++ k ∷ back) × (0 < length (ks ++ k ∷ back))
 some-left ks back k = let l = length-append ks (k ∷ back) in (refl, omega (arith, l))
 
-never : (k : ℕ) (end : Result (List ℕ) Error) (refs : List Answer) → Sober end → Stops (asking [] end refs) k → ⊥
-never k (Ok bytes) refs s h = cc
-never k (Err e) refs s h = let f : e ≡ Error.Storage k = cc in cc
+-- ---- two readings side by side: of a row after which a reference of this kind is asked for, and of what was got, which begins alike and after which one of the kind k comes
 
--- A reading that asks for the kinds of all that were got, and stops at one more, stops before it where what was got, of the same kinds, ends there.
-module _ (xs got : List ArcRef) (kind k : ℕ) (back : List ℕ) (end : Result (List ℕ) Error) (sober : Sober end) where
-  at_one : (o p : Option ArcRef) (n : ℕ) (os ps : List ℕ) (r q : Result (Rest Answer) Error) → Stops (answer_of o n >>= λ a. r) kind → headed o os ++ kind ∷ [] ≡ headed p ps ++ k ∷ back
-      → (Stops r kind → os ++ kind ∷ [] ≡ ps ++ k ∷ back → Stops q k) → Stops (answer_of p n >>= λ a. q) k
-  at_one o p n os ps r q h is more = grind (arith, nat_tests, some-left)
+module _ (xs got : List ArcRef) (kind k : ℕ) (back : List ℕ) where
+  -- they are at the same place
+  record Beside (i j : Rest Answer) : Type 0 where
+    place : ℕ
+    keys : List ℕ
+    bytes : j.bytes ≡ i.bytes
+    row : i.refs ≡ answers_from xs place keys
+    own : j.refs ≡ answers_from got place keys
+    left : kinds_of (drop place xs) ++ kind ∷ [] ≡ kinds_of (drop place got) ++ k ∷ back
 
-  stops : (ks : List ℕ) (place : ℕ) (keys : List ℕ) → Stops (asking ks end (answers_from xs place keys)) kind → kinds_of (drop place xs) ++ kind ∷ [] ≡ kinds_of (drop place got) ++ k ∷ back
-      → Stops (asking ks end (answers_from got place keys)) k
+  -- Where the first goes on the second does, or stops at the kind k; and where the first stops at its kind, the second stops at k.
+  abbrev Goes : {X : Type 0} → Result (X × Rest Answer) Error → Result (X × Rest Answer) Error → Type 0
+  Goes (Ok p) (Ok q) = Beside p.1 q.1
+  Goes (Ok p) (Err e) = e ≡ Error.Storage k
+  Goes (Err e) r = e ≡ Error.Storage kind → r ≡ Err (Error.Storage k)
+
+  record Traced {X : Type 0} (get : Gets Answer X) : Type 0 where
+    on : (i j : Rest Answer) → Beside i j → Goes (get i) (get j)
+
+  stopped : {X : Type 0} (r q : Result (X × Rest Answer) Error) → Goes r q → r ≡ Err (Error.Storage kind) → q ≡ Err (Error.Storage k)
+  stopped (Ok p) q h is = absurd (cc)
+  stopped (Err e) q h is = let same : e ≡ Error.Storage kind = cc in h same
+
+  -- a fault of the bytes
+  faulty : {X : Type 0} (e : Error) (q : Result (X × Rest Answer) Error) → is_asking e ≡ false → Goes (Err e) q
+  faulty e q sober at = absurd (cc)
+
+  views : {X Y : Type 0} (view other : X → Y) (r q : Result (X × Rest Answer) Error) → Goes r q
+      → Goes (r >>= λ x. let o : Result (Y × Rest Answer) Error = Ok (view x.0, x.1) in o) (q >>= λ x. let o : Result (Y × Rest Answer) Error = Ok (other x.0, x.1) in o)
+  views view other r q h = grind (arith, nat_tests)
+
+  sees : {X Y : Type 0} (view : X → Y) {get : Gets Answer X} → Traced get → Traced (seen view get)
+  sees view {get} h = record { on = λ i j b. views view view (get i) (get j) (h.on i j b) }
+
+  -- one after the other
+  module _ {X Y Z : Type 0} {first : Gets Answer X} {second : Gets Answer Y} (pair : X → Y → Z) (h : Traced first) (g : Traced second) where
+    abbrev after_first : X × Rest Answer → Result (Z × Rest Answer) Error
+    after_first x = second x.1 >>= λ y. Ok (pair x.0 y.0, y.1)
+
+    abbrev both_read : Gets Answer Z
+    both_read i = first i >>= after_first
+
+    joined : (r q : Result (X × Rest Answer) Error) → Goes r q → Goes (r >>= after_first) (q >>= after_first)
+    joined (Ok p) (Ok q) b = views (pair p.0) (pair q.0) (second p.1) (second q.1) (g.on p.1 q.1 b)
+    joined r q b = grind (arith, nat_tests)
+
+    join : Traced both_read
+    join = record { on = λ i j b. joined (first i) (first j) (h.on i j b) }
+
+  gives : {X : Type 0} (x : X) → Traced (λ (i : Rest Answer). let r : Result (X × Rest Answer) Error = Ok (x, i) in r)
+  gives x = record { on = λ i j b. b }
+
+  refuses : {X : Type 0} (e : Error) → is_asking e ≡ false → Traced (λ (i : Rest Answer). let r : Result (X × Rest Answer) Error = Err e in r)
+  refuses e sober = record { on = λ i j b. faulty e (Err e) sober }
+
+  -- bytes, and then what they say
+  module _ {X Z : Type 0} (read : List ℕ → Read Z) (sober : (bytes : List ℕ) → Sober (read bytes)) where
+    abbrev then_by : (Z → Gets Answer X) → Rest Answer → Read Z → Result (X × Rest Answer) Error
+    then_by f i r = (r >>= λ z. let o : Result (Z × Rest Answer) Error = Ok (z.0, record i { bytes = z.1 }) in o) >>= λ p. f p.0 p.1
+
+    after_bytes : (f : Z → Gets Answer X) → ((z : Z) → Traced (f z)) → Traced (λ i. bytes_of read (λ z. z) i >>= λ p. f p.0 p.1)
+    after_bytes f h = record { on = λ i j b. rw b.bytes (by i j b (read i.bytes) (sober i.bytes)) }
+      where
+        by : (i j : Rest Answer) → Beside i j → (r : Read Z) → Sober r → Goes (then_by f i r) (then_by f j r)
+        by i j b (Ok z) s = (h z.0).on _ _ (record { place = b.place; keys = b.keys; bytes = refl; row = b.row; own = b.own; left = b.left })
+        by i j b (Err e) s = faulty e (Err e) s
+
+    of_bytes : (view : Z → X) → Traced (bytes_of read view)
+    of_bytes view = record { on = λ i j b. rw b.bytes (by i j b (read i.bytes) (sober i.bytes)) }
+      where
+        by : (i j : Rest Answer) → Beside i j → (r : Read Z) → Sober r
+            → Goes (r >>= λ z. let o : Result (X × Rest Answer) Error = Ok (view z.0, record i { bytes = z.1 }) in o)
+            (r >>= λ z. let o : Result (X × Rest Answer) Error = Ok (view z.0, record j { bytes = z.1 }) in o)
+        by i j b (Ok z) s = record { place = b.place; keys = b.keys; bytes = refl; row = b.row; own = b.own; left = b.left }
+        by i j b (Err e) s = faulty e (Err e) s
+
+  choice : {X : Type 0} (b : Bool) {get other : Gets Answer X} → Traced get → Traced other → Traced (choose b get other)
+  choice true h g = h
+  choice false h g = g
+
+  both_of : {X Y : Type 0} {get : Gets Answer X} {other : Gets Answer Y} → Traced get → Traced other → Traced (two get other)
+  both_of h g = join (λ x y. (x, y)) h g
+
+  each_of : {X : Type 0} {get : Gets Answer X} → Traced get → (n : ℕ) → Traced (λ i. items get n i)
+  unfolding items
+  each_of h zero = gives []
+  each_of h (suc n) = join (λ x xs. x ∷ xs) h (each_of h n)
+
+  as_many : {X : Type 0} {get : Gets Answer X} → Traced get → Traced (counted get)
+  as_many {get = get} h = after_bytes length_at sober_length (λ n i. items get n i) (λ n. each_of h n)
+
+  at_one : (o p : Option ArcRef) (n : ℕ) (os ps : List ℕ) (i j : Rest Answer) → headed o os ++ kind ∷ [] ≡ headed p ps ++ k ∷ back → (os ++ kind ∷ [] ≡ ps ++ k ∷ back → Beside i j)
+      → Goes (answer_of o n >>= λ x. let r : Result (Meaning ArcRef × Rest Answer) Error = Ok (meanings.reference x, i) in r)
+      (answer_of p n >>= λ x. let r : Result (Meaning ArcRef × Rest Answer) Error = Ok (meanings.reference x, j) in r)
+  at_one o p n os ps i j is more = grind (arith, nat_tests, some-left)
+
+  at_key : (n place : ℕ) (keys : List ℕ) (i j : Rest Answer) → j.bytes ≡ i.bytes → kinds_of (drop place xs) ++ kind ∷ [] ≡ kinds_of (drop place got) ++ k ∷ back
+      → Goes (reference_at answer_at n (answers_from xs place keys) i) (reference_at answer_at n (answers_from got place keys) j)
   unfolding answers_from
-  stops [] place keys h is = absurd (never kind end _ sober h)
-  stops (n ∷ ks) place [] h is = absurd (cc)
-  stops (n ∷ ks) place (key ∷ keys) h is =
-      at_one (slice_get xs place) (slice_get got place) n (kinds_of (drop (place + 1) xs)) (kinds_of (drop (place + 1) got)) _ _ h
-      (ap (λ zs. zs ++ kind ∷ []) (sym (from xs place)) ∙ is ∙ ap (λ zs. zs ++ k ∷ back) (from got place)) (stops ks (place + 1) keys)
+  at_key n place [] i j bytes is = faulty Error.NoMoreKeys (Err Error.NoMoreKeys) refl
+  at_key n place (key ∷ keys) i j bytes is =
+      at_one (slice_get xs place) (slice_get got place) n (kinds_of (drop (place + 1) xs)) (kinds_of (drop (place + 1) got)) _ _
+      (ap (λ zs. zs ++ kind ∷ []) (sym (from xs place)) ∙ is ∙ ap (λ zs. zs ++ k ∷ back) (from got place))
+      (λ rest. record { place = place + 1; keys = keys; bytes = bytes; row = refl; own = refl; left = rest })
 
-stopped : {X : Type 0} (r : Result (X × Rest Answer) Error) (k : ℕ) → Stops (leaves r) k → r ≡ Err (Error.Storage k)
-stopped r k h = grind (arith, nat_tests)
+  asks_one : (n : ℕ) → Traced (λ (i : Rest Answer). reference_at answer_at n i.refs i)
+  asks_one n = record { on = λ i j b. rw (b.row, b.own) (at_key n b.place b.keys _ _ b.bytes b.left) }
+
+  -- ---- values
+
+  data DeeperTraced : Deeper Answer ArcRef → Type 0 where
+    no-deeper : DeeperTraced None
+    one-deeper : (get : Shape → Gets Answer (Meaning ArcRef)) → ((s : Shape) → Traced (get s)) → DeeperTraced (Some get)
+
+  entering : {X : Type 0} {d : Deeper Answer ArcRef} (part : (Shape → Gets Answer (Meaning ArcRef)) → Gets Answer X) → DeeperTraced d
+      → ((get : Shape → Gets Answer (Meaning ArcRef)) → ((s : Shape) → Traced (get s)) → Traced (part get)) → Traced (enter d part)
+  entering part no-deeper k = refuses Error.TooDeep refl
+  entering part (one-deeper get h) k = k get h
+
+  json_traced : {d : Deeper Answer ArcRef} → DeeperTraced d → (case : JsonCase) → Traced (λ i. json_part d case i)
+  json_traced h null_case = gives (variant 0 meanings.none)
+  json_traced h flag_case = of_bytes bool_at (λ bytes. (sober_parts bytes).0) (λ b. variant 1 (meanings.flag b))
+  json_traced h number_case =
+      after_bytes bool_at (λ bytes. (sober_parts bytes).0) (λ float. choose float (λ r. Err Error.JsonNumber) (bytes_of (signed_at w64) (λ z. variant 2 (integer z))))
+      (λ float. choice float (refuses Error.JsonNumber refl) (of_bytes (signed_at w64) (sober_signed w64) (λ z. variant 2 (integer z))))
+  json_traced h text_case = of_bytes text_at (λ bytes. (sober_parts bytes).1) (λ t. variant 3 (meanings.text t))
+  json_traced {d} h array_case =
+      after_bytes length_at sober_length (λ count. enter d (λ get. seen (λ ms. variant 4 (sequence ms)) (items (get json) count)))
+      (λ count. entering _ h (λ get g. sees (λ ms. variant 4 (sequence ms)) (each_of (g json) count)))
+  json_traced {d} h object_case =
+      after_bytes length_at sober_length (λ count. enter d (λ get. seen (λ es. variant 5 (of_entries (put_all (put_sorted text_order) [] es))) (items (two (get shapes.text) (get json)) count)))
+      (λ count. entering _ h (λ get g. sees (λ es. variant 5 (of_entries (put_all (put_sorted text_order) [] es))) (each_of (both_of (g shapes.text) (g json)) count)))
+
+  known : {X Z : Type 0} (c : Result Z Error) (f : Z → Gets Answer X) → Sober c → ((z : Z) → Traced (f z)) → Traced (λ i. c >>= λ z. f z i)
+  known (Ok z) f s h = h z
+  known (Err e) f s h = refuses e s
+
+  sober_case : (n : ℕ) → Sober (json_case n)
+  sober_case n = sober_if (n == 0) _ _ tt (sober_if (n == 1) _ _ tt (sober_if (n == 2) _ _ tt (sober_if (n == 3) _ _ tt (sober_if (n == 4) _ _ tt (sober_if (n == 5) _ _ tt refl)))))
+
+  module _ (parts : ℕ → Shape) where
+    with_traced : {d : Deeper Answer ArcRef} → DeeperTraced d → (s : Shape) → Traced (λ i. read_with answer_at parts d s i)
+    unfolding read_with
+    with_traced h nothing = gives meanings.none
+    with_traced h (unsigned w) = of_bytes (unsigned_at w) (sober_unsigned w) _
+    with_traced h (signed w) = of_bytes (signed_at w) (sober_signed w) _
+    with_traced h flag = of_bytes bool_at (λ bytes. (sober_parts bytes).0) _
+    with_traced h shapes.text = of_bytes text_at (λ bytes. (sober_parts bytes).1) _
+    with_traced h letter = of_bytes char_at (λ bytes. (sober_parts bytes).2) _
+    with_traced h duration = of_bytes duration_at (λ bytes. (sober_parts bytes).3) _
+    with_traced h shapes.pattern = of_bytes text_at (λ bytes. (sober_parts bytes).1) _
+    with_traced {d} h json =
+        after_bytes (unsigned_at w64) (sober_unsigned w64) (λ n i. json_case n >>= λ case. json_part d case i) (λ n. known (json_case n) (λ case i. json_part d case i) (sober_case n) (json_traced h))
+    with_traced {d} h (optional s) =
+        after_bytes bool_at (λ bytes. (sober_parts bytes).0) (λ some. choose some (seen present (read_with answer_at parts d s)) (λ r. Ok (absent, r)))
+        (λ some. choice some (sees present (with_traced h s)) (gives absent))
+    with_traced {d} h (outcome s t) =
+        after_bytes bool_at (λ bytes. (sober_parts bytes).0) (λ ok. choose ok (seen success (read_with answer_at parts d s)) (seen failure (read_with answer_at parts d t)))
+        (λ ok. choice ok (sees success (with_traced h s)) (sees failure (with_traced h t)))
+    with_traced h (list s) = sees sequence (as_many (with_traced h s))
+    with_traced h (run s) = refuses Error.WrongKind refl
+    with_traced h (array n s) = sees sequence (each_of (with_traced h s) n)
+    with_traced h (both s t) = sees entry (both_of (with_traced h s) (with_traced h t))
+    with_traced h (sorted_map order s t) = sees _ (as_many (both_of (with_traced h s) (with_traced h t)))
+    with_traced h (placed_map s t) = sees _ (as_many (both_of (with_traced h s) (with_traced h t)))
+    with_traced h (hash_map s t) = sees of_hash_map (as_many (both_of (with_traced h s) (with_traced h t)))
+    with_traced h (sorted_set order s) = sees _ (as_many (with_traced h s))
+    with_traced h (placed_set s) = sees _ (as_many (with_traced h s))
+    with_traced h (static_value registry) =
+        after_bytes (unsigned_at w32) (sober_unsigned w32) (λ n i. registered registry n >>= λ m. Ok (lifted m, i))
+        (λ n. known (registered registry n) (λ m i. Ok (lifted m, i)) (sober_registered registry n) (λ m. gives (lifted m)))
+    with_traced {d} h (tagged written known body) =
+        after_bytes text_at (λ bytes. (sober_parts bytes).1) (λ tag. choose (known tag) (seen (of_tagged tag) (read_with answer_at parts d (body tag))) (λ r. Err Error.UnknownTag))
+        (λ tag. choice (known tag) (sees (of_tagged tag) (with_traced h (body tag))) (refuses Error.UnknownTag refl))
+    with_traced {d} h (cases w known part) =
+        after_bytes (unsigned_at w) (sober_unsigned w) (λ n. choose (known n) (seen (variant n) (read_with answer_at parts d (part n))) (λ r. Err Error.UnknownTag))
+        (λ n. choice (known n) (sees (variant n) (with_traced h (part n))) (refuses Error.UnknownTag refl))
+    with_traced h (shapes.reference kind) = asks_one kind
+    with_traced h (nested n) = entering _ h (λ get g. g (parts n))
+
+    below_traced : (levels : ℕ) → DeeperTraced (below answer_at parts levels)
+    unfolding below
+    below_traced zero = no-deeper
+    below_traced (suc levels) = one-deeper _ (with_traced (below_traced levels))
+
+    typed_traced : (o : Option Shape) → Traced (λ i. read_typed (handles_at 0 parts) o i)
+    unfolding read
+    typed_traced None = refuses Error.WrongKind refl
+    typed_traced (Some s) = with_traced (below_traced (deepest - 0)) s
 
 -- ---- what comes next
 
@@ -315,9 +275,6 @@ pub stopped_at : (found : Option ℕ) (r : Result (Meaning ArcRef × Rest Answer
 stopped_at found r kind key e = grind (arith, nat_tests)
 
 module _ (types : Types) (t : ℕ) (blob : Blob) where
-  trace : Trace (λ i. read_typed (handles_at 0 types.parts) (types.nodes t) i) blob.bytes
-  trace = (typed_traced types.parts (types.nodes t)).on blob.bytes
-
   row_asked : (xs : List ArcRef) (kind : Kind) (key : ℕ) → next_of types t blob xs ≡ asks kind key
       → (got : List ArcRef) (k : ℕ) (back : List ℕ) → kinds_of xs ++ kind.0 ∷ [] ≡ kinds_of got ++ k ∷ back → AsksNext types t blob got k
   row_asked xs kind key next got k back is =
@@ -327,8 +284,9 @@ module _ (types : Types) (t : ℕ) (blob : Blob) where
       let short : length got < length blob.keys =
       omega (arith, within, ap length is, length-append (kinds_of xs) (kind.0 ∷ []), length-append (kinds_of got) (k ∷ back), many xs, many got) in
       let there = slice_get-get_or blob.keys (length got) 0 short in
-      let stop = stops xs got kind.0 k back trace.end trace.sober trace.kinds 0 blob.keys (sym (trace.goes (answers_from xs 0 blob.keys)) ∙ ap leaves s.0) is in
-      let err = stopped (read_blob types t blob got) k (trace.goes (answers_from got 0 blob.keys) ∙ stop) in
+      let input : List ArcRef → Rest Answer = λ gs. record { bytes = blob.bytes; refs = answers_from gs 0 blob.keys } in
+      let goes = (typed_traced xs got kind.0 k back types.parts (types.nodes t)).on (input xs) (input got) (record { place = 0; keys = blob.keys; bytes = refl; row = refl; own = refl; left = is }) in
+      let err = stopped xs got kind.0 k back (read_blob types t blob xs) (read_blob types t blob got) goes s.0 in
       record { key = _; there = there; next = ap (next_by (slice_get blob.keys (length got))) err ∙ ap (λ o. next_by o (Err (Error.Storage k))) there }
 
 -- a row that was found by stand-ins, the last of which is asked for after all others

@@ -1,14 +1,14 @@
 -- What a load needs next, what the calls of its steps did, and whole pins and readings.
-use Rattle.{either.specs.declared.Either.Either, pagable_core.specs.{Context.at_front, Data.blob_of}, pagable_loads.specs.{Decoding.{Decodes, IsReadAs, ReadsWith}, Frames.{IsLoadOf, frame_of}}}
-use Rattle.pagable_loads.specs.{Frames.{frames_of, onto, reading_of}, Got.{Lends, LendsEach, answer_at, lent_at}, Needing.Needs, Starting.{PinsFirst, Shares, StartsPin, TakesBack, Unpins}}
+use Rattle.{either.specs.declared.Either.Either, pagable_core.specs.{Context.at_front, Data.blob_of}, pagable_loads.specs.{Decoding.{IsReadAs, Needs}, Frames.{IsLoadOf, frame_of}}}
+use Rattle.pagable_loads.specs.{Frames.{frames_of, onto, reading_of}, Got.{Lends, LendsEach, answer_at, lent_at}, Starting.{PinsFirst, Shares, StartsPin, TakesBack, Unpins}}
 use Rattle.pagable_loads.specs.{Stepping.{Drops, HasGone, IsSameLoad, Met, Runs, Steps, Tries}, Telling.{Acting, Acts, ActsThen, AdoptsValue, AsksFor, Brings, IsMade, TakesLazily, Tells}}
-use Rattle.{pagable_loads.specs.declared.{decoding.Decoded.Decoded, reading.{Frame.Frame as Held, Need.Need, Reading.Reading as Own}, starting.PinStart.PinStart}, pagable_model.specs.Blob.Blob}
+use Rattle.{pagable_loads.specs.declared.{reading.{Frame.Frame as Held, Need.Need, Reading.Reading as Own}, access.PinStart.PinStart}, pagable_model.specs.Blob.Blob}
 use Rattle.pagable_model.specs.{Deep.{is_eager, longest_path}, Meaning.Meaning, Reading.{Rest, read_typed}, Shape.Shape, Standing.{Answer, GivesSome, Standing, handles_at, rest_at}}
 use Rattle.{pagable_model.specs.declared.{error.Error.Error, numbers.{ArcRef.ArcRef, HandleNumber.HandleNumber, Kind.Kind, LoadNumber.LoadNumber}}, pagable_world.specs.Access.{Called, IsUnpinnedBack}}
 use Rattle.pagable_world.specs.Access.{LoadRun, PinRun, PinsOver, ReadingStep, ReadsOver, Told, load-ends, load-fails, load-goes-on, load-is-refused, load-pins, load-reads, pin-is-refused}
 use Rattle.pagable_world.specs.{Access.{pins-at-once, reading-fails, reading-is-refused}, Calls.{PinCall, ReleaseCall}, Kinds.{is_loose, is_unpinned}, LoadCalls.{AskCall, BeginCall, BeginKeyCall}}
 use Rattle.pagable_world.specs.{LoadCalls.{EndCall, HandOverCall, from_store, with_load}, Loads.{Does, GoesOn, IsDecoded, IsOfCell, IsOfKey, LoadIs, MakesNode, Meets, ReadsNode, ReadsRoot, answer_of}}
-use Rattle.pagable_world.specs.Loads.{answers_from, gone_on, handles_of, need_at, need_of, needs_lazy, needs_nested, nested_frame, next_by, read_with, reads, root_frame, to_adopt, with_got}
+use Rattle.pagable_world.specs.Loads.{answers_from, gone_on, handles_of, need_at, need_of, needs_lazy, needs_nested, nested_frame, read_with, reads, root_frame, to_adopt, with_got}
 use Rattle.pagable_world.specs.{Pager.{IsCellOf, IsNewNode, Moves, PagerState, ReadingBrings, WellFormed}, Plain.if_there, Refusals.OwnsLoad, Workers.fresh, World.{Alike, Core, Frame, Reading, Root}}
 use Rattle.pagable_world.specs.{World.{Values, of_key, one_more, row_at}, declared.{answers.{Beginning.Beginning, Pinning.Pinning}, calls.Want.Want, events.LoadAnswer.LoadAnswer}}
 use Rattle.{pagable_world.specs.declared.handles.{HandleRow.HandleRow, Owner.Owner}, std.proofs.Common.{Bool, Err, List, None, Ok, Option, Result, Some, [], ap, arith, false, inl, inr, length, refl}}
@@ -31,10 +31,6 @@ reads_with own means nodes parts t env other levels got found bytes keys blob st
     let P : List Answer → Type 0 = λ refs. GivesSome own means after result (read_typed (handles_at 0 (parts env)) (nodes env t) (let x : Rest Answer = record { bytes = blob.bytes; refs = refs } in x)) in
     let there : P (context.answers_from (answer_at got) 0 blob.keys) = rw (s, l, e, g, b, k) at h in
     subst P (same_answers got 0 blob.keys) there
-
-module _ {N : Type 0} (v : Values N) (t : ℕ) (blob : Blob) (got : List ArcRef) where
-  pub is_read : (x : N) → v.node_type x ≡ t → ReadsWith v t blob got (Ok x) → Decodes v t blob got (Decoded.Read x)
-  is_read x typed h = record { answers = record { own = h.gives.m; read = ap (next_by (slice_get blob.keys (length got))) h.gives.gave; typed = typed; means = h.gives.is } }
 
 -- ---- the blobs of a load
 
@@ -59,21 +55,15 @@ adopts : (below : List Frame) (own : Meaning ArcRef) → 0 < length below → ne
 adopts below own some = grind (arith, nat_tests)
 
 module _ {N : Type 0} (v : Values N) (own : Own) (top : Held) (is : own.top ≡ Some top) (x : N) (read : IsReadAs v top.node_type (blob_of (arc_value top.blob)) top.got.items x) where
-  root : length own.below.items ≡ 0 → ReadsRoot v (reading_of own) x
-  root none = grind (arith, nat_tests, onto_none, nil_from_length)
-
   pub node_needs : 0 < length own.below.items → Needs v own (Need.Adopt x)
   node_needs some = record { is = grind (arith, nat_tests, length_onto, adopts); there = (grind (arith, nat_tests), some) }
 
-  pub end_needs : length own.below.items ≡ 0 → own.for_cell ≡ true → Needs v own (Need.End x)
-  end_needs none cell = record { is = (root none, cell); there = tt }
-
-  pub answer_needs : length own.below.items ≡ 0 → own.for_cell ≡ false → Needs v own (Need.HandOver x)
-  answer_needs none key = record { is = (root none, key); there = tt }
+  pub end_needs : length own.below.items ≡ 0 → Needs v own (Need.End x)
+  end_needs none = record { is = grind (arith, nat_tests, onto_none, nil_from_length); there = tt }
 
 pub ruleset stacking = (nat_tests, onto_none, onto_more)
 
-pub ruleset needing = (nat_tests, node_needs, end_needs, answer_needs)
+pub ruleset needing = (nat_tests, node_needs, end_needs)
 
 -- ---- what a step's call did is what the step is said to do
 
@@ -331,14 +321,11 @@ module _ {N E : Type 0} (v : Values N) (me : Owner) (mine : me ≡ Owner.Caller)
             sort = sym sort;
           }
 
-      key_calls : Called v (λ w'. BeginKeyCall s.core Owner.Caller key (Ok (Beginning.Load l key)) w') s mid
-      key_calls = record { step = subst (λ m. BeginKeyCall s.core m key (Ok (Beginning.Load l key)) mid.core) mine c.step; moves = c.moves; whole = c.whole }
-
       pub key_read : (x : N) (s' : PagerState N E) → Runs v me own mid (LoadAnswer.Read x) s' → ReadsOver v s key t (Ok x) s'
-      key_read x s' r = record { run = load-reads x l mid s' key_calls (runs_on open_key r) }
+      key_read x s' r = record { run = load-reads x l mid s' (rw mine at c) (runs_on open_key r) }
 
       pub key_failed : (e : Error) (s' : PagerState N E) → Runs v me own mid (LoadAnswer.Refused e) s' → ReadsOver v s key t (Err e) s'
-      key_failed e s' r = record { run = reading-fails e l mid s' key_calls (runs_on open_key r) }
+      key_failed e s' r = record { run = reading-fails e l mid s' (rw mine at c) (runs_on open_key r) }
 
   pub key_refused : (key t : ℕ) (e : Error) (s s' : PagerState N E) → Called v (λ w'. BeginKeyCall s.core me key (Err e) w') s s' → ReadsOver v s key t (Err e) s'
   key_refused key t e s s' c = record { run = reading-is-refused e s' (record { step = subst (λ m. BeginKeyCall s.core m key (Err e) s'.core) mine c.step; moves = c.moves; whole = c.whole }) }

@@ -1,7 +1,8 @@
--- What decoding answers, in the words of loads.
-use Rattle.std.specs.Prelude.{Bool, List, Result, false, true, ℕ, ◌≡◌, ◌⊎◌}
-use Rattle.{pagable_loads.specs.declared.decoding.Decoded.Decoded, pagable_model.specs.{Blob.Blob, Meaning.Meaning, Reading.Rest, Standing.{Answer, GivesSome}, declared.error.Error.Error}}
-use Rattle.{pagable_model.specs.declared.numbers.ArcRef.ArcRef, pagable_world.specs.{Loads.{asks, is_faulty, next_of, read_with, reads}, World.Values}}
+-- What decoding answers, in the words of loads; and what a load needs next, in the words of the world.
+use Rattle.std.specs.Prelude.{Bool, IsSome, List, Result, [], false, length, true, ℕ, ◌<◌, ◌≡◌, ◌⊎◌}
+use Rattle.{pagable_loads.specs.{Frames.reading_of, declared.{decoding.Decoded.Decoded, reading.{Need.Need, Reading.Reading as Own}}}, pagable_model.specs.{Blob.Blob, Meaning.Meaning, Reading.Rest}}
+use Rattle.{pagable_model.specs.{Standing.{Answer, GivesSome}, declared.{error.Error.Error, numbers.ArcRef.ArcRef}}, pagable_world.specs.World.{Reading, Values}}
+use Rattle.pagable_world.specs.Loads.{ReadsNode, ReadsRoot, RefusesBlob, asks, is_faulty, need_of, needs_lazy, needs_nested, next_of, read_with, reads}
 
 -- the value is of the type, and means what the blob reads as
 pub record IsReadAs {N : Type 0} (v : Values N) (t : ℕ) (blob : Blob) (got : List ArcRef) (x : N) : Type 0 where
@@ -28,3 +29,22 @@ pub record ReadsWith {N : Type 0} (v : Values N) (t : ℕ) (blob : Blob) (got : 
 abbrev pub is_asking : Error → Bool
 is_asking (Error.Storage kind) = true
 is_asking e = false
+
+abbrev pub NeedIs : {N : Type 0} → Values N → Reading → Need N → Type 0
+NeedIs v reading Need.Root = reading.frames ≡ []
+NeedIs v reading (Need.Nested kind key) = need_of v.types reading.frames ≡ needs_nested kind key
+NeedIs v reading (Need.Lazy kind key) = need_of v.types reading.frames ≡ needs_lazy kind key
+NeedIs v reading (Need.Adopt x) = ReadsNode v reading x
+NeedIs v reading (Need.End x) = ReadsRoot v reading x
+NeedIs v reading (Need.Refuse e) = RefusesBlob v reading e
+
+abbrev pub FramesFor : {N : Type 0} → Own → Need N → Type 0
+FramesFor own (Need.Nested kind key) = IsSome own.top
+FramesFor own (Need.Lazy kind key) = IsSome own.top
+FramesFor own (Need.Adopt x) = IsSome own.top × (0 < length own.below.items)
+FramesFor own need = Unit {0}
+
+-- the need is the load's, and the blobs are there that it is of
+pub record Needs {N : Type 0} (v : Values N) (own : Own) (need : Need N) : Type 0 where
+  pub is : NeedIs v (reading_of own) need
+  pub there : FramesFor own need

@@ -2,10 +2,8 @@ pub mod Telling
 pub mod Got
 pub mod Decoding
 pub mod Frames
-pub mod Needing
 pub mod Stepping
 pub mod Working
 pub mod Ending
 pub mod Ahead
-pub mod StandIns
 pub mod Starting

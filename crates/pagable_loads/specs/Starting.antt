@@ -1,6 +1,6 @@
 -- A pin that begins, and one that was begun and is taken back.
 use Rattle.std.specs.{Option.option_map, Prelude.{Bool, Err, IfErr, IfOk, Ok, Option, Result, Some, false, true, ◌≡◌, ◌⊎◌}}
-use Rattle.{pagable_loads.specs.declared.starting.PinStart.PinStart, pagable_model.specs.declared.{error.Error.Error, numbers.HandleNumber.HandleNumber}, pagable_world.specs.Access.{Called, PinRun}}
+use Rattle.{pagable_loads.specs.declared.access.PinStart.PinStart, pagable_model.specs.declared.{error.Error.Error, numbers.HandleNumber.HandleNumber}, pagable_world.specs.Access.{Called, PinRun}}
 use Rattle.pagable_world.specs.{Calls.{PinCall, ReleaseCall, UnpinCall}, Events.reading_of_load, Kinds.is_unpinned, LoadCalls.BeginCall, Pager.{PagerState, ValueCall}, Plain.if_there}
 use Rattle.pagable_world.specs.{Refusals.live_fault, Workers.fresh, World.{Core, Values, row_at}, declared.{answers.{Beginning.Beginning, Pinning.Pinning}, handles.{HandleRow.HandleRow, Owner.Owner}}}
 

@@ -1,6 +1,6 @@
 -- What a worker's calls of an access do, in the words of the world.
 use Rattle.std.specs.Prelude.{Err, IfErr, IfOk, None, Ok, Option, Result, Some, length, true, ℕ, ◌≡◌, ◌≤◌, ◌⊎◌}
-use Rattle.{pagable_loads.specs.declared.working.Taken.Taken, pagable_model.specs.declared.{error.Error.Error, numbers.{ArcRef.ArcRef, HandleNumber.HandleNumber, LoadNumber.LoadNumber}}}
+use Rattle.{pagable_loads.specs.declared.access.Taken.Taken, pagable_model.specs.declared.{error.Error.Error, numbers.{ArcRef.ArcRef, HandleNumber.HandleNumber, LoadNumber.LoadNumber}}}
 use Rattle.{pagable_model.specs.declared.numbers.WorkerNumber.WorkerNumber, pagable_world.specs.{Access.{Called, WorkerStarts}, Calls.CloneCall, Events.{IsEntry, with_entry_taken}, Kinds.HasKinds}}
 use Rattle.pagable_world.specs.{Kinds.{HasNoKinds, loose_kind}, LoadCalls.BeginCall, Pager.PagerState, Workers.{PinRefused, PinsAtOnce, RowIs}, World.{Alike, Core, Values}}
 use Rattle.pagable_world.specs.declared.{answers.Beginning.Beginning, handles.{HandleRow.HandleRow, Owner.Owner}}

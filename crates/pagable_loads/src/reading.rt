@@ -1,14 +1,15 @@
 //! How far a load is: the blobs that it reads, what it needs next, and the values of the references that were got, which it lends to the reader of its innermost blob.
 
-ghost use Rattle.std.specs.{Arc.arc_value, List.list_any, Option.option_map, Prelude.{IfErr, IfOk, IsSome, [], length, ◌<◌, ◌≡◌}};
-ghost use Rattle.{pagable_loads.specs.{Frames.{frames_of, reading_of}, Got.{Lends, LendsEach}, Needing.Needs, Telling.{Tells, values_at}}, pagable_model.specs.Deep.is_eager};
+ghost use Rattle.std.specs.{Arc.arc_value, List.list_any, Option.option_map, Prelude.{IfErr, IfOk, IsSome, OnOk, [], length, vec_capacity, vec_len, ◌++◌, ◌<◌, ◌^◌, ◌∷◌, ◌≡◌, ◌≤◌}};
+ghost use Rattle.{pagable_core.specs.Data.blob_of, pagable_loads.specs.{Frames.{frame_of, frames_of, onto, reading_of}, Got.{Lends, LendsEach}, Stepping.{IsSameLoad, TakenOff, TakenTwo}}};
+ghost use Rattle.{pagable_loads.specs.{Decoding.Needs, Telling.{Tells, values_at}}, pagable_model.specs.Deep.{is_eager, longest_path}};
+ghost use Rattle.pagable_world.specs.Loads.{handles_of, nested_frame, root_frame};
 
 use crate::access::Access;
 use crate::decoding::{Decoded, decode};
-use pagable_codec::{ArcRef, Env, Kind, NodeSet};
+use pagable_codec::{Env, NodeSet};
 use pagable_core::PagableData;
-use pagable_flavors::{DataKey, Error};
-use pagable_model::LoadNumber;
+use pagable_model::{ArcRef, DataKey, Error, HandleNumber, Kind, LoadNumber};
 use std::alloc::Global;
 use std::sync::Arc;
 
@@ -47,10 +48,8 @@ pub enum Need<N: Drop> {
     Lazy(Kind, DataKey),
     /// A node of this value, for the blob below.
     Adopt(N),
-    /// The root is read: the cell's value.
+    /// The root is read: the value that the cell, or else the caller, gets.
     End(N),
-    /// The root is read: the value that the caller gets.
-    HandOver(N),
     /// The innermost blob is refused.
     Refuse(Error),
 }
@@ -83,45 +82,6 @@ impl Reading {
             top: None,
             below: Vec::new(alloc),
             steps: 0,
-        }
-    }
-
-    /// What the load needs next. The innermost blob is read from its front for it, with these values of the references that it has got, and nothing else is touched.
-    #[tactic(auto, using(crate::proofs::Stepped::needing))]
-    pub fn next<E: Env>(
-        &self,
-        env: &E,
-        alloc: Global,
-        lent: &[Option<Arc<E::Node>>],
-    ) -> Need<E::Node>
-    where
-        E::Node: NodeSet<E>,
-        ensures needs { Needs (values_at E.Node.NodeSet E.Env E.Hash.KeyHash env.now) self.now result }
-    {
-        let Some(top) = &self.top else {
-            return Need::Root;
-        };
-        let blob = top.blob.as_ref();
-        let got = top.got.as_slice();
-        match decode(env, alloc, blob, top.node_type, got, lent) {
-            Decoded::Refused(e) => Need::Refuse(e),
-            Decoded::Wants(kind, key) => {
-                if is_read_at_once(kind) {
-                    Need::Nested(kind, key)
-                } else {
-                    Need::Lazy(kind, key)
-                }
-            }
-            Decoded::Read(value) => {
-                if !self.below.is_empty() {
-                    return Need::Adopt(value);
-                }
-                if self.for_cell {
-                    Need::End(value)
-                } else {
-                    Need::HandOver(value)
-                }
-            }
         }
     }
 }
@@ -176,19 +136,143 @@ where
 }
 
 impl Reading {
-    /// What the load needs next, with the values of what its innermost blob has got; want of memory for these refuses the blob.
-    pub(crate) fn next_over<E: Env, A: Access<E>>(&self, access: &A, alloc: Global) -> Need<E::Node>
+    /// What the load needs next. The innermost blob is read from its front for it, with the values of the references that it has got, and nothing else is touched. Want of memory for these refuses the
+    /// blob.
+    #[tactic(auto, using(crate::proofs::Stepped::needing))]
+    pub fn next<E: Env, A: Access<E>>(&self, access: &A, alloc: Global) -> Need<E::Node>
     where
         E::Node: NodeSet<E>,
         ensures needs { Needs (values_at E.Node.NodeSet E.Env E.Hash.KeyHash (A.acting access.now).environment) self.now result }
     {
-        let got = match &self.top {
-            Some(top) => top.got.as_slice(),
-            None => &[],
+        let Some(top) = &self.top else {
+            return Need::Root;
         };
-        match lend::<E, A>(access, alloc, got) {
-            Ok(lent) => self.next(access.env(), alloc, lent.as_slice()),
-            Err(e) => Need::Refuse(e),
+        let blob = top.blob.as_ref();
+        let got = top.got.as_slice();
+        let Ok(lent) = lend::<E, A>(access, alloc, got) else {
+            return Need::Refuse(Error::OutOfMemory);
+        };
+        let env = access.env();
+        match decode(env, alloc, blob, top.node_type, got, lent.as_slice()) {
+            Decoded::Refused(e) => Need::Refuse(e),
+            Decoded::Wants(kind, key) => {
+                if is_read_at_once(kind) {
+                    Need::Nested(kind, key)
+                } else {
+                    Need::Lazy(kind, key)
+                }
+            }
+            Decoded::Read(value) => {
+                if !self.below.is_empty() {
+                    return Need::Adopt(value);
+                }
+                Need::End(value)
+            }
         }
     }
+}
+
+// ---- the blobs of a load, the innermost apart from those below it
+
+impl Reading {
+    /// Takes the innermost blob off, with a place for one more reference, and makes a place for it below. Refused with OutOfMemory.
+    pub(crate) fn take_top(&mut self) -> Result<Frame, Error>
+        requires { IsSome self.old.top }
+        ensures ok { IfOk result (λ top. TakenOff self.old self.new top) }
+        ensures only { IfErr result (λ e. e ≡ Error.OutOfMemory) }
+        ensures same { IsSameLoad self.old self.new self.old.steps }
+    {
+        let mut top = self.top.take().unwrap();
+        top.got.reserve(1)?;
+        self.below.reserve(1)?;
+        Ok(top)
+    }
+
+    /// Takes the innermost blob off, and the one below it with a place for one more reference. Refused with OutOfMemory.
+    #[tactic(auto, using(crate::proofs::Stepped::stacking))]
+    pub(crate) fn take_two(&mut self) -> Result<(Frame, Frame), Error>
+        requires top { IsSome self.old.top }
+        requires below { 0 < length self.old.below.items }
+        ensures ok { IfOk result (λ two. TakenTwo self.old self.new two.0 two.1) }
+        ensures only { IfErr result (λ e. e ≡ Error.OutOfMemory) }
+        ensures same { IsSameLoad self.old self.new self.old.steps }
+    {
+        let top = self.top.take().unwrap();
+        let mut under = self.below.pop().unwrap();
+        under.got.reserve(1)?;
+        Ok((top, under))
+    }
+
+    /// The blob is the innermost, and has got one more reference.
+    pub(crate) fn put_got(&mut self, top: Frame, reference: ArcRef)
+        requires { vec_len top.got < vec_capacity top.got }
+        ensures gets { frames_of self.new.top self.new.below.items ≡ record (frame_of top) { got = top.got.items ++ reference ∷ [] } ∷ onto [] self.old.below.items }
+        ensures same { IsSameLoad self.old self.new self.old.steps }
+    {
+        let mut top = top;
+        top.got.push(reference).unwrap();
+        self.top = Some(top);
+    }
+
+    /// The root's blob is the only one.
+    #[tactic(auto, using(crate::proofs::Stepped::stacking))]
+    pub(crate) fn put_root(&mut self, alloc: Global, blob: Arc<PagableData>)
+        ensures few { length (blob_of (arc_value blob)).keys < 2 ^ 63 }
+        ensures root { frames_of self.new.top self.new.below.items ≡ root_frame self.old.key self.old.node_type (blob_of (arc_value blob)) ∷ [] }
+        ensures same { IsSameLoad self.old self.new self.old.steps }
+    {
+        // (by this count its references are known to be fewer than numbers go)
+        let _count = blob.as_ref().arcs.len();
+        self.below = Vec::new(alloc);
+        self.top = Some(Frame {
+            kind: Kind(3),
+            key: self.key,
+            node_type: self.node_type,
+            blob,
+            got: Vec::new(alloc),
+        });
+    }
+
+    /// A reference's blob is the innermost, over the one that asked for it. Refused with TooDeep where it would be the 129th below the root.
+    #[tactic(auto, using(crate::proofs::Stepped::stacking))]
+    pub(crate) fn put_blob(
+        &mut self,
+        alloc: Global,
+        top: Frame,
+        kind: Kind,
+        key: DataKey,
+        blob: Arc<PagableData>,
+    ) -> Result<(), Error>
+        requires { vec_len self.old.below < vec_capacity self.old.below }
+        ensures ok { OnOk result (frames_of self.new.top self.new.below.items ≡ nested_frame kind key (blob_of (arc_value blob)) ∷ frame_of top ∷ onto [] self.old.below.items) }
+        ensures few { length (blob_of (arc_value blob)).keys < 2 ^ 63 }
+        ensures short { OnOk result (length self.old.below.items < longest_path) }
+        ensures deep { IfErr result (λ e. e ≡ Error.TooDeep) }
+        ensures long { IfErr result (λ e. longest_path ≤ length self.old.below.items) }
+        ensures same { IsSameLoad self.old self.new self.old.steps }
+    {
+        // (by this count its references are known to be fewer than numbers go)
+        let _count = blob.as_ref().arcs.len();
+        if self.below.len() >= 128 {
+            return Err(Error::TooDeep);
+        }
+        self.below.push(top).unwrap();
+        self.top = Some(Frame {
+            kind,
+            key,
+            node_type: kind.0 / 3,
+            blob,
+            got: Vec::new(alloc),
+        });
+        Ok(())
+    }
+}
+
+/// The handles of references, in their order. Refused with OutOfMemory.
+pub(crate) fn all_handles(alloc: Global, references: &[ArcRef]) -> Result<Vec<HandleNumber>, Error>
+    ensures ok { IfOk result (λ handles. handles.items ≡ handles_of references.now) }
+    ensures only { IfErr result (λ e. e ≡ Error.OutOfMemory) }
+{
+    let handles = references.iter().map(|r| r.handle).collect(alloc)?;
+    Ok(handles)
 }

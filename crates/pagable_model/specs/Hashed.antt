@@ -1,6 +1,7 @@
 -- Hash maps: what they mean, and what one more entry leaves. The order of their entries is open.
-use Rattle.std.specs.{Prelude.{◌≡◌, refl, Bool, List, [], ◌∷◌, map, MatchOption, IsPermutation}, List.IsDistinct, Map.{keys_of, lookup, set_value}}
-use Rattle.pagable_model.specs.{declared.numbers.ArcRef.ArcRef, Meaning.{Meaning, pair, entry}, Keys.Entry, Carried.of_hash_map, Lifted.{MeanAll, mean-none, mean-more, MeansPair, pair_is_meaning}}
+use Rattle.std.{proofs.{Common.{◌∙◌, sym}, lemmas.Simd.map-map}, specs.{Prelude.{◌≡◌, refl, Bool, List, [], ◌∷◌, map, MatchOption, IsPermutation}, List.IsDistinct, Map.{keys_of, lookup, set_value}}}
+use Rattle.pagable_model.specs.{declared.numbers.ArcRef.ArcRef, Meaning.{Meaning, pair, entry}, Keys.Entry, Carried.of_hash_map}
+use Rattle.pagable_model.specs.Lifted.{MeanAll, MeansPair, items_are_meanings, items_single, pair_is_meaning, pair_single}
 
 -- One more entry was put in, and no key is there twice. The value of a key that was there is replaced; a new key stands
 -- anywhere.
@@ -13,27 +14,20 @@ pub record MeansHashMap {K V : Type 0} (M : K → Meaning ArcRef → Type 0) (N 
   pub each : MeanAll (MeansPair M N) xs (map entry es)
   pub is : m ≡ of_hash_map es
 
-entries_are_meanings : {K V : Type 0} (M : K → Meaning ArcRef → Type 0) (N : V → Meaning ArcRef → Type 0) (f : K → Meaning ArcRef) (g : V → Meaning ArcRef) → ((x : K) → M x (f x)) → ((y : V) → N y (g y)) → (xs : List (K × V))
-    → MeanAll (MeansPair M N) xs (map entry (map {B = Entry ArcRef} (λ x. (f x.0, g x.1)) xs))
-entries_are_meanings M N f g is_first is_second [] = mean-none
-entries_are_meanings M N f g is_first is_second (x ∷ xs) = mean-more x _ xs _ (pair_is_meaning M N f g is_first is_second x) (entries_are_meanings M N f g is_first is_second xs)
-
 pub hash_map_is_meaning : {K V : Type 0} (M : K → Meaning ArcRef → Type 0) (N : V → Meaning ArcRef → Type 0) (f : K → Meaning ArcRef) (g : V → Meaning ArcRef) → ((x : K) → M x (f x)) → ((y : V) → N y (g y)) → (xs : List (K × V))
     → MeansHashMap M N xs (of_hash_map (map (λ x. (f x.0, g x.1)) xs))
-hash_map_is_meaning M N f g is_first is_second xs = record { es = map (λ x. (f x.0, g x.1)) xs; each = entries_are_meanings M N f g is_first is_second xs; is = refl }
+hash_map_is_meaning M N f g is_first is_second xs =
+    let each = items_are_meanings (MeansPair M N) (λ x. pair (f x.0) (g x.1)) (pair_is_meaning M N f g is_first is_second) xs in
+    record { es = map (λ x. (f x.0, g x.1)) xs; each = rw map-map each; is = refl }
 
-entries_single : {K V : Type 0} (M : K → Meaning ArcRef → Type 0) (N : V → Meaning ArcRef → Type 0) (f : K → Meaning ArcRef) (g : V → Meaning ArcRef) → ((x : K) (m : Meaning ArcRef) → M x m → m ≡ f x) → ((y : V) (m : Meaning ArcRef) → N y m → m ≡ g y)
-    → {xs : List (K × V)} {ms : List (Meaning ArcRef)} (es : List (Entry ArcRef)) → MeanAll (MeansPair M N) xs ms → ms ≡ map entry es → es ≡ map (λ x. (f x.0, g x.1)) xs
-entries_single M N f g single_first single_second [] mean-none e = refl
-entries_single M N f g single_first single_second (y ∷ es) (mean-more x m xs ms h t) e =
-    let is : m ≡ pair h.first h.second = h.is in
-    let firsts : y.0 ≡ h.first = cc in
-    let seconds : y.1 ≡ h.second = cc in
-    let tails : ms ≡ map entry es = cc in
-    let rest = entries_single M N f g single_first single_second es t tails in
-    rw (firsts, seconds, single_first x.0 h.first h.is_first, single_second x.1 h.second h.is_second, rest) refl
-entries_single M N f g single_first single_second _ _ e = cc
+same_entries : (es fs : List (Entry ArcRef)) → map entry es ≡ map entry fs → es ≡ fs
+same_entries [] [] e = refl
+same_entries (x ∷ es) (y ∷ fs) e = let rest = same_entries es fs (cc) in let first : x.0 ≡ y.0 = cc in let second : x.1 ≡ y.1 = cc in λ i. (first i, second i) ∷ rest i
+same_entries _ _ e = cc
 
 pub hash_map_single : {K V : Type 0} (M : K → Meaning ArcRef → Type 0) (N : V → Meaning ArcRef → Type 0) (f : K → Meaning ArcRef) (g : V → Meaning ArcRef) → ((x : K) (m : Meaning ArcRef) → M x m → m ≡ f x) → ((y : V) (m : Meaning ArcRef) → N y m → m ≡ g y)
     → (xs : List (K × V)) (m : Meaning ArcRef) → MeansHashMap M N xs m → m ≡ of_hash_map (map (λ x. (f x.0, g x.1)) xs)
-hash_map_single M N f g single_first single_second xs m means = rw (means.is, entries_single M N f g single_first single_second means.es means.each refl) refl
+hash_map_single M N f g single_first single_second xs m means =
+    let each = items_single (MeansPair M N) (λ x. pair (f x.0) (g x.1)) (pair_single M N f g single_first single_second) xs (map entry means.es) means.each in
+    let same = same_entries means.es (map (λ x. (f x.0, g x.1)) xs) (each ∙ sym (map-map entry (λ x. (f x.0, g x.1)) xs)) in
+    rw (means.is, same) refl

@@ -2,7 +2,7 @@
 -- in which order they stand.
 use Rattle.std.{proofs.{Common.{ap, arith, ◌∙◌}, lemmas.{Bool.{and_parts, eqb-true, eq-eqb, Decides.Decides-int_eq}, Slice.Eq.bytes_eq-Decides}}, specs.Cmp.{both_ways, Lexicographic.slice_cmp}}
 use Rattle.std.specs.{Cmp.Lexicographic.pointwise, Option.{option_eq, option_cmp}, Ordering.{nat_cmp, int_cmp, int_eq, bool_cmp, ordering_then}, Prelude.{◌≡◌, ◌&&◌, ◌∷◌, ℕ, ℤ, zero, suc, Bool, true}}
-use Rattle.std.specs.{Prelude.{List, nat_eq, refl, Option, Result, Ok, Err}, Result.{result_eq, result_cmp}, Str.bytes_eq, declared.cmp.Ordering.Ordering}
+use Rattle.std.specs.{Prelude.{List, nat_eq, refl, Option, Result}, Result.{result_eq, result_cmp}, Str.bytes_eq, declared.cmp.Ordering.Ordering}
 use Rattle.pagable_model.specs.{Canonical.{LiesIn, Within, Throughout, throughout-in}, Carried.{of_option, of_result, of_list}, Codes.{one-meaning, same-integer}, Keys.{KeyOrder, code, same_key}}
 use Rattle.pagable_model.specs.{Keys.{ordered, number_order, integer_order, text_order, flag_order, optional_order, outcome_order, pair_order, list_order}, Meaning.{Meaning, number, integer, text}}
 use Rattle.pagable_model.specs.{Meaning.{pattern, pair, none, flag, plain}, Numbers.zigzag, Shape.Shape, declared.numbers.ArcRef.ArcRef}
@@ -102,9 +102,7 @@ option_is_same eq meaning same x0 x1 = grind (arith, same)
 pub result_is_same : {A T X : Type 0} (eq : T → T → Bool) (fails : X → X → Bool) (meaning : T → Meaning A) (failing : X → Meaning A) → ((x y : T) → eq x y ≡ same_key (meaning x) (meaning y)) → ((x y : X) → fails x y ≡ same_key (failing x) (failing y))
     → (x y : Result T X) → result_eq eq fails x y ≡ same_key (of_result meaning failing x) (of_result meaning failing y)
 unfolding plain code
-result_is_same eq fails meaning failing same alike (Ok x) (Ok y) = same x y
-result_is_same eq fails meaning failing same alike (Err x) (Err y) = alike x y
-result_is_same eq fails meaning failing same alike _ _ = refl
+result_is_same eq fails meaning failing same alike x0 x1 = grind (arith, same, alike)
 
 pub list_is_same : {A T : Type 0} (eq : T → T → Bool) (meaning : T → Meaning A) → ((x y : T) → eq x y ≡ same_key (meaning x) (meaning y)) → (xs ys : List T) → pointwise eq xs ys ≡ same_key (of_list meaning xs) (of_list meaning ys)
 unfolding plain code
@@ -144,9 +142,7 @@ option_is_ordered order cmp meaning is x0 x1 = grind (arith, is)
 pub result_is_ordered : {A T X : Type 0} (order fail_order : KeyOrder) (cmp : T → T → Ordering) (cmp_fails : X → X → Ordering) (meaning : T → Meaning A) (failing : X → Meaning A) → ((x y : T) → cmp x y ≡ ordered order (meaning x) (meaning y))
     → ((x y : X) → cmp_fails x y ≡ ordered fail_order (failing x) (failing y)) → (x y : Result T X) → result_cmp cmp cmp_fails x y ≡ ordered (outcome_order order fail_order) (of_result meaning failing x) (of_result meaning failing y)
 unfolding plain
-result_is_ordered order fail_order cmp cmp_fails meaning failing is fails (Ok x) (Ok y) = is x y
-result_is_ordered order fail_order cmp cmp_fails meaning failing is fails (Err x) (Err y) = fails x y
-result_is_ordered order fail_order cmp cmp_fails meaning failing is fails _ _ = refl
+result_is_ordered order fail_order cmp cmp_fails meaning failing is fails x0 x1 = grind (arith, is, fails)
 
 pub list_is_ordered : {A T : Type 0} (order : KeyOrder) (cmp : T → T → Ordering) (meaning : T → Meaning A) → ((x y : T) → cmp x y ≡ ordered order (meaning x) (meaning y)) → (xs ys : List T) → slice_cmp cmp xs ys ≡ ordered (list_order order) (of_list meaning xs) (of_list meaning ys)
 unfolding plain

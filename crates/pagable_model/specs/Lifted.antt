@@ -1,5 +1,5 @@
 -- What values that hold others mean: the meanings of their parts, put together.
-use Rattle.std.{specs.Prelude.{◌≡◌, refl, Option, Some, None, Result, Ok, Err, List, [], ◌∷◌, map, ℤ, pos}, specs.Int.w64, proofs.Common.{ap, arith}}
+use Rattle.std.{proofs.Common.arith, specs.{Int.w64, Prelude.{◌≡◌, refl, Option, Some, None, Result, Ok, Err, List, [], ◌∷◌, map, ℤ, pos}}}
 use Rattle.pagable_model.specs.{Meaning.{Meaning, integer, pair, sequence, absent, present, success, failure}, Carried.{of_option, of_result}, Numbers.IsSigned, Standing.SomeMeaning}
 use Rattle.pagable_model.specs.declared.numbers.ArcRef.{ArcRef}
 
@@ -64,21 +64,17 @@ pair_has_meaning M N has_first has_second p =
 -- ---- and one meaning if each of its parts has one
 
 pub option_is_meaning : {T : Type 0} (M : T → Meaning ArcRef → Type 0) (meaning : T → Meaning ArcRef) → ((x : T) → M x (meaning x)) → (o : Option T) → MeansOption M o (of_option meaning o)
-option_is_meaning M meaning is None = means-none
-option_is_meaning M meaning is (Some x) = means-some x (meaning x) (is x)
+option_is_meaning M meaning is x0 = grind (arith, is, means-none, means-some)
 
 pub option_single : {T : Type 0} (M : T → Meaning ArcRef → Type 0) (meaning : T → Meaning ArcRef) → ((x : T) (m : Meaning ArcRef) → M x m → m ≡ meaning x) → (o : Option T) (m : Meaning ArcRef) → MeansOption M o m → m ≡ of_option meaning o
-option_single M meaning single None _ means-none = refl
-option_single M meaning single (Some x) _ (means-some x' m is) = ap present (single x' m is)
+option_single M meaning single x0 m h = grind (arith, single)
 
 pub result_is_meaning : {T X : Type 0} (M : T → Meaning ArcRef → Type 0) (N : X → Meaning ArcRef → Type 0) (f : T → Meaning ArcRef) (g : X → Meaning ArcRef) → ((x : T) → M x (f x)) → ((x : X) → N x (g x)) → (r : Result T X) → MeansResult M N r (of_result f g r)
-result_is_meaning M N f g is_ok is_err (Ok x) = means-ok x (f x) (is_ok x)
-result_is_meaning M N f g is_ok is_err (Err x) = means-err x (g x) (is_err x)
+result_is_meaning M N f g is_ok is_err x0 = grind (arith, is_ok, is_err, means-ok, means-err)
 
 pub result_single : {T X : Type 0} (M : T → Meaning ArcRef → Type 0) (N : X → Meaning ArcRef → Type 0) (f : T → Meaning ArcRef) (g : X → Meaning ArcRef) → ((x : T) (m : Meaning ArcRef) → M x m → m ≡ f x) → ((x : X) (m : Meaning ArcRef) → N x m → m ≡ g x)
     → (r : Result T X) (m : Meaning ArcRef) → MeansResult M N r m → m ≡ of_result f g r
-result_single M N f g single_ok single_err (Ok x) _ (means-ok x' m is) = ap success (single_ok x' m is)
-result_single M N f g single_ok single_err (Err x) _ (means-err x' m is) = ap failure (single_err x' m is)
+result_single M N f g single_ok single_err x0 m h = grind (arith, single_ok, single_err)
 
 pub items_are_meanings : {T : Type 0} (M : T → Meaning ArcRef → Type 0) (meaning : T → Meaning ArcRef) → ((x : T) → M x (meaning x)) → (xs : List T) → MeanAll M xs (map meaning xs)
 items_are_meanings M meaning is [] = mean-none

@@ -67,10 +67,7 @@ impl OptionalDataKey {
     pub fn is_some(&self) -> bool
         ensures { IsTrue result ↔ (self.now ≢ OptionalDataKey.None) }
     {
-        match self {
-            OptionalDataKey::None => false,
-            OptionalDataKey::Some(_) => true,
-        }
+        !self.is_none()
     }
 
     /// Whether there is no key.

@@ -67,35 +67,43 @@ pub enum Error {
 }
 
 impl Error {
-    /// What is refused, in words, without the key, the code or the text that comes with it.
-    fn text(&self) -> &'static str {
+    /// The refusal's number; and what is refused, in words, without the key, the code or the text that comes with it.
+    fn row(&self) -> (u32, &'static str)
+        ensures { result.0 ≡ number_of self.now }
+    {
         match self {
-            Error::UnexpectedEnd => "the input ends inside a value",
-            Error::BadVarint => "a number has too many bytes, or its last byte is too large",
-            Error::BadBool => "a flag is neither 0 nor 1",
-            Error::BadUtf8 => "a text isn't UTF-8",
-            Error::BadChar => "a text isn't exactly one character",
-            Error::TooLong => "a length is above 4294967295",
-            Error::TooDeep => "a depth limit of 128 is passed",
-            Error::JsonCase => "the case of a JSON value is above 5",
-            Error::JsonNumber => "a JSON number isn't a whole number of 64 bits with a sign",
-            Error::BadDuration => "the seconds of a duration overflow",
-            Error::RegexRefused => "a pattern is refused",
-            Error::UnknownTag => "a tag isn't registered",
-            Error::BadStaticIndex => "the index of a static value isn't registered",
-            Error::Unregistered => "a static value isn't in the environment's registry",
-            Error::NoMoreKeys => "a reference is read and no key is left",
-            Error::NoData(_) => "the store has no blob under the key",
-            Error::WrongKind => "the type of a kind or cell isn't that of its node",
-            Error::NoSuchHandle => "nothing live has this number",
-            Error::WrongMode => "the handle's mode doesn't fit",
-            Error::NotYours => "the handle is owned by another, or is named twice",
-            Error::NumbersSpent => "no number is left",
-            Error::OutOfMemory => "out of memory",
-            Error::Storage(_) => "the storage failed with code",
-            Error::KeyTaken => "another blob stands under the key",
-            Error::Closed => "the storage was closed",
-            Error::Custom(_) => "a caller's own implementation refused",
+            Error::UnexpectedEnd => (1, "the input ends inside a value"),
+            Error::BadVarint => (
+                2,
+                "a number has too many bytes, or its last byte is too large",
+            ),
+            Error::BadBool => (3, "a flag is neither 0 nor 1"),
+            Error::BadUtf8 => (4, "a text isn't UTF-8"),
+            Error::BadChar => (5, "a text isn't exactly one character"),
+            Error::TooLong => (6, "a length is above 4294967295"),
+            Error::TooDeep => (7, "a depth limit of 128 is passed"),
+            Error::JsonCase => (8, "the case of a JSON value is above 5"),
+            Error::JsonNumber => (
+                9,
+                "a JSON number isn't a whole number of 64 bits with a sign",
+            ),
+            Error::BadDuration => (10, "the seconds of a duration overflow"),
+            Error::RegexRefused => (11, "a pattern is refused"),
+            Error::UnknownTag => (12, "a tag isn't registered"),
+            Error::BadStaticIndex => (13, "the index of a static value isn't registered"),
+            Error::Unregistered => (14, "a static value isn't in the environment's registry"),
+            Error::NoMoreKeys => (15, "a reference is read and no key is left"),
+            Error::NoData(_) => (16, "the store has no blob under the key"),
+            Error::WrongKind => (17, "the type of a kind or cell isn't that of its node"),
+            Error::NoSuchHandle => (18, "nothing live has this number"),
+            Error::WrongMode => (19, "the handle's mode doesn't fit"),
+            Error::NotYours => (20, "the handle is owned by another, or is named twice"),
+            Error::NumbersSpent => (21, "no number is left"),
+            Error::OutOfMemory => (22, "out of memory"),
+            Error::Storage(_) => (23, "the storage failed with code"),
+            Error::KeyTaken => (24, "another blob stands under the key"),
+            Error::Closed => (25, "the storage was closed"),
+            Error::Custom(_) => (26, "a caller's own implementation refused"),
         }
     }
 
@@ -103,34 +111,7 @@ impl Error {
     pub fn number(&self) -> u32
         ensures { result ≡ number_of self.now }
     {
-        match self {
-            Error::UnexpectedEnd => 1,
-            Error::BadVarint => 2,
-            Error::BadBool => 3,
-            Error::BadUtf8 => 4,
-            Error::BadChar => 5,
-            Error::TooLong => 6,
-            Error::TooDeep => 7,
-            Error::JsonCase => 8,
-            Error::JsonNumber => 9,
-            Error::BadDuration => 10,
-            Error::RegexRefused => 11,
-            Error::UnknownTag => 12,
-            Error::BadStaticIndex => 13,
-            Error::Unregistered => 14,
-            Error::NoMoreKeys => 15,
-            Error::NoData(_) => 16,
-            Error::WrongKind => 17,
-            Error::NoSuchHandle => 18,
-            Error::WrongMode => 19,
-            Error::NotYours => 20,
-            Error::NumbersSpent => 21,
-            Error::OutOfMemory => 22,
-            Error::Storage(_) => 23,
-            Error::KeyTaken => 24,
-            Error::Closed => 25,
-            Error::Custom(_) => 26,
-        }
+        self.row().0
     }
 }
 
@@ -138,10 +119,10 @@ impl Error {
 impl fmt::Display for Error {
     fn fmt<W: fmt::Write>(&self, f: &mut fmt::Formatter<W>) -> fmt::Result {
         match self {
-            Error::NoData(key) => write!(f, "{} {key}", self.text()),
-            Error::Storage(code) => write!(f, "{} {code}", self.text()),
+            Error::NoData(key) => write!(f, "{} {key}", self.row().1),
+            Error::Storage(code) => write!(f, "{} {code}", self.row().1),
             Error::Custom(reason) => f.write_str(reason.as_str()),
-            _ => f.write_str(self.text()),
+            _ => f.write_str(self.row().1),
         }
     }
 }

@@ -1,19 +1,19 @@
 -- What leaves the pager in step: values that go with their nodes, calls by which no value comes or goes, what is asked of the storage, and what comes with a value.
-use Rattle.std.proofs.Common.{Bool, Err, None, Ok, Option, Result, Some, [], ap, arith, false, if◌then◌else◌, nat_eq, not, refl, rules, subst, sym, true, ℕ, ◌&&◌, ◌∙◌, ◌≡◌, ◌≤◌, List, inl, inr, ◌+◌}
-use Rattle.std.{proofs.{Common.{◌<◌, ◌==◌}, lemmas.Bool.{cases_eq, Decides.nat_tests}}, specs.{Arc.arc_value, HashMap.get, Option.option_map, Prelude.{IfErr, IfOk, OnErr, OnOk, is_some, nat_lt, ◌⊎◌}}}
-use Rattle.{pagable_laws.proofs.{Goes.NotValues, SparingSteps.entered-of, Taking.row-held, Trees.same_some}, pagable_model.specs.Stored.Adds, std.specs.Prelude.{IfNone, IfSome, ◌≢◌}}
-use Rattle.pagable_model.specs.{Stored.{RefusesFetch, RefusesStore}, declared.numbers.{ArcRef.ArcRef, HandleNumber.HandleNumber, Kind.Kind, LoadNumber.LoadNumber, NodeNumber.NodeNumber}}
-use Rattle.{pagable_pager.specs.View.{CallsLess, IsPager, OnlyLess, PagerView, Telling, ValuesByNode, core_in, is_at_work, state_in, value_in, PutsIn, with_value}, pagable_steps.proofs.Calls.closed}
-use Rattle.pagable_steps.proofs.{Calls.{adopted_known, adopts-new, born, end_refused, installed_away, installed_there}, Owning.{IsRight, IsShut, Leaves, Rests, Spares, asked as spares-asked}}
-use Rattle.{pagable_steps.proofs.Owning.{known-here, not-load, recalls, spared, stores, unmoved, stayed}, pagable_tables.proofs.{Alive.not-so, Installed.{installs-wider, may-wider, so-then}}}
-use Rattle.pagable_tables.proofs.Worlds.{still, adopted-past, adopts-new as made-new, born-past, earlier-first, early-past, fault-by, next-past, refused-memory, refused-new, room-alike, room-fault}
-use Rattle.pagable_tables.{proofs.Worlds.told-later, specs.{Asking.{AsksKnown, early_fault}, Bearing.{Bears, OnlyRoom}, ByNumber.counts_at, Core.{IsWhole, core_of, plain_of}, Doing.{Does, DoesShed}}}
-use Rattle.pagable_tables.specs.{Falling.{AreKept, Sheds, cell_in, has_value, key_in, pins_in}, Later.AreLater, Ready.{IsReady, IsVain, ShedsBeside, has_come}, declared.loading.Ending.Ending}
-use Rattle.{pagable_tables.specs.declared.tables.{Counts.Counts, Tables.Tables}, pagable_world.specs.{Calls.{Asked, FetchCall, StoreCall, BirthCall, IsNext, birth_fault}, Kinds.has_key}}
-use Rattle.pagable_world.specs.{Kinds.{is_owner, is_pinning, mode_of, pins, held}, LoadCalls.{AskCall, from_cache, AdoptCall, Adopts, DropCall, EndCall, Installs, MayEnd, adopt_fault, adopted}}
-use Rattle.pagable_world.specs.{LoadCalls.{first_key, EndRefused}, Pager.{MayOwnLoad, PagerState, WellFormed, IsCellOf, IsNewNode, Moves}, Plain.{Blob, Error, if_there, updated}, Refusals.OwnsLoad}
-use Rattle.pagable_world.specs.{Refusals.{Refused, closed_fault, earlier, load_fault, references_fault, refused_if}, World.{Core, Values, is_here, seen_as, usable, Alike, Last, OpenLoad, greatest}}
-use Rattle.pagable_world.specs.declared.{calls.Want.Want, handles.Owner.Owner, rows.Mode.Mode}
+use Rattle.{pagable_laws.proofs.{Goes.NotValues, SparingSteps.entered-of, Taking.row-held, Trees.same_some}, pagable_model.specs.Stored.{Adds, RefusesFetch, RefusesStore}}
+use Rattle.{pagable_model.specs.declared.numbers.{ArcRef.ArcRef, HandleNumber.HandleNumber, Kind.Kind, LoadNumber.LoadNumber, NodeNumber.NodeNumber}, pagable_pager.specs.View.{CallsLess, IsPager}}
+use Rattle.{pagable_pager.specs.View.{OnlyLess, PagerView, PutsIn, Telling, ValuesByNode, core_in, is_at_work, state_in, value_in, with_value}, pagable_steps.proofs.Calls.{adopted_known, adopts-new}}
+use Rattle.pagable_steps.proofs.{Calls.{born, closed, end_refused, installed_away, installed_there}, Owning.{IsRight, IsShut, Leaves, Rests, Spares, asked as spares-asked, known-here, not-load}}
+use Rattle.{pagable_steps.proofs.Owning.{recalls, spared, stayed, stores, unmoved}, pagable_tables.proofs.{Alive.not-so, Installed.{installs-wider, may-wider, so-then}, Worlds.adopted-past}}
+use Rattle.pagable_tables.proofs.Worlds.{adopts-new as made-new, born-past, early-past, fault-by, next-past, refused-memory, refused-new, room-alike, room-fault, still, told-later}
+use Rattle.pagable_tables.specs.{Core.{AreLater, Bears, Does, DoesShed, IsWhole, OnlyRoom, core_of, plain_of}, Falling.{AreKept, Sheds, cell_in, counts_at, has_value, key_in, pins_in}}
+use Rattle.pagable_tables.specs.{Ready.{AsksKnown, IsReady, IsVain, ShedsBeside, early_fault, has_come}, declared.{loading.Ending.Ending, tables.{Counts.Counts, Tables.Tables}}}
+use Rattle.pagable_world.specs.{Calls.{Asked, BirthCall, FetchCall, IsNext, StoreCall, birth_fault}, Kinds.{has_key, held, is_owner, is_pinning, mode_of, pins}, LoadCalls.{AdoptCall, Adopts}}
+use Rattle.pagable_world.specs.{LoadCalls.{AskCall, DropCall, EndCall, EndRefused, Installs, MayEnd, adopt_fault, adopted, first_key, from_cache}, Pager.{IsCellOf, IsNewNode, MayOwnLoad, Moves}}
+use Rattle.pagable_world.specs.{Pager.{PagerState, WellFormed}, Plain.{Blob, Error, if_there, updated}, Refusals.{OwnsLoad, Refused, load_fault, references_fault}, World.{Alike, Core, Last}}
+use Rattle.{pagable_world.specs.{World.{OpenLoad, Values, greatest, is_here, seen_as, usable}, declared.{calls.Want.Want, handles.Owner.Owner, rows.Mode.Mode}}, std.proofs.Common.{Bool, Err, List}}
+use Rattle.std.proofs.Common.{None, Ok, Option, Result, Some, [], ap, arith, false, if◌then◌else◌, inl, inr, nat_eq, not, refl, rules, subst, sym, true, ℕ, ◌&&◌, ◌+◌, ◌<◌, ◌==◌, ◌∙◌, ◌≡◌, ◌≤◌}
+use Rattle.std.{proofs.lemmas.Bool.{cases_Bool, cases_eq, Decides.nat_tests}, specs.{Arc.arc_value, HashMap.get, Option.option_map, Prelude.{IfErr, IfNone, IfOk, IfSome, OnErr, OnOk, is_some}}}
+use Rattle.std.specs.Prelude.{nat_lt, ◌⊎◌}
 use Rattle.pagable_world.specs.Pager as pager
 
 -- the plain world is whole, whatever is stored, if nothing is listed or known once the storage is closed
@@ -35,10 +35,7 @@ whole-over t stored closed failures whole shut =
 -- tables that are whole leave the pager in step, where the plain state stays well-formed
 pub in-step : {N S E : Type 0} {tells : Telling S} {says : E → Values N} (q : PagerView N S E) → IsWhole q.tables → AreLater q.tables
     → (IsRight (state_in tells q) → WellFormed (says q.environment) (state_in tells q)) → IsPager tells says q
-in-step {tells = tells} q whole later state =
-    let right : IsRight (state_in tells q) =
-    record { counted = whole.steady.fits.pinned; whole = whole-over q.tables (tells.stored q.storage) (tells.closed q.storage) (tells.failed q.storage) whole } in
-    record { tables = whole; later = later; state = state right }
+in-step {tells = tells} q whole later state = search (whole-over)
 
 has-key : (k : ℕ) → has_key (key_in k) ≡ nat_lt 0 k
 has-key k = grind (arith, nat_tests)
@@ -52,6 +49,10 @@ some-map f o = grind (arith, nat_tests)
 
 pub left-map : {X Y : Type 0} (f : X → Y) (b : Bool) (old new : Option X) → ((new ≡ old) ⊎ (new ≡ None)) → is_some new ≡ b → option_map f new ≡ (if b then option_map f old else None)
 left-map f b old new which some = grind (arith, nat_tests)
+
+-- fewer values are there, and no other
+pub less-moves : {N S E : Type 0} (tells : Telling S) {comes : ℕ → N → Type 0} (p q : PagerView N S E) → OnlyLess p q → Moves comes (state_in tells p) (state_in tells q)
+less-moves tells p q less = record { each = λ n x has. inl (less.values n x has); environment = less.environment }
 
 module _ {N S E : Type 0} {tells : Telling S} {says : E → Values N} {p : PagerView N S E} (is : IsPager tells says p) where
   pub here-in : (n : ℕ) → (is_some ((core_in tells p).cells n) && is_here (core_in tells p) n) ≡ has_value (counts_at p.tables.holdings.nodes n)
@@ -78,8 +79,7 @@ module _ {N S E : Type 0} {tells : Telling S} {says : E → Values N} {p : Pager
 
     -- what is left
     pub swept : IsWhole t → Goes → (n : ℕ) → value_in values n ≡ (if is_some ((plain_of t).cells n) && is_here (plain_of t) n then value_in p.values n else None)
-    swept whole sheds n =
-        let here = here-told (counts_at t.holdings.nodes n) (plain_of t) n refl (sym (whole.steady.fits.pinned n)) in grind (arith, nat_tests, here-told, kept-in, left-map, nat_eq)
+    swept whole sheds n = grind (arith, nat_tests, here-told, kept-in, left-map, nat_eq)
 
     -- it leaves the pager in step
     pub shed : IsWhole t → AreLater t → Goes → (Leaves (value_in p.values) (state_in tells gone) → WellFormed (says p.environment) (state_in tells gone)) → IsPager tells says gone
@@ -93,19 +93,15 @@ module _ {N S E : Type 0} {tells : Telling S} {says : E → Values N} {p : Pager
     only-less sheds = record { values = less sheds; storage = refl; environment = refl }
 
     -- by a call of the tables
-    module _ {lists : Bool} {step : Core → Core → Type 0} (call : DoesShed lists p.tables p.values step t values) (opens : lists ≡ not (tells.closed p.storage)) where
+    module _ {b : Bool} {step : Core → Core → Type 0} (call : DoesShed (not b) p.tables p.values step t values) (opens : b ≡ tells.closed p.storage) where
       does : step (core_in tells p) (core_in tells gone)
-      does = call.does (tells.stored p.storage) (tells.closed p.storage) (tells.failed p.storage) opens
+      does = call.does (tells.stored p.storage) (tells.closed p.storage) (tells.failed p.storage) (ap not opens)
 
-      pub shed-by : (step (core_in tells p) (core_in tells gone) → Leaves (value_in p.values) (state_in tells gone) → WellFormed (says p.environment) (state_in tells gone)) → IsPager tells says gone
-      shed-by state = shed call.whole (call.later is.later) call.sheds (state does)
+      pub shed-by : (Leaves (value_in p.values) (state_in tells gone) → step (core_in tells p) (core_in tells gone) → WellFormed (says p.environment) (state_in tells gone)) → IsPager tells says gone
+      shed-by state = shed call.whole (call.later is.later) call.sheds (λ left. state left does)
 
       pub less-called : CallsLess tells p step gone
       less-called = record { step = does; only = only-less call.sheds }
-
--- cells are listed while the storage isn't closed
-pub told-open : {b closed : Bool} → b ≡ closed → not b ≡ not closed
-told-open e = ap not e
 
 -- the caller is no value
 pub caller-free : NotValues Owner.Caller
@@ -124,24 +120,24 @@ module _ {N S E : Type 0} {tells : Telling S} {says : E → Values N} {p q : Pag
   owner-loads m = grind (arith, nat_tests, owner-may)
 
 module _ {N S E : Type 0} {tells : Telling S} {says : E → Values N} {p : PagerView N S E} (is : IsPager tells says p) where
-  -- other tables
-  pub rested : (t : Tables) → IsWhole t → AreLater t → Rests (core_in tells p) (core_in tells (record p { tables = t })) → IsPager tells says (record p { tables = t })
-  rested t whole later rests = in-step (record p { tables = t }) whole later (spared is.state rests (λ n. refl))
-
   -- a call of the tables
-  pub called : {step : Core → Core → Type 0} (t : Tables) → Does p.tables step t
-      → (step (core_in tells p) (core_in tells (record p { tables = t })) → Rests (core_in tells p) (core_in tells (record p { tables = t }))) → IsPager tells says (record p { tables = t })
-  called t call rests = rested t call.whole (call.later is.later) (rests (call.does (tells.stored p.storage) (tells.closed p.storage) (tells.failed p.storage)))
+  module _ {step : Core → Core → Type 0} (t : Tables) (call : Does p.tables step t) where
+    pub made-by : (step (core_in tells p) (core_in tells (record p { tables = t })) → IsRight (state_in tells (record p { tables = t }))
+        → WellFormed (says p.environment) (state_in tells (record p { tables = t }))) → IsPager tells says (record p { tables = t })
+    made-by state = in-step (record p { tables = t }) call.whole (call.later is.later) (state (call.does (tells.stored p.storage) (tells.closed p.storage) (tells.failed p.storage)))
+
+    pub called : (step (core_in tells p) (core_in tells (record p { tables = t })) → Rests (core_in tells p) (core_in tells (record p { tables = t }))) → IsPager tells says (record p { tables = t })
+    called rests = made-by (λ made. spared is.state (rests made) (λ n. refl))
 
 -- what a load asks for
 pub known-found : {w w' : Core} {me : Owner} {l : LoadNumber} {kind : Kind} {key : ℕ} {k : HandleNumber} (found : Option HandleNumber) → found ≡ Some k → AsksKnown w me l kind key (Ok found) w'
     → AskCall w me l (Want.Nested kind key) (Ok (from_cache k)) w'
 known-found found some known = grind (arith, nat_tests)
 
-pub known-so : {N E : Type 0} {v : Values N} {s s' : PagerState N E} {me : Owner} {l : LoadNumber} {kind : Kind} {key : ℕ} → WellFormed v s → (r : Result (Option HandleNumber) Error)
-    → AsksKnown s.core me l kind key r s'.core → ((n : ℕ) → s'.values n ≡ s.values n) → IsRight s' → WellFormed v s'
-known-so {l = l} is (Ok found) c = spared is (recalls is.whole (not-load l) (Ok found) (record { answers = c.gives.2; refused = tt }))
-known-so is (Err e) c = spared is (unmoved c.refused.stays is.whole.shut)
+-- and no value comes or goes by that
+pub asks : {w w' : Core} {me : Owner} {l : LoadNumber} {kind : Kind} {key : ℕ} → pager.IsWhole w → (r : Result (Option HandleNumber) Error) → AsksKnown w me l kind key r w' → Rests w w'
+asks {l = l} whole (Ok found) c = recalls whole (not-load l) (Ok found) (record { answers = c.gives.2; refused = tt })
+asks whole (Err e) c = unmoved c.refused.stays whole.shut
 
 pub ruleset asked_known = (nat_tests, known-found)
 
@@ -201,8 +197,8 @@ module _ {N S E : Type 0} {tells : Telling S} {says : E → Values N} {p : Pager
       roomier = in-step roomy room.whole (room.later is.later) (spared is.state (unmoved (room-alike only-room) is.state.whole.shut) same)
 
       -- a value is kept with the node that has come
-      module _ (t2 : Tables) (values : ValuesByNode N) (x : N) {y : N} (shared : y ≡ x) (here : value_in values t2.last_node ≡ Some y)
-          (others : (n : ℕ) → n ≢ t2.last_node → value_in values n ≡ value_in mid n) where
+      module _ (t2 : Tables) (values : ValuesByNode N) (x : N) {y : N} (shared : y ≡ x)
+          (kept : (n : ℕ) → value_in values n ≡ updated t2.last_node (Some y) (value_in mid) n) where
         abbrev after : PagerView N S E
         after = record p { tables = t2; values = values }
 
@@ -261,26 +257,6 @@ module _ {N S E : Type 0} {tells : Telling S} {says : E → Values N} {p : Pager
       same-so (subst (λ (x : Tables). Alike (core_in tells p) (core_in tells (record p { tables = x; values = values }))) (sym same) (still (core_in tells p)))
   found-so me l kind key u rs (Err e) known given same refused = same-so refused.stays
 
--- why what a load has read neither becomes a node nor ends the load, where its references weren't had
-pub unlisted-gone : (w : Core) (me : Owner) (l : LoadNumber) (later : Option Error) → w.loads l.0 ≡ None
-    → Refused (earlier (load_fault w me l) later) (closed_fault w l) (Unit {0}) w Error.NoSuchHandle w
-unlisted-gone w me l later gone =
-    let is : load_fault w me l ≡ Some Error.NoSuchHandle = ap (if_there (λ (load : OpenLoad). refused_if (not (is_owner me load.owner)) Error.NotYours) (Some Error.NoSuchHandle)) gone in
-    record { why = inl (earlier-first (load_fault w me l) later Error.NoSuchHandle is (λ f late. omega (arith))); stays = still w }
-
--- fewer values are there, and no other
-pub less-moves : {N S E : Type 0} (tells : Telling S) {comes : ℕ → N → Type 0} (p q : PagerView N S E) → OnlyLess p q → Moves comes (state_in tells p) (state_in tells q)
-less-moves tells p q less = record { each = λ n x has. inl (less.values n x has); environment = less.environment }
-
--- what is told where nothing was found
-pub none-so : {X P : Type 0} (found : Option X) → found ≡ None → IfNone found P → P
-none-so found e p = grind (arith, nat_tests)
-
--- what a call does from where another left all as it was
-pub same-moves : {N S E : Type 0} (tells : Telling S) (p q r : PagerView N S E) (x : N) → q ≡ p → Moves (λ n y. (y ≡ x) × IsNewNode (core_in tells q) n) (state_in tells q) (state_in tells r)
-    → Moves (λ n y. (y ≡ x) × IsNewNode (core_in tells p) n) (state_in tells p) (state_in tells r)
-same-moves tells p q r x same moves = subst (λ u. Moves (λ n y. (y ≡ x) × IsNewNode (core_in tells u) n) (state_in tells u) (state_in tells r)) same moves
-
 -- what a load has read becomes a new node
 module _ {N S E : Type 0} {tells : Telling S} {says : E → Values N} {p q : PagerView N S E} (is : IsPager tells says p) (viewed : p ≡ q) (me : Owner) (l : LoadNumber) (kind : Kind) (key : ℕ) (x : N)
     {rs : List ArcRef} (listed : rs ≡ (says p.environment).references x) (fresh : (stored : ℕ → Option Blob) (closed : Bool) (failures : ℕ) → early_fault (core_of q.tables stored closed failures) me l kind
@@ -294,15 +270,7 @@ module _ {N S E : Type 0} {tells : Telling S} {says : E → Values N} {p q : Pag
   -- or it is refused, and comes back
   not-adopted : {w' : Core} {y : N} {e : Error} → y ≡ x → Refused (adopt_fault (core_in tells p) me l kind key ((says p.environment).node_type x) rs) (load_fault (core_in tells p) me l) (Unit {0}) (core_in tells p) e w'
       → AdoptCall (core_in tells p) me l kind key x ((says p.environment).node_type x) ((says p.environment).references x) (Err (e, y)) w'
-  not-adopted {w'} {e = e} back r =
-      record {
-        adopts = tt;
-        refused = (
-          back,
-          told-later me l (subst (λ z. Refused (adopt_fault (core_in tells p) me l kind key ((says p.environment).node_type x) z) (load_fault (core_in tells p) me l) (Unit {0})
-              (core_in tells p) e w') listed r),
-        );
-      }
+  not-adopted {w'} {e = e} back r = grind (arith, nat_tests, told-later)
 
   pub new-refused : {w' : Core} {e : Error} → Refused (birth_fault (core_in tells p)) (birth_fault (core_in tells p)) (Unit {0}) (core_in tells p) e w'
       → AdoptCall (core_in tells p) me l kind key x ((says p.environment).node_type x) ((says p.environment).references x) (Err (e, x)) w'
@@ -318,16 +286,16 @@ module _ {N S E : Type 0} {tells : Telling S} {says : E → Values N} {p q : Pag
     pub new-memory : {y : N} → y ≡ x → AdoptCall (core_in tells p) me l kind key x ((says p.environment).node_type x) ((says p.environment).references x) (Err (Error.OutOfMemory, y)) (core_in tells (record p { tables = t1; values = mid }))
     new-memory back = not-adopted back (refused-memory (core_in tells p) me l kind key ((says p.environment).node_type x) rs (fresh-in _ _ _) (only-room is mid room))
 
-    module _ (same : (n : ℕ) → value_in mid n ≡ value_in p.values n) (t2 : Tables) (values : ValuesByNode N) {y : N} (shared : y ≡ x) (here : value_in values t2.last_node ≡ Some y)
-        (others : (n : ℕ) → n ≢ t2.last_node → value_in values n ≡ value_in mid n) {k : HandleNumber} {lists : Bool} (opens : lists ≡ not (tells.closed p.storage)) (left : t1.last_node < greatest)
+    module _ (same : (n : ℕ) → value_in mid n ≡ value_in p.values n) (t2 : Tables) (values : ValuesByNode N) {y : N} (shared : y ≡ x)
+        (kept : (n : ℕ) → value_in values n ≡ updated t2.last_node (Some y) (value_in mid) n) {k : HandleNumber} {b : Bool} (opens : b ≡ tells.closed p.storage) (left : t1.last_node < greatest)
         (next : (stored : ℕ → Option Blob) (closed : Bool) (failures : ℕ) → IsNext k (core_of t1 stored closed failures))
-        (comes : (stored : ℕ → Option Blob) (closed : Bool) (failures : ℕ) → lists ≡ not closed → Alike (adopted (core_of t1 stored closed failures) l kind key (first_key kind.0 key) rs)
+        (comes : (stored : ℕ → Option Blob) (closed : Bool) (failures : ℕ) → not b ≡ not closed → Alike (adopted (core_of t1 stored closed failures) l kind key (first_key kind.0 key) rs)
         (core_of t2 stored closed failures)) (whole : IsWhole t2) (later : AreLater t2) where
       abbrev learned : PagerView N S E
       learned = record p { tables = t2; values = values }
 
       leaves : Alike (adopted (core_in tells p) l kind key (first_key kind.0 key) rs) (core_in tells learned)
-      leaves = adopted-past l kind key (first_key kind.0 key) rs (only-room is mid room) (comes (tells.stored p.storage) (tells.closed p.storage) (tells.failed p.storage) opens)
+      leaves = adopted-past l kind key (first_key kind.0 key) rs (only-room is mid room) (comes (tells.stored p.storage) (tells.closed p.storage) (tells.failed p.storage) (ap not opens))
 
       adopts : Adopts (core_in tells p) me l kind key ((says p.environment).node_type x) ((says p.environment).references x) k (core_in tells learned)
       adopts =
@@ -340,20 +308,17 @@ module _ {N S E : Type 0} {tells : Telling S} {says : E → Values N} {p q : Pag
 
       pub new-told : AdoptCall (core_in tells p) me l kind key x ((says p.environment).node_type x) ((says p.environment).references x) (Ok k) (core_in tells learned) × Moves (λ n z. (z ≡ x) × IsNewNode (core_in tells p) n)
           (state_in tells p) (state_in tells learned)
-      new-told = (record { adopts = adopts; refused = tt }, moved-in is mid room same t2 values x shared here others last)
+      new-told = (record { adopts = adopts; refused = tt }, moved-in is mid room same t2 values x shared kept last)
 
       pub new-so : IsPager tells says learned
       new-so =
           in-step learned whole later
-          (adopts-new {v = says p.environment} {s = state_in tells p} {s' = state_in tells learned} is.state adopts unknown-in (told is mid room same t2 values x shared here others last))
+          (adopts-new {v = says p.environment} {s = state_in tells p} {s' = state_in tells learned} is.state adopts unknown-in (told is mid room same t2 values x shared kept last))
 
 -- ---- a value comes to a load's cell, and others go with their nodes
 
 -- the value comes
-module _ {N : Type 0} (t t' : Tables) (old mid new : ValuesByNode N) (node : NodeNumber) (x : N) (here : value_in mid node.0 ≡ Some x) (others : (n : ℕ) → n ≢ node.0 → value_in mid n ≡ value_in old n) where
-  put-there : (n : ℕ) → value_in mid n ≡ updated node.0 (Some x) (value_in old) n
-  put-there n = grind (arith, nat_tests, cases_eq)
-
+module _ {N : Type 0} (t t' : Tables) (old mid new : ValuesByNode N) (node : NodeNumber) (x : N) (put-there : (n : ℕ) → value_in mid n ≡ updated node.0 (Some x) (value_in old) n) where
   come : ((n : ℕ) → is_some (value_in old n) ≡ has_value (counts_at t.holdings.nodes n)) → (n : ℕ) → is_some (get nat_eq mid n) ≡ has_come (counts_at t.holdings.nodes) node n
   come was n = grind (arith, nat_tests, nat_eq, put-there, some-map)
 
@@ -381,11 +346,12 @@ pub ready-told : {w : Core} {me : Owner} {l : LoadNumber} {t t' : ℕ} {refs ref
 ready-told {w} {me} {l} {t} {t'} {refs} {refs'} {r} typed named is = subst (λ k. IsReady w me l k refs' r) typed (subst (λ k. IsReady w me l t k r) named is)
 
 -- the pager after a load has ended with a pin
-module _ {N S E : Type 0} {tells : Telling S} {says : E → Values N} {p : PagerView N S E} (is : IsPager tells says p) (x : N) (t1 t2 : Tables) (values : ValuesByNode N) {me : Owner} {l : LoadNumber}
-    {node_type : ℕ} {qs rs : List ArcRef} {r : Ending} {k : HandleNumber} (typed : node_type ≡ (says p.environment).node_type x) (read : qs ≡ rs) (listed : rs ≡ (says p.environment).references x)
-    (wider : OnlyRoom (core_in tells p) (core_in tells (record p { tables = t1 }))) (nodes : t1.holdings.nodes ≡ p.tables.holdings.nodes)
-    (prepared : IsReady (core_in tells (record p { tables = t1 })) me l node_type qs r) (installed : Installs (core_in tells (record p { tables = t1 })) me l r.row.node r.row.number k rs
-    (core_in tells (record p { tables = t2; values = values }))) (whole2 : IsWhole t2) (later2 : AreLater t2) (puts : PutsIn r.is_away r.row.node.0 x t1 p.values t2 values) where
+module _ {N S E : Type 0} {tells : Telling S} {says : E → Values N} {p : PagerView N S E} (is : IsPager tells says p) (x : N) {t1 t2 : Tables} (values : ValuesByNode N) {me : Owner} {l : LoadNumber}
+    {node_type : ℕ} {qs rs : List ArcRef} {r : Ending} {k : HandleNumber} {b : Bool} (typed : node_type ≡ (says p.environment).node_type x) (read : qs ≡ rs)
+    (listed : rs ≡ (says p.environment).references x) (room : Does p.tables OnlyRoom t1) (nodes : t1.holdings.nodes ≡ p.tables.holdings.nodes)
+    (prepared : (stored : ℕ → Option Blob) (closed : Bool) (failures : ℕ) → IsReady (core_of t1 stored closed failures) me l node_type qs r)
+    (done : Does t1 (λ w w'. not b ≡ not w.closed → Installs w me l r.row.node r.row.number k rs w') t2) (opens : b ≡ tells.closed p.storage)
+    (puts : PutsIn r.is_away r.row.node.0 x t1 p.values t2 values) where
   abbrev w : Core
   w = core_in tells p
 
@@ -395,14 +361,19 @@ module _ {N S E : Type 0} {tells : Telling S} {says : E → Values N} {p : Pager
   abbrev w' : Core
   w' = core_in tells p'
 
+  wider : OnlyRoom w (core_in tells (record p { tables = t1 }))
+  wider = only-room is values room
+
   ready : IsReady (core_in tells (record p { tables = t1 })) me l ((says p.environment).node_type x) ((says p.environment).references x) r
-  ready = ready-told typed (read ∙ listed) prepared
+  ready = ready-told typed (read ∙ listed) (prepared (tells.stored p.storage) (tells.closed p.storage) (tells.failed p.storage))
 
   may : MayEnd w me l r.row.node r.row.number ((says p.environment).node_type x) ((says p.environment).references x)
   may = may-wider wider ready.may
 
   was : Installs w me l r.row.node r.row.number k ((says p.environment).references x) w'
-  was = installs-wider wider (subst (λ z. Installs (core_in tells (record p { tables = t1 })) me l r.row.node r.row.number k z w') listed installed)
+  was =
+      let installed = done.does (tells.stored p.storage) (tells.closed p.storage) (tells.failed p.storage) (ap not opens) in
+      installs-wider wider (subst (λ z. Installs (core_in tells (record p { tables = t1 })) me l r.row.node r.row.number k z w') listed installed)
 
   kept : (n : ℕ) → is_some (value_in p.values n) ≡ has_value (counts_at t1.holdings.nodes n)
   kept n = is.state.valued n ∙ here-in is n ∙ ap (λ ns. has_value (counts_at ns n)) (sym nodes)
@@ -417,13 +388,11 @@ module _ {N S E : Type 0} {tells : Telling S} {says : E → Values N} {p : Pager
   away e = sym same-here ∙ not-so (is_here (core_in tells (record p { tables = t1 })) r.row.node.0) (sym ready.away ∙ e)
 
   pub ended-so : IsPager tells says p'
-  ended-so = in-step p' whole2 later2 (by r.is_away refl)
-    where
-      by : (b : Bool) → r.is_away ≡ b → IsRight (state_in tells p') → WellFormed (says p.environment) (state_in tells p')
-      by true e right = installed_away is.state may was (away e) (record { swept = swept-so true e; right = right })
-      by false e right =
-          installed_there is.state may was (sym same-here ∙ so-then (is_here (core_in tells (record p { tables = t1 })) r.row.node.0) (sym ready.away ∙ e))
-          (record { swept = swept-so false e; right = right })
+  ended-so = in-step p' done.whole (done.later (room.later is.later)) (λ right. elim (cases_Bool r.is_away) [
+    | inl e ↦ installed_away is.state may was (away e) (record { swept = swept-so true e; right = right })
+    | inr e ↦ installed_there is.state may was (sym same-here ∙ so-then (is_here (core_in tells (record p { tables = t1 })) r.row.node.0) (sym ready.away ∙ e))
+        (record { swept = swept-so false e; right = right })
+  ])
 
   cell-of : (n : ℕ) → r.row.node.0 ≡ n → IsCellOf w l n
   cell-of n m = record { load = may.load; node = r.row.node; t = (says p.environment).node_type x; h = r.row.number; open_load = may.owned.stands_open; root = may.of_node; is = m }
@@ -440,32 +409,19 @@ module _ {N S E : Type 0} {tells : Telling S} {says : E → Values N} {p : Pager
 pub owner-owns : {w : Core} {me : Owner} {l : LoadNumber} {load : OpenLoad} → OwnsLoad w me l load → load_fault w me l ≡ None
 owner-owns {me = me} o = let a : is_owner me me ≡ true = grind (arith, nat_tests) in grind (arith, nat_tests)
 
--- why a load doesn't end with a value whose references weren't had
-pub unread-open : (w : Core) (l : LoadNumber) (load : OpenLoad) (cause : Option Error) → w.loads l.0 ≡ Some load → Refused cause (closed_fault w l) (Unit {0}) w Error.OutOfMemory w
-unread-open w l load cause is = record { why = inr (refl, ap (if_there (λ (load : OpenLoad). None) (Some Error.NoSuchHandle)) is, tt); stays = still w }
-
 -- a load whose end is in vain is closed
 pub vain : {N : Type 0} {w v w' : Core} {me : Owner} {l : LoadNumber} {t : ℕ} {refs : List ArcRef} {e : Error} (x : N) (r : Result (Unit {0}) Error) → IsVain w me l t refs e × (v ≡ w) → DropCall v me l r w'
     → EndRefused w me l x t refs e None w'
 vain {w = w} {v} {w'} {me} {l} x r (is, same) drop = grind (arith, nat_tests, owner-owns)
 
 -- memory is wanting for the value
-module _ {N S E : Type 0} {tells : Telling S} {says : E → Values N} {p : PagerView N S E} (is : IsPager tells says p) (t1 t2 : Tables) (values : ValuesByNode N)
-    (wider : OnlyRoom (core_in tells p) (core_in tells (record p { tables = t1 }))) (same : t2 ≡ t1) (kept : (n : ℕ) → value_in values n ≡ value_in p.values n) (whole2 : IsWhole t2) (later2 : AreLater t2) where
-  abbrev kept-so : PagerView N S E
-  kept-so = record p { tables = t2; values = values }
-
-  stays-alike : Alike (core_in tells p) (core_in tells kept-so)
-  stays-alike = subst (λ (t : Tables). Alike (core_in tells p) (core_in tells (record p { tables = t; values = values }))) (sym same) (room-alike wider)
-
-  pub stays-so : IsPager tells says kept-so
-  stays-so = in-step kept-so whole2 later2 (spared is.state (unmoved stays-alike is.state.whole.shut) kept)
-
-  pub no-room : {me : Owner} {l : LoadNumber} {x y : N} {u t : ℕ} {qs refs : List ArcRef} {r : Ending} → y ≡ x → IsReady (core_in tells (record p { tables = t1 })) me l u qs r
-      → EndCall (core_in tells p) me l x t refs (Err (Error.OutOfMemory, Some y)) (core_in tells kept-so)
-  no-room back ready =
-      let there = (may-wider wider ready.may).owned.stands_open in
-      record { installs = tt; refused = (back, record { why = inr (refl, ap (if_there (λ (load : OpenLoad). None) (Some Error.NoSuchHandle)) there, tt); stays = stays-alike }) }
+pub no-room : {N S E : Type 0} {tells : Telling S} {says : E → Values N} {p : PagerView N S E} → IsPager tells says p → {t : Tables} (values : ValuesByNode N)
+    → Does p.tables OnlyRoom t → {me : Owner} {l : LoadNumber} {x y : N} {u node_type : ℕ} {qs refs : List ArcRef} {r : Ending} → y ≡ x → IsReady (core_in tells (record p { tables = t })) me l u qs r
+    → EndCall (core_in tells p) me l x node_type refs (Err (Error.OutOfMemory, Some y)) (core_in tells (record p { tables = t; values = values }))
+no-room is values room back ready =
+    let wider = only-room is values room in
+    let why = ap (if_there (λ (load : OpenLoad). None) (Some Error.NoSuchHandle)) (may-wider wider ready.may).owned.stands_open in
+    record { installs = tt; refused = (back, record { why = inr (refl, why, tt); stays = room-alike wider }) }
 
 -- the load doesn't end with the value
 module _ {N S E : Type 0} {tells : Telling S} {says : E → Values N} {p : PagerView N S E} (is : IsPager tells says p) (t1 t2 : Tables) (values : ValuesByNode N)

@@ -1,19 +1,17 @@
 -- What a handle lends, and what a lent pager's calls tell as those of an access; and a worker comes, for an entry of the list or without one, and takes a reference.
-use Rattle.std.proofs.Common.{Err, List, Ok, Result, Some, [], ap, arith, false, inl, inr, refl, subst, sym, true, ℕ, ◌+◌, ◌∙◌, ◌≡◌, None, Option, if◌then◌else◌, nat_eq}
-use Rattle.std.{proofs.lemmas.{Bool.{false_from_ne_true, Decides.nat_tests}, Option.slice_get_within}, specs.{HashMap.get, Option.option_map, Prelude.{IfOk, IsSome, is_some}}}
-use Rattle.{either.specs.declared.Either.Either, pagable_laws.proofs.{Goes.{Stands, among-found, found-number, low-changed, low-whole, new-handle, stands-alike}, GoodReferences.good}}
-use Rattle.{pagable_laws.proofs.{Goes.stands-fell, ReadingSteps.cached-rows, SparingSteps.named-among, Taking.{row-held, row-pins}, Trees.same_some}, pagable_loads.proofs.Stepped.begun_is}
-use Rattle.pagable_loads.specs.{Starting.StartsPin, Telling.{AdoptsValue, AsksFor, IsMade, TakesLazily}, Working.TakesReference, declared.{starting.PinStart.PinStart, working.Taken.Taken}}
-use Rattle.pagable_model.specs.declared.{data_key.OptionalDataKey.OptionalDataKey, numbers.{ArcRef.ArcRef, HandleNumber.HandleNumber, Kind.Kind, LoadNumber.LoadNumber, NodeNumber.NodeNumber}}
-use Rattle.{pagable_model.specs.declared.numbers.WorkerNumber.WorkerNumber, pagable_pager.{proofs.Keeping.{in-step, less, swept}, specs.View.{PinsClone, TakesEntry, CallsLess, FewerValues}}}
-use Rattle.{pagable_pager.specs.View.{PagerView, SameValues, Telling, ValuesByNode, core_in, state_in, value_in, IsPager}, pagable_steps.proofs.{Calls.closed, Owning.{Rests, not-load, pinned-here}}}
-use Rattle.{pagable_steps.proofs.Owning.{rests-then, spares-same, starts-listed, unmoved}, pagable_tables.specs.{ByNumber.{counts_at, known_at, load_at, worker_at}, Core.core_of}}
-use Rattle.{pagable_tables.specs.{Core.IsWhole as AreWhole, Falling.Sheds, Giving.{BeginsWorker, TakesWorker}, Later.AreLater, declared.tables.Tables.Tables}, pagable_world.specs.Access.Called}
-use Rattle.pagable_world.specs.{Access.Told, Calls.{CloneCall, IsNext, Looks, StoreCall, is_named_by, next_node, row_of, with_handle, with_node, CloseCall}, Events.{IsEntry, reading_of_load}}
-use Rattle.pagable_world.specs.{Events.{with_entry_taken, with_worker}, Kinds.{HasKinds, find_row, is_loose, loose_kind, mode_of, owner_value, is_pinning}, LoadCalls.{AdoptCall, Adopts}}
-use Rattle.pagable_world.specs.{LoadCalls.{AskCall, BeginCall, GetsKnown, LazyCall, adopted, first_key, from_cache}, Pager.{HandlesAreWhole, IsWhole, WellFormed, IsNew, PagerState, ValueCall}}
-use Rattle.pagable_world.specs.{Plain.{Blob, Error, type_of}, Workers.RowIs, World.{Alike, Core, Reading, Values, row_at}, declared.{answers.Beginning.Beginning, calls.Want.Want}}
-use Rattle.pagable_world.specs.declared.handles.{HandleRow.HandleRow, Owner.Owner}
+use Rattle.pagable_laws.proofs.{Goes.{Stands, among-found, found-number, low-changed, low-whole, new-handle, stands-alike, stands-fell}, GoodReferences.good, ReadingSteps.cached-rows}
+use Rattle.{pagable_laws.proofs.{SparingSteps.named-among, Taking.{row-held, row-pins}, Trees.same_some}, pagable_loads.{proofs.Stepped.begun_is, specs.{Starting.StartsPin, Telling.IsMade}}}
+use Rattle.{pagable_loads.specs.{Working.TakesReference, declared.access.{PinStart.PinStart, Taken.Taken}}, pagable_model.specs.declared.data_key.OptionalDataKey.OptionalDataKey}
+use Rattle.pagable_model.specs.declared.numbers.{ArcRef.ArcRef, HandleNumber.HandleNumber, Kind.Kind, LoadNumber.LoadNumber, NodeNumber.NodeNumber, WorkerNumber.WorkerNumber}
+use Rattle.pagable_pager.{proofs.Keeping.{in-step, less, swept}, specs.View.{CallsLess, FewerValues, IsPager, PagerView, PinsClone, SameValues, TakesEntry, Telling, ValuesByNode, core_in, state_in}}
+use Rattle.{pagable_pager.specs.View.value_in, pagable_steps.proofs.{Calls.closed, Owning.{Rests, not-load, pinned-here, rests-then, spares-same, starts-listed, unmoved}}}
+use Rattle.pagable_tables.specs.{Core.{AreLater, BeginsWorker, IsWhole as AreWhole, TakesWorker, core_of}, Falling.{Sheds, counts_at, known_at, load_at, worker_at}, declared.tables.Tables.Tables}
+use Rattle.pagable_world.specs.{Access.{Called, Told}, Calls.{CloneCall, CloseCall, IsNext, Looks, StoreCall, is_named_by, next_node, row_of, with_handle, with_node}, Events.IsEntry}
+use Rattle.pagable_world.specs.{Events.reading_of_load, Kinds.{HasKinds, find_row, is_loose, is_pinning, loose_kind, mode_of, owner_value}, LoadCalls.{Adopts, BeginCall, GetsKnown, LazyCall}}
+use Rattle.pagable_world.specs.{LoadCalls.{adopted, first_key}, Pager.{HandlesAreWhole, IsNew, IsWhole, PagerState, ValueCall, WellFormed}, Plain.{Blob, Error, type_of}, Workers.RowIs, World.Alike}
+use Rattle.{pagable_world.specs.{World.{Core, Reading, Values, row_at}, declared.{answers.Beginning.Beginning, handles.{HandleRow.HandleRow, Owner.Owner}}}, std.proofs.Common.{Err, List, None, Ok}}
+use Rattle.std.proofs.{Common.{Option, Result, Some, [], ap, arith, false, if◌then◌else◌, inl, inr, nat_eq, refl, subst, sym, true, ℕ, ◌+◌, ◌∙◌, ◌≡◌}, lemmas.Bool.false_from_ne_true}
+use Rattle.std.{proofs.lemmas.{Bool.Decides.nat_tests, Option.slice_get_within}, specs.{HashMap.get, Option.option_map, Prelude.{IfOk, IsSome, is_some}}}
 
 -- what a call does to a pager of which no value comes
 module _ {N S E : Type 0} (tells : Telling S) (v : E → Values N) (p q : PagerView N S E) where
@@ -41,64 +39,47 @@ stored_key r c = grind (arith, nat_tests)
 pub made_so : {w : Core} {kind : Kind} {h : HandleNumber} {n : NodeNumber} → Looks w h (λ m row. m ≡ row.node) (Ok n) → IsMade w kind (record { kind = kind; node = n; handle = h })
 made_so {w} {kind} {h} {n} l = grind (arith, nat_tests, found-number)
 
-module _ {w : Core} (whole : HandlesAreWhole w) where
-  module _ (w' : Core) where
-    -- of a new node
-    born_live : (l : LoadNumber) (kind : Kind) (key : ℕ) (own : OptionalDataKey) (references : List ArcRef) → Alike (adopted w l kind key own references) w'
-        → Stands w'.last.handle w'.rows (w.last.handle + 1) (row_of (w.last.handle + 1) (next_node w) (mode_of kind.0) (Owner.Load l))
-    born_live l kind key own references a =
-        let born : Core = with_node w (type_of kind.0) own references in
-        let few = low-changed w.last.handle w.rows (λ x. is_named_by references x.number.0) (λ x. record x { owner = owner_value (w.last.node + 1) }) (λ x. refl) (low-whole whole) in
-        let made = new-handle born (next_node w) (mode_of kind.0) (Owner.Load l) few in
-        let rows = cached-rows (with_handle born (next_node w) (mode_of kind.0) (Owner.Load l)) kind key (next_node w) in
-        stands-alike a (record { live = rw rows.0 made.live; only = rw rows.0 made.only; given = rw rows.1 made.given })
+live_at : {w : Core} (w' : Core) {row : HandleRow} (k : HandleNumber) → IsNext k w → Stands w'.last.handle w'.rows (w.last.handle + 1) row → IsSome (row_at w' k)
+live_at w' k next s = ap is_some (ap (λ n. find_row n w'.rows) next.above ∙ s.live)
 
-    live_at : {row : HandleRow} (k : HandleNumber) → IsNext k w → Stands w'.last.handle w'.rows (w.last.handle + 1) row → IsSome (row_at w' k)
-    live_at k next s = ap is_some (ap (λ n. find_row n w'.rows) next.above ∙ s.live)
+module _ {w w' : Core} (whole : HandlesAreWhole w) where
+  -- of a new node
+  born_live : (l : LoadNumber) (kind : Kind) (key : ℕ) (own : OptionalDataKey) (references : List ArcRef) → Alike (adopted w l kind key own references) w'
+      → Stands w'.last.handle w'.rows (w.last.handle + 1) (row_of (w.last.handle + 1) (next_node w) (mode_of kind.0) (Owner.Load l))
+  born_live l kind key own references a =
+      let born : Core = with_node w (type_of kind.0) own references in
+      let few = low-changed w.last.handle w.rows (λ x. is_named_by references x.number.0) (λ x. record x { owner = owner_value (w.last.node + 1) }) (λ x. refl) (low-whole whole) in
+      let made = new-handle born (next_node w) (mode_of kind.0) (Owner.Load l) few in
+      let rows = cached-rows (with_handle born (next_node w) (mode_of kind.0) (Owner.Load l)) kind key (next_node w) in
+      stands-alike a (record { live = rw rows.0 made.live; only = rw rows.0 made.only; given = rw rows.1 made.given })
 
-    pub known_live : {l : LoadNumber} {kind : Kind} {key : ℕ} {k : HandleNumber} → GetsKnown w l kind key k w' → IsSome (row_at w' k)
-    known_live {l} {kind} {k = k} c =
-        live_at k c.next (stands-alike {w = with_handle w (record { 0 = c.n }) (mode_of kind.0) (Owner.Load l)} c.leaves
-        (new-handle w (record { 0 = c.n }) (mode_of kind.0) (Owner.Load l) (low-whole whole)))
+  pub known_live : {l : LoadNumber} {kind : Kind} {key : ℕ} {k : HandleNumber} → GetsKnown w l kind key k w' → IsSome (row_at w' k)
+  known_live {l} {kind} {k = k} c =
+      live_at w' k c.next (stands-alike {w = with_handle w (record { 0 = c.n }) (mode_of kind.0) (Owner.Load l)} c.leaves
+      (new-handle w (record { 0 = c.n }) (mode_of kind.0) (Owner.Load l) (low-whole whole)))
 
-    pub lazy_live : {me : Owner} {l : LoadNumber} {kind : Kind} {key : ℕ} {k : HandleNumber} → LazyCall w me l kind key (Ok k) w' → IsSome (row_at w' k)
-    lazy_live {l = l} {kind = kind} {key = key} {k = k} c = elim c.makes.3 [
-      | inl known ↦ known_live known
-      | inr (none, left, next, a) ↦ live_at k next (born_live l kind key (OptionalDataKey.Some key) [] a)
-    ]
+  pub lazy_live : {me : Owner} {l : LoadNumber} {kind : Kind} {key : ℕ} {k : HandleNumber} → LazyCall w me l kind key (Ok k) w' → IsSome (row_at w' k)
+  lazy_live {l = l} {kind = kind} {key = key} {k = k} c = elim c.makes.3 [
+    | inl known ↦ known_live known
+    | inr (none, left, next, a) ↦ live_at w' k next (born_live l kind key (OptionalDataKey.Some key) [] a)
+  ]
 
-    pub adopted_live : {me : Owner} {l : LoadNumber} {kind : Kind} {key t : ℕ} {references : List ArcRef} {k : HandleNumber} → Adopts w me l kind key t references k w' → IsSome (row_at w' k)
-    adopted_live {l = l} {kind = kind} {key = key} {references = references} {k = k} c = elim c.makes [
-      | inl (n, known, f) ↦
-          live_at k c.next (stands-fell {w = with_handle w (record { 0 = n }) (mode_of kind.0) (Owner.Load l)} f.falls (not-load l) unnamed
-          (new-handle w (record { 0 = n }) (mode_of kind.0) (Owner.Load l) (low-whole whole)))
-      | inr (none, left, a) ↦ live_at k c.next (born_live l kind key (first_key kind.0 key) references a)
-    ]
-      where
-        -- no reference names it
-        unnamed : is_named_by references (w.last.handle + 1) ≡ false
-        unnamed = false_from_ne_true (is_named_by references (w.last.handle + 1)) (λ is.
-            let (g, among, same) = named-among references (w.last.handle + 1) is in
-            let a = good w (Owner.Load l) [] references c.good g among in
-            let n = found-number g.handle.0 w.rows a.row a.live in
-            let le = (whole.numbered a.row (among-found g.handle.0 w.rows a.row a.live)).1 in
-            omega (arith, n, le, same))
-
-  -- of what was asked for
-  pub found_refers : {B : Type 0} {see : B → Blob} {me : Owner} {l : LoadNumber} {kind : Kind} {key : ℕ} {h : HandleNumber} {r : ArcRef} (w' : Core)
-      → AskCall w me l (Want.Nested kind key) (Ok (from_cache h)) w' → r.handle ≡ h
-      → (IsSome (row_at w' h) → IsMade w' kind r) → AsksFor see w me l kind key (Ok (Either.Left r)) w'
-  found_refers {me = me} {l} {kind} {key} w' c same is = record { asked = subst (λ k. AskCall w me l (Want.Nested kind key) (Ok (from_cache k)) w') (sym same) c; made = is (known_live w' c.gives.2) }
-
-  -- and of what was taken
-  pub lazy_refers : {me : Owner} {l : LoadNumber} {kind : Kind} {key : ℕ} {h : HandleNumber} {r : ArcRef} (w' : Core) → LazyCall w me l kind key (Ok h) w' → r.handle ≡ h
-      → (IsSome (row_at w' h) → IsMade w' kind r) → TakesLazily w me l kind key (Ok r) w'
-  lazy_refers {me} {l} {kind} {key} w' c same is = record { taken = subst (λ k. LazyCall w me l kind key (Ok k) w') (sym same) c; made = is (lazy_live w' c) }
-
-  pub adopted_refers : {N : Type 0} {x : N} {t : ℕ} {rs : List ArcRef} {me : Owner} {l : LoadNumber} {kind : Kind} {key : ℕ} {h : HandleNumber} {r : ArcRef} (w' : Core)
-      → AdoptCall w me l kind key x t rs (Ok h) w' → r.handle ≡ h → (IsSome (row_at w' h) → IsMade w' kind r) → AdoptsValue w me l kind key x t rs (Ok r) w'
-  adopted_refers {x = x} {t} {rs} {me} {l} {kind} {key} w' c same is =
-      record { adopted = subst (λ k. AdoptCall w me l kind key x t rs (Ok k) w') (sym same) c; made = is (adopted_live w' c.adopts) }
+  pub adopted_live : {me : Owner} {l : LoadNumber} {kind : Kind} {key t : ℕ} {references : List ArcRef} {k : HandleNumber} → Adopts w me l kind key t references k w' → IsSome (row_at w' k)
+  adopted_live {l = l} {kind = kind} {key = key} {references = references} {k = k} c = elim c.makes [
+    | inl (n, known, f) ↦
+        live_at w' k c.next (stands-fell {w = with_handle w (record { 0 = n }) (mode_of kind.0) (Owner.Load l)} f.falls (not-load l) unnamed
+        (new-handle w (record { 0 = n }) (mode_of kind.0) (Owner.Load l) (low-whole whole)))
+    | inr (none, left, a) ↦ live_at w' k c.next (born_live l kind key (first_key kind.0 key) references a)
+  ]
+    where
+      -- no reference names it
+      unnamed : is_named_by references (w.last.handle + 1) ≡ false
+      unnamed = false_from_ne_true (is_named_by references (w.last.handle + 1)) (λ is.
+          let (g, among, same) = named-among references (w.last.handle + 1) is in
+          let a = good w (Owner.Load l) [] references c.good g among in
+          let n = found-number g.handle.0 w.rows a.row a.live in
+          let le = (whole.numbered a.row (among-found g.handle.0 w.rows a.row a.live)).1 in
+          omega (arith, n, le, same))
 
 pub load_starts : {w w' : Core} {me : Owner} {h : HandleNumber} {l : LoadNumber} {key : ℕ} → BeginCall w me h (Ok (Beginning.Load l key)) w' → (t : ℕ)
     → Some t ≡ option_map (λ (r : Reading). r.node_type) (reading_of_load l (w'.loads l.0)) → StartsPin w me h (Ok (PinStart.Load l key t)) w'
@@ -110,8 +91,7 @@ pub ruleset entering = (nat_tests, all_there, called)
 
 module _ {w w' : Core} (whole : IsWhole w) where
   pub begins : (r : Result WorkerNumber Error) → BeginsWorker w r w' → Rests w w'
-  begins (Ok v) b = rests-then (spares-same refl (λ n. refl) refl) b.begun.1 whole.shut
-  begins (Err e) b = unmoved b.refused.1 whole.shut
+  begins x0 b = grind (arith, nat_tests, rests-then, spares-same, unmoved)
 
   pub takes : (place : ℕ) (r : Result WorkerNumber Error) → TakesWorker w place r w' → Rests w w'
   takes place (Ok v) b = let (h, listed, next, leaves) = b.taken in starts-listed whole place h v listed leaves
@@ -121,19 +101,7 @@ module _ {w w' : Core} (whole : IsWhole w) where
 pub entry-starts : {w w' : Core} {place type : ℕ} {row : HandleRow} {n : WorkerNumber} {kind : Kind} → IsEntry w place row.number row type → (kind.0 ≡ loose_kind type) × HasKinds type
     → TakesWorker w place (Ok n) w'
     → TakesEntry w place n (record { kind = kind; node = row.node; handle = row.number }) w'
-entry-starts {w} {w'} {place} {type} {row} {n} e (is, kinds) t =
-    let (h, listed, next, leaves) = t.taken in
-    let same : h ≡ row.number = same_some _ _ (sym listed ∙ e.listed) in
-    record {
-      h = row.number;
-      row = row;
-      type = type;
-      entry = e;
-      kinds = kinds;
-      is = ap (λ k. let x : ArcRef = record { kind = record { 0 = k }; node = row.node; handle = row.number } in x) is;
-      next = next;
-      leaves = subst (λ (q : HandleNumber). Alike (with_worker (with_entry_taken w place q n)) w') same leaves;
-    }
+entry-starts {w} {w'} {place} {type} {row} {n} e x0 t = grind (arith, nat_tests, same_some)
 
 -- a reference that was claimed is taken by its worker
 pub then_pins : {w mid w' : Core} {me : Owner} {r : ArcRef} {through : HandleNumber} (result : Result Taken Error) → Looks w r.handle (λ b row. b ≡ is_loose row.mode) (Ok true)
@@ -155,8 +123,7 @@ module _ {N E : Type 0} {v : Values N} {s : PagerState N E} (is : WellFormed v s
   -- a handle that pins has its node's value in memory
   pub lends : {X Y : Type 0} (n : NodeNumber) (r : Option X) (see : Y → N) (g : X → Y) → s.values n.0 ≡ option_map see (option_map g r)
       → Looks s.core h (λ node row. node ≡ (if is_pinning row.mode then Some row.node else None)) (Ok (Some n)) → ValueCall s h (Ok (option_map (λ x. see (g x)) r))
-  lends n (Some x) see g value l = grind (arith, nat_tests)
-  lends n None see g none l = absurd (grind (arith, nat_tests, pinned-here, row-held, row-pins))
+  lends n x0 see g value l = grind (arith, nat_tests, pinned-here, row-held, row-pins)
 
 -- a pager of nothing is a new one
 module _ {N S E : Type 0} (tells : Telling S) (p : PagerView N S E) (rows : p.tables.holdings.handles.places.items ≡ []) (nodes : (n : ℕ) → counts_at p.tables.holdings.nodes n ≡ None)

@@ -1,11 +1,11 @@
 -- What contracts see of a pager and its open loads, and the plain state that it tells.
-use Rattle.std.specs.{Arc.arc_value, Global.Global, HashMap.{HashMap, get}, Option.option_map, Prelude.{ℕ, ◌≡◌, ◌+◌, ◌⊎◌, Bool, true, false, if◌then◌else◌, Option, Some, None, is_some, nat_eq, Err}}
-use Rattle.std.specs.{Prelude.{IfErr, IfOk, Ok, Result}, declared.{hash.{BuildHasherDefault.BuildHasherDefault, FoldHasher.FoldHasher}, sync.Arc.Arc}}
-use Rattle.{either.specs.declared.Either.Either, pagable_loads.specs.declared.working.Taken.Taken, pagable_model.specs.declared.{error.Error.Error, numbers.{ArcRef.ArcRef, HandleNumber.HandleNumber}}}
-use Rattle.{pagable_model.specs.declared.numbers.{LoadNumber.LoadNumber, WorkerNumber.WorkerNumber}, pagable_tables.specs.{ByNumber.counts_at, Core.core_of, Falling.{has_value, pins_in}}}
-use Rattle.{pagable_tables.specs.{Later.AreLater, declared.tables.Tables.Tables}, pagable_world.specs.{Calls.PinCall, Events.{IsEntry, with_entry_taken, with_worker}, Kinds.{HasKinds, loose_kind}}}
-use Rattle.pagable_world.specs.{LoadCalls.{from_cache, from_store, BeginCall}, Pager.{PagerState, WellFormed}, Plain.{Blob, updated}, Refusals.OwnsLoad, World.{Core, Values, OpenLoad, Root, of_cell}}
-use Rattle.pagable_world.specs.{LoadCalls.Given, World.{of_key, Alike}, declared.{answers.{Beginning.Beginning, Pinning.Pinning}, handles.{HandleRow.HandleRow, Owner.Owner}}}
+use Rattle.std.specs.{Arc.arc_value, Global.Global, HashMap.{HashMap, get}, Option.option_map, Prelude.{Bool, Err, IfErr, IfOk, None, Ok, Option, Result, Some, false, if◌then◌else◌, is_some, nat_eq}}
+use Rattle.std.specs.{Prelude.{true, ℕ, ◌+◌, ◌≡◌, ◌⊎◌}, declared.{hash.{BuildHasherDefault.BuildHasherDefault, FoldHasher.FoldHasher}, sync.Arc.Arc}}
+use Rattle.{either.specs.declared.Either.Either, pagable_loads.specs.declared.access.Taken.Taken, pagable_model.specs.declared.{error.Error.Error, numbers.{ArcRef.ArcRef, HandleNumber.HandleNumber}}}
+use Rattle.{pagable_model.specs.declared.numbers.{LoadNumber.LoadNumber, WorkerNumber.WorkerNumber}, pagable_tables.specs.{Core.{AreLater, core_of}, Falling.{counts_at, has_value, pins_in}}}
+use Rattle.{pagable_tables.specs.declared.tables.Tables.Tables, pagable_world.specs.{Calls.PinCall, Events.{IsEntry, with_entry_taken, with_worker}, Kinds.{HasKinds, loose_kind}}}
+use Rattle.pagable_world.specs.{LoadCalls.{BeginCall, Given, from_cache, from_store}, Pager.{PagerState, WellFormed}, Plain.{Blob, updated}, Refusals.OwnsLoad, World.{Alike, Core, OpenLoad, Root}}
+use Rattle.pagable_world.specs.{World.{Values, of_cell, of_key}, declared.{answers.{Beginning.Beginning, Pinning.Pinning}, handles.{HandleRow.HandleRow, Owner.Owner}}}
 use Rattle.pagable_tables.specs.Core as tables
 
 abbrev pub ValuesByNode : Type 0 → Type 0

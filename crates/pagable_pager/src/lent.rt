@@ -148,10 +148,9 @@ where
         let want = Want::Nested(kind, key);
         let found = self.pager.load_fetch_by(self.me, alloc, load, want);
         self.pager.is_whole();
-        match found {
-            Ok(Either::Left(handle)) => Ok(Either::Left(self.pager.reference(kind, handle))),
-            Ok(Either::Right(blob)) => Ok(Either::Right(blob)),
-            Err(e) => Err(e),
+        match found? {
+            Either::Left(handle) => Ok(Either::Left(self.pager.reference(kind, handle))),
+            Either::Right(blob) => Ok(Either::Right(blob)),
         }
     }
 
@@ -165,10 +164,7 @@ where
         self.pager.is_whole();
         let taken = self.pager.load_lazy_by(self.me, alloc, load, kind, key);
         self.pager.is_whole();
-        match taken {
-            Ok(handle) => Ok(self.pager.reference(kind, handle)),
-            Err(e) => Err(e),
-        }
+        Ok(self.pager.reference(kind, taken?))
     }
 
     fn load_adopt(
@@ -184,10 +180,7 @@ where
             .pager
             .load_adopt_by(self.me, alloc, load, kind, key, node);
         self.pager.is_whole();
-        match adopted {
-            Ok(handle) => Ok(self.pager.reference(kind, handle)),
-            Err(e) => Err(e),
-        }
+        Ok(self.pager.reference(kind, adopted?))
     }
 
     fn load_end(

@@ -1,21 +1,21 @@
 -- What a call does to values. They go with a cascade: where a call has done what it does directly, a value stays exactly where its node is in memory afterwards, and owns what it did. And they come.
+use Rattle.pagable_laws.proofs.{Decoding.among-either, Existing.outlast, Following.one-less, Goes.{NotLoads, NotValues, Stands, among-changed, among-found, among-kept, found-kept, found-number}}
+use Rattle.pagable_laws.proofs.{Goes.{le-more, none-in-new, stands-alike, stands-changed, stands-more, stands-whole}, GoodReferences.{fell-away, good, no-pins, or-none, same-owner}}
+use Rattle.{pagable_laws.proofs.{SparingSteps.{found, named-among, neither}, Taking.row-held, Trees.{at-most-sum, counted, same-number, self-number, sum-le}}, pagable_steps.proofs.Owning.AreFree}
+use Rattle.pagable_steps.proofs.Owning.{At, Has, IsRight, IsShut, Keeps, Leaves, OwnsAlike, Rests, among-named, gets-known, holds_value, listed-free, mode-here, mode-others, mode-owns, moved-pins}
+use Rattle.pagable_steps.proofs.Owning.{not-load, own-free, owned-test, owns-changed, owns-handle, owns-same, owns-then, pinned-here, rests-cached, rests-then, row-here, rowed, same-value, settled}
+use Rattle.pagable_steps.proofs.Owning.{shut-alike, sits, sits-on, spared, spares-handle, spares-keeps, spares-known, spares-moved, spares-same, spares-then, stayed, turned, unmoved}
+use Rattle.pagable_world.specs.Calls.{AwayBirthCall, BirthCall, CloseCall, OfferCall, ReleaseCall, ScheduleCall, SetKeyCall, UnpinCall, is_named_by, moved, next_node, row_of, with_handle, with_key}
+use Rattle.pagable_world.specs.{Calls.{with_mode, with_node}, Cascade.{AreNewEntries, Falls, FallsAnyhow, fallen, is_keyed, is_outside, left_rows, loses_value, only_handle, owned_outside}}
+use Rattle.pagable_world.specs.{Kinds.{find_row, held, is_at, is_loose, is_owned_by, is_owner, is_pin, is_pinning, mode_of, owner_value, owner_worker, pins}, LoadCalls.{Adopts, DropCall, EndCall}}
+use Rattle.pagable_world.specs.{LoadCalls.{HandOverCall, Installs, LazyCall, LoadCloses, MayEnd, is_owned_in, numbers_of, with_pin, without_load}, Pager.{IsWhole, PagerState, WellFormed}}
+use Rattle.pagable_world.specs.{Plain.{Among, ArcRef, Error, HandleNumber, Kind, LoadNumber, NodeNumber, OptionalDataKey, if_there, is_in, one, times, type_of, updated}, Refusals.Owns}
+use Rattle.pagable_world.specs.{Refusals.references_fault, Workers.{WorkerEnds, is_load_of, is_workers_at}, World.{Alike, Cell, Core, OpenLoad, Values, is_here, type_at, usable}}
+use Rattle.{pagable_world.specs.declared.{handles.{HandleRow.HandleRow, Owner.Owner}, rows.Mode.Mode}, std.proofs.Common.{Bool, Err, List, None, Ok, Option, Some, [], ap, arith, false}}
+use Rattle.std.proofs.{Common.{if◌then◌else◌, inl, inr, map, refl, subst, suc, sym, true, ℕ, ◌&&◌, ◌++◌, ◌+◌, ◌<◌, ◌==◌, ◌||◌, ◌∙◌, ◌∷◌, ◌≡◌, ◌≤◌}, lemmas.Bool.{and_parts, cases_Bool}}
+use Rattle.std.{proofs.lemmas.{Bool.{false_from_ne_true, Decides.nat_tests}, List.Sums.{sum_by-append, sum_by-cons, sum_by_push}}, specs.Prelude.{Result, cond, filter, is_some, nat_lt, not}}
+use Rattle.std.specs.Prelude.{slice_get}
 use Rattle.pagable_laws.proofs.Effects as effects
-use Rattle.pagable_laws.proofs.{Decoding.among-either, Existing.outlast, Following.one-less, Goes.{NotLoads, found-number, le-more, none-in-new}, GoodReferences.{fell-away, good, no-pins, or-none}}
-use Rattle.pagable_laws.proofs.{Goes.{NotValues, Stands, among-changed, among-found, among-kept, found-kept, stands-alike, stands-changed, stands-more}, GoodReferences.same-owner}
-use Rattle.pagable_laws.proofs.{Goes.stands-whole, ReadingStepsGive.neither, SparingSteps.{found, named-among}, Taking.row-held, Trees.{at-most-sum, counted, same-number, self-number, sum-le}}
-use Rattle.{pagable_laws.specs.TreeSteps.AreGood, pagable_steps.proofs.Owning.{AreFree, At, Has, IsRight, IsShut, Keeps, Leaves, OwnsAlike, Rests, Spares, among-named, gets-known, holds_value}}
-use Rattle.pagable_steps.proofs.Owning.{listed-free, mode-here, mode-others, mode-owns, moved-pins, not-load, own-free, owned-test, owns-changed, owns-handle, owns-same, owns-then, pinned-here}
-use Rattle.pagable_steps.proofs.Owning.{rests-cached, rests-then, row-here, rowed, same-value, settled, shut-alike, sits, sits-on, spared, spares-handle, spares-keeps, spares-known, spares-moved}
-use Rattle.{pagable_steps.proofs.Owning.{spares-same, spares-then, stayed, turned, unmoved}, pagable_world.specs.Calls.{AwayBirthCall, BirthCall, CloseCall, OfferCall, ReleaseCall, ScheduleCall}}
-use Rattle.pagable_world.specs.{Calls.{SetKeyCall, UnpinCall, is_named_by, moved, next_node, row_of, with_handle, with_key, with_mode, with_node}, Cascade.{AreNewEntries, Falls, FallsAnyhow}}
-use Rattle.pagable_world.specs.{Cascade.{fallen, is_keyed, is_outside, left_rows, loses_value, only_handle, owned_outside}, Kinds.{find_row, held, is_at, is_loose, is_owned_by, is_owner, is_pin}}
-use Rattle.pagable_world.specs.{Kinds.{is_pinning, mode_of, owner_value, owner_worker, pins}, LoadCalls.{Adopts, DropCall, EndCall, HandOverCall, Installs, LazyCall, LoadCloses, MayEnd}}
-use Rattle.pagable_world.specs.{LoadCalls.{is_owned_in, numbers_of, with_pin, without_load}, Pager.{IsWhole, PagerState, WellFormed}, Plain.{Among, ArcRef, Error, HandleNumber, Kind, LoadNumber}}
-use Rattle.pagable_world.specs.{Plain.{NodeNumber, OptionalDataKey, if_there, is_in, is_loose_kind, one, times, type_of, updated}, Refusals.{Owns, references_fault}, Workers.WorkerEnds}
-use Rattle.pagable_world.specs.{Workers.{is_load_of, is_workers_at}, World.{Alike, Cell, Core, OpenLoad, Values, is_here, type_at, usable}, declared.handles.{HandleRow.HandleRow, Owner.Owner}}
-use Rattle.{pagable_world.specs.declared.rows.Mode.Mode, std.proofs.Common.{Bool, Err, List, None, Ok, Option, Some, [], ap, arith, false, if◌then◌else◌, inl, inr, map, refl, subst, suc, sym}}
-use Rattle.std.proofs.{Common.{true, ℕ, ◌&&◌, ◌++◌, ◌+◌, ◌<◌, ◌==◌, ◌||◌, ◌∙◌, ◌∷◌, ◌≡◌, ◌≤◌}, lemmas.{Bool.{and_parts, false_from_ne_true, Decides.nat_tests}, List.Sums.sum_by-append}}
-use Rattle.std.{proofs.lemmas.List.Sums.{sum_by-cons, sum_by_push}, specs.Prelude.{Result, cond, filter, is_some, nat_lt, not, slice_get}}
 
 -- what passes the test passes it
 passes : {X : Type 0} (test : X → Bool) (xs : List X) (x : X) → Among (filter test xs) x → test x ≡ true
@@ -44,15 +44,14 @@ module _ {before w w' : Core} {given : ℕ → Bool} {r : _} (f : Falls before w
   -- a node has lost its value exactly where it isn't in memory any more
   loses : (n : ℕ) (cell : Cell) → w.cells n ≡ Some cell → loses_value w.rows (is_keyed w) f.entries f.gone n ≡ not (holds_value w' n)
   loses n cell live =
+      let counts : (t : HandleRow → Bool) → times t w'.rows ≡ times (λ h. t h && is_outside f.gone h) w.rows + times t f.entries =
+      λ t. ap (times t) f.leaves.rows ∙ (sum_by-append (λ h. one (t h)) (left_rows f.gone w.rows) f.entries ∙ ap (λ k. k + times t f.entries) (times-left t f.gone w.rows)) in
       let h = counts (is_at n) in
       let p = counts (is_pin n) in
       let none = no-pins n w.last.handle f.entries f.new in
       let fewer = sum-le (λ h. one (is_pin n h && is_outside f.gone h)) (λ h. one (is_at n h && is_outside f.gone h)) w.rows (λ h among. grind (arith, nat_tests)) in
       let cells : w'.cells n ≡ (if nat_lt 0 (held n w'.rows) then Some cell else None) = f.leaves.cells n ∙ rw (f.leaves.rows, live) refl in
       grind (arith, nat_tests)
-    where
-      counts : (t : HandleRow → Bool) → times t w'.rows ≡ times (λ h. t h && is_outside f.gone h) w.rows + times t f.entries
-      counts t = ap (times t) f.leaves.rows ∙ (sum_by-append (λ h. one (t h)) (left_rows f.gone w.rows) f.entries ∙ ap (λ k. k + times t f.entries) (times-left t f.gone w.rows))
 
   -- a row that a value owns was there, and isn't gone
   was : (n : ℕ) (h : HandleRow) → Among w'.rows h → h.owner ≡ owner_value n → Among w.rows h × (f.gone h.number.0 ≡ false)
@@ -97,6 +96,10 @@ module _ {before w w' : Core} {given : ℕ → Bool} {r : _} (f : Falls before w
     kept n x e still r among =
         let a = (has n x e).names r among in
         let number = found-number r.handle.0 w.rows a.row a.stands.live in
+        let owner : (h : HandleRow) → Among w.rows h → is_named_by (v.references x) h.number.0 ≡ true → h.owner ≡ owner_value n = λ h there named.
+        let c = named-among (v.references x) h.number.0 named in
+        let b = (has n x e).names c.0 c.1 in
+        ap (λ (y : HandleRow). y.owner) (b.stands.only h there (sym c.2)) ∙ b.owned in
         ap f.gone (sym number)
         ∙ outlast w.rows (is_keyed w) f.entries given f.gone (is_named_by (v.references x)) f.set
         (λ h there is. false_from_ne_true (is_named_by (v.references x) h.number.0) (λ named. free h there is (record { 0 = n }) (owner h there named)))
@@ -106,12 +109,6 @@ module _ {before w w' : Core} {given : ℕ → Bool} {r : _} (f : Falls before w
         let stays = loses-it n x e in
         cc))
         a.row (among-found r.handle.0 w.rows a.row a.stands.live) (ap (is_named_by (v.references x)) number ∙ among-named (v.references x) r among)
-      where
-        owner : (h : HandleRow) → Among w.rows h → is_named_by (v.references x) h.number.0 ≡ true → h.owner ≡ owner_value n
-        owner h there named =
-            let c = named-among (v.references x) h.number.0 named in
-            let b = (has n x e).names c.0 c.1 in
-            ap (λ (y : HandleRow). y.owner) (b.stands.only h there (sym c.2)) ∙ b.owned
 
     pub at-left : (n : ℕ) → At v w' n (if holds_value w' n then values n else None)
     at-left n = by (values n) refl (holds_value w' n) refl
@@ -143,10 +140,10 @@ pub fell-from : {N E : Type 0} {v : Values N} {m : Core} {values : ℕ → Optio
     → {before : Core} {given : ℕ → Bool} {r : _} (s' : PagerState N E) → Falls before m given r s'.core → IsShut m → AreFree m given → Leaves values s' → WellFormed v s'
 fell-from {N} {v = v} {m} {values} at there s' f shut free l =
     settled s' (λ n. subst (At v s'.core n) (sym (l.swept n)) (at-left f v values at free n))
-    (λ n. ap is_some (l.swept n) ∙ (let t = there n in let w = was-there n in grind (arith, nat_tests))) l.right.counted (l.right.whole (shut-fell f shut))
-  where
-    was-there : (n : ℕ) → holds_value s'.core n ≡ true → holds_value m n ≡ true
-    was-there n is = let c = same-cell f n (and_parts (is_some (s'.core.cells n)) (is_here s'.core n) is).0 in let g = fell-away f n in grind (arith, nat_tests)
+    (λ n.
+    let was : holds_value s'.core n ≡ true → holds_value m n ≡ true = λ is.
+    (let c = same-cell f n (and_parts (is_some (s'.core.cells n)) (is_here s'.core n) is).0 in let g = fell-away f n in grind (arith, nat_tests)) in
+    ap is_some (l.swept n) ∙ (let t = there n in grind (arith, nat_tests))) l.right.counted (l.right.whole (shut-fell f shut))
 
 -- The handles go from a world where values stand as they stood, and none of them is a value's.
 pub fell : {N E : Type 0} {v : Values N} {s s' : PagerState N E} {before m : Core} {given : ℕ → Bool} {r : _} → WellFormed v s → Keeps s.core m → Falls before m given r s'.core → IsShut m
@@ -166,23 +163,16 @@ module _ {w : Core} (whole : IsWhole w) where
 -- an own handle pins no more
 unpin-keeps : {w : Core} {me : Owner} {fits : Mode → Bool} → IsWhole w → (h : HandleNumber) (row : HandleRow) → NotValues me → Owns w me h fits row → row.mode ≡ Mode.LoosePinned
     → Keeps w (with_mode w h Mode.LooseUnpinned)
-unpin-keeps {w} whole h row none owns pinned = record { owns = mode-owns w h Mode.LooseUnpinned row row-stands (subst NotValues (sym owns.own) none); held = held }
-  where
-    row-stands : Stands w.last.handle w.rows h.0 row
-    row-stands = stands-whole whole.handles h.0 row owns.live
-
-    held : (n : ℕ) → holds_value (with_mode w h Mode.LooseUnpinned) n ≡ true → holds_value w n ≡ true
-    held n is =
-        let here = row-here w h row owns.live (ap is_pinning pinned) in
-        let other = mode-others w h Mode.LooseUnpinned row row-stands n in
-        grind (arith, nat_tests, same-number)
+unpin-keeps {w} whole h row none owns pinned =
+    let s = stands-whole whole.handles h.0 row owns.live in
+    record {
+      owns = mode-owns w h Mode.LooseUnpinned row s (subst NotValues (sym owns.own) none);
+      held = λ n is. (let here = row-here w h row owns.live (ap is_pinning pinned) in let other = mode-others w h Mode.LooseUnpinned row s n in grind (arith, nat_tests, same-number));
+    }
 
 -- a node gets a key
 keyed-keeps : (w : Core) (node : NodeNumber) (key : ℕ) → Keeps w (with_key w node key)
 keyed-keeps w node key = record { owns = λ n. owns-same refl refl (λ p t is. grind (arith, nat_tests)); held = λ n is. grind (arith, nat_tests) }
-
-still : {w : Core} → Spares w w
-still = spares-same refl (λ n. refl) refl
 
 module _ {N E : Type 0} {v : Values N} {s s' : PagerState N E} (is : WellFormed v s) (left : Leaves s.values s') where
   stays : Alike s.core s'.core → WellFormed v s'
@@ -217,7 +207,7 @@ module _ {N E : Type 0} {v : Values N} {s s' : PagerState N E} (is : WellFormed 
   -- a worker releases the node that it has walked
   pub worker_released : (u n : ℕ) → FallsAnyhow s.core s.core (is_workers_at s.core u n) s'.core → WellFormed v s'
   worker_released u n f =
-      fell is (spares-keeps still) f.falls is.whole.shut
+      fell is (spares-keeps (spares-same refl (λ n. refl) refl)) f.falls is.whole.shut
       (by-row is.whole (λ row. is_owned_by (owner_worker u) row && is_at n row) (λ h m own. ap (λ o. is_owner (owner_worker u) o && is_at n h) own)) left
 
   -- a worker ends, and so do its loads
@@ -228,7 +218,7 @@ module _ {N E : Type 0} {v : Values N} {s s' : PagerState N E} (is : WellFormed 
 
   module _ {me : Owner} (none : NotValues me) where
     pub released : {h : HandleNumber} {r : Result (Unit {0}) Error} → ReleaseCall s.core me h r s'.core → WellFormed v s'
-    released {h} c = elim c.does [ inl refused ↦ stays refused.stays | inr (row, owns, f) ↦ fell is (spares-keeps still) f is.whole.shut (own-free is.whole h row none owns) left ]
+    released {h} c = elim c.does [ inl e ↦ stays e.stays | inr (row, own, f) ↦ fell is (spares-keeps (spares-same refl (λ n. refl) refl)) f is.whole.shut (own-free is.whole h row none own) left ]
 
     pub unpinned : {h : HandleNumber} {r : Result (Unit {0}) Error} → UnpinCall s.core me h r s'.core → WellFormed v s'
     unpinned {h} c = elim c.does [
@@ -249,7 +239,7 @@ module _ {N E : Type 0} {v : Values N} {s s' : PagerState N E} (is : WellFormed 
       | inl (open_still, a) ↦
           let listed = spares-moved s.core (only_handle h) Owner.List (λ n e. cc) (own-free is.whole h c.moves.0 none c.moves.1) in
           stayed is (rests-then listed a (λ e. absurd (let x : true ≡ false = sym e ∙ open_still in cc))) left
-      | inr (shut, f) ↦ fell is (spares-keeps still) f.falls is.whole.shut (own-free is.whole h c.moves.0 none c.moves.1) left
+      | inr (shut, f) ↦ fell is (spares-keeps (spares-same refl (λ n. refl) refl)) f.falls is.whole.shut (own-free is.whole h c.moves.0 none c.moves.1) left
     ]
     scheduled (Err e) c = stays c.refused.stays
 
@@ -297,11 +287,8 @@ pub record Receives {N : Type 0} (v : Values N) (w given : Core) (values : ℕ �
 module _ {N E : Type 0} {v : Values N} {s : PagerState N E} (is : WellFormed v s) {me : Owner} (free : NotValues me) (references : List ArcRef) (fine : references_fault s.core me [] references ≡ None)
     (p : ℕ) (cells : ℕ → Option Cell) (loads : ℕ → Option OpenLoad) (node : ℕ) (typed : (n t : ℕ) → type_at s.core n ≡ Some t → type_at (record s.core { cells = cells }) n ≡ Some t)
     (no_value : s.values p ≡ None) where
-  abbrev w : Core
-  w = s.core
-
   abbrev given : Core
-  given = record w { rows = moved (is_named_by references) (owner_value p) w.rows; cells = cells; loads = loads; last = record w.last { node = node } }
+  given = record s.core { rows = moved (is_named_by references) (owner_value p) s.core.rows; cells = cells; loads = loads; last = record s.core.last { node = node } }
 
   abbrev named : HandleRow → Bool
   named h = is_named_by references h.number.0
@@ -309,19 +296,16 @@ module _ {N E : Type 0} {v : Values N} {s : PagerState N E} (is : WellFormed v s
   abbrev to : HandleRow → HandleRow
   to h = record h { owner = owner_value p }
 
-  right : AreGood w me references
-  right = good w me [] references fine
-
-  others : (n : ℕ) → (n == p) ≡ false → OwnsAlike n w given
+  others : (n : ℕ) → (n == p) ≡ false → OwnsAlike n s.core given
   others n other =
       let apart : owner_value p ≡ owner_value n → ⊥ = λ own. let same = same-value (owner_value p) refl own in let e = self-number p in grind (arith, nat_tests) in
-      let before = rowed is.whole (is_named_by references) (λ m. effects.named-free (Owner.Value m) w me references (free m) right) in
-      owns-then (owns-changed w named to (λ h. refl) n (λ h among is. (before h among is (record { 0 = n }), apart)) {list = w.list}) (owns-same refl refl typed)
+      let before = rowed is.whole (is_named_by references) (λ m. effects.named-free (Owner.Value m) s.core me references (free m) (good s.core me [] references fine)) in
+      owns-then (owns-changed s.core named to (λ h. refl) n (λ h among is. (before h among is (record { 0 = n }), apart)) {list = s.core.list}) (owns-same refl refl typed)
 
   owned : (h : HandleRow) → Among given.rows h → h.owner ≡ owner_value p → named h ≡ true
   owned h among own =
-      let a = among-changed (λ x. if named x then to x else x) w.rows h among in
-      let none = subst (At v w p) no_value (sits is p) a.0 a.1 in
+      let a = among-changed (λ x. if named x then to x else x) s.core.rows h among in
+      let none = subst (At v s.core p) no_value (sits is p) a.0 a.1 in
       grind (arith, nat_tests)
 
   new : (x : N) → v.references x ≡ references → type_at given p ≡ Some (v.node_type x) → Has v given p x
@@ -329,41 +313,32 @@ module _ {N E : Type 0} {v : Values N} {s : PagerState N E} (is : WellFormed v s
   new x same its_type = record {
     typed = its_type;
     names = λ r among.
-        let a = right r (subst (λ rs. Among rs r) same among) in
-        let hit : named a.row ≡ true = ap (is_named_by references) (found-number r.handle.0 w.rows a.row a.live) ∙ among-named references r (subst (λ rs. Among rs r) same among) in
-        let s = stands-changed named to (λ h. refl) (stands-whole is.whole.handles r.handle.0 a.row a.live) in
-        let stands = subst (λ b. Stands w.last.handle given.rows r.handle.0 (if b then to a.row else a.row)) hit s in
+        let a = good s.core me [] references fine r (subst (λ rs. Among rs r) same among) in
+        let hit : named a.row ≡ true = ap (is_named_by references) (found-number r.handle.0 s.core.rows a.row a.live) ∙ among-named references r (subst (λ rs. Among rs r) same among) in
+        let kept = stands-changed named to (λ h. refl) (stands-whole is.whole.handles r.handle.0 a.row a.live) in
+        let stands = subst (λ b. Stands s.core.last.handle given.rows r.handle.0 (if b then to a.row else a.row)) hit kept in
         record { row = to a.row; stands = stands; at = a.at; owned = refl; fits = a.fits; typed = typed _ _ a.typed };
-    once = λ q. subst (λ (rs : List ArcRef). times (λ (r : ArcRef). r.handle.0 == q) rs ≤ 1) (sym same) (named-once w me [] references q fine);
+    once = λ q. subst (λ (rs : List ArcRef). times (λ (r : ArcRef). r.handle.0 == q) rs ≤ 1) (sym same) (named-once s.core me [] references q fine);
     owned = λ h among own. named-among (v.references x) h.number.0 (ap (λ rs. is_named_by rs h.number.0) same ∙ owned h among own);
   }
 
-  pub receives : Receives v w given s.values references p
+  pub receives : Receives v s.core given s.values references p
   receives = record {
-    all = λ o here n. at o here n (n == p) refl;
+    all = λ o here n. elim (cases_Bool (n == p)) [
+      | inl e ↦ rw e (subst (λ k. At v given k o) (sym (same-number n p e)) here)
+      | inr e ↦ rw e (sits-on v (others n e) (s.values n) (sits is n))
+    ];
     value = new;
-    pins = moved-pins w.rows (is_named_by references) (owner_value p);
+    pins = moved-pins s.core.rows (is_named_by references) (owner_value p);
     named = owned;
     before = others;
   }
-    where
-      at : (o : Option N) → At v given p o → (n : ℕ) (b : Bool) → (n == p) ≡ b → At v given n (if b then o else s.values n)
-      at o here n true e = subst (λ k. At v given k o) (sym (same-number n p e)) here
-      at o here n false e = sits-on v (others n e) (s.values n) (sits is n)
-
--- the next node's number
-abbrev pub next_of : Core → ℕ
-next_of w = w.last.node + 1
-
-none-named : (w : Core) (owner : Owner) → references_fault w owner [] [] ≡ None
-unfolding references_fault
-none-named w owner = refl
 
 module _ {N E : Type 0} {v : Values N} {s : PagerState N E} (s' : PagerState N E) (is : WellFormed v s) {me : Owner} (free : NotValues me) (t : ℕ) (own : OptionalDataKey)
     (references : List ArcRef) (mode : Mode) (fine : references_fault s.core me [] references ≡ None)
     (like : Rests (with_handle (with_node s.core t own references) (next_node s.core) mode me) s'.core) where
   abbrev next : ℕ
-  next = next_of s.core
+  next = s.core.last.node + 1
 
   abbrev bearing : Core
   bearing = with_node s.core t own references
@@ -404,52 +379,42 @@ module _ {N E : Type 0} {v : Values N} {s : PagerState N E} (s' : PagerState N E
   comes-away : (key : ℕ) → own ≡ OptionalDataKey.Some key → references ≡ [] → is_pinning mode ≡ false → ((n : ℕ) → s'.values n ≡ s.values n) → IsRight s'
       → WellFormed v s'
   unfolding is_named_by
-  comes-away key keyed nothing unpinned same = comes None none (sym away) (λ n. let a = same n in grind (arith, nat_tests, no-value))
-    where
-      none : At v bearing next None
-      none h among mine = let e = ap (λ rs. is_named_by rs h.number.0) (sym nothing) ∙ receives-it.named h among mine in absurd (cc)
-
-      no-pins : pins next s.core.rows ≡ 0
-      no-pins =
-          let le = sum-le (λ h. one (is_pin next h)) (λ h. one (is_at next h)) s.core.rows (λ h among. one-less (is_at next h) (is_pinning h.mode)) in
-          let live : is_some (s.core.cells next) ≡ nat_lt 0 (held next s.core.rows) = is.whole.handles.live next in
-          grind (arith, nat_tests, no-cell)
-
-      away : is_here made next ≡ false
-      away = let p = pins-made next in let q = self-number next in grind (arith, nat_tests, no-pins)
-
--- a handle of a reference pins unless its kind is loose
-mode-pins : (kind : ℕ) (b : Bool) → is_loose_kind kind ≡ b → is_pinning (mode_of kind) ≡ (if b then false else true)
-mode-pins kind b loose = grind (arith, nat_tests)
+  comes-away key keyed nothing unpinned same =
+      let no-pins : pins next s.core.rows ≡ 0 = grind (arith, nat_tests, sum-le, one-less, no-cell) in
+      let away : is_here made next ≡ false = let p = pins-made next in let q = self-number next in grind (arith, nat_tests) in
+      comes None (λ h among mine. let e = ap (λ rs. is_named_by rs h.number.0) (sym nothing) ∙ receives-it.named h among mine in absurd (cc)) (sym away)
+      (λ n. let a = same n in grind (arith, nat_tests, no-value))
 
 module _ {N E : Type 0} {v : Values N} {s s' : PagerState N E} (is : WellFormed v s) where
   pub born : {me : Owner} {x : N} {mode : Mode} {k : HandleNumber} → NotValues me → is_pinning mode ≡ true → BirthCall s.core me x (v.node_type x) (v.references x) mode (Ok k) s'.core
-      → ((n : ℕ) → s'.values n ≡ (if n == next_of s.core then Some x else s.values n)) → IsRight s' → WellFormed v s'
+      → ((n : ℕ) → s'.values n ≡ (if n == s.core.last.node + 1 then Some x else s.values n)) → IsRight s' → WellFormed v s'
   born {x = x} {mode} free pinning b =
       comes-with s' is free (v.node_type x) OptionalDataKey.None (v.references x) mode b.made.0 (unmoved b.made.3 is.whole.shut) x refl refl pinning
 
   -- what a load read becomes a node, where the cache gives none
   pub adopts-new : {me : Owner} {l : LoadNumber} {kind : Kind} {key : ℕ} {x : N} {k : HandleNumber} → Adopts s.core me l kind key (v.node_type x) (v.references x) k s'.core
-      → usable s.core kind.0 key ≡ None → ((n : ℕ) → s'.values n ≡ (if n == next_of s.core then Some x else s.values n)) → IsRight s' → WellFormed v s'
+      → usable s.core kind.0 key ≡ None → ((n : ℕ) → s'.values n ≡ (if n == s.core.last.node + 1 then Some x else s.values n)) → IsRight s' → WellFormed v s'
   adopts-new {l = l} {kind} {key} {x} a unknown = elim a.makes [
     | inl (n, known, f) ↦ absurd (let e : None ≡ Some n = sym unknown ∙ known in cc)
     | inr (none, few, alike) ↦ comes-with s' is (not-load l) (type_of kind.0) _ (v.references x) (mode_of kind.0) a.good
-        (rests-cached kind key (next_node s.core) s.core.closed alike refl is.whole.shut) x a.typed refl (mode-pins kind.0 false a.eager)
+        (rests-cached kind key (next_node s.core) s.core.closed alike refl is.whole.shut) x a.typed refl (let eager = a.eager in grind (arith, nat_tests))
   ]
 
   pub born-away : {me : Owner} {t key : ℕ} (r : Result HandleNumber Error) → NotValues me → AwayBirthCall s.core me t key r s'.core
       → ((n : ℕ) → s'.values n ≡ s.values n) → IsRight s' → WellFormed v s'
+  unfolding references_fault
   born-away {me} {t} {key} (Ok k) free b =
-      comes-away s' is free t (OptionalDataKey.Some key) [] Mode.LooseUnpinned (none-named s.core me) (unmoved b.made.2 is.whole.shut) key refl refl refl
+      comes-away s' is free t (OptionalDataKey.Some key) [] Mode.LooseUnpinned refl (unmoved b.made.2 is.whole.shut) key refl refl refl
   born-away (Err e) free b = spared is (unmoved b.refused.stays is.whole.shut)
 
   pub lazily : {me : Owner} {l : LoadNumber} {kind : Kind} {key : ℕ} (r : Result HandleNumber Error) → LazyCall s.core me l kind key r s'.core
       → ((n : ℕ) → s'.values n ≡ s.values n) → IsRight s' → WellFormed v s'
+  unfolding references_fault
   lazily {l = l} {kind} {key} (Ok k) c = elim c.makes.3 [
     | inl g ↦ spared is (gets-known is.whole g)
     | inr (none, few, is_next, a) ↦
-        comes-away s' is (not-load l) (type_of kind.0) (OptionalDataKey.Some key) [] (mode_of kind.0) (none-named s.core (Owner.Load l))
-        (rests-cached kind key (next_node s.core) s.core.closed a refl is.whole.shut) key refl refl (mode-pins kind.0 true c.makes.2)
+        comes-away s' is (not-load l) (type_of kind.0) (OptionalDataKey.Some key) [] (mode_of kind.0) refl
+        (rests-cached kind key (next_node s.core) s.core.closed a refl is.whole.shut) key refl refl (let loose = c.makes.2 in grind (arith, nat_tests))
   ]
   lazily (Err e) c = spared is (unmoved c.refused.stays is.whole.shut)
 
@@ -472,11 +437,7 @@ module _ {N E : Type 0} {v : Values N} {s : PagerState N E} (is : WellFormed v s
   module _ (away : is_here s.core node.0 ≡ false) where
     -- the cell is there, of the value's type
     cell-typed : type_at s.core node.0 ≡ Some (v.node_type x)
-    cell-typed =
-        let some = row-held s.core h row own.live in
-        let live = is.whole.handles.live node.0 in
-        let root = is.whole.loads.roots l.0 may.load node (v.node_type x) h may.owned.stands_open may.of_node in
-        grind (arith, nat_tests)
+    cell-typed = grind (arith, nat_tests, row-held)
 
     no-value-yet : s.values node.0 ≡ None
     no-value-yet = grind (arith, nat_tests)
@@ -509,35 +470,29 @@ module _ {N E : Type 0} {v : Values N} {s : PagerState N E} (is : WellFormed v s
 
     -- each node that is in memory has a value
     there : (n : ℕ) → holds_value (with_pin closed-given h node me) n ≡ true → is_some (values n) ≡ true
-    there n holds = let v = is.valued n in let p = same-pins in grind (arith, nat_tests)
-      where
-        same-pins : (n == node.0) ≡ false → pins n (with_pin closed-given h node me).rows ≡ pins n s.core.rows
-        same-pins e =
-            let apart : (node.0 == n) ≡ false = grind (arith, nat_tests) in
-            let a = sum_by_push (λ r. one (is_pin n r)) pinned.rows (row_of (s.core.last.handle + 1) node Mode.Pinned me) in
-            let b = mode-others closed-given h Mode.LoosePinned row stands-still n (ap (λ (m : NodeNumber). m.0 == n) at_node ∙ apart) in
-            let c = takes-it.pins n in
-            let d : one (is_pin n (row_of (s.core.last.handle + 1) node Mode.Pinned me)) ≡ 0 = rw apart refl in
-            omega (arith, a, b, c, d)
+    there n holds =
+        let same-pins : (n == node.0) ≡ false → pins n (with_pin closed-given h node me).rows ≡ pins n s.core.rows = λ e.
+        let apart : (node.0 == n) ≡ false = grind (arith, nat_tests) in
+        let a = sum_by_push (λ r. one (is_pin n r)) pinned.rows (row_of (s.core.last.handle + 1) node Mode.Pinned me) in
+        let b = mode-others closed-given h Mode.LoosePinned row stands-still n (ap (λ (m : NodeNumber). m.0 == n) at_node ∙ apart) in
+        let c = takes-it.pins n in
+        let d : one (is_pin n (row_of (s.core.last.handle + 1) node Mode.Pinned me)) ≡ 0 = rw apart refl in
+        omega (arith, a, b, c, d) in
+        let v = is.valued n in grind (arith, nat_tests)
 
     -- what goes is no value's
     none-goes : AreFree (with_pin closed-given h node me) (λ q. is_owned_in s.core (Owner.Load l) q && not (is_named_by (v.references x) q))
-    none-goes q among goes n mine = at (n.0 == node.0) refl
-      where
-        mine-before : Among closed-given.rows q
-        mine-before = (after n.0).owned q among mine
-
-        both : (is_owned_in s.core (Owner.Load l) q.number.0 ≡ true) × (not (is_named_by (v.references x) q.number.0) ≡ true)
-        both = and_parts (is_owned_in s.core (Owner.Load l) q.number.0) _ goes
-
-        at : (b : Bool) → (n.0 == node.0) ≡ b → ⊥
-        at true e = let named = takes-it.named q mine-before (mine ∙ ap owner_value (same-number n.0 node.0 e)) in let f = both.1 in cc
-        at false e =
-            let row_found = found is.whole.handles q.number.0 q ((takes-it.before n.0 e).owned q mine-before mine) refl in
-            let other : is_owned_in s.core (Owner.Load l) q.number.0 ≡ is_owner (Owner.Load l) q.owner = ap (if_there (is_owned_by (Owner.Load l)) false) row_found in
-            let f = ap (is_owner (Owner.Load l)) mine in
-            let g = both.0 in
-            cc
+    none-goes q among goes n mine =
+        let before = (after n.0).owned q among mine in
+        let (owned_so, unnamed) = and_parts (is_owned_in s.core (Owner.Load l) q.number.0) _ goes in
+        elim (cases_Bool (n.0 == node.0)) [
+          | inl e ↦ let named = takes-it.named q before (mine ∙ ap owner_value (same-number n.0 node.0 e)) in cc
+          | inr e ↦
+              let row_found = found is.whole.handles q.number.0 q ((takes-it.before n.0 e).owned q before mine) refl in
+              let other : is_owned_in s.core (Owner.Load l) q.number.0 ≡ is_owner (Owner.Load l) q.owner = ap (if_there (is_owned_by (Owner.Load l)) false) row_found in
+              let f = ap (is_owner (Owner.Load l)) mine in
+              cc
+        ]
 
 module _ {N E : Type 0} {v : Values N} {s s' : PagerState N E} (is : WellFormed v s) {me : Owner} {l : LoadNumber} {node : NodeNumber} {h k : HandleNumber} {x : N}
     (may : MayEnd s.core me l node h (v.node_type x) (v.references x)) (i : Installs s.core me l node h k (v.references x) s'.core) where

@@ -2,14 +2,14 @@
 -- handles go, part by part: it leaves what values own as it is.
 use Rattle.pagable_laws.proofs.Effects as effects
 use Rattle.pagable_laws.proofs.{Decoding.among-either, Following.{handles-once, one-less}, Goes.{NotValues, Stands, among-changed, among-found, found-number}, GoodReferences.same-owner}
-use Rattle.pagable_laws.proofs.{Goes.{found-after, only-one, stands-changed, stands-whole}, SparingSteps.{IsEntered, entered-of, found}, Trees.{at-most-sum, counted, one-true, same-number}}
+use Rattle.pagable_laws.proofs.{Goes.{found-after, only-one, stands-changed, stands-whole}, SparingSteps.{entered-of, found}, Trees.{at-most-sum, counted, one-true, same-number}}
 use Rattle.{pagable_laws.proofs.{Taking.row-pins, Trees.{self-number, sum-le, sum-zero}}, pagable_world.specs.Calls.{Asked, ClearCall, CloneCall, LoosenCall, PinCall, RecallCall, ReserveCall}}
 use Rattle.pagable_world.specs.{Calls.{StoreCall, TakeCall, is_named_by, moved, row_of, with_cached, with_handle, with_known, with_mode}, Cascade.only_handle, Events.with_entry_taken}
 use Rattle.pagable_world.specs.{Events.with_worker, Kinds.{fits_mode, is_at, is_handle, is_in_memory, is_owned_by, is_owner, is_pin, is_pinning, is_share, is_shared, mode_of, owner_value, pins}}
 use Rattle.pagable_world.specs.{LoadCalls.{BeginCall, BeginKeyCall, GetsKnown}, Pager.{HandlesAreWhole, IsWhole, PagerState, WellFormed}, Plain.{Among, ArcRef, Blob, Error, HandleNumber, Kind}}
-use Rattle.pagable_world.specs.{Plain.{LoadNumber, NodeNumber, OptionalDataKey, SameAt, WorkerNumber, changed, if_there, is_shared_kind, one, times, type_of}, Refusals.Owns, World.{Alike, Cell}}
+use Rattle.pagable_world.specs.{Plain.{LoadNumber, NodeNumber, SameAt, WorkerNumber, changed, is_shared_kind, one, times, type_of}, Refusals.Owns, World.{Alike}}
 use Rattle.pagable_world.specs.{World.{Core, Last, Values, is_here, key_at, row_at, type_at, usable}, declared.{answers.{Beginning.Beginning, Pinning.Pinning}, handles.HandleRow.HandleRow}}
-use Rattle.{pagable_world.specs.declared.{handles.Owner.Owner, rows.Mode.Mode}, std.proofs.Common.{Bool, Err, List, None, Ok, Option, Some, [], ap, arith, false, if◌then◌else◌, inl, inr, length}}
+use Rattle.{pagable_world.specs.declared.{handles.Owner.Owner, rows.Mode.Mode}, std.proofs.Common.{Bool, Err, List, None, Ok, Option, Some, [], ap, arith, false, if◌then◌else◌, length}}
 use Rattle.std.proofs.{Common.{map, refl, subst, suc, sum_by, sym, true, ℕ, ◌&&◌, ◌+◌, ◌<◌, ◌==◌, ◌∙◌, ◌∷◌, ◌≡◌, ◌≤◌}, lemmas.Bool.{and_parts, false_from_ne_true, Decides.nat_tests}}
 use Rattle.std.{proofs.lemmas.{List.Sums.{sum_by-cons, sum_by_push}, Option.slice_get_within}, specs.Prelude.{Result, is_some, nat_lt, not, slice_get}}
 
@@ -110,21 +110,18 @@ settled {N} {v = v} s all valued counts whole = record {
     has n x e = subst (At v s.core n) e (all n)
 
     inside : (n : ℕ) (x : N) (q : ℕ) → Has v s.core n x → times (λ (r : ArcRef). r.handle.0 == q) (v.references x) ≡ times (owns n q) s.core.rows
-    inside n x q a = let le = a.once q in let few = owns-once whole.handles n q in let more = up in let less = down in grind arith
-      where
-        up : 0 < times (λ (r : ArcRef). r.handle.0 == q) (v.references x) → 0 < times (owns n q) s.core.rows
-        up some =
-            let c = there-some (λ (r : ArcRef). r.handle.0 == q) (v.references x) some in
-            let is = a.names c.0 c.1 in
-            let number = found-number c.0.handle.0 s.core.rows is.row is.stands.live ∙ same-number _ _ c.2 in
-            some-there (owns n q) s.core.rows is.row (among-found c.0.handle.0 s.core.rows is.row is.stands.live) (owns-test n q is.row number is.owned)
-
-        down : 0 < times (owns n q) s.core.rows → 0 < times (λ (r : ArcRef). r.handle.0 == q) (v.references x)
-        down some =
-            let c = there-some (owns n q) s.core.rows some in
-            let both = and_parts (is_handle q c.0) (is_owned_by (owner_value n) c.0) c.2 in
-            let named = a.owned c.0 c.1 (same-owner (owner_value n) c.0.owner both.1) in
-            some-there (λ (r : ArcRef). r.handle.0 == q) (v.references x) named.0 named.1 (ap (λ m. m == q) named.2 ∙ both.0)
+    inside n x q a =
+        let up : 0 < times (λ (r : ArcRef). r.handle.0 == q) (v.references x) → 0 < times (owns n q) s.core.rows = λ some.
+        let c = there-some (λ (r : ArcRef). r.handle.0 == q) (v.references x) some in
+        let is = a.names c.0 c.1 in
+        let number = found-number c.0.handle.0 s.core.rows is.row is.stands.live ∙ same-number _ _ c.2 in
+        some-there (owns n q) s.core.rows is.row (among-found c.0.handle.0 s.core.rows is.row is.stands.live) (owns-test n q is.row number is.owned) in
+        let down : 0 < times (owns n q) s.core.rows → 0 < times (λ (r : ArcRef). r.handle.0 == q) (v.references x) = λ some.
+        let c = there-some (owns n q) s.core.rows some in
+        let both = and_parts (is_handle q c.0) (is_owned_by (owner_value n) c.0) c.2 in
+        let named = a.owned c.0 c.1 (same-owner (owner_value n) c.0.owner both.1) in
+        some-there (λ (r : ArcRef). r.handle.0 == q) (v.references x) named.0 named.1 (ap (λ m. m == q) named.2 ∙ both.0) in
+        let le = a.once q in let few = owns-once whole.handles n q in grind arith
 
 -- what the value of the node owns stays as it is, and nodes their types
 pub record OwnsAlike (n : ℕ) (w m : Core) : Type 0 where
@@ -146,10 +143,6 @@ pub record Keeps (w m : Core) : Type 0 where
 abbrev pub AreFree : Core → (ℕ → Bool) → Type 0
 AreFree w given = (h : HandleRow) → Among w.rows h → given h.number.0 ≡ true → NotValues h.owner
 
--- a value stays exactly where its node is still in memory
-abbrev pub Sweeps : {N : Type 0} → (ℕ → Option N) → Core → (ℕ → Option N) → Type 0
-Sweeps values w' values' = (n : ℕ) → values' n ≡ (if holds_value w' n then values n else None)
-
 -- nothing is listed or known once the storage is closed
 abbrev pub IsShut : Core → Type 0
 IsShut w = w.closed ≡ true → (w.list ≡ []) × ((kind key : ℕ) → w.cache kind key ≡ None)
@@ -159,9 +152,9 @@ pub record IsRight {N E : Type 0} (s' : PagerState N E) : Type 0 where
   pub counted : (n : ℕ) → s'.counts n ≡ pins n s'.core.rows
   pub whole : IsShut s'.core → IsWhole s'.core
 
--- what a call leaves: the values whose nodes are in memory, besides
+-- what a call leaves: a value stays exactly where its node is still in memory
 pub record Leaves {N E : Type 0} (values : ℕ → Option N) (s' : PagerState N E) : Type 0 where
-  pub swept : Sweeps values s'.core s'.values
+  pub swept : (n : ℕ) → s'.values n ≡ (if holds_value s'.core n then values n else None)
   pub right : IsRight s'
 
 pub spares-keeps : {w m : Core} → Spares w m → Keeps w m
@@ -173,11 +166,7 @@ module _ {n : ℕ} where
 
   -- rows are the same
   pub owns-same : {w m : Core} → m.rows ≡ w.rows → m.last.handle ≡ w.last.handle → ((p t : ℕ) → type_at w p ≡ Some t → type_at m p ≡ Some t) → OwnsAlike n w m
-  owns-same {w} {m} rows last typed = record {
-    typed = typed;
-    spares = record { each = λ q row own s. subst (λ l. Stands l m.rows q row) (sym last) (subst (λ rs. Stands w.last.handle rs q row) (sym rows) s) };
-    owned = λ h among own. subst (λ rs. Among rs h) rows among;
-  }
+  owns-same {w} {m} rows last typed = grind (arith, nat_tests)
 
   -- and so does what is so of the node
   pub sits-on : {N : Type 0} (v : Values N) {w m : Core} → OwnsAlike n w m → (o : Option N) → At v w n o → At v m n o
@@ -196,23 +185,15 @@ spares-then a b = record { owns = λ n. owns-then (a.owns n) (b.owns n); holds =
 
 -- whatever else changes
 pub spares-same : {w w' : Core} → w'.rows ≡ w.rows → SameAt w.cells w'.cells → w'.last.handle ≡ w.last.handle → Spares w w'
-spares-same {w} {w'} rows cells last = record {
-  owns = λ n. owns-same rows last (λ p t is. ap (λ o. if_there (λ (cell : Cell). Some cell.node_type) None o) (cells p) ∙ is);
-  holds = λ n. ap (λ rs. is_some (w'.cells n) && is_in_memory (pins n rs) (key_at w' n)) rows
-      ∙ ap (λ c. is_some c && is_in_memory (pins n w.rows) (if_there (λ (x : Cell). x.key) OptionalDataKey.None c)) (cells n);
-}
+spares-same {w} {w'} rows cells last = grind (arith, nat_tests, owns-same)
 
 pub spares-alike : {w w' : Core} → Alike w w' → Spares w w'
 spares-alike a = spares-same a.rows a.cells (ap (λ (l : Last). l.handle) a.last)
 
 -- ---- nothing comes to the list or the cache once the storage is closed
 
-none-known : (found : Option ℕ) → ((n : ℕ) → found ≡ Some n → None ≡ Some n) → found ≡ None
-none-known found h = grind (arith, nat_tests)
-
 pub shut-alike : {w w' : Core} → Alike w w' → IsShut w → IsShut w'
-shut-alike {w} {w'} a shut closed =
-    let b = shut (sym a.closed ∙ closed) in (a.list ∙ b.0, λ kind key. none-known (w'.cache kind key) (λ n is. sym (b.1 kind key) ∙ a.cache.only kind key n is))
+shut-alike {w} {w'} a shut closed = grind (arith, nat_tests)
 
 -- no value comes or goes either
 pub record Rests (w w' : Core) : Type 0 where
@@ -254,14 +235,7 @@ module _ (w : Core) (node : NodeNumber) (mode : Mode) (me : Owner) (free : NotVa
   new = row_of (w.last.handle + 1) node mode me
 
   pub owns-handle : (n : ℕ) → OwnsAlike n w (with_handle w node mode me)
-  owns-handle n = record {
-    typed = λ p t is. is;
-    spares = effects.spares-handle (owner_value n) w node mode me;
-    owned = λ h among own. elim (among-either w.rows (new ∷ []) among.0 h among.1) [
-      | inl old ↦ old
-      | inr is ↦ absurd (free (record { 0 = n }) (sym (ap (λ (x : HandleRow). x.owner) (only-one new h is)) ∙ own))
-    ];
-  }
+  owns-handle n = grind (arith, nat_tests, effects.spares-handle, among-either, only-one)
 
   -- if it pins, its node's value is in memory
   pub spares-handle : (is_pinning mode ≡ true → is_here w node.0 ≡ true) → Spares w (with_handle w node mode me)
@@ -291,15 +265,11 @@ module _ (w : Core) (test : HandleRow → Bool) (f : HandleRow → HandleRow) (n
 
 -- handles that move pin as before
 pub moved-pins : (rows : List HandleRow) (set : ℕ → Bool) (owner : Owner) (n : ℕ) → pins n (moved set owner rows) ≡ pins n rows
-moved-pins rows set owner n =
-    sum-mapped (λ h. if set h.number.0 then record h { owner = owner } else h) (λ h. one (is_pin n h)) (λ h. one (is_pin n h)) rows (λ h among. grind (arith, nat_tests))
+moved-pins rows set owner n = grind (arith, nat_tests, sum-mapped)
 
 -- handles that aren't values' move to another who is none
 pub spares-moved : (w : Core) (set : ℕ → Bool) (owner : Owner) {list : List HandleNumber} → NotValues owner → AreFree w set → Spares w (record w { rows = moved set owner w.rows; list = list })
-spares-moved w set owner free before = record {
-  owns = λ n. owns-changed w (λ h. set h.number.0) (λ h. record h { owner = owner }) (λ h. refl) n (λ h among is. (before h among is (record { 0 = n }), free (record { 0 = n })));
-  holds = λ n. ap (λ p. is_some (w.cells n) && is_in_memory p (key_at w n)) (moved-pins w.rows set owner n);
-}
+spares-moved w set owner free before = search (owns-changed, moved-pins)
 
 -- the one row of a handle that isn't a value's takes another mode
 module _ (w : Core) (h : HandleNumber) (mode : Mode) (row : HandleRow) (stands : Stands w.last.handle w.rows h.0 row) where
@@ -353,13 +323,10 @@ module _ {w : Core} (whole : IsWhole w) where
       let row : HandleRow = c.begins.0 in
       let clone = spares-handle w row.node Mode.LooseUnpinned (Owner.Load l) (not-load l) (λ is. absurd (let e : false ≡ true = is in cc)) in
       rests-then (spares-then clone (spares-same refl (λ n. refl) refl)) c.begins.2.4.2 whole.shut
-  begins (Ok Beginning.InMemory) c = unmoved c.begins.2.1 whole.shut
-  begins (Err e) c = unmoved c.refused.stays whole.shut
+  begins x0 c = grind (arith, nat_tests, unmoved)
 
   pub begins-key : {w' : Core} {me : Owner} {key : ℕ} (r : Result Beginning Error) → BeginKeyCall w me key r w' → Rests w w'
-  begins-key (Ok (Beginning.Load l key)) c = rests-then (spares-same refl (λ n. refl) refl) c.begins.2 whole.shut
-  begins-key (Ok Beginning.InMemory) c = absurd c.begins
-  begins-key (Err e) c = unmoved c.refused.stays whole.shut
+  begins-key x0 c = grind (arith, nat_tests, rests-then, spares-same, unmoved)
 
   -- handles that are no value's, by their rows
   pub rowed : (given : ℕ → Bool) → ((n : NodeNumber) → effects.Free (Owner.Value n) w given) → AreFree w given
@@ -397,8 +364,7 @@ module _ {w : Core} (whole : IsWhole w) where
         let owns = c.pins.1 in
         let here = mode-here w h Mode.LoosePinned row (stands-whole whole.handles h.0 row owns.live) refl in
         rests-then (spares-then (turned h row owns c.pins.2.0) (spares-handle _ row.node Mode.Pinned me free (λ is. here))) c.pins.2.2 whole.shut
-    pins-it (Ok (Pinning.NeedsLoad key)) c = unmoved c.pins.2.2 whole.shut
-    pins-it (Err e) c = unmoved c.refused.stays whole.shut
+    pins-it x0 c = grind (arith, nat_tests, unmoved)
 
     pub loosens : {w' : Core} {h : HandleNumber} (r : Result HandleNumber Error) → LoosenCall w me h r w' → Rests w w'
     loosens {h = h} (Ok k) c =
@@ -413,20 +379,17 @@ module _ {w : Core} (whole : IsWhole w) where
 
   -- where a handle is made that pins, the node's value is in memory
   pub known-here : (kind key n : ℕ) → usable w kind key ≡ Some n → is_pinning (mode_of kind) ≡ true → is_here w n ≡ true
-  known-here kind key n known pinning = grind (arith, nat_tests, shared, entered, not, is_some, is_here)
-    where
-      entered : IsEntered kind key n w.cache w.cells
-      entered = entered-of kind key n w known
-
-      shared : is_shared_kind kind ≡ true → is_here w n ≡ true
-      shared is =
-          let holds = counted (λ h. one (is_at n h)) w.rows (let there = entered.there in let live = whole.handles.live n in grind (arith, nat_tests)) in
-          let at : (holds.0.node.0 == n) ≡ true = one-true _ holds.2 in
-          let shares : is_shared holds.0.mode ≡ true = (whole.cache kind key n entered.entry).shares holds.0 holds.1 (same-number _ _ at) ∙ is in
-          let one_share : one (is_share n holds.0) ≡ 1 = rw (at, shares) refl in
-          let le = at-most-sum (λ h. one (is_share n h)) w.rows holds.0 holds.1 in
-          let unkeyed = whole.handles.unkeyed n (omega (arith, one_share, le)) in
-          grind (arith, nat_tests)
+  known-here kind key n known pinning =
+      let entered = entered-of kind key n w known in
+      let shared : is_shared_kind kind ≡ true → is_here w n ≡ true = λ is.
+      let holds = counted (λ h. one (is_at n h)) w.rows (let there = entered.there in let live = whole.handles.live n in grind (arith, nat_tests)) in
+      let at : (holds.0.node.0 == n) ≡ true = one-true _ holds.2 in
+      let shares : is_shared holds.0.mode ≡ true = (whole.cache kind key n entered.entry).shares holds.0 holds.1 (same-number _ _ at) ∙ is in
+      let one_share : one (is_share n holds.0) ≡ 1 = rw (at, shares) refl in
+      let le = at-most-sum (λ h. one (is_share n h)) w.rows holds.0 holds.1 in
+      let unkeyed = whole.handles.unkeyed n (omega (arith, one_share, le)) in
+      grind (arith, nat_tests) in
+      grind (arith, nat_tests, not, is_some, is_here)
 
   -- a handle of such a node
   pub spares-known : {owner : Owner} (kind : Kind) (key n : ℕ) → NotValues owner → usable w kind.0 key ≡ Some n → Spares w (with_known w kind n owner)
@@ -434,8 +397,7 @@ module _ {w : Core} (whole : IsWhole w) where
 
   pub recalls : {w' : Core} {me : Owner} {kind : Kind} {key : ℕ} → NotValues me → (r : Result (Option HandleNumber) Error) → RecallCall w me kind key r w' → Rests w w'
   recalls {kind = kind} {key} free (Ok (Some k)) c = rests-then (spares-known kind key c.answers.0 free c.answers.1) c.answers.3 whole.shut
-  recalls free (Ok None) c = unmoved c.answers.1 whole.shut
-  recalls free (Err e) c = unmoved c.refused.stays whole.shut
+  recalls free x0 c = grind (arith, nat_tests, unmoved)
 
   pub gets-known : {w' : Core} {l : LoadNumber} {kind : Kind} {key : ℕ} {k : HandleNumber} → GetsKnown w l kind key k w' → Rests w w'
   gets-known {l = l} {kind} {key} g = rests-then (spares-known kind key g.n (not-load l) g.known) g.leaves whole.shut

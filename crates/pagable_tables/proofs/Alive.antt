@@ -4,7 +4,8 @@ use Rattle.pagable_tables.proofs.Words.{List, Mode, NodeNumber, None, Option, Ow
 use Rattle.pagable_tables.proofs.Words.{filter, find_row, get_or, get_or-set_at, get_or-set_other, get_or_default, get_or_from_slice_get, if_there, if◌then◌else◌, is_handle, is_live_place}
 use Rattle.pagable_tables.proofs.Words.{is_owned_by, is_owner, left_rows, length, length-append, length-set, live, nat_tests, not, one, only_handle, owns_nothing, plain_of, refl, set, slice_get}
 use Rattle.pagable_tables.proofs.Words.{slice_get-get_or, slice_get_within, subst, suc, sum_by, sum_by-append, sum_by-cons, sum_by-le-sum_by, sum_by-set, sum_by_push, sym, take, times, true, unpinned}
-use Rattle.{pagable_tables.{proofs.Words.{zero, ℕ, ◌&&◌, ◌++◌, ◌+◌, ◌<◌, ◌==◌, ◌||◌, ◌∙◌, ◌∷◌, ◌≡◌, ◌≢◌, ◌≤◌, ◌⊎◌}, specs.Core.IsWhole}, std.proofs.lemmas.List.{get_or-take, length-take-le}}
+use Rattle.{pagable_tables.{proofs.Words.{zero, ℕ, ◌&&◌, ◌++◌, ◌+◌, ◌<◌, ◌==◌, ◌||◌, ◌∙◌, ◌∷◌, ◌≡◌, ◌≢◌, ◌≤◌, ◌⊎◌}, specs.Core.IsWhole}, pagable_world.proofs.Elements.sum-none}
+use Rattle.std.proofs.lemmas.List.{get_or-take, length-take-le}
 use Rattle.pagable_world.specs.Pager as pager
 
 pub and-left : (a b : Bool) → (a && b) ≡ true → a ≡ true
@@ -91,15 +92,12 @@ of_list q h = is_handle q h && is_owned_by Owner.List h
 abbrev of_other : ℕ → HandleRow → Bool
 of_other q h = is_handle q h && not (is_owned_by Owner.List h)
 
-none-but : (p : HandleRow → Bool) (q : ℕ) (rows : List HandleRow) → times (λ h. (is_handle q h && p h) && not (h.number.0 == q)) rows ≡ 0
-none-but p q [] = refl
-none-but p q (x ∷ xs) = grind (arith, nat_tests, none-but p q xs)
-
 pub none-listed : {old new : Handles} {x : HandleRow} → Leaves old x false new → is_owned_by Owner.List x ≡ false → times (of_list x.number.0) (live old.places.items) ≡ 0
 none-listed {old} {x = x} leaves owner =
     let rows = ap (times (of_list x.number.0)) leaves.becomes.rows in
     let left = times-left (of_list x.number.0) (only_handle x.number) (live old.places.items) in
-    grind (arith, nat_tests, leaves.sums (λ h. one (of_list x.number.0 h)), none-but (is_owned_by Owner.List) x.number.0 (live old.places.items))
+    let others = sum-none (λ h. one (of_list x.number.0 h && not (h.number.0 == x.number.0))) (live old.places.items) (λ h among. grind (arith, nat_tests)) in
+    grind (arith, nat_tests, leaves.sums (λ h. one (of_list x.number.0 h)), others)
 
 pub none-entered : (q last : ℕ) (rows left entries : List HandleRow) → rows ≡ left ++ entries → AreNewEntries last entries → times (of_list q) rows ≡ 0 → times (is_handle q) entries ≡ 0
 none-entered q last rows left entries is new none =
@@ -167,8 +165,6 @@ unfolding find_row
 at-place [] i row ordered at = absurd (cc)
 at-place (s ∷ ss) zero row ordered at =
     let same : s ≡ alive row = cc in
-    let lives : s.is_live ≡ true = ap (λ (p : Place). p.is_live) same in
-    let is : s.row ≡ row = ap (λ (p : Place). p.row) same in
     let number : s.row.number.0 ≡ row.number.0 = ap (λ (p : Place). p.row.number.0) same in
     let none : times (is_handle row.number.0) (live ss) ≡ 0 = none-of row.number.0 ss (λ k d lt e. let o = ordered 0 (suc k) d (omega arith) (omega arith) in omega arith) in
     (grind (arith, nat_tests, left-none), λ f. grind (arith, nat_tests, changed-none), grind (arith, nat_tests))

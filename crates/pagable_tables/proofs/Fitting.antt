@@ -1,13 +1,13 @@
 -- A handle is given up: handles and nodes fit again.
 use Rattle.pagable_tables.proofs.{Alive.{all-kept, and_one, entries-none, length-live-le, none-found, of_list, one-le, ones, only-row, row-le-live, sum-most, times-left}, Kept.{found-among, only-at}}
-use Rattle.pagable_tables.proofs.Words.{AllPairs, ArcRef, Blob, Bool, Cell, Chain, Core, Counts, Error, Fits, GetsKey, HandleNumber, HandleRow, HasFallen, HasRoom, Holdings, IsApart, IsBefore}
-use Rattle.pagable_tables.proofs.Words.{IsClosed, IsFalling, IsSome, IsWithin, List, Mode, NodeNumber, None, OpenLoad, Option, OptionalDataKey, Owner, Place, Right, SameAt, SoFar, Some, Tables}
-use Rattle.pagable_tables.proofs.Words.{TellsListing, [], after, alive, ap, append-nil, arith, cases_eq, cell_in, core_of, counts_at, entry, falls_in, false, filter, find_row, get_or}
-use Rattle.pagable_tables.proofs.Words.{get_or-le-sum_by, greatest, has_key, has_value, held, held_outside, holds_in, if_there, if◌then◌else◌, inl, inr, is_at, is_fallen_by, is_handle, is_keyed}
-use Rattle.pagable_tables.proofs.Words.{is_listed, is_listing, is_outside, is_owned_by, is_owned_in, is_owner, is_pin, is_pinning, is_plain_pin, is_share, is_shared, is_some, is_valued, keyed, landed}
-use Rattle.pagable_tables.proofs.Words.{left_rows, length, live, map, named, nat_eq, nat_lt, nat_tests, next_in, nobody, not, often, one, owner_value, owns, owns_nothing, pins, pins_in, pins_outside}
-use Rattle.pagable_tables.proofs.Words.{refl, sharing, slice_get, slice_get-get_or, subst, sum_by, sum_by-append, sum_by-cons, sum_by-le-sum_by, sum_by_push, sym, times, told_by, true, unpinned}
-use Rattle.pagable_tables.{proofs.Words.{with_key, with_tables, ℕ, ◌&&◌, ◌++◌, ◌+◌, ◌-◌, ◌<◌, ◌==◌, ◌∙◌, ◌∷◌, ◌≡◌, ◌≢◌, ◌≤◌, ◌⊎◌}, specs.Core.IsWhole}
+use Rattle.pagable_tables.proofs.Words.{AllPairs, Among, ArcRef, Blob, Bool, Cell, Chain, Core, Counts, Error, Fits, GetsKey, HandleNumber, HandleRow, HasFallen, HasRoom, Holdings, IsApart, IsBefore}
+use Rattle.pagable_tables.proofs.Words.{IsClosed, IsFalling, IsSome, IsWithin, List, Mode, NodeNumber, None, OpenLoad, Option, OptionalDataKey, Owner, Place, Right, SoFar, Some, Tables, TellsListing}
+use Rattle.pagable_tables.proofs.Words.{[], after, alive, ap, append-nil, arith, cases_Bool, cases_eq, cell_in, core_of, counts_at, entry, falls_in, false, filter, find_row, get_or, get_or-le-sum_by}
+use Rattle.pagable_tables.proofs.Words.{greatest, has_key, has_value, held, holds_in, if_there, if◌then◌else◌, inl, inr, is_at, is_fallen_by, is_handle, is_keyed, is_listed, is_listing, is_outside}
+use Rattle.pagable_tables.proofs.Words.{is_owned_by, is_owned_in, is_owner, is_pin, is_pinning, is_plain_pin, is_share, is_shared, is_some, is_valued, keyed, landed, left_rows, length, live, map}
+use Rattle.pagable_tables.proofs.Words.{named, nat_lt, nat_tests, next_in, nobody, not, often, one, owner_value, owns, owns_nothing, pins, refl, sharing, slice_get, slice_get-get_or, subst, sum_by}
+use Rattle.pagable_tables.proofs.Words.{sum_by-append, sum_by-cons, sum_by-le-sum_by, sum_by_push, sym, times, told_by, true, unpinned, with_key, with_tables, ℕ, ◌&&◌, ◌++◌, ◌+◌, ◌-◌, ◌<◌, ◌==◌, ◌∙◌}
+use Rattle.{pagable_tables.{proofs.Words.{◌∷◌, ◌≡◌, ◌≢◌, ◌≤◌, ◌⊎◌}, specs.Core.IsWhole}, pagable_world.proofs.Elements.sum-none}
 use Rattle.pagable_world.specs.Pager as pager
 
 -- 1 for the handle q that the node's value owns
@@ -70,8 +70,7 @@ top-stands t (n ∷ ns) some w = let top = sym w.fits.chain.0 in (ns, ap (λ m. 
 
 pub top-there : (t : Holdings) (stack : List ℕ) → t.top ≢ 0 → IsFalling t stack owns_nothing → counts_at t.nodes t.top ≡ None → ⊥
 top-there t stack some w none =
-    let s = top-stands t stack some w in
-    let waits = first-waits _ _ _ _ _ _ s.2.fits in
+    let waits = first-waits _ _ _ _ _ _ (top-stands t stack some w).2.fits in
     let a = ap falls_in none in
     absurd (cc)
 
@@ -87,22 +86,17 @@ module _ (at at' : ℕ → Option Counts) (refs refs' : ℕ → List ArcRef) (ro
   once = grind (arith, nat_tests, sum_by-cons (λ y. one (y == n)) n ns)
 
   pub done-gone : has_value (at' n) ≡ false
-  done-gone =
-      let w : c.is_falling ≡ true = sym (ap falls_in is) ∙ first-waits at refs rows n ns owns_nothing fits in let r : Right (Some c) (refs n) = subst (λ o. Right o (refs n)) is (fits.right n) in
-      ap has_value here ∙ (grind (arith, nat_tests))
+  done-gone = grind (arith, nat_tests, first-waits at refs rows n ns owns_nothing fits, fits.right n)
 
   pub done-fits : Fits at' refs' rows c.next ns owns_nothing
   done-fits =
-      let few : c.pins ≤ c.holds = omega (arith, fits.pinned n, fits.holding n, ap pins_in is, ap holds_in is, pins-le-held n rows) in
-      let l : (pins_in (at' n) ≡ c.pins) × (holds_in (at' n) ≡ c.holds) × (falls_in (at' n) ≡ false) × Right (at' n) (refs' n) =
-      rw (here, same, bare) (grind (arith, nat_tests), grind (arith, nat_tests), grind (arith, nat_tests), grind (arith, nat_tests)) in
       record {
-        pinned = λ m. grind (arith, nat_tests, cases_eq);
-        holding = λ m. grind (arith, nat_tests, cases_eq);
+        pinned = λ m. grind (arith, nat_tests, cases_eq m n, pins-le-held n rows, fits.pinned m, fits.holding m, others m);
+        holding = λ m. grind (arith, nat_tests, cases_eq m n, fits.holding m, others m);
         owned = λ m q. ap (λ r. named q r + 0) (same m) ∙ fits.owned m q;
         chain = chain-frame at at' c.next ns (λ m within. ap next_in (others m (in-none n ns m once within))) (subst (λ t. Chain at t ns) (ap next_in is) fits.chain.1);
-        marked = λ m. grind (arith, nat_tests, cases_eq, once, sum_by-cons);
-        right = λ m. grind (arith, nat_tests, cases_eq);
+        marked = λ m. grind (arith, nat_tests, cases_eq m n, fits.marked m, others m, once, sum_by-cons);
+        right = λ m. grind (arith, nat_tests, cases_eq m n, fits.right m, others m);
         from_one = others 0 (λ e. one' (sym e)) ∙ fits.from_one;
       }
 
@@ -159,18 +153,12 @@ module _ (at at' : ℕ → Option Counts) (refs refs' : ℕ → List ArcRef) (ro
       record {
         pinned = λ n. grind (arith, nat_tests, cases_eq, sum_by_push, pin-here);
         holding = λ n. grind (arith, nat_tests, cases_eq, sum_by_push, held-here);
-        owned = λ n q. let a = fits.owned n q in let b = ap (named q) (same n) in let l = sum_by_push (is_owned n q) rows x in let z = owned-by-none n q x owner in omega arith;
+        owned = λ n q. grind (arith, nat_tests, named, sum_by_push, owned-by-none);
         chain = fits.chain;
         marked = λ n. grind (arith, nat_tests, cases_eq);
-        right = λ n. elim (cases_eq n x.node.0) [
-          | inl e ↦ subst (λ m. Right (at' m) (refs' m)) (sym e) (grind (arith, nat_tests))
-          | inr e ↦ subst (λ o. Right o (refs' n)) (sym (others n e)) (subst (λ r. Right (at n) r) (sym (same n)) (fits.right n))
-        ];
+        right = λ n. grind (arith, nat_tests, cases_eq n x.node.0, fits.right n);
         from_one = others 0 (not-zero at x.node.0 c fits.from_one is) ∙ fits.from_one;
       }
-
-  pub come-cells : SameAt (λ n. cell_in (at n)) (λ n. cell_in (at' n))
-  come-cells n = grind (arith, nat_tests)
 
 -- a node that has a handle is there
 pub some-held : (o : Option Counts) → 0 < holds_in o → IsSome o
@@ -196,9 +184,6 @@ module _ (at at' : ℕ → Option Counts) (refs refs' : ℕ → List ArcRef) (ro
     (others : (n : ℕ) → n ≢ x.node.0 → at' n ≡ at n) (same : (n : ℕ) → refs' n ≡ refs n) where
   pub turn-fits : Fits at' refs' rows' top [] owns_nothing
   turn-fits = grind (arith, nat_tests, cases_eq, pin-here, named, not-zero at x.node.0 c fits.from_one is)
-
-  pub turn-cells : SameAt (λ n. cell_in (at n)) (λ n. cell_in (at' n))
-  turn-cells n = grind (arith, nat_tests)
 
 abbrev pub owned-by : Owner → HandleRow → HandleRow
 owned-by owner x = record x { owner = owner }
@@ -237,17 +222,14 @@ unowned t x stack plain w = record { sound = w.sound; next = w.next; fits = grin
 
 share-plain : (n : ℕ) (rows : List HandleRow) → sharing n rows + times (is_plain_pin n) rows ≤ held n rows
 share-plain n [] = omega arith
-share-plain n (x ∷ xs) =
-    let here : one (is_share n x) + one (is_plain_pin n x) ≤ one (is_at n x) = grind (arith, nat_tests) in
-    omega (arith, sum_by-cons (λ h. one (is_share n h)) x xs, sum_by-cons (λ h. one (is_plain_pin n h)) x xs, sum_by-cons (λ h. one (is_at n h)) x xs, share-plain n xs)
+share-plain n (x ∷ xs) = grind (arith, nat_tests, sum_by-cons (λ h. one (is_share n h)) x xs, sum_by-cons (λ h. one (is_plain_pin n h)) x xs, sum_by-cons (λ h. one (is_at n h)) x xs, share-plain n xs)
 
 -- no node has pins that are Shared and others
 pub unmixed : (t : Tables) → IsWhole t → (n : ℕ) → (sharing n (live t.holdings.handles.places.items) ≡ 0) ⊎ (times (is_plain_pin n) (live t.holdings.handles.places.items) ≡ 0)
 unmixed t w n = let a = share-plain n (live t.holdings.handles.places.items) in let b = w.core.handles.uniform n in grind (arith, nat_tests)
 
 pub none-within : (s : ℕ → Bool) (rows : List HandleRow) → IsWithin rows nobody s
-none-within s [] = refl
-none-within s (x ∷ xs) = let a = sum_by-cons (λ h. one (nobody h.number.0 && not (s h.number.0))) x xs in let b = none-within s xs in omega arith
+none-within s rows = sum-none (λ h. one (nobody h.number.0 && not (s h.number.0))) rows (λ h among. refl)
 
 -- nothing has gone so far of a world that has as many handles of each kind as the world before, whoever owns them
 abbrev pub begun : (before w : Core) (lists : Bool) (t : Holdings) → lists ≡ not w.closed
@@ -321,19 +303,13 @@ module _ {before w : Core} {given : ℕ → Bool} {lists : Bool} {t : Holdings} 
   no-more p none = grind (arith, nat_tests, sum_by-append, entries-none, times-left, sum_by-le-sum_by)
 
 module _ {before w : Core} {given : ℕ → Bool} {lists : Bool} {t : Holdings} (f : SoFar before w given lists t) (s : ℕ → Bool) (within : IsWithin w.rows f.gone s) where
-  lost : (final : List HandleRow) (n : ℕ) (keyed : Bool) → is_keyed w n ≡ keyed → (held n (live t.handles.places.items) ≡ 0 → held n final ≡ 0)
-      → HasFallen (counts_at t.nodes) (live t.handles.places.items) n
-      → (if keyed then nat_eq (pins_outside w.rows s n) 0 else nat_eq (held n final) 0 && nat_eq (held_outside w.rows s n) 0) ≡ true
-  lost final n b0 e bare down =
-      let d : pins n (live t.handles.places.items) ≤ held n (live t.handles.places.items) = pins-le-held n (live t.handles.places.items) in
-      grind (arith, nat_tests, counted f (is_pin n), cut (is_pin n) f.gone s w.rows, counted f (is_at n), cut (is_at n) f.gone s w.rows, f.cells n)
-
   -- no handle outside the set is left that the value owned
   pub forced : (final : List HandleRow) (n : ℕ) → (held n (live t.handles.places.items) ≡ 0 → held n final ≡ 0) → HasFallen (counts_at t.nodes) (live t.handles.places.items) n
       → IsClosed w.rows (is_keyed w) final s
       → times (λ h. is_owned_by (owner_value n) h && is_outside s h) (live t.handles.places.items) ≡ 0
   forced final n bare down closed =
-      let none = closed n (lost final n (is_keyed w n) refl bare down) in
+      let fewer = pins-le-held n (live t.handles.places.items) in
+      let none = closed n (grind (arith, nat_tests, cases_Bool (is_keyed w n), counted f (is_pin n), cut (is_pin n) f.gone s w.rows, counted f (is_at n), cut (is_at n) f.gone s w.rows, f.cells n)) in
       let a = counted f (λ h. is_owned_by (owner_value n) h && is_outside s h) in
       let b = entries-none (λ h. is_owned_by (owner_value n) h && is_outside s h) (λ h mode owner. grind (arith, nat_tests)) w.last.handle f.entries f.new in
       let d = sum_by-le-sum_by (λ h. one ((is_owned_by (owner_value n) h && is_outside s h) && not (f.gone h.number.0))) (λ h. one (is_owned_by (owner_value n) h && is_outside s h))
@@ -374,33 +350,21 @@ module _ {before w : Core} {given : ℕ → Bool} {lists : Bool} {t : Holdings} 
 
 -- the list of a whole world has what it owns
 pub owned-listed : {w : Core} → pager.IsWhole w → (q : ℕ) → is_owned_in w Owner.List q ≡ is_listed w q
-owned-listed {w} whole q = split (find_row q w.rows) refl
-  where
-    split : (found : Option HandleRow) → find_row q w.rows ≡ found → if_there (is_owned_by Owner.List) false found ≡ is_listed w q
-    split None e =
-        let less = sum_by-le-sum_by (λ h. one (of_list q h)) (λ h. one (is_handle q h)) w.rows (λ h. grind (arith, nat_tests)) in
-        grind (arith, nat_tests, none-found q w.rows e, whole.owners_there.listed q)
-    split (Some h) e =
-        let (there, number) = found-among q w.rows h e in
-        grind (arith, nat_tests, only-at (λ y. one (of_list q y)) w.rows h whole.handles.ordered there (λ y other. grind (arith, nat_tests)), whole.owners_there.listed q)
+owned-listed {w} whole q =
+    let less = sum_by-le-sum_by (λ h. one (of_list q h)) (λ h. one (is_handle q h)) w.rows (λ h. grind (arith, nat_tests)) in
+    let its = λ (h : HandleRow) (there : Among w.rows h). only-at (λ y. one (of_list q y)) w.rows h whole.handles.ordered there in
+    grind (arith, nat_tests, none-found q w.rows, found-among q w.rows, whole.owners_there.listed q)
 
 -- ---- a node gets a key: handles and nodes fit again, and nothing else has gone or come so far
 
 module _ (at at' : ℕ → Option Counts) (refs refs' : ℕ → List ArcRef) (rows : List HandleRow) (top n : ℕ) (c : Counts) (key : ℕ) (fits : Fits at refs rows top [] owns_nothing)
     (is : at n ≡ Some c) (some : 0 < key)
     (here : at' n ≡ Some (keyed c key top)) (others : (m : ℕ) → m ≢ n → at' m ≡ at m) (same : (m : ℕ) → refs' m ≡ refs m) where
-  -- what is told of the counts but by the key and the fall
-  told : {X : Type 0} (f : Option Counts → X) → f (Some (keyed c key top)) ≡ f (Some c) → (m : ℕ) → f (at' m) ≡ f (at m)
-  told f e m = elim (cases_eq m n) [ inl eq ↦ ap (λ k. f (at' k)) eq ∙ ap f here ∙ e ∙ sym (ap f is) ∙ sym (ap (λ k. f (at k)) eq) | inr other ↦ ap f (others m other) ]
-
   key-right : (m : ℕ) → Right (at' m) (refs' m)
-  key-right m = elim (cases_eq m n) [
-    | inl eq ↦ let a = fits.marked n in let b = ap falls_in is in grind (arith, nat_tests)
-    | inr other ↦ subst (λ o. Right o (refs' m)) (sym (others m other)) (subst (λ r. Right (at m) r) (sym (same m)) (fits.right m))
-  ]
+  key-right m = grind (arith, nat_tests, cases_eq m n, fits.marked, fits.right)
 
   pub key-fits : (b : Bool) → (c.pins == 0) ≡ b → Fits at' refs' rows (if b then n else top) (if b then n ∷ [] else []) owns_nothing
-  key-fits b e = grind (arith, nat_tests, told, named, key-right, not-zero at n c fits.from_one is)
+  key-fits b e = grind (arith, nat_tests, cases_eq, named, key-right, not-zero at n c fits.from_one is)
 
 module _ (T : Tables) (stored : ℕ → Option Blob) (closed lists : Bool) (failures : ℕ) (whole : IsWhole T) (opened : lists ≡ not closed) (node : NodeNumber) (key : ℕ) (new : Holdings) where
   abbrev old : Core

@@ -1,15 +1,14 @@
 -- A node comes, and the handles that its value refers to are the value's. And it comes with its handles to a node that is there, has no value and is pinned.
 use Rattle.pagable_tables.proofs.{Alive.and-left, Calls.may-hold, Fitting.{begun, held-here, is_owned, owned-by, owned-by-none, pin-here, turned, unmixed}, Kept.{among-map, at-most-sum, found-among}}
-use Rattle.pagable_tables.proofs.{Kept.{once, only-at, ordered-map, sum-map, sum-none}, Newer.{OnlyNewer, load-closed, moved-times, newer-falls, newer-handle, newer-mode, newer-moved, newer-then}}
-use Rattle.pagable_tables.proofs.{Newer.{no-load, not-named, owned-given, owned-mode, owned-moved, seen-before, stays-pinned}, Next.{found-first, passes-here, passes-none}, Told.moved-to-value}
-use Rattle.pagable_tables.proofs.{Told.{named-mine, named-own, named-unlisted, not-a-value, or-none}, Words.{Alike, AllPairs, Among, ArcRef, Blob, Bool, Core, Counts, Ending, Error, Falls, Fits}}
+use Rattle.pagable_tables.proofs.{Kept.{once, only-at, ordered-map, sum-map, sum-none}, Newer.{load-closed, moved-times, no-load, not-named, owned-given, seen-before, stays-pinned}, Next.found-first}
+use Rattle.pagable_tables.proofs.{Next.{passes-here, passes-none}, Told.{OnlyNewer, moved-to-value, named-mine, named-own, named-unlisted, newer-falls, newer-handle, newer-mode, newer-moved}}
+use Rattle.pagable_tables.proofs.{Told.{newer-then, not-a-value, or-none, owned-mode, owned-moved}, Words.{Alike, AllPairs, Among, ArcRef, Blob, Bool, Core, Counts, Ending, Error, Falls, Fits}}
 use Rattle.pagable_tables.proofs.Words.{HandleNumber, HandleRow, Holdings, Installs, IsHandleBefore, IsReady, Last, List, LoadNumber, LoadRow, MayEnd, MayOwnLoad, Mode, NodeNumber, None, OnlyRoom}
-use Rattle.pagable_tables.proofs.Words.{OpenLoad, Option, Owner, Places, Result, Right, SoFar, Some, Tables, [], and-true, ap, arith, cases_eq, cell_in, changed, core_of, counts_at, end_fault, false}
-use Rattle.pagable_tables.proofs.Words.{find_row, has_come, has_value, if_there, if◌then◌else◌, inl, inr, is_at, is_bare, is_handle, is_in, is_named_by, is_owned_by, is_owned_in, is_pin, is_pinning}
-use Rattle.pagable_tables.proofs.Words.{is_plain_pin, is_right, is_share, is_valued, length, live, load_at, load_fault, load_in, map, moved, named, nat_tests, nobody, not, of_cell, of_key, one}
-use Rattle.pagable_tables.proofs.Words.{option_map, owner_value, owns_nothing, pins, plain_of, reference_fault, references_fault, refl, refused_if, root_fault, row_of, sharing, spent, subst, sum_by}
-use Rattle.pagable_tables.proofs.Words.{sum_by-cons, sum_by_push, sym, times, true, vec_capacity, where_so, with_handle, with_mode, with_pin, with_tables, without_load, ℕ, ◌&&◌, ◌++◌, ◌+◌, ◌<◌, ◌==◌}
-use Rattle.pagable_tables.{proofs.{Words.{◌∙◌, ◌∷◌, ◌≡◌, ◌≢◌, ◌≤◌, ◌⊎◌}, Worlds.{both-none, fault-by, moved-nobody, named-none}}, specs.Core.IsWhole}
+use Rattle.pagable_tables.proofs.Words.{Option, Owner, Places, Result, Right, SoFar, Some, Tables, [], ap, arith, cases_eq, cell_in, changed, core_of, counts_at, false, find_row, has_come, has_value}
+use Rattle.pagable_tables.proofs.Words.{if◌then◌else◌, inl, inr, is_at, is_handle, is_in, is_named_by, is_owned_by, is_owned_in, is_pin, is_pinning, is_plain_pin, is_share, is_valued, length, live}
+use Rattle.pagable_tables.proofs.Words.{load_at, load_in, map, moved, named, nat_tests, nobody, not, one, option_map, owner_value, owns_nothing, pins, plain_of, reference_fault, references_fault}
+use Rattle.pagable_tables.proofs.Words.{refl, row_of, sharing, subst, sum_by, sum_by-cons, sum_by_push, sym, times, true, vec_capacity, with_handle, with_mode, with_pin, with_tables, without_load, ℕ}
+use Rattle.pagable_tables.{proofs.{Words.{◌&&◌, ◌++◌, ◌+◌, ◌<◌, ◌==◌, ◌∙◌, ◌∷◌, ◌≡◌, ◌≢◌, ◌≤◌, ◌⊎◌}, Worlds.fault-by}, specs.Core.IsWhole}
 
 -- what is named wasn't named before
 unseen : (w : Core) (me : Owner) (seen : List ℕ) (rs : List ArcRef) → references_fault w me seen rs ≡ None → (q : ℕ) → is_named_by rs q ≡ true → is_in seen q ≡ false
@@ -46,19 +45,13 @@ module _ (w : Core) (me : Owner) (n : ℕ) (rs : List ArcRef) (ordered : AllPair
   sum-both q true is =
       let o = named-mine w me [] rs fit q is in
       let (there, number) = found-among q w.rows o.row o.live in
-      let a = only-at (both q) w.rows o.row ordered there (λ x other. let e : (x.number.0 == q) ≡ false = ap (λ k. x.number.0 == k) (sym number) ∙ other in ap (λ b. one (b && is_named_by rs q)) e) in
-      let b : is_handle q o.row ≡ true = grind (arith, nat_tests) in
-      a ∙ ap (λ d. one (d && is_named_by rs q)) b ∙ ap one is
+      let a = only-at (both q) w.rows o.row ordered there (λ x other. grind (arith, nat_tests)) in
+      grind (arith, nat_tests)
   sum-both q false is = sum-none (both q) w.rows (λ h among. grind (arith, nat_tests))
 
   pub own-own : (q : ℕ) → sum_by (is_owned n q) w.rows ≡ 0 → sum_by (is_owned n q) (map to w.rows) ≡ named q rs
   own-own q before =
       sum-map (is_owned n q) (both q) to w.rows (λ h among. grind (arith, nat_tests, at-most-sum (is_owned n q) w.rows h among)) ∙ sum-both q (is_named_by rs q) refl ∙ sym (once-named w me [] rs fit q)
-
--- the counts of a new node are right, where it has no key, or its value refers to nothing, or it is pinned
-right-new : (c : Counts) (mode : Mode) (rs : List ArcRef) → c ≡ record c { pins = one (is_pinning mode); holds = 1; is_falling = false; next = 0 }
-    → (c.key ≡ 0) ⊎ (rs ≡ []) ⊎ (is_pinning mode ≡ true) → is_right c (is_bare rs) ≡ true
-right-new c mode rs new or = grind (arith, nat_tests)
 
 module _ (w : Core) (me : Owner) (rs : List ArcRef) (ordered : AllPairs IsHandleBefore w.rows) (fit : references_fault w me [] rs ≡ None) (unvalued : is_valued me ≡ false)
     (at at' : ℕ → Option Counts) (refs refs' : ℕ → List ArcRef) (top : ℕ) (x : HandleRow) (c : Counts) (fits : Fits at refs w.rows top [] owns_nothing) (owner : x.owner ≡ me)
@@ -72,9 +65,6 @@ module _ (w : Core) (me : Owner) (rs : List ArcRef) (ordered : AllPairs IsHandle
 
   abbrev rows' : List HandleRow
   rows' = given-rows ++ x ∷ []
-
-  not-x : (m q : ℕ) → is_owned m q x ≡ 0
-  not-x m q = owned-by-none m q x (ap is_valued owner ∙ unvalued)
 
   given-weight : (f : HandleRow → ℕ) → ((h : HandleRow) → f (owned-by (owner_value n) h) ≡ f h) → sum_by f rows' ≡ sum_by f w.rows + f x
   given-weight f same = let s = same-weight w me n rs ordered fit unvalued f same in let l = sum_by_push f given-rows x in omega arith
@@ -93,13 +83,11 @@ module _ (w : Core) (me : Owner) (rs : List ArcRef) (ordered : AllPairs IsHandle
       record {
         pinned = λ m. grind (arith, nat_tests, cases_eq, pin-here, given-weight (λ h. one (is_pin m h)) (λ h. refl));
         holding = λ m. grind (arith, nat_tests, cases_eq, held-here, given-weight (λ h. one (is_at m h)) (λ h. refl));
-        owned = λ m q. grind (arith, nat_tests, cases_eq, owned-here q, sum_by_push (is_owned m q) given-rows x, not-x m q, same m, others-own w me n rs ordered fit unvalued m q);
+        owned = λ m q. let free = owned-by-none m q x (ap is_valued owner ∙ unvalued) in
+            grind (arith, nat_tests, cases_eq, owned-here q, sum_by_push (is_owned m q) given-rows x, free, same m, others-own w me n rs ordered fit unvalued m q);
         chain = fits.chain;
         marked = λ m. let k : c.is_falling ≡ false = ap (λ (d : Counts). d.is_falling) new in grind (arith, nat_tests, cases_eq);
-        right = λ m. elim (cases_eq m n) [
-          | inl e ↦ subst (λ k. Right (at' k) (refs' k)) (sym e) (subst (λ o. Right o (refs' n)) (sym here) (subst (λ r. Right (Some c) r) (sym refers) (right-new c x.mode rs new bare)))
-          | inr e ↦ subst (λ o. Right o (refs' m)) (sym (others m e)) (subst (λ r. Right (at m) r) (sym (same m e)) (fits.right m))
-        ];
+        right = λ m. grind (arith, nat_tests, cases_eq m n, new, bare, fits.right m);
         from_one = others 0 (λ z. absurd (omega arith)) ∙ fits.from_one;
       }
 
@@ -145,32 +133,6 @@ module _ (w : Core) (me : Owner) (n : ℕ) (rs : List ArcRef) (ordered : AllPair
 
 -- ---- a load of a cell ends with a pin, and gives up what it still owns. The pin stays, so that cells are listed as of the world before
 
-module _ (w : Core) (me : Owner) (l : LoadNumber) (node_type : ℕ) (refs : List ArcRef) (none : end_fault w me l node_type refs ≡ None) where
-  abbrev root : Option Error
-  root = if_there (λ (load : OpenLoad). root_fault w me node_type load.root) None (w.loads l.0)
-
-  parts : (load_fault w me l ≡ None) × (root ≡ None) × (references_fault w (Owner.Load l) [] refs ≡ None)
-  parts = grind (arith, nat_tests, both-none)
-
-  -- it is open
-  pub opens : w.loads l.0 ≡ None → ⊥
-  opens gone = grind (arith, nat_tests, parts)
-
-  module _ (load : OpenLoad) (is : w.loads l.0 ≡ Some load) where
-    rooted : root_fault w me node_type load.root ≡ None
-    rooted = sym (ap (if_there (λ (load : OpenLoad). root_fault w me node_type load.root) None) is) ∙ parts.1
-
-    -- it is of a cell
-    pub celled : load.root ≡ of_key → ⊥
-    celled key = let a : Some Error.WrongMode ≡ None = sym (ap (root_fault w me node_type) key) ∙ rooted in cc
-
-    module _ (node : NodeNumber) (t : ℕ) (h : HandleNumber) (cell : load.root ≡ of_cell node t h) where
-      fits : (refused_if (not (node_type == t)) Error.WrongKind ≡ None) × (where_so (is_owned_in w me h.0) (spent w.last.handle) ≡ None)
-      fits = both-none (refused_if (not (node_type == t)) Error.WrongKind) (where_so (is_owned_in w me h.0) (spent w.last.handle)) (sym (ap (root_fault w me node_type) cell) ∙ rooted)
-
-      pub may-end : MayEnd w me l node h node_type refs
-      may-end = grind (arith, nat_tests, parts, fits)
-
 -- references are as good where there are other places
 pub references-placed : (w : Core) (places : Places) (owner : Owner) (seen : List ℕ) (refs : List ArcRef) → references_fault (record w { places = places }) owner seen refs ≡ references_fault w owner seen refs
 references-placed w places = fault-by w (record w { places = places })
@@ -189,9 +151,7 @@ module _ (h : HandleNumber) (node : NodeNumber) (rows : List HandleRow) (of : (y
 
 row-of : (rows : List HandleRow) → AllPairs IsHandleBefore rows → (row : HandleRow) → find_row row.number.0 rows ≡ Some row → (z : HandleRow) → Among rows z → is_handle row.number.0 z ≡ true
     → z.node ≡ row.node
-row-of rows ordered row found z among is =
-    let n : z.number.0 ≡ row.number.0 = grind (arith, nat_tests) in
-    ap (λ (r : HandleRow). r.node) (once rows ordered z row among (found-among row.number.0 rows row found).0 n)
+row-of rows ordered row found z among is = grind (arith, nat_tests, once rows ordered z row among, found-among row.number.0 rows row found)
 
 -- t1 is t with the pins; then the handles that the references name move to the node's value, and what the load still owns goes.
 module _ (t t1 : Tables) (stored : ℕ → Option Blob) (closed lists : Bool) (failures : ℕ) (was : IsWhole t) (whole : IsWhole t1) (e : lists ≡ not closed) (row : HandleRow)
@@ -295,26 +255,6 @@ module _ (t t1 : Tables) (stored : ℕ → Option Blob) (closed lists : Bool) (f
 pub so-then : (b : Bool) → not b ≡ false → b ≡ true
 so-then x0 e = grind (arith, nat_tests)
 
--- where no reference is named no handle moves
-pub none-moves : (w : Core) (l : LoadNumber) (row : HandleRow) (me : Owner) (r : Result (Unit {0}) Error) (w' : Core)
-    → Falls w (with_pin (record (without_load w l) { rows = moved (is_named_by []) (owner_value row.node.0) w.rows }) row.number row.node me) (λ q. is_owned_in w (Owner.Load l) q && not (is_named_by [] q)) r w'
-    → Falls w (with_pin (without_load w l) row.number row.node me) (is_owned_in w (Owner.Load l)) r w'
-none-moves w l row me r w' falls =
-    let all : (q : ℕ) → (is_owned_in w (Owner.Load l) q && not (is_named_by [] q)) ≡ is_owned_in w (Owner.Load l) q =
-    λ q. ap (λ b. is_owned_in w (Owner.Load l) q && not b) (named-none q) ∙ and-true (is_owned_in w (Owner.Load l) q) in
-    subst (λ (T : Type 0). T) (λ i. Falls w (with_pin (record (without_load w l) { rows = moved-nobody (owner_value row.node.0) w.rows i }) row.number row.node me) (λ q. all q i) r w') falls
-
--- what loads own has come since they began
-pub install-newer : {w w' : Core} (me : Owner) (l : LoadNumber) (node : NodeNumber) (h k : HandleNumber) (refs : List ArcRef) → Installs w me l node h k refs w' → OnlyNewer w w'
-install-newer {w} {w'} me l node h k refs i = elim i.falls [
-  | inl (away, f) ↦ (let v : Core = record (without_load w l) { rows = moved (is_named_by refs) (owner_value node.0) w.rows } in
-      newer-then (newer-moved w (is_named_by refs) (owner_value node.0) refl) (pinned v f.falls))
-  | inr (here, f) ↦ pinned (without_load w l) f.falls
-]
-  where
-    pinned : (v : Core) {before w' : Core} {given : ℕ → Bool} {r : Result (Unit {0}) Error} → Falls before (with_pin v h node me) given r w' → OnlyNewer v w'
-    pinned v falls = newer-then (newer-mode v h Mode.LoosePinned) (newer-then (newer-handle (with_mode v h Mode.LoosePinned) node Mode.Pinned me) (newer-falls falls))
-
 -- t1 is t with the pins
 module _ (t t1 : Tables) (stored : ℕ → Option Blob) (closed : Bool) (failures : ℕ) (row : HandleRow) (me : Owner)
     (a : Alike (with_handle (with_mode (core_of t stored closed failures) row.number Mode.LoosePinned) row.node Mode.Pinned me) (core_of t1 stored closed failures)) where
@@ -324,14 +264,10 @@ module _ (t t1 : Tables) (stored : ℕ → Option Blob) (closed : Bool) (failure
   -- whose value is in memory then, where the pinned cell has got one
   pub has-come : IsWhole t → IsWhole t1 → find_row row.number.0 (live t.holdings.handles.places.items) ≡ Some row → (n : ℕ)
       → has_value (counts_at t1.holdings.nodes n) ≡ has_come (counts_at t.holdings.nodes) row.node n
-  has-come was whole found n = by (n == row.node.0) refl
-    where
-      by : (b : Bool) → (n == row.node.0) ≡ b → has_value (counts_at t1.holdings.nodes n) ≡ (if b then true else has_value (counts_at t.holdings.nodes n))
-      by true is = grind (arith, nat_tests, pins-here)
-      by false is =
-          let rows = live t.holdings.handles.places.items in
-          let same = other-pins row.number row.node rows (row-of rows was.core.handles.ordered row found) n in
-          grind (arith, nat_tests, sum_by_push, same, a.rows, a.cells n, was.steady.fits.pinned n, whole.steady.fits.pinned n)
+  has-come was whole found n =
+      let rows = live t.holdings.handles.places.items in
+      let same = other-pins row.number row.node rows (row-of rows was.core.handles.ordered row found) n in
+      grind (arith, nat_tests, cases_eq n row.node.0, pins-here, sum_by_push, same, a.rows, a.cells n, was.steady.fits.pinned n, whole.steady.fits.pinned n)
 
 -- what is true with more places is true without them
 pub may-wider : {w v : Core} {me : Owner} {l : LoadNumber} {node : NodeNumber} {h : HandleNumber} {t : ℕ} {refs : List ArcRef} → OnlyRoom w v → MayEnd v me l node h t refs → MayEnd w me l node h t refs

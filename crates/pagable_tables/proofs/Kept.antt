@@ -1,19 +1,17 @@
 -- Rows, one by one and counted, as they come and change, and what is left as handles go.
-use Rattle.pagable_tables.proofs.{Alive.none-found, Words.{All-filter, AllPairs, Among, AreNewEntries, Bool, Cell, Core, HandleNumber, HandleRow, HandlesAreWhole, IsEntryWhole, IsHandleBefore}}
-use Rattle.pagable_tables.proofs.Words.{IsRootWhole, IsWhole, IsWithin, List, LoadNumber, MayHold, MayOwnLoad, Mode, NodeNumber, None, OpenLoad, Option, OptionalDataKey, Owner, SameAt, Some, []}
-use Rattle.pagable_tables.proofs.Words.{all_pairs_push, and-true, ap, append-nil, append_assoc, arith, cases_eq, changed, false, filter, find_row, get_or, get_or-le-sum_by, get_or-map}
-use Rattle.pagable_tables.proofs.Words.{get_or_from_slice_get, greatest, has_key, held, if_there, if◌then◌else◌, inl, inr, is_at, is_handle, is_loose, is_owned_by, is_share, is_shared, is_some}
-use Rattle.pagable_tables.proofs.Words.{length, length-map, map, nat_lt, nat_tests, not, of_cell, one, refl, sharing, slice_get-get_or, slice_get_within, subst, suc, sum_by, sum_by-cons}
-use Rattle.{pagable_tables.proofs.Words.{sum_by-le-sum_by, sym, times, true, zero, ℕ, ◌&&◌, ◌++◌, ◌+◌, ◌<◌, ◌==◌, ◌∙◌, ◌∷◌, ◌≡◌, ◌≤◌, ◌⊎◌}, std.proofs.lemmas.List.Elements.filter_passes}
+use Rattle.pagable_tables.proofs.{Alive.none-found, Words.{AllPairs, Among, AreNewEntries, Bool, Cell, Core, HandleNumber, HandleRow, HandlesAreWhole, IsEntryWhole, IsHandleBefore, IsRootWhole}}
+use Rattle.pagable_tables.proofs.Words.{IsWhole, IsWithin, List, LoadNumber, MayHold, MayOwnLoad, Mode, NodeNumber, None, OpenLoad, Option, OptionalDataKey, Owner, SameAt, Some, [], all_pairs_push}
+use Rattle.pagable_tables.proofs.Words.{and-true, ap, append-nil, append_assoc, arith, changed, false, filter, find_row, get_or, get_or-map, get_or_from_slice_get, greatest, has_key, held, if_there}
+use Rattle.pagable_tables.proofs.Words.{if◌then◌else◌, inl, inr, is_at, is_handle, is_loose, is_owned_by, is_share, is_shared, is_some, length, length-map, map, nat_lt, nat_tests, not, of_cell, one}
+use Rattle.pagable_tables.proofs.Words.{refl, sharing, slice_get-get_or, slice_get_within, subst, suc, sum_by, sum_by-cons, sum_by-le-sum_by, sym, times, true, zero, ℕ, ◌&&◌, ◌++◌, ◌+◌, ◌<◌, ◌==◌}
+use Rattle.pagable_tables.proofs.Words.{◌∙◌, ◌∷◌, ◌≡◌, ◌≤◌, ◌⊎◌}
+pub use Rattle.pagable_world.proofs.Elements.{among-left, among-map, among-one, at-most-sum, counted, found-among, once, sum-none}
 
 -- ---- one by one
 
 pub among-both : {X : Type 0} (xs ys : List X) (z : X) → Among (xs ++ ys) z → Among xs z ⊎ Among ys z
 among-both (x ∷ xs) ys z (suc i, is) = elim (among-both xs ys z (i, is)) [ inl a ↦ inl (suc a.0, a.1) | inr a ↦ inr a ]
 among-both x0 ys z x3 = grind (arith, nat_tests)
-
-pub among-one : {X : Type 0} (x y : X) → Among (x ∷ []) y → y ≡ x
-among-one x y x2 = grind (arith, nat_tests)
 
 pub among-last : {X : Type 0} (xs : List X) (x : X) → Among (xs ++ x ∷ []) x
 among-last [] x = (zero, refl)
@@ -22,18 +20,6 @@ among-last (y ∷ ys) x = let a = among-last ys x in (suc a.0, a.1)
 pub among-more : {X : Type 0} (xs ys : List X) (x : X) → Among xs x → Among (xs ++ ys) x
 among-more (z ∷ zs) ys x (suc i, is) = let r = among-more zs ys x (i, is) in (suc r.0, r.1)
 among-more x0 ys x x3 = grind (arith, nat_tests)
-
--- the element of a changed list was one before
-pub among-map : {X : Type 0} (f : X → X) (xs : List X) (x : X) → Among (map f xs) x → (y : X) × Among xs y × (x ≡ f y)
-among-map f (y ∷ ys) x (suc i, is) = let r = among-map f ys x (i, is) in (r.0, (suc r.1.0, r.1.1), r.2)
-among-map f x1 x x3 = grind (arith, nat_tests)
-
--- what is left was there, and passes the test
-pub among-left : {X : Type 0} (test : X → Bool) (xs : List X) (x : X) → Among (filter test xs) x → Among xs x × (test x ≡ true)
-among-left test xs x (i, is) =
-    let lt = slice_get_within (filter test xs) i x is in
-    let there = All-filter test (λ y. Among xs y) xs (λ k d less. (k, slice_get-get_or xs k d less)) i x lt in
-    subst (λ y. Among xs y × (test y ≡ true)) (get_or_from_slice_get (filter test xs) i x x is) (there, filter_passes test xs i x lt)
 
 -- what both cases give of a row to which f may be done
 pub each-changed : {X : Type 0} (test : X → Bool) (f : X → X) (P : X → Type 0) (x : X) → (test x ≡ true → P (f x)) → (test x ≡ false → P x) → P (if test x then f x else x)
@@ -45,18 +31,6 @@ pub among-changed : {X : Type 0} (test : X → Bool) (f : X → X) (P : X → Ty
 among-changed test f P xs x among does stays = grind (arith, nat_tests, among-map (λ z. if test z then f z else z) xs x among, each-changed)
 
 -- ---- counted
-
--- each element is part of the sum
-pub at-most-sum : {X : Type 0} (f : X → ℕ) (xs : List X) (x : X) → Among xs x → f x ≤ sum_by f xs
-at-most-sum f xs x (i, is) = subst (λ y. f y ≤ sum_by f xs) (get_or_from_slice_get xs i x x is) (get_or-le-sum_by f xs i x (slice_get_within xs i x is))
-
--- a sum above zero has an element that counts
-pub counted : {X : Type 0} (f : X → ℕ) (xs : List X) → 0 < sum_by f xs → (x : X) × Among xs x × (0 < f x)
-counted f [] some = absurd (omega arith)
-counted f (x ∷ xs) some = elim (cases_eq (f x) 0) [
-  | inl none ↦ let c = sum_by-cons f x xs in let r = counted f xs (omega arith) in (r.0, (suc r.1.0, r.1.1), r.2)
-  | inr more ↦ (x, (zero, refl), omega arith)
-]
 
 -- smaller at each element and less at one, so less in sum
 pub sum-less : {X : Type 0} (f g : X → ℕ) (xs : List X) (x : X) → ((y : X) → f y ≤ g y) → Among xs x → f x < g x → sum_by f xs < sum_by g xs
@@ -73,27 +47,7 @@ pub sum-map : {X : Type 0} (f g : X → ℕ) (to : X → X) (xs : List X) → ((
 sum-map f g to [] h = refl
 sum-map f g to (x ∷ xs) h = grind (arith, nat_tests, sum_by-cons, sum-map f g to xs (λ y among. h y (suc among.0, among.1)))
 
--- nothing at each element, so in sum
-pub sum-none : {X : Type 0} (f : X → ℕ) (xs : List X) → ((x : X) → Among xs x → f x ≡ 0) → sum_by f xs ≡ 0
-sum-none f xs none = grind (arith, nat_tests, counted)
-
 -- ---- numbers
-
-pub found-among : (q : ℕ) (rows : List HandleRow) (row : HandleRow) → find_row q rows ≡ Some row → Among rows row × (row.number.0 ≡ q)
-unfolding find_row
-found-among q [] row found = absurd (cc)
-found-among q (h ∷ hs) row found = at (found-among q hs row) (is_handle q h) refl found
-  where
-    at : (find_row q hs ≡ Some row → Among hs row × (row.number.0 ≡ q)) → (b : Bool) → is_handle q h ≡ b → (if b then Some h else find_row q hs) ≡ Some row → Among (h ∷ hs) row × (row.number.0 ≡ q)
-    at rest true is found = grind (arith, nat_tests)
-    at rest false is found = let r = rest found in ((suc r.0.0, r.0.1), r.1)
-
--- one row has a number
-pub once : (rows : List HandleRow) → AllPairs IsHandleBefore rows → (a b : HandleRow) → Among rows a → Among rows b → a.number.0 ≡ b.number.0 → a ≡ b
-once rows ordered a b (i, at) (j, there) same =
-    let p = ordered i j a in
-    let q = ordered j i a in
-    grind (arith, nat_tests, get_or_from_slice_get rows i a a at, get_or_from_slice_get rows j b a there, slice_get_within rows i a at, slice_get_within rows j b there, cases_eq i j)
 
 -- the order stays where numbers do, and where a greater number comes
 pub ordered-map : (to : HandleRow → HandleRow) (rows : List HandleRow) → ((h : HandleRow) → (to h).number.0 ≡ h.number.0) → AllPairs IsHandleBefore rows → AllPairs IsHandleBefore (map to rows)
@@ -152,8 +106,7 @@ found-so q rows row ordered among number = at (find_row q rows) refl
 -- What is counted of one number: all of it is left, or nothing.
 module _ {X : Type 0} (number : X → ℕ) (f : X → Bool) (q : ℕ) (only : (x : X) → f x ≡ true → number x ≡ q) (gone : ℕ → Bool) where
   pub one-left : (b : Bool) → gone q ≡ b → (xs : List X) → times f (filter (λ x. not (gone (number x))) xs) ≡ (if b then 0 else times f xs)
-  one-left true e [] = refl
-  one-left false e [] = refl
+  one-left b e [] = grind (arith, nat_tests)
   one-left b e (x ∷ xs) = let goes = only x in grind (arith, nat_tests, one-left b e xs, sum_by-cons (λ y. one (f y)) x xs, sum_by-cons (λ y. one (f y)) x (filter (λ x. not (gone (number x))) xs))
 
 -- a row of the given ones goes
@@ -185,12 +138,7 @@ pub ordered-entries : (last : ℕ) (rows entries : List HandleRow) → ((h : Han
 ordered-entries last rows [] few new ordered = subst (λ r. AllPairs IsHandleBefore r) (sym (append-nil rows)) ordered
 ordered-entries last rows (x ∷ xs) few new ordered =
     subst (λ r. AllPairs IsHandleBefore r) (append_assoc rows (x ∷ []) xs)
-    (ordered-entries (last + 1) (rows ++ x ∷ []) xs
-    (λ h among. elim (among-both rows (x ∷ []) h among) [
-      | inl old ↦ let a = few h old in omega arith
-      | inr new-one ↦ grind (arith, nat_tests, among-one)
-    ])
-    new.3
+    (ordered-entries (last + 1) (rows ++ x ∷ []) xs (λ h among. let number = new.0 in grind (arith, nat_tests, among-both rows (x ∷ []) h among, among-one x h, few h)) new.3
     (ordered-push rows x (λ h among. let a = few h among in omega arith) ordered))
 
 -- ---- a change of a whole world, as small as a row, an entry or a load: what has to be shown of it, and that the world is whole then
@@ -259,11 +207,6 @@ is-in {w} whole h among =
     let c = λ (v : ℕ). whole.owners_there.workers h v among in
     grind (arith, nat_tests)
 
--- where loads stay open and workers at work
-pub in-still : (w u : Core) → ((l : ℕ) → is_some (w.loads l) ≡ true → is_some (u.loads l) ≡ true) → ((v : ℕ) → w.workers v ≡ true → u.workers v ≡ true) → (mode : Mode) (o : Owner)
-    → IsIn w mode o → IsIn u mode o
-in-still w u loads workers mode o i = grind (arith, nat_tests)
-
 pub holder-in : (w : Core) (mode : Mode) (o : Owner) → MayHold w o → IsIn w mode o
 holder-in w mode o may = grind (arith, nat_tests)
 
@@ -292,7 +235,8 @@ pub record Keeps (w u : Core) : Type 0 where
   pub loads : (l : ℕ) (load : OpenLoad) → u.loads l ≡ Some load → MayOwnLoad u load.owner × ((w.loads l ≡ Some load) ⊎ IsNewLoad w u l load)
   pub cache : (kind key n : ℕ) → u.cache kind key ≡ Some n → IsEntryWhole w kind n
   pub workers : (v : ℕ) → u.workers v ≡ true → v ≤ u.last.worker
-  pub shut : u.closed ≡ true → (u.list ≡ []) × ((kind key : ℕ) → u.cache kind key ≡ None)
+  -- the storage is taken to be open
+  pub stands_open : u.closed ≡ false
 
 pub at-then : (n : ℕ) (h : HandleRow) → 0 < one (is_at n h) → h.node.0 ≡ n
 at-then n h some = grind (arith, nat_tests)
@@ -337,11 +281,8 @@ module _ {w u : Core} (whole : IsWhole w) (k : Keeps w u) where
       record {
         ordered = k.on.ordered;
         numbered = λ x among. elim (k.on.rows x among) [
-          | inl old ↦ (let n = h.numbered old.row old.there in let b = old.number in let c = k.on.last in (
-            omega arith,
-            omega arith,
-          ))
-          | inr new ↦ (let a = new.above in let b = new.few in (omega arith, omega arith))
+          | inl old ↦ let n = h.numbered old.row old.there in let b = old.number in let c = k.on.last in (omega arith, omega arith)
+          | inr new ↦ let a = new.above in let b = new.few in (omega arith, omega arith)
         ];
         nodes_numbered = λ n some.
             let (x, among, counts) = counted (λ h. one (is_at n h)) u.rows (let l = k.on.live n in grind (arith, nat_tests)) in
@@ -354,13 +295,7 @@ module _ {w u : Core} (whole : IsWhole w) (k : Keeps w u) where
       }
     where
       keyless : (x : HandleRow) → Among u.rows x → is_shared x.mode ≡ true → keyed_in (u.cells x.node.0) ≡ false
-      keyless x among is = elim (like x among) [
-        | inl old ↦
-            let b : HasLike w.rows x.node.0 true = record { row = old.row; there = old.there; at = old.at; same = old.same ∙ is } in
-            let c = sym (shared-by whole old.row old.there) ∙ b.same in
-            k.on.keyed x.node.0 b (given x.node.0 true b).1 (whole.handles.unkeyed x.node.0 (subst (λ m. 0 < sharing m w.rows) old.at (grind (arith, nat_tests))))
-        | inr new ↦ new.3 (sym new.2 ∙ is)
-      ]
+      keyless x among is = let l = like x among in grind (arith, nat_tests, shared-by whole, given, whole.handles.unkeyed x.node.0, k.on.keyed x.node.0)
 
   root : (node : NodeNumber) (t : ℕ) (h : HandleNumber) → IsRootWhole w node t h → IsRootWhole u node t h
   root node t h r =
@@ -388,5 +323,5 @@ module _ {w u : Core} (whole : IsWhole w) (k : Keeps w u) where
         };
         cache = λ kind key n is. let e = k.cache kind key n is in grind (arith, nat_tests, like, k.on.typed);
         workers_numbered = k.workers;
-        shut = k.shut;
+        shut = λ so. absurd (let stands = k.stands_open in cc);
       }

@@ -8,4 +8,3 @@ pub mod Told
 pub mod Calls
 pub mod Newer
 pub mod Installed
-mod Doing

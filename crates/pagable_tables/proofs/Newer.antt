@@ -1,18 +1,20 @@
 -- A load is closed or hands handles over, or a worker leaves, and what they still own is given up.
-use Rattle.{pagable_model.specs.declared.numbers.WorkerNumber.WorkerNumber, pagable_tables.proofs.{Alive.{and-left, of_list, there-is, times-left}, Calls.{asker-owns, handed-own, may-hold}}}
-use Rattle.pagable_tables.proofs.{Fitting.{begun, is_owned, no-value, owned-by-none, rows-told, unmixed}, Kept.{among-last, at-most-sum, found-among, found-push, once, sum-map, sum-none}}
-use Rattle.pagable_tables.proofs.{Next.{no-entry, none-falls-in, owned, passes-here, passes-left, passes-none, unlisting}, Told.{born-whole, moved-to-holder, named-mine, no-references, not-list}}
-use Rattle.pagable_tables.proofs.{Told.settles, Words.{Alike, AllPairs, Among, ArcRef, AreLater, ArePlaced, AwayBirthCall, Bears, Becomes, Blob, Bool, Core, DropCall, Err, Error, Falls, Fits, Giving}}
-use Rattle.pagable_tables.proofs.Words.{HandleNumber, HandleRow, Handles, HandlesAreWhole, HasRoom, Holdings, InReach, IndexMap, IsClosed, IsFalling, IsHandleBefore, IsLeast, IsNoLess, Last, List}
-use Rattle.pagable_tables.proofs.Words.{LoadNumber, LoadRow, Makes, MayHold, MayOwnLoad, Mode, NodeNumber, None, Ok, OnlyRoom, OpenLoad, Option, OptionalDataKey, Owner, Places, Reach, Result}
-use Rattle.pagable_tables.proofs.Words.{ScheduleCall, SetKeyCall, SoFar, Some, Tables, TakeCall, UnpinCall, ValueStays, [], ap, arith, cases_Bool, cases_eq, cell_in, changed, core_of, counts_at}
-use Rattle.pagable_tables.proofs.Words.{false, find_row, gives_row, greatest, hand_over_fault, has_key, has_value, if_there, if◌then◌else◌, inl, inr, is_at, is_handle, is_in, is_keyed, is_loose_kind}
-use Rattle.pagable_tables.proofs.Words.{is_named_by, is_outside, is_owned_by, is_owned_in, is_owner, is_pin, is_pinning, is_plain_pin, is_shared, is_some, is_valued, is_workers_load, key_in}
-use Rattle.pagable_tables.proofs.Words.{left_rows, length, live, load_at, load_fault, load_in, loses_value, mode_of, moved, named_fault, nat_tests, next_node, nobody, not, numbers_of, one}
-use Rattle.pagable_tables.proofs.Words.{only_handle, option_map, owner_value, owner_worker, owns_nothing, passes_in, pins, plain_of, reach_at, references_fault, refl, refs_at, row_of, sharing, subst}
-use Rattle.pagable_tables.proofs.Words.{sum_by-append, sum_by-cons, sum_by-le-sum_by, sum_by_push, sym, times, true, updated, with_handle, with_mode, with_node, with_worker, without_load, ℕ, ◌&&◌}
-use Rattle.pagable_tables.{proofs.{Words.{◌++◌, ◌+◌, ◌<◌, ◌==◌, ◌||◌, ◌∙◌, ◌∷◌, ◌≡◌, ◌≢◌, ◌≤◌, ◌⊎◌}, Worlds.{born-past, both-none, next-past, owner-same, owner-self, same-cache}}, specs.Core.IsWhole}
-use Rattle.{pagable_tables.specs.Giving.TakesWorker, pagable_world.specs.Workers.is_load_of}
+use Rattle.{pagable_model.specs.declared.numbers.WorkerNumber.WorkerNumber, pagable_tables.proofs.Alive.{and-left, at-place, le_or_lt, of_list, smaller-up, there-is, times-left, whole-so}}
+use Rattle.pagable_tables.proofs.{Fitting.{begun, is_owned, list-owner, no-value, none-came, not-closed, owned-by-none, rows-told, unmixed}, Kept.{among-last, at-most-sum, found-among, once}}
+use Rattle.pagable_tables.proofs.{Kept.{sum-map, sum-none}, Next.{and_owned, no-entry, none-falls-in, owned, passes-here, passes-left, passes-none, regiven, sheds-still}, Told.{Goes, IsNewer}}
+use Rattle.pagable_tables.proofs.{Told.{OnlyNewer, alike-goes, born-whole, named-mine, newer-handle, newer-moved, newer-then, no-references, not-list, owned-moved, settled}, Words.{Alike, AllPairs}}
+use Rattle.pagable_tables.proofs.Words.{Among, ArcRef, AreLater, ArePlaced, AwayBirthCall, Bears, Blob, Bool, Core, Error, Falls, Fits, Giving, HandleNumber, HandleRow, Handles, HandlesAreWhole}
+use Rattle.pagable_tables.proofs.Words.{HasRoom, Holdings, InReach, IndexMap, IsBefore, IsClosed, IsFalling, IsHandleBefore, IsLeast, IsNoLess, Last, List, LoadNumber, LoadRow, MayHold, MayOwnLoad}
+use Rattle.pagable_tables.proofs.Words.{Mode, NodeNumber, NodeRow, None, Ok, OnlyRoom, OpenLoad, Option, OptionalDataKey, Owner, Place, Places, Reach, Result, Sheds, SoFar, Some, Tables, TakeCall}
+use Rattle.pagable_tables.proofs.Words.{ValueStays, [], alive, and_parts, ap, arith, cases_Bool, cases_eq, cell_in, changed, core_of, counts_at, false, find_row, get, get_or, gives_row, greatest}
+use Rattle.pagable_tables.proofs.Words.{has_key, has_value, held, if_there, if◌then◌else◌, inl, inr, is_at, is_handle, is_keyed, is_loose_kind, is_named_by, is_outside, is_owned_by, is_owned_in}
+use Rattle.pagable_tables.proofs.Words.{is_owner, is_pin, is_pinning, is_plain_pin, is_shared, is_some, is_valued, is_workers_load, key_in, known_at, left_rows, length, live, load_at, load_in}
+use Rattle.pagable_tables.proofs.Words.{loses_value, mode_of, moved, nat_eq, nat_lt, nat_tests, next_node, nobody, not, one, option_map, owner_value, owner_worker, owns_nothing, passes_in, pins}
+use Rattle.pagable_tables.proofs.Words.{plain_of, reach_at, references_fault, refl, refs_at, row_of, sharing, slice_get, slice_get-get_or, subst, suc, sum_by, sum_by-append, sum_by-cons}
+use Rattle.pagable_tables.proofs.Words.{sum_by-le-sum_by, sum_by_push, sym, take, times, true, updated, with_handle, with_mode, with_node, with_worker, ℕ, ◌&&◌, ◌++◌, ◌+◌, ◌-◌, ◌<◌, ◌==◌, ◌||◌, ◌∙◌}
+use Rattle.pagable_tables.{proofs.{Words.{◌∷◌, ◌≡◌, ◌≢◌, ◌≤◌, ◌⊎◌}, Worlds.{born-past, named-none, named-take, next-past, owner-same, owner-self, room-alike, same-cache}}, specs.Becoming.Becomes}
+use Rattle.pagable_tables.specs.{Becoming.Widens, Core.{Does, DoesShed, IsWhole, TakesWorker, gives}, Doing.{Does, DoesShed}, Falling.{Becomes, Widens}, Giving.gives}
+use Rattle.pagable_world.specs.Workers.{is_load_of}
 use Rattle.pagable_world.specs.Pager as pager
 
 -- what is counted of handles whoever owns them
@@ -20,63 +22,22 @@ pub moved-times : (f : HandleRow → Bool) (s : ℕ → Bool) (o : Owner) (rows 
 moved-times f s o [] same = refl
 moved-times f s o (x ∷ xs) same = let here = same x in grind (arith, nat_tests, moved-times f s o xs same, sum_by-cons (λ h. one (f h)))
 
--- what one owns once handles have moved to another
-pub owned-moved : (s : ℕ → Bool) (o a : Owner) (q : ℕ) (rows : List HandleRow) → is_owner a o ≡ false → owned a q (moved s o rows) ≡ (owned a q rows && not (s q))
-unfolding find_row
-owned-moved s o a q [] other = refl
-owned-moved s o a q (x ∷ xs) other = grind (arith, nat_tests, owned-moved s o a q xs other)
-
 -- who began a load isn't one, nor a value
 pub no-load : (w : Core) (o : Owner) (l : LoadNumber) → MayOwnLoad w o → is_owner (Owner.Load l) o ≡ false
 no-load w o l may = grind (arith, nat_tests)
-
--- the world after handles have moved, without the load
-abbrev pub moved-less : Core → LoadNumber → (ℕ → Bool) → Owner → Core
-moved-less w l s o = record (without_load w l) { rows = moved s o w.rows }
-
--- nothing has gone of it
-pub begun-moved : (t : Tables) (h : Handles) (l : LoadNumber) (s : ℕ → Bool) (o : Owner) (stored : ℕ → Option Blob) (closed lists : Bool) (failures : ℕ) → IsWhole t → lists ≡ not closed → Becomes t.holdings.handles (moved s o (live t.holdings.handles.places.items)) h
-    → ((q : ℕ) → times (λ (h : HandleNumber). h.0 == q) t.holdings.list.items ≡ times (λ h. is_handle q h && is_owned_by Owner.List h) (moved s o (live t.holdings.handles.places.items)))
-    → SoFar (core_of t stored closed failures) (moved-less (core_of t stored closed failures) l s o) nobody lists (record t.holdings { handles = h; unlisted = None })
-begun-moved t h l s o stored closed lists failures whole e is listed =
-    let w = core_of t stored closed failures in
-    let u = moved-less w l s o in
-    begun w u lists (record t.holdings { handles = h; unlisted = None }) e (λ p own. moved-times p s o w.rows (λ x. own x o)) (unmixed t whole) (λ q. let a = listed q in omega arith)
-    is.rows refl refl whole.core.handles.within.0 (record { handles = let a = is.capacity in omega arith; entries = omega arith }) (λ n. refl) refl
 
 -- handles move, and none that is a value's
 pub moved-stands : (t : Holdings) (h : Handles) (s : ℕ → Bool) (o : Owner) → IsFalling t [] owns_nothing → is_valued o ≡ false → ((x : HandleRow) → Among (live t.handles.places.items) x → s x.number.0 ≡ true → is_valued x.owner ≡ false)
     → Becomes t.handles (moved s o (live t.handles.places.items)) h → IsFalling (record t { handles = h }) [] owns_nothing
 moved-stands t h s o w plain free is =
     let rows = live t.handles.places.items in
-    let fits : Fits (counts_at t.nodes) (refs_at t.nodes) (moved s o rows) t.top [] owns_nothing = record {
-      pinned = λ n. w.fits.pinned n ∙ sym (moved-times (is_pin n) s o rows (λ x. refl));
-      holding = λ n. w.fits.holding n ∙ sym (moved-times (is_at n) s o rows (λ x. refl));
-      owned = λ n q. w.fits.owned n q ∙ sym (sum-map (is_owned n q) (is_owned n q) (λ x. if s x.number.0 then record x { owner = o } else x) rows (λ x among.
-          let z = free x among in grind (arith, nat_tests, owned-by-none n q (record x { owner = o }) plain, owned-by-none n q x)));
-      chain = w.fits.chain;
-      marked = w.fits.marked;
-      right = w.fits.right;
-      from_one = w.fits.from_one;
-    } in
+    let pinned : (n : ℕ) → pins n (moved s o rows) ≡ pins n rows = λ n. moved-times (is_pin n) s o rows (λ x. refl) in
+    let holding : (n : ℕ) → held n (moved s o rows) ≡ held n rows = λ n. moved-times (is_at n) s o rows (λ x. refl) in
+    let own : (n q : ℕ) → sum_by (is_owned n q) (moved s o rows) ≡ sum_by (is_owned n q) rows =
+    λ n q. sum-map (is_owned n q) (is_owned n q) (λ x. if s x.number.0 then record x { owner = o } else x) rows
+    (λ x among. let z = free x among in grind (arith, nat_tests, owned-by-none n q (record x { owner = o }) plain, owned-by-none n q x)) in
+    let fits : Fits (counts_at t.nodes) (refs_at t.nodes) (moved s o rows) t.top [] owns_nothing = grind (arith, nat_tests, w.fits, pinned, holding, own) in
     record { sound = is.sound; next = is.next (t.last_handle + 1) w.next; fits = rows-told (counts_at t.nodes) (refs_at t.nodes) (moved s o rows) (live h.places.items) t.top is.rows fits }
-
--- what is true where a load may hand over
-pub record MayHand (w : Core) (me : Owner) (l : LoadNumber) (hs : List HandleNumber) : Type 0 where
-  pub own : load_fault w me l ≡ None
-  pub may : MayOwnLoad w me
-  pub named : named_fault w (Owner.Load l) [] hs ≡ None
-
-pub may-hand : {w : Core} → pager.IsWhole w → (me : Owner) (l : LoadNumber) (hs : List HandleNumber) → hand_over_fault w me l hs ≡ None → MayHand w me l hs
-may-hand {w} whole me l hs good = grind (arith, nat_tests, both-none, asker-owns)
-
--- the list has what it had
-pub still-listed : {w : Core} → pager.IsWhole w → (me : Owner) (l : LoadNumber) (hs : List HandleNumber) → MayHand w me l hs
-    → (q : ℕ) → times (λ (h : HandleNumber). h.0 == q) w.list ≡ times (λ h. is_handle q h && is_owned_by Owner.List h) (moved (is_in (numbers_of hs)) me w.rows)
-still-listed {w} whole me l hs can =
-    let holder = may-hold w me can.may in
-    (moved-to-holder whole (is_in (numbers_of hs)) (λ x among named. ap (is_owner Owner.List) (handed-own w whole.handles.ordered l hs can.named x among named)) me (not-list w me holder)
-    holder).owners_there.listed
 
 -- a load isn't there any more
 pub load-closed : (at at' : ℕ → Option LoadRow) (l : ℕ) → at' l ≡ None → ((q : ℕ) → q ≢ l → at' q ≡ at q) → (q : ℕ) → updated l None (λ q. option_map load_in (at q)) q ≡ option_map load_in (at' q)
@@ -122,69 +83,19 @@ worker-gone at at' v gone others q = grind (arith, nat_tests)
 
 -- the entry moves to it
 pub takes-worker : (w w1 w' : Core) (place : ℕ) (v : WorkerNumber) (found : Option HandleNumber) → w1 ≡ with_worker w → v.0 ≡ w.last.worker + 1 → place < length w.list → TakeCall w1 (Owner.Worker v) place found w' → TakesWorker w place (Ok v) w'
-takes-worker w w1 w' place v (Some h) is next within call =
-    let (listed, leaves) = subst (λ u. TakeCall u (Owner.Worker v) place (Some h) w') is call in
-    record { taken = (h, listed, next, leaves); refused = tt }
-takes-worker w w1 w' place v None is next within call = let (past, leaves) = subst (λ u. TakeCall u (Owner.Worker v) place None w') is call in absurd (omega arith)
+takes-worker w w1 w' place v found is next within call = let c = subst (λ u. TakeCall u (Owner.Worker v) place found w') is call in grind (arith, nat_tests)
 
 pub ruleset working = (nat_tests, one-more-works)
 
--- ---- what loads own is what they owned, or has come since
-
--- loads and workers give up what they have together
-abbrev pub is_giver : Owner → Bool
-is_giver (Owner.Load l) = true
-is_giver (Owner.Worker v) = true
-is_giver _ = false
-
-pub record IsNewer (rows rows' : List HandleRow) (given given' : ℕ) : Type 0 where
-  pub last : given ≤ given'
-  pub kept : (o : Owner) (q : ℕ) → is_giver o ≡ true → owned o q rows' ≡ true → (owned o q rows ≡ true) ⊎ (given < q)
-
-abbrev pub OnlyNewer : Core → Core → Type 0
-OnlyNewer w w' = IsNewer w.rows w'.rows w.last.handle w'.last.handle
-
-pub newer-alike : {w w' : Core} → Alike w w' → OnlyNewer w w'
-newer-alike {w} {w'} a = record { last = (let e = ap (λ (l : Last). l.handle) a.last in omega arith); kept = λ o q gives own. inl (sym (ap (owned o q) a.rows) ∙ own) }
-
-pub newer-then : {r s t : List HandleRow} {i j k : ℕ} → IsNewer r s i j → IsNewer s t j k → IsNewer r t i k
-newer-then p q = grind (arith, nat_tests)
-
-pub newer-handle : (w : Core) (node : NodeNumber) (mode : Mode) (owner : Owner) → OnlyNewer w (with_handle w node mode owner)
-newer-handle w node mode owner = record { last = omega arith; kept = λ o q gives own. grind (arith, nat_tests, found-push, found-among) }
-
-pub newer-moved : (w : Core) (s : ℕ → Bool) (o : Owner) → is_giver o ≡ false → OnlyNewer w (record w { rows = moved s o w.rows })
-newer-moved w s o other = grind (arith, nat_tests, and-left, owned-moved)
-
--- a handle that doesn't move is owned as before
-owned-unmoved : (s : ℕ → Bool) (o a : Owner) (q : ℕ) (rows : List HandleRow) → s q ≡ false → owned a q (moved s o rows) ≡ owned a q rows
-unfolding find_row
-owned-unmoved s o a q [] stays = refl
-owned-unmoved s o a q (x ∷ xs) stays = grind (arith, nat_tests, owned-unmoved s o a q xs stays)
-
--- a handle's mode says nothing of who owns it
-pub owned-mode : (o : Owner) (q : ℕ) (test : HandleRow → Bool) (mode : Mode) (rows : List HandleRow) → owned o q (changed test (λ row. record row { mode = mode }) rows) ≡ owned o q rows
-owned-mode o q test mode [] = refl
-owned-mode o q test mode (x ∷ xs) = grind (arith, nat_tests, passes-here, owned-mode o q test mode xs)
-
-pub newer-mode : (w : Core) (h : HandleNumber) (mode : Mode) → OnlyNewer w (with_mode w h mode)
-newer-mode w h mode = record { last = omega arith; kept = λ o q gives own. inl (sym (owned-mode o q (is_handle h.0) mode w.rows) ∙ own) }
-
-pub newer-falls : {before u w' : Core} {given : ℕ → Bool} {r : Result (Unit {0}) Error} → Falls before u given r w' → OnlyNewer u w'
-newer-falls {before} {u} {w'} falls = grind (arith, nat_tests, passes-left, no-entry, unlisting)
+-- ---- what loads own is what they owned, or has come since: while loads and workers come and go
 
 -- the open loads are ones that were open, and what a worker got besides is in its reach
 pub later-by : {t t' : Tables} → AreLater t → t.holdings.last_handle ≤ t'.holdings.last_handle → ((l : ℕ) (load : LoadRow) → load_at t'.loads l ≡ Some load → load_at t.loads l ≡ Some load) → IsNoLess t.workers t'.workers
     → ((l q : ℕ) → owned (Owner.Load (record { 0 = l })) q (plain_of t').rows ≡ true → (owned (Owner.Load (record { 0 = l })) q (plain_of t).rows ≡ true) ⊎ (t.holdings.last_handle < q))
     → ((v q : ℕ) → owned (owner_worker v) q (plain_of t').rows ≡ true → (owned (owner_worker v) q (plain_of t).rows ≡ true) ⊎ (t.holdings.last_handle < q) ⊎ InReach (reach_at t'.workers v) q) → AreLater t'
 later-by {t} {t'} later last loads less own work =
-    record {
-      given = λ l load is. let a = later.given l load (loads l load is) in omega arith;
-      since = λ l load q is has. let o = own l q has in let s = later.since l load q (loads l load is) in let a = later.given l load (loads l load is) in grind (arith, nat_tests);
-      begun = λ v. let a = later.begun v in let b = less.before v in omega arith;
-      reach = λ v q has. let o = work v q has in let a = later.begun v in let b = less.before v in let c = less.wider v q in let d = later.reach v q in grind (arith, nat_tests);
-      loads = λ v l load is owns. let a = later.loads v l load (loads l load is) owns in let b = less.before v in omega arith;
-    }
+    let wider : (v q : ℕ) → owned (owner_worker v) q (plain_of t).rows ≡ true → InReach (reach_at t'.workers v) q = λ v q had. less.wider v q (later.reach v q had) in
+    grind (arith, nat_tests, later.given, later.since, later.begun, later.loads, less.before, wider, loads, own, work)
 
 still-reaches : {S : Type 0} {workers workers' : IndexMap ℕ Reach S} → workers' ≡ workers → IsNoLess workers workers'
 still-reaches {S} {workers} {workers'} same = subst (λ u. IsNoLess workers u) (sym same) (record { wider = λ v q in-reach. in-reach; before = λ v. omega arith })
@@ -211,69 +122,31 @@ none-owned w o q nobody own = let (row, e, is) = there-is (is_owned_by o) (find_
 pub later-opened : {t t' : Tables} → pager.IsWhole (plain_of t) → AreLater t → OnlyNewer (plain_of t) (plain_of t') → (m : ℕ) (row : LoadRow) → load_at t.loads m ≡ None → load_at t'.loads m ≡ Some row → row.since ≡ t.holdings.last_handle
     → ((q : ℕ) → q ≢ m → load_at t'.loads q ≡ load_at t.loads q) → t'.workers ≡ t.workers → AreLater t'
 later-opened {t} {t'} whole later newer m row none here since others same =
-    let last = newer.last in
-    let reaches : (v : ℕ) → (reach_at t'.workers v).since ≡ (reach_at t.workers v).since = λ v. ap (λ u. (reach_at u v).since) same in
     let new-owns : (q : ℕ) → owned (Owner.Load (record { 0 = m })) q (plain_of t).rows ≡ true → ⊥ = λ q own.
     none-owned (plain_of t) (Owner.Load (record { 0 = m })) q (λ h among of. absurd (let a = whole.owners_there.loads h (record { 0 = m }) among of in
     let b : is_some ((plain_of t).loads m) ≡ false = ap (λ o. is_some (option_map load_in o)) none in cc)) own in
-    let one : (l : ℕ) (load : LoadRow) → load_at t'.loads l ≡ Some load → ((l ≡ m) × (load.since ≡ t.holdings.last_handle)) ⊎ (load_at t.loads l ≡ Some load) =
-    λ l load is. grind (arith, nat_tests, cases_eq, here, since, others) in
-    record {
-      given = λ l load is. let o = one l load is in grind (arith, nat_tests, later.given);
-      since = λ l load q is own. let o = one l load is in let k = newer.kept (Owner.Load (record { 0 = l })) q refl own in grind (arith, nat_tests, later.given, later.since, new-owns);
-      begun = λ v. let a = later.begun v in let c = reaches v in omega arith;
-      reach = λ v q own. let k = newer.kept (owner_worker v) q refl own in let r = later.reach v q in let a = later.begun v in grind (arith, nat_tests);
-      loads = λ v l load is owns. let c = reaches v in let o = one l load is in grind (arith, nat_tests, later.begun, later.loads);
-    }
+    let reaches : (v : ℕ) → reach_at t'.workers v ≡ reach_at t.workers v = λ v. ap (λ u. reach_at u v) same in
+    grind (arith, nat_tests, cases_eq, here, since, others, reaches, later.given, later.since, later.begun, later.reach, later.loads, newer.last, newer.kept, new-owns)
 
 -- one worker more is at work
 pub later-begun : {t t' : Tables} → pager.IsWhole (plain_of t) → AreLater t → t' ≡ record t { workers = t'.workers; last_worker = t'.last_worker } → (v : ℕ) → v ≡ t.last_worker + 1
     → reach_at t'.workers v ≡ record { since = t.holdings.last_handle; beside = 0 } → ((u : ℕ) → u ≢ v → reach_at t'.workers u ≡ reach_at t.workers u) → AreLater t'
 later-begun {t} {t'} whole later same v new here others =
-    let u : Tables = record t { workers = t'.workers; last_worker = t'.last_worker } in
     let at-rest : (m : ℕ) → m ≡ v → (plain_of t).workers m ≡ true → ⊥ = λ m e is. let a = whole.workers_numbered m is in absurd (omega arith) in
     let working : (m : ℕ) (o : Owner) → is_owner (owner_worker m) o ≡ true → pager.MayOwnLoad (plain_of t) o → (plain_of t).workers m ≡ true = λ m o owns may. grind (arith, nat_tests) in
-    subst AreLater (sym same) (record {
-      given = later.given;
-      since = later.since;
-      begun = λ m. grind (arith, nat_tests, cases_eq m v, here, others, later.begun);
-      reach = λ m q own. elim (cases_eq m v) [
-        | inl e ↦ absurd (none-owned (plain_of t) (owner_worker m) q (λ h among of. at-rest m e (whole.owners_there.workers h m among of)) own)
-        | inr e ↦ subst (λ r. InReach r q) (sym (others m e)) (later.reach m q own)
-      ];
-      loads = λ m l load is owns. let works = working m load.owner owns (whole.loads.owned l (load_in load) (ap (option_map load_in) is)) in grind (arith, nat_tests, cases_eq m v, at-rest, others, later.loads);
-    })
-
--- ---- calls
-
-pub drop-newer : {w w' : Core} (me : Owner) (l : LoadNumber) (r : Result (Unit {0}) Error) → DropCall w me l r w' → OnlyNewer w w'
-drop-newer me l r call = elim call.does [ inl refused ↦ newer-alike refused.stays | inr (load, own, falls) ↦ newer-falls falls ]
-
-pub makes-newer : {w w' : Core} (node : NodeNumber) (mode : Mode) (owner : Owner) (r : Result HandleNumber Error) → Makes w node mode owner r w' → OnlyNewer w w'
-makes-newer {w} node mode owner r m = grind (arith, nat_tests, newer-handle w node mode owner, newer-alike, newer-then)
-
-pub unpin-newer : {w w' : Core} (me : Owner) (h : HandleNumber) (r : Result (Unit {0}) Error) → UnpinCall w me h r w' → OnlyNewer w w'
-unpin-newer {w} me h r call = elim call.does [
-  | inl refused ↦ newer-alike refused.stays
-  | inr (row, own, inl (mode, told, stays)) ↦ newer-alike stays
-  | inr (row, own, inr (mode, falls)) ↦ newer-then (newer-mode w h Mode.LooseUnpinned) (newer-falls falls)
-]
-
-pub set-key-newer : {w w' : Core} (me : Owner) (h : HandleNumber) (key : ℕ) (r : Result (Unit {0}) Error) → SetKeyCall w me h key r w' → OnlyNewer w w'
-set-key-newer me h key r call = elim call.does [
-  | inl refused ↦ newer-alike refused.stays
-  | inr (row, own, inl (mode, told, stays)) ↦ newer-alike stays
-  | inr (row, own, inr (loose, falls)) ↦ newer-falls falls
-]
-
-pub schedule-newer : {w w' : Core} (me : Owner) (h : HandleNumber) (r : Result (Unit {0}) Error) → ScheduleCall w me h r w' → OnlyNewer w w'
-schedule-newer {w} me h (Ok u) call = elim call.moves.2 [
-  | inl (stands_open, leaves) ↦ newer-then (newer-moved w (only_handle h) Owner.List refl) (newer-alike leaves)
-  | inr (shut, falls) ↦ newer-falls falls.falls
-]
-schedule-newer me h (Err e) call = newer-alike call.refused.stays
+    let nobody : (q : ℕ) → owned (owner_worker v) q (plain_of t).rows ≡ true → ⊥ =
+    λ q own. none-owned (plain_of t) (owner_worker v) q (λ h among of. at-rest v refl (whole.owners_there.workers h v among of)) own in
+    let free : (l : ℕ) (load : LoadRow) → load_at t.loads l ≡ Some load → is_owner (owner_worker v) load.owner ≡ true → ⊥ =
+    λ l load is owns. at-rest v refl (working v load.owner owns (whole.loads.owned l (load_in load) (ap (option_map load_in) is))) in
+    subst AreLater (sym same) (grind (arith, nat_tests, cases_eq, here, others, nobody, free, later.given, later.since, later.begun, later.reach, later.loads))
 
 -- ---- handles that come to a worker
+
+-- a handle that doesn't move is owned as before
+owned-unmoved : (s : ℕ → Bool) (o a : Owner) (q : ℕ) (rows : List HandleRow) → s q ≡ false → owned a q (moved s o rows) ≡ owned a q rows
+unfolding find_row
+owned-unmoved s o a q [] stays = refl
+owned-unmoved s o a q (x ∷ xs) stays = grind (arith, nat_tests, owned-unmoved s o a q xs stays)
 
 module _ (t : Tables) (later : AreLater t) (s : ℕ → Bool) (me : Owner) (other : (l : LoadNumber) → is_owner (Owner.Load l) me ≡ false) (rows : List HandleRow) (are : rows ≡ moved s me (plain_of t).rows) where
   pub load-kept : (l q : ℕ) → owned (Owner.Load (record { 0 = l })) q rows ≡ true → owned (Owner.Load (record { 0 = l })) q (plain_of t).rows ≡ true
@@ -335,9 +208,14 @@ stays-pinned w u w' given r x rows ordered plain kept falls n none =
 pub eager-pins : (kind : ℕ) → is_loose_kind kind ≡ false → is_pinning (mode_of kind) ≡ true
 eager-pins kind eager = grind (arith, nat_tests)
 
+-- who is found stays found when more rows come
+found-more : (q : ℕ) (rows more : List HandleRow) (row : HandleRow) → find_row q rows ≡ Some row → find_row q (rows ++ more) ≡ Some row
+unfolding find_row
+found-more q [] more row is = absurd (cc)
+found-more q (h ∷ hs) more row is = grind (arith, nat_tests, found-more q hs more row)
+
 pub loaded-append : (l : LoadNumber) (q : ℕ) (rows more : List HandleRow) → owned (Owner.Load l) q rows ≡ true → owned (Owner.Load l) q (rows ++ more) ≡ true
-loaded-append l q [] more own = absurd (let a = passes-none (is_owned_by (Owner.Load l)) q in cc)
-loaded-append l q (x ∷ xs) more own = grind (arith, nat_tests, passes-none, passes-here, loaded-append l q xs more)
+loaded-append l q rows more own = grind (arith, nat_tests, found-more)
 
 -- what references name that are good is the load's, and was given
 pub named-loaded : (w : Core) (l : LoadNumber) (refs : List ArcRef) → references_fault w (Owner.Load l) [] refs ≡ None → (q : ℕ) → is_named_by refs q ≡ true → is_owned_in w (Owner.Load l) q ≡ true
@@ -385,12 +263,6 @@ pub pinned-alike : (w u w' : Core) (h : HandleNumber) (node : NodeNumber) (me : 
     → Alike (with_handle w node Mode.Pinned me) u → Alike (with_mode u h Mode.LoosePinned) w' → Alike (with_handle (with_mode w h Mode.LoosePinned) node Mode.Pinned me) w'
 pinned-alike w u w' h node me given cache a b = grind (arith, nat_tests, changed-push, same-cache)
 
--- who is found stays found when more rows come
-found-more : (q : ℕ) (rows more : List HandleRow) (row : HandleRow) → find_row q rows ≡ Some row → find_row q (rows ++ more) ≡ Some row
-unfolding find_row
-found-more q [] more row is = absurd (cc)
-found-more q (h ∷ hs) more row is = grind (arith, nat_tests, found-more q hs more row)
-
 pub found-again : (q : ℕ) (rows rows' more : List HandleRow) (row : HandleRow) (o : Option HandleRow) → find_row q rows ≡ Some row → rows' ≡ rows ++ more → find_row q rows' ≡ o → o ≡ Some row
 found-again q rows rows' more row o is came again = sym again ∙ ap (find_row q) came ∙ found-more q rows more row is
 
@@ -406,16 +278,196 @@ key-is x0 some = grind (arith, nat_tests)
 -- of a cell that is away, where room was made before
 pub away-born : {w w1 w' : Core} (me : Owner) (node_type key n : ℕ) (rs : List ArcRef) (k : HandleNumber) → OnlyRoom w w1 → w1.last.node < greatest → n ≡ key → 0 < n → rs ≡ []
     → Bears w1 me node_type n rs Mode.LooseUnpinned k w' → AwayBirthCall w me node_type key (Ok k) w'
-away-born {w} {w1} {w'} me node_type key n rs k room left is some none b =
-    let leaves = subst (λ o. Alike (with_handle (with_node w1 node_type o []) (next_node w1) Mode.LooseUnpinned me) w') (key-is n some ∙ ap (λ n. OptionalDataKey.Some n) is)
-    (subst (λ l. Alike (with_handle (with_node w1 node_type (key_in n) l) (next_node w1) Mode.LooseUnpinned me) w') none b.leaves) in
-    record { made = (subst (λ (u : Core). u.last.node < greatest) room.same left, next-past room b.next, born-past node_type (OptionalDataKey.Some key) [] Mode.LooseUnpinned me room leaves); refused = tt }
+away-born me node_type key n rs k room left is some none b = grind (arith, nat_tests, key-is, next-past, born-past)
 
-pub bears-whole : {w w' : Core} (me : Owner) (node_type key : ℕ) (rs : List ArcRef) (mode : Mode) (k : HandleNumber) → pager.IsWhole w → MayHold w me → references_fault w me [] rs ≡ None → w.last.node < greatest
-    → (is_shared mode ≡ true → has_key (key_in key) ≡ false) → Bears w me node_type key rs mode k w' → ArePlaced w' → pager.IsWhole w'
-bears-whole {w} me node_type key rs mode k whole holder fit left unkeyed b placed =
-    settles (born-whole whole node_type (key_in key) rs mode me me (not-list w me holder) fit holder left b.next.is_left unkeyed) b.leaves placed
+pub bears-goes : {w w' : Core} (me : Owner) (node_type key : ℕ) (rs : List ArcRef) (mode : Mode) (k : HandleNumber) → pager.IsWhole w → MayHold w me → references_fault w me [] rs ≡ None
+    → w.last.node < greatest → (is_shared mode ≡ true → has_key (key_in key) ≡ false) → Bears w me node_type key rs mode k w' → Goes w w'
+bears-goes {w} me node_type key rs mode k whole holder fit left unkeyed b =
+    settled b.leaves (born-whole whole node_type (key_in key) rs mode me me (not-list w me holder) fit holder left b.next.is_left unkeyed)
+    (newer-then (newer-moved w (is_named_by rs) (owner_value (w.last.node + 1)) refl) (newer-handle (with_node w node_type (key_in key) rs) (next_node w) mode me))
 
-pub bears-newer : {w w' : Core} (me : Owner) (node_type key : ℕ) (rs : List ArcRef) (mode : Mode) (k : HandleNumber) → Bears w me node_type key rs mode k w' → OnlyNewer w w'
-bears-newer {w} me node_type key rs mode k b =
-    newer-then (newer-then (newer-moved w (is_named_by rs) (owner_value (w.last.node + 1)) refl) (newer-handle (with_node w node_type (key_in key) rs) (next_node w) mode me)) (newer-alike b.leaves)
+-- ---- handles are given up together, those that pass a test or that references name
+
+-- a world of these loads alone
+abbrev pub bare : (ℕ → Option OpenLoad) → Core
+bare loads =
+    record {
+      rows = [];
+      cells = λ n. None;
+      list = [];
+      cache = λ kind key. None;
+      stored = λ key. None;
+      closed = false;
+      failures = 0;
+      loads = loads;
+      workers = λ v. false;
+      last = record { node = 0; handle = 0; load = 0; worker = 0 };
+      places = record { handles = 0; entries = 0 };
+    }
+
+-- neither a value's handle is given up so, nor the list's where others are
+pub given-plain : (w : Core) (giving : Giving) (o : Owner) (node : NodeNumber) → gives w giving o node ≡ true → (is_valued o ≡ false) × ((is_owner Owner.List o ≡ false) ⊎ (giving ≡ Giving.Listed))
+given-plain w x2 o node is = grind (arith, nat_tests, list-owner)
+
+-- what has been given, while those up to a number are left
+abbrev pub past_of : Core → Core → Giving → ℕ → ℕ → Bool
+past_of u w giving left q = nat_lt left q && passes_in (gives_row w giving) u.rows q
+
+module _ (before u w : Core) (lists : Bool) (giving : Giving) (shut : giving ≡ Giving.Listed → lists ≡ false) (reach : Reach) (within : (q : ℕ) → passes_in (gives_row w giving) u.rows q ≡ true → InReach reach q) where
+  abbrev passes : ℕ → Bool
+  passes q = passes_in (gives_row w giving) u.rows q
+
+  abbrev past : ℕ → ℕ → Bool
+  past = past_of u w giving
+
+  -- of what passes, what hasn't gone is there
+  told : (t : Holdings) (given : ℕ → Bool) (f : SoFar before u given lists t) (q : ℕ) → passes_in (gives_row w giving) (live t.handles.places.items) q ≡ (not (f.gone q) && passes q)
+  told t given f q =
+      let listed : (giving ≡ Giving.Listed) ⊎ (giving ≢ Giving.Listed) = grind (arith, nat_tests) in
+      ap (λ rows. passes_in (gives_row w giving) rows q) f.rows ∙ passes-left (gives_row w giving) q f.gone f.entries u.rows (elim listed [
+        | inl is ↦ ap (λ es. passes_in (gives_row w giving) es q) (none-came f (shut is)) ∙ passes-none (gives_row w giving) q
+        | inr other ↦ no-entry (gives_row w giving) q (λ h is. grind (arith, nat_tests)) u.last.handle f.entries f.new
+      ])
+
+  pub none-past : (t : Holdings) (left : ℕ) → ((q : ℕ) → passes q ≡ true → q ≤ left) → SoFar before u nobody lists t → SoFar before u (past left) lists t
+  none-past t left up f = regiven before u nobody (past left) lists t f (λ r e. let u = up r in grind (arith, nat_tests)) (λ r e. absurd (cc))
+
+  -- what is given of the numbers that are left and isn't there has gone
+  onto : (t : Holdings) (left : ℕ) (s : ℕ → Bool) → ((r : ℕ) → s r ≡ true → passes r ≡ true) → ((r : ℕ) → past left r ≡ true → s r ≡ true)
+      → ((r : ℕ) → s r ≡ true → r ≤ left → passes_in (gives_row w giving) (live t.handles.places.items) r ≡ false) → SoFar before u (past left) lists t → SoFar before u s lists t
+  onto t left s up over none f =
+      regiven before u (past left) s lists t f (λ r e. let p = up r e in let n = none r e in let g = told t (past left) f r in grind (arith, nat_tests)) over
+
+  -- one more is given, the last of those that are left
+  pub one-past : (t new : Holdings) (left : ℕ) (x : HandleRow) → 0 < x.number.0 → x.number.0 ≤ left → find_row x.number.0 (live t.handles.places.items) ≡ Some x → gives_row w giving x ≡ true
+      → ((q : ℕ) → InReach reach q → x.number.0 < q → q ≤ left → passes_in (gives_row w giving) (live t.handles.places.items) q ≡ false)
+      → ((given : ℕ → Bool) → SoFar before u given lists t → SoFar before u (λ q. given q || q == x.number.0) lists new) → SoFar before u (past left) lists t → SoFar before u (past (x.number.0 - 1)) lists new
+  one-past t new left x above below found is none gives f =
+      let n = x.number.0 in
+      let here : passes n ≡ true = (and_parts (not (f.gone n)) _ (sym (told t (past left) f n) ∙ ap (if_there (gives_row w giving) false) found ∙ is)).1 in
+      let narrowed = onto t left (past n) (λ r e. grind (arith, nat_tests)) (λ r e. grind (arith, nat_tests))
+      (λ r e. none r (within r (let p : passes r ≡ true = grind (arith, nat_tests) in p)) (let l : n < r = grind (arith, nat_tests) in l)) f in
+      regiven before u (λ q. past n q || q == n) (past (n - 1)) lists new (gives (past n) narrowed) (λ r e. grind (arith, nat_tests)) (λ r e. grind (arith, nat_tests, cases_eq r n))
+
+  pub all-past : (t : Holdings) (left : ℕ) → ((q : ℕ) → InReach reach q → q ≤ left → passes_in (gives_row w giving) (live t.handles.places.items) q ≡ false)
+      → SoFar before u (past left) lists t → SoFar before u passes lists t
+  all-past t left none f = onto t left passes (λ r e. e) (λ r e. grind (arith, nat_tests)) (λ r e below. none r (within r e) below) f
+
+none-passes : (test : HandleRow → Bool) (q : ℕ) (ss : List Place) → ((k : ℕ) (d : Place) → k < length ss → (get_or ss k d).row.number.0 ≡ q → (get_or ss k d).is_live ≡ true → test (get_or ss k d).row ≡ false)
+    → passes_in test (live ss) q ≡ false
+none-passes test q [] h = passes-none test q
+none-passes test q (s ∷ ss) h =
+    let rest = none-passes test q ss (λ k d lt e. h (suc k) d (omega arith) e) in let first = h 0 s (omega arith) in grind (arith, nat_tests, passes-here)
+
+-- below a place numbers are smaller, and from there on those that pass are too great
+pub none-from : (test : HandleRow → Bool) (ss : List Place) (p q left : ℕ) → ((k : ℕ) (d : Place) → k < p → (get_or ss k d).row.number.0 < q) → q ≤ left
+    → ((k : ℕ) (d : Place) → p ≤ k → k < length ss → (get_or ss k d).is_live ≡ true → test (get_or ss k d).row ≡ true → left < (get_or ss k d).row.number.0) → passes_in test (live ss) q ≡ false
+none-from test ss p q left below within above = grind (arith, nat_tests, none-passes, le_or_lt p)
+
+module _ (ss : List Place) (m : ℕ) (p : Place) (within : m < length ss) (is : p ≡ get_or ss m p) where
+  number : p.row.number.0 ≡ (get_or ss m p).row.number.0
+  number = ap (λ (x : Place). x.row.number.0) is
+
+  -- all places up to one that isn't above a number are below each greater one
+  pub below-to : (since q : ℕ) → AllPairs IsBefore ss → p.row.number.0 ≤ since → since < q → (k : ℕ) (d : Place) → k < m + 1 → (get_or ss k d).row.number.0 < q
+  below-to since q ordered up over = let n = number in smaller-up (λ (x : Place). x.row.number.0) ss m q p ordered within (omega arith)
+
+  pub place-got : p.is_live ≡ true → slice_get ss m ≡ Some (alive p.row)
+  place-got lives = slice_get-get_or ss m p within ∙ ap Some (sym is) ∙ ap (λ b. Some (record { row = p.row; is_live = b })) lives
+
+  pub row-there : AllPairs IsBefore ss → p.is_live ≡ true → find_row p.row.number.0 (live ss) ≡ Some p.row
+  row-there ordered lives = (at-place ss m p.row ordered (place-got lives)).2
+
+-- what the load owns of the handles that so many references name
+abbrev pub named_owned : Core → LoadNumber → List ArcRef → ℕ → ℕ → Bool
+named_owned w l rs i q = is_named_by (take i rs) q && is_owned_in w (Owner.Load l) q
+
+module _ (before w : Core) (lists : Bool) (t : Holdings) (l : LoadNumber) (rs : List ArcRef) where
+  pub none-given : SoFar before w nobody lists t → SoFar before w (named_owned w l rs 0) lists t
+  none-given f = regiven before w nobody (named_owned w l rs 0) lists t f (λ r e. absurd (let a = and-left (is_named_by (take 0 rs) r) _ e in let b = named-none r in cc)) (λ r e. absurd (cc))
+
+  pub one-given : (i : ℕ) (d : ArcRef) → i < length rs → SoFar before w (and_owned w l (named_owned w l rs i) (get_or rs i d).handle.0) lists t → SoFar before w (named_owned w l rs (i + 1)) lists t
+  one-given i d lt f =
+      regiven before w (and_owned w l (named_owned w l rs i) (get_or rs i d).handle.0) (named_owned w l rs (i + 1)) lists t f
+      (λ r e. grind (arith, nat_tests, named-take rs i d r lt)) (λ r e. grind (arith, nat_tests, named-take rs i d r lt))
+
+  pub all-given : (i : ℕ) → take i rs ≡ rs → ((q : ℕ) → is_named_by rs q ≡ true → is_owned_in w (Owner.Load l) q ≡ true) → SoFar before w (named_owned w l rs i) lists t → SoFar before w (is_named_by rs) lists t
+  all-given i all owned f = grind (arith, nat_tests, and-left)
+
+pub ruleset places = (nat_tests, place-got, row-there)
+
+-- handles move after others
+pub moved-then : {old mid new : Handles} {rows to : List HandleRow} (s : ℕ → Bool) (o : Owner) → Becomes old rows mid → Becomes mid (moved s o (live mid.places.items)) new → moved s o rows ≡ to → Becomes old to new
+moved-then s o a b is = record { sound = b.sound; rows = b.rows ∙ ap (moved s o) a.rows ∙ is; capacity = b.capacity ∙ a.capacity; next = λ q next. b.next q (a.next q next) }
+
+-- ---- calls that leave the tables whole, as their steps leave the plain world
+
+module _ {old new : Tables} {step : Core → Core → Type 0} where
+  pub does-by : ((stored : ℕ → Option Blob) (closed : Bool) (failures : ℕ) → step (core_of old stored closed failures) (core_of new stored closed failures)) → IsFalling new.holdings [] owns_nothing
+      → (step (plain_of old) (plain_of new) → ArePlaced (plain_of new) → pager.IsWhole (plain_of new)) → (step (plain_of old) (plain_of new) → AreLater old → AreLater new) → Does old step new
+  does-by does steady whole later = let plain = does (λ key. None) false 0 in record { does = does; whole = whole-so steady (whole plain); later = later plain }
+
+  -- loads and workers are those that were
+  pub does-so : ((stored : ℕ → Option Blob) (closed : Bool) (failures : ℕ) → step (core_of old stored closed failures) (core_of new stored closed failures)) → IsFalling new.holdings [] owns_nothing
+      → (step (plain_of old) (plain_of new) → Goes (plain_of old) (plain_of new)) → new.loads ≡ old.loads → new.workers ≡ old.workers → Does old step new
+  does-so does steady goes loads workers = does-by does steady (λ plain. (goes plain).whole) (λ plain later. later-on later (goes plain).newer loads workers)
+
+-- nothing changes
+pub nothing-does : {t : Tables} {step : Core → Core → Type 0} → IsWhole t → ((stored : ℕ → Option Blob) (closed : Bool) (failures : ℕ) → step (core_of t stored closed failures) (core_of t stored closed failures)) → Does t step t
+nothing-does whole does = record { does = does; whole = whole; later = λ later. later }
+
+pub does-then : {a b c : Tables} {one two both : Core → Core → Type 0} → Does a one b → Does b two c
+    → ((stored : ℕ → Option Blob) (closed : Bool) (failures : ℕ) → one (core_of a stored closed failures) (core_of b stored closed failures) → two (core_of b stored closed failures) (core_of c stored closed failures)
+    → both (core_of a stored closed failures) (core_of c stored closed failures)) → Does a both c
+does-then p q both = record { does = λ stored closed failures. both stored closed failures (p.does stored closed failures) (q.does stored closed failures); whole = q.whole; later = λ later. q.later (p.later later) }
+
+-- the plain world where cells are listed or not
+abbrev pub listing : Bool → Tables → Core
+listing lists t = core_of t (λ key. None) (not lists) 0
+
+module _ {X S : Type 0} {lists : Bool} {old new : Tables} {values values' : IndexMap ℕ X S} {step : Core → Core → Type 0} where
+  pub sheds-by : ((stored : ℕ → Option Blob) (closed : Bool) (failures : ℕ) → lists ≡ not closed → step (core_of old stored closed failures) (core_of new stored closed failures))
+      → IsFalling new.holdings [] owns_nothing → (step (listing lists old) (listing lists new) → ArePlaced (plain_of new) → pager.IsWhole (plain_of new))
+      → (step (listing lists old) (listing lists new) → AreLater old → AreLater new) → Sheds (counts_at old.holdings.nodes) (get nat_eq values) (counts_at new.holdings.nodes) (get nat_eq values')
+      → DoesShed lists old values step new values'
+  sheds-by does steady whole later sheds =
+      let plain = does (λ key. None) (not lists) 0 (not-closed lists) in
+      record { does = does; whole = whole-so steady (whole plain); later = later plain; sheds = sheds }
+
+  pub sheds-so : ((stored : ℕ → Option Blob) (closed : Bool) (failures : ℕ) → lists ≡ not closed → step (core_of old stored closed failures) (core_of new stored closed failures))
+      → IsFalling new.holdings [] owns_nothing → (step (listing lists old) (listing lists new) → Goes (listing lists old) (listing lists new)) → new.loads ≡ old.loads → new.workers ≡ old.workers
+      → Sheds (counts_at old.holdings.nodes) (get nat_eq values) (counts_at new.holdings.nodes) (get nat_eq values') → DoesShed lists old values step new values'
+  sheds-so does steady goes loads workers = sheds-by does steady (λ plain. (goes plain).whole) (λ plain later. later-on later (goes plain).newer loads workers)
+
+-- the same, of a step that is made as cells are listed, while no value goes
+module _ {lists : Bool} {old new : Tables} {step : Core → Core → Type 0} where
+  pub lazily-by : ((stored : ℕ → Option Blob) (closed : Bool) (failures : ℕ) → lists ≡ not closed → step (core_of old stored closed failures) (core_of new stored closed failures))
+      → IsFalling new.holdings [] owns_nothing → (step (listing lists old) (listing lists new) → ArePlaced (plain_of new) → pager.IsWhole (plain_of new))
+      → (step (listing lists old) (listing lists new) → AreLater old → AreLater new) → Does old (λ w w'. lists ≡ not w.closed → step w w') new
+  lazily-by does steady whole later = let plain = does (λ key. None) (not lists) 0 (not-closed lists) in record { does = does; whole = whole-so steady (whole plain); later = later plain }
+
+pub nothing-shed : {X S : Type 0} {lists : Bool} {t : Tables} {values : IndexMap ℕ X S} {step : Core → Core → Type 0} → IsWhole t
+    → ((stored : ℕ → Option Blob) (closed : Bool) (failures : ℕ) → lists ≡ not closed → step (core_of t stored closed failures) (core_of t stored closed failures)) → DoesShed lists t values step t values
+nothing-shed {t = t} whole does = record { does = does; whole = whole; later = λ later. later; sheds = sheds-still t.holdings _ whole.steady }
+
+-- handles widen, and nodes are told as they were
+pub widens-does : (t : Tables) (h : Handles) (nodes : IndexMap ℕ NodeRow _) → IsWhole t → Widens t.holdings.handles h → ((n : ℕ) → counts_at nodes n ≡ counts_at t.holdings.nodes n)
+    → ((n : ℕ) → refs_at nodes n ≡ refs_at t.holdings.nodes n) → Does t OnlyRoom (record t { holdings = record t.holdings { handles = h; nodes = nodes } })
+widens-does t h nodes whole e counts refs =
+    does-so (λ stored closed failures. grind (arith, nat_tests, e.rows, e.capacity, counts))
+    (record { sound = e.sound; next = e.next (t.holdings.last_handle + 1) whole.steady.next; fits = grind (arith, nat_tests, whole.steady.fits, e.rows, counts, refs) })
+    (λ room. alike-goes whole.core (room-alike room)) refl refl
+
+-- and then the cache
+pub learns-does : (t u : Tables) (cache : IndexMap (ℕ × ℕ) NodeNumber _) → Does t OnlyRoom u → ((kind key : ℕ) → known_at cache kind key ≡ known_at u.cache kind key)
+    → Does t OnlyRoom (record u { cache = cache })
+learns-does t u cache made known =
+    let learns : Does u OnlyRoom (record u { cache = cache }) = does-so (λ stored closed failures. grind (arith, nat_tests, known)) made.whole.steady
+    (λ room. alike-goes made.whole.core (room-alike room)) refl refl in
+    does-then made learns (λ stored closed failures one two. grind (arith, nat_tests))
+
+-- the same, of a step that follows from it
+pub does-as : {old new : Tables} {one two : Core → Core → Type 0} → Does old one new
+    → ((stored : ℕ → Option Blob) (closed : Bool) (failures : ℕ) → one (core_of old stored closed failures) (core_of new stored closed failures)
+    → two (core_of old stored closed failures) (core_of new stored closed failures)) → Does old two new
+does-as step so = record { does = λ stored closed failures. so stored closed failures (step.does stored closed failures); whole = step.whole; later = step.later }

@@ -1,33 +1,27 @@
 -- Where no node falls any more, all has gone that had to go, and no more. Values that go as nodes fall.
-use Rattle.pagable_tables.proofs.Alive.{and_one, entries-more, entries-none, gives-sums, kept-more, left-more, left-none, none-entered, none-listed, of_list, one-le, ones, sum-most, times-left}
-use Rattle.pagable_tables.proofs.{Alive.with-entry, Fitting.{cell-keyed, counted, forced, listing-is, no-more, open-then, which}, Words.{Alike, AreNewEntries, Begins, Bool, Cell, Core, Counts, Error}}
-use Rattle.pagable_tables.proofs.Words.{Falls, FallsBy, GivesUp, HandleNumber, HandleRow, HasFallen, HasPlaces, Holdings, IsApart, IsClosed, IsFalling, IsLeast, IsListRefusal, IsUnlisted, IsWithin}
-use Rattle.pagable_tables.proofs.Words.{List, LoadNumber, MustList, NodeNumber, None, Option, Owner, Result, Sheds, SoFar, Some, Steps, TellsListing, ValueStays, [], and_parts, ap, append-nil}
-use Rattle.pagable_tables.proofs.Words.{append_assoc, arith, cases_Bool, cases_eq, cell_in, counts_at, entries_of, entry, fallen, falls_in, false, filter, filter-append, find_row, first_cause}
-use Rattle.pagable_tables.proofs.Words.{has_value, held, held_outside, if◌then◌else◌, inl, inr, is_at, is_handle, is_keyed, is_listing, is_outside, is_owned_by, is_owned_in, is_owner, is_pin}
-use Rattle.pagable_tables.proofs.Words.{is_plain_pin, is_share, is_shared, is_some, is_valued, left_rows, length, length-append, live, map-append, nat_eq, nat_tests, not, one, only_handle}
-use Rattle.pagable_tables.proofs.Words.{owner_value, owns, owns_nothing, passes_in, pins, pins_in, pins_outside, refl, subst, sum_by, sum_by-append, sum_by-cons, sum_by-le-sum_by, sym, times, told_by}
-use Rattle.pagable_tables.proofs.{Words.{true, valued, with_tables, ℕ, ◌&&◌, ◌++◌, ◌+◌, ◌<◌, ◌==◌, ◌||◌, ◌∙◌, ◌∷◌, ◌≡◌, ◌≢◌, ◌≤◌, ◌⊎◌}, Worlds.same-cache}
+use Rattle.pagable_tables.proofs.Alive.{and_one, entries-more, entries-none, gives-sums, kept-more, left-more, left-none, none-entered, none-listed, of_list, one-le, ones, sum-most, with-entry}
+use Rattle.pagable_tables.proofs.{Fitting.{cell-keyed, counted, forced, listing-is, no-more, open-then, which}, Words.{Alike, AreNewEntries, Begins, Bool, Cell, Core, Counts, Error, Falls, FallsBy}}
+use Rattle.pagable_tables.proofs.Words.{GivesUp, HandleNumber, HandleRow, HasFallen, HasPlaces, Holdings, IsApart, IsClosed, IsFalling, IsLeast, IsListRefusal, IsUnlisted, IsWithin, List, LoadNumber}
+use Rattle.pagable_tables.proofs.Words.{MustList, NodeNumber, None, Option, Owner, Result, Sheds, SoFar, Some, Steps, TellsListing, ValueStays, [], and_parts, ap, append-nil, append_assoc, arith}
+use Rattle.pagable_tables.proofs.Words.{cases_Bool, cases_eq, cell_in, counts_at, entries_of, entry, fallen, falls_in, false, filter, filter-append, find_row, has_value, held, if◌then◌else◌, inl, inr}
+use Rattle.pagable_tables.proofs.Words.{is_at, is_handle, is_keyed, is_listing, is_outside, is_owned_by, is_owned_in, is_owner, is_pin, is_plain_pin, is_share, is_shared, is_some, is_valued}
+use Rattle.pagable_tables.proofs.Words.{left_rows, length, length-append, live, map-append, nat_tests, not, one, only_handle, or_else, owner_value, owns, owns_nothing, passes_in, pins, pins_in, refl}
+use Rattle.pagable_tables.proofs.Words.{subst, sum_by, sum_by-cons, sum_by-le-sum_by, sym, times, told_by, true, valued, with_tables, ℕ, ◌&&◌, ◌++◌, ◌+◌, ◌<◌, ◌==◌, ◌||◌, ◌∙◌, ◌∷◌, ◌≡◌, ◌≢◌, ◌≤◌, ◌⊎◌}
+use Rattle.{pagable_tables.proofs.Worlds.same-cache, pagable_world.proofs.Elements.{at-most-sum, sum-none}}
 
 -- nothing falls
 pub none-falls-in : (t : Holdings) → IsFalling t [] owns_nothing → (n : ℕ) → falls_in (counts_at t.nodes n) ≡ false
 none-falls-in t w n = let m = w.fits.marked n in grind (arith, nat_tests)
 
 none-owned : (n : ℕ) (rows : List HandleRow) → ((q : ℕ) → sum_by (λ h. owns h n q) rows ≡ 0) → times (is_owned_by (owner_value n)) rows ≡ 0
-none-owned n [] none = refl
-none-owned n (x ∷ xs) none =
-    let rest = none-owned n xs (λ q. let k = sum_by-cons (λ h. owns h n q) x xs in let l = none q in omega arith) in
-    grind (arith, nat_tests, sum_by-cons (λ h. one (is_owned_by (owner_value n) h)) x xs, sum_by-cons (λ h. owns h n x.number.0) x xs)
+none-owned n rows none =
+    sum-none (λ h. one (is_owned_by (owner_value n) h)) rows (λ h among. grind (arith, nat_tests, none h.number.0, at-most-sum (λ x. owns x n h.number.0) rows h among))
 
 module _ (before w : Core) (given : ℕ → Bool) (lists : Bool) (t : Holdings) (f : SoFar before w given lists t) (whole : IsFalling t [] owns_nothing) where
-  down : (n : ℕ) (keyed : Bool) → is_keyed w n ≡ keyed → (if keyed then nat_eq (pins_outside w.rows f.gone n) 0 else nat_eq (held n f.entries) 0 && nat_eq
-      (held_outside w.rows f.gone n) 0) ≡ true → HasFallen (counts_at t.nodes) (live t.handles.places.items) n
-  down n true e lost = grind (arith, nat_tests, counted f (is_pin n), entries-none (is_pin n) (λ h mode owner. grind (arith, nat_tests)) w.last.handle f.entries f.new)
-  down n false e lost = let a = counted f (is_at n) in inl (grind (arith, nat_tests))
-
   pub closed : IsClosed w.rows (is_keyed w) f.entries f.gone
   closed n lost =
-      let fell = down n (is_keyed w n) refl lost in
+      let pinless = entries-none (is_pin n) (λ h mode owner. grind (arith, nat_tests)) w.last.handle f.entries f.new in
+      let fell : HasFallen (counts_at t.nodes) (live t.handles.places.items) n = grind (arith, nat_tests, cases_Bool (is_keyed w n), counted f (is_pin n), counted f (is_at n)) in
       let fits = whole.fits in
       let none = none-owned n (live t.handles.places.items) (λ q. grind (arith, nat_tests)) in
       omega (arith, counted f (is_owned_by (owner_value n)))
@@ -94,12 +88,9 @@ unlisted-apart {w = w} {t = t} {x = x} f g same owner =
     let q = x.number.0 in
     let rows = ap (λ (h : Holdings). live h.handles.places.items) same in
     let none : times (of_list q) (live t.handles.places.items) ≡ 0 = sym (ap (times (of_list q)) rows) ∙ none-listed g.leaves owner in
-    let a = ap (times (of_list q)) f.rows in
-    let b = sum_by-append (λ h. one (of_list q h)) (left_rows f.gone w.rows) f.entries in
-    let d = times-left (of_list q) f.gone w.rows in
     record {
       unentered = none-entered q w.last.handle (live t.handles.places.items) (left_rows f.gone w.rows) f.entries f.rows f.new none;
-      kept = list-kept f.gone q w.rows w.list (f.begins.listed q) (omega arith);
+      kept = list-kept f.gone q w.rows w.list (f.begins.listed q) (omega (arith, counted f (of_list q)));
     }
 
 -- handles are no more
@@ -110,12 +101,9 @@ gives-fewer {old} {new} g = omega (arith, gives-sums g (λ h. 1), ones (live old
 must-as : {before w w' : Core} {n : ℕ} (rows : List HandleRow) (cells : ℕ → Option Cell) → MustList before w w' n → MustList before (record w { rows = rows }) (record w' { cells = cells }) n
 must-as rows cells m = record { pinned = m.pinned; unpinned = m.unpinned; unkeyed = m.unkeyed; unshared = m.unshared; stands_open = m.stands_open }
 
-refusal-as : (w w' : Core) (rows : List HandleRow) (cells : ℕ → Option Cell) → length rows ≡ length w.rows → (e : Error) → IsListRefusal w w' e → IsListRefusal (record w { rows = rows }) (record w' { cells = cells }) e
-refusal-as w w' rows cells long x5 r = grind (arith, nat_tests)
-
 tells-as : {before w w' : Core} {entries : List HandleRow} (rows : List HandleRow) (cells : ℕ → Option Cell) → length rows ≡ length w.rows → (r : Result (Unit {0}) Error)
     → TellsListing before w entries r w' → TellsListing before (record w { rows = rows }) entries r (record w' { cells = cells })
-tells-as rows cells long x4 tells = grind (arith, nat_tests, must-as, refusal-as)
+tells-as rows cells long x4 tells = grind (arith, nat_tests, must-as)
 
 -- A handle has gone, or it stays without its pin; then an entry may have come.
 module _ {before w : Core} {given : ℕ → Bool} {lists stays : Bool} {t popped new : Holdings} {stack : List ℕ} {x : HandleRow} (f : SoFar before w given lists t)
@@ -174,13 +162,8 @@ module _ {before w : Core} {given : ℕ → Bool} {lists stays : Bool} {t popped
   -- a cell must be listed: its last pin had gone before, or it has gone now
   must-before : (n : ℕ) → MustList before w (with_tables w new) n → MustList before w (with_tables w t) n ⊎ ((n ≡ x.node.0) × (wanted ≡ true))
   must-before n must =
-      elim (cases_Bool (is_pin n x)) [
-        | inr other ↦ let a = left n in let z = must.unpinned in let k = ap one other in
-            inl (record { pinned = must.pinned; unpinned = omega arith; unkeyed = must.unkeyed; unshared = must.unshared; stands_open = must.stands_open })
-        | inl pin ↦
-            let shares = no-more f (is_share n) (λ h mode owner. let m : is_shared h.mode ≡ false = ap is_shared mode in grind (arith, nat_tests)) in
-            inr (grind (arith, nat_tests, here (is_share n), must.unshared, ap one pin, left n, must.unpinned, is, cell-keyed))
-      ]
+      let shares = no-more f (is_share n) (λ h mode owner. let m : is_shared h.mode ≡ false = ap is_shared mode in grind (arith, nat_tests)) in
+      grind (arith, nat_tests, cases_Bool (is_pin n x), here (is_share n), left n, must.unshared, must.unpinned, is, cell-keyed)
 
   must-kept : (n : ℕ) → MustList before w (with_tables w t) n → MustList before w (with_tables w new) n
   must-kept n m = let a = left n in let b = m.unpinned in record { pinned = m.pinned; unpinned = omega arith; unkeyed = m.unkeyed; unshared = m.unshared; stands_open = m.stands_open }
@@ -202,17 +185,14 @@ module _ {before w : Core} {given : ℕ → Bool} {lists stays : Bool} {t popped
       kept : (u : Option Error) → t.unlisted ≡ u → (g.listed ≡ true) ⊎ (wanted ≡ false) → new.unlisted ≡ u
       kept u is s = ap (λ (h : Holdings). h.unlisted) g.same ∙ g.comes.told s ∙ ap (λ (h : Holdings). h.unlisted) same ∙ is
 
-      late : (u : Option Error) → t.unlisted ≡ u → g.listed ≡ false → wanted ≡ true → (e : Error) × IsUnlisted gap e × (new.unlisted ≡ first_cause u e)
-      late u is none want = let y = g.comes.why none want in (y.0, y.1, ap (λ (h : Holdings). h.unlisted) g.same ∙ y.2 ∙ ap (λ u. first_cause u y.0) (ap (λ (h : Holdings). h.unlisted) same ∙ is))
-
-      told-so : (u : Option Error) → new.unlisted ≡ u → TellsListing before w entries (told_by u) (with_tables w new) → TellsListing before w entries (told_by new.unlisted) (with_tables w new)
-      told-so u is = subst (λ v. TellsListing before w entries (told_by v) (with_tables w new)) (sym is)
+      late : (u : Option Error) → t.unlisted ≡ u → g.listed ≡ false → wanted ≡ true → (e : Error) × IsUnlisted gap e × (new.unlisted ≡ or_else u (Some e))
+      late u is none want = let y = g.comes.why none want in (y.0, y.1, ap (λ (h : Holdings). h.unlisted) g.same ∙ y.2 ∙ ap (λ u. or_else u (Some y.0)) (ap (λ (h : Holdings). h.unlisted) same ∙ is))
 
       by : (u : Option Error) → t.unlisted ≡ u → TellsListing before w f.entries (told_by u) (with_tables w t) → TellsListing before w entries (told_by new.unlisted) (with_tables w new)
       by (Some e) is tells =
           let a = tells.not_all in
-          told-so (Some e) (elim (which g.listed wanted) [ inl s ↦ kept (Some e) is s | inr n ↦ (late (Some e) is n.0 n.1).2 ])
-          (record {
+          let so : new.unlisted ≡ Some e = elim (which g.listed wanted) [ inl s ↦ kept (Some e) is s | inr n ↦ (late (Some e) is n.0 n.1).2 ] in
+          rw so (record {
             all = tt;
             not_all = (
               a.0,
@@ -222,17 +202,8 @@ module _ {before w : Core} {given : ℕ → Bool} {lists stays : Bool} {t popped
             );
           })
       by None is tells = elim (which g.listed wanted) [
-        | inl s ↦ told-so None (kept None is s) (record {
-          all = λ n must. let t = tells.all n in grind (
-            arith,
-            nat_tests,
-            held-more,
-            must-before,
-            other,
-            cases_Bool g.listed,
-            entry,
-            none-held,
-          );
+        | inl s ↦ rw (kept None is s) (record {
+          all = λ n must. grind (arith, nat_tests, tells.all n, held-more, must-before, other, cases_Bool g.listed, entry, none-held);
           not_all = tt;
         })
         | inr (none, want) ↦
@@ -241,7 +212,7 @@ module _ {before w : Core} {given : ℕ → Bool} {lists stays : Bool} {t popped
             let fewer : length (live g.left.places.items) ≤ length w.rows =
             omega (arith, g.leaves.sums (λ h. 1), ones (live g.left.places.items), ones (live popped.handles.places.items), ap length before-rows, one-le stays) in
             let why : IsListRefusal w (with_tables w new) y.0 = grind (arith, nat_tests, last, since, added, length-append, fewer, y.1) in
-            told-so (Some y.0) y.2 (record { all = tt; not_all = (x.node.0, new-must want, omega (arith, held-more x.node.0, l, none-held want), why) })
+            rw y.2 (record { all = tt; not_all = (x.node.0, new-must want, omega (arith, held-more x.node.0, l, none-held want), why) })
       ]
 
   pub entered-on : (rows : List HandleRow) → length rows ≡ length w.rows → (given' gone : ℕ → Bool) → Begins before (record w { rows = rows }) lists
@@ -317,13 +288,10 @@ pub steps-on : (before w : Core) (given : ℕ → Bool) (lists : Bool) (t new : 
 steps-on before w given lists t new stack r f falling some s =
     elim s.what [
       | inl done ↦ let stay = s.cells in subst (SoFar before w given lists) (sym done.1) (grind (arith, nat_tests, tells-as, must-as))
-      | inr gone ↦ owned gone.0 gone.1 gone.3
+      | inr (x, n, is, by) ↦
+          one-goes given f by.gives by.same by.counts falling.fits.pinned (f.few some) (unlisted-apart f by.gives by.same (ap (is_owner Owner.List) by.owner))
+          (within-less given (and_one f.gone x.number.0) given f.gone w.rows (λ r. grind (arith, nat_tests)) f.holds) (least-more f by)
     ]
-  where
-    owned : (x : HandleRow) (n : ℕ) → FallsBy t x n lists new → SoFar before w given lists new
-    owned x n by =
-        one-goes given f by.gives by.same by.counts falling.fits.pinned (f.few some) (unlisted-apart f by.gives by.same (ap (is_owner Owner.List) by.owner))
-        (within-less given (and_one f.gone x.number.0) given f.gone w.rows (λ r. grind (arith, nat_tests)) f.holds) (least-more f by)
 
 -- a handle is given that the list doesn't own, or one apart from the list
 pub gives-on : (before w : Core) (given : ℕ → Bool) (lists : Bool) (t new : Holdings) (stack : List ℕ) (x : HandleRow) → (f : SoFar before w given lists t)

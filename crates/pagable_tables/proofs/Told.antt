@@ -1,41 +1,96 @@
 -- A world that is told alike, or whose rows are changed one by one, stays whole, while rows and list are in their places.
-use Rattle.pagable_tables.proofs.{Alive.{not-so, of_list}, Kept.{GoOn, HasLike, IsEntry, IsIn, IsNew, IsOld, among-both, among-changed, among-left, among-more, among-one, at-most-sum, at-then}}
-use Rattle.pagable_tables.proofs.Kept.{counted, each-changed, entries-listed, entry-is, found-among, held-some, holder-in, is-in, keeps-whole, keyed_in, loads-stay, once, one-left, ordered-entries}
-use Rattle.pagable_tables.proofs.{Kept.{ordered-map, ordered-push, same-rows, stays-old, sum-map, sum-none, there-then, type_in, within-goes}, Words.{Alike, AllPairs, AllPairs-filter, Among, ArcRef}}
-use Rattle.pagable_tables.proofs.Words.{ArePlaced, Bool, Cell, CloneCall, Core, Err, Error, Falls, HandleNumber, HandleRow, IsEntryWhole, IsHandleBefore, IsWhole, List, LoosenCall, Makes, MayHold}
-use Rattle.pagable_tables.proofs.Words.{MayOwnLoad, Mode, NodeNumber, None, Ok, OpenLoad, Option, OptionalDataKey, Owner, Owns, PinCall, Pinning, Result, SameAt, Some, Suits, [], ap, arith, changed}
-use Rattle.pagable_tables.proofs.Words.{fallen, false, filter, find_row, greatest, has_key, held, if◌then◌else◌, inl, inr, is_at, is_handle, is_loose, is_named_by, is_owned_by, is_owner, is_pin}
-use Rattle.pagable_tables.proofs.Words.{is_pinned, is_pinning, is_share, is_shared, is_some, is_valued, left_rows, length, map, moved, nat_lt, nat_tests, next_node, not, one, option_map, or_else}
-use Rattle.pagable_tables.proofs.Words.{owner_value, reference_fault, references_fault, refl, row_at, row_of, subst, sum_by-append, sum_by_push, sym, times, true, updated, with_handle, with_mode}
-use Rattle.{pagable_tables.proofs.Words.{with_node, with_pin, ℕ, ◌&&◌, ◌++◌, ◌+◌, ◌<◌, ◌==◌, ◌||◌, ◌∙◌, ◌∷◌, ◌≡◌, ◌≢◌, ◌≤◌, ◌⊎◌}, std.proofs.lemmas.Option.slice_get-map}
+use Rattle.pagable_tables.proofs.{Alive.{and-left, not-so, of_list}, Kept.{GoOn, HasLike, IsEntry, IsIn, IsNew, IsOld, among-both, among-changed, among-left, among-more, among-one, at-most-sum}}
+use Rattle.pagable_tables.proofs.Kept.{at-then, counted, each-changed, entries-listed, entry-is, found-among, found-push, held-some, holder-in, is-in, keeps-whole, keyed_in, loads-stay, once}
+use Rattle.pagable_tables.proofs.{Kept.{one-left, ordered-entries, ordered-map, ordered-push, same-rows, stays-old, sum-map, sum-none, there-then, type_in, within-goes}, Next.{no-entry, owned}}
+use Rattle.pagable_tables.proofs.{Next.{passes-here, passes-left, unlisting}, Words.{Alike, AllPairs, AllPairs-filter, Among, ArcRef, ArePlaced, Bool, Cell, Core, Err, Error, Falls, HandleNumber}}
+use Rattle.pagable_tables.proofs.Words.{HandleRow, IsEntryWhole, IsHandleBefore, IsWhole, Last, List, Makes, MayHold, MayOwnLoad, Mode, NodeNumber, None, Ok, OpenLoad, Option, OptionalDataKey, Owner}
+use Rattle.pagable_tables.proofs.Words.{Owns, Result, SameAt, Some, Suits, [], ap, arith, changed, fallen, false, filter, find_row, greatest, has_key, held, if◌then◌else◌, inl, inr, is_at, is_handle}
+use Rattle.pagable_tables.proofs.Words.{is_loose, is_named_by, is_owned_by, is_owner, is_pin, is_share, is_shared, is_some, is_valued, left_rows, length, map, moved, nat_lt, nat_tests, next_node}
+use Rattle.pagable_tables.proofs.Words.{not, one, option_map, or_else, owner_value, reference_fault, references_fault, refl, row_at, row_of, subst, sum_by-append, sum_by_push, sym, times, true}
+use Rattle.pagable_tables.proofs.Words.{updated, with_handle, with_mode, with_node, with_pin, ℕ, ◌&&◌, ◌++◌, ◌+◌, ◌<◌, ◌==◌, ◌||◌, ◌∙◌, ◌∷◌, ◌≡◌, ◌≢◌, ◌≤◌, ◌⊎◌}
+use Rattle.std.proofs.lemmas.Option.{slice_get-map}
 
--- the world with room for just what is there
+-- ---- what loads and workers own is what they owned, or has come since
+
+-- what one owns once handles have moved to another
+pub owned-moved : (s : ℕ → Bool) (o a : Owner) (q : ℕ) (rows : List HandleRow) → is_owner a o ≡ false → owned a q (moved s o rows) ≡ (owned a q rows && not (s q))
+unfolding find_row
+owned-moved s o a q [] other = refl
+owned-moved s o a q (x ∷ xs) other = grind (arith, nat_tests, owned-moved s o a q xs other)
+
+-- loads and workers give up what they have together
+abbrev pub is_giver : Owner → Bool
+is_giver (Owner.Load l) = true
+is_giver (Owner.Worker v) = true
+is_giver _ = false
+
+pub record IsNewer (rows rows' : List HandleRow) (given given' : ℕ) : Type 0 where
+  pub last : given ≤ given'
+  pub kept : (o : Owner) (q : ℕ) → is_giver o ≡ true → owned o q rows' ≡ true → (owned o q rows ≡ true) ⊎ (given < q)
+
+abbrev pub OnlyNewer : Core → Core → Type 0
+OnlyNewer w w' = IsNewer w.rows w'.rows w.last.handle w'.last.handle
+
+pub newer-alike : {w w' : Core} → Alike w w' → OnlyNewer w w'
+newer-alike {w} {w'} a = record { last = (let e = ap (λ (l : Last). l.handle) a.last in omega arith); kept = λ o q gives own. inl (sym (ap (owned o q) a.rows) ∙ own) }
+
+pub newer-then : {r s t : List HandleRow} {i j k : ℕ} → IsNewer r s i j → IsNewer s t j k → IsNewer r t i k
+newer-then p q = grind (arith, nat_tests)
+
+pub newer-handle : (w : Core) (node : NodeNumber) (mode : Mode) (owner : Owner) → OnlyNewer w (with_handle w node mode owner)
+newer-handle w node mode owner = record { last = omega arith; kept = λ o q gives own. grind (arith, nat_tests, found-push, found-among) }
+
+pub newer-moved : (w : Core) (s : ℕ → Bool) (o : Owner) → is_giver o ≡ false → OnlyNewer w (record w { rows = moved s o w.rows })
+newer-moved w s o other = grind (arith, nat_tests, and-left, owned-moved)
+
+-- a handle's mode says nothing of who owns it
+pub owned-mode : (o : Owner) (q : ℕ) (test : HandleRow → Bool) (mode : Mode) (rows : List HandleRow) → owned o q (changed test (λ row. record row { mode = mode }) rows) ≡ owned o q rows
+owned-mode o q test mode [] = refl
+owned-mode o q test mode (x ∷ xs) = grind (arith, nat_tests, passes-here, owned-mode o q test mode xs)
+
+pub newer-mode : (w : Core) (h : HandleNumber) (mode : Mode) → OnlyNewer w (with_mode w h mode)
+newer-mode w h mode = record { last = omega arith; kept = λ o q gives own. inl (sym (owned-mode o q (is_handle h.0) mode w.rows) ∙ own) }
+
+pub newer-falls : {before u w' : Core} {given : ℕ → Bool} {r : Result (Unit {0}) Error} → Falls before u given r w' → OnlyNewer u w'
+newer-falls {before} {u} {w'} falls = grind (arith, nat_tests, passes-left, no-entry, unlisting)
+
+-- ---- a world that is told alike
+
+-- the world while its storage is taken to be open, and with room for just what is there
+abbrev pub opened : Core → Core
+opened w = record w { closed = false }
+
 abbrev pub roomy : Core → Core
-roomy w = record w { places = record { handles = length w.rows; entries = length w.list } }
+roomy w = record w { closed = false; places = record { handles = length w.rows; entries = length w.list } }
 
-module _ {m w' : Core} (whole : IsWhole m) (rows : w'.rows ≡ m.rows) (cells : SameAt m.cells w'.cells) (list : w'.list ≡ m.list)
-    (cache : (kind key n : ℕ) → w'.cache kind key ≡ Some n → m.cache kind key ≡ Some n)
-    (closed : w'.closed ≡ m.closed) (loads : SameAt m.loads w'.loads) (workers : SameAt m.workers w'.workers) (last : w'.last ≡ m.last) (placed : ArePlaced w') where
-  pub told-whole : IsWhole w'
-  told-whole =
-      let v : Core = record m { cache = w'.cache; stored = w'.stored; failures = w'.failures; places = w'.places } in
+module _ {m : Core} (w' : Core) (whole : IsWhole m) (rows : w'.rows ≡ m.rows) (cells : SameAt m.cells w'.cells) (list : w'.list ≡ m.list)
+    (cache : (kind key n : ℕ) → w'.cache kind key ≡ Some n → m.cache kind key ≡ Some n) (loads : SameAt m.loads w'.loads) (workers : SameAt m.workers w'.workers) (last : w'.last ≡ m.last) where
+  pub told-whole : ArePlaced (opened w') → IsWhole (opened w')
+  told-whole placed =
+      let v : Core = record m { cache = w'.cache; stored = w'.stored; closed = false; failures = w'.failures; places = w'.places } in
       let on : GoOn m v = same-rows whole refl (λ n. refl) refl refl (omega arith) in
-      let same : w' ≡ v = λ i. record w' { rows = rows i; cells = λ n. cells n i; list = list i; closed = closed i; loads = λ l. loads l i; workers = λ u. workers u i; last = last i } in
+      let same : opened w' ≡ v = λ i. record w' { rows = rows i; cells = λ n. cells n i; list = list i; closed = false; loads = λ l. loads l i; workers = λ u. workers u i; last = last i } in
       let places : (length m.rows ≤ w'.places.handles) × (length m.list ≤ w'.places.entries) = (omega (arith, placed.rows, ap length rows), omega (arith, placed.list, ap length list)) in
       let known : (kind key n : ℕ) → w'.cache kind key ≡ Some n → IsEntryWhole m kind n = λ kind key n is. whole.cache kind key n (cache kind key n is) in
-      let shut : m.closed ≡ true → (m.list ≡ []) × ((kind key : ℕ) → w'.cache kind key ≡ None) =
-      λ so. let s = whole.shut so in (s.0, λ kind key. let o = s.1 kind key in let c = cache kind key in grind (arith, nat_tests)) in
       subst IsWhole (sym same) (keeps-whole whole (grind (arith, nat_tests, is-in whole, loads-stay)))
 
 pub roomy-whole : {w : Core} → IsWhole w → IsWhole (roomy w)
-roomy-whole {w} whole = told-whole {m = w} {w' = roomy w} whole refl (λ n. refl) refl (λ kind key n is. is) refl (λ l. refl) (λ v. refl) refl (record { rows = omega arith; list = omega arith })
+roomy-whole {w} whole = told-whole (roomy w) whole refl (λ n. refl) refl (λ kind key n is. is) (λ l. refl) (λ v. refl) refl (record { rows = omega arith; list = omega arith })
 
 -- what a call has made directly, told alike
-pub settles : {m w' : Core} → IsWhole (roomy m) → Alike m w' → ArePlaced w' → IsWhole w'
-settles {m} {w'} whole a placed = told-whole {m = roomy m} {w' = w'} whole a.rows a.cells a.list a.cache.only a.closed a.loads a.workers a.last placed
+pub settles : {m w' : Core} → IsWhole (roomy m) → Alike m w' → ArePlaced (opened w') → IsWhole (opened w')
+settles {m} {w'} whole a placed = told-whole {m = roomy m} w' whole a.rows a.cells a.list a.cache.only a.loads a.workers a.last placed
 
-pub alike-whole : {w w' : Core} → IsWhole w → Alike w w' → ArePlaced w' → IsWhole w'
-alike-whole whole a placed = settles (roomy-whole whole) a placed
+-- What is shown of a call: the world is whole then, and loads and workers own what they owned, or what has come since.
+pub record Goes (w w' : Core) : Type 0 where
+  pub whole : ArePlaced (opened w') → IsWhole (opened w')
+  pub newer : OnlyNewer w w'
+
+pub settled : {w m w' : Core} → Alike m w' → IsWhole (roomy m) → OnlyNewer w m → Goes w w'
+settled a whole newer = record { whole = settles whole a; newer = newer-then newer (newer-alike a) }
+
+pub alike-goes : {w w' : Core} → IsWhole (opened w) → Alike w w' → Goes w w'
+alike-goes whole a = record { whole = settles (roomy-whole whole) a; newer = newer-alike a }
 
 -- beside each row of the one stands one of the other, of its node, that is Shared or not as it is
 pub record AllLike (rows rows' : List HandleRow) : Type 0 where
@@ -46,6 +101,13 @@ GoesOn before u = AllLike before.rows u.rows
 
 pub stays-on : (w : Core) → GoesOn w w
 stays-on w = record { like = λ x among. record { row = x; there = among; at = refl; same = refl } }
+
+-- what w has become on the way of a call
+abbrev pub Turns : Core → Core → Type 0
+Turns w m = IsWhole (roomy m) × GoesOn w m × OnlyNewer w m
+
+pub unturned : (w : Core) → IsWhole (roomy w) → Turns w w
+unturned w whole = (whole, stays-on w, record { last = omega arith; kept = λ o q gives own. inl own })
 
 pub then-on : {a b c : List HandleRow} → AllLike a b → AllLike b c → AllLike a c
 then-on p q = record { like = λ x among. let y = p.like x among in let z = q.like y.row y.there in record { row = z.row; there = z.there; at = z.at ∙ y.at; same = z.same ∙ y.same } }
@@ -71,8 +133,8 @@ module _ {w : Core} (whole : IsWhole w) (test : HandleRow → Bool) (f : HandleR
   }
 
   pub turned-whole : (list : List HandleNumber) → ((q : ℕ) → times (λ (h : HandleNumber). h.0 == q) list ≡ times (of_list q) (changed test f w.rows))
-      → ((x : HandleRow) → Among w.rows x → test x ≡ true → IsIn w (f x).mode (f x).owner) → (w.closed ≡ true → list ≡ []) → IsWhole (roomy (record w { rows = changed test f w.rows; list = list }))
-  turned-whole list listed owners none =
+      → ((x : HandleRow) → Among w.rows x → test x ≡ true → IsIn w (f x).mode (f x).owner) → IsWhole (roomy (record w { rows = changed test f w.rows; list = list }))
+  turned-whole list listed owners =
       let turned = roomy (record w { rows = changed test f w.rows; list = list }) in
       let on : GoOn w turned = record {
         last = (omega arith, omega arith, omega arith);
@@ -93,12 +155,12 @@ module _ {w : Core} (whole : IsWhole w) (test : HandleRow → Bool) (f : HandleR
       → ((x : HandleRow) → Among w.rows x → test x ≡ true → IsIn w (f x).mode (f x).owner) → IsWhole (roomy (record w { rows = changed test f w.rows }))
   turned-still same owners =
       turned-whole w.list (λ q. whole.owners_there.listed q ∙ sym (sum-map (λ x. one (of_list q x)) (λ x. one (of_list q x)) to w.rows (λ x among.
-      each-changed test f (λ y. one (of_list q y) ≡ one (of_list q x)) x (λ e. ap (λ k. one (k == q && is_owned_by Owner.List (f x))) (number x) ∙ ap (λ b. one (is_handle q x && b)) (same x among e)) (λ e. refl)))) owners (λ so. (whole.shut so).0)
+      each-changed test f (λ y. one (of_list q y) ≡ one (of_list q x)) x (λ e. ap (λ k. one (k == q && is_owned_by Owner.List (f x))) (number x) ∙ ap (λ b. one (is_handle q x && b)) (same x among e)) (λ e. refl)))) owners
 
 -- ---- another mode
 
 pub moded : {w : Core} → IsWhole w → (h : HandleNumber) (row : HandleRow) (mode : Mode) → row_at w h ≡ Some row → is_shared mode ≡ is_shared row.mode
-    → (is_loose row.mode ≡ true → is_loose mode ≡ true) → (row.owner ≡ Owner.List → mode ≡ Mode.LooseUnpinned) → IsWhole (roomy (with_mode w h mode)) × GoesOn w (with_mode w h mode)
+    → (is_loose row.mode ≡ true → is_loose mode ≡ true) → (row.owner ≡ Owner.List → mode ≡ Mode.LooseUnpinned) → Turns w (with_mode w h mode)
 moded {w} whole h row mode live shared loose waits =
     let the-row : (x : HandleRow) → Among w.rows x → is_handle h.0 x ≡ true → x ≡ row =
     λ x among is. let a = found-among h.0 w.rows row live in once w.rows whole.handles.ordered x row among a.0 (let b = a.1 in grind (arith, nat_tests)) in
@@ -107,6 +169,7 @@ moded {w} whole h row mode live shared loose waits =
     λ x among e was. loose (ap (λ (y : HandleRow). is_loose y.mode) (sym (the-row x among e)) ∙ was) in (
       turned-still whole (is_handle h.0) (λ x. record x { mode = mode }) (λ x. refl) (λ x. refl) same loosely (λ x among e. refl) (λ x among e. let i = is-in whole x among in let r = the-row x among e in grind (arith, nat_tests, waits)),
       turned-on whole (is_handle h.0) (λ x. record x { mode = mode }) (λ x. refl) (λ x. refl) same loosely,
+      newer-mode w h mode,
     )
 
 -- ---- a handle comes, under the next number
@@ -140,34 +203,21 @@ module _ {w : Core} (whole : IsWhole w) (x : HandleRow) (cells : ℕ → Option 
       } in
       let listed : (q : ℕ) → times (λ (h : HandleNumber). h.0 == q) w.list ≡ times (of_list q) grown.rows = λ q.
       grind (arith, nat_tests, sum_by_push (λ h. one (of_list q h)) w.rows x, whole.owners_there.listed q, not-list w x.owner holder) in
-      let owners : (h : HandleRow) → Among grown.rows h → IsIn w h.mode h.owner = λ h among. elim (among-both w.rows (x ∷ []) h among) [
-        | inl old ↦ is-in whole h old
-        | inr new ↦ subst (λ (y : HandleRow). IsIn w y.mode y.owner) (sym (among-one x h new)) (holder-in w x.mode x.owner holder)
-      ] in
+      let owners : (h : HandleRow) → Among grown.rows h → IsIn w h.mode h.owner = λ h among.
+      grind (arith, nat_tests, among-both w.rows (x ∷ []) h among, among-one x h, is-in whole h, holder-in w x.mode x.owner holder) in
       keeps-whole whole (grind (arith, nat_tests, loads-stay))
-
--- where a handle of a mode suits a node
-pub suits-like : {w : Core} (node : NodeNumber) (mode : Mode) → Suits w node mode → HasLike w.rows node.0 (is_shared mode)
-suits-like node mode suits = record { row = suits.row; there = suits.there; at = ap (λ (k : NodeNumber). k.0) suits.at; same = suits.shared }
 
 -- beside the handles that its node has
 pub beside : {w : Core} → IsWhole w → (node : NodeNumber) (mode : Mode) (owner : Owner) → HasLike w.rows node.0 (is_shared mode) → MayHold w owner → w.last.handle < greatest
-    → IsWhole (roomy (with_handle w node mode owner))
-beside {w} whole node mode owner like holder left =
-    grown-whole whole (row_of (w.last.handle + 1) node mode owner) w.cells w.last.node refl left (omega arith) whole.handles.within.1
-    (subst (λ n. is_some (w.cells n) ≡ true) like.at (there-then whole like.row like.there)) (λ n d. refl) (inl like) holder
-
-pub handle-on : (w : Core) (node : NodeNumber) (mode : Mode) (owner : Owner) → GoesOn w (with_handle w node mode owner)
-handle-on w node mode owner = record { like = λ x among. record { row = x; there = among-more w.rows _ x among; at = refl; same = refl } }
+    → Turns w (with_handle w node mode owner)
+beside {w} whole node mode owner like holder left = (
+  grown-whole whole (row_of (w.last.handle + 1) node mode owner) w.cells w.last.node refl left (omega arith) whole.handles.within.1
+      (subst (λ n. is_some (w.cells n) ≡ true) like.at (there-then whole like.row like.there)) (λ n d. refl) (inl like) holder,
+  record { like = λ x among. record { row = x; there = among-more w.rows _ x among; at = refl; same = refl } },
+  newer-handle w node mode owner,
+)
 
 -- ---- the world is whole once handles have fallen, but for what a closed storage has lost
-
--- the world while its storage is taken to be open
-abbrev pub opened : Core → Core
-opened w = record w { closed = false }
-
-pub alike-opened : {w w' : Core} → Alike w w' → Alike (opened w) (opened w')
-alike-opened a = grind (arith, nat_tests)
 
 -- What u has lost of a whole world m before handles fall: owners of the given handles, entries of the list that are given, and what the cache knew.
 pub record Loses (m u : Core) (given : ℕ → Bool) : Type 0 where
@@ -177,10 +227,10 @@ pub record Loses (m u : Core) (given : ℕ → Bool) : Type 0 where
   pub cache : (kind key n : ℕ) → u.cache kind key ≡ Some n → m.cache kind key ≡ Some n
   pub workers : (v : ℕ) → u.workers v ≡ true → m.workers v ≡ true
 
-module _ {before : Core} (m u : Core) {w' : Core} {given : ℕ → Bool} {r : Result (Unit {0}) Error} (whole : IsWhole (roomy (opened m))) (on : GoesOn before m) (lost : Loses m u given)
+module _ {before : Core} (m u : Core) {w' : Core} {given : ℕ → Bool} {r : Result (Unit {0}) Error} (whole : IsWhole (roomy m)) (on : GoesOn before m) (lost : Loses m u given)
     (f : Falls before (record u { rows = m.rows; cells = m.cells; last = m.last }) given r w') where
   abbrev after : Core
-  after = roomy (opened (fallen (record u { rows = m.rows; cells = m.cells; last = m.last }) f.gone f.entries))
+  after = roomy (fallen (record u { rows = m.rows; cells = m.cells; last = m.last }) f.gone f.entries)
 
   abbrev left : List HandleRow
   left = left_rows f.gone m.rows
@@ -192,14 +242,9 @@ module _ {before : Core} (m u : Core) {w' : Core} {given : ℕ → Bool} {r : Re
   entered : (n : ℕ) → 0 < held n f.entries → HasLike m.rows n false
   entered n some =
       let must = (f.only n some).0 in
-      let found = counted (λ h. one (is_pin n h)) before.rows must.pinned in
-      let none = at-most-sum (λ h. one (is_share n h)) before.rows found.0 found.1 in
-      let (here, own) = plain (is_at n found.0) (is_pinning found.0.mode) (is_shared found.0.mode) found.2 (let z = must.unshared in omega arith) in
-      let y = on.like found.0 found.1 in
-      record { row = y.row; there = y.there; at = y.at ∙ at-then n found.0 here; same = y.same ∙ own }
-    where
-      plain : (a p s : Bool) → 0 < one (a && p) → one (a && s) ≡ 0 → (0 < one a) × (s ≡ false)
-      plain a p s some none = grind (arith, nat_tests)
+      let (x, among, counts) = counted (λ h. one (is_pin n h)) before.rows must.pinned in
+      let none = at-most-sum (λ h. one (is_share n h)) before.rows x among in
+      let y = on.like x among in grind (arith, nat_tests, must.unshared)
 
   -- what is true of each row that is left, and of each entry
   each-row : (P : HandleRow → Type 0) → ((h : HandleRow) → Among m.rows h → f.gone h.number.0 ≡ false → P h)
@@ -227,16 +272,12 @@ module _ {before : Core} (m u : Core) {w' : Core} {given : ℕ → Bool} {r : Re
 
   fallen-whole : IsWhole after
   fallen-whole =
-      let on : GoOn (roomy (opened m)) after = record {
+      let on : GoOn (roomy m) after = record {
         last = (omega arith, omega arith, omega arith);
         ordered = ordered-entries m.last.handle left f.entries (λ x among. (whole.handles.numbered x (was x among).0).1) f.new
             (AllPairs-filter IsHandleBefore (λ (x : HandleRow). not (f.gone x.number.0)) m.rows whole.handles.ordered);
         fresh = false;
-        rows = each-row (λ h. IsOld m.rows h ⊎ IsNew (roomy (opened m)) after false h) (λ h old kept. inl (stays-old old)) (λ h like e. inr (record {
-          above = e.above;
-          few = e.number;
-          like = inl (subst (HasLike m.rows h.node.0) (sym (ap is_shared e.mode)) like);
-        }));
+        rows = each-row (λ h. IsOld m.rows h ⊎ IsNew (roomy m) after false h) (λ h old kept. inl (stays-old old)) (λ h like e. inr (grind (arith, nat_tests, e.above, e.number, e.mode)));
         live = λ n. grind (arith, nat_tests, there);
         typed = λ n t given is. grind (arith, nat_tests);
         keyed = λ n like given none. grind (arith, nat_tests);
@@ -252,24 +293,28 @@ module _ {before : Core} (m u : Core) {w' : Core} {given : ℕ → Bool} {r : Re
         loads = λ l load is. let a = lost.loads l load is in (a.1, inl a.0);
         cache = λ kind key n is. whole.cache kind key n (lost.cache kind key n is);
         workers = λ v is. whole.workers_numbered v (lost.workers v is);
-        shut = λ closed. absurd (cc);
+        stands_open = refl;
       })
 
   -- what is left of a whole world is whole
   pub falls-lost : ArePlaced (opened w') → IsWhole (opened w')
-  falls-lost placed = let a = f.leaves in told-whole fallen-whole a.rows a.cells a.list a.cache.only refl a.loads a.workers a.last placed
+  falls-lost placed = settles fallen-whole f.leaves placed
 
 -- where nothing has gone before
-pub falls-opened : {before u w' : Core} {given : ℕ → Bool} {r : Result (Unit {0}) Error} → IsWhole (roomy (opened u)) → GoesOn before u → Falls before u given r w' → ArePlaced (opened w')
-    → IsWhole (opened w')
-falls-opened {before} {u} whole on falls placed =
-    falls-lost u u whole on (record {
-      listed = λ q. inl (whole.owners_there.listed q);
-      owners = λ h among. inl (is-in whole h among);
-      loads = λ l load is. (is, whole.loads.owned l load is);
-      cache = λ kind key n is. is;
-      workers = λ v is. is;
-    }) falls placed
+pub falling : {before u w' : Core} {given : ℕ → Bool} {r : Result (Unit {0}) Error} → Falls before u given r w' → Turns before u → Goes before w'
+falling {before} {u} falls (whole, on, newer) = record {
+  whole = falls-lost u u whole on (record {
+    listed = λ q. inl (whole.owners_there.listed q);
+    owners = λ h among. inl (is-in whole h among);
+    loads = λ l load is. (is, whole.loads.owned l load is);
+    cache = λ kind key n is. is;
+    workers = λ v is. is;
+  }) falls;
+  newer = newer-then newer (newer-falls falls);
+}
+
+pub lone-falling : {w w' : Core} {given : ℕ → Bool} {r : Result (Unit {0}) Error} → IsWhole (opened w) → Falls w w given r w' → Goes w w'
+lone-falling {w} whole falls = falling falls (unturned w (roomy-whole whole))
 
 -- ---- calls by which a handle comes, moves or is pinned, or a node comes, keep the world whole
 
@@ -285,71 +330,36 @@ module _ {w : Core} (whole : IsWhole w) (s : ℕ → Bool) (owner : Owner) where
 
   -- with the list that fits; the new owner is there
   pub moved-so : (list : List HandleNumber) → ((q : ℕ) → times (λ (h : HandleNumber). h.0 == q) list ≡ times (of_list q) (moved s owner w.rows))
-      → ((x : HandleRow) → Among w.rows x → s x.number.0 ≡ true → IsIn w x.mode owner) → (w.closed ≡ true → list ≡ []) → IsWhole (roomy (record w { rows = moved s owner w.rows; list = list }))
+      → ((x : HandleRow) → Among w.rows x → s x.number.0 ≡ true → IsIn w x.mode owner) → IsWhole (roomy (record w { rows = moved s owner w.rows; list = list }))
   moved-so = turned-whole whole moves to-owner (λ x. refl) (λ x. refl) (λ x among e. refl) (λ x among e was. was)
 
 -- to the value of a node, or to one who may hold, where none is the list's
 module _ {w : Core} (whole : IsWhole w) (s : ℕ → Bool) (mine : (x : HandleRow) → Among w.rows x → s x.number.0 ≡ true → is_owned_by Owner.List x ≡ false) where
-  moved-free : (owner : Owner) → is_owner Owner.List owner ≡ false → ((mode : Mode) → IsIn w mode owner) → IsWhole (roomy (record w { rows = moved s owner w.rows }))
+  pub moved-free : (owner : Owner) → is_owner Owner.List owner ≡ false → ((mode : Mode) → IsIn w mode owner) → IsWhole (roomy (record w { rows = moved s owner w.rows }))
   moved-free owner other there =
       turned-still whole (moves whole s owner) (to-owner whole s owner) (λ x. refl) (λ x. refl) (λ x among e. refl) (λ x among e was. was) (λ x among e. other ∙ sym (mine x among e)) (λ x among e. there x.mode)
 
   pub moved-to-value : (n : ℕ) → IsWhole (roomy (record w { rows = moved s (owner_value n) w.rows }))
   moved-to-value n = moved-free (owner_value n) refl (λ mode. tt)
 
-  pub moved-to-holder : (owner : Owner) → is_owner Owner.List owner ≡ false → MayHold w owner → IsWhole (roomy (record w { rows = moved s owner w.rows }))
-  moved-to-holder owner other holder = moved-free owner other (λ mode. holder-in w mode owner holder)
-
-pub makes-whole : {w w' : Core} (node : NodeNumber) (mode : Mode) (owner : Owner) (r : Result HandleNumber Error) → IsWhole w → Suits w node mode → MayHold w owner → Makes w node mode owner r w'
-    → ArePlaced w' → IsWhole w'
-makes-whole node mode owner (Ok k) whole suits holder makes placed = settles (beside whole node mode owner (suits-like node mode suits) holder makes.made.0.is_left) makes.made.1 placed
-makes-whole node mode owner (Err e) whole suits holder makes placed = alike-whole whole makes.refused.stays placed
-
--- a live handle's mode suits its node
-pub row-suits : {w : Core} (h : HandleNumber) (row : HandleRow) → row_at w h ≡ Some row → Suits w row.node row.mode
-row-suits {w} h row live = record { row = row; there = (found-among h.0 w.rows row live).0; at = refl; shared = refl }
-
-pub clone-whole : {w w' : Core} (me : Owner) (h : HandleNumber) (r : Result HandleNumber Error) → IsWhole w → MayHold w me → CloneCall w me h r w' → ArePlaced w' → IsWhole w'
-clone-whole {w} me h (Ok k) whole holder call placed = search (arith, settles, beside, suits-like, row-suits)
-clone-whole me h (Err e) whole holder call placed = alike-whole whole call.refused.stays placed
-
--- a handle that is loose or Pinned, and not the list's, is loose and pins
-pub pins-whole : {w : Core} (h : HandleNumber) (row : HandleRow) → IsWhole w → row_at w h ≡ Some row → is_shared row.mode ≡ false → is_owned_by Owner.List row ≡ false
-    → IsWhole (roomy (with_mode w h Mode.LoosePinned))
-pins-whole h row whole live unshared other = (moded whole h row Mode.LoosePinned live (sym unshared) (λ loose. refl) (λ is. grind (arith, nat_tests))).0
-
-pinned-unshared : (mode : Mode) → is_pinned mode ≡ true → is_shared mode ≡ false
-pinned-unshared x0 is = grind (arith, nat_tests)
-
--- a Pinned handle isn't the list's
-pub pinned-unlisted : {w : Core} (h : HandleNumber) (row : HandleRow) → IsWhole w → row_at w h ≡ Some row → is_pinned row.mode ≡ true → is_owned_by Owner.List row ≡ false
-pinned-unlisted {w} h row whole live pinned = grind (arith, nat_tests, whole.owners_there.waiting row (found-among h.0 w.rows row live).0)
-
-pub loosen-whole : {w w' : Core} (me : Owner) (h : HandleNumber) (r : Result HandleNumber Error) → IsWhole w → LoosenCall w me h r w' → ArePlaced w' → IsWhole w'
-loosen-whole me h (Ok k) whole call placed =
-    let (row, owns, is, turned) = call.turned in search (arith, settles, pins-whole, pinned-unlisted, pinned-unshared)
-loosen-whole me h (Err e) whole call placed = alike-whole whole call.refused.1 placed
+pub makes-goes : {w w' : Core} (node : NodeNumber) (mode : Mode) (owner : Owner) (r : Result HandleNumber Error) → IsWhole (opened w) → Suits w node mode → MayHold w owner
+    → Makes w node mode owner r w' → Goes w w'
+makes-goes {w} node mode owner (Ok k) whole suits holder makes =
+    let like : HasLike w.rows node.0 (is_shared mode) = record { row = suits.row; there = suits.there; at = ap (λ (k : NodeNumber). k.0) suits.at; same = suits.shared } in
+    let made = beside whole node mode owner like holder makes.made.0.is_left in settled makes.made.1 made.0 made.2
+makes-goes node mode owner (Err e) whole suits holder makes = alike-goes whole makes.refused.stays
 
 pub loose-unshared : (mode : Mode) → is_loose mode ≡ true → is_shared mode ≡ false
 loose-unshared mode is = grind (arith, nat_tests)
 
 -- a loose handle of one who may hold is pinned, and a Pinned one is made
-module _ {w : Core} (h : HandleNumber) (row : HandleRow) (me : Owner) (whole : IsWhole w) (holder : MayHold w me) (owns : Owns w me h is_loose row) where
-  loosely : is_shared Mode.LoosePinned ≡ is_shared row.mode
-  loosely = sym (loose-unshared row.mode owns.as_asked)
-
-  with-loose : IsWhole (roomy (with_mode w h Mode.LoosePinned)) × GoesOn w (with_mode w h Mode.LoosePinned)
-  with-loose = moded whole h row Mode.LoosePinned owns.live loosely (λ loose. refl) (λ is. absurd (let f : true ≡ false = ap (is_owner Owner.List) (sym is ∙ owns.own) ∙ not-list w me holder in cc))
-
-  pub pin-comes : w.last.handle < greatest → IsWhole (roomy (with_pin w h row.node me))
-  pin-comes left =
-      beside with-loose.0 row.node Mode.Pinned me (subst (HasLike (with_mode w h Mode.LoosePinned).rows row.node.0) (sym loosely) (with-loose.1.like row (found-among h.0 w.rows row owns.live).0)) holder left
-
-  pub pin-on : GoesOn w (with_pin w h row.node me)
-  pin-on = then-on with-loose.1 (handle-on (with_mode w h Mode.LoosePinned) row.node Mode.Pinned me)
-
-pub pin-whole : {w w' : Core} (me : Owner) (h : HandleNumber) (r : Result Pinning Error) → IsWhole w → MayHold w me → PinCall w me h r w' → ArePlaced w' → IsWhole w'
-pin-whole me h x2 whole holder call placed = grind (arith, nat_tests, settles, pin-comes, alike-whole)
+pub pin-comes : {w : Core} (h : HandleNumber) (row : HandleRow) (me : Owner) → IsWhole w → MayHold w me → Owns w me h is_loose row → w.last.handle < greatest → Turns w (with_pin w h row.node me)
+pin-comes {w} h row me whole holder owns left =
+    let loosely : is_shared Mode.LoosePinned ≡ is_shared row.mode = sym (loose-unshared row.mode owns.as_asked) in
+    let (loose, on, newer) = moded whole h row Mode.LoosePinned owns.live loosely (λ loose. refl)
+    (λ is. absurd (let f : true ≡ false = ap (is_owner Owner.List) (sym is ∙ owns.own) ∙ not-list w me holder in cc)) in
+    let like = subst (HasLike (with_mode w h Mode.LoosePinned).rows row.node.0) (sym loosely) (on.like row (found-among h.0 w.rows row owns.live).0) in
+    let (pinned, more, last) = beside loose row.node Mode.Pinned me like holder left in (pinned, then-on on more, newer-then newer last)
 
 -- ---- references that are good
 

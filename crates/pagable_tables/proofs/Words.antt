@@ -7,13 +7,13 @@ pub use Rattle.std.proofs.lemmas.List.{Elements.{All-set, filter-append, filter_
 pub use Rattle.std.proofs.lemmas.{List.Sums.{sum_by-le-sum_by, sum_by-remove, sum_by-set, sum_by_push}, Option.{get_or_from_slice_get, slice_get-get_or, slice_get_read, slice_get_within}}
 pub use Rattle.std.specs.{List.AllPairs, Option.option_map, Prelude.{IfSome, IsSome, Result, is_some, nat_lt, ◌≢◌}}
 pub use Rattle.{indexmap.specs.IndexMap.{IndexMap, get}, pagable_model.specs.declared.{data_key.OptionalDataKey.OptionalDataKey, error.Error.Error, numbers.{ArcRef.ArcRef, HandleNumber.HandleNumber}}}
-pub use Rattle.{pagable_model.specs.declared.numbers.{Kind.Kind, LoadNumber.LoadNumber, NodeNumber.NodeNumber}, pagable_tables.specs.{Asking.early_fault, Bearing.{Bears, OnlyRoom}, Becoming.Becomes}}
-pub use Rattle.pagable_tables.specs.{ByNumber.{counts_at, is_same, known_at, load_at, reach_at, refs_at, worker_at}, Core.{ArePlaced, Makes, MayHold, Suits, core_of, load_in, plain_of, root_in}}
+pub use Rattle.{pagable_model.specs.declared.numbers.{Kind.Kind, LoadNumber.LoadNumber, NodeNumber.NodeNumber}, pagable_tables.specs.{Ready.early_fault, Core.{Bears, OnlyRoom}, Falling.Becomes}}
+pub use Rattle.pagable_tables.specs.{Falling.{counts_at, is_same, known_at, load_at, reach_at, refs_at, worker_at}, Core.{ArePlaced, Makes, MayHold, Suits, core_of, load_in, plain_of, root_in}}
 pub use Rattle.pagable_tables.specs.Falling.{AreKept, CellsStay, Chain, FallsBy, Fits, GetsKey, GivesUp, HasFallen, HasPlaces, IsFalling, IsUnlisted, Leaves, MayList, Right, Sheds, Steps}
-pub use Rattle.pagable_tables.specs.Falling.{ValueStays, after, cell_in, entries_of, entry, falls_in, first_cause, has_value, holds_in, is_bare, is_fallen_by, is_listing, is_new, is_node, is_right}
-pub use Rattle.pagable_tables.specs.{Falling.{is_valued, key_in, keyed, landed, named, next_in, often, owns, owns_nothing, pins_in, unpinned, valued}, Giving.{InReach, IsNoLess, LoadsAre, gives_row}}
-pub use Rattle.pagable_tables.specs.{Giving.{left_load, passes_in}, Later.AreLater, Live.{AreSound, IsBefore, IsNext, alive, is_live_place, live}, Onward.{Begins, IsApart, SoFar, is_plain_pin}}
-pub use Rattle.pagable_tables.specs.{Onward.{told_by, with_tables}, Owning.named_at, Ready.{IsReady, has_come}, declared.{giving.Giving.Giving, handles.Handles.Handles, holdings.Holdings.Holdings}}
+pub use Rattle.pagable_tables.specs.Falling.{ValueStays, after, cell_in, entries_of, entry, falls_in, has_value, holds_in, is_bare, is_fallen_by, is_listing, is_node, is_right}
+pub use Rattle.pagable_tables.specs.{Falling.{is_valued, key_in, keyed, landed, named, next_in, often, owns, owns_nothing, pins_in, unpinned, valued}, Core.{InReach, IsNoLess, LoadsAre, gives_row}}
+pub use Rattle.pagable_tables.specs.{Core.{left_load, passes_in, AreLater}, Falling.{AreSound, IsBefore, IsNext, alive, is_live_place, live, Begins, IsApart, SoFar, is_plain_pin}}
+pub use Rattle.pagable_tables.specs.{Falling.{told_by, with_tables}, Core.named_at, Ready.{IsReady, has_come}, declared.{giving.Giving.Giving, handles.Handles.Handles, holdings.Holdings.Holdings}}
 pub use Rattle.pagable_tables.specs.declared.{loading.Ending.Ending, tables.{Counts.Counts, LoadRow.LoadRow, NodeRow.NodeRow, Place.Place, Reach.Reach, Tables.Tables}}
 pub use Rattle.pagable_world.specs.Calls.{AwayBirthCall, ClearCall, CloneCall, CloseCall, LoosenCall, PinCall, RecallCall, ReserveCall, ScheduleCall, SetKeyCall, TakeCall, UnpinCall, birth_fault}
 pub use Rattle.pagable_world.specs.Calls.{is_handle_here, is_listed, is_usable, moved, next_node, offer_fault, pin_fault, recall_fault, row_of, shut, with_cached, with_handle, with_key, with_known}
@@ -27,4 +27,4 @@ pub use Rattle.pagable_world.specs.{Plain.{is_pinned_kind, is_shared_kind, one, 
 pub use Rattle.pagable_world.specs.{Refusals.{handle_fault, load_fault, rank, reference_fault, refused_if, spent, where_so}, Workers.{is_workers, is_workers_load, without_worker}, World.{Alike, Cell}}
 pub use Rattle.pagable_world.specs.{World.{Core, HasRoom, Last, OpenLoad, Places, Root, SameCache, greatest, is_here, of_cell, of_key, row_at, type_at, usable}, declared.answers.Beginning.Beginning}
 pub use Rattle.pagable_world.specs.declared.{answers.Pinning.Pinning, handles.{HandleRow.HandleRow, Owner.Owner}, rows.Mode.Mode}
-unfoldable pub use Rattle.{pagable_tables.specs.Owning.seen, pagable_world.specs.{Calls.is_named_by, Kinds.find_row, Plain.is_in, Refusals.{named_fault, references_fault}}}
+unfoldable pub use Rattle.{pagable_tables.specs.Core.seen, pagable_world.specs.{Calls.is_named_by, Kinds.find_row, Plain.is_in, Refusals.{named_fault, references_fault}}}

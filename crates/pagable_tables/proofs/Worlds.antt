@@ -3,10 +3,10 @@ use Rattle.pagable_tables.proofs.Words.{Adopts, Alike, ArcRef, AreHandlesFull, B
 use Rattle.pagable_tables.proofs.Words.{LoadRow, Makes, Mode, NodeNumber, None, Ok, OnlyRoom, OpenLoad, Option, OptionalDataKey, Owner, OwnsLoad, Places, RecallCall, Refused, Result, SameAt}
 use Rattle.pagable_tables.proofs.Words.{SameCache, Some, [], add-one, adopt_fault, adopted, ap, arith, at_drop_all, at_drop_more, birth_fault, cell_in, closed_fault, drop, drop-cons, drop_all}
 use Rattle.pagable_tables.proofs.Words.{earlier, early_fault, false, find_row, first_key, get_or, greatest, handle_fault, if_there, if◌then◌else◌, inl, inr, is_in, is_in_memory, is_loose_kind}
-use Rattle.pagable_tables.proofs.Words.{is_named_by, is_owner, is_pinned_kind, is_some, key_in, lazy_fault, length, load_fault, load_in, map, mode_of, moved, named_at, named_fault, nat_tests}
-use Rattle.pagable_tables.proofs.Words.{next_node, node_fault, not, numbers_of, only_handle, option_map, or_else, pins, pins_in, rank, reference_fault, references_fault, refl, refused_if, seen, spent}
-use Rattle.pagable_tables.proofs.Words.{subst, suc, sym, take, take-suc, take_all, true, type_of, usable, where_so, with_cached, with_handle, with_node, zero, ℕ, ◌&&◌, ◌++◌, ◌+◌, ◌<◌, ◌==◌, ◌||◌, ◌∙◌}
-use Rattle.{pagable_tables.proofs.Words.{◌∷◌, ◌≡◌, ◌≢◌, ◌≤◌, ◌⊎◌}, pagable_world.specs.Calls.IsNext, std.specs.Result.IsErrAnd}
+use Rattle.pagable_tables.proofs.Words.{is_named_by, is_owner, is_pinned_kind, is_some, key_in, length, load_fault, load_in, map, mode_of, moved, named_at, named_fault, nat_tests, next_node}
+use Rattle.pagable_tables.proofs.Words.{node_fault, not, numbers_of, only_handle, option_map, or_else, pins, pins_in, rank, reference_fault, references_fault, refl, refused_if, seen, spent, subst}
+use Rattle.pagable_tables.proofs.Words.{suc, sym, take, take-suc, take_all, true, type_of, usable, where_so, with_cached, with_handle, with_node, zero, ℕ, ◌&&◌, ◌++◌, ◌+◌, ◌<◌, ◌==◌, ◌||◌, ◌∙◌, ◌∷◌}
+use Rattle.{pagable_tables.proofs.Words.{◌≡◌, ◌≢◌, ◌≤◌, ◌⊎◌}, pagable_world.specs.Calls.IsNext, std.specs.Result.IsErrAnd}
 
 -- what an entry of the cache gives where its node is this cell
 abbrev pub use-of : List HandleRow → ℕ → ℕ → Option Cell → Option ℕ
@@ -315,19 +315,13 @@ module _ (w : Core) (me : Owner) (l : LoadNumber) (load : OpenLoad) (kind : Kind
   lazy-not-loose tight = grind (arith, nat_tests, earlier, no-load-fault, earlier-first, node-late, still)
 
   module _ (loose : is_loose_kind kind.0 ≡ true) where
-    lazy-cause : lazy_fault w me l kind key ≡ node_fault w kind key
-    lazy-cause = grind (arith, nat_tests, no-load-fault)
-
     -- a handle of the node that the cache gives
     pub lazy-known : (node : NodeNumber) (mode : Mode) (r : Result HandleNumber Error) (w' : Core) → usable w kind.0 key ≡ Some node.0 → mode ≡ mode_of kind.0 → Makes w node mode (Owner.Load l) r w' → LazyCall w me l kind key r w'
     lazy-known node mode r w' is fits m = grind (arith, nat_tests)
 
     module _ (none : usable w kind.0 key ≡ None) where
-      fresh : lazy_fault w me l kind key ≡ birth_fault w
-      fresh = lazy-cause ∙ ap (λ b. if b then spent w.last.handle else birth_fault w) (ap is_some none)
-
       pub lazy-not-new : {e : Error} {w' : Core} → Refused (birth_fault w) (birth_fault w) (Unit {0}) w e w' → LazyCall w me l kind key (Err e) w'
-      lazy-not-new r = grind (arith, nat_tests, fresh)
+      lazy-not-new r = grind (arith, nat_tests, no-load-fault)
 
       pub lazy-new : (k : HandleNumber) {w' : Core} → w.last.node < greatest → IsNext k w → Alike (adopted w l kind key (OptionalDataKey.Some key) []) w' → LazyCall w me l kind key (Ok k) w'
       lazy-new k node_left next made = record { makes = (load, own, loose, inr (none, node_left, next, made)); refused = tt }
@@ -396,7 +390,7 @@ module _ (w : Core) (me : Owner) (l : LoadNumber) (kind : Kind) (key node_type :
       adopts-new k node_left next made = record { load = owner-of.0; owned = owner-of.1; eager = eager; typed = typed; good = fitting; next = next; makes = inr (none, node_left, made) }
 
       pub refused-new : {before : Option Error} {e : Error} {w' : Core} → Refused (birth_fault w) before (Unit {0}) w e w' → Refused (adopt_fault w me l kind key node_type refs) (load_fault w me l) (Unit {0}) w e w'
-      refused-new refused = grind (arith, nat_tests, fresh, left, parts)
+      refused-new refused = grind (arith, nat_tests, left, parts)
 
 -- room is nothing to the causes that come first
 pub early-past : {w w' : Core} (me : Owner) (l : LoadNumber) (kind : Kind) (node_type : ℕ) (refs : List ArcRef) → OnlyRoom w w' → early_fault w' me l kind node_type refs ≡ early_fault w me l kind node_type refs

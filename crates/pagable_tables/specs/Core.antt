@@ -1,9 +1,12 @@
--- The plain world that the tables tell, and when they are whole.
-use Rattle.std.specs.{Prelude.{ℕ, ◌≡◌, ◌≤◌, Bool, true, false, [], length, Option, None, is_some, Result, IfOk, IfErr, vec_capacity}, Option.option_map}
-use Rattle.{pagable_model.specs.declared.{error.Error.Error, numbers.{HandleNumber.HandleNumber, NodeNumber.NodeNumber}}, pagable_world.specs.Plain.{Blob, Among}}
-use Rattle.pagable_world.specs.{declared.{handles.{HandleRow.HandleRow, Owner.Owner}, rows.Mode.Mode}, Kinds.is_shared, World.{Core, OpenLoad, Root, of_cell, of_key, Alike}, Calls.with_handle}
-use Rattle.{pagable_world.specs.{Calls.IsNext, Refusals.{spent, Refused, AreHandlesFull}}, pagable_tables.specs.{declared.tables.{LoadRow.LoadRow, LoadRoot.LoadRoot, Tables.Tables}, Live.live}}
-use Rattle.pagable_tables.specs.{ByNumber.{counts_at, load_at, known_at, worker_at}, Falling.{cell_in, IsFalling, owns_nothing}}
+-- The plain world that the tables tell, when they are whole, what a call of them does and keeps, and the steps that are asked of them.
+use Rattle.std.specs.{Option.option_map, Prelude.{Bool, IfErr, IfOk, List, None, Option, Result, Some, [], false, get_or, if◌then◌else◌, is_some, length, nat_eq, not, slice_get, suc, true}}
+use Rattle.std.specs.Prelude.{vec_capacity, zero, ℕ, ◌&&◌, ◌+◌, ◌<◌, ◌==◌, ◌||◌, ◌∷◌, ◌≡◌, ◌≤◌, ◌⊎◌}
+use Rattle.{indexmap.specs.IndexMap.{IndexMap, get, spare}, pagable_model.specs.declared.{error.Error.Error, numbers.{ArcRef.ArcRef, HandleNumber.HandleNumber, NodeNumber.NodeNumber}}}
+use Rattle.{pagable_model.specs.declared.numbers.WorkerNumber.WorkerNumber, pagable_tables.specs.Falling.{IsFalling, Sheds, cell_in, counts_at, key_in, known_at, live, load_at, owns_nothing}}
+use Rattle.pagable_tables.specs.{Falling.{reach_at, room, worker_at}, declared.{giving.Giving.Giving, tables.{LoadRoot.LoadRoot, LoadRow.LoadRow, Reach.Reach, Tables.Tables}}}
+use Rattle.pagable_world.specs.{Calls.{IsNext, next_node, with_handle, with_mode, with_node}, Events.{with_entry_taken, with_worker}, Kinds.{find_row, is_owner, is_shared, owner_worker}}
+use Rattle.pagable_world.specs.{LoadCalls.is_owned_in, Plain.{Among, Blob, if_there}, Refusals.{AreHandlesFull, Refused, spent}, Workers.is_load_of, World.{Alike, Core, HasRoom, OpenLoad, Root}}
+use Rattle.pagable_world.specs.{World.{greatest, of_cell, of_key}, declared.{handles.{HandleRow.HandleRow, Owner.Owner}, rows.Mode.Mode}}
 use Rattle.pagable_world.specs.Pager as pager
 
 abbrev pub root_in : LoadRoot → Root
@@ -63,3 +66,108 @@ pub record Suits (w : Core) (node : NodeNumber) (mode : Mode) : Type 0 where
 pub record Makes (w : Core) (node : NodeNumber) (mode : Mode) (owner : Owner) (r : Result HandleNumber Error) (w' : Core) : Type 0 where
   pub made : IfOk r (λ k. IsNext k w × Alike (with_handle w node mode owner) w')
   pub refused : IfErr r (λ e. Refused (spent w.last.handle) (spent w.last.handle) (AreHandlesFull w) w e w')
+
+-- ---- handles that are given up together, and workers that begin
+
+-- whether a handle of this owner at this node is given up
+abbrev pub gives : Core → Giving → Owner → NodeNumber → Bool
+gives w (Giving.Load l) owner node = is_owner (Owner.Load l) owner
+gives w (Giving.AtNode v n) owner node = is_owner (Owner.Worker v) owner && node.0 == n.0
+gives w (Giving.Worker v) owner node = is_owner (Owner.Worker v) owner || is_load_of w v.0 owner
+gives w Giving.Listed owner node = is_owner Owner.List owner
+
+abbrev pub gives_row : Core → Giving → HandleRow → Bool
+gives_row w giving row = gives w giving row.owner row.node
+
+-- whether the row of this number, if it is among these, passes the test
+abbrev pub passes_in : (HandleRow → Bool) → List HandleRow → ℕ → Bool
+passes_in test rows q = if_there test false (find_row q rows)
+
+-- whether a handle of this number may be one of those
+abbrev pub InReach : Reach → ℕ → Type 0
+InReach reach q = (0 < q) × ((reach.since < q) ⊎ (q ≡ reach.beside))
+
+-- the open loads of a world are these
+abbrev pub LoadsAre : {S : Type 0} → IndexMap ℕ LoadRow S → Core → Type 0
+LoadsAre loads w = (l : ℕ) → w.loads l ≡ option_map load_in (load_at loads l)
+
+-- the rows of loads, but for those of the worker
+abbrev pub left_load : ℕ → Option LoadRow → Option LoadRow
+left_load v None = None
+left_load v (Some row) = if is_owner (owner_worker v) row.owner then None else Some row
+
+-- what was in a worker's reach still is, and so is what comes
+pub record IsNoLess {S : Type 0} (workers workers' : IndexMap ℕ Reach S) : Type 0 where
+  pub wider : (v q : ℕ) → InReach (reach_at workers v) q → InReach (reach_at workers' v) q
+  pub before : (v : ℕ) → (reach_at workers' v).since ≤ (reach_at workers v).since
+
+-- one worker more is at work; or memory is wanting
+pub record BeginsWorker (w : Core) (r : Result WorkerNumber Error) (w' : Core) : Type 0 where
+  pub begun : IfOk r (λ v. (v.0 ≡ w.last.worker + 1) × Alike (with_worker w) w')
+  pub refused : IfErr r (λ e. (e ≡ Error.OutOfMemory) × Alike w w')
+
+-- the same, for an entry of the list, which moves to the worker
+pub record TakesWorker (w : Core) (place : ℕ) (r : Result WorkerNumber Error) (w' : Core) : Type 0 where
+  pub taken : IfOk r (λ v. (h : HandleNumber) × (slice_get w.list place ≡ Some h) × (v.0 ≡ w.last.worker + 1) × Alike (with_worker (with_entry_taken w place h v)) w')
+  pub refused : IfErr r (λ e. (e ≡ Error.OutOfMemory) × Alike w w')
+
+-- ---- what loads and workers own has come since they began
+
+pub record AreLater (t : Tables) : Type 0 where
+  -- all handles of an open load have numbers above the last one that was given before it began
+  pub given : (l : ℕ) (load : LoadRow) → load_at t.loads l ≡ Some load → load.since ≤ t.holdings.last_handle
+  pub since : (l : ℕ) (load : LoadRow) (q : ℕ) → load_at t.loads l ≡ Some load → is_owned_in (plain_of t) (Owner.Load (record { 0 = l })) q ≡ true → load.since < q
+  -- all handles of a worker are in its reach, and its loads began after it
+  pub begun : (v : ℕ) → (reach_at t.workers v).since ≤ t.holdings.last_handle
+  pub reach : (v q : ℕ) → is_owned_in (plain_of t) (owner_worker v) q ≡ true → InReach (reach_at t.workers v) q
+  pub loads : (v l : ℕ) (load : LoadRow) → load_at t.loads l ≡ Some load → is_owner (owner_worker v) load.owner ≡ true → (reach_at t.workers v).since ≤ load.since
+
+-- ---- what a call of the tables does: its step in the plain world, and what it keeps
+
+-- The plain world makes the step, whatever is stored. The tables are whole, and what loads and workers own has come since they began, if it had.
+pub record Does (old : Tables) (step : Core → Core → Type 0) (new : Tables) : Type 0 where
+  pub does : (stored : ℕ → Option Blob) (closed : Bool) (failures : ℕ) → step (core_of old stored closed failures) (core_of new stored closed failures)
+  pub whole : IsWhole new
+  pub later : AreLater old → AreLater new
+
+-- The same, where cells are listed while the storage is open; and values go with their nodes.
+pub record DoesShed {X S : Type 0} (lists : Bool) (old : Tables) (values : IndexMap ℕ X S) (step : Core → Core → Type 0) (new : Tables) (values' : IndexMap ℕ X S) : Type 0 where
+  pub does : (stored : ℕ → Option Blob) (closed : Bool) (failures : ℕ) → lists ≡ not closed → step (core_of old stored closed failures) (core_of new stored closed failures)
+  pub whole : IsWhole new
+  pub later : AreLater old → AreLater new
+  pub sheds : Sheds (counts_at old.holdings.nodes) (get nat_eq values) (counts_at new.holdings.nodes) (get nat_eq values')
+
+-- ---- handles that come to another owner, one after the other where they are named, or are pinned
+
+-- A Pinned handle of the row's node is made, and the row's handle pins too. While numbers and places are left it succeeds.
+pub record PinsHere (w : Core) (me : Owner) (row : HandleRow) (r : Result HandleNumber Error) (w' : Core) : Type 0 where
+  pub pinned : IfOk r (λ k. IsNext k w × Alike (with_handle (with_mode w row.number Mode.LoosePinned) row.node Mode.Pinned me) w')
+  pub refused : IfErr r (λ e. Refused (spent w.last.handle) (spent w.last.handle) (AreHandlesFull w) w e w')
+
+-- the handle at a place
+abbrev pub named_at : List HandleNumber → ℕ → ℕ
+named_at hs place = (get_or hs place (record { 0 = 0 })).0
+
+-- the numbers before a place, the last of them first
+unfoldable pub seen : List HandleNumber → ℕ → List ℕ
+seen hs zero = []
+seen hs (suc place) = named_at hs place ∷ seen hs place
+
+-- ---- nodes that come
+
+-- numbers are left for a node and a handle, and there is room for both
+pub record IsReady (t : Tables) : Type 0 where
+  pub node_left : t.last_node < greatest
+  pub handle_left : t.holdings.last_handle < greatest
+  pub handle_room : 0 < room t.holdings.handles
+  pub node_room : 0 < spare t.holdings.nodes
+
+-- the second is the first, with more room
+pub record OnlyRoom (w w' : Core) : Type 0 where
+  pub same : w' ≡ record w { places = w'.places }
+  pub more : HasRoom w.places w'.places
+
+-- A new node of this type with this key, 0 for none, whose value has these references, which are known to be right, and one handle of it.
+pub record Bears (w : Core) (me : Owner) (node_type key : ℕ) (references : List ArcRef) (mode : Mode) (k : HandleNumber) (w' : Core) : Type 0 where
+  pub next : IsNext k w
+  pub leaves : Alike (with_handle (with_node w node_type (key_in key) references) (next_node w) mode me) w'

@@ -1,10 +1,86 @@
--- Handles, nodes and list in the midst of giving handles up.
-use Rattle.std.specs.Prelude.{ℕ, zero, suc, ◌≡◌, ◌+◌, ◌*◌, ◌-◌, ◌<◌, ◌≤◌, ◌≢◌, ◌==◌, ◌&&◌, ◌||◌, ◌⊎◌, ◌++◌}
-use Rattle.std.specs.Prelude.{Bool, true, false, not, if◌then◌else◌, List, [], ◌∷◌, length, sum_by, Option, Some, None, is_some, nat_lt, IfSome, vec_capacity}
-use Rattle.pagable_model.specs.{declared.data_key.OptionalDataKey.OptionalDataKey, declared.error.Error.Error, declared.numbers.ArcRef.ArcRef, declared.numbers.NodeNumber.NodeNumber}
-use Rattle.pagable_world.specs.{declared.handles.HandleRow.HandleRow, declared.rows.Mode.Mode, declared.handles.Owner.Owner, Plain.one, Plain.times, Kinds.held, Kinds.pins}
-use Rattle.pagable_world.specs.{Kinds.{is_handle, is_owned_by, owner_value}, World.{greatest, Cell}, Calls.row_of, Cascade.{left_rows, only_handle}, Plain.{changed, SameAt, updated, if_there}}
-use Rattle.pagable_tables.specs.{declared.{tables.Counts.Counts, handles.Handles.Handles, holdings.Holdings.Holdings}, Live.{live, AreSound, IsNext}, ByNumber.{counts_at, refs_at}, Becoming.Becomes}
+-- Handles, nodes and list by their rows and numbers, in the midst of giving handles up, and what has gone and come since.
+use Rattle.{indexmap.specs.IndexMap.{IndexMap, get}, pagable_model.specs.declared.{data_key.OptionalDataKey.OptionalDataKey, error.Error.Error, numbers.{ArcRef.ArcRef, HandleNumber.HandleNumber}}}
+use Rattle.{pagable_model.specs.declared.numbers.NodeNumber.NodeNumber, pagable_tables.specs.declared.{handles.Handles.Handles, holdings.Holdings.Holdings, tables.{Counts.Counts, LoadRow.LoadRow}}}
+use Rattle.{pagable_tables.specs.declared.tables.{NodeRow.NodeRow, Place.Place, Reach.Reach}, pagable_world.specs.{Calls.row_of, Cascade.{AreNewEntries, IsClosed, IsWithin, MustList, TellsListing}}}
+use Rattle.pagable_world.specs.{Cascade.{is_keyed, left_rows, only_handle}, Kinds.{held, is_handle, is_owned_by, is_pin, is_shared, owner_value, pins, sharing}, Plain.{SameAt, changed, if_there, one}}
+use Rattle.pagable_world.specs.{Plain.{or_else, times, updated}, World.{Cell, Core, HasRoom, greatest}, declared.{handles.{HandleRow.HandleRow, Owner.Owner}, rows.Mode.Mode}}
+use Rattle.std.specs.{List.AllPairs, Option.{option_map, option_map_or}, Prelude.{All, Bool, Err, IfSome, List, None, Ok, Option, Result, Some, [], false, filter, if◌then◌else◌, is_some, length, map}}
+use Rattle.std.specs.Prelude.{nat_eq, nat_lt, not, suc, sum_by, true, vec_capacity, vec_len, zero, ℕ, ◌&&◌, ◌*◌, ◌++◌, ◌+◌, ◌-◌, ◌<◌, ◌==◌, ◌||◌, ◌∷◌, ◌≡◌, ◌≢◌, ◌≤◌, ◌⊎◌}
+
+-- the rows that are live, in their order
+abbrev pub live : List Place → List HandleRow
+live [] = []
+live (p ∷ ps) = if p.is_live then p.row ∷ live ps else live ps
+
+abbrev pub alive : HandleRow → Place
+alive row = record { row = row; is_live = true }
+
+abbrev pub is_live_place : Place → Bool
+is_live_place p = p.is_live
+
+abbrev pub IsBefore : Place → Place → Type 0
+IsBefore a b = a.row.number.0 < b.row.number.0
+
+-- the number is above all that are there
+abbrev pub IsNext : ℕ → List Place → Type 0
+IsNext q places = All (λ p. p.row.number.0 < q) places
+
+-- the places are in order, and the dead are counted
+pub record AreSound (h : Handles) : Type 0 where
+  pub ordered : AllPairs IsBefore h.places.items
+  pub counted : length (live h.places.items) + h.dead ≡ length h.places.items
+
+-- how many rows can come without memory
+abbrev pub room : Handles → ℕ
+room h = vec_capacity h.places - (vec_len h.places - h.dead)
+
+-- ---- nodes, loads and what the cache knows, as functions of numbers and keys
+
+-- whether kind and key are the same
+abbrev pub is_same : ℕ × ℕ → ℕ × ℕ → Bool
+is_same x y = nat_eq x.0 y.0 && nat_eq x.1 y.1
+
+module _ {S : Type 0} where
+  abbrev pub counts_at : IndexMap ℕ NodeRow S → ℕ → Option Counts
+  counts_at nodes n = option_map (λ (r : NodeRow). r.counts) (get nat_eq nodes n)
+
+  abbrev pub refs_at : IndexMap ℕ NodeRow S → ℕ → List ArcRef
+  refs_at nodes n = option_map_or (λ (r : NodeRow). r.references.items) (get nat_eq nodes n) []
+
+  abbrev pub load_at : IndexMap ℕ LoadRow S → ℕ → Option LoadRow
+  load_at loads l = get nat_eq loads l
+
+  abbrev pub known_at : IndexMap (ℕ × ℕ) NodeNumber S → ℕ → ℕ → Option NodeNumber
+  known_at cache kind key = get is_same cache (kind, key)
+
+  abbrev pub worker_at : IndexMap ℕ Reach S → ℕ → Option Reach
+  worker_at workers v = get nat_eq workers v
+
+  -- any handle may be the worker's where nothing else is known
+  abbrev pub reach_at : IndexMap ℕ Reach S → ℕ → Reach
+  reach_at workers v = option_map_or (λ reach. reach) (worker_at workers v) (record { since = 0; beside = 0 })
+
+-- ---- what handles become as a call changes them, in order and counted as they were. What a value refers to comes to its node with its handles, where the node has no value
+
+-- these rows are live
+pub record Becomes (old : Handles) (are : List HandleRow) (new : Handles) : Type 0 where
+  pub sound : AreSound new
+  pub rows : live new.places.items ≡ are
+  pub capacity : vec_capacity new.places ≡ vec_capacity old.places
+  pub next : (q : ℕ) → IsNext q old.places.items → IsNext q new.places.items
+
+-- the same rows are, with no less room
+pub record Widens (old new : Handles) : Type 0 where
+  pub sound : AreSound new
+  pub rows : live new.places.items ≡ live old.places.items
+  pub capacity : vec_capacity old.places ≤ vec_capacity new.places
+  pub next : (q : ℕ) → IsNext q old.places.items → IsNext q new.places.items
+
+-- the references that come
+abbrev pub coming : Bool → List ArcRef → List ArcRef
+coming comes refs = if comes then refs else []
+
+-- ---- handles, nodes and list in the midst of giving handles up
 
 abbrev pub pins_in : Option Counts → ℕ
 pins_in None = 0
@@ -21,10 +97,6 @@ falls_in (Some c) = c.is_falling
 abbrev pub next_in : Option Counts → ℕ
 next_in None = 0
 next_in (Some c) = c.next
-
-abbrev pub keyed_in : Option Counts → Bool
-keyed_in None = false
-keyed_in (Some c) = nat_lt 0 c.key
 
 -- a new entry of the list
 abbrev pub entry : ℕ → NodeNumber → HandleRow
@@ -68,9 +140,6 @@ after c pinning stays listed top =
     let holds = (if stays then c.holds else c.holds - 1) + one listed in
     let falls = is_fallen_by c pinning pins holds in
     record c { pins = pins; holds = holds; is_falling = c.is_falling || falls; next = if falls then top else c.next }
-
-abbrev pub is_new : Bool → Bool → Bool
-is_new before falls = falls && not before
 
 -- whether the handle of this row has the number and is owned by the node's value
 abbrev pub owns : HandleRow → ℕ → ℕ → ℕ
@@ -124,17 +193,12 @@ pub record Comes (old : Holdings) (node : NodeNumber) (listed : Bool) (new : Hol
   pub nodes : new.nodes ≡ old.nodes
   pub top : new.top ≡ old.top
 
--- the first cause why an entry couldn't come is kept
-abbrev pub first_cause : Option Error → Error → Option Error
-first_cause None e = Some e
-first_cause (Some f) e = Some f
-
--- where an entry is wanted it came, or there is a cause; where none is wanted nothing changes
+-- where an entry is wanted it came, or there is a cause, of which the first is kept; where none is wanted nothing changes
 pub record MayList (old : Holdings) (node : NodeNumber) (wanted listed : Bool) (new : Holdings) : Type 0 where
   pub comes : Comes old node listed new
   pub only : listed ≡ true → wanted ≡ true
   pub told : (listed ≡ true) ⊎ (wanted ≡ false) → new.unlisted ≡ old.unlisted
-  pub why : listed ≡ false → wanted ≡ true → (e : Error) × IsUnlisted old e × (new.unlisted ≡ first_cause old.unlisted e)
+  pub why : listed ≡ false → wanted ≡ true → (e : Error) × IsUnlisted old e × (new.unlisted ≡ or_else old.unlisted (Some e))
 
 -- the row of a loose handle without its pin
 abbrev pub unpinned : HandleRow → HandleRow
@@ -193,7 +257,7 @@ landed c = if c.holds == 0 then None else Some (record c { is_falling = false; n
 
 -- the value of the node has gone
 abbrev pub HasFallen : (ℕ → Option Counts) → List HandleRow → ℕ → Type 0
-HasFallen at rows n = (held n rows ≡ 0) ⊎ ((keyed_in (at n) ≡ true) × (pins n rows ≡ 0))
+HasFallen at rows n = (held n rows ≡ 0) ⊎ ((if_there (λ (c : Counts). nat_lt 0 c.key) false (at n) ≡ true) × (pins n rows ≡ 0))
 
 -- how many handles values own
 abbrev pub is_valued : Owner → Bool
@@ -249,3 +313,62 @@ keyed c key top = record c { key = key; is_falling = c.pins == 0; next = if c.pi
 -- the cells, with this key at one
 abbrev pub GetsKey : (ℕ → Option Counts) → (ℕ → Option Counts) → ℕ → ℕ → Type 0
 GetsKey old new n key = SameAt (updated n (if_there (λ (cell : Cell). Some (record cell { key = OptionalDataKey.Some key })) None (cell_in (old n))) (λ m. cell_in (old m))) (λ m. cell_in (new m))
+
+-- ---- what has gone and what has come since handles began to be given up: before a call, in the world that it has made directly, and in the tables
+
+-- the world with the handles, nodes and list of the tables
+abbrev pub with_tables : Core → Holdings → Core
+with_tables w t =
+    record w {
+      rows = live t.handles.places.items;
+      cells = λ n. cell_in (counts_at t.nodes n);
+      list = t.list.items;
+      last = record w.last { handle = t.last_handle };
+      places = record { handles = vec_capacity t.handles.places; entries = vec_capacity t.list };
+    }
+
+-- the answer, by the cause that was kept
+abbrev pub told_by : Option Error → Result (Unit {0}) Error
+told_by None = Ok tt
+told_by (Some e) = Err e
+
+-- a pin of the node that isn't a Shared one
+abbrev pub is_plain_pin : ℕ → HandleRow → Bool
+is_plain_pin n h = is_pin n h && not (is_shared h.mode)
+
+-- What a call has made directly of the world before it, so that handles can be given up.
+pub record Begins (before w : Core) (lists : Bool) : Type 0 where
+  -- cells are listed while the storage is open
+  pub open_storage : lists ≡ not w.closed
+  -- pins are no more, and a node's pins are Shared or not, as before
+  pub fewer : (n : ℕ) → pins n w.rows ≤ pins n before.rows
+  pub shared : (n : ℕ) → sharing n w.rows ≤ sharing n before.rows
+  pub uniform : (n : ℕ) → (sharing n before.rows ≡ 0) ⊎ (times (is_plain_pin n) w.rows ≡ 0)
+  -- the list has no handle but its own, each at most once
+  pub listed : (q : ℕ) → times (λ (h : HandleNumber). h.0 == q) w.list ≤ times (λ h. is_handle q h && is_owned_by Owner.List h) w.rows
+
+-- The given handles have gone from the world w, with more that had to; the tables hold what is left and what came.
+pub record SoFar (before w : Core) (given : ℕ → Bool) (lists : Bool) (t : Holdings) : Type 0 where
+  pub begins : Begins before w lists
+  pub gone : ℕ → Bool
+  pub entries : List HandleRow
+  pub rows : live t.handles.places.items ≡ left_rows gone w.rows ++ entries
+  pub list : t.list.items ≡ filter (λ (q : HandleNumber). not (gone q.0)) w.list ++ map (λ (h : HandleRow). h.number) entries
+  pub last : t.last_handle ≡ w.last.handle + length entries
+  pub within : t.last_handle ≤ greatest
+  pub places : HasRoom w.places (with_tables w t).places
+  pub cells : (n : ℕ) → is_some (counts_at t.nodes n) ≡ true → cell_in (counts_at t.nodes n) ≡ w.cells n
+  pub holds : IsWithin w.rows given gone
+  -- each closed set that has the given handles has all that has gone, whatever entries still come where there are handles
+  pub least : (s : ℕ → Bool) (final : List HandleRow) → ((n : ℕ) → held n (live t.handles.places.items) ≡ 0 → held n final ≡ 0) → IsWithin w.rows given s
+      → IsClosed w.rows (is_keyed w) final s → IsWithin w.rows gone s
+  pub new : AreNewEntries w.last.handle entries
+  pub only : (n : ℕ) → 0 < held n entries → MustList before w (with_tables w t) n × (held n entries ≡ 1)
+  pub tells : TellsListing before w entries (told_by t.unlisted) (with_tables w t)
+  -- while a node falls, rows are no more than at first
+  pub few : t.top ≢ 0 → length (live t.handles.places.items) ≤ length w.rows
+
+-- A handle may go apart from the list: no entry that came has its number, and what is left of the list is the same without it.
+pub record IsApart (before w : Core) (given : ℕ → Bool) (lists : Bool) (t : Holdings) (f : SoFar before w given lists t) (q : ℕ) : Type 0 where
+  pub unentered : times (is_handle q) f.entries ≡ 0
+  pub kept : filter (λ (h : HandleNumber). not (f.gone h.0 || h.0 == q)) w.list ≡ filter (λ (h : HandleNumber). not (f.gone h.0)) w.list

@@ -1,13 +1,3 @@
-pub mod Live
-pub mod ByNumber
 pub mod Falling
-pub mod Onward
 pub mod Core
-pub mod Owning
-pub mod Later
-pub mod Asking
-pub mod Bearing
 pub mod Ready
-pub mod Giving
-pub mod Doing
-pub mod Becoming

@@ -1,9 +1,23 @@
--- Loads of cells that can end.
-use Rattle.std.specs.Prelude.{ℕ, ◌≡◌, ◌≤◌, ◌<◌, ◌==◌, Bool, true, not, if◌then◌else◌, List, Option, Some, is_some}
-use Rattle.pagable_model.specs.declared.{error.Error.Error, numbers.ArcRef.ArcRef}
-use Rattle.{pagable_model.specs.declared.numbers.{HandleNumber.HandleNumber, LoadNumber.LoadNumber, NodeNumber.NodeNumber}, pagable_world.specs.{declared.handles.Owner.Owner, Kinds.is_loose}}
-use Rattle.pagable_world.specs.{Kinds.any_mode, World.{Core, greatest, is_here}, Refusals.{Owns, Refused, load_fault, handle_fault}, LoadCalls.{MayEnd, end_fault}}
-use Rattle.pagable_tables.specs.{declared.{loading.{Ending.Ending, Unended.Unended}, tables.{Counts.Counts, Tables.Tables}}, ByNumber.load_at, Live.room, Falling.{has_value, AreLeft}}
+-- What a load asks of the tables, and loads of cells that can end.
+use Rattle.std.specs.Prelude.{Bool, IfErr, IfOk, List, Option, Result, Some, [], if◌then◌else◌, is_some, not, true, ℕ, ◌<◌, ◌==◌, ◌≡◌, ◌≤◌}
+use Rattle.pagable_model.specs.declared.{error.Error.Error, numbers.{ArcRef.ArcRef, HandleNumber.HandleNumber, Kind.Kind, LoadNumber.LoadNumber, NodeNumber.NodeNumber}}
+use Rattle.pagable_tables.specs.{Falling.{AreLeft, has_value, load_at, room}, declared.{loading.{Ending.Ending, Unended.Unended}, tables.{Counts.Counts, Tables.Tables}}}
+use Rattle.pagable_world.specs.{Calls.Recalls, Kinds.{any_mode, is_loose}, LoadCalls.{MayEnd, ask_fault, end_fault, is_known}, Plain.{is_loose_kind, type_of}, Refusals.{AreHandlesFull, Owns}}
+use Rattle.pagable_world.specs.{Refusals.{OwnsLoad, Refused, earlier, handle_fault, load_fault, references_fault, refused_if}, World.{Core, OpenLoad, greatest, is_here}, declared.calls.Want.Want}
+use Rattle.pagable_world.specs.declared.handles.Owner.{Owner}
+
+-- The load of a reference gets a handle of the node that the cache gives; or None where it gives none, and the storage has to be asked.
+pub record AsksKnown (w : Core) (me : Owner) (l : LoadNumber) (kind : Kind) (key : ℕ) (r : Result (Option HandleNumber) Error) (w' : Core) : Type 0 where
+  pub gives : IfOk r (λ found. (load : OpenLoad) × OwnsLoad w me l load × Recalls w (Owner.Load l) kind key found w')
+  pub refused : IfErr r (λ e. Refused (ask_fault w me l (Want.Nested kind key)) (ask_fault w me l (Want.Nested kind key)) ((is_known w (Want.Nested kind key) ≡ true) × AreHandlesFull w) w e w')
+
+-- why what a load has read can't become a node, apart from numbers and memory
+abbrev pub early_fault : Core → Owner → LoadNumber → Kind → ℕ → List ArcRef → Option Error
+early_fault w me l kind node_type references =
+    earlier (load_fault w me l) (earlier (refused_if (is_loose_kind kind.0) Error.WrongMode) (earlier (refused_if (not (node_type == type_of kind.0)) Error.WrongKind)
+    (references_fault w (Owner.Load l) [] references)))
+
+-- ---- loads of cells that can end
 
 -- The load may end with a value of this type and these references, and the handle by which it was begun can be pinned.
 pub record IsReady (w : Core) (me : Owner) (l : LoadNumber) (node_type : ℕ) (references : List ArcRef) (e : Ending) : Type 0 where

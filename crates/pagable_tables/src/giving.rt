@@ -1,10 +1,10 @@
 //! Handles that are given up: one, or together all that a load owns, a worker, or the list. And loose ones that let their pins go, or whose cells get keys.
 
-ghost use Rattle.std.specs.Prelude.{Bool, IfNone, IfSome, IsSome, None, Ok, Option, Some, [], false, length, nat_eq, slice_get, true, ◌&&◌, ◌<◌, ◌==◌, ◌||◌, ◌≡◌, ◌≤◌};
-ghost use Rattle.pagable_tables.specs.{Onward.{with_tables, SoFar}, ByNumber.counts_at, Core.{core_of, IsWhole}, Live.{live, AreSound, alive}, Doing.DoesShed, Later.AreLater, Falling.GetsKey};
-ghost use Rattle.pagable_tables.specs.{Falling.{owns_nothing, Sheds, IsFalling, ValueStays, keyed, is_valued}, declared.giving.Giving.Giving, Giving.{InReach, LoadsAre, gives_row, passes_in}};
-ghost use Rattle.{indexmap.specs.IndexMap.get, std.specs.Prelude.{List, ℕ}, pagable_world.specs.{Plain.Blob, Cascade.{Falls, nobody, only_handle}, declared.handles.Owner.Owner, Workers.is_load_of}};
-ghost use Rattle.pagable_world.specs.{World.Core, LoadCalls.{DropCall, HandOverCall, hand_over_fault, is_owned_in}, Kinds.{is_owner, find_row}, Calls.{ReleaseCall, CloseCall, UnpinCall, SetKeyCall}};
+ghost use Rattle.std.specs.Prelude.{Bool, IfNone, IfSome, IsSome, List, None, Ok, Option, Some, [], false, length, nat_eq, slice_get, true, ℕ, ◌&&◌, ◌<◌, ◌==◌, ◌||◌, ◌≡◌, ◌≤◌};
+ghost use Rattle.{indexmap.specs.IndexMap.get, pagable_tables.specs.{Core.{AreLater, DoesShed, InReach, IsWhole, LoadsAre, core_of, gives_row, passes_in}, Falling.{AreSound, GetsKey, IsFalling}}};
+ghost use Rattle.pagable_tables.specs.{Falling.{Sheds, SoFar, ValueStays, alive, counts_at, is_valued, keyed, live, owns_nothing, with_tables}, declared.giving.Giving.Giving};
+ghost use Rattle.pagable_world.specs.{Calls.{CloseCall, ReleaseCall, SetKeyCall, UnpinCall}, Cascade.{Falls, nobody, only_handle}, Kinds.{find_row, is_owner}, LoadCalls.{DropCall, HandOverCall}};
+ghost use Rattle.pagable_world.specs.{LoadCalls.{hand_over_fault, is_owned_in}, Plain.Blob, World.Core, declared.handles.Owner.Owner};
 
 use crate::handles::{self, Handles};
 use crate::holdings::{Holdings, fall, give_up, shed, top_after};
@@ -29,19 +29,6 @@ pub enum Giving {
     Listed,
 }
 
-/// Whether this owner is a load of the worker's.
-fn is_load_of(loads: &Loads, worker: WorkerNumber, owner: Owner) -> bool
-    ensures { (w : Core) → LoadsAre loads.now w → result ≡ is_load_of w worker.0 owner }
-{
-    match owner {
-        Owner::Load(load) => match tables::load_of(loads, load.0) {
-            Some(row) => is_owner(Owner::Worker(worker), row.owner),
-            None => false,
-        },
-        Owner::Caller | Owner::Value(_) | Owner::List | Owner::Worker(_) => false,
-    }
-}
-
 /// Whether the handle of this row is given up.
 fn gives(loads: &Loads, giving: Giving, row: HandleRow) -> bool
     ensures { (w : Core) → LoadsAre loads.now w → result ≡ gives_row w giving row }
@@ -51,15 +38,19 @@ fn gives(loads: &Loads, giving: Giving, row: HandleRow) -> bool
         Giving::AtNode(worker, node) => {
             is_owner(Owner::Worker(worker), row.owner) && row.node.0 == node.0
         }
-        Giving::Worker(worker) => {
-            is_owner(Owner::Worker(worker), row.owner) || is_load_of(loads, worker, row.owner)
-        }
+        Giving::Worker(worker) => match row.owner {
+            Owner::Load(load) => match tables::load_of(loads, load.0) {
+                Some(row) => is_owner(Owner::Worker(worker), row.owner),
+                None => false,
+            },
+            owner => is_owner(Owner::Worker(worker), owner),
+        },
         Giving::Listed => is_owner(Owner::List, row.owner),
     }
 }
 
 /// The last handle that is given up, of a number above `since` and not above `left`.
-#[tactic(auto, using(crate::proofs::Doing::places))]
+#[tactic(auto, using(crate::proofs::Newer::places))]
 fn last(handles: &Handles, loads: &Loads, giving: Giving, since: u64, left: u64) -> Option<HandleAt>
     requires { AreSound handles.now }
     ensures place { IfSome result (λ at. slice_get handles.now.places.items at.place ≡ Some (alive at.row)) }

@@ -1,9 +1,9 @@
 //! Live handles in the order of their numbers, found by halving. A dead row stays in its place until none behind it lives, or more than half are dead.
 
-ghost use Rattle.std.specs.{Prelude.{vec_len, vec_capacity, ◌≡◌, ℕ, ◌+◌, ◌<◌, ◌≤◌, ◌++◌, ◌∷◌, [], length, sum_by, slice_get, Some, None, IfNone, IfSome, OnOk, OnErr, false}, List.AllPairs};
-ghost use Rattle.{std.specs.List.Sorted.IsPartitionPoint, pagable_world.specs.{Plain.{changed, is_in}, Kinds.{find_row, is_handle}, Cascade.{left_rows, only_handle}}};
-ghost use Rattle.{pagable_world.specs.{Calls.{moved, is_named_by}, LoadCalls.numbers_of, declared.handles.HandleRow.HandleRow}, pagable_tables.specs.Falling.{is_valued, IsFalling, owns_nothing}};
-ghost use Rattle.pagable_tables.specs.{Live.{IsBefore, AreSound, live, alive, room, IsNext}, Becoming.{Becomes, Widens}, declared.{tables.Place.Place, holdings.Holdings.Holdings}};
+ghost use Rattle.std.specs.{List.{AllPairs, Sorted.IsPartitionPoint}, Prelude.{IfNone, IfSome, None, OnErr, OnOk, Some, [], false, length, slice_get, sum_by, ◌++◌, ◌+◌, ◌<◌, ◌∷◌, ◌≡◌, ◌≤◌}};
+ghost use Rattle.pagable_tables.specs.{Falling.{AreSound, Becomes, IsBefore, IsFalling, IsNext, Widens, alive, is_valued, live, owns_nothing, room}, declared.holdings.Holdings.Holdings};
+ghost use Rattle.{pagable_tables.specs.declared.tables.Place.Place, pagable_world.specs.{Calls.{is_named_by, moved}, Cascade.{left_rows, only_handle}, Kinds.{find_row, is_handle}}};
+ghost use Rattle.{pagable_world.specs.{LoadCalls.numbers_of, Plain.{changed, is_in}, declared.handles.HandleRow.HandleRow}, std.specs.Prelude.{vec_capacity, vec_len, ℕ}};
 
 use crate::tables::{HandleAt, Place};
 use pagable_model::{ArcRef, HandleNumber};

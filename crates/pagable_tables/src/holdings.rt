@@ -1,9 +1,9 @@
 //! Who holds what: handles, nodes with what their values refer to, and the list of cells that wait for page-out. Handles are given up here, with all that goes with them.
 
-ghost use Rattle.std.specs.{Prelude.{IfErr, List, None, OnErr, OnOk, Some, [], false, if◌then◌else◌, length, slice_get, true, ℕ, ◌&&◌, ◌+◌, ◌<◌, ◌==◌, ◌^◌, ◌||◌, ◌≡◌, ◌≢◌, ◌≤◌, ◌⊎◌}, Result.is_ok};
-ghost use Rattle.{indexmap.specs.IndexMap.get, pagable_tables.specs.{ByNumber.{counts_at, refs_at}, Falling.{Comes, GivesUp, IsFalling, IsUnlisted, Leaves, MayList, Sheds, Steps, after, is_listing}}};
-ghost use Rattle.pagable_tables.specs.{Falling.{is_new, is_node, is_valued, landed, owns, owns_nothing}, Live.{AreSound, IsNext, alive, live}, Onward.{IsApart, SoFar, told_by, with_tables}};
-ghost use Rattle.{pagable_world.specs.{Cascade.Falls, Kinds.{is_owner, is_pinning}, Plain.one, World.Core, declared.handles.Owner.Owner}, std.specs.Prelude.{Bool, nat_eq, vec_capacity, vec_len}};
+ghost use Rattle.std.specs.Prelude.{Bool, IfErr, List, None, OnErr, OnOk, Some, [], false, if◌then◌else◌, length, nat_eq, not, slice_get, true, ◌&&◌, ◌+◌, ◌<◌, ◌==◌, ◌^◌, ◌||◌, ◌≡◌, ◌≢◌, ◌≤◌, ◌⊎◌};
+ghost use Rattle.{indexmap.specs.IndexMap.get, pagable_tables.specs.Falling.{AreSound, Comes, GivesUp, IsApart, IsFalling, IsNext, IsUnlisted, Leaves, MayList, Sheds, SoFar, Steps, after, alive}};
+ghost use Rattle.{pagable_tables.specs.Falling.{counts_at, is_listing, is_node, is_valued, landed, live, owns, owns_nothing, refs_at, told_by, with_tables}, pagable_world.specs.Cascade.Falls};
+ghost use Rattle.{pagable_world.specs.{Kinds.{is_owner, is_pinning}, Plain.one, World.Core, declared.handles.Owner.Owner}, std.specs.{Prelude.{vec_capacity, vec_len, ℕ}, Result.is_ok}};
 
 use crate::handles::{self, Handles};
 use crate::tables::{self, Arcs, Counts, HandleAt, Nodes};
@@ -136,7 +136,7 @@ fn counts_after(counts: Counts, pinning: bool, stays: bool, listed: bool, top: u
 
 /// The first node that falls after that.
 pub fn top_after(before: bool, falls: bool, node: u64, top: u64) -> u64
-    ensures { result ≡ (if is_new before falls then node else top) }
+    ensures { result ≡ (if falls && not before then node else top) }
 {
     if falls && !before { node } else { top }
 }

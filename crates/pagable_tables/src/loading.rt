@@ -1,14 +1,13 @@
 //! Loads that begin, of a key or a cell, and whose an open load is; what a load reads becomes nodes; and loads of cells that end with a value.
 
-ghost use Rattle.std.specs.Prelude.{IfErr, IfNone, IfOk, IfSome, IsSome, None, OnOk, Some, false, length, not, true, ◌<◌, ◌≡◌, ◌≢◌, ◌≤◌, ◌⊎◌};
-ghost use Rattle.{indexmap.specs.IndexMap.{get, spare}, pagable_tables.specs.{Asking.{AsksKnown, early_fault}, Bearing.{IsReady, OnlyRoom}, Becoming.{Becomes, coming}}};
-ghost use Rattle.pagable_tables.specs.{ByNumber.{counts_at, load_at, refs_at}, Core.{IsWhole, MayHold, core_of, load_in, plain_of}, Doing.Does, Falling.{IsFalling, Sheds, has_value, key_in}};
-ghost use Rattle.pagable_tables.specs.{Falling.owns_nothing, Later.AreLater, Live.{AreSound, alive, live}, Onward.{SoFar, with_tables}, Ready.{HasPlace, IsReady as IsEndReady, ShedsBeside, Unends}};
-ghost use Rattle.pagable_world.specs.{Calls.{IsNext, birth_fault, is_named_by, moved, with_handle}, Cascade.{FallsAnyhow, nobody}, Kinds.{is_in_memory, is_pinning, is_shared, mode_of, owner_value}};
-ghost use Rattle.pagable_world.specs.LoadCalls.{Adopts, BeginCall, BeginKeyCall, Installs, IsNextLoad, LazyCall, adopt_fault, adopted, end_fault, first_key, is_owned_in, root_fault, with_load};
-ghost use Rattle.pagable_world.specs.{Pager.MayOwnLoad, Plain.{Blob, if_there, is_loose_kind}, Refusals.{OwnsLoad, Refused, load_fault, references_fault, spent, where_so}, World.Alike};
-ghost use Rattle.{pagable_world.specs.{World.{Core, OpenLoad, greatest, of_cell, usable}, declared.{handles.Owner.Owner, rows.Mode.Mode}}, std.specs.Prelude.{Bool, Option, [], nat_eq, slice_get, ℕ}};
-ghost use Rattle.pagable_model.specs.declared.data_key.OptionalDataKey.TheVariants as optional;
+ghost use Rattle.std.specs.Prelude.{Bool, IfErr, IfNone, IfOk, IfSome, IsSome, None, OnOk, Option, Some, [], false, length, nat_eq, not, slice_get, true, ℕ, ◌<◌, ◌≡◌, ◌≢◌, ◌≤◌, ◌⊎◌};
+ghost use Rattle.{indexmap.specs.IndexMap.{get, spare}, pagable_tables.specs.{Core.{AreLater, Does, IsReady, IsWhole, MayHold, OnlyRoom, core_of, load_in, plain_of}, Falling.{AreSound, Becomes}}};
+ghost use Rattle.pagable_tables.specs.{Falling.{IsFalling, Sheds, SoFar, alive, coming, counts_at, has_value, key_in, live, load_at, owns_nothing, refs_at, with_tables}, Ready.{AsksKnown, HasPlace}};
+ghost use Rattle.{pagable_tables.specs.Ready.{IsReady as IsEndReady, ShedsBeside, Unends, early_fault}, pagable_world.specs.Calls.{IsNext, birth_fault, is_named_by, moved, with_handle}};
+ghost use Rattle.pagable_world.specs.{Cascade.{FallsAnyhow, nobody}, Kinds.{is_pinning, is_shared, mode_of, owner_value}, LoadCalls.{Adopts, BeginCall, BeginKeyCall, Installs}};
+ghost use Rattle.pagable_world.specs.{LoadCalls.{IsNextLoad, LazyCall, adopt_fault, adopted, end_fault, first_key, is_owned_in, root_fault, with_load}, Pager.MayOwnLoad, Plain.{Blob, if_there}};
+ghost use Rattle.pagable_world.specs.{Plain.is_loose_kind, Refusals.{OwnsLoad, Refused, load_fault, references_fault, spent, where_so}, World.{Alike, Core, OpenLoad, greatest, of_cell, usable}};
+ghost use Rattle.pagable_world.specs.declared.{handles.Owner.Owner, rows.Mode.Mode};
 ghost use Rattle.pagable_model.specs.declared.error.Error.TheVariants as errors;
 ghost use Rattle.pagable_world.specs.declared.handles.Owner.TheVariants as owners;
 
@@ -20,8 +19,10 @@ use crate::making::{bear, come, is_owner, make, make_ready, own, pin_here};
 use crate::references::{
     earlier, is_loose, is_loose_kind, is_pinned_kind, load_fault, mode_of, references_fault,
 };
-use crate::tables::{self, Arcs, Counts, HandleAt, LoadRoot, LoadRow, Reach, Tables};
-use pagable_model::{ArcRef, DataKey, Error, HandleNumber, Kind, LoadNumber, NodeNumber};
+use crate::tables::{self, Arcs, HandleAt, LoadRoot, LoadRow, Reach, Tables};
+use pagable_model::{
+    ArcRef, DataKey, Error, HandleNumber, Kind, LoadNumber, NodeNumber, OptionalDataKey,
+};
 use pagable_world::handles::{HandleRow, Owner};
 use pagable_world::{Beginning, Mode};
 use std::alloc::Global;
@@ -37,18 +38,6 @@ pub fn load_row(t: &Tables, me: Owner, load: LoadNumber) -> Result<LoadRow, Erro
         return Err(Error::NotYours);
     }
     Ok(row)
-}
-
-/// The key of a node of these counts, where its value has to be read first.
-fn key_away(counts: Counts) -> Option<DataKey>
-    ensures here { IfNone result (is_in_memory counts.pins (key_in counts.key) ≡ true) }
-    ensures away { IfSome result (λ key. is_in_memory counts.pins (key_in counts.key) ≡ false) }
-    ensures key { IfSome result (λ key. key_in counts.key ≡ optional.Some key) }
-{
-    if counts.pins > 0 {
-        return None;
-    }
-    DataKey::new(counts.key)
 }
 
 /// A load of the cell of the handle at this place, with an unpinned handle of its own. OutOfMemory where one of them has no place.
@@ -106,14 +95,17 @@ pub fn load_begin(t: &mut Tables, me: Owner, handle: HandleNumber) -> Result<Beg
     if !is_loose(at.row.mode) {
         return Err(Error::WrongMode);
     }
-    let counts = tables::counts_of(&t.holdings.nodes, at.row.node.0).unwrap();
-    let Some(key) = key_away(counts) else {
+    let counts = tables::counts_of(&t.holdings.nodes, at.row.node.0);
+    if is_here(counts) {
         return Ok(Beginning::InMemory);
+    }
+    let OptionalDataKey::Some(key) = lookups::key_in(counts) else {
+        unreachable!();
     };
     if t.last_load == u64::MAX || t.holdings.last_handle == u64::MAX {
         return Err(Error::NumbersSpent);
     }
-    let load = open_cell(t, me, at, counts.node_type, key)?;
+    let load = open_cell(t, me, at, counts.unwrap().node_type, key)?;
     Ok(Beginning::Load(load, key))
 }
 

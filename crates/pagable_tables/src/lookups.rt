@@ -1,10 +1,10 @@
 //! What is asked of handles and nodes, where nothing changes by that. And the cache, which owns nothing: which node is known under a kind and a key, what it gives, and handles that are offered to it.
 
-ghost use Rattle.std.specs.Prelude.{IfErr, IfNone, IfOk, IfSome, IsOk, None, OnErr, OnOk, Some, false, if◌then◌else◌, length, not, true, ◌<◌, ◌≡◌, ◌≢◌, ◌≤◌, ◌⊎◌};
-ghost use Rattle.{pagable_model.specs.declared.{numbers.NodeNumber.NodeNumber, data_key.OptionalDataKey.OptionalDataKey}, std.specs.{Option.option_map, Prelude.{Bool, ℕ, nat_eq, Option}}};
-ghost use Rattle.pagable_tables.specs.{Later.AreLater, Core.{plain_of, MayHold, IsWhole, core_of}, Falling.{Sheds, cell_in, has_value, key_in, pins_in}, Doing.Does, ByNumber.{counts_at, known_at}};
-ghost use Rattle.pagable_world.specs.{Calls.{CountCall, RecallCall, OfferCall, Looks, NodeCall, KeyCall, offer_fault, TypeCall, AwayCall}, Plain.{if_there, type_of, Blob}, World.{Cell, key_at}};
-ghost use Rattle.{pagable_world.specs.{World.{type_at, usable}, Kinds.{fits_mode, is_in_memory, is_loose, is_pinning, mode_of}, Events.IsEntry, Refusals.Owns}, indexmap.specs.IndexMap.{get, spare}};
+ghost use Rattle.std.specs.{Option.option_map, Prelude.{Bool, IfErr, IfNone, IfOk, IfSome, IsOk, None, OnErr, OnOk, Option, Some, false, if◌then◌else◌, length, nat_eq, not, ◌<◌, ◌≡◌, ◌≢◌, ◌≤◌, ◌⊎◌}};
+ghost use Rattle.{indexmap.specs.IndexMap.{get, spare}, pagable_model.specs.declared.{data_key.OptionalDataKey.OptionalDataKey, numbers.NodeNumber.NodeNumber}, pagable_tables.specs.Core.AreLater};
+ghost use Rattle.pagable_tables.specs.{Core.{Does, IsWhole, MayHold, core_of, plain_of}, Falling.{Sheds, cell_in, counts_at, has_value, key_in, known_at, pins_in}};
+ghost use Rattle.pagable_world.specs.{Calls.{AwayCall, CountCall, KeyCall, Looks, NodeCall, OfferCall, RecallCall, TypeCall, offer_fault}, Events.IsEntry, Kinds.{fits_mode, is_in_memory, is_loose}};
+ghost use Rattle.{pagable_world.specs.{Kinds.{is_pinning, mode_of}, Plain.{Blob, if_there, type_of}, Refusals.Owns, World.{Cell, key_at, type_at, usable}}, std.specs.Prelude.{true, ℕ}};
 
 use crate::giving::give_back;
 use crate::holdings::pins;

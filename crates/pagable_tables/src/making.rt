@@ -1,10 +1,10 @@
 //! Nodes that come, handles of live ones, and handles that are pinned from now on, with or without another handle beside.
 
-ghost use Rattle.std.specs.Prelude.{IfErr, IfOk, IsSome, None, OnOk, Some, false, true, ◌+◌, ◌<◌, ◌^◌, ◌≡◌, ◌⊎◌};
-ghost use Rattle.pagable_world.specs.{World.{Alike, Core}, declared.{handles.Owner.Owner, rows.Mode.Mode}, Kinds.{find_row, is_loose, is_owned_by, is_owner, is_pinning, is_shared}, Refusals.Refused};
-ghost use Rattle.pagable_world.specs.{Refusals.{references_fault, handle_fault, Owns, earlier}, Calls.{AwayBirthCall, CloneCall, LoosenCall, PinCall, birth_fault, with_mode}, Plain.{Blob, one}};
-ghost use Rattle.{std.specs.Prelude.{Bool, Option, [], slice_get, ℕ}, pagable_tables.specs.{Core.{IsWhole, Makes, MayHold, Suits, core_of, plain_of}, Falling.{IsFalling, ValueStays, has_value}}};
-ghost use Rattle.pagable_tables.specs.{Falling.{is_valued, owns_nothing}, ByNumber.counts_at, Live.{alive, live}, Onward.with_tables, Owning.PinsHere, Bearing.{IsReady, Bears, OnlyRoom}, Doing.Does};
+ghost use Rattle.std.specs.Prelude.{Bool, IfErr, IfOk, IsSome, None, OnOk, Option, Some, [], false, slice_get, true, ℕ, ◌+◌, ◌<◌, ◌^◌, ◌≡◌, ◌⊎◌};
+ghost use Rattle.pagable_tables.specs.{Core.{Bears, Does, IsReady, IsWhole, Makes, MayHold, OnlyRoom, PinsHere, Suits, core_of, plain_of}, Falling.{IsFalling, ValueStays, alive, counts_at}};
+ghost use Rattle.{pagable_tables.specs.Falling.{has_value, is_valued, live, owns_nothing, with_tables}, pagable_world.specs.Calls.{AwayBirthCall, CloneCall, LoosenCall, PinCall, birth_fault}};
+ghost use Rattle.pagable_world.specs.{Calls.with_mode, Kinds.{find_row, is_loose, is_owned_by, is_owner, is_pinning, is_shared}, Plain.{Blob, one}, Refusals.{Owns, Refused, earlier, handle_fault}};
+ghost use Rattle.pagable_world.specs.{Refusals.references_fault, World.{Alike, Core}, declared.{handles.Owner.Owner, rows.Mode.Mode}};
 
 use crate::holdings::{Holdings, pins};
 use crate::lookups::{is_here, key_in};

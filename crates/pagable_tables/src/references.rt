@@ -1,10 +1,10 @@
 //! What is asked of modes and kinds. And why calls are refused: the references of a value that is handed in, and which of several causes is told.
 
-ghost use Rattle.std.specs.Prelude.{None, Some, false, length, not, ◌<◌, ◌||◌, ◌≡◌, ◌≤◌};
-ghost use Rattle.pagable_tables.specs.{Core.{IsWhole, core_of, load_in, plain_of}, Falling.cell_in, Live.{AreSound, live}, Owning.{named_at, seen}};
-ghost use Rattle.pagable_world.specs.{Calls.is_named_by, Kinds.{find_row, fits_mode, is_loose, is_owner, is_unpinned, mode_of}, LoadCalls.cell_fault, Plain.{Blob, if_there}};
-ghost use Rattle.pagable_world.specs.{Plain.{is_in, is_loose_kind, is_pinned_kind, type_of}, Refusals.{earlier, is_type, named_fault, rank, reference_fault, references_fault, refused_if, row_fault}};
-ghost use Rattle.{pagable_world.specs.{Workers.claim_fault, World.{Cell, Core, OpenLoad}, declared.handles.HandleRow.HandleRow}, std.specs.{Option.option_map, Prelude.{Bool, List, Option, [], ℕ}}};
+ghost use Rattle.std.specs.{Option.option_map, Prelude.{Bool, List, None, Option, Some, [], false, length, not, ℕ, ◌<◌, ◌||◌, ◌≡◌, ◌≤◌}};
+ghost use Rattle.{pagable_tables.specs.{Core.{IsWhole, core_of, load_in, named_at, plain_of, seen}, Falling.{AreSound, cell_in, live}}, pagable_world.specs.{Calls.is_named_by, Kinds.find_row}};
+ghost use Rattle.pagable_world.specs.{Kinds.{fits_mode, is_loose, is_owner, is_unpinned, mode_of}, LoadCalls.cell_fault, Plain.{Blob, if_there, is_in, is_loose_kind, is_pinned_kind, type_of}};
+ghost use Rattle.pagable_world.specs.{Refusals.{earlier, is_type, named_fault, rank, reference_fault, references_fault, refused_if, row_fault}, Workers.claim_fault, World.{Cell, Core, OpenLoad}};
+ghost use Rattle.pagable_world.specs.declared.handles.HandleRow.{HandleRow};
 ghost use Rattle.pagable_model.specs.declared.error.Error.TheVariants as errors;
 
 use crate::handles::{self, Handles};

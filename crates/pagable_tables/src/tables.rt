@@ -1,9 +1,9 @@
 //! What the tables keep of handles and nodes, rows of nodes, loads and workers by their numbers, and the tables together, with room for handles and for entries of the list. Nodes are seen as two
 //! functions of a number: what is counted of each, and what its value refers to.
 
-ghost use Rattle.std.specs.Prelude.{IfNone, IsOk, IsSome, None, OnErr, OnOk, Some, ◌++◌, ◌<◌, ◌≡◌, ◌≢◌};
-ghost use Rattle.{indexmap.specs.IndexMap.{get, spare}, pagable_tables.specs.{ByNumber.{counts_at, known_at, load_at, refs_at, worker_at}, Core.{IsWhole, core_of}, Doing.Does, Later.AreLater}};
-ghost use Rattle.{pagable_world.specs.{Calls.{ClearCall, ReserveCall, room_of}, Plain.Blob}, std.specs.{Option.option_to_list, Prelude.{Bool, Option, [], nat_eq, ℕ}}};
+ghost use Rattle.std.specs.{Option.option_to_list, Prelude.{Bool, IfNone, IsOk, IsSome, None, OnErr, OnOk, Option, Some, [], nat_eq, ℕ, ◌++◌, ◌<◌, ◌≡◌, ◌≢◌}};
+ghost use Rattle.{indexmap.specs.IndexMap.{get, spare}, pagable_tables.specs.{Core.{AreLater, Does, IsWhole, core_of}, Falling.{counts_at, known_at, load_at, refs_at, worker_at}}};
+ghost use Rattle.pagable_world.specs.{Calls.{ClearCall, ReserveCall, room_of}, Plain.Blob};
 
 use crate::handles::{self, Handles};
 use crate::holdings::Holdings;

@@ -1,10 +1,10 @@
 //! The list of cells that wait for page-out: entries come and are taken. And page-out workers: they begin, give up what they have at a node, and end.
 
-ghost use Rattle.std.specs.Prelude.{IfOk, false, length, not, true, ◌+◌, ◌<◌, ◌≡◌};
-ghost use Rattle.{indexmap.specs.IndexMap.get, pagable_model.specs.declared.numbers.LoadNumber.LoadNumber, pagable_tables.specs.{ByNumber.{counts_at, load_at, reach_at, worker_at}, Core.IsWhole}};
-ghost use Rattle.pagable_tables.specs.{Core.{MayHold, core_of, plain_of}, Doing.{Does, DoesShed}, Falling.Sheds, Giving.{BeginsWorker, InReach, IsNoLess, TakesWorker, left_load}, Later.AreLater};
+ghost use Rattle.std.specs.Prelude.{Bool, IfOk, Option, false, is_some, length, nat_eq, not, true, ℕ, ◌+◌, ◌<◌, ◌≡◌};
+ghost use Rattle.{indexmap.specs.IndexMap.get, pagable_model.specs.declared.numbers.LoadNumber.LoadNumber, pagable_tables.specs.Core.{AreLater, BeginsWorker, Does, DoesShed, InReach, IsNoLess}};
+ghost use Rattle.pagable_tables.specs.{Core.{IsWhole, MayHold, TakesWorker, core_of, left_load, plain_of}, Falling.{Sheds, counts_at, load_at, reach_at, worker_at}};
 ghost use Rattle.pagable_world.specs.{Calls.{ScheduleCall, TakeCall}, Cascade.FallsAnyhow, Kinds.{is_owner, owner_worker}, Plain.{Blob, updated}, Workers.{WorkerEnds, is_workers_at}};
-ghost use Rattle.{pagable_world.specs.declared.handles.Owner.Owner, std.specs.Prelude.{Bool, Option, is_some, nat_eq, ℕ}};
+ghost use Rattle.pagable_world.specs.declared.handles.Owner.{Owner};
 
 use crate::giving::{Giving, give_all, give_back};
 use crate::holdings::make_place;

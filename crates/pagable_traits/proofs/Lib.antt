@@ -1,20 +1,9 @@
 mod Words
-pub mod Basics
 pub mod Parts
 pub mod Items
-pub mod Collecting
-pub mod Walks
 pub mod Maps
-pub mod Sets
-pub mod Held
-pub mod Joined
-pub mod Reordered
-pub mod Anywhere
 pub mod Hashed
 pub mod JsonSteps
-pub mod JsonWritten
-pub mod JsonRead
+pub mod Json
 pub mod Listed
-pub mod Patterns
-pub mod Statics
-pub mod Tagged
+pub mod Registered

@@ -1,14 +1,15 @@
 -- Entries of maps, sorted or in order of arrival: what they mean as pairs, and what putting in, writing and reading them gives.
-use Rattle.pagable_traits.proofs.Words.{◌≡◌, ℕ, zero, suc, ◌-◌, ◌<◌, ◌≤◌, List, [], ◌∷◌, ◌++◌, length, map, arith, refl, sym, ap, ◌∙◌, append_assoc, Result, Ok, Err, length-map, append-nil}
-use Rattle.pagable_traits.proofs.Words.{AllByRecursion, IsStrictlySortedBy, keys_of, Ordering, ordering_reverse, insert_entry, Error, ArcRef, ◌>>=◌, longest, Meaning, pair, sequence}
-use Rattle.pagable_traits.proofs.Words.{entry, Entry, KeyOrder, ordered, put_all, put_sorted, AllAfter, Apart, Shape, both, sorted_map, of_entries, Forms, Entries, no-forms, more-forms, more-entries}
-use Rattle.pagable_traits.proofs.Words.{both-form, sorted-map-form, Rest, Gets, Context, deepest, items, counted, seen, read, read_with, Out, Nesting, FormAt, FormsAt, WritesSome, WritesSomeAll}
-use Rattle.pagable_traits.proofs.{Words.{kind_of_arc, Refused, RefusedAll, GivesSome, SomeMeaning, Collected, MeanAll, mean-none, mean-more, MeansList, MeansPair}, Items.{split-same, writes_no_items}}
-use Rattle.pagable_traits.proofs.{Items.writes-next, Collecting.put-in-turn, Walks.{Wraps, wraps-sequence, refuses-among}}
-use Rattle.pagable_model.specs.{Basic.length_at, Keys.Ascends, Form.no-entries, Reading.{bytes_of, two}}
-use Rattle.pagable_traits.proofs.Words.{Bool, false, IsDistinct, same_key, Differ, subst}
-use Rattle.pagable_model.specs.{Keys.put_placed, Shape.placed_map, Form.placed-map-form}
+-- Sets: what putting in, writing and reading their items gives.
+use Rattle.pagable_model.specs.Form.{no-entries, placed-map-form}
+use Rattle.pagable_model.specs.{Form.{placed-set-form, sorted-set-form}, Keys.{Ascends, put_placed, put_placed_item, put_sorted_item}, Reading.two, Shape.{placed_map, placed_set, sorted_set}}
+use Rattle.pagable_traits.proofs.{Items.{Wraps, put-in-turn, reads_items, refuses-among, split-same, wraps-sequence, writes-next, writes_no_items}, Words.{AllAfter, AllByRecursion}}
+use Rattle.pagable_traits.proofs.Words.{Apart, ArcRef, Bool, Collected, Context, Differ, Entries, Entry, Error, FormAt, Forms, FormsAt, Gets, GivesSome, IsDistinct, IsStrictlySortedBy, KeyOrder}
+use Rattle.pagable_traits.proofs.Words.{List, MeanAll, Meaning, MeansList, MeansPair, Nesting, Ok, Ordering, Out, Refused, RefusedAll, Rest, Result, Shape, SomeMeaning, WritesSome, WritesSomeAll, []}
+use Rattle.pagable_traits.proofs.Words.{ap, append-nil, append_assoc, arith, both, both-form, counted, deepest, entry, false, insert_entry, items, keys_of, kind_of_arc, length, length-map, longest}
+use Rattle.pagable_traits.proofs.Words.{map, mean-more, mean-none, more-entries, more-forms, no-forms, of_entries, ordered, ordering_reverse, pair, put_all, put_sorted, read, read_with, refl}
+use Rattle.{pagable_traits.proofs.Words.{same_key, seen, sequence, sorted-map-form, sorted_map, subst, suc, sym, zero, ℕ, ◌++◌, ◌-◌, ◌<◌, ◌>>=◌, ◌∙◌, ◌∷◌, ◌≡◌, ◌≤◌}, std.specs.BTreeSet.insert_key}
 use Rattle.indexmap.specs.IndexMap as placed_maps
+use Rattle.indexmap.specs.IndexSet as placed
 
 -- ---- entries and the pairs that they are
 
@@ -94,11 +95,7 @@ unfolding read read_with
 pair-read context s t rest = refl
 
 pairs-read : {A : Type 0} (context : Context A ArcRef) (s t : Shape) (rest : Rest A) → counted (read context (both s t)) rest ≡ viewed (map entry) (counted (two (read context s) (read context t)) rest)
-pairs-read {A} context s t rest = after (bytes_of length_at (λ n. n) rest)
-  where
-    after : (r : Result (ℕ × Rest A) Error) → (r >>= λ n. items (read context (both s t)) n.0 n.1) ≡ viewed (map entry) (r >>= λ n. items (two (read context s) (read context t)) n.0 n.1)
-    after (Ok n) = items-seen entry (read context (both s t)) (two (read context s) (read context t)) (pair-read context s t) n.0 n.1
-    after (Err e) = refl
+pairs-read context s t rest = grind (arith, items-seen entry (read context (both s t)) (two (read context s) (read context t)) (pair-read context s t))
 
 gives-viewed : {X Y Z W A : Type 0} (own : Error → Type 0) (P : X → Z → Type 0) (Q : X → W → Type 0) (view : Y → Z) (whole : Y → W) → ((x : X) (y : Y) → P x (view y) → Q x (whole y)) → (last : Rest A) (r : Result X Error) (part : Result (Y × Rest A) Error)
     → GivesSome own P last r (viewed view part) → GivesSome own Q last r (viewed whole part)
@@ -251,3 +248,61 @@ pub reads_placed_map : {X K V A : Type 0} (own : Error → Type 0) (M : K → Me
 unfolding read read_with
 reads_placed_map own M N eq is r held context s t rest last h =
     reads-entries own (λ x. Collected (MeansPair M N) (λ ys y zs. zs ≡ placed_maps.insert_entry eq ys y.0 y.1) (held x)) (λ x. MeansList (MeansPair M N) (held x)) (λ es. of_entries (put_all put_placed [] es)) (λ x es p. map-put M N (λ ys y. placed_maps.insert_entry eq ys y.0 y.1) put_placed (λ x e first second xs es all. put-in-place M N eq is x e first second all) (held x) es p) r context s t rest last h
+
+-- ---- refusals
+
+sorted-set-parts : (n : Nesting) {order : KeyOrder} {s : Shape} {m : Meaning ArcRef} {b : List ℕ} {k : List ArcRef} (ms : List (Meaning ArcRef)) → FormAt n (sorted_set order s) m b k → m ≡ sequence ms → (length ms ≤ longest) × ((c : List ℕ) × FormsAt n s ms c k)
+sorted-set-parts n ms (sorted-set-form l o s xs c k le asc f) e = split-same n e le f
+
+placed-set-parts : (n : Nesting) {s : Shape} {m : Meaning ArcRef} {b : List ℕ} {k : List ArcRef} (ms : List (Meaning ArcRef)) → FormAt n (placed_set s) m b k → m ≡ sequence ms → (length ms ≤ longest) × ((c : List ℕ) × FormsAt n s ms c k)
+placed-set-parts n ms (placed-set-form l s xs c k le differ f) e = split-same n e le f
+
+-- ---- putting in
+
+-- items by what they mean are alike
+items-alike : {K : Type 0} (M : K → Meaning ArcRef → Type 0) {xs : List K} {ms : List (Meaning ArcRef)} → MeanAll M xs ms → Alike M xs ms
+items-alike M mean-none = alike-none
+items-alike M (mean-more x m xs ms h t) = alike-more x m xs ms h (items-alike M t)
+
+alike-items : {K : Type 0} (M : K → Meaning ArcRef → Type 0) {xs : List K} {ms : List (Meaning ArcRef)} → Alike M xs ms → MeanAll M xs ms
+alike-items M alike-none = mean-none
+alike-items M (alike-more x m xs ms h t) = mean-more x m xs ms h (alike-items M t)
+
+set-put : {K : Type 0} (M : K → Meaning ArcRef → Type 0) (put : List K → K → List K) (put' : List (Meaning ArcRef) → Meaning ArcRef → List (Meaning ArcRef)) → ((x : K) (m : Meaning ArcRef) → M x m → (xs : List K) (ms : List (Meaning ArcRef)) → Alike M xs ms → Alike M (put xs x) (put' ms m))
+    → (now : List K) (ms : List (Meaning ArcRef)) → Collected M (λ ys y zs. zs ≡ put ys y) now ms → MeansList M now (sequence (put_all put' [] ms))
+set-put M put put' one now ms c = put-means M put put' (λ xs ms x m all h. one x m h xs ms all) M (λ (ns : List (Meaning ArcRef)). ns) (λ xs ms h. items-alike M h) (λ xs ms h. alike-items M h) now ms c
+
+-- ---- sorted sets
+
+put-item : {K : Type 0} (M : K → Meaning ArcRef → Type 0) (cmp : K → K → Ordering) (order : KeyOrder) → IsOrderOf M cmp order → (x : K) (m : Meaning ArcRef) → M x m → {xs : List K} {ms : List (Meaning ArcRef)} → Alike M xs ms → Alike M (insert_key cmp xs x) (insert_key (ordered order) ms m)
+put-item M cmp order is x m h alike-none = alike-more x m [] [] h alike-none
+put-item M cmp order is x m h (alike-more y f xs ms g t) = grind (arith, alike-more, put-item M cmp order is x m h t)
+
+pub wraps_sorted_set : {K : Type 0} (M : K → Meaning ArcRef → Type 0) (cmp : K → K → Ordering) (order : KeyOrder) → IsOrderOf M cmp order → (xs : List K) (n : Nesting) (s : Shape) → IsStrictlySortedBy cmp xs → Wraps M xs (MeansList M xs) n (sorted_set order s) s
+unfolding IsStrictlySortedBy
+wraps_sorted_set {K} M cmp order is xs n s sorted = wraps-sequence M xs n (sorted_set order s) s (λ ms b k f. sorted-set-parts n ms f refl)
+    (λ ms b k each le f. sorted-set-form _ order s ms b k le (apart-alike is Ordering.Less M (λ (x : K). x) (λ (ys : List K). ys) (λ x ys. refl) (λ (m : Meaning ArcRef). m) (λ x m h. h) (IsStrictlySortedBy cmp) (λ k ks h. h) (items-alike M each) sorted) f)
+
+pub reads_sorted_set : {X K A : Type 0} (own : Error → Type 0) (M : K → Meaning ArcRef → Type 0) (cmp : K → K → Ordering) (order : KeyOrder) → IsOrderOf M cmp order → (r : Result X Error) (held : X → List K) (context : Context A ArcRef) (s : Shape) (rest last : Rest A)
+    → GivesSome own (λ x. Collected M (λ ys y zs. zs ≡ insert_key cmp ys y) (held x)) last r (counted (read context s) rest) → GivesSome own (λ x. MeansList M (held x)) last r (read context (sorted_set order s) rest)
+unfolding read read_with
+reads_sorted_set own M cmp order is r held context s rest last h =
+    reads_items own (λ x. Collected M (λ ys y zs. zs ≡ insert_key cmp ys y) (held x)) (λ x. MeansList M (held x)) (λ ms. sequence (put_all (put_sorted_item order) [] ms))
+    (λ x ms p. set-put M (insert_key cmp) (put_sorted_item order) (λ y m h ys ns all. put-item M cmp order is y m h all) (held x) ms p) r (read context s) rest last h
+
+-- ---- sets in order of arrival
+
+place-item : {K : Type 0} (M : K → Meaning ArcRef → Type 0) (eq : K → K → Bool) → IsSameOf M eq → (x : K) (m : Meaning ArcRef) → M x m → {xs : List K} {ms : List (Meaning ArcRef)} → Alike M xs ms → Alike M (placed.insert_key eq xs x) (put_placed_item ms m)
+place-item M eq is x m h alike-none = alike-more x m [] [] h alike-none
+place-item M eq is x m h (alike-more y f xs ms g t) = grind (arith, alike-more, place-item M eq is x m h t)
+
+pub wraps_placed_set : {K : Type 0} (M : K → Meaning ArcRef → Type 0) (eq : K → K → Bool) → IsSameOf M eq → (xs : List K) (n : Nesting) (s : Shape) → IsDistinct eq xs → Wraps M xs (MeansList M xs) n (placed_set s) s
+unfolding IsDistinct
+wraps_placed_set {K} M eq is xs n s distinct = wraps-sequence M xs n (placed_set s) s (λ ms b k f. placed-set-parts n ms f refl)
+    (λ ms b k each le f. placed-set-form _ s ms b k le (apart-alike is false M (λ (x : K). x) (λ (ys : List K). ys) (λ x ys. refl) (λ (m : Meaning ArcRef). m) (λ x m h. h) (IsDistinct eq) (λ k ks h. h) (items-alike M each) distinct) f)
+
+pub reads_placed_set : {X K A : Type 0} (own : Error → Type 0) (M : K → Meaning ArcRef → Type 0) (eq : K → K → Bool) → IsSameOf M eq → (r : Result X Error) (held : X → List K) (context : Context A ArcRef) (s : Shape) (rest last : Rest A)
+    → GivesSome own (λ x. Collected M (λ ys y zs. zs ≡ placed.insert_key eq ys y) (held x)) last r (counted (read context s) rest) → GivesSome own (λ x. MeansList M (held x)) last r (read context (placed_set s) rest)
+unfolding read read_with
+reads_placed_set own M eq is r held context s rest last h =
+    reads_items own (λ x. Collected M (λ ys y zs. zs ≡ placed.insert_key eq ys y) (held x)) (λ x. MeansList M (held x)) (λ ms. sequence (put_all put_placed_item [] ms)) (λ x ms p. set-put M (placed.insert_key eq) put_placed_item (λ y m h ys ns all. place-item M eq is y m h all) (held x) ms p) r (read context s) rest last h

@@ -1,8 +1,18 @@
--- Values that hold others: what writing their parts one after another adds.
-use Rattle.pagable_traits.proofs.Words.{◌≡◌, false, List, [], ◌∷◌, ◌++◌, refl, Result, Ok, Err, None, inr, OnOk, IfErr, Error, ArcRef, ℕ, bool_form, memory_or, long_or, long_or_memory, Meaning}
-use Rattle.pagable_traits.proofs.Words.{pair, absent, Shape, optional, both, both-form, Out, Nesting, FormAt, WritesSome, added, NoForm, Refused, SomeMeaning, Meanings, some, MeansOption}
-use Rattle.pagable_traits.proofs.Words.{arith, means-none, MeansPair, then}
-use Rattle.pagable_model.specs.Form.{none-form}
+-- What values, and their parts one after another, are written and read as: basic values, texts and patterns, what may be absent, successes and failures, tuples and
+-- cells. All that a reader and a writer owe, from what those of the bytes or of the parts tell.
+use Rattle.pagable_codec.proofs.Writing.{writes_flag, writes_letter, writes_signed, writes_unsigned}
+use Rattle.{pagable_flavors.specs.Calls.Appends, pagable_model.specs.{Basic.{char_form, duration_at, duration_form, length_at, nanos_of_second, text_at}, Carried.{nanos_of, of_duration, of_span}}}
+use Rattle.pagable_model.specs.{Carried.seconds_of, Form.{duration-form, none-form, pattern-form}, Lifted.MeansOnce, Meaning.pattern, Numbers.{IsSigned, bound, signed_form, unsigned_form, varint_at}}
+use Rattle.{pagable_model.specs.{Refusals.is_reading_fault, Shape.{duration, flag as flag_shape, letter, unsigned}, Track.{Track, left}}, pagable_traits.proofs.Words.{Answer, ArcRef, Bool, Context}}
+use Rattle.pagable_traits.proofs.Words.{Err, Error, Extends, FormAt, Gives, GivesSome, Grows, IfErr, Is, List, Meaning, Meanings, MeansOption, MeansPair, MeansResult, Nesting, NoForm, None, Ok, OnOk}
+use Rattle.pagable_traits.proofs.Words.{Option, Out, Read, Refused, Rest, Result, Shape, Some, SomeMeaning, String, WritesSome, [], absent, added, ap, arith, bool_at, bool_form, both, both-form}
+use Rattle.pagable_traits.proofs.Words.{bytes_of, char_at, err-form, failure, false, grows_bytes, grows_trans, inr, integer, length, long_or, long_or_memory, longest, means-err, means-none, means-ok}
+use Rattle.pagable_traits.proofs.Words.{means-some, memory, memory_or, memory_refuses, moves_trans, never, number, ok-form, optional, outcome, pair, present, read, read_with, refl, refused_memory}
+use Rattle.pagable_traits.proofs.Words.{signed, signed_at, some, some-form, string_bytes, success, text-form, text_form, then, to_z-of_z, true, unsigned_at, w32, w64, writes_bytes, writes_is}
+use Rattle.{pagable_traits.proofs.Words.{ℕ, ℤ, ◌*◌, ◌++◌, ◌+◌, ◌^◌, ◌∙◌, ◌∷◌, ◌≡◌, ◌≤◌}, std.proofs.{Common.{FitsSigned, of_z, rules, suc, to_z, zero, ◌/◌, ◌<◌}, lemmas.Bool.Decides.nat_tests}}
+use Rattle.std.{proofs.lemmas.{Bool.le-ltb, Nat.mod_below}, specs.{Borrow.Bor, Char.IsScalar, Duration.as_nanos, Int.{Width, w8}, Prelude.◌≢◌, Str.IsUtf8, declared.time.Duration.Duration}}
+use Rattle.pagable_model.specs.Meaning as meanings
+use Rattle.pagable_model.specs.Shape as shapes
 
 -- ---- results
 
@@ -10,9 +20,6 @@ use Rattle.pagable_model.specs.Form.{none-form}
 pub ok_along : {X : Type 0} (r : Result X Error) {P Q : Type 0} → OnOk r P → (P → Q) → OnOk r Q
 ok_along (Ok x) h f = f h
 ok_along (Err e) h f = tt
-
-pub where_ok : {X : Type 0} (r : Result X Error) (P Q : Type 0) → (P → Q) → OnOk r P → OnOk r Q
-where_ok r P Q f h = ok_along r h f
 
 pub err_along : {X : Type 0} (r : Result X Error) {P Q : Error → Type 0} → IfErr r P → ((e : Error) → P e → Q e) → IfErr r Q
 err_along (Ok x) h f = tt
@@ -97,3 +104,214 @@ refused_second r M N has p n s t h = err_along r h (λ e k fault.
 pub first_refused : {X A B : Type 0} (r : Result X Error) (M : A → Meaning ArcRef → Type 0) (N : Meanings B) (x : A) (y : B) (n : Nesting) (s t : Shape) → IfErr r (Refused (M x) n s)
     → IfErr r (Refused (MeansPair M N.of (x, y)) n (both s t))
 first_refused r M N x y n s t h = err_along r h (λ e k. refuses_first M N.of (some N) (x, y) n s t e k)
+
+-- ---- a text that is lent
+
+pub writes_str : {Y : Type 0} (r : Result Y Error) (t : List ℕ) (n : Nesting) (old last : Out) (now w : List ℕ) → now ≡ old.bytes → last ≡ record old { bytes = w } → IsUtf8 t → OnOk r (length t ≤ longest) → OnOk r (w ≡ now ++ text_form t)
+    → OnOk r (WritesSome (Is meanings.text t) n shapes.text old last)
+writes_str (Ok y) t n old last now w e f utf8 short h = rw f (writes_is meanings.text t n shapes.text old _ (writes_bytes n shapes.text (meanings.text t) old w (text_form t) (h ∙ ap (λ (b : List ℕ). b ++ text_form t) e) (text-form _ t utf8 short)))
+writes_str (Err y) t n old last now w e f utf8 short h = tt
+
+-- ---- a flag and the part after it
+
+no-some : (n : Nesting) (s : Shape) (m : Meaning ArcRef) → NoForm n s m → NoForm n (optional s) (present m)
+no-some n s m h b k (some-form l s' m' c k' f) = h c k' f
+
+pub no-success : (n : Nesting) (s t : Shape) (m : Meaning ArcRef) → NoForm n s m → NoForm n (outcome s t) (success m)
+no-success n s t m h b k (ok-form l s' t' m' c k' f) = h c k' f
+
+pub no-failure : (n : Nesting) (s t : Shape) (m : Meaning ArcRef) → NoForm n t m → NoForm n (outcome s t) (failure m)
+no-failure n s t m h b k (err-form l s' t' m' c k' f) = h c k' f
+
+module _ {T : Type 0} (M : T → Meaning ArcRef → Type 0) (y : Option T) (x : T) (here : y ≡ Some x) (n : Nesting) (s : Shape) where
+  pub writes_present : (old mid new : Out) → mid ≡ added old (bool_form true) [] → WritesSome (M x) n s mid new → WritesSome (MeansOption M y) n (optional s) old new
+  writes_present old mid new e w =
+      rw here (writes_whole n n present s (optional s) (M x) (MeansOption M (Some x)) (λ m is. means-some x m is) (bool_form true) old mid new (λ m b k f. some-form _ s m b k f) e w)
+
+  pub refused_present : {Z : Type 0} (r : Result Z Error) → IfErr r (Refused (M x) n s) → IfErr r (Refused (MeansOption M y) n (optional s))
+  refused_present r h =
+      rw here (err_along r h (λ e k. refuses_whole n n present s (optional s) (M x) (MeansOption M (Some x)) (λ m is. means-some x m is) e (no-some n s) k))
+
+module _ {T X : Type 0} (M : T → Meaning ArcRef → Type 0) (N : X → Meaning ArcRef → Type 0) (y : Result T X) (n : Nesting) (s t : Shape) where
+  pub writes_success : (x : T) (flag : Bool) (old mid new : Out) → y ≡ Ok x → flag ≡ true → mid ≡ added old (bool_form flag) [] → WritesSome (M x) n s mid new
+      → WritesSome (MeansResult M N y) n (outcome s t) old new
+  writes_success x flag old mid new here is e w =
+      rw here
+      (writes_whole n n success s (outcome s t) (M x) (MeansResult M N (Ok x)) (λ m is. means-ok x m is) (bool_form true) old mid new (λ m b k f. ok-form _ s t m b k f) (rw is at e) w)
+
+  pub writes_failure : (x : X) (flag : Bool) (old mid new : Out) → y ≡ Err x → flag ≡ false → mid ≡ added old (bool_form flag) [] → WritesSome (N x) n t mid new
+      → WritesSome (MeansResult M N y) n (outcome s t) old new
+  writes_failure x flag old mid new here is e w =
+      rw here
+      (writes_whole n n failure t (outcome s t) (N x) (MeansResult M N (Err x)) (λ m is. means-err x m is) (bool_form false) old mid new (λ m b k f. err-form _ s t m b k f) (rw is at e) w)
+
+  pub refused_success : {Z : Type 0} (r : Result Z Error) (x : T) → y ≡ Ok x → IfErr r (Refused (M x) n s) → IfErr r (Refused (MeansResult M N y) n (outcome s t))
+  refused_success r x here h =
+      rw here (err_along r h (λ e k. refuses_whole n n success s (outcome s t) (M x) (MeansResult M N (Ok x)) (λ m is. means-ok x m is) e (no-success n s t) k))
+
+  pub refused_failure : {Z : Type 0} (r : Result Z Error) (x : X) → y ≡ Err x → IfErr r (Refused (N x) n t) → IfErr r (Refused (MeansResult M N y) n (outcome s t))
+  refused_failure r x here h =
+      rw here (err_along r h (λ e k. refuses_whole n n failure t (outcome s t) (N x) (MeansResult M N (Err x)) (λ m is. means-err x m is) e (no-failure n s t) k))
+
+-- ---- tuples
+
+-- what one thing means, another means too
+pub pair_along : {A B C D : Type 0} (M : A → Meaning ArcRef → Type 0) (N : B → Meaning ArcRef → Type 0) (M' : C → Meaning ArcRef → Type 0) (N' : D → Meaning ArcRef → Type 0) (p : A × B) (q : C × D)
+    → ((m : Meaning ArcRef) → M p.0 m → M' q.0 m) → ((m : Meaning ArcRef) → N p.1 m → N' q.1 m) → (m : Meaning ArcRef) → MeansPair M N p m → MeansPair M' N' q m
+pair_along M N M' N' p q f g m h = record { first = h.first; second = h.second; is_first = f h.first h.is_first; is_second = g h.second h.is_second; is = h.is }
+
+-- ---- cells: what is written of what one was seen to hold is written of the cell, whatever else it may hold
+
+-- what lent values mean, they mean themselves
+pub held_means : {T : Type 0} (M : T → Meaning ArcRef → Type 0) (held : Option (Bor T)) (m : Meaning ArcRef) → MeansOption (λ x. M x.now) held m → MeansOnce M m
+held_means M _ _ means-none = record { held = None; means = means-none }
+held_means M _ _ (means-some x m is) = record { held = Some x.now; means = means-some x.now m is }
+
+pub ruleset steps = (ok_along, err_along, grows_trans, memory_refuses, refused_memory)
+
+pub ruleset writes_option = (steps, writes_absent, writes_present, refused_present)
+
+pub ruleset writes_result = (steps, writes_success, writes_failure, refused_success, refused_failure)
+
+pub ruleset alike = (ok_along, err_along, some_along, refused_along, pair_along)
+
+pub ruleset pairs = (ok_along, err_along, grows_trans, writes_both, first_refused, refused_second, some)
+
+pub ruleset reads = (means-none, means-some, means-ok, means-err, moves_trans)
+
+-- ---- reading
+
+pub gives_bytes : {X Y : Type 0} (own : Error → Type 0) (view : X → Y) (meaning : Y → Meaning ArcRef) (at : List ℕ → Read Y) (r : Result X Error) (rest : Rest Answer) (after : List ℕ) → Gives own (λ x. (view x, after)) r (at rest.bytes)
+    → GivesSome own (Is (λ x. meaning (view x))) (record rest { bytes = after }) r (bytes_of at meaning rest)
+gives_bytes own view meaning at r rest after h = grind arith
+
+-- by what a deserializer says of itself with another reader
+module _ (context : Context Answer ArcRef) (rest last : Rest Answer) (given used : Track) (same : rest.bytes ≡ left given) (moved : last ≡ record rest { bytes = left used }) where
+  read_as : {X Y : Type 0} (own : Error → Type 0) (view : X → Y) (meaning : Y → Meaning ArcRef) (at : List ℕ → Read Y) (r : Result X Error) → Gives own (λ x. (view x, left used)) r (at (left given))
+      → GivesSome own (Is (λ x. meaning (view x))) last r (bytes_of at meaning rest)
+  read_as own view meaning at r told = rw moved (gives_bytes own view meaning at r rest (left used) (rw same told))
+
+  pub reads_unsigned : (w : Width) (r : Result ℕ Error) → Gives never (λ n. (n, left used)) r (unsigned_at w (left given)) → GivesSome never (Is number) last r (read context (unsigned w) rest)
+  unfolding read read_with
+  reads_unsigned w r told = read_as never (λ n. n) number (unsigned_at w) r told
+
+  pub reads_signed : (w : Width) (r : Result ℤ Error) → Gives never (λ z. (z, left used)) r (signed_at w (left given)) → GivesSome never (Is integer) last r (read context (signed w) rest)
+  unfolding read read_with
+  reads_signed w r told = read_as never (λ z. z) integer (signed_at w) r told
+
+  pub reads_flag : (r : Result Bool Error) → Gives never (λ b. (b, left used)) r (bool_at (left given)) → GivesSome never (Is meanings.flag) last r (read context flag_shape rest)
+  unfolding read read_with
+  reads_flag r told = read_as never (λ b. b) meanings.flag bool_at r told
+
+  pub reads_letter : (r : Result ℕ Error) → Gives never (λ l. (l, left used)) r (char_at (left given)) → GivesSome never (Is number) last r (read context letter rest)
+  unfolding read read_with
+  reads_letter r told = read_as never (λ l. l) number char_at r told
+
+  pub reads_span : (r : Result Duration Error) → Gives never (λ d. ((seconds_of d, nanos_of d), left used)) r (duration_at (left given))
+      → GivesSome never (Is of_span) last r (read context duration rest)
+  unfolding read read_with
+  reads_span r told = read_as never (λ d. (seconds_of d, nanos_of d)) (λ p. of_duration p.0 p.1) duration_at r told
+
+pub ruleset read_steps = (reads_unsigned, reads_signed, reads_flag, reads_letter, reads_span)
+
+-- ---- writing
+
+pub wrote_on : (old new : Out) (given bytes : List ℕ) → given ≡ old.bytes → new ≡ record old { bytes = bytes } → Extends given bytes → Grows old new
+wrote_on old new given bytes e f h = rw f (grows_bytes old bytes (rw e at h))
+
+wrote_form : {X Y : Type 0} (r : Result Y Error) (n : Nesting) (s : Shape) (meaning : X → Meaning ArcRef) (x : X) (form : List ℕ) (old new : Out) (given bytes : List ℕ) → FormAt n s (meaning x) form [] → given ≡ old.bytes → new ≡ record old { bytes = bytes }
+    → OnOk r (bytes ≡ given ++ form) → OnOk r (WritesSome (Is meaning x) n s old new)
+wrote_form r n s meaning x form old new given bytes is e f h = grind (arith, writes_is, writes_bytes, is)
+
+-- by what a serializer says of itself with other bytes
+pub basic_written : {X Y E : Type 0} (r : Result Y Error) (n : Nesting) (s : Shape) (meaning : X → Meaning ArcRef) (x : X) (form : List ℕ)
+    {old new : Out} {env env_after : E} {levels levels_after : ℕ} {given bytes : List ℕ} → FormAt n s (meaning x) form []
+    → given ≡ old.bytes → new ≡ record old { bytes = bytes } → env_after ≡ env → levels_after ≡ levels
+    → Appends form r given bytes
+    → record { ok : OnOk r (WritesSome (Is meaning x) n s old new); refused : IfErr r (Refused (Is meaning x) n s); only : IfErr r memory; err : Grows old new; same_env : env_after ≡ env; same_levels : levels_after ≡ levels }
+basic_written r n s meaning x form {old = old} {new = new} {given = given} {bytes = bytes} is e f same_env same_levels told = record {
+  ok = wrote_form r n s meaning x form old new given bytes is e f told.ok;
+  refused = refused_memory r (Is meaning x) n s told.only;
+  only = told.only;
+  err = wrote_on old new given bytes e f told.err;
+  same_env = same_env;
+  same_levels = same_levels;
+}
+
+-- what a number's range in Rust is here
+is-signed : (w : Width) (z : ℤ) → FitsSigned w z → IsSigned w z
+is-signed w8 z h = search rules
+is-signed _ z h = search rules
+
+-- the same of each basic value
+module _ (n : Nesting) (old new : Out) (given bytes : List ℕ) (same : given ≡ old.bytes) (grown : new ≡ record old { bytes = bytes }) where
+  pub wrote_unsigned : (w : Width) (x limit : ℕ) → bytes ≡ given ++ unsigned_form w x → x < limit → limit ≡ bound w → WritesSome (Is number x) n (unsigned w) old new
+  wrote_unsigned w x limit is lt e = rw grown (writes_unsigned n w x old bytes (rw e at lt) (rw same at is))
+
+  pub wrote_signed : (w : Width) (z : ℤ) → FitsSigned w z → bytes ≡ given ++ signed_form w (to_z w (of_z w z)) → WritesSome (Is integer z) n (signed w) old new
+  wrote_signed w z fits is = rw grown (writes_signed n w z old bytes (is-signed w z fits) (rw (to_z-of_z w z fits, same) at is))
+
+  pub wrote_flag : (b : Bool) → bytes ≡ given ++ bool_form b → WritesSome (Is meanings.flag b) n flag_shape old new
+  wrote_flag b is = rw grown (writes_flag n b old bytes (rw same at is))
+
+  pub wrote_letter : (c : ℕ) → IsScalar c → bytes ≡ given ++ char_form c → WritesSome (Is number c) n letter old new
+  wrote_letter c scalar is = rw grown (writes_letter n c old bytes scalar (rw same at is))
+
+pub ruleset write_steps = (wrote_unsigned, wrote_signed, wrote_flag, wrote_letter)
+
+-- ---- spans of time
+
+pub writes_span : {X : Type 0} (r : Result X Error) (d : Duration) (n : Nesting) (old last : Out) (now w : List ℕ) → now ≡ old.bytes → last ≡ record old { bytes = w } → seconds_of d < 2 ^ 64
+    → OnOk r (w ≡ now ++ duration_form (seconds_of d) (nanos_of d)) → OnOk r (WritesSome (Is of_span d) n duration old last)
+writes_span r d n old last now w e f lt h =
+    wrote_form r n duration of_span d (duration_form (seconds_of d) (nanos_of d)) old last now w (duration-form _ (seconds_of d) (nanos_of d) lt (mod_below (as_nanos d) nanos_of_second (omega arith))) e f h
+
+pub span_overflows : (bytes mid after : List ℕ) (s n : ℕ) → unsigned_at w64 bytes ≡ Ok (s, mid) → unsigned_at w32 mid ≡ Ok (n, after) → 2 ^ 64 ≤ s + n / nanos_of_second → duration_at bytes ≡ Err Error.BadDuration
+unfolding duration_at
+span_overflows bytes mid after s n g h le = rw (g, h, le-ltb (s + n / nanos_of_second) (2 ^ 64) le) refl
+
+pub span_read : (d : Duration) (bytes mid after : List ℕ) (s n : ℕ) → unsigned_at w64 bytes ≡ Ok (s, mid) → unsigned_at w32 mid ≡ Ok (n, after) → s + n / nanos_of_second < 2 ^ 64 → as_nanos d ≡ s * nanos_of_second + n
+    → duration_at bytes ≡ Ok ((seconds_of d, nanos_of d), after)
+unfolding duration_at
+span_read d bytes mid after s n g h lt e = grind arith
+
+-- ---- writing
+
+pub writes_pattern : {Y : Type 0} (r : Result Y Error) (t : List ℕ) (n : Nesting) (old last : Out) (now w : List ℕ) → now ≡ old.bytes → last ≡ record old { bytes = w } → IsUtf8 t → OnOk r (length t ≤ longest) → OnOk r (w ≡ now ++ text_form t)
+    → OnOk r (WritesSome (Is pattern t) n shapes.pattern old last)
+writes_pattern (Ok y) t n old last now w e f utf8 short h = rw f (writes_is pattern t n shapes.pattern old _ (writes_bytes n shapes.pattern (pattern t) old w (text_form t) (h ∙ ap (λ (b : List ℕ). b ++ text_form t) e) (pattern-form _ t utf8 short)))
+writes_pattern (Err y) t n old last now w e f utf8 short h = tt
+
+-- a pattern that is too long has no form
+no-pattern : (n : Nesting) (t : List ℕ) → longest < length t → NoForm n shapes.pattern (pattern t)
+no-pattern n t lt b k (pattern-form l u v le) = omega (arith, lt, le)
+
+pub refused_pattern : {Y : Type 0} (r : Result Y Error) (t : List ℕ) (n : Nesting) → IfErr r (long_or_memory (length t)) → IfErr r (Refused (Is pattern t) n shapes.pattern)
+refused_pattern r t n h = grind (arith, no-pattern n t, memory_refuses)
+
+-- ---- reading
+
+module _ {Z : Type 0} (r : Result (String Z) Error) (rest last : Rest Answer) (bytes after : List ℕ) (e : rest.bytes ≡ bytes) (f : last ≡ record rest { bytes = after }) (h : Gives memory (λ t. (string_bytes t, after)) r (text_at bytes)) where
+  pub gives_pattern : GivesSome memory (Is (λ t. pattern (string_bytes t))) last r (bytes_of text_at pattern rest)
+  gives_pattern = rw f (gives_bytes memory string_bytes pattern text_at r rest after (rw e h))
+
+  pub gives_text : GivesSome memory (Is (λ t. meanings.text (string_bytes t))) last r (bytes_of text_at meanings.text rest)
+  gives_text = rw f (gives_bytes memory string_bytes meanings.text text_at r rest after (rw e h))
+
+-- ---- the faults of a text are faults of the input
+
+faults-varint : (more last : ℕ) (bytes : List ℕ) (e : Error) → varint_at more last bytes ≡ Err e → is_reading_fault e ≡ true
+unfolding varint_at
+faults-varint zero last [] e h = grind arith
+faults-varint (suc more) last [] e h = grind arith
+faults-varint zero last (b ∷ rest) e h = grind arith
+faults-varint (suc more) last (b ∷ rest) e h = grind (arith, faults-varint more last rest)
+
+faults-text : (bytes : List ℕ) (e : Error) → text_at bytes ≡ Err e → is_reading_fault e ≡ true
+unfolding text_at length_at
+faults-text bytes e h = grind (arith, faults-varint)
+
+-- want of memory, or a fault of the input: a text is never refused as a pattern is
+pub text_not_refused : {X : Type 0} (view : X → List ℕ × List ℕ) (r : Result X Error) (bytes : List ℕ) → Gives memory view r (text_at bytes) → IfErr r (λ e. e ≢ Error.RegexRefused)
+text_not_refused view (Ok x) bytes h = tt
+text_not_refused view (Err e) bytes h = λ is. let fault = faults-text bytes e in grind (arith, nat_tests, h, fault, is)

@@ -1,9 +1,8 @@
 -- What `regex` builds of a text, and why it builds nothing.
-use Rattle.std.{specs.Prelude.{◌≡◌, ◌≢◌, ◌⊎◌, ℕ, List, true, refl, Result, Ok}, proofs.Common.{inl, inr}}
-use Rattle.pagable_traits.specs.OwnCauses.{ReadCauses}
-use Rattle.regex.specs.declared.string.regex.Regex.{Regex}
-use Rattle.pagable_model.specs.{declared.error.Error.Error, declared.numbers.ArcRef.ArcRef, Meaning.{Meaning, pattern}, Refusals.is_own_reading}
-use Rattle.regex.specs.{Failures.IsRightKind, Patterns.default_config, Sources.IsRefusal, Strings.regex_source, Strings.regex_config, Strings.IsReadFromSource, declared.error.Error.Error as Cause}
+use Rattle.std.{proofs.Common.{inl, inr}, specs.Prelude.{List, Ok, Result, refl, true, ℕ, ◌≡◌, ◌≢◌, ◌⊎◌}}
+use Rattle.pagable_model.specs.Meaning.{Meaning, pattern}
+use Rattle.{pagable_model.specs.{Refusals.is_own_reading, declared.{error.Error.Error, numbers.ArcRef.ArcRef}}, pagable_traits.specs.OwnCauses.ReadCauses, regex.specs.Failures.IsRightKind}
+use Rattle.regex.specs.{Patterns.default_config, Sources.IsRefusal, Strings.{IsReadFromSource, regex_config, regex_source}, declared.{error.Error.Error as Cause, string.regex.Regex.Regex}}
 use Rattle.regex.specs.declared.error.Error.TheVariants as causes
 use Rattle.pagable_model.specs.declared.error.Error.TheVariants as errors
 

@@ -1,8 +1,7 @@
 -- What the JSON values of `serde_json` are in the words of the definitions, and how their parts are read.
-use Rattle.std.specs.{Prelude.{◌≡◌, ◌<◌, ◌⊎◌, ℕ, ◌-◌, pos, String}, String.string_bytes, declared.alloc.Global.Global}
-use Rattle.serde_json.specs.{Data.{Num, Data}, View.view, declared.value.Value.Value}
-use Rattle.pagable_model.specs.{Reading.{Gets, JsonCase, json_part, below, deepest}, declared.error.Error.Error, declared.numbers.ArcRef.ArcRef, Basic.longest}
-use Rattle.pagable_model.specs.{Gives.memory, Json.{Json, of_json}, Meaning.Meaning, Shape.Shape, Standing.{Answer, answer_at}}
+use Rattle.std.specs.{Prelude.{String, pos, ℕ, ◌-◌, ◌<◌, ◌≡◌, ◌⊎◌}, String.string_bytes, declared.alloc.Global.Global}
+use Rattle.pagable_model.specs.{Basic.longest, Gives.memory, Json.{Json, of_json}, Meaning.Meaning, Reading.{Gets, JsonCase, below, deepest, json_part}, Shape.Shape}
+use Rattle.{pagable_model.specs.{Standing.{Answer, answer_at}, declared.{error.Error.Error, numbers.ArcRef.ArcRef}}, serde_json.specs.{Data.{Data, Num}, View.view, declared.value.Value.Value}}
 use Rattle.serde_json.specs.Data as kit
 use Rattle.pagable_model.specs.declared.error.Error.TheVariants as errors
 use Rattle.pagable_model.specs.Json as own

@@ -1,12 +1,9 @@
 -- What functions that write and read values owe: the clauses that the traits of values have, in one record.
-use Rattle.std.specs.{Prelude.{◌≡◌, ◌≤◌, ℕ, List, [], Result, OnOk, IfErr, String}, BTreeMap.{BTreeMap, insert_entry}, Int.w64, String.string_cmp, declared.alloc.Global.Global}
-use Rattle.serde_json.specs.declared.value.Value.{Value}
-use Rattle.pagable_model.specs.{Standing.{Answer, GivesSome, Is, MovesOn, handles_at}, Writing.{Out, Nesting, nesting, added, WritesSome, WritesSomeAll, Refused, RefusedAll, Grows}}
-use Rattle.pagable_model.specs.{declared.error.Error.Error, declared.numbers.ArcRef.ArcRef, Collected.Collected, Lifted.MeansPair, Basic.{longest, length_form}, Meaning.Meaning}
-use Rattle.pagable_model.specs.{Numbers.unsigned_form, Reading.{Context, Gets, JsonCase}, Shape.Shape}
-use Rattle.pagable_traits.specs.JsonData.{of_key, of_value, part_at}
-use Rattle.pagable_codec.specs.{declared.env.Env.Ghosts as Environments, declared.serializer.PagableSerializer.Ghosts as Serializers}
-use Rattle.pagable_codec.specs.{declared.deserializer.PagableDeserializer.Ghosts as Deserializers}
+use Rattle.std.specs.{BTreeMap.{BTreeMap, insert_entry}, Int.w64, Prelude.{IfErr, List, OnOk, Result, String, [], ℕ, ◌≡◌, ◌≤◌}, String.string_cmp, declared.alloc.Global.Global}
+use Rattle.pagable_codec.specs.declared.{deserializer.PagableDeserializer.Ghosts as Deserializers, env.Env.Ghosts as Environments, serializer.PagableSerializer.Ghosts as Serializers}
+use Rattle.pagable_model.specs.{Basic.{length_form, longest}, Collected.Collected, Lifted.MeansPair, Meaning.Meaning, Numbers.unsigned_form, Reading.{Context, Gets, JsonCase}}
+use Rattle.pagable_model.specs.{Shape.Shape, Standing.{Answer, GivesSome, Is, MovesOn, handles_at}, Writing.{Grows, Nesting, Out, Refused, RefusedAll, WritesSome, WritesSomeAll, added, nesting}}
+use Rattle.{pagable_model.specs.declared.{error.Error.Error, numbers.ArcRef.ArcRef}, pagable_traits.specs.JsonData.{of_key, of_value, part_at}, serde_json.specs.declared.value.Value.Value}
 use Rattle.serde_json.specs.declared.value.Value as values
 
 -- what is added in a nesting, and what a refusal says there

@@ -1,7 +1,6 @@
 -- What a plain reference of a kind means.
 use Rattle.std.specs.Prelude.{ℕ}
-use Rattle.pagable_model.specs.{Meaning.Meaning, declared.numbers.ArcRef.ArcRef}
-use Rattle.pagable_traits.specs.declared.plain.OfKind.{OfKind}
+use Rattle.{pagable_model.specs.{Meaning.Meaning, declared.numbers.ArcRef.ArcRef}, pagable_traits.specs.declared.plain.OfKind.OfKind}
 use Rattle.pagable_model.specs.Meaning as meanings
 
 -- the reference that a value holds so

@@ -1,9 +1,8 @@
 -- References as values hold them: what they mean, and why they are read again and have one form.
-use Rattle.std.{proofs.Common.{inl, inr, subst, sym}, specs.Prelude.{◌≡◌, ◌⊎◌, refl, Bool, true, false, ℕ, ◌*◌, ◌+◌, List, codes}}
-use Rattle.pagable_model.specs.{Canonical.{IsCanonical, IsReadable, LiesIn}, Causes.memory_is_own_reading, Keyed.throughout-alone, Meaning.Meaning, OneForm.HasOneFormThroughout}
-use Rattle.pagable_model.specs.{Refusals.is_own_reading, Shape.{Shape, reference}, declared.error.Error.Error, declared.numbers.ArcRef.ArcRef, declared.reason.Reason.Reason}
-use Rattle.pagable_traits.specs.{OwnCauses.ReadCauses, ReadBack.IsReadThroughout}
-use Rattle.pagable_traits.specs.{declared.holding.HoldingArc.HoldingArc, declared.loose.PagableArc.PagableArc}
+use Rattle.std.{proofs.Common.{inl, inr, subst, sym}, specs.Prelude.{Bool, List, codes, false, refl, true, ℕ, ◌*◌, ◌+◌, ◌≡◌, ◌⊎◌}}
+use Rattle.pagable_model.specs.{Canonical.{IsCanonical, IsReadable, LiesIn}, Causes.memory_is_own_reading, Keyed.throughout-alone, Meaning.Meaning}
+use Rattle.pagable_model.specs.{OneForm.HasOneFormThroughout, Refusals.is_own_reading, Shape.{Shape, reference}, declared.{error.Error.Error, numbers.ArcRef.ArcRef, reason.Reason.Reason}}
+use Rattle.pagable_traits.specs.{OwnCauses.ReadCauses, ReadBack.IsReadThroughout, declared.{holding.HoldingArc.HoldingArc, loose.PagableArc.PagableArc}}
 use Rattle.pagable_model.specs.Meaning as meanings
 use Rattle.pagable_model.specs.declared.error.Error.TheVariants as errors
 

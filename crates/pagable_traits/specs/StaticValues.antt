@@ -1,10 +1,9 @@
 -- Why static values may be keys, and why their forms are read again: each index of a registered value as that value, in which
 -- nothing is referred to.
-use Rattle.std.specs.{Prelude.◌≡◌, Prelude.ℕ, Prelude.List, Prelude.[], Prelude.◌∷◌, Prelude.Bool, Prelude.IsTrue, Prelude.refl, List.AllByRecursion}
-use Rattle.pagable_model.specs.Meaning.{Meaning, number, integer, text, pattern, none, pair, variant, reference, followed, plain, rename, lifted}
-use Rattle.pagable_model.specs.{declared.numbers.ArcRef.ArcRef, Canonical.HasNoReference, Canonical.IsReadable, Canonical.LiesIn, Codes.one-meaning, Keyed.RefersToNothing, Keyed.throughout-alone}
-use Rattle.pagable_model.specs.{Keyed.same-by, Keys.same_key, Shape.Shape, Shape.static_value, Statics.{meanings_of, unregistered, unregistered_may_refuse_writing}}
-use Rattle.pagable_traits.specs.{OwnCauses.WriteCauses, ReadBack.IsReadThroughout}
+use Rattle.std.specs.{List.AllByRecursion, Prelude.{Bool, IsTrue, List, [], refl, ℕ, ◌∷◌, ◌≡◌}}
+use Rattle.pagable_model.specs.{Canonical.{HasNoReference, IsReadable, LiesIn}, Codes.one-meaning, Keyed.{RefersToNothing, same-by, throughout-alone}, Keys.same_key}
+use Rattle.pagable_model.specs.{Meaning.{Meaning, followed, integer, lifted, none, number, pair, pattern, plain, reference, rename, text, variant}, Shape.{Shape, static_value}, Statics.meanings_of}
+use Rattle.{pagable_model.specs.{Statics.{unregistered, unregistered_may_refuse_writing}, declared.numbers.ArcRef.ArcRef}, pagable_traits.specs.{OwnCauses.WriteCauses, ReadBack.IsReadThroughout}}
 
 -- a value that isn't registered is refused
 abbrev pub writes_unregistered : WriteCauses

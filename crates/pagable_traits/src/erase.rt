@@ -1,9 +1,8 @@
 //! What the three sorts of references have in common, whatever the type of their values.
 
-ghost use Rattle.std.specs.Prelude.{◌≡◌, ℕ, List, codes, refl};
-ghost use Rattle.pagable_model.specs.{declared.numbers.ArcRef.ArcRef as Reference, Reading.read};
-ghost use Rattle.pagable_traits.specs.References.{holding, holding_kind, holding_name, loose, loose_kind};
-ghost use Rattle.pagable_traits.specs.JsonSteps.{Reads};
+ghost use Rattle.std.specs.Prelude.{List, codes, refl, ℕ, ◌≡◌};
+ghost use Rattle.pagable_model.specs.Reading.{read};
+ghost use Rattle.{pagable_model.specs.declared.numbers.ArcRef.ArcRef as Reference, pagable_traits.specs.{JsonSteps.Reads, References.{holding, holding_kind, holding_name, loose, loose_kind}}};
 
 use crate::PagableDeserialize;
 use crate::holding::{HoldingArc, holding_kind_of};

@@ -1,9 +1,8 @@
 //! References that hold their shared value.
 
-ghost use Rattle.std.specs.{Arc.arc_value, Prelude.{◌≡◌, ◌≢◌, nat_eq, Some, option_and_then, IfOk, IfErr}};
-ghost use Rattle.pagable_model.specs.{Shape.reference as reference_shape, Reading.read, Standing.{handles_at, GivesSome, Is, MovesOn}};
-ghost use Rattle.pagable_traits.specs.References.{holding_kind, holding, holding_means, reference_has_one_form, reads_unlent, unlent};
-ghost use Rattle.pagable_traits.specs.Meanings.{exactly};
+ghost use Rattle.std.specs.{Arc.arc_value, Prelude.{IfErr, IfOk, Some, nat_eq, option_and_then, ◌≡◌, ◌≢◌}};
+ghost use Rattle.pagable_model.specs.{Reading.read, Shape.reference as reference_shape, Standing.{GivesSome, Is, MovesOn}};
+ghost use Rattle.{pagable_model.specs.Standing.handles_at, pagable_traits.specs.{Meanings.exactly, References.{holding, holding_kind, holding_means, reads_unlent, reference_has_one_form, unlent}}};
 
 use crate::plain::read_reference;
 use crate::{Canonical, Carried, OneMeaning, PagableDeserialize, PagableSerialize};

@@ -1,9 +1,7 @@
 //! Loose references.
 
-ghost use Rattle.std.specs.Prelude.{◌≡◌, ◌≢◌, IfSome, IfNone, nat_eq};
-ghost use Rattle.pagable_model.specs.Shape.{reference as reference_shape};
-ghost use Rattle.pagable_traits.specs.References.{loose, loose_kind, loose_means, reference_has_one_form};
-ghost use Rattle.pagable_traits.specs.Meanings.{exactly};
+ghost use Rattle.std.specs.Prelude.{IfNone, IfSome, nat_eq, ◌≡◌, ◌≢◌};
+ghost use Rattle.{pagable_model.specs.Shape.reference as reference_shape, pagable_traits.specs.{Meanings.exactly, References.{loose, loose_kind, loose_means, reference_has_one_form}}};
 
 use crate::{Canonical, Carried, OneMeaning, PagableDeserialize, PagableSerialize};
 use pagable_codec::{

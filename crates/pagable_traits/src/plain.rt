@@ -1,10 +1,8 @@
 //! Plain references: a reference by its kind alone, whatever the type of the value that it refers to is called.
 
-ghost use Rattle.std.specs.Prelude.{◌≡◌, ◌≢◌, IfOk, IfSome, IfNone};
-ghost use Rattle.pagable_model.specs.{Meaning.reference as meaning_of, Shape.reference as reference_shape, Gives.{memory, never}};
-ghost use Rattle.pagable_model.specs.{Reading.read, Standing.{handles_at, GivesSome, Is, MovesOn}};
-ghost use Rattle.pagable_traits.specs.{Plain.{plain, plain_means}, References.{reference_has_one_form}};
-ghost use Rattle.pagable_traits.specs.{JsonSteps.{Wrote, value as form}, Meanings.exactly};
+ghost use Rattle.std.specs.Prelude.{IfNone, IfOk, IfSome, ◌≡◌, ◌≢◌};
+ghost use Rattle.pagable_model.specs.{Gives.{memory, never}, Meaning.reference as meaning_of, Reading.read, Shape.reference as reference_shape, Standing.Is};
+ghost use Rattle.pagable_traits.specs.{JsonSteps.{Reads, Wrote, value as form}, Meanings.exactly, Plain.{plain, plain_means}, References.reference_has_one_form};
 
 use crate::{Canonical, Carried, OneMeaning, PagableDeserialize, PagableSerialize};
 use pagable_codec::{
@@ -32,11 +30,7 @@ pub fn read_reference<E: Env, D: PagableDeserializer<E>>(
     deserializer: &mut D,
 ) -> Result<ArcRef, Error>
     ensures of_kind { IfOk result (λ r. r.kind ≡ kind) }
-    ensures gives { GivesSome never (Is meaning_of) (D.rest deserializer.new) result
-        (read (handles_at (D.levels deserializer.old) (E.parts (D.environment deserializer.old))) (reference_shape kind.0) (D.rest deserializer.old)) }
-    ensures moves { MovesOn (D.standing deserializer.old) (D.standing deserializer.new) }
-    ensures same_env { D.environment deserializer.new ≡ D.environment deserializer.old }
-    ensures same_levels { D.levels deserializer.new ≡ D.levels deserializer.old }
+    ensures reads { Reads E.Env D.PagableDeserializer never (Is meaning_of) (λ c. read c (reference_shape kind.0)) deserializer.old deserializer.new result }
 {
     let reference = deserializer.deserialize_arc(kind)?;
     Ok(reference)

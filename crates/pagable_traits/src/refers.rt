@@ -1,10 +1,9 @@
 //! The references in a value, listed.
 #![tactic(auto, using(crate::proofs::Listed::parts), unfolding(pagable_model::specs::References::references_in))]
 
-ghost use Rattle.std.specs.Prelude.{◌≡◌, ◌++◌, ◌∷◌, [], map, OnOk, IfOk, IfErr};
-ghost use Rattle.pagable_model.specs.{Gives.memory, Meaning.sequence, References.references_in};
+ghost use Rattle.std.specs.Prelude.{IfErr, IfOk, OnOk, [], map, ◌++◌, ◌∷◌, ◌≡◌};
+ghost use Rattle.{pagable_model.specs.{Gives.memory, Meaning.sequence, References.references_in}, pagable_traits.specs.ReadBack.AreRead};
 ghost use Rattle.pagable_traits.specs.{References.{holding_kind, loose_kind}, Refers.{ListsInOrder, both_in_order, list_in_order, optional_in_order, reference_in_order, text_in_order}};
-ghost use Rattle.pagable_traits.specs.ReadBack.{AreRead};
 
 use crate::holding::HoldingArc;
 use crate::loose::PagableArc;

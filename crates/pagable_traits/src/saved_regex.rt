@@ -1,12 +1,11 @@
 //! Regular expressions beside their texts.
 
-ghost use Rattle.std.{specs.Prelude.{◌≡◌, ◌≢◌, ℕ, List, IfOk, IfErr}, specs.String.string_bytes, specs.Str.bytes_eq, specs.Cmp.Rules.{comparing, hashing}, proofs.Common.rules};
-ghost use Rattle.pagable_model.specs.{Gives.{memory, long_or}, Meaning.pattern, OneForm.{basic_has_one_form, basic_refers_to_nothing}, Keyed.pattern_is_same};
-ghost use Rattle.pagable_model.specs.{Reading.read, Standing.{handles_at, Is, MovesOn, GivesSome}, declared.error.Error.TheVariants.RegexRefused};
-ghost use Rattle.pagable_traits.specs.Building.{IsBuiltFrom, IsRefusedPattern, refusal_of, pattern_causes, reads_pattern, ReadsNoPattern};
+ghost use Rattle.std.{proofs.Common.rules, specs.{Cmp.Rules.{comparing, hashing}, Prelude.{IfErr, IfOk, List, ℕ, ◌≡◌, ◌≢◌}, Str.bytes_eq, String.string_bytes}};
+ghost use Rattle.pagable_model.specs.{Gives.{long_or, memory}, Keyed.pattern_is_same, Meaning.pattern, OneForm.{basic_has_one_form, basic_refers_to_nothing}, Reading.read, Standing.{GivesSome, Is}};
+ghost use Rattle.{pagable_model.specs.{Standing.{MovesOn, handles_at}, declared.error.Error.TheVariants.RegexRefused}, pagable_traits.specs.Building.{IsBuiltFrom, IsRefusedPattern, ReadsNoPattern}};
+ghost use Rattle.pagable_traits.specs.{Building.{pattern_causes, reads_pattern, refusal_of}, JsonSteps.{Reads, Wrote, value as form}, Meanings.exactly, OwnCauses.{writes_long_or, writes_memory}};
 ghost use Rattle.std.specs.Hash as fed;
 ghost use Rattle.pagable_model.specs.Shape as shapes;
-ghost use Rattle.pagable_traits.specs.{JsonSteps.{Wrote, value as form}, Meanings.{exactly}, OwnCauses.{writes_memory, writes_long_or}};
 
 use crate::{Canonical, Carried, OneMeaning, PagableDeserialize, PagableKey, PagableSerialize};
 use pagable_codec::{Env, PagableDeserializer, PagableSerializer, Reader};
@@ -130,7 +129,7 @@ impl<E: Env> PagableKey<E> for SavedRegex {
 
 /// Writes the text of a pattern: its length in bytes, and its bytes. TooLong above 4,294,967,295 bytes; else refused by
 /// want of memory alone.
-#[tactic(auto, using(pagable_codec::proofs::Writing::parts, crate::proofs::Patterns::writes_pattern, crate::proofs::Patterns::refused_pattern))]
+#[tactic(auto, using(pagable_codec::proofs::Writing::parts, crate::proofs::Parts::writes_pattern, crate::proofs::Parts::refused_pattern))]
 fn write_text<E: Env, S: PagableSerializer<E>>(text: &str, serializer: &mut S) -> Result<(), Error>
     ensures { Wrote E.Env S.PagableSerializer (form (Is pattern text.now) shapes.pattern) (long_or memory) serializer.old serializer.new result }
 {
@@ -147,17 +146,13 @@ impl<E: Env> PagableSerialize<E> for SavedRegex {
 }
 
 /// Reads the text of a pattern, and builds nothing.
-#[tactic(auto, unfolding(pagable_model::specs::Reading::read, pagable_model::specs::Reading::read_with), using(crate::proofs::Patterns::text_not_refused, crate::proofs::Patterns::gives_text))]
+#[tactic(auto, unfolding(pagable_model::specs::Reading::read, pagable_model::specs::Reading::read_with), using(crate::proofs::Parts::text_not_refused, crate::proofs::Parts::gives_pattern))]
 fn read_text<E: Env, D: PagableDeserializer<E>>(
     alloc: Global,
     deserializer: &mut D,
 ) -> Result<String, Error>
-    ensures gives { GivesSome memory (Is (λ t. pattern (string_bytes t))) (D.rest deserializer.new) result
-        (read (handles_at (D.levels deserializer.old) (E.parts (D.environment deserializer.old))) shapes.pattern (D.rest deserializer.old)) }
+    ensures reads { Reads E.Env D.PagableDeserializer memory (Is (λ t. pattern (string_bytes t))) (λ c. read c shapes.pattern) deserializer.old deserializer.new result }
     ensures unbuilt { IfErr result (λ e. e ≢ RegexRefused) }
-    ensures moves { MovesOn (D.standing deserializer.old) (D.standing deserializer.new) }
-    ensures same_env { D.environment deserializer.new ≡ D.environment deserializer.old }
-    ensures same_levels { D.levels deserializer.new ≡ D.levels deserializer.old }
 {
     deserializer.serde().read_string(alloc)
 }

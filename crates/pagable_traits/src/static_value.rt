@@ -1,13 +1,12 @@
 //! Static values: they stand in a registry that the environment holds, and are written as their index there. `T` is the
 //! reference to what is static, as `&'static str`: nothing is proved yet of a `&'static T` with a type parameter `T`.
 
-ghost use Rattle.std.specs.{Prelude.{◌≡◌, ◌<◌, ◌≤◌, ◌↔◌, ⊤, List, length, map, Option, Some, Err, OnOk, IfOk, IfErr, IfSome, IfNone, IsTrue, vec_len}, List.slice_get};
-ghost use Rattle.std.specs.List.Sorted.{IsPermutation, IsSorted, IsStable};
-ghost use Rattle.pagable_model.specs.{Statics.{HasEqual, NoEqualBelow, StandsAt, meanings_of, unregistered}, Basic.longest, Canonical.HasNoReference, Gives.Gives};
-ghost use Rattle.pagable_model.specs.{Gives.{never, memory_or}, Meaning.{Meaning, lifted}, Reading.{read, registered}, Shape.static_value, Standing.{handles_at, GivesSome, Is, MovesOn}};
-ghost use Rattle.pagable_model.specs.{Writing.{nesting, WritesSome, Refused, Grows}, Lengths.long_or_memory};
-ghost use Rattle.pagable_traits.specs.StaticValues.{static_is_same, static_refers_to_nothing, writes_unregistered};
-ghost use Rattle.pagable_traits.specs.{Meanings.{exactly}, OwnCauses.{writes_memory_or}};
+ghost use Rattle.std.specs.List.Sorted.{IsPermutation};
+ghost use Rattle.std.specs.{List.{Sorted.{IsSorted, IsStable}, slice_get}, Prelude.{Err, IfErr, IfNone, IfOk, IfSome, IsTrue, List, OnOk, Option, Some, length, map, vec_len, ⊤, ◌<◌, ◌↔◌, ◌≡◌, ◌≤◌}};
+ghost use Rattle.pagable_model.specs.{Basic.longest, Canonical.HasNoReference};
+ghost use Rattle.pagable_model.specs.{Gives.{Gives, memory_or, never}, Lengths.long_or_memory, Meaning.{Meaning, lifted}, Reading.{read, registered}, Shape.static_value, Standing.GivesSome};
+ghost use Rattle.pagable_model.specs.{Standing.{Is, MovesOn, handles_at}, Statics.{HasEqual, NoEqualBelow, StandsAt, meanings_of, unregistered}, Writing.{Grows, Refused, WritesSome, nesting}};
+ghost use Rattle.pagable_traits.specs.{Meanings.exactly, OwnCauses.writes_memory_or, StaticValues.{static_is_same, static_refers_to_nothing, writes_unregistered}};
 
 use crate::keys::PagableKey;
 use crate::traits::{Carried, OneMeaning, PagableDeserialize, PagableSerialize};
@@ -123,22 +122,17 @@ impl<T> Model for StaticValueRegistry<T> {
 }
 
 /// The values of the entries, in their order.
-#[tactic(auto, using(crate::proofs::Statics::values_more))]
 fn values_of<T: Copy>(alloc: Global, entries: &[StaticValueEntry<T>]) -> Result<Vec<T>, AllocError>
     ensures { IfOk result (λ v. v.items ≡ map (λ e. e.value) entries.now) }
 {
-    let mut values = Vec::with_capacity(alloc, entries.len())?;
-    for index in 0..entries.len() {
-        values.push(entries[index].value)?;
-    }
-    Ok(values)
+    entries.iter().map(|entry| entry.value).collect(alloc)
 }
 
 impl<T: Copy> StaticValueRegistry<T> {
     /// The registry of these values in ascending order, equal ones in the order in which they were given; each value's
     /// index is its place there, from 0 on, whatever index its entry brought. TooLong above 4,294,967,295 entries, else
     /// refused by want of memory alone.
-    #[tactic(auto, using(std::proofs::lemmas::List::Sorted::length_permutation, crate::proofs::Statics::lengths))]
+    #[tactic(auto, using(std::proofs::lemmas::List::Sorted::length_permutation, crate::proofs::Registered::lengths))]
     pub fn from_entries(alloc: Global, entries: Vec<StaticValueEntry<T>>) -> Result<Self, Error>
     where
         T: Ord,
@@ -183,7 +177,7 @@ impl<T: Copy> StaticValueRegistry<T> {
 }
 
 /// The first place of an equal value, or None where there is none.
-#[tactic(auto, using(crate::proofs::Statics::finding))]
+#[tactic(auto, using(crate::proofs::Registered::finding))]
 fn first_equal<T: PartialEq>(values: &[T], value: &T) -> Option<usize>
     ensures within { IfSome result (λ i. i < length values.now) }
     ensures equal { IfSome result (HasEqual T.eq value.now values.now) }
@@ -219,7 +213,7 @@ pub trait HasStaticValueRegistry<E: Env>: Ord + Copy + Sized {
 }
 
 /// The value that the environment's registry has under this index: BadStaticIndex where there is none.
-#[tactic(auto, using(crate::proofs::Statics::steps))]
+#[tactic(auto, using(crate::proofs::Registered::steps))]
 pub fn registered_value<E: Env, T: HasStaticValueRegistry<E>>(
     index: u32,
     env: &E,
@@ -235,7 +229,7 @@ pub fn registered_value<E: Env, T: HasStaticValueRegistry<E>>(
 
 /// Whether the environment's registry has an equal value under the value's own index. An equal value under another
 /// index doesn't do.
-#[tactic(auto, using(crate::proofs::Statics::steps))]
+#[tactic(auto, using(crate::proofs::Registered::steps))]
 pub fn is_registered<E: Env, T: HasStaticValueRegistry<E>>(value: &StaticValue<T>, env: &E) -> bool
     ensures { IsTrue result ↔ StandsAt T.plain (T.known env.now) value.now.0.value value.now.0.index }
 {
@@ -265,7 +259,7 @@ impl<E: Env, T: HasStaticValueRegistry<E>> PagableSerialize<E> for StaticValue<T
 
     /// Appends the index. Unregistered exactly where the environment's registry has no equal value under it, and else
     /// refused by want of memory alone.
-    #[tactic(auto, using(pagable_codec::proofs::Writing::parts, crate::proofs::Statics::writes_static))]
+    #[tactic(auto, using(pagable_codec::proofs::Writing::parts, crate::proofs::Registered::writes_static))]
     fn pagable_serialize<S: PagableSerializer<E>>(&self, serializer: &mut S) -> Result<(), Error>
         ensures ok { OnOk result (WritesSome (Is (λ v. lifted (T.plain v.0.value)) self.now) (nesting (S.levels serializer.old) (E.parts (S.environment serializer.old))) (static_value (meanings_of T.plain (T.known (S.environment serializer.old)))) (S.out serializer.old) (S.out serializer.new)) }
         ensures refused { IfErr result (Refused (Is (λ v. lifted (T.plain v.0.value)) self.now) (nesting (S.levels serializer.old) (E.parts (S.environment serializer.old))) (static_value (meanings_of T.plain (T.known (S.environment serializer.old))))) }

@@ -1,11 +1,10 @@
 //! Tagged values: a value of one of several types is written as its type's tag and its body, and read by the reader
 //! that is registered for the tag. Registries are handed in; there are no globals.
 
-ghost use Rattle.std.{specs.Prelude.{◌≡◌, ◌≤◌, [], ℕ, List, length, map, Bool, Option, Some, None, IfOk, IfErr, IfSome, IfNone, OnOk}, specs.Str.IsUtf8, specs.String.string_bytes};
-ghost use Rattle.pagable_model.specs.{Tagged.{MeansTagged, IsLastFor, NoneFor, grammars, HasDistinctTags, ReadsWhatIsWritten}, Basic.{text_form, text_at, longest}, Carried.tagged_by, Gives.Gives};
-ghost use Rattle.pagable_model.specs.{Gives.{memory, memory_or, long_or}, Reading.{read, bytes_of}, Shape.{Shape, tagged}};
-ghost use Rattle.pagable_model.specs.{Standing.{handles_at, MovesOn, GivesSome}, Writing.{nesting, WritesSome, Refused, Grows, added}, Lengths.long_or_memory};
-ghost use Rattle.pagable_traits.specs.{ReadBack.IsReadThroughout, Meanings.Meanings, OwnCauses.{ReadCauses, WriteCauses}};
+ghost use Rattle.std.specs.{Prelude.{Bool, IfErr, IfNone, IfOk, IfSome, List, None, OnOk, Option, Some, [], length, map, ℕ, ◌≡◌, ◌≤◌}, Str.IsUtf8, String.string_bytes};
+ghost use Rattle.pagable_model.specs.{Basic.{longest, text_at, text_form}, Carried.tagged_by, Gives.{Gives, long_or, memory, memory_or}, Lengths.long_or_memory, Reading.{bytes_of, read}};
+ghost use Rattle.pagable_model.specs.{Shape.{Shape, tagged}, Standing.{GivesSome, MovesOn, handles_at}, Tagged.{HasDistinctTags, IsLastFor, MeansTagged, NoneFor, ReadsWhatIsWritten, grammars}};
+ghost use Rattle.{pagable_model.specs.Writing.{Grows, Refused, WritesSome, added, nesting}, pagable_traits.specs.{Meanings.Meanings, OwnCauses.{ReadCauses, WriteCauses}, ReadBack.IsReadThroughout}};
 
 use pagable_codec::{Env, PagableDeserializer, PagableSerializer, Reader};
 use pagable_flavors::Error;
@@ -43,7 +42,7 @@ pub trait PagableTagged<E: Env>: Sized {
         ensures same_levels { S.levels serializer.new ≡ S.levels serializer.old };
 
     /// Writes the tag and then the body, whichever tags are registered. TooLong for a tag above 4,294,967,295 bytes.
-    #[tactic(auto, using(crate::proofs::Walks::writes, crate::proofs::Parts::only_parts, pagable_codec::proofs::Writing::grows_trans, crate::proofs::Tagged::writes))]
+    #[tactic(auto, using(crate::proofs::Items::writes, crate::proofs::Parts::only_parts, pagable_codec::proofs::Writing::grows_trans, crate::proofs::Registered::writes))]
     final fn serialize_tagged<S: PagableSerializer<E>>(
         &self,
         serializer: &mut S,
@@ -185,7 +184,7 @@ impl<T, F: ForTag> TypetagRegistry<T, F> {
 }
 
 /// The reader of the last registration of this tag, or None where there is none.
-#[tactic(auto, using(crate::proofs::Tagged::none_past))]
+#[tactic(auto, using(crate::proofs::Registered::none_past))]
 fn last_reader<'r, T, F: ForTag>(
     registrations: &'r [TypetagRegistration<T, F>],
     tag: &str,
@@ -205,7 +204,7 @@ fn last_reader<'r, T, F: ForTag>(
 }
 
 /// Reads a tag.
-#[tactic(auto, using(crate::proofs::Tagged::text_is_read))]
+#[tactic(auto, using(crate::proofs::Registered::text_is_read))]
 fn read_tag<E: Env, D: PagableDeserializer<E>>(
     alloc: Global,
     deserializer: &mut D,
@@ -262,7 +261,7 @@ pub fn deserialize_tagged<E: Env, T: HasTypetagRegistry<E>, D: PagableDeserializ
 
 /// With distinct tags, each under which a body has a form being registered with a reader of what is written under it,
 /// the forms of tagged values are read again, as `forms_are_read_again` of `pagable` asks.
-#[tactic(auto, using(crate::proofs::Tagged::distinct_is_read))]
+#[tactic(auto, using(crate::proofs::Registered::distinct_is_read))]
 pub fn distinct_tags_are_read_again()
     ensures { (parts : ℕ → Shape) (written : List ℕ → Shape) (registrations : List (List ℕ × Shape)) → HasDistinctTags registrations → ReadsWhatIsWritten parts written registrations → IsReadThroughout parts (tagged_by written registrations) }
 {}

@@ -1,9 +1,9 @@
 -- A worker's turns, each from what its calls did: they are its steps, and its steps are a run.
 use Rattle.{pagable_core.specs.declared.context.writing.SerializedData.SerializedData, pagable_laws.proofs.{Chains.{claimed-stands, clone-stands, may-claim}, Goes.{AreLow, Goes, Stands}}}
 use Rattle.pagable_laws.proofs.{Goes.{clone-call, low-changed, low-handle, low-whole, new-handle, not-loose, owned-none, stands-alike, stands-fell}, ReadingSteps.walk-goes, Trees.same_some}
-use Rattle.{pagable_laws.specs.TreeSteps.{Change, StandsAt}, pagable_loads.{proofs.Stepped.{acts_all, acts_map, acts_on, goes_open, moves_then, none_comes}, specs.Frames.IsLoadOf}}
+use Rattle.{pagable_laws.specs.TreeSteps.{Change, StandsAt}, pagable_loads.{proofs.Stepped.{acts_all, acts_map, acts_on, goes_open, moves_then, none_comes, tells_map}, specs.Frames.IsLoadOf}}
 use Rattle.pagable_loads.specs.{Frames.{frames_of, reading_of}, Starting.Shares, Stepping.{IsSameLoad, Steps}, Working.{BeginsAt, TakesReference}, declared.reading.Reading.Reading as Own}
-use Rattle.{pagable_loads.specs.declared.working.Taken.Taken, pagable_model.specs.Merkle.blob_of, pagable_walk.specs.Slots.{ClaimsThere, Would, claimed_shelf, keys_of, with_written, written_of}}
+use Rattle.{pagable_loads.specs.declared.access.Taken.Taken, pagable_model.specs.Merkle.blob_of, pagable_walk.specs.Slots.{ClaimsThere, Would, claimed_shelf, keys_of, with_written, written_of}}
 use Rattle.pagable_walk.specs.{Table.{IsFoundOf, found_as}, Tasks.{Gives, IsPlain, IsWay, back_of, fails, fault_of, todo_of, todos, waiting_todo, waits_as}, Turns.{ClaimFits, ClaimLeaves, Closes}}
 use Rattle.pagable_walk.specs.Turns.{Fits, HasWalked, HoldsPin, IsLoading, IsOfKind, LeavesFit, RunsTo, StepsTo, TaskFits, Turned, TurnsTo, answer_in, claim_todo, plain, plain_took, plan, site}
 use Rattle.pagable_walk.specs.{Writing.{Forms, GoesBack, IsForm, IsPinned, IsStored, Stores, WriteRefused, named_by}, declared.{results.Trees.Ghosts, table.{Found.Found, PageOutError.PageOutError}}}
@@ -88,13 +88,19 @@ module _ {N E : Type 0} (v : Values N) (s : PagerState N E) (r : ArcRef) (pin : 
     pub forms-unshared : (e : Error) → Shares see s pin (Err e) → Forms v s r pin (Err e)
     forms-unshared e shared = grind (arith, nat_tests, common_steps)
 
+  -- what was written is told by the same, or memory is wanting for that
+  pub forms-told : (w told : Written) → told ≡ w → Forms v s r pin (Ok w) → Forms v s r pin (Ok told)
+  forms-told w told same forms = subst (λ x. Forms v s r pin (Ok x)) (sym same) forms
+
+  pub forms-short : (w : Written) (e : Error) → e ≡ Error.OutOfMemory → Forms v s r pin (Ok w) → Forms v s r pin (Err e)
+  forms-short w e is forms = grind (arith, nat_tests, common_steps)
+
 module _ {N E : Type 0} (v : Values N) (s : PagerState N E) (r : ArcRef) (pin : HandleNumber) {W : Type 0} (see : W → Written) where
   pub forms-from : {X : Type 0} (at : X → N) (y : X) (result : Result W Error) → IfOk result (λ d. IsForm v (at y) (see d)) → IfErr result (λ e. WriteRefused v (at y) e)
       → Shares at s pin (Ok (Some y)) → Forms v s r pin (seen_as see result)
   forms-from at y result is why shared = grind (arith, nat_tests, common_steps, shared-some v s r pin (at y) shared.given)
 
-  pub kept-forms : (w : Written) (result : Result W Error) → IfOk result (λ p. see p ≡ w) → IfErr result (λ e. e ≡ Error.OutOfMemory) → Forms v s r pin (Ok w) → Forms v s r pin (seen_as see result)
-  kept-forms w result same only forms = grind (arith, nat_tests, common_steps)
+pub ruleset forming = (nat_tests, tells_map, forms-told, forms-short)
 
 -- ---- the turn
 

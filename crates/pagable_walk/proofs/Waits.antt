@@ -1,10 +1,11 @@
 -- Whom a worker waits for, that waits come to an end, and the slots of a table after each change.
-use Rattle.pagable_world.specs.{Plain.{Identity, updated, SameAt}, World.{Shelf, no_result, is_identity, Slot, Outcome, SameShelf}, Workers.{works, is_open_slot, may-go-on, with_slot, IsOpenSlot}}
-use Rattle.{pagable_world.specs.Workers.{waits-back, is_open_outcome, with_outcome, ComesToEnd, with_wait, waits-on}, std.specs.{Option.option_map, Prelude.{OnErr, Err, Result, Ok, OnOk}}}
+use Rattle.pagable_world.specs.{Plain.{Identity, updated, SameAt, if_there}, World.{Shelf, no_result, is_identity, Slot, Outcome, SameShelf}, Workers.{works, is_open_slot, may-go-on, with_slot}}
+use Rattle.{pagable_world.specs.Workers.{IsOpenSlot, waits-back, is_open_outcome, with_outcome, ComesToEnd, with_wait, waits-on}, std.specs.{Option.option_map, Prelude.{OnErr, Err, Result, Ok, OnOk}}}
 use Rattle.std.{specs.Map.{values_of, lookup}, proofs.Common.{true, ℕ, inr, ◌&&◌, Some, ◌⊎◌, None, suc, if◌then◌else◌, ap, cond, sym, slice_get, ◌∷◌, List, ◌<◌, [], Option, ◌≤◌, length, Bool, false}}
 use Rattle.{std.proofs.{Common.{nat_eq, ◌∙◌, zero, ◌≡◌, inl, arith, subst, refl}, lemmas.{Grind.{common_steps, merely}, Bool.Decides.nat_tests, Option.none-some}}, pagable_laws.proofs.Trees.same_some}
-use Rattle.{indexmap.specs.IndexMap.{set_value_at, get, IndexMap}, pagable_walk.specs.Slots.{failed_by, ends-at, FailedTo, slots_in, AreNamed, Ends, WaitsFor, Leads, open_worker, EachEnds, is_same}}
-use Rattle.pagable_walk.specs.{Slots.{Stands, after_failure, SlotIs, Changes, slot_of, claimed_by, IsNamed}, declared.{results.Trees.Ghosts, slots.{Standing.Standing, ArcSerSlot.ArcSerSlot}}}
+use Rattle.{indexmap.specs.IndexMap.{set_value_at, get, IndexMap}, pagable_walk.specs.Slots.{failed_by, ends-at, FailedTo, slots_in, AreNamed, Ends, Leads, open_worker, EachEnds, is_same, waits_for}}
+use Rattle.pagable_walk.specs.Slots.{Stands, shelf_in, after_failure, SlotIs, Changes, slot_of, claimed_by, IsNamed}
+use Rattle.pagable_walk.specs.declared.{results.Trees.Ghosts, slots.{Standing.Standing, ArcSerSlot.ArcSerSlot}}
 use mathlib.Core.{HLevel.Σ_prop_path, Logic.{∥∥₁_elim, ∥∥₁_map, ∥∥₁_prop}}
 use native.Mathlib.Nat.{ℕ_set}
 
@@ -74,12 +75,9 @@ module _ {E : Type 0} {g : Ghosts E} where
       pub changed-is : (f : Slot → Slot) → slot_of s ≡ f (slot_of was) → Changes f (slots_in old) i (slots_in new)
       changed-is f e j = grind (arith, nat_tests, common_steps, slot-is)
 
-      pub own-changed : AreNamed old → (IsNamed i was → IsNamed i s) → AreNamed new
-      own-changed own f = own-is own (λ j e. subst (λ k. IsNamed k s) (same-identity i j e) (f (own i was (sym at))))
-
 -- ---- waits come to an end after each change of a table
 
-module _ (s s' : Shelf) (h : (u w : ℕ) → WaitsFor s' u w → WaitsFor s u w ⊎ Ends s' w) where
+module _ (s s' : Shelf) (h : (u w : ℕ) → waits_for s' u ≡ Some w → (waits_for s u ≡ Some w) ⊎ Ends s' w) where
   ends-still : {u : ℕ} → Ends s u → Ends s' u
   ends-still (ends-at u f) = ends-at u (λ w e. elim (h u w e) [ inl old ↦ ends-still (f w old) | inr ends ↦ ends ])
 
@@ -89,52 +87,53 @@ module _ (s s' : Shelf) (h : (u w : ℕ) → WaitsFor s' u w → WaitsFor s u w 
 
 -- slots that get an outcome
 pub less-open : (s s' : Shelf) → ((i : Identity) (w : ℕ) → open_worker (s'.slots i) ≡ Some w → open_worker (s.slots i) ≡ Some w) → SameAt s.waits s'.waits → EachEnds s → EachEnds s'
-less-open s s' h same = each-ends s s' (λ u w e. inl (record { i = e.i; waits = sym (same u) ∙ e.waits; still = h e.i w e.still }))
-
-was-waiting : (b : Bool) (x : Option Identity) (i : Identity) → (if b then None else x) ≡ Some i → x ≡ Some i
-was-waiting b x i e = grind (arith, nat_tests)
+less-open s s' h same = each-ends s s' (λ u w e. let waits = same u in inl (grind (arith, nat_tests, h)))
 
 -- one that doesn't wait any more
 pub stopped : (s s' : Shelf) (v : ℕ) → SameShelf (with_wait s v None) s' → EachEnds s → EachEnds s'
-stopped s s' v same = each-ends s s' (λ u w e. inl (record { i = e.i; waits = was-waiting (nat_eq u v) (s.waits u) e.i (sym (same.waits u) ∙ e.waits); still = ap open_worker (sym (same.slots e.i)) ∙ e.still }))
+stopped s s' v same = each-ends s s' (λ u w e. let waits = same.waits u in inl (grind (arith, nat_tests, same.slots)))
 
 -- a claim of a worker that doesn't wait
 module _ (s s' : Shelf) (v : ℕ) (i : Identity) (same : SameShelf (with_slot s i (Some (claimed_by v))) s') (works-on : s.waits v ≡ None) where
   claimer-ends : Ends s' v
-  claimer-ends = ends-at v (λ w e. absurd (none-some e.i (sym (same.waits v ∙ works-on) ∙ e.waits)))
+  claimer-ends = ends-at v (λ w e. absurd (none-some w (ap (if_there (λ j. open_worker (s'.slots j)) None) (sym (same.waits v ∙ works-on)) ∙ e)))
 
   pub taken : EachEnds s → EachEnds s'
-  taken = each-ends s s' (λ u w e. by u w e.i (is_identity i e.i) (sym (same.waits u) ∙ e.waits) (sym (ap open_worker (same.slots e.i)) ∙ e.still))
-    where
-      by : (u w : ℕ) (j : Identity) (b : Bool) → s.waits u ≡ Some j → open_worker (if b then Some (claimed_by v) else s.slots j) ≡ Some w → WaitsFor s u w ⊎ Ends s' w
-      by u w j b waits still = grind (arith, nat_tests, same_some, claimer-ends)
+  taken = each-ends s s' (λ u w e. let waits = same.waits u in grind (arith, nat_tests, same.slots, same_some, claimer-ends))
 
 -- a worker waits for one whose wait comes to an end without it
 module _ (s s' : Shelf) (v : ℕ) (i : Identity) (same : SameShelf (with_wait s v (Some i)) s') where
   -- whom another one waits for
-  was-for : (u w : ℕ) → nat_eq u v ≡ false → WaitsFor s' u w → WaitsFor s u w
-  was-for u w d e = record { i = e.i; waits = sym (same.waits u ∙ ap (λ b. if b then Some i else s.waits u) d) ∙ e.waits; still = ap open_worker (sym (same.slots e.i)) ∙ e.still }
+  was-for : (u w : ℕ) → nat_eq u v ≡ false → waits_for s' u ≡ Some w → waits_for s u ≡ Some w
+  was-for u w d e = let waits = same.waits u in grind (arith, nat_tests, same.slots)
 
   end-later : {u : ℕ} → ComesToEnd s v u → Ends s' u
-  end-later (works u d e) = ends-at u (λ w n. absurd (none-some (was-for u w d n).i (sym e ∙ (was-for u w d n).waits)))
-  end-later (may-go-on u j d e o) = ends-at u (λ w n. let f = was-for u w d n in absurd (closed (s.slots j) o w (ap (λ k. open_worker (s.slots k)) (same_some _ _ (sym e ∙ f.waits)) ∙ f.still)))
+  end-later (works u d e) = ends-at u (λ w n. let f = was-for u w d n in absurd (none-some w (ap (if_there (λ j. open_worker (s.slots j)) None) (sym e) ∙ f)))
+  end-later (may-go-on u j d e o) = ends-at u (λ w n. let f = was-for u w d n in absurd (closed (s.slots j) o w (ap (if_there (λ k. open_worker (s.slots k)) None) (sym e) ∙ f)))
   end-later (waits-on u j slot d e o c) = ends-at u (λ w n. grind (arith, nat_tests, was-for u w d n, same_some, open-is, end-later c))
 
-  module _ (slot : Slot) (o : IsOpenSlot s i slot) (c : ComesToEnd s v slot.worker) where
-    pub waiting : EachEnds s → EachEnds s'
-    waiting = each-ends s s' (λ u w e. ask u w e (nat_eq u v) refl)
-      where
-        ask : (u w : ℕ) → WaitsFor s' u w → (b : Bool) → nat_eq u v ≡ b → WaitsFor s u w ⊎ Ends s' w
-        ask u w e b d = grind (arith, nat_tests, was-for, same_some, open-is, end-later)
+  pub waiting : (slot : Slot) → IsOpenSlot s i slot → ComesToEnd s v slot.worker → EachEnds s → EachEnds s'
+  waiting slot o c = each-ends s s' (λ u w e. let waits = same.waits u in let later = end-later c in grind (arith, nat_tests, same.slots, was-for, same_some, open-is))
 
 -- no worker waits
 pub no-waits : (s : Shelf) → ((v : ℕ) → s.waits v ≡ None) → EachEnds s
-no-waits s h u = merely (ends-at u (λ w e. absurd (none-some e.i (sym (h u) ∙ e.waits))))
+no-waits s h u = merely (ends-at u (λ w e. absurd (none-some w (ap (if_there (λ j. open_worker (s.slots j)) None) (sym (h u)) ∙ e))))
 
 -- a slot that changes and doesn't come to be without a result
 module _ (old new : Identity → Option Slot) (i : Identity) (f : Slot → Slot) (h : (x : Slot) (w : ℕ) → open_worker (Some (f x)) ≡ Some w → open_worker (Some x) ≡ Some w) (is : Changes f old i new) where
   pub changed-less : (j : Identity) (w : ℕ) → open_worker (new j) ≡ Some w → open_worker (old j) ≡ Some w
   changed-less j w e = grind (arith, nat_tests, same-identity, same-as, h)
+
+module _ {E : Type 0} {g : Ghosts E} {S T : Type 0} (old new : IndexMap (ℕ × ℕ) (ArcSerSlot E g) S) (waits : IndexMap ℕ Identity T) (i : Identity) (s was : ArcSerSlot E g) (f : Slot → Slot) where
+  pub changed-table : ((q : ℕ × ℕ) → get is_same new q ≡ cond (is_same (i.kind.0, i.node.0) q) (Some s) (get is_same old q))
+      → Some was ≡ get is_same old (i.kind.0, i.node.0) → slot_of s ≡ f (slot_of was)
+      → ((x : Slot) (w : ℕ) → open_worker (Some (f x)) ≡ Some w → open_worker (Some x) ≡ Some w) → (IsNamed i was → IsNamed i s) → AreNamed old → EachEnds (shelf_in old waits)
+      → AreNamed new × EachEnds (shelf_in new waits)
+  changed-table h at e less named own ends =
+      let is = changed-is old new i s h was at f e in (
+        own-is old new i s h own (λ j same. subst (λ k. IsNamed k s) (same-identity i j same) (named (own i was (sym at)))),
+        less-open (shelf_in old waits) (shelf_in new waits) (changed-less (slots_in old) (slots_in new) i f less is) (λ v. refl) ends,
+      )
 
 -- a slot that gets an outcome
 pub outcome-less : (o : Outcome) → is_open_outcome o ≡ false → (x : Slot) (w : ℕ) → open_worker (Some (with_outcome o x)) ≡ Some w → open_worker (Some x) ≡ Some w
@@ -144,30 +143,22 @@ outcome-less o h x w e = grind (arith, nat_tests)
 
 -- so many, and no more
 abbrev Long : Shelf → ℕ → ℕ → Type 0
-Long s zero u = (w : ℕ) → WaitsFor s u w → ⊥
-Long s (suc n) u = (w : ℕ) × WaitsFor s u w × Long s n w
+Long s zero u = waits_for s u ≡ None
+Long s (suc n) u = (w : ℕ) × (waits_for s u ≡ Some w) × Long s n w
 
 module _ (s : Shelf) where
-  -- it waits for one alone
-  one-alone : (u w x : ℕ) → WaitsFor s u w → WaitsFor s u x → w ≡ x
-  one-alone u w x a b = same_some _ _ (sym a.still ∙ ap (λ k. open_worker (s.slots k)) (same_some _ _ (sym a.waits ∙ b.waits)) ∙ b.still)
-
   same-long : (n m u : ℕ) → Long s n u → Long s m u → n ≡ m
   same-long zero zero u a b = refl
-  same-long zero (suc m) u a b = absurd (a b.0 b.1)
-  same-long (suc n) zero u a b = absurd (b a.0 a.1)
-  same-long (suc n) (suc m) u a b = ap suc (same-long n m a.0 a.2 (subst (Long s m) (one-alone u b.0 a.0 b.1 a.1) b.2))
+  same-long zero (suc m) u a b = absurd (none-some b.0 (sym a ∙ b.1))
+  same-long (suc n) zero u a b = absurd (none-some a.0 (sym b ∙ a.1))
+  same-long (suc n) (suc m) u a b = ap suc (same-long n m a.0 a.2 (subst (Long s m) (same_some _ _ (sym b.1 ∙ a.1)) b.2))
 
-  for-or-not : (u : ℕ) (i : Identity) → s.waits u ≡ Some i → (o : Option ℕ) → open_worker (s.slots i) ≡ o → ((w : ℕ) → WaitsFor s u w → ⊥) ⊎ ((w : ℕ) × WaitsFor s u w)
-  for-or-not u i e None h = inl (λ w f. none-some w (sym h ∙ ap (λ k. open_worker (s.slots k)) (same_some _ _ (sym e ∙ f.waits)) ∙ f.still))
-  for-or-not u i e (Some w) h = inr (w, record { i = i; waits = e; still = h })
-
-  waits-or-not : (u : ℕ) (o : Option Identity) → s.waits u ≡ o → ((w : ℕ) → WaitsFor s u w → ⊥) ⊎ ((w : ℕ) × WaitsFor s u w)
-  waits-or-not u None e = inl (λ w f. none-some f.i (sym e ∙ f.waits))
-  waits-or-not u (Some i) e = for-or-not u i e (open_worker (s.slots i)) refl
+  long-by : (u : ℕ) → ((w : ℕ) → waits_for s u ≡ Some w → (n : ℕ) × Long s n w) → (o : Option ℕ) → waits_for s u ≡ o → (n : ℕ) × Long s n u
+  long-by u f None none = (zero, none)
+  long-by u f (Some w) is = let l = f w is in (suc l.0, (w, is, l.1))
 
   long : {u : ℕ} → Ends s u → (n : ℕ) × Long s n u
-  long (ends-at u f) = elim (waits-or-not u (s.waits u) refl) [ inl none ↦ (zero, none) | inr at ↦ let l = long (f at.0 at.1) in (suc l.0, (at.0, at.1, l.1)) ]
+  long (ends-at u f) = long-by u (λ w is. long (f w is)) (waits_for s u) refl
 
   pub how-long : EachEnds s → (u : ℕ) → (n : ℕ) × ∥ Long s n u ∥₁
   how-long ends u =
@@ -175,7 +166,7 @@ module _ (s : Shelf) where
       ∥∥₁_elim (ends u) one (λ e. let l = long e in (l.0, ∣ l.1 ∣₁))
 
   -- fewer than from one that waits for it
-  pub nearer : (ends : EachEnds s) (u w : ℕ) → WaitsFor s u w → (how-long ends w).0 < (how-long ends u).0
+  pub nearer : (ends : EachEnds s) (u w : ℕ) → waits_for s u ≡ Some w → (how-long ends w).0 < (how-long ends u).0
   nearer ends u w e =
       let n = how-long ends u in
       let m = how-long ends w in

@@ -92,14 +92,13 @@ open_worker slot = if_there (λ (s : Slot). if is_open_outcome s.outcome then So
 abbrev pub Changes : (Slot → Slot) → (Identity → Option Slot) → Identity → (Identity → Option Slot) → Type 0
 Changes f old i new = SlotIs old i (if_there (λ (s : Slot). Some (f s)) None (old i)) new
 
-pub record WaitsFor (s : Shelf) (u w : ℕ) : Type 0 where
-  pub i : Identity
-  pub waits : s.waits u ≡ Some i
-  pub still : open_worker (s.slots i) ≡ Some w
+-- whom a worker waits for
+abbrev pub waits_for : Shelf → ℕ → Option ℕ
+waits_for s u = if_there (λ i. open_worker (s.slots i)) None (s.waits u)
 
 -- who waits for one that waits, and so on, comes to an end
 pub data Ends (s : Shelf) : ℕ → Type 0 where
-  ends-at : (u : ℕ) → ((w : ℕ) → WaitsFor s u w → Ends s w) → Ends s u
+  ends-at : (u : ℕ) → ((w : ℕ) → waits_for s u ≡ Some w → Ends s w) → Ends s u
 
 -- no workers wait in a ring
 abbrev pub EachEnds : Shelf → Type 0

@@ -1,6 +1,6 @@
 //! The slots of claimed identities, and whom a waiting worker waits for; claims of a lent table, and what is known of them.
 
-ghost use Rattle.std.specs.{Arc.arc_value, Prelude.{IfErr, IfOk, None, OnErr, OnOk, Some, ℕ, ◌≡◌}};
+ghost use Rattle.std.specs.{Arc.arc_value, Prelude.{IfErr, IfOk, None, OnErr, OnOk, Some, ◌≡◌}};
 ghost use Rattle.pagable_world.specs.{Workers.{with_changed_slot, with_failed, with_slot, IsOpenSlot, with_wait, ComesToEnd, with_outcome}, World.{Slot, failed, SameShelf, published}};
 ghost use Rattle.{pagable_world.specs.Events.no_shelf, pagable_model.specs.declared.numbers.Identity.Identity as Named, pagable_walk.specs.{Table.{IsFoundOf, shelf_of, found_as}, Slots.written_of}};
 ghost use Rattle.pagable_walk.specs.Slots.{AreNamed, with_written, after_failure, RefusesClaim, ClaimsThere, claimed_by, slot_of, Would, IsNamed, Stands, FailsAt, failed_by, slots_in, Leads};

@@ -1,12 +1,16 @@
-//! A worker's path: what was written and waits for the next of its references.
+//! A worker's path: what was written and waits for the next of its references. And what a worker does first.
 
 ghost use Rattle.std.specs.{Arc.arc_value, Prelude.{IfErr, IfOk, OnErr, [], length, vec_capacity, vec_len, ◌*◌, ◌++◌, ◌+◌, ◌<◌, ◌∷◌, ◌≡◌, ◌≤◌}};
-ghost use Rattle.pagable_walk.specs.{Slots.{keys_of, written_of}, Tasks.{waits_as, TakesNext, place_of, todo_of, fails, waiting_todo, fault_of, raised, AwaitsLow, todos, Gives, IsPlain, back_of}};
-ghost use Rattle.{pagable_walk.specs.Due.due, pagable_world.specs.{World.was_refused, Plain.longest_path, Workers.{give_known, settle, place_below}}};
+ghost use Rattle.pagable_walk.specs.{Due.due, Slots.{keys_of, written_of}, Tasks.{AwaitsLow, Gives, IsPlain, IsWay, TakesNext, back_of, fails, fault_of, place_of, raised, todo_of, todos, waits_as}};
+ghost use Rattle.{pagable_walk.specs.Tasks.waiting_todo, pagable_world.specs.{Kinds.identity_of, Plain.longest_path, World.{of_entry, of_item, was_refused}}};
+ghost use Rattle.pagable_world.specs.Workers.{first_todo, give_known, place_below, settle};
 
 use crate::tasks::{Done, Node, Task, Waiting};
 use crate::{PageOutError, Trees};
-use pagable_model::{Error, HandleNumber, Kind};
+use pagable_core::SerializedData;
+use pagable_model::{ArcRef, Error, HandleNumber, Kind};
+use std::alloc::Global;
+use std::sync::Arc;
 
 /// The place of a reference of this kind on the path below a node at this place. A path ends at a reference through a loose handle.
 pub fn place_below(place: u64, kind: Kind) -> u64
@@ -132,4 +136,35 @@ pub fn refuse<E: Trees>(
     ensures none { todos path.new.items ≡ [] }
 {
     fail(path, PageOutError::Failed(*e), entry)
+}
+
+/// The first task for an item, and a path with places for it. Refused by want of memory alone.
+#[tactic(auto, using(crate::proofs::Stacks::paths))]
+pub fn start_item<E: Trees>(
+    alloc: Global,
+    written: Arc<SerializedData>,
+) -> Result<(Task<E>, Vec<Waiting<E>>), Error>
+    ensures todo { IfOk result (λ w. todo_of w.0 ∷ todos w.1.items ≡ first_todo (of_item (written_of (arc_value written)))) }
+    ensures way { IfOk result (λ w. IsWay (todo_of w.0 ∷ todos w.1.items)) }
+    ensures plain { IfOk result (λ w. IsPlain w.0) }
+    ensures only { IfErr result (λ e. e ≡ Error.OutOfMemory) }
+{
+    let mut path = Vec::with_capacity(alloc, 1)?;
+    let children = Vec::with_capacity(alloc, written.arcs.len())?;
+    let item = Waiting {
+        node: None,
+        written,
+        children,
+    };
+    Ok((settle(&mut path, item), path))
+}
+
+/// The first task for an entry of the list, which this reference names, and an empty path. It takes no memory.
+#[tactic(auto, using(crate::proofs::Stacks::paths), unfolding(crate::specs::Tasks::Awaits))]
+pub fn start_entry<E: Trees>(alloc: Global, reference: ArcRef) -> (Task<E>, Vec<Waiting<E>>)
+    ensures todo { todo_of result.0 ∷ todos result.1.items ≡ first_todo (of_entry reference.handle (identity_of reference)) }
+    ensures way { IsWay (todo_of result.0 ∷ todos result.1.items) }
+    ensures plain { IsPlain result.0 }
+{
+    (Task::Start(reference, 0), Vec::new(alloc))
 }

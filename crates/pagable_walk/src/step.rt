@@ -1,18 +1,21 @@
-//! A worker's step: what is to be done next is done, and with its answer the worker ends. And its walk, from its first task to its answer.
+//! A worker's step: what is to be done next is done, and with its answer the worker ends. Its walk, from its first task to its answer. And page-out of an item, and of the entries of the list, over an
+//! access, each by workers of its own.
 
-ghost use Rattle.std.specs.Prelude.{◌≡◌, ◌∷◌, ◌<◌, ◌≤◌, ◌+◌, ◌*◌};
-ghost use Rattle.pagable_loads.specs.Telling.{Acts, ActsThen, as_caller, values_at};
-ghost use Rattle.pagable_walk.specs.{Due.{LeadsOn, IfGoes, due, far}, Table.shelf_of, Tasks.{IsWay, todo_of, todos}, Turns.{Closes, TurnsTo, StepsTo, RunsTo, acting_then, plan}};
+ghost use Rattle.std.specs.{Arc.arc_value, Prelude.{◌*◌, ◌+◌, ◌<◌, ◌∷◌, ◌≡◌, ◌≤◌}};
+ghost use Rattle.{pagable_loads.specs.Telling.{Acts, ActsThen, as_caller, values_at}, pagable_walk.specs.{Due.{due, far, IfGoes, LeadsOn}, Over.{answer_of, PagesAt, PagesEntry, PagesItem}}};
+ghost use Rattle.pagable_walk.specs.{Over.PagesList, Slots.written_of, Table.shelf_of, Tasks.{IsWay, todo_of, todos}, Turns.{acting_then, Closes, plan, RunsTo, StepsTo, TurnsTo}};
+ghost use Rattle.pagable_world.specs.declared.handles.Owner.{Owner};
 
-use crate::SlotTable;
-use crate::ending::{answer, finish, give_back, release, set_key};
-use crate::stack::refuse;
+use crate::stack::{refuse, start_entry, start_item};
 use crate::tasks::{Moved, Task, Turn, Waiting, named};
-use crate::turns::{after_claim, claim, counts, found, load, pin, write};
+use crate::turns::{
+    after_claim, answer, claim, finish, found, give_back, load, pin, release, set_key, write,
+};
+use crate::{PageOutError, SlotTable};
 use pagable_codec::{Env, NodeSet};
 use pagable_core::SerializedData;
 use pagable_loads::WorkerAccess;
-use pagable_model::{Error, WorkerNumber};
+use pagable_model::{DataKey, Error, OptionalDataKey, WorkerNumber};
 use pagable_world::{Claim, Took, WorkerAnswer};
 use std::alloc::Global;
 use std::sync::Arc;
@@ -38,10 +41,11 @@ where
         Task::Start(reference, place) => {
             let checked = access.check_reference(reference);
             let claim = claim(table, worker, reference, place, checked);
+            let (told, counted) = found(&claim);
             Moved {
-                counted: counts(&claim),
-                took: Took::Claim(named(reference), found(&claim)),
+                took: Took::Claim(named(reference), told),
                 turn: Turn::Goes(after_claim(path, reference, place, claim)),
+                counted,
             }
         }
         Task::Pin(reference, place) => pin(access, alloc, path, reference, place),
@@ -187,4 +191,112 @@ where
             Turn::Answers(answer) => return answer,
         }
     }
+}
+
+// ---- page-outs
+
+/// A worker's answer as that of a page-out.
+fn told(answer: WorkerAnswer) -> Result<DataKey, PageOutError>
+    ensures { answer_of result ≡ answer }
+{
+    match answer {
+        WorkerAnswer::Key(key) => Ok(key),
+        WorkerAnswer::Failed(e) => Err(PageOutError::Failed(e)),
+        WorkerAnswer::AlreadyFailed => Err(PageOutError::AlreadyFailed),
+    }
+}
+
+/// Pages an item out on a table, by a worker of its own, up to the worker's answer: the item's key, or why it fails. The access is the caller's, before and
+/// after. A failure leaves what was stored and set so far, and no claim without a result.
+#[tactic(auto, using(crate::proofs::Pages::items))]
+pub fn page_out_item_over<E: Env, A: WorkerAccess<E>>(
+    access: &mut A,
+    alloc: Global,
+    table: &mut SlotTable<E>,
+    item: Arc<SerializedData>,
+) -> Result<DataKey, PageOutError>
+where
+    E::Node: NodeSet<E>,
+    requires caller { (A.acting access.old).me ≡ Owner.Caller }
+    ensures { Acts A.told A.acting access.old access.new (λ a. PagesItem (values_at E.Node.NodeSet E.Env E.Hash.KeyHash a.environment) (shelf_of table.old) (written_of (arc_value item)) (shelf_of table.new) (answer_of result)) }
+{
+    let (task, mut path) = match start_item(alloc, item) {
+        Ok(first) => first,
+        Err(e) => return Err(PageOutError::Failed(e)),
+    };
+    match access.worker_begin() {
+        Ok(worker) => told(run(access, alloc, table, worker, &mut path, task)),
+        Err(e) => Err(PageOutError::Failed(e)),
+    }
+}
+
+// Pages out the entry at a place of the list, on a table of its own, up to its worker's answer.
+fn page_out_entry<E: Env, A: WorkerAccess<E>>(
+    access: &mut A,
+    alloc: Global,
+    place: usize,
+) -> Result<DataKey, PageOutError>
+where
+    E::Node: NodeSet<E>,
+    requires caller { (A.acting access.old).me ≡ Owner.Caller }
+    ensures { Acts A.told A.acting access.old access.new (λ a. PagesEntry (values_at E.Node.NodeSet E.Env E.Hash.KeyHash a.environment) place (answer_of result)) }
+{
+    let (worker, reference) = match access.worker_listed(place) {
+        Ok(begun) => begun,
+        Err(e) => return Err(PageOutError::Failed(e)),
+    };
+    let mut table = SlotTable::new(alloc);
+    let (task, mut path) = start_entry(alloc, reference);
+    told(run(access, alloc, &mut table, worker, &mut path, task))
+}
+
+// Pages out the entry at a place of the list, or releases it where its cell has a key.
+#[tactic(auto, using(crate::proofs::Pages::places))]
+fn page_out_at<E: Env, A: WorkerAccess<E>>(
+    access: &mut A,
+    alloc: Global,
+    place: usize,
+) -> Result<(), PageOutError>
+where
+    E::Node: NodeSet<E>,
+    requires caller { (A.acting access.old).me ≡ Owner.Caller }
+    ensures { Acts A.told A.acting access.old access.new (λ a. PagesAt (values_at E.Node.NodeSet E.Env E.Hash.KeyHash a.environment) place result) }
+{
+    match access.entry_key(place) {
+        None => Ok(()),
+        Some(OptionalDataKey::Some(_)) => {
+            let Some(entry) = access.take_pending(place) else {
+                return Ok(());
+            };
+            let _told = access.release(entry);
+            Ok(())
+        }
+        Some(OptionalDataKey::None) => match page_out_entry(access, alloc, place) {
+            Ok(_) => Ok(()),
+            Err(why) => Err(why),
+        },
+    }
+}
+
+/// Pages out the entries that stand in the list at the call, from the last to the first, each on a table of its own, up to the first failure, which is answered. What is
+/// listed meanwhile stays. An entry whose cell has a key is only released. The access is the caller's, before and after.
+#[tactic(auto, using(crate::proofs::Pages::listed))]
+pub fn page_out_pending_over<E: Env, A: WorkerAccess<E>>(
+    access: &mut A,
+    alloc: Global,
+) -> Result<(), PageOutError>
+where
+    E::Node: NodeSet<E>,
+    requires caller { (A.acting access.old).me ≡ Owner.Caller }
+    ensures { Acts A.told A.acting access.old access.new (λ a. PagesList (values_at E.Node.NodeSet E.Env E.Hash.KeyHash a.environment) result) }
+{
+    let mut left = access.pending();
+    while left > 0 {
+        let place = left - 1;
+        match page_out_at(access, alloc, place) {
+            Ok(()) => left = place,
+            Err(why) => return Err(why),
+        }
+    }
+    Ok(())
 }

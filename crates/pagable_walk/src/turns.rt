@@ -1,20 +1,23 @@
-//! A worker's turns at a reference that it has come to: it claims what the reference names, pins it, by a load where it is needed, and writes its value.
+//! A worker's turns at a reference that it has come to: it claims what the reference names, pins it, by a load where it is needed, and writes its value; and at what it has written: its blob is
+//! stored, its key set and published, and its handles given up.
 
-ghost use Rattle.std.specs.{Arc.arc_value, Prelude.{IfErr, IfOk, List, OnOk, length, vec_capacity, vec_len, ℕ, ◌*◌, ◌+◌, ◌<◌, ◌∷◌, ◌≡◌, ◌≤◌}};
-ghost use Rattle.pagable_world.specs.{Plain.longest_path, World.{to_load, seen_as, to_pin, Shelf, Todo, to_finish, Core, to_write, to_start}, Workers.{Claims, is_counted_claim, claim_fault}};
-ghost use Rattle.{pagable_world.specs.Kinds.identity_of, pagable_walk.specs.{Results.HasFormOf, Turns.{claim_todo, plan, ClaimLeaves, site, ClaimFits, TurnsTo}, Due.{due, LeadsOn, most}}};
-ghost use Rattle.pagable_walk.specs.{Slots.written_of, Table.{shelf_of, found_as}, Writing.{IsForm, Forms, just_open, WriteRefused}, Tasks.{waiting_todo, IsWay, Awaits, todos, todo_of}};
-ghost use Rattle.pagable_loads.specs.{Frames.reading_of, Working.fault_in, Telling.{Tells, Acts, values_at}};
+ghost use Rattle.std.specs.{Arc.arc_value, Prelude.{IfErr, IfOk, length, List, OnOk, vec_capacity, vec_len, ℕ, ◌*◌, ◌+◌, ◌<◌, ◌∷◌, ◌≡◌, ◌≤◌}};
+ghost use Rattle.{pagable_core.specs.Data.blob_of, pagable_loads.specs.{Frames.reading_of, Telling.{Acts, Tells, values_at}, Working.fault_in}, pagable_model.specs.Blob.key_of};
+ghost use Rattle.{pagable_model.specs.Merkle.blob_of as blob_over, pagable_walk.specs.{Due.{due, LeadsOn, most}, Results.HasFormOf, Slots.{keys_of, written_of}, Table.{found_as, shelf_of}}};
+ghost use Rattle.pagable_walk.specs.{Tasks.{Awaits, AwaitsLow, fault_of, IsWay, todo_of, todos, waiting_todo}, Turns.{claim_todo, ClaimFits, ClaimLeaves, plan, site, TurnsTo}, Writing.Forms};
+ghost use Rattle.{pagable_walk.specs.Writing.{GoesBack, IsForm, IsStored, just_open, named_by, Stores, WriteRefused}, pagable_world.specs.{Kinds.identity_of, Plain.longest_path, Workers.claim_fault}};
+ghost use Rattle.pagable_world.specs.{Workers.{Claims, is_counted_claim}, World.{answer_of_fault, Core, seen_as, Shelf, to_finish, to_load, to_pin, to_release, to_set, to_start, to_write, Todo}};
 
-use crate::stack::{fail, give_known, refuse, settle};
+use crate::stack::{fail, give, give_known, refuse, settle};
 use crate::tasks::{Done, Moved, Node, Task, Turn, Waiting, named};
-use crate::{Found, PageOutError, SlotTable, Trees};
+use crate::{Found, PageOutError, SlotResult, SlotTable, Trees};
 use pagable_codec::{Env, NodeSet, SessionContext};
-use pagable_core::{SerializedData, SerializerForPaging};
+use pagable_core::{PagableData, SerializedData, SerializerForPaging};
 use pagable_loads::{Reading, Taken, WorkerAccess};
-use pagable_model::{ArcRef, Error, HandleNumber, WorkerNumber};
-use pagable_world::{Claim, LoadAnswer, PinStep, Took};
+use pagable_model::{ArcRef, DataKey, Error, HandleNumber, Identity, WorkerNumber};
+use pagable_world::{Claim, LoadAnswer, PinStep, Took, WorkerAnswer};
 use std::alloc::Global;
+use std::marker::PhantomData;
 use std::sync::Arc;
 
 /// A claim of what a reference names, at this place on the path. `checked` is why the reference itself can't be claimed. It is refused so first, and then as `try_claim`.
@@ -41,26 +44,17 @@ pub fn claim<E: Trees>(
     }
 }
 
-/// What a claim found, with key and height alone of a result.
-pub fn found<E: Trees>(claim: &Result<Found<E>, Error>) -> Result<Claim, Error>
-    ensures { result ≡ found_as claim.now }
+/// What a claim found, with key and height alone of a result; and whether it counts: it does unless it waits.
+pub fn found<E: Trees>(claim: &Result<Found<E>, Error>) -> (Result<Claim, Error>, bool)
+    ensures found { result.0 ≡ found_as claim.now }
+    ensures counts { result.1 ≡ is_counted_claim (found_as claim.now) }
 {
     match claim {
-        Ok(Found::Claimed) => Ok(Claim::Claimed),
-        Ok(Found::Known(found)) => Ok(Claim::Known(found.key, found.height)),
-        Ok(Found::Waiting) => Ok(Claim::Waiting),
-        Ok(Found::AlreadyFailed) => Ok(Claim::AlreadyFailed),
-        Err(e) => Err(*e),
-    }
-}
-
-/// Whether a claim counts: it does unless it waits.
-pub fn counts<E: Trees>(claim: &Result<Found<E>, Error>) -> bool
-    ensures { result ≡ is_counted_claim (found_as claim.now) }
-{
-    match claim {
-        Ok(Found::Waiting) => false,
-        _ => true,
+        Ok(Found::Claimed) => (Ok(Claim::Claimed), true),
+        Ok(Found::Known(found)) => (Ok(Claim::Known(found.key, found.height)), true),
+        Ok(Found::Waiting) => (Ok(Claim::Waiting), false),
+        Ok(Found::AlreadyFailed) => (Ok(Claim::AlreadyFailed), true),
+        Err(e) => (Err(*e), true),
     }
 }
 
@@ -210,42 +204,8 @@ where
     }
 }
 
-// What was written is kept three times, with places for the results of its references. Refused by want of memory alone.
-fn kept<E: Trees>(
-    alloc: Global,
-    reference: ArcRef,
-    place: u64,
-    through: HandleNumber,
-    once: SerializedData,
-) -> Result<(Waiting<E>, Arc<SerializedData>, Arc<SerializedData>), Error>
-    requires near { place ≤ longest_path }
-    requires form { ∥ E.has_form (identity_of reference) (written_of once) ∥₁ }
-    ensures open { IfOk result (λ p. waiting_todo p.0 ≡ to_finish (just_open reference place through (written_of once))) }
-    ensures shared { IfOk result (λ p. arc_value p.1 ≡ arc_value p.2) }
-    ensures told { IfOk result (λ p. written_of (arc_value p.2) ≡ written_of once) }
-    ensures only { IfErr result (λ e. e ≡ Error.OutOfMemory) }
-{
-    let children = Vec::with_capacity(alloc, once.arcs.len())?;
-    let Ok(written) = Arc::new(alloc, once) else {
-        return Err(Error::OutOfMemory);
-    };
-    let shared = Arc::try_clone(&written)?;
-    let told = Arc::try_clone(&written)?;
-    let node = Some(Node {
-        reference,
-        place,
-        through,
-        height: 0,
-    });
-    let waiting = Waiting {
-        node,
-        written,
-        children,
-    };
-    Ok((waiting, shared, told))
-}
-
-// The written node with what was written of it, twice, for a path that has room for it then.
+// The written node, with places for the results of its references, and what was written of it twice more; for a path that has room for it then.
+#[tactic(auto, using(crate::proofs::Turning::forming))]
 fn prepare<E: Env, A: WorkerAccess<E>>(
     access: &A,
     alloc: Global,
@@ -267,8 +227,25 @@ where
     if path.reserve(1).is_err() {
         return Err(Error::OutOfMemory);
     }
-    let data = form(access, alloc, reference, pin)?;
-    kept(alloc, reference, place, through, data)
+    let once = form(access, alloc, reference, pin)?;
+    let children = Vec::with_capacity(alloc, once.arcs.len())?;
+    let Ok(written) = Arc::new(alloc, once) else {
+        return Err(Error::OutOfMemory);
+    };
+    let shared = Arc::try_clone(&written)?;
+    let told = Arc::try_clone(&written)?;
+    let node = Some(Node {
+        reference,
+        place,
+        through,
+        height: 0,
+    });
+    let waiting = Waiting {
+        node,
+        written,
+        children,
+    };
+    Ok((waiting, shared, told))
 }
 
 /// Writes the value that is pinned, and comes to its references.
@@ -304,5 +281,176 @@ where
             took: Took::Write(identity, Err(e)),
             counted: true,
         },
+    }
+}
+
+// ---- at what was written
+
+// The blob of what was written over the results of its references. Refused by want of memory alone.
+fn blob<E: Trees>(alloc: Global, waiting: &Waiting<E>) -> Result<PagableData, Error>
+    ensures blob { IfOk result (λ blob. blob_of blob ≡ blob_over (written_of (arc_value waiting.now.written)).bytes (keys_of waiting.now.children.items)) }
+    ensures only { IfErr result (λ e. e ≡ Error.OutOfMemory) }
+{
+    let children = &waiting.children;
+    let arcs = children.iter().map(|found| found.key).collect(alloc)?;
+    let bytes = Vec::from_slice(alloc, waiting.written.bytes.as_slice())?;
+    Ok(PagableData { bytes, arcs })
+}
+
+// Stores the blob of what was written over the results of its references.
+fn store<E: Env, A: WorkerAccess<E>>(
+    access: &mut A,
+    alloc: Global,
+    waiting: &Waiting<E>,
+) -> Result<DataKey, Error>
+where
+    E::Node: NodeSet<E>,
+    ensures key { IfOk result (λ key. key ≡ key_of E.Hash.digest (blob_over (written_of (arc_value waiting.now.written)).bytes (keys_of waiting.now.children.items))) }
+    ensures acts { Acts A.told A.acting access.old access.new (λ a s t. Stores (values_at E.Node.NodeSet E.Env E.Hash.KeyHash a.environment) s
+        (blob_over (written_of (arc_value waiting.now.written)).bytes (keys_of waiting.now.children.items)) result t) }
+{
+    let blob = blob(alloc, waiting)?;
+    access.store(alloc, blob)
+}
+
+fn named_by(node: &Option<Node>) -> Option<Identity>
+    ensures { result ≡ named_by node.now }
+{
+    let node = (*node)?;
+    Some(named(node.reference))
+}
+
+// The result of a node whose blob was stored is known: its key is set next. That of an item is answered.
+fn stored<E: Env>(waiting: Waiting<E>, key: DataKey) -> Turn<E>
+where
+    E::Node: NodeSet<E>,
+    requires all { length (keys_of waiting.children.items) ≡ length (written_of (arc_value waiting.written)).references }
+    requires key { key ≡ key_of E.Hash.digest (blob_over (written_of (arc_value waiting.written)).bytes (keys_of waiting.children.items)) }
+    ensures { IsStored waiting.node key result }
+{
+    let Some(node) = waiting.node else {
+        return Turn::Answers(WorkerAnswer::Key(key));
+    };
+    let reference = node.reference;
+    let found = SlotResult {
+        identity: named(reference),
+        key,
+        height: node.height,
+        of: PhantomData,
+    };
+    Turn::Goes(Task::SetKey(Done { reference, found }, node.through))
+}
+
+/// Stores the blob of a node or an item whose references are all done.
+#[tactic(auto, using(crate::proofs::Turning::finishing))]
+pub fn finish<E: Env, A: WorkerAccess<E>>(
+    access: &mut A,
+    alloc: Global,
+    path: &mut Vec<Waiting<E>>,
+    waiting: Waiting<E>,
+) -> Moved<E>
+where
+    E::Node: NodeSet<E>,
+    requires { IsWay (waiting_todo waiting ∷ todos path.old.items) }
+    ensures way { IsWay (plan result.turn path.new.items) }
+    ensures leads { LeadsOn (waiting_todo waiting ∷ todos path.old.items) result.turn (plan result.turn path.new.items) }
+    ensures acts { (n : ℕ) (shelf : Shelf) → Acts A.told A.acting access.old access.new (λ a. TurnsTo (values_at E.Node.NodeSet E.Env E.Hash.KeyHash a.environment) a.me n shelf (Task.Finish waiting) (todos path.old.items) shelf result (plan result.turn path.new.items)) }
+{
+    let identity = named_by(&waiting.node);
+    match store(access, alloc, &waiting) {
+        Ok(key) => Moved {
+            took: Took::Store(identity, Ok(key)),
+            turn: stored(waiting, key),
+            counted: true,
+        },
+        Err(e) => Moved {
+            turn: Turn::Goes(refuse(path, &e, None)),
+            took: Took::Store(identity, Err(e)),
+            counted: true,
+        },
+    }
+}
+
+/// Sets the key of a node whose blob was stored.
+#[tactic(auto, using(crate::proofs::Turning::releasing))]
+pub fn set_key<E: Env, A: WorkerAccess<E>>(
+    access: &mut A,
+    path: &mut Vec<Waiting<E>>,
+    done: Done<E>,
+    through: HandleNumber,
+) -> Moved<E>
+where
+    E::Node: NodeSet<E>,
+    requires { AwaitsLow (todos path.old.items) done.reference done.found.height }
+    ensures way { IsWay (plan result.turn path.new.items) }
+    ensures leads { LeadsOn (to_set done.reference through done.found.key done.found.height ∷ todos path.old.items) result.turn (plan result.turn path.new.items) }
+    ensures acts { (n : ℕ) (shelf : Shelf) → Acts A.told A.acting access.old access.new (λ a. TurnsTo (values_at E.Node.NodeSet E.Env E.Hash.KeyHash a.environment) a.me n shelf (Task.SetKey done through) (todos path.old.items) shelf result (plan result.turn path.new.items)) }
+{
+    let identity = named(done.reference);
+    match access.set_data_key(through, done.key()) {
+        Ok(()) => Moved {
+            took: Took::SetKey(identity, Ok(())),
+            turn: Turn::Goes(Task::Publish(done)),
+            counted: true,
+        },
+        Err(e) => Moved {
+            turn: Turn::Goes(refuse(path, &e, None)),
+            took: Took::SetKey(identity, Err(e)),
+            counted: true,
+        },
+    }
+}
+
+/// Gives up the worker's handles of a node that is done. Its result goes to what waits for it; where nothing does, its key is answered.
+#[tactic(auto, using(crate::proofs::Turning::releasing, crate::proofs::Stacks::ways))]
+pub fn release<E: Env, A: WorkerAccess<E>>(
+    access: &mut A,
+    worker: WorkerNumber,
+    path: &mut Vec<Waiting<E>>,
+    done: Done<E>,
+) -> Moved<E>
+where
+    E::Node: NodeSet<E>,
+    requires { AwaitsLow (todos path.old.items) done.reference done.found.height }
+    ensures way { IsWay (plan result.turn path.new.items) }
+    ensures leads { LeadsOn (to_release done.reference done.found.key done.found.height ∷ todos path.old.items) result.turn (plan result.turn path.new.items) }
+    ensures acts { (shelf : Shelf) → Acts A.told A.acting access.old access.new (λ a. TurnsTo (values_at E.Node.NodeSet E.Env E.Hash.KeyHash a.environment) a.me worker.0 shelf (Task.Release done) (todos path.old.items) shelf result (plan result.turn path.new.items)) }
+{
+    let identity = named(done.reference);
+    access.give_up(worker, identity.node);
+    match give(path, done) {
+        Ok(task) => Moved {
+            took: Took::Release(identity),
+            turn: Turn::Goes(task),
+            counted: true,
+        },
+        Err(done) => Moved {
+            took: Took::Release(identity),
+            turn: Turn::Answers(WorkerAnswer::Key(done.key())),
+            counted: true,
+        },
+    }
+}
+
+/// An entry goes back to the list, as far as the list can take it.
+#[tactic(auto, using(crate::proofs::Turning::backs))]
+pub fn give_back<E: Env, A: WorkerAccess<E>>(access: &mut A, back: Option<HandleNumber>)
+where
+    E::Node: NodeSet<E>,
+    ensures { Acts A.told A.acting access.old access.new (λ a s t. GoesBack (values_at E.Node.NodeSet E.Env E.Hash.KeyHash a.environment) a.me back s t) }
+{
+    let Some(entry) = back else {
+        return;
+    };
+    let _told = access.schedule_for_paging(entry);
+}
+
+/// What a failed walk answers.
+pub fn answer(why: PageOutError) -> WorkerAnswer
+    ensures { result ≡ answer_of_fault (fault_of why) }
+{
+    match why {
+        PageOutError::Failed(e) => WorkerAnswer::Failed(e),
+        PageOutError::AlreadyFailed => WorkerAnswer::AlreadyFailed,
     }
 }

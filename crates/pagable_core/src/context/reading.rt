@@ -1,7 +1,7 @@
 //! The deserializer over one blob.
 
 ghost use Rattle.std.specs.Prelude.{◌≡◌};
-ghost use Rattle.pagable_core.specs.Context.{at_front, references_of};
+ghost use Rattle.pagable_core.specs.Context.{at_front};
 
 use crate::context::keys::PagableKeys;
 use crate::context::references::References;
@@ -46,7 +46,7 @@ impl<'de, R> PagableDeserializerImpl<'de, PagableSlice<'de>, R> {
 
     /// What answered for the references.
     pub fn finish(self) -> R
-        ensures { result ≡ references_of self.entry }
+        ensures { result ≡ self.entry.references }
     {
         let PagableDeserializerImpl { references, .. } = self;
         references

@@ -1,12 +1,10 @@
 //! Blobs and their keys.
 
 ghost use Rattle.std.specs.Prelude.{◌≡◌};
-ghost use Rattle.{pagable_core.specs.Data.blob_of, pagable_model.specs.Blob.{key_of, number_of_hash}};
+ghost use Rattle.{pagable_core.specs.Data.blob_of, pagable_model.specs.Blob.key_of};
 
-pub use crate::storage::sha256::Sha256Key;
-pub use crate::storage::weigh::WeighHash;
-pub use pagable_codec::KeyHash;
-pub use pagable_flavors::{DataKey, OptionalDataKey};
+use pagable_codec::KeyHash;
+use pagable_flavors::DataKey;
 
 /// A value as it is stored: its bytes, and the keys of what it refers to, in the order of the references.
 #[derive(Debug, PartialEq, Drop)]
@@ -29,16 +27,10 @@ impl PagableData {
         for key in &self.arcs {
             hash.update(&key.get().to_le_bytes());
         }
-        key_of_hash(hash.finish())
-    }
-}
-
-/// The number of 16 hash bytes, low bytes first, where 0 becomes 1.
-fn key_of_hash(bytes: [u8; 16]) -> DataKey
-    ensures { result ≡ number_of_hash bytes }
-{
-    match DataKey::new(u128::from_le_bytes(bytes).max(1)) {
-        Some(key) => key,
-        None => unreachable!(),
+        let bytes = hash.finish();
+        match DataKey::new(u128::from_le_bytes(bytes).max(1)) {
+            Some(key) => key,
+            None => unreachable!(),
+        }
     }
 }

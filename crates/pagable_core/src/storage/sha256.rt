@@ -1,7 +1,7 @@
 //! The hash of keys in use.
 
-ghost use Rattle.std.specs.Prelude.{◌≡◌, take};
-ghost use Rattle.pagable_core.specs.Data.{IsHashed, sha256_key};
+ghost use Rattle.std.specs.Prelude.{take};
+ghost use Rattle.sha2.specs.{Hashers.Holds256, Sha256.sha256};
 
 use pagable_codec::KeyHash;
 use sha2::{Digest, Sha256};
@@ -13,9 +13,9 @@ pub struct Sha256Key {
 }
 
 impl KeyHash for Sha256Key {
-    ghost holds = { IsHashed };
+    ghost holds = { λ h came. Holds256 h.hasher came };
 
-    ghost digest = { sha256_key };
+    ghost digest = { λ bytes. take 16 (sha256 bytes) };
 
     fn new() -> Sha256Key {
         Sha256Key {
@@ -28,15 +28,9 @@ impl KeyHash for Sha256Key {
     }
 
     fn finish(self) -> [u8; 16] {
-        first_half(&self.hasher.finalize())
+        let digest = self.hasher.finalize();
+        let mut half = [0; 16];
+        half.copy_from_slice(&digest[..16]);
+        half
     }
-}
-
-/// The first 16 of 32 bytes.
-fn first_half(digest: &[u8; 32]) -> [u8; 16]
-    ensures { result ≡ take 16 digest.now }
-{
-    let mut half = [0; 16];
-    half.copy_from_slice(&digest[..16]);
-    half
 }

@@ -1,10 +1,10 @@
 //! Nodes that come, what loads have read becomes nodes, and loads of cells that end with a value.
 
-ghost use Rattle.std.specs.{Arc.arc_value, HashMap.{get, spare}, Prelude.{◌≡◌, ◌≢◌, ◌<◌, ℕ, Some, IfOk, IfErr, OnOk, OnErr, true, not, nat_eq, List, Bool, Option, None, IfSome, IfNone}};
-ghost use Rattle.{pagable_model.specs.declared.numbers.{ArcRef.ArcRef, Kind.Kind}, pagable_pager.specs.View.{core_in, state_in, telling, value_in, Calls, OnlyLess, PutsIn, is_at_work}};
-ghost use Rattle.pagable_tables.specs.{Asking.early_fault, ByNumber.counts_at, Core.{core_of, plain_of, IsWhole}, Falling.Sheds, Later.AreLater, Ready.{IsReady, HasPlace, Unends}};
-ghost use Rattle.pagable_world.specs.{Calls.{BirthCall, AwayBirthCall}, Kinds.is_pinning, LoadCalls.{adopt_fault, AdoptCall, Adopts, EndCall, EndRefused, Installs}, Pager.{IsNewNode, IsCellOf}};
-ghost use Rattle.pagable_world.specs.{Pager.Moves, Plain.{Blob, Error}, Refusals.{load_fault, closed_fault, earlier, Refused}, World.{Core, usable}};
+ghost use Rattle.std.specs.{Arc.arc_value, HashMap.{get, spare}, Prelude.{Bool, IfErr, IfNone, IfOk, IfSome, List, None, OnErr, OnOk, Option, Some, nat_eq, not, true, ℕ, ◌<◌, ◌≡◌}};
+ghost use Rattle.{pagable_model.specs.declared.numbers.{ArcRef.ArcRef, Kind.Kind}, pagable_pager.specs.View.{Calls, OnlyLess, PutsIn, core_in, state_in, telling, value_in}};
+ghost use Rattle.pagable_tables.specs.{Core.{AreLater, Does, IsWhole, core_of, plain_of}, Falling.{Sheds, counts_at}, Ready.{HasPlace, IsReady, Unends, early_fault}};
+ghost use Rattle.pagable_world.specs.{Calls.{AwayBirthCall, BirthCall}, Kinds.is_pinning, LoadCalls.{AdoptCall, Adopts, EndCall, EndRefused, Installs, adopt_fault}, Pager.{IsCellOf, IsNewNode}};
+ghost use Rattle.pagable_world.specs.{Pager.Moves, Plain.{Blob, Error, updated}, Refusals.{Refused, closed_fault, earlier, load_fault}, World.{Core, usable}};
 
 use crate::pager::Pager;
 use indexmap::IndexMap;
@@ -42,8 +42,7 @@ fn share_with_room<N: Drop>(
 /// A value is in memory from now on, under its node's number.
 fn keep<N: Drop>(values: &mut IndexMap<u64, Arc<N>>, node: u64, value: Arc<N>)
     requires { 0 < spare values.old }
-    ensures here { value_in values.new node ≡ Some (arc_value value) }
-    ensures others { (n : ℕ) → n ≢ node → value_in values.new n ≡ value_in values.old n }
+    ensures { (n : ℕ) → value_in values.new n ≡ updated node (Some (arc_value value)) (value_in values.old) n }
 {
     let Ok(_) = values.insert(node, value) else {
         unreachable!();
@@ -67,10 +66,7 @@ fn finish<N: Drop>(
     requires later { AreLater tables.old }
     requires ready { (stored : ℕ → Option Blob) (closed : Bool) (failures : ℕ) → IsReady (core_of tables.old stored closed failures) me load node_type references.items ending }
     requires place { HasPlace tables.old load ending }
-    ensures installs { IfOk result (λ k. (stored : ℕ → Option Blob) (closed : Bool) (failures : ℕ) → lists ≡ not closed
-        → Installs (core_of tables.old stored closed failures) me load ending.row.node ending.row.number k references.items (core_of tables.new stored closed failures)) }
-    ensures whole { IsWhole tables.new }
-    ensures later { AreLater tables.new }
+    ensures does { Does tables.old (λ w w'. IfOk result (λ k. lists ≡ not w.closed → Installs w me load ending.row.node ending.row.number k references.items w')) tables.new }
     ensures puts { OnOk result (PutsIn ending.is_away ending.row.node.0 value tables.old values.old tables.new values.new) }
     ensures back { IfErr result (λ x. x ≡ value) }
     ensures tables { OnErr result (tables.new ≡ tables.old) }
@@ -291,7 +287,6 @@ where
         key: DataKey,
         node: E::Node,
     ) -> Result<HandleNumber, (Error, E::Node)>
-        requires { is_at_work (core_in (telling S.stored S.is_closed S.failed) self.old) me ≡ true }
         ensures step { AdoptCall (core_in (telling S.stored S.is_closed S.failed) self.old) me load kind key node (E.Node.type_of node) (E.Node.refs_of node) result (core_in (telling S.stored S.is_closed S.failed) self.new) }
         ensures moves { Moves (λ n x. (x ≡ node) × IsNewNode (core_in (telling S.stored S.is_closed S.failed) self.old) n) (state_in (telling S.stored S.is_closed S.failed) self.old) (state_in (telling S.stored S.is_closed S.failed) self.new) }
     {
@@ -331,7 +326,6 @@ where
         load: LoadNumber,
         value: E::Node,
     ) -> Result<HandleNumber, (Error, Option<E::Node>)>
-        requires { is_at_work (core_in (telling S.stored S.is_closed S.failed) self.old) me ≡ true }
         ensures step { EndCall (core_in (telling S.stored S.is_closed S.failed) self.old) me load value (E.Node.type_of value) (E.Node.refs_of value) result (core_in (telling S.stored S.is_closed S.failed) self.new) }
         ensures moves { Moves (λ n x. (x ≡ value) × IsCellOf (core_in (telling S.stored S.is_closed S.failed) self.old) load n) (state_in (telling S.stored S.is_closed S.failed) self.old) (state_in (telling S.stored S.is_closed S.failed) self.new) }
     {

@@ -142,8 +142,7 @@ where
     {
         let was_unpinned = self.is_unpinned(handle);
         if let Ok(true) = self.is_paged_out(handle) {
-            let beginning = self.load_begin_by(me, handle)?;
-            let Beginning::Load(load, key) = beginning else {
+            let Beginning::Load(load, key) = self.load_begin_by(me, handle)? else {
                 unreachable!();
             };
             let Some(node_type) = self.load_type(load) else {

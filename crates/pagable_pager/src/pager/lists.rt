@@ -162,7 +162,6 @@ where
     }
 
     pub(crate) fn load_drop_by(&mut self, me: Owner, load: LoadNumber) -> Result<(), Error>
-        requires { is_at_work (core_in (telling S.stored S.is_closed S.failed) self.old) me ≡ true }
         ensures { CallsLess (telling S.stored S.is_closed S.failed) self.old (λ w w'. DropCall w me load result w') self.new }
     {
         let lists = !self.storage.has_closed();

@@ -2,7 +2,7 @@
 
 ghost use Rattle.std.specs.{Arc.arc_value, Prelude.{◌≡◌, IfOk, IfNone, true, IfErr, Some, nat_lt}};
 ghost use Rattle.{pagable_core.specs.Data.blob_of, pagable_pager.specs.View.{ReadsAs, type_of_root, core_in, telling, given_as, OnlyTables, SameValues, is_at_work, Calls}};
-ghost use Rattle.{pagable_tables.specs.{Asking.AsksKnown, Core.root_in}, pagable_world.specs.{LoadCalls.{AskCall, BeginCall, BeginKeyCall, LazyCall}, Refusals.load_fault, World.{seen_as, greatest}}};
+ghost use Rattle.{pagable_tables.specs.{Ready.AsksKnown, Core.root_in}, pagable_world.specs.{LoadCalls.{AskCall, BeginCall, BeginKeyCall, LazyCall}, Refusals.load_fault, World.{seen_as, greatest}}};
 
 use crate::pager::Pager;
 use either::Either;
@@ -100,7 +100,6 @@ where
         load: LoadNumber,
         want: Want,
     ) -> Result<Either<HandleNumber, Arc<PagableData>>, Error>
-        requires { is_at_work (core_in (telling S.stored S.is_closed S.failed) self.old) me ≡ true }
         ensures step { AskCall (core_in (telling S.stored S.is_closed S.failed) self.old) me load want (seen_as (given_as (λ d. blob_of (arc_value d))) result) (core_in (telling S.stored S.is_closed S.failed) self.new) }
         ensures only { SameValues self.old self.new }
     {
@@ -144,7 +143,6 @@ where
         kind: Kind,
         key: DataKey,
     ) -> Result<HandleNumber, Error>
-        requires { is_at_work (core_in (telling S.stored S.is_closed S.failed) self.old) me ≡ true }
         ensures { Calls (telling S.stored S.is_closed S.failed) self.old (λ w w'. LazyCall w me load kind key result w') self.new }
     {
         let lists = !self.storage.has_closed();

@@ -2,7 +2,7 @@
 
 ghost use Rattle.std.specs.Prelude.{◌≡◌, true, ◌<◌, ◌≤◌, length, IfSome, IfNone, IfOk, IfErr};
 ghost use Rattle.pagable_world.specs.{Kinds.{is_loose, loose_kind, HasKinds, HasNoKinds}, World.{Alike, key_at}};
-ghost use Rattle.{pagable_world.specs.{Cascade.FallsAnyhow, Calls.Looks, Workers.{claim_fault, is_workers_at, WorkerEnds}, Events.IsEntry}, pagable_tables.specs.Giving.{BeginsWorker, TakesWorker}};
+ghost use Rattle.{pagable_world.specs.{Cascade.FallsAnyhow, Calls.Looks, Workers.{claim_fault, is_workers_at, WorkerEnds}, Events.IsEntry}, pagable_tables.specs.Core.{BeginsWorker, TakesWorker}};
 ghost use Rattle.{pagable_loads.specs.Working.{EntryFault, TakesReference}, pagable_pager.specs.View.{PinsClone, TakesEntry, core_in, telling, OnlyTables, is_at_work, Calls, CallsLess}};
 
 use crate::pager::Pager;

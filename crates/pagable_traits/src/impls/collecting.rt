@@ -74,7 +74,7 @@ pub fn collect_items<
 }
 
 /// Reads how many items follow, and then the items, as `collect_items` does. TooLong above 4,294,967,295.
-#[tactic(auto, using(crate::proofs::Held::reads))]
+#[tactic(auto, using(crate::proofs::Parts::reads))]
 pub fn read_collected<
     'de,
     E: Env,
@@ -112,7 +112,7 @@ pub fn write_each<
 
 /// Writes a count, and then each item that a walk yields. TooLong where the count is above 4,294,967,295, before any
 /// item; else the first item's refusal, or want of memory.
-#[tactic(auto, using(crate::proofs::Walks::writes))]
+#[tactic(auto, using(crate::proofs::Items::writes))]
 pub fn write_counted<
     E: Env,
     T: PagableSerialize<E> + Drop,

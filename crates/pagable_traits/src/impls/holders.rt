@@ -30,7 +30,7 @@ impl<E: Env, T: OneMeaning<E>> OneMeaning<E> for Option<T> {
 impl<E: Env, T: PagableSerialize<E>> PagableSerialize<E> for Option<T> {
     ghost write_causes = { writes_memory_or T.write_causes };
 
-    #[tactic(auto, using(crate::proofs::Joined::writes_option))]
+    #[tactic(auto, using(crate::proofs::Parts::writes_option))]
     fn pagable_serialize<S: PagableSerializer<E>>(&self, serializer: &mut S) -> Result<(), Error> {
         match self {
             None => write_flag(false, serializer),
@@ -45,7 +45,7 @@ impl<E: Env, T: PagableSerialize<E>> PagableSerialize<E> for Option<T> {
 impl<'de, E: Env, T: PagableDeserialize<'de, E>> PagableDeserialize<'de, E> for Option<T> {
     ghost read_causes = { T.read_causes };
 
-    #[tactic(auto, unfolding(pagable_model::specs::Reading::read, pagable_model::specs::Reading::read_with), using(crate::proofs::Held::reads))]
+    #[tactic(auto, unfolding(pagable_model::specs::Reading::read, pagable_model::specs::Reading::read_with), using(crate::proofs::Parts::reads))]
     fn pagable_deserialize<D: PagableDeserializer<E>>(
         alloc: Global,
         deserializer: &mut D,
@@ -75,7 +75,7 @@ impl<E: Env, T: PagableSerialize<E>> PagableSerialize<E> for Box<T> {
 impl<'de, E: Env, T: PagableDeserialize<'de, E> + Drop> PagableDeserialize<'de, E> for Box<T> {
     ghost read_causes = { reads_memory_or T.read_causes };
 
-    #[tactic(auto, using(crate::proofs::Held::reads))]
+    #[tactic(auto, using(crate::proofs::Parts::reads))]
     fn pagable_deserialize<D: PagableDeserializer<E>>(
         alloc: Global,
         deserializer: &mut D,
@@ -111,7 +111,7 @@ impl<
 > PagableDeserialize<'de, E> for (A, B) {
     ghost read_causes = { reads_either A.read_causes B.read_causes };
 
-    #[tactic(auto, unfolding(pagable_model::specs::Reading::read, pagable_model::specs::Reading::read_with), using(crate::proofs::Held::reads))]
+    #[tactic(auto, unfolding(pagable_model::specs::Reading::read, pagable_model::specs::Reading::read_with), using(crate::proofs::Parts::reads))]
     fn pagable_deserialize<D: PagableDeserializer<E>>(
         alloc: Global,
         deserializer: &mut D,
@@ -135,7 +135,7 @@ impl<E: Env, T: OneMeaning<E>, X: OneMeaning<E>> OneMeaning<E> for Result<T, X> 
 impl<E: Env, T: PagableSerialize<E>, X: PagableSerialize<E>> PagableSerialize<E> for Result<T, X> {
     ghost write_causes = { writes_memory_or (writes_either T.write_causes X.write_causes) };
 
-    #[tactic(auto, using(crate::proofs::Joined::writes_result))]
+    #[tactic(auto, using(crate::proofs::Parts::writes_result))]
     fn pagable_serialize<S: PagableSerializer<E>>(&self, serializer: &mut S) -> Result<(), Error> {
         write_flag(self.is_ok(), serializer)?;
         match self {
@@ -151,7 +151,7 @@ impl<'de, E: Env, T: PagableDeserialize<'de, E>, X: PagableDeserialize<'de, E>> 
 > for Result<T, X> {
     ghost read_causes = { reads_either T.read_causes X.read_causes };
 
-    #[tactic(auto, unfolding(pagable_model::specs::Reading::read, pagable_model::specs::Reading::read_with), using(crate::proofs::Held::reads))]
+    #[tactic(auto, unfolding(pagable_model::specs::Reading::read, pagable_model::specs::Reading::read_with), using(crate::proofs::Parts::reads))]
     fn pagable_deserialize<D: PagableDeserializer<E>>(
         alloc: Global,
         deserializer: &mut D,
@@ -290,7 +290,7 @@ impl<
 > PagableSerialize<E> for (A, B, C) {
     ghost write_causes = { writes_either A.write_causes (writes_either B.write_causes C.write_causes) };
 
-    #[tactic(auto, using(crate::proofs::Joined::alike))]
+    #[tactic(auto, using(crate::proofs::Parts::alike))]
     fn pagable_serialize<S: PagableSerializer<E>>(&self, serializer: &mut S) -> Result<(), Error> {
         write_entry(&self.0, &(&self.1, &self.2), serializer)
     }
@@ -305,7 +305,7 @@ impl<
 > PagableSerialize<E> for (A, B, C, D) {
     ghost write_causes = { writes_either A.write_causes (writes_either B.write_causes (writes_either C.write_causes D.write_causes)) };
 
-    #[tactic(auto, using(crate::proofs::Joined::alike))]
+    #[tactic(auto, using(crate::proofs::Parts::alike))]
     fn pagable_serialize<S: PagableSerializer<E>>(&self, serializer: &mut S) -> Result<(), Error> {
         write_entry(&self.0, &(&self.1, &(&self.2, &self.3)), serializer)
     }
@@ -321,7 +321,7 @@ impl<
 > PagableSerialize<E> for (A, B, C, D, F) {
     ghost write_causes = { writes_either A.write_causes (writes_either B.write_causes (writes_either C.write_causes (writes_either D.write_causes F.write_causes))) };
 
-    #[tactic(auto, using(crate::proofs::Joined::alike))]
+    #[tactic(auto, using(crate::proofs::Parts::alike))]
     fn pagable_serialize<S: PagableSerializer<E>>(&self, serializer: &mut S) -> Result<(), Error> {
         write_entry(
             &self.0,
@@ -376,14 +376,6 @@ impl<E: Env, T: PagableSerialize<E>> PagableSerialize<E> for OnceLock<T> {
     }
 }
 
-/// The lock that holds this value, or none.
-fn lock_of<T: Drop>(held: Option<T>) -> OnceLock<T> {
-    match held {
-        Some(value) => OnceLock::from(value),
-        None => OnceLock::new(),
-    }
-}
-
 impl<'de, E: Env, T: PagableDeserialize<'de, E> + Drop> PagableDeserialize<'de, E> for OnceLock<T> {
     ghost read_causes = { T.read_causes };
 
@@ -392,6 +384,9 @@ impl<'de, E: Env, T: PagableDeserialize<'de, E> + Drop> PagableDeserialize<'de, 
         alloc: Global,
         deserializer: &mut D,
     ) -> Result<Self, Error> {
-        Ok(lock_of(PagableDeserialize::<E>::pagable_deserialize(alloc, deserializer)?))
+        match <Option<T>>::pagable_deserialize(alloc, deserializer)? {
+            Some(value) => Ok(OnceLock::from(value)),
+            None => Ok(OnceLock::new()),
+        }
     }
 }

@@ -49,7 +49,7 @@ fn read_case<E: Env, D: PagableDeserializer<E>>(deserializer: &mut D) -> Result<
 /// Reads a JSON value. JsonCase where the case is above 5, JsonNumber where a number is a float, TooDeep for an array or
 /// an object where 128 levels were entered, and else the faults of its parts.
 #[cycle(reading_json)]
-#[tactic(auto, unfolding(pagable_model::specs::Reading::read, pagable_model::specs::Reading::read_with), using(crate::proofs::JsonRead::cases))]
+#[tactic(auto, unfolding(pagable_model::specs::Reading::read, pagable_model::specs::Reading::read_with), using(crate::proofs::Json::read_cases))]
 pub fn read_value<E: Env, D: PagableDeserializer<E>>(
     alloc: Global,
     deserializer: &mut D,
@@ -82,7 +82,7 @@ pub fn read_value<E: Env, D: PagableDeserializer<E>>(
 
 // Reads an array after its case.
 #[cycle(reading_json)]
-#[tactic(auto, unfolding(pagable_model::specs::Reading::read, pagable_model::specs::Reading::read_with), using(crate::proofs::Held::reads))]
+#[tactic(auto, unfolding(pagable_model::specs::Reading::read, pagable_model::specs::Reading::read_with), using(crate::proofs::Parts::reads))]
 fn array_part<E: Env, D: PagableDeserializer<E>>(
     alloc: Global,
     deserializer: &mut D,
@@ -117,7 +117,7 @@ fn read_items<E: Env, D: PagableDeserializer<E>>(
 
 // Reads an object after its case.
 #[cycle(reading_json)]
-#[tactic(auto, unfolding(pagable_model::specs::Reading::read, pagable_model::specs::Reading::read_with), using(crate::proofs::Held::reads))]
+#[tactic(auto, unfolding(pagable_model::specs::Reading::read, pagable_model::specs::Reading::read_with), using(crate::proofs::Parts::reads))]
 fn object_part<E: Env, D: PagableDeserializer<E>>(
     alloc: Global,
     deserializer: &mut D,
@@ -152,7 +152,7 @@ fn read_members<E: Env, D: PagableDeserializer<E>>(
 
 // Reads a key and its value.
 #[cycle(reading_json)]
-#[tactic(auto, unfolding(pagable_model::specs::Reading::read, pagable_model::specs::Reading::read_with), using(crate::proofs::Held::reads))]
+#[tactic(auto, unfolding(pagable_model::specs::Reading::read, pagable_model::specs::Reading::read_with), using(crate::proofs::Parts::reads))]
 fn read_member<E: Env, D: PagableDeserializer<E>>(
     alloc: Global,
     deserializer: &mut D,

@@ -1,9 +1,8 @@
 //! Lists of each kind, slices and arrays, and the items of a list in turn.
 
-ghost use Rattle.std.specs.{Prelude.{◌≡◌, ◌++◌, ◌∷◌, [], OnOk, IfErr, max}, Vec.vec_capacity, Box.boxed_slice_items};
-ghost use Rattle.pagable_model.specs.{Writing.{nesting, WritesSomeAll, RefusedAll, Grows}, Gives.{memory_or, long_or}, Shape.{array, list, run}};
-ghost use Rattle.pagable_model.specs.Lifted.{MeanAll, MeansList};
-ghost use Rattle.pagable_traits.specs.{JsonSteps.{Wrote, value as form}, Meanings.{seen_by, lists, lists_single}, OwnCauses.{reads_memory_or, writes_memory_or, writes_long_or}};
+ghost use Rattle.std.specs.{Box.boxed_slice_items, Prelude.{[], max, ◌++◌, ◌∷◌, ◌≡◌}, Vec.vec_capacity};
+ghost use Rattle.pagable_model.specs.{Gives.{long_or, memory_or}, Lifted.{MeanAll, MeansList}, Shape.{array, list, run}};
+ghost use Rattle.pagable_traits.specs.{JsonSteps.{Wrote, all, value as form}, Meanings.{lists, lists_single, seen_by}, OwnCauses.{reads_memory_or, writes_long_or, writes_memory_or}};
 
 use crate::impls::collecting::{
     Collects, collect_items, read_collected, write_counted, write_each,
@@ -21,12 +20,7 @@ pub fn write_items<E: Env, T: PagableSerialize<E>, S: PagableSerializer<E>>(
     values: &[T],
     serializer: &mut S,
 ) -> Result<(), Error>
-    ensures ok { OnOk result (WritesSomeAll (MeanAll T.means.of values.now) (nesting (S.levels serializer.old) (E.parts (S.environment serializer.old))) (T.shape (S.environment serializer.old)) (S.out serializer.old) (S.out serializer.new)) }
-    ensures refused { IfErr result (RefusedAll (MeanAll T.means.of values.now) (nesting (S.levels serializer.old) (E.parts (S.environment serializer.old))) (T.shape (S.environment serializer.old))) }
-    ensures only { IfErr result T.write_causes.are }
-    ensures err { Grows (S.out serializer.old) (S.out serializer.new) }
-    ensures same_env { S.environment serializer.new ≡ S.environment serializer.old }
-    ensures same_levels { S.levels serializer.new ≡ S.levels serializer.old }
+    ensures { Wrote E.Env S.PagableSerializer (all (MeanAll T.means.of values.now) (T.shape (S.environment serializer.old))) T.write_causes.are serializer.old serializer.new result }
 {
     write_each(values.iter(), serializer)
 }
@@ -80,7 +74,7 @@ impl<E: Env, T: PagableSerialize<E>> PagableSerialize<E> for Vec<T> {
 impl<'de, E: Env, T: PagableDeserialize<'de, E> + Drop> PagableDeserialize<'de, E> for Vec<T> {
     ghost read_causes = { reads_memory_or T.read_causes };
 
-    #[tactic(auto, unfolding(pagable_model::specs::Reading::read, pagable_model::specs::Reading::read_with), using(crate::proofs::Collecting::lists))]
+    #[tactic(auto, unfolding(pagable_model::specs::Reading::read, pagable_model::specs::Reading::read_with), using(crate::proofs::Items::lists))]
     fn pagable_deserialize<D: PagableDeserializer<E>>(
         alloc: Global,
         deserializer: &mut D,
@@ -131,7 +125,7 @@ impl<
 > PagableDeserialize<'de, E> for SmallVec<T, N> {
     ghost read_causes = { reads_memory_or T.read_causes };
 
-    #[tactic(auto, unfolding(pagable_model::specs::Reading::read, pagable_model::specs::Reading::read_with), using(crate::proofs::Collecting::lists))]
+    #[tactic(auto, unfolding(pagable_model::specs::Reading::read, pagable_model::specs::Reading::read_with), using(crate::proofs::Items::lists))]
     fn pagable_deserialize<D: PagableDeserializer<E>>(
         alloc: Global,
         deserializer: &mut D,
@@ -222,7 +216,7 @@ impl<'de, E: Env, T: PagableDeserialize<'de, E> + Drop, const N: usize> PagableD
     for [T; N] {
     ghost read_causes = { reads_memory_or T.read_causes };
 
-    #[tactic(auto, unfolding(pagable_model::specs::Reading::read, pagable_model::specs::Reading::read_with), using(crate::proofs::Collecting::lists))]
+    #[tactic(auto, unfolding(pagable_model::specs::Reading::read, pagable_model::specs::Reading::read_with), using(crate::proofs::Items::lists))]
     fn pagable_deserialize<D: PagableDeserializer<E>>(
         alloc: Global,
         deserializer: &mut D,

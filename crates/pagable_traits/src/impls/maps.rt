@@ -19,7 +19,7 @@ use std::collections::{BTreeMap, BTreeSet, HashMap};
 use std::hash::Hash;
 
 /// Writes a key and its value, one after the other. A refusal is the key's, or else the value's.
-#[tactic(auto, using(crate::proofs::Joined::pairs))]
+#[tactic(auto, using(crate::proofs::Parts::pairs))]
 pub fn write_entry<E: Env, K: PagableSerialize<E>, V: PagableSerialize<E>, S: PagableSerializer<E>>(
     key: &K,
     value: &V,

@@ -1,5 +1,5 @@
 //! Whole numbers, flags, characters, nothing, and spans of time.
-#![tactic(auto, using(pagable_codec::proofs::Writing::parts, crate::proofs::Basics::read_steps, crate::proofs::Basics::write_steps))]
+#![tactic(auto, using(pagable_codec::proofs::Writing::parts, crate::proofs::Parts::read_steps, crate::proofs::Parts::write_steps))]
 
 ghost use Rattle.std.specs.{Int.{w8, w16, w32, w64, w128}, Prelude.{◌≡◌, ◌++◌, ◌<◌, ◌^◌, OnOk, IfErr}};
 ghost use Rattle.pagable_model.specs.{Meaning.{number, integer, none, flag as flag_meaning}, Shape.{unsigned, signed, flag, letter, nothing, duration}};
@@ -374,7 +374,7 @@ fn write_span(span: Duration, writer: &mut PagableVecFlavor) -> Result<(), Error
 }
 
 // Reads seconds and nanoseconds, of which whole seconds are carried over: BadDuration where the seconds overflow.
-#[tactic(auto, unfolding(pagable_model::specs::Basic::duration_at), using(crate::proofs::Basics::span_overflows, crate::proofs::Basics::span_read))]
+#[tactic(auto, unfolding(pagable_model::specs::Basic::duration_at), using(crate::proofs::Parts::span_overflows, crate::proofs::Parts::span_read))]
 fn read_span<R: Reader>(reader: &mut R) -> Result<Duration, Error>
     ensures gives { Gives never (λ d. ((seconds_of d, nanos_of d), left (R.track reader.new))) result (duration_at (left (R.track reader.old))) }
     ensures goes { GoesOn (R.track reader.old) (R.track reader.new) }
@@ -398,7 +398,7 @@ impl<E: Env> OneMeaning<E> for Duration {
 }
 
 impl<E: Env> PagableSerialize<E> for Duration {
-    #[tactic(auto, using(pagable_codec::proofs::Writing::parts, crate::proofs::Basics::writes_span))]
+    #[tactic(auto, using(pagable_codec::proofs::Writing::parts, crate::proofs::Parts::writes_span))]
     fn pagable_serialize<S: PagableSerializer<E>>(&self, serializer: &mut S) -> Result<(), Error> {
         write_span(*self, serializer.serde())
     }

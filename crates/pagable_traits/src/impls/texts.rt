@@ -12,7 +12,7 @@ use std::boxed::BoxedStr;
 
 /// Writes a text as a `String` is written: its length in bytes, and its bytes. TooLong above 4,294,967,295 bytes; else
 /// refused by want of memory alone.
-#[tactic(auto, using(pagable_codec::proofs::Writing::parts, crate::proofs::Joined::writes_str))]
+#[tactic(auto, using(pagable_codec::proofs::Writing::parts, crate::proofs::Parts::writes_str))]
 pub fn serialize_str<E: Env, S: PagableSerializer<E>>(
     text: &str,
     serializer: &mut S,
@@ -73,6 +73,7 @@ impl<E: Env> PagableSerialize<E> for String {
 impl<'de, E: Env> PagableDeserialize<'de, E> for String {
     ghost read_causes = { reads_memory };
 
+    #[tactic(auto, unfolding(pagable_model::specs::Reading::read, pagable_model::specs::Reading::read_with), using(crate::proofs::Parts::gives_text))]
     fn pagable_deserialize<D: PagableDeserializer<E>>(
         alloc: Global,
         deserializer: &mut D,

@@ -4,7 +4,7 @@ use Rattle.pagable.proofs.readings.prepare.Goals as goal
 pub returns-then-is_some-clause-ready : goal.returns-then-is_some-clause-ready
 returns-then-is_some-clause-ready c = is-prepared _ _ _ (search rules)
 
-pub returns-in-Ok-clause-ready : goal.returns-in-Ok-clause-ready
-returns-in-Ok-clause-ready c =
+pub returns-clause-ready : goal.returns-clause-ready
+returns-clause-ready c =
     begins-prepared _ _ _ c.in-Some.node_type c.new.result (search rules) c.in-Some.is
     c.new.ensures.reading c.new.ensures.key c.new.ensures.for_cell (keeps-after c.reserve.ensures.same c.put.ensures)

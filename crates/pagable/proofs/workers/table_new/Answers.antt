@@ -1,5 +1,4 @@
-use Rattle.{std.proofs.Common.{rules, refl, ◌≡◌, ◌+◌, length, ◌∙◌, ap, ◌++◌, ◌∷◌, []}, pagable_loads.specs.Telling.values_at, pagable.proofs.{Driven.table-drives, Keeping.nothing-done}}
-use Rattle.pagable.proofs.Keeping.{refused, drives}
+use Rattle.{pagable.proofs.{Driven.table-drives, Keeping.{nothing-done, refused, drives}}, pagable_loads.specs.Telling.values_at, std.proofs.Common.{rules, refl, ◌∙◌, ap, ◌++◌, ◌∷◌, []}}
 use Rattle.pagable.proofs.workers.table_new.Goals as goal
 
 pub returns-then-is_err : goal.returns-then-is_err
@@ -10,5 +9,4 @@ returns-then-is_err g c =
 pub returns : goal.returns
 returns g c =
     let is = c.put.ensures.items ∙ ap (λ tables. tables ++ c.new.result ∷ []) c.reserve.ensures.items in
-    let number : c.len.result ≡ length c.args.held.now.tables.items + 1 = search rules in
-    table-drives (values_at g.E.Node.NodeSet g.E.Env g.E.Hash.KeyHash) _ _ c.args.pager.now _ c.requires c.is_whole.ensures c.put.new.list c.new.result _ is number c.new.ensures
+    table-drives (values_at g.E.Node.NodeSet g.E.Env g.E.Hash.KeyHash) _ _ c.args.pager.now _ c.requires c.is_whole.ensures c.put.new.list c.new.result _ is (search rules) c.new.ensures

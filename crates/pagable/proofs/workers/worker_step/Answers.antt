@@ -1,12 +1,10 @@
-use Rattle.{std.{proofs.Common.{rules, ◌≡◌, true, false, sym, ◌∙◌, refl}, specs.Prelude.is_some}, pagable_loads.specs.Telling.values_at, pagable.specs.{Driving.kept_at, Walking.has_task}}
-use Rattle.pagable.proofs.{Driven.no-task, Keeping.{drives, nothing-done, refused}, Running.worker-moved}
+use Rattle.{std.proofs.Common.{rules, sym, ◌∙◌, refl}, pagable_loads.specs.Telling.values_at, pagable.proofs.{Driven.no-task, Keeping.{drives, nothing-done, refused}, Running.worker-moved}}
 use Rattle.pagable.proofs.workers.worker_step.Goals as goal
 
 pub returns-then-not-has_task : goal.returns-then-not-has_task
 returns-then-not-has_task g c =
-    let none : has_task (kept_at c.args.held.now.walks c.args.worker.0) ≡ false = search rules in
     drives (refused _ c.requires c.is_whole.ensures (nothing-done _ c.is_whole.ensures) (record { readings = λ l. refl; tables = refl; walks = λ q. refl }) _ _ (λ q. refl)
-    (λ stays. record { moves = tt; refused = (refl, no-task c.requires _ _ refl none, stays) }) tt)
+    (λ stays. record { moves = tt; refused = (refl, no-task c.requires _ _ refl (search rules), stays) }) tt)
 
 pub walk_on-requires-clause-table : goal.walk_on-requires-clause-table
 walk_on-requires-clause-table g c = (c.requires.walks _ _ (sym c.in-Some.ensures.value)).table
@@ -17,8 +15,7 @@ walk_on-requires-clause-way g c = (c.requires.walks _ _ (sym c.in-Some.ensures.v
 pub walk_on-requires-clause-at_work : goal.walk_on-requires-clause-at_work
 walk_on-requires-clause-at_work g c =
     let mine = c.requires.walks _ _ (sym c.in-Some.ensures.value) in
-    let has : is_some c.in-Some.walk.now.task ≡ true = search rules in
-    mine.at_work ∙ sym mine.either ∙ has
+    mine.at_work ∙ sym mine.either ∙ search rules
 
 pub returns : goal.returns
 returns g c =

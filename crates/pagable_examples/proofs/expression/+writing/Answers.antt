@@ -1,8 +1,5 @@
-use Rattle.std.proofs.Common.{refl, inl}
-use Rattle.pagable_examples.{proofs.Levels.refused-deep, specs.Expressions.nodes}
-use Rattle.pagable.specs.Gives.{memory}
-use Rattle.pagable_examples.proofs.Expressions.{nothing, written_down, number_written, left_unwritten, sum_written}
-use Rattle.pagable_traits.proofs.JsonSteps.{wrote-deep, wrote-nothing}
+use Rattle.pagable_examples.{specs.Expressions.nodes, proofs.{Expressions.{nothing, written_down, number_written, left_unwritten, sum_written}, Levels.refused-deep}}
+use Rattle.{pagable_traits.proofs.JsonSteps.{wrote-deep, wrote-nothing}, std.proofs.Common.{refl, inl}, pagable.specs.Gives.memory}
 use Rattle.pagable_examples.proofs.expression.+writing.Goals as goal
 
 pub write_below-returns-in_err-enter : goal.write_below-returns-in_err-enter

@@ -1,5 +1,4 @@
-use Rattle.std.proofs.Common.{◌+◌, ◌-◌, ◌*◌}
-use Rattle.pagable.specs.Reading.{deepest}
+use Rattle.{pagable.specs.Reading.deepest, std.proofs.Common.{◌+◌, ◌-◌, ◌*◌}}
 use Rattle.pagable_examples.proofs.expression.+writing.Given as goal
 
 abbrev pub decreases-write_below : goal.decreases-write_below

@@ -1,4 +1,4 @@
-use Rattle.pagable_laws.proofs.Identities.{one_identity_law}
+use Rattle.pagable_laws.proofs.SparingSteps.{one_identity_law}
 use Rattle.pagable_laws.proofs.runs.one_identity.Goals as goal
 
 pub returns : goal.returns

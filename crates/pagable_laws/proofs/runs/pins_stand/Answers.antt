@@ -1,4 +1,4 @@
-use Rattle.pagable_laws.proofs.LoadRuns.{pin_law}
+use Rattle.pagable_laws.proofs.Answered.{pin_law}
 use Rattle.pagable_laws.proofs.runs.pins_stand.Goals as goal
 
 pub returns : goal.returns

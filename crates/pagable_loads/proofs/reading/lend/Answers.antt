@@ -1,13 +1,10 @@
-use Rattle.{std.{proofs.{Common.{ap, arith, length, rules, subst, sym, ◌∙◌}, lemmas.Option.slice_get-get_or}, specs.Arc.arc_value}, pagable_loads.{specs.Got.LendsEach, proofs.Stepped.{tells_all, tells_both, tells_map}}}
-use Rattle.pagable_loads.proofs.Stepped.{all_lent, more_lent, none_lent}
+use Rattle.std.{proofs.{Common.{arith, rules, subst, sym, ◌∙◌}, lemmas.Option.slice_get-get_or}, specs.Arc.arc_value}
+use Rattle.pagable_loads.{proofs.Stepped.{all_lent, more_lent, none_lent, tells_all, tells_both, tells_map}, specs.Got.LendsEach}
 use Rattle.pagable_loads.proofs.reading.lend.Goals as goal
 
 pub returns-then-not-is_any_read_at_once-clause-lends : goal.returns-then-not-is_any_read_at_once-clause-lends
 returns-then-not-is_any_read_at_once-clause-lends g c =
     tells_all (λ s. subst (LendsEach arc_value s c.args.got.now) (sym c.new-lent.ensures.items) (none_lent arc_value s c.args.got.now (sym c.is_any_read_at_once.ensures ∙ c.if-not-is_any_read_at_once.true)))
-
-pub loop-reference-init : goal.loop-reference-init
-loop-reference-init g c = record { long = ap length c.new-lent.ensures.items; lent = tells_all (λ s place r less here. absurd (omega (arith, less))) }
 
 pub loop-reference-preserved : goal.loop-reference-preserved
 loop-reference-preserved g c =

@@ -1,9 +1,7 @@
-use Rattle.pagable_tables.proofs.{Alive.whole-so, Calls.close-whole, Fitting.{begun, owned-listed, unmixed}, Newer.{later-on, newer-falls, passes-given}, Words.{Falls, FallsAnyhow, Holdings}}
-use Rattle.pagable_tables.proofs.Words.{NodeNumber, None, Ok, Owner, ap, arith, core_of, false, inl, is_listed, is_owned_by, option_map, plain_of, refl, shut, subst, sym, with_tables, known_at, ℕ, ◌≡◌}
+use Rattle.pagable_tables.proofs.{Alive.whole-so, Calls.close-whole, Fitting.{begun, owned-listed, unmixed}, Newer.{later-on, passes-given}, Told.newer-falls, Words.{Falls, FallsAnyhow, Holdings}}
+use Rattle.pagable_tables.proofs.Words.{NodeNumber, None, Ok, Owner, ap, arith, core_of, false, inl, is_listed, is_owned_by, known_at, option_map, plain_of, refl, shut, subst, sym, with_tables, ℕ}
+use Rattle.pagable_tables.proofs.Words.{◌≡◌}
 use Rattle.pagable_tables.proofs.giving.close.Goals as goal
-
-pub give_all-requires-clause-steady : goal.give_all-requires-clause-steady
-give_all-requires-clause-steady g c = let w = c.requires.whole.steady in record { sound = w.sound; next = w.next; fits = w.fits }
 
 pub returns-clause-closed : goal.returns-clause-closed
 returns-clause-closed g c stored closed failures failures' le =

@@ -1,4 +1,4 @@
-use Rattle.pagable_tables.proofs.{Doing.{all-past, bare, given-plain, none-past, one-past}, Fitting.{aside, entry-apart}, Next.{sheds-still, sheds-then}, Words.{None, [], arith, inl, inr, load_at}}
+use Rattle.pagable_tables.proofs.{Fitting.{aside, entry-apart}, Newer.{all-past, bare, given-plain, none-past, one-past}, Next.{sheds-still, sheds-then}, Words.{None, [], arith, inl, inr, load_at}}
 use Rattle.pagable_tables.proofs.Words.{load_in, option_map, owns_nothing, refl, ◌∙◌}
 use Rattle.pagable_tables.proofs.giving.give_all.Goals as goal
 

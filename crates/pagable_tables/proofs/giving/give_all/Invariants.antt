@@ -1,5 +1,5 @@
-use Rattle.pagable_tables.proofs.Words.{◌≡◌, ℕ, nat_eq, ◌≤◌, [], length, true, false, None, Core, nobody, get, live, counts_at, IsFalling, Sheds, owns_nothing, SoFar, gives_row, passes_in, InReach, LoadsAre}
-use Rattle.pagable_tables.proofs.Doing.{past_of}
+use Rattle.pagable_tables.proofs.{Newer.past_of, Words.{Core, InReach, IsFalling, LoadsAre, None, Sheds, SoFar, [], counts_at, false, get, gives_row, length, live, nat_eq, nobody, owns_nothing}}
+use Rattle.pagable_tables.proofs.Words.{passes_in, true, ℕ, ◌≡◌, ◌≤◌}
 use Rattle.pagable_tables.proofs.giving.give_all.Given as goal
 
 abbrev pub invariant-loop-at : goal.invariant-loop-at

@@ -1,4 +1,4 @@
-use Rattle.pagable_tables.proofs.{Doing.{below-to, none-from}, Words.{arith, gives_row, ◌-◌}}
+use Rattle.pagable_tables.proofs.{Newer.{below-to, none-from}, Words.{arith, gives_row, ◌-◌}}
 use Rattle.pagable_tables.proofs.giving.last.Goals as goal
 
 pub returns-then-found-since-clause-none : goal.returns-then-found-since-clause-none

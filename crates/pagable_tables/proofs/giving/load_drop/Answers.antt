@@ -1,5 +1,6 @@
-use Rattle.pagable_tables.proofs.{Words.{arith, refl, inl, inr, Owner, option_map, is_owned_in, without_load, load_at, core_of, plain_of, load_in, with_tables}, Doing.{nothing-shed, sheds-by}}
-use Rattle.pagable_tables.proofs.{Calls.drop-whole, Doing.bare, Fitting.begun-less, Newer.{closed-still, drop-newer, later-so, load-closed, loads-anew, owned-given}, Worlds.{failed, still}}
+use Rattle.pagable_tables.proofs.{Calls.load-closes, Fitting.{begun-less, not-closed}, Newer.{bare, closed-still, later-so, load-closed, loads-anew, nothing-shed, owned-given, sheds-by}}
+use Rattle.pagable_tables.proofs.{Told.newer-falls, Words.{Blob, Bool, LoadCloses, None, Option, Owner, arith, core_of, inl, inr, is_owned_in, load_at, load_in, not, option_map, plain_of, refl}}
+use Rattle.pagable_tables.proofs.{Words.{with_tables, without_load, ℕ, ◌≡◌}, Worlds.{failed, still}}
 use Rattle.pagable_tables.proofs.giving.load_drop.Goals as goal
 
 pub returns-in_err-row : goal.returns-in_err-row
@@ -9,20 +10,17 @@ pub returns : goal.returns
 returns g c =
     let t = c.args.t.now in
     let l = c.args.load in
-    sheds-by
-    (λ stored closed failures e.
-    let w = core_of t stored closed failures in
-    let w' = core_of (record t { holdings = c.give_all.new.t; loads = c.close.new.rows }) stored closed failures in
+    let still-open = closed-still (load_at t.loads) (load_at c.close.new.rows) l.0 c.close.ensures.gone c.close.ensures.others in
+    let closes : (stored : ℕ → Option Blob) (closed : Bool) (failures : ℕ) → c.args.lists ≡ not closed
+    → LoadCloses (core_of t stored closed failures) l c.give_all.result (core_of (record t { holdings = c.give_all.new.t; loads = c.close.new.rows }) stored closed failures) =
+    λ stored closed failures e.
+    (let w = core_of t stored closed failures in
     let u = without_load w l in
     let falls = c.give_all.ensures.falls w u (bare (λ m. option_map load_in (load_at c.close.new.rows m))) (λ m. refl) (begun-less t u.loads w.workers stored closed c.args.lists failures c.requires.whole e) (omega arith)
     (λ q own. let after = c.requires.later.since l.0 c.in_ok-row.row q c.in_ok-row.ensures.row own in ((omega arith, inl after), owned-given (plain_of t) (Owner.Load l) q c.requires.whole.core.handles own)) in
-    record {
-      does = inr (
-        load_in c.in_ok-row.row,
-        c.in_ok-row.ensures.own stored closed failures,
-        loads-anew w u (with_tables u c.give_all.new.t) (is_owned_in w (Owner.Load l)) c.give_all.result w'.loads (load-closed (load_at t.loads) (load_at c.close.new.rows) l.0 c.close.ensures.gone c.close.ensures.others) falls,
-      );
-    })
-    c.give_all.ensures.steady (drop-whole c.args.me l c.give_all.result c.requires.whole.core)
-    (λ drops later. later-so later (drop-newer c.args.me l c.give_all.result drops) (closed-still (load_at t.loads) (load_at c.close.new.rows) l.0 c.close.ensures.gone c.close.ensures.others) refl)
+    loads-anew w u (with_tables u c.give_all.new.t) (is_owned_in w (Owner.Load l)) c.give_all.result _
+    (load-closed (load_at t.loads) (load_at c.close.new.rows) l.0 c.close.ensures.gone c.close.ensures.others) falls) in
+    let fell = closes (λ key. None) (not c.args.lists) 0 (not-closed c.args.lists) in
+    sheds-by (λ stored closed failures e. record { does = inr (load_in c.in_ok-row.row, c.in_ok-row.ensures.own stored closed failures, closes stored closed failures e) })
+    c.give_all.ensures.steady (λ drops. load-closes l c.give_all.result c.requires.whole.core fell) (λ drops later. later-so later (newer-falls fell) still-open refl)
     c.give_all.ensures.sheds

@@ -1,7 +1,7 @@
-use Rattle.pagable_tables.proofs.{Alive.and-left, Calls.{hand-over-whole, handed-mine, handed-own, may-hold}, Doing.{bare, sheds-by}, Newer.{MayHand, begun-moved, closed-still, later-handed}}
-use Rattle.pagable_tables.proofs.{Newer.{load-closed, loads-anew, may-hand, moved-less, moved-stands, newer-falls, no-load, owned-given, owned-moved, still-listed}, Told.not-a-value, Words.Falls}
-use Rattle.pagable_tables.proofs.Words.{None, Owner, Some, [], ap, arith, core_of, false, if_there, inl, is_in, is_owned_by, is_owned_in, is_owner, is_valued, length, load_at, load_in, nat_tests, not}
-use Rattle.pagable_tables.proofs.{Words.{numbers_of, option_map, plain_of, refl, subst, sym, with_tables, ℕ, ◌&&◌, ◌∙◌, ◌≡◌}, Worlds.owner-self}
+use Rattle.pagable_tables.proofs.{Alive.and-left, Calls.{MayHand, hand-over-whole, handed-mine, handed-own, handed-whole, may-hand, may-hold}, Fitting.{begun, unmixed}, Newer.{bare, closed-still}}
+use Rattle.pagable_tables.proofs.{Newer.{later-handed, load-closed, loads-anew, moved-stands, moved-times, no-load, owned-given, sheds-by}, Told.{newer-falls, not-a-value, owned-moved}, Words.Core}
+use Rattle.pagable_tables.proofs.Words.{Falls, None, Owner, Some, [], ap, arith, core_of, false, if_there, inl, is_in, is_owned_by, is_owned_in, is_owner, is_valued, length, load_at, load_in, moved}
+use Rattle.pagable_tables.proofs.{Words.{nat_tests, not, numbers_of, option_map, plain_of, refl, subst, sym, with_tables, without_load, ℕ, ◌&&◌, ◌∙◌, ◌≡◌}, Worlds.owner-self}
 use Rattle.pagable_tables.proofs.giving.load_take.Goals as goal
 
 pub unwrap-row-requires : goal.unwrap-row-requires
@@ -33,10 +33,11 @@ returns g c =
     (λ stored closed failures e.
     let w = core_of t stored closed failures in
     let w' = core_of (record t { holdings = c.give_all.new.t; loads = c.close.new.rows }) stored closed failures in
-    let u = moved-less w l s me in
+    let u : Core = record (without_load w l) { rows = moved s me w.rows } in
     let left : (q : ℕ) → is_owned_in u (Owner.Load l) q ≡ (is_owned_in w (Owner.Load l) q && not (s q)) = λ q. owned-moved s me (Owner.Load l) q w.rows (no-load p me l can.may) in
-    let so-far = begun-moved t c.hand_each.new.handles l s me stored closed c.args.lists failures c.requires.whole e c.hand_each.ensures
-    (still-listed c.requires.whole.core me l hs can) in
+    let so-far = begun w u c.args.lists (record t.holdings { handles = c.hand_each.new.handles; unlisted = None }) e (λ p own. moved-times p s me w.rows (λ x. own x me)) (unmixed t c.requires.whole)
+    (λ q. let a = (handed-whole c.requires.whole.core me l hs can).owners_there.listed q in omega arith) c.hand_each.ensures.rows refl refl c.requires.whole.core.handles.within.0
+    (record { handles = let a = c.hand_each.ensures.capacity in omega arith; entries = omega arith }) (λ n. refl) refl in
     let falls = c.give_all.ensures.falls w u (bare (λ m. option_map load_in (load_at c.close.new.rows m))) (λ m. refl) so-far (let a = ap length c.hand_each.ensures.rows in omega arith)
     (λ q own. let mine = and-left (is_owned_in w (Owner.Load l) q) (not (s q)) (sym (left q) ∙ own) in let g = owned-given p (Owner.Load l) q c.requires.whole.core.handles mine in
     let after = c.requires.later.since l.0 c.unwrap-row.result q row mine in ((omega arith, inl after), omega arith)) in
@@ -52,7 +53,7 @@ returns g c =
       );
       refused = tt;
     })
-    c.give_all.ensures.steady (hand-over-whole me l hs _ c.requires.whole.core)
+    c.give_all.ensures.steady (hand-over-whole me l hs c.requires.whole.core)
     (λ hands later. later-handed t later s me (λ m. no-load p me m can.may) _ refl l c.unwrap-row.result row (let own = can.own in grind (arith, nat_tests, row))
     (λ q is. let o : Owner = Owner.Load l in let m = handed-mine p o [] hs can.named q is in ap (if_there (is_owned_by o) false) m.live ∙ ap (is_owner o) m.own ∙ owner-self o) (newer-falls hands.hands.1.falls)
     (closed-still (load_at t.loads) (load_at c.close.new.rows) l.0 c.close.ensures.gone c.close.ensures.others) refl)

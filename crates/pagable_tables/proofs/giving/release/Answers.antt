@@ -1,5 +1,5 @@
-use Rattle.pagable_tables.proofs.{Doing.{nothing-shed, sheds-so}, Fitting.{begun-whole, not-closed}, Newer.newer-falls, Told.{falls-opened, roomy-whole, stays-on}, Words.{Blob, Bool, Falls, None}}
-use Rattle.pagable_tables.proofs.{Words.{Option, any_mode, arith, core_of, inl, inr, not, only_handle, plain_of, refl, ℕ, ◌≡◌}, Worlds.{failed, owner-same, still}}
+use Rattle.pagable_tables.proofs.{Fitting.{begun-whole, not-closed}, Newer.{nothing-shed, sheds-so}, Told.lone-falling, Words.{Blob, Bool, Falls, None, Option, any_mode, arith, core_of, inl, inr}}
+use Rattle.pagable_tables.proofs.{Words.{not, only_handle, refl, ℕ, ◌≡◌}, Worlds.{failed, owner-same, still}}
 use Rattle.pagable_tables.proofs.giving.release.Goals as goal
 
 pub returns-in_err-at : goal.returns-in_err-at
@@ -15,5 +15,5 @@ returns g c =
     λ stored closed failures e. rw c.in_ok-at.ensures.number at (c.give_back.ensures.falls _ _ (begun-whole t stored closed c.args.lists failures c.requires.whole e) (omega arith)) in
     let fell = falls (λ key. None) (not c.args.lists) 0 (not-closed c.args.lists) in
     sheds-so (λ stored closed failures e. record { does = inr (row, record { live = c.in_ok-at.ensures.found; own = owner-same c.args.me row.owner c.in_ok-at.ensures.owner; as_asked = refl }, falls stored closed failures e) })
-    c.give_back.ensures.steady (λ call. falls-opened (roomy-whole c.requires.whole.core) (stays-on (plain_of t)) fell) (λ call. newer-falls fell) refl refl
+    c.give_back.ensures.steady (λ call. lone-falling c.requires.whole.core fell) refl refl
     c.give_back.ensures.sheds

@@ -1,7 +1,7 @@
-use Rattle.pagable_tables.proofs.{Alive.{all-kept, gives-sums, ones}, Calls.unpin-whole, Doing.{nothing-shed, sheds-so}, Fitting.{aside, begun-whole, listing-is, none-within, unowned}}
-use Rattle.pagable_tables.proofs.{Newer.unpin-newer, Next.{entered-on, stays-first}, Words.{Begins, Blob, Bool, GivesUp, HandleRow, Holdings, IsFalling, Mode, None, Option, Owner, Owns}}
-use Rattle.pagable_tables.proofs.Words.{SoFar, Tables, [], ap, append-nil, arith, core_of, false, if◌then◌else◌, inl, inr, is_handle, is_loose, is_owned_by, is_owner, is_pin, is_plain_pin, is_share}
-use Rattle.pagable_tables.proofs.Words.{is_valued, length, length-map, live, nat_tests, nobody, not, one, owns, owns_nothing, refl, sym, times, true, unpinned, with_mode, ℕ, ◌&&◌, ◌∙◌, ◌≡◌, ◌≢◌, ◌≤◌}
+use Rattle.pagable_tables.proofs.{Alive.{all-kept, gives-sums, of_list, ones}, Fitting.{aside, begun-whole, listing-is, none-within, not-closed, unowned}, Newer.{nothing-shed, sheds-so}}
+use Rattle.pagable_tables.proofs.{Next.{entered-on, stays-first}, Told.{falling, moded}, Words.{Begins, Blob, Bool, Falls, GivesUp, HandleRow, Holdings, IsFalling, Mode, None, Option, Owner, SoFar}}
+use Rattle.pagable_tables.proofs.Words.{Tables, [], ap, append-nil, arith, core_of, false, if◌then◌else◌, inl, inr, is_handle, is_loose, is_owner, is_pin, is_plain_pin, is_share, is_shared}
+use Rattle.pagable_tables.proofs.Words.{is_valued, length, length-map, live, nat_tests, nobody, not, one, owns, owns_nothing, refl, sym, times, true, unpinned, with_mode, ℕ, ◌∙◌, ◌≡◌, ◌≢◌, ◌≤◌}
 use Rattle.pagable_tables.{proofs.Worlds.{failed, owner-same, still}, specs.Core.IsWhole}
 use Rattle.pagable_tables.proofs.giving.unpin.Goals as goal
 
@@ -19,16 +19,10 @@ lowered-on T stored closed lists failures whole opened x new g =
       fewer = λ n. less (is_pin n) (grind (arith, nat_tests));
       shared = λ n. less (is_share n) (grind (arith, nat_tests));
       uniform = λ n. let a = less (is_plain_pin n) (grind (arith, nat_tests)) in grind (arith, nat_tests, f.begins.uniform n);
-      listed = λ q. let a = g.leaves.sums (λ h. one (is_handle q h && is_owned_by Owner.List h)) in
-          let b = ap (times (λ h. is_handle q h && is_owned_by Owner.List h)) g.leaves.becomes.rows in let d = f.begins.listed q in omega arith;
+      listed = λ q. omega (arith, g.leaves.sums (λ h. one (of_list q h)), ap (times (of_list q)) g.leaves.becomes.rows, f.begins.listed q);
     } in
     let few : new.top ≢ 0 → length (live new.handles.places.items) ≤ length old.rows = λ falls.
-    (let a = gives-sums g (λ h. 1) in
-    let b = ones (live new.handles.places.items) in
-    let d = ones old.rows in
-    let k = g.keyed refl whole.steady.fits.chain falls in
-    let none : one g.listed ≡ 0 = grind (arith, nat_tests, g.comes.only, listing-is g.counts x.mode) in
-    omega arith) in
+    grind (arith, nat_tests, gives-sums g (λ h. 1), ones (live new.handles.places.items), ones old.rows, g.keyed refl whole.steady.fits.chain falls, g.comes.only, listing-is g.counts x.mode) in
     let long = length-map old.rows (λ y. if is_handle x.number.0 y then unpinned y else y) in
     entered-on f g refl (λ n. refl) (λ n. whole.steady.fits.pinned n) (omega arith) now.rows long nobody nobody begins (g.leaves.becomes.rows ∙ sym (append-nil _ ∙ all-kept now.rows)) refl
     (none-within nobody now.rows) (λ s final bare has closed. none-within s now.rows) (λ falls. let a = few falls in omega (arith, long))
@@ -54,13 +48,17 @@ returns-in-LoosePinned g c =
     let t = c.args.t.now in
     let row = c.in_ok-at.at.row in
     let up = c.give_up.ensures [] (mine t.holdings c.args.me row c.requires.whole.steady c.requires.plain c.in_ok-at.ensures.owner) in
+    let falls : (stored : ℕ → Option Blob) (closed : Bool) (failures : ℕ) → c.args.lists ≡ not closed
+    → Falls (core_of t stored closed failures) (with_mode (core_of t stored closed failures) c.args.handle Mode.LooseUnpinned) nobody c.fall.result
+    (core_of (record t { holdings = c.fall.new.t }) stored closed failures) =
+    λ stored closed failures e.
+    (let w = core_of t stored closed failures in
+    rw c.in_ok-at.ensures.number at (c.fall.ensures.falls w (with_mode w row.number Mode.LooseUnpinned) nobody
+    (lowered-on t stored closed c.args.lists failures c.requires.whole e row c.give_up.new.t up))) in
+    let turns = moded c.requires.whole.core c.args.handle row Mode.LooseUnpinned c.in_ok-at.ensures.found (ap is_shared (sym c.in-LoosePinned.is)) (λ loose. refl) (λ is. refl) in
+    let own = owner-same c.args.me row.owner c.in_ok-at.ensures.owner in
+    let loose = ap is_loose c.in-LoosePinned.is in
     sheds-so
-    (λ stored closed failures e.
-    let w = core_of t stored closed failures in
-    let falls = rw c.in_ok-at.ensures.number at (c.fall.ensures.falls w (with_mode w row.number Mode.LooseUnpinned) nobody
-    (lowered-on t stored closed c.args.lists failures c.requires.whole e row c.give_up.new.t up)) in
-    let own : Owns w c.args.me c.args.handle is_loose row =
-    record { live = c.in_ok-at.ensures.found; own = owner-same c.args.me row.owner c.in_ok-at.ensures.owner; as_asked = ap is_loose c.in-LoosePinned.is } in
-    record { does = inr (row, own, inr (c.in-LoosePinned.is, falls)) })
-    c.fall.ensures.steady (unpin-whole c.args.me c.args.handle c.fall.result c.requires.whole.core) (unpin-newer c.args.me c.args.handle c.fall.result) refl refl
+    (λ stored closed failures e. record { does = inr (row, record { live = c.in_ok-at.ensures.found; own = own; as_asked = loose }, inr (c.in-LoosePinned.is, falls stored closed failures e)) })
+    c.fall.ensures.steady (λ call. falling (falls (λ key. None) (not c.args.lists) 0 (not-closed c.args.lists)) turns) refl refl
     (stays-first up.values c.fall.ensures.sheds)

@@ -1,4 +1,4 @@
-use Rattle.pagable_tables.proofs.{Doing.moved-then, Words.{arith, live, take_all}, Worlds.moved-one}
+use Rattle.pagable_tables.proofs.{Newer.moved-then, Words.{arith, live, take_all}, Worlds.moved-one}
 use Rattle.pagable_tables.proofs.handles.hand_each.Goals as goal
 
 pub loop-handle-preserved : goal.loop-handle-preserved

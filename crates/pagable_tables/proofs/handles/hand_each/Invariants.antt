@@ -1,4 +1,4 @@
-use Rattle.pagable_tables.{proofs.Words.{take, moved, is_in, numbers_of, live}, specs.Becoming.Becomes}
+use Rattle.pagable_tables.{proofs.Words.{is_in, live, moved, numbers_of, take}, specs.Falling.Becomes}
 use Rattle.pagable_tables.proofs.handles.hand_each.Given as goal
 
 abbrev pub invariant-loop-handle : goal.invariant-loop-handle

@@ -1,4 +1,4 @@
-use Rattle.pagable_tables.proofs.{Doing.moved-then, Words.{arith, live, take_all}, Worlds.moved-take}
+use Rattle.pagable_tables.proofs.{Newer.moved-then, Words.{arith, live, take_all}, Worlds.moved-take}
 use Rattle.pagable_tables.proofs.handles.hand_over_all.Goals as goal
 
 pub loop-reference-preserved : goal.loop-reference-preserved

@@ -1,4 +1,4 @@
-use Rattle.pagable_tables.{proofs.Words.{take, moved, is_named_by, live}, specs.Becoming.Becomes}
+use Rattle.pagable_tables.{proofs.Words.{is_named_by, live, moved, take}, specs.Falling.Becomes}
 use Rattle.pagable_tables.proofs.handles.hand_over_all.Given as goal
 
 abbrev pub invariant-loop-reference : goal.invariant-loop-reference

@@ -1,13 +1,12 @@
-use Rattle.pagable_tables.proofs.{Next.{ended, lasts-on, none-falls, steps-on}, Words.{Steps, arith, counts_at, is_node, nat_tests, true, ◌∙◌}}
+use Rattle.pagable_tables.proofs.{Next.{ended, lasts-on, none-falls, steps-on}, Words.{Steps, arith, counts_at, is_node, nat_tests, ◌∙◌}}
 use Rattle.pagable_tables.proofs.holdings.cascade.Goals as goal
 
 pub fall-preserved : goal.fall-preserved
 fall-preserved g c =
     let i = c.fall.invariant.0 in
     let s : Steps c.fall.t i.0 c.args.lists c.step-done.result c.step-done.new.t = c.step-done.ensures i.0 i.1 in
-    let few = i.2 in
     let so-far = c.fall.invariant.3 in (
-      (s.rest, s.falling, omega arith),
+      (s.rest, s.falling, omega (arith, i.2)),
       λ before w given f. steps-on before w given c.args.lists c.fall.t c.step-done.new.t i.0 c.step-done.result
           (c.fall.invariant.1 before w given f) i.1 c.fall-test.true s,
       λ kept n. lasts-on (is_node c.step-done.result n) (counts_at c.fall.t.nodes n)

@@ -1,16 +1,7 @@
-use Rattle.pagable_tables.proofs.{Alive.{row-le-live, with-entry}, Fitting.{given-fits, held-here, owned-by-none, pin-here}, Words.{Bool, Counts, Fits, HandleRow, Holdings, MayList, Some, ValueStays}}
-use Rattle.pagable_tables.proofs.Words.{after, ap, arith, cases_eq, counts_at, entry, false, if◌then◌else◌, is_fallen_by, is_pin, is_pinning, live, nat_lt, nat_tests, one, owns_nothing, pins_in, refl}
-use Rattle.pagable_tables.proofs.Words.{refs_at, subst, sum_by, sym, true, unpinned, ℕ, ◌+◌, ◌-◌, ◌∙◌, ◌∷◌, ◌≡◌, ◌≢◌, ◌≤◌}
+use Rattle.pagable_tables.proofs.{Alive.{row-le-live, with-entry}, Fitting.{given-fits, held-here, owned-by-none, pin-here}, Words.{Fits, HandleRow, Holdings, MayList, Some, after, ap, arith}}
+use Rattle.pagable_tables.proofs.Words.{cases_eq, counts_at, entry, if◌then◌else◌, is_fallen_by, is_pin, is_pinning, live, nat_tests, one, owns_nothing, pins_in, refl, refs_at, subst, sum_by, sym}
+use Rattle.pagable_tables.proofs.Words.{true, unpinned, ℕ, ◌+◌, ◌-◌, ◌∙◌, ◌∷◌, ◌≡◌, ◌≢◌, ◌≤◌}
 use Rattle.pagable_tables.proofs.holdings.give_up.Goals as goal
-
--- a handle that leaves takes no value with it at once
-after-value : (y : Counts) (pinning stays listed : Bool) (top : ℕ) → one pinning ≤ y.pins → ValueStays (Some y) (Some (after y pinning stays listed top))
-after-value y pinning stays listed top some falls = let stood : y.is_falling ≡ false = grind (arith, nat_tests) in (stood, grind (arith, nat_tests))
-
--- a node that keeps its handle falls only if it has a key
-keyed-then : (c : Counts) (pinning listed : Bool) (n top : ℕ) (b : Bool) → is_fallen_by c pinning (c.pins - one pinning) (c.holds + one listed) ≡ b → 1 ≤ c.holds → top ≡ 0 → (if b then n else top) ≢ 0
-    → nat_lt 0 c.key ≡ true
-keyed-then c pinning listed n top b is live none some = grind (arith, nat_tests)
 
 pub returns : goal.returns
 returns c stack w =
@@ -49,7 +40,7 @@ returns c stack w =
       comes = subst (λ w. MayList gap x.node w listed mid) c.wants_entry-wanted.ensures c.enlist_if-listed.ensures;
       same = refl;
       cells = λ m there. grind (arith, nat_tests, cases_eq m n, is, here, others m);
-      values = λ m. grind (arith, nat_tests, cases_eq, after-value);
+      values = λ m. grind (arith, nat_tests, cases_eq m n, is, here, others m, some);
       more = if b then n ∷ stack else stack;
       falling = record {
         sound = e.sound;
@@ -58,6 +49,5 @@ returns c stack w =
             (given-fits _ at' _ refs' _ rows' old.top stack x counts stays listed (old.last_handle + 1) w.fits is plain sums here others same some live' b refl);
       };
       long = grind (arith, nat_tests);
-      keyed = λ so none some. keyed-then counts (is_pinning x.mode) listed n old.top b (ap (λ s. is_fallen_by counts (is_pinning x.mode) (counts.pins - one (is_pinning x.mode)) ((if s then counts.holds else counts.holds - 1) + one listed)) (sym so))
-          live' none (λ z. some (top ∙ z));
+      keyed = λ so none some. grind (arith, nat_tests, top, live');
     }

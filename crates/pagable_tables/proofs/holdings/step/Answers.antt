@@ -1,11 +1,8 @@
 use Rattle.pagable_tables.proofs.{Alive.{gives-sums, none-found, only-row}, Fitting.{done-fits, done-gone, fallen, fits-same, is_owned, taken-fits, taken-owned, taken-there, top-stands, top-there}}
-use Rattle.pagable_tables.proofs.{Next.{gives-fewer, gives-unlisted}, Words.{ArcRef, CellsStay, Counts, GivesUp, HandleNumber, HandleRow, Holdings, IsFalling, List, Option, Some, ValueStays, []}}
-use Rattle.pagable_tables.proofs.Words.{alive, ap, append-nil, arith, cases_eq, cell_in, counts_at, entry, false, if◌then◌else◌, inl, inr, is_some, is_valued, length, live, nat_tests, one}
-use Rattle.pagable_tables.proofs.Words.{owner_value, owns, owns_nothing, refl, refs_at, slice_get, subst, sym, ℕ, ◌&&◌, ◌++◌, ◌+◌, ◌==◌, ◌∙◌, ◌∷◌, ◌≡◌, ◌≢◌}
+use Rattle.pagable_tables.proofs.{Next.{gives-fewer, gives-unlisted}, Words.{ArcRef, GivesUp, HandleNumber, HandleRow, Holdings, IsFalling, List, Some, ValueStays, [], alive, ap, append-nil, arith}}
+use Rattle.pagable_tables.proofs.Words.{cases_eq, counts_at, false, inl, inr, is_valued, length, live, nat_tests, one, owner_value, owns, owns_nothing, refl, refs_at, slice_get, subst, sym, ℕ, ◌&&◌}
+use Rattle.pagable_tables.proofs.Words.{◌++◌, ◌==◌, ◌∙◌, ◌∷◌, ◌≡◌, ◌≢◌}
 use Rattle.pagable_tables.proofs.holdings.step.Goals as goal
-
-abbrev of_value : HandleRow → ℕ
-of_value h = one (is_valued h.owner)
 
 -- the first node that falls has this reference, which was taken
 module _ (t mid : Holdings) (ns : List ℕ) (p : ArcRef) (i : ℕ) (x : HandleRow) (w : IsFalling t (t.top ∷ ns) owns_nothing) (popped : refs_at t.nodes t.top ≡ refs_at mid.nodes t.top ++ p ∷ [])
@@ -51,9 +48,6 @@ unwrap-counts-requires c =
     let mid : Holdings = record c.args.t.now { nodes = c.pop_reference.new.nodes } in
     grind (arith, nat_tests, (top-there mid c.requires.falling.0 c.requires.some (untouched c.args.t.now mid c.requires.falling.0 c.requires.falling.1 e.here e.others e.counts)), c.counts_of.ensures)
 
-cells-through : (a b d : ℕ → Option Counts) → ((m : ℕ) → b m ≡ a m) → CellsStay b d → CellsStay a d
-cells-through a b d same stay m some = let s = stay m some in (sym (ap is_some (same m)) ∙ s.0, s.1 ∙ ap cell_in (same m))
-
 pub returns-in-Some-look : goal.returns-in-Some-look
 returns-in-Some-look c stack w =
     let t = c.args.t.now in
@@ -63,15 +57,11 @@ returns-in-Some-look c stack w =
     let mid : Holdings = record t { nodes = c.pop_reference.new.nodes } in
     let o = taken t mid s.0 c.in-Some.reference c.in-Some-look.at.place x s.2 e.here e.others e.counts c.in-Some-look.ensures.place (ap (λ (n : HandleNumber). n.0) c.in-Some-look.ensures.number) in
     let g : GivesUp mid (t.top ∷ s.0) x false c.args.lists c.give_up.new.t = c.give_up.ensures (t.top ∷ s.0) o.1 in
-    let v : of_value x ≡ 1 = ap (λ k. one (is_valued k)) o.0 in
-    let l = gives-sums g of_value in
-    let z : (if g.listed then of_value (entry (t.last_handle + 1) x.node) else 0) ≡ 0 = grind (arith, nat_tests) in
-    let n = ap length s.1 in
     record {
       rest = g.more;
       falling = g.falling;
-      less = omega arith;
-      cells = cells-through (counts_at t.nodes) (counts_at mid.nodes) (counts_at c.give_up.new.t.nodes) e.counts g.cells;
+      less = grind (arith, nat_tests, gives-sums g (λ h. one (is_valued h.owner)), ap (λ k. one (is_valued k)) o.0, ap length s.1);
+      cells = λ m some. grind (arith, nat_tests, e.counts m, g.cells m);
       values = λ m _. subst (λ o. ValueStays o (counts_at c.give_up.new.t.nodes m)) (e.counts m) (g.values m);
       gone = tt;
       fewer = gives-fewer g;
@@ -89,13 +79,12 @@ returns-in-None c stack w =
     let l = c.land.ensures in
     let s = top-stands mid stack c.requires.some (untouched t mid stack w e.here e.others e.counts) in
     let is : at t.top ≡ Some c.unwrap-counts.result = sym c.counts_of.ensures ∙ c.unwrap-counts.ensures in
-    let shorter = ap length s.1 in
     let done = done-fits at new (refs_at mid.nodes) (refs_at c.land.new.nodes) _ t.top s.0 c.unwrap-counts.result s.2.fits is l.here e.none l.others l.refs c.requires.some in
     record {
       rest = s.0;
       falling = record { sound = w.sound; next = w.next; fits = done };
-      less = omega arith;
-      cells = cells-through (counts_at t.nodes) at new e.counts (λ m some. grind (arith, nat_tests, cases_eq, is, l.here, l.others));
+      less = omega (arith, ap length s.1);
+      cells = λ m some. grind (arith, nat_tests, cases_eq m t.top, is, l.here, l.others m, e.counts m);
       values = λ m ne. let other = l.others m (λ eq. ne (ap (λ k. Some (record { 0 = k })) (sym eq))) in subst (λ o. ValueStays o (new m)) (other ∙ e.counts m) (λ falls. (falls, refl));
       gone = done-gone at new (refs_at mid.nodes) (refs_at c.land.new.nodes) _ t.top s.0 c.unwrap-counts.result s.2.fits is l.here e.none l.others l.refs c.requires.some;
       fewer = omega arith;

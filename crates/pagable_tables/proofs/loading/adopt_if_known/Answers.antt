@@ -1,7 +1,7 @@
-use Rattle.pagable_tables.proofs.Words.{ap, sym, ◌∙◌, false, not, None, is_some, core_of, plain_of, subst, Suits, Owner, mode_of, with_handle, Alike, Mode, length, arith, ◌+◌, AllPairs}
-use Rattle.pagable_tables.proofs.{Alive.whole-so, Calls.known-suits, Doing.listing, Fitting.{begun-whole, not-closed}, Newer.{begun-made, later-on, loaded-append, named-loaded, newer-falls}}
-use Rattle.pagable_tables.proofs.{Newer.{not-named, swapped}, Next.{owned, sheds-still, stays-first}, Told.{falls-opened, roomy-whole, stays-on}, Words.{Falls, IsHandleBefore, Tables, counts_at}}
-use Rattle.pagable_tables.proofs.{Words.{has_value, is_named_by, refl}, Worlds.{adopts-known, eager, failed, fitting, not-adopted, owner-of, refused-known}}
+use Rattle.pagable_tables.proofs.{Alive.whole-so, Calls.known-suits, Fitting.{begun-whole, not-closed}, Newer.{begun-made, later-on, listing, loaded-append, named-loaded, not-named, swapped}}
+use Rattle.pagable_tables.proofs.{Next.{owned, sheds-still, stays-first}, Told.lone-falling, Words.{Alike, AllPairs, Falls, IsHandleBefore, Mode, None, Owner, Suits, Tables, ap, arith, core_of}}
+use Rattle.pagable_tables.proofs.{Words.{counts_at, false, has_value, is_named_by, is_some, length, mode_of, not, plain_of, refl, subst, sym, with_handle, ◌+◌, ◌∙◌}, Worlds.{adopts-known, eager}}
+use Rattle.pagable_tables.proofs.Worlds.{failed, fitting, not-adopted, owner-of, refused-known}
 use Rattle.pagable_tables.proofs.loading.adopt_if_known.Goals as goal
 
 pub returns-in-Some-clause-refused : goal.returns-in-Some-clause-refused
@@ -35,6 +35,7 @@ returns g c =
     let rows = (made.does (λ key. None) (not c.args.lists) 0).made.1.rows in
     let fell = c.give_named.ensures.falls (listing c.args.lists t1) (listing c.args.lists t1) (begun-whole t1 (λ key. None) (not c.args.lists) c.args.lists 0 made.whole (not-closed c.args.lists)) (omega arith)
     (λ q named. ap (owned owner q) rows ∙ loaded-append l q p.rows _ (named-loaded p l rs fit q named)) in
+    let went = lone-falling {w = listing c.args.lists t1} made.whole.core fell.falls in
     record {
       known = λ stored closed failures e.
           (let w = core_of t stored closed failures in
@@ -55,8 +56,8 @@ returns g c =
       same = tt;
       kept = tt;
       refused = λ stored closed failures. tt;
-      whole = whole-so c.give_named.ensures.steady (falls-opened (roomy-whole made.whole.core) (stays-on (plain_of t1)) fell.falls);
-      later = later-on (made.later c.requires.later) (newer-falls fell.falls) refl refl;
+      whole = whole-so c.give_named.ensures.steady went.whole;
+      later = later-on (made.later c.requires.later) went.newer refl refl;
       sheds = stays-first (λ n. c.in_ok-handle.ensures.values n (λ eq. ap (λ k. has_value (counts_at t.holdings.nodes k)) eq ∙ valued)) c.give_named.ensures.sheds;
     }
 

@@ -1,4 +1,4 @@
-use Rattle.pagable_tables.proofs.{Doing.{all-given, none-given, one-given}, Fitting.aside, Next.{sheds-still, sheds-then}, Words.{None, [], arith, owns_nothing, take_all}}
+use Rattle.pagable_tables.proofs.{Fitting.aside, Newer.{all-given, none-given, one-given}, Next.{sheds-still, sheds-then}, Words.{None, [], arith, owns_nothing, take_all}}
 use Rattle.pagable_tables.proofs.loading.give_named.Goals as goal
 
 pub loop-reference-init : goal.loop-reference-init

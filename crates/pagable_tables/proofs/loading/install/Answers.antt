@@ -1,9 +1,9 @@
-use Rattle.pagable_tables.proofs.{Alive.not-so, Calls.{end-whole, may-hold}, Doing.{bare, lazily-by}, Fitting.{fits-same, pins-le-held, rows-told, some-held, turned}, Installed.{ended, has-come}}
-use Rattle.pagable_tables.proofs.{Installed.{install-newer, joined-fits, none-moves, pins-here, ready-owner, so-then}, Newer.{closed-still, later-so, not-named}, Told.{no-references, not-a-value}}
-use Rattle.pagable_tables.proofs.Words.{ArcRef, Bool, Core, Error, Falls, FallsAnyhow, HandleRow, Holdings, IsFalling, List, LoadNumber, Mode, None, Ok, Owner, Result, Tables, [], ap, arith}
-use Rattle.pagable_tables.proofs.Words.{cases_Bool, cell_in, changed, core_of, counts_at, false, has_value, inl, inr, is_handle, is_here, is_named_by, is_owned_in, is_pin, live, load_at, load_in}
-use Rattle.pagable_tables.proofs.Words.{moved, nat_tests, not, one, option_map, owner_value, owns, owns_nothing, plain_of, references_fault, refl, refs_at, row_of, subst, sum_by, sym, true, with_pin}
-use Rattle.pagable_tables.{proofs.Words.{without_load, ℕ, ◌&&◌, ◌++◌, ◌+◌, ◌<◌, ◌∙◌, ◌∷◌, ◌≡◌, ◌⊎◌}, specs.Becoming.coming}
+use Rattle.pagable_tables.proofs.{Alive.not-so, Calls.{installs-goes, may-hold}, Fitting.{fits-same, pins-le-held, rows-told, some-held, turned}, Installed.{ended, has-come, joined-fits, pins-here}}
+use Rattle.pagable_tables.proofs.{Installed.{ready-owner, so-then}, Newer.{bare, closed-still, later-so, lazily-by, not-named}, Told.{no-references, not-a-value}, Words.{ArcRef, Bool, Core, Error}}
+use Rattle.pagable_tables.proofs.Words.{Falls, FallsAnyhow, HandleRow, Holdings, IsFalling, List, LoadNumber, Mode, None, Owner, Result, Tables, [], and-true, ap, arith, cases_Bool, cell_in, changed}
+use Rattle.pagable_tables.proofs.Words.{core_of, counts_at, false, has_value, inl, inr, is_handle, is_here, is_named_by, is_owned_in, is_pin, live, load_at, load_in, moved, nat_tests, not, one}
+use Rattle.pagable_tables.proofs.Words.{option_map, owner_value, owns, owns_nothing, plain_of, references_fault, refl, refs_at, row_of, subst, sum_by, sym, true, with_pin, without_load, ℕ, ◌&&◌}
+use Rattle.{pagable_tables.{proofs.{Words.{◌++◌, ◌+◌, ◌<◌, ◌∙◌, ◌∷◌, ◌≡◌, ◌⊎◌}, Worlds.named-none}, specs.Falling.coming}, std.proofs.lemmas.List.map-id}
 use Rattle.pagable_tables.proofs.loading.install.Goals as goal
 
 -- the load gives up what it owns, and what comes doesn't fall
@@ -13,7 +13,7 @@ falls-so : (b : Bool) (w : Core) (me : Owner) (l : LoadNumber) (row : HandleRow)
     × FallsAnyhow w (with_pin (record (without_load w l) { rows = moved (is_named_by rs) (owner_value row.node.0) w.rows }) row.number row.node me) (λ q. is_owned_in w (Owner.Load l) q && not (is_named_by rs q)) w')
     ⊎ ((is_here w row.node.0 ≡ true) × FallsAnyhow w (with_pin (without_load w l) row.number row.node me) (is_owned_in w (Owner.Load l)) w')
 falls-so true w me l row rs r w' away falls = inl (not-so _ (sym away), record { told = r; falls = falls })
-falls-so false w me l row rs r w' away falls = inr (so-then _ (sym away), record { told = r; falls = none-moves w l row me r w' falls })
+falls-so false w me l row rs r w' away falls = inr (so-then _ (sym away), record { told = r; falls = simp (named-none, map-id, and-true) at falls })
 
 pub pin_here-requires : goal.pin_here-requires
 pin_here-requires g c =
@@ -89,6 +89,7 @@ returns-clause-does g c =
     let same = c.in-Ok.ensures.same in
     let j = c.join.ensures in
     let good : references_fault (plain_of t) (Owner.Load l) [] (coming b rs) ≡ None = grind (arith, nat_tests, no-references) in
+    let may = (c.requires.ready (λ key. None) (not c.args.lists) 0).may in
     lazily-by
     (λ stored closed failures e.
     let r = c.requires.ready stored closed failures in
@@ -105,9 +106,9 @@ returns-clause-does g c =
           c.give_all.result (λ before v f few between. c.give_all.ensures.falls before v (bare (λ m. option_map load_in (load_at c.close.new.rows m))) (λ m. refl) f few (λ q own. let b = between q own in let after = b.0 in ((omega arith, inl after), b.1))) (λ q own. c.requires.later.since l.0 c.args.ending.load q c.requires.place.load own) c.close.ensures.gone c.close.ensures.others);
     })
     c.give_all.ensures.steady
-    (λ i. end-whole {N = Unit {0}} me l tt c.args.node_type rs (Ok c.in-Ok.handle) c.requires.whole.core
-    (record { installs = (row.node, row.number, (c.requires.ready (λ key. None) (not c.args.lists) 0).may, i); refused = tt }))
-    (λ i later. later-so later (install-newer me l _ _ _ _ i) (λ m load is. closed-still (load_at t.loads) (load_at c.close.new.rows) l.0 c.close.ensures.gone
+    (λ i. (installs-goes me l row.node row.number c.in-Ok.handle c.args.node_type rs c.requires.whole.core may i).whole)
+    (λ i later. later-so later (installs-goes me l row.node row.number c.in-Ok.handle c.args.node_type rs c.requires.whole.core may i).newer
+    (λ m load is. closed-still (load_at t.loads) (load_at c.close.new.rows) l.0 c.close.ensures.gone
     (λ q other. c.close.ensures.others q other ∙ ap (λ (u : Tables). load_at u.loads q) same) m load is) (ap (λ (u : Tables). u.workers) same))
 
 pub returns-clause-sheds : goal.returns-clause-sheds

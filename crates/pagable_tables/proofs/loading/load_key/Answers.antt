@@ -1,5 +1,5 @@
-use Rattle.pagable_tables.proofs.{Calls.begin-key-whole, Doing.does-by, Newer.{later-opened, later-so, newer-alike}, Told.alike-whole, Words.{Beginning, Ok, arith, inl, load_at, nat_tests, refl, sym}}
-use Rattle.pagable_tables.proofs.{Words.{◌+◌, ◌∙◌}, Worlds.{failed, none-yet, same-cache}}
+use Rattle.pagable_tables.proofs.{Calls.begin-key-whole, Newer.{does-by, later-opened, later-so}, Told.{alike-goes, newer-alike}, Words.{arith, inl, load_at, nat_tests, refl, sym, ◌+◌, ◌∙◌}}
+use Rattle.pagable_tables.proofs.Worlds.{failed, none-yet, same-cache}
 use Rattle.pagable_tables.proofs.loading.load_key.Goals as goal
 
 pub returns : goal.returns
@@ -7,12 +7,13 @@ returns c =
     let t = c.args.t.now in
     let l = t.last_load + 1 in
     does-by (λ stored closed failures. grind (arith, nat_tests, same-cache, c.in_ok-open.ensures.here, c.in_ok-open.ensures.others)) c.requires.whole.steady
-    (begin-key-whole c.args.me c.args.key (Ok (Beginning.Load (record { 0 = l }) c.args.key)) c.requires.whole.core c.requires.owner)
+    (begin-key-whole c.args.me c.args.key c.requires.whole.core c.requires.owner)
     (λ begins later. later-opened c.requires.whole.core later (record { last = omega arith; kept = λ o q gives own. inl own }) l _ (none-yet (load_at t.loads l) t.last_load (λ some. (c.requires.whole.core.loads.numbered l some).1))
     c.in_ok-open.ensures.here refl c.in_ok-open.ensures.others refl)
 
 pub returns-in_err-open : goal.returns-in_err-open
 returns-in_err-open c =
     rw (failed c.from_residual.result c.from_residual.ensures.1)
-    (does-by (λ stored closed failures. grind (arith, nat_tests, same-cache, c.in_err-open.ensures.err)) c.requires.whole.steady (λ begins. alike-whole c.requires.whole.core begins.refused.stays)
+    (does-by (λ stored closed failures. grind (arith, nat_tests, same-cache, c.in_err-open.ensures.err)) c.requires.whole.steady
+    (λ begins. (alike-goes c.requires.whole.core begins.refused.stays).whole)
     (λ begins later. later-so later (newer-alike begins.refused.stays) (λ l load is. sym (c.in_err-open.ensures.err l) ∙ is) refl))

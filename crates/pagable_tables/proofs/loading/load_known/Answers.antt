@@ -1,4 +1,4 @@
-use Rattle.pagable_tables.proofs.{Doing.{does-as, nothing-does}, Words.{arith, core_of, is_usable, nat_tests, spent, where_so}, Worlds.{failed, no-load-fault, not-own, spent-late}}
+use Rattle.pagable_tables.proofs.{Newer.{does-as, nothing-does}, Words.{arith, core_of, is_usable, nat_tests, spent, where_so}, Worlds.{failed, no-load-fault, not-own, spent-late}}
 use Rattle.pagable_tables.proofs.loading.load_known.Goals as goal
 
 pub returns-in_err-_row-clause-does : goal.returns-in_err-_row-clause-does

@@ -1,6 +1,6 @@
-use Rattle.pagable_tables.proofs.Words.{◌<◌, [], arith, ap, sym, ◌∙◌, subst, false, inl, inr, None, OptionalDataKey, Core, Alike, greatest, Owner, adopted, core_of, plain_of, load_in, Suits, key_in}
-use Rattle.pagable_tables.proofs.{Calls.known-suits, Doing.{does-as, does-then, nothing-does}, Newer.{key-is, none-named}, Words.{is_loose_kind, nat_tests, not}, Worlds.{adopted-past, failed}}
-use Rattle.pagable_tables.proofs.Worlds.{kind-late, late, lazy-known, lazy-new, lazy-not-loose, lazy-not-new, next-past, node-late, not-own}
+use Rattle.pagable_tables.proofs.{Calls.known-suits, Newer.{does-as, does-then, key-is, none-named, nothing-does}, Words.{Alike, Core, None, OptionalDataKey, Owner, Suits, [], adopted, ap, arith}}
+use Rattle.pagable_tables.proofs.{Words.{core_of, false, greatest, is_loose_kind, key_in, load_in, not, plain_of, subst, sym, ◌<◌, ◌∙◌}, Worlds.{adopted-past, failed, kind-late, late, lazy-known}}
+use Rattle.pagable_tables.proofs.Worlds.{lazy-new, lazy-not-loose, lazy-not-new, next-past, node-late, not-own}
 use Rattle.pagable_tables.proofs.loading.load_lazy.Goals as goal
 
 pub returns-in_err-_row : goal.returns-in_err-_row
@@ -39,9 +39,6 @@ returns c =
     lazy-new (core_of c.args.t.now stored closed failures) c.args.me l (load_in c.in_ok-_row._row) c.args.kind c.args.key (c.in_ok-_row.ensures.own stored closed failures) (sym c.if-not-is_loose_kind.ensures) (sym (c.in_default.ensures stored closed failures))
     c.learn_new.result (subst (λ (u : Core). u.last.node < greatest) room.same c.in_ok-make_ready_to_learn.ensures.ready.node_left) (next-past room made.0)
     (adopted-past l c.args.kind c.args.key (OptionalDataKey.Some c.args.key) [] room two))
-
-pub learn_new-requires-clause-bare : goal.learn_new-requires-clause-bare
-learn_new-requires-clause-bare c = inr ((let loose = c.if-not-is_loose_kind.ensures in grind (arith, nat_tests)), inl c.new.ensures.items)
 
 pub returns-in_err-make_ready_to_learn : goal.returns-in_err-make_ready_to_learn
 returns-in_err-make_ready_to_learn c =

@@ -1,4 +1,4 @@
-use Rattle.pagable_tables.proofs.{Doing.learns-does, Words.{Core, Tables, ap, arith, greatest, inr, nat_tests, refl, subst, ◌<◌}, Worlds.{failed, room-alike}}
+use Rattle.pagable_tables.proofs.{Newer.learns-does, Words.{Core, Tables, ap, arith, greatest, inr, nat_tests, refl, subst, ◌<◌}, Worlds.{failed, room-alike}}
 use Rattle.pagable_tables.proofs.loading.make_ready_to_learn.Goals as goal
 
 pub returns-in_err-reserve-clause-does : goal.returns-in_err-reserve-clause-does

@@ -1,5 +1,5 @@
-use Rattle.pagable_tables.proofs.{Words.{Mode, None, Owner, arith, core_of, false, load_at, nat_tests, plain_of, refl, ◌+◌, ◌∙◌}, Worlds.none-yet}
-use Rattle.pagable_tables.proofs.{Newer.{newer-alike, newer-handle, newer-then, later-so, later-opened, closed-still}}
+use Rattle.pagable_tables.proofs.{Newer.{closed-still, later-opened, later-so}, Told.{newer-alike, newer-handle, newer-then}, Words.{Mode, None, Owner, arith, core_of, false, load_at, nat_tests}}
+use Rattle.pagable_tables.proofs.{Words.{plain_of, refl, ◌+◌, ◌∙◌}, Worlds.none-yet}
 use Rattle.pagable_tables.proofs.loading.open_cell.Goals as goal
 
 pub returns-in-Ok-clause-opened : goal.returns-in-Ok-clause-opened

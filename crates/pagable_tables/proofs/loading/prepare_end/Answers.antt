@@ -1,6 +1,6 @@
-use Rattle.pagable_tables.proofs.Words.{◌≡◌, ℕ, refl, ap, sym, ◌∙◌, Some, None, List, Core, Places, HandleRow, Owner, LoadNumber, ArcRef, Ending, IsReady, false, not, any_mode, of_cell}
-use Rattle.pagable_tables.proofs.{Doing.widens-does, Installed.{celled, may-end, opens, references-placed}, Words.{arith, core_of, end_fault, load_in, nat_tests, option_map, plain_of, root_in}}
-use Rattle.pagable_tables.proofs.Worlds.{alike, no-load-fault, owner-same}
+use Rattle.pagable_tables.proofs.{Installed.references-placed, Newer.widens-does, Words.{ArcRef, Blob, Bool, Core, Ending, HandleNumber, HandleRow, IsReady, List, LoadNumber, LoadRow, MayEnd}}
+use Rattle.pagable_tables.proofs.Words.{NodeNumber, None, Option, Owner, Places, Some, Tables, any_mode, ap, arith, core_of, end_fault, false, load_at, load_in, nat_tests, not, of_cell, option_map}
+use Rattle.pagable_tables.{proofs.{Words.{refl, root_in, sym, ℕ, ◌∙◌, ◌≡◌}, Worlds.{alike, both-none, no-load-fault, owner-same}}, specs.declared.tables.LoadRoot.LoadRoot}
 use Rattle.pagable_tables.proofs.loading.prepare_end.Goals as goal
 
 -- a load that can end can where there are other places
@@ -8,17 +8,18 @@ ready-placed : (w : Core) (places : Places) (rows : List HandleRow) (me : Owner)
     → IsReady (record w { rows = rows; places = places }) me l node_type refs e
 ready-placed w places rows me l node_type refs e same r = grind (arith, nat_tests, references-placed)
 
+-- why an open load of a cell can end
+ends-at : (t : Tables) (stored : ℕ → Option Blob) (closed : Bool) (failures : ℕ) (me : Owner) (l : LoadNumber) (node_type : ℕ) (refs : List ArcRef) (row : LoadRow) (node : NodeNumber) (type : ℕ)
+    (h : HandleNumber) → None ≡ end_fault (core_of t stored closed failures) me l node_type refs → Some row ≡ load_at t.loads l.0 → row.root ≡ LoadRoot.Cell node type h
+    → MayEnd (core_of t stored closed failures) me l node h node_type refs
+ends-at t stored closed failures me l node_type refs row node type h none is cell = grind (arith, nat_tests, both-none)
+
 pub unreachable-requires : goal.unreachable-requires
-unreachable-requires c =
-    let w = plain_of c.args.t.now in
-    let none : end_fault w c.args.me c.args.load c.args.node_type c.args.references.now ≡ None = sym (c.end_fault.ensures (λ key. None) false 0) ∙ c.in_default.is in
-    opens w c.args.me c.args.load c.args.node_type c.args.references.now none (ap (option_map load_in) (sym c.load_of.ensures ∙ c.in_default-load_of.is))
+unreachable-requires c = let none = sym c.in_default.is ∙ c.end_fault.ensures (λ key. None) false 0 in let gone = sym c.in_default-load_of.is ∙ c.load_of.ensures in grind (arith, nat_tests, both-none)
 
 pub unreachable-requires-in_default-root : goal.unreachable-requires-in_default-root
 unreachable-requires-in_default-root c =
-    let w = plain_of c.args.t.now in
-    let none : end_fault w c.args.me c.args.load c.args.node_type c.args.references.now ≡ None = sym (c.end_fault.ensures (λ key. None) false 0) ∙ c.in_default.is in
-    celled w c.args.me c.args.load c.args.node_type c.args.references.now none (load_in c.in-Some-load_of.row) (ap (option_map load_in) (sym c.load_of.ensures ∙ c.in-Some-load_of.is)) (ap root_in c.in_default-root.is)
+    let none = sym c.in_default.is ∙ c.end_fault.ensures (λ key. None) false 0 in let is = sym c.in-Some-load_of.is ∙ c.load_of.ensures in grind (arith, nat_tests, both-none, c.in_default-root.is)
 
 pub returns-in-Ok-reserve-clause-ready : goal.returns-in-Ok-reserve-clause-ready
 returns-in-Ok-reserve-clause-ready c stored closed failures =
@@ -26,15 +27,14 @@ returns-in-Ok-reserve-clause-ready c stored closed failures =
     let me = c.args.me in
     let l = c.args.load in
     let w = core_of t stored closed failures in
-    let none : end_fault w me l c.args.node_type c.args.references.now ≡ None = sym (c.end_fault.ensures stored closed failures) ∙ c.in_default.is in
     let load = load_in c.in-Some-load_of.row in
     let is : w.loads l.0 ≡ Some load = ap (option_map load_in) (sym c.load_of.ensures ∙ c.in-Some-load_of.is) in
     let node = c.in-Cell.field-0 in
     let h = c.in-Cell.handle in
     let cell : load.root ≡ of_cell node c.in-Cell.field-1 h = ap root_in c.in-Cell.is in
     let begun = (c.requires.core.loads.roots l.0 load node c.in-Cell.field-1 h is cell).begun c.in-Ok.at.row c.in-Ok.ensures.found in
-    let may = may-end w me l c.args.node_type c.args.references.now none load is node c.in-Cell.field-1 h cell in
-    let n = c.in-Ok.at.row.node.0 in
+    let may = ends-at t stored closed failures me l c.args.node_type c.args.references.now c.in-Some-load_of.row node c.in-Cell.field-1 h
+    (sym c.in_default.is ∙ c.end_fault.ensures stored closed failures) (sym c.in-Some-load_of.is ∙ c.load_of.ensures) c.in-Cell.is in
     let e : Ending = record { load = c.in-Some-load_of.row; row = c.in-Ok.at.row; is_away = not c.is_here-is_away.result } in
     let ready : IsReady w me l c.args.node_type c.args.references.now e =
     grind (arith, nat_tests, owner-same, c.in-Ok.ensures.number, c.in-Ok.ensures.found, c.in-Ok.ensures.owner, c.is_here-is_away.ensures, c.counts_of.ensures, c.requires.steady.fits.pinned) in
@@ -47,9 +47,8 @@ returns-in-Ok-reserve-clause-does c = widens-does c.args.t.now c.reserve.new.han
 pub returns-in_default-reserve-clause-unended : goal.returns-in_default-reserve-clause-unended
 returns-in_default-reserve-clause-unended c stored closed failures =
     let w = core_of c.args.t.now stored closed failures in
-    let none : end_fault w c.args.me c.args.load c.args.node_type c.args.references.now ≡ None = sym (c.end_fault.ensures stored closed failures) ∙ c.in_default.is in
-    let is : w.loads c.args.load.0 ≡ Some (load_in c.in-Some-load_of.row) = ap (option_map load_in) (sym c.load_of.ensures ∙ c.in-Some-load_of.is) in
-    let may = may-end w c.args.me c.args.load c.args.node_type c.args.references.now none (load_in c.in-Some-load_of.row) is c.in-Cell.field-0 c.in-Cell.field-1 c.in-Cell.handle (ap root_in c.in-Cell.is) in
+    let may = ends-at c.args.t.now stored closed failures c.args.me c.args.load c.args.node_type c.args.references.now c.in-Some-load_of.row _ _ _
+    (sym c.in_default.is ∙ c.end_fault.ensures stored closed failures) (sym c.in-Some-load_of.is ∙ c.load_of.ensures) c.in-Cell.is in
     grind (arith, nat_tests, no-load-fault, alike, c.reserve.ensures.widens.rows, c.reserve.ensures.widens.capacity)
 
 pub returns-in_default-reserve-clause-does : goal.returns-in_default-reserve-clause-does
@@ -57,8 +56,6 @@ returns-in_default-reserve-clause-does c = widens-does c.args.t.now c.reserve.ne
 
 pub returns-in-Err-clause-unended : goal.returns-in-Err-clause-unended
 returns-in-Err-clause-unended c stored closed failures =
-    let w = core_of c.args.t.now stored closed failures in
-    let none : end_fault w c.args.me c.args.load c.args.node_type c.args.references.now ≡ None = sym (c.end_fault.ensures stored closed failures) ∙ c.in_default.is in
-    let is : w.loads c.args.load.0 ≡ Some (load_in c.in-Some-load_of.row) = ap (option_map load_in) (sym c.load_of.ensures ∙ c.in-Some-load_of.is) in
-    let may = may-end w c.args.me c.args.load c.args.node_type c.args.references.now none (load_in c.in-Some-load_of.row) is c.in-Cell.field-0 c.in-Cell.field-1 c.in-Cell.handle (ap root_in c.in-Cell.is) in
+    let may = ends-at c.args.t.now stored closed failures c.args.me c.args.load c.args.node_type c.args.references.now c.in-Some-load_of.row _ _ _
+    (sym c.in_default.is ∙ c.end_fault.ensures stored closed failures) (sym c.in-Some-load_of.is ∙ c.load_of.ensures) c.in-Cell.is in
     (record { node = c.in-Cell.field-0; h = c.in-Cell.handle; may = may; why = c.in-Err.ensures.fault stored closed failures any_mode }, refl)

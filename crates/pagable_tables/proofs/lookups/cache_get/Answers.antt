@@ -1,4 +1,4 @@
-use Rattle.pagable_tables.proofs.{Calls.known-suits, Doing.does-as, Words.{None, false, sym}, Worlds.{failed, not-recalled, recalls}}
+use Rattle.pagable_tables.proofs.{Calls.known-suits, Newer.does-as, Words.{None, false, sym}, Worlds.{failed, not-recalled, recalls}}
 use Rattle.pagable_tables.proofs.lookups.cache_get.Goals as goal
 
 pub make-requires-clause-suits : goal.make-requires-clause-suits

@@ -1,8 +1,7 @@
-use Rattle.pagable_tables.proofs.Words.{◌≡◌, ◌+◌, ℕ, false, None, inl, inr, refl, ap, sym, subst, arith, length, nat_tests, mode_of, with_known, Falls, only_handle, Tables, core_of, Owns, fits_mode}
-use Rattle.pagable_tables.proofs.{Alive.whole-so, Calls.{known-suits, learns-whole}, Fitting.{begun-whole, open-then}, Kept.found-among, Newer.{begun-made, found-again, later-on, newer-falls}}
-use Rattle.pagable_tables.proofs.{Newer.{swapped, values-made, values-still}, Next.{sheds-still, stays-first}, Told.{falls-opened, not-a-value, not-list, roomy-whole, stays-on, told-whole}}
-use Rattle.pagable_tables.proofs.{Words.{Alike, AllPairs, IsHandleBefore, NodeNumber, Some, offer_fault, option_map, plain_of, recall_fault, true, with_cached, ◌∙◌}, Worlds.{failed}}
-use Rattle.pagable_tables.proofs.Worlds.{not-recalled, same-cache}
+use Rattle.pagable_tables.proofs.{Alive.whole-so, Calls.{known-suits, learns-whole}, Fitting.{begun-whole, open-then}, Kept.found-among, Newer.{begun-made, found-again, later-on, swapped}}
+use Rattle.pagable_tables.proofs.{Newer.{values-made, values-still}, Next.{sheds-still, stays-first}, Told.{lone-falling, not-a-value, not-list, told-whole}, Words.{Alike, AllPairs, Falls}}
+use Rattle.pagable_tables.proofs.Words.{IsHandleBefore, NodeNumber, None, Owns, Some, Tables, ap, arith, core_of, false, fits_mode, inl, inr, length, mode_of, nat_tests, offer_fault, only_handle}
+use Rattle.pagable_tables.proofs.{Words.{option_map, plain_of, recall_fault, refl, subst, sym, true, with_cached, with_known, ℕ, ◌+◌, ◌∙◌, ◌≡◌}, Worlds.{failed, not-recalled, same-cache}}
 use Rattle.pagable_tables.proofs.lookups.offer.Goals as goal
 
 pub make-requires-clause-suits : goal.make-requires-clause-suits
@@ -31,19 +30,19 @@ returns g c =
     let t = c.args.t.now in
     let t1 = c.make.new.t in
     let node = c.in-Some.node in
-    let o = c.in_ok-row.ensures.owns in
     let made = c.in_ok-known.ensures.does in
     let fell = c.give_back.ensures.falls (plain_of t1) (plain_of t1) (begun-whole t1 (λ key. None) false true 0 made.whole refl) (omega arith) in
+    let went = lone-falling {w = plain_of t1} made.whole.core fell in
     record {
       offered = λ stored closed failures e.
           (let w = core_of t stored false failures in
           let u = with_known w c.args.kind node.0 c.args.me in
-          let owns : Owns w c.args.me c.args.handle (fits_mode c.args.kind.0) c.in_ok-row.row = record { live = o.live; own = o.own; as_asked = o.as_asked } in
+          let owns : Owns w c.args.me c.args.handle (fits_mode c.args.kind.0) c.in_ok-row.row = grind (arith, nat_tests, c.in_ok-row.ensures.owns) in
           let m = (made.does stored false failures).made in
           let alike : Alike u (core_of t1 stored false failures) = rw c.mode_of.ensures at m.1 in
           let begun = begun-made t t1 stored false failures node (mode_of c.args.kind.0) c.args.me made.whole alike true refl in
           let some = rw c.in-Some-look.ensures.number at (c.give_back.ensures.falls u u begun (let a = ap length alike.rows in omega arith)) in
-          let given = found-among c.args.handle.0 w.rows c.in_ok-row.row o.live in
+          let given = found-among c.args.handle.0 w.rows c.in_ok-row.row owns.live in
           let spared : only_handle c.args.handle (w.last.handle + 1) ≡ false =
           let a = (c.requires.whole.core.handles.numbered c.in_ok-row.row given.0).1 in let b = given.1 in grind (arith, nat_tests) in
           let falls = swapped w node (mode_of c.args.kind.0) c.args.me (subst (AllPairs IsHandleBefore) alike.rows made.whole.core.handles.ordered)
@@ -54,19 +53,18 @@ returns g c =
           let is = sym (c.in-Some.ensures stored false failures) in
           rw (open-then c.args.lists closed c.if-not-lists.false e)
           (record { answers = (c.in_ok-row.row, owns, c.in_ok-row.ensures.typed, inr (refl, (node.0, is, m.0, record { told = c.give_back.result; falls = anew }))); refused = tt }));
-      whole = whole-so c.give_back.ensures.steady (falls-opened (roomy-whole made.whole.core) (stays-on (plain_of t1)) fell);
+      whole = whole-so c.give_back.ensures.steady went.whole;
       sheds = λ there.
           (let alike : Alike (with_known (plain_of t) c.args.kind node.0 c.args.me) (plain_of t1) = rw c.mode_of.ensures at (made.does (λ key. None) false 0).made.1 in
           stays-first (values-made t t1 (λ key. None) false 0 node (mode_of c.args.kind.0) c.args.me made.whole alike c.requires.whole (there node.0 (sym (c.in-Some.ensures (λ key. None) false 0))))
           c.give_back.ensures.sheds);
-      later = λ later. later-on (made.later later) (newer-falls fell) refl refl;
+      later = λ later. later-on (made.later later) went.newer refl refl;
     }
 
 pub returns-in_default-clause-offered : goal.returns-in_default-clause-offered
 returns-in_default-clause-offered g c stored closed failures e =
     let w = core_of c.args.t.now stored false failures in
-    let o = c.in_ok-row.ensures.owns in
-    let owns : Owns w c.args.me c.args.handle (fits_mode c.args.kind.0) c.in_ok-row.row = record { live = o.live; own = o.own; as_asked = o.as_asked } in
+    let owns : Owns w c.args.me c.args.handle (fits_mode c.args.kind.0) c.in_ok-row.row = grind (arith, nat_tests, c.in_ok-row.ensures.owns) in
     let alike : Alike (with_cached w c.args.kind c.args.key c.in_ok-row.row.node) (core_of (record c.args.t.now { cache = c.put.new.cache }) stored false failures) =
     grind (arith, nat_tests, same-cache, c.in_ok-put.ensures.here, c.in_ok-put.ensures.others) in
     rw (open-then c.args.lists closed c.if-not-lists.false e)
@@ -75,18 +73,18 @@ returns-in_default-clause-offered g c stored closed failures e =
 pub returns-in_default-clause-whole : goal.returns-in_default-clause-whole
 returns-in_default-clause-whole g c =
     let (row, owns, typed, learned) = (returns-in_default-clause-offered g c (λ key. None) false 0 c.if-not-lists.false).answers in
-    whole-so c.requires.whole.steady (learns-whole c.args.me c.args.kind c.args.key c.args.handle row c.requires.whole.core refl owns typed learned.2)
+    whole-so c.requires.whole.steady (learns-whole c.args.me c.args.kind c.args.key c.args.handle row c.requires.whole.core owns typed learned.2)
 
 pub returns-in_err-put-clause-whole : goal.returns-in_err-put-clause-whole
 returns-in_err-put-clause-whole g c =
     let same = λ (kind key : ℕ). ap (option_map (λ (n : NodeNumber). n.0)) (c.in_err-put.ensures.err kind key) in
-    whole-so c.requires.whole.steady (told-whole c.requires.whole.core refl (λ n. refl) refl (λ kind key n is. sym (same kind key) ∙ is) refl (λ l. refl) (λ v. refl) refl)
+    whole-so c.requires.whole.steady (told-whole (plain_of (record c.args.t.now { cache = c.put.new.cache }))
+    c.requires.whole.core refl (λ n. refl) refl (λ kind key n is. sym (same kind key) ∙ is) (λ l. refl) (λ v. refl) refl)
 
 pub returns-in_err-known-clause-offered : goal.returns-in_err-known-clause-offered
 returns-in_err-known-clause-offered g c stored closed failures e =
     let w = core_of c.args.t.now stored false failures in
-    let o = c.in_ok-row.ensures.owns in
-    let owns : Owns w c.args.me c.args.handle (fits_mode c.args.kind.0) c.in_ok-row.row = record { live = o.live; own = o.own; as_asked = o.as_asked } in
+    let owns : Owns w c.args.me c.args.handle (fits_mode c.args.kind.0) c.in_ok-row.row = grind (arith, nat_tests, c.in_ok-row.ensures.owns) in
     let is = sym (c.in-Some.ensures stored false failures) in
     let call = not-recalled w c.args.me c.args.kind c.args.key c.in-Some.node c.mode_of.result _ is c.mode_of.ensures _ (c.in_err-known.ensures.does.does stored false failures) in
     let cause : offer_fault w c.args.me c.args.kind c.args.key c.args.handle ≡ recall_fault w c.args.kind c.args.key = grind (arith, nat_tests, c.in_ok-row.ensures.typed) in

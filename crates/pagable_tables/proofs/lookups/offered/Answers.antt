@@ -1,5 +1,5 @@
-use Rattle.pagable_tables.proofs.Words.{◌≡◌, ℕ, Some, Error, HandleNumber, Kind, Owner, Core, handle_fault, fits_mode, offer_fault, arith, core_of}
-use Rattle.pagable_tables.proofs.Worlds.{failed, handle-first, kind-late, late, spent-late}
+use Rattle.pagable_tables.proofs.{Words.{Core, Error, HandleNumber, Kind, Owner, Some, arith, core_of, fits_mode, handle_fault, offer_fault, ℕ, ◌≡◌}, Worlds.{failed, handle-first, kind-late, late}}
+use Rattle.pagable_tables.proofs.Worlds.{spent-late}
 use Rattle.pagable_tables.proofs.lookups.offered.Goals as goal
 
 -- a handle that can't be used is refused first

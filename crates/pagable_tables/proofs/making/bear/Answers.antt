@@ -1,6 +1,6 @@
-use Rattle.pagable_tables.proofs.{Doing.does-so, Fitting.rows-told, Installed.born-fits, Newer.{bears-newer, bears-whole}, Told.not-a-value, Words.{Counts, HandleRow, None, Some, [], ap, arith}}
-use Rattle.pagable_tables.proofs.Words.{counts_at, false, has_key, inl, inr, is_named_by, is_pinning, key_in, live, moved, nat_tests, one, owner_value, plain_of, refl, refs_at, rules, ◌++◌, ◌+◌, ◌∙◌}
-use Rattle.{pagable_tables.proofs.{Words.{◌∷◌, ◌≡◌}, Worlds.same-cache}, std.proofs.lemmas.Grind.common_steps}
+use Rattle.pagable_tables.proofs.{Fitting.rows-told, Installed.born-fits, Newer.{bears-goes, does-so}, Told.not-a-value, Words.{Counts, HandleRow, None, Some, [], ap, arith, counts_at, false}}
+use Rattle.pagable_tables.proofs.Words.{has_key, inl, inr, is_named_by, is_pinning, key_in, live, moved, nat_tests, one, owner_value, plain_of, refl, refs_at, rules, ◌++◌, ◌+◌, ◌∙◌, ◌∷◌, ◌≡◌}
+use Rattle.{pagable_tables.proofs.Worlds.same-cache, std.proofs.lemmas.Grind.common_steps}
 use Rattle.pagable_tables.proofs.making.bear.Goals as goal
 
 pub returns-clause-does : goal.returns-clause-does
@@ -24,5 +24,4 @@ returns-clause-does c =
     refl (elim c.requires.bare [ inl none ↦ inl none | inr so ↦ inr so.1 ]) (omega arith) free here added.others added.refs added.other_refs in
     does-so (λ stored closed failures. first_of (search rules, grind (arith, common_steps), grind (arith, nat_tests, same-cache)))
     (record { sound = c.push.ensures.sound; next = c.in-Ok.ensures.next; fits = rows-told (counts_at c.add.new.nodes) (refs_at c.add.new.nodes) _ _ t.top rows fits })
-    (bears-whole me c.args.node_type c.args.key rs c.args.mode _ w.core c.requires.holder c.requires.fit c.requires.ready.node_left (elim c.requires.bare [ inl none ↦ λ is. ap (λ k. has_key (key_in k)) none | inr so ↦ λ is. absurd (let a = so.0 in cc) ]))
-    (bears-newer me c.args.node_type c.args.key rs c.args.mode _) refl refl
+    (bears-goes me c.args.node_type c.args.key rs c.args.mode _ w.core c.requires.holder c.requires.fit c.requires.ready.node_left (elim c.requires.bare [ inl none ↦ λ is. ap (λ k. has_key (key_in k)) none | inr so ↦ λ is. absurd (let a = so.0 in cc) ])) refl refl

@@ -1,8 +1,8 @@
-use Rattle.pagable_tables.proofs.{Doing.does-as, Told.row-suits, Words.{arith, nat_tests}}
+use Rattle.pagable_tables.proofs.{Kept.found-among, Newer.does-as, Words.{arith, nat_tests}}
 use Rattle.pagable_tables.proofs.making.clone.Goals as goal
 
 pub make-requires-clause-suits : goal.make-requires-clause-suits
-make-requires-clause-suits c = row-suits c.args.handle c.in-Some.at.row c.in-Some.ensures.found
+make-requires-clause-suits c = grind (arith, nat_tests, found-among, c.in-Some.ensures.found)
 
 pub returns : goal.returns
 returns c = does-as c.make.ensures.does (λ stored closed failures made. grind (arith, nat_tests, c.in-Some.ensures.found))

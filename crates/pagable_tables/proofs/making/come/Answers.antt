@@ -1,5 +1,4 @@
-use Rattle.pagable_tables.proofs.Words.{◌+◌, ◌≡◌, arith, refl, ap, sym, ◌∙◌, Some, rules, one, is_pinning, HandleRow, counts_at}
-use Rattle.pagable_tables.proofs.{Fitting.{come-cells, come-fits, rows-told}, Words.{cases_eq, nat_tests}, Worlds.alike}
+use Rattle.pagable_tables.proofs.{Fitting.{come-fits, rows-told}, Words.{HandleRow, Some, ap, arith, cases_eq, counts_at, is_pinning, nat_tests, one, refl, rules, sym, ◌+◌, ◌∙◌, ◌≡◌}, Worlds.alike}
 use Rattle.pagable_tables.proofs.making.come.Goals as goal
 
 pub returns : goal.returns
@@ -17,7 +16,7 @@ returns c =
       made = λ w. record {
         made = (
           record { above = refl; is_left = search rules },
-          alike _ _ c.in_ok-push.ensures.rows (come-cells _ _ _ _ _ t.top x y fits is here e.others e.refs c.requires.owner) (record { handles = c.push.ensures.capacity; entries = omega arith }) refl,
+          alike _ _ c.in_ok-push.ensures.rows (λ q. grind (arith, nat_tests, cases_eq q m, is, here, e.others q)) (record { handles = c.push.ensures.capacity; entries = omega arith }) refl,
         );
         refused = tt;
       };

@@ -1,4 +1,4 @@
-use Rattle.pagable_tables.proofs.{Doing.{does-as, nothing-does}, Told.pinned-unlisted, Words.{is_pinned, rules}, Worlds.{failed, owner-same, still}}
+use Rattle.pagable_tables.proofs.{Kept.found-among, Newer.{does-as, nothing-does}, Words.{arith, is_pinned, nat_tests, rules, true, ◌≡◌}, Worlds.{failed, owner-same, still}}
 use Rattle.pagable_tables.proofs.making.into_pagable.Goals as goal
 
 pub returns-in_err-at : goal.returns-in_err-at
@@ -15,4 +15,6 @@ returns c =
     })
 
 pub turn-requires-clause-unlisted : goal.turn-requires-clause-unlisted
-turn-requires-clause-unlisted c = pinned-unlisted c.args.handle c.in_ok-at.at.row c.requires.core c.in_ok-at.ensures.found (search rules)
+turn-requires-clause-unlisted c =
+    let pinned : is_pinned c.in_ok-at.at.row.mode ≡ true = search rules in
+    grind (arith, nat_tests, c.requires.core.owners_there.waiting c.in_ok-at.at.row (found-among c.args.handle.0 _ c.in_ok-at.at.row c.in_ok-at.ensures.found).0)

@@ -1,4 +1,4 @@
-use Rattle.pagable_tables.proofs.{Doing.does-so, Fitting.some-held, Kept.held-some, Newer.makes-newer, Told.makes-whole, Words.{NodeNumber, ap, arith, core_of, counts_at, plain_of, refl}}
+use Rattle.pagable_tables.proofs.{Fitting.some-held, Kept.held-some, Newer.does-so, Told.makes-goes, Words.{NodeNumber, ap, arith, core_of, counts_at, plain_of, refl}}
 use Rattle.pagable_tables.proofs.making.make.Goals as goal
 
 pub come-requires-clause-live : goal.come-requires-clause-live
@@ -10,4 +10,4 @@ come-requires-clause-live c =
 pub returns-clause-does : goal.returns-clause-does
 returns-clause-does c =
     does-so (λ stored closed failures. c.come.ensures.made (core_of c.args.t.now stored closed failures)) c.come.ensures.steady
-    (makes-whole c.args.node c.args.mode c.args.me c.come.result c.requires.whole.core c.requires.suits c.requires.holder) (makes-newer c.args.node c.args.mode c.args.me c.come.result) refl refl
+    (makes-goes c.args.node c.args.mode c.args.me c.come.result c.requires.whole.core c.requires.suits c.requires.holder) refl refl

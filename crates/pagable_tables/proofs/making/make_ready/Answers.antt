@@ -1,4 +1,4 @@
-use Rattle.pagable_tables.proofs.{Words.refl, Doing.widens-does}
+use Rattle.pagable_tables.proofs.{Newer.widens-does, Words.refl}
 use Rattle.pagable_tables.proofs.making.make_ready.Goals as goal
 
 pub returns-in_err-reserve-clause-does : goal.returns-in_err-reserve-clause-does

@@ -1,4 +1,4 @@
-use Rattle.pagable_tables.proofs.{Doing.does-then, Newer.{away-born, none-named}, Words.arith, Worlds.{failed, weaker}}
+use Rattle.pagable_tables.proofs.{Newer.{away-born, does-then, none-named}, Words.arith, Worlds.{failed, weaker}}
 use Rattle.pagable_tables.proofs.making.new_away.Goals as goal
 
 pub bear-requires-clause-fit : goal.bear-requires-clause-fit

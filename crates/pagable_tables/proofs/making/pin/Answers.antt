@@ -1,5 +1,5 @@
-use Rattle.pagable_tables.proofs.Words.{◌≡◌, ◌∙◌, ap, false, true, inl, inr, arith, rules, is_loose, if_there, is_here, is_handle_here, nat_tests}
-use Rattle.pagable_tables.proofs.{Doing.{does-as, nothing-does}, Words.{HandleRow, Owns, core_of, pin_fault, spent}, Worlds.{failed, handle-first, owner-same, spent-late, still}}
+use Rattle.pagable_tables.proofs.{Newer.{does-as, nothing-does}, Words.{HandleRow, Owns, ap, arith, core_of, false, if_there, inl, inr, is_handle_here, is_here, is_loose, nat_tests, pin_fault}}
+use Rattle.pagable_tables.proofs.{Words.{rules, spent, true, ◌∙◌, ◌≡◌}, Worlds.{failed, handle-first, owner-same, spent-late, still}}
 use Rattle.pagable_tables.proofs.making.pin.Goals as goal
 
 pub returns-in_err-at : goal.returns-in_err-at

@@ -1,13 +1,9 @@
-use Rattle.pagable_tables.proofs.Words.{◌∙◌, ℕ, ap, subst, false, Some, None, Alike, with_mode, Mode, Tables, core_of, plain_of, arith}
-use Rattle.pagable_tables.proofs.{Doing.{does-as, does-then}, Kept.found-among, Newer.{found-again, pinned-alike}, Told.{loose-unshared, not-list}, Words.nat_tests, Worlds.failed}
+use Rattle.pagable_tables.proofs.{Kept.found-among, Newer.{does-then, found-again, pinned-alike}, Told.{loose-unshared, not-list}, Words.{Alike, Mode, None, Some, Tables, ap, arith, core_of, false}}
+use Rattle.pagable_tables.proofs.Words.{nat_tests, plain_of, subst, with_mode, ℕ, ◌∙◌}
 use Rattle.pagable_tables.proofs.making.pin_here.Goals as goal
 
 pub make-requires-clause-suits : goal.make-requires-clause-suits
 make-requires-clause-suits c = grind (arith, nat_tests, found-among, loose-unshared, c.requires.owns.live, c.requires.owns.as_asked)
-
-pub returns-in_err-handle-clause-does : goal.returns-in_err-handle-clause-does
-returns-in_err-handle-clause-does c = rw (failed c.from_residual.result c.from_residual.ensures.1)
-    (does-as c.in_err-handle.ensures.does (λ stored closed failures made. record { pinned = tt; refused = made.refused }))
 
 pub unreachable-requires : goal.unreachable-requires
 unreachable-requires c =

@@ -1,5 +1,5 @@
-use Rattle.pagable_tables.proofs.{Words.{None, Refused, arith, birth_fault, core_of, earlier, false, inl, nat_tests, subst, sym, ◌∙◌}, Worlds.{earlier-first, failed, late, references-low, room-fault}}
-use Rattle.pagable_tables.proofs.Worlds.{spent-late, still, weaker}
+use Rattle.pagable_tables.proofs.{Words.{None, Refused, arith, birth_fault, core_of, earlier, false, inl, nat_tests, subst, sym, ◌∙◌}, Worlds.{earlier-first, failed, late, references-low}}
+use Rattle.pagable_tables.proofs.Worlds.{room-fault, spent-late, still, weaker}
 use Rattle.pagable_tables.proofs.making.prepare.Goals as goal
 
 pub returns-in-Some-clause-refused : goal.returns-in-Some-clause-refused

@@ -1,5 +1,5 @@
-use Rattle.pagable_tables.proofs.{Words.{◌+◌, ◌≡◌, arith, refl, ap, sym, ◌∙◌, Some, not, one, live, counts_at, plain_of, Mode, Counts}, Alive.{changed-known, at-place}}
-use Rattle.pagable_tables.proofs.{Doing.does-so, Fitting.{turn-cells, turn-fits, turned}, Newer.{newer-alike, newer-mode, newer-then}, Told.{pins-whole, settles}, Worlds.alike}
+use Rattle.pagable_tables.proofs.{Alive.{at-place, changed-known}, Fitting.{turn-fits, turned}, Newer.does-so, Told.{moded, settled}, Words.{Counts, Mode, Some, ap, arith, cases_eq, counts_at}}
+use Rattle.pagable_tables.proofs.{Words.{nat_tests, not, one, refl, sym, ◌+◌, ◌∙◌, ◌≡◌}, Worlds.alike}
 use Rattle.pagable_tables.proofs.making.turn.Goals as goal
 
 pub returns-clause-does : goal.returns-clause-does
@@ -14,11 +14,13 @@ returns-clause-does c =
     ∙ ap (λ p. record y { pins = y.pins + one (not p); holds = y.holds + 1 }) c.pins.ensures) in
     does-so
     (λ stored closed failures. alike _ _ (c.set.ensures.becomes.rows ∙ changed-known t.handles.places.items c.args.at.place x w.steady.sound.ordered c.requires.place turned)
-    (turn-cells _ _ _ _ _ (live c.set.new.handles.places.items) _ x y w.steady.fits is c.set.ensures.sums here e.others e.refs) (record { handles = omega arith; entries = omega arith }) refl)
+    (λ q. grind (arith, nat_tests, cases_eq q x.node.0, is, here, e.others q)) (record { handles = omega arith; entries = omega arith }) refl)
     (record {
       sound = c.set.ensures.becomes.sound;
       next = c.set.ensures.becomes.next (t.last_handle + 1) w.steady.next;
       fits = turn-fits _ _ _ _ _ _ _ x y w.steady.fits is c.set.ensures.sums here e.others e.refs;
     })
-    (settles (pins-whole x.number x w.core (at-place t.handles.places.items c.args.at.place x w.steady.sound.ordered c.requires.place).2 c.requires.unshared c.requires.unlisted))
-    (λ turned. newer-then (newer-mode (plain_of c.args.t.now) x.number Mode.LoosePinned) (newer-alike turned)) refl refl
+    (λ pins.
+    let found = (at-place t.handles.places.items c.args.at.place x w.steady.sound.ordered c.requires.place).2 in
+    let turns = moded w.core x.number x Mode.LoosePinned found (sym c.requires.unshared) (λ loose. refl) (λ is. grind (arith, nat_tests, c.requires.unlisted)) in
+    settled pins turns.0 turns.2) refl refl

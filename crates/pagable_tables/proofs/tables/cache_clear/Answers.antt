@@ -1,7 +1,12 @@
-use Rattle.pagable_tables.proofs.{Calls.clear-whole, Doing.does-so, Newer.newer-alike, Words.{None, Ok, arith, known_at, nat_tests, refl, ℕ, ◌≡◌}, Worlds.same-cache}
+use Rattle.pagable_tables.proofs.{Newer.does-so, Told.{newer-alike, told-whole}, Words.{None, arith, known_at, nat_tests, plain_of, refl, ℕ, ◌≡◌}, Worlds.same-cache}
 use Rattle.pagable_tables.proofs.tables.cache_clear.Goals as goal
 
 pub returns : goal.returns
 returns c =
     let none : (kind key : ℕ) → known_at c.clear.new.self kind key ≡ None = λ kind key. rw c.clear.ensures.empty refl in
-    does-so (λ stored closed failures. grind (arith, nat_tests, same-cache, none)) c.requires.steady (clear-whole (Ok tt) c.requires.core) (λ step. newer-alike step.leaves) refl refl
+    does-so (λ stored closed failures. grind (arith, nat_tests, same-cache, none)) c.requires.steady
+    (λ clears. let a = clears.leaves in record {
+      whole = told-whole (plain_of (record c.args.t.now { cache = c.clear.new.self })) c.requires.core a.rows a.cells a.list
+          (λ kind key n is. let f = a.cache.only kind key n is in absurd (cc)) a.loads a.workers a.last;
+      newer = newer-alike a;
+    }) refl refl

@@ -1,5 +1,5 @@
-use Rattle.pagable_tables.proofs.{Doing.{does-as, does-so}, Fitting.rows-told, Newer.newer-alike, Told.alike-whole, Words.{Alike, Holdings}}
-use Rattle.pagable_tables.{proofs.{Words.{Tables, arith, nat_tests, refl, rules, subst, vec_capacity, ◌+◌, ◌<◌, ◌≡◌, ◌≤◌}, Worlds.same-cache}, specs.{Becoming.Widens, Core.IsWhole, Doing.Does}}
+use Rattle.pagable_tables.proofs.{Fitting.rows-told, Newer.{does-as, does-so}, Told.alike-goes, Words.{Alike, Holdings, Tables, arith, nat_tests, refl, rules, subst, vec_capacity, ◌+◌, ◌<◌, ◌≡◌}}
+use Rattle.pagable_tables.{proofs.{Words.◌≤◌, Worlds.same-cache}, specs.{Core.{Does, IsWhole}, Falling.Widens}}
 use Rattle.pagable_tables.proofs.tables.reserve.Goals as goal
 
 -- there is room, and all else is as it was
@@ -8,7 +8,7 @@ grown : (t : Tables) (u : Holdings) → IsWhole t → Widens t.holdings.handles 
 grown t u w e items capacity =
     does-so (λ stored closed failures. grind (arith, nat_tests, same-cache, e.rows, items, e.capacity, capacity))
     (record { sound = e.sound; next = e.next (t.holdings.last_handle + 1) w.steady.next; fits = rows-told _ _ _ _ t.holdings.top e.rows w.steady.fits })
-    (alike-whole w.core) newer-alike refl refl
+    (alike-goes w.core) refl refl
 
 pub room-requires : goal.room-requires
 room-requires c =

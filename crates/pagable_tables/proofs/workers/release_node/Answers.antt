@@ -1,5 +1,5 @@
-use Rattle.pagable_tables.proofs.{Alive.and-left, Doing.sheds-so, Fitting.begun-whole, Newer.{newer-falls, passes-given}, Told.{falls-opened, roomy-whole, stays-on}, Words.{Giving, InReach, arith}}
-use Rattle.pagable_tables.proofs.Words.{core_of, gives_row, nat_tests, plain_of, refl, subst, sym}
+use Rattle.pagable_tables.proofs.{Alive.and-left, Fitting.begun-whole, Newer.{passes-given, sheds-so}, Told.lone-falling, Words.{Giving, InReach, arith, core_of, gives_row, nat_tests, plain_of}}
+use Rattle.pagable_tables.proofs.Words.{refl, subst, sym}
 use Rattle.pagable_tables.proofs.workers.release_node.Goals as goal
 
 pub returns : goal.returns
@@ -17,5 +17,4 @@ returns g c =
           ));
     })
     c.give_all.ensures.steady
-    (λ falls. falls-opened (roomy-whole c.requires.whole.core) (stays-on (plain_of t)) falls.falls)
-    (λ falls. newer-falls falls.falls) refl refl c.give_all.ensures.sheds
+    (λ falls. lone-falling c.requires.whole.core falls.falls) refl refl c.give_all.ensures.sheds

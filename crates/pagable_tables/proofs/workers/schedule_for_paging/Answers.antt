@@ -1,6 +1,6 @@
-use Rattle.pagable_tables.proofs.Words.{◌∙◌, ap, refl, false, inl, inr, arith, rules, Ok, None, not, is_unpinned, is_valued, plain_of, core_of, nat_tests, Owns, ScheduleCall}
-use Rattle.pagable_tables.proofs.{Alive.whole-so, Calls.schedule-whole, Doing.sheds-so, Fitting.{begun-whole, not-closed, open-then, shut-then}, Newer.{later-on, schedule-newer}, Told.alike-whole}
-use Rattle.pagable_tables.{proofs.{Told.not-a-value, Worlds.{alike-listed, failed, owner-same, still}}, specs.Doing.DoesShed}
+use Rattle.pagable_tables.proofs.{Alive.whole-so, Calls.schedule-goes, Fitting.{begun-whole, open-then, shut-then}, Newer.{later-on, sheds-so}, Told.{alike-goes, not-a-value}, Words.{None, Ok, Owns}}
+use Rattle.pagable_tables.proofs.{Words.{ScheduleCall, ap, arith, core_of, false, inl, inr, is_unpinned, is_valued, nat_tests, plain_of, refl, rules, ◌∙◌}, Worlds.{alike-listed, failed, owner-same}}
+use Rattle.pagable_tables.{proofs.Worlds.still, specs.Core.DoesShed}
 use Rattle.pagable_tables.proofs.workers.schedule_for_paging.Goals as goal
 
 pub returns-in_err-at-clause-scheduled : goal.returns-in_err-at-clause-scheduled
@@ -18,7 +18,7 @@ returns-then-not-lists g c =
     let own : Owns w c.args.me c.args.handle is_unpinned row =
     record { live = c.in_ok-at.ensures.found; own = owner-same c.args.me row.owner c.in_ok-at.ensures.owner; as_asked = search rules } in
     record { moves = (row, own, inr (shut-then c.args.lists closed c.if-not-lists.true e, record { told = c.give_back.result; falls = falls })); refused = tt })
-    c.give_back.ensures.steady (schedule-whole c.args.me c.args.handle (Ok tt) c.requires.whole.core c.requires.holder) (schedule-newer c.args.me c.args.handle (Ok tt)) refl refl
+    c.give_back.ensures.steady (schedule-goes c.args.me c.args.handle c.requires.whole.core c.requires.holder) refl refl
     c.give_back.ensures.sheds in
     record { scheduled = done.does; whole = done.whole; sheds = done.sheds; later = done.later }
 
@@ -31,12 +31,14 @@ returns-clause-whole g c =
     let w = c.requires.whole.steady in
     let unvalued = ap is_valued (owner-same c.args.me c.in_ok-at.at.row.owner c.in_ok-at.ensures.owner) ∙ not-a-value (plain_of c.args.t.now) c.args.me c.requires.holder in
     let steady = c.hand_over.ensures.stands (record c.args.t.now.holdings { list = c.push.new.self }) unvalued refl (record { sound = w.sound; next = w.next; fits = w.fits }) in
-    whole-so steady (schedule-whole c.args.me c.args.handle (Ok tt) c.requires.whole.core c.requires.holder (returns-clause-scheduled g c (λ key. None) false 0 c.if-not-lists.false))
+    whole-so steady (schedule-goes c.args.me c.args.handle c.requires.whole.core c.requires.holder (returns-clause-scheduled g c (λ key. None) false 0 c.if-not-lists.false)).whole
 
 pub returns-in_err-make_place-clause-whole : goal.returns-in_err-make_place-clause-whole
 returns-in_err-make_place-clause-whole g c =
     let w = c.requires.whole.steady in
-    whole-so (record { sound = w.sound; next = w.next; fits = w.fits }) (alike-whole c.requires.whole.core (alike-listed (plain_of c.args.t.now) _ refl c.make_place.ensures.items (record { handles = omega arith; entries = c.make_place.ensures.capacity }) refl))
+    let new = plain_of (record c.args.t.now { holdings = record c.args.t.now.holdings { list = c.make_place.new.list } }) in
+    whole-so (record { sound = w.sound; next = w.next; fits = w.fits }) (alike-goes c.requires.whole.core (alike-listed (plain_of c.args.t.now) new refl c.make_place.ensures.items (record { handles = omega arith; entries = c.make_place.ensures.capacity }) refl)).whole
 
 pub returns-clause-later : goal.returns-clause-later
-returns-clause-later g c later = later-on later (schedule-newer c.args.me c.args.handle (Ok tt) (returns-clause-scheduled g c (λ key. None) (not c.args.lists) 0 (not-closed c.args.lists))) refl refl
+returns-clause-later g c later =
+    later-on later (schedule-goes c.args.me c.args.handle c.requires.whole.core c.requires.holder (returns-clause-scheduled g c (λ key. None) false 0 c.if-not-lists.false)).newer refl refl

@@ -28,7 +28,7 @@ returns c =
     (record { sound = w.steady.sound; next = w.steady.next; fits = w.steady.fits }) in
     record {
       taken = taken;
-      whole = whole-so steady (take-whole c.args.me c.args.place (Some h) w.core c.requires.holder (taken (λ key. None) false 0));
+      whole = whole-so steady (take-whole _ c.args.me c.args.place h w.core c.requires.holder (taken (λ key. None) false 0));
       later = λ other later.
           (let row = found-among h.0 (live t.handles.places.items) c.in-Some.at.row c.in-Some.ensures.found in
           let numbered : 0 < h.0 = (let n = w.core.handles.numbered c.in-Some.at.row row.0 in let a = n.0 in let is = row.1 in omega arith) in

@@ -1,6 +1,6 @@
-use Rattle.pagable_tables.proofs.{Calls.worker-end-whole, Doing.sheds-by, Fitting.begun-less, Newer.{in-reach, later-less, loads-anew, newer-falls, passes-given, worker-gone}}
-use Rattle.pagable_tables.proofs.Words.{Falls, Giving, InReach, Some}
-use Rattle.pagable_tables.proofs.Words.{arith, cases_eq, core_of, gives_row, is_workers, left_load, load_at, nat_tests, plain_of, refl, subst, sym, with_tables, without_worker, worker_at, ◌∙◌, ◌≡◌}
+use Rattle.pagable_tables.proofs.{Calls.worker-end-whole, Fitting.begun-less, Newer.{in-reach, later-less, loads-anew, passes-given, sheds-by, worker-gone}, Told.newer-falls, Words.{Falls, Giving}}
+use Rattle.pagable_tables.proofs.Words.{InReach, Some, arith, cases_eq, core_of, gives_row, is_workers, left_load, load_at, nat_tests, plain_of, refl, subst, sym, with_tables, without_worker}
+use Rattle.pagable_tables.proofs.Words.{worker_at, ◌∙◌, ◌≡◌}
 use Rattle.pagable_tables.proofs.workers.worker_end.Goals as goal
 
 pub returns : goal.returns

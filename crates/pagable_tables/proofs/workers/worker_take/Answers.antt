@@ -1,4 +1,4 @@
-use Rattle.pagable_tables.proofs.{Doing.does-as, Newer.takes-worker, Words.{arith, core_of, nat_tests, refl}, Worlds.failed}
+use Rattle.pagable_tables.proofs.{Newer.takes-worker, Words.{arith, core_of, nat_tests, refl}}
 use Rattle.pagable_tables.proofs.workers.worker_take.Goals as goal
 
 pub returns : goal.returns
@@ -12,7 +12,3 @@ returns c =
       whole = taken.whole;
       later = λ later. taken.later (λ m. refl) (c.worker_begin.ensures.does.later later);
     }
-
-pub returns-in_err-worker : goal.returns-in_err-worker
-returns-in_err-worker c = rw (failed c.from_residual.result c.from_residual.ensures.1)
-    (does-as c.in_err-worker.ensures.does (λ stored closed failures begun. record { taken = tt; refused = begun.refused }))

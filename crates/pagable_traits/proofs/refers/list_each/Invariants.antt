@@ -1,5 +1,4 @@
-use Rattle.std.{proofs.Common.{◌≡◌, ◌++◌}, specs.Prelude.{map, drop}}
-use Rattle.pagable_model.specs.{Meaning.sequence, References.references_in}
+use Rattle.{pagable_model.specs.{Meaning.sequence, References.references_in}, std.{proofs.Common.{◌++◌, ◌≡◌}, specs.Prelude.{drop, map}}}
 use Rattle.pagable_traits.proofs.refers.list_each.Given as goal
 
 -- the references so far and those of the items that are left are those of all

@@ -1,4 +1,4 @@
-use Rattle.{pagable_traits.proofs.Tagged.{unknown_read, body_read}, std.proofs.Common.{ap, ◌∙◌}}
+use Rattle.{pagable_traits.proofs.Registered.{body_read, unknown_read}, std.proofs.Common.{ap, ◌∙◌}}
 use Rattle.pagable_traits.proofs.typetag.deserialize_tagged.Goals as goal
 
 pub returns-in_default : goal.returns-in_default

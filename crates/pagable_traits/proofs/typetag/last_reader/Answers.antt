@@ -1,4 +1,4 @@
-use Rattle.{pagable_traits.proofs.Tagged.{is_last, none_from_less}, std.{proofs.Common.{◌≡◌, ◌+◌, ◌-◌, length, true, false, arith, rules}, specs.{Str.bytes_eq, String.string_bytes}}}
+use Rattle.{pagable_traits.proofs.Registered.{is_last, none_from_less}, std.{proofs.Common.{arith, false, length, rules, true, ◌+◌, ◌-◌, ◌≡◌}, specs.{Str.bytes_eq, String.string_bytes}}}
 use Rattle.pagable_traits.proofs.typetag.last_reader.Goals as goal
 
 pub returns-then-eq-clause-found : goal.returns-then-eq-clause-found

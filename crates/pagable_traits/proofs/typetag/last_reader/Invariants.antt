@@ -1,4 +1,4 @@
-use Rattle.{pagable_traits.proofs.Tagged.NoneFrom, std.{proofs.Common.{map, ◌-◌}, specs.String.string_bytes}}
+use Rattle.{pagable_traits.proofs.Registered.NoneFrom, std.{proofs.Common.{map, ◌-◌}, specs.String.string_bytes}}
 use Rattle.pagable_traits.proofs.typetag.last_reader.Given as goal
 
 abbrev pub invariant-loop-passed : goal.invariant-loop-passed

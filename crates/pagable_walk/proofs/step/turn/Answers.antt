@@ -5,7 +5,7 @@ pub returns-in-Start-clause-acts : goal.returns-in-Start-clause-acts
 returns-in-Start-clause-acts g c =
     let below = todos c.args.path.now.items in
     let after = c.after_claim in
-    rw (c.in-Start.is, c.named.ensures, c.counts.ensures, c.found.ensures) (acts_same (tells_map
+    rw (c.in-Start.is, c.named.ensures, c.found-told.ensures.counts, c.found-told.ensures.found) (acts_same (tells_map
     (λ s fault. start-turns _ _ c.args.worker.0 (shelf_of c.args.table.now) (shelf_of c.claim-claim.new.table) c.in-Start.reference c.in-Start.place below _
     c.claim-claim.result after.result after.ensures.todo after.ensures.leaves s
     (c.claim-claim.ensures.step s.core below fault)) c.check_reference-checked.ensures))

@@ -1,5 +1,4 @@
-use Rattle.std.{proofs.Common.rules, specs.Int.w16}
-use Rattle.pagable.{specs.Form.unsigned-form, specs.Meaning.number, specs.Shape.unsigned, specs.Writing.nesting, proofs.Basics.basic_written}
+use Rattle.{pagable.{proofs.Parts.basic_written, specs.{Form.unsigned-form, Meaning.number, Shape.unsigned, Writing.nesting}}, std.{proofs.Common.rules, specs.Int.w16}}
 use Rattle.pagable_examples.proofs.ticket.TicketPagableEagerSerialize.eager_pagable_serialize.Goals as goal
 
 pub returns-clause-ok : goal.returns-clause-ok

@@ -1,4 +1,4 @@
-use Rattle.{pagable_loads.{proofs.Foreseen.row_tells, specs.{Frames.{frame_of, frames_of, onto}, StandIns.stand_in}}, std.proofs.lemmas.Option.slice_get-get_or}
+use Rattle.{pagable_loads.{proofs.Foreseen.row_tells, specs.{Frames.{frame_of, frames_of, onto}, Got.stand_in}}, std.proofs.lemmas.Option.slice_get-get_or}
 use Rattle.std.proofs.Common.{[], ◌∙◌, Some, ap, rules, slice_index_or, sym}
 use Rattle.pagable_loads.proofs.reading.Reading.told.Goals as goal
 

@@ -1,5 +1,4 @@
-use Rattle.{pagable_pager.specs.View.{core_in, telling}, pagable_tables.{proofs.Worlds.still, specs.Core.load_in}, pagable_world.specs.Refusals.{OwnsLoad, earlier}}
-use Rattle.std.proofs.Common.{None, ap, false, inl, inr}
+use Rattle.{pagable_tables.{proofs.Worlds.still, specs.Core.load_in}, pagable_world.specs.Refusals.earlier, std.proofs.Common.{None, ap, false, inl, inr}}
 use Rattle.pagable_pager.proofs.pager.Pager.load_fetch_by.Goals as goal
 
 pub returns-in-Err-clause-step : goal.returns-in-Err-clause-step
@@ -8,12 +7,8 @@ returns-in-Err-clause-step g c =
 
 pub returns-in-Err-fetch-clause-step : goal.returns-in-Err-fetch-clause-step
 returns-in-Err-fetch-clause-step g c =
-    let tells = telling g.S.PagableStorage.stored g.S.PagableStorage.is_closed g.S.PagableStorage.failed in
-    let own : OwnsLoad (core_in tells c.args.self.now) c.args.me c.args.load (load_in c.in-Ok.row) = rw (← c.self.view_is) (c.in-Ok.ensures.own _ _ _) in
-    rw c.in-Root.is (record { gives = tt; refused = inr (load_in c.in-Ok.row, own, c.in-Err-fetch.ensures.step) })
+    rw c.in-Root.is (record { gives = tt; refused = inr (load_in c.in-Ok.row, rw (← c.self.view_is) (c.in-Ok.ensures.own _ _ _), c.in-Err-fetch.ensures.step) })
 
 pub returns-in-Ok-fetch-clause-step : goal.returns-in-Ok-fetch-clause-step
 returns-in-Ok-fetch-clause-step g c =
-    let tells = telling g.S.PagableStorage.stored g.S.PagableStorage.is_closed g.S.PagableStorage.failed in
-    let own : OwnsLoad (core_in tells c.args.self.now) c.args.me c.args.load (load_in c.in-Ok.row) = rw (← c.self.view_is) (c.in-Ok.ensures.own _ _ _) in
-    rw c.in-Root.is (record { gives = (load_in c.in-Ok.row, own, c.in-Ok-fetch.ensures.step); refused = tt })
+    rw c.in-Root.is (record { gives = (load_in c.in-Ok.row, rw (← c.self.view_is) (c.in-Ok.ensures.own _ _ _), c.in-Ok-fetch.ensures.step); refused = tt })

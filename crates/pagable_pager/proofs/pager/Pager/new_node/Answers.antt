@@ -9,18 +9,17 @@ invariant_of-self-in-Err-share_with_room g c = roomier c.self.invariant c.share_
 
 pub returns-in-Err-share_with_room-clause-step : goal.returns-in-Err-share_with_room-clause-step
 returns-in-Err-share_with_room-clause-step g c =
-    rw (← c.self.view_is) (no-memory c.self.invariant c.share_with_room.new.values c.prepare.ensures.does c.args.node c.in-Err-share_with_room.node c.in-Err-share_with_room.ensures.back
-    (g.E.Node.NodeSet.type_of c.args.node) (g.E.Node.NodeSet.refs_of c.args.node) c.args.mode)
+    rw (← c.self.view_is) (no-memory c.self.invariant c.share_with_room.new.values c.prepare.ensures.does _ _ c.in-Err-share_with_room.ensures.back _ _ _)
 
 pub invariant_of-self-2 : goal.invariant_of-self-2
 invariant_of-self-2 g c =
     born-so c.self.invariant c.share_with_room.new.values c.prepare.ensures.does c.share_with_room.ensures.same c.bear-handle.new.t c.keep.new.values c.args.node
-    c.in-Ok-share_with_room.ensures.shared c.keep.ensures.here c.keep.ensures.others c.bear-handle.ensures.does c.in_default.ensures.ready.node_left c.in_default.ensures.fit c.deref.ensures.value
+    c.in-Ok-share_with_room.ensures.shared c.keep.ensures c.bear-handle.ensures.does c.in_default.ensures.ready.node_left c.in_default.ensures.fit c.deref.ensures.value
     c.node_type-node_type.ensures.value c.in-Ok.ensures.ok c.requires
 
 pub returns : goal.returns
 returns g c =
     let born = born-told c.self.invariant c.share_with_room.new.values c.prepare.ensures.does c.share_with_room.ensures.same c.bear-handle.new.t c.keep.new.values c.args.node
-    c.in-Ok-share_with_room.ensures.shared c.keep.ensures.here c.keep.ensures.others c.bear-handle.ensures.does c.in_default.ensures.ready.node_left c.in_default.ensures.fit c.deref.ensures.value
+    c.in-Ok-share_with_room.ensures.shared c.keep.ensures c.bear-handle.ensures.does c.in_default.ensures.ready.node_left c.in_default.ensures.fit c.deref.ensures.value
     c.node_type-node_type.ensures.value c.in-Ok.ensures.ok in
     rw (← c.self.view_is) (record { step = born.0; moves = born.1 })

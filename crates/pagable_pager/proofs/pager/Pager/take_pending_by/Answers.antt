@@ -1,8 +1,9 @@
-use Rattle.{pagable_pager.proofs.Keeping.{rested, owner-free, owner-loads}, pagable_steps.proofs.Owning.takes}
+use Rattle.{pagable_pager.proofs.Keeping.{in-step, owner-free, owner-loads}, pagable_steps.proofs.Owning.{spared, takes}, std.proofs.Common.refl}
 use Rattle.pagable_pager.proofs.pager.Pager.take_pending_by.Goals as goal
 
 pub invariant_of-self : goal.invariant_of-self
 invariant_of-self g c =
     let later = c.take_pending.ensures.later (owner-loads c.self.invariant c.args.me c.self.view_is c.requires) c.self.invariant.later in
-    rested c.self.invariant c.take_pending.new.t c.take_pending.ensures.whole later
-    (takes c.self.invariant.state.whole c.args.place (owner-free c.self.invariant c.args.me c.self.view_is c.requires) c.take_pending.result (c.take_pending.ensures.taken _ _ _))
+    in-step _ c.take_pending.ensures.whole later
+    (spared c.self.invariant.state (takes c.self.invariant.state.whole c.args.place (owner-free c.self.invariant c.args.me c.self.view_is c.requires) c.take_pending.result
+    (c.take_pending.ensures.taken _ _ _)) (λ n. refl))

@@ -1,4 +1,4 @@
-use Rattle.pagable_traits.proofs.{JsonSteps.{none-so-far, one-more, refused-so-far, all-read, as-read, seen-same}, Collecting.{collected_none, collected_more}, Words.{Ok, Err}}
+use Rattle.pagable_traits.proofs.{Items.{collected_more, collected_none}, JsonSteps.{all-read, as-read, none-so-far, one-more, refused-so-far, seen-same}, Words.{Err, Ok}}
 use Rattle.pagable_traits.proofs.impls.collecting.collect_items.Goals as goal
 
 pub loop-index-init : goal.loop-index-init

@@ -1,7 +1,6 @@
-use Rattle.pagable_traits.proofs.{Words.{◌≡◌, refl, rules, insert_entry, MeansPair, mean-none, variant, sequence, Is, string_cmp, of_value, of_key}}
-use Rattle.pagable_traits.proofs.{JsonSteps.{read-then, read-below, read-deep, none-so-far, one-more, refused-so-far, all-read, seen-same, either-memory}, JsonRead.{array-deep, array-seen, is-array, object-deep}}
-use Rattle.pagable_traits.proofs.{JsonRead.object-read, Collecting.{collected_none, collected_more}, Items.mean_last}
-use Rattle.pagable_codec.proofs.Reading.{moves_refl}
+use Rattle.{pagable_codec.proofs.Reading.moves_refl, pagable_traits.proofs.Items.{collected_more, collected_none, mean_last}}
+use Rattle.pagable_traits.proofs.{Json.{array-deep, array-seen, is-array, object-deep, object-read}, JsonSteps.{all-read, either-memory, none-so-far, one-more, read-below, read-deep}}
+use Rattle.pagable_traits.proofs.{JsonSteps.{read-then, refused-so-far, seen-same}, Words.{Is, MeansPair, insert_entry, mean-none, of_key, of_value, refl, rules, sequence, string_cmp, variant, ◌≡◌}}
 use Rattle.serde_json.specs.declared.value.Value as values
 use Rattle.pagable_traits.proofs.impls.json_reading.+reading_json.Goals as goal
 

@@ -1,7 +1,7 @@
 use Rattle.pagable_traits.proofs.{Words.{refl, sym, rules, ◌∙◌, Result, Ok, Err, Error, memory, long_or, MeansPair, both, json, text, Is, of_key, of_value}, Maps.{written-fewer, written-none}}
 use Rattle.pagable_traits.proofs.{Maps.{written-more, written-all, written-refused}, JsonSteps.{as-form, wrote-then, wrote-err, wrote-nothing, wrote-more, wrote-is, wrote-then-err, wrote-below}}
-use Rattle.pagable_traits.proofs.{JsonSteps.wrote-deep, JsonWritten.{as-value, seen-object, value-has, member-has, arrays, objects, json-text, json-long, json-deep}, Items.writes_no_items}
-use Rattle.pagable_traits.{proofs.{Items.writes_item, Walks.refuses_item, Parts.{writes_pair, first_refused, refused_second}}, specs.Meanings.exactly}
+use Rattle.pagable_traits.proofs.{Items.writes_no_items, Json.{arrays, as-value, json-deep, json-long, json-text, member-has, objects, seen-object, value-has}, JsonSteps.wrote-deep}
+use Rattle.pagable_traits.{proofs.{Items.{refuses_item, writes_item}, Parts.{first_refused, refused_second, writes_pair}}, specs.Meanings.exactly}
 use Rattle.pagable_traits.proofs.impls.json_writing.+writing_json.Goals as goal
 
 pub write_value-returns-in-Object : goal.write_value-returns-in-Object

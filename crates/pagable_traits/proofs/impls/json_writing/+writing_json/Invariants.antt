@@ -1,4 +1,4 @@
-use Rattle.pagable_traits.proofs.{Words.{take, Result, Ok, Error, json_causes, MeanAll, json, Is, of_value, Wrote, all}, JsonWritten.members-so-far}
+use Rattle.pagable_traits.proofs.{Json.members-so-far, Words.{Error, Is, MeanAll, Ok, Result, Wrote, all, json, json_causes, of_value, take}}
 use Rattle.pagable_traits.proofs.impls.json_writing.+writing_json.Given as goal
 
 abbrev pub invariant-write_items-loop-item : goal.invariant-write_items-loop-item

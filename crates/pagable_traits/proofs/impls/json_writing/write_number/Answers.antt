@@ -1,6 +1,5 @@
-use Rattle.pagable_traits.proofs.Words.{◌≡◌, Some, rules, ◌∙◌, w64, to_z-of_z, as_i64, number_view, json, Is, of_data, nested_in, grows_trans, refused_memory}
-use Rattle.pagable_traits.proofs.{Parts.{ok_along, err_along}, JsonWritten.{number_written, json-memory}}
-use Rattle.serde_json.specs.Data.{number}
+use Rattle.pagable_traits.proofs.{Json.{json-memory, number_written}, Parts.{err_along, ok_along}}
+use Rattle.{pagable_traits.proofs.Words.{Is, Some, as_i64, grows_trans, json, nested_in, number_view, of_data, refused_memory, rules, to_z-of_z, w64, ◌∙◌, ◌≡◌}, serde_json.specs.Data.number}
 use Rattle.pagable_traits.proofs.impls.json_writing.write_number.Goals as goal
 
 pub returns : goal.returns

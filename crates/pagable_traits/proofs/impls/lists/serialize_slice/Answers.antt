@@ -1,4 +1,4 @@
-use Rattle.pagable_traits.proofs.{Words.{length, refl, some}, Walks.{shows_slice, wraps_list}, Walks.owed-counted}
+use Rattle.pagable_traits.proofs.{Items.{owed-counted, shows_slice, wraps_list}, Words.{length, refl, some}}
 use Rattle.pagable_traits.proofs.impls.lists.serialize_slice.Goals as goal
 
 pub returns : goal.returns

@@ -1,4 +1,4 @@
-use Rattle.{std.proofs.{Common.{rules, true, false, Some, sym, ap, ◌∙◌, arith}, lemmas.Bool.Decides.nat_tests}, pagable_world.specs.Workers.{is-asker, works, may-go-on}}
+use Rattle.{std.proofs.{Common.{rules, true, false, None, Some, sym, ap, ◌∙◌, arith}, lemmas.Bool.Decides.nat_tests}, pagable_world.specs.{Plain.if_there, Workers.{is-asker, works, may-go-on}}}
 use Rattle.pagable_walk.{proofs.Waits.{leads-on, nearer, not-open, open-is}, specs.{Slots.{open_worker, slots_in}, Table.shelf_of}}
 use Rattle.pagable_walk.proofs.table.SlotTable.comes_back.Goals as goal
 
@@ -22,5 +22,6 @@ loop-worker-preserved g c = λ b h.
 pub loop-worker-smaller : goal.loop-worker-smaller
 loop-worker-smaller g c =
     let o = c.in-Open.ensures in
-    let still = ap open_worker o.1 ∙ open-is o.0 o.2 ∙ ap (λ w. Some w) o.3 in
-    nearer (shelf_of c.args.self.now) c.args.self.now.ends c.loop-worker.worker c.in-Open.next (record { i = c.in-Some.identity.now; waits = sym c.in-Some.ensures.value; still = still })
+    let s = shelf_of c.args.self.now in
+    let still = ap (if_there (λ i. open_worker (s.slots i)) None) (sym c.in-Some.ensures.value) ∙ ap open_worker o.1 ∙ open-is o.0 o.2 ∙ ap (λ w. Some w) o.3 in
+    nearer s c.args.self.now.ends c.loop-worker.worker c.in-Open.next still

@@ -1,4 +1,4 @@
-use Rattle.pagable_traits.proofs.{Joined.held_means, Parts.{ok_along, err_along, some_along, refused_along}}
+use Rattle.pagable_traits.proofs.Parts.{err_along, held_means, ok_along, refused_along, some_along}
 use Rattle.pagable_traits.proofs.impls.holders.OnceLockPagableSerialize.pagable_serialize.Goals as goal
 
 pub returns-clause-ok : goal.returns-clause-ok

@@ -1,4 +1,4 @@
-use Rattle.pagable_traits.proofs.Collecting.{array_made}
+use Rattle.pagable_traits.proofs.Items.{array_made}
 use Rattle.pagable_traits.proofs.impls.lists.ArrayPagableDeserialize.pagable_deserialize.Goals as goal
 
 pub unwrap-requires : goal.unwrap-requires

@@ -1,4 +1,4 @@
-use Rattle.pagable_traits.proofs.{Words.{some, pairs, ordered, ordering_reverse}, Walks.shows_entries, Maps.{key_like, wraps_sorted_map}, Walks.owed-counted}
+use Rattle.pagable_traits.proofs.{Items.{owed-counted, shows_entries}, Maps.{key_like, wraps_sorted_map}, Words.{ordered, ordering_reverse, pairs, some}}
 use Rattle.pagable_traits.proofs.impls.maps.BTreeMapPagableSerialize.pagable_serialize.Goals as goal
 
 pub returns : goal.returns

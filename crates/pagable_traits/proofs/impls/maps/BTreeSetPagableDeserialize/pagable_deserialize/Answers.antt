@@ -1,4 +1,4 @@
-use Rattle.pagable_traits.proofs.{Words.{ordered, ordering_reverse}, Maps.key_like, Sets.reads_sorted_set}
+use Rattle.pagable_traits.proofs.{Maps.{key_like, reads_sorted_set}, Words.{ordered, ordering_reverse}}
 use Rattle.pagable_traits.proofs.impls.maps.BTreeSetPagableDeserialize.pagable_deserialize.Goals as goal
 
 pub returns-clause-gives : goal.returns-clause-gives

@@ -1,4 +1,4 @@
-use Rattle.pagable_traits.proofs.{Words.{some, ordered, ordering_reverse}, Walks.shows_items, Maps.key_like, Sets.wraps_sorted_set, Walks.owed-counted}
+use Rattle.pagable_traits.proofs.{Items.{owed-counted, shows_items}, Maps.{key_like, wraps_sorted_set}, Words.{ordered, ordering_reverse, some}}
 use Rattle.pagable_traits.proofs.impls.maps.BTreeSetPagableSerialize.pagable_serialize.Goals as goal
 
 pub returns : goal.returns

@@ -1,4 +1,4 @@
-use Rattle.pagable_traits.proofs.{Words.{some, pairs, same_key}, Walks.shows_entries, Maps.key_like, Hashed.wraps_hash_map, Walks.owed-counted}
+use Rattle.pagable_traits.proofs.{Hashed.wraps_hash_map, Items.{owed-counted, shows_entries}, Maps.key_like, Words.{pairs, same_key, some}}
 use Rattle.pagable_traits.proofs.impls.maps.HashMapPagableSerialize.pagable_serialize.Goals as goal
 
 pub returns : goal.returns

@@ -1,4 +1,4 @@
-use Rattle.pagable_traits.proofs.{Words.{some, pairs, same_key}, Walks.shows_entries, Maps.{key_like, wraps_placed_map}, Walks.owed-counted}
+use Rattle.pagable_traits.proofs.{Items.{owed-counted, shows_entries}, Maps.{key_like, wraps_placed_map}, Words.{pairs, same_key, some}}
 use Rattle.pagable_traits.proofs.impls.maps.IndexMapPagableSerialize.pagable_serialize.Goals as goal
 
 pub returns : goal.returns

@@ -1,4 +1,4 @@
-use Rattle.pagable_traits.proofs.{Words.same_key, Maps.key_like, Sets.reads_placed_set}
+use Rattle.pagable_traits.proofs.{Maps.{key_like, reads_placed_set}, Words.same_key}
 use Rattle.pagable_traits.proofs.impls.maps.IndexSetPagableDeserialize.pagable_deserialize.Goals as goal
 
 pub returns-clause-gives : goal.returns-clause-gives

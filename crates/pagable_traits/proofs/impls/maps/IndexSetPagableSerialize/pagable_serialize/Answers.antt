@@ -1,4 +1,4 @@
-use Rattle.pagable_traits.proofs.{Words.{some, same_key}, Walks.shows_items, Maps.key_like, Sets.wraps_placed_set, Walks.owed-counted}
+use Rattle.pagable_traits.proofs.{Items.{owed-counted, shows_items}, Maps.{key_like, wraps_placed_set}, Words.{same_key, some}}
 use Rattle.pagable_traits.proofs.impls.maps.IndexSetPagableSerialize.pagable_serialize.Goals as goal
 
 pub returns : goal.returns

@@ -1,0 +1,316 @@
+-- What writing a JSON value adds: its case, and a form of its part; and which values have no form.
+-- What reading a JSON value gives: its case, and then its part.
+use Rattle.pagable_codec.specs.declared.{deserializer.PagableDeserializer.Ghosts as Deserializers, env.Env.Ghosts as Environments, serializer.PagableSerializer.Ghosts as Serializers}
+use Rattle.pagable_model.specs.Form.{json-array-form, json-flag-form, json-null-form, json-number-form, json-object-form, json-text-form}
+use Rattle.{pagable_model.specs.{Keyed.text_is_ordered, Lifted.{list_single, pair_single}, Numbers.{IsSigned, unsigned_form, varint}, Reading.{below, json_case}}, pagable_traits.proofs.Items.Wraps}
+use Rattle.pagable_traits.proofs.{Items.{gives-seen, refuses-items, refuses-long, wraps_list, writes-counted}, JsonSteps.{below as one_down, deeper, wrote-err}, Maps.{IsOrderOf, Written, key_like}}
+use Rattle.pagable_traits.proofs.{Maps.{reads-entries, sorted-map-put, viewed, wraps_sorted_map}, Parts.{err_along, ok_along, refuses_whole, writes_whole}, Words.{Answer, ArcRef, Bool, Context}}
+use Rattle.pagable_traits.proofs.Words.{Entry, Err, Error, FormAt, Gave, GivesSome, Global, Grows, IfErr, Is, IsStrictlySortedBy, List, MeanAll, Meaning, MeansList, MeansPair, MovesOn, Nesting}
+use Rattle.pagable_traits.proofs.Words.{NoForm, None, Ok, OnOk, Option, Out, Piece, Reads, Refused, Rest, Result, Shape, Some, SomeMeaning, String, Value, Vec, WritesSome, Wrote, [], added, all, ap}
+use Rattle.pagable_traits.proofs.Words.{arith, array_case, as_i64, bool_form, both, bytes, bytes_of, deepest, entry, false, flag, flag-form, grows_refl, grows_trans, handles_at, inl, inr, integer}
+use Rattle.pagable_traits.proofs.Words.{items, items_have_meanings, json, json_causes, keys_of, length, length_at, length_form, list, list-form, long_or, long_or_memory, longest, map, memory}
+use Rattle.pagable_traits.proofs.Words.{memory_refuses, moves_trans, none, number_view, object_case, of_data, of_entries, of_key, of_value, ordered, ordering_reverse, pair, pair_has_meaning, pos}
+use Rattle.pagable_traits.proofs.Words.{put_all, put_sorted, read, read_with, refl, refused_memory, rules, seen, sequence, signed, signed-form, sorted-map-form, sorted_map, string_bytes, string_cmp}
+use Rattle.pagable_traits.proofs.Words.{subst, suc, sym, text, text-form, text_form, text_order, then, to_z-of_z, true, unsigned_at, variant, view, w64, ℕ, ℤ, ◌++◌, ◌+◌, ◌-◌, ◌<◌, ◌^◌, ◌∙◌, ◌∷◌, ◌≡◌}
+use Rattle.{pagable_traits.{proofs.Words.◌≤◌, specs.{JsonData.{long_or_no_memory, part_at}, JsonSteps.{ObjectOf, front, part_of, value as form}}}, serde_json.proofs.Views.{view-Array, view-Object}}
+use Rattle.serde_json.specs.{Data.{Data, Num, array, boolean, null, number, object, string}, Find.of_integer, View.{items_view, members_view}, declared.number.Number.Number}
+use Rattle.{serde_json.specs.declared.value.Value.the_lemmas, std.{proofs.{Common.BTreeMap, lemmas.Bool.{lt-ltb, ne_eqb}}, specs.{Prelude.{nat_lt, negsuc}, String.string_cmp_total}}}
+use Rattle.serde_json.specs.Data as kit
+use Rattle.serde_json.specs.declared.value.Value as values
+use Rattle.pagable_model.specs.Meaning as meanings
+
+-- a case below 128 is its byte
+pub case-byte : (case : ℕ) → nat_lt case 128 ≡ true → unsigned_form w64 case ≡ case ∷ []
+unfolding varint
+case-byte case small = rw small refl
+
+-- ---- a value is its case and a value of another shape
+
+module _ (n : Nesting) where
+  flag-up : {m : Meaning ArcRef} {b : List ℕ} {k : List ArcRef} → FormAt n flag m b k → FormAt n json (variant 1 m) (1 ∷ b) k
+  flag-up (flag-form l x) = json-flag-form _ x
+
+  number-up : {m : Meaning ArcRef} {b : List ℕ} {k : List ArcRef} → FormAt n (signed w64) m b k → FormAt n json (variant 2 m) (2 ∷ 0 ∷ b) k
+  number-up (signed-form l w z within) = json-number-form _ z within
+
+  text-up : {m : Meaning ArcRef} {b : List ℕ} {k : List ArcRef} → FormAt n text m b k → FormAt n json (variant 3 m) (3 ∷ b) k
+  text-up (text-form l t u le) = json-text-form _ t u le
+
+  array-up : n.levels < deepest → {m : Meaning ArcRef} {b : List ℕ} {k : List ArcRef} → FormAt (deeper n) (list json) m b k → FormAt n json (variant 4 m) (4 ∷ b) k
+  array-up lt (list-form l s ms b k le f) = json-array-form _ _ ms b k (omega arith) le f
+
+  object-up : n.levels < deepest → {m : Meaning ArcRef} {b : List ℕ} {k : List ArcRef} → FormAt (deeper n) (sorted_map text_order text json) m b k → FormAt n json (variant 5 m) (5 ∷ b) k
+  object-up lt (sorted-map-form l o s t es b k le up f) = json-object-form _ _ es b k (omega arith) le up f
+
+  no-text : (m : Meaning ArcRef) → NoForm n text m → NoForm n json (variant 3 m)
+  no-text m lack b k f = go f refl
+    where
+      go : {x : Meaning ArcRef} {b : List ℕ} {k : List ArcRef} → FormAt n json x b k → x ≡ variant 3 m → ⊥
+      go (json-text-form l t u le) e = let same : meanings.text t ≡ m = cc in let P : Meaning ArcRef → Type 0 = λ x. FormAt n text x (text_form t) [] in lack _ [] (subst P same (text-form _ t u le))
+      go f e = absurd cc
+
+  no-array : (m : Meaning ArcRef) → NoForm (deeper n) (list json) m → NoForm n json (variant 4 m)
+  no-array m lack b k f = go f refl
+    where
+      go : {x : Meaning ArcRef} {b : List ℕ} {k : List ArcRef} → FormAt n json x b k → x ≡ variant 4 m → ⊥
+      go (json-array-form l less ms c j p le f) e =
+          let same : sequence ms ≡ m = cc in
+          let here : less ≡ deepest - (n.levels + 1) = omega arith in
+          let P : Meaning ArcRef → Type 0 = λ x. FormAt (deeper n) (list json) x (length_form (length ms) ++ c) j in
+          lack _ j (subst P same (list-form _ json ms c j le (rw here at f)))
+      go f e = absurd cc
+
+  no-object : (m : Meaning ArcRef) → NoForm (deeper n) (sorted_map text_order text json) m → NoForm n json (variant 5 m)
+  no-object m lack b k f = go f refl
+    where
+      go : {x : Meaning ArcRef} {b : List ℕ} {k : List ArcRef} → FormAt n json x b k → x ≡ variant 5 m → ⊥
+      go (json-object-form l less es c j p le up f) e =
+          let same : of_entries es ≡ m = cc in
+          let here : less ≡ deepest - (n.levels + 1) = omega arith in
+          let P : Meaning ArcRef → Type 0 = λ x. FormAt (deeper n) (sorted_map text_order text json) x (length_form (length es) ++ c) j in
+          lack _ j (subst P same (sorted-map-form _ text_order text json es c j le up (rw here at f)))
+      go f e = absurd cc
+
+  no-deep-array : (m : Meaning ArcRef) → deepest ≤ n.levels → NoForm n json (variant 4 m)
+  no-deep-array m le b k f = grind arith
+
+  no-deep-object : (m : Meaning ArcRef) → deepest ≤ n.levels → NoForm n json (variant 5 m)
+  no-deep-object m le b k f = grind arith
+
+-- ---- numbers
+
+-- a number that 64 bits with a sign hold is whole
+pub whole_number : (x : Num) (z : ℤ) → as_i64 x ≡ Some z → of_data (number x) ≡ variant 2 (integer z)
+whole_number x z e = grind arith
+
+number-within : (n : Nesting) (z : ℤ) {m : Meaning ArcRef} {b : List ℕ} {k : List ArcRef} → FormAt n json m b k → m ≡ variant 2 (integer z) → IsSigned w64 z
+number-within n z f e = grind arith
+
+no-float : (n : Nesting) (x : _) → (as_i64 (kit.float x) ≡ (let o : Option ℤ = None in o)) → NoForm n json (of_data (number (kit.float x)))
+no-float n x e b k f = grind arith
+
+-- a number that they don't hold has no form
+no-number : (n : Nesting) (x : Num) → (as_i64 x ≡ (let o : Option ℤ = None in o)) → NoForm n json (of_data (number x))
+no-number n (kit.unsigned y) e b k f =
+    let same : nat_lt y (2 ^ 63) ≡ true = lt-ltb y (2 ^ 63) (number-within n (pos y) f refl) in
+    let some = rw same at e in absurd cc
+no-number n (kit.negative z) e b k f = absurd cc
+no-number n (kit.float x) e b k f = no-float n x e b k f
+
+pub refuses-number : (n : Nesting) (x : Num) (e : Error) → (as_i64 x ≡ (let o : Option ℤ = None in o)) → Refused (Is of_data (number x)) n json e
+refuses-number n x e h = λ fault. record { m = of_data (number x); is = refl; no_form = no-number n x h }
+
+-- ---- causes
+
+pub json-memory : (e : Error) → memory e → json_causes e
+json-memory e h = inr (inr (inr h))
+
+pub json-text : (e : Error) → long_or memory e → json_causes e
+json-text e h = grind arith
+
+pub json-long : (len : ℕ) (e : Error) → long_or_no_memory len e → json_causes e
+json-long len e h = grind arith
+
+pub json-deep : (e : Error) → e ≡ Error.TooDeep → json_causes e
+json-deep e h = inr (inl h)
+
+-- a count is refused as its length is, or by want of memory
+pub counts : (len : ℕ) (e : Error) → long_or_memory len e → long_or_no_memory len e
+counts len e h = grind arith
+
+-- what the items and the members of a value mean
+pub items-mean : (vs : List Value) → of_data (array (items_view vs)) ≡ variant 4 (sequence (map of_value vs))
+items-mean [] = grind arith
+items-mean (v ∷ vs) = grind (arith, items-mean vs)
+
+pub members-mean : (es : List (String Global × Value)) → of_data (object (members_view es)) ≡ variant 5 (sequence (map (λ e. pair (of_key e.0) (of_value e.1)) es))
+members-mean [] = grind arith
+members-mean (e ∷ es) = grind (arith, members-mean es)
+
+pub items-are : (vs : List Value) (m : Meaning ArcRef) → MeansList (Is of_value) vs m → variant 4 m ≡ of_data (array (items_view vs))
+items-are vs m h = ap (λ (x : Meaning ArcRef). variant 4 x) (list_single (Is of_value) of_value (λ v n is. is) vs m h) ∙ sym (items-mean vs)
+
+pub members-are : (es : List (String Global × Value)) (m : Meaning ArcRef) → MeansList (MeansPair (Is of_key) (Is of_value)) es m → variant 5 m ≡ of_data (object (members_view es))
+members-are es m h =
+    ap (λ (x : Meaning ArcRef). variant 5 x) (list_single (MeansPair (Is of_key) (Is of_value)) (λ e. pair (of_key e.0) (of_value e.1)) (pair_single (Is of_key) (Is of_value) of_key of_value (λ k n is. is) (λ v n is. is)) es m h) ∙ sym (members-mean es)
+
+-- ---- what a value holds
+
+pub seen-null : (v : Value) → v ≡ values.Null → view v ≡ null
+seen-null v is = rw is (search (rules, the_lemmas))
+
+pub seen-flag : (v : Value) (b : Bool) → v ≡ values.Bool b → view v ≡ boolean b
+seen-flag v b is = rw is (search (rules, the_lemmas))
+
+pub seen-number : (v : Value) (x : Number) → v ≡ values.Number x → view v ≡ number (number_view x)
+seen-number v x is = rw is (search (rules, the_lemmas))
+
+pub seen-text : (v : Value) (t : String Global) (b : List ℕ) → v ≡ values.String t → b ≡ string_bytes t → view v ≡ string b
+seen-text v t b is same = rw (is, same) (search (rules, the_lemmas))
+
+pub seen-array : (v : Value) (items : Vec Value Global) → v ≡ values.Array items → view v ≡ array (items_view items.items)
+seen-array v items is = rw is (view-Array items)
+
+pub seen-object : (v : Value) (members : BTreeMap (String Global) Value) → v ≡ values.Object members → view v ≡ object (members_view members.entries)
+seen-object v members is = rw is (view-Object members)
+
+-- ---- arrays and objects
+
+-- the order of the keys is that of their bytes
+pub keys-in-order : IsOrderOf (Is of_key) string_cmp text_order
+keys-in-order = key_like (Is of_key) of_key (λ k m is. is) string_cmp (ordered text_order) ordering_reverse (λ x y. text_is_ordered (string_bytes x) (string_bytes y)) string_cmp_total.antisymm
+
+pub value-has : (v : Value) → SomeMeaning (Is of_value v)
+value-has v = (of_value v, refl)
+
+pub member-has : (e : String Global × Value) → SomeMeaning (MeansPair (Is of_key) (Is of_value) e)
+member-has e = pair_has_meaning (Is of_key) (Is of_value) (λ k. (of_key k, refl)) value-has e
+
+-- of all members, those before left were written
+abbrev pub members-so-far : List (String Global × Value) → List (String Global × Value) → Piece
+members-so-far es left = record { wrote = λ n. Written (MeansPair (Is of_key) (Is of_value)) n (both text json) es left; lacks = λ n e. Unit {0} }
+
+-- what a case, a count and a part one level further down make of this data
+pub record HoldsBelow (case count : ℕ) (P : Piece) (d : Data) : Type 0 where
+  pub joins : (n : Nesting) (old mid new : Out) → (front case count).wrote n old mid → (one_down P).wrote n mid new → WritesSome (Is of_data d) n json old new
+  pub lacks : (n : Nesting) (e : Error) → (one_down P).lacks n e → Refused (Is of_data d) n json e
+  pub long : (n : Nesting) (e : Error) → long_or_no_memory count e → Refused (Is of_data d) n json e
+  pub deep : (n : Nesting) (e : Error) → deepest ≤ n.levels → Refused (Is of_data d) n json e
+
+module _ {X : Type 0} (M : X → Meaning ArcRef → Type 0) (has : (x : X) → SomeMeaning (M x)) (ys : List X) (case count : ℕ) (whole item : Shape) (d : Data) (is : (m : Meaning ArcRef) → MeansList M ys m → variant case m ≡ of_data d) where
+  holds-below : nat_lt case 128 ≡ true → count ≡ length ys → ((n : Nesting) → Wraps M ys (MeansList M ys) n whole item)
+      → ((n : Nesting) → n.levels < deepest → (m : Meaning ArcRef) (b : List ℕ) (k : List ArcRef) → FormAt (deeper n) whole m b k → FormAt n json (variant case m) (case ∷ b) k)
+      → ((n : Nesting) (m : Meaning ArcRef) → NoForm (deeper n) whole m → NoForm n json (variant case m))
+      → ((n : Nesting) (m : Meaning ArcRef) → deepest ≤ n.levels → NoForm n json (variant case m)) → HoldsBelow case count (all (MeanAll M ys) item) d
+  holds-below small counted wraps up lack deep = record {
+    joins = λ n old mid new f w.
+        let first = added old (case ∷ []) [] in
+        let part = writes-counted (wraps (deeper n)) (added old (case ∷ []) []) mid new count counted (rw (case-byte case small) at f.1) f.0 w.1 in
+        writes_whole n (deeper n) (λ m. variant case m) whole json (MeansList M ys) (Is of_data d) is (case ∷ []) old first new (up n w.0) refl part;
+    lacks = λ n e l. refuses n e lack (refuses-items (wraps (deeper n)) e l.1);
+    long = λ n e h. longer n e lack (wraps (deeper n)) h;
+    deep = λ n e le. λ fault. let each = items_have_meanings M has ys in record { m = variant case (sequence each.0); is = is _ (record { ms = each.0; each = each.1; is = refl }); no_form = deep n _ le };
+  }
+    where
+      refuses : (n : Nesting) (e : Error) → ((n : Nesting) (m : Meaning ArcRef) → NoForm (deeper n) whole m → NoForm n json (variant case m)) → Refused (MeansList M ys) (deeper n) whole e
+          → Refused (Is of_data d) n json e
+      refuses n e lack h = refuses_whole n (deeper n) (λ m. variant case m) whole json (MeansList M ys) (Is of_data d) is e (lack n) h
+
+      longer : (n : Nesting) (e : Error) → ((n : Nesting) (m : Meaning ArcRef) → NoForm (deeper n) whole m → NoForm n json (variant case m)) → Wraps M ys (MeansList M ys) (deeper n) whole item
+          → long_or_no_memory count e → Refused (Is of_data d) n json e
+      longer n e lack wraps h = grind (arith, refuses n e lack, refuses-long wraps has count counted, memory_refuses)
+
+pub arrays : (vs : List Value) (count : ℕ) → count ≡ length vs → HoldsBelow 4 count (all (MeanAll (Is of_value) vs) json) (array (items_view vs))
+arrays vs count counted =
+    holds-below (Is of_value) value-has vs 4 count (list json) json (array (items_view vs)) (items-are vs) refl counted (λ n. wraps_list (Is of_value) vs n json)
+    (λ n lt m b k f. array-up n lt f) no-array no-deep-array
+
+pub objects : (es : List (String Global × Value)) (count : ℕ) → count ≡ length es → IsStrictlySortedBy string_cmp (keys_of es)
+    → HoldsBelow 5 count (all (MeanAll (MeansPair (Is of_key) (Is of_value)) es) (both text json)) (object (members_view es))
+objects es count counted sorted =
+    holds-below (MeansPair (Is of_key) (Is of_value)) member-has es 5 count (sorted_map text_order text json) (both text json) (object (members_view es)) (members-are es) refl counted
+    (λ n. wraps_sorted_map (Is of_key) (Is of_value) string_cmp text_order keys-in-order es n text json sorted) (λ n lt m b k f. object-up n lt f) no-object no-deep-object
+
+-- ---- a case, and then a value of another shape
+
+module _ (n : Nesting) (old mid new : Out) where
+  pub flag_written : (b : Bool) → mid ≡ added old (unsigned_form w64 1) [] → WritesSome (Is meanings.flag b) n flag mid new → WritesSome (Is of_data (boolean b)) n json old new
+  flag_written b e w =
+      writes_whole n n (λ m. variant 1 m) flag json (Is meanings.flag b) (Is of_data (boolean b)) (λ m is. rw is refl) (1 ∷ []) old mid new (λ m b k f. flag-up n f) (rw (case-byte 1 refl) at e) w
+
+  pub number_written : (first : Out) (a : Num) (i : ℤ) → as_i64 a ≡ Some i → first ≡ added old (unsigned_form w64 2) [] → mid ≡ added first (bool_form false) []
+      → WritesSome (Is integer i) n (signed w64) mid new → WritesSome (Is of_data (number a)) n json old new
+  number_written first a i some e f w =
+      writes_whole n n (λ m. variant 2 m) (signed w64) json (Is integer i) (Is of_data (number a)) (λ m is. rw is (sym (whole_number a i some)))
+      (2 ∷ 0 ∷ []) old mid new (λ m b k f. number-up n f) ((then) old first mid _ _ _ _ (rw (case-byte 2 refl) at e) f) w
+
+  pub text_written : (t : String Global) → mid ≡ added old (unsigned_form w64 3) [] → WritesSome (Is of_key t) n text mid new → WritesSome (Is of_data (string (string_bytes t))) n json old new
+  text_written t e w =
+      writes_whole n n (λ m. variant 3 m) text json (Is of_key t) (Is of_data (string (string_bytes t))) (λ m is. rw is refl) (3 ∷ []) old mid new (λ m b k f. text-up n f) (rw (case-byte 3 refl) at e) w
+
+pub refused_string : {Z : Type 0} (r : Result Z Error) (t : String Global) (n : Nesting) → IfErr r (Refused (Is of_key t) n text) → IfErr r (Refused (Is of_data (string (string_bytes t))) n json)
+refused_string r t n h = err_along r h (λ e k. refuses_whole n n (λ m. variant 3 m) text json (Is of_key t) (Is of_data (string (string_bytes t))) (λ m is. rw is refl) e (no-text n) k)
+
+pub ruleset leaves = (ok_along, err_along, grows_trans, grows_refl, memory_refuses, refused_memory, flag_written, number_written, text_written, refused_string, refuses-number, json-memory, json-text, to_z-of_z)
+
+-- ---- steps of the code
+
+module _ {S E N H K V : Type 0} (env : Environments E N H K V) (s : Serializers S E N H K V) where
+  -- a value is what its data is
+  pub as-value : {Y : Type 0} {x y : S} (v : Value) (d : Data) (r : Result Y Error) → view v ≡ d → Wrote env s (form (Is of_data d) json) json_causes x y r → Wrote env s (form (Is of_value v) json) json_causes x y r
+  as-value {x = x} {y = y} v d r e h = let P : Data → Type 0 = λ z. Wrote env s (form (Is of_data z) json) json_causes x y r in subst P (sym e) h
+
+  pub null-value : {Y : Type 0} {x y : S} (v : Value) (r : Result Y Error) → v ≡ values.Null → Wrote env s (bytes (unsigned_form w64 0)) memory x y r → Wrote env s (form (Is of_value v) json) json_causes x y r
+  null-value v (Ok u) is p =
+      record { ok = record { m = variant 0 none; is = ap of_data (sym (seen-null v is)); wrote = record { bytes = 0 ∷ []; refs = []; form = json-null-form _; grown = rw (case-byte 0 refl) at p.ok } }; refused = tt; only = tt; err = p.err; same_env = p.same_env; same_levels = p.same_levels }
+  null-value v (Err e) is p = record { ok = tt; refused = memory_refuses e _ _ json p.only; only = json-memory e p.only; err = p.err; same_env = p.same_env; same_levels = p.same_levels }
+
+  pub count-wrote : {X Y : Type 0} {x y z : S} {u : X} (case count : ℕ) (r : Result Y Error) → Wrote env s (bytes (unsigned_form w64 case)) memory x y (Ok u) → OnOk r (s.out z ≡ added (s.out y) (length_form count) []) → OnOk r (count ≤ longest) → IfErr r (long_or_memory count) → Grows (s.out y) (s.out z)
+      → s.environment z ≡ s.environment y → s.levels z ≡ s.levels y → Wrote env s (front case count) (long_or_no_memory count) x z r
+  count-wrote case count r p ok within only err same_env same_levels = grind (arith, grows_trans, counts)
+
+pub ruleset write_cases = (null-value, as-value, seen-flag, seen-number, seen-text, seen-array, seen-object)
+
+pub ruleset fronts = (count-wrote, wrote-err)
+
+pub no-case : (n : ℕ) → 5 < n → json_case n ≡ Err Error.JsonCase
+no-case n lt = rw (ne_eqb n 0 (λ e. omega arith), ne_eqb n 1 (λ e. omega arith), ne_eqb n 2 (λ e. omega arith), ne_eqb n 3 (λ e. omega arith), ne_eqb n 4 (λ e. omega arith), ne_eqb n 5 (λ e. omega arith)) refl
+
+whole-means : (z : ℤ) → of_data (number (of_integer z)) ≡ variant 2 (integer z)
+whole-means (pos n) = refl
+whole-means (negsuc n) = refl
+
+-- what the values mean
+pub is-flag : (b : Bool) (m : Meaning ArcRef) → Is meanings.flag b m → Is of_value (values.Bool b) (variant 1 m)
+is-flag b m is = rw is (ap of_data (sym (seen-flag (values.Bool b) b refl)))
+
+pub is-text : (t : String Global) (m : Meaning ArcRef) → Is of_key t m → Is of_value (values.String t) (variant 3 m)
+is-text t m is = rw is (ap of_data (sym (seen-text (values.String t) t (string_bytes t) refl refl)))
+
+pub is-whole : (v : Value) (z : ℤ) (m : Meaning ArcRef) → view v ≡ number (of_integer z) → Is integer z m → Is of_value v (variant 2 m)
+is-whole v z m seen is = rw is (sym (ap of_data seen ∙ whole-means z))
+
+pub is-array : (v : Vec Value Global) (ms : List (Meaning ArcRef)) → MeanAll (Is of_value) v.items ms → Is of_value (values.Array v) (variant 4 (sequence ms))
+is-array v ms each = items-are v.items (sequence ms) (record { ms = ms; each = each; is = refl }) ∙ ap of_data (sym (seen-array (values.Array v) v refl))
+
+module _ (c : Context Answer ArcRef) (rest : Rest Answer) where
+  pub null-read : (v : Value) (n : ℕ) (mid : Rest Answer) → v ≡ values.Null → bytes_of (unsigned_at w64) (λ n. n) rest ≡ Ok (n, mid) → n ≡ 0 → Gave (Is of_value v) mid (read c json rest)
+  unfolding read read_with
+  null-read v n mid is e zero = record { m = variant 0 none; is = ap of_data (sym (seen-null v is)); gave = rw (e, zero) refl }
+
+module _ (levels : ℕ) (parts : ℕ → Shape) (rest : Rest Answer) where
+  module _ (count : ℕ) (mid : Rest Answer) (counted : bytes_of length_at (λ n. n) rest ≡ Ok (count, mid)) where
+    pub array-deep : deepest ≤ levels → part_at levels parts array_case rest ≡ Err Error.TooDeep
+    unfolding below
+    array-deep le = let left : deepest - levels ≡ 0 = omega arith in rw (left, counted) refl
+
+    pub object-deep : deepest ≤ levels → part_at levels parts object_case rest ≡ Err Error.TooDeep
+    unfolding below
+    object-deep le = let left : deepest - levels ≡ 0 = omega arith in rw (left, counted) refl
+
+    pub array-seen : levels < deepest → part_at levels parts array_case rest ≡ seen (λ ms. variant 4 (sequence ms)) (items (read (handles_at (levels + 1) parts) json) count) mid
+    unfolding read below
+    array-seen lt = let left : deepest - levels ≡ suc (deepest - (levels + 1)) = omega arith in rw (left, counted) refl
+
+    -- an object is a map one level further down
+    object-seen : levels < deepest → part_at levels parts object_case rest ≡ viewed (λ m. variant 5 m) (read (handles_at (levels + 1) parts) (sorted_map text_order text json) rest)
+    unfolding read read_with below
+    object-seen lt = let left : deepest - levels ≡ suc (deepest - (levels + 1)) = omega arith in rw (left, counted) (grind arith)
+
+    pub object-gives : (r : Result Value Error) (after : Rest Answer) → levels < deepest → GivesSome memory ObjectOf after r (items (read (handles_at (levels + 1) parts) (both text json)) count mid) → GivesSome memory (Is of_value) after r (part_at levels parts object_case rest)
+    unfolding read read_with
+    object-gives r after lt g =
+        let P : Result (Meaning ArcRef × Rest Answer) Error → Type 0 = λ o. GivesSome memory (Is of_value) after r o in
+        let map = reads-entries memory ObjectOf (λ v m. Is of_value v (variant 5 m)) (λ es. of_entries (put_all (put_sorted text_order) [] es)) means r (handles_at (levels + 1) parts) text json rest after (rw counted g) in
+        subst P (sym (object-seen lt)) (gives-seen memory (λ v m. Is of_value v (variant 5 m)) (Is of_value) (λ m. variant 5 m) after r _ (λ v m is. is) map)
+      where
+        means : (v : Value) (es : List (Entry ArcRef)) → ObjectOf v (map entry es) → Is of_value v (variant 5 (of_entries (put_all (put_sorted text_order) [] es)))
+        means v es o = members-are o.members.entries _ (sorted-map-put (Is of_key) (Is of_value) string_cmp text_order keys-in-order o.members.entries es o.each) ∙ ap of_data (sym (seen-object v o.members o.is))
+
+module _ {D E R N H K V : Type 0} (env : Environments E N H K V) (d : Deserializers D E R N H K V) where
+  -- members one level further down, after their count
+  pub object-read : {a b c : D} {count : ℕ} {r : Result Value Error} → bytes_of length_at (λ n. n) (d.rest a) ≡ Ok (count, d.rest b) → MovesOn (d.standing a) (d.standing b) → d.environment b ≡ d.environment a → d.levels b ≡ d.levels a → d.levels b < deepest
+      → Reads env d memory ObjectOf (λ x. items (read (record x { levels = x.levels + 1 }) (both text json)) count) b c r → Reads env d memory (Is of_value) (part_of object_case) a c r
+  object-read {a} {b} {c} {count} {r} told moves same_env same_levels lt q = grind (arith, object-gives)
+
+pub ruleset read_cases = (moves_trans, null-read, no-case, is-flag, is-text, is-whole, to_z-of_z)
