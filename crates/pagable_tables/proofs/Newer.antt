@@ -12,9 +12,8 @@ use Rattle.pagable_tables.proofs.Words.{is_owner, is_pin, is_pinning, is_plain_p
 use Rattle.pagable_tables.proofs.Words.{loses_value, mode_of, moved, nat_eq, nat_lt, nat_tests, next_node, nobody, not, one, option_map, owner_value, owner_worker, owns_nothing, passes_in, pins}
 use Rattle.pagable_tables.proofs.Words.{plain_of, reach_at, references_fault, refl, refs_at, row_of, sharing, slice_get, slice_get-get_or, subst, suc, sum_by, sum_by-append, sum_by-cons}
 use Rattle.pagable_tables.proofs.Words.{sum_by-le-sum_by, sum_by_push, sym, take, times, true, updated, with_handle, with_mode, with_node, with_worker, ℕ, ◌&&◌, ◌++◌, ◌+◌, ◌-◌, ◌<◌, ◌==◌, ◌||◌, ◌∙◌}
-use Rattle.pagable_tables.{proofs.{Words.{◌∷◌, ◌≡◌, ◌≢◌, ◌≤◌, ◌⊎◌}, Worlds.{born-past, named-none, named-take, next-past, owner-same, owner-self, room-alike, same-cache}}, specs.Becoming.Becomes}
-use Rattle.pagable_tables.specs.{Becoming.Widens, Core.{Does, DoesShed, IsWhole, TakesWorker, gives}, Doing.{Does, DoesShed}, Falling.{Becomes, Widens}, Giving.gives}
-use Rattle.pagable_world.specs.Workers.{is_load_of}
+use Rattle.pagable_tables.{proofs.{Words.{◌∷◌, ◌≡◌, ◌≢◌, ◌≤◌, ◌⊎◌}, Worlds.{born-past, named-none, named-take, next-past, owner-same, owner-self, room-alike, same-cache}}, specs.Core.Does}
+use Rattle.{pagable_tables.specs.{Core.{DoesShed, IsWhole, TakesWorker, gives}, Falling.{Becomes, Widens}}, pagable_world.specs.Workers.is_load_of}
 use Rattle.pagable_world.specs.Pager as pager
 
 -- what is counted of handles whoever owns them
