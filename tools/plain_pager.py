@@ -24,8 +24,7 @@ class Refused(Exception):
         self.number, self.told, self.back = number, told, back
 
     def text(self):
-        words = ["refused", str(self.number)] + ([] if self.told is None else [str(self.told)])
-        return " ".join(words + (["back"] if self.back else []))
+        return f"refused {self.number}" + ("" if self.told is None else f" {self.told}") + " back" * self.back
 
 
 def refuse_first(causes, back=False):
@@ -175,18 +174,15 @@ class RowTypes:
 
 
 class Storage:
-    """A map of blobs, of which one call may fail once, after so many others; or which is closed."""
+    """A map of blobs, of which one call may fail once, after so many others, but for -1; or which is closed."""
 
-    def __init__(self, calls_before=None, closed=False, key_of=Blob.key):
+    def __init__(self, calls_before=-1, closed=False, key_of=Blob.key):
         self.blobs, self.calls_before, self.closed, self.key_of = {}, calls_before, closed, key_of
 
     def called(self):
-        if self.calls_before is None:
-            return
-        if self.calls_before == 0:
-            self.calls_before = None
-            raise Refused(STORAGE, 7)
         self.calls_before -= 1
+        if self.calls_before == -1:
+            raise Refused(STORAGE, 7)
 
     def fetch(self, key):
         self.called()
@@ -225,14 +221,14 @@ class Handle:
 
 @dataclass
 class Load:
-    """An open load: who began it, by which handle of which cell, or by neither; its root; and how far a machine has got."""
+    """An open load: who began it, by which handle of which cell, or by neither; its root; and how far a machine has got: its walk and how many steps."""
 
     by: object
     begun_by: int
     node: int
     key: int
     node_type: int
-    frames: list = field(default_factory=list)
+    walk: object = None
     steps: int = 0
 
 
@@ -249,8 +245,8 @@ class Slot:
         return self.key is None and not self.failed
 
 
-class Tables:
-    """Cells, handles, the list, the cache and open loads by their numbers, and the steps that calls share."""
+class Pager:
+    """Cells, handles, the list, the cache and open loads by their numbers, the steps that calls share, and the calls, a method for each."""
 
     def __init__(self, storage):
         self.storage, self.closed = storage, storage.closed
@@ -309,12 +305,6 @@ class Tables:
     def is_away(self, node):
         return self.cells[node].value is None
 
-    def usable(self, kind, key):
-        """The node that the cache has, if it is live and, for a Pinned reference, in memory; else None."""
-        node = self.cache.get((kind, key))
-        gone = node not in self.cells or mode_of(kind) == PINNED and self.is_away(node)
-        return None if gone else node
-
     # ---- what changes
 
     def give(self, node, mode, owner=None):
@@ -333,9 +323,16 @@ class Tables:
         for _, number in value.references if value else []:
             self.handles[number].owner = ("value", node)
 
+    def cached(self, kind, key, owner=None):
+        """A handle of the node that the cache has, if it is live and, for a Pinned reference, in memory; else None."""
+        node = self.cache.get((kind, key))
+        gone = node not in self.cells or mode_of(kind) == PINNED and self.is_away(node)
+        return None if gone else self.give(node, mode_of(kind), owner)
+
     def record(self, kind, key, number):
         if not self.closed:
             self.cache[kind, key] = self.handles[number].node
+        return number
 
     def fall(self, number):
         """A handle is given up. A node without handles is gone, and what its value refers to falls too."""
@@ -372,59 +369,47 @@ class Tables:
         for handle in [n for n, h in self.handles.items() if h.owner == ("load", number)]:
             self.fall(handle)
 
-
-class Pager(Tables):
-    """The calls, a method for each: first those on loads."""
+    # ---- the calls on loads
 
     def load_begin(self, number):
         handle = self.own(number, *LOOSE)
         if not self.is_away(handle.node):
             return "memory"
         cell = self.cells[handle.node]
-        self.last_load += 1
-        self.give(handle.node, LOOSE_UNPINNED, ("load", self.last_load))
-        self.loads[self.last_load] = Load(self.me, number, handle.node, cell.key, cell.node_type)
-        return "load", self.last_load, cell.key
+        self.give(handle.node, LOOSE_UNPINNED, ("load", self.last_load + 1))
+        return self.load_key(cell.key, cell.node_type, number, handle.node)
 
-    def load_key(self, key, node_type=None):
+    def load_key(self, key, node_type=None, begun_by=None, node=None):
         """The type of the root is known to a machine alone."""
         self.last_load += 1
-        self.loads[self.last_load] = Load(self.me, None, None, key, node_type)
+        self.loads[self.last_load] = Load(self.me, begun_by, node, key, node_type)
         return "load", self.last_load, key
 
     def load_fetch(self, load, kind=None, key=None):
         """The root's blob, if no kind is told. Else a handle of what the cache has, or the blob under the key."""
         row = self.open(load)
-        node = None if kind is None else self.usable(kind, key)
-        if node is not None:
-            return self.give(node, mode_of(kind), ("load", load))
-        return self.storage.fetch(row.key if kind is None else key)
+        if kind is None:
+            return self.storage.fetch(row.key)
+        return self.cached(kind, key, ("load", load)) or self.storage.fetch(key)
 
     def load_adopt(self, load, kind, key, value):
         """A node for a reference that is read with its value; or what the cache has, and then the value is dropped."""
         owner = ("load", load)
         refuse_first([self.foreign(load), WRONG_MODE if is_lazy(kind) else None, None if value.node_type == type_of(kind) else WRONG_KIND,
                       self.cause_of_references(owner, value.references)], back=True)
-        node = self.usable(kind, key)
-        if node is not None:
-            number = self.give(node, mode_of(kind), owner)
+        number = self.cached(kind, key, owner)
+        if number:
             self.drop(value)
             return number
-        number = self.bear(Cell(value.node_type, None if mode_of(kind) == SHARED else key, value), mode_of(kind), owner)
-        self.record(kind, key, number)
-        return number
+        return self.record(kind, key, self.bear(Cell(value.node_type, None if mode_of(kind) == SHARED else key, value), mode_of(kind), owner))
 
     def load_lazy(self, load, kind, key):
         """A handle of a cell that isn't fetched."""
         self.open(load)
         if not is_lazy(kind):
             raise Refused(WRONG_KIND)
-        node, owner = self.usable(kind, key), ("load", load)
-        if node is not None:
-            return self.give(node, LOOSE_UNPINNED, owner)
-        number = self.bear(Cell(type_of(kind), key, None), LOOSE_UNPINNED, owner)
-        self.record(kind, key, number)
-        return number
+        owner = ("load", load)
+        return self.cached(kind, key, owner) or self.record(kind, key, self.bear(Cell(type_of(kind), key, None), LOOSE_UNPINNED, owner))
 
     def load_end(self, load, value):
         """What the load's row says is looked at first, and gives the value back; then the handle that began it."""
@@ -541,21 +526,19 @@ class Pager(Tables):
         return number
 
     def cache_get(self, kind, key):
-        node = self.usable(kind, key)
-        return "none" if node is None else self.give(node, mode_of(kind))
+        return self.cached(kind, key) or "none"
 
     def on_arc_deserialized(self, kind, key, number):
         """None, and the node is recorded; or a handle of what the cache has, and then the other falls. Once the pager is closed, the handle itself."""
         refuse_first([self.cause(number, CALLER, modes_of(kind), type_of(kind))])
         if self.closed:
             return number
-        node = self.usable(kind, key)
-        if node is None:
-            self.record(kind, key, number)
-            return "none"
-        found = self.give(node, mode_of(kind))
-        self.fall(number)
-        return found
+        found = self.cached(kind, key)
+        if found:
+            self.fall(number)
+            return found
+        self.record(kind, key, number)
+        return "none"
 
     def cache_clear(self):
         self.cache = {}
@@ -570,20 +553,6 @@ class Pager(Tables):
         self.cache, listed, self.list = {}, self.list, []
         for number in listed:
             self.fall(number)
-
-
-class Frame:
-    """A blob that is being read for a reference, or for the root; it waits for the handle of its next reference."""
-
-    def __init__(self, reading, kind=None, key=None):
-        self.reading, self.kind, self.key, self.found = reading, kind, key, None
-
-    def read_on(self):
-        """The kind and key of the next reference, or the value that the blob reads as."""
-        try:
-            return self.reading.send(self.found)
-        except StopIteration as end:
-            return end.value
 
 
 class Stopped(Exception):
@@ -643,9 +612,7 @@ class Worker:
     def listed(self):
         entry, node = self.entry, self.pager.node_of(self.entry)
         kind = 3 * self.pager.node_live(node) + 1
-        found = yield from self.claim(kind, node, entry, 0)
-        if not found:
-            found = yield from self.page_out(kind, node, entry, 0)
+        found = (yield from self.claim(kind, node, entry, 0)) or (yield from self.page_out(kind, node, entry, 0))
         yield from self.do("release", (kind, node), lambda: (self.give_up(node) or found[0], ""), is_last=True)
 
     def children(self, references, place):
@@ -681,8 +648,9 @@ class Worker:
         data, references = yield from self.do("write", identity, lambda: self.write(self.pager.value(held)))
         keys, height = yield from self.children(references, place)
         key = yield from self.do("store", identity, lambda: self.store(data, keys))
-        yield from self.do("set", identity, lambda: (self.set_key(kind, node, key), ""))
-        yield from self.do("publish", identity, lambda: self.publish(identity, key, height))
+        # (only a cell gets its key, by the clone that the worker made)
+        yield from self.do("set", identity, lambda: (self.pager.set_data_key(self.clones[identity], key), ""))
+        yield from self.do("publish", identity, lambda: (self.slots.update({identity: Slot(self.number, key, height)}), f"{key} {height}"))
         return key, height
 
     # ---- the calls
@@ -728,20 +696,12 @@ class Worker:
         return (begun, "went") if end is None else (end, f"held {end}")
 
     def write(self, value):
-        data, references = self.machine.types.write(value), [(kind, self.pager.node_of(number), number) for kind, number in value.references]
+        data, references = RowTypes.write(value), [(kind, self.pager.node_of(number), number) for kind, number in value.references]
         told = ",".join(":".join(map(str, reference)) for reference in references)
         return (data, references), f"0x{data.hex()}:{told}"
 
     def store(self, data, keys):
         return (self.pager.store(Blob(data, tuple(keys))),) * 2
-
-    def set_key(self, kind, node, key):
-        """Only a cell gets it, by the clone that the worker made."""
-        self.pager.set_data_key(self.clones[kind, node], key)
-
-    def publish(self, identity, key, height):
-        self.slots[identity].key, self.slots[identity].height = key, height
-        return None, f"{key} {height}"
 
     def give_up(self, node=None):
         """What the worker holds of a node, or of all, falls: the cells in their order, which is open."""
@@ -766,8 +726,8 @@ class Machine:
     """A pager that is driven by events: a call, the begin of a load, a load's next step, a table of page-out, a worker on it, or a
     worker's next step."""
 
-    def __init__(self, pager, types=RowTypes):
-        self.pager, self.types, self.tables, self.workers = pager, types, [], []
+    def __init__(self, pager):
+        self.pager, self.tables, self.workers = pager, [], []
 
     def table_new(self):
         """Slots by identity, and for each worker that waits the identity for which it does."""
@@ -800,42 +760,39 @@ class Machine:
         row = self.pager.open(load)
         if row.node_type is None:
             raise Refused(WRONG_MODE)
-        row.steps += 1
+        row.steps, row.walk = row.steps + 1, row.walk or self.root(load, row)
         try:
-            return row.steps, self.step(load, row)
+            return row.steps, next(row.walk)
         except Refused as refusal:
             if load in self.pager.loads:
                 self.pager.close_load(load)
             return row.steps, refusal
 
-    def step(self, load, row):
-        """Reads as far as the next fetch or adoption and does that one, or ends the load."""
-        if not row.frames:
-            row.frames.append(Frame(self.types.read(row.node_type, self.pager.load_fetch(load))))
-            return None
-        frame = row.frames[-1]
-        read = frame.read_on()
-        if not isinstance(read, Value):
-            self.follow(load, row, *read)
-        elif len(row.frames) > 1:
-            row.frames[-2].found = self.pager.load_adopt(load, frame.kind, frame.key, read)
-            row.frames.pop()
-        elif row.begun_by is None:
-            self.pager.load_take(load, *[number for _, number in read.references])
-            return read
+    def root(self, load, row):
+        """The steps of a load: it fetches its root's blob, reads that, and ends. Each gives None, and the last what ended the load."""
+        blob = self.pager.load_fetch(load)
+        yield None
+        value = yield from self.read(load, row.node_type, blob, 1)
+        if row.begun_by is None:
+            self.pager.load_take(load, *[number for _, number in value.references])
+            yield value
         else:
-            return self.pager.load_end(load, read)
-        return None
+            yield self.pager.load_end(load, value)
 
-    def follow(self, load, row, kind, key):
-        """A lazy reference gets its handle; for another the cache or the storage is asked. A path has at most 128 of these."""
-        if is_lazy(kind):
-            row.frames[-1].found = self.pager.load_lazy(load, kind, key)
-            return
-        found = self.pager.load_fetch(load, kind, key)
-        if isinstance(found, int):
-            row.frames[-1].found = found
-        elif len(row.frames) > DEEPEST:
-            raise Refused(TOO_DEEP)
-        else:
-            row.frames.append(Frame(self.types.read(type_of(kind), found), kind, key))
+    def read(self, load, node_type, blob, level):
+        """Reads a blob, by a step for each reference: a lazy one gets its handle, and for another the cache or the storage is asked, and what a blob
+        reads as is adopted by one more. A path has at most 128 blobs below the root's."""
+        reading, found = RowTypes.read(node_type, blob), None
+        while True:
+            try:
+                kind, key = reading.send(found)
+            except StopIteration as end:
+                return end.value
+            found = self.pager.load_lazy(load, kind, key) if is_lazy(kind) else self.pager.load_fetch(load, kind, key)
+            if isinstance(found, Blob):
+                if level > DEEPEST:
+                    raise Refused(TOO_DEEP)
+                yield None
+                value = yield from self.read(load, type_of(kind), found, level + 1)
+                found = self.pager.load_adopt(load, kind, key, value)
+            yield None

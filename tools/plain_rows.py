@@ -10,6 +10,7 @@ A row is one line: a new machine, a look, or calls parted by semicolons. docs/PR
 
 import random
 import sys
+from functools import partial
 
 sys.dont_write_bytecode = True
 from plain_pager import CALLER, LOOSE_PINNED, Blob, Machine, Pager, Refused, RowTypes, Storage, Value, modes_of, type_of
@@ -30,7 +31,7 @@ class Rows:
         self.start("")
 
     def start(self, storage):
-        calls_before = int(storage) if storage.isdigit() else None
+        calls_before = int(storage) if storage.isdigit() else -1
         self.pager = Pager(Storage(calls_before, storage == "closed", Blob.sha256_key if storage == "sha256" else Blob.key))
         self.machine = Machine(self.pager)
 
@@ -99,13 +100,10 @@ class Rows:
         if node_type == RowTypes.BYTES:
             return Value(node_type, bytes.fromhex(content))
         tag, _, words = content.rpartition("/")
-        found = [self.reference(*reference) for reference in references(words)]
+        # A handle that isn't of the node that is told counts as none.
+        nodes = {number: handle.node for number, handle in self.pager.handles.items()}
+        found = [(kind, number if nodes.get(number) == node else 0) for kind, node, number in references(words)]
         return Value(node_type, int(tag or 0) if node_type == RowTypes.MIXED else None, found)
-
-    def reference(self, kind, node, number):
-        """A handle that isn't of the node that is told counts as none."""
-        handle = self.pager.handles.get(number)
-        return kind, number if handle and handle.node == node else 0
 
     def spelled(self, value):
         """A value as rows spell it, but for its type."""
@@ -199,23 +197,18 @@ class Draw:
                 yield f"release {pinned[3:]}"
             yield f"release {entry}"
 
-    def load(self):
-        begun = yield f"load_begin {self.handle()}"
+    def load(self, of_key=False):
+        """A load of a cell, which gets a value, or of a key, of which some handles are taken."""
+        begun = yield f"load_key {self.key()}" if of_key else f"load_begin {self.handle()}"
         if begun.startswith("load"):
-            load = begun.split()[1]
-            for _ in range(self.random.randrange(3)):
+            load, owner = begun.split()[1], ("load", int(begun.split()[1]))
+            for _ in range(self.random.randrange(5 if of_key else 3)):
                 yield self.asking(load)
-            yield f"load_fetch {load}"
-            yield f"load_end {load} {self.value(('load', int(load)), self.plain.pager.loads.get(int(load)))}"
-
-    def reading(self):
-        """A load of a key, of which some handles are taken."""
-        begun = yield f"load_key {self.key()}"
-        if begun.startswith("load"):
-            load = begun.split()[1]
-            for _ in range(self.random.randrange(5)):
-                yield self.asking(load)
-            yield f"load_take {load} {' '.join(map(str, self.own(('load', int(load)))[:self.random.randrange(4)]))}".strip()
+            if of_key:
+                yield f"load_take {load} {' '.join(map(str, self.own(owner)[:self.random.randrange(4)]))}".strip()
+            else:
+                yield f"load_fetch {load}"
+                yield f"load_end {load} {self.value(owner, self.plain.pager.loads.get(owner[1]))}"
 
     def asking(self, load):
         """A load asks for a reference, or makes a node of one."""
@@ -417,7 +410,7 @@ class Draw:
         self.types[int(answer[3:])] = value.node_type
         return int(answer[3:])
 
-    PLANS = [page_out, load, load, reading, reading, grow, grow, loading, loading, loading, settling, listing, listing, working, working, working]
+    PLANS = [page_out, load, load, *[partial(load, of_key=True)] * 2, grow, grow, loading, loading, loading, settling, listing, listing, working, working, working]
 
 
 def main(words):

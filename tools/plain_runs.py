@@ -17,7 +17,6 @@ from plain_rows import Rows
 
 TEXT, MIXED, LINK, ARC_LINK = range(4)
 TYPES = {TEXT: RowTypes.NAME, MIXED: RowTypes.MIXED, LINK: RowTypes.LINK, ARC_LINK: RowTypes.ARC_LINK}
-LISTS = (3, 4, 5, 1, 0)
 
 
 def kind_here(kind):
@@ -64,7 +63,7 @@ class Run:
         for kind, node, _ in (word.split(":") for word in words.split(",") if word):
             references.append({"kind": KINDS[int(kind)], "node": labels.setdefault(node, len(labels))})
         if node_type == RowTypes.MIXED:
-            return {"type": MIXED, "value": [tag or "0"] + [[r for r in references if r["kind"] == kind] for kind in LISTS]}
+            return {"type": MIXED, "value": [tag or "0"] + [[r for r in references if r["kind"] == KINDS[kind]] for kind in RowTypes.LISTS]}
         return {"type": LINK if node_type == RowTypes.LINK else ARC_LINK, "value": [{"some": references[0]}] if references else ["none"]}
 
     # ---- steps
@@ -81,15 +80,9 @@ class Run:
             return {"refused": int(rest[0])}
         if word == "needs":
             return {"needs": rest[0]}
-        if not rest or word == "none":
-            return None
-        return self.name(names, int(rest[0]))
-
-    def name(self, name, number):
-        if name is None:
-            return {"as": number}
-        self.numbers[name] = number
-        return {"as": name}
+        if rest and names:
+            self.numbers[names] = int(rest[0])
+        return {"as": names or int(rest[0])} if rest else None
 
     def do_call(self, step, names):
         op, handle, key = step["op"], self.numbers.get(step.get("handle")), step.get("key")

@@ -14,21 +14,18 @@ from plain_pager import varint
 WORD = (1 << 64) - 1
 
 
-class Draws:
+def draws_of(state):
     """splitmix64."""
-
-    def __init__(self, seed):
-        self.state = seed
-
-    def number(self):
-        self.state = (self.state + 0x9E3779B97F4A7C15) & WORD
-        mixed = self.state
+    while True:
+        state = (state + 0x9E3779B97F4A7C15) & WORD
+        mixed = state
         mixed = (mixed ^ (mixed >> 30)) * 0xBF58476D1CE4E5B9 & WORD
         mixed = (mixed ^ (mixed >> 27)) * 0x94D049BB133111EB & WORD
-        return mixed ^ (mixed >> 31)
+        yield mixed ^ (mixed >> 31)
 
-    def text(self, letters):
-        return bytes(97 + self.number() % 26 for _ in range(letters))
+
+def drawn_text(draws, letters):
+    return bytes(97 + next(draws) % 26 for _ in range(letters))
 
 
 def sum_of(numbers):
@@ -50,33 +47,33 @@ def list_form(forms):
 def maps(draws):
     outer = {}
     for _ in range(400):
-        inner = outer[draws.number()] = {}
+        inner = outer[next(draws)] = {}
         for place in range(400):
-            key = draws.number() >> 16
-            inner[key] = draws.number() >> place % 64
+            key = next(draws) >> 16
+            inner[key] = next(draws) >> place % 64
     return list_form([varint(key) + list_form([varint(k) + varint(v) for k, v in sorted(inner.items())]) for key, inner in sorted(outer.items())])
 
 
 def ordered(draws):
     entries = {}
     for _ in range(100_000):
-        key = draws.text(12 + draws.number() % 16)
-        entries[key] = draws.number() >> 32
+        key = drawn_text(draws, 12 + next(draws) % 16)
+        entries[key] = next(draws) >> 32
     return list_form([text_form(k) + varint(v) for k, v in entries.items()])
 
 
 # What is drawn from the seeds 1, 2 and so on.
 FORMS = {
-    "numbers": lambda draws: list_form([varint(draws.number() >> place % 64) for place in range(1_000_000)]),
-    "bytes": lambda draws: text_form(bytes(draws.number() >> 56 for _ in range(1_000_000))),
-    "texts": lambda draws: list_form([text_form(draws.text(draws.number() % 32)) for _ in range(200_000)]),
+    "numbers": lambda draws: list_form([varint(next(draws) >> place % 64) for place in range(1_000_000)]),
+    "bytes": lambda draws: text_form(bytes(next(draws) >> 56 for _ in range(1_000_000))),
+    "texts": lambda draws: list_form([text_form(drawn_text(draws, next(draws) % 32)) for _ in range(200_000)]),
     "maps": maps,
     "ordered": ordered,
 }
 
 if __name__ == "__main__":
     for seed, (name, made) in enumerate(FORMS.items(), 1):
-        form = made(Draws(seed))
+        form = made(draws_of(seed))
         if len(sys.argv) > 1:
             (pathlib.Path(sys.argv[1]) / name).write_bytes(form)
         else:

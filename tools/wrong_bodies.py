@@ -81,61 +81,51 @@ def word_of(text):
     return word[:1].upper() + word[1:]
 
 
-class Copy:
-    """A copy of the repository's crates, in which the files of one may be changed. Of the others the check reads the libraries alone."""
-
-    def __init__(self, room, crate):
-        self.folder = Path(room) / "crates" / crate
-        for file in ("crates.txt", "HANDLES"):
-            shutil.copy(TOP / file, room)
-        for own in (TOP / "crates").iterdir():
-            left_out = {own / it for it in (["must-fail"] if own.name == crate else ["must-fail", "out/incremental", "data"])}
-            shutil.copytree(own, Path(room) / "crates" / own.name, ignore=lambda at, names: [it for it in names if Path(at) / it in left_out])
-
-    def write(self, texts):
-        for file, text in texts.items():
-            (self.folder / file).write_text(text, encoding="utf-8")
-
-    def check(self, texts):
-        """The output of a check with these texts in place of the crate's own, and the functions that aren't proved for a reason of their own."""
-        own = {file: (self.folder / file).read_text(encoding="utf-8") for file in texts}
-        self.write(texts)
-        ran = subprocess.run(["rt", "check", "--jobs", os.environ.get("RT_JOBS", "1")], cwd=self.folder, stdout=subprocess.PIPE, stderr=subprocess.STDOUT, text=True)
-        self.write(own)
-        return ran.stdout, re.findall(r"(?m)^fn (\S+): (?:not proved|no proof(?!: it calls))", ran.stdout)
+def copied(room, crate):
+    """The folder of a crate in a copy of all, in which its files may be changed. Of the others the check reads the libraries alone."""
+    for file in ("crates.txt", "HANDLES"):
+        shutil.copy(TOP / file, room)
+    for own in (TOP / "crates").iterdir():
+        left_out = {own / it for it in (["must-fail"] if own.name == crate else ["must-fail", "out/incremental", "data"])}
+        shutil.copytree(own, Path(room) / "crates" / own.name, ignore=lambda at, names: [it for it in names if Path(at) / it in left_out])
+    return Path(room) / "crates" / crate
 
 
-def bad_text(output):
-    """A line that says that a text of src/ could not be read, so that no contract was tried."""
-    for at in re.finditer(r"(?m)^(?:\./)?(src|specs)/\S+:\d+:\d+: error: (`[^`]*`: )?(.*)$", output):
-        if not at[2] or UNREAD.search(re.sub(r"`[^`]*`", "", at[3])):
-            return at[0]
-    return None
+def check(folder, texts):
+    """The output of a check with these texts in place of the crate's own, and the functions that aren't proved for a reason of their own."""
+    own = {file: (folder / file).read_text(encoding="utf-8") for file in texts}
+    for file, text in texts.items():
+        (folder / file).write_text(text, encoding="utf-8")
+    ran = subprocess.run(["rt", "check", "--jobs", os.environ.get("RT_JOBS", "1")], cwd=folder, stdout=subprocess.PIPE, stderr=subprocess.STDOUT, text=True)
+    for file, text in own.items():
+        (folder / file).write_text(text, encoding="utf-8")
+    return ran.stdout, re.findall(r"(?m)^fn (\S+): (?:not proved|no proof(?!: it calls))", ran.stdout)
 
 
-def tried_alone(copy, edit):
+def tried_alone(folder, edit):
     """Why an edit by itself isn't refused, or None."""
     texts = {}
-    edit.apply(texts, copy.folder)
-    output, _ = copy.check(texts)
-    bad = bad_text(output)
-    if bad:
-        return f"the edited text can't be read: {bad[:200]}"
+    edit.apply(texts, folder)
+    output, _ = check(folder, texts)
+    # Of a text of src/ that could not be read no contract was tried.
+    for at in re.finditer(r"(?m)^(?:\./)?(src|specs)/\S+:\d+:\d+: error: (`[^`]*`: )?(.*)$", output):
+        if not at[2] or UNREAD.search(re.sub(r"`[^`]*`", "", at[3])):
+            return f"the edited text can't be read: {at[0][:200]}"
     if not re.search(r"(?m)^logic=", output):
         return f"the check didn't come to the proofs: {output.strip()[-300:]}"
     return None if re.search(r"(?m)^logic=not-proved", output) else "the crate is still proved with it"
 
 
-def try_round(copy, edits):
+def try_round(folder, edits):
     """Tries those of the edits together that meet in no function; answers them, each with why it isn't refused or None."""
     texts, held = {}, []
     for edit in edits:
-        if not any(edit.functions & it.functions for it in held) and edit.apply(texts, copy.folder) is None:
+        if not any(edit.functions & it.functions for it in held) and edit.apply(texts, folder) is None:
             held.append(edit)
-    _, refused = copy.check(texts)
+    _, refused = check(folder, texts)
     for edit in held:
         together = all(any(re.fullmatch(it, told, re.IGNORECASE) for told in refused) for it in edit.functions)
-        why = None if together else tried_alone(copy, edit)
+        why = None if together else tried_alone(folder, edit)
         print(f"{edit.name}: {'NOT REFUSED: ' + why if why else 'refused' if together else 'refused, alone'}", flush=True)
         yield edit, why
 
@@ -144,11 +134,11 @@ def try_crate(crate):
     """Tries a crate's wrong bodies, and answers how many were refused and how many weren't."""
     edits = edits_of(crate)
     with tempfile.TemporaryDirectory(prefix="wrong-bodies-") as room:
-        copy = Copy(room, crate)
-        why = {edit: edit.apply({}, copy.folder) for edit in edits}
+        folder = copied(room, crate)
+        why = {edit: edit.apply({}, folder) for edit in edits}
         left = [edit for edit in edits if why[edit] is None]
         while left:
-            tried = dict(try_round(copy, left))
+            tried = dict(try_round(folder, left))
             why.update(tried)
             left = [edit for edit in left if edit not in tried]
     failed = [edit for edit in edits if why[edit]]
