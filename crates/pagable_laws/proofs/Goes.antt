@@ -1,13 +1,13 @@
 -- What a step does to the plain world as far as trees feel it: the parts of each call's summary. And a live handle that no value owns and that isn't given up outlasts a cascade, with its row.
 use Rattle.pagable_laws.proofs.{Decoding.among-either, Existing.outlast, Trees.{same-number, same_some, self-number}, Words.{Alike, Among, ArcRef, Blob, Bool, Call, Change, CloneCall, Core, Event}}
-use Rattle.pagable_laws.proofs.Words.{EventReply, HandleNumber, HandleRow, HandlesAreWhole, Happens, Identity, Kind, Last, List, LoadNumber, Mode, NodeNumber, None, Ok, OpenLoad, Option}
+use Rattle.pagable_laws.proofs.Words.{EventReply, HandleNumber, HandleRow, HandlesAreWhole, Happens, Identity, IsReference, Kind, Last, List, LoadNumber, Mode, NodeNumber, None, Ok, OpenLoad, Option}
 use Rattle.pagable_laws.proofs.Words.{OptionalDataKey, Owner, PinCall, Reply, Seen, Site, Some, Todo, Took, World, [], adopted, answer_after, ap, arith, bears_known, false, false_from_ne_true}
-use Rattle.pagable_laws.proofs.Words.{filter, find_row, if◌then◌else◌, inl, inr, is_handle, is_named_by, is_owner, is_pinning, le_trans, mode_of, moved, nat_tests, next_node, not, nothing_felt}
-use Rattle.pagable_laws.proofs.Words.{owner_value, owner_worker, refl, row_at, rules, subst, suc, sym, to_load, to_pin, true, type_of, updated, with_handle, zero, ℕ, ◌&&◌, ◌++◌, ◌+◌, ◌<◌, ◌==◌, ◌∙◌}
-use Rattle.{pagable_laws.{proofs.Words.{◌∷◌, ◌≡◌, ◌≤◌, ◌⊎◌}, specs.TreeSteps.{Bears, BeginsWell, HasPin, Knows, PinHolds, sets_key}}, pagable_world.proofs.Elements.{among-left, found-among}}
-use Rattle.pagable_world.specs.{Calls.{row_of, with_cached, with_key, with_mode, with_node}, Cascade.{AreNewEntries, Falls, FallsAnyhow, fallen, is_keyed, left_rows}, Kinds.is_loose}
-use Rattle.pagable_world.specs.{LoadCalls.{EndCall, is_owned_in, with_load, with_pin, without_load}, Loads.Does, Plain.{changed, or_else}, Workers.PinsAtOnce, World.{Cell, Root}}
-use Rattle.pagable_world.specs.declared.{answers.Pinning.Pinning, events.PinStep.PinStep}
+use Rattle.pagable_laws.proofs.Words.{filter, find_row, if◌then◌else◌, inl, inr, is_handle, is_named_by, is_owner, is_pinning, le_trans, mode_of, moved, nat_tests, next_node, not, nothing_felt, one}
+use Rattle.pagable_laws.proofs.Words.{owner_value, owner_worker, pins, references_fault, refl, row_at, rules, subst, suc, sum_by-cons, sym, to_load, to_pin, true, type_of, updated, with_handle, zero}
+use Rattle.pagable_laws.{proofs.Words.{ℕ, ◌&&◌, ◌++◌, ◌+◌, ◌<◌, ◌==◌, ◌∙◌, ◌∷◌, ◌≡◌, ◌≤◌, ◌⊎◌}, specs.TreeSteps.{AreGood, Bears, BeginsWell, HasPin, Knows, PinHolds, StaysAway, sets_key}}
+use Rattle.pagable_world.{proofs.Elements.{among-left, found-among}, specs.{Calls.{row_of, with_cached, with_key, with_mode, with_node}, Cascade.{AreNewEntries, Falls, FallsAnyhow, fallen}}}
+use Rattle.pagable_world.specs.{Cascade.{is_keyed, left_rows}, Kinds.{is_loose, is_pin}, LoadCalls.{EndCall, is_owned_in, with_load, with_pin, without_load}, Loads.Does, Plain.{changed, or_else}}
+use Rattle.pagable_world.specs.{Refusals.reference_fault, Workers.PinsAtOnce, World.{Cell, Root}, declared.{answers.Pinning.Pinning, events.PinStep.PinStep}}
 pub use Rattle.{pagable_laws.specs.TreeSteps.{CoreGoes as Goes, IsShut, Kept, RowsGo, Was}, pagable_world.proofs.Elements.{among-map as among-changed, among-one as only-one, once}}
 use Rattle.pagable_world.specs.Workers as workers
 
@@ -270,6 +270,14 @@ found-kept gone q (h ∷ hs) row kept found = grind (arith, nat_tests, is_handle
 pub among-kept : {X : Type 0} (test : X → Bool) (xs : List X) (x : X) → Among (filter test xs) x → Among xs x
 among-kept test xs x among = (among-left test xs x among).0
 
+-- a handle that isn't gone keeps its row
+pub stands-left : {before w w' : Core} {given : ℕ → Bool} {r : _} (f : Falls before w given r w') {q : ℕ} {row : HandleRow} → f.gone q ≡ false → Stands w.last.handle w.rows q row
+    → Stands w'.last.handle w'.rows q row
+stands-left {w = w} f {q} {row} kept s =
+    let left : Stands w.last.handle (left_rows f.gone w.rows) q row =
+    record { live = found-kept f.gone q w.rows row kept s.live; only = λ h a is. s.only h (among-kept _ w.rows h a) is; given = s.given } in
+    stands-alike {w = fallen w f.gone f.entries} f.leaves (stands-more f.entries (le-more _ _) (none-in-new w.last.handle q f.entries f.new s.given) left)
+
 pub stands-fell : {before w w' : Core} {given : ℕ → Bool} {r : _} {q : ℕ} {row : HandleRow} → Falls before w given r w' → NotValues row.owner → given q ≡ false
     → Stands w.last.handle w.rows q row → Stands w'.last.handle w'.rows q row
 stands-fell {before} {w} {w'} {given} {r} {q} {row} f free kept s =
@@ -281,9 +289,41 @@ stands-fell {before} {w} {w'} {given} {r} {q} {row} f free kept s =
     (λ n x there own lost. false_from_ne_true (x.number.0 == q) (λ e.
     let o = no_value x there (same-number x.number.0 q e) in let no : is_owner (owner_value n) x.owner ≡ false = grind (arith, nat_tests) in cc))
     row among (ap (λ p. p == q) number ∙ self-number q) in
-    let live = found-kept f.gone q w.rows row stays s.live in
-    let left : Stands w.last.handle (left_rows f.gone w.rows) q row = record { live = live; only = λ h a is. s.only h (among-kept _ w.rows h a) is; given = s.given } in
-    stands-alike {w = fallen w f.gone f.entries} f.leaves (stands-more f.entries (le-more _ _) (none-in-new w.last.handle q f.entries f.new s.given) left)
+    stands-left f stays s
+
+-- ---- references that nothing is to be said against name handles of their owner, as they should
+
+pub or-none : {X : Type 0} (a b : Option X) → or_else a b ≡ None → (a ≡ None) × (b ≡ None)
+or-none x0 b is = grind (arith, nat_tests)
+
+pub same-owner : (o p : Owner) → is_owner o p ≡ true → p ≡ o
+same-owner x0 x1 is = grind (arith, nat_tests, same-number)
+
+module _ (w : Core) (owner : Owner) where
+  good-one : (seen : List ℕ) (r : ArcRef) → reference_fault w owner seen r ≡ None → IsReference w owner r
+  good-one seen r none = search (rules, same-number, same-owner)
+
+  pub good : (seen : List ℕ) (references : List ArcRef) → references_fault w owner seen references ≡ None → AreGood w owner references
+  unfolding references_fault
+  good seen (x ∷ xs) none r (suc i, is) = good (x.handle.0 ∷ seen) xs (or-none _ _ none).1 r (i, is)
+  good seen x1 x2 r x4 = grind (arith, nat_tests, good-one, or-none)
+
+-- ---- a handle that is given up doesn't bring a value back
+
+pub alike-away : {w w' : Core} → Alike w w' → (n : ℕ) → StaysAway w w' n
+alike-away {w} {w'} a n = grind (arith, alike)
+
+pins-left : (n : ℕ) (gone : ℕ → Bool) (rows more : List HandleRow) → pins n more ≡ 0 → pins n (left_rows gone rows ++ more) ≤ pins n rows
+pins-left n gone [] more none = grind arith
+pins-left n gone (h ∷ hs) more none =
+    grind (arith, nat_tests, sum_by-cons (λ x. one (is_pin n x)) h hs, sum_by-cons (λ x. one (is_pin n x)) h (left_rows gone hs ++ more), pins-left n gone hs more none)
+
+pub no-pins : (n last : ℕ) (entries : List HandleRow) → AreNewEntries last entries → pins n entries ≡ 0
+no-pins n last [] new = refl
+no-pins n last (h ∷ hs) (number, mode, owner, new) = grind (arith, nat_tests, one, no-pins n (last + 1) hs new)
+
+pub fell-away : {before w w' : Core} {given : ℕ → Bool} {r : _} → Falls before w given r w' → (n : ℕ) → StaysAway w w' n
+fell-away {before} {w} {w'} f n = grind (arith, fell, pins-left, no-pins)
 
 -- What is answered as pinned is a handle that pins: of a call, of a load's last step and of a worker's pin.
 
